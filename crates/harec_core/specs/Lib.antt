@@ -1,0 +1,4 @@
+pub mod Tokens
+pub mod Source
+pub mod Lowered
+pub mod Straight
