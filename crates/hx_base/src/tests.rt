@@ -1,0 +1,42 @@
+//! Each call with ample memory: that it answers, and what a person expects of it.
+
+use crate::{Bytes, Items, Text};
+use std::test::Fail;
+
+#[test]
+fn texts_are_put_together(rt: HostRuntime) -> Result<(), Fail> {
+    let mut text = Text::new(rt.alloc());
+    text.append(&Text::copy(rt.alloc(), "line ")?)?;
+    text.push(b'#')?;
+    text.push_decimal(i128::MIN)?;
+    text.push_decimal(0)?;
+    assert_eq!(rt;
+        text.bytes(),
+        b"line #-1701411834604692317316873037158841057280".as_slice()
+    );
+    Ok(())
+}
+
+#[test]
+fn bytes_are_put_together(rt: HostRuntime) -> Result<(), Fail> {
+    let mut bytes = Bytes::new(rt.alloc());
+    bytes.extend(b"\0\xff")?;
+    bytes.extend(b"")?;
+    bytes.extend(b"\n")?;
+    assert_eq!(rt; bytes.bytes(), b"\0\xff\n".as_slice());
+    Ok(())
+}
+
+#[test]
+fn lists_keep_their_order(rt: HostRuntime) -> Result<(), Fail> {
+    let mut list: Items<u64> = Items::new(rt.alloc());
+    assert!(rt; list.is_empty());
+    list.push(7)?;
+    list.push(9)?;
+    assert!(rt; !list.is_empty());
+    assert_eq!(rt; list.len(), 2);
+    assert_eq!(rt; list.get(1), Some(&9));
+    assert_eq!(rt; list.get(2), None);
+    assert_eq!(rt; list.as_slice(), [7, 9].as_slice());
+    Ok(())
+}
