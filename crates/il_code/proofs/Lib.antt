@@ -1,0 +1,3 @@
+pub mod Costs
+mod MachineRows
+mod OperationRows
