@@ -1,0 +1,65 @@
+//! The answers of the top call, and the statuses with which the program ends.
+
+ghost use Rattle.std.specs.Prelude.{◌≡◌};
+ghost use Rattle.harec_core.specs.Status.{status};
+
+use il_code::MachineFault;
+
+/// An act that the program's meaning leaves undefined.
+#[derive(Clone, Copy, Debug, PartialEq, Eq)]
+pub enum Undef {
+    /// The machine of the intermediate language met this fault.
+    Il(MachineFault),
+    /// The evaluator of the source met the undefined act of this number.
+    Hare(u8),
+}
+
+/// What the top call answers.
+#[derive(Clone, Copy, Debug, PartialEq, Eq)]
+pub enum Answer {
+    /// The command is done, and ran no program.
+    Accepted,
+    /// The program ended with this status.
+    Exited(u8),
+    /// The words are no command.
+    Usage,
+    /// The file has the fault of this number.
+    Refused(u8),
+    /// A file was not read.
+    FileFault,
+    /// The program did what has no meaning.
+    Undefined(Undef),
+    /// The host gave no memory.
+    Memory,
+    /// The input was not read.
+    ReadFault,
+    /// The output, or the log, was not written.
+    WriteFault,
+    /// The program used all its units.
+    Spent,
+    /// The program used all its stack.
+    StackFull,
+    /// The program gave up.
+    Aborted,
+}
+
+/// The status with which the program ends: that of the program that was run, or a number that is kept for the answer. Those from 64 to
+/// 78 are the ones that BSD's `sysexits.h` names, and 134 is what a shell shows for an abort.
+pub fn status(a: &Answer) -> u8
+    ensures { result ≡ status a.now }
+{
+    match a {
+        Answer::Accepted => 0,
+        Answer::Exited(k) => *k,
+        Answer::Usage => 64,
+        Answer::Refused(_) => 65,
+        Answer::FileFault => 66,
+        Answer::Undefined(_) => 70,
+        Answer::Memory => 71,
+        Answer::ReadFault => 74,
+        Answer::WriteFault => 74,
+        Answer::Spent => 75,
+        Answer::StackFull => 76,
+        Answer::Aborted => 134,
+    }
+}
