@@ -1,5 +1,5 @@
 -- The first class of files: one `main` that exits with the value of an expression.
-use Rattle.std.specs.Prelude.{◌≡◌, ◌≢◌, ℕ, ◌+◌, ◌-◌, ◌*◌, ◌%◌, ◌^◌, ◌≤◌, max, List, [], ◌∷◌, ◌++◌, Bool, true, false, count_by, length}
+use Rattle.std.specs.Prelude.{◌≡◌, ℕ, ◌+◌, ◌-◌, ◌*◌, ◌%◌, ◌^◌, ◌≤◌, max, List, [], ◌∷◌, ◌++◌, Bool, true, false, count_by, length}
 use Rattle.harec_core.specs.declared.token.Token.{Token}
 use Rattle.harec_core.specs.declared.token.Token.TheVariants as token
 use Rattle.harec_core.specs.Tokens.{Spells}
