@@ -1,12 +1,11 @@
 -- The modules of the first class: one exported `$main` of one block, which sets temporaries of class l and calls `$rt.nargs` and
 -- `$rt.exit`. The shape of a text speaks of these.
-use Rattle.std.specs.Prelude.{◌≡◌, ℕ, ◌^◌, ◌<◌, ◌≤◌, List, [], ◌∷◌, Option, Some, None, Bool, true, codes, length, ◌||◌, ◌&&◌, nat_le, ◌==◌, Contains, IsTrue}
+use Rattle.std.specs.Prelude.{◌≡◌, ℕ, ◌^◌, ◌<◌, ◌≤◌, List, [], ◌∷◌, Option, Some, None, Bool, codes, length, ◌||◌, ◌&&◌, nat_le, ◌==◌, Contains, IsTrue}
 use Rattle.std.specs.List.{AllByRecursion}
-use Rattle.hx_base.specs.declared.Class.TheVariants.{W, L}
+use Rattle.hx_base.specs.declared.Class.TheVariants.{L}
 use Rattle.il_code.specs.declared.op.IlOp.{IlOp}
 use Rattle.il_code.specs.declared.op.IlOp.TheVariants.{Copy, Add, Sub, Mul}
 use Rattle.il_code.specs.declared.types.Module.{Module}
-use Rattle.il_code.specs.declared.types.IlArg.{IlArg}
 use Rattle.il_code.specs.declared.types.IlValue.{IlValue}
 use Rattle.il_code.specs.declared.types.IlValue.TheVariants.{Number, Temp, Symbol}
 use Rattle.il_code.specs.declared.types.Inst.{Inst}
