@@ -1,0 +1,19 @@
+pub mod AnswersLemmas
+pub mod Carried
+pub mod Evaluated
+pub mod IlScanned
+pub mod Lexed
+pub mod Limited
+pub mod Nested
+pub mod Parsed
+pub mod Parts
+pub mod Ran
+pub mod ReadBack
+pub mod ReadOnly
+pub mod ReadWhole
+mod ReadingRows
+pub mod Same
+pub mod Scanned
+pub mod Shaped
+pub mod Sizes
+pub mod Spelled

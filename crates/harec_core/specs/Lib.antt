@@ -1,4 +1,13 @@
 pub mod Tokens
+pub mod Scan
+pub mod Lexing
 pub mod Source
+pub mod Parsing
+pub mod Status
+pub mod Words
 pub mod Lowered
 pub mod Straight
+pub mod IlScan
+pub mod Reading
+pub mod Ended
+pub mod Answers
