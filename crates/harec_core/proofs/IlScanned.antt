@@ -1,13 +1,9 @@
 -- What stands at the front of IL text.
-use Rattle.std.proofs.Common.{◌≡◌, ◌≢◌, ℕ, ◌+◌, ◌<◌, ◌^◌, List, [], ◌∷◌, ◌++◌, Option, Some, None, Bool, true, false, cond, length, take, option_copied, MatchOption, Result, Ok, Err, Bor, refl, sym, ap, ◌∙◌, zero, suc, get_or, arith, eq-eqb, add-zero, ◌&&◌, one-add, rules, eqb, drop, subst, inl, inr, ◌⊎◌, IsTrue, decimal, bytes_eq}
+use Rattle.std.proofs.Common.{◌≡◌, ◌≢◌, ℕ, ◌+◌, ◌<◌, ◌^◌, List, [], ◌∷◌, ◌++◌, Option, Some, None, Bool, true, false, cond, length, take, option_copied, MatchOption, Bor, refl, sym, ap, ◌∙◌, suc, arith, eq-eqb, one-add, rules, eqb, drop, subst, inl, inr, ◌⊎◌, IsTrue, decimal, bytes_eq}
 use Rattle.std.proofs.Math.Seq.{take-append_seam, drop-append_seam}
 use Rattle.std.specs.List.{prefix_len, All, AllByRecursion}
 use Rattle.std.specs.Char.{is_ascii_digit}
-use Rattle.std.specs.Result.{OkIff, result_ok}
-use Rattle.std.specs.Str.{all_ascii_digits, IsAscii}
 use Rattle.std.specs.Str.Parse.{digits_value}
-use Rattle.std.proofs.lemmas.Str.Parse.{IsNumeralModel, numerals_by_value, tells_all_ascii_digits}
-use Rattle.std.proofs.lemmas.List.Folds.{prefix_len-append}
 use Rattle.std.proofs.lemmas.List.Elements.{All-from_recursion}
 use Rattle.std.proofs.lemmas.Grind.{common_steps}
 use Rattle.std.proofs.lemmas.Bool.Decides.{nat_tests, Decides-eqb}
@@ -16,7 +12,9 @@ use Rattle.std.proofs.lemmas.List.{take-append-drop}
 use Rattle.std.proofs.lemmas.Slice.Eq.{bytes_eq-Decides}
 use Rattle.std.proofs.lemmas.Fmt.{digits_decimal, digits_value-decimal, decimal_nonempty}
 use Rattle.harec_core.specs.Straight.{is_name_byte, is_digit_byte, IsIdentifier}
-use Rattle.harec_core.specs.IlScan.{◌>>=◌, branch, behind, identifier_len, identifier_of, identifier_at, value_of, number_of, number_behind, number_at}
+use Rattle.harec_core.specs.Scan.{◌>>=◌, number_of}
+use Rattle.harec_core.specs.IlScan.{branch, behind, identifier_len, identifier_of, identifier_at, printed_number, number_behind, number_at}
+use Rattle.harec_core.proofs.Scanned.{own, run_len, all_digits_len, number_of_is}
 
 -- ---- known bytes
 
@@ -56,39 +54,6 @@ by_recursion (c ∷ s) = no_digit_first _ _ (c ∷ s) (names_are_ascii (c ∷ s)
 
 pub identifiers_are_ascii : (s : List ℕ) → All (λ x. x < 128) (take (identifier_len s) s)
 identifiers_are_ascii s = All-from_recursion _ _ (by_recursion s)
-
--- ---- numbers
-
-pub and_left : (a b : Bool) → (a && b) ≡ true → a ≡ true
-and_left true b h = refl
-and_left false b h = h
-
-pub and_right : (a b : Bool) → (a && b) ≡ true → b ≡ true
-and_right true b h = h
-and_right false b h = absurd (cc)
-
-first_digit : (c : ℕ) (s : List ℕ) (n : ℕ) (b : Bool) → is_ascii_digit c ≡ b → all_ascii_digits (take n s) ≡ true → all_ascii_digits (take (cond b (1 + n) 0) (c ∷ s)) ≡ true
-first_digit c s n false e h = refl
-first_digit c s n true e h = rw one-add (rw e h)
-
-pub digits_in_front : (s : List ℕ) → all_ascii_digits (take (prefix_len is_ascii_digit s) s) ≡ true
-digits_in_front [] = refl
-digits_in_front (c ∷ s) = first_digit c s (prefix_len is_ascii_digit s) (is_ascii_digit c) refl (digits_in_front s)
-
-pub own : IsNumeralModel (λ ds. all_ascii_digits ds ≡ true) (digits_value 10)
-own = numerals_by_value _ tells_all_ascii_digits
-
-pub value_is : {E : Type 0} (ds : List ℕ) (r : Result ℕ E) → OkIff r ((0 < length ds) × (digits_value 10 ds < 2 ^ 64)) (digits_value 10 ds) → result_ok r ≡ value_of ds
-value_is ds (Ok x) h = grind (arith, nat_tests)
-value_is ds (Err e) h = grind (arith, nat_tests)
-
-digit_below : (ds : List ℕ) → all_ascii_digits ds ≡ true → (i : ℕ) → get_or ds i 0 < 128
-digit_below [] h i = first_of (omega arith, search rules, grind (arith, common_steps))
-digit_below (c ∷ cs) h zero = let r = tells_all_ascii_digits.parts c cs h in omega (arith, r.0)
-digit_below (c ∷ cs) h (suc i) = digit_below cs (tells_all_ascii_digits.parts c cs h).1 i
-
-pub IsAscii-digits : (ds : List ℕ) → all_ascii_digits ds ≡ true → IsAscii ds
-IsAscii-digits ds h = digit_below ds h
 
 -- ---- readings that gave something
 
@@ -133,10 +98,6 @@ names_len (c ∷ t) h =
     let more = names_len t h.1 in
     rw (first, more) (one-add (length t))
 
--- known elements that all pass, in front of one that does not
-run_len : (p : ℕ → Bool) (s rest : List ℕ) → prefix_len p s ≡ length s → prefix_len p rest ≡ 0 → prefix_len p (s ++ rest) ≡ length s
-run_len p s rest w stop = prefix_len-append p s rest ∙ rw (w, eq-eqb (length s) (length s) refl, stop) (add-zero (length s))
-
 pub identifier_again : (t rest : List ℕ) → IsIdentifier t → prefix_len is_name_byte rest ≡ 0 → identifier_at (t ++ rest) ≡ Some (t, rest)
 unfolding identifier_at
 identifier_again [] rest h stop = absurd h
@@ -172,23 +133,13 @@ identifier_sound (c ∷ s) t r h = identifier_cases c s t r (is_digit_byte c) (i
 
 -- ---- numbers, read as they are printed and no others
 
-all_digits_len : (ds : List ℕ) → all_ascii_digits ds ≡ true → prefix_len is_ascii_digit ds ≡ length ds
-all_digits_len [] h = refl
-all_digits_len (d ∷ ds) h =
-    let digit : is_ascii_digit d ≡ true = and_left _ _ h in
-    let more = all_digits_len ds (and_right _ _ h) in
-    rw (digit, more) (one-add (length ds))
+number_of-below : (ds : List ℕ) (n : ℕ) → number_of ds ≡ Some n → n < 2 ^ 64
+number_of-below ds n h = grind (arith, nat_tests, common_steps)
 
-value_of-digits : (ds : List ℕ) → 0 < length ds → digits_value 10 ds < 2 ^ 64 → value_of ds ≡ Some (digits_value 10 ds)
-value_of-digits ds a b = grind (arith, nat_tests)
-
-value_of-below : (ds : List ℕ) (n : ℕ) → value_of ds ≡ Some n → n < 2 ^ 64
-value_of-below ds n h = grind (arith, nat_tests, common_steps)
-
-number_of-decimal : (n : ℕ) → n < 2 ^ 64 → number_of (decimal n) ≡ Some n
-number_of-decimal n h =
+printed_number-decimal : (n : ℕ) → n < 2 ^ 64 → printed_number (decimal n) ≡ Some n
+printed_number-decimal n h =
     let same : digits_value 10 (decimal n) ≡ n = digits_value-decimal own n h in
-    let value : value_of (decimal n) ≡ Some n = value_of-digits (decimal n) (decimal_nonempty n h) (rw same h) ∙ ap Some same in
+    let value : number_of (decimal n) ≡ Some n = number_of_is (decimal n) (decimal_nonempty n h) (rw same h) ∙ ap Some same in
     let printed : bytes_eq (decimal n) (decimal n) ≡ true = (bytes_eq-Decides (decimal n) (decimal n)).1 refl in
     rw (value, printed) refl
 
@@ -196,20 +147,20 @@ pub number_again : (n : ℕ) (rest : List ℕ) → n < 2 ^ 64 → prefix_len is_
 unfolding number_at
 number_again n rest h stop =
     let ds = decimal n in
-    ap (λ k. number_behind k (ds ++ rest)) (run_len is_ascii_digit ds rest (all_digits_len ds (digits_decimal own n h)) stop) ∙ rw (take-append_seam ds rest, drop-append_seam ds rest, number_of-decimal n h) refl
+    ap (λ k. number_behind k (ds ++ rest)) (run_len is_ascii_digit ds rest (all_digits_len ds (digits_decimal own n h)) stop) ∙ rw (take-append_seam ds rest, drop-append_seam ds rest, printed_number-decimal n h) refl
 
-number_of_sound : (ds : List ℕ) (n : ℕ) → number_of ds ≡ Some n → (n < 2 ^ 64) × (ds ≡ decimal n)
-number_of_sound ds n h =
-    let v = bind_some (value_of ds) _ n h in
+printed_number_sound : (ds : List ℕ) (n : ℕ) → printed_number ds ≡ Some n → (n < 2 ^ 64) × (ds ≡ decimal n)
+printed_number_sound ds n h =
+    let v = bind_some (number_of ds) _ n h in
     let k = if_some (bytes_eq (decimal v.0) ds) v.0 n v.2 in
-    let below = value_of-below ds v.0 v.1 in
+    let below = number_of-below ds v.0 v.1 in
     (subst (λ x. x < 2 ^ 64) k.1 below, sym ((bytes_eq-Decides (decimal v.0) ds).0 k.0) ∙ ap decimal k.1)
 
 pub number_sound : (s : List ℕ) (n : ℕ) (r : List ℕ) → number_at s ≡ Some (n, r) → (n < 2 ^ 64) × (s ≡ decimal n ++ r)
 unfolding number_at
 number_sound s n r h =
     let len = prefix_len is_ascii_digit s in
-    let v = bind_some (number_of (take len s)) _ (n, r) h in
-    let k = number_of_sound (take len s) v.0 v.1 in
+    let v = bind_some (printed_number (take len s)) _ (n, r) h in
+    let k = printed_number_sound (take len s) v.0 v.1 in
     let parts = some_pair_parts v.0 n (drop len s) r v.2 in
     (subst (λ x. x < 2 ^ 64) parts.0 k.0, sym (take-append-drop len s) ∙ rw (k.1, parts.0, parts.1) refl)

@@ -67,7 +67,7 @@ pub run_len : (p : ℕ → Bool) (s rest : List ℕ) → prefix_len p s ≡ leng
 run_len p s rest w stop = prefix_len-append p s rest ∙ rw (w, eq-eqb (length s) (length s) refl, stop) (add-zero (length s))
 
 -- all of the digits pass
-all_digits_len : (ds : List ℕ) → all_ascii_digits ds ≡ true → prefix_len is_ascii_digit ds ≡ length ds
+pub all_digits_len : (ds : List ℕ) → all_ascii_digits ds ≡ true → prefix_len is_ascii_digit ds ≡ length ds
 all_digits_len [] h = refl
 all_digits_len (d ∷ ds) h =
     let digit : is_ascii_digit d ≡ true = and_left _ _ h in

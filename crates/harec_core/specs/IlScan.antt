@@ -1,14 +1,10 @@
 -- Known bytes, identifiers and numbers at the front of IL text. Each reading gives what was read and what stands behind it.
-use Rattle.std.specs.Prelude.{ℕ, ◌^◌, List, [], ◌∷◌, Option, Some, None, nat_lt, ◌==◌, if◌then◌else◌, bytes_eq, length, take, drop, option_and_then}
+use Rattle.std.specs.Prelude.{ℕ, List, [], ◌∷◌, Option, Some, None, ◌==◌, if◌then◌else◌, bytes_eq, take, drop}
 use Rattle.std.specs.List.{prefix_len}
 use Rattle.std.specs.Char.{is_ascii_digit}
 use Rattle.std.specs.Fmt.{decimal}
-use Rattle.std.specs.Str.Parse.{digits_value}
+use Rattle.harec_core.specs.Scan.{◌>>=◌, number_of}
 use Rattle.harec_core.specs.Straight.{is_name_byte, is_digit_byte}
-
-infixl 10 ◌>>=◌
-abbrev pub ◌>>=◌ : {A B : Type 0} → Option A → (A → Option B) → Option B
-o >>= f = option_and_then f o
 
 -- goes one way with a value, and the other without one
 abbrev pub branch : {A B : Type 0} → Option A → (A → Option B) → Option B → Option B
@@ -32,16 +28,12 @@ identifier_of n s = if n == 0 then None else Some (take n s, drop n s)
 unfoldable pub identifier_at : List ℕ → Option (List ℕ × List ℕ)
 identifier_at s = identifier_of (identifier_len s) s
 
--- the value of decimal digits, where there is a digit and it is below 2 ^ 64
-abbrev pub value_of : List ℕ → Option ℕ
-value_of digits = if length digits == 0 then None else if nat_lt (digits_value 10 digits) (2 ^ 64) then Some (digits_value 10 digits) else None
-
 -- the number that is printed as these digits, so without leading zeros
-abbrev pub number_of : List ℕ → Option ℕ
-number_of digits = value_of digits >>= λ n. if bytes_eq (decimal n) digits then Some n else None
+abbrev pub printed_number : List ℕ → Option ℕ
+printed_number digits = number_of digits >>= λ n. if bytes_eq (decimal n) digits then Some n else None
 
 abbrev pub number_behind : ℕ → List ℕ → Option (ℕ × List ℕ)
-number_behind n s = number_of (take n s) >>= λ m. Some (m, drop n s)
+number_behind n s = printed_number (take n s) >>= λ m. Some (m, drop n s)
 
 unfoldable pub number_at : List ℕ → Option (ℕ × List ℕ)
 number_at s = number_behind (prefix_len is_ascii_digit s) s

@@ -11,7 +11,8 @@ use Rattle.il_code.specs.declared.types.Module.{Module}
 use Rattle.il_code.specs.Print.{module_text}
 use Rattle.harec_core.specs.Lowered.{main_of, l_param, w_arg}
 use Rattle.harec_core.specs.Straight.{IsPlain}
-use Rattle.harec_core.specs.IlScan.{behind, branch, identifier_at, number_at, ◌>>=◌}
+use Rattle.harec_core.specs.Scan.{◌>>=◌}
+use Rattle.harec_core.specs.IlScan.{behind, branch, identifier_at, number_at}
 
 -- a copy of a number, behind its word
 unfoldable pub copy_at : List ℕ → List ℕ → Option (Inst × List ℕ)

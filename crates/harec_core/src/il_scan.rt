@@ -7,6 +7,7 @@ ghost use Rattle.std.specs.Str.{all_ascii_digits};
 ghost use Rattle.harec_core.specs.Straight.{is_name_byte, is_digit_byte};
 ghost use Rattle.harec_core.specs.IlScan as spec;
 
+use crate::scan::{digit_len, number_of};
 use hx_base::Text;
 use std::alloc::{AllocError, Global};
 
@@ -76,45 +77,26 @@ fn text_of(alloc: Global, ascii: &[u8]) -> Result<Text, AllocError>
 }
 
 /// The number that is printed as the digits at the front, and what stands behind them.
-#[tactic(auto, unfolding(crate::specs::IlScan::number_at), using(crate::proofs::IlScanned::digits_in_front))]
+#[tactic(auto, unfolding(crate::specs::IlScan::number_at), using(crate::proofs::Scanned::digits_in_front))]
 pub fn number_at(s: &[u8]) -> Option<(u64, &[u8])>
     ensures value { option_map (λ r. (r.0, r.1.now)) result ≡ spec.number_at s.now }
     ensures within { IfSome result (λ r. length r.1.now ≤ length s.now) }
 {
     let (digits, rest) = s.split_at(digit_len(s));
-    let number = number_of(digits)?;
+    let number = printed_number(digits)?;
     Some((number, rest))
 }
 
-// How many digits stand at the front.
-fn digit_len(s: &[u8]) -> usize
-    ensures value { result ≡ prefix_len is_ascii_digit s.now }
-    ensures within { result ≤ length s.now }
-{
-    s.iter().take_while(|c| c.is_ascii_digit()).count()
-}
-
 // The number that is printed as these digits. Digits with a leading zero are no printed number.
-fn number_of(digits: &[u8]) -> Option<u64>
+fn printed_number(digits: &[u8]) -> Option<u64>
     requires { all_ascii_digits digits.now ≡ true }
-    ensures { result ≡ spec.number_of digits.now }
+    ensures { result ≡ spec.printed_number digits.now }
 {
-    let number = value_of(digits)?;
+    let number = number_of(digits)?;
     let mut printed = itoa::Buffer::new();
     if printed.format(number).as_bytes() == digits {
         Some(number)
     } else {
         None
-    }
-}
-
-// The value of decimal digits, where it is below 2 ^ 64.
-fn value_of(digits: &[u8]) -> Option<u64>
-    requires { all_ascii_digits digits.now ≡ true }
-    ensures { result ≡ spec.value_of digits.now }
-{
-    match std::str::from_utf8(digits) {
-        Ok(text) => text.parse::<u64>().ok(),
-        Err(_) => None,
     }
 }

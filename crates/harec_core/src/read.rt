@@ -9,8 +9,9 @@ ghost use Rattle.harec_core.specs.Reading as spec;
 ghost use Rattle.harec_core.specs.Reading.{IsPlainTextOf, Reads};
 
 use crate::il_scan::{behind, identifier_at, number_at};
+use crate::lower::main_of;
 use hx_base::{Class, Items, Text};
-use il_code::{Block, IlArg, IlItem, IlOp, IlParam, IlValue, Inst, Insts, Jump, Module};
+use il_code::{IlArg, IlOp, IlParam, IlValue, Inst, Insts, Module};
 use std::alloc::{AllocError, Global};
 
 /// The module of such code of which this is the printed text, where there is one. A number is read only as it is printed, without
@@ -25,29 +26,7 @@ pub fn read(alloc: Global, text: &[u8]) -> Result<Option<Module>, AllocError>
     let Some(insts) = insts_of(alloc, rest)? else {
         return Ok(None);
     };
-    Ok(Some(module_of(alloc, insts)?))
-}
-
-// The function of one block that has these instructions.
-fn module_of(alloc: Global, insts: Insts) -> Result<Module, AllocError>
-    ensures { IfOk result (λ m. m ≡ main_of insts) }
-{
-    let mut blocks = Items::new(alloc);
-    blocks.push(Block {
-        label: Text::copy(alloc, "start")?,
-        phis: Items::new(alloc),
-        insts,
-        jump: Jump::Ret(None),
-    })?;
-    let mut items = Items::new(alloc);
-    items.push(IlItem::Function {
-        export: true,
-        class: None,
-        name: Text::copy(alloc, "main")?,
-        params: Items::new(alloc),
-        blocks,
-    })?;
-    Ok(Module { items })
+    Ok(Some(main_of(alloc, insts)?))
 }
 
 // The instructions up to the end of the function, which is the end of the text.

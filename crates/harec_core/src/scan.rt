@@ -33,16 +33,16 @@ pub fn number_at(s: &[u8]) -> Option<(u64, &[u8])>
     Some((number, rest))
 }
 
-// How many digits stand at the front.
-fn digit_len(s: &[u8]) -> usize
+/// How many digits stand at the front.
+pub fn digit_len(s: &[u8]) -> usize
     ensures value { result ≡ prefix_len is_ascii_digit s.now }
     ensures within { result ≤ length s.now }
 {
     s.iter().take_while(|c| c.is_ascii_digit()).count()
 }
 
-// The number that decimal digits spell.
-fn number_of(digits: &[u8]) -> Option<u64>
+/// The number that decimal digits spell. None where there is no digit, or where the number is 2^64 or more.
+pub fn number_of(digits: &[u8]) -> Option<u64>
     requires { all_ascii_digits digits.now ≡ true }
     ensures { result ≡ number_of digits.now }
 {

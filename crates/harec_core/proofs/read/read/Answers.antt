@@ -14,10 +14,10 @@ returns-clause-whole c = λ m h.
     let k = Reads-from_text c.args.text.now c.in-Some.rest.now m (sym c.in-Some.ensures.value) h in
     let found : ◌≡◌ (Some c.in-Some-2.insts) (Some k.0) = sym c.in-Some-2.is ∙ c.in_ok-insts.ensures.whole k.0 k.2 in
     let same : c.in-Some-2.insts ≡ k.0 = cc in
-    ap Some (c.in_ok-module_of.ensures ∙ ap main_of same ∙ sym k.1)
+    ap Some (c.in_ok-main_of.ensures ∙ ap main_of same ∙ sym k.1)
 
 pub returns-clause-sound : goal.returns-clause-sound
 returns-clause-sound c =
     let is = c.in-Some-2.insts in
     let read = rw c.in-Some-2.is at c.in_ok-insts.ensures.sound in
-    subst (λ m. IsPlainTextOf c.args.text.now m) (sym c.in_ok-module_of.ensures) (text_from_Reads c.args.text.now c.in-Some.rest.now is (sym c.in-Some.ensures.value) read)
+    subst (λ m. IsPlainTextOf c.args.text.now m) (sym c.in_ok-main_of.ensures) (text_from_Reads c.args.text.now c.in-Some.rest.now is (sym c.in-Some.ensures.value) read)
