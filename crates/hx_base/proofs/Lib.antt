@@ -1,0 +1,4 @@
+pub mod MemoryLemmas
+mod MemoryRows
+mod RuntimeRows
+pub mod SameMemories
