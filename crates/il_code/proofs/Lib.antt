@@ -1,3 +1,11 @@
+pub mod Budgets
 pub mod Costs
 mod MachineRows
+mod RunModules
+mod RunRows
+mod MemoryRows
+mod ExampleRows
 mod OperationRows
+pub mod Steps
+pub mod StraightRuns
+pub mod StraightSteps

@@ -1,0 +1,23 @@
+//! What holds of every run of the machine, of any module and from any point on.
+
+ghost use Rattle.il_code.specs.MachineLaws.{EndsStay, OutputGrows, CountsAreBounded, BudgetsAreReached};
+
+/// An end other than Spent is the end at every greater budget, with the same state.
+pub fn law_ends()
+    ensures { EndsStay }
+{}
+
+/// The output with a budget is the front of that with every greater one.
+pub fn law_output()
+    ensures { OutputGrows }
+{}
+
+/// The jumps and the calls that were done never fall, and there are at most as many as units.
+pub fn law_counts()
+    ensures { CountsAreBounded }
+{}
+
+/// A budget is reached exactly, and a run that stopped goes on as if it had not.
+pub fn law_budget()
+    ensures { BudgetsAreReached }
+{}
