@@ -1,22 +1,22 @@
 -- What the top call answers to a file, and what its text then is.
-use Rattle.std.specs.Prelude.{◌≡◌, ℕ, ◌%◌, ◌⊎◌, List, [], Some}
+use Rattle.std.specs.Prelude.{◌≡◌, ℕ, ◌%◌, ◌⊎◌, List, [], length}
 use Rattle.il_code.specs.declared.types.Module.{Module}
-use Rattle.il_code.specs.Machine.{module_end, Exit}
+use Rattle.il_code.specs.Machine.{Exit}
+use Rattle.il_code.specs.Run.{machine_end, machine_output}
 use Rattle.harec_core.specs.declared.answer.Answer.{Answer}
 use Rattle.harec_core.specs.declared.answer.Answer.TheVariants.{Accepted, Exited, Usage, Refused, FileFault, Undefined, Memory, ReadFault, WriteFault, Spent, StackFull, Aborted}
 use Rattle.harec_core.specs.Source.{Expr, value, IsSource, IsNoSource}
 use Rattle.harec_core.specs.Straight.{IsTextOf}
+use Rattle.harec_core.specs.Printed.{default_units}
 
--- the units that a run may use
-abbrev pub default_units : ℕ
-default_units = 1000000000
-
--- The text carries the expression: it is the text of one module, which has the shape of its class, and for every fill byte and
--- every number of arguments the machine ends over this module, within the units of a run, in an exit with the expression's value modulo 256.
+-- The text carries the expression: it is the text of one module, which has the shape of its class, and for every fill byte, all
+-- arguments and every input the machine ends over this module, within the units of a run, in an exit with the expression's value modulo
+-- 256, and puts nothing out.
 pub record Carries (text : List ℕ) (e : Expr) : Type 0 where
   pub program : Module
   pub read : IsTextOf text program
-  pub exits : (fill nargs : ℕ) → module_end fill nargs default_units program ≡ Some (Exit (value nargs e % 256))
+  pub exits : (fill : ℕ) (args : List (List ℕ)) (input : List ℕ) → machine_end program args input fill default_units ≡ Exit (value (length args) e % 256)
+  pub silent : (fill : ℕ) (args : List (List ℕ)) (input : List ℕ) → machine_output program args input fill default_units ≡ []
 
 -- why a file has this answer, with this text
 abbrev pub HasCause : List ℕ → ℕ → List ℕ → Answer → Type 0

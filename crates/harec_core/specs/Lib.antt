@@ -10,4 +10,5 @@ pub mod Straight
 pub mod IlScan
 pub mod Reading
 pub mod Ended
+pub mod Printed
 pub mod Answers

@@ -1,8 +1,8 @@
 //! From a file's bytes to its module, and from the printed text to the status of its run.
 
 ghost use Rattle.std.specs.Prelude.{◌≡◌, ◌%◌, ℕ, IfOk, IfSome, IfNone, Some, OnErr};
-ghost use Rattle.harec_core.specs.Answers.{Carries};
 ghost use Rattle.harec_core.specs.Lowered.{expr_module};
+ghost use Rattle.harec_core.specs.Printed.{ExitsWith};
 ghost use Rattle.harec_core.specs.Source.{Expr, IsSource, IsNoSource, value};
 
 use crate::compile::module_of;
@@ -34,8 +34,8 @@ pub fn lower(alloc: Global, source: &[u8]) -> Result<Option<Module>, AllocError>
 
 /// The status with which the run of a printed module ends. The module that runs is the one that is read from the text.
 pub fn run_printed(alloc: Global, text: &[u8], nargs: u64, fill: u8) -> Result<u8, AllocError>
-    requires { (e : Expr) × Carries text.now e }
-    ensures { (e : Expr) → Carries text.now e → IfOk result (λ k. k ≡ value nargs e % 256) }
+    requires { (e : Expr) × ExitsWith text.now e }
+    ensures { (e : Expr) → ExitsWith text.now e → IfOk result (λ k. k ≡ value nargs e % 256) }
 {
     match run_text(alloc, text, nargs, fill, DEFAULT_UNITS)? {
         Some(Ended::Exit(status)) => Ok(status),
