@@ -1,0 +1,16 @@
+pub mod Steps
+pub mod Progress
+pub mod Lists
+pub mod Firsts
+pub mod Longest
+pub mod Quotes
+pub mod Numbers
+pub mod Strings
+pub mod Runes
+pub mod Sound
+pub mod Turn
+pub mod Gaps
+pub mod Same
+pub mod Whole
+pub mod Unique
+pub mod Shorter

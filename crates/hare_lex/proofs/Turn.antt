@@ -1,0 +1,45 @@
+-- One turn of the lexer, behind which it has read one more token.
+use Rattle.std.proofs.Common.{◌≡◌, ℕ, List, [], ◌∷◌, ◌++◌, Bool, false, take, drop, refl, sym, ap, ◌∙◌, subst, take-append-drop}
+use Rattle.hare_tree.specs.declared.place.Place.{Place}
+use Rattle.hare_tree.specs.declared.token.TokenKind.{TokenKind}
+use Rattle.hare_tree.specs.declared.token.TokenKind.TheVariants.{Name, Keyword, Number, Str, RuneLit, Mark, End}
+use Rattle.hare_tree.specs.declared.token.Suffix.{Suffix}
+use Rattle.hare_tree.specs.declared.token.Token.{Token}
+use Rattle.hare_tree.specs.Tokens.{Gap, is_path_mark}
+use Rattle.hare_lex.specs.Lexing.{advanced, text_of, skipped}
+use Rattle.hare_lex.proofs.Lists.{front_is, behind_is}
+use Rattle.hare_lex.proofs.Sound.{Standing, token_at}
+use Rattle.hare_lex.proofs.Progress.{Reached, reached_more, gap_skipped}
+
+path_mark_text : (k : TokenKind) (s : List ℕ) → is_path_mark k (text_of k s) ≡ is_path_mark k s
+path_mark_text Name s = refl
+path_mark_text Keyword s = refl
+path_mark_text Number s = refl
+path_mark_text Str s = refl
+path_mark_text RuneLit s = refl
+path_mark_text Mark s = refl
+path_mark_text End s = refl
+
+pub token_read : (file : ℕ) (src : List ℕ) (tokens : List Token) (p at : Place) (b : Bool) (rest blank text : List ℕ) (parts : List (List ℕ)) (k : TokenKind) (len n : ℕ) (x : Suffix) (spelling behind : List ℕ) (token : Token) (new : List Token) (q : Place) (m : Bool)
+    → Reached file src tokens p b rest → Gap parts rest text → rest ≡ blank ++ text → at ≡ advanced p blank → Standing b text k len n x
+    → spelling ≡ take len text → behind ≡ drop len text → token ≡ token_at k at spelling n x → new ≡ tokens ++ token ∷ [] → q ≡ advanced at spelling → m ≡ is_path_mark k spelling
+    → Reached file src new q m behind
+token_read file src tokens p at b rest blank text parts k len n x spelling behind token new q m r g e a st s d t w z i =
+    let word : spelling ≡ st.word = s ∙ ap (λ y. take y text) (sym st.len_is) ∙ front_is text st.word st.rest st.split in
+    let more : behind ≡ st.rest = d ∙ ap (λ y. drop y text) (sym st.len_is) ∙ behind_is text st.word st.rest st.split in
+    let one = token_at k at st.word n x in
+    let same : token ≡ one = t ∙ ap (λ y. token_at k at y n x) word in
+    let path : m ≡ is_path_mark k (text_of k st.word) = i ∙ ap (is_path_mark k) word ∙ sym (path_mark_text k st.word) in
+    let reached : Reached file src (tokens ++ one ∷ []) q (is_path_mark k (text_of k st.word)) st.rest =
+    reached_more file src tokens p at q b rest blank text st.word st.rest parts one r g e a refl st.split (st.stands at) (z ∙ ap (advanced at) word) in
+    subst (λ l. Reached file src l q m behind) (sym (w ∙ ap (λ y. tokens ++ y ∷ []) same))
+    (subst (λ c. Reached file src (tokens ++ one ∷ []) q c behind) (sym path)
+    (subst (λ y. Reached file src (tokens ++ one ∷ []) q (is_path_mark k (text_of k st.word)) y) (sym more) reached))
+
+-- two parts of a list, joined again
+pub joined : (n : ℕ) (s a b : List ℕ) → a ≡ take n s → b ≡ drop n s → s ≡ a ++ b
+joined n s a b e f = rw (e, f) (sym (take-append-drop n s))
+
+-- blanks and comments lead to what is left
+pub gap_to : (s text : List ℕ) → text ≡ skipped false s → (parts : List (List ℕ)) × Gap parts s text
+gap_to s text e = let g = gap_skipped s in (g.0, subst (Gap g.0 s) (sym e) g.1)

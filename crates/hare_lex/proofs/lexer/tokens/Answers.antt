@@ -1,0 +1,8 @@
+use Rattle.hare_lex.proofs.Unique.{only_tokens, only_break}
+use Rattle.hare_lex.proofs.lexer.tokens.Goals as goal
+
+pub returns-clause-only_tokens : goal.returns-clause-only_tokens
+returns-clause-only_tokens c = only_tokens c.args.file c.args.src.now c.found.result c.found.ensures.ok c.found.ensures.err
+
+pub returns-clause-only_break : goal.returns-clause-only_break
+returns-clause-only_break c = only_break c.args.file c.args.src.now c.found.result c.found.ensures.ok c.found.ensures.err

@@ -1,0 +1,19 @@
+//! The lexer of Hare: the tokens of a file, or its first break and the tokens before it.
+#![tactic(auto)]
+
+mod bytes;
+mod front;
+mod gap;
+mod law;
+mod lexer;
+mod literal;
+mod number;
+mod stop;
+mod string;
+mod table;
+#[cfg(test)]
+mod tests;
+
+pub use law::text_is_no_longer;
+pub use lexer::tokens;
+pub use stop::LexStop;
