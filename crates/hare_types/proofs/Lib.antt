@@ -1,0 +1,9 @@
+pub mod ListLemmas
+pub mod NumberingLemmas
+pub mod TreeLemmas
+pub mod SameLemmas
+pub mod InternLemmas
+pub mod DefinitionLemmas
+pub mod FiniteLemmas
+pub mod SoundLemmas
+pub mod CallerLemmas

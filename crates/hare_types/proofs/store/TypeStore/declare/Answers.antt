@@ -1,0 +1,23 @@
+use Rattle.std.proofs.Common.{◌≡◌, Option, Some, None, refl}
+use Rattle.std.specs.Prelude.{nat_eq, option_map}
+use Rattle.std.specs.Map.{lookup}
+use Rattle.indexmap.proofs.CallerLemmas.{insert_entry-new}
+use Rattle.hare_types.specs.declared.declared.Declared.{Declared}
+use Rattle.hare_types.proofs.SoundLemmas.{IsStore-declared}
+use Rattle.hare_types.proofs.store.TypeStore.declare.Goals as goal
+
+-- an entry of which no size is known is none
+no_entry : (o : Option Declared) → option_map (λ e. e.sized) o ≡ None → o ≡ None
+no_entry None e = refl
+no_entry (Some x) e = absurd cc
+
+fresh : (c : goal.In_ok-insert) → lookup (nat_eq c.args.decl) c.self.inside.declared.entries ≡ None
+fresh c = no_entry _ (rw (← c.self.view_is) at c.requires)
+
+pub invariant_of-self-2 : goal.invariant_of-self-2
+invariant_of-self-2 c = IsStore-declared _ c.insert.new.self.entries c.args.decl _ c.self.invariant refl (fresh c) c.in_ok-insert.ensures.updates.0
+
+pub returns-clause-ok : goal.returns-clause-ok
+returns-clause-ok c =
+    let e = insert_entry-new nat_eq c.self.inside.declared c.args.decl (record { sized = c.args.sized; definition = None }) (fresh c) in
+    rw (← c.self.view_is, c.in_ok-insert.ensures.entries, e) refl

@@ -1,0 +1,15 @@
+use Rattle.std.proofs.Common.{Some, nat_eq}
+use Rattle.std.proofs.lemmas.Option.{IfSome_then}
+use Rattle.indexmap.specs.IndexMap.{Updates}
+use Rattle.hare_types.specs.declared.declared.Declared.{Declared}
+use Rattle.hare_types.proofs.SoundLemmas.{IsStore-define}
+use Rattle.hare_types.proofs.store.TypeStore.define.Goals as goal
+
+pub invariant_of-self : goal.invariant_of-self
+invariant_of-self c =
+    let declared = rw (← c.self.view_is) at c.requires.declared in
+    let fresh = rw (← c.self.view_is) at c.requires.fresh in
+    let sized = rw (← c.self.view_is) at c.requires.sized in
+    let within = rw (← c.self.view_is) at c.requires.within in
+    let finite = rw (← c.self.view_is) at c.requires.finite in
+    IsStore-define _ c.set_definition.new.declared.entries c.args.decl c.args.t c.self.invariant declared fresh sized within finite (IfSome_then _ c.set_definition.ensures (λ (e : Declared) (h : Updates nat_eq c.self.inside.declared c.set_definition.new.declared c.args.decl (Some (record e { definition = Some c.args.t }))). h.0))

@@ -1,0 +1,9 @@
+pub mod ByValue
+pub mod KeyLaws
+pub mod Keys
+pub mod Layout
+pub mod Numbering
+pub mod Rows
+pub mod Sound
+pub mod Store
+pub mod Trees

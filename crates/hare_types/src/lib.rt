@@ -1,0 +1,19 @@
+//! The types of a Hare program, each stored once and named by an id.
+#![tactic(auto)]
+
+mod coercion;
+mod declared;
+mod id;
+mod lists;
+mod numbering;
+mod row;
+mod store;
+
+pub use coercion::{Coercion, Ty};
+pub use id::TypeId;
+pub use lists::{Field, Fields, TypeIds};
+pub use row::{Row, Scalar};
+pub use store::TypeStore;
+
+#[cfg(test)]
+mod tests;

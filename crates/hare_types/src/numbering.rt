@@ -1,0 +1,33 @@
+//! Numbers of keys, in the order in which they are first met.
+
+ghost use Rattle.std.specs.Prelude.{◌≡◌, ◌≤◌, ◌<◌, ◌++◌, ◌∷◌, [], length, IfOk, OnOk, OnErr};
+ghost use Rattle.std.specs.List.{position_or_len};
+ghost use Rattle.hare_types.specs.Numbering.{most};
+
+use indexmap::IndexSet;
+use std::alloc::AllocError;
+use std::hash::Hash;
+
+/// The greatest number of names, types or listed types of a store.
+const MOST: usize = 4_294_967_295;
+
+/// The place of a key, which is put last unless it is there. A set that holds 2^32 - 1 keys takes no other.
+pub(crate) fn number<T: Eq + Hash + Drop>(set: &mut IndexSet<T>, key: T) -> Result<u32, AllocError>
+    requires { length set.old.keys ≤ most }
+    ensures place { IfOk result (λ n. n ≡ position_or_len (T.eq key) set.old.keys) }
+    ensures kept { IfOk result (λ n. n < length set.old.keys → set.new.keys ≡ set.old.keys) }
+    ensures added { IfOk result (λ n. n ≡ length set.old.keys → set.new.keys ≡ set.old.keys ++ key ∷ []) }
+    ensures within { IfOk result (λ n. n < length set.new.keys) }
+    ensures few { length set.new.keys ≤ most }
+    ensures err { OnErr result (set.new.keys ≡ set.old.keys) }
+{
+    if let Some(place) = set.get_index_of(&key) {
+        return Ok(place as u32);
+    }
+    let place = set.len();
+    if place >= MOST {
+        return Err(AllocError);
+    }
+    set.insert(key)?;
+    Ok(place as u32)
+}

@@ -1,0 +1,192 @@
+//! The store of the types, names and declarations of a program.
+
+ghost use Rattle.std.specs.Prelude.{◌≡◌, ◌≢◌, ◌≤◌, ◌<◌, ◌+◌, ◌++◌, ◌∷◌, [], ℕ, List, length, slice_get, IfOk, IfSome, IsSome, IfNone, OnOk, OnErr, Some, None};
+ghost use Rattle.hare_types.specs.ByValue.{has_size, HoldsByValue};
+ghost use Rattle.hare_types.specs.Numbering.{IsNumbered};
+ghost use Rattle.hare_types.specs.Rows.{tree_of, trees, IsWithin, IsReduced};
+ghost use Rattle.hare_types.specs.Sound.{IsStore};
+ghost use Rattle.hare_types.specs.Store.{empty, tree_at, sized_of, definition_of, with_declared, IsTag, Extends};
+ghost use Rattle.hare_types.specs.Trees.{Tree, Same};
+
+use crate::declared::{Declared, set_definition};
+use crate::id::TypeId;
+use crate::numbering::number;
+use crate::row::Row;
+use indexmap::{IndexMap, IndexSet};
+use std::alloc::{AllocError, Global};
+use std::marker::Model;
+
+/// The types of a program, each under one id, the spellings of names, each under one number, the declared types, and the list of
+/// the types that have tags.
+///
+/// A store that holds 2^32 - 1 names, types or listed types answers `AllocError` to one more.
+#[derive(Drop)]
+pub struct TypeStore {
+    names: IndexSet<Vec<u8>>,
+    rows: IndexSet<Row>,
+    declared: IndexMap<u32, Declared>,
+    listed: IndexSet<TypeId>,
+}
+
+impl Model for TypeStore {
+    ghost use Rattle.std.specs.Prelude.{map};
+    ghost use Rattle.hare_types.specs.Sound.{IsStore};
+    ghost use Rattle.hare_types.specs.Store.{Store};
+
+    ghost Value = { Store };
+
+    ghost view = { λ a. record { names = map (λ v. v.items) a.names.keys; rows = a.rows.keys; declared = a.declared.entries; listed = a.listed.keys } };
+
+    ghost invariant = { λ a. IsStore (record { names = map (λ v. v.items) a.names.keys; rows = a.rows.keys; declared = a.declared.entries; listed = a.listed.keys }) };
+}
+
+impl TypeStore {
+    /// A store that holds nothing.
+    pub fn new(alloc: Global) -> TypeStore
+        ensures { result ≡ empty }
+    {
+        TypeStore {
+            names: IndexSet::new(alloc),
+            rows: IndexSet::new(alloc),
+            declared: IndexMap::new(alloc),
+            listed: IndexSet::new(alloc),
+        }
+    }
+
+    /// The number of the name that is spelled so: the same for equal spellings, and another for other ones.
+    pub fn name(&mut self, spelling: &[u8]) -> Result<u32, AllocError>
+        ensures numbered { IfOk result (λ n. IsNumbered self.old.names self.new.names spelling.now n) }
+        ensures rest { OnOk result (self.new ≡ record self.old { names = self.new.names }) }
+        ensures grows { Extends self.old self.new }
+        ensures err { OnErr result (self.new ≡ self.old) }
+    {
+        if let Some(n) = self.find_name(spelling) {
+            return Ok(n);
+        }
+        let mut owned = Vec::new(*self.names.allocator());
+        owned.extend_from_slice(spelling)?;
+        let n = number(&mut self.names, owned)?;
+        Ok(n)
+    }
+
+    /// The number of the name that is spelled so, `None` where no name is.
+    pub fn find_name(&self, spelling: &[u8]) -> Option<u32>
+        ensures found { IfSome result (λ n. slice_get self.now.names n ≡ Some spelling.now) }
+        ensures none { IfNone result ((n : ℕ) → slice_get self.now.names n ≢ Some spelling.now) }
+    {
+        match self.names.get_index_of(spelling) {
+            Some(place) => Some(place as u32),
+            None => None,
+        }
+    }
+
+    /// Enters a declared type, and whether it has a size, before what it is defined to be is known.
+    pub fn declare(&mut self, decl: u32, sized: bool) -> Result<(), AllocError>
+        requires { sized_of self.old decl ≡ None }
+        ensures ok { OnOk result (self.new ≡ with_declared self.old decl sized) }
+        ensures entered { OnOk result (sized_of self.new decl ≡ Some sized) }
+        ensures grows { Extends self.old self.new }
+        ensures err { OnErr result (self.new ≡ self.old) }
+    {
+        let fresh = Declared {
+            sized,
+            definition: None,
+        };
+        self.declared.insert(decl, fresh)?;
+        Ok(())
+    }
+
+    /// Enters what a declared type is defined to be. The type neither is nor holds by value that name.
+    pub fn define(&mut self, decl: u32, t: TypeId)
+        requires declared { IsSome (sized_of self.old decl) }
+        requires fresh { definition_of self.old decl ≡ None }
+        requires sized { IfSome (tree_at self.old t) (λ u. has_size self.old u ≡ sized_of self.old decl) }
+        requires within { t < length self.old.rows }
+        requires finite { IfSome (tree_at self.old t) (λ u. ¬ HoldsByValue self.old u decl) }
+        ensures entered { definition_of self.new decl ≡ Some t }
+        ensures others { (d : ℕ) → d ≢ decl → definition_of self.new d ≡ definition_of self.old d }
+        ensures sized { (d : ℕ) → sized_of self.new d ≡ sized_of self.old d }
+        ensures rest { self.new ≡ record self.old { declared = self.new.declared } }
+        ensures grows { Extends self.old self.new }
+    {
+        set_definition(&mut self.declared, decl, t);
+    }
+
+    /// What a type is defined to be, `None` where nothing was entered.
+    pub fn definition(&self, decl: u32) -> Option<TypeId>
+        ensures { result ≡ definition_of self.now decl }
+    {
+        match self.declared.get(&decl) {
+            Some(entry) => entry.definition,
+            None => None,
+        }
+    }
+
+    /// Whether a declared type has a size, `None` where it is not declared.
+    pub fn sized(&self, decl: u32) -> Option<bool>
+        ensures { result ≡ sized_of self.now decl }
+    {
+        match self.declared.get(&decl) {
+            Some(entry) => Some(entry.sized),
+            None => None,
+        }
+    }
+
+    /// The id of a type: the same for equal types, and another for other ones. The row's ids are of this store, and the members of
+    /// a union are at least two, ascend by id, and none of them is never or an unnamed union.
+    pub fn intern(&mut self, r: Row) -> Result<TypeId, AllocError>
+        requires within { IsWithin (length self.old.rows) r }
+        requires reduced { IsReduced self.old.rows r }
+        ensures numbered { IfOk result (λ t. IsNumbered self.old.rows self.new.rows r t) }
+        ensures within { IfOk result (λ t. t < length self.new.rows) }
+        ensures stands { IfOk result (λ t. tree_at self.new t ≡ Some (tree_of (trees self.old.rows) r)) }
+        ensures once { IfOk result (λ t. (i : ℕ) (u : Tree) → tree_at self.new i ≡ Some u → Same u (tree_of (trees self.old.rows) r) → i ≡ t) }
+        ensures kept { (i : ℕ) (u : Tree) → tree_at self.old i ≡ Some u → tree_at self.new i ≡ Some u }
+        ensures rest { OnOk result (self.new ≡ record self.old { rows = self.new.rows }) }
+        ensures grows { Extends self.old self.new }
+        ensures err { OnErr result (self.new ≡ self.old) }
+    {
+        let place = number(&mut self.rows, r)?;
+        Ok(TypeId::at(place))
+    }
+
+    /// The row of a type.
+    pub fn row(&self, t: TypeId) -> &Row
+        requires { t < length self.now.rows }
+        ensures row { slice_get self.now.rows t ≡ Some result.now }
+        ensures sound { IsStore self.now }
+    {
+        &self.rows.as_slice()[t.index() as usize]
+    }
+
+    /// The tag of a type, counted from 1: its place in the list of the types that have tags, where it is put last unless it is there.
+    pub fn mention(&mut self, t: TypeId) -> Result<u32, AllocError>
+        requires { t < length self.old.rows }
+        ensures tag { IfOk result (λ n. IsTag self.new t n) }
+        ensures numbered { IfOk result (λ n. (k : ℕ) × (n ≡ k + 1) × IsNumbered self.old.listed self.new.listed t k) }
+        ensures rest { OnOk result (self.new ≡ record self.old { listed = self.new.listed }) }
+        ensures grows { Extends self.old self.new }
+        ensures err { OnErr result (self.new ≡ self.old) }
+    {
+        let place = number(&mut self.listed, t)?;
+        Ok(place + 1)
+    }
+
+    /// Empties the list of the types that have tags, and leaves all else.
+    pub fn unmention(&mut self)
+        ensures { self.new ≡ record self.old { listed = [] } }
+    {
+        self.listed.clear();
+    }
+
+    /// The tag of a type, `None` where it has none.
+    pub fn tag(&self, t: TypeId) -> Option<u32>
+        ensures found { IfSome result (λ n. IsTag self.now t n) }
+        ensures none { IfNone result ((k : ℕ) → slice_get self.now.listed k ≢ Some t) }
+    {
+        match self.listed.get_index_of(&t) {
+            Some(place) => Some(place as u32 + 1),
+            None => None,
+        }
+    }
+}

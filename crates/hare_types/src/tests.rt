@@ -1,0 +1,34 @@
+//! Calls with values that a person would give.
+
+use super::*;
+use std::test::*;
+
+#[test]
+fn one_id_for_a_type(rt: HostRuntime) -> Result<(), Fail> {
+    let mut store = TypeStore::new(rt.alloc());
+    let int = store.intern(Row::Scalar(Scalar::Int))?;
+    let long = store.intern(Row::Scalar(Scalar::I64))?;
+    let again = store.intern(Row::Scalar(Scalar::Int))?;
+    assert!(rt; int == again);
+    assert!(rt; int != long);
+    Ok(())
+}
+
+#[test]
+fn names_have_numbers(rt: HostRuntime) -> Result<(), Fail> {
+    let mut store = TypeStore::new(rt.alloc());
+    let first = store.name(b"first")?;
+    let second = store.name(b"second")?;
+    assert!(rt; first == 0);
+    assert!(rt; second == 1);
+    Ok(())
+}
+
+#[test]
+fn sizes_are_declared(rt: HostRuntime) -> Result<(), Fail> {
+    let mut store = TypeStore::new(rt.alloc());
+    store.declare(7, true)?;
+    assert!(rt; store.sized(7) == Some(true));
+    assert!(rt; store.definition(7) == None);
+    Ok(())
+}
