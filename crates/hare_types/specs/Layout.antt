@@ -1,5 +1,6 @@
 -- What lies under names and error marks, and where the bytes of a type lie. Numbers here have no bound.
 use Rattle.std.specs.Prelude.{◌≡◌, ℕ, zero, suc, ◌+◌, ◌-◌, ◌*◌, ◌/◌, Bool, true, false, List, [], ◌∷◌, Some, None, Option, option_map, option_and_then, max}
+use Rattle.hare_types.specs.declared.extent.Extent.{Extent}
 use Rattle.hare_types.specs.declared.row.Scalar.{Scalar as Keyword}
 use Rattle.hare_types.specs.declared.row.Scalar.TheVariants.{Void, Never, Opaque, Bool as BoolWord, Rune, Str, I8, I16, I32, I64, U8, U16, U32, U64, Int, Uint, Size}
 use Rattle.hare_types.specs.Trees.{Tree, Trees, Scalar, Pointer, Nullable, Slice, Array, Struct, Tuple, Union, Error, Named, none, more}
@@ -48,11 +49,6 @@ abbrev pub IsError : Store → Tree → Bool → Type 0
 IsError s t b = (n : ℕ) × (following error_with (meaning_of s) n t ≡ Some b)
 
 -- ---- size, alignment and offsets
-
--- how many bytes a value has, and of what its address is a multiple
-pub record Extent : Type 0 where
-  pub size : ℕ
-  pub align : ℕ
 
 abbrev pub bytes : ℕ → ℕ → Option Extent
 bytes size align = Some (record { size = size; align = align })

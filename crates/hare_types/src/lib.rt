@@ -3,6 +3,7 @@
 
 mod coercion;
 mod declared;
+mod extent;
 mod id;
 mod lists;
 mod numbering;
@@ -10,6 +11,7 @@ mod row;
 mod store;
 
 pub use coercion::{Coercion, Ty};
+pub use extent::Extent;
 pub use id::TypeId;
 pub use lists::{Field, Fields, TypeIds};
 pub use row::{Row, Scalar};

@@ -114,7 +114,8 @@ impl TypeStore {
 
     /// What a type is defined to be, `None` where nothing was entered.
     pub fn definition(&self, decl: u32) -> Option<TypeId>
-        ensures { result ≡ definition_of self.now decl }
+        ensures value { result ≡ definition_of self.now decl }
+        ensures sound { IsStore self.now }
     {
         match self.declared.get(&decl) {
             Some(entry) => entry.definition,
@@ -130,6 +131,14 @@ impl TypeStore {
             Some(entry) => Some(entry.sized),
             None => None,
         }
+    }
+
+    /// How many types are declared.
+    pub fn declarations(&self) -> usize
+        ensures value { result ≡ length self.now.declared }
+        ensures sound { IsStore self.now }
+    {
+        self.declared.len()
     }
 
     /// The id of a type: the same for equal types, and another for other ones. The row's ids are of this store, and the members of

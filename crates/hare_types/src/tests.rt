@@ -32,3 +32,32 @@ fn sizes_are_declared(rt: HostRuntime) -> Result<(), Fail> {
     assert!(rt; store.definition(7) == None);
     Ok(())
 }
+
+#[test]
+fn names_are_found(rt: HostRuntime) -> Result<(), Fail> {
+    let mut store = TypeStore::new(rt.alloc());
+    let first = store.name(b"first")?;
+    assert!(rt; store.find_name(b"first") == Some(first));
+    assert!(rt; store.find_name(b"second") == None);
+    Ok(())
+}
+
+#[test]
+fn tags_count_from_one(rt: HostRuntime) -> Result<(), Fail> {
+    let mut store = TypeStore::new(rt.alloc());
+    let int = store.intern(Row::Scalar(Scalar::Int))?;
+    let tag = store.mention(int)?;
+    assert!(rt; tag == 1);
+    assert!(rt; store.tag(int) == Some(1));
+    store.unmention();
+    assert!(rt; store.tag(int) == None);
+    Ok(())
+}
+
+#[test]
+fn a_row_is_kept(rt: HostRuntime) -> Result<(), Fail> {
+    let mut store = TypeStore::new(rt.alloc());
+    let int = store.intern(Row::Scalar(Scalar::Int))?;
+    assert!(rt; matches!(store.row(int), Row::Scalar(Scalar::Int)));
+    Ok(())
+}

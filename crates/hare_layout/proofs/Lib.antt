@@ -1,0 +1,9 @@
+pub mod BaseLemmas
+pub mod CallerLemmas
+pub mod ExtentLemmas
+pub mod GrowthLemmas
+pub mod MemberLemmas
+pub mod NamesLemmas
+pub mod OffsetLemmas
+pub mod SmallLemmas
+pub mod StoreLemmas

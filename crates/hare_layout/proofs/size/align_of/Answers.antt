@@ -1,0 +1,4 @@
+use Rattle.hare_layout.proofs.size.align_of.Goals as goal
+
+pub returns-clause-value : goal.returns-clause-value
+returns-clause-value c = (c.extent_of.result.size, c.extent_of.ensures.value)

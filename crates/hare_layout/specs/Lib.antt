@@ -1,0 +1,4 @@
+pub mod Members
+pub mod Offsets
+pub mod Run
+pub mod Small

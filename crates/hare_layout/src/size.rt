@@ -1,0 +1,44 @@
+//! The size and the alignment of a type.
+
+ghost use Rattle.std.specs.Prelude.{ℕ, ◌≤◌};
+ghost use Rattle.hare_layout.specs.Small.{IsSmall, LiesIn, IsModest};
+
+use crate::extent::extent;
+use hare_types::{Extent, TypeId, TypeStore};
+
+/// The extent of an admitted and sized type.
+fn extent_of(s: &TypeStore, t: TypeId) -> Extent
+    requires { IsSmall s.now t }
+    ensures value { LiesIn s.now t result }
+    ensures within { IsModest result }
+{
+    match extent(s, t, s.declarations()) {
+        Some(x) => x,
+        None => unreachable!(),
+    }
+}
+
+/// How many bytes a value of the type takes.
+///
+/// The type is admitted and has a size, and each name that it is or holds by value is defined: neither it nor a type that it holds by
+/// value has more than 67,108,864 bytes.
+///
+/// The time is that of visiting each type that is held by value as often as it is held, and the calls go as deep as types hold one
+/// another by value.
+pub fn size_of(s: &TypeStore, t: TypeId) -> u64
+    requires { IsSmall s.now t }
+    ensures value { (a : ℕ) × LiesIn s.now t (record { size = result; align = a }) }
+    ensures within { result ≤ 67108864 }
+{
+    extent_of(s, t).size
+}
+
+/// Of what the address of a value of the type is a multiple: 1, 2, 4 or 8. The conditions are those of `size_of`.
+pub fn align_of(s: &TypeStore, t: TypeId) -> u64
+    requires { IsSmall s.now t }
+    ensures value { (n : ℕ) × LiesIn s.now t (record { size = n; align = result }) }
+    ensures low { 1 ≤ result }
+    ensures high { result ≤ 8 }
+{
+    extent_of(s, t).align
+}
