@@ -1,7 +1,7 @@
 -- Rows of the definition of tokens, by computing.
-use Rattle.std.proofs.Common.{◌≡◌, ℕ, List, [], ◌∷◌, Bool, true, false, codes, length, refl}
-use Rattle.hare_tree.specs.Words.{is_word, is_listed, is_left_out, keywords, left_out, marks, begins_fraction}
-use Rattle.hare_tree.specs.Tokens.{place_at, holds, no_gap, is_one_escape}
+use Rattle.std.proofs.Common.{◌≡◌, [], ◌∷◌, true, false, codes, length, refl}
+use Rattle.hare_tree.specs.Words.{is_listed, is_left_out, keywords, left_out, marks, begins_fraction}
+use Rattle.hare_tree.specs.Tokens.{place_at, holds, no_gap}
 
 -- the tables are whole
 keywords_all : length keywords ≡ 51

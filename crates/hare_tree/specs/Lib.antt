@@ -1,3 +1,11 @@
 pub mod Words
 pub mod Spelling
 pub mod Tokens
+pub mod Node
+pub mod Signs
+pub mod Forms
+pub mod Spell
+pub mod Levels
+pub mod Shape
+pub mod Depth
+pub mod Grammar
