@@ -69,9 +69,6 @@ short_words (w ∷ words) h = (le_of (length w) (and_left _ _ h), short_words wo
 pub mark_short : (w : List ℕ) → is_listed marks w ≡ true → length w ≤ 3
 mark_short w h = short marks w (short_words marks refl) h
 
-suffix_short : (w : List ℕ) → is_listed suffixes w ≡ true → length w ≤ 3
-suffix_short w h = short suffixes w (short_words suffixes refl) h
-
 -- each mark begins with a mark
 begins_with_mark : List ℕ → Bool
 begins_with_mark w = is_listed marks (take 1 w)

@@ -18,9 +18,10 @@ use Rattle.hare_lex.proofs.Firsts.{is_other, first_of_kind}
 use Rattle.hare_lex.proofs.Longest.{named_suffix, suffix_no_digit, no_suffix_digit, suffix_most, longest_within}
 use Rattle.hare_lex.proofs.Numbers.{digits_at, radix_has, one_zero}
 use Rattle.hare_lex.proofs.Steps.{unescaped_skip, bad_escape_skip}
-use Rattle.hare_lex.proofs.Strings.{escape_stands, escape_first, unescaped_plain, unescaped_escape, bad_plain, bad_behind}
+use Rattle.hare_lex.proofs.Escapes.{escape_stands, escape_first}
+use Rattle.hare_lex.proofs.Strings.{unescaped_plain, unescaped_escape, bad_plain, bad_behind}
 use Rattle.hare_lex.proofs.Runes.{one_stands}
-use Rattle.hare_lex.proofs.Sound.{inner_is, string_text_is, raw_text_is}
+use Rattle.hare_lex.proofs.SoundLiterals.{inner_is, string_text_is, raw_text_is}
 
 -- ---- the kind
 

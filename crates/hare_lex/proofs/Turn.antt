@@ -8,7 +8,7 @@ use Rattle.hare_tree.specs.declared.token.Token.{Token}
 use Rattle.hare_tree.specs.Tokens.{Gap, is_path_mark}
 use Rattle.hare_lex.specs.Lexing.{advanced, text_of, skipped}
 use Rattle.hare_lex.proofs.Lists.{front_is, behind_is}
-use Rattle.hare_lex.proofs.Sound.{Standing, token_at}
+use Rattle.hare_lex.proofs.Standing.{Standing, token_at}
 use Rattle.hare_lex.proofs.Progress.{Reached, reached_more, gap_skipped}
 
 path_mark_text : (k : TokenKind) (s : List ℕ) → is_path_mark k (text_of k s) ≡ is_path_mark k s

@@ -8,7 +8,7 @@ use crate::bytes::front;
 use hare_tree::Suffix;
 
 /// The keywords.
-const KEYWORDS: [&[u8]; 51] = [
+pub const KEYWORDS: [&[u8]; 51] = [
     b"abort",
     b"align",
     b"alloc",
@@ -63,13 +63,13 @@ const KEYWORDS: [&[u8]; 51] = [
 ];
 
 /// The words of Hare that the language leaves out.
-const LEFT_OUT: [&[u8]; 14] = [
+pub const LEFT_OUT: [&[u8]; 14] = [
     b"done", b"enum", b"f32", b"f64", b"insert", b"nomem", b"static", b"uintptr", b"union",
     b"vaarg", b"vaend", b"valist", b"vastart", b"_",
 ];
 
 /// The marks.
-const MARKS: [&[u8]; 47] = [
+pub const MARKS: [&[u8]; 47] = [
     b"!", b"!=", b"%", b"%=", b"&", b"&=", b"&&", b"(", b")", b"*", b"*=", b"+", b"+=", b",", b"-",
     b"-=", b".", b"..", b"...", b"/", b"/=", b":", b"::", b";", b"<", b"<<", b"<<=", b"<=", b"=",
     b"==", b"=>", b">", b">=", b">>", b">>=", b"?", b"[", b"]", b"^", b"^=", b"^^", b"{", b"|",
@@ -77,7 +77,7 @@ const MARKS: [&[u8]; 47] = [
 ];
 
 /// The suffixes of numbers.
-const SUFFIXES: [&[u8]; 11] = [
+pub const SUFFIXES: [&[u8]; 11] = [
     b"i8", b"i16", b"i32", b"i64", b"u8", b"u16", b"u32", b"u64", b"i", b"u", b"z",
 ];
 

@@ -2,7 +2,8 @@ use Rattle.std.proofs.Common.{◌≡◌, ◌∙◌, ◌++◌, [], ◌∷◌, ◌
 use Rattle.std.proofs.lemmas.Bool.Decides.{nat_tests}
 use Rattle.hare_lex.specs.Lexing.{advanced}
 use Rattle.hare_lex.proofs.Progress.{reached_at, at_more, at_lines, at_columns, all_read, broken_at}
-use Rattle.hare_lex.proofs.Sound.{front_sound, Sound}
+use Rattle.hare_lex.proofs.Sound.{front_sound}
+use Rattle.hare_lex.proofs.Standing.{Sound}
 use Rattle.hare_lex.proofs.Turn.{token_read, joined, gap_to}
 use Rattle.hare_lex.proofs.lexer.tokens_of.Goals as goal
 
