@@ -9,3 +9,10 @@ mod OperationRows
 pub mod Steps
 pub mod StraightRuns
 pub mod StraightSteps
+mod Possible
+mod ShapedLemmas
+mod TokensOf
+mod TokensOfCode
+mod TokensOfModule
+mod Validates
+mod ValidRows
