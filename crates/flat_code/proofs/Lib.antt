@@ -1,0 +1,3 @@
+pub mod RowPrograms
+mod EvaluationRows
+mod MemoryRows
