@@ -7,3 +7,4 @@ pub mod DefinitionLemmas
 pub mod FiniteLemmas
 pub mod SoundLemmas
 pub mod CallerLemmas
+pub mod AssignRows

@@ -1,3 +1,4 @@
+pub mod Assign
 pub mod ByValue
 pub mod KeyLaws
 pub mod Keys
