@@ -1,5 +1,6 @@
 pub mod ListLemmas
 pub mod NumberingLemmas
+mod PartLemmas
 pub mod TreeLemmas
 pub mod SameLemmas
 pub mod InternLemmas
@@ -8,3 +9,6 @@ pub mod FiniteLemmas
 pub mod SoundLemmas
 pub mod CallerLemmas
 pub mod AssignRows
+pub mod GrowthLemmas
+mod ToldLemmas
+pub mod KeptLemmas

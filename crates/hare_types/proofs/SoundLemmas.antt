@@ -156,3 +156,22 @@ IsStore-define s new d t v known fresh size within finite put = by (lookup (nat_
     by (Some entry) e (Some u) f =
         IsStore-defined s new d t entry u v e (sym (ap (option_and_then (λ x. x.definition)) e) ∙ fresh) (subst (λ o. IfSome o (λ x. (q : ℕ) → lookup (nat_eq q) new ≡ cond (nat_eq d q) (Some (record x { definition = Some t })) (lookup (nat_eq q) s.declared))) e put)
         within f (subst (λ o. IfSome o (λ w. has_size s w ≡ sized_of s d)) f size) (subst (λ o. IfSome o (λ w. ¬ HoldsByValue s w d)) f finite)
+
+-- definitions that were entered stay
+pub definitions-kept : (es new : List (ℕ × Declared)) (d t : ℕ) → IsSome (option_map (λ e. e.sized) (lookup (nat_eq d) es)) → option_and_then (λ e. e.definition) (lookup (nat_eq d) es) ≡ None
+    → IfSome (lookup (nat_eq d) es) (λ e. (q : ℕ) → lookup (nat_eq q) new ≡ cond (nat_eq d q) (Some (record e { definition = Some t })) (lookup (nat_eq q) es))
+    → (q i : ℕ) → option_and_then (λ e. e.definition) (lookup (nat_eq q) es) ≡ Some i → option_and_then (λ e. e.definition) (lookup (nat_eq q) new) ≡ Some i
+definitions-kept es new d t known fresh put q i e = by (lookup (nat_eq d) es) refl
+  where
+    at : (entry : Declared) → (d ≡ q) ⊎ (option_and_then (λ e. e.definition) (lookup (nat_eq q) new) ≡ option_and_then (λ e. e.definition) (lookup (nat_eq q) es))
+        → option_and_then (λ e. e.definition) (lookup (nat_eq q) new) ≡ Some i
+    at entry (inl h) =
+        let both : None ≡ Some i = sym fresh ∙ ap (λ n. option_and_then (λ e. e.definition) (lookup (nat_eq n) es)) h ∙ e in
+        absurd cc
+    at entry (inr h) = h ∙ e
+
+    by : (o : Option Declared) → lookup (nat_eq d) es ≡ o → option_and_then (λ e. e.definition) (lookup (nat_eq q) new) ≡ Some i
+    by None g =
+        let nothing : false ≡ true = subst (λ o. IsSome (option_map (λ x. x.sized) o)) g known in
+        absurd cc
+    by (Some entry) g = at entry (defined-there es new d t entry g (subst (λ o. IfSome o (λ x. (q : ℕ) → lookup (nat_eq q) new ≡ cond (nat_eq d q) (Some (record x { definition = Some t })) (lookup (nat_eq q) es))) g put) q)

@@ -1,10 +1,12 @@
 pub mod Assign
 pub mod ByValue
 pub mod KeyLaws
+pub mod Kept
 pub mod Keys
 pub mod Layout
 pub mod Numbering
 pub mod Rows
+pub mod Run
 pub mod Sound
 pub mod Store
 pub mod Trees

@@ -1,12 +1,15 @@
 //! The types of a Hare program, each stored once and named by an id.
 #![tactic(auto)]
 
+mod bytes;
 mod coercion;
 mod declared;
 mod extent;
 mod id;
 mod lists;
+mod measure;
 mod numbering;
+mod parts;
 mod row;
 mod store;
 

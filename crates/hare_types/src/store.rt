@@ -1,7 +1,9 @@
 //! The store of the types, names and declarations of a program.
 
 ghost use Rattle.std.specs.Prelude.{◌≡◌, ◌≢◌, ◌≤◌, ◌<◌, ◌+◌, ◌++◌, ◌∷◌, [], ℕ, List, length, slice_get, IfOk, IfSome, IsSome, IfNone, OnOk, OnErr, Some, None};
+ghost use Rattle.hare_types.specs.declared.extent.Extent.{Extent as ExtentOf};
 ghost use Rattle.hare_types.specs.ByValue.{has_size, HoldsByValue};
+ghost use Rattle.hare_types.specs.Kept.{LiesIn, told};
 ghost use Rattle.hare_types.specs.Numbering.{IsNumbered};
 ghost use Rattle.hare_types.specs.Rows.{tree_of, trees, IsWithin, IsReduced};
 ghost use Rattle.hare_types.specs.Sound.{IsStore};
@@ -9,7 +11,9 @@ ghost use Rattle.hare_types.specs.Store.{empty, tree_at, sized_of, definition_of
 ghost use Rattle.hare_types.specs.Trees.{Tree, Same};
 
 use crate::declared::{Declared, set_definition};
+use crate::extent::Extent;
 use crate::id::TypeId;
+use crate::measure::{extent_over, known};
 use crate::numbering::number;
 use crate::row::Row;
 use indexmap::{IndexMap, IndexSet};
@@ -26,18 +30,19 @@ pub struct TypeStore {
     rows: IndexSet<Row>,
     declared: IndexMap<u32, Declared>,
     listed: IndexSet<TypeId>,
+    extents: Vec<Option<Extent>>,
 }
 
 impl Model for TypeStore {
     ghost use Rattle.std.specs.Prelude.{map};
-    ghost use Rattle.hare_types.specs.Sound.{IsStore};
+    ghost use Rattle.hare_types.specs.Kept.{IsKept};
     ghost use Rattle.hare_types.specs.Store.{Store};
 
     ghost Value = { Store };
 
     ghost view = { λ a. record { names = map (λ v. v.items) a.names.keys; rows = a.rows.keys; declared = a.declared.entries; listed = a.listed.keys } };
 
-    ghost invariant = { λ a. IsStore (record { names = map (λ v. v.items) a.names.keys; rows = a.rows.keys; declared = a.declared.entries; listed = a.listed.keys }) };
+    ghost invariant = { λ a. IsKept (record { names = map (λ v. v.items) a.names.keys; rows = a.rows.keys; declared = a.declared.entries; listed = a.listed.keys }) a.extents.items };
 }
 
 impl TypeStore {
@@ -50,6 +55,7 @@ impl TypeStore {
             rows: IndexSet::new(alloc),
             declared: IndexMap::new(alloc),
             listed: IndexSet::new(alloc),
+            extents: Vec::new(alloc),
         }
     }
 
@@ -155,7 +161,11 @@ impl TypeStore {
         ensures grows { Extends self.old self.new }
         ensures err { OnErr result (self.new ≡ self.old) }
     {
-        let place = number(&mut self.rows, r)?;
+        let extent = extent_over(&r, &self.declared, self.extents.as_slice());
+        self.extents.push(extent)?;
+        let numbered = number(&mut self.rows, r);
+        self.extents.truncate(self.rows.len());
+        let place = numbered?;
         Ok(TypeId::at(place))
     }
 
@@ -166,6 +176,14 @@ impl TypeStore {
         ensures sound { IsStore self.now }
     {
         &self.rows.as_slice()[t.index() as usize]
+    }
+
+    /// How many bytes a value of the type takes, and of what its address is a multiple, as far as that was known when the type was
+    /// taken in. A size of more than 2^40 bytes is told as 2^40 + 1.
+    pub fn extent(&self, t: TypeId) -> Option<Extent>
+        ensures some { IfSome result (λ x. (y : ExtentOf) × LiesIn self.now t y × (x ≡ told y)) }
+    {
+        known(self.extents.as_slice(), t)
     }
 
     /// The tag of a type, counted from 1: its place in the list of the types that have tags, where it is put last unless it is there.

@@ -1,8 +1,10 @@
-use Rattle.std.proofs.Common.{◌≡◌, Option, Some, None, refl}
+use Rattle.std.proofs.Common.{◌≡◌, Option, Some, None, refl, ◌∙◌}
 use Rattle.std.specs.Prelude.{nat_eq, option_map}
 use Rattle.std.specs.Map.{lookup}
 use Rattle.indexmap.proofs.CallerLemmas.{insert_entry-new}
 use Rattle.hare_types.specs.declared.declared.Declared.{Declared}
+use Rattle.hare_types.proofs.DefinitionLemmas.{declared-definition}
+use Rattle.hare_types.proofs.KeptLemmas.{KeepsExtents-defined}
 use Rattle.hare_types.proofs.SoundLemmas.{IsStore-declared}
 use Rattle.hare_types.proofs.store.TypeStore.declare.Goals as goal
 
@@ -15,7 +17,12 @@ fresh : (c : goal.In_ok-insert) → lookup (nat_eq c.args.decl) c.self.inside.de
 fresh c = no_entry _ (rw (← c.self.view_is) at c.requires)
 
 pub invariant_of-self-2 : goal.invariant_of-self-2
-invariant_of-self-2 c = IsStore-declared _ c.insert.new.self.entries c.args.decl _ c.self.invariant refl (fresh c) c.in_ok-insert.ensures.updates.0
+invariant_of-self-2 c = record {
+  store = IsStore-declared _ c.insert.new.self.entries c.args.decl _ c.self.invariant.store refl (fresh c) c.in_ok-insert.ensures.updates.0;
+  extents =
+      KeepsExtents-defined _ c.insert.new.self.entries c.self.inside.extents.items
+      (λ d t e. declared-definition c.self.inside.declared.entries c.insert.new.self.entries c.args.decl _ refl (fresh c) c.in_ok-insert.ensures.updates.0 d ∙ e) c.self.invariant.extents;
+}
 
 pub returns-clause-ok : goal.returns-clause-ok
 returns-clause-ok c =

@@ -2,7 +2,8 @@ use Rattle.std.proofs.Common.{Some, nat_eq}
 use Rattle.std.proofs.lemmas.Option.{IfSome_then}
 use Rattle.indexmap.specs.IndexMap.{Updates}
 use Rattle.hare_types.specs.declared.declared.Declared.{Declared}
-use Rattle.hare_types.proofs.SoundLemmas.{IsStore-define}
+use Rattle.hare_types.proofs.KeptLemmas.{KeepsExtents-defined}
+use Rattle.hare_types.proofs.SoundLemmas.{IsStore-define, definitions-kept}
 use Rattle.hare_types.proofs.store.TypeStore.define.Goals as goal
 
 pub invariant_of-self : goal.invariant_of-self
@@ -12,4 +13,8 @@ invariant_of-self c =
     let sized = rw (← c.self.view_is) at c.requires.sized in
     let within = rw (← c.self.view_is) at c.requires.within in
     let finite = rw (← c.self.view_is) at c.requires.finite in
-    IsStore-define _ c.set_definition.new.declared.entries c.args.decl c.args.t c.self.invariant declared fresh sized within finite (IfSome_then _ c.set_definition.ensures (λ (e : Declared) (h : Updates nat_eq c.self.inside.declared c.set_definition.new.declared c.args.decl (Some (record e { definition = Some c.args.t }))). h.0))
+    let put = IfSome_then _ c.set_definition.ensures (λ (e : Declared) (h : Updates nat_eq c.self.inside.declared c.set_definition.new.declared c.args.decl (Some (record e { definition = Some c.args.t }))). h.0) in
+    record {
+      store = IsStore-define _ c.set_definition.new.declared.entries c.args.decl c.args.t c.self.invariant.store declared fresh sized within finite put;
+      extents = KeepsExtents-defined _ c.set_definition.new.declared.entries c.self.inside.extents.items (definitions-kept c.self.inside.declared.entries c.set_definition.new.declared.entries c.args.decl c.args.t declared fresh put) c.self.invariant.extents;
+    }

@@ -5,16 +5,20 @@ use Rattle.hare_types.specs.Numbering.{IsNumbered, IsOnce}
 use Rattle.hare_types.proofs.NumberingLemmas.{plain_numbered, plain_once}
 use Rattle.hare_types.proofs.InternLemmas.{Continues-grows}
 use Rattle.hare_types.proofs.SoundLemmas.{IsStore-listed}
+use Rattle.hare_types.proofs.KeptLemmas.{KeepsExtents-same}
 use Rattle.hare_types.proofs.store.TypeStore.mention.Goals as goal
 
 numbered : (c : goal.In_ok-place) → IsNumbered c.self.inside.listed.keys c.number.new.set.keys c.args.t c.in_ok-place.place
-numbered c = plain_numbered nat_eq unsigned_Decides _ _ _ _ c.in_ok-place.ensures.place c.in_ok-place.ensures.kept c.in_ok-place.ensures.added c.self.invariant.listed_once
+numbered c = plain_numbered nat_eq unsigned_Decides _ _ _ _ c.in_ok-place.ensures.place c.in_ok-place.ensures.kept c.in_ok-place.ensures.added c.self.invariant.store.listed_once
 
 once : (c : goal.In_ok-place) → IsOnce c.number.new.set.keys
-once c = plain_once nat_eq unsigned_Decides _ _ _ _ c.in_ok-place.ensures.place c.in_ok-place.ensures.kept c.in_ok-place.ensures.added c.self.invariant.listed_once
+once c = plain_once nat_eq unsigned_Decides _ _ _ _ c.in_ok-place.ensures.place c.in_ok-place.ensures.kept c.in_ok-place.ensures.added c.self.invariant.store.listed_once
 
 pub invariant_of-self-2 : goal.invariant_of-self-2
-invariant_of-self-2 c = IsStore-listed _ c.number.new.set.keys c.self.invariant (once c) c.number.ensures.few
+invariant_of-self-2 c = record {
+  store = IsStore-listed _ c.number.new.set.keys c.self.invariant.store (once c) c.number.ensures.few;
+  extents = KeepsExtents-same _ _ c.self.inside.extents.items refl refl c.self.invariant.extents;
+}
 
 pub returns-clause-tag : goal.returns-clause-tag
 returns-clause-tag c = (c.in_ok-place.place, refl, (numbered c).stands)

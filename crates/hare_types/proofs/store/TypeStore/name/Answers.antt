@@ -1,4 +1,4 @@
-use Rattle.std.proofs.Common.{◌≡◌, ℕ, nat_eq, List, [], Vec, Global, map, ap, sym, ◌∙◌, ◌++◌}
+use Rattle.std.proofs.Common.{◌≡◌, ℕ, nat_eq, List, [], Vec, Global, map, refl, ap, sym, ◌∙◌, ◌++◌}
 use Rattle.std.specs.Bool.{Decides}
 use Rattle.std.specs.Cmp.{unsigned_Decides}
 use Rattle.std.specs.Cmp.Lexicographic.{pointwise, pointwise_decides}
@@ -7,6 +7,7 @@ use Rattle.hare_types.specs.Numbering.{IsNumbered, IsOnce}
 use Rattle.hare_types.proofs.NumberingLemmas.{numbered, once_more}
 use Rattle.hare_types.proofs.InternLemmas.{Continues-grows}
 use Rattle.hare_types.proofs.SoundLemmas.{IsStore-names}
+use Rattle.hare_types.proofs.KeptLemmas.{KeepsExtents-same}
 use Rattle.hare_types.proofs.store.TypeStore.name.Goals as goal
 
 -- the new key is the spelling
@@ -19,15 +20,18 @@ spelled x k v e = rw (← e) (pointwise_decides unsigned_Decides k.items v.items
 name_numbered : (c : goal.In_ok-n) → IsNumbered (map (λ (v : Vec ℕ Global). v.items) c.self.inside.names.keys) (map (λ (v : Vec ℕ Global). v.items) c.number.new.set.keys) c.args.spelling.now c.in_ok-n.n
 name_numbered c =
     numbered (λ v. v.items) c.args.spelling.now (λ v. pointwise nat_eq c.extend_from_slice.new.self.items v.items) (λ v. spelled c.args.spelling.now c.extend_from_slice.new.self v (owned c))
-    c.self.inside.names.keys c.number.new.set.keys c.extend_from_slice.new.self (owned c) c.in_ok-n.n c.in_ok-n.ensures.place c.in_ok-n.ensures.kept c.in_ok-n.ensures.added c.self.invariant.names_once
+    c.self.inside.names.keys c.number.new.set.keys c.extend_from_slice.new.self (owned c) c.in_ok-n.n c.in_ok-n.ensures.place c.in_ok-n.ensures.kept c.in_ok-n.ensures.added c.self.invariant.store.names_once
 
 name_once : (c : goal.In_ok-n) → IsOnce (map (λ (v : Vec ℕ Global). v.items) c.number.new.set.keys)
 name_once c =
     once_more (λ v. v.items) c.args.spelling.now (λ v. pointwise nat_eq c.extend_from_slice.new.self.items v.items) (λ v. spelled c.args.spelling.now c.extend_from_slice.new.self v (owned c))
-    c.self.inside.names.keys c.number.new.set.keys c.extend_from_slice.new.self (owned c) c.in_ok-n.n c.in_ok-n.ensures.place c.in_ok-n.ensures.kept c.in_ok-n.ensures.added c.self.invariant.names_once
+    c.self.inside.names.keys c.number.new.set.keys c.extend_from_slice.new.self (owned c) c.in_ok-n.n c.in_ok-n.ensures.place c.in_ok-n.ensures.kept c.in_ok-n.ensures.added c.self.invariant.store.names_once
 
 pub invariant_of-self-2 : goal.invariant_of-self-2
-invariant_of-self-2 c = IsStore-names _ (map (λ (v : Vec ℕ Global). v.items) c.number.new.set.keys) c.self.invariant (name_once c) (rw length-map c.number.ensures.few)
+invariant_of-self-2 c = record {
+  store = IsStore-names _ (map (λ (v : Vec ℕ Global). v.items) c.number.new.set.keys) c.self.invariant.store (name_once c) (rw length-map c.number.ensures.few);
+  extents = KeepsExtents-same _ _ c.self.inside.extents.items refl refl c.self.invariant.extents;
+}
 
 pub returns-clause-numbered : goal.returns-clause-numbered
 returns-clause-numbered c = rw (← c.self.view_is) (name_numbered c)
