@@ -1,8 +1,11 @@
 -- What is kept of extents is what is told of them.
-use Rattle.std.proofs.Common.{◌≡◌, ℕ, zero, suc, ◌+◌, ◌*◌, ◌<◌, ◌≤◌, List, [], ◌∷◌, ◌++◌, length, take, map, Option, Some, None, refl, ap, sym, ◌∙◌, subst, arith, IfSome, length-append, ap₂, ◌⊎◌, inl, inr}
-use Rattle.std.specs.Prelude.{slice_get, option_map, option_and_then}
-use Rattle.std.proofs.lemmas.Option.{get_or_from_slice_get}
-use Rattle.std.proofs.Math.Seq.{take-append_seam, take-length}
+use Rattle.std.proofs.Common.{◌≡◌, ◌≢◌, ℕ, zero, suc, ◌+◌, ◌*◌, ◌<◌, ◌≤◌, Bool, true, false, nat_eq, true≢false, List, [], ◌∷◌, ◌++◌, length, take, set, map, Option, Some, None, IfSome, refl, ap, ap₂, sym, ◌∙◌, subst, arith, ◌⊎◌, inl, inr, length-append, length-set, get_or-set_other, get_or-set_same}
+use Rattle.std.specs.Prelude.{is_some, slice_get, slice_index_or, option_map, option_and_then}
+use Rattle.std.proofs.lemmas.Option.{get_or_from_slice_get, slice_get-get_or, slice_get_within}
+use Rattle.std.proofs.lemmas.Bool.{cases_lt}
+use Rattle.std.specs.Cmp.{unsigned_Decides}
+use Rattle.std.proofs.Math.Seq.{take-append_seam, take-length, get_or-append_seam}
+use Rattle.std.proofs.Math.ListN.{get_or-append}
 use Rattle.hare_types.specs.declared.declared.Declared.{Declared}
 use Rattle.hare_types.specs.declared.extent.Extent.{Extent}
 use Rattle.hare_types.specs.declared.lists.Field.{Field}
@@ -10,13 +13,13 @@ use Rattle.hare_types.specs.declared.row.Row.{Row}
 use Rattle.hare_types.specs.declared.row.Row.TheVariants as row
 use Rattle.hare_types.specs.declared.row.Scalar.TheVariants as keyword
 use Rattle.hare_types.specs.Trees.{Tree, Trees, Scalar, Named, more, trees_of}
-use Rattle.hare_types.specs.Rows.{tree_in, tree_of, trees}
+use Rattle.hare_types.specs.Rows.{tree_in, tree_of, trees, AllBelow, FieldsBelow, IsWithin, AreRows}
 use Rattle.hare_types.specs.Store.{Store, tree_at, definition_of, meaning_of}
 use Rattle.hare_types.specs.Sound.{IsStore}
 use Rattle.hare_types.specs.Layout.{fields_extent, union_extent, following, extent_with, extents_with, HasExtent}
-use Rattle.hare_types.specs.Kept.{told, IsTold, IsBounded, known, defined, all_known, extent_over, AreBounded, KeepsExtents}
-use Rattle.hare_types.proofs.ListLemmas.{slice_get_end}
-use Rattle.hare_types.proofs.TreeLemmas.{tree_kept}
+use Rattle.hare_types.specs.Kept.{LiesIn, told, IsTold, IsBounded, known, defined, all_known, extent_over, AreBounded, KeepsExtents, IsSettled, unknown}
+use Rattle.hare_types.proofs.ListLemmas.{slice_get_end, slice_get_push}
+use Rattle.hare_types.proofs.TreeLemmas.{length-trees, tree_kept, IsWithin-le}
 use Rattle.hare_types.proofs.DefinitionLemmas.{meaning_kept}
 use Rattle.hare_types.proofs.CallerLemmas.{tree_at_row}
 use Rattle.hare_types.proofs.GrowthLemmas.{Knows, option_and_then-more, extent_with-more, extents_with-more, following-more, following-further}
@@ -49,6 +52,11 @@ names-further s (suc n) k d x e =
     (option_and_then-more (following extent_with (meaning_of s) n) (following extent_with (meaning_of s) (n + k)) (following-further extent_with extent_with-more (meaning_of s) n k) (meaning_of s d) (meaning_of s d) (λ u h. h) x e)
 
 -- ---- one row
+
+-- the parts of a struct's tree are those of its row
+parts_of_struct : (ts : List Tree) (fs : List Field) → trees_of (map (λ f. tree_in ts f.ty) fs) ≡ trees_of (map (tree_in ts) (map (λ f. f.ty) fs))
+parts_of_struct ts [] = refl
+parts_of_struct ts (f ∷ fs) = ap (more (tree_in ts f.ty)) (parts_of_struct ts fs)
 
 module _ (s : Store) (v : IsStore s) (ks : List (Option Extent)) (bounded : AreBounded ks) (sound : (i : ℕ) (x : Extent) → known ks i ≡ Some x → IsTold s i x) where
   -- the trees of the ids
@@ -91,11 +99,6 @@ module _ (s : Store) (v : IsStore s) (ks : List (Option Extent)) (bounded : AreB
       by : ((zs : List Extent) → all_known (known ks) is ≡ Some zs → Tells is zs) → (o : Option Extent) → known ks i ≡ o → option_and_then (λ x. option_map (λ xs. x ∷ xs) (all_known (known ks) is)) o ≡ Some xs → Tells (i ∷ is) xs
       by ih None f g = absurd cc
       by ih (Some x) f g = with_rest ih x f (all_known (known ks) is) refl g
-
-  -- the parts of a struct's tree are those of its row
-  struct-parts : (fs : List Field) → trees_of (map (λ f. tree_in (trees s.rows) f.ty) fs) ≡ Parts (map (λ f. f.ty) fs)
-  struct-parts [] = refl
-  struct-parts (f ∷ fs) = ap (more (tree_in (trees s.rows) f.ty)) (struct-parts fs)
 
   module _ (t : ℕ) (r : Row) (here : slice_get s.rows t ≡ Some r) where
     told_as : (x y : Extent) → x ≡ told y → HasExtent s (tree_of (trees s.rows) r) y → IsTold s t x
@@ -159,7 +162,7 @@ module _ (s : Store) (v : IsStore s) (ks : List (Option Extent)) (bounded : AreB
       by_other t (row.Array n i) h i (λ y. record { size = n * y.size; align = y.align }) (λ y. told (record { size = n * y.size; align = y.align }))
       (λ z y g. ap (λ w. told (record { size = n * w.size; align = w.align })) g ∙ told-array n y) (λ m. refl) x e
   told-step t (row.Struct fs) h x e =
-      by_parts t (row.Struct fs) h (map (λ f. f.ty) fs) fields_extent told-fields (λ n. ap (λ ts. option_map fields_extent (extents_with (names s n) ts)) (struct-parts fs)) x e
+      by_parts t (row.Struct fs) h (map (λ f. f.ty) fs) fields_extent told-fields (λ n. ap (λ ts. option_map fields_extent (extents_with (names s n) ts)) (parts_of_struct (trees s.rows) fs)) x e
   told-step t (row.Tuple is) h x e = by_parts t (row.Tuple is) h is fields_extent told-fields (λ n. refl) x e
   told-step t (row.Union is) h x e = by_parts t (row.Union is) h is union_extent (λ ys low. told-union ys) (λ n. refl) x e
   told-step t (row.Error i) h x e =
@@ -252,3 +255,236 @@ module _ (s : Store) (r : Row) (ks : List (Option Extent)) (o : Option Extent) (
       let cut : take (length (s.rows ++ r ∷ [])) (ks ++ o ∷ []) ≡ ks ++ o ∷ [] = ap (λ n. take n (ks ++ o ∷ [])) as_long ∙ take-length (ks ++ o ∷ []) in
       subst (λ l. KeepsExtents (record s { rows = l }) (take (length l) (ks ++ o ∷ []))) (sym e)
       (subst (KeepsExtents (record s { rows = s.rows ++ r ∷ [] })) (sym cut) (KeepsExtents-push (subst (λ l. IsStore (record s { rows = l })) e w) ids))
+
+-- ---- what is not kept
+
+same_over : (f g : ℕ → Option ℕ) (ks : ℕ → Option Extent) → ((d : ℕ) → f d ≡ g d) → (r : Row) → extent_over f ks r ≡ extent_over g ks r
+same_over f g ks same (row.Scalar k) = refl
+same_over f g ks same (row.Pointer i) = refl
+same_over f g ks same (row.Nullable i) = refl
+same_over f g ks same (row.Slice i) = refl
+same_over f g ks same (row.Array n i) = refl
+same_over f g ks same (row.Struct fs) = refl
+same_over f g ks same (row.Tuple is) = refl
+same_over f g ks same (row.Union is) = refl
+same_over f g ks same (row.Error i) = refl
+same_over f g ks same (row.Named d) = ap (option_and_then ks) (same d)
+
+-- with one more declaration
+pub IsSettled-declared : (rows : List Row) (es new : List (ℕ × Declared)) (ks : List (Option Extent)) → ((d : ℕ) → defined new d ≡ defined es d) → (i : ℕ) → IsSettled rows es ks i → IsSettled rows new ks i
+IsSettled-declared rows es new ks same i h r e f = same_over (defined new) (defined es) (known ks) same r ∙ h r e f
+
+known-front : (ks rest : List (Option Extent)) (i : ℕ) → i < length ks → known (ks ++ rest) i ≡ known ks i
+known-front ks rest i h = get_or-append ks rest None i h
+
+all_known-front : (ks rest : List (Option Extent)) (is : List ℕ) → AllBelow (length ks) is → all_known (known (ks ++ rest)) is ≡ all_known (known ks) is
+all_known-front ks rest [] h = refl
+all_known-front ks rest (i ∷ is) h =
+    ap₂ (λ o p. option_and_then (λ x. option_map (λ xs. x ∷ xs) p) o) (known-front ks rest i h.0) (all_known-front ks rest is h.1)
+
+FieldsBelow-ids : (n : ℕ) (fs : List Field) → FieldsBelow n fs → AllBelow n (map (λ f. f.ty) fs)
+FieldsBelow-ids n [] h = tt
+FieldsBelow-ids n (f ∷ fs) h = (h.0, FieldsBelow-ids n fs h.1)
+
+-- what follows for a row rests on earlier rows alone
+extent_over-front : (definition : ℕ → Option ℕ) (ks rest : List (Option Extent)) (r : Row) → IsWithin (length ks) r → ((d t : ℕ) → definition d ≡ Some t → t < length ks)
+    → extent_over definition (known (ks ++ rest)) r ≡ extent_over definition (known ks) r
+extent_over-front definition ks rest (row.Scalar k) h ids = refl
+extent_over-front definition ks rest (row.Pointer i) h ids = refl
+extent_over-front definition ks rest (row.Nullable i) h ids = refl
+extent_over-front definition ks rest (row.Slice i) h ids = refl
+extent_over-front definition ks rest (row.Array n i) h ids = ap (option_map (λ x. told (record { size = n * x.size; align = x.align }))) (known-front ks rest i h)
+extent_over-front definition ks rest (row.Struct fs) h ids = ap (option_map (λ xs. told (fields_extent xs))) (all_known-front ks rest (map (λ f. f.ty) fs) (FieldsBelow-ids (length ks) fs h))
+extent_over-front definition ks rest (row.Tuple is) h ids = ap (option_map (λ xs. told (fields_extent xs))) (all_known-front ks rest is h)
+extent_over-front definition ks rest (row.Union is) h ids = ap (option_map (λ xs. told (union_extent xs))) (all_known-front ks rest is h)
+extent_over-front definition ks rest (row.Error i) h ids = known-front ks rest i h
+extent_over-front definition ks rest (row.Named d) h ids = by (definition d) (λ t. ids d t)
+  where
+    by : (o : Option ℕ) → ((t : ℕ) → o ≡ Some t → t < length ks) → option_and_then (known (ks ++ rest)) o ≡ option_and_then (known ks) o
+    by None g = refl
+    by (Some t) g = known-front ks rest t (g t refl)
+
+-- with one more row
+module _ (rows : List Row) (sound : AreRows rows) (r : Row) (w : IsWithin (length rows) r) (es : List (ℕ × Declared)) (ids : (d t : ℕ) → defined es d ≡ Some t → t < length rows)
+    (ks : List (Option Extent)) (as_many : length ks ≡ length rows) (o : Option Extent) (value : o ≡ extent_over (defined es) (known ks) r) (settled : (i : ℕ) → IsSettled rows es ks i) where
+  ids_within : (d t : ℕ) → defined es d ≡ Some t → t < length ks
+  ids_within d t e = omega (arith, ids d t e, as_many)
+
+  settled-push : (i : ℕ) → IsSettled (rows ++ r ∷ []) es (ks ++ o ∷ []) i
+  settled-push i q e f = by (slice_get_push rows r i q e)
+    where
+      by : (slice_get rows i ≡ Some q) ⊎ ((i ≡ length rows) × (q ≡ r)) → extent_over (defined es) (known (ks ++ o ∷ [])) q ≡ None
+      by (inl h) =
+          let below : i < length rows = slice_get_within rows i q h in
+          let wider : IsWithin (length ks) q = IsWithin-le i (length ks) q (omega (arith, as_many)) (sound.within i q h) in
+          let none : known ks i ≡ None = sym (known-front ks (o ∷ []) i (omega (arith, as_many))) ∙ f in
+          extent_over-front (defined es) ks (o ∷ []) q wider ids_within ∙ settled i q h none
+      by (inr h) =
+          let place : i ≡ length ks = h.0 ∙ sym as_many in
+          let last : known (ks ++ o ∷ []) (length ks) ≡ o = get_or-append_seam ks o [] None in
+          let none : o ≡ None = sym last ∙ ap (known (ks ++ o ∷ [])) (sym place) ∙ f in
+          let wider : IsWithin (length ks) r = IsWithin-le (length rows) (length ks) r (omega (arith, as_many)) w in
+          ap (extent_over (defined es) (known (ks ++ o ∷ []))) h.1 ∙ extent_over-front (defined es) ks (o ∷ []) r wider ids_within ∙ sym value ∙ none
+
+  pub IsSettled-intern : (new : List Row) → (new ≡ rows) ⊎ (new ≡ rows ++ r ∷ []) → (i : ℕ) → IsSettled new es (take (length new) (ks ++ o ∷ [])) i
+  IsSettled-intern new (inl e) i =
+      let cut : take (length rows) (ks ++ o ∷ []) ≡ ks = ap (λ n. take n (ks ++ o ∷ [])) (sym as_many) ∙ take-append_seam ks (o ∷ []) in
+      subst (λ l. IsSettled l es (take (length l) (ks ++ o ∷ [])) i) (sym e) (subst (λ l. IsSettled rows es l i) (sym cut) (settled i))
+  IsSettled-intern new (inr e) i =
+      let as_long : length (rows ++ r ∷ []) ≡ length (ks ++ o ∷ []) = omega (arith, length-append ks (o ∷ []), length-append rows (r ∷ []), as_many) in
+      let cut : take (length (rows ++ r ∷ [])) (ks ++ o ∷ []) ≡ ks ++ o ∷ [] = ap (λ n. take n (ks ++ o ∷ [])) as_long ∙ take-length (ks ++ o ∷ []) in
+      subst (λ l. IsSettled l es (take (length l) (ks ++ o ∷ [])) i) (sym e) (subst (λ l. IsSettled (rows ++ r ∷ []) es l i) (sym cut) (settled-push i))
+
+pub IsSettled-empty : (rows : List Row) (es : List (ℕ × Declared)) (ks : List (Option Extent)) → rows ≡ [] → (i : ℕ) → IsSettled rows es ks i
+IsSettled-empty rows es ks e i r h f =
+    let none : None ≡ Some r = sym (ap (λ l. slice_get l i) e) ∙ h in
+    absurd cc
+
+-- ---- one extent more
+
+known-set : (ks : List (Option Extent)) (i j : ℕ) (o : Option Extent) (y : Extent) → i < length ks → known (set ks i o) j ≡ Some y → (known ks j ≡ Some y) ⊎ ((j ≡ i) × (o ≡ Some y))
+known-set ks i j o y l e = by (nat_eq i j) refl
+  where
+    by : (b : Bool) → nat_eq i j ≡ b → (known ks j ≡ Some y) ⊎ ((j ≡ i) × (o ≡ Some y))
+    by true g =
+        let same : i ≡ j = (unsigned_Decides i j).0 g in
+        let here : known (set ks i o) i ≡ o = get_or-set_same ks i o None l in
+        inr (sym same, sym here ∙ ap (known (set ks i o)) same ∙ e)
+    by false g =
+        let other : j ≢ i = λ h. true≢false (sym ((unsigned_Decides i j).1 (sym h)) ∙ g) in
+        let there : known (set ks i o) j ≡ known ks j = get_or-set_other ks i j o None other in
+        inl (sym there ∙ e)
+
+pub KeepsExtents-set : (s : Store) → IsStore s → (ks : List (Option Extent)) (i : ℕ) (r : Row) (x : Extent) → slice_get s.rows i ≡ Some r → Some x ≡ extent_over (defined s.declared) (known ks) r
+    → IsBounded x → KeepsExtents s ks → KeepsExtents s (set ks i (Some x))
+KeepsExtents-set s v ks i r x here value b k = record {
+  as_many = length-set ks i (Some x) ∙ k.as_many;
+  bounded = λ j y e. bounded_at j y (known-set ks i j (Some x) y within e);
+  sound = λ j y e. sound_at j y (known-set ks i j (Some x) y within e);
+}
+  where
+    within : i < length ks
+    within = omega (arith, slice_get_within s.rows i r here, k.as_many)
+
+    bounded_at : (j : ℕ) (y : Extent) → (known ks j ≡ Some y) ⊎ ((j ≡ i) × (Some x ≡ Some y)) → IsBounded y
+    bounded_at j y (inl h) = k.bounded j y h
+    bounded_at j y (inr h) =
+        let same : x ≡ y = cc in
+        subst (λ z. IsBounded z) same b
+
+    sound_at : (j : ℕ) (y : Extent) → (known ks j ≡ Some y) ⊎ ((j ≡ i) × (Some x ≡ Some y)) → IsTold s j y
+    sound_at j y (inl h) = k.sound j y h
+    sound_at j y (inr h) = told-step s v ks k.bounded k.sound j r (subst (λ n. slice_get s.rows n ≡ Some r) (sym h.0) here) y (sym value ∙ h.1)
+
+pub known-none : (ks : List (Option Extent)) (i : ℕ) (o : Option Extent) → o ≡ slice_index_or ks i o → false ≡ is_some o → known ks i ≡ None
+known-none ks i None e f = sym e
+known-none ks i (Some x) e f = absurd cc
+
+pub unknown-set : (ks : List (Option Extent)) (i : ℕ) (x : Extent) → i < length ks → known ks i ≡ None → unknown (set ks i (Some x)) < unknown ks
+unknown-set [] i x l e = absurd (omega arith)
+unknown-set (None ∷ ks) zero x l e = omega arith
+unknown-set (Some y ∷ ks) zero x l e = absurd cc
+unknown-set (None ∷ ks) (suc i) x l e = omega (arith, unknown-set ks i x (omega arith) e)
+unknown-set (Some y ∷ ks) (suc i) x l e = unknown-set ks i x (omega arith) e
+
+-- ---- where nothing is kept, nothing lies
+
+module _ (s : Store) (v : IsStore s) (ks : List (Option Extent)) (settled : (i : ℕ) → IsSettled s.rows s.declared ks i) where
+  abbrev Found : ℕ → Type 0
+  Found i = (x : Extent) × (known ks i ≡ Some x)
+
+  -- where each extent of a list is kept, all are
+  all_found : (n : ℕ) (is : List ℕ) (b : ℕ) → AllBelow b is → ((j : ℕ) → j < b → (y : Extent) → extent_with (names s n) (tree_in (trees s.rows) j) ≡ Some y → Found j)
+      → (ys : List Extent) → extents_with (names s n) (trees_of (map (tree_in (trees s.rows)) is)) ≡ Some ys → (xs : List Extent) × (all_known (known ks) is ≡ Some xs)
+  all_found n [] b h found ys e = ([], refl)
+  all_found n (i ∷ is) b h found ys e = by (all_found n is b h.1 found) (extent_with (names s n) (tree_in (trees s.rows) i)) refl (extents_with (names s n) (trees_of (map (tree_in (trees s.rows)) is))) refl e
+    where
+      by : ((zs : List Extent) → extents_with (names s n) (trees_of (map (tree_in (trees s.rows)) is)) ≡ Some zs → (xs : List Extent) × (all_known (known ks) is ≡ Some xs))
+          → (o : Option Extent) → extent_with (names s n) (tree_in (trees s.rows) i) ≡ o → (p : Option (List Extent)) → extents_with (names s n) (trees_of (map (tree_in (trees s.rows)) is)) ≡ p
+          → option_and_then (λ x. option_map (λ xs. x ∷ xs) p) o ≡ Some ys → (xs : List Extent) × (all_known (known ks) (i ∷ is) ≡ Some xs)
+      by ih None f p g k = absurd cc
+      by ih (Some y) f None g k = absurd cc
+      by ih (Some y) f (Some zs) g k =
+          let first = found i h.0 y f in
+          let later = ih zs g in
+          (first.0 ∷ later.0, ap₂ (λ o q. option_and_then (λ x. option_map (λ xs. x ∷ xs) q) o) first.1 later.1)
+
+  map_some : {A B : Type 0} (f : A → B) (o : Option A) (b : B) → option_map f o ≡ Some b → (a : A) × (o ≡ Some a)
+  map_some f None b e = absurd cc
+  map_some f (Some a) b e = (a, refl)
+
+  -- a row of which an extent follows is kept
+  must : (i : ℕ) (r : Row) → slice_get s.rows i ≡ Some r → (x : Extent) → extent_over (defined s.declared) (known ks) r ≡ Some x → Found i
+  must i r here x e = by (known ks i) refl
+    where
+      by : (o : Option Extent) → known ks i ≡ o → Found i
+      by None f =
+          let none = settled i r here f in
+          absurd cc
+      by (Some z) f = (z, f)
+
+  -- by the number of names that are followed, and among the ids by the id
+  abbrev Complete : ℕ → ℕ → Type 0
+  Complete n b = (j : ℕ) → j < b → (y : Extent) → extent_with (names s n) (tree_in (trees s.rows) j) ≡ Some y → Found j
+
+  of_parts : (n : ℕ) (i : ℕ) (r : Row) → slice_get s.rows i ≡ Some r → Complete n i → (is : List ℕ) → AllBelow i is → (f : List Extent → Extent)
+      → extent_over (defined s.declared) (known ks) r ≡ option_map (λ xs. told (f xs)) (all_known (known ks) is)
+      → (y : Extent) → option_map f (extents_with (names s n) (trees_of (map (tree_in (trees s.rows)) is))) ≡ Some y → Found i
+  of_parts n i r here below is within f form y e =
+      let parts = map_some f (extents_with (names s n) (trees_of (map (tree_in (trees s.rows)) is))) y e in
+      let all = all_found n is i within below parts.0 parts.1 in
+      must i r here (told (f all.0)) (form ∙ ap (option_map (λ xs. told (f xs))) all.1)
+
+  of_row : (n : ℕ) → ((k : ℕ) → suc k ≡ n → Complete k (length s.rows)) → (i : ℕ) (r : Row) → slice_get s.rows i ≡ Some r → Complete n i → (y : Extent)
+      → extent_with (names s n) (tree_of (trees s.rows) r) ≡ Some y → Found i
+  of_row n fewer i (row.Scalar k) here below y e = must i (row.Scalar k) here y e
+  of_row n fewer i (row.Pointer j) here below y e = must i (row.Pointer j) here y e
+  of_row n fewer i (row.Nullable j) here below y e = must i (row.Nullable j) here y e
+  of_row n fewer i (row.Slice j) here below y e = must i (row.Slice j) here y e
+  of_row n fewer i (row.Array m j) here below y e =
+      let inner = map_some (λ x. record { size = m * x.size; align = x.align }) (extent_with (names s n) (tree_in (trees s.rows) j)) y e in
+      let item = below j (v.rows_sound.within i (row.Array m j) here) inner.0 inner.1 in
+      must i (row.Array m j) here _ (ap (option_map (λ x. told (record { size = m * x.size; align = x.align }))) item.1)
+  of_row n fewer i (row.Struct fs) here below y e =
+      of_parts n i (row.Struct fs) here below (map (λ f. f.ty) fs) (FieldsBelow-ids i fs (v.rows_sound.within i (row.Struct fs) here)) fields_extent refl y
+      (sym (ap (λ ts. option_map fields_extent (extents_with (names s n) ts)) (parts_of_struct (trees s.rows) fs)) ∙ e)
+  of_row n fewer i (row.Tuple is) here below y e = of_parts n i (row.Tuple is) here below is (v.rows_sound.within i (row.Tuple is) here) fields_extent refl y e
+  of_row n fewer i (row.Union is) here below y e = of_parts n i (row.Union is) here below is (v.rows_sound.within i (row.Union is) here) union_extent refl y e
+  of_row n fewer i (row.Error j) here below y e =
+      let inner = below j (v.rows_sound.within i (row.Error j) here) y e in
+      must i (row.Error j) here inner.0 inner.1
+  of_row zero fewer i (row.Named d) here below y e = absurd cc
+  of_row (suc n) fewer i (row.Named d) here below y e = by (defined s.declared d) refl e
+    where
+      by : (o : Option ℕ) → defined s.declared d ≡ o → option_and_then (following extent_with (meaning_of s) n) (option_and_then (tree_at s) o) ≡ Some y → Found i
+      by None f g = absurd cc
+      by (Some t) f g =
+          let tree : tree_at s t ≡ Some (tree_in (trees s.rows) t) = slice_get-get_or (trees s.rows) t (Scalar keyword.Void) (omega (arith, v.defined_within d t f, length-trees s.rows)) in
+          let inner = fewer n refl t (v.defined_within d t f) y (by_names s n (tree_in (trees s.rows) t) ∙ sym (ap (option_and_then (following extent_with (meaning_of s) n)) tree) ∙ g) in
+          must i (row.Named d) here inner.0 (ap (option_and_then (known ks)) f ∙ inner.1)
+
+  up_to : (n : ℕ) → ((k : ℕ) → suc k ≡ n → Complete k (length s.rows)) → (b : ℕ) → b ≤ length s.rows → Complete n b
+  up_to n fewer zero l j h y e = absurd (omega arith)
+  up_to n fewer (suc b) l j h y e = by (up_to n fewer b (omega arith)) (cases_lt j b)
+    where
+      by : Complete n b → (j < b) ⊎ (b ≤ j) → Found j
+      by ih (inl g) = ih j g y e
+      by ih (inr g) =
+          let same : b ≡ j = omega arith in
+          let r = slice_index_or s.rows j (row.Scalar keyword.Void) in
+          let here : slice_get s.rows j ≡ Some r = slice_get-get_or s.rows j (row.Scalar keyword.Void) (omega arith) in
+          of_row n fewer j r here (subst (Complete n) same ih) y (sym (ap (extent_with (names s n)) (get_or_from_slice_get (trees s.rows) j (tree_of (trees s.rows) r) (Scalar keyword.Void) (tree_at_row s v j r here))) ∙ e)
+
+  complete : (n : ℕ) → Complete n (length s.rows)
+  complete zero = up_to zero (λ k e. absurd (omega arith)) (length s.rows) (omega arith)
+  complete (suc n) =
+      let ih = complete n in
+      up_to (suc n) (λ k e. let same : n ≡ k = omega arith in subst (λ m. Complete m (length s.rows)) same ih) (length s.rows) (omega arith)
+
+  pub none_lies : (t : ℕ) → known ks t ≡ None → (y : Extent) → ¬ LiesIn s t y
+  none_lies t e y h =
+      let within : t < length s.rows = omega (arith, slice_get_within (trees s.rows) t h.0 h.1, length-trees s.rows) in
+      let tree = get_or_from_slice_get (trees s.rows) t h.0 (Scalar keyword.Void) h.1 in
+      let found = complete h.2.0 t within y (ap (extent_with (names s h.2.0)) tree ∙ by_names s h.2.0 h.0 ∙ h.2.1) in
+      let both : None ≡ Some found.0 = sym e ∙ found.1 in
+      absurd cc

@@ -1,5 +1,5 @@
 -- Extents that are kept beside the rows of a store.
-use Rattle.std.specs.Prelude.{◌≡◌, ℕ, ◌≤◌, ◌*◌, min, nat_eq, List, [], ◌∷◌, length, map, slice_index_or, Some, None, Option, option_map, option_and_then}
+use Rattle.std.specs.Prelude.{◌≡◌, ℕ, suc, ◌≤◌, ◌*◌, min, nat_eq, List, [], ◌∷◌, length, map, slice_get, slice_index_or, Some, None, Option, option_map, option_and_then}
 use Rattle.std.specs.Map.{lookup}
 use Rattle.hare_types.specs.declared.declared.Declared.{Declared}
 use Rattle.hare_types.specs.declared.extent.Extent.{Extent}
@@ -75,7 +75,18 @@ pub record KeepsExtents (s : Store) (ks : List (Option Extent)) : Type 0 where
   pub bounded : AreBounded ks
   pub sound : (i : ℕ) (x : Extent) → known ks i ≡ Some x → IsTold s i x
 
+-- nothing follows for row i that is not kept
+abbrev pub IsSettled : List Row → List (ℕ × Declared) → List (Option Extent) → ℕ → Type 0
+IsSettled rows es ks i = (r : Row) → slice_get rows i ≡ Some r → known ks i ≡ None → extent_over (defined es) (known ks) r ≡ None
+
+-- how many extents are not kept
+abbrev pub unknown : List (Option Extent) → ℕ
+unknown [] = 0
+unknown (None ∷ ks) = suc (unknown ks)
+unknown (Some x ∷ ks) = unknown ks
+
 -- what holds of a store and of the extents that are kept beside its rows
 pub record IsKept (s : Store) (ks : List (Option Extent)) : Type 0 where
   pub store : IsStore s
   pub extents : KeepsExtents s ks
+  pub settled : (i : ℕ) → IsSettled s.rows s.declared ks i

@@ -11,6 +11,7 @@ mod measure;
 mod numbering;
 mod parts;
 mod row;
+mod settle;
 mod store;
 
 pub use coercion::{Coercion, Ty};

@@ -16,6 +16,7 @@ use crate::id::TypeId;
 use crate::measure::{extent_over, known};
 use crate::numbering::number;
 use crate::row::Row;
+use crate::settle::settle;
 use indexmap::{IndexMap, IndexSet};
 use std::alloc::{AllocError, Global};
 use std::marker::Model;
@@ -116,6 +117,7 @@ impl TypeStore {
         ensures grows { Extends self.old self.new }
     {
         set_definition(&mut self.declared, decl, t);
+        settle(self.rows.as_slice(), &self.declared, &mut self.extents);
     }
 
     /// What a type is defined to be, `None` where nothing was entered.
@@ -178,10 +180,12 @@ impl TypeStore {
         &self.rows.as_slice()[t.index() as usize]
     }
 
-    /// How many bytes a value of the type takes, and of what its address is a multiple, as far as that was known when the type was
-    /// taken in. A size of more than 2^40 bytes is told as 2^40 + 1.
+    /// How many bytes a value of the type takes, and of what its address is a multiple. A size of more than 2^40 bytes is told as
+    /// 2^40 + 1. `None` where the type is, or holds by value, a name that is not defined, or one that has no size. The time is
+    /// constant.
     pub fn extent(&self, t: TypeId) -> Option<Extent>
         ensures some { IfSome result (λ x. (y : ExtentOf) × LiesIn self.now t y × (x ≡ told y)) }
+        ensures none { IfNone result ((y : ExtentOf) → ¬ LiesIn self.now t y) }
     {
         known(self.extents.as_slice(), t)
     }

@@ -1,4 +1,5 @@
-use Rattle.std.proofs.Common.{Some, nat_eq}
+use Rattle.std.proofs.Common.{Some, nat_eq, refl, ap, sym, ◌∙◌}
+use Rattle.std.specs.Prelude.{slice_get}
 use Rattle.std.proofs.lemmas.Option.{IfSome_then}
 use Rattle.indexmap.specs.IndexMap.{Updates}
 use Rattle.hare_types.specs.declared.declared.Declared.{Declared}
@@ -14,7 +15,10 @@ invariant_of-self c =
     let within = rw (← c.self.view_is) at c.requires.within in
     let finite = rw (← c.self.view_is) at c.requires.finite in
     let put = IfSome_then _ c.set_definition.ensures (λ (e : Declared) (h : Updates nat_eq c.self.inside.declared c.set_definition.new.declared c.args.decl (Some (record e { definition = Some c.args.t }))). h.0) in
+    let store = IsStore-define _ c.set_definition.new.declared.entries c.args.decl c.args.t c.self.invariant.store declared fresh sized within finite put in
+    let extents = KeepsExtents-defined _ c.set_definition.new.declared.entries c.self.inside.extents.items (definitions-kept c.self.inside.declared.entries c.set_definition.new.declared.entries c.args.decl c.args.t declared fresh put) c.self.invariant.extents in
     record {
-      store = IsStore-define _ c.set_definition.new.declared.entries c.args.decl c.args.t c.self.invariant.store declared fresh sized within finite put;
-      extents = KeepsExtents-defined _ c.set_definition.new.declared.entries c.self.inside.extents.items (definitions-kept c.self.inside.declared.entries c.set_definition.new.declared.entries c.args.decl c.args.t declared fresh put) c.self.invariant.extents;
+      store = store;
+      extents = c.settle.ensures.kept _ (sym c.as_slice.ensures.keys) refl store extents;
+      settled = λ i r e. c.settle.ensures.settled i r (ap (λ l. slice_get l i) c.as_slice.ensures.keys ∙ e);
     }

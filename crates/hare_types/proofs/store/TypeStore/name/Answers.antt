@@ -31,6 +31,7 @@ pub invariant_of-self-2 : goal.invariant_of-self-2
 invariant_of-self-2 c = record {
   store = IsStore-names _ (map (λ (v : Vec ℕ Global). v.items) c.number.new.set.keys) c.self.invariant.store (name_once c) (rw length-map c.number.ensures.few);
   extents = KeepsExtents-same _ _ c.self.inside.extents.items refl refl c.self.invariant.extents;
+  settled = c.self.invariant.settled;
 }
 
 pub returns-clause-numbered : goal.returns-clause-numbered
