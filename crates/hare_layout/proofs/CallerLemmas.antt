@@ -18,7 +18,7 @@ use Rattle.hare_layout.proofs.SmallLemmas.{small_with-near}
 -- ---- one extent
 
 mutual
-  extent_with-near : Near extent_with
+  pub extent_with-near : Near extent_with
   extent_with-near old new (Scalar k) known a e = e
   extent_with-near old new (Pointer t) known a e = e
   extent_with-near old new (Nullable t) known a e = e

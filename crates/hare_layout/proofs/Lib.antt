@@ -1,9 +1,17 @@
+pub mod AdmitLemmas
+pub mod AscendingLemmas
 pub mod BaseLemmas
 pub mod CallerLemmas
+pub mod CappedLemmas
 pub mod ExtentLemmas
 pub mod GrowthLemmas
+pub mod LeftLemmas
+pub mod MeasureLemmas
 pub mod MemberLemmas
 pub mod NamesLemmas
 pub mod OffsetLemmas
+pub mod ReduceLemmas
+pub mod SizedLemmas
 pub mod SmallLemmas
+pub mod SpreadLemmas
 pub mod StoreLemmas

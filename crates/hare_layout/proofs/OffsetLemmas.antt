@@ -182,7 +182,7 @@ start_past s n k ps xs e h =
 
 -- ---- of a type with such a field
 
-base_with-near : Near base_with
+pub base_with-near : Near base_with
 base_with-near old new (Error t) known a e = base_with-near old new t known a e
 base_with-near old new (Named d) known a e = known d a (0, omega arith, refl) e
 base_with-near old new (Scalar w) known a e = e

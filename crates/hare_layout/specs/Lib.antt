@@ -1,4 +1,10 @@
+pub mod Admission
+pub mod Ascending
+pub mod Capped
+pub mod Ids
 pub mod Members
 pub mod Offsets
+pub mod Reduced
+pub mod Reduction
 pub mod Run
 pub mod Small

@@ -1,16 +1,28 @@
 //! Where the bytes of a type lie, its tag, and which unions hold which.
 #![tactic(auto)]
 
+mod admitted;
+mod ascending;
 mod base;
 mod bytes;
+mod capped;
+mod copy;
 mod extent;
+mod measure;
 mod members;
+mod members_left;
 mod offset;
 mod parts;
+mod reduce;
 mod size;
+mod sized;
+mod spelled;
+mod spread;
 mod tag;
 
+pub use admitted::admit;
 pub use members::subset;
 pub use offset::offset_of;
 pub use size::{align_of, size_of};
+pub use spelled::{Bools, Places, Spelled};
 pub use tag::tag_of;

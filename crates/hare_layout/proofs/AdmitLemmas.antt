@@ -1,0 +1,118 @@
+-- Which types are too large, and what the checks before that say of the whole.
+use Rattle.std.proofs.Common.{◌≡◌, ℕ, ◌<◌, true, nat_lt, List, [], ◌∷◌, ◌++◌, length, Option, Some, None, refl, ap, sym, ◌∙◌, subst, arith, inl, inr}
+use Rattle.std.specs.Prelude.{MatchOption, option_map, IsTrue, ◌↔◌}
+use Rattle.std.proofs.lemmas.Bool.Decides.{nat_tests}
+use Rattle.hare_tree.specs.declared.place.Place.{Place}
+use Rattle.hare_tree.specs.declared.place.Fault.{Fault}
+use Rattle.hare_tree.specs.declared.stop.Stop.{Stop}
+use Rattle.hare_tree.specs.declared.stop.Stop.TheVariants as stop
+use Rattle.hare_types.specs.declared.extent.Extent.{Extent}
+use Rattle.hare_types.specs.declared.row.Row.{Row}
+use Rattle.hare_types.specs.Trees.{Tree}
+use Rattle.hare_types.specs.Rows.{tree_of, trees, IsWithin}
+use Rattle.hare_types.specs.Store.{Store, meaning_of}
+use Rattle.hare_types.specs.Sound.{IsStore}
+use Rattle.hare_types.specs.Layout.{following, extent_with, HasExtent}
+use Rattle.hare_types.proofs.TreeLemmas.{IsWithin-le}
+use Rattle.hare_layout.specs.declared.spelled.Spelled.{Spelled}
+use Rattle.hare_layout.specs.declared.reduce.Reduced.{Reduced}
+use Rattle.hare_layout.specs.declared.reduce.Reduced.TheVariants.{Known, Fresh}
+use Rattle.hare_layout.specs.Capped.{cap, capped_with, names_capped}
+use Rattle.hare_layout.specs.Reduction.{written, AreLeft, type_of, IsReducedTo}
+use Rattle.hare_layout.specs.Admission.{Check, Spreading, Sized, Inhabited, Narrow, Small, PassesAll, IsFirstOf, IsTooLarge, IsFault, IsAdmitted, StopsAt}
+use Rattle.hare_layout.specs.Reduced.{IsReduction, StopsEarly, IsHere, tree_of_reduced, IsLarge}
+use Rattle.hare_layout.proofs.CallerLemmas.{extent_with-near}
+use Rattle.hare_layout.proofs.CappedLemmas.{mapped, following_capped}
+use Rattle.hare_layout.proofs.MeasureLemmas.{capped_by-following}
+use Rattle.hare_layout.proofs.NamesLemmas.{names_enough}
+use Rattle.hare_layout.proofs.ReduceLemmas.{one_left}
+use Rattle.hare_layout.proofs.SpreadLemmas.{id-tree_at}
+
+-- ---- sizes
+
+-- the capped extent that is found, where as many names are followed as are declared
+found : (s : Store) (u : Tree) (o : Option Extent) → o ≡ capped_with (names_capped s (length s.declared)) u → o ≡ option_map cap (following extent_with (meaning_of s) (length s.declared) u)
+found s u o e = e ∙ capped_by-following s (length s.declared) u ∙ following_capped (meaning_of s) (length s.declared) u
+
+all_names : (s : Store) → IsStore s → (u : Tree) (x : Extent) → HasExtent s u x → following extent_with (meaning_of s) (length s.declared) u ≡ Some x
+all_names s v u x h = names_enough extent_with extent_with-near s v h.0 u x h.1
+
+large-some : (s : Store) (u : Tree) (x : Extent) → Some x ≡ capped_with (names_capped s (length s.declared)) u → 67108864 < x.size → IsLarge s u
+large-some s u x e l =
+    let k = mapped cap (following extent_with (meaning_of s) (length s.declared) u) x (sym (found s u (Some x) e)) in
+    let size = ap (λ y. y.size) k.2 in
+    (k.0, (length s.declared, k.1), omega arith)
+
+some-large : (s : Store) → IsStore s → (u : Tree) (x : Extent) → Some x ≡ capped_with (names_capped s (length s.declared)) u → IsLarge s u → 67108864 < x.size
+some-large s v u x e h =
+    let same : Some x ≡ Some (cap h.0) = found s u (Some x) e ∙ ap (option_map cap) (all_names s v u h.0 h.1) in
+    let size : x.size ≡ (cap h.0).size = ap (λ y. y.size) (let capped : x ≡ cap h.0 = cc in capped) in
+    let large = h.2 in
+    omega arith
+
+pub none-large : (s : Store) → IsStore s → (u : Tree) → None ≡ capped_with (names_capped s (length s.declared)) u → ¬ IsLarge s u
+none-large s v u e h =
+    let both = found s u None e ∙ ap (option_map cap) (all_names s v u h.0 h.1) in
+    absurd cc
+
+-- what the test of the size says
+pub tells-large : (s : Store) → IsStore s → (u : Tree) (x : Extent) → Some x ≡ capped_with (names_capped s (length s.declared)) u → IsTrue (nat_lt 67108864 x.size) ↔ IsLarge s u
+tells-large s v u x e = (λ h. large-some s u x e (less 67108864 x.size h), λ h. more 67108864 x.size (some-large s v u x e h))
+  where
+    less : (a b : ℕ) → nat_lt a b ≡ true → a < b
+    less a b h = grind (arith, nat_tests)
+
+    more : (a b : ℕ) → a < b → nat_lt a b ≡ true
+    more a b h = grind (arith, nat_tests)
+
+-- ids are below the greatest number
+pub within_all : (s : Store) → IsStore s → (q : Row) → IsWithin (length s.rows) q → IsWithin 4294967295 q
+within_all s v q h = IsWithin-le (length s.rows) 4294967295 q v.rows_few h
+
+-- ---- the reduced type
+
+pub reduction-here : (s : Store) (r : Spelled) (q : Reduced) → IsReduction s r q → IsHere s q
+reduction-here s r (Known t) h = (id-tree_at s t h.0 h.1).0
+reduction-here s r (Fresh q) h = h.0
+
+reduction-tree : (s : Store) (r : Spelled) (q : Reduced) → IsReduction s r q → IsReducedTo s r (tree_of_reduced s q)
+reduction-tree s r (Known t) h = subst (λ u. IsReducedTo s r u) (sym (id-tree_at s t h.0 h.1).1) h.2
+reduction-tree s r (Fresh q) h = h.2
+
+one_reduced : (s : Store) → IsStore s → (r : Spelled) (u w : Tree) → IsReducedTo s r u → IsReducedTo s r w → u ≡ w
+one_reduced s v r u w = by (written r.row)
+  where
+    of_members : ((is : List ℕ) × AreLeft s r is × (type_of s is ≡ Some u)) → ((is : List ℕ) × AreLeft s r is × (type_of s is ≡ Some w)) → u ≡ w
+    of_members a b =
+        let same : Some u ≡ Some w = sym a.2 ∙ ap (type_of s) (one_left s v r a.0 b.0 a.1 b.1) ∙ b.2 in
+        cc
+
+    by : (o : Option (List ℕ)) → MatchOption o (tree_of (trees s.rows) r.row ≡ u) (λ _. (is : List ℕ) × AreLeft s r is × (type_of s is ≡ Some u))
+        → MatchOption o (tree_of (trees s.rows) r.row ≡ w) (λ _. (is : List ℕ) × AreLeft s r is × (type_of s is ≡ Some w)) → u ≡ w
+    by None a b = sym a ∙ b
+    by (Some is) a b = of_members a b
+
+too_large : (s : Store) (r : Spelled) (q : Reduced) → IsReduction s r q → IsLarge s (tree_of_reduced s q) → IsTooLarge s r
+too_large s r q h l = (tree_of_reduced s q, l.0, reduction-tree s r q h, l.1, l.2)
+
+not_too_large : (s : Store) → IsStore s → (r : Spelled) (q : Reduced) → IsReduction s r q → ¬ IsLarge s (tree_of_reduced s q) → ¬ IsTooLarge s r
+not_too_large s v r q h small (u, x, reduced, extent, large) =
+    small (x, subst (λ w. HasExtent s w x) (one_reduced s v r u (tree_of_reduced s q) reduced (reduction-tree s r q h)) extent, large)
+
+-- ---- the checks
+
+module _ (s : Store) (r : Spelled) (place : Place) where
+  first_of_more : (cs ds : List Check) (f : Fault) → IsFirstOf s r place cs f → IsFirstOf s r place (cs ++ ds) f
+  first_of_more [] ds f h = absurd h
+  first_of_more (c ∷ cs) ds f (inl h) = inl h
+  first_of_more (c ∷ cs) ds f (inr h) = inr (h.0, first_of_more cs ds f h.1)
+
+  pub stops-early : (e : Stop Fault) → StopsEarly s r place e → StopsAt s r place e
+  stops-early (stop.Fault f) h = first_of_more (Spreading ∷ Sized ∷ Inhabited ∷ Narrow ∷ []) (Small ∷ []) f h
+  stops-early stop.Memory h = tt
+
+  pub stops-large : (q : Reduced) → PassesAll s r place (Spreading ∷ Sized ∷ Inhabited ∷ Narrow ∷ []) → IsReduction s r q → IsLarge s (tree_of_reduced s q) → IsFault s r place (record { number = 18; place = place })
+  stops-large q p h l = inr (p.0, inr (p.1.0, inr (p.1.1.0, inr (p.1.1.1.0, inl (refl, (too_large s r q h l, refl))))))
+
+  pub admitted : IsStore s → (q : Reduced) → PassesAll s r place (Spreading ∷ Sized ∷ Inhabited ∷ Narrow ∷ []) → IsReduction s r q → ¬ IsLarge s (tree_of_reduced s q) → IsAdmitted s r place
+  admitted v q p h small = (p.0, (p.1.0, (p.1.1.0, (p.1.1.1.0, ((λ place h'. not_too_large s v r q h small h'.0), tt)))))

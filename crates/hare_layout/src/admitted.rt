@@ -1,0 +1,86 @@
+//! Which spelled types are admitted.
+
+ghost use Rattle.std.specs.Prelude.{◌≡◌, ◌↔◌, length, IsTrue, Some, IfOk, IfErr, OnOk, OnErr};
+ghost use Rattle.hare_types.specs.Rows.{IsWithin};
+ghost use Rattle.hare_types.specs.Sound.{IsStore};
+ghost use Rattle.hare_types.specs.Store.{tree_at, Extends};
+ghost use Rattle.hare_types.specs.Trees.{Tree};
+ghost use Rattle.hare_layout.specs.Capped.{capped_with, names_capped};
+ghost use Rattle.hare_layout.specs.Reduction.{IsReducedTo};
+ghost use Rattle.hare_layout.specs.Admission.{IsAdmitted, StopsAt};
+ghost use Rattle.hare_layout.specs.Reduced.{IsHere, tree_of_reduced, IsLarge};
+
+use crate::measure::{capped, capped_row};
+use crate::reduce::{Reduced, reduce};
+use crate::spelled::Spelled;
+use hare_tree::{Fault, Place, Stop};
+use hare_types::{Extent, TypeId, TypeStore};
+use std::alloc::Global;
+
+/// The greatest size of a type, in bytes.
+const MOST_BYTES: u64 = 67_108_864;
+
+/// The extent of a type, its size capped, where at most `names` names one behind another are followed.
+fn extent_of(s: &TypeStore, t: &Reduced, names: usize) -> Option<Extent>
+    requires here { IsHere s.now t.now }
+    requires sound { IsStore s.now }
+    ensures { result ≡ capped_with (names_capped s.now names) (tree_of_reduced s.now t.now) }
+{
+    match t {
+        Reduced::Known(id) => capped(s, *id, names),
+        Reduced::Fresh(row) => capped_row(s, row, u32::MAX, names),
+    }
+}
+
+/// Whether it is known that a type has more than 67,108,864 bytes.
+fn is_too_large(s: &TypeStore, t: &Reduced) -> bool
+    requires { IsHere s.now t.now }
+    ensures large { IsTrue result ↔ IsLarge s.now (tree_of_reduced s.now t.now) }
+    ensures sound { IsStore s.now }
+{
+    match extent_of(s, t, s.declarations()) {
+        Some(x) => x.size > MOST_BYTES,
+        None => false,
+    }
+}
+
+/// Reduces a spelled type, and takes it into the store: unnamed unions among the members of a union are flattened, a member that is spread is
+/// replaced by the members of the union that it is, never is dropped, and equal members are joined; one member alone is that member. The ids
+/// in `r` are of the store.
+///
+/// What is wrong with the type is told by the first of these faults, each of which but the first stands at `place`:
+///
+/// - E35 at the first member that is spread, and whose base is no union, or is not defined;
+/// - E17, where an array's element, a struct's field, a tuple's component or a member that is left of a union has no size. A named type of
+///   which it is not declared whether it has a size counts as one that has;
+/// - E19, where no member is left;
+/// - E20, where more than 64 members are left;
+/// - E18, where the type has more than 67,108,864 bytes. It is looked at only where each name that the type holds by value is defined.
+///
+/// After a fault, and where there is not enough memory, the store is as it was.
+pub fn admit(
+    alloc: Global,
+    s: &mut TypeStore,
+    r: &Spelled,
+    place: Place,
+) -> Result<TypeId, Stop<Fault>>
+    requires { IsWithin (length s.old.rows) r.now.row }
+    ensures ok { IfOk result (λ t. (u : Tree) × IsReducedTo s.old r.now u × (tree_at s.new t ≡ Some u)) }
+    ensures admitted { OnOk result (IsAdmitted s.old r.now place) }
+    ensures err { IfErr result (StopsAt s.old r.now place) }
+    ensures kept { OnErr result (s.new ≡ s.old) }
+    ensures rest { s.new ≡ record s.old { rows = s.new.rows } }
+    ensures grows { Extends s.old s.new }
+{
+    let reduced = reduce(alloc, s, r, place)?;
+    if is_too_large(s, &reduced) {
+        return Err(Stop::Fault(Fault { number: 18, place }));
+    }
+    match reduced {
+        Reduced::Known(t) => Ok(t),
+        Reduced::Fresh(row) => {
+            let t = s.intern(row)?;
+            Ok(t)
+        }
+    }
+}
