@@ -1,0 +1,4 @@
+pub mod FirstLemmas
+pub mod MemberLemmas
+pub mod SameLemmas
+pub mod TypeLemmas
