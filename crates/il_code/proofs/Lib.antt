@@ -16,3 +16,13 @@ mod TokensOfCode
 mod TokensOfModule
 mod Validates
 mod ValidRows
+mod ScannedTokens
+mod Unique
+mod UniqueLists
+mod UniqueCommas
+mod UniqueOperands
+mod UniqueCode
+mod UniqueJumps
+mod UniqueBlocks
+mod UniqueData
+mod UniqueModules

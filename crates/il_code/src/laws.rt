@@ -1,6 +1,17 @@
-//! What holds of every run of the machine, of any module and from any point on.
+//! What holds of every text, and of every run of the machine, of any module and from any point on.
 
 ghost use Rattle.il_code.specs.MachineLaws.{EndsStay, OutputGrows, CountsAreBounded, BudgetsAreReached};
+ghost use Rattle.il_code.specs.TextLaws.{TextsSpellOne, PrintIsInjective};
+
+/// A text spells at most one module, whether it is valid or not.
+pub fn law_text()
+    ensures { TextsSpellOne }
+{}
+
+/// Two valid modules that are printed alike are the same.
+pub fn law_print()
+    ensures { PrintIsInjective }
+{}
 
 /// An end other than Spent is the end at every greater budget, with the same state.
 pub fn law_ends()
