@@ -26,3 +26,8 @@ mod UniqueJumps
 mod UniqueBlocks
 mod UniqueData
 mod UniqueModules
+mod TextPieces
+mod TextReader
+mod FirstFault
+mod ReadingFaultRows
+mod RuleFaultRows
