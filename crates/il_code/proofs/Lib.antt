@@ -31,3 +31,9 @@ mod TextReader
 mod FirstFault
 mod ReadingFaultRows
 mod RuleFaultRows
+mod MarkLists
+mod MarkNames
+mod MarkTokens
+mod MarkBlocks
+mod MarkFunctions
+mod MarksAndRules

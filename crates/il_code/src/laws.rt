@@ -1,6 +1,7 @@
-//! What holds of every text, and of every run of the machine, of any module and from any point on.
+//! What holds of every text, of the rules that a module breaks, and of every run of the machine, of any module and from any point on.
 
 ghost use Rattle.il_code.specs.MachineLaws.{EndsStay, OutputGrows, CountsAreBounded, BudgetsAreReached};
+ghost use Rattle.il_code.specs.MarkLaws.{MarksAreTheRules};
 ghost use Rattle.il_code.specs.TextLaws.{TextsSpellOne, PrintIsInjective};
 
 /// A text spells at most one module, whether it is valid or not.
@@ -31,4 +32,10 @@ pub fn law_counts()
 /// A budget is reached exactly, and a run that stopped goes on as if it had not.
 pub fn law_budget()
     ensures { BudgetsAreReached }
+{}
+
+/// A module keeps the rules exactly where no token of its text is marked with one, a function `$main` is there, and the numbers are in
+/// their ranges.
+pub fn law_marks()
+    ensures { MarksAreTheRules }
 {}
