@@ -22,7 +22,7 @@ fell_out : does (main_of []) 0 (Exit 0) [] 1
 fell_out = (refl, refl, refl)
 
 -- no step is taken behind an end
-exited : does (main_of (Call None (codes "rt.exit") (Number 263 ∷ []) ∷ Ret None ∷ [])) 0 (Exit 7) [] 2
+exited : does (main_of (Call None (codes "rt.exit") (Number 263 ∷ []) ∷ Ret None ∷ [])) 0 (Exit 7) [] 3
 exited = (refl, refl, refl)
 
 zero_divisor : does (main_of (Set 0 W Udiv (Number 1) (Number (2 ^ 32)) ∷ [])) 0 (Fault ZeroDivisor) [] 2
@@ -92,12 +92,12 @@ counting = program (plain (codes "main") 3 0 (
     ∷ Call None (codes "rt.exit") (Temp 0 ∷ []) ∷ []) ∷ [])
     (global (codes "text") 1 (item.Bytes (codes "ab") ∷ []) ∷ [])
 
--- three turns, and a fourth that leaves: 2 steps, 8 for each whole turn, 6 for the last, and 2
-counted : does counting 4 (Exit 6) (codes "ababab") 34
+-- three turns, and a fourth that leaves: 3 steps, 10 for each whole turn, 6 for the last, and 3
+counted : does counting 4 (Exit 6) (codes "ababab") 41
 counted = (refl, refl, refl)
 
 -- a turn that begins where none is left is one step
-cut_short : does counting 3 Spent (codes "ababab") 27
+cut_short : does counting 3 Spent (codes "ababab") 33
 cut_short = (refl, refl, refl)
 
 no_turn : does counting 0 Spent [] 3
@@ -121,25 +121,25 @@ adding = program (
     plain (codes "main") 1 0 (Call (Some 0) (codes "h.next") (Number (2 ^ 32 + 8) ∷ []) ∷ Ret (Some (Temp 0)) ∷ [])
     ∷ of_one (codes "h.next") W 2 24 (Set 1 L Add (Temp 0) (Number 1) ∷ Ret (Some (Temp 1)) ∷ []) ∷ []) []
 
-called_with_one : does adding 1 (Exit 9) [] 6
+called_with_one : does adding 1 (Exit 9) [] 7
 called_with_one = (refl, refl, refl)
 
-called_with_none : does adding 0 Spent [] 2
+called_with_none : does adding 0 Spent [] 3
 called_with_none = (refl, refl, refl)
 
 -- ---- the cost of calls
 
--- 64, 8 for each of two temporaries and two addresses, and 32 for 17 bytes
-a_cost : call_cost (plain (codes "f") 2 17 (Set 0 L Add (Frame 0) (Symbol 0 0) ∷ Set 1 L Add (Symbol 0 8) (Temp 0) ∷ [])) ≡ 64 + 8 * 4 + 32
+-- 64, 8 for each of two temporaries, two addresses and the frame's own, and 32 for 17 bytes
+a_cost : call_cost (plain (codes "f") 2 17 (Set 0 L Add (Frame 0) (Symbol 0 0) ∷ Set 1 L Add (Symbol 0 8) (Temp 0) ∷ [])) ≡ 64 + 8 * 5 + 32
 a_cost = refl
 
 -- no frame counts as one of a byte
-no_frame : call_cost (plain (codes "f") 0 0 []) ≡ 80
+no_frame : call_cost (plain (codes "f") 0 0 []) ≡ 88
 no_frame = refl
 
--- the costs of calls that are active are summed: 88 of `main` and 112 of the function that it calls
-summed : costs adding 1 (88 + 112)
+-- the costs of calls that are active are summed: 96 of `main` and 120 of the function that it calls
+summed : costs adding 1 (96 + 120)
 summed = refl
 
-not_called : costs adding 0 88
+not_called : costs adding 0 96
 not_called = refl

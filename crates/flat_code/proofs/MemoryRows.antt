@@ -111,8 +111,8 @@ of_no_items = refl
 
 -- ---- the runtime
 
--- three bytes are read to the frame, of which the input has two, and the frame is written out: a step more for each 64 bytes
-read_and_written : does (main_of (Call (Some 0) (codes "rt.read") (Frame 0 ∷ Number 3 ∷ []) ∷ Call None (codes "rt.write") (Frame 0 ∷ Temp 0 ∷ []) ∷ Ret (Some (Temp 0)) ∷ [])) 0 (Exit 2) (codes "in") 4
+-- three bytes are read to the frame, of which the input has two, and the frame is written out: a step more for each argument
+read_and_written : does (main_of (Call (Some 0) (codes "rt.read") (Frame 0 ∷ Number 3 ∷ []) ∷ Call None (codes "rt.write") (Frame 0 ∷ Temp 0 ∷ []) ∷ Ret (Some (Temp 0)) ∷ [])) 0 (Exit 2) (codes "in") 8
 read_and_written = (refl, refl, refl)
 
 -- a block is used, freed, and freed again

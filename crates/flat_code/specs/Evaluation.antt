@@ -3,10 +3,11 @@
 -- A Loop's turn hands one turn less to its body and to the turns behind it, and a call of a function of the program hands one less to the function.
 -- Nothing else uses a turn. Where a turn or such a call begins and none is left, the end is Spent.
 --
--- Each statement that begins is one flat step, each turn of a Loop being one that begins. A Move and a call of the runtime take one more for each 64 bytes moved.
+-- Each statement that begins is one flat step, each turn of a Loop being one that begins. A call takes one more for each argument, and a Move and a call of the
+-- runtime one more for each 64 bytes moved.
 --
 -- What operations give is a parameter, so that this says it in the words of the language that code is made in.
-use Rattle.std.specs.Prelude.{ℕ, zero, suc, ◌+◌, ◌-◌, ◌/◌, max, Bool, true, false, ◌&&◌, not, List, [], ◌∷◌, map, Option, None, Some, nat_eq, nat_lt, bytes_eq, ◌==◌, if◌then◌else◌}
+use Rattle.std.specs.Prelude.{ℕ, zero, suc, ◌+◌, ◌-◌, ◌/◌, max, Bool, true, false, ◌&&◌, not, List, [], ◌∷◌, length, map, Option, None, Some, nat_eq, nat_lt, bytes_eq, ◌==◌, if◌then◌else◌}
 use Rattle.hx_base.specs.declared.Class.{Class}
 use Rattle.hx_base.specs.declared.Class.TheVariants.{W, L}
 use Rattle.hx_base.specs.Memory.{Memory, round_up, map_range, unmap_range, load, store, move}
@@ -22,6 +23,7 @@ use Rattle.flat_code.specs.declared.value.Value.{Value}
 use Rattle.flat_code.specs.Code.{Code, Codes, none, more, Seq, Set, Load, Store, Move, If, Loop, Leave, Call, Ret}
 use Rattle.flat_code.specs.Shape.{code_of}
 use Rattle.flat_code.specs.Costs.{call_cost}
+use Rattle.flat_code.specs.Signatures.{runtime_params, runtime_result}
 use Rattle.flat_code.specs.State.{State, cut, value_of, set_temp, give, with_memory, stepped, FlatFault, Wild, Overlap, BadFree, BadArg, ZeroDivisor, NoFunction, Next, Left, Returned, Exit, Abort, Fault, HeapFull, Spent, Result, then_go, caught, then_turn, spends}
 
 -- ---- operations
@@ -79,34 +81,6 @@ moved s n false (Some m) = (Next, stepped (n / 64) (with_memory s m))
 
 -- ---- calls of the runtime
 
--- the classes of a function's parameters
-abbrev pub runtime_params : RuntimeFunction → List Class
-runtime_params runtime.Puts = L ∷ L ∷ []
-runtime_params runtime.Write = L ∷ L ∷ []
-runtime_params runtime.Read = L ∷ L ∷ []
-runtime_params runtime.Malloc = L ∷ []
-runtime_params runtime.Free = L ∷ []
-runtime_params runtime.Move = L ∷ L ∷ L ∷ []
-runtime_params runtime.Same = L ∷ L ∷ L ∷ []
-runtime_params runtime.Abort = L ∷ L ∷ []
-runtime_params runtime.Exit = W ∷ []
-runtime_params runtime.Nargs = []
-runtime_params runtime.Arg = L ∷ []
-
--- the class of its result, where it has one
-abbrev pub runtime_result : RuntimeFunction → Option Class
-runtime_result runtime.Puts = None
-runtime_result runtime.Write = None
-runtime_result runtime.Read = Some L
-runtime_result runtime.Malloc = Some L
-runtime_result runtime.Free = None
-runtime_result runtime.Move = None
-runtime_result runtime.Same = Some W
-runtime_result runtime.Abort = None
-runtime_result runtime.Exit = None
-runtime_result runtime.Nargs = Some L
-runtime_result runtime.Arg = Some L
-
 -- the fault of flat code for one of the runtime
 abbrev pub fault_of : RuntimeFault → FlatFault
 fault_of runtime.Wild = Wild
@@ -144,10 +118,15 @@ abbrev pub in_temps : ℕ → List ℕ → List (ℕ × ℕ)
 in_temps t [] = []
 in_temps t (v ∷ vs) = (t, v) ∷ in_temps (suc t) vs
 
+-- memory with a frame mapped, where it has bytes
+abbrev pub framed : Memory → ℕ → ℕ → Memory
+framed m at zero = m
+framed m at (suc n) = map_range m at (suc n)
+
 -- the state as a function begins: its arguments stand in the first temporaries, and its frame is mapped and keeps the bytes that stand there. A frame of no bytes takes nothing.
 abbrev pub entered : State → FlatFn → List ℕ → State
 entered s f vs = record s {
-  world = record s.world { memory = map_range s.world.memory s.top f.frame };
+  world = record s.world { memory = framed s.world.memory s.top f.frame };
   temps = in_temps 0 (cut_each f.params vs);
   frame = s.top;
   top = s.top + round_up f.frame 16;
@@ -205,7 +184,7 @@ module _ (meaning : Meaning) (p : FlatProgram) where
     flat_begun n less (If cond a b) s = if cut W (value_of p s cond) == 0 then flat_begun n less b (stepped 1 s) else flat_begun n less a (stepped 1 s)
     flat_begun n less (Loop c) s = spends n (Spent, s) (then_turn (less c s) (less (Loop c)))
     flat_begun n less (Leave k) s = (Left k, s)
-    flat_begun n less (Call t name args) s = called n less s t name (function_named p.functions name) (map (value_of p s) args)
+    flat_begun n less (Call t name args) s = called n less (stepped (length args) s) t name (function_named p.functions name) (map (value_of p s) args)
     flat_begun n less (Ret value) s = returns p s value
 
     -- what the statements of a Seq do

@@ -4,5 +4,10 @@ pub mod Falls
 pub mod Costs
 pub mod Addresses
 pub mod State
+pub mod Signatures
 pub mod Evaluation
 pub mod Run
+pub mod Kinds
+pub mod RuntimeNames
+pub mod Temps
+pub mod WellFormed

@@ -1,0 +1,69 @@
+-- Which temporaries a function sets, and at which class.
+use Rattle.std.specs.Prelude.{ℕ, suc, Bool, true, false, not, ◌&&◌, ◌||◌, List, [], ◌∷◌, Option, None, Some, ◌==◌}
+use Rattle.hx_base.specs.declared.Class.{Class}
+use Rattle.hx_base.specs.declared.Class.TheVariants.{W, L}
+use Rattle.hx_base.specs.Runtime.{RuntimeFunction, runtime_function}
+use Rattle.flat_code.specs.declared.program.FlatFn.{FlatFn}
+use Rattle.flat_code.specs.Code.{Code, Codes, none, more, Seq, Set, Load, Store, Move, If, Loop, Leave, Call, Ret}
+use Rattle.flat_code.specs.Shape.{code_of}
+use Rattle.flat_code.specs.Signatures.{runtime_result}
+
+-- ---- classes
+
+abbrev pub same_class : Class → Class → Bool
+same_class W W = true
+same_class W L = false
+same_class L W = false
+same_class L L = true
+
+abbrev pub other_class : Class → Class
+other_class W = L
+other_class L = W
+
+-- a temporary of this number and class is what is set
+abbrev pub is_temp_of : ℕ → Class → ℕ → Class → Bool
+is_temp_of t class temp c = temp == t && same_class c class
+
+-- ---- what sets a temporary at a class
+
+-- the class of the result of a function of the runtime, if it is one and has one
+abbrev pub call_class : Option RuntimeFunction → Option Class
+call_class None = None
+call_class (Some f) = runtime_result f
+
+-- a call, by the class of its result
+abbrev pub call_sets : ℕ → Class → Option ℕ → Option Class → Bool
+call_sets t class None given = false
+call_sets t class (Some temp) None = false
+call_sets t class (Some temp) (Some c) = is_temp_of t class temp c
+
+-- code
+abbrev mutual
+  pub code_sets : ℕ → Class → Code → Bool
+  code_sets t class (Seq cs) = one_sets t class cs
+  code_sets t class (Set temp c op a b) = is_temp_of t class temp c
+  code_sets t class (Load temp how at) = is_temp_of t class temp L
+  code_sets t class (Store width value at) = false
+  code_sets t class (Move to from bytes) = false
+  code_sets t class (If cond a b) = code_sets t class a || code_sets t class b
+  code_sets t class (Loop c) = code_sets t class c
+  code_sets t class (Leave k) = false
+  code_sets t class (Call temp name args) = call_sets t class temp (call_class (runtime_function name))
+  code_sets t class (Ret value) = false
+
+  pub one_sets : ℕ → Class → Codes → Bool
+  one_sets t class none = false
+  one_sets t class (more c cs) = code_sets t class c || one_sets t class cs
+
+-- a parameter: those from number `at` on have these classes
+abbrev pub params_set : ℕ → Class → ℕ → List Class → Bool
+params_set t class at [] = false
+params_set t class at (c ∷ cs) = is_temp_of t class at c || params_set t class (suc at) cs
+
+-- a function, by its parameters or its code
+abbrev pub is_set : FlatFn → ℕ → Class → Bool
+is_set f t class = params_set t class 0 f.params || code_sets t class (code_of f.body)
+
+-- what sets a temporary at a class is not contradicted by what sets it at the other
+abbrev pub has_one_class : FlatFn → ℕ → Class → Bool
+has_one_class f t class = not (is_set f t (other_class class))

@@ -1,0 +1,273 @@
+-- Which programs of flat code are well formed: those that code of the intermediate language can be made of.
+use Rattle.std.specs.Prelude.{ℕ, zero, suc, ◌+◌, ◌^◌, List, [], ◌∷◌, Option, None, Some, Bool, true, false, not, length, ◌||◌, ◌&&◌, nat_le, nat_lt, ◌==◌, codes, bytes_eq, take, IsTrue, sum_by, count_by, if◌then◌else◌}
+use Rattle.std.specs.List.{list_all, list_any}
+use Rattle.hx_base.specs.declared.Class.{Class}
+use Rattle.hx_base.specs.declared.Class.TheVariants.{W, L}
+use Rattle.hx_base.specs.Runtime.{RuntimeFunction, runtime_function}
+use Rattle.flat_code.specs.declared.program.FlatFn.{FlatFn}
+use Rattle.flat_code.specs.declared.program.FlatProgram.{FlatProgram}
+use Rattle.flat_code.specs.declared.program.Data.{Data}
+use Rattle.flat_code.specs.declared.program.Item.{Item}
+use Rattle.flat_code.specs.declared.program.Item.TheVariants as item
+use Rattle.flat_code.specs.declared.value.Value.{Value}
+use Rattle.flat_code.specs.declared.value.Value.TheVariants.{Temp, Number, Symbol, Frame}
+use Rattle.flat_code.specs.Code.{Code, Codes, none, more, Seq, Set, Load, Store, Move, If, Loop, Leave, Call, Ret}
+use Rattle.flat_code.specs.Shape.{code_of}
+use Rattle.flat_code.specs.Addresses.{item_size}
+use Rattle.flat_code.specs.Kinds.{op_kind, takes_two, first_class, second_class, may_give}
+use Rattle.flat_code.specs.Signatures.{runtime_params, runtime_result}
+use Rattle.flat_code.specs.Temps.{is_set, has_one_class}
+
+-- ---- what is not built yet
+
+-- a call of a function of the runtime
+abbrev pub is_runtime : Option RuntimeFunction → Bool
+is_runtime None = false
+is_runtime (Some f) = true
+
+-- Code of the forms that are compiled so far: no Load, no Store, no Move and no call of a function of the program. A later stage drops this definition, and
+-- with it the condition that a function has no frame.
+abbrev mutual
+  pub is_built : Code → Bool
+  is_built (Seq cs) = are_built cs
+  is_built (Set temp class op a b) = true
+  is_built (Load temp how at) = false
+  is_built (Store width value at) = false
+  is_built (Move to from bytes) = false
+  is_built (If cond a b) = is_built a && is_built b
+  is_built (Loop c) = is_built c
+  is_built (Leave k) = true
+  is_built (Call temp name args) = is_runtime (runtime_function name)
+  is_built (Ret value) = true
+
+  pub are_built : Codes → Bool
+  are_built none = true
+  are_built (more c cs) = is_built c && are_built cs
+
+abbrev pub has_no_frame : FlatFn → Bool
+has_no_frame f = f.frame == 0
+
+-- ---- nesting
+
+-- how many statements may stand within one another
+abbrev pub deepest : ℕ
+deepest = 4096
+
+-- no more than so many statements of the code stand within one another
+abbrev mutual
+  pub nests_within : Code → ℕ → Bool
+  nests_within (Seq cs) zero = false
+  nests_within (Seq cs) (suc n) = each_nests_within cs n
+  nests_within (Set temp class op a b) n = nat_lt 0 n
+  nests_within (Load temp how at) n = nat_lt 0 n
+  nests_within (Store width value at) n = nat_lt 0 n
+  nests_within (Move to from bytes) n = nat_lt 0 n
+  nests_within (If cond a b) zero = false
+  nests_within (If cond a b) (suc n) = nests_within a n && nests_within b n
+  nests_within (Loop c) zero = false
+  nests_within (Loop c) (suc n) = nests_within c n
+  nests_within (Leave k) n = nat_lt 0 n
+  nests_within (Call temp name args) n = nat_lt 0 n
+  nests_within (Ret value) n = nat_lt 0 n
+
+  pub each_nests_within : Codes → ℕ → Bool
+  each_nests_within none n = true
+  each_nests_within (more c cs) n = nests_within c n && each_nests_within cs n
+
+-- ---- numbers
+
+-- a number of 64 bits
+abbrev pub is_bits : ℕ → Bool
+is_bits n = nat_lt n (2 ^ 64)
+
+-- a width of 1, 2, 4 or 8 bytes
+abbrev pub is_width : ℕ → Bool
+is_width width = width == 1 || width == 2 || width == 4 || width == 8
+
+-- an alignment of 1, 2, 4, 8 or 16 bytes
+abbrev pub is_alignment : ℕ → Bool
+is_alignment n = n == 1 || n == 2 || n == 4 || n == 8 || n == 16
+
+-- 2 ^ 30: how many bytes zeros, a Move and all globals may have, and how many globals there may be
+abbrev pub most : ℕ
+most = 1073741824
+
+-- 2 ^ 28
+abbrev pub most_functions : ℕ
+most_functions = 268435456
+
+-- ---- operands
+
+abbrev pub is_long : Class → Bool
+is_long W = false
+is_long L = true
+
+-- An operand is right at the class at which it is wanted, in a program with so many globals. A temporary is set in the function, and where a long is wanted
+-- not as a word; an address is a long, of a global that is there or of a place of the frame.
+abbrev pub is_operand : ℕ → FlatFn → Class → Value → Bool
+is_operand globals f class (Number n) = is_bits n
+is_operand globals f W (Temp t) = is_set f t W || is_set f t L
+is_operand globals f L (Temp t) = is_set f t L && not (is_set f t W)
+is_operand globals f class (Symbol i offset) = is_long class && (nat_lt i globals && is_bits offset)
+is_operand globals f class (Frame offset) = is_long class && nat_lt offset f.frame
+
+-- what stands where an operation has no second operand: the number 0
+abbrev pub is_zero : Value → Bool
+is_zero (Number n) = n == 0
+is_zero (Temp t) = false
+is_zero (Symbol i offset) = false
+is_zero (Frame offset) = false
+
+-- the second operand of an operation that takes two, or one
+abbrev pub is_second : ℕ → FlatFn → Class → Bool → Value → Bool
+is_second globals f class true b = is_operand globals f class b
+is_second globals f class false b = is_zero b
+
+-- operands of these classes, in their order
+abbrev pub are_args : ℕ → FlatFn → List Class → List Value → Bool
+are_args globals f [] [] = true
+are_args globals f [] (v ∷ vs) = false
+are_args globals f (c ∷ cs) [] = false
+are_args globals f (c ∷ cs) (v ∷ vs) = is_operand globals f c v && are_args globals f cs vs
+
+-- ---- statements
+
+-- a temporary of the function, which is set at no other class
+abbrev pub is_target : FlatFn → ℕ → Class → Bool
+is_target f t class = nat_lt t f.temps && has_one_class f t class
+
+-- what a call's result goes to, if it is kept: there is a result then
+abbrev pub takes_result : FlatFn → Option ℕ → Option Class → Bool
+takes_result f None given = true
+takes_result f (Some t) None = false
+takes_result f (Some t) (Some class) = is_target f t class
+
+-- a call, by the function of the runtime that it is of
+abbrev pub is_call : ℕ → FlatFn → Option ℕ → List Value → Option RuntimeFunction → Bool
+is_call globals f temp args None = false
+is_call globals f temp args (Some g) = are_args globals f (runtime_params g) args && takes_result f temp (runtime_result g)
+
+-- a value is returned exactly by a function with a result, at its class
+abbrev pub is_return : ℕ → FlatFn → Option Class → Option Value → Bool
+is_return globals f None None = true
+is_return globals f None (Some v) = false
+is_return globals f (Some class) None = false
+is_return globals f (Some class) (Some v) = is_operand globals f class v
+
+-- the class at which a number is stored, by its width in bytes
+abbrev pub stored_class : ℕ → Class
+stored_class width = if width == 8 then L else W
+
+-- a statement with `around` Seqs and Loops round it, of which there are no more than may stand within one another
+abbrev mutual
+  pub is_right : ℕ → FlatFn → ℕ → Code → Bool
+  is_right globals f around (Seq cs) = nat_lt around deepest && are_right globals f (suc around) cs
+  is_right globals f around (Set temp class op a b) =
+      is_target f temp class && (may_give (op_kind op) class && (is_operand globals f (first_class (op_kind op) class) a && is_second globals f (second_class (op_kind op) class) (takes_two (op_kind op)) b))
+  is_right globals f around (Load temp how at) = is_target f temp L && is_operand globals f L at
+  is_right globals f around (Store width value at) = is_width width && (is_operand globals f (stored_class width) value && is_operand globals f L at)
+  is_right globals f around (Move to from bytes) = nat_le bytes most && (is_operand globals f L to && is_operand globals f L from)
+  is_right globals f around (If cond a b) = is_operand globals f W cond && (is_right globals f around a && is_right globals f around b)
+  is_right globals f around (Loop c) = nat_lt around deepest && is_right globals f (suc around) c
+  is_right globals f around (Leave k) = nat_lt k around
+  is_right globals f around (Call temp name args) = is_call globals f temp args (runtime_function name)
+  is_right globals f around (Ret value) = is_return globals f f.result value
+
+  pub are_right : ℕ → FlatFn → ℕ → Codes → Bool
+  are_right globals f around none = true
+  are_right globals f around (more c cs) = is_right globals f around c && are_right globals f around cs
+
+-- ---- names
+
+abbrev pub is_digit_byte : ℕ → Bool
+is_digit_byte c = nat_le 48 c && nat_le c 57
+
+-- a byte of an identifier: a letter, a digit, an underscore or a dot
+abbrev pub is_name_byte : ℕ → Bool
+is_name_byte c = (nat_le 97 c && nat_le c 122) || (nat_le 65 c && nat_le c 90) || is_digit_byte c || c == 95 || c == 46
+
+-- an identifier of the QBE IL reference: bytes of identifiers, of which the first is no digit
+abbrev pub is_identifier : List ℕ → Bool
+is_identifier [] = false
+is_identifier (c ∷ s) = not (is_digit_byte c) && list_all is_name_byte (c ∷ s)
+
+-- a symbol of the runtime begins with `rt.`
+abbrev pub is_reserved : List ℕ → Bool
+is_reserved name = bytes_eq (take 3 name) (codes "rt.")
+
+-- a symbol of a program: an identifier that is none of the runtime's
+abbrev pub is_symbol : List ℕ → Bool
+is_symbol name = is_identifier name && not (is_reserved name)
+
+-- how many functions and globals have a name
+abbrev pub how_many : FlatProgram → List ℕ → ℕ
+how_many p name = count_by (λ (f : FlatFn). bytes_eq f.name name) p.functions + count_by (λ (d : Data). bytes_eq d.name name) p.globals
+
+-- ---- functions
+
+abbrev pub is_main : FlatFn → Bool
+is_main f = bytes_eq f.name (codes "main")
+
+-- whether a class is not l
+abbrev pub no_long : Option Class → Bool
+no_long None = true
+no_long (Some c) = not (is_long c)
+
+-- `main` has no parameters, and its result, if it has one, is a word
+abbrev pub is_main_right : FlatFn → Bool
+is_main_right f = not (is_main f) || (length f.params == 0 && no_long f.result)
+
+-- each parameter from number `at` on is set at no other class
+abbrev pub params_have_one_class : FlatFn → ℕ → List Class → Bool
+params_have_one_class f at [] = true
+params_have_one_class f at (c ∷ cs) = has_one_class f at c && params_have_one_class f (suc at) cs
+
+-- a function, in a program with so many globals
+abbrev pub is_function_right : ℕ → FlatFn → Bool
+is_function_right globals f =
+    is_symbol f.name && (is_main_right f && (nat_le (length f.params) f.temps && (has_no_frame f
+    && (nests_within (code_of f.body) deepest && (is_built (code_of f.body) && (params_have_one_class f 0 f.params && is_right globals f 0 (code_of f.body)))))))
+
+-- ---- globals
+
+abbrev pub has_global : FlatProgram → List ℕ → Bool
+has_global p name = list_any (λ (d : Data). bytes_eq d.name name) p.globals
+
+-- a number has one of four widths, and a symbol is a global's
+abbrev pub is_item : FlatProgram → Item → Bool
+is_item p (item.Number width n) = is_width width && is_bits n
+is_item p (item.Bytes bytes) = true
+is_item p (item.Symbol name offset) = has_global p name && is_bits offset
+is_item p (item.Zero n) = nat_le n most
+
+abbrev pub is_global : FlatProgram → Data → Bool
+is_global p d = is_symbol d.name && (is_alignment d.align && list_all (is_item p) d.items)
+
+-- the bytes of a global's items
+abbrev pub global_size : Data → ℕ
+global_size d = sum_by item_size d.items
+
+-- ---- programs
+
+pub record IsWellFormed (p : FlatProgram) : Type 0 where
+  -- each function and each global has a name of its own
+  pub functions_differ : IsTrue (list_all (λ (f : FlatFn). how_many p f.name == 1) p.functions)
+  pub globals_differ : IsTrue (list_all (λ (d : Data). how_many p d.name == 1) p.globals)
+  -- there is a function `main`
+  pub main : IsTrue (list_any is_main p.functions)
+  pub functions : IsTrue (list_all (is_function_right (length p.globals)) p.functions)
+  pub globals : IsTrue (list_all (is_global p) p.globals)
+  -- there are no more functions, globals and bytes of globals than the intermediate language admits
+  pub few_functions : IsTrue (nat_le (length p.functions) most_functions)
+  pub few_globals : IsTrue (nat_le (length p.globals) most)
+  pub few_bytes : IsTrue (nat_le (sum_by global_size p.globals) most)
+
+-- ---- the test of a program. No public clause cites it.
+
+abbrev pub are_few : FlatProgram → Bool
+are_few p = nat_le (length p.functions) most_functions && (nat_le (length p.globals) most && nat_le (sum_by global_size p.globals) most)
+
+unfoldable pub passes : FlatProgram → Bool
+passes p =
+    list_all (λ (f : FlatFn). how_many p f.name == 1) p.functions && (list_all (λ (d : Data). how_many p d.name == 1) p.globals
+    && (list_any is_main p.functions && (list_all (is_function_right (length p.globals)) p.functions && (list_all (is_global p) p.globals && are_few p))))

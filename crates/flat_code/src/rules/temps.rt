@@ -1,0 +1,121 @@
+//! Temporaries: what sets them, and at which class.
+
+ghost use Rattle.std.specs.Prelude.{◌≡◌};
+ghost use Rattle.hx_base.specs.Runtime.{runtime_function};
+ghost use Rattle.flat_code.specs.Shape.{code_of};
+ghost use Rattle.flat_code.specs.Code.{codes_of};
+ghost use Rattle.flat_code.specs.Temps.{same_class, other_class, is_temp_of, call_class, call_sets, code_sets, one_sets, params_set, is_set, has_one_class};
+
+use crate::flat::{Flat, FlatKids};
+use crate::program::FlatFn;
+use crate::runtime::Runtime;
+use hx_base::Class;
+
+fn same_class(a: Class, b: Class) -> bool
+    ensures { result ≡ same_class a b }
+{
+    match (a, b) {
+        (Class::W, Class::W) => true,
+        (Class::W, Class::L) => false,
+        (Class::L, Class::W) => false,
+        (Class::L, Class::L) => true,
+    }
+}
+
+fn other_class(c: Class) -> Class
+    ensures { result ≡ other_class c }
+{
+    match c {
+        Class::W => Class::L,
+        Class::L => Class::W,
+    }
+}
+
+fn is_temp_of(t: u32, class: Class, temp: u32, c: Class) -> bool
+    ensures { result ≡ is_temp_of t class temp c }
+{
+    temp == t && same_class(c, class)
+}
+
+fn call_class(name: &[u8]) -> Option<Class>
+    ensures { result ≡ call_class (runtime_function name.now) }
+{
+    match Runtime::named(name) {
+        None => None,
+        Some(f) => f.result(),
+    }
+}
+
+fn call_sets(t: u32, class: Class, temp: Option<u32>, given: Option<Class>) -> bool
+    ensures { result ≡ call_sets t class temp given }
+{
+    match (temp, given) {
+        (None, _) => false,
+        (Some(_), None) => false,
+        (Some(temp), Some(c)) => is_temp_of(t, class, temp, c),
+    }
+}
+
+#[cycle(sets)]
+fn code_sets(t: u32, class: Class, code: &Flat) -> bool
+    ensures { result ≡ code_sets t class (code_of code.now) }
+{
+    match code {
+        Flat::Seq(kids) => one_sets(t, class, kids),
+        Flat::Set { temp, class: c, .. } => is_temp_of(t, class, *temp, *c),
+        Flat::Load { temp, .. } => is_temp_of(t, class, *temp, Class::L),
+        Flat::If { yes, no, .. } => {
+            code_sets(t, class, yes.get()) || code_sets(t, class, no.get())
+        }
+        Flat::Loop(body) => code_sets(t, class, body.get()),
+        Flat::Call { temp, name, .. } => call_sets(t, class, *temp, call_class(name.bytes())),
+        Flat::Store { .. } | Flat::Move { .. } | Flat::Leave(_) | Flat::Ret(_) => false,
+    }
+}
+
+#[cycle(sets)]
+#[tactic(auto, using(crate::proofs::Kids::kid_deep, crate::proofs::Kids::drop_kid, crate::proofs::Kids::drop_rest))]
+fn one_sets(t: u32, class: Class, kids: &FlatKids) -> bool
+    ensures { result ≡ one_sets t class (codes_of kids.now) }
+{
+    for i in 0..kids.len() {
+        if let Some(kid) = kids.get(i) {
+            if code_sets(t, class, kid) {
+                return true;
+            }
+        }
+    }
+    false
+}
+
+/// Whether parameter number `at`, of class `c`, is the temporary at the class.
+fn is_param(t: u32, class: Class, at: usize, c: Class) -> bool
+    ensures { result ≡ is_temp_of t class at c }
+{
+    at == t as usize && same_class(c, class)
+}
+
+fn params_set(t: u32, class: Class, params: &[Class]) -> bool
+    ensures { result ≡ params_set t class 0 params.now }
+{
+    for (at, c) in params.iter().enumerate() {
+        if is_param(t, class, at, *c) {
+            return true;
+        }
+    }
+    false
+}
+
+/// Whether the function sets the temporary at the class, as a parameter or in its code.
+pub fn is_set(f: &FlatFn, t: u32, class: Class) -> bool
+    ensures { result ≡ is_set f.now t class }
+{
+    params_set(t, class, f.params.as_slice()) || code_sets(t, class, &f.body)
+}
+
+/// Whether the function sets the temporary at no other class.
+pub fn has_one_class(f: &FlatFn, t: u32, class: Class) -> bool
+    ensures { result ≡ has_one_class f.now t class }
+{
+    !is_set(f, t, other_class(class))
+}
