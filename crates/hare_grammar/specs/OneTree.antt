@@ -1,0 +1,34 @@
+-- That the grammar has one tree for a list of tokens.
+use Rattle.std.specs.Prelude.{◌≡◌, ℕ, Bool, true, false}
+use Rattle.hare_tree.specs.declared.form.Sort.{Sort}
+use Rattle.hare_tree.specs.declared.form.Sort.TheVariants as so
+use Rattle.hare_tree.specs.Node.{Head, Node, Nodes, branch, none, more}
+use Rattle.hare_tree.specs.Spell.{start_of, spell}
+use Rattle.hare_tree.specs.Shape.{is_shaped}
+
+-- The tree with all its places at the start of a file: what its tokens say of it. Two trees are equal but for places where this makes them one.
+abbrev pub plain_head : ℕ → Head → Head
+plain_head f h = record { kind = h.kind; place = start_of f; text = h.text; number = h.number; suffix = h.suffix }
+
+abbrev mutual
+  pub plain : ℕ → Node → Node
+  plain f (branch h ts) = branch (plain_head f h) (plains f ts)
+
+  pub plains : ℕ → Nodes → Nodes
+  plains f none = none
+  plains f (more t ts) = more (plain f t) (plains f ts)
+
+-- types, and the parts of types
+abbrev pub is_sort_of_types : Sort → Bool
+is_sort_of_types so.Type = true
+is_sort_of_types so.BareType = true
+is_sort_of_types so.Member = true
+is_sort_of_types so.TypePath = true
+is_sort_of_types so.Length = true
+is_sort_of_types so.StructField = true
+is_sort_of_types _ = false
+
+-- two shaped types with the same tokens are equal but for places
+abbrev pub TypesHaveOneTree : Type 0
+TypesHaveOneTree =
+    (f : ℕ) (s : Sort) → is_sort_of_types s ≡ true → (t t' : Node) → is_shaped s t ≡ true → is_shaped s t' ≡ true → spell f t ≡ spell f t' → plain f t ≡ plain f t'

@@ -1,0 +1,10 @@
+//! The grammar of Hare as a table: what each rule does at each class of token.
+#![tactic(auto)]
+
+mod class;
+mod laws;
+mod rule;
+
+pub use class::Class;
+pub use laws::law_one_type;
+pub use rule::{Change, Rule, Symbol};
