@@ -2,10 +2,11 @@
 #![tactic(auto)]
 
 mod form;
+mod forms;
 mod kind;
 mod place;
+mod sign;
 mod stop;
-mod table;
 #[cfg(test)]
 mod tests;
 mod token;

@@ -6,9 +6,10 @@ ghost use Rattle.hare_tree.specs.Spell as spec;
 ghost use Rattle.hare_tree.specs.Spell.{Spelled};
 
 use crate::form::{Lead, Own, Piece, Sign};
+use crate::forms::form_of;
 use crate::kind::Kind;
 use crate::place::Place;
-use crate::table::{form_of, sign_kind, sign_word};
+use crate::sign::{sign_kind, sign_word};
 use crate::token::{Suffix, Token, TokenKind};
 use crate::tokens::Tokens;
 use crate::tree::{FileTree, Kids, Tree};
