@@ -15,8 +15,6 @@ use Rattle.hare_types.specs.Layout.{following, fields_extent, union_extent, fiel
 use Rattle.hare_types.proofs.CallerLemmas.{tree_at_row}
 use Rattle.hare_types.proofs.TreeLemmas.{length-trees}
 use Rattle.hare_layout.specs.Small.{fitting, small_with, smalls_with, parts_of, name_extents, extent_by, extents_by}
-use Rattle.hare_layout.specs.Run.{no_parts, with_part, with_parts, fields_of, members_of}
-use Rattle.hare_layout.specs.declared.bytes.Run.{Run}
 
 -- the tree of an id is that of its row
 pub tree_in-row : (s : Store) → IsStore s → (t : ℕ) (r : Row) → slice_get s.rows t ≡ Some r → tree_in (trees s.rows) t ≡ tree_of (trees s.rows) r
@@ -70,29 +68,12 @@ drop_get (y ∷ ys) zero x e =
     ap (λ z. z ∷ ys) same
 drop_get (y ∷ ys) (suc k) x e = drop_get ys k x e
 
-with_parts-more : (run : Run) (x : Extent) (xs : List Extent) → with_parts run (x ∷ xs) ≡ with_parts (with_part run x) xs
-with_parts-more run x xs =
-    let size : max run.size (max x.size (greatest_size xs)) ≡ max (max run.size x.size) (greatest_size xs) = omega arith in
-    let align : max run.align (max x.align (greatest_align xs)) ≡ max (max run.align x.align) (greatest_align xs) = omega arith in
-    λ i. record { end = fields_end (with_part run x).end xs; size = size i; align = align i }
-
 -- the extents of parts from the k-th on, the k-th being known
 pub extents-more : (s : Store) (n : ℕ) (ps : List ℕ) (k p : ℕ) → slice_get ps k ≡ Some p → (o : Option Extent) → o ≡ extent_by s n p
     → extents_by s n (drop k ps) ≡ option_and_then (λ x. option_map (λ xs. x ∷ xs) (extents_by s n (drop (k + 1) ps))) o
 extents-more s n ps k p e o g =
     let split : drop k ps ≡ p ∷ drop (k + 1) ps = rw add-one (drop_get ps k p e) in
     ap (extents_by s n) split ∙ ap (option_and_then (λ x. option_map (λ xs. x ∷ xs) (extents_by s n (drop (k + 1) ps)))) (sym g)
-
-joined : (run : Run) (x : Extent) (o : Option (List Extent)) → option_map (with_parts run) (option_map (λ xs. x ∷ xs) o) ≡ option_map (with_parts (with_part run x)) o
-joined run x None = refl
-joined run x (Some xs) = ap Some (with_parts-more run x xs)
-
-pub parts-step : (s : Store) (n : ℕ) (ps : List ℕ) (k p : ℕ) (run : Run) (x : Extent) → slice_get ps k ≡ Some p → Some x ≡ extent_by s n p
-    → option_map (with_parts run) (extents_by s n (drop k ps)) ≡ option_map (with_parts (with_part run x)) (extents_by s n (drop (k + 1) ps))
-parts-step s n ps k p run x e g = ap (option_map (with_parts run)) (extents-more s n ps k p e (Some x) g) ∙ joined run x (extents_by s n (drop (k + 1) ps))
-
-pub parts-none : (s : Store) (n : ℕ) (ps : List ℕ) (k p : ℕ) (run : Run) → slice_get ps k ≡ Some p → None ≡ extent_by s n p → None ≡ option_map (with_parts run) (extents_by s n (drop k ps))
-parts-none s n ps k p run e g = sym (ap (option_map (with_parts run)) (extents-more s n ps k p e None g))
 
 -- ---- all parts
 
@@ -102,56 +83,12 @@ greatest_align-low (x ∷ xs) =
     let ih = greatest_align-low xs in
     omega arith
 
-with_no_parts-align : (xs : List Extent) → max 1 (greatest_align xs) ≡ greatest_align xs
-with_no_parts-align xs = omega (arith, greatest_align-low xs)
-
-with_no_parts-size : (n : ℕ) → max 0 n ≡ n
-with_no_parts-size n = omega arith
-
-fields_of-all : (xs : List Extent) → fields_of (with_parts no_parts xs) ≡ fitting (fields_extent xs)
-fields_of-all xs = ap (λ a. fields_of (record { end = fields_end 0 xs; size = max 0 (greatest_size xs); align = a })) (with_no_parts-align xs)
-
-members_of-all : (xs : List Extent) → members_of (with_parts no_parts xs) ≡ fitting (union_extent xs)
-members_of-all xs =
-    ap₂ (λ a b. members_of (record { end = fields_end 0 xs; size = b; align = a })) (with_no_parts-align xs) (with_no_parts-size (greatest_size xs))
-
-pub fields_of-parts : (o : Option (List Extent)) (run : Run) → Some run ≡ option_map (with_parts no_parts) o → fields_of run ≡ option_and_then (λ xs. fitting (fields_extent xs)) o
-fields_of-parts None run e = absurd cc
-fields_of-parts (Some xs) run e =
-    let same : run ≡ with_parts no_parts xs = cc in
-    ap fields_of same ∙ fields_of-all xs
-
-pub members_of-parts : (o : Option (List Extent)) (run : Run) → Some run ≡ option_map (with_parts no_parts) o → members_of run ≡ option_and_then (λ xs. fitting (union_extent xs)) o
-members_of-parts None run e = absurd cc
-members_of-parts (Some xs) run e =
-    let same : run ≡ with_parts no_parts xs = cc in
-    ap members_of same ∙ members_of-all xs
-
-pub none_of-parts : (f : List Extent → Option Extent) (o : Option (List Extent)) → None ≡ option_map (with_parts no_parts) o → None ≡ option_and_then f o
-none_of-parts f None e = refl
-none_of-parts f (Some xs) e = absurd cc
-
 -- the parts of a struct's tree are those of its row
 pub struct-parts : (ts : List Tree) (fs : List Field) → trees_of (map (λ f. tree_in ts f.ty) fs) ≡ trees_of (map (tree_in ts) (map (λ f. f.ty) fs))
 struct-parts ts [] = refl
 struct-parts ts (f ∷ fs) = ap (more (tree_in ts f.ty)) (struct-parts ts fs)
 
 -- ---- of rows and names
-
--- what is the extent of a row's tree is that of its id
-pub extent_of-row : (s : Store) → IsStore s → (n t : ℕ) (r q : Row) → slice_get s.rows t ≡ Some r → r ≡ q → (o : Option Extent) → o ≡ small_with (name_extents s n) (tree_of (trees s.rows) q) → o ≡ extent_by s n t
-extent_of-row s v n t r q e g o h = h ∙ sym (extent_by-row s v n t q (e ∙ ap Some g))
-
-pub struct-some : (s : Store) (n : ℕ) (fs : List Field) (run : Run) → Some run ≡ option_map (with_parts no_parts) (extents_by s n (map (λ f. f.ty) fs))
-    → fields_of run ≡ small_with (name_extents s n) (tree_of (trees s.rows) (row.Struct fs))
-struct-some s n fs run e =
-    fields_of-parts (extents_by s n (map (λ f. f.ty) fs)) run e ∙ ap (λ ts. option_and_then (λ xs. fitting (fields_extent xs)) (smalls_with (name_extents s n) ts)) (sym (struct-parts (trees s.rows) fs))
-
-pub struct-none : (s : Store) (n : ℕ) (fs : List Field) → None ≡ option_map (with_parts no_parts) (extents_by s n (map (λ f. f.ty) fs))
-    → None ≡ small_with (name_extents s n) (tree_of (trees s.rows) (row.Struct fs))
-struct-none s n fs e =
-    none_of-parts (λ xs. fitting (fields_extent xs)) (extents_by s n (map (λ f. f.ty) fs)) e
-    ∙ ap (λ ts. option_and_then (λ xs. fitting (fields_extent xs)) (smalls_with (name_extents s n) ts)) (sym (struct-parts (trees s.rows) fs))
 
 -- the extent of what a name is defined to be
 pub extent_of-name : (s : Store) → IsStore s → (n d t : ℕ) → ¬ (n ≡ 0) → Some t ≡ definition_of s d → extent_by s (n - 1) t ≡ name_extents s n d

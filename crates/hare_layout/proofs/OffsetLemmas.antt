@@ -29,15 +29,17 @@ rest_some : (x : Extent) (o : Option (List Extent)) (ys : List Extent) → optio
 rest_some x None ys e = absurd cc
 rest_some x (Some zs) ys e = (zs, refl, cc)
 
--- the extents from the k-th part on are its own and the later ones'
-pub extents-split : (s : Store) (n : ℕ) (ps : List ℕ) (k p : ℕ) (x : Extent) (ys : List Extent) → slice_get ps k ≡ Some p → Some x ≡ extent_by s n p → extents_by s n (drop k ps) ≡ Some ys
-    → (zs : List Extent) × (extents_by s n (drop (k + 1) ps) ≡ Some zs) × (ys ≡ x ∷ zs)
-extents-split s n ps k p x ys e g h = rest_some x (extents_by s n (drop (k + 1) ps)) ys (sym (extents-more s n ps k p e (Some x) g) ∙ h)
+first_some : {A B : Type 0} (o : Option A) (f : A → Option B) (xs : B) → option_and_then f o ≡ Some xs → (x : A) × (o ≡ Some x) × (f x ≡ Some xs)
+first_some None f xs e = absurd cc
+first_some (Some x) f xs e = (x, refl, e)
 
-pub extents-cut : (s : Store) (n : ℕ) (ps : List ℕ) (k p : ℕ) (ys : List Extent) → slice_get ps k ≡ Some p → None ≡ extent_by s n p → extents_by s n (drop k ps) ≡ Some ys → ⊥
-extents-cut s n ps k p ys e g h =
-    let gone : None ≡ Some ys = sym (extents-more s n ps k p e None g) ∙ h in
-    cc
+-- the extents from the k-th part on are its own and the later ones'
+pub extents-first : (s : Store) (n : ℕ) (ps : List ℕ) (k p : ℕ) (ys : List Extent) → slice_get ps k ≡ Some p → extents_by s n (drop k ps) ≡ Some ys
+    → (x : Extent) × (zs : List Extent) × (extent_by s n p ≡ Some x) × (extents_by s n (drop (k + 1) ps) ≡ Some zs) × (ys ≡ x ∷ zs)
+extents-first s n ps k p ys e h =
+    let first = first_some (extent_by s n p) (λ x. option_map (λ xs. x ∷ xs) (extents_by s n (drop (k + 1) ps))) ys (sym (extents-more s n ps k p e (extent_by s n p) refl) ∙ h) in
+    let rest = rest_some first.0 (extents_by s n (drop (k + 1) ps)) ys first.2 in
+    (first.0, rest.0, first.1, rest.1, rest.2)
 
 pub field_start-next : (at : ℕ) (x : Extent) (zs : List Extent) (k i : ℕ) → i < k → field_start at (x ∷ zs) (k - i) ≡ field_start (round_up at x.align + x.size) zs (k - (i + 1))
 field_start-next at x zs k i h =
@@ -131,10 +133,6 @@ following-low m (suc n) t x e =
     by : ((u : Tree) (y : Extent) → following small_with m n u ≡ Some y → 1 ≤ y.align) → (o : Option Tree) (y : Extent) → option_and_then (following small_with m n) o ≡ Some y → 1 ≤ y.align
     by ih None y g = absurd cc
     by ih (Some u) y g = ih u y g
-
-first_some : {A B : Type 0} (o : Option A) (f : A → Option B) (xs : B) → option_and_then f o ≡ Some xs → (x : A) × (o ≡ Some x) × (f x ≡ Some xs)
-first_some None f xs e = absurd cc
-first_some (Some x) f xs e = (x, refl, e)
 
 -- what is known of types, one after another
 known_each : (s : Store) (n : ℕ) (ts : Trees) (xs : List Extent) → smalls_with (name_extents s n) ts ≡ Some xs → AllLow xs × HaveExtents s ts xs

@@ -4,9 +4,11 @@ use Rattle.std.specs.Prelude.{Contains, option_map, option_and_then}
 use Rattle.std.proofs.lemmas.Bool.{ltb-false}
 use Rattle.std.proofs.lemmas.List.Elements.{Contains-append_left, Contains-append_right}
 use Rattle.hare_types.specs.declared.extent.Extent.{Extent}
+use Rattle.hare_types.specs.declared.row.Scalar.{Scalar as Keyword}
+use Rattle.hare_types.specs.declared.row.Scalar.TheVariants as keyword
 use Rattle.hare_types.specs.Trees.{Tree, Trees, Scalar, Pointer, Nullable, Slice, Array, Struct, Tuple, Union, Error, Named, none, more}
 use Rattle.hare_types.specs.ByValue.{held, held_in}
-use Rattle.hare_types.specs.Layout.{following, fields_extent, union_extent, extent_with, extents_with}
+use Rattle.hare_types.specs.Layout.{following, scalar_extent, fields_extent, union_extent, extent_with, extents_with}
 use Rattle.hare_layout.specs.Small.{fitting, array_extent, small_with, smalls_with}
 use Rattle.hare_layout.proofs.GrowthLemmas.{Knows, option_map-more, option_and_then-more}
 use Rattle.hare_layout.proofs.NamesLemmas.{Near}
@@ -77,3 +79,55 @@ following-extent m (suc n) t a e =
     let ih = following-extent m n in
     small_with-extent (λ d. option_and_then (following small_with m n) (m d)) (λ d. option_and_then (following extent_with m n) (m d))
     (λ d. option_and_then-more (following small_with m n) (following extent_with m n) ih (m d) (m d) (λ u l. l)) t a e
+
+-- ---- sizes
+
+small_some : (x y : Extent) → Some x ≡ Some y → x.size ≤ 67108864 → y.size ≤ 67108864
+small_some x y e h =
+    let same : x ≡ y = cc in
+    subst (λ z. z.size ≤ 67108864) same h
+
+small-scalar : (k : Keyword) (x : Extent) → scalar_extent k ≡ Some x → x.size ≤ 67108864
+small-scalar keyword.Void x e = small_some _ x e (omega arith)
+small-scalar keyword.Never x e = absurd cc
+small-scalar keyword.Opaque x e = absurd cc
+small-scalar keyword.Bool x e = small_some _ x e (omega arith)
+small-scalar keyword.Rune x e = small_some _ x e (omega arith)
+small-scalar keyword.Str x e = small_some _ x e (omega arith)
+small-scalar keyword.I8 x e = small_some _ x e (omega arith)
+small-scalar keyword.I16 x e = small_some _ x e (omega arith)
+small-scalar keyword.I32 x e = small_some _ x e (omega arith)
+small-scalar keyword.I64 x e = small_some _ x e (omega arith)
+small-scalar keyword.U8 x e = small_some _ x e (omega arith)
+small-scalar keyword.U16 x e = small_some _ x e (omega arith)
+small-scalar keyword.U32 x e = small_some _ x e (omega arith)
+small-scalar keyword.U64 x e = small_some _ x e (omega arith)
+small-scalar keyword.Int x e = small_some _ x e (omega arith)
+small-scalar keyword.Uint x e = small_some _ x e (omega arith)
+small-scalar keyword.Size x e = small_some _ x e (omega arith)
+
+small-fits : {A : Type 0} (f : A → Extent) (o : Option A) (x : Extent) → option_and_then (λ a. fitting (f a)) o ≡ Some x → x.size ≤ 67108864
+small-fits f None x e = absurd cc
+small-fits f (Some a) x e = (fitting_some (f a) x e).1
+
+small_with-size : (named : ℕ → Option Extent) → ((d : ℕ) (x : Extent) → named d ≡ Some x → x.size ≤ 67108864) → (t : Tree) (x : Extent) → small_with named t ≡ Some x → x.size ≤ 67108864
+small_with-size named low (Scalar k) x e = small-scalar k x e
+small_with-size named low (Pointer t) x e = small_some _ x e (omega arith)
+small_with-size named low (Nullable t) x e = small_some _ x e (omega arith)
+small_with-size named low (Slice t) x e = small_some _ x e (omega arith)
+small_with-size named low (Array n t) x e = small-fits (array_extent n) (small_with named t) x e
+small_with-size named low (Struct ns ts) x e = small-fits fields_extent (smalls_with named ts) x e
+small_with-size named low (Tuple ts) x e = small-fits fields_extent (smalls_with named ts) x e
+small_with-size named low (Union ts) x e = small-fits union_extent (smalls_with named ts) x e
+small_with-size named low (Error t) x e = small_with-size named low t x e
+small_with-size named low (Named d) x e = low d x e
+
+pub following-size : (m : ℕ → Option Tree) (n : ℕ) (t : Tree) (x : Extent) → following small_with m n t ≡ Some x → x.size ≤ 67108864
+following-size m zero t x e = small_with-size (λ d. None) (λ d y g. absurd cc) t x e
+following-size m (suc n) t x e =
+    let ih = following-size m n in
+    small_with-size (λ d. option_and_then (following small_with m n) (m d)) (λ d y g. by ih (m d) y g) t x e
+  where
+    by : ((u : Tree) (y : Extent) → following small_with m n u ≡ Some y → y.size ≤ 67108864) → (o : Option Tree) (y : Extent) → option_and_then (following small_with m n) o ≡ Some y → y.size ≤ 67108864
+    by ih None y g = absurd cc
+    by ih (Some u) y g = ih u y g

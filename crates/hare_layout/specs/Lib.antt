@@ -6,5 +6,4 @@ pub mod Members
 pub mod Offsets
 pub mod Reduced
 pub mod Reduction
-pub mod Run
 pub mod Small

@@ -6,6 +6,7 @@ use Rattle.hare_types.specs.declared.row.Row.TheVariants as row
 use Rattle.hare_types.specs.Rows.{tree_in, trees}
 use Rattle.hare_types.specs.Trees.{Tree, Trees, Scalar, Pointer, Nullable, Slice, Array, Struct, Tuple, Union, Error, Named, none, more, trees_of}
 use Rattle.hare_types.specs.Store.{Store, tree_at, meaning_of}
+pub use Rattle.hare_types.specs.Kept.{LiesIn, parts_of}
 use Rattle.hare_types.specs.Layout.{bytes, scalar_extent, fields_extent, union_extent, following, HasExtent}
 
 -- the extent, where it has at most 67,108,864 bytes
@@ -39,18 +40,7 @@ abbrev mutual
 abbrev pub IsSmall : Store → ℕ → Type 0
 IsSmall s t = (u : Tree) × (x : Extent) × (n : ℕ) × (tree_at s t ≡ Some u) × (following small_with (meaning_of s) n u ≡ Some x)
 
--- the type with this id has this extent
-abbrev pub LiesIn : Store → ℕ → Extent → Type 0
-LiesIn s t x = (u : Tree) × (tree_at s t ≡ Some u) × HasExtent s u x
-
 -- ---- of ids
-
--- the types that a struct, tuple or union holds, in order
-abbrev pub parts_of : Row → List ℕ
-parts_of (row.Struct fs) = map (λ f. f.ty) fs
-parts_of (row.Tuple is) = is
-parts_of (row.Union is) = is
-parts_of _ = []
 
 -- what is known of names, where at most n names one behind another are followed
 abbrev pub name_extents : Store → ℕ → ℕ → Option Extent

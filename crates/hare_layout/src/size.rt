@@ -12,7 +12,7 @@ fn extent_of(s: &TypeStore, t: TypeId) -> Extent
     ensures value { LiesIn s.now t result }
     ensures within { IsModest result }
 {
-    match extent(s, t, s.declarations()) {
+    match extent(s, t) {
         Some(x) => x,
         None => unreachable!(),
     }
@@ -23,8 +23,7 @@ fn extent_of(s: &TypeStore, t: TypeId) -> Extent
 /// The type is admitted and has a size, and each name that it is or holds by value is defined: neither it nor a type that it holds by
 /// value has more than 67,108,864 bytes.
 ///
-/// The time is that of visiting each type that is held by value as often as it is held, and the calls go as deep as types hold one
-/// another by value.
+/// The time is constant.
 pub fn size_of(s: &TypeStore, t: TypeId) -> u64
     requires { IsSmall s.now t }
     ensures value { (a : ℕ) × LiesIn s.now t (record { size = result; align = a }) }

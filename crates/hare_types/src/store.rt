@@ -3,7 +3,7 @@
 ghost use Rattle.std.specs.Prelude.{◌≡◌, ◌≢◌, ◌≤◌, ◌<◌, ◌+◌, ◌++◌, ◌∷◌, [], ℕ, List, length, slice_get, IfOk, IfSome, IsSome, IfNone, OnOk, OnErr, Some, None};
 ghost use Rattle.hare_types.specs.declared.extent.Extent.{Extent as ExtentOf};
 ghost use Rattle.hare_types.specs.ByValue.{has_size, HoldsByValue};
-ghost use Rattle.hare_types.specs.Kept.{LiesIn, told};
+ghost use Rattle.hare_types.specs.Kept.{LiesIn, told, IsBounded};
 ghost use Rattle.hare_types.specs.Numbering.{IsNumbered};
 ghost use Rattle.hare_types.specs.Rows.{tree_of, trees, IsWithin, IsReduced};
 ghost use Rattle.hare_types.specs.Sound.{IsStore};
@@ -186,6 +186,8 @@ impl TypeStore {
     pub fn extent(&self, t: TypeId) -> Option<Extent>
         ensures some { IfSome result (λ x. (y : ExtentOf) × LiesIn self.now t y × (x ≡ told y)) }
         ensures none { IfNone result ((y : ExtentOf) → ¬ LiesIn self.now t y) }
+        ensures within { IfSome result (λ x. IsBounded x) }
+        ensures sound { IsStore self.now }
     {
         known(self.extents.as_slice(), t)
     }
