@@ -1,5 +1,5 @@
 -- What is kept of extents is what is told of them.
-use Rattle.std.proofs.Common.{◌≡◌, ◌≢◌, ℕ, zero, suc, ◌+◌, ◌*◌, ◌<◌, ◌≤◌, Bool, true, false, nat_eq, true≢false, List, [], ◌∷◌, ◌++◌, length, take, set, map, Option, Some, None, IfSome, refl, ap, ap₂, sym, ◌∙◌, subst, arith, ◌⊎◌, inl, inr, length-append, length-set, get_or-set_other, get_or-set_same}
+use Rattle.std.proofs.Common.{◌≡◌, ◌≢◌, ℕ, zero, suc, ◌+◌, ◌*◌, ◌<◌, ◌≤◌, Bool, true, false, nat_eq, true≢false, List, [], ◌∷◌, ◌++◌, length, take, set, map, Option, Some, None, IfSome, IsSome, refl, ap, ap₂, sym, ◌∙◌, subst, arith, ◌⊎◌, inl, inr, length-append, length-set, get_or-set_other, get_or-set_same}
 use Rattle.std.specs.Prelude.{is_some, slice_get, slice_index_or, option_map, option_and_then}
 use Rattle.std.proofs.lemmas.Option.{get_or_from_slice_get, slice_get-get_or, slice_get_within}
 use Rattle.std.proofs.lemmas.Bool.{cases_lt}
@@ -12,12 +12,13 @@ use Rattle.hare_types.specs.declared.lists.Field.{Field}
 use Rattle.hare_types.specs.declared.row.Row.{Row}
 use Rattle.hare_types.specs.declared.row.Row.TheVariants as row
 use Rattle.hare_types.specs.declared.row.Scalar.TheVariants as keyword
+use Rattle.hare_types.specs.Numbering.{IsOnce}
 use Rattle.hare_types.specs.Trees.{Tree, Trees, Scalar, Named, more, trees_of}
 use Rattle.hare_types.specs.Rows.{tree_in, tree_of, trees, AllBelow, FieldsBelow, IsWithin, AreRows}
 use Rattle.hare_types.specs.Store.{Store, tree_at, definition_of, meaning_of}
 use Rattle.hare_types.specs.Sound.{IsStore}
 use Rattle.hare_types.specs.Layout.{fields_extent, union_extent, following, extent_with, extents_with, HasExtent}
-use Rattle.hare_types.specs.Kept.{LiesIn, told, IsTold, IsBounded, known, defined, all_known, extent_over, AreBounded, KeepsExtents, IsSettled, unknown}
+use Rattle.hare_types.specs.Kept.{LiesIn, told, IsTold, IsBounded, known, defined, all_known, extent_over, AreBounded, KeepsExtents, IsSettled, IsInert, AreQuiet, AreQuietBut, unknown}
 use Rattle.hare_types.proofs.ListLemmas.{slice_get_end, slice_get_push}
 use Rattle.hare_types.proofs.TreeLemmas.{length-trees, tree_kept, IsWithin-le}
 use Rattle.hare_types.proofs.DefinitionLemmas.{meaning_kept}
@@ -488,3 +489,132 @@ module _ (s : Store) (v : IsStore s) (ks : List (Option Extent)) (settled : (i :
       let found = complete h.2.0 t within y (ap (extent_with (names s h.2.0)) tree ∙ by_names s h.2.0 h.0 ∙ h.2.1) in
       let both : None ≡ Some found.0 = sym e ∙ found.1 in
       absurd cc
+
+-- ---- rows that wait
+
+pub inert-none : (es : List (ℕ × Declared)) (ks : ℕ → Option Extent) (r : Row) → IsInert es r → extent_over (defined es) ks r ≡ None
+inert-none es ks (row.Scalar k) h = h
+inert-none es ks (row.Named d) h = ap (option_and_then ks) h
+inert-none es ks (row.Pointer i) h = absurd h
+inert-none es ks (row.Nullable i) h = absurd h
+inert-none es ks (row.Slice i) h = absurd h
+inert-none es ks (row.Array n i) h = absurd h
+inert-none es ks (row.Struct fs) h = absurd h
+inert-none es ks (row.Tuple is) h = absurd h
+inert-none es ks (row.Union is) h = absurd h
+inert-none es ks (row.Error i) h = absurd h
+
+-- under other definitions
+pub inert-other : (es new : List (ℕ × Declared)) (d : ℕ) → ((q : ℕ) → (d ≡ q) ⊎ (defined new q ≡ defined es q)) → (r : Row) → IsInert es r → IsInert new r ⊎ (r ≡ row.Named d)
+inert-other es new d same (row.Scalar k) h = inl h
+inert-other es new d same (row.Named q) h = by (same q)
+  where
+    by : (d ≡ q) ⊎ (defined new q ≡ defined es q) → (defined new q ≡ None) ⊎ (row.Named q ≡ row.Named d)
+    by (inl e) = inr (ap row.Named (sym e))
+    by (inr e) = inl (e ∙ h)
+inert-other es new d same (row.Pointer i) h = absurd h
+inert-other es new d same (row.Nullable i) h = absurd h
+inert-other es new d same (row.Slice i) h = absurd h
+inert-other es new d same (row.Array n i) h = absurd h
+inert-other es new d same (row.Struct fs) h = absurd h
+inert-other es new d same (row.Tuple is) h = absurd h
+inert-other es new d same (row.Union is) h = absurd h
+inert-other es new d same (row.Error i) h = absurd h
+
+pub inert-same : (es new : List (ℕ × Declared)) → ((q : ℕ) → defined new q ≡ defined es q) → (r : Row) → IsInert es r → IsInert new r
+inert-same es new same (row.Scalar k) h = h
+inert-same es new same (row.Named q) h = same q ∙ h
+inert-same es new same (row.Pointer i) h = absurd h
+inert-same es new same (row.Nullable i) h = absurd h
+inert-same es new same (row.Slice i) h = absurd h
+inert-same es new same (row.Array n i) h = absurd h
+inert-same es new same (row.Struct fs) h = absurd h
+inert-same es new same (row.Tuple is) h = absurd h
+inert-same es new same (row.Union is) h = absurd h
+inert-same es new same (row.Error i) h = absurd h
+
+-- with one more row
+pub AreQuiet-intern : (rows : List Row) (es : List (ℕ × Declared)) (ks : List (Option Extent)) → length ks ≡ length rows → (r : Row) (o : Option Extent) → (o ≡ None → IsInert es r) → AreQuiet rows es ks
+    → (new : List Row) → (new ≡ rows) ⊎ (new ≡ rows ++ r ∷ []) → AreQuiet new es (take (length new) (ks ++ o ∷ []))
+AreQuiet-intern rows es ks as_many r o inert quiet new (inl e) =
+    let cut : take (length rows) (ks ++ o ∷ []) ≡ ks = ap (λ n. take n (ks ++ o ∷ [])) (sym as_many) ∙ take-append_seam ks (o ∷ []) in
+    subst (λ l. AreQuiet l es (take (length l) (ks ++ o ∷ []))) (sym e) (subst (AreQuiet rows es) (sym cut) quiet)
+AreQuiet-intern rows es ks as_many r o inert quiet new (inr e) =
+    let as_long : length (rows ++ r ∷ []) ≡ length (ks ++ o ∷ []) = omega (arith, length-append ks (o ∷ []), length-append rows (r ∷ []), as_many) in
+    let cut : take (length (rows ++ r ∷ [])) (ks ++ o ∷ []) ≡ ks ++ o ∷ [] = ap (λ n. take n (ks ++ o ∷ [])) as_long ∙ take-length (ks ++ o ∷ []) in
+    subst (λ l. AreQuiet l es (take (length l) (ks ++ o ∷ []))) (sym e) (subst (AreQuiet (rows ++ r ∷ []) es) (sym cut) pushed)
+  where
+    pushed : AreQuiet (rows ++ r ∷ []) es (ks ++ o ∷ [])
+    pushed i q h f = by (slice_get_push rows r i q h)
+      where
+        by : (slice_get rows i ≡ Some q) ⊎ ((i ≡ length rows) × (q ≡ r)) → IsInert es q
+        by (inl g) =
+            let below : i < length rows = slice_get_within rows i q g in
+            quiet i q g (sym (known-front ks (o ∷ []) i (omega (arith, as_many))) ∙ f)
+        by (inr g) =
+            let place : i ≡ length ks = g.0 ∙ sym as_many in
+            let last : known (ks ++ o ∷ []) (length ks) ≡ o = get_or-append_seam ks o [] None in
+            subst (IsInert es) (sym g.1) (inert (sym last ∙ ap (known (ks ++ o ∷ [])) (sym place) ∙ f))
+
+-- what is not known once one more is known was not known before
+pub known-set_none : (ks : List (Option Extent)) (i j : ℕ) (x : Extent) → i < length ks → known ks i ≡ None → known (set ks i (Some x)) j ≡ None → known ks j ≡ None
+known-set_none ks i j x l e f = by (nat_eq i j) refl
+  where
+    by : (b : Bool) → nat_eq i j ≡ b → known ks j ≡ None
+    by true g = subst (λ n. known ks n ≡ None) ((unsigned_Decides i j).0 g) e
+    by false g =
+        let other : j ≢ i = λ h. true≢false (sym ((unsigned_Decides i j).1 (sym h)) ∙ g) in
+        sym (get_or-set_other ks i j (Some x) None other) ∙ f
+
+pub known-set_some : (ks : List (Option Extent)) (i : ℕ) (x : Extent) → i < length ks → IsSome (known (set ks i (Some x)) i)
+known-set_some ks i x l = subst IsSome (sym (get_or-set_same ks i (Some x) None l)) refl
+
+-- where only the row of one name may wait
+module _ (rows : List Row) (es : List (ℕ × Declared)) (old new : List (Option Extent)) (d : ℕ) (quiet : AreQuietBut d rows es old)
+    (only : (j : ℕ) → known new j ≡ None → known old j ≡ None) (named : (i : ℕ) → slice_get rows i ≡ Some (row.Named d) → known new i ≡ None → ⊥) where
+  pub quiet-after : AreQuiet rows es new
+  quiet-after i r e f = by (quiet i r e (only i f))
+    where
+      by : IsInert es r ⊎ (r ≡ row.Named d) → IsInert es r
+      by (inl h) = h
+      by (inr h) = absurd (named i (e ∙ ap Some h) f)
+
+  pub settled-after : (i : ℕ) → IsSettled rows es new i
+  settled-after i r e f = inert-none es (known new) r (quiet-after i r e f)
+
+-- where the row of the name waits
+pub settled-but : (rows : List Row) (es : List (ℕ × Declared)) (ks : List (Option Extent)) (d : ℕ) → AreQuietBut d rows es ks → ((i : ℕ) → slice_get rows i ≡ Some (row.Named d) → IsSettled rows es ks i)
+    → (i : ℕ) → IsSettled rows es ks i
+settled-but rows es ks d quiet named i r e f = by (quiet i r e f)
+  where
+    by : IsInert es r ⊎ (r ≡ row.Named d) → extent_over (defined es) (known ks) r ≡ None
+    by (inl h) = inert-none es (known ks) r h
+    by (inr h) = named i (e ∙ ap Some h) r e f
+
+pub AreQuiet-empty : (rows : List Row) (es : List (ℕ × Declared)) (ks : List (Option Extent)) → rows ≡ [] → AreQuiet rows es ks
+AreQuiet-empty rows es ks e i r h f =
+    let none : None ≡ Some r = sym (ap (λ l. slice_get l i) e) ∙ h in
+    absurd cc
+
+-- what looking at the row of the name leaves
+module _ (rows : List Row) (once : IsOnce rows) (es : List (ℕ × Declared)) (old new : List (Option Extent)) (d : ℕ) (quiet : AreQuietBut d rows es old) (place : ℕ)
+    (here : slice_get rows place ≡ Some (row.Named d)) (entered : Bool) (there : entered ≡ true → IsSome (known new place)) (only : (j : ℕ) → known new j ≡ None → known old j ≡ None)
+    (done : entered ≡ false → (new ≡ old) × IsSettled rows es new place) where
+  not_there : entered ≡ true → (i : ℕ) → slice_get rows i ≡ Some (row.Named d) → known new i ≡ None → ⊥
+  not_there t i e f =
+      let same : place ≡ i = once.once place i (row.Named d) here e in
+      let some : IsSome (known new i) = subst (λ n. IsSome (known new n)) same (there t) in
+      let nothing : false ≡ true = subst IsSome f some in
+      absurd cc
+
+  pub look-quiet : entered ≡ true → AreQuiet rows es new
+  look-quiet t = quiet-after rows es old new d quiet only (not_there t)
+
+  pub look-settled : (i : ℕ) → IsSettled rows es new i
+  look-settled = by entered refl
+    where
+      by : (b : Bool) → entered ≡ b → (i : ℕ) → IsSettled rows es new i
+      by true t = settled-after rows es old new d quiet only (not_there t)
+      by false t =
+          settled-but rows es new d (subst (AreQuietBut d rows es) (sym (done t).0) quiet)
+          (λ i e. subst (IsSettled rows es new) (once.once place i (row.Named d) here e) (done t).1)

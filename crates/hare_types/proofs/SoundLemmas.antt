@@ -175,3 +175,15 @@ definitions-kept es new d t known fresh put q i e = by (lookup (nat_eq d) es) re
         let nothing : false ≡ true = subst (λ o. IsSome (option_map (λ x. x.sized) o)) g known in
         absurd cc
     by (Some entry) g = at entry (defined-there es new d t entry g (subst (λ o. IfSome o (λ x. (q : ℕ) → lookup (nat_eq q) new ≡ cond (nat_eq d q) (Some (record x { definition = Some t })) (lookup (nat_eq q) es))) g put) q)
+
+-- the other names' definitions are those that they had
+pub definitions-there : (es new : List (ℕ × Declared)) (d t : ℕ) → IsSome (option_map (λ e. e.sized) (lookup (nat_eq d) es))
+    → IfSome (lookup (nat_eq d) es) (λ e. (q : ℕ) → lookup (nat_eq q) new ≡ cond (nat_eq d q) (Some (record e { definition = Some t })) (lookup (nat_eq q) es))
+    → (q : ℕ) → (d ≡ q) ⊎ (option_and_then (λ e. e.definition) (lookup (nat_eq q) new) ≡ option_and_then (λ e. e.definition) (lookup (nat_eq q) es))
+definitions-there es new d t known put q = by (lookup (nat_eq d) es) refl
+  where
+    by : (o : Option Declared) → lookup (nat_eq d) es ≡ o → (d ≡ q) ⊎ (option_and_then (λ e. e.definition) (lookup (nat_eq q) new) ≡ option_and_then (λ e. e.definition) (lookup (nat_eq q) es))
+    by None g =
+        let nothing : false ≡ true = subst (λ o. IsSome (option_map (λ x. x.sized) o)) g known in
+        absurd cc
+    by (Some entry) g = defined-there es new d t entry g (subst (λ o. IfSome o (λ x. (q : ℕ) → lookup (nat_eq q) new ≡ cond (nat_eq d q) (Some (record x { definition = Some t })) (lookup (nat_eq q) es))) g put) q

@@ -1,5 +1,5 @@
 -- Extents that are kept beside the rows of a store.
-use Rattle.std.specs.Prelude.{◌≡◌, ℕ, suc, ◌≤◌, ◌*◌, min, nat_eq, List, [], ◌∷◌, length, map, slice_get, slice_index_or, Some, None, Option, option_map, option_and_then}
+use Rattle.std.specs.Prelude.{◌≡◌, ℕ, suc, Bool, false, ◌⊎◌, ◌≤◌, ◌*◌, min, nat_eq, List, [], ◌∷◌, length, map, slice_get, slice_index_or, Some, None, Option, option_map, option_and_then}
 use Rattle.std.specs.Map.{lookup}
 use Rattle.hare_types.specs.declared.declared.Declared.{Declared}
 use Rattle.hare_types.specs.declared.extent.Extent.{Extent}
@@ -85,8 +85,23 @@ unknown [] = 0
 unknown (None ∷ ks) = suc (unknown ks)
 unknown (Some x ∷ ks) = unknown ks
 
--- what holds of a store and of the extents that are kept beside its rows
-pub record IsKept (s : Store) (ks : List (Option Extent)) : Type 0 where
+-- the row has no extent, whatever other rows have: never and opaque, and a name that is not defined
+abbrev pub IsInert : List (ℕ × Declared) → Row → Type 0
+IsInert es (row.Scalar k) = scalar_extent k ≡ None
+IsInert es (row.Named d) = defined es d ≡ None
+IsInert es _ = ⊥
+
+-- no row waits for another
+abbrev pub AreQuiet : List Row → List (ℕ × Declared) → List (Option Extent) → Type 0
+AreQuiet rows es ks = (i : ℕ) (r : Row) → slice_get rows i ≡ Some r → known ks i ≡ None → IsInert es r
+
+-- the same, but for the name d
+abbrev pub AreQuietBut : ℕ → List Row → List (ℕ × Declared) → List (Option Extent) → Type 0
+AreQuietBut d rows es ks = (i : ℕ) (r : Row) → slice_get rows i ≡ Some r → known ks i ≡ None → IsInert es r ⊎ (r ≡ row.Named d)
+
+-- what holds of a store, of the extents that are kept beside its rows, and of whether rows may wait for others
+pub record IsKept (s : Store) (ks : List (Option Extent)) (waits : Bool) : Type 0 where
   pub store : IsStore s
   pub extents : KeepsExtents s ks
   pub settled : (i : ℕ) → IsSettled s.rows s.declared ks i
+  pub quiet : waits ≡ false → AreQuiet s.rows s.declared ks

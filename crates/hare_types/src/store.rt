@@ -16,13 +16,15 @@ use crate::id::TypeId;
 use crate::measure::{extent_over, known};
 use crate::numbering::number;
 use crate::row::Row;
-use crate::settle::settle;
+use crate::settle::{settle, still_waits};
 use indexmap::{IndexMap, IndexSet};
 use std::alloc::{AllocError, Global};
 use std::marker::Model;
 
 /// The types of a program, each under one id, the spellings of names, each under one number, the declared types, and the list of
 /// the types that have tags.
+///
+/// Beside each type its extent is kept, so that it is found in constant time.
 ///
 /// A store that holds 2^32 - 1 names, types or listed types answers `AllocError` to one more.
 #[derive(Drop)]
@@ -32,6 +34,7 @@ pub struct TypeStore {
     declared: IndexMap<u32, Declared>,
     listed: IndexSet<TypeId>,
     extents: Vec<Option<Extent>>,
+    waits: bool,
 }
 
 impl Model for TypeStore {
@@ -43,7 +46,7 @@ impl Model for TypeStore {
 
     ghost view = { λ a. record { names = map (λ v. v.items) a.names.keys; rows = a.rows.keys; declared = a.declared.entries; listed = a.listed.keys } };
 
-    ghost invariant = { λ a. IsKept (record { names = map (λ v. v.items) a.names.keys; rows = a.rows.keys; declared = a.declared.entries; listed = a.listed.keys }) a.extents.items };
+    ghost invariant = { λ a. IsKept (record { names = map (λ v. v.items) a.names.keys; rows = a.rows.keys; declared = a.declared.entries; listed = a.listed.keys }) a.extents.items a.waits };
 }
 
 impl TypeStore {
@@ -57,6 +60,7 @@ impl TypeStore {
             declared: IndexMap::new(alloc),
             listed: IndexSet::new(alloc),
             extents: Vec::new(alloc),
+            waits: false,
         }
     }
 
@@ -104,6 +108,9 @@ impl TypeStore {
     }
 
     /// Enters what a declared type is defined to be. The type neither is nor holds by value that name.
+    ///
+    /// The time is constant, unless a type that was taken in holds a name by value that was not defined then: until such names are
+    /// defined, each definition looks at all types once, and again for each name that one of them waited for.
     pub fn define(&mut self, decl: u32, t: TypeId)
         requires declared { IsSome (sized_of self.old decl) }
         requires fresh { definition_of self.old decl ≡ None }
@@ -117,7 +124,7 @@ impl TypeStore {
         ensures grows { Extends self.old self.new }
     {
         set_definition(&mut self.declared, decl, t);
-        settle(self.rows.as_slice(), &self.declared, &mut self.extents);
+        self.waits = settle(&self.rows, &self.declared, &mut self.extents, self.waits, decl);
     }
 
     /// What a type is defined to be, `None` where nothing was entered.
@@ -164,10 +171,12 @@ impl TypeStore {
         ensures err { OnErr result (self.new ≡ self.old) }
     {
         let extent = extent_over(&r, &self.declared, self.extents.as_slice());
+        let waits = still_waits(self.waits, extent, &r, &self.declared);
         self.extents.push(extent)?;
         let numbered = number(&mut self.rows, r);
         self.extents.truncate(self.rows.len());
         let place = numbered?;
+        self.waits = waits;
         Ok(TypeId::at(place))
     }
 

@@ -4,7 +4,7 @@ use Rattle.std.specs.Map.{lookup}
 use Rattle.indexmap.proofs.CallerLemmas.{insert_entry-new}
 use Rattle.hare_types.specs.declared.declared.Declared.{Declared}
 use Rattle.hare_types.proofs.DefinitionLemmas.{declared-definition}
-use Rattle.hare_types.proofs.KeptLemmas.{KeepsExtents-defined, IsSettled-declared}
+use Rattle.hare_types.proofs.KeptLemmas.{KeepsExtents-defined, IsSettled-declared, inert-same}
 use Rattle.hare_types.proofs.SoundLemmas.{IsStore-declared}
 use Rattle.hare_types.proofs.store.TypeStore.declare.Goals as goal
 
@@ -23,6 +23,7 @@ invariant_of-self-2 c = record {
       KeepsExtents-defined _ c.insert.new.self.entries c.self.inside.extents.items
       (λ d t e. declared-definition c.self.inside.declared.entries c.insert.new.self.entries c.args.decl _ refl (fresh c) c.in_ok-insert.ensures.updates.0 d ∙ e) c.self.invariant.extents;
   settled = λ i. IsSettled-declared c.self.inside.rows.keys c.self.inside.declared.entries c.insert.new.self.entries c.self.inside.extents.items (declared-definition c.self.inside.declared.entries c.insert.new.self.entries c.args.decl _ refl (fresh c) c.in_ok-insert.ensures.updates.0) i (c.self.invariant.settled i);
+  quiet = λ w i r e f. inert-same c.self.inside.declared.entries c.insert.new.self.entries (declared-definition c.self.inside.declared.entries c.insert.new.self.entries c.args.decl _ refl (fresh c) c.in_ok-insert.ensures.updates.0) r (c.self.invariant.quiet w i r e f);
 }
 
 pub returns-clause-ok : goal.returns-clause-ok

@@ -7,8 +7,8 @@ use Rattle.hare_types.specs.KeyLaws.{row_eq-Decides}
 use Rattle.hare_types.specs.Keys.{row_eq}
 use Rattle.hare_types.specs.Numbering.{IsNumbered, IsOnce}
 use Rattle.hare_types.specs.Rows.{IsWithin, IsReduced, AreRows, trees}
-use Rattle.hare_types.specs.Kept.{known, defined, extent_over, KeepsExtents, IsSettled}
-use Rattle.hare_types.proofs.KeptLemmas.{KeepsExtents-intern, IsSettled-intern}
+use Rattle.hare_types.specs.Kept.{known, defined, extent_over, KeepsExtents, IsSettled, AreQuiet}
+use Rattle.hare_types.proofs.KeptLemmas.{KeepsExtents-intern, IsSettled-intern, AreQuiet-intern}
 use Rattle.hare_types.proofs.NumberingLemmas.{plain_numbered, plain_once}
 use Rattle.hare_types.proofs.InternLemmas.{AreRows-new, stands_new, once_new, kept_new, Continues-grows}
 use Rattle.hare_types.proofs.store.TypeStore.intern.Goals as goal
@@ -48,6 +48,10 @@ invariant_of-self-2 c =
       settled =
           subst (λ ks. (i : ℕ) → IsSettled c.number-numbered.new.set.keys c.self.inside.declared.entries ks i) (sym cut)
           (IsSettled-intern c.self.inside.rows.keys c.self.invariant.store.rows_sound c.args.r (within c) c.self.inside.declared.entries c.self.invariant.store.defined_within c.self.inside.extents.items c.self.invariant.extents.as_many c.extent_over-extent.result value c.self.invariant.settled c.number-numbered.new.set.keys (numbered c).grows);
+      quiet = λ w.
+          subst (AreQuiet c.number-numbered.new.set.keys c.self.inside.declared.entries) (sym cut)
+          (AreQuiet-intern c.self.inside.rows.keys c.self.inside.declared.entries c.self.inside.extents.items c.self.invariant.extents.as_many c.args.r c.extent_over-extent.result (c.still_waits-waits.ensures.row w)
+           (c.self.invariant.quiet (c.still_waits-waits.ensures.before w)) c.number-numbered.new.set.keys (numbered c).grows);
     }
 
 pub returns-clause-numbered : goal.returns-clause-numbered

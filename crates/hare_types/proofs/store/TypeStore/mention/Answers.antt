@@ -19,6 +19,7 @@ invariant_of-self-2 c = record {
   store = IsStore-listed _ c.number.new.set.keys c.self.invariant.store (once c) c.number.ensures.few;
   extents = KeepsExtents-same _ _ c.self.inside.extents.items refl refl c.self.invariant.extents;
   settled = c.self.invariant.settled;
+  quiet = c.self.invariant.quiet;
 }
 
 pub returns-clause-tag : goal.returns-clause-tag

@@ -32,6 +32,7 @@ invariant_of-self-2 c = record {
   store = IsStore-names _ (map (λ (v : Vec ℕ Global). v.items) c.number.new.set.keys) c.self.invariant.store (name_once c) (rw length-map c.number.ensures.few);
   extents = KeepsExtents-same _ _ c.self.inside.extents.items refl refl c.self.invariant.extents;
   settled = c.self.invariant.settled;
+  quiet = c.self.invariant.quiet;
 }
 
 pub returns-clause-numbered : goal.returns-clause-numbered

@@ -2,7 +2,7 @@ use Rattle.std.proofs.Common.{◌≡◌, length}
 use Rattle.hare_types.specs.Sound.{IsStore}
 use Rattle.hare_types.specs.Store.{Store}
 use Rattle.hare_types.specs.Kept.{AreBounded, KeepsExtents, unknown}
-use Rattle.hare_types.proofs.settle.settle.Given as goal
+use Rattle.hare_types.proofs.settle.sweep_all.Given as goal
 
 abbrev pub invariant-loop : goal.invariant-loop
 invariant-loop l =
