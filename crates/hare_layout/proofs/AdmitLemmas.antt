@@ -7,13 +7,11 @@ use Rattle.hare_tree.specs.declared.place.Fault.{Fault}
 use Rattle.hare_tree.specs.declared.stop.Stop.{Stop}
 use Rattle.hare_tree.specs.declared.stop.Stop.TheVariants as stop
 use Rattle.hare_types.specs.declared.extent.Extent.{Extent}
-use Rattle.hare_types.specs.declared.row.Row.{Row}
 use Rattle.hare_types.specs.Trees.{Tree}
-use Rattle.hare_types.specs.Rows.{tree_of, trees, IsWithin}
+use Rattle.hare_types.specs.Rows.{tree_of, trees}
 use Rattle.hare_types.specs.Store.{Store, meaning_of}
 use Rattle.hare_types.specs.Sound.{IsStore}
 use Rattle.hare_types.specs.Layout.{following, extent_with, HasExtent}
-use Rattle.hare_types.proofs.TreeLemmas.{IsWithin-le}
 use Rattle.hare_layout.specs.declared.spelled.Spelled.{Spelled}
 use Rattle.hare_layout.specs.declared.reduce.Reduced.{Reduced}
 use Rattle.hare_layout.specs.declared.reduce.Reduced.TheVariants.{Known, Fresh}
@@ -21,38 +19,29 @@ use Rattle.hare_layout.specs.Capped.{cap, capped_with, names_capped}
 use Rattle.hare_layout.specs.Reduction.{written, AreLeft, type_of, IsReducedTo}
 use Rattle.hare_layout.specs.Admission.{Check, Spreading, Sized, Inhabited, Narrow, Small, PassesAll, IsFirstOf, IsTooLarge, IsFault, IsAdmitted, StopsAt}
 use Rattle.hare_layout.specs.Reduced.{IsReduction, StopsEarly, IsHere, tree_of_reduced, IsLarge}
-use Rattle.hare_layout.proofs.CallerLemmas.{extent_with-near}
-use Rattle.hare_layout.proofs.CappedLemmas.{mapped, following_capped}
-use Rattle.hare_layout.proofs.MeasureLemmas.{capped_by-following}
-use Rattle.hare_layout.proofs.NamesLemmas.{names_enough}
+use Rattle.hare_layout.proofs.KnownLemmas.{all_names, capped-following}
+use Rattle.hare_layout.proofs.CappedLemmas.{mapped}
 use Rattle.hare_layout.proofs.ReduceLemmas.{one_left}
 use Rattle.hare_layout.proofs.SpreadLemmas.{id-tree_at}
 
 -- ---- sizes
 
--- the capped extent that is found, where as many names are followed as are declared
-found : (s : Store) (u : Tree) (o : Option Extent) → o ≡ capped_with (names_capped s (length s.declared)) u → o ≡ option_map cap (following extent_with (meaning_of s) (length s.declared) u)
-found s u o e = e ∙ capped_by-following s (length s.declared) u ∙ following_capped (meaning_of s) (length s.declared) u
-
-all_names : (s : Store) → IsStore s → (u : Tree) (x : Extent) → HasExtent s u x → following extent_with (meaning_of s) (length s.declared) u ≡ Some x
-all_names s v u x h = names_enough extent_with extent_with-near s v h.0 u x h.1
-
 large-some : (s : Store) (u : Tree) (x : Extent) → Some x ≡ capped_with (names_capped s (length s.declared)) u → 67108864 < x.size → IsLarge s u
 large-some s u x e l =
-    let k = mapped cap (following extent_with (meaning_of s) (length s.declared) u) x (sym (found s u (Some x) e)) in
+    let k = mapped cap (following extent_with (meaning_of s) (length s.declared) u) x (sym (e ∙ capped-following s u)) in
     let size = ap (λ y. y.size) k.2 in
     (k.0, (length s.declared, k.1), omega arith)
 
 some-large : (s : Store) → IsStore s → (u : Tree) (x : Extent) → Some x ≡ capped_with (names_capped s (length s.declared)) u → IsLarge s u → 67108864 < x.size
 some-large s v u x e h =
-    let same : Some x ≡ Some (cap h.0) = found s u (Some x) e ∙ ap (option_map cap) (all_names s v u h.0 h.1) in
+    let same : Some x ≡ Some (cap h.0) = e ∙ capped-following s u ∙ ap (option_map cap) (all_names s v u h.0 h.1) in
     let size : x.size ≡ (cap h.0).size = ap (λ y. y.size) (let capped : x ≡ cap h.0 = cc in capped) in
     let large = h.2 in
     omega arith
 
 pub none-large : (s : Store) → IsStore s → (u : Tree) → None ≡ capped_with (names_capped s (length s.declared)) u → ¬ IsLarge s u
 none-large s v u e h =
-    let both = found s u None e ∙ ap (option_map cap) (all_names s v u h.0 h.1) in
+    let both = e ∙ capped-following s u ∙ ap (option_map cap) (all_names s v u h.0 h.1) in
     absurd cc
 
 -- what the test of the size says
@@ -64,10 +53,6 @@ tells-large s v u x e = (λ h. large-some s u x e (less 67108864 x.size h), λ h
 
     more : (a b : ℕ) → a < b → nat_lt a b ≡ true
     more a b h = grind (arith, nat_tests)
-
--- ids are below the greatest number
-pub within_all : (s : Store) → IsStore s → (q : Row) → IsWithin (length s.rows) q → IsWithin 4294967295 q
-within_all s v q h = IsWithin-le (length s.rows) 4294967295 q v.rows_few h
 
 -- ---- the reduced type
 

@@ -118,69 +118,102 @@ capped_word Int = refl
 capped_word Uint = refl
 capped_word Size = refl
 
+-- a number that the alignment of a type may be
+abbrev pub IsAlignment : ℕ → Type 0
+IsAlignment a = (1 ≤ a) × (a ≤ 8)
+
 -- the alignment of a value that is known is
-aligned : (n a : ℕ) (x : Extent) → 1 ≤ a → Some (record { size = n; align = a }) ≡ Some x → 1 ≤ x.align
+aligned : (n a : ℕ) (x : Extent) → IsAlignment a → Some (record { size = n; align = a }) ≡ Some x → IsAlignment x.align
 aligned n a x h e =
     let y : Extent = record { size = n; align = a } in
     let same : y ≡ x = cc in
-    subst (λ z. 1 ≤ z.align) same h
+    subst (λ z. IsAlignment z.align) same h
 
-low_word : (k : Keyword) (x : Extent) → scalar_extent k ≡ Some x → 1 ≤ x.align
-low_word Void x e = aligned _ _ x (lit≤ tt) e
-low_word Never x e = absurd cc
-low_word Opaque x e = absurd cc
-low_word BoolWord x e = aligned _ _ x (lit≤ tt) e
-low_word Rune x e = aligned _ _ x (lit≤ tt) e
-low_word Str x e = aligned _ _ x (lit≤ tt) e
-low_word I8 x e = aligned _ _ x (lit≤ tt) e
-low_word I16 x e = aligned _ _ x (lit≤ tt) e
-low_word I32 x e = aligned _ _ x (lit≤ tt) e
-low_word I64 x e = aligned _ _ x (lit≤ tt) e
-low_word U8 x e = aligned _ _ x (lit≤ tt) e
-low_word U16 x e = aligned _ _ x (lit≤ tt) e
-low_word U32 x e = aligned _ _ x (lit≤ tt) e
-low_word U64 x e = aligned _ _ x (lit≤ tt) e
-low_word Int x e = aligned _ _ x (lit≤ tt) e
-low_word Uint x e = aligned _ _ x (lit≤ tt) e
-low_word Size x e = aligned _ _ x (lit≤ tt) e
+aligned_word : (k : Keyword) (x : Extent) → scalar_extent k ≡ Some x → IsAlignment x.align
+aligned_word Void x e = aligned _ _ x (lit≤ tt, lit≤ tt) e
+aligned_word Never x e = absurd cc
+aligned_word Opaque x e = absurd cc
+aligned_word BoolWord x e = aligned _ _ x (lit≤ tt, lit≤ tt) e
+aligned_word Rune x e = aligned _ _ x (lit≤ tt, lit≤ tt) e
+aligned_word Str x e = aligned _ _ x (lit≤ tt, lit≤ tt) e
+aligned_word I8 x e = aligned _ _ x (lit≤ tt, lit≤ tt) e
+aligned_word I16 x e = aligned _ _ x (lit≤ tt, lit≤ tt) e
+aligned_word I32 x e = aligned _ _ x (lit≤ tt, lit≤ tt) e
+aligned_word I64 x e = aligned _ _ x (lit≤ tt, lit≤ tt) e
+aligned_word U8 x e = aligned _ _ x (lit≤ tt, lit≤ tt) e
+aligned_word U16 x e = aligned _ _ x (lit≤ tt, lit≤ tt) e
+aligned_word U32 x e = aligned _ _ x (lit≤ tt, lit≤ tt) e
+aligned_word U64 x e = aligned _ _ x (lit≤ tt, lit≤ tt) e
+aligned_word Int x e = aligned _ _ x (lit≤ tt, lit≤ tt) e
+aligned_word Uint x e = aligned _ _ x (lit≤ tt, lit≤ tt) e
+aligned_word Size x e = aligned _ _ x (lit≤ tt, lit≤ tt) e
 
 -- ---- of types: each has an alignment
+
+abbrev AreAligned : List Extent → Type 0
+AreAligned [] = Unit {0}
+AreAligned (x ∷ xs) = IsAlignment x.align × AreAligned xs
+
+all_low : (xs : List Extent) → AreAligned xs → AreLow xs
+all_low [] h = tt
+all_low (x ∷ xs) h = (h.0.0, all_low xs h.1)
+
+high_align : (xs : List Extent) → AreAligned xs → greatest_align xs ≤ 8
+high_align [] h = omega arith
+high_align (x ∷ xs) h =
+    let ih = high_align xs h.1 in
+    let here = h.0.1 in
+    omega arith
 
 pub mapped : {A B : Type 0} (f : A → B) (o : Option A) (b : B) → option_map f o ≡ Some b → (a : A) × (o ≡ Some a) × (f a ≡ b)
 mapped f None b e = absurd cc
 mapped f (Some a) b e = (a, refl, cc)
 
-abbrev KnowsLow : (ℕ → Option Extent) → Type 0
-KnowsLow named = (d : ℕ) (x : Extent) → named d ≡ Some x → 1 ≤ x.align
+abbrev KnowsAligned : (ℕ → Option Extent) → Type 0
+KnowsAligned named = (d : ℕ) (x : Extent) → named d ≡ Some x → IsAlignment x.align
 
-joined_low : (o : Option Extent) (p : Option (List Extent)) (xs : List Extent) → ((x : Extent) → o ≡ Some x → 1 ≤ x.align) → ((ys : List Extent) → p ≡ Some ys → AreLow ys)
-    → option_and_then (λ x. option_map (λ ys. x ∷ ys) p) o ≡ Some xs → AreLow xs
-joined_low None p xs f g e = absurd cc
-joined_low (Some x) None xs f g e = absurd cc
-joined_low (Some x) (Some ys) xs f g e =
+joined_aligned : (o : Option Extent) (p : Option (List Extent)) (xs : List Extent) → ((x : Extent) → o ≡ Some x → IsAlignment x.align) → ((ys : List Extent) → p ≡ Some ys → AreAligned ys)
+    → option_and_then (λ x. option_map (λ ys. x ∷ ys) p) o ≡ Some xs → AreAligned xs
+joined_aligned None p xs f g e = absurd cc
+joined_aligned (Some x) None xs f g e = absurd cc
+joined_aligned (Some x) (Some ys) xs f g e =
     let same : x ∷ ys ≡ xs = cc in
-    subst AreLow same (f x refl, g ys refl)
+    subst AreAligned same (f x refl, g ys refl)
+
+fields_aligned : (xs : List Extent) → AreAligned xs → IsAlignment (fields_extent xs).align
+fields_aligned xs h = (low_align xs, high_align xs h)
+
+union_aligned : (xs : List Extent) → AreAligned xs → IsAlignment (union_extent xs).align
+union_aligned xs h =
+    let high = high_align xs h in
+    (omega arith, omega arith)
 
 mutual
-  extent_low : (named : ℕ → Option Extent) → KnowsLow named → (t : Tree) (x : Extent) → extent_with named t ≡ Some x → 1 ≤ x.align
-  extent_low named low (Word k) x e = low_word k x e
-  extent_low named low (Pointer t) x e = aligned 8 8 x (lit≤ tt) e
-  extent_low named low (Nullable t) x e = aligned 8 8 x (lit≤ tt) e
-  extent_low named low (Slice t) x e = aligned 24 8 x (lit≤ tt) e
-  extent_low named low (Array n t) x e =
+  extent_aligned : (named : ℕ → Option Extent) → KnowsAligned named → (t : Tree) (x : Extent) → extent_with named t ≡ Some x → IsAlignment x.align
+  extent_aligned named known (Word k) x e = aligned_word k x e
+  extent_aligned named known (Pointer t) x e = aligned 8 8 x (lit≤ tt, lit≤ tt) e
+  extent_aligned named known (Nullable t) x e = aligned 8 8 x (lit≤ tt, lit≤ tt) e
+  extent_aligned named known (Slice t) x e = aligned 24 8 x (lit≤ tt, lit≤ tt) e
+  extent_aligned named known (Array n t) x e =
       let h = mapped (items n) (extent_with named t) x e in
-      subst (λ z. 1 ≤ z.align) h.2 (extent_low named low t h.0 h.1)
-  extent_low named low (Struct ns ts) x e = let h = mapped fields_extent (extents_with named ts) x e in subst (λ z. 1 ≤ z.align) h.2 (low_align h.0)
-  extent_low named low (Tuple ts) x e = let h = mapped fields_extent (extents_with named ts) x e in subst (λ z. 1 ≤ z.align) h.2 (low_align h.0)
-  extent_low named low (Union ts) x e = let h = mapped union_extent (extents_with named ts) x e in subst (λ z. 1 ≤ z.align) h.2 (omega arith)
-  extent_low named low (Error t) x e = extent_low named low t x e
-  extent_low named low (Named d) x e = low d x e
+      subst (λ z. IsAlignment z.align) h.2 (extent_aligned named known t h.0 h.1)
+  extent_aligned named known (Struct ns ts) x e =
+      let h = mapped fields_extent (extents_with named ts) x e in
+      subst (λ z. IsAlignment z.align) h.2 (fields_aligned h.0 (extents_aligned named known ts h.0 h.1))
+  extent_aligned named known (Tuple ts) x e =
+      let h = mapped fields_extent (extents_with named ts) x e in
+      subst (λ z. IsAlignment z.align) h.2 (fields_aligned h.0 (extents_aligned named known ts h.0 h.1))
+  extent_aligned named known (Union ts) x e =
+      let h = mapped union_extent (extents_with named ts) x e in
+      subst (λ z. IsAlignment z.align) h.2 (union_aligned h.0 (extents_aligned named known ts h.0 h.1))
+  extent_aligned named known (Error t) x e = extent_aligned named known t x e
+  extent_aligned named known (Named d) x e = known d x e
 
-  extents_low : (named : ℕ → Option Extent) → KnowsLow named → (ts : Trees) (xs : List Extent) → extents_with named ts ≡ Some xs → AreLow xs
-  extents_low named low none xs e =
+  extents_aligned : (named : ℕ → Option Extent) → KnowsAligned named → (ts : Trees) (xs : List Extent) → extents_with named ts ≡ Some xs → AreAligned xs
+  extents_aligned named known none xs e =
       let same : [] ≡ xs = cc in
-      subst AreLow same tt
-  extents_low named low (more t ts) xs e = joined_low (extent_with named t) (extents_with named ts) xs (extent_low named low t) (extents_low named low ts) e
+      subst AreAligned same tt
+  extents_aligned named known (more t ts) xs e = joined_aligned (extent_with named t) (extents_with named ts) xs (extent_aligned named known t) (extents_aligned named known ts) e
 
 -- ---- of types: the capped extents
 
@@ -200,7 +233,7 @@ cap_more (Some x) None = refl
 cap_more (Some x) (Some xs) = refl
 
 mutual
-  capped_extent : (old new : ℕ → Option Extent) → ((d : ℕ) → old d ≡ option_map cap (new d)) → KnowsLow new → (t : Tree) → capped_with old t ≡ option_map cap (extent_with new t)
+  capped_extent : (old new : ℕ → Option Extent) → ((d : ℕ) → old d ≡ option_map cap (new d)) → KnowsAligned new → (t : Tree) → capped_with old t ≡ option_map cap (extent_with new t)
   capped_extent old new same low (Word k) = capped_word k
   capped_extent old new same low (Pointer t) = refl
   capped_extent old new same low (Nullable t) = refl
@@ -208,15 +241,15 @@ mutual
   capped_extent old new same low (Array n t) =
       ap (option_map (λ x. cap (items n x))) (capped_extent old new same low t) ∙ cap_twice (λ x. cap (items n x)) (items n) (extent_with new t) (cap-array n)
   capped_extent old new same low (Struct ns ts) =
-      ap (option_map (λ xs. cap (fields_extent xs))) (all_capped_extents old new same low ts) ∙ cap_all fields_extent (extents_with new ts) (extents_low new low ts) cap-fields
+      ap (option_map (λ xs. cap (fields_extent xs))) (all_capped_extents old new same low ts) ∙ cap_all fields_extent (extents_with new ts) (λ xs e. all_low xs (extents_aligned new low ts xs e)) cap-fields
   capped_extent old new same low (Tuple ts) =
-      ap (option_map (λ xs. cap (fields_extent xs))) (all_capped_extents old new same low ts) ∙ cap_all fields_extent (extents_with new ts) (extents_low new low ts) cap-fields
+      ap (option_map (λ xs. cap (fields_extent xs))) (all_capped_extents old new same low ts) ∙ cap_all fields_extent (extents_with new ts) (λ xs e. all_low xs (extents_aligned new low ts xs e)) cap-fields
   capped_extent old new same low (Union ts) =
-      ap (option_map (λ xs. cap (union_extent xs))) (all_capped_extents old new same low ts) ∙ cap_all union_extent (extents_with new ts) (extents_low new low ts) (λ xs l. cap-union xs)
+      ap (option_map (λ xs. cap (union_extent xs))) (all_capped_extents old new same low ts) ∙ cap_all union_extent (extents_with new ts) (λ xs e. all_low xs (extents_aligned new low ts xs e)) (λ xs l. cap-union xs)
   capped_extent old new same low (Error t) = capped_extent old new same low t
   capped_extent old new same low (Named d) = same d
 
-  all_capped_extents : (old new : ℕ → Option Extent) → ((d : ℕ) → old d ≡ option_map cap (new d)) → KnowsLow new → (ts : Trees) → all_capped_with old ts ≡ option_map (map cap) (extents_with new ts)
+  all_capped_extents : (old new : ℕ → Option Extent) → ((d : ℕ) → old d ≡ option_map cap (new d)) → KnowsAligned new → (ts : Trees) → all_capped_with old ts ≡ option_map (map cap) (extents_with new ts)
   all_capped_extents old new same low none = refl
   all_capped_extents old new same low (more t ts) =
       ap₂ (λ o p. option_and_then (λ x. option_map (λ xs. x ∷ xs) p) o) (capped_extent old new same low t) (all_capped_extents old new same low ts)
@@ -224,25 +257,25 @@ mutual
 
 -- ---- where names are followed
 
-through_low : (m : ℕ → Option Tree) (n : ℕ) → ((t : Tree) (x : Extent) → following extent_with m n t ≡ Some x → 1 ≤ x.align) → KnowsLow (λ d. option_and_then (following extent_with m n) (m d))
-through_low m n low d x e = by (m d) e
+through_aligned : (m : ℕ → Option Tree) (n : ℕ) → ((t : Tree) (x : Extent) → following extent_with m n t ≡ Some x → IsAlignment x.align) → KnowsAligned (λ d. option_and_then (following extent_with m n) (m d))
+through_aligned m n low d x e = by (m d) e
   where
-    by : (o : Option Tree) → option_and_then (following extent_with m n) o ≡ Some x → 1 ≤ x.align
+    by : (o : Option Tree) → option_and_then (following extent_with m n) o ≡ Some x → IsAlignment x.align
     by None h = absurd cc
     by (Some u) h = low u x h
 
-following_low : (m : ℕ → Option Tree) (n : ℕ) (t : Tree) (x : Extent) → following extent_with m n t ≡ Some x → 1 ≤ x.align
-following_low m zero t x e = extent_low (λ d. None) (λ d y h. absurd cc) t x e
-following_low m (suc n) t x e =
-    let ih = following_low m n in
-    extent_low (λ d. option_and_then (following extent_with m n) (m d)) (through_low m n ih) t x e
+pub following_aligned : (m : ℕ → Option Tree) (n : ℕ) (t : Tree) (x : Extent) → following extent_with m n t ≡ Some x → IsAlignment x.align
+following_aligned m zero t x e = extent_aligned (λ d. None) (λ d y h. absurd cc) t x e
+following_aligned m (suc n) t x e =
+    let ih = following_aligned m n in
+    extent_aligned (λ d. option_and_then (following extent_with m n) (m d)) (through_aligned m n ih) t x e
 
 -- the capped extent is that of the extent, as many names being followed
 pub following_capped : (m : ℕ → Option Tree) (n : ℕ) (t : Tree) → following capped_with m n t ≡ option_map cap (following extent_with m n t)
 following_capped m zero t = capped_extent (λ d. None) (λ d. None) (λ d. refl) (λ d y h. absurd cc) t
 following_capped m (suc n) t =
     let ih = following_capped m n in
-    capped_extent (λ d. option_and_then (following capped_with m n) (m d)) (λ d. option_and_then (following extent_with m n) (m d)) (λ d. through ih (m d)) (through_low m n (following_low m n)) t
+    capped_extent (λ d. option_and_then (following capped_with m n) (m d)) (λ d. option_and_then (following extent_with m n) (m d)) (λ d. through ih (m d)) (through_aligned m n (following_aligned m n)) t
   where
     through : ((u : Tree) → following capped_with m n u ≡ option_map cap (following extent_with m n u)) → (o : Option Tree)
         → option_and_then (following capped_with m n) o ≡ option_map cap (option_and_then (following extent_with m n) o)

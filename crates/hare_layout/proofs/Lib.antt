@@ -5,6 +5,7 @@ pub mod CallerLemmas
 pub mod CappedLemmas
 pub mod ExtentLemmas
 pub mod GrowthLemmas
+pub mod KnownLemmas
 pub mod LeftLemmas
 pub mod MeasureLemmas
 pub mod MemberLemmas

@@ -20,25 +20,25 @@ use std::alloc::Global;
 /// The greatest size of a type, in bytes.
 const MOST_BYTES: u64 = 67_108_864;
 
-/// The extent of a type, its size capped, where at most `names` names one behind another are followed.
-fn extent_of(s: &TypeStore, t: &Reduced, names: usize) -> Option<Extent>
+/// The extent of a type, its size capped.
+fn extent_of(s: &TypeStore, t: &Reduced) -> Option<Extent>
     requires here { IsHere s.now t.now }
     requires sound { IsStore s.now }
-    ensures { result ≡ capped_with (names_capped s.now names) (tree_of_reduced s.now t.now) }
+    ensures { result ≡ capped_with (names_capped s.now (length s.now.declared)) (tree_of_reduced s.now t.now) }
 {
     match t {
-        Reduced::Known(id) => capped(s, *id, names),
-        Reduced::Fresh(row) => capped_row(s, row, u32::MAX, names),
+        Reduced::Known(id) => capped(s, *id),
+        Reduced::Fresh(row) => capped_row(s, row),
     }
 }
 
 /// Whether it is known that a type has more than 67,108,864 bytes.
 fn is_too_large(s: &TypeStore, t: &Reduced) -> bool
-    requires { IsHere s.now t.now }
-    ensures large { IsTrue result ↔ IsLarge s.now (tree_of_reduced s.now t.now) }
-    ensures sound { IsStore s.now }
+    requires here { IsHere s.now t.now }
+    requires sound { IsStore s.now }
+    ensures { IsTrue result ↔ IsLarge s.now (tree_of_reduced s.now t.now) }
 {
-    match extent_of(s, t, s.declarations()) {
+    match extent_of(s, t) {
         Some(x) => x.size > MOST_BYTES,
         None => false,
     }

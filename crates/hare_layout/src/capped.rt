@@ -42,7 +42,7 @@ fn round_up(n: u128, align: u64) -> u128
 }
 
 /// So many bytes, capped.
-fn cap(size: u128, align: u64) -> Extent
+pub(crate) fn cap(size: u128, align: u64) -> Extent
     requires low { 1 ≤ align }
     requires high { align ≤ 8 }
     ensures value { result ≡ cap (record { size = size; align = align }) }

@@ -2,6 +2,7 @@
 
 ghost use Rattle.std.specs.Prelude.{◌≡◌, ◌≤◌, [], ◌∷◌, length, Some, None, IfOk, IfErr, OnOk};
 ghost use Rattle.hare_types.specs.Rows.{IsWithin};
+ghost use Rattle.hare_types.specs.Sound.{IsStore};
 ghost use Rattle.hare_layout.specs.Reduction.{written};
 ghost use Rattle.hare_layout.specs.Admission.{Spreading, Sized, Inhabited, Narrow, PassesAll};
 ghost use Rattle.hare_layout.specs.Ids.{AreIds};
@@ -44,14 +45,17 @@ fn reduce_union(
     r: &Spelled,
     members: &TypeIds,
     place: Place,
+    names: usize,
 ) -> Result<Reduced, Stop<Fault>>
     requires union { written r.now.row ≡ Some members.now }
     requires within { AreIds s.now members.now }
+    requires names { names ≡ length s.now.declared }
+    requires sound { IsStore s.now }
     ensures ok { IfOk result (IsReduction s.now r.now) }
     ensures passes { OnOk result (PassesAll s.now r.now place (Spreading ∷ Sized ∷ Inhabited ∷ Narrow ∷ [])) }
     ensures err { IfErr result (StopsEarly s.now r.now place) }
 {
-    let brought = members_left(alloc, s, r, members, place)?;
+    let brought = members_left(alloc, s, r, members, place, names)?;
     if any_unsized(s, &brought) {
         return Err(Stop::Fault(Fault { number: 17, place }));
     }
@@ -97,9 +101,11 @@ pub(crate) fn reduce(
     ensures ok { IfOk result (IsReduction s.now r.now) }
     ensures passes { OnOk result (PassesAll s.now r.now place (Spreading ∷ Sized ∷ Inhabited ∷ Narrow ∷ [])) }
     ensures err { IfErr result (StopsEarly s.now r.now place) }
+    ensures sound { IsStore s.now }
 {
+    let names = s.declarations();
     match &r.row {
-        Row::Union(members) => reduce_union(alloc, s, r, members, place),
+        Row::Union(members) => reduce_union(alloc, s, r, members, place, names),
         _ => reduce_other(alloc, s, r, place),
     }
 }
