@@ -1,0 +1,10 @@
+-- What was put out and what is left are all items.
+use Rattle.std.proofs.Common.{◌≡◌, ◌++◌, length, map}
+use Rattle.il_emit.specs.Emitted.{function_item}
+use Rattle.il_emit.proofs.module.put_functions.Given as goal
+
+abbrev pub invariant-each : goal.invariant-each
+invariant-each l = l.out ++ map (function_item l.globals) l.left ≡ l.initial.out ++ map (function_item l.globals) l.initial.left
+
+abbrev pub decreases-each : goal.decreases-each
+decreases-each l = length l.left

@@ -1,0 +1,6 @@
+pub mod Names
+pub mod Ops
+pub mod Lines
+pub mod Drafts
+pub mod Emitting
+pub mod Emitted

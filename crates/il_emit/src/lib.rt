@@ -1,0 +1,19 @@
+//! The intermediate language of a program of flat code.
+//!
+//! [`emit`] makes a module of a well formed program: a data item for each global and a function for each
+//! function, whose structured code becomes blocks. `specs/Lines.antt` says which.
+#![tactic(auto)]
+
+mod code;
+mod data;
+mod draft;
+mod emitter;
+mod module;
+mod names;
+mod op;
+mod operand;
+mod statement;
+#[cfg(test)]
+mod tests;
+
+pub use module::emit;

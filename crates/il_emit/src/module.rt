@@ -1,0 +1,126 @@
+//! Functions, and the module of a program.
+
+ghost use Rattle.std.specs.Prelude.{◌≡◌, ◌++◌, map, OnOk, IfOk};
+ghost use Rattle.flat_code.specs.WellFormed.{IsWellFormed, is_main};
+ghost use Rattle.il_emit.specs.Lines.{end_value};
+ghost use Rattle.il_emit.specs.Emitted.{data_item, params_of, blocks_of, function_item, module_of};
+
+use crate::code::code;
+use crate::data::data_item;
+use crate::draft::Draft;
+use crate::emitter::Emitter;
+use crate::names::{same_text, temp_name};
+use flat_code::{Data, FlatFn, FlatProgram};
+use hx_base::Class;
+use il_code::{Blocks, IlItem, IlItems, IlParam, IlParams, IlValue, Jump, Module};
+use std::alloc::{AllocError, Global};
+
+/// The module of a program: a data item for each global, and then a function for each function, in their order. `main` is exported. An
+/// error is want of memory.
+pub fn emit(alloc: Global, p: &FlatProgram) -> Result<Module, AllocError>
+    requires { IsWellFormed p.now }
+    ensures { IfOk result (λ m. m ≡ module_of p.now) }
+{
+    let globals = p.globals.as_slice();
+    let mut items = IlItems::new(alloc);
+    put_globals(alloc, &mut items, globals)?;
+    put_functions(alloc, &mut items, globals, p.functions.as_slice())?;
+    Ok(Module { items })
+}
+
+fn put_globals(alloc: Global, out: &mut IlItems, globals: &[Data]) -> Result<(), AllocError>
+    ensures { OnOk result (out.new ≡ out.old ++ map data_item globals.now) }
+{
+    let mut left = globals;
+    'each: while let [d, more @ ..] = left {
+        out.push(data_item(alloc, d)?)?;
+        left = more;
+    }
+    Ok(())
+}
+
+fn put_functions(
+    alloc: Global,
+    out: &mut IlItems,
+    globals: &[Data],
+    functions: &[FlatFn],
+) -> Result<(), AllocError>
+    ensures { OnOk result (out.new ≡ out.old ++ map (function_item globals.now) functions.now) }
+{
+    let mut left = functions;
+    'each: while let [f, more @ ..] = left {
+        out.push(function_item(alloc, globals, f)?)?;
+        left = more;
+    }
+    Ok(())
+}
+
+fn function_item(alloc: Global, globals: &[Data], f: &FlatFn) -> Result<IlItem, AllocError>
+    ensures { IfOk result (λ i. i ≡ function_item globals.now f.now) }
+{
+    let name = same_text(alloc, &f.name)?;
+    let params = params_of(alloc, f.params.as_slice())?;
+    let blocks = blocks_of(alloc, globals, f)?;
+    Ok(IlItem::Function {
+        export: is_main(f),
+        class: f.result,
+        name,
+        params,
+        blocks,
+    })
+}
+
+fn is_main(f: &FlatFn) -> bool
+    ensures { result ≡ is_main f.now }
+{
+    f.name.bytes() == b"main".as_slice()
+}
+
+/// Parameters are the first temporaries.
+fn params_of(alloc: Global, classes: &[Class]) -> Result<IlParams, AllocError>
+    ensures { IfOk result (λ ps. ps ≡ params_of 0 classes.now) }
+{
+    let mut params = IlParams::new(alloc);
+    let mut t: u32 = 0;
+    let mut left = classes;
+    'each: while let [class, more @ ..] = left {
+        params.push(IlParam {
+            name: temp_name(alloc, t)?,
+            class: *class,
+        })?;
+        let Some(next) = t.checked_add(1) else {
+            return Err(AllocError);
+        };
+        t = next;
+        left = more;
+    }
+    Ok(params)
+}
+
+/// What a body that ends without a Ret returns.
+fn end_value(class: Option<Class>) -> Option<IlValue>
+    ensures { result ≡ end_value class }
+{
+    match class {
+        None => None,
+        Some(_) => Some(IlValue::Number(0)),
+    }
+}
+
+fn blocks_of(alloc: Global, globals: &[Data], f: &FlatFn) -> Result<Blocks, AllocError>
+    ensures { IfOk result (λ bs. bs ≡ blocks_of globals.now f.now) }
+{
+    let mut e = Emitter {
+        alloc,
+        draft: Draft::new(alloc),
+        labels: 1,
+        addresses: 0,
+        exits: Vec::new(alloc),
+    };
+    e.label(0)?;
+    code(&mut e, globals, &f.body)?;
+    e.end(Jump::Ret(end_value(f.result)))?;
+    let Emitter { draft, .. } = e;
+    let Draft { blocks, .. } = draft;
+    Ok(blocks)
+}

@@ -1,0 +1,56 @@
+//! The operations of flat code in the intermediate language.
+
+ghost use Rattle.std.specs.Prelude.{◌≡◌};
+ghost use Rattle.il_emit.specs.Ops.{il_op};
+
+use flat_code::Op;
+use il_code::IlOp;
+
+/// The operation of the same name.
+pub fn il_op(op: Op) -> IlOp
+    ensures { result ≡ il_op op }
+{
+    match op {
+        Op::Neg => IlOp::Neg,
+        Op::Copy => IlOp::Copy,
+        Op::Extsb => IlOp::Extsb,
+        Op::Extub => IlOp::Extub,
+        Op::Extsh => IlOp::Extsh,
+        Op::Extuh => IlOp::Extuh,
+        Op::Extsw => IlOp::Extsw,
+        Op::Extuw => IlOp::Extuw,
+        Op::Add => IlOp::Add,
+        Op::Sub => IlOp::Sub,
+        Op::Mul => IlOp::Mul,
+        Op::Div => IlOp::Div,
+        Op::Rem => IlOp::Rem,
+        Op::Udiv => IlOp::Udiv,
+        Op::Urem => IlOp::Urem,
+        Op::And => IlOp::And,
+        Op::Or => IlOp::Or,
+        Op::Xor => IlOp::Xor,
+        Op::Shl => IlOp::Shl,
+        Op::Shr => IlOp::Shr,
+        Op::Sar => IlOp::Sar,
+        Op::Ceqw => IlOp::Ceqw,
+        Op::Ceql => IlOp::Ceql,
+        Op::Cnew => IlOp::Cnew,
+        Op::Cnel => IlOp::Cnel,
+        Op::Cslew => IlOp::Cslew,
+        Op::Cslel => IlOp::Cslel,
+        Op::Csltw => IlOp::Csltw,
+        Op::Csltl => IlOp::Csltl,
+        Op::Csgew => IlOp::Csgew,
+        Op::Csgel => IlOp::Csgel,
+        Op::Csgtw => IlOp::Csgtw,
+        Op::Csgtl => IlOp::Csgtl,
+        Op::Culew => IlOp::Culew,
+        Op::Culel => IlOp::Culel,
+        Op::Cultw => IlOp::Cultw,
+        Op::Cultl => IlOp::Cultl,
+        Op::Cugew => IlOp::Cugew,
+        Op::Cugel => IlOp::Cugel,
+        Op::Cugtw => IlOp::Cugtw,
+        Op::Cugtl => IlOp::Cugtl,
+    }
+}

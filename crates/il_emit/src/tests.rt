@@ -1,0 +1,219 @@
+//! Small programs and their texts, which are written by hand.
+
+use crate::emit;
+use flat_code::{
+    Class, Classes, Data, DataList, Flat, FlatBox, FlatFn, FlatFns, FlatKids, FlatProgram, Item,
+    Op, Value, Values, well_formed,
+};
+use hx_base::{Bytes, Items, Text};
+use il_code::{print, valid};
+use std::alloc::{AllocError, Global};
+use std::test::Fail;
+
+/// A program that is `main`, of three temporaries and a word as result, with one global.
+fn program(alloc: Global, body: Flat) -> Result<FlatProgram, AllocError> {
+    let mut bytes = Bytes::new(alloc);
+    bytes.extend(b"ab\n")?;
+    let mut items = Items::new(alloc);
+    items.push(Item::Bytes(bytes))?;
+    let mut globals = DataList::new(alloc);
+    globals.push(Data {
+        name: Text::copy(alloc, "h.text")?,
+        align: 1,
+        items,
+    })?;
+    let mut functions = FlatFns::new(alloc);
+    functions.push(FlatFn {
+        name: Text::copy(alloc, "main")?,
+        params: Classes::new(alloc),
+        result: Some(Class::W),
+        temps: 3,
+        frame: 0,
+        body,
+    })?;
+    Ok(FlatProgram { functions, globals })
+}
+
+fn seq(alloc: Global, a: Flat, b: Flat) -> Result<Flat, AllocError> {
+    let mut list = FlatKids::new(alloc);
+    list.push(a)?;
+    list.push(b)?;
+    Ok(Flat::Seq(list))
+}
+
+fn set(temp: u32, class: Class, op: Op, a: Value, b: Value) -> Flat {
+    Flat::Set {
+        temp,
+        class,
+        op,
+        a,
+        b,
+    }
+}
+
+fn call(alloc: Global, temp: Option<u32>, name: &str, list: &[Value]) -> Result<Flat, AllocError> {
+    let mut args = Values::new(alloc);
+    for v in list {
+        args.push(*v)?;
+    }
+    Ok(Flat::Call {
+        temp,
+        name: Text::copy(alloc, name)?,
+        args,
+    })
+}
+
+fn branch(alloc: Global, cond: Value, yes: Flat, no: Flat) -> Result<Flat, AllocError> {
+    Ok(Flat::If {
+        cond,
+        yes: FlatBox::new(alloc, yes)?,
+        no: FlatBox::new(alloc, no)?,
+    })
+}
+
+/// The text of a program with this body, if the program is well formed and its module valid.
+fn text(alloc: Global, body: Flat) -> Result<Option<Bytes>, AllocError> {
+    let p = program(alloc, body)?;
+    if !well_formed(&p) {
+        return Ok(None);
+    }
+    let m = emit(alloc, &p)?;
+    if !valid(&m) {
+        return Ok(None);
+    }
+    Ok(Some(print(alloc, &m)?))
+}
+
+/// Counts from 0 to the number of arguments, writes two bytes each time, and leaves the Loop.
+#[test]
+fn a_counter(rt: HostRuntime) -> Result<(), Fail> {
+    let alloc = rt.alloc();
+    let zero = Value::Number(0);
+    let test = seq(
+        alloc,
+        call(alloc, Some(1), "rt.nargs", &[])?,
+        set(2, Class::W, Op::Cultl, Value::Temp(0), Value::Temp(1)),
+    )?;
+    let puts = call(
+        alloc,
+        None,
+        "rt.puts",
+        &[Value::Symbol(0, 1), Value::Number(2)],
+    )?;
+    let step = set(0, Class::L, Op::Add, Value::Temp(0), Value::Number(1));
+    let turn = branch(
+        alloc,
+        Value::Temp(2),
+        seq(alloc, puts, step)?,
+        Flat::Leave(1),
+    )?;
+    let body = Flat::Loop(FlatBox::new(alloc, seq(alloc, test, turn)?)?);
+    let start = set(0, Class::L, Op::Copy, zero, zero);
+    let text = text(alloc, seq(alloc, start, body)?)?.ok_or("not valid")?;
+    assert_eq!(rt;
+        text.bytes(),
+        b"data $h.text = align 1 { b \"ab\" 10 }
+export function w $main() {
+@b0
+\t%t0 =l copy 0
+\tjmp @b2
+@b2
+\t%t1 =l call $rt.nargs()
+\t%t2 =w cultl %t0, %t1
+@b5
+\tjnz %t2, @b6, @b7
+@b6
+\t%a0 =l add $h.text, 1
+\tcall $rt.puts(l %a0, l 2)
+\t%t0 =l add %t0, 1
+@b9
+\tjmp @b8
+@b7
+\tjmp @b3
+@b10
+@b8
+@b4
+\tjmp @b2
+@b3
+@b1
+\tret 0
+}
+"
+            .as_slice()
+    );
+    Ok(())
+}
+
+/// A branch within a branch, of which one side returns.
+#[test]
+fn nested_branches(rt: HostRuntime) -> Result<(), Fail> {
+    let alloc = rt.alloc();
+    let inner = branch(
+        alloc,
+        Value::Temp(0),
+        Flat::Ret(Some(Value::Temp(0))),
+        set(1, Class::W, Op::Neg, Value::Temp(0), Value::Number(0)),
+    )?;
+    let outer = branch(
+        alloc,
+        Value::Number(1),
+        inner,
+        set(0, Class::W, Op::Copy, Value::Number(7), Value::Number(0)),
+    )?;
+    let text = text(alloc, outer)?.ok_or("not valid")?;
+    assert_eq!(rt;
+        text.bytes(),
+        b"data $h.text = align 1 { b \"ab\" 10 }
+export function w $main() {
+@b0
+\tjnz 1, @b1, @b2
+@b1
+\tjnz %t0, @b4, @b5
+@b4
+\tret %t0
+@b7
+\tjmp @b6
+@b5
+\t%t1 =w neg %t0
+@b6
+\tjmp @b3
+@b2
+\t%t0 =w copy 7
+@b3
+\tret 0
+}
+"
+            .as_slice()
+    );
+    Ok(())
+}
+
+/// A Leave out of two Loops.
+#[test]
+fn a_leave_out_of_two_loops(rt: HostRuntime) -> Result<(), Fail> {
+    let alloc = rt.alloc();
+    let inner = Flat::Loop(FlatBox::new(alloc, Flat::Leave(1))?);
+    let outer = Flat::Loop(FlatBox::new(alloc, inner)?);
+    let text = text(alloc, outer)?.ok_or("not valid")?;
+    assert_eq!(rt;
+        text.bytes(),
+        b"data $h.text = align 1 { b \"ab\" 10 }
+export function w $main() {
+@b0
+\tjmp @b1
+@b1
+\tjmp @b3
+@b3
+\tjmp @b2
+@b5
+\tjmp @b3
+@b4
+\tjmp @b1
+@b2
+\tret 0
+}
+"
+            .as_slice()
+    );
+    Ok(())
+}
