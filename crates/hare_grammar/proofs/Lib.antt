@@ -6,3 +6,4 @@ pub mod Lists
 pub mod Pieces
 pub mod Types
 pub mod OneTree
+pub mod Places

@@ -65,11 +65,11 @@ run_group f w st gs g g' e = ap (λ x. run f w st (x ∷ gs)) e
 
 -- ---- leaves that say nothing
 
-no_text : (x : List ℕ) → is_empty x ≡ true → x ≡ []
+pub no_text : (x : List ℕ) → is_empty x ≡ true → x ≡ []
 no_text [] e = refl
 no_text (c ∷ x) e = cc
 
-no_suffix : (q : Suffix) → has_no_suffix q ≡ true → q ≡ suffix.None
+pub no_suffix : (q : Suffix) → has_no_suffix q ≡ true → q ≡ suffix.None
 no_suffix suffix.None e = refl
 no_suffix _ e = cc
 
@@ -114,19 +114,19 @@ junk_faults so.Length e = refl
 junk_faults so.StructField e = refl
 junk_faults _ e = cc
 
-abbrev is_skips : Row → Bool
+abbrev pub is_skips : Row → Bool
 is_skips Fault = false
 is_skips (Skips cs) = true
 is_skips (Uses cs ss) = false
 
-bare_never : (c : Class) → is_skips (bare_row c) ≡ false
+pub bare_never : (c : Class) → is_skips (bare_row c) ≡ false
 bare_never cl.Scalar = refl
 bare_never cl.Name = refl
 bare_never (cl.Sign si.Size) = refl
 bare_never (cl.Sign _) = refl
 bare_never _ = refl
 
-type_never : (c : Class) → is_skips (type_row c) ≡ false
+pub type_never : (c : Class) → is_skips (type_row c) ≡ false
 type_never (cl.Sign si.Bang) = refl
 type_never c = bare_never c
 
@@ -148,7 +148,7 @@ field_never cl.Name = refl
 field_never _ = refl
 
 -- a tree that is wanted is never passed over
-never_skips : (s : Sort) (c : Class) → typed s ≡ true → is_skips (of_row s c) ≡ false
+pub never_skips : (s : Sort) (c : Class) → typed s ≡ true → is_skips (of_row s c) ≡ false
 never_skips so.Type c e = type_never c
 never_skips so.BareType c e = bare_never c
 never_skips so.Member c e = member_never c
@@ -157,7 +157,7 @@ never_skips so.Length c e = length_never c
 never_skips so.StructField c e = field_never c
 never_skips _ c e = cc
 
-done_not_fails : (o : Outcome) (u v : List Token) (hs : List Group) → o ≡ Done u hs → o ≡ Fails v → ⊥
+pub done_not_fails : (o : Outcome) (u v : List Token) (hs : List Group) → o ≡ Done u hs → o ≡ Fails v → ⊥
 done_not_fails o u v hs e d = cc
 
 -- what stands behind all tokens

@@ -1,5 +1,5 @@
 -- One step of the engine, as an equation each.
-use Rattle.std.proofs.Common.{◌≡◌, ℕ, List, [], ◌∷◌, ◌++◌, refl, ap}
+use Rattle.std.proofs.Common.{◌≡◌, ℕ, List, [], ◌∷◌, ◌++◌, refl, ap, ◌∙◌}
 use denote.Enum.Bare.{true_same}
 use Rattle.hare_tree.specs.contracts.form.Sign.{the_type}
 use Rattle.hare_tree.specs.declared.kind.Kind.{Kind}
@@ -77,3 +77,9 @@ run_groups f w st gs gs' e = ap (λ x. run f w st x) e
 pub all_changed-append : (f : ℕ) (t : Token) (cs ds : List Change) (gs : List Group) → all_changed f t (cs ++ ds) gs ≡ all_changed f t ds (all_changed f t cs gs)
 all_changed-append f t [] ds gs = refl
 all_changed-append f t (c ∷ cs) ds gs = all_changed-append f t cs ds (changed f t c gs)
+
+-- the same with changes that do not look at the token
+pub run_changes : (f : ℕ) (w : List Token) (n : Rule) (st : List Symbol) (gs hs : List Group) (cs : List Change) → row n (front w) ≡ Skips cs → ((t : Token) → all_changed f t cs gs ≡ hs) → run f w (part n ∷ st) gs ≡ run f w st hs
+unfolding run
+run_changes f [] n st gs hs cs e h = refl
+run_changes f (t ∷ w) n st gs hs cs e h = run_skips f t w n st gs cs e ∙ ap (λ x. run f (t ∷ w) st x) (h t)

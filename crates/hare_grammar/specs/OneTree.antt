@@ -1,10 +1,12 @@
 -- That the grammar has one tree for a list of tokens.
-use Rattle.std.specs.Prelude.{◌≡◌, ℕ, Bool, true, false}
+use Rattle.std.specs.Prelude.{◌≡◌, ℕ, List, Bool, true, false}
+use Rattle.hare_tree.specs.declared.token.Token.{Token}
 use Rattle.hare_tree.specs.declared.form.Sort.{Sort}
 use Rattle.hare_tree.specs.declared.form.Sort.TheVariants as so
 use Rattle.hare_tree.specs.Node.{Head, Node, Nodes, branch, none, more}
 use Rattle.hare_tree.specs.Spell.{start_of, spell}
 use Rattle.hare_tree.specs.Shape.{is_shaped}
+use Rattle.hare_tree.specs.Grammar.{HasPlaces, IsTreeOf}
 
 -- The tree with all its places at the start of a file: what its tokens say of it. Two trees are equal but for places where this makes them one.
 abbrev pub plain_head : ℕ → Head → Head
@@ -32,3 +34,13 @@ is_sort_of_types _ = false
 abbrev pub TypesHaveOneTree : Type 0
 TypesHaveOneTree =
     (f : ℕ) (s : Sort) → is_sort_of_types s ≡ true → (t t' : Node) → is_shaped s t ≡ true → is_shaped s t' ≡ true → spell f t ≡ spell f t' → plain f t ≡ plain f t'
+
+-- Trees that are equal but for places are equal where both have the places of the same tokens.
+abbrev pub PlacesDecideTrees : Type 0
+PlacesDecideTrees =
+    (f : ℕ) (ts : List Token) (n : ℕ) (t t' : Node) → plain 0 t ≡ plain 0 t' → HasPlaces f ts n t → HasPlaces f ts n t' → t ≡ t'
+
+-- the tokens of a file are those of at most one type, places and all
+abbrev pub TokensHaveOneType : Type 0
+TokensHaveOneType =
+    (s : Sort) → is_sort_of_types s ≡ true → (file : ℕ) (ts : List Token) (t t' : Node) → IsTreeOf s file ts t → IsTreeOf s file ts t' → t ≡ t'
