@@ -1,5 +1,5 @@
 -- Which types are too large, and what the checks before that say of the whole.
-use Rattle.std.proofs.Common.{◌≡◌, ℕ, ◌<◌, true, nat_lt, List, [], ◌∷◌, ◌++◌, length, Option, Some, None, refl, ap, sym, ◌∙◌, subst, arith, inl, inr}
+use Rattle.std.proofs.Common.{◌≡◌, ℕ, ◌<◌, Bool, true, false, nat_lt, List, [], ◌∷◌, ◌++◌, length, Ok, Err, Option, Some, None, refl, ap, sym, ◌∙◌, subst, arith, inl, inr}
 use Rattle.std.specs.Prelude.{MatchOption, option_map, IsTrue, ◌↔◌}
 use Rattle.std.proofs.lemmas.Bool.Decides.{nat_tests}
 use Rattle.hare_tree.specs.declared.place.Place.{Place}
@@ -16,8 +16,8 @@ use Rattle.hare_layout.specs.declared.spelled.Spelled.{Spelled}
 use Rattle.hare_layout.specs.declared.reduce.Reduced.{Reduced}
 use Rattle.hare_layout.specs.declared.reduce.Reduced.TheVariants.{Known, Fresh}
 use Rattle.hare_layout.specs.Capped.{cap, capped_with, names_capped}
-use Rattle.hare_layout.specs.Reduction.{written, AreLeft, type_of, IsReducedTo}
-use Rattle.hare_layout.specs.Admission.{Check, Spreading, Sized, Inhabited, Narrow, Small, PassesAll, IsFirstOf, IsTooLarge, IsFault, IsAdmitted, StopsAt}
+use Rattle.hare_layout.specs.Reduction.{written, place_of, AreLeft, type_of, IsReducedTo}
+use Rattle.hare_layout.specs.Admission.{Check, Spreading, Sized, Inhabited, Narrow, Small, PassesAll, IsFirstOf, IsTooLarge, IsFault, IsAdmitted, StopsAt, TellsFault, Fails, checks}
 use Rattle.hare_layout.specs.Reduced.{IsReduction, StopsEarly, IsHere, tree_of_reduced, IsLarge}
 use Rattle.hare_layout.proofs.KnownLemmas.{all_names, capped-following}
 use Rattle.hare_layout.proofs.CappedLemmas.{mapped}
@@ -44,13 +44,16 @@ none-large s v u e h =
     let both = e ∙ capped-following s u ∙ ap (option_map cap) (all_names s v u h.0 h.1) in
     absurd cc
 
+less : (a b : ℕ) → nat_lt a b ≡ true → a < b
+less a b h = grind (arith, nat_tests)
+
+neither : (a b : ℕ) → nat_lt a b ≡ false → nat_lt b a ≡ false → a ≡ b
+neither a b h k = grind (arith, nat_tests)
+
 -- what the test of the size says
 pub tells-large : (s : Store) → IsStore s → (u : Tree) (x : Extent) → Some x ≡ capped_with (names_capped s (length s.declared)) u → IsTrue (nat_lt 67108864 x.size) ↔ IsLarge s u
 tells-large s v u x e = (λ h. large-some s u x e (less 67108864 x.size h), λ h. more 67108864 x.size (some-large s v u x e h))
   where
-    less : (a b : ℕ) → nat_lt a b ≡ true → a < b
-    less a b h = grind (arith, nat_tests)
-
     more : (a b : ℕ) → a < b → nat_lt a b ≡ true
     more a b h = grind (arith, nat_tests)
 
@@ -101,3 +104,42 @@ module _ (s : Store) (r : Spelled) (place : Place) where
 
   pub admitted : IsStore s → (q : Reduced) → PassesAll s r place (Spreading ∷ Sized ∷ Inhabited ∷ Narrow ∷ []) → IsReduction s r q → ¬ IsLarge s (tree_of_reduced s q) → IsAdmitted s r place
   admitted v q p h small = (p.0, (p.1.0, (p.1.1.0, (p.1.1.1.0, ((λ place h'. not_too_large s v r q h small h'.0), tt)))))
+
+-- ---- one fault
+
+-- each check fails at one place
+one_place : (s : Store) (r : Spelled) (place : Place) (c : Check) (p q : Place) → Fails s r place c p → Fails s r place c q → p ≡ q
+one_place s r place Spreading p q h k = h.3 ∙ ap (place_of r place) (by (nat_lt h.0 k.0) refl (nat_lt k.0 h.0) refl) ∙ sym k.3
+  where
+    by : (b : Bool) → nat_lt h.0 k.0 ≡ b → (d : Bool) → nat_lt k.0 h.0 ≡ d → h.0 ≡ k.0
+    by true e d g = absurd (k.2 h.0 (less h.0 k.0 e) h.1)
+    by false e true g = absurd (h.2 k.0 (less k.0 h.0 g) k.1)
+    by false e false g = neither h.0 k.0 e g
+one_place s r place Sized p q h k = h.1 ∙ sym k.1
+one_place s r place Inhabited p q h k = h.1 ∙ sym k.1
+one_place s r place Narrow p q h k = h.1 ∙ sym k.1
+one_place s r place Small p q h k = h.1 ∙ sym k.1
+
+same_fault : (f g : Fault) → f.number ≡ g.number → f.place ≡ g.place → f ≡ g
+same_fault f g a b = λ i. record { number = a i; place = b i }
+
+one_first : (s : Store) (r : Spelled) (place : Place) (cs : List Check) (f g : Fault) → IsFirstOf s r place cs f → IsFirstOf s r place cs g → f ≡ g
+one_first s r place [] f g h k = absurd h
+one_first s r place (c ∷ cs) f g (inl h) (inl k) = same_fault f g (h.0 ∙ sym k.0) (one_place s r place c f.place g.place h.1 k.1)
+one_first s r place (c ∷ cs) f g (inl h) (inr k) = absurd (k.0 f.place h.1)
+one_first s r place (c ∷ cs) f g (inr h) (inl k) = absurd (h.0 g.place k.1)
+one_first s r place (c ∷ cs) f g (inr h) (inr k) = one_first s r place cs f g h.1 k.1
+
+none_first : (s : Store) (r : Spelled) (place : Place) (cs : List Check) (f : Fault) → PassesAll s r place cs → ¬ IsFirstOf s r place cs f
+none_first s r place [] f h k = k
+none_first s r place (c ∷ cs) f h (inl k) = h.0 f.place k.1
+none_first s r place (c ∷ cs) f h (inr k) = none_first s r place cs f h.1 k.1
+
+-- a type with a fault is not admitted
+pub only-ok : (s : Store) (r : Spelled) (place : Place) (t : ℕ) → IsAdmitted s r place → (f : Fault) → IsFault s r place f → TellsFault (Ok t) f
+only-ok s r place t h f k = absurd (none_first s r place checks f h k)
+
+-- and has one fault
+pub only-err : (s : Store) (r : Spelled) (place : Place) (e : Stop Fault) → StopsAt s r place e → (f : Fault) → IsFault s r place f → TellsFault (Err e) f
+only-err s r place (stop.Fault g) h f k = inl (ap (λ x. Err (stop.Fault x)) (one_first s r place checks g f h k))
+only-err s r place stop.Memory h f k = inr refl

@@ -1,5 +1,5 @@
 -- Which spelled types are admitted, and what is wrong with the others: an ordered list of rows, of which the first that fails is the fault.
-use Rattle.std.specs.Prelude.{◌≡◌, ℕ, ◌<◌, true, false, List, [], ◌∷◌, length, map, Contains, Some, ◌⊎◌}
+use Rattle.std.specs.Prelude.{◌≡◌, ℕ, ◌<◌, true, false, List, [], ◌∷◌, length, map, Contains, Some, Result, Err, ◌⊎◌}
 use Rattle.hare_tree.specs.declared.place.Place.{Place}
 use Rattle.hare_tree.specs.declared.place.Fault.{Fault}
 use Rattle.hare_tree.specs.declared.stop.Stop.{Stop}
@@ -114,6 +114,10 @@ IsAdmitted s r place = PassesAll s r place checks
 abbrev pub StopsAt : Store → Spelled → Place → Stop Fault → Type 0
 StopsAt s r place (stop.Fault f) = IsFault s r place f
 StopsAt s r place stop.Memory = Unit {0}
+
+-- the answer tells this fault; memory may run out before it is found
+abbrev pub TellsFault : Result ℕ (Stop Fault) → Fault → Type 0
+TellsFault answer f = (answer ≡ Err (stop.Fault f)) ⊎ (answer ≡ Err stop.Memory)
 
 -- the fault of a spread; want of memory says nothing of the type
 abbrev pub StopsFirst : Store → Spelled → Place → Stop Fault → Type 0

@@ -1,13 +1,14 @@
 //! Which spelled types are admitted.
 
 ghost use Rattle.std.specs.Prelude.{◌≡◌, ◌↔◌, length, IsTrue, Some, IfOk, IfErr, OnOk, OnErr};
+ghost use Rattle.hare_tree.specs.declared.place.Fault.{Fault as FaultOf};
 ghost use Rattle.hare_types.specs.Rows.{IsWithin};
 ghost use Rattle.hare_types.specs.Sound.{IsStore};
 ghost use Rattle.hare_types.specs.Store.{tree_at, Extends};
 ghost use Rattle.hare_types.specs.Trees.{Tree};
 ghost use Rattle.hare_layout.specs.Capped.{capped_with, names_capped};
 ghost use Rattle.hare_layout.specs.Reduction.{IsReducedTo};
-ghost use Rattle.hare_layout.specs.Admission.{IsAdmitted, StopsAt};
+ghost use Rattle.hare_layout.specs.Admission.{IsAdmitted, IsFault, StopsAt, TellsFault};
 ghost use Rattle.hare_layout.specs.Reduced.{IsHere, tree_of_reduced, IsLarge};
 
 use crate::measure::{capped, capped_row};
@@ -68,6 +69,7 @@ pub fn admit(
     ensures ok { IfOk result (λ t. (u : Tree) × IsReducedTo s.old r.now u × (tree_at s.new t ≡ Some u)) }
     ensures admitted { OnOk result (IsAdmitted s.old r.now place) }
     ensures err { IfErr result (StopsAt s.old r.now place) }
+    ensures only { (f : FaultOf) → IsFault s.old r.now place f → TellsFault result f }
     ensures kept { OnErr result (s.new ≡ s.old) }
     ensures rest { s.new ≡ record s.old { rows = s.new.rows } }
     ensures grows { Extends s.old s.new }
