@@ -37,3 +37,6 @@ mod MarkTokens
 mod MarkBlocks
 mod MarkFunctions
 mod MarksAndRules
+mod BearingTokens
+mod BearingItems
+mod FaultsAndRules

@@ -1,7 +1,7 @@
 //! What holds of every text, of the rules that a module breaks, and of every run of the machine, of any module and from any point on.
 
 ghost use Rattle.il_code.specs.MachineLaws.{EndsStay, OutputGrows, CountsAreBounded, BudgetsAreReached};
-ghost use Rattle.il_code.specs.MarkLaws.{MarksAreTheRules};
+ghost use Rattle.il_code.specs.MarkLaws.{MarksAreTheRules, FaultsAreTheRules};
 ghost use Rattle.il_code.specs.TextLaws.{TextsSpellOne, PrintIsInjective};
 
 /// A text spells at most one module, whether it is valid or not.
@@ -38,4 +38,10 @@ pub fn law_budget()
 /// their ranges.
 pub fn law_marks()
     ensures { MarksAreTheRules }
+{}
+
+/// A text of a module is valid exactly where no rule is broken at one of its places, no `$main` is missing at its end, and the numbers are in
+/// their ranges.
+pub fn law_faults()
+    ensures { FaultsAreTheRules }
 {}
