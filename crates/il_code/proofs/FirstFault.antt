@@ -7,7 +7,8 @@ use Rattle.il_code.specs.Loose.{LooseItem, settled}
 use Rattle.il_code.specs.Marks.{bears, marks}
 use Rattle.il_code.specs.Faults.{is_not_feed}
 use Rattle.il_code.proofs.TextPieces.{Piece, Whole, Far, Stray, End, choose, pieces}
-use Rattle.il_code.proofs.TextReader.{Outcome, got, bad, module_of}
+use Rattle.il_code.proofs.TextTokens.{Outcome, got, bad}
+use Rattle.il_code.proofs.TextReader.{module_of}
 
 -- number, line and column
 abbrev pub Verdict : Type 0

@@ -27,9 +27,12 @@ mod UniqueBlocks
 mod UniqueData
 mod UniqueModules
 mod TextPieces
+mod TextTokens
+mod TextLines
 mod TextReader
 mod FirstFault
-mod ReadingFaultRows
+mod TokenFaultRows
+mod RangeFaultRows
 mod RuleFaultRows
 mod MarkLists
 mod MarkNames

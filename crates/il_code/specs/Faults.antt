@@ -154,23 +154,24 @@ part_count (LooseFunction export class name params blocks) = 0
 abbrev pub data_bytes : List LooseItem → ℕ
 data_bytes items = sum_by item_size (settled items)
 
--- The part of data that begins behind these tokens is the one with which the data passes 2 ^ 30 bytes: with its values up to one of them. Data is closed by
--- a `}` to be counted.
+-- The part of data whose letter stands behind these tokens is the one with which the data passes 2^30 bytes: with its values up to one of them. Data is
+-- closed by a `}` to be counted.
 pub record PassesData (text : List ℕ) (ts : List IlToken) : Type 0 where
   pub items : List LooseItem
   pub closed : Fits (loose_pattern items) (ts ++ Mark 125 ∷ [])
   pub within : data_bytes items ≤ most
-  -- with the tokens of the part, up to this last one
-  pub behind : List IlToken
+  -- the tokens of the part: its letter, and up to this last one
+  pub letter : List ℕ
+  pub between : List IlToken
   pub last : IlToken
   pub here : List ℕ
   pub after : List ℕ
-  pub read : Front text (ts ++ behind) here
+  pub read : Front text (ts ++ Word letter ∷ between) here
   pub stands : Stands here last after
   -- a count under 0 counts no bytes
-  pub counted : IsZeroCount (ts ++ behind) → slice_index here 0 ≢ 45
+  pub counted : IsZeroCount (ts ++ Word letter ∷ between) → slice_index here 0 ≢ 45
   pub more_items : List LooseItem
-  pub more_closed : Fits (loose_pattern more_items) (ts ++ behind ++ last ∷ Mark 125 ∷ [])
+  pub more_closed : Fits (loose_pattern more_items) (ts ++ Word letter ∷ (between ++ last ∷ Mark 125 ∷ []))
   pub one : sum_by part_count more_items ≡ suc (sum_by part_count items)
   pub passes : most < data_bytes more_items
 
