@@ -1,2 +1,5 @@
 pub mod Drafts
 pub mod Emitting
+pub mod Counts
+pub mod Smalls
+pub mod Lawful

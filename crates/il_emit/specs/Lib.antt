@@ -4,3 +4,4 @@ pub mod Lines
 pub mod Drafts
 pub mod Emitting
 pub mod Emitted
+pub mod Kept

@@ -1,7 +1,8 @@
 //! The intermediate language of a program of flat code.
 //!
 //! [`emit`] makes a module of a well formed program: a data item for each global and a function for each
-//! function, whose structured code becomes blocks. `specs/Lines.antt` says which.
+//! function, whose structured code becomes blocks. `specs/Lines.antt` says which. Of the rules of a valid
+//! module those of `specs/Kept.antt` are proved so far.
 #![tactic(auto)]
 
 mod code;

@@ -3,6 +3,7 @@
 ghost use Rattle.std.specs.Prelude.{◌≡◌, ◌++◌, map, OnOk, IfOk};
 ghost use Rattle.flat_code.specs.WellFormed.{IsWellFormed, is_main};
 ghost use Rattle.il_emit.specs.Lines.{end_value};
+ghost use Rattle.il_emit.specs.Kept.{KeepsRules};
 ghost use Rattle.il_emit.specs.Emitted.{data_item, params_of, blocks_of, function_item, module_of};
 
 use crate::code::code;
@@ -19,6 +20,14 @@ use std::alloc::{AllocError, Global};
 /// error is want of memory.
 pub fn emit(alloc: Global, p: &FlatProgram) -> Result<Module, AllocError>
     requires { IsWellFormed p.now }
+    ensures value { IfOk result (λ m. m ≡ module_of p.now) }
+    ensures rules { IfOk result (λ m. KeepsRules m.items) }
+{
+    let m = module_of(alloc, p)?;
+    Ok(m)
+}
+
+fn module_of(alloc: Global, p: &FlatProgram) -> Result<Module, AllocError>
     ensures { IfOk result (λ m. m ≡ module_of p.now) }
 {
     let globals = p.globals.as_slice();

@@ -1,0 +1,81 @@
+-- The module of a well formed program keeps the rules that are proved so far.
+use Rattle.std.proofs.Common.{◌≡◌, ℕ, ◌+◌, Bool, true, false, ◌&&◌, ◌||◌, not, List, [], ◌∷◌, ◌++◌, map, length, refl, sym, ap, ◌∙◌, subst, arith, zero-add}
+use Rattle.std.specs.Prelude.{count_by, sum_by, bytes_eq, nat_le, ◌==◌}
+use Rattle.std.specs.List.{list_all, list_any}
+use Rattle.std.proofs.lemmas.Bool.{and_parts}
+use Rattle.std.proofs.lemmas.List.Folds.{list_any-append}
+use Rattle.std.proofs.lemmas.List.Sums.{sum_by-append}
+use Rattle.flat_code.specs.declared.program.Data.{Data}
+use Rattle.flat_code.specs.declared.program.FlatFn.{FlatFn}
+use Rattle.flat_code.specs.declared.program.FlatProgram.{FlatProgram}
+use Rattle.flat_code.specs.WellFormed.{IsWellFormed, is_symbol, is_alignment, is_item, is_global, global_size}
+use Rattle.flat_code.specs.WellFormed as flat
+use Rattle.il_code.specs.declared.types.IlItem.{IlItem}
+use Rattle.il_code.specs.Rules.{item_name, how_many, is_main, is_function, part_is_small, item_is_small, item_size, is_small}
+use Rattle.il_emit.specs.Emitted.{parts_of, data_item, function_item, module_of}
+use Rattle.il_emit.specs.Kept.{KeepsRules}
+use Rattle.il_emit.proofs.Counts.{both_true, or_true, count_append, count_map, count_all, count_none, sum_map, sum_none, any_map, all_map, all_append, all_same, all_more}
+use Rattle.il_emit.proofs.Smalls.{function_small, parts_small, parts_size}
+
+module _ (p : FlatProgram) (w : IsWellFormed p) where
+  datas : List IlItem
+  datas = map data_item p.globals
+
+  functions : List IlItem
+  functions = map (function_item p.globals) p.functions
+
+  -- as many items have a name as functions and globals
+  named : (name : List ℕ) → how_many item_name name (map data_item p.globals ++ map (function_item p.globals) p.functions) ≡ flat.how_many p name
+  named name =
+      let q : IlItem → Bool = λ x. bytes_eq (item_name x) name in
+      count_append q (map data_item p.globals) (map (function_item p.globals) p.functions)
+      ∙ omega (arith, count_map q data_item p.globals, count_map q (function_item p.globals) p.functions)
+
+  once_is : (name : List ℕ) → (how_many item_name name (map data_item p.globals ++ map (function_item p.globals) p.functions) == 1) ≡ (flat.how_many p name == 1)
+  once_is name = ap (λ (n : ℕ). n == 1) (named name)
+
+  once : list_all (λ (x : IlItem). how_many item_name (item_name x) (map data_item p.globals ++ map (function_item p.globals) p.functions) == 1) (map data_item p.globals ++ map (function_item p.globals) p.functions) ≡ true
+  once =
+      let q : IlItem → Bool = λ x. how_many item_name (item_name x) (map data_item p.globals ++ map (function_item p.globals) p.functions) == 1 in
+      all_append q (map data_item p.globals) (map (function_item p.globals) p.functions)
+      (all_map q data_item p.globals ∙ all_same _ _ (λ (d : Data). once_is d.name) p.globals ∙ w.globals_differ)
+      (all_map q (function_item p.globals) p.functions ∙ all_same _ _ (λ (f : FlatFn). once_is f.name) p.functions ∙ w.functions_differ)
+
+  main : list_any is_main (map data_item p.globals ++ map (function_item p.globals) p.functions) ≡ true
+  main =
+      list_any-append is_main (map data_item p.globals) (map (function_item p.globals) p.functions)
+      ∙ or_true (list_any is_main (map data_item p.globals)) _ (any_map is_main (function_item p.globals) p.functions ∙ w.main)
+
+  data_small : (d : Data) → is_global p d ≡ true → item_is_small (data_item d) ≡ true
+  data_small d h =
+      let a = and_parts (is_symbol d.name) _ h in
+      let b = and_parts (is_alignment d.align) (list_all (is_item p) d.items) a.1 in
+      both_true (is_alignment d.align) _ b.0 (parts_small p d.items b.1)
+
+  numbers : list_all item_is_small (map data_item p.globals ++ map (function_item p.globals) p.functions) ≡ true
+  numbers =
+      all_append item_is_small (map data_item p.globals) (map (function_item p.globals) p.functions)
+      (all_map item_is_small data_item p.globals ∙ all_more (is_global p) (λ (d : Data). item_is_small (data_item d)) data_small p.globals w.globals)
+      (all_map item_is_small (function_item p.globals) p.functions ∙ all_more (flat.is_function_right (length p.globals)) (λ (f : FlatFn). item_is_small (function_item p.globals f)) (λ (f : FlatFn) (h : flat.is_function_right (length p.globals) f ≡ true). function_small p.globals f) p.functions w.functions)
+
+  code_count : count_by is_function (map data_item p.globals ++ map (function_item p.globals) p.functions) ≡ length p.functions
+  code_count =
+      count_append is_function (map data_item p.globals) (map (function_item p.globals) p.functions)
+      ∙ omega (arith, count_map is_function data_item p.globals, count_none p.globals, count_map is_function (function_item p.globals) p.functions, count_all p.functions)
+
+  data_count : count_by (λ (i : IlItem). not (is_function i)) (map data_item p.globals ++ map (function_item p.globals) p.functions) ≡ length p.globals
+  data_count =
+      let q : IlItem → Bool = λ i. not (is_function i) in
+      count_append q (map data_item p.globals) (map (function_item p.globals) p.functions)
+      ∙ omega (arith, count_map q data_item p.globals, count_all p.globals, count_map q (function_item p.globals) p.functions, count_none p.functions)
+
+  data_bytes : sum_by item_size (map data_item p.globals ++ map (function_item p.globals) p.functions) ≡ sum_by global_size p.globals
+  data_bytes =
+      sum_by-append item_size (map data_item p.globals) (map (function_item p.globals) p.functions)
+      ∙ omega (arith, sum_map item_size data_item global_size (λ (d : Data). parts_size d.items) p.globals, sum_map item_size (function_item p.globals) (λ (f : FlatFn). 0) (λ (f : FlatFn). refl) p.functions, sum_none p.functions)
+
+  small : is_small (map data_item p.globals ++ map (function_item p.globals) p.functions) ≡ true
+  small = rw (code_count, data_count, data_bytes) (both_true _ _ w.few_functions (both_true _ _ w.few_globals w.few_bytes))
+
+  pub keeps_rules : KeepsRules (module_of p).items
+  keeps_rules = record { once = once; main = main; numbers = numbers; small = small }
