@@ -7,3 +7,9 @@ pub mod Pieces
 pub mod Types
 pub mod OneTree
 pub mod Places
+pub mod Edges
+pub mod Kids
+pub mod Items
+pub mod Elements
+pub mod Forms
+pub mod Read
