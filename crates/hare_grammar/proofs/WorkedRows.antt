@@ -186,6 +186,46 @@ switch_value : ReadsBack expr (tree ki.Switch [] (a ∷ tree ki.SwitchCase [] (t
 unfolding is_shaped stops begins_labelled spell run step
 switch_value = record { shaped = refl; read = refl }
 
+-- alloc(a, 5)
+allocation : ReadsBack expr (tree ki.Alloc [] (a ∷ five ∷ []))
+unfolding is_shaped stops begins_labelled spell run step
+allocation = record { shaped = refl; read = refl }
+
+-- append(a, b...)
+append_all : ReadsBack expr (tree ki.Append [] (a ∷ b ∷ tree ki.Dots [] [] ∷ []))
+unfolding is_shaped stops begins_labelled spell run step
+append_all = record { shaped = refl; read = refl }
+
+-- assert(a, "b")
+assertion : ReadsBack expr (tree ki.Assert [] (a ∷ tree ki.Message (codes "b") [] ∷ []))
+unfolding is_shaped stops begins_labelled spell run step
+assertion = record { shaped = refl; read = refl }
+
+-- abort()
+abort_alone : ReadsBack expr (tree ki.Abort [] (no ∷ []))
+unfolding is_shaped stops begins_labelled spell run step
+abort_alone = record { shaped = refl; read = refl }
+
+-- free(&a) is *int
+builtin_and_type_test : ReadsBack expr (tree ki.Is [] (tree ki.Free [] (tree ki.Addr [] (a ∷ []) ∷ []) ∷ tree ki.TypePointer [] (int ∷ []) ∷ []))
+unfolding is_shaped stops begins_labelled spell run step
+builtin_and_type_test = record { shaped = refl; read = refl }
+
+-- size(int) ^ align((int, void)) | 5
+levels_of_bits : ReadsBack expr (tree ki.Arith (codes "|") (tree ki.Arith (codes "^") (tree ki.Size [] (int ∷ []) ∷ tree ki.Align [] (tree ki.TypeTuple [] (int ∷ void ∷ no ∷ []) ∷ []) ∷ []) ∷ five ∷ []))
+unfolding is_shaped stops begins_labelled spell run step
+levels_of_bits = record { shaped = refl; read = refl }
+
+-- { defer a; const b: int = 5; yield a; }
+statements : ReadsBack expr (tree ki.Block [] (tree ki.Defer [] (a ∷ []) ∷ tree ki.Const (codes "b") (int ∷ five ∷ []) ∷ tree ki.Yield [] (a ∷ []) ∷ []))
+unfolding is_shaped stops begins_labelled spell run step
+statements = record { shaped = refl; read = refl }
+
+-- ~!true
+prefixes : ReadsBack expr (tree ki.Not [] (tree ki.Bang [] (tree ki.Bool (codes "true") [] ∷ []) ∷ []))
+unfolding is_shaped stops begins_labelled spell run step
+prefixes = record { shaped = refl; read = refl }
+
 -- a + b = 5: no assignment to a sum
 assignment_to_sum : fails (so.Statement) (word (codes "a") ∷ word_token 0 tk.Mark (codes "+") ∷ word (codes "b") ∷ sign_token 0 si.Equals ∷ word (codes "a") ∷ []) ≡ 1000
 unfolding run step
