@@ -9,3 +9,4 @@ pub mod Levels
 pub mod Shape
 pub mod Depth
 pub mod Grammar
+pub mod Judged

@@ -165,6 +165,7 @@ kids_end (pi.Value s ∷ ps) (e ∷ es) = ends_before (behind_kid ps es) e && ki
 kids_end (pi.More s ∷ ps) es = items_end es
 kids_end (pi.List s ∷ ps) es = items_end es
 kids_end (pi.Elements s ∷ ps) es = items_end es
+kids_end (pi.MoreElements s ∷ ps) es = items_end es
 kids_end _ es = true
 
 -- ---- the left edge

@@ -1,22 +1,33 @@
 //! Tokens and trees of Hare, places and faults: what the front end's crates speak of.
 #![tactic(auto)]
 
+mod depth;
+mod edge;
+mod fit;
 mod form;
 mod forms;
 mod kind;
+mod level;
+mod name;
+mod own;
 mod place;
+mod shape;
 mod sign;
+mod sort;
 mod stop;
 #[cfg(test)]
 mod tests;
+mod text;
 mod token;
 mod tokens;
 mod tree;
 mod unparse;
 mod word;
 
+pub use fit::fits;
 pub use form::{Lead, Own, Piece, Sign, Sort};
 pub use kind::Kind;
+pub use name::{is_keyword, is_left_out, is_letter, is_listed, is_word_byte};
 pub use place::{Fault, Place};
 pub use stop::Stop;
 pub use token::{Meaning, Suffix, Token, TokenKind};

@@ -10,6 +10,7 @@ use crate::forms::form_of;
 use crate::kind::Kind;
 use crate::place::Place;
 use crate::sign::{sign_kind, sign_word};
+use crate::text::{is_path_mark, member_kind};
 use crate::token::{Suffix, Token, TokenKind};
 use crate::tokens::Tokens;
 use crate::tree::{FileTree, Kids, Tree};
@@ -132,24 +133,6 @@ fn put_path_byte(
     Ok(false)
 }
 
-/// Whether two colons stand at a place.
-fn is_path_mark(text: &[u8], i: usize) -> bool
-    requires { i < length text.now }
-    ensures { result ≡ (slice_index text.now i == 58 && slice_index text.now (i + 1) == 58) }
-{
-    byte_at(text, i) == b':' && byte_at(text, i + 1) == b':'
-}
-
-/// The byte at a place, and 0 past the end.
-fn byte_at(text: &[u8], i: usize) -> u8
-    ensures { result ≡ slice_index text.now i }
-{
-    match text.get(i) {
-        Some(c) => *c,
-        None => 0,
-    }
-}
-
 /// Puts a label.
 fn put_label(out: &mut Tokens, alloc: Global, file: u32, text: &[u8]) -> Result<(), AllocError>
     ensures { OnOk result (out.new ≡ out.old ++ spec.label_tokens file text.now) }
@@ -159,17 +142,6 @@ fn put_label(out: &mut Tokens, alloc: Global, file: u32, text: &[u8]) -> Result<
     }
     put_sign(out, alloc, file, Sign::Colon)?;
     put_word(out, alloc, file, TokenKind::Name, text)
-}
-
-/// Whether a member is a number or a name.
-fn member_kind(text: &[u8]) -> TokenKind
-    ensures { result ≡ spec.member_kind text.now }
-{
-    if byte_at(text, 0).is_ascii_digit() {
-        TokenKind::Number
-    } else {
-        TokenKind::Name
-    }
 }
 
 /// Puts the tokens that are made from a tree's text, number and suffix.
