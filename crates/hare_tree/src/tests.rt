@@ -1,5 +1,9 @@
 //! Each call once, with what a person expects of it.
 
+mod fitting;
+mod spelling;
+mod trees;
+
 use crate::{Fault, Meaning, Place, Stop, Suffix, Token, TokenKind, Tokens, Word};
 use std::alloc::{AllocError, AllocFailed, Global};
 use std::test::Fail;
