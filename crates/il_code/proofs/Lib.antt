@@ -43,3 +43,4 @@ mod MarksAndRules
 mod BearingTokens
 mod BearingItems
 mod FaultsAndRules
+mod FirstFaults

@@ -1,5 +1,6 @@
 //! What holds of every text, of the rules that a module breaks, and of every run of the machine, of any module and from any point on.
 
+ghost use Rattle.il_code.specs.FaultLaws.{FirstFaultIsOne};
 ghost use Rattle.il_code.specs.MachineLaws.{EndsStay, OutputGrows, CountsAreBounded, BudgetsAreReached};
 ghost use Rattle.il_code.specs.MarkLaws.{MarksAreTheRules, FaultsAreTheRules};
 ghost use Rattle.il_code.specs.TextLaws.{TextsSpellOne, PrintIsInjective};
@@ -44,4 +45,9 @@ pub fn law_marks()
 /// their ranges.
 pub fn law_faults()
     ensures { FaultsAreTheRules }
+{}
+
+/// A text has at most one first fault: its number, its line and its column are determined.
+pub fn law_first_fault()
+    ensures { FirstFaultIsOne }
 {}
