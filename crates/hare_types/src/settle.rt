@@ -87,7 +87,12 @@ fn is_inert(row: &Row, declared: &IndexMap<u32, Declared>) -> bool
 }
 
 /// Whether a row may wait for another, once this one is taken in with this extent.
-pub(crate) fn still_waits(waiting: bool, extent: Option<Extent>, row: &Row, declared: &IndexMap<u32, Declared>) -> bool
+pub(crate) fn still_waits(
+    waiting: bool,
+    extent: Option<Extent>,
+    row: &Row,
+    declared: &IndexMap<u32, Declared>,
+) -> bool
     ensures before { result ≡ false → waiting ≡ false }
     ensures row { result ≡ false → extent ≡ None → IsInert declared.now.entries row.now }
 {
@@ -117,7 +122,13 @@ fn waits(rows: &[Row], declared: &IndexMap<u32, Declared>, kept: &[Option<Extent
 
 /// Enters the extents that follow from the definition of a name, and answers whether a row may wait for another then. Where none may have
 /// waited before, only the row of the name is looked at.
-pub(crate) fn settle(rows: &IndexSet<Row>, declared: &IndexMap<u32, Declared>, kept: &mut Vec<Option<Extent>>, waiting: bool, decl: u32) -> bool
+pub(crate) fn settle(
+    rows: &IndexSet<Row>,
+    declared: &IndexMap<u32, Declared>,
+    kept: &mut Vec<Option<Extent>>,
+    waiting: bool,
+    decl: u32,
+) -> bool
     requires bounded { AreBounded kept.old.items }
     requires as_many { length kept.old.items ≡ length rows.now.keys }
     requires once { IsOnce rows.now.keys }

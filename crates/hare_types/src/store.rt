@@ -124,7 +124,13 @@ impl TypeStore {
         ensures grows { Extends self.old self.new }
     {
         set_definition(&mut self.declared, decl, t);
-        self.waits = settle(&self.rows, &self.declared, &mut self.extents, self.waits, decl);
+        self.waits = settle(
+            &self.rows,
+            &self.declared,
+            &mut self.extents,
+            self.waits,
+            decl,
+        );
     }
 
     /// What a type is defined to be, `None` where nothing was entered.

@@ -51,7 +51,7 @@ invariant_of-self-2 c =
       quiet = λ w.
           subst (AreQuiet c.number-numbered.new.set.keys c.self.inside.declared.entries) (sym cut)
           (AreQuiet-intern c.self.inside.rows.keys c.self.inside.declared.entries c.self.inside.extents.items c.self.invariant.extents.as_many c.args.r c.extent_over-extent.result (c.still_waits-waits.ensures.row w)
-           (c.self.invariant.quiet (c.still_waits-waits.ensures.before w)) c.number-numbered.new.set.keys (numbered c).grows);
+          (c.self.invariant.quiet (c.still_waits-waits.ensures.before w)) c.number-numbered.new.set.keys (numbered c).grows);
     }
 
 pub returns-clause-numbered : goal.returns-clause-numbered
