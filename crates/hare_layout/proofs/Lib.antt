@@ -11,6 +11,7 @@ pub mod MeasureLemmas
 pub mod MemberLemmas
 pub mod NamesLemmas
 pub mod OffsetLemmas
+pub mod OrderLemmas
 pub mod ReduceLemmas
 pub mod SizedLemmas
 pub mod SmallLemmas

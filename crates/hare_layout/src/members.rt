@@ -1,32 +1,47 @@
 //! Which unions hold which.
 
-ghost use Rattle.std.specs.Prelude.{◌≡◌, ◌==◌, ◌↔◌, IsTrue, Some, slice_get};
+ghost use Rattle.std.specs.Prelude.{◌≡◌, ◌≤◌, ◌↔◌, ℕ, List, ◌∷◌, IsTrue, Some, drop, length, slice_get};
 ghost use Rattle.hare_types.specs.declared.row.Row.TheVariants.{Union};
 ghost use Rattle.hare_types.specs.Sound.{IsStore};
-ghost use Rattle.std.specs.List.{list_any};
+ghost use Rattle.hare_types.specs.Rows.{Ascends};
 ghost use Rattle.hare_layout.specs.Members.{IsUnion, HoldsMembers, all_among};
 
 use hare_types::{Row, TypeId, TypeStore};
 
-/// Whether a type is one of these.
-fn is_one_of(types: &[TypeId], t: TypeId) -> bool
-    ensures { result ≡ list_any (λ u. u == t) types.now }
+/// How many of the types were met, in their order, once `u` is met too.
+fn met_with(types: &[TypeId], met: usize, u: TypeId) -> usize
+    requires types { Ascends types.now }
+    requires within { met ≤ length types.now }
+    ensures within { result ≤ length types.now }
+    ensures value { (js : List ℕ) → Ascends (u ∷ js) → all_among (drop met types.now) (u ∷ js) ≡ all_among (drop result types.now) js }
 {
-    types.iter().any(|u| *u == t)
+    if met == types.len() {
+        return met;
+    }
+    if types[met] == u {
+        return met + 1;
+    }
+    met
 }
 
-/// Whether each of the first types is one of the others. Admitted unions have at most 64 members, so that at most 4,096 pairs are
-/// compared.
+/// Whether each of the first types is one of the others. Both ascend, so that one pass over the others meets the first in their order.
 fn all_among(types: &[TypeId], others: &[TypeId]) -> bool
+    requires types { Ascends types.now }
+    requires others { Ascends others.now }
     ensures { result ≡ all_among types.now others.now }
 {
-    types.iter().all(|t| is_one_of(others, *t))
+    let mut met = 0;
+    for u in others {
+        met = met_with(types, met, *u);
+    }
+    met == types.len()
 }
 
 /// The members of an unnamed union.
 fn members_of(s: &TypeStore, t: TypeId) -> &[TypeId]
     requires { IsUnion s.now t }
     ensures row { slice_get s.now.rows t ≡ Some (Union result.now) }
+    ensures ascend { Ascends result.now }
     ensures sound { IsStore s.now }
 {
     match s.row(t) {
