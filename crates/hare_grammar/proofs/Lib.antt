@@ -13,3 +13,4 @@ pub mod Items
 pub mod Elements
 pub mod Forms
 pub mod Read
+pub mod Nodes
