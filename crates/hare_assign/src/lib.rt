@@ -11,3 +11,6 @@ mod words;
 
 pub use assign::assignable;
 pub use cast::castable;
+
+#[cfg(test)]
+mod tests;
