@@ -1,5 +1,5 @@
 -- The extents of a row's parts, one after another.
-use Rattle.std.proofs.Common.{◌≡◌, ℕ, zero, suc, ◌+◌, ◌-◌, ◌<◌, ◌≤◌, max, List, [], ◌∷◌, length, drop, map, Option, Some, None, refl, ap, ap₂, sym, ◌∙◌, subst, arith, add-one}
+use Rattle.std.proofs.Common.{◌≡◌, ℕ, zero, suc, ◌+◌, ◌-◌, ◌<◌, ◌≤◌, List, [], ◌∷◌, length, drop, map, Option, Some, refl, ap, sym, ◌∙◌, subst, arith, add-one}
 use Rattle.std.specs.Prelude.{slice_get, option_map, option_and_then}
 use Rattle.std.proofs.lemmas.Option.{get_or_from_slice_get, slice_get-get_or}
 use Rattle.hare_types.specs.declared.extent.Extent.{Extent}
@@ -11,10 +11,10 @@ use Rattle.hare_types.specs.Trees.{Tree, Scalar, more, trees_of}
 use Rattle.hare_types.specs.Rows.{tree_in, tree_of, trees, AllBelow, FieldsBelow, IsWithin}
 use Rattle.hare_types.specs.Store.{Store, tree_at, definition_of, meaning_of}
 use Rattle.hare_types.specs.Sound.{IsStore}
-use Rattle.hare_types.specs.Layout.{following, fields_extent, union_extent, fields_end, greatest_size, greatest_align}
+use Rattle.hare_types.specs.Layout.{following, greatest_align}
 use Rattle.hare_types.proofs.CallerLemmas.{tree_at_row}
 use Rattle.hare_types.proofs.TreeLemmas.{length-trees}
-use Rattle.hare_layout.specs.Small.{fitting, small_with, smalls_with, parts_of, name_extents, extent_by, extents_by}
+use Rattle.hare_layout.specs.Small.{small_with, parts_of, name_extents, extent_by, extents_by}
 
 -- the tree of an id is that of its row
 pub tree_in-row : (s : Store) → IsStore s → (t : ℕ) (r : Row) → slice_get s.rows t ≡ Some r → tree_in (trees s.rows) t ≡ tree_of (trees s.rows) r

@@ -1,13 +1,11 @@
 -- Where the bytes of types lie that are not too large.
 use Rattle.std.specs.Prelude.{◌≡◌, ℕ, zero, suc, ◌*◌, ◌≤◌, cond, ltb, List, [], ◌∷◌, map, Some, None, Option, option_map, option_and_then}
 use Rattle.hare_types.specs.declared.extent.Extent.{Extent}
-use Rattle.hare_types.specs.declared.row.Row.{Row}
-use Rattle.hare_types.specs.declared.row.Row.TheVariants as row
 use Rattle.hare_types.specs.Rows.{tree_in, trees}
 use Rattle.hare_types.specs.Trees.{Tree, Trees, Scalar, Pointer, Nullable, Slice, Array, Struct, Tuple, Union, Error, Named, none, more, trees_of}
 use Rattle.hare_types.specs.Store.{Store, tree_at, meaning_of}
 pub use Rattle.hare_types.specs.Kept.{LiesIn, parts_of}
-use Rattle.hare_types.specs.Layout.{bytes, scalar_extent, fields_extent, union_extent, following, HasExtent}
+use Rattle.hare_types.specs.Layout.{bytes, scalar_extent, fields_extent, union_extent, following}
 
 -- the extent, where it has at most 67,108,864 bytes
 abbrev pub fitting : Extent → Option Extent

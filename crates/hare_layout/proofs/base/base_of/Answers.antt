@@ -1,5 +1,4 @@
-use Rattle.std.proofs.Common.{◌≡◌, ◌<◌, Some, ap, sym, ◌∙◌, arith}
-use Rattle.std.specs.Prelude.{slice_get}
+use Rattle.std.proofs.Common.{◌<◌, Some, ap, sym, ◌∙◌, arith}
 use Rattle.hare_types.specs.declared.row.Row.TheVariants as row
 use Rattle.hare_layout.proofs.BaseLemmas.{ComesTo-error, ComesTo-name, none-error, none-name, none-cut, none-open}
 use Rattle.hare_layout.proofs.base.base_of.Goals as goal

@@ -1,9 +1,7 @@
-use Rattle.std.proofs.Common.{◌≡◌, ℕ, ◌≤◌, length, Some, ap, sym, ◌∙◌, subst, arith}
+use Rattle.std.proofs.Common.{◌≡◌, ℕ, ◌≤◌, Some, sym, ◌∙◌, subst, arith}
 use Rattle.hare_types.specs.Store.{Store}
-use Rattle.hare_types.specs.Sound.{IsStore}
 use Rattle.hare_types.specs.Layout.{field_start}
-use Rattle.hare_layout.specs.Small.{IsSmall, extent_by}
-use Rattle.hare_layout.specs.Offsets.{HasField, StartsAt, ComesTo}
+use Rattle.hare_layout.specs.Offsets.{StartsAt}
 use Rattle.hare_layout.proofs.StoreLemmas.{small_within, extent_by-small}
 use Rattle.hare_layout.proofs.OffsetLemmas.{Starts, starts}
 use Rattle.hare_layout.proofs.offset.offset_of.Goals as goal

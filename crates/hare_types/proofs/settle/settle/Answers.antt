@@ -1,11 +1,10 @@
-use Rattle.std.proofs.Common.{◌≡◌, ◌≢◌, ℕ, not, Bool, true, false, Some, None, IsSome, refl, sym, ap, ◌∙◌, subst}
+use Rattle.std.proofs.Common.{◌≡◌, ◌≢◌, ℕ, not, Bool, true, false, Some, refl, subst}
 use Rattle.std.specs.Prelude.{slice_get}
 use Rattle.std.proofs.lemmas.List.{map-id}
-use Rattle.hare_types.specs.declared.row.Row.{Row}
 use Rattle.hare_types.specs.declared.row.Row.TheVariants as row
 use Rattle.hare_types.specs.Keys.{row_eq}
 use Rattle.hare_types.specs.KeyLaws.{row_eq-Decides}
-use Rattle.hare_types.specs.Kept.{known, IsSettled}
+use Rattle.hare_types.specs.Kept.{IsSettled}
 use Rattle.hare_types.proofs.NumberingLemmas.{position_found, position_absent}
 use Rattle.hare_types.proofs.KeptLemmas.{quiet-after, settled-after, look-quiet, look-settled}
 use Rattle.hare_types.proofs.settle.settle.Goals as goal

@@ -1,5 +1,4 @@
-use Rattle.std.proofs.Common.{Some, nat_eq, refl, ap, sym, ◌∙◌}
-use Rattle.std.specs.Prelude.{slice_get}
+use Rattle.std.proofs.Common.{Some, nat_eq, refl}
 use Rattle.std.proofs.lemmas.Option.{IfSome_then}
 use Rattle.indexmap.specs.IndexMap.{Updates}
 use Rattle.hare_types.specs.declared.declared.Declared.{Declared}
