@@ -6,7 +6,6 @@ use Rattle.hare_tree.specs.declared.token.Token.{Token}
 use Rattle.hare_tree.specs.declared.token.TokenKind.TheVariants as tk
 use Rattle.hare_tree.specs.declared.form.Sign.TheVariants as si
 use Rattle.hare_tree.specs.declared.form.Lead.{Lead}
-use Rattle.hare_tree.specs.declared.form.Lead.TheVariants as le
 use Rattle.hare_tree.specs.declared.form.Piece.{Piece}
 use Rattle.hare_tree.specs.Node.{Head, Node, branch, head, nodes_of, size_of, sizes_of}
 use Rattle.hare_tree.specs.Forms.{form_of}
@@ -74,18 +73,6 @@ drop-suc (u ∷ us) (suc i) = drop-suc us i
 
 pub drop-one : {A : Type 0} (us : List A) (i : ℕ) → drop (i + 1) us ≡ drop 1 (drop i us)
 drop-one us i = rw add-one (drop-suc us i)
-
--- what is put and what is left are what they were before one more was put
-pub rest-step : (o p a b c r : List Token) → p ≡ o ++ a → o ++ b ≡ r → b ≡ a ++ c → p ++ c ≡ r
-rest-step o p a b c r e h k = rw (e, append_assoc, ← k) h
-
--- nothing is left
-pub rest-done : (o b r : List Token) → o ++ b ≡ r → b ≡ [] → o ≡ r
-rest-done o b r h k = sym (append-nil o) ∙ (rw k at h)
-
--- the first kid and those behind it, with a comma before each of these
-pub listed-put : (f : ℕ) (us : List Spelled) (i : ℕ) (o p : List Token) → p ≡ o ++ one_led f le.Nothing (drop i us) → p ++ all_led f (le.Before si.Comma) (drop (i + 1) us) ≡ o ++ listed f (drop i us)
-listed-put f us i o p e = rw (e, append_assoc) (ap (λ d. o ++ (one_led f le.Nothing (drop i us) ++ all_led f (le.Before si.Comma) d)) (drop-one us i))
 
 -- pieces are the first and those behind it
 pieces-suc : (f : ℕ) (h : Head) (ps : List Piece) (us : List Spelled) (i : ℕ) (d : Piece) → i < length ps → pieces_tokens f h (drop i ps) us ≡ piece_tokens f h (get_or ps i d) us ++ pieces_tokens f h (drop (suc i) ps) (left_behind (get_or ps i d) us)

@@ -10,3 +10,4 @@ pub mod Shape
 pub mod Depth
 pub mod Grammar
 pub mod Judged
+pub mod Left

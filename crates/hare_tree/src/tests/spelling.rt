@@ -49,6 +49,43 @@ fn a_call_is_spelled(rt: HostRuntime) -> Result<(), Fail> {
     Ok(())
 }
 
+// So many parentheses round `a`.
+fn parens(alloc: Global, depth: usize) -> Result<Tree, AllocError> {
+    let mut t = path(alloc, b"a")?;
+    for _ in 0..depth {
+        t = one(alloc, Kind::Paren, b"", t)?;
+    }
+    Ok(t)
+}
+
+#[test]
+fn a_deep_tree_is_spelled(rt: HostRuntime) -> Result<(), Fail> {
+    let alloc = rt.alloc();
+    let tokens = spell(alloc, &defined(alloc, parens(alloc, 3000)?)?)?;
+    assert_eq!(rt; tokens.len(), 6006);
+    assert_eq!(rt;
+        tokens.get(3002).ok_or("last opened")?.text.bytes(),
+        b"(".as_slice()
+    );
+    assert_eq!(rt;
+        tokens.get(3003).ok_or("innermost")?.text.bytes(),
+        b"a".as_slice()
+    );
+    assert_eq!(rt;
+        tokens.get(3004).ok_or("first closed")?.text.bytes(),
+        b")".as_slice()
+    );
+    assert_eq!(rt;
+        tokens
+            .get(6004)
+            .ok_or("end of the definition")?
+            .text
+            .bytes(),
+        b";".as_slice()
+    );
+    Ok(())
+}
+
 #[test]
 fn a_labelled_yield_has_a_comma(rt: HostRuntime) -> Result<(), Fail> {
     let alloc = rt.alloc();
