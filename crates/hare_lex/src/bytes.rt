@@ -5,6 +5,8 @@ ghost use Rattle.std.specs.List.{prefix_len};
 ghost use Rattle.std.specs.Char.{is_ascii_digit};
 ghost use Rattle.hare_tree.specs.Words as words;
 
+use hare_tree::is_word_byte;
+
 // The byte at a place, and 0 past the end.
 pub fn byte(s: &[u8], at: usize) -> u8
     ensures value { result ≡ slice_index s.now at }
@@ -18,20 +20,6 @@ pub fn is_blank(c: u8) -> bool
     ensures { result ≡ words.is_blank c }
 {
     c == 32 || c == 9 || c == 10 || c == 13
-}
-
-// A letter or an underscore.
-pub fn is_letter(c: u8) -> bool
-    ensures { result ≡ words.is_letter c }
-{
-    c.is_ascii_alphabetic() || c == 95
-}
-
-// A letter, a digit or an underscore.
-pub fn is_word_byte(c: u8) -> bool
-    ensures { result ≡ words.is_word_byte c }
-{
-    is_letter(c) || c.is_ascii_digit()
 }
 
 // How many letters, digits and underscores stand at the front.

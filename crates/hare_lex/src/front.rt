@@ -5,12 +5,12 @@ ghost use Rattle.std.specs.Char.{is_ascii_digit};
 ghost use Rattle.hare_lex.specs.Lexing as spec;
 ghost use Rattle.hare_tree.specs.Words as words;
 
-use crate::bytes::{byte, digit_len, is_letter, word_len};
+use crate::bytes::{byte, digit_len, word_len};
 use crate::literal::{closing, is_one_escape, one};
 use crate::number::number_at;
 use crate::string::bad_escape;
-use crate::table::{is_keyword, is_left_out, mark_len};
-use hare_tree::{Suffix, TokenKind};
+use crate::table::mark_len;
+use hare_tree::{Suffix, TokenKind, is_keyword, is_left_out, is_letter};
 
 /// What stands at the front.
 #[derive(Clone, Copy)]
