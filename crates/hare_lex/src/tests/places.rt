@@ -25,7 +25,7 @@ const MARK: TokenKind = TokenKind::Mark;
 
 const END: TokenKind = TokenKind::End;
 
-const ROWS: [Row; 26] = [
+const ROWS: [Row; 27] = [
     // Blanks and comments.
     (b"", &[(END, 1, 1, b"")]),
     (b" \t\r\n", &[(END, 2, 1, b"")]),
@@ -179,6 +179,42 @@ const ROWS: [Row; 26] = [
             (MARK, 3, 2, b"}"),
             (MARK, 3, 3, b";"),
             (END, 3, 4, b""),
+        ],
+    ),
+    // The file examples/count_arguments.ha.
+    (
+        b"use rt;\nexport fn main() void = rt::exit((rt::nargs() * 3z + 1z): u8);\n",
+        &[
+            (KEY, 1, 1, b"use"),
+            (NAME, 1, 5, b"rt"),
+            (MARK, 1, 7, b";"),
+            (KEY, 2, 1, b"export"),
+            (KEY, 2, 8, b"fn"),
+            (NAME, 2, 11, b"main"),
+            (MARK, 2, 15, b"("),
+            (MARK, 2, 16, b")"),
+            (KEY, 2, 18, b"void"),
+            (MARK, 2, 23, b"="),
+            (NAME, 2, 25, b"rt"),
+            (MARK, 2, 27, b"::"),
+            (NAME, 2, 29, b"exit"),
+            (MARK, 2, 33, b"("),
+            (MARK, 2, 34, b"("),
+            (NAME, 2, 35, b"rt"),
+            (MARK, 2, 37, b"::"),
+            (NAME, 2, 39, b"nargs"),
+            (MARK, 2, 44, b"("),
+            (MARK, 2, 45, b")"),
+            (MARK, 2, 47, b"*"),
+            (NUM, 2, 49, b"3z"),
+            (MARK, 2, 52, b"+"),
+            (NUM, 2, 54, b"1z"),
+            (MARK, 2, 56, b")"),
+            (MARK, 2, 57, b":"),
+            (KEY, 2, 59, b"u8"),
+            (MARK, 2, 61, b")"),
+            (MARK, 2, 62, b";"),
+            (END, 3, 1, b""),
         ],
     ),
 ];
