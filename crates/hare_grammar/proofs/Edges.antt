@@ -1,5 +1,4 @@
 -- Which tokens end an expression: how tightly a token takes what stands before it, and what a tree's right edge lets stand behind it.
--- One of the files towards the law that expressions and statements have one tree, which is to come (docs/ARCHITECTURE.md says what is left).
 use Rattle.std.proofs.Common.{◌≡◌, ℕ, ◌-◌, ◌<◌, ◌≤◌, List, [], ◌∷◌, ◌++◌, Bool, true, false, ◌&&◌, ◌||◌, not, refl, ◌∙◌, arith, Some, if◌then◌else◌}
 use Rattle.std.specs.Prelude.{nat_le}
 use Rattle.std.proofs.lemmas.Bool.Decides.{nat_tests}
@@ -27,7 +26,7 @@ use Rattle.hare_grammar.specs.Engine.{Group, add, run}
 use Rattle.hare_tree.specs.Signs.{is_sign}
 use Rattle.hare_tree.specs.Shape.{stops, stops_each, form_stops, Ending, kid_or, Edge as EdgeOf, edges, ends_before}
 use Rattle.hare_grammar.specs.ExpressionRows.{level_row}
-use Rattle.hare_grammar.specs.OneTree.{plain, is_sort_of_types as typed}
+use Rattle.hare_grammar.specs.OneTree.{plain, is_sort_of_code as covered}
 use Rattle.hare_grammar.proofs.Steps.{front, run_skip}
 use Rattle.hare_grammar.proofs.Paths.{split}
 
@@ -280,22 +279,6 @@ abbrev pub left : Sort → ℕ → List Symbol
 left (so.Level l) j = part (ru.Climb l j) ∷ []
 left so.Statement j = if nat_le 1 j then part (ru.Climb 1 j) ∷ [] else []
 left _ j = []
-
--- the sorts of types, expressions, statements and patterns, and of their parts
-abbrev pub covered : Sort → Bool
-covered (so.Level l) = nat_le 1 l
-covered so.Message = true
-covered so.Dots = true
-covered so.ByRef = true
-covered so.FieldValue = true
-covered so.Let = true
-covered so.Binding = true
-covered so.Statement = true
-covered so.Pattern = true
-covered so.Case = true
-covered so.SwitchCase = true
-covered so.Values = true
-covered s = typed s
 
 -- ---- trees up to a size
 

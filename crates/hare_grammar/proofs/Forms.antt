@@ -1,5 +1,4 @@
 -- The pieces of a form are read, whatever the form, with what each kid's right edge asks of the token behind it.
--- One of the files towards the law that expressions and statements have one tree, which is to come (docs/ARCHITECTURE.md says what is left).
 use Rattle.std.proofs.Common.{◌≡◌, ℕ, ◌≤◌, List, [], ◌∷◌, ◌++◌, Bool, true, false, ◌&&◌, ◌||◌, not, refl, sym, ◌∙◌, Some}
 use Rattle.std.specs.Prelude.{nat_le}
 use Rattle.hare_tree.specs.declared.place.Place.{Place}
@@ -32,10 +31,11 @@ use Rattle.hare_grammar.specs.Table.{row}
 use Rattle.hare_grammar.specs.Engine.{Group, begun, take_text, run}
 use Rattle.hare_tree.specs.Signs.{is_sign}
 use Rattle.hare_tree.specs.Shape.{stops, stops_each, form_stops, edges, ends_before, behind_kid}
+use Rattle.hare_grammar.specs.OneTree.{is_sort_of_code as covered}
 use Rattle.hare_grammar.proofs.Steps.{front, run_uses, run_skip, run_groups}
 use Rattle.hare_grammar.proofs.Tokens.{class_sign, class_name}
 use Rattle.hare_grammar.proofs.Paths.{split}
-use Rattle.hare_grammar.proofs.Edges.{pull, true_le, stops_calm, edge, ends_sign, bound, closed_by, covered}
+use Rattle.hare_grammar.proofs.Edges.{pull, true_le, stops_calm, edge, ends_sign, bound, closed_by}
 use Rattle.hare_grammar.proofs.Lists.{alone, shape}
 use Rattle.hare_tree.specs.Shape.{is_absent}
 use Rattle.hare_grammar.proofs.Kids.{absent_kind, absent_spell, stands, stands_not_alone, led_kid, led_absent, is_none_stands}

@@ -1,5 +1,4 @@
 -- Lists in expressions and statements are read, before what closes them.
--- One of the files towards the law that expressions and statements have one tree, which is to come (docs/ARCHITECTURE.md says what is left).
 use Rattle.std.proofs.Common.{◌≡◌, ℕ, ◌≤◌, List, [], ◌∷◌, ◌++◌, Bool, true, false, refl, ap, sym, ◌∙◌, subst, arith, append_assoc, ◌⊎◌, inl, inr, Option, Some, None, if◌then◌else◌}
 use Rattle.std.proofs.lemmas.List.{append-nil}
 use Rattle.hare_tree.specs.declared.kind.Kind.{Kind}
@@ -31,10 +30,10 @@ use Rattle.hare_grammar.specs.Table.{row}
 use Rattle.hare_grammar.specs.Engine.{Group, begun, with_kids, add, run}
 use Rattle.hare_tree.specs.Signs.{is_sign}
 use Rattle.hare_tree.specs.Shape.{stops, Edge as EdgeOf, edges, ends_before, behind_item, items_end}
-use Rattle.hare_grammar.specs.OneTree.{plain}
+use Rattle.hare_grammar.specs.OneTree.{plain, is_sort_of_code as covered}
 use Rattle.hare_grammar.proofs.Steps.{front, run_uses, run_skip, run_absent, run_ends, run_want}
 use Rattle.hare_grammar.proofs.Paths.{split}
-use Rattle.hare_grammar.proofs.Edges.{pull, stops_calm, edge, closed_by, covered, ReadsTo, read_kid}
+use Rattle.hare_grammar.proofs.Edges.{pull, stops_calm, edge, closed_by, ReadsTo, read_kid}
 use Rattle.hare_grammar.proofs.Lists.{nothing_head, run_optional, shape}
 use Rattle.hare_grammar.proofs.Kids.{begins, run_or, absent_spell, absent_plain, stands, stands_not_alone, led_kid}
 use Rattle.hare_grammar.proofs.Lists.{filled, fill_more, fill_none, run_group}

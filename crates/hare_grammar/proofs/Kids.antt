@@ -1,5 +1,4 @@
 -- What is spelled is read, of kids side by side in expressions and statements, up to a size.
--- One of the files towards the law that expressions and statements have one tree, which is to come (docs/ARCHITECTURE.md says what is left).
 use Rattle.std.proofs.Common.{◌≡◌, ℕ, ◌≤◌, List, [], ◌∷◌, ◌++◌, Bool, true, false, refl, ap, sym, ◌∙◌, arith, append_assoc, if◌then◌else◌}
 use Rattle.std.specs.Prelude.{nat_le}
 use Rattle.hare_tree.specs.declared.kind.Kind.{Kind}
@@ -29,22 +28,22 @@ use Rattle.hare_grammar.specs.Table.{row}
 use Rattle.hare_grammar.specs.Engine.{Group, begun, add, bare_leaf, Done, run, bottom}
 use Rattle.hare_tree.specs.Signs.{is_sign}
 use Rattle.hare_grammar.specs.ExpressionRows.{level_row, start_row, start_level}
-use Rattle.hare_grammar.specs.OneTree.{plain}
+use Rattle.hare_grammar.specs.OneTree.{plain, is_sort_of_code as covered}
 use Rattle.hare_grammar.proofs.Steps.{run_uses, run_faults, run_done}
 use Rattle.hare_grammar.proofs.Tokens.{class_sign}
 use Rattle.hare_grammar.proofs.Paths.{split}
-use Rattle.hare_grammar.proofs.Edges.{pull, true_le, stops_calm, closed_by, covered, ReadsTo, read_kid}
+use Rattle.hare_grammar.proofs.Edges.{pull, true_le, stops_calm, closed_by, ReadsTo, read_kid}
 use Rattle.hare_grammar.proofs.Lists.{nothing_head, Begins, type_never, never_skips as types_never, is_skips, done_not_fails, shape}
 use Rattle.hare_tree.specs.Shape.{is_absent}
 
 -- ---- the first token of a tree
 
 -- a sign behind which nothing of the sort goes on
-abbrev closer : Sort → Sign
+abbrev pub closer : Sort → Sign
 closer so.Values = si.Arrow
 closer _ = si.RightBrace
 
-closer_faults : (s : Sort) → covered s ≡ true → of_row s (cl.Sign (closer s)) ≡ Fault
+pub closer_faults : (s : Sort) → covered s ≡ true → of_row s (cl.Sign (closer s)) ≡ Fault
 closer_faults (so.Level l) c = by (nat_le l 16)
   where
     by : (b : Bool) → (if b then before Fault (part (ru.Climb l 16) ∷ []) else Fault) ≡ Fault
@@ -53,17 +52,17 @@ closer_faults (so.Level l) c = by (nat_le l 16)
 closer_faults so.Left c = refl
 closer_faults _ c = refl
 
-closer_pull : (s : Sort) → pull (cl.Sign (closer s)) ≡ 0
+pub closer_pull : (s : Sort) → pull (cl.Sign (closer s)) ≡ 0
 closer_pull so.Values = refl
 closer_pull _ = refl
 
-closer_closes : (s : Sort) → closed_by s (cl.Sign (closer s)) ≡ true
+pub closer_closes : (s : Sort) → closed_by s (cl.Sign (closer s)) ≡ true
 closer_closes so.Values = refl
 closer_closes so.Case = refl
 closer_closes so.SwitchCase = refl
 closer_closes _ = refl
 
-closer_calm : (s : Sort) → (is_sign si.Else (closer s) ≡ false) × (is_sign si.Comma (closer s) ≡ false)
+pub closer_calm : (s : Sort) → (is_sign si.Else (closer s) ≡ false) × (is_sign si.Comma (closer s) ≡ false)
 closer_calm so.Values = (refl, refl)
 closer_calm _ = (refl, refl)
 
@@ -154,7 +153,7 @@ never so.SwitchCase c e = switch_case_never c
 never so.Values c e = led_never (before (level_row 1 c) (rest_of 1 ki.Values)) (ch.Open ∷ []) (before_never (level_row 1 c) _ (level_never 1 c))
 never s c e = types_never s c e
 
-same_sign : (a b : Sign) → cl.Sign a ≡ cl.Sign b → a ≡ b
+pub same_sign : (a b : Sign) → cl.Sign a ≡ cl.Sign b → a ≡ b
 same_sign a b e = cc
 
 pub begins : (f n : ℕ) → ReadsTo f n → (s : Sort) (t : Node) → size_of t ≤ n → covered s ≡ true → is_shaped s t ≡ true → Begins s (spell f t)

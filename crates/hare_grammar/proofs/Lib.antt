@@ -6,6 +6,7 @@ pub mod Lists
 pub mod Pieces
 pub mod Types
 pub mod OneTree
+pub mod Still
 pub mod Places
 pub mod Edges
 pub mod Kids
@@ -14,3 +15,10 @@ pub mod Elements
 pub mod Forms
 pub mod Read
 pub mod Nodes
+pub mod Openers
+pub mod Operators
+pub mod Leaves
+pub mod Late
+pub mod Labelled
+pub mod Loops
+pub mod Expressions

@@ -1,5 +1,4 @@
 -- Expressions that begin with a sign of their own are read, from the pieces of their form.
--- One of the files towards the law that expressions and statements have one tree, which is to come (docs/ARCHITECTURE.md says what is left).
 use Rattle.std.proofs.Common.{◌≡◌, ℕ, ◌≤◌, List, [], ◌∷◌, ◌++◌, Bool, true, false, ◌&&◌, refl, ap, sym, ◌∙◌, subst, append_assoc}
 use Rattle.std.specs.Prelude.{nat_le}
 use Rattle.hare_tree.specs.declared.kind.Kind.{Kind}
@@ -71,7 +70,7 @@ closed f h k false ts i e w st g gs =
     ∙ ap (λ y. run f w st (add (branch y (nodes_of (plain_list f ts))) (g ∷ gs))) (sym (nothing_head f h k i (e refl)))
     ∙ ap (λ y. run f w st (add (branch (plain_head f h) y) (g ∷ gs))) (back f ts)
 
-stack : (ss ls st : List Symbol) (k : Kind) → ((ss ++ sy.Close k ∷ []) ++ ls) ++ st ≡ ss ++ sy.Close k ∷ (ls ++ st)
+pub stack : (ss ls st : List Symbol) (k : Kind) → ((ss ++ sy.Close k ∷ []) ++ ls) ++ st ≡ ss ++ sy.Close k ∷ (ls ++ st)
 stack ss ls st k = append_assoc (ss ++ sy.Close k ∷ []) ls st ∙ append_assoc ss (sy.Close k ∷ []) (ls ++ st)
 
 pub opens_reads : (f n : ℕ) → ReadsTo f n → (s : Sort) (k : Kind) (d : Sign) (ps : List Piece) (h : Head) (ts : Nodes) → sizes_of ts ≤ n → h.kind ≡ k → form_of k ≡ pi.Fixed d ∷ ps → row (ru.Of s) (cl.Sign d) ≡ before (opens k) (left s (level h.kind h.text)) → Whole s h ts → Owns h ps → (has_own ps ≡ false → is_own ow.Nothing h ≡ true) → (w : List Token) (st : List Symbol) (g : Group) (gs : List Group) → Edge s (front w) (branch h ts) → Clear ps (front w) → Claim f s h ts w st g gs

@@ -2,26 +2,35 @@
 use Rattle.std.proofs.Common.{◌≡◌, ℕ, List, [], ◌∷◌, ◌++◌, true, refl, ap, sym, ◌∙◌, arith}
 use Rattle.hare_tree.specs.declared.form.Sort.{Sort}
 use Rattle.hare_tree.specs.Node.{Node, size_of}
-use Rattle.hare_tree.specs.Spell.{start_of, spell}
+use Rattle.hare_tree.specs.Spell.{start_of, sign_token, spell}
 use Rattle.hare_tree.specs.Shape.{is_shaped}
 use Rattle.hare_grammar.specs.Rows.{of}
 use Rattle.hare_grammar.specs.Engine.{begun, add, Outcome, Done, run, bottom}
-use Rattle.hare_grammar.specs.OneTree.{plain, is_sort_of_types, TypesHaveOneTree}
+use Rattle.hare_grammar.specs.OneTree.{plain, is_sort_of_code, CodeHasOneTree}
 use Rattle.hare_grammar.proofs.Steps.{run_done}
-use Rattle.hare_grammar.proofs.Lists.{stop}
-use Rattle.hare_grammar.proofs.Types.{reads}
+use Rattle.hare_grammar.proofs.Tokens.{class_sign}
+use Rattle.hare_grammar.proofs.Edges.{stops_calm, read_kid}
+use Rattle.hare_grammar.proofs.Kids.{closer, closer_pull, closer_closes, closer_calm, same_sign}
+use Rattle.hare_grammar.proofs.Expressions.{reads}
 
-pub read_whole : (f : ℕ) (s : Sort) (t : Node) → is_sort_of_types s ≡ true → is_shaped s t ≡ true → run f (spell f t ++ stop f ∷ []) (of s ∷ []) bottom ≡ Done (stop f ∷ []) (add (plain f t) bottom)
-read_whole f s t l h = reads f (size_of t) s t (omega arith) l h (stop f ∷ []) [] (begun (start_of 0) []) [] refl ∙ run_done f (stop f) [] (add (plain f t) bottom)
+-- a tree is read up to a sign that ends it
+pub read_whole : (f : ℕ) (s : Sort) (t : Node) → is_sort_of_code s ≡ true → is_shaped s t ≡ true → run f (spell f t ++ sign_token f (closer s) ∷ []) (of s ∷ []) bottom ≡ Done (sign_token f (closer s) ∷ []) (add (plain f t) bottom)
+read_whole f s t l h =
+    let d = closer s in
+    let e = class_sign f d in
+    let q = closer_calm s in
+    read_kid f (size_of t) (reads f (size_of t)) s t (omega arith) l h (sign_token f d ∷ []) [] (begun (start_of 0) []) [] (rw (e, closer_pull s) (omega arith)) (λ r i. rw (← same_sign d r (sym e ∙ i)) (stops_calm d q.0 q.1 t)) (rw e (closer_closes s))
+    ∙ run_done f (sign_token f d) [] (add (plain f t) bottom)
 
 abbrev kids_in : Outcome → List Node
 kids_in (Done u (g ∷ gs)) = g.kids
 kids_in _ = []
 
-pub types_have_one_tree : TypesHaveOneTree
-types_have_one_tree f s l t t' h h' e =
+pub code_has_one_tree : CodeHasOneTree
+code_has_one_tree f s l t t' h h' e =
     let a = read_whole f s t l h in
     let b = read_whole f s t' l h' in
-    let d : run f (spell f t ++ stop f ∷ []) (of s ∷ []) bottom ≡ run f (spell f t' ++ stop f ∷ []) (of s ∷ []) bottom = ap (λ u. run f (u ++ stop f ∷ []) (of s ∷ []) bottom) e in
+    let x = sign_token f (closer s) in
+    let d : run f (spell f t ++ x ∷ []) (of s ∷ []) bottom ≡ run f (spell f t' ++ x ∷ []) (of s ∷ []) bottom = ap (λ u. run f (u ++ x ∷ []) (of s ∷ []) bottom) e in
     let k : plain f t ∷ [] ≡ plain f t' ∷ [] = ap kids_in (sym a ∙ d ∙ b) in
     cc

@@ -18,8 +18,9 @@ use Rattle.hare_tree.specs.declared.form.Lead.{Lead}
 use Rattle.hare_tree.specs.Spell.{own_tokens, label_tokens, left_behind, value_lead, listed}
 use Rattle.hare_tree.specs.Depth.{begins as begin_at, begins_in, place_in, is_operator, first_number, numbers_behind}
 use Rattle.hare_tree.specs.Grammar.{unplaced, HasPlaces, HavePlaces, place_of, joined}
-use Rattle.hare_grammar.specs.OneTree.{plain, plains, plain_head, PlacesDecideTrees, TokensHaveOneType}
-use Rattle.hare_grammar.proofs.OneTree.{types_have_one_tree}
+use Rattle.hare_grammar.specs.OneTree.{plain, plains, plain_head, PlacesDecideTrees, TokensHaveOneTree}
+use Rattle.hare_grammar.proofs.OneTree.{code_has_one_tree}
+use Rattle.hare_grammar.proofs.Still.{still_spell}
 
 -- ---- tokens say nothing of places
 
@@ -111,104 +112,9 @@ mutual
       let b : plains 0 us ≡ plains 0 us' = ap others_in e in
       ap (λ x. more x us) (places_decide f ts (first_number ns) u u' a p.0 p'.0) ∙ ap (more u') (have_places_decide f ts (numbers_behind ns) us us' b p.1 p'.1)
 
--- ---- the tokens of a tree stand at the start of a file
+-- ---- the law of one tree, with places
 
--- as they stand at the start of file 0
-abbrev Still : List Token → Type 0
-Still u = map unplaced u ≡ u
-
-abbrev AllStill : List Spelled → Type 0
-AllStill [] = Unit {0}
-AllStill (u ∷ us) = Still u.1 × AllStill us
-
-still_append : (u v : List Token) → Still u → Still v → Still (u ++ v)
-still_append u v e d = map-append unplaced u v ∙ (rw (e, d) refl)
-
-still_lead : (l : Lead) (u : Spelled) → Still u.1 → Still (with_lead 0 l u)
-still_lead le.Nothing u e = e
-still_lead (le.Before s) u e = by (stands_alone u.0)
-  where
-    by : (b : Bool) → Still (if b then u.1 else sign_token 0 s ∷ u.1)
-    by true = e
-    by false = ap (λ x. sign_token 0 s ∷ x) e
-still_lead (le.Behind s) u e = by (stands_alone u.0)
-  where
-    by : (b : Bool) → Still (if b then u.1 else u.1 ++ sign_token 0 s ∷ [])
-    by true = e
-    by false = still_append u.1 (sign_token 0 s ∷ []) e refl
-
-still_led : (l : Lead) (us : List Spelled) → AllStill us → Still (all_led 0 l us)
-still_led l [] a = refl
-still_led l (u ∷ us) a = still_append (with_lead 0 l u) (all_led 0 l us) (still_lead l u a.0) (still_led l us a.1)
-
-still_one : (l : Lead) (us : List Spelled) → AllStill us → Still (one_led 0 l us)
-still_one l [] a = refl
-still_one l (u ∷ us) a = still_append (with_lead 0 l u) [] (still_lead l u a.0) refl
-
-still_drop : (us : List Spelled) → AllStill us → AllStill (drop 1 us)
-still_drop [] a = tt
-still_drop (u ∷ us) a = a.1
-
-still_path : (ps : List (List ℕ)) → Still (path_tokens 0 ps)
-still_path [] = refl
-still_path (p ∷ []) = refl
-still_path (p ∷ (q ∷ qs)) = ap (λ l. word_token 0 tk.Name p ∷ sign_token 0 si.PathMark ∷ l) (still_path (q ∷ qs))
-
-still_label : (x : List ℕ) → Still (label_tokens 0 x)
-still_label [] = refl
-still_label (c ∷ x) = refl
-
-still_own : (h : Head) (o : Own) → Still (own_tokens 0 h o)
-still_own h ow.Path = still_path (parts h.text)
-still_own h ow.Label = still_label h.text
-still_own h _ = refl
-
-still_listed : (us : List Spelled) → AllStill us → Still (listed 0 us)
-still_listed us a = still_append (one_led 0 le.Nothing us) (all_led 0 (le.Before si.Comma) (drop 1 us)) (still_one le.Nothing us a) (still_led (le.Before si.Comma) (drop 1 us) (still_drop us a))
-
-still_piece : (h : Head) (p : Piece) (us : List Spelled) → AllStill us → Still (piece_tokens 0 h p us)
-still_piece h (pi.Fixed s) us a = refl
-still_piece h (pi.Own o) us a = still_own h o
-still_piece h (pi.Kid s) us a = still_one le.Nothing us a
-still_piece h (pi.Optional s) us a = still_one le.Nothing us a
-still_piece h (pi.Led c s) us a = still_one (le.Before c) us a
-still_piece h (pi.Followed s c) us a = still_one (le.Behind c) us a
-still_piece h (pi.Value s) us a = still_one (value_lead h.text) us a
-still_piece h (pi.Each s) us a = still_led le.Nothing us a
-still_piece h (pi.EachLed c s) us a = still_led (le.Before c) us a
-still_piece h (pi.EachFollowed s c) us a = still_led (le.Behind c) us a
-still_piece h (pi.More s) us a = still_led (le.Before si.Comma) us a
-still_piece h (pi.List s) us a = still_listed us a
-still_piece h (pi.Elements s) us a = still_listed us a
-still_piece h (pi.MoreElements s) us a = still_led (le.Before si.Comma) us a
-
-still_left : (p : Piece) (us : List Spelled) → AllStill us → AllStill (left_behind p us)
-still_left (pi.Fixed s) us a = a
-still_left (pi.Own o) us a = a
-still_left (pi.Kid s) us a = still_drop us a
-still_left (pi.Optional s) us a = still_drop us a
-still_left (pi.Led c s) us a = still_drop us a
-still_left (pi.Followed s c) us a = still_drop us a
-still_left (pi.Value s) us a = still_drop us a
-still_left _ us a = tt
-
-still_pieces : (h : Head) (ps : List Piece) (us : List Spelled) → AllStill us → Still (pieces_tokens 0 h ps us)
-still_pieces h [] us a = refl
-still_pieces h (p ∷ ps) us a = still_append (piece_tokens 0 h p us) (pieces_tokens 0 h ps (left_behind p us)) (still_piece h p us a) (still_pieces h ps (left_behind p us) (still_left p us a))
-
-mutual
-  unfolding spell
-
-  pub still_spell : (t : Node) → Still (spell 0 t)
-  still_spell (branch h ts) = still_pieces h (form_of h.kind) (spells 0 ts) (still_spells ts)
-
-  still_spells : (ts : Nodes) → AllStill (spells 0 ts)
-  still_spells none = tt
-  still_spells (more t ts) = (still_spell t, still_spells ts)
-
--- ---- the law of types, with places
-
-pub tokens_have_one_type : TokensHaveOneType
-tokens_have_one_type s l file ts t t' p p' =
-    let e : spell 0 t ≡ spell 0 t' = sym (still_spell t) ∙ p.spelled ∙ sym p'.spelled ∙ still_spell t' in
-    places_decide file (joined ts) 0 t t' (types_have_one_tree 0 s l t t' p.shaped p'.shaped e) p.placed p'.placed
+pub tokens_have_one_tree : TokensHaveOneTree
+tokens_have_one_tree s l file ts t t' p p' =
+    let e : spell 0 t ≡ spell 0 t' = sym (still_spell 0 t) ∙ p.spelled ∙ sym p'.spelled ∙ still_spell 0 t' in
+    places_decide file (joined ts) 0 t t' (code_has_one_tree 0 s l t t' p.shaped p'.shaped e) p.placed p'.placed

@@ -1,5 +1,4 @@
 -- What is spelled by the pieces of a form is read.
--- One of the files towards the law that expressions and statements have one tree, which is to come (docs/ARCHITECTURE.md says what is left).
 use Rattle.std.proofs.Common.{◌≡◌, ℕ, ◌≤◌, List, [], ◌∷◌, ◌++◌, Bool, true, false, ◌&&◌, ◌||◌, not, refl, ap, sym, ◌∙◌, subst, arith, rules, append_assoc, if◌then◌else◌}
 use Rattle.std.specs.Prelude.{nat_le}
 use Rattle.std.proofs.lemmas.Bool.Decides.{nat_tests}
@@ -37,11 +36,11 @@ use Rattle.hare_grammar.specs.Table.{row}
 use Rattle.hare_grammar.specs.Engine.{Group, with_kids, add, take_text, run}
 use Rattle.hare_tree.specs.Signs.{is_sign}
 use Rattle.hare_tree.specs.Shape.{stops, stops_each, form_stops, Ending, kid_or, edges, ends_before, behind_kid}
-use Rattle.hare_grammar.specs.OneTree.{plain}
+use Rattle.hare_grammar.specs.OneTree.{plain, is_sort_of_code as covered}
 use Rattle.hare_grammar.proofs.Steps.{front, run_uses, run_absent, run_want, run_groups}
 use Rattle.hare_grammar.proofs.Tokens.{class_sign, class_number}
 use Rattle.hare_grammar.proofs.Paths.{split}
-use Rattle.hare_grammar.proofs.Edges.{true_le, edge, covered, ReadsTo, read_kid}
+use Rattle.hare_grammar.proofs.Edges.{true_le, edge, ReadsTo, read_kid}
 use Rattle.hare_grammar.proofs.Lists.{plain_list, shape}
 use Rattle.hare_tree.specs.Shape.{is_absent}
 use Rattle.hare_grammar.proofs.Kids.{begins, run_or_none, absent_kind, absent_spell, absent_plain, stands, led_kid, led_absent}
@@ -94,7 +93,7 @@ kid_at f n ih s t z c e b p h ks v st gs q =
 none_level : (l : ℕ) → nat_le 1 l ≡ true → nat_le l 0 ≡ true → ⊥
 none_level l a b = let x = true_le 1 l a in let y = true_le l 0 b in omega (arith, x, y)
 
-is_there : (s : Sort) (t : Node) → covered s ≡ true → is_shaped s t ≡ true → is_none (head t).kind ≡ false
+pub is_there : (s : Sort) (t : Node) → covered s ≡ true → is_shaped s t ≡ true → is_none (head t).kind ≡ false
 is_there s (branch h ts) c e = by_kind s h.kind h.text c (shape s h ts e).admitted
   where
     by_kind : (s : Sort) (k : Kind) (x : List ℕ) → covered s ≡ true → admits s k x ≡ true → is_none k ≡ false

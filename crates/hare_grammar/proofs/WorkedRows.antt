@@ -10,9 +10,11 @@ use Rattle.hare_tree.specs.declared.form.Sort.TheVariants as so
 use Rattle.hare_tree.specs.declared.form.Sign.TheVariants as si
 use Rattle.hare_tree.specs.Node.{Node, branch, none, nodes_of}
 use Rattle.hare_tree.specs.Forms.{expr}
-use Rattle.hare_tree.specs.Spell.{start_of, word_token, sign_token, spell}
-use Rattle.hare_tree.specs.Shape.{is_shaped, stops, begins_labelled}
-use Rattle.hare_grammar.specs.Rows.{of}
+use Rattle.hare_tree.specs.declared.tree.FileTree.{FileTree}
+use Rattle.hare_tree.specs.Spell.{start_of, word_token, sign_token, spell, spell_file}
+use Rattle.hare_tree.specs.Shape.{is_shaped, is_shaped_file, stops, begins_labelled}
+use Rattle.hare_grammar.specs.declared.rule.Rule.TheVariants as ru
+use Rattle.hare_grammar.specs.Rows.{of, part}
 use Rattle.hare_grammar.specs.Engine.{run, step, Outcome, Done, Fails, begun, bottom}
 
 -- ---- small words for trees and tokens
@@ -267,3 +269,22 @@ constant = record { shaped = refl; read = refl }
 type_declaration : ReadsBack so.Decl (tree ki.TypeDecl [] (no ∷ named (codes "a") ∷ tree ki.TypePointer [] (tree ki.TypePath (codes "b") [] ∷ []) ∷ []))
 unfolding is_shaped stops begins_labelled spell run step
 type_declaration = record { shaped = refl; read = refl }
+
+-- ---- a file
+
+-- the file is shaped, and its imports and then its declarations come back from its tokens
+record FileReadsBack (t : FileTree) : Type 0 where
+  shaped : is_shaped_file t ≡ true
+  read : run 0 (spell_file t) (part (ru.Each so.Use) ∷ part (ru.Each so.Decl) ∷ []) bottom ≡ Done (end ∷ []) (begun (start_of 0) (t.uses ++ t.decls) ∷ [])
+
+-- use a; use b = a::b; def a: int = 5; export type b = *int;
+abbrev small_file : FileTree
+small_file = record {
+  file = 0;
+  uses = tree ki.Use [] (tree ki.ImportPath [] (named (codes "a") ∷ []) ∷ []) ∷ tree ki.UseAlias [] (named (codes "b") ∷ tree ki.ImportPath [] (named (codes "a") ∷ named (codes "b") ∷ []) ∷ []) ∷ [];
+  decls = tree ki.Def [] (no ∷ named (codes "a") ∷ int ∷ five ∷ []) ∷ tree ki.TypeDecl [] (tree ki.Export [] [] ∷ named (codes "b") ∷ tree ki.TypePointer [] (int ∷ []) ∷ []) ∷ [];
+}
+
+file : FileReadsBack small_file
+unfolding is_shaped stops begins_labelled spell run step
+file = record { shaped = refl; read = refl }

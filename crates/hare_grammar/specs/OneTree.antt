@@ -1,5 +1,5 @@
 -- That the grammar has one tree for a list of tokens.
-use Rattle.std.specs.Prelude.{◌≡◌, ℕ, List, Bool, true, false}
+use Rattle.std.specs.Prelude.{◌≡◌, ℕ, List, Bool, true, false, nat_le}
 use Rattle.hare_tree.specs.declared.token.Token.{Token}
 use Rattle.hare_tree.specs.declared.form.Sort.{Sort}
 use Rattle.hare_tree.specs.declared.form.Sort.TheVariants as so
@@ -30,17 +30,33 @@ is_sort_of_types so.Length = true
 is_sort_of_types so.StructField = true
 is_sort_of_types _ = false
 
--- two shaped types with the same tokens are equal but for places
-abbrev pub TypesHaveOneTree : Type 0
-TypesHaveOneTree =
-    (f : ℕ) (s : Sort) → is_sort_of_types s ≡ true → (t t' : Node) → is_shaped s t ≡ true → is_shaped s t' ≡ true → spell f t ≡ spell f t' → plain f t ≡ plain f t'
+-- types, expressions, statements and patterns, and their parts. Level 0 stands for what is no expression, and admits every kind.
+abbrev pub is_sort_of_code : Sort → Bool
+is_sort_of_code (so.Level l) = nat_le 1 l
+is_sort_of_code so.Message = true
+is_sort_of_code so.Dots = true
+is_sort_of_code so.ByRef = true
+is_sort_of_code so.FieldValue = true
+is_sort_of_code so.Let = true
+is_sort_of_code so.Binding = true
+is_sort_of_code so.Statement = true
+is_sort_of_code so.Pattern = true
+is_sort_of_code so.Case = true
+is_sort_of_code so.SwitchCase = true
+is_sort_of_code so.Values = true
+is_sort_of_code s = is_sort_of_types s
+
+-- two shaped trees of such a sort with the same tokens are equal but for places
+abbrev pub CodeHasOneTree : Type 0
+CodeHasOneTree =
+    (f : ℕ) (s : Sort) → is_sort_of_code s ≡ true → (t t' : Node) → is_shaped s t ≡ true → is_shaped s t' ≡ true → spell f t ≡ spell f t' → plain f t ≡ plain f t'
 
 -- Trees that are equal but for places are equal where both have the places of the same tokens.
 abbrev pub PlacesDecideTrees : Type 0
 PlacesDecideTrees =
     (f : ℕ) (ts : List Token) (n : ℕ) (t t' : Node) → plain 0 t ≡ plain 0 t' → HasPlaces f ts n t → HasPlaces f ts n t' → t ≡ t'
 
--- the tokens of a file are those of at most one type, places and all
-abbrev pub TokensHaveOneType : Type 0
-TokensHaveOneType =
-    (s : Sort) → is_sort_of_types s ≡ true → (file : ℕ) (ts : List Token) (t t' : Node) → IsTreeOf s file ts t → IsTreeOf s file ts t' → t ≡ t'
+-- the tokens of a file are those of at most one tree of such a sort, places and all
+abbrev pub TokensHaveOneTree : Type 0
+TokensHaveOneTree =
+    (s : Sort) → is_sort_of_code s ≡ true → (file : ℕ) (ts : List Token) (t t' : Node) → IsTreeOf s file ts t → IsTreeOf s file ts t' → t ≡ t'
