@@ -1,5 +1,5 @@
 -- Every tree of types, expressions, statements and patterns is read from its tokens, kind by kind.
-use Rattle.std.proofs.Common.{◌≡◌, ℕ, zero, suc, ◌≤◌, List, [], ◌∷◌, ◌++◌, true, false, refl, ap, sym, ◌∙◌, subst, arith}
+use Rattle.std.proofs.Common.{◌≡◌, ℕ, zero, suc, ◌≤◌, List, [], ◌∷◌, ◌++◌, true, false, refl, sym, ◌∙◌, subst, arith}
 use Rattle.std.specs.Prelude.{nat_le}
 use Rattle.hare_tree.specs.declared.kind.Kind.{Kind}
 use Rattle.hare_tree.specs.declared.kind.Kind.TheVariants as ki
@@ -20,12 +20,12 @@ use Rattle.hare_grammar.specs.declared.rule.Change.{Change}
 use Rattle.hare_grammar.specs.Classes.{class_of}
 use Rattle.hare_grammar.specs.Rows.{Uses, of, has_sign}
 use Rattle.hare_grammar.specs.DeclarationRows.{of_row}
-use Rattle.hare_grammar.specs.Engine.{Group, add, run}
-use Rattle.hare_grammar.specs.OneTree.{plain, is_sort_of_types as typed, is_sort_of_code as covered}
+use Rattle.hare_grammar.specs.Engine.{Group, run}
+use Rattle.hare_grammar.specs.OneTree.{is_sort_of_types as typed, is_sort_of_code as covered}
 use Rattle.hare_grammar.proofs.Steps.{front, run_uses}
 use Rattle.hare_grammar.proofs.Lists.{Begins, begins}
 use Rattle.hare_grammar.proofs.Types.{reads as types_read}
-use Rattle.hare_grammar.proofs.Edges.{Edge, pull, le_true, true_le, bound, reach, left, ReadsTo}
+use Rattle.hare_grammar.proofs.Edges.{Edge, pull, le_true, true_le, reach, left, ReadsTo}
 use Rattle.hare_grammar.proofs.Nodes.{Whole, whole, Claim, tops}
 use Rattle.hare_grammar.proofs.Openers.{word_reads, opened_neg, opened_not, opened_bang, opened_deref, opened_addr, opened_free, opened_delete, opened_len, opened_offset, opened_size, opened_align, opened_array, opened_alloc, opened_append, opened_abort, opened_assert, opened_if, opened_break, opened_continue, opened_return, opened_match, opened_switch, let_reads, const_reads, defer_reads, loop_let_reads, binding_reads, pattern_let_reads, case_reads, switch_case_reads}
 use Rattle.hare_grammar.proofs.Operators.{is_expr, shaped_by, behind_reads, behinds_try, behinds_force, behinds_field, behinds_call, behinds_cast, behinds_as, behinds_is, behinds_assign, binary_reads, binaries_arith, binaries_shift, binaries_less, binaries_equal, binaries_logic, op_assign_reads}

@@ -1,5 +1,5 @@
 -- Kinds that a token behind the first decides: blocks, values in parentheses, indices and slices.
-use Rattle.std.proofs.Common.{◌≡◌, ℕ, ◌≤◌, List, [], ◌∷◌, ◌++◌, Bool, true, false, ◌&&◌, ◌||◌, refl, ap, sym, ◌∙◌, subst, arith, append_assoc}
+use Rattle.std.proofs.Common.{◌≡◌, ℕ, ◌≤◌, List, [], ◌∷◌, ◌++◌, true, false, ◌&&◌, ◌||◌, refl, ap, sym, ◌∙◌, subst, arith, append_assoc}
 use Rattle.std.specs.Prelude.{nat_le}
 use Rattle.std.proofs.lemmas.List.{append-nil}
 use Rattle.hare_tree.specs.declared.kind.Kind.{Kind}
@@ -19,7 +19,6 @@ use Rattle.hare_tree.specs.Forms.{form_of, expr, postfix}
 use Rattle.hare_tree.specs.Levels.{is_name, level}
 use Rattle.hare_tree.specs.Spell.{start_of, word_token, sign_token, label_tokens, all_led, pieces_tokens, spell, spells}
 use Rattle.hare_tree.specs.Shape.{is_shaped, are_kids, is_own, is_empty, has_text_alone, is_absent, kid_pieces, own_of, kids_end, edges, stops, stops_each, form_stops, ends_before, behind_item, items_end}
-use Rattle.hare_tree.specs.Signs.{is_sign}
 use Rattle.hare_grammar.specs.declared.class.Class.{Class}
 use Rattle.hare_grammar.specs.declared.class.Class.TheVariants as cl
 use Rattle.hare_grammar.specs.declared.rule.Rule.TheVariants as ru
@@ -28,7 +27,7 @@ use Rattle.hare_grammar.specs.declared.rule.Symbol.TheVariants as sy
 use Rattle.hare_grammar.specs.declared.rule.Change.{Change}
 use Rattle.hare_grammar.specs.declared.rule.Change.TheVariants as ch
 use Rattle.hare_grammar.specs.Classes.{class_of}
-use Rattle.hare_grammar.specs.Rows.{Uses, of, part, before, symbols, rest_of}
+use Rattle.hare_grammar.specs.Rows.{Uses, of, part, before, rest_of}
 use Rattle.hare_grammar.specs.DeclarationRows.{of_row}
 use Rattle.hare_grammar.specs.Table.{row}
 use Rattle.hare_grammar.specs.Engine.{Group, begun, add, run}
@@ -39,8 +38,8 @@ use Rattle.hare_grammar.proofs.Paths.{split}
 use Rattle.hare_grammar.proofs.Lists.{run_before}
 use Rattle.hare_grammar.proofs.Edges.{Edge, pull, le_true, true_le, stops_calm, edge, bound, closed_by, left, ReadsTo, read_kid}
 use Rattle.hare_grammar.proofs.Kids.{begins, absent_spell, absent_plain}
-use Rattle.hare_grammar.proofs.Items.{Closer, same_sign}
-use Rattle.hare_grammar.proofs.Forms.{state, Clear, at, Maybe, lacks, has, maybe, read_name}
+use Rattle.hare_grammar.proofs.Items.{same_sign}
+use Rattle.hare_grammar.proofs.Forms.{state, at, Maybe, lacks, has, maybe, read_name}
 use Rattle.hare_grammar.proofs.Read.{read_pieces}
 use Rattle.hare_grammar.proofs.Nodes.{Whole, Claim, closed, tops, expr_row}
 use Rattle.hare_grammar.proofs.Operators.{is_expr, least, level_at, left_climb, tops_least, operand_level, operand_reads, over_last, tight_high, arguments_close}

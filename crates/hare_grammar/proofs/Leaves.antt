@@ -1,6 +1,5 @@
 -- Expressions of one token, paths and struct literals, and the parts of statements that are one token or begin with a name.
-use Rattle.std.proofs.Common.{◌≡◌, ℕ, ◌≤◌, List, [], ◌∷◌, ◌++◌, Bool, true, false, ◌&&◌, codes, refl, ap, sym, ◌∙◌, subst, arith, append_assoc, ◌⊎◌, inl, inr}
-use Rattle.std.specs.Prelude.{nat_le}
+use Rattle.std.proofs.Common.{◌≡◌, ℕ, ◌≤◌, List, [], ◌∷◌, ◌++◌, true, false, ◌&&◌, codes, refl, ap, sym, ◌∙◌, subst, arith, append_assoc, ◌⊎◌, inl, inr}
 use Rattle.std.proofs.lemmas.List.{append-nil}
 use Rattle.hare_tree.specs.declared.kind.Kind.{Kind}
 use Rattle.hare_tree.specs.declared.kind.Kind.TheVariants as ki
@@ -28,20 +27,20 @@ use Rattle.hare_grammar.specs.declared.rule.Symbol.{Symbol}
 use Rattle.hare_grammar.specs.declared.rule.Symbol.TheVariants as sy
 use Rattle.hare_grammar.specs.declared.rule.Change.TheVariants as ch
 use Rattle.hare_grammar.specs.Classes.{class_of, when}
-use Rattle.hare_grammar.specs.Rows.{Row, Skips, Uses, of, part, before, symbols, rest_of, leaf, mark, names, has_sign}
+use Rattle.hare_grammar.specs.Rows.{Skips, Uses, of, part, before, rest_of, leaf, names}
 use Rattle.hare_grammar.specs.Table.{row}
-use Rattle.hare_grammar.specs.Engine.{Group, begun, with_kids, head_in, bare_leaf, add, all_changed, close, run}
+use Rattle.hare_grammar.specs.Engine.{Group, begun, with_kids, add, run}
 use Rattle.hare_grammar.specs.ExpressionRows.{start_row}
-use Rattle.hare_grammar.specs.OneTree.{plain, plain_head, is_sort_of_code as covered}
-use Rattle.hare_grammar.proofs.Steps.{front, run_uses, run_changes, run_close, run_want, run_groups}
-use Rattle.hare_grammar.proofs.Tokens.{class_sign, class_name, class_path_name, class_number, AllOf, of_listed}
+use Rattle.hare_grammar.specs.OneTree.{plain, plain_head}
+use Rattle.hare_grammar.proofs.Steps.{front, run_uses, run_changes, run_want, run_groups}
+use Rattle.hare_grammar.proofs.Tokens.{class_sign, class_name, class_path_name, class_number, of_listed}
 use Rattle.hare_grammar.proofs.Paths.{split, further, further_tokens, path_split, joined_by, texted, parts_some}
-use Rattle.hare_grammar.proofs.Lists.{plain_list, filled, fill_more, nothing_head, text_head, run_group}
-use Rattle.hare_grammar.proofs.Edges.{Edge, pull, edge, closed_by, left, ReadsTo, read_kid}
+use Rattle.hare_grammar.proofs.Lists.{filled, fill_more, nothing_head, text_head, run_group}
+use Rattle.hare_grammar.proofs.Edges.{Edge, pull, edge, left, ReadsTo, read_kid}
 use Rattle.hare_grammar.proofs.Items.{Closer, item_pull, item_stops, read_more}
-use Rattle.hare_grammar.proofs.Forms.{state, has_own, Owns, Clear, taken}
+use Rattle.hare_grammar.proofs.Forms.{taken}
 use Rattle.hare_grammar.proofs.Read.{read_pieces}
-use Rattle.hare_grammar.proofs.Nodes.{Whole, whole, Claim, closed, stack, tops, expr_row}
+use Rattle.hare_grammar.proofs.Nodes.{Whole, whole, Claim, closed, tops, expr_row}
 use Rattle.hare_grammar.proofs.Openers.{at_of, edge_pull}
 
 -- ---- leaves

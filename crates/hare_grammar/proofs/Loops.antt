@@ -17,7 +17,7 @@ use Rattle.hare_tree.specs.Node.{Head, Node, Nodes, branch, none, more, head, si
 use Rattle.hare_tree.specs.Forms.{form_of, expr}
 use Rattle.hare_tree.specs.Levels.{is_name, level, admits}
 use Rattle.hare_tree.specs.Spell.{start_of, word_token, sign_token, label_tokens, value_lead, one_led, all_led, pieces_tokens, spell, spells}
-use Rattle.hare_tree.specs.Shape.{is_shaped, are_kids, is_own, is_empty, has_text_alone, is_absent, is_none, is_yield, kid_pieces, own_of, kids_end, edges, stops, stops_each, form_stops, kid_or, ends_before, behind_item, items_end, begins_labelled, first_labelled, yields_label}
+use Rattle.hare_tree.specs.Shape.{is_shaped, are_kids, is_own, is_empty, has_text_alone, is_absent, is_yield, kid_pieces, edges, stops, stops_each, form_stops, kid_or, ends_before, behind_item, items_end, begins_labelled, yields_label}
 use Rattle.hare_tree.specs.Signs.{is_sign}
 use Rattle.hare_grammar.specs.declared.class.Class.{Class}
 use Rattle.hare_grammar.specs.declared.class.Class.TheVariants as cl
@@ -28,19 +28,19 @@ use Rattle.hare_grammar.specs.declared.rule.Symbol.TheVariants as sy
 use Rattle.hare_grammar.specs.declared.rule.Change.{Change}
 use Rattle.hare_grammar.specs.declared.rule.Change.TheVariants as ch
 use Rattle.hare_grammar.specs.Classes.{class_of}
-use Rattle.hare_grammar.specs.Rows.{Row, Skips, Uses, of, part, before, led_by, or_skips, has_sign, symbols, rest_of}
+use Rattle.hare_grammar.specs.Rows.{Row, Skips, Uses, of, part, before, led_by, or_skips, has_sign, rest_of}
 use Rattle.hare_grammar.specs.DeclarationRows.{of_row}
 use Rattle.hare_grammar.specs.Table.{row}
 use Rattle.hare_grammar.specs.Engine.{Group, begun, bare_leaf, add, close, all_changed, run}
 use Rattle.hare_grammar.specs.OneTree.{plain}
-use Rattle.hare_grammar.proofs.Steps.{front, run_uses, run_close, run_want, run_changes, run_groups, all_changed-append}
+use Rattle.hare_grammar.proofs.Steps.{front, run_uses, run_close, run_want, run_changes, all_changed-append}
 use Rattle.hare_grammar.proofs.Tokens.{class_sign}
 use Rattle.hare_grammar.proofs.Paths.{split}
 use Rattle.hare_grammar.proofs.Lists.{run_before, nothing_head}
-use Rattle.hare_grammar.proofs.Edges.{Edge, pull, stops_calm, edge, closed_by, left, ReadsTo, read_kid}
+use Rattle.hare_grammar.proofs.Edges.{Edge, pull, stops_calm, edge, left, ReadsTo, read_kid}
 use Rattle.hare_grammar.proofs.Kids.{begins, absent_kind, absent_spell, absent_plain, led_kid, led_absent}
 use Rattle.hare_grammar.proofs.Items.{Closer}
-use Rattle.hare_grammar.proofs.Forms.{state, Clear, Maybe, lacks, has, maybe, read_name, read_label}
+use Rattle.hare_grammar.proofs.Forms.{state, Maybe, lacks, has, maybe, read_name, read_label}
 use Rattle.hare_grammar.proofs.Read.{read_pieces, is_there}
 use Rattle.hare_grammar.proofs.Nodes.{Whole, whole, Claim, closed, tops, expr_row}
 use Rattle.hare_grammar.proofs.Openers.{at_of, edge_pull, quiet_colon, quiet_expr}

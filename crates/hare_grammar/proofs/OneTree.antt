@@ -1,5 +1,5 @@
 -- Two trees with the same tokens are read alike, so they are one.
-use Rattle.std.proofs.Common.{◌≡◌, ℕ, List, [], ◌∷◌, ◌++◌, true, refl, ap, sym, ◌∙◌, arith}
+use Rattle.std.proofs.Common.{◌≡◌, ℕ, List, [], ◌∷◌, ◌++◌, true, ap, sym, ◌∙◌, arith}
 use Rattle.hare_tree.specs.declared.form.Sort.{Sort}
 use Rattle.hare_tree.specs.Node.{Node, size_of}
 use Rattle.hare_tree.specs.Spell.{start_of, sign_token, spell}

@@ -1,6 +1,5 @@
 -- Expressions and statements that begin with a sign of their own, one line for each kind.
 use Rattle.std.proofs.Common.{◌≡◌, ℕ, ◌≤◌, List, [], ◌∷◌, true, false, refl, ap, sym, ◌∙◌, subst, arith}
-use Rattle.std.specs.Prelude.{nat_le}
 use Rattle.hare_tree.specs.declared.kind.Kind.{Kind}
 use Rattle.hare_tree.specs.declared.kind.Kind.TheVariants as ki
 use Rattle.hare_tree.specs.declared.token.Token.{Token}
@@ -13,7 +12,7 @@ use Rattle.hare_tree.specs.declared.form.Piece.{Piece}
 use Rattle.hare_tree.specs.declared.form.Piece.TheVariants as pi
 use Rattle.hare_tree.specs.Node.{Head, Nodes, branch, sizes_of}
 use Rattle.hare_tree.specs.Forms.{form_of, expr, unary}
-use Rattle.hare_tree.specs.Levels.{level, admits}
+use Rattle.hare_tree.specs.Levels.{level}
 use Rattle.hare_tree.specs.Shape.{is_own, own_of}
 use Rattle.hare_grammar.specs.declared.class.Class.{Class}
 use Rattle.hare_grammar.specs.declared.class.Class.TheVariants as cl
@@ -27,7 +26,6 @@ use Rattle.hare_grammar.specs.ExpressionRows.{level_row, start_row, start_level}
 use Rattle.hare_grammar.proofs.Steps.{front}
 use Rattle.hare_grammar.proofs.Edges.{Edge, pull, le_true, quiet_start, reach, tight, bound, closed_by, left, ReadsTo}
 use Rattle.hare_grammar.proofs.Forms.{has_own, Owns, Clear, at}
-use Rattle.hare_grammar.proofs.Items.{Closer}
 use Rattle.hare_grammar.proofs.Nodes.{Whole, Claim, opens_reads, tops, expr_row}
 
 -- what takes no more than the bound of a sort stands behind its trees

@@ -1,5 +1,5 @@
 -- Operators behind an operand: binary operators, assignments, casts, and the postfix forms that one token decides.
-use Rattle.std.proofs.Common.{◌≡◌, ℕ, ◌+◌, ◌≤◌, List, [], ◌∷◌, ◌++◌, Bool, true, false, ◌&&◌, ◌||◌, codes, refl, ap, ◌∙◌, subst, arith, append_assoc, if◌then◌else◌}
+use Rattle.std.proofs.Common.{◌≡◌, ℕ, ◌+◌, ◌≤◌, List, [], ◌∷◌, ◌++◌, Bool, true, false, ◌&&◌, ◌||◌, refl, ap, ◌∙◌, subst, arith, append_assoc, if◌then◌else◌}
 use Rattle.std.specs.Prelude.{nat_le}
 use Rattle.std.proofs.lemmas.List.{append-nil}
 use Rattle.hare_tree.specs.declared.kind.Kind.{Kind}
@@ -20,7 +20,7 @@ use Rattle.hare_tree.specs.Signs.{is_sign}
 use Rattle.hare_tree.specs.Forms.{form_of, expr, unary, postfix, binary}
 use Rattle.hare_tree.specs.Levels.{level, admits, operators, operator_level, sort_in}
 use Rattle.hare_tree.specs.Spell.{start_of, word_token, sign_token, pieces_tokens, spell, spells}
-use Rattle.hare_tree.specs.Shape.{is_shaped, are_kids, is_own, has_text_alone, kid_pieces, own_of, kids_end, edges, stops, stops_each, form_stops, ends_before, behind_kid}
+use Rattle.hare_tree.specs.Shape.{is_shaped, are_kids, is_own, has_text_alone, kid_pieces, own_of, kids_end, edges, stops, stops_each, form_stops}
 use Rattle.hare_grammar.specs.declared.class.Class.{Class}
 use Rattle.hare_grammar.specs.declared.class.Class.TheVariants as cl
 use Rattle.hare_grammar.specs.declared.rule.Rule.TheVariants as ru
@@ -29,15 +29,15 @@ use Rattle.hare_grammar.specs.declared.rule.Symbol.TheVariants as sy
 use Rattle.hare_grammar.specs.declared.rule.Change.{Change}
 use Rattle.hare_grammar.specs.declared.rule.Change.TheVariants as ch
 use Rattle.hare_grammar.specs.Classes.{class_of}
-use Rattle.hare_grammar.specs.Rows.{Row, Uses, of, part, before, symbols}
+use Rattle.hare_grammar.specs.Rows.{Uses, of, part, symbols}
 use Rattle.hare_grammar.specs.Table.{row}
 use Rattle.hare_grammar.specs.Engine.{Group, begun, with_kids, last_kid, but_last, over, add, take_text, all_changed, run}
-use Rattle.hare_grammar.specs.ExpressionRows.{climbs, assigns, binary_kind, binary_at, behind_operand}
+use Rattle.hare_grammar.specs.ExpressionRows.{climbs, binary_kind, binary_at}
 use Rattle.hare_grammar.specs.OneTree.{plain, is_sort_of_code as covered}
 use Rattle.hare_grammar.proofs.Steps.{front, run_uses, run_groups}
-use Rattle.hare_grammar.proofs.Tokens.{class_sign, AllOf, of_listed}
+use Rattle.hare_grammar.proofs.Tokens.{class_sign, of_listed}
 use Rattle.hare_grammar.proofs.Paths.{split}
-use Rattle.hare_grammar.proofs.Edges.{Edge, pull, le_true, true_le, stops_calm, tight, bound, reach, closed_by, left, ReadsTo}
+use Rattle.hare_grammar.proofs.Edges.{Edge, pull, le_true, true_le, stops_calm, tight, reach, closed_by, left, ReadsTo}
 use Rattle.hare_grammar.proofs.Items.{Closer}
 use Rattle.hare_grammar.proofs.Forms.{state, has_own, Owns, Clear, taken}
 use Rattle.hare_grammar.proofs.Read.{read_pieces}

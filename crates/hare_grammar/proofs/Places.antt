@@ -1,23 +1,18 @@
 -- Places: the tokens of a tree say nothing of them, and a tree's tokens with their places give them all.
-use Rattle.std.proofs.Common.{◌≡◌, ℕ, ◌+◌, List, [], ◌∷◌, ◌++◌, Bool, true, false, length, map, drop, refl, ap, sym, ◌∙◌, subst, if◌then◌else◌}
-use Rattle.std.proofs.lemmas.List.{map-append}
+use Rattle.std.proofs.Common.{◌≡◌, ℕ, ◌+◌, List, [], ◌∷◌, length, refl, ap, sym, ◌∙◌, subst, if◌then◌else◌}
 use Rattle.hare_tree.specs.declared.place.Place.{Place}
-use Rattle.hare_tree.specs.declared.token.TokenKind.TheVariants as tk
 use Rattle.hare_tree.specs.declared.token.Token.{Token}
-use Rattle.hare_tree.specs.declared.form.Sign.TheVariants as si
 use Rattle.hare_tree.specs.declared.form.Own.{Own}
 use Rattle.hare_tree.specs.declared.form.Own.TheVariants as ow
-use Rattle.hare_tree.specs.declared.form.Lead.TheVariants as le
 use Rattle.hare_tree.specs.declared.form.Piece.{Piece}
 use Rattle.hare_tree.specs.declared.form.Piece.TheVariants as pi
 use Rattle.hare_tree.specs.Node.{Head, Node, Nodes, branch, none, more}
 use Rattle.hare_tree.specs.Forms.{form_of}
-use Rattle.hare_tree.specs.Spell.{start_of, word_token, sign_token, parts, path_tokens, Spelled, stands_alone, with_lead, all_led, one_led, piece_tokens, pieces_tokens, spell, spells}
+use Rattle.hare_tree.specs.Spell.{start_of, Spelled, piece_tokens, pieces_tokens, spell, spells}
 use Rattle.hare_tree.specs.Shape.{is_none}
-use Rattle.hare_tree.specs.declared.form.Lead.{Lead}
-use Rattle.hare_tree.specs.Spell.{own_tokens, label_tokens, left_behind, value_lead, listed}
+use Rattle.hare_tree.specs.Spell.{own_tokens, left_behind}
 use Rattle.hare_tree.specs.Depth.{begins as begin_at, begins_in, place_in, is_operator, first_number, numbers_behind}
-use Rattle.hare_tree.specs.Grammar.{unplaced, HasPlaces, HavePlaces, place_of, joined}
+use Rattle.hare_tree.specs.Grammar.{HasPlaces, HavePlaces, place_of, joined}
 use Rattle.hare_grammar.specs.OneTree.{plain, plains, plain_head, PlacesDecideTrees, TokensHaveOneTree}
 use Rattle.hare_grammar.proofs.OneTree.{code_has_one_tree}
 use Rattle.hare_grammar.proofs.Still.{still_spell}
