@@ -14,7 +14,7 @@ mod ShapedLemmas
 mod TokensOf
 mod TokensOfCode
 mod TokensOfModule
-mod Validates
+pub mod Validates
 mod ValidRows
 mod ScannedTokens
 mod Unique

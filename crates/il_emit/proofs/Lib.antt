@@ -2,4 +2,12 @@ pub mod Drafts
 pub mod Emitting
 pub mod Counts
 pub mod Smalls
+pub mod NumberedNames
+pub mod Blocks
+pub mod Numbering
+pub mod Allowed
+pub mod Operations
+pub mod Rightful
+pub mod Functions
+pub mod Globals
 pub mod Lawful

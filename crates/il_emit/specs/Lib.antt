@@ -4,4 +4,4 @@ pub mod Lines
 pub mod Drafts
 pub mod Emitting
 pub mod Emitted
-pub mod Kept
+pub mod Numbered

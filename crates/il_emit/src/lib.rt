@@ -1,8 +1,7 @@
 //! The intermediate language of a program of flat code.
 //!
 //! [`emit`] makes a module of a well formed program: a data item for each global and a function for each
-//! function, whose structured code becomes blocks. `specs/Lines.antt` says which. Of the rules of a valid
-//! module those of `specs/Kept.antt` are proved so far.
+//! function, whose structured code becomes blocks. `specs/Lines.antt` says which. The module is valid.
 #![tactic(auto)]
 
 mod code;

@@ -1,9 +1,11 @@
 //! Functions, and the module of a program.
 
-ghost use Rattle.std.specs.Prelude.{◌≡◌, ◌++◌, map, OnOk, IfOk};
+ghost use Rattle.std.specs.Prelude.{◌≡◌, ◌++◌, ◌<◌, ◌^◌, map, OnOk, IfOk};
+ghost use Rattle.std.specs.List.{AllByRecursion};
 ghost use Rattle.flat_code.specs.WellFormed.{IsWellFormed, is_main};
+ghost use Rattle.il_code.specs.Rules.{IsValid};
 ghost use Rattle.il_emit.specs.Lines.{end_value};
-ghost use Rattle.il_emit.specs.Kept.{KeepsRules};
+ghost use Rattle.il_emit.specs.Numbered.{HasFewNames};
 ghost use Rattle.il_emit.specs.Emitted.{data_item, params_of, blocks_of, function_item, module_of};
 
 use crate::code::code;
@@ -16,19 +18,20 @@ use hx_base::Class;
 use il_code::{Blocks, IlItem, IlItems, IlParam, IlParams, IlValue, Jump, Module};
 use std::alloc::{AllocError, Global};
 
-/// The module of a program: a data item for each global, and then a function for each function, in their order. `main` is exported. An
-/// error is want of memory.
+/// The module of a program: a data item for each global, and then a function for each function, in their order. `main` is exported. The
+/// module is valid. An error is want of memory.
 pub fn emit(alloc: Global, p: &FlatProgram) -> Result<Module, AllocError>
     requires { IsWellFormed p.now }
     ensures value { IfOk result (λ m. m ≡ module_of p.now) }
-    ensures rules { IfOk result (λ m. KeepsRules m.items) }
+    ensures valid { IfOk result (λ m. IsValid m) }
 {
     let m = module_of(alloc, p)?;
     Ok(m)
 }
 
 fn module_of(alloc: Global, p: &FlatProgram) -> Result<Module, AllocError>
-    ensures { IfOk result (λ m. m ≡ module_of p.now) }
+    ensures value { IfOk result (λ m. m ≡ module_of p.now) }
+    ensures fits { OnOk result (AllByRecursion HasFewNames p.now.functions) }
 {
     let globals = p.globals.as_slice();
     let mut items = IlItems::new(alloc);
@@ -54,7 +57,8 @@ fn put_functions(
     globals: &[Data],
     functions: &[FlatFn],
 ) -> Result<(), AllocError>
-    ensures { OnOk result (out.new ≡ out.old ++ map (function_item globals.now) functions.now) }
+    ensures value { OnOk result (out.new ≡ out.old ++ map (function_item globals.now) functions.now) }
+    ensures fits { OnOk result (AllByRecursion HasFewNames functions.now) }
 {
     let mut left = functions;
     'each: while let [f, more @ ..] = left {
@@ -65,7 +69,8 @@ fn put_functions(
 }
 
 fn function_item(alloc: Global, globals: &[Data], f: &FlatFn) -> Result<IlItem, AllocError>
-    ensures { IfOk result (λ i. i ≡ function_item globals.now f.now) }
+    ensures value { IfOk result (λ i. i ≡ function_item globals.now f.now) }
+    ensures fits { OnOk result (HasFewNames f.now) }
 {
     let name = same_text(alloc, &f.name)?;
     let params = params_of(alloc, f.params.as_slice())?;
@@ -116,8 +121,14 @@ fn end_value(class: Option<Class>) -> Option<IlValue>
     }
 }
 
+/// What a caller may rest on: a `u64` is below 2^64.
+fn has_64_bits(n: u64)
+    ensures { n < 2 ^ 64 }
+{}
+
 fn blocks_of(alloc: Global, globals: &[Data], f: &FlatFn) -> Result<Blocks, AllocError>
-    ensures { IfOk result (λ bs. bs ≡ blocks_of globals.now f.now) }
+    ensures value { IfOk result (λ bs. bs ≡ blocks_of globals.now f.now) }
+    ensures fits { OnOk result (HasFewNames f.now) }
 {
     let mut e = Emitter {
         alloc,
@@ -128,6 +139,9 @@ fn blocks_of(alloc: Global, globals: &[Data], f: &FlatFn) -> Result<Blocks, Allo
     };
     e.label(0)?;
     code(&mut e, globals, &f.body)?;
+    has_64_bits(e.labels);
+    has_64_bits(e.addresses);
+    has_64_bits(u64::from(f.temps));
     e.end(Jump::Ret(end_value(f.result)))?;
     let Emitter { draft, .. } = e;
     let Draft { blocks, .. } = draft;

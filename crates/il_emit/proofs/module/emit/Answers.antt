@@ -1,9 +1,9 @@
--- The module keeps the rules that are proved so far.
+-- The module is valid.
 use Rattle.std.proofs.Common.{subst, sym}
 use Rattle.il_code.specs.declared.types.Module.{Module}
-use Rattle.il_emit.specs.Kept.{KeepsRules}
-use Rattle.il_emit.proofs.Lawful.{keeps_rules}
+use Rattle.il_code.specs.Rules.{IsValid}
+use Rattle.il_emit.proofs.Lawful.{valid}
 use Rattle.il_emit.proofs.module.emit.Goals as goal
 
-pub returns-clause-rules : goal.returns-clause-rules
-returns-clause-rules c = subst (λ (m : Module). KeepsRules m.items) (sym c.in_ok-m.ensures) (keeps_rules c.args.p.now c.requires)
+pub returns-clause-valid : goal.returns-clause-valid
+returns-clause-valid c = subst (λ (m : Module). IsValid m) (sym c.in_ok-m.ensures.value) (valid c.args.p.now c.requires c.in_ok-m.ensures.fits)

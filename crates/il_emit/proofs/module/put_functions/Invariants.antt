@@ -1,10 +1,15 @@
--- What was put out and what is left are all items.
+-- What was put out and what is left are all items, and the names of what was put out are few.
 use Rattle.std.proofs.Common.{◌≡◌, ◌++◌, length, map}
+use Rattle.std.specs.List.{AllByRecursion}
 use Rattle.il_emit.specs.Emitted.{function_item}
+use Rattle.il_emit.specs.Numbered.{HasFewNames}
 use Rattle.il_emit.proofs.module.put_functions.Given as goal
 
 abbrev pub invariant-each : goal.invariant-each
-invariant-each l = l.out ++ map (function_item l.globals) l.left ≡ l.initial.out ++ map (function_item l.globals) l.initial.left
+invariant-each l = record {
+  value : l.out ++ map (function_item l.globals) l.left ≡ l.initial.out ++ map (function_item l.globals) l.initial.left;
+  fits : AllByRecursion HasFewNames l.left → AllByRecursion HasFewNames l.initial.left;
+}
 
 abbrev pub decreases-each : goal.decreases-each
 decreases-each l = length l.left

@@ -1,0 +1,268 @@
+-- Each line of a function of a well formed program is one that the intermediate language admits.
+use Rattle.std.proofs.Common.{◌≡◌, ℕ, ◌+◌, ◌<◌, ◌≤◌, ◌^◌, Bool, true, false, not, ◌&&◌, ◌||◌, List, [], ◌∷◌, length, Option, None, Some, refl, sym, ap, ◌∙◌, subst, arith, ◌⊎◌, inl, inr}
+use Rattle.std.specs.Prelude.{bytes_eq, nat_eq, nat_lt, ◌==◌}
+use Rattle.std.specs.List.{list_all}
+use Rattle.std.proofs.lemmas.Bool.{and_parts}
+use Rattle.std.proofs.lemmas.Bool.Decides.{nat_tests}
+use Rattle.hx_base.specs.declared.Class.{Class}
+use Rattle.hx_base.specs.declared.Class.TheVariants.{W, L}
+use Rattle.hx_base.specs.Runtime.{RuntimeFunction, runtime_function}
+use Rattle.flat_code.specs.declared.op.Op.{Op}
+use Rattle.flat_code.specs.declared.program.Data.{Data}
+use Rattle.flat_code.specs.declared.program.FlatFn.{FlatFn}
+use Rattle.flat_code.specs.declared.value.Value.{Value}
+use Rattle.flat_code.specs.declared.value.Value.TheVariants.{Temp, Number, Symbol, Frame}
+use Rattle.flat_code.specs.Code.{Set}
+use Rattle.flat_code.specs.Costs.{addressed}
+use Rattle.flat_code.specs.Kinds.{op_kind, takes_two, first_class, second_class, may_give}
+use Rattle.flat_code.specs.Signatures.{runtime_params, runtime_result}
+use Rattle.flat_code.specs.Temps.{call_class, other_class, has_one_class}
+use Rattle.flat_code.specs.Temps as flat
+use Rattle.flat_code.specs.WellFormed.{is_bits, is_operand, is_second, is_target, is_right, are_args, takes_result, is_call, is_return, is_long}
+use Rattle.il_code.specs.declared.types.Block.{Block}
+use Rattle.il_code.specs.declared.types.IlArg.{IlArg}
+use Rattle.il_code.specs.declared.types.IlItem.{IlItem}
+use Rattle.il_code.specs.declared.types.IlParam.{IlParam}
+use Rattle.il_code.specs.declared.types.IlValue.{IlValue}
+use Rattle.il_code.specs.declared.types.IlValue.TheVariants as value
+use Rattle.il_code.specs.declared.types.Inst.{Inst}
+use Rattle.il_code.specs.declared.types.Inst.TheVariants as inst
+use Rattle.il_code.specs.declared.types.Jump.{Jump}
+use Rattle.il_code.specs.declared.types.Jump.TheVariants as jump
+use Rattle.il_code.specs.Rules as rule
+use Rattle.il_code.specs.Rules.{item_name, has_named, has_label, targets_pass, is_set, inst_has_one_class, each_has_class, has_classes, is_call_right, is_call_of_item, is_runtime_call, call_is_right, second_is_right, inst_is_right, return_is_right, jump_is_right}
+use Rattle.il_code.specs.Shaped.{is_value, is_arg, is_result, is_inst, is_jump}
+use Rattle.il_code.specs.Shaped as shape
+use Rattle.il_code.specs.Tokens.{is_identifier}
+use Rattle.il_emit.specs.Names.{temp_name, address_name, label_name}
+use Rattle.il_emit.specs.Ops.{il_op}
+use Rattle.il_emit.specs.Lines.{operand, address_inst, name_at, second, call_params, result_param, args_of, all_addressed}
+use Rattle.il_emit.proofs.Allowed.{LinesPass}
+use Rattle.il_emit.proofs.Blocks.{line_passes}
+use Rattle.il_emit.proofs.Counts.{both_true, or_true}
+use Rattle.il_emit.proofs.Operations.{takes_is, first_is, second_is, may_is, named_call}
+use Rattle.il_emit.proofs.NumberedNames.{temp_identifier, address_identifier, label_identifier, label_eq}
+
+-- ---- tests of lines
+
+module _ (items : List IlItem) (params : List IlParam) (blocks : List Block) (class : Option Class) where
+  abbrev pub good_inst : Inst → Bool
+  good_inst i = is_inst i && (inst_has_one_class params blocks i && inst_is_right items params blocks i)
+
+  abbrev pub good_jump : Jump → Bool
+  good_jump j = is_jump j && (targets_pass (has_label blocks) j && (targets_pass (λ l. not (bytes_eq l (label_name 0))) j && jump_is_right items params blocks class j))
+
+abbrev pub good_label : ℕ → ℕ → Bool
+good_label most n = nat_lt n most
+
+-- ---- what is known of the names of a function
+
+pub record Names (globals : List Data) (f : FlatFn) (items : List IlItem) (params : List IlParam) (blocks : List Block) (most_labels most_addresses : ℕ) : Type 0 where
+  pub few_labels : most_labels ≤ 2 ^ 64
+  pub few_addresses : most_addresses ≤ 2 ^ 64
+  pub few_temps : f.temps < 2 ^ 64
+  pub no_frame : f.frame ≡ 0
+  pub set_is : (t : ℕ) (class : Class) → t < f.temps → is_set params blocks (temp_name t) class ≡ flat.is_set f t class
+  pub below : (t : ℕ) (class : Class) → flat.is_set f t class ≡ true → t < f.temps
+  pub computed : (k : ℕ) → k < most_addresses → is_set params blocks (address_name k) L ≡ true
+  pub no_word : (k : ℕ) → is_set params blocks (address_name k) W ≡ false
+  pub labels : (n : ℕ) → n < most_labels → has_label blocks (label_name n) ≡ true
+  pub identifiers : (i : ℕ) → i < length globals → is_identifier (name_at globals i) ≡ true
+  pub symbols : (i : ℕ) → i < length globals → has_named item_name (name_at globals i) items ≡ true
+
+pub record ArgsFine (items : List IlItem) (params : List IlParam) (blocks : List Block) (classes : List Class) (args : List IlArg) : Type 0 where
+  pub as_many : length args ≡ length classes
+  pub classed : each_has_class args classes ≡ true
+  pub spelled : list_all is_arg args ≡ true
+  pub right : list_all (λ (a : IlArg). rule.is_right items params blocks a.class a.value) args ≡ true
+
+pub record ResultFine (params : List IlParam) (blocks : List Block) (given : Option Class) (result : Option IlParam) : Type 0 where
+  pub taken : rule.takes_result result given ≡ true
+  pub spelled : is_result result ≡ true
+  pub one_class : (name : List ℕ) (args : List IlArg) → inst_has_one_class params blocks (inst.Call result name args) ≡ true
+
+class_same : (x : Class) → rule.same_class x x ≡ true
+class_same W = refl
+class_same L = refl
+
+either : (a b c d : Bool) → a ≡ c → b ≡ d → (a || b) ≡ (c || d)
+either a b c d h k = rw (h, k) refl
+
+one_only : (a b c d : Bool) → a ≡ c → b ≡ d → (a && not b) ≡ (c && not d)
+one_only a b c d h k = rw (h, k) refl
+
+or_cases : (a b : Bool) → (a || b) ≡ true → (a ≡ true) ⊎ (b ≡ true)
+or_cases true b h = inl refl
+or_cases false b h = inr h
+
+module _ (globals : List Data) (f : FlatFn) (items : List IlItem) (params : List IlParam) (blocks : List Block) (most_labels most_addresses : ℕ) (n : Names globals f items params blocks most_labels most_addresses) where
+  -- ---- operands
+
+  abbrev Fine : Class → IlValue → Type 0
+  Fine class v = (is_value v ≡ true) × (rule.is_right items params blocks class v ≡ true)
+
+  address_fine : (k : ℕ) → k < most_addresses → Fine L (value.Temp (address_name k))
+  address_fine k h =
+      let few = n.few_addresses in
+      (address_identifier k (omega arith), one_only _ _ true false (n.computed k h) (n.no_word k))
+
+  operand_fine : (class : Class) (v : Value) (k : ℕ) → is_operand (length globals) f class v ≡ true → k + addressed v ≤ most_addresses → Fine class (operand globals v k)
+  operand_fine class (Number m) k r u = (r, refl)
+  operand_fine W (Temp t) k r u =
+      let lt : t < f.temps = elim (or_cases (flat.is_set f t W) (flat.is_set f t L) r) [ inl h ↦ n.below t W h | inr h ↦ n.below t L h ] in
+      let few = n.few_temps in
+      (temp_identifier t (omega arith), either _ _ _ _ (n.set_is t W lt) (n.set_is t L lt) ∙ r)
+  operand_fine L (Temp t) k r u =
+      let lt : t < f.temps = n.below t L (and_parts (flat.is_set f t L) (not (flat.is_set f t W)) r).0 in
+      let few = n.few_temps in
+      (temp_identifier t (omega arith), one_only _ _ _ _ (n.set_is t L lt) (n.set_is t W lt) ∙ r)
+  operand_fine W (Symbol i offset) k r u = cc
+  operand_fine L (Symbol i offset) k r u = pick (offset == 0) refl
+    where
+      pick : (b : Bool) → (offset == 0) ≡ b → Fine L (operand globals (Symbol i offset) k)
+      pick true e =
+          let p = and_parts (nat_lt i (length globals)) (is_bits offset) r in
+          let lt : i < length globals = let z = p.0 in grind (arith, nat_tests) in
+          let s : operand globals (Symbol i offset) k ≡ value.Symbol (name_at globals i) = rw e refl in
+          subst (Fine L) (sym s) (n.identifiers i lt, n.symbols i lt)
+      pick false e =
+          let room : k + 1 ≤ most_addresses = rw e at u in
+          let s : operand globals (Symbol i offset) k ≡ value.Temp (address_name k) = rw e refl in
+          subst (Fine L) (sym s) (address_fine k (omega arith))
+  operand_fine class (Frame offset) k r u =
+      let p = (and_parts (is_long class) (nat_lt offset f.frame) r).1 in
+      let z = n.no_frame in
+      absurd (grind (arith, nat_tests))
+
+  -- ---- single instructions
+
+  target_fine : (t : ℕ) (class : Class) → is_target f t class ≡ true → (is_identifier (temp_name t) ≡ true) × (rule.has_one_class params blocks (temp_name t) class ≡ true)
+  target_fine t class h =
+      let p = and_parts (nat_lt t f.temps) (has_one_class f t class) h in
+      let lt : t < f.temps = let z = p.0 in grind (arith, nat_tests) in
+      let few = n.few_temps in
+      (temp_identifier t (omega arith), ap not (n.set_is t (other_class class) lt) ∙ p.1)
+
+  abbrev SecondFine : Class → Bool → Option IlValue → Type 0
+  SecondFine class two v = (shape.is_second two v ≡ true) × (second_is_right items params blocks class v ≡ true)
+
+  second_fine : (class : Class) (two : Bool) (v : Value) (k : ℕ) → is_second (length globals) f class two v ≡ true → k + addressed v ≤ most_addresses → SecondFine class two (second two (operand globals v k))
+  second_fine class true v k r u = operand_fine class v k r u
+  second_fine class false v k r u = (refl, refl)
+
+  abbrev good : Inst → Type 0
+  good i = good_inst items params blocks f.result i ≡ true
+
+  set_good : (t : ℕ) (class : Class) (o : Op) (a b : Value) (k : ℕ) → is_right (length globals) f 0 (Set t class o a b) ≡ true → k + addressed a + addressed b ≤ most_addresses
+      → good (inst.Set (temp_name t) class (il_op o) (operand globals a k) (second (takes_two (op_kind o)) (operand globals b (k + addressed a))))
+  set_good t class o a b k r u =
+      let p = and_parts (is_target f t class) _ r in
+      let q = and_parts (may_give (op_kind o) class) _ p.1 in
+      let s = and_parts (is_operand (length globals) f (first_class (op_kind o) class) a) (is_second (length globals) f (second_class (op_kind o) class) (takes_two (op_kind o)) b) q.1 in
+      let to = target_fine t class p.0 in
+      let one = operand_fine (first_class (op_kind o) class) a k s.0 (omega arith) in
+      let two = second_fine (second_class (op_kind o) class) (takes_two (op_kind o)) b (k + addressed a) s.1 (omega arith) in
+      let v = second (takes_two (op_kind o)) (operand globals b (k + addressed a)) in
+      both_true _ _
+      (both_true _ _ to.0 (both_true _ _ one.0 (subst (λ (x : Bool). shape.is_second x v ≡ true) (sym (takes_is o)) two.0)))
+      (both_true _ _ to.1
+      (both_true _ _ (may_is o class ∙ q.0)
+      (both_true _ _ (subst (λ (c : Class). rule.is_right items params blocks c (operand globals a k) ≡ true) (sym (first_is o class)) one.1)
+      (subst (λ (c : Class). second_is_right items params blocks c v ≡ true) (sym (second_is o class)) two.1))))
+
+  address_good : (i offset k : ℕ) → i < length globals → is_bits offset ≡ true → k < most_addresses → good (address_inst globals i offset k)
+  address_good i offset k h b l =
+      let few = n.few_addresses in
+      both_true _ _
+      (both_true _ _ (address_identifier k (omega arith)) (both_true _ _ (n.identifiers i h) b))
+      (both_true _ _ (ap not (n.no_word k)) (both_true _ true (n.symbols i h) refl))
+
+  -- ---- calls
+
+  args_fine : (cs : List Class) (vs : List Value) (k : ℕ) → are_args (length globals) f cs vs ≡ true → k + all_addressed vs ≤ most_addresses → ArgsFine items params blocks cs (args_of globals cs vs k)
+  args_fine [] [] k r u = record { as_many = refl; classed = refl; spelled = refl; right = refl }
+  args_fine [] (v ∷ vs) k r u = cc
+  args_fine (c ∷ cs) [] k r u = cc
+  args_fine (c ∷ cs) (v ∷ vs) k r u =
+      let p = and_parts (is_operand (length globals) f c v) (are_args (length globals) f cs vs) r in
+      let one = operand_fine c v k p.0 (omega arith) in
+      let rest = args_fine cs vs (k + addressed v) p.1 (omega arith) in
+      record {
+        as_many = omega (arith, rest.as_many);
+        classed = both_true _ _ (class_same c) rest.classed;
+        spelled = both_true _ _ one.0 rest.spelled;
+        right = both_true _ _ one.1 rest.right;
+      }
+
+  classes_fine : (cs : List Class) (args : List IlArg) → ArgsFine items params blocks cs args → has_classes args cs ≡ true
+  classes_fine cs args a = let h : (length args == length cs) ≡ true = let z = a.as_many in grind (arith, nat_tests) in both_true _ _ h a.classed
+
+  result_fine : (temp : Option ℕ) (given : Option Class) → takes_result f temp given ≡ true → ResultFine params blocks given (result_param temp given)
+  result_fine None given h = record { taken = refl; spelled = refl; one_class = λ name args. refl }
+  result_fine (Some t) None h = cc
+  result_fine (Some t) (Some c) h =
+      let p = target_fine t c h in
+      record { taken = class_same c; spelled = p.0; one_class = λ name args. p.1 }
+
+  call_right : (result : Option IlParam) (name : List ℕ) (args : List IlArg) → is_runtime_call result name args ≡ true → list_all (λ (a : IlArg). rule.is_right items params blocks a.class a.value) args ≡ true → call_is_right items params blocks result name args ≡ true
+  unfolding call_is_right
+  call_right result name args h k = both_true _ _ (or_true _ (is_runtime_call result name args) h) k
+
+  called_good : (temp : Option ℕ) (name : List ℕ) (args : List Value) (k : ℕ) (g : Option RuntimeFunction) → runtime_function name ≡ g → is_call (length globals) f temp args g ≡ true → k + all_addressed args ≤ most_addresses
+      → good (inst.Call (result_param temp (call_class g)) name (args_of globals (call_params g) args k))
+  called_good temp name args k None e r u = cc
+  called_good temp name args k (Some g) e r u =
+      let p = and_parts (are_args (length globals) f (runtime_params g) args) (takes_result f temp (runtime_result g)) r in
+      let xs = args_fine (runtime_params g) args k p.0 u in
+      let to = result_fine temp (runtime_result g) p.1 in
+      let known = named_call name g e in
+      let x = args_of globals (runtime_params g) args k in
+      let t = result_param temp (runtime_result g) in
+      both_true _ _
+      (both_true _ _ to.spelled (both_true _ _ known.identifier xs.spelled))
+      (both_true _ _ (to.one_class name x) (call_right t name x (known.call t x (both_true _ _ to.taken (classes_fine (runtime_params g) x xs))) xs.right))
+
+  -- ---- jumps
+
+  abbrev leads : Jump → Type 0
+  leads j = good_jump items params blocks f.result j ≡ true
+
+  label_fine : (m : ℕ) → m < most_labels → is_identifier (label_name m) ≡ true
+  label_fine m h = let few = n.few_labels in label_identifier m (omega arith)
+
+  not_first : (m : ℕ) → 0 < m → m < most_labels → not (bytes_eq (label_name m) (label_name 0)) ≡ true
+  not_first m l u =
+      let few = n.few_labels in
+      let e : nat_eq m 0 ≡ false = grind (arith, nat_tests) in
+      ap not (label_eq m 0 (omega arith) (omega arith) ∙ e)
+
+  jump_good : (m : ℕ) → 0 < m → m < most_labels → leads (jump.Jmp (label_name m))
+  jump_good m l u = both_true _ _ (label_fine m u) (both_true _ _ (n.labels m u) (both_true _ true (not_first m l u) refl))
+
+  branch_good : (v : Value) (k a b : ℕ) → is_operand (length globals) f W v ≡ true → k + addressed v ≤ most_addresses → 0 < a → a < most_labels → 0 < b → b < most_labels → leads (jump.Jnz (operand globals v k) (label_name a) (label_name b))
+  branch_good v k a b r u la ua lb ub =
+      let one = operand_fine W v k r u in
+      both_true _ _ (both_true _ _ one.0 (both_true _ _ (label_fine a ua) (label_fine b ub)))
+      (both_true _ _ (both_true _ _ (n.labels a ua) (n.labels b ub))
+      (both_true _ _ (both_true _ _ (not_first a la ua) (not_first b lb ub)) one.1))
+
+  return_good : (class : Option Class) → is_return (length globals) f class None ≡ true → return_is_right items params blocks class None ≡ true
+  return_good None r = refl
+  return_good (Some c) r = cc
+
+  value_good : (class : Option Class) (v : Value) (k : ℕ) → is_return (length globals) f class (Some v) ≡ true → k + addressed v ≤ most_addresses
+      → (is_value (operand globals v k) ≡ true) × (return_is_right items params blocks class (Some (operand globals v k)) ≡ true)
+  value_good None v k r u = cc
+  value_good (Some c) v k r u = operand_fine c v k r u
+
+  pub lines_pass : LinesPass globals f (line_passes (good_label most_labels) (good_inst items params blocks f.result) (good_jump items params blocks f.result)) most_labels most_addresses
+  lines_pass = record {
+    label = λ m h. grind (arith, nat_tests);
+    goes = jump_good;
+    branch = branch_good;
+    returns = λ r. return_good f.result r;
+    returns_value = λ v k r u. let p = value_good f.result v k r u in both_true _ _ p.0 p.1;
+    set = set_good;
+    call = λ temp name args k r u. called_good temp name args k (runtime_function name) refl r u;
+    address = address_good;
+  }
