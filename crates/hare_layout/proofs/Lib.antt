@@ -1,8 +1,10 @@
 pub mod AdmitLemmas
 pub mod AscendingLemmas
 pub mod BaseLemmas
+pub mod BelowLemmas
 pub mod CallerLemmas
 pub mod CappedLemmas
+pub mod DefinableLemmas
 pub mod ExtentLemmas
 pub mod GrowthLemmas
 pub mod KnownLemmas

@@ -26,3 +26,6 @@ pub use offset::offset_of;
 pub use size::{align_of, size_of};
 pub use spelled::{Bools, Places, Spelled};
 pub use tag::tag_of;
+
+#[cfg(test)]
+mod tests;

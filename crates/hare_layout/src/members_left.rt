@@ -14,7 +14,7 @@ use hare_types::{Row, Scalar, TypeId, TypeIds, TypeStore};
 use std::alloc::{AllocError, Global};
 
 /// Whether a type is never.
-fn is_never(s: &TypeStore, t: TypeId) -> bool
+pub(crate) fn is_never(s: &TypeStore, t: TypeId) -> bool
     requires { t < length s.now.rows }
     ensures { IsTrue result ↔ (tree_at s.now t ≡ Some never) }
 {
