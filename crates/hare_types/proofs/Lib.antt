@@ -9,6 +9,7 @@ pub mod FiniteLemmas
 pub mod SoundLemmas
 pub mod CallerLemmas
 pub mod AssignRows
+mod LayoutRows
 pub mod GrowthLemmas
 mod ToldLemmas
 pub mod KeptLemmas
