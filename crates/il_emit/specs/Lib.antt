@@ -1,5 +1,6 @@
 pub mod Names
 pub mod Ops
+pub mod Meaning
 pub mod Lines
 pub mod Drafts
 pub mod Emitting
