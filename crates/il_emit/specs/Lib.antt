@@ -6,3 +6,4 @@ pub mod Drafts
 pub mod Emitting
 pub mod Emitted
 pub mod Numbered
+pub mod Reaches
