@@ -21,3 +21,4 @@ pub mod GlobalAddresses
 pub mod CallCosts
 pub mod NamedFunctions
 pub mod Arrivals
+pub mod Shapes

@@ -7,6 +7,7 @@ ghost use Rattle.il_code.specs.Rules.{IsValid};
 ghost use Rattle.il_emit.specs.Lines.{end_value};
 ghost use Rattle.il_emit.specs.Numbered.{HasFewNames};
 ghost use Rattle.il_emit.specs.Reaches.{Reaches};
+ghost use Rattle.il_emit.specs.Shape.{HasShape};
 ghost use Rattle.il_emit.specs.Emitted.{data_item, params_of, blocks_of, function_item, module_of};
 
 use crate::code::code;
@@ -22,12 +23,13 @@ use std::alloc::{AllocError, Global};
 /// The module of a program: a data item for each global, and then a function for each function, in their order. `main` is exported. The
 /// module is valid, and it does what the program does: at every number of turns a run of it comes to the same end and the same world, with at most
 /// four units for each flat step, or to the same world where turns ran out. Where its calls cost more than the stack holds its end is a full
-/// stack. An error is want of memory.
+/// stack. No function has more backward jumps than Loops, or more calls of a function than Calls of it. An error is want of memory.
 pub fn emit(alloc: Global, p: &FlatProgram) -> Result<Module, AllocError>
     requires { IsWellFormed p.now }
     ensures value { IfOk result (λ m. m ≡ module_of p.now) }
     ensures valid { IfOk result (λ m. IsValid m) }
     ensures reaches { IfOk result (λ m. Reaches p.now m) }
+    ensures shape { IfOk result (λ m. HasShape p.now m) }
 {
     let m = module_of(alloc, p)?;
     Ok(m)
