@@ -22,3 +22,4 @@ pub mod CallCosts
 pub mod NamedFunctions
 pub mod Arrivals
 pub mod Shapes
+mod ReachesRows
