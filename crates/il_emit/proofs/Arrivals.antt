@@ -2,7 +2,7 @@
 use Rattle.std.proofs.Common.{◌≡◌, ℕ, ◌+◌, ◌*◌, ◌%◌, ◌<◌, ◌≤◌, Bool, true, false, not, ◌&&◌, ◌||◌, List, [], ◌∷◌, ◌++◌, length, Option, None, Some, refl, sym, ap, ◌∙◌, subst, arith, ◌⊎◌, inl, inr}
 use Rattle.std.specs.Prelude.{codes, nat_lt, ◌==◌, if◌then◌else◌}
 use Rattle.std.specs.List.{AllByRecursion}
-use Rattle.std.proofs.lemmas.Bool.{and_parts}
+use Rattle.std.proofs.lemmas.Bool.{and_parts, or_cases}
 use Rattle.std.proofs.lemmas.Bool.Decides.{nat_tests}
 use Rattle.hx_base.specs.declared.Class.{Class}
 use Rattle.hx_base.specs.Memory.{Memory}
@@ -26,7 +26,8 @@ use Rattle.il_code.specs.declared.types.Module.{Module}
 use Rattle.il_code.specs.Addresses.{stack_start}
 use Rattle.il_code.specs.Machine.{StackFull, Temps, call_cost, stack_size}
 use Rattle.il_code.specs.Machine as machine
-use Rattle.il_code.specs.Run.{Run, after_steps, run_to, start, start_world, started}
+use Rattle.il_code.specs.MachineLaws.{jumps_and_calls}
+use Rattle.il_code.specs.Run.{Run, after_step, after_steps, run_to, start, start_world, started}
 use Rattle.il_code.specs.State as il
 use Rattle.il_code.specs.Step.{bound}
 use Rattle.il_code.proofs.Budgets.{run_to-after_steps}
@@ -41,13 +42,9 @@ use Rattle.il_emit.proofs.GlobalAddresses.{address_is, address_small, start_same
 use Rattle.il_emit.proofs.Numbering.{code_below, params_below}
 use Rattle.il_emit.proofs.Operands.{Setting}
 use Rattle.il_emit.proofs.Places.{function_blocks, inside_all, inside_next}
-use Rattle.il_emit.proofs.Running.{Mark, steps_more, before, Same, Holds, Comes, Stops, Meets}
+use Rattle.il_emit.proofs.Running.{Activation, Returns, Mark, steps_more, before, Same, Holds, Comes, Stops, Meets}
 use Rattle.il_emit.proofs.Turns.{Exits, meets}
 use Rattle.il_emit.proofs.NamedFunctions.{emitted, items_named, Found, found, reserved, none_named, main_there, Parts, parts}
-
-or_cases : (a b : Bool) → (a || b) ≡ true → (a ≡ true) ⊎ (b ≡ true)
-or_cases true b h = inl refl
-or_cases false b h = inr h
 
 module _ (p : FlatProgram) (w : IsWellFormed p) (few : AllByRecursion HasFewNames p.functions) where
   setting : (f : FlatFn) → Parts (length p.globals) f → HasFewNames f → Setting p f (module_of p)
@@ -96,12 +93,15 @@ module _ (p : FlatProgram) (w : IsWellFormed p) (few : AllByRecursion HasFewName
     abbrev floor : ℕ
     floor = flat_cost.call_cost f
 
+    abbrev call : Activation
+    call = record { lines = all; pointer = stack_start; cost = cost; floor = floor; waiting = [] }
+
     abbrev first : Mark
-    first = record { used = 0; from = []; label = label_name 0; temps = []; jumps = 0 }
+    first = record { used = 0; from = []; label = label_name 0; temps = []; jumps = 0; calls = 0 }
 
     -- where the body begins
     abbrev begins : Run
-    begins = before (module_of p) all stack_start cost floor (body_lines ++ rest) world first
+    begins = before (module_of p) call (body_lines ++ rest) world first
 
     abbrev begun_with : Option machine.End → Run
     begun_with e = record { used = 0; ended = e; state = begins.state }
@@ -185,13 +185,13 @@ module _ (p : FlatProgram) (w : IsWellFormed p) (few : AllByRecursion HasFewName
     no_exits : Exits all 0 [] (λ k. rest)
     no_exits = record { depth = refl; leads = λ j l. absurd (omega arith) }
 
-    body_meets : Meets (module_of p) all stack_start cost floor n 0 (4 * (0 + 1)) (0 + 3) (λ k. rest) rest begins flat_body
+    body_meets : Meets (module_of p) call n 0 (4 * (0 + 1)) (0 + 3) (λ k. rest) rest begins flat_body
     body_meets =
         let names = found_f.few in
         let labels = names.labels in
         let addresses = names.addresses in
-        subst (λ (x : World). Meets (module_of p) all stack_start cost floor n 0 (4 * (0 + 1)) (0 + 3) (λ k. rest) rest (before (module_of p) all stack_start cost floor (body_lines ++ rest) x first) flat_body) same_world
-        (meets p f (module_of p) (setting f facts names) labels stack_start cost floor n (code_of f.body) 0 1 0 [] (λ k. rest) rest (stepped 1 flat_first) first facts.built facts.code no_exits (record { labels = omega arith; addresses = omega arith }) (inside_next all (body_lines ++ rest) (Label 0) (inside_all all)) holds)
+        subst (λ (x : World). Meets (module_of p) call n 0 (4 * (0 + 1)) (0 + 3) (λ k. rest) rest (before (module_of p) call (body_lines ++ rest) x first) flat_body) same_world
+        (meets p f (module_of p) (setting f facts names) labels stack_start cost floor [] n (code_of f.body) 0 1 0 [] (λ k. rest) rest (stepped 1 flat_first) first facts.built facts.code no_exits (record { labels = omega arith; addresses = omega arith }) (inside_next all (body_lines ++ rest) (Label 0) (inside_all all)) holds)
 
     -- ---- how it ends
 
@@ -200,17 +200,17 @@ module _ (p : FlatProgram) (w : IsWellFormed p) (few : AllByRecursion HasFewName
       count : ℕ
       ended : (after_steps (module_of p) count begins).ended ≡ end_for r.0
       world_is : (after_steps (module_of p) count begins).state.world ≡ r.1.world
-      jumps : r.0 ≡ Spent → n ≤ (after_steps (module_of p) count begins).state.jumps
+      jumps : r.0 ≡ Spent → n ≤ jumps_and_calls (after_steps (module_of p) count begins)
       units : (after_steps (module_of p) count begins).used ≤ 4 * r.1.steps + 1
       most : floor ≤ r.1.most
 
     -- the last return
-    last_return : (class : Option Class) (x : World) (c : Mark) → after_steps (module_of p) 1 (before (module_of p) all stack_start cost floor (End (jump.Ret (end_value class)) ∷ []) x c)
-        ≡ record { used = c.used + 1; ended = Some (machine.Exit 0); state = (before (module_of p) all stack_start cost floor (End (jump.Ret (end_value class)) ∷ []) x c).state }
+    last_return : (class : Option Class) (x : World) (c : Mark) → after_steps (module_of p) 1 (before (module_of p) call (End (jump.Ret (end_value class)) ∷ []) x c)
+        ≡ record { used = c.used + 1; ended = Some (machine.Exit 0); state = (before (module_of p) call (End (jump.Ret (end_value class)) ∷ []) x c).state }
     last_return None x c = refl
     last_return (Some class) x c = refl
 
-    comes_ends : (s : State) → Comes (module_of p) all stack_start cost floor 0 (4 * (0 + 1)) (0 + 3) begins s rest → Ends (state.Exit 0, s)
+    comes_ends : (s : State) → Comes (module_of p) call 0 (4 * (0 + 1)) (0 + 3) begins s rest → Ends (state.Exit 0, s)
     comes_ends s h =
         let u = h.units in
         let e = steps_more (module_of p) h.count 1 begins ∙ ap (after_steps (module_of p) 1) h.by ∙ last_return f.result s.world h.to in
@@ -223,15 +223,28 @@ module _ (p : FlatProgram) (w : IsWellFormed p) (few : AllByRecursion HasFewName
           most = h.holds.most;
         }
 
-    stops_ends : (flow : state.Flow) (s : State) (e : machine.End) → end_for flow ≡ Some e → (flow ≡ Spent → ⊥) → Stops (module_of p) all stack_start cost floor (4 * (0 + 1)) (0 + 3) begins s e → Ends (flow, s)
+    returns_ends : (v : ℕ) (s : State) → Returns (module_of p) call 0 (4 * (0 + 1)) (0 + 3) begins s v → Ends (state.Exit (v % 256), s)
+    returns_ends v s h =
+        let u = h.units in
+        let e = steps_more (module_of p) h.count 1 begins ∙ ap (after_steps (module_of p) 1) h.by ∙ ap (after_step (before (module_of p) call h.lines s.world h.to)) h.returns in
+        record {
+          count = h.count + 1;
+          ended = ap (λ (r : Run). r.ended) e;
+          world_is = ap (λ (r : Run). r.state.world) e;
+          jumps = λ k. cc;
+          units = omega (arith, ap (λ (r : Run). r.used) e, u);
+          most = h.holds.most;
+        }
+
+    stops_ends : (flow : state.Flow) (s : State) (e : machine.End) → end_for flow ≡ Some e → (flow ≡ Spent → ⊥) → Stops (module_of p) call (4 * (0 + 1)) (0 + 3) begins s e → Ends (flow, s)
     stops_ends flow s e k other h =
         let u = h.units in
         record { count = h.count; ended = h.ended ∙ sym k; world_is = h.world; jumps = λ z. absurd (other z); units = omega arith; most = h.most }
 
-    ends : (r : Result) → Meets (module_of p) all stack_start cost floor n 0 (4 * (0 + 1)) (0 + 3) (λ k. rest) rest begins r → Ends (flat_run.ended r)
+    ends : (r : Result) → Meets (module_of p) call n 0 (4 * (0 + 1)) (0 + 3) (λ k. rest) rest begins r → Ends (flat_run.ended r)
     ends (Next, s) h = comes_ends s h
     ends (Left k, s) h = comes_ends s h
-    ends (Returned v, s) h = stops_ends (state.Exit (v % 256)) s _ refl (λ z. cc) h
+    ends (Returned v, s) h = returns_ends v s h
     ends (state.Exit k, s) h = stops_ends (state.Exit k) s _ refl (λ z. cc) h
     ends (state.Abort t, s) h = stops_ends (state.Abort t) s _ refl (λ z. cc) h
     ends (state.Fault x, s) h = stops_ends (state.Fault x) s _ refl (λ z. cc) h
@@ -252,7 +265,7 @@ module _ (p : FlatProgram) (w : IsWellFormed p) (few : AllByRecursion HasFewName
           budget = there.used;
           ended = ap (λ (z : Run). z.ended) is ∙ h.ended;
           world = equal_worlds _ _ (ap (λ (z : Run). z.state.world) is ∙ h.world_is);
-          jumps = λ k. omega (arith, ap (λ (z : Run). z.state.jumps) is, h.jumps k);
+          jumps = λ k. omega (arith, ap jumps_and_calls is, h.jumps k);
           units = omega (arith, ap (λ (z : Run). z.used) is, h.units);
         }
 

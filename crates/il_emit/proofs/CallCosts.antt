@@ -1,5 +1,5 @@
 -- A call of an emitted function costs the stack no more than flat code says.
-use Rattle.std.proofs.Common.{◌≡◌, ℕ, zero, suc, ◌+◌, ◌<◌, ◌≤◌, Bool, true, false, cond, ◌||◌, List, [], ◌∷◌, ◌++◌, map, length, Option, None, Some, refl, sym, ap, ◌∙◌, arith, length-append}
+use Rattle.std.proofs.Common.{◌≡◌, ℕ, zero, suc, ◌+◌, ◌<◌, ◌≤◌, Bool, true, false, ◌||◌, List, [], ◌∷◌, ◌++◌, map, length, Option, None, Some, refl, sym, ap, ◌∙◌, arith, length-append}
 use Rattle.std.specs.Prelude.{bytes_eq, count_by, sum_by, nat_lt, ◌==◌, if◌then◌else◌}
 use Rattle.std.specs.List.{flat_map, list_all}
 use Rattle.std.proofs.lemmas.Bool.{and_parts}
@@ -29,13 +29,10 @@ use Rattle.il_emit.specs.Lines.{Line, End, all_addressed, addresses_in, addresse
 use Rattle.il_emit.specs.Emitted.{params_of, blocks_of}
 use Rattle.il_emit.proofs.Allowed.{LinesPass, code_good}
 use Rattle.il_emit.proofs.Blocks.{line_passes, blocks_pass}
-use Rattle.il_emit.proofs.Counts.{both_true, all_append, sum_cons}
+use Rattle.il_emit.proofs.Counts.{both_true, all_append, sum_cons, weight, or_true}
 use Rattle.il_emit.proofs.NumberedNames.{bytes_same}
 
 -- ---- names that differ stand among as many
-
-abbrev weight : Bool → ℕ
-weight b = cond b 1 0
 
 count_cons : {A : Type 0} (q : A → Bool) (x : A) (xs : List A) → count_by q (x ∷ xs) ≡ weight (q x) + count_by q xs
 count_cons q x xs = sum_cons (λ y. weight (q y)) x xs
@@ -97,10 +94,6 @@ unfolding numbered
 numbered_length name at zero = refl
 numbered_length name at (suc count) = omega (arith, numbered_length name (suc at) count)
 
-right_of : (a b : Bool) → b ≡ true → (a || b) ≡ true
-right_of true b h = refl
-right_of false b h = h
-
 left_of : (a b : Bool) → a ≡ true → (a || b) ≡ true
 left_of true b h = refl
 left_of false b h = cc
@@ -112,7 +105,7 @@ numbered_among name at (suc count) t l u = pick (at == t) refl (λ k. numbered_a
   where
     pick : (b : Bool) → (at == t) ≡ b → (suc at ≤ t → is_among (name t) (numbered name (suc at) count) ≡ true) → (bytes_eq (name t) (name at) || is_among (name t) (numbered name (suc at) count)) ≡ true
     pick true e on = let same : at ≡ t = grind (arith, nat_tests) in left_of (bytes_eq (name t) (name at)) _ (ap (λ (z : ℕ). bytes_eq (name t) (name z)) same ∙ bytes_same (name t))
-    pick false e on = right_of (bytes_eq (name t) (name at)) _ (on (grind (arith, nat_tests)))
+    pick false e on = or_true (bytes_eq (name t) (name at)) _ (on (grind (arith, nat_tests)))
 
 among_left : (x : List ℕ) (xs ys : List (List ℕ)) → is_among x xs ≡ true → is_among x (xs ++ ys) ≡ true
 among_left x [] ys h = cc
@@ -124,7 +117,7 @@ among_left x (z ∷ xs) ys h = pick (bytes_eq x z) h (among_left x xs ys)
 
 among_right : (x : List ℕ) (xs ys : List (List ℕ)) → is_among x ys ≡ true → is_among x (xs ++ ys) ≡ true
 among_right x [] ys h = h
-among_right x (z ∷ xs) ys h = right_of (bytes_eq x z) _ (among_right x xs ys h)
+among_right x (z ∷ xs) ys h = or_true (bytes_eq x z) _ (among_right x xs ys h)
 
 -- ---- the names that a function assigns
 

@@ -1,5 +1,5 @@
 -- Globals stand at the same addresses on both sides, and a run begins with the same memory.
-use Rattle.std.proofs.Common.{◌≡◌, ℕ, zero, suc, ◌+◌, ◌-◌, ◌*◌, ◌%◌, ◌^◌, ◌<◌, ◌≤◌, Bool, true, false, cond, ◌||◌, List, [], ◌∷◌, ◌++◌, map, length, Option, None, Some, refl, sym, ap, ◌∙◌, arith, append_assoc, append-nil, length-append}
+use Rattle.std.proofs.Common.{◌≡◌, ℕ, zero, suc, ◌+◌, ◌-◌, ◌*◌, ◌%◌, ◌^◌, ◌<◌, ◌≤◌, Bool, true, false, ◌||◌, List, [], ◌∷◌, ◌++◌, map, length, Option, None, Some, refl, sym, ap, ◌∙◌, arith, append_assoc, append-nil}
 use Rattle.std.specs.Prelude.{bytes_eq, count_by, sum_by, max, slice_index_or, ◌==◌}
 use Rattle.std.specs.List.{flat_map, list_all, list_any}
 use Rattle.std.proofs.Math.Nat.{div-mul-le_self}
@@ -27,25 +27,14 @@ use Rattle.il_code.specs.Addresses as il_address
 use Rattle.il_code.specs.Tokens.{is_string_byte}
 use Rattle.il_emit.specs.Lines.{name_at}
 use Rattle.il_emit.specs.Emitted.{string_of, byte_values, bytes_part, item_parts, parts_of, data_item, function_item, module_of}
-use Rattle.il_emit.proofs.Counts.{sum_cons}
+use Rattle.il_emit.proofs.Counts.{sum_cons, weight, or_true}
 use Rattle.il_emit.proofs.NumberedNames.{bytes_same}
+use Rattle.il_emit.proofs.Smalls.{values_size}
 
 -- ---- sizes
 
 width_kept : (width : ℕ) → is_width width ≡ true → width_bytes width ≡ width
 width_kept width h = grind (arith, nat_tests, common_steps)
-
-string_size : (s : List ℕ) → sum_by (value_size 1) (string_of s) ≡ length s
-string_size [] = refl
-string_size (c ∷ s) = omega arith
-
-values_size : (s bs : List ℕ) → sum_by (value_size 1) (byte_values s bs) ≡ length s + length bs
-values_size s [] = omega (arith, string_size s)
-values_size s (c ∷ bs) = pick (is_string_byte c) refl (values_size (s ++ c ∷ []) bs) (values_size [] bs)
-  where
-    pick : (b : Bool) → is_string_byte c ≡ b → sum_by (value_size 1) (byte_values (s ++ c ∷ []) bs) ≡ length (s ++ c ∷ []) + length bs → sum_by (value_size 1) (byte_values [] bs) ≡ 0 + length bs → sum_by (value_size 1) (byte_values s (c ∷ bs)) ≡ length s + length (c ∷ bs)
-    pick true e h k = rw e (omega (arith, h, length-append s (c ∷ [])))
-    pick false e h k = rw e (sum_by-append (value_size 1) (string_of s) (value.Number c ∷ byte_values [] bs) ∙ omega (arith, string_size s, k, sum_cons (value_size 1) (value.Number c) (byte_values [] bs)))
 
 bytes_size : (vs : List PartValue) → sum_by part_size (bytes_part vs) ≡ sum_by (value_size 1) vs
 bytes_size [] = refl
@@ -56,7 +45,7 @@ module _ (p : FlatProgram) where
   one_size (item.Number width n) h = let w = width_kept width (and_parts (is_width width) (is_bits n) h).0 in omega (arith, w)
   one_size (item.Symbol name offset) h = refl
   one_size (item.Zero n) h = omega arith
-  one_size (item.Bytes bytes) h = bytes_size (byte_values [] bytes) ∙ omega (arith, values_size [] bytes)
+  one_size (item.Bytes bytes) h = bytes_size (byte_values [] bytes) ∙ omega (arith, values_size (value_size 1) (λ s. refl) (λ n. refl) [] bytes)
 
   parts_size : (is : List Item) → list_all (is_item p) is ≡ true → sum_by part_size (parts_of is) ≡ sum_by item_size is
   parts_size [] h = refl
@@ -84,9 +73,6 @@ module _ (p : FlatProgram) where
       ap (λ (n : ℕ). (d.name, round_up at d.align) ∷ symbols_from f (round_up at d.align + n) (map data_item ds ++ items)) (global_bytes d k.0)
       ∙ ap (λ (xs : List (List ℕ × ℕ)). (d.name, round_up at d.align) ∷ xs) (symbols_are f (round_up at d.align + flat.data_size d) ds items k.1)
 
-abbrev weight : Bool → ℕ
-weight b = cond b 1 0
-
 -- the first of two tables has the name
 lookup_front : (name : List ℕ) (at : ℕ) (ds : List Data) (xs : List (List ℕ × ℕ)) → list_any (λ (d : Data). bytes_eq d.name name) ds ≡ true → lookup name (addresses_from at ds ++ xs) ≡ lookup name (addresses_from at ds)
 lookup_front name at [] xs h = cc
@@ -102,11 +88,7 @@ lookup_front name at (d ∷ ds) xs h = pick (bytes_eq d.name name) refl h (looku
 name_any : (ds : List Data) (i : ℕ) → i < length ds → list_any (λ (d : Data). bytes_eq d.name (name_at ds i)) ds ≡ true
 name_any [] i h = absurd (omega arith)
 name_any (d ∷ ds) zero h = ap (λ (b : Bool). b || list_any (λ (x : Data). bytes_eq x.name d.name) ds) (bytes_same d.name)
-name_any (d ∷ ds) (suc i) h = right (bytes_eq d.name (name_at ds i)) _ (name_any ds i (omega arith))
-  where
-    right : (a b : Bool) → b ≡ true → (a || b) ≡ true
-    right true b e = refl
-    right false b e = e
+name_any (d ∷ ds) (suc i) h = or_true (bytes_eq d.name (name_at ds i)) _ (name_any ds i (omega arith))
 
 name_counts : (ds : List Data) (i : ℕ) → i < length ds → 1 ≤ count_by (λ (d : Data). bytes_eq d.name (name_at ds i)) ds
 name_counts [] i h = absurd (omega arith)

@@ -26,7 +26,7 @@ use Rattle.il_code.specs.Run.{Run, after_steps}
 use Rattle.il_emit.specs.Names.{temp_name, address_name}
 use Rattle.il_emit.specs.Lines.{Line, Do, name_at, operand, address_inst, address_lines, arg_lines, args_of, all_addressed}
 use Rattle.il_emit.proofs.NumberedNames.{bytes_same, decimal_eq, temp_eq}
-use Rattle.il_emit.proofs.Running.{Mark, worth, steps_more, before, Same}
+use Rattle.il_emit.proofs.Running.{Activation, counted, Mark, worth, steps_more, before, Same}
 
 -- a value is cut alike on both sides
 pub cut_same : (class : Class) (v : ℕ) → cut class v ≡ flat.cut class v
@@ -84,9 +84,9 @@ pub record Setting (p : FlatProgram) (f : FlatFn) (m : Module) : Type 0 where
   pub no_function : (name : List ℕ) (g : RuntimeFunction) → runtime_function name ≡ Some g → function_named p.functions name ≡ None
   pub no_code : (name : List ℕ) (g : RuntimeFunction) → runtime_function name ≡ Some g → state.function_named m.items name ≡ None
 
-module _ (p : FlatProgram) (f : FlatFn) (m : Module) (set : Setting p f m) (all : List Line) (pointer cost floor : ℕ) where
+module _ (p : FlatProgram) (f : FlatFn) (m : Module) (set : Setting p f m) (call : Activation) where
   abbrev run_at : List Line → World → Mark → Run
-  run_at ls w c = before m all pointer cost floor ls w c
+  run_at ls w c = before m call ls w c
 
   -- ---- the lines of an address
 
@@ -126,11 +126,11 @@ module _ (p : FlatProgram) (f : FlatFn) (m : Module) (set : Setting p f m) (all 
   address_used (Symbol i offset) k c = omega (arith, with_used (offset == 0) i offset k c)
   address_used (Frame offset) k c = omega arith
 
-  with_jumps : (b : Bool) (i offset k : ℕ) (c : Mark) → (with_address b i offset k c).jumps ≡ c.jumps
+  with_jumps : (b : Bool) (i offset k : ℕ) (c : Mark) → counted (with_address b i offset k c) ≡ counted c
   with_jumps true i offset k c = refl
   with_jumps false i offset k c = refl
 
-  pub address_jumps : (v : Value) (k : ℕ) (c : Mark) → (behind_address v k c).jumps ≡ c.jumps
+  pub address_jumps : (v : Value) (k : ℕ) (c : Mark) → counted (behind_address v k c) ≡ counted c
   address_jumps (Temp t) k c = refl
   address_jumps (Number n) k c = refl
   address_jumps (Symbol i offset) k c = with_jumps (offset == 0) i offset k c
@@ -240,7 +240,7 @@ module _ (p : FlatProgram) (f : FlatFn) (m : Module) (set : Setting p f m) (all 
   args_used [] k c = omega arith
   args_used (v ∷ vs) k c = omega (arith, address_used v k c, args_used vs (k + addressed v) (behind_address v k c), addressed_one v)
 
-  pub args_jumps : (vs : List Value) (k : ℕ) (c : Mark) → (behind_args vs k c).jumps ≡ c.jumps
+  pub args_jumps : (vs : List Value) (k : ℕ) (c : Mark) → counted (behind_args vs k c) ≡ counted c
   args_jumps [] k c = refl
   args_jumps (v ∷ vs) k c = args_jumps vs (k + addressed v) (behind_address v k c) ∙ address_jumps v k c
 

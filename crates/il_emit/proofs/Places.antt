@@ -1,5 +1,5 @@
 -- Where the machine stands before some lines of a function.
-use Rattle.std.proofs.Common.{◌≡◌, ℕ, ◌<◌, ◌^◌, Bool, true, false, cond, List, [], ◌∷◌, ◌++◌, refl, sym, ap, ◌∙◌, subst, arith, append_assoc, append-nil, suc}
+use Rattle.std.proofs.Common.{◌≡◌, ℕ, ◌<◌, ◌^◌, Bool, true, false, List, [], ◌∷◌, ◌++◌, refl, sym, ap, ◌∙◌, subst, arith, append_assoc, append-nil, suc}
 use Rattle.std.specs.Prelude.{bytes_eq}
 use Rattle.flat_code.specs.declared.program.Data.{Data}
 use Rattle.flat_code.specs.declared.program.FlatFn.{FlatFn}
@@ -13,6 +13,7 @@ use Rattle.il_emit.specs.Names.{label_name}
 use Rattle.il_emit.specs.Lines.{Line, Label, Do, End, code_lines, end_value, function_lines, labels_in}
 use Rattle.il_emit.specs.Drafts.{add_all}
 use Rattle.il_emit.specs.Emitted.{blocks_of}
+use Rattle.il_emit.proofs.Counts.{weight}
 use Rattle.il_emit.proofs.Blocks.{draft, block, tidy, lines_labelled, labelled_append}
 use Rattle.il_emit.proofs.NumberedNames.{bytes_same, label_eq}
 use Rattle.il_emit.proofs.Numbering.{code_tidy, code_labels, within_in, one}
@@ -97,9 +98,6 @@ pub record Finds (all : List Line) (n : ℕ) (ls : List Line) : Type 0 where
 
 here_found : (n : ℕ) (ls : List Line) → blocks_from (label_name n) (line_blocks (Label n ∷ ls)) ≡ line_blocks (Label n ∷ ls)
 here_found n ls = rw (bytes_same (label_name n)) refl
-
-abbrev weight : Bool → ℕ
-weight b = cond b 1 0
 
 past : (x : ℕ) (xs ls : List Line) → lines_labelled (label_name x) xs ≡ 0 → blocks_from (label_name x) (line_blocks (xs ++ ls)) ≡ blocks_from (label_name x) (line_blocks ls)
 past x [] ls h = refl

@@ -1,5 +1,5 @@
 -- Runs of the machine from places before lines: what each line does.
-use Rattle.std.proofs.Common.{◌≡◌, ℕ, zero, suc, ◌+◌, ◌*◌, ◌%◌, ◌^◌, ◌<◌, ◌≤◌, List, [], ◌∷◌, None, Some, refl, ap, ◌∙◌, arith}
+use Rattle.std.proofs.Common.{◌≡◌, ℕ, zero, suc, ◌+◌, ◌*◌, ◌^◌, ◌<◌, ◌≤◌, List, ◌∷◌, None, Some, refl, ap, ◌∙◌, arith}
 use Rattle.hx_base.specs.Runtime.{World}
 use Rattle.flat_code.specs.State as flat
 use Rattle.flat_code.specs.State.{Result, Next, Left, Returned, HeapFull, Spent}
@@ -11,21 +11,36 @@ use Rattle.il_code.specs.declared.types.Module.{Module}
 use Rattle.il_code.specs.Addresses.{address}
 use Rattle.il_code.specs.Machine.{Temps, temp_value}
 use Rattle.il_code.specs.Machine as machine
-use Rattle.il_code.specs.State.{State, start_of}
-use Rattle.il_code.specs.Step.{value_of}
+use Rattle.il_code.specs.MachineLaws.{jumps_and_calls}
+use Rattle.il_code.specs.State.{State, Waiting, start_of}
+use Rattle.il_code.specs.Step.{step, value_of, returned}
 use Rattle.il_code.specs.Run.{Run, further, after_steps}
 use Rattle.il_emit.specs.Names.{temp_name, label_name}
 use Rattle.il_emit.specs.Lines.{Line, Label, End}
 use Rattle.il_emit.specs.Reaches.{fault_for}
 use Rattle.il_emit.proofs.Places.{line_blocks, place_of, Finds}
 
--- what changes in a call as it runs, besides the world
+-- What stays as a call runs: the lines of its function, the stack pointer, what the stack has cost up to it, and the calls that wait for it. In flat code, calls have
+-- cost at least `floor` at once.
+pub record Activation : Type 0 where
+  pub lines : List Line
+  pub pointer : ℕ
+  pub cost : ℕ
+  pub floor : ℕ
+  pub waiting : List Waiting
+
+-- what changes as it runs, besides the world
 pub record Mark : Type 0 where
   pub used : ℕ
   pub from : List ℕ
   pub label : List ℕ
   pub temps : Temps
   pub jumps : ℕ
+  pub calls : ℕ
+
+-- the jumps and calls done
+abbrev pub counted : Mark → ℕ
+counted c = c.jumps + c.calls
 
 -- the value of an operand
 abbrev pub worth : Module → World → Temps → IlValue → ℕ
@@ -51,14 +66,14 @@ abbrev pub out_of : List Line → (ℕ → List Line) → ℕ → List Line
 out_of rest out zero = rest
 out_of rest out (suc k) = out k
 
-module _ (m : Module) (all : List Line) (pointer cost floor : ℕ) where
+module _ (m : Module) (call : Activation) where
   abbrev pub state_at : List Line → World → Mark → State
   state_at ls w c = record {
-    active = record { blocks = line_blocks all; place = place_of c.from c.label ls; temps = c.temps; pointer = pointer; cost = cost };
-    waiting = [];
+    active = record { blocks = line_blocks call.lines; place = place_of c.from c.label ls; temps = c.temps; pointer = call.pointer; cost = call.cost };
+    waiting = call.waiting;
     world = w;
     jumps = c.jumps;
-    calls = 0;
+    calls = c.calls;
   }
 
   -- the run that stands before these lines
@@ -76,17 +91,17 @@ module _ (m : Module) (all : List Line) (pointer cost floor : ℕ) where
   abbrev pub jumped_to : ℕ → Mark → Mark
   jumped_to n c = record c { used = c.used + 1 + 0; from = c.label; label = label_name n; jumps = c.jumps + 1 }
 
-  pub jump_step : (n : ℕ) (ls rest : List Line) (w : World) (c : Mark) → Finds all n ls → further m (before (End (jump.Jmp (label_name n)) ∷ rest) w c) ≡ before ls w (jumped_to n c)
+  pub jump_step : (n : ℕ) (ls rest : List Line) (w : World) (c : Mark) → Finds call.lines n ls → further m (before (End (jump.Jmp (label_name n)) ∷ rest) w c) ≡ before ls w (jumped_to n c)
   jump_step n ls rest w c h =
       ap (λ (bs : List Block). record {
         used = c.used + 1 + 0;
         ended = None;
         state = record {
-          active = record { blocks = line_blocks all; place = start_of c.label bs; temps = c.temps; pointer = pointer; cost = cost };
-          waiting = [];
+          active = record { blocks = line_blocks call.lines; place = start_of c.label bs; temps = c.temps; pointer = call.pointer; cost = call.cost };
+          waiting = call.waiting;
           world = w;
           jumps = c.jumps + 1;
-          calls = 0;
+          calls = c.calls;
         };
       }) h.blocks
 
@@ -104,8 +119,8 @@ module _ (m : Module) (all : List Line) (pointer cost floor : ℕ) where
     pub to : Mark
     pub count : ℕ
     pub by : after_steps m count r ≡ before ls s.world to
-    pub holds : Holds floor s to
-    pub jumps : q ≤ to.jumps
+    pub holds : Holds call.floor s to
+    pub jumps : q ≤ counted to
     pub units : to.used + low ≤ high + 4 * s.steps
 
   -- it ends
@@ -114,22 +129,33 @@ module _ (m : Module) (all : List Line) (pointer cost floor : ℕ) where
     pub ended : (after_steps m count r).ended ≡ Some e
     pub world : (after_steps m count r).state.world ≡ s.world
     pub units : (after_steps m count r).used + low ≤ high + 4 * s.steps
-    pub most : floor ≤ s.most
+    pub most : call.floor ≤ s.most
 
   -- it goes on, after `n` jumps more
   pub record GoesOn (n q low high : ℕ) (r : Run) (s : flat.State) : Type 0 where
     pub count : ℕ
     pub ended : (after_steps m count r).ended ≡ None
     pub world : (after_steps m count r).state.world ≡ s.world
-    pub jumps : q + n ≤ (after_steps m count r).state.jumps
+    pub jumps : q + n ≤ jumps_and_calls (after_steps m count r)
     pub units : (after_steps m count r).used + low ≤ high + 4 * s.steps
-    pub most : floor ≤ s.most
+    pub most : call.floor ≤ s.most
+
+  -- it comes to a return with a value
+  pub record Returns (q low high : ℕ) (r : Run) (s : flat.State) (v : ℕ) : Type 0 where
+    pub to : Mark
+    pub lines : List Line
+    pub count : ℕ
+    pub by : after_steps m count r ≡ before lines s.world to
+    pub returns : step m (state_at lines s.world to) ≡ returned (state_at lines s.world to) v call.waiting
+    pub holds : Holds call.floor s to
+    pub jumps : q ≤ counted to
+    pub units : to.used + 1 + low ≤ high + 4 * s.steps
 
   -- what it comes to, by how code ends that begins there, where `rest` are the lines behind it and `out` those behind each exit
   abbrev pub Meets : (n q low high : ℕ) (out : ℕ → List Line) (rest : List Line) → Run → Result → Type 0
   Meets n q low high out rest r (Next, s) = Comes q low high r s rest
   Meets n q low high out rest r (Left k, s) = Comes q low high r s (out k)
-  Meets n q low high out rest r (Returned v, s) = Stops low high r s (machine.Exit (v % 256))
+  Meets n q low high out rest r (Returned v, s) = Returns q low high r s v
   Meets n q low high out rest r (flat.Exit k, s) = Stops low high r s (machine.Exit k)
   Meets n q low high out rest r (flat.Abort t, s) = Stops low high r s (machine.Abort t)
   Meets n q low high out rest r (flat.Fault f, s) = Stops low high r s (machine.Fault (fault_for f))
@@ -148,6 +174,12 @@ module _ (m : Module) (all : List Line) (pointer cost floor : ℕ) where
         let u = h.units in
         record { to = h.to; count = k + h.count; by = on h.count ∙ h.by; holds = h.holds; jumps = omega arith; units = omega arith }
 
+    returns_later : (q q1 : ℕ) (s : flat.State) (v : ℕ) → q ≤ q1 → Returns q1 low1 high1 r1 s v → Returns q low high r s v
+    returns_later q q1 s v le h =
+        let j = h.jumps in
+        let u = h.units in
+        record { to = h.to; lines = h.lines; count = k + h.count; by = on h.count ∙ h.by; returns = h.returns; holds = h.holds; jumps = omega arith; units = omega arith }
+
     stops_later : (s : flat.State) (e : machine.End) → Stops low1 high1 r1 s e → Stops low high r s e
     stops_later s e h =
         let z = on h.count in
@@ -164,7 +196,7 @@ module _ (m : Module) (all : List Line) (pointer cost floor : ℕ) where
     goes_later n n1 q q1 s le h =
         let z = on h.count in
         let used : (after_steps m (k + h.count) r).used ≡ (after_steps m h.count r1).used = ap (λ (x : Run). x.used) z in
-        let jumps : (after_steps m (k + h.count) r).state.jumps ≡ (after_steps m h.count r1).state.jumps = ap (λ (x : Run). x.state.jumps) z in
+        let jumps : jumps_and_calls (after_steps m (k + h.count) r) ≡ jumps_and_calls (after_steps m h.count r1) = ap jumps_and_calls z in
         record {
           count = k + h.count;
           ended = ap (λ (x : Run). x.ended) z ∙ h.ended;
@@ -177,7 +209,7 @@ module _ (m : Module) (all : List Line) (pointer cost floor : ℕ) where
     pub later : (n n1 q q1 : ℕ) (out : ℕ → List Line) (rest : List Line) (res : Result) → q ≤ q1 → q + n ≤ q1 + n1 → Meets n1 q1 low1 high1 out rest r1 res → Meets n q low high out rest r res
     later n n1 q q1 out rest (Next, s) l le h = comes_later q q1 s rest l h
     later n n1 q q1 out rest (Left k', s) l le h = comes_later q q1 s (out k') l h
-    later n n1 q q1 out rest (Returned v, s) l le h = stops_later s _ h
+    later n n1 q q1 out rest (Returned v, s) l le h = returns_later q q1 s v l h
     later n n1 q q1 out rest (flat.Exit k', s) l le h = stops_later s _ h
     later n n1 q q1 out rest (flat.Abort t, s) l le h = stops_later s _ h
     later n n1 q q1 out rest (flat.Fault f, s) l le h = stops_later s _ h
@@ -192,16 +224,19 @@ module _ (m : Module) (all : List Line) (pointer cost floor : ℕ) where
 
   -- what is claimed of what comes next: `more` units may be used there besides
   abbrev pub NextMeets : (n more : ℕ) (out : ℕ → List Line) (rest here : List Line) → (flat.State → Result) → Type 0
-  NextMeets n more out rest here go = (s : flat.State) (c : Mark) → Holds floor s c → Meets n c.jumps (4 * s.steps) (c.used + more) out rest (before here s.world c) (go s)
+  NextMeets n more out rest here go = (s : flat.State) (c : Mark) → Holds call.floor s c → Meets n (counted c) (4 * s.steps) (c.used + more) out rest (before here s.world c) (go s)
 
   behind : (n q low high more : ℕ) (out : ℕ → List Line) (rest here : List Line) (r : Run) (s : flat.State) (go : flat.State → Result) → Comes q low high r s here → NextMeets n more out rest here go → Meets n q low (high + more) out rest r (go s)
   behind n q low high more out rest here r s go h g =
       let j = h.jumps in
       let u = h.units in
-      later h.count r (before here s.world h.to) h.by low (4 * s.steps) (high + more) (h.to.used + more) (omega arith) n n q h.to.jumps out rest (go s) j (omega arith) (g s h.to h.holds)
+      later h.count r (before here s.world h.to) h.by low (4 * s.steps) (high + more) (h.to.used + more) (omega arith) n n q (counted h.to) out rest (go s) j (omega arith) (g s h.to h.holds)
 
   stops_more : (low high more : ℕ) (r : Run) (s : flat.State) (e : machine.End) → Stops low high r s e → Stops low (high + more) r s e
   stops_more low high more r s e h = let u = h.units in record { count = h.count; ended = h.ended; world = h.world; units = omega arith; most = h.most }
+
+  returns_more : (q low high more : ℕ) (r : Run) (s : flat.State) (v : ℕ) → Returns q low high r s v → Returns q low (high + more) r s v
+  returns_more q low high more r s v h = let u = h.units in record { to = h.to; lines = h.lines; count = h.count; by = h.by; returns = h.returns; holds = h.holds; jumps = h.jumps; units = omega arith }
 
   comes_more : (q low high more : ℕ) (r : Run) (s : flat.State) (ls : List Line) → Comes q low high r s ls → Comes q low (high + more) r s ls
   comes_more q low high more r s ls h = let u = h.units in record { to = h.to; count = h.count; by = h.by; holds = h.holds; jumps = h.jumps; units = omega arith }
@@ -214,7 +249,7 @@ module _ (m : Module) (all : List Line) (pointer cost floor : ℕ) where
     pub then_meets : (res : Result) → Meets n q low high out here r res → Meets n q low (high + more) out rest r (flat.then_go res go)
     then_meets (Next, s) h = behind n q low high more out rest here r s go h g
     then_meets (Left k, s) h = comes_more q low high more r s (out k) h
-    then_meets (Returned v, s) h = stops_more low high more r s _ h
+    then_meets (Returned v, s) h = returns_more q low high more r s v h
     then_meets (flat.Exit k, s) h = stops_more low high more r s _ h
     then_meets (flat.Abort t, s) h = stops_more low high more r s _ h
     then_meets (flat.Fault f, s) h = stops_more low high more r s _ h
@@ -226,7 +261,7 @@ module _ (m : Module) (all : List Line) (pointer cost floor : ℕ) where
     turn_meets (Next, s) h = behind n q low high more out rest here r s go h g
     turn_meets (Left zero, s) h = comes_more q low high more r s rest h
     turn_meets (Left (suc k), s) h = comes_more q low high more r s (out k) h
-    turn_meets (Returned v, s) h = stops_more low high more r s _ h
+    turn_meets (Returned v, s) h = returns_more q low high more r s v h
     turn_meets (flat.Exit k, s) h = stops_more low high more r s _ h
     turn_meets (flat.Abort t, s) h = stops_more low high more r s _ h
     turn_meets (flat.Fault f, s) h = stops_more low high more r s _ h
@@ -260,7 +295,7 @@ module _ (m : Module) (all : List Line) (pointer cost floor : ℕ) where
   label_meets n q low high x out rest r (Spent, s) h = h
 
   -- behind the code stands a jump to a label
-  jump_comes : (q low high x : ℕ) (ls rest : List Line) (r : Run) (s : flat.State) → Finds all x rest → Comes q low high r s (End (jump.Jmp (label_name x)) ∷ ls) → Comes q low (high + 1) r s rest
+  jump_comes : (q low high x : ℕ) (ls rest : List Line) (r : Run) (s : flat.State) → Finds call.lines x rest → Comes q low high r s (End (jump.Jmp (label_name x)) ∷ ls) → Comes q low (high + 1) r s rest
   jump_comes q low high x ls rest r s f h =
       let j = h.jumps in
       let u = h.units in
@@ -273,10 +308,10 @@ module _ (m : Module) (all : List Line) (pointer cost floor : ℕ) where
         units = omega arith;
       }
 
-  pub jump_meets : (n q low high x : ℕ) (out : ℕ → List Line) (ls rest : List Line) (r : Run) (res : Result) → Finds all x rest → Meets n q low high out (End (jump.Jmp (label_name x)) ∷ ls) r res → Meets n q low (high + 1) out rest r res
+  pub jump_meets : (n q low high x : ℕ) (out : ℕ → List Line) (ls rest : List Line) (r : Run) (res : Result) → Finds call.lines x rest → Meets n q low high out (End (jump.Jmp (label_name x)) ∷ ls) r res → Meets n q low (high + 1) out rest r res
   jump_meets n q low high x out ls rest r (Next, s) f h = jump_comes q low high x ls rest r s f h
   jump_meets n q low high x out ls rest r (Left k, s) f h = comes_more q low high 1 r s (out k) h
-  jump_meets n q low high x out ls rest r (Returned v, s) f h = stops_more low high 1 r s _ h
+  jump_meets n q low high x out ls rest r (Returned v, s) f h = returns_more q low high 1 r s v h
   jump_meets n q low high x out ls rest r (flat.Exit k, s) f h = stops_more low high 1 r s _ h
   jump_meets n q low high x out ls rest r (flat.Abort t, s) f h = stops_more low high 1 r s _ h
   jump_meets n q low high x out ls rest r (flat.Fault e, s) f h = stops_more low high 1 r s _ h

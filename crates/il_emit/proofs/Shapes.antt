@@ -113,8 +113,8 @@ module _ (globals : List Data) (f : FlatFn) where
         omega (arith, ap back_of (append_assoc (each_lines globals cs (suc n) k (es ++ n ∷ [])) (Label n ∷ []) rest), each_back cs (suc around) (suc n) k (es ++ n ∷ []) (Label n ∷ rest) q.1 (omega (arith, length-append es (n ∷ []))) behind)
     code_back (Set t class o a b) around n k es rest r d h =
         let same : back_of (code_lines globals (Set t class o a b) n k es ++ rest) ≡ back_of rest =
-            ap back_of (append_assoc (address_lines globals a k) _ rest) ∙ address_back a k _
-            ∙ ap back_of (append_assoc (address_lines globals b (k + addressed a)) _ rest) ∙ address_back b (k + addressed a) _ in
+        ap back_of (append_assoc (address_lines globals a k) _ rest) ∙ address_back a k _
+        ∙ ap back_of (append_assoc (address_lines globals b (k + addressed a)) _ rest) ∙ address_back b (k + addressed a) _ in
         omega (arith, same)
     code_back (Load t how at) around n k es rest r d h = omega arith
     code_back (Store width value at) around n k es rest r d h = omega arith
@@ -129,9 +129,9 @@ module _ (globals : List Data) (f : FlatFn) where
         let over : List Line = End (jump.Jmp (label_name (n + 2))) ∷ other_side in
         let one_side : List Line = Label n ∷ (one ++ over) in
         let same : code_lines globals (If v a b) n k es ++ rest ≡ address_lines globals v k ++ (End (jump.Jnz (operand globals v k) (label_name n) (label_name (n + 1))) ∷ one_side) =
-            append_assoc (address_lines globals v k) _ rest
-            ∙ ap (λ (x : List Line). address_lines globals v k ++ (End (jump.Jnz (operand globals v k) (label_name n) (label_name (n + 1))) ∷ Label n ∷ x)) (append_assoc one _ rest)
-            ∙ ap (λ (x : List Line). address_lines globals v k ++ (End (jump.Jnz (operand globals v k) (label_name n) (label_name (n + 1))) ∷ Label n ∷ (one ++ (End (jump.Jmp (label_name (n + 2))) ∷ Label (n + 1) ∷ x)))) (append_assoc other (Label (n + 2) ∷ []) rest) in
+        append_assoc (address_lines globals v k) _ rest
+        ∙ ap (λ (x : List Line). address_lines globals v k ++ (End (jump.Jnz (operand globals v k) (label_name n) (label_name (n + 1))) ∷ Label n ∷ x)) (append_assoc one _ rest)
+        ∙ ap (λ (x : List Line). address_lines globals v k ++ (End (jump.Jnz (operand globals v k) (label_name n) (label_name (n + 1))) ∷ Label n ∷ (one ++ (End (jump.Jmp (label_name (n + 2))) ∷ Label (n + 1) ∷ x)))) (append_assoc other (Label (n + 2) ∷ []) rest) in
         let at_end = all_behind es (Label (n + 2) ∷ []) rest h in
         let at_over = all_behind es (End (jump.Jmp (label_name (n + 2))) ∷ Label (n + 1) ∷ other) tail at_end in
         let branch = back_none (line_blocks one_side) (jump.Jnz (operand globals v k) (label_name n) (label_name (n + 1))) (both_true _ _ (stands_here n (one ++ over)) (stands_behind (n + 1) (Label n ∷ one) over (stands_here (n + 1) (other ++ tail)))) in
@@ -223,7 +223,7 @@ module _ (globals : List Data) (name : List ℕ) where
     code_calls (Seq cs) n k es = omega (arith, calls_append name (each_lines globals cs (suc n) k (es ++ n ∷ [])) (Label n ∷ []), each_calls cs (suc n) k (es ++ n ∷ []))
     code_calls (Set t class o a b) n k es =
         let same : line_calls name (code_lines globals (Set t class o a b) n k es) ≡ 0 =
-            behind_calls a k _ ∙ behind_calls b (k + addressed a) _ in
+        behind_calls a k _ ∙ behind_calls b (k + addressed a) _ in
         omega (arith, same)
     code_calls (Load t how at) n k es = omega arith
     code_calls (Store width value at) n k es = omega arith
@@ -232,7 +232,7 @@ module _ (globals : List Data) (name : List ℕ) where
         let one = code_lines globals a (n + 3) (k + addressed v) es in
         let other = code_lines globals b (n + 3 + labels_in a) (k + addressed v + addresses_in a) es in
         let same : line_calls name (code_lines globals (If v a b) n k es) ≡ line_calls name one + (line_calls name other + 0) =
-            behind_calls v k _ ∙ calls_append name one _ ∙ ap (λ (x : ℕ). line_calls name one + x) (calls_append name other (Label (n + 2) ∷ [])) in
+        behind_calls v k _ ∙ calls_append name one _ ∙ ap (λ (x : ℕ). line_calls name one + x) (calls_append name other (Label (n + 2) ∷ [])) in
         omega (arith, same, code_calls a (n + 3) (k + addressed v) es, code_calls b (n + 3 + labels_in a) (k + addressed v + addresses_in a) es)
     code_calls (Loop c) n k es = omega (arith, calls_append name (code_lines globals c (n + 2) k (es ++ (n + 1) ∷ [])) (End (jump.Jmp (label_name n)) ∷ Label (n + 1) ∷ []), code_calls c (n + 2) k (es ++ (n + 1) ∷ []))
     code_calls (Leave j) n k es = omega arith
