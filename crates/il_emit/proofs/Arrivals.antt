@@ -266,7 +266,8 @@ module _ (p : FlatProgram) (w : IsWellFormed p) (few : AllByRecursion HasFewName
           ended = ap (λ (z : Run). z.ended) is ∙ h.ended;
           world = equal_worlds _ _ (ap (λ (z : Run). z.state.world) is ∙ h.world_is);
           jumps = λ k. omega (arith, ap jumps_and_calls is, h.jumps k);
-          units = omega (arith, ap (λ (z : Run). z.used) is, h.units);
+          used = ap (λ (z : Run). z.used) is;
+          units = h.units;
         }
 
     overflows : (r : Result) → start (module_of p) args input fill ≡ begun_with (Some StackFull) → stack_size < cost → floor ≤ r.1.most → Overflows (module_of p) args input fill n r

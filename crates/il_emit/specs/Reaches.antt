@@ -49,13 +49,15 @@ end_for (flat.Returned value) = None
 
 module _ (m : Module) (args : List (List ℕ)) (input : List ℕ) (fill n : ℕ) where
   -- With some budget the machine stands where the program's run of `n` turns stands: it has the same end, or goes on where turns ran out, and the world is the same.
-  -- Where turns ran out it has done at least as many jumps and calls. It took at most four units for each flat step, and one for the frame of `main`.
+  -- Where turns ran out it has done at least as many jumps and calls. The budget is just what it has used: at most four units for each flat step, and one for the frame
+  -- of `main`.
   pub record Arrives (r : Result) : Type 0 where
     pub budget : ℕ
     pub ended : (machine m args input fill budget).ended ≡ end_for r.0
     pub world : SameWorld r.1.world (machine m args input fill budget).state.world
     pub jumps : r.0 ≡ flat.Spent → n ≤ jumps_and_calls (machine m args input fill budget)
-    pub units : (machine m args input fill budget).used ≤ 4 * r.1.steps + 1
+    pub used : (machine m args input fill budget).used ≡ budget
+    pub units : budget ≤ 4 * r.1.steps + 1
 
   -- with some budget the stack is full, and the calls that were active at once in the program's run cost more than the stack holds
   pub record Overflows (r : Result) : Type 0 where
