@@ -21,5 +21,7 @@ pub mod GlobalAddresses
 pub mod CallCosts
 pub mod NamedFunctions
 pub mod Arrivals
+pub mod BackwardJumps
+pub mod CallCounts
 pub mod Shapes
 mod ReachesRows

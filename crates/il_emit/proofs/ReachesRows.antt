@@ -1,5 +1,5 @@
--- What a run of a program and a run of its module come to, and how often a function jumps back, on small programs.
-use Rattle.std.proofs.Common.{◌≡◌, ℕ, ◌^◌, List, [], ◌∷◌, Option, Some, None, refl}
+-- What a run of a program and a run of its module come to, how often a function jumps back, and what it takes of the stack, on small programs.
+use Rattle.std.proofs.Common.{◌≡◌, ℕ, ◌^◌, List, [], ◌∷◌, Option, Some, None, true, false, refl}
 use Rattle.std.specs.Fmt.{digits}
 use Rattle.std.specs.Prelude.{codes}
 use Rattle.hx_base.specs.declared.Class.TheVariants.{W, L}
@@ -12,13 +12,20 @@ use Rattle.flat_code.specs.Code.{Set, If, Loop, Leave, Call, Ret}
 use Rattle.flat_code.specs.Run.{run}
 use Rattle.flat_code.specs.State.{Flow, Exit, Fault, Spent, ZeroDivisor}
 use Rattle.flat_code.proofs.RowPrograms.{seq, plain, global, program}
+use Rattle.il_code.specs.declared.op.IlOp.TheVariants as op
+use Rattle.il_code.specs.declared.types.Block.{Block}
+use Rattle.il_code.specs.declared.types.IlValue.{IlValue}
+use Rattle.il_code.specs.declared.types.IlValue.TheVariants as il
+use Rattle.il_code.specs.declared.types.Inst.{Inst}
+use Rattle.il_code.specs.declared.types.Inst.TheVariants as inst
+use Rattle.il_code.specs.declared.types.Jump.TheVariants as jump
 use Rattle.il_code.specs.declared.types.MachineFault.TheVariants as fault
 use Rattle.il_code.specs.Machine as machine
 use Rattle.il_code.specs.MachineLaws.{jumps_and_calls}
 use Rattle.il_code.specs.Run.{Run, machine}
 use Rattle.il_emit.specs.Emitted.{blocks_of, module_of}
 use Rattle.il_emit.specs.Meaning.{il_meaning}
-use Rattle.il_emit.specs.Shape.{backward_jumps, calls_of}
+use Rattle.il_emit.specs.Shape.{backward_jumps, calls_of, allocs_are_placed, takes, full_cost}
 
 -- three arguments and some input
 abbrev flat_run : FlatProgram → ℕ → Flow → List ℕ → ℕ → Type 0
@@ -100,3 +107,32 @@ two_loops = refl
 branch : backward_jumps (blocks_of [] (plain (codes "main") 1 0 (If (Number 4) (seq (Leave 1 ∷ [])) (Ret None) ∷ []))) ≡ 0
 unfolding digits
 branch = refl
+
+-- ---- the stack
+
+-- 64, and 8 for each of three temporaries and an address, where flat code has 64 + 8 * 5 + 16
+counting_cost : full_cost (record { params = []; blocks = blocks_of [] counting_main }) ≡ 96
+unfolding digits
+counting_cost = refl
+
+abbrev alloc : IlValue → Inst
+alloc bytes = inst.Set (codes "p") L op.Alloc4 bytes None
+
+abbrev of_insts : List Inst → Block
+of_insts insts = record { label = codes "b"; phis = []; insts = insts; jump = jump.Ret None }
+
+-- 17 bytes take 32, and no bytes 16
+seventeen : takes (alloc (il.Number 17)) ≡ 32
+seventeen = refl
+
+no_bytes : takes (alloc (il.Number 0)) ≡ 16
+no_bytes = refl
+
+in_first : allocs_are_placed (of_insts (alloc (il.Number 17) ∷ []) ∷ of_insts [] ∷ []) ≡ true
+in_first = refl
+
+in_second : allocs_are_placed (of_insts [] ∷ of_insts (alloc (il.Number 17) ∷ []) ∷ []) ≡ false
+in_second = refl
+
+not_a_number : allocs_are_placed (of_insts (alloc (il.Temp (codes "n")) ∷ []) ∷ []) ≡ false
+not_a_number = refl

@@ -1,259 +1,103 @@
--- The blocks of a function jump back no more often than its code has Loops, and call no more often than it has Calls.
-use Rattle.std.proofs.Common.{◌≡◌, ℕ, zero, suc, ◌+◌, ◌-◌, ◌<◌, ◌≤◌, Bool, true, false, cond, ◌&&◌, ◌||◌, List, [], ◌∷◌, ◌++◌, length, Option, None, Some, refl, sym, ap, ◌∙◌, subst, arith, append_assoc, length-append}
-use Rattle.std.specs.Prelude.{bytes_eq, count_by, slice_index_or, nat_lt, ◌==◌, if◌then◌else◌}
+-- Each function of the module has the shape of one of the program: what it jumps back and calls, and what it takes of the stack, which is nothing so far.
+use Rattle.std.proofs.Common.{◌≡◌, ℕ, suc, ◌≤◌, Bool, true, false, not, ◌||◌, List, [], ◌∷◌, ◌++◌, length, Option, None, Some, refl, sym, ap, ◌∙◌, subst, arith}
+use Rattle.std.specs.Prelude.{sum_by, if◌then◌else◌}
 use Rattle.std.specs.List.{list_all, AllByRecursion}
 use Rattle.std.proofs.lemmas.Bool.{and_parts}
-use Rattle.std.proofs.lemmas.Bool.Decides.{nat_tests}
 use Rattle.flat_code.specs.declared.program.Data.{Data}
 use Rattle.flat_code.specs.declared.program.FlatFn.{FlatFn}
 use Rattle.flat_code.specs.declared.program.FlatProgram.{FlatProgram}
-use Rattle.flat_code.specs.declared.value.Value.{Value}
-use Rattle.flat_code.specs.declared.value.Value.TheVariants.{Temp, Number, Symbol, Frame}
-use Rattle.flat_code.specs.Code.{Code, Codes, none, more, Seq, Set, Load, Store, Move, If, Loop, Leave, Call, Ret}
-use Rattle.flat_code.specs.Costs.{addressed}
 use Rattle.flat_code.specs.Evaluation as flat
 use Rattle.flat_code.specs.Shape.{code_of}
-use Rattle.flat_code.specs.WellFormed.{IsWellFormed, deepest, is_right, are_right, is_operand}
+use Rattle.flat_code.specs.WellFormed.{IsWellFormed, is_right}
 use Rattle.il_code.specs.declared.types.Block.{Block}
 use Rattle.il_code.specs.declared.types.Inst.{Inst}
-use Rattle.il_code.specs.declared.types.Jump.{Jump}
 use Rattle.il_code.specs.declared.types.Jump.TheVariants as jump
-use Rattle.il_code.specs.Rules.{has_label, targets_pass}
 use Rattle.il_code.specs.State as il
-use Rattle.hx_base.specs.declared.Class.TheVariants.{W}
 use Rattle.il_emit.specs.Names.{label_name}
-use Rattle.il_emit.specs.Lines.{Line, Label, Do, End, operand, address_lines, arg_lines, return_lines, exit_at, code_lines, each_lines, end_value, function_lines, labels_in, addresses_in}
-use Rattle.il_emit.specs.Emitted.{blocks_of, module_of}
+use Rattle.il_emit.specs.Lines.{End, code_lines, end_value, labels_in, addresses_in}
+use Rattle.il_emit.specs.Emitted.{params_of, blocks_of, module_of}
 use Rattle.il_emit.specs.Numbered.{HasFewNames}
-use Rattle.il_emit.specs.Shape.{backward_jumps, is_call_of, calls_of, loops_in, loops_in_all, calls_in, calls_in_all, IsShapedAs, AreAlike, HasShape}
-use Rattle.il_emit.proofs.Blocks.{block}
-use Rattle.il_emit.proofs.Counts.{both_true, all_append, all_more, or_true, sum_cons}
+use Rattle.il_emit.specs.Shape.{is_taking, is_alloc, number_of, fixed, has_fixed_size, allocs_are_placed, taken_of, takes, IsShapedAs, AreAlike, HasShape}
+use Rattle.il_emit.proofs.Blocks.{line_passes, blocks_pass}
+use Rattle.il_emit.proofs.Counts.{both_true, all_append, all_more, sum_cons}
 use Rattle.il_emit.proofs.NamedFunctions.{emitted, items_named, found, parts}
-use Rattle.il_emit.proofs.NumberedNames.{bytes_same}
-use Rattle.il_emit.proofs.Places.{insts_of, jump_of, line_blocks, function_blocks}
+use Rattle.flat_code.specs.declared.op.Op.{Op}
+use Rattle.il_code.specs.declared.types.Inst.TheVariants as inst
+use Rattle.il_code.specs.Step.{Kind, kind_of}
+use Rattle.il_emit.specs.Ops.{il_op}
+use Rattle.il_emit.proofs.Allowed.{LinesPass, code_good}
+use Rattle.il_emit.proofs.BackwardJumps.{jumps_few}
+use Rattle.il_emit.proofs.CallCosts.{costs_no_more}
+use Rattle.il_emit.proofs.CallCounts.{calls_few}
+use Rattle.il_emit.proofs.Outcomes.{op_computes}
 
--- ---- jumps back, counted over lines
+-- ---- the stack
 
--- 1 where a jump names a block that is not among these
-abbrev back : List Block → Jump → ℕ
-back behind j = if targets_pass (has_label behind) j then 0 else 1
+-- no operation of flat code takes bytes of the stack
+abbrev plain : Inst → Bool
+plain i = not (is_alloc i)
 
-abbrev back_of : List Line → ℕ
-back_of [] = 0
-back_of (Label n ∷ ls) = back_of ls
-back_of (Do i ∷ ls) = back_of ls
-back_of (End j ∷ ls) = back (line_blocks ls) j + back_of ls
+plain_op : (o : Op) → not (is_taking (kind_of (il_op o))) ≡ true
+plain_op o = ap (λ (k : Kind). not (is_taking k)) (op_computes o)
 
--- the block that is being written, and those behind it
-back_blocks : (ls : List Line) → back (line_blocks ls) (jump_of ls) + backward_jumps (line_blocks ls) ≤ back_of ls
-back_blocks [] = omega arith
-back_blocks (Label n ∷ ls) = omega (arith, back_blocks ls)
-back_blocks (Do i ∷ ls) = back_blocks ls
-back_blocks (End j ∷ ls) = omega (arith, back_blocks ls)
+plain_lines : (globals : List Data) (f : FlatFn) (most_labels most_addresses : ℕ) → LinesPass globals f (line_passes (λ n. true) plain (λ j. true)) most_labels most_addresses
+plain_lines globals f most_labels most_addresses = record {
+  label = λ n h. refl;
+  goes = λ n l u. refl;
+  branch = λ v k n m r u a b c d. refl;
+  returns = λ r. refl;
+  returns_value = λ v k r u. refl;
+  set = λ t class o a b k r u. plain_op o;
+  call = λ temp name args k r u. refl;
+  address = λ i offset k h b l. refl;
+}
 
--- a label that stands in lines
-abbrev stands : List Line → ℕ → Bool
-stands ls n = has_label (line_blocks ls) (label_name n)
-
-stands_here : (n : ℕ) (ls : List Line) → stands (Label n ∷ ls) n ≡ true
-stands_here n ls = ap (λ (b : Bool). b || stands ls n) (bytes_same (label_name n))
-
-stands_behind : (n : ℕ) (xs ls : List Line) → stands ls n ≡ true → stands (xs ++ ls) n ≡ true
-stands_behind n [] ls h = h
-stands_behind n (Label x ∷ xs) ls h = or_true (bytes_eq (label_name x) (label_name n)) _ (stands_behind n xs ls h)
-stands_behind n (Do i ∷ xs) ls h = stands_behind n xs ls h
-stands_behind n (End j ∷ xs) ls h = stands_behind n xs ls h
-
-all_behind : (es : List ℕ) (xs ls : List Line) → list_all (stands ls) es ≡ true → list_all (stands (xs ++ ls)) es ≡ true
-all_behind es xs ls h = all_more (stands ls) (stands (xs ++ ls)) (λ n. stands_behind n xs ls) es h
-
-exit_stands : (q : ℕ → Bool) (es : List ℕ) (i : ℕ) → i < length es → list_all q es ≡ true → q (slice_index_or es i 0) ≡ true
-exit_stands q [] i l h = absurd (omega arith)
-exit_stands q (e ∷ es) zero l h = (and_parts (q e) (list_all q es) h).0
-exit_stands q (e ∷ es) (suc i) l h = exit_stands q es i (omega arith) (and_parts (q e) (list_all q es) h).1
-
-back_least : (behind : List Block) (j : Jump) → back behind j ≤ 1
-back_least behind j = pick (targets_pass (has_label behind) j)
+plain_takes : (i : Inst) → plain i ≡ true → takes i ≡ 0
+plain_takes (inst.Set temp class op a b) h = pick (is_taking (kind_of op)) h
   where
-    pick : (b : Bool) → (if b then 0 else 1) ≤ 1
-    pick true = omega arith
-    pick false = omega arith
+    pick : (z : Bool) → not z ≡ true → (if z then taken_of (number_of a) else 0) ≡ 0
+    pick true e = cc
+    pick false e = refl
+plain_takes (inst.Store width value at) h = refl
+plain_takes (inst.Blit from to bytes) h = refl
+plain_takes (inst.Call result target args) h = refl
 
-back_none : (behind : List Block) (j : Jump) → targets_pass (has_label behind) j ≡ true → back behind j ≡ 0
-back_none behind j h = rw h refl
+plain_sized : (i : Inst) → plain i ≡ true → has_fixed_size i ≡ true
+plain_sized (inst.Set temp class op a b) h = ap (λ (z : Bool). z || fixed (number_of a)) h
+plain_sized (inst.Store width value at) h = refl
+plain_sized (inst.Blit from to bytes) h = refl
+plain_sized (inst.Call result target args) h = refl
 
-module _ (globals : List Data) (f : FlatFn) where
-  address_back : (v : Value) (k : ℕ) (ls : List Line) → back_of (address_lines globals v k ++ ls) ≡ back_of ls
-  address_back (Temp t) k ls = refl
-  address_back (Number n) k ls = refl
-  address_back (Frame offset) k ls = refl
-  address_back (Symbol i offset) k ls = pick (offset == 0) refl
-    where
-      pick : (b : Bool) → (offset == 0) ≡ b → back_of (address_lines globals (Symbol i offset) k ++ ls) ≡ back_of ls
-      pick true e = rw e refl
-      pick false e = rw e refl
+sum_none : {A : Type 0} (q : A → Bool) (g : A → ℕ) → ((x : A) → q x ≡ true → g x ≡ 0) → (xs : List A) → list_all q xs ≡ true → sum_by g xs ≡ 0
+sum_none q g on [] h = refl
+sum_none q g on (x ∷ xs) h = let k = and_parts (q x) (list_all q xs) h in sum_cons g x xs ∙ omega (arith, on x k.0, sum_none q g on xs k.1)
 
-  args_back : (vs : List Value) (k : ℕ) (ls : List Line) → back_of (arg_lines globals vs k ++ ls) ≡ back_of ls
-  args_back [] k ls = refl
-  args_back (v ∷ vs) k ls =
-      ap back_of (append_assoc (address_lines globals v k) (arg_lines globals vs (k + addressed v)) ls)
-      ∙ address_back v k (arg_lines globals vs (k + addressed v) ++ ls) ∙ args_back vs (k + addressed v) ls
+placed : (bs : List Block) → list_all (λ (b : Block). list_all plain b.insts) bs ≡ true → allocs_are_placed bs ≡ true
+placed [] h = refl
+placed (first ∷ rest) h =
+    let k = and_parts (list_all plain first.insts) (list_all (λ (b : Block). list_all plain b.insts) rest) h in
+    both_true _ _ (all_more plain has_fixed_size plain_sized first.insts k.0) k.1
 
-  return_back : (value : Option Value) (n k : ℕ) (ls : List Line) → back_of (return_lines globals value n k ++ ls) ≡ back_of ls
-  return_back None n k ls = omega arith
-  return_back (Some v) n k ls = ap back_of (append_assoc (address_lines globals v k) _ ls) ∙ address_back v k _ ∙ omega arith
+module _ (globals : List Data) (f : FlatFn) (right : is_right (length globals) f 0 (code_of f.body) ≡ true) where
+  plain_blocks : list_all (λ (b : Block). list_all plain b.insts) (blocks_of globals f) ≡ true
+  plain_blocks =
+      blocks_pass (λ n. true) plain (λ j. true) refl (λ (b : Block). list_all plain b.insts) (λ s n is j e l h k. h)
+      [] (label_name 0) 0 [] true (code_lines globals (code_of f.body) 1 0 [] ++ End (jump.Ret (end_value f.result)) ∷ []) refl refl refl refl
+      (all_append _ (code_lines globals (code_of f.body) 1 0 []) _
+      (code_good globals f _ (suc (labels_in (code_of f.body))) (addresses_in (code_of f.body)) (plain_lines globals f (suc (labels_in (code_of f.body))) (addresses_in (code_of f.body))) (code_of f.body) 0 1 0 [] right refl refl (omega arith) (omega arith) (omega arith)) refl)
 
-  mutual
-    -- where the exits of code stand behind it, only its Loops jump back
-    code_back : (c : Code) (around n k : ℕ) (es : List ℕ) (rest : List Line) → is_right (length globals) f around c ≡ true → length es ≡ around → list_all (stands rest) es ≡ true
-        → back_of (code_lines globals c n k es ++ rest) ≤ loops_in c + back_of rest
-    code_back (Seq cs) around n k es rest r d h =
-        let q = and_parts (nat_lt around deepest) (are_right (length globals) f (suc around) cs) r in
-        let behind = all_append (stands (Label n ∷ rest)) es (n ∷ []) (all_behind es (Label n ∷ []) rest h) (both_true (stands (Label n ∷ rest) n) true (stands_here n rest) refl) in
-        omega (arith, ap back_of (append_assoc (each_lines globals cs (suc n) k (es ++ n ∷ [])) (Label n ∷ []) rest), each_back cs (suc around) (suc n) k (es ++ n ∷ []) (Label n ∷ rest) q.1 (omega (arith, length-append es (n ∷ []))) behind)
-    code_back (Set t class o a b) around n k es rest r d h =
-        let same : back_of (code_lines globals (Set t class o a b) n k es ++ rest) ≡ back_of rest =
-        ap back_of (append_assoc (address_lines globals a k) _ rest) ∙ address_back a k _
-        ∙ ap back_of (append_assoc (address_lines globals b (k + addressed a)) _ rest) ∙ address_back b (k + addressed a) _ in
-        omega (arith, same)
-    code_back (Load t how at) around n k es rest r d h = omega arith
-    code_back (Store width value at) around n k es rest r d h = omega arith
-    code_back (Move to from bytes) around n k es rest r d h = omega arith
-    code_back (If v a b) around n k es rest r d h =
-        let q = and_parts (is_operand (length globals) f W v) (is_right (length globals) f around a && is_right (length globals) f around b) r in
-        let w = and_parts (is_right (length globals) f around a) (is_right (length globals) f around b) q.1 in
-        let one = code_lines globals a (n + 3) (k + addressed v) es in
-        let other = code_lines globals b (n + 3 + labels_in a) (k + addressed v + addresses_in a) es in
-        let tail : List Line = Label (n + 2) ∷ rest in
-        let other_side : List Line = Label (n + 1) ∷ (other ++ tail) in
-        let over : List Line = End (jump.Jmp (label_name (n + 2))) ∷ other_side in
-        let one_side : List Line = Label n ∷ (one ++ over) in
-        let same : code_lines globals (If v a b) n k es ++ rest ≡ address_lines globals v k ++ (End (jump.Jnz (operand globals v k) (label_name n) (label_name (n + 1))) ∷ one_side) =
-        append_assoc (address_lines globals v k) _ rest
-        ∙ ap (λ (x : List Line). address_lines globals v k ++ (End (jump.Jnz (operand globals v k) (label_name n) (label_name (n + 1))) ∷ Label n ∷ x)) (append_assoc one _ rest)
-        ∙ ap (λ (x : List Line). address_lines globals v k ++ (End (jump.Jnz (operand globals v k) (label_name n) (label_name (n + 1))) ∷ Label n ∷ (one ++ (End (jump.Jmp (label_name (n + 2))) ∷ Label (n + 1) ∷ x)))) (append_assoc other (Label (n + 2) ∷ []) rest) in
-        let at_end = all_behind es (Label (n + 2) ∷ []) rest h in
-        let at_over = all_behind es (End (jump.Jmp (label_name (n + 2))) ∷ Label (n + 1) ∷ other) tail at_end in
-        let branch = back_none (line_blocks one_side) (jump.Jnz (operand globals v k) (label_name n) (label_name (n + 1))) (both_true _ _ (stands_here n (one ++ over)) (stands_behind (n + 1) (Label n ∷ one) over (stands_here (n + 1) (other ++ tail)))) in
-        let jumps = back_none (line_blocks other_side) (jump.Jmp (label_name (n + 2))) (stands_behind (n + 2) (Label (n + 1) ∷ other) tail (stands_here (n + 2) rest)) in
-        omega (arith, ap back_of same, address_back v k (End (jump.Jnz (operand globals v k) (label_name n) (label_name (n + 1))) ∷ one_side), branch, jumps, code_back a around (n + 3) (k + addressed v) es over w.0 d at_over, code_back b around (n + 3 + labels_in a) (k + addressed v + addresses_in a) es tail w.1 d at_end)
-    code_back (Loop c) around n k es rest r d h =
-        let q = and_parts (nat_lt around deepest) (is_right (length globals) f (suc around) c) r in
-        let body = code_lines globals c (n + 2) k (es ++ (n + 1) ∷ []) in
-        let tail : List Line = End (jump.Jmp (label_name n)) ∷ Label (n + 1) ∷ rest in
-        let same = append_assoc body (End (jump.Jmp (label_name n)) ∷ Label (n + 1) ∷ []) rest in
-        let enters = back_none (line_blocks (Label n ∷ (body ++ tail))) (jump.Jmp (label_name n)) (stands_here n (body ++ tail)) in
-        let enters' = ap (λ (x : List Line). back (line_blocks (Label n ∷ x)) (jump.Jmp (label_name n))) same in
-        let turns = back_least (line_blocks (Label (n + 1) ∷ rest)) (jump.Jmp (label_name n)) in
-        let exits = all_append (stands tail) es ((n + 1) ∷ []) (all_behind es (End (jump.Jmp (label_name n)) ∷ Label (n + 1) ∷ []) rest h) (both_true (stands tail (n + 1)) true (stands_here (n + 1) rest) refl) in
-        omega (arith, enters, enters', turns, ap back_of same, code_back c (suc around) (n + 2) k (es ++ (n + 1) ∷ []) tail q.1 (omega (arith, length-append es ((n + 1) ∷ []))) exits)
-    code_back (Leave j) around n k es rest r d h =
-        let lt : j < around = grind (arith, nat_tests) in
-        let there = stands_behind (exit_at es j) (Label n ∷ []) rest (exit_stands (stands rest) es (length es - suc j) (omega arith) h) in
-        omega (arith, back_none (line_blocks (Label n ∷ rest)) (jump.Jmp (label_name (exit_at es j))) there)
-    code_back (Call temp name args) around n k es rest r d h =
-        let same : back_of (code_lines globals (Call temp name args) n k es ++ rest) ≡ back_of rest = ap back_of (append_assoc (arg_lines globals args k) _ rest) ∙ args_back args k _ in
-        omega (arith, same)
-    code_back (Ret value) around n k es rest r d h = omega (arith, return_back value n k rest)
-
-    each_back : (cs : Codes) (around n k : ℕ) (es : List ℕ) (rest : List Line) → are_right (length globals) f around cs ≡ true → length es ≡ around → list_all (stands rest) es ≡ true
-        → back_of (each_lines globals cs n k es ++ rest) ≤ loops_in_all cs + back_of rest
-    each_back none around n k es rest r d h = omega arith
-    each_back (more c cs) around n k es rest r d h =
-        let q = and_parts (is_right (length globals) f around c) (are_right (length globals) f around cs) r in
-        let others = each_lines globals cs (n + labels_in c) (k + addresses_in c) es in
-        omega (arith, ap back_of (append_assoc (code_lines globals c n k es) others rest), code_back c around n k es (others ++ rest) q.0 d (all_behind es others rest h), each_back cs around (n + labels_in c) (k + addresses_in c) es rest q.1 d h)
-
-  jumps_few : is_right (length globals) f 0 (code_of f.body) ≡ true → backward_jumps (blocks_of globals f) ≤ loops_in (code_of f.body)
-  jumps_few r =
-      let last : List Line = End (jump.Ret (end_value f.result)) ∷ [] in
-      omega (arith, ap backward_jumps (function_blocks globals f), back_blocks (function_lines globals f), code_back (code_of f.body) 0 1 0 [] last r refl refl)
-
--- ---- calls, counted over lines
-
-abbrev one_call : List ℕ → Inst → ℕ
-one_call name i = cond (is_call_of name i) 1 0
-
-abbrev line_calls : List ℕ → List Line → ℕ
-line_calls name [] = 0
-line_calls name (Label n ∷ ls) = line_calls name ls
-line_calls name (Do i ∷ ls) = one_call name i + line_calls name ls
-line_calls name (End j ∷ ls) = line_calls name ls
-
-call_blocks : (name : List ℕ) (ls : List Line) → count_by (is_call_of name) (insts_of ls) + calls_of name (line_blocks ls) ≤ line_calls name ls
-call_blocks name [] = omega arith
-call_blocks name (Label n ∷ ls) = omega (arith, call_blocks name ls, sum_cons (λ (b : Block). count_by (is_call_of name) b.insts) (block (label_name n) (insts_of ls) (jump_of ls)) (line_blocks ls))
-call_blocks name (Do i ∷ ls) = omega (arith, call_blocks name ls, sum_cons (λ (x : Inst). one_call name x) i (insts_of ls))
-call_blocks name (End j ∷ ls) = omega (arith, call_blocks name ls)
-
-calls_append : (name : List ℕ) (xs ys : List Line) → line_calls name (xs ++ ys) ≡ line_calls name xs + line_calls name ys
-calls_append name [] ys = omega arith
-calls_append name (Label n ∷ xs) ys = calls_append name xs ys
-calls_append name (Do i ∷ xs) ys = omega (arith, calls_append name xs ys)
-calls_append name (End j ∷ xs) ys = calls_append name xs ys
-
-module _ (globals : List Data) (name : List ℕ) where
-  address_calls : (v : Value) (k : ℕ) → line_calls name (address_lines globals v k) ≡ 0
-  address_calls (Temp t) k = refl
-  address_calls (Number n) k = refl
-  address_calls (Frame offset) k = refl
-  address_calls (Symbol i offset) k = pick (offset == 0) refl
-    where
-      pick : (b : Bool) → (offset == 0) ≡ b → line_calls name (address_lines globals (Symbol i offset) k) ≡ 0
-      pick true e = rw e refl
-      pick false e = rw e refl
-
-  behind_calls : (v : Value) (k : ℕ) (ls : List Line) → line_calls name (address_lines globals v k ++ ls) ≡ line_calls name ls
-  behind_calls v k ls = calls_append name (address_lines globals v k) ls ∙ omega (arith, address_calls v k)
-
-  args_calls : (vs : List Value) (k : ℕ) → line_calls name (arg_lines globals vs k) ≡ 0
-  args_calls [] k = refl
-  args_calls (v ∷ vs) k = omega (arith, calls_append name (address_lines globals v k) (arg_lines globals vs (k + addressed v)), address_calls v k, args_calls vs (k + addressed v))
-
-  return_calls : (value : Option Value) (n k : ℕ) → line_calls name (return_lines globals value n k) ≡ 0
-  return_calls None n k = refl
-  return_calls (Some v) n k = omega (arith, calls_append name (address_lines globals v k) (End (jump.Ret (Some (operand globals v k))) ∷ Label n ∷ []), address_calls v k)
-
-  counted : (b : Bool) → cond b 1 0 + 0 ≡ (if b then 1 else 0)
-  counted true = refl
-  counted false = refl
-
-  mutual
-    code_calls : (c : Code) (n k : ℕ) (es : List ℕ) → line_calls name (code_lines globals c n k es) ≤ calls_in name c
-    code_calls (Seq cs) n k es = omega (arith, calls_append name (each_lines globals cs (suc n) k (es ++ n ∷ [])) (Label n ∷ []), each_calls cs (suc n) k (es ++ n ∷ []))
-    code_calls (Set t class o a b) n k es =
-        let same : line_calls name (code_lines globals (Set t class o a b) n k es) ≡ 0 =
-        behind_calls a k _ ∙ behind_calls b (k + addressed a) _ in
-        omega (arith, same)
-    code_calls (Load t how at) n k es = omega arith
-    code_calls (Store width value at) n k es = omega arith
-    code_calls (Move to from bytes) n k es = omega arith
-    code_calls (If v a b) n k es =
-        let one = code_lines globals a (n + 3) (k + addressed v) es in
-        let other = code_lines globals b (n + 3 + labels_in a) (k + addressed v + addresses_in a) es in
-        let same : line_calls name (code_lines globals (If v a b) n k es) ≡ line_calls name one + (line_calls name other + 0) =
-        behind_calls v k _ ∙ calls_append name one _ ∙ ap (λ (x : ℕ). line_calls name one + x) (calls_append name other (Label (n + 2) ∷ [])) in
-        omega (arith, same, code_calls a (n + 3) (k + addressed v) es, code_calls b (n + 3 + labels_in a) (k + addressed v + addresses_in a) es)
-    code_calls (Loop c) n k es = omega (arith, calls_append name (code_lines globals c (n + 2) k (es ++ (n + 1) ∷ [])) (End (jump.Jmp (label_name n)) ∷ Label (n + 1) ∷ []), code_calls c (n + 2) k (es ++ (n + 1) ∷ []))
-    code_calls (Leave j) n k es = omega arith
-    code_calls (Call temp target args) n k es =
-        let same : line_calls name (code_lines globals (Call temp target args) n k es) ≡ line_calls name (arg_lines globals args k) + (cond (bytes_eq target name) 1 0 + 0) = calls_append name (arg_lines globals args k) _ in
-        omega (arith, same, args_calls args k, counted (bytes_eq target name))
-    code_calls (Ret value) n k es = omega (arith, return_calls value n k)
-
-    each_calls : (cs : Codes) (n k : ℕ) (es : List ℕ) → line_calls name (each_lines globals cs n k es) ≤ calls_in_all name cs
-    each_calls none n k es = omega arith
-    each_calls (more c cs) n k es = omega (arith, calls_append name (code_lines globals c n k es) (each_lines globals cs (n + labels_in c) (k + addresses_in c) es), code_calls c n k es, each_calls cs (n + labels_in c) (k + addresses_in c) es)
-
-  calls_few : (f : FlatFn) → calls_of name (blocks_of globals f) ≤ calls_in name (code_of f.body)
-  calls_few f =
-      let last : List Line = End (jump.Ret (end_value f.result)) ∷ [] in
-      omega (arith, ap (calls_of name) (function_blocks globals f), call_blocks name (function_lines globals f), calls_append name (code_lines globals (code_of f.body) 1 0 []) last, code_calls (code_of f.body) 1 0 [])
+  nothing_taken : sum_by (λ (b : Block). sum_by takes b.insts) (blocks_of globals f) ≡ 0
+  nothing_taken = sum_none (λ (b : Block). list_all plain b.insts) (λ (b : Block). sum_by takes b.insts) (λ b h. sum_none plain takes plain_takes b.insts h) (blocks_of globals f) plain_blocks
 
 -- ---- all functions
 
-shaped : (globals : List Data) (f : FlatFn) → is_right (length globals) f 0 (code_of f.body) ≡ true → IsShapedAs f (blocks_of globals f)
-shaped globals f r = record { jumps = jumps_few globals f r; calls = λ name. calls_few globals name f }
+shaped : (globals : List Data) (f : FlatFn) → is_right (length globals) f 0 (code_of f.body) ≡ true → length f.params ≤ f.temps → IsShapedAs f (record { params = params_of 0 f.params; blocks = blocks_of globals f })
+shaped globals f r few = record {
+  jumps = jumps_few globals f r;
+  calls = λ name. calls_few globals name f;
+  allocs = placed (blocks_of globals f) (plain_blocks globals f r);
+  cost = omega (arith, costs_no_more globals f r few, nothing_taken globals f r);
+}
 
 pub shape : (p : FlatProgram) → IsWellFormed p → AllByRecursion HasFewNames p.functions → HasShape p (module_of p)
 shape p w few name = subst (λ (c : Option il.Code). AreAlike (flat.function_named p.functions name) c) (sym (items_named p.globals p.globals p.functions name)) (pick (flat.function_named p.functions name) refl)
@@ -263,4 +107,4 @@ shape p w few name = subst (λ (c : Option il.Code). AreAlike (flat.function_nam
     pick (Some f) e =
         let it = found (length p.globals) name p.functions f w.functions few e in
         let is = parts (length p.globals) f it.right in
-        shaped p.globals f is.code
+        shaped p.globals f is.code is.few_params
