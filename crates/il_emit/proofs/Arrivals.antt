@@ -1,8 +1,8 @@
 -- A run of the module comes to where the run of the program comes, or the stack is full because calls cost too much.
-use Rattle.std.proofs.Common.{◌≡◌, ℕ, ◌+◌, ◌*◌, ◌%◌, ◌<◌, ◌≤◌, Bool, true, false, not, ◌&&◌, ◌||◌, List, [], ◌∷◌, ◌++◌, length, Option, None, Some, refl, sym, ap, ◌∙◌, subst, arith, ◌⊎◌, inl, inr}
-use Rattle.std.specs.Prelude.{codes, nat_lt, ◌==◌, if◌then◌else◌}
+use Rattle.std.proofs.Common.{◌≡◌, ℕ, ◌+◌, ◌*◌, ◌%◌, ◌<◌, ◌≤◌, Bool, true, false, List, [], ◌∷◌, ◌++◌, length, Option, None, Some, refl, sym, ap, ◌∙◌, subst, arith, ◌⊎◌, inl, inr}
+use Rattle.std.specs.Prelude.{codes, nat_lt, if◌then◌else◌}
 use Rattle.std.specs.List.{AllByRecursion}
-use Rattle.std.proofs.lemmas.Bool.{and_parts, or_cases}
+use Rattle.std.proofs.lemmas.Bool.{or_cases}
 use Rattle.std.proofs.lemmas.Bool.Decides.{nat_tests}
 use Rattle.hx_base.specs.declared.Class.{Class}
 use Rattle.hx_base.specs.Memory.{Memory}
@@ -18,11 +18,10 @@ use Rattle.flat_code.specs.Shape.{code_of}
 use Rattle.flat_code.specs.State as state
 use Rattle.flat_code.specs.State.{State, Result, Next, Left, Returned, HeapFull, Spent, stepped}
 use Rattle.flat_code.specs.Temps.{params_set, code_sets, is_set}
-use Rattle.flat_code.specs.WellFormed.{IsWellFormed, is_main, no_long}
+use Rattle.flat_code.specs.WellFormed.{IsWellFormed}
 use Rattle.il_code.specs.declared.types.Block.{Block}
 use Rattle.il_code.specs.declared.types.IlParam.{IlParam}
 use Rattle.il_code.specs.declared.types.Jump.TheVariants as jump
-use Rattle.il_code.specs.declared.types.Module.{Module}
 use Rattle.il_code.specs.Addresses.{stack_start}
 use Rattle.il_code.specs.Machine.{StackFull, Temps, call_cost, stack_size}
 use Rattle.il_code.specs.Machine as machine
@@ -72,9 +71,6 @@ module _ (p : FlatProgram) (w : IsWellFormed p) (few : AllByRecursion HasFewName
   -- ---- the whole run
 
   module _ (f : FlatFn) (found_f : Found (length p.globals) (codes "main") f) (named : flat.function_named p.functions (codes "main") ≡ Some f) (args : List (List ℕ)) (input : List ℕ) (fill n : ℕ) where
-    abbrev m : Module
-    m = module_of p
-
     abbrev world : World
     world = start_world (module_of p) args input fill
 
@@ -108,17 +104,6 @@ module _ (p : FlatProgram) (w : IsWellFormed p) (few : AllByRecursion HasFewName
 
     facts : Parts (length p.globals) f
     facts = parts (length p.globals) f found_f.right
-
-    no_params : f.params ≡ []
-    no_params = none (is_main f) found_f.named facts.main
-      where
-        empty : (cs : List Class) → (length cs == 0) ≡ true → cs ≡ []
-        empty [] e = refl
-        empty (c ∷ cs) e = absurd (grind (arith, nat_tests))
-
-        none : (b : Bool) → b ≡ true → (not b || (length f.params == 0 && no_long f.result)) ≡ true → f.params ≡ []
-        none true e h = empty f.params (and_parts (length f.params == 0) (no_long f.result) h).0
-        none false e h = cc
 
     nothing_bound : (ps : List IlParam) → bound ps [] ≡ []
     nothing_bound [] = refl

@@ -43,7 +43,8 @@ use Rattle.il_emit.specs.Reaches.{fault_for}
 use Rattle.il_emit.proofs.Operands.{cut_same, addressed_one, same_set, Setting, behind_address, address_steps, address_used, address_jumps, address_same, address_keeps, operand_ready, stays_ready, behind_args, arg_steps, args_used, args_jumps, args_same, args_ready}
 use Rattle.il_emit.proofs.Outcomes.{Fine, gives, divides, op_fine, op_computes}
 use Rattle.il_emit.proofs.Places.{Finds}
-use Rattle.il_emit.proofs.Running.{Activation, counted, Mark, worth, steps_more, state_at, before, value_is, Same, Holds, Comes, Meets, later, jumped_to, jump_step}
+use Rattle.il_emit.proofs.Meeting.{later}
+use Rattle.il_emit.proofs.Running.{Activation, counted, Mark, worth, steps_more, state_at, before, value_is, Same, Holds, Comes, Meets, jumped_to, jump_step}
 
 module _ (p : FlatProgram) (f : FlatFn) (m : Module) (set : Setting p f m) (call : Activation) where
   abbrev run_at : List Line → World → Mark → Run
@@ -241,11 +242,11 @@ module _ (p : FlatProgram) (f : FlatFn) (m : Module) (set : Setting p f m) (call
   -- ---- branches
 
   -- a branch comes to the side that its condition says
-  pub branch_comes : (class : Class) (v : Value) (k x y : ℕ) (ls one other : List Line) (s : State) (c : Mark) (b : Bool) → is_operand (length p.globals) f W v ≡ true → Holds call.floor s c
+  pub branch_comes : (v : Value) (k x y : ℕ) (ls one other : List Line) (s : State) (c : Mark) (b : Bool) → is_operand (length p.globals) f W v ≡ true → Holds call.floor s c
       → Finds call.lines x one → Finds call.lines y other → (state.cut W (value_of p s v) == 0) ≡ b
       → after_steps m (addressed v + 1) (run_at (address_lines p.globals v k ++ (End (jump.Jnz (operand p.globals v k) (label_name x) (label_name y)) ∷ ls)) s.world c)
       ≡ run_at (if b then other else one) s.world (jumped_to m call (if b then y else x) (behind_address p f m set call v k c))
-  branch_comes class v k x y ls one other s c b r h hx hy e =
+  branch_comes v k x y ls one other s c b r h hx hy e =
       let ca = behind_address p f m set call v k c in
       let here : List Line = End (jump.Jnz (operand p.globals v k) (label_name x) (label_name y)) ∷ ls in
       let ready = operand_ready p f m set call s W v k c r h.same in

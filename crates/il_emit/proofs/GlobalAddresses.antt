@@ -206,9 +206,6 @@ addresses_small p at (d ∷ ds) i h l = pick i l (addresses_small p (round_up at
     pick (suc j) u on = omega (arith, near, sums, takes, on j k.1 (omega arith))
 
 module _ (p : FlatProgram) (w : IsWellFormed p) where
-  abbrev m : Module
-  m = module_of p
-
   differ : (ds : List Data) (i : ℕ) → list_all (λ (d : Data). how_many p d.name == 1) ds ≡ true → i < length ds → how_many p (name_at ds i) ≡ 1
   differ [] i h l = absurd (omega arith)
   differ (d ∷ ds) zero h l = let k = (and_parts (how_many p d.name == 1) (list_all (λ (x : Data). how_many p x.name == 1) ds) h).0 in grind (arith, nat_tests)

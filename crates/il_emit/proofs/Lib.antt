@@ -13,6 +13,7 @@ pub mod Globals
 pub mod Lawful
 pub mod Places
 pub mod Running
+pub mod Meeting
 pub mod Operands
 pub mod Outcomes
 pub mod Forms

@@ -97,7 +97,6 @@ main_there (f ∷ fs) h e = pick (bytes_eq f.name (codes "main")) refl h e (main
 
 -- what its being right says
 pub record Parts (globals : ℕ) (f : FlatFn) : Type 0 where
-  pub main : is_main_right f ≡ true
   pub few_params : length f.params ≤ f.temps
   pub no_frame : f.frame ≡ 0
   pub built : is_built (code_of f.body) ≡ true
@@ -112,7 +111,7 @@ parts globals f h =
     let e = and_parts (nests_within (code_of f.body) deepest) _ d.1 in
     let g = and_parts (is_built (code_of f.body)) _ e.1 in
     let i = and_parts (params_have_one_class f 0 f.params) (is_right globals f 0 (code_of f.body)) g.1 in
-    record { main = b.0; few_params = at_most c.0; no_frame = none d.0; built = g.0; code = i.1 }
+    record { few_params = at_most c.0; no_frame = none d.0; built = g.0; code = i.1 }
   where
     at_most : nat_le (length f.params) f.temps ≡ true → length f.params ≤ f.temps
     at_most e = grind (arith, nat_tests)

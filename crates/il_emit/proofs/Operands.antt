@@ -46,15 +46,15 @@ addressed_one (Frame offset) = omega arith
 
 -- ---- temporaries that are set
 
-same_step : (fill t v x : ℕ) (ts : List (ℕ × ℕ)) (temps : Temps) (b c : Bool) → b ≡ c → temp_value fill temps (temp_name x) ≡ flat.temp_value fill ts x → (if b then v else temp_value fill temps (temp_name x)) ≡ (if c then v else flat.temp_value fill ts x)
-same_step fill t v x ts temps true true e h = refl
-same_step fill t v x ts temps false false e h = h
-same_step fill t v x ts temps true false e h = cc
-same_step fill t v x ts temps false true e h = cc
+same_step : (fill v x : ℕ) (ts : List (ℕ × ℕ)) (temps : Temps) (b c : Bool) → b ≡ c → temp_value fill temps (temp_name x) ≡ flat.temp_value fill ts x → (if b then v else temp_value fill temps (temp_name x)) ≡ (if c then v else flat.temp_value fill ts x)
+same_step fill v x ts temps true true e h = refl
+same_step fill v x ts temps false false e h = h
+same_step fill v x ts temps true false e h = cc
+same_step fill v x ts temps false true e h = cc
 
 -- a temporary more
 pub same_set : (ts : List (ℕ × ℕ)) (temps : Temps) (t v : ℕ) → t < 2 ^ 64 → Same ts temps → Same ((t, v) ∷ ts) ((temp_name t, v) ∷ temps)
-same_set ts temps t v h s = record { at = λ fill x l. same_step fill t v x ts temps (bytes_eq (temp_name t) (temp_name x)) (nat_eq t x) (temp_eq t x h l) (s.at fill x l) }
+same_set ts temps t v h s = record { at = λ fill x l. same_step fill v x ts temps (bytes_eq (temp_name t) (temp_name x)) (nat_eq t x) (temp_eq t x h l) (s.at fill x l) }
 
 -- an address is no temporary of flat code
 same_address : (ts : List (ℕ × ℕ)) (temps : Temps) (k v : ℕ) → Same ts temps → Same ts ((address_name k, v) ∷ temps)

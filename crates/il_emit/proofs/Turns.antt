@@ -27,7 +27,8 @@ use Rattle.il_emit.specs.Names.{label_name}
 use Rattle.il_emit.proofs.Forms.{set_meets, call_meets, branch_comes, return_meets}
 use Rattle.il_emit.proofs.Operands.{addressed_one, Setting, behind_address, address_used, address_jumps, address_same}
 use Rattle.il_emit.proofs.Places.{Inside, inside_behind, inside_next, inside_regroup, Finds, finds}
-use Rattle.il_emit.proofs.Running.{Activation, counted, Mark, before, out_of, Holds, Meets, later, may_use, then_meets, turn_meets, caught_meets, label_meets, jumped_to, jump_step, jump_meets}
+use Rattle.il_emit.proofs.Meeting.{later, may_use, then_meets, turn_meets, caught_meets, label_meets, jump_meets}
+use Rattle.il_emit.proofs.Running.{Activation, counted, Mark, before, out_of, Holds, Meets, jumped_to, jump_step}
 
 -- ---- exits
 
@@ -199,7 +200,7 @@ module _ (p : FlatProgram) (f : FlatFn) (m : Module) (set : Setting p f m) (few_
       branch_meets s at z h e =
           let behind = behind_address p f m set call v k at in
           let r = room.labels in
-          let comes = branch_comes p f m set call W v k label (label + 1) (Label label ∷ (one ++ over)) (one ++ over) other_side s at z operand_right h (found label (one ++ over) (omega arith) at_one) (found (label + 1) other_side (omega arith) at_other) e in
+          let comes = branch_comes p f m set call v k label (label + 1) (Label label ∷ (one ++ over)) (one ++ over) other_side s at z operand_right h (found label (one ++ over) (omega arith) at_one) (found (label + 1) other_side (omega arith) at_other) e in
           let used = address_used p f m set call v k at in
           let jumps = address_jumps p f m set call v k at in
           let few = addressed_one v in
