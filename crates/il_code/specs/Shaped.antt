@@ -1,4 +1,5 @@
--- Which modules the grammar can write, and which of them break no rule. No public clause cites this: it is the test that `valid` makes.
+-- Which modules the grammar can write, and which of them break no rule: the test that `valid` makes. Of public clauses only those on reading printed
+-- text back cite it: they ask that the grammar can write the module.
 use Rattle.std.specs.Prelude.{ℕ, ◌^◌, List, [], ◌∷◌, Option, None, Some, Bool, true, false, not, ◌||◌, ◌&&◌, nat_lt, ◌==◌}
 use Rattle.std.specs.List.{list_all, list_any}
 use Rattle.il_code.specs.declared.types.IlItem.{IlItem}
