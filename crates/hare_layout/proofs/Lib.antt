@@ -18,4 +18,5 @@ pub mod ReduceLemmas
 pub mod SizedLemmas
 pub mod SmallLemmas
 pub mod SpreadLemmas
+pub mod StableLemmas
 pub mod StoreLemmas
