@@ -1,6 +1,7 @@
 pub mod AdmitLemmas
 pub mod AscendingLemmas
 pub mod BaseLemmas
+pub mod BaseOfLemmas
 pub mod BelowLemmas
 pub mod CallerLemmas
 pub mod CappedLemmas

@@ -158,7 +158,7 @@ module _ (s : Store) (v : IsStore s) where
   base_under named h (Tuple ts) b i e g = (i, e ∙ g)
   base_under named h (Union ts) b i e g = (i, e ∙ g)
 
-  base_at : (n : ℕ) (t b : Tree) (i : ℕ) → tree_at s i ≡ Some t → following base_with (meaning_of s) n t ≡ Some b → (j : ℕ) × (tree_at s j ≡ Some b)
+  pub base_at : (n : ℕ) (t b : Tree) (i : ℕ) → tree_at s i ≡ Some t → following base_with (meaning_of s) n t ≡ Some b → (j : ℕ) × (tree_at s j ≡ Some b)
   base_at zero t b i e g = base_under (λ d. None) (λ d c k. absurd cc) t b i e g
   base_at (suc n) t b i e g = base_under (λ d. option_and_then (following base_with (meaning_of s) n) (meaning_of s d)) (λ d c k. name d c k (base_at n)) t b i e g
     where
