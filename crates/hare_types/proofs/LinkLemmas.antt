@@ -264,9 +264,11 @@ module _ (ks : List Kept) (few : length ks ≤ most) (t i : ℕ) (waited : t < l
           by (inr away) = absurd (away (suc t) a)
 
       chain : Chain (done last) (kept_at (done last) t).first (i ∷ lists (suc t))
-      chain =
-          (ap (λ k. k.first) here, omega (arith, len_done last, waits),
-           subst (λ h. Chain (done last) h (lists (suc t))) (sym next) (Chain-same ks (done last) (len_done last) (lists (suc t)) (kept_at ks t).first same (l.chains (suc t))))
+      chain = (
+        ap (λ k. k.first) here,
+        omega (arith, len_done last, waits),
+        subst (λ h. Chain (done last) h (lists (suc t))) (sym next) (Chain-same ks (done last) (len_done last) (lists (suc t)) (kept_at ks t).first same (l.chains (suc t))),
+      )
 
       end_here : (xs : List ℕ) → Chain ks (kept_at ks t).first xs → EndsWith xs (kept_at ks t).last
           → (((kept_at ks t).first ≡ nowhere) × (last ≡ i)) ⊎ (¬ ((kept_at ks t).first ≡ nowhere) × (last ≡ (kept_at ks t).last)) → EndsWith (i ∷ xs) last

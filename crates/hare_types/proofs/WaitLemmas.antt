@@ -378,9 +378,10 @@ module _ (rows : List Row) (es : List (ℕ × Declared)) (old mid : List Kept) (
             on : (w.0 ≡ i) ⊎ (¬ (w.0 ≡ i)) → IsAtRest rows es new (released lists i) j ⊎ Among (released lists i 0) j
             on (inl e) = inr (released-pile lists i j (inl (subst (λ p. Among (lists (suc p)) j) e w.1)))
             on (inr away) =
-                inl (said j q g
-                ((λ b. base_over-near es (base_at old) (base_at new) j q w.0 (h.waiting.needs w.0 j w.1 q g) (b_new w.0 away) ∙ base (sym (b_new j other) ∙ b)),
-                 inr (w.0, released-to lists i w.0 j away w.1, e_new w.0 away ∙ w.2)))
+                inl (said j q g (
+                  (λ b. base_over-near es (base_at old) (base_at new) j q w.0 (h.waiting.needs w.0 j w.1 q g) (b_new w.0 away) ∙ base (sym (b_new j other) ∙ b)),
+                  inr (w.0, released-to lists i w.0 j away w.1, e_new w.0 away ∙ w.2),
+                ))
 
         known_or_not : (j : ℕ) → j ≢ i → IsAtRest rows es old lists j → (o : Option Row) → slice_get rows j ≡ o → (x : Option Extent) → extent_at old j ≡ x → IsAtRest rows es new (released lists i) j ⊎ Among (released lists i 0) j
         known_or_not j other a None g x e = inl (λ q g' u. let both : None ≡ Some q = sym g ∙ g' in absurd cc)
@@ -467,9 +468,10 @@ module _ (rows : List Row) (es : List (ℕ × Declared)) (old new : List Kept) (
 
       here : IsAtRest rows es new (linked lists t i) i
       here q k u =
-          subst (λ x. (base_at new i ≡ None → base_over (defined es) (base_at new) i x ≡ None) × (IsInert es x ⊎ ((p : ℕ) × Among (linked lists t i (suc p)) i × (extent_at new p ≡ None)))) (same_row q k)
-          ((λ b. ap (λ bs. base_over (defined es) (known_base bs) i r) keeps.bases ∙ base (sym (ap (λ l. known_base l i) keeps.bases) ∙ b)),
-           inr (t, subst (λ xs. Among xs i) (sym (with_list-here lists (suc t) (i ∷ lists (suc t)))) (inl refl), e_new t ∙ free))
+          subst (λ x. (base_at new i ≡ None → base_over (defined es) (base_at new) i x ≡ None) × (IsInert es x ⊎ ((p : ℕ) × Among (linked lists t i (suc p)) i × (extent_at new p ≡ None)))) (same_row q k) (
+            (λ b. ap (λ bs. base_over (defined es) (known_base bs) i r) keeps.bases ∙ base (sym (ap (λ l. known_base l i) keeps.bases) ∙ b)),
+            inr (t, subst (λ xs. Among xs i) (sym (with_list-here lists (suc t) (i ∷ lists (suc t)))) (inl refl), e_new t ∙ free),
+          )
 
       by : (j : ℕ) → (i ≡ j) ⊎ (IsAtRest rows es old lists j ⊎ Among (lists 0) j) → IsAtRest rows es new (linked lists t i) j ⊎ Among (linked lists t i 0) j
       by j (inl e) = inl (subst (IsAtRest rows es new (linked lists t i)) e here)

@@ -100,12 +100,7 @@ fn needed(row: &Row, declared: &IndexMap<u32, Declared>, seen: usize) -> Option<
 }
 
 /// What is kept of a row that is taken in as row `i`.
-pub(crate) fn fresh(
-    row: &Row,
-    i: usize,
-    declared: &IndexMap<u32, Declared>,
-    kept: &[Kept],
-) -> Kept
+pub(crate) fn fresh(row: &Row, i: usize, declared: &IndexMap<u32, Declared>, kept: &[Kept]) -> Kept
     requires few { i ≤ most }
     requires bounded { AreBounded (extents kept.now) }
     ensures extent { result.extent ≡ extent_over (defined declared.now.entries) (known (extents kept.now)) row.now }
@@ -234,12 +229,7 @@ pub(crate) fn settle(
 }
 
 /// Looks at row `i`, and then at all rows that wait for what is found, until no more follows.
-fn settle_from(
-    rows: &[Row],
-    declared: &IndexMap<u32, Declared>,
-    kept: &mut Vec<Kept>,
-    i: usize,
-)
+fn settle_from(rows: &[Row], declared: &IndexMap<u32, Declared>, kept: &mut Vec<Kept>, i: usize)
     requires within { i < length rows.now }
     requires few { length rows.now ≤ most }
     requires as_many { length kept.old.items ≡ length rows.now }

@@ -54,7 +54,7 @@ returns-in-Some c =
       settled = λ pile lists h. (
         linked lists p c.args.i,
         wait-settling c.args.rows.now c.args.declared.now.entries ks c.link.new.kept.items pile c.args.i lists h both p r here
-        (c.link.ensures.lists pile lists (seen-links c.args.rows.now ks c.set_seen.new.kept.items c.args.i c.min.result r here within c.set_seen.ensures before pile lists h.waiting.links) h.out) none needs free follows.1,
+            (c.link.ensures.lists pile lists (seen-links c.args.rows.now ks c.set_seen.new.kept.items c.args.i c.min.result r here within c.set_seen.ensures before pile lists h.waiting.links) h.out) none needs free follows.1,
         linked-pile c.args.rows.now c.args.declared.now.entries ks c.link.new.kept.items pile c.args.i lists h both p,
       );
     }
@@ -84,8 +84,8 @@ returns-in-None c =
       settled = λ pile lists h. (
         lists,
         stay-settling c.args.rows.now c.args.declared.now.entries ks c.set_seen.new.kept.items pile c.args.i lists h found
-        (seen-links c.args.rows.now ks c.set_seen.new.kept.items c.args.i c.min.result r here within c.set_seen.ensures before pile lists h.waiting.links)
-        (λ q g u. let same : Some r ≡ Some q = sym here ∙ g in let row : r ≡ q = cc in subst (λ x. (base_at ks c.args.i ≡ None → base_over (defined c.args.declared.now.entries) (base_at ks) c.args.i x ≡ None) × (IsInert c.args.declared.now.entries x ⊎ ((p : ℕ) × Among (lists (suc p)) c.args.i × (extent_at ks p ≡ None)))) row (follows.1, inl inert)),
+            (seen-links c.args.rows.now ks c.set_seen.new.kept.items c.args.i c.min.result r here within c.set_seen.ensures before pile lists h.waiting.links)
+            (λ q g u. let same : Some r ≡ Some q = sym here ∙ g in let row : r ≡ q = cc in subst (λ x. (base_at ks c.args.i ≡ None → base_over (defined c.args.declared.now.entries) (base_at ks) c.args.i x ≡ None) × (IsInert c.args.declared.now.entries x ⊎ ((p : ℕ) × Among (lists (suc p)) c.args.i × (extent_at ks p ≡ None)))) row (follows.1, inl inert)),
         refl,
       );
     }
