@@ -1,4 +1,5 @@
 pub mod FirstLemmas
+pub mod GrowthLemmas
 pub mod MemberLemmas
 pub mod SameLemmas
 pub mod TypeLemmas

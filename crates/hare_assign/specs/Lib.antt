@@ -1,2 +1,3 @@
 pub mod First
+pub mod Growth
 pub mod Shapes

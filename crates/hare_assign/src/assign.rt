@@ -50,7 +50,7 @@ pub(crate) fn first_row(s: &TypeStore, to: TypeId, from: &Ty) -> Option<u8>
 ///
 /// The types are in the store. A name that is not defined has no base, so that no row that asks for its base admits.
 ///
-/// The time grows with the members of the unions, and with the names and error marks that stand before the bases.
+/// The time grows with the members of the unions.
 pub fn assignable(s: &TypeStore, to: TypeId, from: Ty) -> Option<Coercion>
     requires to { to < length s.now.rows }
     requires from { IsIn s.now from }

@@ -4,6 +4,7 @@
 mod assign;
 mod base;
 mod cast;
+mod laws;
 mod rows;
 mod types;
 mod unions;
@@ -11,6 +12,7 @@ mod words;
 
 pub use assign::assignable;
 pub use cast::castable;
+pub use laws::law_verdicts_stay;
 
 #[cfg(test)]
 mod tests;

@@ -1,6 +1,7 @@
 pub mod AdmitLemmas
 pub mod AscendingLemmas
 pub mod BaseLemmas
+pub mod BaseOfLemmas
 pub mod BelowLemmas
 pub mod CallerLemmas
 pub mod CappedLemmas
@@ -18,4 +19,5 @@ pub mod ReduceLemmas
 pub mod SizedLemmas
 pub mod SmallLemmas
 pub mod SpreadLemmas
+pub mod StableLemmas
 pub mod StoreLemmas

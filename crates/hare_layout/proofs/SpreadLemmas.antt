@@ -1,6 +1,6 @@
 -- What names and error marks leave of a type, and what members bring into a union.
-use Rattle.std.proofs.Common.{◌≡◌, ℕ, zero, suc, ◌-◌, ◌<◌, Bool, true, false, List, [], ◌∷◌, length, map, Option, Some, None, refl, ap, sym, ◌∙◌, subst, arith, inl, inr}
-use Rattle.std.specs.Prelude.{slice_get, option_and_then, Contains}
+use Rattle.std.proofs.Common.{◌≡◌, ℕ, zero, suc, ◌<◌, Bool, true, false, List, [], ◌∷◌, length, map, Some, None, refl, ap, sym, ◌∙◌, subst, arith, inl, inr}
+use Rattle.std.specs.Prelude.{slice_get, Contains}
 use Rattle.std.proofs.lemmas.Bool.{false≢true}
 use Rattle.std.proofs.lemmas.List.Elements.{All-cons, All-nil}
 use Rattle.std.proofs.lemmas.Option.{slice_get-get_or, slice_get_within}
@@ -10,7 +10,7 @@ use Rattle.hare_types.specs.declared.row.Scalar.{Scalar as Keyword}
 use Rattle.hare_types.specs.declared.row.Scalar.TheVariants as keyword
 use Rattle.hare_types.specs.Trees.{Tree, Trees, Scalar, Union, trees_of, SomeTree}
 use Rattle.hare_types.specs.Rows.{tree_in, tree_of, trees, AllBelow}
-use Rattle.hare_types.specs.Store.{Store, tree_at, definition_of, meaning_of}
+use Rattle.hare_types.specs.Store.{Store, tree_at, meaning_of}
 use Rattle.hare_types.specs.Sound.{IsStore}
 use Rattle.hare_types.specs.Layout.{following, base_with, IsBase}
 use Rattle.hare_types.proofs.CallerLemmas.{tree_at_row}
@@ -29,9 +29,6 @@ following_base : (s : Store) (n : ℕ) (u : Tree) → base_with (name_bases s n)
 following_base s zero u = refl
 following_base s (suc n) u = refl
 
-base_row : (s : Store) → IsStore s → (n t : ℕ) (r : Row) → slice_get s.rows t ≡ Some r → base_by s n t ≡ base_with (name_bases s n) (tree_of (trees s.rows) r)
-base_row s v n t r e = ap (base_with (name_bases s n)) (tree_in-row s v t r e)
-
 -- an id of the store stands for a tree
 pub tree_at-id : (s : Store) (i : ℕ) → i < length s.rows → tree_at s i ≡ Some (tree_in (trees s.rows) i)
 tree_at-id s i h =
@@ -45,44 +42,6 @@ id-tree_at s i u e =
     let far : i < length s.rows = omega arith in
     let both = sym (tree_at-id s i far) ∙ e in
     (far, cc)
-
--- through an error mark
-pub base-mark : (s : Store) → IsStore s → (n t i : ℕ) → slice_get s.rows t ≡ Some (row.Error i) → base_by s n i ≡ base_by s n t
-base-mark s v n t i e = sym (base_row s v n t (row.Error i) e)
-
--- through a name
-pub base-name : (s : Store) → IsStore s → (n t d q : ℕ) → slice_get s.rows t ≡ Some (row.Named d) → ¬ (n ≡ 0) → Some q ≡ definition_of s d → base_by s (n - 1) q ≡ base_by s n t
-base-name s v zero t d q e some g = absurd (some refl)
-base-name s v (suc n) t d q e some g =
-    let less : suc n - 1 ≡ n = omega arith in
-    let tree : meaning_of s d ≡ Some (tree_in (trees s.rows) q) = ap (option_and_then (tree_at s)) (sym g) ∙ tree_at-id s q (v.defined_within d q (sym g)) in
-    ap (λ k. base_by s k q) less ∙ following_base s n (tree_in (trees s.rows) q) ∙ sym (ap (option_and_then (following base_with (meaning_of s) n)) tree)
-    ∙ sym (base_row s v (suc n) t (row.Named d) e)
-
--- no name may be followed, or the name is not defined
-pub base-cut : (s : Store) → IsStore s → (n t d : ℕ) → slice_get s.rows t ≡ Some (row.Named d) → n ≡ 0 → None ≡ base_by s n t
-base-cut s v n t d e h = sym (base_row s v n t (row.Named d) e ∙ ap (λ k. name_bases s k d) h)
-
-pub base-open : (s : Store) → IsStore s → (n t d : ℕ) → slice_get s.rows t ≡ Some (row.Named d) → None ≡ definition_of s d → None ≡ base_by s n t
-base-open s v zero t d e h = base-cut s v zero t d e refl
-base-open s v (suc n) t d e h = sym (base_row s v (suc n) t (row.Named d) e ∙ ap (λ o. option_and_then (following base_with (meaning_of s) n) (option_and_then (tree_at s) o)) (sym h))
-
--- the type itself
-base_of_tree : (named : ℕ → Option Tree) (ts : List Tree) (r : Row) → ((i : ℕ) → ¬ (r ≡ row.Error i)) → ((d : ℕ) → ¬ (r ≡ row.Named d)) → base_with named (tree_of ts r) ≡ Some (tree_of ts r)
-base_of_tree named ts (row.Scalar k) a b = refl
-base_of_tree named ts (row.Pointer i) a b = refl
-base_of_tree named ts (row.Nullable i) a b = refl
-base_of_tree named ts (row.Slice i) a b = refl
-base_of_tree named ts (row.Array n i) a b = refl
-base_of_tree named ts (row.Struct fs) a b = refl
-base_of_tree named ts (row.Tuple is) a b = refl
-base_of_tree named ts (row.Union is) a b = refl
-base_of_tree named ts (row.Error i) a b = absurd (a i refl)
-base_of_tree named ts (row.Named d) a b = absurd (b d refl)
-
-pub base-here : (s : Store) → IsStore s → (n t : ℕ) (r : Row) → slice_get s.rows t ≡ Some r → ((i : ℕ) → ¬ (r ≡ row.Error i)) → ((d : ℕ) → ¬ (r ≡ row.Named d))
-    → Some (tree_in (trees s.rows) t) ≡ base_by s n t
-base-here s v n t r e a b = sym (base_row s v n t r e ∙ base_of_tree (name_bases s n) (trees s.rows) r a b ∙ ap Some (sym (tree_in-row s v t r e)))
 
 -- ---- the base
 

@@ -8,6 +8,7 @@ mod bytes;
 mod capped;
 mod copy;
 mod extent;
+mod laws;
 mod measure;
 mod members;
 mod members_left;
@@ -21,6 +22,7 @@ mod spread;
 mod tag;
 
 pub use admitted::admit;
+pub use laws::{law_judgements_stay, law_layout_stays};
 pub use members::subset;
 pub use offset::offset_of;
 pub use size::{align_of, size_of};

@@ -44,11 +44,9 @@ pub(crate) fn members_left(
     r: &Spelled,
     members: &TypeIds,
     place: Place,
-    names: usize,
 ) -> Result<Vec<TypeId>, Stop<Fault>>
     requires union { written r.now.row ≡ Some members.now }
     requires within { AreIds s.now members.now }
-    requires names { names ≡ length s.now.declared }
     requires sound { IsStore s.now }
     ensures ok { IfOk result (λ v. AreLeftBelow s.now r.now (length members.now) v.items) }
     ensures passes { OnOk result (Passes s.now r.now place Spreading) }
@@ -57,7 +55,7 @@ pub(crate) fn members_left(
     let mut left = Vec::new(alloc);
     let types = members.as_slice();
     for k in 0..types.len() {
-        match brought(s, types[k], is_spread(r, k), &types[k..k + 1], names) {
+        match brought(s, types[k], is_spread(r, k), &types[k..k + 1]) {
             Some(more) => push_members(&mut left, s, more)?,
             None => {
                 return Err(Stop::Fault(Fault {

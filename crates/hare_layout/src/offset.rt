@@ -37,7 +37,7 @@ fn start_of(s: &TypeStore, t: TypeId, k: usize) -> Option<u128>
 
 /// Where field `k` of a struct, or component `k` of a tuple, begins: how many bytes behind the first byte of the whole. Names and error
 /// marks of the type are followed, and `k` counts from 0. The conditions are those of `size_of`, and that the type has a field `k`.
-/// The time is that of the names that are followed and of the `k` fields before.
+/// The time is that of the `k` fields before.
 pub fn offset_of(s: &TypeStore, t: TypeId, k: u32) -> u64
     requires small { IsSmall s.now t }
     requires field { HasField s.now t k }

@@ -45,17 +45,15 @@ fn reduce_union(
     r: &Spelled,
     members: &TypeIds,
     place: Place,
-    names: usize,
 ) -> Result<Reduced, Stop<Fault>>
     requires union { written r.now.row ≡ Some members.now }
     requires within { AreIds s.now members.now }
-    requires names { names ≡ length s.now.declared }
     requires sound { IsStore s.now }
     ensures ok { IfOk result (IsReduction s.now r.now) }
     ensures passes { OnOk result (PassesAll s.now r.now place (Spreading ∷ Sized ∷ Inhabited ∷ Narrow ∷ [])) }
     ensures err { IfErr result (StopsEarly s.now r.now place) }
 {
-    let brought = members_left(alloc, s, r, members, place, names)?;
+    let brought = members_left(alloc, s, r, members, place)?;
     if any_unsized(s, &brought) {
         return Err(Stop::Fault(Fault { number: 17, place }));
     }
@@ -103,9 +101,10 @@ pub(crate) fn reduce(
     ensures err { IfErr result (StopsEarly s.now r.now place) }
     ensures sound { IsStore s.now }
 {
-    let names = s.declarations();
+    // that the store is sound
+    let _law = s.declarations();
     match &r.row {
-        Row::Union(members) => reduce_union(alloc, s, r, members, place, names),
+        Row::Union(members) => reduce_union(alloc, s, r, members, place),
         _ => reduce_other(alloc, s, r, place),
     }
 }

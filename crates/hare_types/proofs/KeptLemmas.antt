@@ -1,10 +1,9 @@
 -- What is kept of extents is what is told of them.
-use Rattle.std.proofs.Common.{◌≡◌, ◌≢◌, ℕ, zero, suc, ◌+◌, ◌*◌, ◌<◌, ◌≤◌, Bool, true, false, nat_eq, true≢false, List, [], ◌∷◌, ◌++◌, length, take, set, map, Option, Some, None, IfSome, IsSome, refl, ap, ap₂, sym, ◌∙◌, subst, arith, ◌⊎◌, inl, inr, length-append, length-set, get_or-set_other, get_or-set_same}
-use Rattle.std.specs.Prelude.{is_some, slice_get, slice_index_or, option_map, option_and_then}
+use Rattle.std.proofs.Common.{◌≡◌, ◌≢◌, ℕ, zero, suc, ◌+◌, ◌*◌, ◌<◌, ◌≤◌, Bool, true, false, nat_eq, true≢false, List, [], ◌∷◌, ◌++◌, length, set, map, Option, Some, None, IfSome, IsSome, refl, ap, ap₂, sym, ◌∙◌, subst, arith, ◌⊎◌, inl, inr, length-append, length-set, get_or-set_other, get_or-set_same}
+use Rattle.std.specs.Prelude.{slice_get, slice_index_or, option_map, option_and_then}
 use Rattle.std.proofs.lemmas.Option.{get_or_from_slice_get, slice_get-get_or, slice_get_within}
 use Rattle.std.proofs.lemmas.Bool.{cases_lt}
 use Rattle.std.specs.Cmp.{unsigned_Decides}
-use Rattle.std.proofs.Math.Seq.{take-append_seam, take-length, get_or-append_seam}
 use Rattle.std.proofs.Math.ListN.{get_or-append}
 use Rattle.hare_types.specs.declared.declared.Declared.{Declared}
 use Rattle.hare_types.specs.declared.extent.Extent.{Extent}
@@ -12,15 +11,14 @@ use Rattle.hare_types.specs.declared.lists.Field.{Field}
 use Rattle.hare_types.specs.declared.row.Row.{Row}
 use Rattle.hare_types.specs.declared.row.Row.TheVariants as row
 use Rattle.hare_types.specs.declared.row.Scalar.TheVariants as keyword
-use Rattle.hare_types.specs.Numbering.{IsOnce}
 use Rattle.hare_types.specs.Trees.{Tree, Trees, Scalar, Named, more, trees_of}
-use Rattle.hare_types.specs.Rows.{tree_in, tree_of, trees, AllBelow, FieldsBelow, IsWithin, AreRows}
+use Rattle.hare_types.specs.Rows.{tree_in, tree_of, trees, AllBelow, FieldsBelow, IsWithin}
 use Rattle.hare_types.specs.Store.{Store, tree_at, definition_of, meaning_of}
 use Rattle.hare_types.specs.Sound.{IsStore}
 use Rattle.hare_types.specs.Layout.{fields_extent, union_extent, following, extent_with, extents_with, HasExtent}
-use Rattle.hare_types.specs.Kept.{LiesIn, told, IsTold, IsBounded, known, defined, all_known, extent_over, AreBounded, KeepsExtents, IsSettled, IsInert, AreQuiet, AreQuietBut, unknown}
-use Rattle.hare_types.proofs.ListLemmas.{slice_get_end, slice_get_push}
-use Rattle.hare_types.proofs.TreeLemmas.{length-trees, tree_kept, IsWithin-le}
+use Rattle.hare_types.specs.Kept.{LiesIn, told, IsTold, IsBounded, known, defined, all_known, extent_over, AreBounded, KeepsExtents, IsSettled, IsInert, unknown}
+use Rattle.hare_types.proofs.ListLemmas.{slice_get_end}
+use Rattle.hare_types.proofs.TreeLemmas.{length-trees, tree_kept}
 use Rattle.hare_types.proofs.DefinitionLemmas.{meaning_kept}
 use Rattle.hare_types.proofs.CallerLemmas.{tree_at_row}
 use Rattle.hare_types.proofs.GrowthLemmas.{Knows, option_and_then-more, extent_with-more, extents_with-more, following-more, following-further}
@@ -218,7 +216,7 @@ known-push (k ∷ ks) o (suc i) x e = next (known-push ks o i x e)
 
 module _ (s : Store) (r : Row) (ks : List (Option Extent)) (o : Option Extent) (value : o ≡ extent_over (defined s.declared) (known ks) r) (within : IfSome o (λ x. IsBounded x)) (v : KeepsExtents s ks) where
   -- with one more row
-  KeepsExtents-push : IsStore (record s { rows = s.rows ++ r ∷ [] }) → ((d t : ℕ) → defined s.declared d ≡ Some t → t < length s.rows) → KeepsExtents (record s { rows = s.rows ++ r ∷ [] }) (ks ++ o ∷ [])
+  pub KeepsExtents-push : IsStore (record s { rows = s.rows ++ r ∷ [] }) → ((d t : ℕ) → defined s.declared d ≡ Some t → t < length s.rows) → KeepsExtents (record s { rows = s.rows ++ r ∷ [] }) (ks ++ o ∷ [])
   KeepsExtents-push w ids = record {
     as_many = omega (arith, length-append ks (o ∷ []), length-append s.rows (r ∷ []), v.as_many);
     bounded = λ i x e. bounded_at i x (known-push ks o i x e);
@@ -245,37 +243,9 @@ module _ (s : Store) (r : Row) (ks : List (Option Extent)) (o : Option Extent) (
           let here : slice_get (s.rows ++ r ∷ []) i ≡ Some r = subst (λ j. slice_get (s.rows ++ r ∷ []) j ≡ Some r) place (slice_get_end s.rows r []) in
           told-step (record s { rows = s.rows ++ r ∷ [] }) w ks v.bounded old_sound i r here x (sym value ∙ h.1)
 
-  -- with the rows that taking one in leaves
-  pub KeepsExtents-intern : (new : List Row) → (new ≡ s.rows) ⊎ (new ≡ s.rows ++ r ∷ []) → IsStore (record s { rows = new }) → ((d t : ℕ) → defined s.declared d ≡ Some t → t < length s.rows)
-      → KeepsExtents (record s { rows = new }) (take (length new) (ks ++ o ∷ []))
-  KeepsExtents-intern new (inl e) w ids =
-      let cut : take (length s.rows) (ks ++ o ∷ []) ≡ ks = ap (λ n. take n (ks ++ o ∷ [])) (sym v.as_many) ∙ take-append_seam ks (o ∷ []) in
-      subst (λ l. KeepsExtents (record s { rows = l }) (take (length l) (ks ++ o ∷ []))) (sym e) (subst (KeepsExtents s) (sym cut) v)
-  KeepsExtents-intern new (inr e) w ids =
-      let as_long : length (s.rows ++ r ∷ []) ≡ length (ks ++ o ∷ []) = omega (arith, length-append ks (o ∷ []), length-append s.rows (r ∷ []), v.as_many) in
-      let cut : take (length (s.rows ++ r ∷ [])) (ks ++ o ∷ []) ≡ ks ++ o ∷ [] = ap (λ n. take n (ks ++ o ∷ [])) as_long ∙ take-length (ks ++ o ∷ []) in
-      subst (λ l. KeepsExtents (record s { rows = l }) (take (length l) (ks ++ o ∷ []))) (sym e)
-      (subst (KeepsExtents (record s { rows = s.rows ++ r ∷ [] })) (sym cut) (KeepsExtents-push (subst (λ l. IsStore (record s { rows = l })) e w) ids))
-
 -- ---- what is not kept
 
-same_over : (f g : ℕ → Option ℕ) (ks : ℕ → Option Extent) → ((d : ℕ) → f d ≡ g d) → (r : Row) → extent_over f ks r ≡ extent_over g ks r
-same_over f g ks same (row.Scalar k) = refl
-same_over f g ks same (row.Pointer i) = refl
-same_over f g ks same (row.Nullable i) = refl
-same_over f g ks same (row.Slice i) = refl
-same_over f g ks same (row.Array n i) = refl
-same_over f g ks same (row.Struct fs) = refl
-same_over f g ks same (row.Tuple is) = refl
-same_over f g ks same (row.Union is) = refl
-same_over f g ks same (row.Error i) = refl
-same_over f g ks same (row.Named d) = ap (option_and_then ks) (same d)
-
--- with one more declaration
-pub IsSettled-declared : (rows : List Row) (es new : List (ℕ × Declared)) (ks : List (Option Extent)) → ((d : ℕ) → defined new d ≡ defined es d) → (i : ℕ) → IsSettled rows es ks i → IsSettled rows new ks i
-IsSettled-declared rows es new ks same i h r e f = same_over (defined new) (defined es) (known ks) same r ∙ h r e f
-
-known-front : (ks rest : List (Option Extent)) (i : ℕ) → i < length ks → known (ks ++ rest) i ≡ known ks i
+pub known-front : (ks rest : List (Option Extent)) (i : ℕ) → i < length ks → known (ks ++ rest) i ≡ known ks i
 known-front ks rest i h = get_or-append ks rest None i h
 
 all_known-front : (ks rest : List (Option Extent)) (is : List ℕ) → AllBelow (length ks) is → all_known (known (ks ++ rest)) is ≡ all_known (known ks) is
@@ -283,12 +253,12 @@ all_known-front ks rest [] h = refl
 all_known-front ks rest (i ∷ is) h =
     ap₂ (λ o p. option_and_then (λ x. option_map (λ xs. x ∷ xs) p) o) (known-front ks rest i h.0) (all_known-front ks rest is h.1)
 
-FieldsBelow-ids : (n : ℕ) (fs : List Field) → FieldsBelow n fs → AllBelow n (map (λ f. f.ty) fs)
+pub FieldsBelow-ids : (n : ℕ) (fs : List Field) → FieldsBelow n fs → AllBelow n (map (λ f. f.ty) fs)
 FieldsBelow-ids n [] h = tt
 FieldsBelow-ids n (f ∷ fs) h = (h.0, FieldsBelow-ids n fs h.1)
 
 -- what follows for a row rests on earlier rows alone
-extent_over-front : (definition : ℕ → Option ℕ) (ks rest : List (Option Extent)) (r : Row) → IsWithin (length ks) r → ((d t : ℕ) → definition d ≡ Some t → t < length ks)
+pub extent_over-front : (definition : ℕ → Option ℕ) (ks rest : List (Option Extent)) (r : Row) → IsWithin (length ks) r → ((d t : ℕ) → definition d ≡ Some t → t < length ks)
     → extent_over definition (known (ks ++ rest)) r ≡ extent_over definition (known ks) r
 extent_over-front definition ks rest (row.Scalar k) h ids = refl
 extent_over-front definition ks rest (row.Pointer i) h ids = refl
@@ -304,42 +274,6 @@ extent_over-front definition ks rest (row.Named d) h ids = by (definition d) (λ
     by : (o : Option ℕ) → ((t : ℕ) → o ≡ Some t → t < length ks) → option_and_then (known (ks ++ rest)) o ≡ option_and_then (known ks) o
     by None g = refl
     by (Some t) g = known-front ks rest t (g t refl)
-
--- with one more row
-module _ (rows : List Row) (sound : AreRows rows) (r : Row) (w : IsWithin (length rows) r) (es : List (ℕ × Declared)) (ids : (d t : ℕ) → defined es d ≡ Some t → t < length rows)
-    (ks : List (Option Extent)) (as_many : length ks ≡ length rows) (o : Option Extent) (value : o ≡ extent_over (defined es) (known ks) r) (settled : (i : ℕ) → IsSettled rows es ks i) where
-  ids_within : (d t : ℕ) → defined es d ≡ Some t → t < length ks
-  ids_within d t e = omega (arith, ids d t e, as_many)
-
-  settled-push : (i : ℕ) → IsSettled (rows ++ r ∷ []) es (ks ++ o ∷ []) i
-  settled-push i q e f = by (slice_get_push rows r i q e)
-    where
-      by : (slice_get rows i ≡ Some q) ⊎ ((i ≡ length rows) × (q ≡ r)) → extent_over (defined es) (known (ks ++ o ∷ [])) q ≡ None
-      by (inl h) =
-          let below : i < length rows = slice_get_within rows i q h in
-          let wider : IsWithin (length ks) q = IsWithin-le i (length ks) q (omega (arith, as_many)) (sound.within i q h) in
-          let none : known ks i ≡ None = sym (known-front ks (o ∷ []) i (omega (arith, as_many))) ∙ f in
-          extent_over-front (defined es) ks (o ∷ []) q wider ids_within ∙ settled i q h none
-      by (inr h) =
-          let place : i ≡ length ks = h.0 ∙ sym as_many in
-          let last : known (ks ++ o ∷ []) (length ks) ≡ o = get_or-append_seam ks o [] None in
-          let none : o ≡ None = sym last ∙ ap (known (ks ++ o ∷ [])) (sym place) ∙ f in
-          let wider : IsWithin (length ks) r = IsWithin-le (length rows) (length ks) r (omega (arith, as_many)) w in
-          ap (extent_over (defined es) (known (ks ++ o ∷ []))) h.1 ∙ extent_over-front (defined es) ks (o ∷ []) r wider ids_within ∙ sym value ∙ none
-
-  pub IsSettled-intern : (new : List Row) → (new ≡ rows) ⊎ (new ≡ rows ++ r ∷ []) → (i : ℕ) → IsSettled new es (take (length new) (ks ++ o ∷ [])) i
-  IsSettled-intern new (inl e) i =
-      let cut : take (length rows) (ks ++ o ∷ []) ≡ ks = ap (λ n. take n (ks ++ o ∷ [])) (sym as_many) ∙ take-append_seam ks (o ∷ []) in
-      subst (λ l. IsSettled l es (take (length l) (ks ++ o ∷ [])) i) (sym e) (subst (λ l. IsSettled rows es l i) (sym cut) (settled i))
-  IsSettled-intern new (inr e) i =
-      let as_long : length (rows ++ r ∷ []) ≡ length (ks ++ o ∷ []) = omega (arith, length-append ks (o ∷ []), length-append rows (r ∷ []), as_many) in
-      let cut : take (length (rows ++ r ∷ [])) (ks ++ o ∷ []) ≡ ks ++ o ∷ [] = ap (λ n. take n (ks ++ o ∷ [])) as_long ∙ take-length (ks ++ o ∷ []) in
-      subst (λ l. IsSettled l es (take (length l) (ks ++ o ∷ [])) i) (sym e) (subst (λ l. IsSettled (rows ++ r ∷ []) es l i) (sym cut) (settled-push i))
-
-pub IsSettled-empty : (rows : List Row) (es : List (ℕ × Declared)) (ks : List (Option Extent)) → rows ≡ [] → (i : ℕ) → IsSettled rows es ks i
-IsSettled-empty rows es ks e i r h f =
-    let none : None ≡ Some r = sym (ap (λ l. slice_get l i) e) ∙ h in
-    absurd cc
 
 -- ---- one extent more
 
@@ -377,16 +311,21 @@ KeepsExtents-set s v ks i r x here value b k = record {
     sound_at j y (inl h) = k.sound j y h
     sound_at j y (inr h) = told-step s v ks k.bounded k.sound j r (subst (λ n. slice_get s.rows n ≡ Some r) (sym h.0) here) y (sym value ∙ h.1)
 
-pub known-none : (ks : List (Option Extent)) (i : ℕ) (o : Option Extent) → o ≡ slice_index_or ks i o → false ≡ is_some o → known ks i ≡ None
-known-none ks i None e f = sym e
-known-none ks i (Some x) e f = absurd cc
-
-pub unknown-set : (ks : List (Option Extent)) (i : ℕ) (x : Extent) → i < length ks → known ks i ≡ None → unknown (set ks i (Some x)) < unknown ks
+pub unknown-set : {A : Type 0} (ks : List (Option A)) (i : ℕ) (x : A) → i < length ks → slice_index_or ks i None ≡ None → unknown (set ks i (Some x)) < unknown ks
 unknown-set [] i x l e = absurd (omega arith)
 unknown-set (None ∷ ks) zero x l e = omega arith
 unknown-set (Some y ∷ ks) zero x l e = absurd cc
 unknown-set (None ∷ ks) (suc i) x l e = omega (arith, unknown-set ks i x (omega arith) e)
 unknown-set (Some y ∷ ks) (suc i) x l e = unknown-set ks i x (omega arith) e
+
+-- once one is kept, no more are unknown
+pub unknown-more : {A : Type 0} (ks : List (Option A)) (i : ℕ) (o : Option A) → IsSome o → unknown (set ks i o) ≤ unknown ks
+unknown-more ks i None h = absurd cc
+unknown-more [] i (Some x) h = omega arith
+unknown-more (None ∷ ks) zero (Some x) h = omega arith
+unknown-more (Some y ∷ ks) zero (Some x) h = omega arith
+unknown-more (None ∷ ks) (suc i) (Some x) h = omega (arith, unknown-more ks i (Some x) h)
+unknown-more (Some y ∷ ks) (suc i) (Some x) h = unknown-more ks i (Some x) h
 
 -- ---- where nothing is kept, nothing lies
 
@@ -503,118 +442,3 @@ inert-none es ks (row.Struct fs) h = absurd h
 inert-none es ks (row.Tuple is) h = absurd h
 inert-none es ks (row.Union is) h = absurd h
 inert-none es ks (row.Error i) h = absurd h
-
--- under other definitions
-pub inert-other : (es new : List (ℕ × Declared)) (d : ℕ) → ((q : ℕ) → (d ≡ q) ⊎ (defined new q ≡ defined es q)) → (r : Row) → IsInert es r → IsInert new r ⊎ (r ≡ row.Named d)
-inert-other es new d same (row.Scalar k) h = inl h
-inert-other es new d same (row.Named q) h = by (same q)
-  where
-    by : (d ≡ q) ⊎ (defined new q ≡ defined es q) → (defined new q ≡ None) ⊎ (row.Named q ≡ row.Named d)
-    by (inl e) = inr (ap row.Named (sym e))
-    by (inr e) = inl (e ∙ h)
-inert-other es new d same (row.Pointer i) h = absurd h
-inert-other es new d same (row.Nullable i) h = absurd h
-inert-other es new d same (row.Slice i) h = absurd h
-inert-other es new d same (row.Array n i) h = absurd h
-inert-other es new d same (row.Struct fs) h = absurd h
-inert-other es new d same (row.Tuple is) h = absurd h
-inert-other es new d same (row.Union is) h = absurd h
-inert-other es new d same (row.Error i) h = absurd h
-
-pub inert-same : (es new : List (ℕ × Declared)) → ((q : ℕ) → defined new q ≡ defined es q) → (r : Row) → IsInert es r → IsInert new r
-inert-same es new same (row.Scalar k) h = h
-inert-same es new same (row.Named q) h = same q ∙ h
-inert-same es new same (row.Pointer i) h = absurd h
-inert-same es new same (row.Nullable i) h = absurd h
-inert-same es new same (row.Slice i) h = absurd h
-inert-same es new same (row.Array n i) h = absurd h
-inert-same es new same (row.Struct fs) h = absurd h
-inert-same es new same (row.Tuple is) h = absurd h
-inert-same es new same (row.Union is) h = absurd h
-inert-same es new same (row.Error i) h = absurd h
-
--- with one more row
-pub AreQuiet-intern : (rows : List Row) (es : List (ℕ × Declared)) (ks : List (Option Extent)) → length ks ≡ length rows → (r : Row) (o : Option Extent) → (o ≡ None → IsInert es r) → AreQuiet rows es ks
-    → (new : List Row) → (new ≡ rows) ⊎ (new ≡ rows ++ r ∷ []) → AreQuiet new es (take (length new) (ks ++ o ∷ []))
-AreQuiet-intern rows es ks as_many r o inert quiet new (inl e) =
-    let cut : take (length rows) (ks ++ o ∷ []) ≡ ks = ap (λ n. take n (ks ++ o ∷ [])) (sym as_many) ∙ take-append_seam ks (o ∷ []) in
-    subst (λ l. AreQuiet l es (take (length l) (ks ++ o ∷ []))) (sym e) (subst (AreQuiet rows es) (sym cut) quiet)
-AreQuiet-intern rows es ks as_many r o inert quiet new (inr e) =
-    let as_long : length (rows ++ r ∷ []) ≡ length (ks ++ o ∷ []) = omega (arith, length-append ks (o ∷ []), length-append rows (r ∷ []), as_many) in
-    let cut : take (length (rows ++ r ∷ [])) (ks ++ o ∷ []) ≡ ks ++ o ∷ [] = ap (λ n. take n (ks ++ o ∷ [])) as_long ∙ take-length (ks ++ o ∷ []) in
-    subst (λ l. AreQuiet l es (take (length l) (ks ++ o ∷ []))) (sym e) (subst (AreQuiet (rows ++ r ∷ []) es) (sym cut) pushed)
-  where
-    pushed : AreQuiet (rows ++ r ∷ []) es (ks ++ o ∷ [])
-    pushed i q h f = by (slice_get_push rows r i q h)
-      where
-        by : (slice_get rows i ≡ Some q) ⊎ ((i ≡ length rows) × (q ≡ r)) → IsInert es q
-        by (inl g) =
-            let below : i < length rows = slice_get_within rows i q g in
-            quiet i q g (sym (known-front ks (o ∷ []) i (omega (arith, as_many))) ∙ f)
-        by (inr g) =
-            let place : i ≡ length ks = g.0 ∙ sym as_many in
-            let last : known (ks ++ o ∷ []) (length ks) ≡ o = get_or-append_seam ks o [] None in
-            subst (IsInert es) (sym g.1) (inert (sym last ∙ ap (known (ks ++ o ∷ [])) (sym place) ∙ f))
-
--- what is not known once one more is known was not known before
-pub known-set_none : (ks : List (Option Extent)) (i j : ℕ) (x : Extent) → i < length ks → known ks i ≡ None → known (set ks i (Some x)) j ≡ None → known ks j ≡ None
-known-set_none ks i j x l e f = by (nat_eq i j) refl
-  where
-    by : (b : Bool) → nat_eq i j ≡ b → known ks j ≡ None
-    by true g = subst (λ n. known ks n ≡ None) ((unsigned_Decides i j).0 g) e
-    by false g =
-        let other : j ≢ i = λ h. true≢false (sym ((unsigned_Decides i j).1 (sym h)) ∙ g) in
-        sym (get_or-set_other ks i j (Some x) None other) ∙ f
-
-pub known-set_some : (ks : List (Option Extent)) (i : ℕ) (x : Extent) → i < length ks → IsSome (known (set ks i (Some x)) i)
-known-set_some ks i x l = subst IsSome (sym (get_or-set_same ks i (Some x) None l)) refl
-
--- where only the row of one name may wait
-module _ (rows : List Row) (es : List (ℕ × Declared)) (old new : List (Option Extent)) (d : ℕ) (quiet : AreQuietBut d rows es old)
-    (only : (j : ℕ) → known new j ≡ None → known old j ≡ None) (named : (i : ℕ) → slice_get rows i ≡ Some (row.Named d) → known new i ≡ None → ⊥) where
-  pub quiet-after : AreQuiet rows es new
-  quiet-after i r e f = by (quiet i r e (only i f))
-    where
-      by : IsInert es r ⊎ (r ≡ row.Named d) → IsInert es r
-      by (inl h) = h
-      by (inr h) = absurd (named i (e ∙ ap Some h) f)
-
-  pub settled-after : (i : ℕ) → IsSettled rows es new i
-  settled-after i r e f = inert-none es (known new) r (quiet-after i r e f)
-
--- where the row of the name waits
-pub settled-but : (rows : List Row) (es : List (ℕ × Declared)) (ks : List (Option Extent)) (d : ℕ) → AreQuietBut d rows es ks → ((i : ℕ) → slice_get rows i ≡ Some (row.Named d) → IsSettled rows es ks i)
-    → (i : ℕ) → IsSettled rows es ks i
-settled-but rows es ks d quiet named i r e f = by (quiet i r e f)
-  where
-    by : IsInert es r ⊎ (r ≡ row.Named d) → extent_over (defined es) (known ks) r ≡ None
-    by (inl h) = inert-none es (known ks) r h
-    by (inr h) = named i (e ∙ ap Some h) r e f
-
-pub AreQuiet-empty : (rows : List Row) (es : List (ℕ × Declared)) (ks : List (Option Extent)) → rows ≡ [] → AreQuiet rows es ks
-AreQuiet-empty rows es ks e i r h f =
-    let none : None ≡ Some r = sym (ap (λ l. slice_get l i) e) ∙ h in
-    absurd cc
-
--- what looking at the row of the name leaves
-module _ (rows : List Row) (once : IsOnce rows) (es : List (ℕ × Declared)) (old new : List (Option Extent)) (d : ℕ) (quiet : AreQuietBut d rows es old) (place : ℕ)
-    (here : slice_get rows place ≡ Some (row.Named d)) (entered : Bool) (there : entered ≡ true → IsSome (known new place)) (only : (j : ℕ) → known new j ≡ None → known old j ≡ None)
-    (done : entered ≡ false → (new ≡ old) × IsSettled rows es new place) where
-  not_there : entered ≡ true → (i : ℕ) → slice_get rows i ≡ Some (row.Named d) → known new i ≡ None → ⊥
-  not_there t i e f =
-      let same : place ≡ i = once.once place i (row.Named d) here e in
-      let some : IsSome (known new i) = subst (λ n. IsSome (known new n)) same (there t) in
-      let nothing : false ≡ true = subst IsSome f some in
-      absurd cc
-
-  pub look-quiet : entered ≡ true → AreQuiet rows es new
-  look-quiet t = quiet-after rows es old new d quiet only (not_there t)
-
-  pub look-settled : (i : ℕ) → IsSettled rows es new i
-  look-settled = by entered refl
-    where
-      by : (b : Bool) → entered ≡ b → (i : ℕ) → IsSettled rows es new i
-      by true t = settled-after rows es old new d quiet only (not_there t)
-      by false t =
-          settled-but rows es new d (subst (AreQuietBut d rows es) (sym (done t).0) quiet)
-          (λ i e. subst (IsSettled rows es new) (once.once place i (row.Named d) here e) (done t).1)

@@ -1,3 +1,4 @@
+pub mod LinkLemmas
 pub mod ListLemmas
 pub mod NumberingLemmas
 mod PartLemmas
@@ -12,4 +13,7 @@ pub mod AssignRows
 mod LayoutRows
 pub mod GrowthLemmas
 mod ToldLemmas
+pub mod WaitLemmas
 pub mod KeptLemmas
+pub mod BaseLemmas
+pub mod EnterLemmas

@@ -1,5 +1,5 @@
 -- Extents that are kept beside the rows of a store.
-use Rattle.std.specs.Prelude.{◌≡◌, ℕ, suc, Bool, false, ◌⊎◌, ◌≤◌, ◌*◌, min, nat_eq, List, [], ◌∷◌, length, map, slice_get, slice_index_or, Some, None, Option, option_map, option_and_then}
+use Rattle.std.specs.Prelude.{◌≡◌, ℕ, suc, ◌≤◌, ◌*◌, min, nat_eq, List, [], ◌∷◌, length, map, slice_get, slice_index_or, Some, None, Option, option_map, option_and_then}
 use Rattle.std.specs.Map.{lookup}
 use Rattle.hare_types.specs.declared.declared.Declared.{Declared}
 use Rattle.hare_types.specs.declared.extent.Extent.{Extent}
@@ -7,7 +7,6 @@ use Rattle.hare_types.specs.declared.row.Row.{Row}
 use Rattle.hare_types.specs.declared.row.Row.TheVariants as row
 use Rattle.hare_types.specs.Trees.{Tree}
 use Rattle.hare_types.specs.Store.{Store, tree_at}
-use Rattle.hare_types.specs.Sound.{IsStore}
 use Rattle.hare_types.specs.Layout.{bytes, scalar_extent, fields_extent, union_extent, HasExtent}
 
 -- the type with this id has this extent
@@ -79,8 +78,8 @@ pub record KeepsExtents (s : Store) (ks : List (Option Extent)) : Type 0 where
 abbrev pub IsSettled : List Row → List (ℕ × Declared) → List (Option Extent) → ℕ → Type 0
 IsSettled rows es ks i = (r : Row) → slice_get rows i ≡ Some r → known ks i ≡ None → extent_over (defined es) (known ks) r ≡ None
 
--- how many extents are not kept
-abbrev pub unknown : List (Option Extent) → ℕ
+-- how many of these are not kept
+abbrev pub unknown : {A : Type 0} → List (Option A) → ℕ
 unknown [] = 0
 unknown (None ∷ ks) = suc (unknown ks)
 unknown (Some x ∷ ks) = unknown ks
@@ -90,18 +89,3 @@ abbrev pub IsInert : List (ℕ × Declared) → Row → Type 0
 IsInert es (row.Scalar k) = scalar_extent k ≡ None
 IsInert es (row.Named d) = defined es d ≡ None
 IsInert es _ = ⊥
-
--- no row waits for another
-abbrev pub AreQuiet : List Row → List (ℕ × Declared) → List (Option Extent) → Type 0
-AreQuiet rows es ks = (i : ℕ) (r : Row) → slice_get rows i ≡ Some r → known ks i ≡ None → IsInert es r
-
--- the same, but for the name d
-abbrev pub AreQuietBut : ℕ → List Row → List (ℕ × Declared) → List (Option Extent) → Type 0
-AreQuietBut d rows es ks = (i : ℕ) (r : Row) → slice_get rows i ≡ Some r → known ks i ≡ None → IsInert es r ⊎ (r ≡ row.Named d)
-
--- what holds of a store, of the extents that are kept beside its rows, and of whether rows may wait for others
-pub record IsKept (s : Store) (ks : List (Option Extent)) (waits : Bool) : Type 0 where
-  pub store : IsStore s
-  pub extents : KeepsExtents s ks
-  pub settled : (i : ℕ) → IsSettled s.rows s.declared ks i
-  pub quiet : waits ≡ false → AreQuiet s.rows s.declared ks

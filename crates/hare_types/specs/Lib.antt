@@ -1,4 +1,5 @@
 pub mod Assign
+pub mod Bases
 pub mod ByValue
 pub mod KeyLaws
 pub mod Kept
@@ -10,3 +11,4 @@ pub mod Run
 pub mod Sound
 pub mod Store
 pub mod Trees
+pub mod Waiting

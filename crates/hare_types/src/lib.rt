@@ -6,6 +6,7 @@ mod coercion;
 mod declared;
 mod extent;
 mod id;
+mod kept;
 mod lists;
 mod measure;
 mod numbering;
@@ -13,6 +14,7 @@ mod parts;
 mod row;
 mod settle;
 mod store;
+mod waiting;
 
 pub use coercion::{Coercion, Ty};
 pub use extent::Extent;

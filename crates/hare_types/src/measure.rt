@@ -3,30 +3,23 @@
 ghost use Rattle.std.specs.Prelude.{◌≡◌, ◌≤◌, ◌^◌, IfSome, option_map};
 ghost use Rattle.hare_types.specs.Kept.{parts_of, known, defined, all_known, extent_over, IsBounded, AreBounded};
 ghost use Rattle.hare_types.specs.declared.row.Row.TheVariants as RowOf;
+ghost use Rattle.hare_types.specs.Waiting.{extents, base_at};
+ghost use Rattle.hare_types.specs.Bases.{base_over};
 ghost use Rattle.hare_types.specs.Run.{no_parts, with_parts, IsRun};
 
 use crate::bytes::{Run, fields_extent, repeated, scalar_extent, union_extent, with_part};
 use crate::declared::Declared;
 use crate::extent::Extent;
 use crate::id::TypeId;
+use crate::kept::{Kept, base_at, extent_at};
 use crate::parts::{part_at, part_count};
 use crate::row::Row;
 use indexmap::IndexMap;
 
-/// The extent that is kept of a type.
-pub(crate) fn known(kept: &[Option<Extent>], t: TypeId) -> Option<Extent>
-    ensures { result ≡ known kept.now t }
-{
-    match kept.get(t.index() as usize) {
-        Some(extent) => *extent,
-        None => None,
-    }
-}
-
 /// What is known of the parts of a struct, tuple or union.
-fn parts(row: &Row, kept: &[Option<Extent>]) -> Option<Run>
-    requires { AreBounded kept.now }
-    ensures value { result ≡ option_map (with_parts no_parts) (all_known (known kept.now) (parts_of row.now)) }
+fn parts(row: &Row, kept: &[Kept]) -> Option<Run>
+    requires { AreBounded (extents kept.now) }
+    ensures value { result ≡ option_map (with_parts no_parts) (all_known (known (extents kept.now)) (parts_of row.now)) }
     ensures within { IfSome result (λ run. IsRun run × (run.end ≤ 2 ^ 119)) }
 {
     let mut run = Run {
@@ -35,7 +28,7 @@ fn parts(row: &Row, kept: &[Option<Extent>]) -> Option<Run>
         align: 1,
     };
     for i in 0..part_count(row) {
-        match known(kept, part_at(row, i)) {
+        match extent_at(kept, part_at(row, i)) {
             Some(x) => run = with_part(run, x),
             None => return None,
         }
@@ -47,10 +40,10 @@ fn parts(row: &Row, kept: &[Option<Extent>]) -> Option<Run>
 pub(crate) fn extent_over(
     row: &Row,
     declared: &IndexMap<u32, Declared>,
-    kept: &[Option<Extent>],
+    kept: &[Kept],
 ) -> Option<Extent>
-    requires { AreBounded kept.now }
-    ensures value { result ≡ extent_over (defined declared.now.entries) (known kept.now) row.now }
+    requires { AreBounded (extents kept.now) }
+    ensures value { result ≡ extent_over (defined declared.now.entries) (known (extents kept.now)) row.now }
     ensures within { IfSome result (λ x. IsBounded x) }
 {
     match row {
@@ -58,7 +51,7 @@ pub(crate) fn extent_over(
         Row::Pointer(_) => Some(Extent { size: 8, align: 8 }),
         Row::Nullable(_) => Some(Extent { size: 8, align: 8 }),
         Row::Slice(_) => Some(Extent { size: 24, align: 8 }),
-        Row::Array(n, item) => match known(kept, *item) {
+        Row::Array(n, item) => match extent_at(kept, *item) {
             Some(x) => Some(repeated(*n, x)),
             None => None,
         },
@@ -74,22 +67,51 @@ pub(crate) fn extent_over(
             Some(run) => Some(union_extent(run)),
             None => None,
         },
-        Row::Error(inner) => known(kept, *inner),
+        Row::Error(inner) => extent_at(kept, *inner),
         Row::Named(decl) => named(*decl, declared, kept),
     }
 }
 
 /// The extent of what a name is defined to be.
-fn named(decl: u32, declared: &IndexMap<u32, Declared>, kept: &[Option<Extent>]) -> Option<Extent>
-    requires { AreBounded kept.now }
-    ensures value { result ≡ extent_over (defined declared.now.entries) (known kept.now) (RowOf.Named decl) }
+fn named(decl: u32, declared: &IndexMap<u32, Declared>, kept: &[Kept]) -> Option<Extent>
+    requires { AreBounded (extents kept.now) }
+    ensures value { result ≡ extent_over (defined declared.now.entries) (known (extents kept.now)) (RowOf.Named decl) }
     ensures within { IfSome result (λ x. IsBounded x) }
 {
     match declared.get(&decl) {
         Some(entry) => match entry.definition {
-            Some(t) => known(kept, t),
+            Some(t) => extent_at(kept, t),
             None => None,
         },
+        None => None,
+    }
+}
+
+/// The base of row `t`, `None` where none is kept of the type that it is marked as an error of, or named to be.
+pub(crate) fn base_over(
+    row: &Row,
+    t: TypeId,
+    declared: &IndexMap<u32, Declared>,
+    kept: &[Kept],
+) -> Option<TypeId>
+    ensures { result ≡ base_over (defined declared.now.entries) (base_at kept.now) t row.now }
+{
+    match row {
+        Row::Error(inner) => base_at(kept, *inner),
+        Row::Named(decl) => match definition(*decl, declared) {
+            Some(meaning) => base_at(kept, meaning),
+            None => None,
+        },
+        _ => Some(t),
+    }
+}
+
+/// What a name is defined to be.
+pub(crate) fn definition(decl: u32, declared: &IndexMap<u32, Declared>) -> Option<TypeId>
+    ensures { result ≡ defined declared.now.entries decl }
+{
+    match declared.get(&decl) {
+        Some(entry) => entry.definition,
         None => None,
     }
 }

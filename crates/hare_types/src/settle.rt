@@ -1,148 +1,254 @@
-//! The extents that follow once a name is defined.
+//! What follows of rows once a name is defined.
 
-ghost use Rattle.std.specs.Prelude.{◌≡◌, ◌<◌, ℕ, length, true, false, None, IsSome};
-ghost use Rattle.hare_types.specs.Numbering.{IsOnce};
+ghost use Rattle.std.specs.Prelude.{◌≡◌, ◌<◌, ◌≤◌, ◌⊎◌, ℕ, List, length, true, false, None, Some, IsSome, IfSome, slice_get};
+ghost use Rattle.hare_types.specs.declared.row.Row.{Row as RowOf};
+ghost use Rattle.hare_types.specs.Numbering.{IsOnce, most};
 ghost use Rattle.hare_types.specs.Sound.{IsStore};
 ghost use Rattle.hare_types.specs.Store.{Store};
-ghost use Rattle.hare_types.specs.Kept.{known, AreBounded, KeepsExtents, IsSettled, IsInert, AreQuiet, AreQuietBut, unknown};
+ghost use Rattle.hare_types.specs.Kept.{defined, known, parts_of, extent_over, IsBounded, AreBounded, KeepsExtents};
+ghost use Rattle.hare_types.specs.Bases.{base_over, KeepsBases};
+ghost use Rattle.hare_types.specs.Waiting.{nowhere, blank, extents, bases, extent_at, base_at, kept_at, with_found, with_seen, Among, HaveBases, AreSeen, AreSettling, AreSettlingBut, KeepsFound, IsFound, NoneFollows, NeedsAreWithin, needed_at, IsLess, AreSettlingButName};
 
-use crate::bytes::scalar_extent;
 use crate::declared::Declared;
 use crate::extent::Extent;
-use crate::measure::extent_over;
+use crate::id::TypeId;
+use crate::kept::{Kept, NOWHERE, extent_at};
+use crate::measure::{base_over, definition, extent_over};
+use crate::parts::{part_at, part_count};
 use crate::row::Row;
+use crate::waiting::{link, release};
 use indexmap::{IndexMap, IndexSet};
 
-/// Enters the extent of row `i`, where none is kept and one follows. Whether it did.
-fn look(
-    rows: &[Row],
-    declared: &IndexMap<u32, Declared>,
-    kept: &mut Vec<Option<Extent>>,
-    i: usize,
-) -> bool
+/// Enters what is found of row `i`.
+fn set_found(kept: &mut Vec<Kept>, i: usize, extent: Option<Extent>, base: Option<TypeId>)
+    requires { i < length kept.old.items }
+    ensures { kept.new.items ≡ with_found kept.old.items i extent base }
+{
+    let old = kept[i];
+    kept[i] = Kept {
+        extent,
+        base,
+        ..old
+    };
+}
+
+/// Enters how many parts of row `i` were seen.
+fn set_seen(kept: &mut Vec<Kept>, i: usize, seen: u32)
+    requires { i < length kept.old.items }
+    ensures { kept.new.items ≡ with_seen kept.old.items i seen }
+{
+    let old = kept[i];
+    kept[i] = Kept { seen, ..old };
+}
+
+/// Enters the extent and the base that follow for row `i`, of which no extent is kept. Whether more is known of it then.
+fn look(rows: &[Row], declared: &IndexMap<u32, Declared>, kept: &mut Vec<Kept>, i: usize) -> bool
     requires within { i < length rows.now }
-    requires bounded { AreBounded kept.old.items }
+    requires few { length rows.now ≤ most }
     requires as_many { length kept.old.items ≡ length rows.now }
-    ensures bounded { AreBounded kept.new.items }
-    ensures as_many { length kept.new.items ≡ length rows.now }
-    ensures kept { (s : Store) → s.rows ≡ rows.now → s.declared ≡ declared.now.entries → IsStore s → KeepsExtents s kept.old.items → KeepsExtents s kept.new.items }
-    ensures more { result ≡ true → unknown kept.new.items < unknown kept.old.items }
-    ensures there { result ≡ true → IsSome (known kept.new.items i) }
-    ensures only { (j : ℕ) → known kept.new.items j ≡ None → known kept.old.items j ≡ None }
-    ensures done { result ≡ false → (kept.new.items ≡ kept.old.items) × IsSettled rows.now declared.now.entries kept.new.items i }
+    requires bounded { AreBounded (extents kept.old.items) }
+    requires based { HaveBases kept.old.items }
+    ensures found { result ≡ true → (r : RowOf) → slice_get rows.now i ≡ Some r → IsFound declared.now.entries kept.old.items kept.new.items i r }
+    ensures same { result ≡ false → kept.new.items ≡ kept.old.items }
+    ensures none { result ≡ false → (r : RowOf) → slice_get rows.now i ≡ Some r → NoneFollows declared.now.entries kept.old.items i r }
 {
-    if kept[i].is_some() {
-        return false;
-    }
-    match extent_over(&rows[i], declared, kept.as_slice()) {
-        Some(extent) => {
-            kept[i] = Some(extent);
-            true
-        }
-        None => false,
-    }
-}
-
-/// Looks at each row once, and enters the extents that follow. Whether one did.
-fn sweep(rows: &[Row], declared: &IndexMap<u32, Declared>, kept: &mut Vec<Option<Extent>>) -> bool
-    requires bounded { AreBounded kept.old.items }
-    requires as_many { length kept.old.items ≡ length rows.now }
-    ensures bounded { AreBounded kept.new.items }
-    ensures as_many { length kept.new.items ≡ length rows.now }
-    ensures kept { (s : Store) → s.rows ≡ rows.now → s.declared ≡ declared.now.entries → IsStore s → KeepsExtents s kept.old.items → KeepsExtents s kept.new.items }
-    ensures more { result ≡ true → unknown kept.new.items < unknown kept.old.items }
-    ensures done { result ≡ false → (i : ℕ) → IsSettled rows.now declared.now.entries kept.new.items i }
-{
-    let mut found = false;
-    for i in 0..rows.len() {
-        let entered = look(rows, declared, kept, i);
-        found = found || entered;
-    }
-    found
-}
-
-/// Enters the extents that follow, until none does.
-fn sweep_all(rows: &[Row], declared: &IndexMap<u32, Declared>, kept: &mut Vec<Option<Extent>>)
-    requires bounded { AreBounded kept.old.items }
-    requires as_many { length kept.old.items ≡ length rows.now }
-    ensures as_many { length kept.new.items ≡ length rows.now }
-    ensures kept { (s : Store) → s.rows ≡ rows.now → s.declared ≡ declared.now.entries → IsStore s → KeepsExtents s kept.old.items → KeepsExtents s kept.new.items }
-    ensures settled { (i : ℕ) → IsSettled rows.now declared.now.entries kept.new.items i }
-{
-    while sweep(rows, declared, kept) {}
-}
-
-/// Whether a row has no extent, whatever other rows have.
-fn is_inert(row: &Row, declared: &IndexMap<u32, Declared>) -> bool
-    ensures { result ≡ true → IsInert declared.now.entries row.now }
-{
-    match row {
-        Row::Scalar(k) => scalar_extent(*k).is_none(),
-        Row::Named(decl) => match declared.get(decl) {
-            Some(entry) => entry.definition.is_none(),
-            None => true,
-        },
-        _ => false,
-    }
-}
-
-/// Whether a row may wait for another, once this one is taken in with this extent.
-pub(crate) fn still_waits(
-    waiting: bool,
-    extent: Option<Extent>,
-    row: &Row,
-    declared: &IndexMap<u32, Declared>,
-) -> bool
-    ensures before { result ≡ false → waiting ≡ false }
-    ensures row { result ≡ false → extent ≡ None → IsInert declared.now.entries row.now }
-{
-    if waiting {
+    let extent = extent_over(&rows[i], declared, kept);
+    let base = base_over(&rows[i], TypeId::at(i as u32), declared, kept);
+    if extent.is_some() {
+        set_found(kept, i, extent, base);
         return true;
     }
-    match extent {
-        Some(_) => false,
-        None => !is_inert(row, declared),
-    }
-}
-
-/// Whether a row may wait for another: none is kept of its extent, but it has one once another has.
-fn waits(rows: &[Row], declared: &IndexMap<u32, Declared>, kept: &[Option<Extent>]) -> bool
-    requires { length kept.now ≡ length rows.now }
-    ensures { result ≡ false → AreQuiet rows.now declared.now.entries kept.now }
-{
-    for i in 0..rows.len() {
-        if kept[i].is_none() {
-            if !is_inert(&rows[i], declared) {
-                return true;
-            }
+    if base.is_some() {
+        if kept[i].base.is_none() {
+            set_found(kept, i, extent, base);
+            return true;
         }
     }
     false
 }
 
-/// Enters the extents that follow from the definition of a name, and answers whether a row may wait for another then. Where none may have
-/// waited before, only the row of the name is looked at.
+/// How many parts of a row, from the first on, have an extent that is kept. It is known of the first `seen` of them.
+fn seen_of(row: &Row, kept: &[Kept], seen: u32) -> usize
+    requires { (k p : ℕ) → k < seen → slice_get (parts_of row.now) k ≡ Some p → IsSome (extent_at kept.now p) }
+    ensures before { (k p : ℕ) → k < result → slice_get (parts_of row.now) k ≡ Some p → IsSome (extent_at kept.now p) }
+    ensures at { (p : ℕ) → slice_get (parts_of row.now) result ≡ Some p → extent_at kept.now p ≡ None }
+{
+    for i in seen as usize..part_count(row) {
+        if extent_at(kept, part_at(row, i)).is_none() {
+            return i;
+        }
+    }
+    part_count(row)
+}
+
+/// The type whose extent is looked at next, where the first `seen` parts of the row were seen.
+fn needed(row: &Row, declared: &IndexMap<u32, Declared>, seen: usize) -> Option<TypeId>
+    ensures { result ≡ needed_at (defined declared.now.entries) row.now seen }
+{
+    match row {
+        Row::Array(_, item) => Some(*item),
+        Row::Error(inner) => Some(*inner),
+        Row::Named(decl) => definition(*decl, declared),
+        _ => {
+            if seen < part_count(row) {
+                Some(part_at(row, seen))
+            } else {
+                None
+            }
+        }
+    }
+}
+
+/// What is kept of a row that is taken in as row `i`.
+pub(crate) fn fresh(row: &Row, i: usize, declared: &IndexMap<u32, Declared>, kept: &[Kept]) -> Kept
+    requires few { i ≤ most }
+    requires bounded { AreBounded (extents kept.now) }
+    ensures extent { result.extent ≡ extent_over (defined declared.now.entries) (known (extents kept.now)) row.now }
+    ensures base { result.base ≡ base_over (defined declared.now.entries) (base_at kept.now) i row.now }
+    ensures bounded { IfSome result.extent (λ x. IsBounded x) }
+    ensures blank { result ≡ record blank { extent = result.extent; base = result.base } }
+{
+    Kept {
+        extent: extent_over(row, declared, kept),
+        base: base_over(row, TypeId::at(i as u32), declared, kept),
+        first: NOWHERE,
+        last: NOWHERE,
+        next: NOWHERE,
+        seen: 0,
+    }
+}
+
+/// Lets row `i`, which stands in no list and for which no more follows, wait for the first type whose extent it needs, where no extent is kept
+/// of it.
+pub(crate) fn wait(rows: &[Row], declared: &IndexMap<u32, Declared>, kept: &mut Vec<Kept>, i: usize)
+    requires within { i < length rows.now }
+    requires few { length rows.now ≤ most }
+    requires as_many { length kept.old.items ≡ length rows.now }
+    requires needs { NeedsAreWithin rows.now declared.now.entries }
+    requires seen { AreSeen rows.now kept.old.items }
+    requires none { extent_at kept.old.items i ≡ None → (r : RowOf) → slice_get rows.now i ≡ Some r → NoneFollows declared.now.entries kept.old.items i r }
+    ensures found { KeepsFound kept.old.items kept.new.items }
+    ensures seen { AreSeen rows.now kept.new.items }
+    ensures settled { (pile : ℕ) (lists : ℕ → List ℕ) → AreSettlingBut i rows.now declared.now.entries kept.old.items pile lists → (new : ℕ → List ℕ) × AreSettling rows.now declared.now.entries kept.new.items pile new × (new 0 ≡ lists 0) }
+{
+    let old = kept[i];
+    if old.extent.is_some() {
+        return;
+    }
+    let seen = seen_of(&rows[i], kept, old.seen);
+    set_seen(kept, i, seen.min(NOWHERE as usize) as u32);
+    match needed(&rows[i], declared, seen) {
+        Some(t) => link(kept, t.index() as usize, i as u32),
+        None => {}
+    }
+}
+
+/// Lets row `i` wait, where it was taken in last.
+pub(crate) fn wait_if_new(
+    rows: &[Row],
+    declared: &IndexMap<u32, Declared>,
+    kept: &mut Vec<Kept>,
+    i: usize,
+)
+    requires few { length rows.now ≤ most }
+    requires as_many { length kept.old.items ≡ length rows.now }
+    requires needs { NeedsAreWithin rows.now declared.now.entries }
+    requires seen { AreSeen rows.now kept.old.items }
+    requires none { i < length rows.now → extent_at kept.old.items i ≡ None → (r : RowOf) → slice_get rows.now i ≡ Some r → NoneFollows declared.now.entries kept.old.items i r }
+    ensures found { KeepsFound kept.old.items kept.new.items }
+    ensures seen { AreSeen rows.now kept.new.items }
+    ensures old { length rows.now ≤ i → kept.new.items ≡ kept.old.items }
+    ensures settled { i < length rows.now → (pile : ℕ) (lists : ℕ → List ℕ) → AreSettlingBut i rows.now declared.now.entries kept.old.items pile lists → (new : ℕ → List ℕ) × AreSettling rows.now declared.now.entries kept.new.items pile new × (new 0 ≡ lists 0) }
+{
+    if i < rows.len() {
+        wait(rows, declared, kept, i);
+    }
+}
+
+/// Looks at row `i`, which stands in no list, and of which no extent is kept: where more follows for it, the rows that wait for it are to be
+/// looked at too. The answer is the first row that is to be looked at, which was `pile`.
+fn step(
+    rows: &[Row],
+    declared: &IndexMap<u32, Declared>,
+    kept: &mut Vec<Kept>,
+    i: usize,
+    pile: u32,
+) -> u32
+    requires within { i < length rows.now }
+    requires few { length rows.now ≤ most }
+    requires as_many { length kept.old.items ≡ length rows.now }
+    requires bounded { AreBounded (extents kept.old.items) }
+    requires based { HaveBases kept.old.items }
+    requires needs { NeedsAreWithin rows.now declared.now.entries }
+    requires seen { AreSeen rows.now kept.old.items }
+    requires unknown { extent_at kept.old.items i ≡ None }
+    requires lists { (lists : ℕ → List ℕ) × AreSettlingBut i rows.now declared.now.entries kept.old.items pile lists }
+    ensures as_many { length kept.new.items ≡ length rows.now }
+    ensures bounded { AreBounded (extents kept.new.items) }
+    ensures based { HaveBases kept.new.items }
+    ensures seen { AreSeen rows.now kept.new.items }
+    ensures extents { (s : Store) → s.rows ≡ rows.now → s.declared ≡ declared.now.entries → IsStore s → KeepsExtents s (extents kept.old.items) → KeepsExtents s (extents kept.new.items) }
+    ensures bases { (s : Store) → s.rows ≡ rows.now → s.declared ≡ declared.now.entries → IsStore s → KeepsBases s (bases kept.old.items) → KeepsBases s (bases kept.new.items) }
+    ensures settled { (lists : ℕ → List ℕ) → AreSettlingBut i rows.now declared.now.entries kept.old.items pile lists → (new : ℕ → List ℕ) × AreSettling rows.now declared.now.entries kept.new.items result new × IsLess kept.old.items kept.new.items lists new }
+{
+    if look(rows, declared, kept, i) {
+        let first = release(kept, i, pile);
+        wait(rows, declared, kept, i);
+        return first;
+    }
+    wait(rows, declared, kept, i);
+    pile
+}
+
+/// Enters the extents and bases that follow from the definition of a name. Each row that waits is looked at only once something that it waits
+/// for is known.
 pub(crate) fn settle(
     rows: &IndexSet<Row>,
     declared: &IndexMap<u32, Declared>,
-    kept: &mut Vec<Option<Extent>>,
-    waiting: bool,
+    kept: &mut Vec<Kept>,
     decl: u32,
-) -> bool
-    requires bounded { AreBounded kept.old.items }
-    requires as_many { length kept.old.items ≡ length rows.now.keys }
+)
     requires once { IsOnce rows.now.keys }
-    requires quiet { waiting ≡ false → AreQuietBut decl rows.now.keys declared.now.entries kept.old.items }
-    ensures kept { (s : Store) → s.rows ≡ rows.now.keys → s.declared ≡ declared.now.entries → IsStore s → KeepsExtents s kept.old.items → KeepsExtents s kept.new.items }
-    ensures settled { (i : ℕ) → IsSettled rows.now.keys declared.now.entries kept.new.items i }
-    ensures quiet { result ≡ false → AreQuiet rows.now.keys declared.now.entries kept.new.items }
+    requires few { length rows.now.keys ≤ most }
+    requires as_many { length kept.old.items ≡ length rows.now.keys }
+    requires bounded { AreBounded (extents kept.old.items) }
+    requires based { HaveBases kept.old.items }
+    requires needs { NeedsAreWithin rows.now.keys declared.now.entries }
+    requires seen { AreSeen rows.now.keys kept.old.items }
+    requires lists { (lists : ℕ → List ℕ) × AreSettlingButName decl rows.now.keys declared.now.entries kept.old.items lists }
+    ensures based { HaveBases kept.new.items }
+    ensures seen { AreSeen rows.now.keys kept.new.items }
+    ensures extents { (s : Store) → s.rows ≡ rows.now.keys → s.declared ≡ declared.now.entries → IsStore s → KeepsExtents s (extents kept.old.items) → KeepsExtents s (extents kept.new.items) }
+    ensures bases { (s : Store) → s.rows ≡ rows.now.keys → s.declared ≡ declared.now.entries → IsStore s → KeepsBases s (bases kept.old.items) → KeepsBases s (bases kept.new.items) }
+    ensures settled { (new : ℕ → List ℕ) × AreSettling rows.now.keys declared.now.entries kept.new.items nowhere new }
 {
-    if waiting {
-        sweep_all(rows.as_slice(), declared, kept);
-        return waits(rows.as_slice(), declared, kept.as_slice());
-    }
     match rows.get_index_of(&Row::Named(decl)) {
-        Some(place) => !look(rows.as_slice(), declared, kept, place),
-        None => false,
+        Some(place) => settle_from(rows.as_slice(), declared, kept, place),
+        None => {}
+    }
+}
+
+/// Looks at row `i`, and then at all rows that wait for what is found, until no more follows.
+fn settle_from(rows: &[Row], declared: &IndexMap<u32, Declared>, kept: &mut Vec<Kept>, i: usize)
+    requires within { i < length rows.now }
+    requires few { length rows.now ≤ most }
+    requires as_many { length kept.old.items ≡ length rows.now }
+    requires bounded { AreBounded (extents kept.old.items) }
+    requires based { HaveBases kept.old.items }
+    requires needs { NeedsAreWithin rows.now declared.now.entries }
+    requires seen { AreSeen rows.now kept.old.items }
+    requires unknown { extent_at kept.old.items i ≡ None }
+    requires lists { (lists : ℕ → List ℕ) × AreSettlingBut i rows.now declared.now.entries kept.old.items nowhere lists }
+    ensures based { HaveBases kept.new.items }
+    ensures seen { AreSeen rows.now kept.new.items }
+    ensures extents { (s : Store) → s.rows ≡ rows.now → s.declared ≡ declared.now.entries → IsStore s → KeepsExtents s (extents kept.old.items) → KeepsExtents s (extents kept.new.items) }
+    ensures bases { (s : Store) → s.rows ≡ rows.now → s.declared ≡ declared.now.entries → IsStore s → KeepsBases s (bases kept.old.items) → KeepsBases s (bases kept.new.items) }
+    ensures settled { (new : ℕ → List ℕ) × AreSettling rows.now declared.now.entries kept.new.items nowhere new }
+{
+    let mut pile = step(rows, declared, kept, i, NOWHERE);
+    while pile != NOWHERE {
+        let at = pile as usize;
+        pile = kept[at].next;
+        pile = step(rows, declared, kept, at, pile);
     }
 }

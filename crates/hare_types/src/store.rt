@@ -2,6 +2,7 @@
 
 ghost use Rattle.std.specs.Prelude.{◌≡◌, ◌≢◌, ◌≤◌, ◌<◌, ◌+◌, ◌++◌, ◌∷◌, [], ℕ, List, length, slice_get, IfOk, IfSome, IsSome, IfNone, OnOk, OnErr, Some, None};
 ghost use Rattle.hare_types.specs.declared.extent.Extent.{Extent as ExtentOf};
+ghost use Rattle.hare_types.specs.Bases.{IsBaseOf};
 ghost use Rattle.hare_types.specs.ByValue.{has_size, HoldsByValue};
 ghost use Rattle.hare_types.specs.Kept.{LiesIn, told, IsBounded};
 ghost use Rattle.hare_types.specs.Numbering.{IsNumbered};
@@ -13,10 +14,10 @@ ghost use Rattle.hare_types.specs.Trees.{Tree, Same};
 use crate::declared::{Declared, set_definition};
 use crate::extent::Extent;
 use crate::id::TypeId;
-use crate::measure::{extent_over, known};
+use crate::kept::{Kept, base_at, extent_at};
 use crate::numbering::number;
 use crate::row::Row;
-use crate::settle::{settle, still_waits};
+use crate::settle::{fresh, settle, wait_if_new};
 use indexmap::{IndexMap, IndexSet};
 use std::alloc::{AllocError, Global};
 use std::marker::Model;
@@ -24,7 +25,7 @@ use std::marker::Model;
 /// The types of a program, each under one id, the spellings of names, each under one number, the declared types, and the list of
 /// the types that have tags.
 ///
-/// Beside each type its extent is kept, so that it is found in constant time.
+/// Beside each type its extent and its base are kept, so that both are found in constant time.
 ///
 /// A store that holds 2^32 - 1 names, types or listed types answers `AllocError` to one more.
 #[derive(Drop)]
@@ -33,20 +34,19 @@ pub struct TypeStore {
     rows: IndexSet<Row>,
     declared: IndexMap<u32, Declared>,
     listed: IndexSet<TypeId>,
-    extents: Vec<Option<Extent>>,
-    waits: bool,
+    kept: Vec<Kept>,
 }
 
 impl Model for TypeStore {
     ghost use Rattle.std.specs.Prelude.{map};
-    ghost use Rattle.hare_types.specs.Kept.{IsKept};
     ghost use Rattle.hare_types.specs.Store.{Store};
+    ghost use Rattle.hare_types.specs.Waiting.{AreKept};
 
     ghost Value = { Store };
 
     ghost view = { λ a. record { names = map (λ v. v.items) a.names.keys; rows = a.rows.keys; declared = a.declared.entries; listed = a.listed.keys } };
 
-    ghost invariant = { λ a. IsKept (record { names = map (λ v. v.items) a.names.keys; rows = a.rows.keys; declared = a.declared.entries; listed = a.listed.keys }) a.extents.items a.waits };
+    ghost invariant = { λ a. AreKept (record { names = map (λ v. v.items) a.names.keys; rows = a.rows.keys; declared = a.declared.entries; listed = a.listed.keys }) a.kept.items };
 }
 
 impl TypeStore {
@@ -59,8 +59,7 @@ impl TypeStore {
             rows: IndexSet::new(alloc),
             declared: IndexMap::new(alloc),
             listed: IndexSet::new(alloc),
-            extents: Vec::new(alloc),
-            waits: false,
+            kept: Vec::new(alloc),
         }
     }
 
@@ -109,8 +108,9 @@ impl TypeStore {
 
     /// Enters what a declared type is defined to be. The type neither is nor holds by value that name.
     ///
-    /// The time is constant, unless a type that was taken in holds a name by value that was not defined then: until such names are
-    /// defined, each definition looks at all types once, and again for each name that one of them waited for.
+    /// The extents and bases that follow are entered. A type that was taken in before a name that it is or holds by value was defined waits for
+    /// the first type whose extent is not known yet, and is looked at again only once more is known of that one: over all definitions the
+    /// time is that of the types that wait and of the types that they hold.
     pub fn define(&mut self, decl: u32, t: TypeId)
         requires declared { IsSome (sized_of self.old decl) }
         requires fresh { definition_of self.old decl ≡ None }
@@ -124,13 +124,7 @@ impl TypeStore {
         ensures grows { Extends self.old self.new }
     {
         set_definition(&mut self.declared, decl, t);
-        self.waits = settle(
-            &self.rows,
-            &self.declared,
-            &mut self.extents,
-            self.waits,
-            decl,
-        );
+        settle(&self.rows, &self.declared, &mut self.kept, decl);
     }
 
     /// What a type is defined to be, `None` where nothing was entered.
@@ -176,13 +170,13 @@ impl TypeStore {
         ensures grows { Extends self.old self.new }
         ensures err { OnErr result (self.new ≡ self.old) }
     {
-        let extent = extent_over(&r, &self.declared, self.extents.as_slice());
-        let waits = still_waits(self.waits, extent, &r, &self.declared);
-        self.extents.push(extent)?;
+        let here = self.rows.len();
+        let fresh = fresh(&r, here, &self.declared, self.kept.as_slice());
+        self.kept.push(fresh)?;
         let numbered = number(&mut self.rows, r);
-        self.extents.truncate(self.rows.len());
+        self.kept.truncate(self.rows.len());
         let place = numbered?;
-        self.waits = waits;
+        wait_if_new(self.rows.as_slice(), &self.declared, &mut self.kept, here);
         Ok(TypeId::at(place))
     }
 
@@ -204,7 +198,17 @@ impl TypeStore {
         ensures within { IfSome result (λ x. IsBounded x) }
         ensures sound { IsStore self.now }
     {
-        known(self.extents.as_slice(), t)
+        extent_at(self.kept.as_slice(), t)
+    }
+
+    /// What is left of a type once names and error marks are followed until neither is left. `None` where it comes to a name that is not
+    /// defined. The time is constant.
+    pub fn base(&self, t: TypeId) -> Option<TypeId>
+        ensures some { IfSome result (λ b. IsBaseOf self.now t b) }
+        ensures none { IfNone result ((b : ℕ) → ¬ IsBaseOf self.now t b) }
+        ensures sound { IsStore self.now }
+    {
+        base_at(self.kept.as_slice(), t)
     }
 
     /// The tag of a type, counted from 1: its place in the list of the types that have tags, where it is put last unless it is there.

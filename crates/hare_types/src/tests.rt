@@ -61,3 +61,15 @@ fn a_row_is_kept(rt: HostRuntime) -> Result<(), Fail> {
     assert!(rt; matches!(store.row(int), Row::Scalar(Scalar::Int)));
     Ok(())
 }
+
+#[test]
+fn marks_and_names_have_bases(rt: HostRuntime) -> Result<(), Fail> {
+    let mut store = TypeStore::new(rt.alloc());
+    let int = store.intern(Row::Scalar(Scalar::Int))?;
+    let marked = store.intern(Row::Error(int))?;
+    let named = store.intern(Row::Named(7))?;
+    assert!(rt; store.base(int) == Some(int));
+    assert!(rt; store.base(marked) == Some(int));
+    assert!(rt; store.base(named) == None);
+    Ok(())
+}

@@ -1,39 +1,29 @@
-use Rattle.std.proofs.Common.{◌<◌, Some, ap, sym, ◌∙◌, arith}
-use Rattle.hare_types.specs.declared.row.Row.TheVariants as row
-use Rattle.hare_layout.proofs.BaseLemmas.{ComesTo-error, ComesTo-name, none-error, none-name, none-cut, none-open}
+use Rattle.std.proofs.Common.{◌≡◌, ◌<◌, ℕ, length, Option, Some, None}
+use Rattle.std.specs.Prelude.{IfSome, IfNone}
+use Rattle.hare_types.specs.Bases.{IsBaseOf}
+use Rattle.hare_layout.specs.Small.{extent_by}
+use Rattle.hare_layout.specs.Offsets.{ComesTo}
+use Rattle.hare_layout.proofs.BaseOfLemmas.{base-some, base-none, base-value}
+use Rattle.hare_layout.proofs.SpreadLemmas.{id-tree_at}
 use Rattle.hare_layout.proofs.base.base_of.Goals as goal
 
-pub loop-inner-smaller-in-Error : goal.loop-inner-smaller-in-Error
-loop-inner-smaller-in-Error c =
-    let below : c.in-Error.inner < c.loop-inner.base = c.row.ensures.sound.rows_sound.within c.loop-inner.base (row.Error c.in-Error.inner) (c.row.ensures.row ∙ ap Some c.in-Error.is) in
-    omega arith
+pub returns : goal.returns
+returns c = record {
+  value = base-value c.args.s.now c.base.ensures.sound c.args.t c.requires c.base.result c.base.ensures.some c.base.ensures.none;
+  within = within c.base.result c.base.ensures.some;
+  some = some c.base.result c.base.ensures.some;
+  none = none c.base.result c.base.ensures.none;
+  sound = c.base.ensures.sound;
+}
+  where
+    within : (o : Option ℕ) → IfSome o (λ b. IsBaseOf c.args.s.now c.args.t b) → IfSome o (λ b. b < length c.args.s.now.rows)
+    within None h = tt
+    within (Some b) h = (id-tree_at c.args.s.now b h.1 h.3).0
 
-pub loop-inner-preserved-in-Error : goal.loop-inner-preserved-in-Error
-loop-inner-preserved-in-Error c =
-    let here = c.row.ensures.row ∙ ap Some c.in-Error.is in
-    let below : c.in-Error.inner < c.loop-inner.base = c.row.ensures.sound.rows_sound.within c.loop-inner.base (row.Error c.in-Error.inner) here in
-    record {
-      within = omega (arith, c.loop-inner.invariant.within);
-      comes = λ left b h. c.loop-inner.invariant.comes left b (ComesTo-error c.args.s.now c.row.ensures.sound c.loop-inner.names c.loop-inner.base left b c.in-Error.inner here h);
-      none = λ h. c.loop-inner.invariant.none (none-error c.args.s.now c.row.ensures.sound c.loop-inner.names c.loop-inner.base c.in-Error.inner here h);
-    }
+    some : (o : Option ℕ) → IfSome o (λ b. IsBaseOf c.args.s.now c.args.t b) → IfSome o (λ b. (left : ℕ) × ComesTo c.args.s.now (length c.args.s.now.declared) c.args.t left b)
+    some None h = tt
+    some (Some b) h = base-some c.args.s.now c.base.ensures.sound c.args.t b h
 
-pub returns-then-names-eq0-clause-none : goal.returns-then-names-eq0-clause-none
-returns-then-names-eq0-clause-none c =
-    c.loop-inner.invariant.none (none-cut c.args.s.now c.row.ensures.sound c.loop-inner.names c.loop-inner.base c.in-Named.decl (c.row.ensures.row ∙ ap Some c.in-Named.is) c.if-names-eq0.true)
-
-pub loop-inner-preserved : goal.loop-inner-preserved
-loop-inner-preserved c =
-    let here = c.row.ensures.row ∙ ap Some c.in-Named.is in
-    record {
-      within = c.row.ensures.sound.defined_within c.in-Named.decl c.in-Some.defined (sym c.in-Some.ensures.value);
-      comes = λ left b h.
-          c.loop-inner.invariant.comes left b
-          (ComesTo-name c.args.s.now c.row.ensures.sound c.loop-inner.names c.loop-inner.base left b c.in-Named.decl c.in-Some.defined here c.if-names-eq0.false c.in-Some.ensures.value h);
-      none = λ h.
-          c.loop-inner.invariant.none (none-name c.args.s.now c.row.ensures.sound c.loop-inner.names c.loop-inner.base c.in-Named.decl c.in-Some.defined here c.if-names-eq0.false c.in-Some.ensures.value h);
-    }
-
-pub returns-in-None-clause-none : goal.returns-in-None-clause-none
-returns-in-None-clause-none c =
-    c.loop-inner.invariant.none (none-open c.args.s.now c.row.ensures.sound c.loop-inner.names c.loop-inner.base c.in-Named.decl (c.row.ensures.row ∙ ap Some c.in-Named.is) c.in-None.ensures.value)
+    none : (o : Option ℕ) → IfNone o ((b : ℕ) → ¬ IsBaseOf c.args.s.now c.args.t b) → IfNone o (extent_by c.args.s.now (length c.args.s.now.declared) c.args.t ≡ None)
+    none None h = base-none c.args.s.now c.base.ensures.sound c.args.t c.requires h
+    none (Some b) h = tt

@@ -1,5 +1,6 @@
 use Rattle.std.proofs.Common.{◌≡◌, ◌≤◌, ◌*◌, drop}
 use Rattle.std.specs.Prelude.{option_map}
+use Rattle.hare_types.specs.Waiting.{extents}
 use Rattle.hare_types.specs.Kept.{parts_of, known, all_known}
 use Rattle.hare_types.specs.Run.{no_parts, with_parts, IsRun}
 use Rattle.hare_types.proofs.measure.parts.Given as goal
@@ -9,5 +10,5 @@ invariant-loop-i l =
     record {
       run : IsRun l.run;
       end : l.run.end ≤ l.i * 2199023255552;
-      value : option_map (with_parts l.run) (all_known (known l.kept) (drop l.i (parts_of l.row))) ≡ option_map (with_parts no_parts) (all_known (known l.kept) (parts_of l.row));
+      value : option_map (with_parts l.run) (all_known (known (extents l.kept)) (drop l.i (parts_of l.row))) ≡ option_map (with_parts no_parts) (all_known (known (extents l.kept)) (parts_of l.row));
     }

@@ -4,7 +4,10 @@ use Rattle.std.specs.Map.{lookup}
 use Rattle.indexmap.proofs.CallerLemmas.{insert_entry-new}
 use Rattle.hare_types.specs.declared.declared.Declared.{Declared}
 use Rattle.hare_types.proofs.DefinitionLemmas.{declared-definition}
-use Rattle.hare_types.proofs.KeptLemmas.{KeepsExtents-defined, IsSettled-declared, inert-same}
+use Rattle.hare_types.specs.Waiting.{nowhere, extents, bases}
+use Rattle.hare_types.proofs.KeptLemmas.{KeepsExtents-defined}
+use Rattle.hare_types.proofs.BaseLemmas.{KeepsBases-defined}
+use Rattle.hare_types.proofs.EnterLemmas.{AreSettling-declared}
 use Rattle.hare_types.proofs.SoundLemmas.{IsStore-declared}
 use Rattle.hare_types.proofs.store.TypeStore.declare.Goals as goal
 
@@ -17,14 +20,20 @@ fresh : (c : goal.In_ok-insert) → lookup (nat_eq c.args.decl) c.self.inside.de
 fresh c = no_entry _ (rw (← c.self.view_is) at c.requires)
 
 pub invariant_of-self-2 : goal.invariant_of-self-2
-invariant_of-self-2 c = record {
-  store = IsStore-declared _ c.insert.new.self.entries c.args.decl _ c.self.invariant.store refl (fresh c) c.in_ok-insert.ensures.updates.0;
-  extents =
-      KeepsExtents-defined _ c.insert.new.self.entries c.self.inside.extents.items
-      (λ d t e. declared-definition c.self.inside.declared.entries c.insert.new.self.entries c.args.decl _ refl (fresh c) c.in_ok-insert.ensures.updates.0 d ∙ e) c.self.invariant.extents;
-  settled = λ i. IsSettled-declared c.self.inside.rows.keys c.self.inside.declared.entries c.insert.new.self.entries c.self.inside.extents.items (declared-definition c.self.inside.declared.entries c.insert.new.self.entries c.args.decl _ refl (fresh c) c.in_ok-insert.ensures.updates.0) i (c.self.invariant.settled i);
-  quiet = λ w i r e f. inert-same c.self.inside.declared.entries c.insert.new.self.entries (declared-definition c.self.inside.declared.entries c.insert.new.self.entries c.args.decl _ refl (fresh c) c.in_ok-insert.ensures.updates.0) r (c.self.invariant.quiet w i r e f);
-}
+invariant_of-self-2 c =
+    let es = c.self.inside.declared.entries in
+    let new = c.insert.new.self.entries in
+    let ks = c.self.inside.kept.items in
+    let same = declared-definition es new c.args.decl _ refl (fresh c) c.in_ok-insert.ensures.updates.0 in
+    record {
+      store = IsStore-declared _ new c.args.decl _ c.self.invariant.store refl (fresh c) c.in_ok-insert.ensures.updates.0;
+      extents = KeepsExtents-defined _ new (extents ks) (λ d t e. same d ∙ e) c.self.invariant.extents;
+      bases = KeepsBases-defined _ new (bases ks) (λ d t e. same d ∙ e) c.self.invariant.bases;
+      based = c.self.invariant.based;
+      seen = c.self.invariant.seen;
+      lists = c.self.invariant.lists;
+      settled = AreSettling-declared c.self.inside.rows.keys es new ks nowhere c.self.invariant.lists same c.self.invariant.settled;
+    }
 
 pub returns-clause-ok : goal.returns-clause-ok
 returns-clause-ok c =

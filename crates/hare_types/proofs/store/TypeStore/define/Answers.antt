@@ -1,31 +1,57 @@
-use Rattle.std.proofs.Common.{Some, nat_eq, refl}
+use Rattle.std.proofs.Common.{Some, nat_eq, refl, sym, ◌∙◌}
 use Rattle.std.proofs.lemmas.Option.{IfSome_then}
+use Rattle.std.proofs.lemmas.List.{length-map}
 use Rattle.indexmap.specs.IndexMap.{Updates}
 use Rattle.hare_types.specs.declared.declared.Declared.{Declared}
-use Rattle.hare_types.proofs.KeptLemmas.{KeepsExtents-defined, inert-other}
+use Rattle.hare_types.specs.Waiting.{extents, bases}
+use Rattle.hare_types.proofs.KeptLemmas.{KeepsExtents-defined}
+use Rattle.hare_types.proofs.BaseLemmas.{KeepsBases-defined}
+use Rattle.hare_types.proofs.EnterLemmas.{AreSettling-defined, needs-within}
 use Rattle.hare_types.proofs.SoundLemmas.{IsStore-define, definitions-kept, definitions-there}
 use Rattle.hare_types.proofs.store.TypeStore.define.Goals as goal
 
 pub invariant_of-self : goal.invariant_of-self
 invariant_of-self c =
+    let es = c.self.inside.declared.entries in
+    let new = c.set_definition.new.declared.entries in
+    let ks = c.self.inside.kept.items in
     let declared = rw (← c.self.view_is) at c.requires.declared in
     let fresh = rw (← c.self.view_is) at c.requires.fresh in
     let sized = rw (← c.self.view_is) at c.requires.sized in
     let within = rw (← c.self.view_is) at c.requires.within in
     let finite = rw (← c.self.view_is) at c.requires.finite in
     let put = IfSome_then _ c.set_definition.ensures (λ (e : Declared) (h : Updates nat_eq c.self.inside.declared c.set_definition.new.declared c.args.decl (Some (record e { definition = Some c.args.t }))). h.0) in
-    let store = IsStore-define _ c.set_definition.new.declared.entries c.args.decl c.args.t c.self.invariant.store declared fresh sized within finite put in
-    let extents = KeepsExtents-defined _ c.set_definition.new.declared.entries c.self.inside.extents.items (definitions-kept c.self.inside.declared.entries c.set_definition.new.declared.entries c.args.decl c.args.t declared fresh put) c.self.invariant.extents in
+    let store = IsStore-define _ new c.args.decl c.args.t c.self.invariant.store declared fresh sized within finite put in
+    let still = definitions-kept es new c.args.decl c.args.t declared fresh put in
     record {
       store = store;
-      extents = c.settle-self-inside.ensures.kept _ refl refl store extents;
-      settled = c.settle-self-inside.ensures.settled;
-      quiet = c.settle-self-inside.ensures.quiet;
+      extents = c.settle.ensures.extents _ refl refl store (KeepsExtents-defined _ new (extents ks) still c.self.invariant.extents);
+      bases = c.settle.ensures.bases _ refl refl store (KeepsBases-defined _ new (bases ks) still c.self.invariant.bases);
+      based = c.settle.ensures.based;
+      seen = c.settle.ensures.seen;
+      lists = c.settle.ensures.settled.0;
+      settled = c.settle.ensures.settled.1;
     }
 
-pub settle-self-inside-requires-clause-quiet : goal.settle-self-inside-requires-clause-quiet
-settle-self-inside-requires-clause-quiet c = λ w i r e f.
+pub settle-requires : goal.settle-requires
+settle-requires c =
+    let es = c.self.inside.declared.entries in
+    let new = c.set_definition.new.declared.entries in
+    let ks = c.self.inside.kept.items in
     let declared = rw (← c.self.view_is) at c.requires.declared in
+    let fresh = rw (← c.self.view_is) at c.requires.fresh in
+    let sized = rw (← c.self.view_is) at c.requires.sized in
+    let within = rw (← c.self.view_is) at c.requires.within in
+    let finite = rw (← c.self.view_is) at c.requires.finite in
     let put = IfSome_then _ c.set_definition.ensures (λ (e : Declared) (h : Updates nat_eq c.self.inside.declared c.set_definition.new.declared c.args.decl (Some (record e { definition = Some c.args.t }))). h.0) in
-    inert-other c.self.inside.declared.entries c.set_definition.new.declared.entries c.args.decl
-    (definitions-there c.self.inside.declared.entries c.set_definition.new.declared.entries c.args.decl c.args.t declared put) r (c.self.invariant.quiet w i r e f)
+    let store = IsStore-define _ new c.args.decl c.args.t c.self.invariant.store declared fresh sized within finite put in
+    record {
+      once = c.self.invariant.store.rows_sound.once;
+      few = c.self.invariant.store.rows_few;
+      as_many = sym (length-map ks (λ k. k.extent)) ∙ c.self.invariant.extents.as_many;
+      bounded = c.self.invariant.extents.bounded;
+      based = c.self.invariant.based;
+      needs = needs-within _ store;
+      seen = c.self.invariant.seen;
+      lists = (c.self.invariant.lists, AreSettling-defined _ ks c.args.decl new c.self.invariant.lists c.self.invariant.store c.self.invariant.extents fresh (definitions-there es new c.args.decl c.args.t declared put) c.self.invariant.settled);
+    }

@@ -5,7 +5,9 @@ use Rattle.hare_types.specs.Numbering.{IsNumbered, IsOnce}
 use Rattle.hare_types.proofs.NumberingLemmas.{plain_numbered, plain_once}
 use Rattle.hare_types.proofs.InternLemmas.{Continues-grows}
 use Rattle.hare_types.proofs.SoundLemmas.{IsStore-listed}
+use Rattle.hare_types.specs.Waiting.{extents, bases}
 use Rattle.hare_types.proofs.KeptLemmas.{KeepsExtents-same}
+use Rattle.hare_types.proofs.BaseLemmas.{KeepsBases-same}
 use Rattle.hare_types.proofs.store.TypeStore.mention.Goals as goal
 
 numbered : (c : goal.In_ok-place) → IsNumbered c.self.inside.listed.keys c.number.new.set.keys c.args.t c.in_ok-place.place
@@ -17,9 +19,12 @@ once c = plain_once nat_eq unsigned_Decides _ _ _ _ c.in_ok-place.ensures.place 
 pub invariant_of-self-2 : goal.invariant_of-self-2
 invariant_of-self-2 c = record {
   store = IsStore-listed _ c.number.new.set.keys c.self.invariant.store (once c) c.number.ensures.few;
-  extents = KeepsExtents-same _ _ c.self.inside.extents.items refl refl c.self.invariant.extents;
+  extents = KeepsExtents-same _ _ (extents c.self.inside.kept.items) refl refl c.self.invariant.extents;
+  bases = KeepsBases-same _ _ (bases c.self.inside.kept.items) refl refl c.self.invariant.bases;
+  based = c.self.invariant.based;
+  seen = c.self.invariant.seen;
+  lists = c.self.invariant.lists;
   settled = c.self.invariant.settled;
-  quiet = c.self.invariant.quiet;
 }
 
 pub returns-clause-tag : goal.returns-clause-tag

@@ -7,7 +7,9 @@ use Rattle.hare_types.specs.Numbering.{IsNumbered, IsOnce}
 use Rattle.hare_types.proofs.NumberingLemmas.{numbered, once_more}
 use Rattle.hare_types.proofs.InternLemmas.{Continues-grows}
 use Rattle.hare_types.proofs.SoundLemmas.{IsStore-names}
+use Rattle.hare_types.specs.Waiting.{extents, bases}
 use Rattle.hare_types.proofs.KeptLemmas.{KeepsExtents-same}
+use Rattle.hare_types.proofs.BaseLemmas.{KeepsBases-same}
 use Rattle.hare_types.proofs.store.TypeStore.name.Goals as goal
 
 -- the new key is the spelling
@@ -30,9 +32,12 @@ name_once c =
 pub invariant_of-self-2 : goal.invariant_of-self-2
 invariant_of-self-2 c = record {
   store = IsStore-names _ (map (λ (v : Vec ℕ Global). v.items) c.number.new.set.keys) c.self.invariant.store (name_once c) (rw length-map c.number.ensures.few);
-  extents = KeepsExtents-same _ _ c.self.inside.extents.items refl refl c.self.invariant.extents;
+  extents = KeepsExtents-same _ _ (extents c.self.inside.kept.items) refl refl c.self.invariant.extents;
+  bases = KeepsBases-same _ _ (bases c.self.inside.kept.items) refl refl c.self.invariant.bases;
+  based = c.self.invariant.based;
+  seen = c.self.invariant.seen;
+  lists = c.self.invariant.lists;
   settled = c.self.invariant.settled;
-  quiet = c.self.invariant.quiet;
 }
 
 pub returns-clause-numbered : goal.returns-clause-numbered

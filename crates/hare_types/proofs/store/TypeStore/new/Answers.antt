@@ -1,11 +1,17 @@
-use Rattle.std.proofs.Common.{rules}
-use Rattle.hare_types.proofs.KeptLemmas.{KeepsExtents-empty, IsSettled-empty, AreQuiet-empty}
+use Rattle.std.proofs.Common.{[], rules, ap}
+use Rattle.hare_types.specs.Waiting.{extents, bases}
+use Rattle.hare_types.proofs.KeptLemmas.{KeepsExtents-empty}
+use Rattle.hare_types.proofs.BaseLemmas.{KeepsBases-empty}
+use Rattle.hare_types.proofs.EnterLemmas.{AreSettling-empty, HaveBases-empty, AreSeen-empty}
 use Rattle.hare_types.proofs.store.TypeStore.new.Goals as goal
 
 pub invariant_of-result : goal.invariant_of-result
 invariant_of-result c = record {
   store = search rules;
-  extents = KeepsExtents-empty _ c.new-5.result.items c.new-2.ensures.empty c.new-5.ensures.items;
-  settled = λ i. IsSettled-empty c.new-2.result.keys c.new-3.result.entries c.new-5.result.items c.new-2.ensures.empty i;
-  quiet = λ w. AreQuiet-empty c.new-2.result.keys c.new-3.result.entries c.new-5.result.items c.new-2.ensures.empty;
+  extents = KeepsExtents-empty _ (extents c.new-5.result.items) c.new-2.ensures.empty (ap extents c.new-5.ensures.items);
+  bases = KeepsBases-empty _ (bases c.new-5.result.items) c.new-2.ensures.empty (ap bases c.new-5.ensures.items);
+  based = HaveBases-empty c.new-5.result.items c.new-5.ensures.items;
+  seen = AreSeen-empty c.new-2.result.keys c.new-5.result.items c.new-2.ensures.empty;
+  lists = λ n. [];
+  settled = AreSettling-empty c.new-2.result.keys c.new-3.result.entries c.new-5.result.items c.new-2.ensures.empty c.new-5.ensures.items;
 }

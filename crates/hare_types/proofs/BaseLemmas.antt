@@ -1,0 +1,237 @@
+-- What is kept of bases is what names and error marks leave.
+use Rattle.std.proofs.Common.{◌≡◌, ◌≢◌, ℕ, zero, suc, ◌<◌, ◌≤◌, Bool, true, false, nat_eq, true≢false, List, [], ◌∷◌, ◌++◌, length, set, Option, Some, None, refl, ap, ap₂, sym, ◌∙◌, subst, arith, ◌⊎◌, inl, inr, length-append, length-set, get_or-set_other, get_or-set_same}
+use Rattle.std.specs.Prelude.{slice_get, slice_index_or, option_and_then}
+use Rattle.std.proofs.lemmas.Option.{get_or_from_slice_get, slice_get-get_or, slice_get_within}
+use Rattle.std.proofs.lemmas.Bool.{cases_lt}
+use Rattle.std.specs.Cmp.{unsigned_Decides}
+use Rattle.hare_types.specs.declared.declared.Declared.{Declared}
+use Rattle.hare_types.specs.declared.row.Row.{Row}
+use Rattle.hare_types.specs.declared.row.Row.TheVariants as row
+use Rattle.hare_types.specs.declared.row.Scalar.TheVariants as keyword
+use Rattle.hare_types.specs.Trees.{Tree, Scalar, Error, Named}
+use Rattle.hare_types.specs.Rows.{tree_in, tree_of, trees}
+use Rattle.hare_types.specs.Store.{Store, tree_at, definition_of, meaning_of}
+use Rattle.hare_types.specs.Sound.{IsStore}
+use Rattle.hare_types.specs.Layout.{following, base_with}
+use Rattle.hare_types.specs.Kept.{defined}
+use Rattle.hare_types.specs.Bases.{IsBaseOf, known_base, base_over, KeepsBases}
+use Rattle.hare_types.proofs.ListLemmas.{slice_get_end}
+use Rattle.hare_types.proofs.TreeLemmas.{length-trees, tree_kept}
+use Rattle.hare_types.proofs.DefinitionLemmas.{meaning_kept}
+use Rattle.hare_types.proofs.CallerLemmas.{tree_at_row}
+use Rattle.hare_types.proofs.GrowthLemmas.{base_with-more, following-more}
+
+-- ---- growth
+
+-- with more trees and more meanings
+pub IsBaseOf-more : (old new : Store) → ((i : ℕ) (u : Tree) → tree_at old i ≡ Some u → tree_at new i ≡ Some u) → ((d : ℕ) (u : Tree) → meaning_of old d ≡ Some u → meaning_of new d ≡ Some u)
+    → (t b : ℕ) → IsBaseOf old t b → IsBaseOf new t b
+IsBaseOf-more old new kept meaning t b h =
+    (h.0, h.1, kept t h.0 h.2, kept b h.1 h.3, (h.4.0, following-more base_with base_with-more (meaning_of old) (meaning_of new) meaning h.4.0 h.0 h.1 h.4.1))
+
+-- ---- one row
+
+own : (m : ℕ → Option Tree) (n : ℕ) (t u : Tree) → following base_with m n t ≡ Some u → following base_with m n (Error t) ≡ Some u
+own m zero t u e = e
+own m (suc n) t u e = e
+
+module _ (s : Store) (v : IsStore s) (bs : List (Option ℕ)) (sound : (i b : ℕ) → known_base bs i ≡ Some b → IsBaseOf s i b) where
+  itself : (t : ℕ) (r : Row) → slice_get s.rows t ≡ Some r → following base_with (meaning_of s) 0 (tree_of (trees s.rows) r) ≡ Some (tree_of (trees s.rows) r) → (b : ℕ) → Some t ≡ Some b → IsBaseOf s t b
+  itself t r h e b f =
+      let same : t ≡ b = cc in
+      let tree = tree_at_row s v t r h in
+      (tree_of (trees s.rows) r, tree_of (trees s.rows) r, tree, subst (λ n. tree_at s n ≡ Some (tree_of (trees s.rows) r)) same tree, (0, e))
+
+  by_mark : (t j : ℕ) → slice_get s.rows t ≡ Some (row.Error j) → (b : ℕ) → known_base bs j ≡ Some b → IsBaseOf s t b
+  by_mark t j h b e =
+      let w = sound j b e in
+      let tree : tree_in (trees s.rows) j ≡ w.0 = get_or_from_slice_get (trees s.rows) j w.0 (Scalar keyword.Void) w.2 in
+      (Error w.0, w.1, tree_at_row s v t (row.Error j) h ∙ ap (λ u. Some (Error u)) tree, w.3, (w.4.0, own (meaning_of s) w.4.0 w.0 w.1 w.4.1))
+
+  by_name : (t d : ℕ) → slice_get s.rows t ≡ Some (row.Named d) → (b : ℕ) → option_and_then (known_base bs) (definition_of s d) ≡ Some b → IsBaseOf s t b
+  by_name t d h b e = by (definition_of s d) refl e
+    where
+      by : (o : Option ℕ) → definition_of s d ≡ o → option_and_then (known_base bs) o ≡ Some b → IsBaseOf s t b
+      by None k g = absurd cc
+      by (Some q) k g =
+          let w = sound q b g in
+          let meaning : meaning_of s d ≡ Some w.0 = ap (option_and_then (tree_at s)) k ∙ w.2 in
+          (Named d, w.1, tree_at_row s v t (row.Named d) h, w.3, (suc w.4.0, ap (option_and_then (following base_with (meaning_of s) w.4.0)) meaning ∙ w.4.1))
+
+  -- what follows for a row is its base
+  pub base-step : (t : ℕ) (r : Row) → slice_get s.rows t ≡ Some r → (b : ℕ) → base_over (definition_of s) (known_base bs) t r ≡ Some b → IsBaseOf s t b
+  base-step t (row.Scalar k) h b e = itself t (row.Scalar k) h refl b e
+  base-step t (row.Pointer j) h b e = itself t (row.Pointer j) h refl b e
+  base-step t (row.Nullable j) h b e = itself t (row.Nullable j) h refl b e
+  base-step t (row.Slice j) h b e = itself t (row.Slice j) h refl b e
+  base-step t (row.Array n j) h b e = itself t (row.Array n j) h refl b e
+  base-step t (row.Struct fs) h b e = itself t (row.Struct fs) h refl b e
+  base-step t (row.Tuple js) h b e = itself t (row.Tuple js) h refl b e
+  base-step t (row.Union js) h b e = itself t (row.Union js) h refl b e
+  base-step t (row.Error j) h b e = by_mark t j h b e
+  base-step t (row.Named d) h b e = by_name t d h b e
+
+-- ---- a store that grows
+
+pub KeepsBases-empty : (s : Store) (bs : List (Option ℕ)) → s.rows ≡ [] → bs ≡ [] → KeepsBases s bs
+KeepsBases-empty s bs rows e = record {
+  as_many = ap length e ∙ sym (ap length rows);
+  sound = λ i b h. let none : None ≡ Some b = sym (ap (λ l. known_base l i) e) ∙ h in absurd cc;
+}
+
+-- with other names, or other types listed
+pub KeepsBases-same : (old new : Store) (bs : List (Option ℕ)) → old.rows ≡ new.rows → old.declared ≡ new.declared → KeepsBases old bs → KeepsBases new bs
+KeepsBases-same old new bs rows declared v = record {
+  as_many = v.as_many ∙ ap length rows;
+  sound = λ i b e.
+      IsBaseOf-more old new (λ j u h. sym (ap (λ l. slice_get (trees l) j) rows) ∙ h)
+      (λ d u h. sym (ap₂ (λ l m. option_and_then (λ j. slice_get (trees l) j) (defined m d)) rows declared) ∙ h) i b (v.sound i b e);
+}
+
+-- with more definitions
+pub KeepsBases-defined : (s : Store) (new : List (ℕ × Declared)) (bs : List (Option ℕ)) → ((d t : ℕ) → defined s.declared d ≡ Some t → defined new d ≡ Some t)
+    → KeepsBases s bs → KeepsBases (record s { declared = new }) bs
+KeepsBases-defined s new bs still v = record {
+  as_many = v.as_many;
+  sound = λ i b e. IsBaseOf-more s (record s { declared = new }) (λ j u h. h) meaning i b (v.sound i b e);
+}
+  where
+    meaning : (d : ℕ) (u : Tree) → meaning_of s d ≡ Some u → meaning_of (record s { declared = new }) d ≡ Some u
+    meaning d u e = by (defined s.declared d) refl e
+      where
+        by : (o : Option ℕ) → defined s.declared d ≡ o → option_and_then (tree_at s) o ≡ Some u → meaning_of (record s { declared = new }) d ≡ Some u
+        by None f g = absurd cc
+        by (Some t) f g = ap (option_and_then (tree_at s)) (still d t f) ∙ g
+
+known_base-push : (bs : List (Option ℕ)) (o : Option ℕ) (i b : ℕ) → known_base (bs ++ o ∷ []) i ≡ Some b → (known_base bs i ≡ Some b) ⊎ ((i ≡ length bs) × (o ≡ Some b))
+known_base-push [] o zero b e = inr (refl, e)
+known_base-push [] o (suc i) b e = absurd cc
+known_base-push (k ∷ bs) o zero b e = inl e
+known_base-push (k ∷ bs) o (suc i) b e = next (known_base-push bs o i b e)
+  where
+    next : (known_base bs i ≡ Some b) ⊎ ((i ≡ length bs) × (o ≡ Some b)) → (known_base bs i ≡ Some b) ⊎ ((suc i ≡ length (k ∷ bs)) × (o ≡ Some b))
+    next (inl h) = inl h
+    next (inr h) = inr (ap suc h.0, h.1)
+
+-- with one more row
+pub KeepsBases-push : (s : Store) (r : Row) (bs : List (Option ℕ)) (o : Option ℕ) → o ≡ base_over (defined s.declared) (known_base bs) (length s.rows) r → KeepsBases s bs
+    → IsStore (record s { rows = s.rows ++ r ∷ [] }) → ((d t : ℕ) → defined s.declared d ≡ Some t → t < length s.rows) → KeepsBases (record s { rows = s.rows ++ r ∷ [] }) (bs ++ o ∷ [])
+KeepsBases-push s r bs o value v w ids = record {
+  as_many = omega (arith, length-append bs (o ∷ []), length-append s.rows (r ∷ []), v.as_many);
+  sound = λ i b e. sound_at i b (known_base-push bs o i b e);
+}
+  where
+    kept : (j : ℕ) (u : Tree) → tree_at s j ≡ Some u → tree_at (record s { rows = s.rows ++ r ∷ [] }) j ≡ Some u
+    kept j u e = tree_kept s.rows (r ∷ []) j u e
+
+    meaning : (d : ℕ) (u : Tree) → meaning_of s d ≡ Some u → meaning_of (record s { rows = s.rows ++ r ∷ [] }) d ≡ Some u
+    meaning d u e = meaning_kept s.rows (s.rows ++ r ∷ []) kept (defined s.declared d) (ids d) ∙ e
+
+    old_sound : (i b : ℕ) → known_base bs i ≡ Some b → IsBaseOf (record s { rows = s.rows ++ r ∷ [] }) i b
+    old_sound i b e = IsBaseOf-more s (record s { rows = s.rows ++ r ∷ [] }) kept meaning i b (v.sound i b e)
+
+    sound_at : (i b : ℕ) → (known_base bs i ≡ Some b) ⊎ ((i ≡ length bs) × (o ≡ Some b)) → IsBaseOf (record s { rows = s.rows ++ r ∷ [] }) i b
+    sound_at i b (inl h) = old_sound i b h
+    sound_at i b (inr h) =
+        let place : length s.rows ≡ i = sym v.as_many ∙ sym h.0 in
+        let here : slice_get (s.rows ++ r ∷ []) i ≡ Some r = subst (λ j. slice_get (s.rows ++ r ∷ []) j ≡ Some r) place (slice_get_end s.rows r []) in
+        base-step (record s { rows = s.rows ++ r ∷ [] }) w bs old_sound i r here b (sym (ap (λ n. base_over (defined s.declared) (known_base bs) n r) place) ∙ sym value ∙ h.1)
+
+-- with one more base
+pub KeepsBases-set : (s : Store) → IsStore s → (bs : List (Option ℕ)) (i : ℕ) (r : Row) (o : Option ℕ) → slice_get s.rows i ≡ Some r → o ≡ base_over (defined s.declared) (known_base bs) i r → KeepsBases s bs
+    → KeepsBases s (set bs i o)
+KeepsBases-set s v bs i r o here value k = record {
+  as_many = length-set bs i o ∙ k.as_many;
+  sound = λ j b e. by j b e (nat_eq i j) refl;
+}
+  where
+    within : i < length bs
+    within = omega (arith, slice_get_within s.rows i r here, k.as_many)
+
+    by : (j b : ℕ) → known_base (set bs i o) j ≡ Some b → (x : Bool) → nat_eq i j ≡ x → IsBaseOf s j b
+    by j b e true g =
+        let same : i ≡ j = (unsigned_Decides i j).0 g in
+        let set_here : known_base (set bs i o) i ≡ o = get_or-set_same bs i o None within in
+        let is : o ≡ Some b = sym set_here ∙ ap (known_base (set bs i o)) same ∙ e in
+        subst (λ n. IsBaseOf s n b) same (base-step s v bs k.sound i r here b (sym value ∙ is))
+    by j b e false g =
+        let other : j ≢ i = λ h. true≢false (sym ((unsigned_Decides i j).1 (sym h)) ∙ g) in
+        let there : known_base (set bs i o) j ≡ known_base bs j = get_or-set_other bs i j o None other in
+        k.sound j b (sym there ∙ e)
+
+-- ---- where nothing is kept, there is no base
+
+-- what becomes of names, where at most n names one behind another are followed
+abbrev names : Store → ℕ → ℕ → Option Tree
+names s zero d = None
+names s (suc n) d = option_and_then (following base_with (meaning_of s) n) (meaning_of s d)
+
+by_names : (s : Store) (n : ℕ) (u : Tree) → base_with (names s n) u ≡ following base_with (meaning_of s) n u
+by_names s zero u = refl
+by_names s (suc n) u = refl
+
+module _ (s : Store) (v : IsStore s) (bs : List (Option ℕ)) (settled : (i : ℕ) (r : Row) → slice_get s.rows i ≡ Some r → known_base bs i ≡ None → base_over (defined s.declared) (known_base bs) i r ≡ None) where
+  abbrev Found : ℕ → Type 0
+  Found i = (b : ℕ) × (known_base bs i ≡ Some b)
+
+  must : (i : ℕ) (r : Row) → slice_get s.rows i ≡ Some r → (b : ℕ) → base_over (defined s.declared) (known_base bs) i r ≡ Some b → Found i
+  must i r here b e = by (known_base bs i) refl
+    where
+      by : (o : Option ℕ) → known_base bs i ≡ o → Found i
+      by None f =
+          let none = settled i r here f in
+          absurd cc
+      by (Some z) f = (z, f)
+
+  abbrev Complete : ℕ → ℕ → Type 0
+  Complete n b = (j : ℕ) → j < b → (u : Tree) → base_with (names s n) (tree_in (trees s.rows) j) ≡ Some u → Found j
+
+  of_row : (n : ℕ) → ((k : ℕ) → suc k ≡ n → Complete k (length s.rows)) → (i : ℕ) (r : Row) → slice_get s.rows i ≡ Some r → Complete n i → (u : Tree)
+      → base_with (names s n) (tree_of (trees s.rows) r) ≡ Some u → Found i
+  of_row n fewer i (row.Scalar k) here below u e = must i (row.Scalar k) here i refl
+  of_row n fewer i (row.Pointer j) here below u e = must i (row.Pointer j) here i refl
+  of_row n fewer i (row.Nullable j) here below u e = must i (row.Nullable j) here i refl
+  of_row n fewer i (row.Slice j) here below u e = must i (row.Slice j) here i refl
+  of_row n fewer i (row.Array m j) here below u e = must i (row.Array m j) here i refl
+  of_row n fewer i (row.Struct fs) here below u e = must i (row.Struct fs) here i refl
+  of_row n fewer i (row.Tuple js) here below u e = must i (row.Tuple js) here i refl
+  of_row n fewer i (row.Union js) here below u e = must i (row.Union js) here i refl
+  of_row n fewer i (row.Error j) here below u e =
+      let inner = below j (v.rows_sound.within i (row.Error j) here) u e in
+      must i (row.Error j) here inner.0 inner.1
+  of_row zero fewer i (row.Named d) here below u e = absurd cc
+  of_row (suc n) fewer i (row.Named d) here below u e = by (defined s.declared d) refl e
+    where
+      by : (o : Option ℕ) → defined s.declared d ≡ o → option_and_then (following base_with (meaning_of s) n) (option_and_then (tree_at s) o) ≡ Some u → Found i
+      by None f g = absurd cc
+      by (Some t) f g =
+          let tree : tree_at s t ≡ Some (tree_in (trees s.rows) t) = slice_get-get_or (trees s.rows) t (Scalar keyword.Void) (omega (arith, v.defined_within d t f, length-trees s.rows)) in
+          let inner = fewer n refl t (v.defined_within d t f) u (by_names s n (tree_in (trees s.rows) t) ∙ sym (ap (option_and_then (following base_with (meaning_of s) n)) tree) ∙ g) in
+          must i (row.Named d) here inner.0 (ap (option_and_then (known_base bs)) f ∙ inner.1)
+
+  up_to : (n : ℕ) → ((k : ℕ) → suc k ≡ n → Complete k (length s.rows)) → (b : ℕ) → b ≤ length s.rows → Complete n b
+  up_to n fewer zero l j h u e = absurd (omega arith)
+  up_to n fewer (suc b) l j h u e = by (up_to n fewer b (omega arith)) (cases_lt j b)
+    where
+      by : Complete n b → (j < b) ⊎ (b ≤ j) → Found j
+      by ih (inl g) = ih j g u e
+      by ih (inr g) =
+          let same : b ≡ j = omega arith in
+          let r = slice_index_or s.rows j (row.Scalar keyword.Void) in
+          let here : slice_get s.rows j ≡ Some r = slice_get-get_or s.rows j (row.Scalar keyword.Void) (omega arith) in
+          of_row n fewer j r here (subst (Complete n) same ih) u
+          (sym (ap (base_with (names s n)) (get_or_from_slice_get (trees s.rows) j (tree_of (trees s.rows) r) (Scalar keyword.Void) (tree_at_row s v j r here))) ∙ e)
+
+  complete : (n : ℕ) → Complete n (length s.rows)
+  complete zero = up_to zero (λ k e. absurd (omega arith)) (length s.rows) (omega arith)
+  complete (suc n) =
+      let ih = complete n in
+      up_to (suc n) (λ k e. let same : n ≡ k = omega arith in subst (λ m. Complete m (length s.rows)) same ih) (length s.rows) (omega arith)
+
+  pub none_base : (t : ℕ) → known_base bs t ≡ None → (b : ℕ) → ¬ IsBaseOf s t b
+  none_base t e b h =
+      let within : t < length s.rows = omega (arith, slice_get_within (trees s.rows) t h.0 h.2, length-trees s.rows) in
+      let tree = get_or_from_slice_get (trees s.rows) t h.0 (Scalar keyword.Void) h.2 in
+      let found = complete h.4.0 t within h.1 (ap (base_with (names s h.4.0)) tree ∙ by_names s h.4.0 h.0 ∙ h.4.1) in
+      let both : None ≡ Some found.0 = sym e ∙ found.1 in
+      absurd cc

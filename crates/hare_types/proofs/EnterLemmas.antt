@@ -1,0 +1,481 @@
+-- What is kept beside rows, as rows are taken in and names are declared and defined.
+use Rattle.std.proofs.Common.{◌≡◌, ℕ, zero, suc, ◌+◌, ◌<◌, ◌≤◌, true, false, List, [], ◌∷◌, ◌++◌, length, take, map, Option, Some, None, IfSome, IsSome, refl, ap, sym, ◌∙◌, subst, arith, ◌⊎◌, inl, inr, length-append}
+use Rattle.std.specs.Prelude.{slice_get, option_and_then}
+use Rattle.std.proofs.lemmas.Option.{slice_get_within}
+use Rattle.std.proofs.lemmas.List.{map-append, length-map}
+use Rattle.std.proofs.Math.Seq.{get_or-append_seam, take-append_seam, take-length}
+use Rattle.std.proofs.Math.ListN.{get_or-append}
+use Rattle.hare_types.specs.declared.declared.Declared.{Declared}
+use Rattle.hare_types.specs.declared.extent.Extent.{Extent}
+use Rattle.hare_types.specs.declared.kept.Kept.{Kept}
+use Rattle.hare_types.specs.declared.row.Row.{Row}
+use Rattle.hare_types.specs.declared.row.Row.TheVariants as row
+use Rattle.hare_types.specs.Numbering.{most}
+use Rattle.hare_types.specs.Trees.{Named}
+use Rattle.hare_types.specs.Rows.{AllBelow, IsWithin}
+use Rattle.hare_types.specs.Store.{Store, tree_at, meaning_of}
+use Rattle.hare_types.specs.Sound.{IsStore}
+use Rattle.hare_types.specs.Layout.{following, extent_with}
+use Rattle.hare_types.specs.Kept.{parts_of, known, defined, extent_over, IsBounded, KeepsExtents, IsInert}
+use Rattle.hare_types.specs.Bases.{known_base, base_over, KeepsBases}
+use Rattle.hare_types.specs.Waiting.{nowhere, blank, kept_at, extents, bases, extent_at, base_at, Among, EndsWith, Chain, first_of, NeedsRow, Needs, IsAtRest, HaveBases, AreSeen, AreSettling, AreSettlingBut, AreSettlingButName, AreKept, KeepsFound, NoneFollows, NeedsAreWithin}
+use Rattle.hare_types.proofs.ListLemmas.{slice_get_push}
+use Rattle.hare_types.proofs.TreeLemmas.{IsWithin-le}
+use Rattle.hare_types.proofs.CallerLemmas.{tree_at_row}
+use Rattle.hare_types.proofs.KeptLemmas.{KeepsExtents-push, extent_over-front, known-front, FieldsBelow-ids}
+use Rattle.hare_types.proofs.BaseLemmas.{KeepsBases-push}
+use Rattle.hare_types.proofs.LinkLemmas.{equal_or_not, Chain-below, Chain-nowhere}
+use Rattle.hare_types.proofs.WaitLemmas.{extent-based, HaveBases-kept}
+
+-- ---- nothing
+
+pub AreSettling-empty : (rows : List Row) (es : List (ℕ × Declared)) (ks : List Kept) → rows ≡ [] → ks ≡ [] → AreSettling rows es ks nowhere (λ n. [])
+AreSettling-empty rows es ks e f = record {
+  waiting = record {
+    links = record { chains = chain; ends = λ t. tt; distinct = λ n. tt; once = λ m n i a b. absurd a };
+    unknown = λ n i a. absurd a;
+    needs = λ p i a. absurd a;
+  };
+  rest = λ i. inl (λ r g u. let none : None ≡ Some r = sym (ap (λ l. slice_get l i) e) ∙ g in absurd cc);
+}
+  where
+    chain : (n : ℕ) → Chain ks (first_of ks nowhere n) []
+    chain zero = refl
+    chain (suc t) = ap (λ l. (kept_at l t).first) f
+
+pub HaveBases-empty : (ks : List Kept) → ks ≡ [] → HaveBases ks
+HaveBases-empty ks e i s =
+    let nothing : false ≡ true = subst IsSome (ap (λ l. extent_at l i) e) s in
+    absurd cc
+
+pub AreSeen-empty : (rows : List Row) (ks : List Kept) → rows ≡ [] → AreSeen rows ks
+AreSeen-empty rows ks e i k p r g l h =
+    let none : None ≡ Some r = sym (ap (λ l. slice_get l i) e) ∙ g in
+    absurd cc
+
+-- ---- what rows need is in the store
+
+all_below : (n : ℕ) (is : List ℕ) (k p : ℕ) → AllBelow n is → slice_get is k ≡ Some p → p < n
+all_below n [] k p h e = absurd cc
+all_below n (i ∷ is) zero p h e =
+    let same : i ≡ p = cc in
+    subst (λ x. x < n) same h.0
+all_below n (i ∷ is) (suc k) p h e = all_below n is k p h.1 e
+
+needs_below : (es : List (ℕ × Declared)) (n : ℕ) (r : Row) (p : ℕ) → IsWithin n r → ((d t : ℕ) → defined es d ≡ Some t → t < n) → NeedsRow es r p → p < n
+needs_below es n (row.Array m j) p h ids e = subst (λ x. x < n) e h
+needs_below es n (row.Error j) p h ids e = subst (λ x. x < n) e h
+needs_below es n (row.Named d) p h ids e = ids d p e
+needs_below es n (row.Struct fs) p h ids e = all_below n (map (λ f. f.ty) fs) e.0 p (FieldsBelow-ids n fs h) e.1
+needs_below es n (row.Tuple js) p h ids e = all_below n js e.0 p h e.1
+needs_below es n (row.Union js) p h ids e = all_below n js e.0 p h e.1
+needs_below es n (row.Scalar k) p h ids e = absurd e
+needs_below es n (row.Pointer j) p h ids e = absurd e
+needs_below es n (row.Nullable j) p h ids e = absurd e
+needs_below es n (row.Slice j) p h ids e = absurd e
+
+pub needs-within : (s : Store) → IsStore s → NeedsAreWithin s.rows s.declared
+needs-within s v i p r g e =
+    let below = slice_get_within s.rows i r g in
+    needs_below s.declared (length s.rows) r p (IsWithin-le i (length s.rows) r (omega arith) (v.rows_sound.within i r g)) v.defined_within e
+
+parts_below : (n : ℕ) (r : Row) (k p : ℕ) → IsWithin n r → slice_get (parts_of r) k ≡ Some p → p < n
+parts_below n (row.Struct fs) k p h e = all_below n (map (λ f. f.ty) fs) k p (FieldsBelow-ids n fs h) e
+parts_below n (row.Tuple js) k p h e = all_below n js k p h e
+parts_below n (row.Union js) k p h e = all_below n js k p h e
+parts_below n (row.Array m j) k p h e = absurd cc
+parts_below n (row.Error j) k p h e = absurd cc
+parts_below n (row.Named d) k p h e = absurd cc
+parts_below n (row.Scalar w) k p h e = absurd cc
+parts_below n (row.Pointer j) k p h e = absurd cc
+parts_below n (row.Nullable j) k p h e = absurd cc
+parts_below n (row.Slice j) k p h e = absurd cc
+
+-- ---- under other definitions
+
+base_same : (f g : ℕ → Option ℕ) (bs : ℕ → Option ℕ) → (i : ℕ) (r : Row) → ((d : ℕ) → r ≡ row.Named d → f d ≡ g d) → base_over f bs i r ≡ base_over g bs i r
+base_same f g bs i (row.Named d) h = ap (option_and_then bs) (h d refl)
+base_same f g bs i (row.Scalar k) h = refl
+base_same f g bs i (row.Pointer j) h = refl
+base_same f g bs i (row.Nullable j) h = refl
+base_same f g bs i (row.Slice j) h = refl
+base_same f g bs i (row.Array n j) h = refl
+base_same f g bs i (row.Struct fs) h = refl
+base_same f g bs i (row.Tuple js) h = refl
+base_same f g bs i (row.Union js) h = refl
+base_same f g bs i (row.Error j) h = refl
+
+needs_same : (es new : List (ℕ × Declared)) (r : Row) (p : ℕ) → ((d : ℕ) → r ≡ row.Named d → defined new d ≡ defined es d) → NeedsRow es r p → NeedsRow new r p
+needs_same es new (row.Named d) p h e = h d refl ∙ e
+needs_same es new (row.Array n j) p h e = e
+needs_same es new (row.Error j) p h e = e
+needs_same es new (row.Struct fs) p h e = e
+needs_same es new (row.Tuple js) p h e = e
+needs_same es new (row.Union js) p h e = e
+needs_same es new (row.Scalar k) p h e = e
+needs_same es new (row.Pointer j) p h e = e
+needs_same es new (row.Nullable j) p h e = e
+needs_same es new (row.Slice j) p h e = e
+
+inert_same : (es new : List (ℕ × Declared)) (r : Row) → ((d : ℕ) → r ≡ row.Named d → defined new d ≡ defined es d) → IsInert es r → IsInert new r
+inert_same es new (row.Named d) h e = h d refl ∙ e
+inert_same es new (row.Scalar k) h e = e
+inert_same es new (row.Pointer j) h e = e
+inert_same es new (row.Nullable j) h e = e
+inert_same es new (row.Slice j) h e = e
+inert_same es new (row.Array n j) h e = e
+inert_same es new (row.Struct fs) h e = e
+inert_same es new (row.Tuple js) h e = e
+inert_same es new (row.Union js) h e = e
+inert_same es new (row.Error j) h e = e
+
+rest_same : (rows : List Row) (es new : List (ℕ × Declared)) (ks : List Kept) (lists : ℕ → List ℕ) (i : ℕ) → ((r : Row) (d : ℕ) → slice_get rows i ≡ Some r → r ≡ row.Named d → defined new d ≡ defined es d)
+    → IsAtRest rows es ks lists i → IsAtRest rows new ks lists i
+rest_same rows es new ks lists i same h r g u =
+    let q = h r g u in
+    ((λ b. base_same (defined new) (defined es) (base_at ks) i r (λ d e. same r d g e) ∙ q.0 b), by q.1)
+  where
+    by : IsInert es r ⊎ ((p : ℕ) × Among (lists (suc p)) i × (extent_at ks p ≡ None)) → IsInert new r ⊎ ((p : ℕ) × Among (lists (suc p)) i × (extent_at ks p ≡ None))
+    by (inl x) = inl (inert_same es new r (λ d e. same r d g e) x)
+    by (inr w) = inr w
+
+-- with one more declaration
+pub AreSettling-declared : (rows : List Row) (es new : List (ℕ × Declared)) (ks : List Kept) (pile : ℕ) (lists : ℕ → List ℕ) → ((d : ℕ) → defined new d ≡ defined es d) → AreSettling rows es ks pile lists
+    → AreSettling rows new ks pile lists
+AreSettling-declared rows es new ks pile lists same h = record {
+  waiting = record { links = h.waiting.links; unknown = h.waiting.unknown; needs = λ p i a r g. needs_same es new r p (λ d e. same d) (h.waiting.needs p i a r g) };
+  rest = λ i. by i (h.rest i);
+}
+  where
+    by : (i : ℕ) → IsAtRest rows es ks lists i ⊎ Among (lists 0) i → IsAtRest rows new ks lists i ⊎ Among (lists 0) i
+    by i (inl a) = inl (rest_same rows es new ks lists i (λ r d g e. same d) a)
+    by i (inr a) = inr a
+
+-- the extent of a name that is not defined
+undefined_none : (s : Store) → IsStore s → (ks : List Kept) → KeepsExtents s (extents ks) → (d i : ℕ) → defined s.declared d ≡ None → slice_get s.rows i ≡ Some (row.Named d) → extent_at ks i ≡ None
+undefined_none s v ks k d i fresh here = by (extent_at ks i) refl
+  where
+    none : (n : ℕ) (y : Extent) → following extent_with (meaning_of s) n (Named d) ≡ Some y → ⊥
+    none zero y e = absurd cc
+    none (suc n) y e =
+        let gone = ap (λ o. option_and_then (following extent_with (meaning_of s) n) (option_and_then (tree_at s) o)) fresh in
+        let both : None ≡ Some y = sym gone ∙ e in
+        absurd cc
+
+    by : (o : Option Extent) → extent_at ks i ≡ o → o ≡ None
+    by None e = refl
+    by (Some x) e =
+        let w = k.sound i x e in
+        let trees : Some (Named d) ≡ Some w.1.0 = sym (tree_at_row s v i (row.Named d) here) ∙ w.1.1 in
+        let tree : Named d ≡ w.1.0 = cc in
+        absurd (none w.1.2.0 w.0 (subst (λ u. following extent_with (meaning_of s) w.1.2.0 u ≡ Some w.0) (sym tree) w.1.2.1))
+
+-- with one more definition
+pub AreSettling-defined : (s : Store) (ks : List Kept) (d : ℕ) (new : List (ℕ × Declared)) (lists : ℕ → List ℕ) → IsStore s → KeepsExtents s (extents ks) → defined s.declared d ≡ None
+    → ((q : ℕ) → (d ≡ q) ⊎ (defined new q ≡ defined s.declared q)) → AreSettling s.rows s.declared ks nowhere lists → AreSettlingButName d s.rows new ks lists
+AreSettling-defined s ks d new lists v k fresh there h = record {
+  waiting = record { links = h.waiting.links; unknown = h.waiting.unknown; needs = needs };
+  out = λ i e. (undefined_none s v ks k d i fresh e, λ n a. out i e n a);
+  rest = λ i. by i (h.rest i) (slice_get s.rows i) refl;
+}
+  where
+    few : length ks ≤ most
+    few = omega (arith, v.rows_few, k.as_many, length-map ks (λ x. x.extent))
+
+    no_need : (p : ℕ) → ¬ NeedsRow s.declared (row.Named d) p
+    no_need p e =
+        let both : None ≡ Some p = sym fresh ∙ e in
+        absurd cc
+
+    out : (i : ℕ) → slice_get s.rows i ≡ Some (row.Named d) → (n : ℕ) → ¬ Among (lists n) i
+    out i e zero a = subst (λ xs. Among xs i) (Chain-nowhere ks few (lists 0) nowhere refl (h.waiting.links.chains 0)) a
+    out i e (suc p) a = no_need p (h.waiting.needs p i a (row.Named d) e)
+
+    other : (r : Row) → ¬ (r ≡ row.Named d) → (q : ℕ) → r ≡ row.Named q → defined new q ≡ defined s.declared q
+    other r away q e = on (there q)
+      where
+        on : (d ≡ q) ⊎ (defined new q ≡ defined s.declared q) → defined new q ≡ defined s.declared q
+        on (inl f) = absurd (away (e ∙ ap row.Named (sym f)))
+        on (inr f) = f
+
+    needs : (p i : ℕ) → Among (lists (suc p)) i → Needs s.rows new i p
+    needs p i a r g =
+        let needed = h.waiting.needs p i a r g in
+        needs_same s.declared new r p (other r (λ e. no_need p (subst (λ x. NeedsRow s.declared x p) e needed))) needed
+
+    is_name : (r : Row) → (r ≡ row.Named d) ⊎ (¬ (r ≡ row.Named d))
+    is_name (row.Named q) = on (equal_or_not q d)
+      where
+        on : (q ≡ d) ⊎ (¬ (q ≡ d)) → (row.Named q ≡ row.Named d) ⊎ (¬ (row.Named q ≡ row.Named d))
+        on (inl e) = inl (ap row.Named e)
+        on (inr away) = inr (λ e. away (cc))
+    is_name (row.Scalar k) = inr (λ e. absurd cc)
+    is_name (row.Pointer j) = inr (λ e. absurd cc)
+    is_name (row.Nullable j) = inr (λ e. absurd cc)
+    is_name (row.Slice j) = inr (λ e. absurd cc)
+    is_name (row.Array n j) = inr (λ e. absurd cc)
+    is_name (row.Struct fs) = inr (λ e. absurd cc)
+    is_name (row.Tuple js) = inr (λ e. absurd cc)
+    is_name (row.Union js) = inr (λ e. absurd cc)
+    is_name (row.Error j) = inr (λ e. absurd cc)
+
+    by : (i : ℕ) → IsAtRest s.rows s.declared ks lists i ⊎ Among (lists 0) i → (o : Option Row) → slice_get s.rows i ≡ o → (slice_get s.rows i ≡ Some (row.Named d)) ⊎ (IsAtRest s.rows new ks lists i ⊎ Among (lists 0) i)
+    by i (inr a) o g = inr (inr a)
+    by i (inl a) None g = inr (inl (λ r e u. let both : None ≡ Some r = sym g ∙ e in absurd cc))
+    by i (inl a) (Some r) g = on (is_name r)
+      where
+        one : (q : Row) → slice_get s.rows i ≡ Some q → r ≡ q
+        one q e =
+            let both : Some r ≡ Some q = sym g ∙ e in
+            cc
+
+        on : (r ≡ row.Named d) ⊎ (¬ (r ≡ row.Named d)) → (slice_get s.rows i ≡ Some (row.Named d)) ⊎ (IsAtRest s.rows new ks lists i ⊎ Among (lists 0) i)
+        on (inl e) = inl (g ∙ ap Some e)
+        on (inr away) = inr (inl (rest_same s.rows s.declared new ks lists i (λ q f e h. other r away f (one q e ∙ h)) a))
+
+-- ---- with one more row
+
+field-push : {A : Type 0} (f : Kept → A) (ks : List Kept) (k : Kept) → f k ≡ f blank → (j : ℕ) → f (kept_at (ks ++ k ∷ []) j) ≡ f (kept_at ks j)
+field-push f [] k e zero = e
+field-push f [] k e (suc j) = refl
+field-push f (x ∷ ks) k e zero = refl
+field-push f (x ∷ ks) k e (suc j) = field-push f ks k e j
+
+Chain-longer : (ks new : List Kept) → length ks ≤ length new → ((i : ℕ) → (kept_at new i).next ≡ (kept_at ks i).next) → (xs : List ℕ) (h : ℕ) → Chain ks h xs → Chain new h xs
+Chain-longer ks new len same [] h c = c
+Chain-longer ks new len same (x ∷ xs) h c =
+    (c.0, omega (arith, c.1, len), Chain-longer ks new len same xs (kept_at new x).next (subst (λ n. Chain ks n xs) (sym (same x)) c.2))
+
+base_front : (definition : ℕ → Option ℕ) (bs : List (Option ℕ)) (o : Option ℕ) (i : ℕ) (r : Row) → IsWithin (length bs) r → ((d t : ℕ) → definition d ≡ Some t → t < length bs)
+    → base_over definition (known_base (bs ++ o ∷ [])) i r ≡ base_over definition (known_base bs) i r
+base_front definition bs o i (row.Error j) h ids = get_or-append bs (o ∷ []) None j h
+base_front definition bs o i (row.Named d) h ids = by (definition d) (λ t. ids d t)
+  where
+    by : (q : Option ℕ) → ((t : ℕ) → q ≡ Some t → t < length bs) → option_and_then (known_base (bs ++ o ∷ [])) q ≡ option_and_then (known_base bs) q
+    by None g = refl
+    by (Some t) g = get_or-append bs (o ∷ []) None t (g t refl)
+base_front definition bs o i (row.Scalar k) h ids = refl
+base_front definition bs o i (row.Pointer j) h ids = refl
+base_front definition bs o i (row.Nullable j) h ids = refl
+base_front definition bs o i (row.Slice j) h ids = refl
+base_front definition bs o i (row.Array n j) h ids = refl
+base_front definition bs o i (row.Struct fs) h ids = refl
+base_front definition bs o i (row.Tuple js) h ids = refl
+base_front definition bs o i (row.Union js) h ids = refl
+
+module _ (s : Store) (ks : List Kept) (v : AreKept s ks) (r : Row) (w : IsWithin (length s.rows) r) (k : Kept) (blank_is : k ≡ record blank { extent = k.extent; base = k.base })
+    (extent_is : k.extent ≡ extent_over (defined s.declared) (known (extents ks)) r) (base_is : k.base ≡ base_over (defined s.declared) (base_at ks) (length s.rows) r)
+    (bounded : IfSome k.extent (λ x. IsBounded x)) (sound : IsStore (record s { rows = s.rows ++ r ∷ [] })) where
+  abbrev pushed : List Kept
+  pushed = ks ++ k ∷ []
+
+  as_many : length ks ≡ length s.rows
+  as_many = sym (length-map ks (λ x. x.extent)) ∙ v.extents.as_many
+
+  extents_pushed : extents pushed ≡ extents ks ++ k.extent ∷ []
+  extents_pushed = map-append (λ x. x.extent) ks (k ∷ [])
+
+  bases_pushed : bases pushed ≡ bases ks ++ k.base ∷ []
+  bases_pushed = map-append (λ x. x.base) ks (k ∷ [])
+
+  extent_old : (j : ℕ) → j < length s.rows → extent_at pushed j ≡ extent_at ks j
+  extent_old j l = ap (λ x. known x j) extents_pushed ∙ known-front (extents ks) (k.extent ∷ []) j (omega (arith, l, v.extents.as_many))
+
+  base_old : (j : ℕ) → j < length s.rows → base_at pushed j ≡ base_at ks j
+  base_old j l = ap (λ x. known_base x j) bases_pushed ∙ get_or-append (bases ks) (k.base ∷ []) None j (omega (arith, l, v.bases.as_many))
+
+  extent_last : extent_at pushed (length s.rows) ≡ k.extent
+  extent_last = ap (λ x. known x (length s.rows)) extents_pushed ∙ ap (known (extents ks ++ k.extent ∷ [])) (sym v.extents.as_many) ∙ get_or-append_seam (extents ks) k.extent [] None
+
+  base_last : base_at pushed (length s.rows) ≡ k.base
+  base_last = ap (λ x. known_base x (length s.rows)) bases_pushed ∙ ap (known_base (bases ks ++ k.base ∷ [])) (sym v.bases.as_many) ∙ get_or-append_seam (bases ks) k.base [] None
+
+  over_front : (q : Row) → IsWithin (length s.rows) q → extent_over (defined s.declared) (known (extents pushed)) q ≡ extent_over (defined s.declared) (known (extents ks)) q
+  over_front q h =
+      ap (λ x. extent_over (defined s.declared) (known x) q) extents_pushed
+      ∙ extent_over-front (defined s.declared) (extents ks) (k.extent ∷ []) q (subst (λ n. IsWithin n q) (sym v.extents.as_many) h) (λ d t e. omega (arith, v.store.defined_within d t e, v.extents.as_many))
+
+  bases_front : (i : ℕ) (q : Row) → IsWithin (length s.rows) q → base_over (defined s.declared) (base_at pushed) i q ≡ base_over (defined s.declared) (base_at ks) i q
+  bases_front i q h =
+      ap (λ x. base_over (defined s.declared) (known_base x) i q) bases_pushed
+      ∙ base_front (defined s.declared) (bases ks) k.base i q (subst (λ n. IsWithin n q) (sym v.bases.as_many) h) (λ d t e. omega (arith, v.store.defined_within d t e, v.bases.as_many))
+
+  pub push-extents : KeepsExtents (record s { rows = s.rows ++ r ∷ [] }) (extents pushed)
+  push-extents = subst (KeepsExtents (record s { rows = s.rows ++ r ∷ [] })) (sym extents_pushed) (KeepsExtents-push s r (extents ks) k.extent extent_is bounded v.extents sound v.store.defined_within)
+
+  pub push-bases : KeepsBases (record s { rows = s.rows ++ r ∷ [] }) (bases pushed)
+  push-bases = subst (KeepsBases (record s { rows = s.rows ++ r ∷ [] })) (sym bases_pushed) (KeepsBases-push s r (bases ks) k.base base_is v.bases sound v.store.defined_within)
+
+  -- no extent is kept of what is not in the store
+  kept_within : (i : ℕ) → IsSome (extent_at pushed i) → (i < length s.rows) ⊎ (i ≡ length s.rows)
+  kept_within i h =
+      let long : length (extents pushed) ≡ length s.rows + 1 = push-extents.as_many ∙ length-append s.rows (r ∷ []) in
+      let within : i < length (extents pushed) = known_in (extents pushed) i h in
+      below i (length s.rows) (omega (arith, long, within))
+    where
+      known_in : (xs : List (Option Extent)) (j : ℕ) → IsSome (known xs j) → j < length xs
+      known_in [] j g =
+          let nothing : false ≡ true = g in
+          absurd cc
+      known_in (x ∷ xs) zero g = omega arith
+      known_in (x ∷ xs) (suc j) g = let l = known_in xs j g in omega arith
+
+      below : (j n : ℕ) → j < n + 1 → (j < n) ⊎ (j ≡ n)
+      below j n l = grind arith
+
+  pub push-based : HaveBases pushed
+  push-based i h = by (kept_within i h)
+    where
+      by : (i < length s.rows) ⊎ (i ≡ length s.rows) → IsSome (base_at pushed i)
+      by (inl l) = subst IsSome (sym (base_old i l)) (v.based i (subst IsSome (extent_old i l) h))
+      by (inr e) =
+          let here : IsSome k.extent = subst IsSome (ap (extent_at pushed) e ∙ extent_last) h in
+          subst IsSome (sym (ap (base_at pushed) e ∙ base_last ∙ base_is)) (extent-based s.declared ks v.based (length s.rows) r (subst IsSome extent_is here))
+
+  pub push-seen : AreSeen (s.rows ++ r ∷ []) pushed
+  push-seen i n p q g l e = by (slice_get_push s.rows r i q g)
+    where
+      seen : (kept_at pushed i).seen ≡ (kept_at ks i).seen
+      seen = field-push (λ x. x.seen) ks k (ap (λ x. x.seen) blank_is) i
+
+      none : i ≡ length s.rows → (kept_at ks i).seen ≡ 0
+      none f = ap (λ x. x.seen) (past ks i (omega (arith, f, as_many)))
+        where
+          past : (xs : List Kept) (j : ℕ) → length xs ≤ j → kept_at xs j ≡ blank
+          past [] j m = refl
+          past (x ∷ xs) zero m = absurd (omega arith)
+          past (x ∷ xs) (suc j) m = past xs j (omega arith)
+
+      by : (slice_get s.rows i ≡ Some q) ⊎ ((i ≡ length s.rows) × (q ≡ r)) → IsSome (extent_at pushed p)
+      by (inl h) =
+          let below = slice_get_within s.rows i q h in
+          let part = parts_below i q n p (v.store.rows_sound.within i q h) e in
+          subst IsSome (sym (extent_old p (omega arith))) (v.seen i n p q h (omega (arith, l, seen)) e)
+      by (inr h) = absurd (omega (arith, l, seen, none h.0))
+
+  pub push-none : extent_at pushed (length s.rows) ≡ None → (q : Row) → slice_get (s.rows ++ r ∷ []) (length s.rows) ≡ Some q → NoneFollows s.declared pushed (length s.rows) q
+  push-none u q g = by (slice_get_push s.rows r (length s.rows) q g)
+    where
+      by : (slice_get s.rows (length s.rows) ≡ Some q) ⊎ ((length s.rows ≡ length s.rows) × (q ≡ r)) → NoneFollows s.declared pushed (length s.rows) q
+      by (inl h) =
+          let below = slice_get_within s.rows (length s.rows) q h in
+          absurd (omega arith)
+      by (inr h) =
+          subst (NoneFollows s.declared pushed (length s.rows)) (sym h.1)
+          (over_front r w ∙ sym extent_is ∙ sym extent_last ∙ u, λ b. bases_front (length s.rows) r w ∙ sym base_is ∙ sym base_last ∙ b)
+
+  in_old : (n i : ℕ) → Among (v.lists n) i → i < length s.rows
+  in_old n i a = omega (arith, as_many, Chain-below ks (v.lists n) (first_of ks nowhere n) (v.settled.waiting.links.chains n) i a)
+
+  pub push-settling : AreSettlingBut (length s.rows) (s.rows ++ r ∷ []) s.declared pushed nowhere v.lists
+  push-settling = record {
+    waiting = record {
+      links = record {
+        chains = λ n. chain n (v.settled.waiting.links.chains n);
+        ends = λ t. subst (λ z. EndsWith (v.lists (suc t)) z) (sym (field-push (λ x. x.last) ks k (ap (λ x. x.last) blank_is) t)) (v.settled.waiting.links.ends t);
+        distinct = v.settled.waiting.links.distinct;
+        once = v.settled.waiting.links.once;
+      };
+      unknown = λ n i a. extent_old i (in_old n i a) ∙ v.settled.waiting.unknown n i a;
+      needs = λ p i a q g. v.settled.waiting.needs p i a q (old_row i q (in_old (suc p) i a) g);
+    };
+    out = λ n a. let l = in_old n (length s.rows) a in absurd (omega arith);
+    rest = λ i. by i (equal_or_not (length s.rows) i) (v.settled.rest i);
+  }
+    where
+      longer : length ks ≤ length pushed
+      longer = omega (arith, length-append ks (k ∷ []))
+
+      nexts : (i : ℕ) → (kept_at pushed i).next ≡ (kept_at ks i).next
+      nexts = field-push (λ x. x.next) ks k (ap (λ x. x.next) blank_is)
+
+      chain : (n : ℕ) → Chain ks (first_of ks nowhere n) (v.lists n) → Chain pushed (first_of pushed nowhere n) (v.lists n)
+      chain zero c = Chain-longer ks pushed longer nexts (v.lists zero) nowhere c
+      chain (suc t) c =
+          subst (λ h. Chain pushed h (v.lists (suc t))) (sym (field-push (λ x. x.first) ks k (ap (λ x. x.first) blank_is) t)) (Chain-longer ks pushed longer nexts (v.lists (suc t)) (kept_at ks t).first c)
+
+      old_row : (i : ℕ) (q : Row) → i < length s.rows → slice_get (s.rows ++ r ∷ []) i ≡ Some q → slice_get s.rows i ≡ Some q
+      old_row i q l g = on (slice_get_push s.rows r i q g)
+        where
+          on : (slice_get s.rows i ≡ Some q) ⊎ ((i ≡ length s.rows) × (q ≡ r)) → slice_get s.rows i ≡ Some q
+          on (inl h) = h
+          on (inr h) = absurd (omega (arith, l, h.0))
+
+      at_rest : (i : ℕ) → ¬ (length s.rows ≡ i) → IsAtRest s.rows s.declared ks v.lists i → IsAtRest (s.rows ++ r ∷ []) s.declared pushed v.lists i
+      at_rest i other a q g u = on (slice_get_push s.rows r i q g)
+        where
+          kept : slice_get s.rows i ≡ Some q → IsInert s.declared q ⊎ ((p : ℕ) × Among (v.lists (suc p)) i × (extent_at ks p ≡ None)) → IsInert s.declared q ⊎ ((p : ℕ) × Among (v.lists (suc p)) i × (extent_at pushed p ≡ None))
+          kept h (inl x) = inl x
+          kept h (inr x) =
+              let below = needs-within s v.store i x.0 q h (v.settled.waiting.needs x.0 i x.1 q h) in
+              inr (x.0, x.1, extent_old x.0 below ∙ x.2)
+
+          on : (slice_get s.rows i ≡ Some q) ⊎ ((i ≡ length s.rows) × (q ≡ r))
+              → (base_at pushed i ≡ None → base_over (defined s.declared) (base_at pushed) i q ≡ None) × (IsInert s.declared q ⊎ ((p : ℕ) × Among (v.lists (suc p)) i × (extent_at pushed p ≡ None)))
+          on (inr h) = absurd (other (sym h.0))
+          on (inl h) =
+              let l = slice_get_within s.rows i q h in
+              let x = a q h (sym (extent_old i l) ∙ u) in
+              ((λ b. bases_front i q (IsWithin-le i (length s.rows) q (omega arith) (v.store.rows_sound.within i q h)) ∙ x.0 (sym (base_old i l) ∙ b)), kept h x.1)
+
+      by : (i : ℕ) → (length s.rows ≡ i) ⊎ (¬ (length s.rows ≡ i)) → IsAtRest s.rows s.declared ks v.lists i ⊎ Among (v.lists 0) i
+          → (length s.rows ≡ i) ⊎ (IsAtRest (s.rows ++ r ∷ []) s.declared pushed v.lists i ⊎ Among (v.lists 0) i)
+      by i (inl e) h = inl e
+      by i (inr other) (inl a) = inr (inl (at_rest i other a))
+      by i (inr other) (inr a) = inr (inr a)
+
+-- ---- with the rows that taking one in leaves
+
+-- what is asked of rows, and of what is kept beside them, once a row was taken in as row `here` or was there
+pub record IsEntered (s : Store) (rows : List Row) (here : ℕ) (mid : List Kept) : Type 0 where
+  pub as_many : length mid ≡ length rows
+  pub seen : AreSeen rows mid
+  pub none : here < length rows → extent_at mid here ≡ None → (q : Row) → slice_get rows here ≡ Some q → NoneFollows s.declared mid here q
+  pub kept : (final : List Kept) → KeepsFound mid final → AreSeen rows final → (length rows ≤ here → final ≡ mid)
+      → (here < length rows → (pile : ℕ) (lists : ℕ → List ℕ) → AreSettlingBut here rows s.declared mid pile lists → (new : ℕ → List ℕ) × AreSettling rows s.declared final pile new × (new 0 ≡ lists 0))
+      → AreKept (record s { rows = rows }) final
+
+entered-old : (s : Store) (ks : List Kept) → AreKept s ks → IsEntered s s.rows (length s.rows) ks
+entered-old s ks v = record {
+  as_many = sym (length-map ks (λ x. x.extent)) ∙ v.extents.as_many;
+  seen = v.seen;
+  none = λ l u q g. absurd (omega (arith, l));
+  kept = λ final k seen same settled. subst (AreKept s) (sym (same (omega arith))) v;
+}
+
+entered-new : (s : Store) (ks : List Kept) → AreKept s ks → (r : Row) → IsWithin (length s.rows) r → (k : Kept) → k ≡ record blank { extent = k.extent; base = k.base }
+    → k.extent ≡ extent_over (defined s.declared) (known (extents ks)) r → k.base ≡ base_over (defined s.declared) (base_at ks) (length s.rows) r → IfSome k.extent (λ x. IsBounded x)
+    → IsStore (record s { rows = s.rows ++ r ∷ [] }) → IsEntered s (s.rows ++ r ∷ []) (length s.rows) (ks ++ k ∷ [])
+entered-new s ks v r w k blank_is extent_is base_is bounded sound =
+    let extents_new = push-extents s ks v r w k blank_is extent_is base_is bounded sound in
+    let bases_new = push-bases s ks v r w k blank_is extent_is base_is bounded sound in
+    record {
+      as_many = sym (length-map (ks ++ k ∷ []) (λ x. x.extent)) ∙ extents_new.as_many;
+      seen = push-seen s ks v r w k blank_is extent_is base_is bounded sound;
+      none = λ l. push-none s ks v r w k blank_is extent_is base_is bounded sound;
+      kept = λ final keeps seen same settled.
+          let x = settled (omega (arith, length-append s.rows (r ∷ []))) nowhere v.lists (push-settling s ks v r w k blank_is extent_is base_is bounded sound) in
+          record {
+            store = sound;
+            extents = subst (KeepsExtents (record s { rows = s.rows ++ r ∷ [] })) (sym keeps.extents) extents_new;
+            bases = subst (KeepsBases (record s { rows = s.rows ++ r ∷ [] })) (sym keeps.bases) bases_new;
+            based = HaveBases-kept (ks ++ k ∷ []) final keeps (push-based s ks v r w k blank_is extent_is base_is bounded sound);
+            seen = seen;
+            lists = x.0;
+            settled = x.1;
+          };
+    }
+
+pub entered : (s : Store) (ks : List Kept) → AreKept s ks → (r : Row) → IsWithin (length s.rows) r → (k : Kept) → k ≡ record blank { extent = k.extent; base = k.base }
+    → k.extent ≡ extent_over (defined s.declared) (known (extents ks)) r → k.base ≡ base_over (defined s.declared) (base_at ks) (length s.rows) r → IfSome k.extent (λ x. IsBounded x)
+    → (rows : List Row) → (rows ≡ s.rows) ⊎ (rows ≡ s.rows ++ r ∷ []) → IsStore (record s { rows = rows }) → IsEntered s rows (length s.rows) (take (length rows) (ks ++ k ∷ []))
+entered s ks v r w k blank_is extent_is base_is bounded rows (inl e) sound =
+    let count : length s.rows ≡ length ks = sym v.extents.as_many ∙ length-map ks (λ x. x.extent) in
+    let cut : take (length s.rows) (ks ++ k ∷ []) ≡ ks = ap (λ n. take n (ks ++ k ∷ [])) count ∙ take-append_seam ks (k ∷ []) in
+    subst (λ l. IsEntered s l (length s.rows) (take (length l) (ks ++ k ∷ []))) (sym e) (subst (IsEntered s s.rows (length s.rows)) (sym cut) (entered-old s ks v))
+entered s ks v r w k blank_is extent_is base_is bounded rows (inr e) sound =
+    let count : length s.rows ≡ length ks = sym v.extents.as_many ∙ length-map ks (λ x. x.extent) in
+    let as_long : length (s.rows ++ r ∷ []) ≡ length (ks ++ k ∷ []) = omega (arith, length-append ks (k ∷ []), length-append s.rows (r ∷ []), count) in
+    let cut : take (length (s.rows ++ r ∷ [])) (ks ++ k ∷ []) ≡ ks ++ k ∷ [] = ap (λ n. take n (ks ++ k ∷ [])) as_long ∙ take-length (ks ++ k ∷ []) in
+    subst (λ l. IsEntered s l (length s.rows) (take (length l) (ks ++ k ∷ []))) (sym e)
+    (subst (IsEntered s (s.rows ++ r ∷ []) (length s.rows)) (sym cut) (entered-new s ks v r w k blank_is extent_is base_is bounded (subst (λ l. IsStore (record s { rows = l })) e sound)))

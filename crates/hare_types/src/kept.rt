@@ -1,0 +1,44 @@
+//! What is kept beside the rows of a store.
+
+ghost use Rattle.std.specs.Prelude.{◌≡◌};
+ghost use Rattle.hare_types.specs.Waiting.{extent_at, base_at};
+
+use crate::extent::Extent;
+use crate::id::TypeId;
+
+/// The number of no row.
+pub(crate) const NOWHERE: u32 = 4_294_967_295;
+
+/// What is kept of a row: its extent and its base, where they are known, and its place in the lists of rows that wait.
+///
+/// `first` and `last` are the ends of the list of the rows that wait for this one, and `next` is the row behind this one in the list in which it
+/// stands itself. Of the first `seen` types that it holds by value an extent is kept.
+#[derive(Clone, Copy, Drop)]
+pub(crate) struct Kept {
+    pub extent: Option<Extent>,
+    pub base: Option<TypeId>,
+    pub first: u32,
+    pub last: u32,
+    pub next: u32,
+    pub seen: u32,
+}
+
+/// The extent that is kept of a type.
+pub(crate) fn extent_at(kept: &[Kept], t: TypeId) -> Option<Extent>
+    ensures { result ≡ extent_at kept.now t }
+{
+    match kept.get(t.index() as usize) {
+        Some(k) => k.extent,
+        None => None,
+    }
+}
+
+/// The base that is kept of a type.
+pub(crate) fn base_at(kept: &[Kept], t: TypeId) -> Option<TypeId>
+    ensures { result ≡ base_at kept.now t }
+{
+    match kept.get(t.index() as usize) {
+        Some(k) => k.base,
+        None => None,
+    }
+}
