@@ -1,5 +1,9 @@
 pub mod Tokens
 pub mod Trees
+pub mod Sizes
+pub mod Codes
+pub mod Shape
+pub mod Falls
 pub mod Class
 pub mod Evaluation
 pub mod Laws

@@ -1,8 +1,12 @@
 //! The second class of files: programs of variables, branches, loops and output, and what they do.
 #![tactic(auto)]
 
+mod expr;
 mod laws;
+mod program;
 mod token;
 
+pub use expr::{Expr, Factor, Sign, SignedTerm, Term};
 pub use laws::{law_end_is_kept, law_output_is_extended};
+pub use program::{Condition, Program, Relation, Statement, Statements};
 pub use token::Token;
