@@ -5,5 +5,9 @@ pub mod Codes
 pub mod Shape
 pub mod Falls
 pub mod Class
+pub mod Lexing
+pub mod Found
+pub mod Scopes
+pub mod ScopeParts
 pub mod Evaluation
 pub mod Laws
