@@ -7,6 +7,10 @@ pub mod Falls
 pub mod Class
 pub mod Lexing
 pub mod Found
+pub mod Names
+pub mod Nesting
+pub mod Parsing
+pub mod Grammar
 pub mod Scopes
 pub mod ScopeParts
 pub mod Evaluation

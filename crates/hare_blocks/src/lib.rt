@@ -1,10 +1,16 @@
 //! The second class of files: programs of variables, branches, loops and output, and what they do.
 #![tactic(auto)]
 
+mod cursor;
 mod expr;
 mod laws;
 mod lex;
+mod limits;
+mod names;
 mod program;
+mod read_condition;
+mod read_expr;
+mod read_statement;
 mod scan;
 mod scope;
 mod token;
