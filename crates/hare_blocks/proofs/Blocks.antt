@@ -1,13 +1,11 @@
 -- What the readers of branches, loops, blocks and their statements find.
-use Rattle.std.proofs.Common.{◌≡◌, ◌≢◌, ℕ, ◌+◌, ◌-◌, ◌<◌, ◌≤◌, max, List, [], ◌∷◌, ◌++◌, length, Option, Some, None, codes, refl, sym, ap, ◌∙◌, append_assoc, subst, ◌⊎◌, inl, inr, arith}
-use Rattle.std.specs.List.{AllByRecursion}
+use Rattle.std.proofs.Common.{◌≡◌, ◌≢◌, ℕ, ◌+◌, ◌≤◌, max, List, [], ◌∷◌, ◌++◌, Option, Some, None, codes, refl, sym, ap, ◌∙◌, append_assoc, subst, ◌⊎◌, inl, inr, arith}
 use Rattle.hare_blocks.specs.declared.token.Token.{Token}
 use Rattle.hare_blocks.specs.declared.token.Token.TheVariants as token
-use Rattle.hare_blocks.specs.Trees.{Expr, Condition, Statement, Statements, declares, assigns, chooses, chooses_one, repeats, puts, exits, nothing, first, statement_tokens, statements_tokens, condition_tokens}
-use Rattle.hare_blocks.specs.Class.{condition_exprs, statement_exprs, statements_exprs, statement_blocks, statements_blocks}
-use Rattle.hare_blocks.specs.Sizes.{list_of_statements}
-use Rattle.hare_blocks.specs.Parsing.{Reads, Finds, IsRead}
-use Rattle.hare_blocks.specs.Grammar.{IsLimited, AllLimited, ConditionFits, StatementFits, StatementsFit, BlockFits, Anything, IsEnded, test_tokens, block_tokens, closed_tokens}
+use Rattle.hare_blocks.specs.Trees.{Expr, Condition, Statement, Statements, declares, assigns, chooses, chooses_one, repeats, puts, exits, statement_tokens}
+use Rattle.hare_blocks.specs.Class.{condition_exprs, statements_exprs, statements_blocks}
+use Rattle.hare_blocks.specs.Parsing.{Reads, IsRead}
+use Rattle.hare_blocks.specs.Grammar.{AllLimited, ConditionFits, BlockFits, Anything, IsEnded, test_tokens, block_tokens}
 use Rattle.hare_blocks.proofs.Simple.{ReadsStatement, IsStatementRead}
 
 -- ---- expressions of parts

@@ -1,5 +1,5 @@
 -- What the readers of outermost expressions and of conditions find.
-use Rattle.std.proofs.Common.{◌≡◌, ◌≢◌, ℕ, ◌+◌, ◌-◌, ◌≤◌, List, [], ◌∷◌, ◌++◌, length, take, Some, None, refl, sym, ap, ◌∙◌, append_assoc, subst, arith}
+use Rattle.std.proofs.Common.{◌≡◌, ◌≢◌, ◌-◌, List, [], ◌∷◌, ◌++◌, length, take, Some, None, refl, sym, ap, ◌∙◌, append_assoc, subst, arith}
 use Rattle.std.proofs.Math.Seq.{take-append_seam}
 use Rattle.std.proofs.lemmas.List.{length-append}
 use Rattle.hare_blocks.specs.declared.token.Token.{Token}
@@ -7,7 +7,7 @@ use Rattle.hare_blocks.specs.declared.token.Token.TheVariants as token
 use Rattle.hare_blocks.specs.Trees.{Expr, Relation, less, less_equal, greater, greater_equal, equal, differ, Condition, always, compares, sum_of, product_of, number, arg_count, variable, group, expr_tokens, condition_tokens, relation_token}
 use Rattle.hare_blocks.specs.Class.{AreLimited}
 use Rattle.hare_blocks.specs.Parsing.{IsNoTerm, Reads, IsRead, ExprNests}
-use Rattle.hare_blocks.specs.Grammar.{IsLimited, ConditionFits, Anything, test_tokens, status_tokens}
+use Rattle.hare_blocks.specs.Grammar.{IsLimited, ConditionFits, Anything}
 use Rattle.hare_blocks.proofs.Nested.{depth_of_limited}
 
 -- ---- outermost expressions

@@ -1,10 +1,10 @@
 -- The tests of names, part by part.
-use Rattle.std.proofs.Common.{◌≡◌, ℕ, zero, suc, ◌+◌, ◌<◌, ◌≤◌, List, [], ◌∷◌, ◌++◌, length, drop, get_or, Bool, true, false, ◌&&◌, ◌||◌, cond, Some, None, is_some, bytes_eq, refl, sym, ap, ◌∙◌, arith, add-one, drop-cons}
+use Rattle.std.proofs.Common.{◌≡◌, ℕ, zero, suc, ◌+◌, ◌<◌, ◌≤◌, List, [], ◌∷◌, length, drop, get_or, Bool, true, false, ◌&&◌, ◌||◌, cond, Some, is_some, bytes_eq, refl, arith, add-one, drop-cons}
 use Rattle.hare_blocks.specs.declared.expr.Sign.{Sign}
 use Rattle.hare_blocks.specs.declared.expr.Sign.TheVariants as sign
 use Rattle.hare_blocks.specs.declared.expr.SignedTerm.{SignedTerm}
 use Rattle.hare_blocks.specs.declared.expr.Factor as read_factor
-use Rattle.hare_blocks.specs.Trees.{Expr, Terms, Term, sum_of}
+use Rattle.hare_blocks.specs.Trees.{Terms, Term}
 use Rattle.std.specs.Prelude.{slice_get}
 use Rattle.hare_blocks.specs.Names as names
 use Rattle.hare_blocks.specs.Trees.{Statement}

@@ -1,15 +1,13 @@
 -- What the readers of expressions and terms find, from what the readers of their parts find.
-use Rattle.std.proofs.Common.{◌≡◌, ◌≢◌, ℕ, ◌+◌, ◌≤◌, max, List, [], ◌∷◌, ◌++◌, Some, None, refl, sym, ap, ◌∙◌, append_assoc, subst, arith}
+use Rattle.std.proofs.Common.{◌≡◌, ℕ, ◌+◌, ◌≤◌, max, List, [], ◌∷◌, ◌++◌, Some, None, refl, sym, ap, ◌∙◌, append_assoc, subst, arith}
 use Rattle.hare_blocks.specs.declared.expr.Sign.{Sign}
 use Rattle.hare_blocks.specs.declared.expr.Sign.TheVariants as sign
 use Rattle.hare_blocks.specs.declared.expr.SignedTerm.{SignedTerm}
-use Rattle.hare_blocks.specs.declared.expr.Factor as read_factor
 use Rattle.hare_blocks.specs.declared.token.Token.{Token}
-use Rattle.hare_blocks.specs.declared.token.Token.TheVariants as token
-use Rattle.hare_blocks.specs.Trees.{Expr, Terms, Term, Factors, Factor, sum_of, no_term, plus, minus, product_of, no_factor, times, expr_tokens, terms_tokens, term_tokens, factors_tokens, factor_tokens}
+use Rattle.hare_blocks.specs.Trees.{Expr, Terms, Term, Factors, Factor, sum_of, no_term, plus, minus, no_factor, times, expr_tokens, terms_tokens, term_tokens, factors_tokens, factor_tokens}
 use Rattle.hare_blocks.specs.Nesting.{terms_depth, term_depth}
-use Rattle.hare_blocks.specs.Shape.{signed, terms_of, factor_of, factors_of}
-use Rattle.hare_blocks.specs.Parsing.{sign_token, IsNoPath, IsNoFactor, IsNoTerm, BeginsUnsigned, Reads, Finds, IsRead, ExprNests, TermsNest, TermNests, FactorsNest, FactorNests}
+use Rattle.hare_blocks.specs.Shape.{signed, terms_of}
+use Rattle.hare_blocks.specs.Parsing.{sign_token, IsNoPath, IsNoFactor, IsNoTerm, BeginsUnsigned, Reads, IsRead, ExprNests, TermsNest, TermNests, FactorsNest, FactorNests}
 
 -- ---- further terms
 

@@ -3,7 +3,7 @@ use Rattle.std.proofs.Common.{◌≡◌, ◌≢◌, ℕ, ◌+◌, ◌<◌, ◌�
 use Rattle.hare_blocks.specs.declared.token.Token.{Token}
 use Rattle.hare_blocks.specs.declared.token.Token.TheVariants as token
 use Rattle.hare_blocks.specs.Trees.{Expr, Factor, number, arg_count, variable, group, expr_tokens, factor_tokens}
-use Rattle.hare_blocks.specs.Nesting.{factor_depth, expr_depth}
+use Rattle.hare_blocks.specs.Nesting.{expr_depth}
 use Rattle.hare_blocks.specs.Parsing.{IsNoPath, IsNoTerm, Reads, IsRead, ExprNests, FactorNests}
 
 -- the tokens behind `rt::` in a factor

@@ -8,6 +8,7 @@ mod Blocks
 mod Sequences
 mod Declared
 mod Told
+mod Sources
 mod Expressions
 mod Products
 mod Factored

@@ -1,5 +1,5 @@
 -- Parentheses that are open at once in the tokens of expressions.
-use Rattle.std.proofs.Common.{◌≡◌, ℕ, ◌<◌, ◌≤◌, ◌+◌, ◌-◌, max, List, [], ◌∷◌, ◌++◌, length, get_or, drop, append_assoc, append-nil, ap, sym, ◌∙◌, arith}
+use Rattle.std.proofs.Common.{◌≡◌, ℕ, ◌<◌, ◌≤◌, ◌+◌, ◌-◌, max, List, [], ◌∷◌, ◌++◌, length, get_or, drop, append_assoc, append-nil, ◌∙◌, arith}
 use Rattle.std.proofs.lemmas.List.{at_drop_more}
 use Rattle.hare_blocks.specs.declared.token.Token.{Token}
 use Rattle.hare_blocks.specs.declared.token.Token.TheVariants as token
@@ -20,7 +20,7 @@ most_open_behind n ts i d within =
 
 -- the most that are open in a part and behind it
 mutual
-  open_expr : (e : Expr) (d : ℕ) (r : List Token) → most_open d (expr_tokens e ++ r) ≡ max (d + expr_depth e) (most_open d r)
+  pub open_expr : (e : Expr) (d : ℕ) (r : List Token) → most_open d (expr_tokens e ++ r) ≡ max (d + expr_depth e) (most_open d r)
   open_expr (sum_of t ts) d r = rw (append_assoc (term_tokens t) (terms_tokens ts) r) (omega (arith, open_term t d (terms_tokens ts ++ r), open_terms ts d r))
 
   open_terms : (ts : Terms) (d : ℕ) (r : List Token) → most_open d (terms_tokens ts ++ r) ≡ max (d + terms_depth ts) (most_open d r)

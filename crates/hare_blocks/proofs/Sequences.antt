@@ -1,12 +1,12 @@
 -- What the readers of blocks and of their statements find.
-use Rattle.std.proofs.Common.{◌≡◌, ◌≢◌, ℕ, ◌+◌, ◌-◌, ◌<◌, ◌≤◌, max, List, [], ◌∷◌, ◌++◌, length, Option, Some, None, refl, sym, ap, ◌∙◌, append_assoc, subst, arith}
+use Rattle.std.proofs.Common.{◌≡◌, ◌≢◌, ℕ, ◌+◌, ◌-◌, ◌<◌, ◌≤◌, max, List, [], ◌∷◌, ◌++◌, Option, Some, None, refl, sym, ap, ◌∙◌, append_assoc, subst, arith}
 use Rattle.hare_blocks.specs.declared.token.Token.{Token}
 use Rattle.hare_blocks.specs.declared.token.Token.TheVariants as token
 use Rattle.hare_blocks.specs.Trees.{Statement, Statements, declares, assigns, chooses, chooses_one, repeats, puts, exits, nothing, first, statement_tokens, statements_tokens}
 use Rattle.hare_blocks.specs.Class.{statement_exprs, statements_exprs, statement_blocks, statements_blocks}
 use Rattle.hare_blocks.specs.Sizes.{list_of_statements}
-use Rattle.hare_blocks.specs.Parsing.{Reads, Finds, IsRead}
-use Rattle.hare_blocks.specs.Grammar.{StatementFits, StatementsFit, BlockFits, Anything, IsEnded, block_tokens, closed_tokens}
+use Rattle.hare_blocks.specs.Parsing.{Reads, IsRead}
+use Rattle.hare_blocks.specs.Grammar.{StatementsFit, Anything, closed_tokens}
 use Rattle.hare_blocks.proofs.Simple.{ReadsStatement, IsStatementRead}
 use Rattle.hare_blocks.proofs.Blocks.{all_left, all_right, all_both, IsBlockRead}
 

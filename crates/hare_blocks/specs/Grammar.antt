@@ -4,7 +4,7 @@ use Rattle.std.specs.List.{AllByRecursion}
 use Rattle.hare_blocks.specs.declared.program.Relation as read_relation
 use Rattle.hare_blocks.specs.declared.token.Token.{Token}
 use Rattle.hare_blocks.specs.declared.token.Token.TheVariants as token
-use Rattle.hare_blocks.specs.Trees.{Expr, Condition, Statement, Statements, expr_tokens, condition_tokens, statements_tokens, in_braces, relation_token, Program, exit_of, block_of}
+use Rattle.hare_blocks.specs.Trees.{Expr, Condition, Statement, Statements, expr_tokens, condition_tokens, statements_tokens, in_braces, relation_token, file_tokens, Program, exit_of, block_of}
 use Rattle.hare_blocks.specs.Class.{AreLimited, condition_exprs, statement_exprs, statements_exprs, statement_blocks, statements_blocks}
 use Rattle.hare_blocks.specs.Shape.{relation_of}
 
@@ -64,3 +64,8 @@ IsEnded (t ∷ ts) = t ≡ token.Semicolon
 abbrev pub ProgramFits : Program → Type 0
 ProgramFits (exit_of e) = IsLimited e
 ProgramFits (block_of ss) = BlockFits 16 ss
+
+-- the tokens of a file whose program keeps these limits
+pub record IsFileOf (ts : List Token) (p : Program) : Type 0 where
+  pub spelled : ts ≡ file_tokens p
+  pub fits : ProgramFits p

@@ -1,5 +1,5 @@
 -- How deep parentheses are nested within an expression.
-use Rattle.std.specs.Prelude.{ℕ, ◌+◌, ◌≤◌, max}
+use Rattle.std.specs.Prelude.{ℕ, ◌+◌, max}
 use Rattle.hare_blocks.specs.Trees.{Expr, Terms, Term, Factors, Factor, sum_of, no_term, plus, minus, product_of, no_factor, times, number, arg_count, variable, group}
 
 abbrev mutual

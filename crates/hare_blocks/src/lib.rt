@@ -3,6 +3,7 @@
 
 mod cursor;
 mod expr;
+mod file;
 mod laws;
 mod lex;
 mod limits;
@@ -17,6 +18,7 @@ mod token;
 mod tokens;
 
 pub use expr::{Expr, Factor, Sign, SignedTerm, Term};
+pub use file::read;
 pub use laws::{law_end_is_kept, law_output_is_extended};
 pub use program::{Condition, Program, Relation, Statement, Statements};
 pub use scope::Scope;

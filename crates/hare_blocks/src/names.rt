@@ -104,7 +104,9 @@ fn statement_holds(s: &Statement, scope: &mut Scope) -> Result<bool, AllocError>
 {
     match s {
         Statement::Declare { name, value } => declare(name, value, scope),
-        Statement::Assign { name, value } => Ok(is_declared(name, scope) && expr_holds(value, scope)),
+        Statement::Assign { name, value } => Ok(
+            is_declared(name, scope) && expr_holds(value, scope),
+        ),
         Statement::If { test, body } => tested(test, body, scope),
         Statement::For { test, body } => tested(test, body, scope),
         Statement::IfElse {

@@ -71,7 +71,12 @@ pub fn test(alloc: Global, tokens: &mut Cursor) -> Result<Option<Condition>, All
 const OPENING: [Fixed; 2] = [Fixed::OpenParen, Fixed::OpenParen];
 
 // What stands behind the value of an exit.
-const CLOSING: [Fixed; 4] = [Fixed::CloseParen, Fixed::Colon, Fixed::U8, Fixed::CloseParen];
+const CLOSING: [Fixed; 4] = [
+    Fixed::CloseParen,
+    Fixed::Colon,
+    Fixed::U8,
+    Fixed::CloseParen,
+];
 
 /// Takes the value of an exit, with the parentheses and the cast round it.
 pub fn status(alloc: Global, tokens: &mut Cursor) -> Result<Option<Expr>, AllocError>

@@ -35,7 +35,11 @@ pub fn expr(alloc: Global, tokens: &mut Cursor, depth: u32) -> Result<Option<Exp
 
 // Takes the terms that stand behind plus and minus.
 #[cycle(expr)]
-fn further_terms(alloc: Global, tokens: &mut Cursor, depth: u32) -> Result<Option<Vec<SignedTerm>>, AllocError>
+fn further_terms(
+    alloc: Global,
+    tokens: &mut Cursor,
+    depth: u32,
+) -> Result<Option<Vec<SignedTerm>>, AllocError>
     requires { depth ≤ 64 }
     ensures { IfOk result (λ o. IsRead terms_tokens (TermsNest depth) IsNoTerm (option_map (λ v. terms_of v.items) o) tokens.old tokens.new) }
 {
@@ -66,7 +70,11 @@ fn term(alloc: Global, tokens: &mut Cursor, depth: u32) -> Result<Option<Term>, 
 
 // Takes the factors that stand behind stars.
 #[cycle(expr)]
-fn further_factors(alloc: Global, tokens: &mut Cursor, depth: u32) -> Result<Option<Vec<Factor>>, AllocError>
+fn further_factors(
+    alloc: Global,
+    tokens: &mut Cursor,
+    depth: u32,
+) -> Result<Option<Vec<Factor>>, AllocError>
     requires { depth ≤ 64 }
     ensures { IfOk result (λ o. IsRead factors_tokens (FactorsNest depth) IsNoFactor (option_map (λ v. factors_of v.items) o) tokens.old tokens.new) }
 {
@@ -120,7 +128,12 @@ fn group(alloc: Global, tokens: &mut Cursor, depth: u32) -> Result<Option<Factor
 const ARG_COUNT: [Fixed; 3] = [Fixed::ArgCount, Fixed::OpenParen, Fixed::CloseParen];
 
 // A factor that begins with a name: a variable, or the number of arguments.
-fn named(alloc: Global, tokens: &mut Cursor, name: &Word, depth: u32) -> Result<Option<Factor>, AllocError>
+fn named(
+    alloc: Global,
+    tokens: &mut Cursor,
+    name: &Word,
+    depth: u32,
+) -> Result<Option<Factor>, AllocError>
     requires { depth ≤ 64 }
     ensures { IfOk result (λ o. IsRead factor_tokens (FactorNests depth) IsNoPath (option_map factor_of o) (token.Name name.now ∷ tokens.old) tokens.new) }
 {

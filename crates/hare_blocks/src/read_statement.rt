@@ -19,7 +19,11 @@ use std::alloc::{AllocError, Global};
 
 /// Takes a block, within which `left` blocks may be open at once, itself included.
 #[cycle(statement)]
-pub fn block(alloc: Global, tokens: &mut Cursor, left: u32) -> Result<Option<Statements>, AllocError>
+pub fn block(
+    alloc: Global,
+    tokens: &mut Cursor,
+    left: u32,
+) -> Result<Option<Statements>, AllocError>
     ensures { IfOk result (λ o. IsRead block_tokens (BlockFits left) Anything (option_map list_of_statements o) tokens.old tokens.new) }
 {
     if left == 0 {
@@ -33,7 +37,11 @@ pub fn block(alloc: Global, tokens: &mut Cursor, left: u32) -> Result<Option<Sta
 
 // Takes the statements of a block and the brace that closes it.
 #[cycle(statement)]
-fn statements(alloc: Global, tokens: &mut Cursor, left: u32) -> Result<Option<Statements>, AllocError>
+fn statements(
+    alloc: Global,
+    tokens: &mut Cursor,
+    left: u32,
+) -> Result<Option<Statements>, AllocError>
     ensures { IfOk result (λ o. IsRead closed_tokens (StatementsFit left) Anything (option_map list_of_statements o) tokens.old tokens.new) }
 {
     let mut found = Statements::new(alloc);
@@ -92,7 +100,11 @@ fn choice(alloc: Global, tokens: &mut Cursor, left: u32) -> Result<Option<Statem
 
 // Takes what stands behind `for`.
 #[cycle(statement)]
-fn repetition(alloc: Global, tokens: &mut Cursor, left: u32) -> Result<Option<Statement>, AllocError>
+fn repetition(
+    alloc: Global,
+    tokens: &mut Cursor,
+    left: u32,
+) -> Result<Option<Statement>, AllocError>
     ensures { IfOk result (λ o. IsRead statement_tokens (StatementFits left) IsEnded (option_map statement_of o) (token.For ∷ tokens.old) tokens.new) }
 {
     let Some(test) = test(alloc, tokens)? else {
@@ -105,7 +117,11 @@ fn repetition(alloc: Global, tokens: &mut Cursor, left: u32) -> Result<Option<St
 }
 
 // Takes what stands behind `let`.
-fn declaration(alloc: Global, tokens: &mut Cursor, left: u32) -> Result<Option<Statement>, AllocError>
+fn declaration(
+    alloc: Global,
+    tokens: &mut Cursor,
+    left: u32,
+) -> Result<Option<Statement>, AllocError>
     ensures { IfOk result (λ o. IsRead statement_tokens (StatementFits left) IsEnded (option_map statement_of o) (token.Let ∷ tokens.old) tokens.new) }
 {
     let Some(name) = tokens.takes_name() else {
@@ -122,7 +138,12 @@ fn declaration(alloc: Global, tokens: &mut Cursor, left: u32) -> Result<Option<S
 }
 
 // Takes what stands behind a name at the front of a statement.
-fn named(alloc: Global, tokens: &mut Cursor, name: &Word, left: u32) -> Result<Option<Statement>, AllocError>
+fn named(
+    alloc: Global,
+    tokens: &mut Cursor,
+    name: &Word,
+    left: u32,
+) -> Result<Option<Statement>, AllocError>
     ensures { IfOk result (λ o. IsRead statement_tokens (StatementFits left) IsEnded (option_map statement_of o) (token.Name name.now ∷ tokens.old) tokens.new) }
 {
     if tokens.takes(Fixed::Assign) {
@@ -138,7 +159,12 @@ fn named(alloc: Global, tokens: &mut Cursor, name: &Word, left: u32) -> Result<O
 }
 
 // Takes what stands behind a name and `=`.
-fn assignment(alloc: Global, tokens: &mut Cursor, name: &Word, left: u32) -> Result<Option<Statement>, AllocError>
+fn assignment(
+    alloc: Global,
+    tokens: &mut Cursor,
+    name: &Word,
+    left: u32,
+) -> Result<Option<Statement>, AllocError>
     ensures { IfOk result (λ o. IsRead statement_tokens (StatementFits left) IsEnded (option_map statement_of o) (token.Name name.now ∷ token.Assign ∷ tokens.old) tokens.new) }
 {
     let Some(value) = outer_expr(alloc, tokens)? else {

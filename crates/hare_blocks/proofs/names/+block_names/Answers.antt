@@ -1,7 +1,6 @@
-use Rattle.std.proofs.Common.{◌≡◌, ◌<◌, ◌++◌, ◌∷◌, [], length, sym, ap, ◌∙◌, append_assoc, arith}
+use Rattle.std.proofs.Common.{◌<◌, ◌++◌, ◌∷◌, [], length, sym, ap, ◌∙◌, append_assoc, arith}
 use Rattle.std.proofs.lemmas.Result.{IfOk-weaker}
 use Rattle.hare_blocks.specs.Names.{names_of}
-use Rattle.hare_blocks.specs.Sizes.{list_of_statements}
 use Rattle.hare_blocks.specs.Shape.{statement_of}
 use Rattle.hare_blocks.proofs.Declared.{next_statement}
 use Rattle.hare_blocks.proofs.names.+block_names.Goals as goal

@@ -1,4 +1,4 @@
-use Rattle.std.proofs.Common.{◌≡◌, sym, ◌∙◌, ap, refl, subst, take}
+use Rattle.std.proofs.Common.{◌≡◌, sym, refl, subst}
 use Rattle.hare_blocks.specs.Trees.{expr_tokens}
 use Rattle.hare_blocks.specs.Class.{AreLimited}
 use Rattle.hare_blocks.proofs.Conditions.{outer_none, outer_unlimited, outer_read, taken}

@@ -1,4 +1,4 @@
-use Rattle.std.proofs.Common.{◌∙◌, refl}
+use Rattle.std.proofs.Common.{◌∙◌}
 use Rattle.hare_blocks.proofs.Simple.{assign_no_value, assign_read}
 use Rattle.hare_blocks.proofs.read_statement.assignment.Goals as goal
 

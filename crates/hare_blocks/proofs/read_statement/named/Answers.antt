@@ -1,4 +1,4 @@
-use Rattle.std.proofs.Common.{◌∙◌, refl}
+use Rattle.std.proofs.Common.{refl}
 use Rattle.hare_blocks.proofs.Simple.{name_alone, name_of_other}
 use Rattle.hare_blocks.proofs.read_statement.named.Goals as goal
 
