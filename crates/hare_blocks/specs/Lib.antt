@@ -1,5 +1,17 @@
 pub mod Tokens
 pub mod Trees
+pub mod Sizes
+pub mod Codes
+pub mod Shape
+pub mod Falls
 pub mod Class
+pub mod Lexing
+pub mod Found
+pub mod Names
+pub mod Nesting
+pub mod Parsing
+pub mod Grammar
+pub mod Scopes
+pub mod ScopeParts
 pub mod Evaluation
 pub mod Laws
