@@ -1,1 +1,5 @@
 mod Rows
+pub mod Runs
+pub mod Scopes
+pub mod Pieces
+pub mod Values
