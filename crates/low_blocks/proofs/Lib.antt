@@ -3,3 +3,5 @@ pub mod Runs
 pub mod Scopes
 pub mod Pieces
 pub mod Values
+pub mod Tests
+pub mod Meets

@@ -54,7 +54,7 @@ module _ (p : FlatProgram) (n : ℕ) (less : Less) where
     abbrev pub Ready : State → Type 0
     Ready s = Holds scope vs s × (s.world.arguments ≡ args)
 
-    ready_on : (s s' : State) (t : ℕ) → bound ≤ t → Ready s → s'.world ≡ s.world → Keeps t s s' → Ready s'
+    pub ready_on : (s s' : State) (t : ℕ) → bound ≤ t → Ready s → s'.world ≡ s.world → Keeps t s s' → Ready s'
     ready_on s s' t le r w k = (holds_kept bound scope vs s s' below (λ u l m. k u l (omega arith)) r.0, ap (λ (x : World). x.arguments) w ∙ r.1)
 
     nargs_gives : (t : ℕ) (s : State) → bound ≤ t → Ready s → Gives s (factor_piece scope t arg_count) (args % 2 ^ 64) t
