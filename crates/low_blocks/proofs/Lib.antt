@@ -5,3 +5,7 @@ pub mod Pieces
 pub mod Values
 pub mod Tests
 pub mod Meets
+pub mod Sites
+pub mod Texts
+pub mod Branches
+pub mod Same
