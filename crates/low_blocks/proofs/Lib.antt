@@ -9,3 +9,4 @@ pub mod Sites
 pub mod Texts
 pub mod Branches
 pub mod Same
+pub mod Start
