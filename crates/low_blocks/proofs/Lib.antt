@@ -10,3 +10,4 @@ pub mod Texts
 pub mod Branches
 pub mod Same
 pub mod Start
+pub mod Whole

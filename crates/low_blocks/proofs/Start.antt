@@ -2,10 +2,12 @@
 use Rattle.std.proofs.Common.{◌≡◌, ◌≢◌, ℕ, zero, suc, ◌+◌, ◌-◌, ◌*◌, ◌/◌, ◌^◌, ◌<◌, ◌≤◌, Bool, true, false, List, [], ◌∷◌, ◌++◌, length, Option, Some, None, refl, sym, ap, ◌∙◌, subst, arith, ◌⊎◌, inl, inr}
 use Rattle.std.specs.Prelude.{max, sum_by, flat_map, slice_index_or, if◌then◌else◌}
 use Rattle.std.proofs.lemmas.List.{append-nil}
+use Rattle.std.proofs.lemmas.List.Sums.{sum_by-cons}
 use Rattle.hx_base.specs.Memory.{Memory, round_up, in_range, byte_at, is_mapped, all_mapped, bytes_at, write, map_range, empty_memory}
 use Rattle.hx_base.specs.Runtime.{arguments_start, record_size, argument_size, argument_records, write_arguments, with_arguments}
-use Rattle.hx_base.proofs.MemoryLemmas.{in_range-inside, byte_at-write_outside, all_mapped-from, bytes_at-same, bytes_at-write}
+use Rattle.hx_base.proofs.MemoryLemmas.{in_range-inside, byte_at-write_outside, all_mapped-from, all_mapped-each, bytes_at-same, bytes_at-write}
 use Rattle.flat_code.specs.declared.program.Data.{Data}
+use Rattle.flat_code.specs.declared.program.FlatFn.{FlatFn}
 use Rattle.flat_code.specs.declared.program.FlatProgram.{FlatProgram}
 use Rattle.flat_code.specs.Addresses.{data_start, item_size, item_bytes, data_size, addresses_from, addresses, address_at, with_global, with_globals, start_memory}
 use Rattle.low_blocks.specs.Programs.{text_items, text_global, text_globals}
@@ -90,3 +92,29 @@ module _ (p : FlatProgram) where
         let s : a < at + data_size (text_global i t) = omega (arith, text_size t) in
         rw (in_range-inside at (data_size (text_global i t)) a l s) refl),
       rw (text_bytes p t) (bytes_at-write m at t))
+
+  -- the strings are there in each memory that goes on from that with their globals
+  texts_there : (m : Memory) (at i : ℕ) (ts : List (List ℕ)) → ((k : ℕ) → slice_index_or (addresses p) (i + k) ([], 0) ≡ slice_index_or (addresses_from at (text_globals i ts)) k ([], 0)) → at + texts_size ts ≤ arguments_start →
+      (m' : Memory) → Stays (with_globals p m at (text_globals i ts)) m' arguments_start → AreTexts p m' i ts
+  texts_there m at i [] places fits m' stays = tt
+  texts_there m at i (t ∷ ts) places fits m' stays =
+      let e = round_one at in
+      let next = round_up at 1 + data_size (text_global i t) in
+      let size : next ≡ at + argument_size t = omega (arith, e, text_size t) in
+      let split : texts_size (t ∷ ts) ≡ argument_size t + texts_size ts = sum_by-cons argument_size t ts in
+      let m1 = with_text m at i t in
+      let there = text_there m at i t in
+      let rest = globals_stay m1 next (suc i) ts in
+      let first : address_at p i ≡ at = (let z : i + 0 ≡ i = omega arith in subst (λ x. (slice_index_or (addresses p) x ([], 0)).1 ≡ round_up at 1) z (ap (λ x. x.1) (places 0))) ∙ e in
+      let mapped : all_mapped m' at (length t) ≡ true = all_mapped-from m' at (length t) (λ a l u. stays.mapped a (rest.mapped a (all_mapped-each m1 at (length t) a there.0 l u))) in
+      let bytes : bytes_at m' at (length t) ≡ t = bytes_at-same m1 m' at (length t) (λ a l u. stays.bytes a (omega (arith, fits, split, u)) ∙ rest.bytes a (omega (arith, size, u))) ∙ there.1 in
+      (record { mapped = rw first mapped; bytes = rw first bytes; address = omega (arith, fits, split, first); short = omega (arith, fits, split) },
+       texts_there m1 next (suc i) ts (λ k. let s : suc i + k ≡ i + suc k = omega arith in ap (λ x. slice_index_or (addresses p) x ([], 0)) s ∙ places (suc k)) (omega (arith, fits, split, size)) m' stays)
+
+-- the memory with which a program with these globals begins has the strings
+pub start_texts : (functions : List FlatFn) (ts : List (List ℕ)) (fill : ℕ) (args : List (List ℕ)) → data_start + texts_size ts ≤ arguments_start →
+    let p : FlatProgram = record { functions = functions; globals = text_globals 0 ts } in AreTexts p (start_memory fill p args) 0 ts
+start_texts functions ts fill args fits =
+    let p : FlatProgram = record { functions = functions; globals = text_globals 0 ts } in
+    let m = with_globals p (empty_memory fill) data_start p.globals in
+    texts_there p (empty_memory fill) data_start 0 ts (λ k. let z : 0 + k ≡ k = omega arith in ap (λ x. slice_index_or (addresses p) x ([], 0)) z) fits (start_memory fill p args) (table_stays m args)
