@@ -11,3 +11,4 @@ pub mod Branches
 pub mod Same
 pub mod Start
 pub mod Whole
+pub mod Plain

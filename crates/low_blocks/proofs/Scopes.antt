@@ -91,6 +91,15 @@ place_below t u x (y ∷ ys) b e = pick (bytes_eq y.0 x) refl (place_below y.1 u
     pick true f on = let g : place_of x (y ∷ ys) ≡ Some y.1 = rw f refl in let k : y.1 ≡ u = cc in omega (arith, b.1)
     pick false f on = let g : place_of x (y ∷ ys) ≡ place_of x ys = rw f refl in omega (arith, b.1, on (sym g ∙ e))
 
+-- and none is that of tests
+pub place_above : (t u : ℕ) (x : List ℕ) (scope : Scope) → Below t scope → place_of x scope ≡ Some u → 0 < u
+place_above t u x [] b e = absurd (cc)
+place_above t u x (y ∷ ys) b e = pick (bytes_eq y.0 x) refl (place_above y.1 u x ys b.2)
+  where
+    pick : (c : Bool) → bytes_eq y.0 x ≡ c → (place_of x ys ≡ Some u → 0 < u) → 0 < u
+    pick true f on = let g : place_of x (y ∷ ys) ≡ Some y.1 = rw f refl in let k : y.1 ≡ u = cc in omega (arith, b.0)
+    pick false f on = let g : place_of x (y ∷ ys) ≡ place_of x ys = rw f refl in on (sym g ∙ e)
+
 -- the temporary of the variable gets the value, and no other changes
 pub holds_assigned : (t u : ℕ) (x : List ℕ) (n : ℕ) (scope : Scope) (vs : Variables) (s s' : State) → Below t scope → Holds scope vs s → place_of x scope ≡ Some u → n < 2 ^ 64 → temp_of s' u ≡ n → ((w : ℕ) → u ≢ w → temp_of s' w ≡ temp_of s w) → Holds scope (assigned x n vs) s'
 holds_assigned t u x n [] vs s s' b h e f same other = absurd (cc)
