@@ -12,3 +12,7 @@ pub mod Same
 pub mod Start
 pub mod Whole
 pub mod Plain
+pub mod Nests
+pub mod Rights
+pub mod RightStatements
+pub mod Sources

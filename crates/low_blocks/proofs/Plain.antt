@@ -27,7 +27,7 @@ pub or_assoc : (a b c : Bool) → (a || (b || c)) ≡ ((a || b) || c)
 or_assoc true b c = refl
 or_assoc false b c = refl
 
-and_assoc : (a b c : Bool) → (a && (b && c)) ≡ ((a && b) && c)
+pub and_assoc : (a b c : Bool) → (a && (b && c)) ≡ ((a && b) && c)
 and_assoc true b c = refl
 and_assoc false b c = refl
 
@@ -144,7 +144,7 @@ module _ (scope : Scope) (bound : ℕ) (pos : 0 < bound) (below : Below bound sc
 or_both : (a b : Bool) → a ≡ false → b ≡ false → (a || b) ≡ false
 or_both a b h k = rw (h, k) refl
 
-and_both : (a b : Bool) → a ≡ true → b ≡ true → (a && b) ≡ true
+pub and_both : (a b : Bool) → a ≡ true → b ≡ true → (a && b) ≡ true
 and_both a b h k = rw (h, k) refl
 
 plain_if : (v : Value) (does other : List Code) → IsPlain (codes_of does) → IsPlain (codes_of other) → IsPlain (more (If v (seq does) (seq other)) none)

@@ -83,9 +83,9 @@ assigned_nowhere x n (y ∷ ys) (v ∷ vs) s h e = pick (bytes_eq v.0 x) refl (a
         rw f (ap (λ w. v ∷ w) (on (sym g ∙ e)))
 
 -- a place is one of those of the scope
-place_below : (t u : ℕ) (x : List ℕ) (scope : Scope) → Below t scope → place_of x scope ≡ Some u → u < t
-place_below t u x [] b e = absurd (cc)
-place_below t u x (y ∷ ys) b e = pick (bytes_eq y.0 x) refl (place_below y.1 u x ys b.2)
+pub place_under : (t u : ℕ) (x : List ℕ) (scope : Scope) → Below t scope → place_of x scope ≡ Some u → u < t
+place_under t u x [] b e = absurd (cc)
+place_under t u x (y ∷ ys) b e = pick (bytes_eq y.0 x) refl (place_under y.1 u x ys b.2)
   where
     pick : (c : Bool) → bytes_eq y.0 x ≡ c → (place_of x ys ≡ Some u → u < y.1) → u < t
     pick true f on = let g : place_of x (y ∷ ys) ≡ Some y.1 = rw f refl in let k : y.1 ≡ u = cc in omega (arith, b.1)
@@ -114,7 +114,7 @@ holds_assigned t u x n (y ∷ ys) (v ∷ vs) s s' b h e f same other = pick (byt
         rw g (h.0 ∙ name, ap (temp_of s') at ∙ same, f, holds_kept y.1 ys vs s s' b.2 (λ w l m. other w (λ i. omega arith)) h.3)
     pick false g on =
         let k : place_of x (y ∷ ys) ≡ place_of x ys = rw (h.0, g) refl in
-        let le = place_below y.1 u x ys b.2 (sym k ∙ e) in
+        let le = place_under y.1 u x ys b.2 (sym k ∙ e) in
         rw g (h.0, other y.1 (λ i. omega arith) ∙ h.1, h.2, on (sym k ∙ e))
 
 -- ---- ends of blocks
