@@ -16,3 +16,6 @@ pub mod Nests
 pub mod Rights
 pub mod RightStatements
 pub mod Sources
+pub mod Globals
+pub mod WellFormed
+pub mod Loops
