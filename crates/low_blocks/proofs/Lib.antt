@@ -19,3 +19,6 @@ pub mod Sources
 pub mod Globals
 pub mod WellFormed
 pub mod Loops
+pub mod Drafts
+pub mod Kids
+pub mod Lowered

@@ -11,9 +11,10 @@ use Rattle.hare_blocks.specs.Tokens.{IsSpelling, Spells}
 use Rattle.hare_blocks.specs.Trees.{Expr, Condition, Relation, Statement, Statements, declares, assigns, chooses, chooses_one, repeats, puts, exits, nothing, first, Program, exit_of, block_of, runtime_tokens, condition_tokens, expr_tokens, exit_tokens, head_tokens, in_braces, statement_tokens, statements_tokens, body_tokens, front_tokens, file_tokens}
 use Rattle.hare_blocks.specs.Class.{statements_blocks, IsSource}
 use Rattle.low_blocks.specs.Statements.{statement_texts, statements_texts}
-use Rattle.low_blocks.specs.Programs.{body_of, program_texts}
+use Rattle.low_blocks.specs.Programs.{body_of, program_texts, lowered}
 use Rattle.low_blocks.proofs.Start.{texts_size}
-use Rattle.low_blocks.proofs.Whole.{HasFewTexts}
+use Rattle.low_blocks.specs.Agreement.{DoesTheSame}
+use Rattle.low_blocks.proofs.Whole.{HasFewTexts, does_the_same}
 
 -- how many bytes a token takes at least: a string its quotes and its characters
 abbrev token_size : Token → ℕ
@@ -85,3 +86,6 @@ source_blocks text (block_of ss) h = omega (arith, h.of_class.blocks)
 
 pub source_few : (text : List ℕ) (p : Program) → IsSource text p → HasFewTexts p
 source_few text p h = omega (arith, source_texts text p h)
+
+pub source_same : (text : List ℕ) (p : Program) → IsSource text p → DoesTheSame p (lowered p)
+source_same text p h = does_the_same p (source_few text p h)

@@ -68,14 +68,18 @@ abbrev mutual
 abbrev pub test_temp : ℕ
 test_temp = 0
 
+-- what a comparison sets it to
+abbrev pub test : Op → (a b : Value) → Code
+test op a b = Set test_temp W op a b
+
 -- how two operands are compared: where the relation is turned round, so are they
 abbrev pub comparison : Relation → (a b : Value) → Code
-comparison less a b = Set test_temp W Cultl a b
-comparison less_equal a b = Set test_temp W Culel a b
-comparison greater a b = Set test_temp W Cultl b a
-comparison greater_equal a b = Set test_temp W Culel b a
-comparison equal a b = Set test_temp W Ceql a b
-comparison differ a b = Set test_temp W Cnel a b
+comparison less a b = test Cultl a b
+comparison less_equal a b = test Culel a b
+comparison greater a b = test Cultl b a
+comparison greater_equal a b = test Culel b a
+comparison equal a b = test Ceql a b
+comparison differ a b = test Cnel a b
 
 -- a comparison of what two pieces give, of which the second stands behind the first
 abbrev pub compared : Relation → Piece → Piece → Piece

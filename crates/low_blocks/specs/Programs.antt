@@ -7,6 +7,7 @@ use Rattle.flat_code.specs.declared.program.FlatFn.{FlatFn}
 use Rattle.flat_code.specs.declared.program.FlatProgram.{FlatProgram}
 use Rattle.flat_code.specs.declared.program.Item.{Item}
 use Rattle.flat_code.specs.declared.program.Item.TheVariants as item
+use Rattle.flat_code.specs.Code.{Code}
 use Rattle.hare_blocks.specs.Trees.{Statements, exits, nothing, first, Program, exit_of, block_of}
 use Rattle.low_blocks.specs.Expressions.{test_temp}
 use Rattle.low_blocks.specs.Statements.{Site, Lowered, statements_code, statements_texts}
@@ -47,8 +48,11 @@ abbrev pub program_texts : Program → List (List ℕ)
 program_texts p = statements_texts (body_of p)
 
 -- `main` has neither parameters nor a result. The end of its body returns, which exits with 0.
+abbrev pub main_of : List Code → ℕ → FlatFn
+main_of code temps = record { name = codes "main"; params = []; result = None; temps = temps; frame = 0; body = flat.Seq code }
+
 abbrev pub lowered_main : Lowered → FlatFn
-lowered_main body = record { name = codes "main"; params = []; result = None; temps = body.behind.next; frame = 0; body = flat.Seq body.code }
+lowered_main body = main_of body.code body.behind.next
 
 abbrev pub lowered : Program → FlatProgram
 lowered p = record { functions = lowered_main (body_code p) ∷ []; globals = text_globals 0 (program_texts p) }
