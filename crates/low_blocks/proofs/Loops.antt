@@ -5,7 +5,8 @@ use Rattle.flat_code.specs.declared.op.Op.{Op}
 use Rattle.flat_code.specs.declared.value.Value.{Value}
 use Rattle.flat_code.specs.Code.{Code, Set, codes_of}
 use Rattle.hare_blocks.specs.Trees.{Expr, Terms, Term, Factors, Factor, sum_of, no_term, plus, minus, product_of, no_factor, times, number, arg_count, variable, group, Relation, less, less_equal, greater, greater_equal, equal, differ, Condition, always, compares, Statement, Statements, declares, assigns, chooses, chooses_one, repeats, puts, exits, nothing, first, Program, exit_of, block_of}
-use Rattle.low_blocks.specs.Expressions.{Scope, place_of, Piece, operated, comparison, expr_piece, terms_piece, term_piece, factors_piece, factor_piece, condition_piece}
+use Rattle.hare_blocks.specs.Scopes.{number_of}
+use Rattle.low_blocks.specs.Expressions.{Scope, Piece, operated, comparison, expr_piece, terms_piece, term_piece, factors_piece, factor_piece, condition_piece}
 use Rattle.low_blocks.specs.Statements.{Site, past, outside, copied, seq, branch, turn, statement_code, statements_code}
 use Rattle.low_blocks.specs.Programs.{body_of, start, body_code, lowered}
 use Rattle.low_blocks.specs.Agreement.{code_loops, codes_loops, statement_fors, statements_fors, program_fors, HasItsLoops}
@@ -77,7 +78,7 @@ loops_turn (compares a r b) test body h = loops_parts test.code _ ∙ omega (ari
 mutual
   statement_loops : (site : Site) (s : Statement) → loops (statement_code site s).code ≡ statement_fors s
   statement_loops site (declares x e) = loops_parts (expr_piece site.scope site.next e).code _ ∙ omega (arith, loops_expr site.scope site.next e)
-  statement_loops site (assigns x e) = loops_parts (expr_piece site.scope site.next e).code _ ∙ omega (arith, loops_expr site.scope site.next e, loops_copied (place_of x site.scope) (expr_piece site.scope site.next e).value)
+  statement_loops site (assigns x e) = loops_parts (expr_piece site.scope site.next e).code _ ∙ omega (arith, loops_expr site.scope site.next e, loops_copied (number_of x site.scope) (expr_piece site.scope site.next e).value)
   statement_loops site (chooses c body) =
       let test = condition_piece site.scope site.next c in
       loops_branch test (statements_code (past site test.next) body).code [] (loops_condition site.scope site.next c) ∙ omega (arith, statements_loops (past site test.next) body)

@@ -13,6 +13,7 @@ use Rattle.low_blocks.specs.Statements.{Site, Lowered, past, outside, seq, branc
 use Rattle.low_blocks.specs.Programs.{text_global, text_globals}
 use Rattle.low_blocks.specs.Drafts.{piece_of, behind, IsEmptyDraft, Grows, site, Lowers, LowersBlock}
 use Rattle.low_blocks.proofs.Scopes.{Extends}
+use Rattle.low_blocks.proofs.Sites.{statements_extend}
 use Rattle.low_blocks.proofs.Globals.{length-text_globals}
 use Rattle.low_blocks.proofs.Drafts.{drop_item, drop_past}
 
@@ -32,23 +33,6 @@ globals_on g g' g'' a b e f =
     f' ∙ append_assoc g (text_globals (length g) a) _ ∙ ap (λ x. g ++ x) (sym (globals_parts (length g) a b))
 
 -- ---- scopes
-
-mutual
-  statement_extends : (s : Site) (t : Statement) → Extends s.scope (statement_code s t).behind.scope
-  statement_extends s (declares x e) = (_ ∷ [], refl)
-  statement_extends s (assigns x e) = ([], refl)
-  statement_extends s (chooses c body) = ([], refl)
-  statement_extends s (chooses_one c body other) = ([], refl)
-  statement_extends s (repeats c body) = ([], refl)
-  statement_extends s (puts text) = ([], refl)
-  statement_extends s (exits e) = ([], refl)
-
-  statements_extend : (s : Site) (ts : Statements) → Extends s.scope (statements_code s ts).behind.scope
-  statements_extend s nothing = ([], refl)
-  statements_extend s (first t ts) =
-      let x = statement_extends s t in
-      let y = statements_extend (statement_code s t).behind ts in
-      (y.0 ++ x.0, y.1 ∙ ap (λ z. y.0 ++ z) x.1 ∙ sym (append_assoc y.0 x.0 s.scope))
 
 drop_inner : (inner scope : Scope) → drop (length (inner ++ scope) - length scope) (inner ++ scope) ≡ scope
 drop_inner inner scope = (let e : length (inner ++ scope) - length scope ≡ length inner = omega (arith, length-append inner scope) in ap (λ n. drop n (inner ++ scope)) e) ∙ behind_inner inner scope

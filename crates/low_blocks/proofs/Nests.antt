@@ -8,7 +8,8 @@ use Rattle.flat_code.specs.Code.{Code, If, Loop, Leave, codes_of}
 use Rattle.flat_code.specs.WellFormed.{nests_within, each_nests_within}
 use Rattle.hare_blocks.specs.Trees.{Expr, Terms, Term, Factors, Factor, sum_of, no_term, plus, minus, product_of, no_factor, times, number, arg_count, variable, group, Relation, less, less_equal, greater, greater_equal, equal, differ, Condition, always, compares, Statement, Statements, declares, assigns, chooses, chooses_one, repeats, puts, exits, nothing, first}
 use Rattle.hare_blocks.specs.Class.{statement_blocks, statements_blocks}
-use Rattle.low_blocks.specs.Expressions.{Scope, place_of, Piece, operated, comparison, expr_piece, terms_piece, term_piece, factors_piece, factor_piece, condition_piece}
+use Rattle.hare_blocks.specs.Scopes.{number_of}
+use Rattle.low_blocks.specs.Expressions.{Scope, Piece, operated, comparison, expr_piece, terms_piece, term_piece, factors_piece, factor_piece, condition_piece}
 use Rattle.low_blocks.specs.Statements.{Site, past, outside, copied, seq, branch, turn, statement_code, statements_code}
 use Rattle.low_blocks.proofs.Plain.{and_assoc, and_both}
 
@@ -100,7 +101,7 @@ two_more n h = omega arith
 mutual
   statement_nests : (site : Site) (s : Statement) (n : ℕ) → 4 * statement_blocks s < n → Nest n (statement_code site s).code
   statement_nests site (declares x e) n l = nest_append n (expr_piece site.scope site.next e).code _ (nest_expr n (omega arith) site.scope site.next e) (nest_copied n (omega arith) (Some (expr_piece site.scope site.next e).next) (expr_piece site.scope site.next e).value)
-  statement_nests site (assigns x e) n l = nest_append n (expr_piece site.scope site.next e).code _ (nest_expr n (omega arith) site.scope site.next e) (nest_copied n (omega arith) (place_of x site.scope) (expr_piece site.scope site.next e).value)
+  statement_nests site (assigns x e) n l = nest_append n (expr_piece site.scope site.next e).code _ (nest_expr n (omega arith) site.scope site.next e) (nest_copied n (omega arith) (number_of x site.scope) (expr_piece site.scope site.next e).value)
   statement_nests site (chooses c body) n l =
       let test = condition_piece site.scope site.next c in
       let b = statements_nest (past site test.next) body (n - 2) (omega arith) in

@@ -2,7 +2,8 @@
 use Rattle.std.proofs.Common.{◌≡◌, ℕ, suc, ◌<◌, ◌≤◌, arith}
 use Rattle.flat_code.specs.declared.op.Op.{Op}
 use Rattle.hare_blocks.specs.Trees.{Expr, Terms, Term, Factors, Factor, sum_of, no_term, plus, minus, product_of, no_factor, times, number, arg_count, variable, group, Condition, always, compares}
-use Rattle.low_blocks.specs.Expressions.{Scope, place_of, held, Piece, operated, expr_piece, terms_piece, term_piece, factors_piece, factor_piece, condition_piece}
+use Rattle.hare_blocks.specs.Scopes.{number_of}
+use Rattle.low_blocks.specs.Expressions.{Scope, held, Piece, operated, expr_piece, terms_piece, term_piece, factors_piece, factor_piece, condition_piece}
 use Rattle.flat_code.specs.declared.value.Value.{Value}
 use Rattle.flat_code.specs.declared.value.Value.TheVariants.{Temp, Number, Symbol, Frame}
 use Rattle.low_blocks.proofs.Runs.{IsBelow}

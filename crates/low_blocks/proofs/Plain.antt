@@ -10,7 +10,8 @@ use Rattle.flat_code.specs.Code.{Code, Codes, none, more, Seq, Set, If, Loop, Le
 use Rattle.flat_code.specs.Temps.{same_class, code_sets, one_sets}
 use Rattle.flat_code.specs.WellFormed.{is_built, are_built}
 use Rattle.hare_blocks.specs.Trees.{Expr, Terms, Term, Factors, Factor, sum_of, no_term, plus, minus, product_of, no_factor, times, number, arg_count, variable, group, Relation, less, less_equal, greater, greater_equal, equal, differ, Condition, always, compares, Statement, Statements, declares, assigns, chooses, chooses_one, repeats, puts, exits, nothing, first}
-use Rattle.low_blocks.specs.Expressions.{Scope, place_of, Piece, operated, comparison, compared, expr_piece, terms_piece, term_piece, factors_piece, factor_piece, condition_piece}
+use Rattle.hare_blocks.specs.Scopes.{number_of}
+use Rattle.low_blocks.specs.Expressions.{Scope, Piece, operated, comparison, compared, expr_piece, terms_piece, term_piece, factors_piece, factor_piece, condition_piece}
 use Rattle.low_blocks.specs.Statements.{Site, past, outside, copied, seq, branch, turn, statement_code, statements_code}
 use Rattle.low_blocks.proofs.Scopes.{Below, place_above}
 use Rattle.low_blocks.proofs.Pieces.{IsFrom, operated_from, expr_from, term_from, factor_from, condition_grows}
@@ -160,7 +161,7 @@ plain_turn : (c : Condition) (test : Piece) (body : List Code) → IsPlain (code
 plain_turn always test body h k = plain_loop body k
 plain_turn (compares a r b) test body h k = plain_loop _ (plain_append test.code _ h (plain_leave test.value body k))
 
-plain_copied : (x : List ℕ) (site : Site) (v : Value) → IsSited site → (o : Option ℕ) → place_of x site.scope ≡ o → IsPlain (codes_of (copied o v))
+plain_copied : (x : List ℕ) (site : Site) (v : Value) → IsSited site → (o : Option ℕ) → number_of x site.scope ≡ o → IsPlain (codes_of (copied o v))
 plain_copied x site v h None e = plain_none
 plain_copied x site v h (Some t) e = plain_set t _ v _ (place_above site.next t x site.scope h.below e)
 
@@ -172,7 +173,7 @@ mutual
       plain_append v.code _ (expr_plain site.scope site.next h.some h.below site.next e (omega arith)) (plain_set v.next _ v.value _ (omega (arith, f.grows, h.some)))
   statement_plain site (assigns x e) h =
       let v = expr_piece site.scope site.next e in
-      plain_append v.code _ (expr_plain site.scope site.next h.some h.below site.next e (omega arith)) (plain_copied x site v.value h (place_of x site.scope) refl)
+      plain_append v.code _ (expr_plain site.scope site.next h.some h.below site.next e (omega arith)) (plain_copied x site v.value h (number_of x site.scope) refl)
   statement_plain site (chooses c body) h =
       let test = condition_piece site.scope site.next c in
       let b = statements_plain (past site test.next) body (sited_past site test.next h (condition_grows site.scope site.next h.some h.below site.next c (omega arith))) in

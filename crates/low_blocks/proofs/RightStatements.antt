@@ -12,7 +12,8 @@ use Rattle.flat_code.specs.Temps.{is_set}
 use Rattle.flat_code.specs.WellFormed.{deepest, is_operand, is_right}
 use Rattle.hare_blocks.specs.Trees.{Condition, always, compares, Statement, Statements, declares, assigns, chooses, chooses_one, repeats, puts, exits, nothing, first}
 use Rattle.hare_blocks.specs.Class.{statement_blocks, statements_blocks}
-use Rattle.low_blocks.specs.Expressions.{Scope, place_of, Piece, expr_piece, condition_piece}
+use Rattle.hare_blocks.specs.Scopes.{number_of}
+use Rattle.low_blocks.specs.Expressions.{Scope, Piece, expr_piece, condition_piece}
 use Rattle.low_blocks.specs.Statements.{Site, past, outside, copied, seq, branch, turn, statement_code, statements_code, statement_texts, statements_texts}
 use Rattle.low_blocks.proofs.Scopes.{place_under}
 use Rattle.low_blocks.proofs.Pieces.{expr_from, condition_grows}
@@ -45,22 +46,22 @@ module _ (globals : ℕ) (f : FlatFn) (words : (t : ℕ) → 0 < t → is_set f 
 
   -- ---- variables
 
-  set_place : (x : List ℕ) (scope : Scope) (t : ℕ) → Placed scope → place_of x scope ≡ Some t → (0 < t) × (is_set f t L ≡ true)
+  set_place : (x : List ℕ) (scope : Scope) (t : ℕ) → Placed scope → number_of x scope ≡ Some t → (0 < t) × (is_set f t L ≡ true)
   set_place x [] t h e = absurd (cc)
   set_place x (y ∷ ys) t h e = pick (bytes_eq y.0 x) refl (set_place x ys t h.2)
     where
-      pick : (b : Bool) → bytes_eq y.0 x ≡ b → (place_of x ys ≡ Some t → (0 < t) × (is_set f t L ≡ true)) → (0 < t) × (is_set f t L ≡ true)
+      pick : (b : Bool) → bytes_eq y.0 x ≡ b → (number_of x ys ≡ Some t → (0 < t) × (is_set f t L ≡ true)) → (0 < t) × (is_set f t L ≡ true)
       pick true g on =
-          let k : place_of x (y ∷ ys) ≡ Some y.1 = rw g refl in
+          let k : number_of x (y ∷ ys) ≡ Some y.1 = rw g refl in
           let i : y.1 ≡ t = cc in
           (omega (arith, h.0), ap (λ u. is_set f u L) (sym i) ∙ h.1)
-      pick false g on = let k : place_of x (y ∷ ys) ≡ place_of x ys = rw g refl in on (sym k ∙ e)
+      pick false g on = let k : number_of x (y ∷ ys) ≡ number_of x ys = rw g refl in on (sym k ∙ e)
 
   right_copy : (around t : ℕ) (v : Value) → 0 < t → t < f.temps → IsOperand globals f words longs v → Right around (Set t L Copy v (Number 0) ∷ [])
   right_copy around t v pos l h = right_one globals f words longs around (Set t L Copy v (Number 0)) (rw (long_target globals f words longs t pos l, operand_long globals f words longs v h) refl)
 
   -- a variable's temporary is one of the function's, since it stands below the next one
-  right_copied : (around : ℕ) (site : Site) (x : List ℕ) (v : Value) (o : Option ℕ) → IsSited site → site.next ≤ f.temps → Placed site.scope → place_of x site.scope ≡ o → IsOperand globals f words longs v → Right around (copied o v)
+  right_copied : (around : ℕ) (site : Site) (x : List ℕ) (v : Value) (o : Option ℕ) → IsSited site → site.next ≤ f.temps → Placed site.scope → number_of x site.scope ≡ o → IsOperand globals f words longs v → Right around (copied o v)
   right_copied around site x v None h l set e k = refl
   right_copied around site x v (Some t) h l set e k = right_copy around t v (set_place x site.scope t set e).0 (omega (arith, place_under site.next t x site.scope h.below e)) k
 
@@ -115,7 +116,7 @@ module _ (globals : ℕ) (f : FlatFn) (words : (t : ℕ) → 0 < t → is_set f 
     statement_right site (assigns x e) around h set part temps texts short deep =
         let v = expr_piece site.scope site.next e in
         let g = expr_from site.scope site.next h.some h.below site.next e (omega arith) in
-        let o = place_of x site.scope in
+        let o = number_of x site.scope in
         let r = expr_right globals f words longs site.scope site.next h.some h.below set site.next e (omega arith) (part_front globals f words longs v.code (copied o v.value) part, temps) in
         record { right = right_parts globals f words longs around v.code (copied o v.value) (r.code around) (right_copied around site x v.value o h (omega (arith, g.grows)) set refl r.value); set = set }
     statement_right site (chooses c body) around h set part temps texts short deep =

@@ -15,7 +15,8 @@ use Rattle.flat_code.specs.Kinds.{op_kind}
 use Rattle.flat_code.specs.Temps.{is_set, has_one_class, code_sets, one_sets}
 use Rattle.flat_code.specs.WellFormed.{deepest, is_operand, is_target, is_right, are_right}
 use Rattle.hare_blocks.specs.Trees.{Expr, Terms, Term, Factors, Factor, sum_of, no_term, plus, minus, product_of, no_factor, times, number, arg_count, variable, group, Relation, less, less_equal, greater, greater_equal, equal, differ, Condition, always, compares}
-use Rattle.low_blocks.specs.Expressions.{Scope, place_of, held, Piece, operated, comparison, expr_piece, terms_piece, term_piece, factors_piece, factor_piece, condition_piece}
+use Rattle.hare_blocks.specs.Scopes.{number_of}
+use Rattle.low_blocks.specs.Expressions.{Scope, held, Piece, operated, comparison, expr_piece, terms_piece, term_piece, factors_piece, factor_piece, condition_piece}
 use Rattle.low_blocks.proofs.Scopes.{Below}
 use Rattle.low_blocks.proofs.Pieces.{IsFrom, operated_from, expr_from, term_from, factor_from}
 use Rattle.low_blocks.proofs.Plain.{sets_append, and_assoc, and_both}
@@ -99,11 +100,11 @@ module _ (globals : ℕ) (f : FlatFn) (words : (t : ℕ) → 0 < t → is_set f 
   AreSet [] = Unit {0}
   AreSet (x ∷ xs) = (0 < x.1) × (is_set f x.1 L ≡ true) × AreSet xs
 
-  held_operand : (x : List ℕ) (scope : Scope) → AreSet scope → IsOperand (held (place_of x scope))
+  held_operand : (x : List ℕ) (scope : Scope) → AreSet scope → IsOperand (held (number_of x scope))
   held_operand x [] h = omega arith
   held_operand x (y ∷ ys) h = pick (bytes_eq y.0 x) refl (held_operand x ys h.2)
     where
-      pick : (b : Bool) → bytes_eq y.0 x ≡ b → IsOperand (held (place_of x ys)) → IsOperand (held (place_of x (y ∷ ys)))
+      pick : (b : Bool) → bytes_eq y.0 x ≡ b → IsOperand (held (number_of x ys)) → IsOperand (held (number_of x (y ∷ ys)))
       pick true e on = rw e (h.0, h.1)
       pick false e on = rw e on
 

@@ -17,7 +17,8 @@ use Rattle.flat_code.specs.Evaluation.{Less, acted, function_named, flat_begun, 
 use Rattle.il_emit.specs.Meaning.{il_meaning}
 use Rattle.hare_blocks.specs.Trees.{Expr, Condition, always, compares, Statement, Statements, declares, assigns, chooses, chooses_one, repeats, puts, exits, nothing, first}
 use Rattle.hare_blocks.specs.Evaluation.{Variables, assigned, value, holds, Exit, Next, Ends, State, Result, then_go, closed, statement_in, statements_in, below}
-use Rattle.low_blocks.specs.Expressions.{Scope, place_of, Piece, expr_piece, condition_piece}
+use Rattle.hare_blocks.specs.Scopes.{number_of}
+use Rattle.low_blocks.specs.Expressions.{Scope, Piece, expr_piece, condition_piece}
 use Rattle.low_blocks.specs.Statements.{Site, Lowered, past, outside, copied, seq, branch, turn, statement_code, statements_code, statement_texts, statements_texts}
 use Rattle.low_blocks.proofs.Runs.{temp_of, temp_of-same, temp_of-other, Keeps, keeps_on, set_keeps, value_of-stepped, runs, Reaches, reaches_on, reaches_set}
 use Rattle.low_blocks.proofs.Scopes.{Below, Holds, holds_kept, assigned_nowhere, holds_assigned}
@@ -26,7 +27,7 @@ use Rattle.low_blocks.proofs.Values.{Gives, Ready, expr_gives}
 use Rattle.low_blocks.proofs.Tests.{Tells, condition_tells}
 use Rattle.low_blocks.proofs.Meets.{World_after, Stands, Meets, goes_on, then_meets, turn_meets, closed_meets, then_nothing, runs_parts}
 use Rattle.low_blocks.proofs.Meets as ends
-use Rattle.low_blocks.proofs.Sites.{IsSited, IsBehind, sited_past, sited_outside, statement_behind, statements_behind}
+use Rattle.low_blocks.proofs.Sites.{statements_extend, IsSited, IsBehind, sited_past, sited_outside, statement_behind, statements_behind}
 use Rattle.low_blocks.proofs.Texts.{IsText, AreTexts, texts_front, texts_back, put_text}
 use Rattle.low_blocks.proofs.Branches.{stands_on, either_meets, caught_meets, branch_runs}
 
@@ -80,7 +81,7 @@ module _ (p : FlatProgram) (w : World) (args : ℕ) (arguments : w.arguments ≡
       })
 
   -- a variable, if there is one, gets what a piece gives
-  copied_meets : (n : ℕ) (site : Site) (x : List ℕ) (piece : Piece) (z : ℕ) (v : State) (s : flat.State) (o : Option ℕ) → IsSited site → Stands w site.scope v s → Gives p n (flat_below il_meaning p n) s piece z site.next → place_of x site.scope ≡ o →
+  copied_meets : (n : ℕ) (site : Site) (x : List ℕ) (piece : Piece) (z : ℕ) (v : State) (s : flat.State) (o : Option ℕ) → IsSited site → Stands w site.scope v s → Gives p n (flat_below il_meaning p n) s piece z site.next → number_of x site.scope ≡ o →
       Meets w site.scope (Next, record v { variables = assigned x z v.variables }) (within n (piece.code ++ copied o piece.value) s)
   copied_meets n site x piece z v s None h st g none =
       let same = assigned_nowhere x z site.scope v.variables s st.holds none in
@@ -104,7 +105,7 @@ module _ (p : FlatProgram) (w : World) (args : ℕ) (arguments : w.arguments ≡
   assigns_meets n site x e v s h st =
       let less = flat_below il_meaning p n in
       let g = expr_gives p n less args no_nargs site.scope v.variables site.next h.some h.below site.next e s (omega arith) (ready n less site v s h st) in
-      copied_meets n site x (expr_piece site.scope site.next e) (value args v.variables e) v s (place_of x site.scope) h st g refl
+      copied_meets n site x (expr_piece site.scope site.next e) (value args v.variables e) v s (number_of x site.scope) h st g refl
 
   puts_meets : (n : ℕ) (site : Site) (text : List ℕ) (v : State) (s : flat.State) → IsSited site → IsText p w.memory site.texts text → Stands w site.scope v s →
       Meets w site.scope (statement_in args n (below args n) (puts text) v) (within n (statement_code site (puts text)).code s)
@@ -169,7 +170,7 @@ module _ (p : FlatProgram) (w : World) (args : ℕ) (arguments : w.arguments ≡
       let b = statements_behind (past site piece.next) body inner in
       let loop = Loop (turn c piece low.code) in
       let m = turns_meet n site c low.code (closed v (below args (suc n) body v)) (below args (suc n) (first (repeats c body) nothing)) (flat_below il_meaning p (suc n) loop) v (stepped 1 (stepped 1 s)) h (stands_on w site.scope site.next v s (stepped 1 (stepped 1 s)) h.below (λ u l m. refl) refl st)
-          (λ s' k. closed_meets w site.scope low.behind.scope v s' _ _ b.extends k.holds (prev (past site piece.next) body v s' inner ts (record { holds = k.holds; world = k.world })))
+          (λ s' k. closed_meets w site.scope low.behind.scope v s' _ _ (statements_extend (past site piece.next) body) k.holds (prev (past site piece.next) body v s' inner ts (record { holds = k.holds; world = k.world })))
           (λ v' s' k. subst (λ r. Meets w site.scope (below args (suc n) (first (repeats c body) nothing) v') r) (then_nothing _) (prev site (first (repeats c body) nothing) v' s' h (subst (λ x. AreTexts p w.memory site.texts x) (sym (append-nil (statements_texts body))) ts) k)) in
       rw (then_nothing (flat_begun il_meaning p (suc n) (flat_below il_meaning p (suc n)) loop (stepped 1 s))) m
 
@@ -185,7 +186,7 @@ module _ (p : FlatProgram) (w : World) (args : ℕ) (arguments : w.arguments ≡
           let low = statements_code (past site piece.next) body in
           let b = statements_behind (past site piece.next) body inner in
           branch_meets n site c low.code [] (closed v (statements_in args n (below args n) body v)) (Next, v) v s h st
-            (λ s' k. closed_meets w site.scope low.behind.scope v s' _ _ b.extends k.holds (statements_meet (past site piece.next) body v s' inner ts (record { holds = k.holds; world = k.world })))
+            (λ s' k. closed_meets w site.scope low.behind.scope v s' _ _ (statements_extend (past site piece.next) body) k.holds (statements_meet (past site piece.next) body v s' inner ts (record { holds = k.holds; world = k.world })))
             (λ s' k. goes_on v s' refl refl k)
       statement_meets site (chooses_one c body other) v s h ts st =
           let piece = condition_piece site.scope site.next c in
@@ -198,8 +199,8 @@ module _ (p : FlatProgram) (w : World) (args : ℕ) (arguments : w.arguments ≡
           let low' = statements_code (outside site low.behind) other in
           let o = statements_behind (outside site low.behind) other inner' in
           branch_meets n site c low.code low'.code (closed v (statements_in args n (below args n) body v)) (closed v (statements_in args n (below args n) other v)) v s h st
-            (λ s' k. closed_meets w site.scope low.behind.scope v s' _ _ b.extends k.holds (statements_meet (past site piece.next) body v s' inner (texts_front p w.memory site.texts (statements_texts body) (statements_texts other) ts) (record { holds = k.holds; world = k.world })))
-            (λ s' k. closed_meets w site.scope low'.behind.scope v s' _ _ o.extends k.holds (statements_meet (outside site low.behind) other v s' inner' (texts_back p w.memory site.texts low.behind.texts (statements_texts body) (statements_texts other) b.counts ts) (record { holds = k.holds; world = k.world })))
+            (λ s' k. closed_meets w site.scope low.behind.scope v s' _ _ (statements_extend (past site piece.next) body) k.holds (statements_meet (past site piece.next) body v s' inner (texts_front p w.memory site.texts (statements_texts body) (statements_texts other) ts) (record { holds = k.holds; world = k.world })))
+            (λ s' k. closed_meets w site.scope low'.behind.scope v s' _ _ (statements_extend (outside site low.behind) other) k.holds (statements_meet (outside site low.behind) other v s' inner' (texts_back p w.memory site.texts low.behind.texts (statements_texts body) (statements_texts other) b.counts ts) (record { holds = k.holds; world = k.world })))
       statement_meets site (repeats c body) v s h ts st = repeats_meets n site c body v s prev h ts st
       statement_meets site (puts text) v s h ts st = puts_meets n site text v s h ts.0 st
       statement_meets site (exits e) v s h ts st = exits_meets n site e v s h st

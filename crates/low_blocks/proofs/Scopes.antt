@@ -5,7 +5,8 @@ use Rattle.std.proofs.lemmas.Slice.Eq.{bytes_eq-Decides}
 use Rattle.flat_code.specs.declared.program.FlatProgram.{FlatProgram}
 use Rattle.flat_code.specs.State.{State, value_of}
 use Rattle.hare_blocks.specs.Evaluation.{Variables, variable_value, assigned}
-use Rattle.low_blocks.specs.Expressions.{Scope, place_of, held}
+use Rattle.hare_blocks.specs.Scopes.{number_of}
+use Rattle.low_blocks.specs.Expressions.{Scope, held}
 use Rattle.low_blocks.proofs.Runs.{temp_of, Keeps, IsBelow}
 
 -- ---- where variables are
@@ -19,11 +20,11 @@ pub below_more : (t t' : ℕ) (scope : Scope) → t ≤ t' → Below t scope →
 below_more t t' [] le h = tt
 below_more t t' (x ∷ xs) le h = (h.0, omega (arith, h.1), h.2)
 
-pub held_below : (t : ℕ) (x : List ℕ) (scope : Scope) → Below t scope → IsBelow t (held (place_of x scope))
+pub held_below : (t : ℕ) (x : List ℕ) (scope : Scope) → Below t scope → IsBelow t (held (number_of x scope))
 held_below t x [] h = tt
 held_below t x (v ∷ vs) h = pick (bytes_eq v.0 x) refl (held_below t x vs (below_more v.1 t vs (omega (arith, h.1)) h.2))
   where
-    pick : (b : Bool) → bytes_eq v.0 x ≡ b → IsBelow t (held (place_of x vs)) → IsBelow t (held (place_of x (v ∷ vs)))
+    pick : (b : Bool) → bytes_eq v.0 x ≡ b → IsBelow t (held (number_of x vs)) → IsBelow t (held (number_of x (v ∷ vs)))
     pick true e on = rw e (h.0, h.1)
     pick false e on = rw e on
 
@@ -47,13 +48,13 @@ holds_kept t (x ∷ xs) [] s s' b k h = absurd h
 holds_kept t (x ∷ xs) (v ∷ vs) s s' b k h = (h.0, k x.1 b.0 b.1 ∙ h.1, h.2, holds_kept x.1 xs vs s s' b.2 (λ u l m. k u l (omega (arith, b.1))) h.3)
 
 -- a variable is read
-pub held_value : (p : FlatProgram) (x : List ℕ) (scope : Scope) (vs : Variables) (s : State) → Holds scope vs s → value_of p s (held (place_of x scope)) ≡ variable_value x vs
+pub held_value : (p : FlatProgram) (x : List ℕ) (scope : Scope) (vs : Variables) (s : State) → Holds scope vs s → value_of p s (held (number_of x scope)) ≡ variable_value x vs
 held_value p x [] [] s h = refl
 held_value p x [] (v ∷ vs) s h = absurd h
 held_value p x (y ∷ ys) [] s h = absurd h
 held_value p x (y ∷ ys) (v ∷ vs) s h = pick (bytes_eq v.0 x) refl (held_value p x ys vs s h.3)
   where
-    pick : (b : Bool) → bytes_eq v.0 x ≡ b → value_of p s (held (place_of x ys)) ≡ variable_value x vs → value_of p s (held (place_of x (y ∷ ys))) ≡ variable_value x (v ∷ vs)
+    pick : (b : Bool) → bytes_eq v.0 x ≡ b → value_of p s (held (number_of x ys)) ≡ variable_value x vs → value_of p s (held (number_of x (y ∷ ys))) ≡ variable_value x (v ∷ vs)
     pick true e on = rw (h.0, e) h.1
     pick false e on = rw (h.0, e) on
 
@@ -70,50 +71,50 @@ value_fits x (y ∷ ys) (v ∷ vs) s h = pick (bytes_eq v.0 x) refl (value_fits 
 -- ---- assignments
 
 -- no variable is assigned to where there is none with the name
-pub assigned_nowhere : (x : List ℕ) (n : ℕ) (scope : Scope) (vs : Variables) (s : State) → Holds scope vs s → place_of x scope ≡ None → assigned x n vs ≡ vs
+pub assigned_nowhere : (x : List ℕ) (n : ℕ) (scope : Scope) (vs : Variables) (s : State) → Holds scope vs s → number_of x scope ≡ None → assigned x n vs ≡ vs
 assigned_nowhere x n [] [] s h e = refl
 assigned_nowhere x n [] (v ∷ vs) s h e = absurd h
 assigned_nowhere x n (y ∷ ys) [] s h e = absurd h
 assigned_nowhere x n (y ∷ ys) (v ∷ vs) s h e = pick (bytes_eq v.0 x) refl (assigned_nowhere x n ys vs s h.3)
   where
-    pick : (b : Bool) → bytes_eq v.0 x ≡ b → (place_of x ys ≡ None → assigned x n vs ≡ vs) → assigned x n (v ∷ vs) ≡ v ∷ vs
-    pick true f on = let g : place_of x (y ∷ ys) ≡ Some y.1 = rw (h.0, f) refl in absurd (cc)
+    pick : (b : Bool) → bytes_eq v.0 x ≡ b → (number_of x ys ≡ None → assigned x n vs ≡ vs) → assigned x n (v ∷ vs) ≡ v ∷ vs
+    pick true f on = let g : number_of x (y ∷ ys) ≡ Some y.1 = rw (h.0, f) refl in absurd (cc)
     pick false f on =
-        let g : place_of x (y ∷ ys) ≡ place_of x ys = rw (h.0, f) refl in
+        let g : number_of x (y ∷ ys) ≡ number_of x ys = rw (h.0, f) refl in
         rw f (ap (λ w. v ∷ w) (on (sym g ∙ e)))
 
 -- a place is one of those of the scope
-pub place_under : (t u : ℕ) (x : List ℕ) (scope : Scope) → Below t scope → place_of x scope ≡ Some u → u < t
+pub place_under : (t u : ℕ) (x : List ℕ) (scope : Scope) → Below t scope → number_of x scope ≡ Some u → u < t
 place_under t u x [] b e = absurd (cc)
 place_under t u x (y ∷ ys) b e = pick (bytes_eq y.0 x) refl (place_under y.1 u x ys b.2)
   where
-    pick : (c : Bool) → bytes_eq y.0 x ≡ c → (place_of x ys ≡ Some u → u < y.1) → u < t
-    pick true f on = let g : place_of x (y ∷ ys) ≡ Some y.1 = rw f refl in let k : y.1 ≡ u = cc in omega (arith, b.1)
-    pick false f on = let g : place_of x (y ∷ ys) ≡ place_of x ys = rw f refl in omega (arith, b.1, on (sym g ∙ e))
+    pick : (c : Bool) → bytes_eq y.0 x ≡ c → (number_of x ys ≡ Some u → u < y.1) → u < t
+    pick true f on = let g : number_of x (y ∷ ys) ≡ Some y.1 = rw f refl in let k : y.1 ≡ u = cc in omega (arith, b.1)
+    pick false f on = let g : number_of x (y ∷ ys) ≡ number_of x ys = rw f refl in omega (arith, b.1, on (sym g ∙ e))
 
 -- and none is that of tests
-pub place_above : (t u : ℕ) (x : List ℕ) (scope : Scope) → Below t scope → place_of x scope ≡ Some u → 0 < u
+pub place_above : (t u : ℕ) (x : List ℕ) (scope : Scope) → Below t scope → number_of x scope ≡ Some u → 0 < u
 place_above t u x [] b e = absurd (cc)
 place_above t u x (y ∷ ys) b e = pick (bytes_eq y.0 x) refl (place_above y.1 u x ys b.2)
   where
-    pick : (c : Bool) → bytes_eq y.0 x ≡ c → (place_of x ys ≡ Some u → 0 < u) → 0 < u
-    pick true f on = let g : place_of x (y ∷ ys) ≡ Some y.1 = rw f refl in let k : y.1 ≡ u = cc in omega (arith, b.0)
-    pick false f on = let g : place_of x (y ∷ ys) ≡ place_of x ys = rw f refl in on (sym g ∙ e)
+    pick : (c : Bool) → bytes_eq y.0 x ≡ c → (number_of x ys ≡ Some u → 0 < u) → 0 < u
+    pick true f on = let g : number_of x (y ∷ ys) ≡ Some y.1 = rw f refl in let k : y.1 ≡ u = cc in omega (arith, b.0)
+    pick false f on = let g : number_of x (y ∷ ys) ≡ number_of x ys = rw f refl in on (sym g ∙ e)
 
 -- the temporary of the variable gets the value, and no other changes
-pub holds_assigned : (t u : ℕ) (x : List ℕ) (n : ℕ) (scope : Scope) (vs : Variables) (s s' : State) → Below t scope → Holds scope vs s → place_of x scope ≡ Some u → n < 2 ^ 64 → temp_of s' u ≡ n → ((w : ℕ) → u ≢ w → temp_of s' w ≡ temp_of s w) → Holds scope (assigned x n vs) s'
+pub holds_assigned : (t u : ℕ) (x : List ℕ) (n : ℕ) (scope : Scope) (vs : Variables) (s s' : State) → Below t scope → Holds scope vs s → number_of x scope ≡ Some u → n < 2 ^ 64 → temp_of s' u ≡ n → ((w : ℕ) → u ≢ w → temp_of s' w ≡ temp_of s w) → Holds scope (assigned x n vs) s'
 holds_assigned t u x n [] vs s s' b h e f same other = absurd (cc)
 holds_assigned t u x n (y ∷ ys) [] s s' b h e f same other = absurd h
 holds_assigned t u x n (y ∷ ys) (v ∷ vs) s s' b h e f same other = pick (bytes_eq v.0 x) refl (λ g. holds_assigned y.1 u x n ys vs s s' b.2 h.3 g f same other)
   where
-    pick : (c : Bool) → bytes_eq v.0 x ≡ c → (place_of x ys ≡ Some u → Holds ys (assigned x n vs) s') → Holds (y ∷ ys) (assigned x n (v ∷ vs)) s'
+    pick : (c : Bool) → bytes_eq v.0 x ≡ c → (number_of x ys ≡ Some u → Holds ys (assigned x n vs) s') → Holds (y ∷ ys) (assigned x n (v ∷ vs)) s'
     pick true g on =
-        let k : place_of x (y ∷ ys) ≡ Some y.1 = rw (h.0, g) refl in
+        let k : number_of x (y ∷ ys) ≡ Some y.1 = rw (h.0, g) refl in
         let at : y.1 ≡ u = cc in
         let name : v.0 ≡ x = (bytes_eq-Decides v.0 x).0 g in
         rw g (h.0 ∙ name, ap (temp_of s') at ∙ same, f, holds_kept y.1 ys vs s s' b.2 (λ w l m. other w (λ i. omega arith)) h.3)
     pick false g on =
-        let k : place_of x (y ∷ ys) ≡ place_of x ys = rw (h.0, g) refl in
+        let k : number_of x (y ∷ ys) ≡ number_of x ys = rw (h.0, g) refl in
         let le = place_under y.1 u x ys b.2 (sym k ∙ e) in
         rw g (h.0, other y.1 (λ i. omega arith) ∙ h.1, h.2, on (sym k ∙ e))
 

@@ -7,6 +7,28 @@ use Rattle.low_blocks.specs.Statements.{Site, Lowered, past, outside, statement_
 use Rattle.low_blocks.proofs.Scopes.{Below, below_more, Extends}
 use Rattle.low_blocks.proofs.Pieces.{IsFrom, expr_from, condition_grows}
 
+-- ---- scopes
+
+-- statements leave the variables that stand in front of them
+mutual
+  statement_extends : (s : Site) (t : Statement) → Extends s.scope (statement_code s t).behind.scope
+  statement_extends s (declares x e) = ((x, (expr_piece s.scope s.next e).next) ∷ [], refl)
+  statement_extends s (assigns x e) = ([], refl)
+  statement_extends s (chooses c body) = ([], refl)
+  statement_extends s (chooses_one c body other) = ([], refl)
+  statement_extends s (repeats c body) = ([], refl)
+  statement_extends s (puts text) = ([], refl)
+  statement_extends s (exits e) = ([], refl)
+
+  pub statements_extend : (s : Site) (ts : Statements) → Extends s.scope (statements_code s ts).behind.scope
+  statements_extend s nothing = ([], refl)
+  statements_extend s (first t ts) =
+      let x = statement_extends s t in
+      let y = statements_extend (statement_code s t).behind ts in
+      (y.0 ++ x.0, y.1 ∙ ap (λ z. y.0 ++ z) x.1 ∙ sym (append_assoc y.0 x.0 s.scope))
+
+-- ---- sites
+
 -- the variables have temporaries in front of the next one, and none that of tests
 pub record IsSited (site : Site) : Type 0 where
   pub some : 0 < site.next
@@ -16,11 +38,7 @@ pub record IsSited (site : Site) : Type 0 where
 pub record IsBehind (site : Site) (low : Lowered) (texts : List (List ℕ)) : Type 0 where
   pub grows : site.next ≤ low.behind.next
   pub sited : IsSited low.behind
-  pub extends : Extends site.scope low.behind.scope
   pub counts : low.behind.texts ≡ site.texts + length texts
-
-extends_on : (a b c : Scope) → Extends a b → Extends b c → Extends a c
-extends_on a b c x y = (y.0 ++ x.0, y.1 ∙ ap (λ s. y.0 ++ s) x.1 ∙ sym (append_assoc y.0 x.0 a))
 
 -- another temporary may be the next one
 pub sited_past : (site : Site) (next : ℕ) → IsSited site → site.next ≤ next → IsSited (past site next)
@@ -38,17 +56,16 @@ mutual
       record {
         grows = omega (arith, f.grows);
         sited = record { some = omega arith; below = (omega (arith, f.grows, h.some), omega arith, below_more site.next v.next site.scope f.grows h.below) };
-        extends = ((x, v.next) ∷ [], refl);
         counts = omega arith;
       }
   statement_behind site (assigns x e) h =
       let f = expr_from site.scope site.next h.some h.below site.next e (omega arith) in
-      record { grows = f.grows; sited = sited_past site _ h f.grows; extends = ([], refl); counts = omega arith }
+      record { grows = f.grows; sited = sited_past site _ h f.grows; counts = omega arith }
   statement_behind site (chooses c body) h =
       let g = condition_grows site.scope site.next h.some h.below site.next c (omega arith) in
       let b = statements_behind (past site (condition_piece site.scope site.next c).next) body (sited_past site _ h g) in
       let k : site.next ≤ (statements_code (past site (condition_piece site.scope site.next c).next) body).behind.next = omega (arith, g, b.grows) in
-      record { grows = k; sited = sited_outside site (statements_code (past site (condition_piece site.scope site.next c).next) body).behind h k; extends = ([], refl); counts = b.counts }
+      record { grows = k; sited = sited_outside site (statements_code (past site (condition_piece site.scope site.next c).next) body).behind h k; counts = b.counts }
   statement_behind site (chooses_one c body other) h =
       let g = condition_grows site.scope site.next h.some h.below site.next c (omega arith) in
       let within = (statements_code (past site (condition_piece site.scope site.next c).next) body).behind in
@@ -56,25 +73,24 @@ mutual
       let k : site.next ≤ within.next = omega (arith, g, b.grows) in
       let o = statements_behind (outside site within) other (sited_outside site within h k) in
       let l : site.next ≤ (statements_code (outside site within) other).behind.next = omega (arith, k, o.grows) in
-      record { grows = l; sited = sited_outside site (statements_code (outside site within) other).behind h l; extends = ([], refl); counts = omega (arith, b.counts, o.counts, length-append (statements_texts body) (statements_texts other)) }
+      record { grows = l; sited = sited_outside site (statements_code (outside site within) other).behind h l; counts = omega (arith, b.counts, o.counts, length-append (statements_texts body) (statements_texts other)) }
   statement_behind site (repeats c body) h =
       let g = condition_grows site.scope site.next h.some h.below site.next c (omega arith) in
       let b = statements_behind (past site (condition_piece site.scope site.next c).next) body (sited_past site _ h g) in
       let k : site.next ≤ (statements_code (past site (condition_piece site.scope site.next c).next) body).behind.next = omega (arith, g, b.grows) in
-      record { grows = k; sited = sited_outside site (statements_code (past site (condition_piece site.scope site.next c).next) body).behind h k; extends = ([], refl); counts = b.counts }
-  statement_behind site (puts text) h = record { grows = omega arith; sited = record { some = h.some; below = h.below }; extends = ([], refl); counts = omega arith }
+      record { grows = k; sited = sited_outside site (statements_code (past site (condition_piece site.scope site.next c).next) body).behind h k; counts = b.counts }
+  statement_behind site (puts text) h = record { grows = omega arith; sited = record { some = h.some; below = h.below }; counts = omega arith }
   statement_behind site (exits e) h =
       let f = expr_from site.scope site.next h.some h.below site.next e (omega arith) in
-      record { grows = f.grows; sited = sited_past site _ h f.grows; extends = ([], refl); counts = omega arith }
+      record { grows = f.grows; sited = sited_past site _ h f.grows; counts = omega arith }
 
   pub statements_behind : (site : Site) (ss : Statements) → IsSited site → IsBehind site (statements_code site ss) (statements_texts ss)
-  statements_behind site nothing h = record { grows = omega arith; sited = h; extends = ([], refl); counts = omega arith }
+  statements_behind site nothing h = record { grows = omega arith; sited = h; counts = omega arith }
   statements_behind site (first s ss) h =
       let a = statement_behind site s h in
       let b = statements_behind (statement_code site s).behind ss a.sited in
       record {
         grows = omega (arith, a.grows, b.grows);
         sited = b.sited;
-        extends = extends_on site.scope (statement_code site s).behind.scope (statements_code (statement_code site s).behind ss).behind.scope a.extends b.extends;
         counts = omega (arith, a.counts, b.counts, length-append (statement_texts s) (statements_texts ss));
       }

@@ -13,7 +13,8 @@ use Rattle.flat_code.specs.Evaluation.{Less, function_named, flat_begun, called}
 use Rattle.il_emit.specs.Meaning.{il_meaning}
 use Rattle.hare_blocks.specs.Trees.{Expr, Terms, Term, Factors, Factor, sum_of, no_term, plus, minus, product_of, no_factor, times, number, arg_count, variable, group}
 use Rattle.hare_blocks.specs.Evaluation.{Variables, variable_value, value, terms_value, term_value, factors_value, factor_value}
-use Rattle.low_blocks.specs.Expressions.{Scope, place_of, held, Piece, operated, expr_piece, terms_piece, term_piece, factors_piece, factor_piece}
+use Rattle.hare_blocks.specs.Scopes.{number_of}
+use Rattle.low_blocks.specs.Expressions.{Scope, held, Piece, operated, expr_piece, terms_piece, term_piece, factors_piece, factor_piece}
 use Rattle.low_blocks.proofs.Runs.{temp_of, temp_of-same, Keeps, keeps_on, set_keeps, IsBelow, operand_kept, value_of-stepped, Reaches, reaches_none, reaches_on, reaches_one, reaches_set}
 use Rattle.low_blocks.proofs.Scopes.{Below, Holds, holds_kept, held_value, value_fits}
 use Rattle.low_blocks.proofs.Pieces.{IsFrom, operated_from, term_from, factor_from}

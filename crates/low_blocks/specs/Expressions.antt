@@ -2,13 +2,14 @@
 --
 -- Each operation and each call of `rt::nargs` sets a temporary of its own, in the order of evaluation, from left to right. A variable is read
 -- where it is an operand: nothing in an expression changes a variable.
-use Rattle.std.specs.Prelude.{ℕ, suc, ◌^◌, ◌%◌, List, [], ◌∷◌, ◌++◌, Option, None, Some, bytes_eq, codes, if◌then◌else◌}
+use Rattle.std.specs.Prelude.{ℕ, suc, ◌^◌, ◌%◌, List, [], ◌∷◌, ◌++◌, Option, None, Some, codes}
 use Rattle.hx_base.specs.declared.Class.TheVariants.{W, L}
 use Rattle.flat_code.specs.declared.op.Op.{Op}
 use Rattle.flat_code.specs.declared.op.Op.TheVariants.{Add, Sub, Mul, Cultl, Culel, Ceql, Cnel}
 use Rattle.flat_code.specs.declared.value.Value.{Value}
 use Rattle.flat_code.specs.declared.value.Value.TheVariants.{Temp, Number}
 use Rattle.flat_code.specs.Code.{Code, Set, Call}
+use Rattle.hare_blocks.specs.Scopes.{number_of}
 use Rattle.hare_blocks.specs.Trees.{Expr, Terms, Term, Factors, Factor, sum_of, no_term, plus, minus, product_of, no_factor, times, number, arg_count, variable, group, Relation, less, less_equal, greater, greater_equal, equal, differ, Condition, always, compares}
 
 -- ---- variables
@@ -17,12 +18,7 @@ use Rattle.hare_blocks.specs.Trees.{Expr, Terms, Term, Factors, Factor, sum_of, 
 abbrev pub Scope : Type 0
 Scope = List (List ℕ × ℕ)
 
--- the temporary of the newest variable with the name, if there is one
-abbrev pub place_of : List ℕ → Scope → Option ℕ
-place_of x [] = None
-place_of x (v ∷ vs) = if bytes_eq v.0 x then Some v.1 else place_of x vs
-
--- the operand that is a variable: 0 where there is none, which no program of the class asks for
+-- the operand that is a variable, by its temporary: 0 where there is none, which no program of the class asks for
 abbrev pub held : Option ℕ → Value
 held None = Number 0
 held (Some t) = Temp t
@@ -59,7 +55,7 @@ abbrev mutual
   pub factor_piece : Scope → ℕ → Factor → Piece
   factor_piece scope t (number n) = record { code = []; value = Number (n % 2 ^ 64); next = t }
   factor_piece scope t arg_count = record { code = Call (Some t) (codes "rt.nargs") [] ∷ []; value = Temp t; next = suc t }
-  factor_piece scope t (variable x) = record { code = []; value = held (place_of x scope); next = t }
+  factor_piece scope t (variable x) = record { code = []; value = held (number_of x scope); next = t }
   factor_piece scope t (group e) = expr_piece scope t e
 
 -- ---- conditions

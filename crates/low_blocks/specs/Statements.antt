@@ -6,7 +6,8 @@ use Rattle.flat_code.specs.declared.value.Value.{Value}
 use Rattle.flat_code.specs.declared.value.Value.TheVariants.{Number, Symbol}
 use Rattle.flat_code.specs.Code.{Code, Codes, none, more, Seq, Set, If, Loop, Leave, Call, codes_of}
 use Rattle.hare_blocks.specs.Trees.{Condition, always, compares, Statement, Statements, declares, assigns, chooses, chooses_one, repeats, puts, exits, nothing, first}
-use Rattle.low_blocks.specs.Expressions.{Scope, place_of, Piece, expr_piece, condition_piece}
+use Rattle.hare_blocks.specs.Scopes.{number_of}
+use Rattle.low_blocks.specs.Expressions.{Scope, Piece, expr_piece, condition_piece}
 
 -- where a statement stands
 pub record Site : Type 0 where
@@ -53,7 +54,7 @@ abbrev mutual
       record { code = v.code ++ copied (Some v.next) v.value; behind = record { scope = (x, v.next) ∷ site.scope; next = suc v.next; texts = site.texts } }
   statement_code site (assigns x e) =
       let v = expr_piece site.scope site.next e in
-      record { code = v.code ++ copied (place_of x site.scope) v.value; behind = past site v.next }
+      record { code = v.code ++ copied (number_of x site.scope) v.value; behind = past site v.next }
   statement_code site (chooses c body) =
       let test = condition_piece site.scope site.next c in
       let b = statements_code (past site test.next) body in

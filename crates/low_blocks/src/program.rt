@@ -22,6 +22,7 @@ use std::alloc::{AllocError, Global};
 #[tactic(auto, using(crate::proofs::WellFormed::well_formed, crate::proofs::Sources::source_same, crate::proofs::Loops::has_its_loops))]
 pub fn lower(alloc: Global, p: &Program) -> Result<FlatProgram, AllocError>
     requires { (text : List ℕ) × IsSource text (program_of p.now) }
+    ensures value { IfOk result (λ f. f ≡ lowered (program_of p.now)) }
     ensures well_formed { IfOk result (λ f. IsWellFormed f) }
     ensures does { IfOk result (λ f. DoesTheSame (program_of p.now) f) }
     ensures loops { IfOk result (λ f. HasItsLoops (program_of p.now) f) }
