@@ -1,19 +1,17 @@
 -- Branches and turns of loops.
-use Rattle.std.proofs.Common.{◌≡◌, ℕ, suc, ◌<◌, Bool, true, false, cond, List, [], ◌∷◌, ◌++◌, refl, ap, ◌∙◌, arith}
+use Rattle.std.proofs.Common.{◌≡◌, ℕ, Bool, true, false, [], ◌∷◌, ◌++◌, refl, ap, ◌∙◌}
 use Rattle.std.specs.Prelude.{not, ◌==◌, if◌then◌else◌}
 use Rattle.hx_base.specs.declared.Class.TheVariants.{W}
 use Rattle.hx_base.specs.Runtime.{World}
 use Rattle.flat_code.specs.declared.program.FlatProgram.{FlatProgram}
 use Rattle.flat_code.specs.declared.value.Value.{Value}
-use Rattle.flat_code.specs.Code.{Code, If, Leave, codes_of}
+use Rattle.flat_code.specs.Code.{Code, If}
 use Rattle.flat_code.specs.State as flat
 use Rattle.flat_code.specs.State.{cut, value_of, stepped, caught, then_turn}
-use Rattle.flat_code.specs.Evaluation.{Less, flat_begun, flats_in}
+use Rattle.flat_code.specs.Evaluation.{Less, flat_begun}
 use Rattle.il_emit.specs.Meaning.{il_meaning}
-use Rattle.hare_blocks.specs.Trees.{Condition, always, compares}
-use Rattle.hare_blocks.specs.Evaluation.{Next, State, Result, then_go}
+use Rattle.hare_blocks.specs.Evaluation.{State, Result}
 use Rattle.low_blocks.specs.Expressions.{Scope, Piece}
-use Rattle.low_blocks.specs.Statements.{seq, branch, turn}
 use Rattle.low_blocks.proofs.Runs.{Keeps, runs, value_of-stepped}
 use Rattle.low_blocks.proofs.Scopes.{Below, holds_kept}
 use Rattle.low_blocks.proofs.Tests.{Tells}

@@ -1,6 +1,6 @@
 -- The globals of strings keep the rules of globals.
-use Rattle.std.proofs.Common.{◌≡◌, ◌≢◌, ℕ, suc, ◌+◌, ◌^◌, ◌<◌, ◌≤◌, Bool, true, false, ◌&&◌, List, [], ◌∷◌, ◌++◌, length, refl, sym, ap, ◌∙◌, arith}
-use Rattle.std.specs.Prelude.{codes, count_by, sum_by, nat_eq, bytes_eq, ◌==◌, if◌then◌else◌}
+use Rattle.std.proofs.Common.{◌≡◌, ◌≢◌, ℕ, suc, ◌+◌, ◌^◌, ◌<◌, ◌≤◌, Bool, true, false, List, [], ◌∷◌, length, refl, ap, ◌∙◌, arith}
+use Rattle.std.specs.Prelude.{codes, count_by, sum_by, nat_eq, bytes_eq, if◌then◌else◌}
 use Rattle.std.specs.Char.{is_ascii_digit}
 use Rattle.std.specs.Fmt.{decimal}
 use Rattle.std.specs.List.{list_all}
@@ -15,7 +15,7 @@ use Rattle.std.proofs.lemmas.Str.Parse.{IsNumeralModel, numerals_by_value, tells
 use Rattle.hx_base.specs.Runtime.{argument_size}
 use Rattle.flat_code.specs.declared.program.Data.{Data}
 use Rattle.flat_code.specs.declared.program.FlatProgram.{FlatProgram}
-use Rattle.flat_code.specs.WellFormed.{is_name_byte, is_identifier, is_symbol, is_item, is_global, global_size}
+use Rattle.flat_code.specs.WellFormed.{is_name_byte, is_symbol, is_item, is_global, global_size}
 use Rattle.il_emit.proofs.NumberedNames.{decimal_eq}
 use Rattle.low_blocks.specs.Programs.{text_name, text_items, text_global, text_globals}
 use Rattle.low_blocks.proofs.Plain.{and_both}

@@ -1,5 +1,5 @@
 -- The statements of a block, one after the other.
-use Rattle.std.proofs.Common.{◌≡◌, ℕ, zero, suc, ◌<◌, ◌≤◌, List, [], ◌∷◌, length, drop, Some, refl, arith}
+use Rattle.std.proofs.Common.{◌≡◌, ℕ, zero, suc, ◌≤◌, List, [], ◌∷◌, Some, arith}
 use Rattle.std.specs.Prelude.{slice_get}
 use Rattle.hare_blocks.specs.declared.program.Statement as read
 use Rattle.hare_blocks.specs.declared.program.Statements.TheDeep.{deep-Statement}

@@ -1,5 +1,5 @@
 -- Lowered code has as many Loops as the program has `for`.
-use Rattle.std.proofs.Common.{◌≡◌, ℕ, suc, ◌+◌, List, [], ◌∷◌, ◌++◌, Option, Some, None, refl, sym, ap, ◌∙◌, arith}
+use Rattle.std.proofs.Common.{◌≡◌, ℕ, ◌+◌, List, [], ◌∷◌, ◌++◌, Option, Some, None, refl, ◌∙◌, arith}
 use Rattle.hx_base.specs.declared.Class.TheVariants.{L}
 use Rattle.flat_code.specs.declared.op.Op.{Op}
 use Rattle.flat_code.specs.declared.value.Value.{Value}
@@ -7,7 +7,7 @@ use Rattle.flat_code.specs.Code.{Code, Set, codes_of}
 use Rattle.hare_blocks.specs.Trees.{Expr, Terms, Term, Factors, Factor, sum_of, no_term, plus, minus, product_of, no_factor, times, number, arg_count, variable, group, Relation, less, less_equal, greater, greater_equal, equal, differ, Condition, always, compares, Statement, Statements, declares, assigns, chooses, chooses_one, repeats, puts, exits, nothing, first, Program, exit_of, block_of}
 use Rattle.hare_blocks.specs.Scopes.{number_of}
 use Rattle.low_blocks.specs.Expressions.{Scope, Piece, operated, comparison, expr_piece, terms_piece, term_piece, factors_piece, factor_piece, condition_piece}
-use Rattle.low_blocks.specs.Statements.{Site, past, outside, copied, seq, branch, turn, statement_code, statements_code}
+use Rattle.low_blocks.specs.Statements.{Site, past, outside, copied, branch, turn, statement_code, statements_code}
 use Rattle.low_blocks.specs.Programs.{body_of, start, body_code, lowered}
 use Rattle.low_blocks.specs.Agreement.{code_loops, codes_loops, statement_fors, statements_fors, program_fors, HasItsLoops}
 

@@ -1,15 +1,15 @@
 -- What the parts of statements add together.
-use Rattle.std.proofs.Common.{◌≡◌, ℕ, zero, suc, ◌+◌, ◌-◌, ◌<◌, ◌≤◌, List, [], ◌∷◌, ◌++◌, length, drop, Option, Some, refl, sym, ap, ◌∙◌, subst, arith, append_assoc, length-append}
+use Rattle.std.proofs.Common.{◌≡◌, ℕ, suc, ◌+◌, ◌-◌, ◌≤◌, List, [], ◌∷◌, ◌++◌, length, drop, Some, refl, sym, ap, ◌∙◌, subst, arith, append_assoc, length-append}
 use Rattle.std.specs.Prelude.{slice_get}
 use Rattle.std.proofs.lemmas.List.{append-nil}
 use Rattle.flat_code.specs.declared.program.Data.{Data}
 use Rattle.flat_code.specs.declared.value.Value.{Value}
-use Rattle.flat_code.specs.Code.{Code, If, Loop}
-use Rattle.hare_blocks.specs.Trees.{Condition, Statement, Statements, declares, assigns, chooses, chooses_one, repeats, puts, exits, nothing, first}
+use Rattle.flat_code.specs.Code.{Code, If}
+use Rattle.hare_blocks.specs.Trees.{Condition, Statement, Statements, chooses_one, nothing, first}
 use Rattle.hare_blocks.specs.Sizes.{list_of_statements}
 use Rattle.low_blocks.specs.declared.draft.Draft.{Draft}
 use Rattle.low_blocks.specs.Expressions.{Scope, Piece, condition_piece}
-use Rattle.low_blocks.specs.Statements.{Site, Lowered, past, outside, seq, branch, turn, statement_code, statements_code, statement_texts, statements_texts}
+use Rattle.low_blocks.specs.Statements.{Site, Lowered, past, outside, seq, statement_code, statements_code, statement_texts, statements_texts}
 use Rattle.low_blocks.specs.Programs.{text_global, text_globals}
 use Rattle.low_blocks.specs.Drafts.{piece_of, behind, IsEmptyDraft, Grows, site, Lowers, LowersBlock}
 use Rattle.low_blocks.proofs.Scopes.{Extends}

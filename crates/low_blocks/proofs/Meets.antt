@@ -1,11 +1,10 @@
 -- Ends of a program and of flat code that are the same.
-use Rattle.std.proofs.Common.{◌≡◌, ℕ, ◌-◌, List, [], ◌∷◌, ◌++◌, length, drop, refl, ap, ◌∙◌, sym}
+use Rattle.std.proofs.Common.{◌≡◌, ℕ, List, [], ◌∷◌, ◌++◌, refl, ◌∙◌, sym}
 use Rattle.hx_base.specs.Runtime.{World}
 use Rattle.flat_code.specs.declared.program.FlatProgram.{FlatProgram}
-use Rattle.flat_code.specs.Code.{Code, codes_of}
+use Rattle.flat_code.specs.Code.{Code}
 use Rattle.flat_code.specs.State as flat
-use Rattle.flat_code.specs.Evaluation.{Less, flats_in}
-use Rattle.il_emit.specs.Meaning.{il_meaning}
+use Rattle.flat_code.specs.Evaluation.{Less}
 use Rattle.hare_blocks.specs.Evaluation.{Exit, Spent, Next, Ends, State, Result, then_go, closed}
 use Rattle.low_blocks.specs.Expressions.{Scope}
 use Rattle.low_blocks.proofs.Runs.{runs}

@@ -1,13 +1,12 @@
 -- Pieces of code use the temporaries from a number on, and give numbers or temporaries.
-use Rattle.std.proofs.Common.{◌≡◌, ℕ, suc, ◌<◌, ◌≤◌, arith}
+use Rattle.std.proofs.Common.{ℕ, ◌<◌, ◌≤◌, arith}
 use Rattle.flat_code.specs.declared.op.Op.{Op}
 use Rattle.hare_blocks.specs.Trees.{Expr, Terms, Term, Factors, Factor, sum_of, no_term, plus, minus, product_of, no_factor, times, number, arg_count, variable, group, Condition, always, compares}
-use Rattle.hare_blocks.specs.Scopes.{number_of}
-use Rattle.low_blocks.specs.Expressions.{Scope, held, Piece, operated, expr_piece, terms_piece, term_piece, factors_piece, factor_piece, condition_piece}
+use Rattle.low_blocks.specs.Expressions.{Scope, Piece, operated, expr_piece, terms_piece, term_piece, factors_piece, factor_piece, condition_piece}
 use Rattle.flat_code.specs.declared.value.Value.{Value}
 use Rattle.flat_code.specs.declared.value.Value.TheVariants.{Temp, Number, Symbol, Frame}
 use Rattle.low_blocks.proofs.Runs.{IsBelow}
-use Rattle.low_blocks.proofs.Scopes.{Below, below_more, held_below}
+use Rattle.low_blocks.proofs.Scopes.{Below, held_below}
 
 -- a piece whose temporaries are from `t` on, and which gives a number or a temporary in front of its next one
 pub record IsFrom (t : ℕ) (piece : Piece) : Type 0 where

@@ -1,18 +1,18 @@
 -- Lowered code sets words at the temporary of tests alone and longs at all others, and has only forms that are compiled.
-use Rattle.std.proofs.Common.{◌≡◌, ◌≢◌, ℕ, suc, ◌<◌, ◌≤◌, Bool, true, false, ◌&&◌, List, [], ◌∷◌, ◌++◌, Option, Some, None, refl, sym, ap, ◌∙◌, arith}
+use Rattle.std.proofs.Common.{◌≡◌, ◌≢◌, ℕ, ◌<◌, ◌≤◌, Bool, true, false, ◌&&◌, List, [], ◌∷◌, ◌++◌, Option, Some, None, refl, ap, ◌∙◌, arith}
 use Rattle.std.specs.Prelude.{codes, ◌||◌, ◌==◌}
 use Rattle.std.proofs.lemmas.Bool.Decides.{nat_tests}
 use Rattle.hx_base.specs.declared.Class.{Class}
 use Rattle.hx_base.specs.declared.Class.TheVariants.{W, L}
 use Rattle.flat_code.specs.declared.op.Op.{Op}
 use Rattle.flat_code.specs.declared.value.Value.{Value}
-use Rattle.flat_code.specs.Code.{Code, Codes, none, more, Seq, Set, If, Loop, Leave, Call, codes_of}
+use Rattle.flat_code.specs.Code.{Code, Codes, none, more, Set, If, Loop, Leave, Call, codes_of}
 use Rattle.flat_code.specs.Temps.{same_class, code_sets, one_sets}
 use Rattle.flat_code.specs.WellFormed.{is_built, are_built}
 use Rattle.hare_blocks.specs.Trees.{Expr, Terms, Term, Factors, Factor, sum_of, no_term, plus, minus, product_of, no_factor, times, number, arg_count, variable, group, Relation, less, less_equal, greater, greater_equal, equal, differ, Condition, always, compares, Statement, Statements, declares, assigns, chooses, chooses_one, repeats, puts, exits, nothing, first}
 use Rattle.hare_blocks.specs.Scopes.{number_of}
-use Rattle.low_blocks.specs.Expressions.{Scope, Piece, operated, comparison, compared, expr_piece, terms_piece, term_piece, factors_piece, factor_piece, condition_piece}
-use Rattle.low_blocks.specs.Statements.{Site, past, outside, copied, seq, branch, turn, statement_code, statements_code}
+use Rattle.low_blocks.specs.Expressions.{Scope, Piece, operated, comparison, expr_piece, terms_piece, term_piece, factors_piece, factor_piece, condition_piece}
+use Rattle.low_blocks.specs.Statements.{Site, past, outside, copied, seq, turn, statement_code, statements_code}
 use Rattle.low_blocks.proofs.Scopes.{Below, place_above}
 use Rattle.low_blocks.proofs.Pieces.{IsFrom, operated_from, expr_from, term_from, factor_from, condition_grows}
 use Rattle.low_blocks.proofs.Sites.{IsSited, sited_past, sited_outside, statement_behind, statements_behind}

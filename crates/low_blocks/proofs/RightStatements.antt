@@ -1,25 +1,24 @@
 -- Lowered statements keep the rules of statements.
-use Rattle.std.proofs.Common.{◌≡◌, ℕ, suc, ◌+◌, ◌*◌, ◌^◌, ◌<◌, ◌≤◌, Bool, true, false, ◌&&◌, List, [], ◌∷◌, ◌++◌, length, Option, Some, None, refl, sym, ap, ◌∙◌, arith}
-use Rattle.std.specs.Prelude.{codes, max, nat_lt, ◌||◌, bytes_eq}
-use Rattle.hx_base.specs.declared.Class.{Class}
+use Rattle.std.proofs.Common.{◌≡◌, ℕ, suc, ◌+◌, ◌*◌, ◌^◌, ◌<◌, ◌≤◌, Bool, true, false, List, [], ◌∷◌, ◌++◌, length, Option, Some, None, refl, sym, ap, ◌∙◌, arith}
+use Rattle.std.specs.Prelude.{codes, bytes_eq}
 use Rattle.hx_base.specs.declared.Class.TheVariants.{W, L}
 use Rattle.flat_code.specs.declared.op.Op.TheVariants.{Copy}
 use Rattle.flat_code.specs.declared.program.FlatFn.{FlatFn}
 use Rattle.flat_code.specs.declared.value.Value.{Value}
 use Rattle.flat_code.specs.declared.value.Value.TheVariants.{Number, Symbol}
-use Rattle.flat_code.specs.Code.{Code, Set, If, Loop, Leave, Call, codes_of}
+use Rattle.flat_code.specs.Code.{Code, Set, If, Loop, Leave, Call}
 use Rattle.flat_code.specs.Temps.{is_set}
 use Rattle.flat_code.specs.WellFormed.{deepest, is_operand, is_right}
 use Rattle.hare_blocks.specs.Trees.{Condition, always, compares, Statement, Statements, declares, assigns, chooses, chooses_one, repeats, puts, exits, nothing, first}
 use Rattle.hare_blocks.specs.Class.{statement_blocks, statements_blocks}
 use Rattle.hare_blocks.specs.Scopes.{number_of}
 use Rattle.low_blocks.specs.Expressions.{Scope, Piece, expr_piece, condition_piece}
-use Rattle.low_blocks.specs.Statements.{Site, past, outside, copied, seq, branch, turn, statement_code, statements_code, statement_texts, statements_texts}
+use Rattle.low_blocks.specs.Statements.{Site, past, outside, copied, seq, turn, statement_code, statements_code, statement_texts, statements_texts}
 use Rattle.low_blocks.proofs.Scopes.{place_under}
 use Rattle.low_blocks.proofs.Pieces.{expr_from, condition_grows}
 use Rattle.low_blocks.proofs.Sites.{IsSited, sited_past, sited_outside, statement_behind, statements_behind}
 use Rattle.low_blocks.proofs.Plain.{and_both}
-use Rattle.low_blocks.proofs.Rights.{less_true, same_number, or_left, or_right, AreRight, right_parts, right_one, IsPart, part_front, part_back, part_set, IsOperand, operand_long, operand_word, AreSet, long_target, expr_right, condition_right, IsRightTest}
+use Rattle.low_blocks.proofs.Rights.{less_true, same_number, or_left, or_right, AreRight, right_parts, right_one, IsPart, part_front, part_back, part_set, IsOperand, operand_long, operand_word, AreSet, long_target, expr_right, condition_right}
 
 -- strings whose lengths are numbers of 64 bits
 abbrev pub AreShort : List (List ℕ) → Type 0

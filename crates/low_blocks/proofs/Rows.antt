@@ -4,7 +4,7 @@ use Rattle.flat_code.specs.State as flow
 use Rattle.flat_code.specs.Run as flat
 use Rattle.flat_code.specs.State.{Flow}
 use Rattle.il_emit.specs.Meaning.{il_meaning}
-use Rattle.hare_blocks.specs.Trees.{Expr, Factor, sum_of, no_term, plus, product_of, no_factor, times, number, arg_count, variable, less, Condition, compares, Statement, declares, assigns, repeats, puts, exits, nothing, first, Program, block_of}
+use Rattle.hare_blocks.specs.Trees.{Expr, Factor, sum_of, no_term, plus, product_of, no_factor, times, number, arg_count, variable, less, compares, Statement, declares, assigns, repeats, puts, exits, nothing, first, Program, block_of}
 use Rattle.low_blocks.specs.Programs.{lowered}
 
 abbrev one : Factor → Expr

@@ -2,32 +2,31 @@
 use Rattle.std.proofs.Common.{◌≡◌, ℕ, zero, suc, ◌+◌, ◌/◌, ◌%◌, ◌^◌, ◌<◌, ◌≤◌, Bool, true, false, List, [], ◌∷◌, ◌++◌, length, Option, Some, None, refl, sym, ap, ◌∙◌, subst, arith}
 use Rattle.std.specs.Prelude.{codes, if◌then◌else◌}
 use Rattle.std.proofs.lemmas.List.{append-nil}
-use Rattle.hx_base.specs.declared.Class.TheVariants.{W, L}
+use Rattle.hx_base.specs.declared.Class.TheVariants.{L}
 use Rattle.hx_base.specs.Runtime.{World, put}
 use Rattle.hx_base.specs.Runtime as runtime
 use Rattle.flat_code.specs.declared.op.Op.TheVariants.{Copy}
 use Rattle.flat_code.specs.declared.program.FlatProgram.{FlatProgram}
-use Rattle.flat_code.specs.declared.value.Value.{Value}
 use Rattle.flat_code.specs.declared.value.Value.TheVariants.{Number, Symbol}
-use Rattle.flat_code.specs.Code.{Code, Set, Loop, Leave, If, Call, codes_of}
+use Rattle.flat_code.specs.Code.{Code, Loop, Leave, Call}
 use Rattle.flat_code.specs.Addresses.{address_at}
 use Rattle.flat_code.specs.State as flat
 use Rattle.flat_code.specs.State.{cut, temp_value, set_temp, stepped, caught, then_turn}
 use Rattle.flat_code.specs.Evaluation.{Less, acted, function_named, flat_begun, flat_below}
 use Rattle.il_emit.specs.Meaning.{il_meaning}
 use Rattle.hare_blocks.specs.Trees.{Expr, Condition, always, compares, Statement, Statements, declares, assigns, chooses, chooses_one, repeats, puts, exits, nothing, first}
-use Rattle.hare_blocks.specs.Evaluation.{Variables, assigned, value, holds, Exit, Next, Ends, State, Result, then_go, closed, statement_in, statements_in, below}
+use Rattle.hare_blocks.specs.Evaluation.{assigned, value, holds, Next, State, Result, then_go, closed, statement_in, statements_in, below}
 use Rattle.hare_blocks.specs.Scopes.{number_of}
-use Rattle.low_blocks.specs.Expressions.{Scope, Piece, expr_piece, condition_piece}
-use Rattle.low_blocks.specs.Statements.{Site, Lowered, past, outside, copied, seq, branch, turn, statement_code, statements_code, statement_texts, statements_texts}
-use Rattle.low_blocks.proofs.Runs.{temp_of, temp_of-same, temp_of-other, Keeps, keeps_on, set_keeps, value_of-stepped, runs, Reaches, reaches_on, reaches_set}
-use Rattle.low_blocks.proofs.Scopes.{Below, Holds, holds_kept, assigned_nowhere, holds_assigned}
-use Rattle.low_blocks.proofs.Pieces.{IsFrom, expr_from, condition_grows}
+use Rattle.low_blocks.specs.Expressions.{Piece, expr_piece, condition_piece}
+use Rattle.low_blocks.specs.Statements.{Site, past, outside, copied, seq, branch, turn, statement_code, statements_code, statement_texts, statements_texts}
+use Rattle.low_blocks.proofs.Runs.{temp_of-same, temp_of-other, keeps_on, set_keeps, value_of-stepped, runs, Reaches, reaches_on, reaches_set}
+use Rattle.low_blocks.proofs.Scopes.{holds_kept, assigned_nowhere, holds_assigned}
+use Rattle.low_blocks.proofs.Pieces.{expr_from, condition_grows}
 use Rattle.low_blocks.proofs.Values.{Gives, Ready, expr_gives}
-use Rattle.low_blocks.proofs.Tests.{Tells, condition_tells}
+use Rattle.low_blocks.proofs.Tests.{condition_tells}
 use Rattle.low_blocks.proofs.Meets.{World_after, Stands, Meets, goes_on, then_meets, turn_meets, closed_meets, then_nothing, runs_parts}
 use Rattle.low_blocks.proofs.Meets as ends
-use Rattle.low_blocks.proofs.Sites.{statements_extend, IsSited, IsBehind, sited_past, sited_outside, statement_behind, statements_behind}
+use Rattle.low_blocks.proofs.Sites.{statements_extend, IsSited, sited_past, sited_outside, statement_behind, statements_behind}
 use Rattle.low_blocks.proofs.Texts.{IsText, AreTexts, texts_front, texts_back, put_text}
 use Rattle.low_blocks.proofs.Branches.{stands_on, either_meets, caught_meets, branch_runs}
 
@@ -41,7 +40,7 @@ offset_fits : (v : ℕ) → v < 2 ^ 64 → ((v + 0) % 2 ^ 64) % 2 ^ 64 ≡ v
 offset_fits v h = omega arith
 
 module _ (p : FlatProgram) (w : World) (args : ℕ) (arguments : w.arguments ≡ args)
-         (no_nargs : function_named p.functions (codes "rt.nargs") ≡ None) (no_puts : function_named p.functions (codes "rt.puts") ≡ None) (no_exit : function_named p.functions (codes "rt.exit") ≡ None) where
+    (no_nargs : function_named p.functions (codes "rt.nargs") ≡ None) (no_puts : function_named p.functions (codes "rt.puts") ≡ None) (no_exit : function_named p.functions (codes "rt.exit") ≡ None) where
   -- what flat code does within so many turns
   abbrev within : ℕ → List Code → flat.State → flat.Result
   within n = runs p n (flat_below il_meaning p n)
@@ -170,8 +169,8 @@ module _ (p : FlatProgram) (w : World) (args : ℕ) (arguments : w.arguments ≡
       let b = statements_behind (past site piece.next) body inner in
       let loop = Loop (turn c piece low.code) in
       let m = turns_meet n site c low.code (closed v (below args (suc n) body v)) (below args (suc n) (first (repeats c body) nothing)) (flat_below il_meaning p (suc n) loop) v (stepped 1 (stepped 1 s)) h (stands_on w site.scope site.next v s (stepped 1 (stepped 1 s)) h.below (λ u l m. refl) refl st)
-          (λ s' k. closed_meets w site.scope low.behind.scope v s' _ _ (statements_extend (past site piece.next) body) k.holds (prev (past site piece.next) body v s' inner ts (record { holds = k.holds; world = k.world })))
-          (λ v' s' k. subst (λ r. Meets w site.scope (below args (suc n) (first (repeats c body) nothing) v') r) (then_nothing _) (prev site (first (repeats c body) nothing) v' s' h (subst (λ x. AreTexts p w.memory site.texts x) (sym (append-nil (statements_texts body))) ts) k)) in
+      (λ s' k. closed_meets w site.scope low.behind.scope v s' _ _ (statements_extend (past site piece.next) body) k.holds (prev (past site piece.next) body v s' inner ts (record { holds = k.holds; world = k.world })))
+      (λ v' s' k. subst (λ r. Meets w site.scope (below args (suc n) (first (repeats c body) nothing) v') r) (then_nothing _) (prev site (first (repeats c body) nothing) v' s' h (subst (λ x. AreTexts p w.memory site.texts x) (sym (append-nil (statements_texts body))) ts) k)) in
       rw (then_nothing (flat_begun il_meaning p (suc n) (flat_below il_meaning p (suc n)) loop (stepped 1 s))) m
 
   module _ (n : ℕ) (prev : Before n) where
@@ -186,8 +185,8 @@ module _ (p : FlatProgram) (w : World) (args : ℕ) (arguments : w.arguments ≡
           let low = statements_code (past site piece.next) body in
           let b = statements_behind (past site piece.next) body inner in
           branch_meets n site c low.code [] (closed v (statements_in args n (below args n) body v)) (Next, v) v s h st
-            (λ s' k. closed_meets w site.scope low.behind.scope v s' _ _ (statements_extend (past site piece.next) body) k.holds (statements_meet (past site piece.next) body v s' inner ts (record { holds = k.holds; world = k.world })))
-            (λ s' k. goes_on v s' refl refl k)
+          (λ s' k. closed_meets w site.scope low.behind.scope v s' _ _ (statements_extend (past site piece.next) body) k.holds (statements_meet (past site piece.next) body v s' inner ts (record { holds = k.holds; world = k.world })))
+          (λ s' k. goes_on v s' refl refl k)
       statement_meets site (chooses_one c body other) v s h ts st =
           let piece = condition_piece site.scope site.next c in
           let g = condition_grows site.scope site.next h.some h.below site.next c (omega arith) in
@@ -199,8 +198,8 @@ module _ (p : FlatProgram) (w : World) (args : ℕ) (arguments : w.arguments ≡
           let low' = statements_code (outside site low.behind) other in
           let o = statements_behind (outside site low.behind) other inner' in
           branch_meets n site c low.code low'.code (closed v (statements_in args n (below args n) body v)) (closed v (statements_in args n (below args n) other v)) v s h st
-            (λ s' k. closed_meets w site.scope low.behind.scope v s' _ _ (statements_extend (past site piece.next) body) k.holds (statements_meet (past site piece.next) body v s' inner (texts_front p w.memory site.texts (statements_texts body) (statements_texts other) ts) (record { holds = k.holds; world = k.world })))
-            (λ s' k. closed_meets w site.scope low'.behind.scope v s' _ _ (statements_extend (outside site low.behind) other) k.holds (statements_meet (outside site low.behind) other v s' inner' (texts_back p w.memory site.texts low.behind.texts (statements_texts body) (statements_texts other) b.counts ts) (record { holds = k.holds; world = k.world })))
+          (λ s' k. closed_meets w site.scope low.behind.scope v s' _ _ (statements_extend (past site piece.next) body) k.holds (statements_meet (past site piece.next) body v s' inner (texts_front p w.memory site.texts (statements_texts body) (statements_texts other) ts) (record { holds = k.holds; world = k.world })))
+          (λ s' k. closed_meets w site.scope low'.behind.scope v s' _ _ (statements_extend (outside site low.behind) other) k.holds (statements_meet (outside site low.behind) other v s' inner' (texts_back p w.memory site.texts low.behind.texts (statements_texts body) (statements_texts other) b.counts ts) (record { holds = k.holds; world = k.world })))
       statement_meets site (repeats c body) v s h ts st = repeats_meets n site c body v s prev h ts st
       statement_meets site (puts text) v s h ts st = puts_meets n site text v s h ts.0 st
       statement_meets site (exits e) v s h ts st = exits_meets n site e v s h st
@@ -213,8 +212,8 @@ module _ (p : FlatProgram) (w : World) (args : ℕ) (arguments : w.arguments ≡
           let b = statement_behind site t h in
           let m = statement_meets site t v s h (texts_front p w.memory site.texts (statement_texts t) (statements_texts ss) ts) st in
           rw (runs_parts p n (flat_below il_meaning p n) low.code (statements_code low.behind ss).code s)
-            (then_meets w low.behind.scope (statements_code low.behind ss).behind.scope _ _ (statements_in args n (below args n) ss) (within n (statements_code low.behind ss).code) m
-              (λ v' s' k. statements_meet low.behind ss v' s' b.sited (texts_back p w.memory site.texts low.behind.texts (statement_texts t) (statements_texts ss) b.counts ts) k))
+          (then_meets w low.behind.scope (statements_code low.behind ss).behind.scope _ _ (statements_in args n (below args n) ss) (within n (statements_code low.behind ss).code) m
+          (λ v' s' k. statements_meet low.behind ss v' s' b.sited (texts_back p w.memory site.texts low.behind.texts (statement_texts t) (statements_texts ss) b.counts ts) k))
 
   -- lowered statements end as the statements do
   pub all_meet : (n : ℕ) → Claim n

@@ -1,11 +1,11 @@
 -- Where statements leave those behind them.
-use Rattle.std.proofs.Common.{◌≡◌, ℕ, suc, ◌+◌, ◌<◌, ◌≤◌, List, [], ◌∷◌, ◌++◌, length, refl, sym, ap, ◌∙◌, arith, append_assoc}
+use Rattle.std.proofs.Common.{◌≡◌, ℕ, ◌+◌, ◌<◌, ◌≤◌, List, [], ◌∷◌, ◌++◌, length, refl, sym, ap, ◌∙◌, arith, append_assoc}
 use Rattle.std.proofs.lemmas.List.{length-append}
-use Rattle.hare_blocks.specs.Trees.{Condition, Statement, Statements, declares, assigns, chooses, chooses_one, repeats, puts, exits, nothing, first}
-use Rattle.low_blocks.specs.Expressions.{Scope, Piece, expr_piece, condition_piece}
+use Rattle.hare_blocks.specs.Trees.{Statement, Statements, declares, assigns, chooses, chooses_one, repeats, puts, exits, nothing, first}
+use Rattle.low_blocks.specs.Expressions.{expr_piece, condition_piece}
 use Rattle.low_blocks.specs.Statements.{Site, Lowered, past, outside, statement_code, statements_code, statement_texts, statements_texts}
 use Rattle.low_blocks.proofs.Scopes.{Below, below_more, Extends}
-use Rattle.low_blocks.proofs.Pieces.{IsFrom, expr_from, condition_grows}
+use Rattle.low_blocks.proofs.Pieces.{expr_from, condition_grows}
 
 -- ---- scopes
 

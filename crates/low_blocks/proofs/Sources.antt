@@ -1,14 +1,13 @@
 -- What the text of a file says of its program's strings and blocks.
-use Rattle.std.proofs.Common.{◌≡◌, ℕ, suc, ◌+◌, ◌*◌, ◌<◌, ◌≤◌, List, [], ◌∷◌, ◌++◌, length, refl, sym, ap, ◌∙◌, arith}
-use Rattle.std.specs.Prelude.{max, sum_by}
+use Rattle.std.proofs.Common.{ℕ, ◌+◌, ◌≤◌, List, [], ◌∷◌, ◌++◌, length, ap, arith}
+use Rattle.std.specs.Prelude.{sum_by}
 use Rattle.std.proofs.lemmas.List.{length-append}
 use Rattle.std.proofs.lemmas.List.Sums.{sum_by-cons, sum_by-append}
-use Rattle.hx_base.specs.Runtime.{argument_size, arguments_start}
-use Rattle.flat_code.specs.Addresses.{data_start}
+use Rattle.hx_base.specs.Runtime.{argument_size}
 use Rattle.hare_blocks.specs.declared.token.Token.{Token}
 use Rattle.hare_blocks.specs.declared.token.Token.TheVariants as token
 use Rattle.hare_blocks.specs.Tokens.{IsSpelling, Spells}
-use Rattle.hare_blocks.specs.Trees.{Expr, Condition, Relation, Statement, Statements, declares, assigns, chooses, chooses_one, repeats, puts, exits, nothing, first, Program, exit_of, block_of, runtime_tokens, condition_tokens, expr_tokens, exit_tokens, head_tokens, in_braces, statement_tokens, statements_tokens, body_tokens, front_tokens, file_tokens}
+use Rattle.hare_blocks.specs.Trees.{Statement, Statements, declares, assigns, chooses, chooses_one, repeats, puts, exits, nothing, first, Program, exit_of, block_of, head_tokens, in_braces, statement_tokens, statements_tokens, front_tokens, file_tokens}
 use Rattle.hare_blocks.specs.Class.{statements_blocks, IsSource}
 use Rattle.low_blocks.specs.Statements.{statement_texts, statements_texts}
 use Rattle.low_blocks.specs.Programs.{body_of, program_texts, lowered}

@@ -1,17 +1,16 @@
 -- The memory with which a lowered program begins has its strings.
-use Rattle.std.proofs.Common.{◌≡◌, ◌≢◌, ℕ, zero, suc, ◌+◌, ◌-◌, ◌*◌, ◌/◌, ◌^◌, ◌<◌, ◌≤◌, Bool, true, false, List, [], ◌∷◌, ◌++◌, length, Option, Some, None, refl, sym, ap, ◌∙◌, subst, arith, ◌⊎◌, inl, inr}
-use Rattle.std.specs.Prelude.{max, sum_by, flat_map, slice_index_or, if◌then◌else◌}
+use Rattle.std.proofs.Common.{◌≡◌, ℕ, suc, ◌+◌, ◌*◌, ◌<◌, ◌≤◌, Bool, true, false, List, [], ◌∷◌, length, refl, ap, ◌∙◌, subst, arith, inl}
+use Rattle.std.specs.Prelude.{sum_by, flat_map, slice_index_or, if◌then◌else◌}
 use Rattle.std.proofs.lemmas.List.{append-nil}
 use Rattle.std.proofs.lemmas.List.Sums.{sum_by-cons}
 use Rattle.hx_base.specs.Memory.{Memory, round_up, in_range, byte_at, is_mapped, all_mapped, bytes_at, write, map_range, empty_memory}
 use Rattle.hx_base.specs.Runtime.{arguments_start, record_size, argument_size, argument_records, write_arguments, with_arguments}
 use Rattle.hx_base.proofs.MemoryLemmas.{in_range-inside, byte_at-write_outside, all_mapped-from, all_mapped-each, bytes_at-same, bytes_at-write}
-use Rattle.flat_code.specs.declared.program.Data.{Data}
 use Rattle.flat_code.specs.declared.program.FlatFn.{FlatFn}
 use Rattle.flat_code.specs.declared.program.FlatProgram.{FlatProgram}
 use Rattle.flat_code.specs.Addresses.{data_start, item_size, item_bytes, data_size, addresses_from, addresses, address_at, with_global, with_globals, start_memory}
 use Rattle.low_blocks.specs.Programs.{text_items, text_global, text_globals}
-use Rattle.low_blocks.proofs.Texts.{IsText, AreTexts}
+use Rattle.low_blocks.proofs.Texts.{AreTexts}
 
 -- ---- strings as globals
 
@@ -64,7 +63,7 @@ table_stays m args =
     let m2 = write_arguments m1 texts args in
     let le : arguments_start ≤ texts = omega arith in
     stays_on m m1 (with_arguments m args) arguments_start arguments_start (omega arith) (write_stays m arguments_start (argument_records texts args))
-      (stays_on m1 m2 (with_arguments m args) arguments_start texts le (below_stays m1 m2 arguments_start texts le (arguments_stay m1 texts args)) (map_stays m2 arguments_start (record_size * length args + sum_by argument_size args) texts))
+    (stays_on m1 m2 (with_arguments m args) arguments_start texts le (below_stays m1 m2 arguments_start texts le (arguments_stay m1 texts args)) (map_stays m2 arguments_start (record_size * length args + sum_by argument_size args) texts))
   where
     below_stays : (m m' : Memory) (at at' : ℕ) → at ≤ at' → Stays m m' at' → Stays m m' at
     below_stays m m' at at' le h = record { bytes = λ a l. h.bytes a (omega arith); mapped = h.mapped }
@@ -88,10 +87,11 @@ module _ (p : FlatProgram) where
   -- a string that was made a global is there
   text_there : (m : Memory) (at i : ℕ) (t : List ℕ) → (all_mapped (with_text m at i t) at (length t) ≡ true) × (bytes_at (with_text m at i t) at (length t) ≡ t)
   text_there m at i t = rw (round_one at) (
-      all_mapped-from (with_global p m at (text_global i t)) at (length t) (λ a l u.
+    all_mapped-from (with_global p m at (text_global i t)) at (length t) (λ a l u.
         let s : a < at + data_size (text_global i t) = omega (arith, text_size t) in
         rw (in_range-inside at (data_size (text_global i t)) a l s) refl),
-      rw (text_bytes p t) (bytes_at-write m at t))
+    rw (text_bytes p t) (bytes_at-write m at t),
+  )
 
   -- the strings are there in each memory that goes on from that with their globals
   texts_there : (m : Memory) (at i : ℕ) (ts : List (List ℕ)) → ((k : ℕ) → slice_index_or (addresses p) (i + k) ([], 0) ≡ slice_index_or (addresses_from at (text_globals i ts)) k ([], 0)) → at + texts_size ts ≤ arguments_start →
@@ -107,9 +107,10 @@ module _ (p : FlatProgram) where
       let rest = globals_stay m1 next (suc i) ts in
       let first : address_at p i ≡ at = (let z : i + 0 ≡ i = omega arith in subst (λ x. (slice_index_or (addresses p) x ([], 0)).1 ≡ round_up at 1) z (ap (λ x. x.1) (places 0))) ∙ e in
       let mapped : all_mapped m' at (length t) ≡ true = all_mapped-from m' at (length t) (λ a l u. stays.mapped a (rest.mapped a (all_mapped-each m1 at (length t) a there.0 l u))) in
-      let bytes : bytes_at m' at (length t) ≡ t = bytes_at-same m1 m' at (length t) (λ a l u. stays.bytes a (omega (arith, fits, split, u)) ∙ rest.bytes a (omega (arith, size, u))) ∙ there.1 in
-      (record { mapped = rw first mapped; bytes = rw first bytes; address = omega (arith, fits, split, first); short = omega (arith, fits, split) },
-       texts_there m1 next (suc i) ts (λ k. let s : suc i + k ≡ i + suc k = omega arith in ap (λ x. slice_index_or (addresses p) x ([], 0)) s ∙ places (suc k)) (omega (arith, fits, split, size)) m' stays)
+      let bytes : bytes_at m' at (length t) ≡ t = bytes_at-same m1 m' at (length t) (λ a l u. stays.bytes a (omega (arith, fits, split, u)) ∙ rest.bytes a (omega (arith, size, u))) ∙ there.1 in (
+        record { mapped = rw first mapped; bytes = rw first bytes; address = omega (arith, fits, split, first); short = omega (arith, fits, split) },
+        texts_there m1 next (suc i) ts (λ k. let s : suc i + k ≡ i + suc k = omega arith in ap (λ x. slice_index_or (addresses p) x ([], 0)) s ∙ places (suc k)) (omega (arith, fits, split, size)) m' stays,
+      )
 
 -- the memory with which a program with these globals begins has the strings
 pub start_texts : (functions : List FlatFn) (ts : List (List ℕ)) (fill : ℕ) (args : List (List ℕ)) → data_start + texts_size ts ≤ arguments_start →

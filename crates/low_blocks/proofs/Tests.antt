@@ -1,8 +1,7 @@
 -- The code of a condition gives a number that is not 0 exactly where the condition holds.
-use Rattle.std.proofs.Common.{◌≡◌, ℕ, ◌+◌, ◌-◌, ◌%◌, ◌^◌, ◌<◌, ◌≤◌, Bool, true, false, List, [], ◌∷◌, ◌++◌, Option, None, refl, sym, ap, ◌∙◌, arith}
+use Rattle.std.proofs.Common.{◌≡◌, ℕ, ◌-◌, ◌^◌, ◌<◌, Bool, true, false, [], ◌∷◌, ◌++◌, None, refl, ◌∙◌, arith}
 use Rattle.std.specs.Prelude.{codes, not, nat_lt, nat_le, nat_eq, ◌==◌}
 use Rattle.hx_base.specs.declared.Class.TheVariants.{W, L}
-use Rattle.flat_code.specs.declared.op.Op.{Op}
 use Rattle.flat_code.specs.declared.op.Op.TheVariants.{Cultl, Culel, Ceql, Cnel}
 use Rattle.flat_code.specs.declared.program.FlatProgram.{FlatProgram}
 use Rattle.flat_code.specs.declared.value.Value.{Value}
@@ -11,11 +10,11 @@ use Rattle.flat_code.specs.Evaluation.{Less, function_named}
 use Rattle.il_code.specs.Operations.{truth}
 use Rattle.hare_blocks.specs.Trees.{Relation, less, less_equal, greater, greater_equal, equal, differ, Condition, always, compares}
 use Rattle.hare_blocks.specs.Evaluation.{Variables, relates, holds}
-use Rattle.low_blocks.specs.Expressions.{Scope, Piece, test_temp, comparison, compared, expr_piece, condition_piece}
+use Rattle.low_blocks.specs.Expressions.{Scope, Piece, test_temp, comparison, expr_piece, condition_piece}
 use Rattle.low_blocks.proofs.Runs.{temp_of-same, temp_of-other, Keeps, keeps_on, operand_kept, Reaches, reaches_none, reaches_on, reaches_set}
 use Rattle.low_blocks.proofs.Scopes.{Below}
 use Rattle.low_blocks.proofs.Pieces.{expr_from}
-use Rattle.low_blocks.proofs.Values.{Gives, Ready, ready_on, expr_gives}
+use Rattle.low_blocks.proofs.Values.{Ready, ready_on, expr_gives}
 
 -- ---- comparisons
 

@@ -1,5 +1,5 @@
 -- Strings that stand in memory where the program's code looks for them.
-use Rattle.std.proofs.Common.{◌≡◌, ℕ, suc, ◌+◌, ◌^◌, ◌<◌, Bool, true, List, [], ◌∷◌, ◌++◌, length, refl, ap, arith, subst}
+use Rattle.std.proofs.Common.{◌≡◌, ℕ, suc, ◌+◌, ◌^◌, ◌<◌, true, List, [], ◌∷◌, ◌++◌, length, refl, arith, subst}
 use Rattle.hx_base.specs.Memory.{Memory, all_mapped, bytes_at}
 use Rattle.hx_base.specs.Runtime.{World, Gives, put}
 use Rattle.flat_code.specs.declared.program.FlatProgram.{FlatProgram}

@@ -1,21 +1,19 @@
 -- The code of an expression gives the value of the expression.
-use Rattle.std.proofs.Common.{◌≡◌, ℕ, zero, suc, ◌+◌, ◌-◌, ◌*◌, ◌%◌, ◌^◌, ◌<◌, ◌≤◌, List, [], ◌∷◌, ◌++◌, Option, Some, None, refl, sym, ap, ◌∙◌, subst, arith}
+use Rattle.std.proofs.Common.{◌≡◌, ℕ, ◌+◌, ◌-◌, ◌*◌, ◌%◌, ◌^◌, ◌<◌, ◌≤◌, [], ◌∷◌, ◌++◌, Some, None, refl, ap, ◌∙◌, subst, arith}
 use Rattle.std.specs.Prelude.{codes}
-use Rattle.hx_base.specs.declared.Class.TheVariants.{W, L}
+use Rattle.hx_base.specs.declared.Class.TheVariants.{L}
 use Rattle.hx_base.specs.Runtime.{World}
 use Rattle.flat_code.specs.declared.op.Op.{Op}
 use Rattle.flat_code.specs.declared.op.Op.TheVariants.{Add, Sub, Mul}
 use Rattle.flat_code.specs.declared.program.FlatProgram.{FlatProgram}
-use Rattle.flat_code.specs.declared.value.Value.{Value}
-use Rattle.flat_code.specs.Code.{Code, Set, Call}
-use Rattle.flat_code.specs.State.{State, cut, value_of, set_temp, stepped, Next}
-use Rattle.flat_code.specs.Evaluation.{Less, function_named, flat_begun, called}
+use Rattle.flat_code.specs.Code.{Set, Call}
+use Rattle.flat_code.specs.State.{State, cut, value_of, set_temp, stepped}
+use Rattle.flat_code.specs.Evaluation.{Less, function_named}
 use Rattle.il_emit.specs.Meaning.{il_meaning}
 use Rattle.hare_blocks.specs.Trees.{Expr, Terms, Term, Factors, Factor, sum_of, no_term, plus, minus, product_of, no_factor, times, number, arg_count, variable, group}
-use Rattle.hare_blocks.specs.Evaluation.{Variables, variable_value, value, terms_value, term_value, factors_value, factor_value}
-use Rattle.hare_blocks.specs.Scopes.{number_of}
-use Rattle.low_blocks.specs.Expressions.{Scope, held, Piece, operated, expr_piece, terms_piece, term_piece, factors_piece, factor_piece}
-use Rattle.low_blocks.proofs.Runs.{temp_of, temp_of-same, Keeps, keeps_on, set_keeps, IsBelow, operand_kept, value_of-stepped, Reaches, reaches_none, reaches_on, reaches_one, reaches_set}
+use Rattle.hare_blocks.specs.Evaluation.{Variables, value, terms_value, term_value, factors_value, factor_value}
+use Rattle.low_blocks.specs.Expressions.{Scope, Piece, operated, expr_piece, terms_piece, term_piece, factors_piece, factor_piece}
+use Rattle.low_blocks.proofs.Runs.{temp_of-same, Keeps, keeps_on, set_keeps, IsBelow, operand_kept, Reaches, reaches_none, reaches_on, reaches_one, reaches_set}
 use Rattle.low_blocks.proofs.Scopes.{Below, Holds, holds_kept, held_value, value_fits}
 use Rattle.low_blocks.proofs.Pieces.{IsFrom, operated_from, term_from, factor_from}
 

@@ -1,22 +1,20 @@
 -- The lowered program of a file of the class is well formed.
-use Rattle.std.proofs.Common.{◌≡◌, ℕ, suc, ◌+◌, ◌*◌, ◌^◌, ◌<◌, ◌≤◌, Bool, true, false, ◌&&◌, List, [], ◌∷◌, length, refl, sym, ap, ◌∙◌, arith}
-use Rattle.std.specs.Prelude.{codes, nat_le, sum_by, ◌==◌}
+use Rattle.std.proofs.Common.{◌≡◌, ℕ, ◌^◌, ◌<◌, ◌≤◌, Bool, true, false, List, [], ◌∷◌, length, refl, arith}
+use Rattle.std.specs.Prelude.{nat_le, ◌==◌}
 use Rattle.std.proofs.lemmas.Bool.Decides.{nat_tests}
 use Rattle.std.proofs.lemmas.List.Sums.{sum_by-cons}
 use Rattle.hx_base.specs.Runtime.{argument_size}
 use Rattle.hx_base.specs.declared.Class.TheVariants.{W, L}
 use Rattle.flat_code.specs.declared.program.FlatFn.{FlatFn}
-use Rattle.flat_code.specs.declared.program.FlatProgram.{FlatProgram}
 use Rattle.flat_code.specs.Temps.{is_set}
-use Rattle.flat_code.specs.WellFormed.{IsWellFormed, how_many, is_function_right, is_right, deepest, most}
+use Rattle.flat_code.specs.WellFormed.{IsWellFormed, how_many, is_function_right, is_right, most}
 use Rattle.hare_blocks.specs.Trees.{Program}
 use Rattle.hare_blocks.specs.Class.{statements_blocks, IsSource}
 use Rattle.low_blocks.specs.Statements.{seq}
-use Rattle.low_blocks.specs.Programs.{body_of, start, body_code, program_texts, text_name, text_globals, lowered_main, lowered}
+use Rattle.low_blocks.specs.Programs.{body_of, start, body_code, program_texts, text_name, lowered_main, lowered}
 use Rattle.low_blocks.proofs.Sites.{IsSited, statements_behind}
 use Rattle.low_blocks.proofs.Plain.{and_both, statements_plain}
 use Rattle.low_blocks.proofs.Nests.{statements_nest}
-use Rattle.low_blocks.proofs.Rights.{less_true}
 use Rattle.low_blocks.proofs.RightStatements.{AreShort, statements_right}
 use Rattle.low_blocks.proofs.Start.{texts_size}
 use Rattle.low_blocks.proofs.Sources.{source_texts, source_blocks}
@@ -61,7 +59,7 @@ module _ (p : Program) (few : texts_size (program_texts p) ≤ 65536) (shallow :
   main_right : is_function_right (length (lowered p).globals) main ≡ true
   main_right =
       and_both _ _ refl (and_both _ _ refl (and_both _ _ (le_true 0 main.temps (omega arith)) (and_both _ _ refl
-        (and_both _ _ (statements_nest start (body_of p) 4095 (omega (arith, shallow))) (and_both _ _ (statements_plain start (body_of p) begins).built (and_both _ _ refl body_right))))))
+      (and_both _ _ (statements_nest start (body_of p) 4095 (omega (arith, shallow))) (and_both _ _ (statements_plain start (body_of p) begins).built (and_both _ _ refl body_right))))))
 
   once : (j : ℕ) → j < length texts → (how_many (lowered p) (text_name j) == 1) ≡ true
   once j l = rw (one_named j 0 texts (omega (arith, count)) (omega arith) (omega arith)) refl

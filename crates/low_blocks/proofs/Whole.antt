@@ -1,19 +1,16 @@
 -- The lowered program does the same as the program.
-use Rattle.std.proofs.Common.{◌≡◌, ℕ, suc, ◌+◌, ◌<◌, ◌≤◌, List, [], ◌∷◌, length, None, refl, sym, ap, ◌∙◌, arith}
-use Rattle.std.specs.Prelude.{codes}
+use Rattle.std.proofs.Common.{◌≡◌, ℕ, ◌+◌, ◌≤◌, List, [], length, refl, ap, arith}
 use Rattle.hx_base.specs.Runtime.{World, arguments_start}
-use Rattle.flat_code.specs.declared.program.FlatProgram.{FlatProgram}
 use Rattle.flat_code.specs.Addresses.{data_start}
 use Rattle.flat_code.specs.State as flat
 use Rattle.flat_code.specs.State.{stepped, caught}
-use Rattle.flat_code.specs.Evaluation.{flat_below}
 use Rattle.flat_code.specs.Run as flat_run
 use Rattle.flat_code.specs.Run.{start_world, before_calls}
 use Rattle.il_emit.specs.Meaning.{il_meaning}
 use Rattle.hare_blocks.specs.Trees.{Program, exit_of, block_of}
 use Rattle.hare_blocks.specs.Evaluation.{End, State, Result, does, ended, run}
 use Rattle.low_blocks.specs.Expressions.{Scope}
-use Rattle.low_blocks.specs.Programs.{body_of, start, body_code, program_texts, lowered}
+use Rattle.low_blocks.specs.Programs.{body_of, start, program_texts, lowered}
 use Rattle.low_blocks.specs.Agreement.{flat_end, DoesTheSame}
 use Rattle.low_blocks.proofs.Meets.{World_after, Meets, goes_on, exits, spent}
 use Rattle.low_blocks.proofs.Same.{all_meet}

@@ -4,7 +4,7 @@ use Rattle.hx_base.specs.declared.Class.TheVariants.{L}
 use Rattle.flat_code.specs.declared.op.Op.TheVariants.{Copy}
 use Rattle.flat_code.specs.declared.value.Value.{Value}
 use Rattle.flat_code.specs.declared.value.Value.TheVariants.{Number, Symbol}
-use Rattle.flat_code.specs.Code.{Code, Codes, none, more, Seq, Set, If, Loop, Leave, Call, codes_of}
+use Rattle.flat_code.specs.Code.{Code, Seq, Set, If, Loop, Leave, Call, codes_of}
 use Rattle.hare_blocks.specs.Trees.{Condition, always, compares, Statement, Statements, declares, assigns, chooses, chooses_one, repeats, puts, exits, nothing, first}
 use Rattle.hare_blocks.specs.Scopes.{number_of}
 use Rattle.low_blocks.specs.Expressions.{Scope, Piece, expr_piece, condition_piece}

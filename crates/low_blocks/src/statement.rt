@@ -114,12 +114,7 @@ fn declare(
 }
 
 /// The temporary of the variable, if there is one, gets the value.
-fn assign(
-    draft: &mut Draft,
-    scope: &Scope,
-    name: &[u8],
-    value: &Expr,
-) -> Result<(), AllocError>
+fn assign(draft: &mut Draft, scope: &Scope, name: &[u8], value: &Expr) -> Result<(), AllocError>
     ensures { OnOk result ((g : List Data) → Lowers draft.old draft.new scope.now g g scope.now (statement_code (site draft.old scope.now g) (assigns name.now value.now)) []) }
 {
     let v = lower_expr(draft, scope, value)?;
@@ -136,12 +131,7 @@ fn assign(
 }
 
 /// A branch by a condition that stands in front of it.
-fn branch(
-    draft: &mut Draft,
-    cond: Value,
-    yes: FlatKids,
-    no: FlatKids,
-) -> Result<(), AllocError>
+fn branch(draft: &mut Draft, cond: Value, yes: FlatKids, no: FlatKids) -> Result<(), AllocError>
     ensures { OnOk result (Grows draft.old draft.new (If cond (seq yes) (seq no) ∷ []) draft.old.next) }
 {
     let yes = draft.seq(yes)?;

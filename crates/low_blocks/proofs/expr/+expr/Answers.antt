@@ -1,5 +1,5 @@
 -- The parts of an expression add its code.
-use Rattle.std.proofs.Common.{◌≡◌, ap, ◌∙◌}
+use Rattle.std.proofs.Common.{ap, ◌∙◌}
 use Rattle.hare_blocks.specs.Shape.{terms_of, factor_of, factors_of}
 use Rattle.low_blocks.specs.Expressions.{terms_piece, factors_piece, term_piece, factor_piece}
 use Rattle.low_blocks.specs.Drafts.{piece_of, behind}
