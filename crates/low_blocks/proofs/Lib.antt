@@ -3,7 +3,7 @@ pub mod Runs
 pub mod Scopes
 pub mod Pieces
 pub mod Values
-pub mod Tests
+pub mod Conditions
 pub mod Meets
 pub mod Sites
 pub mod Texts
