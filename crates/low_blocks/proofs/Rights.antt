@@ -1,0 +1,218 @@
+-- Lowered code keeps the rules of statements: operands are set at the classes that are wanted, and leaves are of loops round them.
+use Rattle.std.proofs.Common.{◌≡◌, ℕ, ◌^◌, ◌<◌, ◌≤◌, Bool, true, false, ◌&&◌, List, [], ◌∷◌, ◌++◌, Some, refl, ap, ◌∙◌, arith}
+use Rattle.std.specs.Prelude.{codes, nat_lt, ◌||◌, ◌==◌, bytes_eq}
+use Rattle.std.proofs.lemmas.Bool.Decides.{nat_tests}
+use Rattle.hx_base.specs.declared.Class.{Class}
+use Rattle.hx_base.specs.declared.Class.TheVariants.{W, L}
+use Rattle.flat_code.specs.declared.kinds.OpKind.TheVariants.{Arithmetic, CompareLongs}
+use Rattle.flat_code.specs.declared.op.Op.{Op}
+use Rattle.flat_code.specs.declared.op.Op.TheVariants.{Cultl, Culel, Ceql, Cnel}
+use Rattle.flat_code.specs.declared.program.FlatFn.{FlatFn}
+use Rattle.flat_code.specs.declared.value.Value.{Value}
+use Rattle.flat_code.specs.declared.value.Value.TheVariants.{Temp, Number, Symbol, Frame}
+use Rattle.flat_code.specs.Code.{Code, Set, Call, codes_of}
+use Rattle.flat_code.specs.Kinds.{op_kind}
+use Rattle.flat_code.specs.Temps.{is_set, code_sets, one_sets}
+use Rattle.flat_code.specs.WellFormed.{is_operand, is_target, is_right, are_right}
+use Rattle.hare_blocks.specs.Trees.{Expr, Terms, Term, Factors, Factor, sum_of, no_term, plus, minus, product_of, no_factor, times, number, arg_count, variable, group, Relation, less, less_equal, greater, greater_equal, equal, differ, Condition, always, compares}
+use Rattle.hare_blocks.specs.Scopes.{number_of}
+use Rattle.low_blocks.specs.Expressions.{Scope, held, Piece, operated, comparison, expr_piece, terms_piece, term_piece, factors_piece, factor_piece, condition_piece}
+use Rattle.low_blocks.proofs.Scopes.{Below}
+use Rattle.low_blocks.proofs.Pieces.{IsFrom, operated_from, expr_from, term_from, factor_from}
+use Rattle.low_blocks.proofs.Plain.{sets_append, and_assoc, and_both}
+
+pub less_true : (a b : ℕ) → a < b → nat_lt a b ≡ true
+less_true a b l = pick (nat_lt a b) refl
+  where
+    pick : (x : Bool) → nat_lt a b ≡ x → x ≡ true
+    pick true e = refl
+    pick false e = absurd (grind (arith, nat_tests))
+
+pub same_number : (a : ℕ) → (a == a) ≡ true
+same_number a = pick (a == a) refl
+  where
+    pick : (x : Bool) → (a == a) ≡ x → x ≡ true
+    pick true e = refl
+    pick false e = absurd (grind (arith, nat_tests))
+
+pub or_right : (a b : Bool) → b ≡ true → (a || b) ≡ true
+or_right true b e = refl
+or_right false b e = e
+
+pub or_left : (a b : Bool) → a ≡ true → (a || b) ≡ true
+or_left true b e = refl
+or_left false b e = absurd (cc)
+
+-- a function in a program with so many globals, which sets words at the temporary of tests alone and longs at all others
+module _ (globals : ℕ) (f : FlatFn) (words : (t : ℕ) → 0 < t → is_set f t W ≡ false) (longs : is_set f 0 L ≡ false) where
+  right_append : (around : ℕ) (a b : List Code) → are_right globals f around (codes_of (a ++ b)) ≡ (are_right globals f around (codes_of a) && are_right globals f around (codes_of b))
+  right_append around [] b = refl
+  right_append around (c ∷ a) b = ap (λ x. is_right globals f around c && x) (right_append around a b) ∙ and_assoc (is_right globals f around c) _ _
+
+  -- statements keep the rules, with so many Seqs and Loops round them
+  abbrev pub AreRight : ℕ → List Code → Type 0
+  AreRight around cs = are_right globals f around (codes_of cs) ≡ true
+
+  pub right_parts : (around : ℕ) (a b : List Code) → AreRight around a → AreRight around b → AreRight around (a ++ b)
+  right_parts around a b h k = right_append around a b ∙ and_both _ _ h k
+
+  pub right_one : (around : ℕ) (c : Code) → is_right globals f around c ≡ true → AreRight around (c ∷ [])
+  right_one around c h = and_both _ _ h refl
+
+  -- ---- parts of the function
+
+  -- what the code sets, the function sets
+  abbrev pub IsPart : List Code → Type 0
+  IsPart cs = (t : ℕ) (class : Class) → one_sets t class (codes_of cs) ≡ true → is_set f t class ≡ true
+
+  pub part_front : (a b : List Code) → IsPart (a ++ b) → IsPart a
+  part_front a b h t class e = h t class (sets_append t class a b ∙ or_left _ _ e)
+
+  pub part_back : (a b : List Code) → IsPart (a ++ b) → IsPart b
+  part_back a b h t class e = h t class (sets_append t class a b ∙ or_right _ _ e)
+
+  pub part_set : (t : ℕ) (class : Class) (c : Code) → code_sets t class c ≡ true → IsPart (c ∷ []) → is_set f t class ≡ true
+  part_set t class c e h = h t class (or_left _ _ e)
+
+  -- ---- operands
+
+  -- a number, or a long that the function sets
+  abbrev pub IsOperand : Value → Type 0
+  IsOperand (Temp t) = (0 < t) × (is_set f t L ≡ true)
+  IsOperand (Number n) = n < 2 ^ 64
+  IsOperand (Symbol i offset) = ⊥
+  IsOperand (Frame offset) = ⊥
+
+  pub operand_long : (v : Value) → IsOperand v → is_operand globals f L v ≡ true
+  operand_long (Temp t) h = rw (h.1, words t h.0) refl
+  operand_long (Number n) h = less_true n (2 ^ 64) h
+  operand_long (Symbol i offset) h = absurd h
+  operand_long (Frame offset) h = absurd h
+
+  pub operand_word : (v : Value) → IsOperand v → is_operand globals f W v ≡ true
+  operand_word (Temp t) h = or_right _ _ h.1
+  operand_word (Number n) h = less_true n (2 ^ 64) h
+  operand_word (Symbol i offset) h = absurd h
+  operand_word (Frame offset) h = absurd h
+
+  -- the temporaries of variables are set
+  abbrev pub AreSet : Scope → Type 0
+  AreSet [] = Unit {0}
+  AreSet (x ∷ xs) = (0 < x.1) × (is_set f x.1 L ≡ true) × AreSet xs
+
+  held_operand : (x : List ℕ) (scope : Scope) → AreSet scope → IsOperand (held (number_of x scope))
+  held_operand x [] h = omega arith
+  held_operand x (y ∷ ys) h = pick (bytes_eq y.0 x) refl (held_operand x ys h.2)
+    where
+      pick : (b : Bool) → bytes_eq y.0 x ≡ b → IsOperand (held (number_of x ys)) → IsOperand (held (number_of x (y ∷ ys)))
+      pick true e on = rw e (h.0, h.1)
+      pick false e on = rw e on
+
+  -- ---- targets
+
+  pub long_target : (t : ℕ) → 0 < t → t < f.temps → is_target f t L ≡ true
+  long_target t pos l = and_both _ _ (less_true t f.temps l) (rw (words t pos) refl)
+
+  word_target : 0 < f.temps → is_target f 0 W ≡ true
+  word_target l = and_both _ _ (less_true 0 f.temps l) (rw longs refl)
+
+  right_operation : (around t : ℕ) (op : Op) (a b : Value) → op_kind op ≡ Arithmetic → 0 < t → t < f.temps → IsOperand a → IsOperand b → AreRight around (Set t L op a b ∷ [])
+  right_operation around t op a b e pos l h k = right_one around (Set t L op a b) (rw (e, long_target t pos l, operand_long a h, operand_long b k) refl)
+
+  -- ---- expressions
+
+  -- a piece whose code is a part of the function and whose temporaries are the function's
+  abbrev Fits : Piece → Type 0
+  Fits piece = IsPart piece.code × (piece.next ≤ f.temps)
+
+  pub record IsRightPiece (piece : Piece) : Type 0 where
+    pub code : (around : ℕ) → AreRight around piece.code
+    pub value : IsOperand piece.value
+
+  operated_right : (op : Op) (a b : Piece) → op_kind op ≡ Arithmetic → 0 < a.next → a.next ≤ b.next → (Fits a → IsRightPiece a) → (Fits b → IsRightPiece b) → Fits (operated op a b) → IsRightPiece (operated op a b)
+  operated_right op a b e pos le ha hb fits =
+      let set = Set b.next L op a.value b.value in
+      let back = part_back a.code (b.code ++ set ∷ []) fits.0 in
+      let ra = ha (part_front a.code (b.code ++ set ∷ []) fits.0, omega (arith, fits.1)) in
+      let rb = hb (part_front b.code (set ∷ []) back, omega (arith, fits.1)) in
+      let is : is_set f b.next L ≡ true = part_set b.next L set (rw (same_number b.next) refl) (part_back b.code (set ∷ []) back) in
+      record {
+        code = λ around. right_parts around a.code _ (ra.code around) (right_parts around b.code _ (rb.code around) (right_operation around b.next op a.value b.value e (omega arith) (omega (arith, fits.1)) ra.value rb.value));
+        value = (omega arith, is);
+      }
+
+  module _ (scope : Scope) (bound : ℕ) (pos : 0 < bound) (below : Below bound scope) (set : AreSet scope) where
+    mutual
+      pub expr_right : (t : ℕ) (e : Expr) → bound ≤ t → Fits (expr_piece scope t e) → IsRightPiece (expr_piece scope t e)
+      expr_right t (sum_of a ts) le fits = terms_right t (term_piece scope t a) ts le (term_from scope bound pos below t a le) (term_right t a le) fits
+
+      terms_right : (t : ℕ) (left : Piece) (ts : Terms) → bound ≤ t → IsFrom t left → (Fits left → IsRightPiece left) → Fits (terms_piece scope left ts) → IsRightPiece (terms_piece scope left ts)
+      terms_right t left no_term le i h fits = h fits
+      terms_right t left (plus a ts) le i h fits =
+          let l : bound ≤ left.next = omega (arith, i.grows) in
+          let j = term_from scope bound pos below left.next a l in
+          terms_right t _ ts le (operated_from t _ left _ (omega arith) i j) (operated_right _ left _ refl (omega arith) j.grows h (term_right left.next a l)) fits
+      terms_right t left (minus a ts) le i h fits =
+          let l : bound ≤ left.next = omega (arith, i.grows) in
+          let j = term_from scope bound pos below left.next a l in
+          terms_right t _ ts le (operated_from t _ left _ (omega arith) i j) (operated_right _ left _ refl (omega arith) j.grows h (term_right left.next a l)) fits
+
+      term_right : (t : ℕ) (a : Term) → bound ≤ t → Fits (term_piece scope t a) → IsRightPiece (term_piece scope t a)
+      term_right t (product_of g gs) le fits = factors_right t (factor_piece scope t g) gs le (factor_from scope bound pos below t g le) (factor_right t g le) fits
+
+      factors_right : (t : ℕ) (left : Piece) (gs : Factors) → bound ≤ t → IsFrom t left → (Fits left → IsRightPiece left) → Fits (factors_piece scope left gs) → IsRightPiece (factors_piece scope left gs)
+      factors_right t left no_factor le i h fits = h fits
+      factors_right t left (times g gs) le i h fits =
+          let l : bound ≤ left.next = omega (arith, i.grows) in
+          let j = factor_from scope bound pos below left.next g l in
+          factors_right t _ gs le (operated_from t _ left _ (omega arith) i j) (operated_right _ left _ refl (omega arith) j.grows h (factor_right left.next g l)) fits
+
+      factor_right : (t : ℕ) (g : Factor) → bound ≤ t → Fits (factor_piece scope t g) → IsRightPiece (factor_piece scope t g)
+      factor_right t (number n) le fits = record { code = λ around. refl; value = omega arith }
+      factor_right t arg_count le fits = record {
+        code = λ around. right_one around (Call (Some t) (codes "rt.nargs") []) (long_target t (omega arith) (omega (arith, fits.1)));
+        value = (omega arith, part_set t L (Call (Some t) (codes "rt.nargs") []) (rw (same_number t) refl) fits.0);
+      }
+      factor_right t (variable x) le fits = record { code = λ around. refl; value = held_operand x scope set }
+      factor_right t (group e) le fits = expr_right t e le fits
+
+    -- ---- conditions
+
+    pub record IsRightTest (piece : Piece) : Type 0 where
+      pub code : (around : ℕ) → AreRight around piece.code
+      pub value : is_operand globals f W piece.value ≡ true
+
+    right_test : (around : ℕ) (op : Op) (a b : Value) → op_kind op ≡ CompareLongs → 0 < f.temps → IsOperand a → IsOperand b → AreRight around (Set 0 W op a b ∷ [])
+    right_test around op a b e l h k = right_one around (Set 0 W op a b) (rw (e, word_target l, operand_long a h, operand_long b k) refl)
+
+    right_comparison : (around : ℕ) (r : Relation) (a b : Value) → 0 < f.temps → IsOperand a → IsOperand b → AreRight around (comparison r a b ∷ [])
+    right_comparison around less a b l h k = right_test around Cultl a b refl l h k
+    right_comparison around less_equal a b l h k = right_test around Culel a b refl l h k
+    right_comparison around greater a b l h k = right_test around Cultl b a refl l k h
+    right_comparison around greater_equal a b l h k = right_test around Culel b a refl l k h
+    right_comparison around equal a b l h k = right_test around Ceql a b refl l h k
+    right_comparison around differ a b l h k = right_test around Cnel a b refl l h k
+
+    sets_test : (r : Relation) (a b : Value) → code_sets 0 W (comparison r a b) ≡ true
+    sets_test less a b = refl
+    sets_test less_equal a b = refl
+    sets_test greater a b = refl
+    sets_test greater_equal a b = refl
+    sets_test equal a b = refl
+    sets_test differ a b = refl
+
+    pub condition_right : (t : ℕ) (c : Condition) → bound ≤ t → IsPart (condition_piece scope t c).code → (condition_piece scope t c).next ≤ f.temps → IsRightTest (condition_piece scope t c)
+    condition_right t always le part fits = record { code = λ around. refl; value = refl }
+    condition_right t (compares a r b) le part fits =
+        let x = expr_piece scope t a in
+        let y = expr_piece scope x.next b in
+        let fx = expr_from scope bound pos below t a le in
+        let fy = expr_from scope bound pos below x.next b (omega (arith, fx.grows)) in
+        let c = comparison r x.value y.value in
+        let back = part_back x.code (y.code ++ c ∷ []) part in
+        let rx = expr_right t a le (part_front x.code (y.code ++ c ∷ []) part, omega (arith, fy.grows)) in
+        let ry = expr_right x.next b (omega (arith, fx.grows)) (part_front y.code (c ∷ []) back, fits) in
+        record {
+          code = λ around. right_parts around x.code _ (rx.code around) (right_parts around y.code _ (ry.code around) (right_comparison around r x.value y.value (omega (arith, fx.grows, fy.grows)) rx.value ry.value));
+          value = or_left _ _ (part_set 0 W c (sets_test r x.value y.value) (part_back y.code (c ∷ []) back));
+        }
