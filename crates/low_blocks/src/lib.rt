@@ -9,6 +9,8 @@ mod draft;
 mod expr;
 mod program;
 mod statement;
+#[cfg(test)]
+mod tests;
 mod text;
 
 pub use program::lower;
