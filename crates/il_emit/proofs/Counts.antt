@@ -9,6 +9,13 @@ use Rattle.std.proofs.lemmas.List.Sums.{sum_by-append}
 pub both_true : (a b : Bool) → a ≡ true → b ≡ true → (a && b) ≡ true
 both_true a b ha hb = rw (ha, hb) refl
 
+pub either : (a b c d : Bool) → a ≡ c → b ≡ d → (a || b) ≡ (c || d)
+either a b c d h k = rw (h, k) refl
+
+-- what a test adds to a count
+abbrev pub weight : Bool → ℕ
+weight b = cond b 1 0
+
 pub or_true : (a b : Bool) → b ≡ true → (a || b) ≡ true
 or_true true b h = refl
 or_true false b h = h

@@ -1,8 +1,8 @@
 -- A function of a well formed program becomes one that keeps the rules of the intermediate language.
-use Rattle.std.proofs.Common.{◌≡◌, ℕ, suc, ◌+◌, ◌<◌, ◌≤◌, ◌^◌, Bool, true, false, cond, not, ◌&&◌, ◌||◌, List, [], ◌∷◌, ◌++◌, length, Option, None, Some, refl, sym, ap, ◌∙◌, subst, arith, ◌⊎◌, inl, inr}
+use Rattle.std.proofs.Common.{◌≡◌, ℕ, suc, ◌+◌, ◌<◌, ◌≤◌, ◌^◌, Bool, true, false, cond, not, ◌&&◌, ◌||◌, List, [], ◌∷◌, ◌++◌, length, Option, None, Some, refl, sym, ap, ◌∙◌, subst, arith, inl, inr}
 use Rattle.std.specs.Prelude.{bytes_eq, codes, count_by, nat_le, ◌==◌}
 use Rattle.std.specs.List.{list_all, list_any}
-use Rattle.std.proofs.lemmas.Bool.{and_parts}
+use Rattle.std.proofs.lemmas.Bool.{and_parts, or_cases}
 use Rattle.std.proofs.lemmas.Bool.Decides.{nat_tests}
 use Rattle.hx_base.specs.declared.Class.{Class}
 use Rattle.hx_base.specs.declared.Class.TheVariants.{W, L}
@@ -28,13 +28,10 @@ use Rattle.il_emit.specs.Emitted.{params_of, blocks_of, function_item}
 use Rattle.il_emit.specs.Numbered.{HasFewNames}
 use Rattle.il_emit.proofs.Allowed.{LinesPass, code_good}
 use Rattle.il_emit.proofs.Blocks.{block, tidy, line_passes, lines_any, blocks_pass, any_open, count_open, starts_open, no_target, blocks_end, no_phis_placed}
-use Rattle.il_emit.proofs.Counts.{both_true, or_true, all_append, all_more, sum_cons}
+use Rattle.il_emit.proofs.Counts.{both_true, or_true, all_append, all_more, sum_cons, weight, either}
 use Rattle.il_emit.proofs.NumberedNames.{temp_identifier, label_identifier, temp_eq, label_eq}
 use Rattle.il_emit.proofs.Numbering.{code_tidy, within, within_in, code_labels, code_sets_is, params_sets_is, code_below, params_below, code_there}
 use Rattle.il_emit.proofs.Rightful.{Names, good_inst, good_jump, good_label, lines_pass}
-
-abbrev weight : Bool → ℕ
-weight b = cond b 1 0
 
 -- what is not there is not counted
 nowhere : {A : Type 0} (q : A → Bool) (ys : List A) → list_any q ys ≡ false → count_by q ys ≡ 0
@@ -112,13 +109,6 @@ params_count t at (c ∷ cs) s h =
 params_each : (test : IlParam → Bool) (at : ℕ) (cs : List Class) → ((t : ℕ) (c : Class) → at ≤ t → t < at + length cs → test (record { name = temp_name t; class = c }) ≡ true) → list_all test (params_of at cs) ≡ true
 params_each test at [] h = refl
 params_each test at (c ∷ cs) h = both_true _ _ (h at c (omega arith) (omega arith)) (params_each test (suc at) cs (λ t d l u. h t d (omega arith) (omega arith)))
-
-either : (a b c d : Bool) → a ≡ c → b ≡ d → (a || b) ≡ (c || d)
-either a b c d h k = rw (h, k) refl
-
-or_cases : (a b : Bool) → (a || b) ≡ true → (a ≡ true) ⊎ (b ≡ true)
-or_cases true b h = inl refl
-or_cases false b h = inr h
 
 -- ---- one function
 

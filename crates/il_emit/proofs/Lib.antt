@@ -11,3 +11,18 @@ pub mod Rightful
 pub mod Functions
 pub mod Globals
 pub mod Lawful
+pub mod Places
+pub mod Running
+pub mod Meeting
+pub mod Operands
+pub mod Outcomes
+pub mod Forms
+pub mod Turns
+pub mod GlobalAddresses
+pub mod CallCosts
+pub mod NamedFunctions
+pub mod Arrivals
+pub mod BackwardJumps
+pub mod CallCounts
+pub mod Shapes
+mod ReachesRows

@@ -1,8 +1,8 @@
 -- Which labels, temporaries and addresses the lines of code have.
-use Rattle.std.proofs.Common.{◌≡◌, ℕ, zero, suc, ◌+◌, ◌<◌, ◌≤◌, ◌^◌, Bool, true, false, cond, ◌&&◌, ◌||◌, List, [], ◌∷◌, ◌++◌, length, Option, None, Some, refl, ap, ◌∙◌, arith, ◌⊎◌, inl, inr}
+use Rattle.std.proofs.Common.{◌≡◌, ℕ, zero, suc, ◌+◌, ◌<◌, ◌≤◌, ◌^◌, Bool, true, false, cond, ◌&&◌, ◌||◌, List, [], ◌∷◌, ◌++◌, length, Option, None, Some, refl, ap, ◌∙◌, arith, inl, inr}
 use Rattle.std.specs.Prelude.{bytes_eq, nat_eq, nat_lt, ◌==◌}
 use Rattle.std.specs.List.{list_any}
-use Rattle.std.proofs.lemmas.Bool.{and_parts, cases_lt}
+use Rattle.std.proofs.lemmas.Bool.{and_parts, cases_lt, or_cases}
 use Rattle.std.proofs.lemmas.Bool.Decides.{nat_tests}
 use Rattle.hx_base.specs.declared.Class.{Class}
 use Rattle.hx_base.specs.declared.Class.TheVariants.{W, L}
@@ -24,7 +24,7 @@ use Rattle.il_code.specs.Rules.{sets, result_sets, inst_sets}
 use Rattle.il_emit.specs.Names.{temp_name, address_name, label_name}
 use Rattle.il_emit.specs.Lines.{Line, Label, End, address_lines, arg_lines, return_lines, code_lines, each_lines, labels_in, labels_in_all, addresses_in, addresses_in_all, addresses_of, all_addressed, result_param}
 use Rattle.il_emit.specs.Emitted.{params_of}
-use Rattle.il_emit.proofs.Counts.{or_true}
+use Rattle.il_emit.proofs.Counts.{or_true, either}
 use Rattle.il_emit.proofs.NumberedNames.{bytes_same, temp_eq, label_eq}
 use Rattle.il_emit.proofs.Blocks.{tidy, tidy_append, lines_any, any_append, lines_labelled, labelled_append}
 
@@ -225,9 +225,6 @@ module _ (globals : List Data) (count : ℕ) (f : FlatFn) (few : f.temps < 2 ^ 6
   called_sets temp args None h = cc
   called_sets temp args (Some g) h = kept_sets temp (runtime_result g) (and_parts (are_args count f (runtime_params g) args) (takes_result f temp (runtime_result g)) h).1
 
-  either : (a b c d : Bool) → a ≡ c → b ≡ d → (a || b) ≡ (c || d)
-  either a b c d h k = rw (h, k) refl
-
   mutual
     pub code_sets_is : (c : Code) (around n k : ℕ) (es : List ℕ) → is_built c ≡ true → is_right count f around c ≡ true → lines_any here (code_lines globals c n k es) ≡ code_sets t class c
     code_sets_is (Seq cs) around n k es u r =
@@ -270,10 +267,6 @@ module _ (globals : List Data) (count : ℕ) (f : FlatFn) (few : f.temps < 2 ^ 6
 -- ---- only temporaries of the function are set
 
 module _ (count : ℕ) (f : FlatFn) (t : ℕ) (class : Class) where
-  or_cases : (a b : Bool) → (a || b) ≡ true → (a ≡ true) ⊎ (b ≡ true)
-  or_cases true b h = inl refl
-  or_cases false b h = inr h
-
   target_below : (u : ℕ) (c : Class) → is_target f u c ≡ true → is_temp_of t class u c ≡ true → t < f.temps
   target_below u c h e =
       let p = and_parts (nat_lt u f.temps) (has_one_class f u c) h in

@@ -1,8 +1,8 @@
 -- Each line of a function of a well formed program is one that the intermediate language admits.
-use Rattle.std.proofs.Common.{◌≡◌, ℕ, ◌+◌, ◌<◌, ◌≤◌, ◌^◌, Bool, true, false, not, ◌&&◌, ◌||◌, List, [], ◌∷◌, length, Option, None, Some, refl, sym, ap, ◌∙◌, subst, arith, ◌⊎◌, inl, inr}
+use Rattle.std.proofs.Common.{◌≡◌, ℕ, ◌+◌, ◌<◌, ◌≤◌, ◌^◌, Bool, true, false, not, ◌&&◌, List, [], ◌∷◌, length, Option, None, Some, refl, sym, ap, ◌∙◌, subst, arith, inl, inr}
 use Rattle.std.specs.Prelude.{bytes_eq, nat_eq, nat_lt, ◌==◌}
 use Rattle.std.specs.List.{list_all}
-use Rattle.std.proofs.lemmas.Bool.{and_parts}
+use Rattle.std.proofs.lemmas.Bool.{and_parts, or_cases}
 use Rattle.std.proofs.lemmas.Bool.Decides.{nat_tests}
 use Rattle.hx_base.specs.declared.Class.{Class}
 use Rattle.hx_base.specs.declared.Class.TheVariants.{W, L}
@@ -39,7 +39,7 @@ use Rattle.il_emit.specs.Ops.{il_op}
 use Rattle.il_emit.specs.Lines.{operand, address_inst, name_at, second, call_params, result_param, args_of, all_addressed}
 use Rattle.il_emit.proofs.Allowed.{LinesPass}
 use Rattle.il_emit.proofs.Blocks.{line_passes}
-use Rattle.il_emit.proofs.Counts.{both_true, or_true}
+use Rattle.il_emit.proofs.Counts.{both_true, or_true, either}
 use Rattle.il_emit.proofs.Operations.{takes_is, first_is, second_is, may_is, named_call}
 use Rattle.il_emit.proofs.NumberedNames.{temp_identifier, address_identifier, label_identifier, label_eq}
 
@@ -85,15 +85,8 @@ class_same : (x : Class) → rule.same_class x x ≡ true
 class_same W = refl
 class_same L = refl
 
-either : (a b c d : Bool) → a ≡ c → b ≡ d → (a || b) ≡ (c || d)
-either a b c d h k = rw (h, k) refl
-
 one_only : (a b c d : Bool) → a ≡ c → b ≡ d → (a && not b) ≡ (c && not d)
 one_only a b c d h k = rw (h, k) refl
-
-or_cases : (a b : Bool) → (a || b) ≡ true → (a ≡ true) ⊎ (b ≡ true)
-or_cases true b h = inl refl
-or_cases false b h = inr h
 
 module _ (globals : List Data) (f : FlatFn) (items : List IlItem) (params : List IlParam) (blocks : List Block) (most_labels most_addresses : ℕ) (n : Names globals f items params blocks most_labels most_addresses) where
   -- ---- operands

@@ -130,17 +130,19 @@ parts_small p (i ∷ is) h =
 
 -- ---- sizes of globals
 
-string_size : (s : List ℕ) → sum_by (value_size 1) (string_of s) ≡ length s
-string_size [] = refl
-string_size (c ∷ s) = omega arith
+-- values of bytes take as many as they are, where sizes of values are counted so
+module _ (size : PartValue → ℕ) (of_string : (s : List ℕ) → size (value.Str s) ≡ length s) (of_number : (n : ℕ) → size (value.Number n) ≡ 1) where
+  string_size : (s : List ℕ) → sum_by size (string_of s) ≡ length s
+  string_size [] = refl
+  string_size (c ∷ s) = sum_cons size (value.Str (c ∷ s)) [] ∙ omega (arith, of_string (c ∷ s))
 
-values_size : (s bs : List ℕ) → sum_by (value_size 1) (byte_values s bs) ≡ length s + length bs
-values_size s [] = omega (arith, string_size s)
-values_size s (c ∷ bs) = pick (is_string_byte c) refl (values_size (s ++ c ∷ []) bs) (values_size [] bs)
-  where
-    pick : (b : Bool) → is_string_byte c ≡ b → sum_by (value_size 1) (byte_values (s ++ c ∷ []) bs) ≡ length (s ++ c ∷ []) + length bs → sum_by (value_size 1) (byte_values [] bs) ≡ 0 + length bs → sum_by (value_size 1) (byte_values s (c ∷ bs)) ≡ length s + length (c ∷ bs)
-    pick true e h k = rw e (omega (arith, h, length-append s (c ∷ [])))
-    pick false e h k = rw e (sum_by-append (value_size 1) (string_of s) (value.Number c ∷ byte_values [] bs) ∙ omega (arith, string_size s, k, sum_cons (value_size 1) (value.Number c) (byte_values [] bs)))
+  pub values_size : (s bs : List ℕ) → sum_by size (byte_values s bs) ≡ length s + length bs
+  values_size s [] = omega (arith, string_size s)
+  values_size s (c ∷ bs) = pick (is_string_byte c) refl (values_size (s ++ c ∷ []) bs) (values_size [] bs)
+    where
+      pick : (b : Bool) → is_string_byte c ≡ b → sum_by size (byte_values (s ++ c ∷ []) bs) ≡ length (s ++ c ∷ []) + length bs → sum_by size (byte_values [] bs) ≡ 0 + length bs → sum_by size (byte_values s (c ∷ bs)) ≡ length s + length (c ∷ bs)
+      pick true e h k = rw e (omega (arith, h, length-append s (c ∷ [])))
+      pick false e h k = rw e (sum_by-append size (string_of s) (value.Number c ∷ byte_values [] bs) ∙ omega (arith, string_size s, k, of_number c, sum_cons size (value.Number c) (byte_values [] bs)))
 
 bytes_size : (vs : List PartValue) → sum_by part_size (bytes_part vs) ≡ sum_by (value_size 1) vs
 bytes_size [] = refl
@@ -150,7 +152,7 @@ one_size : (i : Item) → sum_by part_size (item_parts i) ≡ item_size i
 one_size (item.Number width n) = omega arith
 one_size (item.Symbol name offset) = refl
 one_size (item.Zero n) = omega arith
-one_size (item.Bytes bytes) = bytes_size (byte_values [] bytes) ∙ omega (arith, values_size [] bytes)
+one_size (item.Bytes bytes) = bytes_size (byte_values [] bytes) ∙ omega (arith, values_size (value_size 1) (λ s. refl) (λ n. refl) [] bytes)
 
 pub parts_size : (is : List Item) → sum_by part_size (parts_of is) ≡ sum_by item_size is
 parts_size [] = refl

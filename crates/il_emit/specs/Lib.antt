@@ -6,3 +6,5 @@ pub mod Drafts
 pub mod Emitting
 pub mod Emitted
 pub mod Numbered
+pub mod Reaches
+pub mod Shape

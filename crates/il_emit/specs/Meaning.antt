@@ -1,5 +1,5 @@
 -- What the operations of flat code give, in the words of the intermediate language.
-use Rattle.std.specs.Prelude.{ℕ, Bool, true, false, Option, None, Some, Result, Ok, Err}
+use Rattle.std.specs.Prelude.{ℕ, Bool, true, false, Option, None, Some, Ok, Err}
 use Rattle.flat_code.specs.Evaluation.{Meaning}
 use Rattle.flat_code.specs.Kinds.{op_kind, takes_two}
 use Rattle.il_code.specs.Operations.{Outcome, op_value}

@@ -6,6 +6,8 @@ ghost use Rattle.flat_code.specs.WellFormed.{IsWellFormed, is_main};
 ghost use Rattle.il_code.specs.Rules.{IsValid};
 ghost use Rattle.il_emit.specs.Lines.{end_value};
 ghost use Rattle.il_emit.specs.Numbered.{HasFewNames};
+ghost use Rattle.il_emit.specs.Reaches.{Reaches};
+ghost use Rattle.il_emit.specs.Shape.{HasShape};
 ghost use Rattle.il_emit.specs.Emitted.{data_item, params_of, blocks_of, function_item, module_of};
 
 use crate::code::code;
@@ -18,12 +20,20 @@ use hx_base::Class;
 use il_code::{Blocks, IlItem, IlItems, IlParam, IlParams, IlValue, Jump, Module};
 use std::alloc::{AllocError, Global};
 
-/// The module of a program: a data item for each global, and then a function for each function, in their order. `main` is exported. The
-/// module is valid. An error is want of memory.
+/// The module of a program: a data item for each global, and then a function for each function, in their order. `main` is exported.
+///
+/// The module is valid, and it does what the program does: at every number of turns there is a budget, of at most four units for each flat step and
+/// one more, with which a run of it comes to the same end and the same world, or to the same world where turns ran out. Where calls that are active
+/// at once cost more than the stack holds, its end may be a full stack instead. No function jumps back more often than its code has Loops, calls a
+/// function more often than its code has Calls of it, or costs the stack more than flat code says.
+///
+/// An error is want of memory.
 pub fn emit(alloc: Global, p: &FlatProgram) -> Result<Module, AllocError>
     requires { IsWellFormed p.now }
     ensures value { IfOk result (λ m. m ≡ module_of p.now) }
     ensures valid { IfOk result (λ m. IsValid m) }
+    ensures reaches { IfOk result (λ m. Reaches p.now m) }
+    ensures shape { IfOk result (λ m. HasShape p.now m) }
 {
     let m = module_of(alloc, p)?;
     Ok(m)

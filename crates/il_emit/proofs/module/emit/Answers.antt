@@ -1,9 +1,19 @@
--- The module is valid.
+-- The module is valid, does what the program does, and has its shape.
 use Rattle.std.proofs.Common.{subst, sym}
 use Rattle.il_code.specs.declared.types.Module.{Module}
 use Rattle.il_code.specs.Rules.{IsValid}
+use Rattle.il_emit.specs.Reaches.{Reaches}
+use Rattle.il_emit.specs.Shape.{HasShape}
+use Rattle.il_emit.proofs.Arrivals.{reaches}
 use Rattle.il_emit.proofs.Lawful.{valid}
+use Rattle.il_emit.proofs.Shapes.{shape}
 use Rattle.il_emit.proofs.module.emit.Goals as goal
 
 pub returns-clause-valid : goal.returns-clause-valid
 returns-clause-valid c = subst (λ (m : Module). IsValid m) (sym c.in_ok-m.ensures.value) (valid c.args.p.now c.requires c.in_ok-m.ensures.fits)
+
+pub returns-clause-reaches : goal.returns-clause-reaches
+returns-clause-reaches c = subst (λ (m : Module). Reaches c.args.p.now m) (sym c.in_ok-m.ensures.value) (reaches c.args.p.now c.requires c.in_ok-m.ensures.fits)
+
+pub returns-clause-shape : goal.returns-clause-shape
+returns-clause-shape c = subst (λ (m : Module). HasShape c.args.p.now m) (sym c.in_ok-m.ensures.value) (shape c.args.p.now c.requires c.in_ok-m.ensures.fits)

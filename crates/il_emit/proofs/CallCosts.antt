@@ -1,0 +1,214 @@
+-- A call of an emitted function costs the stack no more than flat code says.
+use Rattle.std.proofs.Common.{◌≡◌, ℕ, zero, suc, ◌+◌, ◌<◌, ◌≤◌, Bool, true, false, ◌||◌, List, [], ◌∷◌, ◌++◌, map, length, Option, None, Some, refl, sym, ap, ◌∙◌, arith, length-append}
+use Rattle.std.specs.Prelude.{bytes_eq, count_by, sum_by, nat_lt, ◌==◌, if◌then◌else◌}
+use Rattle.std.specs.List.{flat_map, list_all}
+use Rattle.std.proofs.lemmas.Bool.{and_parts}
+use Rattle.std.proofs.lemmas.Bool.Decides.{nat_tests}
+use Rattle.std.proofs.lemmas.Slice.Eq.{bytes_eq-Decides}
+use Rattle.hx_base.specs.declared.Class.{Class}
+use Rattle.hx_base.specs.Runtime.{RuntimeFunction, runtime_function}
+use Rattle.flat_code.specs.declared.program.Data.{Data}
+use Rattle.flat_code.specs.declared.program.FlatFn.{FlatFn}
+use Rattle.flat_code.specs.declared.value.Value.{Value}
+use Rattle.flat_code.specs.Code.{Code, Codes, none, more, Seq, Set, Load, Store, Move, If, Loop, Leave, Call, Ret}
+use Rattle.flat_code.specs.Costs as flat
+use Rattle.flat_code.specs.Costs.{addressed, addressed_in, addressed_in_all}
+use Rattle.flat_code.specs.Shape.{code_of}
+use Rattle.flat_code.specs.Signatures.{runtime_params, runtime_result}
+use Rattle.flat_code.specs.Temps.{call_class, has_one_class}
+use Rattle.flat_code.specs.WellFormed.{is_right, is_target, is_call, are_args, takes_result}
+use Rattle.il_code.specs.declared.types.Block.{Block}
+use Rattle.il_code.specs.declared.types.IlParam.{IlParam}
+use Rattle.il_code.specs.declared.types.IlArg.{IlArg}
+use Rattle.il_code.specs.declared.types.Inst.{Inst}
+use Rattle.il_code.specs.declared.types.Inst.TheVariants as inst
+use Rattle.il_code.specs.declared.types.Jump.TheVariants as jump
+use Rattle.il_code.specs.Machine.{assigned, block_assigned, all_assigned, is_among, distinct, call_cost}
+use Rattle.il_emit.specs.Names.{temp_name, address_name, label_name}
+use Rattle.il_emit.specs.Lines.{Line, End, all_addressed, addresses_in, addresses_in_all, labels_in, code_lines, end_value, result_param}
+use Rattle.il_emit.specs.Emitted.{params_of, blocks_of}
+use Rattle.il_emit.proofs.Allowed.{LinesPass, code_good}
+use Rattle.il_emit.proofs.Blocks.{line_passes, blocks_pass}
+use Rattle.il_emit.proofs.Counts.{both_true, all_append, sum_cons, weight, or_true}
+use Rattle.il_emit.proofs.NumberedNames.{bytes_same}
+
+-- ---- names that differ stand among as many
+
+count_cons : {A : Type 0} (q : A → Bool) (x : A) (xs : List A) → count_by q (x ∷ xs) ≡ weight (q x) + count_by q xs
+count_cons q x xs = sum_cons (λ y. weight (q y)) x xs
+
+weight_more : (a b : Bool) → weight b ≤ weight (a || b)
+weight_more true true = omega arith
+weight_more true false = omega arith
+weight_more false b = omega arith
+
+weight_one : (b : Bool) → weight b ≤ 1
+weight_one true = omega arith
+weight_one false = omega arith
+
+count_length : {A : Type 0} (q : A → Bool) (xs : List A) → count_by q xs ≤ length xs
+count_length q [] = omega arith
+count_length q (x ∷ xs) = omega (arith, count_cons q x xs, weight_one (q x), count_length q xs)
+
+module _ (x : List ℕ) (xs : List (List ℕ)) where
+  count_more : (ys : List (List ℕ)) → count_by (λ (y : List ℕ). is_among y xs) ys ≤ count_by (λ (y : List ℕ). bytes_eq y x || is_among y xs) ys
+  count_more [] = omega arith
+  count_more (y ∷ ys) = omega (arith, count_cons (λ (z : List ℕ). is_among z xs) y ys, count_cons (λ (z : List ℕ). bytes_eq z x || is_among z xs) y ys, weight_more (bytes_eq y x) (is_among y xs), count_more ys)
+
+  one_more : (ys : List (List ℕ)) → is_among x xs ≡ false → is_among x ys ≡ true → 1 + count_by (λ (y : List ℕ). is_among y xs) ys ≤ count_by (λ (y : List ℕ). bytes_eq y x || is_among y xs) ys
+  one_more [] h k = cc
+  one_more (y ∷ ys) h k = pick (bytes_eq x y) refl k (λ k'. one_more ys h k')
+    where
+      pick : (b : Bool) → bytes_eq x y ≡ b → (b || is_among x ys) ≡ true → (is_among x ys ≡ true → 1 + count_by (λ (z : List ℕ). is_among z xs) ys ≤ count_by (λ (z : List ℕ). bytes_eq z x || is_among z xs) ys)
+          → 1 + count_by (λ (z : List ℕ). is_among z xs) (y ∷ ys) ≤ count_by (λ (z : List ℕ). bytes_eq z x || is_among z xs) (y ∷ ys)
+      pick true e k' on =
+          let same : x ≡ y = (bytes_eq-Decides x y).0 e in
+          let none' : weight (is_among y xs) ≡ 0 = ap (λ (z : List ℕ). weight (is_among z xs)) (sym same) ∙ ap weight h in
+          let own : weight (bytes_eq y x || is_among y xs) ≡ 1 = ap (λ (z : List ℕ). weight (bytes_eq z x || is_among z xs)) (sym same) ∙ ap (λ (b : Bool). weight (b || is_among x xs)) (bytes_same x) in
+          omega (arith, count_cons (λ (z : List ℕ). is_among z xs) y ys, count_cons (λ (z : List ℕ). bytes_eq z x || is_among z xs) y ys, none', own, count_more ys)
+      pick false e k' on = omega (arith, count_cons (λ (z : List ℕ). is_among z xs) y ys, count_cons (λ (z : List ℕ). bytes_eq z x || is_among z xs) y ys, weight_more (bytes_eq y x) (is_among y xs), on k')
+
+distinct_count : (xs ys : List (List ℕ)) → list_all (λ (x : List ℕ). is_among x ys) xs ≡ true → length (distinct xs) ≤ count_by (λ (y : List ℕ). is_among y xs) ys
+distinct_count [] ys h = omega arith
+distinct_count (x ∷ xs) ys h =
+    let k = and_parts (is_among x ys) (list_all (λ (z : List ℕ). is_among z ys) xs) h in
+    pick (is_among x xs) refl k.0 (distinct_count xs ys k.1)
+  where
+    pick : (b : Bool) → is_among x xs ≡ b → is_among x ys ≡ true → length (distinct xs) ≤ count_by (λ (y : List ℕ). is_among y xs) ys
+        → length (if b then distinct xs else x ∷ distinct xs) ≤ count_by (λ (y : List ℕ). bytes_eq y x || is_among y xs) ys
+    pick true e there on = omega (arith, on, count_more x xs ys)
+    pick false e there on = omega (arith, on, one_more x xs ys e there)
+
+distinct_length : (xs ys : List (List ℕ)) → list_all (λ (x : List ℕ). is_among x ys) xs ≡ true → length (distinct xs) ≤ length ys
+distinct_length xs ys h = omega (arith, distinct_count xs ys h, count_length (λ (y : List ℕ). is_among y xs) ys)
+
+-- ---- names with numbers
+
+-- so many names from a number on
+numbered : (ℕ → List ℕ) → (at count : ℕ) → List (List ℕ)
+numbered name at zero = []
+numbered name at (suc count) = name at ∷ numbered name (suc at) count
+
+numbered_length : (name : ℕ → List ℕ) (at count : ℕ) → length (numbered name at count) ≡ count
+unfolding numbered
+numbered_length name at zero = refl
+numbered_length name at (suc count) = omega (arith, numbered_length name (suc at) count)
+
+left_of : (a b : Bool) → a ≡ true → (a || b) ≡ true
+left_of true b h = refl
+left_of false b h = cc
+
+numbered_among : (name : ℕ → List ℕ) (at count t : ℕ) → at ≤ t → t < at + count → is_among (name t) (numbered name at count) ≡ true
+unfolding numbered
+numbered_among name at zero t l u = absurd (omega arith)
+numbered_among name at (suc count) t l u = pick (at == t) refl (λ k. numbered_among name (suc at) count t k (omega arith))
+  where
+    pick : (b : Bool) → (at == t) ≡ b → (suc at ≤ t → is_among (name t) (numbered name (suc at) count) ≡ true) → (bytes_eq (name t) (name at) || is_among (name t) (numbered name (suc at) count)) ≡ true
+    pick true e on = let same : at ≡ t = grind (arith, nat_tests) in left_of (bytes_eq (name t) (name at)) _ (ap (λ (z : ℕ). bytes_eq (name t) (name z)) same ∙ bytes_same (name t))
+    pick false e on = or_true (bytes_eq (name t) (name at)) _ (on (grind (arith, nat_tests)))
+
+among_left : (x : List ℕ) (xs ys : List (List ℕ)) → is_among x xs ≡ true → is_among x (xs ++ ys) ≡ true
+among_left x [] ys h = cc
+among_left x (z ∷ xs) ys h = pick (bytes_eq x z) h (among_left x xs ys)
+  where
+    pick : (b : Bool) → (b || is_among x xs) ≡ true → (is_among x xs ≡ true → is_among x (xs ++ ys) ≡ true) → (b || is_among x (xs ++ ys)) ≡ true
+    pick true k on = refl
+    pick false k on = on k
+
+among_right : (x : List ℕ) (xs ys : List (List ℕ)) → is_among x ys ≡ true → is_among x (xs ++ ys) ≡ true
+among_right x [] ys h = h
+among_right x (z ∷ xs) ys h = or_true (bytes_eq x z) _ (among_right x xs ys h)
+
+-- ---- the names that a function assigns
+
+all_flat : {A : Type 0} (q : List ℕ → Bool) (g : A → List (List ℕ)) (xs : List A) → list_all (λ (x : A). list_all q (g x)) xs ≡ true → list_all q (flat_map g xs) ≡ true
+all_flat q g [] h = refl
+all_flat q g (x ∷ xs) h = let k = and_parts (list_all q (g x)) (list_all (λ y. list_all q (g y)) xs) h in all_append q (g x) (flat_map g xs) k.0 (all_flat q g xs k.1)
+
+module _ (globals : List Data) (f : FlatFn) (right : is_right (length globals) f 0 (code_of f.body) ≡ true) (few_params : length f.params ≤ f.temps) where
+  abbrev known : List (List ℕ)
+  known = numbered temp_name 0 f.temps ++ numbered address_name 0 (addresses_in (code_of f.body))
+
+  abbrev is_known : List ℕ → Bool
+  is_known x = is_among x known
+
+  abbrev good_inst : Inst → Bool
+  good_inst i = list_all is_known (assigned i)
+
+  abbrev good : Line → Bool
+  good = line_passes (λ n. true) good_inst (λ j. true)
+
+  temp_known : (t : ℕ) → t < f.temps → is_known (temp_name t) ≡ true
+  temp_known t h = among_left (temp_name t) (numbered temp_name 0 f.temps) _ (numbered_among temp_name 0 f.temps t (omega arith) (omega arith))
+
+  address_known : (k : ℕ) → k < addresses_in (code_of f.body) → is_known (address_name k) ≡ true
+  address_known k h = among_right (address_name k) (numbered temp_name 0 f.temps) _ (numbered_among address_name 0 (addresses_in (code_of f.body)) k (omega arith) (omega arith))
+
+  target_known : (t : ℕ) (class : Class) → is_target f t class ≡ true → is_known (temp_name t) ≡ true
+  target_known t class h =
+      let q = (and_parts (nat_lt t f.temps) (has_one_class f t class) h).0 in
+      let lt : t < f.temps = grind (arith, nat_tests) in
+      temp_known t lt
+
+  call_known : (temp : Option ℕ) (args : List Value) (g : Option RuntimeFunction) (is : List IlArg) (name : List ℕ) → is_call (length globals) f temp args g ≡ true → good_inst (inst.Call (result_param temp (call_class g)) name is) ≡ true
+  call_known temp args None is name h = cc
+  call_known temp args (Some g) is name h = taken temp (runtime_result g) (and_parts (are_args (length globals) f (runtime_params g) args) (takes_result f temp (runtime_result g)) h).1
+    where
+      taken : (temp : Option ℕ) (class : Option Class) → takes_result f temp class ≡ true → good_inst (inst.Call (result_param temp class) name is) ≡ true
+      taken None class h = refl
+      taken (Some t) None h = cc
+      taken (Some t) (Some class) h = both_true _ true (target_known t class h) refl
+
+  lines_known : LinesPass globals f good (suc (labels_in (code_of f.body))) (addresses_in (code_of f.body))
+  lines_known = record {
+    label = λ n h. refl;
+    goes = λ n l u. refl;
+    branch = λ v k n m r u a b c d. refl;
+    returns = λ r. refl;
+    returns_value = λ v k r u. refl;
+    set = λ t class o a b k r u. both_true _ true (target_known t class (and_parts (is_target f t class) _ r).0) refl;
+    call = λ temp name args k r u. call_known temp args (runtime_function name) _ name r;
+    address = λ i offset k h b l. both_true _ true (address_known k l) refl;
+  }
+
+  blocks_known : list_all (λ (b : Block). list_all is_known (block_assigned b)) (blocks_of globals f) ≡ true
+  blocks_known =
+      blocks_pass (λ n. true) good_inst (λ j. true) refl (λ (b : Block). list_all is_known (block_assigned b)) (λ s n is j e l h k. all_flat is_known assigned is h)
+      [] (label_name 0) 0 [] true (code_lines globals (code_of f.body) 1 0 [] ++ End (jump.Ret (end_value f.result)) ∷ []) refl refl refl refl
+      (all_append good (code_lines globals (code_of f.body) 1 0 []) _
+      (code_good globals f good (suc (labels_in (code_of f.body))) (addresses_in (code_of f.body)) lines_known (code_of f.body) 0 1 0 [] right refl refl (omega arith) (omega arith) (omega arith)) refl)
+
+  params_known : (at : ℕ) (cs : List Class) → at + length cs ≤ f.temps → list_all is_known (map (λ (p : IlParam). p.name) (params_of at cs)) ≡ true
+  params_known at [] h = refl
+  params_known at (c ∷ cs) h = both_true _ _ (temp_known at (omega arith)) (params_known (suc at) cs (omega arith))
+
+  -- ---- addresses
+
+  args_addressed : (vs : List Value) → all_addressed vs ≡ sum_by addressed vs
+  args_addressed [] = refl
+  args_addressed (v ∷ vs) = omega (arith, args_addressed vs, sum_cons addressed v vs)
+
+  mutual
+    addresses_few : (c : Code) → addresses_in c ≤ addressed_in c
+    addresses_few (Seq cs) = all_few cs
+    addresses_few (Set temp class op a b) = omega arith
+    addresses_few (Load temp how at) = omega arith
+    addresses_few (Store width value at) = omega arith
+    addresses_few (Move to from bytes) = omega arith
+    addresses_few (If cond' a b) = omega (arith, addresses_few a, addresses_few b)
+    addresses_few (Loop c) = addresses_few c
+    addresses_few (Leave j) = omega arith
+    addresses_few (Call temp name args) = omega (arith, args_addressed args)
+    addresses_few (Ret None) = omega arith
+    addresses_few (Ret (Some v)) = omega arith
+
+    all_few : (cs : Codes) → addresses_in_all cs ≤ addressed_in_all cs
+    all_few none = omega arith
+    all_few (more c cs) = omega (arith, addresses_few c, all_few cs)
+
+  -- ---- the cost
+
+  pub costs_no_more : call_cost (params_of 0 f.params) (blocks_of globals f) ≤ flat.call_cost f
+  costs_no_more =
+      let names = all_append is_known (map (λ (p : IlParam). p.name) (params_of 0 f.params)) (flat_map block_assigned (blocks_of globals f)) (params_known 0 f.params (omega arith)) (all_flat is_known block_assigned (blocks_of globals f) blocks_known) in
+      omega (arith, distinct_length (all_assigned (params_of 0 f.params) (blocks_of globals f)) known names, length-append (numbered temp_name 0 f.temps) (numbered address_name 0 (addresses_in (code_of f.body))), numbered_length temp_name 0 f.temps, numbered_length address_name 0 (addresses_in (code_of f.body)), addresses_few (code_of f.body))

@@ -1,0 +1,245 @@
+-- Globals stand at the same addresses on both sides, and a run begins with the same memory.
+use Rattle.std.proofs.Common.{◌≡◌, ℕ, zero, suc, ◌+◌, ◌-◌, ◌*◌, ◌%◌, ◌^◌, ◌<◌, ◌≤◌, Bool, true, false, ◌||◌, List, [], ◌∷◌, ◌++◌, map, length, Option, None, Some, refl, sym, ap, ◌∙◌, arith, append_assoc, append-nil}
+use Rattle.std.specs.Prelude.{bytes_eq, count_by, sum_by, max, slice_index_or, ◌==◌}
+use Rattle.std.specs.List.{flat_map, list_all, list_any}
+use Rattle.std.proofs.Math.Nat.{div-mul-le_self}
+use Rattle.std.proofs.lemmas.Bool.{and_parts}
+use Rattle.std.proofs.lemmas.Bool.Decides.{nat_tests}
+use Rattle.std.proofs.lemmas.Grind.{common_steps, flat_map-append}
+use Rattle.std.proofs.lemmas.List.Sums.{sum_by-append}
+use Rattle.hx_base.specs.Memory.{Memory, le_bytes, round_up, map_range, write, empty_memory}
+use Rattle.hx_base.specs.Runtime.{lookup, with_arguments}
+use Rattle.flat_code.specs.declared.program.Data.{Data}
+use Rattle.flat_code.specs.declared.program.FlatFn.{FlatFn}
+use Rattle.flat_code.specs.declared.program.FlatProgram.{FlatProgram}
+use Rattle.flat_code.specs.declared.program.Item.{Item}
+use Rattle.flat_code.specs.declared.program.Item.TheVariants as item
+use Rattle.flat_code.specs.Addresses as flat
+use Rattle.flat_code.specs.Addresses.{addresses_from, item_bytes, item_size, with_global, with_globals}
+use Rattle.flat_code.specs.WellFormed.{IsWellFormed, is_alignment, is_bits, is_global, is_item, is_symbol, is_width, has_global, how_many, global_size}
+use Rattle.il_code.specs.declared.types.IlItem.{IlItem}
+use Rattle.il_code.specs.declared.types.Module.{Module}
+use Rattle.il_code.specs.declared.types.Part.TheVariants as part
+use Rattle.il_code.specs.declared.types.PartValue.{PartValue}
+use Rattle.il_code.specs.declared.types.PartValue.TheVariants as value
+use Rattle.il_code.specs.Addresses.{width_bytes, value_size, part_size, data_size, symbols_from, function_step, functions_start, data_start, address, value_bytes, part_bytes, with_item, with_data, start_memory}
+use Rattle.il_code.specs.Addresses as il_address
+use Rattle.il_code.specs.Tokens.{is_string_byte}
+use Rattle.il_emit.specs.Lines.{name_at}
+use Rattle.il_emit.specs.Emitted.{string_of, byte_values, bytes_part, item_parts, parts_of, data_item, function_item, module_of}
+use Rattle.il_emit.proofs.Counts.{sum_cons, weight, or_true}
+use Rattle.il_emit.proofs.NumberedNames.{bytes_same}
+use Rattle.il_emit.proofs.Smalls.{values_size}
+
+-- ---- sizes
+
+width_kept : (width : ℕ) → is_width width ≡ true → width_bytes width ≡ width
+width_kept width h = grind (arith, nat_tests, common_steps)
+
+bytes_size : (vs : List PartValue) → sum_by part_size (bytes_part vs) ≡ sum_by (value_size 1) vs
+bytes_size [] = refl
+bytes_size (v ∷ vs) = omega arith
+
+module _ (p : FlatProgram) where
+  one_size : (i : Item) → is_item p i ≡ true → sum_by part_size (item_parts i) ≡ item_size i
+  one_size (item.Number width n) h = let w = width_kept width (and_parts (is_width width) (is_bits n) h).0 in omega (arith, w)
+  one_size (item.Symbol name offset) h = refl
+  one_size (item.Zero n) h = omega arith
+  one_size (item.Bytes bytes) h = bytes_size (byte_values [] bytes) ∙ omega (arith, values_size (value_size 1) (λ s. refl) (λ n. refl) [] bytes)
+
+  parts_size : (is : List Item) → list_all (is_item p) is ≡ true → sum_by part_size (parts_of is) ≡ sum_by item_size is
+  parts_size [] h = refl
+  parts_size (i ∷ is) h =
+      let k = and_parts (is_item p i) (list_all (is_item p) is) h in
+      sum_by-append part_size (item_parts i) (parts_of is) ∙ omega (arith, one_size i k.0, parts_size is k.1) ∙ sym (sum_cons item_size i is)
+
+  global_items : (d : Data) → is_global p d ≡ true → list_all (is_item p) d.items ≡ true
+  global_items d h = (and_parts (is_alignment d.align) (list_all (is_item p) d.items) (and_parts (is_symbol d.name) _ h).1).1
+
+  global_bytes : (d : Data) → is_global p d ≡ true → data_size (parts_of d.items) ≡ flat.data_size d
+  global_bytes d h = ap (λ (n : ℕ). max 1 n) (parts_size d.items (global_items d h))
+
+  -- ---- addresses by name
+
+  behind_globals : ℕ → List Data → ℕ
+  behind_globals at [] = at
+  behind_globals at (d ∷ ds) = behind_globals (round_up at d.align + flat.data_size d) ds
+
+  symbols_are : (f at : ℕ) (ds : List Data) (items : List IlItem) → list_all (is_global p) ds ≡ true → symbols_from f at (map data_item ds ++ items) ≡ addresses_from at ds ++ symbols_from f (behind_globals at ds) items
+  unfolding behind_globals
+  symbols_are f at [] items h = refl
+  symbols_are f at (d ∷ ds) items h =
+      let k = and_parts (is_global p d) (list_all (is_global p) ds) h in
+      ap (λ (n : ℕ). (d.name, round_up at d.align) ∷ symbols_from f (round_up at d.align + n) (map data_item ds ++ items)) (global_bytes d k.0)
+      ∙ ap (λ (xs : List (List ℕ × ℕ)). (d.name, round_up at d.align) ∷ xs) (symbols_are f (round_up at d.align + flat.data_size d) ds items k.1)
+
+-- the first of two tables has the name
+lookup_front : (name : List ℕ) (at : ℕ) (ds : List Data) (xs : List (List ℕ × ℕ)) → list_any (λ (d : Data). bytes_eq d.name name) ds ≡ true → lookup name (addresses_from at ds ++ xs) ≡ lookup name (addresses_from at ds)
+lookup_front name at [] xs h = cc
+lookup_front name at (d ∷ ds) xs h = pick (bytes_eq d.name name) refl h (lookup_front name (round_up at d.align + flat.data_size d) ds xs)
+  where
+    pick : (b : Bool) → bytes_eq d.name name ≡ b → (b || list_any (λ (x : Data). bytes_eq x.name name) ds) ≡ true
+        → (list_any (λ (x : Data). bytes_eq x.name name) ds ≡ true → lookup name (addresses_from (round_up at d.align + flat.data_size d) ds ++ xs) ≡ lookup name (addresses_from (round_up at d.align + flat.data_size d) ds))
+        → lookup name (addresses_from at (d ∷ ds) ++ xs) ≡ lookup name (addresses_from at (d ∷ ds))
+    pick true e k on = rw e refl
+    pick false e k on = rw e (on k)
+
+-- a global that is there has its name
+name_any : (ds : List Data) (i : ℕ) → i < length ds → list_any (λ (d : Data). bytes_eq d.name (name_at ds i)) ds ≡ true
+name_any [] i h = absurd (omega arith)
+name_any (d ∷ ds) zero h = ap (λ (b : Bool). b || list_any (λ (x : Data). bytes_eq x.name d.name) ds) (bytes_same d.name)
+name_any (d ∷ ds) (suc i) h = or_true (bytes_eq d.name (name_at ds i)) _ (name_any ds i (omega arith))
+
+name_counts : (ds : List Data) (i : ℕ) → i < length ds → 1 ≤ count_by (λ (d : Data). bytes_eq d.name (name_at ds i)) ds
+name_counts [] i h = absurd (omega arith)
+name_counts (d ∷ ds) zero h = omega (arith, sum_cons (λ (x : Data). weight (bytes_eq x.name d.name)) d ds, ap weight (bytes_same d.name))
+name_counts (d ∷ ds) (suc i) h = omega (arith, sum_cons (λ (x : Data). weight (bytes_eq x.name (name_at ds i))) d ds, name_counts ds i (omega arith))
+
+-- where names differ, a table has the address of a global at its name
+lookup_at : (at : ℕ) (ds : List Data) (i : ℕ) → i < length ds → count_by (λ (d : Data). bytes_eq d.name (name_at ds i)) ds ≤ 1 → lookup (name_at ds i) (addresses_from at ds) ≡ Some (slice_index_or (addresses_from at ds) i ([], 0)).1
+lookup_at at [] i h c = absurd (omega arith)
+lookup_at at (d ∷ ds) zero h c = rw (bytes_same d.name) refl
+lookup_at at (d ∷ ds) (suc i) h c = pick (bytes_eq d.name (name_at ds i)) refl (lookup_at (round_up at d.align + flat.data_size d) ds i (omega arith))
+  where
+    sums : count_by (λ (x : Data). bytes_eq x.name (name_at ds i)) (d ∷ ds) ≡ weight (bytes_eq d.name (name_at ds i)) + count_by (λ (x : Data). bytes_eq x.name (name_at ds i)) ds
+    sums = sum_cons (λ (x : Data). weight (bytes_eq x.name (name_at ds i))) d ds
+
+    pick : (b : Bool) → bytes_eq d.name (name_at ds i) ≡ b
+        → (count_by (λ (x : Data). bytes_eq x.name (name_at ds i)) ds ≤ 1 → lookup (name_at ds i) (addresses_from (round_up at d.align + flat.data_size d) ds) ≡ Some (slice_index_or (addresses_from (round_up at d.align + flat.data_size d) ds) i ([], 0)).1)
+        → lookup (name_at ds i) (addresses_from at (d ∷ ds)) ≡ Some (slice_index_or (addresses_from at (d ∷ ds)) (suc i) ([], 0)).1
+    pick true e on = absurd (omega (arith, c, sums, ap weight e, name_counts ds i (omega arith)))
+    pick false e on = rw e (on (omega (arith, c, sums)))
+
+-- ---- bytes
+
+module _ (p : FlatProgram) (m : Module) (known : (name : List ℕ) → has_global p name ≡ true → address m name ≡ flat.address_named p name) where
+  string_bytes : (s : List ℕ) → flat_map (value_bytes m 1) (string_of s) ≡ s
+  string_bytes [] = refl
+  string_bytes (c ∷ s) = append-nil (c ∷ s)
+
+  small_byte : (c : ℕ) → is_string_byte c ≡ false → c % 256 ≡ c
+  small_byte c h = grind (arith, nat_tests, common_steps)
+
+  values_bytes : (s bs : List ℕ) → flat_map (value_bytes m 1) (byte_values s bs) ≡ s ++ bs
+  values_bytes s [] = string_bytes s ∙ sym (append-nil s)
+  values_bytes s (c ∷ bs) = pick (is_string_byte c) refl (values_bytes (s ++ c ∷ []) bs) (values_bytes [] bs)
+    where
+      pick : (b : Bool) → is_string_byte c ≡ b → flat_map (value_bytes m 1) (byte_values (s ++ c ∷ []) bs) ≡ (s ++ c ∷ []) ++ bs → flat_map (value_bytes m 1) (byte_values [] bs) ≡ bs → flat_map (value_bytes m 1) (byte_values s (c ∷ bs)) ≡ s ++ c ∷ bs
+      pick true e h k = rw e (h ∙ append_assoc s (c ∷ []) bs)
+      pick false e h k =
+          let same : byte_values s (c ∷ bs) ≡ string_of s ++ value.Number c ∷ byte_values [] bs = rw e refl in
+          ap (flat_map (value_bytes m 1)) same
+          ∙ flat_map-append (value_bytes m 1) (string_of s) (value.Number c ∷ byte_values [] bs)
+          ∙ ap (λ (xs : List ℕ). xs ++ ((c % 256) ∷ flat_map (value_bytes m 1) (byte_values [] bs))) (string_bytes s)
+          ∙ ap (λ (x : ℕ). s ++ (x ∷ flat_map (value_bytes m 1) (byte_values [] bs))) (small_byte c e)
+          ∙ ap (λ (xs : List ℕ). s ++ (c ∷ xs)) k
+
+  part_of_bytes : (vs : List PartValue) → flat_map (part_bytes m) (bytes_part vs) ≡ flat_map (value_bytes m 1) vs
+  part_of_bytes [] = refl
+  part_of_bytes (v ∷ vs) = append-nil (flat_map (value_bytes m 1) (v ∷ vs))
+
+  one_bytes : (i : Item) → is_item p i ≡ true → flat_map (part_bytes m) (item_parts i) ≡ item_bytes p i
+  one_bytes (item.Number width n) h =
+      let w = width_kept width (and_parts (is_width width) (is_bits n) h).0 in
+      append-nil (le_bytes (width_bytes width) n ++ []) ∙ append-nil (le_bytes (width_bytes width) n) ∙ ap (λ (k : ℕ). le_bytes k n) w
+  one_bytes (item.Bytes bytes) h = part_of_bytes (byte_values [] bytes) ∙ values_bytes [] bytes
+  one_bytes (item.Symbol name offset) h =
+      let k = known name (and_parts (has_global p name) (is_bits offset) h).0 in
+      append-nil (le_bytes 8 (address m name + offset) ++ []) ∙ append-nil (le_bytes 8 (address m name + offset)) ∙ ap (λ (a : ℕ). le_bytes 8 (a + offset)) k
+  one_bytes (item.Zero n) h = append-nil (part_bytes m (part.Zero n))
+
+  items_bytes : (is : List Item) → list_all (is_item p) is ≡ true → flat_map (part_bytes m) (parts_of is) ≡ flat_map (item_bytes p) is
+  items_bytes [] h = refl
+  items_bytes (i ∷ is) h =
+      let k = and_parts (is_item p i) (list_all (is_item p) is) h in
+      flat_map-append (part_bytes m) (item_parts i) (parts_of is)
+      ∙ ap (λ (xs : List ℕ). xs ++ flat_map (part_bytes m) (parts_of is)) (one_bytes i k.0)
+      ∙ ap (λ (xs : List ℕ). item_bytes p i ++ xs) (items_bytes is k.1)
+
+  -- ---- memory
+
+  functions_take_none : (memory : Memory) (globals : List Data) (fs : List FlatFn) → with_data m memory (map (function_item globals) fs) ≡ memory
+  functions_take_none memory globals [] = refl
+  functions_take_none memory globals (f ∷ fs) = functions_take_none memory globals fs
+
+  -- globals that stand from `at` on, as the module has them
+  pub same_data : (at : ℕ) (memory : Memory) (ds : List Data) (fs : List FlatFn) → list_all (is_global p) ds ≡ true
+      → ((i : ℕ) → i < length ds → address m (name_at ds i) ≡ (slice_index_or (addresses_from at ds) i ([], 0)).1)
+      → with_data m memory (map data_item ds ++ map (function_item p.globals) fs) ≡ with_globals p memory at ds
+  same_data at memory [] fs h places = functions_take_none memory p.globals fs
+  same_data at memory (d ∷ ds) fs h places =
+      let k = and_parts (is_global p d) (list_all (is_global p) ds) h in
+      ap (λ (x : ℕ). with_data m (with_item m memory x (parts_of d.items)) (map data_item ds ++ map (function_item p.globals) fs)) (places 0 (omega arith))
+      ∙ ap (λ (xs : List ℕ). with_data m (map_range (write memory (round_up at d.align) xs) (round_up at d.align) (data_size (parts_of d.items))) (map data_item ds ++ map (function_item p.globals) fs)) (items_bytes d.items (global_items p d k.0))
+      ∙ ap (λ (n : ℕ). with_data m (map_range (write memory (round_up at d.align) (flat_map (item_bytes p) d.items)) (round_up at d.align) n) (map data_item ds ++ map (function_item p.globals) fs)) (global_bytes p d k.0)
+      ∙ same_data (round_up at d.align + flat.data_size d) (with_global p memory (round_up at d.align) d) ds fs k.1 (λ i l. places (suc i) (omega arith))
+
+-- ---- a whole program
+
+rounded : (at align : ℕ) → is_alignment align ≡ true → round_up at align ≤ at + 15
+rounded at align h =
+    let below : align ≤ 16 = grind (arith, nat_tests, common_steps) in
+    let d = div-mul-le_self (at + (align - 1)) align in
+    omega (arith, d, below)
+
+-- no address is large
+addresses_small : (p : FlatProgram) (at : ℕ) (ds : List Data) (i : ℕ) → list_all (is_global p) ds ≡ true → i < length ds → (slice_index_or (addresses_from at ds) i ([], 0)).1 ≤ at + 16 * length ds + sum_by global_size ds
+addresses_small p at [] i h l = absurd (omega arith)
+addresses_small p at (d ∷ ds) i h l = pick i l (addresses_small p (round_up at d.align + flat.data_size d) ds)
+  where
+    k : (is_global p d ≡ true) × (list_all (is_global p) ds ≡ true)
+    k = and_parts (is_global p d) (list_all (is_global p) ds) h
+
+    near : round_up at d.align ≤ at + 15
+    near = rounded at d.align (and_parts (is_alignment d.align) (list_all (is_item p) d.items) (and_parts (is_symbol d.name) _ k.0).1).0
+
+    sums : sum_by global_size (d ∷ ds) ≡ global_size d + sum_by global_size ds
+    sums = sum_cons global_size d ds
+
+    takes : flat.data_size d ≤ 1 + global_size d
+    takes = omega arith
+
+    pick : (j : ℕ) → j < length (d ∷ ds)
+        → ((j' : ℕ) → list_all (is_global p) ds ≡ true → j' < length ds → (slice_index_or (addresses_from (round_up at d.align + flat.data_size d) ds) j' ([], 0)).1 ≤ round_up at d.align + flat.data_size d + 16 * length ds + sum_by global_size ds)
+        → (slice_index_or (addresses_from at (d ∷ ds)) j ([], 0)).1 ≤ at + 16 * length (d ∷ ds) + sum_by global_size (d ∷ ds)
+    pick zero u on = omega (arith, near)
+    pick (suc j) u on = omega (arith, near, sums, takes, on j k.1 (omega arith))
+
+module _ (p : FlatProgram) (w : IsWellFormed p) where
+  differ : (ds : List Data) (i : ℕ) → list_all (λ (d : Data). how_many p d.name == 1) ds ≡ true → i < length ds → how_many p (name_at ds i) ≡ 1
+  differ [] i h l = absurd (omega arith)
+  differ (d ∷ ds) zero h l = let k = (and_parts (how_many p d.name == 1) (list_all (λ (x : Data). how_many p x.name == 1) ds) h).0 in grind (arith, nat_tests)
+  differ (d ∷ ds) (suc i) h l = differ ds i (and_parts (how_many p d.name == 1) (list_all (λ (x : Data). how_many p x.name == 1) ds) h).1 (omega arith)
+
+  symbols : symbols_from functions_start data_start (module_of p).items ≡ addresses_from data_start p.globals ++ symbols_from functions_start (behind_globals p data_start p.globals) (map (function_item p.globals) p.functions)
+  symbols = symbols_are p functions_start data_start p.globals (map (function_item p.globals) p.functions) w.globals
+
+  looked_up : (name : List ℕ) → has_global p name ≡ true → lookup name (symbols_from functions_start data_start (module_of p).items) ≡ lookup name (addresses_from data_start p.globals)
+  looked_up name h = ap (lookup name) symbols ∙ lookup_front name data_start p.globals _ h
+
+  named : (name : List ℕ) → has_global p name ≡ true → address (module_of p) name ≡ flat.address_named p name
+  named name h = ap or_none (looked_up name h) ∙ both (lookup name (addresses_from data_start p.globals))
+    where
+      or_none : Option ℕ → ℕ
+      or_none o = il_address.or_zero o
+
+      both : (o : Option ℕ) → il_address.or_zero o ≡ flat.or_zero o
+      both None = refl
+      both (Some n) = refl
+
+  -- a global has the same address on both sides
+  pub address_is : (i : ℕ) → i < length p.globals → address (module_of p) (name_at p.globals i) ≡ flat.address_at p i
+  address_is i h =
+      let one = differ p.globals i w.globals_differ h in
+      let e = looked_up (name_at p.globals i) (name_any p.globals i h) ∙ lookup_at data_start p.globals i h (omega (arith, one)) in
+      ap il_address.or_zero e
+
+  pub address_small : (i : ℕ) → i < length p.globals → flat.address_at p i < 2 ^ 64
+  address_small i h =
+      let few : length p.globals ≤ 1073741824 = let z = w.few_globals in grind (arith, nat_tests) in
+      let bytes : sum_by global_size p.globals ≤ 1073741824 = let z = w.few_bytes in grind (arith, nat_tests) in
+      omega (arith, few, bytes, addresses_small p data_start p.globals i w.globals h)
+
+  -- and the memory is the same as the runs begin
+  pub start_same : (fill : ℕ) (args : List (List ℕ)) → start_memory fill (module_of p) args ≡ flat.start_memory fill p args
+  start_same fill args = ap (λ (memory : Memory). with_arguments memory args) (same_data p (module_of p) named data_start (empty_memory fill) p.globals p.functions w.globals address_is)

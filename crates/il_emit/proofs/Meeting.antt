@@ -1,0 +1,170 @@
+-- What runs come to, put together: steps before, a statement and those behind it, turns, and labels and jumps behind code.
+use Rattle.std.proofs.Common.{◌≡◌, ℕ, zero, suc, ◌+◌, ◌*◌, ◌≤◌, List, ◌∷◌, refl, ap, ◌∙◌, arith}
+use Rattle.flat_code.specs.State as flat
+use Rattle.flat_code.specs.State.{Result, Next, Left, Returned, HeapFull, Spent}
+use Rattle.il_code.specs.declared.types.Jump.TheVariants as jump
+use Rattle.il_code.specs.declared.types.Module.{Module}
+use Rattle.il_code.specs.Machine as machine
+use Rattle.il_code.specs.MachineLaws.{jumps_and_calls}
+use Rattle.il_code.specs.Run.{Run, after_steps}
+use Rattle.il_emit.specs.Names.{label_name}
+use Rattle.il_emit.specs.Lines.{Line, Label, End}
+use Rattle.il_emit.proofs.Places.{Finds}
+use Rattle.il_emit.proofs.Running.{Activation, Mark, counted, steps_more, Holds, out_of, before, jumped_to, jump_step, passed, Comes, Stops, GoesOn, Returns, Meets}
+
+module _ (m : Module) (call : Activation) where
+  -- ---- steps before
+
+  module _ (k : ℕ) (r r1 : Run) (by : after_steps m k r ≡ r1) (low low1 high high1 : ℕ) (pays : high1 + low ≤ high + low1) where
+    on : (j : ℕ) → after_steps m (k + j) r ≡ after_steps m j r1
+    on j = steps_more m k j r ∙ ap (after_steps m j) by
+
+    comes_later : (q q1 : ℕ) (s : flat.State) (ls : List Line) → q ≤ q1 → Comes m call q1 low1 high1 r1 s ls → Comes m call q low high r s ls
+    comes_later q q1 s ls le h =
+        let j = h.jumps in
+        let u = h.units in
+        record { to = h.to; count = k + h.count; by = on h.count ∙ h.by; holds = h.holds; jumps = omega arith; units = omega arith }
+
+    returns_later : (q q1 : ℕ) (s : flat.State) (v : ℕ) → q ≤ q1 → Returns m call q1 low1 high1 r1 s v → Returns m call q low high r s v
+    returns_later q q1 s v le h =
+        let j = h.jumps in
+        let u = h.units in
+        record { to = h.to; lines = h.lines; count = k + h.count; by = on h.count ∙ h.by; returns = h.returns; holds = h.holds; jumps = omega arith; units = omega arith }
+
+    stops_later : (s : flat.State) (e : machine.End) → Stops m call low1 high1 r1 s e → Stops m call low high r s e
+    stops_later s e h =
+        let z = on h.count in
+        let used : (after_steps m (k + h.count) r).used ≡ (after_steps m h.count r1).used = ap (λ (x : Run). x.used) z in
+        record {
+          count = k + h.count;
+          ended = ap (λ (x : Run). x.ended) z ∙ h.ended;
+          world = ap (λ (x : Run). x.state.world) z ∙ h.world;
+          units = omega (arith, used, h.units);
+          most = h.most;
+        }
+
+    goes_later : (n n1 q q1 : ℕ) (s : flat.State) → q + n ≤ q1 + n1 → GoesOn m call n1 q1 low1 high1 r1 s → GoesOn m call n q low high r s
+    goes_later n n1 q q1 s le h =
+        let z = on h.count in
+        let used : (after_steps m (k + h.count) r).used ≡ (after_steps m h.count r1).used = ap (λ (x : Run). x.used) z in
+        let jumps : jumps_and_calls (after_steps m (k + h.count) r) ≡ jumps_and_calls (after_steps m h.count r1) = ap jumps_and_calls z in
+        record {
+          count = k + h.count;
+          ended = ap (λ (x : Run). x.ended) z ∙ h.ended;
+          world = ap (λ (x : Run). x.state.world) z ∙ h.world;
+          jumps = omega (arith, jumps, h.jumps, le);
+          units = omega (arith, used, h.units);
+          most = h.most;
+        }
+
+    pub later : (n n1 q q1 : ℕ) (out : ℕ → List Line) (rest : List Line) (res : Result) → q ≤ q1 → q + n ≤ q1 + n1 → Meets m call n1 q1 low1 high1 out rest r1 res → Meets m call n q low high out rest r res
+    later n n1 q q1 out rest (Next, s) l le h = comes_later q q1 s rest l h
+    later n n1 q q1 out rest (Left k', s) l le h = comes_later q q1 s (out k') l h
+    later n n1 q q1 out rest (Returned v, s) l le h = returns_later q q1 s v l h
+    later n n1 q q1 out rest (flat.Exit k', s) l le h = stops_later s _ h
+    later n n1 q q1 out rest (flat.Abort t, s) l le h = stops_later s _ h
+    later n n1 q q1 out rest (flat.Fault f, s) l le h = stops_later s _ h
+    later n n1 q q1 out rest (HeapFull, s) l le h = stops_later s _ h
+    later n n1 q q1 out rest (Spent, s) l le h = goes_later n n1 q q1 s le h
+
+  -- more units may be used
+  pub may_use : (n q low low1 high high1 : ℕ) (out : ℕ → List Line) (rest : List Line) (r : Run) (res : Result) → high1 + low ≤ high + low1 → Meets m call n q low1 high1 out rest r res → Meets m call n q low high out rest r res
+  may_use n q low low1 high high1 out rest r res le h = later 0 r r refl low low1 high high1 le n n q q out rest res (omega arith) (omega arith) h
+
+  -- ---- statements put together
+
+  -- what is claimed of what comes next: `more` units may be used there besides
+  abbrev pub NextMeets : (n more : ℕ) (out : ℕ → List Line) (rest here : List Line) → (flat.State → Result) → Type 0
+  NextMeets n more out rest here go = (s : flat.State) (c : Mark) → Holds call.floor s c → Meets m call n (counted c) (4 * s.steps) (c.used + more) out rest (before m call here s.world c) (go s)
+
+  behind : (n q low high more : ℕ) (out : ℕ → List Line) (rest here : List Line) (r : Run) (s : flat.State) (go : flat.State → Result) → Comes m call q low high r s here → NextMeets n more out rest here go → Meets m call n q low (high + more) out rest r (go s)
+  behind n q low high more out rest here r s go h g =
+      let j = h.jumps in
+      let u = h.units in
+      later h.count r (before m call here s.world h.to) h.by low (4 * s.steps) (high + more) (h.to.used + more) (omega arith) n n q (counted h.to) out rest (go s) j (omega arith) (g s h.to h.holds)
+
+  stops_more : (low high more : ℕ) (r : Run) (s : flat.State) (e : machine.End) → Stops m call low high r s e → Stops m call low (high + more) r s e
+  stops_more low high more r s e h = let u = h.units in record { count = h.count; ended = h.ended; world = h.world; units = omega arith; most = h.most }
+
+  returns_more : (q low high more : ℕ) (r : Run) (s : flat.State) (v : ℕ) → Returns m call q low high r s v → Returns m call q low (high + more) r s v
+  returns_more q low high more r s v h = let u = h.units in record { to = h.to; lines = h.lines; count = h.count; by = h.by; returns = h.returns; holds = h.holds; jumps = h.jumps; units = omega arith }
+
+  comes_more : (q low high more : ℕ) (r : Run) (s : flat.State) (ls : List Line) → Comes m call q low high r s ls → Comes m call q low (high + more) r s ls
+  comes_more q low high more r s ls h = let u = h.units in record { to = h.to; count = h.count; by = h.by; holds = h.holds; jumps = h.jumps; units = omega arith }
+
+  goes_more : (n q low high more : ℕ) (r : Run) (s : flat.State) → GoesOn m call n q low high r s → GoesOn m call n q low (high + more) r s
+  goes_more n q low high more r s h = let u = h.units in record { count = h.count; ended = h.ended; world = h.world; jumps = h.jumps; units = omega arith; most = h.most }
+
+  module _ (n q low high more : ℕ) (out : ℕ → List Line) (rest here : List Line) (r : Run) (go : flat.State → Result) (g : NextMeets n more out rest here go) where
+    -- a statement and all behind it
+    pub then_meets : (res : Result) → Meets m call n q low high out here r res → Meets m call n q low (high + more) out rest r (flat.then_go res go)
+    then_meets (Next, s) h = behind n q low high more out rest here r s go h g
+    then_meets (Left k, s) h = comes_more q low high more r s (out k) h
+    then_meets (Returned v, s) h = returns_more q low high more r s v h
+    then_meets (flat.Exit k, s) h = stops_more low high more r s _ h
+    then_meets (flat.Abort t, s) h = stops_more low high more r s _ h
+    then_meets (flat.Fault f, s) h = stops_more low high more r s _ h
+    then_meets (HeapFull, s) h = stops_more low high more r s _ h
+    then_meets (Spent, s) h = goes_more n q low high more r s h
+
+    -- the body of a Loop and the turns behind it
+    pub turn_meets : (res : Result) → Meets m call n q low high (out_of rest out) here r res → Meets m call n q low (high + more) out rest r (flat.then_turn res go)
+    turn_meets (Next, s) h = behind n q low high more out rest here r s go h g
+    turn_meets (Left zero, s) h = comes_more q low high more r s rest h
+    turn_meets (Left (suc k), s) h = comes_more q low high more r s (out k) h
+    turn_meets (Returned v, s) h = returns_more q low high more r s v h
+    turn_meets (flat.Exit k, s) h = stops_more low high more r s _ h
+    turn_meets (flat.Abort t, s) h = stops_more low high more r s _ h
+    turn_meets (flat.Fault f, s) h = stops_more low high more r s _ h
+    turn_meets (HeapFull, s) h = stops_more low high more r s _ h
+    turn_meets (Spent, s) h = goes_more n q low high more r s h
+
+  -- a Seq
+  pub caught_meets : (n q low high : ℕ) (out : ℕ → List Line) (rest : List Line) (r : Run) (res : Result) → Meets m call n q low high (out_of rest out) rest r res → Meets m call n q low high out rest r (flat.caught res)
+  caught_meets n q low high out rest r (Next, s) h = h
+  caught_meets n q low high out rest r (Left zero, s) h = h
+  caught_meets n q low high out rest r (Left (suc k), s) h = h
+  caught_meets n q low high out rest r (Returned v, s) h = h
+  caught_meets n q low high out rest r (flat.Exit k, s) h = h
+  caught_meets n q low high out rest r (flat.Abort t, s) h = h
+  caught_meets n q low high out rest r (flat.Fault f, s) h = h
+  caught_meets n q low high out rest r (HeapFull, s) h = h
+  caught_meets n q low high out rest r (Spent, s) h = h
+
+  -- behind the code stands a label
+  label_comes : (q low high x : ℕ) (rest : List Line) (r : Run) (s : flat.State) → Comes m call q low high r s (Label x ∷ rest) → Comes m call q low high r s rest
+  label_comes q low high x rest r s h = record { to = passed m call x h.to; count = h.count; by = h.by; holds = record { same = h.holds.same; most = h.holds.most }; jumps = h.jumps; units = h.units }
+
+  pub label_meets : (n q low high x : ℕ) (out : ℕ → List Line) (rest : List Line) (r : Run) (res : Result) → Meets m call n q low high out (Label x ∷ rest) r res → Meets m call n q low high out rest r res
+  label_meets n q low high x out rest r (Next, s) h = label_comes q low high x rest r s h
+  label_meets n q low high x out rest r (Left k, s) h = h
+  label_meets n q low high x out rest r (Returned v, s) h = h
+  label_meets n q low high x out rest r (flat.Exit k, s) h = h
+  label_meets n q low high x out rest r (flat.Abort t, s) h = h
+  label_meets n q low high x out rest r (flat.Fault f, s) h = h
+  label_meets n q low high x out rest r (HeapFull, s) h = h
+  label_meets n q low high x out rest r (Spent, s) h = h
+
+  -- behind the code stands a jump to a label
+  jump_comes : (q low high x : ℕ) (ls rest : List Line) (r : Run) (s : flat.State) → Finds call.lines x rest → Comes m call q low high r s (End (jump.Jmp (label_name x)) ∷ ls) → Comes m call q low (high + 1) r s rest
+  jump_comes q low high x ls rest r s f h =
+      let j = h.jumps in
+      let u = h.units in
+      record {
+        to = jumped_to m call x h.to;
+        count = h.count + 1;
+        by = steps_more m h.count 1 r ∙ ap (after_steps m 1) h.by ∙ jump_step m call x rest ls s.world h.to f;
+        holds = record { same = h.holds.same; most = h.holds.most };
+        jumps = omega arith;
+        units = omega arith;
+      }
+
+  pub jump_meets : (n q low high x : ℕ) (out : ℕ → List Line) (ls rest : List Line) (r : Run) (res : Result) → Finds call.lines x rest → Meets m call n q low high out (End (jump.Jmp (label_name x)) ∷ ls) r res → Meets m call n q low (high + 1) out rest r res
+  jump_meets n q low high x out ls rest r (Next, s) f h = jump_comes q low high x ls rest r s f h
+  jump_meets n q low high x out ls rest r (Left k, s) f h = comes_more q low high 1 r s (out k) h
+  jump_meets n q low high x out ls rest r (Returned v, s) f h = returns_more q low high 1 r s v h
+  jump_meets n q low high x out ls rest r (flat.Exit k, s) f h = stops_more low high 1 r s _ h
+  jump_meets n q low high x out ls rest r (flat.Abort t, s) f h = stops_more low high 1 r s _ h
+  jump_meets n q low high x out ls rest r (flat.Fault e, s) f h = stops_more low high 1 r s _ h
+  jump_meets n q low high x out ls rest r (HeapFull, s) f h = stops_more low high 1 r s _ h
+  jump_meets n q low high x out ls rest r (Spent, s) f h = goes_more n q low high 1 r s h

@@ -1,0 +1,120 @@
+-- Functions by their names: those of the module are those of the program, and none has a name of the runtime.
+use Rattle.std.proofs.Common.{◌≡◌, ℕ, ◌≤◌, Bool, true, false, not, ◌||◌, List, [], ◌∷◌, ◌++◌, map, length, Option, None, Some, refl, sym, subst, arith}
+use Rattle.std.specs.Prelude.{bytes_eq, codes, nat_le, if◌then◌else◌}
+use Rattle.std.specs.List.{list_all, list_any, AllByRecursion}
+use Rattle.std.proofs.lemmas.Bool.{and_parts}
+use Rattle.std.proofs.lemmas.Bool.Decides.{nat_tests}
+use Rattle.std.proofs.lemmas.Slice.Eq.{bytes_eq-Decides}
+use Rattle.hx_base.specs.Runtime.{RuntimeFunction, lookup}
+use Rattle.flat_code.specs.declared.program.Data.{Data}
+use Rattle.flat_code.specs.declared.program.FlatFn.{FlatFn}
+use Rattle.flat_code.specs.Evaluation as flat
+use Rattle.flat_code.specs.Evaluation.{flat_begun, flat_below, framed, in_temps, cut_each, entered}
+use Rattle.flat_code.specs.Shape.{code_of}
+use Rattle.flat_code.specs.WellFormed.{deepest, is_symbol, is_identifier, is_reserved, is_main, is_main_right, is_function_right, has_no_frame, nests_within, is_built, is_right, params_have_one_class}
+use Rattle.il_code.specs.State as il
+use Rattle.il_emit.specs.Emitted.{data_item, params_of, blocks_of, function_item}
+use Rattle.il_emit.specs.Numbered.{HasFewNames}
+
+-- ---- functions by name
+
+-- the function of the module for one of the program
+abbrev pub emitted : List Data → Option FlatFn → Option il.Code
+emitted globals None = None
+emitted globals (Some f) = Some (record { params = params_of 0 f.params; blocks = blocks_of globals f })
+
+functions_named : (globals : List Data) (fs : List FlatFn) (name : List ℕ) → il.function_named (map (function_item globals) fs) name ≡ emitted globals (flat.function_named fs name)
+functions_named globals [] name = refl
+functions_named globals (f ∷ fs) name = pick (bytes_eq f.name name) refl (functions_named globals fs name)
+  where
+    pick : (b : Bool) → bytes_eq f.name name ≡ b → il.function_named (map (function_item globals) fs) name ≡ emitted globals (flat.function_named fs name)
+        → il.function_named (map (function_item globals) (f ∷ fs)) name ≡ emitted globals (flat.function_named (f ∷ fs) name)
+    pick true e on = rw e refl
+    pick false e on = rw e on
+
+pub items_named : (globals ds : List Data) (fs : List FlatFn) (name : List ℕ) → il.function_named (map data_item ds ++ map (function_item globals) fs) name ≡ emitted globals (flat.function_named fs name)
+items_named globals [] fs name = functions_named globals fs name
+items_named globals (d ∷ ds) fs name = items_named globals ds fs name
+
+-- a function that is found
+pub record Found (globals : ℕ) (name : List ℕ) (f : FlatFn) : Type 0 where
+  pub named : bytes_eq f.name name ≡ true
+  pub right : is_function_right globals f ≡ true
+  pub few : HasFewNames f
+
+pub found : (globals : ℕ) (name : List ℕ) (fs : List FlatFn) (f : FlatFn) → list_all (is_function_right globals) fs ≡ true → AllByRecursion HasFewNames fs → flat.function_named fs name ≡ Some f → Found globals name f
+found globals name [] f h few e = cc
+found globals name (x ∷ fs) f h few e =
+    let k = and_parts (is_function_right globals x) (list_all (is_function_right globals) fs) h in
+    pick (bytes_eq x.name name) refl e (found globals name fs f k.1 few.1)
+  where
+    pick : (b : Bool) → bytes_eq x.name name ≡ b → (if b then Some x else flat.function_named fs name) ≡ Some f → (flat.function_named fs name ≡ Some f → Found globals name f) → Found globals name f
+    pick true n e' on =
+        let same : x ≡ f = cc in
+        subst (λ (z : FlatFn). Found globals name z) same (record { named = n; right = (and_parts (is_function_right globals x) (list_all (is_function_right globals) fs) h).0; few = few.0 })
+    pick false n e' on = on e'
+
+-- no function has a name of the runtime
+pub reserved : (name : List ℕ) (rows : List (List ℕ × RuntimeFunction)) (g : RuntimeFunction) → list_all (λ (x : List ℕ × RuntimeFunction). is_reserved x.0) rows ≡ true → lookup name rows ≡ Some g → is_reserved name ≡ true
+reserved name [] g h e = cc
+reserved name (x ∷ rows) g h e = pick (bytes_eq x.0 name) refl e (reserved name rows g k.1)
+  where
+    k : (is_reserved x.0 ≡ true) × (list_all (λ (y : List ℕ × RuntimeFunction). is_reserved y.0) rows ≡ true)
+    k = and_parts (is_reserved x.0) (list_all (λ (y : List ℕ × RuntimeFunction). is_reserved y.0) rows) h
+
+    pick : (b : Bool) → bytes_eq x.0 name ≡ b → (if b then Some x.1 else lookup name rows) ≡ Some g → (lookup name rows ≡ Some g → is_reserved name ≡ true) → is_reserved name ≡ true
+    pick true n e' on = subst (λ (s : List ℕ). is_reserved s ≡ true) ((bytes_eq-Decides x.0 name).0 n) k.0
+    pick false n e' on = on e'
+
+not_both : (b : Bool) → b ≡ true → not b ≡ true → ⊥
+not_both true e h = cc
+not_both false e h = cc
+
+pub none_named : (globals : ℕ) (fs : List FlatFn) (name : List ℕ) → list_all (is_function_right globals) fs ≡ true → is_reserved name ≡ true → flat.function_named fs name ≡ None
+none_named globals [] name h r = refl
+none_named globals (f ∷ fs) name h r = pick (bytes_eq f.name name) refl (none_named globals fs name k.1 r)
+  where
+    k : (is_function_right globals f ≡ true) × (list_all (is_function_right globals) fs ≡ true)
+    k = and_parts (is_function_right globals f) (list_all (is_function_right globals) fs) h
+
+    own : not (is_reserved f.name) ≡ true
+    own = (and_parts (is_identifier f.name) (not (is_reserved f.name)) (and_parts (is_symbol f.name) _ k.0).0).1
+
+    pick : (b : Bool) → bytes_eq f.name name ≡ b → flat.function_named fs name ≡ None → (if b then Some f else flat.function_named fs name) ≡ None
+    pick true n on = absurd (not_both (is_reserved f.name) (subst (λ (s : List ℕ). is_reserved s ≡ true) (sym ((bytes_eq-Decides f.name name).0 n)) r) own)
+    pick false n on = on
+
+-- there is a `main`
+pub main_there : (fs : List FlatFn) → list_any is_main fs ≡ true → flat.function_named fs (codes "main") ≡ None → ⊥
+main_there [] h e = cc
+main_there (f ∷ fs) h e = pick (bytes_eq f.name (codes "main")) refl h e (main_there fs)
+  where
+    pick : (b : Bool) → bytes_eq f.name (codes "main") ≡ b → (b || list_any is_main fs) ≡ true → (if b then Some f else flat.function_named fs (codes "main")) ≡ None → (list_any is_main fs ≡ true → flat.function_named fs (codes "main") ≡ None → ⊥) → ⊥
+    pick true n h' e' on = cc
+    pick false n h' e' on = on h' e'
+
+-- ---- one function
+
+-- what its being right says
+pub record Parts (globals : ℕ) (f : FlatFn) : Type 0 where
+  pub few_params : length f.params ≤ f.temps
+  pub no_frame : f.frame ≡ 0
+  pub built : is_built (code_of f.body) ≡ true
+  pub code : is_right globals f 0 (code_of f.body) ≡ true
+
+pub parts : (globals : ℕ) (f : FlatFn) → is_function_right globals f ≡ true → Parts globals f
+parts globals f h =
+    let a = and_parts (is_symbol f.name) _ h in
+    let b = and_parts (is_main_right f) _ a.1 in
+    let c = and_parts (nat_le (length f.params) f.temps) _ b.1 in
+    let d = and_parts (has_no_frame f) _ c.1 in
+    let e = and_parts (nests_within (code_of f.body) deepest) _ d.1 in
+    let g = and_parts (is_built (code_of f.body)) _ e.1 in
+    let i = and_parts (params_have_one_class f 0 f.params) (is_right globals f 0 (code_of f.body)) g.1 in
+    record { few_params = at_most c.0; no_frame = none d.0; built = g.0; code = i.1 }
+  where
+    at_most : nat_le (length f.params) f.temps ≡ true → length f.params ≤ f.temps
+    at_most e = grind (arith, nat_tests)
+
+    none : has_no_frame f ≡ true → f.frame ≡ 0
+    none e = grind (arith, nat_tests)

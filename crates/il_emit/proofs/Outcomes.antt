@@ -1,0 +1,107 @@
+-- Each operation of flat code is one that computes, and gives a value or finds that its divisor is 0.
+use Rattle.std.proofs.Common.{◌≡◌, ℕ, Bool, true, false, Some, refl}
+use Rattle.std.specs.Prelude.{Ok, Err, ◌==◌, if◌then◌else◌}
+use Rattle.hx_base.specs.declared.Class.{Class}
+use Rattle.flat_code.specs.declared.op.Op.{Op}
+use Rattle.flat_code.specs.declared.op.Op.TheVariants as flat
+use Rattle.flat_code.specs.Kinds.{op_kind, takes_two}
+use Rattle.il_code.specs.declared.types.MachineFault.TheVariants.{ZeroDivisor}
+use Rattle.il_code.specs.Operations.{Outcome, cut, op_value}
+use Rattle.il_code.specs.Step.{Computes, kind_of}
+use Rattle.il_emit.specs.Meaning.{second_number}
+use Rattle.il_emit.specs.Ops.{il_op}
+
+-- what an operation of flat code may give
+pub data Fine : Outcome → Type 0 where
+  gives : (v : ℕ) → Fine (Some (Ok v))
+  divides : Fine (Some (Err ZeroDivisor))
+
+tested : (zero : Bool) (v : ℕ) → Fine (if zero then Some (Err ZeroDivisor) else Some (Ok v))
+tested true v = divides
+tested false v = gives v
+
+pub op_fine : (o : Op) (class : Class) (a b : ℕ) → Fine (op_value class (il_op o) a (second_number (takes_two (op_kind o)) b))
+op_fine flat.Neg class a b = gives _
+op_fine flat.Copy class a b = gives _
+op_fine flat.Extsb class a b = gives _
+op_fine flat.Extub class a b = gives _
+op_fine flat.Extsh class a b = gives _
+op_fine flat.Extuh class a b = gives _
+op_fine flat.Extsw class a b = gives _
+op_fine flat.Extuw class a b = gives _
+op_fine flat.Add class a b = gives _
+op_fine flat.Sub class a b = gives _
+op_fine flat.Mul class a b = gives _
+op_fine flat.Div class a b = tested (cut class b == 0) _
+op_fine flat.Rem class a b = tested (cut class b == 0) _
+op_fine flat.Udiv class a b = tested (cut class b == 0) _
+op_fine flat.Urem class a b = tested (cut class b == 0) _
+op_fine flat.And class a b = gives _
+op_fine flat.Or class a b = gives _
+op_fine flat.Xor class a b = gives _
+op_fine flat.Shl class a b = gives _
+op_fine flat.Shr class a b = gives _
+op_fine flat.Sar class a b = gives _
+op_fine flat.Ceqw class a b = gives _
+op_fine flat.Ceql class a b = gives _
+op_fine flat.Cnew class a b = gives _
+op_fine flat.Cnel class a b = gives _
+op_fine flat.Cslew class a b = gives _
+op_fine flat.Cslel class a b = gives _
+op_fine flat.Csltw class a b = gives _
+op_fine flat.Csltl class a b = gives _
+op_fine flat.Csgew class a b = gives _
+op_fine flat.Csgel class a b = gives _
+op_fine flat.Csgtw class a b = gives _
+op_fine flat.Csgtl class a b = gives _
+op_fine flat.Culew class a b = gives _
+op_fine flat.Culel class a b = gives _
+op_fine flat.Cultw class a b = gives _
+op_fine flat.Cultl class a b = gives _
+op_fine flat.Cugew class a b = gives _
+op_fine flat.Cugel class a b = gives _
+op_fine flat.Cugtw class a b = gives _
+op_fine flat.Cugtl class a b = gives _
+
+pub op_computes : (o : Op) → kind_of (il_op o) ≡ Computes
+op_computes flat.Neg = refl
+op_computes flat.Copy = refl
+op_computes flat.Extsb = refl
+op_computes flat.Extub = refl
+op_computes flat.Extsh = refl
+op_computes flat.Extuh = refl
+op_computes flat.Extsw = refl
+op_computes flat.Extuw = refl
+op_computes flat.Add = refl
+op_computes flat.Sub = refl
+op_computes flat.Mul = refl
+op_computes flat.Div = refl
+op_computes flat.Rem = refl
+op_computes flat.Udiv = refl
+op_computes flat.Urem = refl
+op_computes flat.And = refl
+op_computes flat.Or = refl
+op_computes flat.Xor = refl
+op_computes flat.Shl = refl
+op_computes flat.Shr = refl
+op_computes flat.Sar = refl
+op_computes flat.Ceqw = refl
+op_computes flat.Ceql = refl
+op_computes flat.Cnew = refl
+op_computes flat.Cnel = refl
+op_computes flat.Cslew = refl
+op_computes flat.Cslel = refl
+op_computes flat.Csltw = refl
+op_computes flat.Csltl = refl
+op_computes flat.Csgew = refl
+op_computes flat.Csgel = refl
+op_computes flat.Csgtw = refl
+op_computes flat.Csgtl = refl
+op_computes flat.Culew = refl
+op_computes flat.Culel = refl
+op_computes flat.Cultw = refl
+op_computes flat.Cultl = refl
+op_computes flat.Cugew = refl
+op_computes flat.Cugel = refl
+op_computes flat.Cugtw = refl
+op_computes flat.Cugtl = refl

@@ -1,0 +1,148 @@
+-- The module has the program's shape: the same functions, with no loop and no call that the program does not have, and calls that cost the stack no more.
+use Rattle.std.specs.Prelude.{ℕ, suc, ◌+◌, ◌≤◌, Bool, true, false, not, ◌&&◌, ◌||◌, IsTrue, List, [], ◌∷◌, Option, None, Some, bytes_eq, count_by, sum_by, if◌then◌else◌}
+use Rattle.std.specs.List.{list_all}
+use Rattle.flat_code.specs.declared.program.FlatFn.{FlatFn}
+use Rattle.flat_code.specs.declared.program.FlatProgram.{FlatProgram}
+use Rattle.flat_code.specs.Code.{Code, Codes, none, more, Seq, Set, Load, Store, Move, If, Loop, Leave, Call, Ret}
+use Rattle.flat_code.specs.Costs as flat_cost
+use Rattle.flat_code.specs.Evaluation as flat
+use Rattle.flat_code.specs.Shape.{code_of}
+use Rattle.il_code.specs.declared.types.Block.{Block}
+use Rattle.il_code.specs.declared.types.IlValue.{IlValue}
+use Rattle.il_code.specs.declared.types.IlValue.TheVariants as il_value
+use Rattle.il_code.specs.declared.types.Inst.{Inst}
+use Rattle.il_code.specs.declared.types.Inst.TheVariants as inst
+use Rattle.il_code.specs.declared.types.Module.{Module}
+use Rattle.il_code.specs.Machine.{call_cost}
+use Rattle.il_code.specs.Rules.{has_label, targets_pass}
+use Rattle.il_code.specs.State as il
+use Rattle.il_code.specs.Step.{Kind, Takes, Loads, Computes, kind_of, taken}
+
+-- ---- blocks
+
+-- how many jumps name a block that does not stand behind the jump's own: without such a jump control only goes on
+abbrev pub backward_jumps : List Block → ℕ
+backward_jumps [] = 0
+backward_jumps (b ∷ behind) = (if targets_pass (has_label behind) b.jump then 0 else 1) + backward_jumps behind
+
+-- a call of the function with a name
+abbrev pub is_call_of : List ℕ → Inst → Bool
+is_call_of name (inst.Call result target args) = bytes_eq target name
+is_call_of name (inst.Set temp class op a b) = false
+is_call_of name (inst.Store width value at) = false
+is_call_of name (inst.Blit from to bytes) = false
+
+-- how many such calls stand in blocks
+abbrev pub calls_of : List ℕ → List Block → ℕ
+calls_of name blocks = sum_by (λ (b : Block). count_by (is_call_of name) b.insts) blocks
+
+-- ---- the stack
+
+-- whether an operation takes bytes of the stack
+abbrev pub is_taking : Kind → Bool
+is_taking Takes = true
+is_taking (Loads width extends) = false
+is_taking Computes = false
+
+-- an alloc
+abbrev pub is_alloc : Inst → Bool
+is_alloc (inst.Set temp class op a b) = is_taking (kind_of op)
+is_alloc (inst.Store width value at) = false
+is_alloc (inst.Blit from to bytes) = false
+is_alloc (inst.Call result target args) = false
+
+-- the bytes that an alloc names, if it names a number
+abbrev pub number_of : IlValue → Option ℕ
+number_of (il_value.Number n) = Some n
+number_of (il_value.Temp t) = None
+number_of (il_value.Symbol name) = None
+
+abbrev pub fixed : Option ℕ → Bool
+fixed None = false
+fixed (Some n) = true
+
+-- an alloc names a number of bytes
+abbrev pub has_fixed_size : Inst → Bool
+has_fixed_size (inst.Set temp class op a b) = not (is_taking (kind_of op)) || fixed (number_of a)
+has_fixed_size (inst.Store width value at) = true
+has_fixed_size (inst.Blit from to bytes) = true
+has_fixed_size (inst.Call result target args) = true
+
+-- allocs stand in the first block, to which no jump of a valid function leads, and each names a number of bytes: so each call takes them once
+abbrev pub allocs_are_placed : List Block → Bool
+allocs_are_placed [] = true
+allocs_are_placed (first ∷ rest) = list_all has_fixed_size first.insts && list_all (λ (b : Block). list_all (λ (i : Inst). not (is_alloc i)) b.insts) rest
+
+abbrev pub taken_of : Option ℕ → ℕ
+taken_of None = 0
+taken_of (Some n) = taken n
+
+-- the bytes that an instruction takes of the stack
+abbrev pub takes : Inst → ℕ
+takes (inst.Set temp class op a b) = if is_taking (kind_of op) then taken_of (number_of a) else 0
+takes (inst.Store width value at) = 0
+takes (inst.Blit from to bytes) = 0
+takes (inst.Call result target args) = 0
+
+-- what a call of a function costs the stack in all
+abbrev pub full_cost : il.Code → ℕ
+full_cost c = call_cost c.params c.blocks + sum_by (λ (b : Block). sum_by takes b.insts) c.blocks
+
+-- ---- code
+
+-- how many Loops stand in code
+abbrev mutual
+  pub loops_in : Code → ℕ
+  loops_in (Seq cs) = loops_in_all cs
+  loops_in (Set temp class op a b) = 0
+  loops_in (Load temp how at) = 0
+  loops_in (Store width value at) = 0
+  loops_in (Move to from bytes) = 0
+  loops_in (If cond a b) = loops_in a + loops_in b
+  loops_in (Loop c) = suc (loops_in c)
+  loops_in (Leave k) = 0
+  loops_in (Call temp name args) = 0
+  loops_in (Ret value) = 0
+
+  pub loops_in_all : Codes → ℕ
+  loops_in_all none = 0
+  loops_in_all (more c cs) = loops_in c + loops_in_all cs
+
+-- how many Calls of the function with a name stand in code
+abbrev mutual
+  pub calls_in : List ℕ → Code → ℕ
+  calls_in name (Seq cs) = calls_in_all name cs
+  calls_in name (Set temp class op a b) = 0
+  calls_in name (Load temp how at) = 0
+  calls_in name (Store width value at) = 0
+  calls_in name (Move to from bytes) = 0
+  calls_in name (If cond a b) = calls_in name a + calls_in name b
+  calls_in name (Loop c) = calls_in name c
+  calls_in name (Leave k) = 0
+  calls_in name (Call temp target args) = if bytes_eq target name then 1 else 0
+  calls_in name (Ret value) = 0
+
+  pub calls_in_all : List ℕ → Codes → ℕ
+  calls_in_all name none = 0
+  calls_in_all name (more c cs) = calls_in name c + calls_in_all name cs
+
+-- ---- functions and programs
+
+-- A function of the module has no more backward jumps than one of the program has Loops, no more calls of any function than that has Calls of it, and a call of it costs
+-- the stack no more than flat code says.
+pub record IsShapedAs (f : FlatFn) (c : il.Code) : Type 0 where
+  pub jumps : backward_jumps c.blocks ≤ loops_in (code_of f.body)
+  pub calls : (name : List ℕ) → calls_of name c.blocks ≤ calls_in name (code_of f.body)
+  pub allocs : IsTrue (allocs_are_placed c.blocks)
+  pub cost : full_cost c ≤ flat_cost.call_cost f
+
+-- the function of the module for one of the program, which is there exactly where that is
+abbrev pub AreAlike : Option FlatFn → Option il.Code → Type 0
+AreAlike None None = Unit {0}
+AreAlike None (Some c) = ⊥
+AreAlike (Some f) None = ⊥
+AreAlike (Some f) (Some c) = IsShapedAs f c
+
+-- function by function, by their names
+abbrev pub HasShape : FlatProgram → Module → Type 0
+HasShape p m = (name : List ℕ) → AreAlike (flat.function_named p.functions name) (il.function_named m.items name)
