@@ -1,0 +1,12 @@
+pub mod Readable
+pub mod Taken
+pub mod Front
+pub mod Lists
+pub mod Values
+pub mod Ops
+pub mod Lines
+pub mod Jumps
+pub mod Blocks
+pub mod Functions
+pub mod Data
+pub mod Items

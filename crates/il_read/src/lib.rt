@@ -1,0 +1,24 @@
+//! Reading the printed text of a module back.
+//!
+//! [`read_printed`] takes the texts that [`il_code::print`] writes and no others. Every readable module comes back as it was
+//! (`specs/Readable.antt`), and every valid module is readable ([`law_readable`]).
+#![tactic(auto)]
+
+mod block;
+mod data;
+mod front;
+mod function;
+mod items;
+mod jump;
+mod law;
+mod line;
+mod list;
+mod op;
+mod printed;
+mod taken;
+#[cfg(test)]
+mod tests;
+mod value;
+
+pub use law::law_readable;
+pub use printed::read_printed;
