@@ -13,3 +13,4 @@ pub mod Compiled
 pub mod Costs
 pub mod Sizes
 pub mod Backward
+mod Rows

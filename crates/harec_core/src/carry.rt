@@ -25,7 +25,15 @@ pub fn carry_out<O: Sink>(
 ) -> Answer
     requires count { O.faults out.old < 2 ^ 64 - 1 }
     requires made { (source : List ℕ) × (m : Module) × IsTextOf source text.now m }
-    ensures cause { (source : List ℕ) (m : Module) (files : Count) → IsTextOf source text.now m → Stands files → HasCause (record { action = action_of action.entry; source = source; fill = fill; files = files; out = sent (O.faults out.old) (O.faults out.new) (O.written out.old) (O.written out.new); text = text.now }) result }
+    ensures cause { (source : List ℕ) (m : Module) (files : Count) → IsTextOf source text.now m → Stands files
+        → HasCause (record {
+          action = action_of action.entry;
+          source = source;
+          fill = fill;
+          text = text.now;
+          files = files;
+          out = sent (O.faults out.old) (O.faults out.new) (O.written out.old) (O.written out.new);
+        }) result }
     ensures leaves { LeavesOutput result out.old out.new }
 {
     match action {

@@ -15,7 +15,9 @@ use std::alloc::{AllocError, Global};
 /// Makes the text of a file's program. False, and no text, where the file is not of the class.
 pub fn make_text(alloc: Global, source: &[u8], text: &mut Bytes) -> Result<bool, AllocError>
     requires { text.old ≡ [] }
-    ensures ok { IfOk result (λ made. MatchBool made ((m : Module) × IsTextOf source.now text.new m) (IsNoSource source.now × (text.new ≡ []))) }
+    ensures ok { IfOk result (λ made. MatchBool made
+        ((m : Module) × IsTextOf source.now text.new m)
+        (IsNoSource source.now × (text.new ≡ []))) }
     ensures err { OnErr result (text.new ≡ []) }
 {
     let Some(module) = module_of(alloc, source)? else {

@@ -15,7 +15,9 @@ use il_code::MachineFault;
 /// `path` is the word that names the file, and `units` are those of a run.
 pub fn report<L: Sink>(log: &mut L, path: &[u8], units: u64, found: Answer) -> Answer
     requires { L.faults log.old < 2 ^ 64 - 1 }
-    ensures { Logs (line path.now units found) (sent (L.faults log.old) (L.faults log.new) (L.written log.old) (L.written log.new)) found result }
+    ensures { Logs (line path.now units found)
+        (sent (L.faults log.old) (L.faults log.new) (L.written log.old) (L.written log.new))
+        found result }
 {
     match write_line(log, path, units, found) {
         Ok(()) => found,
@@ -26,7 +28,9 @@ pub fn report<L: Sink>(log: &mut L, path: &[u8], units: u64, found: Answer) -> A
 // Writes the line of an answer.
 fn write_line<L: Sink>(log: &mut L, path: &[u8], units: u64, found: Answer) -> Result<(), Failed>
     requires { L.faults log.old < 2 ^ 64 - 1 }
-    ensures { Writes (line path.now units found) (sent (L.faults log.old) (L.faults log.new) (L.written log.old) (L.written log.new)) result }
+    ensures { Writes (line path.now units found)
+        (sent (L.faults log.old) (L.faults log.new) (L.written log.old) (L.written log.new))
+        result }
 {
     match found {
         Answer::Accepted | Answer::Exited(_) | Answer::Aborted => write(log, b""),
@@ -45,7 +49,9 @@ fn write_line<L: Sink>(log: &mut L, path: &[u8], units: u64, found: Answer) -> R
 // Writes the line of a run that did what has no meaning.
 fn write_undefined<L: Sink>(log: &mut L, act: Undef) -> Result<(), Failed>
     requires { L.faults log.old < 2 ^ 64 - 1 }
-    ensures { Writes (codes "harec: undefined " ++ (act_name act ++ codes "\n")) (sent (L.faults log.old) (L.faults log.new) (L.written log.old) (L.written log.new)) result }
+    ensures { Writes (codes "harec: undefined " ++ (act_name act ++ codes "\n"))
+        (sent (L.faults log.old) (L.faults log.new) (L.written log.old) (L.written log.new))
+        result }
 {
     write(log, b"harec: undefined ")?;
     write_two(log, act_name(act), b"\n")?;
@@ -55,7 +61,9 @@ fn write_undefined<L: Sink>(log: &mut L, act: Undef) -> Result<(), Failed>
 // Writes the line of a run that spent its units.
 fn write_spent<L: Sink>(log: &mut L, units: u64) -> Result<(), Failed>
     requires { L.faults log.old < 2 ^ 64 - 1 }
-    ensures { Writes (codes "harec: spent " ++ (decimal units ++ codes " units\n")) (sent (L.faults log.old) (L.faults log.new) (L.written log.old) (L.written log.new)) result }
+    ensures { Writes (codes "harec: spent " ++ (decimal units ++ codes " units\n"))
+        (sent (L.faults log.old) (L.faults log.new) (L.written log.old) (L.written log.new))
+        result }
 {
     let mut buffer = itoa::Buffer::new();
     write(log, b"harec: spent ")?;
@@ -66,7 +74,9 @@ fn write_spent<L: Sink>(log: &mut L, units: u64) -> Result<(), Failed>
 // Writes one piece behind the other.
 fn write_two<L: Sink>(log: &mut L, first: &[u8], second: &[u8]) -> Result<(), Failed>
     requires { L.faults log.old < 2 ^ 64 - 1 }
-    ensures { Writes (first.now ++ second.now) (sent (L.faults log.old) (L.faults log.new) (L.written log.old) (L.written log.new)) result }
+    ensures { Writes (first.now ++ second.now)
+        (sent (L.faults log.old) (L.faults log.new) (L.written log.old) (L.written log.new))
+        result }
 {
     write(log, first)?;
     write(log, second)?;

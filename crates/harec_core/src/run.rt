@@ -21,7 +21,9 @@ pub fn run_text<O: Sink>(
     out: &mut O,
 ) -> Result<Ended, AllocError>
     requires { (source : List ℕ) × (m : Module) × IsTextOf source text.now m }
-    ensures ran { (source : List ℕ) (m : Module) (args : List (List ℕ)) (input : List ℕ) → IsTextOf source text.now m → length args ≡ arguments → IfOk result (λ e. RunsAs m args input fill units e (O.written out.old) (O.written out.new)) }
+    ensures ran { (source : List ℕ) (m : Module) (args : List (List ℕ)) (input : List ℕ)
+        → IsTextOf source text.now m → length args ≡ arguments
+        → IfOk result (λ e. RunsAs m args input fill units e (O.written out.old) (O.written out.new)) }
     ensures count { IfOk result (λ e. CountsEnd (O.faults out.old) (O.faults out.new) e) }
     ensures err { OnErr result (out.new ≡ out.old) }
 {

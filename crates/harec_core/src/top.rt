@@ -40,20 +40,37 @@ pub fn harec<F: Files, I: Source, O: Sink, L: Sink>(
     requires count_of_log { L.faults log.old < 2 ^ 64 - 1 }
 
     // A write fault comes exactly where the output or the log failed.
-    ensures write_fault { (result ≡ answer.WriteFault) ↔ ((O.faults out.old < O.faults out.new) ⊎ (L.faults log.old < L.faults log.new)) }
+    ensures write_fault { (result ≡ answer.WriteFault)
+        ↔ ((O.faults out.old < O.faults out.new) ⊎ (L.faults log.old < L.faults log.new)) }
 
     // A file fault comes exactly where reading the file failed, and the log did not.
-    ensures file_fault { (result ≡ answer.FileFault) ↔ ((F.faults files.old < F.faults files.new) × (L.faults log.new ≡ L.faults log.old)) }
+    ensures file_fault { (result ≡ answer.FileFault)
+        ↔ ((F.faults files.old < F.faults files.new) × (L.faults log.new ≡ L.faults log.old)) }
 
     // Usage comes exactly where the words are no command, and the log did not fail. Then nothing but the log is touched.
-    ensures usage { (result ≡ answer.Usage) ↔ (IsNoCommand words.now × (L.faults log.new ≡ L.faults log.old)) }
-    ensures unasked { IsNoCommand words.now → (files.new ≡ files.old) × (out.new ≡ out.old) × (text.new ≡ []) × Logs (line [] 0 answer.Usage) (sent (L.faults log.old) (L.faults log.new) (L.written log.old) (L.written log.new)) answer.Usage result }
+    ensures usage { (result ≡ answer.Usage)
+        ↔ (IsNoCommand words.now × (L.faults log.new ≡ L.faults log.old)) }
+    ensures unasked { IsNoCommand words.now → (files.new ≡ files.old) × (out.new ≡ out.old) × (text.new ≡ [])
+        × Logs (line [] 0 answer.Usage)
+        (sent (L.faults log.old) (L.faults log.new) (L.written log.old) (L.written log.new))
+        answer.Usage result }
 
     // The answer to a command is found by the file's bytes, which are those that the files tell. Then its line goes to the log.
-    ensures command { (c : spec.Command) → IsCommand words.now c → (source : List ℕ) × IfSome (F.content files.old c.path) (λ told. source ≡ told) × (found : Answer)
-        × Answers (record { action = c.action; source = source; fill = fill; files = record { before = F.faults files.old; now = F.faults files.new }; out = sent (O.faults out.old) (O.faults out.new) (O.written out.old) (O.written out.new); text = text.new }) found
+    ensures command { (c : spec.Command) → IsCommand words.now c
+        → (source : List ℕ) × IfSome (F.content files.old c.path) (λ told. source ≡ told)
+        × (found : Answer)
+        × Answers (record {
+          action = c.action;
+          source = source;
+          fill = fill;
+          text = text.new;
+          files = record { before = F.faults files.old; now = F.faults files.new };
+          out = sent (O.faults out.old) (O.faults out.new) (O.written out.old) (O.written out.new);
+        }) found
         × LeavesOutput found out.old out.new
-        × Logs (line c.path (units_of c.action) found) (sent (L.faults log.old) (L.faults log.new) (L.written log.old) (L.written log.new)) found result }
+        × Logs (line c.path (units_of c.action) found)
+        (sent (L.faults log.old) (L.faults log.new) (L.written log.old) (L.written log.new))
+        found result }
 
     // Nothing is read from the input.
     ensures kept { input.new ≡ input.old }
@@ -90,7 +107,14 @@ fn answer_to<F: Files, O: Sink>(
     requires count_of_files { F.faults files.old < 2 ^ 64 - 1 }
     requires count_of_out { O.faults out.old < 2 ^ 64 - 1 }
     ensures cause { (source : List ℕ) × IfSome (F.content files.old command.entry.path.now) (λ told. source ≡ told)
-        × HasCause (record { action = action_of command.entry.action; source = source; fill = fill; files = record { before = F.faults files.old; now = F.faults files.new }; out = sent (O.faults out.old) (O.faults out.new) (O.written out.old) (O.written out.new); text = text.new }) result }
+        × HasCause (record {
+          action = action_of command.entry.action;
+          source = source;
+          fill = fill;
+          text = text.new;
+          files = record { before = F.faults files.old; now = F.faults files.new };
+          out = sent (O.faults out.old) (O.faults out.new) (O.written out.old) (O.written out.new);
+        }) result }
     ensures leaves { LeavesOutput result out.old out.new }
 {
     match files.read(alloc, command.path) {
@@ -111,7 +135,15 @@ fn answer_on<O: Sink>(
 ) -> Answer
     requires empty { text.old ≡ [] }
     requires count_of_out { O.faults out.old < 2 ^ 64 - 1 }
-    ensures cause { (files : Count) → Stands files → HasCause (record { action = action_of action.entry; source = source.now; fill = fill; files = files; out = sent (O.faults out.old) (O.faults out.new) (O.written out.old) (O.written out.new); text = text.new }) result }
+    ensures cause { (files : Count) → Stands files
+        → HasCause (record {
+          action = action_of action.entry;
+          source = source.now;
+          fill = fill;
+          text = text.new;
+          files = files;
+          out = sent (O.faults out.old) (O.faults out.new) (O.written out.old) (O.written out.new);
+        }) result }
     ensures leaves { LeavesOutput result out.old out.new }
 {
     match make_text(alloc, source, text) {
