@@ -3,7 +3,7 @@
 
 use harec_core::{Answer, harec, status};
 use hx_base::{Bytes, Text};
-use hx_io::{HostFiles, HostSink, HostSource};
+use hx_io::{HostFiles, HostSink, HostSource, write_all};
 use std::alloc::{AllocError, Global};
 use std::env;
 use std::io::ErrorKind;
@@ -16,8 +16,9 @@ const FILL: u8 = 165;
 fn main(rt: HostRuntime) -> ExitCode {
     let answer = match words(rt.alloc(), &rt) {
         Ok(Some(words)) => answer_to(&rt, words.as_slice()),
-        Ok(None) => Answer::Usage,
-        Err(_) => Answer::Memory,
+        // Words that are not text are no command, as no words are.
+        Ok(None) => answer_to(&rt, &[]),
+        Err(_) => out_of_memory(&rt),
     };
     ExitCode::from(status(&answer))
 }
@@ -47,4 +48,12 @@ fn answer_to(rt: &HostRuntime, words: &[Text]) -> Answer {
     harec(
         alloc, words, &mut files, &mut input, &mut out, &mut log, FILL, &mut text,
     )
+}
+
+// The answer where there is no memory for the words, with its line.
+fn out_of_memory(rt: &HostRuntime) -> Answer {
+    match write_all(&mut HostSink::new(rt.stderr()), b"harec: memory\n") {
+        Ok(()) => Answer::Memory,
+        Err(_) => Answer::WriteFault,
+    }
 }

@@ -1,19 +1,16 @@
-pub mod AnswersLemmas
-pub mod Carried
-pub mod Evaluated
-pub mod IlScanned
-pub mod Lexed
-pub mod Limited
-pub mod Nested
-pub mod Parsed
-pub mod Parts
-pub mod Ran
-pub mod ReadBack
-pub mod ReadOnly
-pub mod ReadWhole
-mod ReadingRows
-pub mod Same
-pub mod Scanned
+pub mod WordsLemmas
+pub mod SentLemmas
+pub mod Causes
+pub mod Distinct
+pub mod PlainLines
+pub mod PlainCode
+pub mod PlainLowered
+pub mod PlainTexts
+pub mod PlainModule
 pub mod Shaped
+pub mod Forward
+pub mod Compiled
+pub mod Costs
 pub mod Sizes
-pub mod Spelled
+pub mod Backward
+mod Rows

@@ -1,83 +1,154 @@
--- An expression's code has one instruction for each temporary that the expression takes.
-use Rattle.std.proofs.Common.{◌≡◌, ℕ, ◌+◌, ◌-◌, ◌*◌, ◌<◌, ◌≤◌, List, [], ◌∷◌, ◌++◌, cond, count_by, length, refl, arith, length-append}
-use Rattle.std.proofs.lemmas.List.Sums.{sum_by-append, sum_by-cons}
-use Rattle.il_code.specs.declared.op.IlOp.TheVariants.{Add, Sub, Mul}
-use Rattle.il_code.specs.declared.types.Inst.{Inst}
-use Rattle.harec_core.specs.declared.token.Token.{Token}
-use Rattle.harec_core.specs.declared.token.Token.TheVariants as token
-use Rattle.harec_core.specs.Source.{Expr, Terms, Term, Factors, Factor, sum_of, no_term, plus, minus, product_of, no_factor, times, number, arg_count, group, expr_tokens, terms_tokens, term_tokens, factors_tokens, factor_tokens, head_tokens, tail_tokens, is_operator, IsFile}
-use Rattle.harec_core.specs.Lowered.{operation, expr_size, terms_size, term_size, factors_size, factor_size, expr_code, terms_code, term_code, factors_code, factor_code}
+-- A file's program needs no more temporaries than the file has bytes, so that its call fits the stack.
+use Rattle.std.proofs.Common.{◌≡◌, ℕ, ◌+◌, ◌≤◌, List, [], ◌∷◌, ◌++◌, true, length, ap, arith}
+use Rattle.std.proofs.lemmas.List.{length-append}
+use Rattle.flat_code.specs.declared.op.Op.TheVariants.{Add, Sub, Mul}
+use Rattle.flat_code.specs.Code.{Seq, codes_of}
+use Rattle.flat_code.specs.Costs.{call_cost}
+use Rattle.il_code.specs.Machine.{stack_size}
+use Rattle.hare_blocks.specs.declared.token.Token.{Token}
+use Rattle.hare_blocks.specs.declared.token.Token.TheVariants as token
+use Rattle.hare_blocks.specs.Class.{IsSource, IsOfClass}
+use Rattle.hare_blocks.specs.Tokens.{IsSpelling, Spells, is_name}
+use Rattle.hare_blocks.specs.Trees.{Expr, Terms, Term, Factors, Factor, sum_of, no_term, plus, minus, product_of, no_factor, times, number, arg_count, variable, group, Condition, always, compares, Statement, Statements, declares, assigns, chooses, chooses_one, repeats, puts, exits, nothing, first, Program, exit_of, block_of, relation_token, expr_tokens, terms_tokens, term_tokens, factors_tokens, factor_tokens, condition_tokens, head_tokens, in_braces, exit_tokens, statement_tokens, statements_tokens, file_tokens}
+use Rattle.low_blocks.specs.Expressions.{Scope, Piece, operated, expr_piece, terms_piece, term_piece, factors_piece, factor_piece, condition_piece}
+use Rattle.low_blocks.specs.Statements.{Site, past, outside, statement_code, statements_code}
+use Rattle.low_blocks.specs.Programs.{body_of, start, body_code, lowered_main}
+use Rattle.harec_core.proofs.Costs.{none_addressed}
+use Rattle.harec_core.proofs.PlainLowered.{statements_fit}
+use Rattle.harec_core.proofs.Shaped.{Any, any_held}
 
--- the code of a further operand: its own, the operation, and the rest
-length-further : (front rest : List Inst) (i : Inst) (size more : ℕ) → length front ≡ size → length rest ≡ more → length (front ++ i ∷ rest) ≡ size + 1 + more
-length-further front rest i size more a b = omega (arith, length-append front (i ∷ rest))
-
-mutual
-  pub length-expr_code : (k : ℕ) (e : Expr) → length (expr_code k e) ≡ expr_size e
-  length-expr_code k (sum_of t ts) = omega (arith, length-append (term_code k t) (terms_code (k + term_size t) ts), length-term_code k t, length-terms_code (k + term_size t) ts)
-
-  pub length-terms_code : (k : ℕ) (ts : Terms) → length (terms_code k ts) ≡ terms_size ts
-  length-terms_code k no_term = refl
-  length-terms_code k (plus t ts) = length-further (term_code k t) (terms_code (k + term_size t + 1) ts) (operation Add (k + term_size t) (k - 1) (k + term_size t - 1)) (term_size t) (terms_size ts) (length-term_code k t) (length-terms_code (k + term_size t + 1) ts)
-  length-terms_code k (minus t ts) = length-further (term_code k t) (terms_code (k + term_size t + 1) ts) (operation Sub (k + term_size t) (k - 1) (k + term_size t - 1)) (term_size t) (terms_size ts) (length-term_code k t) (length-terms_code (k + term_size t + 1) ts)
-
-  pub length-term_code : (k : ℕ) (t : Term) → length (term_code k t) ≡ term_size t
-  length-term_code k (product_of f fs) = omega (arith, length-append (factor_code k f) (factors_code (k + factor_size f) fs), length-factor_code k f, length-factors_code (k + factor_size f) fs)
-
-  pub length-factors_code : (k : ℕ) (fs : Factors) → length (factors_code k fs) ≡ factors_size fs
-  length-factors_code k no_factor = refl
-  length-factors_code k (times f fs) = length-further (factor_code k f) (factors_code (k + factor_size f + 1) fs) (operation Mul (k + factor_size f) (k - 1) (k + factor_size f - 1)) (factor_size f) (factors_size fs) (length-factor_code k f) (length-factors_code (k + factor_size f + 1) fs)
-
-  pub length-factor_code : (k : ℕ) (f : Factor) → length (factor_code k f) ≡ factor_size f
-  length-factor_code k (number n) = refl
-  length-factor_code k arg_count = refl
-  length-factor_code k (group e) = length-expr_code k e
+-- ---- temporaries of expressions
 
 mutual
-  pub expr_positive : (e : Expr) → 0 < expr_size e
-  expr_positive (sum_of t r) = let p = term_positive t in omega arith
+  expr_next : (scope : Scope) (t : ℕ) (e : Expr) → (expr_piece scope t e).next ≤ t + length (expr_tokens e)
+  expr_next scope t (sum_of a ts) = omega (arith, terms_next scope (term_piece scope t a) ts, term_next scope t a, length-append (term_tokens a) (terms_tokens ts))
 
-  pub term_positive : (t : Term) → 0 < term_size t
-  term_positive (product_of f r) = let p = factor_positive f in omega arith
+  terms_next : (scope : Scope) (left : Piece) (ts : Terms) → (terms_piece scope left ts).next ≤ left.next + length (terms_tokens ts)
+  terms_next scope left no_term = omega arith
+  terms_next scope left (plus a ts) = omega (arith, terms_next scope (operated Add left (term_piece scope left.next a)) ts, term_next scope left.next a, length-append (term_tokens a) (terms_tokens ts))
+  terms_next scope left (minus a ts) = omega (arith, terms_next scope (operated Sub left (term_piece scope left.next a)) ts, term_next scope left.next a, length-append (term_tokens a) (terms_tokens ts))
 
-  pub factor_positive : (f : Factor) → 0 < factor_size f
-  factor_positive (number n) = omega arith
-  factor_positive arg_count = omega arith
-  factor_positive (group e) = expr_positive e
+  term_next : (scope : Scope) (t : ℕ) (a : Term) → (term_piece scope t a).next ≤ t + length (term_tokens a)
+  term_next scope t (product_of f fs) = omega (arith, factors_next scope (factor_piece scope t f) fs, factor_next scope t f, length-append (factor_tokens f) (factors_tokens fs))
 
--- ---- how many temporaries an expression of so many operators takes
+  factors_next : (scope : Scope) (left : Piece) (fs : Factors) → (factors_piece scope left fs).next ≤ left.next + length (factors_tokens fs)
+  factors_next scope left no_factor = omega arith
+  factors_next scope left (times f fs) = omega (arith, factors_next scope (operated Mul left (factor_piece scope left.next f)) fs, factor_next scope left.next f, length-append (factor_tokens f) (factors_tokens fs))
 
--- the operators of two lists of tokens
-count-append : (a b : List Token) → count_by is_operator (a ++ b) ≡ count_by is_operator a + count_by is_operator b
-count-append a b = sum_by-append (λ t. cond (is_operator t) 1 0) a b
+  factor_next : (scope : Scope) (t : ℕ) (f : Factor) → (factor_piece scope t f).next ≤ t + length (factor_tokens f)
+  factor_next scope t (number n) = omega arith
+  factor_next scope t arg_count = omega arith
+  factor_next scope t (variable x) = omega arith
+  factor_next scope t (group e) = omega (arith, expr_next scope t e, length-append (expr_tokens e) (token.CloseParen ∷ []))
 
--- the operators of a token and those behind it
-count-cons : (t : Token) (ts : List Token) → count_by is_operator (t ∷ ts) ≡ cond (is_operator t) 1 0 + count_by is_operator ts
-count-cons t ts = sum_by-cons (λ t. cond (is_operator t) 1 0) t ts
+condition_next : (scope : Scope) (t : ℕ) (c : Condition) → (condition_piece scope t c).next ≤ t + length (condition_tokens c)
+condition_next scope t always = omega arith
+condition_next scope t (compares a r b) =
+    omega (arith, expr_next scope t a, expr_next scope (expr_piece scope t a).next b, length-append (expr_tokens a) (relation_token r ∷ expr_tokens b))
+
+-- ---- temporaries of statements
+
+exit_length : (e : Expr) → length (expr_tokens e) ≤ length (exit_tokens e)
+exit_length e = omega (arith, length-append (expr_tokens e) (token.CloseParen ∷ token.Colon ∷ token.U8 ∷ token.CloseParen ∷ []))
+
+head_length : (keyword : Token) (c : Condition) → length (condition_tokens c) ≤ length (head_tokens keyword c)
+head_length keyword c = omega (arith, length-append (condition_tokens c) (token.CloseParen ∷ []))
+
+braces_length : (ts : List Token) → length ts ≤ length (in_braces ts)
+braces_length ts = omega (arith, length-append ts (token.CloseBrace ∷ []))
 
 mutual
-  pub expr_size-operators : (e : Expr) → expr_size e ≡ 1 + 2 * count_by is_operator (expr_tokens e)
-  expr_size-operators (sum_of t ts) = omega (arith, count-append (term_tokens t) (terms_tokens ts), term_size-operators t, terms_size-operators ts)
+  statement_next : (site : Site) (s : Statement) → (statement_code site s).behind.next ≤ site.next + length (statement_tokens s)
+  statement_next site (declares x e) = omega (arith, expr_next site.scope site.next e)
+  statement_next site (assigns x e) = omega (arith, expr_next site.scope site.next e)
+  statement_next site (chooses c body) =
+      let test = condition_piece site.scope site.next c in
+      omega (arith, condition_next site.scope site.next c, statements_next (past site test.next) body, head_length token.If c, braces_length (statements_tokens body), length-append (head_tokens token.If c) (in_braces (statements_tokens body)))
+  statement_next site (chooses_one c body other) =
+      let test = condition_piece site.scope site.next c in
+      let b = statements_code (past site test.next) body in
+      let rest = token.Else ∷ in_braces (statements_tokens other) in
+      omega (
+        arith,
+        condition_next site.scope site.next c,
+        statements_next (past site test.next) body,
+        statements_next (outside site b.behind) other,
+        head_length token.If c,
+        braces_length (statements_tokens body),
+        braces_length (statements_tokens other),
+        length-append (in_braces (statements_tokens body)) rest,
+        length-append (head_tokens token.If c) (in_braces (statements_tokens body) ++ rest),
+      )
+  statement_next site (repeats c body) =
+      let test = condition_piece site.scope site.next c in
+      omega (arith, condition_next site.scope site.next c, statements_next (past site test.next) body, head_length token.For c, braces_length (statements_tokens body), length-append (head_tokens token.For c) (in_braces (statements_tokens body)))
+  statement_next site (puts text) = omega arith
+  statement_next site (exits e) = omega (arith, expr_next site.scope site.next e, exit_length e)
 
-  terms_size-operators : (ts : Terms) → terms_size ts ≡ 2 * count_by is_operator (terms_tokens ts)
-  terms_size-operators no_term = refl
-  terms_size-operators (plus t ts) = omega (arith, count-cons token.Plus (term_tokens t ++ terms_tokens ts), count-append (term_tokens t) (terms_tokens ts), term_size-operators t, terms_size-operators ts)
-  terms_size-operators (minus t ts) = omega (arith, count-cons token.Minus (term_tokens t ++ terms_tokens ts), count-append (term_tokens t) (terms_tokens ts), term_size-operators t, terms_size-operators ts)
+  statements_next : (site : Site) (ss : Statements) → (statements_code site ss).behind.next ≤ site.next + length (statements_tokens ss)
+  statements_next site nothing = omega arith
+  statements_next site (first s ss) =
+      omega (arith, statement_next site s, statements_next (statement_code site s).behind ss, length-append (statement_tokens s) (token.Semicolon ∷ statements_tokens ss))
 
-  term_size-operators : (t : Term) → term_size t ≡ 1 + 2 * count_by is_operator (term_tokens t)
-  term_size-operators (product_of f fs) = omega (arith, count-append (factor_tokens f) (factors_tokens fs), factor_size-operators f, factors_size-operators fs)
+-- ---- tokens and bytes
 
-  factors_size-operators : (fs : Factors) → factors_size fs ≡ 2 * count_by is_operator (factors_tokens fs)
-  factors_size-operators no_factor = refl
-  factors_size-operators (times f fs) = omega (arith, count-cons token.Star (factor_tokens f ++ factors_tokens fs), count-append (factor_tokens f) (factors_tokens fs), factor_size-operators f, factors_size-operators fs)
+some_bytes : (t : Token) (s : List ℕ) → IsSpelling t s → 1 ≤ length s
+some_bytes token.Use s h = omega (arith, ap length h)
+some_bytes token.Export s h = omega (arith, ap length h)
+some_bytes token.Function s h = omega (arith, ap length h)
+some_bytes token.Void s h = omega (arith, ap length h)
+some_bytes token.U8 s h = omega (arith, ap length h)
+some_bytes token.Let s h = omega (arith, ap length h)
+some_bytes token.If s h = omega (arith, ap length h)
+some_bytes token.Else s h = omega (arith, ap length h)
+some_bytes token.For s h = omega (arith, ap length h)
+some_bytes token.True s h = omega (arith, ap length h)
+some_bytes token.Semicolon s h = omega (arith, ap length h)
+some_bytes token.OpenParen s h = omega (arith, ap length h)
+some_bytes token.CloseParen s h = omega (arith, ap length h)
+some_bytes token.OpenBrace s h = omega (arith, ap length h)
+some_bytes token.CloseBrace s h = omega (arith, ap length h)
+some_bytes token.Assign s h = omega (arith, ap length h)
+some_bytes token.Colon s h = omega (arith, ap length h)
+some_bytes token.PathSeparator s h = omega (arith, ap length h)
+some_bytes token.Plus s h = omega (arith, ap length h)
+some_bytes token.Minus s h = omega (arith, ap length h)
+some_bytes token.Star s h = omega (arith, ap length h)
+some_bytes token.Less s h = omega (arith, ap length h)
+some_bytes token.LessEqual s h = omega (arith, ap length h)
+some_bytes token.Greater s h = omega (arith, ap length h)
+some_bytes token.GreaterEqual s h = omega (arith, ap length h)
+some_bytes token.Equal s h = omega (arith, ap length h)
+some_bytes token.Differ s h = omega (arith, ap length h)
+some_bytes (token.Number n) s h = omega (arith, ap length h.1, length-append h.0 (122 ∷ []))
+some_bytes (token.Name name) [] h = absurd (name_some name h.0 h.1)
+  where
+    name_some : (name : List ℕ) → [] ≡ name → is_name name ≡ true → ⊥
+    name_some [] e h = cc
+    name_some (c ∷ name) e h = cc
+some_bytes (token.Name name) (c ∷ s) h = omega arith
+some_bytes (token.Text text) s h = omega (arith, ap length h.0)
 
-  factor_size-operators : (f : Factor) → factor_size f ≡ 1 + 2 * count_by is_operator (factor_tokens f)
-  factor_size-operators (number n) = refl
-  factor_size-operators arg_count = refl
-  factor_size-operators (group e) = omega (arith, count-cons token.OpenParen (expr_tokens e ++ token.CloseParen ∷ []), count-append (expr_tokens e) (token.CloseParen ∷ []), count-cons token.CloseParen [], expr_size-operators e)
+tokens_bytes : (ts : List Token) (text : List ℕ) → Spells ts text → length ts ≤ length text
+tokens_bytes [] text h = omega arith
+tokens_bytes (t ∷ ts) text (blanks, s, rest, b, spelled, l, e, on) =
+    omega (arith, some_bytes t s spelled, tokens_bytes ts rest on, ap length e, length-append blanks (s ++ rest), length-append s rest)
 
--- an expression of a file of the class takes at most 201 temporaries
-pub file_size : (tokens : List Token) (e : Expr) → IsFile tokens e → expr_size e ≤ 201
-file_size tokens e h =
-    let few = rw h.spelled at h.limited.operators in
-    omega (arith, few, count-append head_tokens (expr_tokens e ++ tail_tokens), count-append (expr_tokens e) tail_tokens, expr_size-operators e)
+body_length : (p : Program) → length (statements_tokens (body_of p)) ≤ length (file_tokens p)
+body_length (exit_of e) = omega (arith, length-append (exit_tokens e) (token.Semicolon ∷ []))
+body_length (block_of ss) = omega (arith, braces_length (statements_tokens ss), length-append (in_braces (statements_tokens ss)) (token.Semicolon ∷ []))
+
+file_length : (text : List ℕ) (p : Program) → IsOfClass (length text) p → length text ≤ 65536
+file_length text (exit_of e) h = omega (arith, h.small)
+file_length text (block_of ss) h = omega (arith, h.small)
+
+-- ---- the stack
+
+-- a call of the `main` of a file's program fits the stack
+pub main_fits : (text : List ℕ) (p : Program) → IsSource text p → call_cost (lowered_main (body_code p)) ≤ stack_size
+main_fits text p s =
+    let code = Seq (codes_of (body_code p).code) in
+    let temps : (body_code p).behind.next ≤ 65537 =
+    omega (arith, statements_next start (body_of p), body_length p, tokens_bytes (file_tokens p) text s.spelled, file_length text p s.of_class) in
+    let none = none_addressed code (statements_fit Any start (body_of p) (any_held 0 _)) in
+    omega (arith, temps, none)

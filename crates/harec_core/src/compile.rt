@@ -1,77 +1,40 @@
-//! The module of a file of the first class.
+//! From a file's bytes to the text of its program.
 
-ghost use Rattle.std.specs.Prelude.{◌≡◌, ◌≢◌, ◌++◌, List, Some, IfOk, IfSome, MatchOption};
-ghost use Rattle.harec_core.specs.declared.token.Token.{Token};
-ghost use Rattle.harec_core.specs.Source.{Expr, IsFile};
-ghost use Rattle.harec_core.specs.Lowered.{expr_module};
+ghost use Rattle.std.specs.Prelude.{◌≡◌, [], IfOk, OnErr, MatchOption, MatchBool};
+ghost use Rattle.il_code.specs.declared.types.Module.{Module};
+ghost use Rattle.hare_blocks.specs.Class.{IsNoSource};
+ghost use Rattle.harec_core.specs.Stages.{IsModuleOf, IsTextOf};
 
-use crate::expression::expr;
-use crate::limits::is_limited;
-use crate::lower::{exit, main_of};
-use crate::token::Token;
-use il_code::{Insts, Module};
+use hare_blocks::read;
+use hx_base::Bytes;
+use il_code::{Module, print};
+use il_emit::emit;
+use low_blocks::lower;
 use std::alloc::{AllocError, Global};
 
-// What stands in front of the expression; two parentheses stay open behind it.
-const HEAD: [Token; 15] = [
-    Token::Use,
-    Token::Rt,
-    Token::Semicolon,
-    Token::Export,
-    Token::Function,
-    Token::Main,
-    Token::OpenParen,
-    Token::CloseParen,
-    Token::Void,
-    Token::Equals,
-    Token::Rt,
-    Token::PathSeparator,
-    Token::Exit,
-    Token::OpenParen,
-    Token::OpenParen,
-];
-
-// What stands behind the expression.
-const TAIL: [Token; 5] = [
-    Token::CloseParen,
-    Token::Colon,
-    Token::U8,
-    Token::CloseParen,
-    Token::Semicolon,
-];
-
-/// The module of a file of the first class, whose `main` exits with the value of the file's expression; `None` exactly where the
-/// tokens are no such file. An error is want of memory.
-pub fn module_of(alloc: Global, tokens: &[Token]) -> Result<Option<Module>, AllocError>
-    ensures sound { IfOk result (λ o. IfSome o (λ m. (e : Expr)
-        × IsFile tokens.now e × (m ≡ expr_module e))) }
-    ensures whole { (e : Expr) → IsFile tokens.now e
-        → IfOk result (λ o. o ≡ Some (expr_module e)) }
+/// Makes the text of a file's program. False, and no text, where the file is not of the class.
+pub fn make_text(alloc: Global, source: &[u8], text: &mut Bytes) -> Result<bool, AllocError>
+    requires { text.old ≡ [] }
+    ensures ok { IfOk result (λ made. MatchBool made
+        ((m : Module) × IsTextOf source.now text.new m)
+        (IsNoSource source.now × (text.new ≡ []))) }
+    ensures err { OnErr result (text.new ≡ []) }
 {
-    if !is_limited(tokens) {
-        return Ok(None);
-    }
-    let Some(rest) = behind(tokens, &HEAD) else {
-        return Ok(None);
+    let Some(module) = module_of(alloc, source)? else {
+        return Ok(false);
     };
-    let mut insts = Insts::new(alloc);
-    let Some(rest) = expr(alloc, rest, 2, &mut insts)? else {
-        return Ok(None);
-    };
-    let Some(rest) = behind(rest, &TAIL) else {
-        return Ok(None);
-    };
-    if !rest.is_empty() {
-        return Ok(None);
-    }
-    exit(alloc, &mut insts)?;
-    Ok(Some(main_of(alloc, insts)?))
+    *text = print(alloc, &module)?;
+    Ok(true)
 }
 
-/// What stands behind these tokens, if they are the front.
-pub fn behind<'a>(tokens: &'a [Token], front: &[Token]) -> Option<&'a [Token]>
-    ensures { MatchOption result ((rest : List Token) → tokens.now ≢ front.now ++ rest)
-        (λ r. tokens.now ≡ front.now ++ r.now) }
+// The module of a file's program. None: the file is not of the class.
+fn module_of(alloc: Global, source: &[u8]) -> Result<Option<Module>, AllocError>
+    ensures { IfOk result (λ o. MatchOption o (IsNoSource source.now) (λ m. IsModuleOf source.now m)) }
 {
-    tokens.strip_prefix(front)
+    let Some(program) = read(alloc, source)? else {
+        return Ok(None);
+    };
+    let flat = lower(alloc, &program)?;
+    let module = emit(alloc, &flat)?;
+    Ok(Some(module))
 }

@@ -2,24 +2,13 @@
 #![tactic(auto)]
 
 mod answer;
+mod carry;
 mod compile;
-mod ended;
-mod expression;
-mod il_scan;
-mod lex;
-#[cfg(test)]
-mod lex_tests;
-mod limits;
-mod lower;
-mod machine;
-mod program;
-mod read;
-mod scan;
-mod temps;
+mod log;
+mod piece;
+mod run;
 #[cfg(test)]
 mod tests;
-mod text_run;
-mod token;
 mod top;
 mod words;
 

@@ -1,22 +1,28 @@
 //! The top call: from words and files to an answer.
 
-ghost use Rattle.std.specs.Prelude.{◌≡◌, ℕ, ◌<◌, ◌-◌, ◌^◌, ◌↔◌, List, [], length, IfOk, IfSome, Some, None, OnErr};
-ghost use Rattle.harec_core.specs.Answers.{Answers};
-ghost use Rattle.harec_core.specs.Source.{Expr, IsSource, IsNoSource, IsFile, value};
-ghost use Rattle.harec_core.specs.Words.{IsRunCommand, IsNoCommand};
+ghost use Rattle.std.specs.Prelude.{◌≡◌, ℕ, ◌<◌, ◌-◌, ◌^◌, ◌↔◌, ◌⊎◌, List, [], IfSome};
+ghost use Rattle.harec_core.specs.declared.answer.Answer.{Answer};
 ghost use Rattle.harec_core.specs.declared.answer.Answer.TheVariants as answer;
+ghost use Rattle.harec_core.specs.Answers.{Answers, HasCause, LeavesOutput};
+ghost use Rattle.harec_core.specs.Commands.{action_of};
+ghost use Rattle.harec_core.specs.Log.{Logs, line, units_of};
+ghost use Rattle.harec_core.specs.Outside.{Count, Stands, sent};
+ghost use Rattle.harec_core.specs.Words.{IsCommand, IsNoCommand};
+ghost use Rattle.harec_core.specs.Words as spec;
 
 use crate::answer::Answer;
-use crate::program::{lower, run_printed};
-use crate::words::{Command, command_of};
+use crate::carry::carry_out;
+use crate::compile::make_text;
+use crate::log::report;
+use crate::words::{Action, Command, command_of};
 use hx_base::{Bytes, Text};
 use hx_io::{FileError, Files, Sink, Source};
-use il_code::print;
-use std::alloc::{AllocError, Global};
+use il_code::law_text;
+use std::alloc::Global;
 
 /// Does all that the program does: answers the words, over the files, the input, the output and the log that are handed in.
 ///
-/// `fill` is the byte that new memory and unassigned temporaries of the run hold. `text` becomes the IL text that was made.
+/// `fill` is the byte that new memory and unassigned temporaries of a run hold. `text` becomes the IL text that was made.
 pub fn harec<F: Files, I: Source, O: Sink, L: Sink>(
     alloc: Global,
     words: &[Text],
@@ -33,58 +39,116 @@ pub fn harec<F: Files, I: Source, O: Sink, L: Sink>(
     requires count_of_out { O.faults out.old < 2 ^ 64 - 1 }
     requires count_of_log { L.faults log.old < 2 ^ 64 - 1 }
 
-    // Usage comes exactly where the words are no command; then nothing is read.
-    ensures usage { (result ≡ answer.Usage) ↔ IsNoCommand words.now }
-    ensures unasked { IsNoCommand words.now → (files.new ≡ files.old) × (text.new ≡ []) }
+    // A write fault comes exactly where the output or the log failed.
+    ensures write_fault { (result ≡ answer.WriteFault)
+        ↔ ((O.faults out.old < O.faults out.new) ⊎ (L.faults log.old < L.faults log.new)) }
 
-    // A file fault comes exactly where reading the file failed.
-    ensures file_fault { (result ≡ answer.FileFault) ↔ (F.faults files.old < F.faults files.new) }
-    ensures unread { result ≡ answer.FileFault → text.new ≡ [] }
+    // A file fault comes exactly where reading the file failed, and the log did not.
+    ensures file_fault { (result ≡ answer.FileFault)
+        ↔ ((F.faults files.old < F.faults files.new) × (L.faults log.new ≡ L.faults log.old)) }
 
-    // Any other answer is one to the file's bytes, which are those that the files tell.
-    ensures run { (path : List ℕ) (args : List (List ℕ)) → IsRunCommand words.now path args → F.faults files.new ≡ F.faults files.old → (source : List ℕ) × IfSome (F.content files.old path) (λ told. source ≡ told) × Answers source (length args) text.new result }
+    // Usage comes exactly where the words are no command, and the log did not fail. Then nothing but the log is touched.
+    ensures usage { (result ≡ answer.Usage)
+        ↔ (IsNoCommand words.now × (L.faults log.new ≡ L.faults log.old)) }
+    ensures unasked { IsNoCommand words.now → (files.new ≡ files.old) × (out.new ≡ out.old) × (text.new ≡ [])
+        × Logs (line [] 0 answer.Usage)
+        (sent (L.faults log.old) (L.faults log.new) (L.written log.old) (L.written log.new))
+        answer.Usage result }
 
-    // Nothing is read from the input, and nothing is written.
-    ensures kept { (input.new ≡ input.old) × (out.new ≡ out.old) × (log.new ≡ log.old) }
+    // The answer to a command is found by the file's bytes, which are those that the files tell. Then its line goes to the log.
+    ensures command { (c : spec.Command) → IsCommand words.now c
+        → (source : List ℕ) × IfSome (F.content files.old c.path) (λ told. source ≡ told)
+        × (found : Answer)
+        × Answers (record {
+          action = c.action;
+          source = source;
+          fill = fill;
+          text = text.new;
+          files = record { before = F.faults files.old; now = F.faults files.new };
+          out = sent (O.faults out.old) (O.faults out.new) (O.written out.old) (O.written out.new);
+        }) found
+        × LeavesOutput found out.old out.new
+        × Logs (line c.path (units_of c.action) found)
+        (sent (L.faults log.old) (L.faults log.new) (L.written log.old) (L.written log.new))
+        found result }
+
+    // Nothing is read from the input.
+    ensures kept { input.new ≡ input.old }
 {
-    let Some(Command { path, args }) = command_of(words) else {
-        return Answer::Usage;
+    let Some(command) = command_of(words) else {
+        return report(log, b"", 0, Answer::Usage);
     };
-    match files.read(alloc, path) {
-        Err(FileError::Failed) => Answer::FileFault,
-        Err(FileError::Memory) => Answer::Memory,
-        Ok(source) => answer_to(alloc, source.bytes(), args.len() as u64, fill, text),
-    }
+    let found = answer_to(alloc, command, files, out, fill, text);
+    // Texts spell one module at most, and so the contract may speak of the one that `text` spells.
+    law_text();
+    report(log, command.path.bytes(), units_of(command.action), found)
 }
 
-// The answer to a file's bytes.
-fn answer_to(alloc: Global, source: &[u8], nargs: u64, fill: u8, text: &mut Bytes) -> Answer
-    requires { text.old ≡ [] }
-    ensures { Answers source.now nargs text.new result }
+// The units of a run; 0 where nothing is run.
+fn units_of(action: Action) -> u64
+    ensures { result ≡ units_of (action_of action.entry) }
 {
-    match run_source(alloc, source, nargs, fill, text) {
-        Ok(answer) => answer,
-        Err(_) => Answer::Memory,
+    match action {
+        Action::Emit => 0,
+        Action::Run { units, .. } => units,
     }
 }
 
-// The answer to a file's bytes, where memory does not run out.
-fn run_source(
+// The answer to a command, before the log gets its line.
+fn answer_to<F: Files, O: Sink>(
     alloc: Global,
-    source: &[u8],
-    nargs: u64,
+    command: Command<'_>,
+    files: &mut F,
+    out: &mut O,
     fill: u8,
     text: &mut Bytes,
-) -> Result<Answer, AllocError>
-    requires { text.old ≡ [] }
-    ensures ok { IfOk result (λ a. Answers source.now nargs text.new a) }
-    ensures err { OnErr result (Answers source.now nargs text.new answer.Memory) }
+) -> Answer
+    requires empty { text.old ≡ [] }
+    requires count_of_files { F.faults files.old < 2 ^ 64 - 1 }
+    requires count_of_out { O.faults out.old < 2 ^ 64 - 1 }
+    ensures cause { (source : List ℕ) × IfSome (F.content files.old command.entry.path.now) (λ told. source ≡ told)
+        × HasCause (record {
+          action = action_of command.entry.action;
+          source = source;
+          fill = fill;
+          text = text.new;
+          files = record { before = F.faults files.old; now = F.faults files.new };
+          out = sent (O.faults out.old) (O.faults out.new) (O.written out.old) (O.written out.new);
+        }) result }
+    ensures leaves { LeavesOutput result out.old out.new }
 {
-    let Some(module) = lower(alloc, source)? else {
-        return Ok(Answer::Refused(49));
-    };
-    let printed = print(alloc, &module)?;
-    text.extend(printed.bytes())?;
-    let status = run_printed(alloc, text.bytes(), nargs, fill)?;
-    Ok(Answer::Exited(status))
+    match files.read(alloc, command.path) {
+        Err(FileError::Failed) => Answer::FileFault,
+        Err(FileError::Memory) => Answer::Memory,
+        Ok(source) => answer_on(alloc, command.action, source.bytes(), out, fill, text),
+    }
+}
+
+// The answer to a command on a file's bytes.
+fn answer_on<O: Sink>(
+    alloc: Global,
+    action: Action<'_>,
+    source: &[u8],
+    out: &mut O,
+    fill: u8,
+    text: &mut Bytes,
+) -> Answer
+    requires empty { text.old ≡ [] }
+    requires count_of_out { O.faults out.old < 2 ^ 64 - 1 }
+    ensures cause { (files : Count) → Stands files
+        → HasCause (record {
+          action = action_of action.entry;
+          source = source.now;
+          fill = fill;
+          text = text.new;
+          files = files;
+          out = sent (O.faults out.old) (O.faults out.new) (O.written out.old) (O.written out.new);
+        }) result }
+    ensures leaves { LeavesOutput result out.old out.new }
+{
+    match make_text(alloc, source, text) {
+        Err(_) => Answer::Memory,
+        Ok(false) => Answer::Refused(49),
+        Ok(true) => carry_out(alloc, action, text.bytes(), out, fill),
+    }
 }

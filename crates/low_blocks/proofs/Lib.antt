@@ -22,3 +22,4 @@ pub mod Loops
 pub mod Drafts
 pub mod Kids
 pub mod Lowered
+pub mod Sample

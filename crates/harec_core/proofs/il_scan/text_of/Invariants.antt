@@ -1,6 +1,0 @@
-use Rattle.std.proofs.Common.{◌≡◌, take}
-use Rattle.harec_core.proofs.il_scan.text_of.Given as goal
-
--- the bytes so far
-abbrev pub invariant-loop-c : goal.invariant-loop-c
-invariant-loop-c l = l.text ≡ take l.c-index l.ascii
