@@ -22,4 +22,3 @@ pub mod Loops
 pub mod Drafts
 pub mod Kids
 pub mod Lowered
-pub mod Sample
