@@ -7,3 +7,4 @@ export fn main() void = {
 	};
 	rt::exit((i * 2z): u8);
 };
+
