@@ -24,11 +24,15 @@ mod tree;
 mod unparse;
 mod word;
 
+pub use depth::is_node;
 pub use fit::fits;
 pub use form::{Lead, Own, Piece, Sign, Sort};
+pub use forms::form_of;
 pub use kind::Kind;
-pub use name::{is_keyword, is_left_out, is_letter, is_listed, is_word_byte};
+pub use level::{is_operator_of, operator_level};
+pub use name::{is_keyword, is_left_out, is_letter, is_listed, is_name, is_word_byte};
 pub use place::{Fault, Place};
+pub use sign::sign_word;
 pub use stop::Stop;
 pub use token::{Meaning, Suffix, Token, TokenKind};
 pub use tokens::Tokens;
