@@ -72,19 +72,19 @@ start_never (cl.Sign si.Null) = refl
 start_never (cl.Sign _) = refl
 start_never _ = refl
 
-before_never : (r : Row) (ss : List Symbol) → is_skips r ≡ false → is_skips (before r ss) ≡ false
+pub before_never : (r : Row) (ss : List Symbol) → is_skips r ≡ false → is_skips (before r ss) ≡ false
 before_never Fault ss e = refl
 before_never (Skips cs) ss e = e
 before_never (Uses cs rs) ss e = refl
 
-level_never : (l : ℕ) (c : Class) → is_skips (level_row l c) ≡ false
+pub level_never : (l : ℕ) (c : Class) → is_skips (level_row l c) ≡ false
 level_never l c = by (nat_le l (start_level c))
   where
     by : (b : Bool) → is_skips (if b then before (start_row c) (part (ru.Climb l (start_level c)) ∷ []) else Fault) ≡ false
     by true = before_never (start_row c) _ (start_never c)
     by false = refl
 
-led_never : (r : Row) (ds : List Change) → is_skips r ≡ false → is_skips (led_by ds r) ≡ false
+pub led_never : (r : Row) (ds : List Change) → is_skips r ≡ false → is_skips (led_by ds r) ≡ false
 led_never Fault ds e = refl
 led_never (Skips cs) ds e = e
 led_never (Uses cs rs) ds e = refl
@@ -183,7 +183,7 @@ decl_never : (c : Class) → is_skips (of_row so.Decl c) ≡ false
 decl_never (cl.Sign si.Export) = refl
 decl_never c = led_never (decl_word_row c) (ch.Open ∷ ch.Absent ∷ []) (word_never c)
 
-never : (s : Sort) (c : Class) → covered s ≡ true → is_skips (of_row s c) ≡ false
+pub never : (s : Sort) (c : Class) → covered s ≡ true → is_skips (of_row s c) ≡ false
 never (so.Level l) c e = level_never l c
 never so.Statement c e = statement_never c
 never so.Pattern c e = pattern_never c

@@ -129,7 +129,7 @@ letter_no_digit : (c : ℕ) → is_letter c ≡ true → is_ascii_digit c ≡ fa
 letter_no_digit c i = grind (arith, nat_tests, common_steps)
 
 -- a name begins with no digit
-no_digit : (x : List ℕ) → is_name false x ≡ true → is_ascii_digit (slice_index x 0) ≡ false
+pub no_digit : (x : List ℕ) → is_name false x ≡ true → is_ascii_digit (slice_index x 0) ≡ false
 no_digit x e = by x (word x e)
   where
     other : (b d : Bool) → (if b then false else d) ≡ true → d ≡ true
