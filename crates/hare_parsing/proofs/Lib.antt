@@ -16,3 +16,8 @@ pub mod DeclRows
 pub mod SortRows
 pub mod Sound
 pub mod Readings
+pub mod Closing
+pub mod Good
+pub mod Alike
+pub mod Viable
+pub mod Breaks
