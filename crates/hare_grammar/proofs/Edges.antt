@@ -26,7 +26,7 @@ use Rattle.hare_grammar.specs.Engine.{Group, add, run}
 use Rattle.hare_tree.specs.Signs.{is_sign}
 use Rattle.hare_tree.specs.Shape.{stops, stops_each, form_stops, Ending, kid_or, Edge as EdgeOf, edges, ends_before}
 use Rattle.hare_grammar.specs.ExpressionRows.{level_row}
-use Rattle.hare_grammar.specs.OneTree.{plain, is_sort_of_code as covered}
+use Rattle.hare_grammar.specs.OneTree.{plain, is_sort as covered}
 use Rattle.hare_grammar.proofs.Steps.{front, run_skip}
 use Rattle.hare_grammar.proofs.Paths.{split}
 
@@ -255,6 +255,14 @@ bound so.Binding = 18
 bound so.Message = 17
 bound so.Dots = 17
 bound so.ByRef = 17
+bound so.Param = 16
+bound so.ImportPath = 16
+bound so.Name = 18
+bound so.PathName = 18
+bound so.Export = 18
+bound so.Params = 18
+bound so.Use = 18
+bound so.Decl = 18
 bound _ = 0
 
 abbrev pub reach : Sort → ℕ → ℕ

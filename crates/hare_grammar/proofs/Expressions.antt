@@ -1,4 +1,4 @@
--- Every tree of types, expressions, statements and patterns is read from its tokens, kind by kind.
+-- Every tree is read from its tokens, kind by kind.
 use Rattle.std.proofs.Common.{◌≡◌, ℕ, zero, suc, ◌≤◌, List, [], ◌∷◌, ◌++◌, true, false, refl, sym, ◌∙◌, subst, arith}
 use Rattle.std.specs.Prelude.{nat_le}
 use Rattle.hare_tree.specs.declared.kind.Kind.{Kind}
@@ -21,7 +21,7 @@ use Rattle.hare_grammar.specs.Classes.{class_of}
 use Rattle.hare_grammar.specs.Rows.{Uses, of, has_sign}
 use Rattle.hare_grammar.specs.DeclarationRows.{of_row}
 use Rattle.hare_grammar.specs.Engine.{Group, run}
-use Rattle.hare_grammar.specs.OneTree.{is_sort_of_types as typed, is_sort_of_code as covered}
+use Rattle.hare_grammar.specs.OneTree.{is_sort_of_types as typed, is_sort as covered}
 use Rattle.hare_grammar.proofs.Steps.{front, run_uses}
 use Rattle.hare_grammar.proofs.Lists.{Begins, begins}
 use Rattle.hare_grammar.proofs.Types.{reads as types_read}
@@ -31,6 +31,9 @@ use Rattle.hare_grammar.proofs.Openers.{word_reads, opened_neg, opened_not, open
 use Rattle.hare_grammar.proofs.Operators.{is_expr, shaped_by, behind_reads, behinds_try, behinds_force, behinds_field, behinds_call, behinds_cast, behinds_as, behinds_is, behinds_assign, binary_reads, binaries_arith, binaries_shift, binaries_less, binaries_equal, binaries_logic, op_assign_reads}
 use Rattle.hare_grammar.proofs.Leaves.{mark_reads, number_reads, rune_reads, str_reads, bool_reads, message_reads, null_reads, void_reads, field_value_reads, path_reads, struct_reads}
 use Rattle.hare_grammar.proofs.Late.{block_reads, paren_reads, tuple_reads, index_reads, slice_reads}
+use Rattle.hare_grammar.proofs.Names.{name_reads, path_name_reads, import_path_reads, param_reads}
+use Rattle.hare_grammar.proofs.Imports.{use_reads}
+use Rattle.hare_grammar.proofs.Declarations.{params_kind, params_reads, decl_reads}
 use Rattle.hare_grammar.proofs.Loops.{let_kind, binding_kind, by_ref_kind, yield_reads, values_reads, for_reads, for_each_reads}
 
 -- ---- expressions
@@ -177,7 +180,15 @@ values_kind : (k : Kind) (x : List ℕ) → admits so.Values k x ≡ true → k 
 values_kind ki.Values x a = refl
 values_kind _ x a = cc
 
+export_kind : (k : Kind) (x : List ℕ) → admits so.Export k x ≡ true → k ≡ ki.Export
+export_kind ki.Export x a = refl
+export_kind _ x a = cc
+
 -- ---- all sorts
+
+-- no `::` goes on with a path that ends there
+path_ends : (h : Head) (ts : Nodes) (w : List Token) → Edge so.ImportPath (front w) (branch h ts) → has_sign si.PathMark (front w) ≡ false
+path_ends h ts w x = no_path (front w) x.reaches
 
 up : (l j : ℕ) → nat_le 1 l ≡ true → nat_le l j ≡ true → nat_le 1 j ≡ true
 up l j a b = let x = true_le 1 l a in let y = true_le l j b in le_true 1 j (omega (arith, x, y))
@@ -195,6 +206,14 @@ sort_reads f n ih so.Binding h ts z c e p w st g gs x = binding_reads f n ih h t
 sort_reads f n ih so.Case h ts z c e p w st g gs x = case_reads f n ih h ts z (case_kind h.kind h.text p.admitted) p w st g gs x
 sort_reads f n ih so.SwitchCase h ts z c e p w st g gs x = switch_case_reads f n ih h ts z (switch_case_kind h.kind h.text p.admitted) p w st g gs x
 sort_reads f n ih so.Values h ts z c e p w st g gs x = values_reads f n ih h ts z (values_kind h.kind h.text p.admitted) p w st g gs x
+sort_reads f n ih so.Use h ts z c e p w st g gs x = use_reads f n ih h.kind h ts z refl p.admitted p w st g gs
+sort_reads f n ih so.Decl h ts z c e p w st g gs x = decl_reads f n ih h.kind h ts z refl p.admitted p w st g gs
+sort_reads f n ih so.ImportPath h ts z c e p w st g gs x = import_path_reads f h ts e w st g gs (path_ends h ts w x)
+sort_reads f n ih so.Name h ts z c e p w st g gs x = name_reads f h ts p w st g gs
+sort_reads f n ih so.PathName h ts z c e p w st g gs x = path_name_reads f h ts p w st g gs
+sort_reads f n ih so.Export h ts z c e p w st g gs x = mark_reads f so.Export ki.Export si.Export h ts (export_kind h.kind h.text p.admitted) refl refl p w st g gs
+sort_reads f n ih so.Params h ts z c e p w st g gs x = params_reads f n ih h ts z (params_kind h.kind h.text p.admitted) p w st g gs x
+sort_reads f n ih so.Param h ts z c e p w st g gs x = param_reads f n ih h ts z p w st g gs x
 sort_reads f n ih s h ts z c e p w st g gs x = typed_reads f n s h ts z c e w st g gs x
 
 -- what is spelled is read, of every size

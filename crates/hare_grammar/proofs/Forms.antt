@@ -31,7 +31,7 @@ use Rattle.hare_grammar.specs.Table.{row}
 use Rattle.hare_grammar.specs.Engine.{Group, begun, take_text, run}
 use Rattle.hare_tree.specs.Signs.{is_sign}
 use Rattle.hare_tree.specs.Shape.{stops, stops_each, form_stops, edges, ends_before, behind_kid}
-use Rattle.hare_grammar.specs.OneTree.{is_sort_of_code as covered}
+use Rattle.hare_grammar.specs.OneTree.{is_sort as covered}
 use Rattle.hare_grammar.proofs.Steps.{front, run_uses, run_skip, run_groups}
 use Rattle.hare_grammar.proofs.Tokens.{class_sign, class_name}
 use Rattle.hare_grammar.proofs.Paths.{split}

@@ -30,7 +30,7 @@ use Rattle.hare_grammar.specs.Table.{row}
 use Rattle.hare_grammar.specs.Engine.{Group, begun, with_kids, add, run}
 use Rattle.hare_tree.specs.Signs.{is_sign}
 use Rattle.hare_tree.specs.Shape.{stops, Edge as EdgeOf, edges, ends_before, behind_item, items_end}
-use Rattle.hare_grammar.specs.OneTree.{plain, is_sort_of_code as covered}
+use Rattle.hare_grammar.specs.OneTree.{plain, is_sort as covered}
 use Rattle.hare_grammar.proofs.Steps.{front, run_uses, run_skip, run_absent, run_ends, run_want}
 use Rattle.hare_grammar.proofs.Paths.{split}
 use Rattle.hare_grammar.proofs.Edges.{pull, stops_calm, edge, closed_by, ReadsTo, read_kid}

@@ -23,12 +23,12 @@ use Rattle.hare_grammar.specs.declared.rule.Change.{Change}
 use Rattle.hare_grammar.specs.declared.rule.Change.TheVariants as ch
 use Rattle.hare_grammar.specs.Classes.{class_of}
 use Rattle.hare_grammar.specs.Rows.{Row, Fault, Skips, Uses, of, part, before, led_by, or_skips, rest_of}
-use Rattle.hare_grammar.specs.DeclarationRows.{of_row}
+use Rattle.hare_grammar.specs.DeclarationRows.{decl_word_row, of_row}
 use Rattle.hare_grammar.specs.Table.{row}
 use Rattle.hare_grammar.specs.Engine.{Group, begun, add, bare_leaf, Done, run, bottom}
 use Rattle.hare_tree.specs.Signs.{is_sign}
 use Rattle.hare_grammar.specs.ExpressionRows.{level_row, start_row, start_level}
-use Rattle.hare_grammar.specs.OneTree.{plain, is_sort_of_code as covered}
+use Rattle.hare_grammar.specs.OneTree.{plain, is_sort as covered}
 use Rattle.hare_grammar.proofs.Steps.{run_uses, run_faults, run_done}
 use Rattle.hare_grammar.proofs.Tokens.{class_sign}
 use Rattle.hare_grammar.proofs.Paths.{split}
@@ -72,19 +72,19 @@ start_never (cl.Sign si.Null) = refl
 start_never (cl.Sign _) = refl
 start_never _ = refl
 
-before_never : (r : Row) (ss : List Symbol) → is_skips r ≡ false → is_skips (before r ss) ≡ false
+pub before_never : (r : Row) (ss : List Symbol) → is_skips r ≡ false → is_skips (before r ss) ≡ false
 before_never Fault ss e = refl
 before_never (Skips cs) ss e = e
 before_never (Uses cs rs) ss e = refl
 
-level_never : (l : ℕ) (c : Class) → is_skips (level_row l c) ≡ false
+pub level_never : (l : ℕ) (c : Class) → is_skips (level_row l c) ≡ false
 level_never l c = by (nat_le l (start_level c))
   where
     by : (b : Bool) → is_skips (if b then before (start_row c) (part (ru.Climb l (start_level c)) ∷ []) else Fault) ≡ false
     by true = before_never (start_row c) _ (start_never c)
     by false = refl
 
-led_never : (r : Row) (ds : List Change) → is_skips r ≡ false → is_skips (led_by ds r) ≡ false
+pub led_never : (r : Row) (ds : List Change) → is_skips r ≡ false → is_skips (led_by ds r) ≡ false
 led_never Fault ds e = refl
 led_never (Skips cs) ds e = e
 led_never (Uses cs rs) ds e = refl
@@ -138,7 +138,52 @@ switch_case_never (cl.Sign si.Case) = refl
 switch_case_never (cl.Sign _) = refl
 switch_case_never _ = refl
 
-never : (s : Sort) (c : Class) → covered s ≡ true → is_skips (of_row s c) ≡ false
+use_never : (c : Class) → is_skips (of_row so.Use c) ≡ false
+use_never (cl.Sign si.Use) = refl
+use_never (cl.Sign _) = refl
+use_never _ = refl
+
+import_path_never : (c : Class) → is_skips (of_row so.ImportPath c) ≡ false
+import_path_never cl.Name = refl
+import_path_never _ = refl
+
+name_never : (c : Class) → is_skips (of_row so.Name c) ≡ false
+name_never cl.Name = refl
+name_never _ = refl
+
+path_name_never : (c : Class) → is_skips (of_row so.PathName c) ≡ false
+path_name_never cl.Name = refl
+path_name_never cl.PathWord = refl
+path_name_never _ = refl
+
+export_never : (c : Class) → is_skips (of_row so.Export c) ≡ false
+export_never (cl.Sign si.Export) = refl
+export_never (cl.Sign _) = refl
+export_never _ = refl
+
+params_never : (c : Class) → is_skips (of_row so.Params c) ≡ false
+params_never (cl.Sign si.LeftParen) = refl
+params_never (cl.Sign _) = refl
+params_never _ = refl
+
+param_never : (c : Class) → is_skips (of_row so.Param c) ≡ false
+param_never cl.Name = refl
+param_never _ = refl
+
+word_never : (c : Class) → is_skips (decl_word_row c) ≡ false
+word_never (cl.Sign si.Def) = refl
+word_never (cl.Sign si.Let) = refl
+word_never (cl.Sign si.Const) = refl
+word_never (cl.Sign si.Type) = refl
+word_never (cl.Sign si.Fn) = refl
+word_never (cl.Sign _) = refl
+word_never _ = refl
+
+decl_never : (c : Class) → is_skips (of_row so.Decl c) ≡ false
+decl_never (cl.Sign si.Export) = refl
+decl_never c = led_never (decl_word_row c) (ch.Open ∷ ch.Absent ∷ []) (word_never c)
+
+pub never : (s : Sort) (c : Class) → covered s ≡ true → is_skips (of_row s c) ≡ false
 never (so.Level l) c e = level_never l c
 never so.Statement c e = statement_never c
 never so.Pattern c e = pattern_never c
@@ -151,6 +196,14 @@ never so.Binding c e = binding_never c
 never so.Case c e = case_never c
 never so.SwitchCase c e = switch_case_never c
 never so.Values c e = led_never (before (level_row 1 c) (rest_of 1 ki.Values)) (ch.Open ∷ []) (before_never (level_row 1 c) _ (level_never 1 c))
+never so.Use c e = use_never c
+never so.Decl c e = decl_never c
+never so.ImportPath c e = import_path_never c
+never so.Name c e = name_never c
+never so.PathName c e = path_name_never c
+never so.Export c e = export_never c
+never so.Params c e = params_never c
+never so.Param c e = param_never c
 never s c e = types_never s c e
 
 pub same_sign : (a b : Sign) → cl.Sign a ≡ cl.Sign b → a ≡ b
@@ -213,6 +266,9 @@ stands (so.Level l) = nat_le 1 l
 stands so.FieldValue = true
 stands so.Type = true
 stands so.Message = true
+stands so.Name = true
+stands so.PathName = true
+stands so.Param = true
 stands _ = false
 
 pub stands_not_alone : (s : Sort) (h : Head) (ts : Nodes) → stands s ≡ true → is_shaped s (branch h ts) ≡ true → stands_alone h.kind ≡ false

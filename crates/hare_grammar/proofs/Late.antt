@@ -31,7 +31,7 @@ use Rattle.hare_grammar.specs.Rows.{Uses, of, part, before, rest_of}
 use Rattle.hare_grammar.specs.DeclarationRows.{of_row}
 use Rattle.hare_grammar.specs.Table.{row}
 use Rattle.hare_grammar.specs.Engine.{Group, begun, add, run}
-use Rattle.hare_grammar.specs.OneTree.{plain, is_sort_of_code as covered}
+use Rattle.hare_grammar.specs.OneTree.{plain, is_sort as covered}
 use Rattle.hare_grammar.proofs.Steps.{front, run_uses, run_close, run_want, run_groups}
 use Rattle.hare_grammar.proofs.Tokens.{class_sign}
 use Rattle.hare_grammar.proofs.Paths.{split}

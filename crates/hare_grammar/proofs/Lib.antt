@@ -21,4 +21,8 @@ pub mod Leaves
 pub mod Late
 pub mod Labelled
 pub mod Loops
+pub mod Names
+pub mod Imports
+pub mod Declarations
 pub mod Expressions
+pub mod Files

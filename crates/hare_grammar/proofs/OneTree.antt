@@ -6,7 +6,7 @@ use Rattle.hare_tree.specs.Spell.{start_of, sign_token, spell}
 use Rattle.hare_tree.specs.Shape.{is_shaped}
 use Rattle.hare_grammar.specs.Rows.{of}
 use Rattle.hare_grammar.specs.Engine.{begun, add, Outcome, Done, run, bottom}
-use Rattle.hare_grammar.specs.OneTree.{plain, is_sort_of_code, CodeHasOneTree}
+use Rattle.hare_grammar.specs.OneTree.{plain, is_sort, SortsHaveOneTree}
 use Rattle.hare_grammar.proofs.Steps.{run_done}
 use Rattle.hare_grammar.proofs.Tokens.{class_sign}
 use Rattle.hare_grammar.proofs.Edges.{stops_calm, read_kid}
@@ -14,7 +14,7 @@ use Rattle.hare_grammar.proofs.Kids.{closer, closer_pull, closer_closes, closer_
 use Rattle.hare_grammar.proofs.Expressions.{reads}
 
 -- a tree is read up to a sign that ends it
-pub read_whole : (f : ℕ) (s : Sort) (t : Node) → is_sort_of_code s ≡ true → is_shaped s t ≡ true → run f (spell f t ++ sign_token f (closer s) ∷ []) (of s ∷ []) bottom ≡ Done (sign_token f (closer s) ∷ []) (add (plain f t) bottom)
+pub read_whole : (f : ℕ) (s : Sort) (t : Node) → is_sort s ≡ true → is_shaped s t ≡ true → run f (spell f t ++ sign_token f (closer s) ∷ []) (of s ∷ []) bottom ≡ Done (sign_token f (closer s) ∷ []) (add (plain f t) bottom)
 read_whole f s t l h =
     let d = closer s in
     let e = class_sign f d in
@@ -26,8 +26,8 @@ abbrev kids_in : Outcome → List Node
 kids_in (Done u (g ∷ gs)) = g.kids
 kids_in _ = []
 
-pub code_has_one_tree : CodeHasOneTree
-code_has_one_tree f s l t t' h h' e =
+pub sorts_have_one_tree : SortsHaveOneTree
+sorts_have_one_tree f s l t t' h h' e =
     let a = read_whole f s t l h in
     let b = read_whole f s t' l h' in
     let x = sign_token f (closer s) in

@@ -33,7 +33,7 @@ use Rattle.hare_grammar.specs.Rows.{Uses, of, part, symbols}
 use Rattle.hare_grammar.specs.Table.{row}
 use Rattle.hare_grammar.specs.Engine.{Group, begun, with_kids, last_kid, but_last, over, add, take_text, all_changed, run}
 use Rattle.hare_grammar.specs.ExpressionRows.{climbs, binary_kind, binary_at}
-use Rattle.hare_grammar.specs.OneTree.{plain, is_sort_of_code as covered}
+use Rattle.hare_grammar.specs.OneTree.{plain, is_sort as covered}
 use Rattle.hare_grammar.proofs.Steps.{front, run_uses, run_groups}
 use Rattle.hare_grammar.proofs.Tokens.{class_sign, of_listed}
 use Rattle.hare_grammar.proofs.Paths.{split}

@@ -14,7 +14,7 @@ use Rattle.hare_tree.specs.Spell.{own_tokens, left_behind}
 use Rattle.hare_tree.specs.Depth.{begins as begin_at, begins_in, place_in, is_operator, first_number, numbers_behind}
 use Rattle.hare_tree.specs.Grammar.{HasPlaces, HavePlaces, place_of, joined}
 use Rattle.hare_grammar.specs.OneTree.{plain, plains, plain_head, PlacesDecideTrees, TokensHaveOneTree}
-use Rattle.hare_grammar.proofs.OneTree.{code_has_one_tree}
+use Rattle.hare_grammar.proofs.OneTree.{sorts_have_one_tree}
 use Rattle.hare_grammar.proofs.Still.{still_spell}
 
 -- ---- tokens say nothing of places
@@ -98,7 +98,7 @@ mutual
       let heads : h ≡ h' = ap (head_at h.place) a ∙ ap (λ x. head_at x h') at in
       ap (λ x. branch x us) heads ∙ ap (branch h') kids
 
-  have_places_decide : (f : ℕ) (ts : List Token) (ns : List ℕ) (us us' : Nodes) → plains 0 us ≡ plains 0 us' → HavePlaces f ts ns us → HavePlaces f ts ns us' → us ≡ us'
+  pub have_places_decide : (f : ℕ) (ts : List Token) (ns : List ℕ) (us us' : Nodes) → plains 0 us ≡ plains 0 us' → HavePlaces f ts ns us → HavePlaces f ts ns us' → us ≡ us'
   have_places_decide f ts ns none none e p p' = refl
   have_places_decide f ts ns none (more u' us') e p p' = cc
   have_places_decide f ts ns (more u us) none e p p' = cc
@@ -112,4 +112,4 @@ mutual
 pub tokens_have_one_tree : TokensHaveOneTree
 tokens_have_one_tree s l file ts t t' p p' =
     let e : spell 0 t ≡ spell 0 t' = sym (still_spell 0 t) ∙ p.spelled ∙ sym p'.spelled ∙ still_spell 0 t' in
-    places_decide file (joined ts) 0 t t' (code_has_one_tree 0 s l t t' p.shaped p'.shaped e) p.placed p'.placed
+    places_decide file (joined ts) 0 t t' (sorts_have_one_tree 0 s l t t' p.shaped p'.shaped e) p.placed p'.placed

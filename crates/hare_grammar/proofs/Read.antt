@@ -36,7 +36,7 @@ use Rattle.hare_grammar.specs.Table.{row}
 use Rattle.hare_grammar.specs.Engine.{Group, with_kids, add, take_text, run}
 use Rattle.hare_tree.specs.Signs.{is_sign}
 use Rattle.hare_tree.specs.Shape.{stops, stops_each, form_stops, Ending, kid_or, edges, ends_before, behind_kid}
-use Rattle.hare_grammar.specs.OneTree.{plain, is_sort_of_code as covered}
+use Rattle.hare_grammar.specs.OneTree.{plain, is_sort as covered}
 use Rattle.hare_grammar.proofs.Steps.{front, run_uses, run_absent, run_want, run_groups}
 use Rattle.hare_grammar.proofs.Tokens.{class_sign, class_number}
 use Rattle.hare_grammar.proofs.Paths.{split}
@@ -129,7 +129,7 @@ letter_no_digit : (c : ℕ) → is_letter c ≡ true → is_ascii_digit c ≡ fa
 letter_no_digit c i = grind (arith, nat_tests, common_steps)
 
 -- a name begins with no digit
-no_digit : (x : List ℕ) → is_name false x ≡ true → is_ascii_digit (slice_index x 0) ≡ false
+pub no_digit : (x : List ℕ) → is_name false x ≡ true → is_ascii_digit (slice_index x 0) ≡ false
 no_digit x e = by x (word x e)
   where
     other : (b d : Bool) → (if b then false else d) ≡ true → d ≡ true

@@ -20,14 +20,14 @@ abbrev pub put_at : ℕ → Token → Token
 put_at f t = record { kind = t.kind; place = start_of f; text = t.text; number = t.number; suffix = t.suffix }
 
 module _ (f : ℕ) where
-  abbrev Still : List Token → Type 0
+  abbrev pub Still : List Token → Type 0
   Still u = map (put_at f) u ≡ u
 
-  abbrev AllStill : List Spelled → Type 0
+  abbrev pub AllStill : List Spelled → Type 0
   AllStill [] = Unit {0}
   AllStill (u ∷ us) = Still u.1 × AllStill us
 
-  still_append : (u v : List Token) → Still u → Still v → Still (u ++ v)
+  pub still_append : (u v : List Token) → Still u → Still v → Still (u ++ v)
   still_append u v e d = map-append (put_at f) u v ∙ (rw (e, d) refl)
 
   still_lead : (l : Lead) (u : Spelled) → Still u.1 → Still (with_lead f l u)
@@ -43,7 +43,7 @@ module _ (f : ℕ) where
       by true = e
       by false = still_append u.1 (sign_token f s ∷ []) e refl
 
-  still_led : (l : Lead) (us : List Spelled) → AllStill us → Still (all_led f l us)
+  pub still_led : (l : Lead) (us : List Spelled) → AllStill us → Still (all_led f l us)
   still_led l [] a = refl
   still_led l (u ∷ us) a = still_append (with_lead f l u) (all_led f l us) (still_lead l u a.0) (still_led l us a.1)
 
@@ -108,7 +108,7 @@ module _ (f : ℕ) where
     pub still_spell : (t : Node) → Still (spell f t)
     still_spell (branch h ts) = still_pieces h (form_of h.kind) (spells f ts) (still_spells ts)
 
-    still_spells : (ts : Nodes) → AllStill (spells f ts)
+    pub still_spells : (ts : Nodes) → AllStill (spells f ts)
     still_spells none = tt
     still_spells (more t ts) = (still_spell t, still_spells ts)
 

@@ -1,12 +1,16 @@
 -- That the grammar has one tree for a list of tokens.
-use Rattle.std.specs.Prelude.{◌≡◌, ℕ, List, Bool, true, false, nat_le}
+use Rattle.std.specs.Prelude.{◌≡◌, ℕ, List, [], ◌∷◌, map, Bool, true, false, nat_le}
 use Rattle.hare_tree.specs.declared.token.Token.{Token}
 use Rattle.hare_tree.specs.declared.form.Sort.{Sort}
 use Rattle.hare_tree.specs.declared.form.Sort.TheVariants as so
 use Rattle.hare_tree.specs.Node.{Head, Node, Nodes, branch, none, more}
-use Rattle.hare_tree.specs.Spell.{start_of, spell}
-use Rattle.hare_tree.specs.Shape.{is_shaped}
-use Rattle.hare_tree.specs.Grammar.{HasPlaces, IsTreeOf}
+use Rattle.hare_tree.specs.Spell.{start_of, spell, spell_file}
+use Rattle.hare_tree.specs.Shape.{is_shaped, is_shaped_file}
+use Rattle.hare_tree.specs.Grammar.{HasPlaces, IsTreeOf, IsFileTree}
+use Rattle.hare_tree.specs.declared.tree.FileTree.{FileTree}
+use Rattle.hare_grammar.specs.declared.rule.Rule.TheVariants as ru
+use Rattle.hare_grammar.specs.declared.rule.Symbol.{Symbol}
+use Rattle.hare_grammar.specs.Rows.{part}
 
 -- The tree with all its places at the start of a file: what its tokens say of it. Two trees are equal but for places where this makes them one.
 abbrev pub plain_head : ℕ → Head → Head
@@ -30,26 +34,17 @@ is_sort_of_types so.Length = true
 is_sort_of_types so.StructField = true
 is_sort_of_types _ = false
 
--- types, expressions, statements and patterns, and their parts. Level 0 stands for what is no expression, and admits every kind.
-abbrev pub is_sort_of_code : Sort → Bool
-is_sort_of_code (so.Level l) = nat_le 1 l
-is_sort_of_code so.Message = true
-is_sort_of_code so.Dots = true
-is_sort_of_code so.ByRef = true
-is_sort_of_code so.FieldValue = true
-is_sort_of_code so.Let = true
-is_sort_of_code so.Binding = true
-is_sort_of_code so.Statement = true
-is_sort_of_code so.Pattern = true
-is_sort_of_code so.Case = true
-is_sort_of_code so.SwitchCase = true
-is_sort_of_code so.Values = true
-is_sort_of_code s = is_sort_of_types s
+-- All sorts but Left and Right, which say nothing by themselves, and level 0, which stands for what is no expression and admits every kind.
+abbrev pub is_sort : Sort → Bool
+is_sort (so.Level l) = nat_le 1 l
+is_sort so.Left = false
+is_sort so.Right = false
+is_sort _ = true
 
 -- two shaped trees of such a sort with the same tokens are equal but for places
-abbrev pub CodeHasOneTree : Type 0
-CodeHasOneTree =
-    (f : ℕ) (s : Sort) → is_sort_of_code s ≡ true → (t t' : Node) → is_shaped s t ≡ true → is_shaped s t' ≡ true → spell f t ≡ spell f t' → plain f t ≡ plain f t'
+abbrev pub SortsHaveOneTree : Type 0
+SortsHaveOneTree =
+    (f : ℕ) (s : Sort) → is_sort s ≡ true → (t t' : Node) → is_shaped s t ≡ true → is_shaped s t' ≡ true → spell f t ≡ spell f t' → plain f t ≡ plain f t'
 
 -- Trees that are equal but for places are equal where both have the places of the same tokens.
 abbrev pub PlacesDecideTrees : Type 0
@@ -59,4 +54,24 @@ PlacesDecideTrees =
 -- the tokens of a file are those of at most one tree of such a sort, places and all
 abbrev pub TokensHaveOneTree : Type 0
 TokensHaveOneTree =
-    (s : Sort) → is_sort_of_code s ≡ true → (file : ℕ) (ts : List Token) (t t' : Node) → IsTreeOf s file ts t → IsTreeOf s file ts t' → t ≡ t'
+    (s : Sort) → is_sort s ≡ true → (file : ℕ) (ts : List Token) (t t' : Node) → IsTreeOf s file ts t → IsTreeOf s file ts t' → t ≡ t'
+
+-- ---- files
+
+-- what a parser of files waits for: imports, and then declarations
+abbrev pub file_symbols : List Symbol
+file_symbols = part (ru.Each so.Use) ∷ part (ru.Each so.Decl) ∷ []
+
+-- the file with all places at its start
+abbrev pub plain_file : FileTree → FileTree
+plain_file t = record { file = t.file; uses = map (plain t.file) t.uses; decls = map (plain t.file) t.decls }
+
+-- two shaped files with the same number and the same tokens are equal but for places
+abbrev pub FilesHaveOneTree : Type 0
+FilesHaveOneTree =
+    (t t' : FileTree) → t.file ≡ t'.file → is_shaped_file t ≡ true → is_shaped_file t' ≡ true → spell_file t ≡ spell_file t' → plain_file t ≡ plain_file t'
+
+-- the tokens of a file are those of at most one tree of a file, places and all
+abbrev pub TokensHaveOneFile : Type 0
+TokensHaveOneFile =
+    (file : ℕ) (ts : List Token) (t t' : FileTree) → IsFileTree file ts t → IsFileTree file ts t' → t ≡ t'

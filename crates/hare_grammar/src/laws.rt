@@ -1,12 +1,12 @@
 //! What holds of the grammar, whatever the program.
 
-ghost use Rattle.hare_grammar.specs.OneTree.{CodeHasOneTree, PlacesDecideTrees, TokensHaveOneTree};
+ghost use Rattle.hare_grammar.specs.OneTree.{SortsHaveOneTree, PlacesDecideTrees, TokensHaveOneTree, FilesHaveOneTree, TokensHaveOneFile};
 
 /// No two trees of one sort, but for places, are spelled by the same tokens; and the tokens of a file are those of at most one tree of a sort,
-/// places and all. The sorts are those of types, expressions, statements and patterns, and of their parts.
-#[tactic(auto, using(crate::proofs::OneTree::code_has_one_tree, crate::proofs::Places::tokens_have_one_tree))]
+/// places and all. A sort is what may stand as a kid: an import, a declaration, a statement, an expression, a type, a pattern, or a part of one.
+#[tactic(auto, using(crate::proofs::OneTree::sorts_have_one_tree, crate::proofs::Places::tokens_have_one_tree))]
 pub fn law_one_tree()
-    ensures but_for_places { CodeHasOneTree }
+    ensures but_for_places { SortsHaveOneTree }
     ensures whole { TokensHaveOneTree }
 {}
 
@@ -14,4 +14,12 @@ pub fn law_one_tree()
 #[tactic(auto, using(crate::proofs::Places::places_decide))]
 pub fn law_places()
     ensures { PlacesDecideTrees }
+{}
+
+/// No two trees of files with one number, but for places, are spelled by the same tokens; and the tokens of a file are those of at most one tree
+/// of a file, places and all.
+#[tactic(auto, using(crate::proofs::Files::files_have_one_tree, crate::proofs::Files::tokens_have_one_file))]
+pub fn law_one_file()
+    ensures but_for_places { FilesHaveOneTree }
+    ensures whole { TokensHaveOneFile }
 {}

@@ -6,5 +6,5 @@ mod laws;
 mod rule;
 
 pub use class::Class;
-pub use laws::{law_one_tree, law_places};
+pub use laws::{law_one_file, law_one_tree, law_places};
 pub use rule::{Change, Rule, Symbol};

@@ -1,0 +1,30 @@
+//! What holds of runs of the grammar's machine, whatever the tokens.
+
+ghost use Rattle.hare_parsing.specs.Reading.{RunsReadTrees, RunsReadFiles};
+ghost use Rattle.hare_parsing.specs.Viable.{RunsBreak, RunsAreLongest, RunsGoOn, FileRunsBreak, FileRunsEnd, FileRunsGoOn};
+
+/// Where the machine is done with a tree, the tree is shaped, of the sort that was asked for, and spelled by the tokens that were used, whose
+/// places it has. For a file these are imports and then declarations.
+#[tactic(auto, using(crate::proofs::Readings::runs_read_trees, crate::proofs::Readings::runs_read_files))]
+pub fn law_reading()
+    ensures trees { RunsReadTrees }
+    ensures files { RunsReadFiles }
+{}
+
+/// Where the machine stops at a token, be it stuck there or done with a tree, the tokens before it begin a tree of the sort, and with it they
+/// begin none. Where it has used all tokens, they begin a tree.
+#[tactic(auto, using(crate::proofs::Breaks::runs_break, crate::proofs::Breaks::runs_are_longest, crate::proofs::Breaks::runs_go_on))]
+pub fn law_first_fault()
+    ensures breaks { RunsBreak }
+    ensures longest { RunsAreLongest }
+    ensures goes_on { RunsGoOn }
+{}
+
+/// The same of files: the machine is done at the token behind the last declaration, which is End or breaks the file, and nothing stands behind
+/// End.
+#[tactic(auto, using(crate::proofs::Breaks::file_runs_break, crate::proofs::Breaks::file_runs_end, crate::proofs::Breaks::file_runs_go_on))]
+pub fn law_first_fault_of_files()
+    ensures breaks { FileRunsBreak }
+    ensures ends { FileRunsEnd }
+    ensures goes_on { FileRunsGoOn }
+{}
