@@ -1,4 +1,4 @@
--- Which files are of the second class, and of which program.
+-- Which files are of the class, and of which program.
 --
 -- What a reader must believe: `Spells` (Tokens.antt) and `file_tokens` (Trees.antt), by which the file is spelled; that each name that is
 -- used was declared before in a block that is still open; and the limits.
@@ -127,7 +127,7 @@ abbrev mutual
 
 -- ---- whole files
 
--- An exit alone keeps the limits of the first class: no names, at most 4,096 bytes, and the limits of expressions over the whole file.
+-- An exit alone keeps limits of its own: no names, at most 4,096 bytes, and the limits of expressions over the whole file.
 pub record IsExitFile (size : ℕ) (e : Expr) : Type 0 where
   pub names : expr_names e ≡ []
   pub limited : AreLimited (file_tokens (exit_of e))

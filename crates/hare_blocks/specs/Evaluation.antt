@@ -1,4 +1,4 @@
--- What a program of the second class does within a number of turns.
+-- What a program of the class does within a number of turns.
 --
 -- A `for` begins a turn before it tests its condition, and hands one turn less to its body and to the turns behind it. Where a turn begins and
 -- none is left, the end is Spent. Nothing else uses turns. A program that falls off its end exits with 0.

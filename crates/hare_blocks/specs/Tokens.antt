@@ -1,4 +1,4 @@
--- The tokens of a file of the second class, and the texts that spell them. The words are those of the Hare specification's chapter on
+-- The tokens of a file of the class, and the texts that spell them. The words are those of the Hare specification's chapter on
 -- lexical elements, cut to what the class can hold.
 use Rattle.std.specs.Prelude.{◌≡◌, ℕ, ◌^◌, ◌<◌, List, [], ◌∷◌, ◌++◌, Bool, true, false, codes, length, ◌||◌, ◌&&◌, not, nat_le, ◌==◌, slice_index, IsTrue, IsFalse}
 use Rattle.std.specs.List.{list_all, AllByRecursion}

@@ -1,4 +1,4 @@
--- The programs of the second class as trees, and the tokens that spell them. A program's trees have the shape of the grammar:
+-- The programs of the class as trees, and the tokens that spell them. A program's trees have the shape of the grammar:
 --
 --   file      = "use" "rt" ";" "export" "fn" "main" "(" ")" "void" "=" (exit | block) ";"
 --   block     = "{" {statement ";"} "}"
@@ -58,7 +58,7 @@ mutual
     nothing : Statements
     first : Statement → Statements → Statements
 
--- the body of `main`: one exit, as in the first class, or a block
+-- the body of `main`: one exit, or a block
 pub data Program : Type 0 where
   exit_of : Expr → Program
   block_of : Statements → Program

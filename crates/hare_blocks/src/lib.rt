@@ -1,4 +1,4 @@
-//! The second class of files: programs of variables, branches, loops and output, and what they do.
+//! The class of files that compiles today: programs of variables, branches, loops and output, and what they do.
 #![tactic(auto)]
 
 mod cursor;

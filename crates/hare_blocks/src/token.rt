@@ -1,4 +1,4 @@
-//! The tokens of a source file of the second class.
+//! The tokens of a source file of the class.
 
 use hare_tree::Word;
 

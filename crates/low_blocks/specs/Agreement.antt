@@ -1,4 +1,4 @@
--- What it means that flat code does the same as a program of the second class.
+-- What it means that flat code does the same as a program of the class.
 use Rattle.std.specs.Prelude.{◌≡◌, ℕ, suc, ◌+◌, List, length, sum_by}
 use Rattle.flat_code.specs.declared.program.FlatFn.{FlatFn}
 use Rattle.flat_code.specs.declared.program.FlatProgram.{FlatProgram}
