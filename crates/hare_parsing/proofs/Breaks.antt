@@ -19,7 +19,7 @@ use Rattle.hare_grammar.proofs.Paths.{split}
 use Rattle.hare_grammar.proofs.Files.{read_file}
 use Rattle.hare_parsing.specs.Viable.{has_trees, RunsBreak, RunsAreLongest, RunsGoOn, BeginsFile, FileRunsBreak, FileRunsEnd, FileRunsGoOn}
 use Rattle.hare_parsing.proofs.Readings.{runs_read_files}
-use Rattle.hare_parsing.proofs.Closing.{good}
+use Rattle.hare_parsing.proofs.Endings.{good}
 use Rattle.hare_parsing.proofs.Alike.{classes, Alike, alike}
 use Rattle.hare_parsing.proofs.Viable.{Stopped, StuckAt, stuck_at, EndsAt, ends_at, used_up, end, goes_on, viable, not_viable, ends_whole, same_classes, not_done, fails_there, done_there, done_lengths}
 
