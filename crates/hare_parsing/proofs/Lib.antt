@@ -28,3 +28,5 @@ pub mod Good
 pub mod Alike
 pub mod Viable
 pub mod Breaks
+pub mod Moved
+pub mod Whole
