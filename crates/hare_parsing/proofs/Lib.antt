@@ -30,3 +30,4 @@ pub mod Viable
 pub mod Breaks
 pub mod Moved
 pub mod Whole
+pub mod Used

@@ -2,6 +2,7 @@
 
 ghost use Rattle.hare_parsing.specs.Reading.{RunsReadTrees, RunsReadFiles};
 ghost use Rattle.hare_parsing.specs.Viable.{RunsBreak, RunsAreLongest, RunsGoOn, FileRunsBreak, FileRunsEnd, FileRunsGoOn};
+ghost use Rattle.hare_parsing.specs.Used.{RunsUseTokens};
 ghost use Rattle.hare_parsing.specs.Whole.{WholeRunsMakeFiles, FilesHaveWholeRuns};
 
 /// Where the machine is done with a tree, the tree is shaped, of the sort that was asked for, and spelled by the tokens that were used, whose
@@ -36,4 +37,11 @@ pub fn law_first_fault_of_files()
 pub fn law_whole_files()
     ensures makes { WholeRunsMakeFiles }
     ensures exists { FilesHaveWholeRuns }
+{}
+
+/// Where the run over the tokens of a file, of which strings side by side are one, is done in front of a token, the tree that it has made spells
+/// the file's tokens up to there and has their places.
+#[tactic(auto, using(crate::proofs::Used::runs_use_tokens))]
+pub fn law_used_tokens()
+    ensures { RunsUseTokens }
 {}
