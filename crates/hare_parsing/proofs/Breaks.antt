@@ -19,7 +19,7 @@ use Rattle.hare_grammar.proofs.Paths.{split}
 use Rattle.hare_grammar.proofs.Files.{read_file}
 use Rattle.hare_parsing.specs.Viable.{has_trees, RunsBreak, RunsAreLongest, RunsGoOn, BeginsFile, FileRunsBreak, FileRunsEnd, FileRunsGoOn}
 use Rattle.hare_parsing.proofs.Readings.{runs_read_files}
-use Rattle.hare_parsing.proofs.Closing.{good}
+use Rattle.hare_parsing.proofs.Endings.{good}
 use Rattle.hare_parsing.proofs.Alike.{classes, Alike, alike}
 use Rattle.hare_parsing.proofs.Viable.{Stopped, StuckAt, stuck_at, EndsAt, ends_at, used_up, end, goes_on, viable, not_viable, ends_whole, same_classes, not_done, fails_there, done_there, done_lengths}
 
@@ -53,11 +53,11 @@ runs_go_on s c file ts e = viable s file ts (used_up file ts (of s ∷ []) botto
 
 -- ---- files
 
-twice : (u : List Token) → map unplaced (map unplaced u) ≡ map unplaced u
+pub twice : (u : List Token) → map unplaced (map unplaced u) ≡ map unplaced u
 twice [] = refl
 twice (t ∷ u) = ap (λ l. unplaced t ∷ l) (twice u)
 
-both : (a b : Bool) → a ≡ true → b ≡ true → (a && b) ≡ true
+pub both : (a b : Bool) → a ≡ true → b ≡ true → (a && b) ≡ true
 both a b p q = rw (p, q) refl
 
 -- a file of these imports and declarations
@@ -108,15 +108,15 @@ nothing_more f w t v p y q =
     empty (z ∷ x) n = absurd (omega (arith, n))
 
 -- the last token of a list
-abbrev last_of : Token → List Token → Token
+abbrev pub last_of : Token → List Token → Token
 last_of t [] = t
 last_of t (y ∷ ys) = last_of y ys
 
-last_behind : (z : Token) (u : List Token) (t : Token) → last_of z (u ++ t ∷ []) ≡ t
+pub last_behind : (z : Token) (u : List Token) (t : Token) → last_of z (u ++ t ∷ []) ≡ t
 last_behind z [] t = refl
 last_behind z (y ∷ u) t = last_behind y u t
 
-file_last : (z : Token) (tree : FileTree) → last_of z (map unplaced (spell_file tree)) ≡ end
+pub file_last : (z : Token) (tree : FileTree) → last_of z (map unplaced (spell_file tree)) ≡ end
 file_last z tree =
     let x = spell_all tree.file tree.uses in
     let y = spell_all tree.file tree.decls in

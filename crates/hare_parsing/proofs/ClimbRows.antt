@@ -37,8 +37,9 @@ use Rattle.hare_grammar.proofs.Edges.{le_true, true_le}
 use Rattle.hare_grammar.proofs.Operators.{over_last}
 use Rattle.hare_parsing.proofs.Seen.{binary_is, assign_is}
 use Rattle.hare_parsing.proofs.Trees.{Source, IsTree, Tree, made_tree, as_sort}
-use Rattle.hare_parsing.proofs.Means.{HasGroup, Means, Reads, last_part, Used, used_before}
-use Rattle.hare_parsing.proofs.Pieces.{Simple}
+use Rattle.hare_parsing.proofs.Means.{HasGroup, Means}
+use Rattle.hare_parsing.proofs.Stacks.{Reads, last_part, Used, used_before}
+use Rattle.hare_parsing.proofs.Kids.{Simple}
 use Rattle.hare_parsing.proofs.Forms.{no_label, form_tree, Operand, behind_operand}
 use Rattle.hare_parsing.proofs.TypeRows.{sign_parts}
 

@@ -33,8 +33,10 @@ use Rattle.hare_grammar.specs.Engine.{Group, begun, with_kids, head_in, bare_lea
 use Rattle.hare_grammar.proofs.Forms.{has_own}
 use Rattle.hare_parsing.proofs.Seen.{Plain, sign_is, name_is, path_word_is}
 use Rattle.hare_parsing.proofs.Trees.{Source, IsTree, Tree, Begun, Bare, Ended, list_of}
-use Rattle.hare_parsing.proofs.Means.{with_kid, closed_as, imported, longer, ImportEnd, whole, braces, Import, aliased, AfterName, import, alias, Means, Reads, last_part, Goes, Used, used_led, used_place}
-use Rattle.hare_parsing.proofs.Pieces.{Simple, nothing, wanted_kid, absent_kid, present_kid, whole_form, ended_end, ended_fixed, ended_kid}
+use Rattle.hare_parsing.proofs.Means.{with_kid, closed_as, imported, longer, ImportEnd, whole, braces, Import, aliased, AfterName, import, alias, Means}
+use Rattle.hare_parsing.proofs.Stacks.{Reads, last_part, Goes, Used, used_led, used_place}
+use Rattle.hare_parsing.proofs.Kids.{Simple, nothing, wanted_kid, absent_kid, present_kid}
+use Rattle.hare_parsing.proofs.Pieces.{whole_form, ended_end, ended_fixed, ended_kid}
 use Rattle.hare_parsing.proofs.Forms.{Ordinary, Form, form_tree, form_kid, ended_form, leaf_form, mark_form}
 use Rattle.hare_parsing.proofs.Paths.{name_behind}
 use Rattle.hare_parsing.proofs.TypeRows.{RowMeans}

@@ -27,8 +27,9 @@ use Rattle.hare_grammar.proofs.Edges.{edge}
 use Rattle.hare_grammar.proofs.Forms.{has_own, Owns}
 use Rattle.hare_parsing.proofs.Seen.{sign_is}
 use Rattle.hare_parsing.proofs.Trees.{Source, IsTree, Tree, Made, made_tree, Begun, Bare, Ended, list_of, back}
-use Rattle.hare_parsing.proofs.Means.{Reads}
-use Rattle.hare_parsing.proofs.Pieces.{Simple, some_same, ended_fixed, whole_form, edge_ends}
+use Rattle.hare_parsing.proofs.Stacks.{Reads}
+use Rattle.hare_parsing.proofs.Kids.{Simple, some_same, edge_ends}
+use Rattle.hare_parsing.proofs.Pieces.{ended_fixed, whole_form}
 
 -- ---- kinds
 

@@ -17,8 +17,9 @@ use Rattle.hare_grammar.specs.Rows.{part, symbols, rest_of}
 use Rattle.hare_grammar.specs.ExpressionRows.{level_row, after_value_row, in_index_row, after_index_row}
 use Rattle.hare_grammar.specs.Engine.{Group, begun, add}
 use Rattle.hare_parsing.proofs.Trees.{Source, IsTree, Tree, Begun}
-use Rattle.hare_parsing.proofs.Means.{absent, present, Means, Reads, last_part, Goes, Used}
-use Rattle.hare_parsing.proofs.Pieces.{nothing}
+use Rattle.hare_parsing.proofs.Means.{absent, present, Means}
+use Rattle.hare_parsing.proofs.Stacks.{Reads, last_part, Goes, Used}
+use Rattle.hare_parsing.proofs.Kids.{nothing}
 use Rattle.hare_parsing.proofs.Forms.{form_tree, behind_operand}
 use Rattle.hare_parsing.proofs.TypeRows.{unit, wants, inside_form}
 use Rattle.hare_parsing.proofs.StartRows.{level_means}

@@ -32,11 +32,13 @@ use Rattle.hare_grammar.specs.Engine.{Group, begun, head_in, bare_leaf, add}
 use Rattle.hare_grammar.proofs.Forms.{has_own}
 use Rattle.hare_parsing.proofs.Seen.{sign_is}
 use Rattle.hare_parsing.proofs.Trees.{Source, IsTree, Tree, Ended, list_of, back}
-use Rattle.hare_parsing.proofs.Means.{absent, present, lacks, leads, LoopBegun, LetBegun, with_kid, Means, Reads, last_part, Goes, Used, used_led}
-use Rattle.hare_parsing.proofs.Pieces.{pieces, whole_form, nothing, wanted_kid, no_followed_kid, followed_kid, ended_kid}
+use Rattle.hare_parsing.proofs.Means.{absent, present, lacks, leads, LoopBegun, LetBegun, with_kid, Means}
+use Rattle.hare_parsing.proofs.Stacks.{Reads, last_part, Goes, Used, used_led}
+use Rattle.hare_parsing.proofs.Kids.{nothing, wanted_kid, no_followed_kid, followed_kid}
+use Rattle.hare_parsing.proofs.Pieces.{pieces, whole_form, ended_kid}
 use Rattle.hare_parsing.proofs.Forms.{Ordinary, place_zero, no_label, Form, form_tree, mark_form}
 use Rattle.hare_parsing.proofs.TypeRows.{unit, wants}
-use Rattle.hare_parsing.proofs.ListRows.{apart_alone}
+use Rattle.hare_parsing.proofs.SideRows.{apart_alone}
 use Rattle.hare_parsing.proofs.StartRows.{level_means}
 
 -- ---- forms whose text was read before their kids

@@ -23,7 +23,8 @@ use Rattle.hare_grammar.proofs.Paths.{split}
 use Rattle.hare_grammar.proofs.Read.{no_digit}
 use Rattle.hare_parsing.proofs.Seen.{sign_is, name_is, number_is}
 use Rattle.hare_parsing.proofs.Trees.{Source, Bare, Owned}
-use Rattle.hare_parsing.proofs.Means.{Means, last_part, Goes, Used}
+use Rattle.hare_parsing.proofs.Means.{Means}
+use Rattle.hare_parsing.proofs.Stacks.{last_part, Goes, Used}
 
 -- the group with the text of a token
 abbrev pub texted : Token → Group → Group

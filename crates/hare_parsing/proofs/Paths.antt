@@ -26,7 +26,8 @@ use Rattle.hare_grammar.specs.Engine.{Group, head_in, close, join_text}
 use Rattle.hare_grammar.proofs.Paths.{split, further, path_split, joined_by}
 use Rattle.hare_parsing.proofs.Seen.{sign_is, name_is, path_word_is}
 use Rattle.hare_parsing.proofs.Trees.{Source}
-use Rattle.hare_parsing.proofs.Means.{Names, OneName, last_part, Used}
+use Rattle.hare_parsing.proofs.Means.{Names, OneName}
+use Rattle.hare_parsing.proofs.Stacks.{last_part, Used}
 use Rattle.hare_parsing.proofs.Forms.{Ordinary, no_label, Form}
 
 -- ---- the parts of a text

@@ -20,7 +20,8 @@ use Rattle.hare_grammar.specs.OneTree.{file_symbols}
 use Rattle.hare_grammar.proofs.Paths.{split}
 use Rattle.hare_parsing.specs.Reading.{RunsReadTrees, RunsReadFiles}
 use Rattle.hare_parsing.proofs.Trees.{Source, add_all, list_of, back, all_kids}
-use Rattle.hare_parsing.proofs.Means.{has_first, last_part}
+use Rattle.hare_parsing.proofs.Means.{has_first}
+use Rattle.hare_parsing.proofs.Stacks.{last_part}
 use Rattle.hare_parsing.proofs.Sound.{run_reads}
 
 pub runs_read_trees : RunsReadTrees

@@ -26,7 +26,8 @@ use Rattle.hare_grammar.specs.Engine.{Group, begun, close, lift, join_text}
 use Rattle.hare_grammar.proofs.Paths.{joined_by}
 use Rattle.hare_parsing.proofs.Seen.{text_is}
 use Rattle.hare_parsing.proofs.Trees.{Source, tree_as, Ended}
-use Rattle.hare_parsing.proofs.Means.{Names, OneName, with_kid, closed_as, fields, PathEnd, path, literal, Means, Reads, last_part, Used, used_led, used_place}
+use Rattle.hare_parsing.proofs.Means.{Names, OneName, with_kid, closed_as, fields, PathEnd, path, literal, Means}
+use Rattle.hare_parsing.proofs.Stacks.{Reads, last_part, Used, used_led, used_place}
 use Rattle.hare_parsing.proofs.Pieces.{whole_form}
 use Rattle.hare_parsing.proofs.Forms.{form_tree, ended_form}
 use Rattle.hare_parsing.proofs.Paths.{joined_nothing, further_name}

@@ -29,8 +29,10 @@ use Rattle.hare_grammar.specs.Engine.{Group, begun, head_in, add, close, lift}
 use Rattle.hare_grammar.proofs.Paths.{split, further, joined_by}
 use Rattle.hare_parsing.proofs.Seen.{sign_is, number_is, rune_is, text_is, bool_is}
 use Rattle.hare_parsing.proofs.Trees.{Source, IsTree, Tree, Begun, Owned}
-use Rattle.hare_parsing.proofs.Means.{has_first, Names, with_kid, closed_as, fields, Literal, PathEnd, path, literal, LoopBegun, Reads, last_part, Goes, Used, used_before}
-use Rattle.hare_parsing.proofs.Pieces.{Simple, wanted_kid, ended_fixed, ended_kid}
+use Rattle.hare_parsing.proofs.Means.{has_first, Names, with_kid, closed_as, fields, Literal, PathEnd, path, literal, LoopBegun}
+use Rattle.hare_parsing.proofs.Stacks.{Reads, last_part, Goes, Used, used_before}
+use Rattle.hare_parsing.proofs.Kids.{Simple, wanted_kid}
+use Rattle.hare_parsing.proofs.Pieces.{ended_fixed, ended_kid}
 use Rattle.hare_parsing.proofs.Forms.{Ordinary, Form, form_tree, form_kid, ended_form, named}
 use Rattle.hare_parsing.proofs.Paths.{first_of, path_form}
 use Rattle.hare_parsing.proofs.TypeRows.{leaf_means, mark_means, opens_means, wants, RowMeans}

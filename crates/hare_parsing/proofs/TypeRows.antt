@@ -34,8 +34,9 @@ use Rattle.hare_grammar.specs.Engine.{Group, begun, full_leaf, bare_leaf, add}
 use Rattle.hare_grammar.proofs.Forms.{has_own}
 use Rattle.hare_parsing.proofs.Seen.{sign_is, name_is, number_is, scalar_is}
 use Rattle.hare_parsing.proofs.Trees.{Source, IsTree, Tree, tree_as, as_sort, Begun}
-use Rattle.hare_parsing.proofs.Means.{HasGroup, Means, Reads, last_part, Goes, Used, used_before}
-use Rattle.hare_parsing.proofs.Pieces.{Simple}
+use Rattle.hare_parsing.proofs.Means.{HasGroup, Means}
+use Rattle.hare_parsing.proofs.Stacks.{Reads, last_part, Goes, Used, used_before}
+use Rattle.hare_parsing.proofs.Kids.{Simple}
 use Rattle.hare_parsing.proofs.Forms.{Ordinary, Form, form_tree, opened, named, leaf_form, mark_form}
 use Rattle.hare_parsing.proofs.Paths.{first_of, path_form}
 

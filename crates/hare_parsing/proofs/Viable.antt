@@ -17,9 +17,10 @@ use Rattle.hare_grammar.proofs.Steps.{run_done}
 use Rattle.hare_grammar.proofs.Kids.{closer}
 use Rattle.hare_grammar.proofs.OneTree.{read_whole}
 use Rattle.hare_parsing.specs.Viable.{BeginsTree}
-use Rattle.hare_parsing.proofs.Seen.{class_unplaced}
+use Rattle.hare_parsing.proofs.TokenKinds.{class_unplaced}
 use Rattle.hare_parsing.proofs.Readings.{runs_read_trees}
-use Rattle.hare_parsing.proofs.Closing.{closing, good, closes}
+use Rattle.hare_parsing.proofs.Endings.{closing, good}
+use Rattle.hare_parsing.proofs.Closing.{closes}
 use Rattle.hare_parsing.proofs.Good.{step_good, class_proper}
 use Rattle.hare_parsing.proofs.Alike.{classes, Alike, alike}
 

@@ -29,11 +29,13 @@ use Rattle.hare_grammar.specs.Engine.{Group, begun, head_in, add, close}
 use Rattle.hare_grammar.proofs.Steps.{front}
 use Rattle.hare_grammar.proofs.Paths.{split}
 use Rattle.hare_grammar.proofs.Tokens.{class_sign}
-use Rattle.hare_parsing.proofs.Seen.{class_unplaced, sign_is}
+use Rattle.hare_parsing.proofs.TokenKinds.{class_unplaced}
+use Rattle.hare_parsing.proofs.Seen.{sign_is}
 use Rattle.hare_parsing.proofs.Trees.{Source, IsTree, Tree, made_tree, Begun}
-use Rattle.hare_parsing.proofs.Means.{Led, lacks, leads, Means, Goes, Used, used_or}
-use Rattle.hare_parsing.proofs.Pieces.{nothing, led_sign, if_false}
-use Rattle.hare_parsing.proofs.ListRows.{apart_alone}
+use Rattle.hare_parsing.proofs.Means.{Led, lacks, leads, Means}
+use Rattle.hare_parsing.proofs.Stacks.{Goes, Used, used_or}
+use Rattle.hare_parsing.proofs.Kids.{nothing, led_sign, if_false}
+use Rattle.hare_parsing.proofs.SideRows.{apart_alone}
 use Rattle.hare_parsing.proofs.TypeRows.{unit}
 use Rattle.hare_parsing.proofs.StartRows.{labelled, level_means}
 

@@ -1,2 +1,4 @@
 pub mod Reading
 pub mod Viable
+pub mod Whole
+pub mod Used

@@ -2,6 +2,8 @@
 
 ghost use Rattle.hare_parsing.specs.Reading.{RunsReadTrees, RunsReadFiles};
 ghost use Rattle.hare_parsing.specs.Viable.{RunsBreak, RunsAreLongest, RunsGoOn, FileRunsBreak, FileRunsEnd, FileRunsGoOn};
+ghost use Rattle.hare_parsing.specs.Used.{RunsUseTokens};
+ghost use Rattle.hare_parsing.specs.Whole.{WholeRunsMakeFiles, FilesHaveWholeRuns};
 
 /// Where the machine is done with a tree, the tree is shaped, of the sort that was asked for, and spelled by the tokens that were used, whose
 /// places it has. For a file these are imports and then declarations.
@@ -27,4 +29,19 @@ pub fn law_first_fault_of_files()
     ensures breaks { FileRunsBreak }
     ensures ends { FileRunsEnd }
     ensures goes_on { FileRunsGoOn }
+{}
+
+/// The run over the tokens of a file, of which strings side by side are one, is done in front of End alone exactly where the tokens are those of a
+/// shaped file; and what it has made are this file's imports and declarations, with their places.
+#[tactic(auto, using(crate::proofs::Whole::whole_runs_make_files, crate::proofs::Whole::files_have_whole_runs))]
+pub fn law_whole_files()
+    ensures makes { WholeRunsMakeFiles }
+    ensures exists { FilesHaveWholeRuns }
+{}
+
+/// Where the run over the tokens of a file, of which strings side by side are one, is done in front of a token, the tree that it has made spells
+/// the file's tokens up to there and has their places.
+#[tactic(auto, using(crate::proofs::Used::runs_use_tokens))]
+pub fn law_used_tokens()
+    ensures { RunsUseTokens }
 {}

@@ -3,4 +3,6 @@
 
 mod laws;
 
-pub use laws::{law_first_fault, law_first_fault_of_files, law_reading};
+pub use laws::{
+    law_first_fault, law_first_fault_of_files, law_reading, law_used_tokens, law_whole_files,
+};
