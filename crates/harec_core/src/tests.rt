@@ -109,6 +109,8 @@ const LOOPS: &str =
 
 const ENDLESS: &str = "use rt; export fn main() void = { for (true) { rt::puts(\"x\"); }; };";
 
+const UNDECLARED: &str = "use rt; export fn main() void = { x = 1z; };";
+
 const NESTED: &str = "use rt; export fn main() void = {
     let n = 0z;
     let i = 0z;
@@ -125,21 +127,119 @@ const NESTED: &str = "use rt; export fn main() void = {
     rt::exit((n): u8);
 };";
 
+/// The status, the output and the log of a call, apart by bars.
+fn outcome(alloc: Global, g: Given) -> Result<String, AllocError> {
+    let done = call(alloc, g)?;
+    let status = status(&done.answer);
+    let out = text_of(&done.out);
+    let log = text_of(&done.log);
+    format!(in alloc; "{status}|{out}|{log}")
+}
+
+fn text_of(bytes: &Bytes) -> &str {
+    std::str::from_utf8(bytes.bytes()).unwrap_or("no text")
+}
+
 #[test]
-fn runs_that_exit(rt: HostRuntime) -> Result<(), Fail> {
-    let alloc = rt.alloc();
-    let counted = call(alloc, with_words("run main.ha -- a b", COUNTS))?;
-    assert_eq!(rt; counted.answer, Answer::Exited(7));
-    assert_eq!(rt; counted.log.bytes(), b"".as_slice());
-    let many = format!(in alloc; "run main.ha -- {}", copies(alloc, "a ", 85)?)?;
-    assert_eq!(rt;
-        status(&call(alloc, with_words(many.as_str(), COUNTS))?.answer),
-        0
-    );
-    // 600 is cut to its low eight bits.
-    let nested = call(alloc, with_words("run main.ha", NESTED))?;
-    assert_eq!(rt; nested.answer, Answer::Exited(88));
-    assert_eq!(rt; nested.out.bytes(), b"-one-".as_slice());
+fn answers_with_output_and_line(rt: HostRuntime) -> Result<(), Fail> {
+    let many = copies(rt.alloc(), "a ", 85)?;
+    let many = format!(in rt.alloc(); "run main.ha -- {many}")?;
+    for (words, source, expected) in [
+        ("run main.ha -- a b", COUNTS, "7||"),
+        (many.as_str(), COUNTS, "0||"),
+        ("run main.ha --", COUNTS, "1||"),
+        (
+            "run --units 00000000000000000100 main.ha -- --",
+            COUNTS,
+            "4||",
+        ),
+        (
+            "run --units 001 main.ha -- a",
+            COUNTS,
+            "75||harec: spent 1 units\n",
+        ),
+        ("run main.ha -- a b c", LOOPS, "6|ababab|"),
+        // 600 is cut to its low eight bits.
+        ("run main.ha", NESTED, "88|-one-|"),
+        ("", COUNTS, "64||harec: usage\n"),
+        ("emit main.ha --", COUNTS, "64||harec: usage\n"),
+        ("run main.ha a", COUNTS, "64||harec: usage\n"),
+        ("run a/main.ha", COUNTS, "64||harec: usage\n"),
+        ("run --units 0 main.ha", COUNTS, "64||harec: usage\n"),
+        (
+            "run --units 1000000000001 main.ha",
+            COUNTS,
+            "64||harec: usage\n",
+        ),
+        (
+            "run --units 000000000000000000001 main.ha",
+            COUNTS,
+            "64||harec: usage\n",
+        ),
+        ("run --units +1 main.ha", COUNTS, "64||harec: usage\n"),
+        ("run main.ha --units 1", COUNTS, "64||harec: usage\n"),
+        ("run missing.ha", COUNTS, "66||missing.ha: file fault\n"),
+        ("run main.ha", "", "65||main.ha:1:1: E49 NotBuilt\n"),
+        (
+            "emit main.ha",
+            UNDECLARED,
+            "65||main.ha:1:1: E49 NotBuilt\n",
+        ),
+    ] {
+        let outcome = outcome(rt.alloc(), with_words(words, source))?;
+        assert_eq!(rt; outcome.as_str(), expected, "{words}");
+    }
+    Ok(())
+}
+
+#[test]
+fn calls_that_fail(rt: HostRuntime) -> Result<(), Fail> {
+    let emit = with_words("emit main.ha", COUNTS);
+    let run = with_words("run main.ha -- a b c", LOOPS);
+    for (given, expected) in [
+        (
+            Given {
+                file_fails: &[1],
+                ..emit
+            },
+            "66||main.ha: file fault\n",
+        ),
+        (
+            Given {
+                out_fails: &[2],
+                most: 6,
+                ..emit
+            },
+            "74|export|harec: write fault\n",
+        ),
+        (
+            Given {
+                out_fails: &[2],
+                ..run
+            },
+            "74|ab|harec: write fault\n",
+        ),
+        (
+            Given {
+                out_fails: &[1],
+                log_fails: &[1],
+                ..run
+            },
+            "74||",
+        ),
+        // A log takes at most five bytes in one call.
+        (
+            Given {
+                words: "",
+                log_fails: &[2],
+                ..run
+            },
+            "74||harec",
+        ),
+    ] {
+        let outcome = outcome(rt.alloc(), given)?;
+        assert_eq!(rt; outcome.as_str(), expected);
+    }
     Ok(())
 }
 
@@ -147,134 +247,22 @@ fn runs_that_exit(rt: HostRuntime) -> Result<(), Fail> {
 fn output_comes_whole_in_pieces_of_any_size(rt: HostRuntime) -> Result<(), Fail> {
     let alloc = rt.alloc();
     for most in [1, 7, 16] {
-        let looped = call(
-            alloc,
-            Given {
-                most,
-                ..with_words("run main.ha -- a b c", LOOPS)
-            },
-        )?;
-        assert_eq!(rt; looped.answer, Answer::Exited(6));
-        assert_eq!(rt; looped.out.bytes(), b"ababab".as_slice());
-        let emitted = call(
-            alloc,
-            Given {
-                most,
-                ..with_words("emit main.ha", LOOPS)
-            },
-        )?;
+        let run = with_words("run main.ha -- a b c", LOOPS);
+        let emit = with_words("emit main.ha", LOOPS);
+        let ran = call(alloc, Given { most, ..run })?;
+        let emitted = call(alloc, Given { most, ..emit })?;
+        assert_eq!(rt; text_of(&ran.out), "ababab");
         assert_eq!(rt; emitted.answer, Answer::Accepted);
-        assert_eq!(rt; emitted.log.bytes(), b"".as_slice());
-        assert_eq!(rt; emitted.out.bytes(), emitted.text.bytes());
-        assert_eq!(rt; emitted.text.bytes(), looped.text.bytes());
+        assert_eq!(rt; text_of(&emitted.out), text_of(&ran.text));
     }
     Ok(())
 }
 
 #[test]
-fn runs_that_spend_their_units(rt: HostRuntime) -> Result<(), Fail> {
-    let alloc = rt.alloc();
-    let spent = call(alloc, with_words("run --units 1000 main.ha", ENDLESS))?;
-    assert_eq!(rt; status(&spent.answer), 75);
-    assert_eq!(rt; spent.log.bytes(), b"harec: spent 1000 units\n".as_slice());
-    let count = spent.out.bytes().len();
-    assert!(rt; 100 < count && count <= 1000);
-    assert!(rt; spent.out.bytes().iter().all(|c| *c == b'x'));
-    let one = call(alloc, with_words("run --units 001 main.ha -- a", COUNTS))?;
-    assert_eq!(rt; one.answer, Answer::Spent);
-    assert_eq!(rt; one.log.bytes(), b"harec: spent 1 units\n".as_slice());
-    Ok(())
-}
-
-#[test]
-fn words_that_are_no_command(rt: HostRuntime) -> Result<(), Fail> {
-    let alloc = rt.alloc();
-    for line in [
-        "",
-        "run",
-        "emit main.ha --",
-        "run main.ha a",
-        "run a/main.ha",
-        "run --units 0 main.ha",
-        "run --units 1000000000001 main.ha",
-        "run --units 000000000000000000001 main.ha",
-        "run --units +1 main.ha",
-        "run main.ha --units 1",
-    ] {
-        let none = call(alloc, with_words(line, COUNTS))?;
-        assert_eq!(rt; status(&none.answer), 64, "{line}");
-        assert_eq!(rt; none.log.bytes(), b"harec: usage\n".as_slice());
-        assert_eq!(rt; none.text.bytes(), b"".as_slice());
-    }
-    let whole = "run --units 00000000000000000100 main.ha -- --";
-    assert_eq!(rt;
-        call(alloc, with_words(whole, COUNTS))?.answer,
-        Answer::Exited(4)
-    );
-    Ok(())
-}
-
-#[test]
-fn files_that_are_refused(rt: HostRuntime) -> Result<(), Fail> {
-    let alloc = rt.alloc();
-    let missing = call(alloc, with_words("run missing.ha", COUNTS))?;
-    assert_eq!(rt; status(&missing.answer), 66);
-    assert_eq!(rt; missing.log.bytes(), b"missing.ha: file fault\n".as_slice());
-    let failed = call(
-        alloc,
-        Given {
-            file_fails: &[1],
-            ..with_words("emit main.ha", COUNTS)
-        },
-    )?;
-    assert_eq!(rt; failed.log.bytes(), b"main.ha: file fault\n".as_slice());
-    for source in [
-        "",
-        "export fn main() void = void;",
-        "use rt; export fn main() void = { x = 1z; };",
-    ] {
-        let refused = call(alloc, with_words("emit main.ha", source))?;
-        assert_eq!(rt; refused.answer, Answer::Refused(49));
-        assert_eq!(rt;
-            refused.log.bytes(),
-            b"main.ha:1:1: E49 NotBuilt\n".as_slice()
-        );
-        assert_eq!(rt; refused.out.bytes(), b"".as_slice());
-    }
-    Ok(())
-}
-
-#[test]
-fn writes_that_fail(rt: HostRuntime) -> Result<(), Fail> {
-    let alloc = rt.alloc();
-    let cut = Given {
-        out_fails: &[2],
-        most: 16,
-        ..with_words("emit main.ha", LOOPS)
-    };
-    let emitted = call(alloc, cut)?;
-    assert_eq!(rt; status(&emitted.answer), 74);
-    assert_eq!(rt; emitted.log.bytes(), b"harec: write fault\n".as_slice());
-    assert_eq!(rt; emitted.out.bytes().len(), 16);
-    assert!(rt; emitted.text.bytes().starts_with(emitted.out.bytes()));
-    let ran = call(
-        alloc,
-        Given {
-            out_fails: &[2],
-            ..with_words("run main.ha -- a b c", LOOPS)
-        },
-    )?;
-    assert_eq!(rt; ran.answer, Answer::WriteFault);
-    assert_eq!(rt; ran.out.bytes(), b"ab".as_slice());
-    // A log takes at most five bytes in one call.
-    let silent = call(
-        alloc,
-        Given {
-            log_fails: &[2],
-            ..with_words("", COUNTS)
-        },
-    )?;
-    assert_eq!(rt; silent.answer, Answer::WriteFault);
-    assert_eq!(rt; silent.log.bytes(), b"harec".as_slice());
+fn a_run_without_end_spends_its_units(rt: HostRuntime) -> Result<(), Fail> {
+    let spent = call(rt.alloc(), with_words("run --units 1000 main.ha", ENDLESS))?;
+    assert_eq!(rt; text_of(&spent.log), "harec: spent 1000 units\n");
+    let out = spent.out.bytes();
+    assert!(rt; 100 < out.len() && out.len() <= 1000 && out.iter().all(|c| *c == b'x'));
     Ok(())
 }

@@ -22,7 +22,12 @@ use std::alloc::Global;
 
 /// Does all that the program does: answers the words, over the files, the input, the output and the log that are handed in.
 ///
-/// `fill` is the byte that new memory and unassigned temporaries of a run hold. `text` becomes the IL text that was made.
+/// `emit FILE` writes the IL text of the file's program to the output. `run [--units N] FILE [-- ARGS]` makes the same text, reads the module back
+/// from it and runs that, with the arguments and at most N units, and writes the program's output as it comes. Each answer but an accepted file and
+/// a program's own exit has one line, which the log gets. All memory is taken before the first byte of output, and the line takes none.
+///
+/// `fill` is the byte that new memory and unassigned temporaries of a run hold. `text` becomes the IL text that was made: it is empty where no module
+/// was made, and after want of memory it is the text or empty.
 pub fn harec<F: Files, I: Source, O: Sink, L: Sink>(
     alloc: Global,
     words: &[Text],
