@@ -1,26 +1,28 @@
 -- What is kept beside rows, as rows are taken in and names are declared and defined.
-use Rattle.std.proofs.Common.{◌≡◌, ℕ, zero, suc, ◌+◌, ◌<◌, ◌≤◌, true, false, List, [], ◌∷◌, ◌++◌, length, take, map, Option, Some, None, IfSome, IsSome, refl, ap, sym, ◌∙◌, subst, arith, ◌⊎◌, inl, inr, length-append}
+use Rattle.std.proofs.Common.{◌≡◌, ℕ, zero, suc, ◌+◌, ◌<◌, ◌≤◌, true, false, List, [], ◌∷◌, ◌++◌, length, get_or, map, Option, Some, None, IfSome, IsSome, refl, ap, ap₂, sym, ◌∙◌, subst, arith, ◌⊎◌, inl, inr, length-append}
 use Rattle.std.specs.Prelude.{slice_get, option_and_then}
-use Rattle.std.proofs.lemmas.Option.{slice_get_within}
+use Rattle.std.proofs.lemmas.Option.{slice_get-get_or, slice_get_within}
 use Rattle.std.proofs.lemmas.List.{map-append, length-map}
-use Rattle.std.proofs.Math.Seq.{get_or-append_seam, take-append_seam, take-length}
+use Rattle.std.proofs.Math.Seq.{get_or-append_seam}
 use Rattle.std.proofs.Math.ListN.{get_or-append}
 use Rattle.hare_types.specs.declared.declared.Declared.{Declared}
 use Rattle.hare_types.specs.declared.extent.Extent.{Extent}
 use Rattle.hare_types.specs.declared.kept.Kept.{Kept}
 use Rattle.hare_types.specs.declared.row.Row.{Row}
 use Rattle.hare_types.specs.declared.row.Row.TheVariants as row
-use Rattle.hare_types.specs.Numbering.{most}
+use Rattle.hare_types.specs.Numbering.{most, IsNumbered, IsOnce}
 use Rattle.hare_types.specs.Trees.{Named}
-use Rattle.hare_types.specs.Rows.{AllBelow, IsWithin}
+use Rattle.hare_types.specs.Rows.{AllBelow, IsWithin, IsReduced, AreRows}
 use Rattle.hare_types.specs.Store.{Store, tree_at, meaning_of}
 use Rattle.hare_types.specs.Sound.{IsStore}
 use Rattle.hare_types.specs.Layout.{following, extent_with}
 use Rattle.hare_types.specs.Kept.{parts_of, known, defined, extent_over, IsBounded, KeepsExtents, IsInert}
 use Rattle.hare_types.specs.Bases.{known_base, base_over, KeepsBases}
-use Rattle.hare_types.specs.Waiting.{nowhere, blank, kept_at, extents, bases, extent_at, base_at, Among, EndsWith, Chain, first_of, NeedsRow, Needs, IsAtRest, HaveBases, AreSeen, AreSettling, AreSettlingBut, AreSettlingButName, AreKept, KeepsFound, NoneFollows, NeedsAreWithin}
-use Rattle.hare_types.proofs.ListLemmas.{slice_get_push}
+use Rattle.hare_types.specs.Waiting.{nowhere, blank, kept_at, extents, bases, extent_at, base_at, Among, EndsWith, Chain, first_of, NeedsRow, Needs, IsAtRest, HaveBases, AreSeen, AreSettling, AreSettlingBut, AreSettlingButName, AreKept, IsTakenIn, KeepsFound, NoneFollows, NeedsAreWithin}
+use Rattle.hare_types.proofs.ListLemmas.{slice_get_end, slice_get_push}
 use Rattle.hare_types.proofs.TreeLemmas.{IsWithin-le}
+use Rattle.hare_types.proofs.SoundLemmas.{IsStore-rows}
+use Rattle.hare_types.proofs.InternLemmas.{AreRows-new, kept_new, Continues-grows}
 use Rattle.hare_types.proofs.CallerLemmas.{tree_at_row}
 use Rattle.hare_types.proofs.KeptLemmas.{KeepsExtents-push, extent_over-front, known-front, FieldsBelow-ids}
 use Rattle.hare_types.proofs.BaseLemmas.{KeepsBases-push}
@@ -426,35 +428,29 @@ module _ (s : Store) (ks : List Kept) (v : AreKept s ks) (r : Row) (w : IsWithin
 
 -- ---- with the rows that taking one in leaves
 
--- what is asked of rows, and of what is kept beside them, once a row was taken in as row `here` or was there
-pub record IsEntered (s : Store) (rows : List Row) (here : ℕ) (mid : List Kept) : Type 0 where
+-- what is asked of rows, and of what is kept beside them, once row `here` was taken in
+pub record IsEntered (s : Store) (es : List (ℕ × Declared)) (rows : List Row) (here : ℕ) (mid : List Kept) : Type 0 where
   pub as_many : length mid ≡ length rows
+  pub needs : NeedsAreWithin rows es
   pub seen : AreSeen rows mid
-  pub none : here < length rows → extent_at mid here ≡ None → (q : Row) → slice_get rows here ≡ Some q → NoneFollows s.declared mid here q
-  pub kept : (final : List Kept) → KeepsFound mid final → AreSeen rows final → (length rows ≤ here → final ≡ mid)
-      → (here < length rows → (pile : ℕ) (lists : ℕ → List ℕ) → AreSettlingBut here rows s.declared mid pile lists → (new : ℕ → List ℕ) × AreSettling rows s.declared final pile new × (new 0 ≡ lists 0))
+  pub none : extent_at mid here ≡ None → (q : Row) → slice_get rows here ≡ Some q → NoneFollows es mid here q
+  pub kept : (final : List Kept) → KeepsFound mid final → AreSeen rows final
+      → ((pile : ℕ) (lists : ℕ → List ℕ) → AreSettlingBut here rows es mid pile lists → (new : ℕ → List ℕ) × AreSettling rows es final pile new × (new 0 ≡ lists 0))
       → AreKept (record s { rows = rows }) final
-
-entered-old : (s : Store) (ks : List Kept) → AreKept s ks → IsEntered s s.rows (length s.rows) ks
-entered-old s ks v = record {
-  as_many = sym (length-map ks (λ x. x.extent)) ∙ v.extents.as_many;
-  seen = v.seen;
-  none = λ l u q g. absurd (omega (arith, l));
-  kept = λ final k seen same settled. subst (AreKept s) (sym (same (omega arith))) v;
-}
 
 entered-new : (s : Store) (ks : List Kept) → AreKept s ks → (r : Row) → IsWithin (length s.rows) r → (k : Kept) → k ≡ record blank { extent = k.extent; base = k.base }
     → k.extent ≡ extent_over (defined s.declared) (known (extents ks)) r → k.base ≡ base_over (defined s.declared) (base_at ks) (length s.rows) r → IfSome k.extent (λ x. IsBounded x)
-    → IsStore (record s { rows = s.rows ++ r ∷ [] }) → IsEntered s (s.rows ++ r ∷ []) (length s.rows) (ks ++ k ∷ [])
+    → IsStore (record s { rows = s.rows ++ r ∷ [] }) → IsEntered s s.declared (s.rows ++ r ∷ []) (length s.rows) (ks ++ k ∷ [])
 entered-new s ks v r w k blank_is extent_is base_is bounded sound =
     let extents_new = push-extents s ks v r w k blank_is extent_is base_is bounded sound in
     let bases_new = push-bases s ks v r w k blank_is extent_is base_is bounded sound in
     record {
       as_many = sym (length-map (ks ++ k ∷ []) (λ x. x.extent)) ∙ extents_new.as_many;
+      needs = needs-within (record s { rows = s.rows ++ r ∷ [] }) sound;
       seen = push-seen s ks v r w k blank_is extent_is base_is bounded sound;
-      none = λ l. push-none s ks v r w k blank_is extent_is base_is bounded sound;
-      kept = λ final keeps seen same settled.
-          let x = settled (omega (arith, length-append s.rows (r ∷ []))) nowhere v.lists (push-settling s ks v r w k blank_is extent_is base_is bounded sound) in
+      none = push-none s ks v r w k blank_is extent_is base_is bounded sound;
+      kept = λ final keeps seen settled.
+          let x = settled nowhere v.lists (push-settling s ks v r w k blank_is extent_is base_is bounded sound) in
           record {
             store = sound;
             extents = subst (KeepsExtents (record s { rows = s.rows ++ r ∷ [] })) (sym keeps.extents) extents_new;
@@ -466,16 +462,47 @@ entered-new s ks v r w k blank_is extent_is base_is bounded sound =
           };
     }
 
-pub entered : (s : Store) (ks : List Kept) → AreKept s ks → (r : Row) → IsWithin (length s.rows) r → (k : Kept) → k ≡ record blank { extent = k.extent; base = k.base }
-    → k.extent ≡ extent_over (defined s.declared) (known (extents ks)) r → k.base ≡ base_over (defined s.declared) (base_at ks) (length s.rows) r → IfSome k.extent (λ x. IsBounded x)
-    → (rows : List Row) → (rows ≡ s.rows) ⊎ (rows ≡ s.rows ++ r ∷ []) → IsStore (record s { rows = rows }) → IsEntered s rows (length s.rows) (take (length rows) (ks ++ k ∷ []))
-entered s ks v r w k blank_is extent_is base_is bounded rows (inl e) sound =
-    let count : length s.rows ≡ length ks = sym v.extents.as_many ∙ length-map ks (λ x. x.extent) in
-    let cut : take (length s.rows) (ks ++ k ∷ []) ≡ ks = ap (λ n. take n (ks ++ k ∷ [])) count ∙ take-append_seam ks (k ∷ []) in
-    subst (λ l. IsEntered s l (length s.rows) (take (length l) (ks ++ k ∷ []))) (sym e) (subst (IsEntered s s.rows (length s.rows)) (sym cut) (entered-old s ks v))
-entered s ks v r w k blank_is extent_is base_is bounded rows (inr e) sound =
-    let count : length s.rows ≡ length ks = sym v.extents.as_many ∙ length-map ks (λ x. x.extent) in
-    let as_long : length (s.rows ++ r ∷ []) ≡ length (ks ++ k ∷ []) = omega (arith, length-append ks (k ∷ []), length-append s.rows (r ∷ []), count) in
-    let cut : take (length (s.rows ++ r ∷ [])) (ks ++ k ∷ []) ≡ ks ++ k ∷ [] = ap (λ n. take n (ks ++ k ∷ [])) as_long ∙ take-length (ks ++ k ∷ []) in
-    subst (λ l. IsEntered s l (length s.rows) (take (length l) (ks ++ k ∷ []))) (sym e)
-    (subst (IsEntered s (s.rows ++ r ∷ []) (length s.rows)) (sym cut) (entered-new s ks v r w k blank_is extent_is base_is bounded (subst (λ l. IsStore (record s { rows = l })) e sound)))
+module _ (s : Store) (ks : List Kept) (r : Row) (rows : List Row) (es : List (ℕ × Declared)) (here : ℕ) (d : s.declared ≡ es) (h : here ≡ length s.rows) (t : IsTakenIn s ks r rows) where
+  -- where none was taken in
+  pub entered-old : length rows ≤ here → AreKept (record s { rows = rows }) ks
+  entered-old l = by t.grows
+    where
+      by : (rows ≡ s.rows) ⊎ (rows ≡ s.rows ++ r ∷ []) → AreKept (record s { rows = rows }) ks
+      by (inl e) = subst (λ x. AreKept (record s { rows = x }) ks) (sym e) t.kept
+      by (inr e) = absurd (omega (arith, l, h, ap length e, length-append s.rows (r ∷ [])))
+
+  -- where k is what is kept of the row that was taken in, and mid is what is kept with it
+  pub entered : (old mid : List Kept) (q : Row) (k : Kept) → here < length rows → old ≡ ks → q ≡ get_or rows here q → mid ≡ ks ++ k ∷ [] → k ≡ record blank { extent = k.extent; base = k.base }
+      → k.extent ≡ extent_over (defined es) (known (extents old)) q → k.base ≡ base_over (defined es) (base_at old) here q → IfSome k.extent (λ x. IsBounded x)
+      → IsEntered s es rows here mid
+  entered old mid q k l same at pushed blank_is extent_is base_is bounded = by t.grows
+    where
+      by : (rows ≡ s.rows) ⊎ (rows ≡ s.rows ++ r ∷ []) → IsEntered s es rows here mid
+      by (inl e) = absurd (omega (arith, l, h, ap length e))
+      by (inr e) =
+          let last : Some q ≡ Some r = ap Some at ∙ sym (slice_get-get_or rows here q l) ∙ ap₂ slice_get e h ∙ slice_get_end s.rows r [] in
+          let q_is : q ≡ r = cc in
+          let extent_new : k.extent ≡ extent_over (defined s.declared) (known (extents ks)) r =
+          extent_is ∙ ap (λ x. extent_over (defined es) (known (extents x)) q) same ∙ ap₂ (λ x y. extent_over (defined x) (known (extents ks)) y) (sym d) q_is in
+          let base_new : k.base ≡ base_over (defined s.declared) (base_at ks) (length s.rows) r =
+          base_is ∙ ap (λ x. base_over (defined es) (base_at x) here q) same ∙ ap₂ (λ x y. base_over (defined x) (base_at ks) here y) (sym d) q_is
+          ∙ ap (λ n. base_over (defined s.declared) (base_at ks) n r) h in
+          let sound = subst (λ x. IsStore (record s { rows = x })) e t.sound in
+          let new = entered-new s ks t.kept r t.within k blank_is extent_new base_new bounded sound in
+          let there = subst (λ n. IsEntered s s.declared rows n (ks ++ k ∷ [])) (sym h) (subst (λ x. IsEntered s s.declared x (length s.rows) (ks ++ k ∷ [])) (sym e) new) in
+          subst (λ x. IsEntered s x rows here mid) d (subst (IsEntered s s.declared rows here) (sym pushed) there)
+
+-- ---- a row that was numbered
+
+pub taken_in : (s : Store) (ks old : List Kept) (r : Row) (new : List Row) (n : ℕ) → AreKept s ks → old ≡ ks → IsWithin (length s.rows) r → IsReduced s.rows r → IsNumbered s.rows new r n → IsOnce new
+    → length new ≤ most → IsTakenIn s old r new
+taken_in s ks old r new n v same within reduced numbered once few =
+    let sound : AreRows new = AreRows-new s.rows r v.store.rows_sound within reduced new n numbered once in
+    let more = Continues-grows s.rows new r numbered.grows in
+    let longer : length s.rows ≤ length new = omega (arith, ap length more.1, length-append s.rows more.0) in
+    record {
+      kept = subst (AreKept s) (sym same) v;
+      within = within;
+      grows = numbered.grows;
+      sound = IsStore-rows s new v.store sound few longer (kept_new s.rows r v.store.rows_sound within reduced new n numbered once);
+    }

@@ -1,8 +1,8 @@
 -- The place of a key among keys that each stand once.
-use Rattle.std.proofs.Common.{◌≡◌, ◌≢◌, ℕ, ◌<◌, ◌≤◌, Bool, true, false, List, [], ◌∷◌, ◌++◌, length, get_or, Some, None, not, map, refl, ap, sym, ◌∙◌, subst, arith, ◌⊎◌, inl, inr, true≢false, cond, nat_lt}
+use Rattle.std.proofs.Common.{◌≡◌, ◌≢◌, ℕ, ◌+◌, ◌||◌, ◌<◌, ◌≤◌, Bool, true, false, List, [], ◌∷◌, ◌++◌, length, get_or, Some, None, not, map, refl, ap, sym, ◌∙◌, subst, arith, ◌⊎◌, inl, inr, true≢false, cond, nat_lt}
 use Rattle.std.specs.Prelude.{slice_get, option_map}
 use Rattle.std.specs.Bool.{Decides}
-use Rattle.std.specs.List.{position, position_or_len}
+use Rattle.std.specs.List.{position, position_or_len, list_any}
 use Rattle.std.proofs.lemmas.Bool.{cases_lt, lt-ltb, ltb-true}
 use Rattle.std.proofs.lemmas.List.{length-map, map-append, map-id}
 use Rattle.std.proofs.lemmas.List.Sums.{fails_before_first, passes_at_first, prefix_len-le-length}
@@ -19,6 +19,15 @@ position_none test ks e = by (cases_lt (position_or_len test ks) (length ks))
     by (inl h) =
         let some : None ≡ Some (position_or_len test ks) = e ∙ ap (λ b. cond b (Some (position_or_len test ks)) None) (lt-ltb (position_or_len test ks) (length ks) h) in
         absurd cc
+
+-- where a place of the list passes first, some key of it passes
+pub some_passes : {K : Type 0} (test : K → Bool) (ks : List K) → position_or_len test ks < length ks → list_any test ks ≡ true
+some_passes test [] h = absurd (omega arith)
+some_passes test (k ∷ ks) h = by (some_passes test ks) (test k) h
+  where
+    by : (position_or_len test ks < length ks → list_any test ks ≡ true) → (b : Bool) → cond (not b) (1 + position_or_len test ks) 0 < length (k ∷ ks) → (b || list_any test ks) ≡ true
+    by behind true l = refl
+    by behind false l = behind (omega (arith, l))
 
 -- Keys are seen through f, and the test decides which of them are seen as x.
 module _ {K A : Type 0} (f : K → A) (x : A) (test : K → Bool) (decides : (k : K) → Decides (test k) (x ≡ f k)) where

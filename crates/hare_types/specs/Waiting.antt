@@ -6,6 +6,7 @@ use Rattle.hare_types.specs.declared.extent.Extent.{Extent}
 use Rattle.hare_types.specs.declared.kept.Kept.{Kept}
 use Rattle.hare_types.specs.declared.row.Row.{Row}
 use Rattle.hare_types.specs.declared.row.Row.TheVariants as row
+use Rattle.hare_types.specs.Rows.{IsWithin}
 use Rattle.hare_types.specs.Store.{Store}
 use Rattle.hare_types.specs.Sound.{IsStore}
 use Rattle.hare_types.specs.Kept.{parts_of, known, defined, extent_over, IsBounded, IsInert, KeepsExtents, unknown}
@@ -125,6 +126,13 @@ pub record AreKept (s : Store) (ks : List Kept) : Type 0 where
   pub seen : AreSeen s.rows ks
   pub lists : ℕ → List ℕ
   pub settled : AreSettling s.rows s.declared ks nowhere lists
+
+-- the rows are those of a store, or r was taken in behind them, of which nothing is kept yet
+pub record IsTakenIn (s : Store) (ks : List Kept) (r : Row) (rows : List Row) : Type 0 where
+  pub kept : AreKept s ks
+  pub within : IsWithin (length s.rows) r
+  pub grows : (rows ≡ s.rows) ⊎ (rows ≡ s.rows ++ r ∷ [])
+  pub sound : IsStore (record s { rows = rows })
 
 -- ---- changes of what is kept
 

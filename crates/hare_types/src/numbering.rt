@@ -21,13 +21,12 @@ pub(crate) fn number<T: Eq + Hash + Drop>(set: &mut IndexSet<T>, key: T) -> Resu
     ensures few { length set.new.keys ≤ most }
     ensures err { OnErr result (set.new.keys ≡ set.old.keys) }
 {
-    if let Some(place) = set.get_index_of(&key) {
+    if set.len() < MOST {
+        let (place, _) = set.insert_full(key)?;
         return Ok(place as u32);
     }
-    let place = set.len();
-    if place >= MOST {
-        return Err(AllocError);
+    match set.get_index_of(&key) {
+        Some(place) => Ok(place as u32),
+        None => Err(AllocError),
     }
-    set.insert(key)?;
-    Ok(place as u32)
 }

@@ -1,13 +1,13 @@
 //! What follows of rows once a name is defined.
 
-ghost use Rattle.std.specs.Prelude.{◌≡◌, ◌<◌, ◌≤◌, ◌⊎◌, ℕ, List, length, true, false, None, Some, IsSome, IfSome, slice_get};
+ghost use Rattle.std.specs.Prelude.{◌≡◌, ◌<◌, ◌≤◌, ◌⊎◌, ℕ, List, length, true, false, None, Some, IsSome, IfSome, slice_get, vec_len, vec_capacity};
 ghost use Rattle.hare_types.specs.declared.row.Row.{Row as RowOf};
 ghost use Rattle.hare_types.specs.Numbering.{IsOnce, most};
 ghost use Rattle.hare_types.specs.Sound.{IsStore};
 ghost use Rattle.hare_types.specs.Store.{Store};
 ghost use Rattle.hare_types.specs.Kept.{defined, known, parts_of, extent_over, IsBounded, AreBounded, KeepsExtents};
 ghost use Rattle.hare_types.specs.Bases.{base_over, KeepsBases};
-ghost use Rattle.hare_types.specs.Waiting.{nowhere, blank, extents, bases, extent_at, base_at, kept_at, with_found, with_seen, Among, HaveBases, AreSeen, AreSettling, AreSettlingBut, KeepsFound, IsFound, NoneFollows, NeedsAreWithin, needed_at, IsLess, AreSettlingButName};
+ghost use Rattle.hare_types.specs.Waiting.{nowhere, blank, extents, bases, extent_at, base_at, kept_at, with_found, with_seen, Among, HaveBases, AreSeen, AreSettling, AreSettlingBut, KeepsFound, IsFound, NoneFollows, NeedsAreWithin, needed_at, IsLess, AreSettlingButName, AreKept, IsTakenIn};
 
 use crate::declared::Declared;
 use crate::extent::Extent;
@@ -143,24 +143,21 @@ pub(crate) fn wait(rows: &[Row], declared: &IndexMap<u32, Declared>, kept: &mut 
     }
 }
 
-/// Lets row `i` wait, where it was taken in last.
-pub(crate) fn wait_if_new(
+/// Keeps what follows for row `i`, where it was taken in last, and lets it wait where its extent does not follow yet.
+pub(crate) fn keep_if_new(
     rows: &[Row],
     declared: &IndexMap<u32, Declared>,
     kept: &mut Vec<Kept>,
     i: usize,
 )
     requires few { length rows.now ≤ most }
-    requires as_many { length kept.old.items ≡ length rows.now }
-    requires needs { NeedsAreWithin rows.now declared.now.entries }
-    requires seen { AreSeen rows.now kept.old.items }
-    requires none { i < length rows.now → extent_at kept.old.items i ≡ None → (r : RowOf) → slice_get rows.now i ≡ Some r → NoneFollows declared.now.entries kept.old.items i r }
-    ensures found { KeepsFound kept.old.items kept.new.items }
-    ensures seen { AreSeen rows.now kept.new.items }
-    ensures old { length rows.now ≤ i → kept.new.items ≡ kept.old.items }
-    ensures settled { i < length rows.now → (pile : ℕ) (lists : ℕ → List ℕ) → AreSettlingBut i rows.now declared.now.entries kept.old.items pile lists → (new : ℕ → List ℕ) × AreSettling rows.now declared.now.entries kept.new.items pile new × (new 0 ≡ lists 0) }
+    requires room { vec_len kept.old < vec_capacity kept.old }
+    requires taken { (s : Store) × (r : RowOf) × (s.declared ≡ declared.now.entries) × (i ≡ length s.rows) × IsTakenIn s kept.old.items r rows.now }
+    ensures kept { (s : Store) (r : RowOf) → s.declared ≡ declared.now.entries → i ≡ length s.rows → IsTakenIn s kept.old.items r rows.now → AreKept (record s { rows = rows.now }) kept.new.items }
 {
     if i < rows.len() {
+        let fresh = fresh(&rows[i], i, declared, kept);
+        kept.push_reserved(fresh);
         wait(rows, declared, kept, i);
     }
 }

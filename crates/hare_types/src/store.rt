@@ -17,7 +17,7 @@ use crate::id::TypeId;
 use crate::kept::{Kept, base_at, extent_at};
 use crate::numbering::number;
 use crate::row::Row;
-use crate::settle::{fresh, settle, wait_if_new};
+use crate::settle::{keep_if_new, settle};
 use indexmap::{IndexMap, IndexSet};
 use std::alloc::{AllocError, Global};
 use std::marker::Model;
@@ -171,12 +171,9 @@ impl TypeStore {
         ensures err { OnErr result (self.new ≡ self.old) }
     {
         let here = self.rows.len();
-        let fresh = fresh(&r, here, &self.declared, self.kept.as_slice());
-        self.kept.push(fresh)?;
-        let numbered = number(&mut self.rows, r);
-        self.kept.truncate(self.rows.len());
-        let place = numbered?;
-        wait_if_new(self.rows.as_slice(), &self.declared, &mut self.kept, here);
+        self.kept.reserve(1)?;
+        let place = number(&mut self.rows, r)?;
+        keep_if_new(self.rows.as_slice(), &self.declared, &mut self.kept, here);
         Ok(TypeId::at(place))
     }
 

@@ -1,6 +1,8 @@
-use Rattle.std.proofs.Common.{◌∙◌}
-use Rattle.hare_types.proofs.NumberingLemmas.{position_none}
+use Rattle.std.proofs.Common.{◌≡◌, ◌<◌, ◌++◌, ◌∷◌, [], ap, ◌∙◌, subst, length, if◌then◌else◌}
+use Rattle.hare_types.proofs.NumberingLemmas.{some_passes}
 use Rattle.hare_types.proofs.numbering.number.Goals as goal
 
-pub returns-clause-place : goal.returns-clause-place
-returns-clause-place g c = c.len-place.ensures.len ∙ position_none _ _ c.in_default.ensures.index
+pub returns-then-len-lt-MOST-clause-kept : goal.returns-then-len-lt-MOST-clause-kept
+returns-then-len-lt-MOST-clause-kept g c = λ h.
+    c.in_ok-place.ensures.keys
+    ∙ ap (λ b. if b then c.args.set.now.keys else c.args.set.now.keys ++ c.args.key ∷ []) (some_passes _ c.args.set.now.keys (subst (λ n. n < length c.args.set.now.keys) c.in_ok-place.ensures.index h))
