@@ -14,7 +14,7 @@ use Rattle.hare_blocks.specs.Evaluation.{State, Result}
 use Rattle.low_blocks.specs.Expressions.{Scope, Piece}
 use Rattle.low_blocks.proofs.Runs.{Keeps, runs, value_of-stepped}
 use Rattle.low_blocks.proofs.Scopes.{Below, holds_kept}
-use Rattle.low_blocks.proofs.Tests.{Tells}
+use Rattle.low_blocks.proofs.Conditions.{Tells}
 use Rattle.low_blocks.proofs.Meets.{Stands, Meets, goes_on, exits, spent, then_nothing}
 
 -- the state is read no more than so far

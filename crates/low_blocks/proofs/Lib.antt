@@ -3,7 +3,7 @@ pub mod Runs
 pub mod Scopes
 pub mod Pieces
 pub mod Values
-pub mod Tests
+pub mod Conditions
 pub mod Meets
 pub mod Sites
 pub mod Texts
@@ -22,4 +22,3 @@ pub mod Loops
 pub mod Drafts
 pub mod Kids
 pub mod Lowered
-pub mod Sample

@@ -23,7 +23,7 @@ use Rattle.low_blocks.proofs.Runs.{temp_of-same, temp_of-other, keeps_on, set_ke
 use Rattle.low_blocks.proofs.Scopes.{holds_kept, assigned_nowhere, holds_assigned}
 use Rattle.low_blocks.proofs.Pieces.{expr_from, condition_grows}
 use Rattle.low_blocks.proofs.Values.{Gives, Ready, expr_gives}
-use Rattle.low_blocks.proofs.Tests.{condition_tells}
+use Rattle.low_blocks.proofs.Conditions.{condition_tells}
 use Rattle.low_blocks.proofs.Meets.{World_after, Stands, Meets, goes_on, then_meets, turn_meets, closed_meets, then_nothing, runs_parts}
 use Rattle.low_blocks.proofs.Meets as ends
 use Rattle.low_blocks.proofs.Sites.{statements_extend, IsSited, sited_past, sited_outside, statement_behind, statements_behind}
