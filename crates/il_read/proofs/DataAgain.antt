@@ -1,10 +1,7 @@
 -- Data items are read as they are printed.
-use Rattle.std.proofs.Common.{◌≡◌, ℕ, zero, suc, ◌<◌, ◌^◌, List, [], ◌∷◌, ◌++◌, Some, None, Bool, true, false, length, refl, ap, ◌∙◌, append_assoc, arith, codes, decimal, nat_lt, ◌&&◌, eqb}
+use Rattle.std.proofs.Common.{◌≡◌, ℕ, zero, suc, ◌<◌, ◌^◌, List, [], ◌∷◌, ◌++◌, Some, None, Bool, true, false, length, refl, ap, ◌∙◌, append_assoc, arith, codes, decimal, nat_lt, ◌&&◌}
 use Rattle.std.specs.List.{flat_map, list_all}
-use Rattle.std.specs.Char.{is_ascii_digit}
 use Rattle.std.proofs.lemmas.Bool.{and_parts}
-use Rattle.std.proofs.lemmas.Bool.Decides.{nat_tests}
-use Rattle.std.proofs.lemmas.Grind.{common_steps}
 use Rattle.il_code.specs.declared.types.IlItem.TheVariants.{Data}
 use Rattle.il_code.specs.declared.types.Part.{Part}
 use Rattle.il_code.specs.declared.types.Part.TheVariants.{Values, Zero}
@@ -15,7 +12,7 @@ use Rattle.il_code.specs.Shaped.{is_bits, is_width, some, is_part_value, is_part
 use Rattle.il_code.specs.Print.{part_value_text, width_text, part_text, parts_text, with_commas}
 use Rattle.il_read.specs.Front.{behind}
 use Rattle.il_read.specs.Data.{offset_at, address_at, text_at, amount_at, part_value_at, begins_value, width_at, values_at, zeros_at, part_at, some_parts_at, parts_at, align_at, data_at}
-use Rattle.il_read.proofs.FrontsAgain.{Stops, name_again, number_again, number_is_no, number_first, string_again}
+use Rattle.il_read.proofs.FrontsAgain.{Stops, digit_is_no, name_again, number_again, number_is_no, number_first, string_again}
 use Rattle.il_read.proofs.ListsAgain.{length-rest, each_again, listed_again}
 use Rattle.il_read.proofs.ValuesAgain.{symbol_again}
 use Rattle.il_read.proofs.LinesAgain.{by_width}
@@ -50,10 +47,7 @@ part_value_again (part.Symbol s (suc n)) rest h e =
     let number = number_again (suc n) rest p.1 e.stops in
     ap part_value_at text ∙ rw name (rw number refl)
 
--- a digit is neither the brace nor the plus sign
-digit_is_no : (d b : ℕ) → is_ascii_digit d ≡ true → is_ascii_digit b ≡ false → eqb d b ≡ false
-digit_is_no d b h k = grind (arith, nat_tests, common_steps)
-
+-- a number is neither the brace nor the plus sign
 number_begins : (n : ℕ) (rest : List ℕ) → is_bits n ≡ true → (begins_value (32 ∷ (decimal n ++ rest)) ≡ true) × (behind (codes " + ") (32 ∷ (decimal n ++ rest)) ≡ None)
 number_begins n rest h =
     let k = number_first n h in

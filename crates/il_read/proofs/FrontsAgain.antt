@@ -88,8 +88,8 @@ number_again n rest h stop =
     let below = bits_below n h in
     ap (λ k. number_behind k (ds ++ rest)) (run_len is_ascii_digit ds rest (all_digits_len ds (digits_decimal own n below)) (Stops-digit rest stop)) ∙ rw (take-append_seam ds rest, drop-append_seam ds rest, number_of-decimal n below) refl
 
--- a digit in front is none of the other bytes that an operand may begin with
-digit_is_no : (d b : ℕ) → is_ascii_digit d ≡ true → is_ascii_digit b ≡ false → eqb d b ≡ false
+-- a digit differs from a byte that is no digit
+pub digit_is_no : (d b : ℕ) → is_ascii_digit d ≡ true → is_ascii_digit b ≡ false → eqb d b ≡ false
 digit_is_no d b h k = grind (arith, nat_tests, common_steps)
 
 digits_are_no : (ds rest : List ℕ) (b : ℕ) → all_ascii_digits ds ≡ true → 0 < length ds → is_ascii_digit b ≡ false → behind (b ∷ []) (ds ++ rest) ≡ None
