@@ -163,114 +163,120 @@ fn counting(alloc: Global, text: &str, turns: u64) -> Result<Module, AllocError>
     module(alloc, text, blocks)
 }
 
-/// How a run without a fault ends, with an output that takes `most` bytes in a call, and whether this is what it puts out.
-fn ends(
+/// Whether a run with three arguments and the fill byte 0xab ends so and puts this out, where the output takes `most` bytes in a call.
+fn runs(
     alloc: Global,
     m: &Module,
     units: u64,
     most: usize,
+    end: Option<Ended>,
     wanted: &[u8],
-) -> Result<(Option<Ended>, bool), AllocError> {
+) -> Result<bool, AllocError> {
     if most == 0 {
-        return Ok((None, false));
+        return Ok(false);
     }
     let mut out = SureSink::new(alloc, most, 1000)?;
     let ended = run_plain(alloc, m, 3, 0xab, units, &mut out)?;
-    Ok((ended, out.written() == wanted))
+    Ok(ended == end && out.written() == wanted)
+}
+
+/// A division by a number of which the low 32 bits are 0.
+fn division(alloc: Global, class: Class) -> Result<Module, AllocError> {
+    let mut insts = Insts::new(alloc);
+    insts.push(set(
+        alloc,
+        "t0",
+        class,
+        IlOp::Div,
+        IlValue::Number(1),
+        Some(IlValue::Number(0x1_0000_0000)),
+    )?)?;
+    straight(alloc, "", insts, Jump::Ret(None))
+}
+
+/// Exits with the number of arguments.
+fn counts_arguments(alloc: Global) -> Result<Module, AllocError> {
+    let mut insts = Insts::new(alloc);
+    insts.push(nargs(alloc, "t0")?)?;
+    insts.push(exit(alloc, temp(alloc, "t0")?)?)?;
+    straight(alloc, "", insts, Jump::Hlt)
 }
 
 #[test]
-fn loops_within_budgets(rt: HostRuntime) -> Result<(), Fail> {
-    let alloc = rt.alloc();
-    let m = counting(alloc, "hi", 3)?;
-    assert_eq!(rt;
-        ends(alloc, &m, 14, 7, b"hihihi")?,
-        (Some(Ended::Exit(3)), true)
-    );
-    assert_eq!(rt;
-        ends(alloc, &m, 13, 1, b"hihihi")?,
-        (Some(Ended::Spent), true)
-    );
-    assert_eq!(rt; ends(alloc, &m, 6, 1, b"hihi")?, (Some(Ended::Spent), true));
-    assert_eq!(rt; ends(alloc, &m, 5, 7, b"hi")?, (Some(Ended::Spent), true));
-    assert_eq!(rt; ends(alloc, &m, 1, 7, b"")?, (Some(Ended::Spent), true));
-    assert_eq!(rt; ends(alloc, &m, 0, 7, b"")?, (Some(Ended::Spent), true));
-    let long = "0123456789012345678901234567890123456789012345678901234567890123";
-    let m = counting(alloc, long, 1)?;
-    assert_eq!(rt;
-        ends(alloc, &m, 6, 7, long.as_bytes())?,
-        (Some(Ended::Spent), true)
-    );
-    assert_eq!(rt;
-        ends(alloc, &m, 7, 7, long.as_bytes())?,
-        (Some(Ended::Exit(1)), true)
-    );
+fn loops_to_its_end(rt: HostRuntime) -> Result<(), Fail> {
+    let m = counting(rt.alloc(), "hi", 3)?;
+    assert!(rt; runs(rt.alloc(), &m, 14, 7, Some(Ended::Exit(3)), b"hihihi")?);
+    assert!(rt; runs(rt.alloc(), &m, 13, 1, Some(Ended::Spent), b"hihihi")?);
+    Ok(())
+}
+
+#[test]
+fn stops_in_mid_loop(rt: HostRuntime) -> Result<(), Fail> {
+    let m = counting(rt.alloc(), "hi", 3)?;
+    assert!(rt; runs(rt.alloc(), &m, 6, 1, Some(Ended::Spent), b"hihi")?);
+    assert!(rt; runs(rt.alloc(), &m, 5, 7, Some(Ended::Spent), b"hi")?);
+    Ok(())
+}
+
+#[test]
+fn begins_no_step_without_a_unit(rt: HostRuntime) -> Result<(), Fail> {
+    let m = counting(rt.alloc(), "hi", 3)?;
+    assert!(rt; runs(rt.alloc(), &m, 1, 7, Some(Ended::Spent), b"")?);
+    assert!(rt; runs(rt.alloc(), &m, 0, 7, Some(Ended::Spent), b"")?);
+    Ok(())
+}
+
+#[test]
+fn counts_a_unit_for_sixty_four_bytes(rt: HostRuntime) -> Result<(), Fail> {
+    let text = "0123456789012345678901234567890123456789012345678901234567890123";
+    let m = counting(rt.alloc(), text, 1)?;
+    assert!(rt; runs(rt.alloc(), &m, 6, 7, Some(Ended::Spent), text.as_bytes())?);
+    assert!(rt; runs(rt.alloc(), &m, 7, 7, Some(Ended::Exit(1)), text.as_bytes())?);
     Ok(())
 }
 
 #[test]
 fn stops_where_a_write_fails(rt: HostRuntime) -> Result<(), Fail> {
-    let alloc = rt.alloc();
-    let m = counting(alloc, "hello", 3)?;
-    let mut fails = Calls::new(alloc);
+    let m = counting(rt.alloc(), "hello", 3)?;
+    let mut fails = Calls::new(rt.alloc());
     fails.push(4)?;
-    let mut out = MemSink::new(alloc, fails, 2, 100)?;
-    let ended = run_plain(alloc, &m, 0, 0, 1000, &mut out)?;
-    assert_eq!(rt; ended, Some(Ended::WriteFault));
+    let mut out = MemSink::new(rt.alloc(), fails, 2, 100)?;
+    let ended = run_plain(rt.alloc(), &m, 0, 0, 1000, &mut out)?;
+    assert!(rt; ended == Some(Ended::WriteFault));
     assert!(rt; out.written() == b"hello".as_slice());
     Ok(())
 }
 
 #[test]
-fn ends_in_faults_and_statuses(rt: HostRuntime) -> Result<(), Fail> {
-    let alloc = rt.alloc();
-
-    let mut insts = Insts::new(alloc);
-    insts.push(set(
-        alloc,
-        "t0",
-        Class::L,
-        IlOp::Div,
-        IlValue::Number(1),
-        Some(IlValue::Number(0x1_0000_0000)),
-    )?)?;
-    insts.push(set(
-        alloc,
-        "t0",
-        Class::W,
-        IlOp::Div,
-        IlValue::Number(1),
-        Some(IlValue::Number(0x1_0000_0000)),
-    )?)?;
-    let m = straight(alloc, "", insts, Jump::Ret(None))?;
+fn divides_by_zero_at_the_class(rt: HostRuntime) -> Result<(), Fail> {
+    let m = division(rt.alloc(), Class::W)?;
     let fault = Some(Ended::Fault(MachineFault::ZeroDivisor));
-    assert_eq!(rt; ends(alloc, &m, 2, 1, b"")?, (fault, true));
-    assert_eq!(rt; ends(alloc, &m, 1, 1, b"")?, (Some(Ended::Spent), true));
+    assert!(rt; runs(rt.alloc(), &m, 1, 1, fault, b"")?);
+    let m = division(rt.alloc(), Class::L)?;
+    assert!(rt; runs(rt.alloc(), &m, 2, 1, Some(Ended::Exit(0)), b"")?);
+    Ok(())
+}
 
-    let unset = straight(
-        alloc,
-        "",
-        Insts::new(alloc),
-        Jump::Ret(Some(temp(alloc, "t0")?)),
-    )?;
-    assert_eq!(rt;
-        ends(alloc, &unset, 9, 1, b"")?,
-        (Some(Ended::Exit(0xab)), true)
-    );
+#[test]
+fn unset_temporaries_hold_the_fill_byte(rt: HostRuntime) -> Result<(), Fail> {
+    let jump = Jump::Ret(Some(temp(rt.alloc(), "t0")?));
+    let m = straight(rt.alloc(), "", Insts::new(rt.alloc()), jump)?;
+    assert!(rt; runs(rt.alloc(), &m, 9, 1, Some(Ended::Exit(0xab)), b"")?);
+    Ok(())
+}
 
-    let mut insts = Insts::new(alloc);
-    insts.push(nargs(alloc, "t0")?)?;
-    insts.push(exit(alloc, temp(alloc, "t0")?)?)?;
-    let m = straight(alloc, "", insts, Jump::Hlt)?;
-    assert_eq!(rt; ends(alloc, &m, 9, 1, b"")?, (Some(Ended::Exit(3)), true));
+#[test]
+fn exits_with_the_number_of_arguments(rt: HostRuntime) -> Result<(), Fail> {
+    let m = counts_arguments(rt.alloc())?;
+    assert!(rt; runs(rt.alloc(), &m, 9, 1, Some(Ended::Exit(3)), b"")?);
+    Ok(())
+}
 
-    let m = straight(alloc, "", Insts::new(alloc), Jump::Fall)?;
-    let fault = Some(Ended::Fault(MachineFault::Hlt));
-    assert_eq!(rt; ends(alloc, &m, 9, 1, b"")?, (fault, true));
-
-    let mut insts = Insts::new(alloc);
-    insts.push(puts(alloc, "s", 2)?)?;
-    let m = straight(alloc, "hello", insts, Jump::Hlt)?;
-    assert_eq!(rt; ends(alloc, &m, 9, 1, b"")?, (None, true));
+#[test]
+fn a_wrong_length_is_not_plain(rt: HostRuntime) -> Result<(), Fail> {
+    let mut insts = Insts::new(rt.alloc());
+    insts.push(puts(rt.alloc(), "s", 2)?)?;
+    let m = straight(rt.alloc(), "hello", insts, Jump::Hlt)?;
+    assert!(rt; runs(rt.alloc(), &m, 9, 1, None, b"")?);
     Ok(())
 }
