@@ -1,4 +1,4 @@
-use Rattle.std.proofs.Common.{◌≡◌, ◌<◌, ◌++◌, ◌∷◌, [], ap, ◌∙◌, subst, length, if◌then◌else◌}
+use Rattle.std.proofs.Common.{◌<◌, ◌++◌, ◌∷◌, [], ap, ◌∙◌, subst, length, if◌then◌else◌}
 use Rattle.hare_types.proofs.NumberingLemmas.{some_passes}
 use Rattle.hare_types.proofs.numbering.number.Goals as goal
 

@@ -1,10 +1,10 @@
-use Rattle.std.proofs.Common.{◌≡◌, ◌≤◌, ℕ, length, Some, refl, ap, sym, ◌∙◌, subst, arith, [], map, length-append}
+use Rattle.std.proofs.Common.{◌≡◌, ℕ, length, Some, refl, sym, subst, [], map}
 use Rattle.std.specs.Prelude.{slice_get}
 use Rattle.std.proofs.lemmas.List.{append-nil}
 use Rattle.hare_types.specs.Trees.{Tree}
 use Rattle.hare_types.specs.KeyLaws.{row_eq-Decides}
 use Rattle.hare_types.specs.Keys.{row_eq}
-use Rattle.hare_types.specs.Numbering.{most, IsNumbered, IsOnce}
+use Rattle.hare_types.specs.Numbering.{IsNumbered, IsOnce}
 use Rattle.hare_types.specs.Rows.{IsWithin, IsReduced, trees}
 use Rattle.hare_types.specs.Store.{Store}
 use Rattle.hare_types.specs.Waiting.{AreKept, IsTakenIn}
