@@ -164,18 +164,22 @@ module _ (s : Store) (v : IsStore s) where
   by_has t x h = extent_by-following s (length s.declared) (tree_in (trees s.rows) t) ∙ names_enough small_with small_with-near s v h.0 (tree_in (trees s.rows) t) x h.1
 
   pub base-some : (t b : ℕ) → IsBaseOf s t b → (left : ℕ) × ComesTo s (length s.declared) t left b
-  base-some t b h = (length s.declared, record {
-    within = at_b.0;
-    base = base_only s v t h.1 (subst (λ u. (n : ℕ) × (following base_with (meaning_of s) n u ≡ Some h.1)) (sym at_t.1) h.4)
-        ∙ sym (base_only s v b h.1 (0, ap (following base_with (meaning_of s) 0) at_b.1 ∙ own (meaning_of s) 0 h.1 is_plain));
-    extent = same_extents (extent_by s (length s.declared) t) (extent_by s (length s.declared) b)
-        (λ x. let o = one (meaning_of s) h.4.0 h.0 h.1 h.4.1 x in
-              ((λ e. by_has b x (subst (λ u. Has (meaning_of s) u x) (sym at_b.1) (o.0 (subst (λ u. Has (meaning_of s) u x) at_t.1 (has_by t x e))))),
-               (λ e. by_has t x (subst (λ u. Has (meaning_of s) u x) (sym at_t.1) (o.1 (subst (λ u. Has (meaning_of s) u x) at_b.1 (has_by b x e)))))));
-    last = λ r g.
-        let both = sym (tree_at_row s v b r g) ∙ h.3 in
-        last_row (trees s.rows) r h.1 (cc) is_plain;
-  })
+  base-some t b h = (
+    length s.declared,
+    record {
+      within = at_b.0;
+      base = base_only s v t h.1 (subst (λ u. (n : ℕ) × (following base_with (meaning_of s) n u ≡ Some h.1)) (sym at_t.1) h.4)
+          ∙ sym (base_only s v b h.1 (0, ap (following base_with (meaning_of s) 0) at_b.1 ∙ own (meaning_of s) 0 h.1 is_plain));
+      extent = same_extents (extent_by s (length s.declared) t) (extent_by s (length s.declared) b)
+          (λ x. let o = one (meaning_of s) h.4.0 h.0 h.1 h.4.1 x in (
+            (λ e. by_has b x (subst (λ u. Has (meaning_of s) u x) (sym at_b.1) (o.0 (subst (λ u. Has (meaning_of s) u x) at_t.1 (has_by t x e))))),
+            (λ e. by_has t x (subst (λ u. Has (meaning_of s) u x) (sym at_t.1) (o.1 (subst (λ u. Has (meaning_of s) u x) at_b.1 (has_by b x e))))),
+          ));
+      last = λ r g.
+          let both = sym (tree_at_row s v b r g) ∙ h.3 in
+          last_row (trees s.rows) r h.1 (cc) is_plain;
+    },
+  )
     where
       at_t : (t < length s.rows) × (tree_in (trees s.rows) t ≡ h.0)
       at_t = id-tree_at s t h.0 h.2
