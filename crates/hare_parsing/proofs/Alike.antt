@@ -10,13 +10,13 @@ use Rattle.hare_grammar.specs.Table.{row}
 use Rattle.hare_grammar.specs.Engine.{Group, close, Step, Goes, Ends, Stuck, wanted, acted, step, Outcome, Done, Fails, after, run}
 
 -- two steps that wait for the same
-abbrev SameStep : Step → Step → Type 0
+abbrev pub SameStep : Step → Step → Type 0
 SameStep (Goes st gs) (Goes st' gs') = st ≡ st'
 SameStep (Ends gs) (Ends gs') = Unit {0}
 SameStep Stuck Stuck = Unit {0}
 SameStep _ _ = ⊥
 
-same_step : (f f' : ℕ) (t t' : Token) (c : Class) (st : List Symbol) (gs gs' : List Group) → SameStep (step f t c st gs) (step f' t' c st gs')
+pub same_step : (f f' : ℕ) (t t' : Token) (c : Class) (st : List Symbol) (gs gs' : List Group) → SameStep (step f t c st gs) (step f' t' c st gs')
 unfolding step
 same_step f f' t t' c [] gs gs' = tt
 same_step f f' t t' c (sy.Close k ∷ st) gs gs' = same_step f f' t t' c st (close k gs) (close k gs')

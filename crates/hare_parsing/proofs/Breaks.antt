@@ -25,14 +25,14 @@ use Rattle.hare_parsing.proofs.Viable.{Stopped, StuckAt, stuck_at, EndsAt, ends_
 
 -- ---- sorts
 
-trees_sort : (s : Sort) → has_trees s ≡ true → is_sort s ≡ true
+pub trees_sort : (s : Sort) → has_trees s ≡ true → is_sort s ≡ true
 trees_sort (so.Level l) e = (split (nat_le 1 l) (nat_le l 16) e).0
 trees_sort so.Left e = cc
 trees_sort so.Right e = cc
 trees_sort _ e = refl
 
 -- a tree of the sort may stand at the end
-trees_end : (s : Sort) → has_trees s ≡ true → good (of s ∷ []) cl.Junk ≡ true
+pub trees_end : (s : Sort) → has_trees s ≡ true → good (of s ∷ []) cl.Junk ≡ true
 trees_end (so.Level l) e = let p = split (nat_le 1 l) (nat_le l 16) e in rw (p.0, p.1) refl
 trees_end so.Left e = cc
 trees_end so.Right e = cc
@@ -71,7 +71,7 @@ file_begins f u more made e =
     ap (map unplaced) (sym (append_assoc x y (end ∷ []))) ∙ map-append unplaced (x ++ y) (end ∷ []) ∙ ap (λ l. map unplaced l ++ end ∷ []) r.spelled ∙ ap (λ l. l ++ end ∷ []) (twice r.used) ∙ ap (λ l. map unplaced l ++ end ∷ []) i in
     (record { file = 0; uses = r.uses; decls = r.decls }, both (list_all (is_shaped so.Use) r.uses) (list_all (is_shaped so.Decl) r.decls) r.uses_shaped r.decls_shaped, w)
 
-file_viable : (f : ℕ) (u : List Token) → Stopped f u file_symbols bottom → BeginsFile u
+pub file_viable : (f : ℕ) (u : List Token) → Stopped f u file_symbols bottom → BeginsFile u
 file_viable f u p =
     let g = goes_on f u file_symbols bottom p in
     let r = file_begins f u g.0 g.1 g.2 in
@@ -84,19 +84,19 @@ file_alike f u q =
     let e : classes (u ++ q.behind) ≡ classes (spell_file q.tree) = sym (same_classes (u ++ q.behind)) ∙ ap classes (sym q.spelled) ∙ same_classes (spell_file q.tree) in
     alike f q.tree.file (u ++ q.behind) (spell_file q.tree) file_symbols bottom bottom e
 
+pub file_not_viable : (f : ℕ) (w : List Token) (t : Token) (v : List Token) → (p : StuckAt f w file_symbols bottom t v) → BeginsFile (p.u ++ t ∷ []) → ⊥
+file_not_viable f w t v p q =
+    let x = q.behind in
+    let a : run f ((p.u ++ t ∷ []) ++ x) file_symbols bottom ≡ Fails (t ∷ x) = ap (λ l. run f l file_symbols bottom) (append_assoc p.u (t ∷ []) x) ∙ p.stop.same (t ∷ x) ∙ fails_there f t x p.stop.rest p.stop.trees p.stuck in
+    not_done _ _ _ _ _ a (read_file q.tree q.shaped) (file_alike f (p.u ++ t ∷ []) q)
+
 pub file_runs_break : FileRunsBreak
 file_runs_break file ts t rest e =
     let p = stuck_at file ts file_symbols bottom t rest refl e in
-    record { before = p.u; split = p.is; begins = file_viable file p.u p.stop; ends = λ q. none file ts t rest p q }
-  where
-    none : (f : ℕ) (w : List Token) (t : Token) (v : List Token) → (p : StuckAt f w file_symbols bottom t v) → BeginsFile (p.u ++ t ∷ []) → ⊥
-    none f w t v p q =
-        let x = q.behind in
-        let a : run f ((p.u ++ t ∷ []) ++ x) file_symbols bottom ≡ Fails (t ∷ x) = ap (λ l. run f l file_symbols bottom) (append_assoc p.u (t ∷ []) x) ∙ p.stop.same (t ∷ x) ∙ fails_there f t x p.stop.rest p.stop.trees p.stuck in
-        not_done _ _ _ _ _ a (read_file q.tree q.shaped) (file_alike f (p.u ++ t ∷ []) q)
+    record { before = p.u; split = p.is; begins = file_viable file p.u p.stop; ends = file_not_viable file ts t rest p }
 
 -- what stands behind the token at which imports and declarations are over
-nothing_more : (f : ℕ) (w : List Token) (t : Token) (v : List Token) (p : EndsAt f w file_symbols bottom t v) (y : List Token) (q : BeginsFile (p.u ++ t ∷ y)) → y ++ q.behind ≡ []
+pub nothing_more : (f : ℕ) (w : List Token) (t : Token) (v : List Token) (p : EndsAt f w file_symbols bottom t v) (y : List Token) (q : BeginsFile (p.u ++ t ∷ y)) → y ++ q.behind ≡ []
 nothing_more f w t v p y q =
     let x = y ++ q.behind in
     let a : run f ((p.u ++ t ∷ y) ++ q.behind) file_symbols bottom ≡ Done (t ∷ x) p.made = ap (λ l. run f l file_symbols bottom) (append_assoc p.u (t ∷ y) q.behind) ∙ p.stop.same (t ∷ x) ∙ done_there f t x p.stop.rest p.stop.trees p.made p.over in
@@ -123,14 +123,14 @@ file_last z tree =
     let k = word_token tree.file tk.End [] in
     ap (λ l. last_of z (map unplaced l)) (sym (append_assoc x y (k ∷ []))) ∙ ap (last_of z) (map-append unplaced (x ++ y) (k ∷ [])) ∙ last_behind z (map unplaced (x ++ y)) end
 
-is_the_end : (f : ℕ) (w : List Token) (t : Token) (v : List Token) (p : EndsAt f w file_symbols bottom t v) → BeginsFile (p.u ++ t ∷ []) → unplaced t ≡ end
+pub is_the_end : (f : ℕ) (w : List Token) (t : Token) (v : List Token) (p : EndsAt f w file_symbols bottom t v) → BeginsFile (p.u ++ t ∷ []) → unplaced t ≡ end
 is_the_end f w t v p q =
     let no : q.behind ≡ [] = nothing_more f w t v p [] q in
     let e : map unplaced (spell_file q.tree) ≡ map unplaced p.u ++ unplaced t ∷ [] = q.spelled ∙ ap (λ l. map unplaced ((p.u ++ t ∷ []) ++ l)) no ∙ ap (map unplaced) (append-nil (p.u ++ t ∷ [])) ∙ map-append unplaced p.u (t ∷ []) in
     sym (last_behind t (map unplaced p.u) (unplaced t)) ∙ ap (last_of t) (sym e) ∙ file_last t q.tree
 
 -- End makes the file whole
-whole_file : (f : ℕ) (ts : List Token) (t : Token) (v : List Token) (made : List Group) (p : EndsAt f ts file_symbols bottom t v) → run f ts file_symbols bottom ≡ Done (t ∷ v) made → unplaced t ≡ end → BeginsFile (p.u ++ t ∷ [])
+pub whole_file : (f : ℕ) (ts : List Token) (t : Token) (v : List Token) (made : List Group) (p : EndsAt f ts file_symbols bottom t v) → run f ts file_symbols bottom ≡ Done (t ∷ v) made → unplaced t ≡ end → BeginsFile (p.u ++ t ∷ [])
 whole_file f ts t v made p e i =
     let r = runs_read_files f ts (t ∷ v) made e in
     let j : r.used ≡ p.u = append_cancel_right r.used p.u (t ∷ v) (sym r.split ∙ p.is) in

@@ -31,3 +31,8 @@ pub mod Breaks
 pub mod Moved
 pub mod Whole
 pub mod Used
+pub mod Apart
+pub mod UsedApart
+pub mod Strung
+pub mod Places
+pub mod Faults

@@ -18,11 +18,11 @@ record RawAt (ts before : List Token) (t : Token) : Type 0 where
   joins : joined front ≡ before
   place : first.place ≡ t.place
 
-not_nil : (before : List Token) (t : Token) (rest : List Token) → [] ≡ before ++ t ∷ rest → ⊥
+pub not_nil : (before : List Token) (t : Token) (rest : List Token) → [] ≡ before ++ t ∷ rest → ⊥
 not_nil [] t rest e = cc
 not_nil (b ∷ before) t rest e = cc
 
-heads : (a b : Token) (u v : List Token) → a ∷ u ≡ b ∷ v → (a ≡ b) × (u ≡ v)
+pub heads : (a b : Token) (u v : List Token) → a ∷ u ≡ b ∷ v → (a ≡ b) × (u ≡ v)
 heads a b u v e = (cc, cc)
 
 -- two strings as one token

@@ -3,6 +3,7 @@
 ghost use Rattle.hare_parsing.specs.Reading.{RunsReadTrees, RunsReadFiles};
 ghost use Rattle.hare_parsing.specs.Viable.{RunsBreak, RunsAreLongest, RunsGoOn, FileRunsBreak, FileRunsEnd, FileRunsGoOn};
 ghost use Rattle.hare_parsing.specs.Used.{RunsUseTokens};
+ghost use Rattle.hare_parsing.specs.Faults.{ProperStringsJoin, AllStand, PlacesStand, RunsFault, RunsReadFronts, RunsUseAll, FaultsEndRuns, FileRunsFault, FileRunsAreOver, FileRunsUseAll};
 ghost use Rattle.hare_parsing.specs.Whole.{WholeRunsMakeFiles, FilesHaveWholeRuns};
 
 /// Where the machine is done with a tree, the tree is shaped, of the sort that was asked for, and spelled by the tokens that were used, whose
@@ -44,4 +45,31 @@ pub fn law_whole_files()
 #[tactic(auto, using(crate::proofs::Used::runs_use_tokens))]
 pub fn law_used_tokens()
     ensures { RunsUseTokens }
+{}
+
+/// Joined tokens stand in the file: where the run has come to, whatever is left of them stands at a token, whose place it has. Where no number
+/// belongs to a string, all strings side by side are joined.
+#[tactic(auto, using(crate::proofs::Strung::proper_strings_join, crate::proofs::Places::all_stand, crate::proofs::Places::places_stand))]
+pub fn law_joined_tokens()
+    ensures joined { ProperStringsJoin }
+    ensures stands { AllStand }
+    ensures place { PlacesStand }
+{}
+
+/// Where the run over the tokens of a file stops at a token, be it stuck there or done with a tree, the first syntax fault of the file's own
+/// tokens is where this token stands, and the tokens before it are the longest front that begins a tree of the sort.
+#[tactic(auto, using(crate::proofs::Faults::runs_fault, crate::proofs::Faults::runs_read_fronts, crate::proofs::Faults::runs_use_all, crate::proofs::Faults::faults_end_runs))]
+pub fn law_syntax_fault()
+    ensures fails { RunsFault }
+    ensures reads { RunsReadFronts }
+    ensures goes_on { RunsUseAll }
+    ensures longest { FaultsEndRuns }
+{}
+
+/// The same of files. Where the run is done in front of End, the file is whole with it, and a token behind End is the fault.
+#[tactic(auto, using(crate::proofs::Faults::file_runs_fault, crate::proofs::Faults::file_runs_are_over, crate::proofs::Faults::file_runs_use_all))]
+pub fn law_syntax_fault_of_files()
+    ensures fails { FileRunsFault }
+    ensures over { FileRunsAreOver }
+    ensures goes_on { FileRunsUseAll }
 {}

@@ -4,5 +4,6 @@
 mod laws;
 
 pub use laws::{
-    law_first_fault, law_first_fault_of_files, law_reading, law_used_tokens, law_whole_files,
+    law_first_fault, law_first_fault_of_files, law_joined_tokens, law_reading, law_syntax_fault,
+    law_syntax_fault_of_files, law_used_tokens, law_whole_files,
 };
