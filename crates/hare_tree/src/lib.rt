@@ -26,6 +26,7 @@ mod word;
 
 pub use fit::fits;
 pub use form::{Lead, Own, Piece, Sign, Sort};
+pub use forms::form_of;
 pub use kind::Kind;
 pub use name::{is_keyword, is_left_out, is_letter, is_listed, is_word_byte};
 pub use place::{Fault, Place};
