@@ -1,5 +1,17 @@
 //! The parser of Hare: the machine that the grammar's table drives.
 #![tactic(auto)]
 
+mod change;
+mod class;
+mod group;
+mod pile;
+mod reader;
 mod row;
 mod rows;
+mod run;
+mod signs;
+mod step;
+mod strings;
+mod waits;
+
+pub use reader::{Outcome, read};

@@ -41,7 +41,7 @@ pub fn is_operator_of(k: Kind, x: &[u8]) -> bool
 }
 
 /// How tightly a binary operator binds: 12 for `*` down to 2 for `||`.
-fn operator_level(x: &[u8]) -> u8
+pub fn operator_level(x: &[u8]) -> u8
     ensures value { result ≡ levels.operator_level x.now }
     ensures within { result ≤ 16 }
 {

@@ -1,0 +1,5 @@
+pub mod Classified
+pub mod Joining
+pub mod Junk
+pub mod Kids
+pub mod Reading

@@ -1,0 +1,42 @@
+-- What a run of the program comes to, in the words of the table's machine.
+use Rattle.std.specs.Prelude.{◌≡◌, ℕ, ◌<◌, ◌≤◌, List, [], ◌∷◌, drop, length}
+use Rattle.hare_tree.specs.declared.token.Token.{Token}
+use Rattle.hare_tree.specs.Node.{Node}
+use Rattle.hare_tree.specs.Grammar.{joined}
+use Rattle.hare_grammar.specs.declared.rule.Symbol.{Symbol}
+use Rattle.hare_grammar.specs.Classes.{class_of}
+use Rattle.hare_grammar.specs.Engine.{Group, Outcome, Done, Fails, step}
+use Rattle.hare_parse.specs.declared.reader.Outcome.{Outcome as Answered}
+use Rattle.hare_parse.specs.declared.reader.Outcome.TheVariants as ou
+use Rattle.hare_parse.specs.declared.run.Read.{Read}
+use Rattle.hare_parse.specs.declared.run.Reached.{Reached}
+use Rattle.hare_parse.specs.declared.run.Reached.TheVariants as re
+use Rattle.hare_parse.specs.declared.step.Answer.TheVariants as an
+use Rattle.hare_parse.specs.Seen.{Says}
+
+-- What came of the first of the joined tokens from a place on; where it is used, the others are the joined tokens from the next place on.
+pub record Reads (f : ℕ) (ts : List Token) (at : ℕ) (st : List Symbol) (gs : List Group) (r : Read) (st' : List Symbol) (gs' : List Group) : Type 0 where
+  pub token : Token
+  pub rest : List Token
+  pub stands : joined (drop at ts) ≡ token ∷ rest
+  pub says : Says (step f token (class_of token) st gs) r.answer st' gs'
+  pub behind : r.answer ≡ an.Goes → (rest ≡ joined (drop r.next ts)) × (at < r.next) × (r.next ≤ length ts)
+
+-- The outcome's tokens are the joined tokens from the place on that is answered; where all is read, these are the trees under way.
+abbrev pub Comes : Outcome → Reached → List Token → List Group → Type 0
+Comes (Done us gs) (re.End n) ts gs' = (us ≡ joined (drop n ts)) × (gs' ≡ gs)
+Comes (Fails us) (re.Stuck n) ts gs' = us ≡ joined (drop n ts)
+Comes _ _ ts gs' = ⊥
+
+-- ---- trees that are read
+
+-- the kids of the innermost tree under way
+abbrev pub kids_on : List Group → List Node
+kids_on [] = []
+kids_on (g ∷ gs) = g.kids
+
+-- The same, where all is read with the kids of the innermost tree under way.
+abbrev pub IsRead : Outcome → Answered → List Token → Type 0
+IsRead (Done us gs) (ou.Done trees n) ts = (us ≡ joined (drop n ts)) × (trees.items ≡ kids_on gs)
+IsRead (Fails us) (ou.Stuck n) ts = us ≡ joined (drop n ts)
+IsRead _ _ ts = ⊥
