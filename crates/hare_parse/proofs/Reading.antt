@@ -25,23 +25,23 @@ not_used Stuck a st gs u s e = cc
 pub reads_junk : (f : ℕ) (ts : List Token) (at : ℕ) (st : List Symbol) (gs : List Group) (t : Token) (a : Answer) (st' : List Symbol) (gs' : List Group) →
     BeginsWithJunk (drop at ts) → Says (step f t cl.Junk st gs) a st' gs' → Reads f ts at st gs (record { answer = a; next = at }) st' gs'
 reads_junk f ts at st gs t a st' gs' b s =
-    record
-      { token = b.0
-      ; rest = b.1
-      ; stands = b.2
-      ; says = rw (b.3, step_junk f b.0 t st gs) s
-      ; behind = λ e. absurd (not_used (step f t cl.Junk st gs) a st' gs' (step_no_use f t st gs) s e)
-      }
+    record {
+      token = b.0;
+      rest = b.1;
+      stands = b.2;
+      says = rw (b.3, step_junk f b.0 t st gs) s;
+      behind = λ e. absurd (not_used (step f t cl.Junk st gs) a st' gs' (step_no_use f t st gs) s e);
+    }
 
 pub reads_plain : (f : ℕ) (ts : List Token) (at : ℕ) (st : List Symbol) (gs : List Group) (t : Token) (c : Class) (a : Answer) (n : ℕ) (st' : List Symbol) (gs' : List Group) →
     Some t ≡ slice_get ts at → is_plain_string t ≡ false → c ≡ class_of t → n ≡ at + 1 → Says (step f t c st gs) a st' gs' →
     Reads f ts at st gs (record { answer = a; next = n }) st' gs'
 reads_plain f ts at st gs t c a n st' gs' h p e m s =
     let w : at < length ts = slice_get_within ts at t (sym h) in
-    record
-      { token = t
-      ; rest = joined (drop (at + 1) ts)
-      ; stands = joined_at ts at t h ∙ join_no t (joined (drop (at + 1) ts)) p
-      ; says = rw (← e) s
-      ; behind = λ g. rw m (refl, omega arith, omega arith)
-      }
+    record {
+      token = t;
+      rest = joined (drop (at + 1) ts);
+      stands = joined_at ts at t h ∙ join_no t (joined (drop (at + 1) ts)) p;
+      says = rw (← e) s;
+      behind = λ g. rw m (refl, omega arith, omega arith);
+    }

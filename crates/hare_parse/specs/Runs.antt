@@ -12,6 +12,7 @@ use Rattle.hare_parse.specs.declared.run.Read.{Read}
 use Rattle.hare_parse.specs.declared.run.Reached.{Reached}
 use Rattle.hare_parse.specs.declared.run.Reached.TheVariants as re
 use Rattle.hare_parse.specs.declared.step.Answer.TheVariants as an
+use Rattle.hare_parse.specs.Limits.{Bounded, Within, Deep}
 use Rattle.hare_parse.specs.Seen.{Says}
 
 -- What came of the first of the joined tokens from a place on; where it is used, the others are the joined tokens from the next place on.
@@ -23,9 +24,10 @@ pub record Reads (f : ℕ) (ts : List Token) (at : ℕ) (st : List Symbol) (gs :
   pub behind : r.answer ≡ an.Goes → (rest ≡ joined (drop r.next ts)) × (at < r.next) × (r.next ≤ length ts)
 
 -- The outcome's tokens are the joined tokens from the place on that is answered; where all is read, these are the trees under way.
-abbrev pub Comes : Outcome → Reached → List Token → List Group → Type 0
-Comes (Done us gs) (re.End n) ts gs' = (us ≡ joined (drop n ts)) × (gs' ≡ gs)
-Comes (Fails us) (re.Stuck n) ts gs' = us ≡ joined (drop n ts)
+abbrev pub Comes : Bounded → Reached → List Token → List Group → Type 0
+Comes (Within (Done us gs)) (re.End n) ts gs' = (us ≡ joined (drop n ts)) × (gs' ≡ gs)
+Comes (Within (Fails us)) (re.Stuck n) ts gs' = us ≡ joined (drop n ts)
+Comes (Deep us) (re.Deep n) ts gs' = us ≡ joined (drop n ts)
 Comes _ _ ts gs' = ⊥
 
 -- ---- trees that are read
@@ -36,7 +38,15 @@ kids_on [] = []
 kids_on (g ∷ gs) = g.kids
 
 -- The same, where all is read with the kids of the innermost tree under way.
-abbrev pub IsRead : Outcome → Answered → List Token → Type 0
-IsRead (Done us gs) (ou.Done trees n) ts = (us ≡ joined (drop n ts)) × (trees.items ≡ kids_on gs)
-IsRead (Fails us) (ou.Stuck n) ts = us ≡ joined (drop n ts)
+abbrev pub IsRead : Bounded → Answered → List Token → Type 0
+IsRead (Within (Done us gs)) (ou.Done trees n) ts = (us ≡ joined (drop n ts)) × (trees.items ≡ kids_on gs)
+IsRead (Within (Fails us)) (ou.Stuck n) ts = us ≡ joined (drop n ts)
+IsRead (Deep us) (ou.Deep n) ts = us ≡ joined (drop n ts)
 IsRead _ _ ts = ⊥
+
+-- The same of a run without bounds; where the program gives up at a bound, nothing.
+abbrev pub IsReadBy : Outcome → Answered → List Token → Type 0
+IsReadBy (Done us gs) (ou.Done trees n) ts = (us ≡ joined (drop n ts)) × (trees.items ≡ kids_on gs)
+IsReadBy (Fails us) (ou.Stuck n) ts = us ≡ joined (drop n ts)
+IsReadBy o (ou.Deep n) ts = Unit {0}
+IsReadBy _ _ ts = ⊥

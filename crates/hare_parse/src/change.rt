@@ -1,13 +1,14 @@
 //! What a row changes in the trees under way.
 
-ghost use Rattle.std.specs.Prelude.{◌≡◌, ◌∷◌, [], OnOk, IfOk};
+ghost use Rattle.std.specs.Prelude.{◌≡◌, ◌∷◌, [], OnOk};
 ghost use Rattle.hare_tree.specs.Spell as spell;
 ghost use Rattle.hare_grammar.specs.Engine as engine;
 
 use crate::group::Group;
+use crate::grown::Grown;
 use crate::pile::Pile;
 use hare_grammar::Change;
-use hare_tree::{Kids, Kind, Place, Suffix, Token, Tree, Word};
+use hare_tree::{Kind, Place, Token};
 use std::alloc::{AllocError, Global};
 
 /// These changes at a token of the file, in their order.
@@ -37,9 +38,9 @@ fn changed(
     ensures { OnOk result (groups.new ≡ engine.changed file token.now change groups.old) }
 {
     match change {
-        Change::Absent => add(groups, bare_leaf(alloc, Kind::None, start_of(file))),
-        Change::Mark(kind) => add(groups, bare_leaf(alloc, kind, token.place)),
-        Change::Leaf(kind) => add(groups, full_leaf(alloc, kind, token)?),
+        Change::Absent => add(groups, Grown::bare_leaf(alloc, Kind::None, start_of(file))),
+        Change::Mark(kind) => add(groups, Grown::bare_leaf(alloc, kind, token.place)),
+        Change::Leaf(kind) => add(groups, Grown::full_leaf(alloc, kind, token)?),
         Change::Open => groups.push(Group::begun(alloc, token.place, Vec::new(alloc))),
         Change::Over => over(alloc, token.place, groups),
         Change::Take => take_text(alloc, token, groups),
@@ -53,7 +54,7 @@ fn changed(
     }
 }
 
-// ---- leaves
+// ---- places
 
 /// The start of a file.
 pub fn start_of(file: u32) -> Place
@@ -66,38 +67,10 @@ pub fn start_of(file: u32) -> Place
     }
 }
 
-/// A tree with nothing in it.
-fn bare_leaf(alloc: Global, kind: Kind, place: Place) -> Tree
-    ensures { result ≡ engine.bare_leaf kind place }
-{
-    Tree {
-        kind,
-        place,
-        text: Word::new(alloc),
-        number: 0,
-        suffix: Suffix::None,
-        kids: Kids::new(alloc),
-    }
-}
-
-/// A tree of the token alone.
-fn full_leaf(alloc: Global, kind: Kind, token: &Token) -> Result<Tree, AllocError>
-    ensures { IfOk result (λ t. t ≡ engine.full_leaf kind token.now) }
-{
-    Ok(Tree {
-        kind,
-        place: token.place,
-        text: Word::copy(alloc, token.text.bytes())?,
-        number: token.number,
-        suffix: token.suffix,
-        kids: Kids::new(alloc),
-    })
-}
-
 // ---- the innermost tree under way
 
 /// The tree is the next kid of the innermost tree under way.
-fn add(groups: &mut Pile<Group>, tree: Tree) -> Result<(), AllocError>
+fn add(groups: &mut Pile<Group>, tree: Grown) -> Result<(), AllocError>
     ensures { OnOk result (groups.new ≡ engine.add tree groups.old) }
 {
     let Some(mut group) = groups.pop() else {

@@ -1,10 +1,12 @@
 //! Trees under way.
 
-ghost use Rattle.std.specs.Prelude.{◌≡◌, [], ◌∷◌, ◌++◌, IfNone, IfOk, IfSome, OnOk, MatchOption};
+ghost use Rattle.std.specs.Prelude.{◌≡◌, [], ◌∷◌, ◌++◌, IfNone, IfOk, IfSome, OnOk, MatchOption, nat_le};
 ghost use Rattle.hare_tree.specs.Node.{branch, nodes_of};
 ghost use Rattle.hare_grammar.specs.Engine as engine;
+ghost use Rattle.hare_parse.specs.Limits.{last_height};
 
-use hare_tree::{Kids, Kind, Place, Suffix, Token, Tree, Word};
+use crate::grown::Grown;
+use hare_tree::{Kind, Place, Suffix, Token, Word};
 use std::alloc::{AllocError, Global};
 use std::marker::Model;
 
@@ -15,7 +17,7 @@ pub struct Group {
     text: Word,
     number: u128,
     suffix: Suffix,
-    kids: Vec<Tree>,
+    kids: Vec<Grown>,
 }
 
 impl Model for Group {
@@ -41,7 +43,7 @@ impl Model for Group {
 
 impl Group {
     /// A tree that begins here.
-    pub fn begun(alloc: Global, place: Place, kids: Vec<Tree>) -> Group
+    pub fn begun(alloc: Global, place: Place, kids: Vec<Grown>) -> Group
         ensures { result ≡ engine.begun place kids.items }
     {
         Group {
@@ -54,7 +56,7 @@ impl Group {
     }
 
     /// The kids so far.
-    pub fn into_kids(self) -> Vec<Tree>
+    pub fn into_kids(self) -> Vec<Grown>
         ensures { result.items ≡ self.kids }
     {
         let Group {
@@ -68,7 +70,7 @@ impl Group {
     }
 
     /// The tree is whole, and of this kind.
-    pub fn into_tree(self, alloc: Global, kind: Kind) -> Result<Tree, AllocError>
+    pub fn into_tree(self, alloc: Global, kind: Kind) -> Result<Grown, AllocError>
         ensures { IfOk result (λ t. t ≡ branch (engine.head_in kind self) (nodes_of self.kids)) }
     {
         let Group {
@@ -78,19 +80,21 @@ impl Group {
             suffix,
             kids,
         } = self;
-        let kids = boxed(alloc, kids)?;
-        Ok(Tree {
-            kind,
-            place,
-            text,
-            number,
-            suffix,
-            kids,
-        })
+        Grown::branch(alloc, kind, place, text, number, suffix, kids)
+    }
+
+    /// Whether the last kid is at most 511 high.
+    pub fn is_low(&self) -> bool
+        ensures { result ≡ nat_le (last_height self.now.kids) 511 }
+    {
+        match self.kids.as_slice().last() {
+            Some(kid) => kid.is_low(),
+            None => true,
+        }
     }
 
     /// The tree is the next kid.
-    pub fn add(&mut self, tree: Tree) -> Result<(), AllocError>
+    pub fn add(&mut self, tree: Grown) -> Result<(), AllocError>
         ensures { OnOk result (self.new ≡ engine.with_kids self.old (self.old.kids ++ tree ∷ [])) }
     {
         self.kids.push(tree)?;
@@ -98,14 +102,14 @@ impl Group {
     }
 
     /// These are the next kids.
-    pub fn add_all(&mut self, mut kids: Vec<Tree>) -> Result<(), AllocError>
+    pub fn add_all(&mut self, mut kids: Vec<Grown>) -> Result<(), AllocError>
         ensures { OnOk result (self.new ≡ engine.with_kids self.old (self.old.kids ++ kids.items)) }
     {
         self.kids.append(&mut kids)
     }
 
     /// Takes out the last kid, if there is one.
-    pub fn take_last(&mut self) -> Option<Tree>
+    pub fn take_last(&mut self) -> Option<Grown>
         ensures found { MatchOption result (engine.last_kid self.old.kids ≡ []) (λ t. engine.last_kid self.old.kids ≡ t ∷ []) }
         ensures left { self.new ≡ engine.with_kids self.old (engine.but_last self.old.kids) }
     {
@@ -130,20 +134,9 @@ impl Group {
     }
 }
 
-/// Trees as the kids of one.
-fn boxed(alloc: Global, trees: Vec<Tree>) -> Result<Kids, AllocError>
-    ensures { IfOk result (λ kids. kids ≡ trees.items) }
-{
-    let mut kids = Kids::new(alloc);
-    for tree in trees {
-        kids.push(alloc, tree)?;
-    }
-    Ok(kids)
-}
-
 /// Takes out the last tree, if there is one.
 #[tactic(auto, using(crate::proofs::Kids::last_kid_append, crate::proofs::Kids::but_last_append))]
-fn pop_last(trees: &mut Vec<Tree>) -> Option<Tree>
+fn pop_last(trees: &mut Vec<Grown>) -> Option<Grown>
     ensures found { MatchOption result (engine.last_kid trees.old.items ≡ []) (λ t. engine.last_kid trees.old.items ≡ t ∷ []) }
     ensures left { trees.new.items ≡ engine.but_last trees.old.items }
 {
@@ -154,7 +147,7 @@ fn pop_last(trees: &mut Vec<Tree>) -> Option<Tree>
 }
 
 /// The last tree, which is taken out.
-fn popped(trees: &mut Vec<Tree>) -> Option<Tree>
+fn popped(trees: &mut Vec<Grown>) -> Option<Grown>
     ensures found { IfSome result (λ t. trees.old.items ≡ trees.new.items ++ t ∷ []) }
     ensures none { IfNone result (trees.old.items ≡ []) }
     ensures kept { IfNone result (trees.new.items ≡ []) }

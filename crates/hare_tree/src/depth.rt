@@ -15,7 +15,7 @@ const LIMIT: usize = 256;
 pub const ROOM: usize = 511;
 
 /// Whether a tree is a type, an expression or a statement.
-fn is_node(k: Kind) -> bool
+pub fn is_node(k: Kind) -> bool
     ensures { result ≡ depth.is_node k }
 {
     match k {

@@ -24,6 +24,7 @@ mod tree;
 mod unparse;
 mod word;
 
+pub use depth::is_node;
 pub use fit::fits;
 pub use form::{Lead, Own, Piece, Sign, Sort};
 pub use forms::form_of;

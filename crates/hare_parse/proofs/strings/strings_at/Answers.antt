@@ -14,11 +14,11 @@ place_behind-next-requires c = slice_get_within c.args.tokens.now c.args.at c.ar
 pub loop-token-init : goal.loop-token-init
 loop-token-init c =
     let w = slice_get_within c.args.tokens.now c.args.at c.args.first.now c.requires.stands in
-    record
-      { so_far = first_so_far c.args.tokens.now c.args.at c.place_behind-next.result c.args.first.now c.in_ok-text.text (sym c.requires.stands) c.requires.plain c.if-first-ne0.false c.place_behind-next.ensures (c.in_ok-text.ensures ∙ c.bytes.ensures)
-      ; behind = omega (arith, c.place_behind-next.ensures)
-      ; within = omega (arith, c.place_behind-next.ensures, w)
-      }
+    record {
+      so_far = first_so_far c.args.tokens.now c.args.at c.place_behind-next.result c.args.first.now c.in_ok-text.text (sym c.requires.stands) c.requires.plain c.if-first-ne0.false c.place_behind-next.ensures (c.in_ok-text.ensures ∙ c.bytes.ensures);
+      behind = omega (arith, c.place_behind-next.ensures);
+      within = omega (arith, c.place_behind-next.ensures, w);
+    }
 
 pub returns-then-not-is_plain_string : goal.returns-then-not-is_plain_string
 returns-then-not-is_plain_string c =
@@ -45,11 +45,11 @@ loop-token-preserved c =
     let w = slice_get_within c.args.tokens.now c.loop-token.next c.in-Some.token.now (sym c.in-Some.ensures) in
     let e : is_plain_string c.in-Some.token.now ≡ true = cc in
     let t : c.extend.new.self ≡ c.loop-token.text ++ c.in-Some.token.now.text = c.in_ok-extend.ensures.ok ∙ ap (λ z. c.loop-token.text ++ z) c.bytes-in-Some.ensures in
-    record
-      { so_far = more_so_far c.args.tokens.now c.args.at c.loop-token.next c.place_behind-next-in-Some.result c.args.first.now.place c.loop-token.text c.extend.new.self c.in-Some.token.now i.so_far c.in-Some.ensures e c.if-token-ne0.false c.place_behind-next-in-Some.ensures t
-      ; behind = omega (arith, c.place_behind-next-in-Some.ensures, i.behind)
-      ; within = omega (arith, c.place_behind-next-in-Some.ensures, w)
-      }
+    record {
+      so_far = more_so_far c.args.tokens.now c.args.at c.loop-token.next c.place_behind-next-in-Some.result c.args.first.now.place c.loop-token.text c.extend.new.self c.in-Some.token.now i.so_far c.in-Some.ensures e c.if-token-ne0.false c.place_behind-next-in-Some.ensures t;
+      behind = omega (arith, c.place_behind-next-in-Some.ensures, i.behind);
+      within = omega (arith, c.place_behind-next-in-Some.ensures, w);
+    }
 
 pub returns : goal.returns
 returns c =

@@ -5,11 +5,11 @@ use Rattle.hare_parse.proofs.strings.strings_at.Given as goal
 
 abbrev pub invariant-loop-token : goal.invariant-loop-token
 invariant-loop-token l =
-    record
-      { so_far : joined (drop l.at l.tokens) ≡ joined_to (string l.first.place l.text) (joined (drop l.next l.tokens))
-      ; behind : l.at < l.next
-      ; within : l.next ≤ length l.tokens
-      }
+    record {
+      so_far : joined (drop l.at l.tokens) ≡ joined_to (string l.first.place l.text) (joined (drop l.next l.tokens));
+      behind : l.at < l.next;
+      within : l.next ≤ length l.tokens;
+    }
 
 abbrev pub decreases-loop-token : goal.decreases-loop-token
 decreases-loop-token l = length l.tokens - l.next
