@@ -34,10 +34,10 @@ string_by k p x n s a b c = rw (a, b, c) refl
 pub string_is : (t : Token) → is_plain_string t ≡ true → t.number ≡ 0 → t ≡ string t.place t.text
 string_is t e z = let h = plain_is t.kind t.suffix e in string_by t.kind t.place t.text t.number t.suffix h.0 z h.1
 
-join_two : (t u : Token) (js : List Token) → is_plain_string t ≡ true → is_plain_string u ≡ true → joined_to t (u ∷ js) ≡ fused t u ∷ js
+pub join_two : (t u : Token) (js : List Token) → is_plain_string t ≡ true → is_plain_string u ≡ true → joined_to t (u ∷ js) ≡ fused t u ∷ js
 join_two t u js e h = rw (e, h) refl
 
-join_other : (t u : Token) (js : List Token) → is_plain_string u ≡ false → joined_to t (u ∷ js) ≡ t ∷ u ∷ js
+pub join_other : (t u : Token) (js : List Token) → is_plain_string u ≡ false → joined_to t (u ∷ js) ≡ t ∷ u ∷ js
 join_other t u js h = elim (is_plain_string t) as (λ b. (if b then (if is_plain_string u then fused t u ∷ js else t ∷ u ∷ js) else t ∷ u ∷ js) ≡ t ∷ u ∷ js) [ true ↦ rw h refl | false ↦ refl ]
 
 pub join_no : (t : Token) (js : List Token) → is_plain_string t ≡ false → joined_to t js ≡ t ∷ js

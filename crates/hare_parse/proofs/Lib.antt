@@ -1,3 +1,4 @@
+pub mod Apart
 pub mod Classified
 pub mod Heights
 pub mod Joining

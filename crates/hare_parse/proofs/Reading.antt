@@ -1,5 +1,5 @@
 -- What the token at a place of the list is to the grammar.
-use Rattle.std.proofs.Common.{◌≡◌, ℕ, ◌+◌, ◌<◌, ◌≤◌, List, ◌∷◌, drop, length, true, false, refl, sym, ◌∙◌, Option, arith}
+use Rattle.std.proofs.Common.{◌≡◌, ℕ, ◌+◌, ◌<◌, ◌≤◌, List, ◌∷◌, drop, length, true, false, refl, sym, ap, ◌∙◌, Option, arith}
 use Rattle.std.specs.Prelude.{slice_get, Some}
 use Rattle.std.proofs.lemmas.Option.{slice_get_within}
 use Rattle.hare_tree.specs.declared.token.Token.{Token}
@@ -14,6 +14,7 @@ use Rattle.hare_parse.specs.declared.step.Answer.TheVariants as an
 use Rattle.hare_parse.specs.Seen.{Says}
 use Rattle.hare_parse.specs.Joined.{BeginsWithJunk}
 use Rattle.hare_parse.specs.Runs.{Reads}
+use Rattle.hare_parse.proofs.Apart.{free_behind}
 use Rattle.hare_parse.proofs.Joining.{joined_at, join_no}
 use Rattle.hare_parse.proofs.Junk.{IsNoUse, step_junk, step_no_use}
 
@@ -43,5 +44,5 @@ reads_plain f ts at st gs t c a n st' gs' h p e m s =
       rest = joined (drop (at + 1) ts);
       stands = joined_at ts at t h ∙ join_no t (joined (drop (at + 1) ts)) p;
       says = rw (← e) s;
-      behind = λ g. rw m (refl, omega arith, omega arith);
+      behind = λ g. (ap (λ i. joined (drop i ts)) (sym m), omega arith, omega arith, free_behind ts at n t h p m);
     }

@@ -39,6 +39,7 @@ pub fn read(
 ) -> Result<Outcome, AllocError>
     ensures bounded { IfOk result (λ o. spec.IsRead (bounds.run_within file (joined (drop at tokens.now)) (rows.of sort ∷ []) engine.bottom) o tokens.now) }
     ensures machine { IfOk result (λ o. spec.IsReadBy (engine.run file (joined (drop at tokens.now)) (rows.of sort ∷ []) engine.bottom) o tokens.now) }
+    ensures place { IfOk result (λ o. spec.IsPlace tokens.now at (spec.place_of o)) }
 {
     let mut stack = Pile::new(alloc);
     stack.push(of(sort))?;

@@ -45,7 +45,8 @@ pub fn run(
     stack: &mut Pile<Wait>,
     groups: &mut Pile<Group>,
 ) -> Result<Reached, AllocError>
-    ensures { IfOk result (λ r. spec.Comes (bounds.run_within file (joined (drop from tokens.now)) (waited stack.old) groups.old) r tokens.now groups.new) }
+    ensures value { IfOk result (λ r. spec.Comes (bounds.run_within file (joined (drop from tokens.now)) (waited stack.old) groups.old) r tokens.now groups.new) }
+    ensures place { IfOk result (λ r. spec.IsPlace tokens.now from (spec.place_in r)) }
 {
     let mut at = from;
     while let Some(token) = tokens.get(at) {

@@ -2,6 +2,7 @@ use Rattle.std.proofs.Common.{◌≡◌, ◌+◌, ◌<◌, ◌++◌, drop, sym, 
 use Rattle.std.proofs.lemmas.Option.{slice_get_within}
 use Rattle.hare_tree.specs.Grammar.{is_plain_string, joined}
 use Rattle.hare_parse.specs.Joined.{string}
+use Rattle.hare_parse.proofs.Apart.{free_before, free_past}
 use Rattle.hare_parse.proofs.Joining.{joined_at, junk_first, junk_more, first_so_far, one_more, more_so_far, ends_at, ends_past}
 use Rattle.hare_parse.proofs.strings.strings_at.Goals as goal
 
@@ -24,7 +25,7 @@ pub returns-then-not-is_plain_string : goal.returns-then-not-is_plain_string
 returns-then-not-is_plain_string c =
     let i = c.loop-token.invariant in
     let e : is_plain_string c.in-Some.token.now ≡ false = cc in
-    rw c.string.ensures (ends_at c.args.tokens.now c.args.at c.loop-token.next (string c.args.first.now.place c.loop-token.text) c.in-Some.token.now i.so_far c.in-Some.ensures e, i.behind, i.within)
+    rw c.string.ensures (ends_at c.args.tokens.now c.args.at c.loop-token.next (string c.args.first.now.place c.loop-token.text) c.in-Some.token.now i.so_far c.in-Some.ensures e, i.behind, i.within, free_before c.args.tokens.now c.loop-token.next c.in-Some.token.now c.in-Some.ensures e)
 
 pub returns-then-token-ne0 : goal.returns-then-token-ne0
 returns-then-token-ne0 c =
@@ -54,4 +55,4 @@ loop-token-preserved c =
 pub returns : goal.returns
 returns c =
     let i = c.loop-token.invariant in
-    rw c.string-2.ensures (ends_past c.args.tokens.now c.args.at c.loop-token.next (string c.args.first.now.place c.loop-token.text) i.so_far c.in_default.ensures, i.behind, i.within)
+    rw c.string-2.ensures (ends_past c.args.tokens.now c.args.at c.loop-token.next (string c.args.first.now.place c.loop-token.text) i.so_far c.in_default.ensures, i.behind, i.within, free_past c.args.tokens.now c.loop-token.next c.in_default.ensures)
