@@ -110,6 +110,7 @@ apart_by ts from m w f =
   where
     less_one : (a b : ℕ) → a + b ≡ a + suc b - 1
     less_one a b = omega arith
+
     free_is : (b : Bool) → not b ≡ true → b ≡ false
     free_is true e = cc
     free_is false e = refl
@@ -119,6 +120,7 @@ pub apart_from : (ts : List Token) (from n : ℕ) → from ≤ n → (n ≡ from
 apart_from ts from n h w f = parts_of (n - from) refl where
   same : (k : ℕ) → k ≡ 0 → n ≡ from → joined (drop from ts) ≡ joined (take k (drop from ts)) ++ joined (drop n ts)
   same k z e = rw (z, e) refl
+
   parts_of : (k : ℕ) → n - from ≡ k → joined (drop from ts) ≡ joined (take k (drop from ts)) ++ joined (drop n ts)
   parts_of zero e = same 0 refl (omega arith)
   parts_of (suc m) e =

@@ -1,6 +1,7 @@
 //! Short texts, with what a person expects of them. Their tokens stand apart, with one blank between any two.
 
 mod bounds;
+mod forms;
 mod trees;
 
 use crate::{Outcome, read};

@@ -36,10 +36,10 @@ fn nests_within_the_limits_are_read(rt: HostRuntime) -> Result<(), Fail> {
 #[test]
 fn hostile_nests_are_deep(rt: HostRuntime) -> Result<(), Fail> {
     assert!(rt; is_deep(rt.alloc(), Sort::Level(1), b"(", b")", 100_000)?);
-    assert!(rt; is_deep(rt.alloc(), Sort::Level(1), b"[", b"]", 100_000)?);
-    assert!(rt; is_deep(rt.alloc(), Sort::Level(1), b"{", b"}", 100_000)?);
-    assert!(rt; is_deep(rt.alloc(), Sort::Level(1), b"-", b"?", 100_000)?);
-    assert!(rt; is_deep(rt.alloc(), Sort::Type, b"*", b"*", 100_000)?);
-    assert!(rt; is_deep(rt.alloc(), Sort::Type, b"(", b")", 100_000)?);
+    assert!(rt; is_deep(rt.alloc(), Sort::Level(1), b"[", b"]", 10_000)?);
+    assert!(rt; is_deep(rt.alloc(), Sort::Level(1), b"{", b"}", 10_000)?);
+    assert!(rt; is_deep(rt.alloc(), Sort::Level(1), b"-", b"?", 10_000)?);
+    assert!(rt; is_deep(rt.alloc(), Sort::Type, b"*", b"*", 10_000)?);
+    assert!(rt; is_deep(rt.alloc(), Sort::Type, b"(", b")", 10_000)?);
     Ok(())
 }
