@@ -1,6 +1,6 @@
 -- Where tokens may be parted: no two strings that stand side by side come apart.
-use Rattle.std.proofs.Common.{◌≡◌, ℕ, zero, suc, zero-add, suc-add, length-drop, ◌⊎◌, inl, inr, ◌+◌, ◌-◌, ◌<◌, ◌≤◌, List, [], ◌∷◌, ◌++◌, drop, take, length, Bool, true, false, refl, sym, ap, ◌∙◌, Option, arith, add-one}
-use Rattle.std.specs.Prelude.{slice_get, Some, None, ◌&&◌, not, if◌then◌else◌}
+use Rattle.std.proofs.Common.{◌≡◌, ℕ, zero, suc, zero-add, suc-add, length-drop, ◌⊎◌, inl, inr, ◌+◌, ◌-◌, ◌<◌, ◌≤◌, List, [], ◌∷◌, ◌++◌, drop, take, length, Bool, true, false, refl, sym, ap, ◌∙◌, Option, arith}
+use Rattle.std.specs.Prelude.{slice_get, Some, None, ◌&&◌, not}
 use Rattle.hare_tree.specs.declared.token.Token.{Token}
 use Rattle.hare_tree.specs.Grammar.{joined, joined_to, is_plain_string}
 use Rattle.hare_parse.specs.Joined.{plain_at, is_free}

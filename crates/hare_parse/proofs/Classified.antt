@@ -1,6 +1,5 @@
 -- The class of a token by its kind.
 use Rattle.std.proofs.Common.{◌≡◌, List, ℕ, Bool, ◌∙◌, sym, ap}
-use Rattle.hare_tree.specs.declared.token.TokenKind.{TokenKind}
 use Rattle.hare_tree.specs.declared.token.TokenKind.TheVariants as tk
 use Rattle.hare_tree.specs.declared.token.Token.{Token}
 use Rattle.hare_tree.specs.Shape.{has_text_alone}

@@ -1,7 +1,7 @@
 -- Heights of trees, so far as they are counted.
-use Rattle.std.proofs.Common.{◌≡◌, ℕ, ◌+◌, ◌≤◌, List, [], ◌∷◌, ◌++◌, min, max, Bool, true, false, refl, ap, sym, ◌∙◌, arith}
+use Rattle.std.proofs.Common.{◌≡◌, ℕ, ◌+◌, ◌≤◌, List, [], ◌∷◌, ◌++◌, min, max, Bool, true, false, refl, arith}
 use Rattle.std.specs.Prelude.{nat_le, if◌then◌else◌}
-use Rattle.hare_tree.specs.Node.{Head, Node, Nodes, branch, none, more, nodes_of}
+use Rattle.hare_tree.specs.Node.{Head, Node, branch, none, nodes_of}
 use Rattle.hare_tree.specs.Depth.{is_node, counted, height, greatest_height}
 
 counted-small : (b : Bool) → (if b then 1 else 0) ≤ 1

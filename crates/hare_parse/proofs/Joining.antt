@@ -1,5 +1,5 @@
 -- Strings side by side, read from the left.
-use Rattle.std.proofs.Common.{◌≡◌, ℕ, ◌+◌, ◌<◌, ◌≤◌, ◌≢◌, List, [], ◌∷◌, ◌++◌, drop, length, Bool, true, false, refl, sym, ap, ◌∙◌, Option, append_assoc, arith, add-zero, add-one, zero-add, add_assoc, drop-cons, ◌⊎◌, inl, inr}
+use Rattle.std.proofs.Common.{◌≡◌, ℕ, ◌+◌, ◌<◌, ◌≢◌, List, [], ◌∷◌, ◌++◌, drop, length, Bool, true, false, refl, sym, ap, ◌∙◌, append_assoc, arith, add-one, zero-add, drop-cons, inl, inr}
 use Rattle.std.specs.Prelude.{slice_get, Some, None, if◌then◌else◌, ◌==◌, ◌&&◌}
 use Rattle.std.proofs.lemmas.Option.{slice_get_within, get_or_from_slice_get, slice_get_cases}
 use Rattle.std.proofs.lemmas.List.{drop_all}
@@ -12,10 +12,9 @@ use Rattle.hare_tree.specs.declared.token.Token.{Token}
 use Rattle.hare_tree.specs.declared.kind.Kind.TheVariants as ki
 use Rattle.hare_tree.specs.Grammar.{joined, joined_to, is_string, is_plain_string}
 use Rattle.hare_tree.specs.Shape.{has_no_suffix}
-use Rattle.hare_grammar.specs.declared.class.Class.{Class}
 use Rattle.hare_grammar.specs.declared.class.Class.TheVariants as cl
-use Rattle.hare_grammar.specs.Classes.{class_of, class_in, head_of, when}
-use Rattle.hare_parse.specs.Joined.{string, BeginsWithJunk}
+use Rattle.hare_grammar.specs.Classes.{class_of, class_in}
+use Rattle.hare_parse.specs.Joined.{string}
 
 -- two strings as one
 abbrev pub fused : Token → Token → Token

@@ -1,5 +1,5 @@
 -- How the program's rows and waits are read as those of the table.
-use Rattle.std.specs.Prelude.{◌≡◌, ℕ, ◌<◌, List, [], ◌∷◌}
+use Rattle.std.specs.Prelude.{◌≡◌, ◌<◌, List, [], ◌∷◌}
 use Rattle.std.specs.List.{flat_map}
 use Rattle.hare_grammar.specs.declared.rule.Symbol.{Symbol}
 use Rattle.hare_grammar.specs.declared.class.Class.{Class}

@@ -1,4 +1,4 @@
-use Rattle.std.proofs.Common.{◌≡◌, ◌+◌, ◌<◌, ◌++◌, drop, sym, ◌∙◌, ap, arith, true, false, length}
+use Rattle.std.proofs.Common.{◌≡◌, ◌+◌, ◌++◌, drop, sym, ◌∙◌, ap, arith, true, false}
 use Rattle.std.proofs.lemmas.Option.{slice_get_within}
 use Rattle.hare_tree.specs.Grammar.{is_plain_string, joined}
 use Rattle.hare_parse.specs.Joined.{string}

@@ -1,4 +1,4 @@
-use Rattle.std.proofs.Common.{◌≡◌, ◌+◌, ◌-◌, ◌<◌, ◌≤◌, length, drop}
+use Rattle.std.proofs.Common.{◌≡◌, ◌-◌, ◌<◌, ◌≤◌, length, drop}
 use Rattle.hare_tree.specs.Grammar.{joined, joined_to}
 use Rattle.hare_parse.specs.Joined.{string}
 use Rattle.hare_parse.proofs.strings.strings_at.Given as goal
