@@ -1,0 +1,142 @@
+//! What a row changes in the trees under way.
+
+ghost use Rattle.std.specs.Prelude.{◌≡◌, ◌∷◌, [], OnOk};
+ghost use Rattle.hare_tree.specs.Spell as spell;
+ghost use Rattle.hare_grammar.specs.Engine as engine;
+
+use crate::group::Group;
+use crate::grown::Grown;
+use crate::pile::Pile;
+use hare_grammar::Change;
+use hare_tree::{Kind, Place, Token};
+use std::alloc::{AllocError, Global};
+
+/// These changes at a token of the file, in their order.
+pub fn all_changed(
+    alloc: Global,
+    file: u32,
+    token: &Token,
+    changes: &[Change],
+    groups: &mut Pile<Group>,
+) -> Result<(), AllocError>
+    ensures { OnOk result (groups.new ≡ engine.all_changed file token.now changes.now groups.old) }
+{
+    for change in changes {
+        changed(alloc, file, token, *change, groups)?;
+    }
+    Ok(())
+}
+
+/// A change at a token of the file.
+fn changed(
+    alloc: Global,
+    file: u32,
+    token: &Token,
+    change: Change,
+    groups: &mut Pile<Group>,
+) -> Result<(), AllocError>
+    ensures { OnOk result (groups.new ≡ engine.changed file token.now change groups.old) }
+{
+    match change {
+        Change::Absent => add(groups, Grown::bare_leaf(alloc, Kind::None, start_of(file))),
+        Change::Mark(kind) => add(groups, Grown::bare_leaf(alloc, kind, token.place)),
+        Change::Leaf(kind) => add(groups, Grown::full_leaf(alloc, kind, token)?),
+        Change::Open => groups.push(Group::begun(alloc, token.place, Vec::new(alloc))),
+        Change::Over => over(alloc, token.place, groups),
+        Change::Take => take_text(alloc, token, groups),
+        Change::Join => join_text(token, groups),
+        Change::Close(kind) => close(alloc, kind, groups),
+        Change::Lift => lift(groups),
+        Change::Drop => {
+            let _ = groups.pop();
+            Ok(())
+        }
+    }
+}
+
+// ---- places
+
+/// The start of a file.
+pub fn start_of(file: u32) -> Place
+    ensures { result ≡ spell.start_of file }
+{
+    Place {
+        file,
+        line: 1,
+        column: 1,
+    }
+}
+
+// ---- the innermost tree under way
+
+/// The tree is the next kid of the innermost tree under way.
+fn add(groups: &mut Pile<Group>, tree: Grown) -> Result<(), AllocError>
+    ensures { OnOk result (groups.new ≡ engine.add tree groups.old) }
+{
+    let Some(mut group) = groups.pop() else {
+        return Ok(());
+    };
+    group.add(tree)?;
+    groups.push(group)
+}
+
+/// The innermost tree under way is whole, and of this kind.
+pub fn close(alloc: Global, kind: Kind, groups: &mut Pile<Group>) -> Result<(), AllocError>
+    ensures { OnOk result (groups.new ≡ engine.close kind groups.old) }
+{
+    let Some(group) = groups.pop() else {
+        return Ok(());
+    };
+    add(groups, group.into_tree(alloc, kind)?)
+}
+
+/// The innermost tree under way takes the token's text, number and suffix.
+fn take_text(alloc: Global, token: &Token, groups: &mut Pile<Group>) -> Result<(), AllocError>
+    ensures { OnOk result (groups.new ≡ engine.take_text token.now groups.old) }
+{
+    let Some(mut group) = groups.pop() else {
+        return Ok(());
+    };
+    group.take_text(alloc, token)?;
+    groups.push(group)
+}
+
+/// The token's text is put behind that of the innermost tree under way.
+fn join_text(token: &Token, groups: &mut Pile<Group>) -> Result<(), AllocError>
+    ensures { OnOk result (groups.new ≡ engine.join_text token.now groups.old) }
+{
+    let Some(mut group) = groups.pop() else {
+        return Ok(());
+    };
+    group.join_text(token)?;
+    groups.push(group)
+}
+
+/// A tree begins whose first kid is the last of the tree round it.
+fn over(alloc: Global, place: Place, groups: &mut Pile<Group>) -> Result<(), AllocError>
+    ensures { OnOk result (groups.new ≡ engine.over place groups.old) }
+{
+    let Some(mut group) = groups.pop() else {
+        return Ok(());
+    };
+    let mut kids = Vec::new(alloc);
+    if let Some(tree) = group.take_last() {
+        kids.push(tree)?;
+    }
+    groups.push(group)?;
+    groups.push(Group::begun(alloc, place, kids))
+}
+
+/// The kids of the innermost tree under way are those of the tree round it.
+fn lift(groups: &mut Pile<Group>) -> Result<(), AllocError>
+    ensures { OnOk result (groups.new ≡ engine.lift groups.old) }
+{
+    let Some(group) = groups.pop() else {
+        return Ok(());
+    };
+    let Some(mut outer) = groups.pop() else {
+        return Ok(());
+    };
+    outer.add_all(group.into_kids())?;
+    groups.push(outer)
+}

@@ -1,0 +1,98 @@
+//! The whole run: tokens are read from a place on, up to the first that is not used.
+
+ghost use Rattle.std.specs.Prelude.{◌≡◌, Some, drop, slice_get, IfOk};
+ghost use Rattle.hare_tree.specs.Grammar.{joined};
+ghost use Rattle.hare_parse.specs.Limits as bounds;
+ghost use Rattle.hare_parse.specs.Seen.{waited};
+ghost use Rattle.hare_parse.specs.Runs as spec;
+
+use crate::bounds::keeps_bounds;
+use crate::class::class_of;
+use crate::group::Group;
+use crate::pile::Pile;
+use crate::row::Wait;
+use crate::step::{Answer, step};
+use crate::strings::{Strings, is_plain_string, place_behind, strings_at};
+use hare_grammar::Class;
+use hare_tree::{Token, Tokens};
+use std::alloc::{AllocError, Global};
+
+/// What came of the token at a place of the list, and the place of the next.
+#[derive(Clone, Copy)]
+pub struct Read {
+    answer: Answer,
+    next: usize,
+}
+
+/// What came of the tokens.
+#[derive(Clone, Copy, Debug, PartialEq, Eq)]
+pub enum Reached {
+    /// All is read. The number is the place in the list of the token that was not used.
+    End(usize),
+    /// The token at this place of the list cannot stand there, or the tokens are used up.
+    Stuck(usize),
+    /// Behind the token at this place of the list the trees under way pass a bound.
+    Deep(usize),
+}
+
+/// Reads the tokens of the file from a place of the list on.
+#[tactic(auto, unfolding(crate::specs::Limits::run_within))]
+pub fn run(
+    alloc: Global,
+    file: u32,
+    tokens: &Tokens,
+    from: usize,
+    stack: &mut Pile<Wait>,
+    groups: &mut Pile<Group>,
+) -> Result<Reached, AllocError>
+    ensures value { IfOk result (λ r. spec.Comes (bounds.run_within file (joined (drop from tokens.now)) (waited stack.old) groups.old) r tokens.now groups.new) }
+    ensures place { IfOk result (λ r. spec.IsPlace tokens.now from (spec.place_in r)) }
+{
+    let mut at = from;
+    while let Some(token) = tokens.get(at) {
+        let read = read_at(alloc, file, tokens, at, token, stack, groups)?;
+        match read.answer {
+            Answer::Goes => {
+                if !keeps_bounds(groups)? {
+                    return Ok(Reached::Deep(at));
+                }
+                at = read.next;
+            }
+            Answer::Ends => return Ok(Reached::End(at)),
+            Answer::Stuck => return Ok(Reached::Stuck(at)),
+        }
+    }
+    Ok(Reached::Stuck(at))
+}
+
+/// Reads the token at a place of the list, where strings side by side are one.
+fn read_at(
+    alloc: Global,
+    file: u32,
+    tokens: &Tokens,
+    at: usize,
+    token: &Token,
+    stack: &mut Pile<Wait>,
+    groups: &mut Pile<Group>,
+) -> Result<Read, AllocError>
+    requires { Some token.now ≡ slice_get tokens.now at }
+    ensures { IfOk result (λ r. spec.Reads file tokens.now at (waited stack.old) groups.old r (waited stack.new) groups.new) }
+{
+    if !is_plain_string(token) {
+        let answer = step(alloc, file, token, class_of(token), stack, groups)?;
+        return Ok(Read {
+            answer,
+            next: place_behind(tokens, at),
+        });
+    }
+    match strings_at(alloc, tokens, at, token)? {
+        Strings::One(joined, next) => {
+            let answer = step(alloc, file, &joined, class_of(&joined), stack, groups)?;
+            Ok(Read { answer, next })
+        }
+        Strings::Junk => {
+            let answer = step(alloc, file, token, Class::Junk, stack, groups)?;
+            Ok(Read { answer, next: at })
+        }
+    }
+}

@@ -1,0 +1,63 @@
+//! What comes of one token.
+
+ghost use Rattle.std.specs.Prelude.{◌≡◌, IfOk};
+ghost use Rattle.hare_grammar.specs.Engine as engine;
+ghost use Rattle.hare_parse.specs.Seen.{waited, has_room, Says};
+
+use crate::change::{all_changed, close};
+use crate::group::Group;
+use crate::pile::Pile;
+use crate::row::{Row, Wait, has_sign};
+use crate::rows::row;
+use crate::waits::{next_symbol, push_all};
+use hare_grammar::{Class, Symbol};
+use hare_tree::Token;
+use std::alloc::{AllocError, Global};
+
+/// What came of a token.
+#[derive(Clone, Copy, Debug, PartialEq, Eq)]
+pub enum Answer {
+    /// It is used.
+    Goes,
+    /// Nothing is waited for.
+    Ends,
+    /// It cannot stand here.
+    Stuck,
+}
+
+/// Reads one token of the file, of which the class is given: the trees under way that are whole in front of it are closed, and it is used by the
+/// first rule that has a place for it.
+#[tactic(auto, unfolding(hare_grammar::specs::Engine::step))]
+pub fn step(
+    alloc: Global,
+    file: u32,
+    token: &Token,
+    class: Class,
+    stack: &mut Pile<Wait>,
+    groups: &mut Pile<Group>,
+) -> Result<Answer, AllocError>
+    requires { has_room class }
+    ensures { IfOk result (λ a. Says (engine.step file token.now class (waited stack.old) groups.old) a (waited stack.new) groups.new) }
+{
+    while let Some(symbol) = next_symbol(stack)? {
+        match symbol {
+            Symbol::Close(kind) => close(alloc, kind, groups)?,
+            Symbol::Want(sign) => {
+                if has_sign(sign, class) {
+                    return Ok(Answer::Goes);
+                }
+                return Ok(Answer::Stuck);
+            }
+            Symbol::Part(rule) => match row(alloc, rule, class)? {
+                Row::Fault => return Ok(Answer::Stuck),
+                Row::Skips(changes) => all_changed(alloc, file, token, &changes, groups)?,
+                Row::Uses(changes, waits) => {
+                    all_changed(alloc, file, token, &changes, groups)?;
+                    push_all(stack, &waits)?;
+                    return Ok(Answer::Goes);
+                }
+            },
+        }
+    }
+    Ok(Answer::Ends)
+}
