@@ -8,7 +8,7 @@ use Rattle.hare_tree.specs.declared.tree.FileTree.{FileTree}
 use Rattle.hare_tree.specs.Node.{Node}
 use Rattle.hare_tree.specs.Spell.{word_token, sign_token, spell, spell_file}
 use Rattle.hare_tree.specs.Shape.{is_shaped, is_shaped_file}
-use Rattle.hare_tree.specs.Grammar.{is_plain_string, joined, unplaced, Spells, trees_of, files, IsViable, IsSyntaxFault}
+use Rattle.hare_tree.specs.Grammar.{is_plain_string, joined, unplaced, Spells, HasPlaces, trees_of, files, IsViable, IsSyntaxFault}
 use Rattle.hare_grammar.specs.declared.rule.Symbol.{Symbol}
 use Rattle.hare_grammar.specs.Classes.{class_of}
 use Rattle.hare_grammar.specs.Rows.{of}
@@ -18,8 +18,8 @@ use Rattle.hare_grammar.proofs.Kids.{closer}
 use Rattle.hare_grammar.proofs.OneTree.{read_whole}
 use Rattle.hare_grammar.proofs.Files.{read_file}
 use Rattle.hare_parsing.specs.Viable.{has_trees, BeginsTree, BeginsFile}
-use Rattle.hare_parsing.specs.Faults.{is_proper_string, strung_to, strung, ends_in_string, StandsAt, RunsFault, RunsReadFronts, RunsUseAll, FaultsEndRuns, FileRunsFault, FileRunsAreOver, FileRunsUseAll}
-use Rattle.hare_parsing.proofs.Readings.{runs_read_trees}
+use Rattle.hare_parsing.specs.Faults.{is_proper_string, strung_to, strung, ends_in_string, StandsAt, RunsFault, RunsReadFronts, RunsUseAll, FaultsEndRuns, FileRunsFault, FileRunsAreOver, FileRunsUseAll, WholeRunsJoin, FilesJoin, TreesJoin}
+use Rattle.hare_parsing.proofs.FrontPlaces.{reads_used}
 use Rattle.hare_parsing.proofs.Alike.{SameStep, same_step}
 use Rattle.hare_parsing.proofs.Viable.{StuckAt, stuck_at, EndsAt, ends_at, used_up, end, viable, not_viable, ends_whole}
 use Rattle.hare_parsing.proofs.Breaks.{twice, trees_sort, trees_end, file_viable, file_not_viable, nothing_more, is_the_end, whole_file}
@@ -148,22 +148,22 @@ runs_end s c file ts n t rest made e q =
       ends = tree_none s ts n t rest p.u d o b (λ z i. ends_whole s file (p.u ++ z ∷ []) z [] d (ends_like file (strung ts) (of s ∷ []) bottom t z rest p i));
     }
 
--- tokens of a tree that are a front's joined tokens spell the front
-spells_front : (spelled front : List Token) → loose false spelled ≡ true → map unplaced spelled ≡ map unplaced (strung front) → Spells spelled front
-spells_front spelled front l e =
-    let a : loose false (strung front) ≡ true = sym (loose_unplaced false (strung front)) ∙ ap (loose false) (sym e) ∙ loose_unplaced false spelled ∙ l in
-    e ∙ ap (map unplaced) (sym (clean_strung front (loose_clean false (strung front) a)))
+-- a front whose joined tokens are those of a tree has all its strings joined
+front_joined : (spelled front : List Token) → loose false spelled ≡ true → map unplaced spelled ≡ map unplaced (strung front) → joined front ≡ strung front
+front_joined spelled front l e =
+    clean_strung front (loose_clean false (strung front) (sym (loose_unplaced false (strung front)) ∙ ap (loose false) (sym e) ∙ loose_unplaced false spelled ∙ l))
 
 pub runs_read_fronts : RunsReadFronts
 runs_read_fronts s c file ts n t rest made e q =
-    let r = runs_read_trees s file (strung ts) (t ∷ rest) made e in
+    let r = reads_used s file (strung ts) t rest made (trees_end s c) e in
     let b = before_spot ts n t rest r.used (spot ts n t rest q) r.split in
     let i : map unplaced (spell 0 r.tree) ≡ map unplaced (strung (take n ts)) = ap (map unplaced) r.spelled ∙ twice r.used ∙ ap (map unplaced) b in
+    let j = front_joined (spell 0 r.tree) (take n ts) (tree_loose s r.tree (trees_sort s c) r.shaped) i in
     record {
       tree = r.tree;
       shaped = r.shaped;
-      spelled = spells_front (spell 0 r.tree) (take n ts) (tree_loose s r.tree (trees_sort s c) r.shaped) i;
-      placed = r.placed;
+      spelled = i ∙ ap (map unplaced) (sym j);
+      placed = subst (λ l. HasPlaces file l 0 r.tree) (b ∙ sym j) r.placed;
       is_made = r.is_made;
       ends = runs_end s c file ts n t rest made e q;
     }
@@ -269,3 +269,22 @@ file_runs_are_over file ts n t rest made e q =
 
 pub file_runs_use_all : FileRunsUseAll
 file_runs_use_all file ts e = file_front_viable ts (file_viable file (strung ts) (used_up file (strung ts) file_symbols bottom refl e))
+
+-- ---- where all strings are joined
+
+spelled_joined : (spelled ts : List Token) → loose false spelled ≡ true → Spells spelled ts → strung ts ≡ joined ts
+spelled_joined spelled ts l e =
+    sym (joined_clean ts (loose_clean false (joined ts) (sym (loose_unplaced false (joined ts)) ∙ ap (loose false) (sym e) ∙ loose_unplaced false spelled ∙ l)))
+
+pub files_join : FilesJoin
+files_join ts tree h e = spelled_joined (spell_file tree) ts (file_loose tree h) e
+
+pub trees_join : TreesJoin
+trees_join s c ts tree h e = spelled_joined (spell 0 tree) ts (tree_loose s tree (trees_sort s c) h) e
+
+pub whole_runs_join : WholeRunsJoin
+whole_runs_join file ts t made e i =
+    let q = run_apart file (strung ts) (t ∷ []) false file_symbols bottom made refl (λ x. cc) e in
+    let n : is_plain_string t ≡ false = ap is_plain_string i in
+    let l : loose false (strung ts) ≡ true = ap (loose false) q.is ∙ loose_behind false q.used t n (apart_loose false false q.used (λ x. x) q.apart) in
+    sym (clean_strung ts (loose_clean false (strung ts) l))

@@ -33,6 +33,8 @@ pub mod Whole
 pub mod Used
 pub mod Apart
 pub mod UsedApart
+pub mod Blind
+pub mod FrontPlaces
 pub mod Strung
 pub mod Places
 pub mod Faults
