@@ -82,7 +82,7 @@ at_blind a c cs ds ss g = by (has_sign a c)
     by false = g
 
 -- the row is not over before it uses a token
-abbrev row_sure : Row → Bool
+abbrev pub row_sure : Row → Bool
 row_sure Fault = true
 row_sure (Skips cs) = false
 row_sure (Uses cs ss) = true
@@ -92,12 +92,12 @@ sure_blind Fault e = refl
 sure_blind (Skips cs) e = cc
 sure_blind (Uses cs ss) e = refl
 
-before_sure : (r : Row) (ss : List Symbol) → row_sure r ≡ true → row_sure (before r ss) ≡ true
+pub before_sure : (r : Row) (ss : List Symbol) → row_sure r ≡ true → row_sure (before r ss) ≡ true
 before_sure Fault ss a = refl
 before_sure (Skips cs) ss a = cc
 before_sure (Uses cs rs) ss a = refl
 
-led_sure : (ds : List Change) (r : Row) → row_sure r ≡ true → row_sure (led_by ds r) ≡ true
+pub led_sure : (ds : List Change) (r : Row) → row_sure r ≡ true → row_sure (led_by ds r) ≡ true
 led_sure ds Fault a = refl
 led_sure ds (Skips cs) a = cc
 led_sure ds (Uses cs rs) a = refl
@@ -110,7 +110,7 @@ bare_sure (cl.Sign si.Size) = refl
 bare_sure (cl.Sign _) = refl
 bare_sure _ = refl
 
-type_sure : (c : Class) → row_sure (type_row c) ≡ true
+pub type_sure : (c : Class) → row_sure (type_row c) ≡ true
 type_sure (cl.Sign si.Bang) = refl
 type_sure c = bare_sure c
 
@@ -118,7 +118,7 @@ member_sure : (c : Class) → row_sure (member_row c) ≡ true
 member_sure (cl.Sign si.Dots) = refl
 member_sure c = type_sure c
 
-length_sure : (c : Class) → row_sure (length_row c) ≡ true
+pub length_sure : (c : Class) → row_sure (length_row c) ≡ true
 length_sure cl.Number = refl
 length_sure _ = refl
 
@@ -130,7 +130,7 @@ start_sure (cl.Sign si.Minus) = refl
 start_sure (cl.Sign _) = refl
 start_sure _ = refl
 
-level_sure : (l : ℕ) (c : Class) → row_sure (level_row l c) ≡ true
+pub level_sure : (l : ℕ) (c : Class) → row_sure (level_row l c) ≡ true
 level_sure l c = by (nat_le l (start_level c))
   where
     by : (z : Bool) → row_sure (if z then before (start_row c) (part (ru.Climb l (start_level c)) ∷ []) else Fault) ≡ true
@@ -172,12 +172,12 @@ climb_blind l h _ = refl
 
 -- ---- sorts
 
-word_sure : (c : Class) → row_sure (decl_word_row c) ≡ true
+pub word_sure : (c : Class) → row_sure (decl_word_row c) ≡ true
 word_sure (cl.Sign si.Def) = refl
 word_sure (cl.Sign _) = refl
 word_sure _ = refl
 
-of_sure : (s : Sort) (c : Class) → row_sure (of_row s c) ≡ true
+pub of_sure : (s : Sort) (c : Class) → row_sure (of_row s c) ≡ true
 of_sure so.Type c = type_sure c
 of_sure so.BareType c = bare_sure c
 of_sure so.Member c = member_sure c

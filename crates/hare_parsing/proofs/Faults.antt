@@ -1,6 +1,6 @@
 -- The first syntax fault at the tokens of the file themselves.
 use Rattle.std.proofs.Common.{◌≡◌, ℕ, suc, ◌<◌, List, [], ◌∷◌, ◌++◌, Bool, true, false, ◌&&◌, map, take, length, refl, ap, sym, ◌∙◌, subst, arith, append_assoc}
-use Rattle.std.proofs.lemmas.List.{append_cancel_right}
+use Rattle.std.proofs.lemmas.List.{append_cancel_right, map-append}
 use Rattle.hare_tree.specs.declared.token.TokenKind.TheVariants as tk
 use Rattle.hare_tree.specs.declared.token.Token.{Token}
 use Rattle.hare_tree.specs.declared.form.Sort.{Sort}
@@ -12,19 +12,20 @@ use Rattle.hare_tree.specs.Grammar.{is_plain_string, joined, unplaced, Spells, H
 use Rattle.hare_grammar.specs.declared.rule.Symbol.{Symbol}
 use Rattle.hare_grammar.specs.Classes.{class_of}
 use Rattle.hare_grammar.specs.Rows.{of}
-use Rattle.hare_grammar.specs.Engine.{Group, Step, Goes, Ends, Stuck, step, Done, run, bottom}
+use Rattle.hare_grammar.specs.Engine.{Group, Step, Goes, Ends, Stuck, step, Outcome, Done, Fails, after, run, bottom}
 use Rattle.hare_grammar.specs.OneTree.{is_sort, file_symbols}
 use Rattle.hare_grammar.proofs.Kids.{closer}
 use Rattle.hare_grammar.proofs.OneTree.{read_whole}
 use Rattle.hare_grammar.proofs.Files.{read_file}
 use Rattle.hare_parsing.specs.Viable.{has_trees, BeginsTree, BeginsFile}
-use Rattle.hare_parsing.specs.Faults.{is_proper_string, strung_to, strung, ends_in_string, StandsAt, RunsFault, RunsReadFronts, RunsUseAll, FaultsEndRuns, FileRunsFault, FileRunsAreOver, FileRunsUseAll, WholeRunsJoin, FilesJoin, TreesJoin}
+use Rattle.hare_parsing.specs.Faults.{is_proper_string, strung_to, strung, ends_in_string, StandsAt, RunsFault, RunsFaultInTrees, RunsReadFronts, RunsUseAll, FaultsEndRuns, FileRunsFault, FileRunsAreOver, FileRunsUseAll, WholeRunsJoin, FilesJoin, TreesJoin}
 use Rattle.hare_parsing.proofs.FrontPlaces.{reads_used}
-use Rattle.hare_parsing.proofs.Alike.{SameStep, same_step}
-use Rattle.hare_parsing.proofs.Viable.{StuckAt, stuck_at, EndsAt, ends_at, used_up, end, viable, not_viable, ends_whole}
+use Rattle.hare_parsing.proofs.Alike.{SameStep, same_step, classes, Alike, alike}
+use Rattle.hare_parsing.proofs.Viable.{StuckAt, stuck_at, EndsAt, ends_at, used_up, end, viable, not_viable, ends_whole, same_classes}
 use Rattle.hare_parsing.proofs.Breaks.{twice, trees_sort, trees_end, file_viable, file_not_viable, nothing_more, is_the_end, whole_file}
 use Rattle.hare_parsing.proofs.Moved.{spell_moved}
 use Rattle.hare_parsing.proofs.UsedApart.{run_apart}
+use Rattle.hare_parsing.proofs.Steady.{end_not_stuck}
 use Rattle.hare_parsing.proofs.Strung.{Head, head, strung_append, strung_front, clean, joined_clean, clean_strung, loose, loose_unplaced, loose_clean, loose_strung, proper_class, apart_loose}
 use Rattle.hare_parsing.proofs.Places.{cut, Spot, spot}
 
@@ -167,6 +168,38 @@ runs_read_fronts s c file ts n t rest made e q =
       is_made = r.is_made;
       ends = runs_end s c file ts n t rest made e q;
     }
+
+-- a run over one token that is done is over there
+over_there : (f : ℕ) (d : Token) (st : List Symbol) (gs : List Group) (v : List Token) (made : List Group) → run f (d ∷ []) st gs ≡ Done v made → step f d (class_of d) st gs ≡ Ends made
+unfolding run
+over_there f d st gs v made e = by (step f d (class_of d) st gs) refl e
+  where
+    by : (z : Step) → step f d (class_of d) st gs ≡ z → after z d [] (λ st' gs'. run f [] st' gs') ≡ Done v made → step f d (class_of d) st gs ≡ Ends made
+    by (Goes st' gs') i k = cc
+    by (Ends gs') i k = let x : gs' ≡ made = cc in i ∙ ap Ends x
+    by Stuck i k = cc
+
+like_done : (o y : Outcome) (v : List Token) (made : List Group) → y ≡ Done v made → Alike o y → (w : List Token) × (hs : List Group) × (o ≡ Done w hs)
+like_done (Done w hs) y v made e a = (w, hs, refl)
+like_done (Fails w) y v made e a = let b : Alike (Fails w) (Done v made) = subst (λ k. Alike (Fails w) k) e a in absurd b
+
+-- where the run is stuck, the tokens that it has used are those of no tree
+pub stuck_in_tree : (s : Sort) (f : ℕ) (w : List Token) (t : Token) (v : List Token) (tree : Node) → is_sort s ≡ true → is_shaped s tree ≡ true → (p : StuckAt f w (of s ∷ []) bottom t v) → spell 0 tree ≡ map unplaced p.u → ⊥
+stuck_in_tree s f w t v tree c h p e =
+    let d = sign_token 0 (closer s) in
+    let k : classes (p.u ++ d ∷ []) ≡ classes (spell 0 tree ++ d ∷ []) = map-append class_of p.u (d ∷ []) ∙ ap (λ l. l ++ class_of d ∷ []) (sym (same_classes p.u) ∙ ap classes (sym e)) ∙ sym (map-append class_of (spell 0 tree) (d ∷ [])) in
+    let x = like_done _ _ _ _ (read_whole 0 s tree c h) (alike f 0 (p.u ++ d ∷ []) (spell 0 tree ++ d ∷ []) (of s ∷ []) bottom bottom k) in
+    let o = over_there f d p.stop.rest p.stop.trees x.0 x.1 (sym (p.stop.same (d ∷ [])) ∙ x.2) in
+    end_not_stuck f d t (class_of d) (class_of t) p.stop.rest p.stop.trees p.stop.trees x.1 o p.stuck
+
+pub runs_fault_in_trees : RunsFaultInTrees
+runs_fault_in_trees s c file ts n t rest e q tree h i =
+    let p = stuck_at file (strung ts) (of s ∷ []) bottom t rest (trees_end s c) e in
+    let b = before_spot ts n t rest p.u (spot ts n t rest q) p.is in
+    let d = trees_sort s c in
+    let l = tree_loose s tree d h in
+    let j : joined (take n ts) ≡ strung (take n ts) = joined_clean (take n ts) (loose_clean false (joined (take n ts)) (sym (loose_unplaced false (joined (take n ts))) ∙ ap (loose false) (sym i) ∙ loose_unplaced false (spell 0 tree) ∙ l)) in
+    stuck_in_tree s file (strung ts) t rest tree d h p (sym (spell_moved 0 tree) ∙ i ∙ ap (map unplaced) (j ∙ sym b))
 
 pub runs_use_all : RunsUseAll
 runs_use_all s c file ts e = tree_viable s ts (trees_sort s c) (viable s file (strung ts) (used_up file (strung ts) (of s ∷ []) bottom (trees_end s c) e))

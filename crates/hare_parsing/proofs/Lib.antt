@@ -34,6 +34,7 @@ pub mod Used
 pub mod Apart
 pub mod UsedApart
 pub mod Blind
+pub mod Steady
 pub mod FrontPlaces
 pub mod Strung
 pub mod Places

@@ -76,6 +76,11 @@ abbrev pub RunsFault : Type 0
 RunsFault =
     (s : Sort) → has_trees s ≡ true → (file : ℕ) (ts : List Token) (n : ℕ) (t : Token) (rest : List Token) → run file (strung ts) (of s ∷ []) bottom ≡ Fails (t ∷ rest) → StandsAt ts n (t ∷ rest) → IsSyntaxFault (trees_of s) ts n
 
+-- and the tokens before it are those of no tree
+abbrev pub RunsFaultInTrees : Type 0
+RunsFaultInTrees =
+    (s : Sort) → has_trees s ≡ true → (file : ℕ) (ts : List Token) (n : ℕ) (t : Token) (rest : List Token) → run file (strung ts) (of s ∷ []) bottom ≡ Fails (t ∷ rest) → StandsAt ts n (t ∷ rest) → (tree : Node) → is_shaped s tree ≡ true → Spells (spell 0 tree) (take n ts) → ⊥
+
 -- a shaped tree of the sort spells the first `n` tokens of the file and has their places, and with the next they begin none
 pub record ReadsFront (s : Sort) (file : ℕ) (ts : List Token) (n : ℕ) (made : List Group) : Type 0 where
   pub tree : Node

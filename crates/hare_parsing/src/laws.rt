@@ -3,7 +3,7 @@
 ghost use Rattle.hare_parsing.specs.Reading.{RunsReadTrees, RunsReadFiles};
 ghost use Rattle.hare_parsing.specs.Viable.{RunsBreak, RunsAreLongest, RunsGoOn, FileRunsBreak, FileRunsEnd, FileRunsGoOn};
 ghost use Rattle.hare_parsing.specs.Used.{RunsUseTokens};
-ghost use Rattle.hare_parsing.specs.Faults.{ProperStringsJoin, AllStand, PlacesStand, RunsFault, RunsReadFronts, RunsUseAll, FaultsEndRuns, FileRunsFault, FileRunsAreOver, FileRunsUseAll, WholeRunsJoin, FilesJoin, TreesJoin};
+ghost use Rattle.hare_parsing.specs.Faults.{ProperStringsJoin, AllStand, PlacesStand, RunsFault, RunsFaultInTrees, RunsReadFronts, RunsUseAll, FaultsEndRuns, FileRunsFault, FileRunsAreOver, FileRunsUseAll, WholeRunsJoin, FilesJoin, TreesJoin};
 ghost use Rattle.hare_parsing.specs.Whole.{WholeRunsMakeFiles, FilesHaveWholeRuns};
 
 /// Where the machine is done with a tree, the tree is shaped, of the sort that was asked for, and spelled by the tokens that were used, whose
@@ -61,10 +61,12 @@ pub fn law_joined_tokens()
 {}
 
 /// Where the run over the tokens of a file stops at a token, be it stuck there or done with a tree, the first syntax fault of the file's own
-/// tokens is where this token stands, and the tokens before it are the longest front that begins a tree of the sort.
-#[tactic(auto, using(crate::proofs::Faults::runs_fault, crate::proofs::Faults::runs_read_fronts, crate::proofs::Faults::runs_use_all, crate::proofs::Faults::faults_end_runs))]
+/// tokens is where this token stands, and the tokens before it are the longest front that begins a tree of the sort. They are a tree's tokens
+/// exactly where the run is done, which has then made this tree.
+#[tactic(auto, using(crate::proofs::Faults::runs_fault, crate::proofs::Faults::runs_fault_in_trees, crate::proofs::Faults::runs_read_fronts, crate::proofs::Faults::runs_use_all, crate::proofs::Faults::faults_end_runs))]
 pub fn law_syntax_fault()
     ensures fails { RunsFault }
+    ensures no_tree { RunsFaultInTrees }
     ensures reads { RunsReadFronts }
     ensures goes_on { RunsUseAll }
     ensures longest { FaultsEndRuns }
