@@ -1,5 +1,5 @@
 -- The first syntax fault at the tokens of the file themselves.
-use Rattle.std.proofs.Common.{◌≡◌, ℕ, suc, ◌<◌, List, [], ◌∷◌, ◌++◌, Bool, true, false, ◌&&◌, map, take, length, refl, ap, sym, ◌∙◌, subst, arith, append_assoc}
+use Rattle.std.proofs.Common.{◌≡◌, ℕ, suc, List, [], ◌∷◌, ◌++◌, Bool, true, false, ◌&&◌, map, take, refl, ap, sym, ◌∙◌, subst, arith, append_assoc}
 use Rattle.std.proofs.lemmas.List.{append_cancel_right, map-append}
 use Rattle.hare_tree.specs.declared.token.TokenKind.TheVariants as tk
 use Rattle.hare_tree.specs.declared.token.Token.{Token}
@@ -8,7 +8,7 @@ use Rattle.hare_tree.specs.declared.tree.FileTree.{FileTree}
 use Rattle.hare_tree.specs.Node.{Node}
 use Rattle.hare_tree.specs.Spell.{word_token, sign_token, spell, spell_file}
 use Rattle.hare_tree.specs.Shape.{is_shaped, is_shaped_file}
-use Rattle.hare_tree.specs.Grammar.{is_plain_string, joined, unplaced, Spells, HasPlaces, trees_of, files, IsViable, IsSyntaxFault}
+use Rattle.hare_tree.specs.Grammar.{is_plain_string, joined, unplaced, Spells, HasPlaces, trees_of, IsViable, IsSyntaxFault}
 use Rattle.hare_grammar.specs.declared.rule.Symbol.{Symbol}
 use Rattle.hare_grammar.specs.Classes.{class_of}
 use Rattle.hare_grammar.specs.Rows.{of}
@@ -17,17 +17,18 @@ use Rattle.hare_grammar.specs.OneTree.{is_sort, file_symbols}
 use Rattle.hare_grammar.proofs.Kids.{closer}
 use Rattle.hare_grammar.proofs.OneTree.{read_whole}
 use Rattle.hare_grammar.proofs.Files.{read_file}
-use Rattle.hare_parsing.specs.Viable.{has_trees, BeginsTree, BeginsFile}
-use Rattle.hare_parsing.specs.Faults.{is_proper_string, strung_to, strung, ends_in_string, StandsAt, RunsFault, RunsFaultInTrees, RunsReadFronts, RunsUseAll, FaultsEndRuns, FileRunsFault, FileRunsAreOver, FileRunsUseAll, WholeRunsJoin, FilesJoin, TreesJoin}
+use Rattle.hare_parsing.specs.Viable.{has_trees, BeginsTree}
+use Rattle.hare_parsing.specs.Faults.{is_proper_string, strung, ends_in_string, StandsAt, RunsFault, RunsFaultInTrees, RunsReadFronts, RunsUseAll, FaultsEndRuns}
 use Rattle.hare_parsing.proofs.FrontPlaces.{reads_used}
 use Rattle.hare_parsing.proofs.Alike.{SameStep, same_step, classes, Alike, alike}
-use Rattle.hare_parsing.proofs.Viable.{StuckAt, stuck_at, EndsAt, ends_at, used_up, end, viable, not_viable, ends_whole, same_classes}
-use Rattle.hare_parsing.proofs.Breaks.{twice, trees_sort, trees_end, file_viable, file_not_viable, nothing_more, is_the_end, whole_file}
+use Rattle.hare_parsing.proofs.Viable.{StuckAt, stuck_at, EndsAt, ends_at, used_up, viable, not_viable, ends_whole, same_classes}
+use Rattle.hare_parsing.proofs.Breaks.{twice, trees_sort, trees_end}
 use Rattle.hare_parsing.proofs.Moved.{spell_moved}
 use Rattle.hare_parsing.proofs.UsedApart.{run_apart}
 use Rattle.hare_parsing.proofs.Steady.{end_not_stuck}
-use Rattle.hare_parsing.proofs.Strung.{Head, head, strung_append, strung_front, clean, joined_clean, clean_strung, loose, loose_unplaced, loose_clean, loose_strung, proper_class, apart_loose}
-use Rattle.hare_parsing.proofs.Places.{cut, Spot, spot}
+use Rattle.hare_parsing.proofs.Strung.{Head, head, strung_append, strung_front, clean, joined_clean, clean_strung}
+use Rattle.hare_parsing.proofs.Loose.{loose, loose_unplaced, loose_clean, loose_strung, proper_class, apart_loose}
+use Rattle.hare_parsing.proofs.Places.{Spot, spot}
 
 -- ---- in the tokens of a tree no strings stand side by side
 
@@ -39,7 +40,7 @@ tree_loose s t c h =
     ap (loose false) (sym e) ∙ apart_loose false false q.used (λ x. x) q.apart
 
 -- behind tokens in which none stand side by side, one that is no string
-loose_behind : (b : Bool) (u : List Token) (t : Token) → is_plain_string t ≡ false → loose b u ≡ true → loose b (u ++ t ∷ []) ≡ true
+pub loose_behind : (b : Bool) (u : List Token) (t : Token) → is_plain_string t ≡ false → loose b u ≡ true → loose b (u ++ t ∷ []) ≡ true
 loose_behind b [] t n e = rw n refl
 loose_behind b (y ∷ u) t n e = tail _ (loose (is_plain_string y) u) (loose (is_plain_string y) (u ++ t ∷ [])) e (λ x. loose_behind (is_plain_string y) u t n x)
   where
@@ -74,7 +75,7 @@ comes_back spelled front first behind l p e =
     e ∙ ap (map unplaced) (j ∙ k)
 
 -- joined tokens that stand at one token have one class
-same_class : (first : Token) (u v : List Token) (h : Head first u) (k : Head first v) → class_of h.first ≡ class_of k.first
+pub same_class : (first : Token) (u v : List Token) (h : Head first u) (k : Head first v) → class_of h.first ≡ class_of k.first
 same_class first u v h k = by (is_proper_string first) refl
   where
     by : (p : Bool) → is_proper_string first ≡ p → class_of h.first ≡ class_of k.first
@@ -83,23 +84,23 @@ same_class first u v h k = by (is_proper_string first) refl
 
 -- ---- where one token of a class stops the run, each does
 
-same_stuck : (z y : Step) → SameStep z y → y ≡ Stuck → z ≡ Stuck
+pub same_stuck : (z y : Step) → SameStep z y → y ≡ Stuck → z ≡ Stuck
 same_stuck Stuck y i e = refl
 same_stuck (Goes st gs) y i e = let x : SameStep (Goes st gs) Stuck = subst (λ k. SameStep (Goes st gs) k) e i in absurd x
 same_stuck (Ends gs) y i e = let x : SameStep (Ends gs) Stuck = subst (λ k. SameStep (Ends gs) k) e i in absurd x
 
-same_ends : (z y : Step) (made : List Group) → SameStep z y → y ≡ Ends made → (gs : List Group) × (z ≡ Ends gs)
+pub same_ends : (z y : Step) (made : List Group) → SameStep z y → y ≡ Ends made → (gs : List Group) × (z ≡ Ends gs)
 same_ends Stuck y made i e = let x : SameStep Stuck (Ends made) = subst (λ k. SameStep Stuck k) e i in absurd x
 same_ends (Goes st gs) y made i e = let x : SameStep (Goes st gs) (Ends made) = subst (λ k. SameStep (Goes st gs) k) e i in absurd x
 same_ends (Ends gs) y made i e = (gs, refl)
 
-same_at : (f : ℕ) (t t' : Token) (st : List Symbol) (gs : List Group) → class_of t' ≡ class_of t → SameStep (step f t' (class_of t') st gs) (step f t (class_of t) st gs)
+pub same_at : (f : ℕ) (t t' : Token) (st : List Symbol) (gs : List Group) → class_of t' ≡ class_of t → SameStep (step f t' (class_of t') st gs) (step f t (class_of t) st gs)
 same_at f t t' st gs e = subst (λ c. SameStep (step f t' c st gs) (step f t (class_of t) st gs)) (sym e) (same_step f f t' t (class_of t) st gs gs)
 
-abbrev stuck_like : (f : ℕ) (w : List Token) (st : List Symbol) (gs : List Group) (t t' : Token) (v : List Token) (p : StuckAt f w st gs t v) → class_of t' ≡ class_of t → StuckAt f (p.u ++ t' ∷ []) st gs t' []
+abbrev pub stuck_like : (f : ℕ) (w : List Token) (st : List Symbol) (gs : List Group) (t t' : Token) (v : List Token) (p : StuckAt f w st gs t v) → class_of t' ≡ class_of t → StuckAt f (p.u ++ t' ∷ []) st gs t' []
 stuck_like f w st gs t t' v p e = record { u = p.u; is = refl; stop = p.stop; stuck = same_stuck _ _ (same_at f t t' p.stop.rest p.stop.trees e) p.stuck }
 
-abbrev ends_like : (f : ℕ) (w : List Token) (st : List Symbol) (gs : List Group) (t t' : Token) (v : List Token) (p : EndsAt f w st gs t v) → class_of t' ≡ class_of t → EndsAt f (p.u ++ t' ∷ []) st gs t' []
+abbrev pub ends_like : (f : ℕ) (w : List Token) (st : List Symbol) (gs : List Group) (t t' : Token) (v : List Token) (p : EndsAt f w st gs t v) → class_of t' ≡ class_of t → EndsAt f (p.u ++ t' ∷ []) st gs t' []
 ends_like f w st gs t t' v p e = let x = same_ends _ _ p.made (same_at f t t' p.stop.rest p.stop.trees e) p.over in record { u = p.u; is = refl; stop = p.stop; made = x.0; over = x.1 }
 
 -- ---- sorts
@@ -122,7 +123,7 @@ tree_none s ts n t rest u c p e k v =
     k h.first (same_class x g.behind p.cut.behind h p.head ∙ ap class_of (sym p.is)) (subst (λ l. BeginsTree s (l ++ h.first ∷ [])) (sym e) b)
 
 -- the tokens before a place at which the joined tokens are split
-before_spot : (ts : List Token) (n : ℕ) (t : Token) (rest u : List Token) → Spot ts n t rest → strung ts ≡ u ++ t ∷ rest → u ≡ strung (take n ts)
+pub before_spot : (ts : List Token) (n : ℕ) (t : Token) (rest u : List Token) → Spot ts n t rest → strung ts ≡ u ++ t ∷ rest → u ≡ strung (take n ts)
 before_spot ts n t rest u p e = append_cancel_right u (strung (take n ts)) (t ∷ rest) (sym e ∙ p.whole)
 
 pub runs_fault : RunsFault
@@ -206,118 +207,3 @@ runs_use_all s c file ts e = tree_viable s ts (trees_sort s c) (viable s file (s
 
 pub faults_end_runs : FaultsEndRuns
 faults_end_runs s ts n f = record { within = omega (arith, f.within); viable = f.before; longest = λ x v. f.ends v }
-
--- ---- files
-
-file_front_viable : (front : List Token) → BeginsFile (strung front) → IsViable files front
-file_front_viable front q =
-    (q.tree, record { shaped = q.shaped; behind = q.behind; spelled = goes_back (spell_file q.tree) front q.behind (file_loose q.tree q.shaped) q.spelled })
-
--- the joined tokens with which a file begins that goes on with a front of the file's tokens
-abbrev file_back : (front : List Token) (first : Token) (behind : List Token) (tree : FileTree) → is_shaped_file tree ≡ true → (ends_in_string front && is_proper_string first) ≡ false → Spells (spell_file tree) ((front ++ first ∷ []) ++ behind) → BeginsFile (strung front ++ (head first behind).first ∷ [])
-file_back front first behind tree h p i =
-    record { tree = tree; behind = (head first behind).rest; shaped = h; spelled = comes_back (spell_file tree) front first behind (file_loose tree h) p i }
-
-file_none : (ts : List Token) (n : ℕ) (t : Token) (rest u : List Token) → (p : Spot ts n t rest) → u ≡ strung (take n ts) → ((z : Token) → class_of z ≡ class_of t → is_proper_string z ≡ is_proper_string p.cut.first → (is_proper_string p.cut.first ≡ false → z ≡ p.cut.first) → BeginsFile (u ++ z ∷ []) → ⊥) → IsViable files (take (suc n) ts) → ⊥
-file_none ts n t rest u p e k v =
-    let g = v.1 in
-    let x = p.cut.first in
-    let h = head x g.behind in
-    let i : Spells (spell_file v.0) ((take n ts ++ x ∷ []) ++ g.behind) = subst (λ l. Spells (spell_file v.0) (l ++ g.behind)) p.cut.next g.spelled in
-    let b = file_back (take n ts) x g.behind v.0 g.shaped p.parted i in
-    k h.first (same_class x g.behind p.cut.behind h p.head ∙ ap class_of (sym p.is)) h.proper h.same (subst (λ l. BeginsFile (l ++ h.first ∷ [])) (sym e) b)
-
-pub file_runs_fault : FileRunsFault
-file_runs_fault file ts n t rest e q =
-    let p = stuck_at file (strung ts) file_symbols bottom t rest refl e in
-    let o = spot ts n t rest q in
-    let b = before_spot ts n t rest p.u o p.is in
-    record {
-      within = o.within;
-      before = file_front_viable (take n ts) (subst BeginsFile b (file_viable file p.u p.stop));
-      ends = file_none ts n t rest p.u o b (λ z i j l. file_not_viable file (p.u ++ z ∷ []) z [] (stuck_like file (strung ts) file_symbols bottom t z rest p i));
-    }
-
--- End is no string
-end_proper : (z : Token) → unplaced z ≡ end → is_proper_string z ≡ false
-end_proper z e = ap is_proper_string e
-
--- at a token that is not End no file goes on
-no_end_fault : (file : ℕ) (ts : List Token) (n : ℕ) (t : Token) (rest : List Token) (p : EndsAt file (strung ts) file_symbols bottom t rest) → (o : Spot ts n t rest) → p.u ≡ strung (take n ts) → (unplaced t ≡ end → ⊥) → IsSyntaxFault files ts n
-no_end_fault file ts n t rest p o b other =
-    record {
-      within = o.within;
-      before = file_front_viable (take n ts) (subst BeginsFile b (file_viable file p.u p.stop));
-      ends = file_none ts n t rest p.u o b (λ z i j l y. none z i j l y);
-    }
-  where
-    none : (z : Token) → class_of z ≡ class_of t → is_proper_string z ≡ is_proper_string o.cut.first → (is_proper_string o.cut.first ≡ false → z ≡ o.cut.first) → BeginsFile (p.u ++ z ∷ []) → ⊥
-    none z i j l y =
-        let x = is_the_end file (p.u ++ z ∷ []) z [] (ends_like file (strung ts) file_symbols bottom t z rest p i) y in
-        let d : is_proper_string o.cut.first ≡ false = sym j ∙ end_proper z x in
-        other (ap unplaced (o.is ∙ o.head.same d ∙ sym (l d)) ∙ x)
-
--- End stands by itself
-end_first : (ts : List Token) (n : ℕ) (t : Token) (rest : List Token) → (o : Spot ts n t rest) → unplaced t ≡ end → (t ≡ o.cut.first) × (is_proper_string o.cut.first ≡ false)
-end_first ts n t rest o e =
-    let d : is_proper_string o.cut.first ≡ false = sym o.head.proper ∙ ap is_proper_string (sym o.is) ∙ end_proper t e in
-    (o.is ∙ o.head.same d, d)
-
-end_viable : (file : ℕ) (ts : List Token) (n : ℕ) (t : Token) (rest : List Token) (made : List Group) (p : EndsAt file (strung ts) file_symbols bottom t rest) → (o : Spot ts n t rest) → p.u ≡ strung (take n ts) → run file (strung ts) file_symbols bottom ≡ Done (t ∷ rest) made → unplaced t ≡ end → IsViable files (take (suc n) ts)
-end_viable file ts n t rest made p o b e i =
-    let d = end_first ts n t rest o i in
-    let x = o.cut.first in
-    let w : strung (take (suc n) ts) ≡ p.u ++ t ∷ [] = ap strung o.cut.next ∙ strung_append (take n ts) (x ∷ []) o.parted ∙ ap (λ l. l ++ x ∷ []) (sym b) ∙ ap (λ y. p.u ++ y ∷ []) (sym d.0) in
-    file_front_viable (take (suc n) ts) (subst BeginsFile (sym w) (whole_file file (strung ts) t rest made p e i))
-
--- behind End nothing goes on
-behind_end : (file : ℕ) (ts : List Token) (n : ℕ) (t : Token) (rest : List Token) (p : EndsAt file (strung ts) file_symbols bottom t rest) → (o : Spot ts n t rest) → p.u ≡ strung (take n ts) → unplaced t ≡ end → suc n < length ts → IsViable files (take (suc (suc n)) ts) → ⊥
-behind_end file ts n t rest p o b i m v =
-    let g = v.1 in
-    let x = o.cut.first in
-    let c = cut ts (suc n) m in
-    let y = c.first in
-    let d = end_first ts n t rest o i in
-    let h = head x (y ∷ g.behind) in
-    let l : take (suc (suc n)) ts ++ g.behind ≡ (take n ts ++ x ∷ []) ++ y ∷ g.behind = ap (λ l. l ++ g.behind) (c.next ∙ ap (λ l. l ++ y ∷ []) o.cut.next) ∙ append_assoc (take n ts ++ x ∷ []) (y ∷ []) g.behind in
-    let q = file_back (take n ts) x (y ∷ g.behind) v.0 g.shaped o.parted (subst (λ l. Spells (spell_file v.0) l) l g.spelled) in
-    let k = ends_like file (strung ts) file_symbols bottom t h.first rest p (ap class_of (h.same d.1 ∙ sym d.0)) in
-    let r : BeginsFile (p.u ++ h.first ∷ []) = subst (λ l. BeginsFile (l ++ h.first ∷ [])) (sym b) q in
-    let z : h.rest ≡ [] = nothing_more file (p.u ++ h.first ∷ []) h.first [] k [] (record { tree = v.0; behind = h.rest; shaped = g.shaped; spelled = subst (λ l. map unplaced (spell_file v.0) ≡ map unplaced ((l ++ h.first ∷ []) ++ h.rest)) (sym b) q.spelled }) in
-    let s = head y g.behind in
-    let j : strung (x ∷ y ∷ g.behind) ≡ x ∷ s.first ∷ s.rest = ap (strung_to x) s.is ∙ rw d.1 refl in
-    let f : h.first ∷ [] ≡ x ∷ s.first ∷ s.rest = ap (λ l. h.first ∷ l) (sym z) ∙ sym h.is ∙ j in
-    cc
-
-pub file_runs_are_over : FileRunsAreOver
-file_runs_are_over file ts n t rest made e q =
-    let p = ends_at file (strung ts) file_symbols bottom t rest made refl e in
-    let o = spot ts n t rest q in
-    let b = before_spot ts n t rest p.u o p.is in
-    record {
-      no_end = λ x. no_end_fault file ts n t rest p o b x;
-      whole = λ i. end_viable file ts n t rest made p o b e i;
-      more = λ i m. record { within = m; before = end_viable file ts n t rest made p o b e i; ends = behind_end file ts n t rest p o b i m };
-    }
-
-pub file_runs_use_all : FileRunsUseAll
-file_runs_use_all file ts e = file_front_viable ts (file_viable file (strung ts) (used_up file (strung ts) file_symbols bottom refl e))
-
--- ---- where all strings are joined
-
-spelled_joined : (spelled ts : List Token) → loose false spelled ≡ true → Spells spelled ts → strung ts ≡ joined ts
-spelled_joined spelled ts l e =
-    sym (joined_clean ts (loose_clean false (joined ts) (sym (loose_unplaced false (joined ts)) ∙ ap (loose false) (sym e) ∙ loose_unplaced false spelled ∙ l)))
-
-pub files_join : FilesJoin
-files_join ts tree h e = spelled_joined (spell_file tree) ts (file_loose tree h) e
-
-pub trees_join : TreesJoin
-trees_join s c ts tree h e = spelled_joined (spell 0 tree) ts (tree_loose s tree (trees_sort s c) h) e
-
-pub whole_runs_join : WholeRunsJoin
-whole_runs_join file ts t made e i =
-    let q = run_apart file (strung ts) (t ∷ []) false file_symbols bottom made refl (λ x. cc) e in
-    let n : is_plain_string t ≡ false = ap is_plain_string i in
-    let l : loose false (strung ts) ≡ true = ap (loose false) q.is ∙ loose_behind false q.used t n (apart_loose false false q.used (λ x. x) q.apart) in
-    sym (clean_strung ts (loose_clean false (strung ts) l))

@@ -37,5 +37,7 @@ pub mod Blind
 pub mod Steady
 pub mod FrontPlaces
 pub mod Strung
+pub mod Loose
 pub mod Places
 pub mod Faults
+pub mod FileFaults

@@ -1,14 +1,12 @@
 -- A rule that may be over in front of one token faults at none: where a run is over at some token, it is stuck at no other.
-use Rattle.std.proofs.Common.{◌≡◌, ℕ, List, [], ◌∷◌, ◌++◌, Bool, true, false, ◌&&◌, not, refl, ap, sym, ◌∙◌, if◌then◌else◌}
+use Rattle.std.proofs.Common.{◌≡◌, ℕ, List, [], ◌∷◌, Bool, true, false, ◌&&◌, not, refl, if◌then◌else◌}
 use Rattle.std.specs.Prelude.{nat_le}
-use Rattle.std.specs.List.{list_all}
 use Rattle.hare_tree.specs.declared.kind.Kind.TheVariants as ki
 use Rattle.hare_tree.specs.declared.token.Token.{Token}
 use Rattle.hare_tree.specs.declared.form.Sign.{Sign}
 use Rattle.hare_tree.specs.declared.form.Sign.TheVariants as si
 use Rattle.hare_tree.specs.declared.form.Own.{Own}
 use Rattle.hare_tree.specs.declared.form.Own.TheVariants as ow
-use Rattle.hare_tree.specs.declared.form.Sort.{Sort}
 use Rattle.hare_tree.specs.declared.form.Sort.TheVariants as so
 use Rattle.hare_grammar.specs.declared.class.Class.{Class}
 use Rattle.hare_grammar.specs.declared.class.Class.TheVariants as cl
@@ -19,12 +17,11 @@ use Rattle.hare_grammar.specs.declared.rule.Symbol.TheVariants as sy
 use Rattle.hare_grammar.specs.declared.rule.Change.{Change}
 use Rattle.hare_grammar.specs.declared.rule.Change.TheVariants as ch
 use Rattle.hare_grammar.specs.Rows.{Row, Fault, Skips, Uses, of, part, before, led_by, or_skips, has_sign, at_sign, rest_of}
-use Rattle.hare_grammar.specs.TypeRows.{bare_row, type_row, member_row, length_row}
-use Rattle.hare_grammar.specs.ExpressionRows.{start_row, start_level, level_row, climbs, assigns, binary_at, behind_operand, climb_row}
+use Rattle.hare_grammar.specs.TypeRows.{type_row, length_row}
+use Rattle.hare_grammar.specs.ExpressionRows.{level_row, climbs, assigns, binary_at, behind_operand, climb_row}
 use Rattle.hare_grammar.specs.DeclarationRows.{of_row, decl_word_row}
 use Rattle.hare_grammar.specs.Table.{row}
-use Rattle.hare_grammar.specs.Engine.{Group, all_changed, close, Goes, Ends, Stuck, wanted, acted, step}
-use Rattle.hare_grammar.proofs.Paths.{split}
+use Rattle.hare_grammar.specs.Engine.{Group, close, Goes, Ends, Stuck, wanted, acted, step}
 use Rattle.hare_parsing.proofs.Blind.{row_sure, before_sure, led_sure, type_sure, length_sure, level_sure, word_sure, of_sure}
 
 -- ---- rows

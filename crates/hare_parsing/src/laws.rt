@@ -50,7 +50,7 @@ pub fn law_used_tokens()
 /// Joined tokens stand in the file: what is left of them where a run has come to stands at a token of the file, whose place it has. All strings side
 /// by side are joined where no number belongs to a string, where the tokens are those of a tree, and where a run over a file is done in front of
 /// End alone.
-#[tactic(auto, using(crate::proofs::Strung::proper_strings_join, crate::proofs::Faults::trees_join, crate::proofs::Faults::files_join, crate::proofs::Faults::whole_runs_join, crate::proofs::Places::all_stand, crate::proofs::Places::places_stand))]
+#[tactic(auto, using(crate::proofs::Strung::proper_strings_join, crate::proofs::FileFaults::trees_join, crate::proofs::FileFaults::files_join, crate::proofs::FileFaults::whole_runs_join, crate::proofs::Places::all_stand, crate::proofs::Places::places_stand))]
 pub fn law_joined_tokens()
     ensures proper { ProperStringsJoin }
     ensures trees { TreesJoin }
@@ -73,7 +73,7 @@ pub fn law_syntax_fault()
 {}
 
 /// The same of files. Where the run is done in front of End, the file is whole with it, and a token behind End is the fault.
-#[tactic(auto, using(crate::proofs::Faults::file_runs_fault, crate::proofs::Faults::file_runs_are_over, crate::proofs::Faults::file_runs_use_all))]
+#[tactic(auto, using(crate::proofs::FileFaults::file_runs_fault, crate::proofs::FileFaults::file_runs_are_over, crate::proofs::FileFaults::file_runs_use_all))]
 pub fn law_syntax_fault_of_files()
     ensures fails { FileRunsFault }
     ensures over { FileRunsAreOver }
