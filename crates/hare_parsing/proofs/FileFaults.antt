@@ -1,5 +1,5 @@
 -- The first syntax fault at the tokens of a file, and where all strings of a file are joined.
-use Rattle.std.proofs.Common.{◌≡◌, ℕ, suc, ◌<◌, List, [], ◌∷◌, ◌++◌, true, false, ◌&&◌, map, take, length, refl, ap, sym, ◌∙◌, subst, append_assoc}
+use Rattle.std.proofs.Common.{◌≡◌, ℕ, suc, ◌<◌, List, [], ◌∷◌, ◌++◌, Bool, true, false, ◌&&◌, not, map, take, length, refl, ap, sym, ◌∙◌, subst, append_assoc}
 use Rattle.hare_tree.specs.declared.token.Token.{Token}
 use Rattle.hare_tree.specs.declared.tree.FileTree.{FileTree}
 use Rattle.hare_tree.specs.Spell.{spell, spell_file}
@@ -9,10 +9,11 @@ use Rattle.hare_grammar.specs.Classes.{class_of}
 use Rattle.hare_grammar.specs.Engine.{Group, Done, run, bottom}
 use Rattle.hare_grammar.specs.OneTree.{file_symbols}
 use Rattle.hare_parsing.specs.Viable.{BeginsFile}
-use Rattle.hare_parsing.specs.Faults.{is_proper_string, strung_to, strung, ends_in_string, FileRunsFault, FileRunsAreOver, FileRunsUseAll, WholeRunsJoin, FilesJoin, TreesJoin}
+use Rattle.hare_parsing.specs.Faults.{is_proper_string, strung_to, strung, ends_in_string, FileRunsFault, FileRunsAreOver, FileRunsUseAll, WholeRunsJoin, FilesJoin, TreesJoin, FileRunsUseNoEnd}
 use Rattle.hare_parsing.proofs.Viable.{stuck_at, EndsAt, ends_at, used_up, end}
 use Rattle.hare_parsing.proofs.Breaks.{trees_sort, file_viable, file_not_viable, nothing_more, is_the_end, whole_file}
-use Rattle.hare_parsing.proofs.UsedApart.{run_apart}
+use Rattle.hare_parsing.proofs.TokenKinds.{is_junk, class_unplaced}
+use Rattle.hare_parsing.proofs.UsedApart.{apart, run_apart, used_up_apart, apart_proper}
 use Rattle.hare_parsing.proofs.Strung.{head, strung_append, joined_clean, clean_strung}
 use Rattle.hare_parsing.proofs.Loose.{loose, loose_unplaced, loose_clean, apart_loose}
 use Rattle.hare_parsing.proofs.Places.{cut, Spot, spot}
@@ -113,6 +114,21 @@ file_runs_are_over file ts n t rest made e q =
 
 pub file_runs_use_all : FileRunsUseAll
 file_runs_use_all file ts e = file_front_viable ts (file_viable file (strung ts) (used_up file (strung ts) file_symbols bottom refl e))
+
+pub file_runs_use_no_end : FileRunsUseNoEnd
+file_runs_use_no_end file before t rest i e =
+    let h = head t rest in
+    let n : is_proper_string t ≡ false = end_proper t i in
+    let w : strung (before ++ t ∷ rest) ≡ strung before ++ t ∷ h.rest = strung_append before (t ∷ rest) (none (ends_in_string before) (is_proper_string t) n) ∙ ap (λ l. strung before ++ l) (h.is ∙ ap (λ z. z ∷ h.rest) (h.same n)) in
+    let a : apart false (strung before ++ t ∷ h.rest) ≡ true = ap (apart false) (sym w) ∙ used_up_apart file (strung (before ++ t ∷ rest)) false file_symbols bottom refl (λ x. cc) e in
+    let c : not (is_junk (class_of t)) ≡ false = ap (λ k. not (is_junk k)) (sym (class_unplaced t) ∙ ap class_of i) in
+    let d = apart_proper false (strung before) t h.rest a in
+    cc
+  where
+    none : (a b : Bool) → b ≡ false → (a && b) ≡ false
+    none a true e = cc
+    none true false e = refl
+    none false false e = refl
 
 -- ---- where all strings are joined
 

@@ -136,3 +136,8 @@ TreesJoin =
 
 abbrev pub FileRunsUseAll : Type 0
 FileRunsUseAll = (file : ℕ) (ts : List Token) → run file (strung ts) file_symbols bottom ≡ Fails [] → IsViable files ts
+
+-- End is never used: a run over tokens that have one stops at a token
+abbrev pub FileRunsUseNoEnd : Type 0
+FileRunsUseNoEnd =
+    (file : ℕ) (before : List Token) (t : Token) (rest : List Token) → unplaced t ≡ word_token 0 tk.End [] → run file (strung (before ++ t ∷ rest)) file_symbols bottom ≡ Fails [] → ⊥

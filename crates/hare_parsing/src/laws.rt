@@ -3,7 +3,7 @@
 ghost use Rattle.hare_parsing.specs.Reading.{RunsReadTrees, RunsReadFiles};
 ghost use Rattle.hare_parsing.specs.Viable.{RunsBreak, RunsAreLongest, RunsGoOn, FileRunsBreak, FileRunsEnd, FileRunsGoOn};
 ghost use Rattle.hare_parsing.specs.Used.{RunsUseTokens};
-ghost use Rattle.hare_parsing.specs.Faults.{ProperStringsJoin, AllStand, PlacesStand, RunsFault, RunsFaultInTrees, RunsReadFronts, RunsUseAll, FaultsEndRuns, FileRunsFault, FileRunsAreOver, FileRunsUseAll, WholeRunsJoin, FilesJoin, TreesJoin};
+ghost use Rattle.hare_parsing.specs.Faults.{ProperStringsJoin, AllStand, PlacesStand, RunsFault, RunsFaultInTrees, RunsReadFronts, RunsUseAll, FaultsEndRuns, FileRunsFault, FileRunsAreOver, FileRunsUseAll, FileRunsUseNoEnd, WholeRunsJoin, FilesJoin, TreesJoin};
 ghost use Rattle.hare_parsing.specs.Whole.{WholeRunsMakeFiles, FilesHaveWholeRuns};
 
 /// Where the machine is done with a tree, the tree is shaped, of the sort that was asked for, and spelled by the tokens that were used, whose
@@ -72,10 +72,12 @@ pub fn law_syntax_fault()
     ensures longest { FaultsEndRuns }
 {}
 
-/// The same of files. Where the run is done in front of End, the file is whole with it, and a token behind End is the fault.
-#[tactic(auto, using(crate::proofs::FileFaults::file_runs_fault, crate::proofs::FileFaults::file_runs_are_over, crate::proofs::FileFaults::file_runs_use_all))]
+/// The same of files. Where the run is done in front of End, the file is whole with it, and a token behind End is the fault. A run over tokens
+/// that have End stops at one of them.
+#[tactic(auto, using(crate::proofs::FileFaults::file_runs_fault, crate::proofs::FileFaults::file_runs_are_over, crate::proofs::FileFaults::file_runs_use_all, crate::proofs::FileFaults::file_runs_use_no_end))]
 pub fn law_syntax_fault_of_files()
     ensures fails { FileRunsFault }
     ensures over { FileRunsAreOver }
     ensures goes_on { FileRunsUseAll }
+    ensures stops { FileRunsUseNoEnd }
 {}
