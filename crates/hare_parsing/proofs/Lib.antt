@@ -38,6 +38,7 @@ pub mod Steady
 pub mod FrontPlaces
 pub mod Strung
 pub mod Loose
+pub mod JoinRows
 pub mod Places
 pub mod Faults
 pub mod FileFaults
