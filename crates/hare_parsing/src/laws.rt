@@ -72,8 +72,8 @@ pub fn law_syntax_fault()
     ensures longest { FaultsEndRuns }
 {}
 
-/// The same of files. Where the run is done in front of End, the file is whole with it, and a token behind End is the fault. A run over tokens
-/// that have End stops at one of them.
+/// The same of files. Where the run is done in front of End, the file is whole with it, and a token behind End is the fault. Where End is
+/// among the tokens, the run stops at a token.
 #[tactic(auto, using(crate::proofs::FileFaults::file_runs_fault, crate::proofs::FileFaults::file_runs_are_over, crate::proofs::FileFaults::file_runs_use_all, crate::proofs::FileFaults::file_runs_use_no_end))]
 pub fn law_syntax_fault_of_files()
     ensures fails { FileRunsFault }
