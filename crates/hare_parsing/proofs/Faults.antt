@@ -1,6 +1,6 @@
 -- The first syntax fault at the tokens of the file themselves.
-use Rattle.std.proofs.Common.{◌≡◌, ℕ, suc, ◌<◌, List, [], ◌∷◌, ◌++◌, Bool, true, false, ◌&&◌, map, take, length, refl, ap, sym, ◌∙◌, subst, arith, append_assoc}
-use Rattle.std.proofs.lemmas.List.{append_cancel_right}
+use Rattle.std.proofs.Common.{◌≡◌, ℕ, suc, List, [], ◌∷◌, ◌++◌, Bool, true, false, ◌&&◌, map, take, refl, ap, sym, ◌∙◌, subst, arith, append_assoc}
+use Rattle.std.proofs.lemmas.List.{append_cancel_right, map-append}
 use Rattle.hare_tree.specs.declared.token.TokenKind.TheVariants as tk
 use Rattle.hare_tree.specs.declared.token.Token.{Token}
 use Rattle.hare_tree.specs.declared.form.Sort.{Sort}
@@ -8,25 +8,27 @@ use Rattle.hare_tree.specs.declared.tree.FileTree.{FileTree}
 use Rattle.hare_tree.specs.Node.{Node}
 use Rattle.hare_tree.specs.Spell.{word_token, sign_token, spell, spell_file}
 use Rattle.hare_tree.specs.Shape.{is_shaped, is_shaped_file}
-use Rattle.hare_tree.specs.Grammar.{is_plain_string, joined, unplaced, Spells, trees_of, files, IsViable, IsSyntaxFault}
+use Rattle.hare_tree.specs.Grammar.{is_plain_string, joined, unplaced, Spells, HasPlaces, trees_of, IsViable, IsSyntaxFault}
 use Rattle.hare_grammar.specs.declared.rule.Symbol.{Symbol}
 use Rattle.hare_grammar.specs.Classes.{class_of}
 use Rattle.hare_grammar.specs.Rows.{of}
-use Rattle.hare_grammar.specs.Engine.{Group, Step, Goes, Ends, Stuck, step, Done, run, bottom}
+use Rattle.hare_grammar.specs.Engine.{Group, Step, Goes, Ends, Stuck, step, Outcome, Done, Fails, after, run, bottom}
 use Rattle.hare_grammar.specs.OneTree.{is_sort, file_symbols}
 use Rattle.hare_grammar.proofs.Kids.{closer}
 use Rattle.hare_grammar.proofs.OneTree.{read_whole}
 use Rattle.hare_grammar.proofs.Files.{read_file}
-use Rattle.hare_parsing.specs.Viable.{has_trees, BeginsTree, BeginsFile}
-use Rattle.hare_parsing.specs.Faults.{is_proper_string, strung_to, strung, ends_in_string, StandsAt, RunsFault, RunsReadFronts, RunsUseAll, FaultsEndRuns, FileRunsFault, FileRunsAreOver, FileRunsUseAll}
-use Rattle.hare_parsing.proofs.Readings.{runs_read_trees}
-use Rattle.hare_parsing.proofs.Alike.{SameStep, same_step}
-use Rattle.hare_parsing.proofs.Viable.{StuckAt, stuck_at, EndsAt, ends_at, used_up, end, viable, not_viable, ends_whole}
-use Rattle.hare_parsing.proofs.Breaks.{twice, trees_sort, trees_end, file_viable, file_not_viable, nothing_more, is_the_end, whole_file}
+use Rattle.hare_parsing.specs.Viable.{has_trees, BeginsTree}
+use Rattle.hare_parsing.specs.Faults.{is_proper_string, strung, ends_in_string, StandsAt, RunsFault, RunsFaultInTrees, RunsReadFronts, RunsUseAll, FaultsEndRuns}
+use Rattle.hare_parsing.proofs.FrontPlaces.{reads_used}
+use Rattle.hare_parsing.proofs.Alike.{SameStep, same_step, classes, Alike, alike}
+use Rattle.hare_parsing.proofs.Viable.{StuckAt, stuck_at, EndsAt, ends_at, used_up, viable, not_viable, ends_whole, same_classes}
+use Rattle.hare_parsing.proofs.Breaks.{twice, trees_sort, trees_end}
 use Rattle.hare_parsing.proofs.Moved.{spell_moved}
 use Rattle.hare_parsing.proofs.UsedApart.{run_apart}
-use Rattle.hare_parsing.proofs.Strung.{Head, head, strung_append, strung_front, clean, joined_clean, clean_strung, loose, loose_unplaced, loose_clean, loose_strung, proper_class, apart_loose}
-use Rattle.hare_parsing.proofs.Places.{cut, Spot, spot}
+use Rattle.hare_parsing.proofs.Steady.{end_not_stuck}
+use Rattle.hare_parsing.proofs.Strung.{Head, head, strung_append, strung_front, clean, joined_clean, clean_strung}
+use Rattle.hare_parsing.proofs.Loose.{loose, loose_unplaced, loose_clean, loose_strung, proper_class, apart_loose}
+use Rattle.hare_parsing.proofs.Places.{Spot, spot}
 
 -- ---- in the tokens of a tree no strings stand side by side
 
@@ -38,7 +40,7 @@ tree_loose s t c h =
     ap (loose false) (sym e) ∙ apart_loose false false q.used (λ x. x) q.apart
 
 -- behind tokens in which none stand side by side, one that is no string
-loose_behind : (b : Bool) (u : List Token) (t : Token) → is_plain_string t ≡ false → loose b u ≡ true → loose b (u ++ t ∷ []) ≡ true
+pub loose_behind : (b : Bool) (u : List Token) (t : Token) → is_plain_string t ≡ false → loose b u ≡ true → loose b (u ++ t ∷ []) ≡ true
 loose_behind b [] t n e = rw n refl
 loose_behind b (y ∷ u) t n e = tail _ (loose (is_plain_string y) u) (loose (is_plain_string y) (u ++ t ∷ [])) e (λ x. loose_behind (is_plain_string y) u t n x)
   where
@@ -73,7 +75,7 @@ comes_back spelled front first behind l p e =
     e ∙ ap (map unplaced) (j ∙ k)
 
 -- joined tokens that stand at one token have one class
-same_class : (first : Token) (u v : List Token) (h : Head first u) (k : Head first v) → class_of h.first ≡ class_of k.first
+pub same_class : (first : Token) (u v : List Token) (h : Head first u) (k : Head first v) → class_of h.first ≡ class_of k.first
 same_class first u v h k = by (is_proper_string first) refl
   where
     by : (p : Bool) → is_proper_string first ≡ p → class_of h.first ≡ class_of k.first
@@ -82,23 +84,23 @@ same_class first u v h k = by (is_proper_string first) refl
 
 -- ---- where one token of a class stops the run, each does
 
-same_stuck : (z y : Step) → SameStep z y → y ≡ Stuck → z ≡ Stuck
+pub same_stuck : (z y : Step) → SameStep z y → y ≡ Stuck → z ≡ Stuck
 same_stuck Stuck y i e = refl
 same_stuck (Goes st gs) y i e = let x : SameStep (Goes st gs) Stuck = subst (λ k. SameStep (Goes st gs) k) e i in absurd x
 same_stuck (Ends gs) y i e = let x : SameStep (Ends gs) Stuck = subst (λ k. SameStep (Ends gs) k) e i in absurd x
 
-same_ends : (z y : Step) (made : List Group) → SameStep z y → y ≡ Ends made → (gs : List Group) × (z ≡ Ends gs)
+pub same_ends : (z y : Step) (made : List Group) → SameStep z y → y ≡ Ends made → (gs : List Group) × (z ≡ Ends gs)
 same_ends Stuck y made i e = let x : SameStep Stuck (Ends made) = subst (λ k. SameStep Stuck k) e i in absurd x
 same_ends (Goes st gs) y made i e = let x : SameStep (Goes st gs) (Ends made) = subst (λ k. SameStep (Goes st gs) k) e i in absurd x
 same_ends (Ends gs) y made i e = (gs, refl)
 
-same_at : (f : ℕ) (t t' : Token) (st : List Symbol) (gs : List Group) → class_of t' ≡ class_of t → SameStep (step f t' (class_of t') st gs) (step f t (class_of t) st gs)
+pub same_at : (f : ℕ) (t t' : Token) (st : List Symbol) (gs : List Group) → class_of t' ≡ class_of t → SameStep (step f t' (class_of t') st gs) (step f t (class_of t) st gs)
 same_at f t t' st gs e = subst (λ c. SameStep (step f t' c st gs) (step f t (class_of t) st gs)) (sym e) (same_step f f t' t (class_of t) st gs gs)
 
-abbrev stuck_like : (f : ℕ) (w : List Token) (st : List Symbol) (gs : List Group) (t t' : Token) (v : List Token) (p : StuckAt f w st gs t v) → class_of t' ≡ class_of t → StuckAt f (p.u ++ t' ∷ []) st gs t' []
+abbrev pub stuck_like : (f : ℕ) (w : List Token) (st : List Symbol) (gs : List Group) (t t' : Token) (v : List Token) (p : StuckAt f w st gs t v) → class_of t' ≡ class_of t → StuckAt f (p.u ++ t' ∷ []) st gs t' []
 stuck_like f w st gs t t' v p e = record { u = p.u; is = refl; stop = p.stop; stuck = same_stuck _ _ (same_at f t t' p.stop.rest p.stop.trees e) p.stuck }
 
-abbrev ends_like : (f : ℕ) (w : List Token) (st : List Symbol) (gs : List Group) (t t' : Token) (v : List Token) (p : EndsAt f w st gs t v) → class_of t' ≡ class_of t → EndsAt f (p.u ++ t' ∷ []) st gs t' []
+abbrev pub ends_like : (f : ℕ) (w : List Token) (st : List Symbol) (gs : List Group) (t t' : Token) (v : List Token) (p : EndsAt f w st gs t v) → class_of t' ≡ class_of t → EndsAt f (p.u ++ t' ∷ []) st gs t' []
 ends_like f w st gs t t' v p e = let x = same_ends _ _ p.made (same_at f t t' p.stop.rest p.stop.trees e) p.over in record { u = p.u; is = refl; stop = p.stop; made = x.0; over = x.1 }
 
 -- ---- sorts
@@ -121,7 +123,7 @@ tree_none s ts n t rest u c p e k v =
     k h.first (same_class x g.behind p.cut.behind h p.head ∙ ap class_of (sym p.is)) (subst (λ l. BeginsTree s (l ++ h.first ∷ [])) (sym e) b)
 
 -- the tokens before a place at which the joined tokens are split
-before_spot : (ts : List Token) (n : ℕ) (t : Token) (rest u : List Token) → Spot ts n t rest → strung ts ≡ u ++ t ∷ rest → u ≡ strung (take n ts)
+pub before_spot : (ts : List Token) (n : ℕ) (t : Token) (rest u : List Token) → Spot ts n t rest → strung ts ≡ u ++ t ∷ rest → u ≡ strung (take n ts)
 before_spot ts n t rest u p e = append_cancel_right u (strung (take n ts)) (t ∷ rest) (sym e ∙ p.whole)
 
 pub runs_fault : RunsFault
@@ -148,124 +150,60 @@ runs_end s c file ts n t rest made e q =
       ends = tree_none s ts n t rest p.u d o b (λ z i. ends_whole s file (p.u ++ z ∷ []) z [] d (ends_like file (strung ts) (of s ∷ []) bottom t z rest p i));
     }
 
--- tokens of a tree that are a front's joined tokens spell the front
-spells_front : (spelled front : List Token) → loose false spelled ≡ true → map unplaced spelled ≡ map unplaced (strung front) → Spells spelled front
-spells_front spelled front l e =
-    let a : loose false (strung front) ≡ true = sym (loose_unplaced false (strung front)) ∙ ap (loose false) (sym e) ∙ loose_unplaced false spelled ∙ l in
-    e ∙ ap (map unplaced) (sym (clean_strung front (loose_clean false (strung front) a)))
+-- a front whose joined tokens are those of a tree has all its strings joined
+front_joined : (spelled front : List Token) → loose false spelled ≡ true → map unplaced spelled ≡ map unplaced (strung front) → joined front ≡ strung front
+front_joined spelled front l e =
+    clean_strung front (loose_clean false (strung front) (sym (loose_unplaced false (strung front)) ∙ ap (loose false) (sym e) ∙ loose_unplaced false spelled ∙ l))
 
 pub runs_read_fronts : RunsReadFronts
 runs_read_fronts s c file ts n t rest made e q =
-    let r = runs_read_trees s file (strung ts) (t ∷ rest) made e in
+    let r = reads_used s file (strung ts) t rest made (trees_end s c) e in
     let b = before_spot ts n t rest r.used (spot ts n t rest q) r.split in
     let i : map unplaced (spell 0 r.tree) ≡ map unplaced (strung (take n ts)) = ap (map unplaced) r.spelled ∙ twice r.used ∙ ap (map unplaced) b in
+    let j = front_joined (spell 0 r.tree) (take n ts) (tree_loose s r.tree (trees_sort s c) r.shaped) i in
     record {
       tree = r.tree;
       shaped = r.shaped;
-      spelled = spells_front (spell 0 r.tree) (take n ts) (tree_loose s r.tree (trees_sort s c) r.shaped) i;
-      placed = r.placed;
+      spelled = i ∙ ap (map unplaced) (sym j);
+      placed = subst (λ l. HasPlaces file l 0 r.tree) (b ∙ sym j) r.placed;
       is_made = r.is_made;
       ends = runs_end s c file ts n t rest made e q;
     }
+
+-- a run over one token that is done is over there
+over_there : (f : ℕ) (d : Token) (st : List Symbol) (gs : List Group) (v : List Token) (made : List Group) → run f (d ∷ []) st gs ≡ Done v made → step f d (class_of d) st gs ≡ Ends made
+unfolding run
+over_there f d st gs v made e = by (step f d (class_of d) st gs) refl e
+  where
+    by : (z : Step) → step f d (class_of d) st gs ≡ z → after z d [] (λ st' gs'. run f [] st' gs') ≡ Done v made → step f d (class_of d) st gs ≡ Ends made
+    by (Goes st' gs') i k = cc
+    by (Ends gs') i k = let x : gs' ≡ made = cc in i ∙ ap Ends x
+    by Stuck i k = cc
+
+like_done : (o y : Outcome) (v : List Token) (made : List Group) → y ≡ Done v made → Alike o y → (w : List Token) × (hs : List Group) × (o ≡ Done w hs)
+like_done (Done w hs) y v made e a = (w, hs, refl)
+like_done (Fails w) y v made e a = let b : Alike (Fails w) (Done v made) = subst (λ k. Alike (Fails w) k) e a in absurd b
+
+-- where the run is stuck, the tokens that it has used are those of no tree
+pub stuck_in_tree : (s : Sort) (f : ℕ) (w : List Token) (t : Token) (v : List Token) (tree : Node) → is_sort s ≡ true → is_shaped s tree ≡ true → (p : StuckAt f w (of s ∷ []) bottom t v) → spell 0 tree ≡ map unplaced p.u → ⊥
+stuck_in_tree s f w t v tree c h p e =
+    let d = sign_token 0 (closer s) in
+    let k : classes (p.u ++ d ∷ []) ≡ classes (spell 0 tree ++ d ∷ []) = map-append class_of p.u (d ∷ []) ∙ ap (λ l. l ++ class_of d ∷ []) (sym (same_classes p.u) ∙ ap classes (sym e)) ∙ sym (map-append class_of (spell 0 tree) (d ∷ [])) in
+    let x = like_done _ _ _ _ (read_whole 0 s tree c h) (alike f 0 (p.u ++ d ∷ []) (spell 0 tree ++ d ∷ []) (of s ∷ []) bottom bottom k) in
+    let o = over_there f d p.stop.rest p.stop.trees x.0 x.1 (sym (p.stop.same (d ∷ [])) ∙ x.2) in
+    end_not_stuck f d t (class_of d) (class_of t) p.stop.rest p.stop.trees p.stop.trees x.1 o p.stuck
+
+pub runs_fault_in_trees : RunsFaultInTrees
+runs_fault_in_trees s c file ts n t rest e q tree h i =
+    let p = stuck_at file (strung ts) (of s ∷ []) bottom t rest (trees_end s c) e in
+    let b = before_spot ts n t rest p.u (spot ts n t rest q) p.is in
+    let d = trees_sort s c in
+    let l = tree_loose s tree d h in
+    let j : joined (take n ts) ≡ strung (take n ts) = joined_clean (take n ts) (loose_clean false (joined (take n ts)) (sym (loose_unplaced false (joined (take n ts))) ∙ ap (loose false) (sym i) ∙ loose_unplaced false (spell 0 tree) ∙ l)) in
+    stuck_in_tree s file (strung ts) t rest tree d h p (sym (spell_moved 0 tree) ∙ i ∙ ap (map unplaced) (j ∙ sym b))
 
 pub runs_use_all : RunsUseAll
 runs_use_all s c file ts e = tree_viable s ts (trees_sort s c) (viable s file (strung ts) (used_up file (strung ts) (of s ∷ []) bottom (trees_end s c) e))
 
 pub faults_end_runs : FaultsEndRuns
 faults_end_runs s ts n f = record { within = omega (arith, f.within); viable = f.before; longest = λ x v. f.ends v }
-
--- ---- files
-
-file_front_viable : (front : List Token) → BeginsFile (strung front) → IsViable files front
-file_front_viable front q =
-    (q.tree, record { shaped = q.shaped; behind = q.behind; spelled = goes_back (spell_file q.tree) front q.behind (file_loose q.tree q.shaped) q.spelled })
-
--- the joined tokens with which a file begins that goes on with a front of the file's tokens
-abbrev file_back : (front : List Token) (first : Token) (behind : List Token) (tree : FileTree) → is_shaped_file tree ≡ true → (ends_in_string front && is_proper_string first) ≡ false → Spells (spell_file tree) ((front ++ first ∷ []) ++ behind) → BeginsFile (strung front ++ (head first behind).first ∷ [])
-file_back front first behind tree h p i =
-    record { tree = tree; behind = (head first behind).rest; shaped = h; spelled = comes_back (spell_file tree) front first behind (file_loose tree h) p i }
-
-file_none : (ts : List Token) (n : ℕ) (t : Token) (rest u : List Token) → (p : Spot ts n t rest) → u ≡ strung (take n ts) → ((z : Token) → class_of z ≡ class_of t → is_proper_string z ≡ is_proper_string p.cut.first → (is_proper_string p.cut.first ≡ false → z ≡ p.cut.first) → BeginsFile (u ++ z ∷ []) → ⊥) → IsViable files (take (suc n) ts) → ⊥
-file_none ts n t rest u p e k v =
-    let g = v.1 in
-    let x = p.cut.first in
-    let h = head x g.behind in
-    let i : Spells (spell_file v.0) ((take n ts ++ x ∷ []) ++ g.behind) = subst (λ l. Spells (spell_file v.0) (l ++ g.behind)) p.cut.next g.spelled in
-    let b = file_back (take n ts) x g.behind v.0 g.shaped p.parted i in
-    k h.first (same_class x g.behind p.cut.behind h p.head ∙ ap class_of (sym p.is)) h.proper h.same (subst (λ l. BeginsFile (l ++ h.first ∷ [])) (sym e) b)
-
-pub file_runs_fault : FileRunsFault
-file_runs_fault file ts n t rest e q =
-    let p = stuck_at file (strung ts) file_symbols bottom t rest refl e in
-    let o = spot ts n t rest q in
-    let b = before_spot ts n t rest p.u o p.is in
-    record {
-      within = o.within;
-      before = file_front_viable (take n ts) (subst BeginsFile b (file_viable file p.u p.stop));
-      ends = file_none ts n t rest p.u o b (λ z i j l. file_not_viable file (p.u ++ z ∷ []) z [] (stuck_like file (strung ts) file_symbols bottom t z rest p i));
-    }
-
--- End is no string
-end_proper : (z : Token) → unplaced z ≡ end → is_proper_string z ≡ false
-end_proper z e = ap is_proper_string e
-
--- at a token that is not End no file goes on
-no_end_fault : (file : ℕ) (ts : List Token) (n : ℕ) (t : Token) (rest : List Token) (p : EndsAt file (strung ts) file_symbols bottom t rest) → (o : Spot ts n t rest) → p.u ≡ strung (take n ts) → (unplaced t ≡ end → ⊥) → IsSyntaxFault files ts n
-no_end_fault file ts n t rest p o b other =
-    record {
-      within = o.within;
-      before = file_front_viable (take n ts) (subst BeginsFile b (file_viable file p.u p.stop));
-      ends = file_none ts n t rest p.u o b (λ z i j l y. none z i j l y);
-    }
-  where
-    none : (z : Token) → class_of z ≡ class_of t → is_proper_string z ≡ is_proper_string o.cut.first → (is_proper_string o.cut.first ≡ false → z ≡ o.cut.first) → BeginsFile (p.u ++ z ∷ []) → ⊥
-    none z i j l y =
-        let x = is_the_end file (p.u ++ z ∷ []) z [] (ends_like file (strung ts) file_symbols bottom t z rest p i) y in
-        let d : is_proper_string o.cut.first ≡ false = sym j ∙ end_proper z x in
-        other (ap unplaced (o.is ∙ o.head.same d ∙ sym (l d)) ∙ x)
-
--- End stands by itself
-end_first : (ts : List Token) (n : ℕ) (t : Token) (rest : List Token) → (o : Spot ts n t rest) → unplaced t ≡ end → (t ≡ o.cut.first) × (is_proper_string o.cut.first ≡ false)
-end_first ts n t rest o e =
-    let d : is_proper_string o.cut.first ≡ false = sym o.head.proper ∙ ap is_proper_string (sym o.is) ∙ end_proper t e in
-    (o.is ∙ o.head.same d, d)
-
-end_viable : (file : ℕ) (ts : List Token) (n : ℕ) (t : Token) (rest : List Token) (made : List Group) (p : EndsAt file (strung ts) file_symbols bottom t rest) → (o : Spot ts n t rest) → p.u ≡ strung (take n ts) → run file (strung ts) file_symbols bottom ≡ Done (t ∷ rest) made → unplaced t ≡ end → IsViable files (take (suc n) ts)
-end_viable file ts n t rest made p o b e i =
-    let d = end_first ts n t rest o i in
-    let x = o.cut.first in
-    let w : strung (take (suc n) ts) ≡ p.u ++ t ∷ [] = ap strung o.cut.next ∙ strung_append (take n ts) (x ∷ []) o.parted ∙ ap (λ l. l ++ x ∷ []) (sym b) ∙ ap (λ y. p.u ++ y ∷ []) (sym d.0) in
-    file_front_viable (take (suc n) ts) (subst BeginsFile (sym w) (whole_file file (strung ts) t rest made p e i))
-
--- behind End nothing goes on
-behind_end : (file : ℕ) (ts : List Token) (n : ℕ) (t : Token) (rest : List Token) (p : EndsAt file (strung ts) file_symbols bottom t rest) → (o : Spot ts n t rest) → p.u ≡ strung (take n ts) → unplaced t ≡ end → suc n < length ts → IsViable files (take (suc (suc n)) ts) → ⊥
-behind_end file ts n t rest p o b i m v =
-    let g = v.1 in
-    let x = o.cut.first in
-    let c = cut ts (suc n) m in
-    let y = c.first in
-    let d = end_first ts n t rest o i in
-    let h = head x (y ∷ g.behind) in
-    let l : take (suc (suc n)) ts ++ g.behind ≡ (take n ts ++ x ∷ []) ++ y ∷ g.behind = ap (λ l. l ++ g.behind) (c.next ∙ ap (λ l. l ++ y ∷ []) o.cut.next) ∙ append_assoc (take n ts ++ x ∷ []) (y ∷ []) g.behind in
-    let q = file_back (take n ts) x (y ∷ g.behind) v.0 g.shaped o.parted (subst (λ l. Spells (spell_file v.0) l) l g.spelled) in
-    let k = ends_like file (strung ts) file_symbols bottom t h.first rest p (ap class_of (h.same d.1 ∙ sym d.0)) in
-    let r : BeginsFile (p.u ++ h.first ∷ []) = subst (λ l. BeginsFile (l ++ h.first ∷ [])) (sym b) q in
-    let z : h.rest ≡ [] = nothing_more file (p.u ++ h.first ∷ []) h.first [] k [] (record { tree = v.0; behind = h.rest; shaped = g.shaped; spelled = subst (λ l. map unplaced (spell_file v.0) ≡ map unplaced ((l ++ h.first ∷ []) ++ h.rest)) (sym b) q.spelled }) in
-    let s = head y g.behind in
-    let j : strung (x ∷ y ∷ g.behind) ≡ x ∷ s.first ∷ s.rest = ap (strung_to x) s.is ∙ rw d.1 refl in
-    let f : h.first ∷ [] ≡ x ∷ s.first ∷ s.rest = ap (λ l. h.first ∷ l) (sym z) ∙ sym h.is ∙ j in
-    cc
-
-pub file_runs_are_over : FileRunsAreOver
-file_runs_are_over file ts n t rest made e q =
-    let p = ends_at file (strung ts) file_symbols bottom t rest made refl e in
-    let o = spot ts n t rest q in
-    let b = before_spot ts n t rest p.u o p.is in
-    record {
-      no_end = λ x. no_end_fault file ts n t rest p o b x;
-      whole = λ i. end_viable file ts n t rest made p o b e i;
-      more = λ i m. record { within = m; before = end_viable file ts n t rest made p o b e i; ends = behind_end file ts n t rest p o b i m };
-    }
-
-pub file_runs_use_all : FileRunsUseAll
-file_runs_use_all file ts e = file_front_viable ts (file_viable file (strung ts) (used_up file (strung ts) file_symbols bottom refl e))

@@ -33,6 +33,12 @@ pub mod Whole
 pub mod Used
 pub mod Apart
 pub mod UsedApart
+pub mod Blind
+pub mod Steady
+pub mod FrontPlaces
 pub mod Strung
+pub mod Loose
+pub mod JoinRows
 pub mod Places
 pub mod Faults
+pub mod FileFaults

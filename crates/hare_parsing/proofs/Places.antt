@@ -5,8 +5,8 @@ use Rattle.std.proofs.lemmas.List.{length-append, take-append-drop}
 use Rattle.hare_tree.specs.declared.token.Token.{Token}
 use Rattle.hare_tree.specs.Grammar.{place_of}
 use Rattle.hare_parsing.specs.Faults.{is_proper_string, strung_to, strung, ends_in_string, begins_with_string, StandsAt, Stands, AllStand, PlacesStand}
-use Rattle.hare_parsing.proofs.Used.{not_nil, heads}
-use Rattle.hare_parsing.proofs.Strung.{merged, Head, head, strung_append}
+use Rattle.hare_parsing.proofs.Used.{not_nil, heads, merged}
+use Rattle.hare_parsing.proofs.Strung.{Head, head, strung_append}
 
 -- a list up to a token of it, and with it
 pub record Cut (ts : List Token) (n : ℕ) : Type 0 where

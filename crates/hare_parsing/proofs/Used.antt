@@ -26,10 +26,10 @@ pub heads : (a b : Token) (u v : List Token) → a ∷ u ≡ b ∷ v → (a ≡ 
 heads a b u v e = (cc, cc)
 
 -- two strings as one token
-abbrev merged : Token → Token → Token
+abbrev pub merged : Token → Token → Token
 merged y u = record { kind = tk.Str; place = y.place; text = y.text ++ u.text; number = y.number + u.number; suffix = suffix.None }
 
-abbrev chosen : Bool → Bool → Token → Token → List Token → List Token
+abbrev pub chosen : Bool → Bool → Token → Token → List Token → List Token
 chosen p q y u us = if p then (if q then merged y u ∷ us else y ∷ u ∷ us) else y ∷ u ∷ us
 
 -- a joined token stands at the first of those that it is made from

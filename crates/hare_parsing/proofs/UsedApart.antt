@@ -19,7 +19,7 @@ use Rattle.hare_grammar.specs.TypeRows.{type_row, length_row}
 use Rattle.hare_grammar.specs.ExpressionRows.{level_row}
 use Rattle.hare_grammar.specs.DeclarationRows.{of_row}
 use Rattle.hare_grammar.specs.Table.{row}
-use Rattle.hare_grammar.specs.Engine.{Group, close, Step, Goes, Ends, Stuck, wanted, acted, step, Done, after, run}
+use Rattle.hare_grammar.specs.Engine.{Group, close, Step, Goes, Ends, Stuck, wanted, acted, step, Done, Fails, after, run}
 use Rattle.hare_grammar.proofs.Paths.{split}
 use Rattle.hare_parsing.proofs.TokenKinds.{is_junk}
 use Rattle.hare_parsing.proofs.Endings.{is_fault}
@@ -254,3 +254,23 @@ run_apart f (t ∷ w) v b st gs made a r e = by (step f t (class_of t) st gs) re
         record { used = t ∷ q.used; is = ap (λ l. t ∷ l) q.is; apart = rw (step_usable f t (class_of t) b st st' gs gs' r i, q.apart) refl }
     by (Ends gs') i e k = let x : t ∷ w ≡ v = cc in record { used = []; is = x; apart = refl }
     by Stuck i e k = cc
+
+-- the same where all tokens are used
+pub used_up_apart : (f : ℕ) (w : List Token) (b : Bool) (st : List Symbol) (gs : List Group) → apt st ≡ true → (b ≡ true → refuses st ≡ true) → run f w st gs ≡ Fails [] → apart b w ≡ true
+unfolding run
+used_up_apart f [] b st gs a r e = refl
+used_up_apart f (t ∷ w) b st gs a r e = by (step f t (class_of t) st gs) refl e (λ b' st' gs' a' r' q. used_up_apart f w b' st' gs' a' r' q)
+  where
+    by : (z : Step) → step f t (class_of t) st gs ≡ z → after z t w (λ st' gs'. run f w st' gs') ≡ Fails [] → ((b' : Bool) (st' : List Symbol) (gs' : List Group) → apt st' ≡ true → (b' ≡ true → refuses st' ≡ true) → run f w st' gs' ≡ Fails [] → apart b' w ≡ true) → apart b (t ∷ w) ≡ true
+    by (Goes st' gs') i e k =
+        let q = k (is_text (class_of t)) st' gs' (step_apt f t (class_of t) st st' gs gs' a i) (λ x. step_next f t (class_of t) st st' gs gs' a i x) e in
+        rw (step_usable f t (class_of t) b st st' gs gs' r i, q) refl
+    by (Ends gs') i e k = cc
+    by Stuck i e k = cc
+
+-- each of such tokens is one that some tree is spelled by
+pub apart_proper : (b : Bool) (u : List Token) (t : Token) (v : List Token) → apart b (u ++ t ∷ v) ≡ true → not (is_junk (class_of t)) ≡ true
+apart_proper b [] t v e =
+    let p = split (usable b (class_of t)) (apart (is_text (class_of t)) v) e in
+    (split (not (is_junk (class_of t))) (not (b && is_text (class_of t))) p.0).0
+apart_proper b (y ∷ u) t v e = apart_proper (is_text (class_of y)) u t v (split (usable b (class_of y)) (apart (is_text (class_of y)) (u ++ t ∷ v)) e).1

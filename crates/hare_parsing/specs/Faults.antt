@@ -7,8 +7,9 @@ use Rattle.hare_tree.specs.declared.token.Suffix.TheVariants as suffix
 use Rattle.hare_tree.specs.declared.token.Token.{Token}
 use Rattle.hare_tree.specs.declared.form.Sort.{Sort}
 use Rattle.hare_tree.specs.Node.{Node}
-use Rattle.hare_tree.specs.Spell.{word_token, spell}
-use Rattle.hare_tree.specs.Shape.{is_shaped}
+use Rattle.hare_tree.specs.declared.tree.FileTree.{FileTree}
+use Rattle.hare_tree.specs.Spell.{word_token, spell, spell_file}
+use Rattle.hare_tree.specs.Shape.{is_shaped, is_shaped_file}
 use Rattle.hare_tree.specs.Grammar.{is_plain_string, joined, unplaced, Spells, place_of, HasPlaces, trees_of, files, IsViable, IsSyntaxFault, IsRun}
 use Rattle.hare_grammar.specs.Rows.{of}
 use Rattle.hare_grammar.specs.Engine.{Group, add, Done, Fails, run, bottom}
@@ -75,12 +76,17 @@ abbrev pub RunsFault : Type 0
 RunsFault =
     (s : Sort) → has_trees s ≡ true → (file : ℕ) (ts : List Token) (n : ℕ) (t : Token) (rest : List Token) → run file (strung ts) (of s ∷ []) bottom ≡ Fails (t ∷ rest) → StandsAt ts n (t ∷ rest) → IsSyntaxFault (trees_of s) ts n
 
--- a shaped tree of the sort spells the first `n` tokens of the file, and with the next they begin none
+-- and the tokens before it are those of no tree
+abbrev pub RunsFaultInTrees : Type 0
+RunsFaultInTrees =
+    (s : Sort) → has_trees s ≡ true → (file : ℕ) (ts : List Token) (n : ℕ) (t : Token) (rest : List Token) → run file (strung ts) (of s ∷ []) bottom ≡ Fails (t ∷ rest) → StandsAt ts n (t ∷ rest) → (tree : Node) → is_shaped s tree ≡ true → Spells (spell 0 tree) (take n ts) → ⊥
+
+-- a shaped tree of the sort spells the first `n` tokens of the file and has their places, and with the next they begin none
 pub record ReadsFront (s : Sort) (file : ℕ) (ts : List Token) (n : ℕ) (made : List Group) : Type 0 where
   pub tree : Node
   pub shaped : is_shaped s tree ≡ true
   pub spelled : Spells (spell 0 tree) (take n ts)
-  pub placed : HasPlaces file (strung ts) 0 tree
+  pub placed : HasPlaces file (joined (take n ts)) 0 tree
   pub is_made : made ≡ add tree bottom
   pub ends : IsSyntaxFault (trees_of s) ts n
 
@@ -115,5 +121,23 @@ abbrev pub FileRunsAreOver : Type 0
 FileRunsAreOver =
     (file : ℕ) (ts : List Token) (n : ℕ) (t : Token) (rest : List Token) (made : List Group) → run file (strung ts) file_symbols bottom ≡ Done (t ∷ rest) made → StandsAt ts n (t ∷ rest) → FileIsOver ts n t
 
+-- The run is done in front of End alone only where all adjacent strings of the file are joined, as they are in the tokens of any tree: so what
+-- the run has made is the file of these tokens.
+abbrev pub WholeRunsJoin : Type 0
+WholeRunsJoin =
+    (file : ℕ) (ts : List Token) (t : Token) (made : List Group) → run file (strung ts) file_symbols bottom ≡ Done (t ∷ []) made → unplaced t ≡ word_token 0 tk.End [] → strung ts ≡ joined ts
+
+abbrev pub FilesJoin : Type 0
+FilesJoin = (ts : List Token) (tree : FileTree) → is_shaped_file tree ≡ true → Spells (spell_file tree) ts → strung ts ≡ joined ts
+
+abbrev pub TreesJoin : Type 0
+TreesJoin =
+    (s : Sort) → has_trees s ≡ true → (ts : List Token) (tree : Node) → is_shaped s tree ≡ true → Spells (spell 0 tree) ts → strung ts ≡ joined ts
+
 abbrev pub FileRunsUseAll : Type 0
 FileRunsUseAll = (file : ℕ) (ts : List Token) → run file (strung ts) file_symbols bottom ≡ Fails [] → IsViable files ts
+
+-- End is never used: a run over tokens that have one stops at a token
+abbrev pub FileRunsUseNoEnd : Type 0
+FileRunsUseNoEnd =
+    (file : ℕ) (before : List Token) (t : Token) (rest : List Token) → unplaced t ≡ word_token 0 tk.End [] → run file (strung (before ++ t ∷ rest)) file_symbols bottom ≡ Fails [] → ⊥

@@ -3,7 +3,7 @@
 ghost use Rattle.hare_parsing.specs.Reading.{RunsReadTrees, RunsReadFiles};
 ghost use Rattle.hare_parsing.specs.Viable.{RunsBreak, RunsAreLongest, RunsGoOn, FileRunsBreak, FileRunsEnd, FileRunsGoOn};
 ghost use Rattle.hare_parsing.specs.Used.{RunsUseTokens};
-ghost use Rattle.hare_parsing.specs.Faults.{ProperStringsJoin, AllStand, PlacesStand, RunsFault, RunsReadFronts, RunsUseAll, FaultsEndRuns, FileRunsFault, FileRunsAreOver, FileRunsUseAll};
+ghost use Rattle.hare_parsing.specs.Faults.{ProperStringsJoin, AllStand, PlacesStand, RunsFault, RunsFaultInTrees, RunsReadFronts, RunsUseAll, FaultsEndRuns, FileRunsFault, FileRunsAreOver, FileRunsUseAll, FileRunsUseNoEnd, WholeRunsJoin, FilesJoin, TreesJoin};
 ghost use Rattle.hare_parsing.specs.Whole.{WholeRunsMakeFiles, FilesHaveWholeRuns};
 
 /// Where the machine is done with a tree, the tree is shaped, of the sort that was asked for, and spelled by the tokens that were used, whose
@@ -47,29 +47,37 @@ pub fn law_used_tokens()
     ensures { RunsUseTokens }
 {}
 
-/// Joined tokens stand in the file: where the run has come to, whatever is left of them stands at a token, whose place it has. Where no number
-/// belongs to a string, all strings side by side are joined.
-#[tactic(auto, using(crate::proofs::Strung::proper_strings_join, crate::proofs::Places::all_stand, crate::proofs::Places::places_stand))]
+/// Joined tokens stand in the file: what is left of them where a run has come to stands at a token of the file, whose place it has. All strings side
+/// by side are joined where no number belongs to a string, where the tokens are those of a tree, and where a run over a file is done in front of
+/// End alone.
+#[tactic(auto, using(crate::proofs::Strung::proper_strings_join, crate::proofs::FileFaults::trees_join, crate::proofs::FileFaults::files_join, crate::proofs::FileFaults::whole_runs_join, crate::proofs::Places::all_stand, crate::proofs::Places::places_stand))]
 pub fn law_joined_tokens()
-    ensures joined { ProperStringsJoin }
+    ensures proper { ProperStringsJoin }
+    ensures trees { TreesJoin }
+    ensures files { FilesJoin }
+    ensures whole { WholeRunsJoin }
     ensures stands { AllStand }
     ensures place { PlacesStand }
 {}
 
 /// Where the run over the tokens of a file stops at a token, be it stuck there or done with a tree, the first syntax fault of the file's own
-/// tokens is where this token stands, and the tokens before it are the longest front that begins a tree of the sort.
-#[tactic(auto, using(crate::proofs::Faults::runs_fault, crate::proofs::Faults::runs_read_fronts, crate::proofs::Faults::runs_use_all, crate::proofs::Faults::faults_end_runs))]
+/// tokens is where this token stands, and the tokens before it are the longest front that begins a tree of the sort. They are a tree's tokens
+/// exactly where the run is done, which has then made this tree.
+#[tactic(auto, using(crate::proofs::Faults::runs_fault, crate::proofs::Faults::runs_fault_in_trees, crate::proofs::Faults::runs_read_fronts, crate::proofs::Faults::runs_use_all, crate::proofs::Faults::faults_end_runs))]
 pub fn law_syntax_fault()
     ensures fails { RunsFault }
+    ensures no_tree { RunsFaultInTrees }
     ensures reads { RunsReadFronts }
     ensures goes_on { RunsUseAll }
     ensures longest { FaultsEndRuns }
 {}
 
-/// The same of files. Where the run is done in front of End, the file is whole with it, and a token behind End is the fault.
-#[tactic(auto, using(crate::proofs::Faults::file_runs_fault, crate::proofs::Faults::file_runs_are_over, crate::proofs::Faults::file_runs_use_all))]
+/// The same of files. Where the run is done in front of End, the file is whole with it, and a token behind End is the fault. Where End is
+/// among the tokens, the run stops at a token.
+#[tactic(auto, using(crate::proofs::FileFaults::file_runs_fault, crate::proofs::FileFaults::file_runs_are_over, crate::proofs::FileFaults::file_runs_use_all, crate::proofs::FileFaults::file_runs_use_no_end))]
 pub fn law_syntax_fault_of_files()
     ensures fails { FileRunsFault }
     ensures over { FileRunsAreOver }
     ensures goes_on { FileRunsUseAll }
+    ensures stops { FileRunsUseNoEnd }
 {}
