@@ -1,0 +1,69 @@
+-- What a parser answers for the tokens of a file, and for its bytes: the tree of the file, or its first fault.
+use Rattle.std.specs.Prelude.{◌≡◌, ◌==◌, true, ℕ, List, [], ◌∷◌, ◌⊎◌, Result, MatchResult}
+use Rattle.std.specs.List.{list_all}
+use Rattle.hare_tree.specs.declared.place.Place.{Place}
+use Rattle.hare_tree.specs.declared.place.Fault as fault
+use Rattle.hare_tree.specs.declared.token.Token.{Token}
+use Rattle.hare_tree.specs.declared.stop.Stop.{Stop}
+use Rattle.hare_tree.specs.declared.stop.Stop.TheVariants.{Fault, Memory}
+use Rattle.hare_tree.specs.declared.tree.FileTree.{FileTree}
+use Rattle.hare_tree.specs.Spell.{start_of}
+use Rattle.hare_tree.specs.Tokens.{IsTokens, IsFirstBreak}
+use Rattle.hare_tree.specs.Grammar.{files, fault_at, IsFirstFault, IsLeastFault, IsFileTree}
+
+-- ---- tokens
+
+-- the tree that spells the tokens of the file and has their places, and keeps the limits; no other tree does
+pub record IsFile (file : ℕ) (ts : List Token) (tree : FileTree) : Type 0 where
+  pub read : IsFileTree file ts tree
+  pub only : (other : FileTree) → IsFileTree file ts other → other ≡ tree
+
+-- The tokens begin a file at each of them, and are none: they end before its End, as no tokens do that a lexer gives.
+pub record IsCut (file : ℕ) (ts : List Token) : Type 0 where
+  pub no_fault : (number n : ℕ) → IsFirstFault files ts number n → ⊥
+  pub no_file : (tree : FileTree) → IsFileTree file ts tree → ⊥
+
+
+abbrev pub last_place : ℕ → List Token → Place
+last_place file [] = start_of file
+last_place file (t ∷ []) = t.place
+last_place file (t ∷ u ∷ us) = last_place file (u ∷ us)
+
+-- the first fault of the tokens of a file; where they are cut off, it is E8 at the last of them
+abbrev pub HasFault : ℕ → List Token → fault.Fault → Type 0
+HasFault file ts f =
+    ((number n : ℕ) × IsFirstFault files ts number n × (f ≡ fault_at ts number n)) ⊎ (IsCut file ts × (f ≡ record { number = 8; place = last_place file ts }))
+
+-- all tokens are of the file
+abbrev pub AreOfFile : ℕ → List Token → Type 0
+AreOfFile file ts = list_all (λ t. t.place.file == file) ts ≡ true
+
+-- ---- bytes
+
+-- the tree of a file with these bytes
+pub record IsSource (file : ℕ) (text : List ℕ) (tree : FileTree) : Type 0 where
+  pub tokens : List Token
+  pub are : IsTokens file text tokens
+  pub file_is : IsFile file tokens tree
+
+-- The first fault of the bytes of a file: that of its tokens, or where they break off the least of the break and of the first fault of the tokens
+-- before it.
+abbrev pub HasSourceFault : ℕ → List ℕ → fault.Fault → Type 0
+HasSourceFault file text f =
+    ((ts : List Token) × (number n : ℕ) × IsTokens file text ts × IsFirstFault files ts number n × (f ≡ fault_at ts number n))
+    ⊎ ((lexical : fault.Fault) × (kept : List Token) × IsFirstBreak file text lexical kept × IsLeastFault kept lexical f)
+
+-- ---- what the calls answer
+
+-- the call stops at a fault that these have, or there was not enough memory
+abbrev pub Stops : (fault.Fault → Type 0) → Stop fault.Fault → Type 0
+Stops has (Fault f) = has f
+Stops has Memory = Unit {0}
+
+-- the call gives this tree, or there was not enough memory
+abbrev pub GivesTree : FileTree → Result FileTree (Stop fault.Fault) → Type 0
+GivesTree tree result = MatchResult result (λ t. t ≡ tree) (λ e. e ≡ Memory)
+
+-- the call gives this fault, or there was not enough memory
+abbrev pub GivesFault : fault.Fault → Result FileTree (Stop fault.Fault) → Type 0
+GivesFault f result = MatchResult result (λ t. ⊥) (λ e. (e ≡ Memory) ⊎ (e ≡ Fault f))

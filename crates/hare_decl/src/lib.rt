@@ -1,0 +1,2 @@
+//! Files of Hare: the one tree of a file, or its first fault.
+#![tactic(auto)]

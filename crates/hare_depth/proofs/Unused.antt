@@ -1,0 +1,66 @@
+-- A token that no tree is spelled by is used by no row, so the gauge finds nothing behind it.
+use Rattle.std.proofs.Common.{◌≡◌, ℕ, suc, List, [], ◌∷◌, ◌++◌, Bool, true, false, refl, ap, sym, ◌∙◌, if◌then◌else◌, map, length}
+use Rattle.std.specs.Prelude.{nat_le}
+use Rattle.hare_tree.specs.declared.form.Own.{Own}
+use Rattle.hare_tree.specs.declared.form.Own.TheVariants as ow
+use Rattle.hare_tree.specs.declared.form.Sign.{Sign}
+use Rattle.hare_grammar.specs.declared.class.Class.{Class}
+use Rattle.hare_grammar.specs.declared.class.Class.TheVariants as cl
+use Rattle.hare_grammar.specs.declared.rule.Rule.{Rule}
+use Rattle.hare_grammar.specs.declared.rule.Rule.TheVariants as ru
+use Rattle.hare_grammar.specs.declared.rule.Symbol.{Symbol}
+use Rattle.hare_grammar.specs.declared.rule.Symbol.TheVariants as sy
+use Rattle.hare_grammar.specs.Rows.{Row, Fault, Skips, Uses}
+use Rattle.hare_grammar.specs.Table.{row}
+use Rattle.hare_grammar.proofs.Edges.{climb_skips}
+use Rattle.hare_parsing.proofs.Apart.{of_junk}
+use Rattle.hare_depth.specs.Marks.{Frame, close}
+use Rattle.hare_depth.specs.Gauge.{Step, Goes, Ends, Stuck, wanted, acted, step, Seen, Gauged, with_faults, found, nodes_in, after, gauge}
+
+-- the row uses the token
+abbrev uses : Row → Bool
+uses (Uses cs ss) = true
+uses _ = false
+
+own_unused : (o : Own) → uses (row (ru.Own o) cl.Junk) ≡ false
+own_unused ow.Label = refl
+own_unused _ = refl
+
+unused : (r : Rule) → uses (row r cl.Junk) ≡ false
+unused (ru.Of s) = ap uses (of_junk s)
+unused (ru.Own o) = own_unused o
+unused (ru.Optional s) = rw (of_junk s) refl
+unused (ru.Each s) = rw (of_junk s) refl
+unused (ru.EachFollowed s a) = rw (of_junk s) refl
+unused (ru.List s) = rw (of_junk s) refl
+unused (ru.BehindComma s) = rw (of_junk s) refl
+unused _ = refl
+
+-- no step uses it
+step_unused : (n : ℕ) (st st' : List Symbol) (fs fs' : List Frame) → step n cl.Junk st fs ≡ Goes st' fs' → ⊥
+unfolding step
+step_unused n [] st' fs fs' e = cc
+step_unused n (sy.Close k ∷ st) st' fs fs' e = step_unused n st st' (close k fs) fs' e
+step_unused n (sy.Want s ∷ st) st' fs fs' e = cc
+step_unused n (sy.Part r ∷ st) st' fs fs' e = by (row r cl.Junk) (unused r) e (λ gs q. step_unused n st st' gs fs' q)
+  where
+    by : (z : Row) → uses z ≡ false → acted z n st fs (λ gs. step n cl.Junk st gs) ≡ Goes st' fs' → ((gs : List Frame) → step n cl.Junk st gs ≡ Goes st' fs' → ⊥) → ⊥
+    by Fault u e k = cc
+    by (Skips cs) u e k = k _ e
+    by (Uses cs ss) u e k = cc
+
+-- the gauge tells the same with such a token behind all others
+pub gauge_unused : (w : List Seen) (x : Seen) (st : List Symbol) (fs : List Frame) → x.class ≡ cl.Junk → (gauge (w ++ x ∷ []) st fs).faults ≡ (gauge w st fs).faults
+unfolding gauge
+gauge_unused [] x st fs c = by (step x.number x.class st fs) refl
+  where
+    by : (s : Step) → step x.number x.class st fs ≡ s → (after s x [] (λ st' fs'. gauge [] st' fs')).faults ≡ []
+    by (Goes st' fs') e = absurd (step_unused x.number st st' fs fs' (ap (λ y. step x.number y st fs) (sym c) ∙ e))
+    by (Ends fs') e = refl
+    by Stuck e = refl
+gauge_unused (t ∷ w) x st fs c = by (step t.number t.class st fs) (λ st' fs'. gauge_unused w x st' fs' c)
+  where
+    by : (s : Step) → ((st' : List Symbol) (fs' : List Frame) → (gauge (w ++ x ∷ []) st' fs').faults ≡ (gauge w st' fs').faults) → (after s t (w ++ x ∷ []) (λ st' fs'. gauge (w ++ x ∷ []) st' fs')).faults ≡ (after s t w (λ st' fs'. gauge w st' fs')).faults
+    by (Goes st' fs') k = ap (λ y. found (nodes_in st') fs' ++ y) (k st' fs')
+    by (Ends fs') k = refl
+    by Stuck k = refl
