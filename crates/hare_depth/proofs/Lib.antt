@@ -1,3 +1,4 @@
 pub mod Piles
 pub mod Claims
 pub mod SeenSteps
+pub mod Calm
