@@ -1,3 +1,4 @@
 pub mod Piles
 pub mod Claims
 pub mod Lists
+pub mod Seen
