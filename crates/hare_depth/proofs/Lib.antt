@@ -2,3 +2,5 @@ pub mod Piles
 pub mod Claims
 pub mod SeenSteps
 pub mod Calm
+pub mod Lists
+pub mod Seen
