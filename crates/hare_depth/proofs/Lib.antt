@@ -4,3 +4,5 @@ pub mod SeenSteps
 pub mod Calm
 pub mod Lists
 pub mod Seen
+pub mod Numbers
+pub mod Fronts
