@@ -6,3 +6,4 @@ pub mod Lists
 pub mod Seen
 pub mod Numbers
 pub mod Fronts
+pub mod Lines
