@@ -1,4 +1,6 @@
 pub mod Piles
 pub mod Claims
+pub mod Lists
+pub mod Seen
 pub mod SeenSteps
 pub mod Calm
