@@ -4,3 +4,4 @@ pub mod Lists
 pub mod Seen
 pub mod SeenSteps
 pub mod Calm
+pub mod Reaches
