@@ -5,3 +5,4 @@ pub mod Seen
 pub mod SeenSteps
 pub mod Calm
 pub mod Reaches
+pub mod Halts
