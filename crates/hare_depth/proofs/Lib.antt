@@ -1,9 +1,11 @@
 pub mod Piles
 pub mod Claims
-pub mod SeenSteps
-pub mod Calm
 pub mod Lists
 pub mod Seen
 pub mod Numbers
 pub mod Fronts
 pub mod Lines
+pub mod SeenSteps
+pub mod Calm
+pub mod Reaches
+pub mod Halts

@@ -156,11 +156,14 @@ ends_operand (sy.Part ru.PathOrStruct) = true
 ends_operand _ = false
 
 -- The second symbol may stand behind the first. A rule that needs something of the trees under way stands on top, or behind one that sees to it.
+-- The rules that hand on what the next one needs stand on top alone.
 abbrev pub may_follow : Symbol → Symbol → Bool
 may_follow s (sy.Part (ru.Climb l h)) = ends_operand s
 may_follow s (sy.Part (ru.BehindComma r)) = false
 may_follow s (sy.Part ru.BehindElementComma) = false
 may_follow s (sy.Part ru.AfterUseName) = false
+may_follow s (sy.Part ru.PathName) = false
+may_follow s (sy.Part (ru.Own o)) = false
 may_follow (sy.Part ru.PathName) (sy.Part ru.PathOrStruct) = true
 may_follow s (sy.Part ru.PathOrStruct) = false
 may_follow (sy.Part (ru.Own ow.Name)) (sy.Part ru.AfterForName) = true
