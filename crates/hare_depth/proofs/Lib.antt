@@ -6,3 +6,4 @@ pub mod SeenSteps
 pub mod Calm
 pub mod Reaches
 pub mod Halts
+pub mod Gaining
