@@ -7,3 +7,4 @@ pub mod Calm
 pub mod Reaches
 pub mod Halts
 pub mod Gaining
+pub mod Likewise
