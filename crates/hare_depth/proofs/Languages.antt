@@ -14,7 +14,7 @@ use Rattle.hare_parsing.proofs.Viable.{end}
 use Rattle.hare_parsing.proofs.Loose.{loose}
 use Rattle.hare_depth.specs.Gauge.{numbered, nodes_in, start}
 use Rattle.hare_depth.proofs.Piles.{frames, pile_faults, Gains, Held}
-use Rattle.hare_depth.proofs.Numbers.{Ascends}
+use Rattle.hare_depth.proofs.Gaining.{Ascends}
 use Rattle.hare_depth.proofs.Lines.{line_of}
 use Rattle.hare_depth.proofs.Halts.{stops_done}
 

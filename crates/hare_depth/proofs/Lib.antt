@@ -10,8 +10,5 @@ pub mod Reaches
 pub mod Seen
 pub mod SeenSteps
 pub mod Languages
-pub mod Calm
-pub mod Reaches
-pub mod Halts
 pub mod Gaining
 pub mod Likewise

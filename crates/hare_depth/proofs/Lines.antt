@@ -5,7 +5,7 @@ use Rattle.hare_tree.specs.declared.token.Token.{Token}
 use Rattle.hare_tree.specs.Grammar.{place_of}
 use Rattle.hare_depth.specs.Gauge.{Seen, seen_in}
 use Rattle.hare_depth.proofs.Claims.{Rises}
-use Rattle.hare_depth.proofs.Numbers.{Ascends}
+use Rattle.hare_depth.proofs.Gaining.{Ascends}
 use Rattle.hare_depth.proofs.Fronts.{IsFront}
 
 -- the number of the token with this index
@@ -15,6 +15,7 @@ line_of ts k = (place_of ts k).line
 -- ---- where numbers rise
 
 pub line_within : (n : ℕ) (w : List Token) (m k : ℕ) → Ascends n w m → k < length w → (n ≤ line_of w k) × (line_of w k < m)
+unfolding Ascends
 line_within n [] m k a e = absurd (omega (arith, e))
 line_within n (t ∷ w) m zero a e = (a.0, below (suc t.place.line) w m a.1)
   where
@@ -24,6 +25,7 @@ line_within n (t ∷ w) m zero a e = (a.0, below (suc t.place.line) w m a.1)
 line_within n (t ∷ w) m (suc k) a e = let r = line_within (suc t.place.line) w m k a.1 (omega (arith, e)) in (omega (arith, r.0, a.0), r.1)
 
 pub line_rises : (n : ℕ) (w : List Token) (m j k : ℕ) → Ascends n w m → j < k → k < length w → line_of w j < line_of w k
+unfolding Ascends
 line_rises n [] m j k a d e = absurd (omega (arith, e))
 line_rises n (t ∷ w) m j zero a d e = absurd (omega (arith, d))
 line_rises n (t ∷ w) m zero (suc k) a d e = let r = line_within (suc t.place.line) w m k a.1 (omega (arith, e)) in omega (arith, r.0)
@@ -37,6 +39,7 @@ rises w m a = (λ k e. positive k e, λ j k d e. line_rises 1 w m j k a d e)
 
 -- one number stands at one index
 pub line_once : (n : ℕ) (w : List Token) (m j k : ℕ) → Ascends n w m → j < length w → k < length w → line_of w j ≡ line_of w k → j ≡ k
+unfolding Ascends
 line_once n [] m j k a d e i = absurd (omega (arith, e))
 line_once n (t ∷ w) m zero zero a d e i = refl
 line_once n (t ∷ w) m zero (suc k) a d e i = let r = line_rises n (t ∷ w) m 0 (suc k) a (omega arith) e in absurd (omega (arith, r, i))
@@ -51,6 +54,7 @@ line_before (t ∷ a) b zero e = refl
 line_before (t ∷ a) b (suc k) e = line_before a b k (omega (arith, e))
 
 pub line_behind : (a b : List Token) (n m k : ℕ) → Ascends n b m → length a ≤ k → k < length (a ++ b) → n ≤ line_of (a ++ b) k
+unfolding Ascends
 line_behind [] b n m k x d e = (line_within n b m k x e).0
 line_behind (t ∷ a) b n m zero x d e = absurd (omega (arith, d))
 line_behind (t ∷ a) b n m (suc k) x d e = line_behind a b n m k x (omega (arith, d)) (omega (arith, e))
@@ -72,6 +76,7 @@ around_at (t ∷ w) (suc k) e =
     record { before = t ∷ r.before; token = r.token; behind = r.behind; is = ap (λ l. t ∷ l) r.is; count = ap suc r.count; line = r.line }
 
 pub ascends_apart : (n : ℕ) (a b : List Token) (m : ℕ) → Ascends n (a ++ b) m → (k : ℕ) × Ascends n a k × Ascends k b m
+unfolding Ascends
 ascends_apart n [] b m x = (n, omega arith, x)
 ascends_apart n (t ∷ a) b m x = let r = ascends_apart (suc t.place.line) a b m x.1 in (r.0, (x.0, r.1), r.2)
 

@@ -11,6 +11,7 @@ use Rattle.hare_parsing.proofs.Strung.{strung_append}
 use Rattle.hare_parsing.proofs.Places.{spot, all_stand, places_stand}
 use Rattle.hare_parsing.proofs.Faults.{before_spot}
 use Rattle.hare_depth.specs.Gauge.{numbered}
+use Rattle.hare_depth.proofs.Gaining.{Ascends}
 
 -- ---- lists of numbered tokens
 
@@ -68,24 +69,23 @@ plain_lengths a b e = sym (length-map a unplaced) ∙ ap length e ∙ length-map
 
 -- ---- numbers rise
 
--- the lines of the tokens begin with `n` or a greater one, rise, and are below `m`
-abbrev pub Ascends : ℕ → List Token → ℕ → Type 0
-Ascends n [] m = n ≤ m
-Ascends n (t ∷ w) m = (n ≤ t.place.line) × Ascends (suc t.place.line) w m
-
 pub ascends_from : (k n : ℕ) (w : List Token) (m : ℕ) → k ≤ n → Ascends n w m → Ascends k w m
+unfolding Ascends
 ascends_from k n [] m e a = omega (arith, a, e)
 ascends_from k n (t ∷ w) m e a = (omega (arith, a.0, e), a.1)
 
 pub ascends_to : (n : ℕ) (w : List Token) (m k : ℕ) → m ≤ k → Ascends n w m → Ascends n w k
+unfolding Ascends
 ascends_to n [] m k e a = omega (arith, a, e)
 ascends_to n (t ∷ w) m k e a = (a.0, ascends_to (suc t.place.line) w m k e a.1)
 
 pub ascends_append : (n : ℕ) (a : List Token) (m : ℕ) (b : List Token) (k : ℕ) → Ascends n a m → Ascends m b k → Ascends n (a ++ b) k
+unfolding Ascends
 ascends_append n [] m b k x y = ascends_from n m b k x y
 ascends_append n (t ∷ a) m b k x y = (x.0, ascends_append (suc t.place.line) a m b k x.1 y)
 
 ascends_strung_to : (n : ℕ) (t : Token) (us : List Token) (m : ℕ) → n ≤ t.place.line → Ascends (suc t.place.line) us m → Ascends n (strung_to t us) m
+unfolding Ascends
 ascends_strung_to n t [] m e a = (e, a)
 ascends_strung_to n t (u ∷ us) m e a = by (is_proper_string t) (is_proper_string u)
   where
@@ -95,12 +95,14 @@ ascends_strung_to n t (u ∷ us) m e a = by (is_proper_string t) (is_proper_stri
     by false q = (e, a)
 
 pub strung_ascends : (n : ℕ) (ts : List Token) → Ascends n (strung (numbered n ts)) (n + length ts)
+unfolding Ascends
 strung_ascends n [] = omega arith
 strung_ascends n (t ∷ ts) =
     let e : suc n + length ts ≡ n + length (t ∷ ts) = omega arith in
     ascends_strung_to n _ (strung (numbered (suc n) ts)) (n + length (t ∷ ts)) (omega arith) (subst (λ k. Ascends (suc n) (strung (numbered (suc n) ts)) k) e (strung_ascends (suc n) ts))
 
 pub numbered_ascends : (n : ℕ) (ts : List Token) → Ascends n (numbered n ts) (n + length ts)
+unfolding Ascends
 numbered_ascends n [] = omega arith
 numbered_ascends n (t ∷ ts) =
     let e : suc n + length ts ≡ n + length (t ∷ ts) = omega arith in
