@@ -1,4 +1,16 @@
-pub mod Piles
+pub mod Calm
 pub mod Claims
 pub mod Firsts
 pub mod Unused
+pub mod Fronts
+pub mod Halts
+pub mod Lines
+pub mod Lists
+pub mod Numbers
+pub mod Piles
+pub mod Reaches
+pub mod Seen
+pub mod SeenSteps
+pub mod Languages
+pub mod Gaining
+pub mod Likewise
