@@ -1,6 +1,7 @@
 -- A token that no tree is spelled by is used by no row, so the gauge finds nothing behind it.
-use Rattle.std.proofs.Common.{◌≡◌, ℕ, suc, List, [], ◌∷◌, ◌++◌, Bool, true, false, refl, ap, sym, ◌∙◌, if◌then◌else◌, map, length}
-use Rattle.std.specs.Prelude.{nat_le}
+use Rattle.std.proofs.Common.{◌≡◌, ℕ, suc, List, [], ◌∷◌, ◌++◌, Bool, true, false, ◌&&◌, ◌+◌, refl, ap, sym, ◌∙◌, map, length}
+use Rattle.std.proofs.lemmas.List.{map-append}
+use Rattle.hare_tree.specs.declared.token.Token.{Token}
 use Rattle.hare_tree.specs.declared.form.Own.{Own}
 use Rattle.hare_tree.specs.declared.form.Own.TheVariants as ow
 use Rattle.hare_tree.specs.declared.form.Sign.{Sign}
@@ -13,9 +14,13 @@ use Rattle.hare_grammar.specs.declared.rule.Symbol.TheVariants as sy
 use Rattle.hare_grammar.specs.Rows.{Row, Fault, Skips, Uses}
 use Rattle.hare_grammar.specs.Table.{row}
 use Rattle.hare_grammar.proofs.Edges.{climb_skips}
+use Rattle.hare_parsing.specs.Faults.{strung, ends_in_string}
 use Rattle.hare_parsing.proofs.Apart.{of_junk}
+use Rattle.hare_parsing.proofs.Strung.{strung_append}
+use Rattle.hare_parsing.proofs.Viable.{end}
 use Rattle.hare_depth.specs.Marks.{Frame, close}
-use Rattle.hare_depth.specs.Gauge.{Step, Goes, Ends, Stuck, wanted, acted, step, Seen, Gauged, with_faults, found, nodes_in, after, gauge}
+use Rattle.hare_depth.specs.Gauge.{Step, Goes, Ends, Stuck, wanted, acted, step, Seen, Gauged, with_faults, found, nodes_in, after, gauge, numbered, seen_in, seen}
+use Rattle.hare_depth.proofs.Numbers.{numbered_append}
 
 -- the row uses the token
 abbrev uses : Row → Bool
@@ -64,3 +69,25 @@ gauge_unused (t ∷ w) x st fs c = by (step t.number t.class st fs) (λ st' fs'.
     by (Goes st' fs') k = ap (λ y. found (nodes_in st') fs' ++ y) (k st' fs')
     by (Ends fs') k = refl
     by Stuck k = refl
+
+-- ---- End behind the tokens of a file
+
+-- the list with End behind it
+abbrev pub closed : List Token → List Token
+closed ts = ts ++ end ∷ []
+
+seen_closed : (ts : List Token) → (x : Seen) × ((seen (closed ts) ≡ seen ts ++ x ∷ []) × (x.class ≡ cl.Junk))
+seen_closed ts =
+    let a : numbered 1 (closed ts) ≡ numbered 1 ts ++ numbered (1 + length ts) (end ∷ []) = numbered_append 1 ts (end ∷ []) in
+    let b : strung (numbered 1 (closed ts)) ≡ strung (numbered 1 ts) ++ numbered (1 + length ts) (end ∷ []) = ap strung a ∙ strung_append (numbered 1 ts) (numbered (1 + length ts) (end ∷ [])) (apart (ends_in_string (numbered 1 ts))) in
+    (record { class = cl.Junk; number = 1 + length ts }, (ap (map seen_in) b ∙ map-append seen_in (strung (numbered 1 ts)) (numbered (1 + length ts) (end ∷ [])), refl))
+  where
+    apart : (b : Bool) → (b && false) ≡ false
+    apart true = refl
+    apart false = refl
+
+-- the gauge tells the same with End behind the tokens
+pub gauge_closed : (ts : List Token) (st : List Symbol) (fs : List Frame) → (gauge (seen (closed ts)) st fs).faults ≡ (gauge (seen ts) st fs).faults
+gauge_closed ts st fs =
+    let q = seen_closed ts in
+    ap (λ w. (gauge w st fs).faults) q.1.0 ∙ gauge_unused (seen ts) q.0 st fs q.1.1
