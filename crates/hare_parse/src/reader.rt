@@ -1,7 +1,7 @@
 //! Trees read from the tokens of a file.
 
 ghost use Rattle.std.specs.Prelude.{◌≡◌, [], ◌∷◌, drop, IfOk};
-ghost use Rattle.hare_tree.specs.Grammar.{joined};
+ghost use Rattle.hare_parsing.specs.Faults.{strung};
 ghost use Rattle.hare_grammar.specs.Rows as rows;
 ghost use Rattle.hare_grammar.specs.Engine as engine;
 ghost use Rattle.hare_parse.specs.Limits as bounds;
@@ -37,8 +37,8 @@ pub fn read(
     at: usize,
     sort: Sort,
 ) -> Result<Outcome, AllocError>
-    ensures bounded { IfOk result (λ o. spec.IsRead (bounds.run_within file (joined (drop at tokens.now)) (rows.of sort ∷ []) engine.bottom) o tokens.now) }
-    ensures machine { IfOk result (λ o. spec.IsReadBy (engine.run file (joined (drop at tokens.now)) (rows.of sort ∷ []) engine.bottom) o tokens.now) }
+    ensures bounded { IfOk result (λ o. spec.IsRead (bounds.run_within file (strung (drop at tokens.now)) (rows.of sort ∷ []) engine.bottom) o tokens.now) }
+    ensures machine { IfOk result (λ o. spec.IsReadBy (engine.run file (strung (drop at tokens.now)) (rows.of sort ∷ []) engine.bottom) o tokens.now) }
     ensures place { IfOk result (λ o. spec.IsPlace tokens.now at (spec.place_of o)) }
 {
     let mut stack = Pile::new(alloc);

@@ -1,7 +1,7 @@
 //! The whole run: tokens are read from a place on, up to the first that is not used.
 
 ghost use Rattle.std.specs.Prelude.{◌≡◌, Some, drop, slice_get, IfOk};
-ghost use Rattle.hare_tree.specs.Grammar.{joined};
+ghost use Rattle.hare_parsing.specs.Faults.{strung};
 ghost use Rattle.hare_parse.specs.Limits as bounds;
 ghost use Rattle.hare_parse.specs.Seen.{waited};
 ghost use Rattle.hare_parse.specs.Runs as spec;
@@ -12,8 +12,7 @@ use crate::group::Group;
 use crate::pile::Pile;
 use crate::row::Wait;
 use crate::step::{Answer, step};
-use crate::strings::{Strings, is_plain_string, place_behind, strings_at};
-use hare_grammar::Class;
+use crate::strings::{Joined, is_proper_string, place_behind, strings_at};
 use hare_tree::{Token, Tokens};
 use std::alloc::{AllocError, Global};
 
@@ -45,7 +44,7 @@ pub fn run(
     stack: &mut Pile<Wait>,
     groups: &mut Pile<Group>,
 ) -> Result<Reached, AllocError>
-    ensures value { IfOk result (λ r. spec.Comes (bounds.run_within file (joined (drop from tokens.now)) (waited stack.old) groups.old) r tokens.now groups.new) }
+    ensures value { IfOk result (λ r. spec.Comes (bounds.run_within file (strung (drop from tokens.now)) (waited stack.old) groups.old) r tokens.now groups.new) }
     ensures place { IfOk result (λ r. spec.IsPlace tokens.now from (spec.place_in r)) }
 {
     let mut at = from;
@@ -78,21 +77,14 @@ fn read_at(
     requires { Some token.now ≡ slice_get tokens.now at }
     ensures { IfOk result (λ r. spec.Reads file tokens.now at (waited stack.old) groups.old r (waited stack.new) groups.new) }
 {
-    if !is_plain_string(token) {
-        let answer = step(alloc, file, token, class_of(token), stack, groups)?;
-        return Ok(Read {
-            answer,
-            next: place_behind(tokens, at),
-        });
+    if is_proper_string(token) {
+        let Joined { token, next } = strings_at(alloc, tokens, at, token)?;
+        let answer = step(alloc, file, &token, class_of(&token), stack, groups)?;
+        return Ok(Read { answer, next });
     }
-    match strings_at(alloc, tokens, at, token)? {
-        Strings::One(joined, next) => {
-            let answer = step(alloc, file, &joined, class_of(&joined), stack, groups)?;
-            Ok(Read { answer, next })
-        }
-        Strings::Junk => {
-            let answer = step(alloc, file, token, Class::Junk, stack, groups)?;
-            Ok(Read { answer, next: at })
-        }
-    }
+    let answer = step(alloc, file, token, class_of(token), stack, groups)?;
+    Ok(Read {
+        answer,
+        next: place_behind(tokens, at),
+    })
 }
