@@ -5,13 +5,12 @@ use Rattle.hare_tree.specs.Node.{Node}
 use Rattle.hare_grammar.specs.declared.rule.Symbol.{Symbol}
 use Rattle.hare_grammar.specs.Classes.{class_of}
 use Rattle.hare_grammar.specs.Engine.{Group, Outcome, Done, Fails, step}
+use Rattle.hare_parsing.specs.Faults.{strung, StandsAt}
 use Rattle.hare_parse.specs.declared.reader.Outcome.{Outcome as Answered}
 use Rattle.hare_parse.specs.declared.reader.Outcome.TheVariants as ou
 use Rattle.hare_parse.specs.declared.run.Read.{Read}
 use Rattle.hare_parse.specs.declared.run.Reached.{Reached}
 use Rattle.hare_parse.specs.declared.run.Reached.TheVariants as re
-use Rattle.hare_parse.specs.Limits.{Bounded, Within, Deep}
-use Rattle.hare_parsing.specs.Faults.{strung, StandsAt}
 use Rattle.hare_parse.specs.Joined.{BeginsWith}
 use Rattle.hare_parse.specs.Seen.{Says}
 
@@ -21,12 +20,10 @@ pub record Reads (f : ℕ) (ts : List Token) (at : ℕ) (st : List Symbol) (gs :
   pub begins : BeginsWith ts at token r.next
   pub says : Says (step f token (class_of token) st gs) r.answer st' gs'
 
--- The outcome's tokens are the joined tokens from the place on that is answered; where all is read, these are the trees under way.
-abbrev pub Comes : Bounded → Reached → List Token → List Group → Type 0
-Comes (Within (Done us gs)) (re.End n) ts gs' = (us ≡ strung (drop n ts)) × (gs' ≡ gs)
-Comes (Within (Fails us)) (re.Stuck n) ts gs' = us ≡ strung (drop n ts)
-Comes (Deep us) (re.Deep n) ts gs' = us ≡ strung (drop n ts)
-Comes _ _ ts gs' = ⊥
+-- The outcome of a run that has come to this place of the list, with these trees under way: its tokens are the joined tokens from there on.
+abbrev pub outcome_in : Reached → List Token → List Group → Outcome
+outcome_in (re.End n) ts gs = Done (strung (drop n ts)) gs
+outcome_in (re.Stuck n) ts gs = Fails (strung (drop n ts))
 
 -- ---- trees that are read
 
@@ -36,18 +33,10 @@ kids_on [] = []
 kids_on (g ∷ gs) = g.kids
 
 -- The same, where all is read with the kids of the innermost tree under way.
-abbrev pub IsRead : Bounded → Answered → List Token → Type 0
-IsRead (Within (Done us gs)) (ou.Done trees n) ts = (us ≡ strung (drop n ts)) × (trees.items ≡ kids_on gs)
-IsRead (Within (Fails us)) (ou.Stuck n) ts = us ≡ strung (drop n ts)
-IsRead (Deep us) (ou.Deep n) ts = us ≡ strung (drop n ts)
+abbrev pub IsRead : Outcome → Answered → List Token → Type 0
+IsRead (Done us gs) (ou.Done trees n) ts = (us ≡ strung (drop n ts)) × (trees.items ≡ kids_on gs)
+IsRead (Fails us) (ou.Stuck n) ts = us ≡ strung (drop n ts)
 IsRead _ _ ts = ⊥
-
--- The same of a run without bounds; where the program gives up at a bound, nothing.
-abbrev pub IsReadBy : Outcome → Answered → List Token → Type 0
-IsReadBy (Done us gs) (ou.Done trees n) ts = (us ≡ strung (drop n ts)) × (trees.items ≡ kids_on gs)
-IsReadBy (Fails us) (ou.Stuck n) ts = us ≡ strung (drop n ts)
-IsReadBy o (ou.Deep n) ts = Unit {0}
-IsReadBy _ _ ts = ⊥
 
 -- ---- places
 
@@ -61,9 +50,7 @@ pub record IsPlace (ts : List Token) (from n : ℕ) : Type 0 where
 abbrev pub place_in : Reached → ℕ
 place_in (re.End n) = n
 place_in (re.Stuck n) = n
-place_in (re.Deep n) = n
 
 abbrev pub place_of : Answered → ℕ
 place_of (ou.Done trees n) = n
 place_of (ou.Stuck n) = n
-place_of (ou.Deep n) = n

@@ -1,18 +1,18 @@
-use Rattle.std.proofs.Common.{sym, rules, arith}
+use Rattle.std.proofs.Common.{refl, rules, arith}
 use Rattle.std.proofs.lemmas.Grind.{common_steps}
-use Rattle.hare_parse.specs.Limits.{run_within}
+use Rattle.hare_grammar.specs.Engine.{run}
 use Rattle.hare_parse.proofs.Joining.{strung_past}
 use Rattle.hare_parse.proofs.Parted.{place_further}
 use Rattle.hare_parse.proofs.run.run.Goals as goal
 
 pub returns-clause-value : goal.returns-clause-value
-unfolding run_within
+unfolding run
 returns-clause-value c =
     let e = strung_past c.args.tokens.now c.loop-token.at c.in_default.ensures in
-    rw (c.loop-token.invariant.same, e) (sym e)
+    rw (c.loop-token.invariant.same, e) refl
 
 pub loop-token-preserved : goal.loop-token-preserved
-unfolding run_within
+unfolding run
 loop-token-preserved c =
     let r = c.in_ok-read.ensures in
     record {
