@@ -1,4 +1,3 @@
 pub mod Seen
 pub mod Joined
-pub mod Limits
 pub mod Runs

@@ -1,11 +1,9 @@
 //! The parser of Hare: the machine that the grammar's table drives.
 #![tactic(auto)]
 
-mod bounds;
 mod change;
 mod class;
 mod group;
-mod grown;
 mod pile;
 mod reader;
 mod row;
@@ -17,5 +15,6 @@ mod strings;
 #[cfg(test)]
 mod tests;
 mod waits;
+mod whole;
 
 pub use reader::{Outcome, read};
