@@ -49,7 +49,7 @@ viable_no_first l ts number n v d f = by f.fault
     by (inr s) = d n s.1
 
 -- of two places of which neither is the lesser
-same_place : (n m : ℕ) → (n < m → ⊥) → (m < n → ⊥) → n ≡ m
+pub same_place : (n m : ℕ) → (n < m → ⊥) → (m < n → ⊥) → n ≡ m
 same_place n m a b = by (cases_order n m)
   where
     by : (n ≡ m) ⊎ ((n < m) ⊎ (m < n)) → n ≡ m

@@ -11,7 +11,6 @@ use Rattle.hare_tree.specs.Node.{Node}
 use Rattle.hare_tree.specs.Spell.{spell}
 use Rattle.hare_tree.specs.Shape.{is_shaped}
 use Rattle.hare_tree.specs.Grammar.{Spells, trees_of, place_of, IsRun, IsDepthFault, IsTreeOf}
-use Rattle.hare_parse.specs.declared.parse.Parsed.{Parsed}
 
 -- ---- what the tokens come to
 
@@ -54,21 +53,3 @@ abbrev pub HasFault : Sort → List Token → fault.Fault → Type 0
 HasFault s ts f =
     (n : ℕ) × (((f ≡ fault_up_to ts 9 n) × IsTooDeep s ts n) ⊎ ((f ≡ fault_up_to ts 8 n) × IsBroken s ts n))
 
--- ---- what the calls answer
-
--- the tree with the tokens up to `next`, of a list read from `at` on
-abbrev pub IsParsed : Sort → List Token → ℕ → Parsed → Type 0
-IsParsed s ts at p = (at ≤ p.next) × IsRead s (file_in ts at) (drop at ts) p.tree (p.next - at)
-
--- the call stops at a fault of the tokens, or there was not enough memory
-abbrev pub Stops : Sort → List Token → ℕ → Stop fault.Fault → Type 0
-Stops s ts at (Fault f) = HasFault s (drop at ts) f
-Stops s ts at Memory = Unit {0}
-
--- the call gives this tree and the place behind it, or there was not enough memory
-abbrev pub GivesTree : ℕ → Node → ℕ → Result Parsed (Stop fault.Fault) → Type 0
-GivesTree at tree n result = MatchResult result (λ p. (p.tree ≡ tree) × (p.next ≡ at + n)) (λ e. e ≡ Memory)
-
--- the call gives this fault, or there was not enough memory
-abbrev pub GivesFault : fault.Fault → Result Parsed (Stop fault.Fault) → Type 0
-GivesFault f result = MatchResult result (λ p. ⊥) (λ e. (e ≡ Memory) ⊎ (e ≡ Fault f))

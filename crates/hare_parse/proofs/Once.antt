@@ -1,0 +1,36 @@
+-- The tokens from a place on have one answer: one tree, or one fault.
+use Rattle.std.proofs.Common.{◌≡◌, ℕ, suc, ◌<◌, ◌≤◌, ◌⊎◌, inl, inr, List, take, length, refl, ap, sym, ◌∙◌, subst, arith}
+use Rattle.hare_tree.specs.declared.place.Fault as fault
+use Rattle.hare_tree.specs.declared.token.Token.{Token}
+use Rattle.hare_tree.specs.declared.form.Sort.{Sort}
+use Rattle.hare_tree.specs.Node.{Node}
+use Rattle.hare_tree.specs.Grammar.{Language, IsRun, IsTreeOf}
+use Rattle.hare_depth.proofs.Firsts.{viable_front, same_place}
+use Rattle.hare_parse.specs.Answers.{IsRead, IsTooDeep, IsBroken, HasFault, fault_up_to}
+
+-- no front that is viable is longer than the longest
+run_no_less : {T : Type 0} (l : Language T) (ts : List Token) (n m : ℕ) → IsRun l ts n → IsRun l ts m → n < m → ⊥
+run_no_less l ts n m a b h = a.longest (omega (arith, h, b.within)) (viable_front l ts (suc n) m (omega (arith, h)) b.viable)
+
+pub run_once : {T : Type 0} (l : Language T) (ts : List Token) (n m : ℕ) → IsRun l ts n → IsRun l ts m → n ≡ m
+run_once l ts n m a b = same_place n m (run_no_less l ts n m a b) (run_no_less l ts m n b a)
+
+pub read_once : (s : Sort) (file : ℕ) (ts : List Token) (a b : Node) (n m : ℕ) → IsRead s file ts a n → IsRead s file ts b m → (b ≡ a) × (m ≡ n)
+read_once s file ts a b n m x y =
+    let e = run_once _ ts m n y.run x.run in
+    (x.only b (subst (λ k. IsTreeOf s file (take k ts) b) e y.read), e)
+
+pub read_no_fault : (s : Sort) (file : ℕ) (ts : List Token) (a : Node) (n : ℕ) (f : fault.Fault) → IsRead s file ts a n → HasFault s ts f → ⊥
+read_no_fault s file ts a n f x (m, inl d) = x.shallow m d.1.passed
+read_no_fault s file ts a n f x (m, inr d) =
+    let e = run_once _ ts n m x.run d.1.run in
+    let t = subst (λ k. IsTreeOf s file (take k ts) a) e x.read in
+    d.1.no_tree a t.shaped t.spelled
+
+pub fault_once : (s : Sort) (ts : List Token) (f g : fault.Fault) → HasFault s ts f → HasFault s ts g → f ≡ g
+fault_once s ts f g (n, inl a) (m, inl b) =
+    let e = same_place n m (λ h. b.1.first n h a.1.passed) (λ h. a.1.first m h b.1.passed) in
+    a.0 ∙ ap (fault_up_to ts 9) e ∙ sym b.0
+fault_once s ts f g (n, inl a) (m, inr b) = absurd (b.1.shallow n a.1.passed)
+fault_once s ts f g (n, inr a) (m, inl b) = absurd (a.1.shallow m b.1.passed)
+fault_once s ts f g (n, inr a) (m, inr b) = a.0 ∙ ap (fault_up_to ts 8) (run_once _ ts n m a.1.run b.1.run) ∙ sym b.0

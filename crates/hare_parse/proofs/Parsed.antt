@@ -1,0 +1,108 @@
+-- What the machine's run over tokens, with End behind them, says of the tree of the tokens and of their first fault.
+use Rattle.std.proofs.Common.{◌≡◌, ℕ, suc, ◌<◌, ◌≤◌, List, [], ◌∷◌, ◌++◌, true, take, length, refl, ap, sym, ◌∙◌, subst, arith}
+use Rattle.std.proofs.lemmas.List.{take-append-le, length-append}
+use Rattle.hare_tree.specs.declared.token.Token.{Token}
+use Rattle.hare_tree.specs.declared.form.Sort.{Sort}
+use Rattle.hare_tree.specs.Node.{Node}
+use Rattle.hare_tree.specs.Spell.{spell}
+use Rattle.hare_tree.specs.Shape.{is_shaped}
+use Rattle.hare_tree.specs.Depth.{deep_root}
+use Rattle.hare_tree.specs.Grammar.{Spells, HasPlaces, joined, trees_of, IsViable, IsRun, IsSyntaxFault, IsOn, IsDepthFault, IsTreeOf}
+use Rattle.hare_grammar.specs.Rows.{of}
+use Rattle.hare_grammar.specs.Engine.{Group, add, Step, Goes, Ends, Stuck, step, Outcome, Done, Fails, after, run, bottom}
+use Rattle.hare_grammar.specs.Classes.{class_of}
+use Rattle.hare_grammar.proofs.Places.{tokens_have_one_tree}
+use Rattle.hare_parsing.specs.Viable.{has_trees}
+use Rattle.hare_parsing.specs.Faults.{strung, StandsAt}
+use Rattle.hare_parsing.proofs.Breaks.{trees_sort}
+use Rattle.hare_parsing.proofs.Faults.{runs_fault, runs_fault_in_trees, runs_read_fronts}
+use Rattle.hare_parsing.proofs.Places.{cut}
+use Rattle.hare_parsing.proofs.Strung.{head}
+use Rattle.hare_parsing.proofs.Viable.{end}
+use Rattle.hare_depth.specs.Depth.{TellsDepth, gauged, GaugesTell, GaugedTreesFit}
+use Rattle.hare_depth.specs.Gauge.{start}
+use Rattle.hare_depth.proofs.Unused.{closed, gauge_closed}
+use Rattle.hare_parse.specs.Answers.{IsRead, IsTooDeep, IsBroken}
+
+-- ---- lists with End behind them
+
+front_closed : (ts : List Token) (n : ℕ) → n ≤ length ts → take n (closed ts) ≡ take n ts
+front_closed ts n h = take-append-le n ts (end ∷ []) h
+
+-- the longest front that begins a tree is the same, as it ends in front of End at the latest
+run_closed : (s : Sort) (ts : List Token) (n : ℕ) → n ≤ length ts → IsSyntaxFault (trees_of s) (closed ts) n → IsRun (trees_of s) ts n
+run_closed s ts n h f =
+    record {
+      within = h;
+      viable = subst (λ y. IsViable (trees_of s) y) (front_closed ts n h) f.before;
+      longest = λ i v. f.ends (subst (λ y. IsViable (trees_of s) y) (sym (front_closed ts (suc n) (omega (arith, i)))) v);
+    }
+
+-- a run ends at a token, or else the tokens are used up
+done_behind : (f : ℕ) (w v : List Token) (st : _) (gs made : List Group) → run f w st gs ≡ Done v made → (t : Token) × (rest : List Token) × (v ≡ t ∷ rest)
+unfolding run
+done_behind f [] v st gs made e = cc
+done_behind f (t ∷ w) v st gs made e = by (step f t (class_of t) st gs) e (λ st' gs' q. done_behind f w v st' gs' made q)
+  where
+    by : (z : Step) → after z t w (λ st' gs'. run f w st' gs') ≡ Done v made → ((st' : _) (gs' : List Group) → run f w st' gs' ≡ Done v made → (x : Token) × (rest : List Token) × (v ≡ x ∷ rest)) → (x : Token) × (rest : List Token) × (v ≡ x ∷ rest)
+    by (Goes st' gs') i k = k st' gs' i
+    by (Ends gs') i k = let j : v ≡ t ∷ w = cc in (t, w, j)
+    by Stuck i k = cc
+
+abbrev top_kids : List Group → List Node
+top_kids [] = []
+top_kids (g ∷ gs) = g.kids
+
+same_added : (a b : Node) → add a bottom ≡ add b bottom → a ≡ b
+same_added a b e = let k : a ∷ [] ≡ b ∷ [] = ap top_kids e in cc
+
+-- ---- depth
+
+-- where nothing is told, no limit is passed
+pub none_told : GaugesTell → (s : Sort) → has_trees s ≡ true → (ts : List Token) → (gauged s ts).faults ≡ [] → (m : ℕ) → IsDepthFault (trees_of s) ts m → ⊥
+none_told tell s c ts g m d =
+    let q = (tell s c ts).least m d in
+    subst (λ y. IsOn (suc q.0) y) g q.2
+
+-- the least that is told is the first limit that is passed
+pub told_is_first : GaugesTell → (s : Sort) → has_trees s ≡ true → (ts : List Token) (n : ℕ) → IsOn (suc n) (gauged s ts).faults → ((m : ℕ) → m < n → IsOn (suc m) (gauged s ts).faults → ⊥) → IsTooDeep s ts n
+told_is_first tell s c ts n on least =
+    record {
+      passed = (tell s c ts).told n on;
+      first = λ m h d. let q = (tell s c ts).least m d in least q.0 (omega (arith, h, q.1)) q.2;
+    }
+
+-- ---- trees
+
+pub done_is_read : GaugesTell → GaugedTreesFit → (s : Sort) → has_trees s ≡ true → (file : ℕ) (ts us : List Token) (tree : Node) (n : ℕ) → run file (strung (closed ts)) (of s ∷ []) bottom ≡ Done us (add tree bottom) → StandsAt (closed ts) n us → n ≤ length ts → (gauged s ts).faults ≡ [] → IsRead s file ts tree n
+done_is_read tell fit s c file ts us tree n e q h g =
+    let b = done_behind file (strung (closed ts)) us (of s ∷ []) bottom (add tree bottom) e in
+    let q' : StandsAt (closed ts) n (b.0 ∷ b.1) = subst (λ y. StandsAt (closed ts) n y) b.2 q in
+    let r = runs_read_fronts s c file (closed ts) n b.0 b.1 (add tree bottom) (e ∙ ap (λ y. Done y (add tree bottom)) b.2) q' in
+    let i : r.tree ≡ tree = same_added r.tree tree (sym r.is_made) in
+    let front = front_closed ts n h in
+    let shaped : is_shaped s tree ≡ true = subst (λ t. is_shaped s t ≡ true) i r.shaped in
+    let spelled : Spells (spell 0 tree) (take n ts) = subst (λ t. Spells (spell 0 t) (take n ts)) i (subst (λ y. Spells (spell 0 r.tree) y) front r.spelled) in
+    let placed : HasPlaces file (joined (take n ts)) 0 tree = subst (λ t. HasPlaces file (joined (take n ts)) 0 t) i (subst (λ y. HasPlaces file (joined y) 0 r.tree) front r.placed) in
+    let t : IsTreeOf s file (take n ts) tree = record { shaped = shaped; shallow = fit s c file (closed ts) us tree e (gauge_closed ts (of s ∷ []) start ∙ g); spelled = spelled; placed = placed } in
+    record { run = run_closed s ts n h r.ends; read = t; only = λ other o. tokens_have_one_tree s (trees_sort s c) file (take n ts) other tree o t; shallow = none_told tell s c ts g }
+
+-- ---- faults
+
+-- the joined tokens from a place in front of the last End on are at least one
+pub some_behind : (ts us : List Token) (n : ℕ) → StandsAt (closed ts) n us → n ≤ length ts → (t : Token) × (rest : List Token) × (us ≡ t ∷ rest)
+some_behind ts us n q h =
+    let c = cut (closed ts) n (omega (arith, h, length-append ts (end ∷ []))) in
+    let k = head c.first c.behind in
+    (k.first, k.rest, q.behind ∙ ap strung c.rest ∙ k.is)
+
+pub stuck_is_broken : GaugesTell → (s : Sort) → has_trees s ≡ true → (file : ℕ) (ts us : List Token) (n : ℕ) → run file (strung (closed ts)) (of s ∷ []) bottom ≡ Fails us → StandsAt (closed ts) n us → n ≤ length ts → (gauged s ts).faults ≡ [] → IsBroken s ts n
+stuck_is_broken tell s c file ts us n e q h g =
+    let b = some_behind ts us n q h in
+    let q' : StandsAt (closed ts) n (b.0 ∷ b.1) = subst (λ y. StandsAt (closed ts) n y) b.2 q in
+    let e' : run file (strung (closed ts)) (of s ∷ []) bottom ≡ Fails (b.0 ∷ b.1) = e ∙ ap Fails b.2 in
+    record {
+      run = run_closed s ts n h (runs_fault s c file (closed ts) n b.0 b.1 e' q');
+      no_tree = λ tree a i. runs_fault_in_trees s c file (closed ts) n b.0 b.1 e' q' tree a (subst (λ y. Spells (spell 0 tree) y) (sym (front_closed ts n h)) i);
+      shallow = none_told tell s c ts g;
+    }
