@@ -1,3 +1,4 @@
 pub mod Seen
 pub mod Joined
 pub mod Runs
+pub mod Files
