@@ -4,3 +4,5 @@ pub mod Kids
 pub mod Parted
 pub mod Parsed
 pub mod Once
+pub mod FileParts
+pub mod Made

@@ -3,6 +3,7 @@
 
 mod change;
 mod class;
+mod file;
 mod group;
 mod pile;
 mod reader;
@@ -17,4 +18,5 @@ mod tests;
 mod waits;
 mod whole;
 
+pub use file::{FileOutcome, read_file};
 pub use reader::{Outcome, read};
