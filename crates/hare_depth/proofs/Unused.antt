@@ -42,7 +42,7 @@ unused (ru.BehindComma s) = rw (of_junk s) refl
 unused _ = refl
 
 -- no step uses it
-step_unused : (n : ℕ) (st st' : List Symbol) (fs fs' : List Frame) → step n cl.Junk st fs ≡ Goes st' fs' → ⊥
+pub step_unused : (n : ℕ) (st st' : List Symbol) (fs fs' : List Frame) → step n cl.Junk st fs ≡ Goes st' fs' → ⊥
 unfolding step
 step_unused n [] st' fs fs' e = cc
 step_unused n (sy.Close k ∷ st) st' fs fs' e = step_unused n st st' (close k fs) fs' e

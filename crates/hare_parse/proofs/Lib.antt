@@ -6,3 +6,5 @@ pub mod Parsed
 pub mod Once
 pub mod FileParts
 pub mod Made
+pub mod Onward
+pub mod AtEnd

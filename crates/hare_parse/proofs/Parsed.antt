@@ -22,6 +22,7 @@ use Rattle.hare_parsing.proofs.Viable.{end}
 use Rattle.hare_depth.specs.Depth.{TellsDepth, gauged, GaugesTell, GaugedTreesFit}
 use Rattle.hare_depth.specs.Gauge.{start}
 use Rattle.hare_depth.proofs.Unused.{closed, gauge_closed}
+use Rattle.hare_parse.proofs.Onward.{done_behind}
 use Rattle.hare_parse.specs.Answers.{IsRead, IsTooDeep, IsBroken}
 
 -- ---- lists with End behind them
@@ -37,17 +38,6 @@ run_closed s ts n h f =
       viable = subst (λ y. IsViable (trees_of s) y) (front_closed ts n h) f.before;
       longest = λ i v. f.ends (subst (λ y. IsViable (trees_of s) y) (sym (front_closed ts (suc n) (omega (arith, i)))) v);
     }
-
--- a run ends at a token, or else the tokens are used up
-done_behind : (f : ℕ) (w v : List Token) (st : _) (gs made : List Group) → run f w st gs ≡ Done v made → (t : Token) × (rest : List Token) × (v ≡ t ∷ rest)
-unfolding run
-done_behind f [] v st gs made e = cc
-done_behind f (t ∷ w) v st gs made e = by (step f t (class_of t) st gs) e (λ st' gs' q. done_behind f w v st' gs' made q)
-  where
-    by : (z : Step) → after z t w (λ st' gs'. run f w st' gs') ≡ Done v made → ((st' : _) (gs' : List Group) → run f w st' gs' ≡ Done v made → (x : Token) × (rest : List Token) × (v ≡ x ∷ rest)) → (x : Token) × (rest : List Token) × (v ≡ x ∷ rest)
-    by (Goes st' gs') i k = k st' gs' i
-    by (Ends gs') i k = let j : v ≡ t ∷ w = cc in (t, w, j)
-    by Stuck i k = cc
 
 abbrev top_kids : List Group → List Node
 top_kids [] = []

@@ -1,7 +1,9 @@
 -- What a run of the program comes to, in the words of the table's machine.
-use Rattle.std.specs.Prelude.{◌≡◌, ℕ, ◌-◌, ◌≤◌, ◌⊎◌, List, drop, length}
+use Rattle.std.specs.Prelude.{◌≡◌, ℕ, ◌-◌, ◌≤◌, ◌⊎◌, List, [], ◌∷◌, ◌++◌, Bool, true, false, drop, length}
 use Rattle.hare_tree.specs.declared.token.Token.{Token}
+use Rattle.hare_tree.specs.declared.token.TokenKind.TheVariants as tk
 use Rattle.hare_tree.specs.Node.{Node}
+use Rattle.hare_tree.specs.Spell.{word_token}
 use Rattle.hare_grammar.specs.declared.rule.Symbol.{Symbol}
 use Rattle.hare_grammar.specs.Classes.{class_of}
 use Rattle.hare_grammar.specs.Engine.{Group, Outcome, Done, Fails, add, bottom, step}
@@ -25,6 +27,11 @@ abbrev pub outcome_in : Reached → List Token → List Group → Outcome
 outcome_in (re.End n) ts gs = Done (strung (drop n ts)) gs
 outcome_in (re.Stuck n) ts gs = Fails (strung (drop n ts))
 
+-- the run has come to the end of the list
+abbrev pub IsUsedUp : Reached → List Token → Type 0
+IsUsedUp (re.End n) ts = ⊥
+IsUsedUp (re.Stuck n) ts = length ts ≤ n
+
 -- ---- trees that are read
 
 -- nothing is under way but one whole tree
@@ -32,10 +39,19 @@ pub record HoldsTree (gs : List Group) : Type 0 where
   pub tree : Node
   pub is : gs ≡ add tree bottom
 
--- The outcome of the machine's run that this answer says. Its tokens are the joined tokens from the place on that is answered.
+-- tokens with End behind them
+abbrev pub closed : List Token → List Token
+closed ts = ts ++ word_token 0 tk.End [] ∷ []
+
+-- The outcome of the machine's run that this answer says. Its tokens are the joined tokens from the place on that is answered, with End behind them.
 abbrev pub outcome_of : Answered → List Token → Outcome
-outcome_of (ou.Done tree n) ts = Done (strung (drop n ts)) (add tree bottom)
-outcome_of (ou.Stuck n) ts = Fails (strung (drop n ts))
+outcome_of (ou.Done tree n) ts = Done (strung (closed (drop n ts))) (add tree bottom)
+outcome_of (ou.Stuck n) ts = Fails (strung (closed (drop n ts)))
+
+-- the same in front of End alone, where all is read or the tokens are used up before
+abbrev pub outcome_at_end : Bool → List Group → Outcome
+outcome_at_end true gs = Done (closed []) gs
+outcome_at_end false gs = Fails (closed [])
 
 -- ---- places
 

@@ -1,16 +1,22 @@
 //! A tree read from the tokens of a file.
 
 ghost use Rattle.std.specs.Prelude.{◌≡◌, [], ◌∷◌, drop, IfOk};
+ghost use Rattle.hare_tree.specs.declared.token.TokenKind.TheVariants as kinds;
+ghost use Rattle.hare_tree.specs.Spell.{word_token};
 ghost use Rattle.hare_parsing.specs.Faults.{strung};
 ghost use Rattle.hare_grammar.specs.Rows as rows;
 ghost use Rattle.hare_grammar.specs.Engine as engine;
+ghost use Rattle.hare_parse.specs.Seen.{waited};
 ghost use Rattle.hare_parse.specs.Runs as spec;
 
+use crate::change::start_of;
+use crate::class::class_of;
 use crate::group::Group;
 use crate::pile::Pile;
-use crate::row::of;
+use crate::row::{Wait, of};
 use crate::run::{Reached, bottom, run};
-use hare_tree::{Sort, Tokens, Tree};
+use crate::step::{Answer, step};
+use hare_tree::{Sort, Suffix, Token, TokenKind, Tokens, Tree, Word};
 use std::alloc::{AllocError, Global};
 
 /// What tokens come to.
@@ -18,11 +24,12 @@ use std::alloc::{AllocError, Global};
 pub enum Outcome {
     /// The tree. The number is the place in the list of tokens of the first that is not used.
     Done(Tree, usize),
-    /// The token at this place of the list cannot stand there, or the tokens are used up.
+    /// The token at this place of the list cannot stand there, or the tokens are used up before the tree is whole.
     Stuck(usize),
 }
 
-/// Reads a tree of the sort from the tokens of a file, from a place of their list on. Strings side by side are one token.
+/// Reads a tree of the sort from the tokens of a file, from a place of their list on. Strings side by side are one token. Behind the last token
+/// stands End, if it is not there itself.
 ///
 /// The call takes time linear in the tokens that it reads. It uses the host's stack only where a tree is given up, as deep as the tree is, so its
 /// caller looks at the depth first.
@@ -33,7 +40,7 @@ pub fn read(
     at: usize,
     sort: Sort,
 ) -> Result<Outcome, AllocError>
-    ensures run { IfOk result (λ o. engine.run file (strung (drop at tokens.now)) (rows.of sort ∷ []) engine.bottom ≡ spec.outcome_of o tokens.now) }
+    ensures run { IfOk result (λ o. engine.run file (strung (spec.closed (drop at tokens.now))) (rows.of sort ∷ []) engine.bottom ≡ spec.outcome_of o tokens.now) }
     ensures place { IfOk result (λ o. spec.IsPlace tokens.now at (spec.place_of o)) }
 {
     let mut stack = Pile::new(alloc);
@@ -41,7 +48,42 @@ pub fn read(
     let mut groups = bottom(alloc)?;
     match run(alloc, file, tokens, at, &mut stack, &mut groups)? {
         Reached::End(next) => Ok(Outcome::Done(tree_in(&mut groups), next)),
-        Reached::Stuck(next) => Ok(Outcome::Stuck(next)),
+        Reached::Stuck(next) if next < tokens.len() => Ok(Outcome::Stuck(next)),
+        Reached::Stuck(next) => {
+            if ends(alloc, file, &mut stack, &mut groups)? {
+                return Ok(Outcome::Done(tree_in(&mut groups), next));
+            }
+            Ok(Outcome::Stuck(next))
+        }
+    }
+}
+
+/// Whether nothing is waited for in front of End, where all trees under way are closed that are whole there.
+fn ends(
+    alloc: Global,
+    file: u32,
+    stack: &mut Pile<Wait>,
+    groups: &mut Pile<Group>,
+) -> Result<bool, AllocError>
+    ensures { IfOk result (λ ends. engine.run file (spec.closed []) (waited stack.old) groups.old ≡ spec.outcome_at_end ends groups.new) }
+{
+    let end = end_token(alloc);
+    match step(alloc, file, &end, class_of(&end), stack, groups)? {
+        Answer::Ends => Ok(true),
+        Answer::Goes | Answer::Stuck => Ok(false),
+    }
+}
+
+/// End, as it stands behind the tokens of a list.
+fn end_token(alloc: Global) -> Token
+    ensures { result ≡ word_token 0 kinds.End [] }
+{
+    Token {
+        kind: TokenKind::End,
+        place: start_of(0),
+        text: Word::new(alloc),
+        number: 0,
+        suffix: Suffix::None,
     }
 }
 

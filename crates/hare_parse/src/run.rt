@@ -1,6 +1,7 @@
 //! The whole run: tokens are read from a place on, up to the first that is not used.
 
-ghost use Rattle.std.specs.Prelude.{◌≡◌, Some, drop, slice_get, IfOk};
+ghost use Rattle.std.specs.Prelude.{◌≡◌, ◌++◌, List, Some, drop, slice_get, IfOk};
+ghost use Rattle.hare_tree.specs.declared.token.Token.{Token};
 ghost use Rattle.hare_parsing.specs.Faults.{strung};
 ghost use Rattle.hare_grammar.specs.Engine as engine;
 ghost use Rattle.hare_parse.specs.Seen.{waited};
@@ -53,6 +54,7 @@ pub fn run(
 ) -> Result<Reached, AllocError>
     ensures value { IfOk result (λ r. engine.run file (strung (drop from tokens.now)) (waited stack.old) groups.old ≡ spec.outcome_in r tokens.now groups.new) }
     ensures place { IfOk result (λ r. spec.IsPlace tokens.now from (spec.place_in r)) }
+    ensures onward { IfOk result (λ r. spec.IsUsedUp r tokens.now → (us : List Token) → engine.run file (strung (drop from tokens.now) ++ us) (waited stack.old) groups.old ≡ engine.run file us (waited stack.new) groups.new) }
 {
     let mut at = from;
     while let Some(token) = tokens.get(at) {

@@ -1,4 +1,5 @@
-use Rattle.std.proofs.Common.{◌≡◌, ◌-◌, length, drop}
+use Rattle.std.proofs.Common.{◌≡◌, ◌-◌, ◌++◌, List, length, drop}
+use Rattle.hare_tree.specs.declared.token.Token.{Token}
 use Rattle.hare_parsing.specs.Faults.{strung}
 use Rattle.hare_grammar.specs.Engine.{run}
 use Rattle.hare_parse.specs.Runs.{IsPlace}
@@ -12,6 +13,7 @@ invariant-loop-token l =
           run l.file (strung (drop l.from l.tokens)) (waited l.fn.stack) l.fn.groups
           ≡ run l.file (strung (drop l.at l.tokens)) (waited l.stack) l.groups;
       place : IsPlace l.tokens l.from l.at;
+      onward : (us : List Token) → run l.file (strung (drop l.from l.tokens) ++ us) (waited l.fn.stack) l.fn.groups ≡ run l.file (strung (drop l.at l.tokens) ++ us) (waited l.stack) l.groups;
     }
 
 abbrev pub decreases-loop-token : goal.decreases-loop-token
