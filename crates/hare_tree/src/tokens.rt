@@ -1,6 +1,7 @@
 //! Lists of tokens, which contracts see as lists.
 
 ghost use Rattle.std.specs.Prelude.{◌≡◌, [], ◌∷◌, ◌++◌, length, slice_get, option_copied, OnOk, OnErr};
+ghost use Rattle.hare_tree.specs.Grammar.{before_end};
 
 use crate::token::Token;
 use std::alloc::{AllocError, Global};
@@ -38,6 +39,13 @@ impl Tokens {
     {
         self.tokens.push(t)?;
         Ok(())
+    }
+
+    /// Takes the last token off, where there is one.
+    pub fn drop_last(&mut self)
+        ensures { self.new ≡ before_end self.old }
+    {
+        let _ = self.tokens.pop();
     }
 
     /// How many tokens there are.
