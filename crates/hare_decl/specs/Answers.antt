@@ -1,5 +1,5 @@
 -- What a parser answers for the tokens of a file, and for its bytes: the tree of the file, or its first fault.
-use Rattle.std.specs.Prelude.{◌≡◌, ◌==◌, true, ℕ, List, [], ◌∷◌, ◌⊎◌, Result, MatchResult}
+use Rattle.std.specs.Prelude.{◌≡◌, ◌==◌, true, ℕ, List, [], ◌∷◌, ◌++◌, ◌⊎◌, drop, Result, MatchResult}
 use Rattle.std.specs.List.{list_all}
 use Rattle.hare_tree.specs.declared.place.Place.{Place}
 use Rattle.hare_tree.specs.declared.place.Fault as fault
@@ -7,9 +7,15 @@ use Rattle.hare_tree.specs.declared.token.Token.{Token}
 use Rattle.hare_tree.specs.declared.stop.Stop.{Stop}
 use Rattle.hare_tree.specs.declared.stop.Stop.TheVariants.{Fault, Memory}
 use Rattle.hare_tree.specs.declared.tree.FileTree.{FileTree}
-use Rattle.hare_tree.specs.Spell.{start_of}
-use Rattle.hare_tree.specs.Tokens.{IsTokens, IsFirstBreak}
-use Rattle.hare_tree.specs.Grammar.{files, fault_at, IsFirstFault, IsLeastFault, IsFileTree}
+use Rattle.hare_tree.specs.declared.token.TokenKind.TheVariants as tk
+use Rattle.hare_tree.specs.Node.{Node}
+use Rattle.hare_tree.specs.Spell.{start_of, word_token}
+use Rattle.hare_tree.specs.Tokens.{IsTokens, IsFirstBreak, end_at}
+use Rattle.hare_tree.specs.Grammar.{files, unplaced, fault_at, IsDepthFault, IsFirstFault, IsLeastFault, IsFileTree}
+use Rattle.hare_grammar.specs.Engine.{Done, run, bottom}
+use Rattle.hare_grammar.specs.OneTree.{file_symbols}
+use Rattle.hare_parsing.specs.Faults.{strung, StandsAt}
+use Rattle.hare_parse.specs.Files.{HaveSorts, file_made}
 
 -- ---- tokens
 
@@ -24,6 +30,23 @@ pub record IsCut (file : ℕ) (ts : List Token) : Type 0 where
   pub no_file : (tree : FileTree) → IsFileTree file ts tree → ⊥
 
 
+-- the token ends a file
+abbrev pub IsEnd : Token → Type 0
+IsEnd t = unplaced t ≡ word_token 0 tk.End []
+
+-- the last token is End
+abbrev pub HasEnd : List Token → Type 0
+HasEnd ts = (before : List Token) × (p : Place) × (ts ≡ before ++ end_at p ∷ [])
+
+-- Of these tokens, which pass no limit on depth, the machine has read the imports and declarations in front of one.
+pub record IsOver (file : ℕ) (ts : List Token) (uses decls : List Node) (n : ℕ) : Type 0 where
+  pub run_is : run file (strung ts) file_symbols bottom ≡ Done (strung (drop n ts)) (file_made uses decls)
+  pub stands : StandsAt ts n (strung (drop n ts))
+  pub sorts : HaveSorts uses decls
+  pub shallow : (m : ℕ) → IsDepthFault files ts m → ⊥
+  pub limits : files.deep_of (record { file = file; uses = uses; decls = decls }) ≡ []
+
+-- the place of the last token, or where there is none the start of the file
 abbrev pub last_place : ℕ → List Token → Place
 last_place file [] = start_of file
 last_place file (t ∷ []) = t.place
