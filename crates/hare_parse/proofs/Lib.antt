@@ -1,8 +1,13 @@
 pub mod Apart
+pub mod Capping
 pub mod Classified
+pub mod Dropped
 pub mod Heights
 pub mod Joining
 pub mod Junk
+pub mod KidMarks
 pub mod Kids
 pub mod Reading
+pub mod Opened
+pub mod SteppedMarks
 pub mod Within

@@ -2,3 +2,8 @@ pub mod Seen
 pub mod Joined
 pub mod Limits
 pub mod Runs
+pub mod Capped
+pub mod Least
+pub mod Deep
+pub mod Agenda
+pub mod Gauged

@@ -4,6 +4,7 @@
 mod bounds;
 mod change;
 mod class;
+mod gauge;
 mod group;
 mod grown;
 mod pile;
