@@ -1,13 +1,8 @@
-pub mod Apart
 pub mod Capping
 pub mod Classified
-pub mod Dropped
-pub mod Heights
 pub mod Joining
-pub mod Junk
 pub mod KidMarks
 pub mod Kids
-pub mod Reading
 pub mod Opened
+pub mod Parted
 pub mod SteppedMarks
-pub mod Within

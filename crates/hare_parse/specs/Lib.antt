@@ -1,6 +1,5 @@
 pub mod Seen
 pub mod Joined
-pub mod Limits
 pub mod Runs
 pub mod Capped
 pub mod Least

@@ -1,35 +1,29 @@
 -- What a run of the program comes to, in the words of the table's machine.
-use Rattle.std.specs.Prelude.{◌≡◌, ℕ, ◌-◌, ◌<◌, ◌≤◌, ◌⊎◌, List, [], ◌∷◌, ◌++◌, drop, take, length, true}
+use Rattle.std.specs.Prelude.{◌≡◌, ℕ, ◌-◌, ◌≤◌, ◌⊎◌, List, [], ◌∷◌, drop, length}
 use Rattle.hare_tree.specs.declared.token.Token.{Token}
 use Rattle.hare_tree.specs.Node.{Node}
-use Rattle.hare_tree.specs.Grammar.{joined}
 use Rattle.hare_grammar.specs.declared.rule.Symbol.{Symbol}
 use Rattle.hare_grammar.specs.Classes.{class_of}
 use Rattle.hare_grammar.specs.Engine.{Group, Outcome, Done, Fails, step}
+use Rattle.hare_parsing.specs.Faults.{strung, StandsAt}
 use Rattle.hare_parse.specs.declared.reader.Outcome.{Outcome as Answered}
 use Rattle.hare_parse.specs.declared.reader.Outcome.TheVariants as ou
 use Rattle.hare_parse.specs.declared.run.Read.{Read}
 use Rattle.hare_parse.specs.declared.run.Reached.{Reached}
 use Rattle.hare_parse.specs.declared.run.Reached.TheVariants as re
-use Rattle.hare_parse.specs.declared.step.Answer.TheVariants as an
-use Rattle.hare_parse.specs.Limits.{Bounded, Within, Deep}
-use Rattle.hare_parse.specs.Joined.{is_free}
+use Rattle.hare_parse.specs.Joined.{BeginsWith}
 use Rattle.hare_parse.specs.Seen.{Says}
 
--- What came of the first of the joined tokens from a place on; where it is used, the others are the joined tokens from the next place on.
+-- What came of the first of the joined tokens from a place on: the answer, and the place of the next.
 pub record Reads (f : ℕ) (ts : List Token) (at : ℕ) (st : List Symbol) (gs : List Group) (r : Read) (st' : List Symbol) (gs' : List Group) : Type 0 where
   pub token : Token
-  pub rest : List Token
-  pub stands : joined (drop at ts) ≡ token ∷ rest
+  pub begins : BeginsWith ts at token r.next
   pub says : Says (step f token (class_of token) st gs) r.answer st' gs'
-  pub behind : r.answer ≡ an.Goes → (rest ≡ joined (drop r.next ts)) × (at < r.next) × (r.next ≤ length ts) × (is_free ts r.next ≡ true)
 
--- The outcome's tokens are the joined tokens from the place on that is answered; where all is read, these are the trees under way.
-abbrev pub Comes : Bounded → Reached → List Token → List Group → Type 0
-Comes (Within (Done us gs)) (re.End n) ts gs' = (us ≡ joined (drop n ts)) × (gs' ≡ gs)
-Comes (Within (Fails us)) (re.Stuck n) ts gs' = us ≡ joined (drop n ts)
-Comes (Deep us) (re.Deep n) ts gs' = us ≡ joined (drop n ts)
-Comes _ _ ts gs' = ⊥
+-- The outcome of a run that has come to this place of the list, with these trees under way: its tokens are the joined tokens from there on.
+abbrev pub outcome_in : Reached → List Token → List Group → Outcome
+outcome_in (re.End n) ts gs = Done (strung (drop n ts)) gs
+outcome_in (re.Stuck n) ts gs = Fails (strung (drop n ts))
 
 -- ---- trees that are read
 
@@ -39,35 +33,24 @@ kids_on [] = []
 kids_on (g ∷ gs) = g.kids
 
 -- The same, where all is read with the kids of the innermost tree under way.
-abbrev pub IsRead : Bounded → Answered → List Token → Type 0
-IsRead (Within (Done us gs)) (ou.Done trees n) ts = (us ≡ joined (drop n ts)) × (trees.items ≡ kids_on gs)
-IsRead (Within (Fails us)) (ou.Stuck n) ts = us ≡ joined (drop n ts)
-IsRead (Deep us) (ou.Deep n) ts = us ≡ joined (drop n ts)
+abbrev pub IsRead : Outcome → Answered → List Token → Type 0
+IsRead (Done us gs) (ou.Done trees n) ts = (us ≡ strung (drop n ts)) × (trees.items ≡ kids_on gs)
+IsRead (Fails us) (ou.Stuck n) ts = us ≡ strung (drop n ts)
 IsRead _ _ ts = ⊥
-
--- The same of a run without bounds; where the program gives up at a bound, nothing.
-abbrev pub IsReadBy : Outcome → Answered → List Token → Type 0
-IsReadBy (Done us gs) (ou.Done trees n) ts = (us ≡ joined (drop n ts)) × (trees.items ≡ kids_on gs)
-IsReadBy (Fails us) (ou.Stuck n) ts = us ≡ joined (drop n ts)
-IsReadBy o (ou.Deep n) ts = Unit {0}
-IsReadBy _ _ ts = ⊥
 
 -- ---- places
 
--- The place is that of a token behind `from`, or behind all tokens, or `from` itself; what stands in front of it and what stands from it on are
--- joined apart, so it is no place within strings that stand side by side.
+-- The place is that of a token behind `from`, or behind all tokens, or `from` itself, and no strings are joined across it.
 pub record IsPlace (ts : List Token) (from n : ℕ) : Type 0 where
   pub behind : from ≤ n
   pub within : (n ≡ from) ⊎ (n ≤ length ts)
-  pub apart : joined (drop from ts) ≡ joined (take (n - from) (drop from ts)) ++ joined (drop n ts)
+  pub stands : StandsAt (drop from ts) (n - from) (strung (drop n ts))
 
 -- the place in the list at which a run stands still
 abbrev pub place_in : Reached → ℕ
 place_in (re.End n) = n
 place_in (re.Stuck n) = n
-place_in (re.Deep n) = n
 
 abbrev pub place_of : Answered → ℕ
 place_of (ou.Done trees n) = n
 place_of (ou.Stuck n) = n
-place_of (ou.Deep n) = n

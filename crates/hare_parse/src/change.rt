@@ -5,10 +5,10 @@ ghost use Rattle.hare_tree.specs.Spell as spell;
 ghost use Rattle.hare_grammar.specs.Engine as engine;
 
 use crate::group::Group;
-use crate::grown::Grown;
 use crate::pile::Pile;
+use crate::whole::{bare_leaf, full_leaf};
 use hare_grammar::Change;
-use hare_tree::{Kind, Place, Token};
+use hare_tree::{Kind, Place, Token, Tree};
 use std::alloc::{AllocError, Global};
 
 /// These changes at a token of the file, in their order.
@@ -38,9 +38,9 @@ fn changed(
     ensures { OnOk result (groups.new ≡ engine.changed file token.now change groups.old) }
 {
     match change {
-        Change::Absent => add(groups, Grown::bare_leaf(alloc, Kind::None, start_of(file))),
-        Change::Mark(kind) => add(groups, Grown::bare_leaf(alloc, kind, token.place)),
-        Change::Leaf(kind) => add(groups, Grown::full_leaf(alloc, kind, token)?),
+        Change::Absent => add(groups, bare_leaf(alloc, Kind::None, start_of(file))),
+        Change::Mark(kind) => add(groups, bare_leaf(alloc, kind, token.place)),
+        Change::Leaf(kind) => add(groups, full_leaf(alloc, kind, token)?),
         Change::Open => groups.push(Group::begun(alloc, token.place, Vec::new(alloc))),
         Change::Over => over(alloc, token.place, groups),
         Change::Take => take_text(alloc, token, groups),
@@ -70,7 +70,7 @@ pub fn start_of(file: u32) -> Place
 // ---- the innermost tree under way
 
 /// The tree is the next kid of the innermost tree under way.
-fn add(groups: &mut Pile<Group>, tree: Grown) -> Result<(), AllocError>
+fn add(groups: &mut Pile<Group>, tree: Tree) -> Result<(), AllocError>
     ensures { OnOk result (groups.new ≡ engine.add tree groups.old) }
 {
     let Some(mut group) = groups.pop() else {

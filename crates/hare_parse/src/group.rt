@@ -1,12 +1,11 @@
 //! Trees under way.
 
-ghost use Rattle.std.specs.Prelude.{◌≡◌, [], ◌∷◌, ◌++◌, IfNone, IfOk, IfSome, OnOk, MatchOption, nat_le};
+ghost use Rattle.std.specs.Prelude.{◌≡◌, [], ◌∷◌, ◌++◌, IfNone, IfOk, IfSome, OnOk, MatchOption};
 ghost use Rattle.hare_tree.specs.Node.{branch, nodes_of};
 ghost use Rattle.hare_grammar.specs.Engine as engine;
-ghost use Rattle.hare_parse.specs.Limits.{last_height};
 
-use crate::grown::Grown;
-use hare_tree::{Kind, Place, Suffix, Token, Word};
+use crate::whole::kids_of;
+use hare_tree::{Kind, Place, Suffix, Token, Tree, Word};
 use std::alloc::{AllocError, Global};
 use std::marker::Model;
 
@@ -17,7 +16,7 @@ pub struct Group {
     text: Word,
     number: u128,
     suffix: Suffix,
-    kids: Vec<Grown>,
+    kids: Vec<Tree>,
 }
 
 impl Model for Group {
@@ -43,7 +42,7 @@ impl Model for Group {
 
 impl Group {
     /// A tree that begins here.
-    pub fn begun(alloc: Global, place: Place, kids: Vec<Grown>) -> Group
+    pub fn begun(alloc: Global, place: Place, kids: Vec<Tree>) -> Group
         ensures { result ≡ engine.begun place kids.items }
     {
         Group {
@@ -56,7 +55,7 @@ impl Group {
     }
 
     /// The kids so far.
-    pub fn into_kids(self) -> Vec<Grown>
+    pub fn into_kids(self) -> Vec<Tree>
         ensures { result.items ≡ self.kids }
     {
         let Group {
@@ -70,7 +69,7 @@ impl Group {
     }
 
     /// The tree is whole, and of this kind.
-    pub fn into_tree(self, alloc: Global, kind: Kind) -> Result<Grown, AllocError>
+    pub fn into_tree(self, alloc: Global, kind: Kind) -> Result<Tree, AllocError>
         ensures { IfOk result (λ t. t ≡ branch (engine.head_in kind self) (nodes_of self.kids)) }
     {
         let Group {
@@ -80,21 +79,19 @@ impl Group {
             suffix,
             kids,
         } = self;
-        Grown::branch(alloc, kind, place, text, number, suffix, kids)
-    }
-
-    /// Whether the last kid is at most 511 high.
-    pub fn is_low(&self) -> bool
-        ensures { result ≡ nat_le (last_height self.now.kids) 511 }
-    {
-        match self.kids.as_slice().last() {
-            Some(kid) => kid.is_low(),
-            None => true,
-        }
+        let kids = kids_of(alloc, kids)?;
+        Ok(Tree {
+            kind,
+            place,
+            text,
+            number,
+            suffix,
+            kids,
+        })
     }
 
     /// The tree is the next kid.
-    pub fn add(&mut self, tree: Grown) -> Result<(), AllocError>
+    pub fn add(&mut self, tree: Tree) -> Result<(), AllocError>
         ensures { OnOk result (self.new ≡ engine.with_kids self.old (self.old.kids ++ tree ∷ [])) }
     {
         self.kids.push(tree)?;
@@ -102,14 +99,14 @@ impl Group {
     }
 
     /// These are the next kids.
-    pub fn add_all(&mut self, mut kids: Vec<Grown>) -> Result<(), AllocError>
+    pub fn add_all(&mut self, mut kids: Vec<Tree>) -> Result<(), AllocError>
         ensures { OnOk result (self.new ≡ engine.with_kids self.old (self.old.kids ++ kids.items)) }
     {
         self.kids.append(&mut kids)
     }
 
     /// Takes out the last kid, if there is one.
-    pub fn take_last(&mut self) -> Option<Grown>
+    pub fn take_last(&mut self) -> Option<Tree>
         ensures found { MatchOption result (engine.last_kid self.old.kids ≡ []) (λ t. engine.last_kid self.old.kids ≡ t ∷ []) }
         ensures left { self.new ≡ engine.with_kids self.old (engine.but_last self.old.kids) }
     {
@@ -136,7 +133,7 @@ impl Group {
 
 /// Takes out the last tree, if there is one.
 #[tactic(auto, using(crate::proofs::Kids::last_kid_append, crate::proofs::Kids::but_last_append))]
-fn pop_last(trees: &mut Vec<Grown>) -> Option<Grown>
+fn pop_last(trees: &mut Vec<Tree>) -> Option<Tree>
     ensures found { MatchOption result (engine.last_kid trees.old.items ≡ []) (λ t. engine.last_kid trees.old.items ≡ t ∷ []) }
     ensures left { trees.new.items ≡ engine.but_last trees.old.items }
 {
@@ -147,7 +144,7 @@ fn pop_last(trees: &mut Vec<Grown>) -> Option<Grown>
 }
 
 /// The last tree, which is taken out.
-fn popped(trees: &mut Vec<Grown>) -> Option<Grown>
+fn popped(trees: &mut Vec<Tree>) -> Option<Tree>
     ensures found { IfSome result (λ t. trees.old.items ≡ trees.new.items ++ t ∷ []) }
     ensures none { IfNone result (trees.old.items ≡ []) }
     ensures kept { IfNone result (trees.new.items ≡ []) }

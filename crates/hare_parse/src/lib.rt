@@ -1,12 +1,10 @@
 //! The parser of Hare: the machine that the grammar's table drives.
 #![tactic(auto)]
 
-mod bounds;
 mod change;
 mod class;
 mod gauge;
 mod group;
-mod grown;
 mod pile;
 mod reader;
 mod row;
@@ -18,5 +16,6 @@ mod strings;
 #[cfg(test)]
 mod tests;
 mod waits;
+mod whole;
 
 pub use reader::{Outcome, read};

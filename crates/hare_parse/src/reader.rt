@@ -1,15 +1,13 @@
 //! Trees read from the tokens of a file.
 
 ghost use Rattle.std.specs.Prelude.{◌≡◌, [], ◌∷◌, drop, IfOk};
-ghost use Rattle.hare_tree.specs.Grammar.{joined};
+ghost use Rattle.hare_parsing.specs.Faults.{strung};
 ghost use Rattle.hare_grammar.specs.Rows as rows;
 ghost use Rattle.hare_grammar.specs.Engine as engine;
-ghost use Rattle.hare_parse.specs.Limits as bounds;
 ghost use Rattle.hare_parse.specs.Runs as spec;
 
 use crate::change::start_of;
 use crate::group::Group;
-use crate::grown::Grown;
 use crate::pile::Pile;
 use crate::row::of;
 use crate::run::{Reached, run};
@@ -23,13 +21,12 @@ pub enum Outcome {
     Done(Vec<Tree>, usize),
     /// The token at this place of the list cannot stand there, or the tokens are used up.
     Stuck(usize),
-    /// Behind the token at this place of the list more trees are under way, or a tree is higher, than in any file that keeps the limits on depth.
-    Deep(usize),
 }
 
 /// Reads a tree of the sort from the tokens of a file, from a place of their list on. Strings side by side are one token.
 ///
-/// The call takes time linear in the tokens that it reads, and no more of the host's stack for deeper trees.
+/// The call takes time linear in the tokens that it reads. It uses the host's stack only where a tree is given up, as deep as the tree is, so its
+/// caller looks at the depth first.
 pub fn read(
     alloc: Global,
     file: u32,
@@ -37,8 +34,7 @@ pub fn read(
     at: usize,
     sort: Sort,
 ) -> Result<Outcome, AllocError>
-    ensures bounded { IfOk result (λ o. spec.IsRead (bounds.run_within file (joined (drop at tokens.now)) (rows.of sort ∷ []) engine.bottom) o tokens.now) }
-    ensures machine { IfOk result (λ o. spec.IsReadBy (engine.run file (joined (drop at tokens.now)) (rows.of sort ∷ []) engine.bottom) o tokens.now) }
+    ensures machine { IfOk result (λ o. spec.IsRead (engine.run file (strung (drop at tokens.now)) (rows.of sort ∷ []) engine.bottom) o tokens.now) }
     ensures place { IfOk result (λ o. spec.IsPlace tokens.now at (spec.place_of o)) }
 {
     let mut stack = Pile::new(alloc);
@@ -46,29 +42,17 @@ pub fn read(
     let mut groups = Pile::new(alloc);
     groups.push(Group::begun(alloc, start_of(0), Vec::new(alloc)))?;
     match run(alloc, file, tokens, at, &mut stack, &mut groups)? {
-        Reached::End(next) => Ok(Outcome::Done(kids_on(alloc, &mut groups)?, next)),
+        Reached::End(next) => Ok(Outcome::Done(kids_on(alloc, &mut groups), next)),
         Reached::Stuck(next) => Ok(Outcome::Stuck(next)),
-        Reached::Deep(next) => Ok(Outcome::Deep(next)),
     }
 }
 
 /// The kids of the innermost tree under way.
-fn kids_on(alloc: Global, groups: &mut Pile<Group>) -> Result<Vec<Tree>, AllocError>
-    ensures { IfOk result (λ trees. trees.items ≡ spec.kids_on groups.old) }
+fn kids_on(alloc: Global, groups: &mut Pile<Group>) -> Vec<Tree>
+    ensures { result.items ≡ spec.kids_on groups.old }
 {
     match groups.pop() {
-        Some(group) => trees_of(alloc, group.into_kids()),
-        None => Ok(Vec::new(alloc)),
+        Some(group) => group.into_kids(),
+        None => Vec::new(alloc),
     }
-}
-
-/// The trees without their heights.
-fn trees_of(alloc: Global, kids: Vec<Grown>) -> Result<Vec<Tree>, AllocError>
-    ensures { IfOk result (λ trees. trees.items ≡ kids.items) }
-{
-    let mut trees = Vec::new(alloc);
-    for kid in kids {
-        trees.push(kid.into_tree())?;
-    }
-    Ok(trees)
 }

@@ -1,19 +1,17 @@
 //! The whole run: tokens are read from a place on, up to the first that is not used.
 
 ghost use Rattle.std.specs.Prelude.{◌≡◌, Some, drop, slice_get, IfOk};
-ghost use Rattle.hare_tree.specs.Grammar.{joined};
-ghost use Rattle.hare_parse.specs.Limits as bounds;
+ghost use Rattle.hare_parsing.specs.Faults.{strung};
+ghost use Rattle.hare_grammar.specs.Engine as engine;
 ghost use Rattle.hare_parse.specs.Seen.{waited};
 ghost use Rattle.hare_parse.specs.Runs as spec;
 
-use crate::bounds::keeps_bounds;
 use crate::class::class_of;
 use crate::group::Group;
 use crate::pile::Pile;
 use crate::row::Wait;
 use crate::step::{Answer, step};
-use crate::strings::{Strings, is_plain_string, place_behind, strings_at};
-use hare_grammar::Class;
+use crate::strings::{Joined, is_proper_string, place_behind, strings_at};
 use hare_tree::{Token, Tokens};
 use std::alloc::{AllocError, Global};
 
@@ -31,12 +29,10 @@ pub enum Reached {
     End(usize),
     /// The token at this place of the list cannot stand there, or the tokens are used up.
     Stuck(usize),
-    /// Behind the token at this place of the list the trees under way pass a bound.
-    Deep(usize),
 }
 
 /// Reads the tokens of the file from a place of the list on.
-#[tactic(auto, unfolding(crate::specs::Limits::run_within))]
+#[tactic(auto, unfolding(hare_grammar::specs::Engine::run))]
 pub fn run(
     alloc: Global,
     file: u32,
@@ -45,19 +41,14 @@ pub fn run(
     stack: &mut Pile<Wait>,
     groups: &mut Pile<Group>,
 ) -> Result<Reached, AllocError>
-    ensures value { IfOk result (λ r. spec.Comes (bounds.run_within file (joined (drop from tokens.now)) (waited stack.old) groups.old) r tokens.now groups.new) }
+    ensures value { IfOk result (λ r. engine.run file (strung (drop from tokens.now)) (waited stack.old) groups.old ≡ spec.outcome_in r tokens.now groups.new) }
     ensures place { IfOk result (λ r. spec.IsPlace tokens.now from (spec.place_in r)) }
 {
     let mut at = from;
     while let Some(token) = tokens.get(at) {
         let read = read_at(alloc, file, tokens, at, token, stack, groups)?;
         match read.answer {
-            Answer::Goes => {
-                if !keeps_bounds(groups)? {
-                    return Ok(Reached::Deep(at));
-                }
-                at = read.next;
-            }
+            Answer::Goes => at = read.next,
             Answer::Ends => return Ok(Reached::End(at)),
             Answer::Stuck => return Ok(Reached::Stuck(at)),
         }
@@ -78,21 +69,14 @@ fn read_at(
     requires { Some token.now ≡ slice_get tokens.now at }
     ensures { IfOk result (λ r. spec.Reads file tokens.now at (waited stack.old) groups.old r (waited stack.new) groups.new) }
 {
-    if !is_plain_string(token) {
-        let answer = step(alloc, file, token, class_of(token), stack, groups)?;
-        return Ok(Read {
-            answer,
-            next: place_behind(tokens, at),
-        });
+    if is_proper_string(token) {
+        let Joined { token, next } = strings_at(alloc, tokens, at, token)?;
+        let answer = step(alloc, file, &token, class_of(&token), stack, groups)?;
+        return Ok(Read { answer, next });
     }
-    match strings_at(alloc, tokens, at, token)? {
-        Strings::One(joined, next) => {
-            let answer = step(alloc, file, &joined, class_of(&joined), stack, groups)?;
-            Ok(Read { answer, next })
-        }
-        Strings::Junk => {
-            let answer = step(alloc, file, token, Class::Junk, stack, groups)?;
-            Ok(Read { answer, next: at })
-        }
-    }
+    let answer = step(alloc, file, token, class_of(token), stack, groups)?;
+    Ok(Read {
+        answer,
+        next: place_behind(tokens, at),
+    })
 }

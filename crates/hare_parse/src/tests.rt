@@ -1,6 +1,5 @@
 //! Short texts, with what a person expects of them. Their tokens stand apart, with one blank between any two.
 
-mod bounds;
 mod forms;
 mod trees;
 

@@ -1,23 +1,21 @@
-use Rattle.std.proofs.Common.{sym}
-use Rattle.hare_parse.specs.Limits.{run_within}
-use Rattle.hare_parse.proofs.Apart.{is_place}
-use Rattle.hare_parse.proofs.Joining.{joined_past}
+use Rattle.std.proofs.Common.{refl, rules, arith}
+use Rattle.std.proofs.lemmas.Grind.{common_steps}
+use Rattle.hare_grammar.specs.Engine.{run}
+use Rattle.hare_parse.proofs.Joining.{strung_past}
+use Rattle.hare_parse.proofs.Parted.{place_further}
 use Rattle.hare_parse.proofs.run.run.Goals as goal
 
 pub returns-clause-value : goal.returns-clause-value
-unfolding run_within
+unfolding run
 returns-clause-value c =
-    let e = joined_past c.args.tokens.now c.loop-token.at c.in_default.ensures in
-    rw (c.loop-token.invariant.same, e) (sym e)
+    let e = strung_past c.args.tokens.now c.loop-token.at c.in_default.ensures in
+    rw (c.loop-token.invariant.same, e) refl
 
-pub returns-clause-place : goal.returns-clause-place
-returns-clause-place c = is_place c.args.tokens.now c.args.from c.loop-token.at c.loop-token.invariant.behind c.loop-token.invariant.within c.loop-token.invariant.free
-
-pub returns-then-not-branch-clause-place : goal.returns-then-not-branch-clause-place
-returns-then-not-branch-clause-place c = is_place c.args.tokens.now c.args.from c.loop-token.at c.loop-token.invariant.behind c.loop-token.invariant.within c.loop-token.invariant.free
-
-pub returns-in-Ends-clause-place : goal.returns-in-Ends-clause-place
-returns-in-Ends-clause-place c = is_place c.args.tokens.now c.args.from c.loop-token.at c.loop-token.invariant.behind c.loop-token.invariant.within c.loop-token.invariant.free
-
-pub returns-in-Stuck-clause-place : goal.returns-in-Stuck-clause-place
-returns-in-Stuck-clause-place c = is_place c.args.tokens.now c.args.from c.loop-token.at c.loop-token.invariant.behind c.loop-token.invariant.within c.loop-token.invariant.free
+pub loop-token-preserved : goal.loop-token-preserved
+unfolding run
+loop-token-preserved c =
+    let r = c.in_ok-read.ensures in
+    record {
+      same = first_of (search rules, grind (arith, common_steps));
+      place = place_further c.args.tokens.now c.args.from c.loop-token.at c.in_ok-read.read.next r.token c.loop-token.invariant.place r.begins;
+    }

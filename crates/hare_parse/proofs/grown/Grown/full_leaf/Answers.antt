@@ -1,5 +1,0 @@
-use Rattle.hare_parse.proofs.Heights.{leaf_by}
-use Rattle.hare_parse.proofs.grown.Grown.full_leaf.Goals as goal
-
-pub invariant_of-result : goal.invariant_of-result
-invariant_of-result c = leaf_by _ c.new.result c.counted.result c.counted.ensures.value c.new.ensures
