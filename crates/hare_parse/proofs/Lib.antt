@@ -6,3 +6,5 @@ pub mod Kids
 pub mod Opened
 pub mod Parted
 pub mod SteppedMarks
+pub mod Told
+pub mod Tops

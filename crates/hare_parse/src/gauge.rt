@@ -2,6 +2,7 @@
 
 mod agenda;
 mod change;
+mod found;
 mod frame;
 mod nodes;
 mod step;

@@ -50,6 +50,18 @@ impl Mark {
     {
         self.is_node && self.first < number
     }
+
+    /// The tree's first token, where it is a node and so many nodes open round it are too many.
+    #[tactic(auto, unfolding(hare_depth::specs::Gauge::deep_last))]
+    fn first_if_deep(self, opened: usize) -> Option<usize>
+        ensures { result ≡ least (gauges.deep_last opened (self ∷ [])) }
+    {
+        if self.is_node && opened >= LIMIT {
+            Some(self.first)
+        } else {
+            None
+        }
+    }
 }
 
 /// How much a tree of the kind adds to the height.
@@ -131,6 +143,27 @@ impl Frame {
         match self.kids.first() {
             Some(kid) if kid.lies_before(self.at) => kid.first,
             _ => self.at,
+        }
+    }
+
+    /// The first token of the last kid, where it is a node and so many nodes open round it are too many.
+    #[tactic(auto, using(crate::proofs::KidMarks::deep_last_some, crate::proofs::KidMarks::deep_last_none))]
+    pub fn deep_kid(&self, opened: usize) -> Option<usize>
+        ensures { result ≡ least (gauges.deep_last opened self.now.kids) }
+    {
+        match self.kids.last() {
+            Some(kid) => kid.first_if_deep(opened),
+            None => None,
+        }
+    }
+
+    /// The token at which the tree has its place, where it is an operator that was begun just now behind a left operand of height 256.
+    pub fn high_operand(&self) -> Option<usize>
+        ensures { result ≡ least (gauges.high_operand self.now.at self.now.kids) }
+    {
+        match self.kids.as_slice() {
+            [kid] if kid.lies_before(self.at) && kid.height >= LIMIT => Some(self.at),
+            _ => None,
         }
     }
 }
