@@ -8,3 +8,4 @@ pub mod Parted
 pub mod SteppedMarks
 pub mod Told
 pub mod Tops
+pub mod Widths

@@ -6,3 +6,4 @@ pub mod Least
 pub mod Deep
 pub mod Agenda
 pub mod Gauged
+pub mod Width

@@ -6,3 +6,4 @@ mod found;
 mod frame;
 mod nodes;
 mod step;
+mod width;
