@@ -21,7 +21,7 @@ marks_append : (ms ns : List Mark) → cap_marks (ms ++ ns) ≡ cap_marks ms ++ 
 marks_append [] ns = refl
 marks_append (m ∷ ms) ns = ap (λ l. cap_mark m ∷ l) (marks_append ms ns)
 
-first_capped : (n : ℕ) (ms : List Mark) → first_in n (cap_marks ms) ≡ first_in n ms
+pub first_capped : (n : ℕ) (ms : List Mark) → first_in n (cap_marks ms) ≡ first_in n ms
 first_capped n [] = refl
 first_capped n (m ∷ ms) = refl
 

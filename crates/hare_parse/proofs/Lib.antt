@@ -1,8 +1,10 @@
 pub mod Capping
 pub mod Classified
+pub mod GaugedRuns
 pub mod Joining
 pub mod KidMarks
 pub mod Kids
+pub mod Numbers
 pub mod Opened
 pub mod Parted
 pub mod SteppedMarks
