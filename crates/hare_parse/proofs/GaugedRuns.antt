@@ -1,6 +1,6 @@
 -- Runs of the gauge with heights up to 256.
 use Rattle.std.proofs.Common.{◌≡◌, ℕ, ◌+◌, List, [], ◌∷◌, ◌++◌, map, min, Bool, true, false, Option, refl, sym, ap, ◌∙◌, arith}
-use Rattle.std.specs.Prelude.{nat_le, if◌then◌else◌, ◌&&◌}
+use Rattle.std.specs.Prelude.{nat_le, if◌then◌else◌, ◌&&◌, Some, None}
 use Rattle.hare_grammar.specs.declared.rule.Symbol.{Symbol}
 use Rattle.hare_depth.specs.Marks.{Mark, Frame, lies_before, first_in}
 use Rattle.hare_depth.specs.Gauge.{opened, deep_frame, deep_last, high_operand, found, Step, Goes, Ends, Stuck, step, Seen, Gauged, with_faults, after, gauge, nodes_in}
@@ -99,3 +99,50 @@ goes_on whole told t w st st' fs fs' r a =
       rest = r.rest ∙ ap (λ g. g.rest) e;
       over = r.over ∙ ap (λ g. g.over) e;
     }
+
+-- ---- where a run stands still
+
+-- what the whole comes to, where this was told and these tokens are left
+pub record Halts (whole : Gauged) (least_told : Option ℕ) (left : List Seen) (all : Bool) : Type 0 where
+  pub least_is : least_told ≡ least whole.faults
+  pub rest : whole.rest ≡ left
+  pub over : whole.over ≡ all
+
+lesser_none : (a : Option ℕ) → a ≡ lesser a None
+lesser_none None = refl
+lesser_none (Some m) = refl
+
+halts : (whole : Gauged) (told : Option ℕ) (rest : List Seen) (over : Bool) (left : Gauged) → Continues whole told left → left ≡ record { faults = []; rest = rest; over = over } →
+    Halts whole told rest over
+halts whole told rest over left r e =
+    record {
+      least_is = lesser_none told ∙ sym (r.faults ∙ ap (λ g. lesser told (least g.faults)) e);
+      rest = r.rest ∙ ap (λ g. g.rest) e;
+      over = r.over ∙ ap (λ g. g.over) e;
+    }
+
+after_ends : (x : Step) (t : Seen) (w : List Seen) (go : List Symbol → List Frame → Gauged) (st : List Symbol) (fs : List Frame) → Answers (capped_step x) an.Ends st fs →
+    after x t w go ≡ record { faults = []; rest = t ∷ w; over = true }
+after_ends (Goes st' gs) t w go st fs a = cc
+after_ends (Ends gs) t w go st fs a = refl
+after_ends Stuck t w go st fs a = cc
+
+after_stuck : (x : Step) (t : Seen) (w : List Seen) (go : List Symbol → List Frame → Gauged) (st : List Symbol) (fs : List Frame) → Answers (capped_step x) an.Stuck st fs →
+    after x t w go ≡ record { faults = []; rest = t ∷ w; over = false }
+after_stuck (Goes st' gs) t w go st fs a = cc
+after_stuck (Ends gs) t w go st fs a = cc
+after_stuck Stuck t w go st fs a = refl
+
+pub over_at : (whole : Gauged) (told : Option ℕ) (t : Seen) (w : List Seen) (st st' : List Symbol) (fs fs' : List Frame) → Continues whole told (gauge (t ∷ w) st fs) →
+    Answers (capped_step (step t.number t.class st fs)) an.Ends st' fs' → Halts whole told (t ∷ w) true
+unfolding gauge
+over_at whole told t w st st' fs fs' r a = halts whole told (t ∷ w) true _ r (after_ends (step t.number t.class st fs) t w (λ ss hs. gauge w ss hs) st' fs' a)
+
+pub stuck_at : (whole : Gauged) (told : Option ℕ) (t : Seen) (w : List Seen) (st st' : List Symbol) (fs fs' : List Frame) → Continues whole told (gauge (t ∷ w) st fs) →
+    Answers (capped_step (step t.number t.class st fs)) an.Stuck st' fs' → Halts whole told (t ∷ w) false
+unfolding gauge
+stuck_at whole told t w st st' fs fs' r a = halts whole told (t ∷ w) false _ r (after_stuck (step t.number t.class st fs) t w (λ ss hs. gauge w ss hs) st' fs' a)
+
+pub used_up : (whole : Gauged) (told : Option ℕ) (st : List Symbol) (fs : List Frame) → Continues whole told (gauge [] st fs) → Halts whole told [] false
+unfolding gauge
+used_up whole told st fs r = halts whole told [] false _ r refl

@@ -1,5 +1,6 @@
 pub mod Capping
 pub mod Classified
+pub mod GaugedLoop
 pub mod GaugedRuns
 pub mod Joining
 pub mod KidMarks

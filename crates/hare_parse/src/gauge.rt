@@ -5,5 +5,6 @@ mod change;
 mod found;
 mod frame;
 mod nodes;
+mod run;
 mod step;
 mod width;
