@@ -1,6 +1,12 @@
+pub mod Capping
 pub mod Classified
+pub mod GaugedLoop
+pub mod GaugedRuns
 pub mod Joining
+pub mod KidMarks
 pub mod Kids
+pub mod Numbers
+pub mod Opened
 pub mod Parted
 pub mod Parsed
 pub mod Once
@@ -8,3 +14,7 @@ pub mod FileParts
 pub mod Made
 pub mod Onward
 pub mod AtEnd
+pub mod SteppedMarks
+pub mod Told
+pub mod Tops
+pub mod Widths

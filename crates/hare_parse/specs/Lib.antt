@@ -3,3 +3,9 @@ pub mod Answers
 pub mod Joined
 pub mod Runs
 pub mod Files
+pub mod Capped
+pub mod Least
+pub mod Deep
+pub mod Agenda
+pub mod Gauged
+pub mod Width

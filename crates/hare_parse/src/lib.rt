@@ -4,6 +4,7 @@
 mod change;
 mod class;
 mod file;
+mod gauge;
 mod group;
 mod pile;
 mod reader;

@@ -1,6 +1,6 @@
 //! Piles.
 
-ghost use Rattle.std.specs.Prelude.{◌≡◌, [], ◌∷◌, length, OnOk, IfSome, IfNone};
+ghost use Rattle.std.specs.Prelude.{◌≡◌, List, [], ◌∷◌, length, OnOk, IfSome, IfNone, MatchOption};
 
 use std::alloc::{AllocError, Global};
 use std::marker::Model;
@@ -35,6 +35,14 @@ impl<T: Drop> Pile<T> {
     {
         self.items.push(item)?;
         Ok(())
+    }
+
+    /// The top.
+    #[tactic(auto, using(crate::proofs::Tops::top_of_reverse))]
+    pub fn top(&self) -> Option<&T>
+        ensures { MatchOption result (self.now ≡ []) (λ item. (rest : List T) × (self.now ≡ item.now ∷ rest)) }
+    {
+        self.items.last()
     }
 
     /// Takes the top.
