@@ -12,3 +12,4 @@ pub mod SeenSteps
 pub mod Languages
 pub mod Gaining
 pub mod Likewise
+pub mod Closings

@@ -80,6 +80,10 @@ unfolding Ascends
 ascends_apart n [] b m x = (n, omega arith, x)
 ascends_apart n (t ∷ a) b m x = let r = ascends_apart (suc t.place.line) a b m x.1 in (r.0, (x.0, r.1), r.2)
 
+pub ascends_first : (n : ℕ) (z : Token) (w : List Token) (m : ℕ) → Ascends n (z ∷ w) m → n ≤ z.place.line
+unfolding Ascends
+ascends_first n z w m a = a.0
+
 -- ---- fronts
 
 cons_same : (x y : Seen) (a b : List Seen) → x ∷ a ≡ y ∷ b → (x ≡ y) × (a ≡ b)
