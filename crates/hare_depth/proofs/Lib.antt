@@ -13,3 +13,4 @@ pub mod Languages
 pub mod Gaining
 pub mod Likewise
 pub mod Closings
+pub mod Told
