@@ -14,3 +14,4 @@ pub mod Gaining
 pub mod Likewise
 pub mod Closings
 pub mod Told
+pub mod Least
