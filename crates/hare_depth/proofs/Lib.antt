@@ -1,2 +1,4 @@
 pub mod Piles
 pub mod Claims
+pub mod Begins
+pub mod FormKids
