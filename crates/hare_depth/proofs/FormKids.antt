@@ -47,6 +47,10 @@ none_has_no_kids : (k : Kind) → is_none k ≡ true → kid_pieces (form_of k) 
 none_has_no_kids ki.None e = refl
 none_has_no_kids _ e = cc
 
+pub nothing_in_none : (h : Head) (t : Node) (ts : Nodes) → is_none h.kind ≡ true → has_form (branch h (more t ts)) ≡ true → ⊥
+unfolding is_shaped
+nothing_in_none h t ts e k = let c = rw (none_has_no_kids h.kind e) at k in cc
+
 comma_has_no_kids : (k : Kind) → is_none_or_comma k ≡ true → kid_pieces (form_of k) ≡ []
 comma_has_no_kids ki.None e = refl
 comma_has_no_kids ki.TrailingComma e = refl
@@ -210,32 +214,7 @@ operated _ e = cc
 -- what binds is an expression, and a node
 level_is_node : (k : Kind) (x : List ℕ) → nat_le 1 (level k x) ≡ true → is_node k ≡ true
 level_is_node ki.None x e = cc
-level_is_node ki.Use x e = cc
-level_is_node ki.UseAlias x e = cc
-level_is_node ki.UseNames x e = cc
-level_is_node ki.ImportPath x e = cc
-level_is_node ki.Def x e = cc
-level_is_node ki.GlobalLet x e = cc
-level_is_node ki.GlobalConst x e = cc
-level_is_node ki.TypeDecl x e = cc
-level_is_node ki.Fn x e = cc
-level_is_node ki.Params x e = cc
-level_is_node ki.Param x e = cc
-level_is_node ki.StructField x e = cc
-level_is_node ki.Name x e = cc
-level_is_node ki.Export x e = cc
-level_is_node ki.TrailingComma x e = cc
-level_is_node ki.Dots x e = cc
-level_is_node ki.ByRef x e = cc
-level_is_node ki.Spread x e = cc
-level_is_node ki.FieldValue x e = cc
-level_is_node ki.Binding x e = cc
-level_is_node ki.Case x e = cc
-level_is_node ki.PatternLet x e = cc
-level_is_node ki.PatternNull x e = cc
-level_is_node ki.SwitchCase x e = cc
-level_is_node ki.Values x e = cc
-level_is_node _ x e = refl
+level_is_node _ x e = cc
 
 operand_is_node : (m : ℕ) (t : Node) → nat_le 1 m ≡ true → is_shaped (so.Level m) t ≡ true → is_node (head t).kind ≡ true
 operand_is_node m (branch h ts) b e =
@@ -243,28 +222,25 @@ operand_is_node m (branch h ts) b e =
     let q : m ≤ level h.kind h.text = true_le m (level h.kind h.text) (shape (so.Level m) h ts e).admitted in
     level_is_node h.kind h.text (le_true 1 (level h.kind h.text) (omega (arith, p, q)))
 
--- ---- the left operand of an operator
+-- ---- the first kid of an operator
 
--- the kids of an operator
-pub record Operand (h : Head) (ts : Nodes) : Type 0 where
-  pub left : Node
-  pub others : Nodes
-  pub is : ts ≡ more left others
-  pub node : is_node (head left).kind ≡ true
+-- it is a node, and a token stands behind it
+pub record Operand (h : Head) (t : Node) : Type 0 where
+  pub node : is_node (head t).kind ≡ true
+  pub left : Sort
   pub rest : List Piece
-  pub form : (s : Sort) × (form_of h.kind ≡ pi.Kid s ∷ rest)
+  pub form : form_of h.kind ≡ pi.Kid left ∷ rest
   pub token : has_token rest ≡ true
 
-pub operand : (h : Head) (ts : Nodes) → is_operator h.kind ≡ true → has_form (branch h ts) ≡ true → Operand h ts
+pub operand : (h : Head) (t : Node) (ts : Nodes) → is_operator h.kind ≡ true → has_form (branch h (more t ts)) ≡ true → Operand h t
 unfolding is_shaped
-operand h ts e k = by ts (let e = o.is in rw e at k)
-  where
-    o : Operated h.kind
-    o = operated h.kind e
+operand h t ts e k =
+    let o = operated h.kind e in
+    let m = level h.kind h.text in
+    let s = o.sort h.text in
+    let p = split (is_shaped (sort_in m o.left) t) (are_kids m (kid_pieces o.rest) ts) (rw o.is at k) in
+    record { node = operand_is_node (o.bound h.text) t (o.binds h.text) (rw s at p.0); left = o.left; rest = o.rest; form = o.is; token = o.token }
 
-    by : (ts : Nodes) → are_kids (level h.kind h.text) (pi.Kid o.left ∷ kid_pieces o.rest) ts ≡ true → Operand h ts
-    by none k = cc
-    by (more t ts) k =
-        let p = split (is_shaped (sort_in (level h.kind h.text) o.left) t) (are_kids (level h.kind h.text) (kid_pieces o.rest) ts) k in
-        let s = o.sort h.text in
-        record { left = t; others = ts; is = refl; node = operand_is_node (o.bound h.text) t (o.binds h.text) (rw s at p.0); rest = o.rest; form = (o.left, o.is); token = o.token }
+pub no_operand : (h : Head) → is_operator h.kind ≡ true → has_form (branch h none) ≡ true → ⊥
+unfolding is_shaped
+no_operand h e k = let o = operated h.kind e in let c = rw o.is at k in cc
