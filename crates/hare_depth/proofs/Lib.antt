@@ -6,3 +6,4 @@ pub mod OnList
 pub mod LetterTests
 pub mod LetterTrees
 pub mod Letter
+pub mod LetterFiles
