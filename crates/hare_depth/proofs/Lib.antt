@@ -7,3 +7,4 @@ pub mod LetterTests
 pub mod LetterTrees
 pub mod Letter
 pub mod LetterFiles
+pub mod Placeless
