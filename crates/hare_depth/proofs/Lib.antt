@@ -15,3 +15,11 @@ pub mod Likewise
 pub mod Closings
 pub mod Told
 pub mod Least
+pub mod Begins
+pub mod FormKids
+pub mod OnList
+pub mod LetterTests
+pub mod LetterTrees
+pub mod Letter
+pub mod LetterFiles
+pub mod Placeless
