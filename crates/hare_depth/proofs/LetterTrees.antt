@@ -146,7 +146,7 @@ left_begins : (h : Head) (u : Node) (us : Nodes) (n : ℕ) → Operand h u → f
 unfolding spell
 left_begins h u us n o = rw o.form (omega arith)
 
-left_ends : (h : Head) (u : Node) (us : Nodes) → Operand h u → length (spell 0 u) < length (spell 0 (branch h (more u us)))
+pub left_ends : (h : Head) (u : Node) (us : Nodes) → Operand h u → length (spell 0 u) < length (spell 0 (branch h (more u us)))
 unfolding spell
 left_ends h u us o =
     let s = pieces_some h o.rest (spells 0 us) o.token in

@@ -23,3 +23,4 @@ pub mod LetterTrees
 pub mod Letter
 pub mod LetterFiles
 pub mod Placeless
+pub mod Inside
