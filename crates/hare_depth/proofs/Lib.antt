@@ -24,3 +24,4 @@ pub mod Letter
 pub mod LetterFiles
 pub mod Placeless
 pub mod Inside
+pub mod Sorts
