@@ -49,7 +49,7 @@ FilePilesAgree =
 
 -- ---- trees side by side
 
-all_have_forms : (s : Sort) (ts : List Node) → list_all (is_shaped s) ts ≡ true → have_forms (nodes_of ts) ≡ true
+pub all_have_forms : (s : Sort) (ts : List Node) → list_all (is_shaped s) ts ≡ true → have_forms (nodes_of ts) ≡ true
 all_have_forms s [] e = refl
 all_have_forms s (t ∷ ts) e =
     let p = split (is_shaped s t) (list_all (is_shaped s) ts) e in

@@ -25,3 +25,4 @@ pub mod LetterFiles
 pub mod Placeless
 pub mod Inside
 pub mod Sorts
+pub mod FilesRead
