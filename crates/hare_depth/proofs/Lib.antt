@@ -26,3 +26,5 @@ pub mod Placeless
 pub mod Inside
 pub mod Sorts
 pub mod FilesRead
+pub mod Shallow
+pub mod Laws

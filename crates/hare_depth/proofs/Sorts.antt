@@ -64,13 +64,13 @@ sort_none s = refl
 -- ---- what a run makes
 
 -- the tree that is made from these tokens
-record MadeTree (s : Sort) (u : List Token) (z : Token) (made : List Group) : Type 0 where
-  tree : Node
-  shaped : is_shaped s tree ≡ true
-  spelled : spell 0 tree ≡ map unplaced u
-  faulty : Faulty (trees_of s) u z tree made
+pub record MadeTree (s : Sort) (u : List Token) (z : Token) (made : List Group) : Type 0 where
+  pub tree : Node
+  pub shaped : is_shaped s tree ≡ true
+  pub spelled : spell 0 tree ≡ map unplaced u
+  pub faulty : Faulty (trees_of s) u z tree made
 
-made_tree : (s : Sort) → has_trees s ≡ true → (u : List Token) (z : Token) (top : ℕ) (made : List Group) → Ascends 1 (u ++ z ∷ []) top → run 0 (u ++ z ∷ []) (of s ∷ []) bottom ≡ Done (z ∷ []) made → MadeTree s u z made
+pub made_tree : (s : Sort) → has_trees s ≡ true → (u : List Token) (z : Token) (top : ℕ) (made : List Group) → Ascends 1 (u ++ z ∷ []) top → run 0 (u ++ z ∷ []) (of s ∷ []) bottom ≡ Done (z ∷ []) made → MadeTree s u z made
 made_tree s c u z top made a d =
     let w = u ++ z ∷ [] in
     let r = runs_read_trees s 0 w (z ∷ []) made d in
