@@ -2,3 +2,5 @@ pub mod Piles
 pub mod Claims
 pub mod Lists
 pub mod Seen
+pub mod Slots
+pub mod SlotForms
