@@ -4,3 +4,4 @@ pub mod Lists
 pub mod Seen
 pub mod Slots
 pub mod SlotForms
+pub mod SlotSorts

@@ -163,3 +163,92 @@ uses_before (Uses cs rs) d ss a b c =
     head : (rs : List Symbol) → prepared cs rs ≡ true → prepared cs (rs ++ d ∷ ss) ≡ true
     head [] e = prepared_plain cs (d ∷ ss) b
     head (s ∷ rs) e = prepared_append cs s rs (d ∷ ss) e
+
+-- ---- changes in front of a row
+
+or_right : (a b : Bool) → b ≡ true → (a || b) ≡ true
+or_right true b e = refl
+or_right false b e = e
+
+made_led : (d : Change) (cs : List Change) (s : Symbol) → made_for cs s ≡ true → made_for (d ∷ cs) s ≡ true
+made_led d cs (sy.Part (ru.Climb l h)) e = or_right (is_put (d ∷ cs)) (ends_in is_put cs) e
+made_led d cs (sy.Part ru.PathOrStruct) e = or_right (is_twice (d ∷ cs)) (ends_in is_twice cs) e
+made_led d cs (sy.Part (ru.BehindComma s)) e = or_right (is_begun (d ∷ cs)) (ends_in is_begun cs) e
+made_led d cs (sy.Part ru.BehindElementComma) e = or_right (is_begun_behind (d ∷ cs)) (ends_in is_begun_behind cs) e
+made_led d cs (sy.Part ru.AfterForName) e = or_right (is_begun (d ∷ cs)) (ends_in is_begun cs) e
+made_led d cs (sy.Part ru.AfterUseName) e = or_right (is_named (d ∷ cs)) (ends_in is_named cs) e
+made_led d cs _ e = refl
+
+prepared_led : (d : Change) (cs : List Change) (ss : List Symbol) → prepared cs ss ≡ true → prepared (d ∷ cs) ss ≡ true
+prepared_led d cs [] e = refl
+prepared_led d cs (s ∷ []) e = by (hands_on s) e
+  where
+    by : (b : Bool) → (if b then false else made_for cs s) ≡ true → (if b then false else made_for (d ∷ cs) s) ≡ true
+    by true i = i
+    by false i = made_led d cs s i
+prepared_led d cs (s ∷ r ∷ ss) e = by (hands_on s) e
+  where
+    by : (b : Bool) → (if b then made_for cs r else made_for cs s) ≡ true → (if b then made_for (d ∷ cs) r else made_for (d ∷ cs) s) ≡ true
+    by true i = made_led d cs r i
+    by false i = made_led d cs s i
+
+pub uses_led : (d : Change) (os bs : List Bool) (r : Row) → undone d os ≡ bs → is_quiet d os ≡ true → uses_ok os r ≡ true → uses_ok bs (led_by (d ∷ []) r) ≡ true
+uses_led d os bs Fault u q a = refl
+uses_led d os bs (Skips cs) u q a = cc
+uses_led d os bs (Uses cs ss) u q a =
+    let p = split (tame cs (nodes_in ss) && same_bools (all_undone cs (nodes_in ss)) os) (follows ss && prepared cs ss) a in
+    let t = split (tame cs (nodes_in ss)) (same_bools (all_undone cs (nodes_in ss)) os) p.0 in
+    let f = split (follows ss) (prepared cs ss) p.1 in
+    rw (same_equal (all_undone cs (nodes_in ss)) os t.1, q, t.0, u, same_refl bs, f.0, prepared_led d cs ss f.1) refl
+
+-- ---- rows that may be over
+
+pub uses_row : (os : List Bool) (r : Row) → uses_ok os r ≡ true → row_ok os r ≡ true
+uses_row os Fault a = refl
+uses_row os (Skips cs) a = cc
+uses_row os (Uses cs ss) a = a
+
+pub or_ok : (os : List Bool) (r : Row) (ds : List Change) → uses_ok os r ≡ true → row_ok os (Skips ds) ≡ true → row_ok os (or_skips r ds) ≡ true
+or_ok os Fault ds a b = b
+or_ok os (Skips cs) ds a b = b
+or_ok os (Uses cs ss) ds a b = a
+
+pub at_ok : (os : List Bool) (a : Sign) (c : Class) (cs ds : List Change) (ss : List Symbol) → uses_ok os (Uses cs ss) ≡ true → row_ok os (Skips ds) ≡ true → row_ok os (at_sign a c (Uses cs ss) (Skips ds)) ≡ true
+at_ok os a c cs ds ss u s = by (has_sign a c)
+  where
+    by : (b : Bool) → row_ok os (if b then Uses cs ss else Skips ds) ≡ true
+    by true = u
+    by false = s
+
+-- ---- rows that leave an operand
+
+-- what binds operators behind it
+pub uses_climb : (r : Row) (l h : ℕ) → uses_ok [] r ≡ true → ends_row r ≡ true → uses_ok [] (before r (sy.Part (ru.Climb l h) ∷ [])) ≡ true
+unfolding nodes_in follows
+uses_climb Fault l h a e = refl
+uses_climb (Skips cs) l h a e = cc
+uses_climb (Uses cs rs) l h a e =
+    let d : Symbol = sy.Part (ru.Climb l h) in
+    let p = split (tame cs (nodes_in rs) && same_bools (all_undone cs (nodes_in rs)) []) (follows rs && prepared cs rs) a in
+    let q = split (tame cs (nodes_in rs)) (same_bools (all_undone cs (nodes_in rs)) []) p.0 in
+    let r = split (follows rs) (prepared cs rs) p.1 in
+    let t = tame_append cs (nodes_in rs) [] q.0 in
+    rw (nodes_append rs (d ∷ []), t.0, t.1, same_equal (all_undone cs (nodes_in rs)) [] q.1, follows_append rs d [] r.0 (joins_climb cs rs l h e) refl, head rs r.1 e) refl
+  where
+    head : (rs : List Symbol) → prepared cs rs ≡ true → ends_stack cs rs ≡ true → prepared cs (rs ++ sy.Part (ru.Climb l h) ∷ []) ≡ true
+    head [] i j = j
+    head (s ∷ rs) i j = prepared_append cs s rs (sy.Part (ru.Climb l h) ∷ []) i
+
+ends_append : (cs : List Change) (rs : List Symbol) (d : Symbol) (ss : List Symbol) → ends_stack cs (rs ++ d ∷ ss) ≡ ends_stack cs (d ∷ ss)
+ends_append cs [] d ss = refl
+ends_append cs (s ∷ []) d ss = refl
+ends_append cs (s ∷ r ∷ rs) d ss = ends_append cs (r ∷ rs) d ss
+
+ends_any : (cs ds : List Change) (d : Symbol) (ss : List Symbol) → ends_stack cs (d ∷ ss) ≡ ends_stack ds (d ∷ ss)
+ends_any cs ds d [] = refl
+ends_any cs ds d (s ∷ ss) = ends_any cs ds s ss
+
+pub ends_before : (os : List Bool) (r : Row) (d : Symbol) (ss : List Symbol) → uses_ok os r ≡ true → ends_stack [] (d ∷ ss) ≡ true → ends_row (before r (d ∷ ss)) ≡ true
+ends_before os Fault d ss a e = refl
+ends_before os (Skips cs) d ss a e = cc
+ends_before os (Uses cs rs) d ss a e = ends_append cs rs d ss ∙ ends_any cs [] d ss ∙ e
