@@ -5,3 +5,4 @@ pub mod Seen
 pub mod Slots
 pub mod SlotForms
 pub mod SlotSorts
+pub mod SlotRows

@@ -164,6 +164,11 @@ uses_before (Uses cs rs) d ss a b c =
     head [] e = prepared_plain cs (d ∷ ss) b
     head (s ∷ rs) e = prepared_append cs s rs (d ∷ ss) e
 
+-- the same of symbols of which the first is plain
+pub uses_behind : (r : Row) (ss : List Symbol) → uses_ok [] r ≡ true → is_plain_first ss ≡ true → follows ss ≡ true → uses_ok (nodes_in ss) (before r ss) ≡ true
+uses_behind r [] a b c = cc
+uses_behind r (d ∷ ss) a b c = uses_before r d ss a b c
+
 -- ---- changes in front of a row
 
 or_right : (a b : Bool) → b ≡ true → (a || b) ≡ true
@@ -239,7 +244,7 @@ uses_climb (Uses cs rs) l h a e =
     head [] i j = j
     head (s ∷ rs) i j = prepared_append cs s rs (sy.Part (ru.Climb l h) ∷ []) i
 
-ends_append : (cs : List Change) (rs : List Symbol) (d : Symbol) (ss : List Symbol) → ends_stack cs (rs ++ d ∷ ss) ≡ ends_stack cs (d ∷ ss)
+pub ends_append : (cs : List Change) (rs : List Symbol) (d : Symbol) (ss : List Symbol) → ends_stack cs (rs ++ d ∷ ss) ≡ ends_stack cs (d ∷ ss)
 ends_append cs [] d ss = refl
 ends_append cs (s ∷ []) d ss = refl
 ends_append cs (s ∷ r ∷ rs) d ss = ends_append cs (r ∷ rs) d ss

@@ -16,7 +16,7 @@ use Rattle.hare_grammar.specs.DeclarationRows.{of_row, decl_word_row}
 use Rattle.hare_depth.specs.Gauge.{nodes_in}
 use Rattle.hare_depth.proofs.Piles.{follows}
 use Rattle.hare_depth.proofs.Slots.{uses_ok, ends_row}
-use Rattle.hare_depth.proofs.SlotForms.{uses_before, uses_led, uses_climb}
+use Rattle.hare_depth.proofs.SlotForms.{uses_behind, uses_led, uses_climb}
 
 -- ---- types
 
@@ -76,7 +76,7 @@ word_ok _ = refl
 
 values_ok : (c : Class) → uses_ok [] (of_row so.Values c) ≡ true
 unfolding nodes_in follows
-values_ok c = uses_led ch.Open (false ∷ []) [] (before (level_row 1 c) (rest_of 1 ki.Values)) refl refl (uses_before (level_row 1 c) _ _ (level_ok 1 c) refl refl)
+values_ok c = uses_led ch.Open (false ∷ []) [] (before (level_row 1 c) (rest_of 1 ki.Values)) refl refl (uses_behind (level_row 1 c) (rest_of 1 ki.Values) (level_ok 1 c) refl refl)
 
 pub of_ok : (s : Sort) (c : Class) → uses_ok [] (of_row s c) ≡ true
 unfolding nodes_in follows
