@@ -2,3 +2,4 @@ pub mod Piles
 pub mod Claims
 pub mod Lists
 pub mod Seen
+pub mod Grown
