@@ -3,3 +3,4 @@ pub mod Claims
 pub mod Lists
 pub mod Seen
 pub mod Grown
+pub mod Changes
