@@ -4,3 +4,5 @@ pub mod Lists
 pub mod Seen
 pub mod Grown
 pub mod Changes
+pub mod Below
+pub mod Over
