@@ -10,3 +10,4 @@ pub mod Slots
 pub mod SlotForms
 pub mod SlotSorts
 pub mod SlotRows
+pub mod Stands
