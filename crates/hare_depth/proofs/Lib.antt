@@ -6,3 +6,4 @@ pub mod Grown
 pub mod Changes
 pub mod Below
 pub mod Over
+pub mod Idle
