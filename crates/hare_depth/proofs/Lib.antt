@@ -7,3 +7,4 @@ pub mod Changes
 pub mod Below
 pub mod Over
 pub mod Idle
+pub mod PathEnds
