@@ -6,6 +6,8 @@ pub mod Grown
 pub mod Changes
 pub mod Below
 pub mod Over
+pub mod Idle
+pub mod PathEnds
 pub mod Slots
 pub mod SlotForms
 pub mod SlotSorts

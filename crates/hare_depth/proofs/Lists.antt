@@ -81,6 +81,18 @@ gains_same a b x y g h = record { kept = g.kept; gained = λ n i. gained n (h.on
     only n (inl i) = inl i
     only n (inr i) = inr (h.kept n i)
 
+-- with others that were there before
+pub gains_known : (a b x y : List ℕ) → Gains a b x → ((n : ℕ) → IsOn n y → IsOn n a) → Gains a b (y ++ x)
+gains_known a b x y g k = record { kept = g.kept; gained = λ n i. gained n (on_either n y x i); only = λ n i. only n (g.only n i) }
+  where
+    gained : (n : ℕ) → IsOn n y ⊎ IsOn n x → IsOn n b
+    gained n (inl i) = g.kept n (k n i)
+    gained n (inr i) = g.gained n i
+
+    only : (n : ℕ) → IsOn n a ⊎ IsOn n x → IsOn n a ⊎ IsOn n (y ++ x)
+    only n (inl i) = inl i
+    only n (inr i) = inr (on_right n y x i)
+
 -- ---- gains of lists side by side
 
 pub gains_in_front : (e a : List ℕ) → Gains a (e ++ a) e
