@@ -13,3 +13,4 @@ pub mod SlotForms
 pub mod SlotSorts
 pub mod SlotRows
 pub mod Stands
+pub mod Tame
