@@ -9,10 +9,13 @@ use Rattle.hare_tree.specs.Depth.{is_node}
 use Rattle.hare_grammar.proofs.Paths.{split}
 use Rattle.hare_grammar.proofs.Edges.{le_true, true_le}
 use Rattle.hare_parsing.proofs.Breaks.{both}
-use Rattle.hare_depth.specs.Marks.{Mark, Frame, lies_before, first_in, mark_as, leaf_mark, put, close}
+use Rattle.hare_grammar.specs.declared.rule.Change.{Change}
+use Rattle.hare_grammar.specs.declared.rule.Change.TheVariants as ch
+use Rattle.hare_depth.specs.Marks.{Mark, Frame, lies_before, first_in, mark_as, leaf_mark, put, close, changed}
 use Rattle.hare_depth.proofs.Piles.{fits, is_empty, is_ordered, kids_below, all_below}
 use Rattle.hare_depth.proofs.Grown.{is_behind, behind_plain, behind_later, first_stays}
 use Rattle.hare_depth.proofs.Changes.{ordered_behind}
+use Rattle.hare_depth.proofs.Slots.{undone, is_quiet, is_loud}
 
 -- no tree under way has its place behind the token
 abbrev pub at_most : ℕ → List Frame → Bool
@@ -158,3 +161,23 @@ close_stands n m k bs (f ∷ g ∷ fs) s =
     by : (b : Bool) → nat_le (first_in f.at f.kids + 1) m ≡ true → (if b then nat_le (first_in f.at f.kids + 1) m else true) ≡ true
     by true i = i
     by false i = refl
+
+-- ---- the changes of rows that pass the check
+
+pub quiet_stands : (n : ℕ) (c : Change) (bs : List Bool) (fs : List Frame) → is_quiet c bs ≡ true → Stands n (suc n) (undone c bs) fs → Stands n (suc n) bs (changed n c fs)
+quiet_stands n ch.Absent bs fs q s = absent_stands n (suc n) bs fs s
+quiet_stands n (ch.Mark k) bs fs q s = leaf_stands n k bs fs s
+quiet_stands n (ch.Leaf k) bs fs q s = leaf_stands n k bs fs s
+quiet_stands n ch.Open [] fs q s = cc
+quiet_stands n ch.Open (b ∷ bs) fs q s = open_stands n b bs fs s
+quiet_stands n ch.Take bs fs q s = s
+quiet_stands n ch.Join bs fs q s = s
+quiet_stands n (ch.Close k) bs fs q s = close_stands n (suc n) k bs fs s
+quiet_stands n _ bs fs q s = cc
+
+pub loud_stands : (n : ℕ) (c : Change) (bs : List Bool) (fs : List Frame) → is_loud c bs ≡ true → Stands n (suc n) (undone c bs) fs → Stands n (suc n) bs (changed n c fs)
+loud_stands n (ch.Mark k) bs fs q s = leaf_stands n k bs fs s
+loud_stands n (ch.Leaf k) bs fs q s = leaf_stands n k bs fs s
+loud_stands n ch.Open [] fs q s = cc
+loud_stands n ch.Open (b ∷ bs) fs q s = open_stands n b bs fs s
+loud_stands n _ bs fs q s = cc

@@ -24,7 +24,7 @@ use Rattle.hare_depth.proofs.Grown.{behind_later, top_grown}
 use Rattle.hare_depth.proofs.Changes.{leaf_faults, absent_gains, open_gains, close_gains, take_same, join_same}
 use Rattle.hare_depth.proofs.Slots.{undone, all_undone, is_quiet, is_loud, is_still, tame, is_over}
 use Rattle.hare_depth.proofs.SlotForms.{still_undone}
-use Rattle.hare_depth.proofs.Stands.{at_most, Stands, absent_stands, leaf_stands, open_stands, close_stands}
+use Rattle.hare_depth.proofs.Stands.{at_most, Stands, quiet_stands, loud_stands}
 
 -- The second list is the first but for one token, which the gauge finds.
 pub record Grows (n : ℕ) (old new told : List ℕ) : Type 0 where
@@ -85,11 +85,6 @@ leaf_found n k bs f fs x i =
 
 -- ---- one change
 
--- what a change does where nothing begins that is a node
-pub record Quiet (n : ℕ) (bs os : List Bool) (gs hs : List Group) : Type 0 where
-  pub gains : Gains (pile_faults bs gs) (pile_faults os hs) []
-  pub stands : Stands n (suc n) os (frames hs)
-
 quiet_leaf : (h : Head) (bs : List Bool) (gs : List Group) → not (is_node h.kind) ≡ true → Stands h.place.line (suc h.place.line) bs (frames gs) → Gains (pile_faults bs gs) (pile_faults bs (add (branch h none) gs)) []
 quiet_leaf h bs gs q s = by (is_node h.kind) q (leaf_gains bs h gs s.placed s.fitting)
   where
@@ -105,22 +100,17 @@ closes k n m bs [] s = absurd (omega (arith, s.fitting))
 closes k n m bs (g ∷ []) s = absurd (omega (arith, s.fitting))
 closes k n m bs (g ∷ h ∷ hs) s = close_gains k bs g h hs s.fitting s.ordered
 
-quiet_change : (f : ℕ) (t : Token) (c : Change) (bs : List Bool) (gs : List Group) → is_quiet c bs ≡ true → Stands t.place.line (suc t.place.line) (undone c bs) (frames gs) → Quiet t.place.line (undone c bs) bs gs (changed f t c gs)
-quiet_change f t ch.Absent bs gs q s = record { gains = absent_gains bs f gs s.fitting; stands = moved f t ch.Absent (suc t.place.line) bs gs (absent_stands t.place.line (suc t.place.line) bs (frames gs) s) }
-quiet_change f t (ch.Mark k) bs gs q s = record { gains = quiet_leaf (head_in k (begun t.place [])) bs gs q s; stands = moved f t (ch.Mark k) (suc t.place.line) bs gs (leaf_stands t.place.line k bs (frames gs) s) }
-quiet_change f t (ch.Leaf k) bs gs q s = record { gains = quiet_leaf (record { kind = k; place = t.place; text = t.text; number = t.number; suffix = t.suffix }) bs gs q s; stands = moved f t (ch.Leaf k) (suc t.place.line) bs gs (leaf_stands t.place.line k bs (frames gs) s) }
-quiet_change f t ch.Open [] gs q s = cc
-quiet_change f t ch.Open (true ∷ bs) gs q s = cc
-quiet_change f t ch.Open (false ∷ bs) gs q s = record { gains = open_gains false bs t.place gs s.fitting; stands = open_stands t.place.line false bs (frames gs) s }
-quiet_change f t ch.Take bs gs q s = record { gains = gains_none (pile_faults bs gs) (pile_faults bs (changed f t ch.Take gs)) (sym (take_same t bs gs)); stands = moved f t ch.Take (suc t.place.line) bs gs s }
-quiet_change f t ch.Join bs gs q s = record { gains = gains_none (pile_faults bs gs) (pile_faults bs (changed f t ch.Join gs)) (sym (join_same t bs gs)); stands = moved f t ch.Join (suc t.place.line) bs gs s }
-quiet_change f t (ch.Close k) bs gs q s = record { gains = closes k t.place.line (suc t.place.line) bs gs s; stands = moved f t (ch.Close k) (suc t.place.line) bs gs (close_stands t.place.line (suc t.place.line) k bs (frames gs) s) }
-quiet_change f t _ bs gs q s = cc
-
--- what a change does where something begins
-pub record Loud (n : ℕ) (bs os : List Bool) (gs hs : List Group) : Type 0 where
-  pub grows : Grows n (pile_faults bs gs) (pile_faults os hs) (found os (frames hs))
-  pub stands : Stands n (suc n) os (frames hs)
+quiet_gains : (f : ℕ) (t : Token) (c : Change) (bs : List Bool) (gs : List Group) → is_quiet c bs ≡ true → Stands t.place.line (suc t.place.line) (undone c bs) (frames gs) → Gains (pile_faults (undone c bs) gs) (pile_faults bs (changed f t c gs)) []
+quiet_gains f t ch.Absent bs gs q s = absent_gains bs f gs s.fitting
+quiet_gains f t (ch.Mark k) bs gs q s = quiet_leaf (head_in k (begun t.place [])) bs gs q s
+quiet_gains f t (ch.Leaf k) bs gs q s = quiet_leaf (record { kind = k; place = t.place; text = t.text; number = t.number; suffix = t.suffix }) bs gs q s
+quiet_gains f t ch.Open [] gs q s = cc
+quiet_gains f t ch.Open (true ∷ bs) gs q s = cc
+quiet_gains f t ch.Open (false ∷ bs) gs q s = open_gains false bs t.place gs s.fitting
+quiet_gains f t ch.Take bs gs q s = gains_none (pile_faults bs gs) (pile_faults bs (changed f t ch.Take gs)) (sym (take_same t bs gs))
+quiet_gains f t ch.Join bs gs q s = gains_none (pile_faults bs gs) (pile_faults bs (changed f t ch.Join gs)) (sym (join_same t bs gs))
+quiet_gains f t (ch.Close k) bs gs q s = closes k t.place.line (suc t.place.line) bs gs s
+quiet_gains f t _ bs gs q s = cc
 
 loud_leaf : (h : Head) (bs : List Bool) (gs : List Group) → mark (branch h none) ≡ leaf_mark h.kind h.place.line → Stands h.place.line (suc h.place.line) bs (frames gs) → Grows h.place.line (pile_faults bs gs) (pile_faults bs (add (branch h none) gs)) (found bs (frames (add (branch h none) gs)))
 loud_leaf h bs [] i s = absurd (omega (arith, s.fitting))
@@ -128,22 +118,16 @@ loud_leaf h bs (g ∷ gs) i s =
     let new = add (branch h none) (g ∷ gs) in
     grows_if h.place.line (is_node h.kind && nat_le 256 (opened bs)) (pile_faults bs (g ∷ gs)) (pile_faults bs new) (found bs (frames new)) (leaf_gains bs h (g ∷ gs) s.placed s.fitting) (λ x j. subst (λ l. IsOn x (found bs l)) (sym (frames_add (branch h none) (g ∷ gs) ∙ ap (λ m. put m (frames (g ∷ gs))) i)) (leaf_found h.place.line h.kind bs (frame_of g) (frames gs) x j))
 
-loud_change : (f : ℕ) (t : Token) (c : Change) (bs : List Bool) (gs : List Group) → is_loud c bs ≡ true → Stands t.place.line (suc t.place.line) (undone c bs) (frames gs) → Loud t.place.line (undone c bs) bs gs (changed f t c gs)
-loud_change f t (ch.Mark k) bs gs q s = record { grows = loud_leaf (head_in k (begun t.place [])) bs gs refl s; stands = moved f t (ch.Mark k) (suc t.place.line) bs gs (leaf_stands t.place.line k bs (frames gs) s) }
-loud_change f t (ch.Leaf k) bs gs q s = record { grows = loud_leaf (record { kind = k; place = t.place; text = t.text; number = t.number; suffix = t.suffix }) bs gs refl s; stands = moved f t (ch.Leaf k) (suc t.place.line) bs gs (leaf_stands t.place.line k bs (frames gs) s) }
-loud_change f t ch.Open [] gs q s = cc
-loud_change f t ch.Open (b ∷ bs) gs q s = record { grows = opened_grows b; stands = open_stands t.place.line b bs (frames gs) s }
-  where
-    n : ℕ
-    n = t.place.line
+begins : (n : ℕ) (b : Bool) (bs : List Bool) (fs : List Frame) (x : ℕ) → IsOn x (if b && nat_le 256 (opened bs) then n ∷ [] else []) → IsOn x (found (b ∷ bs) (record { at = n; kids = [] } ∷ fs))
+begins n true bs fs x i = on_left x (if nat_le 256 (opened bs) then n ∷ [] else []) (deep_last (opened (true ∷ bs)) [] ++ high_operand n []) i
+begins n false bs fs x i = absurd i
 
-    begins : (b : Bool) → (x : ℕ) → IsOn x (if b && nat_le 256 (opened bs) then n ∷ [] else []) → IsOn x (found (b ∷ bs) (frames (begun t.place [] ∷ gs)))
-    begins true x i = on_left x (if nat_le 256 (opened bs) then n ∷ [] else []) (deep_last (opened (true ∷ bs)) [] ++ high_operand n []) i
-    begins false x i = absurd i
-
-    opened_grows : (b : Bool) → Grows n (pile_faults bs gs) (pile_faults (b ∷ bs) (begun t.place [] ∷ gs)) (found (b ∷ bs) (frames (begun t.place [] ∷ gs)))
-    opened_grows b = grows_if n (b && nat_le 256 (opened bs)) (pile_faults bs gs) (pile_faults (b ∷ bs) (begun t.place [] ∷ gs)) (found (b ∷ bs) (frames (begun t.place [] ∷ gs))) (open_gains b bs t.place gs s.fitting) (begins b)
-loud_change f t _ bs gs q s = cc
+loud_grows : (f : ℕ) (t : Token) (c : Change) (bs : List Bool) (gs : List Group) → is_loud c bs ≡ true → Stands t.place.line (suc t.place.line) (undone c bs) (frames gs) → Grows t.place.line (pile_faults (undone c bs) gs) (pile_faults bs (changed f t c gs)) (found bs (frames (changed f t c gs)))
+loud_grows f t (ch.Mark k) bs gs q s = loud_leaf (head_in k (begun t.place [])) bs gs refl s
+loud_grows f t (ch.Leaf k) bs gs q s = loud_leaf (record { kind = k; place = t.place; text = t.text; number = t.number; suffix = t.suffix }) bs gs refl s
+loud_grows f t ch.Open [] gs q s = cc
+loud_grows f t ch.Open (b ∷ bs) gs q s = grows_if t.place.line (b && nat_le 256 (opened bs)) (pile_faults bs gs) (pile_faults (b ∷ bs) (begun t.place [] ∷ gs)) (found (b ∷ bs) (frames (begun t.place [] ∷ gs))) (open_gains b bs t.place gs s.fitting) (begins t.place.line b bs (frames gs))
+loud_grows f t _ bs gs q s = cc
 
 -- ---- all changes of a row
 
@@ -153,7 +137,12 @@ still_same f t (ch.Take ∷ cs) bs gs e = let r = still_same f t cs bs (changed 
 still_same f t (ch.Join ∷ cs) bs gs e = let r = still_same f t cs bs (changed f t ch.Join gs) e in (r.0 ∙ join_same t bs gs, r.1 ∙ frames_changed f t ch.Join gs)
 still_same f t (c ∷ cs) bs gs e = cc
 
-pub tame_grows : (f : ℕ) (t : Token) (cs : List Change) (bs : List Bool) (gs : List Group) → tame cs bs ≡ true → Stands t.place.line (suc t.place.line) (all_undone cs bs) (frames gs) → Loud t.place.line (all_undone cs bs) bs gs (all_changed f t cs gs)
+-- what the changes of a row leave
+pub record Made (n : ℕ) (bs os : List Bool) (gs hs : List Group) : Type 0 where
+  pub grows : Grows n (pile_faults bs gs) (pile_faults os hs) (found os (frames hs))
+  pub stands : Stands n (suc n) os (frames hs)
+
+pub tame_grows : (f : ℕ) (t : Token) (cs : List Change) (bs : List Bool) (gs : List Group) → tame cs bs ≡ true → Stands t.place.line (suc t.place.line) (all_undone cs bs) (frames gs) → Made t.place.line (all_undone cs bs) bs gs (all_changed f t cs gs)
 tame_grows f t [] bs gs e s = record { grows = grows_none t.place.line (pile_faults bs gs) (pile_faults bs gs) (found bs (frames gs)) (gains_refl (pile_faults bs gs)); stands = s }
 tame_grows f t (c ∷ cs) bs gs e s = by (is_quiet c (all_undone cs bs)) refl e (λ i hs q. tame_grows f t cs bs hs i q)
   where
@@ -166,14 +155,15 @@ tame_grows f t (c ∷ cs) bs gs e s = by (is_quiet c (all_undone cs bs)) refl e 
     hs : List Group
     hs = changed f t c gs
 
-    by : (b : Bool) → is_quiet c us ≡ b → (if b then tame cs bs else is_loud c us && list_all is_still cs) ≡ true → (tame cs bs ≡ true → (hs : List Group) → Stands n (suc n) us (frames hs) → Loud n us bs hs (all_changed f t cs hs)) → Loud n (undone c us) bs gs (all_changed f t cs (changed f t c gs))
+    by : (b : Bool) → is_quiet c us ≡ b → (if b then tame cs bs else is_loud c us && list_all is_still cs) ≡ true → (tame cs bs ≡ true → (hs : List Group) → Stands n (suc n) us (frames hs) → Made n us bs hs (all_changed f t cs hs)) → Made n (undone c us) bs gs (all_changed f t cs (changed f t c gs))
     by true q i k =
-        let a = quiet_change f t c us gs q s in
-        let r = k i hs a.stands in
-        record { grows = grows_behind n (pile_faults (undone c us) gs) (pile_faults us hs) (pile_faults bs (all_changed f t cs hs)) (found bs (frames (all_changed f t cs hs))) a.gains r.grows; stands = r.stands }
+        let a = quiet_gains f t c us gs q s in
+        let r = k i hs (moved f t c (suc n) us gs (quiet_stands n c us (frames gs) q s)) in
+        record { grows = grows_behind n (pile_faults (undone c us) gs) (pile_faults us hs) (pile_faults bs (all_changed f t cs hs)) (found bs (frames (all_changed f t cs hs))) a r.grows; stands = r.stands }
     by false q i k =
         let p = split (is_loud c us) (list_all is_still cs) i in
         let u = still_undone cs bs p.1 in
         let y = still_same f t cs bs hs p.1 in
-        let a : Loud n (undone c us) bs gs hs = subst (λ l. Loud n (undone c us) l gs hs) u (loud_change f t c us gs p.0 s) in
-        record { grows = rw (y.0, y.1) a.grows; stands = rw y.1 a.stands }
+        let a : Made n (undone c us) us gs hs = record { grows = loud_grows f t c us gs p.0 s; stands = moved f t c (suc n) us gs (loud_stands n c us (frames gs) p.0 s) } in
+        let b : Made n (undone c us) bs gs hs = subst (λ l. Made n (undone c us) l gs hs) u a in
+        record { grows = rw (y.0, y.1) b.grows; stands = rw y.1 b.stands }
