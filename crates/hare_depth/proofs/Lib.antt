@@ -14,3 +14,4 @@ pub mod SlotSorts
 pub mod SlotRows
 pub mod Stands
 pub mod Tame
+pub mod Ready
