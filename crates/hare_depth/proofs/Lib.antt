@@ -8,3 +8,4 @@ pub mod Below
 pub mod Over
 pub mod Idle
 pub mod PathEnds
+pub mod Found
