@@ -9,3 +9,4 @@ pub mod Over
 pub mod Idle
 pub mod PathEnds
 pub mod Found
+pub mod Orders
