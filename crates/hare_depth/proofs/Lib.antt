@@ -8,6 +8,8 @@ pub mod Below
 pub mod Over
 pub mod Idle
 pub mod PathEnds
+pub mod Found
+pub mod Orders
 pub mod Slots
 pub mod SlotForms
 pub mod SlotSorts
