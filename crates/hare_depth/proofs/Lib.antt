@@ -17,3 +17,4 @@ pub mod SlotRows
 pub mod Stands
 pub mod Tame
 pub mod Ready
+pub mod Follow

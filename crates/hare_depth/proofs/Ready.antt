@@ -46,7 +46,7 @@ close_operand k (f ∷ g ∷ fs) a o =
 
 -- ---- the last changes
 
-still_frames : (n : ℕ) (cs : List Change) (fs : List Frame) → list_all is_still cs ≡ true → all_changed n cs fs ≡ fs
+pub still_frames : (n : ℕ) (cs : List Change) (fs : List Frame) → list_all is_still cs ≡ true → all_changed n cs fs ≡ fs
 unfolding all_changed
 still_frames n [] fs e = refl
 still_frames n (ch.Take ∷ cs) fs e = still_frames n cs fs e
@@ -130,11 +130,11 @@ named_made n (ch.Open ∷ ch.Leaf _ ∷ cs) fs e = cc
 named_made n (ch.Open ∷ _) fs e = cc
 named_made n _ fs e = cc
 
-operand_ready : (l h : ℕ) (fs : List Frame) → operand_on_top fs ≡ true → ready_frames (sy.Part (ru.Climb l h)) fs ≡ true
+pub operand_ready : (l h : ℕ) (fs : List Frame) → operand_on_top fs ≡ true → ready_frames (sy.Part (ru.Climb l h)) fs ≡ true
 operand_ready l h [] e = refl
 operand_ready l h (f ∷ fs) e = e
 
-made_ready : (n : ℕ) (bs : List Bool) (cs : List Change) (fs : List Frame) (s : Symbol) → tame cs bs ≡ true → made_for cs s ≡ true → Stands n (suc n) (all_undone cs bs) fs → ready_frames s (all_changed n cs fs) ≡ true
+pub made_ready : (n : ℕ) (bs : List Bool) (cs : List Change) (fs : List Frame) (s : Symbol) → tame cs bs ≡ true → made_for cs s ≡ true → Stands n (suc n) (all_undone cs bs) fs → ready_frames s (all_changed n cs fs) ≡ true
 made_ready n bs cs fs (sy.Part (ru.Climb l h)) e i s = operand_ready l h (all_changed n cs fs) (operand_made n bs cs fs e i s)
 made_ready n bs cs fs (sy.Part ru.PathOrStruct) e i s = ends_make is_twice (ready_frames (sy.Part ru.PathOrStruct)) n bs (λ ds gs j z. twice_made n ds gs j) cs fs e i s
 made_ready n bs cs fs (sy.Part (ru.BehindComma r)) e i s = ends_make is_begun (ready_frames (sy.Part (ru.BehindComma r))) n bs (λ ds gs j z. ap (ready_frames (sy.Part (ru.BehindComma r))) (begun_made n ds gs j)) cs fs e i s
@@ -145,12 +145,12 @@ made_ready n bs cs fs _ e i s = refl
 
 -- ---- what stands on top
 
-ready_first : (s : Symbol) (st : List Symbol) (fs : List Frame) → hands_on s ≡ false → ready (s ∷ st) fs ≡ ready_frames s fs
+pub ready_first : (s : Symbol) (st : List Symbol) (fs : List Frame) → hands_on s ≡ false → ready (s ∷ st) fs ≡ ready_frames s fs
 ready_first (sy.Part ru.PathName) st fs e = cc
 ready_first (sy.Part (ru.Own o)) st fs e = cc
 ready_first s st fs e = refl
 
-ready_second : (s d : Symbol) (st : List Symbol) (fs : List Frame) → hands_on s ≡ true → ready (s ∷ d ∷ st) fs ≡ ready_frames d fs
+pub ready_second : (s d : Symbol) (st : List Symbol) (fs : List Frame) → hands_on s ≡ true → ready (s ∷ d ∷ st) fs ≡ ready_frames d fs
 ready_second (sy.Part ru.PathName) d st fs e = refl
 ready_second (sy.Part (ru.Own o)) d st fs e = refl
 ready_second s d st fs e = cc

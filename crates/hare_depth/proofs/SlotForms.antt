@@ -84,7 +84,7 @@ plain_made cs (sy.Part ru.PathOrStruct) e = cc
 plain_made cs (sy.Part ru.AfterForName) e = cc
 plain_made cs _ e = refl
 
-plain_hands : (d : Symbol) → is_plain d ≡ true → hands_on d ≡ false
+pub plain_hands : (d : Symbol) → is_plain d ≡ true → hands_on d ≡ false
 plain_hands (sy.Part ru.PathName) e = cc
 plain_hands (sy.Part (ru.Own o)) e = cc
 plain_hands _ e = refl
