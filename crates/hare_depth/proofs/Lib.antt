@@ -18,3 +18,4 @@ pub mod Stands
 pub mod Tame
 pub mod Ready
 pub mod Follow
+pub mod Stepped

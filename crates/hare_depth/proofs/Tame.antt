@@ -92,7 +92,7 @@ quiet_leaf h bs gs q s = by (is_node h.kind) q (leaf_gains bs h gs s.placed s.fi
     by true i g = cc
     by false i g = g
 
-moved : (f : ℕ) (t : Token) (c : Change) (m : ℕ) (bs : List Bool) (gs : List Group) → Stands t.place.line m bs (seen.changed t.place.line c (frames gs)) → Stands t.place.line m bs (frames (changed f t c gs))
+pub moved : (f : ℕ) (t : Token) (c : Change) (m : ℕ) (bs : List Bool) (gs : List Group) → Stands t.place.line m bs (seen.changed t.place.line c (frames gs)) → Stands t.place.line m bs (frames (changed f t c gs))
 moved f t c m bs gs s = subst (λ l. Stands t.place.line m bs l) (sym (frames_changed f t c gs)) s
 
 pub closes : (k : Kind) (n m : ℕ) (bs : List Bool) (gs : List Group) → Stands n m (is_node k ∷ bs) (frames gs) → Gains (pile_faults (is_node k ∷ bs) gs) (pile_faults bs (close k gs)) []

@@ -1,0 +1,92 @@
+-- Steps by rules that need nothing of the trees under way: what they gain is their token, if it is used, and the gauge finds it.
+use Rattle.std.proofs.Common.{◌≡◌, ℕ, suc, List, [], ◌∷◌, ◌++◌, Bool, true, false, ◌⊎◌, inl, inr, ◌&&◌, refl, ap, sym, ◌∙◌, subst, append_assoc}
+use Rattle.std.specs.List.{list_all}
+use Rattle.hare_tree.specs.declared.kind.Kind.{Kind}
+use Rattle.hare_tree.specs.declared.token.Token.{Token}
+use Rattle.hare_tree.specs.Depth.{is_node}
+use Rattle.hare_tree.specs.Grammar.{IsOn}
+use Rattle.hare_grammar.specs.declared.class.Class.{Class}
+use Rattle.hare_grammar.specs.declared.rule.Rule.{Rule}
+use Rattle.hare_grammar.specs.declared.rule.Symbol.{Symbol}
+use Rattle.hare_grammar.specs.declared.rule.Symbol.TheVariants as sy
+use Rattle.hare_grammar.specs.declared.rule.Change.{Change}
+use Rattle.hare_grammar.specs.declared.rule.Change.TheVariants as ch
+use Rattle.hare_grammar.specs.Rows.{Row, Fault, Skips, Uses}
+use Rattle.hare_grammar.specs.Table.{row}
+use Rattle.hare_grammar.specs.Engine.{Group, close, changed, all_changed}
+use Rattle.hare_grammar.proofs.Paths.{split}
+use Rattle.hare_depth.specs.Marks as seen
+use Rattle.hare_depth.specs.Gauge.{nodes_of_rule, nodes_in, found}
+use Rattle.hare_depth.proofs.Piles.{frames, pile_faults, Gains, fits, ready_frames, ready, ends_operand, follows, Held}
+use Rattle.hare_depth.proofs.Claims.{calm_step, Stepped}
+use Rattle.hare_depth.proofs.Lists.{gains_refl, gains_then}
+use Rattle.hare_depth.proofs.Seen.{frames_close, frames_changed, frames_all_changed}
+use Rattle.hare_depth.proofs.Changes.{absent_gains}
+use Rattle.hare_depth.proofs.Found.{found_holds}
+use Rattle.hare_depth.proofs.Slots.{undone, all_undone, tame, is_over, is_put, ends_in, is_plain, made_for, prepared, same_bools, uses_ok, row_ok, ends_stack, ends_row}
+use Rattle.hare_depth.proofs.SlotForms.{same_equal, nodes_append, tame_append}
+use Rattle.hare_depth.proofs.SlotRows.{rule_ok, rule_ends}
+use Rattle.hare_depth.proofs.Stands.{Stands, below_placed, stands_next, absent_stands, close_stands}
+use Rattle.hare_depth.proofs.Tame.{Grows, moved, closes, Made, tame_grows}
+use Rattle.hare_depth.proofs.Ready.{operand_on_top, close_operand, operand_made, made_ready, prepared_ready}
+use Rattle.hare_depth.proofs.Follow.{ready_next, follows_tail, follows_next}
+
+pub held_stands : (n : ℕ) (st : List Symbol) (gs : List Group) → Held n st (frames gs) → Stands n n (nodes_in st) (frames gs)
+held_stands n st gs h = record { fitting = h.fitting; ordered = h.ordered; below = h.below; placed = below_placed n (frames gs) h.below }
+
+-- ---- a token that is used
+
+-- what a used token leaves, where what it gains is found
+pub grown_stepped : (n : ℕ) (c : Class) (st st' : List Symbol) (gs gs' : List Group) → Grows n (pile_faults (nodes_in st) gs) (pile_faults (nodes_in st') gs') (found (nodes_in st') (frames gs')) → Stands n (suc n) (nodes_in st') (frames gs') → follows st' ≡ true → ready st' (frames gs') ≡ true → Stepped n c st gs st' gs'
+grown_stepped n c st st' gs gs' g s f r =
+    record {
+      held = record { fitting = s.fitting; ordered = s.ordered; below = s.below; following = f; readied = r };
+      gains = record { kept = g.kept; gained = λ x i. found_holds (nodes_in st') gs' s.fitting x i; only = λ x i. told x (g.only x i) };
+      calm = λ e x i. new x (g.only x i);
+    }
+  where
+    told : (x : ℕ) → IsOn x (pile_faults (nodes_in st) gs) ⊎ ((x ≡ n) × IsOn x (found (nodes_in st') (frames gs'))) → IsOn x (pile_faults (nodes_in st) gs) ⊎ IsOn x (found (nodes_in st') (frames gs'))
+    told x (inl i) = inl i
+    told x (inr i) = inr i.1
+
+    new : (x : ℕ) → IsOn x (pile_faults (nodes_in st) gs) ⊎ ((x ≡ n) × IsOn x (found (nodes_in st') (frames gs'))) → IsOn x (pile_faults (nodes_in st) gs) ⊎ (x ≡ n)
+    new x (inl i) = inl i
+    new x (inr i) = inr i.0
+
+-- what the changes of a checked row leave
+pub record Used (n : ℕ) (cs : List Change) (bs os : List Bool) (gs hs : List Group) : Type 0 where
+  pub made : Made n bs os gs hs
+  pub readied : (d : Symbol) → made_for cs d ≡ true → ready_frames d (frames hs) ≡ true
+  pub operand : ends_in is_put cs ≡ true → operand_on_top (frames hs) ≡ true
+
+pub row_used : (f : ℕ) (t : Token) (os bs : List Bool) (cs : List Change) (ss : List Symbol) (gs : List Group) → uses_ok os (Uses cs ss) ≡ true → Stands t.place.line (suc t.place.line) (os ++ bs) (frames gs) → Used t.place.line cs (os ++ bs) (nodes_in ss ++ bs) gs (all_changed f t cs gs)
+row_used f t os bs cs ss gs e s =
+    let n = t.place.line in
+    let p = split (tame cs (nodes_in ss) && same_bools (all_undone cs (nodes_in ss)) os) (follows ss && prepared cs ss) e in
+    let q = split (tame cs (nodes_in ss)) (same_bools (all_undone cs (nodes_in ss)) os) p.0 in
+    let a = tame_append cs (nodes_in ss) bs q.0 in
+    let u : all_undone cs (nodes_in ss ++ bs) ≡ os ++ bs = a.1 ∙ ap (λ l. l ++ bs) (same_equal (all_undone cs (nodes_in ss)) os q.1) in
+    let z : Stands n (suc n) (all_undone cs (nodes_in ss ++ bs)) (frames gs) = subst (λ l. Stands n (suc n) l (frames gs)) (sym u) s in
+    record {
+      made = subst (λ l. Made n l (nodes_in ss ++ bs) gs (all_changed f t cs gs)) u (tame_grows f t cs (nodes_in ss ++ bs) gs a.0 z);
+      readied = λ d i. ap (ready_frames d) (frames_all_changed f t cs gs) ∙ made_ready n (nodes_in ss ++ bs) cs (frames gs) d a.0 i z;
+      operand = λ i. ap operand_on_top (frames_all_changed f t cs gs) ∙ operand_made n (nodes_in ss ++ bs) cs (frames gs) a.0 i z;
+    }
+
+-- ---- a rule that is over
+
+-- the same token is looked at again, and nothing is gained
+pub record Skipped (n : ℕ) (st : List Symbol) (gs : List Group) (st' : List Symbol) (gs' : List Group) : Type 0 where
+  pub held : Held n st' (frames gs')
+  pub gains : Gains (pile_faults (nodes_in st) gs) (pile_faults (nodes_in st') gs') []
+
+pub close_skipped : (n : ℕ) (k : Kind) (st : List Symbol) (gs : List Group) → Held n (sy.Close k ∷ st) (frames gs) → Skipped n (sy.Close k ∷ st) gs st (close k gs)
+unfolding nodes_in
+close_skipped n k st gs h =
+    let s = held_stands n (sy.Close k ∷ st) gs h in
+    let z = close_stands n n k (nodes_in st) (frames gs) s in
+    let e = frames_close k gs in
+    record {
+      held = record { fitting = rw e z.fitting; ordered = rw e z.ordered; below = rw e z.below; following = follows_tail (sy.Close k) st h.following; readied = rw e (ready_next (sy.Close k) st (seen.close k (frames gs)) refl h.following (λ i. close_operand k (frames gs) i h.ordered)) };
+      gains = closes k n n (nodes_in st) gs s;
+    }
