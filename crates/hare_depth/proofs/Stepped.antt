@@ -90,3 +90,69 @@ close_skipped n k st gs h =
       held = record { fitting = rw e z.fitting; ordered = rw e z.ordered; below = rw e z.below; following = follows_tail (sy.Close k) st h.following; readied = rw e (ready_next (sy.Close k) st (seen.close k (frames gs)) refl h.following (λ i. close_operand k (frames gs) i h.ordered)) };
       gains = closes k n n (nodes_in st) gs s;
     }
+
+over_append : (cs : List Change) (bs : List Bool) → list_all is_over cs ≡ true → all_undone cs bs ≡ all_undone cs [] ++ bs
+over_append [] bs e = refl
+over_append (ch.Absent ∷ cs) bs e = over_append cs bs e
+over_append (ch.Close k ∷ cs) bs e = ap (λ l. is_node k ∷ l) (over_append cs bs e)
+over_append (c ∷ cs) bs e = cc
+
+over_tame : (cs : List Change) (bs : List Bool) → list_all is_over cs ≡ true → tame cs bs ≡ true
+over_tame [] bs e = refl
+over_tame (ch.Absent ∷ cs) bs e = over_tame cs bs e
+over_tame (ch.Close k ∷ cs) bs e = over_tame cs bs e
+over_tame (c ∷ cs) bs e = cc
+
+-- what is absent is put, and trees are closed
+record Left (n : ℕ) (bs os : List Bool) (gs hs : List Group) : Type 0 where
+  gains : Gains (pile_faults bs gs) (pile_faults os hs) []
+  stands : Stands n n os (frames hs)
+
+over_left : (f : ℕ) (t : Token) (cs : List Change) (bs : List Bool) (gs : List Group) → list_all is_over cs ≡ true → Stands t.place.line t.place.line (all_undone cs bs) (frames gs) → Left t.place.line (all_undone cs bs) bs gs (all_changed f t cs gs)
+over_left f t [] bs gs e s = record { gains = gains_refl (pile_faults bs gs); stands = s }
+over_left f t (ch.Absent ∷ cs) bs gs e s =
+    let n = t.place.line in
+    let us = all_undone cs bs in
+    let hs = changed f t ch.Absent gs in
+    let r = over_left f t cs bs hs e (moved f t ch.Absent n us gs (absent_stands n n us (frames gs) s)) in
+    record { gains = gains_then (pile_faults us gs) (pile_faults us hs) (pile_faults bs (all_changed f t cs hs)) [] (absent_gains us f gs s.fitting) r.gains; stands = r.stands }
+over_left f t (ch.Close k ∷ cs) bs gs e s =
+    let n = t.place.line in
+    let us = all_undone cs bs in
+    let hs = close k gs in
+    let r = over_left f t cs bs hs e (moved f t (ch.Close k) n us gs (close_stands n n k us (frames gs) s)) in
+    record { gains = gains_then (pile_faults (is_node k ∷ us) gs) (pile_faults us hs) (pile_faults bs (all_changed f t cs hs)) [] (closes k n n us gs s) r.gains; stands = r.stands }
+over_left f t (c ∷ cs) bs gs e s = cc
+
+pub rule_skipped : (f : ℕ) (t : Token) (c : Class) (r : Rule) (cs : List Change) (st : List Symbol) (gs : List Group) → is_plain (sy.Part r) ≡ true → row r c ≡ Skips cs → Held t.place.line (sy.Part r ∷ st) (frames gs) → Skipped t.place.line (sy.Part r ∷ st) gs st (all_changed f t cs gs)
+unfolding nodes_in
+rule_skipped f t c r cs st gs p i h =
+    let n = t.place.line in
+    let bs = nodes_in st in
+    let o = split (list_all is_over cs) (same_bools (all_undone cs []) (nodes_of_rule r)) (subst (λ y. row_ok (nodes_of_rule r) y ≡ true) i (rule_ok r c p)) in
+    let u : all_undone cs bs ≡ nodes_of_rule r ++ bs = over_append cs bs o.0 ∙ ap (λ l. l ++ bs) (same_equal (all_undone cs []) (nodes_of_rule r) o.1) in
+    let s : Stands n n (all_undone cs bs) (frames gs) = subst (λ l. Stands n n l (frames gs)) (sym u) (held_stands n (sy.Part r ∷ st) gs h) in
+    let l : Left n (nodes_of_rule r ++ bs) bs gs (all_changed f t cs gs) = subst (λ l. Left n l bs gs (all_changed f t cs gs)) u (over_left f t cs bs gs o.0 s) in
+    let operand : ends_operand (sy.Part r) ≡ true → operand_on_top (frames (all_changed f t cs gs)) ≡ true = λ j. ap operand_on_top (frames_all_changed f t cs gs) ∙ operand_made n bs cs (frames gs) (over_tame cs bs o.0) (subst (λ y. ends_row y ≡ true) i (rule_ends r c p j)) (stands_next n (all_undone cs bs) (frames gs) s) in
+    record {
+      held = record { fitting = l.stands.fitting; ordered = l.stands.ordered; below = l.stands.below; following = follows_tail (sy.Part r) st h.following; readied = ready_next (sy.Part r) st (frames (all_changed f t cs gs)) p h.following operand };
+      gains = l.gains;
+    }
+
+-- ---- a rule that uses the token
+
+pub rule_stepped : (f : ℕ) (t : Token) (c : Class) (r : Rule) (cs : List Change) (ss st : List Symbol) (gs : List Group) → is_plain (sy.Part r) ≡ true → row r c ≡ Uses cs ss → Held t.place.line (sy.Part r ∷ st) (frames gs) → Stepped t.place.line c (sy.Part r ∷ st) gs (ss ++ st) (all_changed f t cs gs)
+unfolding nodes_in
+rule_stepped f t c r cs ss st gs p i h =
+    let n = t.place.line in
+    let hs = all_changed f t cs gs in
+    let o : uses_ok (nodes_of_rule r) (Uses cs ss) ≡ true = subst (λ y. row_ok (nodes_of_rule r) y ≡ true) i (rule_ok r c p) in
+    let q = split (follows ss) (prepared cs ss) (split (tame cs (nodes_in ss) && same_bools (all_undone cs (nodes_in ss)) (nodes_of_rule r)) (follows ss && prepared cs ss) o).1 in
+    let u = row_used f t (nodes_of_rule r) (nodes_in st) cs ss gs o (stands_next n (nodes_in (sy.Part r ∷ st)) (frames gs) (held_stands n (sy.Part r ∷ st) gs h)) in
+    let ends : ends_operand (sy.Part r) ≡ true → ends_stack cs ss ≡ true = λ j. subst (λ y. ends_row y ≡ true) i (rule_ends r c p j) in
+    let m : Made n (nodes_in (sy.Part r ∷ st)) (nodes_in (ss ++ st)) gs hs = subst (λ l. Made n (nodes_in (sy.Part r ∷ st)) l gs hs) (sym (nodes_append ss st)) u.made in
+    grown_stepped n c (sy.Part r ∷ st) (ss ++ st) gs hs m.grows m.stands (follows_next (sy.Part r) cs ss st p h.following q.0 ends) (readied ss q.1 ends u.readied u.operand)
+  where
+    readied : (ss : List Symbol) → prepared cs ss ≡ true → (ends_operand (sy.Part r) ≡ true → ends_stack cs ss ≡ true) → ((d : Symbol) → made_for cs d ≡ true → ready_frames d (frames (all_changed f t cs gs)) ≡ true) → (ends_in is_put cs ≡ true → operand_on_top (frames (all_changed f t cs gs)) ≡ true) → ready (ss ++ st) (frames (all_changed f t cs gs)) ≡ true
+    readied [] e ends made operand = ready_next (sy.Part r) st (frames (all_changed f t cs gs)) p h.following (λ j. operand (ends j))
+    readied (s ∷ ss) e ends made operand = prepared_ready cs s ss st (frames (all_changed f t cs gs)) e made
