@@ -10,3 +10,4 @@ pub mod Idle
 pub mod PathEnds
 pub mod Found
 pub mod Orders
+pub mod Operands
