@@ -11,3 +11,4 @@ pub mod PathEnds
 pub mod Found
 pub mod Orders
 pub mod Operands
+pub mod AtStart
