@@ -2,15 +2,15 @@
 use Rattle.std.proofs.Common.{◌≡◌, ℕ, List, [], ◌∷◌, ◌++◌, true, ◌∙◌, ap}
 use Rattle.hare_tree.specs.declared.kind.Kind.{Kind}
 use Rattle.hare_tree.specs.Depth.{is_node}
+use Rattle.hare_parsing.proofs.Breaks.{both}
 use Rattle.hare_depth.specs.Marks.{Mark, Frame, first_in, mark_as, leaf_mark}
 use Rattle.hare_depth.proofs.Piles.{is_empty, is_ordered, frame_below, ends_in_operand}
 use Rattle.hare_depth.proofs.Grown.{is_behind, first_stays}
-use Rattle.hare_depth.proofs.Below.{and_both}
 use Rattle.hare_depth.proofs.Over.{operand_last}
 use Rattle.hare_depth.proofs.Orders.{leaf_behind, close_behind, path_behind, no_marks}
 
 pub put_operand : (m : Mark) (f : Frame) → m.node ≡ true → is_behind f.at f.kids m ≡ true → ends_in_operand f.at (f.kids ++ m ∷ []) ≡ true
-put_operand m f e i = operand_last f.at f.kids m ∙ and_both m.node (is_behind f.at f.kids m) e i
+put_operand m f e i = operand_last f.at f.kids m ∙ both m.node (is_behind f.at f.kids m) e i
 
 pub leaf_operand : (k : Kind) (n : ℕ) (f : Frame) → is_node k ≡ true → frame_below n f ≡ true → ends_in_operand f.at (f.kids ++ leaf_mark k n ∷ []) ≡ true
 leaf_operand k n f e i = put_operand (leaf_mark k n) f e (leaf_behind k n f i)

@@ -8,11 +8,12 @@ use Rattle.hare_grammar.specs.Engine.{Group}
 use Rattle.hare_grammar.specs.Engine as engine
 use Rattle.hare_grammar.proofs.Edges.{true_le, le_true}
 use Rattle.hare_grammar.proofs.Paths.{split}
+use Rattle.hare_parsing.proofs.Breaks.{both}
 use Rattle.hare_depth.specs.Marks.{Mark, Frame, lies_before, first_in, mark_as, leaf_mark, last_mark, but_last_mark, put, close, over, lift, let_go, changed}
 use Rattle.hare_depth.proofs.Piles.{mark, frame_of, frames, idle, is_empty, is_ordered, kids_below, frame_below, all_below, ends_in_operand}
 use Rattle.hare_depth.proofs.Seen.{frames_lift}
 use Rattle.hare_depth.proofs.Grown.{is_behind, behind_plain, behind_later, first_stays, not_before}
-use Rattle.hare_depth.proofs.Below.{and_both, top_below}
+use Rattle.hare_depth.proofs.Below.{top_below}
 use Rattle.hare_depth.proofs.Idle.{has_no_node, idle_plain}
 use Rattle.hare_depth.proofs.Changes.{ordered_behind}
 
@@ -25,15 +26,15 @@ inner : (f g : Frame) (fs : List Frame) → is_ordered (f ∷ g ∷ fs) ≡ true
 unfolding is_ordered
 inner f g fs e = split (stands_in (first_in f.at f.kids) g) (is_ordered (g ∷ fs)) e
 
-both : (f g : Frame) (fs : List Frame) → stands_in (first_in f.at f.kids) g ≡ true → is_ordered (g ∷ fs) ≡ true → is_ordered (f ∷ g ∷ fs) ≡ true
+ordered_both : (f g : Frame) (fs : List Frame) → stands_in (first_in f.at f.kids) g ≡ true → is_ordered (g ∷ fs) ≡ true → is_ordered (f ∷ g ∷ fs) ≡ true
 unfolding is_ordered
-both f g fs a b = and_both (stands_in (first_in f.at f.kids) g) (is_ordered (g ∷ fs)) a b
+ordered_both f g fs a b = both (stands_in (first_in f.at f.kids) g) (is_ordered (g ∷ fs)) a b
 
 -- the innermost tree with other kids, before which its first token stays
 pub same_first : (f f' : Frame) (fs : List Frame) → first_in f'.at f'.kids ≡ first_in f.at f.kids → is_ordered (f ∷ fs) ≡ true → is_ordered (f' ∷ fs) ≡ true
 unfolding is_ordered
 same_first f f' [] e i = refl
-same_first f f' (g ∷ fs) e i = let a = inner f g fs i in both f' g fs (subst (λ n. stands_in n g ≡ true) (sym e) a.0) a.1
+same_first f f' (g ∷ fs) e i = let a = inner f g fs i in ordered_both f' g fs (subst (λ n. stands_in n g ≡ true) (sym e) a.0) a.1
 
 -- ---- kids that are put
 
@@ -59,7 +60,7 @@ leaf_ordered k n f fs e i = put_ordered (leaf_mark k n) f fs (leaf_behind k n f 
 pub open_ordered : (n : ℕ) (fs : List Frame) → all_below n fs ≡ true → is_ordered fs ≡ true → is_ordered (record { at = n; kids = [] } ∷ fs) ≡ true
 unfolding is_ordered
 open_ordered n [] e i = refl
-open_ordered n (f ∷ fs) e i = both (record { at = n; kids = [] }) f fs (by (is_empty f.kids)) i
+open_ordered n (f ∷ fs) e i = ordered_both (record { at = n; kids = [] }) f fs (by (is_empty f.kids)) i
   where
     by : (b : Bool) → (if b then nat_le f.at n else true) ≡ true
     by true = (split (nat_le f.at n) (kids_below n f.kids) (top_below n f fs e)).0
@@ -103,13 +104,13 @@ over_kids : (n a : ℕ) (ms : List Mark) (fs : List Frame) → ends_in_operand a
 over_kids n a [] fs e l i = cc
 over_kids n a (m ∷ []) fs e l i =
     let p = split m.node (is_behind a [] m) e in
-    both (record { at = n; kids = m ∷ [] }) (record { at = a; kids = [] }) fs (later (lies_before m n) p.0 (not_before a m p.1)) (same_first (record { at = a; kids = m ∷ [] }) (record { at = a; kids = [] }) fs (sym (first_stays a [] m p.1)) i)
+    ordered_both (record { at = n; kids = m ∷ [] }) (record { at = a; kids = [] }) fs (later (lies_before m n) p.0 (not_before a m p.1)) (same_first (record { at = a; kids = m ∷ [] }) (record { at = a; kids = [] }) fs (sym (first_stays a [] m p.1)) i)
   where
     later : (b : Bool) → m.node ≡ true → lies_before m a ≡ false → nat_le a (if b then m.first else n) ≡ true
     later true y z = let x : nat_le (m.first + 1) a ≡ false = (rw y at z) in grind (arith, x)
     later false y z = le_true a n l
 over_kids n a (m ∷ p ∷ ms) fs e l i =
-    both (record { at = n; kids = last_mark (m ∷ p ∷ ms) }) (record { at = a; kids = but_last_mark (m ∷ p ∷ ms) }) fs refl (same_first (record { at = a; kids = m ∷ p ∷ ms }) (record { at = a; kids = but_last_mark (m ∷ p ∷ ms) }) fs refl i)
+    ordered_both (record { at = n; kids = last_mark (m ∷ p ∷ ms) }) (record { at = a; kids = but_last_mark (m ∷ p ∷ ms) }) fs refl (same_first (record { at = a; kids = m ∷ p ∷ ms }) (record { at = a; kids = but_last_mark (m ∷ p ∷ ms) }) fs refl i)
 
 pub over_ordered : (n : ℕ) (f : Frame) (fs : List Frame) → ends_in_operand f.at f.kids ≡ true → all_below n (f ∷ fs) ≡ true → is_ordered (f ∷ fs) ≡ true → is_ordered (over n (f ∷ fs)) ≡ true
 over_ordered n f fs e b i = over_kids n f.at f.kids fs e (true_le f.at n (split (nat_le f.at n) (kids_below n f.kids) (top_below n f fs b)).0) i
