@@ -8,12 +8,9 @@ use Rattle.hare_grammar.specs.declared.rule.Change.{Change}
 use Rattle.hare_grammar.specs.declared.rule.Change.TheVariants as ch
 use Rattle.hare_grammar.proofs.Edges.{true_le, le_true}
 use Rattle.hare_grammar.proofs.Paths.{split}
+use Rattle.hare_parsing.proofs.Breaks.{both}
 use Rattle.hare_depth.specs.Marks.{Mark, Frame, first_in, mark_as, leaf_mark, last_mark, but_last_mark, put, close, over, lift, let_go, changed, all_changed}
 use Rattle.hare_depth.proofs.Piles.{kids_below, frame_below, all_below}
-
-pub and_both : (a b : Bool) → a ≡ true → b ≡ true → (a && b) ≡ true
-and_both true b e i = i
-and_both false b e i = e
 
 -- a kid that begins in front of the token, where it is a node
 abbrev pub kid_below : ℕ → Mark → Bool
@@ -22,7 +19,7 @@ kid_below n m = if m.node then nat_le (m.first + 1) n else true
 -- ---- one tree
 
 kids_more : (n : ℕ) (ms rs : List Mark) → kids_below n ms ≡ true → kids_below n rs ≡ true → kids_below n (ms ++ rs) ≡ true
-kids_more n ms rs e i = list_all-append (kid_below n) ms rs ∙ and_both (kids_below n ms) (kids_below n rs) e i
+kids_more n ms rs e i = list_all-append (kid_below n) ms rs ∙ both (kids_below n ms) (kids_below n rs) e i
 
 kids_last : (n : ℕ) (ms : List Mark) → kids_below n ms ≡ true → kids_below n (last_mark ms) ≡ true
 kids_last n [] e = refl
@@ -34,7 +31,7 @@ kids_others n [] e = refl
 kids_others n (m ∷ []) e = refl
 kids_others n (m ∷ p ∷ ms) e =
     let a = split (kid_below n m) (kids_below n (p ∷ ms)) e in
-    and_both (kid_below n m) (kids_below n (but_last_mark (p ∷ ms))) a.0 (kids_others n (p ∷ ms) a.1)
+    both (kid_below n m) (kids_below n (but_last_mark (p ∷ ms))) a.0 (kids_others n (p ∷ ms) a.1)
 
 kid_later : (n k : ℕ) (m : Mark) → n ≤ k → kid_below n m ≡ true → kid_below k m ≡ true
 kid_later n k m i e = by m.node e
@@ -47,7 +44,7 @@ kids_later : (n k : ℕ) (ms : List Mark) → n ≤ k → kids_below n ms ≡ tr
 kids_later n k [] i e = refl
 kids_later n k (m ∷ ms) i e =
     let a = split (kid_below n m) (kids_below n ms) e in
-    and_both (kid_below k m) (kids_below k ms) (kid_later n k m i a.0) (kids_later n k ms i a.1)
+    both (kid_below k m) (kids_below k ms) (kid_later n k m i a.0) (kids_later n k ms i a.1)
 
 le_later : (a n k : ℕ) → n ≤ k → nat_le a n ≡ true → nat_le a k ≡ true
 le_later a n k i e = let b = true_le a n e in le_true a k (omega arith)
@@ -55,7 +52,7 @@ le_later a n k i e = let b = true_le a n e in le_true a k (omega arith)
 pub frame_later : (n k : ℕ) (f : Frame) → n ≤ k → frame_below n f ≡ true → frame_below k f ≡ true
 frame_later n k f i e =
     let a = split (nat_le f.at n) (kids_below n f.kids) e in
-    and_both (nat_le f.at k) (kids_below k f.kids) (le_later f.at n k i a.0) (kids_later n k f.kids i a.1)
+    both (nat_le f.at k) (kids_below k f.kids) (le_later f.at n k i a.0) (kids_later n k f.kids i a.1)
 
 -- ---- all trees
 
@@ -74,7 +71,7 @@ top n f g fs e =
 
 on_top : (n : ℕ) (f g : Frame) (fs : List Frame) → nat_le (f.at + 1) n ≡ true → kids_below n f.kids ≡ true → all_below n (g ∷ fs) ≡ true → all_below n (f ∷ g ∷ fs) ≡ true
 unfolding all_below
-on_top n f g fs a b c = and_both (nat_le (f.at + 1) n && kids_below n f.kids) (all_below n (g ∷ fs)) (and_both (nat_le (f.at + 1) n) (kids_below n f.kids) a b) c
+on_top n f g fs a b c = both (nat_le (f.at + 1) n && kids_below n f.kids) (all_below n (g ∷ fs)) (both (nat_le (f.at + 1) n) (kids_below n f.kids) a b) c
 
 pub top_below : (n : ℕ) (f : Frame) (fs : List Frame) → all_below n (f ∷ fs) ≡ true → frame_below n f ≡ true
 unfolding all_below
@@ -82,7 +79,7 @@ top_below n f [] e = e
 top_below n f (g ∷ fs) e =
     let t = top n f g fs e in
     let a = true_le (f.at + 1) n t.at in
-    and_both (nat_le f.at n) (kids_below n f.kids) (le_true f.at n (omega (arith, a))) t.kids
+    both (nat_le f.at n) (kids_below n f.kids) (le_true f.at n (omega (arith, a))) t.kids
 
 pub top_kids_below : (n : ℕ) (f : Frame) (fs : List Frame) → all_below n (f ∷ fs) ≡ true → kids_below n f.kids ≡ true
 top_kids_below n f fs e = (split (nat_le f.at n) (kids_below n f.kids) (top_below n f fs e)).1
@@ -100,12 +97,12 @@ below_later n k (f ∷ g ∷ fs) i e =
 -- the innermost tree with other kids
 other_kids : (n : ℕ) (f : Frame) (ms : List Mark) (fs : List Frame) → all_below n (f ∷ fs) ≡ true → kids_below n ms ≡ true → all_below n (record { at = f.at; kids = ms } ∷ fs) ≡ true
 unfolding all_below
-other_kids n f ms [] e i = and_both (nat_le f.at n) (kids_below n ms) (split (nat_le f.at n) (kids_below n f.kids) e).0 i
+other_kids n f ms [] e i = both (nat_le f.at n) (kids_below n ms) (split (nat_le f.at n) (kids_below n f.kids) e).0 i
 other_kids n f ms (g ∷ fs) e i = let t = top n f g fs e in on_top n (record { at = f.at; kids = ms }) g fs t.at i t.rest
 
 pub put_below : (n : ℕ) (m : Mark) (fs : List Frame) → kid_below n m ≡ true → all_below n fs ≡ true → all_below n (put m fs) ≡ true
 put_below n m [] i e = e
-put_below n m (f ∷ fs) i e = other_kids n f (f.kids ++ m ∷ []) fs e (kids_more n f.kids (m ∷ []) (top_kids_below n f fs e) (and_both (kid_below n m) true i refl))
+put_below n m (f ∷ fs) i e = other_kids n f (f.kids ++ m ∷ []) fs e (kids_more n f.kids (m ∷ []) (top_kids_below n f fs e) (both (kid_below n m) true i refl))
 
 pub absent_below : (n k : ℕ) (fs : List Frame) → all_below k fs ≡ true → all_below k (changed n ch.Absent fs) ≡ true
 absent_below n k fs e = put_below k (leaf_mark ki.None 1) fs refl e
@@ -120,7 +117,7 @@ leaf_below l n k fs i e = put_below k (leaf_mark l n) fs (by (leaf_mark l n).nod
 
 pub open_below : (n k : ℕ) (fs : List Frame) → n < k → all_below k fs ≡ true → all_below k (record { at = n; kids = [] } ∷ fs) ≡ true
 unfolding all_below
-open_below n k [] i e = and_both (nat_le n k) true (le_true n k (omega (arith, i))) refl
+open_below n k [] i e = both (nat_le n k) true (le_true n k (omega (arith, i))) refl
 open_below n k (f ∷ fs) i e = on_top k (record { at = n; kids = [] }) f fs (le_true (n + 1) k (omega (arith, i))) refl e
 
 pub over_below : (n k : ℕ) (fs : List Frame) → n < k → all_below k fs ≡ true → all_below k (over n fs) ≡ true

@@ -8,13 +8,13 @@ use Rattle.hare_tree.specs.Node.{Node, Nodes, branch, none, more, nodes_of}
 use Rattle.hare_tree.specs.Depth.{is_node, counted}
 use Rattle.hare_grammar.specs.Engine.{Group, with_kids, lift}
 use Rattle.hare_grammar.proofs.Paths.{split}
+use Rattle.hare_parsing.proofs.Breaks.{both}
 use Rattle.hare_depth.specs.Marks.{Mark, lies_before, first_in, highest}
 use Rattle.hare_depth.specs.Gauge.{opened, found, deep_last, high_operand}
 use Rattle.hare_depth.proofs.Piles.{mark, marks, frames, left_faults, around, faults_of, first_faults, kid_faults, group_faults, pile_faults, Gains, fits, idle}
 use Rattle.hare_depth.proofs.Lists.{gains_refl, gains_in_front, gains_none, gains_then}
 use Rattle.hare_depth.proofs.Seen.{marks_listed}
 use Rattle.hare_depth.proofs.Grown.{behind_plain, top_grown}
-use Rattle.hare_depth.proofs.Below.{and_both}
 
 -- none of these is a node
 abbrev pub has_no_node : List Mark → Bool
@@ -37,7 +37,7 @@ highest_idle [] e = refl
 highest_idle (m ∷ ms) e =
     let a : m.height ≡ 0 = omega (arith, e) in
     let b : highest ms ≡ 0 = omega (arith, e) in
-    and_both (m.height == 0) (idle ms) (rw a refl) (highest_idle ms b)
+    both (m.height == 0) (idle ms) (rw a refl) (highest_idle ms b)
 
 -- a tree of no height is no node, and all its kids have none
 pub idle_tree : (k : Kind) (ms : List Mark) → counted k + highest ms ≡ 0 → (is_node k ≡ false) × (idle ms ≡ true)
@@ -50,7 +50,7 @@ pub plains : (ts : Nodes) → idle (marks ts) ≡ true → has_no_node (marks ts
 plains none e = refl
 plains (more t ts) e =
     let p = split ((mark t).height == 0) (idle (marks ts)) e in
-    and_both (not (mark t).node) (has_no_node (marks ts)) (ap not (plain_mark t (grind (arith, p.0)))) (plains ts p.1)
+    both (not (mark t).node) (has_no_node (marks ts)) (ap not (plain_mark t (grind (arith, p.0)))) (plains ts p.1)
 
 pub idle_plain : (ts : List Node) → idle (map mark ts) ≡ true → has_no_node (map mark ts) ≡ true
 idle_plain ts e = subst (λ l. has_no_node l ≡ true) (marks_listed ts) (plains (nodes_of ts) (subst (λ l. idle l ≡ true) (sym (marks_listed ts)) e))

@@ -10,6 +10,8 @@ pub mod Idle
 pub mod PathEnds
 pub mod Found
 pub mod Orders
+pub mod Operands
+pub mod AtStart
 pub mod Slots
 pub mod SlotForms
 pub mod SlotSorts

@@ -69,18 +69,6 @@ gains_back a b g = record { kept = λ n i. kept n (g.only n i); gained = λ n i.
     kept n (inl i) = i
     kept n (inr i) = absurd i
 
--- where the others are the same
-pub gains_same : (a b x y : List ℕ) → Gains a b x → Gains x y [] → Gains a b y
-gains_same a b x y g h = record { kept = g.kept; gained = λ n i. gained n (h.only n i); only = λ n i. only n (g.only n i) }
-  where
-    gained : (n : ℕ) → IsOn n x ⊎ IsOn n [] → IsOn n b
-    gained n (inl i) = g.gained n i
-    gained n (inr i) = absurd i
-
-    only : (n : ℕ) → IsOn n a ⊎ IsOn n x → IsOn n a ⊎ IsOn n y
-    only n (inl i) = inl i
-    only n (inr i) = inr (h.kept n i)
-
 -- with others that were there before
 pub gains_known : (a b x y : List ℕ) → Gains a b x → ((n : ℕ) → IsOn n y → IsOn n a) → Gains a b (y ++ x)
 gains_known a b x y g k = record { kept = g.kept; gained = λ n i. gained n (on_either n y x i); only = λ n i. only n (g.only n i) }

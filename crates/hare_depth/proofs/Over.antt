@@ -6,15 +6,17 @@ use Rattle.hare_tree.specs.declared.place.Place.{Place}
 use Rattle.hare_tree.specs.Node.{Node}
 use Rattle.hare_grammar.specs.Engine.{Group, begun, with_kids, over, last_kid, but_last}
 use Rattle.hare_grammar.proofs.Paths.{split}
+use Rattle.hare_parsing.proofs.Breaks.{both}
 use Rattle.hare_depth.specs.Marks.{Mark, lies_before}
 use Rattle.hare_depth.specs.Gauge.{opened, found, deep_last}
 use Rattle.hare_depth.proofs.Piles.{mark, frame_of, frames, faults_of, first_faults, group_faults, pile_faults, Gains, fits, kids_below, all_below, last_is_node, ends_in_operand}
 use Rattle.hare_depth.proofs.Lists.{gains_new}
 use Rattle.hare_depth.proofs.Grown.{is_behind, top_grown}
-use Rattle.hare_depth.proofs.Below.{and_both, top_kids_below}
+use Rattle.hare_depth.proofs.Below.{top_kids_below}
 
 -- ---- the operand is the last kid
 
+-- the last of some trees and the others, as the machine parts them
 pub record EndsIn (ts : List Node) : Type 0 where
   pub others : List Node
   pub last : Node
@@ -54,6 +56,7 @@ last_below n (p ∷ ms) m e i = last_below n ms m (split (if p.node then nat_le 
 
 -- ---- what is passed at the operator
 
+-- a left operand has one node more open round it once its operator is there
 pub one_more : (n : ℕ) → nat_le 256 (suc n) ≡ nat_le 255 n
 one_more n = grind arith
 
@@ -61,6 +64,7 @@ pub operator_faults : (bs : List Bool) (p : Place) (t : Node) (gs : List Group) 
 unfolding first_faults opened deep_last
 operator_faults bs p t gs e i = rw (e, i, one_more (opened bs), append-nil) refl
 
+-- the last kid is taken out of the tree under way, and is the first of the operator's
 over_last : (bs : List Bool) (p : Place) (g : Group) (hs : List Group) (r : EndsIn g.kids) → is_behind g.place.line (map mark r.others) (mark r.last) ≡ true → (mark r.last).node ≡ true → lies_before (mark r.last) p.line ≡ true → Gains (pile_faults bs (g ∷ hs)) (pile_faults (true ∷ bs) (over p (g ∷ hs))) (found (true ∷ bs) (frames (over p (g ∷ hs))))
 unfolding pile_faults
 over_last bs p g hs r e i j =
@@ -86,4 +90,4 @@ over_gains bs p g hs i e b = by g.kids refl
         let x : (m.node && is_behind g.place.line ms m) ≡ true = sym (operand_last g.place.line ms m) ∙ (rw all at e) in
         let y = split m.node (is_behind g.place.line ms m) x in
         let z : kids_below p.line (ms ++ m ∷ []) ≡ true = (rw all at (top_kids_below p.line (frame_of g) (frames hs) b)) in
-        over_last bs p g hs r y.1 y.0 (and_both m.node (nat_le (m.first + 1) p.line) y.0 (last_below p.line ms m z y.0))
+        over_last bs p g hs r y.1 y.0 (both m.node (nat_le (m.first + 1) p.line) y.0 (last_below p.line ms m z y.0))

@@ -23,11 +23,11 @@ use Rattle.hare_depth.proofs.Lists.{gains_refl, gains_then}
 use Rattle.hare_depth.proofs.Seen.{frames_close, frames_changed, frames_all_changed}
 use Rattle.hare_depth.proofs.Changes.{absent_gains}
 use Rattle.hare_depth.proofs.Found.{found_holds}
-use Rattle.hare_depth.proofs.Slots.{undone, all_undone, tame, is_over, is_put, ends_in, is_plain, made_for, prepared, same_bools, uses_ok, row_ok, ends_stack, ends_row}
-use Rattle.hare_depth.proofs.SlotForms.{same_equal, nodes_append, tame_append}
+use Rattle.hare_depth.proofs.Slots.{undone, all_undone, tame, is_over, is_put, ends_in, is_plain, made_for, hands_on, prepared, same_bools, uses_ok, row_ok, ends_stack, ends_row}
+use Rattle.hare_depth.proofs.SlotForms.{same_equal, nodes_append, plain_hands, tame_append}
 use Rattle.hare_depth.proofs.SlotRows.{rule_ok, rule_ends}
 use Rattle.hare_depth.proofs.Stands.{Stands, below_placed, stands_next, absent_stands, close_stands}
-use Rattle.hare_depth.proofs.Tame.{Grows, moved, closes, Made, tame_grows}
+use Rattle.hare_depth.proofs.Tame.{Grows, grows_behind, moved, closes, Made, tame_grows}
 use Rattle.hare_depth.proofs.Ready.{operand_on_top, close_operand, operand_made, made_ready, prepared_ready}
 use Rattle.hare_depth.proofs.Follow.{ready_next, follows_tail, follows_next}
 
@@ -124,35 +124,46 @@ over_left f t (ch.Close k ∷ cs) bs gs e s =
     record { gains = gains_then (pile_faults (is_node k ∷ us) gs) (pile_faults us hs) (pile_faults bs (all_changed f t cs hs)) [] (closes k n n us gs s) r.gains; stands = r.stands }
 over_left f t (c ∷ cs) bs gs e s = cc
 
+-- a rule that is over after such changes
+pub over_skipped : (f : ℕ) (t : Token) (s : Symbol) (cs : List Change) (st : List Symbol) (gs : List Group) → hands_on s ≡ false → list_all is_over cs ≡ true → all_undone cs (nodes_in st) ≡ nodes_in (s ∷ st) → (ends_operand s ≡ true → ends_in is_put cs ≡ true) → Held t.place.line (s ∷ st) (frames gs) → Skipped t.place.line (s ∷ st) gs st (all_changed f t cs gs)
+over_skipped f t s cs st gs p o u ends h =
+    let n = t.place.line in
+    let bs = nodes_in st in
+    let z : Stands n n (all_undone cs bs) (frames gs) = subst (λ l. Stands n n l (frames gs)) (sym u) (held_stands n (s ∷ st) gs h) in
+    let l : Left n (nodes_in (s ∷ st)) bs gs (all_changed f t cs gs) = subst (λ l. Left n l bs gs (all_changed f t cs gs)) u (over_left f t cs bs gs o z) in
+    let operand : ends_operand s ≡ true → operand_on_top (frames (all_changed f t cs gs)) ≡ true = λ j. ap operand_on_top (frames_all_changed f t cs gs) ∙ operand_made n bs cs (frames gs) (over_tame cs bs o) (ends j) (stands_next n (all_undone cs bs) (frames gs) z) in
+    record {
+      held = record { fitting = l.stands.fitting; ordered = l.stands.ordered; below = l.stands.below; following = follows_tail s st h.following; readied = ready_next s st (frames (all_changed f t cs gs)) p h.following operand };
+      gains = l.gains
+    }
+
 pub rule_skipped : (f : ℕ) (t : Token) (c : Class) (r : Rule) (cs : List Change) (st : List Symbol) (gs : List Group) → is_plain (sy.Part r) ≡ true → row r c ≡ Skips cs → Held t.place.line (sy.Part r ∷ st) (frames gs) → Skipped t.place.line (sy.Part r ∷ st) gs st (all_changed f t cs gs)
 unfolding nodes_in
 rule_skipped f t c r cs st gs p i h =
-    let n = t.place.line in
-    let bs = nodes_in st in
     let o = split (list_all is_over cs) (same_bools (all_undone cs []) (nodes_of_rule r)) (subst (λ y. row_ok (nodes_of_rule r) y ≡ true) i (rule_ok r c p)) in
-    let u : all_undone cs bs ≡ nodes_of_rule r ++ bs = over_append cs bs o.0 ∙ ap (λ l. l ++ bs) (same_equal (all_undone cs []) (nodes_of_rule r) o.1) in
-    let s : Stands n n (all_undone cs bs) (frames gs) = subst (λ l. Stands n n l (frames gs)) (sym u) (held_stands n (sy.Part r ∷ st) gs h) in
-    let l : Left n (nodes_of_rule r ++ bs) bs gs (all_changed f t cs gs) = subst (λ l. Left n l bs gs (all_changed f t cs gs)) u (over_left f t cs bs gs o.0 s) in
-    let operand : ends_operand (sy.Part r) ≡ true → operand_on_top (frames (all_changed f t cs gs)) ≡ true = λ j. ap operand_on_top (frames_all_changed f t cs gs) ∙ operand_made n bs cs (frames gs) (over_tame cs bs o.0) (subst (λ y. ends_row y ≡ true) i (rule_ends r c p j)) (stands_next n (all_undone cs bs) (frames gs) s) in
-    record {
-      held = record { fitting = l.stands.fitting; ordered = l.stands.ordered; below = l.stands.below; following = follows_tail (sy.Part r) st h.following; readied = ready_next (sy.Part r) st (frames (all_changed f t cs gs)) p h.following operand };
-      gains = l.gains;
-    }
+    over_skipped f t (sy.Part r) cs st gs (plain_hands (sy.Part r) p) o.0 (over_append cs (nodes_in st) o.0 ∙ ap (λ l. l ++ nodes_in st) (same_equal (all_undone cs []) (nodes_of_rule r) o.1)) (λ j. subst (λ y. ends_row y ≡ true) i (rule_ends r c p j)) h
 
 -- ---- a rule that uses the token
+
+-- a checked row, behind changes that gain nothing
+pub used_stepped : (f : ℕ) (t : Token) (c : Class) (s : Symbol) (os : List Bool) (cs : List Change) (ss st : List Symbol) (gs hs : List Group) → hands_on s ≡ false → follows (s ∷ st) ≡ true → uses_ok os (Uses cs ss) ≡ true → (ends_operand s ≡ true → ends_stack cs ss ≡ true) → Gains (pile_faults (nodes_in (s ∷ st)) gs) (pile_faults (os ++ nodes_in st) hs) [] → Stands t.place.line (suc t.place.line) (os ++ nodes_in st) (frames hs) → Stepped t.place.line c (s ∷ st) gs (ss ++ st) (all_changed f t cs hs)
+used_stepped f t c s os cs ss st gs hs p e o ends g z =
+    let n = t.place.line in
+    let made = all_changed f t cs hs in
+    let q = split (follows ss) (prepared cs ss) (split (tame cs (nodes_in ss) && same_bools (all_undone cs (nodes_in ss)) os) (follows ss && prepared cs ss) o).1 in
+    let u = row_used f t os (nodes_in st) cs ss hs o z in
+    let m : Made n (os ++ nodes_in st) (nodes_in (ss ++ st)) hs made = subst (λ l. Made n (os ++ nodes_in st) l hs made) (sym (nodes_append ss st)) u.made in
+    let grows = grows_behind n (pile_faults (nodes_in (s ∷ st)) gs) (pile_faults (os ++ nodes_in st) hs) (pile_faults (nodes_in (ss ++ st)) made) (found (nodes_in (ss ++ st)) (frames made)) g m.grows in
+    grown_stepped n c (s ∷ st) (ss ++ st) gs made grows m.stands (follows_next s cs ss st p e q.0 ends) (readied ss q.1 ends u.readied u.operand)
+  where
+    readied : (ss : List Symbol) → prepared cs ss ≡ true → (ends_operand s ≡ true → ends_stack cs ss ≡ true) → ((d : Symbol) → made_for cs d ≡ true → ready_frames d (frames (all_changed f t cs hs)) ≡ true) → (ends_in is_put cs ≡ true → operand_on_top (frames (all_changed f t cs hs)) ≡ true) → ready (ss ++ st) (frames (all_changed f t cs hs)) ≡ true
+    readied [] i ends made operand = ready_next s st (frames (all_changed f t cs hs)) p e (λ j. operand (ends j))
+    readied (d ∷ ss) i ends made operand = prepared_ready cs d ss st (frames (all_changed f t cs hs)) i made
 
 pub rule_stepped : (f : ℕ) (t : Token) (c : Class) (r : Rule) (cs : List Change) (ss st : List Symbol) (gs : List Group) → is_plain (sy.Part r) ≡ true → row r c ≡ Uses cs ss → Held t.place.line (sy.Part r ∷ st) (frames gs) → Stepped t.place.line c (sy.Part r ∷ st) gs (ss ++ st) (all_changed f t cs gs)
 unfolding nodes_in
 rule_stepped f t c r cs ss st gs p i h =
     let n = t.place.line in
-    let hs = all_changed f t cs gs in
+    let bs = nodes_in (sy.Part r ∷ st) in
     let o : uses_ok (nodes_of_rule r) (Uses cs ss) ≡ true = subst (λ y. row_ok (nodes_of_rule r) y ≡ true) i (rule_ok r c p) in
-    let q = split (follows ss) (prepared cs ss) (split (tame cs (nodes_in ss) && same_bools (all_undone cs (nodes_in ss)) (nodes_of_rule r)) (follows ss && prepared cs ss) o).1 in
-    let u = row_used f t (nodes_of_rule r) (nodes_in st) cs ss gs o (stands_next n (nodes_in (sy.Part r ∷ st)) (frames gs) (held_stands n (sy.Part r ∷ st) gs h)) in
-    let ends : ends_operand (sy.Part r) ≡ true → ends_stack cs ss ≡ true = λ j. subst (λ y. ends_row y ≡ true) i (rule_ends r c p j) in
-    let m : Made n (nodes_in (sy.Part r ∷ st)) (nodes_in (ss ++ st)) gs hs = subst (λ l. Made n (nodes_in (sy.Part r ∷ st)) l gs hs) (sym (nodes_append ss st)) u.made in
-    grown_stepped n c (sy.Part r ∷ st) (ss ++ st) gs hs m.grows m.stands (follows_next (sy.Part r) cs ss st p h.following q.0 ends) (readied ss q.1 ends u.readied u.operand)
-  where
-    readied : (ss : List Symbol) → prepared cs ss ≡ true → (ends_operand (sy.Part r) ≡ true → ends_stack cs ss ≡ true) → ((d : Symbol) → made_for cs d ≡ true → ready_frames d (frames (all_changed f t cs gs)) ≡ true) → (ends_in is_put cs ≡ true → operand_on_top (frames (all_changed f t cs gs)) ≡ true) → ready (ss ++ st) (frames (all_changed f t cs gs)) ≡ true
-    readied [] e ends made operand = ready_next (sy.Part r) st (frames (all_changed f t cs gs)) p h.following (λ j. operand (ends j))
-    readied (s ∷ ss) e ends made operand = prepared_ready cs s ss st (frames (all_changed f t cs gs)) e made
+    used_stepped f t c (sy.Part r) (nodes_of_rule r) cs ss st gs gs (plain_hands (sy.Part r) p) h.following o (λ j. subst (λ y. ends_row y ≡ true) i (rule_ends r c p j)) (gains_refl (pile_faults bs gs)) (stands_next n bs (frames gs) (held_stands n (sy.Part r ∷ st) gs h))
