@@ -1,6 +1,6 @@
 -- What a run has read is closed: the tree that is made passes limits where the gauge told it, and else only at the tokens that close it.
 use Rattle.std.proofs.Common.{◌≡◌, ℕ, suc, ◌+◌, ◌<◌, ◌≤◌, List, [], ◌∷◌, ◌++◌, true, ◌⊎◌, inl, inr, map, length, refl, ap, sym, ◌∙◌, subst, append_assoc, arith}
-use Rattle.std.proofs.lemmas.List.{length-append}
+use Rattle.std.proofs.lemmas.List.{length-append, map-append}
 use Rattle.hare_tree.specs.declared.token.Token.{Token}
 use Rattle.hare_tree.specs.Grammar.{Language, IsOn, unplaced}
 use Rattle.hare_grammar.specs.declared.class.Class.TheVariants as cl
@@ -11,7 +11,7 @@ use Rattle.hare_parsing.proofs.Endings.{good, closing}
 use Rattle.hare_parsing.proofs.Closing.{closes}
 use Rattle.hare_parsing.proofs.Alike.{classes}
 use Rattle.hare_parsing.proofs.Viable.{end}
-use Rattle.hare_depth.specs.Gauge.{numbered, nodes_in}
+use Rattle.hare_depth.specs.Gauge.{numbered, nodes_in, seen_in}
 use Rattle.hare_depth.proofs.Piles.{frames, pile_faults, Gains, Held}
 use Rattle.hare_depth.proofs.Claims.{StepsGain, StepsEnd}
 use Rattle.hare_depth.proofs.Lists.{on_left, gains_after, gains_back}
@@ -20,28 +20,10 @@ use Rattle.hare_depth.proofs.Reaches.{Reaches, parts, reaches_once, run_reaches,
 use Rattle.hare_depth.proofs.Halts.{stops_done}
 use Rattle.hare_depth.proofs.Gaining.{Ascends, reaches_gained, reaches_calm, lines}
 use Rattle.hare_depth.proofs.Numbers.{with_number, numbered_append, unplaced_numbered, plain_classes, ascends_to, ascends_append, numbered_ascends}
+use Rattle.hare_depth.proofs.Fronts.{IsFront}
 use Rattle.hare_depth.proofs.Lines.{line_of, ascends_apart, ascends_first}
-use Rattle.hare_depth.proofs.Languages.{Faulty, Read, Reads, last_same, done_like}
-
--- ---- runs that are done
-
--- the run uses these tokens, and the gauge tells the faults of what is made
-pub record Whole (st : List Symbol) (u : List Token) (made : List Group) : Type 0 where
-  pub next : List Symbol
-  pub trees : List Group
-  pub told : List ℕ
-  pub reaches : Reaches 0 u st bottom next trees told
-  pub gains : Gains [] (pile_faults [] made) told
-
-pub whole : StepsGain → StepsEnd → (st : List Symbol) → Held 1 st (frames bottom) → pile_faults (nodes_in st) bottom ≡ [] → (u : List Token) (z : Token) (top : ℕ) (made : List Group) → Ascends 1 (u ++ z ∷ []) top → run 0 (u ++ z ∷ []) st bottom ≡ Done (z ∷ []) made → Whole st u made
-whole sg se st h n u z top made a d =
-    let s = stops_done 0 (u ++ z ∷ []) st bottom z [] made d in
-    let i : s.used ≡ u = sym (last_same u s.used z z s.split).0 in
-    let r : Reaches 0 u st bottom s.next s.trees s.told = subst (λ l. Reaches 0 l st bottom s.next s.trees s.told) i s.reaches in
-    let p = ascends_apart 1 u (z ∷ []) top a in
-    let g = reaches_gained sg 0 u st s.next bottom s.trees s.told 1 z.place.line (ascends_to 1 u p.0 z.place.line (ascends_first p.0 z [] top p.2) p.1) h r in
-    let q = se 0 z s.next s.trees made g.held s.stops in
-    record { next = s.next; trees = s.trees; told = s.told; reaches = r; gains = subst (λ l. Gains l (pile_faults [] made) s.told) n (gains_after (pile_faults (nodes_in st) bottom) _ _ s.told g.gains q) }
+use Rattle.hare_depth.proofs.Runs.{last_same, done_like, whole, told_in_front}
+use Rattle.hare_depth.proofs.Languages.{Faulty, Read, Reads}
 
 -- ---- the tokens that close
 
@@ -119,8 +101,7 @@ closed sg se l st s u next trees told high a r =
     let asc : Ascends 1 ((u ++ c) ++ z ∷ []) top = subst (λ v. Ascends 1 v top) (sym e) (ascends_append 1 u high (c ++ z ∷ []) top a (closers_ascend high next)) in
     let t = s.reads (u ++ c) z top made asc refl run_all in
     let w = whole sg se st s.held s.none (u ++ c) z top made asc run_all in
-    let p = parts 0 u c st w.next bottom w.trees w.told w.reaches in
-    let o = reaches_once 0 u st p.next next bottom p.trees trees p.sooner told p.before r in
+    let b : IsFront u (u ++ c) = record { more = map seen_in c; is = map-append seen_in u c } in
     let f : Gains (map (line_of (u ++ (c ++ z ∷ []))) (l.deep_of t.tree)) (pile_faults [] made) [] = subst (λ v. Gains (map (line_of v) (l.deep_of t.tree)) (pile_faults [] made) []) e t.faulty.faults in
     let q = reaches_gained sg 0 u st next bottom trees told 1 high a s.held r in
     record {
@@ -131,9 +112,9 @@ closed sg se l st s u next trees told high a r =
       after = c ++ z ∷ [];
       top = top;
       ascends = closers_ascend high next;
-      forced = λ x i. (gains_back _ (pile_faults [] made) f).kept x (w.gains.gained x (subst (IsOn x) (sym p.tells) (on_left x p.sooner p.later (subst (IsOn x) (sym o.2) i))));
+      forced = λ x i. (gains_back _ (pile_faults [] made) f).kept x (w.gains.gained x (told_in_front st next w.next u (u ++ c) trees w.trees told w.told r w.reaches b x i));
       only = λ x i. told_or x (q.gains.only x) (close_adds sg se high next trees made g q.held d.1 x (f.kept x i));
-      within = λ k i. let b = t.faulty.within k i in omega (arith, b, ap length e, length-append (u ++ c) (z ∷ []));
+      within = λ k i. let y = t.faulty.within k i in omega (arith, y, ap length e, length-append (u ++ c) (z ∷ []));
     }
   where
     told_or : (x : ℕ) → (IsOn x (pile_faults (nodes_in next) trees) → IsOn x (pile_faults (nodes_in st) bottom) ⊎ IsOn x told) → IsOn x (pile_faults (nodes_in next) trees) ⊎ (high ≤ x) → IsOn x told ⊎ (high ≤ x)

@@ -30,13 +30,15 @@ use Rattle.hare_depth.specs.Gauge.{numbered, nodes_in, start}
 use Rattle.hare_depth.proofs.Piles.{frames, faults_of, pile_faults, Gains, Held, is_ordered, all_below, follows}
 use Rattle.hare_depth.proofs.Lists.{on_either}
 use Rattle.hare_depth.proofs.Begins.{Within, led_within}
+use Rattle.hare_depth.proofs.AtStart.{files_at_start, none_at_start}
 use Rattle.hare_depth.proofs.LetterFiles.{Placed, deep_file, all_have_forms, file_piles_agree}
 use Rattle.hare_depth.proofs.Placeless.{files_pass_alike, file_limits}
 use Rattle.hare_depth.proofs.Inside.{each_inside}
 use Rattle.hare_depth.proofs.Gaining.{Ascends}
 use Rattle.hare_depth.proofs.Numbers.{unplaced_both, plain_classes, strung_ascends}
 use Rattle.hare_depth.proofs.Lines.{line_of, rises}
-use Rattle.hare_depth.proofs.Languages.{Faulty, Read, Reread, Reads, last_same, done_like}
+use Rattle.hare_depth.proofs.Runs.{last_same, done_like}
+use Rattle.hare_depth.proofs.Languages.{Faulty, Read, Reread, Reads}
 
 -- ---- the tokens at which files pass limits are their own
 
@@ -153,17 +155,13 @@ reread_file ts t h e =
     let w : map unplaced (strung (numbered 1 ts)) ≡ map unplaced (spell_file t) = unplaced_both 1 ts ∙ ap (map unplaced) (files_join ts t h e) ∙ sym e in
     reread_from ts t h w (ended (strung (numbered 1 ts)) (spell_all 0 t.uses ++ spell_all 0 t.decls) (w ∙ file_tokens t))
 
-file_held : Held 1 file_symbols (frames bottom)
-unfolding nodes_in is_ordered all_below follows
-file_held = record { fitting = refl; ordered = refl; below = refl; following = refl; readied = refl }
-
 file_none : pile_faults (nodes_in file_symbols) bottom ≡ []
-unfolding nodes_in pile_faults faults_of
-file_none = refl
+unfolding nodes_in
+file_none = none_at_start
 
 pub reads_files : Reads files file_symbols
 reads_files = record {
-  held = file_held;
+  held = files_at_start;
   none = file_none;
   is_good = refl;
   is_loose = λ t h. file_loose t h;

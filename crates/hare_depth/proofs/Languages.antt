@@ -51,32 +51,3 @@ pub record Reads {T : Type 0} (l : Language T) (st : List Symbol) : Type 0 where
   pub is_loose : (tree : T) → l.is_of tree ≡ true → loose false (l.tokens_of tree) ≡ true
   pub reads : (u : List Token) (z : Token) (top : ℕ) (made : List Group) → Ascends 1 (u ++ z ∷ []) top → unplaced z ≡ end → run 0 (u ++ z ∷ []) st bottom ≡ Done (z ∷ []) made → Read l u z made
   pub rereads : (ts : List Token) (tree : T) → l.is_of tree ≡ true → Spells (l.tokens_of tree) ts → Reread l st ts tree
-
--- ---- runs that are done in front of one token
-
-pub last_same : (a b : List Token) (x y : Token) → a ++ x ∷ [] ≡ b ++ y ∷ [] → (a ≡ b) × (x ≡ y)
-last_same [] [] x y e = (refl, cc)
-last_same [] (z ∷ []) x y e = cc
-last_same [] (z ∷ w ∷ b) x y e = cc
-last_same (z ∷ []) [] x y e = cc
-last_same (z ∷ w ∷ a) [] x y e = cc
-last_same (z ∷ a) (w ∷ b) x y e =
-    let h : z ≡ w = cc in
-    let r : a ++ x ∷ [] ≡ b ++ y ∷ [] = cc in
-    let i = last_same a b x y r in
-    (rw (h, i.0) refl, i.1)
-
-one_token : (o : Outcome) (t : Token) (hs : List Group) → Alike o (Done (t ∷ []) hs) → (z : Token) × (gs : List Group) × (o ≡ Done (z ∷ []) gs)
-one_token (Done [] gs) t hs a = let b : classes [] ≡ classes (t ∷ []) = a in cc
-one_token (Done (z ∷ []) gs) t hs a = (z, gs, refl)
-one_token (Done (z ∷ y ∷ v) gs) t hs a = let b : classes (z ∷ y ∷ v) ≡ classes (t ∷ []) = a in cc
-one_token (Fails v) t hs a = absurd a
-
--- a run that is like one that is done in front of one token
-pub done_like : (f f' : ℕ) (u w : List Token) (z t : Token) (st : List Symbol) (gs gs' hs : List Group) → classes (u ++ z ∷ []) ≡ classes w → run f' w st gs' ≡ Done (t ∷ []) hs → (made : List Group) × (run f (u ++ z ∷ []) st gs ≡ Done (z ∷ []) made)
-done_like f f' u w z t st gs gs' hs e d =
-    let a : Alike (run f (u ++ z ∷ []) st gs) (Done (t ∷ []) hs) = subst (λ o. Alike (run f (u ++ z ∷ []) st gs) o) d (alike f f' (u ++ z ∷ []) w st gs gs' e) in
-    let r = one_token _ t hs a in
-    let s = stops_done f (u ++ z ∷ []) st gs r.0 [] r.1 r.2 in
-    let i = last_same u s.used z r.0 s.split in
-    (r.1, r.2 ∙ ap (λ x. Done (x ∷ []) r.1) (sym i.1))

@@ -10,15 +10,16 @@ use Rattle.hare_parsing.specs.Faults.{strung}
 use Rattle.hare_depth.specs.Gauge.{numbered, seen, seen_in, start, gauge}
 use Rattle.hare_depth.proofs.Piles.{frames, pile_faults}
 use Rattle.hare_depth.proofs.Claims.{StepsGain, StepsEnd}
-use Rattle.hare_depth.proofs.Lists.{on_left}
+use Rattle.hare_depth.proofs.Lists.{on_left, map_on}
 use Rattle.hare_depth.proofs.Reaches.{Reaches, gauge_reaches}
 use Rattle.hare_depth.proofs.Gaining.{Ascends}
 use Rattle.hare_depth.proofs.Numbers.{unplaced_both, plain_lengths, ascends_to, strung_ascends}
 use Rattle.hare_depth.proofs.Fronts.{IsFront, front_numbered}
 use Rattle.hare_depth.proofs.Lines.{line_of, line_within, line_before, front_line, front_shorter, front_then, front_short, front_long}
 use Rattle.hare_depth.proofs.Languages.{Reread, Reads}
-use Rattle.hare_depth.proofs.Closings.{Whole, whole, Closed, closed}
-use Rattle.hare_depth.proofs.Told.{map_on, goes_on_with, counted_alike, take_twice, front_short_of, Through, through}
+use Rattle.hare_depth.proofs.Runs.{Whole, whole, Through, through}
+use Rattle.hare_depth.proofs.Closings.{Closed, closed}
+use Rattle.hare_depth.proofs.Told.{goes_on_with, counted_alike, take_twice, front_short_of}
 
 -- what is told behind a front of the file is told
 pub told_on : (st next : List Symbol) (u ts : List Token) (trees : List Group) (told : List ℕ) (x : ℕ) → Reaches 0 u st bottom next trees told → IsFront u (strung (numbered 1 ts)) → IsOn x told → IsOn x (gauge (seen ts) st start).faults

@@ -47,3 +47,4 @@ pub mod Tame
 pub mod Ready
 pub mod Follow
 pub mod Stepped
+pub mod Runs

@@ -1,5 +1,5 @@
 -- What is on lists of numbers, and what one list gains over another.
-use Rattle.std.proofs.Common.{◌≡◌, ℕ, List, [], ◌∷◌, ◌++◌, ◌⊎◌, inl, inr, subst}
+use Rattle.std.proofs.Common.{◌≡◌, ℕ, List, [], ◌∷◌, ◌++◌, map, refl, ap, ◌⊎◌, inl, inr, subst}
 use Rattle.hare_tree.specs.Grammar.{IsOn}
 use Rattle.hare_depth.proofs.Piles.{Gains}
 
@@ -132,3 +132,15 @@ gains_new a b d e g = record { kept = λ n i. kept n (g.only n i); gained = λ n
     only : (n : ℕ) → IsOn n (d ++ e) ⊎ IsOn n a → IsOn n b ⊎ IsOn n d
     only n (inl i) = front n (on_either n d e i)
     only n (inr i) = inl (g.kept n i)
+
+-- ---- values at the numbers of a list
+
+pub on_map : (g : ℕ → ℕ) (x : ℕ) (ks : List ℕ) → IsOn x (map g ks) → (k : ℕ) × IsOn k ks × (x ≡ g k)
+on_map g x [] i = absurd i
+on_map g x (k ∷ ks) (inl e) = (k, inl refl, e)
+on_map g x (k ∷ ks) (inr i) = let r = on_map g x ks i in (r.0, inr r.1, r.2)
+
+pub map_on : (g : ℕ → ℕ) (k : ℕ) (ks : List ℕ) → IsOn k ks → IsOn (g k) (map g ks)
+map_on g k (m ∷ ks) (inl e) = inl (ap g e)
+map_on g k (m ∷ ks) (inr i) = inr (map_on g k ks i)
+map_on g k [] i = absurd i

@@ -36,7 +36,7 @@ use Rattle.hare_depth.proofs.Numbers.{unplaced_both, plain_classes, strung_ascen
 use Rattle.hare_depth.proofs.Fronts.{IsFront}
 use Rattle.hare_depth.proofs.Lines.{ascends_apart}
 use Rattle.hare_depth.proofs.Languages.{Reads}
-use Rattle.hare_depth.proofs.Closings.{whole}
+use Rattle.hare_depth.proofs.Runs.{done_somewhere, first_token, whole}
 use Rattle.hare_depth.proofs.Least.{told_on}
 use Rattle.hare_depth.proofs.Sorts.{made_tree, reads_trees}
 use Rattle.hare_depth.proofs.FilesRead.{file_of, made_file, same_files, reads_files}
@@ -58,15 +58,6 @@ fronts_same : (a b c d : List Token) → length b ≡ length d → a ++ b ≡ c 
 fronts_same a b c d n e =
     let m : length a ≡ length c = omega (arith, n, ap length e, length-append a b, length-append c d) in
     sym (take-append_seam a b) ∙ ap (take (length a)) e ∙ ap (λ k. take k (c ++ d)) m ∙ take-append_seam c d
-
--- like a run that is done in front of a token
-first_token : (o : Outcome) (t : Token) (v : List Token) (hs : List Group) → Alike o (Done (t ∷ v) hs) → (z : Token) × (w : List Token) × (gs : List Group) × (o ≡ Done (z ∷ w) gs) × (length w ≡ length v)
-first_token (Done [] gs) t v hs a = let b : classes [] ≡ classes (t ∷ v) = a in cc
-first_token (Done (z ∷ w) gs) t v hs a =
-    let b : classes (z ∷ w) ≡ classes (t ∷ v) = a in
-    let n : length (z ∷ w) ≡ length (t ∷ v) = sym (length-map (z ∷ w) class_of) ∙ ap length b ∙ length-map (t ∷ v) class_of in
-    (z, w, gs, refl, omega (arith, n))
-first_token (Fails v') t v hs a = absurd a
 
 same_run : (file : ℕ) (st : List Symbol) (ts used : List Token) (t : Token) (rest : List Token) (made : List Group) → run file (strung ts) st bottom ≡ Done (t ∷ rest) made → strung ts ≡ used ++ t ∷ rest → SameRun st ts used
 same_run file st ts used t rest made d i =
@@ -104,17 +95,6 @@ none_made sg se l st s ts used r n x i =
 no_faults : (g : ℕ → ℕ) (ks ps : List ℕ) → Gains (map g ks) ps [] → ((x : ℕ) → IsOn x ps → ⊥) → ks ≡ []
 no_faults g [] ps h n = refl
 no_faults g (k ∷ ks) ps h n = absurd (n (g k) (h.kept (g k) (inl refl)))
-
--- a run that is done is so in front of a token
-done_somewhere : (f : ℕ) (w : List Token) (st : List Symbol) (gs made : List Group) → run f w st gs ≡ Done [] made → ⊥
-unfolding run
-done_somewhere f [] st gs made e = cc
-done_somewhere f (t ∷ w) st gs made e = by (step f t (class_of t) st gs) e (λ st1 gs1 d. done_somewhere f w st1 gs1 made d)
-  where
-    by : (z : Step) → after z t w (λ st1 gs1. run f w st1 gs1) ≡ Done [] made → ((st1 : List Symbol) (gs1 : List Group) → run f w st1 gs1 ≡ Done [] made → ⊥) → ⊥
-    by (Goes st1 gs1) d k = k st1 gs1 d
-    by (Ends gs1) d k = cc
-    by Stuck d k = cc
 
 abbrev kids_made : List Group → List Node
 kids_made [] = []

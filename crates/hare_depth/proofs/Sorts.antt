@@ -27,6 +27,7 @@ use Rattle.hare_parsing.proofs.FileFaults.{trees_join}
 use Rattle.hare_depth.specs.Marks.{Mark, lies_before}
 use Rattle.hare_depth.specs.Gauge.{numbered, nodes_in, start}
 use Rattle.hare_depth.proofs.Piles.{mark, marks, frames, left_faults, faults_of, pile_faults, Gains, Held, is_ordered, all_below, follows}
+use Rattle.hare_depth.proofs.AtStart.{sort_at_start, none_at_start, plain_alone, tree_alone}
 use Rattle.hare_depth.proofs.FormKids.{shaped_has_form, node_some}
 use Rattle.hare_depth.proofs.Letter.{faults_agree, agrees}
 use Rattle.hare_depth.proofs.Placeless.{roots_pass_alike}
@@ -34,32 +35,20 @@ use Rattle.hare_depth.proofs.Inside.{root_inside}
 use Rattle.hare_depth.proofs.Gaining.{Ascends}
 use Rattle.hare_depth.proofs.Numbers.{with_number, unplaced_both, plain_classes, ascends_append, strung_ascends}
 use Rattle.hare_depth.proofs.Lines.{line_of, rises}
-use Rattle.hare_depth.proofs.Languages.{Faulty, Read, Reread, Reads, done_like}
+use Rattle.hare_depth.proofs.Runs.{done_like}
+use Rattle.hare_depth.proofs.Languages.{Faulty, Read, Reread, Reads}
 
 -- ---- the pile of one tree
 
-not_before_first : (m : Mark) → (m.node ≡ true → 0 < m.first) → lies_before m 1 ≡ false
-not_before_first m f = by m.node f
-  where
-    by : (b : Bool) → (b ≡ true → 0 < m.first) → (b && nat_le (m.first + 1) 1) ≡ false
-    by true g = let p = g refl in lt_false (m.first + 1) 1 (omega (arith, p))
-    by false g = refl
-
 pile_of_tree : (t : Node) → ((mark t).node ≡ true → 0 < (mark t).first) → pile_faults [] (add t bottom) ≡ faults_of 0 t
-unfolding pile_faults faults_of
-pile_of_tree t f = rw (not_before_first (mark t) f) (append-nil (faults_of 0 t))
+pile_of_tree t f = by (mark t).node refl
+  where
+    by : (b : Bool) → (mark t).node ≡ b → pile_faults [] (add t bottom) ≡ faults_of 0 t
+    by true e = let p = f e in tree_alone t (omega (arith, p))
+    by false e = plain_alone t e
 
 node_mark : (t : Node) → (mark t).node ≡ is_node (head t).kind
 node_mark (branch h us) = refl
-
--- nothing is under way
-sort_held : (s : Sort) → Held 1 (of s ∷ []) (frames bottom)
-unfolding nodes_in is_ordered all_below follows
-sort_held s = record { fitting = refl; ordered = refl; below = refl; following = refl; readied = refl }
-
-sort_none : (s : Sort) → pile_faults (nodes_in (of s ∷ [])) bottom ≡ []
-unfolding nodes_in pile_faults faults_of
-sort_none s = refl
 
 -- ---- what a run makes
 
@@ -135,9 +124,13 @@ reread_tree s c ts t h e =
       };
     }
 
+sort_none : (s : Sort) → pile_faults (nodes_in (of s ∷ [])) bottom ≡ []
+unfolding nodes_in
+sort_none s = none_at_start
+
 pub reads_trees : (s : Sort) → has_trees s ≡ true → Reads (trees_of s) (of s ∷ [])
 reads_trees s c = record {
-  held = sort_held s;
+  held = sort_at_start s;
   none = sort_none s;
   is_good = trees_end s c;
   is_loose = λ t h. tree_loose s t (trees_sort s c) h;

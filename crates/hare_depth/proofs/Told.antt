@@ -13,7 +13,7 @@ use Rattle.hare_parsing.proofs.Faults.{goes_back}
 use Rattle.hare_depth.specs.Gauge.{numbered, seen, seen_in, start, gauge}
 use Rattle.hare_depth.proofs.Piles.{frames, pile_faults, Gains}
 use Rattle.hare_depth.proofs.Claims.{StepsGain, StepsEnd}
-use Rattle.hare_depth.proofs.Lists.{on_left, gains_back}
+use Rattle.hare_depth.proofs.Lists.{on_map, map_on, gains_back}
 use Rattle.hare_depth.proofs.Reaches.{Reaches, parts, reaches_once, run_reaches}
 use Rattle.hare_depth.proofs.Halts.{halting, halting_faults}
 use Rattle.hare_depth.proofs.Gaining.{Ascends}
@@ -22,19 +22,8 @@ use Rattle.hare_depth.proofs.Numbers.{unplaced_both, ascends_to, strung_ascends,
 use Rattle.hare_depth.proofs.Fronts.{IsFront, front_numbered, front_joined}
 use Rattle.hare_depth.proofs.Lines.{line_of, line_once, line_before, line_behind, around_at, front_line, front_append, front_short, front_long, front}
 use Rattle.hare_depth.proofs.Languages.{Faulty, Reread, Reads}
-use Rattle.hare_depth.proofs.Closings.{Whole, whole, Closed, closed}
-
--- ---- what is on a list of values
-
-pub on_map : (g : ℕ → ℕ) (x : ℕ) (ks : List ℕ) → IsOn x (map g ks) → (k : ℕ) × IsOn k ks × (x ≡ g k)
-on_map g x [] i = absurd i
-on_map g x (k ∷ ks) (inl e) = (k, inl refl, e)
-on_map g x (k ∷ ks) (inr i) = let r = on_map g x ks i in (r.0, inr r.1, r.2)
-
-pub map_on : (g : ℕ → ℕ) (k : ℕ) (ks : List ℕ) → IsOn k ks → IsOn (g k) (map g ks)
-map_on g k (m ∷ ks) (inl e) = inl (ap g e)
-map_on g k (m ∷ ks) (inr i) = inr (map_on g k ks i)
-map_on g k [] i = absurd i
+use Rattle.hare_depth.proofs.Runs.{Whole, whole, not_all_used, told_in_front}
+use Rattle.hare_depth.proofs.Closings.{Closed, closed}
 
 -- ---- fronts of the file
 
@@ -70,32 +59,6 @@ take_twice n r ts d e = let i = length-take-le r ts e in sym (take-append-le n (
 pub front_short_of : {T : Type 0} (l : Language T) (st : List Symbol) (q ts : List Token) (tree : T) → (r : Reread l st ts tree) → IsFront q (strung (numbered 1 ts)) → IsFront q (r.used ++ r.last ∷ [])
 front_short_of l st q ts tree r f = subst (IsFront q) r.split (front_append q (strung (numbered 1 ts)) r.extra f)
 
--- what a run tells behind a front of its tokens
-pub record Through (st : List Symbol) (u : List Token) (ws : List ℕ) : Type 0 where
-  pub next : List Symbol
-  pub trees : List Group
-  pub sooner : List ℕ
-  pub later : List ℕ
-  pub tells : ws ≡ sooner ++ later
-  pub reaches : Reaches 0 u st bottom next trees sooner
-
-pub through : (st : List Symbol) (u w : List Token) (next : List Symbol) (trees : List Group) (ws : List ℕ) → Reaches 0 w st bottom next trees ws → IsFront u w → Through st u ws
-through st u w next trees ws r f =
-    let a = front u w f in
-    let p = parts 0 a.first a.behind st next bottom trees ws (subst (λ x. Reaches 0 x st bottom next trees ws) a.is r) in
-    let k = reaches_likewise 0 0 a.first u st p.next bottom p.trees bottom p.sooner a.same refl p.before in
-    record { next = p.next; trees = k.trees; sooner = p.sooner; later = p.later; tells = p.tells; reaches = k.reaches }
-
--- where all of these tokens are used, nothing is done in front of the last
-not_all_used : (st next : List Symbol) (u w : List Token) (z : Token) (trees made : List Group) (told : List ℕ) → Reaches 0 u st bottom next trees told → IsFront u (w ++ z ∷ []) → length w < length u → run 0 (w ++ z ∷ []) st bottom ≡ Done (z ∷ []) made → ⊥
-unfolding run
-not_all_used st next u w z trees made told r f e d =
-    let v = w ++ z ∷ [] in
-    let g = front_long u v [] (subst (IsFront u) (sym (append-nil v)) f) (omega (arith, e, length-append w (z ∷ []))) in
-    let k = through st v u next trees told r g in
-    let x : run 0 v st bottom ≡ Fails [] = ap (λ y. run 0 y st bottom) (sym (append-nil v)) ∙ run_reaches 0 v st k.next bottom k.trees k.sooner k.reaches [] in
-    cc
-
 -- what is told behind a front is a fault of each tree that goes on with it
 pub told_again : {T : Type 0} → StepsGain → StepsEnd → (l : Language T) (st : List Symbol) → Reads l st → (u : List Token) (next : List Symbol) (trees : List Group) (told : List ℕ) (k : ℕ) → Reaches 0 u st bottom next trees told → k < length u → IsOn (line_of u k) told → (ts : List Token) (tree : T) → (r : Reread l st ts tree) → IsFront u (r.used ++ r.last ∷ []) → IsOn k (l.deep_of tree)
 told_again sg se l st s u next trees told k r e i ts tree q f = by (cases_lt (length q.used) (length u))
@@ -114,9 +77,7 @@ told_again sg se l st s u next trees told k r e i ts tree q f = by (cases_lt (le
     by : (length q.used < length u) ⊎ (length u ≤ length q.used) → IsOn k (l.deep_of tree)
     by (inl m) = absurd (not_all_used st next u q.used q.last trees q.made told r f m q.done)
     by (inr m) =
-        let t = through st u q.used w.next w.trees w.told w.reaches (front_short u q.used (q.last ∷ []) f m) in
-        let o = reaches_once 0 u st t.next next bottom t.trees trees t.sooner told t.reaches r in
-        let x : IsOn (line_of u k) w.told = subst (IsOn (line_of u k)) (sym t.tells) (on_left (line_of u k) t.sooner t.later (subst (IsOn (line_of u k)) (sym o.2) i)) in
+        let x = told_in_front st next w.next u q.used trees w.trees told w.told r w.reaches (front_short u q.used (q.last ∷ []) f m) (line_of u k) i in
         let y = (gains_back _ (pile_faults [] q.made) q.faulty.faults).kept (line_of u k) (w.gains.gained (line_of u k) x) in
         let j = on_map (line_of (q.used ++ q.last ∷ [])) (line_of u k) (l.deep_of tree) y in
         same j.0 j.1 j.2 m
