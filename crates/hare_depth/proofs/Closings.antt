@@ -14,16 +14,16 @@ use Rattle.hare_parsing.proofs.Viable.{end}
 use Rattle.hare_depth.specs.Gauge.{numbered, nodes_in, seen_in}
 use Rattle.hare_depth.proofs.Piles.{frames, pile_faults, Gains, Held}
 use Rattle.hare_depth.proofs.Claims.{StepsGain, StepsEnd}
-use Rattle.hare_depth.proofs.Lists.{on_left, gains_after, gains_back}
+use Rattle.hare_depth.proofs.Lists.{gains_back}
 use Rattle.hare_depth.proofs.Calm.{closings_are_calm}
-use Rattle.hare_depth.proofs.Reaches.{Reaches, parts, reaches_once, run_reaches, reaches_good}
+use Rattle.hare_depth.proofs.Reaches.{Reaches, run_reaches, reaches_good}
 use Rattle.hare_depth.proofs.Halts.{stops_done}
 use Rattle.hare_depth.proofs.Gaining.{Ascends, reaches_gained, reaches_calm, lines}
 use Rattle.hare_depth.proofs.Numbers.{with_number, numbered_append, unplaced_numbered, plain_classes, ascends_to, ascends_append, numbered_ascends}
 use Rattle.hare_depth.proofs.Fronts.{IsFront}
 use Rattle.hare_depth.proofs.Lines.{line_of, ascends_apart, ascends_first}
 use Rattle.hare_depth.proofs.Runs.{last_same, done_like, whole, told_in_front}
-use Rattle.hare_depth.proofs.Languages.{Faulty, Read, Reads}
+use Rattle.hare_depth.proofs.Languages.{Reads}
 
 -- ---- the tokens that close
 

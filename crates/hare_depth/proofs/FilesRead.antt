@@ -1,5 +1,5 @@
 -- Files are read by the grammar's machine, and pass the limits where what it makes does.
-use Rattle.std.proofs.Common.{◌≡◌, ℕ, suc, ◌+◌, ◌<◌, ◌≤◌, List, [], ◌∷◌, ◌++◌, Bool, true, false, ◌&&◌, ◌⊎◌, inl, inr, map, length, refl, ap, sym, ◌∙◌, subst, append_assoc, arith}
+use Rattle.std.proofs.Common.{◌≡◌, ℕ, ◌+◌, ◌<◌, List, [], ◌∷◌, ◌++◌, true, false, ◌⊎◌, inl, inr, map, length, refl, ap, sym, ◌∙◌, subst, append_assoc, arith}
 use Rattle.std.specs.List.{list_all}
 use Rattle.std.proofs.lemmas.List.{append-nil, length-append, length-map, append_cancel_right, map-append}
 use Rattle.hare_tree.specs.declared.token.Token.{Token}
@@ -9,13 +9,12 @@ use Rattle.hare_tree.specs.declared.form.Sort.TheVariants as so
 use Rattle.hare_tree.specs.declared.form.Lead.TheVariants as le
 use Rattle.hare_tree.specs.declared.tree.FileTree.{FileTree}
 use Rattle.hare_tree.specs.Node.{Node, nodes_of}
-use Rattle.hare_tree.specs.Spell.{start_of, word_token, spells, spell_all, spell_file}
+use Rattle.hare_tree.specs.Spell.{word_token, spells, spell_all, spell_file}
 use Rattle.hare_tree.specs.Shape.{is_shaped, is_shaped_file}
 use Rattle.hare_tree.specs.Depth.{begins_led, deep_all}
-use Rattle.hare_tree.specs.Grammar.{IsOn, Spells, files, unplaced, joined}
-use Rattle.hare_grammar.specs.Engine.{Group, begun, Done, run, bottom}
+use Rattle.hare_tree.specs.Grammar.{IsOn, Spells, files, unplaced}
+use Rattle.hare_grammar.specs.Engine.{Group, Done, run, bottom}
 use Rattle.hare_grammar.specs.OneTree.{file_symbols}
-use Rattle.hare_grammar.proofs.Paths.{split}
 use Rattle.hare_grammar.proofs.Files.{read_file, files_have_one_tree}
 use Rattle.hare_parsing.specs.Faults.{strung}
 use Rattle.hare_parsing.proofs.Alike.{classes}
@@ -26,8 +25,8 @@ use Rattle.hare_parsing.proofs.Readings.{runs_read_files}
 use Rattle.hare_parsing.proofs.Moved.{side_moved}
 use Rattle.hare_parsing.proofs.Faults.{file_loose}
 use Rattle.hare_parsing.proofs.FileFaults.{files_join}
-use Rattle.hare_depth.specs.Gauge.{numbered, nodes_in, start}
-use Rattle.hare_depth.proofs.Piles.{frames, faults_of, pile_faults, Gains, Held, is_ordered, all_below, follows}
+use Rattle.hare_depth.specs.Gauge.{numbered, nodes_in}
+use Rattle.hare_depth.proofs.Piles.{pile_faults, Gains}
 use Rattle.hare_depth.proofs.Lists.{on_either}
 use Rattle.hare_depth.proofs.Begins.{Within, led_within}
 use Rattle.hare_depth.proofs.AtStart.{files_at_start, none_at_start}
@@ -38,7 +37,7 @@ use Rattle.hare_depth.proofs.Gaining.{Ascends}
 use Rattle.hare_depth.proofs.Numbers.{unplaced_both, plain_classes, strung_ascends}
 use Rattle.hare_depth.proofs.Lines.{line_of, rises}
 use Rattle.hare_depth.proofs.Runs.{last_same, done_like}
-use Rattle.hare_depth.proofs.Languages.{Faulty, Read, Reread, Reads}
+use Rattle.hare_depth.proofs.Languages.{faulty_alike, Faulty, Read, Reread, Reads}
 
 -- ---- the tokens at which files pass limits are their own
 
@@ -99,6 +98,10 @@ same_files us ds us' ds' h h' e =
     let w : spell_file (file_of 0 us ds) ≡ spell_file (file_of 0 us' ds') = sym (append_assoc (spell_all 0 us) (spell_all 0 ds) (end ∷ [])) ∙ ap (λ l. l ++ end ∷ []) e ∙ append_assoc (spell_all 0 us') (spell_all 0 ds') (end ∷ []) in
     files_pass_alike (file_of 0 us ds) (file_of 0 us' ds') (files_have_one_tree (file_of 0 us ds) (file_of 0 us' ds') refl h h' w)
 
+-- what is made from the tokens of a file passes its limits
+pub made_passes : (u : List Token) (z : Token) (made : List Group) (m : MadeFile u z made) (t : FileTree) → is_shaped_file t ≡ true → map unplaced u ≡ spell_all 0 t.uses ++ spell_all 0 t.decls → deep_file m.uses m.decls ≡ files.deep_of t
+made_passes u z made m t h e = same_files m.uses m.decls t.uses t.decls m.shaped h (m.spelled ∙ e) ∙ sym (file_limits t)
+
 -- the tokens of a file, at the start of file 0
 file_tokens : (t : FileTree) → map unplaced (spell_file t) ≡ (spell_all 0 t.uses ++ spell_all 0 t.decls) ++ end ∷ []
 file_tokens t =
@@ -134,7 +137,7 @@ reread_from ts t h e x =
     let d = done_like 0 t.file x.before (spell_file t) x.last (word_token t.file tk.End []) file_symbols bottom bottom _ c (read_file t h) in
     let a : Ascends 1 w (1 + length ts) = subst (λ l. Ascends 1 l (1 + length ts)) x.is (strung_ascends 1 ts) in
     let m = made_file x.before x.last (1 + length ts) d.0 a d.1 in
-    let p : files.deep_of (file_of 0 m.uses m.decls) ≡ files.deep_of t = same_files m.uses m.decls t.uses t.decls m.shaped h (m.spelled ∙ x.same) ∙ sym (file_limits t) in
+    let p = made_passes x.before x.last d.0 m t h x.same in
     record {
       used = x.before;
       last = x.last;
@@ -144,10 +147,7 @@ reread_from ts t h e x =
       ascends = a;
       made = d.0;
       done = d.1;
-      faulty = record {
-        faults = subst (λ l. Gains (map (line_of w) l) (pile_faults [] d.0) []) p m.faulty.faults;
-        within = λ k y. m.faulty.within k (subst (IsOn k) (sym p) y);
-      };
+      faulty = faulty_alike files x.before x.last (file_of 0 m.uses m.decls) t d.0 p m.faulty;
     }
 
 pub reread_file : (ts : List Token) (t : FileTree) → is_shaped_file t ≡ true → Spells (spell_file t) ts → Reread files file_symbols ts t

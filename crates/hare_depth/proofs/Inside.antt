@@ -1,19 +1,18 @@
 -- The tokens at which a tree passes a limit are its own.
-use Rattle.std.proofs.Common.{◌≡◌, ℕ, ◌+◌, ◌<◌, ◌≤◌, List, [], ◌∷◌, ◌++◌, Bool, true, false, ◌&&◌, ◌⊎◌, inl, inr, length, refl, ap, sym, arith, if◌then◌else◌}
+use Rattle.std.proofs.Common.{◌≡◌, ℕ, ◌+◌, ◌<◌, List, [], ◌∷◌, Bool, true, false, ◌&&◌, ◌⊎◌, inl, inr, length, refl, arith, if◌then◌else◌}
 use Rattle.std.specs.Prelude.{nat_le}
-use Rattle.std.proofs.lemmas.List.{length-append}
 use Rattle.hare_tree.specs.declared.form.Sort.{Sort}
-use Rattle.hare_tree.specs.Node.{Head, Node, Nodes, branch, none, more, head}
+use Rattle.hare_tree.specs.Node.{Head, Node, Nodes, branch, none, more}
 use Rattle.hare_tree.specs.Forms.{form_of}
 use Rattle.hare_tree.specs.Levels.{level}
-use Rattle.hare_tree.specs.Spell.{pieces_tokens, spell, spells}
+use Rattle.hare_tree.specs.Spell.{spell, spells}
 use Rattle.hare_tree.specs.Shape.{is_shaped, kid_pieces}
 use Rattle.hare_tree.specs.Depth.{is_node, is_operator, left_height, begins, place_in, first_number, numbers_behind, node_faults, open_within, deep, deep_each, deep_root}
 use Rattle.hare_tree.specs.Grammar.{IsOn}
 use Rattle.hare_grammar.proofs.Paths.{split}
 use Rattle.hare_depth.proofs.Lists.{on_either}
 use Rattle.hare_depth.proofs.Begins.{Within, pieces_within}
-use Rattle.hare_depth.proofs.FormKids.{has_form, have_forms, shaped_has_form, kids_have_forms, node_some, pieces_some, operand, no_operand}
+use Rattle.hare_depth.proofs.FormKids.{has_form, have_forms, shaped_has_form, kids_have_forms, node_some, operand, no_operand}
 use Rattle.hare_depth.proofs.LetterTrees.{left_ends}
 
 on_one : (k n : ℕ) (b : Bool) → IsOn k (if b then n ∷ [] else []) → (b ≡ true) × (k ≡ n)

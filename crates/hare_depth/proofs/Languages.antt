@@ -1,27 +1,28 @@
 -- What the proof of the gauge's law asks of a language: its trees are read by the grammar's machine from one stack on, and the tree that is read has
 -- the faults of what the machine makes.
-use Rattle.std.proofs.Common.{◌≡◌, ℕ, suc, ◌<◌, List, [], ◌∷◌, ◌++◌, true, false, map, length, refl, ap, sym, ◌∙◌, subst, append_assoc, arith}
-use Rattle.std.proofs.lemmas.List.{append-nil}
+use Rattle.std.proofs.Common.{subst, sym, ◌≡◌, ℕ, ◌<◌, List, [], ◌∷◌, ◌++◌, true, false, map, length}
 use Rattle.hare_tree.specs.declared.token.Token.{Token}
 use Rattle.hare_tree.specs.Grammar.{Language, IsOn, Spells, unplaced}
 use Rattle.hare_grammar.specs.declared.class.Class.TheVariants as cl
 use Rattle.hare_grammar.specs.declared.rule.Symbol.{Symbol}
-use Rattle.hare_grammar.specs.Engine.{Group, Outcome, Done, Fails, run, bottom}
+use Rattle.hare_grammar.specs.Engine.{Group, Done, run, bottom}
 use Rattle.hare_parsing.specs.Faults.{strung}
 use Rattle.hare_parsing.proofs.Endings.{good}
-use Rattle.hare_parsing.proofs.Alike.{classes, Alike, alike}
 use Rattle.hare_parsing.proofs.Viable.{end}
 use Rattle.hare_parsing.proofs.Loose.{loose}
-use Rattle.hare_depth.specs.Gauge.{numbered, nodes_in, start}
+use Rattle.hare_depth.specs.Gauge.{numbered, nodes_in}
 use Rattle.hare_depth.proofs.Piles.{frames, pile_faults, Gains, Held}
 use Rattle.hare_depth.proofs.Gaining.{Ascends}
 use Rattle.hare_depth.proofs.Lines.{line_of}
-use Rattle.hare_depth.proofs.Halts.{stops_done}
 
 -- The tree passes limits at these tokens where what is made does, and at none behind them; behind them stands the token `z`.
 pub record Faulty {T : Type 0} (l : Language T) (u : List Token) (z : Token) (tree : T) (made : List Group) : Type 0 where
   pub faults : Gains (map (line_of (u ++ z ∷ [])) (l.deep_of tree)) (pile_faults [] made) []
   pub within : (k : ℕ) → IsOn k (l.deep_of tree) → k < length u
+
+-- another tree that passes limits at the same tokens
+pub faulty_alike : {T : Type 0} (l : Language T) (u : List Token) (z : Token) (t t' : T) (made : List Group) → l.deep_of t ≡ l.deep_of t' → Faulty l u z t made → Faulty l u z t' made
+faulty_alike l u z t t' made e f = record { faults = subst (λ ks. Gains (map (line_of (u ++ z ∷ [])) ks) (pile_faults [] made) []) e f.faults; within = λ k x. f.within k (subst (IsOn k) (sym e) x) }
 
 -- the tree that is read from these tokens, which are all of its own or all but those of the tail
 pub record Read {T : Type 0} (l : Language T) (u : List Token) (z : Token) (made : List Group) : Type 0 where

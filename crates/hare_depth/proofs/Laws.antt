@@ -7,7 +7,7 @@ use Rattle.hare_depth.specs.Depth.{GaugesTell, FileGaugesTell}
 use Rattle.hare_depth.proofs.Claims.{StepsGain, StepsEnd}
 use Rattle.hare_depth.proofs.Told.{told_faults}
 use Rattle.hare_depth.proofs.Least.{least_faults}
-use Rattle.hare_depth.proofs.Sorts.{reads_trees}
+use Rattle.hare_depth.proofs.TreesRead.{reads_trees}
 use Rattle.hare_depth.proofs.FilesRead.{reads_files}
 
 pub tell : StepsGain → StepsEnd → GaugesTell

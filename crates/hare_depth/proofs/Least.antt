@@ -1,5 +1,5 @@
 -- The least depth fault of a file's tokens is told by the gauge: what is not told is not passed in some tree that goes on.
-use Rattle.std.proofs.Common.{◌≡◌, ℕ, zero, suc, ◌+◌, ◌<◌, ◌≤◌, List, [], ◌∷◌, ◌++◌, ◌⊎◌, inl, inr, map, length, take, drop, refl, ap, sym, ◌∙◌, subst, arith}
+use Rattle.std.proofs.Common.{◌≡◌, ℕ, zero, suc, ◌+◌, ◌<◌, ◌≤◌, List, [], ◌∷◌, ◌++◌, ◌⊎◌, inl, inr, length, take, drop, refl, ap, sym, ◌∙◌, subst, arith}
 use Rattle.std.proofs.lemmas.Bool.{cases_lt}
 use Rattle.std.proofs.lemmas.List.{length-take-le, take-append-drop}
 use Rattle.hare_tree.specs.declared.token.Token.{Token}
@@ -7,8 +7,8 @@ use Rattle.hare_tree.specs.Grammar.{Language, IsOn, IsDepthFault, GoesOn, joined
 use Rattle.hare_grammar.specs.declared.rule.Symbol.{Symbol}
 use Rattle.hare_grammar.specs.Engine.{Group, bottom}
 use Rattle.hare_parsing.specs.Faults.{strung}
-use Rattle.hare_depth.specs.Gauge.{numbered, seen, seen_in, start, gauge}
-use Rattle.hare_depth.proofs.Piles.{frames, pile_faults}
+use Rattle.hare_depth.specs.Gauge.{numbered, seen, start, gauge}
+use Rattle.hare_depth.proofs.Piles.{pile_faults}
 use Rattle.hare_depth.proofs.Claims.{StepsGain, StepsEnd}
 use Rattle.hare_depth.proofs.Lists.{on_left, map_on}
 use Rattle.hare_depth.proofs.Reaches.{Reaches, gauge_reaches}

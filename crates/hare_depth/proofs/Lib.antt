@@ -24,7 +24,7 @@ pub mod Letter
 pub mod LetterFiles
 pub mod Placeless
 pub mod Inside
-pub mod Sorts
+pub mod TreesRead
 pub mod FilesRead
 pub mod Shallow
 pub mod Laws

@@ -1,5 +1,5 @@
 -- Runs that are done in front of a token: what they use, and what the gauge tells of it.
-use Rattle.std.proofs.Common.{◌≡◌, ℕ, suc, ◌<◌, List, [], ◌∷◌, ◌++◌, map, length, refl, ap, sym, ◌∙◌, subst, append_assoc, arith}
+use Rattle.std.proofs.Common.{◌≡◌, ℕ, ◌<◌, List, [], ◌∷◌, ◌++◌, length, refl, ap, sym, ◌∙◌, subst, arith}
 use Rattle.std.proofs.lemmas.List.{append-nil, length-append, length-map}
 use Rattle.hare_tree.specs.declared.token.Token.{Token}
 use Rattle.hare_tree.specs.Grammar.{IsOn}
@@ -7,7 +7,7 @@ use Rattle.hare_grammar.specs.declared.rule.Symbol.{Symbol}
 use Rattle.hare_grammar.specs.Classes.{class_of}
 use Rattle.hare_grammar.specs.Engine.{Group, Step, Goes, Ends, Stuck, step, Outcome, Done, Fails, after, run, bottom}
 use Rattle.hare_parsing.proofs.Alike.{classes, Alike, alike}
-use Rattle.hare_depth.specs.Gauge.{nodes_in, seen_in}
+use Rattle.hare_depth.specs.Gauge.{nodes_in}
 use Rattle.hare_depth.proofs.Piles.{frames, pile_faults, Gains, Held}
 use Rattle.hare_depth.proofs.Claims.{StepsGain, StepsEnd}
 use Rattle.hare_depth.proofs.Lists.{on_left, gains_after}
@@ -52,7 +52,6 @@ last_same (z ∷ a) (w ∷ b) x y e =
     let r : a ++ x ∷ [] ≡ b ++ y ∷ [] = cc in
     let i = last_same a b x y r in
     (rw (h, i.0) refl, i.1)
-
 
 empty : (w : List Token) → length w ≡ 0 → w ≡ []
 empty [] e = refl

@@ -1,25 +1,24 @@
 -- What is read while the gauge tells nothing keeps the limits.
-use Rattle.std.proofs.Common.{◌≡◌, ℕ, suc, ◌+◌, ◌<◌, ◌≤◌, List, [], ◌∷◌, ◌++◌, true, false, ◌⊎◌, inl, inr, map, length, take, refl, ap, sym, ◌∙◌, subst, append_assoc, arith}
+use Rattle.std.proofs.Common.{◌≡◌, ℕ, suc, ◌+◌, List, [], ◌∷◌, ◌++◌, true, false, ◌⊎◌, inl, inr, map, length, take, refl, ap, sym, ◌∙◌, subst, append_assoc, arith}
 use Rattle.std.proofs.Math.Seq.{take-append_seam}
 use Rattle.std.proofs.lemmas.List.{length-append, length-map, map-append}
 use Rattle.hare_tree.specs.declared.token.Token.{Token}
-use Rattle.hare_tree.specs.Node.{Node, nodes_of}
+use Rattle.hare_tree.specs.Node.{Node}
 use Rattle.hare_tree.specs.declared.form.Sort.{Sort}
 use Rattle.hare_tree.specs.declared.form.Sort.TheVariants as so
-use Rattle.hare_tree.specs.Spell.{start_of, spell, spells, spell_all}
-use Rattle.hare_tree.specs.Shape.{is_shaped}
+use Rattle.hare_tree.specs.Spell.{start_of, spell, spell_all}
+use Rattle.hare_tree.specs.Shape.{is_shaped, is_shaped_file}
 use Rattle.std.specs.List.{list_all}
 use Rattle.hare_parsing.specs.Viable.{has_trees}
 use Rattle.hare_tree.specs.Depth.{deep, deep_root, deep_all}
 use Rattle.hare_tree.specs.Grammar.{Language, IsOn, trees_of, files, unplaced}
 use Rattle.hare_grammar.specs.declared.rule.Symbol.{Symbol}
 use Rattle.hare_grammar.specs.Rows.{of}
-use Rattle.hare_grammar.specs.Classes.{class_of}
-use Rattle.hare_grammar.specs.Engine.{Group, add, begun, Step, Goes, Ends, Stuck, step, Outcome, Done, Fails, after, run, bottom}
+use Rattle.hare_grammar.specs.Engine.{Group, add, begun, Done, run, bottom}
 use Rattle.hare_grammar.specs.OneTree.{file_symbols}
 use Rattle.hare_grammar.proofs.OneTree.{sorts_have_one_tree}
 use Rattle.hare_parsing.specs.Faults.{strung}
-use Rattle.hare_parsing.proofs.Alike.{classes, Alike, alike}
+use Rattle.hare_parsing.proofs.Alike.{Alike, alike}
 use Rattle.hare_parsing.proofs.Viable.{done_there}
 use Rattle.hare_parsing.proofs.Breaks.{both, trees_sort}
 use Rattle.hare_parsing.proofs.Readings.{runs_read_trees, runs_read_files}
@@ -38,8 +37,8 @@ use Rattle.hare_depth.proofs.Lines.{ascends_apart}
 use Rattle.hare_depth.proofs.Languages.{Reads}
 use Rattle.hare_depth.proofs.Runs.{done_somewhere, first_token, whole}
 use Rattle.hare_depth.proofs.Least.{told_on}
-use Rattle.hare_depth.proofs.Sorts.{made_tree, reads_trees}
-use Rattle.hare_depth.proofs.FilesRead.{file_of, made_file, same_files, reads_files}
+use Rattle.hare_depth.proofs.TreesRead.{made_tree, reads_trees}
+use Rattle.hare_depth.proofs.FilesRead.{file_of, made_file, made_passes, reads_files}
 
 -- ---- the same run over numbered tokens
 
@@ -105,15 +104,17 @@ kids_made (g ∷ gs) = g.kids
 one_kid : (t u : Node) → t ∷ [] ≡ u ∷ [] → t ≡ u
 one_kid t u e = cc
 
+read_shallow : StepsGain → StepsEnd → (s : Sort) → has_trees s ≡ true → (ts used : List Token) → SameRun (of s ∷ []) ts used → (tree : Node) → is_shaped s tree ≡ true → spell 0 tree ≡ map unplaced used → (gauged s ts).faults ≡ [] → deep_root tree ≡ []
+read_shallow sg se s c ts used q tree h e n =
+    let m = made_tree s c q.front q.last q.top q.made q.ascends q.done in
+    sym (roots_pass_alike m.tree tree (sorts_have_one_tree 0 s (trees_sort s c) m.tree tree m.shaped h (m.spelled ∙ q.same ∙ sym e)))
+    ∙ no_faults _ (deep_root m.tree) (pile_faults [] q.made) m.faulty.faults (none_made sg se (trees_of s) (of s ∷ []) (reads_trees s c) ts used q n)
+
 tree_fits : StepsGain → StepsEnd → (s : Sort) → has_trees s ≡ true → (file : ℕ) (ts : List Token) (t : Token) (rest : List Token) (tree : Node) → run file (strung ts) (of s ∷ []) bottom ≡ Done (t ∷ rest) (add tree bottom) → (gauged s ts).faults ≡ [] → deep_root tree ≡ []
 tree_fits sg se s c file ts t rest tree d n =
-    let o = trees_sort s c in
     let r = runs_read_trees s file (strung ts) (t ∷ rest) (add tree bottom) d in
     let q = same_run file (of s ∷ []) ts r.used t rest (add tree bottom) d r.split in
-    let m = made_tree s c q.front q.last q.top q.made q.ascends q.done in
-    let e : deep_root m.tree ≡ deep_root r.tree = roots_pass_alike m.tree r.tree (sorts_have_one_tree 0 s o m.tree r.tree m.shaped r.shaped (m.spelled ∙ q.same ∙ sym r.spelled)) in
-    let i : tree ≡ r.tree = one_kid tree r.tree (ap kids_made r.is_made) in
-    ap deep_root i ∙ sym e ∙ no_faults _ (deep_root m.tree) (pile_faults [] q.made) m.faulty.faults (none_made sg se (trees_of s) (of s ∷ []) (reads_trees s c) ts r.used q n)
+    ap deep_root (one_kid tree r.tree (ap kids_made r.is_made)) ∙ read_shallow sg se s c ts r.used q r.tree r.shaped r.spelled n
 
 pub gauged_trees_fit : StepsGain → StepsEnd → GaugedTreesFit
 gauged_trees_fit sg se s c file ts [] tree d n = absurd (done_somewhere file (strung ts) (of s ∷ []) bottom (add tree bottom) d)
@@ -136,16 +137,18 @@ deep_together us vs us' vs' e =
     let b : 0 + length (spell_all 0 us') ≡ length (spell_all 0 us') = omega arith in
     ap (λ k. deep_all 0 us ++ deep_all k vs) (sym a) ∙ sym (deep_apart 0 us vs) ∙ ap (deep_all 0) e ∙ deep_apart 0 us' vs' ∙ ap (λ k. deep_all 0 us' ++ deep_all k vs') b
 
+read_file_shallow : StepsGain → StepsEnd → (ts used : List Token) → SameRun file_symbols ts used → (uses decls : List Node) → is_shaped_file (file_of 0 uses decls) ≡ true → spell_all 0 uses ++ spell_all 0 decls ≡ map unplaced used → (gauged_file ts).faults ≡ [] → deep_file uses decls ≡ []
+read_file_shallow sg se ts used q uses decls h e n =
+    let m = made_file q.front q.last q.top q.made q.ascends q.done in
+    sym (made_passes q.front q.last q.made m (file_of 0 uses decls) h (q.same ∙ sym e))
+    ∙ no_faults _ (deep_file m.uses m.decls) (pile_faults [] q.made) m.faulty.faults (none_made sg se files file_symbols reads_files ts used q n)
+
 file_fits : StepsGain → StepsEnd → (file : ℕ) (ts : List Token) (t : Token) (rest : List Token) (uses decls : List Node) → run file (strung ts) file_symbols bottom ≡ Done (t ∷ rest) (begun (start_of 0) (uses ++ decls) ∷ []) → (gauged_file ts).faults ≡ [] → files.deep_of (file_of file uses decls) ≡ []
 file_fits sg se file ts t rest uses decls d n =
     let r = runs_read_files file (strung ts) (t ∷ rest) (begun (start_of 0) (uses ++ decls) ∷ []) d in
     let q = same_run file file_symbols ts r.used t rest _ d r.split in
-    let m = made_file q.front q.last q.top q.made q.ascends q.done in
     let h = both (list_all (is_shaped so.Use) r.uses) (list_all (is_shaped so.Decl) r.decls) r.uses_shaped r.decls_shaped in
-    let e : deep_file m.uses m.decls ≡ deep_file r.uses r.decls = same_files m.uses m.decls r.uses r.decls m.shaped h (m.spelled ∙ q.same ∙ sym r.spelled) in
-    let i : uses ++ decls ≡ r.uses ++ r.decls = ap kids_made r.is_made in
-    file_limits (file_of file uses decls) ∙ deep_together uses decls r.uses r.decls i ∙ sym e
-    ∙ no_faults _ (deep_file m.uses m.decls) (pile_faults [] q.made) m.faulty.faults (none_made sg se files file_symbols reads_files ts r.used q n)
+    file_limits (file_of file uses decls) ∙ deep_together uses decls r.uses r.decls (ap kids_made r.is_made) ∙ read_file_shallow sg se ts r.used q r.uses r.decls h r.spelled n
 
 pub gauged_files_fit : StepsGain → StepsEnd → GaugedFilesFit
 gauged_files_fit sg se file ts [] uses decls d n = absurd (done_somewhere file (strung ts) file_symbols bottom _ d)

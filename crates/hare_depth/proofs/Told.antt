@@ -1,41 +1,39 @@
 -- Each token that the gauge tells is one at which a limit is passed in every tree that goes on with what is read.
-use Rattle.std.proofs.Common.{◌≡◌, ℕ, suc, ◌+◌, ◌<◌, ◌≤◌, List, [], ◌∷◌, ◌++◌, true, false, ◌⊎◌, inl, inr, map, length, take, drop, refl, ap, sym, ◌∙◌, subst, append_assoc, arith}
-use Rattle.std.proofs.Math.Seq.{take-length, take-append_seam}
+use Rattle.std.proofs.Common.{◌≡◌, ℕ, suc, ◌+◌, ◌<◌, ◌≤◌, List, [], ◌∷◌, ◌++◌, true, ◌⊎◌, inl, inr, map, length, take, drop, ap, sym, ◌∙◌, subst, append_assoc, arith}
+use Rattle.std.proofs.Math.Seq.{take-length}
 use Rattle.std.proofs.lemmas.Bool.{cases_lt}
 use Rattle.std.proofs.lemmas.List.{append-nil, length-append, length-take-le, map-append, take-append-drop, take-append-le}
 use Rattle.hare_tree.specs.declared.token.Token.{Token}
 use Rattle.hare_tree.specs.Grammar.{Language, IsOn, IsDepthFault, GoesOn, Spells, joined, unplaced}
 use Rattle.hare_grammar.specs.declared.rule.Symbol.{Symbol}
-use Rattle.hare_grammar.specs.Engine.{Group, Done, Fails, run, bottom}
+use Rattle.hare_grammar.specs.Engine.{Group, bottom}
 use Rattle.hare_parsing.specs.Faults.{strung}
-use Rattle.hare_parsing.proofs.Loose.{loose}
 use Rattle.hare_parsing.proofs.Faults.{goes_back}
-use Rattle.hare_depth.specs.Gauge.{numbered, seen, seen_in, start, gauge}
-use Rattle.hare_depth.proofs.Piles.{frames, pile_faults, Gains}
+use Rattle.hare_depth.specs.Gauge.{numbered, seen, start, gauge}
+use Rattle.hare_depth.proofs.Piles.{pile_faults}
 use Rattle.hare_depth.proofs.Claims.{StepsGain, StepsEnd}
-use Rattle.hare_depth.proofs.Lists.{on_map, map_on, gains_back}
-use Rattle.hare_depth.proofs.Reaches.{Reaches, parts, reaches_once, run_reaches}
+use Rattle.hare_depth.proofs.Lists.{on_map, gains_back}
+use Rattle.hare_depth.proofs.Reaches.{Reaches}
 use Rattle.hare_depth.proofs.Halts.{halting, halting_faults}
 use Rattle.hare_depth.proofs.Gaining.{Ascends}
-use Rattle.hare_depth.proofs.Likewise.{reaches_likewise}
 use Rattle.hare_depth.proofs.Numbers.{unplaced_both, ascends_to, strung_ascends, is_numbered}
 use Rattle.hare_depth.proofs.Fronts.{IsFront, front_numbered, front_joined}
-use Rattle.hare_depth.proofs.Lines.{line_of, line_once, line_before, line_behind, around_at, front_line, front_append, front_short, front_long, front}
-use Rattle.hare_depth.proofs.Languages.{Faulty, Reread, Reads}
+use Rattle.hare_depth.proofs.Lines.{line_of, line_once, line_before, line_behind, around_at, front_line, front_append, front_short, front}
+use Rattle.hare_depth.proofs.Languages.{Reread, Reads}
 use Rattle.hare_depth.proofs.Runs.{Whole, whole, not_all_used, told_in_front}
 use Rattle.hare_depth.proofs.Closings.{Closed, closed}
 
 -- ---- fronts of the file
 
 -- these joined tokens are those of a front of the file
-pub record Front (ts u : List Token) : Type 0 where
+pub record FrontAt (ts u : List Token) : Type 0 where
   pub read : ℕ
   pub within : read ≤ length ts
   pub is : u ≡ strung (numbered 1 (take read ts))
 
-pub front_of : (ts u v : List Token) → strung (numbered 1 ts) ≡ u ++ v → Front ts u
-front_of ts u [] e = record { read = length ts; within = omega arith; is = sym (append-nil u) ∙ sym e ∙ ap (λ l. strung (numbered 1 l)) (sym (take-length ts)) }
-front_of ts u (y ∷ v) e = let n = is_numbered ts u y v e in record { read = n.at; within = omega (arith, n.within); is = n.front }
+pub front_at : (ts u v : List Token) → strung (numbered 1 ts) ≡ u ++ v → FrontAt ts u
+front_at ts u [] e = record { read = length ts; within = omega arith; is = sym (append-nil u) ∙ sym e ∙ ap (λ l. strung (numbered 1 l)) (sym (take-length ts)) }
+front_at ts u (y ∷ v) e = let n = is_numbered ts u y v e in record { read = n.at; within = omega (arith, n.within); is = n.front }
 
 -- a tree whose tokens go on with these joined ones goes on with the front
 pub goes_on_with : {T : Type 0} (l : Language T) (st : List Symbol) → Reads l st → (front u behind : List Token) (tree : T) → l.is_of tree ≡ true → u ≡ strung (numbered 1 front) → map unplaced (l.tokens_of tree) ≡ map unplaced (u ++ behind) → GoesOn l front tree
@@ -117,7 +115,7 @@ told_first l q u told high n e c d i = by (on_map (line_of (u ++ c.after)) (suc 
         test (inr x) = let y = line_behind u c.after high c.top m.0 c.ascends x (c.within m.0 m.1) in absurd (omega (arith, y, m.2, d))
 
 -- all that is told behind tokens that are used
-told_there : {T : Type 0} → StepsGain → StepsEnd → (l : Language T) (st : List Symbol) → Reads l st → (ts u : List Token) (next : List Symbol) (trees : List Group) (told : List ℕ) (n : ℕ) → Reaches 0 u st bottom next trees told → IsOn (suc n) told → Front ts u → IsDepthFault l ts n
+told_there : {T : Type 0} → StepsGain → StepsEnd → (l : Language T) (st : List Symbol) → Reads l st → (ts u : List Token) (next : List Symbol) (trees : List Group) (told : List ℕ) (n : ℕ) → Reaches 0 u st bottom next trees told → IsOn (suc n) told → FrontAt ts u → IsDepthFault l ts n
 told_there sg se l st s ts u next trees told n r i f =
     let q = take f.read ts in
     let size : length q ≡ f.read = length-take-le f.read ts f.within in
@@ -145,4 +143,4 @@ told_there sg se l st s ts u next trees told n r i f =
 pub told_faults : {T : Type 0} → StepsGain → StepsEnd → (l : Language T) (st : List Symbol) → Reads l st → (ts : List Token) (n : ℕ) → IsOn (suc n) (gauge (seen ts) st start).faults → IsDepthFault l ts n
 told_faults sg se l st s ts n i =
     let h = halting 0 (strung (numbered 1 ts)) st bottom in
-    told_there sg se l st s ts h.used h.next h.trees h.told n h.reaches (subst (IsOn (suc n)) (halting_faults 0 (strung (numbered 1 ts)) st bottom h) i) (front_of ts h.used h.rest h.split)
+    told_there sg se l st s ts h.used h.next h.trees h.told n h.reaches (subst (IsOn (suc n)) (halting_faults 0 (strung (numbered 1 ts)) st bottom h) i) (front_at ts h.used h.rest h.split)

@@ -1,19 +1,15 @@
 -- The trees of a sort are read by the grammar's machine, and pass the limits where what it makes does.
-use Rattle.std.proofs.Common.{◌≡◌, ℕ, suc, ◌+◌, ◌<◌, ◌≤◌, List, [], ◌∷◌, ◌++◌, Bool, true, false, ◌&&◌, map, length, refl, ap, sym, ◌∙◌, subst, arith, if◌then◌else◌}
-use Rattle.std.specs.Prelude.{nat_le}
+use Rattle.std.proofs.Common.{◌≡◌, ℕ, ◌+◌, ◌<◌, ◌≤◌, List, [], ◌∷◌, ◌++◌, Bool, true, false, map, length, refl, ap, sym, ◌∙◌, subst, arith}
 use Rattle.std.proofs.lemmas.List.{append-nil, length-append, length-map, append_cancel_right, map-append}
 use Rattle.hare_tree.specs.declared.token.Token.{Token}
 use Rattle.hare_tree.specs.declared.form.Sort.{Sort}
-use Rattle.hare_tree.specs.Node.{Head, Node, Nodes, branch, head}
+use Rattle.hare_tree.specs.Node.{Node, branch, head}
 use Rattle.hare_tree.specs.Spell.{sign_token, spell}
 use Rattle.hare_tree.specs.Shape.{is_shaped}
 use Rattle.hare_tree.specs.Depth.{is_node, deep_root}
-use Rattle.hare_tree.specs.Grammar.{IsOn, Spells, trees_of, unplaced, joined}
-use Rattle.hare_grammar.specs.declared.rule.Symbol.{Symbol}
+use Rattle.hare_tree.specs.Grammar.{Spells, trees_of, unplaced}
 use Rattle.hare_grammar.specs.Rows.{of}
 use Rattle.hare_grammar.specs.Engine.{Group, add, Done, run, bottom}
-use Rattle.hare_grammar.specs.OneTree.{plain}
-use Rattle.hare_grammar.proofs.Edges.{lt_false}
 use Rattle.hare_grammar.proofs.Kids.{closer}
 use Rattle.hare_grammar.proofs.OneTree.{read_whole, sorts_have_one_tree}
 use Rattle.hare_parsing.specs.Viable.{has_trees}
@@ -24,9 +20,8 @@ use Rattle.hare_parsing.proofs.Readings.{runs_read_trees}
 use Rattle.hare_parsing.proofs.Moved.{spell_moved}
 use Rattle.hare_parsing.proofs.Faults.{tree_loose}
 use Rattle.hare_parsing.proofs.FileFaults.{trees_join}
-use Rattle.hare_depth.specs.Marks.{Mark, lies_before}
-use Rattle.hare_depth.specs.Gauge.{numbered, nodes_in, start}
-use Rattle.hare_depth.proofs.Piles.{mark, marks, frames, left_faults, faults_of, pile_faults, Gains, Held, is_ordered, all_below, follows}
+use Rattle.hare_depth.specs.Gauge.{numbered, nodes_in}
+use Rattle.hare_depth.proofs.Piles.{mark, faults_of, pile_faults, Gains}
 use Rattle.hare_depth.proofs.AtStart.{sort_at_start, none_at_start, plain_alone, tree_alone}
 use Rattle.hare_depth.proofs.FormKids.{shaped_has_form, node_some}
 use Rattle.hare_depth.proofs.Letter.{faults_agree, agrees}
@@ -36,7 +31,7 @@ use Rattle.hare_depth.proofs.Gaining.{Ascends}
 use Rattle.hare_depth.proofs.Numbers.{with_number, unplaced_both, plain_classes, ascends_append, strung_ascends}
 use Rattle.hare_depth.proofs.Lines.{line_of, rises}
 use Rattle.hare_depth.proofs.Runs.{done_like}
-use Rattle.hare_depth.proofs.Languages.{Faulty, Read, Reread, Reads}
+use Rattle.hare_depth.proofs.Languages.{faulty_alike, Faulty, Read, Reread, Reads}
 
 -- ---- the pile of one tree
 
@@ -118,10 +113,7 @@ reread_tree s c ts t h e =
       ascends = a;
       made = d.0;
       done = d.1;
-      faulty = record {
-        faults = subst (λ l. Gains (map (line_of (u ++ z ∷ [])) l) (pile_faults [] d.0) []) p m.faulty.faults;
-        within = λ k x. m.faulty.within k (subst (IsOn k) (sym p) x);
-      };
+      faulty = faulty_alike (trees_of s) u z m.tree t d.0 p m.faulty;
     }
 
 sort_none : (s : Sort) → pile_faults (nodes_in (of s ∷ [])) bottom ≡ []
