@@ -21,3 +21,4 @@ pub mod Tame
 pub mod Ready
 pub mod Follow
 pub mod Stepped
+pub mod HandedSteps
