@@ -22,3 +22,4 @@ pub mod Ready
 pub mod Follow
 pub mod Stepped
 pub mod HandedSteps
+pub mod ClimbSteps

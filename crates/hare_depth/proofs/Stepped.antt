@@ -62,6 +62,10 @@ grown_stepped n c st st' gs gs' g s f r =
     new x (inl i) = inl i
     new x (inr i) = inr i.0
 
+-- The same where more than the token is gained, by a row that is not calm.
+pub told_stepped : (n : ℕ) (c : Class) (st st' : List Symbol) (gs gs' : List Group) → Gains (pile_faults (nodes_in st) gs) (pile_faults (nodes_in st') gs') (found (nodes_in st') (frames gs')) → Stands n (suc n) (nodes_in st') (frames gs') → follows st' ≡ true → ready st' (frames gs') ≡ true → (calm_step c st ≡ true → ⊥) → Stepped n c st gs st' gs'
+told_stepped n c st st' gs gs' g s f r e = record { held = record { fitting = s.fitting; ordered = s.ordered; below = s.below; following = f; readied = r }; gains = g; calm = λ i x j. absurd (e i) }
+
 -- what the changes of a checked row leave
 pub record Used (n : ℕ) (cs : List Change) (bs os : List Bool) (gs hs : List Group) : Type 0 where
   pub made : Made n bs os gs hs
