@@ -23,3 +23,5 @@ pub mod Follow
 pub mod Stepped
 pub mod HandedSteps
 pub mod ClimbSteps
+pub mod Lifted
+pub mod CommaSteps
