@@ -1,8 +1,6 @@
 -- Steps behind a comma: the tree that was begun there, in case the comma is the last, is let go or closed.
 use Rattle.std.proofs.Common.{◌≡◌, ℕ, suc, List, [], ◌∷◌, ◌++◌, Bool, true, false, ◌&&◌, ◌==◌, map, refl, ap, sym, ◌∙◌, subst, arith}
 use Rattle.std.specs.List.{list_all}
-use Rattle.std.proofs.lemmas.List.{map-append}
-use Rattle.std.proofs.lemmas.List.Folds.{list_all-append}
 use Rattle.hare_tree.specs.Node.{Node, branch, nodes_of}
 use Rattle.hare_tree.specs.declared.kind.Kind.TheVariants as ki
 use Rattle.hare_tree.specs.declared.form.Sort.{Sort}
@@ -29,7 +27,7 @@ use Rattle.hare_depth.proofs.SlotForms.{uses_before}
 use Rattle.hare_depth.proofs.SlotSorts.{level_ok, of_ok}
 use Rattle.hare_depth.proofs.Stands.{Stands, stands_next, close_stands}
 use Rattle.hare_depth.proofs.Tame.{closes}
-use Rattle.hare_depth.proofs.Lifted.{empty_idle, drop_stands, lift_stands}
+use Rattle.hare_depth.proofs.Lifted.{empty_idle, idle_put, drop_stands, lift_stands}
 use Rattle.hare_depth.proofs.Follow.{ready_next, follows_tail}
 use Rattle.hare_depth.proofs.Stepped.{uses_same, skips_same, held_stands, over_skipped, used_stepped, Skipped}
 
@@ -108,7 +106,7 @@ last_comma n st (g ∷ h ∷ k ∷ ks) e =
     let comma = branch (head_in ki.TrailingComma g) (nodes_of g.kids) in
     let both = with_kids h (h.kids ++ comma ∷ []) in
     let r = split (is_empty (map mark g.kids)) (idle (map mark h.kids)) e.readied in
-    let i : idle (map mark both.kids) ≡ true = ap idle (map-append mark h.kids (comma ∷ [])) ∙ list_all-append (λ m. m.height == 0) (map mark h.kids) (mark comma ∷ []) ∙ (rw (r.1, bare g.kids r.0) refl) in
+    let i : idle (map mark both.kids) ≡ true = idle_put h.kids comma r.1 (bare g.kids r.0) in
     let z = held_stands n (s ∷ st) old e in
     let y : Stands n n (false ∷ bs) (frames (both ∷ k ∷ ks)) = rw (frames_close ki.TrailingComma old) (close_stands n n ki.TrailingComma (false ∷ bs) (frames old) z) in
     let x = lift_stands n n bs both k ks i y in

@@ -25,3 +25,4 @@ pub mod HandedSteps
 pub mod ClimbSteps
 pub mod Lifted
 pub mod CommaSteps
+pub mod PathSteps

@@ -29,7 +29,7 @@ abbrev pub operand_on_top : List Frame → Bool
 operand_on_top [] = true
 operand_on_top (f ∷ fs) = ends_in_operand f.at f.kids
 
-put_operand : (m : Mark) (f : Frame) (fs : List Frame) → m.node ≡ true → is_behind f.at f.kids m ≡ true → operand_on_top (put m (f ∷ fs)) ≡ true
+pub put_operand : (m : Mark) (f : Frame) (fs : List Frame) → m.node ≡ true → is_behind f.at f.kids m ≡ true → operand_on_top (put m (f ∷ fs)) ≡ true
 put_operand m f fs a b = operand_last f.at f.kids m ∙ both m.node (is_behind f.at f.kids m) a b
 
 leaf_operand : (n : ℕ) (k : Kind) (fs : List Frame) → is_node k ≡ true → at_most n fs ≡ true → operand_on_top (put (leaf_mark k n) fs) ≡ true
