@@ -26,3 +26,5 @@ pub mod ClimbSteps
 pub mod Lifted
 pub mod CommaSteps
 pub mod PathSteps
+pub mod LateSteps
+pub mod StepGains
