@@ -48,3 +48,10 @@ pub mod Ready
 pub mod Follow
 pub mod Stepped
 pub mod Runs
+pub mod HandedSteps
+pub mod ClimbSteps
+pub mod Lifted
+pub mod CommaSteps
+pub mod PathSteps
+pub mod LateSteps
+pub mod StepGains

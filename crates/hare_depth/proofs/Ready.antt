@@ -29,7 +29,7 @@ abbrev pub operand_on_top : List Frame → Bool
 operand_on_top [] = true
 operand_on_top (f ∷ fs) = ends_in_operand f.at f.kids
 
-put_operand : (m : Mark) (f : Frame) (fs : List Frame) → m.node ≡ true → is_behind f.at f.kids m ≡ true → operand_on_top (put m (f ∷ fs)) ≡ true
+pub put_operand : (m : Mark) (f : Frame) (fs : List Frame) → m.node ≡ true → is_behind f.at f.kids m ≡ true → operand_on_top (put m (f ∷ fs)) ≡ true
 put_operand m f fs a b = operand_last f.at f.kids m ∙ both m.node (is_behind f.at f.kids m) a b
 
 leaf_operand : (n : ℕ) (k : Kind) (fs : List Frame) → is_node k ≡ true → at_most n fs ≡ true → operand_on_top (put (leaf_mark k n) fs) ≡ true
@@ -167,3 +167,16 @@ prepared_ready cs s (d ∷ rs) st fs e h = by (hands_on s) refl e
     by : (b : Bool) → hands_on s ≡ b → (if b then made_for cs d else made_for cs s) ≡ true → ready (s ∷ d ∷ (rs ++ st)) fs ≡ true
     by true q i = ready_second s d (rs ++ st) fs q ∙ h d i
     by false q i = ready_first s (d ∷ (rs ++ st)) fs q ∙ h s i
+
+-- where nothing is made, the symbols need nothing
+nothing_made : (d : Symbol) (fs : List Frame) → made_for [] d ≡ true → ready_frames d fs ≡ true
+nothing_made (sy.Part (ru.Climb l h)) fs e = cc
+nothing_made (sy.Part ru.PathOrStruct) fs e = cc
+nothing_made (sy.Part (ru.BehindComma r)) fs e = cc
+nothing_made (sy.Part ru.BehindElementComma) fs e = cc
+nothing_made (sy.Part ru.AfterForName) fs e = cc
+nothing_made (sy.Part ru.AfterUseName) fs e = cc
+nothing_made _ fs e = refl
+
+pub needless_ready : (s : Symbol) (rs st : List Symbol) (fs : List Frame) → prepared [] (s ∷ rs) ≡ true → ready (s ∷ (rs ++ st)) fs ≡ true
+needless_ready s rs st fs e = prepared_ready [] s rs st fs e (λ d i. nothing_made d fs i)

@@ -31,6 +31,15 @@ use Rattle.hare_depth.proofs.Tame.{Grows, grows_behind, moved, closes, Made, tam
 use Rattle.hare_depth.proofs.Ready.{operand_on_top, close_operand, operand_made, made_ready, prepared_ready}
 use Rattle.hare_depth.proofs.Follow.{ready_next, follows_tail, follows_next}
 
+pub uses_same : (cs ds : List Change) (ss rs : List Symbol) → Uses ds rs ≡ Uses cs ss → (cs ≡ ds) × (ss ≡ rs)
+uses_same cs ds ss rs e =
+    let a : cs ≡ ds = cc in
+    let b : ss ≡ rs = cc in
+    (a, b)
+
+pub skips_same : (cs ds : List Change) → Skips ds ≡ Skips cs → cs ≡ ds
+skips_same cs ds e = cc
+
 pub held_stands : (n : ℕ) (st : List Symbol) (gs : List Group) → Held n st (frames gs) → Stands n n (nodes_in st) (frames gs)
 held_stands n st gs h = record { fitting = h.fitting; ordered = h.ordered; below = h.below; placed = below_placed n (frames gs) h.below }
 
@@ -52,6 +61,10 @@ grown_stepped n c st st' gs gs' g s f r =
     new : (x : ℕ) → IsOn x (pile_faults (nodes_in st) gs) ⊎ ((x ≡ n) × IsOn x (found (nodes_in st') (frames gs'))) → IsOn x (pile_faults (nodes_in st) gs) ⊎ (x ≡ n)
     new x (inl i) = inl i
     new x (inr i) = inr i.0
+
+-- The same where more than the token is gained, by a row that is not calm.
+pub told_stepped : (n : ℕ) (c : Class) (st st' : List Symbol) (gs gs' : List Group) → Gains (pile_faults (nodes_in st) gs) (pile_faults (nodes_in st') gs') (found (nodes_in st') (frames gs')) → Stands n (suc n) (nodes_in st') (frames gs') → follows st' ≡ true → ready st' (frames gs') ≡ true → (calm_step c st ≡ true → ⊥) → Stepped n c st gs st' gs'
+told_stepped n c st st' gs gs' g s f r e = record { held = record { fitting = s.fitting; ordered = s.ordered; below = s.below; following = f; readied = r }; gains = g; calm = λ i x j. absurd (e i) }
 
 -- what the changes of a checked row leave
 pub record Used (n : ℕ) (cs : List Change) (bs os : List Bool) (gs hs : List Group) : Type 0 where
@@ -134,7 +147,7 @@ over_skipped f t s cs st gs p o u ends h =
     let operand : ends_operand s ≡ true → operand_on_top (frames (all_changed f t cs gs)) ≡ true = λ j. ap operand_on_top (frames_all_changed f t cs gs) ∙ operand_made n bs cs (frames gs) (over_tame cs bs o) (ends j) (stands_next n (all_undone cs bs) (frames gs) z) in
     record {
       held = record { fitting = l.stands.fitting; ordered = l.stands.ordered; below = l.stands.below; following = follows_tail s st h.following; readied = ready_next s st (frames (all_changed f t cs gs)) p h.following operand };
-      gains = l.gains
+      gains = l.gains;
     }
 
 pub rule_skipped : (f : ℕ) (t : Token) (c : Class) (r : Rule) (cs : List Change) (st : List Symbol) (gs : List Group) → is_plain (sy.Part r) ≡ true → row r c ≡ Skips cs → Held t.place.line (sy.Part r ∷ st) (frames gs) → Skipped t.place.line (sy.Part r ∷ st) gs st (all_changed f t cs gs)

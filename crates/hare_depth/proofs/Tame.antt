@@ -131,7 +131,7 @@ loud_grows f t _ bs gs q s = cc
 
 -- ---- all changes of a row
 
-still_same : (f : ℕ) (t : Token) (cs : List Change) (bs : List Bool) (gs : List Group) → list_all is_still cs ≡ true → (pile_faults bs (all_changed f t cs gs) ≡ pile_faults bs gs) × (frames (all_changed f t cs gs) ≡ frames gs)
+pub still_same : (f : ℕ) (t : Token) (cs : List Change) (bs : List Bool) (gs : List Group) → list_all is_still cs ≡ true → (pile_faults bs (all_changed f t cs gs) ≡ pile_faults bs gs) × (frames (all_changed f t cs gs) ≡ frames gs)
 still_same f t [] bs gs e = (refl, refl)
 still_same f t (ch.Take ∷ cs) bs gs e = let r = still_same f t cs bs (changed f t ch.Take gs) e in (r.0 ∙ take_same t bs gs, r.1 ∙ frames_changed f t ch.Take gs)
 still_same f t (ch.Join ∷ cs) bs gs e = let r = still_same f t cs bs (changed f t ch.Join gs) e in (r.0 ∙ join_same t bs gs, r.1 ∙ frames_changed f t ch.Join gs)
