@@ -1,6 +1,6 @@
 -- What the proof of the gauge's law asks of a language: its trees are read by the grammar's machine from one stack on, and the tree that is read has
 -- the faults of what the machine makes.
-use Rattle.std.proofs.Common.{subst, sym, ◌≡◌, ℕ, ◌<◌, List, [], ◌∷◌, ◌++◌, true, false, map, length}
+use Rattle.std.proofs.Common.{◌≡◌, ℕ, ◌<◌, List, [], ◌∷◌, ◌++◌, true, false, map, length, sym, subst}
 use Rattle.hare_tree.specs.declared.token.Token.{Token}
 use Rattle.hare_tree.specs.Grammar.{Language, IsOn, Spells, unplaced}
 use Rattle.hare_grammar.specs.declared.class.Class.TheVariants as cl
@@ -32,7 +32,8 @@ pub record Read {T : Type 0} (l : Language T) (u : List Token) (z : Token) (made
   pub spelled : map unplaced (l.tokens_of tree) ≡ map unplaced (u ++ tail)
   pub faulty : Faulty l u z tree made
 
--- the tree is read again from its tokens in a file, by their numbers
+-- The tree is read again from its tokens in a file, by their numbers. The run is done in front of a token, which is the last of the tree's, as the
+-- End of a file is, or stands behind them.
 pub record Reread {T : Type 0} (l : Language T) (st : List Symbol) (ts : List Token) (tree : T) : Type 0 where
   pub used : List Token
   pub last : Token
@@ -44,7 +45,8 @@ pub record Reread {T : Type 0} (l : Language T) (st : List Symbol) (ts : List To
   pub done : run 0 (used ++ last ∷ []) st bottom ≡ Done (last ∷ []) made
   pub faulty : Faulty l used last tree made
 
--- the machine reads the trees of the language from these symbols on
+-- The machine reads the trees of the language from these symbols on. Nothing is under way there and no limit passed; and in the tokens of a tree no
+-- strings stand side by side.
 pub record Reads {T : Type 0} (l : Language T) (st : List Symbol) : Type 0 where
   pub held : Held 1 st (frames bottom)
   pub none : pile_faults (nodes_in st) bottom ≡ []

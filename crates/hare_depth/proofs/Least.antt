@@ -19,7 +19,7 @@ use Rattle.hare_depth.proofs.Lines.{line_of, line_within, line_before, front_lin
 use Rattle.hare_depth.proofs.Languages.{Reread, Reads}
 use Rattle.hare_depth.proofs.Runs.{Whole, whole, Through, through}
 use Rattle.hare_depth.proofs.Closings.{Closed, closed}
-use Rattle.hare_depth.proofs.Told.{goes_on_with, counted_alike, take_twice, front_short_of}
+use Rattle.hare_depth.proofs.GoesOn.{goes_on_with, counted_alike, take_twice, front_of_reread}
 
 -- what is told behind a front of the file is told
 pub told_on : (st next : List Symbol) (u ts : List Token) (trees : List Group) (told : List ℕ) (x : ℕ) → Reaches 0 u st bottom next trees told → IsFront u (strung (numbered 1 ts)) → IsOn x told → IsOn x (gauge (seen ts) st start).faults
@@ -88,7 +88,7 @@ least_faults sg se l st s ts n d =
     let a = last_of q n d.at (omega (arith, d.holds, size)) (counted_alike l st s (suc n) q tree g ∙ ap (λ x. length (joined x)) t ∙ d.is_at) in
     let r = s.rereads (q ++ g.behind) tree g.shaped g.spelled in
     let f : IsFront u (strung (numbered 1 ts)) = subst (λ x. IsFront u (strung (numbered 1 x))) (take-append-drop d.read ts) (front_numbered q (drop d.read ts)) in
-    by a r f (front_short_of l st u (q ++ g.behind) tree r (front_numbered q g.behind)) (cases_lt (length r.used) (length u))
+    by a r f (front_of_reread l st u (q ++ g.behind) tree r (front_numbered q g.behind)) (cases_lt (length r.used) (length u))
   where
     number : (q : List Token) → LastOf q n d.at → (x : ℕ) → x ≡ line_of (strung (numbered 1 q)) d.at → IsOn (line_of (strung (numbered 1 q)) d.at) (gauge (seen ts) st start).faults → (m : ℕ) × (m ≤ n) × IsOn (suc m) (gauge (seen ts) st start).faults
     number q a zero e i = let y = a.positive in absurd (omega (arith, e, y))

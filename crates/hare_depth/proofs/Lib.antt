@@ -27,7 +27,7 @@ pub mod Inside
 pub mod TreesRead
 pub mod FilesRead
 pub mod Shallow
-pub mod Laws
+pub mod Gauges
 pub mod Grown
 pub mod Changes
 pub mod Below
@@ -55,3 +55,4 @@ pub mod CommaSteps
 pub mod PathSteps
 pub mod LateSteps
 pub mod StepGains
+pub mod GoesOn

@@ -116,9 +116,9 @@ tree_fits sg se s c file ts t rest tree d n =
     let q = same_run file (of s ∷ []) ts r.used t rest (add tree bottom) d r.split in
     ap deep_root (one_kid tree r.tree (ap kids_made r.is_made)) ∙ read_shallow sg se s c ts r.used q r.tree r.shaped r.spelled n
 
-pub gauged_trees_fit : StepsGain → StepsEnd → GaugedTreesFit
-gauged_trees_fit sg se s c file ts [] tree d n = absurd (done_somewhere file (strung ts) (of s ∷ []) bottom (add tree bottom) d)
-gauged_trees_fit sg se s c file ts (t ∷ rest) tree d n = tree_fits sg se s c file ts t rest tree d n
+pub trees_fit : StepsGain → StepsEnd → GaugedTreesFit
+trees_fit sg se s c file ts [] tree d n = absurd (done_somewhere file (strung ts) (of s ∷ []) bottom (add tree bottom) d)
+trees_fit sg se s c file ts (t ∷ rest) tree d n = tree_fits sg se s c file ts t rest tree d n
 
 -- ---- files
 
@@ -150,6 +150,6 @@ file_fits sg se file ts t rest uses decls d n =
     let h = both (list_all (is_shaped so.Use) r.uses) (list_all (is_shaped so.Decl) r.decls) r.uses_shaped r.decls_shaped in
     file_limits (file_of file uses decls) ∙ deep_together uses decls r.uses r.decls (ap kids_made r.is_made) ∙ read_file_shallow sg se ts r.used q r.uses r.decls h r.spelled n
 
-pub gauged_files_fit : StepsGain → StepsEnd → GaugedFilesFit
-gauged_files_fit sg se file ts [] uses decls d n = absurd (done_somewhere file (strung ts) file_symbols bottom _ d)
-gauged_files_fit sg se file ts (t ∷ rest) uses decls d n = file_fits sg se file ts t rest uses decls d n
+pub files_fit : StepsGain → StepsEnd → GaugedFilesFit
+files_fit sg se file ts [] uses decls d n = absurd (done_somewhere file (strung ts) file_symbols bottom _ d)
+files_fit sg se file ts (t ∷ rest) uses decls d n = file_fits sg se file ts t rest uses decls d n

@@ -1,14 +1,12 @@
 -- Each token that the gauge tells is one at which a limit is passed in every tree that goes on with what is read.
-use Rattle.std.proofs.Common.{◌≡◌, ℕ, suc, ◌+◌, ◌<◌, ◌≤◌, List, [], ◌∷◌, ◌++◌, true, ◌⊎◌, inl, inr, map, length, take, drop, ap, sym, ◌∙◌, subst, append_assoc, arith}
-use Rattle.std.proofs.Math.Seq.{take-length}
+use Rattle.std.proofs.Common.{◌≡◌, ℕ, suc, ◌+◌, ◌<◌, ◌≤◌, List, [], ◌∷◌, ◌++◌, ◌⊎◌, inl, inr, length, take, ap, sym, ◌∙◌, subst, arith}
 use Rattle.std.proofs.lemmas.Bool.{cases_lt}
-use Rattle.std.proofs.lemmas.List.{append-nil, length-append, length-take-le, map-append, take-append-drop, take-append-le}
+use Rattle.std.proofs.lemmas.List.{length-append, length-take-le}
 use Rattle.hare_tree.specs.declared.token.Token.{Token}
-use Rattle.hare_tree.specs.Grammar.{Language, IsOn, IsDepthFault, GoesOn, Spells, joined, unplaced}
+use Rattle.hare_tree.specs.Grammar.{Language, IsOn, IsDepthFault, GoesOn, joined}
 use Rattle.hare_grammar.specs.declared.rule.Symbol.{Symbol}
 use Rattle.hare_grammar.specs.Engine.{Group, bottom}
 use Rattle.hare_parsing.specs.Faults.{strung}
-use Rattle.hare_parsing.proofs.Faults.{goes_back}
 use Rattle.hare_depth.specs.Gauge.{numbered, seen, start, gauge}
 use Rattle.hare_depth.proofs.Piles.{pile_faults}
 use Rattle.hare_depth.proofs.Claims.{StepsGain, StepsEnd}
@@ -16,46 +14,15 @@ use Rattle.hare_depth.proofs.Lists.{on_map, gains_back}
 use Rattle.hare_depth.proofs.Reaches.{Reaches}
 use Rattle.hare_depth.proofs.Halts.{halting, halting_faults}
 use Rattle.hare_depth.proofs.Gaining.{Ascends}
-use Rattle.hare_depth.proofs.Numbers.{unplaced_both, ascends_to, strung_ascends, is_numbered}
-use Rattle.hare_depth.proofs.Fronts.{IsFront, front_numbered, front_joined}
-use Rattle.hare_depth.proofs.Lines.{line_of, line_once, line_before, line_behind, around_at, front_line, front_append, front_short, front}
+use Rattle.hare_depth.proofs.Numbers.{ascends_to, strung_ascends, is_numbered}
+use Rattle.hare_depth.proofs.Fronts.{IsFront, front_numbered}
+use Rattle.hare_depth.proofs.Lines.{line_of, line_once, line_before, line_behind, around_at, front_line, front_short}
 use Rattle.hare_depth.proofs.Languages.{Reread, Reads}
 use Rattle.hare_depth.proofs.Runs.{Whole, whole, not_all_used, told_in_front}
+use Rattle.hare_depth.proofs.GoesOn.{FrontAt, front_at, goes_on_with, counted_alike, take_twice, front_of_reread}
 use Rattle.hare_depth.proofs.Closings.{Closed, closed}
 
--- ---- fronts of the file
-
--- these joined tokens are those of a front of the file
-pub record FrontAt (ts u : List Token) : Type 0 where
-  pub read : ℕ
-  pub within : read ≤ length ts
-  pub is : u ≡ strung (numbered 1 (take read ts))
-
-pub front_at : (ts u v : List Token) → strung (numbered 1 ts) ≡ u ++ v → FrontAt ts u
-front_at ts u [] e = record { read = length ts; within = omega arith; is = sym (append-nil u) ∙ sym e ∙ ap (λ l. strung (numbered 1 l)) (sym (take-length ts)) }
-front_at ts u (y ∷ v) e = let n = is_numbered ts u y v e in record { read = n.at; within = omega (arith, n.within); is = n.front }
-
--- a tree whose tokens go on with these joined ones goes on with the front
-pub goes_on_with : {T : Type 0} (l : Language T) (st : List Symbol) → Reads l st → (front u behind : List Token) (tree : T) → l.is_of tree ≡ true → u ≡ strung (numbered 1 front) → map unplaced (l.tokens_of tree) ≡ map unplaced (u ++ behind) → GoesOn l front tree
-goes_on_with l st s front u behind tree h i e =
-    let j : map unplaced u ≡ map unplaced (strung front) = ap (map unplaced) i ∙ unplaced_both 1 front in
-    let k : map unplaced (u ++ behind) ≡ map unplaced (strung front ++ behind) = map-append unplaced u behind ∙ ap (λ v. v ++ map unplaced behind) j ∙ sym (map-append unplaced (strung front) behind) in
-    record { shaped = h; behind = behind; spelled = goes_back (l.tokens_of tree) front behind (s.is_loose tree h) (e ∙ k) }
-
--- the first tokens of a front of a tree's are counted alike, whichever strings are joined
-pub counted_alike : {T : Type 0} (l : Language T) (st : List Symbol) → Reads l st → (n : ℕ) (front : List Token) (tree : T) → GoesOn l front tree → length (strung (take n front)) ≡ length (joined (take n front))
-counted_alike l st s n front tree g =
-    let e : front ++ g.behind ≡ take n front ++ (drop n front ++ g.behind) = ap (λ v. v ++ g.behind) (sym (take-append-drop n front)) ∙ append_assoc (take n front) (drop n front) g.behind in
-    ap length (front_joined (l.tokens_of tree) (take n front) (drop n front ++ g.behind) (s.is_loose tree g.shaped) (subst (Spells (l.tokens_of tree)) e g.spelled))
-
-pub take_twice : (n r : ℕ) (ts : List Token) → n ≤ r → r ≤ length ts → take n (take r ts) ≡ take n ts
-take_twice n r ts d e = let i = length-take-le r ts e in sym (take-append-le n (take r ts) (drop r ts) (omega (arith, d, i))) ∙ ap (take n) (take-append-drop r ts)
-
 -- ---- a tree that goes on is read again
-
--- the run that reads the tree uses the tokens of the front, but for the last where it is over there
-pub front_short_of : {T : Type 0} (l : Language T) (st : List Symbol) (q ts : List Token) (tree : T) → (r : Reread l st ts tree) → IsFront q (strung (numbered 1 ts)) → IsFront q (r.used ++ r.last ∷ [])
-front_short_of l st q ts tree r f = subst (IsFront q) r.split (front_append q (strung (numbered 1 ts)) r.extra f)
 
 -- what is told behind a front is a fault of each tree that goes on with it
 pub told_again : {T : Type 0} → StepsGain → StepsEnd → (l : Language T) (st : List Symbol) → Reads l st → (u : List Token) (next : List Symbol) (trees : List Group) (told : List ℕ) (k : ℕ) → Reaches 0 u st bottom next trees told → k < length u → IsOn (line_of u k) told → (ts : List Token) (tree : T) → (r : Reread l st ts tree) → IsFront u (r.used ++ r.last ∷ []) → IsOn k (l.deep_of tree)
@@ -138,7 +105,7 @@ told_there sg se l st s ts u next trees told n r i f =
     again : (q : List Token) (a : First q u n) (tree : _) (h : GoesOn l q tree) → Reread l st (q ++ h.behind) tree → u ≡ strung (numbered 1 q) → IsOn a.at (l.deep_of tree)
     again q a tree h k e =
         let x : IsFront u (strung (numbered 1 (q ++ h.behind))) = subst (λ v. IsFront v (strung (numbered 1 (q ++ h.behind)))) (sym e) (front_numbered q h.behind) in
-        told_again sg se l st s u next trees told a.at r a.within (subst (λ y. IsOn y told) (sym a.line) i) (q ++ h.behind) tree k (front_short_of l st u (q ++ h.behind) tree k x)
+        told_again sg se l st s u next trees told a.at r a.within (subst (λ y. IsOn y told) (sym a.line) i) (q ++ h.behind) tree k (front_of_reread l st u (q ++ h.behind) tree k x)
 
 pub told_faults : {T : Type 0} → StepsGain → StepsEnd → (l : Language T) (st : List Symbol) → Reads l st → (ts : List Token) (n : ℕ) → IsOn (suc n) (gauge (seen ts) st start).faults → IsDepthFault l ts n
 told_faults sg se l st s ts n i =
