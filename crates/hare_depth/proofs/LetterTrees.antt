@@ -39,6 +39,7 @@ AllAgree ts ns (more u us) = Agrees ts (first_number ns) u × AllAgree ts (numbe
 
 -- ---- kids
 
+-- all but a left operand
 pub kids_agree : (ts : List Token) (ns : List ℕ) (us : Nodes) → AllAgree ts ns us → (o x : ℕ) → on x (map (line ts) (deep_each ns o false us)) ≡ on x (kid_faults o us)
 unfolding deep faults_of
 kids_agree ts ns none a o x = refl
@@ -146,7 +147,7 @@ left_begins : (h : Head) (u : Node) (us : Nodes) (n : ℕ) → Operand h u → f
 unfolding spell
 left_begins h u us n o = rw o.form (omega arith)
 
-left_ends : (h : Head) (u : Node) (us : Nodes) → Operand h u → length (spell 0 u) < length (spell 0 (branch h (more u us)))
+pub left_ends : (h : Head) (u : Node) (us : Nodes) → Operand h u → length (spell 0 u) < length (spell 0 (branch h (more u us)))
 unfolding spell
 left_ends h u us o =
     let s = pieces_some h o.rest (spells 0 us) o.token in

@@ -8,3 +8,4 @@ pub mod LetterTrees
 pub mod Letter
 pub mod LetterFiles
 pub mod Placeless
+pub mod FaultsWithin
