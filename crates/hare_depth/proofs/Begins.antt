@@ -40,7 +40,7 @@ lead_within (le.Behind s) u = by (stands_alone u.0)
     by false = omega (arith, length-append u.1 (sign_token 0 s ∷ []))
 
 -- in front of any other numbers
-led_within : (l : Lead) (n : ℕ) (us : List Spelled) (ms : List ℕ) → Within n (n + length (all_led 0 l us)) (begins_led l n us ++ ms) us
+pub led_within : (l : Lead) (n : ℕ) (us : List Spelled) (ms : List ℕ) → Within n (n + length (all_led 0 l us)) (begins_led l n us ++ ms) us
 led_within l n [] ms = tt
 led_within l n (u ∷ us) ms =
     let a = lead_within l u in

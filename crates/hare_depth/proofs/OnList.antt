@@ -48,11 +48,6 @@ on_is x [] e = absurd e
 on_is x (n ∷ ns) (inl e) = rw (eq-eqb x n e) refl
 on_is x (n ∷ ns) (inr e) = rw (on_is x ns e) (or_true (x == n))
 
-pub on_either : (x : ℕ) (ns ms : List ℕ) → IsOn x (ns ++ ms) → IsOn x ns ⊎ IsOn x ms
-on_either x [] ms i = inr i
-on_either x (n ∷ ns) ms (inl i) = inl (inl i)
-on_either x (n ∷ ns) ms (inr i) = elim (on_either x ns ms i) [ inl j ↦ inl (inr j) | inr j ↦ inr j ]
-
 -- ---- lists of numbers, and of what stands for them
 
 pub on_map : (f : ℕ → ℕ) (x : ℕ) (ns ms : List ℕ) → on x (map f (ns ++ ms)) ≡ (on x (map f ns) || on x (map f ms))

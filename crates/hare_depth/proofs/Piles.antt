@@ -99,12 +99,20 @@ is_ordered [] = true
 is_ordered (f ∷ []) = true
 is_ordered (f ∷ g ∷ fs) = (if is_empty g.kids then nat_le g.at (first_in f.at f.kids) else true) && is_ordered (g ∷ fs)
 
--- all kids begin in front of the token `n`, behind which no place stands
-abbrev pub frame_below : ℕ → Frame → Bool
-frame_below n f = nat_le f.at n && list_all (λ m. nat_le (m.first + 1) n) f.kids
+-- all nodes among the kids begin in front of the token `n`
+abbrev pub kids_below : ℕ → List Mark → Bool
+kids_below n ms = list_all (λ m. if m.node then nat_le (m.first + 1) n else true) ms
 
-abbrev pub all_below : ℕ → List Frame → Bool
-all_below n fs = list_all (frame_below n) fs
+-- the tree begins no later than at the token `n`, and the nodes among its kids in front of it
+abbrev pub frame_below : ℕ → Frame → Bool
+frame_below n f = nat_le f.at n && kids_below n f.kids
+
+-- All trees under way begin in front of the token `n`, and the nodes among their kids. The last tree, which holds what is read and is never closed,
+-- has its place at the first token, even where that is not yet read.
+unfoldable pub all_below : ℕ → List Frame → Bool
+all_below n [] = true
+all_below n (f ∷ []) = frame_below n f
+all_below n (f ∷ g ∷ fs) = nat_le (f.at + 1) n && kids_below n f.kids && all_below n (g ∷ fs)
 
 -- the last kid is a node, and no left operand by itself
 unfoldable pub last_is_node : List Mark → Bool
@@ -148,11 +156,14 @@ ends_operand (sy.Part ru.PathOrStruct) = true
 ends_operand _ = false
 
 -- The second symbol may stand behind the first. A rule that needs something of the trees under way stands on top, or behind one that sees to it.
+-- The rules that hand on what the next one needs stand on top alone.
 abbrev pub may_follow : Symbol → Symbol → Bool
 may_follow s (sy.Part (ru.Climb l h)) = ends_operand s
 may_follow s (sy.Part (ru.BehindComma r)) = false
 may_follow s (sy.Part ru.BehindElementComma) = false
 may_follow s (sy.Part ru.AfterUseName) = false
+may_follow s (sy.Part ru.PathName) = false
+may_follow s (sy.Part (ru.Own o)) = false
 may_follow (sy.Part ru.PathName) (sy.Part ru.PathOrStruct) = true
 may_follow s (sy.Part ru.PathOrStruct) = false
 may_follow (sy.Part (ru.Own ow.Name)) (sy.Part ru.AfterForName) = true

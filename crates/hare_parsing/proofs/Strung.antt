@@ -162,7 +162,7 @@ pub record CleanParts (t : Token) (us : List Token) : Type 0 where
   pub first : is_plain_string t ≡ true → is_proper_string t ≡ true
   pub others : clean us ≡ true
 
-joined_parts : (t : Token) (us : List Token) → clean (joined_to t us) ≡ true → CleanParts t us
+pub joined_parts : (t : Token) (us : List Token) → clean (joined_to t us) ≡ true → CleanParts t us
 joined_parts t [] c = record { first = clean_head t [] c; others = refl }
 joined_parts t (u ∷ us) c = by (is_plain_string t) refl (is_plain_string u) refl
   where
