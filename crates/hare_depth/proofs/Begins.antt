@@ -1,7 +1,7 @@
 -- Where the kids of a tree begin: their tokens are among the tree's own.
-use Rattle.std.proofs.Common.{◌≡◌, ℕ, ◌+◌, ◌≤◌, List, [], ◌∷◌, ◌++◌, Bool, true, false, length, arith, if◌then◌else◌}
+use Rattle.std.proofs.Common.{◌≡◌, ℕ, ◌+◌, ◌≤◌, List, [], ◌∷◌, ◌++◌, Bool, true, false, length, subst, arith, if◌then◌else◌}
 use Rattle.std.specs.Prelude.{◌||◌}
-use Rattle.std.proofs.lemmas.List.{length-append}
+use Rattle.std.proofs.lemmas.List.{append-nil, length-append}
 use Rattle.hare_tree.specs.declared.token.Token.{Token}
 use Rattle.hare_tree.specs.declared.form.Sign.TheVariants as si
 use Rattle.hare_tree.specs.declared.form.Lead.{Lead}
@@ -47,6 +47,12 @@ led_within l n (u ∷ us) ms =
     let b = length-append (with_lead 0 l u) (all_led 0 l us) in
     let m = n + length (with_lead 0 l u) in
     (omega arith, omega (arith, a, b), wider m (m + length (all_led 0 l us)) n _ _ us (omega arith) (omega (arith, b)) (led_within l m us ms))
+
+-- trees side by side
+pub side_within : (n : ℕ) (us : List Spelled) → Within n (n + length (all_led 0 le.Nothing us)) (begins_led le.Nothing n us) us
+side_within n us =
+    let ns = begins_led le.Nothing n us in
+    subst (λ z. Within n (n + length (all_led 0 le.Nothing us)) z us) (append-nil ns) (led_within le.Nothing n us [])
 
 listed_within : (n : ℕ) (us : List Spelled) (ms : List ℕ) → Within n (n + length (listed 0 us)) (begins_listed n us ++ ms) us
 listed_within n [] ms = tt

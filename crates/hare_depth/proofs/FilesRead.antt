@@ -32,29 +32,12 @@ use Rattle.hare_depth.proofs.Begins.{Within, led_within}
 use Rattle.hare_depth.proofs.AtStart.{files_at_start, none_at_start}
 use Rattle.hare_depth.proofs.LetterFiles.{Placed, deep_file, all_have_forms, file_piles_agree}
 use Rattle.hare_depth.proofs.Placeless.{files_pass_alike, file_limits}
-use Rattle.hare_depth.proofs.Inside.{each_inside}
+use Rattle.hare_depth.proofs.InsideFiles.{file_inside}
 use Rattle.hare_depth.proofs.Gaining.{Ascends}
 use Rattle.hare_depth.proofs.Numbers.{unplaced_both, plain_classes, strung_ascends}
 use Rattle.hare_depth.proofs.Lines.{line_of, rises}
 use Rattle.hare_depth.proofs.Runs.{last_same, done_like}
 use Rattle.hare_depth.proofs.Languages.{faulty_alike, Faulty, Read, Reread, Reads}
-
--- ---- the tokens at which files pass limits are their own
-
-all_inside : (s : Sort) (n : ℕ) (us : List Node) → list_all (is_shaped s) us ≡ true → (k : ℕ) → IsOn k (deep_all n us) → k < n + length (spell_all 0 us)
-all_inside s n us e k i =
-    let ss = spells 0 (nodes_of us) in
-    let ns = begins_led le.Nothing n ss in
-    let high = n + length (spell_all 0 us) in
-    let w : Within n high ns ss = subst (λ z. Within n high z ss) (append-nil ns) (led_within le.Nothing n ss []) in
-    each_inside n high ns 0 k false (nodes_of us) (all_have_forms s us e) w i
-
-file_inside : (uses decls : List Node) → list_all (is_shaped so.Use) uses ≡ true → list_all (is_shaped so.Decl) decls ≡ true → (k : ℕ) → IsOn k (deep_file uses decls) → k < length (spell_all 0 uses ++ spell_all 0 decls)
-file_inside uses decls e f k i = by (on_either k (deep_all 0 uses) (deep_all (length (spell_all 0 uses)) decls) i)
-  where
-    by : IsOn k (deep_all 0 uses) ⊎ IsOn k (deep_all (length (spell_all 0 uses)) decls) → k < length (spell_all 0 uses ++ spell_all 0 decls)
-    by (inl j) = let r = all_inside so.Use 0 uses e k j in omega (arith, r, length-append (spell_all 0 uses) (spell_all 0 decls))
-    by (inr j) = let r = all_inside so.Decl (length (spell_all 0 uses)) decls f k j in omega (arith, r, length-append (spell_all 0 uses) (spell_all 0 decls))
 
 -- ---- what a run makes
 

@@ -2,6 +2,7 @@
 -- least one, and an operator one behind its left operand.
 use Rattle.std.proofs.Common.{◌≡◌, ℕ, ◌≤◌, List, [], ◌∷◌, ◌++◌, Bool, true, false, ◌&&◌, length, refl, arith, rules, if◌then◌else◌}
 use Rattle.std.specs.Prelude.{◌||◌, ◌==◌, nat_le, slice_index}
+use Rattle.std.specs.List.{list_all}
 use Rattle.std.proofs.lemmas.List.{length-append}
 use Rattle.hare_tree.specs.declared.kind.Kind.{Kind}
 use Rattle.hare_tree.specs.declared.kind.Kind.TheVariants as ki
@@ -11,7 +12,7 @@ use Rattle.hare_tree.specs.declared.form.Sort.{Sort}
 use Rattle.hare_tree.specs.declared.form.Sort.TheVariants as so
 use Rattle.hare_tree.specs.declared.form.Piece.{Piece}
 use Rattle.hare_tree.specs.declared.form.Piece.TheVariants as pi
-use Rattle.hare_tree.specs.Node.{Head, Node, Nodes, branch, none, more, head}
+use Rattle.hare_tree.specs.Node.{Head, Node, Nodes, branch, none, more, head, nodes_of}
 use Rattle.hare_tree.specs.Levels.{operator_level, level, sort_in}
 use Rattle.hare_tree.specs.Forms.{form_of}
 use Rattle.hare_tree.specs.Spell.{Spelled, parts_from, path_tokens, own_tokens, piece_tokens, pieces_tokens, left_behind, spell, spells}
@@ -109,6 +110,15 @@ kids_have_forms m (pi.MoreElements s ∷ ps) (more t (more u (more v ts))) e =
     let p = split (is_shaped s t) (are_kids m (pi.MoreElements s ∷ ps) (more u (more v ts))) e in
     both _ _ (shaped_has_form s t p.0) (kids_have_forms m (pi.MoreElements s ∷ ps) (more u (more v ts)) p.1)
 kids_have_forms m _ (more t ts) e = cc
+
+-- trees side by side
+pub all_have_forms : (s : Sort) (ts : List Node) → list_all (is_shaped s) ts ≡ true → have_forms (nodes_of ts) ≡ true
+all_have_forms s [] e = refl
+all_have_forms s (t ∷ ts) e =
+    let p = split (is_shaped s t) (list_all (is_shaped s) ts) e in
+    let q = shaped_has_form s t p.0 in
+    let r = all_have_forms s ts p.1 in
+    rw (q, r) refl
 
 -- ---- tokens of forms
 

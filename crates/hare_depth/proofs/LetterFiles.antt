@@ -2,7 +2,7 @@
 use Rattle.std.proofs.Common.{◌≡◌, ℕ, ◌+◌, ◌≤◌, List, [], ◌∷◌, ◌++◌, Bool, true, false, map, length, refl, ap, sym, ◌∙◌, subst, arith, if◌then◌else◌}
 use Rattle.std.specs.Prelude.{◌||◌}
 use Rattle.std.specs.List.{list_all}
-use Rattle.std.proofs.lemmas.List.{append-nil, length-append}
+use Rattle.std.proofs.lemmas.List.{length-append}
 use Rattle.hare_tree.specs.declared.kind.Kind.{Kind}
 use Rattle.hare_tree.specs.declared.kind.Kind.TheVariants as ki
 use Rattle.hare_tree.specs.declared.token.Token.{Token}
@@ -21,8 +21,8 @@ use Rattle.hare_grammar.proofs.Lists.{shape}
 use Rattle.hare_depth.specs.Marks.{lies_before}
 use Rattle.hare_depth.proofs.Piles.{mark, left_faults, faults_of, first_faults, kid_faults, pile_faults, Gains}
 use Rattle.hare_depth.proofs.Claims.{Rises}
-use Rattle.hare_depth.proofs.Begins.{Within, led_within}
-use Rattle.hare_depth.proofs.FormKids.{have_forms, shaped_has_form}
+use Rattle.hare_depth.proofs.Begins.{side_within}
+use Rattle.hare_depth.proofs.FormKids.{all_have_forms}
 use Rattle.hare_depth.proofs.OnList.{on, on_append, on_map, same_or, same_numbers}
 use Rattle.hare_depth.proofs.LetterTrees.{line, kids_agree}
 use Rattle.hare_depth.proofs.Letter.{all_agree}
@@ -49,21 +49,12 @@ FilePilesAgree =
 
 -- ---- trees side by side
 
-pub all_have_forms : (s : Sort) (ts : List Node) → list_all (is_shaped s) ts ≡ true → have_forms (nodes_of ts) ≡ true
-all_have_forms s [] e = refl
-all_have_forms s (t ∷ ts) e =
-    let p = split (is_shaped s t) (list_all (is_shaped s) ts) e in
-    let q = shaped_has_form s t p.0 in
-    let r = all_have_forms s ts p.1 in
-    rw (q, r) refl
-
 side_by_side : (f : ℕ) (ts : List Token) (s : Sort) (n : ℕ) (us : List Node) → Rises ts → list_all (is_shaped s) us ≡ true → n + length (spell_all 0 us) ≤ length ts → HavePlaces f ts (begins_led le.Nothing n (spells 0 (nodes_of us))) (nodes_of us) → (x : ℕ) → on x (map (line ts) (deep_all n us)) ≡ on x (kid_faults 0 (nodes_of us))
 side_by_side f ts s n us r e l p x =
     let ss = spells 0 (nodes_of us) in
     let ns = begins_led le.Nothing n ss in
     let high = n + length (spell_all 0 us) in
-    let w : Within n high ns ss = subst (λ z. Within n high z ss) (append-nil ns) (led_within le.Nothing n ss []) in
-    kids_agree ts ns (nodes_of us) (all_agree f ts n high ns (nodes_of us) r (all_have_forms s us e) w l p) 0 x
+    kids_agree ts ns (nodes_of us) (all_agree f ts n high ns (nodes_of us) r (all_have_forms s us e) (side_within n ss) l p) 0 x
 
 on_both : (o x : ℕ) (us vs : List Node) → on x (kid_faults o (nodes_of (us ++ vs))) ≡ (on x (kid_faults o (nodes_of us)) || on x (kid_faults o (nodes_of vs)))
 unfolding faults_of

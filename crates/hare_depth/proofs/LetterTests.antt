@@ -7,6 +7,7 @@ use Rattle.hare_depth.proofs.OnList.{on, on_append, on_one, on_map, map_one, alo
 
 -- ---- a tree that is no operator
 
+-- by the letter a left operand has one more node open round it
 pub one_more : (o : ℕ) → nat_le 256 (suc o) ≡ nat_le 255 o
 one_more o = elim (cases_lt o 255) [
   | inl e ↦ lt_false 256 (suc o) (omega arith) ∙ sym (lt_false 255 o e)
@@ -16,6 +17,7 @@ one_more o = elim (cases_lt o 255) [
 pub more_holds : (o : ℕ) → nat_le 256 o ≡ true → nat_le 255 o ≡ true
 more_holds o e = let h : 256 ≤ o = true_le 256 o e in le_true 255 o (omega arith)
 
+-- the tree by itself: `ds` are told in its kids by the letter, and `ks` as they are read
 pub plain_agrees : (f : ℕ → ℕ) (b : Bool) (n p o x : ℕ) (ds ks : List ℕ) → (b ≡ true → p ≡ f n) → on x (map f ds) ≡ on x ks → on x (map f (((if b && nat_le 256 o then n ∷ [] else []) ++ []) ++ ds)) ≡ on x (((if b && nat_le 256 o then p ∷ [] else []) ++ []) ++ ks)
 plain_agrees f false n p o x ds ks e k = k
 plain_agrees f true n p o x ds ks e k = by (nat_le 256 o)
@@ -37,6 +39,7 @@ left_test true true false false e = refl
 left_test true false false true e = refl
 left_test true false false false e = refl
 
+-- the tree as a left operand
 pub plain_left : (f : ℕ → ℕ) (n p o x : ℕ) (ds ks : List ℕ) → p ≡ f n → on x (map f ds) ≡ on x ks → on x (map f (((if nat_le 256 (suc o) then n ∷ [] else []) ++ []) ++ ds)) ≡ (on x (((if nat_le 256 o then p ∷ [] else []) ++ []) ++ ks) || (nat_le 255 o && x == f n))
 plain_left f n p o x ds ks e k =
     let c = nat_le 255 o in
@@ -49,6 +52,8 @@ plain_left f n p o x ds ks e k =
 
 -- ---- an operator
 
+-- `a` tells the operator's first token, `b` the left operand's, which is the same, `c` the operator; `d` and `k` tell what is in the left operand and
+-- in the other kids
 pub rejoin : (a b c d k : Bool) → ((a || c) || ((d || b) || k)) ≡ ((a || (b || c)) || (d || k))
 rejoin true b c d k = refl
 rejoin false true true d k = refl
@@ -67,6 +72,7 @@ rejoin_left false false false true k e = refl
 rejoin_left false false false false true e = refl
 rejoin_left false false false false false e = refl
 
+-- the limit on the operator implies that on its left operand
 pub further : (f g q : Bool) → (f ≡ true → g ≡ true) → (f && q) ≡ true → (g && q) ≡ true
 further true g q e i = rw (e refl) i
 further false g q e i = cc

@@ -39,6 +39,7 @@ AllAgree ts ns (more u us) = Agrees ts (first_number ns) u × AllAgree ts (numbe
 
 -- ---- kids
 
+-- all but a left operand
 pub kids_agree : (ts : List Token) (ns : List ℕ) (us : Nodes) → AllAgree ts ns us → (o x : ℕ) → on x (map (line ts) (deep_each ns o false us)) ≡ on x (kid_faults o us)
 unfolding deep faults_of
 kids_agree ts ns none a o x = refl

@@ -56,3 +56,4 @@ pub mod PathSteps
 pub mod LateSteps
 pub mod StepGains
 pub mod GoesOn
+pub mod InsideFiles
