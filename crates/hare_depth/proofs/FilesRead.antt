@@ -30,7 +30,7 @@ use Rattle.hare_depth.proofs.Piles.{pile_faults, Gains}
 use Rattle.hare_depth.proofs.Lists.{on_either}
 use Rattle.hare_depth.proofs.Begins.{Within, led_within}
 use Rattle.hare_depth.proofs.AtStart.{files_at_start, none_at_start}
-use Rattle.hare_depth.proofs.LetterFiles.{Placed, deep_file, all_have_forms, file_piles_agree}
+use Rattle.hare_depth.proofs.LetterFiles.{Placed, deep_file, file_piles_agree}
 use Rattle.hare_depth.proofs.Placeless.{files_pass_alike, file_limits}
 use Rattle.hare_depth.proofs.InsideFiles.{file_inside}
 use Rattle.hare_depth.proofs.Gaining.{Ascends}
