@@ -8,3 +8,4 @@ pub mod Reaches
 pub mod Halts
 pub mod Gaining
 pub mod Likewise
+pub mod Within
