@@ -57,3 +57,4 @@ pub mod LateSteps
 pub mod StepGains
 pub mod GoesOn
 pub mod InsideFiles
+pub mod Within
