@@ -1,10 +1,9 @@
 -- Steps at operators: what is passed there is what the gauge finds.
-use Rattle.std.proofs.Common.{◌≡◌, ℕ, suc, List, [], ◌∷◌, ◌++◌, Bool, true, false, ◌&&◌, map, refl, ap, sym, ◌∙◌, subst, arith, if◌then◌else◌}
+use Rattle.std.proofs.Common.{◌≡◌, ℕ, suc, List, [], ◌∷◌, ◌++◌, Bool, true, false, ◌&&◌, refl, ap, ◌∙◌, subst, arith, if◌then◌else◌}
 use Rattle.std.specs.Prelude.{nat_le}
 use Rattle.std.specs.List.{list_all}
 use Rattle.hare_tree.specs.declared.kind.Kind.TheVariants as ki
 use Rattle.hare_tree.specs.declared.form.Sign.TheVariants as si
-use Rattle.hare_tree.specs.declared.form.Sort.TheVariants as so
 use Rattle.hare_tree.specs.declared.token.Token.{Token}
 use Rattle.hare_tree.specs.Depth.{is_node}
 use Rattle.hare_tree.specs.Forms.{expr}

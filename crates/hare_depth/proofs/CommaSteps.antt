@@ -1,6 +1,5 @@
 -- Steps behind a comma: the tree that was begun there, in case the comma is the last, is let go or closed.
-use Rattle.std.proofs.Common.{◌≡◌, ℕ, suc, List, [], ◌∷◌, ◌++◌, Bool, true, false, ◌&&◌, ◌==◌, map, refl, ap, sym, ◌∙◌, subst, arith}
-use Rattle.std.specs.List.{list_all}
+use Rattle.std.proofs.Common.{◌≡◌, ℕ, List, [], ◌∷◌, ◌++◌, true, false, ◌==◌, map, refl, arith}
 use Rattle.hare_tree.specs.Node.{Node, branch, nodes_of}
 use Rattle.hare_tree.specs.declared.kind.Kind.TheVariants as ki
 use Rattle.hare_tree.specs.declared.form.Sort.{Sort}
@@ -17,7 +16,7 @@ use Rattle.hare_grammar.specs.Table.{row}
 use Rattle.hare_grammar.specs.Engine.{Group, with_kids, head_in, close, lift, all_changed}
 use Rattle.hare_grammar.proofs.Paths.{split}
 use Rattle.hare_depth.specs.Gauge.{nodes_in}
-use Rattle.hare_depth.proofs.Piles.{mark, frame_of, frames, pile_faults, Gains, is_empty, idle, follows, Held}
+use Rattle.hare_depth.proofs.Piles.{mark, frame_of, frames, pile_faults, is_empty, idle, follows, Held}
 use Rattle.hare_depth.proofs.Claims.{Stepped}
 use Rattle.hare_depth.proofs.Lists.{gains_then}
 use Rattle.hare_depth.proofs.Seen.{frames_close}

@@ -1,5 +1,5 @@
 -- Steps by the rules that hand on what the next symbol needs: a tree's own text, and a name behind `::`.
-use Rattle.std.proofs.Common.{◌≡◌, ℕ, suc, List, [], ◌∷◌, ◌++◌, Bool, true, false, ◌⊎◌, inl, inr, ◌&&◌, refl, ap, sym, ◌∙◌, subst}
+use Rattle.std.proofs.Common.{◌≡◌, ℕ, suc, List, [], ◌∷◌, ◌++◌, true, refl, ap, sym, ◌∙◌, subst}
 use Rattle.std.specs.List.{list_all}
 use Rattle.hare_tree.specs.declared.form.Sign.TheVariants as si
 use Rattle.hare_tree.specs.declared.form.Own.{Own}
@@ -16,9 +16,8 @@ use Rattle.hare_grammar.specs.Rows.{Skips, Uses, part}
 use Rattle.hare_grammar.specs.Table.{row}
 use Rattle.hare_grammar.specs.Engine.{Group, all_changed}
 use Rattle.hare_grammar.proofs.Paths.{split}
-use Rattle.hare_depth.specs.Marks.{Frame}
 use Rattle.hare_depth.specs.Gauge.{nodes_in, found}
-use Rattle.hare_depth.proofs.Piles.{frames, pile_faults, Gains, ready, may_follow, follows, Held}
+use Rattle.hare_depth.proofs.Piles.{frames, pile_faults, ready, may_follow, follows, Held}
 use Rattle.hare_depth.proofs.Claims.{Stepped}
 use Rattle.hare_depth.proofs.Lists.{gains_refl, gains_none}
 use Rattle.hare_depth.proofs.Slots.{is_still, hands_on}

@@ -1,7 +1,6 @@
 -- Steps by the rules that decide late what a tree under way is: behind the name of a loop, and behind the first name of an import.
-use Rattle.std.proofs.Common.{◌≡◌, ℕ, suc, List, [], ◌∷◌, ◌++◌, Bool, true, false, ◌&&◌, map, refl, subst, arith}
+use Rattle.std.proofs.Common.{◌≡◌, ℕ, suc, List, [], ◌∷◌, ◌++◌, Bool, true, false, map, refl, arith}
 use Rattle.hare_tree.specs.declared.kind.Kind.TheVariants as ki
-use Rattle.hare_tree.specs.declared.form.Sign.{Sign}
 use Rattle.hare_tree.specs.declared.form.Sign.TheVariants as si
 use Rattle.hare_tree.specs.declared.form.Sort.TheVariants as so
 use Rattle.hare_tree.specs.declared.token.Token.{Token}
@@ -18,7 +17,7 @@ use Rattle.hare_grammar.specs.Rows.{Skips, Uses, of, part, rest_of}
 use Rattle.hare_grammar.specs.Table.{row}
 use Rattle.hare_grammar.specs.Engine.{Group, bare_leaf, with_kids, add, lift, all_changed}
 use Rattle.hare_depth.specs.Gauge.{nodes_in, found}
-use Rattle.hare_depth.proofs.Piles.{mark, frames, pile_faults, Gains, is_empty, idle, follows, Held}
+use Rattle.hare_depth.proofs.Piles.{mark, frames, pile_faults, follows, Held}
 use Rattle.hare_depth.proofs.Claims.{calm_step, Stepped}
 use Rattle.hare_depth.proofs.Lists.{gains_refl, gains_then}
 use Rattle.hare_depth.proofs.Seen.{frames_add}

@@ -1,13 +1,11 @@
 -- What holds of the trees under way within a step is kept where a tree without nodes is let go or lifted.
-use Rattle.std.proofs.Common.{◌≡◌, ℕ, List, [], ◌∷◌, ◌++◌, Bool, true, false, ◌&&◌, ◌==◌, map, length, refl, ap, ◌∙◌, arith}
+use Rattle.std.proofs.Common.{◌≡◌, ℕ, List, [], ◌∷◌, ◌++◌, Bool, true, false, ◌==◌, map, refl, ap, ◌∙◌, arith}
 use Rattle.std.specs.Prelude.{nat_le}
-use Rattle.std.specs.List.{list_all}
 use Rattle.std.proofs.lemmas.List.{map-append}
 use Rattle.std.proofs.lemmas.List.Folds.{list_all-append}
 use Rattle.hare_tree.specs.Node.{Node}
 use Rattle.hare_grammar.specs.Engine.{Group, lift}
 use Rattle.hare_grammar.proofs.Paths.{split}
-use Rattle.hare_parsing.proofs.Breaks.{both}
 use Rattle.hare_depth.specs.Marks.{Mark, Frame}
 use Rattle.hare_depth.proofs.Piles.{mark, frames, is_empty, idle}
 use Rattle.hare_depth.proofs.Seen.{frames_lift}

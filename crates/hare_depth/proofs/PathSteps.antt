@@ -1,10 +1,8 @@
 -- Steps behind a path, which is an expression by itself or begins a struct literal.
-use Rattle.std.proofs.Common.{◌≡◌, ℕ, suc, List, [], ◌∷◌, ◌++◌, Bool, true, false, ◌&&◌, ◌==◌, map, refl, ap, sym, ◌∙◌, subst, arith}
-use Rattle.hare_tree.specs.declared.kind.Kind.{Kind}
+use Rattle.std.proofs.Common.{◌≡◌, ℕ, suc, List, [], ◌∷◌, ◌++◌, true, false, ◌&&◌, ◌==◌, map, refl, ap, sym, ◌∙◌, subst, arith}
 use Rattle.hare_tree.specs.declared.kind.Kind.TheVariants as ki
 use Rattle.hare_tree.specs.declared.form.Sign.TheVariants as si
 use Rattle.hare_tree.specs.declared.token.Token.{Token}
-use Rattle.hare_tree.specs.Depth.{is_node}
 use Rattle.hare_grammar.specs.declared.class.Class.{Class}
 use Rattle.hare_grammar.specs.declared.class.Class.TheVariants as cl
 use Rattle.hare_grammar.specs.declared.rule.Rule.TheVariants as ru
@@ -18,7 +16,7 @@ use Rattle.hare_grammar.proofs.Paths.{split}
 use Rattle.hare_depth.specs.Marks.{Frame, mark_as, put}
 use Rattle.hare_depth.specs.Marks as seen
 use Rattle.hare_depth.specs.Gauge.{nodes_in, found}
-use Rattle.hare_depth.proofs.Piles.{mark, frame_of, frames, pile_faults, Gains, is_empty, is_ordered, all_below, ready, follows, Held}
+use Rattle.hare_depth.proofs.Piles.{mark, frame_of, frames, pile_faults, is_empty, is_ordered, all_below, follows, Held}
 use Rattle.hare_depth.proofs.Claims.{calm_step, Stepped}
 use Rattle.hare_depth.proofs.Lists.{gains_none}
 use Rattle.hare_depth.proofs.Seen.{frames_close, frames_lift, frames_join}
@@ -26,9 +24,10 @@ use Rattle.hare_depth.proofs.Below.{close_below, lift_below}
 use Rattle.hare_depth.proofs.Changes.{join_same}
 use Rattle.hare_depth.proofs.PathEnds.{path_gains, struct_gains}
 use Rattle.hare_depth.proofs.Orders.{path_behind, lifted_path, path_ordered}
-use Rattle.hare_depth.proofs.Stands.{at_most, Stands, stands_next, close_stands}
+use Rattle.hare_depth.proofs.Stands.{Stands, stands_next, close_stands}
 use Rattle.hare_depth.proofs.Tame.{grows_none}
-use Rattle.hare_depth.proofs.Ready.{operand_on_top, put_operand}
+use Rattle.hare_depth.proofs.Operands.{put_operand}
+use Rattle.hare_depth.proofs.Ready.{operand_on_top}
 use Rattle.hare_depth.proofs.Follow.{ready_next, follows_tail, follows_next}
 use Rattle.hare_depth.proofs.Stepped.{uses_same, skips_same, held_stands, grown_stepped, told_stepped, Skipped}
 
@@ -64,7 +63,7 @@ path_left n st (g ∷ o ∷ h ∷ hs) e =
     let whole = mark_as ki.Path g.place.line (map mark g.kids) in
     let i = lifted_frames g o h hs p in
     let j = lifted_path ki.Path (frame_of g) (frame_of o) (frame_of h) (frames hs) p.outer in
-    let operand : operand_on_top (put whole (frames (h ∷ hs))) ≡ true = put_operand whole (frame_of h) (frames hs) refl (path_behind ki.Path (frame_of g) (frame_of o) (frame_of h) (frames hs) p.inner p.outer p.same e.ordered) in
+    let operand : operand_on_top (put whole (frames (h ∷ hs))) ≡ true = put_operand whole (frame_of h) refl (path_behind ki.Path (frame_of g) (frame_of o) (frame_of h) (frames hs) p.inner p.outer p.same e.ordered) in
     record {
       held = rw i record {
         fitting = omega (arith, e.fitting);

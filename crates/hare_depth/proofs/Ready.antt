@@ -1,10 +1,9 @@
 -- What a rule needs of the trees under way is there where it comes to stand on top.
-use Rattle.std.proofs.Common.{◌≡◌, ℕ, suc, ◌+◌, List, [], ◌∷◌, ◌++◌, Bool, true, false, ◌&&◌, ◌||◌, ◌==◌, refl, ap, sym, ◌∙◌, subst, arith, if◌then◌else◌}
+use Rattle.std.proofs.Common.{◌≡◌, ℕ, suc, List, [], ◌∷◌, ◌++◌, Bool, true, false, ◌&&◌, ◌||◌, ◌==◌, refl, ap, ◌∙◌, arith, if◌then◌else◌}
 use Rattle.std.specs.Prelude.{nat_le}
 use Rattle.std.specs.List.{list_all}
 use Rattle.hare_tree.specs.declared.kind.Kind.{Kind}
 use Rattle.hare_tree.specs.declared.kind.Kind.TheVariants as ki
-use Rattle.hare_tree.specs.declared.form.Own.TheVariants as ow
 use Rattle.hare_tree.specs.Depth.{is_node}
 use Rattle.hare_grammar.specs.declared.rule.Rule.TheVariants as ru
 use Rattle.hare_grammar.specs.declared.rule.Symbol.{Symbol}
@@ -13,14 +12,11 @@ use Rattle.hare_grammar.specs.declared.rule.Change.{Change}
 use Rattle.hare_grammar.specs.declared.rule.Change.TheVariants as ch
 use Rattle.hare_grammar.proofs.Paths.{split}
 use Rattle.hare_grammar.proofs.Edges.{true_le}
-use Rattle.hare_parsing.proofs.Breaks.{both}
-use Rattle.hare_depth.specs.Marks.{Mark, Frame, first_in, mark_as, leaf_mark, put, close, changed, all_changed}
-use Rattle.hare_depth.proofs.Piles.{is_empty, is_ordered, ends_in_operand, ready_frames, ready, ends_operand, may_follow, follows}
-use Rattle.hare_depth.proofs.Grown.{is_behind, behind_later}
-use Rattle.hare_depth.proofs.Changes.{ordered_behind}
-use Rattle.hare_depth.proofs.Over.{operand_last}
-use Rattle.hare_depth.proofs.Slots.{undone, all_undone, is_quiet, is_loud, is_still, tame, is_operand, is_put, ends_in, is_plain, is_twice, is_begun, is_begun_behind, is_named, made_for, hands_on, prepared, ends_stack}
-use Rattle.hare_depth.proofs.SlotForms.{still_undone, joins, joins_plain, joins_climb}
+use Rattle.hare_depth.specs.Marks.{Frame, leaf_mark, put, close, changed, all_changed}
+use Rattle.hare_depth.proofs.Piles.{is_ordered, ends_in_operand, ready_frames, ready}
+use Rattle.hare_depth.proofs.Grown.{behind_later}
+use Rattle.hare_depth.proofs.Operands.{put_operand, close_operand}
+use Rattle.hare_depth.proofs.Slots.{all_undone, is_quiet, is_loud, is_still, tame, is_operand, is_put, ends_in, is_twice, is_begun, is_begun_behind, is_named, made_for, hands_on, prepared}
 use Rattle.hare_depth.proofs.Stands.{at_most, Stands, quiet_stands, loud_stands}
 
 -- ---- an operand that is put
@@ -29,20 +25,14 @@ abbrev pub operand_on_top : List Frame → Bool
 operand_on_top [] = true
 operand_on_top (f ∷ fs) = ends_in_operand f.at f.kids
 
-pub put_operand : (m : Mark) (f : Frame) (fs : List Frame) → m.node ≡ true → is_behind f.at f.kids m ≡ true → operand_on_top (put m (f ∷ fs)) ≡ true
-put_operand m f fs a b = operand_last f.at f.kids m ∙ both m.node (is_behind f.at f.kids m) a b
+leaf_on_top : (n : ℕ) (k : Kind) (fs : List Frame) → is_node k ≡ true → at_most n fs ≡ true → operand_on_top (put (leaf_mark k n) fs) ≡ true
+leaf_on_top n k [] a p = refl
+leaf_on_top n k (f ∷ fs) a p = put_operand (leaf_mark k n) f a (behind_later f.at f.kids (leaf_mark k n) (true_le f.at n (split (nat_le f.at n) (at_most n fs) p).0))
 
-leaf_operand : (n : ℕ) (k : Kind) (fs : List Frame) → is_node k ≡ true → at_most n fs ≡ true → operand_on_top (put (leaf_mark k n) fs) ≡ true
-leaf_operand n k [] a p = refl
-leaf_operand n k (f ∷ fs) a p = put_operand (leaf_mark k n) f fs a (behind_later f.at f.kids (leaf_mark k n) (true_le f.at n (split (nat_le f.at n) (at_most n fs) p).0))
-
-pub close_operand : (k : Kind) (fs : List Frame) → is_node k ≡ true → is_ordered fs ≡ true → operand_on_top (close k fs) ≡ true
-unfolding is_ordered
-close_operand k [] a o = refl
-close_operand k (f ∷ []) a o = refl
-close_operand k (f ∷ g ∷ fs) a o =
-    let p = split (if is_empty g.kids then nat_le g.at (first_in f.at f.kids) else true) (is_ordered (g ∷ fs)) o in
-    put_operand (mark_as k f.at f.kids) g fs a (ordered_behind g.at g.kids (mark_as k f.at f.kids) p.0)
+pub close_on_top : (k : Kind) (fs : List Frame) → is_node k ≡ true → is_ordered fs ≡ true → operand_on_top (close k fs) ≡ true
+close_on_top k [] a o = refl
+close_on_top k (f ∷ []) a o = refl
+close_on_top k (f ∷ g ∷ fs) a o = close_operand k f g fs a o
 
 -- ---- the last changes
 
@@ -89,9 +79,9 @@ put_made n bs (c ∷ cs) fs e s =
     ap operand_on_top (still_frames n cs (changed n c fs) p.1) ∙ by c p.0 s
   where
     by : (c : Change) → is_operand c ≡ true → Stands n (suc n) (all_undone (c ∷ cs) bs) fs → operand_on_top (changed n c fs) ≡ true
-    by (ch.Mark k) i s = leaf_operand n k fs i s.placed
-    by (ch.Leaf k) i s = leaf_operand n k fs i s.placed
-    by (ch.Close k) i s = close_operand k fs i s.ordered
+    by (ch.Mark k) i s = leaf_on_top n k fs i s.placed
+    by (ch.Leaf k) i s = leaf_on_top n k fs i s.placed
+    by (ch.Close k) i s = close_on_top k fs i s.ordered
     by _ i s = cc
 
 pub operand_made : (n : ℕ) (bs : List Bool) (cs : List Change) (fs : List Frame) → tame cs bs ≡ true → ends_in is_put cs ≡ true → Stands n (suc n) (all_undone cs bs) fs → operand_on_top (all_changed n cs fs) ≡ true

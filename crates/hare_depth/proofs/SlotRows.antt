@@ -1,5 +1,5 @@
 -- The check of rows holds of the rows of all rules that need nothing of the trees under way.
-use Rattle.std.proofs.Common.{◌≡◌, List, [], ◌∷◌, Bool, true, false, refl}
+use Rattle.std.proofs.Common.{◌≡◌, [], ◌∷◌, true, false, refl}
 use Rattle.hare_tree.specs.declared.kind.Kind.{Kind}
 use Rattle.hare_tree.specs.declared.kind.Kind.TheVariants as ki
 use Rattle.hare_tree.specs.declared.form.Sign.TheVariants as si
@@ -18,7 +18,7 @@ use Rattle.hare_grammar.specs.DeclarationRows.{of_row, decl_word_row}
 use Rattle.hare_grammar.specs.Table.{row}
 use Rattle.hare_depth.specs.Gauge.{nodes_of_rule, nodes_in}
 use Rattle.hare_depth.proofs.Piles.{ends_operand, follows}
-use Rattle.hare_depth.proofs.Slots.{is_plain, same_bools, uses_ok, row_ok, ends_row}
+use Rattle.hare_depth.proofs.Slots.{is_plain, uses_ok, row_ok, ends_row}
 use Rattle.hare_depth.proofs.SlotForms.{same_refl, uses_before, uses_behind, uses_led, uses_row, or_ok, at_ok, ends_append, ends_before}
 use Rattle.hare_depth.proofs.SlotSorts.{type_ok, length_ok, level_ok, word_ok, of_ok}
 

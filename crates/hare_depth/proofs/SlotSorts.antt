@@ -1,5 +1,5 @@
 -- The check of rows holds of the rows of all sorts.
-use Rattle.std.proofs.Common.{◌≡◌, ℕ, List, [], ◌∷◌, Bool, true, false, ◌&&◌, refl, if◌then◌else◌}
+use Rattle.std.proofs.Common.{◌≡◌, ℕ, [], ◌∷◌, Bool, true, false, refl, if◌then◌else◌}
 use Rattle.std.specs.Prelude.{nat_le}
 use Rattle.hare_tree.specs.declared.kind.Kind.TheVariants as ki
 use Rattle.hare_tree.specs.declared.form.Sign.TheVariants as si
@@ -9,7 +9,7 @@ use Rattle.hare_grammar.specs.declared.class.Class.{Class}
 use Rattle.hare_grammar.specs.declared.class.Class.TheVariants as cl
 use Rattle.hare_grammar.specs.declared.rule.Rule.TheVariants as ru
 use Rattle.hare_grammar.specs.declared.rule.Change.TheVariants as ch
-use Rattle.hare_grammar.specs.Rows.{Fault, part, before, led_by, rest_of}
+use Rattle.hare_grammar.specs.Rows.{Fault, part, before, rest_of}
 use Rattle.hare_grammar.specs.TypeRows.{bare_row, type_row, member_row, length_row}
 use Rattle.hare_grammar.specs.ExpressionRows.{start_row, start_level, level_row}
 use Rattle.hare_grammar.specs.DeclarationRows.{of_row, decl_word_row}

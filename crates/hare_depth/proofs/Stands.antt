@@ -1,8 +1,7 @@
 -- What holds of the trees under way within a step, and that the changes keep it.
-use Rattle.std.proofs.Common.{◌≡◌, ℕ, suc, ◌+◌, ◌≤◌, List, [], ◌∷◌, ◌++◌, Bool, true, false, ◌&&◌, length, refl, ap, sym, ◌∙◌, subst, arith, if◌then◌else◌}
+use Rattle.std.proofs.Common.{◌≡◌, ℕ, suc, ◌+◌, List, [], ◌∷◌, Bool, true, false, ◌&&◌, refl, ap, arith, if◌then◌else◌}
 use Rattle.std.specs.Prelude.{nat_le}
 use Rattle.std.specs.List.{list_all}
-use Rattle.std.proofs.lemmas.List.Folds.{list_all-append}
 use Rattle.hare_tree.specs.declared.kind.Kind.{Kind}
 use Rattle.hare_tree.specs.declared.kind.Kind.TheVariants as ki
 use Rattle.hare_tree.specs.Depth.{is_node}
@@ -11,7 +10,7 @@ use Rattle.hare_grammar.proofs.Edges.{le_true, true_le}
 use Rattle.hare_parsing.proofs.Breaks.{both}
 use Rattle.hare_grammar.specs.declared.rule.Change.{Change}
 use Rattle.hare_grammar.specs.declared.rule.Change.TheVariants as ch
-use Rattle.hare_depth.specs.Marks.{Mark, Frame, lies_before, first_in, mark_as, leaf_mark, put, close, changed}
+use Rattle.hare_depth.specs.Marks.{Mark, Frame, mark_as, leaf_mark, put, close, changed}
 use Rattle.hare_depth.proofs.Piles.{fits, is_empty, is_ordered, kids_below, all_below}
 use Rattle.hare_depth.proofs.Grown.{behind_later}
 use Rattle.hare_depth.proofs.Below.{below_later, absent_below, leaf_below, open_below, close_below}

@@ -1,5 +1,5 @@
 -- Each token that is used adds to the limits that are passed what the gauge finds then, and where nothing more is waited for nothing is added.
-use Rattle.std.proofs.Common.{◌≡◌, ℕ, suc, List, [], ◌∷◌, ◌++◌, Bool, true, false, ◌⊎◌, inl, inr, refl, ap, sym, ◌∙◌, subst}
+use Rattle.std.proofs.Common.{◌≡◌, ℕ, List, [], ◌∷◌, ◌++◌, Bool, true, false, ◌⊎◌, inl, inr, refl, subst}
 use Rattle.hare_tree.specs.declared.token.Token.{Token}
 use Rattle.hare_tree.specs.declared.form.Sign.{Sign}
 use Rattle.hare_tree.specs.Grammar.{IsOn}
@@ -12,9 +12,9 @@ use Rattle.hare_grammar.specs.declared.rule.Change.{Change}
 use Rattle.hare_grammar.specs.Classes.{class_of}
 use Rattle.hare_grammar.specs.Rows.{Row, Fault, Skips, Uses, part, has_sign}
 use Rattle.hare_grammar.specs.Table.{row}
-use Rattle.hare_grammar.specs.Engine.{Group, Step, Goes, Ends, Stuck, close, all_changed, wanted, acted, step}
+use Rattle.hare_grammar.specs.Engine.{Group, Goes, Ends, close, all_changed, wanted, acted, step}
 use Rattle.hare_depth.specs.Gauge.{nodes_in, found}
-use Rattle.hare_depth.proofs.Piles.{frames, pile_faults, Gains, follows, Held}
+use Rattle.hare_depth.proofs.Piles.{frames, pile_faults, Gains, Held}
 use Rattle.hare_depth.proofs.Claims.{is_calm, calm_row, calm_step, Stepped, StepsGain, StepsEnd}
 use Rattle.hare_depth.proofs.Lists.{gains_refl, gains_then}
 use Rattle.hare_depth.proofs.Tame.{grows_none}
@@ -67,7 +67,7 @@ stepped_behind n c st u st' gs hs gs' k q s =
     record {
       held = s.held;
       gains = gains_then (pile_faults (nodes_in st) gs) (pile_faults (nodes_in u) hs) (pile_faults (nodes_in st') gs') (found (nodes_in st') (frames gs')) k.gains s.gains;
-      calm = λ e x i. by x (s.calm (q e) x i)
+      calm = λ e x i. by x (s.calm (q e) x i);
     }
   where
     old : (x : ℕ) → IsOn x (pile_faults (nodes_in st) gs) ⊎ IsOn x [] → IsOn x (pile_faults (nodes_in st) gs) ⊎ (x ≡ n)

@@ -1,5 +1,5 @@
 -- Steps by rules that need nothing of the trees under way: what they gain is their token, if it is used, and the gauge finds it.
-use Rattle.std.proofs.Common.{◌≡◌, ℕ, suc, List, [], ◌∷◌, ◌++◌, Bool, true, false, ◌⊎◌, inl, inr, ◌&&◌, refl, ap, sym, ◌∙◌, subst, append_assoc}
+use Rattle.std.proofs.Common.{◌≡◌, ℕ, suc, List, [], ◌∷◌, ◌++◌, Bool, true, false, ◌⊎◌, inl, inr, ◌&&◌, refl, ap, sym, ◌∙◌, subst}
 use Rattle.std.specs.List.{list_all}
 use Rattle.hare_tree.specs.declared.kind.Kind.{Kind}
 use Rattle.hare_tree.specs.declared.token.Token.{Token}
@@ -11,24 +11,24 @@ use Rattle.hare_grammar.specs.declared.rule.Symbol.{Symbol}
 use Rattle.hare_grammar.specs.declared.rule.Symbol.TheVariants as sy
 use Rattle.hare_grammar.specs.declared.rule.Change.{Change}
 use Rattle.hare_grammar.specs.declared.rule.Change.TheVariants as ch
-use Rattle.hare_grammar.specs.Rows.{Row, Fault, Skips, Uses}
+use Rattle.hare_grammar.specs.Rows.{Skips, Uses}
 use Rattle.hare_grammar.specs.Table.{row}
 use Rattle.hare_grammar.specs.Engine.{Group, close, changed, all_changed}
 use Rattle.hare_grammar.proofs.Paths.{split}
 use Rattle.hare_depth.specs.Marks as seen
 use Rattle.hare_depth.specs.Gauge.{nodes_of_rule, nodes_in, found}
-use Rattle.hare_depth.proofs.Piles.{frames, pile_faults, Gains, fits, ready_frames, ready, ends_operand, follows, Held}
+use Rattle.hare_depth.proofs.Piles.{frames, pile_faults, Gains, ready_frames, ready, ends_operand, follows, Held}
 use Rattle.hare_depth.proofs.Claims.{calm_step, Stepped}
 use Rattle.hare_depth.proofs.Lists.{gains_refl, gains_then}
-use Rattle.hare_depth.proofs.Seen.{frames_close, frames_changed, frames_all_changed}
+use Rattle.hare_depth.proofs.Seen.{frames_close, frames_all_changed}
 use Rattle.hare_depth.proofs.Changes.{absent_gains}
 use Rattle.hare_depth.proofs.Found.{found_holds}
-use Rattle.hare_depth.proofs.Slots.{undone, all_undone, tame, is_over, is_put, ends_in, is_plain, made_for, hands_on, prepared, same_bools, uses_ok, row_ok, ends_stack, ends_row}
+use Rattle.hare_depth.proofs.Slots.{all_undone, tame, is_over, is_put, ends_in, is_plain, made_for, hands_on, prepared, same_bools, uses_ok, row_ok, ends_stack, ends_row}
 use Rattle.hare_depth.proofs.SlotForms.{same_equal, nodes_append, plain_hands, tame_append}
 use Rattle.hare_depth.proofs.SlotRows.{rule_ok, rule_ends}
 use Rattle.hare_depth.proofs.Stands.{Stands, below_placed, stands_next, absent_stands, close_stands}
 use Rattle.hare_depth.proofs.Tame.{Grows, grows_behind, moved, closes, Made, tame_grows}
-use Rattle.hare_depth.proofs.Ready.{operand_on_top, close_operand, operand_made, made_ready, prepared_ready}
+use Rattle.hare_depth.proofs.Ready.{operand_on_top, close_on_top, operand_made, made_ready, prepared_ready}
 use Rattle.hare_depth.proofs.Follow.{ready_next, follows_tail, follows_next}
 
 pub uses_same : (cs ds : List Change) (ss rs : List Symbol) → Uses ds rs ≡ Uses cs ss → (cs ≡ ds) × (ss ≡ rs)
@@ -100,7 +100,7 @@ close_skipped n k st gs h =
     let z = close_stands n n k (nodes_in st) (frames gs) s in
     let e = frames_close k gs in
     record {
-      held = record { fitting = rw e z.fitting; ordered = rw e z.ordered; below = rw e z.below; following = follows_tail (sy.Close k) st h.following; readied = rw e (ready_next (sy.Close k) st (seen.close k (frames gs)) refl h.following (λ i. close_operand k (frames gs) i h.ordered)) };
+      held = record { fitting = rw e z.fitting; ordered = rw e z.ordered; below = rw e z.below; following = follows_tail (sy.Close k) st h.following; readied = rw e (ready_next (sy.Close k) st (seen.close k (frames gs)) refl h.following (λ i. close_on_top k (frames gs) i h.ordered)) };
       gains = closes k n n (nodes_in st) gs s;
     }
 

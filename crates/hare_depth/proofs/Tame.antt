@@ -1,28 +1,26 @@
 -- What the changes of a row that passes the check do to the limits that are passed: what is gained is the token, and the gauge finds it.
-use Rattle.std.proofs.Common.{◌≡◌, ℕ, suc, ◌+◌, List, [], ◌∷◌, ◌++◌, Bool, true, false, ◌⊎◌, inl, inr, ◌&&◌, not, map, length, refl, ap, sym, ◌∙◌, subst, arith, if◌then◌else◌}
+use Rattle.std.proofs.Common.{◌≡◌, ℕ, suc, List, [], ◌∷◌, ◌++◌, Bool, true, false, ◌⊎◌, inl, inr, ◌&&◌, not, map, refl, ap, sym, ◌∙◌, subst, arith, if◌then◌else◌}
 use Rattle.std.specs.Prelude.{nat_le}
 use Rattle.std.specs.List.{list_all}
 use Rattle.hare_tree.specs.declared.kind.Kind.{Kind}
-use Rattle.hare_tree.specs.declared.kind.Kind.TheVariants as ki
 use Rattle.hare_tree.specs.declared.token.Token.{Token}
 use Rattle.hare_tree.specs.Node.{Head, branch, none}
-use Rattle.hare_tree.specs.Spell.{start_of}
 use Rattle.hare_tree.specs.Depth.{is_node}
 use Rattle.hare_tree.specs.Grammar.{IsOn}
 use Rattle.hare_grammar.specs.declared.rule.Change.{Change}
 use Rattle.hare_grammar.specs.declared.rule.Change.TheVariants as ch
-use Rattle.hare_grammar.specs.Engine.{Group, begun, head_in, add, close, bare_leaf, full_leaf, changed, all_changed}
+use Rattle.hare_grammar.specs.Engine.{Group, begun, head_in, add, close, changed, all_changed}
 use Rattle.hare_grammar.proofs.Paths.{split}
 use Rattle.hare_grammar.proofs.Edges.{true_le}
 use Rattle.hare_depth.specs.Marks.{Mark, Frame, leaf_mark, put}
 use Rattle.hare_depth.specs.Marks as seen
 use Rattle.hare_depth.specs.Gauge.{opened, found, deep_frame, deep_last, high_operand}
 use Rattle.hare_depth.proofs.Piles.{mark, frame_of, frames, pile_faults, Gains, fits}
-use Rattle.hare_depth.proofs.Lists.{on_left, on_right, gains_refl, gains_none, gains_then}
+use Rattle.hare_depth.proofs.Lists.{on_left, on_right, gains_refl, gains_none}
 use Rattle.hare_depth.proofs.Seen.{frames_add, frames_changed}
 use Rattle.hare_depth.proofs.Grown.{behind_later, top_grown}
 use Rattle.hare_depth.proofs.Changes.{leaf_faults, absent_gains, open_gains, close_gains, take_same, join_same}
-use Rattle.hare_depth.proofs.Slots.{undone, all_undone, is_quiet, is_loud, is_still, tame, is_over}
+use Rattle.hare_depth.proofs.Slots.{undone, all_undone, is_quiet, is_loud, is_still, tame}
 use Rattle.hare_depth.proofs.SlotForms.{still_undone}
 use Rattle.hare_depth.proofs.Stands.{at_most, Stands, quiet_stands, loud_stands}
 
