@@ -1,12 +1,12 @@
 -- Fronts of the tokens of a file, as the gauge sees them, and fronts that a tree can have.
-use Rattle.std.proofs.Common.{◌≡◌, ◌+◌, List, [], ◌∷◌, ◌++◌, Bool, true, false, ◌&&◌, ◌||◌, not, map, length, refl, ap, sym, ◌∙◌}
+use Rattle.std.proofs.Common.{◌≡◌, ◌+◌, List, [], ◌∷◌, ◌++◌, Bool, true, false, ◌||◌, not, map, length, refl, ap, sym, ◌∙◌}
 use Rattle.hare_tree.specs.declared.token.Token.{Token}
-use Rattle.hare_tree.specs.Grammar.{is_plain_string, joined, unplaced, Spells}
+use Rattle.hare_tree.specs.Grammar.{is_plain_string, joined, Spells}
 use Rattle.hare_grammar.specs.Classes.{class_of}
 use Rattle.hare_grammar.proofs.Paths.{split}
 use Rattle.hare_parsing.specs.Faults.{is_proper_string, strung_to, strung}
 use Rattle.hare_parsing.proofs.Breaks.{both}
-use Rattle.hare_parsing.proofs.Used.{merged, chosen}
+use Rattle.hare_parsing.proofs.Used.{merged}
 use Rattle.hare_parsing.proofs.Strung.{Head, head, clean, proper_number, joined_parts, clean_more, proper_strings_join}
 use Rattle.hare_parsing.proofs.Loose.{loose, loose_unplaced, loose_clean, proper_class}
 use Rattle.hare_depth.specs.Gauge.{Seen, seen_in, numbered}

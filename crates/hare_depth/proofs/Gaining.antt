@@ -1,20 +1,19 @@
 -- What trees under way gain over tokens whose numbers rise: the faults that the gauge tells, and over calm rows none but at these tokens.
-use Rattle.std.proofs.Common.{◌≡◌, ℕ, suc, ◌+◌, ◌≤◌, List, [], ◌∷◌, ◌++◌, Bool, true, false, ◌&&◌, map, refl, ap, subst, sym, ◌⊎◌, inl, inr, arith, if◌then◌else◌}
+use Rattle.std.proofs.Common.{◌≡◌, ℕ, suc, ◌+◌, ◌≤◌, List, [], ◌∷◌, ◌++◌, Bool, true, false, ◌&&◌, map, refl, subst, sym, ◌⊎◌, inl, inr, arith, if◌then◌else◌}
 use Rattle.std.specs.Prelude.{nat_le}
 use Rattle.hare_tree.specs.declared.token.Token.{Token}
 use Rattle.hare_tree.specs.Grammar.{IsOn}
 use Rattle.hare_grammar.specs.declared.rule.Symbol.{Symbol}
-use Rattle.hare_grammar.specs.Classes.{class_of}
-use Rattle.hare_grammar.specs.Engine.{Group, step}
+use Rattle.hare_grammar.specs.Engine.{Group}
 use Rattle.hare_grammar.proofs.Edges.{le_true, true_le}
 use Rattle.hare_grammar.proofs.Paths.{split}
 use Rattle.hare_parsing.proofs.Breaks.{both}
 use Rattle.hare_depth.specs.Marks.{Mark, Frame}
 use Rattle.hare_depth.specs.Gauge.{nodes_in, found}
-use Rattle.hare_depth.proofs.Piles.{frames, pile_faults, Gains, kids_below, frame_below, all_below, Held}
+use Rattle.hare_depth.proofs.Piles.{frames, pile_faults, Gains, kids_below, all_below, Held}
 use Rattle.hare_depth.proofs.Lists.{on_left, on_right, on_either, gains_refl}
-use Rattle.hare_depth.proofs.Claims.{Stepped, StepsGain, calm_step, calm_after, Calm}
-use Rattle.hare_depth.proofs.Reaches.{Reaches, Onward, stays, goes_onward}
+use Rattle.hare_depth.proofs.Claims.{StepsGain, calm_after, Calm}
+use Rattle.hare_depth.proofs.Reaches.{Reaches, stays, goes_onward}
 
 -- ---- numbers that rise
 

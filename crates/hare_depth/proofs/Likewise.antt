@@ -12,7 +12,7 @@ use Rattle.hare_depth.specs.Gauge as gauges
 use Rattle.hare_depth.proofs.Piles.{frames}
 use Rattle.hare_depth.proofs.Claims.{seen_step}
 use Rattle.hare_depth.proofs.SeenSteps.{steps_are_seen}
-use Rattle.hare_depth.proofs.Reaches.{Reaches, Onward, reaches_none, reaches_more, stays, goes_onward}
+use Rattle.hare_depth.proofs.Reaches.{Reaches, reaches_none, reaches_more, stays, goes_onward}
 
 -- ---- tokens of the same classes
 

@@ -1,6 +1,5 @@
 -- The numbers of tokens by their index, in lists in which they rise and in fronts of such.
-use Rattle.std.proofs.Common.{◌≡◌, ℕ, zero, suc, ◌+◌, ◌<◌, ◌≤◌, List, [], ◌∷◌, ◌++◌, map, length, take, refl, ap, sym, ◌∙◌, arith, append_assoc}
-use Rattle.std.proofs.lemmas.List.{append-nil}
+use Rattle.std.proofs.Common.{◌≡◌, ℕ, zero, suc, ◌<◌, ◌≤◌, List, [], ◌∷◌, ◌++◌, map, length, refl, ap, sym, ◌∙◌, arith, append_assoc}
 use Rattle.hare_tree.specs.declared.token.Token.{Token}
 use Rattle.hare_tree.specs.Grammar.{place_of}
 use Rattle.hare_depth.specs.Gauge.{Seen, seen_in}
@@ -79,6 +78,10 @@ pub ascends_apart : (n : ℕ) (a b : List Token) (m : ℕ) → Ascends n (a ++ b
 unfolding Ascends
 ascends_apart n [] b m x = (n, omega arith, x)
 ascends_apart n (t ∷ a) b m x = let r = ascends_apart (suc t.place.line) a b m x.1 in (r.0, (x.0, r.1), r.2)
+
+pub ascends_first : (n : ℕ) (z : Token) (w : List Token) (m : ℕ) → Ascends n (z ∷ w) m → n ≤ z.place.line
+unfolding Ascends
+ascends_first n z w m a = a.0
 
 -- ---- fronts
 

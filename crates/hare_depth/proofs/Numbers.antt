@@ -6,7 +6,7 @@ use Rattle.hare_tree.specs.Grammar.{unplaced, place_of}
 use Rattle.hare_parsing.specs.Faults.{is_proper_string, strung_to, strung}
 use Rattle.hare_parsing.proofs.Alike.{classes}
 use Rattle.hare_parsing.proofs.Viable.{same_classes}
-use Rattle.hare_parsing.proofs.Used.{merged, chosen}
+use Rattle.hare_parsing.proofs.Used.{chosen}
 use Rattle.hare_parsing.proofs.Strung.{strung_append}
 use Rattle.hare_parsing.proofs.Places.{spot, all_stand, places_stand}
 use Rattle.hare_parsing.proofs.Faults.{before_spot}

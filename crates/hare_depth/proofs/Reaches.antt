@@ -17,17 +17,17 @@ use Rattle.hare_depth.proofs.SeenSteps.{steps_are_seen}
 -- what comes of tokens: the symbols and the trees behind them, and what the gauge told; or a token among them is not used
 pub data Way : Type 0 where
   Comes : List Symbol → List Group → List ℕ → Way
-  Halts : Way
+  Breaks : Way
 
 -- this first
 abbrev pub telling : List ℕ → Way → Way
 telling ns (Comes st gs ms) = Comes st gs (ns ++ ms)
-telling ns Halts = Halts
+telling ns Breaks = Breaks
 
 abbrev pub onward : Step → (List Symbol → List Group → Way) → Way
 onward (Goes st gs) go = telling (found (nodes_in st) (frames gs)) (go st gs)
-onward (Ends gs) go = Halts
-onward Stuck go = Halts
+onward (Ends gs) go = Breaks
+onward Stuck go = Breaks
 
 unfoldable pub way : ℕ → List Token → List Symbol → List Group → Way
 way f [] st gs = Comes st gs []
@@ -79,7 +79,7 @@ goes_onward f t w st st' gs gs' ns r = by (step f t (class_of t) st gs) refl r.i
         let b : gs2 ≡ gs' = cc in
         let d : found (nodes_in st1) (frames gs1) ++ ms ≡ ns = cc in
         record { next = st1; trees = gs1; later = ms; steps = i; tells = sym d; goes = record { is = j ∙ ap (λ x. Comes x gs2 ms) a ∙ ap (λ x. Comes st' x ms) b } }
-    later st1 gs1 Halts i j e = cc
+    later st1 gs1 Breaks i j e = cc
 
     by : (z : Step) → step f t (class_of t) st gs ≡ z → onward z (λ st1 gs1. way f w st1 gs1) ≡ Comes st' gs' ns → Onward f t w st gs st' gs' ns
     by (Goes st1 gs1) i e = later st1 gs1 (way f w st1 gs1) i refl e
