@@ -16,6 +16,8 @@ use Rattle.hare_grammar.specs.Engine.{Done, run, bottom}
 use Rattle.hare_grammar.specs.OneTree.{file_symbols}
 use Rattle.hare_parsing.specs.Faults.{strung, StandsAt}
 use Rattle.hare_parse.specs.Files.{HaveSorts, file_made}
+use Rattle.hare_decl.specs.declared.syntax.Syntax.{Syntax}
+use Rattle.hare_decl.specs.declared.syntax.Syntax.TheVariants as sx
 
 -- ---- tokens
 
@@ -29,6 +31,11 @@ pub record IsCut (file : ℕ) (ts : List Token) : Type 0 where
   pub no_fault : (number n : ℕ) → IsFirstFault files ts number n → ⊥
   pub no_file : (tree : FileTree) → IsFileTree file ts tree → ⊥
 
+-- what tokens come to
+abbrev pub IsSyntax : ℕ → List Token → Syntax → Type 0
+IsSyntax file ts (sx.Whole tree) = IsFile file ts tree
+IsSyntax file ts (sx.Faulty number n) = IsFirstFault files ts number n
+IsSyntax file ts sx.Cut = IsCut file ts
 
 -- the token ends a file
 abbrev pub IsEnd : Token → Type 0
@@ -52,10 +59,14 @@ last_place file [] = start_of file
 last_place file (t ∷ []) = t.place
 last_place file (t ∷ u ∷ us) = last_place file (u ∷ us)
 
+-- the first fault of the tokens of a file
+abbrev pub HasFirstFault : List Token → fault.Fault → Type 0
+HasFirstFault ts f = (number n : ℕ) × IsFirstFault files ts number n × (f ≡ fault_at ts number n)
+
 -- the first fault of the tokens of a file; where they are cut off, it is E8 at the last of them
 abbrev pub HasFault : ℕ → List Token → fault.Fault → Type 0
 HasFault file ts f =
-    ((number n : ℕ) × IsFirstFault files ts number n × (f ≡ fault_at ts number n)) ⊎ (IsCut file ts × (f ≡ record { number = 8; place = last_place file ts }))
+    HasFirstFault ts f ⊎ (IsCut file ts × (f ≡ record { number = 8; place = last_place file ts }))
 
 -- all tokens are of the file
 abbrev pub AreOfFile : ℕ → List Token → Type 0
@@ -73,7 +84,7 @@ pub record IsSource (file : ℕ) (text : List ℕ) (tree : FileTree) : Type 0 wh
 -- before it.
 abbrev pub HasSourceFault : ℕ → List ℕ → fault.Fault → Type 0
 HasSourceFault file text f =
-    ((ts : List Token) × (number n : ℕ) × IsTokens file text ts × IsFirstFault files ts number n × (f ≡ fault_at ts number n))
+    ((ts : List Token) × IsTokens file text ts × HasFirstFault ts f)
     ⊎ ((lexical : fault.Fault) × (kept : List Token) × IsFirstBreak file text lexical kept × IsLeastFault kept lexical f)
 
 -- ---- what the calls answer

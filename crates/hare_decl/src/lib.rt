@@ -1,2 +1,9 @@
 //! Files of Hare: the one tree of a file, or its first fault.
 #![tactic(auto)]
+
+mod file;
+mod source;
+mod syntax;
+
+pub use file::parse_file;
+pub use source::parse_source;

@@ -8,7 +8,7 @@ pub mod Kids
 pub mod Numbers
 pub mod Opened
 pub mod Parted
-pub mod Parsed
+pub mod Answered
 pub mod Once
 pub mod FileParts
 pub mod Made
@@ -18,3 +18,4 @@ pub mod SteppedMarks
 pub mod Told
 pub mod Tops
 pub mod Widths
+pub mod NumbersWithin

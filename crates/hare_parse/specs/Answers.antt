@@ -1,6 +1,6 @@
 -- What a parser answers for the tokens from a place of their list on, which are the whole list here: the tree of their longest front that begins
 -- a tree of the sort, or their first fault.
-use Rattle.std.specs.Prelude.{◌≡◌, ℕ, zero, suc, ◌+◌, ◌-◌, ◌<◌, ◌≤◌, ◌⊎◌, List, [], ◌∷◌, true, take, drop, Result, MatchResult}
+use Rattle.std.specs.Prelude.{◌≡◌, ℕ, zero, suc, ◌+◌, ◌-◌, ◌<◌, ◌≤◌, ◌⊎◌, List, [], ◌∷◌, true, take, drop, Result, MatchResult, Option, Some, None}
 use Rattle.hare_tree.specs.declared.place.Place.{Place}
 use Rattle.hare_tree.specs.declared.place.Fault as fault
 use Rattle.hare_tree.specs.declared.token.Token.{Token}
@@ -10,7 +10,15 @@ use Rattle.hare_tree.specs.declared.form.Sort.{Sort}
 use Rattle.hare_tree.specs.Node.{Node}
 use Rattle.hare_tree.specs.Spell.{spell}
 use Rattle.hare_tree.specs.Shape.{is_shaped}
-use Rattle.hare_tree.specs.Grammar.{Spells, trees_of, place_of, IsRun, IsDepthFault, IsTreeOf}
+use Rattle.hare_tree.specs.Depth.{deep_root}
+use Rattle.hare_tree.specs.Grammar.{Language, Spells, trees_of, files, place_of, IsRun, IsDepthFault, IsTreeOf}
+use Rattle.hare_grammar.specs.Rows.{of}
+use Rattle.hare_grammar.specs.Engine.{add, Done, run, bottom}
+use Rattle.hare_grammar.specs.OneTree.{file_symbols}
+use Rattle.hare_parsing.specs.Faults.{strung}
+use Rattle.hare_parse.specs.Runs.{closed}
+use Rattle.hare_parse.specs.Files.{file_made}
+use Rattle.hare_parse.specs.declared.parse.Parsed.{Parsed}
 
 -- ---- what the tokens come to
 
@@ -37,6 +45,21 @@ pub record IsBroken (s : Sort) (ts : List Token) (n : ℕ) : Type 0 where
   pub no_tree : (tree : Node) → is_shaped s tree ≡ true → Spells (spell 0 tree) (take n ts) → ⊥
   pub shallow : (m : ℕ) → IsDepthFault (trees_of s) ts m → ⊥
 
+-- The place in the list, which begins at `at`, of the first token at which a limit is passed; none where no limit is passed.
+abbrev pub IsFirstDepth : {T : Type 0} → Language T → List Token → ℕ → Option ℕ → Type 0
+IsFirstDepth l ts at None = (m : ℕ) → IsDepthFault l ts m → ⊥
+IsFirstDepth l ts at (Some n) = (at ≤ n) × IsDepthFault l ts (n - at) × ((m : ℕ) → m < n - at → IsDepthFault l ts m → ⊥)
+
+-- a tree that the machine has read, with End behind the tokens, keeps the limits
+abbrev pub TreesFit : Sort → List Token → Type 0
+TreesFit s ts =
+    (file : ℕ) (rest : List Token) (tree : Node) → run file (strung (closed ts)) (of s ∷ []) bottom ≡ Done rest (add tree bottom) → deep_root tree ≡ []
+
+-- and so does a file
+abbrev pub FilesFit : List Token → Type 0
+FilesFit ts =
+    (file : ℕ) (rest : List Token) (uses decls : List Node) → run file (strung ts) file_symbols bottom ≡ Done rest (file_made uses decls) → files.deep_of (record { file = file; uses = uses; decls = decls }) ≡ []
+
 -- the place of a token, or where the list ends before it that of the last one
 abbrev pub place_up_to : List Token → ℕ → Place
 place_up_to [] n = place_of [] n
@@ -53,3 +76,21 @@ abbrev pub HasFault : Sort → List Token → fault.Fault → Type 0
 HasFault s ts f =
     (n : ℕ) × (((f ≡ fault_up_to ts 9 n) × IsTooDeep s ts n) ⊎ ((f ≡ fault_up_to ts 8 n) × IsBroken s ts n))
 
+-- ---- what the calls answer
+
+-- the tree with the tokens up to `next`, of a list read from `at` on
+abbrev pub IsParsed : Sort → List Token → ℕ → Parsed → Type 0
+IsParsed s ts at p = (at ≤ p.next) × IsRead s (file_in ts at) (drop at ts) p.tree (p.next - at)
+
+-- the call stops at a fault of the tokens, or there was not enough memory
+abbrev pub Stops : Sort → List Token → ℕ → Stop fault.Fault → Type 0
+Stops s ts at (Fault f) = HasFault s (drop at ts) f
+Stops s ts at Memory = Unit {0}
+
+-- the call gives this tree and the place behind it, or there was not enough memory
+abbrev pub GivesTree : ℕ → Node → ℕ → Result Parsed (Stop fault.Fault) → Type 0
+GivesTree at tree n result = MatchResult result (λ p. (p.tree ≡ tree) × (p.next ≡ at + n)) (λ e. e ≡ Memory)
+
+-- the call gives this fault, or there was not enough memory
+abbrev pub GivesFault : fault.Fault → Result Parsed (Stop fault.Fault) → Type 0
+GivesFault f result = MatchResult result (λ p. ⊥) (λ e. (e ≡ Memory) ⊎ (e ≡ Fault f))

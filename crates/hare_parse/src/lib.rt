@@ -3,9 +3,11 @@
 
 mod change;
 mod class;
+mod depth;
 mod file;
 mod gauge;
 mod group;
+mod parse;
 mod pile;
 mod reader;
 mod row;
@@ -19,5 +21,6 @@ mod tests;
 mod waits;
 mod whole;
 
+pub use depth::depth_fault_of_file;
 pub use file::{FileOutcome, read_file};
-pub use reader::{Outcome, read};
+pub use parse::{Parsed, parse_expr, parse_type};
