@@ -1,6 +1,5 @@
 -- The parts of the proof that the gauge tells where the limits are passed, as statements.
-use Rattle.std.proofs.Common.{◌≡◌, ℕ, suc, ◌<◌, ◌≤◌, List, [], ◌∷◌, ◌++◌, Bool, true, false, ◌⊎◌, ◌&&◌, map, length}
-use Rattle.std.specs.Prelude.{nat_le, if◌then◌else◌}
+use Rattle.std.proofs.Common.{◌≡◌, ℕ, suc, ◌<◌, ◌≤◌, List, [], ◌∷◌, Bool, true, false, ◌⊎◌, map, length}
 use Rattle.hare_tree.specs.declared.token.Token.{Token}
 use Rattle.hare_tree.specs.declared.form.Sort.{Sort}
 use Rattle.hare_tree.specs.Node.{Node}
@@ -15,8 +14,6 @@ use Rattle.hare_grammar.specs.declared.rule.Rule.{Rule}
 use Rattle.hare_grammar.specs.declared.rule.Rule.TheVariants as ru
 use Rattle.hare_grammar.specs.declared.rule.Symbol.{Symbol}
 use Rattle.hare_grammar.specs.declared.rule.Symbol.TheVariants as sy
-use Rattle.hare_grammar.specs.declared.rule.Change.{Change}
-use Rattle.hare_grammar.specs.declared.rule.Change.TheVariants as ch
 use Rattle.hare_grammar.specs.Classes.{class_of}
 use Rattle.hare_grammar.specs.Rows.{Row, Fault, Skips, Uses}
 use Rattle.hare_grammar.specs.Table.{row}
@@ -25,7 +22,6 @@ use Rattle.hare_grammar.specs.Engine as engine
 use Rattle.hare_parsing.specs.Viable.{has_trees}
 use Rattle.hare_parsing.proofs.Endings.{good, closing}
 use Rattle.hare_parsing.proofs.Alike.{classes}
-use Rattle.hare_depth.specs.Marks.{Frame}
 use Rattle.hare_depth.specs.Gauge.{Gauged, Seen, seen_in, with_faults, nodes_in, found, gauge}
 use Rattle.hare_depth.specs.Gauge as gauges
 use Rattle.hare_depth.proofs.Piles.{frames, faults_of, pile_faults, Gains, Held}

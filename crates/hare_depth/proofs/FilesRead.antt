@@ -1,18 +1,15 @@
 -- Files are read by the grammar's machine, and pass the limits where what it makes does.
-use Rattle.std.proofs.Common.{◌≡◌, ℕ, ◌+◌, ◌<◌, List, [], ◌∷◌, ◌++◌, true, false, ◌⊎◌, inl, inr, map, length, refl, ap, sym, ◌∙◌, subst, append_assoc, arith}
+use Rattle.std.proofs.Common.{◌≡◌, ℕ, ◌+◌, List, [], ◌∷◌, ◌++◌, true, map, length, refl, ap, sym, ◌∙◌, subst, append_assoc, arith}
 use Rattle.std.specs.List.{list_all}
 use Rattle.std.proofs.lemmas.List.{append-nil, length-append, length-map, append_cancel_right, map-append}
 use Rattle.hare_tree.specs.declared.token.Token.{Token}
 use Rattle.hare_tree.specs.declared.token.TokenKind.TheVariants as tk
-use Rattle.hare_tree.specs.declared.form.Sort.{Sort}
 use Rattle.hare_tree.specs.declared.form.Sort.TheVariants as so
-use Rattle.hare_tree.specs.declared.form.Lead.TheVariants as le
 use Rattle.hare_tree.specs.declared.tree.FileTree.{FileTree}
 use Rattle.hare_tree.specs.Node.{Node, nodes_of}
-use Rattle.hare_tree.specs.Spell.{word_token, spells, spell_all, spell_file}
+use Rattle.hare_tree.specs.Spell.{word_token, spell_all, spell_file}
 use Rattle.hare_tree.specs.Shape.{is_shaped, is_shaped_file}
-use Rattle.hare_tree.specs.Depth.{begins_led, deep_all}
-use Rattle.hare_tree.specs.Grammar.{IsOn, Spells, files, unplaced}
+use Rattle.hare_tree.specs.Grammar.{Spells, files, unplaced}
 use Rattle.hare_grammar.specs.Engine.{Group, Done, run, bottom}
 use Rattle.hare_grammar.specs.OneTree.{file_symbols}
 use Rattle.hare_grammar.proofs.Files.{read_file, files_have_one_tree}
@@ -27,8 +24,6 @@ use Rattle.hare_parsing.proofs.Faults.{file_loose}
 use Rattle.hare_parsing.proofs.FileFaults.{files_join}
 use Rattle.hare_depth.specs.Gauge.{numbered, nodes_in}
 use Rattle.hare_depth.proofs.Piles.{pile_faults, Gains}
-use Rattle.hare_depth.proofs.Lists.{on_either}
-use Rattle.hare_depth.proofs.Begins.{Within, led_within}
 use Rattle.hare_depth.proofs.AtStart.{files_at_start, none_at_start}
 use Rattle.hare_depth.proofs.LetterFiles.{Placed, deep_file, file_piles_agree}
 use Rattle.hare_depth.proofs.Placeless.{files_pass_alike, file_limits}

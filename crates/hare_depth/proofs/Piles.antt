@@ -3,13 +3,10 @@
 use Rattle.std.proofs.Common.{◌≡◌, ℕ, suc, ◌+◌, List, [], ◌∷◌, ◌++◌, Bool, true, false, ◌&&◌, ◌⊎◌, not, map, length}
 use Rattle.std.specs.Prelude.{nat_le, ◌==◌, if◌then◌else◌}
 use Rattle.std.specs.List.{list_all}
-use Rattle.hare_tree.specs.declared.kind.Kind.{Kind}
-use Rattle.hare_tree.specs.declared.token.Token.{Token}
 use Rattle.hare_tree.specs.declared.form.Own.TheVariants as ow
 use Rattle.hare_tree.specs.Node.{Node, Nodes, branch, none, more, nodes_of}
 use Rattle.hare_tree.specs.Depth.{is_node}
 use Rattle.hare_tree.specs.Grammar.{IsOn}
-use Rattle.hare_grammar.specs.declared.rule.Rule.{Rule}
 use Rattle.hare_grammar.specs.declared.rule.Rule.TheVariants as ru
 use Rattle.hare_grammar.specs.declared.rule.Symbol.{Symbol}
 use Rattle.hare_grammar.specs.declared.rule.Symbol.TheVariants as sy

@@ -1,7 +1,6 @@
 -- The gauge of depth: the grammar's machine over the classes and numbers of tokens, which keeps marks in place of trees and tells the tokens
 -- at which a limit on depth is passed.
-use Rattle.std.specs.Prelude.{ℕ, suc, ◌+◌, List, [], ◌∷◌, ◌++◌, map, Bool, true, false, ◌&&◌, nat_le, if◌then◌else◌}
-use Rattle.std.specs.List.{flat_map}
+use Rattle.std.specs.Prelude.{ℕ, suc, List, [], ◌∷◌, ◌++◌, map, Bool, true, false, ◌&&◌, nat_le, if◌then◌else◌}
 use Rattle.hare_tree.specs.declared.token.Token.{Token}
 use Rattle.hare_tree.specs.Depth.{is_node}
 use Rattle.hare_grammar.specs.declared.class.Class.{Class}
