@@ -7,7 +7,7 @@ use Rattle.hare_tree.specs.Node.{Node}
 use Rattle.hare_tree.specs.Spell.{spell}
 use Rattle.hare_tree.specs.Shape.{is_shaped}
 use Rattle.hare_tree.specs.Depth.{deep_root}
-use Rattle.hare_tree.specs.Grammar.{Spells, HasPlaces, joined, trees_of, IsViable, IsRun, IsSyntaxFault, IsOn, IsDepthFault, IsTreeOf}
+use Rattle.hare_tree.specs.Grammar.{Spells, HasPlaces, joined, trees_of, IsViable, IsRun, IsSyntaxFault, IsDepthFault, IsTreeOf}
 use Rattle.hare_grammar.specs.Rows.{of}
 use Rattle.hare_grammar.specs.Engine.{Group, add, Step, Goes, Ends, Stuck, step, Outcome, Done, Fails, after, run, bottom}
 use Rattle.hare_grammar.specs.Classes.{class_of}
@@ -19,11 +19,9 @@ use Rattle.hare_parsing.proofs.Faults.{runs_fault, runs_fault_in_trees, runs_rea
 use Rattle.hare_parsing.proofs.Places.{cut}
 use Rattle.hare_parsing.proofs.Strung.{head}
 use Rattle.hare_parsing.proofs.Viable.{end}
-use Rattle.hare_depth.specs.Depth.{TellsDepth, gauged, GaugesTell, GaugedTreesFit}
-use Rattle.hare_depth.specs.Gauge.{start}
-use Rattle.hare_depth.proofs.Unused.{closed, gauge_closed}
+use Rattle.hare_parse.specs.Runs.{closed}
 use Rattle.hare_parse.proofs.Onward.{done_behind}
-use Rattle.hare_parse.specs.Answers.{IsRead, IsTooDeep, IsBroken}
+use Rattle.hare_parse.specs.Answers.{IsRead, IsBroken, TreesFit}
 
 -- ---- lists with End behind them
 
@@ -46,26 +44,10 @@ top_kids (g ∷ gs) = g.kids
 same_added : (a b : Node) → add a bottom ≡ add b bottom → a ≡ b
 same_added a b e = let k : a ∷ [] ≡ b ∷ [] = ap top_kids e in cc
 
--- ---- depth
-
--- where nothing is told, no limit is passed
-pub none_told : GaugesTell → (s : Sort) → has_trees s ≡ true → (ts : List Token) → (gauged s ts).faults ≡ [] → (m : ℕ) → IsDepthFault (trees_of s) ts m → ⊥
-none_told tell s c ts g m d =
-    let q = (tell s c ts).least m d in
-    subst (λ y. IsOn (suc q.0) y) g q.2
-
--- the least that is told is the first limit that is passed
-pub told_is_first : GaugesTell → (s : Sort) → has_trees s ≡ true → (ts : List Token) (n : ℕ) → IsOn (suc n) (gauged s ts).faults → ((m : ℕ) → m < n → IsOn (suc m) (gauged s ts).faults → ⊥) → IsTooDeep s ts n
-told_is_first tell s c ts n on least =
-    record {
-      passed = (tell s c ts).told n on;
-      first = λ m h d. let q = (tell s c ts).least m d in least q.0 (omega (arith, h, q.1)) q.2;
-    }
-
 -- ---- trees
 
-pub done_is_read : GaugesTell → GaugedTreesFit → (s : Sort) → has_trees s ≡ true → (file : ℕ) (ts us : List Token) (tree : Node) (n : ℕ) → run file (strung (closed ts)) (of s ∷ []) bottom ≡ Done us (add tree bottom) → StandsAt (closed ts) n us → n ≤ length ts → (gauged s ts).faults ≡ [] → IsRead s file ts tree n
-done_is_read tell fit s c file ts us tree n e q h g =
+pub done_is_read : (s : Sort) → has_trees s ≡ true → (file : ℕ) (ts us : List Token) (tree : Node) (n : ℕ) → run file (strung (closed ts)) (of s ∷ []) bottom ≡ Done us (add tree bottom) → StandsAt (closed ts) n us → n ≤ length ts → ((m : ℕ) → IsDepthFault (trees_of s) ts m → ⊥) → TreesFit s ts → IsRead s file ts tree n
+done_is_read s c file ts us tree n e q h d fit =
     let b = done_behind file (strung (closed ts)) us (of s ∷ []) bottom (add tree bottom) e in
     let q' : StandsAt (closed ts) n (b.0 ∷ b.1) = subst (λ y. StandsAt (closed ts) n y) b.2 q in
     let r = runs_read_fronts s c file (closed ts) n b.0 b.1 (add tree bottom) (e ∙ ap (λ y. Done y (add tree bottom)) b.2) q' in
@@ -74,8 +56,8 @@ done_is_read tell fit s c file ts us tree n e q h g =
     let shaped : is_shaped s tree ≡ true = subst (λ t. is_shaped s t ≡ true) i r.shaped in
     let spelled : Spells (spell 0 tree) (take n ts) = subst (λ t. Spells (spell 0 t) (take n ts)) i (subst (λ y. Spells (spell 0 r.tree) y) front r.spelled) in
     let placed : HasPlaces file (joined (take n ts)) 0 tree = subst (λ t. HasPlaces file (joined (take n ts)) 0 t) i (subst (λ y. HasPlaces file (joined y) 0 r.tree) front r.placed) in
-    let t : IsTreeOf s file (take n ts) tree = record { shaped = shaped; shallow = fit s c file (closed ts) us tree e (gauge_closed ts (of s ∷ []) start ∙ g); spelled = spelled; placed = placed } in
-    record { run = run_closed s ts n h r.ends; read = t; only = λ other o. tokens_have_one_tree s (trees_sort s c) file (take n ts) other tree o t; shallow = none_told tell s c ts g }
+    let t : IsTreeOf s file (take n ts) tree = record { shaped = shaped; shallow = fit file us tree e; spelled = spelled; placed = placed } in
+    record { run = run_closed s ts n h r.ends; read = t; only = λ other o. tokens_have_one_tree s (trees_sort s c) file (take n ts) other tree o t; shallow = d }
 
 -- ---- faults
 
@@ -86,13 +68,13 @@ some_behind ts us n q h =
     let k = head c.first c.behind in
     (k.first, k.rest, q.behind ∙ ap strung c.rest ∙ k.is)
 
-pub stuck_is_broken : GaugesTell → (s : Sort) → has_trees s ≡ true → (file : ℕ) (ts us : List Token) (n : ℕ) → run file (strung (closed ts)) (of s ∷ []) bottom ≡ Fails us → StandsAt (closed ts) n us → n ≤ length ts → (gauged s ts).faults ≡ [] → IsBroken s ts n
-stuck_is_broken tell s c file ts us n e q h g =
+pub stuck_is_broken : (s : Sort) → has_trees s ≡ true → (file : ℕ) (ts us : List Token) (n : ℕ) → run file (strung (closed ts)) (of s ∷ []) bottom ≡ Fails us → StandsAt (closed ts) n us → n ≤ length ts → ((m : ℕ) → IsDepthFault (trees_of s) ts m → ⊥) → IsBroken s ts n
+stuck_is_broken s c file ts us n e q h d =
     let b = some_behind ts us n q h in
     let q' : StandsAt (closed ts) n (b.0 ∷ b.1) = subst (λ y. StandsAt (closed ts) n y) b.2 q in
     let e' : run file (strung (closed ts)) (of s ∷ []) bottom ≡ Fails (b.0 ∷ b.1) = e ∙ ap Fails b.2 in
     record {
       run = run_closed s ts n h (runs_fault s c file (closed ts) n b.0 b.1 e' q');
       no_tree = λ tree a i. runs_fault_in_trees s c file (closed ts) n b.0 b.1 e' q' tree a (subst (λ y. Spells (spell 0 tree) y) (sym (front_closed ts n h)) i);
-      shallow = none_told tell s c ts g;
+      shallow = d;
     }

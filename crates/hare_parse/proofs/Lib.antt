@@ -19,3 +19,5 @@ pub mod Told
 pub mod Tops
 pub mod Widths
 pub mod NumbersWithin
+pub mod Depths
+pub mod Placed

@@ -1,8 +1,7 @@
 //! The first token at which a limit on depth is passed.
 
-ghost use Rattle.std.specs.Prelude.{◌≡◌, List, None, drop, IfOk};
+ghost use Rattle.std.specs.Prelude.{◌≡◌, true, None, drop, IfOk};
 ghost use Rattle.hare_tree.specs.Grammar.{trees_of, files};
-ghost use Rattle.hare_tree.specs.Node.{Node};
 ghost use Rattle.hare_parsing.specs.Viable.{has_trees};
 ghost use Rattle.hare_parse.specs.Answers as spec;
 

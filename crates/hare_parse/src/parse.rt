@@ -1,6 +1,6 @@
 //! Types and expressions read from the tokens of a file.
 
-ghost use Rattle.std.specs.Prelude.{◌≡◌, ℕ, ◌<◌, drop, length, IfOk, IfErr};
+ghost use Rattle.std.specs.Prelude.{◌≡◌, ℕ, ◌<◌, true, drop, length, IfOk, IfErr};
 ghost use Rattle.hare_tree.specs.declared.place.Fault.{Fault};
 ghost use Rattle.hare_tree.specs.declared.form.Sort.TheVariants as so;
 ghost use Rattle.hare_tree.specs.Forms as forms;
