@@ -6,6 +6,7 @@ pub mod Joining
 pub mod KidMarks
 pub mod Kids
 pub mod Numbers
+pub mod NumbersWithin
 pub mod Opened
 pub mod Parted
 pub mod SteppedMarks

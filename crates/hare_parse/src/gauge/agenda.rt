@@ -19,16 +19,18 @@ pub struct Agenda {
 }
 
 impl Agenda {
-    /// Nothing.
+    /// What is waited for, the first of it on top.
     #[tactic(auto, unfolding(hare_depth::specs::Gauge::nodes_in))]
-    pub fn new(alloc: Global) -> Agenda
-        ensures waits { waited result.waits ≡ [] }
-        ensures paired { IsPaired result }
+    pub fn of(alloc: Global, waits: &[Wait]) -> Result<Agenda, AllocError>
+        ensures waits { IfOk result (λ a. waited a.waits ≡ waited waits.now) }
+        ensures paired { IfOk result IsPaired }
     {
-        Agenda {
+        let mut agenda = Agenda {
             waits: Pile::new(alloc),
             nodes: Nodes::new(alloc),
-        }
+        };
+        agenda.push_all(waits)?;
+        Ok(agenda)
     }
 
     /// Puts what is waited for on top, the first of it topmost.
