@@ -1,10 +1,12 @@
 pub mod Capping
 pub mod Classified
+pub mod FileParts
 pub mod GaugedLoop
 pub mod GaugedRuns
 pub mod Joining
 pub mod KidMarks
 pub mod Kids
+pub mod Made
 pub mod Numbers
 pub mod NumbersWithin
 pub mod Opened

@@ -87,3 +87,8 @@ place_further ts from at next t p b =
       within = inr b.within;
       stands = record { behind = b.stands.behind ∙ ap strung (sym d); parted = rw (ends_between ts from at next a c b.within, d) b.stands.parted };
     }
+
+pub place_from_start : (ts : List Token) (n : ℕ) → IsPlace ts 0 n → StandsAt ts n (strung (drop n ts))
+place_from_start ts n p =
+    let e : n - 0 ≡ n = omega arith in
+    rw e at p.stands

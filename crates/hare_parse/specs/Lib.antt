@@ -7,3 +7,4 @@ pub mod Deep
 pub mod Agenda
 pub mod Gauged
 pub mod Width
+pub mod Files

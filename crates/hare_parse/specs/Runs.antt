@@ -1,10 +1,10 @@
 -- What a run of the program comes to, in the words of the table's machine.
-use Rattle.std.specs.Prelude.{◌≡◌, ℕ, ◌-◌, ◌≤◌, ◌⊎◌, List, [], ◌∷◌, drop, length}
+use Rattle.std.specs.Prelude.{◌≡◌, ℕ, ◌-◌, ◌≤◌, ◌⊎◌, List, drop, length}
 use Rattle.hare_tree.specs.declared.token.Token.{Token}
 use Rattle.hare_tree.specs.Node.{Node}
 use Rattle.hare_grammar.specs.declared.rule.Symbol.{Symbol}
 use Rattle.hare_grammar.specs.Classes.{class_of}
-use Rattle.hare_grammar.specs.Engine.{Group, Outcome, Done, Fails, step}
+use Rattle.hare_grammar.specs.Engine.{Group, Outcome, Done, Fails, add, bottom, step}
 use Rattle.hare_parsing.specs.Faults.{strung, StandsAt}
 use Rattle.hare_parse.specs.declared.reader.Outcome.{Outcome as Answered}
 use Rattle.hare_parse.specs.declared.reader.Outcome.TheVariants as ou
@@ -27,16 +27,15 @@ outcome_in (re.Stuck n) ts gs = Fails (strung (drop n ts))
 
 -- ---- trees that are read
 
--- the kids of the innermost tree under way
-abbrev pub kids_on : List Group → List Node
-kids_on [] = []
-kids_on (g ∷ gs) = g.kids
+-- nothing is under way but one whole tree
+pub record HoldsTree (gs : List Group) : Type 0 where
+  pub tree : Node
+  pub is : gs ≡ add tree bottom
 
--- The same, where all is read with the kids of the innermost tree under way.
-abbrev pub IsRead : Outcome → Answered → List Token → Type 0
-IsRead (Done us gs) (ou.Done trees n) ts = (us ≡ strung (drop n ts)) × (trees.items ≡ kids_on gs)
-IsRead (Fails us) (ou.Stuck n) ts = us ≡ strung (drop n ts)
-IsRead _ _ ts = ⊥
+-- The outcome of the machine's run that this answer says. Its tokens are the joined tokens from the place on that is answered.
+abbrev pub outcome_of : Answered → List Token → Outcome
+outcome_of (ou.Done tree n) ts = Done (strung (drop n ts)) (add tree bottom)
+outcome_of (ou.Stuck n) ts = Fails (strung (drop n ts))
 
 -- ---- places
 
@@ -52,5 +51,5 @@ place_in (re.End n) = n
 place_in (re.Stuck n) = n
 
 abbrev pub place_of : Answered → ℕ
-place_of (ou.Done trees n) = n
+place_of (ou.Done tree n) = n
 place_of (ou.Stuck n) = n

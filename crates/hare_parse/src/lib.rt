@@ -3,6 +3,7 @@
 
 mod change;
 mod class;
+mod file;
 mod gauge;
 mod group;
 mod pile;
@@ -18,4 +19,5 @@ mod tests;
 mod waits;
 mod whole;
 
+pub use file::{FileOutcome, read_file};
 pub use reader::{Outcome, read};

@@ -1,4 +1,4 @@
-//! Trees read from the tokens of a file.
+//! A tree read from the tokens of a file.
 
 ghost use Rattle.std.specs.Prelude.{◌≡◌, [], ◌∷◌, drop, IfOk};
 ghost use Rattle.hare_parsing.specs.Faults.{strung};
@@ -6,19 +6,18 @@ ghost use Rattle.hare_grammar.specs.Rows as rows;
 ghost use Rattle.hare_grammar.specs.Engine as engine;
 ghost use Rattle.hare_parse.specs.Runs as spec;
 
-use crate::change::start_of;
 use crate::group::Group;
 use crate::pile::Pile;
 use crate::row::of;
-use crate::run::{Reached, run};
+use crate::run::{Reached, bottom, run};
 use hare_tree::{Sort, Tokens, Tree};
 use std::alloc::{AllocError, Global};
 
 /// What tokens come to.
 #[derive(Drop)]
 pub enum Outcome {
-    /// The tree, in a list of its own. The number is the place in the list of tokens of the first that is not used.
-    Done(Vec<Tree>, usize),
+    /// The tree. The number is the place in the list of tokens of the first that is not used.
+    Done(Tree, usize),
     /// The token at this place of the list cannot stand there, or the tokens are used up.
     Stuck(usize),
 }
@@ -34,25 +33,28 @@ pub fn read(
     at: usize,
     sort: Sort,
 ) -> Result<Outcome, AllocError>
-    ensures machine { IfOk result (λ o. spec.IsRead (engine.run file (strung (drop at tokens.now)) (rows.of sort ∷ []) engine.bottom) o tokens.now) }
+    ensures run { IfOk result (λ o. engine.run file (strung (drop at tokens.now)) (rows.of sort ∷ []) engine.bottom ≡ spec.outcome_of o tokens.now) }
     ensures place { IfOk result (λ o. spec.IsPlace tokens.now at (spec.place_of o)) }
 {
     let mut stack = Pile::new(alloc);
     stack.push(of(sort))?;
-    let mut groups = Pile::new(alloc);
-    groups.push(Group::begun(alloc, start_of(0), Vec::new(alloc)))?;
+    let mut groups = bottom(alloc)?;
     match run(alloc, file, tokens, at, &mut stack, &mut groups)? {
-        Reached::End(next) => Ok(Outcome::Done(kids_on(alloc, &mut groups), next)),
+        Reached::End(next) => Ok(Outcome::Done(tree_in(&mut groups), next)),
         Reached::Stuck(next) => Ok(Outcome::Stuck(next)),
     }
 }
 
-/// The kids of the innermost tree under way.
-fn kids_on(alloc: Global, groups: &mut Pile<Group>) -> Vec<Tree>
-    ensures { result.items ≡ spec.kids_on groups.old }
+/// Takes the tree out, of which there is one.
+fn tree_in(groups: &mut Pile<Group>) -> Tree
+    requires { spec.HoldsTree groups.old }
+    ensures { groups.old ≡ engine.add result engine.bottom }
 {
-    match groups.pop() {
-        Some(group) => group.into_kids(),
-        None => Vec::new(alloc),
+    let Some(mut group) = groups.pop() else {
+        unreachable!()
+    };
+    match group.take_last() {
+        Some(tree) => tree,
+        None => unreachable!(),
     }
 }

@@ -6,6 +6,7 @@ ghost use Rattle.hare_grammar.specs.Engine as engine;
 ghost use Rattle.hare_parse.specs.Seen.{waited};
 ghost use Rattle.hare_parse.specs.Runs as spec;
 
+use crate::change::start_of;
 use crate::class::class_of;
 use crate::group::Group;
 use crate::pile::Pile;
@@ -29,6 +30,15 @@ pub enum Reached {
     End(usize),
     /// The token at this place of the list cannot stand there, or the tokens are used up.
     Stuck(usize),
+}
+
+/// The trees under way before the first token is read.
+pub fn bottom(alloc: Global) -> Result<Pile<Group>, AllocError>
+    ensures { IfOk result (λ groups. groups ≡ engine.bottom) }
+{
+    let mut groups = Pile::new(alloc);
+    groups.push(Group::begun(alloc, start_of(0), Vec::new(alloc)))?;
+    Ok(groups)
 }
 
 /// Reads the tokens of the file from a place of the list on.

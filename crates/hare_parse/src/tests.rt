@@ -1,5 +1,6 @@
 //! Short texts, with what a person expects of them. Their tokens stand apart, with one blank between any two.
 
+mod files;
 mod forms;
 mod trees;
 
@@ -62,10 +63,7 @@ fn parsed(alloc: Global, sort: Sort, text: &str) -> Result<Outcome, AllocError> 
 // The tree that a text is, and how many tokens it has.
 fn tree_of(alloc: Global, sort: Sort, text: &str) -> Option<(Tree, usize)> {
     match parsed(alloc, sort, text) {
-        Ok(Outcome::Done(mut trees, used)) => match trees.pop() {
-            Some(tree) => Some((tree, used)),
-            None => None,
-        },
+        Ok(Outcome::Done(tree, used)) => Some((tree, used)),
         _ => None,
     }
 }

@@ -21,10 +21,9 @@ fn are_spelled_alike(a: &Tokens, b: &Tokens) -> bool {
 // Whether a declaration is read whole, fits, and is spelled by the tokens that it was read from.
 fn comes_back(alloc: Global, text: &str) -> Result<bool, Fail> {
     let from = tokens(alloc, text)?;
-    let Outcome::Done(mut trees, _) = read(alloc, 7, &from, 0, Sort::Decl)? else {
+    let Outcome::Done(tree, _) = read(alloc, 7, &from, 0, Sort::Decl)? else {
         return Ok(false);
     };
-    let tree = trees.pop().ok_or("no tree")?;
     let mut decls = Kids::new(alloc);
     decls.push(alloc, tree)?;
     let file = FileTree {

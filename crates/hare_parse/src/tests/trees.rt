@@ -121,6 +121,21 @@ fn strings_side_by_side_are_one(rt: HostRuntime) -> Result<(), Fail> {
 }
 
 #[test]
+fn a_string_with_a_number_stands_alone(rt: HostRuntime) -> Result<(), Fail> {
+    let mut all = Tokens::new(rt.alloc());
+    all.push(token(rt.alloc(), b"\"a\"", 1)?)?;
+    let mut odd = token(rt.alloc(), b"\"b\"", 2)?;
+    odd.number = 1;
+    all.push(odd)?;
+    let Outcome::Done(tree, used) = read(rt.alloc(), 7, &all, 0, EXPR)? else {
+        return Err("no tree".into());
+    };
+    assert_eq!(rt; used, 1);
+    assert_eq!(rt; tree.text.bytes(), b"a".as_slice());
+    Ok(())
+}
+
+#[test]
 fn the_first_token_without_a_place_is_found(rt: HostRuntime) {
     let a = rt.alloc();
     assert_eq!(rt; stuck_at(a, EXPR, "5 + ) 5"), Some(2));

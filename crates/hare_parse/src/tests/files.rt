@@ -1,0 +1,43 @@
+//! Whole files are read as imports and declarations.
+
+use super::*;
+use crate::{FileOutcome, read_file};
+use std::test::Fail;
+
+// How many imports and declarations a file has, and how many tokens they are.
+fn counts(alloc: Global, text: &str) -> Result<Option<(usize, usize, usize)>, Fail> {
+    match read_file(alloc, 7, &tokens(alloc, text)?)? {
+        FileOutcome::Done(uses, decls, used) => Ok(Some((uses.len(), decls.len(), used))),
+        FileOutcome::Stuck(_) => Ok(None),
+    }
+}
+
+// The token at which a file is stuck.
+fn file_stuck_at(alloc: Global, text: &str) -> Result<Option<usize>, Fail> {
+    match read_file(alloc, 7, &tokens(alloc, text)?)? {
+        FileOutcome::Done(_, _, _) => Ok(None),
+        FileOutcome::Stuck(at) => Ok(Some(at)),
+    }
+}
+
+#[test]
+fn imports_stand_before_declarations(rt: HostRuntime) -> Result<(), Fail> {
+    let a = rt.alloc();
+    let text = "use a ; use b = c :: d ; use e :: { f , g } ; let x = 5 ; fn f ( ) void = { } ;";
+    assert_eq!(rt; counts(a, text)?, Some((3, 2, 33)));
+    assert_eq!(rt; counts(a, "let x = 5 ; use a ;")?, Some((0, 1, 5)));
+    assert_eq!(rt; counts(a, "")?, Some((0, 0, 0)));
+    Ok(())
+}
+
+#[test]
+fn the_first_fault_of_a_file_is_found(rt: HostRuntime) -> Result<(), Fail> {
+    let a = rt.alloc();
+    assert_eq!(rt; file_stuck_at(a, "use a ; let = 5 ;")?, Some(4));
+    assert_eq!(rt;
+        file_stuck_at(a, "use a ; let x = \"b\" \"c\" 5 ;")?,
+        Some(8)
+    );
+    assert_eq!(rt; file_stuck_at(a, "use a :: ;")?, Some(3));
+    Ok(())
+}
