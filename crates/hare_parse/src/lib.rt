@@ -3,7 +3,6 @@
 
 mod change;
 mod class;
-mod depth;
 mod file;
 mod gauge;
 mod group;
