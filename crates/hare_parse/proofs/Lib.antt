@@ -1,5 +1,8 @@
+pub mod Answered
+pub mod AtEnd
 pub mod Capping
 pub mod Classified
+pub mod Depths
 pub mod FileParts
 pub mod GaugedLoop
 pub mod GaugedRuns
@@ -9,8 +12,11 @@ pub mod Kids
 pub mod Made
 pub mod Numbers
 pub mod NumbersWithin
+pub mod Once
+pub mod Onward
 pub mod Opened
 pub mod Parted
+pub mod Placed
 pub mod SteppedMarks
 pub mod Told
 pub mod Tops

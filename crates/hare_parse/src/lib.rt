@@ -3,6 +3,7 @@
 
 mod change;
 mod class;
+mod depth;
 mod file;
 mod gauge;
 mod group;
