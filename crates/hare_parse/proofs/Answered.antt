@@ -1,6 +1,7 @@
 -- What the machine's run over tokens, with End behind them, says of the tree of the tokens and of their first fault.
-use Rattle.std.proofs.Common.{◌≡◌, ℕ, suc, ◌<◌, ◌≤◌, List, [], ◌∷◌, ◌++◌, true, take, length, refl, ap, sym, ◌∙◌, subst, arith}
-use Rattle.std.proofs.lemmas.List.{take-append-le, length-append}
+use Rattle.std.proofs.Common.{◌≡◌, ℕ, suc, ◌-◌, ◌<◌, ◌≤◌, ◌⊎◌, inl, inr, Some, List, [], ◌∷◌, ◌++◌, Bool, true, false, ◌&&◌, take, drop, length, length-drop, refl, ap, sym, ◌∙◌, subst, arith}
+use Rattle.std.proofs.lemmas.List.{take-append-le, drop-append-le, length-append}
+use Rattle.hare_tree.specs.declared.place.Fault as fault
 use Rattle.hare_tree.specs.declared.token.Token.{Token}
 use Rattle.hare_tree.specs.declared.form.Sort.{Sort}
 use Rattle.hare_tree.specs.Node.{Node}
@@ -13,15 +14,17 @@ use Rattle.hare_grammar.specs.Engine.{Group, add, Step, Goes, Ends, Stuck, step,
 use Rattle.hare_grammar.specs.Classes.{class_of}
 use Rattle.hare_grammar.proofs.Places.{tokens_have_one_tree}
 use Rattle.hare_parsing.specs.Viable.{has_trees}
-use Rattle.hare_parsing.specs.Faults.{strung, StandsAt}
+use Rattle.hare_parsing.specs.Faults.{strung, ends_in_string, begins_with_string, StandsAt}
 use Rattle.hare_parsing.proofs.Breaks.{trees_sort}
 use Rattle.hare_parsing.proofs.Faults.{runs_fault, runs_fault_in_trees, runs_read_fronts}
 use Rattle.hare_parsing.proofs.Places.{cut}
 use Rattle.hare_parsing.proofs.Strung.{head}
 use Rattle.hare_parsing.proofs.Viable.{end}
-use Rattle.hare_parse.specs.Runs.{closed}
+use Rattle.hare_parse.specs.Runs.{closed, IsPlace}
+use Rattle.hare_parse.proofs.Parted.{and_false, drop_to}
 use Rattle.hare_parse.proofs.Onward.{done_behind}
-use Rattle.hare_parse.specs.Answers.{IsRead, IsBroken, TreesFit}
+use Rattle.hare_parse.specs.Answers.{IsRead, IsTooDeep, IsBroken, HasFault, IsFirstDepth, TreesFit, fault_up_to}
+use Rattle.hare_parse.proofs.Placed.{place_dropped}
 
 -- ---- lists with End behind them
 
@@ -78,3 +81,48 @@ stuck_is_broken s c file ts us n e q h d =
       no_tree = λ tree a i. runs_fault_in_trees s c file (closed ts) n b.0 b.1 e' q' tree a (subst (λ y. Spells (spell 0 tree) y) (sym (front_closed ts n h)) i);
       shallow = d;
     }
+
+-- ---- places, with End behind the list
+
+-- the tokens behind a front begin with a string where they do without End
+same_begin : (a : Bool) (us : List Token) → (a && begins_with_string us) ≡ false → (a && begins_with_string (closed us)) ≡ false
+same_begin a [] e = and_false a
+same_begin a (t ∷ us) e = e
+
+stands_closed : (xs ys : List Token) (k : ℕ) → k ≤ length xs → ys ≡ drop k xs → StandsAt xs k (strung ys) → StandsAt (closed xs) k (strung (closed ys))
+stands_closed xs ys k h e s =
+    let d : drop k (closed xs) ≡ closed (drop k xs) = drop-append-le k xs (end ∷ []) h in
+    record {
+      behind = ap (λ y. strung (closed y)) e ∙ ap strung (sym d);
+      parted = rw (front_closed xs k h, d) (same_begin (ends_in_string (take k xs)) (drop k xs) s.parted);
+    }
+
+-- a place of a list stands there too
+pub place_closed : (ts : List Token) (at n : ℕ) → at < length ts → IsPlace ts at n → StandsAt (closed (drop at ts)) (n - at) (strung (closed (drop n ts))) × (n - at ≤ length (drop at ts))
+place_closed ts at n h p =
+    let w : n ≤ length ts = by p.within in
+    let l : n - at ≤ length (drop at ts) = rw (length-drop at ts) (omega (arith, w)) in
+    (stands_closed (drop at ts) (drop n ts) (n - at) l (sym (drop_to ts at n p.behind)) p.stands, l)
+  where
+    by : (n ≡ at) ⊎ (n ≤ length ts) → n ≤ length ts
+    by (inl e) = omega (arith, e, h)
+    by (inr i) = i
+
+-- ---- answers
+
+-- the fault with a number at a place of the list, as the list from `at` on has it
+fault_dropped : (ts : List Token) (at number n : ℕ) → at < length ts → at ≤ n → fault_up_to ts number n ≡ fault_up_to (drop at ts) number (n - at)
+fault_dropped ts at number n h i = ap (λ p. record { number = number; place = p }) (sym (place_dropped ts at n h i))
+
+pub told_is_fault : (s : Sort) (ts : List Token) (at n : ℕ) (f : fault.Fault) → at < length ts → IsFirstDepth (trees_of s) (drop at ts) at (Some n) → f ≡ fault_up_to ts 9 n → HasFault s (drop at ts) f
+told_is_fault s ts at n f h d e = (n - at, inl (e ∙ fault_dropped ts at 9 n h d.0, record { passed = d.1; first = d.2 }))
+
+pub stuck_is_fault : (s : Sort) → has_trees s ≡ true → (file : ℕ) (ts : List Token) (at n : ℕ) (f : fault.Fault) → at < length ts → run file (strung (closed (drop at ts))) (of s ∷ []) bottom ≡ Fails (strung (closed (drop n ts))) → IsPlace ts at n → ((m : ℕ) → IsDepthFault (trees_of s) (drop at ts) m → ⊥) → f ≡ fault_up_to ts 8 n → HasFault s (drop at ts) f
+stuck_is_fault s c file ts at n f h e p d i =
+    let q = place_closed ts at n h p in
+    (n - at, inr (i ∙ fault_dropped ts at 8 n h p.behind, stuck_is_broken s c file (drop at ts) (strung (closed (drop n ts))) (n - at) e q.0 q.1 d))
+
+pub done_is_parsed : (s : Sort) → has_trees s ≡ true → (file : ℕ) (ts : List Token) (at n : ℕ) (tree : Node) → at < length ts → run file (strung (closed (drop at ts))) (of s ∷ []) bottom ≡ Done (strung (closed (drop n ts))) (add tree bottom) → IsPlace ts at n → ((m : ℕ) → IsDepthFault (trees_of s) (drop at ts) m → ⊥) → TreesFit s (drop at ts) → (at ≤ n) × IsRead s file (drop at ts) tree (n - at)
+done_is_parsed s c file ts at n tree h e p d fit =
+    let q = place_closed ts at n h p in
+    (p.behind, done_is_read s c file (drop at ts) (strung (closed (drop n ts))) tree (n - at) e q.0 q.1 d fit)

@@ -1,5 +1,5 @@
 -- A run of the gauge over the tokens of a list, at one of them.
-use Rattle.std.proofs.Common.{◌≡◌, ℕ, ◌+◌, ◌-◌, ◌≤◌, List, [], ◌∷◌, drop, Bool, true, false, Option, refl, sym, ap, ◌∙◌, subst}
+use Rattle.std.proofs.Common.{◌≡◌, ℕ, ◌+◌, ◌-◌, ◌≤◌, List, ◌∷◌, drop, Bool, true, false, Option, sym, ap, ◌∙◌, subst}
 use Rattle.std.specs.Prelude.{slice_get, Some, None}
 use Rattle.hare_tree.specs.declared.token.Token.{Token}
 use Rattle.hare_grammar.specs.declared.class.Class.{Class}

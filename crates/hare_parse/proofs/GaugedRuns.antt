@@ -1,12 +1,11 @@
 -- Runs of the gauge with heights up to 256.
-use Rattle.std.proofs.Common.{◌≡◌, ℕ, ◌+◌, List, [], ◌∷◌, ◌++◌, map, min, Bool, true, false, Option, refl, sym, ap, ◌∙◌, arith}
+use Rattle.std.proofs.Common.{◌≡◌, ℕ, List, [], ◌∷◌, min, Bool, true, false, Option, refl, sym, ap, ◌∙◌, arith}
 use Rattle.std.specs.Prelude.{nat_le, if◌then◌else◌, ◌&&◌, Some, None}
 use Rattle.hare_grammar.specs.declared.rule.Symbol.{Symbol}
-use Rattle.hare_depth.specs.Marks.{Mark, Frame, lies_before, first_in}
+use Rattle.hare_depth.specs.Marks.{Mark, Frame, lies_before}
 use Rattle.hare_depth.specs.Gauge.{opened, deep_frame, deep_last, high_operand, found, Step, Goes, Ends, Stuck, step, Seen, Gauged, with_faults, after, gauge, nodes_in}
-use Rattle.hare_parse.specs.declared.step.Answer.{Answer}
 use Rattle.hare_parse.specs.declared.step.Answer.TheVariants as an
-use Rattle.hare_parse.specs.Capped.{cap_mark, cap_marks, cap_frame, capped, capped_step}
+use Rattle.hare_parse.specs.Capped.{cap_marks, cap_frame, capped, capped_step}
 use Rattle.hare_parse.specs.Gauged.{Answers}
 use Rattle.hare_parse.specs.Least.{lesser, least}
 use Rattle.hare_parse.proofs.Capping.{first_capped}

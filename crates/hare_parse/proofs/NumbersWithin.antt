@@ -1,5 +1,5 @@
 -- The numbers of tokens that a run of the gauge tells are among those that it has seen.
-use Rattle.std.proofs.Common.{◌≡◌, ℕ, zero, suc, ◌+◌, ◌-◌, ◌<◌, ◌≤◌, List, [], ◌∷◌, ◌++◌, map, length, Bool, true, false, refl, sym, ap, ◌∙◌, arith, drop, length-drop}
+use Rattle.std.proofs.Common.{◌≡◌, ℕ, suc, ◌+◌, ◌<◌, ◌≤◌, List, [], ◌∷◌, ◌++◌, map, length, Bool, true, false, sym, ap, ◌∙◌, arith, drop, length-drop, Option}
 use Rattle.std.specs.Prelude.{nat_le, if◌then◌else◌, ◌&&◌, Some}
 use Rattle.std.specs.List.{AllByRecursion}
 use Rattle.hare_tree.specs.declared.kind.Kind.{Kind}
@@ -14,8 +14,8 @@ use Rattle.hare_grammar.specs.Table.{row}
 use Rattle.hare_parsing.specs.Faults.{is_proper_string, strung_to, strung}
 use Rattle.hare_parsing.proofs.Used.{merged}
 use Rattle.hare_depth.specs.Marks.{Mark, Frame, lies_before, first_in, mark_as, last_mark, but_last_mark, put, close, over, lift, changed, all_changed}
-use Rattle.hare_depth.specs.Gauge.{opened, nodes_in, deep_frame, deep_last, high_operand, found, Step, Goes, Ends, Stuck, wanted, acted, step, Seen, Gauged, with_faults, after, gauge, start, numbered, seen_in, seen}
-use Rattle.hare_parse.specs.Gauged.{gauged_from}
+use Rattle.hare_depth.specs.Gauge.{opened, nodes_in, deep_frame, deep_last, high_operand, found, Step, Goes, Ends, Stuck, wanted, acted, step, Seen, Gauged, after, gauge, start, numbered, seen_in, seen}
+use Rattle.hare_parse.specs.Gauged.{gauged_from, seen_from}
 use Rattle.hare_parse.specs.Least.{least}
 use Rattle.hare_parse.proofs.Told.{least_within}
 
@@ -193,3 +193,10 @@ told_within ts from st n e =
     let w = least_within (gauged_from ts from st).faults (length (drop from ts)) n (faults_within (drop from ts) st) e in
     let l = length-drop from ts in
     (w.0, omega (arith, w.0, w.1, l))
+
+-- what a run from the start tells
+pub told_from_start : (ts : List Token) (from : ℕ) (st st' : List Symbol) (fs : List Frame) (told o : Option ℕ) → told ≡ least (gauge (seen_from 1 (drop from ts)) st' fs).faults → st' ≡ st → fs ≡ start →
+    told ≡ o → least (gauged_from ts from st).faults ≡ o
+told_from_start ts from st st' fs told o e h k g =
+    let us = seen_from 1 (drop from ts) in
+    sym (e ∙ ap (λ ss. least (gauge us ss fs).faults) h ∙ ap (λ hs. least (gauge us st hs).faults) k) ∙ g

@@ -1,12 +1,15 @@
 -- The tokens from a place on have one answer: one tree, or one fault.
-use Rattle.std.proofs.Common.{◌≡◌, ℕ, suc, ◌<◌, ◌≤◌, ◌⊎◌, inl, inr, List, take, length, refl, ap, sym, ◌∙◌, subst, arith}
+use Rattle.std.proofs.Common.{◌≡◌, ℕ, suc, ◌-◌, ◌<◌, ◌≤◌, inl, inr, List, Result, Ok, Err, IfOk, IfErr, take, drop, refl, ap, sym, ◌∙◌, subst, arith}
 use Rattle.hare_tree.specs.declared.place.Fault as fault
 use Rattle.hare_tree.specs.declared.token.Token.{Token}
+use Rattle.hare_tree.specs.declared.stop.Stop.{Stop}
+use Rattle.hare_tree.specs.declared.stop.Stop.TheVariants.{Fault, Memory}
 use Rattle.hare_tree.specs.declared.form.Sort.{Sort}
 use Rattle.hare_tree.specs.Node.{Node}
 use Rattle.hare_tree.specs.Grammar.{Language, IsRun, IsTreeOf}
 use Rattle.hare_depth.proofs.Firsts.{viable_front, same_place}
-use Rattle.hare_parse.specs.Answers.{IsRead, IsTooDeep, IsBroken, HasFault, fault_up_to}
+use Rattle.hare_parse.specs.declared.parse.Parsed.{Parsed}
+use Rattle.hare_parse.specs.Answers.{IsRead, HasFault, fault_up_to, file_in, IsParsed, Stops, GivesTree, GivesFault}
 
 -- no front that is viable is longer than the longest
 run_no_less : {T : Type 0} (l : Language T) (ts : List Token) (n m : ℕ) → IsRun l ts n → IsRun l ts m → n < m → ⊥
@@ -34,3 +37,19 @@ fault_once s ts f g (n, inl a) (m, inl b) =
 fault_once s ts f g (n, inl a) (m, inr b) = absurd (b.1.shallow n a.1.passed)
 fault_once s ts f g (n, inr a) (m, inl b) = absurd (a.1.shallow m b.1.passed)
 fault_once s ts f g (n, inr a) (m, inr b) = a.0 ∙ ap (fault_up_to ts 8) (run_once _ ts n m a.1.run b.1.run) ∙ sym b.0
+
+-- ---- what a call gives
+
+-- the one tree, where there is one
+pub only_tree : (s : Sort) (ts : List Token) (at : ℕ) (result : Result Parsed (Stop fault.Fault)) → IfOk result (λ p. IsParsed s ts at p) → IfErr result (λ e. Stops s ts at e) → (tree : Node) (n : ℕ) → IsRead s (file_in ts at) (drop at ts) tree n → GivesTree at tree n result
+only_tree s ts at (Ok p) ok err tree n r =
+    let e = read_once s (file_in ts at) (drop at ts) tree p.tree n (p.next - at) r ok.1 in
+    (e.0, omega (arith, e.1, ok.0))
+only_tree s ts at (Err (Fault f)) ok err tree n r = absurd (read_no_fault s (file_in ts at) (drop at ts) tree n f r err)
+only_tree s ts at (Err Memory) ok err tree n r = refl
+
+-- the one fault, where there is one
+pub only_fault : (s : Sort) (ts : List Token) (at : ℕ) (result : Result Parsed (Stop fault.Fault)) → IfOk result (λ p. IsParsed s ts at p) → IfErr result (λ e. Stops s ts at e) → (f : fault.Fault) → HasFault s (drop at ts) f → GivesFault f result
+only_fault s ts at (Ok p) ok err f h = read_no_fault s (file_in ts at) (drop at ts) p.tree (p.next - at) f ok.1 h
+only_fault s ts at (Err (Fault g)) ok err f h = inr (ap Fault (fault_once s (drop at ts) g f err h))
+only_fault s ts at (Err Memory) ok err f h = inl refl

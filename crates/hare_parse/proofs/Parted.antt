@@ -9,12 +9,12 @@ use Rattle.hare_parse.specs.Joined.{BeginsWith}
 use Rattle.hare_parse.specs.Runs.{IsPlace}
 use Rattle.hare_parse.proofs.Joining.{read_drop, drop_past, strung_at, join_no}
 
-and_false : (b : Bool) → (b && false) ≡ false
+pub and_false : (b : Bool) → (b && false) ≡ false
 and_false true = refl
 and_false false = refl
 
 -- what is dropped from one place to another
-drop_to : (ts : List Token) (a b : ℕ) → a ≤ b → drop (b - a) (drop a ts) ≡ drop b ts
+pub drop_to : (ts : List Token) (a b : ℕ) → a ≤ b → drop (b - a) (drop a ts) ≡ drop b ts
 drop_to ts a b h = let e : a + (b - a) ≡ b = omega arith in drop-drop (b - a) a ts ∙ ap (λ i. drop i ts) e
 
 -- in front of a token that is no such string

@@ -1,12 +1,12 @@
 -- What comes of a token does not depend on heights above 256, nor does what is told.
-use Rattle.std.proofs.Common.{◌≡◌, ℕ, List, [], ◌∷◌, ◌++◌, Bool, true, false, refl, sym, ap, ◌∙◌, arith}
+use Rattle.std.proofs.Common.{◌≡◌, ℕ, List, [], ◌∷◌, ◌++◌, Bool, true, false, refl, ap}
 use Rattle.hare_grammar.specs.declared.class.Class.{Class}
 use Rattle.hare_grammar.specs.declared.rule.Symbol.{Symbol}
 use Rattle.hare_grammar.specs.declared.rule.Symbol.TheVariants as sy
 use Rattle.hare_grammar.specs.Rows.{Row, Fault, Skips, Uses, has_sign}
 use Rattle.hare_grammar.specs.Table.{row}
 use Rattle.hare_depth.specs.Marks.{Frame, close, all_changed}
-use Rattle.hare_depth.specs.Gauge.{Step, Goes, Ends, Stuck, wanted, acted, step}
+use Rattle.hare_depth.specs.Gauge.{Step, Goes, Ends, wanted, acted, step}
 use Rattle.hare_parse.specs.Capped.{capped, capped_step}
 use Rattle.hare_parse.proofs.Capping.{close_alike, all_changed_alike}
 

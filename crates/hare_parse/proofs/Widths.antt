@@ -1,12 +1,12 @@
 -- How many tokens the first of the joined tokens is made of, and what it is.
-use Rattle.std.proofs.Common.{◌≡◌, ℕ, suc, ◌+◌, ◌-◌, ◌<◌, ◌≤◌, List, [], ◌∷◌, ◌++◌, drop, take, length, Bool, true, false, refl, sym, ap, ◌∙◌, arith, length-drop}
+use Rattle.std.proofs.Common.{◌≡◌, ℕ, suc, ◌+◌, ◌-◌, ◌<◌, ◌≤◌, List, [], ◌∷◌, drop, take, length, Bool, true, false, refl, sym, ap, ◌∙◌, arith, length-drop}
 use Rattle.std.proofs.lemmas.Option.{slice_get_within}
-use Rattle.std.specs.Prelude.{slice_get, Some, None, if◌then◌else◌, ◌&&◌}
+use Rattle.std.specs.Prelude.{slice_get, Some, None, ◌&&◌}
 use Rattle.std.proofs.lemmas.List.{drop-drop}
 use Rattle.hare_tree.specs.declared.token.Token.{Token}
 use Rattle.hare_grammar.specs.declared.class.Class.TheVariants as cl
 use Rattle.hare_grammar.specs.Classes.{class_of}
-use Rattle.hare_parsing.specs.Faults.{is_proper_string, strung_to, strung, ends_in_string, begins_with_string, StandsAt}
+use Rattle.hare_parsing.specs.Faults.{is_proper_string, strung_to, strung, ends_in_string, begins_with_string}
 use Rattle.hare_parsing.proofs.Strung.{proper_number}
 use Rattle.hare_parsing.proofs.Used.{merged}
 use Rattle.hare_parse.specs.Joined.{BeginsWith}

@@ -1,5 +1,5 @@
 -- Trees under way as the program keeps them: the heights of their kids are counted up to 256, which is as much as the limits ask.
-use Rattle.std.specs.Prelude.{ℕ, min, List, map}
+use Rattle.std.specs.Prelude.{min, List, map}
 use Rattle.hare_depth.specs.Marks.{Mark, Frame}
 use Rattle.hare_depth.specs.Gauge.{Step, Goes, Ends, Stuck}
 

@@ -13,7 +13,12 @@ use std::alloc::{AllocError, Global};
 
 /// The place in the list of the first token, from a place on, at which a limit on depth is passed in every tree of the sort that goes on with what can be
 /// read; none where the limits are kept.
-pub fn depth_fault(alloc: Global, tokens: &Tokens, at: usize, sort: Sort) -> Result<Option<usize>, AllocError>
+pub fn depth_fault(
+    alloc: Global,
+    tokens: &Tokens,
+    at: usize,
+    sort: Sort,
+) -> Result<Option<usize>, AllocError>
     requires { has_trees sort ≡ true }
     ensures value { IfOk result (λ d. spec.IsFirstDepth (trees_of sort) (drop at tokens.now) at d) }
     ensures shallow { IfOk result (λ d. d ≡ None → spec.TreesFit sort (drop at tokens.now)) }
@@ -30,6 +35,11 @@ pub fn depth_fault_of_file(alloc: Global, tokens: &Tokens) -> Result<Option<usiz
     ensures value { IfOk result (λ d. spec.IsFirstDepth files tokens.now 0 d) }
     ensures shallow { IfOk result (λ d. d ≡ None → spec.FilesFit tokens.now) }
 {
-    let gauged = gauge(alloc, tokens, 0, &[part(Rule::Each(Sort::Use)), part(Rule::Each(Sort::Decl))])?;
+    let gauged = gauge(
+        alloc,
+        tokens,
+        0,
+        &[part(Rule::Each(Sort::Use)), part(Rule::Each(Sort::Decl))],
+    )?;
     Ok(gauged.fault)
 }

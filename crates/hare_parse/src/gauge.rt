@@ -14,13 +14,12 @@ mod run;
 mod step;
 mod width;
 
-pub use run::Stop;
-
 use crate::pile::Pile;
 use crate::row::Wait;
 use agenda::Agenda;
 use frame::Frame;
 use hare_tree::Tokens;
+pub use run::Stop;
 use run::{Halted, run};
 use std::alloc::{AllocError, Global};
 

@@ -5,7 +5,7 @@ ghost use Rattle.hare_tree.specs.declared.place.Fault.{Fault};
 ghost use Rattle.hare_tree.specs.declared.form.Sort.TheVariants as so;
 ghost use Rattle.hare_tree.specs.Forms as forms;
 ghost use Rattle.hare_tree.specs.Node.{Node};
-ghost use Rattle.hare_tree.specs.Grammar.{place_of};
+ghost use Rattle.hare_tree.specs.Grammar.{trees_of, place_of, IsDepthFault};
 ghost use Rattle.hare_parsing.specs.Viable.{has_trees};
 ghost use Rattle.hare_parse.specs.Answers as spec;
 
@@ -30,6 +30,7 @@ pub struct Parsed {
 /// depth is passed, where at most 255 types and expressions may be open round another, and comes before E8.
 ///
 /// The time is linear in the tokens of the run.
+#[tactic(auto, using(crate::proofs::Once::only_tree, crate::proofs::Once::only_fault))]
 pub fn parse_type(alloc: Global, t: &Tokens, at: usize) -> Result<Parsed, Stop<Fault>>
     requires { at < length t.now }
     ensures ok { IfOk result (λ p. spec.IsParsed so.Type t.now at p) }
@@ -41,6 +42,7 @@ pub fn parse_type(alloc: Global, t: &Tokens, at: usize) -> Result<Parsed, Stop<F
 }
 
 /// The expression that the tokens of a file are from a place of their list on (Hare specification, "Expressions"), in the same way.
+#[tactic(auto, using(crate::proofs::Once::only_tree, crate::proofs::Once::only_fault))]
 pub fn parse_expr(alloc: Global, t: &Tokens, at: usize) -> Result<Parsed, Stop<Fault>>
     requires { at < length t.now }
     ensures ok { IfOk result (λ p. spec.IsParsed forms.expr t.now at p) }
@@ -58,9 +60,21 @@ fn parse(alloc: Global, t: &Tokens, at: usize, sort: Sort) -> Result<Parsed, Sto
     ensures ok { IfOk result (λ p. spec.IsParsed sort t.now at p) }
     ensures err { IfErr result (λ e. spec.Stops sort t.now at e) }
 {
-    if let Some(n) = depth_fault(alloc, t, at, sort)? {
-        return Err(Stop::Fault(fault_up_to(t, 9, n)));
+    match depth_fault(alloc, t, at, sort)? {
+        Some(n) => Err(Stop::Fault(fault_up_to(t, 9, n))),
+        None => parse_shallow(alloc, t, at, sort),
     }
+}
+
+/// The same where no limit on depth is passed.
+fn parse_shallow(alloc: Global, t: &Tokens, at: usize, sort: Sort) -> Result<Parsed, Stop<Fault>>
+    requires within { at < length t.now }
+    requires sort { has_trees sort ≡ true }
+    requires shallow { (m : ℕ) → IsDepthFault (trees_of sort) (drop at t.now) m → ⊥ }
+    requires fits { spec.TreesFit sort (drop at t.now) }
+    ensures ok { IfOk result (λ p. spec.IsParsed sort t.now at p) }
+    ensures err { IfErr result (λ e. spec.Stops sort t.now at e) }
+{
     match read(alloc, file_at(t, at), t, at, sort)? {
         Outcome::Done(tree, next) => Ok(Parsed { tree, next }),
         Outcome::Stuck(n) => Err(Stop::Fault(fault_up_to(t, 8, n))),

@@ -2,6 +2,7 @@
 
 mod files;
 mod forms;
+mod gauge;
 mod trees;
 
 use crate::{Outcome, read};

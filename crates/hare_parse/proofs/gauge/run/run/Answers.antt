@@ -1,10 +1,9 @@
-use Rattle.std.proofs.Common.{◌≡◌, ◌+◌, ◌-◌, ◌<◌, ◌≤◌, drop, length, ap, sym, ◌∙◌, arith, refl}
-use Rattle.std.specs.Prelude.{slice_get, Some, None}
+use Rattle.std.proofs.Common.{sym, ◌∙◌, arith, refl}
 use Rattle.std.proofs.lemmas.Option.{slice_get_within}
 use Rattle.hare_parse.specs.declared.gauge.run.Stop.TheVariants as so
 use Rattle.hare_parse.proofs.GaugedLoop.{ReadsAt, goes_at, ends_here, stuck_here, used_up_here, stops_at}
 use Rattle.hare_parse.proofs.Parted.{place_further}
-use Rattle.hare_parse.proofs.Widths.{front, begins_with_front}
+use Rattle.hare_parse.proofs.Widths.{begins_with_front}
 use Rattle.hare_parse.proofs.gauge.run.run.Goals as goal
 
 pub number_of-number-requires-clause-within : goal.number_of-number-requires-clause-within

@@ -1,4 +1,4 @@
-use Rattle.std.proofs.Common.{◌≡◌, ◌+◌, ◌-◌, length, drop}
+use Rattle.std.proofs.Common.{◌+◌, ◌-◌, length, drop}
 use Rattle.hare_depth.specs.Gauge.{gauge}
 use Rattle.hare_parse.specs.Agenda.{IsPaired}
 use Rattle.hare_parse.specs.Gauged.{seen_from}
