@@ -4,12 +4,11 @@ use Rattle.std.specs.Prelude.{nat_le, if◌then◌else◌}
 use Rattle.std.proofs.lemmas.List.Folds.{list_all-append}
 use Rattle.hare_tree.specs.declared.kind.Kind.{Kind}
 use Rattle.hare_tree.specs.declared.kind.Kind.TheVariants as ki
-use Rattle.hare_grammar.specs.declared.rule.Change.{Change}
 use Rattle.hare_grammar.specs.declared.rule.Change.TheVariants as ch
 use Rattle.hare_grammar.proofs.Edges.{true_le, le_true}
 use Rattle.hare_grammar.proofs.Paths.{split}
 use Rattle.hare_parsing.proofs.Breaks.{both}
-use Rattle.hare_depth.specs.Marks.{Mark, Frame, first_in, mark_as, leaf_mark, last_mark, but_last_mark, put, close, over, lift, let_go, changed, all_changed}
+use Rattle.hare_depth.specs.Marks.{Mark, Frame, first_in, mark_as, leaf_mark, last_mark, but_last_mark, put, close, over, lift, let_go, changed}
 use Rattle.hare_depth.proofs.Piles.{kids_below, frame_below, all_below}
 
 -- a kid that begins in front of the token, where it is a node

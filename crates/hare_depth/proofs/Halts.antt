@@ -1,18 +1,16 @@
 -- Where a run halts: what it has used up to there, and what the gauge says.
-use Rattle.std.proofs.Common.{◌≡◌, ℕ, List, [], ◌∷◌, ◌++◌, Bool, true, false, map, refl, ap, ◌∙◌, subst, append-nil, ◌⊎◌, inl, inr}
+use Rattle.std.proofs.Common.{◌≡◌, ℕ, List, [], ◌∷◌, ◌++◌, Bool, true, false, map, refl, ap, ◌∙◌, subst, append-nil}
 use Rattle.std.proofs.lemmas.List.{map-append}
 use Rattle.hare_tree.specs.declared.token.Token.{Token}
-use Rattle.hare_tree.specs.Grammar.{IsOn}
 use Rattle.hare_grammar.specs.declared.rule.Symbol.{Symbol}
 use Rattle.hare_grammar.specs.Classes.{class_of}
-use Rattle.hare_grammar.specs.Engine.{Group, Step, Goes, Ends, Stuck, step, Done, Fails, after, run}
+use Rattle.hare_grammar.specs.Engine.{Group, Step, Goes, Ends, Stuck, step, Done, after, run}
 use Rattle.hare_depth.specs.Gauge.{Gauged, seen_in, with_faults, nodes_in, found, gauge}
 use Rattle.hare_depth.specs.Gauge as gauges
 use Rattle.hare_depth.proofs.Piles.{frames}
 use Rattle.hare_depth.proofs.Claims.{seen_step}
-use Rattle.hare_depth.proofs.Lists.{on_either}
 use Rattle.hare_depth.proofs.SeenSteps.{steps_are_seen}
-use Rattle.hare_depth.proofs.Reaches.{Reaches, Onward, reaches_none, reaches_more, stays, goes_onward, gauge_reaches}
+use Rattle.hare_depth.proofs.Reaches.{Reaches, reaches_none, reaches_more, gauge_reaches}
 
 -- ---- at a token that is not used, or behind all
 

@@ -5,7 +5,6 @@ use Rattle.hare_grammar.specs.declared.class.Class.{Class}
 use Rattle.hare_grammar.specs.declared.rule.Symbol.{Symbol}
 use Rattle.hare_grammar.specs.Classes.{class_of}
 use Rattle.hare_grammar.specs.Engine.{Group, Step, Goes, Ends, Stuck, step}
-use Rattle.hare_parsing.proofs.Alike.{SameStep, same_step, classes}
 use Rattle.hare_depth.specs.Marks.{Frame}
 use Rattle.hare_depth.specs.Gauge.{Seen, seen_in, nodes_in, found}
 use Rattle.hare_depth.specs.Gauge as gauges

@@ -1,13 +1,13 @@
 -- Where kids end in an operand: behind a leaf and behind a tree that is closed, where these are nodes.
-use Rattle.std.proofs.Common.{◌≡◌, ℕ, List, [], ◌∷◌, ◌++◌, true, ◌∙◌, ap}
+use Rattle.std.proofs.Common.{◌≡◌, List, [], ◌∷◌, ◌++◌, true, ◌∙◌}
 use Rattle.hare_tree.specs.declared.kind.Kind.{Kind}
 use Rattle.hare_tree.specs.Depth.{is_node}
 use Rattle.hare_parsing.proofs.Breaks.{both}
-use Rattle.hare_depth.specs.Marks.{Mark, Frame, first_in, mark_as, leaf_mark}
-use Rattle.hare_depth.proofs.Piles.{is_empty, is_ordered, frame_below, ends_in_operand}
-use Rattle.hare_depth.proofs.Grown.{is_behind, first_stays}
+use Rattle.hare_depth.specs.Marks.{Mark, Frame, mark_as}
+use Rattle.hare_depth.proofs.Piles.{is_ordered, ends_in_operand}
+use Rattle.hare_depth.proofs.Grown.{is_behind}
 use Rattle.hare_depth.proofs.Over.{operand_last}
-use Rattle.hare_depth.proofs.Orders.{leaf_behind, close_behind, path_behind, no_marks}
+use Rattle.hare_depth.proofs.Orders.{close_behind}
 
 pub put_operand : (m : Mark) (f : Frame) → m.node ≡ true → is_behind f.at f.kids m ≡ true → ends_in_operand f.at (f.kids ++ m ∷ []) ≡ true
 put_operand m f e i = operand_last f.at f.kids m ∙ both m.node (is_behind f.at f.kids m) e i

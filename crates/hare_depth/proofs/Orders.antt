@@ -10,9 +10,9 @@ use Rattle.hare_grammar.proofs.Edges.{true_le, le_true}
 use Rattle.hare_grammar.proofs.Paths.{split}
 use Rattle.hare_parsing.proofs.Breaks.{both}
 use Rattle.hare_depth.specs.Marks.{Mark, Frame, lies_before, first_in, mark_as, leaf_mark, last_mark, but_last_mark, put, close, over, lift, let_go, changed}
-use Rattle.hare_depth.proofs.Piles.{mark, frame_of, frames, idle, is_empty, is_ordered, kids_below, frame_below, all_below, ends_in_operand}
+use Rattle.hare_depth.proofs.Piles.{mark, frame_of, frames, idle, is_empty, is_ordered, kids_below, all_below, ends_in_operand}
 use Rattle.hare_depth.proofs.Seen.{frames_lift}
-use Rattle.hare_depth.proofs.Grown.{is_behind, behind_plain, behind_later, first_stays, not_before}
+use Rattle.hare_depth.proofs.Grown.{is_behind, behind_plain, first_stays, not_before}
 use Rattle.hare_depth.proofs.Below.{top_below}
 use Rattle.hare_depth.proofs.Idle.{has_no_node, idle_plain}
 use Rattle.hare_depth.proofs.Changes.{ordered_behind}

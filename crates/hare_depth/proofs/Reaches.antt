@@ -7,7 +7,6 @@ use Rattle.hare_grammar.specs.Classes.{class_of}
 use Rattle.hare_grammar.specs.Engine.{Group, Step, Goes, Ends, Stuck, step, after, run}
 use Rattle.hare_parsing.proofs.Endings.{good}
 use Rattle.hare_parsing.proofs.Good.{step_good, class_proper}
-use Rattle.hare_parsing.proofs.Viable.{Stopped}
 use Rattle.hare_depth.specs.Gauge.{Gauged, Seen, seen_in, with_faults, nodes_in, found, gauge}
 use Rattle.hare_depth.specs.Gauge as gauges
 use Rattle.hare_depth.proofs.Piles.{frames}
