@@ -1,9 +1,7 @@
 -- What the tokens of a file come to, from what the machine's run over them says.
 use Rattle.std.proofs.Common.{◌≡◌, ℕ, suc, ◌<◌, List, [], ◌∷◌, length, ap, sym, ◌∙◌}
-use Rattle.hare_tree.specs.declared.token.TokenKind.TheVariants as tk
 use Rattle.hare_tree.specs.declared.token.Token.{Token}
-use Rattle.hare_tree.specs.Spell.{word_token}
-use Rattle.hare_tree.specs.Grammar.{files, unplaced, IsDepthFault, IsFirstFault, IsFileTree}
+use Rattle.hare_tree.specs.Grammar.{files, IsDepthFault, IsFirstFault, IsFileTree}
 use Rattle.hare_grammar.specs.Engine.{Group, Outcome, Done, Fails, run, bottom}
 use Rattle.hare_grammar.specs.OneTree.{file_symbols}
 use Rattle.hare_grammar.proofs.Files.{tokens_have_one_file}
@@ -12,15 +10,11 @@ use Rattle.hare_parsing.specs.Whole.{MakesFile}
 use Rattle.hare_parsing.proofs.Whole.{whole_runs_make_files, files_have_whole_runs}
 use Rattle.hare_parsing.proofs.FileFaults.{file_runs_fault, file_runs_are_over, file_runs_use_all, files_join, whole_runs_join}
 use Rattle.hare_depth.proofs.Firsts.{first_syntax, viable_no_first}
-use Rattle.hare_decl.specs.Answers.{IsFile, IsCut}
+use Rattle.hare_decl.specs.Answers.{IsEnd, IsFile, IsCut}
 
 -- no limit is passed
 abbrev pub IsShallow : List Token → Type 0
 IsShallow ts = (m : ℕ) → IsDepthFault files ts m → ⊥
-
--- the token ends the file
-abbrev pub IsEnd : Token → Type 0
-IsEnd t = unplaced t ≡ word_token 0 tk.End []
 
 -- ---- tokens that are no file
 
