@@ -6,6 +6,8 @@ pub mod Kept
 pub mod Keys
 pub mod Layout
 pub mod Numbering
+pub mod Packed
+pub mod PackedLaws
 pub mod Rows
 pub mod Run
 pub mod Sound

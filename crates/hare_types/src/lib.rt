@@ -10,6 +10,7 @@ mod kept;
 mod lists;
 mod measure;
 mod numbering;
+mod packed;
 mod parts;
 mod row;
 mod settle;
