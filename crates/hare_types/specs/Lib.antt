@@ -8,6 +8,7 @@ pub mod Layout
 pub mod Numbering
 pub mod Packed
 pub mod PackedLaws
+pub mod Places
 pub mod Rows
 pub mod Run
 pub mod Sound

@@ -12,6 +12,7 @@ mod measure;
 mod numbering;
 mod packed;
 mod parts;
+mod places;
 mod row;
 mod settle;
 mod store;

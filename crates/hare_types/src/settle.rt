@@ -16,9 +16,10 @@ use crate::kept::{Kept, NOWHERE, extent_at};
 use crate::measure::{base_over, definition, extent_over};
 use crate::packed::{PackedExtent, PackedId};
 use crate::parts::{part_at, part_count};
+use crate::places::Rows;
 use crate::row::Row;
 use crate::waiting::{link, release};
-use indexmap::{IndexMap, IndexSet};
+use indexmap::IndexMap;
 
 /// Enters what is found of row `i`.
 fn set_found(kept: &mut Vec<Kept>, i: usize, extent: Option<Extent>, base: Option<TypeId>)
@@ -203,7 +204,7 @@ fn step(
 /// Enters the extents and bases that follow from the definition of a name. Each row that waits is looked at only once something that it waits
 /// for is known.
 pub(crate) fn settle(
-    rows: &IndexSet<Row>,
+    rows: &Rows,
     declared: &IndexMap<u32, Declared>,
     kept: &mut Vec<Kept>,
     decl: u32,
