@@ -17,4 +17,4 @@ returns-clause-none c = by c.base_at.result refl
         rw (← c.self.view_is)
         (none_base _ c.self.invariant.store (bases ks)
         (bases-settled c.self.inside.rows.keys c.self.inside.declared.entries ks (omega (arith, c.self.invariant.store.rows_few, c.self.invariant.extents.as_many, length-map ks (λ k. k.extent))) c.self.invariant.lists c.self.invariant.settled c.self.invariant.based)
-        c.args.t (ap (λ l. base_at l c.args.t) (sym c.as_slice.ensures.value) ∙ sym c.base_at.ensures ∙ e))
+        c.args.t (ap (λ l. base_at l c.args.t) (sym c.as_slice.ensures.value) ∙ sym c.base_at.ensures.value ∙ e))
