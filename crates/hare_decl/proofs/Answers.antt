@@ -1,13 +1,13 @@
 -- A list of tokens has one answer: one tree, or one first fault, or it is cut off.
-use Rattle.std.proofs.Common.{◌≡◌, ℕ, ◌<◌, ◌≤◌, ◌⊎◌, inl, inr, List, [], ◌∷◌, ◌++◌, take, drop, refl, ap, sym, ◌∙◌, subst, arith}
+use Rattle.std.proofs.Common.{◌≡◌, ℕ, inl, inr, List, [], ◌++◌, take, drop, ap, sym, ◌∙◌, subst}
 use Rattle.std.proofs.lemmas.List.{append-nil, take-append-drop}
 use Rattle.hare_tree.specs.declared.place.Fault as fault
 use Rattle.hare_tree.specs.declared.token.Token.{Token}
 use Rattle.hare_tree.specs.declared.tree.FileTree.{FileTree}
 use Rattle.hare_tree.specs.Spell.{spell_file}
-use Rattle.hare_tree.specs.Grammar.{Spells, files, IsOn, IsViable, IsSyntaxFault, IsDepthFault, IsFirstFault, IsFileTree, fault_at}
-use Rattle.hare_depth.proofs.Firsts.{viable_front, viable_no_first, one_first}
-use Rattle.hare_decl.specs.Answers.{IsFile, IsCut, HasFault, last_place}
+use Rattle.hare_tree.specs.Grammar.{Spells, files, IsOn, IsViable, IsDepthFault, IsFirstFault, IsFileTree, fault_at}
+use Rattle.hare_depth.proofs.Firsts.{viable_no_first, one_first}
+use Rattle.hare_decl.specs.Answers.{HasFault}
 
 -- a file goes on with each front of its tokens
 file_viable : (file : ℕ) (ts : List Token) (tree : FileTree) → IsFileTree file ts tree → IsViable files ts

@@ -1,23 +1,20 @@
 -- Where imports and declarations are read: what the token behind them makes of the file.
-use Rattle.std.proofs.Common.{◌≡◌, ℕ, suc, ◌<◌, ◌≤◌, List, [], ◌∷◌, ◌++◌, Bool, true, false, ◌&&◌, drop, length, refl, ap, sym, ◌∙◌, subst, arith}
+use Rattle.std.proofs.Common.{◌≡◌, ℕ, suc, ◌<◌, List, [], ◌∷◌, true, false, drop, length, refl, ap, sym, ◌∙◌, subst}
 use Rattle.std.specs.List.{list_all}
 use Rattle.hare_tree.specs.declared.token.Token.{Token}
 use Rattle.hare_tree.specs.declared.form.Sort.TheVariants as so
 use Rattle.hare_tree.specs.declared.tree.FileTree.{FileTree}
 use Rattle.hare_tree.specs.Node.{Node}
-use Rattle.hare_tree.specs.Spell.{start_of}
 use Rattle.hare_tree.specs.Shape.{is_shaped, is_shaped_file}
 use Rattle.hare_tree.specs.Grammar.{files, IsFirstFault}
-use Rattle.hare_grammar.specs.Engine.{Group, begun, Done, run, bottom}
-use Rattle.hare_grammar.specs.OneTree.{file_symbols}
+use Rattle.hare_grammar.specs.Engine.{Group, Done}
 use Rattle.hare_grammar.proofs.Paths.{split}
 use Rattle.hare_parsing.specs.Faults.{is_proper_string, strung, StandsAt}
 use Rattle.hare_parsing.proofs.Strung.{Head, head}
-use Rattle.hare_parsing.specs.Whole.{MakesFile}
 use Rattle.hare_parse.specs.Files.{HaveSorts, file_made}
 use Rattle.hare_parse.proofs.FileParts.{parts_once}
 use Rattle.hare_decl.specs.Answers.{IsEnd, IsOver, IsFile}
-use Rattle.hare_decl.proofs.Syntax.{no_end_first, behind_end_first, whole_made, whole_is_file}
+use Rattle.hare_decl.proofs.Runs.{no_end_first, behind_end_first, whole_made, whole_is_file}
 
 -- ---- the token behind them
 

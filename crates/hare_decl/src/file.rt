@@ -6,7 +6,7 @@ ghost use Rattle.hare_tree.specs.declared.place.Fault.{Fault};
 ghost use Rattle.hare_tree.specs.declared.tree.FileTree.{FileTree};
 ghost use Rattle.hare_decl.specs.Answers as spec;
 
-use crate::syntax::{Syntax, syntax};
+use crate::syntax::{Syntax, syntax_of};
 use hare_tree::{Fault, FileTree, Place, Stop, Tokens};
 use std::alloc::Global;
 
@@ -32,7 +32,7 @@ fn file_of(alloc: Global, file: u32, t: &Tokens) -> Result<FileTree, Stop<Fault>
     ensures ok { IfOk result (λ tree. spec.IsFile file t.now tree) }
     ensures err { IfErr result (λ e. spec.Stops (spec.HasFault file t.now) e) }
 {
-    match syntax(alloc, file, t)? {
+    match syntax_of(alloc, file, t)? {
         Syntax::Whole(tree) => Ok(tree),
         Syntax::Faulty(number, n) => Err(Stop::Fault(fault_at(t, number, n))),
         Syntax::Cut => Err(Stop::Fault(Fault {

@@ -4,6 +4,8 @@
 mod file;
 mod source;
 mod syntax;
+#[cfg(test)]
+mod tests;
 
 pub use file::parse_file;
 pub use source::parse_source;

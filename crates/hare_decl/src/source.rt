@@ -7,7 +7,7 @@ ghost use Rattle.hare_tree.specs.Grammar.{IsLeastFault};
 ghost use Rattle.hare_decl.specs.Answers as spec;
 
 use crate::file::fault_at;
-use crate::syntax::{Syntax, syntax};
+use crate::syntax::{Syntax, syntax_of};
 use hare_lex::{LexStop, tokens};
 use hare_tree::{Fault, FileTree, Stop, Tokens};
 use std::alloc::Global;
@@ -47,7 +47,7 @@ fn tree_of(alloc: Global, file: u32, tokens: &Tokens) -> Result<FileTree, Stop<F
     ensures ok { IfOk result (λ tree. spec.IsFile file tokens.now tree) }
     ensures err { IfErr result (λ e. spec.Stops (spec.HasFirstFault tokens.now) e) }
 {
-    match syntax(alloc, file, tokens)? {
+    match syntax_of(alloc, file, tokens)? {
         Syntax::Whole(tree) => Ok(tree),
         Syntax::Faulty(number, n) => Err(Stop::Fault(fault_at(tokens, number, n))),
         Syntax::Cut => unreachable!(),
@@ -59,9 +59,10 @@ fn least(alloc: Global, file: u32, mut kept: Tokens, lexical: Fault) -> Stop<Fau
     ensures { spec.Stops (IsLeastFault kept lexical) result }
 {
     kept.drop_last();
-    match syntax(alloc, file, &kept) {
+    match syntax_of(alloc, file, &kept) {
         Ok(Syntax::Faulty(number, n)) => Stop::Fault(fault_at(&kept, number, n)),
-        Ok(Syntax::Whole(_) | Syntax::Cut) => Stop::Fault(lexical),
+        Ok(Syntax::Whole(_)) => Stop::Fault(lexical),
+        Ok(Syntax::Cut) => Stop::Fault(lexical),
         Err(_) => Stop::Memory,
     }
 }

@@ -1,6 +1,6 @@
 //! What the tokens of a file come to.
 
-ghost use Rattle.std.specs.Prelude.{◌≡◌, ◌∷◌, ◌++◌, List, [], IfOk};
+ghost use Rattle.std.specs.Prelude.{◌≡◌, true, false, IfOk};
 ghost use Rattle.hare_tree.specs.declared.place.Place.{Place};
 ghost use Rattle.hare_tree.specs.declared.token.Token.{Token};
 ghost use Rattle.hare_decl.specs.Answers as spec;
@@ -21,7 +21,7 @@ pub enum Syntax {
 }
 
 /// Reads the tokens of a file. The depth is looked at first, so that no tree is built that passes a limit.
-pub fn syntax(alloc: Global, file: u32, tokens: &Tokens) -> Result<Syntax, AllocError>
+pub fn syntax_of(alloc: Global, file: u32, tokens: &Tokens) -> Result<Syntax, AllocError>
     ensures value { IfOk result (λ s. spec.IsSyntax file tokens.now s) }
     ensures ended { IfOk result (λ s. spec.HasEnd tokens.now → s ≡ Syntax.Cut → ⊥) }
 {
@@ -44,7 +44,7 @@ fn over_at(file: u32, tokens: &Tokens, uses: Kids, decls: Kids, n: usize) -> Syn
 {
     match tokens.get(n) {
         Some(token) if is_end(token) => {
-            if n + 1 < tokens.len() {
+            if n < tokens.len() - 1 {
                 return Syntax::Faulty(8, n + 1);
             }
             Syntax::Whole(FileTree { file, uses, decls })

@@ -1,12 +1,10 @@
 -- What the tokens of a file come to, from what the machine's run over them says.
-use Rattle.std.proofs.Common.{◌≡◌, ℕ, suc, ◌<◌, List, [], ◌∷◌, ◌++◌, length, refl, ap, sym, ◌∙◌, subst}
+use Rattle.std.proofs.Common.{◌≡◌, ℕ, suc, ◌<◌, List, [], ◌∷◌, length, ap, sym, ◌∙◌}
 use Rattle.hare_tree.specs.declared.token.TokenKind.TheVariants as tk
 use Rattle.hare_tree.specs.declared.token.Token.{Token}
-use Rattle.hare_tree.specs.declared.tree.FileTree.{FileTree}
-use Rattle.hare_tree.specs.Node.{Node}
-use Rattle.hare_tree.specs.Spell.{start_of, word_token}
-use Rattle.hare_tree.specs.Grammar.{files, unplaced, joined, IsDepthFault, IsFirstFault, IsFileTree}
-use Rattle.hare_grammar.specs.Engine.{Group, begun, Outcome, Done, Fails, run, bottom}
+use Rattle.hare_tree.specs.Spell.{word_token}
+use Rattle.hare_tree.specs.Grammar.{files, unplaced, IsDepthFault, IsFirstFault, IsFileTree}
+use Rattle.hare_grammar.specs.Engine.{Group, Outcome, Done, Fails, run, bottom}
 use Rattle.hare_grammar.specs.OneTree.{file_symbols}
 use Rattle.hare_grammar.proofs.Files.{tokens_have_one_file}
 use Rattle.hare_parsing.specs.Faults.{strung, StandsAt}
@@ -48,7 +46,7 @@ used_up_cut file ts d e =
     record {
       no_fault = λ number n. viable_no_first files ts number n (file_runs_use_all file ts e) d;
       no_file = λ tree t. let w = files_have_whole_runs file ts tree t.shaped t.spelled in
-        done_not_fails _ _ _ _ w.whole.done (ap (λ l. run file l file_symbols bottom) (sym (files_join ts tree t.shaped t.spelled)) ∙ e);
+          done_not_fails _ _ _ _ w.whole.done (ap (λ l. run file l file_symbols bottom) (sym (files_join ts tree t.shaped t.spelled)) ∙ e);
     }
 
 -- ---- whole files
