@@ -5,8 +5,9 @@ use Rattle.std.proofs.lemmas.List.{get_or_default, length-set}
 use Rattle.hare_types.specs.Kept.{parts_of, known, defined, IsInert}
 use Rattle.hare_types.specs.Bases.{base_over}
 use Rattle.hare_types.specs.Waiting.{extents, extent_at, base_at, Among, needed_at, NeedsRow, linked}
-use Rattle.hare_types.proofs.LinkLemmas.{KeepsFound-trans}
-use Rattle.hare_types.proofs.WaitLemmas.{unknown-read, seen-found, seen-links, seen-more, AreSeen-kept, needed-needs, needed-unknown, needed-none, stay-settling, wait-settling, linked-pile}
+use Rattle.hare_types.proofs.ChainLemmas.{KeepsFound-trans}
+use Rattle.hare_types.proofs.WaitLemmas.{unknown-read, seen-found, seen-links, seen-more, AreSeen-kept, stay-settling, wait-settling, linked-pile}
+use Rattle.hare_types.proofs.NeedLemmas.{needed-needs, needed-unknown, needed-none}
 use Rattle.hare_types.proofs.settle.wait.Goals as goal
 
 pub link-requires-clause-waited : goal.link-requires-clause-waited

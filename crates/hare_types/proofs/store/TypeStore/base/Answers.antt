@@ -4,7 +4,7 @@ use Rattle.std.proofs.lemmas.List.{length-map}
 use Rattle.hare_types.specs.Bases.{IsBaseOf}
 use Rattle.hare_types.specs.Waiting.{bases, base_at}
 use Rattle.hare_types.proofs.BaseLemmas.{none_base}
-use Rattle.hare_types.proofs.WaitLemmas.{bases-settled}
+use Rattle.hare_types.proofs.SettledLemmas.{bases-settled}
 use Rattle.hare_types.proofs.store.TypeStore.base.Goals as goal
 
 pub returns-clause-none : goal.returns-clause-none
