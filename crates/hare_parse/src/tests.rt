@@ -2,10 +2,9 @@
 
 mod files;
 mod forms;
-mod gauge;
 mod trees;
 
-use crate::{Outcome, read};
+use crate::reader::{Outcome, read};
 use hare_tree::{Kind, Place, Sort, Suffix, Token, TokenKind, Tokens, Tree, Word, is_keyword};
 use std::alloc::{AllocError, Global};
 
