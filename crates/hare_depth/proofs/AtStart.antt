@@ -7,11 +7,8 @@ use Rattle.hare_grammar.specs.Rows.{of}
 use Rattle.hare_grammar.specs.Engine.{add, bottom, begun}
 use Rattle.hare_grammar.specs.OneTree.{file_symbols}
 use Rattle.hare_depth.specs.Gauge.{nodes_in, start}
-use Rattle.hare_depth.proofs.Piles.{mark, frames, faults_of, first_faults, pile_faults, is_ordered, all_below, follows, Held}
+use Rattle.hare_depth.proofs.Piles.{mark, faults_of, first_faults, pile_faults, is_ordered, all_below, follows, Held}
 use Rattle.hare_depth.proofs.Grown.{is_behind, behind_plain, behind_later, grown}
-
-pub frames_at_start : frames bottom ≡ start
-frames_at_start = refl
 
 pub sort_at_start : (s : Sort) → Held 1 (of s ∷ []) start
 unfolding nodes_in is_ordered all_below follows

@@ -4,12 +4,11 @@ use Rattle.std.specs.Prelude.{nat_le, if◌then◌else◌}
 use Rattle.std.proofs.lemmas.List.Folds.{list_all-append}
 use Rattle.hare_tree.specs.declared.kind.Kind.{Kind}
 use Rattle.hare_tree.specs.declared.kind.Kind.TheVariants as ki
-use Rattle.hare_grammar.specs.declared.rule.Change.{Change}
 use Rattle.hare_grammar.specs.declared.rule.Change.TheVariants as ch
 use Rattle.hare_grammar.proofs.Edges.{true_le, le_true}
 use Rattle.hare_grammar.proofs.Paths.{split}
 use Rattle.hare_parsing.proofs.Breaks.{both}
-use Rattle.hare_depth.specs.Marks.{Mark, Frame, first_in, mark_as, leaf_mark, last_mark, but_last_mark, put, close, over, lift, let_go, changed, all_changed}
+use Rattle.hare_depth.specs.Marks.{Mark, Frame, first_in, mark_as, leaf_mark, last_mark, but_last_mark, put, close, over, lift, let_go, changed}
 use Rattle.hare_depth.proofs.Piles.{kids_below, frame_below, all_below}
 
 -- a kid that begins in front of the token, where it is a node
@@ -161,21 +160,3 @@ unfolding all_below
 drop_below n [] e = refl
 drop_below n (f ∷ []) e = refl
 drop_below n (f ∷ g ∷ fs) e = (top n f g fs e).rest
-
--- changes at a token in front of `k`
-pub changed_below : (n k : ℕ) (d : Change) (fs : List Frame) → n < k → all_below k fs ≡ true → all_below k (changed n d fs) ≡ true
-changed_below n k ch.Absent fs i e = absent_below n k fs e
-changed_below n k (ch.Mark l) fs i e = leaf_below l n k fs i e
-changed_below n k (ch.Leaf l) fs i e = leaf_below l n k fs i e
-changed_below n k ch.Open fs i e = open_below n k fs i e
-changed_below n k ch.Over fs i e = over_below n k fs i e
-changed_below n k ch.Take fs i e = e
-changed_below n k ch.Join fs i e = e
-changed_below n k (ch.Close l) fs i e = close_below l k fs e
-changed_below n k ch.Lift fs i e = lift_below k fs e
-changed_below n k ch.Drop fs i e = drop_below k fs e
-
-pub all_changed_below : (n k : ℕ) (ds : List Change) (fs : List Frame) → n < k → all_below k fs ≡ true → all_below k (all_changed n ds fs) ≡ true
-unfolding all_changed
-all_changed_below n k [] fs i e = e
-all_changed_below n k (d ∷ ds) fs i e = all_changed_below n k ds (changed n d fs) i (changed_below n k d fs i e)

@@ -1,18 +1,16 @@
 -- Where a run halts: what it has used up to there, and what the gauge says.
-use Rattle.std.proofs.Common.{◌≡◌, ℕ, List, [], ◌∷◌, ◌++◌, Bool, true, false, map, refl, ap, ◌∙◌, subst, append-nil, ◌⊎◌, inl, inr}
+use Rattle.std.proofs.Common.{◌≡◌, ℕ, List, [], ◌∷◌, ◌++◌, Bool, true, false, map, refl, ap, ◌∙◌, subst, append-nil}
 use Rattle.std.proofs.lemmas.List.{map-append}
 use Rattle.hare_tree.specs.declared.token.Token.{Token}
-use Rattle.hare_tree.specs.Grammar.{IsOn}
 use Rattle.hare_grammar.specs.declared.rule.Symbol.{Symbol}
 use Rattle.hare_grammar.specs.Classes.{class_of}
-use Rattle.hare_grammar.specs.Engine.{Group, Step, Goes, Ends, Stuck, step, Done, Fails, after, run}
+use Rattle.hare_grammar.specs.Engine.{Group, Step, Goes, Ends, Stuck, step, Done, after, run}
 use Rattle.hare_depth.specs.Gauge.{Gauged, seen_in, with_faults, nodes_in, found, gauge}
 use Rattle.hare_depth.specs.Gauge as gauges
 use Rattle.hare_depth.proofs.Piles.{frames}
 use Rattle.hare_depth.proofs.Claims.{seen_step}
-use Rattle.hare_depth.proofs.Lists.{on_either}
 use Rattle.hare_depth.proofs.SeenSteps.{steps_are_seen}
-use Rattle.hare_depth.proofs.Reaches.{Reaches, Onward, reaches_none, reaches_more, stays, goes_onward, gauge_reaches}
+use Rattle.hare_depth.proofs.Reaches.{Reaches, reaches_none, reaches_more, gauge_reaches}
 
 -- ---- at a token that is not used, or behind all
 
@@ -123,93 +121,3 @@ stops_done f (y ∷ w) st gs t v made e = by (step f y (class_of y) st gs) refl 
         let c : w ≡ v = cc in
         stops_here f w st gs y t v (Ends made) b c (i ∙ ap Ends a)
     by Stuck i e k = cc
-
-pub stops_stuck : (f : ℕ) (w : List Token) (st : List Symbol) (gs : List Group) (t : Token) (v : List Token) → run f w st gs ≡ Fails (t ∷ v) → StopsAt f w st gs t v Stuck
-unfolding run
-stops_stuck f [] st gs t v e = cc
-stops_stuck f (y ∷ w) st gs t v e = by (step f y (class_of y) st gs) refl e (λ st1 gs1 q. stops_stuck f w st1 gs1 t v q)
-  where
-    by : (z : Step) → step f y (class_of y) st gs ≡ z → after z y w (λ st1 gs1. run f w st1 gs1) ≡ Fails (t ∷ v) → ((st1 : List Symbol) (gs1 : List Group) → run f w st1 gs1 ≡ Fails (t ∷ v) → StopsAt f w st1 gs1 t v Stuck) → StopsAt f (y ∷ w) st gs t v Stuck
-    by (Goes st1 gs1) i e k = stops_behind f y w st st1 gs gs1 t v Stuck i (k st1 gs1 e)
-    by (Ends gs1) i e k = cc
-    by Stuck i e k =
-        let b : y ≡ t = cc in
-        let c : w ≡ v = cc in
-        stops_here f w st gs y t v Stuck b c i
-
--- the run uses all tokens
-pub record UsesAll (f : ℕ) (w : List Token) (st : List Symbol) (gs : List Group) : Type 0 where
-  pub next : List Symbol
-  pub trees : List Group
-  pub told : List ℕ
-  pub reaches : Reaches f w st gs next trees told
-
-pub uses_all : (f : ℕ) (w : List Token) (st : List Symbol) (gs : List Group) → run f w st gs ≡ Fails [] → UsesAll f w st gs
-unfolding run
-uses_all f [] st gs e = record { next = st; trees = gs; told = []; reaches = reaches_none f st gs }
-uses_all f (y ∷ w) st gs e = by (step f y (class_of y) st gs) refl e (λ st1 gs1 q. uses_all f w st1 gs1 q)
-  where
-    by : (z : Step) → step f y (class_of y) st gs ≡ z → after z y w (λ st1 gs1. run f w st1 gs1) ≡ Fails [] → ((st1 : List Symbol) (gs1 : List Group) → run f w st1 gs1 ≡ Fails [] → UsesAll f w st1 gs1) → UsesAll f (y ∷ w) st gs
-    by (Goes st1 gs1) i e k =
-        let r = k st1 gs1 e in
-        record { next = r.next; trees = r.trees; told = found (nodes_in st1) (frames gs1) ++ r.told; reaches = reaches_more f y w st st1 r.next gs gs1 r.trees r.told i r.reaches }
-    by (Ends gs1) i e k = cc
-    by Stuck i e k = cc
-
--- ---- where a token was told
-
--- Behind the last token of `used` the innermost tree under way shows that a limit is passed at the token with the number `x`.
-pub record FoundBehind (f : ℕ) (w : List Token) (st : List Symbol) (gs : List Group) (st' : List Symbol) (gs' : List Group) (x : ℕ) : Type 0 where
-  pub used : List Token
-  pub last : Token
-  pub rest : List Token
-  pub split : w ≡ used ++ last ∷ rest
-  pub next : List Symbol
-  pub trees : List Group
-  pub sooner : List ℕ
-  pub later : List ℕ
-  pub before : Reaches f (used ++ last ∷ []) st gs next trees sooner
-  pub behind : Reaches f rest next trees st' gs' later
-  pub is_found : IsOn x (found (nodes_in next) (frames trees))
-
-found_first : (f : ℕ) (t : Token) (w : List Token) (st st' : List Symbol) (gs gs' : List Group) (ns : List ℕ) (x : ℕ) → (o : Onward f t w st gs st' gs' ns) → IsOn x (found (nodes_in o.next) (frames o.trees)) → FoundBehind f (t ∷ w) st gs st' gs' x
-found_first f t w st st' gs gs' ns x o i =
-    record {
-      used = [];
-      last = t;
-      rest = w;
-      split = refl;
-      next = o.next;
-      trees = o.trees;
-      sooner = found (nodes_in o.next) (frames o.trees) ++ [];
-      later = o.later;
-      before = reaches_more f t [] st o.next o.next gs o.trees o.trees [] o.steps (reaches_none f o.next o.trees);
-      behind = o.goes;
-      is_found = i;
-    }
-
-found_later : (f : ℕ) (t : Token) (w : List Token) (st st' : List Symbol) (gs gs' : List Group) (ns : List ℕ) (x : ℕ) → (o : Onward f t w st gs st' gs' ns) → FoundBehind f w o.next o.trees st' gs' x → FoundBehind f (t ∷ w) st gs st' gs' x
-found_later f t w st st' gs gs' ns x o b =
-    record {
-      used = t ∷ b.used;
-      last = b.last;
-      rest = b.rest;
-      split = ap (λ l. t ∷ l) b.split;
-      next = b.next;
-      trees = b.trees;
-      sooner = found (nodes_in o.next) (frames o.trees) ++ b.sooner;
-      later = b.later;
-      before = reaches_more f t (b.used ++ b.last ∷ []) st o.next b.next gs o.trees b.trees b.sooner o.steps b.before;
-      behind = b.behind;
-      is_found = b.is_found;
-    }
-
-pub found_behind : (f : ℕ) (w : List Token) (st st' : List Symbol) (gs gs' : List Group) (ns : List ℕ) → Reaches f w st gs st' gs' ns → (x : ℕ) → IsOn x ns → FoundBehind f w st gs st' gs' x
-found_behind f [] st st' gs gs' ns r x i = let s = stays f st st' gs gs' ns r in absurd (subst (IsOn x) s.tells i)
-found_behind f (t ∷ w) st st' gs gs' ns r x i =
-    let o = goes_onward f t w st st' gs gs' ns r in
-    by o (on_either x (found (nodes_in o.next) (frames o.trees)) o.later (subst (IsOn x) o.tells i)) (λ j. found_behind f w o.next st' o.trees gs' o.later o.goes x j)
-  where
-    by : (o : Onward f t w st gs st' gs' ns) → IsOn x (found (nodes_in o.next) (frames o.trees)) ⊎ IsOn x o.later → (IsOn x o.later → FoundBehind f w o.next o.trees st' gs' x) → FoundBehind f (t ∷ w) st gs st' gs' x
-    by o (inl j) k = found_first f t w st st' gs gs' ns x o j
-    by o (inr j) k = found_later f t w st st' gs gs' ns x o (k j)

@@ -59,4 +59,3 @@ pub mod LateSteps
 pub mod StepGains
 pub mod GoesOn
 pub mod InsideFiles
-pub mod Within

@@ -5,7 +5,6 @@ use Rattle.hare_grammar.specs.declared.class.Class.{Class}
 use Rattle.hare_grammar.specs.declared.rule.Symbol.{Symbol}
 use Rattle.hare_grammar.specs.Classes.{class_of}
 use Rattle.hare_grammar.specs.Engine.{Group, Step, Goes, Ends, Stuck, step}
-use Rattle.hare_parsing.proofs.Alike.{SameStep, same_step, classes}
 use Rattle.hare_depth.specs.Marks.{Frame}
 use Rattle.hare_depth.specs.Gauge.{Seen, seen_in, nodes_in, found}
 use Rattle.hare_depth.specs.Gauge as gauges
@@ -16,35 +15,12 @@ use Rattle.hare_depth.proofs.Reaches.{Reaches, reaches_none, reaches_more, stays
 
 -- ---- tokens of the same classes
 
--- the tokens lead to these symbols, with some trees
-pub record Leads (f : ℕ) (w : List Token) (st : List Symbol) (gs : List Group) (st' : List Symbol) : Type 0 where
-  pub trees : List Group
-  pub told : List ℕ
-  pub reaches : Reaches f w st gs st' trees told
-
 record Same (c c' : Class) (cs cs' : List Class) : Type 0 where
   pub class : c ≡ c'
   pub others : cs ≡ cs'
 
 firsts : (c c' : Class) (cs cs' : List Class) → c ∷ cs ≡ c' ∷ cs' → Same c c' cs cs'
 firsts c c' cs cs' e = record { class = cc; others = cc }
-
-pub leads_alike : (f f' : ℕ) (w w' : List Token) (st st' : List Symbol) (gs gs' hs : List Group) (ns : List ℕ) → classes w ≡ classes w' → Reaches f w st gs st' gs' ns → Leads f' w' st hs st'
-leads_alike f f' [] [] st st' gs gs' hs ns e r = let s = stays f st st' gs gs' ns r in record { trees = hs; told = []; reaches = subst (λ x. Reaches f' [] st hs x hs []) s.symbols (reaches_none f' st hs) }
-leads_alike f f' [] (t' ∷ w') st st' gs gs' hs ns e r = cc
-leads_alike f f' (t ∷ w) [] st st' gs gs' hs ns e r = cc
-leads_alike f f' (t ∷ w) (t' ∷ w') st st' gs gs' hs ns e r =
-    let p = firsts (class_of t) (class_of t') (classes w) (classes w') e in
-    let o = goes_onward f t w st st' gs gs' ns r in
-    let s = subst (λ c. SameStep (step f t (class_of t) st gs) (step f' t' c st hs)) p.class (same_step f f' t t' (class_of t) st gs hs) in
-    by o.next o.trees (step f' t' (class_of t') st hs) refl (subst (λ z. SameStep z (step f' t' (class_of t') st hs)) o.steps s) (λ hs1. leads_alike f f' w w' o.next st' o.trees gs' hs1 o.later p.others o.goes)
-  where
-    by : (st1 : List Symbol) (gs1 : List Group) (z : Step) → step f' t' (class_of t') st hs ≡ z → SameStep (Goes st1 gs1) z → ((hs1 : List Group) → Leads f' w' st1 hs1 st') → Leads f' (t' ∷ w') st hs st'
-    by st1 gs1 (Goes st2 hs1) i s k =
-        let q = k hs1 in
-        record { trees = q.trees; told = found (nodes_in st1) (frames hs1) ++ q.told; reaches = reaches_more f' t' w' st st1 st' hs hs1 q.trees q.told (i ∙ ap (λ x. Goes x hs1) (sym s)) q.reaches }
-    by st1 gs1 (Ends made) i s k = absurd s
-    by st1 gs1 Stuck i s k = absurd s
 
 -- ---- tokens of the same classes and numbers
 

@@ -10,9 +10,9 @@ use Rattle.hare_grammar.proofs.Edges.{true_le, le_true}
 use Rattle.hare_grammar.proofs.Paths.{split}
 use Rattle.hare_parsing.proofs.Breaks.{both}
 use Rattle.hare_depth.specs.Marks.{Mark, Frame, lies_before, first_in, mark_as, leaf_mark, last_mark, but_last_mark, put, close, over, lift, let_go, changed}
-use Rattle.hare_depth.proofs.Piles.{mark, frame_of, frames, idle, is_empty, is_ordered, kids_below, frame_below, all_below, ends_in_operand}
+use Rattle.hare_depth.proofs.Piles.{mark, frame_of, frames, idle, is_empty, is_ordered, kids_below, all_below, ends_in_operand}
 use Rattle.hare_depth.proofs.Seen.{frames_lift}
-use Rattle.hare_depth.proofs.Grown.{is_behind, behind_plain, behind_later, first_stays, not_before}
+use Rattle.hare_depth.proofs.Grown.{is_behind, behind_plain, first_stays, not_before}
 use Rattle.hare_depth.proofs.Below.{top_below}
 use Rattle.hare_depth.proofs.Idle.{has_no_node, idle_plain}
 use Rattle.hare_depth.proofs.Changes.{ordered_behind}
@@ -48,23 +48,7 @@ plain_ordered m (f ∷ fs) e i = put_ordered m f fs (behind_plain f.at f.kids m 
 pub absent_ordered : (n : ℕ) (fs : List Frame) → is_ordered fs ≡ true → is_ordered (changed n ch.Absent fs) ≡ true
 absent_ordered n fs i = plain_ordered (leaf_mark ki.None 1) fs refl i
 
--- a leaf that does not stand in front of the tree's place
-pub leaf_behind : (k : Kind) (n : ℕ) (f : Frame) → frame_below n f ≡ true → is_behind f.at f.kids (leaf_mark k n) ≡ true
-leaf_behind k n f e = behind_later f.at f.kids (leaf_mark k n) (true_le f.at n (split (nat_le f.at n) (kids_below n f.kids) e).0)
-
-pub leaf_ordered : (k : Kind) (n : ℕ) (f : Frame) (fs : List Frame) → frame_below n f ≡ true → is_ordered (f ∷ fs) ≡ true → is_ordered (put (leaf_mark k n) (f ∷ fs)) ≡ true
-leaf_ordered k n f fs e i = put_ordered (leaf_mark k n) f fs (leaf_behind k n f e) i
-
 -- ---- trees begun, closed and let go
-
-pub open_ordered : (n : ℕ) (fs : List Frame) → all_below n fs ≡ true → is_ordered fs ≡ true → is_ordered (record { at = n; kids = [] } ∷ fs) ≡ true
-unfolding is_ordered
-open_ordered n [] e i = refl
-open_ordered n (f ∷ fs) e i = ordered_both (record { at = n; kids = [] }) f fs (by (is_empty f.kids)) i
-  where
-    by : (b : Bool) → (if b then nat_le f.at n else true) ≡ true
-    by true = (split (nat_le f.at n) (kids_below n f.kids) (top_below n f fs e)).0
-    by false = refl
 
 -- a tree that is closed is no left operand of the tree round it
 pub close_behind : (k : Kind) (f g : Frame) (fs : List Frame) → is_ordered (f ∷ g ∷ fs) ≡ true → is_behind g.at g.kids (mark_as k f.at f.kids) ≡ true

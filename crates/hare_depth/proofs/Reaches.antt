@@ -7,7 +7,6 @@ use Rattle.hare_grammar.specs.Classes.{class_of}
 use Rattle.hare_grammar.specs.Engine.{Group, Step, Goes, Ends, Stuck, step, after, run}
 use Rattle.hare_parsing.proofs.Endings.{good}
 use Rattle.hare_parsing.proofs.Good.{step_good, class_proper}
-use Rattle.hare_parsing.proofs.Viable.{Stopped}
 use Rattle.hare_depth.specs.Gauge.{Gauged, Seen, seen_in, with_faults, nodes_in, found, gauge}
 use Rattle.hare_depth.specs.Gauge as gauges
 use Rattle.hare_depth.proofs.Piles.{frames}
@@ -88,15 +87,6 @@ goes_onward f t w st st' gs gs' ns r = by (step f t (class_of t) st gs) refl r.i
 
 -- ---- side by side
 
-pub reaches_append : (f : ℕ) (w v : List Token) (st st1 st' : List Symbol) (gs gs1 gs' : List Group) (ns ms : List ℕ) → Reaches f w st gs st1 gs1 ns → Reaches f v st1 gs1 st' gs' ms → Reaches f (w ++ v) st gs st' gs' (ns ++ ms)
-reaches_append f [] v st st1 st' gs gs1 gs' ns ms r q =
-    let s = stays f st st1 gs gs1 ns r in
-    rw (s.symbols, s.trees, s.tells) q
-reaches_append f (t ∷ w) v st st1 st' gs gs1 gs' ns ms r q =
-    let o = goes_onward f t w st st1 gs gs1 ns r in
-    let a = reaches_more f t (w ++ v) st o.next st' gs o.trees gs' (o.later ++ ms) o.steps (reaches_append f w v o.next st1 st' o.trees gs1 gs' o.later ms o.goes q) in
-    subst (λ l. Reaches f (t ∷ (w ++ v)) st gs st' gs' l) (sym (append_assoc _ o.later ms) ∙ ap (λ l. l ++ ms) (sym o.tells)) a
-
 -- over the first tokens, and over the others
 pub record Parts (f : ℕ) (w v : List Token) (st : List Symbol) (gs : List Group) (st' : List Symbol) (gs' : List Group) (ns : List ℕ) : Type 0 where
   pub next : List Symbol
@@ -158,6 +148,3 @@ reaches_good f [] st st' gs gs' ns g r = let s = stays f st st' gs gs' ns r in s
 reaches_good f (t ∷ w) st st' gs gs' ns g r =
     let o = goes_onward f t w st st' gs gs' ns r in
     reaches_good f w o.next st' o.trees gs' o.later (step_good f t (class_of t) st o.next gs o.trees cl.Junk g (class_proper t) o.steps) o.goes
-
-pub reaches_stopped : (f : ℕ) (w : List Token) (st st' : List Symbol) (gs gs' : List Group) (ns : List ℕ) → good st cl.Junk ≡ true → Reaches f w st gs st' gs' ns → Stopped f w st gs
-reaches_stopped f w st st' gs gs' ns g r = record { rest = st'; trees = gs'; is_good = reaches_good f w st st' gs gs' ns g r; same = run_reaches f w st st' gs gs' ns r }

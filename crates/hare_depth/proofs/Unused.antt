@@ -1,11 +1,9 @@
 -- A token that no tree is spelled by is used by no row, so the gauge finds nothing behind it.
-use Rattle.std.proofs.Common.{◌≡◌, ℕ, suc, List, [], ◌∷◌, ◌++◌, Bool, true, false, ◌&&◌, ◌+◌, refl, ap, sym, ◌∙◌, map, length}
+use Rattle.std.proofs.Common.{◌≡◌, ℕ, List, [], ◌∷◌, ◌++◌, Bool, true, false, ◌&&◌, ◌+◌, refl, ap, sym, ◌∙◌, map, length}
 use Rattle.std.proofs.lemmas.List.{map-append}
 use Rattle.hare_tree.specs.declared.token.Token.{Token}
 use Rattle.hare_tree.specs.declared.form.Own.{Own}
 use Rattle.hare_tree.specs.declared.form.Own.TheVariants as ow
-use Rattle.hare_tree.specs.declared.form.Sign.{Sign}
-use Rattle.hare_grammar.specs.declared.class.Class.{Class}
 use Rattle.hare_grammar.specs.declared.class.Class.TheVariants as cl
 use Rattle.hare_grammar.specs.declared.rule.Rule.{Rule}
 use Rattle.hare_grammar.specs.declared.rule.Rule.TheVariants as ru
@@ -13,13 +11,12 @@ use Rattle.hare_grammar.specs.declared.rule.Symbol.{Symbol}
 use Rattle.hare_grammar.specs.declared.rule.Symbol.TheVariants as sy
 use Rattle.hare_grammar.specs.Rows.{Row, Fault, Skips, Uses}
 use Rattle.hare_grammar.specs.Table.{row}
-use Rattle.hare_grammar.proofs.Edges.{climb_skips}
 use Rattle.hare_parsing.specs.Faults.{strung, ends_in_string}
 use Rattle.hare_parsing.proofs.Apart.{of_junk}
 use Rattle.hare_parsing.proofs.Strung.{strung_append}
 use Rattle.hare_parsing.proofs.Viable.{end}
 use Rattle.hare_depth.specs.Marks.{Frame, close}
-use Rattle.hare_depth.specs.Gauge.{Step, Goes, Ends, Stuck, wanted, acted, step, Seen, Gauged, with_faults, found, nodes_in, after, gauge, numbered, seen_in, seen}
+use Rattle.hare_depth.specs.Gauge.{Step, Goes, Ends, Stuck, acted, step, Seen, found, nodes_in, after, gauge, numbered, seen_in, seen}
 use Rattle.hare_depth.proofs.Numbers.{numbered_append}
 
 -- the row uses the token

@@ -29,7 +29,7 @@ highest_capped : (ms : List Mark) → min (highest (cap_marks ms)) 256 ≡ min (
 highest_capped [] = refl
 highest_capped (m ∷ ms) = let e = highest_capped ms in omega (arith, e)
 
-pub as_capped : (k : Kind) (n : ℕ) (ms : List Mark) → cap_mark (mark_as k n (cap_marks ms)) ≡ cap_mark (mark_as k n ms)
+as_capped : (k : Kind) (n : ℕ) (ms : List Mark) → cap_mark (mark_as k n (cap_marks ms)) ≡ cap_mark (mark_as k n ms)
 as_capped k n ms = same_mark (first_capped n ms) (capped_sum (counted k) (highest (cap_marks ms)) (highest ms) (highest_capped ms)) where
   capped_sum : (a b c : ℕ) → min b 256 ≡ min c 256 → min (a + b) 256 ≡ min (a + c) 256
   capped_sum a b c e = omega arith
@@ -111,7 +111,7 @@ changed_capped n ch.Drop (f ∷ fs) = capped_twice fs
 pub close_alike : (k : Kind) (fs gs : List Frame) → capped fs ≡ capped gs → capped (close k fs) ≡ capped (close k gs)
 close_alike k fs gs e = sym (close_capped k fs) ∙ ap (λ hs. capped (close k hs)) e ∙ close_capped k gs
 
-pub changed_alike : (n : ℕ) (c : Change) (fs gs : List Frame) → capped fs ≡ capped gs → capped (changed n c fs) ≡ capped (changed n c gs)
+changed_alike : (n : ℕ) (c : Change) (fs gs : List Frame) → capped fs ≡ capped gs → capped (changed n c fs) ≡ capped (changed n c gs)
 changed_alike n c fs gs e = sym (changed_capped n c fs) ∙ ap (λ hs. capped (changed n c hs)) e ∙ changed_capped n c gs
 
 pub all_changed_alike : (n : ℕ) (cs : List Change) (fs gs : List Frame) → capped fs ≡ capped gs → capped (all_changed n cs fs) ≡ capped (all_changed n cs gs)

@@ -25,16 +25,16 @@ each_append P (x ∷ xs) ys h k = (h.0, each_append P xs ys h.1 k)
 
 -- the numbers in trees under way are all such
 module _ (P : ℕ → Type 0) where
-  abbrev pub MarkIn : Mark → Type 0
+  abbrev MarkIn : Mark → Type 0
   MarkIn m = P m.first
 
-  abbrev pub FrameIn : Frame → Type 0
+  abbrev FrameIn : Frame → Type 0
   FrameIn f = P f.at × AllByRecursion MarkIn f.kids
 
-  abbrev pub FramesIn : List Frame → Type 0
+  abbrev FramesIn : List Frame → Type 0
   FramesIn fs = AllByRecursion FrameIn fs
 
-  abbrev pub StepIn : Step → Type 0
+  abbrev StepIn : Step → Type 0
   StepIn (Goes st fs) = FramesIn fs
   StepIn (Ends fs) = FramesIn fs
   StepIn Stuck = Unit {0}
@@ -147,7 +147,7 @@ module _ (P : ℕ → Type 0) where
   after_in (Ends fs) t w go h k = tt
   after_in Stuck t w go h k = tt
 
-  pub gauge_in : (w : List Seen) (st : List Symbol) (fs : List Frame) → P 1 → AllByRecursion (λ s. P s.number) w → FramesIn fs → AllByRecursion P (gauge w st fs).faults
+  gauge_in : (w : List Seen) (st : List Symbol) (fs : List Frame) → P 1 → AllByRecursion (λ s. P s.number) w → FramesIn fs → AllByRecursion P (gauge w st fs).faults
   unfolding gauge
   gauge_in [] st fs o h k = tt
   gauge_in (t ∷ w) st fs o h k =
@@ -179,7 +179,7 @@ module _ (P : ℕ → Type 0) where
   numbered_in n (t ∷ ts) h = (h n (omega arith) (omega arith), numbered_in (suc n) ts (λ m a b. h m (omega arith) (omega arith)))
 
 -- the numbers that are told of the tokens of a list
-pub faults_within : (ts : List Token) (st : List Symbol) → AllByRecursion (λ n. (0 < n) × (n ≤ length ts)) (gauge (seen ts) st start).faults
+faults_within : (ts : List Token) (st : List Symbol) → AllByRecursion (λ n. (0 < n) × (n ≤ length ts)) (gauge (seen ts) st start).faults
 unfolding gauge
 faults_within [] st = tt
 faults_within (t ∷ ts) st =

@@ -13,6 +13,7 @@ use Rattle.hare_depth.specs.Gauge.{nodes_of_symbol, nodes_in, opened}
 use Rattle.hare_table.specs.declared.row.Wait.{Wait}
 use Rattle.hare_table.specs.Seen.{symbols_in, waited}
 
+-- no more are nodes than there are trees
 pub opened_le : (bs : List Bool) → opened bs ≤ length bs
 unfolding opened
 opened_le [] = omega arith
@@ -58,7 +59,7 @@ unfolding nodes_in
 nodes_in_none ws = ap (λ l. nodes_in (waited l)) (drop-length ws)
 
 -- one more wait, in front of those behind it
-pub nodes_in_more : (ws : List Wait) (n : ℕ) (d : Wait) → 0 < n → n ≤ length ws →
+nodes_in_more : (ws : List Wait) (n : ℕ) (d : Wait) → 0 < n → n ≤ length ws →
     nodes_in (waited (drop (n - 1) ws)) ≡ nodes_in (symbols_in (get_or ws (n - 1) d)) ++ nodes_in (waited (drop n ws))
 nodes_in_more ws n d h w = more_of (n - 1) (omega arith) (omega arith) where
   more_of : (m : ℕ) → m < length ws → n ≡ m + 1 → nodes_in (waited (drop m ws)) ≡ nodes_in (symbols_in (get_or ws m d)) ++ nodes_in (waited (drop n ws))

@@ -23,11 +23,11 @@ lesser_some m (Some k) n e =
     let h : min m k ≡ n = cc in
     (elim (cases_lt m k) [ inl l ↦ (let a : n ≡ m = omega arith in inl a) | inr l ↦ (let a : k ≡ n = omega arith in inr (ap Some a)) ], omega arith)
 
-pub least_is_on : (ns : List ℕ) (n : ℕ) → least ns ≡ Some n → IsOn n ns
+least_is_on : (ns : List ℕ) (n : ℕ) → least ns ≡ Some n → IsOn n ns
 least_is_on [] n e = cc
 least_is_on (m ∷ ns) n e = elim (lesser_some m (least ns) n e).0 [ inl h ↦ inl h | inr h ↦ inr (least_is_on ns n h) ]
 
-pub least_none : (ns : List ℕ) → least ns ≡ None → ns ≡ []
+least_none : (ns : List ℕ) → least ns ≡ None → ns ≡ []
 least_none [] e = refl
 least_none (m ∷ ns) e = absurd (some_of (least ns) e) where
   some_of : (o : Option ℕ) → lesser (Some m) o ≡ None → ⊥
@@ -38,7 +38,7 @@ none_is_on : (ns : List ℕ) (k : ℕ) → ns ≡ [] → IsOn k ns → ⊥
 none_is_on [] k e h = h
 none_is_on (m ∷ ns) k e h = cc
 
-pub least_below : (ns : List ℕ) (n k : ℕ) → least ns ≡ Some n → IsOn k ns → n ≤ k
+least_below : (ns : List ℕ) (n k : ℕ) → least ns ≡ Some n → IsOn k ns → n ≤ k
 least_below [] n k e h = absurd h
 least_below (m ∷ ns) n k e (inl a) = let l = (lesser_some m (least ns) n e).1 in omega arith
 least_below (m ∷ ns) n k e (inr a) = by (least ns) refl e (λ j f. least_below ns j k f a) where

@@ -11,14 +11,17 @@ use hare_tree::{Kind, is_node};
 use std::alloc::{AllocError, Global};
 use std::marker::Model;
 
-/// So many nodes may be open round a node, and an operand may be lower than this. Heights are counted up to it.
+/// A node with so many nodes open round it is too deep, and a left operand of this height is too high. Heights are counted up to it.
 pub const LIMIT: usize = 256;
 
 /// What the limits on depth ask of a tree that is whole.
 #[derive(Clone, Copy)]
 pub struct Mark {
+    /// Whether it is a type, an expression or a statement.
     is_node: bool,
+    /// The number of its first token, from 1.
     first: usize,
+    /// How many types, expressions and statements stand one in the other in it, with itself, counted up to 256.
     height: usize,
 }
 
@@ -71,10 +74,12 @@ fn counted(kind: Kind) -> usize
     if is_node(kind) { 1 } else { 0 }
 }
 
-/// A tree under way: the number of the token at which it has its place, and its kids so far.
+/// A tree under way.
 #[derive(Drop)]
 pub struct Frame {
+    /// The number of the token at which it has its place, from 1.
     at: usize,
+    /// Its kids so far.
     kids: Vec<Mark>,
 }
 
@@ -157,7 +162,7 @@ impl Frame {
         }
     }
 
-    /// The token at which the tree has its place, where it is an operator that was begun just now behind a left operand of height 256.
+    /// The token at which the tree has its place, where it is an operator that was begun just now, behind a left operand that is too high.
     pub fn high_operand(&self) -> Option<usize>
         ensures { result ≡ least (gauges.high_operand self.now.at self.now.kids) }
     {

@@ -1,6 +1,6 @@
 //! The gauge of depth: the run of the grammar's machine with marks in place of trees, which tells the tokens at which a limit is passed.
 
-ghost use Rattle.std.specs.Prelude.{◌≡◌, ◌+◌, ◌-◌, ◌<◌, ◌≤◌, IfOk, length};
+ghost use Rattle.std.specs.Prelude.{◌≡◌, ◌+◌, ◌-◌, ◌<◌, ◌≤◌, IfOk, IfSome, length};
 ghost use Rattle.hare_depth.specs.Gauge as gauges;
 ghost use Rattle.hare_gauge.specs.Gauged as spec;
 ghost use Rattle.hare_table.specs.Seen.{waited};
@@ -32,6 +32,7 @@ pub fn gauge(
     symbols: &[Wait],
 ) -> Result<Gauged, AllocError>
     ensures fault { IfOk result (λ g. spec.IsLeastOf (spec.gauged_from tokens.now from (waited symbols.now)).faults from g.fault) }
+    ensures within { IfOk result (λ g. IfSome g.fault (λ m. m < length tokens.now)) }
     ensures stop { IfOk result (λ g. spec.Stops tokens.now from (spec.gauged_from tokens.now from (waited symbols.now)) g.stop) }
 {
     let mut agenda = Agenda::of(alloc, symbols)?;
@@ -59,7 +60,9 @@ fn start(alloc: Global) -> Result<Pile<Frame>, AllocError>
 fn place_of(tokens: &Tokens, from: usize, number: usize) -> usize
     requires first { 0 < number }
     requires within { from + number ≤ length tokens.now }
-    ensures { result ≡ from + number - 1 }
+    ensures value { result ≡ from + number - 1 }
+    ensures within { result < length tokens.now }
 {
+    // No token has a number past the end of the list.
     tokens.len().min(from + number) - 1
 }
