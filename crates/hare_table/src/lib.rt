@@ -9,6 +9,8 @@ mod row;
 mod rows;
 mod signs;
 mod strings;
+#[cfg(test)]
+mod tests;
 mod waits;
 
 pub use answer::Answer;
