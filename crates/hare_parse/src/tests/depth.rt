@@ -1,7 +1,7 @@
 //! The first tokens at which a limit on depth is passed.
 
 use super::*;
-use crate::depth_fault_of_file;
+use hare_gauge::depth_fault_of_file;
 
 // Puts the token that a word spells behind the others, so many times.
 fn repeat(alloc: Global, all: &mut Tokens, word: &[u8], times: u32) -> Result<(), Fail> {
