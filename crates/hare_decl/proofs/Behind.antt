@@ -8,7 +8,7 @@ use Rattle.hare_grammar.specs.Engine.{bottom}
 use Rattle.hare_grammar.specs.OneTree.{file_symbols}
 use Rattle.hare_parsing.specs.Faults.{strung}
 use Rattle.hare_parse.specs.Files.{file_made}
-use Rattle.hare_parse.proofs.Joining.{read_drop, drop_past}
+use Rattle.hare_table.proofs.Joining.{read_drop, drop_past}
 use Rattle.hare_parse.proofs.Onward.{done_behind}
 use Rattle.hare_decl.specs.Answers.{IsEnd, IsOver, IsFile}
 use Rattle.hare_decl.proofs.Over.{over_no_end, over_behind_end, over_whole}

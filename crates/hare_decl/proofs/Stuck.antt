@@ -11,7 +11,7 @@ use Rattle.hare_parsing.proofs.Strung.{head}
 use Rattle.hare_parsing.proofs.Places.{cut}
 use Rattle.hare_parsing.proofs.FileFaults.{file_runs_use_no_end}
 use Rattle.hare_depth.proofs.Firsts.{first_depth}
-use Rattle.hare_parse.specs.Answers.{IsFirstDepth}
+use Rattle.hare_gauge.specs.Limits.{IsFirstDepth}
 use Rattle.hare_decl.specs.Answers.{IsCut, HasEnd}
 use Rattle.hare_decl.proofs.Runs.{IsShallow, stuck_first, used_up_cut}
 

@@ -1,5 +1,5 @@
 -- What the machine's run over tokens, with End behind them, says of the tree of the tokens and of their first fault.
-use Rattle.std.proofs.Common.{◌≡◌, ℕ, suc, ◌-◌, ◌<◌, ◌≤◌, ◌⊎◌, inl, inr, Some, List, [], ◌∷◌, ◌++◌, Bool, true, false, ◌&&◌, take, drop, length, length-drop, refl, ap, sym, ◌∙◌, subst, arith}
+use Rattle.std.proofs.Common.{◌≡◌, ℕ, suc, ◌-◌, ◌<◌, ◌≤◌, ◌⊎◌, inl, inr, Some, List, [], ◌∷◌, Bool, true, false, ◌&&◌, take, drop, length, length-drop, ap, sym, ◌∙◌, subst, arith}
 use Rattle.std.proofs.lemmas.List.{take-append-le, drop-append-le, length-append}
 use Rattle.hare_tree.specs.declared.place.Fault as fault
 use Rattle.hare_tree.specs.declared.token.Token.{Token}
@@ -7,11 +7,9 @@ use Rattle.hare_tree.specs.declared.form.Sort.{Sort}
 use Rattle.hare_tree.specs.Node.{Node}
 use Rattle.hare_tree.specs.Spell.{spell}
 use Rattle.hare_tree.specs.Shape.{is_shaped}
-use Rattle.hare_tree.specs.Depth.{deep_root}
 use Rattle.hare_tree.specs.Grammar.{Spells, HasPlaces, joined, trees_of, IsViable, IsRun, IsSyntaxFault, IsDepthFault, IsTreeOf}
 use Rattle.hare_grammar.specs.Rows.{of}
-use Rattle.hare_grammar.specs.Engine.{Group, add, Step, Goes, Ends, Stuck, step, Outcome, Done, Fails, after, run, bottom}
-use Rattle.hare_grammar.specs.Classes.{class_of}
+use Rattle.hare_grammar.specs.Engine.{Group, add, Done, Fails, run, bottom}
 use Rattle.hare_grammar.proofs.Places.{tokens_have_one_tree}
 use Rattle.hare_parsing.specs.Viable.{has_trees}
 use Rattle.hare_parsing.specs.Faults.{strung, ends_in_string, begins_with_string, StandsAt}
@@ -20,10 +18,11 @@ use Rattle.hare_parsing.proofs.Faults.{runs_fault, runs_fault_in_trees, runs_rea
 use Rattle.hare_parsing.proofs.Places.{cut}
 use Rattle.hare_parsing.proofs.Strung.{head}
 use Rattle.hare_parsing.proofs.Viable.{end}
-use Rattle.hare_parse.specs.Runs.{closed, IsPlace}
-use Rattle.hare_parse.proofs.Parted.{and_false, drop_to}
+use Rattle.hare_gauge.specs.Limits.{closed, IsFirstDepth, TreesFit}
+use Rattle.hare_table.specs.Places.{IsPlace}
+use Rattle.hare_table.proofs.Parted.{and_false, drop_to}
 use Rattle.hare_parse.proofs.Onward.{done_behind}
-use Rattle.hare_parse.specs.Answers.{IsRead, IsTooDeep, IsBroken, HasFault, IsFirstDepth, TreesFit, fault_up_to}
+use Rattle.hare_parse.specs.Answers.{IsRead, IsBroken, HasFault, fault_up_to}
 use Rattle.hare_parse.proofs.Placed.{place_dropped}
 
 -- ---- lists with End behind them

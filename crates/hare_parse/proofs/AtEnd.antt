@@ -1,5 +1,5 @@
 -- What comes of End behind the tokens of a list.
-use Rattle.std.proofs.Common.{◌≡◌, ℕ, ◌-◌, ◌<◌, ◌≤◌, List, [], ◌∷◌, ◌++◌, Bool, true, false, ◌&&◌, drop, take, length, refl, ap, sym, ◌∙◌, subst, arith}
+use Rattle.std.proofs.Common.{◌≡◌, ℕ, ◌<◌, ◌≤◌, List, [], ◌∷◌, ◌++◌, Bool, true, false, ◌&&◌, drop, length, refl, ap, sym, ◌∙◌, subst}
 use Rattle.std.proofs.lemmas.List.{drop_all}
 use Rattle.hare_tree.specs.declared.token.Token.{Token}
 use Rattle.hare_grammar.specs.declared.class.Class.{Class}
@@ -7,7 +7,7 @@ use Rattle.hare_grammar.specs.declared.class.Class.TheVariants as cl
 use Rattle.hare_grammar.specs.declared.rule.Symbol.{Symbol}
 use Rattle.hare_grammar.specs.Classes.{class_of}
 use Rattle.hare_grammar.specs.Engine.{Group, Step, Goes, Ends, Stuck, step, Outcome, Done, Fails, after, run, bottom}
-use Rattle.hare_parsing.specs.Faults.{strung, ends_in_string, begins_with_string, StandsAt}
+use Rattle.hare_parsing.specs.Faults.{strung, ends_in_string}
 use Rattle.hare_parsing.proofs.Places.{cut}
 use Rattle.hare_parsing.proofs.Strung.{head, strung_append}
 use Rattle.hare_parsing.proofs.Viable.{end}
@@ -15,12 +15,13 @@ use Rattle.hare_depth.proofs.Claims.{seen_step}
 use Rattle.hare_depth.proofs.Piles.{frames}
 use Rattle.hare_depth.proofs.SeenSteps.{steps_are_seen}
 use Rattle.hare_depth.proofs.Unused.{step_unused}
-use Rattle.hare_parse.specs.declared.step.Answer.{Answer}
-use Rattle.hare_parse.specs.declared.step.Answer.TheVariants as an
-use Rattle.hare_parse.specs.Seen.{Says}
+use Rattle.hare_table.specs.declared.answer.Answer.{Answer}
+use Rattle.hare_table.specs.declared.answer.Answer.TheVariants as an
+use Rattle.hare_parse.specs.Steps.{Says}
 use Rattle.hare_parse.specs.declared.run.Reached.{Reached}
 use Rattle.hare_parse.specs.declared.run.Reached.TheVariants as re
-use Rattle.hare_parse.specs.Runs.{closed, outcome_at_end, IsUsedUp}
+use Rattle.hare_gauge.specs.Limits.{closed}
+use Rattle.hare_parse.specs.Runs.{outcome_at_end, IsUsedUp}
 use Rattle.hare_parse.proofs.Onward.{done_behind, done_more, fails_more}
 
 -- the outcome of a run that stops there

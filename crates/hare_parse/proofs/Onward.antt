@@ -1,11 +1,11 @@
 -- A run goes on behind the tokens that it has used, whatever stands there.
-use Rattle.std.proofs.Common.{◌≡◌, ℕ, List, [], ◌∷◌, ◌++◌, refl, ap, sym, ◌∙◌, subst}
+use Rattle.std.proofs.Common.{◌≡◌, ℕ, List, [], ◌∷◌, ◌++◌, refl}
 use Rattle.hare_tree.specs.declared.token.Token.{Token}
 use Rattle.hare_grammar.specs.declared.rule.Symbol.{Symbol}
 use Rattle.hare_grammar.specs.Classes.{class_of}
-use Rattle.hare_grammar.specs.Engine.{Group, Step, Goes, Ends, Stuck, step, Outcome, Done, Fails, after, run}
-use Rattle.hare_parse.specs.declared.step.Answer.TheVariants as an
-use Rattle.hare_parse.specs.Seen.{Says}
+use Rattle.hare_grammar.specs.Engine.{Group, Step, Goes, Ends, Stuck, step, Done, Fails, after, run}
+use Rattle.hare_table.specs.declared.answer.Answer.TheVariants as an
+use Rattle.hare_parse.specs.Steps.{Says}
 
 -- a token that is used
 pub run_on : (f : ℕ) (t : Token) (w : List Token) (st st' : List Symbol) (gs gs' : List Group) → Says (step f t (class_of t) st gs) an.Goes st' gs' → run f (t ∷ w) st gs ≡ run f w st' gs'

@@ -1,6 +1,6 @@
 -- What a parser answers for the tokens from a place of their list on, which are the whole list here: the tree of their longest front that begins
 -- a tree of the sort, or their first fault.
-use Rattle.std.specs.Prelude.{◌≡◌, ℕ, zero, suc, ◌+◌, ◌-◌, ◌<◌, ◌≤◌, ◌⊎◌, List, [], ◌∷◌, true, take, drop, Result, MatchResult, Option, Some, None}
+use Rattle.std.specs.Prelude.{◌≡◌, ℕ, zero, suc, ◌+◌, ◌-◌, ◌<◌, ◌≤◌, ◌⊎◌, List, [], ◌∷◌, true, take, drop, Result, MatchResult}
 use Rattle.hare_tree.specs.declared.place.Place.{Place}
 use Rattle.hare_tree.specs.declared.place.Fault as fault
 use Rattle.hare_tree.specs.declared.token.Token.{Token}
@@ -10,14 +10,7 @@ use Rattle.hare_tree.specs.declared.form.Sort.{Sort}
 use Rattle.hare_tree.specs.Node.{Node}
 use Rattle.hare_tree.specs.Spell.{spell}
 use Rattle.hare_tree.specs.Shape.{is_shaped}
-use Rattle.hare_tree.specs.Depth.{deep_root}
-use Rattle.hare_tree.specs.Grammar.{Language, Spells, trees_of, files, place_of, IsRun, IsDepthFault, IsTreeOf}
-use Rattle.hare_grammar.specs.Rows.{of}
-use Rattle.hare_grammar.specs.Engine.{add, Done, run, bottom}
-use Rattle.hare_grammar.specs.OneTree.{file_symbols}
-use Rattle.hare_parsing.specs.Faults.{strung}
-use Rattle.hare_parse.specs.Runs.{closed}
-use Rattle.hare_parse.specs.Files.{file_made}
+use Rattle.hare_tree.specs.Grammar.{Spells, trees_of, place_of, IsRun, IsDepthFault, IsTreeOf}
 use Rattle.hare_parse.specs.declared.parse.Parsed.{Parsed}
 
 -- ---- what the tokens come to
@@ -44,21 +37,6 @@ pub record IsBroken (s : Sort) (ts : List Token) (n : ℕ) : Type 0 where
   pub run : IsRun (trees_of s) ts n
   pub no_tree : (tree : Node) → is_shaped s tree ≡ true → Spells (spell 0 tree) (take n ts) → ⊥
   pub shallow : (m : ℕ) → IsDepthFault (trees_of s) ts m → ⊥
-
--- The place in the list, which begins at `at`, of the first token at which a limit is passed; none where no limit is passed.
-abbrev pub IsFirstDepth : {T : Type 0} → Language T → List Token → ℕ → Option ℕ → Type 0
-IsFirstDepth l ts at None = (m : ℕ) → IsDepthFault l ts m → ⊥
-IsFirstDepth l ts at (Some n) = (at ≤ n) × IsDepthFault l ts (n - at) × ((m : ℕ) → m < n - at → IsDepthFault l ts m → ⊥)
-
--- a tree that the machine has read, with End behind the tokens, keeps the limits
-abbrev pub TreesFit : Sort → List Token → Type 0
-TreesFit s ts =
-    (file : ℕ) (rest : List Token) (tree : Node) → run file (strung (closed ts)) (of s ∷ []) bottom ≡ Done rest (add tree bottom) → deep_root tree ≡ []
-
--- and so does a file
-abbrev pub FilesFit : List Token → Type 0
-FilesFit ts =
-    (file : ℕ) (rest : List Token) (uses decls : List Node) → run file (strung ts) file_symbols bottom ≡ Done rest (file_made uses decls) → files.deep_of (record { file = file; uses = uses; decls = decls }) ≡ []
 
 -- the place of a token, or where the list ends before it that of the last one
 abbrev pub place_up_to : List Token → ℕ → Place

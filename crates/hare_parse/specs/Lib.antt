@@ -1,11 +1,4 @@
-pub mod Seen
 pub mod Answers
-pub mod Joined
-pub mod Runs
-pub mod Capped
-pub mod Least
-pub mod Deep
-pub mod Agenda
-pub mod Gauged
-pub mod Width
 pub mod Files
+pub mod Runs
+pub mod Steps

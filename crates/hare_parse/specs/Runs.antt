@@ -1,20 +1,19 @@
 -- What a run of the program comes to, in the words of the table's machine.
-use Rattle.std.specs.Prelude.{◌≡◌, ℕ, ◌-◌, ◌≤◌, ◌⊎◌, List, [], ◌∷◌, ◌++◌, Bool, true, false, drop, length}
+use Rattle.std.specs.Prelude.{◌≡◌, ℕ, ◌≤◌, List, [], Bool, true, false, drop, length}
 use Rattle.hare_tree.specs.declared.token.Token.{Token}
-use Rattle.hare_tree.specs.declared.token.TokenKind.TheVariants as tk
 use Rattle.hare_tree.specs.Node.{Node}
-use Rattle.hare_tree.specs.Spell.{word_token}
 use Rattle.hare_grammar.specs.declared.rule.Symbol.{Symbol}
 use Rattle.hare_grammar.specs.Classes.{class_of}
 use Rattle.hare_grammar.specs.Engine.{Group, Outcome, Done, Fails, add, bottom, step}
-use Rattle.hare_parsing.specs.Faults.{strung, StandsAt}
+use Rattle.hare_parsing.specs.Faults.{strung}
+use Rattle.hare_table.specs.Joined.{BeginsWith}
 use Rattle.hare_parse.specs.declared.reader.Outcome.{Outcome as Answered}
 use Rattle.hare_parse.specs.declared.reader.Outcome.TheVariants as ou
 use Rattle.hare_parse.specs.declared.run.Read.{Read}
 use Rattle.hare_parse.specs.declared.run.Reached.{Reached}
 use Rattle.hare_parse.specs.declared.run.Reached.TheVariants as re
-use Rattle.hare_parse.specs.Joined.{BeginsWith}
-use Rattle.hare_parse.specs.Seen.{Says}
+use Rattle.hare_gauge.specs.Limits.{closed}
+use Rattle.hare_parse.specs.Steps.{Says}
 
 -- What came of the first of the joined tokens from a place on: the answer, and the place of the next.
 pub record Reads (f : ℕ) (ts : List Token) (at : ℕ) (st : List Symbol) (gs : List Group) (r : Read) (st' : List Symbol) (gs' : List Group) : Type 0 where
@@ -39,10 +38,6 @@ pub record HoldsTree (gs : List Group) : Type 0 where
   pub tree : Node
   pub is : gs ≡ add tree bottom
 
--- tokens with End behind them
-abbrev pub closed : List Token → List Token
-closed ts = ts ++ word_token 0 tk.End [] ∷ []
-
 -- The outcome of the machine's run that this answer says. Its tokens are the joined tokens from the place on that is answered, with End behind them.
 abbrev pub outcome_of : Answered → List Token → Outcome
 outcome_of (ou.Done tree n) ts = Done (strung (closed (drop n ts))) (add tree bottom)
@@ -54,12 +49,6 @@ outcome_at_end true gs = Done (closed []) gs
 outcome_at_end false gs = Fails (closed [])
 
 -- ---- places
-
--- The place is that of a token behind `from`, or behind all tokens, or `from` itself, and no strings are joined across it.
-pub record IsPlace (ts : List Token) (from n : ℕ) : Type 0 where
-  pub behind : from ≤ n
-  pub within : (n ≡ from) ⊎ (n ≤ length ts)
-  pub stands : StandsAt (drop from ts) (n - from) (strung (drop n ts))
 
 -- the place in the list at which a run stands still
 abbrev pub place_in : Reached → ℕ

@@ -5,9 +5,9 @@ ghost use Rattle.hare_tree.specs.Spell as spell;
 ghost use Rattle.hare_grammar.specs.Engine as engine;
 
 use crate::group::Group;
-use crate::pile::Pile;
 use crate::whole::{bare_leaf, full_leaf};
 use hare_grammar::Change;
+use hare_table::Pile;
 use hare_tree::{Kind, Place, Token, Tree};
 use std::alloc::{AllocError, Global};
 

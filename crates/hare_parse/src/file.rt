@@ -8,11 +8,9 @@ ghost use Rattle.hare_grammar.specs.OneTree.{file_symbols};
 ghost use Rattle.hare_parse.specs.Files as spec;
 
 use crate::group::Group;
-use crate::pile::Pile;
-use crate::row::part;
 use crate::run::{Reached, bottom, run};
-use crate::waits::push_all;
 use hare_grammar::Rule;
+use hare_table::{Pile, part, push_waits};
 use hare_tree::{Kids, Kind, Sort, Tokens, Tree};
 use std::alloc::{AllocError, Global};
 
@@ -36,7 +34,7 @@ pub fn read_file(alloc: Global, file: u32, tokens: &Tokens) -> Result<FileOutcom
     ensures place { IfOk result (λ o. StandsAt tokens.now (spec.place_of o) (strung (drop (spec.place_of o) tokens.now))) }
 {
     let mut stack = Pile::new(alloc);
-    push_all(
+    push_waits(
         &mut stack,
         &[part(Rule::Each(Sort::Use)), part(Rule::Each(Sort::Decl))],
     )?;

@@ -7,10 +7,11 @@ ghost use Rattle.hare_tree.specs.Forms as forms;
 ghost use Rattle.hare_tree.specs.Node.{Node};
 ghost use Rattle.hare_tree.specs.Grammar.{trees_of, place_of, IsDepthFault};
 ghost use Rattle.hare_parsing.specs.Viable.{has_trees};
+ghost use Rattle.hare_gauge.specs.Limits.{TreesFit};
 ghost use Rattle.hare_parse.specs.Answers as spec;
 
-use crate::depth::depth_fault;
 use crate::reader::{Outcome, read};
+use hare_gauge::depth_fault;
 use hare_tree::{Fault, Place, Sort, Stop, Tokens, Tree};
 use std::alloc::Global;
 
@@ -71,7 +72,7 @@ fn parse_shallow(alloc: Global, t: &Tokens, at: usize, sort: Sort) -> Result<Par
     requires within { at < length t.now }
     requires sort { has_trees sort ≡ true }
     requires shallow { (m : ℕ) → IsDepthFault (trees_of sort) (drop at t.now) m → ⊥ }
-    requires fits { spec.TreesFit sort (drop at t.now) }
+    requires fits { TreesFit sort (drop at t.now) }
     ensures ok { IfOk result (λ p. spec.IsParsed sort t.now at p) }
     ensures err { IfErr result (λ e. spec.Stops sort t.now at e) }
 {

@@ -6,16 +6,16 @@ ghost use Rattle.hare_tree.specs.Spell.{word_token};
 ghost use Rattle.hare_parsing.specs.Faults.{strung};
 ghost use Rattle.hare_grammar.specs.Rows as rows;
 ghost use Rattle.hare_grammar.specs.Engine as engine;
-ghost use Rattle.hare_parse.specs.Seen.{waited};
+ghost use Rattle.hare_table.specs.Seen.{waited};
+ghost use Rattle.hare_table.specs.Places.{IsPlace};
+ghost use Rattle.hare_gauge.specs.Limits.{closed};
 ghost use Rattle.hare_parse.specs.Runs as spec;
 
 use crate::change::start_of;
-use crate::class::class_of;
 use crate::group::Group;
-use crate::pile::Pile;
-use crate::row::{Wait, of};
 use crate::run::{Reached, bottom, run};
-use crate::step::{Answer, step};
+use crate::step::step;
+use hare_table::{Answer, Pile, Wait, class_of, of};
 use hare_tree::{Sort, Suffix, Token, TokenKind, Tokens, Tree, Word};
 use std::alloc::{AllocError, Global};
 
@@ -40,8 +40,8 @@ pub fn read(
     at: usize,
     sort: Sort,
 ) -> Result<Outcome, AllocError>
-    ensures run { IfOk result (λ o. engine.run file (strung (spec.closed (drop at tokens.now))) (rows.of sort ∷ []) engine.bottom ≡ spec.outcome_of o tokens.now) }
-    ensures place { IfOk result (λ o. spec.IsPlace tokens.now at (spec.place_of o)) }
+    ensures run { IfOk result (λ o. engine.run file (strung (closed (drop at tokens.now))) (rows.of sort ∷ []) engine.bottom ≡ spec.outcome_of o tokens.now) }
+    ensures place { IfOk result (λ o. IsPlace tokens.now at (spec.place_of o)) }
 {
     let mut stack = Pile::new(alloc);
     stack.push(of(sort))?;
@@ -65,7 +65,7 @@ fn ends(
     stack: &mut Pile<Wait>,
     groups: &mut Pile<Group>,
 ) -> Result<bool, AllocError>
-    ensures { IfOk result (λ ends. engine.run file (spec.closed []) (waited stack.old) groups.old ≡ spec.outcome_at_end ends groups.new) }
+    ensures { IfOk result (λ ends. engine.run file (closed []) (waited stack.old) groups.old ≡ spec.outcome_at_end ends groups.new) }
 {
     let end = end_token(alloc);
     match step(alloc, file, &end, class_of(&end), stack, groups)? {

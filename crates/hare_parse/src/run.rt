@@ -4,16 +4,16 @@ ghost use Rattle.std.specs.Prelude.{◌≡◌, ◌++◌, List, Some, drop, slice
 ghost use Rattle.hare_tree.specs.declared.token.Token.{Token};
 ghost use Rattle.hare_parsing.specs.Faults.{strung};
 ghost use Rattle.hare_grammar.specs.Engine as engine;
-ghost use Rattle.hare_parse.specs.Seen.{waited};
+ghost use Rattle.hare_table.specs.Seen.{waited};
+ghost use Rattle.hare_table.specs.Places.{IsPlace};
 ghost use Rattle.hare_parse.specs.Runs as spec;
 
 use crate::change::start_of;
-use crate::class::class_of;
 use crate::group::Group;
-use crate::pile::Pile;
-use crate::row::Wait;
-use crate::step::{Answer, step};
-use crate::strings::{Joined, is_proper_string, place_behind, strings_at};
+use crate::step::step;
+use hare_table::{
+    Answer, Joined, Pile, Wait, class_of, is_proper_string, place_behind, strings_at,
+};
 use hare_tree::{Token, Tokens};
 use std::alloc::{AllocError, Global};
 
@@ -53,7 +53,7 @@ pub fn run(
     groups: &mut Pile<Group>,
 ) -> Result<Reached, AllocError>
     ensures value { IfOk result (λ r. engine.run file (strung (drop from tokens.now)) (waited stack.old) groups.old ≡ spec.outcome_in r tokens.now groups.new) }
-    ensures place { IfOk result (λ r. spec.IsPlace tokens.now from (spec.place_in r)) }
+    ensures place { IfOk result (λ r. IsPlace tokens.now from (spec.place_in r)) }
     ensures onward { IfOk result (λ r. spec.IsUsedUp r tokens.now → (us : List Token) → engine.run file (strung (drop from tokens.now) ++ us) (waited stack.old) groups.old ≡ engine.run file us (waited stack.new) groups.new) }
 {
     let mut at = from;

@@ -2,28 +2,15 @@
 
 ghost use Rattle.std.specs.Prelude.{◌≡◌, IfOk};
 ghost use Rattle.hare_grammar.specs.Engine as engine;
-ghost use Rattle.hare_parse.specs.Seen.{waited, has_room, Says};
+ghost use Rattle.hare_table.specs.Seen.{waited, has_room};
+ghost use Rattle.hare_parse.specs.Steps.{Says};
 
 use crate::change::{all_changed, close};
 use crate::group::Group;
-use crate::pile::Pile;
-use crate::row::{Row, Wait, has_sign};
-use crate::rows::row;
-use crate::waits::{next_symbol, push_all};
 use hare_grammar::{Class, Symbol};
+use hare_table::{Answer, Pile, Row, Wait, has_sign, next_symbol, push_waits, row_at};
 use hare_tree::Token;
 use std::alloc::{AllocError, Global};
-
-/// What came of a token.
-#[derive(Clone, Copy, Debug, PartialEq, Eq)]
-pub enum Answer {
-    /// It is used.
-    Goes,
-    /// Nothing is waited for.
-    Ends,
-    /// It cannot stand here.
-    Stuck,
-}
 
 /// Reads one token of the file, of which the class is given: the trees under way that are whole in front of it are closed, and it is used by the
 /// first rule that has a place for it.
@@ -48,12 +35,12 @@ pub fn step(
                 }
                 return Ok(Answer::Stuck);
             }
-            Symbol::Part(rule) => match row(alloc, rule, class)? {
+            Symbol::Part(rule) => match row_at(alloc, rule, class)? {
                 Row::Fault => return Ok(Answer::Stuck),
                 Row::Skips(changes) => all_changed(alloc, file, token, &changes, groups)?,
                 Row::Uses(changes, waits) => {
                     all_changed(alloc, file, token, &changes, groups)?;
-                    push_all(stack, &waits)?;
+                    push_waits(stack, &waits)?;
                     return Ok(Answer::Goes);
                 }
             },

@@ -1,13 +1,19 @@
 //! Short texts, with what a person expects of them. Their tokens stand apart, with one blank between any two.
 
+mod depth;
+mod faults;
 mod files;
 mod forms;
-mod gauge;
+mod runs;
+mod strings;
 mod trees;
 
-use crate::{Outcome, read};
-use hare_tree::{Kind, Place, Sort, Suffix, Token, TokenKind, Tokens, Tree, Word, is_keyword};
+use crate::{Parsed, parse_expr, parse_type};
+use hare_tree::{
+    Fault, Kind, Place, Stop, Suffix, Token, TokenKind, Tokens, Tree, Word, is_keyword,
+};
 use std::alloc::{AllocError, Global};
+use std::test::Fail;
 
 // The place of the token of this number, from 1, of file 7.
 fn place(column: u32) -> Place {
@@ -43,37 +49,82 @@ fn token(alloc: Global, word: &[u8], column: u32) -> Result<Token, AllocError> {
     })
 }
 
-// The tokens of a text, and End.
-fn tokens(alloc: Global, text: &str) -> Result<Tokens, AllocError> {
+// Puts the token that a word spells behind the others. Its place tells how many stand before it.
+fn put(alloc: Global, all: &mut Tokens, word: &[u8]) -> Result<(), Fail> {
+    let before = u32::try_from(all.len())?;
+    all.push(token(alloc, word, before.wrapping_add(1))?)?;
+    Ok(())
+}
+
+// The tokens of a text, without End.
+fn open_tokens(alloc: Global, text: &str) -> Result<Tokens, Fail> {
     let mut all = Tokens::new(alloc);
-    let mut column: u32 = 0;
     for word in text.split_whitespace() {
-        column = column.wrapping_add(1);
-        all.push(token(alloc, word.as_bytes(), column)?)?;
+        put(alloc, &mut all, word.as_bytes())?;
     }
-    all.push(token(alloc, b"", column.wrapping_add(1))?)?;
     Ok(all)
 }
 
-// What a text comes to, as a tree of the sort.
-fn parsed(alloc: Global, sort: Sort, text: &str) -> Result<Outcome, AllocError> {
-    let tokens = tokens(alloc, text)?;
-    read(alloc, 7, &tokens, 0, sort)
+// The tokens of a text, and End.
+fn tokens(alloc: Global, text: &str) -> Result<Tokens, Fail> {
+    let mut all = open_tokens(alloc, text)?;
+    put(alloc, &mut all, b"")?;
+    Ok(all)
 }
 
-// The tree that a text is, and how many tokens it has.
-fn tree_of(alloc: Global, sort: Sort, text: &str) -> Option<(Tree, usize)> {
-    match parsed(alloc, sort, text) {
-        Ok(Outcome::Done(tree, used)) => Some((tree, used)),
-        _ => None,
+// What is to be read.
+#[derive(Clone, Copy)]
+enum Wanted {
+    Type,
+    Expression,
+}
+
+use Wanted::{Expression, Type};
+
+// What a call answers.
+#[derive(Drop)]
+enum Answer {
+    Read(Parsed),
+    Faulty(Fault),
+}
+
+// What is answered for tokens from a place on, where memory is ample.
+fn answered(alloc: Global, wanted: Wanted, tokens: &Tokens, at: usize) -> Result<Answer, Fail> {
+    if tokens.len() <= at {
+        return Err("no token stands there".into());
+    }
+    let parsed = match wanted {
+        Type => parse_type(alloc, tokens, at),
+        Expression => parse_expr(alloc, tokens, at),
+    };
+    match parsed {
+        Ok(parsed) => Ok(Answer::Read(parsed)),
+        Err(Stop::Fault(fault)) => Ok(Answer::Faulty(fault)),
+        Err(Stop::Memory) => Err("out of memory".into()),
     }
 }
 
-// The token at which a text is stuck.
-fn stuck_at(alloc: Global, sort: Sort, text: &str) -> Option<usize> {
-    match parsed(alloc, sort, text) {
-        Ok(Outcome::Stuck(at)) => Some(at),
-        _ => None,
+// The number of the fault of these tokens, and of the token, from 1, at which it stands; none where they are read.
+fn fault_in(alloc: Global, wanted: Wanted, tokens: &Tokens) -> Result<Option<(u8, u32)>, Fail> {
+    match answered(alloc, wanted, tokens, 0)? {
+        Answer::Read(_) => Ok(None),
+        Answer::Faulty(fault) => Ok(Some((fault.number, fault.place.column))),
+    }
+}
+
+// How many of these tokens are read; none where they have a fault.
+fn read_in(alloc: Global, wanted: Wanted, tokens: &Tokens) -> Result<Option<usize>, Fail> {
+    match answered(alloc, wanted, tokens, 0)? {
+        Answer::Read(parsed) => Ok(Some(parsed.next)),
+        Answer::Faulty(_) => Ok(None),
+    }
+}
+
+// The tree with which a text begins.
+fn parsed(alloc: Global, wanted: Wanted, text: &str) -> Result<Parsed, Fail> {
+    match answered(alloc, wanted, &tokens(alloc, text)?, 0)? {
+        Answer::Read(parsed) => Ok(parsed),
+        Answer::Faulty(_) => Err("a fault".into()),
     }
 }
 
@@ -86,13 +137,10 @@ fn at<'a>(tree: &'a Tree, path: &[usize]) -> Option<&'a Tree> {
     Some(here)
 }
 
-// Whether the text is one whole tree, with a node of this kind and this text at the end of the path.
-fn has(alloc: Global, sort: Sort, text: &str, path: &[usize], kind: Kind, own: &[u8]) -> bool {
-    let Some((tree, _)) = tree_of(alloc, sort, text) else {
-        return false;
-    };
-    match at(&tree, path) {
-        Some(found) => found.kind == kind && found.text.bytes() == own,
+// Whether a tree has a node of this kind and this text at the end of the path.
+fn has(tree: &Tree, path: &[usize], kind: Kind, text: &str) -> bool {
+    match at(tree, path) {
+        Some(found) => found.kind == kind && found.text.bytes() == text.as_bytes(),
         None => false,
     }
 }

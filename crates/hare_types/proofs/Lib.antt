@@ -17,3 +17,8 @@ pub mod WaitLemmas
 pub mod KeptLemmas
 pub mod BaseLemmas
 pub mod EnterLemmas
+pub mod NeedLemmas
+pub mod FoundLemmas
+pub mod SettledLemmas
+pub mod ChainLemmas
+pub mod MeaningLemmas

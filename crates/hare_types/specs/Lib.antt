@@ -6,6 +6,9 @@ pub mod Kept
 pub mod Keys
 pub mod Layout
 pub mod Numbering
+pub mod Packed
+pub mod PackedLaws
+pub mod Places
 pub mod Rows
 pub mod Run
 pub mod Sound

@@ -1,10 +1,12 @@
 //! What is kept beside the rows of a store.
 
-ghost use Rattle.std.specs.Prelude.{◌≡◌};
+ghost use Rattle.std.specs.Prelude.{◌≡◌, ◌<◌, IfSome};
+ghost use Rattle.hare_types.specs.Numbering.{most};
 ghost use Rattle.hare_types.specs.Waiting.{extent_at, base_at};
 
 use crate::extent::Extent;
 use crate::id::TypeId;
+use crate::packed::{PackedExtent, PackedId};
 
 /// The number of no row.
 pub(crate) const NOWHERE: u32 = 4_294_967_295;
@@ -15,8 +17,8 @@ pub(crate) const NOWHERE: u32 = 4_294_967_295;
 /// stands itself. Of the first `seen` types that it holds by value an extent is kept.
 #[derive(Clone, Copy, Drop)]
 pub(crate) struct Kept {
-    pub extent: Option<Extent>,
-    pub base: Option<TypeId>,
+    pub extent: PackedExtent,
+    pub base: PackedId,
     pub first: u32,
     pub last: u32,
     pub next: u32,
@@ -28,17 +30,18 @@ pub(crate) fn extent_at(kept: &[Kept], t: TypeId) -> Option<Extent>
     ensures { result ≡ extent_at kept.now t }
 {
     match kept.get(t.index() as usize) {
-        Some(k) => k.extent,
+        Some(k) => k.extent.get(),
         None => None,
     }
 }
 
 /// The base that is kept of a type.
 pub(crate) fn base_at(kept: &[Kept], t: TypeId) -> Option<TypeId>
-    ensures { result ≡ base_at kept.now t }
+    ensures value { result ≡ base_at kept.now t }
+    ensures within { IfSome result (λ b. b < most) }
 {
     match kept.get(t.index() as usize) {
-        Some(k) => k.base,
+        Some(k) => k.base.get(),
         None => None,
     }
 }

@@ -1,10 +1,11 @@
 //! The extent of a row, from what is kept of the types that it holds by value.
 
-ghost use Rattle.std.specs.Prelude.{◌≡◌, ◌≤◌, ◌^◌, IfSome, option_map};
+ghost use Rattle.std.specs.Prelude.{◌≡◌, ◌<◌, ◌≤◌, ◌^◌, IfSome, option_map};
 ghost use Rattle.hare_types.specs.Kept.{parts_of, known, defined, all_known, extent_over, IsBounded, AreBounded};
 ghost use Rattle.hare_types.specs.declared.row.Row.TheVariants as RowOf;
 ghost use Rattle.hare_types.specs.Waiting.{extents, base_at};
 ghost use Rattle.hare_types.specs.Bases.{base_over};
+ghost use Rattle.hare_types.specs.Numbering.{most};
 ghost use Rattle.hare_types.specs.Run.{no_parts, with_parts, IsRun};
 
 use crate::bytes::{Run, fields_extent, repeated, scalar_extent, union_extent, with_part};
@@ -94,7 +95,9 @@ pub(crate) fn base_over(
     declared: &IndexMap<u32, Declared>,
     kept: &[Kept],
 ) -> Option<TypeId>
-    ensures { result ≡ base_over (defined declared.now.entries) (base_at kept.now) t row.now }
+    requires { t < most }
+    ensures value { result ≡ base_over (defined declared.now.entries) (base_at kept.now) t row.now }
+    ensures within { IfSome result (λ b. b < most) }
 {
     match row {
         Row::Error(inner) => base_at(kept, *inner),

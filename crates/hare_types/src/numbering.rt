@@ -6,13 +6,16 @@ ghost use Rattle.hare_types.specs.Numbering.{most};
 
 use indexmap::IndexSet;
 use std::alloc::AllocError;
-use std::hash::Hash;
+use std::hash::{BuildHasher, Hash};
 
 /// The greatest number of names, types or listed types of a store.
 const MOST: usize = 4_294_967_295;
 
 /// The place of a key, which is put last unless it is there. A set that holds 2^32 - 1 keys takes no other.
-pub(crate) fn number<T: Eq + Hash + Drop>(set: &mut IndexSet<T>, key: T) -> Result<u32, AllocError>
+pub(crate) fn number<T: Eq + Hash + Drop, S: BuildHasher>(
+    set: &mut IndexSet<T, S>,
+    key: T,
+) -> Result<u32, AllocError>
     requires { length set.old.keys ≤ most }
     ensures place { IfOk result (λ n. n ≡ position_or_len (T.eq key) set.old.keys) }
     ensures kept { IfOk result (λ n. n < length set.old.keys → set.new.keys ≡ set.old.keys) }

@@ -7,6 +7,7 @@ ghost use Rattle.hare_types.specs.KeyLaws.{row_eq-Decides};
 
 use crate::id::TypeId;
 use crate::lists::{Fields, TypeIds};
+use crate::places::POINTER;
 use std::hash::{Hash, Hasher};
 
 /// The types that are written by one word.
@@ -97,7 +98,7 @@ impl Hash for Row {
                 a.hash(state);
             }
             Row::Pointer(t) => {
-                state.write_u8(1);
+                state.write_u8(POINTER);
                 t.hash(state);
             }
             Row::Nullable(t) => {

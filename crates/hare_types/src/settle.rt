@@ -14,20 +14,24 @@ use crate::extent::Extent;
 use crate::id::TypeId;
 use crate::kept::{Kept, NOWHERE, extent_at};
 use crate::measure::{base_over, definition, extent_over};
+use crate::packed::{PackedExtent, PackedId};
 use crate::parts::{part_at, part_count};
+use crate::places::Rows;
 use crate::row::Row;
 use crate::waiting::{link, release};
-use indexmap::{IndexMap, IndexSet};
+use indexmap::IndexMap;
 
 /// Enters what is found of row `i`.
 fn set_found(kept: &mut Vec<Kept>, i: usize, extent: Option<Extent>, base: Option<TypeId>)
-    requires { i < length kept.old.items }
+    requires there { i < length kept.old.items }
+    requires bounded { IfSome extent (λ x. IsBounded x) }
+    requires within { IfSome base (λ b. b < most) }
     ensures { kept.new.items ≡ with_found kept.old.items i extent base }
 {
     let old = kept[i];
     kept[i] = Kept {
-        extent,
-        base,
+        extent: PackedExtent::of(extent),
+        base: PackedId::of(base),
         ..old
     };
 }
@@ -59,7 +63,7 @@ fn look(rows: &[Row], declared: &IndexMap<u32, Declared>, kept: &mut Vec<Kept>, 
         return true;
     }
     if base.is_some() {
-        if kept[i].base.is_none() {
+        if kept[i].base.get().is_none() {
             set_found(kept, i, extent, base);
             return true;
         }
@@ -101,7 +105,7 @@ fn needed(row: &Row, declared: &IndexMap<u32, Declared>, seen: usize) -> Option<
 
 /// What is kept of a row that is taken in as row `i`.
 pub(crate) fn fresh(row: &Row, i: usize, declared: &IndexMap<u32, Declared>, kept: &[Kept]) -> Kept
-    requires few { i ≤ most }
+    requires few { i < most }
     requires bounded { AreBounded (extents kept.now) }
     ensures extent { result.extent ≡ extent_over (defined declared.now.entries) (known (extents kept.now)) row.now }
     ensures base { result.base ≡ base_over (defined declared.now.entries) (base_at kept.now) i row.now }
@@ -109,8 +113,8 @@ pub(crate) fn fresh(row: &Row, i: usize, declared: &IndexMap<u32, Declared>, kep
     ensures blank { result ≡ record blank { extent = result.extent; base = result.base } }
 {
     Kept {
-        extent: extent_over(row, declared, kept),
-        base: base_over(row, TypeId::at(i as u32), declared, kept),
+        extent: PackedExtent::of(extent_over(row, declared, kept)),
+        base: PackedId::of(base_over(row, TypeId::at(i as u32), declared, kept)),
         first: NOWHERE,
         last: NOWHERE,
         next: NOWHERE,
@@ -132,7 +136,7 @@ pub(crate) fn wait(rows: &[Row], declared: &IndexMap<u32, Declared>, kept: &mut 
     ensures settled { (pile : ℕ) (lists : ℕ → List ℕ) → AreSettlingBut i rows.now declared.now.entries kept.old.items pile lists → (new : ℕ → List ℕ) × AreSettling rows.now declared.now.entries kept.new.items pile new × (new 0 ≡ lists 0) }
 {
     let old = kept[i];
-    if old.extent.is_some() {
+    if old.extent.get().is_some() {
         return;
     }
     let seen = seen_of(&rows[i], kept, old.seen);
@@ -200,7 +204,7 @@ fn step(
 /// Enters the extents and bases that follow from the definition of a name. Each row that waits is looked at only once something that it waits
 /// for is known.
 pub(crate) fn settle(
-    rows: &IndexSet<Row>,
+    rows: &Rows,
     declared: &IndexMap<u32, Declared>,
     kept: &mut Vec<Kept>,
     decl: u32,

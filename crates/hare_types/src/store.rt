@@ -16,10 +16,12 @@ use crate::extent::Extent;
 use crate::id::TypeId;
 use crate::kept::{Kept, base_at, extent_at};
 use crate::numbering::number;
+use crate::places::Rows;
 use crate::row::Row;
 use crate::settle::{keep_if_new, settle};
 use indexmap::{IndexMap, IndexSet};
 use std::alloc::{AllocError, Global};
+use std::hash::BuildHasherDefault;
 use std::marker::Model;
 
 /// The types of a program, each under one id, the spellings of names, each under one number, the declared types, and the list of
@@ -31,7 +33,7 @@ use std::marker::Model;
 #[derive(Drop)]
 pub struct TypeStore {
     names: IndexSet<Vec<u8>>,
-    rows: IndexSet<Row>,
+    rows: Rows,
     declared: IndexMap<u32, Declared>,
     listed: IndexSet<TypeId>,
     kept: Vec<Kept>,
@@ -56,7 +58,7 @@ impl TypeStore {
     {
         TypeStore {
             names: IndexSet::new(alloc),
-            rows: IndexSet::new(alloc),
+            rows: Rows::with_hasher(alloc, BuildHasherDefault::new()),
             declared: IndexMap::new(alloc),
             listed: IndexSet::new(alloc),
             kept: Vec::new(alloc),

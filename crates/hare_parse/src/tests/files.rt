@@ -2,7 +2,6 @@
 
 use super::*;
 use crate::{FileOutcome, read_file};
-use std::test::Fail;
 
 // How many imports and declarations a file has, and how many tokens they are.
 fn counts(alloc: Global, text: &str) -> Result<Option<(usize, usize, usize)>, Fail> {
@@ -13,7 +12,7 @@ fn counts(alloc: Global, text: &str) -> Result<Option<(usize, usize, usize)>, Fa
 }
 
 // The token at which a file is stuck.
-fn file_stuck_at(alloc: Global, text: &str) -> Result<Option<usize>, Fail> {
+fn stuck_at(alloc: Global, text: &str) -> Result<Option<usize>, Fail> {
     match read_file(alloc, 7, &tokens(alloc, text)?)? {
         FileOutcome::Done(_, _, _) => Ok(None),
         FileOutcome::Stuck(at) => Ok(Some(at)),
@@ -33,11 +32,13 @@ fn imports_stand_before_declarations(rt: HostRuntime) -> Result<(), Fail> {
 #[test]
 fn the_first_fault_of_a_file_is_found(rt: HostRuntime) -> Result<(), Fail> {
     let a = rt.alloc();
-    assert_eq!(rt; file_stuck_at(a, "use a ; let = 5 ;")?, Some(4));
-    assert_eq!(rt;
-        file_stuck_at(a, "use a ; let x = \"b\" \"c\" 5 ;")?,
-        Some(8)
-    );
-    assert_eq!(rt; file_stuck_at(a, "use a :: ;")?, Some(3));
+    for (text, place) in [
+        ("use a ; let = 5 ;", 4),
+        ("use a ; let x = \"b\" \"c\" 5 ;", 8),
+        ("use a :: ;", 3),
+        ("use a :: { b", 5),
+    ] {
+        assert_eq!(rt; stuck_at(a, text)?, Some(place), "in {text}");
+    }
     Ok(())
 }

@@ -4,7 +4,7 @@ use Rattle.hare_parsing.specs.Faults.{strung}
 use Rattle.hare_grammar.specs.Engine.{Done, run, bottom}
 use Rattle.hare_grammar.specs.OneTree.{file_symbols}
 use Rattle.hare_parse.proofs.Made.{holds_file, file_read}
-use Rattle.hare_parse.proofs.Parted.{place_from_start}
+use Rattle.hare_table.proofs.Parted.{place_from_start}
 use Rattle.hare_parse.proofs.file.read_file.Goals as goal
 
 pub trees_in-requires : goal.trees_in-requires

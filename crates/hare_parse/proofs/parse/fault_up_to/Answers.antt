@@ -1,4 +1,4 @@
-use Rattle.std.proofs.Common.{◌≡◌, ◌-◌, min, length, sym, ap, ◌∙◌}
+use Rattle.std.proofs.Common.{◌≡◌, ◌-◌, min, sym, ap, ◌∙◌}
 use Rattle.hare_tree.specs.Grammar.{place_of}
 use Rattle.hare_parse.specs.Answers.{place_up_to}
 use Rattle.hare_parse.proofs.Placed.{place_last}

@@ -1,8 +1,6 @@
-use Rattle.std.proofs.Common.{◌≡◌, true, false, subst, inl, inr}
-use Rattle.hare_grammar.specs.Classes.{class_of}
-use Rattle.hare_grammar.specs.Engine.{step}
-use Rattle.hare_parse.specs.declared.step.Answer.TheVariants as an
-use Rattle.hare_parse.specs.Seen.{waited, Says}
+use Rattle.std.proofs.Common.{inl, inr}
+use Rattle.hare_table.specs.declared.answer.Answer.TheVariants as an
+use Rattle.hare_table.specs.Seen.{waited}
 use Rattle.hare_parse.proofs.AtEnd.{at_end, says_at}
 use Rattle.hare_parse.proofs.reader.ends.Goals as goal
 

@@ -2,10 +2,10 @@ use Rattle.std.proofs.Common.{refl, ap, ◌∙◌, ◌++◌, drop, rules, arith}
 use Rattle.std.proofs.lemmas.Grind.{common_steps}
 use Rattle.hare_parsing.specs.Faults.{strung}
 use Rattle.hare_grammar.specs.Engine.{run}
-use Rattle.hare_parse.specs.Seen.{waited}
+use Rattle.hare_table.specs.Seen.{waited}
 use Rattle.hare_parse.proofs.Onward.{run_on}
-use Rattle.hare_parse.proofs.Joining.{strung_past}
-use Rattle.hare_parse.proofs.Parted.{place_further}
+use Rattle.hare_table.proofs.Joining.{strung_past}
+use Rattle.hare_table.proofs.Parted.{place_further}
 use Rattle.hare_parse.proofs.run.run.Goals as goal
 
 pub returns-clause-value : goal.returns-clause-value

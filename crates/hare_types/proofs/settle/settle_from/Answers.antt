@@ -1,7 +1,8 @@
 use Rattle.std.proofs.Common.{◌≡◌, ap, sym, ◌∙◌, subst, arith, inl, refl}
 use Rattle.std.proofs.lemmas.List.{get_or_default}
 use Rattle.hare_types.specs.Waiting.{blank, kept_at, Among, AreSettlingBut, with_list}
-use Rattle.hare_types.proofs.WaitLemmas.{first-taken, pop-settling, settle-smaller}
+use Rattle.hare_types.proofs.SettledLemmas.{first-taken, settle-smaller}
+use Rattle.hare_types.proofs.WaitLemmas.{pop-settling}
 use Rattle.hare_types.proofs.settle.settle_from.Goals as goal
 
 pub index-requires : goal.index-requires

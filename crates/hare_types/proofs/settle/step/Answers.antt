@@ -6,8 +6,9 @@ use Rattle.hare_types.specs.declared.row.Scalar.TheVariants as keyword
 use Rattle.hare_types.specs.Kept.{AreBounded, KeepsExtents, unknown}
 use Rattle.hare_types.specs.Bases.{KeepsBases}
 use Rattle.hare_types.specs.Waiting.{IsFound, NoneFollows, unknowns, released}
-use Rattle.hare_types.proofs.LinkLemmas.{KeepsFound-trans}
-use Rattle.hare_types.proofs.WaitLemmas.{found-based, found-seen, found-bounded, found-fewer, found-length, found-links, found-extents, found-bases, found-none, release-settling, AreSeen-kept, HaveBases-kept}
+use Rattle.hare_types.proofs.ChainLemmas.{KeepsFound-trans}
+use Rattle.hare_types.proofs.FoundLemmas.{found-based, found-seen, found-bounded, found-fewer, found-length, found-links, found-extents, found-bases, found-none, release-settling}
+use Rattle.hare_types.proofs.WaitLemmas.{AreSeen-kept, HaveBases-kept}
 use Rattle.hare_types.proofs.settle.step.Goals as goal
 
 pub release-first-requires : goal.release-first-requires

@@ -1,12 +1,13 @@
 use Rattle.std.proofs.Common.{◌≡◌, ◌<◌, ℕ, suc, ◌⊎◌, length, Some, None, IsSome, ap, sym, ◌∙◌, subst, arith, refl, inl}
-use Rattle.std.specs.Prelude.{slice_get}
+use Rattle.std.specs.Prelude.{slice_get, is_some}
 use Rattle.std.proofs.lemmas.Option.{slice_get-get_or}
 use Rattle.std.proofs.lemmas.List.{get_or_default, length-set}
 use Rattle.hare_types.specs.Kept.{parts_of, known, defined, IsInert}
 use Rattle.hare_types.specs.Bases.{base_over}
 use Rattle.hare_types.specs.Waiting.{extents, extent_at, base_at, Among, needed_at, NeedsRow, linked}
-use Rattle.hare_types.proofs.LinkLemmas.{KeepsFound-trans}
-use Rattle.hare_types.proofs.WaitLemmas.{unknown-read, seen-found, seen-links, seen-more, AreSeen-kept, needed-needs, needed-unknown, needed-none, stay-settling, wait-settling, linked-pile}
+use Rattle.hare_types.proofs.ChainLemmas.{KeepsFound-trans}
+use Rattle.hare_types.proofs.WaitLemmas.{unknown-read, seen-found, seen-links, seen-more, AreSeen-kept, stay-settling, wait-settling, linked-pile}
+use Rattle.hare_types.proofs.NeedLemmas.{needed-needs, needed-unknown, needed-none}
 use Rattle.hare_types.proofs.settle.wait.Goals as goal
 
 pub link-requires-clause-waited : goal.link-requires-clause-waited
@@ -21,7 +22,7 @@ link-requires-clause-waited c =
     let needs : NeedsRow c.args.declared.now.entries r c.in-Some.t = needed-needs c.args.declared.now.entries r c.seen_of-seen.result c.in-Some.t (sym next ∙ c.in-Some.is) in
     let below = c.requires.needs c.args.i c.in-Some.t r here needs in
     let len : length c.set_seen.new.kept.items ≡ length ks = ap length c.set_seen.ensures ∙ length-set ks c.args.i _ in
-    omega (arith, below, len, c.index-in-Some.ensures, c.requires.as_many)
+    omega (arith, below, len, c.index.ensures, c.requires.as_many)
 
 pub returns-in-Some : goal.returns-in-Some
 returns-in-Some c =
@@ -32,7 +33,7 @@ returns-in-Some c =
     let again : c.index-rows-i-2.result ≡ r =
     c.index-rows-i-2.is ∙ get_or_default c.args.rows.now c.args.i c.index-rows-i-2.result r c.requires.within ∙ sym c.index-rows-i.is in
     let next = c.needed.ensures ∙ ap (λ q. needed_at (defined c.args.declared.now.entries) q c.seen_of-seen.result) again in
-    let none : extent_at ks c.args.i ≡ None = unknown-read ks c.args.i c.index.result.now within c.index.ensures (sym c.is_some.ensures ∙ c.if-is_some.false) in
+    let none : extent_at ks c.args.i ≡ None = unknown-read ks c.args.i c.index-old.result.now within c.index-old.ensures (sym (c.is_some.ensures ∙ ap is_some c.get.ensures) ∙ c.if-is_some.false) in
     let follows = c.requires.none none r here in
     let at : (p : ℕ) → slice_get (parts_of r) c.seen_of-seen.result ≡ Some p → extent_at ks p ≡ None =
     λ p e. subst (λ l. known (extents l) p ≡ None) c.deref.ensures.value (c.seen_of-seen.ensures.at p e) in
@@ -41,8 +42,8 @@ returns-in-Some c =
     let before : (k p : ℕ) → k < c.min.result → slice_get (parts_of r) k ≡ Some p → IsSome (extent_at ks p) =
     λ k p l e. all k p (omega (arith, l, c.min.ensures)) e in
     let found = seen-found c.args.rows.now ks c.set_seen.new.kept.items c.args.i c.min.result r here within c.set_seen.ensures before in
-    let p = c.index-in-Some.result in
-    let is : needed_at (defined c.args.declared.now.entries) r c.seen_of-seen.result ≡ Some p = sym next ∙ c.in-Some.is ∙ ap Some (sym c.index-in-Some.ensures) in
+    let p = c.index.result in
+    let is : needed_at (defined c.args.declared.now.entries) r c.seen_of-seen.result ≡ Some p = sym next ∙ c.in-Some.is ∙ ap Some (sym c.index.ensures) in
     let needs : NeedsRow c.args.declared.now.entries r p = needed-needs c.args.declared.now.entries r c.seen_of-seen.result p is in
     let free = needed-unknown c.args.declared.now.entries (known (extents ks)) r c.seen_of-seen.result p follows.0 at is in
     let both = KeepsFound-trans ks c.set_seen.new.kept.items c.link.new.kept.items found c.link.ensures.found in
@@ -68,7 +69,7 @@ returns-in-None c =
     let again : c.index-rows-i-2.result ≡ r =
     c.index-rows-i-2.is ∙ get_or_default c.args.rows.now c.args.i c.index-rows-i-2.result r c.requires.within ∙ sym c.index-rows-i.is in
     let next = c.needed.ensures ∙ ap (λ q. needed_at (defined c.args.declared.now.entries) q c.seen_of-seen.result) again in
-    let none : extent_at ks c.args.i ≡ None = unknown-read ks c.args.i c.index.result.now within c.index.ensures (sym c.is_some.ensures ∙ c.if-is_some.false) in
+    let none : extent_at ks c.args.i ≡ None = unknown-read ks c.args.i c.index-old.result.now within c.index-old.ensures (sym (c.is_some.ensures ∙ ap is_some c.get.ensures) ∙ c.if-is_some.false) in
     let follows = c.requires.none none r here in
     let at : (p : ℕ) → slice_get (parts_of r) c.seen_of-seen.result ≡ Some p → extent_at ks p ≡ None =
     λ p e. subst (λ l. known (extents l) p ≡ None) c.deref.ensures.value (c.seen_of-seen.ensures.at p e) in

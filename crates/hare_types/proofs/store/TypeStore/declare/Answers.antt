@@ -7,7 +7,7 @@ use Rattle.hare_types.proofs.DefinitionLemmas.{declared-definition}
 use Rattle.hare_types.specs.Waiting.{nowhere, extents, bases}
 use Rattle.hare_types.proofs.KeptLemmas.{KeepsExtents-defined}
 use Rattle.hare_types.proofs.BaseLemmas.{KeepsBases-defined}
-use Rattle.hare_types.proofs.EnterLemmas.{AreSettling-declared}
+use Rattle.hare_types.proofs.MeaningLemmas.{AreSettling-declared}
 use Rattle.hare_types.proofs.SoundLemmas.{IsStore-declared}
 use Rattle.hare_types.proofs.store.TypeStore.declare.Goals as goal
 

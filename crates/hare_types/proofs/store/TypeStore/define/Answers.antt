@@ -6,7 +6,7 @@ use Rattle.hare_types.specs.declared.declared.Declared.{Declared}
 use Rattle.hare_types.specs.Waiting.{extents, bases}
 use Rattle.hare_types.proofs.KeptLemmas.{KeepsExtents-defined}
 use Rattle.hare_types.proofs.BaseLemmas.{KeepsBases-defined}
-use Rattle.hare_types.proofs.EnterLemmas.{AreSettling-defined, needs-within}
+use Rattle.hare_types.proofs.MeaningLemmas.{AreSettling-defined, needs-within}
 use Rattle.hare_types.proofs.SoundLemmas.{IsStore-define, definitions-kept, definitions-there}
 use Rattle.hare_types.proofs.store.TypeStore.define.Goals as goal
 

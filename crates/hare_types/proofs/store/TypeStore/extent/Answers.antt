@@ -5,7 +5,7 @@ use Rattle.hare_types.specs.declared.extent.Extent.{Extent}
 use Rattle.hare_types.specs.Kept.{LiesIn, IsBounded}
 use Rattle.hare_types.specs.Waiting.{extents, extent_at}
 use Rattle.hare_types.proofs.KeptLemmas.{none_lies}
-use Rattle.hare_types.proofs.WaitLemmas.{extents-settled}
+use Rattle.hare_types.proofs.SettledLemmas.{extents-settled}
 use Rattle.hare_types.proofs.store.TypeStore.extent.Goals as goal
 
 pub returns-clause-none : goal.returns-clause-none

@@ -8,10 +8,10 @@ use Rattle.hare_types.proofs.store.TypeStore.new.Goals as goal
 pub invariant_of-result : goal.invariant_of-result
 invariant_of-result c = record {
   store = search rules;
-  extents = KeepsExtents-empty _ (extents c.new-5.result.items) c.new-2.ensures.empty (ap extents c.new-5.ensures.items);
-  bases = KeepsBases-empty _ (bases c.new-5.result.items) c.new-2.ensures.empty (ap bases c.new-5.ensures.items);
+  extents = KeepsExtents-empty _ (extents c.new-5.result.items) c.with_hasher.ensures.empty (ap extents c.new-5.ensures.items);
+  bases = KeepsBases-empty _ (bases c.new-5.result.items) c.with_hasher.ensures.empty (ap bases c.new-5.ensures.items);
   based = HaveBases-empty c.new-5.result.items c.new-5.ensures.items;
-  seen = AreSeen-empty c.new-2.result.keys c.new-5.result.items c.new-2.ensures.empty;
+  seen = AreSeen-empty c.with_hasher.result.keys c.new-5.result.items c.with_hasher.ensures.empty;
   lists = λ n. [];
-  settled = AreSettling-empty c.new-2.result.keys c.new-3.result.entries c.new-5.result.items c.new-2.ensures.empty c.new-5.ensures.items;
+  settled = AreSettling-empty c.with_hasher.result.keys c.new-3.result.entries c.new-5.result.items c.with_hasher.ensures.empty c.new-5.ensures.items;
 }

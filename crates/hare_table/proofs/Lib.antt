@@ -1,0 +1,4 @@
+pub mod Classified
+pub mod Joining
+pub mod Parted
+pub mod Tops

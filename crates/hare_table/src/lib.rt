@@ -1,0 +1,22 @@
+//! The table of the grammar of Hare as a program, and what both passes over the tokens of a file share: classes of tokens, what is waited for, and
+//! strings side by side, which are one token.
+#![tactic(auto)]
+
+mod answer;
+mod class;
+mod pile;
+mod row;
+mod rows;
+mod signs;
+mod strings;
+#[cfg(test)]
+mod tests;
+mod waits;
+
+pub use answer::Answer;
+pub use class::class_of;
+pub use pile::Pile;
+pub use row::{Row, Wait, has_sign, of, part};
+pub use rows::row_at;
+pub use strings::{Joined, is_proper_string, place_behind, strings_at};
+pub use waits::{next_symbol, push_waits};

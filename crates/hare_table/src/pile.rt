@@ -1,0 +1,63 @@
+//! Piles.
+
+ghost use Rattle.std.specs.Prelude.{◌≡◌, List, [], ◌∷◌, length, OnOk, IfSome, IfNone, MatchOption};
+
+use std::alloc::{AllocError, Global};
+use std::marker::Model;
+
+/// A pile, which contracts see as a list with its top first.
+#[derive(Drop)]
+pub struct Pile<T> {
+    items: Vec<T>,
+}
+
+impl<T> Model for Pile<T> {
+    ghost use Rattle.std.specs.Prelude.{List, reverse};
+
+    ghost Value = { List T };
+
+    ghost view = { λ a. reverse a.items.items };
+}
+
+impl<T: Drop> Pile<T> {
+    /// Nothing.
+    pub fn new(alloc: Global) -> Pile<T>
+        ensures { result ≡ [] }
+    {
+        Pile {
+            items: Vec::new(alloc),
+        }
+    }
+
+    /// Puts an item on top. An error is want of memory.
+    pub fn push(&mut self, item: T) -> Result<(), AllocError>
+        ensures { OnOk result (self.new ≡ item ∷ self.old) }
+    {
+        self.items.push(item)?;
+        Ok(())
+    }
+
+    /// The top; none where there is nothing.
+    #[tactic(auto, using(crate::proofs::Tops::top_of_reverse))]
+    pub fn top(&self) -> Option<&T>
+        ensures { MatchOption result (self.now ≡ []) (λ item. (rest : List T) × (self.now ≡ item.now ∷ rest)) }
+    {
+        self.items.last()
+    }
+
+    /// Takes the top; none where there is nothing.
+    pub fn pop(&mut self) -> Option<T>
+        ensures found { IfSome result (λ item. self.old ≡ item ∷ self.new) }
+        ensures none { IfNone result (self.old ≡ []) }
+        ensures kept { IfNone result (self.new ≡ []) }
+    {
+        self.items.pop()
+    }
+
+    /// How many items there are.
+    pub fn len(&self) -> usize
+        ensures { result ≡ length self.now }
+    {
+        self.items.len()
+    }
+}
