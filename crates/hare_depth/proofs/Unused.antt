@@ -17,6 +17,7 @@ use Rattle.hare_parsing.proofs.Strung.{strung_append}
 use Rattle.hare_parsing.proofs.Viable.{end}
 use Rattle.hare_depth.specs.Marks.{Frame, close}
 use Rattle.hare_depth.specs.Gauge.{Step, Goes, Ends, Stuck, acted, step, Seen, found, nodes_in, after, gauge, numbered, seen_in, seen}
+use Rattle.hare_depth.specs.Depth.{closed}
 use Rattle.hare_depth.proofs.Numbers.{numbered_append}
 
 -- the row uses the token
@@ -68,10 +69,6 @@ gauge_unused (t ∷ w) x st fs c = by (step t.number t.class st fs) (λ st' fs'.
     by Stuck k = refl
 
 -- ---- End behind the tokens of a file
-
--- the list with End behind it
-abbrev pub closed : List Token → List Token
-closed ts = ts ++ end ∷ []
 
 seen_closed : (ts : List Token) → (x : Seen) × ((seen (closed ts) ≡ seen ts ++ x ∷ []) × (x.class ≡ cl.Junk))
 seen_closed ts =

@@ -3,7 +3,8 @@ use Rattle.std.specs.Prelude.{◌≡◌, ℕ, suc, ◌≤◌, List, [], ◌∷�
 use Rattle.hare_tree.specs.declared.token.Token.{Token}
 use Rattle.hare_tree.specs.declared.form.Sort.{Sort}
 use Rattle.hare_tree.specs.Node.{Node}
-use Rattle.hare_tree.specs.Spell.{start_of}
+use Rattle.hare_tree.specs.declared.token.TokenKind.TheVariants as tk
+use Rattle.hare_tree.specs.Spell.{start_of, word_token}
 use Rattle.hare_tree.specs.Depth.{deep_root}
 use Rattle.hare_tree.specs.Grammar.{Language, trees_of, files, IsOn, IsDepthFault}
 use Rattle.hare_grammar.specs.Rows.{of}
@@ -12,6 +13,10 @@ use Rattle.hare_grammar.specs.OneTree.{file_symbols}
 use Rattle.hare_parsing.specs.Viable.{has_trees}
 use Rattle.hare_parsing.specs.Faults.{strung}
 use Rattle.hare_depth.specs.Gauge.{Gauged, gauge, seen, start}
+
+-- tokens with End behind them
+abbrev pub closed : List Token → List Token
+closed ts = ts ++ word_token 0 tk.End [] ∷ []
 
 -- Each token that is told is one at which a limit is passed, and the least such token of the list is told. Tokens are told by numbers from 1.
 pub record TellsDepth {T : Type 0} (l : Language T) (ts : List Token) (g : Gauged) : Type 0 where

@@ -9,7 +9,7 @@ use Rattle.hare_depth.specs.Depth.{TellsDepth, gauged, gauged_file}
 use Rattle.hare_depth.specs.Gauge.{Gauged, start}
 use Rattle.hare_depth.proofs.Gauges.{gauged_trees_fit, gauged_files_fit}
 use Rattle.hare_depth.proofs.Unused.{gauge_closed}
-use Rattle.hare_gauge.specs.Limits.{closed}
+use Rattle.hare_depth.specs.Depth.{closed}
 use Rattle.hare_gauge.specs.Gauged.{IsLeastOf}
 use Rattle.hare_gauge.specs.Limits.{IsFirstDepth, TreesFit, FilesFit}
 

@@ -1,20 +1,16 @@
 -- What is answered of the limits on depth in the tokens of a list, and what it says of the trees that are read of them.
 use Rattle.std.specs.Prelude.{◌≡◌, ℕ, ◌-◌, ◌<◌, ◌≤◌, List, [], ◌∷◌, ◌++◌, Option, Some, None}
 use Rattle.hare_tree.specs.declared.token.Token.{Token}
-use Rattle.hare_tree.specs.declared.token.TokenKind.TheVariants as tk
 use Rattle.hare_tree.specs.declared.form.Sort.{Sort}
 use Rattle.hare_tree.specs.Node.{Node}
-use Rattle.hare_tree.specs.Spell.{word_token, start_of}
+use Rattle.hare_tree.specs.Spell.{start_of}
 use Rattle.hare_tree.specs.Depth.{deep_root}
 use Rattle.hare_tree.specs.Grammar.{Language, files, IsDepthFault}
 use Rattle.hare_grammar.specs.Rows.{of}
 use Rattle.hare_grammar.specs.Engine.{add, begun, Done, run, bottom}
 use Rattle.hare_grammar.specs.OneTree.{file_symbols}
 use Rattle.hare_parsing.specs.Faults.{strung}
-
--- tokens with End behind them
-abbrev pub closed : List Token → List Token
-closed ts = ts ++ word_token 0 tk.End [] ∷ []
+use Rattle.hare_depth.specs.Depth.{closed}
 
 -- The place in the list, which begins at `at`, of the first token at which a limit is passed; none where no limit is passed.
 abbrev pub IsFirstDepth : {T : Type 0} → Language T → List Token → ℕ → Option ℕ → Type 0

@@ -18,7 +18,8 @@ use Rattle.hare_parsing.proofs.Faults.{runs_fault, runs_fault_in_trees, runs_rea
 use Rattle.hare_parsing.proofs.Places.{cut}
 use Rattle.hare_parsing.proofs.Strung.{head}
 use Rattle.hare_parsing.proofs.Viable.{end}
-use Rattle.hare_gauge.specs.Limits.{closed, IsFirstDepth, TreesFit}
+use Rattle.hare_depth.specs.Depth.{closed}
+use Rattle.hare_gauge.specs.Limits.{IsFirstDepth, TreesFit}
 use Rattle.hare_table.specs.Places.{IsPlace}
 use Rattle.hare_table.proofs.Parted.{and_false, drop_to}
 use Rattle.hare_parse.proofs.Onward.{done_behind}

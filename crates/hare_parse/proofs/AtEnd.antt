@@ -20,7 +20,7 @@ use Rattle.hare_table.specs.declared.answer.Answer.TheVariants as an
 use Rattle.hare_parse.specs.Steps.{Says}
 use Rattle.hare_parse.specs.declared.run.Reached.{Reached}
 use Rattle.hare_parse.specs.declared.run.Reached.TheVariants as re
-use Rattle.hare_gauge.specs.Limits.{closed}
+use Rattle.hare_depth.specs.Depth.{closed}
 use Rattle.hare_parse.specs.Runs.{outcome_at_end, IsUsedUp}
 use Rattle.hare_parse.proofs.Onward.{done_behind, done_more, fails_more}
 

@@ -12,7 +12,7 @@ use Rattle.hare_parse.specs.declared.reader.Outcome.TheVariants as ou
 use Rattle.hare_parse.specs.declared.run.Read.{Read}
 use Rattle.hare_parse.specs.declared.run.Reached.{Reached}
 use Rattle.hare_parse.specs.declared.run.Reached.TheVariants as re
-use Rattle.hare_gauge.specs.Limits.{closed}
+use Rattle.hare_depth.specs.Depth.{closed}
 use Rattle.hare_parse.specs.Steps.{Says}
 
 -- What came of the first of the joined tokens from a place on: the answer, and the place of the next.

@@ -8,7 +8,7 @@ ghost use Rattle.hare_grammar.specs.Rows as rows;
 ghost use Rattle.hare_grammar.specs.Engine as engine;
 ghost use Rattle.hare_table.specs.Seen.{waited};
 ghost use Rattle.hare_table.specs.Places.{IsPlace};
-ghost use Rattle.hare_gauge.specs.Limits.{closed};
+ghost use Rattle.hare_depth.specs.Depth.{closed};
 ghost use Rattle.hare_parse.specs.Runs as spec;
 
 use crate::change::start_of;

@@ -5,7 +5,7 @@ use Rattle.hare_parsing.specs.Faults.{strung}
 use Rattle.hare_grammar.specs.Rows.{of}
 use Rattle.hare_grammar.specs.Engine.{Done, Fails, run, bottom}
 use Rattle.hare_table.specs.Seen.{waited}
-use Rattle.hare_gauge.specs.Limits.{closed}
+use Rattle.hare_depth.specs.Depth.{closed}
 use Rattle.hare_parse.specs.Runs.{outcome_at_end, IsUsedUp}
 use Rattle.hare_parse.proofs.Made.{holds_tree}
 use Rattle.hare_parse.proofs.AtEnd.{done_closed, fails_closed, used_closed, is_used_up}
