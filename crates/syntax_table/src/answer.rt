@@ -7,7 +7,7 @@ use hare_tree::Stop;
 use std::alloc::Global;
 
 /// The tree of a file with these bytes as text, or its first fault, as `1:26 E8`.
-pub fn answer(alloc: Global, source: &[u8]) -> Result<String> {
+pub(crate) fn answer(alloc: Global, source: &[u8]) -> Result<String> {
     ensure!(source.len() < 4_294_967_295, "a file of 4 GiB");
     match parse_source(alloc, 0, source) {
         Ok(tree) => Ok(listing(alloc, &tree)?),

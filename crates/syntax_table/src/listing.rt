@@ -5,7 +5,7 @@ use hare_tree::{FileTree, Kids, Kind, Suffix, Tree};
 use std::alloc::{AllocError, Global};
 
 /// The tree of a file as text, as `(File (GlobalLet None (Name x) None (Number 1)))`. A kid that is not there is `None`.
-pub fn listing(alloc: Global, file: &FileTree) -> Result<String> {
+pub(crate) fn listing(alloc: Global, file: &FileTree) -> Result<String> {
     let mut out = String::from_str(alloc, "(File")?;
     put_kids(&mut out, &file.uses)?;
     put_kids(&mut out, &file.decls)?;

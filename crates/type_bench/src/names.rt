@@ -8,7 +8,7 @@ use hare_types::{Extent, Row, Scalar, TypeId, TypeStore};
 use std::alloc::AllocError;
 
 /// Defines so many names in a chain, each to hold the next, and then the last one: all wait until then. The answer is the extent of the first.
-pub fn chain(store: &mut TypeStore, names: u32) -> Result<Option<Extent>, AllocError>
+pub(crate) fn chain(store: &mut TypeStore, names: u32) -> Result<Option<Extent>, AllocError>
     requires { (d : ℕ) → sized_of store.old d ≡ None }
 {
     for n in 0..names {
@@ -20,7 +20,7 @@ pub fn chain(store: &mut TypeStore, names: u32) -> Result<Option<Extent>, AllocE
 }
 
 /// Defines so many names to hold one and the same other, and then that one: all wait until then. The answer is the extent of the last.
-pub fn fan(store: &mut TypeStore, names: u32) -> Result<Option<Extent>, AllocError>
+pub(crate) fn fan(store: &mut TypeStore, names: u32) -> Result<Option<Extent>, AllocError>
     requires { (d : ℕ) → sized_of store.old d ≡ None }
 {
     for n in 0..names {
