@@ -101,14 +101,19 @@ fn a_temporary_is_set_and_has_one_class(rt: HostRuntime) -> Result<(), Fail> {
     Ok(())
 }
 
+/// So many loops within one another, and in the innermost what leaves it.
+fn loops(alloc: Global, count: u32) -> Result<Flat, AllocError> {
+    let mut code = Flat::Leave(0);
+    for _ in 0..count {
+        code = Flat::Loop(FlatBox::new(alloc, code)?);
+    }
+    Ok(code)
+}
+
 #[test]
 fn code_nests_so_deep_and_no_deeper(rt: HostRuntime) -> Result<(), Fail> {
     let alloc = rt.alloc();
-    let mut code = Flat::Leave(0);
-    for _ in 1..4096 {
-        code = Flat::Loop(FlatBox::new(alloc, code)?);
-    }
-    let p = program(alloc, "main", None, code)?;
-    assert!(rt; well_formed(&p));
+    assert!(rt; well_formed(&program(alloc, "main", None, loops(alloc, 4095)?)?));
+    assert!(rt; !well_formed(&program(alloc, "main", None, loops(alloc, 4096)?)?));
     Ok(())
 }
