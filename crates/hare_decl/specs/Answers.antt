@@ -1,6 +1,5 @@
 -- What a parser answers for the tokens of a file, and for its bytes: the tree of the file, or its first fault.
-use Rattle.std.specs.Prelude.{◌≡◌, ◌==◌, true, ℕ, List, [], ◌∷◌, ◌++◌, ◌⊎◌, drop, Result, MatchResult}
-use Rattle.std.specs.List.{list_all}
+use Rattle.std.specs.Prelude.{◌≡◌, ℕ, List, [], ◌∷◌, ◌++◌, ◌⊎◌, drop, Result, MatchResult}
 use Rattle.hare_tree.specs.declared.place.Place.{Place}
 use Rattle.hare_tree.specs.declared.place.Fault as fault
 use Rattle.hare_tree.specs.declared.token.Token.{Token}
@@ -66,10 +65,6 @@ HasFirstFault ts f = (number n : ℕ) × IsFirstFault files ts number n × (f �
 abbrev pub HasFault : ℕ → List Token → fault.Fault → Type 0
 HasFault file ts f =
     HasFirstFault ts f ⊎ (IsCut file ts × (f ≡ record { number = 8; place = last_place file ts }))
-
--- all tokens are of the file
-abbrev pub AreOfFile : ℕ → List Token → Type 0
-AreOfFile file ts = list_all (λ t. t.place.file == file) ts ≡ true
 
 -- ---- bytes
 
