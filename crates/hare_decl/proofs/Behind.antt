@@ -3,10 +3,9 @@ use Rattle.std.proofs.Common.{◌≡◌, ℕ, suc, ◌+◌, ◌<◌, ◌≤◌, 
 use Rattle.std.proofs.lemmas.List.{drop_all}
 use Rattle.hare_tree.specs.declared.token.Token.{Token}
 use Rattle.hare_tree.specs.Node.{Node}
-use Rattle.hare_tree.specs.Grammar.{files, IsFirstFault}
+use Rattle.hare_tree.specs.Grammar.{files, IsFirstFault, joined}
 use Rattle.hare_grammar.specs.Engine.{bottom}
 use Rattle.hare_grammar.specs.OneTree.{file_symbols}
-use Rattle.hare_parsing.specs.Faults.{strung}
 use Rattle.hare_parse.specs.Files.{file_made}
 use Rattle.hare_table.proofs.Joining.{read_drop, drop_past}
 use Rattle.hare_parse.proofs.Onward.{done_behind}
@@ -31,7 +30,7 @@ over_at_last file ts uses decls n t o e k h =
 -- some token is there
 pub over_somewhere : (file : ℕ) (ts : List Token) (uses decls : List Node) (n : ℕ) → IsOver file ts uses decls n → None ≡ slice_get ts n → ⊥
 over_somewhere file ts uses decls n o e =
-    let d = done_behind file (strung ts) (strung (drop n ts)) file_symbols bottom (file_made uses decls) o.run_is in
-    let none = ap strung (drop_past ts n e) in
+    let d = done_behind file (joined ts) (joined (drop n ts)) file_symbols bottom (file_made uses decls) o.run_is in
+    let none = ap joined (drop_past ts n e) in
     let some = sym none ∙ d.2 in
     cc

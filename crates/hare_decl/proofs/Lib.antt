@@ -6,3 +6,4 @@ pub mod Places
 pub mod Once
 pub mod Least
 pub mod Behind
+pub mod Sources

@@ -6,11 +6,10 @@ use Rattle.hare_tree.specs.declared.form.Sort.TheVariants as so
 use Rattle.hare_tree.specs.declared.tree.FileTree.{FileTree}
 use Rattle.hare_tree.specs.Node.{Node}
 use Rattle.hare_tree.specs.Shape.{is_shaped, is_shaped_file}
-use Rattle.hare_tree.specs.Grammar.{files, IsFirstFault}
+use Rattle.hare_tree.specs.Grammar.{files, IsFirstFault, is_proper_string, joined, StandsAt}
 use Rattle.hare_grammar.specs.Engine.{Group, Done}
 use Rattle.hare_grammar.proofs.Paths.{split}
-use Rattle.hare_parsing.specs.Faults.{is_proper_string, strung, StandsAt}
-use Rattle.hare_parsing.proofs.Strung.{Head, head}
+use Rattle.hare_parsing.proofs.Joined.{Head, head}
 use Rattle.hare_parse.specs.Files.{HaveSorts, file_made}
 use Rattle.hare_parse.proofs.FileParts.{parts_once}
 use Rattle.hare_decl.specs.Answers.{IsEnd, IsOver, IsFile}
@@ -33,13 +32,13 @@ joined_end t behind h e = subst IsEnd (h.same (sym h.proper ∙ end_proper h.fir
 pub over_no_end : (file : ℕ) (ts : List Token) (uses decls : List Node) (n : ℕ) (t : Token) (behind : List Token) → IsOver file ts uses decls n → drop n ts ≡ t ∷ behind → (IsEnd t → ⊥) → IsFirstFault files ts 8 n
 over_no_end file ts uses decls n t behind o d e =
     let h = head t behind in
-    let us : strung (drop n ts) ≡ h.first ∷ h.rest = ap strung d ∙ h.is in
+    let us : joined (drop n ts) ≡ h.first ∷ h.rest = ap joined d ∙ h.is in
     no_end_first file ts n h.first h.rest (file_made uses decls) o.shallow (o.run_is ∙ ap (λ y. Done y (file_made uses decls)) us) (subst (StandsAt ts n) us o.stands) (λ i. e (joined_end t behind h i))
 
 pub over_behind_end : (file : ℕ) (ts : List Token) (uses decls : List Node) (n : ℕ) (t : Token) (behind : List Token) → IsOver file ts uses decls n → drop n ts ≡ t ∷ behind → IsEnd t → suc n < length ts → IsFirstFault files ts 8 (suc n)
 over_behind_end file ts uses decls n t behind o d e l =
     let h = head t behind in
-    let us : strung (drop n ts) ≡ h.first ∷ h.rest = ap strung d ∙ h.is in
+    let us : joined (drop n ts) ≡ h.first ∷ h.rest = ap joined d ∙ h.is in
     behind_end_first file ts n h.first h.rest (file_made uses decls) o.shallow (o.run_is ∙ ap (λ y. Done y (file_made uses decls)) us) (subst (StandsAt ts n) us o.stands) (end_joined t behind h e) l
 
 -- ---- whole files
@@ -57,7 +56,7 @@ kids_of (g ∷ gs) = g.kids
 -- the file that is read in front of End alone
 pub over_whole : (file : ℕ) (ts : List Token) (uses decls : List Node) (n : ℕ) (t : Token) → IsOver file ts uses decls n → drop n ts ≡ t ∷ [] → IsEnd t → IsFile file ts (record { file = file; uses = uses; decls = decls })
 over_whole file ts uses decls n t o d e =
-    let us : strung (drop n ts) ≡ t ∷ [] = ap strung d in
+    let us : joined (drop n ts) ≡ t ∷ [] = ap joined d in
     let made = file_made uses decls in
     let m = whole_made file ts t made (o.run_is ∙ ap (λ y. Done y made) us) e in
     let p = parts_once uses decls m.tree.uses m.tree.decls o.sorts (file_sorts m.tree m.spells.shaped) (ap kids_of m.is_made) in

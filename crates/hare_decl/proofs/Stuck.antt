@@ -3,11 +3,10 @@ use Rattle.std.proofs.Common.{◌≡◌, ℕ, ◌-◌, ◌<◌, ◌≤◌, List,
 use Rattle.std.proofs.lemmas.List.{drop_all}
 use Rattle.hare_tree.specs.declared.token.Token.{Token}
 use Rattle.hare_tree.specs.Tokens.{end_at}
-use Rattle.hare_tree.specs.Grammar.{files, IsDepthFault, IsFirstFault}
+use Rattle.hare_tree.specs.Grammar.{files, IsDepthFault, IsFirstFault, joined, StandsAt}
 use Rattle.hare_grammar.specs.Engine.{Fails, run, bottom}
 use Rattle.hare_grammar.specs.OneTree.{file_symbols}
-use Rattle.hare_parsing.specs.Faults.{strung, StandsAt}
-use Rattle.hare_parsing.proofs.Strung.{head}
+use Rattle.hare_parsing.proofs.Joined.{head}
 use Rattle.hare_parsing.proofs.Places.{cut}
 use Rattle.hare_parsing.proofs.FileFaults.{file_runs_use_no_end}
 use Rattle.hare_depth.proofs.Firsts.{first_depth}
@@ -33,22 +32,22 @@ no_depth ts (Some m) h e = cc
 -- ---- the machine cannot go on
 
 -- at a token
-pub stuck_at_token : (file : ℕ) (ts : List Token) (n : ℕ) → IsShallow ts → run file (strung ts) file_symbols bottom ≡ Fails (strung (drop n ts)) → StandsAt ts n (strung (drop n ts)) → n < length ts → IsFirstFault files ts 8 n
+pub stuck_at_token : (file : ℕ) (ts : List Token) (n : ℕ) → IsShallow ts → run file (joined ts) file_symbols bottom ≡ Fails (joined (drop n ts)) → StandsAt ts n (joined (drop n ts)) → n < length ts → IsFirstFault files ts 8 n
 stuck_at_token file ts n d e s h =
     let c = cut ts n h in
     let x = head c.first c.behind in
-    let us : strung (drop n ts) ≡ x.first ∷ x.rest = ap strung c.rest ∙ x.is in
+    let us : joined (drop n ts) ≡ x.first ∷ x.rest = ap joined c.rest ∙ x.is in
     stuck_first file ts n x.first x.rest d (e ∙ ap Fails us) (subst (StandsAt ts n) us s)
 
 -- behind all tokens nothing is left
-used_up : (file : ℕ) (ts : List Token) (n : ℕ) → run file (strung ts) file_symbols bottom ≡ Fails (strung (drop n ts)) → length ts ≤ n → run file (strung ts) file_symbols bottom ≡ Fails []
-used_up file ts n e h = e ∙ ap (λ l. Fails (strung l)) (drop_all n ts h)
+used_up : (file : ℕ) (ts : List Token) (n : ℕ) → run file (joined ts) file_symbols bottom ≡ Fails (joined (drop n ts)) → length ts ≤ n → run file (joined ts) file_symbols bottom ≡ Fails []
+used_up file ts n e h = e ∙ ap (λ l. Fails (joined l)) (drop_all n ts h)
 
 -- the tokens are used up
-pub stuck_at_end : (file : ℕ) (ts : List Token) (n : ℕ) → IsShallow ts → run file (strung ts) file_symbols bottom ≡ Fails (strung (drop n ts)) → length ts ≤ n → IsCut file ts
+pub stuck_at_end : (file : ℕ) (ts : List Token) (n : ℕ) → IsShallow ts → run file (joined ts) file_symbols bottom ≡ Fails (joined (drop n ts)) → length ts ≤ n → IsCut file ts
 stuck_at_end file ts n d e h = used_up_cut file ts d (used_up file ts n e h)
 
 -- no tokens are used up of which the last is End
-pub end_not_used : (file : ℕ) (ts : List Token) (n : ℕ) → run file (strung ts) file_symbols bottom ≡ Fails (strung (drop n ts)) → length ts ≤ n → HasEnd ts → ⊥
+pub end_not_used : (file : ℕ) (ts : List Token) (n : ℕ) → run file (joined ts) file_symbols bottom ≡ Fails (joined (drop n ts)) → length ts ≤ n → HasEnd ts → ⊥
 end_not_used file ts n e h k =
-    file_runs_use_no_end file k.0 (end_at k.1) [] refl (ap (λ l. run file (strung l) file_symbols bottom) (sym k.2) ∙ used_up file ts n e h)
+    file_runs_use_no_end file k.0 (end_at k.1) [] refl (ap (λ l. run file (joined l) file_symbols bottom) (sym k.2) ∙ used_up file ts n e h)

@@ -1,6 +1,5 @@
 -- What a parser answers for the tokens of a file, and for its bytes: the tree of the file, or its first fault.
-use Rattle.std.specs.Prelude.{◌≡◌, ◌==◌, true, ℕ, List, [], ◌∷◌, ◌++◌, ◌⊎◌, drop, Result, MatchResult}
-use Rattle.std.specs.List.{list_all}
+use Rattle.std.specs.Prelude.{◌≡◌, ℕ, List, [], ◌∷◌, ◌++◌, ◌⊎◌, drop, Result, MatchResult}
 use Rattle.hare_tree.specs.declared.place.Place.{Place}
 use Rattle.hare_tree.specs.declared.place.Fault as fault
 use Rattle.hare_tree.specs.declared.token.Token.{Token}
@@ -11,10 +10,9 @@ use Rattle.hare_tree.specs.declared.token.TokenKind.TheVariants as tk
 use Rattle.hare_tree.specs.Node.{Node}
 use Rattle.hare_tree.specs.Spell.{start_of, word_token}
 use Rattle.hare_tree.specs.Tokens.{IsTokens, IsFirstBreak, end_at}
-use Rattle.hare_tree.specs.Grammar.{files, unplaced, fault_at, IsDepthFault, IsFirstFault, IsLeastFault, IsFileTree}
+use Rattle.hare_tree.specs.Grammar.{files, unplaced, fault_at, IsDepthFault, IsFirstFault, IsLeastFault, IsFileTree, joined, StandsAt}
 use Rattle.hare_grammar.specs.Engine.{Done, run, bottom}
 use Rattle.hare_grammar.specs.OneTree.{file_symbols}
-use Rattle.hare_parsing.specs.Faults.{strung, StandsAt}
 use Rattle.hare_parse.specs.Files.{HaveSorts, file_made}
 use Rattle.hare_decl.specs.declared.syntax.Syntax.{Syntax}
 use Rattle.hare_decl.specs.declared.syntax.Syntax.TheVariants as sx
@@ -47,8 +45,8 @@ HasEnd ts = (before : List Token) × (p : Place) × (ts ≡ before ++ end_at p �
 
 -- Of these tokens, which pass no limit on depth, the machine has read the imports and declarations in front of one.
 pub record IsOver (file : ℕ) (ts : List Token) (uses decls : List Node) (n : ℕ) : Type 0 where
-  pub run_is : run file (strung ts) file_symbols bottom ≡ Done (strung (drop n ts)) (file_made uses decls)
-  pub stands : StandsAt ts n (strung (drop n ts))
+  pub run_is : run file (joined ts) file_symbols bottom ≡ Done (joined (drop n ts)) (file_made uses decls)
+  pub stands : StandsAt ts n (joined (drop n ts))
   pub sorts : HaveSorts uses decls
   pub shallow : (m : ℕ) → IsDepthFault files ts m → ⊥
   pub limits : files.deep_of (record { file = file; uses = uses; decls = decls }) ≡ []
@@ -67,10 +65,6 @@ HasFirstFault ts f = (number n : ℕ) × IsFirstFault files ts number n × (f �
 abbrev pub HasFault : ℕ → List Token → fault.Fault → Type 0
 HasFault file ts f =
     HasFirstFault ts f ⊎ (IsCut file ts × (f ≡ record { number = 8; place = last_place file ts }))
-
--- all tokens are of the file
-abbrev pub AreOfFile : ℕ → List Token → Type 0
-AreOfFile file ts = list_all (λ t. t.place.file == file) ts ≡ true
 
 -- ---- bytes
 

@@ -4,13 +4,14 @@ ghost use Rattle.std.specs.Prelude.{◌≡◌, ◌<◌, length, IfOk, IfErr};
 ghost use Rattle.hare_tree.specs.Grammar as grammar;
 ghost use Rattle.hare_tree.specs.declared.place.Fault.{Fault};
 ghost use Rattle.hare_tree.specs.declared.tree.FileTree.{FileTree};
+ghost use Rattle.hare_lex.specs.Order.{AreOfFile};
 ghost use Rattle.hare_decl.specs.Answers as spec;
 
 use crate::syntax::{Syntax, syntax_of};
 use hare_tree::{Fault, FileTree, Place, Stop, Tokens};
 use std::alloc::Global;
 
-/// The tree of the file with these tokens, which are all of the file with this number (Hare specification, "Grammar"): the one tree within the limits on
+/// The tree of the file with these tokens, which are all of the file with this number, as those are that a lexer gives (Hare specification, "Grammar"): the one tree within the limits on
 /// depth that spells the tokens and has their places.
 ///
 /// Else the fault is E8 at the first token with which no file begins, or E9 at the first at which a limit on depth is passed, whichever stands first.
@@ -18,7 +19,7 @@ use std::alloc::Global;
 ///
 /// The time is linear in the tokens.
 pub fn parse_file(alloc: Global, file: u32, t: &Tokens) -> Result<FileTree, Stop<Fault>>
-    requires { spec.AreOfFile file t.now }
+    requires { AreOfFile file t.now }
     ensures ok { IfOk result (λ tree. spec.IsFile file t.now tree) }
     ensures err { IfErr result (λ e. spec.Stops (spec.HasFault file t.now) e) }
     ensures only_tree { (tree : FileTree) → spec.IsFile file t.now tree → spec.GivesTree tree result }

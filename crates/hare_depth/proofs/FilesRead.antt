@@ -9,11 +9,10 @@ use Rattle.hare_tree.specs.declared.tree.FileTree.{FileTree}
 use Rattle.hare_tree.specs.Node.{Node, nodes_of}
 use Rattle.hare_tree.specs.Spell.{word_token, spell_all, spell_file}
 use Rattle.hare_tree.specs.Shape.{is_shaped, is_shaped_file}
-use Rattle.hare_tree.specs.Grammar.{Spells, files, unplaced}
+use Rattle.hare_tree.specs.Grammar.{Spells, files, unplaced, joined}
 use Rattle.hare_grammar.specs.Engine.{Group, Done, run, bottom}
 use Rattle.hare_grammar.specs.OneTree.{file_symbols}
 use Rattle.hare_grammar.proofs.Files.{read_file, files_have_one_tree}
-use Rattle.hare_parsing.specs.Faults.{strung}
 use Rattle.hare_parsing.proofs.Alike.{classes}
 use Rattle.hare_parsing.proofs.Viable.{end}
 use Rattle.hare_parsing.proofs.Breaks.{both}
@@ -21,7 +20,6 @@ use Rattle.hare_parsing.proofs.Used.{not_nil}
 use Rattle.hare_parsing.proofs.Readings.{runs_read_files}
 use Rattle.hare_parsing.proofs.Moved.{side_moved}
 use Rattle.hare_parsing.proofs.Faults.{file_loose}
-use Rattle.hare_parsing.proofs.FileFaults.{files_join}
 use Rattle.hare_depth.specs.Gauge.{numbered, nodes_in}
 use Rattle.hare_depth.proofs.Piles.{pile_faults, Gains}
 use Rattle.hare_depth.proofs.AtStart.{files_at_start, none_at_start}
@@ -29,7 +27,7 @@ use Rattle.hare_depth.proofs.LetterFiles.{Placed, deep_file, file_piles_agree}
 use Rattle.hare_depth.proofs.Placeless.{files_pass_alike, file_limits}
 use Rattle.hare_depth.proofs.InsideFiles.{file_inside}
 use Rattle.hare_depth.proofs.Gaining.{Ascends}
-use Rattle.hare_depth.proofs.Numbers.{unplaced_both, plain_classes, strung_ascends}
+use Rattle.hare_depth.proofs.Numbers.{unplaced_both, plain_classes, joined_ascends}
 use Rattle.hare_depth.proofs.Lines.{line_of, rises}
 use Rattle.hare_depth.proofs.Runs.{last_same, done_like}
 use Rattle.hare_depth.proofs.Languages.{faulty_alike, Faulty, Read, Reread, Reads}
@@ -108,12 +106,12 @@ ended (t ∷ w) front e =
     let i = last_same (map unplaced r.0) front (unplaced r.1) end (sym (map-append unplaced r.0 (r.1 ∷ [])) ∙ sym (ap (map unplaced) r.2) ∙ e) in
     record { before = r.0; last = r.1; is = r.2; same = i.0; is_end = i.1 }
 
-reread_from : (ts : List Token) (t : FileTree) → is_shaped_file t ≡ true → map unplaced (strung (numbered 1 ts)) ≡ map unplaced (spell_file t) → Ended (strung (numbered 1 ts)) (spell_all 0 t.uses ++ spell_all 0 t.decls) → Reread files file_symbols ts t
+reread_from : (ts : List Token) (t : FileTree) → is_shaped_file t ≡ true → map unplaced (joined (numbered 1 ts)) ≡ map unplaced (spell_file t) → Ended (joined (numbered 1 ts)) (spell_all 0 t.uses ++ spell_all 0 t.decls) → Reread files file_symbols ts t
 reread_from ts t h e x =
     let w = x.before ++ x.last ∷ [] in
     let c : classes w ≡ classes (spell_file t) = plain_classes w (spell_file t) (ap (map unplaced) (sym x.is) ∙ e) in
     let d = done_like 0 t.file x.before (spell_file t) x.last (word_token t.file tk.End []) file_symbols bottom bottom _ c (read_file t h) in
-    let a : Ascends 1 w (1 + length ts) = subst (λ l. Ascends 1 l (1 + length ts)) x.is (strung_ascends 1 ts) in
+    let a : Ascends 1 w (1 + length ts) = subst (λ l. Ascends 1 l (1 + length ts)) x.is (joined_ascends 1 ts) in
     let m = made_file x.before x.last (1 + length ts) d.0 a d.1 in
     let p = made_passes x.before x.last d.0 m t h x.same in
     record {
@@ -121,7 +119,7 @@ reread_from ts t h e x =
       last = x.last;
       top = 1 + length ts;
       extra = [];
-      split = append-nil (strung (numbered 1 ts)) ∙ x.is;
+      split = append-nil (joined (numbered 1 ts)) ∙ x.is;
       ascends = a;
       made = d.0;
       done = d.1;
@@ -130,8 +128,8 @@ reread_from ts t h e x =
 
 pub reread_file : (ts : List Token) (t : FileTree) → is_shaped_file t ≡ true → Spells (spell_file t) ts → Reread files file_symbols ts t
 reread_file ts t h e =
-    let w : map unplaced (strung (numbered 1 ts)) ≡ map unplaced (spell_file t) = unplaced_both 1 ts ∙ ap (map unplaced) (files_join ts t h e) ∙ sym e in
-    reread_from ts t h w (ended (strung (numbered 1 ts)) (spell_all 0 t.uses ++ spell_all 0 t.decls) (w ∙ file_tokens t))
+    let w : map unplaced (joined (numbered 1 ts)) ≡ map unplaced (spell_file t) = unplaced_both 1 ts ∙ sym e in
+    reread_from ts t h w (ended (joined (numbered 1 ts)) (spell_all 0 t.uses ++ spell_all 0 t.decls) (w ∙ file_tokens t))
 
 file_none : pile_faults (nodes_in file_symbols) bottom ≡ []
 unfolding nodes_in

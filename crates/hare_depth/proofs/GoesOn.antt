@@ -5,11 +5,10 @@ use Rattle.std.proofs.lemmas.List.{append-nil, length-take-le, map-append, take-
 use Rattle.hare_tree.specs.declared.token.Token.{Token}
 use Rattle.hare_tree.specs.Grammar.{Language, GoesOn, Spells, joined, unplaced}
 use Rattle.hare_grammar.specs.declared.rule.Symbol.{Symbol}
-use Rattle.hare_parsing.specs.Faults.{strung}
 use Rattle.hare_parsing.proofs.Faults.{goes_back}
 use Rattle.hare_depth.specs.Gauge.{numbered}
 use Rattle.hare_depth.proofs.Numbers.{unplaced_both, is_numbered}
-use Rattle.hare_depth.proofs.Fronts.{IsFront, front_joined}
+use Rattle.hare_depth.proofs.Fronts.{IsFront}
 use Rattle.hare_depth.proofs.Lines.{front_append}
 use Rattle.hare_depth.proofs.Languages.{Reread, Reads}
 
@@ -19,28 +18,22 @@ use Rattle.hare_depth.proofs.Languages.{Reread, Reads}
 pub record FrontAt (ts u : List Token) : Type 0 where
   pub read : ℕ
   pub within : read ≤ length ts
-  pub is : u ≡ strung (numbered 1 (take read ts))
+  pub is : u ≡ joined (numbered 1 (take read ts))
 
-pub front_at : (ts u v : List Token) → strung (numbered 1 ts) ≡ u ++ v → FrontAt ts u
-front_at ts u [] e = record { read = length ts; within = omega arith; is = sym (append-nil u) ∙ sym e ∙ ap (λ l. strung (numbered 1 l)) (sym (take-length ts)) }
+pub front_at : (ts u v : List Token) → joined (numbered 1 ts) ≡ u ++ v → FrontAt ts u
+front_at ts u [] e = record { read = length ts; within = omega arith; is = sym (append-nil u) ∙ sym e ∙ ap (λ l. joined (numbered 1 l)) (sym (take-length ts)) }
 front_at ts u (y ∷ v) e = let n = is_numbered ts u y v e in record { read = n.at; within = omega (arith, n.within); is = n.front }
 
 -- a tree whose tokens go on with these joined ones goes on with the front
-pub goes_on_with : {T : Type 0} (l : Language T) (st : List Symbol) → Reads l st → (front u behind : List Token) (tree : T) → l.is_of tree ≡ true → u ≡ strung (numbered 1 front) → map unplaced (l.tokens_of tree) ≡ map unplaced (u ++ behind) → GoesOn l front tree
+pub goes_on_with : {T : Type 0} (l : Language T) (st : List Symbol) → Reads l st → (front u behind : List Token) (tree : T) → l.is_of tree ≡ true → u ≡ joined (numbered 1 front) → map unplaced (l.tokens_of tree) ≡ map unplaced (u ++ behind) → GoesOn l front tree
 goes_on_with l st s front u behind tree h i e =
-    let j : map unplaced u ≡ map unplaced (strung front) = ap (map unplaced) i ∙ unplaced_both 1 front in
-    let k : map unplaced (u ++ behind) ≡ map unplaced (strung front ++ behind) = map-append unplaced u behind ∙ ap (λ v. v ++ map unplaced behind) j ∙ sym (map-append unplaced (strung front) behind) in
+    let j : map unplaced u ≡ map unplaced (joined front) = ap (map unplaced) i ∙ unplaced_both 1 front in
+    let k : map unplaced (u ++ behind) ≡ map unplaced (joined front ++ behind) = map-append unplaced u behind ∙ ap (λ v. v ++ map unplaced behind) j ∙ sym (map-append unplaced (joined front) behind) in
     record { shaped = h; behind = behind; spelled = goes_back (l.tokens_of tree) front behind (s.is_loose tree h) (e ∙ k) }
-
--- the first tokens of a front of a tree's are counted alike, whichever strings are joined
-pub counted_alike : {T : Type 0} (l : Language T) (st : List Symbol) → Reads l st → (n : ℕ) (front : List Token) (tree : T) → GoesOn l front tree → length (strung (take n front)) ≡ length (joined (take n front))
-counted_alike l st s n front tree g =
-    let e : front ++ g.behind ≡ take n front ++ (drop n front ++ g.behind) = ap (λ v. v ++ g.behind) (sym (take-append-drop n front)) ∙ append_assoc (take n front) (drop n front) g.behind in
-    ap length (front_joined (l.tokens_of tree) (take n front) (drop n front ++ g.behind) (s.is_loose tree g.shaped) (subst (Spells (l.tokens_of tree)) e g.spelled))
 
 pub take_twice : (n r : ℕ) (ts : List Token) → n ≤ r → r ≤ length ts → take n (take r ts) ≡ take n ts
 take_twice n r ts d e = let i = length-take-le r ts e in sym (take-append-le n (take r ts) (drop r ts) (omega (arith, d, i))) ∙ ap (take n) (take-append-drop r ts)
 
 -- the tokens of the run that reads the tree again begin with those of the front
-pub front_of_reread : {T : Type 0} (l : Language T) (st : List Symbol) (q ts : List Token) (tree : T) → (r : Reread l st ts tree) → IsFront q (strung (numbered 1 ts)) → IsFront q (r.used ++ r.last ∷ [])
-front_of_reread l st q ts tree r f = subst (IsFront q) r.split (front_append q (strung (numbered 1 ts)) r.extra f)
+pub front_of_reread : {T : Type 0} (l : Language T) (st : List Symbol) (q ts : List Token) (tree : T) → (r : Reread l st ts tree) → IsFront q (joined (numbered 1 ts)) → IsFront q (r.used ++ r.last ∷ [])
+front_of_reread l st q ts tree r f = subst (IsFront q) r.split (front_append q (joined (numbered 1 ts)) r.extra f)

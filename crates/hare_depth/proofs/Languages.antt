@@ -2,11 +2,10 @@
 -- the faults of what the machine makes.
 use Rattle.std.proofs.Common.{◌≡◌, ℕ, ◌<◌, List, [], ◌∷◌, ◌++◌, true, false, map, length, sym, subst}
 use Rattle.hare_tree.specs.declared.token.Token.{Token}
-use Rattle.hare_tree.specs.Grammar.{Language, IsOn, Spells, unplaced}
+use Rattle.hare_tree.specs.Grammar.{Language, IsOn, Spells, unplaced, joined}
 use Rattle.hare_grammar.specs.declared.class.Class.TheVariants as cl
 use Rattle.hare_grammar.specs.declared.rule.Symbol.{Symbol}
 use Rattle.hare_grammar.specs.Engine.{Group, Done, run, bottom}
-use Rattle.hare_parsing.specs.Faults.{strung}
 use Rattle.hare_parsing.proofs.Endings.{good}
 use Rattle.hare_parsing.proofs.Viable.{end}
 use Rattle.hare_parsing.proofs.Loose.{loose}
@@ -39,7 +38,7 @@ pub record Reread {T : Type 0} (l : Language T) (st : List Symbol) (ts : List To
   pub last : Token
   pub top : ℕ
   pub extra : List Token
-  pub split : strung (numbered 1 ts) ++ extra ≡ used ++ last ∷ []
+  pub split : joined (numbered 1 ts) ++ extra ≡ used ++ last ∷ []
   pub ascends : Ascends 1 (used ++ last ∷ []) top
   pub made : List Group
   pub done : run 0 (used ++ last ∷ []) st bottom ≡ Done (last ∷ []) made

@@ -2,12 +2,11 @@
 use Rattle.std.proofs.Common.{◌≡◌, ℕ, zero, suc, ◌+◌, ◌<◌, ◌≤◌, List, [], ◌∷◌, ◌++◌, Bool, true, false, map, length, take, refl, ap, sym, ◌∙◌, subst, arith}
 use Rattle.std.proofs.lemmas.List.{length-append, length-map}
 use Rattle.hare_tree.specs.declared.token.Token.{Token}
-use Rattle.hare_tree.specs.Grammar.{unplaced, place_of}
-use Rattle.hare_parsing.specs.Faults.{is_proper_string, strung_to, strung}
+use Rattle.hare_tree.specs.Grammar.{unplaced, place_of, is_proper_string, joined_to, joined}
 use Rattle.hare_parsing.proofs.Alike.{classes}
 use Rattle.hare_parsing.proofs.Viable.{same_classes}
 use Rattle.hare_parsing.proofs.Used.{chosen}
-use Rattle.hare_parsing.proofs.Strung.{strung_append}
+use Rattle.hare_parsing.proofs.Joined.{joined_append}
 use Rattle.hare_parsing.proofs.Places.{spot, all_stand, places_stand}
 use Rattle.hare_parsing.proofs.Faults.{before_spot}
 use Rattle.hare_depth.specs.Gauge.{numbered}
@@ -45,21 +44,21 @@ pub unplaced_numbered : (n : ℕ) (ts : List Token) → map unplaced (numbered n
 unplaced_numbered n [] = refl
 unplaced_numbered n (t ∷ ts) = ap (λ l. unplaced t ∷ l) (unplaced_numbered (suc n) ts)
 
-unplaced_strung_to : (t : Token) (us : List Token) → map unplaced (strung_to t us) ≡ strung_to (unplaced t) (map unplaced us)
-unplaced_strung_to t [] = refl
-unplaced_strung_to t (u ∷ us) = by (is_proper_string t) (is_proper_string u)
+unplaced_joined_to : (t : Token) (us : List Token) → map unplaced (joined_to t us) ≡ joined_to (unplaced t) (map unplaced us)
+unplaced_joined_to t [] = refl
+unplaced_joined_to t (u ∷ us) = by (is_proper_string t) (is_proper_string u)
   where
     by : (p q : Bool) → map unplaced (chosen p q t u us) ≡ chosen p q (unplaced t) (unplaced u) (map unplaced us)
     by true true = refl
     by true false = refl
     by false q = refl
 
-pub unplaced_strung : (ts : List Token) → map unplaced (strung ts) ≡ strung (map unplaced ts)
-unplaced_strung [] = refl
-unplaced_strung (t ∷ ts) = unplaced_strung_to t (strung ts) ∙ ap (strung_to (unplaced t)) (unplaced_strung ts)
+pub unplaced_joined : (ts : List Token) → map unplaced (joined ts) ≡ joined (map unplaced ts)
+unplaced_joined [] = refl
+unplaced_joined (t ∷ ts) = unplaced_joined_to t (joined ts) ∙ ap (joined_to (unplaced t)) (unplaced_joined ts)
 
-pub unplaced_both : (n : ℕ) (ts : List Token) → map unplaced (strung (numbered n ts)) ≡ map unplaced (strung ts)
-unplaced_both n ts = unplaced_strung (numbered n ts) ∙ ap strung (unplaced_numbered n ts) ∙ sym (unplaced_strung ts)
+pub unplaced_both : (n : ℕ) (ts : List Token) → map unplaced (joined (numbered n ts)) ≡ map unplaced (joined ts)
+unplaced_both n ts = unplaced_joined (numbered n ts) ∙ ap joined (unplaced_numbered n ts) ∙ sym (unplaced_joined ts)
 
 pub plain_classes : (a b : List Token) → map unplaced a ≡ map unplaced b → classes a ≡ classes b
 plain_classes a b e = sym (same_classes a) ∙ ap classes e ∙ same_classes b
@@ -84,22 +83,22 @@ unfolding Ascends
 ascends_append n [] m b k x y = ascends_from n m b k x y
 ascends_append n (t ∷ a) m b k x y = (x.0, ascends_append (suc t.place.line) a m b k x.1 y)
 
-ascends_strung_to : (n : ℕ) (t : Token) (us : List Token) (m : ℕ) → n ≤ t.place.line → Ascends (suc t.place.line) us m → Ascends n (strung_to t us) m
+ascends_joined_to : (n : ℕ) (t : Token) (us : List Token) (m : ℕ) → n ≤ t.place.line → Ascends (suc t.place.line) us m → Ascends n (joined_to t us) m
 unfolding Ascends
-ascends_strung_to n t [] m e a = (e, a)
-ascends_strung_to n t (u ∷ us) m e a = by (is_proper_string t) (is_proper_string u)
+ascends_joined_to n t [] m e a = (e, a)
+ascends_joined_to n t (u ∷ us) m e a = by (is_proper_string t) (is_proper_string u)
   where
     by : (p q : Bool) → Ascends n (chosen p q t u us) m
     by true true = (e, ascends_from (suc t.place.line) (suc u.place.line) us m (omega (arith, a.0)) a.1)
     by true false = (e, a)
     by false q = (e, a)
 
-pub strung_ascends : (n : ℕ) (ts : List Token) → Ascends n (strung (numbered n ts)) (n + length ts)
+pub joined_ascends : (n : ℕ) (ts : List Token) → Ascends n (joined (numbered n ts)) (n + length ts)
 unfolding Ascends
-strung_ascends n [] = omega arith
-strung_ascends n (t ∷ ts) =
+joined_ascends n [] = omega arith
+joined_ascends n (t ∷ ts) =
     let e : suc n + length ts ≡ n + length (t ∷ ts) = omega arith in
-    ascends_strung_to n _ (strung (numbered (suc n) ts)) (n + length (t ∷ ts)) (omega arith) (subst (λ k. Ascends (suc n) (strung (numbered (suc n) ts)) k) e (strung_ascends (suc n) ts))
+    ascends_joined_to n _ (joined (numbered (suc n) ts)) (n + length (t ∷ ts)) (omega arith) (subst (λ k. Ascends (suc n) (joined (numbered (suc n) ts)) k) e (joined_ascends (suc n) ts))
 
 pub numbered_ascends : (n : ℕ) (ts : List Token) → Ascends n (numbered n ts) (n + length ts)
 unfolding Ascends
@@ -115,22 +114,22 @@ pub record Numbered (ts a : List Token) (y : Token) : Type 0 where
   pub at : ℕ
   pub line : y.place.line ≡ suc at
   pub within : at < length ts
-  pub front : a ≡ strung (numbered 1 (take at ts))
-  pub count : length (strung (take (suc at) ts)) ≡ suc (length a)
+  pub front : a ≡ joined (numbered 1 (take at ts))
+  pub count : length (joined (take (suc at) ts)) ≡ suc (length a)
 
-pub is_numbered : (ts a : List Token) (y : Token) (rest : List Token) → strung (numbered 1 ts) ≡ a ++ y ∷ rest → Numbered ts a y
+pub is_numbered : (ts a : List Token) (y : Token) (rest : List Token) → joined (numbered 1 ts) ≡ a ++ y ∷ rest → Numbered ts a y
 is_numbered ts a y rest e =
     let s = all_stand (numbered 1 ts) a (y ∷ rest) e in
     let p = spot (numbered 1 ts) s.at y rest s.stands in
     let w : s.at < length ts = omega (arith, p.within, length_numbered 1 ts) in
-    let b : a ≡ strung (take s.at (numbered 1 ts)) = before_spot (numbered 1 ts) s.at y rest a p e in
+    let b : a ≡ joined (take s.at (numbered 1 ts)) = before_spot (numbered 1 ts) s.at y rest a p e in
     let x = p.cut.first in
-    let c : strung (take (suc s.at) (numbered 1 ts)) ≡ a ++ x ∷ [] = ap strung p.cut.next ∙ strung_append (take s.at (numbered 1 ts)) (x ∷ []) p.parted ∙ ap (λ l. l ++ x ∷ []) (sym b) in
-    let d : length (strung (take (suc s.at) ts)) ≡ length (a ++ x ∷ []) = plain_lengths _ _ (sym (unplaced_both 1 (take (suc s.at) ts))) ∙ ap (λ l. length (strung l)) (sym (numbered_take 1 (suc s.at) ts)) ∙ ap length c in
+    let c : joined (take (suc s.at) (numbered 1 ts)) ≡ a ++ x ∷ [] = ap joined p.cut.next ∙ joined_append (take s.at (numbered 1 ts)) (x ∷ []) p.apart ∙ ap (λ l. l ++ x ∷ []) (sym b) in
+    let d : length (joined (take (suc s.at) ts)) ≡ length (a ++ x ∷ []) = plain_lengths _ _ (sym (unplaced_both 1 (take (suc s.at) ts))) ∙ ap (λ l. length (joined l)) (sym (numbered_take 1 (suc s.at) ts)) ∙ ap length c in
     record {
       at = s.at;
       line = ap (λ q. q.line) (sym (places_stand (numbered 1 ts) s.at y rest s.stands)) ∙ line_numbered 1 s.at ts w ∙ omega arith;
       within = w;
-      front = b ∙ ap strung (numbered_take 1 s.at ts);
+      front = b ∙ ap joined (numbered_take 1 s.at ts);
       count = omega (arith, d, length-append a (x ∷ []));
     }

@@ -11,13 +11,12 @@ use Rattle.hare_tree.specs.Shape.{is_shaped, is_shaped_file}
 use Rattle.std.specs.List.{list_all}
 use Rattle.hare_parsing.specs.Viable.{has_trees}
 use Rattle.hare_tree.specs.Depth.{deep, deep_root, deep_all}
-use Rattle.hare_tree.specs.Grammar.{Language, IsOn, trees_of, files, unplaced}
+use Rattle.hare_tree.specs.Grammar.{Language, IsOn, trees_of, files, unplaced, joined}
 use Rattle.hare_grammar.specs.declared.rule.Symbol.{Symbol}
 use Rattle.hare_grammar.specs.Rows.{of}
 use Rattle.hare_grammar.specs.Engine.{Group, add, begun, Done, run, bottom}
 use Rattle.hare_grammar.specs.OneTree.{file_symbols}
 use Rattle.hare_grammar.proofs.OneTree.{sorts_have_one_tree}
-use Rattle.hare_parsing.specs.Faults.{strung}
 use Rattle.hare_parsing.proofs.Alike.{Alike, alike}
 use Rattle.hare_parsing.proofs.Viable.{done_there}
 use Rattle.hare_parsing.proofs.Breaks.{both, trees_sort}
@@ -31,7 +30,7 @@ use Rattle.hare_depth.proofs.Halts.{stops_done}
 use Rattle.hare_depth.proofs.Gaining.{Ascends}
 use Rattle.hare_depth.proofs.LetterFiles.{deep_file}
 use Rattle.hare_depth.proofs.Placeless.{roots_pass_alike, file_limits}
-use Rattle.hare_depth.proofs.Numbers.{unplaced_both, plain_classes, strung_ascends}
+use Rattle.hare_depth.proofs.Numbers.{unplaced_both, plain_classes, joined_ascends}
 use Rattle.hare_depth.proofs.Fronts.{IsFront}
 use Rattle.hare_depth.proofs.Lines.{ascends_apart}
 use Rattle.hare_depth.proofs.Languages.{Reads}
@@ -49,7 +48,7 @@ pub record SameRun (st : List Symbol) (ts used : List Token) : Type 0 where
   pub top : ℕ
   pub made : List Group
   pub ascends : Ascends 1 (front ++ last ∷ []) top
-  pub is_front : IsFront front (strung (numbered 1 ts))
+  pub is_front : IsFront front (joined (numbered 1 ts))
   pub done : run 0 (front ++ last ∷ []) st bottom ≡ Done (last ∷ []) made
   pub same : map unplaced front ≡ map unplaced used
 
@@ -58,10 +57,10 @@ fronts_same a b c d n e =
     let m : length a ≡ length c = omega (arith, n, ap length e, length-append a b, length-append c d) in
     sym (take-append_seam a b) ∙ ap (take (length a)) e ∙ ap (λ k. take k (c ++ d)) m ∙ take-append_seam c d
 
-same_run : (file : ℕ) (st : List Symbol) (ts used : List Token) (t : Token) (rest : List Token) (made : List Group) → run file (strung ts) st bottom ≡ Done (t ∷ rest) made → strung ts ≡ used ++ t ∷ rest → SameRun st ts used
+same_run : (file : ℕ) (st : List Symbol) (ts used : List Token) (t : Token) (rest : List Token) (made : List Group) → run file (joined ts) st bottom ≡ Done (t ∷ rest) made → joined ts ≡ used ++ t ∷ rest → SameRun st ts used
 same_run file st ts used t rest made d i =
-    let u = strung (numbered 1 ts) in
-    let a : Alike (run 0 u st bottom) (Done (t ∷ rest) made) = subst (λ o. Alike (run 0 u st bottom) o) d (alike 0 file u (strung ts) st bottom bottom (plain_classes u (strung ts) (unplaced_both 1 ts))) in
+    let u = joined (numbered 1 ts) in
+    let a : Alike (run 0 u st bottom) (Done (t ∷ rest) made) = subst (λ o. Alike (run 0 u st bottom) o) d (alike 0 file u (joined ts) st bottom bottom (plain_classes u (joined ts) (unplaced_both 1 ts))) in
     let r = first_token (run 0 u st bottom) t rest made a in
     let z = r.0 in
     let s = stops_done 0 u st bottom z r.1 r.2 r.3 in
@@ -69,7 +68,7 @@ same_run file st ts used t rest made d i =
     sym (map-append unplaced s.used (z ∷ r.1)) ∙ ap (map unplaced) (sym s.split) ∙ unplaced_both 1 ts ∙ ap (map unplaced) i ∙ map-append unplaced used (t ∷ rest) in
     let n : length (map unplaced (z ∷ r.1)) ≡ length (map unplaced (t ∷ rest)) = length-map (z ∷ r.1) unplaced ∙ ap suc r.4 ∙ sym (length-map (t ∷ rest) unplaced) in
     let w : u ≡ (s.used ++ z ∷ []) ++ r.1 = s.split ∙ sym (append_assoc s.used (z ∷ []) r.1) in
-    let p = ascends_apart 1 (s.used ++ z ∷ []) r.1 (1 + length ts) (subst (λ l. Ascends 1 l (1 + length ts)) w (strung_ascends 1 ts)) in
+    let p = ascends_apart 1 (s.used ++ z ∷ []) r.1 (1 + length ts) (subst (λ l. Ascends 1 l (1 + length ts)) w (joined_ascends 1 ts)) in
     record {
       front = s.used;
       last = z;
@@ -110,14 +109,14 @@ read_shallow sg se s c ts used q tree h e n =
     sym (roots_pass_alike m.tree tree (sorts_have_one_tree 0 s (trees_sort s c) m.tree tree m.shaped h (m.spelled ∙ q.same ∙ sym e)))
     ∙ no_faults _ (deep_root m.tree) (pile_faults [] q.made) m.faulty.faults (none_made sg se (trees_of s) (of s ∷ []) (reads_trees s c) ts used q n)
 
-tree_fits : StepsGain → StepsEnd → (s : Sort) → has_trees s ≡ true → (file : ℕ) (ts : List Token) (t : Token) (rest : List Token) (tree : Node) → run file (strung ts) (of s ∷ []) bottom ≡ Done (t ∷ rest) (add tree bottom) → (gauged s ts).faults ≡ [] → deep_root tree ≡ []
+tree_fits : StepsGain → StepsEnd → (s : Sort) → has_trees s ≡ true → (file : ℕ) (ts : List Token) (t : Token) (rest : List Token) (tree : Node) → run file (joined ts) (of s ∷ []) bottom ≡ Done (t ∷ rest) (add tree bottom) → (gauged s ts).faults ≡ [] → deep_root tree ≡ []
 tree_fits sg se s c file ts t rest tree d n =
-    let r = runs_read_trees s file (strung ts) (t ∷ rest) (add tree bottom) d in
+    let r = runs_read_trees s file (joined ts) (t ∷ rest) (add tree bottom) d in
     let q = same_run file (of s ∷ []) ts r.used t rest (add tree bottom) d r.split in
     ap deep_root (one_kid tree r.tree (ap kids_made r.is_made)) ∙ read_shallow sg se s c ts r.used q r.tree r.shaped r.spelled n
 
 pub trees_fit : StepsGain → StepsEnd → GaugedTreesFit
-trees_fit sg se s c file ts [] tree d n = absurd (done_somewhere file (strung ts) (of s ∷ []) bottom (add tree bottom) d)
+trees_fit sg se s c file ts [] tree d n = absurd (done_somewhere file (joined ts) (of s ∷ []) bottom (add tree bottom) d)
 trees_fit sg se s c file ts (t ∷ rest) tree d n = tree_fits sg se s c file ts t rest tree d n
 
 -- ---- files
@@ -143,13 +142,13 @@ read_file_shallow sg se ts used q uses decls h e n =
     sym (made_passes q.front q.last q.made m (file_of 0 uses decls) h (q.same ∙ sym e))
     ∙ no_faults _ (deep_file m.uses m.decls) (pile_faults [] q.made) m.faulty.faults (none_made sg se files file_symbols reads_files ts used q n)
 
-file_fits : StepsGain → StepsEnd → (file : ℕ) (ts : List Token) (t : Token) (rest : List Token) (uses decls : List Node) → run file (strung ts) file_symbols bottom ≡ Done (t ∷ rest) (begun (start_of 0) (uses ++ decls) ∷ []) → (gauged_file ts).faults ≡ [] → files.deep_of (file_of file uses decls) ≡ []
+file_fits : StepsGain → StepsEnd → (file : ℕ) (ts : List Token) (t : Token) (rest : List Token) (uses decls : List Node) → run file (joined ts) file_symbols bottom ≡ Done (t ∷ rest) (begun (start_of 0) (uses ++ decls) ∷ []) → (gauged_file ts).faults ≡ [] → files.deep_of (file_of file uses decls) ≡ []
 file_fits sg se file ts t rest uses decls d n =
-    let r = runs_read_files file (strung ts) (t ∷ rest) (begun (start_of 0) (uses ++ decls) ∷ []) d in
+    let r = runs_read_files file (joined ts) (t ∷ rest) (begun (start_of 0) (uses ++ decls) ∷ []) d in
     let q = same_run file file_symbols ts r.used t rest _ d r.split in
     let h = both (list_all (is_shaped so.Use) r.uses) (list_all (is_shaped so.Decl) r.decls) r.uses_shaped r.decls_shaped in
     file_limits (file_of file uses decls) ∙ deep_together uses decls r.uses r.decls (ap kids_made r.is_made) ∙ read_file_shallow sg se ts r.used q r.uses r.decls h r.spelled n
 
 pub files_fit : StepsGain → StepsEnd → GaugedFilesFit
-files_fit sg se file ts [] uses decls d n = absurd (done_somewhere file (strung ts) file_symbols bottom _ d)
+files_fit sg se file ts [] uses decls d n = absurd (done_somewhere file (joined ts) file_symbols bottom _ d)
 files_fit sg se file ts (t ∷ rest) uses decls d n = file_fits sg se file ts t rest uses decls d n

@@ -6,7 +6,6 @@ use Rattle.hare_tree.specs.declared.token.Token.{Token}
 use Rattle.hare_tree.specs.Grammar.{Language, IsOn, IsDepthFault, GoesOn, joined}
 use Rattle.hare_grammar.specs.declared.rule.Symbol.{Symbol}
 use Rattle.hare_grammar.specs.Engine.{Group, bottom}
-use Rattle.hare_parsing.specs.Faults.{strung}
 use Rattle.hare_depth.specs.Gauge.{numbered, seen, start, gauge}
 use Rattle.hare_depth.proofs.Piles.{pile_faults}
 use Rattle.hare_depth.proofs.Claims.{StepsGain, StepsEnd}
@@ -14,12 +13,12 @@ use Rattle.hare_depth.proofs.Lists.{on_map, gains_back}
 use Rattle.hare_depth.proofs.Reaches.{Reaches}
 use Rattle.hare_depth.proofs.Halts.{halting, halting_faults}
 use Rattle.hare_depth.proofs.Gaining.{Ascends}
-use Rattle.hare_depth.proofs.Numbers.{ascends_to, strung_ascends, is_numbered}
+use Rattle.hare_depth.proofs.Numbers.{ascends_to, joined_ascends, is_numbered}
 use Rattle.hare_depth.proofs.Fronts.{IsFront, front_numbered}
 use Rattle.hare_depth.proofs.Lines.{line_of, line_once, line_before, line_behind, around_at, front_line, front_short}
 use Rattle.hare_depth.proofs.Languages.{Reread, Reads}
 use Rattle.hare_depth.proofs.Runs.{Whole, whole, not_all_used, told_in_front}
-use Rattle.hare_depth.proofs.GoesOn.{FrontAt, front_at, goes_on_with, counted_alike, take_twice, front_of_reread}
+use Rattle.hare_depth.proofs.GoesOn.{FrontAt, front_at, goes_on_with, take_twice, front_of_reread}
 use Rattle.hare_depth.proofs.Closings.{Closed, closed}
 
 -- ---- a tree that goes on is read again
@@ -55,9 +54,9 @@ pub record First (q u : List Token) (n : ℕ) : Type 0 where
   pub within : at < length u
   pub line : line_of u at ≡ suc n
   pub read : n < length q
-  pub count : length (strung (take (suc n) q)) ≡ suc at
+  pub count : length (joined (take (suc n) q)) ≡ suc at
 
-pub first_at : (q u : List Token) (n k : ℕ) → u ≡ strung (numbered 1 q) → k < length u → line_of u k ≡ suc n → First q u n
+pub first_at : (q u : List Token) (n k : ℕ) → u ≡ joined (numbered 1 q) → k < length u → line_of u k ≡ suc n → First q u n
 first_at q u n k e d i =
     let v = around_at u k d in
     let b = is_numbered q v.before v.token v.behind (sym e ∙ v.is) in
@@ -67,11 +66,11 @@ first_at q u n k e d i =
       within = d;
       line = i;
       read = subst (λ x. x < length q) m b.within;
-      count = ap (λ x. length (strung (take (suc x) q))) (sym m) ∙ b.count ∙ ap suc v.count;
+      count = ap (λ x. length (joined (take (suc x) q))) (sym m) ∙ b.count ∙ ap suc v.count;
     }
 
 -- what is told stands among the tokens that are used
-told_first : {T : Type 0} (l : Language T) (q u : List Token) (told : List ℕ) (high n : ℕ) → u ≡ strung (numbered 1 q) → Closed l u told high → suc n < high → IsOn (suc n) told → First q u n
+told_first : {T : Type 0} (l : Language T) (q u : List Token) (told : List ℕ) (high n : ℕ) → u ≡ joined (numbered 1 q) → Closed l u told high → suc n < high → IsOn (suc n) told → First q u n
 told_first l q u told high n e c d i = by (on_map (line_of (u ++ c.after)) (suc n) (l.deep_of c.tree) (c.forced (suc n) i))
   where
     by : (k : ℕ) × IsOn k (l.deep_of c.tree) × (suc n ≡ line_of (u ++ c.after) k) → First q u n
@@ -87,7 +86,7 @@ told_there sg se l st s ts u next trees told n r i f =
     let q = take f.read ts in
     let size : length q ≡ f.read = length-take-le f.read ts f.within in
     let high = suc (suc n) + f.read in
-    let asc : Ascends 1 u high = subst (λ v. Ascends 1 v high) (sym f.is) (ascends_to 1 (strung (numbered 1 q)) (1 + length q) high (omega (arith, size)) (strung_ascends 1 q)) in
+    let asc : Ascends 1 u high = subst (λ v. Ascends 1 v high) (sym f.is) (ascends_to 1 (joined (numbered 1 q)) (1 + length q) high (omega (arith, size)) (joined_ascends 1 q)) in
     let c = closed sg se l st s u next trees told high asc r in
     let a = told_first l q u told high n f.is c (omega arith) i in
     let g = goes_on_with l st s q u c.behind c.tree c.shaped f.is c.spelled in
@@ -98,16 +97,16 @@ told_there sg se l st s ts u next trees told n r i f =
       holds = omega (arith, a.read, size);
       viable = (c.tree, g);
       at = a.at;
-      is_at = ap (λ x. length (joined x)) (sym t) ∙ sym (counted_alike l st s (suc n) q c.tree g) ∙ a.count;
+      is_at = ap (λ x. length (joined x)) (sym t) ∙ a.count;
       forced = λ tree h. again q a tree h (s.rereads (q ++ h.behind) tree h.shaped h.spelled) f.is;
     }
   where
-    again : (q : List Token) (a : First q u n) (tree : _) (h : GoesOn l q tree) → Reread l st (q ++ h.behind) tree → u ≡ strung (numbered 1 q) → IsOn a.at (l.deep_of tree)
+    again : (q : List Token) (a : First q u n) (tree : _) (h : GoesOn l q tree) → Reread l st (q ++ h.behind) tree → u ≡ joined (numbered 1 q) → IsOn a.at (l.deep_of tree)
     again q a tree h k e =
-        let x : IsFront u (strung (numbered 1 (q ++ h.behind))) = subst (λ v. IsFront v (strung (numbered 1 (q ++ h.behind)))) (sym e) (front_numbered q h.behind) in
+        let x : IsFront u (joined (numbered 1 (q ++ h.behind))) = subst (λ v. IsFront v (joined (numbered 1 (q ++ h.behind)))) (sym e) (front_numbered q h.behind) in
         told_again sg se l st s u next trees told a.at r a.within (subst (λ y. IsOn y told) (sym a.line) i) (q ++ h.behind) tree k (front_of_reread l st u (q ++ h.behind) tree k x)
 
 pub told_faults : {T : Type 0} → StepsGain → StepsEnd → (l : Language T) (st : List Symbol) → Reads l st → (ts : List Token) (n : ℕ) → IsOn (suc n) (gauge (seen ts) st start).faults → IsDepthFault l ts n
 told_faults sg se l st s ts n i =
-    let h = halting 0 (strung (numbered 1 ts)) st bottom in
-    told_there sg se l st s ts h.used h.next h.trees h.told n h.reaches (subst (IsOn (suc n)) (halting_faults 0 (strung (numbered 1 ts)) st bottom h) i) (front_at ts h.used h.rest h.split)
+    let h = halting 0 (joined (numbered 1 ts)) st bottom in
+    told_there sg se l st s ts h.used h.next h.trees h.told n h.reaches (subst (IsOn (suc n)) (halting_faults 0 (joined (numbered 1 ts)) st bottom h) i) (front_at ts h.used h.rest h.split)

@@ -7,19 +7,17 @@ use Rattle.hare_tree.specs.Node.{Node, branch, head}
 use Rattle.hare_tree.specs.Spell.{sign_token, spell}
 use Rattle.hare_tree.specs.Shape.{is_shaped}
 use Rattle.hare_tree.specs.Depth.{is_node, deep_root}
-use Rattle.hare_tree.specs.Grammar.{Spells, trees_of, unplaced}
+use Rattle.hare_tree.specs.Grammar.{Spells, trees_of, unplaced, joined}
 use Rattle.hare_grammar.specs.Rows.{of}
 use Rattle.hare_grammar.specs.Engine.{Group, add, Done, run, bottom}
 use Rattle.hare_grammar.proofs.Kids.{closer}
 use Rattle.hare_grammar.proofs.OneTree.{read_whole, sorts_have_one_tree}
 use Rattle.hare_parsing.specs.Viable.{has_trees}
-use Rattle.hare_parsing.specs.Faults.{strung}
 use Rattle.hare_parsing.proofs.Alike.{classes}
 use Rattle.hare_parsing.proofs.Breaks.{trees_sort, trees_end}
 use Rattle.hare_parsing.proofs.Readings.{runs_read_trees}
 use Rattle.hare_parsing.proofs.Moved.{spell_moved}
 use Rattle.hare_parsing.proofs.Faults.{tree_loose}
-use Rattle.hare_parsing.proofs.FileFaults.{trees_join}
 use Rattle.hare_depth.specs.Gauge.{numbered, nodes_in}
 use Rattle.hare_depth.proofs.Piles.{mark, faults_of, pile_faults, Gains}
 use Rattle.hare_depth.proofs.AtStart.{sort_at_start, none_at_start, plain_alone, tree_alone}
@@ -28,7 +26,7 @@ use Rattle.hare_depth.proofs.Letter.{faults_agree, agrees}
 use Rattle.hare_depth.proofs.Placeless.{roots_pass_alike}
 use Rattle.hare_depth.proofs.Inside.{root_inside}
 use Rattle.hare_depth.proofs.Gaining.{Ascends}
-use Rattle.hare_depth.proofs.Numbers.{with_number, unplaced_both, plain_classes, ascends_append, strung_ascends}
+use Rattle.hare_depth.proofs.Numbers.{with_number, unplaced_both, plain_classes, ascends_append, joined_ascends}
 use Rattle.hare_depth.proofs.Lines.{line_of, rises}
 use Rattle.hare_depth.proofs.Runs.{done_like}
 use Rattle.hare_depth.proofs.Languages.{faulty_alike, Faulty, Read, Reread, Reads}
@@ -81,23 +79,23 @@ made_tree s c u z top made a d =
 abbrev reread_end : Sort → List Token → Token
 reread_end s ts = with_number (1 + length ts) (sign_token 0 (closer s))
 
-reread_ascends : (s : Sort) (ts : List Token) → Ascends 1 (strung (numbered 1 ts) ++ reread_end s ts ∷ []) (2 + length ts)
+reread_ascends : (s : Sort) (ts : List Token) → Ascends 1 (joined (numbered 1 ts) ++ reread_end s ts ∷ []) (2 + length ts)
 unfolding Ascends
-reread_ascends s ts = ascends_append 1 (strung (numbered 1 ts)) (1 + length ts) (reread_end s ts ∷ []) (2 + length ts) (strung_ascends 1 ts) (omega arith, omega arith)
+reread_ascends s ts = ascends_append 1 (joined (numbered 1 ts)) (1 + length ts) (reread_end s ts ∷ []) (2 + length ts) (joined_ascends 1 ts) (omega arith, omega arith)
 
 -- the tokens of the tree, but for places
-reread_tokens : (s : Sort) → has_trees s ≡ true → (ts : List Token) (t : Node) → is_shaped s t ≡ true → Spells (spell 0 t) ts → map unplaced (strung (numbered 1 ts)) ≡ spell 0 t
-reread_tokens s c ts t h e = unplaced_both 1 ts ∙ ap (map unplaced) (trees_join s c ts t h e) ∙ sym e ∙ spell_moved 0 t
+reread_tokens : (s : Sort) → has_trees s ≡ true → (ts : List Token) (t : Node) → is_shaped s t ≡ true → Spells (spell 0 t) ts → map unplaced (joined (numbered 1 ts)) ≡ spell 0 t
+reread_tokens s c ts t h e = unplaced_both 1 ts ∙ sym e ∙ spell_moved 0 t
 
-reread_classes : (s : Sort) (ts : List Token) (t : Node) → map unplaced (strung (numbered 1 ts)) ≡ spell 0 t → classes (strung (numbered 1 ts) ++ reread_end s ts ∷ []) ≡ classes (spell 0 t ++ sign_token 0 (closer s) ∷ [])
+reread_classes : (s : Sort) (ts : List Token) (t : Node) → map unplaced (joined (numbered 1 ts)) ≡ spell 0 t → classes (joined (numbered 1 ts) ++ reread_end s ts ∷ []) ≡ classes (spell 0 t ++ sign_token 0 (closer s) ∷ [])
 reread_classes s ts t e =
     let z = sign_token 0 (closer s) in
-    plain_classes _ _ (map-append unplaced (strung (numbered 1 ts)) (reread_end s ts ∷ []) ∙ ap (λ l. l ++ z ∷ []) (e ∙ sym (spell_moved 0 t)) ∙ sym (map-append unplaced (spell 0 t) (z ∷ [])))
+    plain_classes _ _ (map-append unplaced (joined (numbered 1 ts)) (reread_end s ts ∷ []) ∙ ap (λ l. l ++ z ∷ []) (e ∙ sym (spell_moved 0 t)) ∙ sym (map-append unplaced (spell 0 t) (z ∷ [])))
 
 pub reread_tree : (s : Sort) → has_trees s ≡ true → (ts : List Token) (t : Node) → is_shaped s t ≡ true → Spells (spell 0 t) ts → Reread (trees_of s) (of s ∷ []) ts t
 reread_tree s c ts t h e =
     let o = trees_sort s c in
-    let u = strung (numbered 1 ts) in
+    let u = joined (numbered 1 ts) in
     let z = reread_end s ts in
     let i = reread_tokens s c ts t h e in
     let d = done_like 0 0 u (spell 0 t ++ sign_token 0 (closer s) ∷ []) z (sign_token 0 (closer s)) (of s ∷ []) bottom bottom _ (reread_classes s ts t i) (read_whole 0 s t o h) in

@@ -11,9 +11,9 @@ use Rattle.hare_grammar.specs.declared.rule.Symbol.{Symbol}
 use Rattle.hare_grammar.specs.declared.rule.Symbol.TheVariants as sy
 use Rattle.hare_grammar.specs.Rows.{Row, Fault, Skips, Uses}
 use Rattle.hare_grammar.specs.Table.{row}
-use Rattle.hare_parsing.specs.Faults.{strung, ends_in_string}
+use Rattle.hare_tree.specs.Grammar.{joined, ends_in_string}
 use Rattle.hare_parsing.proofs.Apart.{of_junk}
-use Rattle.hare_parsing.proofs.Strung.{strung_append}
+use Rattle.hare_parsing.proofs.Joined.{joined_append}
 use Rattle.hare_parsing.proofs.Viable.{end}
 use Rattle.hare_depth.specs.Marks.{Frame, close}
 use Rattle.hare_depth.specs.Gauge.{Step, Goes, Ends, Stuck, acted, step, Seen, found, nodes_in, after, gauge, numbered, seen_in, seen}
@@ -73,8 +73,8 @@ gauge_unused (t ∷ w) x st fs c = by (step t.number t.class st fs) (λ st' fs'.
 seen_closed : (ts : List Token) → (x : Seen) × ((seen (closed ts) ≡ seen ts ++ x ∷ []) × (x.class ≡ cl.Junk))
 seen_closed ts =
     let a : numbered 1 (closed ts) ≡ numbered 1 ts ++ numbered (1 + length ts) (end ∷ []) = numbered_append 1 ts (end ∷ []) in
-    let b : strung (numbered 1 (closed ts)) ≡ strung (numbered 1 ts) ++ numbered (1 + length ts) (end ∷ []) = ap strung a ∙ strung_append (numbered 1 ts) (numbered (1 + length ts) (end ∷ [])) (apart (ends_in_string (numbered 1 ts))) in
-    (record { class = cl.Junk; number = 1 + length ts }, (ap (map seen_in) b ∙ map-append seen_in (strung (numbered 1 ts)) (numbered (1 + length ts) (end ∷ [])), refl))
+    let b : joined (numbered 1 (closed ts)) ≡ joined (numbered 1 ts) ++ numbered (1 + length ts) (end ∷ []) = ap joined a ∙ joined_append (numbered 1 ts) (numbered (1 + length ts) (end ∷ [])) (apart (ends_in_string (numbered 1 ts))) in
+    (record { class = cl.Junk; number = 1 + length ts }, (ap (map seen_in) b ∙ map-append seen_in (joined (numbered 1 ts)) (numbered (1 + length ts) (end ∷ [])), refl))
   where
     apart : (b : Bool) → (b && false) ≡ false
     apart true = refl

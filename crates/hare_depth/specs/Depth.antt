@@ -6,12 +6,11 @@ use Rattle.hare_tree.specs.Node.{Node}
 use Rattle.hare_tree.specs.declared.token.TokenKind.TheVariants as tk
 use Rattle.hare_tree.specs.Spell.{start_of, word_token}
 use Rattle.hare_tree.specs.Depth.{deep_root}
-use Rattle.hare_tree.specs.Grammar.{Language, trees_of, files, IsOn, IsDepthFault}
+use Rattle.hare_tree.specs.Grammar.{Language, trees_of, files, IsOn, IsDepthFault, joined}
 use Rattle.hare_grammar.specs.Rows.{of}
 use Rattle.hare_grammar.specs.Engine.{add, Done, run, bottom, begun}
 use Rattle.hare_grammar.specs.OneTree.{file_symbols}
 use Rattle.hare_parsing.specs.Viable.{has_trees}
-use Rattle.hare_parsing.specs.Faults.{strung}
 use Rattle.hare_depth.specs.Gauge.{Gauged, gauge, seen, start}
 
 -- tokens with End behind them
@@ -38,8 +37,8 @@ FileGaugesTell = (ts : List Token) → TellsDepth files ts (gauged_file ts)
 -- a tree that was read while nothing was told keeps the limits
 abbrev pub GaugedTreesFit : Type 0
 GaugedTreesFit =
-    (s : Sort) → has_trees s ≡ true → (file : ℕ) (ts rest : List Token) (tree : Node) → run file (strung ts) (of s ∷ []) bottom ≡ Done rest (add tree bottom) → (gauged s ts).faults ≡ [] → deep_root tree ≡ []
+    (s : Sort) → has_trees s ≡ true → (file : ℕ) (ts rest : List Token) (tree : Node) → run file (joined ts) (of s ∷ []) bottom ≡ Done rest (add tree bottom) → (gauged s ts).faults ≡ [] → deep_root tree ≡ []
 
 abbrev pub GaugedFilesFit : Type 0
 GaugedFilesFit =
-    (file : ℕ) (ts rest : List Token) (uses decls : List Node) → run file (strung ts) file_symbols bottom ≡ Done rest (begun (start_of 0) (uses ++ decls) ∷ []) → (gauged_file ts).faults ≡ [] → files.deep_of (record { file = file; uses = uses; decls = decls }) ≡ []
+    (file : ℕ) (ts rest : List Token) (uses decls : List Node) → run file (joined ts) file_symbols bottom ≡ Done rest (begun (start_of 0) (uses ++ decls) ∷ []) → (gauged_file ts).faults ≡ [] → files.deep_of (record { file = file; uses = uses; decls = decls }) ≡ []

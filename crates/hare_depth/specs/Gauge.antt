@@ -11,7 +11,7 @@ use Rattle.hare_grammar.specs.declared.rule.Symbol.TheVariants as sy
 use Rattle.hare_grammar.specs.Classes.{class_of}
 use Rattle.hare_grammar.specs.Rows.{Row, Fault, Skips, Uses, has_sign}
 use Rattle.hare_grammar.specs.Table.{row}
-use Rattle.hare_parsing.specs.Faults.{strung}
+use Rattle.hare_tree.specs.Grammar.{joined}
 use Rattle.hare_depth.specs.Marks.{Mark, Frame, lies_before, first_in, close, all_changed}
 
 -- ---- which of the trees under way are nodes
@@ -149,4 +149,4 @@ seen_in t = record { class = class_of t; number = t.place.line }
 
 -- what the gauge sees of the tokens of a file, of which strings side by side are one, with the number of the first of them
 abbrev pub seen : List Token → List Seen
-seen ts = map seen_in (strung (numbered 1 ts))
+seen ts = map seen_in (joined (numbered 1 ts))

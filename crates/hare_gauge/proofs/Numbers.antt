@@ -11,7 +11,7 @@ use Rattle.hare_tree.specs.declared.token.Token.{Token}
 use Rattle.hare_tree.specs.Node.{Head}
 use Rattle.hare_grammar.specs.declared.class.Class.{Class}
 use Rattle.hare_grammar.specs.Classes.{class_of, class_in}
-use Rattle.hare_parsing.specs.Faults.{is_proper_string, strung}
+use Rattle.hare_tree.specs.Grammar.{is_proper_string, joined}
 use Rattle.hare_depth.specs.Gauge.{Seen, seen_in, numbered}
 use Rattle.hare_gauge.specs.Width.{strings_in_front, width}
 use Rattle.hare_gauge.specs.Gauged.{seen_from}
@@ -58,7 +58,7 @@ seen_next n t ts =
     let f = front (renumbered n t) (numbered (suc n) ts) in
     let d = ap (λ m. drop m (numbered n (t ∷ ts))) (width_numbered n (t ∷ ts)) ∙ numbered_drop (width (t ∷ ts)) n (t ∷ ts) in
     let a = seen_token f.token (class_of t) n (f.class ∙ class_numbered n t) (ap (λ p. p.line) f.place) in
-    ap (map seen_in) f.joins ∙ ap (λ us. seen_in f.token ∷ map seen_in (strung us)) d
+    ap (map seen_in) f.joins ∙ ap (λ us. seen_in f.token ∷ map seen_in (joined us)) d
     ∙ ap (λ s. s ∷ seen_from (n + width (t ∷ ts)) (drop (width (t ∷ ts)) (t ∷ ts))) a
 
 -- ---- at a place of the list

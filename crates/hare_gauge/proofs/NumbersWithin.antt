@@ -11,7 +11,7 @@ use Rattle.hare_grammar.specs.declared.rule.Change.{Change}
 use Rattle.hare_grammar.specs.declared.rule.Change.TheVariants as ch
 use Rattle.hare_grammar.specs.Rows.{Row, Fault, Skips, Uses, has_sign}
 use Rattle.hare_grammar.specs.Table.{row}
-use Rattle.hare_parsing.specs.Faults.{is_proper_string, strung_to, strung}
+use Rattle.hare_tree.specs.Grammar.{is_proper_string, joined_to, joined}
 use Rattle.hare_parsing.proofs.Used.{merged}
 use Rattle.hare_depth.specs.Marks.{Mark, Frame, lies_before, first_in, mark_as, last_mark, but_last_mark, put, close, over, lift, changed, all_changed}
 use Rattle.hare_depth.specs.Gauge.{opened, nodes_in, deep_frame, deep_last, high_operand, found, Step, Goes, Ends, Stuck, wanted, acted, step, Seen, Gauged, after, gauge, start, numbered, seen_in, seen}
@@ -158,17 +158,17 @@ module _ (P : ℕ → Type 0) where
   abbrev LineIn : Token → Type 0
   LineIn t = P t.place.line
 
-  strung_to_in : (t : Token) (js : List Token) → LineIn t → AllByRecursion LineIn js → AllByRecursion LineIn (strung_to t js)
-  strung_to_in t [] h k = (h, tt)
-  strung_to_in t (u ∷ us) h k = by (is_proper_string t) (is_proper_string u) where
+  joined_to_in : (t : Token) (js : List Token) → LineIn t → AllByRecursion LineIn js → AllByRecursion LineIn (joined_to t js)
+  joined_to_in t [] h k = (h, tt)
+  joined_to_in t (u ∷ us) h k = by (is_proper_string t) (is_proper_string u) where
     by : (b d : Bool) → AllByRecursion LineIn (if b then (if d then merged t u ∷ us else t ∷ u ∷ us) else t ∷ u ∷ us)
     by true true = (h, k.1)
     by true false = (h, k)
     by false d = (h, k)
 
-  strung_in : (ts : List Token) → AllByRecursion LineIn ts → AllByRecursion LineIn (strung ts)
-  strung_in [] h = tt
-  strung_in (t ∷ ts) h = strung_to_in t (strung ts) h.0 (strung_in ts h.1)
+  joined_in : (ts : List Token) → AllByRecursion LineIn ts → AllByRecursion LineIn (joined ts)
+  joined_in [] h = tt
+  joined_in (t ∷ ts) h = joined_to_in t (joined ts) h.0 (joined_in ts h.1)
 
   seen_in_each : (ts : List Token) → AllByRecursion LineIn ts → AllByRecursion (λ s. P s.number) (map seen_in ts)
   seen_in_each [] h = tt
@@ -186,7 +186,7 @@ faults_within (t ∷ ts) st =
     let P : ℕ → Type 0 = λ n. (0 < n) × (n ≤ length (t ∷ ts)) in
     let o : P 1 = (omega arith, omega arith) in
     let l = numbered_in P 1 (t ∷ ts) (λ m a b. (omega arith, omega arith)) in
-    gauge_in P (seen (t ∷ ts)) st start o (seen_in_each P (strung (numbered 1 (t ∷ ts))) (strung_in P (numbered 1 (t ∷ ts)) l)) ((o, tt), tt)
+    gauge_in P (seen (t ∷ ts)) st start o (seen_in_each P (joined (numbered 1 (t ∷ ts))) (joined_in P (numbered 1 (t ∷ ts)) l)) ((o, tt), tt)
 
 pub told_within : (ts : List Token) (from : ℕ) (st : List Symbol) (n : ℕ) → least (gauged_from ts from st).faults ≡ Some n → (0 < n) × (from + n ≤ length ts)
 told_within ts from st n e =

@@ -6,12 +6,10 @@ use Rattle.std.proofs.lemmas.List.{drop-drop}
 use Rattle.hare_tree.specs.declared.token.Token.{Token}
 use Rattle.hare_grammar.specs.declared.class.Class.TheVariants as cl
 use Rattle.hare_grammar.specs.Classes.{class_of}
-use Rattle.hare_parsing.specs.Faults.{is_proper_string, strung_to, strung, ends_in_string, begins_with_string}
-use Rattle.hare_parsing.proofs.Strung.{proper_number}
-use Rattle.hare_parsing.proofs.Used.{merged}
+use Rattle.hare_tree.specs.Grammar.{is_proper_string, joined_to, joined, ends_in_string, begins_with_string}
 use Rattle.hare_table.specs.Joined.{BeginsWith}
 use Rattle.hare_gauge.specs.Width.{strings_in_front, width}
-use Rattle.hare_table.proofs.Joining.{read_drop, drop_past, join_no, string_is}
+use Rattle.hare_table.proofs.Joining.{read_drop, drop_past, join_no, string_is, merged}
 
 pub strings_at_more : (ts : List Token) (n : ℕ) (t : Token) → slice_get ts n ≡ Some t → is_proper_string t ≡ true → strings_in_front (drop n ts) ≡ 1 + strings_in_front (drop (n + 1) ts)
 strings_at_more ts n t h p = ap strings_in_front (read_drop ts n t (sym h)) ∙ rw p (one_more (strings_in_front (drop (n + 1) ts))) where
@@ -37,7 +35,7 @@ width_other ts n t h p = ap width (read_drop ts n t (sym h)) ∙ rw p refl
 -- it stands at the first of the list, and is a string where that is one
 pub record Front (t : Token) (ts : List Token) : Type 0 where
   pub token : Token
-  pub joins : strung (t ∷ ts) ≡ token ∷ strung (drop (width (t ∷ ts)) (t ∷ ts))
+  pub joins : joined (t ∷ ts) ≡ token ∷ joined (drop (width (t ∷ ts)) (t ∷ ts))
   pub place : token.place ≡ t.place
   pub proper : is_proper_string token ≡ is_proper_string t
   pub class : class_of token ≡ class_of t
@@ -45,21 +43,21 @@ pub record Front (t : Token) (ts : List Token) : Type 0 where
 text_class : (t : Token) → is_proper_string t ≡ true → class_of t ≡ cl.Text
 text_class t e = ap class_of (string_is t e)
 
-front_alone : (t : Token) (ts : List Token) → width (t ∷ ts) ≡ 1 → strung (t ∷ ts) ≡ t ∷ strung ts → Front t ts
-front_alone t ts w e = record { token = t; joins = e ∙ ap (λ n. t ∷ strung (drop n (t ∷ ts))) (sym w); place = refl; proper = refl; class = refl }
+front_alone : (t : Token) (ts : List Token) → width (t ∷ ts) ≡ 1 → joined (t ∷ ts) ≡ t ∷ joined ts → Front t ts
+front_alone t ts w e = record { token = t; joins = e ∙ ap (λ n. t ∷ joined (drop n (t ∷ ts))) (sym w); place = refl; proper = refl; class = refl }
 
 front_other : (t : Token) (ts : List Token) → is_proper_string t ≡ false → Front t ts
-front_other t ts e = front_alone t ts (rw e refl) (join_no t (strung ts) e)
+front_other t ts e = front_alone t ts (rw e refl) (join_no t (joined ts) e)
 
 -- a string in front of what another one begins
 front_more : (t u : Token) (us : List Token) → is_proper_string t ≡ true → is_proper_string u ≡ true → Front u us → Front t (u ∷ us)
 front_more t u us a b f =
     let c : is_proper_string f.token ≡ true = f.proper ∙ b in
-    let m : is_proper_string (merged t f.token) ≡ true = rw (proper_number t a, proper_number f.token c) refl in
+    let m : is_proper_string (merged t f.token) ≡ true = refl in
     let w : width (t ∷ u ∷ us) ≡ suc (width (u ∷ us)) = rw (a, b) refl in
     record {
       token = merged t f.token;
-      joins = ap (strung_to t) f.joins ∙ rw (a, c) refl ∙ ap (λ n. merged t f.token ∷ strung (drop n (t ∷ u ∷ us))) (sym w);
+      joins = ap (joined_to t) f.joins ∙ rw (a, c) refl ∙ ap (λ n. merged t f.token ∷ joined (drop n (t ∷ u ∷ us))) (sym w);
       place = refl;
       proper = m ∙ sym a;
       class = text_class (merged t f.token) m ∙ sym (text_class t a);
@@ -70,7 +68,7 @@ front_string t [] a = front_alone t [] (rw a refl) refl
 front_string t (u ∷ us) a = by (is_proper_string u) refl (λ b. front_string u us b) where
   by : (p : Bool) → is_proper_string u ≡ p → (is_proper_string u ≡ true → Front u us) → Front t (u ∷ us)
   by true b f = front_more t u us a b (f b)
-  by false b f = front_alone t (u ∷ us) (rw (a, b) refl) (ap (strung_to t) (join_no u (strung us) b) ∙ rw (a, b) refl ∙ ap (λ js. t ∷ js) (sym (join_no u (strung us) b)))
+  by false b f = front_alone t (u ∷ us) (rw (a, b) refl) (ap (joined_to t) (join_no u (joined us) b) ∙ rw (a, b) refl ∙ ap (λ js. t ∷ js) (sym (join_no u (joined us) b)))
 
 pub front : (t : Token) (ts : List Token) → Front t ts
 front t ts = by (is_proper_string t) refl where
@@ -104,8 +102,8 @@ and_false : (b : Bool) → (b && false) ≡ false
 and_false true = refl
 and_false false = refl
 
-front_parted : (t : Token) (ts : List Token) → (ends_in_string (take (width (t ∷ ts)) (t ∷ ts)) && begins_with_string (drop (width (t ∷ ts)) (t ∷ ts))) ≡ false
-front_parted t ts = by (is_proper_string t) refl where
+front_apart : (t : Token) (ts : List Token) → (ends_in_string (take (width (t ∷ ts)) (t ∷ ts)) && begins_with_string (drop (width (t ∷ ts)) (t ∷ ts))) ≡ false
+front_apart t ts = by (is_proper_string t) refl where
   by : (p : Bool) → is_proper_string t ≡ p → (ends_in_string (take (width (t ∷ ts)) (t ∷ ts)) && begins_with_string (drop (width (t ∷ ts)) (t ∷ ts))) ≡ false
   by true a = rw (a, strings_end ts) (and_false (ends_in_string (take (suc (strings_in_front ts)) (t ∷ ts))))
   by false a = rw (a, a) refl
@@ -126,8 +124,8 @@ begins_with_front ts at next t h n =
     let l = length-drop at ts in
     let s = ap length e in
     record {
-      joins = ap strung e ∙ f.joins ∙ ap (λ us. f.token ∷ strung us) d;
+      joins = ap joined e ∙ f.joins ∙ ap (λ us. f.token ∷ joined us) d;
       further = omega (arith, v.0);
       within = omega (arith, v.1, l, s);
-      stands = record { behind = rw (k, e) (ap strung (sym d)); parted = rw (k, e) (front_parted t vs) };
+      stands = record { behind = rw (k, e) (ap joined (sym d)); apart = rw (k, e) (front_apart t vs) };
     }

@@ -1,9 +1,8 @@
 -- What the gauge of the program answers, in the words of the gauge of depth.
 use Rattle.std.specs.Prelude.{◌≡◌, ℕ, suc, ◌+◌, ◌-◌, ◌≤◌, List, [], drop, map, Bool, true, false, Option, Some, None}
 use Rattle.hare_tree.specs.declared.token.Token.{Token}
-use Rattle.hare_tree.specs.Grammar.{IsOn}
+use Rattle.hare_tree.specs.Grammar.{IsOn, joined}
 use Rattle.hare_grammar.specs.declared.rule.Symbol.{Symbol}
-use Rattle.hare_parsing.specs.Faults.{strung}
 use Rattle.hare_depth.specs.Marks.{Frame}
 use Rattle.hare_depth.specs.Gauge.{Step, Goes, Ends, Stuck, Seen, Gauged, seen_in, numbered, seen, start, gauge}
 use Rattle.hare_table.specs.declared.answer.Answer.{Answer}
@@ -20,7 +19,7 @@ Answers Stuck a st' fs' = a ≡ an.Stuck
 
 -- what the gauge sees of these tokens, of which the first has this number
 abbrev pub seen_from : ℕ → List Token → List Seen
-seen_from n ts = map seen_in (strung (numbered n ts))
+seen_from n ts = map seen_in (joined (numbered n ts))
 
 -- ---- runs
 

@@ -5,11 +5,10 @@ use Rattle.hare_tree.specs.declared.form.Sort.{Sort}
 use Rattle.hare_tree.specs.Node.{Node}
 use Rattle.hare_tree.specs.Spell.{start_of}
 use Rattle.hare_tree.specs.Depth.{deep_root}
-use Rattle.hare_tree.specs.Grammar.{Language, files, IsDepthFault}
+use Rattle.hare_tree.specs.Grammar.{Language, files, IsDepthFault, joined}
 use Rattle.hare_grammar.specs.Rows.{of}
 use Rattle.hare_grammar.specs.Engine.{add, begun, Done, run, bottom}
 use Rattle.hare_grammar.specs.OneTree.{file_symbols}
-use Rattle.hare_parsing.specs.Faults.{strung}
 use Rattle.hare_depth.specs.Depth.{closed}
 
 -- The place in the list, which begins at `at`, of the first token at which a limit is passed; none where no limit is passed.
@@ -20,9 +19,9 @@ IsFirstDepth l ts at (Some n) = (at ≤ n) × IsDepthFault l ts (n - at) × ((m 
 -- a tree that the machine has read, with End behind the tokens, keeps the limits
 abbrev pub TreesFit : Sort → List Token → Type 0
 TreesFit s ts =
-    (file : ℕ) (rest : List Token) (tree : Node) → run file (strung (closed ts)) (of s ∷ []) bottom ≡ Done rest (add tree bottom) → deep_root tree ≡ []
+    (file : ℕ) (rest : List Token) (tree : Node) → run file (joined (closed ts)) (of s ∷ []) bottom ≡ Done rest (add tree bottom) → deep_root tree ≡ []
 
 -- and so does a file
 abbrev pub FilesFit : List Token → Type 0
 FilesFit ts =
-    (file : ℕ) (rest : List Token) (uses decls : List Node) → run file (strung ts) file_symbols bottom ≡ Done rest (begun (start_of 0) (uses ++ decls) ∷ []) → files.deep_of (record { file = file; uses = uses; decls = decls }) ≡ []
+    (file : ℕ) (rest : List Token) (uses decls : List Node) → run file (joined ts) file_symbols bottom ≡ Done rest (begun (start_of 0) (uses ++ decls) ∷ []) → files.deep_of (record { file = file; uses = uses; decls = decls }) ≡ []

@@ -17,6 +17,7 @@ use Rattle.hare_tree.specs.Signs.{is_sign}
 use Rattle.hare_tree.specs.Spell.{start_of, word_token, spell, spells, spell_all, spell_file}
 use Rattle.hare_tree.specs.Shape.{is_shaped, is_shaped_file, stops}
 use Rattle.hare_tree.specs.Depth.{begins_led}
+use Rattle.hare_tree.proofs.Fitting.{fits_file_parts}
 use Rattle.hare_tree.specs.Grammar.{HavePlaces, unplaced, joined}
 use Rattle.hare_grammar.specs.declared.class.Class.{Class}
 use Rattle.hare_grammar.specs.declared.class.Class.TheVariants as cl
@@ -281,9 +282,15 @@ tokens_have_one_file file ts t t' p p' =
     let i : t.file ≡ t'.file = p.file_is ∙ sym p'.file_is in
     let e : spell_file t ≡ spell_file t' =
     sym (still_file t) ∙ sym (put_unplaced t.file (spell_file t)) ∙ ap (λ u. map (put_at t.file) u) (p.spelled ∙ sym p'.spelled) ∙ put_unplaced t.file (spell_file t') ∙ ap (λ y. map (put_at y) (spell_file t')) i ∙ still_file t' in
-    let q = files_have_one_tree t t' i p.shaped p'.shaped e in
+    let q = files_have_one_tree t t' i (fits_file_parts t p.fits).0 (fits_file_parts t' p'.fits).0 e in
     let us : map (plain file) t.uses ≡ map (plain file) t'.uses = subst (λ y. map (plain y) t.uses ≡ map (plain file) t'.uses) p.file_is (subst (λ y. map (plain t.file) t.uses ≡ map (plain y) t'.uses) p'.file_is (ap (λ y. y.uses) q)) in
     let ds : map (plain file) t.decls ≡ map (plain file) t'.decls = subst (λ y. map (plain y) t.decls ≡ map (plain file) t'.decls) p.file_is (subst (λ y. map (plain t.file) t.decls ≡ map (plain y) t'.decls) p'.file_is (ap (λ y. y.decls) q)) in
-    let a = side_by_side file (joined ts) 0 0 t.uses t'.uses refl us p.uses_placed p'.uses_placed in
-    let b = side_by_side file (joined ts) (length (spell_all 0 t.uses)) (length (spell_all 0 t'.uses)) t.decls t'.decls (ap (λ y. length (spell_all 0 y)) a) ds p.decls_placed p'.decls_placed in
+    let pu = subst (λ y. HavePlaces y (joined ts) (begins_led le.Nothing 0 (spells 0 (nodes_of t.uses))) (nodes_of t.uses)) p.file_is p.placed.uses in
+    let pu' = subst (λ y. HavePlaces y (joined ts) (begins_led le.Nothing 0 (spells 0 (nodes_of t'.uses))) (nodes_of t'.uses)) p'.file_is p'.placed.uses in
+    let n = length (spell_all 0 t.uses) in
+    let n' = length (spell_all 0 t'.uses) in
+    let pd = subst (λ y. HavePlaces y (joined ts) (begins_led le.Nothing n (spells 0 (nodes_of t.decls))) (nodes_of t.decls)) p.file_is p.placed.decls in
+    let pd' = subst (λ y. HavePlaces y (joined ts) (begins_led le.Nothing n' (spells 0 (nodes_of t'.decls))) (nodes_of t'.decls)) p'.file_is p'.placed.decls in
+    let a = side_by_side file (joined ts) 0 0 t.uses t'.uses refl us pu pu' in
+    let b = side_by_side file (joined ts) n n' t.decls t'.decls (ap (λ y. length (spell_all 0 y)) a) ds pd pd' in
     same_file t t' i a b

@@ -12,6 +12,7 @@ use Rattle.hare_tree.specs.Spell.{start_of, Spelled, piece_tokens, pieces_tokens
 use Rattle.hare_tree.specs.Shape.{is_none}
 use Rattle.hare_tree.specs.Spell.{own_tokens, left_behind}
 use Rattle.hare_tree.specs.Depth.{begins as begin_at, begins_in, place_in, is_operator, first_number, numbers_behind}
+use Rattle.hare_tree.proofs.Fitting.{fits_parts}
 use Rattle.hare_tree.specs.Grammar.{HasPlaces, HavePlaces, place_of, joined}
 use Rattle.hare_grammar.specs.OneTree.{plain, plains, plain_head, PlacesDecideTrees, TokensHaveOneTree}
 use Rattle.hare_grammar.proofs.OneTree.{sorts_have_one_tree}
@@ -112,4 +113,4 @@ mutual
 pub tokens_have_one_tree : TokensHaveOneTree
 tokens_have_one_tree s l file ts t t' p p' =
     let e : spell 0 t ≡ spell 0 t' = sym (still_spell 0 t) ∙ p.spelled ∙ sym p'.spelled ∙ still_spell 0 t' in
-    places_decide file (joined ts) 0 t t' (sorts_have_one_tree 0 s l t t' p.shaped p'.shaped e) p.placed p'.placed
+    places_decide file (joined ts) 0 t t' (sorts_have_one_tree 0 s l t t' (fits_parts s t p.fits).0 (fits_parts s t' p'.fits).0 e) p.placed p'.placed

@@ -23,3 +23,4 @@ pub mod WholeBreaks
 pub mod Whole
 pub mod Unique
 pub mod Shorter
+pub mod Ordered

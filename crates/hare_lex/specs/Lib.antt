@@ -1,2 +1,4 @@
 pub mod Lexing
 pub mod Stops
+pub mod Order
+pub mod Sizes

@@ -8,6 +8,7 @@ ghost use Rattle.hare_tree.specs.declared.token.Token.{Token};
 ghost use Rattle.hare_tree.specs.Tokens as spec;
 ghost use Rattle.hare_tree.specs.Tokens.{IsTokens, IsFirstBreak, place_at};
 ghost use Rattle.hare_lex.specs.Lexing.{text_of, string_text, inner};
+ghost use Rattle.hare_lex.specs.Order.{AreInOrder};
 ghost use Rattle.hare_lex.specs.Stops.{Stops, Stopped, GivesTokens, GivesFault};
 
 use crate::front::{Found, at_front};
@@ -21,9 +22,12 @@ use std::alloc::{AllocError, Global};
 ///
 /// The faults are E3 (not UTF-8), E4 (a character that begins no token), E5 (a wrong escape, or a rune that is not one character), E6 (an
 /// opening quote without its closing one), E7 (a number over 2^127 - 1) and E10 (what the language leaves out of Hare).
+///
+/// The tokens are all of the file, and each stands before those behind it.
 pub fn tokens(alloc: Global, file: u32, src: &[u8]) -> Result<Tokens, LexStop>
     requires { length src.now + 1 < 2 ^ 32 }
     ensures ok { IfOk result (λ ts. IsTokens file src.now ts) }
+    ensures order { IfOk result (λ ts. AreInOrder file ts) }
     ensures err { IfErr result (λ e. Stops file src.now e) }
     ensures only_tokens { (ts : List Token) → IsTokens file src.now ts → GivesTokens ts result }
     ensures only_break { (fault : Fault) (kept : List Token) → IsFirstBreak file src.now fault kept → GivesFault fault kept result }

@@ -14,6 +14,6 @@ mod table;
 #[cfg(test)]
 mod tests;
 
-pub use law::text_is_no_longer;
+pub use law::{text_is_no_longer, tokens_are_few, tokens_are_in_order};
 pub use lexer::tokens;
 pub use stop::LexStop;

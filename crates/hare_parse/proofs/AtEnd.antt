@@ -7,9 +7,9 @@ use Rattle.hare_grammar.specs.declared.class.Class.TheVariants as cl
 use Rattle.hare_grammar.specs.declared.rule.Symbol.{Symbol}
 use Rattle.hare_grammar.specs.Classes.{class_of}
 use Rattle.hare_grammar.specs.Engine.{Group, Step, Goes, Ends, Stuck, step, Outcome, Done, Fails, after, run, bottom}
-use Rattle.hare_parsing.specs.Faults.{strung, ends_in_string}
+use Rattle.hare_tree.specs.Grammar.{joined, ends_in_string}
 use Rattle.hare_parsing.proofs.Places.{cut}
-use Rattle.hare_parsing.proofs.Strung.{head, strung_append}
+use Rattle.hare_parsing.proofs.Joined.{head, joined_append}
 use Rattle.hare_parsing.proofs.Viable.{end}
 use Rattle.hare_depth.proofs.Claims.{seen_step}
 use Rattle.hare_depth.proofs.Piles.{frames}
@@ -26,16 +26,16 @@ use Rattle.hare_parse.proofs.Onward.{done_behind, done_more, fails_more}
 
 -- the outcome of a run that stops there
 abbrev pub outcome_at : Bool → List Token → List Group → Outcome
-outcome_at true us gs = Done (strung us) gs
-outcome_at false us gs = Fails (strung us)
+outcome_at true us gs = Done (joined us) gs
+outcome_at false us gs = Fails (joined us)
 
 no_string : (b : Bool) → (b && false) ≡ false
 no_string true = refl
 no_string false = refl
 
 -- End stands by itself behind joined tokens
-pub strung_closed : (ts : List Token) → strung (closed ts) ≡ strung ts ++ closed []
-strung_closed ts = strung_append ts (end ∷ []) (no_string (ends_in_string ts))
+pub joined_closed : (ts : List Token) → joined (closed ts) ≡ joined ts ++ closed []
+joined_closed ts = joined_append ts (end ∷ []) (no_string (ends_in_string ts))
 
 -- no step uses End
 end_unused : (f : ℕ) (st st' : List Symbol) (gs gs' : List Group) → step f end cl.Junk st gs ≡ Goes st' gs' → ⊥
@@ -69,30 +69,30 @@ past : (ts : List Token) (n : ℕ) → length ts ≤ n → drop n ts ≡ []
 past ts n h = drop_all n ts h
 
 -- the tokens from a place within the list on are some
-pub some_left : (ts : List Token) (n : ℕ) → n < length ts → (t : Token) × (rest : List Token) × (strung (drop n ts) ≡ t ∷ rest)
+pub some_left : (ts : List Token) (n : ℕ) → n < length ts → (t : Token) × (rest : List Token) × (joined (drop n ts) ≡ t ∷ rest)
 some_left ts n h =
     let c = cut ts n h in
     let k = head c.first c.behind in
-    (k.first, k.rest, ap strung c.rest ∙ k.is)
+    (k.first, k.rest, ap joined c.rest ∙ k.is)
 
 -- a run that is done at a token of the list
-pub done_closed : (f : ℕ) (ts : List Token) (n : ℕ) (us : List Token) (st : List Symbol) (made : List Group) → run f (strung us) st bottom ≡ Done (strung (drop n ts)) made → run f (strung (closed us)) st bottom ≡ Done (strung (closed (drop n ts))) made
+pub done_closed : (f : ℕ) (ts : List Token) (n : ℕ) (us : List Token) (st : List Symbol) (made : List Group) → run f (joined us) st bottom ≡ Done (joined (drop n ts)) made → run f (joined (closed us)) st bottom ≡ Done (joined (closed (drop n ts))) made
 done_closed f ts n us st made e =
-    let b = done_behind f (strung us) (strung (drop n ts)) st bottom made e in
-    let d = done_more f (strung us) (closed []) st bottom b.0 b.1 made (e ∙ ap (λ y. Done y made) b.2) in
-    ap (λ y. run f y st bottom) (strung_closed us) ∙ d ∙ ap (λ y. Done (y ++ closed []) made) (sym b.2) ∙ ap (λ y. Done y made) (sym (strung_closed (drop n ts)))
+    let b = done_behind f (joined us) (joined (drop n ts)) st bottom made e in
+    let d = done_more f (joined us) (closed []) st bottom b.0 b.1 made (e ∙ ap (λ y. Done y made) b.2) in
+    ap (λ y. run f y st bottom) (joined_closed us) ∙ d ∙ ap (λ y. Done (y ++ closed []) made) (sym b.2) ∙ ap (λ y. Done y made) (sym (joined_closed (drop n ts)))
 
 -- a run that fails at a token of the list
-pub fails_closed : (f : ℕ) (ts : List Token) (n : ℕ) (us : List Token) (st : List Symbol) → n < length ts → run f (strung us) st bottom ≡ Fails (strung (drop n ts)) → run f (strung (closed us)) st bottom ≡ Fails (strung (closed (drop n ts)))
+pub fails_closed : (f : ℕ) (ts : List Token) (n : ℕ) (us : List Token) (st : List Symbol) → n < length ts → run f (joined us) st bottom ≡ Fails (joined (drop n ts)) → run f (joined (closed us)) st bottom ≡ Fails (joined (closed (drop n ts)))
 fails_closed f ts n us st h e =
     let b = some_left ts n h in
-    let d = fails_more f (strung us) (closed []) st bottom b.0 b.1 (e ∙ ap Fails b.2) in
-    ap (λ y. run f y st bottom) (strung_closed us) ∙ d ∙ ap (λ y. Fails (y ++ closed [])) (sym b.2) ∙ ap Fails (sym (strung_closed (drop n ts)))
+    let d = fails_more f (joined us) (closed []) st bottom b.0 b.1 (e ∙ ap Fails b.2) in
+    ap (λ y. run f y st bottom) (joined_closed us) ∙ d ∙ ap (λ y. Fails (y ++ closed [])) (sym b.2) ∙ ap Fails (sym (joined_closed (drop n ts)))
 
 -- a run that has used up the list
-pub used_closed : (f : ℕ) (ts : List Token) (n : ℕ) (us : List Token) (st st' : List Symbol) (gs : List Group) (ends : Bool) (made : List Group) → length ts ≤ n → run f (strung us ++ closed []) st bottom ≡ run f (closed []) st' gs → run f (closed []) st' gs ≡ outcome_at_end ends made → run f (strung (closed us)) st bottom ≡ outcome_at ends (closed (drop n ts)) made
+pub used_closed : (f : ℕ) (ts : List Token) (n : ℕ) (us : List Token) (st st' : List Symbol) (gs : List Group) (ends : Bool) (made : List Group) → length ts ≤ n → run f (joined us ++ closed []) st bottom ≡ run f (closed []) st' gs → run f (closed []) st' gs ≡ outcome_at_end ends made → run f (joined (closed us)) st bottom ≡ outcome_at ends (closed (drop n ts)) made
 used_closed f ts n us st st' gs ends made h e a =
-    ap (λ y. run f y st bottom) (strung_closed us) ∙ e ∙ a ∙ by ends ∙ ap (λ y. outcome_at ends (closed y) made) (sym (past ts n h))
+    ap (λ y. run f y st bottom) (joined_closed us) ∙ e ∙ a ∙ by ends ∙ ap (λ y. outcome_at ends (closed y) made) (sym (past ts n h))
   where
     by : (b : Bool) → outcome_at_end b made ≡ outcome_at b (closed []) made
     by true = refl

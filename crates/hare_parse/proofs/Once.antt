@@ -7,6 +7,7 @@ use Rattle.hare_tree.specs.declared.stop.Stop.TheVariants.{Fault, Memory}
 use Rattle.hare_tree.specs.declared.form.Sort.{Sort}
 use Rattle.hare_tree.specs.Node.{Node}
 use Rattle.hare_tree.specs.Grammar.{Language, IsRun, IsTreeOf}
+use Rattle.hare_tree.proofs.Fitting.{fits_parts}
 use Rattle.hare_depth.proofs.Firsts.{viable_front, same_place}
 use Rattle.hare_parse.specs.declared.parse.Parsed.{Parsed}
 use Rattle.hare_parse.specs.Answers.{IsRead, HasFault, fault_up_to, file_in, IsParsed, Stops, GivesTree, GivesFault}
@@ -28,7 +29,7 @@ read_no_fault s file ts a n f x (m, inl d) = x.shallow m d.1.passed
 read_no_fault s file ts a n f x (m, inr d) =
     let e = run_once _ ts n m x.run d.1.run in
     let t = subst (λ k. IsTreeOf s file (take k ts) a) e x.read in
-    d.1.no_tree a t.shaped t.spelled
+    d.1.no_tree a (fits_parts s a t.fits).0 t.spelled
 
 pub fault_once : (s : Sort) (ts : List Token) (f g : fault.Fault) → HasFault s ts f → HasFault s ts g → f ≡ g
 fault_once s ts f g (n, inl a) (m, inl b) =

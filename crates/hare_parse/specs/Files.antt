@@ -9,7 +9,7 @@ use Rattle.hare_tree.specs.Node.{Node, head}
 use Rattle.hare_tree.specs.Spell.{start_of}
 use Rattle.hare_tree.specs.Shape.{is_shaped}
 use Rattle.hare_grammar.specs.Engine.{Group, Outcome, Done, Fails, begun}
-use Rattle.hare_parsing.specs.Faults.{strung}
+use Rattle.hare_tree.specs.Grammar.{joined}
 use Rattle.hare_parse.specs.declared.file.FileOutcome.{FileOutcome}
 use Rattle.hare_parse.specs.declared.file.FileOutcome.TheVariants as ou
 
@@ -46,8 +46,8 @@ pub record HoldsFile (gs : List Group) : Type 0 where
 
 -- The outcome of the machine's run that this answer says. Its tokens are the joined tokens from the place on that is answered.
 abbrev pub outcome_of : FileOutcome → List Token → Outcome
-outcome_of (ou.Done uses decls n) ts = Done (strung (drop n ts)) (file_made uses decls)
-outcome_of (ou.Stuck n) ts = Fails (strung (drop n ts))
+outcome_of (ou.Done uses decls n) ts = Done (joined (drop n ts)) (file_made uses decls)
+outcome_of (ou.Stuck n) ts = Fails (joined (drop n ts))
 
 abbrev pub HasSorts : FileOutcome → Type 0
 HasSorts (ou.Done uses decls n) = HaveSorts uses decls

@@ -5,7 +5,7 @@ use Rattle.hare_tree.specs.Node.{Node}
 use Rattle.hare_grammar.specs.declared.rule.Symbol.{Symbol}
 use Rattle.hare_grammar.specs.Classes.{class_of}
 use Rattle.hare_grammar.specs.Engine.{Group, Outcome, Done, Fails, add, bottom, step}
-use Rattle.hare_parsing.specs.Faults.{strung}
+use Rattle.hare_tree.specs.Grammar.{joined}
 use Rattle.hare_table.specs.Joined.{BeginsWith}
 use Rattle.hare_parse.specs.declared.reader.Outcome.{Outcome as Answered}
 use Rattle.hare_parse.specs.declared.reader.Outcome.TheVariants as ou
@@ -23,8 +23,8 @@ pub record Reads (f : ℕ) (ts : List Token) (at : ℕ) (st : List Symbol) (gs :
 
 -- The outcome of a run that has come to this place of the list, with these trees under way: its tokens are the joined tokens from there on.
 abbrev pub outcome_in : Reached → List Token → List Group → Outcome
-outcome_in (re.End n) ts gs = Done (strung (drop n ts)) gs
-outcome_in (re.Stuck n) ts gs = Fails (strung (drop n ts))
+outcome_in (re.End n) ts gs = Done (joined (drop n ts)) gs
+outcome_in (re.Stuck n) ts gs = Fails (joined (drop n ts))
 
 -- the run has come to the end of the list
 abbrev pub IsUsedUp : Reached → List Token → Type 0
@@ -40,8 +40,8 @@ pub record HoldsTree (gs : List Group) : Type 0 where
 
 -- The outcome of the machine's run that this answer says. Its tokens are the joined tokens from the place on that is answered, with End behind them.
 abbrev pub outcome_of : Answered → List Token → Outcome
-outcome_of (ou.Done tree n) ts = Done (strung (closed (drop n ts))) (add tree bottom)
-outcome_of (ou.Stuck n) ts = Fails (strung (closed (drop n ts)))
+outcome_of (ou.Done tree n) ts = Done (joined (closed (drop n ts))) (add tree bottom)
+outcome_of (ou.Stuck n) ts = Fails (joined (closed (drop n ts)))
 
 -- the same in front of End alone, where all is read or the tokens are used up before
 abbrev pub outcome_at_end : Bool → List Group → Outcome

@@ -1,7 +1,7 @@
 //! The trees of a whole file read from its tokens.
 
 ghost use Rattle.std.specs.Prelude.{◌≡◌, ◌++◌, ◌≤◌, [], ◌∷◌, length, drop, IfOk, OnOk};
-ghost use Rattle.hare_parsing.specs.Faults.{strung, StandsAt};
+ghost use Rattle.hare_tree.specs.Grammar.{joined, StandsAt};
 ghost use Rattle.hare_tree.specs.Spell.{start_of};
 ghost use Rattle.hare_grammar.specs.Engine as engine;
 ghost use Rattle.hare_grammar.specs.OneTree.{file_symbols};
@@ -28,10 +28,10 @@ pub enum FileOutcome {
 /// The call takes time linear in the tokens that it reads. It uses the host's stack only where trees are given up, as deep as they are, so its
 /// caller looks at the depth first.
 pub fn read_file(alloc: Global, file: u32, tokens: &Tokens) -> Result<FileOutcome, AllocError>
-    ensures run { IfOk result (λ o. engine.run file (strung tokens.now) file_symbols engine.bottom ≡ spec.outcome_of o tokens.now) }
+    ensures run { IfOk result (λ o. engine.run file (joined tokens.now) file_symbols engine.bottom ≡ spec.outcome_of o tokens.now) }
     ensures sorts { IfOk result (λ o. spec.HasSorts o) }
     ensures within { IfOk result (λ o. spec.place_of o ≤ length tokens.now) }
-    ensures place { IfOk result (λ o. StandsAt tokens.now (spec.place_of o) (strung (drop (spec.place_of o) tokens.now))) }
+    ensures place { IfOk result (λ o. StandsAt tokens.now (spec.place_of o) (joined (drop (spec.place_of o) tokens.now))) }
 {
     let mut stack = Pile::new(alloc);
     push_waits(
@@ -57,14 +57,14 @@ struct Parts {
 
 impl Parts {
     /// Puts a tree behind the imports if it is one, and else behind the declarations.
-    fn push(&mut self, alloc: Global, tree: Tree) -> Result<(), AllocError>
+    fn push(&mut self, tree: Tree) -> Result<(), AllocError>
         ensures uses { OnOk result (self.new.uses ≡ self.old.uses ++ spec.imports (tree ∷ [])) }
         ensures decls { OnOk result (self.new.decls ≡ self.old.decls ++ spec.others (tree ∷ [])) }
     {
         if is_import(tree.kind) {
-            self.uses.push(alloc, tree)
+            self.uses.push(tree)
         } else {
-            self.decls.push(alloc, tree)
+            self.decls.push(tree)
         }
     }
 }
@@ -97,7 +97,7 @@ fn parts_of(alloc: Global, trees: Vec<Tree>) -> Result<Parts, AllocError>
         decls: Kids::new(alloc),
     };
     for tree in trees {
-        parts.push(alloc, tree)?;
+        parts.push(tree)?;
     }
     Ok(parts)
 }

@@ -3,7 +3,7 @@
 ghost use Rattle.std.specs.Prelude.{◌≡◌, [], ◌∷◌, drop, IfOk};
 ghost use Rattle.hare_tree.specs.declared.token.TokenKind.TheVariants as kinds;
 ghost use Rattle.hare_tree.specs.Spell.{word_token};
-ghost use Rattle.hare_parsing.specs.Faults.{strung};
+ghost use Rattle.hare_tree.specs.Grammar.{joined};
 ghost use Rattle.hare_grammar.specs.Rows as rows;
 ghost use Rattle.hare_grammar.specs.Engine as engine;
 ghost use Rattle.hare_table.specs.Seen.{waited};
@@ -40,7 +40,7 @@ pub fn read(
     at: usize,
     sort: Sort,
 ) -> Result<Outcome, AllocError>
-    ensures run { IfOk result (λ o. engine.run file (strung (closed (drop at tokens.now))) (rows.of sort ∷ []) engine.bottom ≡ spec.outcome_of o tokens.now) }
+    ensures run { IfOk result (λ o. engine.run file (joined (closed (drop at tokens.now))) (rows.of sort ∷ []) engine.bottom ≡ spec.outcome_of o tokens.now) }
     ensures place { IfOk result (λ o. IsPlace tokens.now at (spec.place_of o)) }
 {
     let mut stack = Pile::new(alloc);

@@ -2,7 +2,7 @@
 
 ghost use Rattle.std.specs.Prelude.{◌≡◌, ◌++◌, List, Some, drop, slice_get, IfOk};
 ghost use Rattle.hare_tree.specs.declared.token.Token.{Token};
-ghost use Rattle.hare_parsing.specs.Faults.{strung};
+ghost use Rattle.hare_tree.specs.Grammar.{joined};
 ghost use Rattle.hare_grammar.specs.Engine as engine;
 ghost use Rattle.hare_table.specs.Seen.{waited};
 ghost use Rattle.hare_table.specs.Places.{IsPlace};
@@ -52,9 +52,9 @@ pub fn run(
     stack: &mut Pile<Wait>,
     groups: &mut Pile<Group>,
 ) -> Result<Reached, AllocError>
-    ensures value { IfOk result (λ r. engine.run file (strung (drop from tokens.now)) (waited stack.old) groups.old ≡ spec.outcome_in r tokens.now groups.new) }
+    ensures value { IfOk result (λ r. engine.run file (joined (drop from tokens.now)) (waited stack.old) groups.old ≡ spec.outcome_in r tokens.now groups.new) }
     ensures place { IfOk result (λ r. IsPlace tokens.now from (spec.place_in r)) }
-    ensures onward { IfOk result (λ r. spec.IsUsedUp r tokens.now → (us : List Token) → engine.run file (strung (drop from tokens.now) ++ us) (waited stack.old) groups.old ≡ engine.run file us (waited stack.new) groups.new) }
+    ensures onward { IfOk result (λ r. spec.IsUsedUp r tokens.now → (us : List Token) → engine.run file (joined (drop from tokens.now) ++ us) (waited stack.old) groups.old ≡ engine.run file us (waited stack.new) groups.new) }
 {
     let mut at = from;
     while let Some(token) = tokens.get(at) {

@@ -41,7 +41,7 @@ pub fn kids_of(alloc: Global, trees: Vec<Tree>) -> Result<Kids, AllocError>
 {
     let mut kids = Kids::new(alloc);
     for tree in trees {
-        kids.push(alloc, tree)?;
+        kids.push(tree)?;
     }
     Ok(kids)
 }

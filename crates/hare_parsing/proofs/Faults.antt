@@ -8,7 +8,7 @@ use Rattle.hare_tree.specs.declared.tree.FileTree.{FileTree}
 use Rattle.hare_tree.specs.Node.{Node}
 use Rattle.hare_tree.specs.Spell.{word_token, sign_token, spell, spell_file}
 use Rattle.hare_tree.specs.Shape.{is_shaped, is_shaped_file}
-use Rattle.hare_tree.specs.Grammar.{is_plain_string, joined, unplaced, Spells, HasPlaces, trees_of, IsViable, IsSyntaxFault}
+use Rattle.hare_tree.specs.Grammar.{is_proper_string, joined, ends_in_string, StandsAt, unplaced, Spells, HasPlaces, trees_of, IsViable, IsSyntaxFault}
 use Rattle.hare_grammar.specs.declared.rule.Symbol.{Symbol}
 use Rattle.hare_grammar.specs.Classes.{class_of}
 use Rattle.hare_grammar.specs.Rows.{of}
@@ -18,7 +18,7 @@ use Rattle.hare_grammar.proofs.Kids.{closer}
 use Rattle.hare_grammar.proofs.OneTree.{read_whole}
 use Rattle.hare_grammar.proofs.Files.{read_file}
 use Rattle.hare_parsing.specs.Viable.{has_trees, BeginsTree}
-use Rattle.hare_parsing.specs.Faults.{is_proper_string, strung, ends_in_string, StandsAt, RunsFault, RunsFaultInTrees, RunsReadFronts, RunsUseAll, FaultsEndRuns}
+use Rattle.hare_parsing.specs.Faults.{RunsFault, RunsFaultInTrees, RunsReadFronts, RunsUseAll, FaultsEndRuns}
 use Rattle.hare_parsing.proofs.FrontPlaces.{reads_used}
 use Rattle.hare_parsing.proofs.Alike.{SameStep, same_step, classes, Alike, alike}
 use Rattle.hare_parsing.proofs.Viable.{StuckAt, stuck_at, EndsAt, ends_at, used_up, viable, not_viable, ends_whole, same_classes}
@@ -26,8 +26,8 @@ use Rattle.hare_parsing.proofs.Breaks.{twice, trees_sort, trees_end}
 use Rattle.hare_parsing.proofs.Moved.{spell_moved}
 use Rattle.hare_parsing.proofs.UsedApart.{run_apart}
 use Rattle.hare_parsing.proofs.Steady.{end_not_stuck}
-use Rattle.hare_parsing.proofs.Strung.{Head, head, strung_append, strung_front, clean, joined_clean, clean_strung}
-use Rattle.hare_parsing.proofs.Loose.{loose, loose_unplaced, loose_clean, loose_strung, proper_class, apart_loose}
+use Rattle.hare_parsing.proofs.Joined.{Head, head, joined_append, joined_front}
+use Rattle.hare_parsing.proofs.Loose.{loose, loose_unplaced, loose_joined, proper_class, apart_loose}
 use Rattle.hare_parsing.proofs.Places.{Spot, spot}
 
 -- ---- in the tokens of a tree no strings stand side by side
@@ -40,9 +40,9 @@ tree_loose s t c h =
     ap (loose false) (sym e) ∙ apart_loose false false q.used (λ x. x) q.apart
 
 -- behind tokens in which none stand side by side, one that is no string
-pub loose_behind : (b : Bool) (u : List Token) (t : Token) → is_plain_string t ≡ false → loose b u ≡ true → loose b (u ++ t ∷ []) ≡ true
+pub loose_behind : (b : Bool) (u : List Token) (t : Token) → is_proper_string t ≡ false → loose b u ≡ true → loose b (u ++ t ∷ []) ≡ true
 loose_behind b [] t n e = rw n refl
-loose_behind b (y ∷ u) t n e = tail _ (loose (is_plain_string y) u) (loose (is_plain_string y) (u ++ t ∷ [])) e (λ x. loose_behind (is_plain_string y) u t n x)
+loose_behind b (y ∷ u) t n e = tail _ (loose (is_proper_string y) u) (loose (is_proper_string y) (u ++ t ∷ [])) e (λ x. loose_behind (is_proper_string y) u t n x)
   where
     tail : (a p q : Bool) → (a && p) ≡ true → (p ≡ true → q ≡ true) → (a && q) ≡ true
     tail true p q e f = f e
@@ -57,22 +57,19 @@ file_loose t h =
 -- ---- fronts of joined tokens, and fronts of the file's tokens
 
 -- where tokens of a tree begin with a front's joined tokens, they go on with the front
-pub goes_back : (spelled front behind : List Token) → loose false spelled ≡ true → map unplaced spelled ≡ map unplaced (strung front ++ behind) → Spells spelled (front ++ behind)
+pub goes_back : (spelled front behind : List Token) → loose false spelled ≡ true → map unplaced spelled ≡ map unplaced (joined front ++ behind) → Spells spelled (front ++ behind)
 goes_back spelled front behind l e =
-    let a : loose false (strung front ++ behind) ≡ true = sym (loose_unplaced false (strung front ++ behind)) ∙ ap (loose false) (sym e) ∙ loose_unplaced false spelled ∙ l in
-    let k : strung (front ++ behind) ≡ strung front ++ behind = strung_front front behind ∙ loose_strung false (strung front ++ behind) a in
-    let c : clean (strung (front ++ behind)) ≡ true = ap clean k ∙ loose_clean false (strung front ++ behind) a in
-    e ∙ ap (map unplaced) (sym k ∙ sym (clean_strung (front ++ behind) c))
+    let a : loose false (joined front ++ behind) ≡ true = sym (loose_unplaced false (joined front ++ behind)) ∙ ap (loose false) (sym e) ∙ loose_unplaced false spelled ∙ l in
+    let k : joined (front ++ behind) ≡ joined front ++ behind = joined_front front behind ∙ loose_joined false (joined front ++ behind) a in
+    e ∙ ap (map unplaced) (sym k)
 
 -- where they begin with a front and a token at which no strings are joined, they begin with the joined tokens of both
-pub comes_back : (spelled front : List Token) (first : Token) (behind : List Token) → loose false spelled ≡ true → (ends_in_string front && is_proper_string first) ≡ false → Spells spelled ((front ++ first ∷ []) ++ behind) → map unplaced spelled ≡ map unplaced ((strung front ++ (head first behind).first ∷ []) ++ (head first behind).rest)
-comes_back spelled front first behind l p e =
+pub comes_back : (spelled front : List Token) (first : Token) (behind : List Token) → (ends_in_string front && is_proper_string first) ≡ false → Spells spelled ((front ++ first ∷ []) ++ behind) → map unplaced spelled ≡ map unplaced ((joined front ++ (head first behind).first ∷ []) ++ (head first behind).rest)
+comes_back spelled front first behind p e =
     let h = head first behind in
     let x = (front ++ first ∷ []) ++ behind in
-    let a : loose false (joined x) ≡ true = sym (loose_unplaced false (joined x)) ∙ ap (loose false) (sym e) ∙ loose_unplaced false spelled ∙ l in
-    let j : joined x ≡ strung x = joined_clean x (loose_clean false (joined x) a) in
-    let k : strung x ≡ (strung front ++ h.first ∷ []) ++ h.rest = ap strung (append_assoc front (first ∷ []) behind) ∙ strung_append front (first ∷ behind) p ∙ ap (λ l. strung front ++ l) h.is ∙ sym (append_assoc (strung front) (h.first ∷ []) h.rest) in
-    e ∙ ap (map unplaced) (j ∙ k)
+    let k : joined x ≡ (joined front ++ h.first ∷ []) ++ h.rest = ap joined (append_assoc front (first ∷ []) behind) ∙ joined_append front (first ∷ behind) p ∙ ap (λ l. joined front ++ l) h.is ∙ sym (append_assoc (joined front) (h.first ∷ []) h.rest) in
+    e ∙ ap (map unplaced) k
 
 -- joined tokens that stand at one token have one class
 pub same_class : (first : Token) (u v : List Token) (h : Head first u) (k : Head first v) → class_of h.first ≡ class_of k.first
@@ -105,67 +102,61 @@ ends_like f w st gs t t' v p e = let x = same_ends _ _ p.made (same_at f t t' p.
 
 -- ---- sorts
 
-tree_viable : (s : Sort) (front : List Token) → is_sort s ≡ true → BeginsTree s (strung front) → IsViable (trees_of s) front
+tree_viable : (s : Sort) (front : List Token) → is_sort s ≡ true → BeginsTree s (joined front) → IsViable (trees_of s) front
 tree_viable s front c q =
-    let e : map unplaced (spell 0 q.tree) ≡ map unplaced (strung front ++ q.behind) = ap (map unplaced) q.spelled ∙ twice (strung front ++ q.behind) in
+    let e : map unplaced (spell 0 q.tree) ≡ map unplaced (joined front ++ q.behind) = ap (map unplaced) q.spelled ∙ twice (joined front ++ q.behind) in
     (q.tree, record { shaped = q.shaped; behind = q.behind; spelled = goes_back (spell 0 q.tree) front q.behind (tree_loose s q.tree c q.shaped) e })
 
 -- a tree goes on with the front and the first token at which a joined token stands only where some token of its class goes on with the
 -- joined tokens before it
-tree_none : (s : Sort) (ts : List Token) (n : ℕ) (t : Token) (rest u : List Token) → is_sort s ≡ true → (p : Spot ts n t rest) → u ≡ strung (take n ts) → ((z : Token) → class_of z ≡ class_of t → BeginsTree s (u ++ z ∷ []) → ⊥) → IsViable (trees_of s) (take (suc n) ts) → ⊥
+tree_none : (s : Sort) (ts : List Token) (n : ℕ) (t : Token) (rest u : List Token) → is_sort s ≡ true → (p : Spot ts n t rest) → u ≡ joined (take n ts) → ((z : Token) → class_of z ≡ class_of t → BeginsTree s (u ++ z ∷ []) → ⊥) → IsViable (trees_of s) (take (suc n) ts) → ⊥
 tree_none s ts n t rest u c p e k v =
     let g = v.1 in
     let x = p.cut.first in
     let h = head x g.behind in
     let i : Spells (spell 0 v.0) ((take n ts ++ x ∷ []) ++ g.behind) = subst (λ l. Spells (spell 0 v.0) (l ++ g.behind)) p.cut.next g.spelled in
-    let j = comes_back (spell 0 v.0) (take n ts) x g.behind (tree_loose s v.0 c g.shaped) p.parted i in
-    let b : BeginsTree s (strung (take n ts) ++ h.first ∷ []) = record { tree = v.0; behind = h.rest; shaped = g.shaped; spelled = sym (spell_moved 0 v.0) ∙ j } in
+    let j = comes_back (spell 0 v.0) (take n ts) x g.behind p.apart i in
+    let b : BeginsTree s (joined (take n ts) ++ h.first ∷ []) = record { tree = v.0; behind = h.rest; shaped = g.shaped; spelled = sym (spell_moved 0 v.0) ∙ j } in
     k h.first (same_class x g.behind p.cut.behind h p.head ∙ ap class_of (sym p.is)) (subst (λ l. BeginsTree s (l ++ h.first ∷ [])) (sym e) b)
 
 -- the tokens before a place at which the joined tokens are split
-pub before_spot : (ts : List Token) (n : ℕ) (t : Token) (rest u : List Token) → Spot ts n t rest → strung ts ≡ u ++ t ∷ rest → u ≡ strung (take n ts)
-before_spot ts n t rest u p e = append_cancel_right u (strung (take n ts)) (t ∷ rest) (sym e ∙ p.whole)
+pub before_spot : (ts : List Token) (n : ℕ) (t : Token) (rest u : List Token) → Spot ts n t rest → joined ts ≡ u ++ t ∷ rest → u ≡ joined (take n ts)
+before_spot ts n t rest u p e = append_cancel_right u (joined (take n ts)) (t ∷ rest) (sym e ∙ p.whole)
 
 pub runs_fault : RunsFault
 runs_fault s c file ts n t rest e q =
-    let p = stuck_at file (strung ts) (of s ∷ []) bottom t rest (trees_end s c) e in
+    let p = stuck_at file (joined ts) (of s ∷ []) bottom t rest (trees_end s c) e in
     let o = spot ts n t rest q in
     let b = before_spot ts n t rest p.u o p.is in
     let d = trees_sort s c in
     record {
       within = o.within;
       before = tree_viable s (take n ts) d (subst (λ l. BeginsTree s l) b (viable s file p.u p.stop));
-      ends = tree_none s ts n t rest p.u d o b (λ z i. not_viable s file (p.u ++ z ∷ []) z [] d (stuck_like file (strung ts) (of s ∷ []) bottom t z rest p i));
+      ends = tree_none s ts n t rest p.u d o b (λ z i. not_viable s file (p.u ++ z ∷ []) z [] d (stuck_like file (joined ts) (of s ∷ []) bottom t z rest p i));
     }
 
-runs_end : (s : Sort) → has_trees s ≡ true → (file : ℕ) (ts : List Token) (n : ℕ) (t : Token) (rest : List Token) (made : List Group) → run file (strung ts) (of s ∷ []) bottom ≡ Done (t ∷ rest) made → StandsAt ts n (t ∷ rest) → IsSyntaxFault (trees_of s) ts n
+runs_end : (s : Sort) → has_trees s ≡ true → (file : ℕ) (ts : List Token) (n : ℕ) (t : Token) (rest : List Token) (made : List Group) → run file (joined ts) (of s ∷ []) bottom ≡ Done (t ∷ rest) made → StandsAt ts n (t ∷ rest) → IsSyntaxFault (trees_of s) ts n
 runs_end s c file ts n t rest made e q =
-    let p = ends_at file (strung ts) (of s ∷ []) bottom t rest made (trees_end s c) e in
+    let p = ends_at file (joined ts) (of s ∷ []) bottom t rest made (trees_end s c) e in
     let o = spot ts n t rest q in
     let b = before_spot ts n t rest p.u o p.is in
     let d = trees_sort s c in
     record {
       within = o.within;
       before = tree_viable s (take n ts) d (subst (λ l. BeginsTree s l) b (viable s file p.u p.stop));
-      ends = tree_none s ts n t rest p.u d o b (λ z i. ends_whole s file (p.u ++ z ∷ []) z [] d (ends_like file (strung ts) (of s ∷ []) bottom t z rest p i));
+      ends = tree_none s ts n t rest p.u d o b (λ z i. ends_whole s file (p.u ++ z ∷ []) z [] d (ends_like file (joined ts) (of s ∷ []) bottom t z rest p i));
     }
-
--- a front whose joined tokens are those of a tree has all its strings joined
-front_joined : (spelled front : List Token) → loose false spelled ≡ true → map unplaced spelled ≡ map unplaced (strung front) → joined front ≡ strung front
-front_joined spelled front l e =
-    clean_strung front (loose_clean false (strung front) (sym (loose_unplaced false (strung front)) ∙ ap (loose false) (sym e) ∙ loose_unplaced false spelled ∙ l))
 
 pub runs_read_fronts : RunsReadFronts
 runs_read_fronts s c file ts n t rest made e q =
-    let r = reads_used s file (strung ts) t rest made (trees_end s c) e in
+    let r = reads_used s file (joined ts) t rest made (trees_end s c) e in
     let b = before_spot ts n t rest r.used (spot ts n t rest q) r.split in
-    let i : map unplaced (spell 0 r.tree) ≡ map unplaced (strung (take n ts)) = ap (map unplaced) r.spelled ∙ twice r.used ∙ ap (map unplaced) b in
-    let j = front_joined (spell 0 r.tree) (take n ts) (tree_loose s r.tree (trees_sort s c) r.shaped) i in
+    let i : map unplaced (spell 0 r.tree) ≡ map unplaced (joined (take n ts)) = ap (map unplaced) r.spelled ∙ twice r.used ∙ ap (map unplaced) b in
     record {
       tree = r.tree;
       shaped = r.shaped;
-      spelled = i ∙ ap (map unplaced) (sym j);
-      placed = subst (λ l. HasPlaces file l 0 r.tree) (b ∙ sym j) r.placed;
+      spelled = i;
+      placed = subst (λ l. HasPlaces file l 0 r.tree) b r.placed;
       is_made = r.is_made;
       ends = runs_end s c file ts n t rest made e q;
     }
@@ -195,15 +186,13 @@ stuck_in_tree s f w t v tree c h p e =
 
 pub runs_fault_in_trees : RunsFaultInTrees
 runs_fault_in_trees s c file ts n t rest e q tree h i =
-    let p = stuck_at file (strung ts) (of s ∷ []) bottom t rest (trees_end s c) e in
+    let p = stuck_at file (joined ts) (of s ∷ []) bottom t rest (trees_end s c) e in
     let b = before_spot ts n t rest p.u (spot ts n t rest q) p.is in
     let d = trees_sort s c in
-    let l = tree_loose s tree d h in
-    let j : joined (take n ts) ≡ strung (take n ts) = joined_clean (take n ts) (loose_clean false (joined (take n ts)) (sym (loose_unplaced false (joined (take n ts))) ∙ ap (loose false) (sym i) ∙ loose_unplaced false (spell 0 tree) ∙ l)) in
-    stuck_in_tree s file (strung ts) t rest tree d h p (sym (spell_moved 0 tree) ∙ i ∙ ap (map unplaced) (j ∙ sym b))
+    stuck_in_tree s file (joined ts) t rest tree d h p (sym (spell_moved 0 tree) ∙ i ∙ ap (map unplaced) (sym b))
 
 pub runs_use_all : RunsUseAll
-runs_use_all s c file ts e = tree_viable s ts (trees_sort s c) (viable s file (strung ts) (used_up file (strung ts) (of s ∷ []) bottom (trees_end s c) e))
+runs_use_all s c file ts e = tree_viable s ts (trees_sort s c) (viable s file (joined ts) (used_up file (joined ts) (of s ∷ []) bottom (trees_end s c) e))
 
 pub faults_end_runs : FaultsEndRuns
 faults_end_runs s ts n f = record { within = omega (arith, f.within); viable = f.before; longest = λ x v. f.ends v }

@@ -1,53 +1,52 @@
--- The first syntax fault at the tokens of a file, and where all strings of a file are joined.
+-- The first syntax fault at the tokens of a file.
 use Rattle.std.proofs.Common.{◌≡◌, ℕ, suc, ◌<◌, List, [], ◌∷◌, ◌++◌, Bool, true, false, ◌&&◌, not, map, take, length, refl, ap, sym, ◌∙◌, subst, append_assoc}
 use Rattle.hare_tree.specs.declared.token.Token.{Token}
 use Rattle.hare_tree.specs.declared.tree.FileTree.{FileTree}
 use Rattle.hare_tree.specs.Spell.{spell, spell_file}
 use Rattle.hare_tree.specs.Shape.{is_shaped_file}
-use Rattle.hare_tree.specs.Grammar.{is_plain_string, joined, unplaced, Spells, files, IsViable, IsSyntaxFault}
+use Rattle.hare_tree.specs.Grammar.{is_proper_string, joined_to, joined, ends_in_string, unplaced, Spells, files, IsViable, IsSyntaxFault}
 use Rattle.hare_grammar.specs.Classes.{class_of}
 use Rattle.hare_grammar.specs.Engine.{Group, Done, run, bottom}
 use Rattle.hare_grammar.specs.OneTree.{file_symbols}
 use Rattle.hare_parsing.specs.Viable.{BeginsFile}
-use Rattle.hare_parsing.specs.Faults.{is_proper_string, strung_to, strung, ends_in_string, FileRunsFault, FileRunsAreOver, FileRunsUseAll, WholeRunsJoin, FilesJoin, TreesJoin, FileRunsUseNoEnd}
+use Rattle.hare_parsing.specs.Faults.{FileRunsFault, FileRunsAreOver, FileRunsUseAll, FileRunsUseNoEnd}
 use Rattle.hare_parsing.proofs.Viable.{stuck_at, EndsAt, ends_at, used_up, end}
 use Rattle.hare_parsing.proofs.Breaks.{trees_sort, file_viable, file_not_viable, nothing_more, is_the_end, whole_file}
 use Rattle.hare_parsing.proofs.TokenKinds.{is_junk, class_unplaced}
 use Rattle.hare_parsing.proofs.UsedApart.{apart, run_apart, used_up_apart, apart_proper}
-use Rattle.hare_parsing.proofs.Strung.{head, strung_append, joined_clean, clean_strung}
-use Rattle.hare_parsing.proofs.Loose.{loose, loose_unplaced, loose_clean, apart_loose}
+use Rattle.hare_parsing.proofs.Joined.{head, joined_append}
 use Rattle.hare_parsing.proofs.Places.{cut, Spot, spot}
-use Rattle.hare_parsing.proofs.Faults.{tree_loose, loose_behind, file_loose, goes_back, comes_back, same_class, stuck_like, ends_like, before_spot}
+use Rattle.hare_parsing.proofs.Faults.{file_loose, goes_back, comes_back, same_class, stuck_like, ends_like, before_spot}
 
 -- ---- files
 
-file_front_viable : (front : List Token) → BeginsFile (strung front) → IsViable files front
+file_front_viable : (front : List Token) → BeginsFile (joined front) → IsViable files front
 file_front_viable front q =
     (q.tree, record { shaped = q.shaped; behind = q.behind; spelled = goes_back (spell_file q.tree) front q.behind (file_loose q.tree q.shaped) q.spelled })
 
 -- the joined tokens with which a file begins that goes on with a front of the file's tokens
-abbrev file_back : (front : List Token) (first : Token) (behind : List Token) (tree : FileTree) → is_shaped_file tree ≡ true → (ends_in_string front && is_proper_string first) ≡ false → Spells (spell_file tree) ((front ++ first ∷ []) ++ behind) → BeginsFile (strung front ++ (head first behind).first ∷ [])
+abbrev file_back : (front : List Token) (first : Token) (behind : List Token) (tree : FileTree) → is_shaped_file tree ≡ true → (ends_in_string front && is_proper_string first) ≡ false → Spells (spell_file tree) ((front ++ first ∷ []) ++ behind) → BeginsFile (joined front ++ (head first behind).first ∷ [])
 file_back front first behind tree h p i =
-    record { tree = tree; behind = (head first behind).rest; shaped = h; spelled = comes_back (spell_file tree) front first behind (file_loose tree h) p i }
+    record { tree = tree; behind = (head first behind).rest; shaped = h; spelled = comes_back (spell_file tree) front first behind p i }
 
-file_none : (ts : List Token) (n : ℕ) (t : Token) (rest u : List Token) → (p : Spot ts n t rest) → u ≡ strung (take n ts) → ((z : Token) → class_of z ≡ class_of t → is_proper_string z ≡ is_proper_string p.cut.first → (is_proper_string p.cut.first ≡ false → z ≡ p.cut.first) → BeginsFile (u ++ z ∷ []) → ⊥) → IsViable files (take (suc n) ts) → ⊥
+file_none : (ts : List Token) (n : ℕ) (t : Token) (rest u : List Token) → (p : Spot ts n t rest) → u ≡ joined (take n ts) → ((z : Token) → class_of z ≡ class_of t → is_proper_string z ≡ is_proper_string p.cut.first → (is_proper_string p.cut.first ≡ false → z ≡ p.cut.first) → BeginsFile (u ++ z ∷ []) → ⊥) → IsViable files (take (suc n) ts) → ⊥
 file_none ts n t rest u p e k v =
     let g = v.1 in
     let x = p.cut.first in
     let h = head x g.behind in
     let i : Spells (spell_file v.0) ((take n ts ++ x ∷ []) ++ g.behind) = subst (λ l. Spells (spell_file v.0) (l ++ g.behind)) p.cut.next g.spelled in
-    let b = file_back (take n ts) x g.behind v.0 g.shaped p.parted i in
+    let b = file_back (take n ts) x g.behind v.0 g.shaped p.apart i in
     k h.first (same_class x g.behind p.cut.behind h p.head ∙ ap class_of (sym p.is)) h.proper h.same (subst (λ l. BeginsFile (l ++ h.first ∷ [])) (sym e) b)
 
 pub file_runs_fault : FileRunsFault
 file_runs_fault file ts n t rest e q =
-    let p = stuck_at file (strung ts) file_symbols bottom t rest refl e in
+    let p = stuck_at file (joined ts) file_symbols bottom t rest refl e in
     let o = spot ts n t rest q in
     let b = before_spot ts n t rest p.u o p.is in
     record {
       within = o.within;
       before = file_front_viable (take n ts) (subst BeginsFile b (file_viable file p.u p.stop));
-      ends = file_none ts n t rest p.u o b (λ z i j l. file_not_viable file (p.u ++ z ∷ []) z [] (stuck_like file (strung ts) file_symbols bottom t z rest p i));
+      ends = file_none ts n t rest p.u o b (λ z i j l. file_not_viable file (p.u ++ z ∷ []) z [] (stuck_like file (joined ts) file_symbols bottom t z rest p i));
     }
 
 -- End is no string
@@ -55,7 +54,7 @@ end_proper : (z : Token) → unplaced z ≡ end → is_proper_string z ≡ false
 end_proper z e = ap is_proper_string e
 
 -- at a token that is not End no file goes on
-no_end_fault : (file : ℕ) (ts : List Token) (n : ℕ) (t : Token) (rest : List Token) (p : EndsAt file (strung ts) file_symbols bottom t rest) → (o : Spot ts n t rest) → p.u ≡ strung (take n ts) → (unplaced t ≡ end → ⊥) → IsSyntaxFault files ts n
+no_end_fault : (file : ℕ) (ts : List Token) (n : ℕ) (t : Token) (rest : List Token) (p : EndsAt file (joined ts) file_symbols bottom t rest) → (o : Spot ts n t rest) → p.u ≡ joined (take n ts) → (unplaced t ≡ end → ⊥) → IsSyntaxFault files ts n
 no_end_fault file ts n t rest p o b other =
     record {
       within = o.within;
@@ -65,7 +64,7 @@ no_end_fault file ts n t rest p o b other =
   where
     none : (z : Token) → class_of z ≡ class_of t → is_proper_string z ≡ is_proper_string o.cut.first → (is_proper_string o.cut.first ≡ false → z ≡ o.cut.first) → BeginsFile (p.u ++ z ∷ []) → ⊥
     none z i j l y =
-        let x = is_the_end file (p.u ++ z ∷ []) z [] (ends_like file (strung ts) file_symbols bottom t z rest p i) y in
+        let x = is_the_end file (p.u ++ z ∷ []) z [] (ends_like file (joined ts) file_symbols bottom t z rest p i) y in
         let d : is_proper_string o.cut.first ≡ false = sym j ∙ end_proper z x in
         other (ap unplaced (o.is ∙ o.head.same d ∙ sym (l d)) ∙ x)
 
@@ -75,15 +74,15 @@ end_first ts n t rest o e =
     let d : is_proper_string o.cut.first ≡ false = sym o.head.proper ∙ ap is_proper_string (sym o.is) ∙ end_proper t e in
     (o.is ∙ o.head.same d, d)
 
-end_viable : (file : ℕ) (ts : List Token) (n : ℕ) (t : Token) (rest : List Token) (made : List Group) (p : EndsAt file (strung ts) file_symbols bottom t rest) → (o : Spot ts n t rest) → p.u ≡ strung (take n ts) → run file (strung ts) file_symbols bottom ≡ Done (t ∷ rest) made → unplaced t ≡ end → IsViable files (take (suc n) ts)
+end_viable : (file : ℕ) (ts : List Token) (n : ℕ) (t : Token) (rest : List Token) (made : List Group) (p : EndsAt file (joined ts) file_symbols bottom t rest) → (o : Spot ts n t rest) → p.u ≡ joined (take n ts) → run file (joined ts) file_symbols bottom ≡ Done (t ∷ rest) made → unplaced t ≡ end → IsViable files (take (suc n) ts)
 end_viable file ts n t rest made p o b e i =
     let d = end_first ts n t rest o i in
     let x = o.cut.first in
-    let w : strung (take (suc n) ts) ≡ p.u ++ t ∷ [] = ap strung o.cut.next ∙ strung_append (take n ts) (x ∷ []) o.parted ∙ ap (λ l. l ++ x ∷ []) (sym b) ∙ ap (λ y. p.u ++ y ∷ []) (sym d.0) in
-    file_front_viable (take (suc n) ts) (subst BeginsFile (sym w) (whole_file file (strung ts) t rest made p e i))
+    let w : joined (take (suc n) ts) ≡ p.u ++ t ∷ [] = ap joined o.cut.next ∙ joined_append (take n ts) (x ∷ []) o.apart ∙ ap (λ l. l ++ x ∷ []) (sym b) ∙ ap (λ y. p.u ++ y ∷ []) (sym d.0) in
+    file_front_viable (take (suc n) ts) (subst BeginsFile (sym w) (whole_file file (joined ts) t rest made p e i))
 
 -- behind End nothing goes on
-behind_end : (file : ℕ) (ts : List Token) (n : ℕ) (t : Token) (rest : List Token) (p : EndsAt file (strung ts) file_symbols bottom t rest) → (o : Spot ts n t rest) → p.u ≡ strung (take n ts) → unplaced t ≡ end → suc n < length ts → IsViable files (take (suc (suc n)) ts) → ⊥
+behind_end : (file : ℕ) (ts : List Token) (n : ℕ) (t : Token) (rest : List Token) (p : EndsAt file (joined ts) file_symbols bottom t rest) → (o : Spot ts n t rest) → p.u ≡ joined (take n ts) → unplaced t ≡ end → suc n < length ts → IsViable files (take (suc (suc n)) ts) → ⊥
 behind_end file ts n t rest p o b i m v =
     let g = v.1 in
     let x = o.cut.first in
@@ -92,18 +91,18 @@ behind_end file ts n t rest p o b i m v =
     let d = end_first ts n t rest o i in
     let h = head x (y ∷ g.behind) in
     let l : take (suc (suc n)) ts ++ g.behind ≡ (take n ts ++ x ∷ []) ++ y ∷ g.behind = ap (λ l. l ++ g.behind) (c.next ∙ ap (λ l. l ++ y ∷ []) o.cut.next) ∙ append_assoc (take n ts ++ x ∷ []) (y ∷ []) g.behind in
-    let q = file_back (take n ts) x (y ∷ g.behind) v.0 g.shaped o.parted (subst (λ l. Spells (spell_file v.0) l) l g.spelled) in
-    let k = ends_like file (strung ts) file_symbols bottom t h.first rest p (ap class_of (h.same d.1 ∙ sym d.0)) in
+    let q = file_back (take n ts) x (y ∷ g.behind) v.0 g.shaped o.apart (subst (λ l. Spells (spell_file v.0) l) l g.spelled) in
+    let k = ends_like file (joined ts) file_symbols bottom t h.first rest p (ap class_of (h.same d.1 ∙ sym d.0)) in
     let r : BeginsFile (p.u ++ h.first ∷ []) = subst (λ l. BeginsFile (l ++ h.first ∷ [])) (sym b) q in
     let z : h.rest ≡ [] = nothing_more file (p.u ++ h.first ∷ []) h.first [] k [] (record { tree = v.0; behind = h.rest; shaped = g.shaped; spelled = subst (λ l. map unplaced (spell_file v.0) ≡ map unplaced ((l ++ h.first ∷ []) ++ h.rest)) (sym b) q.spelled }) in
     let s = head y g.behind in
-    let j : strung (x ∷ y ∷ g.behind) ≡ x ∷ s.first ∷ s.rest = ap (strung_to x) s.is ∙ rw d.1 refl in
+    let j : joined (x ∷ y ∷ g.behind) ≡ x ∷ s.first ∷ s.rest = ap (joined_to x) s.is ∙ rw d.1 refl in
     let f : h.first ∷ [] ≡ x ∷ s.first ∷ s.rest = ap (λ l. h.first ∷ l) (sym z) ∙ sym h.is ∙ j in
     cc
 
 pub file_runs_are_over : FileRunsAreOver
 file_runs_are_over file ts n t rest made e q =
-    let p = ends_at file (strung ts) file_symbols bottom t rest made refl e in
+    let p = ends_at file (joined ts) file_symbols bottom t rest made refl e in
     let o = spot ts n t rest q in
     let b = before_spot ts n t rest p.u o p.is in
     record {
@@ -113,38 +112,19 @@ file_runs_are_over file ts n t rest made e q =
     }
 
 pub file_runs_use_all : FileRunsUseAll
-file_runs_use_all file ts e = file_front_viable ts (file_viable file (strung ts) (used_up file (strung ts) file_symbols bottom refl e))
+file_runs_use_all file ts e = file_front_viable ts (file_viable file (joined ts) (used_up file (joined ts) file_symbols bottom refl e))
 
 pub file_runs_use_no_end : FileRunsUseNoEnd
 file_runs_use_no_end file before t rest i e =
     let h = head t rest in
     let n : is_proper_string t ≡ false = end_proper t i in
-    let w : strung (before ++ t ∷ rest) ≡ strung before ++ t ∷ h.rest = strung_append before (t ∷ rest) (none (ends_in_string before) (is_proper_string t) n) ∙ ap (λ l. strung before ++ l) (h.is ∙ ap (λ z. z ∷ h.rest) (h.same n)) in
-    let a : apart false (strung before ++ t ∷ h.rest) ≡ true = ap (apart false) (sym w) ∙ used_up_apart file (strung (before ++ t ∷ rest)) false file_symbols bottom refl (λ x. cc) e in
+    let w : joined (before ++ t ∷ rest) ≡ joined before ++ t ∷ h.rest = joined_append before (t ∷ rest) (none (ends_in_string before) (is_proper_string t) n) ∙ ap (λ l. joined before ++ l) (h.is ∙ ap (λ z. z ∷ h.rest) (h.same n)) in
+    let a : apart false (joined before ++ t ∷ h.rest) ≡ true = ap (apart false) (sym w) ∙ used_up_apart file (joined (before ++ t ∷ rest)) false file_symbols bottom refl (λ x. cc) e in
     let c : not (is_junk (class_of t)) ≡ false = ap (λ k. not (is_junk k)) (sym (class_unplaced t) ∙ ap class_of i) in
-    let d = apart_proper false (strung before) t h.rest a in
+    let d = apart_proper false (joined before) t h.rest a in
     cc
   where
     none : (a b : Bool) → b ≡ false → (a && b) ≡ false
     none a true e = cc
     none true false e = refl
     none false false e = refl
-
--- ---- where all strings are joined
-
-spelled_joined : (spelled ts : List Token) → loose false spelled ≡ true → Spells spelled ts → strung ts ≡ joined ts
-spelled_joined spelled ts l e =
-    sym (joined_clean ts (loose_clean false (joined ts) (sym (loose_unplaced false (joined ts)) ∙ ap (loose false) (sym e) ∙ loose_unplaced false spelled ∙ l)))
-
-pub files_join : FilesJoin
-files_join ts tree h e = spelled_joined (spell_file tree) ts (file_loose tree h) e
-
-pub trees_join : TreesJoin
-trees_join s c ts tree h e = spelled_joined (spell 0 tree) ts (tree_loose s tree (trees_sort s c) h) e
-
-pub whole_runs_join : WholeRunsJoin
-whole_runs_join file ts t made e i =
-    let q = run_apart file (strung ts) (t ∷ []) false file_symbols bottom made refl (λ x. cc) e in
-    let n : is_plain_string t ≡ false = ap is_plain_string i in
-    let l : loose false (strung ts) ≡ true = ap (loose false) q.is ∙ loose_behind false q.used t n (apart_loose false false q.used (λ x. x) q.apart) in
-    sym (clean_strung ts (loose_clean false (strung ts) l))

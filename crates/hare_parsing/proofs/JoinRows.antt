@@ -4,7 +4,7 @@ use Rattle.hare_tree.specs.declared.token.Suffix.TheVariants as suffix
 use Rattle.hare_tree.specs.declared.token.TokenKind.TheVariants as tk
 use Rattle.hare_tree.specs.declared.token.Token.{Token}
 use Rattle.hare_tree.specs.Spell.{start_of, word_token}
-use Rattle.hare_parsing.specs.Faults.{strung, ends_in_string, begins_with_string}
+use Rattle.hare_tree.specs.Grammar.{joined, ends_in_string, begins_with_string}
 
 abbrev first_text : Token
 first_text = word_token 0 tk.Str (codes "a")
@@ -16,10 +16,10 @@ second_text = word_token 0 tk.Str (codes "b")
 abbrev numbered : Token
 numbered = record { kind = tk.Str; place = start_of 0; text = codes "c"; number = 1; suffix = suffix.None }
 
-two_strings : strung (first_text ∷ second_text ∷ []) ≡ word_token 0 tk.Str (codes "ab") ∷ []
+two_strings : joined (first_text ∷ second_text ∷ []) ≡ word_token 0 tk.Str (codes "ab") ∷ []
 two_strings = refl
 
-beside_numbered : strung (first_text ∷ second_text ∷ numbered ∷ first_text ∷ []) ≡ word_token 0 tk.Str (codes "ab") ∷ numbered ∷ first_text ∷ []
+beside_numbered : joined (first_text ∷ second_text ∷ numbered ∷ first_text ∷ []) ≡ word_token 0 tk.Str (codes "ab") ∷ numbered ∷ first_text ∷ []
 beside_numbered = refl
 
 -- within joined strings nothing stands, and at the numbered one something does

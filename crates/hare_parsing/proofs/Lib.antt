@@ -36,7 +36,7 @@ pub mod UsedApart
 pub mod Blind
 pub mod Steady
 pub mod FrontPlaces
-pub mod Strung
+pub mod Joined
 pub mod Loose
 pub mod JoinRows
 pub mod Places

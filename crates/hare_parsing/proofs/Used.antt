@@ -4,7 +4,7 @@ use Rattle.std.proofs.lemmas.List.{length-append}
 use Rattle.hare_tree.specs.declared.token.Suffix.TheVariants as suffix
 use Rattle.hare_tree.specs.declared.token.TokenKind.TheVariants as tk
 use Rattle.hare_tree.specs.declared.token.Token.{Token}
-use Rattle.hare_tree.specs.Grammar.{is_plain_string, joined_to, joined, place_of, unplaced}
+use Rattle.hare_tree.specs.Grammar.{is_proper_string, string_at, joined_to, joined, place_of, unplaced}
 use Rattle.hare_parsing.specs.Used.{RunsUseTokens}
 use Rattle.hare_parsing.proofs.Readings.{runs_read_trees}
 use Rattle.hare_parsing.proofs.Breaks.{twice}
@@ -27,7 +27,7 @@ heads a b u v e = (cc, cc)
 
 -- two strings as one token
 abbrev pub merged : Token → Token → Token
-merged y u = record { kind = tk.Str; place = y.place; text = y.text ++ u.text; number = y.number + u.number; suffix = suffix.None }
+merged y u = string_at y.place (y.text ++ u.text)
 
 abbrev pub chosen : Bool → Bool → Token → Token → List Token → List Token
 chosen p q y u us = if p then (if q then merged y u ∷ us else y ∷ u ∷ us) else y ∷ u ∷ us
@@ -35,7 +35,7 @@ chosen p q y u us = if p then (if q then merged y u ∷ us else y ∷ u ∷ us) 
 -- a joined token stands at the first of those that it is made from
 head_place : (y : Token) (us : List Token) (t : Token) (rest : List Token) → joined_to y us ≡ t ∷ rest → y.place ≡ t.place
 head_place y [] t rest e = ap (λ z. z.place) (heads y t [] rest e).0
-head_place y (u ∷ us) t rest e = by (is_plain_string y) (is_plain_string u) e
+head_place y (u ∷ us) t rest e = by (is_proper_string y) (is_proper_string u) e
   where
     by : (p q : Bool) → chosen p q y u us ≡ t ∷ rest → y.place ≡ t.place
     by true true e = ap (λ z. z.place) (heads (merged y u) t us rest e).0
@@ -60,9 +60,9 @@ raw_at (y ∷ ys) (b ∷ before) t rest e = by (joined ys) refl e (λ bf i. raw_
 
     by : (js : List Token) → joined ys ≡ js → joined_to y js ≡ b ∷ (before ++ t ∷ rest) → ((bf : List Token) → joined ys ≡ bf ++ t ∷ rest → RawAt ys bf t) → RawAt (y ∷ ys) (b ∷ before) t
     by [] i e f = absurd (not_nil before t rest (heads y b [] (before ++ t ∷ rest) e).1)
-    by (u ∷ us) i e f = test (is_plain_string y) refl (is_plain_string u) refl e
+    by (u ∷ us) i e f = test (is_proper_string y) refl (is_proper_string u) refl e
       where
-        test : (p : Bool) → is_plain_string y ≡ p → (q : Bool) → is_plain_string u ≡ q → chosen p q y u us ≡ b ∷ (before ++ t ∷ rest) → RawAt (y ∷ ys) (b ∷ before) t
+        test : (p : Bool) → is_proper_string y ≡ p → (q : Bool) → is_proper_string u ≡ q → chosen p q y u us ≡ b ∷ (before ++ t ∷ rest) → RawAt (y ∷ ys) (b ∷ before) t
         test true c true d e =
             let h = heads (merged y u) b us (before ++ t ∷ rest) e in
             let r = f (u ∷ before) (i ∙ ap (λ l. u ∷ l) h.1) in

@@ -32,7 +32,7 @@ whole_runs_make_files file ts made q =
     ap (map unplaced) (sym (append_assoc x y (k ∷ []))) ∙ map-append unplaced (x ++ y) (k ∷ []) ∙ ap (λ l. l ++ end ∷ []) words ∙ ap (λ z. map unplaced r.used ++ z ∷ []) (sym q.is_end) ∙ sym (map-append unplaced r.used (q.end ∷ [])) ∙ ap (map unplaced) (sym r.split) in
     record {
       tree = tree;
-      spells = record { file_is = refl; shaped = both (list_all (is_shaped so.Use) r.uses) (list_all (is_shaped so.Decl) r.decls) r.uses_shaped r.decls_shaped; spelled = all; uses_placed = r.uses_placed; decls_placed = r.decls_placed };
+      spells = record { file_is = refl; shaped = both (list_all (is_shaped so.Use) r.uses) (list_all (is_shaped so.Decl) r.decls) r.uses_shaped r.decls_shaped; spelled = all; placed = record { uses = r.uses_placed; decls = r.decls_placed } };
       is_made = r.is_made;
     }
 

@@ -1,15 +1,12 @@
 -- Whole files: the run over a file's tokens, of which strings side by side are one, is done in front of End alone exactly where the tokens are
 -- those of a shaped file.
-use Rattle.std.specs.Prelude.{◌≡◌, ℕ, List, [], ◌∷◌, ◌++◌, true, length}
+use Rattle.std.specs.Prelude.{◌≡◌, ℕ, List, [], ◌∷◌, ◌++◌, true}
 use Rattle.hare_tree.specs.declared.token.TokenKind.TheVariants as tk
 use Rattle.hare_tree.specs.declared.token.Token.{Token}
-use Rattle.hare_tree.specs.declared.form.Lead.TheVariants as le
 use Rattle.hare_tree.specs.declared.tree.FileTree.{FileTree}
-use Rattle.hare_tree.specs.Node.{nodes_of}
-use Rattle.hare_tree.specs.Spell.{start_of, word_token, spells, spell_all, spell_file}
+use Rattle.hare_tree.specs.Spell.{start_of, word_token, spell_file}
 use Rattle.hare_tree.specs.Shape.{is_shaped_file}
-use Rattle.hare_tree.specs.Depth.{begins_led}
-use Rattle.hare_tree.specs.Grammar.{Spells, HavePlaces, unplaced, joined}
+use Rattle.hare_tree.specs.Grammar.{Spells, FileHasPlaces, unplaced, joined}
 use Rattle.hare_grammar.specs.Engine.{Group, begun, Done, run, bottom}
 use Rattle.hare_grammar.specs.OneTree.{file_symbols}
 
@@ -18,8 +15,7 @@ pub record SpellsFile (file : ℕ) (ts : List Token) (tree : FileTree) : Type 0 
   pub file_is : tree.file ≡ file
   pub shaped : is_shaped_file tree ≡ true
   pub spelled : Spells (spell_file tree) ts
-  pub uses_placed : HavePlaces file (joined ts) (begins_led le.Nothing 0 (spells 0 (nodes_of tree.uses))) (nodes_of tree.uses)
-  pub decls_placed : HavePlaces file (joined ts) (begins_led le.Nothing (length (spell_all 0 tree.uses)) (spells 0 (nodes_of tree.decls))) (nodes_of tree.decls)
+  pub placed : FileHasPlaces ts tree
 
 -- the run is done in front of one token, which is End
 pub record IsWhole (file : ℕ) (ts : List Token) (made : List Group) : Type 0 where

@@ -3,7 +3,7 @@
 ghost use Rattle.hare_parsing.specs.Reading.{RunsReadTrees, RunsReadFiles};
 ghost use Rattle.hare_parsing.specs.Viable.{RunsBreak, RunsAreLongest, RunsGoOn, FileRunsBreak, FileRunsEnd, FileRunsGoOn};
 ghost use Rattle.hare_parsing.specs.Used.{RunsUseTokens};
-ghost use Rattle.hare_parsing.specs.Faults.{ProperStringsJoin, AllStand, PlacesStand, RunsFault, RunsFaultInTrees, RunsReadFronts, RunsUseAll, FaultsEndRuns, FileRunsFault, FileRunsAreOver, FileRunsUseAll, FileRunsUseNoEnd, WholeRunsJoin, FilesJoin, TreesJoin};
+ghost use Rattle.hare_parsing.specs.Faults.{AllStand, PlacesStand, RunsFault, RunsFaultInTrees, RunsReadFronts, RunsUseAll, FaultsEndRuns, FileRunsFault, FileRunsAreOver, FileRunsUseAll, FileRunsUseNoEnd};
 ghost use Rattle.hare_parsing.specs.Whole.{WholeRunsMakeFiles, FilesHaveWholeRuns};
 
 /// Where the machine is done with a tree, the tree is shaped, of the sort that was asked for, and spelled by the tokens that were used, whose
@@ -47,15 +47,9 @@ pub fn law_used_tokens()
     ensures { RunsUseTokens }
 {}
 
-/// Joined tokens stand in the file: what is left of them where a run has come to stands at a token of the file, whose place it has. All strings side
-/// by side are joined where no number belongs to a string, where the tokens are those of a tree, and where a run over a file is done in front of
-/// End alone.
-#[tactic(auto, using(crate::proofs::Strung::proper_strings_join, crate::proofs::FileFaults::trees_join, crate::proofs::FileFaults::files_join, crate::proofs::FileFaults::whole_runs_join, crate::proofs::Places::all_stand, crate::proofs::Places::places_stand))]
+/// Joined tokens stand in the file: what is left of them where a run has come to stands at a token of the file, whose place it has.
+#[tactic(auto, using(crate::proofs::Places::all_stand, crate::proofs::Places::places_stand))]
 pub fn law_joined_tokens()
-    ensures proper { ProperStringsJoin }
-    ensures trees { TreesJoin }
-    ensures files { FilesJoin }
-    ensures whole { WholeRunsJoin }
     ensures stands { AllStand }
     ensures place { PlacesStand }
 {}

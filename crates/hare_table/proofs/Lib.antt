@@ -1,4 +1,4 @@
 pub mod Classified
 pub mod Joining
-pub mod Parted
+pub mod Places
 pub mod Tops

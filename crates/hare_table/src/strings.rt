@@ -1,7 +1,7 @@
 //! Strings side by side, which the grammar sees as one token.
 
 ghost use Rattle.std.specs.Prelude.{◌≡◌, ◌+◌, ◌<◌, Some, true, length, slice_get, IfOk};
-ghost use Rattle.hare_parsing.specs.Faults.{is_proper_string};
+ghost use Rattle.hare_tree.specs.Grammar.{is_proper_string, string_at};
 ghost use Rattle.hare_table.specs.Joined as spec;
 
 use crate::class::has_no_suffix;
@@ -17,8 +17,7 @@ pub struct Joined {
     pub next: usize,
 }
 
-/// Whether a token is a string that a tree can have: one with nothing beside its text, neither a suffix nor a number, as all are that the lexer
-/// gives.
+/// Whether a token is a string with nothing beside its text, neither a suffix nor a number, as all are that the lexer gives. A tree has no other.
 pub fn is_proper_string(token: &Token) -> bool
     ensures { result ≡ is_proper_string token.now }
 {
@@ -51,7 +50,7 @@ pub fn strings_at(
 
 /// A string at a place of the source, in front of a place of the list.
 fn as_one(place: Place, text: Word, next: usize) -> Joined
-    ensures token { result.token ≡ spec.string place text }
+    ensures token { result.token ≡ string_at place text }
     ensures next { result.next ≡ next }
 {
     let token = Token {

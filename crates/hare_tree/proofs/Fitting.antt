@@ -1,17 +1,20 @@
 -- Facts on files whose trees fit.
-use Rattle.std.proofs.Common.{◌≡◌, ℕ, zero, suc, ◌+◌, List, [], ◌∷◌, Bool, true, false, Some, None, take, drop, length, ◌≤◌, refl, ap, ◌∙◌, arith, add-one}
+use Rattle.std.proofs.Common.{◌≡◌, ℕ, zero, suc, ◌+◌, List, [], ◌∷◌, Bool, true, false, Some, None, take, drop, length, ◌≤◌, refl, sym, ap, ◌∙◌, arith, add-one}
 use Rattle.std.specs.Prelude.{◌&&◌, nat_le, slice_get}
 use Rattle.std.specs.List.{list_all}
 use Rattle.std.proofs.lemmas.Bool.{and_parts}
 use Rattle.hare_tree.specs.declared.form.Sort.{Sort}
 use Rattle.hare_tree.specs.declared.edge.Ends.{Ends}
-use Rattle.hare_tree.specs.Node.{Node}
-use Rattle.hare_tree.specs.Shape.{is_shaped}
+use Rattle.hare_tree.specs.declared.form.Lead.TheVariants as le
+use Rattle.hare_tree.specs.Node.{Node, nodes_of}
+use Rattle.hare_tree.specs.Spell.{spells, spell_all}
+use Rattle.hare_tree.specs.Grammar.{files}
+use Rattle.hare_tree.specs.Shape.{is_shaped, is_shaped_file}
 use Rattle.hare_tree.specs.declared.form.Sort.TheVariants as so
 use Rattle.hare_tree.specs.declared.tree.FileTree.{FileTree}
-use Rattle.hare_tree.specs.Depth.{fits_file, deep, height, is_nil, is_shallow}
+use Rattle.hare_tree.specs.Depth.{fits_as, fits_file, deep, deep_each, deep_root, begins_led, first_number, numbers_behind, height, is_nil, is_shallow}
 use Rattle.hare_tree.specs.Judged.{is_low, ends_of, judged_tree, keeps_low}
-use Rattle.hare_tree.proofs.Limits.{is_nil-low, same_test, and_true}
+use Rattle.hare_tree.proofs.Limits.{is_nil-low, is_nil-append, deep-place, same_test, and_true}
 use Rattle.hare_tree.proofs.LowTrees.{some-if, some-is, and_true'}
 
 -- a tree that is judged fits where it keeps the limits
@@ -77,15 +80,59 @@ file-bools true false false d = refl
 file-bools false b c d = refl
 
 -- a file, by its imports and its declarations
-file-is : (t : FileTree) → (list_all (λ u. is_shaped so.Use u && is_shallow u) t.uses && list_all (λ u. is_shaped so.Decl u && is_shallow u) t.decls) ≡ fits_file t
+file-is : (t : FileTree) → (list_all (fits_as so.Use) t.uses && list_all (fits_as so.Decl) t.decls) ≡ fits_file t
 file-is t =
     rw (all-both (λ u. is_shaped so.Use u) is_shallow t.uses, all-both (λ u. is_shaped so.Decl u) is_shallow t.decls)
     (file-bools (list_all (λ u. is_shaped so.Use u) t.uses) (list_all (λ u. is_shaped so.Decl u) t.decls) (list_all is_shallow t.uses) (list_all is_shallow t.decls))
 
-pub fits-file : (t : FileTree) (a b : Bool) → a ≡ list_all (λ u. is_shaped so.Use u && is_shallow u) t.uses → b ≡ list_all (λ u. is_shaped so.Decl u && is_shallow u) t.decls → a ≡ true → b ≡ fits_file t
+pub fits-file : (t : FileTree) (a b : Bool) → a ≡ list_all (fits_as so.Use) t.uses → b ≡ list_all (fits_as so.Decl) t.decls → a ≡ true → b ≡ fits_file t
 fits-file t a b ea eb h = let both : (a && b) ≡ fits_file t = rw (ea, eb) (file-is t) in rw h at both
 
-pub fits-no-file : (t : FileTree) (a : Bool) → a ≡ list_all (λ u. is_shaped so.Use u && is_shallow u) t.uses → a ≡ false → a ≡ fits_file t
+pub fits-no-file : (t : FileTree) (a : Bool) → a ≡ list_all (fits_as so.Use) t.uses → a ≡ false → a ≡ fits_file t
 fits-no-file t a ea h =
-    let both : (a && list_all (λ u. is_shaped so.Decl u && is_shallow u) t.decls) ≡ fits_file t = rw ea (file-is t) in
+    let both : (a && list_all (fits_as so.Decl) t.decls) ≡ fits_file t = rw ea (file-is t) in
     h ∙ rw h at both
+
+-- ---- where trees stand side by side
+
+shallow_all : (ns : List ℕ) (ts : List Node) → is_nil (deep_each ns 0 false (nodes_of ts)) ≡ list_all is_shallow ts
+unfolding deep
+shallow_all ns [] = refl
+shallow_all ns (t ∷ ts) =
+    is_nil-append (deep (first_number ns) 0 false t) _
+    ∙ rw (deep-place (first_number ns) 0 0 false t, shallow_all (numbers_behind ns) ts) refl
+
+-- a file passes no limit where each of its trees keeps them
+pub shallow_file : (t : FileTree) → is_nil (files.deep_of t) ≡ (list_all is_shallow t.uses && list_all is_shallow t.decls)
+shallow_file t =
+    let us = begins_led le.Nothing 0 (spells 0 (nodes_of t.uses)) in
+    let ds = begins_led le.Nothing (length (spell_all t.file t.uses)) (spells 0 (nodes_of t.decls)) in
+    is_nil-append (deep_each us 0 false (nodes_of t.uses)) (deep_each ds 0 false (nodes_of t.decls))
+    ∙ rw (shallow_all us t.uses, shallow_all ds t.decls) refl
+
+is_nil-is : (ns : List ℕ) → is_nil ns ≡ true → ns ≡ []
+is_nil-is [] e = refl
+is_nil-is (n ∷ ns) e = cc
+
+-- what keeps the limits passes none
+pub shallow_tree : (t : Node) → is_shallow t ≡ true → deep_root t ≡ []
+shallow_tree t e = is_nil-is (deep_root t) e
+
+-- the parts of what fits
+pub fits_parts : (s : Sort) (t : Node) → fits_as s t ≡ true → (is_shaped s t ≡ true) × (deep_root t ≡ [])
+fits_parts s t e = let p = and_parts (is_shaped s t) (is_shallow t) e in (p.0, shallow_tree t p.1)
+
+pub fits_tree : (s : Sort) (t : Node) → is_shaped s t ≡ true → deep_root t ≡ [] → fits_as s t ≡ true
+fits_tree s t a b = rw (a, b) refl
+
+pub fits_file_parts : (t : FileTree) → fits_file t ≡ true → (is_shaped_file t ≡ true) × (files.deep_of t ≡ [])
+fits_file_parts t e =
+    let p = and_parts (is_shaped_file t && list_all is_shallow t.uses) (list_all is_shallow t.decls) e in
+    let q = and_parts (is_shaped_file t) (list_all is_shallow t.uses) p.0 in
+    (q.0, is_nil-is (files.deep_of t) (shallow_file t ∙ and_true (list_all is_shallow t.uses) (list_all is_shallow t.decls) q.1 p.1))
+
+pub file_fits : (t : FileTree) → is_shaped_file t ≡ true → files.deep_of t ≡ [] → fits_file t ≡ true
+file_fits t a b =
+    let s : (list_all is_shallow t.uses && list_all is_shallow t.decls) ≡ true = sym (shallow_file t) ∙ ap is_nil b in
+    let p = and_parts (list_all is_shallow t.uses) (list_all is_shallow t.decls) s in
+    and_true _ _ (and_true _ _ a p.0) p.1

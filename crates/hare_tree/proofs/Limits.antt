@@ -52,7 +52,7 @@ nat_le-over a =
 
 -- ---- the tokens at which a limit is passed, or none
 
-is_nil-append : (a b : List ℕ) → is_nil (a ++ b) ≡ (is_nil a && is_nil b)
+pub is_nil-append : (a b : List ℕ) → is_nil (a ++ b) ≡ (is_nil a && is_nil b)
 is_nil-append [] b = refl
 is_nil-append (n ∷ a) b = refl
 
@@ -72,7 +72,7 @@ node_faults-nil n o h ts =
 mutual
   unfolding deep
 
-  deep-place : (n m o : ℕ) (l : Bool) (t : Node) → is_nil (deep n o l t) ≡ is_nil (deep m o l t)
+  pub deep-place : (n m o : ℕ) (l : Bool) (t : Node) → is_nil (deep n o l t) ≡ is_nil (deep m o l t)
   deep-place n m o l (branch h ts) =
       is_nil-append (node_faults n o h ts) _
       ∙ (same_and _ _ _ _ (node_faults-nil n o h ts ∙ sym (node_faults-nil m o h ts)) (deep_each-place (begins h (form_of h.kind) n (spells 0 ts)) (begins h (form_of h.kind) m (spells 0 ts)) (open_within o l h.kind) (is_operator h.kind) ts)

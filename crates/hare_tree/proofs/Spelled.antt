@@ -7,15 +7,9 @@ use Rattle.hare_tree.specs.declared.token.TokenKind.TheVariants as tk
 use Rattle.hare_tree.specs.declared.form.Sign.TheVariants as si
 use Rattle.hare_tree.specs.declared.form.Lead.{Lead}
 use Rattle.hare_tree.specs.declared.form.Piece.{Piece}
-use Rattle.hare_tree.specs.Node.{Head, Node, branch, head, nodes_of, size_of, sizes_of}
+use Rattle.hare_tree.specs.Node.{Head, Node, branch, head, nodes_of}
 use Rattle.hare_tree.specs.Forms.{form_of}
 use Rattle.hare_tree.specs.Spell.{Spelled, word_token, sign_token, parts_from, path_tokens, with_lead, all_led, one_led, listed, spell, spells, spelled_kid, kids_spelled, pieces_tokens, piece_tokens, left_behind}
-
--- a kid is smaller than the kids
-pub kid_size : (ts : List Node) (i : ℕ) (x : Node) → slice_get ts i ≡ Some x → size_of x < sizes_of (nodes_of ts)
-kid_size [] i x e = cc
-kid_size (t ∷ ts) zero x e = let h : t ≡ x = cc in rw (← h) (omega arith)
-kid_size (t ∷ ts) (suc i) x e = omega (arith, kid_size ts i x e)
 
 -- as many kids are spelled as there are
 pub length-spells : (f : ℕ) (ts : List Node) → length (spells f (nodes_of ts)) ≡ length ts

@@ -12,11 +12,12 @@ use Rattle.hare_tree.specs.declared.form.Piece.TheVariants as pi
 use Rattle.hare_tree.specs.declared.form.Lead.{Lead}
 use Rattle.hare_tree.specs.declared.form.Lead.TheVariants as le
 use Rattle.hare_tree.specs.declared.form.Sign.TheVariants as si
+use Rattle.hare_tree.specs.declared.form.Sort.{Sort}
 use Rattle.hare_tree.specs.declared.tree.FileTree.{FileTree}
 use Rattle.hare_tree.specs.Node.{Head, Node, Nodes, branch, none, more, nodes_of}
 use Rattle.hare_tree.specs.Forms.{form_of}
 use Rattle.hare_tree.specs.Spell.{Spelled, spell, spells, with_lead, stands_alone, value_lead, piece_tokens, left_behind}
-use Rattle.hare_tree.specs.Shape.{is_shaped_file}
+use Rattle.hare_tree.specs.Shape.{is_shaped, is_shaped_file}
 
 -- ---- nodes, operators, heights
 
@@ -175,6 +176,10 @@ is_nil (n ∷ ns) = false
 -- the tree keeps both limits
 abbrev pub is_shallow : Node → Bool
 is_shallow t = is_nil (deep_root t)
+
+-- the tree is of this sort in the language: it is shaped, and keeps the limits
+abbrev pub fits_as : Sort → Node → Bool
+fits_as s t = is_shaped s t && is_shallow t
 
 -- a file is in the language where it is shaped and each of its trees keeps the limits
 abbrev pub fits_file : FileTree → Bool

@@ -1,5 +1,5 @@
 -- What a list of tokens is to the grammar: which trees it spells and with which places, which of its fronts are viable, and its first fault.
-use Rattle.std.specs.Prelude.{◌≡◌, ℕ, zero, suc, ◌+◌, ◌<◌, ◌≤◌, List, [], ◌∷◌, ◌++◌, Bool, true, false, ◌⊎◌, length, take, map, if◌then◌else◌}
+use Rattle.std.specs.Prelude.{◌≡◌, ℕ, zero, suc, ◌+◌, ◌<◌, ◌≤◌, List, [], ◌∷◌, ◌++◌, Bool, true, false, ◌&&◌, ◌==◌, ◌⊎◌, length, take, drop, map, if◌then◌else◌}
 use Rattle.hare_tree.specs.declared.place.Place.{Place}
 use Rattle.hare_tree.specs.declared.place.Fault.{Fault}
 use Rattle.hare_tree.specs.declared.token.TokenKind.{TokenKind}
@@ -13,7 +13,7 @@ use Rattle.hare_tree.specs.Node.{Node, Nodes, branch, none, more, nodes_of}
 use Rattle.hare_tree.specs.Forms.{form_of}
 use Rattle.hare_tree.specs.Spell.{start_of, spell, spells, spell_all, spell_file}
 use Rattle.hare_tree.specs.Shape.{is_shaped, is_shaped_file, is_none, has_no_suffix}
-use Rattle.hare_tree.specs.Depth.{begins, begins_led, first_number, numbers_behind, place_in, deep_root, deep_all}
+use Rattle.hare_tree.specs.Depth.{begins, begins_led, first_number, numbers_behind, place_in, deep_root, deep_all, fits_as, fits_file}
 
 -- ---- strings side by side
 
@@ -21,17 +21,21 @@ abbrev pub is_string : TokenKind → Bool
 is_string tk.Str = true
 is_string _ = false
 
--- a string with nothing beside its text; a token with more is none that a tree spells
-abbrev pub is_plain_string : Token → Bool
-is_plain_string t = if is_string t.kind then has_no_suffix t.suffix else false
+-- a string with nothing beside its text, neither a suffix nor a number; a token with more is none that a tree spells
+abbrev pub is_proper_string : Token → Bool
+is_proper_string t = is_string t.kind && has_no_suffix t.suffix && t.number == 0
 
--- a token in front of tokens: two strings become one, which stands at the first
+-- a string at a place of the source
+abbrev pub string_at : Place → List ℕ → Token
+string_at p text = record { kind = tk.Str; place = p; text = text; number = 0; suffix = suffix.None }
+
+-- a token in front of tokens: two such strings become one, which stands at the first
 abbrev pub joined_to : Token → List Token → List Token
 joined_to t [] = t ∷ []
 joined_to t (u ∷ us) =
-    if is_plain_string t then (if is_plain_string u then record { kind = tk.Str; place = t.place; text = t.text ++ u.text; number = t.number + u.number; suffix = suffix.None } ∷ us else t ∷ u ∷ us) else t ∷ u ∷ us
+    if is_proper_string t then (if is_proper_string u then string_at t.place (t.text ++ u.text) ∷ us else t ∷ u ∷ us) else t ∷ u ∷ us
 
--- adjacent strings are one token
+-- adjacent strings are one token; a string to which a suffix or a number belongs is joined with nothing
 abbrev pub joined : List Token → List Token
 joined [] = []
 joined (t ∷ ts) = joined_to t (joined ts)
@@ -43,6 +47,22 @@ unplaced t = record { kind = t.kind; place = start_of 0; text = t.text; number =
 -- the tree's tokens are these but for places; adjacent strings count as one
 abbrev pub Spells : List Token → List Token → Type 0
 Spells spelled ts = map unplaced spelled ≡ map unplaced (joined ts)
+
+-- ---- where the joined tokens stand in the file
+
+abbrev pub ends_in_string : List Token → Bool
+ends_in_string [] = false
+ends_in_string (t ∷ []) = is_proper_string t
+ends_in_string (t ∷ u ∷ us) = ends_in_string (u ∷ us)
+
+abbrev pub begins_with_string : List Token → Bool
+begins_with_string [] = false
+begins_with_string (t ∷ ts) = is_proper_string t
+
+-- these are the joined tokens behind the first `n` of the file, and no strings are joined across that place
+pub record StandsAt (ts : List Token) (n : ℕ) (us : List Token) : Type 0 where
+  pub behind : us ≡ joined (drop n ts)
+  pub apart : (ends_in_string (take n ts) && begins_with_string (drop n ts)) ≡ false
 
 -- ---- places
 
@@ -62,6 +82,11 @@ unfoldable mutual
   pub HavePlaces : ℕ → List Token → List ℕ → Nodes → Type 0
   HavePlaces f ts ns none = Unit {0}
   HavePlaces f ts ns (more u us) = HasPlaces f ts (first_number ns) u × HavePlaces f ts (numbers_behind ns) us
+
+-- A file's tree has its places over the tokens of the file: its imports begin with the first of them, and its declarations behind the imports.
+pub record FileHasPlaces (ts : List Token) (tree : FileTree) : Type 0 where
+  pub uses : HavePlaces tree.file (joined ts) (begins_led le.Nothing 0 (spells 0 (nodes_of tree.uses))) (nodes_of tree.uses)
+  pub decls : HavePlaces tree.file (joined ts) (begins_led le.Nothing (length (spell_all 0 tree.uses)) (spells 0 (nodes_of tree.decls))) (nodes_of tree.decls)
 
 -- ---- the languages: what lists of tokens a sort or files have
 
@@ -140,10 +165,9 @@ IsLeastFault kept lexical fault =
 
 -- ---- what a parser answers
 
--- the tree of this sort that spells the tokens of a file and has their places, and keeps the limits
+-- the tree of this sort in the language that spells the tokens of a file and has their places
 pub record IsTreeOf (s : Sort) (file : ℕ) (ts : List Token) (tree : Node) : Type 0 where
-  pub shaped : is_shaped s tree ≡ true
-  pub shallow : deep_root tree ≡ []
+  pub fits : fits_as s tree ≡ true
   pub spelled : Spells (spell 0 tree) ts
   pub placed : HasPlaces file (joined ts) 0 tree
 
@@ -153,11 +177,9 @@ pub record IsRun {T : Type 0} (l : Language T) (ts : List Token) (n : ℕ) : Typ
   pub viable : IsViable l (take n ts)
   pub longest : n < length ts → IsViable l (take (suc n) ts) → ⊥
 
--- the tree that spells the tokens of the file and has their places, and keeps the limits
+-- the tree of a file in the language that spells the tokens of the file and has their places
 pub record IsFileTree (file : ℕ) (ts : List Token) (tree : FileTree) : Type 0 where
   pub file_is : tree.file ≡ file
-  pub shaped : is_shaped_file tree ≡ true
-  pub shallow : files.deep_of tree ≡ []
+  pub fits : fits_file tree ≡ true
   pub spelled : Spells (spell_file tree) ts
-  pub uses_placed : HavePlaces file (joined ts) (begins_led le.Nothing 0 (spells 0 (nodes_of tree.uses))) (nodes_of tree.uses)
-  pub decls_placed : HavePlaces file (joined ts) (begins_led le.Nothing (length (spell_all 0 tree.uses)) (spells 0 (nodes_of tree.decls))) (nodes_of tree.decls)
+  pub placed : FileHasPlaces ts tree

@@ -11,3 +11,5 @@ pub mod Depth
 pub mod Grammar
 pub mod Judged
 pub mod Left
+pub mod Size
+pub mod KidSorts

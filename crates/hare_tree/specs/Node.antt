@@ -1,5 +1,5 @@
 -- What contracts see of a tree: its head and its kids, without addresses.
-use Rattle.std.specs.Prelude.{◌≡◌, ℕ, ◌+◌, ◌≤◌, suc, List, [], ◌∷◌, map, refl}
+use Rattle.std.specs.Prelude.{◌≡◌, ℕ, ◌+◌, ◌≤◌, suc, List, [], ◌∷◌, refl}
 use Rattle.std.specs.Coded.{Coded}
 use Rattle.std.proofs.Common.{arith}
 use base.Stored.{Gv, gnil, gcons}
@@ -43,9 +43,9 @@ abbrev mutual
   sizes_of none = 0
   sizes_of (more t ts) = suc (size_of t) + sizes_of ts
 
-pub most_le-sizes_of : {B : Type 0} (f : B → Node) (bs : List B) → most (λ b. size_of (f b) + 1) bs ≤ sizes_of (nodes_of (map f bs))
-most_le-sizes_of f [] = omega arith
-most_le-sizes_of f (b ∷ bs) = omega (arith, most_le-sizes_of f bs)
+pub most_le-sizes_of : (ts : List Node) → most (λ t. size_of t + 1) ts ≤ sizes_of (nodes_of ts)
+most_le-sizes_of [] = omega arith
+most_le-sizes_of (t ∷ ts) = omega (arith, most_le-sizes_of ts)
 
 -- ---- codes, by which the checker compares trees
 

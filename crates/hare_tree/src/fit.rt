@@ -1,9 +1,8 @@
 //! Which trees of files are in the language.
 
-ghost use Rattle.std.specs.Prelude.{◌≡◌, ◌&&◌, take, drop};
+ghost use Rattle.std.specs.Prelude.{◌≡◌, take, drop};
 ghost use Rattle.std.specs.List.{list_all};
-ghost use Rattle.hare_tree.specs.Shape.{is_shaped};
-ghost use Rattle.hare_tree.specs.Depth.{fits_file, is_shallow};
+ghost use Rattle.hare_tree.specs.Depth.{fits_as, fits_file};
 
 use crate::depth::{ROOM, keeps_limits};
 use crate::form::Sort;
@@ -22,7 +21,7 @@ pub fn fits(t: &FileTree) -> bool
 
 /// Whether all trees of a list are of this sort and fit.
 fn all_fit(kids: &Kids, sort: Sort) -> bool
-    ensures { result ≡ list_all (λ t. is_shaped sort t && is_shallow t) kids.now }
+    ensures { result ≡ list_all (fits_as sort) kids.now }
 {
     for i in 0..kids.len() {
         if !kid_fits(kids, i, sort) {
@@ -34,7 +33,7 @@ fn all_fit(kids: &Kids, sort: Sort) -> bool
 
 /// Whether the `i`th tree of a list, if there is one, is of this sort and fits.
 fn kid_fits(kids: &Kids, i: usize, sort: Sort) -> bool
-    ensures { result ≡ list_all (λ t. is_shaped sort t && is_shallow t) (take 1 (drop i kids.now)) }
+    ensures { result ≡ list_all (fits_as sort) (take 1 (drop i kids.now)) }
 {
     match kids.get(i) {
         Some(kid) => tree_fits(kid, sort),
@@ -44,7 +43,7 @@ fn kid_fits(kids: &Kids, i: usize, sort: Sort) -> bool
 
 /// Whether a tree is of this sort, shaped, and keeps the limits on depth.
 fn tree_fits(t: &Tree, sort: Sort) -> bool
-    ensures { result ≡ (is_shaped sort t.now && is_shallow t.now) }
+    ensures { result ≡ fits_as sort t.now }
 {
     match judged_tree(t, sort, ROOM) {
         Some(_) => keeps_limits(t, 0, false, ROOM),

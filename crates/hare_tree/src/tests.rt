@@ -1,6 +1,7 @@
 //! Each call once, with what a person expects of it.
 
 mod fitting;
+mod kids;
 mod spelling;
 mod trees;
 

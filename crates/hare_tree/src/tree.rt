@@ -1,6 +1,7 @@
 //! Trees, which contracts see as plain data without addresses.
 
-ghost use Rattle.std.specs.Prelude.{◌≡◌, ◌≤◌, [], ◌∷◌, ◌++◌, length, slice_get, IfSome, IfNone, OnOk, OnErr};
+ghost use Rattle.std.specs.Prelude.{◌≡◌, ◌≤◌, ◌<◌, [], ◌∷◌, ◌++◌, length, slice_get, IfSome, IfNone, OnOk, OnErr};
+ghost use Rattle.hare_tree.specs.Node.{nodes_of, size_of, sizes_of};
 
 use crate::kind::Kind;
 use crate::place::Place;
@@ -13,11 +14,11 @@ use std::marker::Model;
 #[derive(Drop)]
 #[cycle(tree)]
 pub struct Kids {
-    trees: Vec<Box<Tree>>,
+    trees: Vec<Tree>,
 }
 
 impl Model for Kids {
-    ghost use Rattle.std.specs.Prelude.{List, map};
+    ghost use Rattle.std.specs.Prelude.{List};
     ghost use Rattle.std.specs.Coded.{coded_list, codes};
     ghost use Rattle.hare_tree.specs.contracts.kind.Kind as k;
     ghost use Rattle.hare_tree.specs.contracts.place.Place as p;
@@ -28,13 +29,13 @@ impl Model for Kids {
 
     ghost coded = { coded_list (node_code (Prim.hlevel (codes, k.the_row.coded, p.the_row.coded, s.the_row.coded))) };
 
-    ghost view = { λ a. map (λ b. b.value) a.trees.items };
+    ghost view = { λ a. a.trees.items };
 
     ghost size = { λ ts. sizes_of (nodes_of ts) };
 
     ghost use Rattle.std.proofs.Common.{arith};
 
-    ghost size_decreases = { λ a h. Prim.omega (arith, most_le-sizes_of (λ b. b.value) a.trees.items) };
+    ghost size_decreases = { λ a h. Prim.omega (arith, most_le-sizes_of a.trees.items) };
 }
 
 /// A tree: one form of the grammar with what stands in it.
@@ -99,12 +100,11 @@ impl Kids {
     }
 
     /// Puts a tree at the end.
-    pub fn push(&mut self, alloc: Global, t: Tree) -> Result<(), AllocError>
+    pub fn push(&mut self, t: Tree) -> Result<(), AllocError>
         ensures ok { OnOk result (self.new ≡ self.old ++ t ∷ []) }
         ensures err { OnErr result (self.new ≡ self.old) }
     {
-        let boxed = Box::new(alloc, t)?;
-        self.trees.push(boxed)?;
+        self.trees.push(t)?;
         Ok(())
     }
 
@@ -115,14 +115,12 @@ impl Kids {
         self.trees.len()
     }
 
-    /// The tree at a place of the list, from 0; none past the end.
+    /// The tree at a place of the list, from 0; none past the end. It is smaller than the list, so that a walk over trees ends.
     pub fn get(&self, i: usize) -> Option<&Tree>
         ensures none { IfNone result (length self.now ≤ i) }
         ensures found { IfSome result (λ t. slice_get self.now i ≡ Some t.now) }
+        ensures smaller { IfSome result (λ t. size_of t.now < sizes_of (nodes_of self.now)) }
     {
-        match self.trees.get(i) {
-            Some(t) => Some(t),
-            None => None,
-        }
+        self.trees.get(i)
     }
 }

@@ -120,18 +120,15 @@ fn statements_end_in_semicolons(rt: HostRuntime) -> Result<(), Fail> {
 // `use rt::{a, b,};`
 fn imports(alloc: Global) -> Result<Tree, AllocError> {
     let mut kids = Kids::new(alloc);
-    kids.push(
+    kids.push(one(
         alloc,
-        one(
-            alloc,
-            Kind::ImportPath,
-            b"",
-            leaf(alloc, Kind::Name, b"rt")?,
-        )?,
-    )?;
-    kids.push(alloc, leaf(alloc, Kind::Name, b"a")?)?;
-    kids.push(alloc, leaf(alloc, Kind::Name, b"b")?)?;
-    kids.push(alloc, comma(alloc)?)?;
+        Kind::ImportPath,
+        b"",
+        leaf(alloc, Kind::Name, b"rt")?,
+    )?)?;
+    kids.push(leaf(alloc, Kind::Name, b"a")?)?;
+    kids.push(leaf(alloc, Kind::Name, b"b")?)?;
+    kids.push(comma(alloc)?)?;
     tree(alloc, Kind::UseNames, b"", kids)
 }
 
@@ -139,11 +136,11 @@ fn imports(alloc: Global) -> Result<Tree, AllocError> {
 fn function(alloc: Global) -> Result<Tree, AllocError> {
     let call = two(alloc, Kind::Call, b"", path(alloc, b"a")?, absent(alloc)?)?;
     let mut kids = Kids::new(alloc);
-    kids.push(alloc, leaf(alloc, Kind::Export, b"")?)?;
-    kids.push(alloc, leaf(alloc, Kind::Name, b"main")?)?;
-    kids.push(alloc, one(alloc, Kind::Params, b"", absent(alloc)?)?)?;
-    kids.push(alloc, leaf(alloc, Kind::TypeScalar, b"void")?)?;
-    kids.push(alloc, one(alloc, Kind::Block, b"", call)?)?;
+    kids.push(leaf(alloc, Kind::Export, b"")?)?;
+    kids.push(leaf(alloc, Kind::Name, b"main")?)?;
+    kids.push(one(alloc, Kind::Params, b"", absent(alloc)?)?)?;
+    kids.push(leaf(alloc, Kind::TypeScalar, b"void")?)?;
+    kids.push(one(alloc, Kind::Block, b"", call)?)?;
     tree(alloc, Kind::Fn, b"", kids)
 }
 
@@ -151,9 +148,9 @@ fn function(alloc: Global) -> Result<Tree, AllocError> {
 fn a_file_is_spelled_and_fits(rt: HostRuntime) -> Result<(), Fail> {
     let alloc = rt.alloc();
     let mut uses = Kids::new(alloc);
-    uses.push(alloc, imports(alloc)?)?;
+    uses.push(imports(alloc)?)?;
     let mut decls = Kids::new(alloc);
-    decls.push(alloc, function(alloc)?)?;
+    decls.push(function(alloc)?)?;
     let whole = file(uses, decls);
     assert!(rt; fits(&whole));
     assert!(rt;
@@ -173,7 +170,7 @@ fn a_file_is_spelled_and_fits(rt: HostRuntime) -> Result<(), Fail> {
 fn an_import_is_no_declaration(rt: HostRuntime) -> Result<(), Fail> {
     let alloc = rt.alloc();
     let mut decls = Kids::new(alloc);
-    decls.push(alloc, imports(alloc)?)?;
+    decls.push(imports(alloc)?)?;
     assert!(rt; !fits(&file(Kids::new(alloc), decls)));
     Ok(())
 }

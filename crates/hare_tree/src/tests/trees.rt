@@ -45,24 +45,24 @@ pub fn path(alloc: Global, text: &[u8]) -> Result<Tree, AllocError> {
 // A tree with one kid.
 pub fn one(alloc: Global, kind: Kind, text: &[u8], a: Tree) -> Result<Tree, AllocError> {
     let mut kids = Kids::new(alloc);
-    kids.push(alloc, a)?;
+    kids.push(a)?;
     tree(alloc, kind, text, kids)
 }
 
 // A tree with two kids.
 pub fn two(alloc: Global, kind: Kind, text: &[u8], a: Tree, b: Tree) -> Result<Tree, AllocError> {
     let mut kids = Kids::new(alloc);
-    kids.push(alloc, a)?;
-    kids.push(alloc, b)?;
+    kids.push(a)?;
+    kids.push(b)?;
     tree(alloc, kind, text, kids)
 }
 
 // A tree with three kids.
 pub fn three(alloc: Global, kind: Kind, a: Tree, b: Tree, c: Tree) -> Result<Tree, AllocError> {
     let mut kids = Kids::new(alloc);
-    kids.push(alloc, a)?;
-    kids.push(alloc, b)?;
-    kids.push(alloc, c)?;
+    kids.push(a)?;
+    kids.push(b)?;
+    kids.push(c)?;
     tree(alloc, kind, b"", kids)
 }
 
@@ -94,11 +94,11 @@ pub fn file(uses: Kids, decls: Kids) -> FileTree {
 // The file `def x = e;`
 pub fn defined(alloc: Global, e: Tree) -> Result<FileTree, AllocError> {
     let mut kids = Kids::new(alloc);
-    kids.push(alloc, absent(alloc)?)?;
-    kids.push(alloc, leaf(alloc, Kind::Name, b"x")?)?;
-    kids.push(alloc, absent(alloc)?)?;
-    kids.push(alloc, e)?;
+    kids.push(absent(alloc)?)?;
+    kids.push(leaf(alloc, Kind::Name, b"x")?)?;
+    kids.push(absent(alloc)?)?;
+    kids.push(e)?;
     let mut decls = Kids::new(alloc);
-    decls.push(alloc, tree(alloc, Kind::Def, b"", kids)?)?;
+    decls.push(tree(alloc, Kind::Def, b"", kids)?)?;
     Ok(file(Kids::new(alloc), decls))
 }

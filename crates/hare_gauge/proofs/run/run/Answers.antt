@@ -2,7 +2,7 @@ use Rattle.std.proofs.Common.{sym, ◌∙◌, arith, refl}
 use Rattle.std.proofs.lemmas.Option.{slice_get_within}
 use Rattle.hare_gauge.specs.declared.run.Stop.TheVariants as so
 use Rattle.hare_gauge.proofs.GaugedLoop.{ReadsAt, goes_at, ends_here, stuck_here, used_up_here, stops_at}
-use Rattle.hare_table.proofs.Parted.{place_further}
+use Rattle.hare_table.proofs.Places.{place_further}
 use Rattle.hare_gauge.proofs.Widths.{begins_with_front}
 use Rattle.hare_gauge.proofs.run.run.Goals as goal
 

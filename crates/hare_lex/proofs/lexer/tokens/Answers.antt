@@ -1,5 +1,9 @@
 use Rattle.hare_lex.proofs.Unique.{only_tokens, only_break}
+use Rattle.hare_lex.proofs.Ordered.{found_in_order}
 use Rattle.hare_lex.proofs.lexer.tokens.Goals as goal
+
+pub returns-clause-order : goal.returns-clause-order
+returns-clause-order c = found_in_order c.args.file c.args.src.now c.found.result c.found.ensures.ok
 
 pub returns-clause-only_tokens : goal.returns-clause-only_tokens
 returns-clause-only_tokens c = only_tokens c.args.file c.args.src.now c.found.result c.found.ensures.ok c.found.ensures.err

@@ -1,6 +1,6 @@
 use Rattle.std.proofs.Common.{◌≡◌, ◌-◌, ◌++◌, List, length, drop}
 use Rattle.hare_tree.specs.declared.token.Token.{Token}
-use Rattle.hare_parsing.specs.Faults.{strung}
+use Rattle.hare_tree.specs.Grammar.{joined}
 use Rattle.hare_grammar.specs.Engine.{run}
 use Rattle.hare_table.specs.Places.{IsPlace}
 use Rattle.hare_table.specs.Seen.{waited}
@@ -10,10 +10,10 @@ abbrev pub invariant-loop-token : goal.invariant-loop-token
 invariant-loop-token l =
     record {
       same :
-          run l.file (strung (drop l.from l.tokens)) (waited l.fn.stack) l.fn.groups
-          ≡ run l.file (strung (drop l.at l.tokens)) (waited l.stack) l.groups;
+          run l.file (joined (drop l.from l.tokens)) (waited l.fn.stack) l.fn.groups
+          ≡ run l.file (joined (drop l.at l.tokens)) (waited l.stack) l.groups;
       place : IsPlace l.tokens l.from l.at;
-      onward : (us : List Token) → run l.file (strung (drop l.from l.tokens) ++ us) (waited l.fn.stack) l.fn.groups ≡ run l.file (strung (drop l.at l.tokens) ++ us) (waited l.stack) l.groups;
+      onward : (us : List Token) → run l.file (joined (drop l.from l.tokens) ++ us) (waited l.fn.stack) l.fn.groups ≡ run l.file (joined (drop l.at l.tokens) ++ us) (waited l.stack) l.groups;
     }
 
 abbrev pub decreases-loop-token : goal.decreases-loop-token

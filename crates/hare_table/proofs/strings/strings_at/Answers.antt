@@ -1,9 +1,8 @@
 use Rattle.std.proofs.Common.{◌≡◌, ◌++◌, sym, ◌∙◌, ap, arith, true, false}
 use Rattle.std.proofs.lemmas.Option.{slice_get_within}
-use Rattle.hare_parsing.specs.Faults.{is_proper_string}
-use Rattle.hare_table.specs.Joined.{string}
+use Rattle.hare_tree.specs.Grammar.{is_proper_string, string_at}
 use Rattle.hare_table.proofs.Joining.{first_so_far, more_so_far, ends_at, ends_past}
-use Rattle.hare_table.proofs.Parted.{strings_end_at, strings_end_past}
+use Rattle.hare_table.proofs.Places.{strings_end_at, strings_end_past}
 use Rattle.hare_table.proofs.strings.strings_at.Goals as goal
 
 pub place_behind-next-requires : goal.place_behind-next-requires
@@ -22,7 +21,7 @@ pub returns-then-not-is_proper_string : goal.returns-then-not-is_proper_string
 returns-then-not-is_proper_string c =
     let i = c.loop-token.invariant in
     let e : is_proper_string c.in-Some.token.now ≡ false = cc in
-    let s = string c.args.first.now.place c.loop-token.text in
+    let s = string_at c.args.first.now.place c.loop-token.text in
     rw (c.as_one.ensures.token, c.as_one.ensures.next)
     (strings_end_at c.args.tokens.now c.args.at c.loop-token.next s c.in-Some.token.now (ends_at c.args.tokens.now c.args.at c.loop-token.next s c.in-Some.token.now i.so_far c.in-Some.ensures e) c.in-Some.ensures e i.behind i.within)
 
@@ -49,6 +48,6 @@ loop-token-preserved c =
 pub returns : goal.returns
 returns c =
     let i = c.loop-token.invariant in
-    let s = string c.args.first.now.place c.loop-token.text in
+    let s = string_at c.args.first.now.place c.loop-token.text in
     rw (c.as_one-2.ensures.token, c.as_one-2.ensures.next)
     (strings_end_past c.args.tokens.now c.args.at c.loop-token.next s (ends_past c.args.tokens.now c.args.at c.loop-token.next s i.so_far c.in_default.ensures) c.in_default.ensures i.behind i.within)

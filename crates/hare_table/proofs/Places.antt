@@ -1,13 +1,13 @@
--- Places of a list at which tokens may be parted: no two strings that stand side by side come apart.
+-- Places of a list at which tokens may be apart: no two strings that stand side by side come apart.
 use Rattle.std.proofs.Common.{◌≡◌, ℕ, zero, suc, zero-add, suc-add, ◌+◌, ◌-◌, ◌<◌, ◌≤◌, List, [], ◌∷◌, drop, take, length, length-drop, Bool, true, false, refl, sym, ap, ◌∙◌, inl, inr, arith}
 use Rattle.std.specs.Prelude.{slice_get, Some, None, ◌&&◌}
 use Rattle.std.proofs.lemmas.List.{drop-drop}
 use Rattle.std.proofs.lemmas.Option.{slice_get_within}
 use Rattle.hare_tree.specs.declared.token.Token.{Token}
-use Rattle.hare_parsing.specs.Faults.{is_proper_string, strung, ends_in_string, begins_with_string, StandsAt}
+use Rattle.hare_tree.specs.Grammar.{is_proper_string, joined, ends_in_string, begins_with_string, StandsAt}
 use Rattle.hare_table.specs.Joined.{BeginsWith}
 use Rattle.hare_table.specs.Places.{IsPlace}
-use Rattle.hare_table.proofs.Joining.{read_drop, drop_past, strung_at, join_no}
+use Rattle.hare_table.proofs.Joining.{read_drop, drop_past, joined_at, join_no}
 
 pub and_false : (b : Bool) → (b && false) ≡ false
 and_false true = refl
@@ -18,24 +18,24 @@ pub drop_to : (ts : List Token) (a b : ℕ) → a ≤ b → drop (b - a) (drop a
 drop_to ts a b h = let e : a + (b - a) ≡ b = omega arith in drop-drop (b - a) a ts ∙ ap (λ i. drop i ts) e
 
 -- in front of a token that is no such string
-stands_before : (ts : List Token) (at next : ℕ) → at < next → begins_with_string (drop next ts) ≡ false → StandsAt (drop at ts) (next - at) (strung (drop next ts))
+stands_before : (ts : List Token) (at next : ℕ) → at < next → begins_with_string (drop next ts) ≡ false → StandsAt (drop at ts) (next - at) (joined (drop next ts))
 stands_before ts at next h e =
     let d = drop_to ts at next (omega arith) in
-    record { behind = ap strung (sym d); parted = rw (d, e) (and_false (ends_in_string (take (next - at) (drop at ts)))) }
+    record { behind = ap joined (sym d); apart = rw (d, e) (and_false (ends_in_string (take (next - at) (drop at ts)))) }
 
 -- behind a token that is no such string
-stands_behind : (us vs : List Token) (n : ℕ) (t : Token) → us ≡ t ∷ vs → n ≡ 1 → is_proper_string t ≡ false → StandsAt us n (strung vs)
-stands_behind us vs n t e k p = rw (e, k) (record { behind = refl; parted = rw p refl })
+stands_behind : (us vs : List Token) (n : ℕ) (t : Token) → us ≡ t ∷ vs → n ≡ 1 → is_proper_string t ≡ false → StandsAt us n (joined vs)
+stands_behind us vs n t e k p = rw (e, k) (record { behind = refl; apart = rw p refl })
 
 -- ---- the first of the joined tokens from a place on
 
-pub strings_end_at : (ts : List Token) (at next : ℕ) (s t : Token) → strung (drop at ts) ≡ s ∷ strung (drop next ts) → Some t ≡ slice_get ts next → is_proper_string t ≡ false →
+pub strings_end_at : (ts : List Token) (at next : ℕ) (s t : Token) → joined (drop at ts) ≡ s ∷ joined (drop next ts) → Some t ≡ slice_get ts next → is_proper_string t ≡ false →
     at < next → next ≤ length ts → BeginsWith ts at s next
 strings_end_at ts at next s t e h p a b =
     let f : begins_with_string (drop next ts) ≡ false = ap begins_with_string (read_drop ts next t h) ∙ p in
     record { joins = e; further = a; within = b; stands = stands_before ts at next a f }
 
-pub strings_end_past : (ts : List Token) (at next : ℕ) (s : Token) → strung (drop at ts) ≡ s ∷ strung (drop next ts) → None ≡ slice_get ts next → at < next → next ≤ length ts →
+pub strings_end_past : (ts : List Token) (at next : ℕ) (s : Token) → joined (drop at ts) ≡ s ∷ joined (drop next ts) → None ≡ slice_get ts next → at < next → next ≤ length ts →
     BeginsWith ts at s next
 strings_end_past ts at next s e h a b =
     let f : begins_with_string (drop next ts) ≡ false = ap begins_with_string (drop_past ts next h) in
@@ -47,7 +47,7 @@ begins_with_other ts at next t h p n =
     let one : at + 1 - at ≡ 1 = omega arith in
     rw n
     (record {
-      joins = strung_at ts at t h ∙ join_no t (strung (drop (at + 1) ts)) p;
+      joins = joined_at ts at t h ∙ join_no t (joined (drop (at + 1) ts)) p;
       further = omega arith;
       within = omega arith;
       stands = stands_behind (drop at ts) (drop (at + 1) ts) (at + 1 - at) t (read_drop ts at t h) one p;
@@ -75,7 +75,7 @@ ends_between ts from at next a b c = by (at - from) (next - at - 1) (omega arith
 pub place_here : (ts : List Token) (from : ℕ) → IsPlace ts from from
 place_here ts from =
     let z : from - from ≡ 0 = omega arith in
-    record { behind = omega arith; within = inl refl; stands = rw z (record { behind = refl; parted = refl }) }
+    record { behind = omega arith; within = inl refl; stands = rw z (record { behind = refl; apart = refl }) }
 
 pub place_further : (ts : List Token) (from at next : ℕ) (t : Token) → IsPlace ts from at → BeginsWith ts at t next → IsPlace ts from next
 place_further ts from at next t p b =
@@ -85,10 +85,10 @@ place_further ts from at next t p b =
     record {
       behind = omega arith;
       within = inr b.within;
-      stands = record { behind = b.stands.behind ∙ ap strung (sym d); parted = rw (ends_between ts from at next a c b.within, d) b.stands.parted };
+      stands = record { behind = b.stands.behind ∙ ap joined (sym d); apart = rw (ends_between ts from at next a c b.within, d) b.stands.apart };
     }
 
-pub place_from_start : (ts : List Token) (n : ℕ) → IsPlace ts 0 n → StandsAt ts n (strung (drop n ts))
+pub place_from_start : (ts : List Token) (n : ℕ) → IsPlace ts 0 n → StandsAt ts n (joined (drop n ts))
 place_from_start ts n p =
     let e : n - 0 ≡ n = omega arith in
     rw e at p.stands
