@@ -1,0 +1,37 @@
+//! Prints what lines of the standard input come to, each of which enters or asks something of the types of a program:
+//!
+//! - `declare NAME` and `declare NAME unsized` enter a name, of a type with or without a size; `define NAME TYPE` enters what it is;
+//! - `admit TYPE` asks what a spelled type is reduced to, `base TYPE` what is left of it without names and error marks;
+//! - `extent TYPE` asks for its size and alignment, `fields TYPE` for these and for where its fields begin, where no part of it is too large;
+//! - `assign TYPE <- VALUE` asks by which row of the table of assignability the value is assigned to the type, `cast TYPE <- VALUE` whether it may
+//!   be cast to it. A value is `null`, `[]`, a whole number, or a type, which stands for a value of that type;
+//! - `subset TYPE of TYPE` asks whether the members of one union are members of the other;
+//! - `tag TYPE` gives a type a tag, and `untag` takes all tags away.
+//!
+//! The first fault of a type is told with the column at which it stands in its line, as `E35 at 14`.
+#![tactic(auto)]
+
+mod answer;
+mod definable;
+mod kinds;
+mod layout;
+mod listing;
+mod spelled;
+mod table;
+mod values;
+
+use crate::answer::answer;
+use crate::table::Table;
+use anyhow::Result;
+
+fn main(rt: HostRuntime) -> Result<()> {
+    let mut table = Table::new(rt.alloc());
+    for line in rt.lines(rt.alloc()) {
+        let line = line?;
+        match answer(&mut table, line.as_str()) {
+            Ok(answer) => println!(rt; "{line}\n  {answer}")?,
+            Err(error) => println!(rt; "{line}\n  {error}")?,
+        }
+    }
+    Ok(())
+}
