@@ -19,7 +19,7 @@ use Rattle.hare_types.proofs.CallerLemmas.{tree_at_row, one_id, tree_at-Extends,
 use Rattle.hare_types.proofs.TreeLemmas.{length-trees, trees-append, further, tree_of-append}
 use Rattle.hare_layout.specs.declared.spelled.Spelled.{Spelled}
 use Rattle.hare_layout.specs.Reduction.{written, IsMember, is_spread, Brings, Adds, IsLeft, AreLeft, type_of, IsReducedTo}
-use Rattle.hare_layout.specs.Admission.{IsBadSpread, contents, HoldsValue, HoldsUnsized, IsTooLarge, Check, Spreading, Sized, Inhabited, Narrow, Small, checks, Fails, IsFirstOf, PassesAll}
+use Rattle.hare_layout.specs.Admission.{IsBadSpread, measured, IsMeasured, LacksSize, IsTooLarge, Check, Spreading, Sized, Inhabited, Narrow, Small, checks, Fails, IsFirstOf, PassesAll}
 use Rattle.hare_layout.specs.Growth.{LayoutStays, IsDecided, IsOneJudgement, JudgementsStay}
 use Rattle.hare_layout.proofs.AscendingLemmas.{In, In-from, In-to}
 use Rattle.hare_layout.proofs.CallerLemmas.{extent_with-near, IsSmall-Extends, LiesIn-Extends, HasField-Extends, StartsAt-Extends, IsUnion-Extends, HoldsMembers-Extends}
@@ -76,18 +76,18 @@ written_below n (row.Tuple js) is h e = absurd cc
 written_below n (row.Error i) is h e = absurd cc
 written_below n (row.Named d) is h e = absurd cc
 
--- what a row's values hold
-contents_below : (n : ℕ) (q : Row) → IsWithin n q → AllBelow n (contents q)
-contents_below n (row.Array m i) h = (h, tt)
-contents_below n (row.Struct fs) h = fields_below n fs h
-contents_below n (row.Tuple is) h = h
-contents_below n (row.Union is) h = tt
-contents_below n (row.Scalar k) h = tt
-contents_below n (row.Pointer i) h = tt
-contents_below n (row.Nullable i) h = tt
-contents_below n (row.Slice i) h = tt
-contents_below n (row.Error i) h = tt
-contents_below n (row.Named d) h = tt
+-- of what a size is asked
+measured_below : (n : ℕ) (q : Row) → IsWithin n q → AllBelow n (measured q)
+measured_below n (row.Array m i) h = (h, tt)
+measured_below n (row.Struct fs) h = fields_below n fs h
+measured_below n (row.Tuple is) h = h
+measured_below n (row.Union is) h = tt
+measured_below n (row.Scalar k) h = tt
+measured_below n (row.Pointer i) h = tt
+measured_below n (row.Nullable i) h = tt
+measured_below n (row.Slice i) h = (h, tt)
+measured_below n (row.Error i) h = tt
+measured_below n (row.Named d) h = tt
 
 -- ---- what a type comes to is in the store
 
@@ -338,18 +338,18 @@ module _ (old new : Store) (v : IsStore old) (w : IsStore new) (grows : Extends 
     no_union = λ ts b. h.no_union ts (IsBase-Extends old new grows h.type (Union ts) b);
   }
 
-  value_there : (u : Tree) → HoldsValue old r u → HoldsValue new r u
+  value_there : (u : Tree) → IsMeasured old r u → IsMeasured new r u
   value_there u (inl h) = inl (h.0, h.1, there h.0 u h.2)
   value_there u (inr h) = inr (left_there u h)
 
-  value_back : (u : Tree) → HoldsValue new r u → HoldsValue old r u
-  value_back u (inl h) = inl (h.0, h.1, back h.0 u (below_in (length old.rows) (contents r.row) (contents_below (length old.rows) r.row within) h.0 (In-from h.0 (contents r.row) h.1)) h.2)
+  value_back : (u : Tree) → IsMeasured new r u → IsMeasured old r u
+  value_back u (inl h) = inl (h.0, h.1, back h.0 u (below_in (length old.rows) (measured r.row) (measured_below (length old.rows) r.row within) h.0 (In-from h.0 (measured r.row) h.1)) h.2)
   value_back u (inr h) = inr (left_back u h)
 
-  unsized_back : HoldsUnsized new r → HoldsUnsized old r
+  unsized_back : LacksSize new r → LacksSize old r
   unsized_back h = by (has_size old h.0) refl (decided.sized h.0 (value_back h.0 h.1))
     where
-      by : (o : Option Bool) → has_size old h.0 ≡ o → IsSome o → HoldsUnsized old r
+      by : (o : Option Bool) → has_size old h.0 ≡ o → IsSome o → LacksSize old r
       by None e k = absurd cc
       by (Some b) e k =
           let both = sym (has_size-Extends old new grows h.0 b e) ∙ h.2 in

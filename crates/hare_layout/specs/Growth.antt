@@ -14,7 +14,7 @@ use Rattle.hare_layout.specs.Small.{IsSmall, LiesIn}
 use Rattle.hare_layout.specs.Offsets.{HasField, StartsAt}
 use Rattle.hare_layout.specs.Members.{IsUnion, HoldsMembers}
 use Rattle.hare_layout.specs.Reduction.{IsMember, is_spread, IsReducedTo}
-use Rattle.hare_layout.specs.Admission.{HoldsValue, IsFault, IsAdmitted}
+use Rattle.hare_layout.specs.Admission.{IsMeasured, IsFault, IsAdmitted}
 
 -- ---- layout
 
@@ -32,11 +32,11 @@ LayoutStays = (old new : Store) → Extends old new → KeepsLayout old new
 
 -- ---- spelled types
 
--- What is asked of a spelled type is known: what the members that are spread come to, whether what it holds has a size, and what each name
+-- What is asked of a spelled type is known: what the members that are spread come to, whether what has to have a size has one, and what each name
 -- that the reduced type holds by value is defined to be.
 pub record IsDecided (s : Store) (r : Spelled) : Type 0 where
   pub spreads : (k : ℕ) (t : Tree) → IsMember s r k t → is_spread r k ≡ true → (b : Tree) × IsBase s t b
-  pub sized : (u : Tree) → HoldsValue s r u → IsSome (has_size s u)
+  pub sized : (u : Tree) → IsMeasured s r u → IsSome (has_size s u)
   pub whole : (u : Tree) (d : ℕ) → IsReducedTo s r u → HoldsByValue s u d → IsSome (meaning_of s d)
 
 -- what the type is reduced to, its fault, and that it has none, are over both stores the same

@@ -52,8 +52,8 @@ fn is_too_large(s: &TypeStore, t: &Reduced) -> bool
 /// What is wrong with the type is told by the first of these faults, each of which but the first stands at `place`:
 ///
 /// - E35 at the first member that is spread, and whose base is no union, or is not defined;
-/// - E17, where an array's element, a struct's field, a tuple's component or a member that is left of a union has no size. A named type of
-///   which it is not declared whether it has a size counts as one that has;
+/// - E17, where an array's or a slice's element, a struct's field, a tuple's component or a member that is left of a union has no size. A named
+///   type of which it is not declared whether it has a size counts as one that has;
 /// - E19, where no member is left;
 /// - E20, where more than 64 members are left;
 /// - E18, where the type has more than 67,108,864 bytes. It is looked at only where each name that the type holds by value is defined.

@@ -9,7 +9,7 @@ pub fn law_layout_stays()
 {}
 
 /// What a spelled type is reduced to, and what is wrong with it, over a store, is so over each store that grows from it. It rests on the bases
-/// of the members that are spread, on whether what the type holds has a size, and on the definitions of the names that it holds by value: where
+/// of the members that are spread, on whether what has to have a size has one, and on the definitions of the names that it holds by value: where
 /// one of these is not known yet, the judgement may change.
 pub fn law_judgements_stay()
     ensures { JudgementsStay }
