@@ -1,6 +1,6 @@
 -- Which types are too large, and what the checks before that say of the whole.
 use Rattle.std.proofs.Common.{◌≡◌, ℕ, ◌<◌, Bool, true, false, nat_lt, List, [], ◌∷◌, ◌++◌, length, Ok, Err, Option, Some, None, refl, ap, sym, ◌∙◌, subst, arith, inl, inr}
-use Rattle.std.specs.Prelude.{MatchOption, option_map, IsTrue, ◌↔◌}
+use Rattle.std.specs.Prelude.{MatchOption, IfNone, IsTrue, ◌↔◌}
 use Rattle.std.proofs.lemmas.Bool.Decides.{nat_tests}
 use Rattle.hare_tree.specs.declared.place.Place.{Place}
 use Rattle.hare_tree.specs.declared.place.Fault.{Fault}
@@ -8,41 +8,42 @@ use Rattle.hare_tree.specs.declared.stop.Stop.{Stop}
 use Rattle.hare_tree.specs.declared.stop.Stop.TheVariants as stop
 use Rattle.hare_types.specs.declared.extent.Extent.{Extent}
 use Rattle.hare_types.specs.Trees.{Tree}
-use Rattle.hare_types.specs.Rows.{tree_of, trees}
-use Rattle.hare_types.specs.Store.{Store, meaning_of}
+use Rattle.hare_types.specs.Rows.{tree_in, tree_of, trees}
+use Rattle.hare_types.specs.Store.{Store}
 use Rattle.hare_types.specs.Sound.{IsStore}
-use Rattle.hare_types.specs.Layout.{following, extent_with, HasExtent}
+use Rattle.hare_types.specs.Kept.{LiesIn, IsToldOf}
+use Rattle.hare_types.specs.Layout.{HasExtent}
 use Rattle.hare_layout.specs.declared.spelled.Spelled.{Spelled}
 use Rattle.hare_layout.specs.declared.reduce.Reduced.{Reduced}
 use Rattle.hare_layout.specs.declared.reduce.Reduced.TheVariants.{Known, Fresh}
-use Rattle.hare_layout.specs.Capped.{cap, capped_with, names_capped}
 use Rattle.hare_layout.specs.Reduction.{written, place_of, AreLeft, type_of, IsReducedTo}
 use Rattle.hare_layout.specs.Admission.{Check, Spreading, Sized, Inhabited, Narrow, Small, PassesAll, IsFirstOf, IsTooLarge, IsFault, IsAdmitted, StopsAt, TellsFault, Fails, checks}
 use Rattle.hare_layout.specs.Reduced.{IsReduction, StopsEarly, IsHere, tree_of_reduced, IsLarge}
-use Rattle.hare_layout.proofs.KnownLemmas.{all_names, capped-following}
-use Rattle.hare_layout.proofs.CappedLemmas.{mapped}
+use Rattle.hare_layout.proofs.CallerLemmas.{one_extent}
 use Rattle.hare_layout.proofs.ReduceLemmas.{one_left}
-use Rattle.hare_layout.proofs.SpreadLemmas.{id-tree_at}
+use Rattle.hare_layout.proofs.SpreadLemmas.{tree_at-id, id-tree_at}
 
 -- ---- sizes
 
-large-some : (s : Store) (u : Tree) (x : Extent) → Some x ≡ capped_with (names_capped s (length s.declared)) u → 67108864 < x.size → IsLarge s u
-large-some s u x e l =
-    let k = mapped cap (following extent_with (meaning_of s) (length s.declared) u) x (sym (e ∙ capped-following s u)) in
-    let size = ap (λ y. y.size) k.2 in
-    (k.0, (length s.declared, k.1), omega arith)
+large-some : (s : Store) (u : Tree) (x : Extent) → IsToldOf s u x → 67108864 < x.size → IsLarge s u
+large-some s u x h l =
+    let size = ap (λ y. y.size) h.2 in
+    (h.0, h.1, omega arith)
 
-some-large : (s : Store) → IsStore s → (u : Tree) (x : Extent) → Some x ≡ capped_with (names_capped s (length s.declared)) u → IsLarge s u → 67108864 < x.size
-some-large s v u x e h =
-    let same : Some x ≡ Some (cap h.0) = e ∙ capped-following s u ∙ ap (option_map cap) (all_names s v u h.0 h.1) in
-    let size : x.size ≡ (cap h.0).size = ap (λ y. y.size) (let capped : x ≡ cap h.0 = cc in capped) in
-    let large = h.2 in
+some-large : (s : Store) (u : Tree) (x : Extent) → IsToldOf s u x → IsLarge s u → 67108864 < x.size
+some-large s u x h k =
+    let one = ap (λ y. y.size) (one_extent s u h.0 k.0 h.1 k.1) in
+    let size = ap (λ y. y.size) h.2 in
+    let large = k.2 in
     omega arith
 
-pub none-large : (s : Store) → IsStore s → (u : Tree) → None ≡ capped_with (names_capped s (length s.declared)) u → ¬ IsLarge s u
-none-large s v u e h =
-    let both = e ∙ capped-following s u ∙ ap (option_map cap) (all_names s v u h.0 h.1) in
-    absurd cc
+pub none-large : (s : Store) (u : Tree) → ((y : Extent) → ¬ HasExtent s u y) → ¬ IsLarge s u
+none-large s u none h = none h.0 h.1
+
+-- the type of an id has no extent where none lies there
+pub none-known : (s : Store) (i : ℕ) (o : Option Extent) → i < length s.rows → IfNone o ((y : Extent) → ¬ LiesIn s i y) → IfNone o ((y : Extent) → ¬ HasExtent s (tree_in (trees s.rows) i) y)
+none-known s i None l h = λ y k. h y (tree_in (trees s.rows) i, tree_at-id s i l, k)
+none-known s i (Some x) l h = tt
 
 less : (a b : ℕ) → nat_lt a b ≡ true → a < b
 less a b h = grind (arith, nat_tests)
@@ -51,8 +52,8 @@ neither : (a b : ℕ) → nat_lt a b ≡ false → nat_lt b a ≡ false → a �
 neither a b h k = grind (arith, nat_tests)
 
 -- what the test of the size says
-pub tells-large : (s : Store) → IsStore s → (u : Tree) (x : Extent) → Some x ≡ capped_with (names_capped s (length s.declared)) u → IsTrue (nat_lt 67108864 x.size) ↔ IsLarge s u
-tells-large s v u x e = (λ h. large-some s u x e (less 67108864 x.size h), λ h. more 67108864 x.size (some-large s v u x e h))
+pub tells-large : (s : Store) (u : Tree) (x : Extent) → IsToldOf s u x → IsTrue (nat_lt 67108864 x.size) ↔ IsLarge s u
+tells-large s u x e = (λ h. large-some s u x e (less 67108864 x.size h), λ h. more 67108864 x.size (some-large s u x e h))
   where
     more : (a b : ℕ) → a < b → nat_lt a b ≡ true
     more a b h = grind (arith, nat_tests)

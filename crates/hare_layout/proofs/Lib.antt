@@ -4,13 +4,10 @@ pub mod BaseLemmas
 pub mod BaseOfLemmas
 pub mod BelowLemmas
 pub mod CallerLemmas
-pub mod CappedLemmas
 pub mod DefinableLemmas
 pub mod ExtentLemmas
 pub mod GrowthLemmas
-pub mod KnownLemmas
 pub mod LeftLemmas
-pub mod MeasureLemmas
 pub mod MemberLemmas
 pub mod NamesLemmas
 pub mod OffsetLemmas

@@ -1,6 +1,5 @@
 pub mod Admission
 pub mod Ascending
-pub mod Capped
 pub mod Growth
 pub mod Ids
 pub mod Members

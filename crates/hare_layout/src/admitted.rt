@@ -1,17 +1,17 @@
 //! Which spelled types are admitted.
 
-ghost use Rattle.std.specs.Prelude.{◌≡◌, ◌↔◌, length, IsTrue, Some, IfOk, IfErr, OnOk, OnErr};
+ghost use Rattle.std.specs.Prelude.{◌≡◌, ◌↔◌, length, IsTrue, Some, IfSome, IfNone, IfOk, IfErr, OnOk, OnErr};
 ghost use Rattle.hare_tree.specs.declared.place.Fault.{Fault as FaultOf};
+ghost use Rattle.hare_types.specs.declared.extent.Extent.{Extent as ExtentOf};
+ghost use Rattle.hare_types.specs.Kept.{IsToldOf};
+ghost use Rattle.hare_types.specs.Layout.{HasExtent};
 ghost use Rattle.hare_types.specs.Rows.{IsWithin};
-ghost use Rattle.hare_types.specs.Sound.{IsStore};
 ghost use Rattle.hare_types.specs.Store.{tree_at, Extends};
 ghost use Rattle.hare_types.specs.Trees.{Tree};
-ghost use Rattle.hare_layout.specs.Capped.{capped_with, names_capped};
 ghost use Rattle.hare_layout.specs.Reduction.{IsReducedTo};
 ghost use Rattle.hare_layout.specs.Admission.{IsAdmitted, IsFault, StopsAt, TellsFault};
 ghost use Rattle.hare_layout.specs.Reduced.{IsHere, tree_of_reduced, IsLarge};
 
-use crate::measure::{capped, capped_row};
 use crate::reduce::{Reduced, reduce};
 use crate::spelled::Spelled;
 use hare_tree::{Fault, Place, Stop};
@@ -21,22 +21,21 @@ use std::alloc::Global;
 /// The greatest size of a type, in bytes.
 const MOST_BYTES: u64 = 67_108_864;
 
-/// The extent of a type, its size capped.
+/// The extent of a type, as its store tells it.
 fn extent_of(s: &TypeStore, t: &Reduced) -> Option<Extent>
-    requires here { IsHere s.now t.now }
-    requires sound { IsStore s.now }
-    ensures { result ≡ capped_with (names_capped s.now (length s.now.declared)) (tree_of_reduced s.now t.now) }
+    requires { IsHere s.now t.now }
+    ensures some { IfSome result (λ x. IsToldOf s.now (tree_of_reduced s.now t.now) x) }
+    ensures none { IfNone result ((y : ExtentOf) → ¬ HasExtent s.now (tree_of_reduced s.now t.now) y) }
 {
     match t {
-        Reduced::Known(id) => capped(s, *id),
-        Reduced::Fresh(row) => capped_row(s, row),
+        Reduced::Known(id) => s.extent(*id),
+        Reduced::Fresh(row) => s.row_extent(row),
     }
 }
 
 /// Whether it is known that a type has more than 67,108,864 bytes.
 fn is_too_large(s: &TypeStore, t: &Reduced) -> bool
-    requires here { IsHere s.now t.now }
-    requires sound { IsStore s.now }
+    requires { IsHere s.now t.now }
     ensures { IsTrue result ↔ IsLarge s.now (tree_of_reduced s.now t.now) }
 {
     match extent_of(s, t) {

@@ -5,6 +5,7 @@ ghost use Rattle.hare_types.specs.declared.extent.Extent.{Extent as ExtentOf};
 ghost use Rattle.hare_types.specs.Bases.{IsBaseOf};
 ghost use Rattle.hare_types.specs.ByValue.{has_size, HoldsByValue};
 ghost use Rattle.hare_types.specs.Kept.{LiesIn, told, IsBounded};
+ghost use Rattle.hare_types.specs.Layout.{HasExtent};
 ghost use Rattle.hare_types.specs.Numbering.{IsNumbered};
 ghost use Rattle.hare_types.specs.Rows.{tree_of, trees, IsWithin, IsReduced};
 ghost use Rattle.hare_types.specs.Sound.{IsStore};
@@ -15,6 +16,7 @@ use crate::declared::{Declared, set_definition};
 use crate::extent::Extent;
 use crate::id::TypeId;
 use crate::kept::{Kept, base_at, extent_at};
+use crate::measure::extent_over;
 use crate::numbering::number;
 use crate::places::Rows;
 use crate::row::Row;
@@ -198,6 +200,17 @@ impl TypeStore {
         ensures sound { IsStore self.now }
     {
         extent_at(self.kept.as_slice(), t)
+    }
+
+    /// The same of the type of a row, whose ids are of this store: it need not be in the store itself. The time is that of the types in the row.
+    pub fn row_extent(&self, r: &Row) -> Option<Extent>
+        requires { IsWithin (length self.now.rows) r.now }
+        ensures some { IfSome result (λ x. (y : ExtentOf) × HasExtent self.now (tree_of (trees self.now.rows) r.now) y × (x ≡ told y)) }
+        ensures none { IfNone result ((y : ExtentOf) → ¬ HasExtent self.now (tree_of (trees self.now.rows) r.now) y) }
+        ensures within { IfSome result (λ x. IsBounded x) }
+        ensures sound { IsStore self.now }
+    {
+        extent_over(r, &self.declared, self.kept.as_slice())
     }
 
     /// What is left of a type once names and error marks are followed until neither is left. `None` where it comes to a name that is not

@@ -3,8 +3,8 @@ use Rattle.hare_tree.specs.declared.stop.Stop.TheVariants as stop
 use Rattle.hare_layout.proofs.AdmitLemmas.{reduction-here, stops-large, admitted, only-ok, only-err, stops-early}
 use Rattle.hare_layout.proofs.admitted.admit.Goals as goal
 
-pub is_too_large-requires-clause-here : goal.is_too_large-requires-clause-here
-is_too_large-requires-clause-here c = reduction-here c.args.s.now c.args.r.now c.in_ok-reduced.reduced c.in_ok-reduced.ensures.ok
+pub is_too_large-requires : goal.is_too_large-requires
+is_too_large-requires c = reduction-here c.args.s.now c.args.r.now c.in_ok-reduced.reduced c.in_ok-reduced.ensures.ok
 
 pub returns-then-is_too_large-clause-err : goal.returns-then-is_too_large-clause-err
 returns-then-is_too_large-clause-err c =
