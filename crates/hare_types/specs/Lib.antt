@@ -1,10 +1,13 @@
 pub mod Assign
 pub mod Bases
+pub mod ByIds
 pub mod ByValue
-pub mod KeyLaws
 pub mod Kept
+pub mod KeyLaws
 pub mod Keys
+pub mod Later
 pub mod Layout
+pub mod Meanings
 pub mod Numbering
 pub mod Packed
 pub mod PackedLaws
@@ -14,4 +17,5 @@ pub mod Run
 pub mod Sound
 pub mod Store
 pub mod Trees
+pub mod Unions
 pub mod Waiting

@@ -30,7 +30,7 @@ returns-clause-none c = by c.extent_over.result refl
         let ks = c.self.inside.kept.items in
         let within = subst (λ s. IsWithin (length s.rows) c.args.r.now) (sym c.self.view_is) c.requires in
         rw (← c.self.view_is)
-        (none_follows _ c.self.invariant.store (extents ks)
+        (none_follows _ c.self.invariant.store (known (extents ks))
         (extents-settled c.self.inside.rows.keys c.self.inside.declared.entries ks (omega (arith, c.self.invariant.store.rows_few, c.self.invariant.extents.as_many, length-map ks (λ k. k.extent))) c.self.invariant.lists c.self.invariant.settled)
         c.args.r.now within
         (ap (λ l. extent_over (defined c.self.inside.declared.entries) (known (extents l)) c.args.r.now) (sym c.as_slice.ensures.value) ∙ sym c.extent_over.ensures.value ∙ e))
