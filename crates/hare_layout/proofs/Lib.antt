@@ -1,4 +1,5 @@
 pub mod AdmitLemmas
+pub mod AlignLemmas
 pub mod AscendingLemmas
 pub mod BaseLemmas
 pub mod BaseOfLemmas
@@ -12,6 +13,8 @@ pub mod MemberLemmas
 pub mod NamesLemmas
 pub mod OffsetLemmas
 pub mod OrderLemmas
+pub mod PartsLemmas
+pub mod PlacesLemmas
 pub mod ReduceLemmas
 pub mod SizedLemmas
 pub mod SmallLemmas

@@ -7,3 +7,4 @@ pub mod Offsets
 pub mod Reduced
 pub mod Reduction
 pub mod Small
+pub mod Whole

@@ -20,7 +20,10 @@ mod spread;
 mod tag;
 
 pub use admitted::admit;
-pub use laws::{law_judgements_stay, law_layout_stays};
+pub use laws::{
+    law_fields_lie_within, law_judgements_stay, law_layout_stays, law_payloads_lie_within,
+    law_small_from_parts, law_types_are_aligned,
+};
 pub use members::subset;
 pub use offset::offset_of;
 pub use size::{align_of, size_of};
