@@ -1,18 +1,23 @@
 -- Which types are too large, and what the checks before that say of the whole.
-use Rattle.std.proofs.Common.{◌≡◌, ℕ, ◌<◌, Bool, true, false, nat_lt, List, [], ◌∷◌, ◌++◌, length, Ok, Err, Option, Some, None, refl, ap, sym, ◌∙◌, subst, arith, inl, inr}
-use Rattle.std.specs.Prelude.{MatchOption, IfNone, IsTrue, ◌↔◌}
+use Rattle.std.proofs.Common.{◌≡◌, ℕ, ◌<◌, ◌≤◌, ◌⊎◌, Bool, true, false, nat_lt, List, [], ◌∷◌, ◌++◌, length, Ok, Err, Option, Some, None, refl, ap, sym, ◌∙◌, subst, arith, inl, inr}
+use Rattle.std.specs.Prelude.{MatchOption, IfNone, IsTrue, ◌↔◌, option_and_then}
+use Rattle.std.proofs.lemmas.Bool.{cases_lt}
 use Rattle.std.proofs.lemmas.Bool.Decides.{nat_tests}
 use Rattle.hare_tree.specs.declared.place.Place.{Place}
 use Rattle.hare_tree.specs.declared.place.Fault.{Fault}
 use Rattle.hare_tree.specs.declared.stop.Stop.{Stop}
 use Rattle.hare_tree.specs.declared.stop.Stop.TheVariants as stop
 use Rattle.hare_types.specs.declared.extent.Extent.{Extent}
+use Rattle.hare_types.specs.declared.row.Row.{Row}
 use Rattle.hare_types.specs.Trees.{Tree}
 use Rattle.hare_types.specs.Rows.{tree_in, tree_of, trees}
-use Rattle.hare_types.specs.Store.{Store}
+use Rattle.hare_types.specs.Store.{Store, tree_at, definition_of, meaning_of, Extends}
 use Rattle.hare_types.specs.Sound.{IsStore}
 use Rattle.hare_types.specs.Kept.{LiesIn, IsToldOf}
-use Rattle.hare_types.specs.Layout.{HasExtent}
+use Rattle.hare_types.specs.Layout.{extent_with, HasExtent}
+use Rattle.hare_types.proofs.CallerLemmas.{tree_at-Extends}
+use Rattle.hare_types.proofs.DefinitionLemmas.{meaning_kept}
+use Rattle.hare_types.proofs.GrowthLemmas.{extent_with-more, following-more}
 use Rattle.hare_layout.specs.declared.spelled.Spelled.{Spelled}
 use Rattle.hare_layout.specs.declared.reduce.Reduced.{Reduced}
 use Rattle.hare_layout.specs.declared.reduce.Reduced.TheVariants.{Known, Fresh}
@@ -87,6 +92,37 @@ too_large s r q h l = (tree_of_reduced s q, l.0, reduction-tree s r q h, l.1, l.
 not_too_large : (s : Store) → IsStore s → (r : Spelled) (q : Reduced) → IsReduction s r q → ¬ IsLarge s (tree_of_reduced s q) → ¬ IsTooLarge s r
 not_too_large s v r q h small (u, x, reduced, extent, large) =
     small (x, subst (λ w. HasExtent s w x) (one_reduced s v r u (tree_of_reduced s q) reduced (reduction-tree s r q h)) extent, large)
+
+-- ---- the type that is given
+
+not_large : (s : Store) (u : Tree) (x : Extent) → ¬ IsLarge s u → HasExtent s u x → x.size ≤ 67108864
+not_large s u x small h = by (cases_lt 67108864 x.size)
+  where
+    by : (67108864 < x.size) ⊎ (x.size ≤ 67108864) → x.size ≤ 67108864
+    by (inl l) = absurd (small (x, h, l))
+    by (inr l) = l
+
+-- one that the store had
+pub small_known : (s : Store) (q : Reduced) (t : ℕ) → q ≡ Known t → ¬ IsLarge s (tree_of_reduced s q) → (x : Extent) → LiesIn s t x → x.size ≤ 67108864
+small_known s q t e small x h =
+    let here = (id-tree_at s t h.0 h.1).1 in
+    let tree : h.0 ≡ tree_of_reduced s q = sym here ∙ ap (tree_of_reduced s) (sym e) in
+    not_large s (tree_of_reduced s q) x small (subst (λ u. HasExtent s u x) tree h.2)
+
+-- one that is new to it: names mean what they meant
+module _ (old new : Store) (v : IsStore old) (rest : new ≡ record old { rows = new.rows }) (grows : Extends old new) where
+  meaning_back : (d : ℕ) (u : Tree) → meaning_of new d ≡ Some u → meaning_of old d ≡ Some u
+  meaning_back d u e =
+      let definitions : definition_of new d ≡ definition_of old d = ap (λ s. definition_of s d) rest in
+      sym (ap (option_and_then (tree_at new)) definitions ∙ meaning_kept old.rows new.rows (tree_at-Extends old new grows) (definition_of old d) (v.defined_within d)) ∙ e
+
+  pub small_fresh : (q : Reduced) (r : Row) (t : ℕ) → q ≡ Fresh r → tree_at new t ≡ Some (tree_of (trees old.rows) r) → ¬ IsLarge old (tree_of_reduced old q) → (x : Extent) → LiesIn new t x → x.size ≤ 67108864
+  small_fresh q r t e stands small x h =
+      let both = sym h.1 ∙ stands in
+      let same : h.0 ≡ tree_of (trees old.rows) r = cc in
+      let tree : h.0 ≡ tree_of_reduced old q = same ∙ ap (tree_of_reduced old) (sym e) in
+      let back = following-more extent_with extent_with-more (meaning_of new) (meaning_of old) meaning_back h.2.0 h.0 x h.2.1 in
+      not_large old (tree_of_reduced old q) x small (subst (λ u. HasExtent old u x) tree (h.2.0, back))
 
 -- ---- the checks
 

@@ -1,9 +1,9 @@
 //! Which spelled types are admitted.
 
-ghost use Rattle.std.specs.Prelude.{◌≡◌, ◌↔◌, length, IsTrue, Some, IfSome, IfNone, IfOk, IfErr, OnOk, OnErr};
+ghost use Rattle.std.specs.Prelude.{◌≡◌, ◌↔◌, ◌≤◌, length, IsTrue, Some, IfSome, IfNone, IfOk, IfErr, OnOk, OnErr};
 ghost use Rattle.hare_tree.specs.declared.place.Fault.{Fault as FaultOf};
 ghost use Rattle.hare_types.specs.declared.extent.Extent.{Extent as ExtentOf};
-ghost use Rattle.hare_types.specs.Kept.{IsToldOf};
+ghost use Rattle.hare_types.specs.Kept.{LiesIn, IsToldOf};
 ghost use Rattle.hare_types.specs.Layout.{HasExtent};
 ghost use Rattle.hare_types.specs.Rows.{IsWithin};
 ghost use Rattle.hare_types.specs.Store.{tree_at, Extends};
@@ -57,7 +57,8 @@ fn is_too_large(s: &TypeStore, t: &Reduced) -> bool
 /// - E20, where more than 64 members are left;
 /// - E18, where the type has more than 67,108,864 bytes. It is looked at only where each name that the type holds by value is defined.
 ///
-/// After a fault, and where there is not enough memory, the store is as it was.
+/// So the type that is given has at most 67,108,864 bytes, wherever its extent is known. After a fault, and where there is not enough memory,
+/// the store is as it was.
 pub fn admit(
     alloc: Global,
     s: &mut TypeStore,
@@ -66,6 +67,7 @@ pub fn admit(
 ) -> Result<TypeId, Stop<Fault>>
     requires { IsWithin (length s.old.rows) r.now.row }
     ensures ok { IfOk result (λ t. (u : Tree) × IsReducedTo s.old r.now u × (tree_at s.new t ≡ Some u)) }
+    ensures small { IfOk result (λ t. (x : ExtentOf) → LiesIn s.new t x → x.size ≤ 67108864) }
     ensures admitted { OnOk result (IsAdmitted s.old r.now place) }
     ensures err { IfErr result (StopsAt s.old r.now place) }
     ensures only { (f : FaultOf) → IsFault s.old r.now place f → TellsFault result f }
