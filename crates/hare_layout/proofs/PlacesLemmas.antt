@@ -334,3 +334,19 @@ module _ (s : Store) where
           let align = ap (λ y. y.align) parts.2 in
           (here.0, here.1, omega (arith, room, size, size-le xs k.0 here.0 here.2), through (payload_start xs) here.0.align (greatest_align xs) (rounded 4 (greatest_align xs)) greatest,
            subst (λ n. IsMultiple n here.0.align) align (through (max 4 (greatest_align xs)) here.0.align (greatest_align xs) whole_align greatest))
+
+-- ---- where payloads begin
+
+payload_of-align : (a : ℕ) → IsAlignment a → round_up 4 a ≡ max 4 a
+payload_of-align a (inl e) = ap (round_up 4) e ∙ sym (ap (max 4) e)
+payload_of-align a (inr (inl e)) = ap (round_up 4) e ∙ sym (ap (max 4) e)
+payload_of-align a (inr (inr (inl e))) = ap (round_up 4) e ∙ sym (ap (max 4) e)
+payload_of-align a (inr (inr (inr e))) = ap (round_up 4) e ∙ sym (ap (max 4) e)
+
+-- the payload is at the alignment of the union
+pub payload-align : (s : Store) (t : ℕ) (whole : Extent) (is : List ℕ) → extent_at s t ≡ Some whole → members_at s t ≡ Some is → payload_at s t ≡ Some whole.align
+payload-align s t whole is e f =
+    let parts = members-known s t whole is e f in
+    let aligned = all_aligned (extent_at s) (types_are_aligned s) is parts.0 parts.1 in
+    ap (λ o. option_map payload_start (option_and_then (all_known (extent_at s)) o)) f ∙ ap (option_map payload_start) parts.1
+    ∙ ap Some (payload_of-align (greatest_align parts.0) (greatest_align-alignment parts.0 aligned) ∙ ap (λ y. y.align) parts.2)

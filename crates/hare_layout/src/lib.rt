@@ -12,6 +12,7 @@ mod members;
 mod members_left;
 mod offset;
 mod parts;
+mod payload;
 mod reduce;
 mod size;
 mod sized;
@@ -26,6 +27,7 @@ pub use laws::{
 };
 pub use members::subset;
 pub use offset::offset_of;
+pub use payload::payload_of;
 pub use size::{align_of, size_of};
 pub use spelled::{Bools, Places, Spelled};
 pub use tag::tag_of;
