@@ -1,3 +1,4 @@
+pub mod ChosenLemmas
 pub mod FirstLemmas
 pub mod GrowthLemmas
 pub mod MemberLemmas

@@ -4,6 +4,7 @@
 mod assign;
 mod base;
 mod cast;
+mod chosen;
 mod laws;
 mod rows;
 mod types;
@@ -12,6 +13,7 @@ mod words;
 
 pub use assign::assignable;
 pub use cast::castable;
+pub use chosen::chosen_member;
 pub use laws::law_verdicts_stay;
 
 #[cfg(test)]
