@@ -1,5 +1,5 @@
--- What is said of values and types stays as a store grows.
-use Rattle.std.proofs.Common.{◌≡◌, ℕ, ◌<◌, Bool, ◌&&◌, ◌||◌, ◌==◌, length, Option, Some, None, IsSome, refl, ap, ap₂, sym, ◌∙◌}
+-- What is said of values and types stays in later stores.
+use Rattle.std.proofs.Common.{◌≡◌, ℕ, ◌<◌, Bool, ◌&&◌, ◌||◌, ◌==◌, [], length, Option, Some, None, IsSome, refl, ap, ap₂, sym, ◌∙◌}
 use Rattle.std.specs.Prelude.{is_some, option_map}
 use Rattle.hare_types.specs.declared.coercion.Ty.{Ty}
 use Rattle.hare_types.specs.declared.coercion.Ty.TheVariants as ty
@@ -15,13 +15,17 @@ use Rattle.hare_layout.proofs.OffsetLemmas.{base_with-near}
 use Rattle.hare_layout.proofs.SpreadLemmas.{tree_at-id, id-tree_at}
 use Rattle.hare_assign.specs.Growth.{HasBase, IsKnown, AreKnown, IsOneVerdict, VerdictsStay}
 
-module _ (old new : Store) (v : IsStore new) (grows : Extends old new) where
+module _ (old new : Store) (v : IsStore new) (grows : Extends (record old { listed = [] }) new) where
+  -- the store without its list of types that have tags
+  abbrev before : Store
+  before = record old { listed = [] }
+
   -- ---- what stays
 
   base_found : (t b : Tree) → base old t ≡ Some b → base new t ≡ Some b
   base_found t b e =
       names_enough base_with base_with-near new v (length old.declared) t b
-      (following-more base_with base_with-more (meaning_of old) (meaning_of new) (meaning_of-Extends old new grows) (length old.declared) t b e)
+      (following-more base_with base_with-more (meaning_of old) (meaning_of new) (meaning_of-Extends before new grows) (length old.declared) t b e)
 
   base_stays : (t : Tree) → HasBase old t → base new t ≡ base old t
   base_stays t h = by (base old t) refl h
@@ -31,7 +35,7 @@ module _ (old new : Store) (v : IsStore new) (grows : Extends old new) where
       by (Some b) e g = base_found t b e ∙ sym e
 
   type_stays : (i : ℕ) → i < length old.rows → type_at new i ≡ type_at old i
-  type_stays i h = (id-tree_at new i (type_at old i) (tree_at-Extends old new grows i (type_at old i) (tree_at-id old i h))).1
+  type_stays i h = (id-tree_at new i (type_at old i) (tree_at-Extends before new grows i (type_at old i) (tree_at-id old i h))).1
 
   value_stays : (f : Ty) → IsIn old f → value_at new f ≡ value_at old f
   value_stays (ty.Of i) h = ap Of (type_stays i h)
@@ -143,4 +147,4 @@ module _ (old new : Store) (v : IsStore new) (grows : Extends old new) where
       }
 
 pub verdicts_stay : VerdictsStay
-verdicts_stay old new v grows from to in_old within k = one_verdict old new v grows from to in_old within k
+verdicts_stay now later l from to in_now within k = one_verdict now later l.sound l.grows from to in_now within k

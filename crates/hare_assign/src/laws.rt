@@ -2,7 +2,7 @@
 
 ghost use Rattle.hare_assign.specs.Growth.{VerdictsStay};
 
-/// What is said of a value and a type over a store is said over each store that grows from it: which rows of the table admit, what becomes of
+/// What is said of a value and a type over a store is said over each later store: which rows of the table admit, what becomes of
 /// the value, and whether it may be cast. It rests on the bases of both, and on those of the members of a union that the type comes to: where
 /// one of them is not known yet, since a name is not defined, the verdict may change.
 #[tactic(auto, using(crate::proofs::GrowthLemmas::verdicts_stay))]
