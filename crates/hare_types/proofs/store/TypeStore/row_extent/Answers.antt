@@ -18,7 +18,7 @@ returns-clause-some c = by c.extent_over.result refl
     by (Some x) e =
         let ks = c.self.inside.kept.items in
         rw (← c.self.view_is)
-        (told-row _ c.self.invariant.store (extents ks) c.self.invariant.extents.bounded c.self.invariant.extents.sound c.args.r.now x
+        (told-row _ c.self.invariant.kept.store (extents ks) c.self.invariant.kept.extents.bounded c.self.invariant.kept.extents.sound c.args.r.now x
         (ap (λ l. extent_over (defined c.self.inside.declared.entries) (known (extents l)) c.args.r.now) (sym c.as_slice.ensures.value) ∙ sym c.extent_over.ensures.value ∙ e))
 
 pub returns-clause-none : goal.returns-clause-none
@@ -30,7 +30,7 @@ returns-clause-none c = by c.extent_over.result refl
         let ks = c.self.inside.kept.items in
         let within = subst (λ s. IsWithin (length s.rows) c.args.r.now) (sym c.self.view_is) c.requires in
         rw (← c.self.view_is)
-        (none_follows _ c.self.invariant.store (known (extents ks))
-        (extents-settled c.self.inside.rows.keys c.self.inside.declared.entries ks (omega (arith, c.self.invariant.store.rows_few, c.self.invariant.extents.as_many, length-map ks (λ k. k.extent))) c.self.invariant.lists c.self.invariant.settled)
+        (none_follows _ c.self.invariant.kept.store (known (extents ks))
+        (extents-settled c.self.inside.rows.keys c.self.inside.declared.entries ks (omega (arith, c.self.invariant.kept.store.rows_few, c.self.invariant.kept.extents.as_many, length-map ks (λ k. k.extent))) c.self.invariant.kept.lists c.self.invariant.kept.settled)
         c.args.r.now within
         (ap (λ l. extent_over (defined c.self.inside.declared.entries) (known (extents l)) c.args.r.now) (sym c.as_slice.ensures.value) ∙ sym c.extent_over.ensures.value ∙ e))
