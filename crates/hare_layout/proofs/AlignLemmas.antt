@@ -110,7 +110,7 @@ word_aligned Size x e = exact 8 8 1 x (inr (inr (inr refl))) refl e
 
 -- ---- types
 
-mapped : {A B : Type 0} (f : A → B) (o : Option A) (b : B) → option_map f o ≡ Some b → (a : A) × (o ≡ Some a) × (f a ≡ b)
+pub mapped : {A B : Type 0} (f : A → B) (o : Option A) (b : B) → option_map f o ≡ Some b → (a : A) × (o ≡ Some a) × (f a ≡ b)
 mapped f None b e = absurd cc
 mapped f (Some a) b e = (a, refl, cc)
 

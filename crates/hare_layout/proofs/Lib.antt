@@ -9,6 +9,7 @@ pub mod DefinableLemmas
 pub mod ExtentLemmas
 pub mod GrowthLemmas
 pub mod LeftLemmas
+pub mod MeansLemmas
 pub mod MemberLemmas
 pub mod NamesLemmas
 pub mod OffsetLemmas

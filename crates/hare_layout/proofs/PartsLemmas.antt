@@ -17,6 +17,7 @@ use Rattle.hare_types.proofs.IdLemmas.{extent-row, extent_tells, row_of_tree}
 use Rattle.hare_layout.specs.Small.{fitting, array_extent, small_with, smalls_with, IsSmall, LiesIn, name_extents, extent_by, extents_by}
 use Rattle.hare_layout.specs.Whole.{IsPart}
 use Rattle.hare_layout.proofs.ExtentLemmas.{extent_by-following, struct-parts}
+use Rattle.hare_layout.proofs.AlignLemmas.{mapped}
 use Rattle.hare_layout.proofs.StoreLemmas.{small_within, extent_by-small, extent_by_lies}
 
 fits : (x : Extent) → x.size ≤ 67108864 → fitting x ≡ Some x
@@ -25,10 +26,6 @@ fits x h = by (ltb 67108864 x.size) refl
     by : (b : Bool) → ltb 67108864 x.size ≡ b → cond b None (Some x) ≡ Some x
     by true e = absurd (grind (arith, e))
     by false e = refl
-
-mapped : {A B : Type 0} (f : A → B) (o : Option A) (b : B) → option_map f o ≡ Some b → (a : A) × (o ≡ Some a) × (f a ≡ b)
-mapped f None b e = absurd cc
-mapped f (Some a) b e = (a, refl, cc)
 
 module _ (s : Store) (v : IsStore s) where
   abbrev names : ℕ

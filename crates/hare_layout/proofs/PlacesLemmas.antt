@@ -13,7 +13,7 @@ use Rattle.hare_types.specs.Store.{Store, definition_of}
 use Rattle.hare_types.specs.ByIds.{row_at, found_within, bytes_over, base_at, extent_at, fields_of, members_of, fields_at, members_at, offset_at, payload_at}
 use Rattle.hare_types.proofs.IdLemmas.{extent-row}
 use Rattle.hare_layout.specs.Whole.{IsMultiple, IsAlignment, IsAligned, HasField, FieldsLieIn, PayloadLiesIn}
-use Rattle.hare_layout.proofs.AlignLemmas.{AreAligned, low, divides, through, rounded, greater, four, greatest_align-alignment, all_aligned, types_are_aligned}
+use Rattle.hare_layout.proofs.AlignLemmas.{mapped, AreAligned, low, divides, through, rounded, greater, four, greatest_align-alignment, all_aligned, types_are_aligned}
 use Rattle.hare_layout.proofs.AscendingLemmas.{In, In-from}
 
 -- ---- sums
@@ -146,11 +146,7 @@ get_some (j ∷ js) (suc k) l = get_some js k (omega arith)
 
 -- ---- the base has the extent of the type
 
-mapped : {A B : Type 0} (f : A → B) (o : Option A) (b : B) → option_map f o ≡ Some b → (a : A) × (o ≡ Some a) × (f a ≡ b)
-mapped f None b e = absurd cc
-mapped f (Some a) b e = (a, refl, cc)
-
-then : {A B : Type 0} (f : A → Option B) (o : Option A) (b : B) → option_and_then f o ≡ Some b → (a : A) × (o ≡ Some a) × (f a ≡ Some b)
+pub then : {A B : Type 0} (f : A → Option B) (o : Option A) (b : B) → option_and_then f o ≡ Some b → (a : A) × (o ≡ Some a) × (f a ≡ Some b)
 then f None b e = absurd cc
 then f (Some a) b e = (a, refl, e)
 

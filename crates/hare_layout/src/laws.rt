@@ -1,6 +1,7 @@
 //! What holds of every store.
 
 ghost use Rattle.hare_layout.specs.Growth.{LayoutStays, JudgementsStay};
+ghost use Rattle.hare_layout.specs.Offsets.{OffsetsMeanTrees};
 ghost use Rattle.hare_layout.specs.Whole.{TypesAreAligned, FieldsLieWithin, PayloadsLieWithin, SmallFromParts};
 
 /// Where bytes lie, which fields there are, and which unions hold which, stays in later stores.
@@ -40,4 +41,10 @@ pub fn law_payloads_lie_within()
 #[tactic(auto, using(crate::proofs::PartsLemmas::small_from_parts))]
 pub fn law_small_from_parts()
     ensures { SmallFromParts }
+{}
+
+/// Where a field or a payload begins by the id of its type is where it begins in the tree for which the id stands.
+#[tactic(auto, using(crate::proofs::MeansLemmas::offsets_mean))]
+pub fn law_offsets_mean_trees()
+    ensures { OffsetsMeanTrees }
 {}
