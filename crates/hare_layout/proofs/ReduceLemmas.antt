@@ -18,12 +18,12 @@ use Rattle.hare_layout.proofs.MemberLemmas.{Same-refl}
 use Rattle.hare_layout.specs.declared.spelled.Spelled.{Spelled}
 use Rattle.hare_layout.specs.declared.reduce.Reduced.{Reduced}
 use Rattle.hare_layout.specs.declared.reduce.Reduced.TheVariants.{Known, Fresh}
-use Rattle.hare_layout.specs.Ascending.{put_all}
+use Rattle.hare_types.specs.Unions.{put_all}
 use Rattle.hare_layout.specs.Ids.{is_unsized, unsized_at, AreLeftBelow, AreIds}
 use Rattle.hare_layout.specs.Reduction.{written, IsMember, IsLeft, AreLeft, type_of, IsReducedTo}
 use Rattle.hare_layout.specs.Admission.{measured, Spreading, Sized, Inhabited, Narrow, Passes, PassesAll, LacksSize, IsEmpty, IsTooWide, IsFirstOf}
 use Rattle.hare_layout.specs.Reduced.{IsReduction, IsOfMembers}
-use Rattle.hare_layout.proofs.AscendingLemmas.{In, In-from, In-to, one_ascending, put_all-sound}
+use Rattle.hare_layout.proofs.AscendingLemmas.{In, In-from, In-to, one_ascending, ascending-sound}
 use Rattle.hare_layout.proofs.SpreadLemmas.{tree_at-id, id-tree_at, AreIds-AllBelow}
 use Rattle.hare_layout.proofs.LeftLemmas.{AreLeft-all}
 
@@ -95,7 +95,7 @@ module _ (s : Store) (r : Spelled) (is left : List ℕ) (e : written r.row ≡ S
   union-sized h (u, inr g, none) =
       let all = AreLeft-all s r is left e below in
       let k = all.whole u g in
-      has_none-not s k.0 u k.2 (unsized-out s left k.0 h (In-from k.0 left (put_all-sound left k.0 k.1))) none
+      has_none-not s k.0 u k.2 (unsized-out s left k.0 h (In-from k.0 left (ascending-sound left k.0 k.1))) none
 
 -- the ids of what is left are one list
 pub one_left : (s : Store) → IsStore s → (r : Spelled) (is js : List ℕ) → AreLeft s r is → AreLeft s r js → is ≡ js
@@ -144,7 +144,7 @@ union-reduction s v r ws left is e below all (Fresh q) h =
         several = omega (arith, h.0);
         ascend = a.ascend;
         not_never = λ i m g. let k = a.sound i m in let both : Some (Scalar keyword.Never) ≡ Some k.0 = sym (tree_at_row s v i (row.Scalar keyword.Never) g) ∙ k.1 in k.2.4 (cc);
-        not_union = λ i js m. below.flat i js (put_all-sound left i (subst (λ x. Contains x i) all m));
+        not_union = λ i js m. below.flat i js (ascending-sound left i (subst (λ x. Contains x i) all m));
       }),
       subst (λ x. IsReducedTo s r (tree_of (trees s.rows) x)) (sym h.1) (reduces_union s r ws is (tree_of (trees s.rows) (row.Union is)) e a (type_of-several s is h.0)),
     )

@@ -1,5 +1,4 @@
 pub mod Admission
-pub mod Ascending
 pub mod Growth
 pub mod Ids
 pub mod Members
