@@ -12,8 +12,7 @@ use crate::assign::assignable;
 use crate::rows::{is_const, is_same};
 use crate::types::row_of;
 use crate::unions::{count_const, count_lone, is_lone, is_word};
-use crate::words::default_word;
-use hare_types::{Coercion, Row, Ty, TypeId, TypeStore};
+use hare_types::{Coercion, Row, Scalar, Ty, TypeId, TypeStore};
 
 /// How a value finds its member of a union.
 #[derive(Clone, Copy)]
@@ -34,7 +33,7 @@ fn is_its_default(s: &TypeStore, to: TypeId, from: &Ty) -> bool
     ensures { result ≡ is_its_default (value_at s.now from.now) (type_at s.now to) }
 {
     match from {
-        Ty::Iconst(v) => match default_word(*v) {
+        Ty::Iconst(v) => match Scalar::default_of(*v) {
             Some(k) => is_word(s, to, k),
             None => false,
         },

@@ -9,7 +9,6 @@ mod laws;
 mod rows;
 mod types;
 mod unions;
-mod words;
 
 pub use assign::assignable;
 pub use cast::castable;

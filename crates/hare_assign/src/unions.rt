@@ -10,7 +10,6 @@ ghost use Rattle.hare_assign.specs.Shapes.{types_at, members_of};
 use crate::base::base;
 use crate::rows::{is_const, is_null, is_pointer, is_same, is_slice};
 use crate::types::row_of;
-use crate::words::default_word;
 use hare_layout::subset;
 use hare_types::{Row, Scalar, Ty, TypeId, TypeStore};
 
@@ -76,7 +75,7 @@ fn is_default(s: &TypeStore, members: &[TypeId], from: &Ty) -> bool
     ensures { result ≡ is_default (value_at s.now from.now) (types_at s.now members.now) }
 {
     match from {
-        Ty::Iconst(v) => match default_word(*v) {
+        Ty::Iconst(v) => match Scalar::default_of(*v) {
             Some(k) => has_word(s, members, k),
             None => false,
         },
