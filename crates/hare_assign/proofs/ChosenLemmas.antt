@@ -1,6 +1,6 @@
 -- The member that a value becomes, where it is made a union.
-use Rattle.std.proofs.Common.{◌≡◌, ℕ, zero, suc, ◌<◌, Bool, true, false, ◌||◌, ◌==◌, cond, List, [], ◌∷◌, length, map, Option, Some, None, IfSome, IfNone, refl, ap, ap₂, sym, ◌∙◌, subst, arith, ◌⊎◌, inl, inr}
-use Rattle.std.specs.Prelude.{ℤ, ◌+◌, slice_get, option_map, option_and_then, Contains, find}
+use Rattle.std.proofs.Common.{◌≡◌, ℕ, zero, suc, ◌<◌, Bool, true, false, ◌||◌, ◌==◌, cond, List, [], ◌∷◌, length, Option, Some, None, refl, ap, ap₂, sym, ◌∙◌, subst, arith, ◌⊎◌, inl, inr}
+use Rattle.std.specs.Prelude.{ℤ, ◌+◌, slice_get}
 use Rattle.std.specs.Option.{option_or}
 use Rattle.hare_types.specs.declared.coercion.Ty.{Ty}
 use Rattle.hare_types.specs.declared.coercion.Coercion.{Coercion}
@@ -8,23 +8,22 @@ use Rattle.hare_types.specs.declared.row.Row.{Row}
 use Rattle.hare_types.specs.declared.row.Row.TheVariants as row
 use Rattle.hare_types.specs.declared.row.Scalar.{Scalar as Keyword}
 use Rattle.hare_types.specs.declared.row.Scalar.TheVariants as keyword
-use Rattle.hare_types.specs.Trees.{Tree, Trees, Scalar, Pointer, Nullable, Slice, Array, Struct, Tuple, Union, Error, Named, none, more, trees_of}
-use Rattle.hare_types.specs.Rows.{tree_in, tree_of, trees, AllBelow}
+use Rattle.hare_types.specs.Trees.{Tree, Trees, Scalar, Pointer, Nullable, Slice, Array, Struct, Tuple, Union, Error, Named}
+use Rattle.hare_types.specs.Rows.{tree_of, trees, AllBelow}
 use Rattle.hare_types.specs.Store.{Store, meaning_of}
 use Rattle.hare_types.specs.Sound.{IsStore}
 use Rattle.hare_types.specs.Layout.{following, base_with}
 use Rattle.hare_types.specs.Bases.{IsBaseOf}
 use Rattle.hare_types.specs.ByIds.{row_at, base_at, members_at}
-use Rattle.hare_types.specs.Assign.{Value, Of, Iconst, Null, Empty, type_at, value_at, base, some_tree, how_many, holds_of, same, holds, tree_holds, default_word, only_one, is_same, is_const, is_pointer, is_null, is_slice, is_lone, is_member, is_part, is_default, is_union, joins, table, first_row, coercion}
+use Rattle.hare_types.specs.Assign.{Value, Of, Iconst, Null, Empty, type_at, value_at, base, some_tree, how_many, holds_of, same, holds, tree_holds, default_word, only_one, is_same, is_const, is_pointer, is_null, is_slice, is_lone, is_member, is_part, is_default, joins, table, first_row, coercion}
 use Rattle.hare_types.specs.KeyLaws.{scalar_eq-Decides}
 use Rattle.hare_types.proofs.IdLemmas.{base_tells, none_map}
 use Rattle.hare_types.proofs.MeaningsLemmas.{ids_mean_trees}
 use Rattle.hare_layout.proofs.AscendingLemmas.{In, In-to}
 use Rattle.hare_layout.proofs.BaseLemmas.{base_by-following}
 use Rattle.hare_layout.proofs.BaseOfLemmas.{base-value}
-use Rattle.hare_layout.proofs.SpreadLemmas.{id-tree_at}
 use Rattle.hare_assign.specs.Shapes.{types_at}
-use Rattle.hare_assign.specs.Chosen.{is_its_default, first_of, only_of, member_for, chosen, IsChosen, KeepsMember}
+use Rattle.hare_assign.specs.Chosen.{is_its_default, first_of, only_of, member_for, IsChosen, KeepsMember}
 use Rattle.hare_assign.proofs.FirstLemmas.{first_from-none}
 use Rattle.hare_assign.proofs.TypeLemmas.{type_at_row}
 
@@ -79,12 +78,14 @@ module _ (s : Store) (v : IsStore s) (t : ℕ) where
   tree_union (row.Named d) ts e = absurd cc
 
   -- the type has members where its base is a union
-  base_union : t < length s.rows → (ts : Trees) → base s (type_at s t) ≡ Some (Union ts) → (is : List ℕ) × (members_at s t ≡ Some is) × (ts ≡ types_at s is)
+  base_union : t < length s.rows → (ts : Trees) → base s (type_at s t) ≡ Some (Union ts)
+      → (is : List ℕ) × (members_at s t ≡ Some is) × (ts ≡ types_at s is)
   base_union l ts e = by (base_at s t) refl
     where
       by : (o : Option ℕ) → base_at s t ≡ o → (is : List ℕ) × (members_at s t ≡ Some is) × (ts ≡ types_at s is)
       by None g =
-          let nothing = base-value s v t l None tt (λ b h. let both = sym g ∙ (base_tells s v t b).1 h in absurd cc) ∙ base_by-following s (length s.declared) (type_at s t) in
+          let nothing = base-value s v t l None tt (λ b h. let both = sym g ∙ (base_tells s v t b).1 h in absurd cc)
+              ∙ base_by-following s (length s.declared) (type_at s t) in
           let both = nothing ∙ e in
           absurd cc
       by (Some b) g =
@@ -115,7 +116,8 @@ module _ (s : Store) (p : Tree → Bool) where
   found_in [] m e = absurd cc
   found_in (i ∷ is) m e = by (p (type_at s i)) refl e (found_in is m)
     where
-      by : (b : Bool) → p (type_at s i) ≡ b → cond b (Some i) (first_of s p is) ≡ Some m → (first_of s p is ≡ Some m → In m is × (p (type_at s m) ≡ true)) → In m (i ∷ is) × (p (type_at s m) ≡ true)
+      by : (b : Bool) → p (type_at s i) ≡ b → cond b (Some i) (first_of s p is) ≡ Some m
+          → (first_of s p is ≡ Some m → In m is × (p (type_at s m) ≡ true)) → In m (i ∷ is) × (p (type_at s m) ≡ true)
       by true g h ih =
           let same : i ≡ m = cc in
           (inl same, subst (λ j. p (type_at s j) ≡ true) same g)
@@ -132,7 +134,8 @@ module _ (s : Store) (p : Tree → Bool) where
   none_among [] e = refl
   none_among (i ∷ is) e = by (p (type_at s i)) refl e (none_among is)
     where
-      by : (b : Bool) → p (type_at s i) ≡ b → cond b (Some i) (first_of s p is) ≡ None → (first_of s p is ≡ None → some_tree p (types_at s is) ≡ false) → some_tree p (types_at s (i ∷ is)) ≡ false
+      by : (b : Bool) → p (type_at s i) ≡ b → cond b (Some i) (first_of s p is) ≡ None
+          → (first_of s p is ≡ None → some_tree p (types_at s is) ≡ false) → some_tree p (types_at s (i ∷ is)) ≡ false
       by true g h ih = absurd cc
       by false g h ih = ap (λ b. b || some_tree p (types_at s is)) g ∙ ih h
 
@@ -140,7 +143,8 @@ module _ (s : Store) (p : Tree → Bool) where
   count_none [] e = refl
   count_none (i ∷ is) e = by (p (type_at s i)) refl e (count_none is)
     where
-      by : (b : Bool) → p (type_at s i) ≡ b → cond b (Some i) (first_of s p is) ≡ None → (first_of s p is ≡ None → how_many p (types_at s is) ≡ 0) → how_many p (types_at s (i ∷ is)) ≡ 0
+      by : (b : Bool) → p (type_at s i) ≡ b → cond b (Some i) (first_of s p is) ≡ None
+          → (first_of s p is ≡ None → how_many p (types_at s is) ≡ 0) → how_many p (types_at s (i ∷ is)) ≡ 0
       by true g h ih = absurd cc
       by false g h ih = ap (λ b. cond b 1 0 + how_many p (types_at s is)) g ∙ ap (λ n. 0 + n) (ih h)
 
@@ -148,7 +152,8 @@ module _ (s : Store) (p : Tree → Bool) where
   only_in : (is : List ℕ) (m : ℕ) → only_of s p is ≡ Some m → (first_of s p is ≡ Some m) × (only_one p (types_at s is) ≡ true)
   only_in is m e = by (only_one p (types_at s is)) refl e
     where
-      by : (b : Bool) → only_one p (types_at s is) ≡ b → cond b (first_of s p is) None ≡ Some m → (first_of s p is ≡ Some m) × (only_one p (types_at s is) ≡ true)
+      by : (b : Bool) → only_one p (types_at s is) ≡ b → cond b (first_of s p is) None ≡ Some m
+          → (first_of s p is ≡ Some m) × (only_one p (types_at s is) ≡ true)
       by true g h = (h, g)
       by false g h = absurd cc
 
@@ -172,7 +177,8 @@ default_holds v k e = by (holds keyword.Int v) refl e
         subst (λ w. holds w v ≡ true) same g
     wide false g h = absurd cc
 
-    by : (b : Bool) → holds keyword.Int v ≡ b → cond b (Some keyword.Int) (cond (holds keyword.I64 v) (Some keyword.I64) None) ≡ Some k → holds k v ≡ true
+    by : (b : Bool) → holds keyword.Int v ≡ b → cond b (Some keyword.Int) (cond (holds keyword.I64 v) (Some keyword.I64) None) ≡ Some k
+        → holds k v ≡ true
     by true g h =
         let same : keyword.Int ≡ k = cc in
         subst (λ w. holds w v ≡ true) same g
@@ -207,7 +213,8 @@ default_const s Null t e = absurd cc
 default_const s Empty t e = absurd cc
 
 -- among members
-default_among : (s : Store) (f : Value) (is : List ℕ) (m : ℕ) → In m is → is_its_default f (type_at s m) ≡ true → is_default f (types_at s is) ≡ true
+default_among : (s : Store) (f : Value) (is : List ℕ) (m : ℕ) → In m is → is_its_default f (type_at s m) ≡ true
+    → is_default f (types_at s is) ≡ true
 default_among s (Iconst v) is m h e =
     let k = holds-none (λ w. same (Scalar w) (type_at s m)) (default_word v) e in
     ap (holds_of (λ w. some_tree (same (Scalar w)) (types_at s is))) k.1 ∙ some_among s (same (Scalar k.0)) is m h k.2
@@ -218,13 +225,15 @@ default_among s Empty is m h e = absurd cc
 default_none : (s : Store) (f : Value) (is : List ℕ) → first_of s (is_its_default f) is ≡ None → is_default f (types_at s is) ≡ false
 default_none s (Iconst v) is e = by (default_word v) refl
   where
-    first : (k : Keyword) → default_word v ≡ Some k → (js : List ℕ) → first_of s (same (Scalar k)) js ≡ first_of s (is_its_default (Iconst v)) js
+    first : (k : Keyword) → default_word v ≡ Some k → (js : List ℕ)
+        → first_of s (same (Scalar k)) js ≡ first_of s (is_its_default (Iconst v)) js
     first k g [] = refl
     first k g (j ∷ js) = ap₂ (λ b o. cond b (Some j) o) (sym (ap (holds_of (λ w. same (Scalar w) (type_at s j))) g)) (first k g js)
 
     by : (o : Option Keyword) → default_word v ≡ o → is_default (Iconst v) (types_at s is) ≡ false
     by None g = ap (holds_of (λ w. some_tree (same (Scalar w)) (types_at s is))) g
-    by (Some k) g = ap (holds_of (λ w. some_tree (same (Scalar w)) (types_at s is))) g ∙ none_among s (same (Scalar k)) is (first k g is ∙ e)
+    by (Some k) g = ap (holds_of (λ w. some_tree (same (Scalar w)) (types_at s is))) g
+        ∙ none_among s (same (Scalar k)) is (first k g is ∙ e)
 default_none s (Of g) is e = refl
 default_none s Null is e = refl
 default_none s Empty is e = refl
@@ -277,7 +286,8 @@ module _ (s : Store) (f : Value) (is : List ℕ) where
       joined : (is_member f ms ≡ true) ⊎ ((is_default f ms ≡ true) ⊎ ((only_one (is_const s f) ms ≡ true) ⊎ (only_one (is_lone s f) ms ≡ true))) → joins s f (Union ms) ≡ true
       joined h = five (is_member f ms) (is_part s f ms) (is_default f ms) (only_one (is_const s f) ms) (only_one (is_lone s f) ms) h
 
-      by : (a : Option ℕ) → first_of s (is_same f) is ≡ a → (b : Option ℕ) → first_of s (is_its_default f) is ≡ b → (c : Option ℕ) → only_of s (is_const s f) is ≡ c → (d : Option ℕ) → only_of s (is_lone s f) is ≡ d
+      by : (a : Option ℕ) → first_of s (is_same f) is ≡ a → (b : Option ℕ) → first_of s (is_its_default f) is ≡ b → (c : Option ℕ)
+          → only_of s (is_const s f) is ≡ c → (d : Option ℕ) → only_of s (is_lone s f) is ≡ d
           → option_or a (option_or b (option_or c d)) ≡ Some m → IsFor m
       by (Some i) g b h c k d l e =
           let same : i ≡ m = cc in
@@ -309,7 +319,8 @@ module _ (s : Store) (f : Value) (is : List ℕ) where
       last false b false true x e f g h k = absurd cc
       last false b false false true e f g h k = absurd cc
 
-      by : (a : Option ℕ) → first_of s (is_same f) is ≡ a → (b : Option ℕ) → first_of s (is_its_default f) is ≡ b → (c : Option ℕ) → only_of s (is_const s f) is ≡ c
+      by : (a : Option ℕ) → first_of s (is_same f) is ≡ a → (b : Option ℕ) → first_of s (is_its_default f) is ≡ b → (c : Option ℕ)
+          → only_of s (is_const s f) is ≡ c
           → option_or a (option_or b (option_or c (only_of s (is_lone s f) is))) ≡ None → is_part s f ms ≡ true
       by (Some i) g b h c k e = absurd cc
       by None g (Some i) h c k e = absurd cc
@@ -319,7 +330,8 @@ module _ (s : Store) (f : Value) (is : List ℕ) where
           (none_among s (is_same f) is g) (default_none s f is h) (not_only s (is_const s f) is k) (not_only s (is_lone s f) is e) j
 
 -- the only one that holds a number is found
-pub by_number : (s : Store) (f : Value) (is : List ℕ) (r : Option ℕ) → None ≡ first_of s (is_same f) is → None ≡ first_of s (is_its_default f) is → how_many (is_const s f) (types_at s is) ≡ 1
+pub by_number : (s : Store) (f : Value) (is : List ℕ) (r : Option ℕ) → None ≡ first_of s (is_same f) is
+    → None ≡ first_of s (is_its_default f) is → how_many (is_const s f) (types_at s is) ≡ 1
     → r ≡ first_of s (is_const s f) is → r ≡ member_for s f is
 by_number s f is r own default one e =
     e ∙ by (first_of s (is_const s f) is) refl ∙ ap (λ o. option_or o (only_of s (is_lone s f) is)) (sym (ap (λ b. cond b (first_of s (is_const s f) is) None) only))
@@ -335,7 +347,8 @@ by_number s f is r own default one e =
         absurd (omega (arith, zeroes))
 
 -- it is in the store
-pub member_within : (s : Store) (from : Ty) (is : List ℕ) (m : ℕ) → AllBelow (length s.rows) is → member_for s (value_at s from) is ≡ Some m → m < length s.rows
+pub member_within : (s : Store) (from : Ty) (is : List ℕ) (m : ℕ) → AllBelow (length s.rows) is → member_for s (value_at s from) is ≡ Some m
+    → m < length s.rows
 member_within s from is m h e = below_in (length s.rows) is m h (is_for s (value_at s from) is m e).among
   where
     below_in : (n : ℕ) (js : List ℕ) (i : ℕ) → AllBelow n js → In i js → i < n
@@ -346,7 +359,8 @@ member_within s from is m h e = below_in (length s.rows) is m h (is_for s (value
 -- ---- the coercion to it
 
 module _ (s : Store) (v : IsStore s) (from : Ty) (to : ℕ) (l : to < length s.rows) where
-  pub is_chosen : (is : List ℕ) (m : ℕ) → members_at s to ≡ Some is → member_for s (value_at s from) is ≡ Some m → (c : Coercion) → coercion s from m ≡ Some c → IsChosen s from to c
+  pub is_chosen : (is : List ℕ) (m : ℕ) → members_at s to ≡ Some is → member_for s (value_at s from) is ≡ Some m → (c : Coercion)
+      → coercion s from m ≡ Some c → IsChosen s from to c
   is_chosen is m e g c h =
       let k = is_for s (value_at s from) is m g in
       record {

@@ -1,4 +1,5 @@
 pub mod ChosenLemmas
+mod ChosenRows
 pub mod FirstLemmas
 pub mod GrowthLemmas
 pub mod MemberLemmas

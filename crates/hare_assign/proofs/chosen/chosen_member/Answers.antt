@@ -1,5 +1,5 @@
-use Rattle.std.proofs.Common.{◌≡◌, Option, Some, None, length, refl, ap, sym, ◌∙◌}
-use Rattle.std.specs.Prelude.{IfSome, IfNone, slice_get}
+use Rattle.std.proofs.Common.{◌≡◌, Option, Some, None, refl, sym, ◌∙◌}
+use Rattle.std.specs.Prelude.{IfSome, IfNone}
 use Rattle.hare_types.specs.declared.coercion.Coercion.{Coercion}
 use Rattle.hare_assign.specs.Chosen.{IsChosen, KeepsMember}
 use Rattle.hare_assign.proofs.ChosenLemmas.{member_within, is_chosen, goes_there, keeps_none, keeps_own}

@@ -1,6 +1,4 @@
-use Rattle.std.proofs.Common.{Some, ap, sym, ◌∙◌, subst}
-use Rattle.hare_types.specs.declared.row.Row.TheVariants as row
-use Rattle.hare_types.specs.ByIds.{members_at}
+use Rattle.std.proofs.Common.{Some, ap, sym, ◌∙◌}
 use Rattle.hare_types.proofs.MeaningsLemmas.{ids_mean_trees}
 use Rattle.hare_layout.proofs.SpreadLemmas.{id-tree_at}
 use Rattle.hare_assign.proofs.ChosenLemmas.{no_base, no_union}
