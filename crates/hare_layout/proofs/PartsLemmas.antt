@@ -78,7 +78,7 @@ module _ (s : Store) (v : IsStore s) where
     small_row (row.Struct fs) here e small =
         by_names (row.Struct fs) here
         (ap (λ ts. option_and_then (λ xs. fitting (fields_extent xs)) (smalls_with (name_extents s names) ts)) (struct-parts (trees s.rows) fs)
-         ∙ from_parts fields_extent (map (λ f. f.ty) fs) (λ k p g. small p (k, g)) e)
+        ∙ from_parts fields_extent (map (λ f. f.ty) fs) (λ k p g. small p (k, g)) e)
     small_row (row.Tuple is) here e small = by_names (row.Tuple is) here (from_parts fields_extent is (λ k p g. small p (k, g)) e)
     small_row (row.Union is) here e small = by_names (row.Union is) here (from_parts union_extent is (λ k p g. small p (k, g)) e)
     small_row (row.Error i) here e small = by_names (row.Error i) here (same_extent i (small i refl) x e)

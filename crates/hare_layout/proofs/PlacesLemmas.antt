@@ -242,9 +242,11 @@ module _ (s : Store) where
         let parts = fields-known t whole is e f in
         let type = get_some is k l in
         let here = known-get (extent_at s) is parts.0 k type.0 parts.1 type.1 in
-        let start = some_start 0 parts.0 k (omega (arith, known-length (extent_at s) is parts.0 parts.1)) in
-        (start.0, here.0,
-         record { types = is; type = type.0; fields = f; field = type.1; extent = here.1; begins = fields-start t k is parts.0 f parts.1 ∙ start.1 })
+        let start = some_start 0 parts.0 k (omega (arith, known-length (extent_at s) is parts.0 parts.1)) in (
+          start.0,
+          here.0,
+          record { types = is; type = type.0; fields = f; field = type.1; extent = here.1; begins = fields-start t k is parts.0 f parts.1 ∙ start.1 },
+        )
 
     field_within : (k start : ℕ) (x : Extent) → HasField s t k start x → start + x.size ≤ whole.size
     field_within k start x h =
@@ -327,9 +329,13 @@ module _ (s : Store) where
           let here = known-get (extent_at s) is xs k.0 i known k.1 in
           let greatest = greatest-multiple xs k.0 here.0 aligned here.2 in
           let whole_align = divides (greatest_align xs) (max 4 (greatest_align xs)) (greatest_align-alignment xs aligned) alignment (omega arith) in
-          let align = ap (λ y. y.align) parts.2 in
-          (here.0, here.1, omega (arith, room, size, size-le xs k.0 here.0 here.2), through (payload_start xs) here.0.align (greatest_align xs) (rounded 4 (greatest_align xs)) greatest,
-           subst (λ n. IsMultiple n here.0.align) align (through (max 4 (greatest_align xs)) here.0.align (greatest_align xs) whole_align greatest))
+          let align = ap (λ y. y.align) parts.2 in (
+            here.0,
+            here.1,
+            omega (arith, room, size, size-le xs k.0 here.0 here.2),
+            through (payload_start xs) here.0.align (greatest_align xs) (rounded 4 (greatest_align xs)) greatest,
+            subst (λ n. IsMultiple n here.0.align) align (through (max 4 (greatest_align xs)) here.0.align (greatest_align xs) whole_align greatest),
+          )
 
 -- ---- where payloads begin
 
