@@ -1,5 +1,5 @@
 -- The member that a value becomes, where it is made a union.
-use Rattle.std.proofs.Common.{◌≡◌, ℕ, zero, suc, ◌<◌, Bool, true, false, ◌||◌, ◌==◌, cond, List, [], ◌∷◌, length, Option, Some, None, refl, ap, ap₂, sym, ◌∙◌, subst, arith, ◌⊎◌, inl, inr}
+use Rattle.std.proofs.Common.{◌≡◌, ℕ, zero, suc, ◌<◌, Bool, true, false, ◌||◌, ◌==◌, cond, List, [], ◌∷◌, length, Option, Some, None, refl, ap, ap₂, sym, ◌∙◌, subst, arith, lit<, ◌⊎◌, inl, inr}
 use Rattle.std.specs.Prelude.{ℤ, ◌+◌, slice_get}
 use Rattle.std.specs.Option.{option_or}
 use Rattle.hare_types.specs.declared.coercion.Ty.{Ty}
@@ -25,7 +25,7 @@ use Rattle.hare_layout.proofs.BaseOfLemmas.{base-value}
 use Rattle.hare_assign.specs.Shapes.{types_at}
 use Rattle.hare_assign.specs.Chosen.{is_its_default, first_of, only_of, member_for, IsChosen, KeepsMember}
 use Rattle.hare_assign.proofs.FirstLemmas.{first_from-none}
-use Rattle.hare_assign.proofs.TypeLemmas.{type_at_row}
+use Rattle.hare_assign.proofs.TypeLemmas.{type_at_row, row_within}
 
 -- ---- the members of the base
 
@@ -65,6 +65,11 @@ module _ (s : Store) (v : IsStore s) (t : ℕ) where
       let h = ((ids_mean_trees s v).members t is).0 e in
       base_is l h.0 h.1 ∙ ap Some (type_at_row s v h.0 (row.Union is) h.2)
 
+  pub members_below : (is : List ℕ) → members_at s t ≡ Some is → AllBelow (length s.rows) is
+  members_below is e =
+      let h = ((ids_mean_trees s v).members t is).0 e in
+      row_within s v h.0 (row.Union is) h.2
+
   tree_union : (r : Row) (ts : Trees) → tree_of (trees s.rows) r ≡ Union ts → (is : List ℕ) × (r ≡ row.Union is) × (ts ≡ types_at s is)
   tree_union (row.Union is) ts e = (is, refl, cc)
   tree_union (row.Scalar k) ts e = absurd cc
@@ -77,6 +82,13 @@ module _ (s : Store) (v : IsStore s) (t : ℕ) where
   tree_union (row.Error i) ts e = absurd cc
   tree_union (row.Named d) ts e = absurd cc
 
+  -- nothing is left of a type that comes to a name that is not defined
+  pub base_none : t < length s.rows → base_at s t ≡ None → base s (type_at s t) ≡ None
+  base_none l g =
+      sym
+      (base-value s v t l None tt (λ b h. let both = sym g ∙ (base_tells s v t b).1 h in absurd cc)
+       ∙ base_by-following s (length s.declared) (type_at s t))
+
   -- the type has members where its base is a union
   base_union : t < length s.rows → (ts : Trees) → base s (type_at s t) ≡ Some (Union ts)
       → (is : List ℕ) × (members_at s t ≡ Some is) × (ts ≡ types_at s is)
@@ -84,9 +96,7 @@ module _ (s : Store) (v : IsStore s) (t : ℕ) where
     where
       by : (o : Option ℕ) → base_at s t ≡ o → (is : List ℕ) × (members_at s t ≡ Some is) × (ts ≡ types_at s is)
       by None g =
-          let nothing = base-value s v t l None tt (λ b h. let both = sym g ∙ (base_tells s v t b).1 h in absurd cc)
-              ∙ base_by-following s (length s.declared) (type_at s t) in
-          let both = nothing ∙ e in
+          let both = sym (base_none l g) ∙ e in
           absurd cc
       by (Some b) g =
           let h = (base_tells s v t b).0 g in
@@ -241,22 +251,23 @@ default_none s Empty is e = refl
 -- ---- the value goes to the member
 
 module _ (s : Store) (f : Value) (t : Tree) where
-  goes_at : (k : ℕ) → slice_get (table s f t) k ≡ Some true → first_row s f t ≡ None → ⊥
-  goes_at k e missing = first_from-none 1 (table s f t) missing k e
+  -- one of the rows before that of unions admits the value
+  abbrev pub Goes : Type 0
+  Goes = (k : ℕ) × (k < 8) × (slice_get (table s f t) k ≡ Some true)
 
-  goes_own : is_same f t ≡ true → first_row s f t ≡ None → ⊥
-  goes_own e = goes_at 0 (ap Some e)
+  goes_own : is_same f t ≡ true → Goes
+  goes_own e = (0, lit< tt, ap Some e)
 
-  goes_const : is_const s f t ≡ true → first_row s f t ≡ None → ⊥
-  goes_const e = goes_at 2 (ap Some e)
+  goes_const : is_const s f t ≡ true → Goes
+  goes_const e = (2, lit< tt, ap Some e)
 
-  goes_lone : is_lone s f t ≡ true → first_row s f t ≡ None → ⊥
-  goes_lone e missing = by (is_pointer f t) refl (is_null s f t) refl (is_slice s f t) refl
+  goes_lone : is_lone s f t ≡ true → Goes
+  goes_lone e = by (is_pointer f t) refl (is_null s f t) refl (is_slice s f t) refl
     where
-      by : (a : Bool) → is_pointer f t ≡ a → (b : Bool) → is_null s f t ≡ b → (c : Bool) → is_slice s f t ≡ c → ⊥
-      by true g b h c k = goes_at 4 (ap Some g) missing
-      by false g true h c k = goes_at 5 (ap Some h) missing
-      by false g false h true k = goes_at 6 (ap Some k) missing
+      by : (a : Bool) → is_pointer f t ≡ a → (b : Bool) → is_null s f t ≡ b → (c : Bool) → is_slice s f t ≡ c → Goes
+      by true g b h c k = (4, lit< tt, ap Some g)
+      by false g true h c k = (5, lit< tt, ap Some h)
+      by false g false h true k = (6, lit< tt, ap Some k)
       by false g false h false k =
           let no : is_lone s f t ≡ false = ap (λ x. x || is_null s f t || is_slice s f t) g ∙ ap (λ x. x || is_slice s f t) h ∙ k in
           let both = sym e ∙ no in
@@ -269,7 +280,7 @@ module _ (s : Store) (f : Value) (is : List ℕ) where
   pub record IsFor (m : ℕ) : Type 0 where
     pub among : In m is
     pub joins : joins s f (Union (types_at s is)) ≡ true
-    pub goes : first_row s f (type_at s m) ≡ None → ⊥
+    pub goes : Goes s f (type_at s m)
 
   five : (a b c d e : Bool) → (a ≡ true) ⊎ ((c ≡ true) ⊎ ((d ≡ true) ⊎ (e ≡ true))) → (a || b || c || d || e) ≡ true
   five a b c d e (inl h) = ap (λ x. x || b || c || d || e) h
@@ -280,7 +291,7 @@ module _ (s : Store) (f : Value) (is : List ℕ) where
   abbrev ms : Trees
   ms = types_at s is
 
-  is_for : (m : ℕ) → member_for s f is ≡ Some m → IsFor m
+  pub is_for : (m : ℕ) → member_for s f is ≡ Some m → IsFor m
   is_for m e = by (first_of s (is_same f) is) refl (first_of s (is_its_default f) is) refl (only_of s (is_const s f) is) refl (only_of s (is_lone s f) is) refl e
     where
       joined : (is_member f ms ≡ true) ⊎ ((is_default f ms ≡ true) ⊎ ((only_one (is_const s f) ms ≡ true) ⊎ (only_one (is_lone s f) ms ≡ true))) → joins s f (Union ms) ≡ true
@@ -376,7 +387,7 @@ module _ (s : Store) (v : IsStore s) (from : Ty) (to : ℕ) (l : to < length s.r
   pub goes_there : (is : List ℕ) (m : ℕ) → member_for s (value_at s from) is ≡ Some m → ¬ (coercion s from m ≡ None)
   goes_there is m g missing =
       let k = is_for s (value_at s from) is m g in
-      k.goes (none_map _ (first_row s (value_at s from) (type_at s m)) missing)
+      first_from-none 1 (table s (value_at s from) (type_at s m)) (none_map _ (first_row s (value_at s from) (type_at s m)) missing) k.goes.0 k.goes.2
 
   pub keeps_none : members_at s to ≡ None → KeepsMember s from to
   keeps_none e ts b j =

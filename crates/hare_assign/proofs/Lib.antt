@@ -1,3 +1,4 @@
+pub mod ChoiceLemmas
 pub mod ChosenLemmas
 mod ChosenRows
 pub mod FirstLemmas

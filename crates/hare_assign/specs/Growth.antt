@@ -3,8 +3,10 @@ use Rattle.std.specs.Prelude.{◌≡◌, ℕ, ◌<◌, length, Some, IsSome}
 use Rattle.hare_types.specs.declared.coercion.Ty.{Ty}
 use Rattle.hare_types.specs.Trees.{Tree, Trees, Union, EachTree}
 use Rattle.hare_types.specs.Store.{Store}
+use Rattle.hare_types.specs.Sound.{IsStore}
 use Rattle.hare_types.specs.Later.{IsLater}
 use Rattle.hare_types.specs.Assign.{Value, Of, Iconst, Null, Empty, IsIn, type_at, value_at, base, table, coercion, is_castable}
+use Rattle.hare_assign.specs.Chosen.{chosen}
 
 -- the base of the type is known: each name that it comes to is defined
 abbrev pub HasBase : Store → Tree → Type 0
@@ -34,3 +36,9 @@ abbrev pub VerdictsStay : Type 0
 VerdictsStay =
     (now later : Store) → IsLater now later → (from : Ty) (to : ℕ) → IsIn now from → to < length now.rows → AreKnown now (value_at now from) (type_at now to)
     → IsOneVerdict now later from to
+
+-- which member a value becomes that is made a union, and by which row, is over every later store the same
+abbrev pub ChoicesStay : Type 0
+ChoicesStay =
+    (now later : Store) → IsStore now → IsLater now later → (from : Ty) (to : ℕ) → IsIn now from → to < length now.rows
+    → AreKnown now (value_at now from) (type_at now to) → chosen later from to ≡ chosen now from to

@@ -13,7 +13,7 @@ mod unions;
 pub use assign::assignable;
 pub use cast::castable;
 pub use chosen::chosen_member;
-pub use laws::law_verdicts_stay;
+pub use laws::{law_choices_stay, law_verdicts_stay};
 
 #[cfg(test)]
 mod tests;
