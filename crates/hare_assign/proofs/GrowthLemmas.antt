@@ -1,5 +1,5 @@
--- What is said of values and types stays as a store grows.
-use Rattle.std.proofs.Common.{◌≡◌, ℕ, ◌<◌, Bool, ◌&&◌, ◌||◌, ◌==◌, length, Option, Some, None, IsSome, refl, ap, ap₂, sym, ◌∙◌}
+-- What is said of values and types stays in later stores.
+use Rattle.std.proofs.Common.{◌≡◌, ℕ, ◌<◌, Bool, ◌&&◌, ◌||◌, ◌==◌, [], length, Option, Some, None, IsSome, refl, ap, ap₂, sym, ◌∙◌}
 use Rattle.std.specs.Prelude.{is_some, option_map}
 use Rattle.hare_types.specs.declared.coercion.Ty.{Ty}
 use Rattle.hare_types.specs.declared.coercion.Ty.TheVariants as ty
@@ -15,25 +15,29 @@ use Rattle.hare_layout.proofs.OffsetLemmas.{base_with-near}
 use Rattle.hare_layout.proofs.SpreadLemmas.{tree_at-id, id-tree_at}
 use Rattle.hare_assign.specs.Growth.{HasBase, IsKnown, AreKnown, IsOneVerdict, VerdictsStay}
 
-module _ (old new : Store) (v : IsStore new) (grows : Extends old new) where
+module _ (old new : Store) (v : IsStore new) (grows : Extends (record old { listed = [] }) new) where
+  -- the store without its list of types that have tags
+  abbrev before : Store
+  before = record old { listed = [] }
+
   -- ---- what stays
 
   base_found : (t b : Tree) → base old t ≡ Some b → base new t ≡ Some b
   base_found t b e =
       names_enough base_with base_with-near new v (length old.declared) t b
-      (following-more base_with base_with-more (meaning_of old) (meaning_of new) (meaning_of-Extends old new grows) (length old.declared) t b e)
+      (following-more base_with base_with-more (meaning_of old) (meaning_of new) (meaning_of-Extends before new grows) (length old.declared) t b e)
 
-  base_stays : (t : Tree) → HasBase old t → base new t ≡ base old t
+  pub base_stays : (t : Tree) → HasBase old t → base new t ≡ base old t
   base_stays t h = by (base old t) refl h
     where
       by : (o : Option Tree) → base old t ≡ o → IsSome o → base new t ≡ base old t
       by None e g = absurd cc
       by (Some b) e g = base_found t b e ∙ sym e
 
-  type_stays : (i : ℕ) → i < length old.rows → type_at new i ≡ type_at old i
-  type_stays i h = (id-tree_at new i (type_at old i) (tree_at-Extends old new grows i (type_at old i) (tree_at-id old i h))).1
+  pub type_stays : (i : ℕ) → i < length old.rows → type_at new i ≡ type_at old i
+  type_stays i h = (id-tree_at new i (type_at old i) (tree_at-Extends before new grows i (type_at old i) (tree_at-id old i h))).1
 
-  value_stays : (f : Ty) → IsIn old f → value_at new f ≡ value_at old f
+  pub value_stays : (f : Ty) → IsIn old f → value_at new f ≡ value_at old f
   value_stays (ty.Of i) h = ap Of (type_stays i h)
   value_stays (ty.Iconst n) h = refl
   value_stays ty.Null h = refl
@@ -41,28 +45,28 @@ module _ (old new : Store) (v : IsStore new) (grows : Extends old new) where
 
   -- ---- one row of the table after another
 
-  const_stays : (f : Value) (t : Tree) → base new t ≡ base old t → is_const new f t ≡ is_const old f t
+  pub const_stays : (f : Value) (t : Tree) → base new t ≡ base old t → is_const new f t ≡ is_const old f t
   const_stays (Iconst n) t e = ap (holds_of (λ u. tree_holds u n)) e
   const_stays (Of g) t e = refl
   const_stays Null t e = refl
   const_stays Empty t e = refl
 
-  null_stays : (f : Value) (t : Tree) → base new t ≡ base old t → is_null new f t ≡ is_null old f t
+  pub null_stays : (f : Value) (t : Tree) → base new t ≡ base old t → is_null new f t ≡ is_null old f t
   null_stays Null t e = ap (holds_of is_nullable) e
   null_stays (Of g) t e = refl
   null_stays (Iconst n) t e = refl
   null_stays Empty t e = refl
 
-  slice_stays : (f : Value) (t : Tree) → base new t ≡ base old t → is_slice new f t ≡ is_slice old f t
+  pub slice_stays : (f : Value) (t : Tree) → base new t ≡ base old t → is_slice new f t ≡ is_slice old f t
   slice_stays f t e = ap (holds_of (items_fit f)) e
 
-  name_stays : (f : Value) (t : Tree) → IsKnown old f → base new t ≡ base old t → is_name new f t ≡ is_name old f t
+  pub name_stays : (f : Value) (t : Tree) → IsKnown old f → base new t ≡ base old t → is_name new f t ≡ is_name old f t
   name_stays (Of g) t k e = ap₂ (λ a b. holds_of (λ u. holds_of (same u) a) b) e (base_stays g k)
   name_stays (Iconst n) t k e = refl
   name_stays Null t k e = refl
   name_stays Empty t k e = refl
 
-  lone_stays : (f : Value) (t : Tree) → base new t ≡ base old t → is_lone new f t ≡ is_lone old f t
+  pub lone_stays : (f : Value) (t : Tree) → base new t ≡ base old t → is_lone new f t ≡ is_lone old f t
   lone_stays f t e = ap₂ (λ a b. is_pointer f t || a || b) (null_stays f t e) (slice_stays f t e)
 
   part_stays : (f : Value) (ms : Trees) → IsKnown old f → is_part new f ms ≡ is_part old f ms
@@ -73,7 +77,7 @@ module _ (old new : Store) (v : IsStore new) (grows : Extends old new) where
 
   -- ---- the members of a union
 
-  count_stays : (p q : Tree → Bool) → ((t : Tree) → base new t ≡ base old t → p t ≡ q t) → (ms : Trees) → EachTree (HasBase old) ms → how_many p ms ≡ how_many q ms
+  pub count_stays : (p q : Tree → Bool) → ((t : Tree) → base new t ≡ base old t → p t ≡ q t) → (ms : Trees) → EachTree (HasBase old) ms → how_many p ms ≡ how_many q ms
   count_stays p q h none k = refl
   count_stays p q h (more m ms) k =
       let first = h m (base_stays m k.0) in
@@ -143,4 +147,4 @@ module _ (old new : Store) (v : IsStore new) (grows : Extends old new) where
       }
 
 pub verdicts_stay : VerdictsStay
-verdicts_stay old new v grows from to in_old within k = one_verdict old new v grows from to in_old within k
+verdicts_stay now later l from to in_now within k = one_verdict now later l.sound l.grows from to in_now within k

@@ -1,3 +1,6 @@
+pub mod ChoiceLemmas
+pub mod ChosenLemmas
+mod ChosenRows
 pub mod FirstLemmas
 pub mod GrowthLemmas
 pub mod MemberLemmas

@@ -1,10 +1,12 @@
--- What is said of values and types stays as a store grows, where no name that is looked at waits for its definition.
+-- What is said of values and types stays in later stores, where no name that is looked at waits for its definition.
 use Rattle.std.specs.Prelude.{◌≡◌, ℕ, ◌<◌, length, Some, IsSome}
 use Rattle.hare_types.specs.declared.coercion.Ty.{Ty}
 use Rattle.hare_types.specs.Trees.{Tree, Trees, Union, EachTree}
-use Rattle.hare_types.specs.Store.{Store, Extends}
+use Rattle.hare_types.specs.Store.{Store}
 use Rattle.hare_types.specs.Sound.{IsStore}
+use Rattle.hare_types.specs.Later.{IsLater}
 use Rattle.hare_types.specs.Assign.{Value, Of, Iconst, Null, Empty, IsIn, type_at, value_at, base, table, coercion, is_castable}
+use Rattle.hare_assign.specs.Chosen.{chosen}
 
 -- the base of the type is known: each name that it comes to is defined
 abbrev pub HasBase : Store → Tree → Type 0
@@ -24,13 +26,19 @@ pub record AreKnown (s : Store) (f : Value) (t : Tree) : Type 0 where
   pub members : (ts : Trees) → base s t ≡ Some (Union ts) → EachTree (HasBase s) ts
 
 -- the table, what becomes of the value, and whether it may be cast are over both stores the same
-pub record IsOneVerdict (old new : Store) (from : Ty) (to : ℕ) : Type 0 where
-  pub table : table new (value_at new from) (type_at new to) ≡ table old (value_at old from) (type_at old to)
-  pub coercion : coercion new from to ≡ coercion old from to
-  pub cast : is_castable new (value_at new from) (type_at new to) ≡ is_castable old (value_at old from) (type_at old to)
+pub record IsOneVerdict (now later : Store) (from : Ty) (to : ℕ) : Type 0 where
+  pub table : table later (value_at later from) (type_at later to) ≡ table now (value_at now from) (type_at now to)
+  pub coercion : coercion later from to ≡ coercion now from to
+  pub cast : is_castable later (value_at later from) (type_at later to) ≡ is_castable now (value_at now from) (type_at now to)
 
--- a verdict that is given over a store is that over every store that grows from it
+-- a verdict that is given over a store is that over every later one
 abbrev pub VerdictsStay : Type 0
 VerdictsStay =
-    (old new : Store) → IsStore new → Extends old new → (from : Ty) (to : ℕ) → IsIn old from → to < length old.rows → AreKnown old (value_at old from) (type_at old to)
-    → IsOneVerdict old new from to
+    (now later : Store) → IsLater now later → (from : Ty) (to : ℕ) → IsIn now from → to < length now.rows → AreKnown now (value_at now from) (type_at now to)
+    → IsOneVerdict now later from to
+
+-- which member a value becomes that is made a union, and by which row, is over every later store the same
+abbrev pub ChoicesStay : Type 0
+ChoicesStay =
+    (now later : Store) → IsStore now → IsLater now later → (from : Ty) (to : ℕ) → IsIn now from → to < length now.rows
+    → AreKnown now (value_at now from) (type_at now to) → chosen later from to ≡ chosen now from to

@@ -1,3 +1,5 @@
+pub mod Chosen
 pub mod First
 pub mod Growth
 pub mod Shapes
+pub mod Ways

@@ -1,4 +1,4 @@
--- What the tests of rows look at. No public clause cites it.
+-- What the tests of rows look at.
 use Rattle.std.specs.Prelude.{ℕ, List, length, map, Some, None, Option}
 use Rattle.hare_types.specs.declared.row.Row.{Row}
 use Rattle.hare_types.specs.declared.row.Scalar.{Scalar as Keyword}

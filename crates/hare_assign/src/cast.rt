@@ -8,7 +8,6 @@ ghost use Rattle.hare_types.specs.Assign.{Of, type_at, value_at, IsIn, is_number
 use crate::assign::first_row;
 use crate::base::base;
 use crate::types::{row_of, word};
-use crate::words::signed;
 use hare_types::{Row, Scalar, Ty, TypeId, TypeStore};
 
 /// The type is an integer type or rune.
@@ -17,7 +16,7 @@ fn is_number(s: &TypeStore, t: TypeId) -> bool
     ensures { result ≡ is_number (type_at s.now t) }
 {
     match word(s, t) {
-        Some(k) => k == Scalar::Rune || signed(k).is_some(),
+        Some(k) => k == Scalar::Rune || k.is_signed().is_some(),
         None => false,
     }
 }

@@ -4,15 +4,16 @@
 mod assign;
 mod base;
 mod cast;
+mod chosen;
 mod laws;
 mod rows;
 mod types;
 mod unions;
-mod words;
 
 pub use assign::assignable;
 pub use cast::castable;
-pub use laws::law_verdicts_stay;
+pub use chosen::chosen_member;
+pub use laws::{law_choices_stay, law_verdicts_stay};
 
 #[cfg(test)]
 mod tests;

@@ -8,7 +8,6 @@ ghost use Rattle.hare_assign.specs.Shapes.{IsType};
 
 use crate::base::base;
 use crate::types::{is_opaque, row_of, same, word};
-use crate::words::{holds, wider};
 use hare_types::{Row, Scalar, Ty, TypeId, TypeStore};
 
 /// The value's type is the type.
@@ -42,7 +41,7 @@ pub(crate) fn is_const(s: &TypeStore, to: TypeId, from: &Ty) -> bool
     match from {
         Ty::Iconst(v) => match base(s, to) {
             Some(b) => match word(s, b) {
-                Some(k) => holds(k, *v),
+                Some(k) => k.holds(*v),
                 None => false,
             },
             None => false,
@@ -59,7 +58,7 @@ pub(crate) fn is_wider(s: &TypeStore, to: TypeId, from: &Ty) -> bool
 {
     match from {
         Ty::Of(f) => match (word(s, *f), word(s, to)) {
-            (Some(a), Some(b)) => wider(a, b),
+            (Some(a), Some(b)) => a.widens_to(b),
             _ => false,
         },
         Ty::Iconst(_) | Ty::Null | Ty::Empty => false,

@@ -10,7 +10,6 @@ ghost use Rattle.hare_assign.specs.Shapes.{types_at, members_of};
 use crate::base::base;
 use crate::rows::{is_const, is_null, is_pointer, is_same, is_slice};
 use crate::types::row_of;
-use crate::words::default_word;
 use hare_layout::subset;
 use hare_types::{Row, Scalar, Ty, TypeId, TypeStore};
 
@@ -47,7 +46,7 @@ fn is_part(s: &TypeStore, union: TypeId, from: &Ty) -> bool
 }
 
 /// The type is this word.
-fn is_word(s: &TypeStore, t: TypeId, k: Scalar) -> bool
+pub(crate) fn is_word(s: &TypeStore, t: TypeId, k: Scalar) -> bool
     requires { t < length s.now.rows }
     ensures { result ≡ same (ScalarTree k) (type_at s.now t) }
 {
@@ -76,7 +75,7 @@ fn is_default(s: &TypeStore, members: &[TypeId], from: &Ty) -> bool
     ensures { result ≡ is_default (value_at s.now from.now) (types_at s.now members.now) }
 {
     match from {
-        Ty::Iconst(v) => match default_word(*v) {
+        Ty::Iconst(v) => match Scalar::default_of(*v) {
             Some(k) => has_word(s, members, k),
             None => false,
         },
@@ -85,7 +84,7 @@ fn is_default(s: &TypeStore, members: &[TypeId], from: &Ty) -> bool
 }
 
 /// To how many of the types the value is admitted as a whole number without a suffix.
-fn count_const(s: &TypeStore, members: &[TypeId], from: &Ty) -> usize
+pub(crate) fn count_const(s: &TypeStore, members: &[TypeId], from: &Ty) -> usize
     requires { AllBelow (length s.now.rows) members.now }
     ensures { result ≡ how_many (is_const s.now (value_at s.now from.now)) (types_at s.now members.now) }
 {
@@ -99,7 +98,7 @@ fn count_const(s: &TypeStore, members: &[TypeId], from: &Ty) -> usize
 }
 
 /// Whether the value is admitted as a pointer, as null or as a slice.
-fn is_lone(s: &TypeStore, to: TypeId, from: &Ty) -> bool
+pub(crate) fn is_lone(s: &TypeStore, to: TypeId, from: &Ty) -> bool
     requires to { to < length s.now.rows }
     requires from { IsIn s.now from.now }
     ensures { result ≡ is_lone s.now (value_at s.now from.now) (type_at s.now to) }
@@ -108,7 +107,7 @@ fn is_lone(s: &TypeStore, to: TypeId, from: &Ty) -> bool
 }
 
 /// To how many of the types the value is admitted as a pointer, as null or as a slice.
-fn count_lone(s: &TypeStore, members: &[TypeId], from: &Ty) -> usize
+pub(crate) fn count_lone(s: &TypeStore, members: &[TypeId], from: &Ty) -> usize
     requires members { AllBelow (length s.now.rows) members.now }
     requires from { IsIn s.now from.now }
     ensures { result ≡ how_many (is_lone s.now (value_at s.now from.now)) (types_at s.now members.now) }

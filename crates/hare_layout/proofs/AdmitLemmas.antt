@@ -1,48 +1,54 @@
 -- Which types are too large, and what the checks before that say of the whole.
-use Rattle.std.proofs.Common.{◌≡◌, ℕ, ◌<◌, Bool, true, false, nat_lt, List, [], ◌∷◌, ◌++◌, length, Ok, Err, Option, Some, None, refl, ap, sym, ◌∙◌, subst, arith, inl, inr}
-use Rattle.std.specs.Prelude.{MatchOption, option_map, IsTrue, ◌↔◌}
+use Rattle.std.proofs.Common.{◌≡◌, ℕ, ◌<◌, ◌≤◌, ◌⊎◌, Bool, true, false, nat_lt, List, [], ◌∷◌, ◌++◌, length, Ok, Err, Option, Some, None, refl, ap, sym, ◌∙◌, subst, arith, inl, inr}
+use Rattle.std.specs.Prelude.{MatchOption, IfNone, IsTrue, ◌↔◌, option_and_then}
+use Rattle.std.proofs.lemmas.Bool.{cases_lt}
 use Rattle.std.proofs.lemmas.Bool.Decides.{nat_tests}
 use Rattle.hare_tree.specs.declared.place.Place.{Place}
 use Rattle.hare_tree.specs.declared.place.Fault.{Fault}
 use Rattle.hare_tree.specs.declared.stop.Stop.{Stop}
 use Rattle.hare_tree.specs.declared.stop.Stop.TheVariants as stop
 use Rattle.hare_types.specs.declared.extent.Extent.{Extent}
+use Rattle.hare_types.specs.declared.row.Row.{Row}
 use Rattle.hare_types.specs.Trees.{Tree}
-use Rattle.hare_types.specs.Rows.{tree_of, trees}
-use Rattle.hare_types.specs.Store.{Store, meaning_of}
+use Rattle.hare_types.specs.Rows.{tree_in, tree_of, trees}
+use Rattle.hare_types.specs.Store.{Store, tree_at, definition_of, meaning_of, Extends}
 use Rattle.hare_types.specs.Sound.{IsStore}
-use Rattle.hare_types.specs.Layout.{following, extent_with, HasExtent}
+use Rattle.hare_types.specs.Kept.{LiesIn, IsToldOf}
+use Rattle.hare_types.specs.Layout.{extent_with, HasExtent}
+use Rattle.hare_types.proofs.CallerLemmas.{tree_at-Extends}
+use Rattle.hare_types.proofs.DefinitionLemmas.{meaning_kept}
+use Rattle.hare_types.proofs.GrowthLemmas.{extent_with-more, following-more}
 use Rattle.hare_layout.specs.declared.spelled.Spelled.{Spelled}
 use Rattle.hare_layout.specs.declared.reduce.Reduced.{Reduced}
 use Rattle.hare_layout.specs.declared.reduce.Reduced.TheVariants.{Known, Fresh}
-use Rattle.hare_layout.specs.Capped.{cap, capped_with, names_capped}
 use Rattle.hare_layout.specs.Reduction.{written, place_of, AreLeft, type_of, IsReducedTo}
 use Rattle.hare_layout.specs.Admission.{Check, Spreading, Sized, Inhabited, Narrow, Small, PassesAll, IsFirstOf, IsTooLarge, IsFault, IsAdmitted, StopsAt, TellsFault, Fails, checks}
 use Rattle.hare_layout.specs.Reduced.{IsReduction, StopsEarly, IsHere, tree_of_reduced, IsLarge}
-use Rattle.hare_layout.proofs.KnownLemmas.{all_names, capped-following}
-use Rattle.hare_layout.proofs.CappedLemmas.{mapped}
+use Rattle.hare_layout.proofs.CallerLemmas.{one_extent}
 use Rattle.hare_layout.proofs.ReduceLemmas.{one_left}
-use Rattle.hare_layout.proofs.SpreadLemmas.{id-tree_at}
+use Rattle.hare_layout.proofs.SpreadLemmas.{tree_at-id, id-tree_at}
 
 -- ---- sizes
 
-large-some : (s : Store) (u : Tree) (x : Extent) → Some x ≡ capped_with (names_capped s (length s.declared)) u → 67108864 < x.size → IsLarge s u
-large-some s u x e l =
-    let k = mapped cap (following extent_with (meaning_of s) (length s.declared) u) x (sym (e ∙ capped-following s u)) in
-    let size = ap (λ y. y.size) k.2 in
-    (k.0, (length s.declared, k.1), omega arith)
+large-some : (s : Store) (u : Tree) (x : Extent) → IsToldOf s u x → 67108864 < x.size → IsLarge s u
+large-some s u x h l =
+    let size = ap (λ y. y.size) h.2 in
+    (h.0, h.1, omega arith)
 
-some-large : (s : Store) → IsStore s → (u : Tree) (x : Extent) → Some x ≡ capped_with (names_capped s (length s.declared)) u → IsLarge s u → 67108864 < x.size
-some-large s v u x e h =
-    let same : Some x ≡ Some (cap h.0) = e ∙ capped-following s u ∙ ap (option_map cap) (all_names s v u h.0 h.1) in
-    let size : x.size ≡ (cap h.0).size = ap (λ y. y.size) (let capped : x ≡ cap h.0 = cc in capped) in
-    let large = h.2 in
+some-large : (s : Store) (u : Tree) (x : Extent) → IsToldOf s u x → IsLarge s u → 67108864 < x.size
+some-large s u x h k =
+    let one = ap (λ y. y.size) (one_extent s u h.0 k.0 h.1 k.1) in
+    let size = ap (λ y. y.size) h.2 in
+    let large = k.2 in
     omega arith
 
-pub none-large : (s : Store) → IsStore s → (u : Tree) → None ≡ capped_with (names_capped s (length s.declared)) u → ¬ IsLarge s u
-none-large s v u e h =
-    let both = e ∙ capped-following s u ∙ ap (option_map cap) (all_names s v u h.0 h.1) in
-    absurd cc
+pub none-large : (s : Store) (u : Tree) → ((y : Extent) → ¬ HasExtent s u y) → ¬ IsLarge s u
+none-large s u none h = none h.0 h.1
+
+-- the type of an id has no extent where none lies there
+pub none-known : (s : Store) (i : ℕ) (o : Option Extent) → i < length s.rows → IfNone o ((y : Extent) → ¬ LiesIn s i y) → IfNone o ((y : Extent) → ¬ HasExtent s (tree_in (trees s.rows) i) y)
+none-known s i None l h = λ y k. h y (tree_in (trees s.rows) i, tree_at-id s i l, k)
+none-known s i (Some x) l h = tt
 
 less : (a b : ℕ) → nat_lt a b ≡ true → a < b
 less a b h = grind (arith, nat_tests)
@@ -51,8 +57,8 @@ neither : (a b : ℕ) → nat_lt a b ≡ false → nat_lt b a ≡ false → a �
 neither a b h k = grind (arith, nat_tests)
 
 -- what the test of the size says
-pub tells-large : (s : Store) → IsStore s → (u : Tree) (x : Extent) → Some x ≡ capped_with (names_capped s (length s.declared)) u → IsTrue (nat_lt 67108864 x.size) ↔ IsLarge s u
-tells-large s v u x e = (λ h. large-some s u x e (less 67108864 x.size h), λ h. more 67108864 x.size (some-large s v u x e h))
+pub tells-large : (s : Store) (u : Tree) (x : Extent) → IsToldOf s u x → IsTrue (nat_lt 67108864 x.size) ↔ IsLarge s u
+tells-large s u x e = (λ h. large-some s u x e (less 67108864 x.size h), λ h. more 67108864 x.size (some-large s u x e h))
   where
     more : (a b : ℕ) → a < b → nat_lt a b ≡ true
     more a b h = grind (arith, nat_tests)
@@ -86,6 +92,37 @@ too_large s r q h l = (tree_of_reduced s q, l.0, reduction-tree s r q h, l.1, l.
 not_too_large : (s : Store) → IsStore s → (r : Spelled) (q : Reduced) → IsReduction s r q → ¬ IsLarge s (tree_of_reduced s q) → ¬ IsTooLarge s r
 not_too_large s v r q h small (u, x, reduced, extent, large) =
     small (x, subst (λ w. HasExtent s w x) (one_reduced s v r u (tree_of_reduced s q) reduced (reduction-tree s r q h)) extent, large)
+
+-- ---- the type that is given
+
+not_large : (s : Store) (u : Tree) (x : Extent) → ¬ IsLarge s u → HasExtent s u x → x.size ≤ 67108864
+not_large s u x small h = by (cases_lt 67108864 x.size)
+  where
+    by : (67108864 < x.size) ⊎ (x.size ≤ 67108864) → x.size ≤ 67108864
+    by (inl l) = absurd (small (x, h, l))
+    by (inr l) = l
+
+-- one that the store had
+pub small_known : (s : Store) (q : Reduced) (t : ℕ) → q ≡ Known t → ¬ IsLarge s (tree_of_reduced s q) → (x : Extent) → LiesIn s t x → x.size ≤ 67108864
+small_known s q t e small x h =
+    let here = (id-tree_at s t h.0 h.1).1 in
+    let tree : h.0 ≡ tree_of_reduced s q = sym here ∙ ap (tree_of_reduced s) (sym e) in
+    not_large s (tree_of_reduced s q) x small (subst (λ u. HasExtent s u x) tree h.2)
+
+-- one that is new to it: names mean what they meant
+module _ (old new : Store) (v : IsStore old) (rest : new ≡ record old { rows = new.rows }) (grows : Extends old new) where
+  meaning_back : (d : ℕ) (u : Tree) → meaning_of new d ≡ Some u → meaning_of old d ≡ Some u
+  meaning_back d u e =
+      let definitions : definition_of new d ≡ definition_of old d = ap (λ s. definition_of s d) rest in
+      sym (ap (option_and_then (tree_at new)) definitions ∙ meaning_kept old.rows new.rows (tree_at-Extends old new grows) (definition_of old d) (v.defined_within d)) ∙ e
+
+  pub small_fresh : (q : Reduced) (r : Row) (t : ℕ) → q ≡ Fresh r → tree_at new t ≡ Some (tree_of (trees old.rows) r) → ¬ IsLarge old (tree_of_reduced old q) → (x : Extent) → LiesIn new t x → x.size ≤ 67108864
+  small_fresh q r t e stands small x h =
+      let both = sym h.1 ∙ stands in
+      let same : h.0 ≡ tree_of (trees old.rows) r = cc in
+      let tree : h.0 ≡ tree_of_reduced old q = same ∙ ap (tree_of_reduced old) (sym e) in
+      let back = following-more extent_with extent_with-more (meaning_of new) (meaning_of old) meaning_back h.2.0 h.0 x h.2.1 in
+      not_large old (tree_of_reduced old q) x small (subst (λ u. HasExtent old u x) tree (h.2.0, back))
 
 -- ---- the checks
 

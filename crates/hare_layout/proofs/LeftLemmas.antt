@@ -12,11 +12,11 @@ use Rattle.hare_types.specs.Rows.{tree_in, trees}
 use Rattle.hare_types.specs.Store.{Store, tree_at}
 use Rattle.hare_types.specs.Layout.{IsBase}
 use Rattle.hare_layout.specs.declared.spelled.Spelled.{Spelled}
-use Rattle.hare_layout.specs.Ascending.{put_all}
+use Rattle.hare_types.specs.Unions.{put_all}
 use Rattle.hare_layout.specs.Ids.{AreBrought, IsLeftBelow, AreLeftBelow, IsNoUnion, AreIds, Gains, never}
 use Rattle.hare_layout.specs.Reduction.{written, IsMember, is_spread, Adds, AreLeft}
 use Rattle.hare_layout.specs.Admission.{IsBadSpread, Passes, Spreading}
-use Rattle.hare_layout.proofs.AscendingLemmas.{Ascends-put_all, put_all-sound, put_all-whole}
+use Rattle.hare_layout.proofs.AscendingLemmas.{Ascends-put_all, ascending-sound, ascending-whole}
 use Rattle.hare_layout.proofs.SpreadLemmas.{tree_at-id}
 
 -- ---- one type more
@@ -171,6 +171,6 @@ pub AreLeft-all : (s : Store) (r : Spelled) (is left : List ℕ) → written r.r
 AreLeft-all s r is left e h = record {
   union = subst (λ o. IsSome o) (sym e) refl;
   ascend = Ascends-put_all left [] tt;
-  sound = λ i m. let g = h.sound i (put_all-sound left i m) in (g.0, g.1, (g.2.0, g.2.1, g.2.3, g.2.4, g.2.5));
-  whole = λ u g. let k = h.whole u (g.0, g.1, member-below s r is g.0 g.1 e g.2, g.2, g.3, g.4) in (k.0, put_all-whole left k.0 k.1, k.2);
+  sound = λ i m. let g = h.sound i (ascending-sound left i m) in (g.0, g.1, (g.2.0, g.2.1, g.2.3, g.2.4, g.2.5));
+  whole = λ u g. let k = h.whole u (g.0, g.1, member-below s r is g.0 g.1 e g.2, g.2, g.3, g.4) in (k.0, ascending-whole left k.0 k.1, k.2);
 }

@@ -18,12 +18,12 @@ use Rattle.hare_layout.proofs.MemberLemmas.{Same-refl}
 use Rattle.hare_layout.specs.declared.spelled.Spelled.{Spelled}
 use Rattle.hare_layout.specs.declared.reduce.Reduced.{Reduced}
 use Rattle.hare_layout.specs.declared.reduce.Reduced.TheVariants.{Known, Fresh}
-use Rattle.hare_layout.specs.Ascending.{put_all}
+use Rattle.hare_types.specs.Unions.{put_all}
 use Rattle.hare_layout.specs.Ids.{is_unsized, unsized_at, AreLeftBelow, AreIds}
 use Rattle.hare_layout.specs.Reduction.{written, IsMember, IsLeft, AreLeft, type_of, IsReducedTo}
-use Rattle.hare_layout.specs.Admission.{contents, Spreading, Sized, Inhabited, Narrow, Passes, PassesAll, HoldsUnsized, IsEmpty, IsTooWide, IsFirstOf}
+use Rattle.hare_layout.specs.Admission.{measured, Spreading, Sized, Inhabited, Narrow, Passes, PassesAll, LacksSize, IsEmpty, IsTooWide, IsFirstOf}
 use Rattle.hare_layout.specs.Reduced.{IsReduction, IsOfMembers}
-use Rattle.hare_layout.proofs.AscendingLemmas.{In, In-from, In-to, one_ascending, put_all-sound}
+use Rattle.hare_layout.proofs.AscendingLemmas.{In, In-from, In-to, one_ascending, ascending-sound}
 use Rattle.hare_layout.proofs.SpreadLemmas.{tree_at-id, id-tree_at, AreIds-AllBelow}
 use Rattle.hare_layout.proofs.LeftLemmas.{AreLeft-all}
 
@@ -62,17 +62,17 @@ has_none-not s i u e h g =
 
 -- ---- of a union
 
-contents-union : (q : Row) (is : List ℕ) → written q ≡ Some is → contents q ≡ []
-contents-union (row.Union js) is e = refl
-contents-union (row.Scalar k) is e = absurd cc
-contents-union (row.Pointer i) is e = absurd cc
-contents-union (row.Nullable i) is e = absurd cc
-contents-union (row.Slice i) is e = absurd cc
-contents-union (row.Array n i) is e = absurd cc
-contents-union (row.Struct fs) is e = absurd cc
-contents-union (row.Tuple js) is e = absurd cc
-contents-union (row.Error i) is e = absurd cc
-contents-union (row.Named d) is e = absurd cc
+measured-union : (q : Row) (is : List ℕ) → written q ≡ Some is → measured q ≡ []
+measured-union (row.Union js) is e = refl
+measured-union (row.Scalar k) is e = absurd cc
+measured-union (row.Pointer i) is e = absurd cc
+measured-union (row.Nullable i) is e = absurd cc
+measured-union (row.Slice i) is e = absurd cc
+measured-union (row.Array n i) is e = absurd cc
+measured-union (row.Struct fs) is e = absurd cc
+measured-union (row.Tuple js) is e = absurd cc
+measured-union (row.Error i) is e = absurd cc
+measured-union (row.Named d) is e = absurd cc
 
 module _ (s : Store) (r : Spelled) (is left : List ℕ) (e : written r.row ≡ Some is) (below : AreLeftBelow s r (length is) left) where
   pub AreIds-left : AreIds s left
@@ -82,20 +82,20 @@ module _ (s : Store) (r : Spelled) (is left : List ℕ) (e : written r.row ≡ S
       by [] f = All-nil (λ i. i < length s.rows)
       by (i ∷ js) f = All-cons (λ i. i < length s.rows) i js (f i (inl refl)) (by js (λ j m. f j (inr m)))
 
-  pub union-unsized : list_any (unsized_at s) left ≡ true → HoldsUnsized s r
+  pub union-unsized : list_any (unsized_at s) left ≡ true → LacksSize s r
   union-unsized h =
       let k = unsized-in s left h in
       let g = below.sound k.0 (In-to k.0 left k.1) in
       (g.0, inr (g.2.0, g.2.1, g.2.3, g.2.4, g.2.5), has_none s k.0 g.0 g.1 k.2)
 
-  pub union-sized : list_any (unsized_at s) left ≡ false → ¬ HoldsUnsized s r
+  pub union-sized : list_any (unsized_at s) left ≡ false → ¬ LacksSize s r
   union-sized h (u, inl g, none) =
-      let nowhere = subst (λ js. Contains js g.0) (contents-union r.row is e) g.1 in
+      let nowhere = subst (λ js. Contains js g.0) (measured-union r.row is e) g.1 in
       absurd (omega (arith, nowhere.1))
   union-sized h (u, inr g, none) =
       let all = AreLeft-all s r is left e below in
       let k = all.whole u g in
-      has_none-not s k.0 u k.2 (unsized-out s left k.0 h (In-from k.0 left (put_all-sound left k.0 k.1))) none
+      has_none-not s k.0 u k.2 (unsized-out s left k.0 h (In-from k.0 left (ascending-sound left k.0 k.1))) none
 
 -- the ids of what is left are one list
 pub one_left : (s : Store) → IsStore s → (r : Spelled) (is js : List ℕ) → AreLeft s r is → AreLeft s r js → is ≡ js
@@ -144,14 +144,14 @@ union-reduction s v r ws left is e below all (Fresh q) h =
         several = omega (arith, h.0);
         ascend = a.ascend;
         not_never = λ i m g. let k = a.sound i m in let both : Some (Scalar keyword.Never) ≡ Some k.0 = sym (tree_at_row s v i (row.Scalar keyword.Never) g) ∙ k.1 in k.2.4 (cc);
-        not_union = λ i js m. below.flat i js (put_all-sound left i (subst (λ x. Contains x i) all m));
+        not_union = λ i js m. below.flat i js (ascending-sound left i (subst (λ x. Contains x i) all m));
       }),
       subst (λ x. IsReducedTo s r (tree_of (trees s.rows) x)) (sym h.1) (reduces_union s r ws is (tree_of (trees s.rows) (row.Union is)) e a (type_of-several s is h.0)),
     )
 
 -- what is wrong, and what is not, where these are left in ascending order
 module _ (s : Store) (v : IsStore s) (r : Spelled) (place : Place) (ws left is : List ℕ) (e : written r.row ≡ Some ws) (below : AreLeftBelow s r (length ws) left)
-    (spreads : Passes s r place Spreading) (sized : ¬ HoldsUnsized s r) where
+    (spreads : Passes s r place Spreading) (sized : ¬ LacksSize s r) where
   ids : is ≡ put_all left [] → AreLeft s r is
   ids all = subst (λ js. AreLeft s r js) (sym all) (AreLeft-all s r ws left e below)
 
@@ -186,18 +186,18 @@ module _ (s : Store) (r : Spelled) (e : written r.row ≡ None) where
   pub other-spreads : (place : Place) → Passes s r place Spreading
   other-spreads place p h = no_member h.0 h.1.type h.1.member
 
-  pub other-unsized : AreIds s (contents r.row) → list_any (unsized_at s) (contents r.row) ≡ true → HoldsUnsized s r
+  pub other-unsized : AreIds s (measured r.row) → list_any (unsized_at s) (measured r.row) ≡ true → LacksSize s r
   other-unsized ids h =
-      let k = unsized-in s (contents r.row) h in
-      let m = In-to k.0 (contents r.row) k.1 in
-      let tree = tree_at-id s k.0 (All-contains (λ i. i < length s.rows) (contents r.row) k.0 ids m) in
+      let k = unsized-in s (measured r.row) h in
+      let m = In-to k.0 (measured r.row) k.1 in
+      let tree = tree_at-id s k.0 (All-contains (λ i. i < length s.rows) (measured r.row) k.0 ids m) in
       (tree_in (trees s.rows) k.0, inl (k.0, m, tree), has_none s k.0 (tree_in (trees s.rows) k.0) tree k.2)
 
-  pub other-sized : list_any (unsized_at s) (contents r.row) ≡ false → ¬ HoldsUnsized s r
-  other-sized h (u, inl g, none) = has_none-not s g.0 u g.2 (unsized-out s (contents r.row) g.0 h (In-from g.0 (contents r.row) g.1)) none
+  pub other-sized : list_any (unsized_at s) (measured r.row) ≡ false → ¬ LacksSize s r
+  other-sized h (u, inl g, none) = has_none-not s g.0 u g.2 (unsized-out s (measured r.row) g.0 h (In-from g.0 (measured r.row) g.1)) none
   other-sized h (u, inr g, none) = no_left u g
 
-  pub other-passes : (place : Place) → ¬ HoldsUnsized s r → PassesAll s r place (Spreading ∷ Sized ∷ Inhabited ∷ Narrow ∷ [])
+  pub other-passes : (place : Place) → ¬ LacksSize s r → PassesAll s r place (Spreading ∷ Sized ∷ Inhabited ∷ Narrow ∷ [])
   other-passes place sized = (other-spreads place, ((λ p h. sized h.0), ((λ p h. none_left [] h.0), ((λ p h. none_left h.0.0 h.0.1), tt))))
 
   reduced_row : (q : Row) → written q ≡ None → IsReduced s.rows q
@@ -229,14 +229,14 @@ fields-ids s (f ∷ fs) h = All-cons (λ i. i < length s.rows) f.ty (map (λ f. 
 none-ids : (s : Store) → AreIds s []
 none-ids s = All-nil (λ i. i < length s.rows)
 
-pub contents-ids : (s : Store) (q : Row) → IsWithin (length s.rows) q → AreIds s (contents q)
-contents-ids s (row.Array n i) h = All-cons (λ i. i < length s.rows) i [] h (none-ids s)
-contents-ids s (row.Struct fs) h = fields-ids s fs h
-contents-ids s (row.Tuple is) h = AreIds-AllBelow s is h
-contents-ids s (row.Union is) h = none-ids s
-contents-ids s (row.Scalar k) h = none-ids s
-contents-ids s (row.Pointer i) h = none-ids s
-contents-ids s (row.Nullable i) h = none-ids s
-contents-ids s (row.Slice i) h = none-ids s
-contents-ids s (row.Error i) h = none-ids s
-contents-ids s (row.Named d) h = none-ids s
+pub measured-ids : (s : Store) (q : Row) → IsWithin (length s.rows) q → AreIds s (measured q)
+measured-ids s (row.Array n i) h = All-cons (λ i. i < length s.rows) i [] h (none-ids s)
+measured-ids s (row.Struct fs) h = fields-ids s fs h
+measured-ids s (row.Tuple is) h = AreIds-AllBelow s is h
+measured-ids s (row.Union is) h = none-ids s
+measured-ids s (row.Scalar k) h = none-ids s
+measured-ids s (row.Pointer i) h = none-ids s
+measured-ids s (row.Nullable i) h = none-ids s
+measured-ids s (row.Slice i) h = All-cons (λ i. i < length s.rows) i [] h (none-ids s)
+measured-ids s (row.Error i) h = none-ids s
+measured-ids s (row.Named d) h = none-ids s

@@ -1,4 +1,4 @@
--- What spelled types are reduced to, and what is wrong with them, stays as a store grows.
+-- What spelled types are reduced to, and what is wrong with them, stays in later stores.
 use Rattle.std.proofs.Common.{◌≡◌, ℕ, zero, suc, ◌+◌, ◌<◌, Bool, true, false, List, [], ◌∷◌, length, map, Option, Some, None, IsSome, refl, ap, sym, ◌∙◌, subst, arith, inl, inr}
 use Rattle.std.specs.Prelude.{slice_get, slice_index_or, Contains, MatchOption, option_and_then}
 use Rattle.std.proofs.lemmas.Option.{slice_get_within, slice_get-get_or}
@@ -19,7 +19,7 @@ use Rattle.hare_types.proofs.CallerLemmas.{tree_at_row, one_id, tree_at-Extends,
 use Rattle.hare_types.proofs.TreeLemmas.{length-trees, trees-append, further, tree_of-append}
 use Rattle.hare_layout.specs.declared.spelled.Spelled.{Spelled}
 use Rattle.hare_layout.specs.Reduction.{written, IsMember, is_spread, Brings, Adds, IsLeft, AreLeft, type_of, IsReducedTo}
-use Rattle.hare_layout.specs.Admission.{IsBadSpread, contents, HoldsValue, HoldsUnsized, IsTooLarge, Check, Spreading, Sized, Inhabited, Narrow, Small, checks, Fails, IsFirstOf, PassesAll}
+use Rattle.hare_layout.specs.Admission.{IsBadSpread, measured, IsMeasured, LacksSize, IsTooLarge, Check, Spreading, Sized, Inhabited, Narrow, Small, checks, Fails, IsFirstOf, PassesAll}
 use Rattle.hare_layout.specs.Growth.{LayoutStays, IsDecided, IsOneJudgement, JudgementsStay}
 use Rattle.hare_layout.proofs.AscendingLemmas.{In, In-from, In-to}
 use Rattle.hare_layout.proofs.CallerLemmas.{extent_with-near, IsSmall-Extends, LiesIn-Extends, HasField-Extends, StartsAt-Extends, IsUnion-Extends, HoldsMembers-Extends}
@@ -30,13 +30,13 @@ use Rattle.hare_layout.proofs.OffsetLemmas.{base_with-near}
 use Rattle.hare_layout.proofs.SpreadLemmas.{tree_at-id, id-tree_at, SomeTree-out}
 
 pub layout_stays : LayoutStays
-layout_stays old new grows = record {
-  small = IsSmall-Extends old new grows;
-  extent = LiesIn-Extends old new grows;
-  field = HasField-Extends old new grows;
-  start = StartsAt-Extends old new grows;
-  union = IsUnion-Extends old new grows;
-  members = HoldsMembers-Extends old new grows;
+layout_stays now later l = record {
+  small = IsSmall-Extends (record now { listed = [] }) later l.grows;
+  extent = LiesIn-Extends (record now { listed = [] }) later l.grows;
+  field = HasField-Extends (record now { listed = [] }) later l.grows;
+  start = StartsAt-Extends (record now { listed = [] }) later l.grows;
+  union = IsUnion-Extends (record now { listed = [] }) later l.grows;
+  members = HoldsMembers-Extends (record now { listed = [] }) later l.grows;
 }
 
 -- ---- ids in rows
@@ -76,18 +76,18 @@ written_below n (row.Tuple js) is h e = absurd cc
 written_below n (row.Error i) is h e = absurd cc
 written_below n (row.Named d) is h e = absurd cc
 
--- what a row's values hold
-contents_below : (n : ℕ) (q : Row) → IsWithin n q → AllBelow n (contents q)
-contents_below n (row.Array m i) h = (h, tt)
-contents_below n (row.Struct fs) h = fields_below n fs h
-contents_below n (row.Tuple is) h = h
-contents_below n (row.Union is) h = tt
-contents_below n (row.Scalar k) h = tt
-contents_below n (row.Pointer i) h = tt
-contents_below n (row.Nullable i) h = tt
-contents_below n (row.Slice i) h = tt
-contents_below n (row.Error i) h = tt
-contents_below n (row.Named d) h = tt
+-- of what a size is asked
+measured_below : (n : ℕ) (q : Row) → IsWithin n q → AllBelow n (measured q)
+measured_below n (row.Array m i) h = (h, tt)
+measured_below n (row.Struct fs) h = fields_below n fs h
+measured_below n (row.Tuple is) h = h
+measured_below n (row.Union is) h = tt
+measured_below n (row.Scalar k) h = tt
+measured_below n (row.Pointer i) h = tt
+measured_below n (row.Nullable i) h = tt
+measured_below n (row.Slice i) h = (h, tt)
+measured_below n (row.Error i) h = tt
+measured_below n (row.Named d) h = tt
 
 -- ---- what a type comes to is in the store
 
@@ -225,9 +225,13 @@ extent_back old new knows (suc n) u whole x e =
 
 -- ---- a spelled type
 
-module _ (old new : Store) (v : IsStore old) (w : IsStore new) (grows : Extends old new) (r : Spelled) (within : IsWithin (length old.rows) r.row) (decided : IsDecided old r) where
+module _ (old new : Store) (v : IsStore old) (w : IsStore new) (grows : Extends (record old { listed = [] }) new) (r : Spelled) (within : IsWithin (length old.rows) r.row) (decided : IsDecided old r) where
+  -- the store without its list of types that have tags
+  abbrev before : Store
+  before = record old { listed = [] }
+
   there : (i : ℕ) (u : Tree) → tree_at old i ≡ Some u → tree_at new i ≡ Some u
-  there = tree_at-Extends old new grows
+  there = tree_at-Extends before new grows
 
   back : (i : ℕ) (u : Tree) → i < length old.rows → tree_at new i ≡ Some u → tree_at old i ≡ Some u
   back i u l e =
@@ -251,11 +255,11 @@ module _ (old new : Store) (v : IsStore old) (w : IsStore new) (grows : Extends 
   union_back : (k : ℕ) (t : Tree) (ts : Trees) → IsMember old r k t → is_spread r k ≡ true → IsBase new t (Union ts) → IsBase old t (Union ts)
   union_back k t ts m e h =
       let known = decided.spreads k t m e in
-      let same = one_base new w t known.0 (Union ts) (IsBase-Extends old new grows t known.0 known.1) h in
+      let same = one_base new w t known.0 (Union ts) (IsBase-Extends before new grows t known.0 known.1) h in
       subst (λ b. IsBase old t b) same known.1
 
   adds_there : (b : Bool) (t u : Tree) → Adds old b t u → Adds new b t u
-  adds_there true t u h = (h.0, IsBase-Extends old new grows t (Union h.0) h.1, h.2)
+  adds_there true t u h = (h.0, IsBase-Extends before new grows t (Union h.0) h.1, h.2)
   adds_there false t u h = h
 
   adds_back : (k : ℕ) (t u : Tree) → IsMember old r k t → (b : Bool) → is_spread r k ≡ b → Adds new b t u → Adds old b t u
@@ -335,37 +339,37 @@ module _ (old new : Store) (v : IsStore old) (w : IsStore new) (grows : Extends 
     type = h.type;
     member = member_back k h.type h.member;
     spread = h.spread;
-    no_union = λ ts b. h.no_union ts (IsBase-Extends old new grows h.type (Union ts) b);
+    no_union = λ ts b. h.no_union ts (IsBase-Extends before new grows h.type (Union ts) b);
   }
 
-  value_there : (u : Tree) → HoldsValue old r u → HoldsValue new r u
+  value_there : (u : Tree) → IsMeasured old r u → IsMeasured new r u
   value_there u (inl h) = inl (h.0, h.1, there h.0 u h.2)
   value_there u (inr h) = inr (left_there u h)
 
-  value_back : (u : Tree) → HoldsValue new r u → HoldsValue old r u
-  value_back u (inl h) = inl (h.0, h.1, back h.0 u (below_in (length old.rows) (contents r.row) (contents_below (length old.rows) r.row within) h.0 (In-from h.0 (contents r.row) h.1)) h.2)
+  value_back : (u : Tree) → IsMeasured new r u → IsMeasured old r u
+  value_back u (inl h) = inl (h.0, h.1, back h.0 u (below_in (length old.rows) (measured r.row) (measured_below (length old.rows) r.row within) h.0 (In-from h.0 (measured r.row) h.1)) h.2)
   value_back u (inr h) = inr (left_back u h)
 
-  unsized_back : HoldsUnsized new r → HoldsUnsized old r
+  unsized_back : LacksSize new r → LacksSize old r
   unsized_back h = by (has_size old h.0) refl (decided.sized h.0 (value_back h.0 h.1))
     where
-      by : (o : Option Bool) → has_size old h.0 ≡ o → IsSome o → HoldsUnsized old r
+      by : (o : Option Bool) → has_size old h.0 ≡ o → IsSome o → LacksSize old r
       by None e k = absurd cc
       by (Some b) e k =
-          let both = sym (has_size-Extends old new grows h.0 b e) ∙ h.2 in
+          let both = sym (has_size-Extends before new grows h.0 b e) ∙ h.2 in
           (h.0, value_back h.0 h.1, e ∙ both)
 
   large_back : IsTooLarge new r → IsTooLarge old r
   large_back h =
       let reduced = reduced_back h.0 h.2 in
-      (h.0, h.1, reduced, (h.3.0, extent_back (meaning_of old) (meaning_of new) (meaning_of-Extends old new grows) h.3.0 h.0 (λ d l. decided.whole h.0 d reduced l) h.1 h.3.1), h.4)
+      (h.0, h.1, reduced, (h.3.0, extent_back (meaning_of old) (meaning_of new) (meaning_of-Extends before new grows) h.3.0 h.0 (λ d l. decided.whole h.0 d reduced l) h.1 h.3.1), h.4)
 
   fails_there : (place : Place) (c : Check) (p : Place) → Fails old r place c p → Fails new r place c p
   fails_there place Spreading p h = (h.0, bad_there h.0 h.1, (λ j l b. h.2 j l (bad_back j b)), h.3)
-  fails_there place Sized p h = ((h.0.0, value_there h.0.0 h.0.1, has_size-Extends old new grows h.0.0 false h.0.2), h.1)
+  fails_there place Sized p h = ((h.0.0, value_there h.0.0 h.0.1, has_size-Extends before new grows h.0.0 false h.0.2), h.1)
   fails_there place Inhabited p h = (all_there [] h.0, h.1)
   fails_there place Narrow p h = ((h.0.0, all_there h.0.0 h.0.1, h.0.2), h.1)
-  fails_there place Small p h = ((h.0.0, h.0.1, reduced_there h.0.0 h.0.2, HasExtent-Extends old new grows h.0.0 h.0.1 h.0.3, h.0.4), h.1)
+  fails_there place Small p h = ((h.0.0, h.0.1, reduced_there h.0.0 h.0.2, HasExtent-Extends before new grows h.0.0 h.0.1 h.0.3, h.0.4), h.1)
 
   fails_back : (place : Place) (c : Check) (p : Place) → Fails new r place c p → Fails old r place c p
   fails_back place Spreading p h = (h.0, bad_back h.0 h.1, (λ j l b. h.2 j l (bad_there j b)), h.3)
@@ -400,4 +404,4 @@ module _ (old new : Store) (v : IsStore old) (w : IsStore new) (grows : Extends 
   }
 
 pub judgements_stay : JudgementsStay
-judgements_stay old new v w grows r place within decided = one_judgement old new v w grows r within decided place
+judgements_stay now later v l r place within decided = one_judgement now later v l.sound l.grows r within decided place

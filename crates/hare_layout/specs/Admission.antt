@@ -27,27 +27,27 @@ pub record IsBadSpread (s : Store) (r : Spelled) (k : ℕ) : Type 0 where
 abbrev pub SpreadsNoUnion : Store → Spelled → Place → Place → Type 0
 SpreadsNoUnion s r place p = (k : ℕ) × IsBadSpread s r k × ((j : ℕ) → j < k → ¬ IsBadSpread s r j) × (p ≡ place_of r place k)
 
--- the types of which values stand in a value of the row's: an array's elements, a struct's fields, a tuple's components. Of a union it is asked
--- once it is reduced.
-abbrev pub contents : Row → List ℕ
-contents (row.Array n i) = i ∷ []
-contents (row.Struct fs) = map (λ f. f.ty) fs
-contents (row.Tuple is) = is
-contents (row.Union is) = []
-contents (row.Scalar k) = []
-contents (row.Pointer i) = []
-contents (row.Nullable i) = []
-contents (row.Slice i) = []
-contents (row.Error i) = []
-contents (row.Named d) = []
+-- the types that have to have a size: that of an array's or a slice's elements, of a struct's fields, of a tuple's components. Of a union's members
+-- it is asked once it is reduced.
+abbrev pub measured : Row → List ℕ
+measured (row.Array n i) = i ∷ []
+measured (row.Slice i) = i ∷ []
+measured (row.Struct fs) = map (λ f. f.ty) fs
+measured (row.Tuple is) = is
+measured (row.Union is) = []
+measured (row.Scalar k) = []
+measured (row.Pointer i) = []
+measured (row.Nullable i) = []
+measured (row.Error i) = []
+measured (row.Named d) = []
 
--- a value of type u stands in a value of the spelled type
-abbrev pub HoldsValue : Store → Spelled → Tree → Type 0
-HoldsValue s r u = ((i : ℕ) × Contains (contents r.row) i × (tree_at s i ≡ Some u)) ⊎ IsLeft s r u
+-- u has to have a size, where it stands in the spelled type
+abbrev pub IsMeasured : Store → Spelled → Tree → Type 0
+IsMeasured s r u = ((i : ℕ) × Contains (measured r.row) i × (tree_at s i ≡ Some u)) ⊎ IsLeft s r u
 
 -- one of those types has no size
-abbrev pub HoldsUnsized : Store → Spelled → Type 0
-HoldsUnsized s r = (u : Tree) × HoldsValue s r u × (has_size s u ≡ Some false)
+abbrev pub LacksSize : Store → Spelled → Type 0
+LacksSize s r = (u : Tree) × IsMeasured s r u × (has_size s u ≡ Some false)
 
 -- no member is left
 abbrev pub IsEmpty : Store → Spelled → Type 0
@@ -85,7 +85,7 @@ number_of Small = 18
 -- The type that is spelled at `place` fails the check, at p: each but that of spreads where the type stands.
 abbrev pub Fails : Store → Spelled → Place → Check → Place → Type 0
 Fails s r place Spreading p = SpreadsNoUnion s r place p
-Fails s r place Sized p = HoldsUnsized s r × (p ≡ place)
+Fails s r place Sized p = LacksSize s r × (p ≡ place)
 Fails s r place Inhabited p = IsEmpty s r × (p ≡ place)
 Fails s r place Narrow p = IsTooWide s r × (p ≡ place)
 Fails s r place Small p = IsTooLarge s r × (p ≡ place)

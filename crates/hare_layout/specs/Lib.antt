@@ -1,6 +1,4 @@
 pub mod Admission
-pub mod Ascending
-pub mod Capped
 pub mod Growth
 pub mod Ids
 pub mod Members
@@ -8,3 +6,4 @@ pub mod Offsets
 pub mod Reduced
 pub mod Reduction
 pub mod Small
+pub mod Whole

@@ -1,17 +1,17 @@
 //! Which spelled types are admitted.
 
-ghost use Rattle.std.specs.Prelude.{◌≡◌, ◌↔◌, length, IsTrue, Some, IfOk, IfErr, OnOk, OnErr};
+ghost use Rattle.std.specs.Prelude.{◌≡◌, ◌↔◌, ◌≤◌, length, IsTrue, Some, IfSome, IfNone, IfOk, IfErr, OnOk, OnErr};
 ghost use Rattle.hare_tree.specs.declared.place.Fault.{Fault as FaultOf};
+ghost use Rattle.hare_types.specs.declared.extent.Extent.{Extent as ExtentOf};
+ghost use Rattle.hare_types.specs.Kept.{LiesIn, IsToldOf};
+ghost use Rattle.hare_types.specs.Layout.{HasExtent};
 ghost use Rattle.hare_types.specs.Rows.{IsWithin};
-ghost use Rattle.hare_types.specs.Sound.{IsStore};
 ghost use Rattle.hare_types.specs.Store.{tree_at, Extends};
 ghost use Rattle.hare_types.specs.Trees.{Tree};
-ghost use Rattle.hare_layout.specs.Capped.{capped_with, names_capped};
 ghost use Rattle.hare_layout.specs.Reduction.{IsReducedTo};
 ghost use Rattle.hare_layout.specs.Admission.{IsAdmitted, IsFault, StopsAt, TellsFault};
 ghost use Rattle.hare_layout.specs.Reduced.{IsHere, tree_of_reduced, IsLarge};
 
-use crate::measure::{capped, capped_row};
 use crate::reduce::{Reduced, reduce};
 use crate::spelled::Spelled;
 use hare_tree::{Fault, Place, Stop};
@@ -21,22 +21,21 @@ use std::alloc::Global;
 /// The greatest size of a type, in bytes.
 const MOST_BYTES: u64 = 67_108_864;
 
-/// The extent of a type, its size capped.
+/// The extent of a type, as its store tells it.
 fn extent_of(s: &TypeStore, t: &Reduced) -> Option<Extent>
-    requires here { IsHere s.now t.now }
-    requires sound { IsStore s.now }
-    ensures { result ≡ capped_with (names_capped s.now (length s.now.declared)) (tree_of_reduced s.now t.now) }
+    requires { IsHere s.now t.now }
+    ensures some { IfSome result (λ x. IsToldOf s.now (tree_of_reduced s.now t.now) x) }
+    ensures none { IfNone result ((y : ExtentOf) → ¬ HasExtent s.now (tree_of_reduced s.now t.now) y) }
 {
     match t {
-        Reduced::Known(id) => capped(s, *id),
-        Reduced::Fresh(row) => capped_row(s, row),
+        Reduced::Known(id) => s.extent(*id),
+        Reduced::Fresh(row) => s.row_extent(row),
     }
 }
 
 /// Whether it is known that a type has more than 67,108,864 bytes.
 fn is_too_large(s: &TypeStore, t: &Reduced) -> bool
-    requires here { IsHere s.now t.now }
-    requires sound { IsStore s.now }
+    requires { IsHere s.now t.now }
     ensures { IsTrue result ↔ IsLarge s.now (tree_of_reduced s.now t.now) }
 {
     match extent_of(s, t) {
@@ -52,13 +51,14 @@ fn is_too_large(s: &TypeStore, t: &Reduced) -> bool
 /// What is wrong with the type is told by the first of these faults, each of which but the first stands at `place`:
 ///
 /// - E35 at the first member that is spread, and whose base is no union, or is not defined;
-/// - E17, where an array's element, a struct's field, a tuple's component or a member that is left of a union has no size. A named type of
-///   which it is not declared whether it has a size counts as one that has;
+/// - E17, where an array's or a slice's element, a struct's field, a tuple's component or a member that is left of a union has no size. A named
+///   type of which it is not declared whether it has a size counts as one that has;
 /// - E19, where no member is left;
 /// - E20, where more than 64 members are left;
 /// - E18, where the type has more than 67,108,864 bytes. It is looked at only where each name that the type holds by value is defined.
 ///
-/// After a fault, and where there is not enough memory, the store is as it was.
+/// So the type that is given has at most 67,108,864 bytes, wherever its extent is known. After a fault, and where there is not enough memory,
+/// the store is as it was.
 pub fn admit(
     alloc: Global,
     s: &mut TypeStore,
@@ -67,6 +67,7 @@ pub fn admit(
 ) -> Result<TypeId, Stop<Fault>>
     requires { IsWithin (length s.old.rows) r.now.row }
     ensures ok { IfOk result (λ t. (u : Tree) × IsReducedTo s.old r.now u × (tree_at s.new t ≡ Some u)) }
+    ensures small { IfOk result (λ t. (x : ExtentOf) → LiesIn s.new t x → x.size ≤ 67108864) }
     ensures admitted { OnOk result (IsAdmitted s.old r.now place) }
     ensures err { IfErr result (StopsAt s.old r.now place) }
     ensures only { (f : FaultOf) → IsFault s.old r.now place f → TellsFault result f }

@@ -3,6 +3,7 @@
 ghost use Rattle.std.specs.Prelude.{◌≡◌, ◌<◌, ℕ, length, Some, IfSome};
 ghost use Rattle.hare_types.specs.declared.extent.Extent.{Extent as ExtentOf};
 ghost use Rattle.hare_types.specs.Kept.{IsBounded};
+ghost use Rattle.hare_types.specs.Sound.{IsStore};
 ghost use Rattle.hare_layout.specs.Small.{extent_by};
 
 use hare_types::{Extent, TypeId, TypeStore};
@@ -13,6 +14,7 @@ pub(crate) fn extent(s: &TypeStore, t: TypeId) -> Option<Extent>
     requires { t < length s.now.rows }
     ensures value { (n : ℕ) (x : ExtentOf) → extent_by s.now n t ≡ Some x → result ≡ Some x }
     ensures within { IfSome result (λ x. IsBounded x) }
+    ensures sound { IsStore s.now }
 {
     s.extent(t)
 }

@@ -5,15 +5,14 @@ mod admitted;
 mod ascending;
 mod base;
 mod bytes;
-mod capped;
 mod copy;
 mod extent;
 mod laws;
-mod measure;
 mod members;
 mod members_left;
 mod offset;
 mod parts;
+mod payload;
 mod reduce;
 mod size;
 mod sized;
@@ -22,9 +21,13 @@ mod spread;
 mod tag;
 
 pub use admitted::admit;
-pub use laws::{law_judgements_stay, law_layout_stays};
+pub use laws::{
+    law_fields_lie_within, law_judgements_stay, law_layout_stays, law_offsets_mean_trees,
+    law_payloads_lie_within, law_small_from_parts, law_types_are_aligned,
+};
 pub use members::subset;
 pub use offset::offset_of;
+pub use payload::payload_of;
 pub use size::{align_of, size_of};
 pub use spelled::{Bools, Places, Spelled};
 pub use tag::tag_of;

@@ -3,6 +3,7 @@
 ghost use Rattle.std.specs.Prelude.{◌≡◌, ◌<◌, ℕ, List, length, slice_get, Some};
 ghost use Rattle.hare_types.specs.declared.extent.Extent.{Extent as ExtentOf};
 ghost use Rattle.hare_types.specs.declared.row.Row.{Row as RowOf};
+ghost use Rattle.hare_types.specs.ByIds.{offset_at};
 ghost use Rattle.hare_types.specs.Layout.{field_start};
 ghost use Rattle.hare_layout.specs.Small.{parts_of, extents_by, IsSmall};
 ghost use Rattle.hare_layout.specs.Offsets.{HasField, StartsAt};
@@ -41,7 +42,8 @@ fn start_of(s: &TypeStore, t: TypeId, k: usize) -> Option<u128>
 pub fn offset_of(s: &TypeStore, t: TypeId, k: u32) -> u64
     requires small { IsSmall s.now t }
     requires field { HasField s.now t k }
-    ensures { StartsAt s.now t k result }
+    ensures value { StartsAt s.now t k result }
+    ensures at { offset_at s.now t k ≡ Some result }
 {
     match base_of(s, t) {
         Some(base) => match start_of(s, base, k as usize) {

@@ -11,7 +11,7 @@ ghost use Rattle.hare_layout.specs.Reduced.{IsReduction, IsOfMembers, StopsEarly
 use crate::ascending::{MOST_MEMBERS, ascending};
 use crate::copy::{copied, type_ids};
 use crate::members_left::members_left;
-use crate::sized::{any_unsized, holds_unsized};
+use crate::sized::{any_unsized, lacks_size};
 use crate::spelled::Spelled;
 use hare_tree::{Fault, Place, Stop};
 use hare_types::{Row, TypeId, TypeIds, TypeStore};
@@ -81,7 +81,7 @@ fn reduce_other(
     ensures passes { OnOk result (PassesAll s.now r.now place (Spreading ∷ Sized ∷ Inhabited ∷ Narrow ∷ [])) }
     ensures err { IfErr result (StopsEarly s.now r.now place) }
 {
-    if holds_unsized(s, &r.row) {
+    if lacks_size(s, &r.row) {
         return Err(Stop::Fault(Fault { number: 17, place }));
     }
     let row = copied(alloc, &r.row)?;

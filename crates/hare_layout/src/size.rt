@@ -1,15 +1,17 @@
 //! The size and the alignment of a type.
 
-ghost use Rattle.std.specs.Prelude.{ℕ, ◌≤◌};
+ghost use Rattle.std.specs.Prelude.{◌≡◌, ℕ, ◌≤◌, Some};
+ghost use Rattle.hare_types.specs.ByIds.{extent_at, size_at, align_at};
 ghost use Rattle.hare_layout.specs.Small.{IsSmall, LiesIn, IsModest};
 
 use crate::extent::extent;
 use hare_types::{Extent, TypeId, TypeStore};
 
 /// The extent of an admitted and sized type.
-fn extent_of(s: &TypeStore, t: TypeId) -> Extent
+pub(crate) fn extent_of(s: &TypeStore, t: TypeId) -> Extent
     requires { IsSmall s.now t }
     ensures value { LiesIn s.now t result }
+    ensures at { extent_at s.now t ≡ Some result }
     ensures within { IsModest result }
 {
     match extent(s, t) {
@@ -27,6 +29,7 @@ fn extent_of(s: &TypeStore, t: TypeId) -> Extent
 pub fn size_of(s: &TypeStore, t: TypeId) -> u64
     requires { IsSmall s.now t }
     ensures value { (a : ℕ) × LiesIn s.now t (record { size = result; align = a }) }
+    ensures at { size_at s.now t ≡ result }
     ensures within { result ≤ 67108864 }
 {
     extent_of(s, t).size
@@ -36,6 +39,7 @@ pub fn size_of(s: &TypeStore, t: TypeId) -> u64
 pub fn align_of(s: &TypeStore, t: TypeId) -> u64
     requires { IsSmall s.now t }
     ensures value { (n : ℕ) × LiesIn s.now t (record { size = n; align = result }) }
+    ensures at { align_at s.now t ≡ result }
     ensures low { 1 ≤ result }
     ensures high { result ≤ 8 }
 {

@@ -3,7 +3,7 @@
 ghost use Rattle.std.specs.Prelude.{◌≡◌, ◌<◌, length, map};
 ghost use Rattle.std.specs.List.{list_any};
 ghost use Rattle.hare_layout.specs.Ids.{unsized_at, AreIds};
-ghost use Rattle.hare_layout.specs.Admission.{contents};
+ghost use Rattle.hare_layout.specs.Admission.{measured};
 
 use hare_types::{Field, Row, Scalar, TypeId, TypeStore};
 use std::slice::from_ref;
@@ -55,13 +55,14 @@ fn any_field_unsized(s: &TypeStore, fields: &[Field]) -> bool
     false
 }
 
-/// Whether it is known that an array's elements, a struct's field or a tuple's component has no size.
-pub(crate) fn holds_unsized(s: &TypeStore, row: &Row) -> bool
-    requires { AreIds s.now (contents row.now) }
-    ensures { result ≡ list_any (unsized_at s.now) (contents row.now) }
+/// Whether it is known that an array's or a slice's elements, a struct's field or a tuple's component has no size.
+pub(crate) fn lacks_size(s: &TypeStore, row: &Row) -> bool
+    requires { AreIds s.now (measured row.now) }
+    ensures { result ≡ list_any (unsized_at s.now) (measured row.now) }
 {
     match row {
         Row::Array(_, item) => any_unsized(s, from_ref(item)),
+        Row::Slice(item) => any_unsized(s, from_ref(item)),
         Row::Struct(fields) => any_field_unsized(s, fields.as_slice()),
         Row::Tuple(types) => any_unsized(s, types.as_slice()),
         _ => false,

@@ -16,7 +16,7 @@ use Rattle.hare_types.specs.Rows.{tree_in, tree_of, trees, AllBelow, FieldsBelow
 use Rattle.hare_types.specs.Store.{Store, tree_at, definition_of, meaning_of}
 use Rattle.hare_types.specs.Sound.{IsStore}
 use Rattle.hare_types.specs.Layout.{fields_extent, union_extent, following, extent_with, extents_with, HasExtent}
-use Rattle.hare_types.specs.Kept.{LiesIn, told, IsTold, IsBounded, known, defined, all_known, extent_over, AreBounded, KeepsExtents, IsSettled, IsInert, unknown}
+use Rattle.hare_types.specs.Kept.{LiesIn, told, IsTold, IsToldOf, IsBounded, known, defined, all_known, extent_over, AreBounded, KeepsExtents, IsInert, unknown}
 use Rattle.hare_types.proofs.ListLemmas.{slice_get_end}
 use Rattle.hare_types.proofs.TreeLemmas.{length-trees, tree_kept}
 use Rattle.hare_types.proofs.DefinitionLemmas.{meaning_kept}
@@ -43,7 +43,7 @@ pub by_names : (s : Store) (n : ℕ) (u : Tree) → extent_with (names s n) u �
 by_names s zero u = refl
 by_names s (suc n) u = refl
 
-names-further : (s : Store) (n k : ℕ) → Knows (names s n) (names s (n + k))
+pub names-further : (s : Store) (n k : ℕ) → Knows (names s n) (names s (n + k))
 names-further s zero k d x e = absurd cc
 names-further s (suc n) k d x e =
     let same : suc (n + k) ≡ suc n + k = omega arith in
@@ -53,7 +53,7 @@ names-further s (suc n) k d x e =
 -- ---- one row
 
 -- the parts of a struct's tree are those of its row
-parts_of_struct : (ts : List Tree) (fs : List Field) → trees_of (map (λ f. tree_in ts f.ty) fs) ≡ trees_of (map (tree_in ts) (map (λ f. f.ty) fs))
+pub parts_of_struct : (ts : List Tree) (fs : List Field) → trees_of (map (λ f. tree_in ts f.ty) fs) ≡ trees_of (map (tree_in ts) (map (λ f. f.ty) fs))
 parts_of_struct ts [] = refl
 parts_of_struct ts (f ∷ fs) = ap (more (tree_in ts f.ty)) (parts_of_struct ts fs)
 
@@ -99,11 +99,11 @@ module _ (s : Store) (v : IsStore s) (ks : List (Option Extent)) (bounded : AreB
       by ih None f g = absurd cc
       by ih (Some x) f g = with_rest ih x f (all_known (known ks) is) refl g
 
-  module _ (t : ℕ) (r : Row) (here : slice_get s.rows t ≡ Some r) where
-    told_as : (x y : Extent) → x ≡ told y → HasExtent s (tree_of (trees s.rows) r) y → IsTold s t x
-    told_as x y e h = (y, (tree_of (trees s.rows) r, tree_at_row s v t r here, h), e)
+  module _ (r : Row) where
+    told_as : (x y : Extent) → x ≡ told y → HasExtent s (tree_of (trees s.rows) r) y → IsToldOf s (tree_of (trees s.rows) r) x
+    told_as x y e h = (y, h, e)
 
-    by_word : (x y : Extent) → Some y ≡ Some x → y ≡ told y → HasExtent s (tree_of (trees s.rows) r) y → IsTold s t x
+    by_word : (x y : Extent) → Some y ≡ Some x → y ≡ told y → HasExtent s (tree_of (trees s.rows) r) y → IsToldOf s (tree_of (trees s.rows) r) x
     by_word x y e f h =
         let same : y ≡ x = cc in
         told_as x y (sym same ∙ f) h
@@ -111,10 +111,10 @@ module _ (s : Store) (v : IsStore s) (ks : List (Option Extent)) (bounded : AreB
     -- from its parts
     by_parts : (is : List ℕ) (f : List Extent → Extent) → ((ys : List Extent) → AreLow ys → told (f (map told ys)) ≡ told (f ys))
         → ((n : ℕ) → extent_with (names s n) (tree_of (trees s.rows) r) ≡ option_map f (extents_with (names s n) (Parts is)))
-        → (x : Extent) → option_map (λ xs. told (f xs)) (all_known (known ks) is) ≡ Some x → IsTold s t x
+        → (x : Extent) → option_map (λ xs. told (f xs)) (all_known (known ks) is) ≡ Some x → IsToldOf s (tree_of (trees s.rows) r) x
     by_parts is f same_told form x e = by (all_known (known ks) is) refl e
       where
-        by : (o : Option (List Extent)) → all_known (known ks) is ≡ o → option_map (λ xs. told (f xs)) o ≡ Some x → IsTold s t x
+        by : (o : Option (List Extent)) → all_known (known ks) is ≡ o → option_map (λ xs. told (f xs)) o ≡ Some x → IsToldOf s (tree_of (trees s.rows) r) x
         by None g h = absurd cc
         by (Some xs) g h =
             let k = tells is xs g in
@@ -125,10 +125,10 @@ module _ (s : Store) (v : IsStore s) (ks : List (Option Extent)) (bounded : AreB
     -- from one other type
     by_other : (i : ℕ) (f : Extent → Extent) (g : Extent → Extent) → ((x y : Extent) → x ≡ told y → g x ≡ told (f y))
         → ((n : ℕ) → extent_with (names s n) (tree_of (trees s.rows) r) ≡ option_map f (extent_with (names s n) (tree_in (trees s.rows) i)))
-        → (x : Extent) → option_map g (known ks i) ≡ Some x → IsTold s t x
+        → (x : Extent) → option_map g (known ks i) ≡ Some x → IsToldOf s (tree_of (trees s.rows) r) x
     by_other i f g same_told form x e = by (known ks i) refl e
       where
-        by : (o : Option Extent) → known ks i ≡ o → option_map g o ≡ Some x → IsTold s t x
+        by : (o : Option Extent) → known ks i ≡ o → option_map g o ≡ Some x → IsToldOf s (tree_of (trees s.rows) r) x
         by None k h = absurd cc
         by (Some z) k h =
             let h' : g z ≡ x = cc in
@@ -141,32 +141,38 @@ module _ (s : Store) (v : IsStore s) (ks : List (Option Extent)) (bounded : AreB
   option_map-same None = refl
   option_map-same (Some x) = refl
 
-  by_definition : (t d : ℕ) → slice_get s.rows t ≡ Some (row.Named d) → (x : Extent) → option_and_then (known ks) (definition_of s d) ≡ Some x → IsTold s t x
-  by_definition t d here x e = by (definition_of s d) refl e
+  by_definition : (d : ℕ) (x : Extent) → option_and_then (known ks) (definition_of s d) ≡ Some x → IsToldOf s (Named d) x
+  by_definition d x e = by (definition_of s d) refl e
     where
-      by : (o : Option ℕ) → definition_of s d ≡ o → option_and_then (known ks) o ≡ Some x → IsTold s t x
+      by : (o : Option ℕ) → definition_of s d ≡ o → option_and_then (known ks) o ≡ Some x → IsToldOf s (Named d) x
       by None k h = absurd cc
       by (Some i) k h =
           let w = sound i x h in
           let meaning : meaning_of s d ≡ Some w.1.0 = ap (option_and_then (tree_at s)) k ∙ w.1.1 in
-          (w.0, (Named d, tree_at_row s v t (row.Named d) here, (suc w.1.2.0, ap (option_and_then (following extent_with (meaning_of s) w.1.2.0)) meaning ∙ w.1.2.1)), w.2)
+          (w.0, (suc w.1.2.0, ap (option_and_then (following extent_with (meaning_of s) w.1.2.0)) meaning ∙ w.1.2.1), w.2)
 
-  -- what follows for a row is what is told of it
-  pub told-step : (t : ℕ) (r : Row) → slice_get s.rows t ≡ Some r → (x : Extent) → extent_over (definition_of s) (known ks) r ≡ Some x → IsTold s t x
-  told-step t (row.Scalar k) h x e = told_as t (row.Scalar k) h x x (told-scalar k x e) (0, e)
-  told-step t (row.Pointer i) h x e = by_word t (row.Pointer i) h x _ e refl (0, refl)
-  told-step t (row.Nullable i) h x e = by_word t (row.Nullable i) h x _ e refl (0, refl)
-  told-step t (row.Slice i) h x e = by_word t (row.Slice i) h x _ e refl (0, refl)
-  told-step t (row.Array n i) h x e =
-      by_other t (row.Array n i) h i (λ y. record { size = n * y.size; align = y.align }) (λ y. told (record { size = n * y.size; align = y.align }))
+  -- what follows for a row, which need not be in the store, is what is told of its type
+  pub told-row : (r : Row) (x : Extent) → extent_over (definition_of s) (known ks) r ≡ Some x → IsToldOf s (tree_of (trees s.rows) r) x
+  told-row (row.Scalar k) x e = told_as (row.Scalar k) x x (told-scalar k x e) (0, e)
+  told-row (row.Pointer i) x e = by_word (row.Pointer i) x _ e refl (0, refl)
+  told-row (row.Nullable i) x e = by_word (row.Nullable i) x _ e refl (0, refl)
+  told-row (row.Slice i) x e = by_word (row.Slice i) x _ e refl (0, refl)
+  told-row (row.Array n i) x e =
+      by_other (row.Array n i) i (λ y. record { size = n * y.size; align = y.align }) (λ y. told (record { size = n * y.size; align = y.align }))
       (λ z y g. ap (λ w. told (record { size = n * w.size; align = w.align })) g ∙ told-array n y) (λ m. refl) x e
-  told-step t (row.Struct fs) h x e =
-      by_parts t (row.Struct fs) h (map (λ f. f.ty) fs) fields_extent told-fields (λ n. ap (λ ts. option_map fields_extent (extents_with (names s n) ts)) (parts_of_struct (trees s.rows) fs)) x e
-  told-step t (row.Tuple is) h x e = by_parts t (row.Tuple is) h is fields_extent told-fields (λ n. refl) x e
-  told-step t (row.Union is) h x e = by_parts t (row.Union is) h is union_extent (λ ys low. told-union ys) (λ n. refl) x e
-  told-step t (row.Error i) h x e =
-      by_other t (row.Error i) h i (λ y. y) (λ y. y) (λ z y g. g) (λ n. sym (option_map-same (extent_with (names s n) (tree_in (trees s.rows) i)))) x (option_map-same (known ks i) ∙ e)
-  told-step t (row.Named d) h x e = by_definition t d h x e
+  told-row (row.Struct fs) x e =
+      by_parts (row.Struct fs) (map (λ f. f.ty) fs) fields_extent told-fields (λ n. ap (λ ts. option_map fields_extent (extents_with (names s n) ts)) (parts_of_struct (trees s.rows) fs)) x e
+  told-row (row.Tuple is) x e = by_parts (row.Tuple is) is fields_extent told-fields (λ n. refl) x e
+  told-row (row.Union is) x e = by_parts (row.Union is) is union_extent (λ ys low. told-union ys) (λ n. refl) x e
+  told-row (row.Error i) x e =
+      by_other (row.Error i) i (λ y. y) (λ y. y) (λ z y g. g) (λ n. sym (option_map-same (extent_with (names s n) (tree_in (trees s.rows) i)))) x (option_map-same (known ks i) ∙ e)
+  told-row (row.Named d) x e = by_definition d x e
+
+  -- and of the store
+  pub told-step : (t : ℕ) (r : Row) → slice_get s.rows t ≡ Some r → (x : Extent) → extent_over (definition_of s) (known ks) r ≡ Some x → IsTold s t x
+  told-step t r here x e =
+      let h = told-row r x e in
+      (h.0, (tree_of (trees s.rows) r, tree_at_row s v t r here, h.1), h.2)
 
 -- ---- a store that grows
 
@@ -329,19 +335,20 @@ unknown-more (Some y ∷ ks) (suc i) (Some x) h = unknown-more ks i (Some x) h
 
 -- ---- where nothing is kept, nothing lies
 
-module _ (s : Store) (v : IsStore s) (ks : List (Option Extent)) (settled : (i : ℕ) → IsSettled s.rows s.declared ks i) where
+module _ (s : Store) (v : IsStore s) (ks : ℕ → Option Extent)
+    (settled : (i : ℕ) (r : Row) → slice_get s.rows i ≡ Some r → ks i ≡ None → extent_over (defined s.declared) ks r ≡ None) where
   abbrev Found : ℕ → Type 0
-  Found i = (x : Extent) × (known ks i ≡ Some x)
+  Found i = (x : Extent) × (ks i ≡ Some x)
 
   -- where each extent of a list is kept, all are
   all_found : (n : ℕ) (is : List ℕ) (b : ℕ) → AllBelow b is → ((j : ℕ) → j < b → (y : Extent) → extent_with (names s n) (tree_in (trees s.rows) j) ≡ Some y → Found j)
-      → (ys : List Extent) → extents_with (names s n) (trees_of (map (tree_in (trees s.rows)) is)) ≡ Some ys → (xs : List Extent) × (all_known (known ks) is ≡ Some xs)
+      → (ys : List Extent) → extents_with (names s n) (trees_of (map (tree_in (trees s.rows)) is)) ≡ Some ys → (xs : List Extent) × (all_known ks is ≡ Some xs)
   all_found n [] b h found ys e = ([], refl)
   all_found n (i ∷ is) b h found ys e = by (all_found n is b h.1 found) (extent_with (names s n) (tree_in (trees s.rows) i)) refl (extents_with (names s n) (trees_of (map (tree_in (trees s.rows)) is))) refl e
     where
-      by : ((zs : List Extent) → extents_with (names s n) (trees_of (map (tree_in (trees s.rows)) is)) ≡ Some zs → (xs : List Extent) × (all_known (known ks) is ≡ Some xs))
+      by : ((zs : List Extent) → extents_with (names s n) (trees_of (map (tree_in (trees s.rows)) is)) ≡ Some zs → (xs : List Extent) × (all_known ks is ≡ Some xs))
           → (o : Option Extent) → extent_with (names s n) (tree_in (trees s.rows) i) ≡ o → (p : Option (List Extent)) → extents_with (names s n) (trees_of (map (tree_in (trees s.rows)) is)) ≡ p
-          → option_and_then (λ x. option_map (λ xs. x ∷ xs) p) o ≡ Some ys → (xs : List Extent) × (all_known (known ks) (i ∷ is) ≡ Some xs)
+          → option_and_then (λ x. option_map (λ xs. x ∷ xs) p) o ≡ Some ys → (xs : List Extent) × (all_known ks (i ∷ is) ≡ Some xs)
       by ih None f p g k = absurd cc
       by ih (Some y) f None g k = absurd cc
       by ih (Some y) f (Some zs) g k =
@@ -354,10 +361,10 @@ module _ (s : Store) (v : IsStore s) (ks : List (Option Extent)) (settled : (i :
   map_some f (Some a) b e = (a, refl)
 
   -- a row of which an extent follows is kept
-  must : (i : ℕ) (r : Row) → slice_get s.rows i ≡ Some r → (x : Extent) → extent_over (defined s.declared) (known ks) r ≡ Some x → Found i
-  must i r here x e = by (known ks i) refl
+  must : (i : ℕ) (r : Row) → slice_get s.rows i ≡ Some r → (x : Extent) → extent_over (defined s.declared) ks r ≡ Some x → Found i
+  must i r here x e = by (ks i) refl
     where
-      by : (o : Option Extent) → known ks i ≡ o → Found i
+      by : (o : Option Extent) → ks i ≡ o → Found i
       by None f =
           let none = settled i r here f in
           absurd cc
@@ -367,41 +374,43 @@ module _ (s : Store) (v : IsStore s) (ks : List (Option Extent)) (settled : (i :
   abbrev Complete : ℕ → ℕ → Type 0
   Complete n b = (j : ℕ) → j < b → (y : Extent) → extent_with (names s n) (tree_in (trees s.rows) j) ≡ Some y → Found j
 
-  of_parts : (n : ℕ) (i : ℕ) (r : Row) → slice_get s.rows i ≡ Some r → Complete n i → (is : List ℕ) → AllBelow i is → (f : List Extent → Extent)
-      → extent_over (defined s.declared) (known ks) r ≡ option_map (λ xs. told (f xs)) (all_known (known ks) is)
-      → (y : Extent) → option_map f (extents_with (names s n) (trees_of (map (tree_in (trees s.rows)) is))) ≡ Some y → Found i
-  of_parts n i r here below is within f form y e =
-      let parts = map_some f (extents_with (names s n) (trees_of (map (tree_in (trees s.rows)) is))) y e in
-      let all = all_found n is i within below parts.0 parts.1 in
-      must i r here (told (f all.0)) (form ∙ ap (option_map (λ xs. told (f xs))) all.1)
+  abbrev Follows : Row → Type 0
+  Follows r = (x : Extent) × (extent_over (defined s.declared) ks r ≡ Some x)
 
-  of_row : (n : ℕ) → ((k : ℕ) → suc k ≡ n → Complete k (length s.rows)) → (i : ℕ) (r : Row) → slice_get s.rows i ≡ Some r → Complete n i → (y : Extent)
-      → extent_with (names s n) (tree_of (trees s.rows) r) ≡ Some y → Found i
-  of_row n fewer i (row.Scalar k) here below y e = must i (row.Scalar k) here y e
-  of_row n fewer i (row.Pointer j) here below y e = must i (row.Pointer j) here y e
-  of_row n fewer i (row.Nullable j) here below y e = must i (row.Nullable j) here y e
-  of_row n fewer i (row.Slice j) here below y e = must i (row.Slice j) here y e
-  of_row n fewer i (row.Array m j) here below y e =
+  of_parts : (n b : ℕ) (r : Row) → Complete n b → (is : List ℕ) → AllBelow b is → (f : List Extent → Extent)
+      → extent_over (defined s.declared) ks r ≡ option_map (λ xs. told (f xs)) (all_known ks is)
+      → (y : Extent) → option_map f (extents_with (names s n) (trees_of (map (tree_in (trees s.rows)) is))) ≡ Some y → Follows r
+  of_parts n b r below is within f form y e =
+      let parts = map_some f (extents_with (names s n) (trees_of (map (tree_in (trees s.rows)) is))) y e in
+      let all = all_found n is b within below parts.0 parts.1 in
+      (told (f all.0), form ∙ ap (option_map (λ xs. told (f xs))) all.1)
+
+  -- where a row that names ids below b alone has an extent, one follows
+  of_row : (n : ℕ) → ((k : ℕ) → suc k ≡ n → Complete k (length s.rows)) → (b : ℕ) (r : Row) → IsWithin b r → Complete n b → (y : Extent)
+      → extent_with (names s n) (tree_of (trees s.rows) r) ≡ Some y → Follows r
+  of_row n fewer b (row.Scalar k) within below y e = (y, e)
+  of_row n fewer b (row.Pointer j) within below y e = (y, e)
+  of_row n fewer b (row.Nullable j) within below y e = (y, e)
+  of_row n fewer b (row.Slice j) within below y e = (y, e)
+  of_row n fewer b (row.Array m j) within below y e =
       let inner = map_some (λ x. record { size = m * x.size; align = x.align }) (extent_with (names s n) (tree_in (trees s.rows) j)) y e in
-      let item = below j (v.rows_sound.within i (row.Array m j) here) inner.0 inner.1 in
-      must i (row.Array m j) here _ (ap (option_map (λ x. told (record { size = m * x.size; align = x.align }))) item.1)
-  of_row n fewer i (row.Struct fs) here below y e =
-      of_parts n i (row.Struct fs) here below (map (λ f. f.ty) fs) (FieldsBelow-ids i fs (v.rows_sound.within i (row.Struct fs) here)) fields_extent refl y
+      let item = below j within inner.0 inner.1 in
+      (told (record { size = m * item.0.size; align = item.0.align }), ap (option_map (λ x. told (record { size = m * x.size; align = x.align }))) item.1)
+  of_row n fewer b (row.Struct fs) within below y e =
+      of_parts n b (row.Struct fs) below (map (λ f. f.ty) fs) (FieldsBelow-ids b fs within) fields_extent refl y
       (sym (ap (λ ts. option_map fields_extent (extents_with (names s n) ts)) (parts_of_struct (trees s.rows) fs)) ∙ e)
-  of_row n fewer i (row.Tuple is) here below y e = of_parts n i (row.Tuple is) here below is (v.rows_sound.within i (row.Tuple is) here) fields_extent refl y e
-  of_row n fewer i (row.Union is) here below y e = of_parts n i (row.Union is) here below is (v.rows_sound.within i (row.Union is) here) union_extent refl y e
-  of_row n fewer i (row.Error j) here below y e =
-      let inner = below j (v.rows_sound.within i (row.Error j) here) y e in
-      must i (row.Error j) here inner.0 inner.1
-  of_row zero fewer i (row.Named d) here below y e = absurd cc
-  of_row (suc n) fewer i (row.Named d) here below y e = by (defined s.declared d) refl e
+  of_row n fewer b (row.Tuple is) within below y e = of_parts n b (row.Tuple is) below is within fields_extent refl y e
+  of_row n fewer b (row.Union is) within below y e = of_parts n b (row.Union is) below is within union_extent refl y e
+  of_row n fewer b (row.Error j) within below y e = below j within y e
+  of_row zero fewer b (row.Named d) within below y e = absurd cc
+  of_row (suc n) fewer b (row.Named d) within below y e = by (defined s.declared d) refl e
     where
-      by : (o : Option ℕ) → defined s.declared d ≡ o → option_and_then (following extent_with (meaning_of s) n) (option_and_then (tree_at s) o) ≡ Some y → Found i
+      by : (o : Option ℕ) → defined s.declared d ≡ o → option_and_then (following extent_with (meaning_of s) n) (option_and_then (tree_at s) o) ≡ Some y → Follows (row.Named d)
       by None f g = absurd cc
       by (Some t) f g =
           let tree : tree_at s t ≡ Some (tree_in (trees s.rows) t) = slice_get-get_or (trees s.rows) t (Scalar keyword.Void) (omega (arith, v.defined_within d t f, length-trees s.rows)) in
           let inner = fewer n refl t (v.defined_within d t f) y (by_names s n (tree_in (trees s.rows) t) ∙ sym (ap (option_and_then (following extent_with (meaning_of s) n)) tree) ∙ g) in
-          must i (row.Named d) here inner.0 (ap (option_and_then (known ks)) f ∙ inner.1)
+          (inner.0, ap (option_and_then ks) f ∙ inner.1)
 
   up_to : (n : ℕ) → ((k : ℕ) → suc k ≡ n → Complete k (length s.rows)) → (b : ℕ) → b ≤ length s.rows → Complete n b
   up_to n fewer zero l j h y e = absurd (omega arith)
@@ -413,7 +422,8 @@ module _ (s : Store) (v : IsStore s) (ks : List (Option Extent)) (settled : (i :
           let same : b ≡ j = omega arith in
           let r = slice_index_or s.rows j (row.Scalar keyword.Void) in
           let here : slice_get s.rows j ≡ Some r = slice_get-get_or s.rows j (row.Scalar keyword.Void) (omega arith) in
-          of_row n fewer j r here (subst (Complete n) same ih) y (sym (ap (extent_with (names s n)) (get_or_from_slice_get (trees s.rows) j (tree_of (trees s.rows) r) (Scalar keyword.Void) (tree_at_row s v j r here))) ∙ e)
+          let found = of_row n fewer j r (v.rows_sound.within j r here) (subst (Complete n) same ih) y (sym (ap (extent_with (names s n)) (get_or_from_slice_get (trees s.rows) j (tree_of (trees s.rows) r) (Scalar keyword.Void) (tree_at_row s v j r here))) ∙ e) in
+          must j r here found.0 found.1
 
   complete : (n : ℕ) → Complete n (length s.rows)
   complete zero = up_to zero (λ k e. absurd (omega arith)) (length s.rows) (omega arith)
@@ -421,11 +431,18 @@ module _ (s : Store) (v : IsStore s) (ks : List (Option Extent)) (settled : (i :
       let ih = complete n in
       up_to (suc n) (λ k e. let same : n ≡ k = omega arith in subst (λ m. Complete m (length s.rows)) same ih) (length s.rows) (omega arith)
 
-  pub none_lies : (t : ℕ) → known ks t ≡ None → (y : Extent) → ¬ LiesIn s t y
+  pub none_lies : (t : ℕ) → ks t ≡ None → (y : Extent) → ¬ LiesIn s t y
   none_lies t e y h =
       let within : t < length s.rows = omega (arith, slice_get_within (trees s.rows) t h.0 h.1, length-trees s.rows) in
       let tree = get_or_from_slice_get (trees s.rows) t h.0 (Scalar keyword.Void) h.1 in
       let found = complete h.2.0 t within y (ap (extent_with (names s h.2.0)) tree ∙ by_names s h.2.0 h.0 ∙ h.2.1) in
+      let both : None ≡ Some found.0 = sym e ∙ found.1 in
+      absurd cc
+
+  -- where nothing follows for a row, which need not be in the store, its type has no extent
+  pub none_follows : (r : Row) → IsWithin (length s.rows) r → extent_over (defined s.declared) ks r ≡ None → (y : Extent) → ¬ HasExtent s (tree_of (trees s.rows) r) y
+  none_follows r within e y h =
+      let found = of_row h.0 (λ k g. complete k) (length s.rows) r within (complete h.0) y (by_names s h.0 (tree_of (trees s.rows) r) ∙ h.1) in
       let both : None ≡ Some found.0 = sym e ∙ found.1 in
       absurd cc
 

@@ -10,8 +10,10 @@ pub mod FiniteLemmas
 pub mod SoundLemmas
 pub mod CallerLemmas
 pub mod AssignRows
+mod IdRows
 mod LayoutRows
 pub mod GrowthLemmas
+pub mod FollowLemmas
 mod ToldLemmas
 pub mod WaitLemmas
 pub mod KeptLemmas
@@ -22,3 +24,9 @@ pub mod FoundLemmas
 pub mod SettledLemmas
 pub mod ChainLemmas
 pub mod MeaningLemmas
+pub mod IdLemmas
+pub mod AscendingLemmas
+pub mod LaterLemmas
+pub mod MeaningsLemmas
+mod FieldLemmas
+mod MarkLemmas

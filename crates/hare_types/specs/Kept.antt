@@ -21,6 +21,10 @@ told x = record { size = min x.size 1099511627777; align = x.align }
 abbrev pub IsTold : Store → ℕ → Extent → Type 0
 IsTold s t x = (y : Extent) × LiesIn s t y × (x ≡ told y)
 
+-- x is what is told of the extent of the type
+abbrev pub IsToldOf : Store → Tree → Extent → Type 0
+IsToldOf s u x = (y : Extent) × HasExtent s u y × (x ≡ told y)
+
 -- numbers that no sum overflows
 pub record IsBounded (x : Extent) : Type 0 where
   pub size : x.size ≤ 1099511627777

@@ -1,10 +1,15 @@
 pub mod Assign
 pub mod Bases
+pub mod ByIds
 pub mod ByValue
-pub mod KeyLaws
+pub mod Fields
 pub mod Kept
+pub mod KeyLaws
 pub mod Keys
+pub mod Later
 pub mod Layout
+pub mod Marks
+pub mod Meanings
 pub mod Numbering
 pub mod Packed
 pub mod PackedLaws
@@ -14,4 +19,6 @@ pub mod Run
 pub mod Sound
 pub mod Store
 pub mod Trees
+pub mod Unions
 pub mod Waiting
+pub mod Whole

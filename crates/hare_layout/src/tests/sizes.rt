@@ -6,7 +6,7 @@ use super::forms::{Case, Declaration, Entry, Form};
 use super::types;
 use std::test::*;
 
-static WITHOUT_A_SIZE: [Case; 22] = [
+static WITHOUT_A_SIZE: [Case; 25] = [
     Case(Form::Union(&[One(Entry::Opaque)]), Fault(17, 1)),
     Case(
         Form::Union(&[One(Entry::Int), One(Entry::Opaque)]),
@@ -49,7 +49,10 @@ static WITHOUT_A_SIZE: [Case; 22] = [
     Case(Form::Array(0, Entry::Never), Fault(17, 1)),
     Case(Form::Array(0, Entry::Hidden), Fault(17, 1)),
     Case(Form::Array(3, Entry::Unknown), Not(Entry::Never)),
-    Case(Form::Slice(Entry::Opaque), Not(Entry::Never)),
+    Case(Form::Slice(Entry::Opaque), Fault(17, 1)),
+    Case(Form::Slice(Entry::Never), Fault(17, 1)),
+    Case(Form::Slice(Entry::Hidden), Fault(17, 1)),
+    Case(Form::Slice(Entry::Undefined), Not(Entry::Never)),
     Case(Form::Pointer(Entry::Never), Not(Entry::Never)),
     Case(Form::Nullable(Entry::Opaque), Not(Entry::Never)),
     Case(Form::Error(Entry::Opaque), Is(Entry::ErrorOpaque)),

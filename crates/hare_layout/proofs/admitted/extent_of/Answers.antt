@@ -1,10 +1,18 @@
-use Rattle.std.proofs.Common.{length, ap, sym, ◌∙◌}
-use Rattle.hare_layout.specs.Reduced.{tree_of_reduced}
-use Rattle.hare_layout.specs.Capped.{capped_with, names_capped}
+use Rattle.std.proofs.Common.{sym, subst}
+use Rattle.std.specs.Prelude.{IfNone}
+use Rattle.hare_types.specs.declared.extent.Extent.{Extent}
+use Rattle.hare_types.specs.Layout.{HasExtent}
+use Rattle.hare_layout.specs.declared.reduce.Reduced.{Reduced}
+use Rattle.hare_layout.specs.Reduced.{IsHere, tree_of_reduced}
+use Rattle.hare_layout.proofs.AdmitLemmas.{none-known}
 use Rattle.hare_layout.proofs.admitted.extent_of.Goals as goal
 
-pub returns-in-Known : goal.returns-in-Known
-returns-in-Known c = c.capped.ensures.value ∙ ap (λ q. capped_with (names_capped c.args.s.now (length c.args.s.now.declared)) (tree_of_reduced c.args.s.now q)) (sym c.in-Known.is)
+pub returns-in-Known-clause-none : goal.returns-in-Known-clause-none
+returns-in-Known-clause-none c =
+    let P : Reduced → Type 0 = λ q. IfNone c.extent.result ((y : Extent) → ¬ HasExtent c.args.s.now (tree_of_reduced c.args.s.now q) y) in
+    subst P (sym c.in-Known.is) (none-known c.args.s.now c.in-Known.id c.extent.result (subst (IsHere c.args.s.now) c.in-Known.is c.requires) c.extent.ensures.none)
 
-pub returns-in-Fresh : goal.returns-in-Fresh
-returns-in-Fresh c = c.capped_row.ensures.value ∙ ap (λ q. capped_with (names_capped c.args.s.now (length c.args.s.now.declared)) (tree_of_reduced c.args.s.now q)) (sym c.in-Fresh.is)
+pub returns-in-Fresh-clause-none : goal.returns-in-Fresh-clause-none
+returns-in-Fresh-clause-none c =
+    let P : Reduced → Type 0 = λ q. IfNone c.row_extent.result ((y : Extent) → ¬ HasExtent c.args.s.now (tree_of_reduced c.args.s.now q) y) in
+    subst P (sym c.in-Fresh.is) c.row_extent.ensures.none

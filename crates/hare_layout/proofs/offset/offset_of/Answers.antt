@@ -3,6 +3,7 @@ use Rattle.hare_types.specs.Store.{Store}
 use Rattle.hare_types.specs.Layout.{field_start}
 use Rattle.hare_layout.specs.Offsets.{StartsAt}
 use Rattle.hare_layout.proofs.StoreLemmas.{small_within, extent_by-small}
+use Rattle.hare_layout.proofs.MeansLemmas.{offsets_mean}
 use Rattle.hare_layout.proofs.OffsetLemmas.{Starts, starts}
 use Rattle.hare_layout.proofs.offset.offset_of.Goals as goal
 
@@ -22,11 +23,14 @@ overflow_cast-result c =
     let few : c.in-Some-start_of.start ≤ 67108864 = subst (λ n. n ≤ 67108864) (sym same) p.within in
     omega arith
 
-pub returns : goal.returns
-returns c =
+pub returns-clause-value : goal.returns-clause-value
+returns-clause-value c =
     let p = starts c.args.s.now c.base_of.ensures.sound c.args.t c.args.k c.in-Some.ensures.some.0 c.in-Some.base c.requires.small c.requires.field c.in-Some.ensures.some.1 in
     let same = found c.args.s.now c.args.t c.args.k c.in-Some.ensures.some.0 c.in-Some.base c.in-Some-start_of.start p (c.in-Some-start_of.ensures.value c.in-Some.ensures.some.0 p.row p.extents p.here p.known) in
     subst (λ n. StartsAt c.args.s.now c.args.t c.args.k n) (sym same) p.means
+
+pub returns-clause-at : goal.returns-clause-at
+returns-clause-at c = ((offsets_mean c.args.s.now c.base_of.ensures.sound).field c.args.t c.args.k c.in-Some-start_of.start).1 (returns-clause-value c)
 
 pub unreachable-requires : goal.unreachable-requires
 unreachable-requires c =

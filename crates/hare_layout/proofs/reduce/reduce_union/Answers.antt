@@ -1,6 +1,6 @@
 use Rattle.std.proofs.Common.{◌≡◌, ◌≤◌, ◌<◌, false, true, [], length, refl, ap, sym, ◌∙◌, subst, arith, inl, inr}
 use Rattle.std.specs.List.{list_any}
-use Rattle.hare_layout.specs.Ascending.{put_all}
+use Rattle.hare_types.specs.Unions.{put_all}
 use Rattle.hare_layout.specs.Ids.{AreIds, unsized_at}
 use Rattle.hare_layout.specs.Reduced.{IsOfMembers}
 use Rattle.hare_layout.proofs.ReduceLemmas.{AreIds-left, union-unsized, union-sized, union-empty, union-wide, union-passes, union-reduction}

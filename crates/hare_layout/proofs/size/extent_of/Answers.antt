@@ -1,4 +1,5 @@
 use Rattle.std.proofs.Common.{◌≡◌, sym, subst}
+use Rattle.hare_types.proofs.IdLemmas.{extent_tells}
 use Rattle.hare_layout.specs.Small.{LiesIn}
 use Rattle.hare_layout.proofs.StoreLemmas.{small_within, extent_by-own, extent_by_lies, extent_by_size}
 use Rattle.hare_layout.proofs.size.extent_of.Goals as goal
@@ -13,6 +14,9 @@ returns-clause-value c =
     let both = c.in-Some.ensures.value h.2 h.1 own in
     let same : c.in-Some.x ≡ h.1 = cc in
     subst (LiesIn c.args.s.now c.args.t) (sym same) (extent_by_lies c.args.s.now h.2 c.args.t h.1 (small_within c.args.s.now c.args.t h) own)
+
+pub returns-clause-at : goal.returns-clause-at
+returns-clause-at c = (extent_tells c.args.s.now c.extent.ensures.sound c.args.t c.in-Some.x).1 (returns-clause-value c)
 
 pub returns-clause-within : goal.returns-clause-within
 returns-clause-within c =
