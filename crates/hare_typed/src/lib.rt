@@ -1,0 +1,12 @@
+//! Typed trees: what a checked program is, and what it costs.
+#![tactic(auto)]
+
+mod cell;
+mod constant;
+mod program;
+mod typed;
+
+pub use cell::{Cell, Cells};
+pub use constant::{Const, ConstObject, ConstObjects, Consts};
+pub use program::{Paths, Program};
+pub use typed::{Typed, TypedKids};
