@@ -3,3 +3,13 @@ pub mod Erased
 pub mod Order
 pub mod Numbers
 pub mod Constants
+pub mod Answers
+pub mod Cells
+pub mod Scalars
+pub mod Objects
+pub mod Arithmetic
+pub mod Pointers
+pub mod Words
+pub mod Shapes
+pub mod Unions
+pub mod Coercions
