@@ -10,6 +10,7 @@ pub mod FiniteLemmas
 pub mod SoundLemmas
 pub mod CallerLemmas
 pub mod AssignRows
+mod IdRows
 mod LayoutRows
 pub mod GrowthLemmas
 mod ToldLemmas

@@ -1,9 +1,11 @@
 pub mod Assign
 pub mod Bases
+pub mod ByIds
 pub mod ByValue
-pub mod KeyLaws
 pub mod Kept
+pub mod KeyLaws
 pub mod Keys
+pub mod Later
 pub mod Layout
 pub mod Numbering
 pub mod Packed
@@ -14,4 +16,5 @@ pub mod Run
 pub mod Sound
 pub mod Store
 pub mod Trees
+pub mod Unions
 pub mod Waiting
