@@ -1,0 +1,7 @@
+mod ExampleTrees
+mod OrderRows
+mod CopyRows
+mod WeightRows
+mod FrameRows
+mod ConstancyRows
+mod CoverRows

@@ -3,3 +3,9 @@ pub mod Erased
 pub mod Order
 pub mod Numbers
 pub mod Constants
+pub mod Given
+pub mod Weight
+pub mod Copies
+pub mod Frame
+pub mod Constancy
+pub mod Cover
