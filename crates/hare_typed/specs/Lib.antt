@@ -13,3 +13,9 @@ pub mod Words
 pub mod Shapes
 pub mod Unions
 pub mod Coercions
+pub mod Given
+pub mod Weight
+pub mod Copies
+pub mod Frame
+pub mod Constancy
+pub mod Cover
