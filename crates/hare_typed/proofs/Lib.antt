@@ -11,3 +11,4 @@ mod WeightRows
 mod FrameRows
 mod ConstancyRows
 mod CoverRows
+mod FormRows

@@ -11,7 +11,8 @@ use Rattle.hare_types.specs.Assign.{value_at, type_at, holds_of, same, is_same, 
 use Rattle.hare_types.specs.ByIds.{row_at}
 use Rattle.hare_typed.specs.declared.cell.Cell.{Cell}
 use Rattle.hare_typed.specs.Scalars.{Pointer, Null, Scalar, Number, Pointing, Nullable, cells, spelled}
-use Rattle.hare_typed.specs.Shapes.{shape_at, base_row}
+use Rattle.hare_typed.specs.Given.{base_row}
+use Rattle.hare_typed.specs.Shapes.{shape_at}
 use Rattle.hare_typed.specs.Words.{number_in, pointer_in}
 use Rattle.hare_typed.specs.Unions.{union_members, member_by_tag, payload, union_cells}
 use Rattle.hare_typed.specs.Answers.{Answer, Gives, ◌then◌}
@@ -113,7 +114,7 @@ element_of_slice (Some (row.Slice x)) = Some x
 element_of_slice _ = None
 
 abbrev pub element_by : Store → ℕ → Ty → Option ℕ
-element_by s r (kept.Of t) = if nat_eq r 7 then element_of_slice (base_row s t) else None
+element_by s r (kept.Of t) = if nat_eq r 7 then element_of_slice (base_row s (kept.Of t)) else None
 element_by s r (kept.Iconst v) = None
 element_by s r kept.Null = None
 element_by s r kept.Empty = None

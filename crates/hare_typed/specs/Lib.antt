@@ -19,3 +19,11 @@ pub mod Copies
 pub mod Frame
 pub mod Constancy
 pub mod Cover
+pub mod State
+pub mod Acts
+pub mod Interpreter
+pub mod World
+pub mod Sequence
+pub mod Evaluated
+pub mod ConstantForms
+pub mod ConstantValues

@@ -7,7 +7,8 @@ use Rattle.hare_types.specs.declared.row.Scalar.TheVariants as keyword
 use Rattle.hare_types.specs.declared.coercion.Ty.{Ty}
 use Rattle.hare_types.specs.declared.coercion.Ty.TheVariants as kept
 use Rattle.hare_types.specs.Store.{Store}
-use Rattle.hare_types.specs.ByIds.{row_at, base_at, size_at, align_at}
+use Rattle.hare_types.specs.ByIds.{align_at}
+use Rattle.hare_typed.specs.Given.{base_row}
 use Rattle.hare_typed.specs.Scalars.{Shape, Whole, Truth, Reference, Nullable}
 use Rattle.hare_typed.specs.Arithmetic.{IntType}
 
@@ -45,13 +46,9 @@ shape_of_row (row.Union is) = None
 shape_of_row (row.Error i) = None
 shape_of_row (row.Named d) = None
 
--- the row that is left of a type once names and error marks are followed
-abbrev pub base_row : Store → ℕ → Option Row
-base_row s t = option_and_then (row_at s) (base_at s t)
-
 -- the shape of a type, where it is scalar: its base is an integer type, rune, bool, pointer, nullable or void
 abbrev pub shape_at : Store → ℕ → Option Shape
-shape_at s t = option_and_then shape_of_row (base_row s t)
+shape_at s t = option_and_then shape_of_row (base_row s (kept.Of t))
 
 -- ---- types of operands
 
@@ -66,15 +63,9 @@ int_of_shape Nullable = record { bits = 64; signed = false }
 abbrev pub int_at : Store → ℕ → IntType
 int_at s t = unwrap_or (option_map int_of_shape (shape_at s t)) (record { bits = 0; signed = false })
 
--- how many bytes a value has, and at which alignment it stands; an untyped whole number, null and an array of no items have none
-abbrev pub size_of_value : Store → Ty → ℕ
-size_of_value s (kept.Of t) = size_at s t
-size_of_value s (kept.Iconst v) = 0
-size_of_value s kept.Null = 0
-size_of_value s kept.Empty = 0
-
-abbrev pub align_of_value : Store → Ty → ℕ
-align_of_value s (kept.Of t) = align_at s t
-align_of_value s (kept.Iconst v) = 1
-align_of_value s kept.Null = 1
-align_of_value s kept.Empty = 1
+-- at which alignment a value of the type stands; an untyped whole number, null and an array of no items have none
+abbrev pub align_in : Store → Ty → ℕ
+align_in s (kept.Of t) = align_at s t
+align_in s (kept.Iconst v) = 1
+align_in s kept.Null = 1
+align_in s kept.Empty = 1
