@@ -1,6 +1,6 @@
 //! Each call with ample memory: that it answers, and what a person expects of it.
 
-use crate::{Bytes, Items, Text};
+use crate::{Bytes, Items, Text, le_byte, le_get, round_up, wrap};
 use std::test::Fail;
 
 #[test]
@@ -39,4 +39,19 @@ fn lists_keep_their_order(rt: HostRuntime) -> Result<(), Fail> {
     assert_eq!(rt; list.get(2), None);
     assert_eq!(rt; list.as_slice(), [7, 9].as_slice());
     Ok(())
+}
+
+#[test]
+fn numbers_are_cut_and_put_together(rt: HostRuntime) {
+    assert_eq!(rt; wrap(-129, 8, true), 127);
+    assert_eq!(rt; wrap(-129, 8, false), 127);
+    assert_eq!(rt; wrap(i128::MAX, 64, true), -1);
+    assert_eq!(rt; wrap(i128::MIN, 63, false), 0);
+    assert_eq!(rt; le_get(b"\xff"), 255);
+    assert_eq!(rt; le_get(b"\x01\x02\0\0\0\0\0\xff"), 0xff00_0000_0000_0201);
+    assert_eq!(rt; le_byte(0xfe00_0000_0000_0201, 0), 1);
+    assert_eq!(rt; le_byte(0xfe00_0000_0000_0201, 7), 0xfe);
+    assert_eq!(rt; round_up(0, 8), 0);
+    assert_eq!(rt; round_up(17, 16), 32);
+    assert_eq!(rt; round_up(u64::MAX - 16, 1), u64::MAX - 16);
 }
