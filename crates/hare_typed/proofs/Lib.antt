@@ -1,3 +1,4 @@
+pub mod KidLemmas
 mod ExampleTrees
 mod OrderRows
 mod CopyRows

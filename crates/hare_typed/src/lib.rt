@@ -3,10 +3,12 @@
 
 mod cell;
 mod constant;
+mod erased;
 mod program;
 mod typed;
 
 pub use cell::{Cell, Cells};
 pub use constant::{Const, ConstObject, ConstObjects, Consts};
+pub use erased::erase;
 pub use program::{Paths, Program};
 pub use typed::{Typed, TypedKids};
