@@ -1,4 +1,5 @@
 pub mod KidLemmas
+pub mod GivenLemmas
 mod ExampleTrees
 mod OrderRows
 mod CopyRows
