@@ -4,6 +4,8 @@ mod ObjectRows
 mod ArithmeticRows
 mod PointerRows
 mod UnionRows
+pub mod KidLemmas
+pub mod GivenLemmas
 mod ExampleTrees
 mod OrderRows
 mod CopyRows

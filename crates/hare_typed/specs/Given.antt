@@ -80,14 +80,15 @@ pointee_in _ = None
 abbrev pub pointee : Store → Ty → Option ℕ
 pointee s t = pointee_in (base_row s t)
 
+-- one pointer, where there is one, and those that are followed from what it points to
+abbrev pub one_more : (Ty → ℕ) → Option ℕ → ℕ
+one_more rest None = 0
+one_more rest (Some i) = suc (rest (ty.Of i))
+
 -- how many pointers are followed from a type, at most so many
 abbrev pub followed_within : ℕ → Store → Ty → ℕ
 followed_within zero s t = 0
 followed_within (suc n) s t = one_more (followed_within n s) (pointee s t)
-  where
-    one_more : (Ty → ℕ) → Option ℕ → ℕ
-    one_more rest None = 0
-    one_more rest (Some i) = suc (rest (ty.Of i))
 
 -- how many pointers an element, a field or a slice is taken through: at most 16
 abbrev pub followed : Store → Ty → ℕ

@@ -3,10 +3,15 @@
 
 mod cell;
 mod constant;
+mod erased;
+mod given;
 mod program;
 mod typed;
+mod weights;
 
 pub use cell::{Cell, Cells};
 pub use constant::{Const, ConstObject, ConstObjects, Consts};
+pub use erased::erase;
 pub use program::{Paths, Program};
 pub use typed::{Typed, TypedKids};
+pub use weights::weight;

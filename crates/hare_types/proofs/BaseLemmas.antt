@@ -35,23 +35,23 @@ own : (m : ℕ → Option Tree) (n : ℕ) (t u : Tree) → following base_with m
 own m zero t u e = e
 own m (suc n) t u e = e
 
-module _ (s : Store) (v : IsStore s) (bs : List (Option ℕ)) (sound : (i b : ℕ) → known_base bs i ≡ Some b → IsBaseOf s i b) where
+module _ (s : Store) (v : IsStore s) (ks : ℕ → Option ℕ) (sound : (i b : ℕ) → ks i ≡ Some b → IsBaseOf s i b) where
   itself : (t : ℕ) (r : Row) → slice_get s.rows t ≡ Some r → following base_with (meaning_of s) 0 (tree_of (trees s.rows) r) ≡ Some (tree_of (trees s.rows) r) → (b : ℕ) → Some t ≡ Some b → IsBaseOf s t b
   itself t r h e b f =
       let same : t ≡ b = cc in
       let tree = tree_at_row s v t r h in
       (tree_of (trees s.rows) r, tree_of (trees s.rows) r, tree, subst (λ n. tree_at s n ≡ Some (tree_of (trees s.rows) r)) same tree, (0, e))
 
-  by_mark : (t j : ℕ) → slice_get s.rows t ≡ Some (row.Error j) → (b : ℕ) → known_base bs j ≡ Some b → IsBaseOf s t b
+  by_mark : (t j : ℕ) → slice_get s.rows t ≡ Some (row.Error j) → (b : ℕ) → ks j ≡ Some b → IsBaseOf s t b
   by_mark t j h b e =
       let w = sound j b e in
       let tree : tree_in (trees s.rows) j ≡ w.0 = get_or_from_slice_get (trees s.rows) j w.0 (Scalar keyword.Void) w.2 in
       (Error w.0, w.1, tree_at_row s v t (row.Error j) h ∙ ap (λ u. Some (Error u)) tree, w.3, (w.4.0, own (meaning_of s) w.4.0 w.0 w.1 w.4.1))
 
-  by_name : (t d : ℕ) → slice_get s.rows t ≡ Some (row.Named d) → (b : ℕ) → option_and_then (known_base bs) (definition_of s d) ≡ Some b → IsBaseOf s t b
+  by_name : (t d : ℕ) → slice_get s.rows t ≡ Some (row.Named d) → (b : ℕ) → option_and_then ks (definition_of s d) ≡ Some b → IsBaseOf s t b
   by_name t d h b e = by (definition_of s d) refl e
     where
-      by : (o : Option ℕ) → definition_of s d ≡ o → option_and_then (known_base bs) o ≡ Some b → IsBaseOf s t b
+      by : (o : Option ℕ) → definition_of s d ≡ o → option_and_then ks o ≡ Some b → IsBaseOf s t b
       by None k g = absurd cc
       by (Some q) k g =
           let w = sound q b g in
@@ -59,7 +59,7 @@ module _ (s : Store) (v : IsStore s) (bs : List (Option ℕ)) (sound : (i b : �
           (Named d, w.1, tree_at_row s v t (row.Named d) h, w.3, (suc w.4.0, ap (option_and_then (following base_with (meaning_of s) w.4.0)) meaning ∙ w.4.1))
 
   -- what follows for a row is its base
-  pub base-step : (t : ℕ) (r : Row) → slice_get s.rows t ≡ Some r → (b : ℕ) → base_over (definition_of s) (known_base bs) t r ≡ Some b → IsBaseOf s t b
+  pub base-step : (t : ℕ) (r : Row) → slice_get s.rows t ≡ Some r → (b : ℕ) → base_over (definition_of s) ks t r ≡ Some b → IsBaseOf s t b
   base-step t (row.Scalar k) h b e = itself t (row.Scalar k) h refl b e
   base-step t (row.Pointer j) h b e = itself t (row.Pointer j) h refl b e
   base-step t (row.Nullable j) h b e = itself t (row.Nullable j) h refl b e
@@ -135,7 +135,7 @@ KeepsBases-push s r bs o value v w ids = record {
     sound_at i b (inr h) =
         let place : length s.rows ≡ i = sym v.as_many ∙ sym h.0 in
         let here : slice_get (s.rows ++ r ∷ []) i ≡ Some r = subst (λ j. slice_get (s.rows ++ r ∷ []) j ≡ Some r) place (slice_get_end s.rows r []) in
-        base-step (record s { rows = s.rows ++ r ∷ [] }) w bs old_sound i r here b (sym (ap (λ n. base_over (defined s.declared) (known_base bs) n r) place) ∙ sym value ∙ h.1)
+        base-step (record s { rows = s.rows ++ r ∷ [] }) w (known_base bs) old_sound i r here b (sym (ap (λ n. base_over (defined s.declared) (known_base bs) n r) place) ∙ sym value ∙ h.1)
 
 -- with one more base
 pub KeepsBases-set : (s : Store) → IsStore s → (bs : List (Option ℕ)) (i : ℕ) (r : Row) (o : Option ℕ) → slice_get s.rows i ≡ Some r → o ≡ base_over (defined s.declared) (known_base bs) i r → KeepsBases s bs
@@ -153,7 +153,7 @@ KeepsBases-set s v bs i r o here value k = record {
         let same : i ≡ j = (unsigned_Decides i j).0 g in
         let set_here : known_base (set bs i o) i ≡ o = get_or-set_same bs i o None within in
         let is : o ≡ Some b = sym set_here ∙ ap (known_base (set bs i o)) same ∙ e in
-        subst (λ n. IsBaseOf s n b) same (base-step s v bs k.sound i r here b (sym value ∙ is))
+        subst (λ n. IsBaseOf s n b) same (base-step s v (known_base bs) k.sound i r here b (sym value ∙ is))
     by j b e false g =
         let other : j ≢ i = λ h. true≢false (sym ((unsigned_Decides i j).1 (sym h)) ∙ g) in
         let there : known_base (set bs i o) j ≡ known_base bs j = get_or-set_other bs i j o None other in
@@ -170,14 +170,14 @@ by_names : (s : Store) (n : ℕ) (u : Tree) → base_with (names s n) u ≡ foll
 by_names s zero u = refl
 by_names s (suc n) u = refl
 
-module _ (s : Store) (v : IsStore s) (bs : List (Option ℕ)) (settled : (i : ℕ) (r : Row) → slice_get s.rows i ≡ Some r → known_base bs i ≡ None → base_over (defined s.declared) (known_base bs) i r ≡ None) where
+module _ (s : Store) (v : IsStore s) (ks : ℕ → Option ℕ) (settled : (i : ℕ) (r : Row) → slice_get s.rows i ≡ Some r → ks i ≡ None → base_over (defined s.declared) ks i r ≡ None) where
   abbrev Found : ℕ → Type 0
-  Found i = (b : ℕ) × (known_base bs i ≡ Some b)
+  Found i = (b : ℕ) × (ks i ≡ Some b)
 
-  must : (i : ℕ) (r : Row) → slice_get s.rows i ≡ Some r → (b : ℕ) → base_over (defined s.declared) (known_base bs) i r ≡ Some b → Found i
-  must i r here b e = by (known_base bs i) refl
+  must : (i : ℕ) (r : Row) → slice_get s.rows i ≡ Some r → (b : ℕ) → base_over (defined s.declared) ks i r ≡ Some b → Found i
+  must i r here b e = by (ks i) refl
     where
-      by : (o : Option ℕ) → known_base bs i ≡ o → Found i
+      by : (o : Option ℕ) → ks i ≡ o → Found i
       by None f =
           let none = settled i r here f in
           absurd cc
@@ -207,7 +207,7 @@ module _ (s : Store) (v : IsStore s) (bs : List (Option ℕ)) (settled : (i : �
       by (Some t) f g =
           let tree : tree_at s t ≡ Some (tree_in (trees s.rows) t) = slice_get-get_or (trees s.rows) t (Scalar keyword.Void) (omega (arith, v.defined_within d t f, length-trees s.rows)) in
           let inner = fewer n refl t (v.defined_within d t f) u (by_names s n (tree_in (trees s.rows) t) ∙ sym (ap (option_and_then (following base_with (meaning_of s) n)) tree) ∙ g) in
-          must i (row.Named d) here inner.0 (ap (option_and_then (known_base bs)) f ∙ inner.1)
+          must i (row.Named d) here inner.0 (ap (option_and_then ks) f ∙ inner.1)
 
   up_to : (n : ℕ) → ((k : ℕ) → suc k ≡ n → Complete k (length s.rows)) → (b : ℕ) → b ≤ length s.rows → Complete n b
   up_to n fewer zero l j h u e = absurd (omega arith)
@@ -228,7 +228,7 @@ module _ (s : Store) (v : IsStore s) (bs : List (Option ℕ)) (settled : (i : �
       let ih = complete n in
       up_to (suc n) (λ k e. let same : n ≡ k = omega arith in subst (λ m. Complete m (length s.rows)) same ih) (length s.rows) (omega arith)
 
-  pub none_base : (t : ℕ) → known_base bs t ≡ None → (b : ℕ) → ¬ IsBaseOf s t b
+  pub none_base : (t : ℕ) → ks t ≡ None → (b : ℕ) → ¬ IsBaseOf s t b
   none_base t e b h =
       let within : t < length s.rows = omega (arith, slice_get_within (trees s.rows) t h.0 h.2, length-trees s.rows) in
       let tree = get_or_from_slice_get (trees s.rows) t h.0 (Scalar keyword.Void) h.2 in

@@ -43,7 +43,7 @@ pub by_names : (s : Store) (n : ℕ) (u : Tree) → extent_with (names s n) u �
 by_names s zero u = refl
 by_names s (suc n) u = refl
 
-names-further : (s : Store) (n k : ℕ) → Knows (names s n) (names s (n + k))
+pub names-further : (s : Store) (n k : ℕ) → Knows (names s n) (names s (n + k))
 names-further s zero k d x e = absurd cc
 names-further s (suc n) k d x e =
     let same : suc (n + k) ≡ suc n + k = omega arith in
@@ -53,7 +53,7 @@ names-further s (suc n) k d x e =
 -- ---- one row
 
 -- the parts of a struct's tree are those of its row
-parts_of_struct : (ts : List Tree) (fs : List Field) → trees_of (map (λ f. tree_in ts f.ty) fs) ≡ trees_of (map (tree_in ts) (map (λ f. f.ty) fs))
+pub parts_of_struct : (ts : List Tree) (fs : List Field) → trees_of (map (λ f. tree_in ts f.ty) fs) ≡ trees_of (map (tree_in ts) (map (λ f. f.ty) fs))
 parts_of_struct ts [] = refl
 parts_of_struct ts (f ∷ fs) = ap (more (tree_in ts f.ty)) (parts_of_struct ts fs)
 
@@ -329,19 +329,20 @@ unknown-more (Some y ∷ ks) (suc i) (Some x) h = unknown-more ks i (Some x) h
 
 -- ---- where nothing is kept, nothing lies
 
-module _ (s : Store) (v : IsStore s) (ks : List (Option Extent)) (settled : (i : ℕ) → IsSettled s.rows s.declared ks i) where
+module _ (s : Store) (v : IsStore s) (ks : ℕ → Option Extent)
+    (settled : (i : ℕ) (r : Row) → slice_get s.rows i ≡ Some r → ks i ≡ None → extent_over (defined s.declared) ks r ≡ None) where
   abbrev Found : ℕ → Type 0
-  Found i = (x : Extent) × (known ks i ≡ Some x)
+  Found i = (x : Extent) × (ks i ≡ Some x)
 
   -- where each extent of a list is kept, all are
   all_found : (n : ℕ) (is : List ℕ) (b : ℕ) → AllBelow b is → ((j : ℕ) → j < b → (y : Extent) → extent_with (names s n) (tree_in (trees s.rows) j) ≡ Some y → Found j)
-      → (ys : List Extent) → extents_with (names s n) (trees_of (map (tree_in (trees s.rows)) is)) ≡ Some ys → (xs : List Extent) × (all_known (known ks) is ≡ Some xs)
+      → (ys : List Extent) → extents_with (names s n) (trees_of (map (tree_in (trees s.rows)) is)) ≡ Some ys → (xs : List Extent) × (all_known ks is ≡ Some xs)
   all_found n [] b h found ys e = ([], refl)
   all_found n (i ∷ is) b h found ys e = by (all_found n is b h.1 found) (extent_with (names s n) (tree_in (trees s.rows) i)) refl (extents_with (names s n) (trees_of (map (tree_in (trees s.rows)) is))) refl e
     where
-      by : ((zs : List Extent) → extents_with (names s n) (trees_of (map (tree_in (trees s.rows)) is)) ≡ Some zs → (xs : List Extent) × (all_known (known ks) is ≡ Some xs))
+      by : ((zs : List Extent) → extents_with (names s n) (trees_of (map (tree_in (trees s.rows)) is)) ≡ Some zs → (xs : List Extent) × (all_known ks is ≡ Some xs))
           → (o : Option Extent) → extent_with (names s n) (tree_in (trees s.rows) i) ≡ o → (p : Option (List Extent)) → extents_with (names s n) (trees_of (map (tree_in (trees s.rows)) is)) ≡ p
-          → option_and_then (λ x. option_map (λ xs. x ∷ xs) p) o ≡ Some ys → (xs : List Extent) × (all_known (known ks) (i ∷ is) ≡ Some xs)
+          → option_and_then (λ x. option_map (λ xs. x ∷ xs) p) o ≡ Some ys → (xs : List Extent) × (all_known ks (i ∷ is) ≡ Some xs)
       by ih None f p g k = absurd cc
       by ih (Some y) f None g k = absurd cc
       by ih (Some y) f (Some zs) g k =
@@ -354,10 +355,10 @@ module _ (s : Store) (v : IsStore s) (ks : List (Option Extent)) (settled : (i :
   map_some f (Some a) b e = (a, refl)
 
   -- a row of which an extent follows is kept
-  must : (i : ℕ) (r : Row) → slice_get s.rows i ≡ Some r → (x : Extent) → extent_over (defined s.declared) (known ks) r ≡ Some x → Found i
-  must i r here x e = by (known ks i) refl
+  must : (i : ℕ) (r : Row) → slice_get s.rows i ≡ Some r → (x : Extent) → extent_over (defined s.declared) ks r ≡ Some x → Found i
+  must i r here x e = by (ks i) refl
     where
-      by : (o : Option Extent) → known ks i ≡ o → Found i
+      by : (o : Option Extent) → ks i ≡ o → Found i
       by None f =
           let none = settled i r here f in
           absurd cc
@@ -368,7 +369,7 @@ module _ (s : Store) (v : IsStore s) (ks : List (Option Extent)) (settled : (i :
   Complete n b = (j : ℕ) → j < b → (y : Extent) → extent_with (names s n) (tree_in (trees s.rows) j) ≡ Some y → Found j
 
   of_parts : (n : ℕ) (i : ℕ) (r : Row) → slice_get s.rows i ≡ Some r → Complete n i → (is : List ℕ) → AllBelow i is → (f : List Extent → Extent)
-      → extent_over (defined s.declared) (known ks) r ≡ option_map (λ xs. told (f xs)) (all_known (known ks) is)
+      → extent_over (defined s.declared) ks r ≡ option_map (λ xs. told (f xs)) (all_known ks is)
       → (y : Extent) → option_map f (extents_with (names s n) (trees_of (map (tree_in (trees s.rows)) is))) ≡ Some y → Found i
   of_parts n i r here below is within f form y e =
       let parts = map_some f (extents_with (names s n) (trees_of (map (tree_in (trees s.rows)) is))) y e in
@@ -401,7 +402,7 @@ module _ (s : Store) (v : IsStore s) (ks : List (Option Extent)) (settled : (i :
       by (Some t) f g =
           let tree : tree_at s t ≡ Some (tree_in (trees s.rows) t) = slice_get-get_or (trees s.rows) t (Scalar keyword.Void) (omega (arith, v.defined_within d t f, length-trees s.rows)) in
           let inner = fewer n refl t (v.defined_within d t f) y (by_names s n (tree_in (trees s.rows) t) ∙ sym (ap (option_and_then (following extent_with (meaning_of s) n)) tree) ∙ g) in
-          must i (row.Named d) here inner.0 (ap (option_and_then (known ks)) f ∙ inner.1)
+          must i (row.Named d) here inner.0 (ap (option_and_then ks) f ∙ inner.1)
 
   up_to : (n : ℕ) → ((k : ℕ) → suc k ≡ n → Complete k (length s.rows)) → (b : ℕ) → b ≤ length s.rows → Complete n b
   up_to n fewer zero l j h y e = absurd (omega arith)
@@ -421,7 +422,7 @@ module _ (s : Store) (v : IsStore s) (ks : List (Option Extent)) (settled : (i :
       let ih = complete n in
       up_to (suc n) (λ k e. let same : n ≡ k = omega arith in subst (λ m. Complete m (length s.rows)) same ih) (length s.rows) (omega arith)
 
-  pub none_lies : (t : ℕ) → known ks t ≡ None → (y : Extent) → ¬ LiesIn s t y
+  pub none_lies : (t : ℕ) → ks t ≡ None → (y : Extent) → ¬ LiesIn s t y
   none_lies t e y h =
       let within : t < length s.rows = omega (arith, slice_get_within (trees s.rows) t h.0 h.1, length-trees s.rows) in
       let tree = get_or_from_slice_get (trees s.rows) t h.0 (Scalar keyword.Void) h.1 in

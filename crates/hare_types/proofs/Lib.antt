@@ -13,6 +13,7 @@ pub mod AssignRows
 mod IdRows
 mod LayoutRows
 pub mod GrowthLemmas
+pub mod FollowLemmas
 mod ToldLemmas
 pub mod WaitLemmas
 pub mod KeptLemmas
@@ -23,3 +24,7 @@ pub mod FoundLemmas
 pub mod SettledLemmas
 pub mod ChainLemmas
 pub mod MeaningLemmas
+pub mod IdLemmas
+pub mod AscendingLemmas
+pub mod LaterLemmas
+pub mod MeaningsLemmas

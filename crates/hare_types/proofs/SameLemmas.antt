@@ -6,9 +6,36 @@ use Rattle.hare_types.specs.declared.lists.Field.{Field}
 use Rattle.hare_types.specs.declared.row.Row.{Row}
 use Rattle.hare_types.specs.declared.row.Row.TheVariants as row
 use Rattle.hare_types.specs.declared.row.Scalar.TheVariants as keyword
-use Rattle.hare_types.specs.Trees.{Scalar, Tree, trees_of, Same, SameEach, AllAmong, IsAmong, SomeTree, EachTree}
+use Rattle.hare_types.specs.Trees.{Tree, Trees, Scalar, Pointer, Nullable, Slice, Array, Struct, Tuple, Union, Error, Named, none, more, trees_of, Same, SameEach, AllAmong, IsAmong, SomeTree, EachTree}
 use Rattle.hare_types.specs.Rows.{tree_in, tree_of, trees, AllBelow, FieldsBelow, IsWithin, AllAbove, Ascends, IsReduced, AreRows}
 use Rattle.hare_types.proofs.TreeLemmas.{length-trees, tree_of_row}
+
+-- ---- a tree is the same type as itself
+
+mutual
+  pub Same-refl : (t : Tree) → Same t t
+  Same-refl (Scalar k) = refl
+  Same-refl (Pointer t) = Same-refl t
+  Same-refl (Nullable t) = Same-refl t
+  Same-refl (Slice t) = Same-refl t
+  Same-refl (Array n t) = (refl, Same-refl t)
+  Same-refl (Struct ns ts) = (refl, SameEach-refl ts)
+  Same-refl (Tuple ts) = SameEach-refl ts
+  Same-refl (Union ts) = (AllAmong-of ts ts (λ t h. h), EachTree-of ts ts (λ u h. h))
+  Same-refl (Error t) = Same-refl t
+  Same-refl (Named d) = refl
+
+  SameEach-refl : (ts : Trees) → SameEach ts ts
+  SameEach-refl none = tt
+  SameEach-refl (more t ts) = (Same-refl t, SameEach-refl ts)
+
+  AllAmong-of : (ts us : Trees) → ((t : Tree) → SomeTree (λ u. Same t u) ts → SomeTree (λ u. Same t u) us) → AllAmong ts us
+  AllAmong-of none us f = tt
+  AllAmong-of (more t ts) us f = (f t (inl (Same-refl t)), AllAmong-of ts us (λ x h. f x (inr h)))
+
+  EachTree-of : (ts us : Trees) → ((u : Tree) → IsAmong ts u → IsAmong us u) → EachTree (IsAmong us) ts
+  EachTree-of none us f = tt
+  EachTree-of (more t ts) us f = (f t (inl (Same-refl t)), EachTree-of ts us (λ u h. f u (inr h)))
 
 -- ---- ascending lists of the same numbers are one list
 

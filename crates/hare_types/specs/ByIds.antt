@@ -45,9 +45,13 @@ error_over definition ks t (row.Union is) = Some false
 error_over definition ks t (row.Error i) = Some true
 error_over definition ks t (row.Named d) = option_and_then ks (definition d)
 
--- whether the type is an error type: it bears an error mark, or names one that does
+-- Whether the type is an error type: it bears an error mark, or names one that does. None where that comes to a name that is not defined.
+abbrev pub marked_at : Store → ℕ → Option Bool
+marked_at s = found s (error_over (definition_of s))
+
+-- the type is known to be an error type
 abbrev pub is_error_at : Store → ℕ → Bool
-is_error_at s t = unwrap_or (found s (error_over (definition_of s)) t) false
+is_error_at s t = unwrap_or (marked_at s t) false
 
 -- never and opaque have no size, an error type as much as its inner type, and of a name its declaration says it
 abbrev pub sized_over : (ℕ → Option Bool) → (ℕ → Option Bool) → ℕ → Row → Option Bool
@@ -62,9 +66,13 @@ sized_over sized ks t (row.Union is) = Some true
 sized_over sized ks t (row.Error i) = ks i
 sized_over sized ks t (row.Named d) = sized d
 
--- Whether values of the type have a size. This is known of a name once it is declared, before it is defined.
+-- Whether values of the type have a size. Of a name this is known once it is declared, before it is defined, and None until then.
+abbrev pub sized_at : Store → ℕ → Option Bool
+sized_at s = found s (sized_over (sized_of s))
+
+-- values of the type are known to have a size
 abbrev pub has_size_at : Store → ℕ → Bool
-has_size_at s t = unwrap_or (found s (sized_over (sized_of s)) t) false
+has_size_at s t = unwrap_or (sized_at s t) false
 
 -- ---- layout
 

@@ -7,6 +7,7 @@ pub mod KeyLaws
 pub mod Keys
 pub mod Later
 pub mod Layout
+pub mod Meanings
 pub mod Numbering
 pub mod Packed
 pub mod PackedLaws
