@@ -14,3 +14,4 @@ mod FrameRows
 mod ConstancyRows
 mod CoverRows
 mod FormRows
+mod ActRows
