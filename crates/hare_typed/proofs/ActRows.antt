@@ -1,5 +1,5 @@
 -- Rows of the interpreter, worked out over forms of their own.
-use Rattle.std.proofs.Common.{◌≡◌, ℕ, zero, suc, ◌+◌, true, false, Bool, List, [], ◌∷◌, ◌++◌, Option, Some, None, codes, refl}
+use Rattle.std.proofs.Common.{◌≡◌, ℕ, suc, ◌+◌, true, false, Bool, List, [], ◌∷◌, None, codes, refl}
 use Rattle.std.specs.Prelude.{map}
 use Rattle.hare_tree.specs.declared.kind.Kind.{Kind}
 use Rattle.hare_tree.specs.declared.kind.Kind.TheVariants as kind
@@ -11,7 +11,7 @@ use Rattle.hare_typed.specs.Typed.{TypedNode, TypedNodes, marked, typed_none, ty
 use Rattle.hare_typed.specs.Constants.{own_kind}
 use Rattle.hare_typed.specs.Scalars.{Null, Address}
 use Rattle.hare_typed.specs.Objects.{Object, Local, Heap}
-use Rattle.hare_typed.specs.State.{State, Memory, Scope, AsValue, AsPlace, Mode, Outcome, Value, Reached, Break, Exit, Undefined, Over, Spent}
+use Rattle.hare_typed.specs.State.{State, Scope, AsValue, Mode, Outcome, Value, Reached, Break, Exit, Undefined, Spent}
 use Rattle.hare_typed.specs.Acts.{Act, end, look, put, make, tick, say, take, kid, part, within, turn, call, Round, Task, Turn, Call}
 use Rattle.hare_typed.specs.Sequence.{value, place, values}
 use Rattle.hare_typed.specs.Interpreter.{Forms, evaluate}
@@ -71,10 +71,10 @@ puts x = node kind.Str x []
 abbrev before : State
 before =
     record {
-        memory = record { objects = record { made = []; named = [] }; live = 0; taken = 0; stack = 0 };
-        input = 1 ∷ 2 ∷ 3 ∷ [];
-        output = [];
-        ticks = 0
+      memory = record { objects = record { made = []; named = [] }; live = 0; taken = 0; stack = 0 };
+      input = 1 ∷ 2 ∷ 3 ∷ [];
+      output = [];
+      ticks = 0;
     }
 
 abbrev scope : Scope

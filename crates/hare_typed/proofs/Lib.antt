@@ -15,3 +15,5 @@ mod ConstancyRows
 mod CoverRows
 mod FormRows
 mod ActRows
+pub mod ScalarLemmas
+pub mod AlikeLemmas

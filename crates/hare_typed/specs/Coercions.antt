@@ -78,13 +78,13 @@ chosen_member s f ms =
 abbrev pub row_to : Store → Ty → ℕ → ℕ
 row_to s f t = unwrap_or (first_row s (value_at s f) (type_at s t)) 1
 
+abbrev pub inner_as : Store → Ty → ℕ → Option ℕ → Coercion
+inner_as s f u None = record { row = 9; to = kept.Of u }
+inner_as s f u (Some m) = record { row = row_to s f m; to = kept.Of m }
+
 -- The coercion that reaches the value itself: for a value that is joined to a union as a member, the one to the member.
 abbrev pub inner_to : Store → Ty → ℕ → Coercion
-inner_to s f u =
-    elim (chosen_member s f (union_members s u)) [
-      | None ↦ record { row = 9; to = kept.Of u }
-      | Some m ↦ record { row = row_to s f m; to = kept.Of m }
-    ]
+inner_to s f u = inner_as s f u (chosen_member s f (union_members s u))
 
 abbrev pub inner_by : Store → Ty → ℕ → Ty → Coercion
 inner_by s f r (kept.Of t) = if nat_eq r 9 then inner_to s f t else record { row = r; to = kept.Of t }
@@ -139,12 +139,12 @@ union_to_union s (kept.Iconst v) u cs = Gives cs
 union_to_union s kept.Null u cs = Gives cs
 union_to_union s kept.Empty u cs = Gives cs
 
+abbrev pub coerced_as : Store → Ty → ℕ → List Cell → Option ℕ → Answer (List Cell)
+coerced_as s f u cs None = union_to_union s f u cs
+coerced_as s f u cs (Some m) = Gives (union_cells s u m (coerced_by s f (row_to s f m) m cs))
+
 abbrev pub coerced_to_union : Store → Ty → ℕ → List Cell → Answer (List Cell)
-coerced_to_union s f u cs =
-    elim (chosen_member s f (union_members s u)) [
-      | None ↦ union_to_union s f u cs
-      | Some m ↦ Gives (union_cells s u m (coerced_by s f (row_to s f m) m cs))
-    ]
+coerced_to_union s f u cs = coerced_as s f u cs (chosen_member s f (union_members s u))
 
 abbrev pub coerced_into : Store → Ty → ℕ → Ty → List Cell → Answer (List Cell)
 coerced_into s f r (kept.Of t) cs = if nat_eq r 9 then coerced_to_union s f t cs else Gives (coerced_by s f r t cs)

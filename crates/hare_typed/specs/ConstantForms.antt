@@ -290,10 +290,14 @@ size_form w t k = k (own_size w t (size_in w.types (type_of_kid 0 t)))
 abbrev pub align_form : World → TypedNode → ValueForm
 align_form w t k = k (own_size w t (align_in w.types (type_of_kid 0 t)))
 
+abbrev pub pointee_or : Ty → Option ℕ → Ty
+pointee_or f None = f
+pointee_or f (Some i) = kept.Of i
+
 -- the type that is reached through so many pointers at most
 abbrev pub reached_within : ℕ → Store → Ty → Ty
 reached_within zero s f = f
-reached_within (suc n) s f = elim (pointee s f) [ None ↦ f | Some i ↦ reached_within n s (kept.Of i) ]
+reached_within (suc n) s f = reached_within n s (pointee_or f (pointee s f))
 
 abbrev pub reached_type : Store → Ty → Ty
 reached_type = reached_within 16

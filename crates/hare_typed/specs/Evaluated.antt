@@ -169,12 +169,13 @@ array_object w x cs = record { cells = cs; kind = if w.runs then Local else Glob
 abbrev pub array_number : World → Scope → TypedNode → Option ℕ
 array_number w sc t = if w.runs then None else Some (static_number sc t)
 
+abbrev pub coerced_from : World → TypedNode → Scope → List Cell → Option ℕ → (List Cell → Act) → Act
+coerced_from w t sc cs None k = with_coercion w t cs k
+coerced_from w t sc cs (Some x) k =
+    make (array_number w sc t) (array_object w x cs) (λ o. slice_over w t (Address o 0) k)
+
 abbrev pub as_coerced : World → TypedNode → Scope → List Cell → (List Cell → Act) → Act
-as_coerced w t sc cs k =
-    elim (sliced_element w.types (mark_of t).ty (mark_of t).coerce) [
-      | None ↦ with_coercion w t cs k
-      | Some x ↦ make (array_number w sc t) (array_object w x cs) (λ o. slice_over w t (Address o 0) k)
-    ]
+as_coerced w t sc cs k = coerced_from w t sc cs (sliced_element w.types (mark_of t).ty (mark_of t).coerce) k
 
 -- ---- a node in both modes
 

@@ -27,3 +27,4 @@ pub mod Sequence
 pub mod Evaluated
 pub mod ConstantForms
 pub mod ConstantValues
+pub mod Alike

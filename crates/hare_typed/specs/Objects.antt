@@ -4,7 +4,7 @@ use Rattle.std.specs.Map.{lookup}
 use Rattle.hare_typed.specs.declared.cell.Cell.{Cell}
 use Rattle.hare_typed.specs.Cells.{cells_within, with_cells, bytes_of}
 use Rattle.hare_typed.specs.Scalars.{Pointer, Null, Address, Scalar, Shape, width, spelled}
-use Rattle.hare_typed.specs.Answers.{Answer, Gives, IsUndefined, ◌then◌}
+use Rattle.hare_typed.specs.Answers.{Answer, Gives, or_undefined, unless, ◌then◌}
 
 -- where an object comes from, which says when it dies and whether it may be stored to
 pub data ObjectKind : Type 0 where
@@ -95,7 +95,7 @@ cells_at r (Address o d) n = cells_within d n (cells_of (r o))
 
 -- goes on where the access is no undefined act
 abbrev pub reached : {A : Type 0} → Reading → Access → Answer A → Answer A
-reached r a go = elim (reaches r a) [ None ↦ go | Some u ↦ IsUndefined u ]
+reached r a go = unless (reaches r a) go
 
 -- the cells of so many bytes at a place
 abbrev pub read_cells : Reading → Pointer → (bytes align : ℕ) → Answer (List Cell)
@@ -103,7 +103,7 @@ read_cells r p n a = reached r (record { at = p; bytes = n; align = a; stores = 
 
 -- the scalar that cells spell, and U3 where they spell none
 abbrev pub scalar_of : Shape → List Cell → Answer Scalar
-scalar_of shape cs = elim (spelled shape cs) [ None ↦ IsUndefined 3 | Some v ↦ Gives v ]
+scalar_of shape cs = or_undefined 3 (spelled shape cs)
 
 -- a scalar at a place, at the alignment of its type
 abbrev pub read_scalar : Reading → Pointer → (align : ℕ) → Shape → Answer Scalar
@@ -111,7 +111,7 @@ read_scalar r p a shape = read_cells r p (width shape) a then λ cs. scalar_of s
 
 -- so many bytes at a place, and U3 where a cell is none
 abbrev pub bytes_within : List Cell → Answer (List ℕ)
-bytes_within cs = elim (bytes_of cs) [ None ↦ IsUndefined 3 | Some bs ↦ Gives bs ]
+bytes_within cs = or_undefined 3 (bytes_of cs)
 
 abbrev pub read_bytes : Reading → Pointer → ℕ → Answer (List ℕ)
 read_bytes r p n = read_cells r p n 1 then λ cs. bytes_within cs
@@ -121,8 +121,12 @@ read_bytes r p n = read_cells r p n 1 then λ cs. bytes_within cs
 abbrev pub with_object : Objects → ℕ → Object → Objects
 with_object os n o = record os { made = slice_set os.made n o }
 
+abbrev pub changed_by : Objects → ℕ → (Object → Object) → Option Object → Objects
+changed_by os n f None = os
+changed_by os n f (Some o) = with_object os n (f o)
+
 abbrev pub changed_object : Objects → ℕ → (Object → Object) → Objects
-changed_object os n f = elim (slice_get os.made n) [ None ↦ os | Some o ↦ with_object os n (f o) ]
+changed_object os n f = changed_by os n f (slice_get os.made n)
 
 -- the cells at a place become these
 abbrev pub write_cells : Objects → Pointer → List Cell → Objects
@@ -148,8 +152,14 @@ killed o = record o { alive = false }
 abbrev pub kill : Objects → ℕ → Objects
 kill os n = changed_object os n killed
 
+abbrev pub is_local : ObjectKind → Bool
+is_local Local = true
+is_local Heap = false
+is_local Global = false
+is_local Constant = false
+
 abbrev pub killed_local : Object → Object
-killed_local o = elim o.kind [ Local ↦ killed o | Heap ↦ o | Global ↦ o | Constant ↦ o ]
+killed_local o = if is_local o.kind then killed o else o
 
 abbrev pub locals_killed_from : ℕ → List Object → List Object
 locals_killed_from n [] = []

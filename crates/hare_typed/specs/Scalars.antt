@@ -93,3 +93,11 @@ IsByte cell.Undef = Unit {0}
 -- a byte among the cells has eight bits
 abbrev pub AreCells : List Cell → Type 0
 AreCells cs = All IsByte cs
+
+-- ---- the law of cells and scalars
+
+-- The cells of a scalar spell it and no other at its shape, and no other cells spell it.
+pub record CellsSpell : Type 0 where
+  pub spells : (shape : Shape) (v : Scalar) → IsOfShape shape v → spelled shape (cells shape v) ≡ Some v
+  pub only : (shape : Shape) (cs : List Cell) (v : Scalar) → AreCells cs → spelled shape cs ≡ Some v →
+      IsOfShape shape v × (cs ≡ cells shape v)

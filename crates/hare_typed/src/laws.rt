@@ -1,0 +1,16 @@
+//! What holds of values and of what is done with them.
+
+ghost use Rattle.hare_typed.specs.Scalars.{CellsSpell};
+ghost use Rattle.hare_typed.specs.Alike.{LooksWherePointed};
+
+/// The cells of a scalar spell it and no other at its shape, and no other cells spell it.
+#[tactic(auto, using(crate::proofs::ScalarLemmas::cells_spell))]
+pub fn law_cells_spell()
+    ensures { CellsSpell }
+{}
+
+/// An operation that follows a pointer looks at the object that this names: over two lists of objects that are alike there it gives the same.
+#[tactic(auto, using(crate::proofs::AlikeLemmas::looks_where_pointed))]
+pub fn law_looks_where_pointed()
+    ensures { LooksWherePointed }
+{}
