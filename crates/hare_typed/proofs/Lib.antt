@@ -17,3 +17,6 @@ mod FormRows
 mod ActRows
 pub mod ScalarLemmas
 pub mod AlikeLemmas
+pub mod QuietForms
+pub mod QuietRuns
+mod FollowedRows

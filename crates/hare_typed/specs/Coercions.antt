@@ -155,3 +155,7 @@ coerced_into s f r kept.Empty cs = Gives cs
 -- A value of type f as one of the type that its coercion gives. Where an array becomes a slice, the cells are those of the slice.
 abbrev pub coerced : Store → Ty → Coercion → List Cell → Answer (List Cell)
 coerced s f c cs = coerced_into s f c.row c.to cs
+
+-- A value of type f as one of the type with this id, by the first row that admits it: of a value whose node carries no coercion to it.
+abbrev pub assigned : Store → Ty → ℕ → List Cell → Answer (List Cell)
+assigned s f t cs = coerced_into s f (row_to s f t) (kept.Of t) cs

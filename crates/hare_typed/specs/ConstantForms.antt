@@ -17,7 +17,7 @@ use Rattle.hare_typed.specs.declared.constant.Const.TheVariants as constant
 use Rattle.hare_typed.specs.Typed.{TypedNode, head_of, mark_of, kids_of}
 use Rattle.hare_typed.specs.Order.{kid_from_front, kid_from_end}
 use Rattle.hare_typed.specs.Constants.{own_kind}
-use Rattle.hare_typed.specs.Given.{given, base_row, is_str, size_in, pointee}
+use Rattle.hare_typed.specs.Given.{given, base_row, is_str, size_in}
 use Rattle.hare_typed.specs.Weight.{items_of}
 use Rattle.hare_typed.specs.Answers.{Answer, Gives, ◌then◌}
 use Rattle.hare_typed.specs.Cells.{with_cells, undefined_cells}
@@ -27,6 +27,7 @@ use Rattle.hare_typed.specs.Arithmetic.{IntType, arithmetic_of, shift_of, order_
 use Rattle.hare_typed.specs.Pointers.{same_pointer}
 use Rattle.hare_typed.specs.Words.{Words, three, words, same_text}
 use Rattle.hare_typed.specs.Shapes.{shape_of_row, int_at, align_in}
+use Rattle.hare_typed.specs.Followed.{reached_type}
 use Rattle.hare_typed.specs.Coercions.{number_of_value, number_cells, pointer_of, length_of_row}
 use Rattle.hare_typed.specs.State.{Scope}
 use Rattle.hare_typed.specs.Acts.{Act, look, tick}
@@ -117,17 +118,23 @@ with_numbers w t a b f k =
     if is_iconst (own_type t) then k []
     else answered w (head_of t) (f (number_of_kid w t 0 a) (number_of_kid w t 1 b)) λ v. k (own_number w t v)
 
+abbrev pub arith_answer : World → TypedNode → ℤ → ℤ → Answer ℤ
+arith_answer w t = arithmetic (arithmetic_of (head_of t).text) (int_in w.types (own_type t))
+
+abbrev pub shift_answer : World → TypedNode → ℤ → ℤ → Answer ℤ
+shift_answer w t x y = Gives (shifted (shift_of (head_of t).text) (int_in w.types (own_type t)) x y)
+
 abbrev pub arith_form : World → TypedNode → Scope → ValueForm
 arith_form w t sc k =
     value 0 sc λ a.
     value 1 sc λ b.
-    with_numbers w t a b (arithmetic (arithmetic_of (head_of t).text) (int_in w.types (own_type t))) k
+    with_numbers w t a b (arith_answer w t) k
 
 abbrev pub shift_form : World → TypedNode → Scope → ValueForm
 shift_form w t sc k =
     value 0 sc λ a.
     value 1 sc λ b.
-    with_numbers w t a b (λ x y. Gives (shifted (shift_of (head_of t).text) (int_in w.types (own_type t)) x y)) k
+    with_numbers w t a b (shift_answer w t) k
 
 abbrev pub less_form : World → TypedNode → Scope → ValueForm
 less_form w t sc k =
@@ -289,18 +296,6 @@ size_form w t k = k (own_size w t (size_in w.types (type_of_kid 0 t)))
 
 abbrev pub align_form : World → TypedNode → ValueForm
 align_form w t k = k (own_size w t (align_in w.types (type_of_kid 0 t)))
-
-abbrev pub pointee_or : Ty → Option ℕ → Ty
-pointee_or f None = f
-pointee_or f (Some i) = kept.Of i
-
--- the type that is reached through so many pointers at most
-abbrev pub reached_within : ℕ → Store → Ty → Ty
-reached_within zero s f = f
-reached_within (suc n) s f = reached_within n s (pointee_or f (pointee s f))
-
-abbrev pub reached_type : Store → Ty → Ty
-reached_type = reached_within 16
 
 -- of the field that stands in it nothing is evaluated
 abbrev pub offset_form : World → TypedNode → ValueForm

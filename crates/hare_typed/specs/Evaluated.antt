@@ -1,5 +1,5 @@
 -- What all nodes have in common: ticks, the reading of places that are used as values, coercions, and values that are used as places.
-use Rattle.std.specs.Prelude.{ℕ, ◌+◌, ◌/◌, max, Bool, true, false, not, ◌||◌, List, [], Option, Some, None, is_some, if◌then◌else◌}
+use Rattle.std.specs.Prelude.{◌&&◌, ℕ, ◌+◌, ◌/◌, max, Bool, true, false, not, ◌||◌, List, [], Option, Some, None, is_some, if◌then◌else◌}
 use Rattle.hare_tree.specs.declared.kind.Kind.{Kind}
 use Rattle.hare_tree.specs.declared.kind.Kind.TheVariants as kind
 use Rattle.hare_tree.specs.declared.token.Meaning.{Meaning}
@@ -69,12 +69,15 @@ is_evaluated _ = true
 
 -- ---- places by form
 
--- a path to a local, a parameter or a global; a path to a def has its constant, and one to a type has a base of void
-abbrev pub names_object : Store → Mark → Meaning → Bool
-names_object s m (meant.Local x) = true
-names_object s m (meant.Decl d) = not (is_known m.value || names_void s m.meaning m.ty)
-names_object s m (meant.Rt f) = false
-names_object s m meant.None = false
+abbrev pub is_named : Meaning → Bool
+is_named (meant.Local x) = true
+is_named (meant.Decl d) = true
+is_named (meant.Rt f) = false
+is_named meant.None = false
+
+-- a path to a local, a parameter or a global; one to a def has its constant, and one to a type a base of void
+abbrev pub names_object : Store → Mark → Bool
+names_object s m = is_named m.meaning && not (is_known m.value || names_void s m.meaning m.ty)
 
 abbrev pub is_pointer_row : Option Row → Bool
 is_pointer_row (Some (row.Pointer i)) = true
@@ -86,7 +89,7 @@ is_slice_row _ = false
 
 -- whether a node of the kind is a place, where `operand` says it of its first kid, whose value has the type f
 abbrev pub is_place_kind : Store → Kind → Mark → (f : Ty) → (operand : Bool) → Bool
-is_place_kind s kind.Path m f operand = names_object s m m.meaning
+is_place_kind s kind.Path m f operand = names_object s m
 is_place_kind s kind.Deref m f operand = true
 is_place_kind s kind.Index m f operand = operand || is_pointer_row (base_row s f) || is_slice_row (base_row s f)
 is_place_kind s kind.Field m f operand = operand || is_pointer_row (base_row s f)
@@ -167,7 +170,7 @@ abbrev pub array_object : World → (item : ℕ) → List Cell → Object
 array_object w x cs = record { cells = cs; kind = if w.runs then Local else Global; align = align_at w.types x; alive = true }
 
 abbrev pub array_number : World → Scope → TypedNode → Option ℕ
-array_number w sc t = if w.runs then None else Some (static_number sc t)
+array_number w sc t = if w.runs then None else Some (w.home (static_number sc t))
 
 abbrev pub coerced_from : World → TypedNode → Scope → List Cell → Option ℕ → (List Cell → Act) → Act
 coerced_from w t sc cs None k = with_coercion w t cs k

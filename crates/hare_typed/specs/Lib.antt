@@ -28,3 +28,5 @@ pub mod Evaluated
 pub mod ConstantForms
 pub mod ConstantValues
 pub mod Alike
+pub mod Quiet
+pub mod Followed

@@ -1,5 +1,5 @@
 -- What evaluation is given beside a tree and a state.
-use Rattle.std.specs.Prelude.{ℕ, ◌+◌, ◌*◌, ◌^◌, Bool, List, [], ◌++◌, codes, decimal, map, slice_index_or}
+use Rattle.std.specs.Prelude.{ℕ, ◌+◌, ◌*◌, ◌^◌, Bool, List, [], ◌++◌, codes, decimal, map, slice_index_or, Option, Some, None}
 use Rattle.hare_tree.specs.declared.place.Place.{Place}
 use Rattle.hare_tree.specs.Node.{Head}
 use Rattle.hare_types.specs.Store.{Store}
@@ -36,13 +36,18 @@ homed w cs = map (homed_cell w.home) cs
 
 -- ---- ends
 
--- PATH:LINE:COLUMN: abort R, and behind it a colon, a space and the message, where one is written
-abbrev pub abort_text : World → Place → (reason : ℕ) → (message : List ℕ) → List ℕ
+abbrev pub message_behind : Option (List ℕ) → List ℕ
+message_behind None = []
+message_behind (Some bs) = codes ": " ++ bs
+
+-- PATH:LINE:COLUMN: abort R, and where a message is written, also an empty one, a colon, a space and the message
+abbrev pub abort_text : World → Place → (reason : ℕ) → (message : Option (List ℕ)) → List ℕ
 abort_text w p r message =
-    slice_index_or w.paths p.file [] ++ codes ":" ++ decimal p.line ++ codes ":" ++ decimal p.column ++ codes ": abort " ++ decimal r ++ message
+    slice_index_or w.paths p.file [] ++ codes ":" ++ decimal p.line ++ codes ":" ++ decimal p.column
+    ++ codes ": abort " ++ decimal r ++ message_behind message
 
 -- goes on with what an operation gives; an abort and an undefined act have the place of the node that does it
 abbrev pub answered : {A : Type 0} → World → Head → Answer A → (A → Act) → Act
 answered w h (Gives a) k = k a
-answered w h (Aborts r) k = end (Abort (abort_text w h.place r []))
+answered w h (Aborts r) k = end (Abort (abort_text w h.place r None))
 answered w h (IsUndefined u) k = end (Undefined u h.place)

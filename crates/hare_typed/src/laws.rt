@@ -2,6 +2,7 @@
 
 ghost use Rattle.hare_typed.specs.Scalars.{CellsSpell};
 ghost use Rattle.hare_typed.specs.Alike.{LooksWherePointed};
+ghost use Rattle.hare_typed.specs.Quiet.{ConstantsAreQuiet};
 
 /// The cells of a scalar spell it and no other at its shape, and no other cells spell it.
 #[tactic(auto, using(crate::proofs::ScalarLemmas::cells_spell))]
@@ -13,4 +14,10 @@ pub fn law_cells_spell()
 #[tactic(auto, using(crate::proofs::AlikeLemmas::looks_where_pointed))]
 pub fn law_looks_where_pointed()
     ensures { LooksWherePointed }
+{}
+
+/// What a constant comes to rests on no number of turns, and its evaluation leaves all as it was but for ticks and new objects.
+#[tactic(auto, using(crate::proofs::QuietRuns::constants_are_quiet))]
+pub fn law_constants_are_quiet()
+    ensures { ConstantsAreQuiet }
 {}
