@@ -1,5 +1,6 @@
 pub mod KidLemmas
 pub mod GivenLemmas
+pub mod ExitLemmas
 mod ExampleTrees
 mod OrderRows
 mod CopyRows

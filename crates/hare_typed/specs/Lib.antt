@@ -6,6 +6,7 @@ pub mod Constants
 pub mod Given
 pub mod Weight
 pub mod Copies
+pub mod Rounds
 pub mod Frame
 pub mod Constancy
 pub mod Cover
