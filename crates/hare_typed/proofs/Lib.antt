@@ -6,6 +6,7 @@ mod PointerRows
 mod UnionRows
 pub mod KidLemmas
 pub mod GivenLemmas
+pub mod ExitLemmas
 mod ExampleTrees
 mod OrderRows
 mod CopyRows

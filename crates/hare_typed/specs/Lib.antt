@@ -16,6 +16,7 @@ pub mod Coercions
 pub mod Given
 pub mod Weight
 pub mod Copies
+pub mod Rounds
 pub mod Frame
 pub mod Constancy
 pub mod Cover

@@ -4,6 +4,7 @@
 mod cell;
 mod constant;
 mod erased;
+mod exits;
 mod given;
 mod laws;
 mod program;
