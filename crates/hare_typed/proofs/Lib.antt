@@ -21,3 +21,7 @@ pub mod AlikeLemmas
 pub mod QuietForms
 pub mod QuietRuns
 mod FollowedRows
+pub mod PointsLemmas
+pub mod SteadyActs
+pub mod SteadyForms
+pub mod SteadyTrees

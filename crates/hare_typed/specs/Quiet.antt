@@ -1,11 +1,12 @@
 -- What the acts of constants leave alone.
-use Rattle.std.specs.Prelude.{◌≡◌, ℕ, ◌≤◌, ◌++◌, List, Option}
+use Rattle.std.specs.Prelude.{◌≡◌, ℕ, ◌+◌, ◌≤◌, false, List, ◌++◌, length, slice_get, None, Option}
 use Rattle.hare_typed.specs.Typed.{TypedNode}
 use Rattle.hare_typed.specs.Objects.{Object}
-use Rattle.hare_typed.specs.State.{State, Memory, Scope, Mode, Outcome}
+use Rattle.hare_typed.specs.State.{State, Memory, Scope, Mode, AsValue, Outcome, Result}
 use Rattle.hare_typed.specs.Acts.{Act, end, look, make, tick, kid}
 use Rattle.hare_typed.specs.Interpreter.{evaluate}
 use Rattle.hare_typed.specs.World.{World}
+use Rattle.hare_typed.specs.Constancy.{first_inconstant}
 use Rattle.hare_typed.specs.ConstantValues.{constant_node, constant_forms}
 
 -- ---- acts
@@ -40,3 +41,25 @@ pub record ConstantsAreQuiet : Type 0 where
       evaluate (constant_forms w) n t mode sc s ≡ evaluate (constant_forms w) m t mode sc s
   pub keeps : (w : World) (n : ℕ) (t : TypedNode) (mode : Mode) (sc : Scope) (s : State) →
       Keeps s (evaluate (constant_forms w) n t mode sc s).1
+
+-- ---- what constants look at
+
+-- Two states in which static objects are the same, and in which a new object has the same number.
+pub record SameStatics (w : World) (s s' : State) : Type 0 where
+  pub as_many : length s.memory.objects.made ≡ length s'.memory.objects.made
+  pub static : (name : ℕ) → slice_get s.memory.objects.made (w.home name) ≡ slice_get s'.memory.objects.made (w.home name)
+  pub named : s.memory.objects.named ≡ s'.memory.objects.named
+
+-- From s to r and from s' to r' the same was done: the outcomes are equal, the same objects were made, and as many ticks were added.
+pub record DoesTheSame (s s' : State) (r r' : Result) : Type 0 where
+  pub outcome : r.0 ≡ r'.0
+  pub made : (new : List Object) × (r.1.memory.objects.made ≡ s.memory.objects.made ++ new) × (r'.1.memory.objects.made ≡ s'.memory.objects.made ++ new)
+  pub named : r.1.memory.objects.named ≡ r'.1.memory.objects.named
+  pub ticks : (n : ℕ) × (r.1.ticks ≡ s.ticks + n) × (r'.1.ticks ≡ s'.ticks + n)
+
+-- The value of a tree that is constant rests on no object but static ones and those that its evaluation made.
+pub record ConstantsLookAtStatics : Type 0 where
+  pub alike : (w : World) (n : ℕ) (t : TypedNode) (sc : Scope) (s s' : State) →
+      first_inconstant w.types (λ u. false) t ≡ None →
+      SameStatics w s s' →
+      DoesTheSame s s' (evaluate (constant_forms w) n t AsValue sc s) (evaluate (constant_forms w) n t AsValue sc s')

@@ -2,7 +2,7 @@
 
 ghost use Rattle.hare_typed.specs.Scalars.{CellsSpell};
 ghost use Rattle.hare_typed.specs.Alike.{LooksWherePointed};
-ghost use Rattle.hare_typed.specs.Quiet.{ConstantsAreQuiet};
+ghost use Rattle.hare_typed.specs.Quiet.{ConstantsAreQuiet, ConstantsLookAtStatics};
 
 /// The cells of a scalar spell it and no other at its shape, and no other cells spell it.
 #[tactic(auto, using(crate::proofs::ScalarLemmas::cells_spell))]
@@ -20,4 +20,11 @@ pub fn law_looks_where_pointed()
 #[tactic(auto, using(crate::proofs::QuietRuns::constants_are_quiet))]
 pub fn law_constants_are_quiet()
     ensures { ConstantsAreQuiet }
+{}
+
+/// The value of a tree that is constant rests on no object but static ones: in two states in which these are the same, its evaluation ends alike,
+/// makes the same objects and adds as many ticks.
+#[tactic(auto, using(crate::proofs::SteadyTrees::constants_look_at_statics))]
+pub fn law_constants_look_at_statics()
+    ensures { ConstantsLookAtStatics }
 {}
