@@ -18,10 +18,6 @@ mod FormRows
 mod ActRows
 pub mod ScalarLemmas
 pub mod AlikeLemmas
-pub mod QuietForms
-pub mod QuietRuns
 mod FollowedRows
-pub mod PointsLemmas
-pub mod SteadyActs
-pub mod SteadyForms
-pub mod SteadyTrees
+pub mod Quiet
+pub mod Steady

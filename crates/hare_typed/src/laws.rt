@@ -17,14 +17,14 @@ pub fn law_looks_where_pointed()
 {}
 
 /// What a constant comes to rests on no number of turns, and its evaluation leaves all as it was but for ticks and new objects.
-#[tactic(auto, using(crate::proofs::QuietRuns::constants_are_quiet))]
+#[tactic(auto, using(crate::proofs::Quiet::Runs::constants_are_quiet))]
 pub fn law_constants_are_quiet()
     ensures { ConstantsAreQuiet }
 {}
 
 /// The value of a tree that is constant rests on no object but static ones: in two states in which these are the same, its evaluation ends alike,
 /// makes the same objects and adds as many ticks.
-#[tactic(auto, using(crate::proofs::SteadyTrees::constants_look_at_statics))]
+#[tactic(auto, using(crate::proofs::Steady::Trees::constants_look_at_statics))]
 pub fn law_constants_look_at_statics()
     ensures { ConstantsLookAtStatics }
 {}

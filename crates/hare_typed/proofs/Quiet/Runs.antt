@@ -10,7 +10,7 @@ use Rattle.hare_typed.specs.Interpreter.{Meaning, Tasks, Kids, after, made_objec
 use Rattle.hare_typed.specs.World.{World}
 use Rattle.hare_typed.specs.ConstantValues.{constant_node, constant_forms}
 use Rattle.hare_typed.specs.Quiet.{IsQuiet, ends, looks, makes, ticks, asks, Keeps, ConstantsAreQuiet}
-use Rattle.hare_typed.proofs.QuietForms.{quiet_node}
+use Rattle.hare_typed.proofs.Quiet.Forms.{quiet_node}
 
 -- ---- what is kept
 

@@ -1,5 +1,5 @@
 -- The value of a tree that is constant rests on no object but static ones and those that its evaluation made.
-use Rattle.std.proofs.Common.{◌≡◌, ℕ, zero, suc, Bool, true, false, List, [], ◌∷◌, length, refl, sym, ap, ◌∙◌, subst, inl}
+use Rattle.std.proofs.Common.{◌≡◌, ℕ, zero, suc, Bool, true, false, [], length, refl, sym, subst, inl}
 use Rattle.std.specs.Prelude.{if◌then◌else◌, not, ◌&&◌, ◌||◌, ◌==◌, Option, Some, None}
 use Rattle.hare_tree.specs.declared.kind.Kind.{Kind}
 use Rattle.hare_tree.specs.declared.kind.Kind.TheVariants as kind
@@ -11,18 +11,18 @@ use Rattle.hare_types.specs.Store.{Store}
 use Rattle.hare_typed.specs.Typed.{TypedNode, TypedNodes, Mark, marked, typed_none, typed_more, mark_of}
 use Rattle.hare_typed.specs.Given.{first_given}
 use Rattle.hare_typed.specs.Constants.{is_known}
-use Rattle.hare_typed.specs.Constancy.{is_global_path, begins_with_global, names_void, is_wrapper, is_constant_kind, is_constant, hides_kids, or_else, first_inconstant, first_inconstant_of}
-use Rattle.hare_typed.specs.Scalars.{Pointer, Address}
-use Rattle.hare_typed.specs.State.{State, Scope, Mode, AsValue, AsPlace, Outcome, Value, Reached, Result}
-use Rattle.hare_typed.specs.Acts.{Act, end, make}
-use Rattle.hare_typed.specs.Interpreter.{Tasks, Kids, node_act, kid_act, part_act, fewer_than, evaluate}
+use Rattle.hare_typed.specs.Constancy.{is_global_path, begins_with_global, names_void, is_constant, hides_kids, or_else, first_inconstant, first_inconstant_of}
+use Rattle.hare_typed.specs.Scalars.{Address}
+use Rattle.hare_typed.specs.State.{State, Scope, Mode, AsValue, AsPlace, Value, Reached}
+use Rattle.hare_typed.specs.Acts.{end, make}
+use Rattle.hare_typed.specs.Interpreter.{Tasks, Kids, node_act, kid_act, part_act, fewer_than}
 use Rattle.hare_typed.specs.World.{World}
-use Rattle.hare_typed.specs.Evaluated.{ValueForm, PlaceForm, is_evaluated, is_named, names_object, is_place_kind, is_place, first_is_place, place_in_mode, value_in_mode, value_object, evaluated, gives}
+use Rattle.hare_typed.specs.Evaluated.{ValueForm, PlaceForm, is_evaluated, is_named, is_place_kind, is_place, first_is_place, place_in_mode, value_in_mode, value_object, evaluated, gives}
 use Rattle.hare_typed.specs.ConstantForms.{object_meant}
 use Rattle.hare_typed.specs.ConstantValues.{constant_form, constant_place, constant_node, constant_forms}
 use Rattle.hare_typed.specs.Quiet.{ConstantsLookAtStatics}
-use Rattle.hare_typed.proofs.SteadyActs.{MayLook, Alike, DoesAlike, DoesAlike-refl, IsSteady, Steady, ends, makes, ticks, act-alike, Alike-begins, DoesTheSame-from}
-use Rattle.hare_typed.proofs.SteadyForms.{Ready, SteadyForm, steady_form, steady_by_value}
+use Rattle.hare_typed.proofs.Steady.Acts.{MayLook, Alike, DoesAlike, DoesAlike-refl, IsSteady, Steady, ends, makes, ticks, act-alike, Alike-begins, DoesTheSame-from}
+use Rattle.hare_typed.proofs.Steady.Forms.{Ready, SteadyForm, steady_form, steady_by_value}
 
 -- ---- what constancy says of a node
 
@@ -45,7 +45,7 @@ record Constant (s : Store) (h : Head) (m : Mark) (ts : TypedNodes) : Type 0 whe
 constant_from : (s : Store) (h : Head) (m : Mark) (ts : TypedNodes) → is_type h.kind ≡ false → first_inconstant s (λ u. false) (marked h m ts) ≡ None → Constant s h m ts
 constant_from s h m ts f e =
     let n : or_else (if hides_kids h.kind ts then None else first_inconstant_of s (λ u. false) ts) (if not (is_constant s h.kind m ts) || false then Some (marked h m ts) else None) ≡ None
-        = subst (λ x. (if x then None else or_else (if hides_kids h.kind ts then None else first_inconstant_of s (λ u. false) ts) (if not (is_constant s h.kind m ts) || false then Some (marked h m ts) else None)) ≡ None) f e in
+    = subst (λ x. (if x then None else or_else (if hides_kids h.kind ts then None else first_inconstant_of s (λ u. false) ts) (if not (is_constant s h.kind m ts) || false then Some (marked h m ts) else None)) ≡ None) f e in
     let p = first-none _ _ n in
     record { itself = unless-none (is_constant s h.kind m ts) (marked h m ts) p.1; kids = shown-none (hides_kids h.kind ts) (first_inconstant_of s (λ u. false) ts) p.0 }
 
@@ -220,7 +220,7 @@ module _ (w : World) (b : ℕ) where
 pub constants_look_at_statics : ConstantsLookAtStatics
 constants_look_at_statics =
     record {
-        alike = λ w n t sc s s' e h.
-        DoesTheSame-from w (length s.memory.objects.made) s s' _ _
-        (tree-steady w (length s.memory.objects.made) (fewer_than (constant_forms w) n) t e sc s s' (Alike-begins w s s' h))
+      alike = λ w n t sc s s' e h.
+          DoesTheSame-from w (length s.memory.objects.made) s s' _ _
+          (tree-steady w (length s.memory.objects.made) (fewer_than (constant_forms w) n) t e sc s s' (Alike-begins w s s' h));
     }

@@ -1,17 +1,15 @@
 -- Acts that look only where a constant may look do the same in states that are the same there.
 use Rattle.std.proofs.Common.{◌≡◌, ℕ, zero, suc, ◌+◌, ◌≤◌, List, [], ◌∷◌, ◌++◌, length, refl, sym, ap, ◌∙◌, subst, arith, append_assoc, ◌⊎◌, inl, inr}
-use Rattle.std.specs.Prelude.{Option, Some, None, slice_get, nat_eq}
+use Rattle.std.specs.Prelude.{Option, Some, None, slice_get}
 use Rattle.std.proofs.lemmas.List.{append-nil, length-append}
 use Rattle.std.proofs.lemmas.Option.{slice_get_past}
-use Rattle.hare_typed.specs.declared.cell.Cell.{Cell}
-use Rattle.hare_typed.specs.Scalars.{Pointer}
-use Rattle.hare_typed.specs.Objects.{Object, Objects, Reading, reading, or_else}
+use Rattle.hare_typed.specs.Objects.{Object, reading}
 use Rattle.hare_typed.specs.State.{State, Memory, Scope, Mode, Outcome, Value, Reached, Break, Continue, Yield, Return, Exit, Abort, Undefined, Over, Spent, Result}
-use Rattle.hare_typed.specs.Acts.{Act, end, look, make, tick, kid, Task}
-use Rattle.hare_typed.specs.Interpreter.{Meaning, Tasks, Kids, after, made_object, number_made, with_objects, act}
+use Rattle.hare_typed.specs.Acts.{Act, end, look, make, tick, kid}
+use Rattle.hare_typed.specs.Interpreter.{Tasks, Kids, after, made_object, number_made, with_objects, act}
 use Rattle.hare_typed.specs.World.{World}
 use Rattle.hare_typed.specs.Quiet.{SameStatics, DoesTheSame}
-use Rattle.hare_typed.proofs.PointsLemmas.{Points, PointsTo}
+use Rattle.hare_typed.proofs.Steady.Points.{Points, PointsTo}
 
 -- a static object
 abbrev pub IsStatic : World → ℕ → Type 0
@@ -84,11 +82,11 @@ module _ (w : World) (b : ℕ) where
   pub DoesAlike-refl : (o : Outcome) (s s' : State) → PointsOutcome o → Alike s s' → DoesAlike s s' (o, s) (o, s')
   DoesAlike-refl o s s' p h =
       record {
-          outcome = refl;
-          points = p;
-          alike = h;
-          made = ([], sym (append-nil s.memory.objects.made), sym (append-nil s'.memory.objects.made));
-          ticks = (0, omega arith, omega arith)
+        outcome = refl;
+        points = p;
+        alike = h;
+        made = ([], sym (append-nil s.memory.objects.made), sym (append-nil s'.memory.objects.made));
+        ticks = (0, omega arith, omega arith);
       }
 
   behind : (xs ys zs new newer : List Object) → ys ≡ xs ++ new → zs ≡ ys ++ newer → zs ≡ xs ++ (new ++ newer)
@@ -100,11 +98,11 @@ module _ (w : World) (b : ℕ) where
       ((n : ℕ) × (t.ticks ≡ s.ticks + n) × (t'.ticks ≡ s'.ticks + n)) → DoesAlike t t' r r' → DoesAlike s s' r r'
   DoesAlike-trans s s' t t' r r' m k d =
       record {
-          outcome = d.outcome;
-          points = d.points;
-          alike = d.alike;
-          made = (m.0 ++ d.made.0, behind _ _ _ m.0 d.made.0 m.1 d.made.1, behind _ _ _ m.0 d.made.0 m.2 d.made.2);
-          ticks = (k.0 + d.ticks.0, omega (arith, k.1, d.ticks.1), omega (arith, k.2, d.ticks.2))
+        outcome = d.outcome;
+        points = d.points;
+        alike = d.alike;
+        made = (m.0 ++ d.made.0, behind _ _ _ m.0 d.made.0 m.1 d.made.1, behind _ _ _ m.0 d.made.0 m.2 d.made.2);
+        ticks = (k.0 + d.ticks.0, omega (arith, k.1, d.ticks.1), omega (arith, k.2, d.ticks.2));
       }
 
   slice_get-push : (xs ys : List Object) (x : Object) (o : ℕ) → length xs ≡ length ys → slice_get xs o ≡ slice_get ys o → slice_get (xs ++ x ∷ []) o ≡ slice_get (ys ++ x ∷ []) o
@@ -117,10 +115,10 @@ module _ (w : World) (b : ℕ) where
   Alike-make : (s s' : State) (n : Option ℕ) (x : Object) → Alike s s' → Alike (with_objects s (made_object n x s.memory.objects)) (with_objects s' (made_object n x s'.memory.objects))
   Alike-make s s' None x h =
       record {
-          as_many = rw (length-append s.memory.objects.made (x ∷ []), length-append s'.memory.objects.made (x ∷ []), h.as_many) refl;
-          above = rw (length-append s.memory.objects.made (x ∷ [])) (omega (arith, h.above));
-          named = h.named;
-          objects = λ o l. slice_get-push s.memory.objects.made s'.memory.objects.made x o h.as_many (h.objects o l)
+        as_many = rw (length-append s.memory.objects.made (x ∷ []), length-append s'.memory.objects.made (x ∷ []), h.as_many) refl;
+        above = rw (length-append s.memory.objects.made (x ∷ [])) (omega (arith, h.above));
+        named = h.named;
+        objects = λ o l. slice_get-push s.memory.objects.made s'.memory.objects.made x o h.as_many (h.objects o l);
       }
   Alike-make s s' (Some n) x h = record { as_many = h.as_many; above = h.above; named = rw h.named refl; objects = h.objects }
 

@@ -1,6 +1,6 @@
 -- The acts of the constant kinds look only where a constant may look, and what they give leads there.
-use Rattle.std.proofs.Common.{◌≡◌, ℕ, zero, suc, ◌+◌, Bool, true, false, List, [], ◌∷◌, ◌++◌, length, map, refl, ap, inl}
-use Rattle.std.specs.Prelude.{ℤ, pos, if◌then◌else◌, not, Option, Some, None, option_and_then}
+use Rattle.std.proofs.Common.{ℕ, zero, suc, Bool, true, false, List, [], ◌∷◌, length, refl, ap, inl}
+use Rattle.std.specs.Prelude.{ℤ, if◌then◌else◌, Option, Some, None, option_and_then}
 use Rattle.hare_tree.specs.declared.kind.Kind.{Kind}
 use Rattle.hare_tree.specs.declared.kind.Kind.TheVariants as kind
 use Rattle.hare_tree.specs.Node.{Head}
@@ -10,29 +10,28 @@ use Rattle.hare_typed.specs.declared.cell.Cell.{Cell}
 use Rattle.hare_typed.specs.declared.cell.Cell.TheVariants as cell
 use Rattle.hare_typed.specs.declared.constant.Const.{Const}
 use Rattle.hare_typed.specs.declared.constant.Const.TheVariants as constant
-use Rattle.hare_typed.specs.Typed.{TypedNode, head_of, mark_of, kids_of}
-use Rattle.hare_typed.specs.Weight.{items_of}
+use Rattle.hare_typed.specs.Typed.{TypedNode, head_of, mark_of}
 use Rattle.hare_typed.specs.Given.{base_row, size_in}
 use Rattle.hare_typed.specs.Shapes.{shape_of_row}
 use Rattle.hare_typed.specs.Answers.{Answer, Gives, Aborts, IsUndefined}
 use Rattle.hare_typed.specs.Cells.{with_cells, undefined_cells}
-use Rattle.hare_typed.specs.Scalars.{Pointer, Null, Address, Pointing, Nullable, cells}
-use Rattle.hare_typed.specs.Objects.{Reading, reading}
+use Rattle.hare_typed.specs.Scalars.{Pointer, Null, Address}
+use Rattle.hare_typed.specs.Objects.{reading}
 use Rattle.hare_typed.specs.Pointers.{same_pointer}
 use Rattle.hare_typed.specs.Words.{Words, three, words, same_text}
-use Rattle.hare_typed.specs.Coercions.{coerced, pointer_of, sliced_element, length_of_value}
-use Rattle.hare_typed.specs.State.{Memory, Scope, Mode, AsValue, AsPlace, Outcome, Value, Reached}
+use Rattle.hare_typed.specs.Coercions.{pointer_of, sliced_element}
+use Rattle.hare_typed.specs.State.{Memory, Scope, AsValue, AsPlace, Outcome, Value, Reached}
 use Rattle.hare_typed.specs.Acts.{Act}
 use Rattle.hare_typed.specs.Interpreter.{Kids}
-use Rattle.hare_typed.specs.World.{World, static_number, homed_cell, homed, answered}
+use Rattle.hare_typed.specs.World.{World, static_number, homed, answered}
 use Rattle.hare_typed.specs.Sequence.{on_value, on_place, value, place, values}
 use Rattle.hare_typed.specs.Evaluated.{ValueForm, with_coercion, slice_over, array_number, coerced_from, as_coerced, by_value}
-use Rattle.hare_typed.specs.ConstantForms.{own_type, own_number, own_size, bool_cells, constant_cells, with_numbers, is_iconst, arith_answer, shift_answer, Equality, OfNumbers, OfPointers, OfTexts, with_texts, with_equality, equality_of, type_of_kid, cast_cells, is_whole, number_of_kid, counted_from, fields_from, offset_in, with_parts, made_of, joined, last_of, again, repeats}
+use Rattle.hare_typed.specs.ConstantForms.{own_type, own_number, bool_cells, constant_cells, with_numbers, is_iconst, arith_answer, shift_answer, Equality, OfNumbers, OfPointers, OfTexts, with_texts, with_equality, equality_of, type_of_kid, cast_cells, is_whole, number_of_kid, offset_in, with_parts, made_of, joined, last_of, again}
 use Rattle.hare_typed.specs.ConstantValues.{constant_form}
 use Rattle.hare_typed.specs.Alike.{AreAlike}
 use Rattle.hare_typed.proofs.AlikeLemmas.{looks_where_pointed}
-use Rattle.hare_typed.proofs.PointsLemmas.{Points, PointsTo, PointsAnswer, PointsEach, PointsWords, Points-byte_cells, Points-append, Points-undefined, Points-with, Points-number, Points-pointer, Points-pointer_of, Points-three, Points-words, Points-number_cells, Points-coerced}
-use Rattle.hare_typed.proofs.SteadyActs.{IsStatic, MayLook, PointsOutcome, IsSteady, ReadAlike, StaticNumber, Steady, ends, looks, makes, ticks, asks}
+use Rattle.hare_typed.proofs.Steady.Points.{Points, PointsTo, PointsAnswer, PointsEach, PointsWords, Points-append, Points-undefined, Points-with, Points-pointer, Points-pointer_of, Points-three, Points-words, Points-number_cells, Points-coerced}
+use Rattle.hare_typed.proofs.Steady.Acts.{MayLook, PointsOutcome, IsSteady, ReadAlike, StaticNumber, Steady, ends, looks, makes, ticks, asks}
 
 module _ (w : World) (b : ℕ) (ks : Kids) where
   -- whatever cells follow it that lead where it may look, it is steady

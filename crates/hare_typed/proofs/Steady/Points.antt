@@ -1,6 +1,6 @@
 -- To which objects the fragments in cells lead: no operation makes others.
-use Rattle.std.proofs.Common.{◌≡◌, ℕ, zero, suc, ◌+◌, Bool, true, false, List, [], ◌∷◌, ◌++◌, length, map, take, drop, replicate, Option, Some, None, refl, subst}
-use Rattle.std.specs.Prelude.{ℤ, pos, ◌^◌, ◌*◌, if◌then◌else◌, nat_eq, ◌||◌, ◌&&◌, find, option_map, option_and_then, unwrap_or}
+use Rattle.std.proofs.Common.{ℕ, zero, suc, Bool, true, false, List, [], ◌∷◌, ◌++◌, length, take, drop, Option, Some, None}
+use Rattle.std.specs.Prelude.{ℤ, pos, ◌^◌, ◌*◌, if◌then◌else◌, nat_eq, ◌||◌, option_map, option_and_then, unwrap_or}
 use Rattle.hare_types.specs.declared.coercion.Ty.{Ty}
 use Rattle.hare_types.specs.declared.coercion.Ty.TheVariants as kept
 use Rattle.hare_types.specs.declared.coercion.Coercion.{Coercion}
@@ -12,12 +12,12 @@ use Rattle.hare_typed.specs.declared.cell.Cell.{Cell}
 use Rattle.hare_typed.specs.declared.cell.Cell.TheVariants as cell
 use Rattle.hare_typed.specs.Answers.{Answer, Gives, Aborts, IsUndefined, or_undefined, ◌then◌}
 use Rattle.hare_typed.specs.Cells.{byte_cells, bytes_of, fragments, are_fragments, cells_within, undefined_cells, with_cells}
-use Rattle.hare_typed.specs.Scalars.{Pointer, Null, Address, Scalar, Number, Pointing, Shape, Whole, Truth, Reference, Nullable, width, cells, spelled, number_spelled, bool_spelled, address_spelled, null_spelled, first_spelled, pointer_cells}
+use Rattle.hare_typed.specs.Scalars.{Pointer, Null, Address, Scalar, Number, Pointing, Shape, Nullable, width, cells, spelled, address_spelled, null_spelled, first_spelled}
 use Rattle.hare_typed.specs.Objects.{scalar_of}
 use Rattle.hare_typed.specs.Shapes.{shape_at}
 use Rattle.hare_typed.specs.Words.{Words, three, words, size_shape, size_cells, size_in, pointer_in}
-use Rattle.hare_typed.specs.Unions.{checked, checked_by, payload, payload_of, member_by_tag, union_members, union_cells, tag_shape, tag_of}
-use Rattle.hare_typed.specs.Coercions.{number_cells_at, number_cells, pointer_of, coerced_by, union_to_union, coerced_as, coerced_to_union, coerced_into, coerced, chosen_member, row_to}
+use Rattle.hare_typed.specs.Unions.{checked_by, payload, payload_of, member_by_tag, union_members, union_cells, tag_shape, tag_of}
+use Rattle.hare_typed.specs.Coercions.{number_cells_at, number_cells, pointer_of, coerced_by, union_to_union, coerced_as, coerced_into, coerced, chosen_member, row_to}
 
 module _ (P : ℕ → Type 0) where
   -- each fragment is of a pointer to an object of which P holds
