@@ -55,7 +55,8 @@ task_acts (Call d cs) sc = kid 0 AsValue sc end
 abbrev node : Kind → List ℕ → List TypedNode → TypedNode
 node k x ts =
     marked record { kind = k; place = record { file = 0; line = 1; column = 1 }; text = x; number = 0; suffix = suffix.None }
-    record { node = 0; ty = kept.Empty; coerce = record { row = 1; to = kept.Empty }; meaning = meant.None; value = constant.Absent } (typed_nodes ts)
+    record { node = 0; ty = kept.Empty; coerce = record { row = 1; to = kept.Empty }; meaning = meant.None; value = constant.Absent }
+    (typed_nodes ts)
 
 -- the function that is called returns
 abbrev task_kids : Task → TypedNodes
@@ -101,7 +102,8 @@ other_outcome_passes = refl
 nothing_runs_behind_it : (left 0 (node kind.Block [] (node kind.Break [] [] ∷ puts (codes "b") ∷ []))).output ≡ []
 nothing_runs_behind_it = refl
 
-undefined_has_its_place : outcome 0 (node kind.Block [] (puts (codes "a") ∷ node kind.Abort [] [] ∷ [])) ≡ Undefined 1 (record { file = 0; line = 1; column = 1 })
+undefined_has_its_place : outcome 0 (node kind.Block [] (puts (codes "a") ∷ node kind.Abort [] [] ∷ []))
+    ≡ Undefined 1 (record { file = 0; line = 1; column = 1 })
 undefined_has_its_place = refl
 
 missing_kid_gives_none : outcome 0 (node kind.Block [] (puts (codes "a") ∷ [])) ≡ Value []
@@ -169,7 +171,8 @@ outcome_passes_a_scope : outcome 0 (node kind.If [] (node kind.Break [] [] ∷ [
 outcome_passes_a_scope = refl
 
 -- what stood before a scope stands behind it
-earlier_local_lives : alive_of (left 0 (node kind.Block [] (node kind.If [] (node kind.Void [] [] ∷ []) ∷ node kind.Let [] [] ∷ []))) ≡ false ∷ true ∷ true ∷ []
+earlier_local_lives : alive_of (left 0 (node kind.Block [] (node kind.If [] (node kind.Void [] [] ∷ []) ∷ node kind.Let [] [] ∷ [])))
+    ≡ false ∷ true ∷ true ∷ []
 unfolding alive_of
 earlier_local_lives = refl
 
@@ -187,5 +190,6 @@ takes_what_is_left = refl
 adds_ticks : (left 0 (node kind.Block [] (node kind.Len [] [] ∷ node kind.Len [] [] ∷ []))).ticks ≡ 6
 adds_ticks = refl
 
-puts_memory_alone : left 0 (node kind.Match [] []) ≡ record before { memory = record { objects = record { made = []; named = [] }; live = 5; taken = 0; stack = 0 } }
+puts_memory_alone : left 0 (node kind.Match [] [])
+    ≡ record before { memory = record { objects = record { made = []; named = [] }; live = 5; taken = 0; stack = 0 } }
 puts_memory_alone = refl

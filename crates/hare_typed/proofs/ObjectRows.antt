@@ -8,8 +8,8 @@ use Rattle.hare_typed.proofs.Samples.{bytes, no_cells}
 
 -- ---- some objects
 
--- 0: a local of eight bytes 1 to 8; 1: a dead local of four; 2: a constant of four, of alignment 1; 3: a heap object of no bytes; 4: a global of four
--- cells, the first a byte, the others undefined
+-- 0: a local of eight bytes 1 to 8; 1: a dead local of four; 2: a constant of four, of alignment 1; 3: a heap object of no bytes; 4: a
+-- global of four cells, the first a byte, the others undefined
 abbrev objects : Objects
 objects = record {
   made =
@@ -125,11 +125,17 @@ unaligned_and_undefined = refl
 no_bool : read_scalar seen (Address 0 1) 1 Truth ≡ IsUndefined 3
 no_bool = refl
 
-no_pointer : read_scalar (reading (record objects { made = record { cells = bytes (1 ∷ 2 ∷ 3 ∷ 4 ∷ 5 ∷ 6 ∷ 7 ∷ 8 ∷ []); kind = Local; align = 8; alive = true } ∷ [] })) (Address 0 0) 8 Nullable ≡ IsUndefined 3
+no_pointer : read_scalar (reading (record objects
+    { made = record { cells = bytes (1 ∷ 2 ∷ 3 ∷ 4 ∷ 5 ∷ 6 ∷ 7 ∷ 8 ∷ []); kind = Local; align = 8; alive = true } ∷ [] }))
+    (Address 0 0) 8 Nullable ≡ IsUndefined 3
 no_pointer = refl
 
 -- null is no value of `*t`
-null_read_as_a_reference : read_scalar (reading (record objects { made = record { cells = bytes (0 ∷ 0 ∷ 0 ∷ 0 ∷ 0 ∷ 0 ∷ 0 ∷ 0 ∷ []); kind = Local; align = 8; alive = true } ∷ [] })) (Address 0 0) 8 Reference ≡ IsUndefined 3
+null_read_as_a_reference : read_scalar (reading
+    (record objects {
+      made = record { cells = bytes (0 ∷ 0 ∷ 0 ∷ 0 ∷ 0 ∷ 0 ∷ 0 ∷ 0 ∷ []); kind = Local; align = 8; alive = true }
+          ∷ [];
+    })) (Address 0 0) 8 Reference ≡ IsUndefined 3
 null_read_as_a_reference = refl
 
 void_is_read_anywhere : read_scalar seen Null 1 (Whole 0 false) ≡ Gives (Number (pos 0))
@@ -156,10 +162,16 @@ two_objects = record {
   named = [];
 }
 
-writes_in_the_middle : (write_cells two_objects (Address 0 1) (bytes (9 ∷ 8 ∷ []))).made ≡ record { cells = bytes (1 ∷ 9 ∷ 8 ∷ 4 ∷ []); kind = Local; align = 4; alive = true } ∷ record { cells = bytes (5 ∷ []); kind = Heap; align = 16; alive = true } ∷ []
+writes_in_the_middle : (write_cells two_objects (Address 0 1) (bytes (9 ∷ 8 ∷ []))).made
+    ≡ record { cells = bytes (1 ∷ 9 ∷ 8 ∷ 4 ∷ []); kind = Local; align = 4; alive = true }
+    ∷ record { cells = bytes (5 ∷ []); kind = Heap; align = 16; alive = true } ∷ []
 writes_in_the_middle = refl
 
-stores_what_it_was_given : store_cells two_objects (Address 1 0) 1 (cell.Undef ∷ []) ≡ Gives (record two_objects { made = record { cells = bytes (1 ∷ 2 ∷ 3 ∷ 4 ∷ []); kind = Local; align = 4; alive = true } ∷ record { cells = cell.Undef ∷ []; kind = Heap; align = 16; alive = true } ∷ [] })
+stores_what_it_was_given : store_cells two_objects (Address 1 0) 1 (cell.Undef ∷ [])
+    ≡ Gives (record two_objects {
+      made = record { cells = bytes (1 ∷ 2 ∷ 3 ∷ 4 ∷ []); kind = Local; align = 4; alive = true }
+          ∷ record { cells = cell.Undef ∷ []; kind = Heap; align = 16; alive = true } ∷ [];
+    })
 stores_what_it_was_given = refl
 
 stores_nothing_anywhere : store_cells two_objects Null 8 [] ≡ Gives two_objects
@@ -170,15 +182,19 @@ stores_to_no_constant = refl
 
 -- ---- making and dying
 
-new_ones_come_last : (with_new two_objects (record { cells = []; kind = Local; align = 1; alive = true })).made ≡ two_objects.made ++ record { cells = []; kind = Local; align = 1; alive = true } ∷ []
+new_ones_come_last : (with_new two_objects (record { cells = []; kind = Local; align = 1; alive = true })).made
+    ≡ two_objects.made ++ record { cells = []; kind = Local; align = 1; alive = true } ∷ []
 new_ones_come_last = refl
 
 -- a dead object keeps its cells, and its number
-dies : (kill two_objects 1).made ≡ record { cells = bytes (1 ∷ 2 ∷ 3 ∷ 4 ∷ []); kind = Local; align = 4; alive = true } ∷ record { cells = bytes (5 ∷ []); kind = Heap; align = 16; alive = false } ∷ []
+dies : (kill two_objects 1).made ≡ record { cells = bytes (1 ∷ 2 ∷ 3 ∷ 4 ∷ []); kind = Local; align = 4; alive = true }
+    ∷ record { cells = bytes (5 ∷ []); kind = Heap; align = 16; alive = false } ∷ []
 dies = refl
 
 -- locals made since the scope began die; a heap object does not, nor what stood before
-scope_ends : (close_scope 0 two_objects).made ≡ record { cells = bytes (1 ∷ 2 ∷ 3 ∷ 4 ∷ []); kind = Local; align = 4; alive = false } ∷ record { cells = bytes (5 ∷ []); kind = Heap; align = 16; alive = true } ∷ []
+scope_ends : (close_scope 0 two_objects).made
+    ≡ record { cells = bytes (1 ∷ 2 ∷ 3 ∷ 4 ∷ []); kind = Local; align = 4; alive = false }
+    ∷ record { cells = bytes (5 ∷ []); kind = Heap; align = 16; alive = true } ∷ []
 scope_ends = refl
 
 scope_spares_what_stood_before : close_scope 1 two_objects ≡ two_objects

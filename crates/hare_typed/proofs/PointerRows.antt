@@ -7,7 +7,8 @@ use Rattle.hare_typed.specs.Pointers.{move, same_pointer}
 use Rattle.hare_typed.specs.Words.{Words, three, words, element_at, sliced, same_text, size_cells}
 use Rattle.hare_typed.proofs.Samples.{bytes, no_cells}
 
--- 0: a local of twelve bytes; 1: a dead local of four; 2: `abcd`; 3: `abcd` again, with two undefined cells behind; 4: an object of no bytes
+-- 0: a local of twelve bytes; 1: a dead local of four; 2: `abcd`; 3: `abcd` again, with two undefined cells behind; 4: an object of no
+-- bytes
 abbrev seen : Reading
 seen = reading record {
   made =
@@ -96,13 +97,15 @@ nothing_against_start = refl
 abbrev ints : Words
 ints = record { data_at = Address 0 0; length = 3; capacity = 3 }
 
-three_of_ints : three ints ≡ cells Nullable (Pointing (Address 0 0)) ++ bytes (3 ∷ 0 ∷ 0 ∷ 0 ∷ 0 ∷ 0 ∷ 0 ∷ 0 ∷ 3 ∷ 0 ∷ 0 ∷ 0 ∷ 0 ∷ 0 ∷ 0 ∷ 0 ∷ [])
+three_of_ints : three ints ≡ cells Nullable (Pointing (Address 0 0)) ++ bytes
+    (3 ∷ 0 ∷ 0 ∷ 0 ∷ 0 ∷ 0 ∷ 0 ∷ 0 ∷ 3 ∷ 0 ∷ 0 ∷ 0 ∷ 0 ∷ 0 ∷ 0 ∷ 0 ∷ [])
 three_of_ints = refl
 
 words_of_three : words (three ints) ≡ Gives ints
 words_of_three = refl
 
-words_of_null : words (three (record { data_at = Null; length = 0; capacity = 0 })) ≡ Gives (record { data_at = Null; length = 0; capacity = 0 })
+words_of_null : words (three (record { data_at = Null; length = 0; capacity = 0 }))
+    ≡ Gives (record { data_at = Null; length = 0; capacity = 0 })
 words_of_null = refl
 
 -- each word is read, also one that is not used
@@ -154,11 +157,13 @@ backwards = refl
 past_the_length : sliced seen ints 4 0 4 ≡ Aborts 0
 past_the_length = refl
 
-nothing_of_null : sliced seen (record { data_at = Null; length = 0; capacity = 0 }) 4 0 0 ≡ Gives (record { data_at = Null; length = 0; capacity = 0 })
+nothing_of_null : sliced seen (record { data_at = Null; length = 0; capacity = 0 }) 4 0 0
+    ≡ Gives (record { data_at = Null; length = 0; capacity = 0 })
 nothing_of_null = refl
 
 -- a length beyond the capacity is no fault: the capacity is counted modulo 2^64
-capacity_wraps_round : sliced seen (record { data_at = Address 0 0; length = 3; capacity = 0 }) 4 1 3 ≡ Gives (record { data_at = Address 0 4; length = 2; capacity = 18446744073709551615 })
+capacity_wraps_round : sliced seen (record { data_at = Address 0 0; length = 3; capacity = 0 }) 4 1 3
+    ≡ Gives (record { data_at = Address 0 4; length = 2; capacity = 18446744073709551615 })
 capacity_wraps_round = refl
 
 -- ---- strings

@@ -94,8 +94,19 @@ number-spells : (n : ℕ) (signed : Bool) (v : ℤ) → wrap v (8 * n) signed �
     number_spelled n signed (cells (Whole n signed) (Number v)) ≡ Some (Number v)
 number-spells n signed v h =
     let r : ℕ = residue (2 ^ (8 * n)) v in
-    let below : residue (2 ^ (8 * n)) v < 256 ^ n = subst (λ m. residue (2 ^ (8 * n)) v < m) (eight_bits n) (residue-below v (2 ^ (8 * n)) (modulus_some (8 * n))) in
-    rw (length-byte_cells (le_bytes n (residue (2 ^ (8 * n)) v)), length-le_bytes n (residue (2 ^ (8 * n)) v), same_lengths n, bytes_of-byte_cells (le_bytes n (residue (2 ^ (8 * n)) v)), le_number-le_bytes n (residue (2 ^ (8 * n)) v) below, wrap-residue v (8 * n) signed, h) refl
+    let below : residue (2 ^ (8 * n)) v < 256 ^ n =
+    subst (λ m. residue (2 ^ (8 * n)) v < m) (eight_bits n) (residue-below v (2 ^ (8 * n)) (modulus_some (8 * n))) in
+    rw (
+      length-byte_cells (le_bytes n (residue (2 ^ (8 * n)) v)),
+      length-le_bytes n
+          (residue (2 ^ (8 * n)) v),
+      same_lengths n,
+      bytes_of-byte_cells (le_bytes n (residue (2 ^ (8 * n)) v)),
+      le_number-le_bytes n
+          (residue (2 ^ (8 * n)) v) below,
+      wrap-residue v (8 * n) signed,
+      h,
+    ) refl
 
 -- what a number that is spelled is, and its cells
 record IsNumberOf (n : ℕ) (signed : Bool) (cs : List Cell) (v : Scalar) : Type 0 where
@@ -107,7 +118,8 @@ record IsNumberOf (n : ℕ) (signed : Bool) (cs : List Cell) (v : Scalar) : Type
 number-parts : (n : ℕ) (signed : Bool) (cs : List Cell) (v : Scalar) → number_spelled n signed cs ≡ Some v → IsNumberOf n signed cs v
 number-parts n signed cs v e = go (nat_eq (length cs) n) refl e
   where
-    found : (r : Option (List ℕ)) → bytes_of cs ≡ r → length cs ≡ n → option_map (λ bs. Number (wrap (pos (le_number bs)) (8 * n) signed)) r ≡ Some v → IsNumberOf n signed cs v
+    found : (r : Option (List ℕ)) → bytes_of cs ≡ r → length cs ≡ n →
+        option_map (λ bs. Number (wrap (pos (le_number bs)) (8 * n) signed)) r ≡ Some v → IsNumberOf n signed cs v
     found None f l g = absurd cc
     found (Some bs) f l g =
         let t : cs ≡ byte_cells bs = bytes_of-only cs bs f in
@@ -115,7 +127,9 @@ number-parts n signed cs v e = go (nat_eq (length cs) n) refl e
         let same : Number (wrap (pos (le_number bs)) (8 * n) signed) ≡ v = cc in
         record { bytes = bs; are_bytes = t; as_many = many; value = sym same }
 
-    go : (b : Bool) → nat_eq (length cs) n ≡ b → (if b then option_map (λ bs. Number (wrap (pos (le_number bs)) (8 * n) signed)) (bytes_of cs) else None) ≡ Some v → IsNumberOf n signed cs v
+    go : (b : Bool) → nat_eq (length cs) n ≡ b →
+        (if b then option_map (λ bs. Number (wrap (pos (le_number bs)) (8 * n) signed)) (bytes_of cs) else None) ≡ Some v →
+        IsNumberOf n signed cs v
     go false f g = absurd cc
     go true f g = let l : length cs ≡ n = grind (arith, nat_tests) in found (bytes_of cs) refl l g
 
@@ -127,11 +141,14 @@ number-only n signed cs v h e = go (number-parts n signed cs v e)
     go p =
         let bs = p.bytes in
         let small : All (λ b. b < 256) bs = All-byte_cells bs (subst AreCells p.are_bytes h) in
-        let below : le_number bs < 2 ^ (8 * n) = subst (λ m. le_number bs < m) (ap (λ k. 256 ^ k) p.as_many ∙ sym (eight_bits n)) (le_number-below bs small) in
-        let left : residue (2 ^ (8 * n)) (wrap (pos (le_number bs)) (8 * n) signed) ≡ le_number bs = residue-wrap (pos (le_number bs)) (8 * n) signed ∙ mod-eq_of_lt below in
+        let below : le_number bs < 2 ^ (8 * n) =
+        subst (λ m. le_number bs < m) (ap (λ k. 256 ^ k) p.as_many ∙ sym (eight_bits n)) (le_number-below bs small) in
+        let left : residue (2 ^ (8 * n)) (wrap (pos (le_number bs)) (8 * n) signed) ≡ le_number bs =
+        residue-wrap (pos (le_number bs)) (8 * n) signed ∙ mod-eq_of_lt below in
         let again : le_bytes n (le_number bs) ≡ bs = subst (λ k. le_bytes k (le_number bs) ≡ bs) p.as_many (le_bytes-le_number bs small) in
         let same : cs ≡ cells (Whole n signed) (Number (wrap (pos (le_number bs)) (8 * n) signed)) = p.are_bytes ∙ rw (left, again) refl in
-        subst (λ u. IsOfShape (Whole n signed) u × (cs ≡ cells (Whole n signed) u)) (sym p.value) (wrap-wrap (pos (le_number bs)) (8 * n) signed, same)
+        subst (λ u. IsOfShape (Whole n signed) u × (cs ≡ cells (Whole n signed) u)) (sym p.value)
+        (wrap-wrap (pos (le_number bs)) (8 * n) signed, same)
 
 -- ---- bools
 
@@ -146,14 +163,16 @@ bool-spells (negsuc n) h = absurd cc
 bool-only : (cs : List Cell) (v : Scalar) → bool_spelled cs ≡ Some v → IsOfShape Truth v × (cs ≡ cells Truth v)
 bool-only (cell.Byte b ∷ []) v e = zero_or (nat_eq b 0) refl e
   where
-    one_or : (t : Bool) → nat_eq b 1 ≡ t → (if t then Some (Number (pos 1)) else None) ≡ Some v → IsOfShape Truth v × (cell.Byte b ∷ [] ≡ cells Truth v)
+    one_or : (t : Bool) → nat_eq b 1 ≡ t → (if t then Some (Number (pos 1)) else None) ≡ Some v →
+        IsOfShape Truth v × (cell.Byte b ∷ [] ≡ cells Truth v)
     one_or false f g = absurd cc
     one_or true f g =
         let b_is : b ≡ 1 = grind (arith, nat_tests) in
         let v_is : Number (pos 1) ≡ v = cc in
         subst (λ u. IsOfShape Truth u × (cell.Byte b ∷ [] ≡ cells Truth u)) v_is (refl, ap (λ c. cell.Byte c ∷ []) b_is)
 
-    zero_or : (t : Bool) → nat_eq b 0 ≡ t → (if t then Some (Number (pos 0)) else (if nat_eq b 1 then Some (Number (pos 1)) else None)) ≡ Some v →
+    zero_or : (t : Bool) → nat_eq b 0 ≡ t → (if t then Some (Number (pos 0)) else (if nat_eq b 1 then Some (Number (pos 1)) else None))
+        ≡ Some v →
         IsOfShape Truth v × (cell.Byte b ∷ [] ≡ cells Truth v)
     zero_or false f g = one_or (nat_eq b 1) refl g
     zero_or true f g =
@@ -201,7 +220,8 @@ address-only : (cs : List Cell) (v : Scalar) → address_spelled cs ≡ Some v �
 address-only (cell.Fragment o d k ∷ cs) v e = long (nat_eq (length cs) 7) refl e
   where
     right : (t : Bool) → are_fragments o d 0 (cell.Fragment o d k ∷ cs) ≡ t → length cs ≡ 7 →
-        (if t then Some (Pointing (Address o d)) else None) ≡ Some v → IsOfShape Reference v × (cell.Fragment o d k ∷ cs ≡ cells Reference v)
+        (if t then Some (Pointing (Address o d)) else None) ≡ Some v →
+        IsOfShape Reference v × (cell.Fragment o d k ∷ cs ≡ cells Reference v)
     right false f l g = absurd cc
     right true f l g =
         let v_is : Pointing (Address o d) ≡ v = cc in
@@ -233,7 +253,8 @@ null-only cs v h e = long (nat_eq (length cs) 8) refl e
         subst (λ u. IsOfShape Nullable u × (cs ≡ cells Nullable u)) v_is (tt, s ∙ sym (ap byte_cells again))
 
     bytes : (r : Option (List ℕ)) → bytes_of cs ≡ r → length cs ≡ 8 →
-        option_and_then (λ bs. if nat_eq (le_number bs) 0 then Some (Pointing Null) else None) r ≡ Some v → IsOfShape Nullable v × (cs ≡ cells Nullable v)
+        option_and_then (λ bs. if nat_eq (le_number bs) 0 then Some (Pointing Null) else None) r ≡ Some v →
+        IsOfShape Nullable v × (cs ≡ cells Nullable v)
     bytes None f l g = absurd cc
     bytes (Some bs) f l g =
         let s : cs ≡ byte_cells bs = bytes_of-only cs bs f in
@@ -241,13 +262,15 @@ null-only cs v h e = long (nat_eq (length cs) 8) refl e
         zeros bs (nat_eq (le_number bs) 0) refl s many g
 
     long : (t : Bool) → nat_eq (length cs) 8 ≡ t →
-        (if t then option_and_then (λ bs. if nat_eq (le_number bs) 0 then Some (Pointing Null) else None) (bytes_of cs) else None) ≡ Some v →
+        (if t then option_and_then (λ bs. if nat_eq (le_number bs) 0 then Some (Pointing Null) else None) (bytes_of cs) else None)
+        ≡ Some v →
         IsOfShape Nullable v × (cs ≡ cells Nullable v)
     long false f g = absurd cc
     long true f g = let l : length cs ≡ 8 = grind (arith, nat_tests) in bytes (bytes_of cs) refl l g
 
 -- a reference is a pointer that is not null
-nullable-of_reference : (cs : List Cell) (v : Scalar) → IsOfShape Reference v × (cs ≡ cells Reference v) → IsOfShape Nullable v × (cs ≡ cells Nullable v)
+nullable-of_reference : (cs : List Cell) (v : Scalar) → IsOfShape Reference v × (cs ≡ cells Reference v) →
+    IsOfShape Nullable v × (cs ≡ cells Nullable v)
 nullable-of_reference cs (Number v) p = absurd p.0
 nullable-of_reference cs (Pointing Null) p = absurd p.0
 nullable-of_reference cs (Pointing (Address o d)) p = (tt, p.1)
@@ -256,7 +279,8 @@ nullable-only : (cs : List Cell) (v : Scalar) → AreCells cs → first_spelled 
     IsOfShape Nullable v × (cs ≡ cells Nullable v)
 nullable-only cs v h e = go (address_spelled cs) refl e
   where
-    go : (r : Option Scalar) → address_spelled cs ≡ r → first_spelled r (null_spelled cs) ≡ Some v → IsOfShape Nullable v × (cs ≡ cells Nullable v)
+    go : (r : Option Scalar) → address_spelled cs ≡ r → first_spelled r (null_spelled cs) ≡ Some v →
+        IsOfShape Nullable v × (cs ≡ cells Nullable v)
     go None f g = null-only cs v h g
     go (Some u) f g = nullable-of_reference cs v (address-only cs v (f ∙ g))
 
@@ -280,7 +304,8 @@ cells_spell = record { spells = all_spell; only = no_other }
     all_spell Nullable (Pointing Null) h = refl
     all_spell Nullable (Pointing (Address o d)) h = nullable-spells o d
 
-    no_other : (shape : Shape) (cs : List Cell) (v : Scalar) → AreCells cs → spelled shape cs ≡ Some v → IsOfShape shape v × (cs ≡ cells shape v)
+    no_other : (shape : Shape) (cs : List Cell) (v : Scalar) → AreCells cs → spelled shape cs ≡ Some v →
+        IsOfShape shape v × (cs ≡ cells shape v)
     no_other (Whole n signed) cs v h e = number-only n signed cs v h e
     no_other Truth cs v h e = bool-only cs v e
     no_other Reference cs v h e = address-only cs v e

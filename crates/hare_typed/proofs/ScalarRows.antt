@@ -186,5 +186,7 @@ fragments_of_two_objects_spell_nothing = refl
 fragments_of_two_offsets_spell_nothing : spelled Reference (seven 5 12 ++ cell.Fragment 5 11 7 ∷ []) ≡ None
 fragments_of_two_offsets_spell_nothing = refl
 
-fragments_out_of_order_spell_nothing : spelled Reference (cell.Fragment 5 12 1 ∷ cell.Fragment 5 12 0 ∷ cell.Fragment 5 12 2 ∷ cell.Fragment 5 12 3 ∷ cell.Fragment 5 12 4 ∷ cell.Fragment 5 12 5 ∷ cell.Fragment 5 12 6 ∷ cell.Fragment 5 12 7 ∷ []) ≡ None
+fragments_out_of_order_spell_nothing : spelled Reference
+    (cell.Fragment 5 12 1 ∷ cell.Fragment 5 12 0 ∷ cell.Fragment 5 12 2 ∷ cell.Fragment 5 12 3 ∷ cell.Fragment 5 12 4
+    ∷ cell.Fragment 5 12 5 ∷ cell.Fragment 5 12 6 ∷ cell.Fragment 5 12 7 ∷ []) ≡ None
 fragments_out_of_order_spell_nothing = refl

@@ -44,7 +44,8 @@ half_a_tag = refl
 payload_of_int : payload types void_or_int int (bytes (1 ∷ 0 ∷ 0 ∷ 0 ∷ 5 ∷ 0 ∷ 0 ∷ 0 ∷ [])) ≡ Gives (bytes (5 ∷ 0 ∷ 0 ∷ 0 ∷ []))
 payload_of_int = refl
 
-payload_at_eight : payload types u8_or_size u8 (bytes (7 ∷ 0 ∷ 0 ∷ 0 ∷ 1 ∷ 1 ∷ 1 ∷ 1 ∷ 9 ∷ 2 ∷ 2 ∷ 2 ∷ 2 ∷ 2 ∷ 2 ∷ 2 ∷ [])) ≡ Gives (bytes (9 ∷ []))
+payload_at_eight : payload types u8_or_size u8 (bytes (7 ∷ 0 ∷ 0 ∷ 0 ∷ 1 ∷ 1 ∷ 1 ∷ 1 ∷ 9 ∷ 2 ∷ 2 ∷ 2 ∷ 2 ∷ 2 ∷ 2 ∷ 2 ∷ []))
+    ≡ Gives (bytes (9 ∷ []))
 payload_at_eight = refl
 
 undefined_payload : payload types void_or_int int (bytes (1 ∷ 0 ∷ 0 ∷ 0 ∷ []) ++ no_cells 4) ≡ IsUndefined 3
@@ -72,13 +73,15 @@ constant_finds_its_type = refl
 constant_of_a_name : coerced types (kept.Iconst (pos 300)) (by 3 named_int) [] ≡ Gives (bytes (44 ∷ 1 ∷ 0 ∷ 0 ∷ []))
 constant_of_a_name = refl
 
-widened_by_its_sign : coerced types (kept.Of i8) (by 4 i64) (bytes (128 ∷ [])) ≡ Gives (bytes (128 ∷ 255 ∷ 255 ∷ 255 ∷ 255 ∷ 255 ∷ 255 ∷ 255 ∷ []))
+widened_by_its_sign : coerced types (kept.Of i8) (by 4 i64) (bytes (128 ∷ []))
+    ≡ Gives (bytes (128 ∷ 255 ∷ 255 ∷ 255 ∷ 255 ∷ 255 ∷ 255 ∷ 255 ∷ []))
 widened_by_its_sign = refl
 
 widened_without : coerced types (kept.Of u8) (by 4 u16) (bytes (128 ∷ [])) ≡ Gives (bytes (128 ∷ 0 ∷ []))
 widened_without = refl
 
-pointer_stays : coerced types (kept.Of pointer) (by 5 nullable) (cells Nullable (Pointing (Address 3 4))) ≡ Gives (cells Nullable (Pointing (Address 3 4)))
+pointer_stays : coerced types (kept.Of pointer) (by 5 nullable) (cells Nullable (Pointing (Address 3 4)))
+    ≡ Gives (cells Nullable (Pointing (Address 3 4)))
 pointer_stays = refl
 
 null_has_eight : coerced types kept.Null (by 6 nullable) [] ≡ Gives (bytes (0 ∷ 0 ∷ 0 ∷ 0 ∷ 0 ∷ 0 ∷ 0 ∷ 0 ∷ []))
@@ -109,7 +112,8 @@ slice_joins_as_it_is = refl
 
 -- ---- coercions to unions
 
-member_joins : coerced types (kept.Of int) (by 9 void_or_int) (bytes (7 ∷ 0 ∷ 0 ∷ 0 ∷ [])) ≡ Gives (bytes (1 ∷ 0 ∷ 0 ∷ 0 ∷ 7 ∷ 0 ∷ 0 ∷ 0 ∷ []))
+member_joins : coerced types (kept.Of int) (by 9 void_or_int) (bytes (7 ∷ 0 ∷ 0 ∷ 0 ∷ []))
+    ≡ Gives (bytes (1 ∷ 0 ∷ 0 ∷ 0 ∷ 7 ∷ 0 ∷ 0 ∷ 0 ∷ []))
 member_joins = refl
 
 -- a whole number without a suffix joins as its default type, int
@@ -117,29 +121,37 @@ default_joins : coerced types (kept.Iconst (pos 7)) (by 9 void_or_int) [] ≡ Gi
 default_joins = refl
 
 -- int is no member, and size alone holds 300
-the_one_that_holds_it : coerced types (kept.Iconst (pos 300)) (by 9 u8_or_size) [] ≡ Gives (bytes (6 ∷ 0 ∷ 0 ∷ 0 ∷ []) ++ no_cells 4 ++ bytes (44 ∷ 1 ∷ 0 ∷ 0 ∷ 0 ∷ 0 ∷ 0 ∷ 0 ∷ []))
+the_one_that_holds_it : coerced types (kept.Iconst (pos 300)) (by 9 u8_or_size) []
+    ≡ Gives (bytes (6 ∷ 0 ∷ 0 ∷ 0 ∷ []) ++ no_cells 4 ++ bytes (44 ∷ 1 ∷ 0 ∷ 0 ∷ 0 ∷ 0 ∷ 0 ∷ 0 ∷ []))
 the_one_that_holds_it = refl
 
-null_joins : coerced types kept.Null (by 9 void_or_nullable) [] ≡ Gives (bytes (4 ∷ 0 ∷ 0 ∷ 0 ∷ []) ++ no_cells 4 ++ bytes (0 ∷ 0 ∷ 0 ∷ 0 ∷ 0 ∷ 0 ∷ 0 ∷ 0 ∷ []))
+null_joins : coerced types kept.Null (by 9 void_or_nullable) []
+    ≡ Gives (bytes (4 ∷ 0 ∷ 0 ∷ 0 ∷ []) ++ no_cells 4 ++ bytes (0 ∷ 0 ∷ 0 ∷ 0 ∷ 0 ∷ 0 ∷ 0 ∷ 0 ∷ []))
 null_joins = refl
 
-pointer_joins : coerced types (kept.Of pointer) (by 9 void_or_nullable) (cells Nullable (Pointing (Address 3 4))) ≡ Gives (bytes (4 ∷ 0 ∷ 0 ∷ 0 ∷ []) ++ no_cells 4 ++ cells Nullable (Pointing (Address 3 4)))
+pointer_joins : coerced types (kept.Of pointer) (by 9 void_or_nullable) (cells Nullable (Pointing (Address 3 4)))
+    ≡ Gives (bytes (4 ∷ 0 ∷ 0 ∷ 0 ∷ []) ++ no_cells 4 ++ cells Nullable (Pointing (Address 3 4)))
 pointer_joins = refl
 
-slice_joins : coerced types (kept.Of three_ints) (by 9 void_or_slice) (three (record { data_at = Address 3 0; length = 3; capacity = 3 })) ≡ Gives (bytes (5 ∷ 0 ∷ 0 ∷ 0 ∷ []) ++ no_cells 4 ++ three (record { data_at = Address 3 0; length = 3; capacity = 3 }))
+slice_joins : coerced types (kept.Of three_ints) (by 9 void_or_slice)
+    (three (record { data_at = Address 3 0; length = 3; capacity = 3 }))
+    ≡ Gives (bytes (5 ∷ 0 ∷ 0 ∷ 0 ∷ []) ++ no_cells 4 ++ three (record { data_at = Address 3 0; length = 3; capacity = 3 }))
 slice_joins = refl
 
 -- a union goes over to one with more members: the payload moves from 4 to 8, and all else is undefined
-union_joins : coerced types (kept.Of void_or_int) (by 9 void_str_or_int) (bytes (1 ∷ 0 ∷ 0 ∷ 0 ∷ 7 ∷ 0 ∷ 0 ∷ 0 ∷ [])) ≡ Gives (bytes (1 ∷ 0 ∷ 0 ∷ 0 ∷ []) ++ no_cells 4 ++ bytes (7 ∷ 0 ∷ 0 ∷ 0 ∷ []) ++ no_cells 20)
+union_joins : coerced types (kept.Of void_or_int) (by 9 void_str_or_int) (bytes (1 ∷ 0 ∷ 0 ∷ 0 ∷ 7 ∷ 0 ∷ 0 ∷ 0 ∷ []))
+    ≡ Gives (bytes (1 ∷ 0 ∷ 0 ∷ 0 ∷ []) ++ no_cells 4 ++ bytes (7 ∷ 0 ∷ 0 ∷ 0 ∷ []) ++ no_cells 20)
 union_joins = refl
 
-union_joins_by_its_tag : coerced types (kept.Of void_or_int) (by 9 void_str_or_int) (bytes (3 ∷ 0 ∷ 0 ∷ 0 ∷ 7 ∷ 0 ∷ 0 ∷ 0 ∷ [])) ≡ IsUndefined 8
+union_joins_by_its_tag : coerced types (kept.Of void_or_int) (by 9 void_str_or_int) (bytes (3 ∷ 0 ∷ 0 ∷ 0 ∷ 7 ∷ 0 ∷ 0 ∷ 0 ∷ []))
+    ≡ IsUndefined 8
 union_joins_by_its_tag = refl
 
 union_without_a_tag : coerced types (kept.Of void_or_int) (by 9 void_str_or_int) (no_cells 8) ≡ IsUndefined 3
 union_without_a_tag = refl
 
-union_reads_its_payload : coerced types (kept.Of void_or_int) (by 9 void_str_or_int) (bytes (1 ∷ 0 ∷ 0 ∷ 0 ∷ []) ++ no_cells 4) ≡ IsUndefined 3
+union_reads_its_payload : coerced types (kept.Of void_or_int) (by 9 void_str_or_int) (bytes (1 ∷ 0 ∷ 0 ∷ 0 ∷ []) ++ no_cells 4)
+    ≡ IsUndefined 3
 union_reads_its_payload = refl
 
 -- ---- numbers of values

@@ -1,5 +1,5 @@
--- What a node does, as data. A node touches what is round it in the ways of Act and in no other, so that what holds of these holds of each kind
--- of node.
+-- What a node does, as data. A node touches what is round it in the ways of Act and in no other, so that what holds of these holds of
+-- each kind of node.
 use Rattle.std.specs.Prelude.{ℕ, List}
 use Rattle.hare_typed.specs.declared.cell.Cell.{Cell}
 use Rattle.hare_typed.specs.Typed.{TypedNode}

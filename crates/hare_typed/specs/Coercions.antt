@@ -125,7 +125,8 @@ sliced_element s f c = let i = inner s f c in element_by s i.row i.to
 
 -- ---- the cells of the value at its site
 
--- by each row but the one to unions: a number at the type, null, or the value as it is; an array that becomes a slice is its three words already
+-- by each row but the one to unions: a number at the type, null, or the value as it is; an array that becomes a slice is its three words
+-- already
 abbrev pub coerced_by : Store → Ty → ℕ → ℕ → List Cell → List Cell
 coerced_by s f r t cs =
     if nat_eq r 3 || nat_eq r 4 then number_cells_at s t (number_of_value s f cs)

@@ -119,7 +119,8 @@ abbrev pub ticks_of_kids : TypedNodes → ℕ
 ticks_of_kids typed_none = 0
 ticks_of_kids (typed_more t ts) = ticks_beside (own_kind t) + ticks_of_kids ts
 
--- 1 for each kid that only stands for a token or for a part that is left out, and 2 for a binding with its own; those of a case count nothing
+-- 1 for each kid that only stands for a token or for a part that is left out, and 2 for a binding with its own; those of a case count
+-- nothing
 abbrev pub ticks_of_parts : Kind → TypedNodes → ℕ
 ticks_of_parts kind.Case ts = 0
 ticks_of_parts kind.SwitchCase ts = 0

@@ -25,8 +25,8 @@ extent_of o = max 1 (length o.cells)
 
 -- ---- the objects of a run
 
--- The objects, by number: a new one comes last, and none is ever taken out. While a constant is computed there is no run; then static objects
--- stand beside the list, under the names that constants have for them.
+-- The objects, by number: a new one comes last, and none is ever taken out. While a constant is computed there is no run; then static
+-- objects stand beside the list, under the names that constants have for them.
 pub record Objects : Type 0 where
   pub made : List Object
   pub named : List (ℕ × Object)
@@ -62,8 +62,8 @@ abbrev pub first_act : List (Bool × ℕ) → Option ℕ
 first_act [] = None
 first_act (t ∷ ts) = if t.0 then Some t.1 else first_act ts
 
--- what an access of some bytes to an object does wrong: U1 where it is dead or the access goes past its cells, U4 where the offset is no multiple
--- of the alignment or the object's alignment is less, U2 where it stores to a constant
+-- what an access of some bytes to an object does wrong: U1 where it is dead or the access goes past its cells, U4 where the offset is no
+-- multiple of the alignment or the object's alignment is less, U2 where it stores to a constant
 abbrev pub wrong_at : Access → (offset : ℕ) → Option Object → Option ℕ
 wrong_at a d None = Some 1
 wrong_at a d (Some o) =

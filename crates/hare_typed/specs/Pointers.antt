@@ -28,7 +28,8 @@ abbrev pub is_end : Option Object → ℕ → Bool
 is_end None d = false
 is_end (Some b) d = nat_eq d (extent_of b)
 
--- whether two pointers that are not null and name live objects are equal; U6 where they name different objects and one is at the end of its own
+-- whether two pointers that are not null and name live objects are equal; U6 where they name different objects and one is at the end of
+-- its own
 abbrev pub same_address : Reading → (o d p e : ℕ) → Answer Bool
 same_address r o d p e =
     if nat_eq o p then Gives (nat_eq d e)

@@ -53,7 +53,8 @@ pub record SameStatics (w : World) (s s' : State) : Type 0 where
 -- From s to r and from s' to r' the same was done: the outcomes are equal, the same objects were made, and as many ticks were added.
 pub record DoesTheSame (s s' : State) (r r' : Result) : Type 0 where
   pub outcome : r.0 ≡ r'.0
-  pub made : (new : List Object) × (r.1.memory.objects.made ≡ s.memory.objects.made ++ new) × (r'.1.memory.objects.made ≡ s'.memory.objects.made ++ new)
+  pub made : (new : List Object) × (r.1.memory.objects.made ≡ s.memory.objects.made ++ new)
+      × (r'.1.memory.objects.made ≡ s'.memory.objects.made ++ new)
   pub named : r.1.memory.objects.named ≡ r'.1.memory.objects.named
   pub ticks : (n : ℕ) × (r.1.ticks ≡ s.ticks + n) × (r'.1.ticks ≡ s'.ticks + n)
 

@@ -61,7 +61,8 @@ address_spelled _ = None
 -- eight zero bytes
 abbrev pub null_spelled : List Cell → Option Scalar
 null_spelled cs =
-    if nat_eq (length cs) 8 then option_and_then (λ bs. if nat_eq (le_number bs) 0 then Some (Pointing Null) else None) (bytes_of cs) else None
+    if nat_eq (length cs) 8 then option_and_then (λ bs. if nat_eq (le_number bs) 0 then Some (Pointing Null) else None) (bytes_of cs)
+    else None
 
 abbrev pub first_spelled : Option Scalar → Option Scalar → Option Scalar
 first_spelled None s = s

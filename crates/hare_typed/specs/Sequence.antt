@@ -1,4 +1,5 @@
--- Kids one behind another. An outcome that is no value, or no place where one was asked for, is at once the node's own, and no further kid runs.
+-- Kids one behind another. An outcome that is no value, or no place where one was asked for, is at once the node's own, and no further
+-- kid runs.
 use Rattle.std.specs.Prelude.{ℕ, zero, suc, List, [], ◌∷◌}
 use Rattle.hare_typed.specs.declared.cell.Cell.{Cell}
 use Rattle.hare_typed.specs.Scalars.{Pointer}

@@ -69,7 +69,8 @@ sliced r w n x y =
 
 -- ---- strings
 
--- whether two lists of so many bytes are equal, which the cells of both are: first both are accessed, and then U3 where a cell of either is no byte
+-- whether two lists of so many bytes are equal, which the cells of both are: first both are accessed, and then U3 where a cell of either
+-- is no byte
 abbrev pub same_bytes : Reading → Pointer → Pointer → ℕ → Answer Bool
 same_bytes r p q n =
     read_cells r p n 1 then λ cs.

@@ -55,14 +55,16 @@ quiet_values i (suc n) sc k h = quiet_value i sc _ (λ c. quiet_values (suc i) n
 
 -- ---- the kinds
 
-quiet_numbers : (w : World) (t : TypedNode) (a b : List Cell) (f : ℤ → ℤ → Answer ℤ) (k : List Cell → Act) → QuietBehind k → IsQuiet (with_numbers w t a b f k)
+quiet_numbers : (w : World) (t : TypedNode) (a b : List Cell) (f : ℤ → ℤ → Answer ℤ) (k : List Cell → Act) → QuietBehind k →
+    IsQuiet (with_numbers w t a b f k)
 quiet_numbers w t a b f k h = quiet_if (is_iconst (own_type t)) _ _ (h []) (quiet_answered w (head_of t) _ _ (λ v. h _))
 
 quiet_texts : (w : World) (t : TypedNode) (v u : Words) (k : Bool → Act) → ((x : Bool) → IsQuiet (k x)) → IsQuiet (with_texts w t v u k)
 quiet_texts w t v u k h =
     ticks _ _ (looks _ (λ m. quiet_answered w (head_of t) (same_text (reading m.objects) v u) k h))
 
-quiet_equality : (w : World) (t : TypedNode) (e : Equality) (a b : List Cell) (k : Bool → Act) → ((x : Bool) → IsQuiet (k x)) → IsQuiet (with_equality w t e a b k)
+quiet_equality : (w : World) (t : TypedNode) (e : Equality) (a b : List Cell) (k : Bool → Act) → ((x : Bool) → IsQuiet (k x)) →
+    IsQuiet (with_equality w t e a b k)
 quiet_equality w t OfNumbers a b k h = h _
 quiet_equality w t OfPointers a b k h = looks _ (λ m. quiet_answered w (head_of t) _ k h)
 quiet_equality w t OfTexts a b k h =
@@ -95,7 +97,8 @@ quiet_form w t sc kind.Len k h = quiet_value 0 sc _ (λ c. quiet_if _ _ _ (h _) 
 quiet_form w t sc kind.Addr k h = quiet_place_of 0 sc _ (λ p. h _)
 quiet_form w t sc _ k h = h []
 
-quiet_place : (w : World) (t : TypedNode) (sc : Scope) (x : Kind) (k : Pointer → Act) → ((p : Pointer) → IsQuiet (k p)) → IsQuiet (constant_place w t sc x k)
+quiet_place : (w : World) (t : TypedNode) (sc : Scope) (x : Kind) (k : Pointer → Act) → ((p : Pointer) → IsQuiet (k p)) →
+    IsQuiet (constant_place w t sc x k)
 quiet_place w t sc kind.Path k h = h _
 quiet_place w t sc kind.Paren k h = quiet_place_of 0 sc k h
 quiet_place w t sc _ k h = h Null
@@ -105,7 +108,8 @@ quiet_place w t sc _ k h = h Null
 quiet_coercion : (w : World) (t : TypedNode) (cs : List Cell) (k : List Cell → Act) → QuietBehind k → IsQuiet (with_coercion w t cs k)
 quiet_coercion w t cs k h = quiet_answered w (head_of t) _ k h
 
-quiet_coerced_from : (w : World) (t : TypedNode) (sc : Scope) (cs : List Cell) (x : Option ℕ) (k : List Cell → Act) → QuietBehind k → IsQuiet (coerced_from w t sc cs x k)
+quiet_coerced_from : (w : World) (t : TypedNode) (sc : Scope) (cs : List Cell) (x : Option ℕ) (k : List Cell → Act) → QuietBehind k →
+    IsQuiet (coerced_from w t sc cs x k)
 quiet_coerced_from w t sc cs None k h = quiet_coercion w t cs k h
 quiet_coerced_from w t sc cs (Some x) k h = makes _ _ _ (λ o. quiet_coercion w t _ k h)
 
@@ -116,29 +120,36 @@ QuietForm f = (k : List Cell → Act) → QuietBehind k → IsQuiet (f k)
 abbrev pub QuietPlace : PlaceForm → Type 0
 QuietPlace f = (k : Pointer → Act) → ((p : Pointer) → IsQuiet (k p)) → IsQuiet (f k)
 
-quiet_by_value : (w : World) (t : TypedNode) (sc : Scope) (f : ValueForm) (k : List Cell → Act) → QuietForm f → QuietBehind k → IsQuiet (by_value w t sc f k)
+quiet_by_value : (w : World) (t : TypedNode) (sc : Scope) (f : ValueForm) (k : List Cell → Act) → QuietForm f → QuietBehind k →
+    IsQuiet (by_value w t sc f k)
 quiet_by_value w t sc f k q h = ticks _ _ (q _ (λ cs. quiet_coerced_from w t sc cs _ k h))
 
 quiet_by_reading : (w : World) (t : TypedNode) (sc : Scope) (f : PlaceForm) → QuietPlace f → IsQuiet (by_reading w t sc f)
 quiet_by_reading w t sc f q =
     ticks _ _ (q _ (λ p. looks _ (λ m. quiet_answered w (head_of t) _ _ (λ cs. quiet_coercion w t cs gives (λ ds. ends _)))))
 
-quiet_place_as_value : (w : World) (t : TypedNode) (sc : Scope) (x : Kind) (f : ValueForm) (g : PlaceForm) → QuietForm f → QuietPlace g → IsQuiet (place_as_value w t sc x f g)
+quiet_place_as_value : (w : World) (t : TypedNode) (sc : Scope) (x : Kind) (f : ValueForm) (g : PlaceForm) → QuietForm f → QuietPlace g →
+    IsQuiet (place_as_value w t sc x f g)
 quiet_place_as_value w t sc kind.Paren f g p q = quiet_by_value w t sc f gives p (λ cs. ends _)
 quiet_place_as_value w t sc _ f g p q = quiet_by_reading w t sc g q
 
-quiet_place_in_mode : (w : World) (t : TypedNode) (mode : Mode) (sc : Scope) (f : ValueForm) (g : PlaceForm) → QuietForm f → QuietPlace g → IsQuiet (place_in_mode w t mode sc f g)
+quiet_place_in_mode : (w : World) (t : TypedNode) (mode : Mode) (sc : Scope) (f : ValueForm) (g : PlaceForm) → QuietForm f →
+    QuietPlace g → IsQuiet (place_in_mode w t mode sc f g)
 quiet_place_in_mode w t AsPlace sc f g p q = ticks _ _ (q _ (λ r. ends _))
 quiet_place_in_mode w t AsValue sc f g p q =
-    quiet_if (makes_slice w.types t) _ _ (ticks _ _ (q _ (λ r. quiet_coercion w t _ gives (λ cs. ends _)))) (quiet_place_as_value w t sc (own_kind t) f g p q)
+    quiet_if (makes_slice w.types t) _ _ (ticks _ _ (q _ (λ r. quiet_coercion w t _ gives (λ cs. ends _))))
+    (quiet_place_as_value w t sc (own_kind t) f g p q)
 
-quiet_value_in_mode : (w : World) (t : TypedNode) (mode : Mode) (sc : Scope) (f : ValueForm) → QuietForm f → IsQuiet (value_in_mode w t mode sc f)
+quiet_value_in_mode : (w : World) (t : TypedNode) (mode : Mode) (sc : Scope) (f : ValueForm) → QuietForm f →
+    IsQuiet (value_in_mode w t mode sc f)
 quiet_value_in_mode w t AsValue sc f p = quiet_by_value w t sc f gives p (λ cs. ends _)
 quiet_value_in_mode w t AsPlace sc f p = quiet_by_value w t sc f _ p (λ cs. makes _ _ _ (λ o. ends _))
 
-pub quiet_evaluated : (w : World) (t : TypedNode) (mode : Mode) (sc : Scope) (f : ValueForm) (g : PlaceForm) → QuietForm f → QuietPlace g → IsQuiet (evaluated w t mode sc f g)
+pub quiet_evaluated : (w : World) (t : TypedNode) (mode : Mode) (sc : Scope) (f : ValueForm) (g : PlaceForm) → QuietForm f →
+    QuietPlace g → IsQuiet (evaluated w t mode sc f g)
 quiet_evaluated w t mode sc f g p q =
-    quiet_if (not (is_evaluated (own_kind t))) _ _ (ends _) (quiet_if (is_place w.types t) _ _ (quiet_place_in_mode w t mode sc f g p q) (quiet_value_in_mode w t mode sc f p))
+    quiet_if (not (is_evaluated (own_kind t))) _ _ (ends _)
+    (quiet_if (is_place w.types t) _ _ (quiet_place_in_mode w t mode sc f g p q) (quiet_value_in_mode w t mode sc f p))
 
 pub quiet_node : (w : World) (t : TypedNode) (mode : Mode) (sc : Scope) → IsQuiet (constant_node w t mode sc)
 quiet_node w t mode sc = quiet_evaluated w t mode sc _ _ (quiet_form w t sc (own_kind t)) (quiet_place w t sc (own_kind t))

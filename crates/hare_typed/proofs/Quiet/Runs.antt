@@ -33,8 +33,16 @@ more_behind xs ys zs new newer e f = f ∙ ap (λ l. l ++ newer) e ∙ append_as
 pub Keeps-trans : (s t u : State) → Keeps s t → Keeps t u → Keeps s u
 Keeps-trans s t u k l =
     record {
-      made = (k.made.0 ++ l.made.0, more_behind s.memory.objects.made t.memory.objects.made u.memory.objects.made k.made.0 l.made.0 k.made.1 l.made.1);
-      named = (k.named.0 ++ l.named.0, more_behind s.memory.objects.named t.memory.objects.named u.memory.objects.named k.named.0 l.named.0 k.named.1 l.named.1);
+      made = (
+        k.made.0 ++ l.made.0,
+        more_behind s.memory.objects.made t.memory.objects.made u.memory.objects.made k.made.0 l.made.0
+            k.made.1 l.made.1,
+      );
+      named = (
+        k.named.0 ++ l.named.0,
+        more_behind s.memory.objects.named t.memory.objects.named u.memory.objects.named k.named.0
+            l.named.0 k.named.1 l.named.1,
+      );
       live = l.live ∙ k.live;
       taken = l.taken ∙ k.taken;
       stack = l.stack ∙ k.stack;
@@ -78,7 +86,8 @@ Keeps-tick s n =
 abbrev KeepsAll : Meaning → Type 0
 KeepsAll m = (mode : Mode) (sc : Scope) (s : State) → Keeps s (m mode sc s).1
 
-after-keeps : (s : State) (r : Result) (go : Outcome → State → Result) → Keeps s r.1 → ((o : Outcome) (s' : State) → Keeps s' (go o s').1) → Keeps s (after r go).1
+after-keeps : (s : State) (r : Result) (go : Outcome → State → Result) → Keeps s r.1 →
+    ((o : Outcome) (s' : State) → Keeps s' (go o s').1) → Keeps s (after r go).1
 after-keeps s (Spent, s') go k h = k
 after-keeps s (o, s') go k h = Keeps-trans s s' _ k (h o s')
 
@@ -119,7 +128,8 @@ module _ (w : World) where
   mutual
     node-keeps : (less : Tasks) (t : TypedNode) → KeepsAll (node_act (constant_forms w) less t)
     node-keeps less (marked h m ts) mode sc s =
-        act-keeps (record { kid = kid_act (constant_forms w) less ts; part = part_act (constant_forms w) less ts }) less (kids-keep less ts) (constant_node w (marked h m ts) mode sc) (quiet_node w (marked h m ts) mode sc) s
+        act-keeps (record { kid = kid_act (constant_forms w) less ts; part = part_act (constant_forms w) less ts }) less
+        (kids-keep less ts) (constant_node w (marked h m ts) mode sc) (quiet_node w (marked h m ts) mode sc) s
 
     kids-keep : (less : Tasks) (ts : TypedNodes) (i : ℕ) → KeepsAll (kid_act (constant_forms w) less ts i)
     kids-keep less typed_none i mode sc s = Keeps-refl s
@@ -129,9 +139,12 @@ module _ (w : World) where
   mutual
     node-same : (less less' : Tasks) (t : TypedNode) → Same (node_act (constant_forms w) less t) (node_act (constant_forms w) less' t)
     node-same less less' (marked h m ts) mode sc s =
-        act-same (record { kid = kid_act (constant_forms w) less ts; part = part_act (constant_forms w) less ts }) (record { kid = kid_act (constant_forms w) less' ts; part = part_act (constant_forms w) less' ts }) less less' (kids-same less less' ts) (constant_node w (marked h m ts) mode sc) (quiet_node w (marked h m ts) mode sc) s
+        act-same (record { kid = kid_act (constant_forms w) less ts; part = part_act (constant_forms w) less ts })
+        (record { kid = kid_act (constant_forms w) less' ts; part = part_act (constant_forms w) less' ts }) less less'
+        (kids-same less less' ts) (constant_node w (marked h m ts) mode sc) (quiet_node w (marked h m ts) mode sc) s
 
-    kids-same : (less less' : Tasks) (ts : TypedNodes) (i : ℕ) → Same (kid_act (constant_forms w) less ts i) (kid_act (constant_forms w) less' ts i)
+    kids-same : (less less' : Tasks) (ts : TypedNodes) (i : ℕ) →
+        Same (kid_act (constant_forms w) less ts i) (kid_act (constant_forms w) less' ts i)
     kids-same less less' typed_none i mode sc s = refl
     kids-same less less' (typed_more t ts) zero mode sc s = node-same less less' t mode sc s
     kids-same less less' (typed_more t ts) (suc i) mode sc s = kids-same less less' ts i mode sc s

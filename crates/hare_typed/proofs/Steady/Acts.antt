@@ -51,7 +51,8 @@ module _ (w : World) (b : ℕ) where
     pub outcome : r.0 ≡ r'.0
     pub points : PointsOutcome r.0
     pub alike : Alike r.1 r'.1
-    pub made : (new : List Object) × (r.1.memory.objects.made ≡ s.memory.objects.made ++ new) × (r'.1.memory.objects.made ≡ s'.memory.objects.made ++ new)
+    pub made : (new : List Object) × (r.1.memory.objects.made ≡ s.memory.objects.made ++ new)
+        × (r'.1.memory.objects.made ≡ s'.memory.objects.made ++ new)
     pub ticks : (n : ℕ) × (r.1.ticks ≡ s.ticks + n) × (r'.1.ticks ≡ s'.ticks + n)
 
   -- what a kid gives in one mode does so
@@ -73,9 +74,11 @@ module _ (w : World) (b : ℕ) where
   pub data Steady (ks : Kids) : Act → Type 0 where
     ends : (o : Outcome) → PointsOutcome o → Steady ks (end o)
     looks : (f : Memory → Act) → ((m m' : Memory) → ReadAlike m m' → f m ≡ f m') → ((m : Memory) → Steady ks (f m)) → Steady ks (look f)
-    makes : (n : Option ℕ) (x : Object) (f : ℕ → Act) → StaticNumber n → ((o : ℕ) → MayLook w b o → Steady ks (f o)) → Steady ks (make n x f)
+    makes : (n : Option ℕ) (x : Object) (f : ℕ → Act) → StaticNumber n → ((o : ℕ) → MayLook w b o → Steady ks (f o)) →
+        Steady ks (make n x f)
     ticks : (n : ℕ) (a : Act) → Steady ks a → Steady ks (tick n a)
-    asks : (i : ℕ) (mode : Mode) (sc : Scope) (f : Outcome → Act) → IsSteady (ks.kid i mode) → ((o : Outcome) → PointsOutcome o → Steady ks (f o)) → Steady ks (kid i mode sc f)
+    asks : (i : ℕ) (mode : Mode) (sc : Scope) (f : Outcome → Act) → IsSteady (ks.kid i mode) →
+        ((o : Outcome) → PointsOutcome o → Steady ks (f o)) → Steady ks (kid i mode sc f)
 
   -- ---- steps
 
@@ -94,7 +97,8 @@ module _ (w : World) (b : ℕ) where
 
   -- one step behind another, of which the first made the states t and t'
   DoesAlike-trans : (s s' t t' : State) (r r' : Result) →
-      ((new : List Object) × (t.memory.objects.made ≡ s.memory.objects.made ++ new) × (t'.memory.objects.made ≡ s'.memory.objects.made ++ new)) →
+      ((new : List Object) × (t.memory.objects.made ≡ s.memory.objects.made ++ new)
+      × (t'.memory.objects.made ≡ s'.memory.objects.made ++ new)) →
       ((n : ℕ) × (t.ticks ≡ s.ticks + n) × (t'.ticks ≡ s'.ticks + n)) → DoesAlike t t' r r' → DoesAlike s s' r r'
   DoesAlike-trans s s' t t' r r' m k d =
       record {
@@ -105,14 +109,16 @@ module _ (w : World) (b : ℕ) where
         ticks = (k.0 + d.ticks.0, omega (arith, k.1, d.ticks.1), omega (arith, k.2, d.ticks.2));
       }
 
-  slice_get-push : (xs ys : List Object) (x : Object) (o : ℕ) → length xs ≡ length ys → slice_get xs o ≡ slice_get ys o → slice_get (xs ++ x ∷ []) o ≡ slice_get (ys ++ x ∷ []) o
+  slice_get-push : (xs ys : List Object) (x : Object) (o : ℕ) → length xs ≡ length ys → slice_get xs o ≡ slice_get ys o →
+      slice_get (xs ++ x ∷ []) o ≡ slice_get (ys ++ x ∷ []) o
   slice_get-push [] [] x o l e = refl
   slice_get-push [] (y ∷ ys) x o l e = absurd (omega (arith, l))
   slice_get-push (z ∷ zs) [] x o l e = absurd (omega (arith, l))
   slice_get-push (z ∷ zs) (y ∷ ys) x zero l e = e
   slice_get-push (z ∷ zs) (y ∷ ys) x (suc o) l e = slice_get-push zs ys x o (omega (arith, l)) e
 
-  Alike-make : (s s' : State) (n : Option ℕ) (x : Object) → Alike s s' → Alike (with_objects s (made_object n x s.memory.objects)) (with_objects s' (made_object n x s'.memory.objects))
+  Alike-make : (s s' : State) (n : Option ℕ) (x : Object) → Alike s s' →
+      Alike (with_objects s (made_object n x s.memory.objects)) (with_objects s' (made_object n x s'.memory.objects))
   Alike-make s s' None x h =
       record {
         as_many = rw (length-append s.memory.objects.made (x ∷ []), length-append s'.memory.objects.made (x ∷ []), h.as_many) refl;
@@ -123,7 +129,8 @@ module _ (w : World) (b : ℕ) where
   Alike-make s s' (Some n) x h = record { as_many = h.as_many; above = h.above; named = rw h.named refl; objects = h.objects }
 
   made_alike : (s s' : State) (n : Option ℕ) (x : Object) →
-      (new : List Object) × ((made_object n x s.memory.objects).made ≡ s.memory.objects.made ++ new) × ((made_object n x s'.memory.objects).made ≡ s'.memory.objects.made ++ new)
+      (new : List Object) × ((made_object n x s.memory.objects).made ≡ s.memory.objects.made ++ new)
+      × ((made_object n x s'.memory.objects).made ≡ s'.memory.objects.made ++ new)
   made_alike s s' None x = (x ∷ [], refl, refl)
   made_alike s s' (Some n) x = ([], sym (append-nil s.memory.objects.made), sym (append-nil s'.memory.objects.made))
 
@@ -139,7 +146,8 @@ module _ (w : World) (b : ℕ) where
   abbrev Follows : (Outcome → State → Result) → (Outcome → State → Result) → Type 0
   Follows go go' = (o : Outcome) (s s' : State) → PointsOutcome o → Alike s s' → DoesAlike s s' (go o s) (go' o s')
 
-  after-one : (s s' : State) (o : Outcome) (t t' : State) (go go' : Outcome → State → Result) → DoesAlike s s' (o, t) (o, t') → Follows go go' →
+  after-one : (s s' : State) (o : Outcome) (t t' : State) (go go' : Outcome → State → Result) → DoesAlike s s' (o, t) (o, t') →
+      Follows go go' →
       DoesAlike s s' (after (o, t) go) (after (o, t') go')
   after-one s s' Spent t t' go go' d h = d
   after-one s s' o t t' go go' d h = DoesAlike-trans s s' t t' _ _ d.made d.ticks (h o t t' d.points d.alike)
@@ -159,7 +167,9 @@ module _ (w : World) (b : ℕ) where
     act-alike a (makes n x f p k) s s' h =
         DoesAlike-trans s s' (with_objects s (made_object n x s.memory.objects)) (with_objects s' (made_object n x s'.memory.objects)) _ _
         (made_alike s s' n x) (0, omega arith, omega arith)
-        (subst (λ o. DoesAlike (with_objects s (made_object n x s.memory.objects)) (with_objects s' (made_object n x s'.memory.objects)) (act ks less (f (number_made n s.memory.objects)) (with_objects s (made_object n x s.memory.objects))) (act ks less (f o) (with_objects s' (made_object n x s'.memory.objects)))) (number_alike s s' n h)
+        (subst (λ o. DoesAlike (with_objects s (made_object n x s.memory.objects)) (with_objects s' (made_object n x s'.memory.objects))
+        (act ks less (f (number_made n s.memory.objects)) (with_objects s (made_object n x s.memory.objects)))
+        (act ks less (f o) (with_objects s' (made_object n x s'.memory.objects)))) (number_alike s s' n h)
         (act-alike (f (number_made n s.memory.objects)) (k _ (number_seen s s' n p h)) _ _ (Alike-make s s' n x h)))
     act-alike a (ticks n c k) s s' h =
         DoesAlike-trans s s' (record s { ticks = s.ticks + n }) (record s' { ticks = s'.ticks + n }) _ _

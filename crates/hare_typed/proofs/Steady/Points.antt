@@ -86,7 +86,8 @@ module _ (P : ℕ → Type 0) where
   pub Points-with : (at : ℕ) (ns cs : List Cell) → Points ns → Points cs → Points (with_cells at ns cs)
   Points-with zero [] cs h k = k
   Points-with zero (n ∷ ns) [] h k = tt
-  Points-with zero (n ∷ ns) (c ∷ cs) h k = Points-cons n ns (with_cells zero ns cs) h (Points-with zero ns cs (Points-tail n ns h) (Points-tail c cs k))
+  Points-with zero (n ∷ ns) (c ∷ cs) h k =
+      Points-cons n ns (with_cells zero ns cs) h (Points-with zero ns cs (Points-tail n ns h) (Points-tail c cs k))
   Points-with (suc at) ns [] h k = tt
   Points-with (suc at) ns (c ∷ cs) h k = Points-cons c cs (with_cells at ns cs) k (Points-with at ns cs h (Points-tail c cs k))
 
@@ -153,22 +154,29 @@ module _ (P : ℕ → Type 0) where
 
   pub Points-three : (w : Words) → PointsTo w.data_at → Points (three w)
   Points-three w h =
-      Points-append (cells Nullable (Pointing w.data_at) ++ size_cells w.length) (size_cells w.capacity) (Points-append (cells Nullable (Pointing w.data_at)) (size_cells w.length) (Points-pointer w.data_at h) (Points-number size_shape (pos w.length))) (Points-number size_shape (pos w.capacity))
+      Points-append (cells Nullable (Pointing w.data_at) ++ size_cells w.length) (size_cells w.capacity)
+      (Points-append (cells Nullable (Pointing w.data_at)) (size_cells w.length) (Points-pointer w.data_at h)
+      (Points-number size_shape (pos w.length))) (Points-number size_shape (pos w.capacity))
 
   pub Points-words : (cs : List Cell) → Points cs → PointsWords (words cs)
   Points-words cs h = go (spelled Nullable (cells_within 0 8 cs)) (found_pointer (cells_within 0 8 cs) (Points-within 0 8 cs h))
     where
-      last : (p : Scalar) (n : ℕ) (c : Answer ℕ) → PointsTo (pointer_in p) → PointsWords (c then λ c. Gives (record { data_at = pointer_in p; length = n; capacity = c }))
+      last : (p : Scalar) (n : ℕ) (c : Answer ℕ) → PointsTo (pointer_in p) →
+          PointsWords (c then λ c. Gives (record { data_at = pointer_in p; length = n; capacity = c }))
       last p n (Gives c) k = k
       last p n (Aborts r) k = tt
       last p n (IsUndefined u) k = tt
 
-      middle : (p : Scalar) (n : Answer ℕ) → PointsTo (pointer_in p) → PointsWords (n then λ n. size_in (cells_within 16 8 cs) then λ c. Gives (record { data_at = pointer_in p; length = n; capacity = c }))
+      middle : (p : Scalar) (n : Answer ℕ) → PointsTo (pointer_in p) →
+          PointsWords (n then λ n. size_in (cells_within 16 8 cs) then λ c. Gives
+          (record { data_at = pointer_in p; length = n; capacity = c }))
       middle p (Gives n) k = last p n (size_in (cells_within 16 8 cs)) k
       middle p (Aborts r) k = tt
       middle p (IsUndefined u) k = tt
 
-      go : (r : Option Scalar) → PointsFound r → PointsWords (or_undefined 3 r then λ p. size_in (cells_within 8 8 cs) then λ n. size_in (cells_within 16 8 cs) then λ c. Gives (record { data_at = pointer_in p; length = n; capacity = c }))
+      go : (r : Option Scalar) → PointsFound r →
+          PointsWords (or_undefined 3 r then λ p. size_in (cells_within 8 8 cs) then λ n. size_in (cells_within 16 8 cs) then λ c. Gives
+          (record { data_at = pointer_in p; length = n; capacity = c }))
       go None k = tt
       go (Some p) k = middle p (size_in (cells_within 8 8 cs)) k
 
@@ -176,14 +184,17 @@ module _ (P : ℕ → Type 0) where
 
   Points-union : (s : Store) (u m : ℕ) (cs : List Cell) → Points cs → Points (union_cells s u m cs)
   Points-union s u m cs h =
-      Points-with 0 (cells tag_shape (Number (pos (tag_of s m)))) (with_cells (payload_of s u) cs (undefined_cells (size_at s u))) (Points-number tag_shape (pos (tag_of s m))) (Points-with (payload_of s u) cs (undefined_cells (size_at s u)) h (Points-undefined (size_at s u)))
+      Points-with 0 (cells tag_shape (Number (pos (tag_of s m)))) (with_cells (payload_of s u) cs (undefined_cells (size_at s u)))
+      (Points-number tag_shape (pos (tag_of s m)))
+      (Points-with (payload_of s u) cs (undefined_cells (size_at s u)) h (Points-undefined (size_at s u)))
 
   answer_then : {A : Type 0} (a : Answer A) (f : A → Answer (List Cell)) → ((x : A) → PointsAnswer (f x)) → PointsAnswer (a then f)
   answer_then (Gives x) f h = h x
   answer_then (Aborts r) f h = tt
   answer_then (IsUndefined u) f h = tt
 
-  answer_behind : (a : Answer (List Cell)) (f : List Cell → Answer (List Cell)) → PointsAnswer a → ((cs : List Cell) → Points cs → PointsAnswer (f cs)) → PointsAnswer (a then f)
+  answer_behind : (a : Answer (List Cell)) (f : List Cell → Answer (List Cell)) → PointsAnswer a →
+      ((cs : List Cell) → Points cs → PointsAnswer (f cs)) → PointsAnswer (a then f)
   answer_behind (Gives x) f h k = k x h
   answer_behind (Aborts r) f h k = tt
   answer_behind (IsUndefined u) f h k = tt
@@ -218,7 +229,8 @@ module _ (P : ℕ → Type 0) where
 
   Points-union_to_union : (s : Store) (f : Ty) (u : ℕ) (cs : List Cell) → Points cs → PointsAnswer (union_to_union s f u cs)
   Points-union_to_union s (kept.Of f) u cs h =
-      answer_then (member_by_tag s f cs) _ (λ m. answer_behind (payload s f m cs) _ (Points-payload s f m cs h) (λ d k. Points-union s u m d k))
+      answer_then (member_by_tag s f cs) _ (λ m. answer_behind (payload s f m cs) _ (Points-payload s f m cs h)
+      (λ d k. Points-union s u m d k))
   Points-union_to_union s (kept.Iconst v) u cs h = h
   Points-union_to_union s kept.Null u cs h = h
   Points-union_to_union s kept.Empty u cs h = h

@@ -42,12 +42,19 @@ record Constant (s : Store) (h : Head) (m : Mark) (ts : TypedNodes) : Type 0 whe
   itself : is_constant s h.kind m ts ≡ true
   kids : hides_kids h.kind ts ≡ false → first_inconstant_of s (λ u. false) ts ≡ None
 
-constant_from : (s : Store) (h : Head) (m : Mark) (ts : TypedNodes) → is_type h.kind ≡ false → first_inconstant s (λ u. false) (marked h m ts) ≡ None → Constant s h m ts
+constant_from : (s : Store) (h : Head) (m : Mark) (ts : TypedNodes) → is_type h.kind ≡ false →
+    first_inconstant s (λ u. false) (marked h m ts) ≡ None → Constant s h m ts
 constant_from s h m ts f e =
-    let n : or_else (if hides_kids h.kind ts then None else first_inconstant_of s (λ u. false) ts) (if not (is_constant s h.kind m ts) || false then Some (marked h m ts) else None) ≡ None
-    = subst (λ x. (if x then None else or_else (if hides_kids h.kind ts then None else first_inconstant_of s (λ u. false) ts) (if not (is_constant s h.kind m ts) || false then Some (marked h m ts) else None)) ≡ None) f e in
+    let n : or_else (if hides_kids h.kind ts then None else first_inconstant_of s (λ u. false) ts)
+    (if not (is_constant s h.kind m ts) || false then Some (marked h m ts) else None) ≡ None
+    = subst (λ x. (if x then None else or_else (if hides_kids h.kind ts then None else first_inconstant_of s (λ u. false) ts)
+    (if not (is_constant s h.kind m ts) || false then Some (marked h m ts) else None)) ≡ None) f e in
     let p = first-none _ _ n in
-    record { itself = unless-none (is_constant s h.kind m ts) (marked h m ts) p.1; kids = shown-none (hides_kids h.kind ts) (first_inconstant_of s (λ u. false) ts) p.0 }
+    record {
+      itself = unless-none (is_constant s h.kind m ts) (marked h m ts) p.1;
+      kids =
+          shown-none (hides_kids h.kind ts) (first_inconstant_of s (λ u. false) ts) p.0;
+    }
 
 -- types are not evaluated
 type-idle : (k : Kind) → is_type k ≡ true → is_evaluated k ≡ false
@@ -65,7 +72,8 @@ type-idle _ e = absurd cc
 
 -- ---- a constant node is no place by its form
 
-type-no_place : (s : Store) (k : Kind) (m : Mark) (ts : TypedNodes) → is_type k ≡ true → is_place_kind s k m (first_given ts) (first_is_place s ts) ≡ false
+type-no_place : (s : Store) (k : Kind) (m : Mark) (ts : TypedNodes) → is_type k ≡ true →
+    is_place_kind s k m (first_given ts) (first_is_place s ts) ≡ false
 type-no_place s kind.Path m ts e = absurd cc
 type-no_place s kind.Deref m ts e = absurd cc
 type-no_place s kind.Index m ts e = absurd cc
@@ -81,7 +89,8 @@ path-no_object false known void odd e = refl
 
 constant-no_place : (s : Store) (k : Kind) (m : Mark) (ts : TypedNodes) → is_constant s k m ts ≡ true →
     (hides_kids k ts ≡ false → first_is_place s ts ≡ false) → is_place_kind s k m (first_given ts) (first_is_place s ts) ≡ false
-constant-no_place s kind.Path m ts e f = path-no_object (is_named m.meaning) (is_known m.value) (names_void s m.meaning m.ty) (not (m.coerce.row == 2)) e
+constant-no_place s kind.Path m ts e f =
+    path-no_object (is_named m.meaning) (is_known m.value) (names_void s m.meaning m.ty) (not (m.coerce.row == 2)) e
 constant-no_place s kind.Deref m ts e f = absurd cc
 constant-no_place s kind.Index m ts e f = absurd cc
 constant-no_place s kind.Field m ts e f = absurd cc
@@ -92,7 +101,8 @@ mutual
   no_place : (s : Store) (t : TypedNode) → first_inconstant s (λ u. false) t ≡ None → is_place s t ≡ false
   no_place s (marked h m ts) e = go (is_type h.kind) refl (λ f. first-no_place s ts f)
     where
-      go : (x : Bool) → is_type h.kind ≡ x → (first_inconstant_of s (λ u. false) ts ≡ None → first_is_place s ts ≡ false) → is_place s (marked h m ts) ≡ false
+      go : (x : Bool) → is_type h.kind ≡ x → (first_inconstant_of s (λ u. false) ts ≡ None → first_is_place s ts ≡ false) →
+          is_place s (marked h m ts) ≡ false
       go true f k = type-no_place s h.kind m ts f
       go false f k =
           let c = constant_from s h m ts f e in
@@ -105,7 +115,8 @@ mutual
 -- ---- the acts of a constant node
 
 module _ (w : World) (b : ℕ) where
-  steady_evaluated : (ks : Kids) (t : TypedNode) (sc : Scope) (f : ValueForm) (g : PlaceForm) → is_place w.types t ≡ false → SteadyForm w b ks f →
+  steady_evaluated : (ks : Kids) (t : TypedNode) (sc : Scope) (f : ValueForm) (g : PlaceForm) → is_place w.types t ≡ false →
+      SteadyForm w b ks f →
       Steady w b ks (evaluated w t AsValue sc f g)
   steady_evaluated ks t sc f g e h = go (not (is_evaluated (Rattle.hare_typed.specs.Constants.own_kind t)))
     where
@@ -116,20 +127,25 @@ module _ (w : World) (b : ℕ) where
       placed true q = absurd cc
       placed false q = value
 
-      go : (x : Bool) → Steady w b ks (if x then gives [] else (if is_place w.types t then place_in_mode w t AsValue sc f g else value_in_mode w t AsValue sc f))
+      go : (x : Bool) → Steady w b ks (if x then gives [] else
+          (if is_place w.types t then place_in_mode w t AsValue sc f g else value_in_mode w t AsValue sc f))
       go true = ends (Value []) tt
       go false = placed (is_place w.types t) e
 
-  idle_evaluated : (ks : Kids) (h : Head) (m : Mark) (ts : TypedNodes) (mode : Mode) (sc : Scope) (f : ValueForm) (g : PlaceForm) → is_evaluated h.kind ≡ false →
+  idle_evaluated : (ks : Kids) (h : Head) (m : Mark) (ts : TypedNodes) (mode : Mode) (sc : Scope) (f : ValueForm) (g : PlaceForm) →
+      is_evaluated h.kind ≡ false →
       Steady w b ks (evaluated w (marked h m ts) mode sc f g)
   idle_evaluated ks h m ts mode sc f g e = go (is_evaluated h.kind) e
     where
-      go : (x : Bool) → x ≡ false → Steady w b ks (if not x then gives [] else (if is_place w.types (marked h m ts) then place_in_mode w (marked h m ts) mode sc f g else value_in_mode w (marked h m ts) mode sc f))
+      go : (x : Bool) → x ≡ false → Steady w b ks
+          (if not x then gives [] else (if is_place w.types (marked h m ts) then place_in_mode w (marked h m ts) mode sc f g
+          else value_in_mode w (marked h m ts) mode sc f))
       go true q = absurd cc
       go false q = ends (Value []) tt
 
   -- the kids of a constant node are as its kind asks
-  ready : (ks : Kids) (k : Kind) (m : Mark) (ts : TypedNodes) → is_constant w.types k m ts ≡ true → (hides_kids k ts ≡ false → (i : ℕ) → IsSteady w b (ks.kid i AsValue)) →
+  ready : (ks : Kids) (k : Kind) (m : Mark) (ts : TypedNodes) → is_constant w.types k m ts ≡ true →
+      (hides_kids k ts ≡ false → (i : ℕ) → IsSteady w b (ks.kid i AsValue)) →
       (begins_with_global ts ≡ true → IsSteady w b (ks.kid 0 AsPlace)) → Ready w b ks k
   ready ks kind.Addr m ts e f g = g (and-left (begins_with_global ts) (not (m.coerce.row == 2)) e)
     where
@@ -162,17 +178,22 @@ module _ (w : World) (b : ℕ) where
   path_form ks t sc k q = steady_form w b ks t sc kind.Path k tt q
 
   path_evaluated : (ks : Kids) (t : TypedNode) (sc : Scope) → MayLook w b (object_meant w sc (mark_of t).meaning) →
-      Steady w b ks (if is_place w.types t then place_in_mode w t AsPlace sc (constant_form w t sc kind.Path) (constant_place w t sc kind.Path) else value_in_mode w t AsPlace sc (constant_form w t sc kind.Path))
+      Steady w b ks (if is_place w.types t then place_in_mode w t AsPlace sc (constant_form w t sc kind.Path)
+      (constant_place w t sc kind.Path) else value_in_mode w t AsPlace sc (constant_form w t sc kind.Path))
   path_evaluated ks t sc l = go (is_place w.types t)
     where
-      go : (x : Bool) → Steady w b ks (if x then place_in_mode w t AsPlace sc (constant_form w t sc kind.Path) (constant_place w t sc kind.Path) else value_in_mode w t AsPlace sc (constant_form w t sc kind.Path))
+      go : (x : Bool) → Steady w b ks (if x then place_in_mode w t AsPlace sc (constant_form w t sc kind.Path)
+          (constant_place w t sc kind.Path) else value_in_mode w t AsPlace sc (constant_form w t sc kind.Path))
       go true = ticks _ _ (ends (Reached (Address (object_meant w sc (mark_of t).meaning) 0)) l)
       go false =
-          steady_by_value w b ks t sc (constant_form w t sc kind.Path) (λ cs. make None (value_object w t cs) λ o. end (Reached (Address o 0))) (path_form ks t sc)
+          steady_by_value w b ks t sc (constant_form w t sc kind.Path)
+          (λ cs. make None (value_object w t cs) λ o. end (Reached (Address o 0))) (path_form ks t sc)
           (λ cs p. makes None (value_object w t cs) (λ o. end (Reached (Address o 0))) tt (λ o k. ends (Reached (Address o 0)) k))
 
   global_evaluated : (ks : Kids) (t : TypedNode) (sc : Scope) (k : Kind) → is_global_path k (mark_of t) ≡ true →
-      Steady w b ks (if not (is_evaluated k) then gives [] else (if is_place w.types t then place_in_mode w t AsPlace sc (constant_form w t sc k) (constant_place w t sc k) else value_in_mode w t AsPlace sc (constant_form w t sc k)))
+      Steady w b ks (if not (is_evaluated k) then gives [] else
+      (if is_place w.types t then place_in_mode w t AsPlace sc (constant_form w t sc k) (constant_place w t sc k)
+      else value_in_mode w t AsPlace sc (constant_form w t sc k)))
   global_evaluated ks t sc kind.Path e = path_evaluated ks t sc (global-seen sc (mark_of t) e)
   global_evaluated ks t sc _ e = absurd cc
 
@@ -189,16 +210,19 @@ module _ (w : World) (b : ℕ) where
     global-steady : (ts : TypedNodes) → begins_with_global ts ≡ true → IsSteady w b (kid_act (constant_forms w) less ts 0 AsPlace)
     global-steady typed_none e sc s s' l = absurd cc
     global-steady (typed_more (marked h m us) ts) e sc s s' l =
-        act-alike w b (over us) less (constant_node w (marked h m us) AsPlace sc) (global_evaluated (over us) (marked h m us) sc h.kind e) s s' l
+        act-alike w b (over us) less (constant_node w (marked h m us) AsPlace sc)
+        (global_evaluated (over us) (marked h m us) sc h.kind e) s s' l
 
     node-steady : (h : Head) (m : Mark) (ts : TypedNodes) → first_inconstant w.types (λ u. false) (marked h m ts) ≡ None →
-        (first_inconstant_of w.types (λ u. false) ts ≡ None → (i : ℕ) → IsSteady w b (kid_act (constant_forms w) less ts i AsValue)) → (sc : Scope) →
+        (first_inconstant_of w.types (λ u. false) ts ≡ None → (i : ℕ) → IsSteady w b (kid_act (constant_forms w) less ts i AsValue)) →
+        (sc : Scope) →
         Steady w b (over ts) (constant_node w (marked h m ts) AsValue sc)
     node-steady h m ts e k sc = go (is_type h.kind) refl
       where
         go : (x : Bool) → is_type h.kind ≡ x → Steady w b (over ts) (constant_node w (marked h m ts) AsValue sc)
         go true f =
-            idle_evaluated (over ts) h m ts AsValue sc (constant_form w (marked h m ts) sc h.kind) (constant_place w (marked h m ts) sc h.kind)
+            idle_evaluated (over ts) h m ts AsValue sc (constant_form w (marked h m ts) sc h.kind)
+            (constant_place w (marked h m ts) sc h.kind)
             (type-idle h.kind f)
         go false f =
             let c = constant_from w.types h m ts f e in
@@ -208,14 +232,18 @@ module _ (w : World) (b : ℕ) where
             (λ x q. steady_form w b (over ts) (marked h m ts) sc h.kind x r q)
 
     mutual
-      tree-steady : (t : TypedNode) → first_inconstant w.types (λ u. false) t ≡ None → IsSteady w b (node_act (constant_forms w) less t AsValue)
+      tree-steady : (t : TypedNode) → first_inconstant w.types (λ u. false) t ≡ None →
+          IsSteady w b (node_act (constant_forms w) less t AsValue)
       tree-steady (marked h m ts) e sc s s' l =
-          act-alike w b (over ts) less (constant_node w (marked h m ts) AsValue sc) (node-steady h m ts e (λ f i. kids-steady ts f i) sc) s s' l
+          act-alike w b (over ts) less (constant_node w (marked h m ts) AsValue sc)
+          (node-steady h m ts e (λ f i. kids-steady ts f i) sc) s s' l
 
-      kids-steady : (ts : TypedNodes) → first_inconstant_of w.types (λ u. false) ts ≡ None → (i : ℕ) → IsSteady w b (kid_act (constant_forms w) less ts i AsValue)
+      kids-steady : (ts : TypedNodes) → first_inconstant_of w.types (λ u. false) ts ≡ None → (i : ℕ) →
+          IsSteady w b (kid_act (constant_forms w) less ts i AsValue)
       kids-steady typed_none e i sc s s' l = idle s s' l
       kids-steady (typed_more t ts) e zero sc s s' l = tree-steady t (first-none (first_inconstant w.types (λ u. false) t) _ e).0 sc s s' l
-      kids-steady (typed_more t ts) e (suc i) sc s s' l = kids-steady ts (first-none (first_inconstant w.types (λ u. false) t) _ e).1 i sc s s' l
+      kids-steady (typed_more t ts) e (suc i) sc s s' l =
+          kids-steady ts (first-none (first_inconstant w.types (λ u. false) t) _ e).1 i sc s s' l
 
 pub constants_look_at_statics : ConstantsLookAtStatics
 constants_look_at_statics =
