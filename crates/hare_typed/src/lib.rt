@@ -3,6 +3,7 @@
 
 mod cell;
 mod constant;
+mod copied;
 mod erased;
 mod exits;
 mod given;
@@ -12,6 +13,7 @@ mod weights;
 
 pub use cell::{Cell, Cells};
 pub use constant::{Const, ConstObject, ConstObjects, Consts};
+pub use copied::copies;
 pub use erased::erase;
 pub use program::{Paths, Program};
 pub use typed::{Typed, TypedKids};
