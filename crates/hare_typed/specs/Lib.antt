@@ -10,3 +10,4 @@ pub mod Rounds
 pub mod Frame
 pub mod Constancy
 pub mod Cover
+pub mod CostLaws
