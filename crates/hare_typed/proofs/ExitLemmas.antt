@@ -7,7 +7,7 @@ use Rattle.std.proofs.Common.{rules}
 use Rattle.hare_tree.specs.declared.kind.Kind.{Kind}
 use Rattle.hare_tree.specs.Node.{Head}
 use Rattle.hare_typed.specs.declared.exits.Round.{Round, the_lemmas}
-use Rattle.hare_typed.specs.declared.exits.Round.TheVariants.{Inside}
+use Rattle.hare_typed.specs.declared.exits.Round.TheVariants.{Nothing, Inside}
 use Rattle.hare_typed.specs.Typed.{TypedNode, TypedNodes, Mark, marked, typed_nodes}
 use Rattle.hare_typed.specs.Copies.{way_of, exit_by, ends_at, exits, exits_each}
 use Rattle.hare_typed.specs.Rounds.{Frame, frames, ends_among, leaving}
@@ -40,6 +40,9 @@ drop-past (t ∷ ts) zero e = absurd (omega arith)
 drop-past (t ∷ ts) (suc i) e = drop-past ts i (omega arith)
 
 -- ---- exits
+
+pub frames-Nothing : frames Nothing ≡ []
+frames-Nothing = search (rules, the_lemmas)
 
 pub frames-Inside : (k : Kind) (label : Bor (List ℕ)) (outer : Bor Round) → frames (Inside k label outer) ≡ record { kind = k; label = label.now } ∷ frames outer.now
 frames-Inside k label outer = search (rules, the_lemmas)

@@ -1,7 +1,6 @@
 -- What nodes give, and the bases of their types, as calls tell them.
-use Rattle.std.proofs.Common.{◌≡◌, ℕ, zero, suc, ◌+◌, ◌-◌, ◌<◌, ◌≤◌, List, [], ◌∷◌, length, Some, None, Option, refl, ap, sym, ◌∙◌, ◌⊎◌, inl, inr, arith}
+use Rattle.std.proofs.Common.{◌≡◌, ℕ, suc, ◌+◌, ◌-◌, ◌<◌, List, [], ◌∷◌, length, Some, None, Option, refl, ap, sym, ◌∙◌, ◌⊎◌, inl, inr, arith}
 use Rattle.std.specs.Prelude.{slice_get, IfSome, IfNone}
-use Rattle.std.proofs.lemmas.Option.{slice_get_within}
 use Rattle.hare_tree.specs.declared.kind.Kind.{Kind}
 use Rattle.hare_tree.specs.declared.kind.Kind.TheVariants as kind
 use Rattle.hare_types.specs.declared.coercion.Ty.{Ty}
@@ -20,10 +19,6 @@ pub first_given-get : (ts : List TypedNode) (x t : TypedNode) → slice_get ts 0
 first_given-get [] x t e h = cc
 first_given-get (u ∷ us) x t e h = let k : u ≡ t = cc in ap given (h ∙ sym k)
 
-pub first_given-past : (ts : List TypedNode) → length ts ≤ 0 → ty.Empty ≡ first_given (typed_nodes ts)
-first_given-past [] e = refl
-first_given-past (t ∷ ts) e = absurd (omega arith)
-
 pub count-typed_nodes : (ts : List TypedNode) → count (typed_nodes ts) ≡ length ts
 count-typed_nodes [] = refl
 count-typed_nodes (t ∷ ts) = omega (arith, count-typed_nodes ts)
@@ -34,13 +29,6 @@ count-typed_nodes (t ∷ ts) = omega (arith, count-typed_nodes ts)
 pub base_told : (s : Store) (t : ℕ) (o : Option ℕ) → MeanTrees s → IfSome o (IsBaseOf s t) → IfNone o ((b : ℕ) → IsBaseOf s t b → ⊥) → o ≡ base_at s t
 base_told s t (Some b) m some none = sym ((m.base t b).1 some)
 base_told s t None m some none = elim (base_at s t) as (λ r. base_at s t ≡ r → None ≡ r) [ None ↦ λ e. refl | Some b ↦ λ e. absurd (none b ((m.base t b).0 e)) ] refl
-
--- a base is in the store
-pub base_within : (s : Store) (t b : ℕ) → MeanTrees s → base_at s t ≡ Some b → b < length s.rows
-base_within s t b m e =
-    let is = (m.base t b).0 e in
-    let row = m.there b is.1 is.3 in
-    slice_get_within s.rows b row.0 row.1
 
 -- ---- pointers
 
@@ -53,10 +41,6 @@ followed-more p s t i all h e k =
     let left : 16 - p ≡ suc (16 - (p + 1)) = omega arith in
     let step : followed_within (16 - p) s t ≡ 1 + followed_within (16 - (p + 1)) s (ty.Of i) = followed-step (16 - p) (16 - (p + 1)) s t i left e in
     omega arith
-
-pub followed-end : (n : ℕ) (s : Store) (t : Ty) → pointee s t ≡ None → followed_within n s t ≡ 0
-followed-end zero s t e = refl
-followed-end (suc n) s t e = ap (one_more (followed_within n s)) e
 
 -- ---- items
 

@@ -1,6 +1,6 @@
 -- How many copies a node has once the deferred expressions stand where they run: one of each where its block ends, and one where the block is
 -- left before.
-use Rattle.std.specs.Prelude.{ℕ, suc, ◌*◌, ◌==◌, Bool, true, false, not, ◌&&◌, ◌||◌, List, [], ◌∷◌, ◌++◌, length, map, filter, find, Option, Some, None, nat_eq, if◌then◌else◌}
+use Rattle.std.specs.Prelude.{ℕ, suc, ◌*◌, ◌==◌, Bool, true, false, not, ◌&&◌, ◌||◌, List, [], ◌∷◌, ◌++◌, length, map, flat_map, filter, find, Option, Some, None, nat_eq, if◌then◌else◌}
 use Rattle.std.specs.Cmp.Lexicographic.{pointwise}
 use Rattle.hare_tree.specs.declared.kind.Kind.{Kind}
 use Rattle.hare_tree.specs.declared.kind.Kind.TheVariants as kind
@@ -108,10 +108,10 @@ abbrev pub once : TypedNode → Copied
 once t = record { tree = t; times = 1 }
 
 abbrev pub counted_by : Kind → TypedNode → List Copied
-counted_by kind.Fn t = copied 1 1 (body_of t) ++ map once (parameters_of t)
-counted_by kind.Def t = copied 1 1 (body_of t)
-counted_by kind.GlobalLet t = copied 1 1 (body_of t)
-counted_by kind.GlobalConst t = copied 1 1 (body_of t)
+counted_by kind.Fn t = flat_map (copied 1 1) (body_of t) ++ map once (parameters_of t)
+counted_by kind.Def t = flat_map (copied 1 1) (body_of t)
+counted_by kind.GlobalLet t = flat_map (copied 1 1) (body_of t)
+counted_by kind.GlobalConst t = flat_map (copied 1 1) (body_of t)
 counted_by _ t = []
 
 -- the numbered nodes of a declaration, each with its copies

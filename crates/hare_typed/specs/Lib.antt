@@ -31,3 +31,4 @@ pub mod ConstantValues
 pub mod Alike
 pub mod Quiet
 pub mod Followed
+pub mod CostLaws

@@ -1,9 +1,9 @@
 -- Which nodes of a declaration are numbered, and how.
-use Rattle.std.specs.Prelude.{◌≡◌, ℕ, suc, Bool, true, false, cond, List, [], ◌∷◌, ◌++◌, map, All}
+use Rattle.std.specs.Prelude.{◌≡◌, ℕ, suc, Bool, true, false, cond, List, [], ◌∷◌, ◌++◌, map, flat_map, All}
 use Rattle.hare_tree.specs.declared.kind.Kind.{Kind}
 use Rattle.hare_tree.specs.declared.kind.Kind.TheVariants as kind
-use Rattle.hare_typed.specs.Typed.{TypedNode, TypedNodes, marked, typed_none, typed_more, head_of, mark_of, kids_of}
-use Rattle.hare_typed.specs.Order.{check_order, check_order_each, kid_from_front, kid_from_end}
+use Rattle.hare_typed.specs.Typed.{TypedNode, TypedNodes, marked, typed_none, typed_more, head_of, mark_of, kids_of, listed_nodes}
+use Rattle.hare_typed.specs.Order.{check_order, check_order_each, kid_from_front}
 
 abbrev pub kind_of : TypedNode → Kind
 kind_of t = (head_of t).kind
@@ -20,19 +20,25 @@ abbrev pub params_among : TypedNodes → List TypedNode
 params_among typed_none = []
 params_among (typed_more t ts) = cond (is_param (kind_of t)) (t ∷ []) [] ++ params_among ts
 
+-- the last of some trees, where there is one
+abbrev pub last_of : List TypedNode → List TypedNode
+last_of [] = []
+last_of (t ∷ []) = t ∷ []
+last_of (t ∷ u ∷ us) = last_of (u ∷ us)
+
 -- what a declaration has as its body or its value: the last kid of a function, of a def and of a global
-abbrev pub body_of : TypedNode → TypedNode
-body_of t = kid_from_end 0 t
+abbrev pub body_of : TypedNode → List TypedNode
+body_of t = last_of (listed_nodes (kids_of t))
 
 -- the parameters of a function, in their order
 abbrev pub parameters_of : TypedNode → List TypedNode
 parameters_of t = params_among (kids_of (kid_from_front 2 t))
 
 abbrev pub numbered_by : Kind → TypedNode → List TypedNode
-numbered_by kind.Fn t = check_order (body_of t) ++ parameters_of t
-numbered_by kind.Def t = check_order (body_of t)
-numbered_by kind.GlobalLet t = check_order (body_of t)
-numbered_by kind.GlobalConst t = check_order (body_of t)
+numbered_by kind.Fn t = flat_map check_order (body_of t) ++ parameters_of t
+numbered_by kind.Def t = flat_map check_order (body_of t)
+numbered_by kind.GlobalLet t = flat_map check_order (body_of t)
+numbered_by kind.GlobalConst t = flat_map check_order (body_of t)
 numbered_by _ t = []
 
 -- The numbered nodes of a declaration, by ascending number: all nodes of the body or value in check order, wrappers and parts that are left

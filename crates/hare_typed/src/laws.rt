@@ -1,30 +1,22 @@
-//! What holds of values and of what is done with them.
+//! What holds of the order and of the costs of every typed tree.
 
-ghost use Rattle.hare_typed.specs.Scalars.{CellsSpell};
-ghost use Rattle.hare_typed.specs.Alike.{LooksWherePointed};
-ghost use Rattle.hare_typed.specs.Quiet.{ConstantsAreQuiet, ConstantsLookAtStatics};
+ghost use Rattle.hare_typed.specs.CostLaws.{AllOrdersAgree, WeightsStay, CostsAreOfMarks};
 
-/// The cells of a scalar spell it and no other at its shape, and no other cells spell it.
-#[tactic(auto, using(crate::proofs::ScalarLemmas::cells_spell))]
-pub fn law_cells_spell()
-    ensures { CellsSpell }
+/// Check order is that of the untyped tree; copies are counted of just the numbered nodes, in their order; and in a declaration of a checked program
+/// the number of a node is how many numbered nodes stand before it.
+pub fn law_orders_agree()
+    ensures { AllOrdersAgree }
 {}
 
-/// An operation that follows a pointer looks at the object that this names: over two lists of objects that are alike there it gives the same.
-#[tactic(auto, using(crate::proofs::AlikeLemmas::looks_where_pointed))]
-pub fn law_looks_where_pointed()
-    ensures { LooksWherePointed }
+/// A later store changes no weight: of a node whose types the store has, where no type of it comes to a name that is not defined.
+#[tactic(auto, using(crate::proofs::LaterWeights::weights_stay))]
+pub fn law_weights_stay()
+    ensures { WeightsStay }
 {}
 
-/// What a constant comes to rests on no number of turns, and its evaluation leaves all as it was but for ticks and new objects.
-#[tactic(auto, using(crate::proofs::Quiet::Runs::constants_are_quiet))]
-pub fn law_constants_are_quiet()
-    ensures { ConstantsAreQuiet }
-{}
-
-/// The value of a tree that is constant rests on no object but static ones: in two states in which these are the same, its evaluation ends alike,
-/// makes the same objects and adds as many ticks.
-#[tactic(auto, using(crate::proofs::Steady::Trees::constants_look_at_statics))]
-pub fn law_constants_look_at_statics()
-    ensures { ConstantsLookAtStatics }
+/// The weight and the size of a node are those of its own type and coercion and of what its kids give, and copies are those of the untyped tree: a
+/// mark that is changed elsewhere changes none.
+#[tactic(auto, using(crate::proofs::LocalCosts::costs_are_of_marks))]
+pub fn law_costs_are_of_marks()
+    ensures { CostsAreOfMarks }
 {}
