@@ -1,5 +1,5 @@
 -- A later store changes no weight.
-use Rattle.std.proofs.Common.{◌≡◌, ℕ, zero, suc, ◌+◌, ◌<◌, Bool, List, [], ◌∷◌, length, Option, Some, None, IsSome, refl, ap, ap₂, sym, ◌∙◌, arith, if◌then◌else◌}
+use Rattle.std.proofs.Common.{◌≡◌, ℕ, zero, suc, ◌+◌, ◌<◌, length, Option, Some, None, IsSome, refl, ap, sym, ◌∙◌, arith, if◌then◌else◌}
 use Rattle.std.specs.Prelude.{option_and_then, ◌==◌}
 use Rattle.std.proofs.lemmas.Bool.{false≢true}
 use Rattle.std.proofs.lemmas.Option.{slice_get_within}
@@ -14,12 +14,11 @@ use Rattle.hare_types.specs.Assign.{IsIn}
 use Rattle.hare_types.specs.Store.{Store}
 use Rattle.hare_types.specs.Sound.{IsStore}
 use Rattle.hare_types.specs.Later.{IsLater, KeepsTypes}
-use Rattle.hare_types.specs.Meanings.{MeanTrees}
-use Rattle.hare_types.specs.ByIds.{row_at, base_at, members_of, members_at}
+use Rattle.hare_types.specs.ByIds.{row_at, base_at, members_of}
 use Rattle.hare_types.proofs.MeaningsLemmas.{ids_mean_trees}
 use Rattle.hare_types.proofs.LaterLemmas.{types_stay}
 use Rattle.hare_typed.specs.Typed.{TypedNode, TypedNodes, marked, typed_none, typed_more}
-use Rattle.hare_typed.specs.Given.{TypesIn, TypesInEach, first_given, base_row, is_str, is_str_row, count_of, members_in, pointee, pointee_in, one_more, followed_within, followed}
+use Rattle.hare_typed.specs.Given.{TypesIn, TypesInEach, first_given, base_row, is_str_row, count_of, members_in, pointee, pointee_in, one_more, followed_within}
 use Rattle.hare_typed.specs.Weight.{weight_of, begins_with, coerced, handled, items_of, passed}
 use Rattle.hare_typed.specs.CostLaws.{HasBases, WeightsStay}
 

@@ -26,3 +26,4 @@ pub mod AlikeLemmas
 mod FollowedRows
 pub mod Quiet
 pub mod Steady
+mod NodeRows

@@ -1,19 +1,19 @@
 -- The costs of a node rest on its own mark and on what its kids give, and copies on the untyped tree alone.
-use Rattle.std.proofs.Common.{◌≡◌, ℕ, zero, suc, ◌+◌, ◌*◌, max, Bool, true, false, cond, not, List, [], ◌∷◌, ◌++◌, length, map, Some, refl, ap, ap₂, sym, ◌∙◌, arith, if◌then◌else◌}
-use Rattle.std.specs.Prelude.{filter, flat_map, ◌==◌}
+use Rattle.std.proofs.Common.{◌≡◌, ℕ, zero, suc, ◌+◌, ◌*◌, max, Bool, true, false, cond, not, List, [], ◌∷◌, ◌++◌, length, map, refl, ap, ap₂, sym, ◌∙◌, arith, if◌then◌else◌}
+use Rattle.std.specs.Prelude.{filter, flat_map}
 use Rattle.std.proofs.lemmas.List.{map-append}
 use Rattle.hare_tree.specs.declared.kind.Kind.{Kind}
 use Rattle.hare_tree.specs.declared.kind.Kind.TheVariants as kind
-use Rattle.hare_tree.specs.Node.{Head, Node, Nodes, branch, none, more, head}
+use Rattle.hare_tree.specs.Node.{Node, branch, head}
 use Rattle.hare_types.specs.declared.coercion.Ty.{Ty}
 use Rattle.hare_types.specs.Store.{Store}
-use Rattle.hare_typed.specs.Typed.{TypedNode, TypedNodes, Mark, marked, typed_none, typed_more, mark_of, kids_of, listed_nodes}
+use Rattle.hare_typed.specs.Typed.{TypedNode, TypedNodes, marked, typed_none, typed_more, kids_of, listed_nodes}
 use Rattle.hare_typed.specs.Erased.{erase, erase_each}
-use Rattle.hare_typed.specs.Order.{missing, tree_from_front}
+use Rattle.hare_typed.specs.Order.{tree_from_front}
 use Rattle.hare_typed.specs.Numbers.{kind_of, is_param, params_among, last_of, body_of, parameters_of}
 use Rattle.hare_typed.specs.Given.{given, first_given, second_given, is_str, members_in, size_in, followed, element}
 use Rattle.hare_typed.specs.Weight.{weight_of, begins_with, coerced, handled, count, items_of, passed}
-use Rattle.hare_typed.specs.Copies.{Exit, Copied, way_of, exit_by, ends_at, exits, exits_each, copied, copied_each, counted, counted_by, once, has_defers, inner_copies, deferred_copies}
+use Rattle.hare_typed.specs.Copies.{Copied, way_of, exit_by, ends_at, exits, exits_each, copied, copied_each, counted_by, once, has_defers, inner_copies, deferred_copies}
 use Rattle.hare_typed.specs.Frame.{node_size, bound_size, turn_size, by_reference, first_of, size_of_element}
 use Rattle.hare_typed.specs.CostLaws.{SameAbove, CostsAreOfMarks}
 

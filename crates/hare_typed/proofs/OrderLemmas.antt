@@ -4,12 +4,11 @@ use Rattle.std.specs.Prelude.{slice_get, flat_map}
 use Rattle.std.proofs.lemmas.List.{map-append}
 use Rattle.hare_tree.specs.declared.kind.Kind.{Kind}
 use Rattle.hare_tree.specs.declared.kind.Kind.TheVariants as kind
-use Rattle.hare_tree.specs.Node.{Head}
 use Rattle.hare_typed.specs.Typed.{TypedNode, TypedNodes, marked, typed_none, typed_more, head_of}
 use Rattle.hare_typed.specs.Erased.{erase, erase_each, heads, heads_each}
 use Rattle.hare_typed.specs.Order.{check_order, check_order_each}
-use Rattle.hare_typed.specs.Numbers.{IsNumbered, numbered, numbered_by, number_of, numbers_from, kind_of, body_of, parameters_of}
-use Rattle.hare_typed.specs.Copies.{Copied, copied, copied_each, counted, counted_by, once, has_defers, inner_copies, deferred_copies}
+use Rattle.hare_typed.specs.Numbers.{numbered, numbered_by, number_of, numbers_from, kind_of, body_of, parameters_of}
+use Rattle.hare_typed.specs.Copies.{Copied, copied, copied_each, counted_by, once, has_defers, inner_copies, deferred_copies}
 use Rattle.hare_typed.specs.CostLaws.{OrdersAgree}
 
 -- ---- heads

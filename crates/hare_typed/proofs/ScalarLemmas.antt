@@ -1,5 +1,6 @@
 -- The cells of a scalar spell it and no other at its shape, and no other cells spell it.
 use Rattle.std.proofs.Common.{◌≡◌, ℕ, zero, suc, ◌+◌, ◌-◌, ◌*◌, ◌%◌, ◌^◌, ◌<◌, Bool, true, false, List, [], ◌∷◌, length, Option, Some, None, refl, sym, ap, ◌∙◌, subst, arith}
+use Rattle.std.specs.Option.{option_or}
 use Rattle.std.specs.Prelude.{ℤ, pos, negsuc, ◌-ℤ◌, nat_eq, nat_lt, ◌&&◌, All, option_map, option_and_then, if◌then◌else◌}
 use Rattle.std.proofs.lemmas.Bool.Decides.{nat_tests}
 use Rattle.std.proofs.lemmas.Int.{ints}
@@ -13,7 +14,7 @@ use Rattle.hx_base.proofs.NumberLemmas.{le_number-below, le_bytes-le_number, res
 use Rattle.hare_typed.specs.declared.cell.Cell.{Cell}
 use Rattle.hare_typed.specs.declared.cell.Cell.TheVariants as cell
 use Rattle.hare_typed.specs.Cells.{byte_cells, bytes_of, fragments, are_fragments}
-use Rattle.hare_typed.specs.Scalars.{Null, Address, Scalar, Number, Pointing, Shape, Whole, Truth, Reference, Nullable, cells, spelled, number_spelled, bool_spelled, address_spelled, null_spelled, first_spelled, IsOfShape, IsByte, AreCells, CellsSpell}
+use Rattle.hare_typed.specs.Scalars.{Null, Address, Scalar, Number, Pointing, Shape, Whole, Truth, Reference, Nullable, cells, spelled, number_spelled, bool_spelled, address_spelled, null_spelled, IsOfShape, IsByte, AreCells, CellsSpell}
 
 -- ---- bytes
 
@@ -275,11 +276,11 @@ nullable-of_reference cs (Number v) p = absurd p.0
 nullable-of_reference cs (Pointing Null) p = absurd p.0
 nullable-of_reference cs (Pointing (Address o d)) p = (tt, p.1)
 
-nullable-only : (cs : List Cell) (v : Scalar) → AreCells cs → first_spelled (address_spelled cs) (null_spelled cs) ≡ Some v →
+nullable-only : (cs : List Cell) (v : Scalar) → AreCells cs → option_or (address_spelled cs) (null_spelled cs) ≡ Some v →
     IsOfShape Nullable v × (cs ≡ cells Nullable v)
 nullable-only cs v h e = go (address_spelled cs) refl e
   where
-    go : (r : Option Scalar) → address_spelled cs ≡ r → first_spelled r (null_spelled cs) ≡ Some v →
+    go : (r : Option Scalar) → address_spelled cs ≡ r → option_or r (null_spelled cs) ≡ Some v →
         IsOfShape Nullable v × (cs ≡ cells Nullable v)
     go None f g = null-only cs v h g
     go (Some u) f g = nullable-of_reference cs v (address-only cs v (f ∙ g))

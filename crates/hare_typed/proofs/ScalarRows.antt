@@ -1,5 +1,6 @@
 -- Rows of scalars and their cells, worked out.
 use Rattle.std.proofs.Common.{◌≡◌, ℕ, ◌++◌, true, false, List, [], ◌∷◌, Some, None, pos, negsuc, refl}
+use Rattle.std.specs.Prelude.{option_map}
 use Rattle.hare_typed.specs.declared.cell.Cell.{Cell}
 use Rattle.hare_typed.specs.declared.cell.Cell.TheVariants as cell
 use Rattle.hare_typed.specs.Scalars.{Null, Address, Number, Pointing, Whole, Truth, Reference, Nullable, cells, spelled}
@@ -65,6 +66,9 @@ i8_greatest = refl
 i8_minus_one : cells (Whole 1 true) (Number (negsuc 0)) ≡ bytes (255 ∷ [])
 i8_minus_one = refl
 
+u8_least : cells (Whole 1 false) (Number (pos 0)) ≡ bytes (0 ∷ [])
+u8_least = refl
+
 u8_greatest : cells (Whole 1 false) (Number (pos 255)) ≡ bytes (255 ∷ [])
 u8_greatest = refl
 
@@ -76,6 +80,9 @@ i16_greatest = refl
 
 u16_low_first : cells (Whole 2 false) (Number (pos 513)) ≡ bytes (1 ∷ 2 ∷ [])
 u16_low_first = refl
+
+u16_greatest : cells (Whole 2 false) (Number (pos 65535)) ≡ bytes (255 ∷ 255 ∷ [])
+u16_greatest = refl
 
 i32_least : cells (Whole 4 true) (Number (negsuc 2147483647)) ≡ bytes (0 ∷ 0 ∷ 0 ∷ 128 ∷ [])
 i32_least = refl
@@ -89,17 +96,31 @@ u32_greatest = refl
 i64_least : cells (Whole 8 true) (Number (negsuc 9223372036854775807)) ≡ bytes (0 ∷ 0 ∷ 0 ∷ 0 ∷ 0 ∷ 0 ∷ 0 ∷ 128 ∷ [])
 i64_least = refl
 
+i64_greatest : cells (Whole 8 true) (Number (pos 9223372036854775807)) ≡ bytes (255 ∷ 255 ∷ 255 ∷ 255 ∷ 255 ∷ 255 ∷ 255 ∷ 127 ∷ [])
+i64_greatest = refl
+
+u64_least : cells (Whole 8 false) (Number (pos 0)) ≡ bytes (0 ∷ 0 ∷ 0 ∷ 0 ∷ 0 ∷ 0 ∷ 0 ∷ 0 ∷ [])
+u64_least = refl
+
 u64_greatest : cells (Whole 8 false) (Number (pos 18446744073709551615)) ≡ bytes (255 ∷ 255 ∷ 255 ∷ 255 ∷ 255 ∷ 255 ∷ 255 ∷ 255 ∷ [])
 u64_greatest = refl
 
 void_has_none : cells (Whole 0 false) (Number (pos 0)) ≡ []
 void_has_none = refl
 
+false_is_zero : cells Truth (Number (pos 0)) ≡ bytes (0 ∷ [])
+false_is_zero = refl
+
 true_is_one : cells Truth (Number (pos 1)) ≡ bytes (1 ∷ [])
 true_is_one = refl
 
 null_is_zero : cells Nullable (Pointing Null) ≡ bytes (0 ∷ 0 ∷ 0 ∷ 0 ∷ 0 ∷ 0 ∷ 0 ∷ 0 ∷ [])
 null_is_zero = refl
+
+-- from 0 to 2 ^ 32 - 1, as u32
+rune_greatest : option_map (λ shape. cells shape (Number (pos 4294967295))) (shape_at types rune)
+    ≡ Some (bytes (255 ∷ 255 ∷ 255 ∷ 255 ∷ []))
+rune_greatest = refl
 
 -- the eight fragments of a pointer to offset d of object o
 abbrev pointed : ℕ → ℕ → List Cell

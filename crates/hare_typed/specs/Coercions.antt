@@ -1,5 +1,6 @@
 -- What becomes of a value at its site, by the row of the table of assignability that its node carries.
 use Rattle.std.specs.Prelude.{ℕ, pos, ℤ, ◌||◌, nat_eq, List, [], find, Option, Some, None, option_map, option_and_then, unwrap_or, if◌then◌else◌}
+use Rattle.std.specs.Option.{option_or}
 use Rattle.hare_types.specs.declared.row.Row.{Row}
 use Rattle.hare_types.specs.declared.row.Row.TheVariants as row
 use Rattle.hare_types.specs.declared.coercion.Ty.{Ty}
@@ -45,10 +46,6 @@ pointer_of cs = unwrap_or (option_map pointer_in (spelled Nullable cs)) Null
 
 -- ---- members of unions
 
-abbrev pub or_find : Option ℕ → Option ℕ → Option ℕ
-or_find None n = n
-or_find (Some m) n = Some m
-
 -- the value's own type
 abbrev pub own_member : Store → Value → List ℕ → Option ℕ
 own_member s f ms = find (λ m. is_same f (type_at s m)) ms
@@ -72,7 +69,7 @@ lone_member s f ms = find (λ m. is_lone s f (type_at s m)) ms
 abbrev pub chosen_member : Store → Ty → List ℕ → Option ℕ
 chosen_member s f ms =
     let v = value_at s f in
-    or_find (own_member s v ms) (or_find (default_member s v ms) (or_find (holding_member s v ms) (lone_member s v ms)))
+    option_or (own_member s v ms) (option_or (default_member s v ms) (option_or (holding_member s v ms) (lone_member s v ms)))
 
 -- the first row that admits the value to the type, which a coercion that was judged has
 abbrev pub row_to : Store → Ty → ℕ → ℕ

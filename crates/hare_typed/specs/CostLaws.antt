@@ -1,5 +1,5 @@
 -- What holds of the order and of the costs of every tree.
-use Rattle.std.specs.Prelude.{◌≡◌, ℕ, ◌<◌, List, length, map, slice_get, Some, IsSome}
+use Rattle.std.specs.Prelude.{◌≡◌, ℕ, ◌<◌, length, map, slice_get, Some, IsSome}
 use Rattle.hare_types.specs.Store.{Store}
 use Rattle.hare_types.specs.Sound.{IsStore}
 use Rattle.hare_types.specs.Later.{IsLater}
@@ -10,7 +10,7 @@ use Rattle.hare_typed.specs.Order.{check_order}
 use Rattle.hare_typed.specs.Numbers.{IsNumbered, numbered, number_of}
 use Rattle.hare_typed.specs.Given.{TypesIn, given}
 use Rattle.hare_typed.specs.Weight.{weight_of}
-use Rattle.hare_typed.specs.Copies.{Copied, counted}
+use Rattle.hare_typed.specs.Copies.{counted}
 use Rattle.hare_typed.specs.Frame.{node_size}
 
 -- ---- order

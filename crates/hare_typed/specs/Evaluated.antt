@@ -14,7 +14,7 @@ use Rattle.hare_typed.specs.declared.cell.Cell.{Cell}
 use Rattle.hare_typed.specs.Typed.{TypedNode, TypedNodes, Mark, marked, typed_none, typed_more, head_of, mark_of, kids_of}
 use Rattle.hare_typed.specs.Constants.{is_known, own_kind}
 use Rattle.hare_typed.specs.Constancy.{names_void}
-use Rattle.hare_typed.specs.Given.{first_given, base_row, size_in}
+use Rattle.hare_typed.specs.Given.{first_given, base_row, pointee, size_in}
 use Rattle.hare_typed.specs.Weight.{weight_of}
 use Rattle.hare_typed.specs.Answers.{Answer, Gives, ◌then◌}
 use Rattle.hare_typed.specs.Scalars.{Pointer, Address}
@@ -79,10 +79,6 @@ is_named meant.None = false
 abbrev pub names_object : Store → Mark → Bool
 names_object s m = is_named m.meaning && not (is_known m.value || names_void s m.meaning m.ty)
 
-abbrev pub is_pointer_row : Option Row → Bool
-is_pointer_row (Some (row.Pointer i)) = true
-is_pointer_row _ = false
-
 abbrev pub is_slice_row : Option Row → Bool
 is_slice_row (Some (row.Slice i)) = true
 is_slice_row _ = false
@@ -91,8 +87,8 @@ is_slice_row _ = false
 abbrev pub is_place_kind : Store → Kind → Mark → (f : Ty) → (operand : Bool) → Bool
 is_place_kind s kind.Path m f operand = names_object s m
 is_place_kind s kind.Deref m f operand = true
-is_place_kind s kind.Index m f operand = operand || is_pointer_row (base_row s f) || is_slice_row (base_row s f)
-is_place_kind s kind.Field m f operand = operand || is_pointer_row (base_row s f)
+is_place_kind s kind.Index m f operand = operand || is_some (pointee s f) || is_slice_row (base_row s f)
+is_place_kind s kind.Field m f operand = operand || is_some (pointee s f)
 is_place_kind s kind.Paren m f operand = operand
 is_place_kind s _ m f operand = false
 

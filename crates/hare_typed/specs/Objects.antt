@@ -1,5 +1,6 @@
 -- Objects, of which memory is made, and the accesses to them. An object has no address: a pointer names it by its number.
 use Rattle.std.specs.Prelude.{ℕ, ◌+◌, ◌%◌, max, Bool, true, false, not, ◌&&◌, ◌||◌, nat_eq, nat_lt, List, [], ◌∷◌, ◌++◌, length, slice_get, slice_set, Option, Some, None, if◌then◌else◌}
+use Rattle.std.specs.Option.{option_or}
 use Rattle.std.specs.Map.{lookup}
 use Rattle.hare_typed.specs.declared.cell.Cell.{Cell}
 use Rattle.hare_typed.specs.Cells.{cells_within, with_cells, bytes_of}
@@ -35,12 +36,8 @@ pub record Objects : Type 0 where
 abbrev pub Reading : Type 0
 Reading = ℕ → Option Object
 
-abbrev pub or_else : {A : Type 0} → Option A → Option A → Option A
-or_else None b = b
-or_else (Some a) b = Some a
-
 abbrev pub reading : Objects → Reading
-reading os o = or_else (slice_get os.made o) (lookup (nat_eq o) os.named)
+reading os o = option_or (slice_get os.made o) (lookup (nat_eq o) os.named)
 
 -- ---- accesses
 

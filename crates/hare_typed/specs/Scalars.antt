@@ -1,5 +1,6 @@
 -- Scalars: the values of integer types, runes, bools, pointers and void, and the cells that spell them.
 use Rattle.std.specs.Prelude.{◌≡◌, ℕ, ◌*◌, ◌^◌, ◌<◌, pos, ℤ, Bool, false, nat_eq, List, [], ◌∷◌, length, All, Option, Some, None, option_map, option_and_then, if◌then◌else◌}
+use Rattle.std.specs.Option.{option_or}
 use Rattle.hx_base.specs.Memory.{le_bytes, le_number}
 use Rattle.hx_base.specs.Numbers.{residue, wrap}
 use Rattle.hare_typed.specs.declared.cell.Cell.{Cell}
@@ -64,16 +65,12 @@ null_spelled cs =
     if nat_eq (length cs) 8 then option_and_then (λ bs. if nat_eq (le_number bs) 0 then Some (Pointing Null) else None) (bytes_of cs)
     else None
 
-abbrev pub first_spelled : Option Scalar → Option Scalar → Option Scalar
-first_spelled None s = s
-first_spelled (Some r) s = Some r
-
 -- the scalar that the cells spell at the shape, if one
 abbrev pub spelled : Shape → List Cell → Option Scalar
 spelled (Whole n signed) cs = number_spelled n signed cs
 spelled Truth cs = bool_spelled cs
 spelled Reference cs = address_spelled cs
-spelled Nullable cs = first_spelled (address_spelled cs) (null_spelled cs)
+spelled Nullable cs = option_or (address_spelled cs) (null_spelled cs)
 
 -- ---- which scalars a shape has
 

@@ -1,4 +1,4 @@
-//! Typed trees: what a checked program is, and what it costs.
+//! Typed trees: what a checked program is, what it costs, and what its values are.
 #![tactic(auto)]
 
 mod cell;

@@ -1,5 +1,6 @@
 -- To which objects the fragments in cells lead: no operation makes others.
 use Rattle.std.proofs.Common.{ℕ, zero, suc, Bool, true, false, List, [], ◌∷◌, ◌++◌, length, take, drop, Option, Some, None}
+use Rattle.std.specs.Option.{option_or}
 use Rattle.std.specs.Prelude.{ℤ, pos, ◌^◌, ◌*◌, if◌then◌else◌, nat_eq, ◌||◌, option_map, option_and_then, unwrap_or}
 use Rattle.hare_types.specs.declared.coercion.Ty.{Ty}
 use Rattle.hare_types.specs.declared.coercion.Ty.TheVariants as kept
@@ -12,7 +13,7 @@ use Rattle.hare_typed.specs.declared.cell.Cell.{Cell}
 use Rattle.hare_typed.specs.declared.cell.Cell.TheVariants as cell
 use Rattle.hare_typed.specs.Answers.{Answer, Gives, Aborts, IsUndefined, or_undefined, ◌then◌}
 use Rattle.hare_typed.specs.Cells.{byte_cells, bytes_of, fragments, are_fragments, cells_within, undefined_cells, with_cells}
-use Rattle.hare_typed.specs.Scalars.{Pointer, Null, Address, Scalar, Number, Pointing, Shape, Nullable, width, cells, spelled, address_spelled, null_spelled, first_spelled}
+use Rattle.hare_typed.specs.Scalars.{Pointer, Null, Address, Scalar, Number, Pointing, Shape, Nullable, width, cells, spelled, address_spelled, null_spelled}
 use Rattle.hare_typed.specs.Objects.{scalar_of}
 use Rattle.hare_typed.specs.Shapes.{shape_at}
 use Rattle.hare_typed.specs.Words.{Words, three, words, size_shape, size_cells, size_in, pointer_in}
@@ -130,7 +131,7 @@ module _ (P : ℕ → Type 0) where
       go None = tt
       go (Some bs) = found_if _ (Some (Pointing Null)) tt
 
-  found_first : (r s : Option Scalar) → PointsFound r → PointsFound s → PointsFound (first_spelled r s)
+  found_first : (r s : Option Scalar) → PointsFound r → PointsFound s → PointsFound (option_or r s)
   found_first None s h k = k
   found_first (Some v) s h k = h
 
