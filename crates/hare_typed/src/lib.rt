@@ -9,6 +9,8 @@ mod exits;
 mod given;
 mod laws;
 mod program;
+#[cfg(test)]
+mod tests;
 mod typed;
 mod value_laws;
 mod weights;

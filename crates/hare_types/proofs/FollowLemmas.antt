@@ -8,7 +8,7 @@ use Rattle.hare_types.specs.Numbering.{Continues}
 use Rattle.hare_types.specs.Store.{Store}
 use Rattle.hare_types.specs.Kept.{unknown}
 use Rattle.hare_types.specs.ByIds.{row_at, found_within, found}
-use Rattle.hare_types.proofs.ListLemmas.{slice_get_front}
+use Rattle.hare_types.proofs.ListLemmas.{slice_get_front, slice_get_past}
 use Rattle.hare_types.proofs.GrowthLemmas.{Knows}
 
 abbrev pub Rule : Type 0 → Type 0
@@ -117,12 +117,7 @@ module _ {A : Type 0} (s : Store) (rule : Rule A) (grows : Grows rule rule) wher
   -- of a number that is no id nothing is found
   beyond : (i : ℕ) → length s.rows ≤ i → (n : ℕ) → found_within s rule n i ≡ None
   beyond i l zero = refl
-  beyond i l (suc n) = ap (option_and_then (rule (found_within s rule n) i)) (past s.rows i l)
-    where
-      past : (rs : List Row) (j : ℕ) → length rs ≤ j → slice_get rs j ≡ None
-      past [] j m = refl
-      past (r ∷ rs) zero m = absurd (omega arith)
-      past (r ∷ rs) (suc j) m = past rs j (omega arith)
+  beyond i l (suc n) = ap (option_and_then (rule (found_within s rule n) i)) (slice_get_past s.rows i l)
 
   settled-all : (n : ℕ) → ((i : ℕ) → i < length s.rows → found_within s rule (suc n) i ≡ found_within s rule n i) → Settled n
   settled-all n h i = by (cases_lt i (length s.rows))

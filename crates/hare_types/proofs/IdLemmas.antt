@@ -1,8 +1,7 @@
 -- What types are by their ids is what they are as trees.
-use Rattle.std.proofs.Common.{◌≡◌, ℕ, zero, suc, ◌+◌, ◌*◌, ◌<◌, ◌≤◌, Bool, true, false, nat_eq, List, [], ◌∷◌, length, map, Option, Some, None, IsSome, refl, ap, ap₂, sym, ◌∙◌, subst, arith, ◌⊎◌, inl, inr, add-one}
+use Rattle.std.proofs.Common.{◌≡◌, ℕ, zero, suc, ◌+◌, ◌*◌, ◌<◌, ◌≤◌, Bool, nat_eq, List, [], ◌∷◌, length, map, Option, Some, None, refl, ap, sym, ◌∙◌, subst, arith, ◌⊎◌, inl, inr}
 use Rattle.std.specs.Prelude.{◌↔◌, slice_get, slice_index_or, option_map, option_and_then, position}
 use Rattle.std.specs.Cmp.{unsigned_Decides}
-use Rattle.std.specs.Option.{unwrap_or}
 use Rattle.std.proofs.lemmas.Bool.{cases_lt}
 use Rattle.std.proofs.lemmas.List.{map-id}
 use Rattle.std.proofs.lemmas.Option.{slice_get-get_or, get_or_from_slice_get, slice_get_within}
@@ -12,21 +11,21 @@ use Rattle.hare_types.specs.declared.row.Row.TheVariants as row
 use Rattle.hare_types.specs.declared.row.Scalar.TheVariants as keyword
 use Rattle.hare_types.specs.Keys.{row_eq}
 use Rattle.hare_types.specs.KeyLaws.{row_eq-Decides}
-use Rattle.hare_types.specs.Trees.{Tree, Trees, Scalar, Error, Named, trees_of, Same}
+use Rattle.hare_types.specs.Trees.{Tree, Scalar, Named, trees_of, Same}
 use Rattle.hare_types.specs.Rows.{tree_in, tree_of, trees}
 use Rattle.hare_types.specs.Store.{Store, tree_at, sized_of, definition_of, meaning_of, IsTag}
 use Rattle.hare_types.specs.Sound.{IsStore}
-use Rattle.hare_types.specs.ByValue.{has_size_by, has_size}
-use Rattle.hare_types.specs.Layout.{fields_extent, union_extent, following, base_with, IsBase, error_with, IsError, extent_with, extents_with}
-use Rattle.hare_types.specs.Kept.{LiesIn, told, all_known, extent_over}
+use Rattle.hare_types.specs.ByValue.{has_size}
+use Rattle.hare_types.specs.Layout.{fields_extent, union_extent, following, base_with, error_with, IsError, extent_with, extents_with}
+use Rattle.hare_types.specs.Kept.{LiesIn, told, IsTold, all_known, extent_over}
 use Rattle.hare_types.specs.Bases.{IsBaseOf, base_over}
-use Rattle.hare_types.specs.ByIds.{row_at, found_within, found, base_at, error_over, marked_at, is_error_at, sized_over, sized_at, has_size_at, bytes_over, extent_at, tag_at}
+use Rattle.hare_types.specs.ByIds.{row_at, found_within, found, base_at, error_over, marked_at, sized_over, sized_at, bytes_over, extent_at, tag_at}
 use Rattle.hare_types.specs.Unions.{id_of}
 use Rattle.hare_types.proofs.TreeLemmas.{length-trees}
 use Rattle.hare_types.proofs.SameLemmas.{Same-refl}
 use Rattle.hare_types.proofs.NumberingLemmas.{position_found, position_absent}
 use Rattle.hare_types.proofs.CallerLemmas.{tree_at_row, one_id}
-use Rattle.hare_types.proofs.GrowthLemmas.{Knows, option_map-more, option_and_then-more, base_with-more, extent_with-more, extents_with-more, following-further}
+use Rattle.hare_types.proofs.GrowthLemmas.{Knows, option_map-more, option_and_then-more, base_with-more, extent_with-more, following-further}
 use Rattle.hare_types.proofs.FollowLemmas.{Grows, found-row}
 use Rattle.hare_types.proofs.KeptLemmas.{names, by_names, names-further, parts_of_struct, none_lies}
 use Rattle.hare_types.proofs.BaseLemmas.{base-step, none_base}
@@ -452,3 +451,23 @@ module _ (s : Store) (v : IsStore s) where
       whole h (Some k) f =
           let same : k ≡ h.0 = v.listed_once.once k h.0 t (place k f) h.2 in
           ap (option_map suc) f ∙ ap Some (omega (arith, same, h.1))
+
+  -- ---- what is told of them
+
+  pub base_is : (t : ℕ) (o : Option ℕ) → ((b : ℕ) → o ≡ Some b → IsBaseOf s t b) → (o ≡ None → (b : ℕ) → ¬ IsBaseOf s t b) → o ≡ base_at s t
+  base_is t (Some b) some none = sym ((base_tells t b).1 (some b refl))
+  base_is t None some none = by (base_at s t) refl
+    where
+      by : (o : Option ℕ) → base_at s t ≡ o → None ≡ base_at s t
+      by None e = sym e
+      by (Some b) e = absurd (none refl b ((base_tells t b).0 e))
+
+  pub extent_is : (t : ℕ) (o : Option Extent) → ((x : Extent) → o ≡ Some x → IsTold s t x) → (o ≡ None → (x : Extent) → ¬ LiesIn s t x) → o ≡ option_map told (extent_at s t)
+  extent_is t (Some x) some none =
+      let h = some x refl in
+      ap Some h.2 ∙ sym (ap (option_map told) ((extent_tells t h.0).1 h.1))
+  extent_is t None some none = by (extent_at s t) refl
+    where
+      by : (o : Option Extent) → extent_at s t ≡ o → None ≡ option_map told (extent_at s t)
+      by None e = sym (ap (option_map told) e)
+      by (Some x) e = absurd (none refl x ((extent_tells t x).0 e))

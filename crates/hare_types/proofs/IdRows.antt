@@ -4,7 +4,7 @@ use Rattle.hare_types.specs.declared.row.Row.TheVariants as row
 use Rattle.hare_types.specs.declared.row.Scalar.TheVariants as keyword
 use Rattle.hare_types.specs.declared.declared.Declared.{Declared}
 use Rattle.hare_types.specs.Store.{Store}
-use Rattle.hare_types.specs.ByIds.{row_at, base_at, is_error_at, has_size_at, extent_at, size_at, align_at, field_at, parts_at, offset_at, payload_at, tag_at, members_at}
+use Rattle.hare_types.specs.ByIds.{base_at, is_error_at, has_size_at, extent_at, size_at, align_at, field_at, parts_at, offset_at, payload_at, tag_at, members_at}
 use Rattle.hare_types.specs.Unions.{id_of, union_of, left_of, reduced_of, without_errors}
 
 abbrev int : ℕ

@@ -16,7 +16,7 @@ use Rattle.hare_types.specs.Rows.{tree_in, tree_of, trees, AllBelow, FieldsBelow
 use Rattle.hare_types.specs.Store.{Store, tree_at, definition_of, meaning_of}
 use Rattle.hare_types.specs.Sound.{IsStore}
 use Rattle.hare_types.specs.Layout.{fields_extent, union_extent, following, extent_with, extents_with, HasExtent}
-use Rattle.hare_types.specs.Kept.{LiesIn, told, IsTold, IsBounded, known, defined, all_known, extent_over, AreBounded, KeepsExtents, IsSettled, IsInert, unknown}
+use Rattle.hare_types.specs.Kept.{LiesIn, told, IsTold, IsBounded, known, defined, all_known, extent_over, AreBounded, KeepsExtents, IsInert, unknown}
 use Rattle.hare_types.proofs.ListLemmas.{slice_get_end}
 use Rattle.hare_types.proofs.TreeLemmas.{length-trees, tree_kept}
 use Rattle.hare_types.proofs.DefinitionLemmas.{meaning_kept}

@@ -1,6 +1,6 @@
 -- What later stores say too.
-use Rattle.std.proofs.Common.{◌≡◌, ℕ, zero, suc, ◌<◌, Bool, true, false, not, cond, List, [], ◌∷◌, ◌++◌, length, map, Option, Some, None, IsSome, refl, ap, ap₂, sym, ◌∙◌, subst, arith}
-use Rattle.std.specs.Prelude.{Contains, filter, flat_map, slice_get, slice_index_or, option_map, option_and_then}
+use Rattle.std.proofs.Common.{◌≡◌, ℕ, suc, ◌<◌, Bool, false, not, cond, List, [], ◌∷◌, ◌++◌, length, Option, Some, None, IsSome, refl, ap, ap₂, sym, ◌∙◌, subst, arith}
+use Rattle.std.specs.Prelude.{Contains, filter, flat_map, slice_index_or, option_map, option_and_then}
 use Rattle.std.specs.Option.{unwrap_or}
 use Rattle.std.proofs.lemmas.Option.{slice_get-get_or}
 use Rattle.hare_types.specs.declared.extent.Extent.{Extent}
@@ -8,17 +8,16 @@ use Rattle.hare_types.specs.declared.row.Row.{Row}
 use Rattle.hare_types.specs.declared.row.Row.TheVariants as row
 use Rattle.hare_types.specs.declared.row.Scalar.TheVariants as keyword
 use Rattle.hare_types.specs.Rows.{AllBelow}
-use Rattle.hare_types.specs.Trees.{Tree}
-use Rattle.hare_types.specs.Store.{Store, tree_at, sized_of, definition_of, Extends}
+use Rattle.hare_types.specs.Store.{Store, sized_of, definition_of, Extends}
 use Rattle.hare_types.specs.Sound.{IsStore}
 use Rattle.hare_types.specs.Layout.{field_start, payload_start}
 use Rattle.hare_types.specs.Kept.{parts_of, all_known}
 use Rattle.hare_types.specs.Bases.{base_over}
-use Rattle.hare_types.specs.ByIds.{row_at, base_at, error_over, marked_at, is_error_at, sized_over, sized_at, has_size_at, bytes_over, extent_at, size_at, align_at, parts_at, field_in, field_at, fields_of, fields_at, members_of, members_at, offset_at, payload_at}
-use Rattle.hare_types.specs.Unions.{id_of, union_of, joined, ascending, brought_by, brought_at, left_of, reduced_of, values_at, joined_or_never, without_errors}
+use Rattle.hare_types.specs.ByIds.{row_at, base_at, error_over, marked_at, is_error_at, sized_over, sized_at, bytes_over, extent_at, field_in, fields_of, fields_at, members_of, members_at}
+use Rattle.hare_types.specs.Unions.{id_of, joined, ascending, brought_by, brought_at, left_of, values_at, joined_or_never}
 use Rattle.hare_types.specs.Later.{IsLater, AreMarksKnown, KeepsTypes}
-use Rattle.hare_types.proofs.CallerLemmas.{Continues-refl, Extends-refl, Extends-trans, tree_at-Extends}
-use Rattle.hare_types.proofs.GrowthLemmas.{Knows, option_map-more, option_and_then-more}
+use Rattle.hare_types.proofs.CallerLemmas.{Extends-refl, Extends-trans, tree_at-Extends}
+use Rattle.hare_types.proofs.GrowthLemmas.{option_map-more, option_and_then-more}
 use Rattle.hare_types.proofs.FollowLemmas.{row-continued, found-more}
 use Rattle.hare_types.proofs.IdLemmas.{base_over-grows, error_over-grows, sized_over-grows, bytes_over-grows, all_known-grows, id_tells}
 

@@ -28,3 +28,5 @@ pub mod IdLemmas
 pub mod AscendingLemmas
 pub mod LaterLemmas
 pub mod MeaningsLemmas
+mod FieldLemmas
+mod MarkLemmas

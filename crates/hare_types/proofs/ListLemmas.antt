@@ -29,3 +29,9 @@ pub slice_get_none : {A : Type 0} (xs : List A) (i : ℕ) → slice_get xs i ≡
 slice_get_none [] i e = omega arith
 slice_get_none (x ∷ xs) zero e = absurd cc
 slice_get_none (x ∷ xs) (suc i) e = omega (arith, slice_get_none xs i e)
+
+-- behind the list there is no element
+pub slice_get_past : {A : Type 0} (xs : List A) (i : ℕ) → length xs ≤ i → slice_get xs i ≡ None
+slice_get_past [] i h = refl
+slice_get_past (x ∷ xs) zero h = absurd (omega arith)
+slice_get_past (x ∷ xs) (suc i) h = slice_get_past xs i (omega arith)

@@ -3,6 +3,7 @@
 use Rattle.std.specs.Prelude.{ℕ, zero, suc, ◌*◌, ◌==◌, nat_eq, Bool, true, false, List, [], length, map, position, slice_get, Some, None, Option, is_some, option_map, option_and_then}
 use Rattle.std.specs.Option.{unwrap_or}
 use Rattle.hare_types.specs.declared.extent.Extent.{Extent}
+use Rattle.hare_types.specs.declared.lists.Field.{Field}
 use Rattle.hare_types.specs.declared.row.Row.{Row}
 use Rattle.hare_types.specs.declared.row.Row.TheVariants as row
 use Rattle.hare_types.specs.Store.{Store, sized_of, definition_of}
@@ -108,18 +109,22 @@ align_at s t = unwrap_or (option_map (λ x. x.align) (extent_at s t)) 1
 abbrev pub parts_at : Store → ℕ → List ℕ
 parts_at s t = unwrap_or (option_map parts_of (row_at s t)) []
 
+-- the fields of a struct
+abbrev pub fields_in : Row → List Field
+fields_in (row.Struct fs) = fs
+fields_in (row.Scalar k) = []
+fields_in (row.Pointer i) = []
+fields_in (row.Nullable i) = []
+fields_in (row.Slice i) = []
+fields_in (row.Array n i) = []
+fields_in (row.Tuple is) = []
+fields_in (row.Union is) = []
+fields_in (row.Error i) = []
+fields_in (row.Named d) = []
+
 -- the place of the first field of a struct that has the name with this number
 abbrev pub field_in : ℕ → Row → Option ℕ
-field_in name (row.Struct fs) = position (λ f. f.name == name) fs
-field_in name (row.Scalar k) = None
-field_in name (row.Pointer i) = None
-field_in name (row.Nullable i) = None
-field_in name (row.Slice i) = None
-field_in name (row.Array n i) = None
-field_in name (row.Tuple is) = None
-field_in name (row.Union is) = None
-field_in name (row.Error i) = None
-field_in name (row.Named d) = None
+field_in name r = position (λ f. f.name == name) (fields_in r)
 
 -- the same of the row itself, names and error marks not followed
 abbrev pub field_at : Store → ℕ → ℕ → Option ℕ

@@ -2,11 +2,13 @@ pub mod Assign
 pub mod Bases
 pub mod ByIds
 pub mod ByValue
+pub mod Fields
 pub mod Kept
 pub mod KeyLaws
 pub mod Keys
 pub mod Later
 pub mod Layout
+pub mod Marks
 pub mod Meanings
 pub mod Numbering
 pub mod Packed
@@ -19,3 +21,4 @@ pub mod Store
 pub mod Trees
 pub mod Unions
 pub mod Waiting
+pub mod Whole

@@ -1,20 +1,25 @@
 //! The store of the types, names and declarations of a program.
 
-ghost use Rattle.std.specs.Prelude.{◌≡◌, ◌≢◌, ◌≤◌, ◌<◌, ◌+◌, ◌++◌, ◌∷◌, [], ℕ, List, length, slice_get, IfOk, IfSome, IsSome, IfNone, OnOk, OnErr, Some, None};
+ghost use Rattle.std.specs.Prelude.{◌≡◌, ◌≢◌, ◌≤◌, ◌<◌, ◌+◌, ◌++◌, ◌∷◌, [], ℕ, List, length, slice_get, IfOk, IfSome, IsSome, IfNone, OnOk, OnErr, Some, None, option_map};
 ghost use Rattle.hare_types.specs.declared.extent.Extent.{Extent as ExtentOf};
 ghost use Rattle.hare_types.specs.Bases.{IsBaseOf};
+ghost use Rattle.hare_types.specs.ByIds.{base_at, has_size_at, extent_at, field_at, tag_at};
 ghost use Rattle.hare_types.specs.ByValue.{has_size, HoldsByValue};
 ghost use Rattle.hare_types.specs.Kept.{LiesIn, told, IsBounded};
+ghost use Rattle.hare_types.specs.Later.{IsLater};
 ghost use Rattle.hare_types.specs.Numbering.{IsNumbered};
 ghost use Rattle.hare_types.specs.Rows.{tree_of, trees, IsWithin, IsReduced};
 ghost use Rattle.hare_types.specs.Sound.{IsStore};
-ghost use Rattle.hare_types.specs.Store.{empty, tree_at, sized_of, definition_of, with_declared, IsTag, Extends};
+ghost use Rattle.hare_types.specs.Store.{Store, empty, tree_at, sized_of, definition_of, with_declared, IsTag, Extends};
 ghost use Rattle.hare_types.specs.Trees.{Tree, Same};
+ghost use Rattle.hare_types.specs.Unions.{id_of};
 
 use crate::declared::{Declared, set_definition};
 use crate::extent::Extent;
+use crate::fields::{FieldName, FieldPlaces, enter_if_new, reserve_fields};
 use crate::id::TypeId;
 use crate::kept::{Kept, base_at, extent_at};
+use crate::marks::has_size;
 use crate::numbering::number;
 use crate::places::Rows;
 use crate::row::Row;
@@ -27,7 +32,7 @@ use std::marker::Model;
 /// The types of a program, each under one id, the spellings of names, each under one number, the declared types, and the list of
 /// the types that have tags.
 ///
-/// Beside each type its extent and its base are kept, so that both are found in constant time.
+/// Beside each type its extent, its base and the places of its fields are kept, so that they are found in constant time.
 ///
 /// A store that holds 2^32 - 1 names, types or listed types answers `AllocError` to one more.
 #[derive(Drop)]
@@ -37,18 +42,19 @@ pub struct TypeStore {
     declared: IndexMap<u32, Declared>,
     listed: IndexSet<TypeId>,
     kept: Vec<Kept>,
+    fields: FieldPlaces,
 }
 
 impl Model for TypeStore {
     ghost use Rattle.std.specs.Prelude.{map};
     ghost use Rattle.hare_types.specs.Store.{Store};
-    ghost use Rattle.hare_types.specs.Waiting.{AreKept};
+    ghost use Rattle.hare_types.specs.Whole.{IsWhole};
 
     ghost Value = { Store };
 
     ghost view = { λ a. record { names = map (λ v. v.items) a.names.keys; rows = a.rows.keys; declared = a.declared.entries; listed = a.listed.keys } };
 
-    ghost invariant = { λ a. AreKept (record { names = map (λ v. v.items) a.names.keys; rows = a.rows.keys; declared = a.declared.entries; listed = a.listed.keys }) a.kept.items };
+    ghost invariant = { λ a. IsWhole (record { names = map (λ v. v.items) a.names.keys; rows = a.rows.keys; declared = a.declared.entries; listed = a.listed.keys }) a.kept.items a.fields.entries };
 }
 
 impl TypeStore {
@@ -62,6 +68,7 @@ impl TypeStore {
             declared: IndexMap::new(alloc),
             listed: IndexSet::new(alloc),
             kept: Vec::new(alloc),
+            fields: IndexMap::new(alloc),
         }
     }
 
@@ -70,6 +77,7 @@ impl TypeStore {
         ensures numbered { IfOk result (λ n. IsNumbered self.old.names self.new.names spelling.now n) }
         ensures rest { OnOk result (self.new ≡ record self.old { names = self.new.names }) }
         ensures grows { Extends self.old self.new }
+        ensures later { IsLater self.old self.new }
         ensures err { OnErr result (self.new ≡ self.old) }
     {
         if let Some(n) = self.find_name(spelling) {
@@ -98,6 +106,7 @@ impl TypeStore {
         ensures ok { OnOk result (self.new ≡ with_declared self.old decl sized) }
         ensures entered { OnOk result (sized_of self.new decl ≡ Some sized) }
         ensures grows { Extends self.old self.new }
+        ensures later { IsLater self.old self.new }
         ensures err { OnErr result (self.new ≡ self.old) }
     {
         let fresh = Declared {
@@ -124,6 +133,7 @@ impl TypeStore {
         ensures sized { (d : ℕ) → sized_of self.new d ≡ sized_of self.old d }
         ensures rest { self.new ≡ record self.old { declared = self.new.declared } }
         ensures grows { Extends self.old self.new }
+        ensures later { IsLater self.old self.new }
     {
         set_definition(&mut self.declared, decl, t);
         settle(&self.rows, &self.declared, &mut self.kept, decl);
@@ -164,18 +174,22 @@ impl TypeStore {
         requires within { IsWithin (length self.old.rows) r }
         requires reduced { IsReduced self.old.rows r }
         ensures numbered { IfOk result (λ t. IsNumbered self.old.rows self.new.rows r t) }
+        ensures id { IfOk result (λ t. (later : Store) → IsLater self.new later → id_of later r ≡ Some t) }
         ensures within { IfOk result (λ t. t < length self.new.rows) }
         ensures stands { IfOk result (λ t. tree_at self.new t ≡ Some (tree_of (trees self.old.rows) r)) }
         ensures once { IfOk result (λ t. (i : ℕ) (u : Tree) → tree_at self.new i ≡ Some u → Same u (tree_of (trees self.old.rows) r) → i ≡ t) }
         ensures kept { (i : ℕ) (u : Tree) → tree_at self.old i ≡ Some u → tree_at self.new i ≡ Some u }
         ensures rest { OnOk result (self.new ≡ record self.old { rows = self.new.rows }) }
         ensures grows { Extends self.old self.new }
+        ensures later { IsLater self.old self.new }
         ensures err { OnErr result (self.new ≡ self.old) }
     {
         let here = self.rows.len();
         self.kept.reserve(1)?;
+        reserve_fields(&mut self.fields, &r)?;
         let place = number(&mut self.rows, r)?;
         keep_if_new(self.rows.as_slice(), &self.declared, &mut self.kept, here);
+        enter_if_new(self.rows.as_slice(), &mut self.fields, here);
         Ok(TypeId::at(place))
     }
 
@@ -192,6 +206,7 @@ impl TypeStore {
     /// 2^40 + 1. `None` where the type is, or holds by value, a name that is not defined, or one that has no size. The time is
     /// constant.
     pub fn extent(&self, t: TypeId) -> Option<Extent>
+        ensures value { result ≡ option_map told (extent_at self.now t) }
         ensures some { IfSome result (λ x. (y : ExtentOf) × LiesIn self.now t y × (x ≡ told y)) }
         ensures none { IfNone result ((y : ExtentOf) → ¬ LiesIn self.now t y) }
         ensures within { IfSome result (λ x. IsBounded x) }
@@ -203,11 +218,32 @@ impl TypeStore {
     /// What is left of a type once names and error marks are followed until neither is left. `None` where it comes to a name that is not
     /// defined. The time is constant.
     pub fn base(&self, t: TypeId) -> Option<TypeId>
+        ensures value { result ≡ base_at self.now t }
         ensures some { IfSome result (λ b. IsBaseOf self.now t b) }
         ensures none { IfNone result ((b : ℕ) → ¬ IsBaseOf self.now t b) }
         ensures sound { IsStore self.now }
     {
         base_at(self.kept.as_slice(), t)
+    }
+
+    /// Whether values of the type have a size: never and opaque have none, an error type as much as the type that it marks, and a name as it
+    /// was declared, which is known before it is defined; a name that is not declared has none. The time is that of the error marks that
+    /// stand directly before one another.
+    pub fn has_size(&self, t: TypeId) -> bool
+        ensures { result ≡ has_size_at self.now t }
+    {
+        has_size(self.rows.as_slice(), &self.declared, t)
+    }
+
+    /// The place of the field of a struct that has the name of this number, counted from 0: of the first where there are several. `None` where
+    /// the type is no struct, or has no such field; names and error marks are not followed. The time is constant.
+    pub fn field(&self, t: TypeId, name: u32) -> Option<usize>
+        ensures { result ≡ field_at self.now t name }
+    {
+        match self.fields.get(&FieldName { of: t, name }) {
+            Some(place) => Some(*place),
+            None => None,
+        }
     }
 
     /// The tag of a type, counted from 1: its place in the list of the types that have tags, where it is put last unless it is there.
@@ -217,6 +253,7 @@ impl TypeStore {
         ensures numbered { IfOk result (λ n. (k : ℕ) × (n ≡ k + 1) × IsNumbered self.old.listed self.new.listed t k) }
         ensures rest { OnOk result (self.new ≡ record self.old { listed = self.new.listed }) }
         ensures grows { Extends self.old self.new }
+        ensures later { IsLater self.old self.new }
         ensures err { OnErr result (self.new ≡ self.old) }
     {
         let place = number(&mut self.listed, t)?;
@@ -225,13 +262,15 @@ impl TypeStore {
 
     /// Empties the list of the types that have tags, and leaves all else.
     pub fn unmention(&mut self)
-        ensures { self.new ≡ record self.old { listed = [] } }
+        ensures emptied { self.new ≡ record self.old { listed = [] } }
+        ensures later { IsLater self.old self.new }
     {
         self.listed.clear();
     }
 
     /// The tag of a type, `None` where it has none.
     pub fn tag(&self, t: TypeId) -> Option<u32>
+        ensures value { result ≡ tag_at self.now t }
         ensures found { IfSome result (λ n. IsTag self.now t n) }
         ensures none { IfNone result ((k : ℕ) → slice_get self.now.listed k ≢ Some t) }
     {

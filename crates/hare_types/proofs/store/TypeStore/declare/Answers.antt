@@ -1,4 +1,4 @@
-use Rattle.std.proofs.Common.{◌≡◌, Option, Some, None, refl, ◌∙◌}
+use Rattle.std.proofs.Common.{rules, ◌≡◌, Option, Some, None, refl, ◌∙◌}
 use Rattle.std.specs.Prelude.{nat_eq, option_map}
 use Rattle.std.specs.Map.{lookup}
 use Rattle.indexmap.proofs.CallerLemmas.{insert_entry-new}
@@ -9,6 +9,7 @@ use Rattle.hare_types.proofs.KeptLemmas.{KeepsExtents-defined}
 use Rattle.hare_types.proofs.BaseLemmas.{KeepsBases-defined}
 use Rattle.hare_types.proofs.MeaningLemmas.{AreSettling-declared}
 use Rattle.hare_types.proofs.SoundLemmas.{IsStore-declared}
+use Rattle.hare_types.proofs.LaterLemmas.{later_grown}
 use Rattle.hare_types.proofs.store.TypeStore.declare.Goals as goal
 
 -- an entry of which no size is known is none
@@ -26,16 +27,22 @@ invariant_of-self-2 c =
     let ks = c.self.inside.kept.items in
     let same = declared-definition es new c.args.decl _ refl (fresh c) c.in_ok-insert.ensures.updates.0 in
     record {
-      store = IsStore-declared _ new c.args.decl _ c.self.invariant.store refl (fresh c) c.in_ok-insert.ensures.updates.0;
-      extents = KeepsExtents-defined _ new (extents ks) (λ d t e. same d ∙ e) c.self.invariant.extents;
-      bases = KeepsBases-defined _ new (bases ks) (λ d t e. same d ∙ e) c.self.invariant.bases;
-      based = c.self.invariant.based;
-      seen = c.self.invariant.seen;
-      lists = c.self.invariant.lists;
-      settled = AreSettling-declared c.self.inside.rows.keys es new ks nowhere c.self.invariant.lists same c.self.invariant.settled;
+      kept = record {
+        store = IsStore-declared _ new c.args.decl _ c.self.invariant.kept.store refl (fresh c) c.in_ok-insert.ensures.updates.0;
+        extents = KeepsExtents-defined _ new (extents ks) (λ d t e. same d ∙ e) c.self.invariant.kept.extents;
+        bases = KeepsBases-defined _ new (bases ks) (λ d t e. same d ∙ e) c.self.invariant.kept.bases;
+        based = c.self.invariant.kept.based;
+        seen = c.self.invariant.kept.seen;
+        lists = c.self.invariant.kept.lists;
+        settled = AreSettling-declared c.self.inside.rows.keys es new ks nowhere c.self.invariant.kept.lists same c.self.invariant.kept.settled;
+      };
+      fields = c.self.invariant.fields;
     }
 
 pub returns-clause-ok : goal.returns-clause-ok
 returns-clause-ok c =
     let e = insert_entry-new nat_eq c.self.inside.declared c.args.decl (record { sized = c.args.sized; definition = None }) (fresh c) in
     rw (← c.self.view_is, c.in_ok-insert.ensures.entries, e) refl
+
+pub returns-clause-later : goal.returns-clause-later
+returns-clause-later c = later_grown _ _ (search rules) (invariant_of-self-2 c).kept.store

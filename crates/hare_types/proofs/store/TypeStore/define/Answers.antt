@@ -1,4 +1,4 @@
-use Rattle.std.proofs.Common.{Some, nat_eq, refl, sym, ◌∙◌}
+use Rattle.std.proofs.Common.{rules, Some, nat_eq, refl, sym, ◌∙◌}
 use Rattle.std.proofs.lemmas.Option.{IfSome_then}
 use Rattle.std.proofs.lemmas.List.{length-map}
 use Rattle.indexmap.specs.IndexMap.{Updates}
@@ -8,6 +8,7 @@ use Rattle.hare_types.proofs.KeptLemmas.{KeepsExtents-defined}
 use Rattle.hare_types.proofs.BaseLemmas.{KeepsBases-defined}
 use Rattle.hare_types.proofs.MeaningLemmas.{AreSettling-defined, needs-within}
 use Rattle.hare_types.proofs.SoundLemmas.{IsStore-define, definitions-kept, definitions-there}
+use Rattle.hare_types.proofs.LaterLemmas.{later_grown}
 use Rattle.hare_types.proofs.store.TypeStore.define.Goals as goal
 
 pub invariant_of-self : goal.invariant_of-self
@@ -21,16 +22,19 @@ invariant_of-self c =
     let within = rw (← c.self.view_is) at c.requires.within in
     let finite = rw (← c.self.view_is) at c.requires.finite in
     let put = IfSome_then _ c.set_definition.ensures (λ (e : Declared) (h : Updates nat_eq c.self.inside.declared c.set_definition.new.declared c.args.decl (Some (record e { definition = Some c.args.t }))). h.0) in
-    let store = IsStore-define _ new c.args.decl c.args.t c.self.invariant.store declared fresh sized within finite put in
+    let store = IsStore-define _ new c.args.decl c.args.t c.self.invariant.kept.store declared fresh sized within finite put in
     let still = definitions-kept es new c.args.decl c.args.t declared fresh put in
     record {
-      store = store;
-      extents = c.settle.ensures.extents _ refl refl store (KeepsExtents-defined _ new (extents ks) still c.self.invariant.extents);
-      bases = c.settle.ensures.bases _ refl refl store (KeepsBases-defined _ new (bases ks) still c.self.invariant.bases);
-      based = c.settle.ensures.based;
-      seen = c.settle.ensures.seen;
-      lists = c.settle.ensures.settled.0;
-      settled = c.settle.ensures.settled.1;
+      kept = record {
+        store = store;
+        extents = c.settle.ensures.extents _ refl refl store (KeepsExtents-defined _ new (extents ks) still c.self.invariant.kept.extents);
+        bases = c.settle.ensures.bases _ refl refl store (KeepsBases-defined _ new (bases ks) still c.self.invariant.kept.bases);
+        based = c.settle.ensures.based;
+        seen = c.settle.ensures.seen;
+        lists = c.settle.ensures.settled.0;
+        settled = c.settle.ensures.settled.1;
+      };
+      fields = c.self.invariant.fields;
     }
 
 pub settle-requires : goal.settle-requires
@@ -44,14 +48,17 @@ settle-requires c =
     let within = rw (← c.self.view_is) at c.requires.within in
     let finite = rw (← c.self.view_is) at c.requires.finite in
     let put = IfSome_then _ c.set_definition.ensures (λ (e : Declared) (h : Updates nat_eq c.self.inside.declared c.set_definition.new.declared c.args.decl (Some (record e { definition = Some c.args.t }))). h.0) in
-    let store = IsStore-define _ new c.args.decl c.args.t c.self.invariant.store declared fresh sized within finite put in
+    let store = IsStore-define _ new c.args.decl c.args.t c.self.invariant.kept.store declared fresh sized within finite put in
     record {
-      once = c.self.invariant.store.rows_sound.once;
-      few = c.self.invariant.store.rows_few;
-      as_many = sym (length-map ks (λ k. k.extent)) ∙ c.self.invariant.extents.as_many;
-      bounded = c.self.invariant.extents.bounded;
-      based = c.self.invariant.based;
+      once = c.self.invariant.kept.store.rows_sound.once;
+      few = c.self.invariant.kept.store.rows_few;
+      as_many = sym (length-map ks (λ k. k.extent)) ∙ c.self.invariant.kept.extents.as_many;
+      bounded = c.self.invariant.kept.extents.bounded;
+      based = c.self.invariant.kept.based;
       needs = needs-within _ store;
-      seen = c.self.invariant.seen;
-      lists = (c.self.invariant.lists, AreSettling-defined _ ks c.args.decl new c.self.invariant.lists c.self.invariant.store c.self.invariant.extents fresh (definitions-there es new c.args.decl c.args.t declared put) c.self.invariant.settled);
+      seen = c.self.invariant.kept.seen;
+      lists = (c.self.invariant.kept.lists, AreSettling-defined _ ks c.args.decl new c.self.invariant.kept.lists c.self.invariant.kept.store c.self.invariant.kept.extents fresh (definitions-there es new c.args.decl c.args.t declared put) c.self.invariant.kept.settled);
     }
+
+pub returns-clause-later : goal.returns-clause-later
+returns-clause-later c = later_grown _ _ (search rules) (invariant_of-self c).kept.store

@@ -8,23 +8,27 @@ use Rattle.hare_types.proofs.SoundLemmas.{IsStore-listed}
 use Rattle.hare_types.specs.Waiting.{extents, bases}
 use Rattle.hare_types.proofs.KeptLemmas.{KeepsExtents-same}
 use Rattle.hare_types.proofs.BaseLemmas.{KeepsBases-same}
+use Rattle.hare_types.proofs.LaterLemmas.{later_grown}
 use Rattle.hare_types.proofs.store.TypeStore.mention.Goals as goal
 
 numbered : (c : goal.In_ok-place) → IsNumbered c.self.inside.listed.keys c.number.new.set.keys c.args.t c.in_ok-place.place
-numbered c = plain_numbered nat_eq unsigned_Decides _ _ _ _ c.in_ok-place.ensures.place c.in_ok-place.ensures.kept c.in_ok-place.ensures.added c.self.invariant.store.listed_once
+numbered c = plain_numbered nat_eq unsigned_Decides _ _ _ _ c.in_ok-place.ensures.place c.in_ok-place.ensures.kept c.in_ok-place.ensures.added c.self.invariant.kept.store.listed_once
 
 once : (c : goal.In_ok-place) → IsOnce c.number.new.set.keys
-once c = plain_once nat_eq unsigned_Decides _ _ _ _ c.in_ok-place.ensures.place c.in_ok-place.ensures.kept c.in_ok-place.ensures.added c.self.invariant.store.listed_once
+once c = plain_once nat_eq unsigned_Decides _ _ _ _ c.in_ok-place.ensures.place c.in_ok-place.ensures.kept c.in_ok-place.ensures.added c.self.invariant.kept.store.listed_once
 
 pub invariant_of-self-2 : goal.invariant_of-self-2
 invariant_of-self-2 c = record {
-  store = IsStore-listed _ c.number.new.set.keys c.self.invariant.store (once c) c.number.ensures.few;
-  extents = KeepsExtents-same _ _ (extents c.self.inside.kept.items) refl refl c.self.invariant.extents;
-  bases = KeepsBases-same _ _ (bases c.self.inside.kept.items) refl refl c.self.invariant.bases;
-  based = c.self.invariant.based;
-  seen = c.self.invariant.seen;
-  lists = c.self.invariant.lists;
-  settled = c.self.invariant.settled;
+  kept = record {
+    store = IsStore-listed _ c.number.new.set.keys c.self.invariant.kept.store (once c) c.number.ensures.few;
+    extents = KeepsExtents-same _ _ (extents c.self.inside.kept.items) refl refl c.self.invariant.kept.extents;
+    bases = KeepsBases-same _ _ (bases c.self.inside.kept.items) refl refl c.self.invariant.kept.bases;
+    based = c.self.invariant.kept.based;
+    seen = c.self.invariant.kept.seen;
+    lists = c.self.invariant.kept.lists;
+    settled = c.self.invariant.kept.settled;
+  };
+  fields = c.self.invariant.fields;
 }
 
 pub returns-clause-tag : goal.returns-clause-tag
@@ -37,3 +41,6 @@ pub returns-clause-grows : goal.returns-clause-grows
 returns-clause-grows c =
     let more = Continues-grows c.self.inside.listed.keys c.number.new.set.keys c.args.t (numbered c).grows in
     rw (← c.self.view_is) (record { names = ([], sym (append-nil _)); rows = ([], sym (append-nil _)); listed = more; sized = λ d b e. e; defined = λ d t e. e })
+
+pub returns-clause-later : goal.returns-clause-later
+returns-clause-later c = later_grown _ _ (returns-clause-grows c) (invariant_of-self-2 c).kept.store

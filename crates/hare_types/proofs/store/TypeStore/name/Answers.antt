@@ -10,6 +10,7 @@ use Rattle.hare_types.proofs.SoundLemmas.{IsStore-names}
 use Rattle.hare_types.specs.Waiting.{extents, bases}
 use Rattle.hare_types.proofs.KeptLemmas.{KeepsExtents-same}
 use Rattle.hare_types.proofs.BaseLemmas.{KeepsBases-same}
+use Rattle.hare_types.proofs.LaterLemmas.{later_grown}
 use Rattle.hare_types.proofs.store.TypeStore.name.Goals as goal
 
 -- the new key is the spelling
@@ -22,22 +23,25 @@ spelled x k v e = rw (← e) (pointwise_decides unsigned_Decides k.items v.items
 name_numbered : (c : goal.In_ok-n) → IsNumbered (map (λ (v : Vec ℕ Global). v.items) c.self.inside.names.keys) (map (λ (v : Vec ℕ Global). v.items) c.number.new.set.keys) c.args.spelling.now c.in_ok-n.n
 name_numbered c =
     numbered (λ v. v.items) c.args.spelling.now (λ v. pointwise nat_eq c.extend_from_slice.new.self.items v.items) (λ v. spelled c.args.spelling.now c.extend_from_slice.new.self v (owned c))
-    c.self.inside.names.keys c.number.new.set.keys c.extend_from_slice.new.self (owned c) c.in_ok-n.n c.in_ok-n.ensures.place c.in_ok-n.ensures.kept c.in_ok-n.ensures.added c.self.invariant.store.names_once
+    c.self.inside.names.keys c.number.new.set.keys c.extend_from_slice.new.self (owned c) c.in_ok-n.n c.in_ok-n.ensures.place c.in_ok-n.ensures.kept c.in_ok-n.ensures.added c.self.invariant.kept.store.names_once
 
 name_once : (c : goal.In_ok-n) → IsOnce (map (λ (v : Vec ℕ Global). v.items) c.number.new.set.keys)
 name_once c =
     once_more (λ v. v.items) c.args.spelling.now (λ v. pointwise nat_eq c.extend_from_slice.new.self.items v.items) (λ v. spelled c.args.spelling.now c.extend_from_slice.new.self v (owned c))
-    c.self.inside.names.keys c.number.new.set.keys c.extend_from_slice.new.self (owned c) c.in_ok-n.n c.in_ok-n.ensures.place c.in_ok-n.ensures.kept c.in_ok-n.ensures.added c.self.invariant.store.names_once
+    c.self.inside.names.keys c.number.new.set.keys c.extend_from_slice.new.self (owned c) c.in_ok-n.n c.in_ok-n.ensures.place c.in_ok-n.ensures.kept c.in_ok-n.ensures.added c.self.invariant.kept.store.names_once
 
 pub invariant_of-self-2 : goal.invariant_of-self-2
 invariant_of-self-2 c = record {
-  store = IsStore-names _ (map (λ (v : Vec ℕ Global). v.items) c.number.new.set.keys) c.self.invariant.store (name_once c) (rw length-map c.number.ensures.few);
-  extents = KeepsExtents-same _ _ (extents c.self.inside.kept.items) refl refl c.self.invariant.extents;
-  bases = KeepsBases-same _ _ (bases c.self.inside.kept.items) refl refl c.self.invariant.bases;
-  based = c.self.invariant.based;
-  seen = c.self.invariant.seen;
-  lists = c.self.invariant.lists;
-  settled = c.self.invariant.settled;
+  kept = record {
+    store = IsStore-names _ (map (λ (v : Vec ℕ Global). v.items) c.number.new.set.keys) c.self.invariant.kept.store (name_once c) (rw length-map c.number.ensures.few);
+    extents = KeepsExtents-same _ _ (extents c.self.inside.kept.items) refl refl c.self.invariant.kept.extents;
+    bases = KeepsBases-same _ _ (bases c.self.inside.kept.items) refl refl c.self.invariant.kept.bases;
+    based = c.self.invariant.kept.based;
+    seen = c.self.invariant.kept.seen;
+    lists = c.self.invariant.kept.lists;
+    settled = c.self.invariant.kept.settled;
+  };
+  fields = c.self.invariant.fields;
 }
 
 pub returns-clause-numbered : goal.returns-clause-numbered
@@ -47,3 +51,6 @@ pub returns-clause-grows : goal.returns-clause-grows
 returns-clause-grows c =
     let more = Continues-grows (map (λ (v : Vec ℕ Global). v.items) c.self.inside.names.keys) (map (λ (v : Vec ℕ Global). v.items) c.number.new.set.keys) c.args.spelling.now (name_numbered c).grows in
     rw (← c.self.view_is) (record { names = more; rows = ([], sym (append-nil _)); listed = ([], sym (append-nil _)); sized = λ d b e. e; defined = λ d t e. e })
+
+pub returns-clause-later : goal.returns-clause-later
+returns-clause-later c = later_grown _ _ (returns-clause-grows c) (invariant_of-self-2 c).kept.store
