@@ -45,6 +45,8 @@ acts_of kind.Len t mode sc = tick 3 (take 2 λ bs. say bs (end (Value (bytes bs)
 acts_of kind.Try t mode sc = kid 0 AsValue sc λ o. end (Exit 1)
 acts_of kind.Match t mode sc = look λ m. put (record m { live = m.live + 5 }) (end (Value []))
 acts_of kind.Return t mode sc = end (Exit sc.own)
+acts_of kind.Yield t mode sc = end (Exit sc.first)
+acts_of kind.Const t mode sc = value 0 sc λ c. end (Value c)
 acts_of _ t mode sc = end (Value [])
 
 -- a turn runs the first kid and takes the next turn; a called function runs its own first kid
@@ -79,7 +81,7 @@ before =
     }
 
 abbrev scope : Scope
-scope = record { own = 4; locals = [] }
+scope = record { own = 4; first = 2; locals = [] }
 
 abbrev outcome : ℕ → TypedNode → Outcome
 outcome n t = (evaluate forms n t AsValue scope before).0
@@ -117,6 +119,30 @@ no_kid_of_a_kid = refl
 
 place_of_a_kid : outcome 0 (node kind.Addr [] (node kind.Let [] [] ∷ [])) ≡ Reached (Address 0 0)
 place_of_a_kid = refl
+
+-- ---- bindings that begin before a node
+
+abbrev yield : TypedNode
+yield = node kind.Yield [] []
+
+-- two begin before the block
+none_in_between : outcome 0 (node kind.Block [] (puts (codes "a") ∷ yield ∷ [])) ≡ Exit 2
+none_in_between = refl
+
+one_in_the_kid_before : outcome 0 (node kind.Block [] (node kind.Const [] (puts (codes "a") ∷ []) ∷ yield ∷ [])) ≡ Exit 3
+one_in_the_kid_before = refl
+
+-- also where it stands deeper
+two_in_the_kid_before : outcome 0 (node kind.Block [] (node kind.Const [] (node kind.Const [] (puts (codes "a") ∷ []) ∷ []) ∷ yield ∷ [])) ≡ Exit 4
+two_in_the_kid_before = refl
+
+-- a binding begins before its own kids
+own_binding : outcome 0 (node kind.Const [] (yield ∷ [])) ≡ Exit 3
+own_binding = refl
+
+-- a kid of a kid has those of both, and of the kids before either
+bindings_of_a_part : outcome 0 (node kind.Defer [] (node kind.Let [] (yield ∷ []) ∷ [])) ≡ Exit 3
+bindings_of_a_part = refl
 
 -- ---- turns and calls
 

@@ -29,7 +29,7 @@ world =
 
 -- local 5 is an int, 6 an array of three, and 7 an int that was not set; global 3 is an int
 abbrev scope : Scope
-scope = record { own = 8; locals = (5, 0) ∷ (6, 1) ∷ (7, 2) ∷ [] }
+scope = record { own = 8; first = 0; locals = (5, 0) ∷ (6, 1) ∷ (7, 2) ∷ [] }
 
 abbrev before : State
 before =

@@ -106,5 +106,5 @@ state_without_run os =
 -- What the value of a declaration comes to, with the arrays that became slices among the named objects.
 abbrev pub constant_result : Store → (own : ℕ) → TypedNode → Result
 constant_result s own t =
-    let sc : Scope = record { own = own; locals = [] } in
+    let sc : Scope = record { own = own; first = 0; locals = [] } in
     evaluate (constant_forms (without_run s)) 0 t AsValue sc (state_without_run (statics sc t))

@@ -1,6 +1,7 @@
 -- Evaluation: what acts come to, bounded by turns.
 use Rattle.std.specs.Prelude.{ℕ, zero, suc, ◌+◌, [], ◌++◌, length, take as first, drop, Option, Some, None}
 use Rattle.hare_typed.specs.Typed.{TypedNode, TypedNodes, marked, typed_none, typed_more}
+use Rattle.hare_typed.specs.Bindings.{own_bindings, bindings_in}
 use Rattle.hare_typed.specs.Objects.{Object, Objects, with_new, with_named, close_scope}
 use Rattle.hare_typed.specs.State.{Memory, State, Scope, Mode, Outcome, Value, Spent, Result}
 use Rattle.hare_typed.specs.Acts.{Act, end, look, put, make, tick, say, take, kid, part, within, turn, call, Task, Turn, Call}
@@ -56,7 +57,7 @@ pub record Kids : Type 0 where
 
 -- a called function has no names of its caller in scope
 abbrev pub scope_of_call : ℕ → Scope
-scope_of_call d = record { own = d; locals = [] }
+scope_of_call d = record { own = d; first = 0; locals = [] }
 
 -- what an act comes to, where the kids have these meanings, and tasks with one turn less come to what `less` says
 abbrev pub act : Kids → Tasks → Act → State → Result
@@ -76,25 +77,30 @@ act ks less (call d cs f) s = after (less (Call d cs) (scope_of_call d) s) (λ o
 
 -- ---- trees and turns
 
+-- what is given behind so many bindings
+abbrev pub behind : ℕ → Meaning → Meaning
+behind n m mode sc s = m mode (record sc { first = sc.first + n }) s
+
 module _ (fs : Forms) where
+  -- A node's own binding begins before its kids, and those of a kid before the next one.
   abbrev mutual
     pub node_act : Tasks → TypedNode → Meaning
     node_act less (marked h m ts) mode sc s =
-        act (record { kid = kid_act less ts; part = part_act less ts }) less (fs.node (marked h m ts) mode sc) s
+        act (record { kid = λ i. behind (own_bindings h.kind) (kid_act less ts i); part = λ i j. behind (own_bindings h.kind) (part_act less ts i j) })
+        less (fs.node (marked h m ts) mode sc) s
 
     pub kid_act : Tasks → TypedNodes → ℕ → Meaning
     kid_act less typed_none i = no_kid
     kid_act less (typed_more t ts) zero = node_act less t
-    kid_act less (typed_more t ts) (suc i) = kid_act less ts i
+    kid_act less (typed_more t ts) (suc i) = behind (bindings_in t) (kid_act less ts i)
 
     pub part_act : Tasks → TypedNodes → ℕ → ℕ → Meaning
     part_act less typed_none i j = no_kid
-    part_act less (typed_more (marked h m us) ts) zero j = kid_act less us j
-    part_act less (typed_more t ts) (suc i) j = part_act less ts i j
+    part_act less (typed_more (marked h m us) ts) zero j = behind (own_bindings h.kind) (kid_act less us j)
+    part_act less (typed_more t ts) (suc i) j = behind (bindings_in t) (part_act less ts i j)
 
   abbrev pub task_act : Tasks → Tasks
-  task_act less k sc s =
-      act (record { kid = kid_act less (fs.kids k); part = part_act less (fs.kids k) }) less (fs.task k sc) s
+  task_act less k sc s = act (record { kid = kid_act less (fs.kids k); part = part_act less (fs.kids k) }) less (fs.task k sc) s
 
   -- what a task comes to with one turn less than n; with none left it is Spent, whatever else would come of it
   abbrev pub fewer_than : ℕ → Tasks

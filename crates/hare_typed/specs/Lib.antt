@@ -32,3 +32,4 @@ pub mod Alike
 pub mod Quiet
 pub mod Followed
 pub mod CostLaws
+pub mod Bindings

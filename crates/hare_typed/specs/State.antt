@@ -22,10 +22,11 @@ pub record State : Type 0 where
 
 -- ---- scopes
 
--- Where a node is evaluated: in which declaration, and which object each binding has that is in scope, the innermost first.
+-- where a node is evaluated
 pub record Scope : Type 0 where
-  pub own : ℕ
-  pub locals : List (ℕ × ℕ)
+  pub own : ℕ  -- in which declaration
+  pub first : ℕ  -- how many of its bindings begin before the node
+  pub locals : List (ℕ × ℕ)  -- which object each binding has that is in scope, by its number, the innermost first
 
 -- whether a node is asked for a value, or for the place of one
 pub data Mode : Type 0 where

@@ -3,10 +3,12 @@ use Rattle.std.proofs.Common.{◌≡◌, ℕ, zero, suc, ◌+◌, List, [], ◌�
 use Rattle.std.specs.Prelude.{Option, Some, None}
 use Rattle.std.proofs.lemmas.List.{append-nil}
 use Rattle.hare_typed.specs.Typed.{TypedNode, TypedNodes, marked, typed_none, typed_more}
+use Rattle.hare_tree.specs.Node.{Head}
+use Rattle.hare_typed.specs.Bindings.{own_bindings}
 use Rattle.hare_typed.specs.Objects.{Object, Objects}
 use Rattle.hare_typed.specs.State.{State, Scope, Mode, Outcome, Spent, Result}
 use Rattle.hare_typed.specs.Acts.{Act}
-use Rattle.hare_typed.specs.Interpreter.{Meaning, Tasks, Kids, after, made_object, number_made, with_objects, act, node_act, kid_act, part_act, fewer_than}
+use Rattle.hare_typed.specs.Interpreter.{Meaning, Tasks, Kids, after, made_object, number_made, with_objects, act, behind, node_act, kid_act, part_act, fewer_than}
 use Rattle.hare_typed.specs.World.{World}
 use Rattle.hare_typed.specs.ConstantValues.{constant_node, constant_forms}
 use Rattle.hare_typed.specs.Quiet.{IsQuiet, ends, looks, makes, ticks, asks, Keeps, ConstantsAreQuiet}
@@ -125,29 +127,36 @@ module _ (ks ks' : Kids) (less less' : Tasks) (kids_same : (i : ℕ) → Same (k
 -- ---- trees
 
 module _ (w : World) where
+  -- what the kids of a node give
+  abbrev over : Tasks → Head → TypedNodes → Kids
+  over less h ts =
+      record {
+        kid = λ i. behind (own_bindings h.kind) (kid_act (constant_forms w) less ts i);
+        part = λ i j. behind (own_bindings h.kind) (part_act (constant_forms w) less ts i j);
+      }
+
   mutual
     node-keeps : (less : Tasks) (t : TypedNode) → KeepsAll (node_act (constant_forms w) less t)
     node-keeps less (marked h m ts) mode sc s =
-        act-keeps (record { kid = kid_act (constant_forms w) less ts; part = part_act (constant_forms w) less ts }) less
-        (kids-keep less ts) (constant_node w (marked h m ts) mode sc) (quiet_node w (marked h m ts) mode sc) s
+        act-keeps (over less h ts) less (λ i x y z. kids-keep less ts i x _ z) (constant_node w (marked h m ts) mode sc)
+        (quiet_node w (marked h m ts) mode sc) s
 
     kids-keep : (less : Tasks) (ts : TypedNodes) (i : ℕ) → KeepsAll (kid_act (constant_forms w) less ts i)
     kids-keep less typed_none i mode sc s = Keeps-refl s
     kids-keep less (typed_more t ts) zero mode sc s = node-keeps less t mode sc s
-    kids-keep less (typed_more t ts) (suc i) mode sc s = kids-keep less ts i mode sc s
+    kids-keep less (typed_more t ts) (suc i) mode sc s = kids-keep less ts i mode _ s
 
   mutual
     node-same : (less less' : Tasks) (t : TypedNode) → Same (node_act (constant_forms w) less t) (node_act (constant_forms w) less' t)
     node-same less less' (marked h m ts) mode sc s =
-        act-same (record { kid = kid_act (constant_forms w) less ts; part = part_act (constant_forms w) less ts })
-        (record { kid = kid_act (constant_forms w) less' ts; part = part_act (constant_forms w) less' ts }) less less'
-        (kids-same less less' ts) (constant_node w (marked h m ts) mode sc) (quiet_node w (marked h m ts) mode sc) s
+        act-same (over less h ts) (over less' h ts) less less' (λ i x y z. kids-same less less' ts i x _ z)
+        (constant_node w (marked h m ts) mode sc) (quiet_node w (marked h m ts) mode sc) s
 
     kids-same : (less less' : Tasks) (ts : TypedNodes) (i : ℕ) →
         Same (kid_act (constant_forms w) less ts i) (kid_act (constant_forms w) less' ts i)
     kids-same less less' typed_none i mode sc s = refl
     kids-same less less' (typed_more t ts) zero mode sc s = node-same less less' t mode sc s
-    kids-same less less' (typed_more t ts) (suc i) mode sc s = kids-same less less' ts i mode sc s
+    kids-same less less' (typed_more t ts) (suc i) mode sc s = kids-same less less' ts i mode _ s
 
 pub constants_are_quiet : ConstantsAreQuiet
 constants_are_quiet =

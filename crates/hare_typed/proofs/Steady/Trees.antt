@@ -1,5 +1,5 @@
 -- The value of a tree that is constant rests on no object but static ones and those that its evaluation made.
-use Rattle.std.proofs.Common.{◌≡◌, ℕ, zero, suc, Bool, true, false, [], length, refl, sym, subst, inl}
+use Rattle.std.proofs.Common.{◌≡◌, ℕ, zero, suc, ◌+◌, Bool, true, false, [], length, refl, sym, subst, inl}
 use Rattle.std.specs.Prelude.{if◌then◌else◌, not, ◌&&◌, ◌||◌, ◌==◌, Option, Some, None}
 use Rattle.hare_tree.specs.declared.kind.Kind.{Kind}
 use Rattle.hare_tree.specs.declared.kind.Kind.TheVariants as kind
@@ -15,7 +15,8 @@ use Rattle.hare_typed.specs.Constancy.{is_global_path, begins_with_global, names
 use Rattle.hare_typed.specs.Scalars.{Address}
 use Rattle.hare_typed.specs.State.{State, Scope, Mode, AsValue, AsPlace, Value, Reached}
 use Rattle.hare_typed.specs.Acts.{end, make}
-use Rattle.hare_typed.specs.Interpreter.{Tasks, Kids, node_act, kid_act, part_act, fewer_than}
+use Rattle.hare_typed.specs.Bindings.{own_bindings}
+use Rattle.hare_typed.specs.Interpreter.{Meaning as Given, behind, Tasks, Kids, node_act, kid_act, part_act, fewer_than}
 use Rattle.hare_typed.specs.World.{World}
 use Rattle.hare_typed.specs.Evaluated.{ValueForm, PlaceForm, is_evaluated, is_named, is_place_kind, is_place, first_is_place, place_in_mode, value_in_mode, value_object, evaluated, gives}
 use Rattle.hare_typed.specs.ConstantForms.{object_meant}
@@ -203,47 +204,57 @@ module _ (w : World) (b : ℕ) where
   idle s s' l = DoesAlike-refl w b (Value []) s s' tt l
 
   module _ (less : Tasks) where
-    -- what kids give
-    abbrev over : TypedNodes → Kids
-    over ts = record { kid = kid_act (constant_forms w) less ts; part = part_act (constant_forms w) less ts }
+    -- what the kids of a node give
+    abbrev over : Head → TypedNodes → Kids
+    over h ts =
+        record {
+          kid = λ i. behind (own_bindings h.kind) (kid_act (constant_forms w) less ts i);
+          part = λ i j. behind (own_bindings h.kind) (part_act (constant_forms w) less ts i j);
+        }
+
+    -- steady in every scope, and so behind any bindings
+    behind-steady : (n : ℕ) (k : Given) (mode : Mode) → IsSteady w b (k mode) → IsSteady w b (behind n k mode)
+    behind-steady n k mode h sc s s' l = h (record sc { first = sc.first + n }) s s' l
 
     global-steady : (ts : TypedNodes) → begins_with_global ts ≡ true → IsSteady w b (kid_act (constant_forms w) less ts 0 AsPlace)
     global-steady typed_none e sc s s' l = absurd cc
     global-steady (typed_more (marked h m us) ts) e sc s s' l =
-        act-alike w b (over us) less (constant_node w (marked h m us) AsPlace sc)
-        (global_evaluated (over us) (marked h m us) sc h.kind e) s s' l
+        act-alike w b (over h us) less (constant_node w (marked h m us) AsPlace sc)
+        (global_evaluated (over h us) (marked h m us) sc h.kind e) s s' l
 
     node-steady : (h : Head) (m : Mark) (ts : TypedNodes) → first_inconstant w.types (λ u. false) (marked h m ts) ≡ None →
         (first_inconstant_of w.types (λ u. false) ts ≡ None → (i : ℕ) → IsSteady w b (kid_act (constant_forms w) less ts i AsValue)) →
-        (sc : Scope) →
-        Steady w b (over ts) (constant_node w (marked h m ts) AsValue sc)
+        (sc : Scope) → Steady w b (over h ts) (constant_node w (marked h m ts) AsValue sc)
     node-steady h m ts e k sc = go (is_type h.kind) refl
       where
-        go : (x : Bool) → is_type h.kind ≡ x → Steady w b (over ts) (constant_node w (marked h m ts) AsValue sc)
+        go : (x : Bool) → is_type h.kind ≡ x → Steady w b (over h ts) (constant_node w (marked h m ts) AsValue sc)
         go true f =
-            idle_evaluated (over ts) h m ts AsValue sc (constant_form w (marked h m ts) sc h.kind)
-            (constant_place w (marked h m ts) sc h.kind)
-            (type-idle h.kind f)
+            idle_evaluated (over h ts) h m ts AsValue sc (constant_form w (marked h m ts) sc h.kind)
+            (constant_place w (marked h m ts) sc h.kind) (type-idle h.kind f)
         go false f =
             let c = constant_from w.types h m ts f e in
-            let r = ready (over ts) h.kind m ts c.itself (λ g. k (c.kids g)) (global-steady ts) in
-            steady_evaluated (over ts) (marked h m ts) sc (constant_form w (marked h m ts) sc h.kind)
+            let r =
+            ready (over h ts) h.kind m ts c.itself
+            (λ g i. behind-steady (own_bindings h.kind) (kid_act (constant_forms w) less ts i) AsValue (k (c.kids g) i))
+            (λ g. behind-steady (own_bindings h.kind) (kid_act (constant_forms w) less ts 0) AsPlace (global-steady ts g)) in
+            steady_evaluated (over h ts) (marked h m ts) sc (constant_form w (marked h m ts) sc h.kind)
             (constant_place w (marked h m ts) sc h.kind) (no_place w.types (marked h m ts) e)
-            (λ x q. steady_form w b (over ts) (marked h m ts) sc h.kind x r q)
+            (λ x q. steady_form w b (over h ts) (marked h m ts) sc h.kind x r q)
 
     mutual
       tree-steady : (t : TypedNode) → first_inconstant w.types (λ u. false) t ≡ None →
           IsSteady w b (node_act (constant_forms w) less t AsValue)
       tree-steady (marked h m ts) e sc s s' l =
-          act-alike w b (over ts) less (constant_node w (marked h m ts) AsValue sc)
+          act-alike w b (over h ts) less (constant_node w (marked h m ts) AsValue sc)
           (node-steady h m ts e (λ f i. kids-steady ts f i) sc) s s' l
 
       kids-steady : (ts : TypedNodes) → first_inconstant_of w.types (λ u. false) ts ≡ None → (i : ℕ) →
           IsSteady w b (kid_act (constant_forms w) less ts i AsValue)
       kids-steady typed_none e i sc s s' l = idle s s' l
-      kids-steady (typed_more t ts) e zero sc s s' l = tree-steady t (first-none (first_inconstant w.types (λ u. false) t) _ e).0 sc s s' l
+      kids-steady (typed_more t ts) e zero sc s s' l =
+          tree-steady t (first-none (first_inconstant w.types (λ u. false) t) _ e).0 sc s s' l
       kids-steady (typed_more t ts) e (suc i) sc s s' l =
-          kids-steady ts (first-none (first_inconstant w.types (λ u. false) t) _ e).1 i sc s s' l
+          kids-steady ts (first-none (first_inconstant w.types (λ u. false) t) _ e).1 i _ s s' l
 
 pub constants_look_at_statics : ConstantsLookAtStatics
 constants_look_at_statics =
