@@ -7,8 +7,8 @@ use Rattle.hare_typed.specs.State.{Memory, State, Scope, Mode, Outcome, Value, S
 use Rattle.hare_typed.specs.Acts.{Act, end, look, put, make, tick, say, take, kid, part, within, turn, call, Task, Turn, Call}
 
 -- what a node gives in a mode and a scope, and the state that it leaves
-abbrev pub Meaning : Type 0
-Meaning = Mode → Scope → State → Result
+abbrev pub Evaluation : Type 0
+Evaluation = Mode → Scope → State → Result
 
 -- what a task gives in a scope
 abbrev pub Tasks : Type 0
@@ -47,13 +47,13 @@ abbrev pub closed : ℕ → Result → Result
 closed n r = (r.0, with_objects r.1 (close_scope n r.1.memory.objects))
 
 -- A kid that is not there gives no cells, as a part does that was left out.
-abbrev pub no_kid : Meaning
+abbrev pub no_kid : Evaluation
 no_kid mode sc s = (Value [], s)
 
 -- what the kids of a node give, by how many stand before them, and what their kids give
 pub record Kids : Type 0 where
-  pub kid : ℕ → Meaning
-  pub part : ℕ → ℕ → Meaning
+  pub kid : ℕ → Evaluation
+  pub part : ℕ → ℕ → Evaluation
 
 -- a called function has no names of its caller in scope
 abbrev pub scope_of_call : ℕ → Scope
@@ -78,23 +78,23 @@ act ks less (call d cs f) s = after (less (Call d cs) (scope_of_call d) s) (λ o
 -- ---- trees and turns
 
 -- what is given behind so many bindings
-abbrev pub behind : ℕ → Meaning → Meaning
+abbrev pub behind : ℕ → Evaluation → Evaluation
 behind n m mode sc s = m mode (record sc { first = sc.first + n }) s
 
 module _ (fs : Forms) where
   -- A node's own binding begins before its kids, and those of a kid before the next one.
   abbrev mutual
-    pub node_act : Tasks → TypedNode → Meaning
+    pub node_act : Tasks → TypedNode → Evaluation
     node_act less (marked h m ts) mode sc s =
         act (record { kid = λ i. behind (own_bindings h.kind) (kid_act less ts i); part = λ i j. behind (own_bindings h.kind) (part_act less ts i j) })
         less (fs.node (marked h m ts) mode sc) s
 
-    pub kid_act : Tasks → TypedNodes → ℕ → Meaning
+    pub kid_act : Tasks → TypedNodes → ℕ → Evaluation
     kid_act less typed_none i = no_kid
     kid_act less (typed_more t ts) zero = node_act less t
     kid_act less (typed_more t ts) (suc i) = behind (bindings_in t) (kid_act less ts i)
 
-    pub part_act : Tasks → TypedNodes → ℕ → ℕ → Meaning
+    pub part_act : Tasks → TypedNodes → ℕ → ℕ → Evaluation
     part_act less typed_none i j = no_kid
     part_act less (typed_more (marked h m us) ts) zero j = behind (own_bindings h.kind) (kid_act less us j)
     part_act less (typed_more t ts) (suc i) j = behind (bindings_in t) (part_act less ts i j)
@@ -108,5 +108,5 @@ module _ (fs : Forms) where
   fewer_than (suc n) k sc s = task_act (fewer_than n) k sc s
 
   -- the evaluation of a node with n turns
-  abbrev pub evaluate : ℕ → TypedNode → Meaning
+  abbrev pub evaluate : ℕ → TypedNode → Evaluation
   evaluate n t = node_act (fewer_than n) t

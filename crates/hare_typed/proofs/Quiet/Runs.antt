@@ -8,7 +8,7 @@ use Rattle.hare_typed.specs.Bindings.{own_bindings}
 use Rattle.hare_typed.specs.Objects.{Object, Objects}
 use Rattle.hare_typed.specs.State.{State, Scope, Mode, Outcome, Spent, Result}
 use Rattle.hare_typed.specs.Acts.{Act}
-use Rattle.hare_typed.specs.Interpreter.{Meaning, Tasks, Kids, after, made_object, number_made, with_objects, act, behind, node_act, kid_act, part_act, fewer_than}
+use Rattle.hare_typed.specs.Interpreter.{Evaluation, Tasks, Kids, after, made_object, number_made, with_objects, act, behind, node_act, kid_act, part_act, fewer_than}
 use Rattle.hare_typed.specs.World.{World}
 use Rattle.hare_typed.specs.ConstantValues.{constant_node, constant_forms}
 use Rattle.hare_typed.specs.Quiet.{IsQuiet, ends, looks, makes, ticks, asks, Keeps, ConstantsAreQuiet}
@@ -85,7 +85,7 @@ Keeps-tick s n =
     }
 
 -- a meaning keeps what constants keep
-abbrev KeepsAll : Meaning → Type 0
+abbrev KeepsAll : Evaluation → Type 0
 KeepsAll m = (mode : Mode) (sc : Scope) (s : State) → Keeps s (m mode sc s).1
 
 after-keeps : (s : State) (r : Result) (go : Outcome → State → Result) → Keeps s r.1 →
@@ -107,7 +107,7 @@ module _ (ks : Kids) (less : Tasks) (kids_keep : (i : ℕ) → KeepsAll (ks.kid 
 -- ---- turns
 
 -- two meanings give the same
-abbrev Same : Meaning → Meaning → Type 0
+abbrev Same : Evaluation → Evaluation → Type 0
 Same m m' = (mode : Mode) (sc : Scope) (s : State) → m mode sc s ≡ m' mode sc s
 
 after-same : (r : Result) (go go' : Outcome → State → Result) → ((o : Outcome) (s : State) → go o s ≡ go' o s) → after r go ≡ after r go'

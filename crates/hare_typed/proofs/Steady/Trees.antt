@@ -16,7 +16,7 @@ use Rattle.hare_typed.specs.Scalars.{Address}
 use Rattle.hare_typed.specs.State.{State, Scope, Mode, AsValue, AsPlace, Value, Reached}
 use Rattle.hare_typed.specs.Acts.{end, make}
 use Rattle.hare_typed.specs.Bindings.{own_bindings}
-use Rattle.hare_typed.specs.Interpreter.{Meaning as Given, behind, Tasks, Kids, node_act, kid_act, part_act, fewer_than}
+use Rattle.hare_typed.specs.Interpreter.{Evaluation, behind, Tasks, Kids, node_act, kid_act, part_act, fewer_than}
 use Rattle.hare_typed.specs.World.{World}
 use Rattle.hare_typed.specs.Evaluated.{ValueForm, PlaceForm, is_evaluated, is_named, is_place_kind, is_place, first_is_place, place_in_mode, value_in_mode, value_object, evaluated, gives}
 use Rattle.hare_typed.specs.ConstantForms.{object_meant}
@@ -213,7 +213,7 @@ module _ (w : World) (b : ℕ) where
         }
 
     -- steady in every scope, and so behind any bindings
-    behind-steady : (n : ℕ) (k : Given) (mode : Mode) → IsSteady w b (k mode) → IsSteady w b (behind n k mode)
+    behind-steady : (n : ℕ) (k : Evaluation) (mode : Mode) → IsSteady w b (k mode) → IsSteady w b (behind n k mode)
     behind-steady n k mode h sc s s' l = h (record sc { first = sc.first + n }) s s' l
 
     global-steady : (ts : TypedNodes) → begins_with_global ts ≡ true → IsSteady w b (kid_act (constant_forms w) less ts 0 AsPlace)
