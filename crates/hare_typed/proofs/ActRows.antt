@@ -12,7 +12,7 @@ use Rattle.hare_typed.specs.Constants.{own_kind}
 use Rattle.hare_typed.specs.Scalars.{Null, Address}
 use Rattle.hare_typed.specs.Objects.{Object, Local, Heap}
 use Rattle.hare_typed.specs.State.{State, Scope, AsValue, Mode, Outcome, Value, Reached, Break, Exit, Undefined, Spent}
-use Rattle.hare_typed.specs.Acts.{Act, end, look, put, make, tick, say, take, kid, part, within, turn, call, Round, Task, Turn, Call}
+use Rattle.hare_typed.specs.Acts.{Act, end, look, put, make, tick, say, take_in, kid, part, within, turn, call, Round, Task, Turn, Call}
 use Rattle.hare_typed.specs.Sequence.{value, place, values}
 use Rattle.hare_typed.specs.Interpreter.{Forms, evaluate}
 use Rattle.hare_typed.proofs.Samples.{bytes}
@@ -41,7 +41,7 @@ acts_of kind.Defer t mode sc = part 0 0 AsValue sc end
 acts_of kind.If t mode sc = within (make None object λ o. make None heap_object λ h. value 0 sc λ c. end (Value c)) λ o. end o
 acts_of kind.Let t mode sc = make None object λ o. end (Reached (Address o 0))
 acts_of kind.Addr t mode sc = place 0 sc λ p. end (Reached p)
-acts_of kind.Len t mode sc = tick 3 (take 2 λ bs. say bs (end (Value (bytes bs))))
+acts_of kind.Len t mode sc = tick 3 (take_in 2 λ bs. say bs (end (Value (bytes bs))))
 acts_of kind.Try t mode sc = kid 0 AsValue sc λ o. end (Exit 1)
 acts_of kind.Match t mode sc = look λ m. put (record m { live = m.live + 5 }) (end (Value []))
 acts_of kind.Return t mode sc = end (Exit sc.own)

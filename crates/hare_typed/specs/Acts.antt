@@ -1,12 +1,11 @@
 -- What a node does, as data. A node touches what is round it in the ways of Act and in no other, so that what holds of these holds of
 -- each kind of node.
-use Rattle.std.specs.Prelude.{ℕ, List}
+use Rattle.std.specs.Prelude.{ℕ, List, Option}
 use Rattle.hare_typed.specs.declared.cell.Cell.{Cell}
 use Rattle.hare_typed.specs.Typed.{TypedNode}
 use Rattle.hare_typed.specs.Scalars.{Pointer}
 use Rattle.hare_typed.specs.Objects.{Object}
 use Rattle.hare_typed.specs.State.{Memory, Scope, Mode, Outcome}
-use Rattle.std.specs.Prelude.{Option}
 
 -- what a loop hands to its next turn: the elements that a `for` over elements goes through, and which comes next
 pub record Round : Type 0 where
@@ -21,7 +20,7 @@ pub data Act : Type 0 where
   make : Option ℕ → Object → (ℕ → Act) → Act  -- makes a new object, a static one under its name, and goes on by its number
   tick : ℕ → Act → Act  -- adds to the ticks
   say : List ℕ → Act → Act  -- puts bytes out
-  take : ℕ → (List ℕ → Act) → Act  -- takes so many bytes of the input, or what is left of it
+  take_in : ℕ → (List ℕ → Act) → Act  -- takes so many bytes of the input, or what is left of it
   kid : ℕ → Mode → Scope → (Outcome → Act) → Act  -- evaluates the kid with so many kids before it
   part : ℕ → ℕ → Mode → Scope → (Outcome → Act) → Act  -- evaluates a kid of a kid, where the kid itself is not evaluated
   within : Act → (Outcome → Act) → Act  -- a scope: all local objects die that were made in it

@@ -1,10 +1,10 @@
 -- Evaluation: what acts come to, bounded by turns.
-use Rattle.std.specs.Prelude.{ℕ, zero, suc, ◌+◌, [], ◌++◌, length, take as first, drop, Option, Some, None}
+use Rattle.std.specs.Prelude.{ℕ, zero, suc, ◌+◌, [], ◌++◌, length, take, drop, Option, Some, None}
 use Rattle.hare_typed.specs.Typed.{TypedNode, TypedNodes, marked, typed_none, typed_more}
 use Rattle.hare_typed.specs.Bindings.{own_bindings, bindings_in}
 use Rattle.hare_typed.specs.Objects.{Object, Objects, with_new, with_named, close_scope}
 use Rattle.hare_typed.specs.State.{Memory, State, Scope, Mode, Outcome, Value, Spent, Result}
-use Rattle.hare_typed.specs.Acts.{Act, end, look, put, make, tick, say, take, kid, part, within, turn, call, Task, Turn, Call}
+use Rattle.hare_typed.specs.Acts.{Act, end, look, put, make, tick, say, take_in, kid, part, within, turn, call, Task, Turn, Call}
 
 -- what a node gives in a mode and a scope, and the state that it leaves
 abbrev pub Evaluation : Type 0
@@ -59,7 +59,7 @@ pub record Kids : Type 0 where
 abbrev pub scope_of_call : ℕ → Scope
 scope_of_call d = record { own = d; first = 0; locals = [] }
 
--- what an act comes to, where the kids have these meanings, and tasks with one turn less come to what `less` says
+-- what an act comes to, where the kids of its node give what `ks` says, and tasks with one turn less come to what `less` says
 abbrev pub act : Kids → Tasks → Act → State → Result
 act ks less (end o) s = (o, s)
 act ks less (look f) s = act ks less (f s.memory) s
@@ -68,7 +68,7 @@ act ks less (make name o f) s =
     act ks less (f (number_made name s.memory.objects)) (with_objects s (made_object name o s.memory.objects))
 act ks less (tick n a) s = act ks less a (record s { ticks = s.ticks + n })
 act ks less (say bs a) s = act ks less a (record s { output = s.output ++ bs })
-act ks less (take n f) s = act ks less (f (first n s.input)) (record s { input = drop n s.input })
+act ks less (take_in n f) s = act ks less (f (take n s.input)) (record s { input = drop n s.input })
 act ks less (kid i mode sc f) s = after (ks.kid i mode sc s) (λ o s'. act ks less (f o) s')
 act ks less (part i j mode sc f) s = after (ks.part i j mode sc s) (λ o s'. act ks less (f o) s')
 act ks less (within a f) s = after (closed (length s.memory.objects.made) (act ks less a s)) (λ o s'. act ks less (f o) s')

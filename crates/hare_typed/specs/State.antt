@@ -7,7 +7,7 @@ use Rattle.hare_typed.specs.Objects.{Objects}
 
 -- ---- the state
 
--- all of the state on which what is done next may rest
+-- what acts look at and change; of the rest input is only taken, output only added to, and ticks only counted
 pub record Memory : Type 0 where
   pub objects : Objects
   pub live : ℕ  -- the bytes that live heap objects take, each rounded up
@@ -18,7 +18,7 @@ pub record State : Type 0 where
   pub memory : Memory
   pub input : List ℕ  -- what is left of it
   pub output : List ℕ  -- all of it so far
-  pub ticks : ℕ  -- a bound on the work so far, which nothing rests on
+  pub ticks : ℕ  -- a measure of the work so far, on which nothing rests
 
 -- ---- scopes
 
