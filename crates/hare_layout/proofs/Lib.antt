@@ -2,10 +2,8 @@ pub mod AdmitLemmas
 pub mod AscendingLemmas
 pub mod BaseLemmas
 pub mod BaseOfLemmas
-pub mod BelowLemmas
 pub mod CallerLemmas
 pub mod CappedLemmas
-pub mod DefinableLemmas
 pub mod ExtentLemmas
 pub mod GrowthLemmas
 pub mod KnownLemmas
