@@ -3,9 +3,7 @@ pub mod AlignLemmas
 pub mod AscendingLemmas
 pub mod BaseLemmas
 pub mod BaseOfLemmas
-pub mod BelowLemmas
 pub mod CallerLemmas
-pub mod DefinableLemmas
 pub mod ExtentLemmas
 pub mod GrowthLemmas
 pub mod LeftLemmas
