@@ -1,9 +1,9 @@
 -- Trees that go on with a front of a file's tokens.
-use Rattle.std.proofs.Common.{◌≡◌, ℕ, ◌≤◌, List, [], ◌∷◌, ◌++◌, true, map, length, take, drop, ap, sym, ◌∙◌, subst, append_assoc, arith}
+use Rattle.std.proofs.Common.{◌≡◌, ℕ, ◌≤◌, List, [], ◌∷◌, ◌++◌, true, map, length, take, drop, ap, sym, ◌∙◌, subst, arith}
 use Rattle.std.proofs.Math.Seq.{take-length}
 use Rattle.std.proofs.lemmas.List.{append-nil, length-take-le, map-append, take-append-drop, take-append-le}
 use Rattle.hare_tree.specs.declared.token.Token.{Token}
-use Rattle.hare_tree.specs.Grammar.{Language, GoesOn, Spells, joined, unplaced}
+use Rattle.hare_tree.specs.Grammar.{Language, GoesOn, joined, unplaced}
 use Rattle.hare_grammar.specs.declared.rule.Symbol.{Symbol}
 use Rattle.hare_parsing.proofs.Faults.{goes_back}
 use Rattle.hare_depth.specs.Gauge.{numbered}

@@ -163,7 +163,7 @@ facts file before b (t ∷ ts) text left more p r =
     let blank = r.3 in
     let spells = r.7.fits.spells in
     one_more file before blank r.1 r.2 left text more t ts r.5 r.6 (first_of_kind t.kind t.text t.number t.suffix r.1 spells).0 (no_longer t.kind t.text t.number t.suffix r.1 spells)
-      (facts file (before ++ (blank ++ r.1)) (is_path_mark t.kind t.text) ts r.2 left more p r.8)
+    (facts file (before ++ (blank ++ r.1)) (is_path_mark t.kind t.text) ts r.2 left more p r.8)
 
 -- ---- files
 

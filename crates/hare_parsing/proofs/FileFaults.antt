@@ -2,7 +2,7 @@
 use Rattle.std.proofs.Common.{◌≡◌, ℕ, suc, ◌<◌, List, [], ◌∷◌, ◌++◌, Bool, true, false, ◌&&◌, not, map, take, length, refl, ap, sym, ◌∙◌, subst, append_assoc}
 use Rattle.hare_tree.specs.declared.token.Token.{Token}
 use Rattle.hare_tree.specs.declared.tree.FileTree.{FileTree}
-use Rattle.hare_tree.specs.Spell.{spell, spell_file}
+use Rattle.hare_tree.specs.Spell.{spell_file}
 use Rattle.hare_tree.specs.Shape.{is_shaped_file}
 use Rattle.hare_tree.specs.Grammar.{is_proper_string, joined_to, joined, ends_in_string, unplaced, Spells, files, IsViable, IsSyntaxFault}
 use Rattle.hare_grammar.specs.Classes.{class_of}
@@ -11,9 +11,9 @@ use Rattle.hare_grammar.specs.OneTree.{file_symbols}
 use Rattle.hare_parsing.specs.Viable.{BeginsFile}
 use Rattle.hare_parsing.specs.Faults.{FileRunsFault, FileRunsAreOver, FileRunsUseAll, FileRunsUseNoEnd}
 use Rattle.hare_parsing.proofs.Viable.{stuck_at, EndsAt, ends_at, used_up, end}
-use Rattle.hare_parsing.proofs.Breaks.{trees_sort, file_viable, file_not_viable, nothing_more, is_the_end, whole_file}
+use Rattle.hare_parsing.proofs.Breaks.{file_viable, file_not_viable, nothing_more, is_the_end, whole_file}
 use Rattle.hare_parsing.proofs.TokenKinds.{is_junk, class_unplaced}
-use Rattle.hare_parsing.proofs.UsedApart.{apart, run_apart, used_up_apart, apart_proper}
+use Rattle.hare_parsing.proofs.UsedApart.{apart, used_up_apart, apart_proper}
 use Rattle.hare_parsing.proofs.Joined.{head, joined_append}
 use Rattle.hare_parsing.proofs.Places.{cut, Spot, spot}
 use Rattle.hare_parsing.proofs.Faults.{file_loose, goes_back, comes_back, same_class, stuck_like, ends_like, before_spot}

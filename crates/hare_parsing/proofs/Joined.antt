@@ -1,5 +1,5 @@
 -- Lists of tokens of which the strings side by side are one.
-use Rattle.std.proofs.Common.{◌≡◌, ◌+◌, ◌==◌, List, [], ◌∷◌, ◌++◌, Bool, true, false, ◌&&◌, ◌||◌, not, refl, ap, sym, ◌∙◌, arith, append_assoc}
+use Rattle.std.proofs.Common.{◌≡◌, List, [], ◌∷◌, ◌++◌, Bool, true, false, ◌&&◌, refl, ap, sym, ◌∙◌, append_assoc}
 use Rattle.hare_tree.specs.declared.token.Token.{Token}
 use Rattle.hare_tree.specs.Grammar.{is_proper_string, string_at, joined_to, joined, ends_in_string, begins_with_string}
 use Rattle.hare_parsing.proofs.Used.{merged, chosen}

@@ -1,8 +1,6 @@
 -- Which tokens of a file a run over its joined tokens has used.
-use Rattle.std.proofs.Common.{◌≡◌, ◌+◌, List, [], ◌∷◌, ◌++◌, Bool, true, false, map, take, length, refl, ap, sym, ◌∙◌, subst, arith, if◌then◌else◌}
+use Rattle.std.proofs.Common.{◌≡◌, List, [], ◌∷◌, ◌++◌, Bool, true, false, map, take, length, refl, ap, sym, ◌∙◌, subst, arith, if◌then◌else◌}
 use Rattle.std.proofs.lemmas.List.{length-append}
-use Rattle.hare_tree.specs.declared.token.Suffix.TheVariants as suffix
-use Rattle.hare_tree.specs.declared.token.TokenKind.TheVariants as tk
 use Rattle.hare_tree.specs.declared.token.Token.{Token}
 use Rattle.hare_tree.specs.Grammar.{is_proper_string, string_at, joined_to, joined, place_of, unplaced}
 use Rattle.hare_parsing.specs.Used.{RunsUseTokens}

@@ -1,14 +1,11 @@
 -- The first syntax fault at the tokens of the file themselves, of which the machine sees strings side by side as one.
-use Rattle.std.specs.Prelude.{◌≡◌, ℕ, suc, ◌==◌, ◌+◌, ◌<◌, List, [], ◌∷◌, ◌++◌, Bool, true, false, ◌&&◌, ◌||◌, not, take, drop, length, if◌then◌else◌}
-use Rattle.std.specs.List.{list_all}
+use Rattle.std.specs.Prelude.{◌≡◌, ℕ, suc, ◌<◌, List, [], ◌∷◌, ◌++◌, true, take, length}
 use Rattle.hare_tree.specs.declared.token.TokenKind.TheVariants as tk
-use Rattle.hare_tree.specs.declared.token.Suffix.TheVariants as suffix
 use Rattle.hare_tree.specs.declared.token.Token.{Token}
 use Rattle.hare_tree.specs.declared.form.Sort.{Sort}
 use Rattle.hare_tree.specs.Node.{Node}
-use Rattle.hare_tree.specs.declared.tree.FileTree.{FileTree}
-use Rattle.hare_tree.specs.Spell.{word_token, spell, spell_file}
-use Rattle.hare_tree.specs.Shape.{is_shaped, is_shaped_file}
+use Rattle.hare_tree.specs.Spell.{word_token, spell}
+use Rattle.hare_tree.specs.Shape.{is_shaped}
 use Rattle.hare_tree.specs.Grammar.{joined, StandsAt, unplaced, Spells, place_of, HasPlaces, trees_of, files, IsViable, IsSyntaxFault, IsRun}
 use Rattle.hare_grammar.specs.Rows.{of}
 use Rattle.hare_grammar.specs.Engine.{Group, add, Done, Fails, run, bottom}

@@ -1,5 +1,5 @@
 -- Strings side by side, read from the left.
-use Rattle.std.proofs.Common.{◌≡◌, ℕ, ◌+◌, ◌<◌, List, [], ◌∷◌, ◌++◌, drop, length, Bool, true, false, refl, sym, ap, ◌∙◌, append_assoc, add-one, drop-cons, zero-add, inl, inr}
+use Rattle.std.proofs.Common.{◌≡◌, ℕ, ◌+◌, ◌<◌, List, [], ◌∷◌, ◌++◌, drop, length, Bool, true, false, refl, sym, ap, ◌∙◌, append_assoc, add-one, drop-cons, inl, inr}
 use Rattle.std.specs.Prelude.{slice_get, Some, None, ◌&&◌, ◌==◌, if◌then◌else◌}
 use Rattle.std.proofs.lemmas.Bool.{and_parts, eqb-true}
 use Rattle.std.proofs.lemmas.Option.{slice_get_within, get_or_from_slice_get, slice_get_cases}
