@@ -1,5 +1,5 @@
 -- A type of which the extent is known has a size, and holds no name by value that is not defined.
-use Rattle.std.proofs.Common.{◌≡◌, ◌≢◌, ℕ, zero, suc, true, false, List, [], ◌∷◌, Option, Some, None, refl, ap, sym, ◌∙◌, subst, ◌⊎◌, inl, inr}
+use Rattle.std.proofs.Common.{◌≡◌, ◌≢◌, ℕ, zero, suc, true, false, List, [], ◌∷◌, Option, Some, None, refl, ap, sym, ◌∙◌, subst, arith, ◌⊎◌, inl, inr}
 use Rattle.std.specs.Prelude.{Contains, option_map, option_and_then, is_some, IfSome}
 use Rattle.std.proofs.lemmas.List.Elements.{Contains-append_cases}
 use Rattle.hare_types.specs.declared.extent.Extent.{Extent}
@@ -13,7 +13,6 @@ use Rattle.hare_types.specs.Kept.{LiesIn, told}
 use Rattle.hare_types.specs.Layout.{following, scalar_extent, fields_extent, union_extent, extent_with, extents_with, HasExtent}
 use Rattle.hare_layout.specs.Ids.{never}
 use Rattle.hare_layout.specs.Small.{array_extent}
-use Rattle.hare_layout.proofs.AscendingLemmas.{In-from}
 
 pub mapped : {A B : Type 0} (f : A → B) (o : Option A) (b : B) → option_map f o ≡ Some b → (a : A) × (o ≡ Some a)
 mapped f None b e = absurd cc
@@ -25,26 +24,29 @@ chained f (Some a) b e = (a, refl, e)
 
 -- ---- names that are held by value
 
+one_held : (o d : ℕ) → Contains (o ∷ []) d → o ≡ d
+one_held o d (zero, l, e) = e
+one_held o d (suc k, l, e) = absurd (omega (arith, l))
+
+none_held : (d : ℕ) → Contains [] d → ⊥
+none_held d (k, l, e) = omega (arith, l)
+
 mutual
   -- of each name that such a type holds the extent is known
   held_known : (named : ℕ → Option Extent) (t : Tree) (x : Extent) → extent_with named t ≡ Some x → (d : ℕ) → Contains (held t) d → (y : Extent) × (named d ≡ Some y)
-  held_known named (Scalar k) x e d h = absurd (In-from d [] h)
-  held_known named (Pointer t) x e d h = absurd (In-from d [] h)
-  held_known named (Nullable t) x e d h = absurd (In-from d [] h)
-  held_known named (Slice t) x e d h = absurd (In-from d [] h)
+  held_known named (Scalar k) x e d h = absurd (none_held d h)
+  held_known named (Pointer t) x e d h = absurd (none_held d h)
+  held_known named (Nullable t) x e d h = absurd (none_held d h)
+  held_known named (Slice t) x e d h = absurd (none_held d h)
   held_known named (Array n t) x e d h = let k = mapped (array_extent n) (extent_with named t) x e in held_known named t k.0 k.1 d h
   held_known named (Struct ns ts) x e d h = let k = mapped fields_extent (extents_with named ts) x e in helds_known named ts k.0 k.1 d h
   held_known named (Tuple ts) x e d h = let k = mapped fields_extent (extents_with named ts) x e in helds_known named ts k.0 k.1 d h
   held_known named (Union ts) x e d h = let k = mapped union_extent (extents_with named ts) x e in helds_known named ts k.0 k.1 d h
   held_known named (Error t) x e d h = held_known named t x e d h
-  held_known named (Named q) x e d h = by (In-from d (q ∷ []) h)
-    where
-      by : (q ≡ d) ⊎ ⊥ → (y : Extent) × (named d ≡ Some y)
-      by (inl same) = (x, subst (λ n. named n ≡ Some x) same e)
-      by (inr gone) = absurd gone
+  held_known named (Named q) x e d h = (x, subst (λ n. named n ≡ Some x) (one_held q d h) e)
 
   helds_known : (named : ℕ → Option Extent) (ts : Trees) (xs : List Extent) → extents_with named ts ≡ Some xs → (d : ℕ) → Contains (held_in ts) d → (y : Extent) × (named d ≡ Some y)
-  helds_known named none xs e d h = absurd (In-from d [] h)
+  helds_known named none xs e d h = absurd (none_held d h)
   helds_known named (more t ts) xs e d h =
       let k = chained (λ x. option_map (λ xs. x ∷ xs) (extents_with named ts)) (extent_with named t) xs e in
       let l = mapped (λ xs. k.0 ∷ xs) (extents_with named ts) xs k.2 in
@@ -141,8 +143,8 @@ pub never-sized : (s : Store) (t d : ℕ) → tree_at s t ≡ Some never → siz
 never-sized s t d g e = here s t never (λ u. has_size s u ≡ sized_of s d) g (sym e)
 
 word_finite : (s : Store) (k : Keyword) (d : ℕ) → ¬ HoldsByValue s (Scalar k) d
-word_finite s k d ([], h) = absurd (In-from d [] h)
-word_finite s k d (q ∷ way, h) = absurd (In-from q [] h.0)
+word_finite s k d ([], h) = absurd (none_held d h)
+word_finite s k d (q ∷ way, h) = absurd (none_held q h.0)
 
 pub never-finite : (s : Store) (t d : ℕ) → tree_at s t ≡ Some never → IfSome (tree_at s t) (λ u. ¬ HoldsByValue s u d)
 never-finite s t d g = here s t never (λ u. ¬ HoldsByValue s u d) g (word_finite s keyword.Never d)
@@ -152,19 +154,11 @@ pub array-sized : (s : Store) (t d n o : ℕ) → tree_at s t ≡ Some (Array n 
 array-sized s t d n o g e = here s t (Array n (Named o)) (λ u. has_size s u ≡ sized_of s d) g (sym e)
 
 array_finite : (s : Store) (n o d : ℕ) → definition_of s o ≡ None → d ≢ o → ¬ HoldsByValue s (Array n (Named o)) d
-array_finite s n o d unknown apart ([], h) = by (In-from d (o ∷ []) h)
-  where
-    by : (o ≡ d) ⊎ ⊥ → ⊥
-    by (inl same) = apart (sym same)
-    by (inr gone) = gone
-array_finite s n o d unknown apart (q ∷ way, h) = by (In-from q (o ∷ []) h.0)
-  where
-    by : (o ≡ q) ⊎ ⊥ → ⊥
-    by (inl same) =
-        let gone : meaning_of s q ≡ None = ap (option_and_then (tree_at s)) (subst (λ x. definition_of s x ≡ None) same unknown) in
-        let some : meaning_of s q ≡ Some h.1.0 = h.1.1 in
-        absurd cc
-    by (inr gone) = gone
+array_finite s n o d unknown apart ([], h) = apart (sym (one_held o d h))
+array_finite s n o d unknown apart (q ∷ way, h) =
+    let gone : meaning_of s q ≡ None = ap (option_and_then (tree_at s)) (subst (λ x. definition_of s x ≡ None) (one_held o q h.0) unknown) in
+    let some : meaning_of s q ≡ Some h.1.0 = h.1.1 in
+    absurd cc
 
 pub array-finite : (s : Store) (t d n o : ℕ) → tree_at s t ≡ Some (Array n (Named o)) → definition_of s o ≡ None → d ≢ o → IfSome (tree_at s t) (λ u. ¬ HoldsByValue s u d)
 array-finite s t d n o g unknown apart = here s t (Array n (Named o)) (λ u. ¬ HoldsByValue s u d) g (array_finite s n o d unknown apart)
