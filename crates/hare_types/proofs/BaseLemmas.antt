@@ -1,10 +1,8 @@
 -- What is kept of bases is what names and error marks leave.
-use Rattle.std.proofs.Common.{◌≡◌, ◌≢◌, ℕ, zero, suc, ◌<◌, ◌≤◌, Bool, true, false, nat_eq, true≢false, List, [], ◌∷◌, ◌++◌, length, set, Option, Some, None, refl, ap, ap₂, sym, ◌∙◌, subst, arith, ◌⊎◌, inl, inr, length-append, length-set, get_or-set_other, get_or-set_same}
+use Rattle.std.proofs.Common.{◌≡◌, ℕ, zero, suc, ◌<◌, ◌≤◌, length, Option, Some, None, refl, ap, sym, ◌∙◌, subst, arith, ◌⊎◌, inl, inr}
 use Rattle.std.specs.Prelude.{slice_get, slice_index_or, option_and_then}
 use Rattle.std.proofs.lemmas.Option.{get_or_from_slice_get, slice_get-get_or, slice_get_within}
 use Rattle.std.proofs.lemmas.Bool.{cases_lt}
-use Rattle.std.specs.Cmp.{unsigned_Decides}
-use Rattle.hare_types.specs.declared.declared.Declared.{Declared}
 use Rattle.hare_types.specs.declared.row.Row.{Row}
 use Rattle.hare_types.specs.declared.row.Row.TheVariants as row
 use Rattle.hare_types.specs.declared.row.Scalar.TheVariants as keyword
@@ -15,11 +13,8 @@ use Rattle.hare_types.specs.Sound.{IsStore}
 use Rattle.hare_types.specs.Layout.{following, base_with}
 use Rattle.hare_types.specs.Kept.{defined}
 use Rattle.hare_types.specs.Bases.{IsBaseOf, base_over}
-use Rattle.hare_types.proofs.ListLemmas.{slice_get_end}
-use Rattle.hare_types.proofs.TreeLemmas.{length-trees, tree_kept}
-use Rattle.hare_types.proofs.DefinitionLemmas.{meaning_kept}
+use Rattle.hare_types.proofs.TreeLemmas.{length-trees}
 use Rattle.hare_types.proofs.CallerLemmas.{tree_at_row}
-use Rattle.hare_types.proofs.GrowthLemmas.{base_with-more, following-more}
 
 -- ---- one row
 
