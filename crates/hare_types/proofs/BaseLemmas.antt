@@ -14,20 +14,12 @@ use Rattle.hare_types.specs.Store.{Store, tree_at, definition_of, meaning_of}
 use Rattle.hare_types.specs.Sound.{IsStore}
 use Rattle.hare_types.specs.Layout.{following, base_with}
 use Rattle.hare_types.specs.Kept.{defined}
-use Rattle.hare_types.specs.Bases.{IsBaseOf, known_base, base_over, KeepsBases}
+use Rattle.hare_types.specs.Bases.{IsBaseOf, base_over}
 use Rattle.hare_types.proofs.ListLemmas.{slice_get_end}
 use Rattle.hare_types.proofs.TreeLemmas.{length-trees, tree_kept}
 use Rattle.hare_types.proofs.DefinitionLemmas.{meaning_kept}
 use Rattle.hare_types.proofs.CallerLemmas.{tree_at_row}
 use Rattle.hare_types.proofs.GrowthLemmas.{base_with-more, following-more}
-
--- ---- growth
-
--- with more trees and more meanings
-pub IsBaseOf-more : (old new : Store) → ((i : ℕ) (u : Tree) → tree_at old i ≡ Some u → tree_at new i ≡ Some u) → ((d : ℕ) (u : Tree) → meaning_of old d ≡ Some u → meaning_of new d ≡ Some u)
-    → (t b : ℕ) → IsBaseOf old t b → IsBaseOf new t b
-IsBaseOf-more old new kept meaning t b h =
-    (h.0, h.1, kept t h.0 h.2, kept b h.1 h.3, (h.4.0, following-more base_with base_with-more (meaning_of old) (meaning_of new) meaning h.4.0 h.0 h.1 h.4.1))
 
 -- ---- one row
 
@@ -70,94 +62,6 @@ module _ (s : Store) (v : IsStore s) (ks : ℕ → Option ℕ) (sound : (i b : �
   base-step t (row.Union js) h b e = itself t (row.Union js) h refl b e
   base-step t (row.Error j) h b e = by_mark t j h b e
   base-step t (row.Named d) h b e = by_name t d h b e
-
--- ---- a store that grows
-
-pub KeepsBases-empty : (s : Store) (bs : List (Option ℕ)) → s.rows ≡ [] → bs ≡ [] → KeepsBases s bs
-KeepsBases-empty s bs rows e = record {
-  as_many = ap length e ∙ sym (ap length rows);
-  sound = λ i b h. let none : None ≡ Some b = sym (ap (λ l. known_base l i) e) ∙ h in absurd cc;
-}
-
--- with other names, or other types listed
-pub KeepsBases-same : (old new : Store) (bs : List (Option ℕ)) → old.rows ≡ new.rows → old.declared ≡ new.declared → KeepsBases old bs → KeepsBases new bs
-KeepsBases-same old new bs rows declared v = record {
-  as_many = v.as_many ∙ ap length rows;
-  sound = λ i b e.
-      IsBaseOf-more old new (λ j u h. sym (ap (λ l. slice_get (trees l) j) rows) ∙ h)
-      (λ d u h. sym (ap₂ (λ l m. option_and_then (λ j. slice_get (trees l) j) (defined m d)) rows declared) ∙ h) i b (v.sound i b e);
-}
-
--- with more definitions
-pub KeepsBases-defined : (s : Store) (new : List (ℕ × Declared)) (bs : List (Option ℕ)) → ((d t : ℕ) → defined s.declared d ≡ Some t → defined new d ≡ Some t)
-    → KeepsBases s bs → KeepsBases (record s { declared = new }) bs
-KeepsBases-defined s new bs still v = record {
-  as_many = v.as_many;
-  sound = λ i b e. IsBaseOf-more s (record s { declared = new }) (λ j u h. h) meaning i b (v.sound i b e);
-}
-  where
-    meaning : (d : ℕ) (u : Tree) → meaning_of s d ≡ Some u → meaning_of (record s { declared = new }) d ≡ Some u
-    meaning d u e = by (defined s.declared d) refl e
-      where
-        by : (o : Option ℕ) → defined s.declared d ≡ o → option_and_then (tree_at s) o ≡ Some u → meaning_of (record s { declared = new }) d ≡ Some u
-        by None f g = absurd cc
-        by (Some t) f g = ap (option_and_then (tree_at s)) (still d t f) ∙ g
-
-known_base-push : (bs : List (Option ℕ)) (o : Option ℕ) (i b : ℕ) → known_base (bs ++ o ∷ []) i ≡ Some b → (known_base bs i ≡ Some b) ⊎ ((i ≡ length bs) × (o ≡ Some b))
-known_base-push [] o zero b e = inr (refl, e)
-known_base-push [] o (suc i) b e = absurd cc
-known_base-push (k ∷ bs) o zero b e = inl e
-known_base-push (k ∷ bs) o (suc i) b e = next (known_base-push bs o i b e)
-  where
-    next : (known_base bs i ≡ Some b) ⊎ ((i ≡ length bs) × (o ≡ Some b)) → (known_base bs i ≡ Some b) ⊎ ((suc i ≡ length (k ∷ bs)) × (o ≡ Some b))
-    next (inl h) = inl h
-    next (inr h) = inr (ap suc h.0, h.1)
-
--- with one more row
-pub KeepsBases-push : (s : Store) (r : Row) (bs : List (Option ℕ)) (o : Option ℕ) → o ≡ base_over (defined s.declared) (known_base bs) (length s.rows) r → KeepsBases s bs
-    → IsStore (record s { rows = s.rows ++ r ∷ [] }) → ((d t : ℕ) → defined s.declared d ≡ Some t → t < length s.rows) → KeepsBases (record s { rows = s.rows ++ r ∷ [] }) (bs ++ o ∷ [])
-KeepsBases-push s r bs o value v w ids = record {
-  as_many = omega (arith, length-append bs (o ∷ []), length-append s.rows (r ∷ []), v.as_many);
-  sound = λ i b e. sound_at i b (known_base-push bs o i b e);
-}
-  where
-    kept : (j : ℕ) (u : Tree) → tree_at s j ≡ Some u → tree_at (record s { rows = s.rows ++ r ∷ [] }) j ≡ Some u
-    kept j u e = tree_kept s.rows (r ∷ []) j u e
-
-    meaning : (d : ℕ) (u : Tree) → meaning_of s d ≡ Some u → meaning_of (record s { rows = s.rows ++ r ∷ [] }) d ≡ Some u
-    meaning d u e = meaning_kept s.rows (s.rows ++ r ∷ []) kept (defined s.declared d) (ids d) ∙ e
-
-    old_sound : (i b : ℕ) → known_base bs i ≡ Some b → IsBaseOf (record s { rows = s.rows ++ r ∷ [] }) i b
-    old_sound i b e = IsBaseOf-more s (record s { rows = s.rows ++ r ∷ [] }) kept meaning i b (v.sound i b e)
-
-    sound_at : (i b : ℕ) → (known_base bs i ≡ Some b) ⊎ ((i ≡ length bs) × (o ≡ Some b)) → IsBaseOf (record s { rows = s.rows ++ r ∷ [] }) i b
-    sound_at i b (inl h) = old_sound i b h
-    sound_at i b (inr h) =
-        let place : length s.rows ≡ i = sym v.as_many ∙ sym h.0 in
-        let here : slice_get (s.rows ++ r ∷ []) i ≡ Some r = subst (λ j. slice_get (s.rows ++ r ∷ []) j ≡ Some r) place (slice_get_end s.rows r []) in
-        base-step (record s { rows = s.rows ++ r ∷ [] }) w (known_base bs) old_sound i r here b (sym (ap (λ n. base_over (defined s.declared) (known_base bs) n r) place) ∙ sym value ∙ h.1)
-
--- with one more base
-pub KeepsBases-set : (s : Store) → IsStore s → (bs : List (Option ℕ)) (i : ℕ) (r : Row) (o : Option ℕ) → slice_get s.rows i ≡ Some r → o ≡ base_over (defined s.declared) (known_base bs) i r → KeepsBases s bs
-    → KeepsBases s (set bs i o)
-KeepsBases-set s v bs i r o here value k = record {
-  as_many = length-set bs i o ∙ k.as_many;
-  sound = λ j b e. by j b e (nat_eq i j) refl;
-}
-  where
-    within : i < length bs
-    within = omega (arith, slice_get_within s.rows i r here, k.as_many)
-
-    by : (j b : ℕ) → known_base (set bs i o) j ≡ Some b → (x : Bool) → nat_eq i j ≡ x → IsBaseOf s j b
-    by j b e true g =
-        let same : i ≡ j = (unsigned_Decides i j).0 g in
-        let set_here : known_base (set bs i o) i ≡ o = get_or-set_same bs i o None within in
-        let is : o ≡ Some b = sym set_here ∙ ap (known_base (set bs i o)) same ∙ e in
-        subst (λ n. IsBaseOf s n b) same (base-step s v (known_base bs) k.sound i r here b (sym value ∙ is))
-    by j b e false g =
-        let other : j ≢ i = λ h. true≢false (sym ((unsigned_Decides i j).1 (sym h)) ∙ g) in
-        let there : known_base (set bs i o) j ≡ known_base bs j = get_or-set_other bs i j o None other in
-        k.sound j b (sym there ∙ e)
 
 -- ---- where nothing is kept, there is no base
 

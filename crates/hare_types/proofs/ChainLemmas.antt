@@ -25,18 +25,18 @@ equal_or_not i j = by (nat_eq i j) refl
     by true e = inl ((unsigned_Decides i j).0 e)
     by false e = inr (λ h. true≢false (sym ((unsigned_Decides i j).1 h) ∙ e))
 
-pub KeepsFound-set : (ks : List Kept) (i : ℕ) (k : Kept) → k.extent ≡ (kept_at ks i).extent → k.base ≡ (kept_at ks i).base → KeepsFound ks (set ks i k)
+pub KeepsFound-set : (ks : List Kept) (i : ℕ) (k : Kept) → k.extent ≡ (kept_at ks i).extent → k.root ≡ (kept_at ks i).root → KeepsFound ks (set ks i k)
 KeepsFound-set ks i k e f = record {
   extents = map-set_same (λ k. k.extent) ks i k blank e;
-  bases = map-set_same (λ k. k.base) ks i k blank f;
+  roots = map-set_same (λ k. k.root) ks i k blank f;
   as_many = length-set ks i k;
 }
 
 pub KeepsFound-refl : (ks : List Kept) → KeepsFound ks ks
-KeepsFound-refl ks = record { extents = refl; bases = refl; as_many = refl }
+KeepsFound-refl ks = record { extents = refl; roots = refl; as_many = refl }
 
 pub KeepsFound-trans : (a b c : List Kept) → KeepsFound a b → KeepsFound b c → KeepsFound a c
-KeepsFound-trans a b c h k = record { extents = k.extents ∙ h.extents; bases = k.bases ∙ h.bases; as_many = k.as_many ∙ h.as_many }
+KeepsFound-trans a b c h k = record { extents = k.extents ∙ h.extents; roots = k.roots ∙ h.roots; as_many = k.as_many ∙ h.as_many }
 
 -- ---- lists in place of others
 

@@ -1,6 +1,6 @@
 -- What is kept beside rows, as rows are taken in and names are declared and defined.
 use Rattle.std.proofs.Common.{◌≡◌, ℕ, zero, suc, ◌+◌, ◌<◌, ◌≤◌, true, false, List, [], ◌∷◌, ◌++◌, length, get_or, Option, Some, None, IfSome, IsSome, refl, ap, ap₂, sym, ◌∙◌, subst, arith, ◌⊎◌, inl, inr, length-append}
-use Rattle.std.specs.Prelude.{slice_get, option_and_then}
+use Rattle.std.specs.Prelude.{slice_get, option_map, option_and_then}
 use Rattle.std.proofs.lemmas.Option.{slice_get-get_or, slice_get_within}
 use Rattle.std.proofs.lemmas.List.{map-append, length-map}
 use Rattle.std.proofs.Math.Seq.{get_or-append_seam}
@@ -8,6 +8,7 @@ use Rattle.std.proofs.Math.ListN.{get_or-append}
 use Rattle.hare_types.specs.declared.declared.Declared.{Declared}
 use Rattle.hare_types.specs.declared.extent.Extent.{Extent}
 use Rattle.hare_types.specs.declared.kept.Kept.{Kept}
+use Rattle.hare_types.specs.declared.root.Root.{Root}
 use Rattle.hare_types.specs.declared.row.Row.{Row}
 use Rattle.hare_types.specs.declared.row.Row.TheVariants as row
 use Rattle.hare_types.specs.Numbering.{most, IsNumbered, IsOnce}
@@ -15,17 +16,17 @@ use Rattle.hare_types.specs.Rows.{IsWithin, IsReduced, AreRows}
 use Rattle.hare_types.specs.Store.{Store}
 use Rattle.hare_types.specs.Sound.{IsStore}
 use Rattle.hare_types.specs.Kept.{known, defined, extent_over, IsBounded, KeepsExtents, IsInert}
-use Rattle.hare_types.specs.Bases.{known_base, base_over, KeepsBases}
-use Rattle.hare_types.specs.Waiting.{nowhere, blank, kept_at, extents, bases, extent_at, base_at, Among, EndsWith, Chain, first_of, IsAtRest, HaveBases, AreSeen, AreSettling, AreSettlingBut, AreKept, IsTakenIn, KeepsFound, NoneFollows, NeedsAreWithin}
+use Rattle.hare_types.specs.Roots.{known_root, with_mark, root_over, KeepsRoots}
+use Rattle.hare_types.specs.Waiting.{nowhere, blank, kept_at, extents, roots, extent_at, root_at, Among, EndsWith, Chain, first_of, IsAtRest, HaveRoots, AreSeen, AreSettling, AreSettlingBut, AreKept, IsTakenIn, KeepsFound, NoneFollows, NeedsAreWithin}
 use Rattle.hare_types.proofs.ListLemmas.{slice_get_end, slice_get_push}
 use Rattle.hare_types.proofs.TreeLemmas.{IsWithin-le}
 use Rattle.hare_types.proofs.SoundLemmas.{IsStore-rows}
 use Rattle.hare_types.proofs.InternLemmas.{AreRows-new, kept_new, Continues-grows}
 use Rattle.hare_types.proofs.KeptLemmas.{KeepsExtents-push, extent_over-front, known-front}
-use Rattle.hare_types.proofs.BaseLemmas.{KeepsBases-push}
+use Rattle.hare_types.proofs.RootLemmas.{KeepsRoots-push}
 use Rattle.hare_types.proofs.ChainLemmas.{equal_or_not, Chain-below}
-use Rattle.hare_types.proofs.NeedLemmas.{extent-based}
-use Rattle.hare_types.proofs.WaitLemmas.{HaveBases-kept}
+use Rattle.hare_types.proofs.NeedLemmas.{extent-rooted}
+use Rattle.hare_types.proofs.WaitLemmas.{HaveRoots-kept}
 use Rattle.hare_types.proofs.MeaningLemmas.{needs-within, parts_below}
 
 -- ---- nothing
@@ -44,8 +45,8 @@ AreSettling-empty rows es ks e f = record {
     chain zero = refl
     chain (suc t) = ap (λ l. (kept_at l t).first) f
 
-pub HaveBases-empty : (ks : List Kept) → ks ≡ [] → HaveBases ks
-HaveBases-empty ks e i s =
+pub HaveRoots-empty : (ks : List Kept) → ks ≡ [] → HaveRoots ks
+HaveRoots-empty ks e i s =
     let nothing : false ≡ true = subst IsSome (ap (λ l. extent_at l i) e) s in
     absurd cc
 
@@ -67,25 +68,25 @@ Chain-longer ks new len same [] h c = c
 Chain-longer ks new len same (x ∷ xs) h c =
     (c.0, omega (arith, c.1, len), Chain-longer ks new len same xs (kept_at new x).next (subst (λ n. Chain ks n xs) (sym (same x)) c.2))
 
-base_front : (definition : ℕ → Option ℕ) (bs : List (Option ℕ)) (o : Option ℕ) (i : ℕ) (r : Row) → IsWithin (length bs) r → ((d t : ℕ) → definition d ≡ Some t → t < length bs)
-    → base_over definition (known_base (bs ++ o ∷ [])) i r ≡ base_over definition (known_base bs) i r
-base_front definition bs o i (row.Error j) h ids = get_or-append bs (o ∷ []) None j h
-base_front definition bs o i (row.Named d) h ids = by (definition d) (λ t. ids d t)
+root_front : (definition : ℕ → Option ℕ) (bs : List (Option Root)) (o : Option Root) (i : ℕ) (r : Row) → IsWithin (length bs) r → ((d t : ℕ) → definition d ≡ Some t → t < length bs)
+    → root_over definition (known_root (bs ++ o ∷ [])) i r ≡ root_over definition (known_root bs) i r
+root_front definition bs o i (row.Error j) h ids = ap (option_map with_mark) (get_or-append bs (o ∷ []) None j h)
+root_front definition bs o i (row.Named d) h ids = by (definition d) (λ t. ids d t)
   where
-    by : (q : Option ℕ) → ((t : ℕ) → q ≡ Some t → t < length bs) → option_and_then (known_base (bs ++ o ∷ [])) q ≡ option_and_then (known_base bs) q
+    by : (q : Option ℕ) → ((t : ℕ) → q ≡ Some t → t < length bs) → option_and_then (known_root (bs ++ o ∷ [])) q ≡ option_and_then (known_root bs) q
     by None g = refl
     by (Some t) g = get_or-append bs (o ∷ []) None t (g t refl)
-base_front definition bs o i (row.Scalar k) h ids = refl
-base_front definition bs o i (row.Pointer j) h ids = refl
-base_front definition bs o i (row.Nullable j) h ids = refl
-base_front definition bs o i (row.Slice j) h ids = refl
-base_front definition bs o i (row.Array n j) h ids = refl
-base_front definition bs o i (row.Struct fs) h ids = refl
-base_front definition bs o i (row.Tuple js) h ids = refl
-base_front definition bs o i (row.Union js) h ids = refl
+root_front definition bs o i (row.Scalar k) h ids = refl
+root_front definition bs o i (row.Pointer j) h ids = refl
+root_front definition bs o i (row.Nullable j) h ids = refl
+root_front definition bs o i (row.Slice j) h ids = refl
+root_front definition bs o i (row.Array n j) h ids = refl
+root_front definition bs o i (row.Struct fs) h ids = refl
+root_front definition bs o i (row.Tuple js) h ids = refl
+root_front definition bs o i (row.Union js) h ids = refl
 
-module _ (s : Store) (ks : List Kept) (v : AreKept s ks) (r : Row) (w : IsWithin (length s.rows) r) (k : Kept) (blank_is : k ≡ record blank { extent = k.extent; base = k.base })
-    (extent_is : k.extent ≡ extent_over (defined s.declared) (known (extents ks)) r) (base_is : k.base ≡ base_over (defined s.declared) (base_at ks) (length s.rows) r)
+module _ (s : Store) (ks : List Kept) (v : AreKept s ks) (r : Row) (w : IsWithin (length s.rows) r) (k : Kept) (blank_is : k ≡ record blank { extent = k.extent; root = k.root })
+    (extent_is : k.extent ≡ extent_over (defined s.declared) (known (extents ks)) r) (root_is : k.root ≡ root_over (defined s.declared) (root_at ks) (length s.rows) r)
     (bounded : IfSome k.extent (λ x. IsBounded x)) (sound : IsStore (record s { rows = s.rows ++ r ∷ [] })) where
   abbrev pushed : List Kept
   pushed = ks ++ k ∷ []
@@ -96,36 +97,36 @@ module _ (s : Store) (ks : List Kept) (v : AreKept s ks) (r : Row) (w : IsWithin
   extents_pushed : extents pushed ≡ extents ks ++ k.extent ∷ []
   extents_pushed = map-append (λ x. x.extent) ks (k ∷ [])
 
-  bases_pushed : bases pushed ≡ bases ks ++ k.base ∷ []
-  bases_pushed = map-append (λ x. x.base) ks (k ∷ [])
+  roots_pushed : roots pushed ≡ roots ks ++ k.root ∷ []
+  roots_pushed = map-append (λ x. x.root) ks (k ∷ [])
 
   extent_old : (j : ℕ) → j < length s.rows → extent_at pushed j ≡ extent_at ks j
   extent_old j l = ap (λ x. known x j) extents_pushed ∙ known-front (extents ks) (k.extent ∷ []) j (omega (arith, l, v.extents.as_many))
 
-  base_old : (j : ℕ) → j < length s.rows → base_at pushed j ≡ base_at ks j
-  base_old j l = ap (λ x. known_base x j) bases_pushed ∙ get_or-append (bases ks) (k.base ∷ []) None j (omega (arith, l, v.bases.as_many))
+  root_old : (j : ℕ) → j < length s.rows → root_at pushed j ≡ root_at ks j
+  root_old j l = ap (λ x. known_root x j) roots_pushed ∙ get_or-append (roots ks) (k.root ∷ []) None j (omega (arith, l, v.roots.as_many))
 
   extent_last : extent_at pushed (length s.rows) ≡ k.extent
   extent_last = ap (λ x. known x (length s.rows)) extents_pushed ∙ ap (known (extents ks ++ k.extent ∷ [])) (sym v.extents.as_many) ∙ get_or-append_seam (extents ks) k.extent [] None
 
-  base_last : base_at pushed (length s.rows) ≡ k.base
-  base_last = ap (λ x. known_base x (length s.rows)) bases_pushed ∙ ap (known_base (bases ks ++ k.base ∷ [])) (sym v.bases.as_many) ∙ get_or-append_seam (bases ks) k.base [] None
+  root_last : root_at pushed (length s.rows) ≡ k.root
+  root_last = ap (λ x. known_root x (length s.rows)) roots_pushed ∙ ap (known_root (roots ks ++ k.root ∷ [])) (sym v.roots.as_many) ∙ get_or-append_seam (roots ks) k.root [] None
 
   over_front : (q : Row) → IsWithin (length s.rows) q → extent_over (defined s.declared) (known (extents pushed)) q ≡ extent_over (defined s.declared) (known (extents ks)) q
   over_front q h =
       ap (λ x. extent_over (defined s.declared) (known x) q) extents_pushed
       ∙ extent_over-front (defined s.declared) (extents ks) (k.extent ∷ []) q (subst (λ n. IsWithin n q) (sym v.extents.as_many) h) (λ d t e. omega (arith, v.store.defined_within d t e, v.extents.as_many))
 
-  bases_front : (i : ℕ) (q : Row) → IsWithin (length s.rows) q → base_over (defined s.declared) (base_at pushed) i q ≡ base_over (defined s.declared) (base_at ks) i q
-  bases_front i q h =
-      ap (λ x. base_over (defined s.declared) (known_base x) i q) bases_pushed
-      ∙ base_front (defined s.declared) (bases ks) k.base i q (subst (λ n. IsWithin n q) (sym v.bases.as_many) h) (λ d t e. omega (arith, v.store.defined_within d t e, v.bases.as_many))
+  roots_front : (i : ℕ) (q : Row) → IsWithin (length s.rows) q → root_over (defined s.declared) (root_at pushed) i q ≡ root_over (defined s.declared) (root_at ks) i q
+  roots_front i q h =
+      ap (λ x. root_over (defined s.declared) (known_root x) i q) roots_pushed
+      ∙ root_front (defined s.declared) (roots ks) k.root i q (subst (λ n. IsWithin n q) (sym v.roots.as_many) h) (λ d t e. omega (arith, v.store.defined_within d t e, v.roots.as_many))
 
   pub push-extents : KeepsExtents (record s { rows = s.rows ++ r ∷ [] }) (extents pushed)
   push-extents = subst (KeepsExtents (record s { rows = s.rows ++ r ∷ [] })) (sym extents_pushed) (KeepsExtents-push s r (extents ks) k.extent extent_is bounded v.extents sound v.store.defined_within)
 
-  pub push-bases : KeepsBases (record s { rows = s.rows ++ r ∷ [] }) (bases pushed)
-  push-bases = subst (KeepsBases (record s { rows = s.rows ++ r ∷ [] })) (sym bases_pushed) (KeepsBases-push s r (bases ks) k.base base_is v.bases sound v.store.defined_within)
+  pub push-roots : KeepsRoots (record s { rows = s.rows ++ r ∷ [] }) (roots pushed)
+  push-roots = subst (KeepsRoots (record s { rows = s.rows ++ r ∷ [] })) (sym roots_pushed) (KeepsRoots-push s r (roots ks) k.root root_is v.roots)
 
   -- no extent is kept of what is not in the store
   kept_within : (i : ℕ) → IsSome (extent_at pushed i) → (i < length s.rows) ⊎ (i ≡ length s.rows)
@@ -144,14 +145,14 @@ module _ (s : Store) (ks : List Kept) (v : AreKept s ks) (r : Row) (w : IsWithin
       below : (j n : ℕ) → j < n + 1 → (j < n) ⊎ (j ≡ n)
       below j n l = grind arith
 
-  pub push-based : HaveBases pushed
-  push-based i h = by (kept_within i h)
+  pub push-rooted : HaveRoots pushed
+  push-rooted i h = by (kept_within i h)
     where
-      by : (i < length s.rows) ⊎ (i ≡ length s.rows) → IsSome (base_at pushed i)
-      by (inl l) = subst IsSome (sym (base_old i l)) (v.based i (subst IsSome (extent_old i l) h))
+      by : (i < length s.rows) ⊎ (i ≡ length s.rows) → IsSome (root_at pushed i)
+      by (inl l) = subst IsSome (sym (root_old i l)) (v.rooted i (subst IsSome (extent_old i l) h))
       by (inr e) =
           let here : IsSome k.extent = subst IsSome (ap (extent_at pushed) e ∙ extent_last) h in
-          subst IsSome (sym (ap (base_at pushed) e ∙ base_last ∙ base_is)) (extent-based s.declared ks v.based (length s.rows) r (subst IsSome extent_is here))
+          subst IsSome (sym (ap (root_at pushed) e ∙ root_last ∙ root_is)) (extent-rooted s.declared ks v.rooted (length s.rows) r (subst IsSome extent_is here))
 
   pub push-seen : AreSeen (s.rows ++ r ∷ []) pushed
   push-seen i n p q g l e = by (slice_get_push s.rows r i q g)
@@ -183,7 +184,7 @@ module _ (s : Store) (ks : List Kept) (v : AreKept s ks) (r : Row) (w : IsWithin
           absurd (omega arith)
       by (inr h) =
           subst (NoneFollows s.declared pushed (length s.rows)) (sym h.1)
-          (over_front r w ∙ sym extent_is ∙ sym extent_last ∙ u, λ b. bases_front (length s.rows) r w ∙ sym base_is ∙ sym base_last ∙ b)
+          (over_front r w ∙ sym extent_is ∙ sym extent_last ∙ u, λ b. roots_front (length s.rows) r w ∙ sym root_is ∙ sym root_last ∙ b)
 
   in_old : (n i : ℕ) → Among (v.lists n) i → i < length s.rows
   in_old n i a = omega (arith, as_many, Chain-below ks (v.lists n) (first_of ks nowhere n) (v.settled.waiting.links.chains n) i a)
@@ -232,12 +233,12 @@ module _ (s : Store) (ks : List Kept) (v : AreKept s ks) (r : Row) (w : IsWithin
               inr (x.0, x.1, extent_old x.0 below ∙ x.2)
 
           on : (slice_get s.rows i ≡ Some q) ⊎ ((i ≡ length s.rows) × (q ≡ r))
-              → (base_at pushed i ≡ None → base_over (defined s.declared) (base_at pushed) i q ≡ None) × (IsInert s.declared q ⊎ ((p : ℕ) × Among (v.lists (suc p)) i × (extent_at pushed p ≡ None)))
+              → (root_at pushed i ≡ None → root_over (defined s.declared) (root_at pushed) i q ≡ None) × (IsInert s.declared q ⊎ ((p : ℕ) × Among (v.lists (suc p)) i × (extent_at pushed p ≡ None)))
           on (inr h) = absurd (other (sym h.0))
           on (inl h) =
               let l = slice_get_within s.rows i q h in
               let x = a q h (sym (extent_old i l) ∙ u) in
-              ((λ b. bases_front i q (IsWithin-le i (length s.rows) q (omega arith) (v.store.rows_sound.within i q h)) ∙ x.0 (sym (base_old i l) ∙ b)), kept h x.1)
+              ((λ b. roots_front i q (IsWithin-le i (length s.rows) q (omega arith) (v.store.rows_sound.within i q h)) ∙ x.0 (sym (root_old i l) ∙ b)), kept h x.1)
 
       by : (i : ℕ) → (length s.rows ≡ i) ⊎ (¬ (length s.rows ≡ i)) → IsAtRest s.rows s.declared ks v.lists i ⊎ Among (v.lists 0) i
           → (length s.rows ≡ i) ⊎ (IsAtRest (s.rows ++ r ∷ []) s.declared pushed v.lists i ⊎ Among (v.lists 0) i)
@@ -257,24 +258,24 @@ pub record IsEntered (s : Store) (es : List (ℕ × Declared)) (rows : List Row)
       → ((pile : ℕ) (lists : ℕ → List ℕ) → AreSettlingBut here rows es mid pile lists → (new : ℕ → List ℕ) × AreSettling rows es final pile new × (new 0 ≡ lists 0))
       → AreKept (record s { rows = rows }) final
 
-entered-new : (s : Store) (ks : List Kept) → AreKept s ks → (r : Row) → IsWithin (length s.rows) r → (k : Kept) → k ≡ record blank { extent = k.extent; base = k.base }
-    → k.extent ≡ extent_over (defined s.declared) (known (extents ks)) r → k.base ≡ base_over (defined s.declared) (base_at ks) (length s.rows) r → IfSome k.extent (λ x. IsBounded x)
+entered-new : (s : Store) (ks : List Kept) → AreKept s ks → (r : Row) → IsWithin (length s.rows) r → (k : Kept) → k ≡ record blank { extent = k.extent; root = k.root }
+    → k.extent ≡ extent_over (defined s.declared) (known (extents ks)) r → k.root ≡ root_over (defined s.declared) (root_at ks) (length s.rows) r → IfSome k.extent (λ x. IsBounded x)
     → IsStore (record s { rows = s.rows ++ r ∷ [] }) → IsEntered s s.declared (s.rows ++ r ∷ []) (length s.rows) (ks ++ k ∷ [])
-entered-new s ks v r w k blank_is extent_is base_is bounded sound =
-    let extents_new = push-extents s ks v r w k blank_is extent_is base_is bounded sound in
-    let bases_new = push-bases s ks v r w k blank_is extent_is base_is bounded sound in
+entered-new s ks v r w k blank_is extent_is root_is bounded sound =
+    let extents_new = push-extents s ks v r w k blank_is extent_is root_is bounded sound in
+    let roots_new = push-roots s ks v r w k blank_is extent_is root_is bounded sound in
     record {
       as_many = sym (length-map (ks ++ k ∷ []) (λ x. x.extent)) ∙ extents_new.as_many;
       needs = needs-within (record s { rows = s.rows ++ r ∷ [] }) sound;
-      seen = push-seen s ks v r w k blank_is extent_is base_is bounded sound;
-      none = push-none s ks v r w k blank_is extent_is base_is bounded sound;
+      seen = push-seen s ks v r w k blank_is extent_is root_is bounded sound;
+      none = push-none s ks v r w k blank_is extent_is root_is bounded sound;
       kept = λ final keeps seen settled.
-          let x = settled nowhere v.lists (push-settling s ks v r w k blank_is extent_is base_is bounded sound) in
+          let x = settled nowhere v.lists (push-settling s ks v r w k blank_is extent_is root_is bounded sound) in
           record {
             store = sound;
             extents = subst (KeepsExtents (record s { rows = s.rows ++ r ∷ [] })) (sym keeps.extents) extents_new;
-            bases = subst (KeepsBases (record s { rows = s.rows ++ r ∷ [] })) (sym keeps.bases) bases_new;
-            based = HaveBases-kept (ks ++ k ∷ []) final keeps (push-based s ks v r w k blank_is extent_is base_is bounded sound);
+            roots = subst (KeepsRoots (record s { rows = s.rows ++ r ∷ [] })) (sym keeps.roots) roots_new;
+            rooted = HaveRoots-kept (ks ++ k ∷ []) final keeps (push-rooted s ks v r w k blank_is extent_is root_is bounded sound);
             seen = seen;
             lists = x.0;
             settled = x.1;
@@ -291,10 +292,10 @@ module _ (s : Store) (ks : List Kept) (r : Row) (rows : List Row) (es : List (�
       by (inr e) = absurd (omega (arith, l, h, ap length e, length-append s.rows (r ∷ [])))
 
   -- where k is what is kept of the row that was taken in, and mid is what is kept with it
-  pub entered : (old mid : List Kept) (q : Row) (k : Kept) → here < length rows → old ≡ ks → q ≡ get_or rows here q → mid ≡ ks ++ k ∷ [] → k ≡ record blank { extent = k.extent; base = k.base }
-      → k.extent ≡ extent_over (defined es) (known (extents old)) q → k.base ≡ base_over (defined es) (base_at old) here q → IfSome k.extent (λ x. IsBounded x)
+  pub entered : (old mid : List Kept) (q : Row) (k : Kept) → here < length rows → old ≡ ks → q ≡ get_or rows here q → mid ≡ ks ++ k ∷ [] → k ≡ record blank { extent = k.extent; root = k.root }
+      → k.extent ≡ extent_over (defined es) (known (extents old)) q → k.root ≡ root_over (defined es) (root_at old) here q → IfSome k.extent (λ x. IsBounded x)
       → IsEntered s es rows here mid
-  entered old mid q k l same at pushed blank_is extent_is base_is bounded = by t.grows
+  entered old mid q k l same at pushed blank_is extent_is root_is bounded = by t.grows
     where
       by : (rows ≡ s.rows) ⊎ (rows ≡ s.rows ++ r ∷ []) → IsEntered s es rows here mid
       by (inl e) = absurd (omega (arith, l, h, ap length e))
@@ -303,11 +304,11 @@ module _ (s : Store) (ks : List Kept) (r : Row) (rows : List Row) (es : List (�
           let q_is : q ≡ r = cc in
           let extent_new : k.extent ≡ extent_over (defined s.declared) (known (extents ks)) r =
           extent_is ∙ ap (λ x. extent_over (defined es) (known (extents x)) q) same ∙ ap₂ (λ x y. extent_over (defined x) (known (extents ks)) y) (sym d) q_is in
-          let base_new : k.base ≡ base_over (defined s.declared) (base_at ks) (length s.rows) r =
-          base_is ∙ ap (λ x. base_over (defined es) (base_at x) here q) same ∙ ap₂ (λ x y. base_over (defined x) (base_at ks) here y) (sym d) q_is
-          ∙ ap (λ n. base_over (defined s.declared) (base_at ks) n r) h in
+          let root_new : k.root ≡ root_over (defined s.declared) (root_at ks) (length s.rows) r =
+          root_is ∙ ap (λ x. root_over (defined es) (root_at x) here q) same ∙ ap₂ (λ x y. root_over (defined x) (root_at ks) here y) (sym d) q_is
+          ∙ ap (λ n. root_over (defined s.declared) (root_at ks) n r) h in
           let sound = subst (λ x. IsStore (record s { rows = x })) e t.sound in
-          let new = entered-new s ks t.kept r t.within k blank_is extent_new base_new bounded sound in
+          let new = entered-new s ks t.kept r t.within k blank_is extent_new root_new bounded sound in
           let there = subst (λ n. IsEntered s s.declared rows n (ks ++ k ∷ [])) (sym h) (subst (λ x. IsEntered s s.declared x (length s.rows) (ks ++ k ∷ [])) (sym e) new) in
           subst (λ x. IsEntered s x rows here mid) d (subst (IsEntered s s.declared rows here) (sym pushed) there)
 

@@ -101,7 +101,6 @@ module _ {A : Type 0} where
           on p (inr m) = inr (ap (λ x. unknown (x ∷ table g k)) p ∙ m.0, last (d ∙ p ∙ sym e) m.1)
 
 module _ {A : Type 0} (s : Store) (rule : Rule A) (grows : Grows rule rule) where
-
   rising : (n : ℕ) → Knows (found_within s rule n) (found_within s rule (suc n))
   rising n = found_within-more s s (Continues-same s.rows) rule rule grows n (suc n) (omega arith)
 

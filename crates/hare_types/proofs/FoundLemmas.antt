@@ -7,46 +7,47 @@ use Rattle.std.proofs.Math.ListN.{get_or-map}
 use Rattle.hare_types.specs.declared.declared.Declared.{Declared}
 use Rattle.hare_types.specs.declared.extent.Extent.{Extent}
 use Rattle.hare_types.specs.declared.kept.Kept.{Kept}
+use Rattle.hare_types.specs.declared.root.Root.{Root}
 use Rattle.hare_types.specs.declared.row.Row.{Row}
 use Rattle.hare_types.specs.Store.{Store}
 use Rattle.hare_types.specs.Sound.{IsStore}
 use Rattle.hare_types.specs.Kept.{known, defined, extent_over, IsBounded, AreBounded, KeepsExtents, IsInert, unknown}
-use Rattle.hare_types.specs.Bases.{known_base, base_over, KeepsBases}
-use Rattle.hare_types.specs.Waiting.{blank, kept_at, extents, bases, extent_at, base_at, Among, AreLinked, IsAtRest, HaveBases, AreSeen, AreSettlingBut, KeepsFound, with_found, with_list, released, IsFound, NoneFollows, unknowns}
+use Rattle.hare_types.specs.Roots.{known_root, root_over, KeepsRoots}
+use Rattle.hare_types.specs.Waiting.{blank, kept_at, extents, roots, extent_at, root_at, Among, AreLinked, IsAtRest, HaveRoots, AreSeen, AreSettlingBut, KeepsFound, with_found, with_list, released, IsFound, NoneFollows, unknowns}
 use Rattle.hare_types.proofs.KeptLemmas.{KeepsExtents-set, unknown-set, unknown-more}
-use Rattle.hare_types.proofs.BaseLemmas.{KeepsBases-set}
+use Rattle.hare_types.proofs.RootLemmas.{KeepsRoots-set}
 use Rattle.hare_types.proofs.ChainLemmas.{kept-same, equal_or_not, with_list-here, with_list-there, with_list-from, Among-append, Among-left, Among-right}
 use Rattle.hare_types.proofs.LinkLemmas.{AreLinked-same}
-use Rattle.hare_types.proofs.NeedLemmas.{base_over-near, base_over-inert}
+use Rattle.hare_types.proofs.NeedLemmas.{root_over-near, root_over-inert}
 
 -- ---- what is found of one row
 
 pub extent_field : (ks : List Kept) (j : ℕ) → extent_at ks j ≡ (kept_at ks j).extent
 extent_field ks j = get_or-map (λ k. k.extent) ks j blank
 
-base_field : (ks : List Kept) (j : ℕ) → base_at ks j ≡ (kept_at ks j).base
-base_field ks j = get_or-map (λ k. k.base) ks j blank
+root_field : (ks : List Kept) (j : ℕ) → root_at ks j ≡ (kept_at ks j).root
+root_field ks j = get_or-map (λ k. k.root) ks j blank
 
-pub extents-found : (ks : List Kept) (i : ℕ) (e : Option Extent) (b : Option ℕ) → extents (with_found ks i e b) ≡ set (extents ks) i e
-extents-found ks i e b = map-set (λ k. k.extent) ks i (record (kept_at ks i) { extent = e; base = b })
+pub extents-found : (ks : List Kept) (i : ℕ) (e : Option Extent) (b : Option Root) → extents (with_found ks i e b) ≡ set (extents ks) i e
+extents-found ks i e b = map-set (λ k. k.extent) ks i (record (kept_at ks i) { extent = e; root = b })
 
-pub bases-found : (ks : List Kept) (i : ℕ) (e : Option Extent) (b : Option ℕ) → bases (with_found ks i e b) ≡ set (bases ks) i b
-bases-found ks i e b = map-set (λ k. k.base) ks i (record (kept_at ks i) { extent = e; base = b })
+pub roots-found : (ks : List Kept) (i : ℕ) (e : Option Extent) (b : Option Root) → roots (with_found ks i e b) ≡ set (roots ks) i b
+roots-found ks i e b = map-set (λ k. k.root) ks i (record (kept_at ks i) { extent = e; root = b })
 
 -- where no extent is found, the extents stay
-pub extents-none : (ks : List Kept) (i : ℕ) (b : Option ℕ) → extent_at ks i ≡ None → extents (with_found ks i None b) ≡ extents ks
-extents-none ks i b h = map-set_same (λ k. k.extent) ks i (record (kept_at ks i) { extent = None; base = b }) blank (sym h ∙ extent_field ks i)
+pub extents-none : (ks : List Kept) (i : ℕ) (b : Option Root) → extent_at ks i ≡ None → extents (with_found ks i None b) ≡ extents ks
+extents-none ks i b h = map-set_same (λ k. k.extent) ks i (record (kept_at ks i) { extent = None; root = b }) blank (sym h ∙ extent_field ks i)
 
-extent-there : (ks : List Kept) (i : ℕ) (e : Option Extent) (b : Option ℕ) (j : ℕ) → j ≢ i → extent_at (with_found ks i e b) j ≡ extent_at ks j
+extent-there : (ks : List Kept) (i : ℕ) (e : Option Extent) (b : Option Root) (j : ℕ) → j ≢ i → extent_at (with_found ks i e b) j ≡ extent_at ks j
 extent-there ks i e b j other = ap (λ l. known l j) (extents-found ks i e b) ∙ get_or-set_other (extents ks) i j e None other
 
-base-there : (ks : List Kept) (i : ℕ) (e : Option Extent) (b : Option ℕ) (j : ℕ) → j ≢ i → base_at (with_found ks i e b) j ≡ base_at ks j
-base-there ks i e b j other = ap (λ l. known_base l j) (bases-found ks i e b) ∙ get_or-set_other (bases ks) i j b None other
+root-there : (ks : List Kept) (i : ℕ) (e : Option Extent) (b : Option Root) (j : ℕ) → j ≢ i → root_at (with_found ks i e b) j ≡ root_at ks j
+root-there ks i e b j other = ap (λ l. known_root l j) (roots-found ks i e b) ∙ get_or-set_other (roots ks) i j b None other
 
-pub base-here : (ks : List Kept) (i : ℕ) (e : Option Extent) (b : Option ℕ) → i < length ks → base_at (with_found ks i e b) i ≡ b
-base-here ks i e b l = ap (λ l. known_base l i) (bases-found ks i e b) ∙ get_or-set_same (bases ks) i b None (omega (arith, l, length-map ks (λ k. k.base)))
+pub root-here : (ks : List Kept) (i : ℕ) (e : Option Extent) (b : Option Root) → i < length ks → root_at (with_found ks i e b) i ≡ b
+root-here ks i e b l = ap (λ l. known_root l i) (roots-found ks i e b) ∙ get_or-set_same (roots ks) i b None (omega (arith, l, length-map ks (λ k. k.root)))
 
-pub extent-here : (ks : List Kept) (i : ℕ) (e : Option Extent) (b : Option ℕ) → i < length ks → extent_at (with_found ks i e b) i ≡ e
+pub extent-here : (ks : List Kept) (i : ℕ) (e : Option Extent) (b : Option Root) → i < length ks → extent_at (with_found ks i e b) i ≡ e
 extent-here ks i e b l = ap (λ l. known l i) (extents-found ks i e b) ∙ get_or-set_same (extents ks) i e None (omega (arith, l, length-map ks (λ k. k.extent)))
 
 -- ---- the lists, once those that wait for a row are released
@@ -93,23 +94,23 @@ released-pile lists t j h = subst (λ xs. Among xs j) (sym (with_list-here (with
 
 module _ (rows : List Row) (es : List (ℕ × Declared)) (old mid : List Kept) (i : ℕ) (r : Row) (f : IsFound es old mid i r) (within : i < length old) (none : extent_at old i ≡ None) where
   e_mid : (j : ℕ) → j ≢ i → extent_at mid j ≡ extent_at old j
-  e_mid j other = ap (λ l. extent_at l j) f.new_is ∙ extent-there old i f.extent f.base j other
+  e_mid j other = ap (λ l. extent_at l j) f.new_is ∙ extent-there old i f.extent f.root j other
 
-  b_mid : (j : ℕ) → j ≢ i → base_at mid j ≡ base_at old j
-  b_mid j other = ap (λ l. base_at l j) f.new_is ∙ base-there old i f.extent f.base j other
+  b_mid : (j : ℕ) → j ≢ i → root_at mid j ≡ root_at old j
+  b_mid j other = ap (λ l. root_at l j) f.new_is ∙ root-there old i f.extent f.root j other
 
-  pub found-based : HaveBases old → HaveBases mid
-  found-based h j s = by (equal_or_not j i)
+  pub found-rooted : HaveRoots old → HaveRoots mid
+  found-rooted h j s = by (equal_or_not j i)
     where
-      by : (j ≡ i) ⊎ (¬ (j ≡ i)) → IsSome (base_at mid j)
-      by (inl e) = subst IsSome (sym (ap (λ l. base_at l i) f.new_is ∙ base-here old i f.extent f.base within) ∙ ap (base_at mid) (sym e)) f.based
+      by : (j ≡ i) ⊎ (¬ (j ≡ i)) → IsSome (root_at mid j)
+      by (inl e) = subst IsSome (sym (ap (λ l. root_at l i) f.new_is ∙ root-here old i f.extent f.root within) ∙ ap (root_at mid) (sym e)) f.rooted
       by (inr other) = subst IsSome (sym (b_mid j other)) (h j (subst IsSome (e_mid j other) s))
 
   pub found-seen : AreSeen rows old → AreSeen rows mid
   found-seen h j k p q g l e = by (equal_or_not p i)
     where
       seen : (kept_at mid j).seen ≡ (kept_at old j).seen
-      seen = ap (λ l. (kept_at l j).seen) f.new_is ∙ kept-same (λ k. k.seen) old i (record (kept_at old i) { extent = f.extent; base = f.base }) refl j
+      seen = ap (λ l. (kept_at l j).seen) f.new_is ∙ kept-same (λ k. k.seen) old i (record (kept_at old i) { extent = f.extent; root = f.root }) refl j
 
       before : IsSome (extent_at old p)
       before = h j k p q g (omega (arith, l, seen)) e
@@ -124,77 +125,77 @@ module _ (rows : List Row) (es : List (ℕ × Declared)) (old mid : List Kept) (
   found-bounded h j x e = by (equal_or_not j i)
     where
       by : (j ≡ i) ⊎ (¬ (j ≡ i)) → IsBounded x
-      by (inl same) = subst (λ o. IfSome o (λ y. IsBounded y)) (sym (ap (λ l. extent_at l i) f.new_is ∙ extent-here old i f.extent f.base within) ∙ ap (extent_at mid) (sym same) ∙ e) f.bounded
+      by (inl same) = subst (λ o. IfSome o (λ y. IsBounded y)) (sym (ap (λ l. extent_at l i) f.new_is ∙ extent-here old i f.extent f.root within) ∙ ap (extent_at mid) (sym same) ∙ e) f.bounded
       by (inr other) = h j x (sym (e_mid j other) ∙ e)
 
   pub found-fewer : unknowns mid < unknowns old
   found-fewer = subst (λ l. unknowns l < unknowns old) (sym f.new_is) (by f.extent refl f.more)
     where
-      bases_less : base_at old i ≡ None → (o : Option ℕ) → f.base ≡ o → IsSome o → unknown (set (bases old) i f.base) < unknown (bases old)
-      bases_less h None e s = absurd cc
-      bases_less h (Some b) e s = subst (λ o. unknown (set (bases old) i o) < unknown (bases old)) (sym e) (unknown-set (bases old) i b (omega (arith, within, length-map old (λ k. k.base))) h)
+      roots_less : root_at old i ≡ None → (o : Option Root) → f.root ≡ o → IsSome o → unknown (set (roots old) i f.root) < unknown (roots old)
+      roots_less h None e s = absurd cc
+      roots_less h (Some b) e s = subst (λ o. unknown (set (roots old) i o) < unknown (roots old)) (sym e) (unknown-set (roots old) i b (omega (arith, within, length-map old (λ k. k.root))) h)
 
-      by : (o : Option Extent) → f.extent ≡ o → IsSome f.extent ⊎ (base_at old i ≡ None) → unknowns (with_found old i f.extent f.base) < unknowns old
+      by : (o : Option Extent) → f.extent ≡ o → IsSome f.extent ⊎ (root_at old i ≡ None) → unknowns (with_found old i f.extent f.root) < unknowns old
       by (Some x) e h =
           let first = unknown-set (extents old) i x (omega (arith, within, length-map old (λ k. k.extent))) none in
-          let second = unknown-more (bases old) i f.base f.based in
-          let one : unknown (extents (with_found old i f.extent f.base)) ≡ unknown (set (extents old) i (Some x)) = ap unknown (extents-found old i f.extent f.base ∙ ap (set (extents old) i) e) in
-          let two : unknown (bases (with_found old i f.extent f.base)) ≡ unknown (set (bases old) i f.base) = ap unknown (bases-found old i f.extent f.base) in
+          let second = unknown-more (roots old) i f.root f.rooted in
+          let one : unknown (extents (with_found old i f.extent f.root)) ≡ unknown (set (extents old) i (Some x)) = ap unknown (extents-found old i f.extent f.root ∙ ap (set (extents old) i) e) in
+          let two : unknown (roots (with_found old i f.extent f.root)) ≡ unknown (set (roots old) i f.root) = ap unknown (roots-found old i f.extent f.root) in
           omega (arith, first, second, one, two)
       by None e (inl s) =
           let nothing : false ≡ true = subst IsSome e s in
           absurd cc
       by None e (inr h) =
-          let one : unknown (extents (with_found old i f.extent f.base)) ≡ unknown (extents old) = ap unknown (ap (λ o. extents (with_found old i o f.base)) e ∙ extents-none old i f.base none) in
-          let two : unknown (bases (with_found old i f.extent f.base)) ≡ unknown (set (bases old) i f.base) = ap unknown (bases-found old i f.extent f.base) in
-          omega (arith, one, two, bases_less h f.base refl f.based)
+          let one : unknown (extents (with_found old i f.extent f.root)) ≡ unknown (extents old) = ap unknown (ap (λ o. extents (with_found old i o f.root)) e ∙ extents-none old i f.root none) in
+          let two : unknown (roots (with_found old i f.extent f.root)) ≡ unknown (set (roots old) i f.root) = ap unknown (roots-found old i f.extent f.root) in
+          omega (arith, one, two, roots_less h f.root refl f.rooted)
 
   pub found-length : length mid ≡ length old
-  found-length = ap length f.new_is ∙ length-set old i (record (kept_at old i) { extent = f.extent; base = f.base })
+  found-length = ap length f.new_is ∙ length-set old i (record (kept_at old i) { extent = f.extent; root = f.root })
 
   pub found-links : (pile : ℕ) (lists : ℕ → List ℕ) → AreLinked old pile lists → AreLinked mid pile lists
   found-links pile lists l =
       subst (λ x. AreLinked x pile lists) (sym f.new_is)
-      (AreLinked-same old (with_found old i f.extent f.base) pile lists (length-set old i (record (kept_at old i) { extent = f.extent; base = f.base }))
-      (kept-same (λ k. k.next) old i (record (kept_at old i) { extent = f.extent; base = f.base }) refl)
-      (kept-same (λ k. k.first) old i (record (kept_at old i) { extent = f.extent; base = f.base }) refl)
-      (kept-same (λ k. k.last) old i (record (kept_at old i) { extent = f.extent; base = f.base }) refl) l)
+      (AreLinked-same old (with_found old i f.extent f.root) pile lists (length-set old i (record (kept_at old i) { extent = f.extent; root = f.root }))
+      (kept-same (λ k. k.next) old i (record (kept_at old i) { extent = f.extent; root = f.root }) refl)
+      (kept-same (λ k. k.first) old i (record (kept_at old i) { extent = f.extent; root = f.root }) refl)
+      (kept-same (λ k. k.last) old i (record (kept_at old i) { extent = f.extent; root = f.root }) refl) l)
 
   pub found-extents : (s : Store) → IsStore s → s.rows ≡ rows → s.declared ≡ es → slice_get rows i ≡ Some r → KeepsExtents s (extents old) → KeepsExtents s (extents mid)
   found-extents s v e g here k = subst (λ l. KeepsExtents s (extents l)) (sym f.new_is) (by f.extent refl)
     where
-      by : (o : Option Extent) → f.extent ≡ o → KeepsExtents s (extents (with_found old i f.extent f.base))
-      by None h = subst (KeepsExtents s) (sym (ap (λ o. extents (with_found old i o f.base)) h ∙ extents-none old i f.base none)) k
+      by : (o : Option Extent) → f.extent ≡ o → KeepsExtents s (extents (with_found old i f.extent f.root))
+      by None h = subst (KeepsExtents s) (sym (ap (λ o. extents (with_found old i o f.root)) h ∙ extents-none old i f.root none)) k
       by (Some x) h =
-          subst (KeepsExtents s) (sym (extents-found old i f.extent f.base ∙ ap (set (extents old) i) h))
+          subst (KeepsExtents s) (sym (extents-found old i f.extent f.root ∙ ap (set (extents old) i) h))
           (KeepsExtents-set s v (extents old) i r x (ap (λ l. slice_get l i) e ∙ here) (sym h ∙ f.extent_is ∙ ap (λ l. extent_over (defined l) (known (extents old)) r) (sym g))
           (subst (λ o. IfSome o (λ y. IsBounded y)) h f.bounded) k)
 
-  pub found-bases : (s : Store) → IsStore s → s.rows ≡ rows → s.declared ≡ es → slice_get rows i ≡ Some r → KeepsBases s (bases old) → KeepsBases s (bases mid)
-  found-bases s v e g here k =
-      subst (KeepsBases s) (sym (ap bases f.new_is ∙ bases-found old i f.extent f.base))
-      (KeepsBases-set s v (bases old) i r f.base (ap (λ l. slice_get l i) e ∙ here) (f.base_is ∙ ap (λ l. base_over (defined l) (base_at old) i r) (sym g)) k)
+  pub found-roots : (s : Store) → IsStore s → s.rows ≡ rows → s.declared ≡ es → slice_get rows i ≡ Some r → KeepsRoots s (roots old) → KeepsRoots s (roots mid)
+  found-roots s v e g here k =
+      subst (KeepsRoots s) (sym (ap roots f.new_is ∙ roots-found old i f.extent f.root))
+      (KeepsRoots-set s (roots old) i r f.root (ap (λ l. slice_get l i) e ∙ here) (f.root_is ∙ ap (λ l. root_over (defined l) (root_at old) i r) (sym g)) k)
 
   -- where no extent was found, none follows over what is kept then
   pub found-none : (new : List Kept) → KeepsFound mid new → slice_get rows i ≡ Some r → extent_at new i ≡ None → (q : Row) → slice_get rows i ≡ Some q → NoneFollows es new i q
   found-none new k here u q g =
       let both : Some r ≡ Some q = sym here ∙ g in
       let same : r ≡ q = cc in
-      subst (NoneFollows es new i) same (extent, base)
+      subst (NoneFollows es new i) same (extent, root)
     where
       unfound : f.extent ≡ None
-      unfound = sym (ap (λ l. extent_at l i) f.new_is ∙ extent-here old i f.extent f.base within) ∙ sym (ap (λ l. known l i) k.extents) ∙ u
+      unfound = sym (ap (λ l. extent_at l i) f.new_is ∙ extent-here old i f.extent f.root within) ∙ sym (ap (λ l. known l i) k.extents) ∙ u
 
       extents_stay : extents new ≡ extents old
-      extents_stay = k.extents ∙ ap extents f.new_is ∙ ap (λ o. extents (with_found old i o f.base)) unfound ∙ extents-none old i f.base none
+      extents_stay = k.extents ∙ ap extents f.new_is ∙ ap (λ o. extents (with_found old i o f.root)) unfound ∙ extents-none old i f.root none
 
       extent : extent_over (defined es) (known (extents new)) r ≡ None
       extent = ap (λ l. extent_over (defined es) (known l) r) extents_stay ∙ sym f.extent_is ∙ unfound
 
-      base : base_at new i ≡ None → base_over (defined es) (base_at new) i r ≡ None
-      base b =
-          let gone : f.base ≡ None = sym (ap (λ l. base_at l i) f.new_is ∙ base-here old i f.extent f.base within) ∙ sym (ap (λ l. known_base l i) k.bases) ∙ b in
-          let nothing : false ≡ true = subst IsSome gone f.based in
+      root : root_at new i ≡ None → root_over (defined es) (root_at new) i r ≡ None
+      root b =
+          let gone : f.root ≡ None = sym (ap (λ l. root_at l i) f.new_is ∙ root-here old i f.extent f.root within) ∙ sym (ap (λ l. known_root l i) k.roots) ∙ b in
+          let nothing : false ≡ true = subst IsSome gone f.rooted in
           absurd cc
 
   -- once those that wait for it are released, each other row is at rest or looked at later
@@ -202,8 +203,8 @@ module _ (rows : List Row) (es : List (ℕ × Declared)) (old mid : List Kept) (
     e_new : (j : ℕ) → j ≢ i → extent_at new j ≡ extent_at old j
     e_new j other = ap (λ l. known l j) keeps.extents ∙ e_mid j other
 
-    b_new : (j : ℕ) → j ≢ i → base_at new j ≡ base_at old j
-    b_new j other = ap (λ l. known_base l j) keeps.bases ∙ b_mid j other
+    b_new : (j : ℕ) → j ≢ i → root_at new j ≡ root_at old j
+    b_new j other = ap (λ l. known_root l j) keeps.roots ∙ b_mid j other
 
     not_i : (m j : ℕ) → Among (lists m) j → j ≢ i
     not_i m j a e = h.out m (subst (Among (lists m)) e a)
@@ -221,23 +222,23 @@ module _ (rows : List Row) (es : List (ℕ × Declared)) (old mid : List Kept) (
       where
         -- what is said of one row
         said : (j : ℕ) (q : Row) → slice_get rows j ≡ Some q
-            → ((base_at new j ≡ None → base_over (defined es) (base_at new) j q ≡ None) × (IsInert es q ⊎ ((p : ℕ) × Among (released lists i (suc p)) j × (extent_at new p ≡ None)))) → IsAtRest rows es new (released lists i) j
+            → ((root_at new j ≡ None → root_over (defined es) (root_at new) j q ≡ None) × (IsInert es q ⊎ ((p : ℕ) × Among (released lists i (suc p)) j × (extent_at new p ≡ None)))) → IsAtRest rows es new (released lists i) j
         said j q g s q' g' u =
             let both : Some q ≡ Some q' = sym g ∙ g' in
             let same : q ≡ q' = cc in
-            subst (λ x. (base_at new j ≡ None → base_over (defined es) (base_at new) j x ≡ None) × (IsInert es x ⊎ ((p : ℕ) × Among (released lists i (suc p)) j × (extent_at new p ≡ None)))) same s
+            subst (λ x. (root_at new j ≡ None → root_over (defined es) (root_at new) j x ≡ None) × (IsInert es x ⊎ ((p : ℕ) × Among (released lists i (suc p)) j × (extent_at new p ≡ None)))) same s
 
-        at_rest : (j : ℕ) → j ≢ i → (q : Row) → slice_get rows j ≡ Some q → (base_at old j ≡ None → base_over (defined es) (base_at old) j q ≡ None)
+        at_rest : (j : ℕ) → j ≢ i → (q : Row) → slice_get rows j ≡ Some q → (root_at old j ≡ None → root_over (defined es) (root_at old) j q ≡ None)
             → IsInert es q ⊎ ((p : ℕ) × Among (lists (suc p)) j × (extent_at old p ≡ None)) → IsAtRest rows es new (released lists i) j ⊎ Among (released lists i 0) j
-        at_rest j other q g base (inl inert) =
-            inl (said j q g ((λ b. base_over-inert es (base_at old) (base_at new) j q inert ∙ base (sym (b_new j other) ∙ b)), inl inert))
-        at_rest j other q g base (inr w) = on (equal_or_not w.0 i)
+        at_rest j other q g root (inl inert) =
+            inl (said j q g ((λ b. root_over-inert es (root_at old) (root_at new) j q inert ∙ root (sym (b_new j other) ∙ b)), inl inert))
+        at_rest j other q g root (inr w) = on (equal_or_not w.0 i)
           where
             on : (w.0 ≡ i) ⊎ (¬ (w.0 ≡ i)) → IsAtRest rows es new (released lists i) j ⊎ Among (released lists i 0) j
             on (inl e) = inr (released-pile lists i j (inl (subst (λ p. Among (lists (suc p)) j) e w.1)))
             on (inr away) =
                 inl (said j q g (
-                  (λ b. base_over-near es (base_at old) (base_at new) j q w.0 (h.waiting.needs w.0 j w.1 q g) (b_new w.0 away) ∙ base (sym (b_new j other) ∙ b)),
+                  (λ b. root_over-near es (root_at old) (root_at new) j q w.0 (h.waiting.needs w.0 j w.1 q g) (b_new w.0 away) ∙ root (sym (b_new j other) ∙ b)),
                   inr (w.0, released-to lists i w.0 j away w.1, e_new w.0 away ∙ w.2),
                 ))
 

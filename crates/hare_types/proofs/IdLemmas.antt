@@ -407,9 +407,11 @@ module _ (s : Store) (v : IsStore s) where
         where
           by : (o : Option Row) → row_at s t ≡ o → LiesIn s t y
           by None g = absurd (no_row s (bytes_over (definition_of s)) t g y e)
-          by (Some r) g =
-              (tree_in (trees s.rows) t, tree_there t (slice_get_within s.rows t r g),
-               (length s.rows, sym (by_names s (length s.rows) (tree_in (trees s.rows) t)) ∙ extent_sound (length s.rows) t y e))
+          by (Some r) g = (
+            tree_in (trees s.rows) t,
+            tree_there t (slice_get_within s.rows t r g),
+            (length s.rows, sym (by_names s (length s.rows) (tree_in (trees s.rows) t)) ∙ extent_sound (length s.rows) t y e),
+          )
 
       settled : (i : ℕ) (r : Row) → slice_get s.rows i ≡ Some r → option_map told (extent_at s i) ≡ None → extent_over (definition_of s) (λ j. option_map told (extent_at s j)) r ≡ None
       settled i r here none = none_told (definition_of s) (extent_at s) i r (sym (extent-row s i r here) ∙ none_map told (extent_at s i) none)

@@ -4,6 +4,7 @@ use Rattle.hare_types.specs.declared.row.Scalar.TheVariants as keyword
 use Rattle.hare_types.specs.declared.extent.Extent.{Extent}
 use Rattle.hare_types.specs.Trees.{Tree, Scalar, Pointer, Nullable, Slice, Array, Struct, Tuple, Union, Error, Named, none, more}
 use Rattle.hare_types.specs.Layout.{extent_with, payload_start, field_start}
+use Rattle.hare_types.specs.Kept.{told}
 
 -- the extent of a type, where no name is defined but 0, which is `struct { a: u8, b: u32 }`
 abbrev named : ℕ → Option Extent
@@ -121,3 +122,11 @@ name_lies_as_its_definition = refl
 
 undefined_name_has_none : lies (Array 2 (Named 1)) ≡ None
 undefined_name_has_none = refl
+
+-- ---- what is told of sizes
+
+told_exactly : told (record { size = 1099511627776; align = 8 }) ≡ record { size = 1099511627776; align = 8 }
+told_exactly = refl
+
+told_as_above : told (record { size = 2199023255552; align = 8 }) ≡ record { size = 1099511627777; align = 8 }
+told_as_above = refl

@@ -30,3 +30,5 @@ pub mod LaterLemmas
 pub mod MeaningsLemmas
 mod FieldLemmas
 mod MarkLemmas
+pub mod RootLemmas
+mod ReadLemmas

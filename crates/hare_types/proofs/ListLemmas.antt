@@ -1,6 +1,7 @@
 -- Elements of a list that grows at its end.
-use Rattle.std.proofs.Common.{◌≡◌, ℕ, zero, suc, ◌<◌, ◌≤◌, List, [], ◌∷◌, ◌++◌, length, Some, None, refl, ap, arith, ◌⊎◌, inl, inr}
+use Rattle.std.proofs.Common.{◌≡◌, ℕ, zero, suc, ◌<◌, ◌≤◌, List, [], ◌∷◌, ◌++◌, length, get_or, Some, None, refl, ap, sym, ◌∙◌, arith, ◌⊎◌, inl, inr}
 use Rattle.std.specs.Prelude.{slice_get}
+use Rattle.std.proofs.lemmas.Option.{slice_get-get_or}
 
 -- an element of the front
 pub slice_get_front : {A : Type 0} (xs ys : List A) (i : ℕ) → i < length xs → slice_get (xs ++ ys) i ≡ slice_get xs i
@@ -35,3 +36,7 @@ pub slice_get_past : {A : Type 0} (xs : List A) (i : ℕ) → length xs ≤ i �
 slice_get_past [] i h = refl
 slice_get_past (x ∷ xs) zero h = absurd (omega arith)
 slice_get_past (x ∷ xs) (suc i) h = slice_get_past xs i (omega arith)
+
+-- an element that was read by an index
+pub slice_get_read : {A : Type 0} (xs : List A) (at index : ℕ) (x : A) → index ≡ at → index < length xs → x ≡ get_or xs index x → slice_get xs at ≡ Some x
+slice_get_read xs at index x same within is = ap (slice_get xs) (sym same) ∙ slice_get-get_or xs index x within ∙ ap Some (sym is)

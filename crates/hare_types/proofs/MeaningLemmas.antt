@@ -6,6 +6,7 @@ use Rattle.std.proofs.lemmas.List.{length-map}
 use Rattle.hare_types.specs.declared.declared.Declared.{Declared}
 use Rattle.hare_types.specs.declared.extent.Extent.{Extent}
 use Rattle.hare_types.specs.declared.kept.Kept.{Kept}
+use Rattle.hare_types.specs.declared.root.Root.{Root}
 use Rattle.hare_types.specs.declared.row.Row.{Row}
 use Rattle.hare_types.specs.declared.row.Row.TheVariants as row
 use Rattle.hare_types.specs.Numbering.{most}
@@ -15,8 +16,8 @@ use Rattle.hare_types.specs.Store.{Store, tree_at, meaning_of}
 use Rattle.hare_types.specs.Sound.{IsStore}
 use Rattle.hare_types.specs.Layout.{following, extent_with}
 use Rattle.hare_types.specs.Kept.{parts_of, defined, KeepsExtents, IsInert}
-use Rattle.hare_types.specs.Bases.{base_over}
-use Rattle.hare_types.specs.Waiting.{nowhere, extents, extent_at, base_at, Among, NeedsRow, Needs, IsAtRest, AreSettling, AreSettlingButName, NeedsAreWithin}
+use Rattle.hare_types.specs.Roots.{root_over}
+use Rattle.hare_types.specs.Waiting.{nowhere, extents, extent_at, root_at, Among, NeedsRow, Needs, IsAtRest, AreSettling, AreSettlingButName, NeedsAreWithin}
 use Rattle.hare_types.proofs.TreeLemmas.{IsWithin-le}
 use Rattle.hare_types.proofs.CallerLemmas.{tree_at_row}
 use Rattle.hare_types.proofs.KeptLemmas.{FieldsBelow-ids}
@@ -62,17 +63,17 @@ parts_below n (row.Slice j) k p h e = absurd cc
 
 -- ---- under other definitions
 
-base_same : (f g : ℕ → Option ℕ) (bs : ℕ → Option ℕ) → (i : ℕ) (r : Row) → ((d : ℕ) → r ≡ row.Named d → f d ≡ g d) → base_over f bs i r ≡ base_over g bs i r
-base_same f g bs i (row.Named d) h = ap (option_and_then bs) (h d refl)
-base_same f g bs i (row.Scalar k) h = refl
-base_same f g bs i (row.Pointer j) h = refl
-base_same f g bs i (row.Nullable j) h = refl
-base_same f g bs i (row.Slice j) h = refl
-base_same f g bs i (row.Array n j) h = refl
-base_same f g bs i (row.Struct fs) h = refl
-base_same f g bs i (row.Tuple js) h = refl
-base_same f g bs i (row.Union js) h = refl
-base_same f g bs i (row.Error j) h = refl
+root_same : (f g : ℕ → Option ℕ) (bs : ℕ → Option Root) → (i : ℕ) (r : Row) → ((d : ℕ) → r ≡ row.Named d → f d ≡ g d) → root_over f bs i r ≡ root_over g bs i r
+root_same f g bs i (row.Named d) h = ap (option_and_then bs) (h d refl)
+root_same f g bs i (row.Scalar k) h = refl
+root_same f g bs i (row.Pointer j) h = refl
+root_same f g bs i (row.Nullable j) h = refl
+root_same f g bs i (row.Slice j) h = refl
+root_same f g bs i (row.Array n j) h = refl
+root_same f g bs i (row.Struct fs) h = refl
+root_same f g bs i (row.Tuple js) h = refl
+root_same f g bs i (row.Union js) h = refl
+root_same f g bs i (row.Error j) h = refl
 
 needs_same : (es new : List (ℕ × Declared)) (r : Row) (p : ℕ) → ((d : ℕ) → r ≡ row.Named d → defined new d ≡ defined es d) → NeedsRow es r p → NeedsRow new r p
 needs_same es new (row.Named d) p h e = h d refl ∙ e
@@ -102,7 +103,7 @@ rest_same : (rows : List Row) (es new : List (ℕ × Declared)) (ks : List Kept)
     → IsAtRest rows es ks lists i → IsAtRest rows new ks lists i
 rest_same rows es new ks lists i same h r g u =
     let q = h r g u in
-    ((λ b. base_same (defined new) (defined es) (base_at ks) i r (λ d e. same r d g e) ∙ q.0 b), by q.1)
+    ((λ b. root_same (defined new) (defined es) (root_at ks) i r (λ d e. same r d g e) ∙ q.0 b), by q.1)
   where
     by : IsInert es r ⊎ ((p : ℕ) × Among (lists (suc p)) i × (extent_at ks p ≡ None)) → IsInert new r ⊎ ((p : ℕ) × Among (lists (suc p)) i × (extent_at ks p ≡ None))
     by (inl x) = inl (inert_same es new r (λ d e. same r d g e) x)

@@ -4,11 +4,12 @@ use Rattle.std.specs.Prelude.{slice_get, option_map, option_and_then}
 use Rattle.hare_types.specs.declared.declared.Declared.{Declared}
 use Rattle.hare_types.specs.declared.extent.Extent.{Extent}
 use Rattle.hare_types.specs.declared.kept.Kept.{Kept}
+use Rattle.hare_types.specs.declared.root.Root.{Root}
 use Rattle.hare_types.specs.declared.row.Row.{Row}
 use Rattle.hare_types.specs.declared.row.Row.TheVariants as row
 use Rattle.hare_types.specs.Kept.{parts_of, known, defined, all_known, extent_over, IsInert}
-use Rattle.hare_types.specs.Bases.{base_over}
-use Rattle.hare_types.specs.Waiting.{extents, base_at, NeedsRow, HaveBases, needed_at}
+use Rattle.hare_types.specs.Roots.{with_mark, root_over}
+use Rattle.hare_types.specs.Waiting.{extents, root_at, NeedsRow, HaveRoots, needed_at}
 
 -- ---- what a row needs
 
@@ -108,45 +109,49 @@ needed-none es f (row.Pointer j) k none before e = absurd cc
 needed-none es f (row.Nullable j) k none before e = absurd cc
 needed-none es f (row.Slice j) k none before e = absurd cc
 
--- ---- bases follow from what rows need
+-- ---- roots follow from what rows need
 
-pub base_over-near : (es : List (ℕ × Declared)) (f g : ℕ → Option ℕ) (i : ℕ) (r : Row) (p : ℕ) → NeedsRow es r p → g p ≡ f p → base_over (defined es) g i r ≡ base_over (defined es) f i r
-base_over-near es f g i (row.Error j) p h e = ap g h ∙ e ∙ ap f (sym h)
-base_over-near es f g i (row.Named d) p h e = ap (option_and_then g) h ∙ e ∙ sym (ap (option_and_then f) h)
-base_over-near es f g i (row.Array n j) p h e = refl
-base_over-near es f g i (row.Struct fs) p h e = refl
-base_over-near es f g i (row.Tuple js) p h e = refl
-base_over-near es f g i (row.Union js) p h e = refl
-base_over-near es f g i (row.Scalar k) p h e = refl
-base_over-near es f g i (row.Pointer j) p h e = refl
-base_over-near es f g i (row.Nullable j) p h e = refl
-base_over-near es f g i (row.Slice j) p h e = refl
+pub root_over-near : (es : List (ℕ × Declared)) (f g : ℕ → Option Root) (i : ℕ) (r : Row) (p : ℕ) → NeedsRow es r p → g p ≡ f p → root_over (defined es) g i r ≡ root_over (defined es) f i r
+root_over-near es f g i (row.Error j) p h e = ap (option_map with_mark) (ap g h ∙ e ∙ ap f (sym h))
+root_over-near es f g i (row.Named d) p h e = ap (option_and_then g) h ∙ e ∙ sym (ap (option_and_then f) h)
+root_over-near es f g i (row.Array n j) p h e = refl
+root_over-near es f g i (row.Struct fs) p h e = refl
+root_over-near es f g i (row.Tuple js) p h e = refl
+root_over-near es f g i (row.Union js) p h e = refl
+root_over-near es f g i (row.Scalar k) p h e = refl
+root_over-near es f g i (row.Pointer j) p h e = refl
+root_over-near es f g i (row.Nullable j) p h e = refl
+root_over-near es f g i (row.Slice j) p h e = refl
 
-pub base_over-inert : (es : List (ℕ × Declared)) (f g : ℕ → Option ℕ) (i : ℕ) (r : Row) → IsInert es r → base_over (defined es) g i r ≡ base_over (defined es) f i r
-base_over-inert es f g i (row.Named d) h = ap (option_and_then g) h ∙ sym (ap (option_and_then f) h)
-base_over-inert es f g i (row.Scalar k) h = refl
-base_over-inert es f g i (row.Error j) h = absurd h
-base_over-inert es f g i (row.Array n j) h = absurd h
-base_over-inert es f g i (row.Struct fs) h = absurd h
-base_over-inert es f g i (row.Tuple js) h = absurd h
-base_over-inert es f g i (row.Union js) h = absurd h
-base_over-inert es f g i (row.Pointer j) h = absurd h
-base_over-inert es f g i (row.Nullable j) h = absurd h
-base_over-inert es f g i (row.Slice j) h = absurd h
+pub root_over-inert : (es : List (ℕ × Declared)) (f g : ℕ → Option Root) (i : ℕ) (r : Row) → IsInert es r → root_over (defined es) g i r ≡ root_over (defined es) f i r
+root_over-inert es f g i (row.Named d) h = ap (option_and_then g) h ∙ sym (ap (option_and_then f) h)
+root_over-inert es f g i (row.Scalar k) h = refl
+root_over-inert es f g i (row.Error j) h = absurd h
+root_over-inert es f g i (row.Array n j) h = absurd h
+root_over-inert es f g i (row.Struct fs) h = absurd h
+root_over-inert es f g i (row.Tuple js) h = absurd h
+root_over-inert es f g i (row.Union js) h = absurd h
+root_over-inert es f g i (row.Pointer j) h = absurd h
+root_over-inert es f g i (row.Nullable j) h = absurd h
+root_over-inert es f g i (row.Slice j) h = absurd h
 
--- a row has a base where it has an extent
-pub extent-based : (es : List (ℕ × Declared)) (ks : List Kept) → HaveBases ks → (i : ℕ) (r : Row) → IsSome (extent_over (defined es) (known (extents ks)) r) → IsSome (base_over (defined es) (base_at ks) i r)
-extent-based es ks h i (row.Error j) s = h j s
-extent-based es ks h i (row.Named d) s = by (defined es d) s
+-- a row has a root where it has an extent
+pub extent-rooted : (es : List (ℕ × Declared)) (ks : List Kept) → HaveRoots ks → (i : ℕ) (r : Row) → IsSome (extent_over (defined es) (known (extents ks)) r) → IsSome (root_over (defined es) (root_at ks) i r)
+extent-rooted es ks h i (row.Error j) s = by (root_at ks j) (h j s)
   where
-    by : (o : Option ℕ) → IsSome (option_and_then (known (extents ks)) o) → IsSome (option_and_then (base_at ks) o)
+    by : (o : Option Root) → IsSome o → IsSome (option_map with_mark o)
+    by None e = e
+    by (Some r) e = refl
+extent-rooted es ks h i (row.Named d) s = by (defined es d) s
+  where
+    by : (o : Option ℕ) → IsSome (option_and_then (known (extents ks)) o) → IsSome (option_and_then (root_at ks) o)
     by None s = s
     by (Some t) s = h t s
-extent-based es ks h i (row.Scalar k) s = refl
-extent-based es ks h i (row.Pointer j) s = refl
-extent-based es ks h i (row.Nullable j) s = refl
-extent-based es ks h i (row.Slice j) s = refl
-extent-based es ks h i (row.Array n j) s = refl
-extent-based es ks h i (row.Struct fs) s = refl
-extent-based es ks h i (row.Tuple js) s = refl
-extent-based es ks h i (row.Union js) s = refl
+extent-rooted es ks h i (row.Scalar k) s = refl
+extent-rooted es ks h i (row.Pointer j) s = refl
+extent-rooted es ks h i (row.Nullable j) s = refl
+extent-rooted es ks h i (row.Slice j) s = refl
+extent-rooted es ks h i (row.Array n j) s = refl
+extent-rooted es ks h i (row.Struct fs) s = refl
+extent-rooted es ks h i (row.Tuple js) s = refl
+extent-rooted es ks h i (row.Union js) s = refl

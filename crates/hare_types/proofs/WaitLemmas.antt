@@ -9,8 +9,8 @@ use Rattle.hare_types.specs.declared.row.Row.{Row}
 use Rattle.hare_types.specs.declared.row.Row.TheVariants as row
 use Rattle.hare_types.specs.Numbering.{IsOnce}
 use Rattle.hare_types.specs.Kept.{parts_of, known, defined, IsInert, unknown}
-use Rattle.hare_types.specs.Bases.{known_base, base_over}
-use Rattle.hare_types.specs.Waiting.{nowhere, blank, kept_at, extent_at, base_at, Among, AreDistinct, AreLinked, NeedsRow, Needs, IsAtRest, HaveBases, AreSeen, AreSettling, AreSettlingBut, KeepsFound, KeepsSeen, with_seen, with_list, linked, AreSettlingButName}
+use Rattle.hare_types.specs.Roots.{known_root, root_over}
+use Rattle.hare_types.specs.Waiting.{nowhere, blank, kept_at, extent_at, root_at, Among, AreDistinct, AreLinked, NeedsRow, Needs, IsAtRest, HaveRoots, AreSeen, AreSettling, AreSettlingBut, KeepsFound, KeepsSeen, with_seen, with_list, linked, AreSettlingButName}
 use Rattle.hare_types.proofs.ChainLemmas.{KeepsFound-set, kept-same, kept-here, kept-there, equal_or_not, with_list-here, with_list-there, with_list-from}
 use Rattle.hare_types.proofs.LinkLemmas.{AreLinked-same, AreLinked-pop}
 use Rattle.hare_types.proofs.FoundLemmas.{extent_field}
@@ -21,7 +21,7 @@ pub rest-kept : (rows : List Row) (es : List (ℕ × Declared)) (old new : List 
     → IsAtRest rows es old lists j → IsAtRest rows es new after j
 rest-kept rows es old new lists after j k more h r g u =
     let q = h r g (sym (ap (λ l. known l j) k.extents) ∙ u) in
-    ((λ b. ap (λ bs. base_over (defined es) (known_base bs) j r) k.bases ∙ q.0 (sym (ap (λ l. known_base l j) k.bases) ∙ b)), by q.1)
+    ((λ b. ap (λ bs. root_over (defined es) (known_root bs) j r) k.roots ∙ q.0 (sym (ap (λ l. known_root l j) k.roots) ∙ b)), by q.1)
   where
     by : IsInert es r ⊎ ((p : ℕ) × Among (lists (suc p)) j × (extent_at old p ≡ None)) → IsInert es r ⊎ ((p : ℕ) × Among (after (suc p)) j × (extent_at new p ≡ None))
     by (inl x) = inl x
@@ -42,8 +42,8 @@ module _ (rows : List Row) (es : List (ℕ × Declared)) (old new : List Kept) (
 
   -- it does
   pub wait-settling : (t : ℕ) (r : Row) → slice_get rows i ≡ Some r → AreLinked new pile (linked lists t i) → extent_at old i ≡ None → NeedsRow es r t → extent_at old t ≡ None
-      → (base_at old i ≡ None → base_over (defined es) (base_at old) i r ≡ None) → AreSettling rows es new pile (linked lists t i)
-  wait-settling t r g links unknown needs free base = record {
+      → (root_at old i ≡ None → root_over (defined es) (root_at old) i r ≡ None) → AreSettling rows es new pile (linked lists t i)
+  wait-settling t r g links unknown needs free root = record {
     waiting = record { links = links; unknown = unknown_at; needs = needs_at };
     rest = λ j. by j (h.rest j);
   }
@@ -89,8 +89,8 @@ module _ (rows : List Row) (es : List (ℕ × Declared)) (old new : List Kept) (
 
       here : IsAtRest rows es new (linked lists t i) i
       here q k u =
-          subst (λ x. (base_at new i ≡ None → base_over (defined es) (base_at new) i x ≡ None) × (IsInert es x ⊎ ((p : ℕ) × Among (linked lists t i (suc p)) i × (extent_at new p ≡ None)))) (same_row q k) (
-            (λ b. ap (λ bs. base_over (defined es) (known_base bs) i r) keeps.bases ∙ base (sym (ap (λ l. known_base l i) keeps.bases) ∙ b)),
+          subst (λ x. (root_at new i ≡ None → root_over (defined es) (root_at new) i x ≡ None) × (IsInert es x ⊎ ((p : ℕ) × Among (linked lists t i (suc p)) i × (extent_at new p ≡ None)))) (same_row q k) (
+            (λ b. ap (λ bs. root_over (defined es) (known_root bs) i r) keeps.roots ∙ root (sym (ap (λ l. known_root l i) keeps.roots) ∙ b)),
             inr (t, subst (λ xs. Among xs i) (sym (with_list-here lists (suc t) (i ∷ lists (suc t)))) (inl refl), e_new t ∙ free),
           )
 
@@ -140,8 +140,8 @@ module _ (rows : List Row) (ks mid : List Kept) (i n : ℕ) (r : Row) (here : sl
 pub AreSeen-kept : (rows : List Row) (old new : List Kept) → KeepsFound old new → KeepsSeen old new → AreSeen rows old → AreSeen rows new
 AreSeen-kept rows old new k s h i j p r g l e = subst IsSome (sym (ap (λ x. known x p) k.extents)) (h i j p r g (omega (arith, l, s i)) e)
 
-pub HaveBases-kept : (old new : List Kept) → KeepsFound old new → HaveBases old → HaveBases new
-HaveBases-kept old new k h i s = subst IsSome (sym (ap (λ l. known_base l i) k.bases)) (h i (subst IsSome (ap (λ l. known l i) k.extents) s))
+pub HaveRoots-kept : (old new : List Kept) → KeepsFound old new → HaveRoots old → HaveRoots new
+HaveRoots-kept old new k h i s = subst IsSome (sym (ap (λ l. known_root l i) k.roots)) (h i (subst IsSome (ap (λ l. known l i) k.extents) s))
 
 -- ---- a row is taken
 
@@ -183,7 +183,7 @@ pop-settling rows es ks pile lists xs h e = record {
     taken j (inr a) = inr (inr (subst (λ l. Among l j) (sym (with_list-here lists 0 xs)) a))
 
     by : (j : ℕ) → IsAtRest rows es ks lists j ⊎ Among (lists 0) j → (pile ≡ j) ⊎ (IsAtRest rows es ks (with_list lists 0 xs) j ⊎ Among (with_list lists 0 xs 0) j)
-    by j (inl a) = inr (inl (rest-kept rows es ks ks lists (with_list lists 0 xs) j (record { extents = refl; bases = refl; as_many = refl }) (λ p b. wider p j b) a))
+    by j (inl a) = inr (inl (rest-kept rows es ks ks lists (with_list lists 0 xs) j (record { extents = refl; roots = refl; as_many = refl }) (λ p b. wider p j b) a))
     by j (inr a) = taken j (subst (λ l. Among l j) e a)
 
 -- ---- a name is defined

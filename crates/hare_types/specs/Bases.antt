@@ -1,5 +1,5 @@
--- Bases that are kept beside the rows of a store.
-use Rattle.std.specs.Prelude.{◌≡◌, ℕ, List, length, slice_index_or, Some, None, Option, option_and_then}
+-- What is left of a type without names and error marks.
+use Rattle.std.specs.Prelude.{◌≡◌, ℕ, Some, Option, option_and_then}
 use Rattle.hare_types.specs.declared.row.Row.{Row}
 use Rattle.hare_types.specs.declared.row.Row.TheVariants as row
 use Rattle.hare_types.specs.Trees.{Tree}
@@ -9,10 +9,6 @@ use Rattle.hare_types.specs.Layout.{IsBase}
 -- the type with id b is what is left of the type with id t, once names and error marks are followed until neither is left
 abbrev pub IsBaseOf : Store → ℕ → ℕ → Type 0
 IsBaseOf s t b = (u : Tree) × (v : Tree) × (tree_at s t ≡ Some u) × (tree_at s b ≡ Some v) × IsBase s u v
-
--- the base that is kept of an id
-abbrev pub known_base : List (Option ℕ) → ℕ → Option ℕ
-known_base bs i = slice_index_or bs i None
 
 -- what follows for row i from the bases that are kept of others: a row without a name and an error mark is its own base
 abbrev pub base_over : (ℕ → Option ℕ) → (ℕ → Option ℕ) → ℕ → Row → Option ℕ
@@ -26,8 +22,3 @@ base_over definition bs i (row.Tuple js) = Some i
 base_over definition bs i (row.Union js) = Some i
 base_over definition bs i (row.Error j) = bs j
 base_over definition bs i (row.Named d) = option_and_then bs (definition d)
-
--- beside each row stands nothing, or its base
-pub record KeepsBases (s : Store) (bs : List (Option ℕ)) : Type 0 where
-  pub as_many : length bs ≡ length s.rows
-  pub sound : (i b : ℕ) → known_base bs i ≡ Some b → IsBaseOf s i b

@@ -14,6 +14,7 @@ pub mod Numbering
 pub mod Packed
 pub mod PackedLaws
 pub mod Places
+pub mod Roots
 pub mod Rows
 pub mod Run
 pub mod Sound

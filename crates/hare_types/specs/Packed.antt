@@ -1,6 +1,7 @@
 -- Optional values in one word each, as they are kept beside the rows of a store.
-use Rattle.std.specs.Prelude.{ℕ, zero, suc, ◌+◌, ◌*◌, ◌/◌, ◌%◌, Some, None, Option}
+use Rattle.std.specs.Prelude.{ℕ, zero, suc, ◌+◌, ◌*◌, ◌/◌, ◌%◌, Bool, false, Some, None, Option}
 use Rattle.hare_types.specs.declared.extent.Extent.{Extent}
+use Rattle.hare_types.specs.declared.root.Root.{Root}
 
 -- the extent in a word: none in 0, and else the size above four bits for the alignment
 abbrev pub extent_in : ℕ → Option Extent
@@ -19,3 +20,16 @@ id_in (suc n) = Some n
 abbrev pub id_word : Option ℕ → ℕ
 id_word None = 0
 id_word (Some n) = suc n
+
+-- the root that is kept in two parts
+abbrev pub root_in : Option ℕ → Bool → Option Root
+root_in None e = None
+root_in (Some b) e = Some (record { base = b; is_error = e })
+
+abbrev pub base_in : Option Root → Option ℕ
+base_in None = None
+base_in (Some r) = Some r.base
+
+abbrev pub mark_in : Option Root → Bool
+mark_in None = false
+mark_in (Some r) = r.is_error

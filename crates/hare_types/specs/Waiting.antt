@@ -4,13 +4,14 @@ use Rattle.std.specs.Prelude.{◌≡◌, ℕ, zero, suc, ◌+◌, ◌<◌, ◌==
 use Rattle.hare_types.specs.declared.declared.Declared.{Declared}
 use Rattle.hare_types.specs.declared.extent.Extent.{Extent}
 use Rattle.hare_types.specs.declared.kept.Kept.{Kept}
+use Rattle.hare_types.specs.declared.root.Root.{Root}
 use Rattle.hare_types.specs.declared.row.Row.{Row}
 use Rattle.hare_types.specs.declared.row.Row.TheVariants as row
 use Rattle.hare_types.specs.Rows.{IsWithin}
 use Rattle.hare_types.specs.Store.{Store}
 use Rattle.hare_types.specs.Sound.{IsStore}
 use Rattle.hare_types.specs.Kept.{parts_of, known, defined, extent_over, IsBounded, IsInert, KeepsExtents, unknown}
-use Rattle.hare_types.specs.Bases.{known_base, base_over, KeepsBases}
+use Rattle.hare_types.specs.Roots.{known_root, root_over, KeepsRoots}
 
 -- ---- what is kept
 
@@ -19,7 +20,7 @@ abbrev pub nowhere : ℕ
 nowhere = 4294967295
 
 abbrev pub blank : Kept
-blank = record { extent = None; base = None; first = nowhere; last = nowhere; next = nowhere; seen = 0 }
+blank = record { extent = None; root = None; first = nowhere; last = nowhere; next = nowhere; seen = 0 }
 
 abbrev pub kept_at : List Kept → ℕ → Kept
 kept_at ks i = slice_index_or ks i blank
@@ -27,15 +28,15 @@ kept_at ks i = slice_index_or ks i blank
 abbrev pub extents : List Kept → List (Option Extent)
 extents ks = map (λ k. k.extent) ks
 
-abbrev pub bases : List Kept → List (Option ℕ)
-bases ks = map (λ k. k.base) ks
+abbrev pub roots : List Kept → List (Option Root)
+roots ks = map (λ k. k.root) ks
 
--- the extent and the base that are kept of an id
+-- the extent and the root that are kept of an id
 abbrev pub extent_at : List Kept → ℕ → Option Extent
 extent_at ks i = known (extents ks) i
 
-abbrev pub base_at : List Kept → ℕ → Option ℕ
-base_at ks i = known_base (bases ks) i
+abbrev pub root_at : List Kept → ℕ → Option Root
+root_at ks i = known_root (roots ks) i
 
 -- ---- linked lists
 
@@ -92,15 +93,15 @@ pub record AreWaiting (rows : List Row) (es : List (ℕ × Declared)) (ks : List
   pub unknown : (n i : ℕ) → Among (lists n) i → extent_at ks i ≡ None
   pub needs : (p i : ℕ) → Among (lists (suc p)) i → Needs rows es i p
 
--- where no extent is kept of row i, no base follows that is not kept, and the row is inert, or waits for one of which no extent is kept
+-- where no extent is kept of row i, no root follows that is not kept, and the row is inert, or waits for one of which no extent is kept
 abbrev pub IsAtRest : List Row → List (ℕ × Declared) → List Kept → (ℕ → List ℕ) → ℕ → Type 0
 IsAtRest rows es ks lists i =
     (r : Row) → slice_get rows i ≡ Some r → extent_at ks i ≡ None
-    → (base_at ks i ≡ None → base_over (defined es) (base_at ks) i r ≡ None) × (IsInert es r ⊎ ((p : ℕ) × Among (lists (suc p)) i × (extent_at ks p ≡ None)))
+    → (root_at ks i ≡ None → root_over (defined es) (root_at ks) i r ≡ None) × (IsInert es r ⊎ ((p : ℕ) × Among (lists (suc p)) i × (extent_at ks p ≡ None)))
 
--- where an extent is kept, a base is
-abbrev pub HaveBases : List Kept → Type 0
-HaveBases ks = (i : ℕ) → IsSome (extent_at ks i) → IsSome (base_at ks i)
+-- where an extent is kept, a root is
+abbrev pub HaveRoots : List Kept → Type 0
+HaveRoots ks = (i : ℕ) → IsSome (extent_at ks i) → IsSome (root_at ks i)
 
 -- of the parts of a row that were seen an extent is kept
 abbrev pub AreSeen : List Row → List Kept → Type 0
@@ -121,8 +122,8 @@ pub record AreSettlingBut (at : ℕ) (rows : List Row) (es : List (ℕ × Declar
 pub record AreKept (s : Store) (ks : List Kept) : Type 0 where
   pub store : IsStore s
   pub extents : KeepsExtents s (extents ks)
-  pub bases : KeepsBases s (bases ks)
-  pub based : HaveBases ks
+  pub roots : KeepsRoots s (roots ks)
+  pub rooted : HaveRoots ks
   pub seen : AreSeen s.rows ks
   pub lists : ℕ → List ℕ
   pub settled : AreSettling s.rows s.declared ks nowhere lists
@@ -143,8 +144,8 @@ abbrev pub with_ends : List Kept → ℕ → ℕ → ℕ → List Kept
 with_ends ks t first last = set ks t (record (kept_at ks t) { first = first; last = last })
 
 -- more is found of row i
-abbrev pub with_found : List Kept → ℕ → Option Extent → Option ℕ → List Kept
-with_found ks i extent base = set ks i (record (kept_at ks i) { extent = extent; base = base })
+abbrev pub with_found : List Kept → ℕ → Option Extent → Option Root → List Kept
+with_found ks i extent root = set ks i (record (kept_at ks i) { extent = extent; root = root })
 
 -- more is seen of row i
 abbrev pub with_seen : List Kept → ℕ → ℕ → List Kept
@@ -153,21 +154,21 @@ with_seen ks i seen = set ks i (record (kept_at ks i) { seen = seen })
 -- what follows for row i is found
 pub record IsFound (es : List (ℕ × Declared)) (old new : List Kept) (i : ℕ) (r : Row) : Type 0 where
   pub extent : Option Extent
-  pub base : Option ℕ
-  pub new_is : new ≡ with_found old i extent base
+  pub root : Option Root
+  pub new_is : new ≡ with_found old i extent root
   pub extent_is : extent ≡ extent_over (defined es) (known (extents old)) r
-  pub base_is : base ≡ base_over (defined es) (base_at old) i r
+  pub root_is : root ≡ root_over (defined es) (root_at old) i r
   pub bounded : IfSome extent (λ x. IsBounded x)
-  pub based : IsSome base
-  pub more : IsSome extent ⊎ (base_at old i ≡ None)
+  pub rooted : IsSome root
+  pub more : IsSome extent ⊎ (root_at old i ≡ None)
 
 -- no more follows for row i
 abbrev pub NoneFollows : List (ℕ × Declared) → List Kept → ℕ → Row → Type 0
-NoneFollows es ks i r = (extent_over (defined es) (known (extents ks)) r ≡ None) × (base_at ks i ≡ None → base_over (defined es) (base_at ks) i r ≡ None)
+NoneFollows es ks i r = (extent_over (defined es) (known (extents ks)) r ≡ None) × (root_at ks i ≡ None → root_over (defined es) (root_at ks) i r ≡ None)
 
--- how many extents and bases are not kept
+-- how many extents and roots are not kept
 abbrev pub unknowns : List Kept → ℕ
-unknowns ks = unknown (extents ks) + unknown (bases ks)
+unknowns ks = unknown (extents ks) + unknown (roots ks)
 
 -- the type whose extent is looked at next, where the first k parts were seen
 abbrev pub needed_at : (ℕ → Option ℕ) → Row → ℕ → Option ℕ
@@ -191,7 +192,7 @@ steps ks (suc n) h = cond (h == nowhere) 0 (suc (steps ks n (kept_at ks h).next)
 -- what is found of the rows is kept as it was
 pub record KeepsFound (old new : List Kept) : Type 0 where
   pub extents : extents new ≡ extents old
-  pub bases : bases new ≡ bases old
+  pub roots : roots new ≡ roots old
   pub as_many : length new ≡ length old
 
 -- what was seen of the rows is kept as it was

@@ -2,23 +2,24 @@
 
 ghost use Rattle.std.specs.Prelude.{◌≡◌, ◌<◌, IfSome};
 ghost use Rattle.hare_types.specs.Numbering.{most};
-ghost use Rattle.hare_types.specs.Waiting.{extent_at, base_at};
+ghost use Rattle.hare_types.specs.Waiting.{extent_at, root_at};
 
 use crate::extent::Extent;
 use crate::id::TypeId;
-use crate::packed::{PackedExtent, PackedId};
+use crate::packed::PackedExtent;
+use crate::root::{PackedRoot, Root};
 
 /// The number of no row.
 pub(crate) const NOWHERE: u32 = 4_294_967_295;
 
-/// What is kept of a row: its extent and its base, where they are known, and its place in the lists of rows that wait.
+/// What is kept of a row: its extent and its root, where they are known, and its place in the lists of rows that wait.
 ///
 /// `first` and `last` are the ends of the list of the rows that wait for this one, and `next` is the row behind this one in the list in which it
 /// stands itself. Of the first `seen` types that it holds by value an extent is kept.
 #[derive(Clone, Copy, Drop)]
 pub(crate) struct Kept {
     pub extent: PackedExtent,
-    pub base: PackedId,
+    pub root: PackedRoot,
     pub first: u32,
     pub last: u32,
     pub next: u32,
@@ -35,13 +36,13 @@ pub(crate) fn extent_at(kept: &[Kept], t: TypeId) -> Option<Extent>
     }
 }
 
-/// The base that is kept of a type.
-pub(crate) fn base_at(kept: &[Kept], t: TypeId) -> Option<TypeId>
-    ensures value { result ≡ base_at kept.now t }
-    ensures within { IfSome result (λ b. b < most) }
+/// The root that is kept of a type.
+pub(crate) fn root_at(kept: &[Kept], t: TypeId) -> Option<Root>
+    ensures value { result ≡ root_at kept.now t }
+    ensures within { IfSome result (λ r. r.base < most) }
 {
     match kept.get(t.index() as usize) {
-        Some(k) => k.base.get(),
+        Some(k) => k.root.get(),
         None => None,
     }
 }

@@ -16,6 +16,7 @@ mod numbering;
 mod packed;
 mod parts;
 mod places;
+mod root;
 mod row;
 mod settle;
 mod store;

@@ -3,8 +3,8 @@
 ghost use Rattle.std.specs.Prelude.{◌≡◌, ◌<◌, ◌≤◌, ◌^◌, IfSome, option_map};
 ghost use Rattle.hare_types.specs.Kept.{parts_of, known, defined, all_known, extent_over, IsBounded, AreBounded};
 ghost use Rattle.hare_types.specs.declared.row.Row.TheVariants as RowOf;
-ghost use Rattle.hare_types.specs.Waiting.{extents, base_at};
-ghost use Rattle.hare_types.specs.Bases.{base_over};
+ghost use Rattle.hare_types.specs.Waiting.{extents, root_at};
+ghost use Rattle.hare_types.specs.Roots.{root_over};
 ghost use Rattle.hare_types.specs.Numbering.{most};
 ghost use Rattle.hare_types.specs.Run.{no_parts, with_parts, IsRun};
 
@@ -12,8 +12,9 @@ use crate::bytes::{Run, fields_extent, repeated, scalar_extent, union_extent, wi
 use crate::declared::Declared;
 use crate::extent::Extent;
 use crate::id::TypeId;
-use crate::kept::{Kept, base_at, extent_at};
+use crate::kept::{Kept, extent_at, root_at};
 use crate::parts::{part_at, part_count};
+use crate::root::Root;
 use crate::row::Row;
 use indexmap::IndexMap;
 
@@ -88,24 +89,33 @@ fn named(decl: u32, declared: &IndexMap<u32, Declared>, kept: &[Kept]) -> Option
     }
 }
 
-/// The base of row `t`, `None` where none is kept of the type that it is marked as an error of, or named to be.
-pub(crate) fn base_over(
+/// The root of row `t`, `None` where none is kept of the type that it is marked as an error of, or named to be.
+pub(crate) fn root_over(
     row: &Row,
     t: TypeId,
     declared: &IndexMap<u32, Declared>,
     kept: &[Kept],
-) -> Option<TypeId>
+) -> Option<Root>
     requires { t < most }
-    ensures value { result ≡ base_over (defined declared.now.entries) (base_at kept.now) t row.now }
-    ensures within { IfSome result (λ b. b < most) }
+    ensures value { result ≡ root_over (defined declared.now.entries) (root_at kept.now) t row.now }
+    ensures within { IfSome result (λ r. r.base < most) }
 {
     match row {
-        Row::Error(inner) => base_at(kept, *inner),
-        Row::Named(decl) => match definition(*decl, declared) {
-            Some(meaning) => base_at(kept, meaning),
+        Row::Error(inner) => match root_at(kept, *inner) {
+            Some(root) => Some(Root {
+                is_error: true,
+                ..root
+            }),
             None => None,
         },
-        _ => Some(t),
+        Row::Named(decl) => match definition(*decl, declared) {
+            Some(meaning) => root_at(kept, meaning),
+            None => None,
+        },
+        _ => Some(Root {
+            base: t,
+            is_error: false,
+        }),
     }
 }
 

@@ -6,32 +6,33 @@ ghost use Rattle.hare_types.specs.Numbering.{IsOnce, most};
 ghost use Rattle.hare_types.specs.Sound.{IsStore};
 ghost use Rattle.hare_types.specs.Store.{Store};
 ghost use Rattle.hare_types.specs.Kept.{defined, known, parts_of, extent_over, IsBounded, AreBounded, KeepsExtents};
-ghost use Rattle.hare_types.specs.Bases.{base_over, KeepsBases};
-ghost use Rattle.hare_types.specs.Waiting.{nowhere, blank, extents, bases, extent_at, base_at, kept_at, with_found, with_seen, Among, HaveBases, AreSeen, AreSettling, AreSettlingBut, KeepsFound, IsFound, NoneFollows, NeedsAreWithin, needed_at, IsLess, AreSettlingButName, AreKept, IsTakenIn};
+ghost use Rattle.hare_types.specs.Roots.{root_over, KeepsRoots};
+ghost use Rattle.hare_types.specs.Waiting.{nowhere, blank, extents, roots, extent_at, root_at, kept_at, with_found, with_seen, Among, HaveRoots, AreSeen, AreSettling, AreSettlingBut, KeepsFound, IsFound, NoneFollows, NeedsAreWithin, needed_at, IsLess, AreSettlingButName, AreKept, IsTakenIn};
 
 use crate::declared::Declared;
 use crate::extent::Extent;
 use crate::id::TypeId;
 use crate::kept::{Kept, NOWHERE, extent_at};
-use crate::measure::{base_over, definition, extent_over};
-use crate::packed::{PackedExtent, PackedId};
+use crate::measure::{definition, extent_over, root_over};
+use crate::packed::PackedExtent;
 use crate::parts::{part_at, part_count};
 use crate::places::Rows;
+use crate::root::{PackedRoot, Root};
 use crate::row::Row;
 use crate::waiting::{link, release};
 use indexmap::IndexMap;
 
 /// Enters what is found of row `i`.
-fn set_found(kept: &mut Vec<Kept>, i: usize, extent: Option<Extent>, base: Option<TypeId>)
+fn set_found(kept: &mut Vec<Kept>, i: usize, extent: Option<Extent>, root: Option<Root>)
     requires there { i < length kept.old.items }
     requires bounded { IfSome extent (λ x. IsBounded x) }
-    requires within { IfSome base (λ b. b < most) }
-    ensures { kept.new.items ≡ with_found kept.old.items i extent base }
+    requires within { IfSome root (λ r. r.base < most) }
+    ensures { kept.new.items ≡ with_found kept.old.items i extent root }
 {
     let old = kept[i];
     kept[i] = Kept {
         extent: PackedExtent::of(extent),
-        base: PackedId::of(base),
+        root: PackedRoot::of(root),
         ..old
     };
 }
@@ -45,26 +46,26 @@ fn set_seen(kept: &mut Vec<Kept>, i: usize, seen: u32)
     kept[i] = Kept { seen, ..old };
 }
 
-/// Enters the extent and the base that follow for row `i`, of which no extent is kept. Whether more is known of it then.
+/// Enters the extent and the root that follow for row `i`, of which no extent is kept. Whether more is known of it then.
 fn look(rows: &[Row], declared: &IndexMap<u32, Declared>, kept: &mut Vec<Kept>, i: usize) -> bool
     requires within { i < length rows.now }
     requires few { length rows.now ≤ most }
     requires as_many { length kept.old.items ≡ length rows.now }
     requires bounded { AreBounded (extents kept.old.items) }
-    requires based { HaveBases kept.old.items }
+    requires rooted { HaveRoots kept.old.items }
     ensures found { result ≡ true → (r : RowOf) → slice_get rows.now i ≡ Some r → IsFound declared.now.entries kept.old.items kept.new.items i r }
     ensures same { result ≡ false → kept.new.items ≡ kept.old.items }
     ensures none { result ≡ false → (r : RowOf) → slice_get rows.now i ≡ Some r → NoneFollows declared.now.entries kept.old.items i r }
 {
     let extent = extent_over(&rows[i], declared, kept);
-    let base = base_over(&rows[i], TypeId::at(i as u32), declared, kept);
+    let root = root_over(&rows[i], TypeId::at(i as u32), declared, kept);
     if extent.is_some() {
-        set_found(kept, i, extent, base);
+        set_found(kept, i, extent, root);
         return true;
     }
-    if base.is_some() {
-        if kept[i].base.get().is_none() {
-            set_found(kept, i, extent, base);
+    if root.is_some() {
+        if kept[i].root.get().is_none() {
+            set_found(kept, i, extent, root);
             return true;
         }
     }
@@ -108,13 +109,13 @@ pub(crate) fn fresh(row: &Row, i: usize, declared: &IndexMap<u32, Declared>, kep
     requires few { i < most }
     requires bounded { AreBounded (extents kept.now) }
     ensures extent { result.extent ≡ extent_over (defined declared.now.entries) (known (extents kept.now)) row.now }
-    ensures base { result.base ≡ base_over (defined declared.now.entries) (base_at kept.now) i row.now }
+    ensures root { result.root ≡ root_over (defined declared.now.entries) (root_at kept.now) i row.now }
     ensures bounded { IfSome result.extent (λ x. IsBounded x) }
-    ensures blank { result ≡ record blank { extent = result.extent; base = result.base } }
+    ensures blank { result ≡ record blank { extent = result.extent; root = result.root } }
 {
     Kept {
         extent: PackedExtent::of(extent_over(row, declared, kept)),
-        base: PackedId::of(base_over(row, TypeId::at(i as u32), declared, kept)),
+        root: PackedRoot::of(root_over(row, TypeId::at(i as u32), declared, kept)),
         first: NOWHERE,
         last: NOWHERE,
         next: NOWHERE,
@@ -179,17 +180,17 @@ fn step(
     requires few { length rows.now ≤ most }
     requires as_many { length kept.old.items ≡ length rows.now }
     requires bounded { AreBounded (extents kept.old.items) }
-    requires based { HaveBases kept.old.items }
+    requires rooted { HaveRoots kept.old.items }
     requires needs { NeedsAreWithin rows.now declared.now.entries }
     requires seen { AreSeen rows.now kept.old.items }
     requires unknown { extent_at kept.old.items i ≡ None }
     requires lists { (lists : ℕ → List ℕ) × AreSettlingBut i rows.now declared.now.entries kept.old.items pile lists }
     ensures as_many { length kept.new.items ≡ length rows.now }
     ensures bounded { AreBounded (extents kept.new.items) }
-    ensures based { HaveBases kept.new.items }
+    ensures rooted { HaveRoots kept.new.items }
     ensures seen { AreSeen rows.now kept.new.items }
     ensures extents { (s : Store) → s.rows ≡ rows.now → s.declared ≡ declared.now.entries → IsStore s → KeepsExtents s (extents kept.old.items) → KeepsExtents s (extents kept.new.items) }
-    ensures bases { (s : Store) → s.rows ≡ rows.now → s.declared ≡ declared.now.entries → IsStore s → KeepsBases s (bases kept.old.items) → KeepsBases s (bases kept.new.items) }
+    ensures roots { (s : Store) → s.rows ≡ rows.now → s.declared ≡ declared.now.entries → IsStore s → KeepsRoots s (roots kept.old.items) → KeepsRoots s (roots kept.new.items) }
     ensures settled { (lists : ℕ → List ℕ) → AreSettlingBut i rows.now declared.now.entries kept.old.items pile lists → (new : ℕ → List ℕ) × AreSettling rows.now declared.now.entries kept.new.items result new × IsLess kept.old.items kept.new.items lists new }
 {
     if look(rows, declared, kept, i) {
@@ -201,7 +202,7 @@ fn step(
     pile
 }
 
-/// Enters the extents and bases that follow from the definition of a name. Each row that waits is looked at only once something that it waits
+/// Enters the extents and roots that follow from the definition of a name. Each row that waits is looked at only once something that it waits
 /// for is known.
 pub(crate) fn settle(
     rows: &Rows,
@@ -213,14 +214,14 @@ pub(crate) fn settle(
     requires few { length rows.now.keys ≤ most }
     requires as_many { length kept.old.items ≡ length rows.now.keys }
     requires bounded { AreBounded (extents kept.old.items) }
-    requires based { HaveBases kept.old.items }
+    requires rooted { HaveRoots kept.old.items }
     requires needs { NeedsAreWithin rows.now.keys declared.now.entries }
     requires seen { AreSeen rows.now.keys kept.old.items }
     requires lists { (lists : ℕ → List ℕ) × AreSettlingButName decl rows.now.keys declared.now.entries kept.old.items lists }
-    ensures based { HaveBases kept.new.items }
+    ensures rooted { HaveRoots kept.new.items }
     ensures seen { AreSeen rows.now.keys kept.new.items }
     ensures extents { (s : Store) → s.rows ≡ rows.now.keys → s.declared ≡ declared.now.entries → IsStore s → KeepsExtents s (extents kept.old.items) → KeepsExtents s (extents kept.new.items) }
-    ensures bases { (s : Store) → s.rows ≡ rows.now.keys → s.declared ≡ declared.now.entries → IsStore s → KeepsBases s (bases kept.old.items) → KeepsBases s (bases kept.new.items) }
+    ensures roots { (s : Store) → s.rows ≡ rows.now.keys → s.declared ≡ declared.now.entries → IsStore s → KeepsRoots s (roots kept.old.items) → KeepsRoots s (roots kept.new.items) }
     ensures settled { (new : ℕ → List ℕ) × AreSettling rows.now.keys declared.now.entries kept.new.items nowhere new }
 {
     match rows.get_index_of(&Row::Named(decl)) {
@@ -235,15 +236,15 @@ fn settle_from(rows: &[Row], declared: &IndexMap<u32, Declared>, kept: &mut Vec<
     requires few { length rows.now ≤ most }
     requires as_many { length kept.old.items ≡ length rows.now }
     requires bounded { AreBounded (extents kept.old.items) }
-    requires based { HaveBases kept.old.items }
+    requires rooted { HaveRoots kept.old.items }
     requires needs { NeedsAreWithin rows.now declared.now.entries }
     requires seen { AreSeen rows.now kept.old.items }
     requires unknown { extent_at kept.old.items i ≡ None }
     requires lists { (lists : ℕ → List ℕ) × AreSettlingBut i rows.now declared.now.entries kept.old.items nowhere lists }
-    ensures based { HaveBases kept.new.items }
+    ensures rooted { HaveRoots kept.new.items }
     ensures seen { AreSeen rows.now kept.new.items }
     ensures extents { (s : Store) → s.rows ≡ rows.now → s.declared ≡ declared.now.entries → IsStore s → KeepsExtents s (extents kept.old.items) → KeepsExtents s (extents kept.new.items) }
-    ensures bases { (s : Store) → s.rows ≡ rows.now → s.declared ≡ declared.now.entries → IsStore s → KeepsBases s (bases kept.old.items) → KeepsBases s (bases kept.new.items) }
+    ensures roots { (s : Store) → s.rows ≡ rows.now → s.declared ≡ declared.now.entries → IsStore s → KeepsRoots s (roots kept.old.items) → KeepsRoots s (roots kept.new.items) }
     ensures settled { (new : ℕ → List ℕ) × AreSettling rows.now declared.now.entries kept.new.items nowhere new }
 {
     let mut pile = step(rows, declared, kept, i, NOWHERE);

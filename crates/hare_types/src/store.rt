@@ -3,7 +3,7 @@
 ghost use Rattle.std.specs.Prelude.{◌≡◌, ◌≢◌, ◌≤◌, ◌<◌, ◌+◌, ◌++◌, ◌∷◌, [], ℕ, List, length, slice_get, IfOk, IfSome, IsSome, IfNone, OnOk, OnErr, Some, None, option_map};
 ghost use Rattle.hare_types.specs.declared.extent.Extent.{Extent as ExtentOf};
 ghost use Rattle.hare_types.specs.Bases.{IsBaseOf};
-ghost use Rattle.hare_types.specs.ByIds.{base_at, has_size_at, extent_at, field_at, tag_at};
+ghost use Rattle.hare_types.specs.ByIds.{base_at, is_error_at, has_size_at, extent_at, field_at, tag_at};
 ghost use Rattle.hare_types.specs.ByValue.{has_size, HoldsByValue};
 ghost use Rattle.hare_types.specs.Kept.{LiesIn, told, IsBounded};
 ghost use Rattle.hare_types.specs.Layout.{HasExtent};
@@ -19,8 +19,8 @@ use crate::declared::{Declared, set_definition};
 use crate::extent::Extent;
 use crate::fields::{FieldName, FieldPlaces, enter_if_new, reserve_fields};
 use crate::id::TypeId;
-use crate::kept::{Kept, base_at, extent_at};
-use crate::marks::has_size;
+use crate::kept::{Kept, extent_at, root_at};
+use crate::marks::{has_size, is_error};
 use crate::measure::extent_over;
 use crate::numbering::number;
 use crate::places::Rows;
@@ -236,7 +236,21 @@ impl TypeStore {
         ensures none { IfNone result ((b : ℕ) → ¬ IsBaseOf self.now t b) }
         ensures sound { IsStore self.now }
     {
-        base_at(self.kept.as_slice(), t)
+        match root_at(self.kept.as_slice(), t) {
+            Some(root) => Some(root.base),
+            None => None,
+        }
+    }
+
+    /// Whether the type is an error type: it bears an error mark, or names a type that does; of a name that is not defined this is not known,
+    /// and the answer is no. The time is constant where the type has a base, and else that of the names that it comes to.
+    pub fn is_error(&self, t: TypeId) -> bool
+        ensures { result ≡ is_error_at self.now t }
+    {
+        match root_at(self.kept.as_slice(), t) {
+            Some(root) => root.is_error,
+            None => is_error(self.rows.as_slice(), &self.declared, t),
+        }
     }
 
     /// Whether values of the type have a size: never and opaque have none, an error type as much as the type that it marks, and a name as it

@@ -73,3 +73,46 @@ fn marks_and_names_have_bases(rt: HostRuntime) -> Result<(), Fail> {
     assert!(rt; store.base(named) == None);
     Ok(())
 }
+
+#[test]
+fn fields_are_found_by_name(rt: HostRuntime) -> Result<(), Fail> {
+    let mut store = TypeStore::new(rt.alloc());
+    let int = store.intern(Row::Scalar(Scalar::Int))?;
+    let mut fields = Fields::new(rt.alloc());
+    fields.push(Field { name: 4, ty: int })?;
+    fields.push(Field { name: 2, ty: int })?;
+    let pair = store.intern(Row::Struct(fields))?;
+    assert!(rt; store.field(pair, 4) == Some(0));
+    assert!(rt; store.field(pair, 2) == Some(1));
+    assert!(rt; store.field(pair, 3) == None);
+    assert!(rt; store.field(int, 4) == None);
+    Ok(())
+}
+
+#[test]
+fn marks_and_words_are_told(rt: HostRuntime) -> Result<(), Fail> {
+    let mut store = TypeStore::new(rt.alloc());
+    let never = store.intern(Row::Scalar(Scalar::Never))?;
+    let marked = store.intern(Row::Error(never))?;
+    let named = store.intern(Row::Named(7))?;
+    assert!(rt; !store.is_error(never));
+    assert!(rt; store.is_error(marked));
+    assert!(rt; !store.is_error(named));
+    assert!(rt; !store.has_size(marked));
+    assert!(rt; !store.has_size(named));
+    store.declare(7, true)?;
+    assert!(rt; store.has_size(named));
+    Ok(())
+}
+
+#[test]
+fn words_tell_of_integers(rt: HostRuntime) -> Result<(), Fail> {
+    assert!(rt; Scalar::U8.holds(255));
+    assert!(rt; !Scalar::U8.holds(256));
+    assert!(rt; Scalar::Int.bits() == 32);
+    assert!(rt; Scalar::Size.is_signed() == Some(false));
+    assert!(rt; Scalar::U8.widens_to(Scalar::U16));
+    assert!(rt; !Scalar::U8.widens_to(Scalar::I64));
+    assert!(rt; Scalar::default_of(2_147_483_648) == Some(Scalar::I64));
+    Ok(())
+}

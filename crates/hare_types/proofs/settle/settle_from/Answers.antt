@@ -65,9 +65,9 @@ loop-pile-preserved c =
     record {
       as_many = c.step-pile-in-loop-pile.ensures.as_many;
       bounded = c.step-pile-in-loop-pile.ensures.bounded;
-      based = c.step-pile-in-loop-pile.ensures.based;
+      rooted = c.step-pile-in-loop-pile.ensures.rooted;
       seen = c.step-pile-in-loop-pile.ensures.seen;
       extents = λ s e g v k. c.step-pile-in-loop-pile.ensures.extents s e g v (c.loop-pile.invariant.extents s e g v k);
-      bases = λ s e g v k. c.step-pile-in-loop-pile.ensures.bases s e g v (c.loop-pile.invariant.bases s e g v k);
+      roots = λ s e g v k. c.step-pile-in-loop-pile.ensures.roots s e g v (c.loop-pile.invariant.roots s e g v k);
       lists = (w.0, w.1);
     }

@@ -4,11 +4,11 @@ use Rattle.std.proofs.lemmas.Option.{slice_get-get_or}
 use Rattle.hare_types.specs.declared.row.Row.TheVariants as row
 use Rattle.hare_types.specs.declared.row.Scalar.TheVariants as keyword
 use Rattle.hare_types.specs.Kept.{AreBounded, KeepsExtents, unknown}
-use Rattle.hare_types.specs.Bases.{KeepsBases}
+use Rattle.hare_types.specs.Roots.{KeepsRoots}
 use Rattle.hare_types.specs.Waiting.{IsFound, NoneFollows, unknowns, released}
 use Rattle.hare_types.proofs.ChainLemmas.{KeepsFound-trans}
-use Rattle.hare_types.proofs.FoundLemmas.{found-based, found-seen, found-bounded, found-fewer, found-length, found-links, found-extents, found-bases, found-none, release-settling}
-use Rattle.hare_types.proofs.WaitLemmas.{AreSeen-kept, HaveBases-kept}
+use Rattle.hare_types.proofs.FoundLemmas.{found-rooted, found-seen, found-bounded, found-fewer, found-length, found-links, found-extents, found-roots, found-none, release-settling}
+use Rattle.hare_types.proofs.WaitLemmas.{AreSeen-kept, HaveRoots-kept}
 use Rattle.hare_types.proofs.settle.step.Goals as goal
 
 pub release-first-requires : goal.release-first-requires
@@ -58,15 +58,15 @@ returns-then-look c =
     record {
       as_many = both.as_many ∙ len ∙ c.requires.as_many;
       bounded = subst AreBounded (sym both.extents) (found-bounded c.args.rows.now es ks c.look.new.kept.items c.args.i r f within c.requires.unknown c.requires.bounded);
-      based = HaveBases-kept c.look.new.kept.items c.wait.new.kept.items both (found-based c.args.rows.now es ks c.look.new.kept.items c.args.i r f within c.requires.unknown c.requires.based);
+      rooted = HaveRoots-kept c.look.new.kept.items c.wait.new.kept.items both (found-rooted c.args.rows.now es ks c.look.new.kept.items c.args.i r f within c.requires.unknown c.requires.rooted);
       seen = c.wait.ensures.seen;
       extents = λ s e g v k. subst (KeepsExtents s) (sym both.extents) (found-extents c.args.rows.now es ks c.look.new.kept.items c.args.i r f within c.requires.unknown s v e g here k);
-      bases = λ s e g v k. subst (KeepsBases s) (sym both.bases) (found-bases c.args.rows.now es ks c.look.new.kept.items c.args.i r f within c.requires.unknown s v e g here k);
+      roots = λ s e g v k. subst (KeepsRoots s) (sym both.roots) (found-roots c.args.rows.now es ks c.look.new.kept.items c.args.i r f within c.requires.unknown s v e g here k);
       settled = λ lists h.
           let links = c.release-first.ensures.lists lists (found-links c.args.rows.now es ks c.look.new.kept.items c.args.i r f within c.requires.unknown c.args.pile lists h.waiting.links) in
           let settling = release-settling c.args.rows.now es ks c.look.new.kept.items c.args.i r f within c.requires.unknown c.release-first.new.kept.items c.release-first.ensures.found c.args.pile c.release-first.result lists links h in
           let w = c.wait.ensures.settled c.release-first.result (released lists c.args.i) settling in
-          let same : unknowns c.wait.new.kept.items ≡ unknowns c.look.new.kept.items = ap₂ (λ a b. unknown a + unknown b) both.extents both.bases in
+          let same : unknowns c.wait.new.kept.items ≡ unknowns c.look.new.kept.items = ap₂ (λ a b. unknown a + unknown b) both.extents both.roots in
           (w.0, w.1, inl (omega (arith, same, fewer)));
     }
 

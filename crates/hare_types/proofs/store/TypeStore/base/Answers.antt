@@ -1,33 +1,22 @@
-use Rattle.std.proofs.Common.{◌≡◌, ℕ, Option, Some, None, refl, sym, ap, ◌∙◌, arith}
-use Rattle.std.specs.Prelude.{IfNone}
-use Rattle.std.proofs.lemmas.List.{length-map}
-use Rattle.hare_types.specs.Bases.{IsBaseOf}
-use Rattle.hare_types.specs.Waiting.{base_at}
-use Rattle.hare_types.proofs.BaseLemmas.{none_base}
-use Rattle.hare_types.proofs.IdLemmas.{base_is}
-use Rattle.hare_types.proofs.SettledLemmas.{bases-settled}
+use Rattle.std.proofs.Common.{◌≡◌, Some, None, sym, ap, ◌∙◌}
+use Rattle.hare_types.specs.Waiting.{root_at}
+use Rattle.hare_types.proofs.ReadLemmas.{root_read, base_read, no_base_read, none_read}
 use Rattle.hare_types.proofs.store.TypeStore.base.Goals as goal
 
--- what is found is what is kept
-kept : (c : goal.After-base_at) → base_at c.self.inside.kept.items c.args.t ≡ c.base_at.result
-kept c = ap (λ l. base_at l c.args.t) (sym c.as_slice.ensures.value) ∙ sym c.base_at.ensures.value
+some : (c : goal.In-Some) → root_at c.self.inside.kept.items c.args.t ≡ Some c.in-Some.root
+some c = ap (λ l. root_at l c.args.t) (sym c.as_slice.ensures.value) ∙ sym c.root_at.ensures.value ∙ c.in-Some.is
 
-none : (c : goal.After-base_at) → c.base_at.result ≡ None → (b : ℕ) → ¬ IsBaseOf c.args.self.now c.args.t b
-none c e =
-    let ks = c.self.inside.kept.items in
-    rw (← c.self.view_is)
-    (none_base _ c.self.invariant.kept.store (base_at ks)
-    (bases-settled c.self.inside.rows.keys c.self.inside.declared.entries ks (omega (arith, c.self.invariant.kept.store.rows_few, c.self.invariant.kept.extents.as_many, length-map ks (λ k. k.extent)))
-    c.self.invariant.kept.lists c.self.invariant.kept.settled c.self.invariant.kept.based) c.args.t (kept c ∙ e))
+none : (c : goal.In-None) → root_at c.self.inside.kept.items c.args.t ≡ None
+none c = ap (λ l. root_at l c.args.t) (sym c.as_slice.ensures.value) ∙ sym c.root_at.ensures.value ∙ c.in-None.is
 
-pub returns-clause-none : goal.returns-clause-none
-returns-clause-none c = by c.base_at.result refl
-  where
-    by : (o : Option ℕ) → c.base_at.result ≡ o → IfNone o ((b : ℕ) → ¬ IsBaseOf c.args.self.now c.args.t b)
-    by (Some x) e = tt
-    by None e = none c e
+pub returns-in-Some-clause-value : goal.returns-in-Some-clause-value
+returns-in-Some-clause-value c = rw (← c.self.view_is) (sym (root_read _ _ c.self.invariant.kept c.args.t c.in-Some.root (some c)).base)
 
-pub returns-clause-value : goal.returns-clause-value
-returns-clause-value c =
-    rw (← c.self.view_is)
-    (base_is _ c.self.invariant.kept.store c.args.t c.base_at.result (λ b e. c.self.invariant.kept.bases.sound c.args.t b (kept c ∙ e)) (λ e. rw (← c.self.view_is) at (none c e)))
+pub returns-in-Some-clause-some : goal.returns-in-Some-clause-some
+returns-in-Some-clause-some c = rw (← c.self.view_is) (base_read _ _ c.self.invariant.kept c.args.t c.in-Some.root (some c))
+
+pub returns-in-None-clause-value : goal.returns-in-None-clause-value
+returns-in-None-clause-value c = rw (← c.self.view_is) (sym (no_base_read _ _ c.self.invariant.kept c.args.t (none c)))
+
+pub returns-in-None-clause-none : goal.returns-in-None-clause-none
+returns-in-None-clause-none c = rw (← c.self.view_is) (none_read _ _ c.self.invariant.kept c.args.t (none c))

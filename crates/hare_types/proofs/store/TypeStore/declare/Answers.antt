@@ -4,9 +4,9 @@ use Rattle.std.specs.Map.{lookup}
 use Rattle.indexmap.proofs.CallerLemmas.{insert_entry-new}
 use Rattle.hare_types.specs.declared.declared.Declared.{Declared}
 use Rattle.hare_types.proofs.DefinitionLemmas.{declared-definition}
-use Rattle.hare_types.specs.Waiting.{nowhere, extents, bases}
+use Rattle.hare_types.specs.Waiting.{nowhere, extents, roots}
 use Rattle.hare_types.proofs.KeptLemmas.{KeepsExtents-defined}
-use Rattle.hare_types.proofs.BaseLemmas.{KeepsBases-defined}
+use Rattle.hare_types.proofs.RootLemmas.{KeepsRoots-defined}
 use Rattle.hare_types.proofs.MeaningLemmas.{AreSettling-declared}
 use Rattle.hare_types.proofs.SoundLemmas.{IsStore-declared}
 use Rattle.hare_types.proofs.LaterLemmas.{later_grown}
@@ -30,8 +30,8 @@ invariant_of-self-2 c =
       kept = record {
         store = IsStore-declared _ new c.args.decl _ c.self.invariant.kept.store refl (fresh c) c.in_ok-insert.ensures.updates.0;
         extents = KeepsExtents-defined _ new (extents ks) (λ d t e. same d ∙ e) c.self.invariant.kept.extents;
-        bases = KeepsBases-defined _ new (bases ks) (λ d t e. same d ∙ e) c.self.invariant.kept.bases;
-        based = c.self.invariant.kept.based;
+        roots = KeepsRoots-defined _ new (roots ks) (λ d t e. same d ∙ e) c.self.invariant.kept.roots;
+        rooted = c.self.invariant.kept.rooted;
         seen = c.self.invariant.kept.seen;
         lists = c.self.invariant.kept.lists;
         settled = AreSettling-declared c.self.inside.rows.keys es new ks nowhere c.self.invariant.kept.lists same c.self.invariant.kept.settled;

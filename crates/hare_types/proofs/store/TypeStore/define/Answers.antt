@@ -3,9 +3,9 @@ use Rattle.std.proofs.lemmas.Option.{IfSome_then}
 use Rattle.std.proofs.lemmas.List.{length-map}
 use Rattle.indexmap.specs.IndexMap.{Updates}
 use Rattle.hare_types.specs.declared.declared.Declared.{Declared}
-use Rattle.hare_types.specs.Waiting.{extents, bases}
+use Rattle.hare_types.specs.Waiting.{extents, roots}
 use Rattle.hare_types.proofs.KeptLemmas.{KeepsExtents-defined}
-use Rattle.hare_types.proofs.BaseLemmas.{KeepsBases-defined}
+use Rattle.hare_types.proofs.RootLemmas.{KeepsRoots-defined}
 use Rattle.hare_types.proofs.MeaningLemmas.{AreSettling-defined, needs-within}
 use Rattle.hare_types.proofs.SoundLemmas.{IsStore-define, definitions-kept, definitions-there}
 use Rattle.hare_types.proofs.LaterLemmas.{later_grown}
@@ -28,8 +28,8 @@ invariant_of-self c =
       kept = record {
         store = store;
         extents = c.settle.ensures.extents _ refl refl store (KeepsExtents-defined _ new (extents ks) still c.self.invariant.kept.extents);
-        bases = c.settle.ensures.bases _ refl refl store (KeepsBases-defined _ new (bases ks) still c.self.invariant.kept.bases);
-        based = c.settle.ensures.based;
+        roots = c.settle.ensures.roots _ refl refl store (KeepsRoots-defined _ new (roots ks) still c.self.invariant.kept.roots);
+        rooted = c.settle.ensures.rooted;
         seen = c.settle.ensures.seen;
         lists = c.settle.ensures.settled.0;
         settled = c.settle.ensures.settled.1;
@@ -54,7 +54,7 @@ settle-requires c =
       few = c.self.invariant.kept.store.rows_few;
       as_many = sym (length-map ks (λ k. k.extent)) ∙ c.self.invariant.kept.extents.as_many;
       bounded = c.self.invariant.kept.extents.bounded;
-      based = c.self.invariant.kept.based;
+      rooted = c.self.invariant.kept.rooted;
       needs = needs-within _ store;
       seen = c.self.invariant.kept.seen;
       lists = (c.self.invariant.kept.lists, AreSettling-defined _ ks c.args.decl new c.self.invariant.kept.lists c.self.invariant.kept.store c.self.invariant.kept.extents fresh (definitions-there es new c.args.decl c.args.t declared put) c.self.invariant.kept.settled);

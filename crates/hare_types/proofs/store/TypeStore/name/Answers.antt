@@ -7,9 +7,9 @@ use Rattle.hare_types.specs.Numbering.{IsNumbered, IsOnce}
 use Rattle.hare_types.proofs.NumberingLemmas.{numbered, once_more}
 use Rattle.hare_types.proofs.InternLemmas.{Continues-grows}
 use Rattle.hare_types.proofs.SoundLemmas.{IsStore-names}
-use Rattle.hare_types.specs.Waiting.{extents, bases}
+use Rattle.hare_types.specs.Waiting.{extents, roots}
 use Rattle.hare_types.proofs.KeptLemmas.{KeepsExtents-same}
-use Rattle.hare_types.proofs.BaseLemmas.{KeepsBases-same}
+use Rattle.hare_types.proofs.RootLemmas.{KeepsRoots-same}
 use Rattle.hare_types.proofs.LaterLemmas.{later_grown}
 use Rattle.hare_types.proofs.store.TypeStore.name.Goals as goal
 
@@ -35,8 +35,8 @@ invariant_of-self-2 c = record {
   kept = record {
     store = IsStore-names _ (map (λ (v : Vec ℕ Global). v.items) c.number.new.set.keys) c.self.invariant.kept.store (name_once c) (rw length-map c.number.ensures.few);
     extents = KeepsExtents-same _ _ (extents c.self.inside.kept.items) refl refl c.self.invariant.kept.extents;
-    bases = KeepsBases-same _ _ (bases c.self.inside.kept.items) refl refl c.self.invariant.kept.bases;
-    based = c.self.invariant.kept.based;
+    roots = KeepsRoots-same _ _ (roots c.self.inside.kept.items) refl refl c.self.invariant.kept.roots;
+    rooted = c.self.invariant.kept.rooted;
     seen = c.self.invariant.kept.seen;
     lists = c.self.invariant.kept.lists;
     settled = c.self.invariant.kept.settled;
