@@ -1,5 +1,5 @@
 -- What the tokens of a file come to, from what the machine's run over them says.
-use Rattle.std.proofs.Common.{◌≡◌, ℕ, suc, ◌<◌, List, [], ◌∷◌, length, ap, sym, ◌∙◌}
+use Rattle.std.proofs.Common.{◌≡◌, ℕ, suc, ◌<◌, List, [], ◌∷◌, length}
 use Rattle.hare_tree.specs.declared.token.Token.{Token}
 use Rattle.hare_tree.specs.Grammar.{files, IsDepthFault, IsFirstFault, IsFileTree, joined, StandsAt}
 use Rattle.hare_tree.proofs.Fitting.{fits_file_parts, file_fits}
