@@ -121,7 +121,8 @@ module _ (ks : ℕ → Option Extent) (known : (i : ℕ) (x : Extent) → ks i �
       subst AreAligned same tt
   all_aligned (i ∷ is) xs e = by (ks i) refl (all_known ks is) refl e (all_aligned is)
     where
-      by : (o : Option Extent) → ks i ≡ o → (p : Option (List Extent)) → all_known ks is ≡ p → option_and_then (λ x. option_map (λ ys. x ∷ ys) p) o ≡ Some xs
+      by : (o : Option Extent) → ks i ≡ o → (p : Option (List Extent)) → all_known ks is ≡ p
+          → option_and_then (λ x. option_map (λ ys. x ∷ ys) p) o ≡ Some xs
           → ((ys : List Extent) → all_known ks is ≡ Some ys → AreAligned ys) → AreAligned xs
       by None f p g h ih = absurd cc
       by (Some x) f None g h ih = absurd cc
@@ -129,7 +130,8 @@ module _ (ks : ℕ → Option Extent) (known : (i : ℕ) (x : Extent) → ks i �
           let same : x ∷ ys ≡ xs = cc in
           subst AreAligned same (known i x f, ih ys g)
 
-  of_parts : (f : List Extent → Extent) → ((xs : List Extent) → AreAligned xs → IsAligned (f xs)) → (is : List ℕ) (x : Extent) → option_map f (all_known ks is) ≡ Some x → IsAligned x
+  of_parts : (f : List Extent → Extent) → ((xs : List Extent) → AreAligned xs → IsAligned (f xs)) → (is : List ℕ) (x : Extent)
+      → option_map f (all_known ks is) ≡ Some x → IsAligned x
   of_parts f aligned is x e =
       let h = mapped f (all_known ks is) x e in
       subst IsAligned h.2 (aligned h.0 (all_aligned is h.0 h.1))
