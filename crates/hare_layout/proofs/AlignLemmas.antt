@@ -8,7 +8,7 @@ use Rattle.hare_types.specs.declared.row.Row.TheVariants as row
 use Rattle.hare_types.specs.declared.row.Scalar.{Scalar as Keyword}
 use Rattle.hare_types.specs.declared.row.Scalar.TheVariants.{Void, Never, Opaque, Bool as BoolWord, Rune, Str, I8, I16, I32, I64, U8, U16, U32, U64, Int, Uint, Size}
 use Rattle.hare_types.specs.Kept.{all_known}
-use Rattle.hare_types.specs.Layout.{bytes, round_up, scalar_extent, greatest_align, payload_start, fields_extent, union_extent}
+use Rattle.hare_types.specs.Layout.{bytes, round_up, scalar_extent, greatest_align, fields_extent, union_extent}
 use Rattle.hare_types.specs.Store.{Store, definition_of}
 use Rattle.hare_types.specs.ByIds.{row_at, found_within, bytes_over, extent_at}
 use Rattle.hare_layout.specs.Whole.{IsMultiple, IsAlignment, IsAligned}

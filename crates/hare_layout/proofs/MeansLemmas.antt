@@ -1,15 +1,14 @@
 -- Offsets by ids are those of the trees for which the ids stand.
-use Rattle.std.proofs.Common.{◌≡◌, ℕ, ◌<◌, List, [], ◌∷◌, length, map, Option, Some, None, refl, ap, ap₂, sym, ◌∙◌, subst, arith, ◌≤◌}
-use Rattle.std.specs.Prelude.{◌↔◌, option_map, option_and_then}
+use Rattle.std.proofs.Common.{◌≡◌, ℕ, List, [], ◌∷◌, length, map, Option, Some, None, refl, ap, ap₂, sym, ◌∙◌, subst, arith}
+use Rattle.std.specs.Prelude.{option_map, option_and_then}
 use Rattle.std.proofs.lemmas.Option.{slice_get_within}
 use Rattle.hare_types.specs.declared.extent.Extent.{Extent}
 use Rattle.hare_types.specs.declared.row.Row.{Row}
 use Rattle.hare_types.specs.declared.row.Row.TheVariants as row
-use Rattle.hare_types.specs.Trees.{Tree, Trees, Union, more, trees_of}
+use Rattle.hare_types.specs.Trees.{Tree, Trees, Union, trees_of}
 use Rattle.hare_types.specs.Rows.{tree_in, tree_of, trees, AllBelow, IsWithin}
 use Rattle.hare_types.specs.Store.{Store, tree_at}
 use Rattle.hare_types.specs.Sound.{IsStore}
-use Rattle.hare_types.specs.Bases.{IsBaseOf}
 use Rattle.hare_types.specs.Kept.{all_known}
 use Rattle.hare_types.specs.Layout.{IsBase, HasExtent, HaveExtents, field_start, payload_start}
 use Rattle.hare_types.specs.ByIds.{row_at, base_at, extent_at, fields_of, members_of, fields_at, members_at, offset_at, payload_at}

@@ -1,20 +1,20 @@
 -- A type that is not too large is small where its parts are.
-use Rattle.std.proofs.Common.{◌≡◌, ℕ, zero, suc, ◌≤◌, Bool, true, false, ltb, cond, List, [], ◌∷◌, length, map, Option, Some, None, refl, ap, ap₂, sym, ◌∙◌, subst, arith}
+use Rattle.std.proofs.Common.{◌≡◌, ℕ, suc, ◌≤◌, Bool, true, false, ltb, cond, List, [], ◌∷◌, length, map, Option, Some, None, refl, ap, ap₂, sym, ◌∙◌, arith}
 use Rattle.std.specs.Prelude.{slice_get, option_map, option_and_then}
 use Rattle.hare_types.specs.declared.extent.Extent.{Extent}
 use Rattle.hare_types.specs.declared.row.Row.{Row}
 use Rattle.hare_types.specs.declared.row.Row.TheVariants as row
-use Rattle.hare_types.specs.Trees.{Tree, Named}
-use Rattle.hare_types.specs.Rows.{tree_in, tree_of, trees}
+use Rattle.hare_types.specs.Trees.{Named}
+use Rattle.hare_types.specs.Rows.{tree_of, trees}
 use Rattle.hare_types.specs.Store.{Store, tree_at, definition_of, meaning_of}
 use Rattle.hare_types.specs.Sound.{IsStore}
-use Rattle.hare_types.specs.Kept.{parts_of, all_known}
+use Rattle.hare_types.specs.Kept.{all_known}
 use Rattle.hare_types.specs.Layout.{following, fields_extent, union_extent}
 use Rattle.hare_types.specs.Waiting.{NeedsRow}
 use Rattle.hare_types.specs.ByIds.{row_at, bytes_over, extent_at}
 use Rattle.hare_types.proofs.CallerLemmas.{tree_at_row}
 use Rattle.hare_types.proofs.IdLemmas.{extent-row, extent_tells, row_of_tree}
-use Rattle.hare_layout.specs.Small.{fitting, array_extent, small_with, smalls_with, IsSmall, LiesIn, name_extents, extent_by, extents_by}
+use Rattle.hare_layout.specs.Small.{fitting, array_extent, small_with, smalls_with, IsSmall, name_extents, extent_by, extents_by}
 use Rattle.hare_layout.specs.Whole.{IsPart}
 use Rattle.hare_layout.proofs.ExtentLemmas.{extent_by-following, struct-parts}
 use Rattle.hare_layout.proofs.AlignLemmas.{mapped}
