@@ -78,8 +78,13 @@ module _ (s : Store) (v : IsStore s) where
 
   fields_held : (r : Row) (ts : Trees) → IsWithin (length s.rows) r → HoldsFields (tree_of (trees s.rows) r) ts
       → (is : List ℕ) × (fields_of r ≡ Some is) × (Parts is ≡ ts) × AllBelow (length s.rows) is
-  fields_held (row.Struct fs) ts w h = (map (λ f. f.ty) fs, refl, sym (parts_of_struct (trees s.rows) fs)
-      ∙ h, FieldsBelow-ids (length s.rows) fs w)
+  fields_held (row.Struct fs) ts w h = (
+    map (λ f. f.ty) fs,
+    refl,
+    sym (parts_of_struct (trees s.rows) fs)
+        ∙ h,
+    FieldsBelow-ids (length s.rows) fs w,
+  )
   fields_held (row.Tuple js) ts w h = (js, refl, h, w)
   fields_held (row.Scalar k) ts w h = absurd h
   fields_held (row.Pointer i) ts w h = absurd h
@@ -157,7 +162,7 @@ module _ (s : Store) (v : IsStore s) where
       let j = row_base t u b e base in
       let is = fields_held j.1 ts (row_within j.0 j.1 j.3) (subst (λ w. HoldsFields w ts) (sym j.4) holds) in
       let fields : fields_at s t ≡ Some is.0 = ap (option_and_then (λ i. option_and_then fields_of (row_at s i))) j.2
-          ∙ ap (option_and_then fields_of) j.3 ∙ is.1 in
+      ∙ ap (option_and_then fields_of) j.3 ∙ is.1 in
       let known = have_known is.0 xs is.3 (subst (λ ws. HaveExtents s ws xs) (sym is.2) extents) in
       ap (λ p. option_and_then (λ ys. field_start 0 ys k) (option_and_then (all_known (extent_at s)) p)) fields ∙ ap (option_and_then (λ ys. field_start 0 ys k)) known ∙ start
 
@@ -178,7 +183,7 @@ module _ (s : Store) (v : IsStore s) where
       let j = row_base t u (Union ts) e base in
       let is = members_held j.1 ts (row_within j.0 j.1 j.3) j.4 in
       let members : members_at s t ≡ Some is.0 = ap (option_and_then (λ i. option_and_then members_of (row_at s i))) j.2
-          ∙ ap (option_and_then members_of) j.3 ∙ is.1 in
+      ∙ ap (option_and_then members_of) j.3 ∙ is.1 in
       let known = have_known is.0 xs is.3 (subst (λ ws. HaveExtents s ws xs) (sym is.2) extents) in
       ap (λ p. option_map payload_start (option_and_then (all_known (extent_at s)) p)) members ∙ ap (option_map payload_start) known ∙ ap Some start
 
