@@ -35,7 +35,8 @@ first_from-front n (false ∷ xs) ys zs (suc k) e = first_from-front (suc n) xs 
 abbrev front : Store → Value → Tree → List Bool
 front s f t = is_same f t ∷ is_never f ∷ is_const s f t ∷ is_wider f t ∷ is_pointer f t ∷ is_null s f t ∷ is_slice s f t ∷ is_name s f t ∷ []
 
-front_get : (s : Store) (f : Value) (t : Tree) (k : ℕ) → k < 8 → slice_get (table s f t) k ≡ Some true → slice_get (front s f t) k ≡ Some true
+front_get : (s : Store) (f : Value) (t : Tree) (k : ℕ) → k < 8 → slice_get (table s f t) k ≡ Some true
+    → slice_get (front s f t) k ≡ Some true
 front_get s f t zero l e = e
 front_get s f t (suc zero) l e = e
 front_get s f t (suc (suc zero)) l e = e
@@ -80,7 +81,8 @@ module _ (now later : Store) (v : IsStore now) (l : IsLater now later) where
           ∙ sym (ap (option_and_then (λ i. option_and_then members_of (row_at now i))) g ∙ ap (option_and_then members_of) here.1)
 
   module _ (f : Value) (known : IsKnown now f) where
-    first_stays : (p q : Tree → Bool) → ((t : Tree) → HasBase now t → p t ≡ q t) → (is : List ℕ) → AllBelow (length now.rows) is → EachTree (HasBase now) (types_at now is)
+    first_stays : (p q : Tree → Bool) → ((t : Tree) → HasBase now t → p t ≡ q t) → (is : List ℕ) → AllBelow (length now.rows) is
+        → EachTree (HasBase now) (types_at now is)
         → first_of later p is ≡ first_of now q is
     first_stays p q same [] below h = refl
     first_stays p q same (i ∷ is) below h =
@@ -90,13 +92,15 @@ module _ (now later : Store) (v : IsStore now) (l : IsLater now later) where
     types_stay [] below = refl
     types_stay (i ∷ is) below = ap₂ (λ t ts. more t ts) (growth.type_stays now later l.sound l.grows i below.0) (types_stay is below.1)
 
-    only_stays : (p q : Tree → Bool) → ((t : Tree) → base later t ≡ base now t → p t ≡ q t) → (is : List ℕ) → AllBelow (length now.rows) is → EachTree (HasBase now) (types_at now is)
+    only_stays : (p q : Tree → Bool) → ((t : Tree) → base later t ≡ base now t → p t ≡ q t) → (is : List ℕ) → AllBelow (length now.rows) is
+        → EachTree (HasBase now) (types_at now is)
         → only_of later p is ≡ only_of now q is
     only_stays p q same is below h =
         ap₂ (λ n o. if (n == 1) then o else None) (ap (how_many p) (types_stay is below) ∙ growth.count_stays now later l.sound l.grows p q same (types_at now is) h)
         (first_stays p q (λ t b. same t (growth.base_stays now later l.sound l.grows t b)) is below h)
 
-    member_stays : (is : List ℕ) → AllBelow (length now.rows) is → EachTree (HasBase now) (types_at now is) → member_for later f is ≡ member_for now f is
+    member_stays : (is : List ℕ) → AllBelow (length now.rows) is → EachTree (HasBase now) (types_at now is)
+        → member_for later f is ≡ member_for now f is
     member_stays is below h =
         let own = first_stays (is_same f) (is_same f) (λ t b. refl) is below h in
         let default = first_stays (is_its_default f) (is_its_default f) (λ t b. refl) is below h in
@@ -116,7 +120,8 @@ module _ (now later : Store) (v : IsStore now) (l : IsLater now later) where
 
   -- ---- the coercion to the member
 
-  choice : (from : Ty) (to : ℕ) → IsIn now from → to < length now.rows → AreKnown now (value_at now from) (type_at now to) → chosen later from to ≡ chosen now from to
+  choice : (from : Ty) (to : ℕ) → IsIn now from → to < length now.rows → AreKnown now (value_at now from) (type_at now to)
+      → chosen later from to ≡ chosen now from to
   choice from to here w known =
       ap (λ f. option_and_then (coercion later from) (option_and_then (member_for later f) (members_at later to))) value
       ∙ ap (λ o. option_and_then (coercion later from) (option_and_then (member_for later f) o)) (members_stay to w known.type) ∙ by (members_at now to) refl
@@ -127,7 +132,8 @@ module _ (now later : Store) (v : IsStore now) (l : IsLater now later) where
       value : value_at later from ≡ f
       value = growth.value_stays now later l.sound l.grows from here
 
-      to_member : (is : List ℕ) → EachTree (HasBase now) (types_at now is) → AllBelow (length now.rows) is → (o : Option ℕ) → member_for now f is ≡ o
+      to_member : (is : List ℕ) → EachTree (HasBase now) (types_at now is) → AllBelow (length now.rows) is → (o : Option ℕ)
+          → member_for now f is ≡ o
           → option_and_then (coercion later from) o ≡ option_and_then (coercion now from) o
       to_member is h below None e = refl
       to_member is h below (Some m) e =

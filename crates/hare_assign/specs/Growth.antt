@@ -34,7 +34,8 @@ pub record IsOneVerdict (now later : Store) (from : Ty) (to : ℕ) : Type 0 wher
 -- a verdict that is given over a store is that over every later one
 abbrev pub VerdictsStay : Type 0
 VerdictsStay =
-    (now later : Store) → IsLater now later → (from : Ty) (to : ℕ) → IsIn now from → to < length now.rows → AreKnown now (value_at now from) (type_at now to)
+    (now later : Store) → IsLater now later → (from : Ty) (to : ℕ) → IsIn now from → to < length now.rows
+    → AreKnown now (value_at now from) (type_at now to)
     → IsOneVerdict now later from to
 
 -- which member a value becomes that is made a union, and by which row, is over every later store the same

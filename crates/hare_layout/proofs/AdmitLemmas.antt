@@ -46,7 +46,8 @@ pub none-large : (s : Store) (u : Tree) → ((y : Extent) → ¬ HasExtent s u y
 none-large s u none h = none h.0 h.1
 
 -- the type of an id has no extent where none lies there
-pub none-known : (s : Store) (i : ℕ) (o : Option Extent) → i < length s.rows → IfNone o ((y : Extent) → ¬ LiesIn s i y) → IfNone o ((y : Extent) → ¬ HasExtent s (tree_in (trees s.rows) i) y)
+pub none-known : (s : Store) (i : ℕ) (o : Option Extent) → i < length s.rows → IfNone o ((y : Extent) → ¬ LiesIn s i y)
+    → IfNone o ((y : Extent) → ¬ HasExtent s (tree_in (trees s.rows) i) y)
 none-known s i None l h = λ y k. h y (tree_in (trees s.rows) i, tree_at-id s i l, k)
 none-known s i (Some x) l h = tt
 
@@ -76,12 +77,14 @@ reduction-tree s r (Fresh q) h = h.2
 one_reduced : (s : Store) → IsStore s → (r : Spelled) (u w : Tree) → IsReducedTo s r u → IsReducedTo s r w → u ≡ w
 one_reduced s v r u w = by (written r.row)
   where
-    of_members : ((is : List ℕ) × AreLeft s r is × (type_of s is ≡ Some u)) → ((is : List ℕ) × AreLeft s r is × (type_of s is ≡ Some w)) → u ≡ w
+    of_members : ((is : List ℕ) × AreLeft s r is × (type_of s is ≡ Some u)) → ((is : List ℕ) × AreLeft s r is × (type_of s is ≡ Some w))
+        → u ≡ w
     of_members a b =
         let same : Some u ≡ Some w = sym a.2 ∙ ap (type_of s) (one_left s v r a.0 b.0 a.1 b.1) ∙ b.2 in
         cc
 
-    by : (o : Option (List ℕ)) → MatchOption o (tree_of (trees s.rows) r.row ≡ u) (λ _. (is : List ℕ) × AreLeft s r is × (type_of s is ≡ Some u))
+    by : (o : Option (List ℕ))
+        → MatchOption o (tree_of (trees s.rows) r.row ≡ u) (λ _. (is : List ℕ) × AreLeft s r is × (type_of s is ≡ Some u))
         → MatchOption o (tree_of (trees s.rows) r.row ≡ w) (λ _. (is : List ℕ) × AreLeft s r is × (type_of s is ≡ Some w)) → u ≡ w
     by None a b = sym a ∙ b
     by (Some is) a b = of_members a b
@@ -89,7 +92,8 @@ one_reduced s v r u w = by (written r.row)
 too_large : (s : Store) (r : Spelled) (q : Reduced) → IsReduction s r q → IsLarge s (tree_of_reduced s q) → IsTooLarge s r
 too_large s r q h l = (tree_of_reduced s q, l.0, reduction-tree s r q h, l.1, l.2)
 
-not_too_large : (s : Store) → IsStore s → (r : Spelled) (q : Reduced) → IsReduction s r q → ¬ IsLarge s (tree_of_reduced s q) → ¬ IsTooLarge s r
+not_too_large : (s : Store) → IsStore s → (r : Spelled) (q : Reduced) → IsReduction s r q → ¬ IsLarge s (tree_of_reduced s q)
+    → ¬ IsTooLarge s r
 not_too_large s v r q h small (u, x, reduced, extent, large) =
     small (x, subst (λ w. HasExtent s w x) (one_reduced s v r u (tree_of_reduced s q) reduced (reduction-tree s r q h)) extent, large)
 
@@ -103,7 +107,8 @@ not_large s u x small h = by (cases_lt 67108864 x.size)
     by (inr l) = l
 
 -- one that the store had
-pub small_known : (s : Store) (q : Reduced) (t : ℕ) → q ≡ Known t → ¬ IsLarge s (tree_of_reduced s q) → (x : Extent) → LiesIn s t x → x.size ≤ 67108864
+pub small_known : (s : Store) (q : Reduced) (t : ℕ) → q ≡ Known t → ¬ IsLarge s (tree_of_reduced s q) → (x : Extent) → LiesIn s t x
+    → x.size ≤ 67108864
 small_known s q t e small x h =
     let here = (id-tree_at s t h.0 h.1).1 in
     let tree : h.0 ≡ tree_of_reduced s q = sym here ∙ ap (tree_of_reduced s) (sym e) in
@@ -116,7 +121,8 @@ module _ (old new : Store) (v : IsStore old) (rest : new ≡ record old { rows =
       let definitions : definition_of new d ≡ definition_of old d = ap (λ s. definition_of s d) rest in
       sym (ap (option_and_then (tree_at new)) definitions ∙ meaning_kept old.rows new.rows (tree_at-Extends old new grows) (definition_of old d) (v.defined_within d)) ∙ e
 
-  pub small_fresh : (q : Reduced) (r : Row) (t : ℕ) → q ≡ Fresh r → tree_at new t ≡ Some (tree_of (trees old.rows) r) → ¬ IsLarge old (tree_of_reduced old q) → (x : Extent) → LiesIn new t x → x.size ≤ 67108864
+  pub small_fresh : (q : Reduced) (r : Row) (t : ℕ) → q ≡ Fresh r → tree_at new t ≡ Some (tree_of (trees old.rows) r)
+      → ¬ IsLarge old (tree_of_reduced old q) → (x : Extent) → LiesIn new t x → x.size ≤ 67108864
   small_fresh q r t e stands small x h =
       let both = sym h.1 ∙ stands in
       let same : h.0 ≡ tree_of (trees old.rows) r = cc in
@@ -136,10 +142,12 @@ module _ (s : Store) (r : Spelled) (place : Place) where
   stops-early (stop.Fault f) h = first_of_more (Spreading ∷ Sized ∷ Inhabited ∷ Narrow ∷ []) (Small ∷ []) f h
   stops-early stop.Memory h = tt
 
-  pub stops-large : (q : Reduced) → PassesAll s r place (Spreading ∷ Sized ∷ Inhabited ∷ Narrow ∷ []) → IsReduction s r q → IsLarge s (tree_of_reduced s q) → IsFault s r place (record { number = 18; place = place })
+  pub stops-large : (q : Reduced) → PassesAll s r place (Spreading ∷ Sized ∷ Inhabited ∷ Narrow ∷ []) → IsReduction s r q
+      → IsLarge s (tree_of_reduced s q) → IsFault s r place (record { number = 18; place = place })
   stops-large q p h l = inr (p.0, inr (p.1.0, inr (p.1.1.0, inr (p.1.1.1.0, inl (refl, (too_large s r q h l, refl))))))
 
-  pub admitted : IsStore s → (q : Reduced) → PassesAll s r place (Spreading ∷ Sized ∷ Inhabited ∷ Narrow ∷ []) → IsReduction s r q → ¬ IsLarge s (tree_of_reduced s q) → IsAdmitted s r place
+  pub admitted : IsStore s → (q : Reduced) → PassesAll s r place (Spreading ∷ Sized ∷ Inhabited ∷ Narrow ∷ []) → IsReduction s r q
+      → ¬ IsLarge s (tree_of_reduced s q) → IsAdmitted s r place
   admitted v q p h small = (p.0, (p.1.0, (p.1.1.0, (p.1.1.1.0, ((λ place h'. not_too_large s v r q h small h'.0), tt)))))
 
 -- ---- one fault
@@ -160,7 +168,8 @@ one_place s r place Small p q h k = h.1 ∙ sym k.1
 same_fault : (f g : Fault) → f.number ≡ g.number → f.place ≡ g.place → f ≡ g
 same_fault f g a b = λ i. record { number = a i; place = b i }
 
-one_first : (s : Store) (r : Spelled) (place : Place) (cs : List Check) (f g : Fault) → IsFirstOf s r place cs f → IsFirstOf s r place cs g → f ≡ g
+one_first : (s : Store) (r : Spelled) (place : Place) (cs : List Check) (f g : Fault) → IsFirstOf s r place cs f → IsFirstOf s r place cs g
+    → f ≡ g
 one_first s r place [] f g h k = absurd h
 one_first s r place (c ∷ cs) f g (inl h) (inl k) = same_fault f g (h.0 ∙ sym k.0) (one_place s r place c f.place g.place h.1 k.1)
 one_first s r place (c ∷ cs) f g (inl h) (inr k) = absurd (k.0 f.place h.1)
@@ -173,10 +182,12 @@ none_first s r place (c ∷ cs) f h (inl k) = h.0 f.place k.1
 none_first s r place (c ∷ cs) f h (inr k) = none_first s r place cs f h.1 k.1
 
 -- a type with a fault is not admitted
-pub only-ok : (s : Store) (r : Spelled) (place : Place) (t : ℕ) → IsAdmitted s r place → (f : Fault) → IsFault s r place f → TellsFault (Ok t) f
+pub only-ok : (s : Store) (r : Spelled) (place : Place) (t : ℕ) → IsAdmitted s r place → (f : Fault) → IsFault s r place f
+    → TellsFault (Ok t) f
 only-ok s r place t h f k = absurd (none_first s r place checks f h k)
 
 -- and has one fault
-pub only-err : (s : Store) (r : Spelled) (place : Place) (e : Stop Fault) → StopsAt s r place e → (f : Fault) → IsFault s r place f → TellsFault (Err e) f
+pub only-err : (s : Store) (r : Spelled) (place : Place) (e : Stop Fault) → StopsAt s r place e → (f : Fault) → IsFault s r place f
+    → TellsFault (Err e) f
 only-err s r place (stop.Fault g) h f k = inl (ap (λ x. Err (stop.Fault x)) (one_first s r place checks g f h k))
 only-err s r place stop.Memory h f k = inr refl

@@ -8,7 +8,7 @@ use Rattle.hare_types.specs.declared.row.Row.TheVariants as row
 use Rattle.hare_types.specs.declared.row.Scalar.{Scalar as Keyword}
 use Rattle.hare_types.specs.declared.row.Scalar.TheVariants.{Void, Never, Opaque, Bool as BoolWord, Rune, Str, I8, I16, I32, I64, U8, U16, U32, U64, Int, Uint, Size}
 use Rattle.hare_types.specs.Kept.{all_known}
-use Rattle.hare_types.specs.Layout.{bytes, round_up, scalar_extent, greatest_align, payload_start, fields_extent, union_extent}
+use Rattle.hare_types.specs.Layout.{bytes, round_up, scalar_extent, greatest_align, fields_extent, union_extent}
 use Rattle.hare_types.specs.Store.{Store, definition_of}
 use Rattle.hare_types.specs.ByIds.{row_at, found_within, bytes_over, extent_at}
 use Rattle.hare_layout.specs.Whole.{IsMultiple, IsAlignment, IsAligned}
@@ -121,7 +121,8 @@ module _ (ks : ℕ → Option Extent) (known : (i : ℕ) (x : Extent) → ks i �
       subst AreAligned same tt
   all_aligned (i ∷ is) xs e = by (ks i) refl (all_known ks is) refl e (all_aligned is)
     where
-      by : (o : Option Extent) → ks i ≡ o → (p : Option (List Extent)) → all_known ks is ≡ p → option_and_then (λ x. option_map (λ ys. x ∷ ys) p) o ≡ Some xs
+      by : (o : Option Extent) → ks i ≡ o → (p : Option (List Extent)) → all_known ks is ≡ p
+          → option_and_then (λ x. option_map (λ ys. x ∷ ys) p) o ≡ Some xs
           → ((ys : List Extent) → all_known ks is ≡ Some ys → AreAligned ys) → AreAligned xs
       by None f p g h ih = absurd cc
       by (Some x) f None g h ih = absurd cc
@@ -129,7 +130,8 @@ module _ (ks : ℕ → Option Extent) (known : (i : ℕ) (x : Extent) → ks i �
           let same : x ∷ ys ≡ xs = cc in
           subst AreAligned same (known i x f, ih ys g)
 
-  of_parts : (f : List Extent → Extent) → ((xs : List Extent) → AreAligned xs → IsAligned (f xs)) → (is : List ℕ) (x : Extent) → option_map f (all_known ks is) ≡ Some x → IsAligned x
+  of_parts : (f : List Extent → Extent) → ((xs : List Extent) → AreAligned xs → IsAligned (f xs)) → (is : List ℕ) (x : Extent)
+      → option_map f (all_known ks is) ≡ Some x → IsAligned x
   of_parts f aligned is x e =
       let h = mapped f (all_known ks is) x e in
       subst IsAligned h.2 (aligned h.0 (all_aligned is h.0 h.1))

@@ -1,20 +1,20 @@
 -- A type that is not too large is small where its parts are.
-use Rattle.std.proofs.Common.{◌≡◌, ℕ, zero, suc, ◌≤◌, Bool, true, false, ltb, cond, List, [], ◌∷◌, length, map, Option, Some, None, refl, ap, ap₂, sym, ◌∙◌, subst, arith}
+use Rattle.std.proofs.Common.{◌≡◌, ℕ, suc, ◌≤◌, Bool, true, false, ltb, cond, List, [], ◌∷◌, length, map, Option, Some, None, refl, ap, ap₂, sym, ◌∙◌, arith}
 use Rattle.std.specs.Prelude.{slice_get, option_map, option_and_then}
 use Rattle.hare_types.specs.declared.extent.Extent.{Extent}
 use Rattle.hare_types.specs.declared.row.Row.{Row}
 use Rattle.hare_types.specs.declared.row.Row.TheVariants as row
-use Rattle.hare_types.specs.Trees.{Tree, Named}
-use Rattle.hare_types.specs.Rows.{tree_in, tree_of, trees}
+use Rattle.hare_types.specs.Trees.{Named}
+use Rattle.hare_types.specs.Rows.{tree_of, trees}
 use Rattle.hare_types.specs.Store.{Store, tree_at, definition_of, meaning_of}
 use Rattle.hare_types.specs.Sound.{IsStore}
-use Rattle.hare_types.specs.Kept.{parts_of, all_known}
+use Rattle.hare_types.specs.Kept.{all_known}
 use Rattle.hare_types.specs.Layout.{following, fields_extent, union_extent}
 use Rattle.hare_types.specs.Waiting.{NeedsRow}
 use Rattle.hare_types.specs.ByIds.{row_at, bytes_over, extent_at}
 use Rattle.hare_types.proofs.CallerLemmas.{tree_at_row}
 use Rattle.hare_types.proofs.IdLemmas.{extent-row, extent_tells, row_of_tree}
-use Rattle.hare_layout.specs.Small.{fitting, array_extent, small_with, smalls_with, IsSmall, LiesIn, name_extents, extent_by, extents_by}
+use Rattle.hare_layout.specs.Small.{fitting, array_extent, small_with, smalls_with, IsSmall, name_extents, extent_by, extents_by}
 use Rattle.hare_layout.specs.Whole.{IsPart}
 use Rattle.hare_layout.proofs.ExtentLemmas.{extent_by-following, struct-parts}
 use Rattle.hare_layout.proofs.AlignLemmas.{mapped}
@@ -42,12 +42,15 @@ module _ (s : Store) (v : IsStore s) where
       let k = small_extent p h in
       k.1 ∙ sym k.2 ∙ e
 
-  same_extents : (is : List ℕ) → ((k p : ℕ) → slice_get is k ≡ Some p → IsSmall s p) → (xs : List Extent) → all_known (extent_at s) is ≡ Some xs → extents_by s names is ≡ Some xs
+  same_extents : (is : List ℕ) → ((k p : ℕ) → slice_get is k ≡ Some p → IsSmall s p) → (xs : List Extent)
+      → all_known (extent_at s) is ≡ Some xs → extents_by s names is ≡ Some xs
   same_extents [] small xs e = e
   same_extents (i ∷ is) small xs e = by (same_extents is (λ k p g. small (suc k) p g)) (extent_at s i) refl (all_known (extent_at s) is) refl e
     where
-      by : ((ys : List Extent) → all_known (extent_at s) is ≡ Some ys → extents_by s names is ≡ Some ys) → (o : Option Extent) → extent_at s i ≡ o
-          → (q : Option (List Extent)) → all_known (extent_at s) is ≡ q → option_and_then (λ x. option_map (λ ys. x ∷ ys) q) o ≡ Some xs → extents_by s names (i ∷ is) ≡ Some xs
+      by : ((ys : List Extent) → all_known (extent_at s) is ≡ Some ys → extents_by s names is ≡ Some ys) → (o : Option Extent)
+          → extent_at s i ≡ o
+          → (q : Option (List Extent)) → all_known (extent_at s) is ≡ q → option_and_then (λ x. option_map (λ ys. x ∷ ys) q) o ≡ Some xs
+          → extents_by s names (i ∷ is) ≡ Some xs
       by ih None f q g h = absurd cc
       by ih (Some x) f None g h = absurd cc
       by ih (Some x) f (Some ys) g h =
@@ -61,13 +64,15 @@ module _ (s : Store) (v : IsStore s) where
     fits_as : (y : Extent) → y ≡ x → fitting y ≡ Some x
     fits_as y e = ap fitting e ∙ fits x few
 
-    from_parts : (f : List Extent → Extent) (is : List ℕ) → ((k p : ℕ) → slice_get is k ≡ Some p → IsSmall s p) → option_map f (all_known (extent_at s) is) ≡ Some x
+    from_parts : (f : List Extent → Extent) (is : List ℕ) → ((k p : ℕ) → slice_get is k ≡ Some p → IsSmall s p)
+        → option_map f (all_known (extent_at s) is) ≡ Some x
         → option_and_then (λ xs. fitting (f xs)) (extents_by s names is) ≡ Some x
     from_parts f is small e =
         let h = mapped f (all_known (extent_at s) is) x e in
         ap (option_and_then (λ xs. fitting (f xs))) (same_extents is small h.0 h.1) ∙ fits_as (f h.0) h.2
 
-    small_row : (r : Row) → row_at s t ≡ Some r → bytes_over (definition_of s) (extent_at s) t r ≡ Some x → ((p : ℕ) → NeedsRow s.declared r p → IsSmall s p) → IsSmall s t
+    small_row : (r : Row) → row_at s t ≡ Some r → bytes_over (definition_of s) (extent_at s) t r ≡ Some x
+        → ((p : ℕ) → NeedsRow s.declared r p → IsSmall s p) → IsSmall s t
     small_row (row.Scalar k) here e small = by_names (row.Scalar k) here e
     small_row (row.Pointer i) here e small = by_names (row.Pointer i) here e
     small_row (row.Nullable i) here e small = by_names (row.Nullable i) here e
@@ -91,7 +96,8 @@ module _ (s : Store) (v : IsStore s) where
             let meaning : meaning_of s d ≡ Some h.0 = ap (option_and_then (tree_at s)) f ∙ h.3 in
             (Named d, h.1, suc h.2, tree_at_row s v t (row.Named d) here, ap (option_and_then (following small_with (meaning_of s) h.2)) meaning ∙ h.4)
 
-pub small_from_parts : (s : Store) → IsStore s → (t : ℕ) (x : Extent) → extent_at s t ≡ Some x → x.size ≤ 67108864 → ((p : ℕ) → IsPart s t p → IsSmall s p) → IsSmall s t
+pub small_from_parts : (s : Store) → IsStore s → (t : ℕ) (x : Extent) → extent_at s t ≡ Some x → x.size ≤ 67108864
+    → ((p : ℕ) → IsPart s t p → IsSmall s p) → IsSmall s t
 small_from_parts s v t x e few small =
     let lies = (extent_tells s v t x).0 e in
     let r = row_of_tree s t lies.0 lies.1 in

@@ -1,5 +1,5 @@
 -- Fields, components and payloads lie within the whole, in order and without overlap.
-use Rattle.std.proofs.Common.{◌≡◌, ℕ, zero, suc, ◌+◌, ◌-◌, ◌*◌, ◌/◌, ◌%◌, ◌<◌, ◌≤◌, max, List, [], ◌∷◌, length, map, Option, Some, None, refl, ap, sym, ◌∙◌, subst, arith, ◌⊎◌, inl, inr}
+use Rattle.std.proofs.Common.{◌≡◌, ℕ, zero, suc, ◌+◌, ◌-◌, ◌%◌, ◌<◌, ◌≤◌, max, List, [], ◌∷◌, length, map, Option, Some, None, refl, ap, sym, ◌∙◌, subst, arith, inl, inr}
 use Rattle.std.specs.Prelude.{slice_get, option_map, option_and_then, Contains}
 use Rattle.std.proofs.Math.Nat.{mod-lt}
 use Rattle.std.proofs.lemmas.Nat.{div-add-mod'}
@@ -36,7 +36,8 @@ start-le at (x ∷ xs) zero o h e =
     omega (arith, round_up-le at x.align (low x.align h.0.align), same)
 start-le at (x ∷ xs) (suc k) o h e = omega (arith, round_up-le at x.align (low x.align h.0.align), start-le (round_up at x.align + x.size) xs k o h.1 e)
 
-start-within : (at : ℕ) (xs : List Extent) (k o : ℕ) (x : Extent) → AreAligned xs → field_start at xs k ≡ Some o → slice_get xs k ≡ Some x → o + x.size ≤ fields_end at xs
+start-within : (at : ℕ) (xs : List Extent) (k o : ℕ) (x : Extent) → AreAligned xs → field_start at xs k ≡ Some o → slice_get xs k ≡ Some x
+    → o + x.size ≤ fields_end at xs
 start-within at [] k o x h e g = absurd cc
 start-within at (y ∷ ys) zero o x h e g =
     let start : round_up at y.align ≡ o = cc in
@@ -45,7 +46,8 @@ start-within at (y ∷ ys) zero o x h e g =
     omega (arith, end-le (round_up at y.align + y.size) ys h.1, start, size)
 start-within at (y ∷ ys) (suc k) o x h e g = start-within (round_up at y.align + y.size) ys k o x h.1 e g
 
-start-multiple : (at : ℕ) (xs : List Extent) (k o : ℕ) (x : Extent) → field_start at xs k ≡ Some o → slice_get xs k ≡ Some x → IsMultiple o x.align
+start-multiple : (at : ℕ) (xs : List Extent) (k o : ℕ) (x : Extent) → field_start at xs k ≡ Some o → slice_get xs k ≡ Some x
+    → IsMultiple o x.align
 start-multiple at [] k o x e g = absurd cc
 start-multiple at (y ∷ ys) zero o x e g =
     let start : round_up at y.align ≡ o = cc in
@@ -53,7 +55,8 @@ start-multiple at (y ∷ ys) zero o x e g =
     subst (λ z. IsMultiple o z.align) same (subst (λ n. IsMultiple n y.align) start (rounded at y.align))
 start-multiple at (y ∷ ys) (suc k) o x e g = start-multiple (round_up at y.align + y.size) ys k o x e g
 
-starts-ordered : (at : ℕ) (xs : List Extent) (j k a b : ℕ) (x : Extent) → AreAligned xs → j < k → field_start at xs j ≡ Some a → slice_get xs j ≡ Some x → field_start at xs k ≡ Some b → a + x.size ≤ b
+starts-ordered : (at : ℕ) (xs : List Extent) (j k a b : ℕ) (x : Extent) → AreAligned xs → j < k → field_start at xs j ≡ Some a
+    → slice_get xs j ≡ Some x → field_start at xs k ≡ Some b → a + x.size ≤ b
 starts-ordered at [] j k a b x h l e g f = absurd cc
 starts-ordered at (y ∷ ys) zero zero a b x h l e g f = absurd (omega arith)
 starts-ordered at (y ∷ ys) zero (suc k) a b x h l e g f =
@@ -93,18 +96,21 @@ aligned-get (y ∷ ys) zero x h e =
 aligned-get (y ∷ ys) (suc k) x h e = aligned-get ys k x h.1 e
 
 -- the greatest alignment is a multiple of each
-greatest-multiple : (xs : List Extent) (k : ℕ) (x : Extent) → AreAligned xs → slice_get xs k ≡ Some x → IsMultiple (greatest_align xs) x.align
+greatest-multiple : (xs : List Extent) (k : ℕ) (x : Extent) → AreAligned xs → slice_get xs k ≡ Some x
+    → IsMultiple (greatest_align xs) x.align
 greatest-multiple xs k x h e = divides x.align (greatest_align xs) (aligned-get xs k x h e).align (greatest_align-alignment xs h) (align-le xs k x e)
 
 -- ---- parts
 
 module _ (ks : ℕ → Option Extent) where
   -- of as many types, each has its extent
-  known-get : (is : List ℕ) (xs : List Extent) (k i : ℕ) → all_known ks is ≡ Some xs → slice_get is k ≡ Some i → (x : Extent) × (ks i ≡ Some x) × (slice_get xs k ≡ Some x)
+  known-get : (is : List ℕ) (xs : List Extent) (k i : ℕ) → all_known ks is ≡ Some xs → slice_get is k ≡ Some i
+      → (x : Extent) × (ks i ≡ Some x) × (slice_get xs k ≡ Some x)
   known-get [] xs k i e g = absurd cc
   known-get (j ∷ js) xs k i e g = by k g (ks j) refl (all_known ks js) refl e (known-get js)
     where
-      by : (k : ℕ) → slice_get (j ∷ js) k ≡ Some i → (o : Option Extent) → ks j ≡ o → (p : Option (List Extent)) → all_known ks js ≡ p → option_and_then (λ x. option_map (λ ys. x ∷ ys) p) o ≡ Some xs
+      by : (k : ℕ) → slice_get (j ∷ js) k ≡ Some i → (o : Option Extent) → ks j ≡ o → (p : Option (List Extent)) → all_known ks js ≡ p
+          → option_and_then (λ x. option_map (λ ys. x ∷ ys) p) o ≡ Some xs
           → ((ys : List Extent) (k i : ℕ) → all_known ks js ≡ Some ys → slice_get js k ≡ Some i → (x : Extent) × (ks i ≡ Some x) × (slice_get ys k ≡ Some x))
           → (x : Extent) × (ks i ≡ Some x) × (slice_get xs k ≡ Some x)
       by k g None f p q h ih = absurd cc
@@ -124,7 +130,8 @@ module _ (ks : ℕ → Option Extent) where
       ap length (sym same)
   known-length (j ∷ js) xs e = by (ks j) (all_known ks js) refl e (known-length js)
     where
-      by : (o : Option Extent) (p : Option (List Extent)) → all_known ks js ≡ p → option_and_then (λ x. option_map (λ ys. x ∷ ys) p) o ≡ Some xs
+      by : (o : Option Extent) (p : Option (List Extent)) → all_known ks js ≡ p
+          → option_and_then (λ x. option_map (λ ys. x ∷ ys) p) o ≡ Some xs
           → ((ys : List Extent) → all_known ks js ≡ Some ys → length ys ≡ length js) → length xs ≡ suc (length js)
       by None p q h ih = absurd cc
       by (Some x) None q h ih = absurd cc
@@ -163,7 +170,8 @@ module _ (s : Store) where
           ap (extent_at s) same
 
       by : (r : Row) → row_at s t ≡ Some r → base_over (definition_of s) (found_within s (base_over (definition_of s)) n) t r ≡ Some b
-          → ((i c : ℕ) → found_within s (base_over (definition_of s)) n i ≡ Some c → extent_at s i ≡ extent_at s c) → extent_at s t ≡ extent_at s b
+          → ((i c : ℕ) → found_within s (base_over (definition_of s)) n i ≡ Some c → extent_at s i ≡ extent_at s c)
+          → extent_at s t ≡ extent_at s b
       by (row.Scalar k) f g ih = itself g
       by (row.Pointer i) f g ih = itself g
       by (row.Nullable i) f g ih = itself g
@@ -183,16 +191,19 @@ module _ (s : Store) where
   -- ---- fields and components
 
   -- the extents of the fields of a type of this extent
-  pub fields-known : (t : ℕ) (whole : Extent) (is : List ℕ) → extent_at s t ≡ Some whole → fields_at s t ≡ Some is → (xs : List Extent) × (all_known (extent_at s) is ≡ Some xs) × (fields_extent xs ≡ whole)
+  pub fields-known : (t : ℕ) (whole : Extent) (is : List ℕ) → extent_at s t ≡ Some whole → fields_at s t ≡ Some is
+      → (xs : List Extent) × (all_known (extent_at s) is ≡ Some xs) × (fields_extent xs ≡ whole)
   fields-known t whole is e f =
       let base = then (λ b. option_and_then fields_of (row_at s b)) (base_at s t) is f in
       let here = then fields_of (row_at s base.0) is base.2 in
       by base.0 here.0 here.2 (sym (extent-row s base.0 here.0 here.1) ∙ sym (base_extent t base.0 base.1) ∙ e)
     where
-      of_parts : (js : List ℕ) → js ≡ is → option_map fields_extent (all_known (extent_at s) js) ≡ Some whole → (xs : List Extent) × (all_known (extent_at s) is ≡ Some xs) × (fields_extent xs ≡ whole)
+      of_parts : (js : List ℕ) → js ≡ is → option_map fields_extent (all_known (extent_at s) js) ≡ Some whole
+          → (xs : List Extent) × (all_known (extent_at s) is ≡ Some xs) × (fields_extent xs ≡ whole)
       of_parts js same h = subst (λ ks. (xs : List Extent) × (all_known (extent_at s) ks ≡ Some xs) × (fields_extent xs ≡ whole)) same (mapped fields_extent (all_known (extent_at s) js) whole h)
 
-      by : (b : ℕ) (r : Row) → fields_of r ≡ Some is → bytes_over (definition_of s) (extent_at s) b r ≡ Some whole → (xs : List Extent) × (all_known (extent_at s) is ≡ Some xs) × (fields_extent xs ≡ whole)
+      by : (b : ℕ) (r : Row) → fields_of r ≡ Some is → bytes_over (definition_of s) (extent_at s) b r ≡ Some whole
+          → (xs : List Extent) × (all_known (extent_at s) is ≡ Some xs) × (fields_extent xs ≡ whole)
       by b (row.Struct fs) g h = of_parts (map (λ f. f.ty) fs) (cc) h
       by b (row.Tuple js) g h = of_parts js (cc) h
       by b (row.Scalar k) g h = absurd cc
@@ -205,8 +216,10 @@ module _ (s : Store) where
       by b (row.Named d) g h = absurd cc
 
   -- and their offsets are where fields of these extents begin
-  fields-start : (t k : ℕ) (is : List ℕ) (xs : List Extent) → fields_at s t ≡ Some is → all_known (extent_at s) is ≡ Some xs → offset_at s t k ≡ field_start 0 xs k
-  fields-start t k is xs f g = ap (λ o. option_and_then (λ ys. field_start 0 ys k) (option_and_then (all_known (extent_at s)) o)) f ∙ ap (option_and_then (λ ys. field_start 0 ys k)) g
+  fields-start : (t k : ℕ) (is : List ℕ) (xs : List Extent) → fields_at s t ≡ Some is → all_known (extent_at s) is ≡ Some xs
+      → offset_at s t k ≡ field_start 0 xs k
+  fields-start t k is xs f g = ap (λ o. option_and_then (λ ys. field_start 0 ys k) (option_and_then (all_known (extent_at s)) o)) f
+      ∙ ap (option_and_then (λ ys. field_start 0 ys k)) g
 
   module _ (t : ℕ) (whole : Extent) (e : extent_at s t ≡ Some whole) where
     -- the extents of all fields, of which this is one
@@ -242,11 +255,9 @@ module _ (s : Store) where
         let parts = fields-known t whole is e f in
         let type = get_some is k l in
         let here = known-get (extent_at s) is parts.0 k type.0 parts.1 type.1 in
-        let start = some_start 0 parts.0 k (omega (arith, known-length (extent_at s) is parts.0 parts.1)) in (
-          start.0,
-          here.0,
-          record { types = is; type = type.0; fields = f; field = type.1; extent = here.1; begins = fields-start t k is parts.0 f parts.1 ∙ start.1 },
-        )
+        let start = some_start 0 parts.0 k (omega (arith, known-length (extent_at s) is parts.0 parts.1)) in
+        let begins = fields-start t k is parts.0 f parts.1 ∙ start.1 in
+        (start.0, here.0, record { types = is; type = type.0; fields = f; field = type.1; extent = here.1; begins = begins })
 
     field_within : (k start : ℕ) (x : Extent) → HasField s t k start x → start + x.size ≤ whole.size
     field_within k start x h =
@@ -272,16 +283,19 @@ module _ (s : Store) where
   -- ---- payloads
 
   -- the extents of the members of a type of this extent
-  members-known : (t : ℕ) (whole : Extent) (is : List ℕ) → extent_at s t ≡ Some whole → members_at s t ≡ Some is → (xs : List Extent) × (all_known (extent_at s) is ≡ Some xs) × (union_extent xs ≡ whole)
+  members-known : (t : ℕ) (whole : Extent) (is : List ℕ) → extent_at s t ≡ Some whole → members_at s t ≡ Some is
+      → (xs : List Extent) × (all_known (extent_at s) is ≡ Some xs) × (union_extent xs ≡ whole)
   members-known t whole is e f =
       let base = then (λ b. option_and_then members_of (row_at s b)) (base_at s t) is f in
       let here = then members_of (row_at s base.0) is base.2 in
       by base.0 here.0 here.2 (sym (extent-row s base.0 here.0 here.1) ∙ sym (base_extent t base.0 base.1) ∙ e)
     where
-      of_parts : (js : List ℕ) → js ≡ is → option_map union_extent (all_known (extent_at s) js) ≡ Some whole → (xs : List Extent) × (all_known (extent_at s) is ≡ Some xs) × (union_extent xs ≡ whole)
+      of_parts : (js : List ℕ) → js ≡ is → option_map union_extent (all_known (extent_at s) js) ≡ Some whole
+          → (xs : List Extent) × (all_known (extent_at s) is ≡ Some xs) × (union_extent xs ≡ whole)
       of_parts js same h = subst (λ ks. (xs : List Extent) × (all_known (extent_at s) ks ≡ Some xs) × (union_extent xs ≡ whole)) same (mapped union_extent (all_known (extent_at s) js) whole h)
 
-      by : (b : ℕ) (r : Row) → members_of r ≡ Some is → bytes_over (definition_of s) (extent_at s) b r ≡ Some whole → (xs : List Extent) × (all_known (extent_at s) is ≡ Some xs) × (union_extent xs ≡ whole)
+      by : (b : ℕ) (r : Row) → members_of r ≡ Some is → bytes_over (definition_of s) (extent_at s) b r ≡ Some whole
+          → (xs : List Extent) × (all_known (extent_at s) is ≡ Some xs) × (union_extent xs ≡ whole)
       by b (row.Union js) g h = of_parts js (cc) h
       by b (row.Scalar k) g h = absurd cc
       by b (row.Pointer i) g h = absurd cc
@@ -293,7 +307,8 @@ module _ (s : Store) where
       by b (row.Error i) g h = absurd cc
       by b (row.Named d) g h = absurd cc
 
-  pub payload_lies_in : (t : ℕ) (whole : Extent) (is : List ℕ) → extent_at s t ≡ Some whole → members_at s t ≡ Some is → PayloadLiesIn s t whole is
+  pub payload_lies_in : (t : ℕ) (whole : Extent) (is : List ℕ) → extent_at s t ≡ Some whole → members_at s t ≡ Some is
+      → PayloadLiesIn s t whole is
   payload_lies_in t whole is e f = record {
     start = payload_start xs;
     begins = ap (λ o. option_map payload_start (option_and_then (all_known (extent_at s)) o)) f ∙ ap (option_map payload_start) known;
@@ -323,7 +338,8 @@ module _ (s : Store) where
       room : payload_start xs + greatest_size xs ≤ (union_extent xs).size
       room = round_up-le (payload_start xs + greatest_size xs) (max 4 (greatest_align xs)) (low (max 4 (greatest_align xs)) alignment)
 
-      member : (i : ℕ) → Contains is i → (x : Extent) × (extent_at s i ≡ Some x) × (payload_start xs + x.size ≤ whole.size) × IsMultiple (payload_start xs) x.align × IsMultiple whole.align x.align
+      member : (i : ℕ) → Contains is i
+          → (x : Extent) × (extent_at s i ≡ Some x) × (payload_start xs + x.size ≤ whole.size) × IsMultiple (payload_start xs) x.align × IsMultiple whole.align x.align
       member i h =
           let k = in-get i is (In-from i is h) in
           let here = known-get (extent_at s) is xs k.0 i known k.1 in
@@ -346,7 +362,8 @@ payload_of-align a (inr (inr (inl e))) = ap (round_up 4) e ∙ sym (ap (max 4) e
 payload_of-align a (inr (inr (inr e))) = ap (round_up 4) e ∙ sym (ap (max 4) e)
 
 -- the payload is at the alignment of the union
-pub payload-align : (s : Store) (t : ℕ) (whole : Extent) (is : List ℕ) → extent_at s t ≡ Some whole → members_at s t ≡ Some is → payload_at s t ≡ Some whole.align
+pub payload-align : (s : Store) (t : ℕ) (whole : Extent) (is : List ℕ) → extent_at s t ≡ Some whole → members_at s t ≡ Some is
+    → payload_at s t ≡ Some whole.align
 payload-align s t whole is e f =
     let parts = members-known s t whole is e f in
     let aligned = all_aligned (extent_at s) (types_are_aligned s) is parts.0 parts.1 in

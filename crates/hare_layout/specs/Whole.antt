@@ -38,7 +38,8 @@ pub record HasField (s : Store) (t k start : ℕ) (x : Extent) : Type 0 where
 -- where the fields or components lie in a type of this extent
 pub record FieldsLieIn (s : Store) (t : ℕ) (whole : Extent) : Type 0 where
   -- each has its place
-  pub placed : (types : List ℕ) (k : ℕ) → fields_at s t ≡ Some types → k < length types → (start : ℕ) × (x : Extent) × HasField s t k start x
+  pub placed : (types : List ℕ) (k : ℕ) → fields_at s t ≡ Some types → k < length types
+      → (start : ℕ) × (x : Extent) × HasField s t k start x
   -- within the whole
   pub within : (k start : ℕ) (x : Extent) → HasField s t k start x → start + x.size ≤ whole.size
   -- aligned where the whole is
@@ -59,7 +60,8 @@ pub record PayloadLiesIn (s : Store) (t : ℕ) (whole : Extent) (members : List 
   pub behind : 4 ≤ start
   pub within : start ≤ whole.size
   -- there is room for each member, the largest too, and each is aligned where the whole is
-  pub member : (i : ℕ) → Contains members i → (x : Extent) × (extent_at s i ≡ Some x) × (start + x.size ≤ whole.size) × IsMultiple start x.align × IsMultiple whole.align x.align
+  pub member : (i : ℕ) → Contains members i
+      → (x : Extent) × (extent_at s i ≡ Some x) × (start + x.size ≤ whole.size) × IsMultiple start x.align × IsMultiple whole.align x.align
 
 abbrev pub PayloadsLieWithin : Type 0
 PayloadsLieWithin = (s : Store) (t : ℕ) (whole : Extent) (members : List ℕ) → extent_at s t ≡ Some whole → members_at s t ≡ Some members → PayloadLiesIn s t whole members
@@ -74,4 +76,5 @@ IsPart s t p = (r : Row) × (row_at s t ≡ Some r) × NeedsRow s.declared r p
 -- a type of at most 67,108,864 bytes is small where its parts are
 abbrev pub SmallFromParts : Type 0
 SmallFromParts =
-    (s : Store) → IsStore s → (t : ℕ) (x : Extent) → extent_at s t ≡ Some x → x.size ≤ 67108864 → ((p : ℕ) → IsPart s t p → IsSmall s p) → IsSmall s t
+    (s : Store) → IsStore s → (t : ℕ) (x : Extent) → extent_at s t ≡ Some x → x.size ≤ 67108864 → ((p : ℕ) → IsPart s t p → IsSmall s p)
+    → IsSmall s t
