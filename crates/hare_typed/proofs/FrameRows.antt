@@ -4,7 +4,7 @@ use Rattle.std.proofs.Common.{◌≡◌, ℕ, ◌+◌, ◌*◌, [], ◌∷◌, c
 use Rattle.hare_tree.specs.declared.kind.Kind.TheVariants as kind
 use Rattle.hare_typed.specs.Typed.{TypedNode}
 use Rattle.hare_typed.specs.Frame.{frame_bound, copied_weight, node_size}
-use Rattle.hare_typed.proofs.ExampleTrees.{types, tree, called, made, none, path, call, defer, block, returning, param, type_node, function, void, int, str, u8, size, three, bytes, pair, never, ints}
+use Rattle.hare_typed.proofs.ExampleTrees.{types, tree, called, made, none, path, call, defer, block, returning, param, type_node, function, void, int, str, bool, u8, size, three, bytes, pair, never, ints}
 
 abbrev frame : TypedNode → ℕ
 frame f = frame_bound types f
@@ -119,3 +119,16 @@ size_of_reference = refl
 -- never has no size
 without_size : node_size types (path never) ≡ 0
 without_size = refl
+
+-- ---- `fn f(a: bool) void = { defer rt::puts("x"); if (a) return; };`: the call, its callee and the place of a comma twice, the text of 24 bytes twice, and
+-- eight nodes once
+
+abbrev with_text : TypedNode
+with_text = function (param bool ∷ [])
+    (block (defer (tree kind.Call void (path void ∷ tree kind.Str str [] ∷ none ∷ [])) ∷ tree kind.If void (path bool ∷ returning ∷ none ∷ []) ∷ []))
+
+text_frame : frame with_text ≡ 64 + 14 * 288 + 2 * 320
+text_frame = refl
+
+text_weight : weight with_text ≡ 16
+text_weight = refl

@@ -1,13 +1,15 @@
 -- What nodes give, and the bases of their types, as calls tell them.
 use Rattle.std.proofs.Common.{◌≡◌, ℕ, suc, ◌+◌, ◌-◌, ◌<◌, List, [], ◌∷◌, length, Some, None, Option, refl, ap, sym, ◌∙◌, ◌⊎◌, inl, inr, arith}
 use Rattle.std.specs.Prelude.{slice_get, IfSome, IfNone}
+use Rattle.std.proofs.lemmas.Option.{slice_get_within}
 use Rattle.hare_tree.specs.declared.kind.Kind.{Kind}
 use Rattle.hare_tree.specs.declared.kind.Kind.TheVariants as kind
 use Rattle.hare_types.specs.declared.coercion.Ty.{Ty}
 use Rattle.hare_types.specs.declared.coercion.Ty.TheVariants as ty
 use Rattle.hare_types.specs.Store.{Store}
 use Rattle.hare_types.specs.Bases.{IsBaseOf}
-use Rattle.hare_types.specs.ByIds.{base_at}
+use Rattle.hare_types.specs.Bases.{IsBaseOf}
+use Rattle.hare_types.proofs.IdLemmas.{row_of_tree}
 use Rattle.hare_types.specs.Meanings.{MeanTrees}
 use Rattle.hare_typed.specs.Typed.{TypedNode, typed_nodes}
 use Rattle.hare_typed.specs.Given.{given, first_given, pointee, one_more, followed_within}
@@ -25,10 +27,9 @@ count-typed_nodes (t ∷ ts) = omega (arith, count-typed_nodes ts)
 
 -- ---- bases
 
--- the base as it is told is the base
-pub base_told : (s : Store) (t : ℕ) (o : Option ℕ) → MeanTrees s → IfSome o (IsBaseOf s t) → IfNone o ((b : ℕ) → IsBaseOf s t b → ⊥) → o ≡ base_at s t
-base_told s t (Some b) m some none = sym ((m.base t b).1 some)
-base_told s t None m some none = elim (base_at s t) as (λ r. base_at s t ≡ r → None ≡ r) [ None ↦ λ e. refl | Some b ↦ λ e. absurd (none b ((m.base t b).0 e)) ] refl
+-- a base is in the store
+pub base_within : (s : Store) (t b : ℕ) → IsBaseOf s t b → b < length s.rows
+base_within s t b is = let row = row_of_tree s b is.1 is.3 in slice_get_within s.rows b row.0 row.1
 
 -- ---- pointers
 

@@ -1,12 +1,11 @@
 //! What the types of nodes are made of: bases, unions and pointers.
 
-ghost use Rattle.std.specs.Prelude.{◌≡◌, ◌<◌, option_copied, length, IfSome};
-ghost use Rattle.hare_types.specs.ByIds.{base_at};
+ghost use Rattle.std.specs.Prelude.{◌≡◌, option_copied};
 ghost use Rattle.hare_typed.specs.Typed.{typed_nodes};
 ghost use Rattle.hare_typed.specs.Given as spec;
 
 use crate::typed::TypedKids;
-use hare_types::{Row, Scalar, Ty, TypeId, TypeStore, law_ids_mean_trees};
+use hare_types::{Row, Scalar, Ty, TypeId, TypeStore};
 
 /// How many pointers an element, a field or a slice is taken through at most.
 const MOST_POINTERS: u64 = 16;
@@ -21,15 +20,6 @@ pub(crate) fn first_given(kids: &TypedKids) -> Ty
     }
 }
 
-/// The base of a type.
-fn base(s: &TypeStore, t: TypeId) -> Option<TypeId>
-    ensures value { result ≡ base_at s.now t }
-    ensures within { IfSome result (λ b. b < length s.now.rows) }
-{
-    law_ids_mean_trees();
-    s.base(t)
-}
-
 /// The row of the base of a type of the store; none of what has no type yet.
 fn base_row(s: &TypeStore, t: Ty) -> Option<&Row>
     ensures { option_copied result ≡ spec.base_row s.now t }
@@ -37,7 +27,7 @@ fn base_row(s: &TypeStore, t: Ty) -> Option<&Row>
     let Ty::Of(t) = t else {
         return None;
     };
-    let b = base(s, t)?;
+    let b = s.base(t)?;
     Some(s.row(b))
 }
 
