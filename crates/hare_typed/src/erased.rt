@@ -34,7 +34,7 @@ fn erase_kids(alloc: Global, ts: &TypedKids) -> Result<Kids, AllocError>
         let Some(t) = ts.get(i) else {
             return Ok(kids);
         };
-        kids.push(alloc, erase(alloc, t)?)?;
+        kids.push(erase(alloc, t)?)?;
     }
     Ok(kids)
 }
