@@ -16,7 +16,8 @@ use Rattle.hare_types.proofs.ChainLemmas.{equal_or_not}
 
 -- ---- the first place of a longer list
 
-position-cons : {A : Type 0} (p : A → Bool) (x : A) (xs : List A) → position p (x ∷ xs) ≡ cond (p x) (Some 0) (option_map suc (position p xs))
+position-cons : {A : Type 0} (p : A → Bool) (x : A) (xs : List A)
+    → position p (x ∷ xs) ≡ cond (p x) (Some 0) (option_map suc (position p xs))
 position-cons p x xs = by (p x) (nat_lt (position_or_len p xs) (length xs)) refl
   where
     by : (b c : Bool) → nat_lt (position_or_len p xs) (length xs) ≡ c
@@ -26,7 +27,8 @@ position-cons p x xs = by (p x) (nat_lt (position_or_len p xs) (length xs)) refl
     by false true e =
         let l = ltb-true (position_or_len p xs) (length xs) e in
         let one : 1 + position_or_len p xs ≡ suc (position_or_len p xs) = omega arith in
-        ap (λ d. cond d (Some (1 + position_or_len p xs)) None) (lt-ltb (1 + position_or_len p xs) (suc (length xs)) (omega arith)) ∙ ap Some one
+        ap (λ d. cond d (Some (1 + position_or_len p xs)) None) (lt-ltb (1 + position_or_len p xs) (suc (length xs)) (omega arith))
+        ∙ ap Some one
     by false false e =
         let l = ltb-false (position_or_len p xs) (length xs) e in
         ap (λ d. cond d (Some (1 + position_or_len p xs)) None) (le-ltb (1 + position_or_len p xs) (suc (length xs)) (omega arith))
@@ -38,7 +40,8 @@ pub record AreEntered (old new : List (FieldName × ℕ)) (t : ℕ) (fs : List F
   pub there : (u name : ℕ) → u ≢ t → place_of new u name ≡ place_of old u name
 
 -- none yet
-pub entered-none : (old : List (FieldName × ℕ)) (t : ℕ) (fs : List Field) (i : ℕ) → length fs ≤ i → ((name : ℕ) → place_of old t name ≡ None) → AreEntered old old t fs i
+pub entered-none : (old : List (FieldName × ℕ)) (t : ℕ) (fs : List Field) (i : ℕ) → length fs ≤ i
+    → ((name : ℕ) → place_of old t name ≡ None) → AreEntered old old t fs i
 entered-none old t fs i l none = record { here = λ name. none name ∙ sym (ap (λ gs. option_map (λ p. i + p) (position (λ f. f.name == name) gs)) (past fs i l)); there = λ u name h. refl }
   where
     past : (gs : List Field) (k : ℕ) → length gs ≤ k → drop k gs ≡ []
@@ -70,7 +73,8 @@ module _ (old mid new : List (FieldName × ℕ)) (t : ℕ) (fs : List Field) (i 
       ∙ by (f.name == name) refl
       ∙ sym (ap (λ gs. option_map (λ p. i + p) (position (λ g. g.name == name) gs)) split)
     where
-      by : (b : Bool) → (f.name == name) ≡ b → cond b (Some i) (place_of mid t name) ≡ option_map (λ p. i + p) (position (λ g. g.name == name) (f ∷ drop n fs))
+      by : (b : Bool) → (f.name == name) ≡ b
+          → cond b (Some i) (place_of mid t name) ≡ option_map (λ p. i + p) (position (λ g. g.name == name) (f ∷ drop n fs))
       by true e =
           let first = position-cons (λ g. g.name == name) f (drop n fs) ∙ ap (λ b. cond b (Some 0) (option_map suc (position (λ g. g.name == name) (drop n fs)))) e in
           ap Some (omega arith) ∙ sym (ap (option_map (λ p. i + p)) first)
@@ -89,7 +93,8 @@ module _ (old mid new : List (FieldName × ℕ)) (t : ℕ) (fs : List Field) (i 
   entered-more = record { here = place_here; there = place_there }
 
 -- all
-pub entered-all : (old new : List (FieldName × ℕ)) (t : ℕ) (fs : List Field) → AreEntered old new t fs 0 → (name : ℕ) → place_of new t name ≡ position (λ f. f.name == name) fs
+pub entered-all : (old new : List (FieldName × ℕ)) (t : ℕ) (fs : List Field) → AreEntered old new t fs 0 → (name : ℕ)
+    → place_of new t name ≡ position (λ f. f.name == name) fs
 entered-all old new t fs h name = h.here name ∙ none (position (λ f. f.name == name) fs)
   where
     none : (o : Option ℕ) → option_map (λ p. 0 + p) o ≡ o
@@ -130,7 +135,8 @@ module _ (rows new : List Row) (r : Row) (here : ℕ) (last : here ≡ length ro
           let more : length (rows ++ r ∷ []) ≤ t = omega (arith, past, length-append rows (r ∷ [])) in
           ap (λ l. slice_get l t) f ∙ slice_get_past (rows ++ r ∷ []) t more ∙ sym (slice_get_past rows t h)
 
-  pub KeepsFields-taken : (old es : List (FieldName × ℕ)) → KeepsFields rows old → ((name : ℕ) → place_of es here name ≡ option_and_then (field_in name) (slice_get new here))
+  pub KeepsFields-taken : (old es : List (FieldName × ℕ)) → KeepsFields rows old
+      → ((name : ℕ) → place_of es here name ≡ option_and_then (field_in name) (slice_get new here))
       → ((u name : ℕ) → u ≢ here → place_of es u name ≡ place_of old u name) → KeepsFields new es
   KeepsFields-taken old es k own others t name = by (equal_or_not t here)
     where
@@ -139,7 +145,8 @@ module _ (rows new : List Row) (r : Row) (here : ℕ) (last : here ≡ length ro
       by (inr e) = others t name e ∙ k t name ∙ ap (option_and_then (field_in name)) (sym (row_elsewhere t e))
 
 -- no field is entered of a row behind the rows
-pub none_behind : (rows : List Row) (here : ℕ) → here ≡ length rows → (old : List (FieldName × ℕ)) → KeepsFields rows old → (name : ℕ) → place_of old here name ≡ None
+pub none_behind : (rows : List Row) (here : ℕ) → here ≡ length rows → (old : List (FieldName × ℕ)) → KeepsFields rows old → (name : ℕ)
+    → place_of old here name ≡ None
 none_behind rows here last old k name = k here name ∙ ap (option_and_then (field_in name)) (slice_get_past rows here (omega (arith, last)))
 
 -- of no rows no field is entered

@@ -30,11 +30,13 @@ module _ {A : Type 0} (s f : Store) (rows : Continues s.rows f.rows) (rule next 
   found_within-more (suc m) zero h t a e = absurd (omega arith)
   found_within-more (suc m) (suc n) h t a e = by (found_within-more m n (omega arith)) (row_at s t) refl e
     where
-      by : Knows (found_within s rule m) (found_within f next n) → (o : Option Row) → row_at s t ≡ o → option_and_then (rule (found_within s rule m) t) o ≡ Some a
+      by : Knows (found_within s rule m) (found_within f next n) → (o : Option Row) → row_at s t ≡ o
+          → option_and_then (rule (found_within s rule m) t) o ≡ Some a
           → option_and_then (next (found_within f next n) t) (row_at f t) ≡ Some a
       by ih None g k = absurd cc
       by ih (Some r) g k =
-          ap (option_and_then (next (found_within f next n) t)) (row-continued s f rows t r g) ∙ grows (found_within s rule m) (found_within f next n) ih t r a k
+          ap (option_and_then (next (found_within f next n) t)) (row-continued s f rows t r g)
+          ∙ grows (found_within s rule m) (found_within f next n) ih t r a k
 
 pub Continues-same : {A : Type 0} (xs : List A) → Continues xs xs
 Continues-same xs = ([], end xs)
@@ -51,7 +53,8 @@ longer xs ys c = omega (arith, ap length c.1, length_more xs c.0)
     length_more (u ∷ us) vs = let h = length_more us vs in omega arith
 
 -- what is found stays so
-pub found-more : {A : Type 0} (s f : Store) → Continues s.rows f.rows → (rule next : Rule A) → Grows rule next → Knows (found s rule) (found f next)
+pub found-more : {A : Type 0} (s f : Store) → Continues s.rows f.rows → (rule next : Rule A) → Grows rule next
+    → Knows (found s rule) (found f next)
 found-more s f c rule next grows = found_within-more s f c rule next grows (length s.rows) (length f.rows) (longer s.rows f.rows c)
 
 -- ---- how many rows need be followed
@@ -89,7 +92,8 @@ module _ {A : Type 0} where
               let same : k ≡ i = omega arith in
               subst (λ j. g j ≡ f j) same here
 
-      by : (a : Option A) → f k ≡ a → (b : Option A) → g k ≡ b → Gains f g (table f k) (table g k) k → Gains f g (a ∷ table f k) (b ∷ table g k) (suc k)
+      by : (a : Option A) → f k ≡ a → (b : Option A) → g k ≡ b → Gains f g (table f k) (table g k) k
+          → Gains f g (a ∷ table f k) (b ∷ table g k) (suc k)
       by None e None d (inl l) = inl (omega arith)
       by None e None d (inr l) = inr (ap suc l.0, last (d ∙ sym e) l.1)
       by None e (Some b) d (inl l) = inl (omega arith)
@@ -137,7 +141,8 @@ module _ {A : Type 0} (s : Store) (rule : Rule A) (grows : Grows rule rule) wher
   steps zero = inr (omega (arith, few (found_within s rule zero) (length s.rows)))
   steps (suc n) = by (steps n)
     where
-      more : unknown (known_by n) + n ≤ length s.rows → Gains (found_within s rule n) (found_within s rule (suc n)) (known_by n) (known_by (suc n)) (length s.rows)
+      more : unknown (known_by n) + n ≤ length s.rows
+          → Gains (found_within s rule n) (found_within s rule (suc n)) (known_by n) (known_by (suc n)) (length s.rows)
           → Settled (suc n) ⊎ (unknown (known_by (suc n)) + suc n ≤ length s.rows)
       more l (inl g) = inr (omega arith)
       more l (inr g) = inl (settled-suc n (settled-all n g.1))

@@ -109,7 +109,8 @@ row_of_tree s t u e =
     (slice_index_or s.rows t (row.Scalar keyword.Void), slice_get-get_or s.rows t (row.Scalar keyword.Void) within)
 
 -- nothing is found of what is no id
-pub no_row : {A : Type 0} (s : Store) (rule : (ℕ → Option A) → ℕ → Row → Option A) (t : ℕ) → row_at s t ≡ None → (a : A) → ¬ (found s rule t ≡ Some a)
+pub no_row : {A : Type 0} (s : Store) (rule : (ℕ → Option A) → ℕ → Row → Option A) (t : ℕ) → row_at s t ≡ None → (a : A)
+    → ¬ (found s rule t ≡ Some a)
 no_row s rule t g a e = by (length s.rows) e
   where
     by : (n : ℕ) → found_within s rule n t ≡ Some a → ⊥
@@ -128,13 +129,16 @@ none_all : (ks : ℕ → Option Extent) (is : List ℕ) → all_known ks is ≡ 
 none_all ks [] e = absurd cc
 none_all ks (i ∷ is) e = by (none_all ks is) (ks i) (all_known ks is) refl e
   where
-    by : (all_known ks is ≡ None → all_known (λ j. option_map told (ks j)) is ≡ None) → (o : Option Extent) → (p : Option (List Extent)) → all_known ks is ≡ p
-        → option_and_then (λ x. option_map (λ xs. x ∷ xs) p) o ≡ None → option_and_then (λ x. option_map (λ xs. x ∷ xs) (all_known (λ j. option_map told (ks j)) is)) (option_map told o) ≡ None
+    by : (all_known ks is ≡ None → all_known (λ j. option_map told (ks j)) is ≡ None) → (o : Option Extent) → (p : Option (List Extent))
+        → all_known ks is ≡ p
+        → option_and_then (λ x. option_map (λ xs. x ∷ xs) p) o ≡ None
+        → option_and_then (λ x. option_map (λ xs. x ∷ xs) (all_known (λ j. option_map told (ks j)) is)) (option_map told o) ≡ None
     by ih None p g k = refl
     by ih (Some x) None g k = ap (option_map (λ xs. told x ∷ xs)) (ih g)
     by ih (Some x) (Some xs) g k = absurd cc
 
-none_told : (f : ℕ → Option ℕ) (ks : ℕ → Option Extent) (t : ℕ) (r : Row) → bytes_over f ks t r ≡ None → extent_over f (λ i. option_map told (ks i)) r ≡ None
+none_told : (f : ℕ → Option ℕ) (ks : ℕ → Option Extent) (t : ℕ) (r : Row) → bytes_over f ks t r ≡ None
+    → extent_over f (λ i. option_map told (ks i)) r ≡ None
 none_told f ks t (row.Scalar k) e = e
 none_told f ks t (row.Pointer j) e = absurd cc
 none_told f ks t (row.Nullable j) e = absurd cc
@@ -225,7 +229,8 @@ module _ (s : Store) (v : IsStore s) where
           (suc w.2.0, ap (option_and_then (following error_with (meaning_of s) w.2.0)) meaning ∙ w.2.1)
 
       by_row : AreMarked n → (r : Row)
-          → error_over (definition_of s) (found_within s (error_over (definition_of s)) n) t r ≡ Some b → IsError s (tree_of (trees s.rows) r) b
+          → error_over (definition_of s) (found_within s (error_over (definition_of s)) n) t r ≡ Some b
+          → IsError s (tree_of (trees s.rows) r) b
       by_row ih (row.Named d) k = by_name ih d (definition_of s d) refl k
       by_row ih (row.Error j) k = (0, k)
       by_row ih (row.Scalar w) k = (0, k)
@@ -238,7 +243,8 @@ module _ (s : Store) (v : IsStore s) where
       by_row ih (row.Union js) k = (0, k)
 
       by : AreMarked n → (o : Option Row) → row_at s t ≡ o
-          → option_and_then (error_over (definition_of s) (found_within s (error_over (definition_of s)) n) t) o ≡ Some b → (u : Tree) × (tree_at s t ≡ Some u) × IsError s u b
+          → option_and_then (error_over (definition_of s) (found_within s (error_over (definition_of s)) n) t) o ≡ Some b
+          → (u : Tree) × (tree_at s t ≡ Some u) × IsError s u b
       by ih None g k = absurd cc
       by ih (Some r) g k = here r g (by_row ih r k)
 
@@ -252,13 +258,17 @@ module _ (s : Store) (v : IsStore s) where
   by_marks zero u = refl
   by_marks (suc n) u = refl
 
-  marked_whole : (n t : ℕ) (r : Row) (b : Bool) → row_at s t ≡ Some r → error_with (marks n) (tree_of (trees s.rows) r) ≡ Some b → marked_at s t ≡ Some b
+  marked_whole : (n t : ℕ) (r : Row) (b : Bool) → row_at s t ≡ Some r → error_with (marks n) (tree_of (trees s.rows) r) ≡ Some b
+      → marked_at s t ≡ Some b
   unfolding marks
   marked_whole zero t (row.Named d) b g e = absurd cc
-  marked_whole (suc n) t (row.Named d) b g e = marked-row s t (row.Named d) g ∙ by (λ q p f. marked_whole n q p b f) (definition_of s d) refl e
+  marked_whole (suc n) t (row.Named d) b g e = marked-row s t (row.Named d) g
+      ∙ by (λ q p f. marked_whole n q p b f) (definition_of s d) refl e
     where
-      by : ((q : ℕ) (p : Row) → row_at s q ≡ Some p → error_with (marks n) (tree_of (trees s.rows) p) ≡ Some b → marked_at s q ≡ Some b) → (o : Option ℕ) → definition_of s d ≡ o
-          → option_and_then (following error_with (meaning_of s) n) (option_and_then (tree_at s) o) ≡ Some b → option_and_then (marked_at s) o ≡ Some b
+      by : ((q : ℕ) (p : Row) → row_at s q ≡ Some p → error_with (marks n) (tree_of (trees s.rows) p) ≡ Some b → marked_at s q ≡ Some b)
+          → (o : Option ℕ) → definition_of s d ≡ o
+          → option_and_then (following error_with (meaning_of s) n) (option_and_then (tree_at s) o) ≡ Some b
+          → option_and_then (marked_at s) o ≡ Some b
       by ih None f k = absurd cc
       by ih (Some q) f k =
           let p = slice_index_or s.rows q (row.Scalar keyword.Void) in
@@ -286,7 +296,8 @@ module _ (s : Store) (v : IsStore s) where
 
   -- ---- sizes
 
-  sized_of_row : (t : ℕ) → ((j : ℕ) → j < t → sized_at s j ≡ has_size s (tree_in (trees s.rows) j)) → (r : Row) → row_at s t ≡ Some r → sized_at s t ≡ has_size s (tree_of (trees s.rows) r)
+  sized_of_row : (t : ℕ) → ((j : ℕ) → j < t → sized_at s j ≡ has_size s (tree_in (trees s.rows) j)) → (r : Row) → row_at s t ≡ Some r
+      → sized_at s t ≡ has_size s (tree_of (trees s.rows) r)
   sized_of_row t ih (row.Error j) g = sized-row s t (row.Error j) g ∙ ih j (v.rows_sound.within t (row.Error j) g)
   sized_of_row t ih (row.Named d) g = sized-row s t (row.Named d) g
   sized_of_row t ih (row.Scalar k) g = sized-row s t (row.Scalar k) g
@@ -302,7 +313,8 @@ module _ (s : Store) (v : IsStore s) where
   sized_below zero l t h = absurd (omega arith)
   sized_below (suc b) l t h = by (sized_below b (omega arith)) (cases_lt t b)
     where
-      by : ((j : ℕ) → j < b → sized_at s j ≡ has_size s (tree_in (trees s.rows) j)) → (t < b) ⊎ (b ≤ t) → sized_at s t ≡ has_size s (tree_in (trees s.rows) t)
+      by : ((j : ℕ) → j < b → sized_at s j ≡ has_size s (tree_in (trees s.rows) j)) → (t < b) ⊎ (b ≤ t)
+          → sized_at s t ≡ has_size s (tree_in (trees s.rows) t)
       by ih (inl k) = ih t k
       by ih (inr k) =
           let r = slice_index_or s.rows t (row.Scalar keyword.Void) in
@@ -334,21 +346,25 @@ module _ (s : Store) (v : IsStore s) where
   abbrev AreExtents : ℕ → Type 0
   AreExtents n = (i : ℕ) (x : Extent) → found_within s (bytes_over (definition_of s)) n i ≡ Some x → extent_with (names s n) (tree_in (trees s.rows) i) ≡ Some x
 
-  of_parts : (ks : ℕ → Option Extent) (named : ℕ → Option Extent) → ((i : ℕ) (x : Extent) → ks i ≡ Some x → extent_with named (tree_in (trees s.rows) i) ≡ Some x)
-      → (is : List ℕ) (xs : List Extent) → all_known ks is ≡ Some xs → extents_with named (trees_of (map (tree_in (trees s.rows)) is)) ≡ Some xs
+  of_parts : (ks : ℕ → Option Extent) (named : ℕ → Option Extent)
+      → ((i : ℕ) (x : Extent) → ks i ≡ Some x → extent_with named (tree_in (trees s.rows) i) ≡ Some x)
+      → (is : List ℕ) (xs : List Extent) → all_known ks is ≡ Some xs
+      → extents_with named (trees_of (map (tree_in (trees s.rows)) is)) ≡ Some xs
   of_parts ks named h [] xs e = e
   of_parts ks named h (i ∷ is) xs e =
       option_and_then-more (λ x. option_map (λ ys. x ∷ ys) (all_known ks is)) (λ x. option_map (λ ys. x ∷ ys) (extents_with named (trees_of (map (tree_in (trees s.rows)) is))))
       (λ x. option_map-more (λ ys. x ∷ ys) (all_known ks is) (extents_with named (trees_of (map (tree_in (trees s.rows)) is))) (of_parts ks named h is)) (ks i) (extent_with named (tree_in (trees s.rows) i)) (h i) xs e
 
   -- the same, where one more name is followed
-  deeper : (n : ℕ) → AreExtents n → (i : ℕ) (x : Extent) → found_within s (bytes_over (definition_of s)) n i ≡ Some x → extent_with (names s (suc n)) (tree_in (trees s.rows) i) ≡ Some x
+  deeper : (n : ℕ) → AreExtents n → (i : ℕ) (x : Extent) → found_within s (bytes_over (definition_of s)) n i ≡ Some x
+      → extent_with (names s (suc n)) (tree_in (trees s.rows) i) ≡ Some x
   deeper n ih i x e =
       let one : n + 1 ≡ suc n = omega arith in
       let more : Knows (names s n) (names s (suc n)) = subst (λ m. Knows (names s n) (names s m)) one (names-further s n 1) in
       extent_with-more (names s n) (names s (suc n)) more (tree_in (trees s.rows) i) x (ih i x e)
 
-  extent_of_row : (n : ℕ) → AreExtents n → (t : ℕ) (r : Row) (x : Extent) → bytes_over (definition_of s) (found_within s (bytes_over (definition_of s)) n) t r ≡ Some x
+  extent_of_row : (n : ℕ) → AreExtents n → (t : ℕ) (r : Row) (x : Extent)
+      → bytes_over (definition_of s) (found_within s (bytes_over (definition_of s)) n) t r ≡ Some x
       → extent_with (names s (suc n)) (tree_of (trees s.rows) r) ≡ Some x
   extent_of_row n ih t (row.Scalar k) x e = e
   extent_of_row n ih t (row.Pointer j) x e = e
@@ -373,13 +389,15 @@ module _ (s : Store) (v : IsStore s) where
       by None f k = absurd cc
       by (Some q) f k =
           ap (λ o. option_and_then (following extent_with (meaning_of s) n) (option_and_then (tree_at s) o)) f
-          ∙ ap (option_and_then (following extent_with (meaning_of s) n)) (tree_there q (v.defined_within d q f)) ∙ sym (by_names s n (tree_in (trees s.rows) q)) ∙ ih q x k
+          ∙ ap (option_and_then (following extent_with (meaning_of s) n)) (tree_there q (v.defined_within d q f))
+          ∙ sym (by_names s n (tree_in (trees s.rows) q)) ∙ ih q x k
 
   extent_sound : (n : ℕ) → AreExtents n
   extent_sound zero t x e = absurd cc
   extent_sound (suc n) t x e = by (extent_sound n) (row_at s t) refl e
     where
-      by : AreExtents n → (o : Option Row) → row_at s t ≡ o → option_and_then (bytes_over (definition_of s) (found_within s (bytes_over (definition_of s)) n) t) o ≡ Some x
+      by : AreExtents n → (o : Option Row) → row_at s t ≡ o
+          → option_and_then (bytes_over (definition_of s) (found_within s (bytes_over (definition_of s)) n) t) o ≡ Some x
           → extent_with (names s (suc n)) (tree_in (trees s.rows) t) ≡ Some x
       by ih None g k = absurd cc
       by ih (Some r) g k = ap (extent_with (names s (suc n))) (tree_here t r g) ∙ extent_of_row n ih t r x k
@@ -413,7 +431,8 @@ module _ (s : Store) (v : IsStore s) where
             (length s.rows, sym (by_names s (length s.rows) (tree_in (trees s.rows) t)) ∙ extent_sound (length s.rows) t y e),
           )
 
-      settled : (i : ℕ) (r : Row) → slice_get s.rows i ≡ Some r → option_map told (extent_at s i) ≡ None → extent_over (definition_of s) (λ j. option_map told (extent_at s j)) r ≡ None
+      settled : (i : ℕ) (r : Row) → slice_get s.rows i ≡ Some r → option_map told (extent_at s i) ≡ None
+          → extent_over (definition_of s) (λ j. option_map told (extent_at s j)) r ≡ None
       settled i r here none = none_told (definition_of s) (extent_at s) i r (sym (extent-row s i r here) ∙ none_map told (extent_at s i) none)
 
       whole : LiesIn s t x → (o : Option Extent) → extent_at s t ≡ o → extent_at s t ≡ Some x
@@ -464,7 +483,8 @@ module _ (s : Store) (v : IsStore s) where
       by None e = sym e
       by (Some b) e = absurd (none refl b ((base_tells t b).0 e))
 
-  pub extent_is : (t : ℕ) (o : Option Extent) → ((x : Extent) → o ≡ Some x → IsTold s t x) → (o ≡ None → (x : Extent) → ¬ LiesIn s t x) → o ≡ option_map told (extent_at s t)
+  pub extent_is : (t : ℕ) (o : Option Extent) → ((x : Extent) → o ≡ Some x → IsTold s t x) → (o ≡ None → (x : Extent) → ¬ LiesIn s t x)
+      → o ≡ option_map told (extent_at s t)
   extent_is t (Some x) some none =
       let h = some x refl in
       ap Some h.2 ∙ sym (ap (option_map told) ((extent_tells t h.0).1 h.1))

@@ -57,7 +57,8 @@ module _ (now later : Store) (v : IsStore now) (l : IsLater now later) where
   row_stays = row-continued now later l.grows.rows
 
   -- all that a row tells of itself
-  of_row : {A : Type 0} (f : Row → Option A) (t : ℕ) (a : A) → option_and_then f (row_at now t) ≡ Some a → option_and_then f (row_at later t) ≡ Some a
+  of_row : {A : Type 0} (f : Row → Option A) (t : ℕ) (a : A) → option_and_then f (row_at now t) ≡ Some a
+      → option_and_then f (row_at later t) ≡ Some a
   of_row f t a e = option_and_then-more f f (λ r b h. h) (row_at now t) (row_at later t) (row_stays t) a e
 
   row_here : (t : ℕ) → t < length now.rows → row_at later t ≡ row_at now t
@@ -87,7 +88,8 @@ module _ (now later : Store) (v : IsStore now) (l : IsLater now later) where
       option_and_then-more (λ b. option_and_then members_of (row_at now b)) (λ b. option_and_then members_of (row_at later b)) (of_row members_of) (base_at now t) (base_at later t) (base_stays t) is e
 
   -- the extents of some types, where of each there is one
-  extents_stay : (o p : Option (List ℕ)) → ((is : List ℕ) → o ≡ Some is → p ≡ Some is) → (xs : List Extent) → option_and_then (all_known (extent_at now)) o ≡ Some xs
+  extents_stay : (o p : Option (List ℕ)) → ((is : List ℕ) → o ≡ Some is → p ≡ Some is) → (xs : List Extent)
+      → option_and_then (all_known (extent_at now)) o ≡ Some xs
       → option_and_then (all_known (extent_at later)) p ≡ Some xs
   extents_stay o p h xs e = option_and_then-more (all_known (extent_at now)) (all_known (extent_at later)) (all_known-grows (extent_at now) (extent_at later) extent_stays) o p h xs e
 
@@ -110,7 +112,8 @@ module _ (now later : Store) (v : IsStore now) (l : IsLater now later) where
   error_stays t s = unwrapped false (marked_at now t) (marked_at later t) s (marked_stays t)
 
   -- of members whose error marks are known the same are left
-  left_values : (is : List ℕ) → ((i : ℕ) → Contains is i → IsSome (marked_at now i)) → filter (λ i. not (is_error_at later i)) is ≡ filter (λ i. not (is_error_at now i)) is
+  left_values : (is : List ℕ) → ((i : ℕ) → Contains is i → IsSome (marked_at now i))
+      → filter (λ i. not (is_error_at later i)) is ≡ filter (λ i. not (is_error_at now i)) is
   left_values [] h = refl
   left_values (i ∷ is) h =
       let first = error_stays i (h i (0, omega arith, refl)) in
@@ -120,9 +123,11 @@ module _ (now later : Store) (v : IsStore now) (l : IsLater now later) where
   values_stay : (t : ℕ) (is : List ℕ) → AreMarksKnown now t → values_at now t ≡ Some is → values_at later t ≡ Some is
   values_stay t is k e = by (members_at now t) refl e
     where
-      by : (o : Option (List ℕ)) → members_at now t ≡ o → option_map (filter (λ i. not (is_error_at now i))) o ≡ Some is → values_at later t ≡ Some is
+      by : (o : Option (List ℕ)) → members_at now t ≡ o → option_map (filter (λ i. not (is_error_at now i))) o ≡ Some is
+          → values_at later t ≡ Some is
       by None f g = absurd cc
-      by (Some ms) f g = ap (option_map (filter (λ i. not (is_error_at later i)))) (members_stay t ms f) ∙ ap Some (left_values ms (λ i c. k ms i f c)) ∙ g
+      by (Some ms) f g = ap (option_map (filter (λ i. not (is_error_at later i)))) (members_stay t ms f)
+          ∙ ap Some (left_values ms (λ i c. k ms i f c)) ∙ g
 
   never_stays : (is : List ℕ) (t : ℕ) → joined_or_never now is ≡ Some t → joined_or_never later is ≡ Some t
   never_stays [] t e = id_stays (row.Scalar keyword.Never) t e

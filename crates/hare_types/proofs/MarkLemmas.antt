@@ -25,7 +25,8 @@ marked_row (row.Tuple is) j e = absurd cc
 marked_row (row.Union is) j e = absurd cc
 marked_row (row.Named d) j e = absurd cc
 
-pub marked_at_row : (rows : List Row) (t j : ℕ) → Some j ≡ option_and_then marked_in (slice_get rows t) → slice_get rows t ≡ Some (row.Error j)
+pub marked_at_row : (rows : List Row) (t j : ℕ) → Some j ≡ option_and_then marked_in (slice_get rows t)
+    → slice_get rows t ≡ Some (row.Error j)
 marked_at_row rows t j e = by (slice_get rows t) refl e
   where
     by : (o : Option Row) → slice_get rows t ≡ o → Some j ≡ option_and_then marked_in o → slice_get rows t ≡ Some (row.Error j)
@@ -33,17 +34,20 @@ marked_at_row rows t j e = by (slice_get rows t) refl e
     by (Some r) f g = f ∙ ap Some (marked_row r j (sym g))
 
 -- what is marked stands before its mark
-pub marked_before : (rows : List Row) → ((i : ℕ) (r : Row) → slice_get rows i ≡ Some r → IsWithin i r) → (t j : ℕ) → Some j ≡ option_and_then marked_in (slice_get rows t) → j < t
+pub marked_before : (rows : List Row) → ((i : ℕ) (r : Row) → slice_get rows i ≡ Some r → IsWithin i r) → (t j : ℕ)
+    → Some j ≡ option_and_then marked_in (slice_get rows t) → j < t
 marked_before rows within t j e = within t (row.Error j) (marked_at_row rows t j e)
 
 -- and has a size where the type with its mark has one
-pub marked_sized : (rows : List Row) (t j : ℕ) → Some j ≡ option_and_then marked_in (slice_get rows t) → (s : Store) → s.rows ≡ rows → sized_at s j ≡ sized_at s t
+pub marked_sized : (rows : List Row) (t j : ℕ) → Some j ≡ option_and_then marked_in (slice_get rows t) → (s : Store) → s.rows ≡ rows
+    → sized_at s j ≡ sized_at s t
 marked_sized rows t j e s same = sym (sized-row s t (row.Error j) (ap (λ l. slice_get l t) same ∙ marked_at_row rows t j e))
 
 -- ---- whether a type has a size
 
 module _ (rows : List Row) (es : List (ℕ × Declared)) (t u : ℕ) (s : Store) (of : s.rows ≡ rows) (by_names : s.declared ≡ es) (same : sized_at s u ≡ sized_at s t) where
-  pub size_of_row : (r : Row) → slice_get rows u ≡ Some r → (b : Bool) → ((ks : ℕ → Option Bool) (i : ℕ) → b ≡ unwrap_or (sized_over (sized_in es) ks i r) false) → b ≡ has_size_at s t
+  pub size_of_row : (r : Row) → slice_get rows u ≡ Some r → (b : Bool)
+      → ((ks : ℕ → Option Bool) (i : ℕ) → b ≡ unwrap_or (sized_over (sized_in es) ks i r) false) → b ≡ has_size_at s t
   size_of_row r here b value =
       value (sized_at s) u ∙ ap (λ l. unwrap_or (sized_over (sized_in l) (sized_at s) u r) false) (sym by_names)
       ∙ ap (λ o. unwrap_or o false) (sym (sized-row s u r (ap (λ l. slice_get l u) of ∙ here)) ∙ same)
@@ -63,13 +67,15 @@ Follows rows es t left at = (s : Store) → s.rows ≡ rows → s.declared ≡ e
 
 module _ (rows : List Row) (es : List (ℕ × Declared)) (t left at : ℕ) (more : 0 < left) (follows : Follows rows es t left at) (s : Store) (of : s.rows ≡ rows) (by_names : s.declared ≡ es) where
   -- one row further
-  further_row : (o : Option Row) → slice_get rows at ≡ o → option_and_then (error_over (definition_of s) (found_within s (error_over (definition_of s)) (left - 1)) at) o ≡ marked_at s t
+  further_row : (o : Option Row) → slice_get rows at ≡ o
+      → option_and_then (error_over (definition_of s) (found_within s (error_over (definition_of s)) (left - 1)) at) o ≡ marked_at s t
   further_row o here =
       let one : suc (left - 1) ≡ left = omega (arith, more) in
       ap (option_and_then (error_over (definition_of s) (found_within s (error_over (definition_of s)) (left - 1)) at)) (sym here ∙ ap (λ l. slice_get l at) (sym of))
       ∙ subst (λ n. found_within s (error_over (definition_of s)) n at ≡ marked_at s t) (sym one) (follows s of by_names)
 
-  pub mark_row : (r : Row) → slice_get rows at ≡ Some r → (m n : Mark) → ((ks : ℕ → Option Bool) (i : ℕ) → error_over (defined es) ks i r ≡ mark_by ks m) → m ≡ n
+  pub mark_row : (r : Row) → slice_get rows at ≡ Some r → (m n : Mark)
+      → ((ks : ℕ → Option Bool) (i : ℕ) → error_over (defined es) ks i r ≡ mark_by ks m) → m ≡ n
       → mark_by (found_within s (error_over (definition_of s)) (left - 1)) n ≡ marked_at s t
   mark_row r here m n value same =
       let ks = found_within s (error_over (definition_of s)) (left - 1) in

@@ -29,16 +29,19 @@ module _ (s : Store) (v : IsStore s) where
   members_tell : (t : ℕ) (is : List ℕ) → (members_at s t ≡ Some is) ↔ ((b : ℕ) × IsBaseOf s t b × (row_at s b ≡ Some (row.Union is)))
   members_tell t is = (λ e. sound (base_at s t) refl e, whole)
     where
-      of_row : (b : ℕ) → base_at s t ≡ Some b → (o : Option Row) → row_at s b ≡ o → option_and_then members_of o ≡ Some is → (b : ℕ) × IsBaseOf s t b × (row_at s b ≡ Some (row.Union is))
+      of_row : (b : ℕ) → base_at s t ≡ Some b → (o : Option Row) → row_at s b ≡ o → option_and_then members_of o ≡ Some is
+          → (b : ℕ) × IsBaseOf s t b × (row_at s b ≡ Some (row.Union is))
       of_row b f None g e = absurd cc
       of_row b f (Some r) g e = (b, (base_tells s v t b).0 f, g ∙ ap Some (union_row r is e))
 
-      sound : (o : Option ℕ) → base_at s t ≡ o → option_and_then (λ b. option_and_then members_of (row_at s b)) o ≡ Some is → (b : ℕ) × IsBaseOf s t b × (row_at s b ≡ Some (row.Union is))
+      sound : (o : Option ℕ) → base_at s t ≡ o → option_and_then (λ b. option_and_then members_of (row_at s b)) o ≡ Some is
+          → (b : ℕ) × IsBaseOf s t b × (row_at s b ≡ Some (row.Union is))
       sound None f e = absurd cc
       sound (Some b) f e = of_row b f (row_at s b) refl e
 
       whole : (b : ℕ) × IsBaseOf s t b × (row_at s b ≡ Some (row.Union is)) → members_at s t ≡ Some is
-      whole h = ap (option_and_then (λ b. option_and_then members_of (row_at s b))) ((base_tells s v t h.0).1 h.1) ∙ ap (option_and_then members_of) h.2
+      whole h = ap (option_and_then (λ b. option_and_then members_of (row_at s b))) ((base_tells s v t h.0).1 h.1)
+          ∙ ap (option_and_then members_of) h.2
 
   pub ids_mean_trees : MeanTrees s
   ids_mean_trees = record {

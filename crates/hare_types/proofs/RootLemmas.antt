@@ -21,7 +21,8 @@ use Rattle.hare_types.proofs.IdLemmas.{base_over-grows, error_over-grows, base-r
 -- ---- growth
 
 -- with more rows and more definitions
-pub IsRootOf-more : (old new : Store) → Continues old.rows new.rows → Knows (definition_of old) (definition_of new) → (t : ℕ) (r : Root) → IsRootOf old t r → IsRootOf new t r
+pub IsRootOf-more : (old new : Store) → Continues old.rows new.rows → Knows (definition_of old) (definition_of new) → (t : ℕ) (r : Root)
+    → IsRootOf old t r → IsRootOf new t r
 IsRootOf-more old new rows more t r h = record {
   base = found-more old new rows (base_over (definition_of old)) (base_over (definition_of new)) (base_over-grows (definition_of old) (definition_of new) more) t r.base h.base;
   marked = found-more old new rows (error_over (definition_of old)) (error_over (definition_of new)) (error_over-grows (definition_of old) (definition_of new) more) t r.is_error h.marked;
@@ -30,21 +31,24 @@ IsRootOf-more old new rows more t r h = record {
 -- ---- one row
 
 module _ (s : Store) (ks : ℕ → Option Root) (sound : (i : ℕ) (r : Root) → ks i ≡ Some r → IsRootOf s i r) where
-  itself : (t : ℕ) (q : Row) → row_at s t ≡ Some q → base_over (definition_of s) (base_at s) t q ≡ Some t → error_over (definition_of s) (marked_at s) t q ≡ Some false
+  itself : (t : ℕ) (q : Row) → row_at s t ≡ Some q → base_over (definition_of s) (base_at s) t q ≡ Some t
+      → error_over (definition_of s) (marked_at s) t q ≡ Some false
       → (r : Root) → Some (record { base = t; is_error = false }) ≡ Some r → IsRootOf s t r
   itself t q here b m r e =
       let base : Some t ≡ Some r.base = ap (option_map (λ x. x.base)) e in
       let mark : Some false ≡ Some r.is_error = ap (option_map (λ x. x.is_error)) e in
       record { base = base-row s t q here ∙ b ∙ base; marked = marked-row s t q here ∙ m ∙ mark }
 
-  by_mark : (t j : ℕ) → row_at s t ≡ Some (row.Error j) → (o : Option Root) → ks j ≡ o → (r : Root) → option_map with_mark o ≡ Some r → IsRootOf s t r
+  by_mark : (t j : ℕ) → row_at s t ≡ Some (row.Error j) → (o : Option Root) → ks j ≡ o → (r : Root) → option_map with_mark o ≡ Some r
+      → IsRootOf s t r
   by_mark t j here None f r e = absurd cc
   by_mark t j here (Some x) f r e =
       let base : Some x.base ≡ Some r.base = ap (option_map (λ y. y.base)) e in
       let mark : Some true ≡ Some r.is_error = ap (option_map (λ y. y.is_error)) e in
       record { base = base-row s t (row.Error j) here ∙ (sound j x f).base ∙ base; marked = marked-row s t (row.Error j) here ∙ mark }
 
-  by_name : (t d : ℕ) → row_at s t ≡ Some (row.Named d) → (o : Option ℕ) → definition_of s d ≡ o → (r : Root) → option_and_then ks o ≡ Some r → IsRootOf s t r
+  by_name : (t d : ℕ) → row_at s t ≡ Some (row.Named d) → (o : Option ℕ) → definition_of s d ≡ o → (r : Root)
+      → option_and_then ks o ≡ Some r → IsRootOf s t r
   by_name t d here None f r e = absurd cc
   by_name t d here (Some q) f r e =
       record {
@@ -74,7 +78,8 @@ KeepsRoots-empty s ks rows e = record {
 }
 
 -- with other names, or other types listed
-pub KeepsRoots-same : (old new : Store) (ks : List (Option Root)) → old.rows ≡ new.rows → old.declared ≡ new.declared → KeepsRoots old ks → KeepsRoots new ks
+pub KeepsRoots-same : (old new : Store) (ks : List (Option Root)) → old.rows ≡ new.rows → old.declared ≡ new.declared → KeepsRoots old ks
+    → KeepsRoots new ks
 KeepsRoots-same old new ks rows declared v = record {
   as_many = v.as_many ∙ ap length rows;
   sound = λ i r e.
@@ -82,25 +87,29 @@ KeepsRoots-same old new ks rows declared v = record {
 }
 
 -- with more definitions
-pub KeepsRoots-defined : (s : Store) (new : List (ℕ × Declared)) (ks : List (Option Root)) → ((d t : ℕ) → defined s.declared d ≡ Some t → defined new d ≡ Some t)
+pub KeepsRoots-defined : (s : Store) (new : List (ℕ × Declared)) (ks : List (Option Root))
+    → ((d t : ℕ) → defined s.declared d ≡ Some t → defined new d ≡ Some t)
     → KeepsRoots s ks → KeepsRoots (record s { declared = new }) ks
 KeepsRoots-defined s new ks still v = record {
   as_many = v.as_many;
   sound = λ i r e. IsRootOf-more s (record s { declared = new }) (Continues-same s.rows) still i r (v.sound i r e);
 }
 
-known_root-push : (ks : List (Option Root)) (o : Option Root) (i : ℕ) (r : Root) → known_root (ks ++ o ∷ []) i ≡ Some r → (known_root ks i ≡ Some r) ⊎ ((i ≡ length ks) × (o ≡ Some r))
+known_root-push : (ks : List (Option Root)) (o : Option Root) (i : ℕ) (r : Root) → known_root (ks ++ o ∷ []) i ≡ Some r
+    → (known_root ks i ≡ Some r) ⊎ ((i ≡ length ks) × (o ≡ Some r))
 known_root-push [] o zero r e = inr (refl, e)
 known_root-push [] o (suc i) r e = absurd cc
 known_root-push (k ∷ ks) o zero r e = inl e
 known_root-push (k ∷ ks) o (suc i) r e = next (known_root-push ks o i r e)
   where
-    next : (known_root ks i ≡ Some r) ⊎ ((i ≡ length ks) × (o ≡ Some r)) → (known_root ks i ≡ Some r) ⊎ ((suc i ≡ length (k ∷ ks)) × (o ≡ Some r))
+    next : (known_root ks i ≡ Some r) ⊎ ((i ≡ length ks) × (o ≡ Some r))
+        → (known_root ks i ≡ Some r) ⊎ ((suc i ≡ length (k ∷ ks)) × (o ≡ Some r))
     next (inl h) = inl h
     next (inr h) = inr (ap suc h.0, h.1)
 
 -- with one more row
-pub KeepsRoots-push : (s : Store) (q : Row) (ks : List (Option Root)) (o : Option Root) → o ≡ root_over (defined s.declared) (known_root ks) (length s.rows) q → KeepsRoots s ks
+pub KeepsRoots-push : (s : Store) (q : Row) (ks : List (Option Root)) (o : Option Root)
+    → o ≡ root_over (defined s.declared) (known_root ks) (length s.rows) q → KeepsRoots s ks
     → KeepsRoots (record s { rows = s.rows ++ q ∷ [] }) (ks ++ o ∷ [])
 KeepsRoots-push s q ks o value v = record {
   as_many = omega (arith, length-append ks (o ∷ []), length-append s.rows (q ∷ []), v.as_many);
@@ -118,7 +127,8 @@ KeepsRoots-push s q ks o value v = record {
         root-step (record s { rows = s.rows ++ q ∷ [] }) (known_root ks) old_sound i q here r (sym (ap (λ n. root_over (defined s.declared) (known_root ks) n q) place) ∙ sym value ∙ h.1)
 
 -- with one more root
-pub KeepsRoots-set : (s : Store) (ks : List (Option Root)) (i : ℕ) (q : Row) (o : Option Root) → slice_get s.rows i ≡ Some q → o ≡ root_over (defined s.declared) (known_root ks) i q → KeepsRoots s ks
+pub KeepsRoots-set : (s : Store) (ks : List (Option Root)) (i : ℕ) (q : Row) (o : Option Root) → slice_get s.rows i ≡ Some q
+    → o ≡ root_over (defined s.declared) (known_root ks) i q → KeepsRoots s ks
     → KeepsRoots s (set ks i o)
 KeepsRoots-set s ks i q o here value k = record {
   as_many = length-set ks i o ∙ k.as_many;
@@ -154,7 +164,8 @@ module _ (s : Store) (ks : ℕ → Option Root) (settled : (i : ℕ) (q : Row) �
           absurd cc
       by (Some z) f = (z, f)
 
-  of_row : (n : ℕ) → ((j b : ℕ) → found_within s (base_over (definition_of s)) n j ≡ Some b → Found j) → (t b : ℕ) (q : Row) → slice_get s.rows t ≡ Some q
+  of_row : (n : ℕ) → ((j b : ℕ) → found_within s (base_over (definition_of s)) n j ≡ Some b → Found j) → (t b : ℕ) (q : Row)
+      → slice_get s.rows t ≡ Some q
       → base_over (definition_of s) (found_within s (base_over (definition_of s)) n) t q ≡ Some b → Found t
   of_row n ih t b (row.Error j) here e =
       let inner = ih j b e in
