@@ -78,13 +78,9 @@ module _ (s : Store) (v : IsStore s) where
 
   fields_held : (r : Row) (ts : Trees) → IsWithin (length s.rows) r → HoldsFields (tree_of (trees s.rows) r) ts
       → (is : List ℕ) × (fields_of r ≡ Some is) × (Parts is ≡ ts) × AllBelow (length s.rows) is
-  fields_held (row.Struct fs) ts w h = (
-    map (λ f. f.ty) fs,
-    refl,
-    sym (parts_of_struct (trees s.rows) fs)
-        ∙ h,
-    FieldsBelow-ids (length s.rows) fs w,
-  )
+  fields_held (row.Struct fs) ts w h =
+      let same = sym (parts_of_struct (trees s.rows) fs) ∙ h in
+      (map (λ f. f.ty) fs, refl, same, FieldsBelow-ids (length s.rows) fs w)
   fields_held (row.Tuple js) ts w h = (js, refl, h, w)
   fields_held (row.Scalar k) ts w h = absurd h
   fields_held (row.Pointer i) ts w h = absurd h
