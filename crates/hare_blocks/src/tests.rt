@@ -7,29 +7,73 @@ use crate::scope::Scope;
 use std::alloc::{AllocError, Global};
 use std::test::Fail;
 
-/// A file with this body.
-fn file(alloc: Global, body: &[u8]) -> Result<Vec<u8>, AllocError> {
+// A file with this body, so many times the part, and the rest.
+fn file(
+    alloc: Global,
+    body: &[u8],
+    part: &[u8],
+    times: usize,
+    rest: &[u8],
+) -> Result<Vec<u8>, AllocError> {
     let mut text = Vec::new(alloc);
     text.extend_from_slice(b"use rt; export fn main() void = ")?;
     text.extend_from_slice(body)?;
-    text.push(b';')?;
+    for _ in 0..times {
+        text.extend_from_slice(part)?;
+    }
+    text.extend_from_slice(rest)?;
+    text.extend_from_slice(b";")?;
     Ok(text)
 }
 
 fn is_file(alloc: Global, body: &[u8]) -> Result<bool, AllocError> {
-    let text = file(alloc, body)?;
+    let text = file(alloc, body, b"", 0, b"")?;
     let found = read(alloc, text.as_slice())?;
     Ok(found.is_some())
 }
 
-/// Whether a file of `{ };` with so many bytes, blanks in front, is read.
+// Whether so many parentheses may be open at once.
+fn opens(alloc: Global, times: usize) -> Result<bool, AllocError> {
+    let mut body = Vec::new(alloc);
+    body.extend_from_slice(b"{ let i = ")?;
+    for _ in 0..times {
+        body.push(b'(')?;
+    }
+    body.extend_from_slice(b"1z")?;
+    for _ in 0..times {
+        body.push(b')')?;
+    }
+    body.extend_from_slice(b"; }")?;
+    is_file(alloc, body.as_slice())
+}
+
+// Whether a file of `{ };` with so many bytes, blanks in front, is read.
 fn is_short(alloc: Global, size: usize) -> Result<bool, AllocError> {
     let mut text = Vec::new(alloc);
-    let end = file(alloc, b"{ }")?;
+    let end = file(alloc, b"{ }", b"", 0, b"")?;
     for _ in 0..size.saturating_sub(end.len()) {
         text.push(b' ')?;
     }
     text.extend_from_slice(end.as_slice())?;
+    let found = read(alloc, text.as_slice())?;
+    Ok(found.is_some())
+}
+
+// Whether `body`, `times` times `part`, and then `rest` and `times` times `end` are a file's body.
+fn nests(
+    alloc: Global,
+    body: &[u8],
+    part: &[u8],
+    rest: &[u8],
+    end: &[u8],
+    times: usize,
+) -> Result<bool, AllocError> {
+    let mut text = file(alloc, body, part, times, rest)?;
+    let _ = text.pop();
+    for _ in 0..times {
+        text.extend_from_slice(end)?;
+    }
+    text.extend_from_slice(b"};")?;
     let found = read(alloc, text.as_slice())?;
     Ok(found.is_some())
 }
@@ -45,7 +89,7 @@ const WORKED: &[u8] = b"{
 
 #[test]
 fn the_worked_file(rt: HostRuntime) -> Result<(), Fail> {
-    let text = file(rt.alloc(), WORKED)?;
+    let text = file(rt.alloc(), WORKED, b"", 0, b"")?;
     let Some(Program::Block(body)) = read(rt.alloc(), text.as_slice())? else {
         return Err(Fail::from("no block"));
     };
@@ -76,88 +120,100 @@ fn the_worked_file(rt: HostRuntime) -> Result<(), Fail> {
     Ok(())
 }
 
-/// Bodies, and whether they are those of files.
-static BODIES: [(&[u8], bool); 19] = [
-    (b"rt::exit((rt::nargs() * 3z + 1z): u8)", true),
-    (b"rt::exit((i): u8)", false),
-    (b"rt::exit(1z)", false),
-    (
-        b"{ let i = 1z; if (true) { let i = 2z; i = 3z; }; rt::exit((i): u8); }",
-        true,
-    ),
-    (b"{ let i = 5z; let i = i + 1z; }", true),
-    // A name that is used before its declaration, in it, behind its block, and in the other block.
-    (b"{ i = 1z; let i = 2z; }", false),
-    (b"{ let i = i; }", false),
-    (b"{ if (true) { let i = 2z; }; i = 1z; }", false),
-    (b"{ if (true) { let i = 2z; } else { i = 1z; }; }", false),
-    // The module, a keyword, and a word that is left out.
-    (b"{ let rt = 2z; }", false),
-    (b"{ let size = 2z; }", false),
-    (b"{ let union = 2z; }", false),
-    (b"{ }", true),
-    (b"{ for (1z <= 2z) { for (true) { }; }; }", true),
-    (b"{ for (1z < = 2z) { }; }", false),
-    (b"{ rt::puts(\"a\") }", false),
-    (b"{ }; { }", false),
-    (
-        b"{ rt::puts(\" !#$%&'()*+,-./0123456789:;<=>?@ABCDEFGHIJKLMNOPQRSTUVWXYZ[]^_`abcdefghijklmnopqrstuvwxyz{|}~\"); }",
-        true,
-    ),
-    (b"{ rt::puts(\"a\\n\"); }", false),
-];
-
 #[test]
-fn bodies(rt: HostRuntime) -> Result<(), Fail> {
-    for (body, is_one) in BODIES {
-        assert_eq!(rt; is_file(rt.alloc(), body)?, is_one, "{body:?}");
-    }
+fn an_exit_alone(rt: HostRuntime) -> Result<(), Fail> {
+    let alloc = rt.alloc();
+    assert!(rt; is_file(alloc, b"rt::exit((rt::nargs() * 3z + 1z): u8)")?);
+    assert!(rt; !is_file(alloc, b"rt::exit((i): u8)")?);
+    assert!(rt; !is_file(alloc, b"rt::exit(1z)")?);
     Ok(())
 }
 
-/// A body in which a part stands many times: what stands in front, the part, what stands behind the parts, what ends each of them, and what stands behind
-/// all that; and whether it is that of a file with so many parts.
-struct Repeated([&'static [u8]; 5], usize, bool);
+#[test]
+fn names(rt: HostRuntime) -> Result<(), Fail> {
+    let alloc = rt.alloc();
+    assert!(rt;
+        is_file(
+            alloc,
+            b"{ let i = 1z; if (true) { let i = 2z; i = 3z; }; rt::exit((i): u8); }"
+        )?
+    );
+    assert!(rt; is_file(alloc, b"{ let i = 5z; let i = i + 1z; }")?);
+    assert!(rt;
+        !is_file(alloc, b"{ i = 1z; let i = 2z; }")?,
+        "used before its declaration"
+    );
+    assert!(rt;
+        !is_file(alloc, b"{ let i = i; }")?,
+        "used in its declaration"
+    );
+    assert!(rt;
+        !is_file(alloc, b"{ if (true) { let i = 2z; }; i = 1z; }")?,
+        "used behind its block"
+    );
+    assert!(rt;
+        !is_file(alloc, b"{ if (true) { let i = 2z; } else { i = 1z; }; }")?,
+        "used in the other block"
+    );
+    assert!(rt; !is_file(alloc, b"{ let rt = 2z; }")?);
+    assert!(rt; !is_file(alloc, b"{ let size = 2z; }")?, "a keyword");
+    assert!(rt;
+        !is_file(alloc, b"{ let union = 2z; }")?,
+        "a word that is left out"
+    );
+    Ok(())
+}
 
-static REPEATED: [Repeated; 9] = [
-    Repeated([b"{ ", b"if (true) { ", b"", b"}; ", b"}"], 15, true),
-    Repeated([b"{ ", b"if (true) { ", b"", b"}; ", b"}"], 16, false),
-    Repeated([b"{ let i = 1z", b"+1z", b"; }", b"", b""], 100, true),
-    Repeated([b"{ let i = 1z", b"+1z", b"; }", b"", b""], 101, false),
-    Repeated([b"{ let i = ", b"(", b"1z", b")", b"; }"], 64, true),
-    Repeated([b"{ let i = ", b"(", b"1z", b")", b"; }"], 65, false),
-    Repeated([b"{ let i = ", b"(", b"", b"", b"}"], 60_000, false),
-    Repeated([b"{ ", b"{", b"", b"", b"}"], 60_000, false),
-    Repeated([b"{ let i = 1z", b"-", b"", b"", b"}"], 60_000, false),
-];
-
-fn is_repeated(alloc: Global, repeated: &Repeated) -> Result<bool, AllocError> {
-    let [front, part, middle, end, last] = repeated.0;
-    let mut body = Vec::new(alloc);
-    body.extend_from_slice(front)?;
-    for _ in 0..repeated.1 {
-        body.extend_from_slice(part)?;
-    }
-    body.extend_from_slice(middle)?;
-    for _ in 0..repeated.1 {
-        body.extend_from_slice(end)?;
-    }
-    body.extend_from_slice(last)?;
-    is_file(alloc, body.as_slice())
+#[test]
+fn grammar(rt: HostRuntime) -> Result<(), Fail> {
+    let alloc = rt.alloc();
+    assert!(rt; is_file(alloc, b"{ }")?);
+    assert!(rt; is_file(alloc, b"{ for (1z <= 2z) { for (true) { }; }; }")?);
+    assert!(rt; !is_file(alloc, b"{ for (1z < = 2z) { }; }")?, "two marks");
+    assert!(rt; !is_file(alloc, b"{ rt::puts(\"a\") }")?, "no semicolon");
+    assert!(rt; !is_file(alloc, b"{ }; { }")?, "two bodies");
+    assert!(rt;
+        is_file(
+            alloc,
+            b"{ rt::puts(\" !#$%&'()*+,-./0123456789:;<=>?@ABCDEFGHIJKLMNOPQRSTUVWXYZ[]^_`abcdefghijklmnopqrstuvwxyz{|}~\"); }"
+        )?
+    );
+    assert!(rt; !is_file(alloc, b"{ rt::puts(\"a\\n\"); }")?, "a backslash");
+    Ok(())
 }
 
 #[test]
 fn limits(rt: HostRuntime) -> Result<(), Fail> {
-    for repeated in &REPEATED {
-        assert_eq!(rt;
-            is_repeated(rt.alloc(), repeated)?,
-            repeated.2,
-            "{} times",
-            repeated.1
-        );
-    }
-    assert!(rt; is_short(rt.alloc(), 65_536)?);
-    assert!(rt; !is_short(rt.alloc(), 65_537)?);
+    let alloc = rt.alloc();
+    assert!(rt;
+        nests(alloc, b"{ ", b"if (true) { ", b" ", b"}; ", 15)?,
+        "16 blocks"
+    );
+    assert!(rt;
+        !nests(alloc, b"{ ", b"if (true) { ", b" ", b"}; ", 16)?,
+        "17 blocks"
+    );
+    assert!(rt;
+        nests(alloc, b"{ let i = 1z", b"+1z", b";", b"", 100)?,
+        "100 operators"
+    );
+    assert!(rt;
+        !nests(alloc, b"{ let i = 1z", b"+1z", b";", b"", 101)?,
+        "101 operators"
+    );
+    assert!(rt; opens(alloc, 64)?, "64 parentheses");
+    assert!(rt; !opens(alloc, 65)?, "65 parentheses");
+    assert!(rt; is_short(alloc, 65_536)?, "65,536 bytes");
+    assert!(rt; !is_short(alloc, 65_537)?, "65,537 bytes");
+    Ok(())
+}
+
+#[test]
+fn hostile(rt: HostRuntime) -> Result<(), Fail> {
+    let alloc = rt.alloc();
+    assert!(rt; !nests(alloc, b"{ let i = ", b"(", b"", b"", 60_000)?);
+    assert!(rt; !nests(alloc, b"{ ", b"{", b"", b"", 60_000)?);
+    assert!(rt; !nests(alloc, b"{ let i = 1z", b"-", b"", b"", 60_000)?);
     Ok(())
 }
 
