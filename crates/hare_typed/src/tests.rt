@@ -2,10 +2,10 @@
 
 use crate::{
     Const, Typed, TypedKids, copies, erase, law_costs_are_of_marks, law_orders_agree,
-    law_weights_stay, weight,
+    law_weights_stay,
 };
 use hare_tree::{Kind, Meaning, Place, Suffix, Word};
-use hare_types::{Coercion, Ty, TypeStore};
+use hare_types::{Coercion, Ty};
 use std::alloc::{AllocError, Global};
 use std::test::Fail;
 
@@ -59,14 +59,6 @@ fn marks_are_erased(rt: HostRuntime) -> Result<(), Fail> {
     let tree = erase(rt.alloc(), &value)?;
     assert!(rt; tree.kind == Kind::Paren);
     assert!(rt; tree.kids.get(0).ok_or("kid")?.kind == Kind::Path);
-    Ok(())
-}
-
-#[test]
-fn weights_are_counted(rt: HostRuntime) -> Result<(), Fail> {
-    let types = TypeStore::new(rt.alloc());
-    let deleted = over(rt.alloc(), Kind::Delete, &Ty::Null)?;
-    assert_eq!(rt; weight(&types, &deleted), 4);
     Ok(())
 }
 
