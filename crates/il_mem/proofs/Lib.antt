@@ -1,0 +1,8 @@
+pub mod Calls
+mod KeptRows
+pub mod PageGrowth
+pub mod PageLists
+pub mod PageMoves
+pub mod PageWrites
+pub mod Pieces
+pub mod RangeLists

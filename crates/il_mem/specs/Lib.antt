@@ -1,0 +1,4 @@
+pub mod Holds
+pub mod Kept
+pub mod Laid
+pub mod Stored

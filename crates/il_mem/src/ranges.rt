@@ -1,0 +1,115 @@
+//! The mapped addresses.
+
+ghost use Rattle.std.specs.Prelude.{◌≡◌, ◌+◌, ◌^◌, ◌<◌, ◌≤◌, true, false, not, [], filter, All, IsSome, IfSome, IfNone, MatchBool, OnOk, OnErr};
+ghost use Rattle.std.specs.Bool.{OnTrue};
+ghost use Rattle.std.specs.Ordering.{nat_cmp};
+ghost use Rattle.std.specs.BTreeMap.{insert_entry, is_at};
+ghost use Rattle.std.specs.Map.{lookup};
+ghost use Rattle.hx_base.specs.Memory.{in_range};
+ghost use Rattle.il_mem.specs.Kept.{covers, IsBare};
+ghost use Rattle.il_mem.specs.Laid.{are_laid, IsCovered, HasGap};
+
+use std::alloc::{AllocError, Global};
+use std::collections::BTreeMap;
+use std::marker::Model;
+
+/// The mapped ranges, each from its first address to the one behind its last. No two have an address in common, but they may touch.
+#[derive(Drop)]
+pub struct Ranges {
+    ends: BTreeMap<u64, u64>,
+}
+
+impl Model for Ranges {
+    ghost use Rattle.std.specs.Prelude.{List, ℕ, ◌≡◌, true};
+    ghost use Rattle.il_mem.specs.Laid.{are_laid};
+
+    ghost Value = { List (ℕ × ℕ) };
+
+    ghost view = { λ a. a.ends.entries };
+
+    ghost invariant = { λ a. are_laid 0 a.ends.entries ≡ true };
+}
+
+impl Ranges {
+    /// No ranges.
+    pub fn new(alloc: Global) -> Ranges
+        ensures { result ≡ [] }
+    {
+        Ranges {
+            ends: BTreeMap::new(alloc),
+        }
+    }
+
+    /// Whether all `n` addresses from `at` on are mapped.
+    pub fn have(&self, at: u64, n: u64) -> bool
+        ensures value { MatchBool result (IsCovered self.now at (at + n)) (HasGap self.now at (at + n)) }
+        ensures ends { OnTrue result (at + n < 2 ^ 64) }
+    {
+        let ends = &self.ends;
+        let Some(end) = at.checked_add(n) else {
+            return false;
+        };
+        let mut reached = at;
+        while reached < end {
+            match end_of(ends, reached) {
+                Some(next) => reached = next,
+                None => return false,
+            }
+        }
+        true
+    }
+
+    /// Maps the `n` addresses from `at` on.
+    pub fn map(&mut self, at: u64, n: u64) -> Result<(), AllocError>
+        requires some { 0 < n }
+        requires ends { at + n < 2 ^ 64 }
+        requires bare { IsBare self.old at n }
+        ensures ok { OnOk result (self.new ≡ insert_entry nat_cmp self.old at (at + n)) }
+        ensures laid { OnOk result (are_laid 0 self.old ≡ true) }
+        ensures err { OnErr result (self.new ≡ self.old) }
+    {
+        self.ends.insert(at, at + n)?;
+        Ok(())
+    }
+
+    /// Gives up the ranges that begin at one of the `n` addresses from `at` on.
+    pub fn unmap(&mut self, at: u64, n: u64)
+        ensures value { self.new ≡ filter (λ r. not (in_range at n r.0)) self.old }
+        ensures laid { are_laid 0 self.old ≡ true }
+    {
+        let end = at.saturating_add(n);
+        while let Some(start) = first_from(&self.ends, at) {
+            if start >= end {
+                break;
+            }
+            self.ends.remove(&start);
+        }
+    }
+}
+
+// The address behind the range in which an address lies.
+fn end_of(ends: &BTreeMap<u64, u64>, at: u64) -> Option<u64>
+    requires { are_laid 0 ends.now.entries ≡ true }
+    ensures found { IfSome result (λ e. (at < e) × IsCovered ends.now.entries at e) }
+    ensures none { IfNone result (covers ends.now.entries at ≡ false) }
+{
+    let mut below = ends.range(..=at);
+    match below.next_back() {
+        Some((_, end)) if *end > at => Some(*end),
+        _ => None,
+    }
+}
+
+// The first address from `at` on at which a range begins.
+fn first_from(ends: &BTreeMap<u64, u64>, at: u64) -> Option<u64>
+    requires { are_laid 0 ends.now.entries ≡ true }
+    ensures found { IfSome result (λ s. (at ≤ s) × IsSome (lookup (is_at (nat_cmp s)) ends.now.entries)) }
+    ensures first { IfSome result (λ s. All (λ r. at ≤ r.0 → s ≤ r.0) ends.now.entries) }
+    ensures none { IfNone result (All (λ r. r.0 < at) ends.now.entries) }
+{
+    let mut from = ends.range(at..);
+    match from.next() {
+        Some((start, _)) => Some(*start),
+        None => None,
+    }
+}
