@@ -87,7 +87,7 @@ module _ (s : Store) (v : IsStore s) (t : ℕ) where
   base_none l g =
       sym
       (base-value s v t l None tt (λ b h. let both = sym g ∙ (base_tells s v t b).1 h in absurd cc)
-       ∙ base_by-following s (length s.declared) (type_at s t))
+      ∙ base_by-following s (length s.declared) (type_at s t))
 
   -- the type has members where its base is a union
   base_union : t < length s.rows → (ts : Trees) → base s (type_at s t) ≡ Some (Union ts)
