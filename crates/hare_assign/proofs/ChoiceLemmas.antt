@@ -1,17 +1,16 @@
 -- The member that a value becomes, and the row by which it goes there, stay in later stores.
-use Rattle.std.proofs.Common.{◌≡◌, ℕ, zero, suc, ◌<◌, Bool, true, false, ◌==◌, cond, List, [], ◌∷◌, ◌++◌, length, Option, Some, None, IsSome, refl, ap, ap₂, sym, ◌∙◌, subst, ◌⊎◌, inl, inr, arith}
+use Rattle.std.proofs.Common.{◌≡◌, ℕ, zero, suc, ◌<◌, Bool, true, false, ◌==◌, cond, List, [], ◌∷◌, ◌++◌, length, Option, Some, None, IsSome, refl, ap, ap₂, sym, ◌∙◌, subst, inl, inr, arith}
 use Rattle.std.specs.Prelude.{slice_get, option_map, option_and_then, if◌then◌else◌}
 use Rattle.std.specs.Option.{option_or}
 use Rattle.hare_types.specs.declared.coercion.Ty.{Ty}
 use Rattle.hare_types.specs.declared.coercion.Ty.TheVariants as ty
-use Rattle.hare_types.specs.declared.row.Row.{Row}
-use Rattle.hare_types.specs.Trees.{Tree, Trees, Union, EachTree, more}
+use Rattle.hare_types.specs.Trees.{Tree, EachTree, more}
 use Rattle.hare_types.specs.Rows.{AllBelow}
 use Rattle.hare_types.specs.Store.{Store}
 use Rattle.hare_types.specs.Sound.{IsStore}
 use Rattle.hare_types.specs.Later.{IsLater, KeepsTypes}
 use Rattle.hare_types.specs.ByIds.{row_at, base_at, members_of, members_at}
-use Rattle.hare_types.specs.Assign.{Value, IsIn, type_at, value_at, base, how_many, only_one, is_same, is_never, is_const, is_wider, is_pointer, is_null, is_slice, is_name, is_union, is_lone, first_from, table, first_row, coercion}
+use Rattle.hare_types.specs.Assign.{Value, IsIn, type_at, value_at, base, how_many, is_same, is_never, is_const, is_wider, is_pointer, is_null, is_slice, is_name, is_union, is_lone, first_from, table, first_row, coercion}
 use Rattle.hare_types.proofs.IdLemmas.{base_tells}
 use Rattle.hare_types.proofs.LaterLemmas as laters
 use Rattle.hare_types.proofs.MeaningsLemmas.{ids_mean_trees}
