@@ -28,6 +28,7 @@ pub mod Sequence
 pub mod Evaluated
 pub mod ConstantForms
 pub mod ConstantValues
+pub mod Folded
 pub mod Alike
 pub mod Quiet
 pub mod Followed

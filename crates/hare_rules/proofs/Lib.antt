@@ -1,0 +1,13 @@
+mod Worked
+mod OperatorRows
+mod AggregateRows
+mod ControlRows
+mod TypeRows
+mod LiteralRows
+mod SwitchRows
+mod LengthRows
+mod DeclarationRows
+mod OrderRows
+mod BodyRows
+mod CoverLemmas
+mod SwitchLemmas
