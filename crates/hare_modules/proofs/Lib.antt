@@ -1,0 +1,12 @@
+pub mod Trees
+pub mod ListLemmas
+pub mod SpelledLemmas
+pub mod TableLemmas
+pub mod CollectLemmas
+pub mod FirstLemmas
+pub mod OrderLemmas
+pub mod CircleLemmas
+pub mod NumberLemmas
+pub mod SourceLemmas
+pub mod TellsLemmas
+pub mod FloodLemmas

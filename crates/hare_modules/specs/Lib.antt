@@ -1,0 +1,16 @@
+pub mod Order
+pub mod Tables
+pub mod Modules
+pub mod Uses
+pub mod Declarations
+pub mod Entries
+pub mod Admitted
+pub mod Repeated
+pub mod Graphs
+pub mod Takings
+pub mod Taken
+pub mod Circles
+pub mod Numbering
+pub mod CirclesIn
+pub mod Faults
+pub mod Directory

@@ -1,0 +1,56 @@
+//! Tables from names to values, of which the first that is put under a name stays.
+
+ghost use Rattle.std.specs.Prelude.{◌≡◌, [], IfOk, OnOk, OnErr};
+ghost use Rattle.hare_modules.specs.Tables as spec;
+
+use indexmap::IndexMap;
+use std::alloc::{AllocError, Global};
+use std::marker::Model;
+
+/// A table from names to values. A name keeps the first value that is put under it.
+///
+/// A look-up takes constant expected time.
+#[derive(Drop)]
+pub struct Table<T> {
+    entries: IndexMap<Vec<u8>, T>,
+}
+
+impl<T> Model for Table<T> {
+    ghost use Rattle.std.specs.Prelude.{List, ℕ, map};
+
+    ghost Value = { List (List ℕ × T) };
+
+    ghost view = { λ a. map (λ e. (e.0.items, e.1)) a.entries.entries };
+}
+
+impl<T: Copy> Table<T> {
+    /// An empty table. Takes no memory.
+    pub fn new(alloc: Global) -> Table<T>
+        ensures { result ≡ [] }
+    {
+        Table {
+            entries: IndexMap::new(alloc),
+        }
+    }
+
+    /// The value under a name, if there is one.
+    pub fn get(&self, name: &[u8]) -> Option<T>
+        ensures { result ≡ spec.value_of name.now self.now }
+    {
+        self.entries.get(name).copied()
+    }
+
+    /// Puts a value under a name that has none. Nothing changes where it has one, or where memory is short.
+    pub fn put(&mut self, name: &[u8], value: T) -> Result<(), AllocError>
+        ensures ok { OnOk result (self.new ≡ spec.put self.old name.now value) }
+        ensures err { OnErr result (self.new ≡ self.old) }
+    {
+        if self.get(name).is_some() {
+            return Ok(());
+        }
+        let mut key = Vec::new(*self.entries.allocator());
+        key.extend_from_slice(name)?;
+        self.entries.insert(key, value)?;
+        Ok(())
+    }
+}
