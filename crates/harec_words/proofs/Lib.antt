@@ -1,0 +1,5 @@
+pub mod CommandLemmas
+pub mod DigitLemmas
+pub mod ListLemmas
+pub mod MeantLemmas
+pub mod PathLemmas
