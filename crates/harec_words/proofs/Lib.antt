@@ -1,5 +1,11 @@
 pub mod CommandLemmas
 pub mod DigitLemmas
+mod ExecRows
+mod FaultRows
+mod FileRows
+mod LimitRows
 pub mod ListLemmas
 pub mod MeantLemmas
 pub mod PathLemmas
+mod RunRows
+pub mod Worked

@@ -8,11 +8,13 @@ use Rattle.harec_words.specs.Spans.{meant}
 use Rattle.harec_words.proofs.CommandLemmas.{reads, tells}
 use Rattle.std.proofs.lemmas.Option.{same_Some}
 
-pub found_is : (words : List (List ℕ)) (r : Option Command) → option_map (meant words) r ≡ command_in words → IfSome r (λ c. IsCommand words (meant words c))
+pub found_is : (words : List (List ℕ)) (r : Option Command) → option_map (meant words) r ≡ command_in words →
+    IfSome r (λ c. IsCommand words (meant words c))
 found_is words None e = _
 found_is words (Some c) e = reads words (meant words c) (sym e)
 
-pub found_only : (words : List (List ℕ)) (r : Option Command) → option_map (meant words) r ≡ command_in words → (c : spec.Command) → IsCommand words c → MatchOption r ⊥ (λ found. meant words found ≡ c)
+pub found_only : (words : List (List ℕ)) (r : Option Command) → option_map (meant words) r ≡ command_in words → (c : spec.Command) →
+    IsCommand words c → MatchOption r ⊥ (λ found. meant words found ≡ c)
 found_only words None e c h = let some = e ∙ tells words c h in absurd cc
 found_only words (Some found) e c h = same_Some _ _ (e ∙ tells words c h)
 

@@ -1,12 +1,12 @@
 -- Paths of files, and the words that name files.
-use Rattle.std.proofs.Common.{◌≡◌, ℕ, ◌+◌, ◌<◌, ◌≤◌, List, [], ◌∷◌, ◌++◌, Bool, true, false, cond, ◌&&◌, ◌||◌, length, take, drop, position, Some, None, get_or, refl, sym, ap, subst, ◌∙◌, arith, append_assoc, append-nil, codes, inl, inr, ◌⊎◌, ◌==◌, nat_lt, nat_le, nat_eq}
+use Rattle.std.proofs.Common.{◌≡◌, ℕ, ◌+◌, ◌<◌, List, [], ◌∷◌, ◌++◌, Bool, true, false, cond, ◌&&◌, ◌||◌, length, take, drop, position, Some, None, refl, sym, ap, subst, ◌∙◌, arith, append_assoc, append-nil, codes, inl, inr, ◌⊎◌, nat_lt, nat_le, nat_eq}
 use Rattle.std.specs.Bool.{Decides}
 use Rattle.std.specs.List.{slice_split, onto_first, position_or_len, before_first, after_first, All, Contains, list_all, starts_with}
 use Rattle.std.proofs.lemmas.List.Splits.{slice_split_none, slice_split_at, slice_split_first}
 use Rattle.std.proofs.lemmas.List.Elements.{All-nil, All-cons, All-head, All-tail, All-weaker, All-push, All-contains, All-contains_itself}
 use Rattle.std.proofs.lemmas.List.Sums.{fails_before_first, AllPass-from_list_all}
 use Rattle.std.proofs.lemmas.Bool.{ltb-true, ltb-false, and_parts, and_from, eqb-true, ne_eqb, leb-true, leb-false, false_from_ne_true, or_left, and_left, true≢false, false≢true}
-use Rattle.std.proofs.lemmas.Bool.Decides.{Decides-eqb, Decides-by_and}
+use Rattle.std.proofs.lemmas.Bool.Decides.{Decides-eqb}
 use Rattle.std.proofs.lemmas.Slice.Eq.{ends_is, starts_is}
 use Rattle.hare_tree.specs.Words.{is_word, is_word_byte, is_letter, is_listed, keywords, is_left_out}
 use Rattle.hare_tree.specs.Levels.{is_name}
@@ -40,10 +40,12 @@ are_parts-split d s = are_parts-cons d (slice_split is_slash s) (some_part s)
 pub is_path-there : (s : List ℕ) (n : ℕ) → Some n ≡ position is_slash s → is_path s ≡ (is_name false (take n s) && is_path (drop (n + 1) s))
 is_path-there s n e = by (nat_lt (position_or_len is_slash s) (length s)) refl e
   where
-    by : (b : Bool) → nat_lt (position_or_len is_slash s) (length s) ≡ b → Some n ≡ cond b (Some (position_or_len is_slash s)) None → is_path s ≡ (is_name false (take n s) && is_path (drop (n + 1) s))
+    by : (b : Bool) → nat_lt (position_or_len is_slash s) (length s) ≡ b → Some n ≡ cond b (Some (position_or_len is_slash s)) None →
+        is_path s ≡ (is_name false (take n s) && is_path (drop (n + 1) s))
     by true h k =
         let m : n ≡ position_or_len is_slash s = cc in
-        rw m (ap are_parts (slice_split_first is_slash s 0 (ltb-true _ _ h)) ∙ are_parts-split (before_first is_slash s) (after_first is_slash s))
+        let cut = ap are_parts (slice_split_first is_slash s 0 (ltb-true _ _ h)) in
+        rw m (cut ∙ are_parts-split (before_first is_slash s) (after_first is_slash s))
     by false h k = absurd cc
 
 -- a path without a slash is a file's own name
@@ -53,7 +55,8 @@ flat_split s h = ap are_parts (slice_split_none is_slash s h)
 pub is_path-none : (s : List ℕ) → None ≡ position is_slash s → is_path s ≡ ends_in_ha s
 is_path-none s e = by (nat_lt (position_or_len is_slash s) (length s)) refl e
   where
-    by : (b : Bool) → nat_lt (position_or_len is_slash s) (length s) ≡ b → None ≡ cond b (Some (position_or_len is_slash s)) None → is_path s ≡ ends_in_ha s
+    by : (b : Bool) → nat_lt (position_or_len is_slash s) (length s) ≡ b → None ≡ cond b (Some (position_or_len is_slash s)) None →
+        is_path s ≡ ends_in_ha s
     by true h k = absurd cc
     by false h k = flat_split s (λ i d l. let m = ltb-false _ _ h in fails_before_first is_slash s i d (omega (arith, m)))
 
@@ -68,7 +71,8 @@ word_flat [] h = absurd cc
 word_flat (c ∷ s) h =
     let parts = and_parts (is_letter c) (list_all is_word_byte s) h in
     let first : is_word_byte c ≡ true = or_left (is_letter c) _ parts.0 in
-    All-cons IsFlat c s (word_byte_flat c first) (All-weaker (λ c. is_word_byte c ≡ true) IsFlat word_byte_flat s (AllPass-from_list_all is_word_byte s parts.1))
+    let others = AllPass-from_list_all is_word_byte s parts.1 in
+    All-cons IsFlat c s (word_byte_flat c first) (All-weaker (λ c. is_word_byte c ≡ true) IsFlat word_byte_flat s others)
 
 pub name_flat : (d : List ℕ) → IsName d → All IsFlat d
 name_flat d h = word_flat d (by (is_listed keywords d || is_left_out false d) h)
@@ -81,7 +85,8 @@ name_flat d h = word_flat d (by (is_listed keywords d || is_left_out false d) h)
 pub directory_less : (s : List ℕ) (n : ℕ) → Some n ≡ position is_slash s → is_name false (take n s) ≡ false → false ≡ is_path s
 directory_less s n e h = sym (is_path-there s n e ∙ and_left _ _ h)
 
-pub directory_more : (s s' : List ℕ) (n : ℕ) → Some n ≡ position is_slash s → is_name false (take n s) ≡ true → s' ≡ drop (n + 1) s → is_path s' ≡ is_path s
+pub directory_more : (s s' : List ℕ) (n : ℕ) → Some n ≡ position is_slash s → is_name false (take n s) ≡ true → s' ≡ drop (n + 1) s →
+    is_path s' ≡ is_path s
 directory_more s s' n e h k = ap is_path k ∙ sym (is_path-there s n e ∙ ap (λ b. b && is_path (drop (n + 1) s)) h)
 
 -- ---- files
@@ -144,7 +149,9 @@ read_is [] part flat h = record {
 }
 read_is (c ∷ s) part flat h = by (λ q f k. read_is s q f k) (is_slash c) refl h
   where
-    by : ((q : List ℕ) → All IsFlat q → are_parts (onto q (slice_split is_slash s)) ≡ true → IsPath (q ++ s)) → (b : Bool) → is_slash c ≡ b → are_parts (onto part (cond b ([] ∷ slice_split is_slash s) (onto_first c (slice_split is_slash s)))) ≡ true → IsPath (part ++ c ∷ s)
+    by : ((q : List ℕ) → All IsFlat q → are_parts (onto q (slice_split is_slash s)) ≡ true → IsPath (q ++ s)) → (b : Bool) →
+        is_slash c ≡ b → are_parts (onto part (cond b ([] ∷ slice_split is_slash s) (onto_first c (slice_split is_slash s)))) ≡ true →
+        IsPath (part ++ c ∷ s)
     by read true e k =
         let at : c ≡ 47 = eqb-true c 47 e in
         let parts = and_parts (is_name false part) (is_path s) (sym (are_parts-split part s) ∙ (rw append-nil at k)) in
@@ -152,12 +159,14 @@ read_is (c ∷ s) part flat h = by (λ q f k. read_is s q f k) (is_slash c) refl
         rw at (behind_directory part s parts.0 rest)
     by read false e k =
         let more : All IsFlat (part ++ c ∷ []) = All-push IsFlat part c flat e in
-        subst IsPath (append_assoc part (c ∷ []) s) (read (part ++ c ∷ []) more (ap are_parts (sym (onto-first part c (slice_split is_slash s))) ∙ k))
+        let parts = ap are_parts (sym (onto-first part c (slice_split is_slash s))) in
+        subst IsPath (append_assoc part (c ∷ []) s) (read (part ++ c ∷ []) more (parts ∙ k))
 
 pub path_decides : (path : List ℕ) → Decides (is_path path) (IsPath path)
-path_decides path =
-    (λ h. read_is path [] (All-nil IsFlat) (ap are_parts (onto-nil (slice_split is_slash path) (some_part path)) ∙ h),
-    λ p. rw p.spells (spelled_is p.directories p.own p.named p.file))
+path_decides path = (
+  λ h. read_is path [] (All-nil IsFlat) (ap are_parts (onto-nil (slice_split is_slash path) (some_part path)) ∙ h),
+  λ p. rw p.spells (spelled_is p.directories p.own p.named p.file),
+)
 
 -- ---- words
 
@@ -165,23 +174,32 @@ path_decides path =
 dotted_no_path : (rest : List ℕ) → IsPath (codes "./" ++ rest) → ⊥
 dotted_no_path rest p = false≢true (sym (are_parts-split (46 ∷ []) rest) ∙ (path_decides (codes "./" ++ rest)).1 p)
 
-dot_decides : (word : List ℕ) → Decides (is_path (without_dot word)) ((path : List ℕ) × ((word ≡ path) ⊎ (word ≡ codes "./" ++ path)) × IsPath path)
-dot_decides word = by (starts_with nat_eq word (codes "./")) (starts_is Decides-eqb word (codes "./") (starts_with nat_eq word (codes "./")) refl)
+dot_decides : (word : List ℕ) →
+    Decides (is_path (without_dot word)) ((path : List ℕ) × ((word ≡ path) ⊎ (word ≡ codes "./" ++ path)) × IsPath path)
+dot_decides word =
+    by (starts_with nat_eq word (codes "./")) (starts_is Decides-eqb word (codes "./") (starts_with nat_eq word (codes "./")) refl)
   where
-    by : (b : Bool) → ((b ≡ true → word ≡ codes "./" ++ drop 2 word) × ((rest : List ℕ) → word ≡ codes "./" ++ rest → b ≡ true)) → Decides (is_path (cond b (drop 2 word) word)) ((path : List ℕ) × ((word ≡ path) ⊎ (word ≡ codes "./" ++ path)) × IsPath path)
+    by : (b : Bool) → ((b ≡ true → word ≡ codes "./" ++ drop 2 word) × ((rest : List ℕ) → word ≡ codes "./" ++ rest → b ≡ true)) →
+        Decides (is_path (cond b (drop 2 word) word)) ((path : List ℕ) × ((word ≡ path) ⊎ (word ≡ codes "./" ++ path)) × IsPath path)
     by true h =
-        let dotted : word ≡ codes "./" ++ drop 2 word = h.0 refl in
-        (λ k. (drop 2 word, inr dotted, (path_decides (drop 2 word)).0 k),
-        λ (path, at, p). elim at [ inl e ↦ absurd (dotted_no_path (drop 2 word) (subst IsPath (sym e ∙ dotted) p)) | inr e ↦ (path_decides (drop 2 word)).1 (subst IsPath (sym (ap (λ w. drop 2 w) e)) p) ])
-    by false h =
-        (λ k. (word, inl refl, (path_decides word).0 k),
-        λ (path, at, p). elim at [ inl e ↦ (path_decides word).1 (subst IsPath (sym e) p) | inr e ↦ absurd (false≢true (h.1 path e)) ])
+        let dotted : word ≡ codes "./" ++ drop 2 word = h.0 refl in (
+          λ k. (drop 2 word, inr dotted, (path_decides (drop 2 word)).0 k),
+          λ (path, at, p). elim at [
+            | inl e ↦ absurd (dotted_no_path (drop 2 word) (subst IsPath (sym e ∙ dotted) p))
+            | inr e ↦ (path_decides (drop 2 word)).1 (subst IsPath (sym (ap (λ w. drop 2 w) e)) p)
+          ],
+        )
+    by false h = (
+      λ k. (word, inl refl, (path_decides word).0 k),
+      λ (path, at, p). elim at [ inl e ↦ (path_decides word).1 (subst IsPath (sym e) p) | inr e ↦ absurd (false≢true (h.1 path e)) ],
+    )
 
 pub file_decides : (word : List ℕ) → Decides (is_file word) (IsFile word)
 file_decides word = by (nat_le (length word) 1024) refl
   where
     by : (b : Bool) → nat_le (length word) 1024 ≡ b → Decides (cond b (is_path (without_dot word)) false) (IsFile word)
-    by true e =
-        (λ k. let f = (dot_decides word).0 k in record { within = leb-true _ _ e; path = f.0; dotted = f.1; relative = f.2 },
-        λ f. (dot_decides word).1 (f.path, f.dotted, f.relative))
+    by true e = (
+      λ k. let f = (dot_decides word).0 k in record { within = leb-true _ _ e; path = f.0; dotted = f.1; relative = f.2 },
+      λ f. (dot_decides word).1 (f.path, f.dotted, f.relative),
+    )
     by false e = (λ k. absurd cc, λ f. let m = leb-false _ _ e in let n = f.within in absurd (omega (arith, m, n)))

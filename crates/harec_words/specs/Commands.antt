@@ -84,7 +84,8 @@ default_units = 1000000000
 
 -- what stands in front of what is run: nothing, or `--units` and a number
 abbrev pub Limits : List (List ℕ) → ℕ → Type 0
-Limits front units = ((front ≡ []) × (units ≡ default_units)) ⊎ ((word : List ℕ) × (front ≡ codes "--units" ∷ word ∷ []) × IsUnits word units)
+Limits front units =
+    ((front ≡ []) × (units ≡ default_units)) ⊎ ((word : List ℕ) × (front ≡ codes "--units" ∷ word ∷ []) × IsUnits word units)
 
 -- what stands behind it: nothing, or `--` and the arguments
 abbrev pub Brings : List (List ℕ) → List (List ℕ) → Type 0

@@ -7,20 +7,23 @@ use Rattle.std.specs.Fmt.{decimal}
 -- the faults of the language, E1 to E49
 abbrev pub language_faults : List (List ℕ)
 language_faults =
-    codes "FileTooLarge" ∷ codes "SourcesTooLarge" ∷ codes "NotUtf8" ∷ codes "BadByte" ∷ codes "BadEscape" ∷ codes "Unterminated" ∷ codes "NumberTooLarge"
-    ∷ codes "Syntax" ∷ codes "TooDeep" ∷ codes "LeftOut" ∷ codes "UnknownModule" ∷ codes "Duplicate" ∷ codes "Unknown" ∷ codes "NotExported"
-    ∷ codes "UnknownMember" ∷ codes "ModuleCycle" ∷ codes "InfiniteType" ∷ codes "TypeTooLarge" ∷ codes "EmptyUnion" ∷ codes "UnionTooWide"
-    ∷ codes "NotConstant" ∷ codes "OutOfRange" ∷ codes "ConstantCycle" ∷ codes "BadLength" ∷ codes "NotAssignable" ∷ codes "NotCastable"
-    ∷ codes "OperandMismatch" ∷ codes "NotAPlace" ∷ codes "NotMutable" ∷ codes "WrongArity" ∷ codes "NotCallable" ∷ codes "NoField" ∷ codes "NotIndexable"
-    ∷ codes "Fields" ∷ codes "NotTagged" ∷ codes "NotMember" ∷ codes "NotExhaustive" ∷ codes "DuplicateCase" ∷ codes "BranchMismatch" ∷ codes "BadLabel"
-    ∷ codes "DeferEscape" ∷ codes "NoErrorMember" ∷ codes "ErrorNotReturned" ∷ codes "ErrorDropped" ∷ codes "MissingReturn" ∷ codes "MainShape"
+    codes "FileTooLarge" ∷ codes "SourcesTooLarge" ∷ codes "NotUtf8" ∷ codes "BadByte" ∷ codes "BadEscape"
+    ∷ codes "Unterminated" ∷ codes "NumberTooLarge" ∷ codes "Syntax" ∷ codes "TooDeep" ∷ codes "LeftOut"
+    ∷ codes "UnknownModule" ∷ codes "Duplicate" ∷ codes "Unknown" ∷ codes "NotExported" ∷ codes "UnknownMember"
+    ∷ codes "ModuleCycle" ∷ codes "InfiniteType" ∷ codes "TypeTooLarge" ∷ codes "EmptyUnion" ∷ codes "UnionTooWide"
+    ∷ codes "NotConstant" ∷ codes "OutOfRange" ∷ codes "ConstantCycle" ∷ codes "BadLength" ∷ codes "NotAssignable"
+    ∷ codes "NotCastable" ∷ codes "OperandMismatch" ∷ codes "NotAPlace" ∷ codes "NotMutable" ∷ codes "WrongArity"
+    ∷ codes "NotCallable" ∷ codes "NoField" ∷ codes "NotIndexable" ∷ codes "Fields" ∷ codes "NotTagged" ∷ codes "NotMember"
+    ∷ codes "NotExhaustive" ∷ codes "DuplicateCase" ∷ codes "BranchMismatch" ∷ codes "BadLabel" ∷ codes "DeferEscape"
+    ∷ codes "NoErrorMember" ∷ codes "ErrorNotReturned" ∷ codes "ErrorDropped" ∷ codes "MissingReturn" ∷ codes "MainShape"
     ∷ codes "FrameTooLarge" ∷ codes "ProgramTooLarge" ∷ codes "NotBuilt" ∷ []
 
 -- the faults of a text of the intermediate language, I1 to I13
 abbrev pub text_faults : List (List ℕ)
 text_faults =
-    codes "TooLarge" ∷ codes "BadByte" ∷ codes "Syntax" ∷ codes "LeftOut" ∷ codes "Duplicate" ∷ codes "UnknownLabel" ∷ codes "UnknownTemporary"
-    ∷ codes "ClassMismatch" ∷ codes "UnknownSymbol" ∷ codes "PhiPlace" ∷ codes "JumpToStart" ∷ codes "NumberRange" ∷ codes "NotPrinted" ∷ []
+    codes "TooLarge" ∷ codes "BadByte" ∷ codes "Syntax" ∷ codes "LeftOut" ∷ codes "Duplicate" ∷ codes "UnknownLabel"
+    ∷ codes "UnknownTemporary" ∷ codes "ClassMismatch" ∷ codes "UnknownSymbol" ∷ codes "PhiPlace" ∷ codes "JumpToStart"
+    ∷ codes "NumberRange" ∷ codes "NotPrinted" ∷ []
 
 -- the name with this number, counted from 1
 abbrev pub numbered : List (List ℕ) → ℕ → Option (List ℕ)

@@ -1,5 +1,5 @@
 -- What is found behind the name of a command that runs something. No public clause cites this file.
-use Rattle.std.specs.Prelude.{◌≡◌, ℕ, ◌≤◌, List, length, drop, Some}
+use Rattle.std.specs.Prelude.{◌≡◌, ℕ, List, length, drop, Some}
 use Rattle.harec_words.specs.declared.reading.Parts.{Parts}
 use Rattle.harec_words.specs.Reading.{units_in, named_in, args_in}
 use Rattle.harec_words.specs.Spans.{words_at, IsWithin}

@@ -1,5 +1,5 @@
 -- What a command that names words by their places means.
-use Rattle.std.specs.Prelude.{ℕ, List, ◌≤◌, length, slice_range}
+use Rattle.std.specs.Prelude.{ℕ, List, ◌≤◌, slice_range}
 use Rattle.harec_words.specs.declared.command.Span.{Span}
 use Rattle.harec_words.specs.declared.command.Command.{Command}
 use Rattle.harec_words.specs.declared.command.Command.TheVariants.{Check, Emit, Run, Exec}

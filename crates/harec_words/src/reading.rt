@@ -20,6 +20,7 @@ const MOST_FILES: usize = 65_536;
 
 /// The most arguments, and the most bytes that they have together.
 const MOST_ARGUMENTS: usize = 1_048_576;
+
 const MOST_ARGUMENT_BYTES: usize = 1 << 30;
 
 /// What stands behind the name of a command that runs something.
