@@ -1,0 +1,3 @@
+pub mod Inferred
+pub mod Lacking
+pub mod Laws
