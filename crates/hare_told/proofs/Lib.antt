@@ -1,0 +1,4 @@
+pub mod Steps
+pub mod Labels
+pub mod Yields
+pub mod Verdicts

@@ -1,0 +1,6 @@
+//! What a judge is told of a node is enough to judge it.
+#![tactic(auto)]
+
+mod laws;
+
+pub use laws::law_told_is_enough;
