@@ -8,9 +8,10 @@ use Rattle.hare_typed.specs.Typed.{TypedNode, TypedNodes, marked, typed_none, ty
 use Rattle.hare_typed.specs.Erased.{erase, erase_each}
 use Rattle.hare_typed.specs.Order.{check_order, check_order_each}
 use Rattle.hare_typed.specs.Numbers.{number_of, numbers_from}
+use Rattle.hare_typed.specs.Coats.{coat, coat_each}
 use Rattle.hare_rules.specs.Context.{Setting}
 use Rattle.hare_rules.specs.Above.{Above, over_kid}
-use Rattle.hare_rules.specs.Flow.{Flow, context, flow_before, coat, coat_each}
+use Rattle.hare_rules.specs.Flow.{Flow, context, flow_before}
 use Rattle.hare_rules.specs.Settles.{same}
 use Rattle.hare_rules.specs.Finished.{coercions, bare, bare_each, behind, behind_each, Carries, AllCarry, EachCarries}
 use Rattle.hare_inference.proofs.Orders.{numbered}

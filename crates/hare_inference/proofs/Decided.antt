@@ -9,9 +9,10 @@ use Rattle.hare_typed.specs.Typed.{TypedNode}
 use Rattle.hare_typed.specs.Erased.{erase}
 use Rattle.hare_typed.specs.Order.{check_order}
 use Rattle.hare_rules.specs.declared.row_id.RowId.{RowId}
+use Rattle.hare_typed.specs.Coats.{coat}
 use Rattle.hare_rules.specs.Context.{Setting, Context}
 use Rattle.hare_rules.specs.Above.{Above, trees_in}
-use Rattle.hare_rules.specs.Flow.{Flow, count, coat, all_settled}
+use Rattle.hare_rules.specs.Flow.{Flow, count, all_settled}
 use Rattle.hare_rules.specs.Rows.{fault_of}
 use Rattle.hare_rules.specs.Finished.{bare, behind, coercions, IsWell, FailsIn, IsTheTree, IsTheFault, expression}
 use Rattle.hare_inference.specs.Inferred.{Reason, Fails, Lacks, Found, found, infer}

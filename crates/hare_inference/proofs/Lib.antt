@@ -5,3 +5,4 @@ pub mod Carried
 pub mod Found
 pub mod Decided
 pub mod Numbered
+pub mod Hands

@@ -8,10 +8,11 @@ use Rattle.hare_typed.specs.Erased.{erase, erase_each}
 use Rattle.hare_typed.specs.Order.{check_order}
 use Rattle.hare_typed.specs.Numbers.{number_of, numbers_from}
 use Rattle.hare_rules.specs.declared.row_id.RowId.{RowId}
+use Rattle.hare_typed.specs.Coats.{coat}
 use Rattle.hare_rules.specs.Context.{Setting, Context}
 use Rattle.hare_rules.specs.Above.{Above, over_kid, trees_in, number_above}
 use Rattle.hare_rules.specs.Settles.{Settled}
-use Rattle.hare_rules.specs.Flow.{Flow, count, coat, all_settled}
+use Rattle.hare_rules.specs.Flow.{Flow, count, all_settled}
 use Rattle.hare_rules.specs.Rows.{fault_of}
 use Rattle.hare_rules.specs.Finished.{bare, bare_each, behind, behind_each, AllCarry, IsWell, FailsIn, IsTheTree, IsTheFault, expression}
 use Rattle.hare_inference.specs.Inferred.{Fails, Lacks, found, infer}

@@ -1,3 +1,4 @@
 pub mod Inferred
 pub mod Lacking
 pub mod Laws
+pub mod Hands

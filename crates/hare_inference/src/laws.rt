@@ -1,5 +1,6 @@
 //! What holds of well-typed trees and of first faults, whoever looks for them.
 
+ghost use Rattle.hare_inference.specs.Hands.{JudgedTreesStay};
 ghost use Rattle.hare_inference.specs.Laws.{CoercionsAreSettled, InferenceIsExact, NumbersAreOrder, OneFault, OneTree, TreeOrFault};
 
 /// Over any store, and whatever stands over it, an untyped tree is that of at most one well-typed tree.
@@ -35,4 +36,10 @@ pub fn law_numbers_are_order()
 #[tactic(auto, using(crate::proofs::Numbered::settled))]
 pub fn law_coercions_are_settled()
     ensures { CoercionsAreSettled }
+{}
+
+/// While a tree is judged, nothing is settled of trees that have been judged before.
+#[tactic(auto, using(crate::proofs::Hands::trees_stay))]
+pub fn law_judged_trees_stay()
+    ensures { JudgedTreesStay }
 {}

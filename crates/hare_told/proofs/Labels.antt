@@ -38,7 +38,8 @@ find-map : {A B : Type 0} (f : A → B) (p : B → Bool) (q : A → Bool) (xs : 
 find-map f p q [] h = refl
 find-map f p q (x ∷ xs) h = rw (h x) (found-map f x (q x) (find p (map f xs)) (find q xs) (find-map f p q xs h))
 
-nearest-blanks : (p : Open → Bool) (ls : List Open) → ((l : Open) → p (blank l) ≡ p l) → nearest p (map blank ls) ≡ option_map blank (nearest p ls)
+nearest-blanks : (p : Open → Bool) (ls : List Open) → ((l : Open) → p (blank l) ≡ p l) →
+    nearest p (map blank ls) ≡ option_map blank (nearest p ls)
 nearest-blanks p ls h = ap (find p) (reverse-map blank ls) ∙ find-map blank p p (reverse ls) h
 
 loop_meant-blanks : (name : List ℕ) (ls : List Open) → loop_meant name (map blank ls) ≡ option_map blank (loop_meant name ls)
@@ -64,12 +65,16 @@ asks_value _ = false
 
 pub holds-blanks : (r : RowId) (c : Context) → asks_value r ≡ false → holds r (with_blanks c) ≡ holds r c
 holds-blanks row.YieldNoValue c e = cc
-holds-blanks row.JumpTarget c e = ap is_some (loop_meant-blanks c.head.text c.inside.labels) ∙ is_some-map blank (loop_meant c.head.text c.inside.labels)
+holds-blanks row.JumpTarget c e = ap is_some (loop_meant-blanks c.head.text c.inside.labels)
+    ∙ is_some-map blank (loop_meant c.head.text c.inside.labels)
 holds-blanks row.JumpInside c e =
-    ap (is_inside c.inside) (loop_meant-blanks c.head.text c.inside.labels) ∙ is_inside-blank c.inside (loop_meant c.head.text c.inside.labels)
-holds-blanks row.YieldTarget c e = ap is_some (block_meant-blanks c.head.text c.inside.labels) ∙ is_some-map blank (block_meant c.head.text c.inside.labels)
+    ap (is_inside c.inside) (loop_meant-blanks c.head.text c.inside.labels)
+        ∙ is_inside-blank c.inside (loop_meant c.head.text c.inside.labels)
+holds-blanks row.YieldTarget c e = ap is_some (block_meant-blanks c.head.text c.inside.labels)
+    ∙ is_some-map blank (block_meant c.head.text c.inside.labels)
 holds-blanks row.YieldInside c e =
-    ap (is_inside c.inside) (block_meant-blanks c.head.text c.inside.labels) ∙ is_inside-blank c.inside (block_meant c.head.text c.inside.labels)
+    ap (is_inside c.inside) (block_meant-blanks c.head.text c.inside.labels)
+        ∙ is_inside-blank c.inside (block_meant c.head.text c.inside.labels)
 holds-blanks _ c e = refl
 
 pub stands-blanks : (r : RowId) (c : Context) → stands r (with_blanks c) ≡ stands r c

@@ -34,7 +34,8 @@ mutual
   is_mutable-named : (w : Setting) (ls : List Entry) (t : TypedNode) → is_mutable (without_names w) ls t ≡ is_mutable w ls t
   is_mutable-named w ls (marked h m ts) = ap (place_by w.store h.kind (means_mutable w ls m.meaning) ts) (is_first_mutable-named w ls ts)
 
-  is_first_mutable-named : (w : Setting) (ls : List Entry) (ts : TypedNodes) → is_first_mutable (without_names w) ls ts ≡ is_first_mutable w ls ts
+  is_first_mutable-named : (w : Setting) (ls : List Entry) (ts : TypedNodes) →
+      is_first_mutable (without_names w) ls ts ≡ is_first_mutable w ls ts
   is_first_mutable-named w ls typed_none = refl
   is_first_mutable-named w ls (typed_more t ts) = is_mutable-named w ls t
 

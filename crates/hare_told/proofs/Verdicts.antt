@@ -55,7 +55,8 @@ is_bound-judge Length e = cc
 abbrev ordinary : Context → Context
 ordinary c = record c { inside = record c.inside { role = Ordinary } }
 
-holds-ordinary : (r : RowId) (c : Context) → has_judge c.inside.role ≡ true → type_of (ordinary c) ≡ type_of c → holds r (ordinary c) ≡ holds r c
+holds-ordinary : (r : RowId) (c : Context) → has_judge c.inside.role ≡ true → type_of (ordinary c) ≡ type_of c →
+    holds r (ordinary c) ≡ holds r c
 holds-ordinary row.Bound c h t = rw (is_bound-judge c.inside.role h) refl
 holds-ordinary row.Site c h t = ap (fits_hint (store_of c) c.hint) t
 holds-ordinary row.Kept c h t = ap (may_drop (store_of c) c.hint) t
@@ -124,7 +125,8 @@ seen ls ys c = ordinary (with_told ys (plain ls c))
 
 type-plain : (ls : List Local) (c : Context) → AreToldEntries c.locals ls → IsKnownPath c →
     type_by (plain ls c) c.head.kind ≡ type_by c c.head.kind
-type-plain ls c h k = type_by-known c.head.kind ls (with_blanks (unnamed c)) h k ∙ type_by-blanks c.head.kind (unnamed c) ∙ type_by-unnamed c.head.kind c
+type-plain ls c h k = type_by-known c.head.kind ls (with_blanks (unnamed c)) h k ∙ type_by-blanks c.head.kind (unnamed c)
+    ∙ type_by-unnamed c.head.kind c
 
 type-seen : (ls : List Local) (ys : List Yielded) (c : Context) → AreToldEntries c.locals ls → AreToldYields (store_of c) c.yields ys →
     IsKnownPath c → has_judge c.inside.role ≡ true → type_of (seen ls ys c) ≡ type_of c
@@ -138,7 +140,8 @@ type-each ls c h k r =
     ∙ type_by-known c.head.kind ls (with_blanks (unnamed c)) h k
     ∙ sym (type_in_role-judge (with_blanks (unnamed c)) c.inside.role r)
 
-type-yields : (ls : List Local) (ys : List Yielded) (c : Context) → AreToldYields (store_of c) c.yields ys → has_judge c.inside.role ≡ true →
+type-yields : (ls : List Local) (ys : List Yielded) (c : Context) → AreToldYields (store_of c) c.yields ys →
+    has_judge c.inside.role ≡ true →
     type_of (with_told ys (plain ls c)) ≡ type_of (plain ls c)
 type-yields ls ys c y r =
     type_in_role-judge (with_told ys (plain ls c)) c.inside.role r
@@ -165,7 +168,8 @@ holds-behind r ls ys c q e =
     ∙ holds-told r ys (plain ls c) q.yields q.taken (type-yields ls ys c q.yields q.role)
     ∙ holds-locals r ls (with_blanks (unnamed c)) q.locals (type-each ls c q.locals q.path q.role) e
 
-holds-seen : (r : RowId) (ls : List Local) (ys : List Yielded) (c : Context) → IsAsked c ls ys → asks_binding r ≡ false → asks_value r ≡ false →
+holds-seen : (r : RowId) (ls : List Local) (ys : List Yielded) (c : Context) → IsAsked c ls ys → asks_binding r ≡ false →
+    asks_value r ≡ false →
     holds r (seen ls ys c) ≡ holds r c
 holds-seen r ls ys c q e d = holds-behind r ls ys c q e ∙ holds-blanks r (unnamed c) d ∙ holds-unnamed r c
 
@@ -219,7 +223,8 @@ skips true true n t i v o h = rw (h refl refl) refl
 abbrev fails : Context → RowId → Bool
 fails c r = not (holds r c)
 
-fails-same : (ls : List Local) (ys : List Yielded) (c : Context) → IsAsked c ls ys → (r : RowId) → asks_apart r ≡ false → fails (seen ls ys c) r ≡ fails c r
+fails-same : (ls : List Local) (ys : List Yielded) (c : Context) → IsAsked c ls ys → (r : RowId) → asks_apart r ≡ false →
+    fails (seen ls ys c) r ≡ fails c r
 fails-same ls ys c q r e =
     let k = or-none (asks_binding r) (asks_value r) e in
     ap not (holds-seen r ls ys c q k.0 k.1)

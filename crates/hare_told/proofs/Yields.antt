@@ -36,7 +36,8 @@ like-same : (s : Store) (g : Given) → IsLike s g g
 unfolding IsLike IsLikeType
 like-same s g = (refl, inl refl)
 
-like-told : (s : Store) (g : Given) (y : Yielded) (n : ℕ) → IsToldYield s g y → IsLike s g (record { place = y.place; ty = Some y.ty; node = Some n })
+like-told : (s : Store) (g : Given) (y : Yielded) (n : ℕ) → IsToldYield s g y →
+    IsLike s g (record { place = y.place; ty = Some y.ty; node = Some n })
 unfolding IsLike IsLikeType
 like-told s g y n h = (h.0, by_type g.ty h.1) where
   by_type : (o : Option Ty) → IsToldType s o y.ty → (Some y.ty ≡ o) ⊎ ((v : ℕ) × (o ≡ None) × (Some y.ty ≡ Some (ty.Of v)) × IsVoidOf s v)
@@ -66,7 +67,8 @@ type_fits-like : (s : Store) (o p : Option Ty) (t : ℕ) → IsLikeType s o p �
 unfolding IsLikeType
 type_fits-like s o p t (inl e) = ap (λ x. type_fits s x t) e
 type_fits-like s o p t (inr (v, e, d, i)) =
-    rw (e, d) (is_some-map _ (first_row s (OfTree (type_at s v)) (type_at s t)) ∙ ap (λ u. is_some (first_row s (OfTree u) (type_at s t))) i.tree)
+    rw (e, d) (is_some-map _ (first_row s (OfTree (type_at s v)) (type_at s t))
+        ∙ ap (λ u. is_some (first_row s (OfTree u) (type_at s t))) i.tree)
 
 -- ---- some values
 
@@ -129,7 +131,8 @@ default_of_first-like s (Some g) (Some h) k = type_default-like s g.ty h.ty k.1
 joined-like : (s : Store) (i : Hint) (gs hs : List Given) → AreLike s gs hs → joined s i hs ≡ joined s i gs
 joined-like s (hint.Of t) gs hs k = refl
 joined-like s hint.Drop gs hs k = refl
-joined-like s hint.None gs hs k = default_of_first-like s (find (goes_on s) gs) (find (goes_on s) hs) (find-like s (goes_on s) gs hs (goes_on-like s) k)
+joined-like s hint.None gs hs k =
+    default_of_first-like s (find (goes_on s) gs) (find (goes_on s) hs) (find-like s (goes_on s) gs hs (goes_on-like s) k)
 
 lacking-like : (s : Store) (b : Bool) (g h : Given) → IsLike s g h → IsLikeOption s (if_lacking b g) (if_lacking b h)
 unfolding IsLikeOption
@@ -143,7 +146,8 @@ without_default-like s None (Some h) k = absurd k
 without_default-like s (Some g) None k = absurd k
 without_default-like s (Some g) (Some h) k = rw (type_has_default-like s g.ty h.ty k.1) (lacking-like s (type_has_default g.ty) g h k)
 
-first_lacking-like : (s : Store) (i : Hint) (gs hs : List Given) → AreLike s gs hs → IsLikeOption s (first_lacking s i gs) (first_lacking s i hs)
+first_lacking-like : (s : Store) (i : Hint) (gs hs : List Given) → AreLike s gs hs →
+    IsLikeOption s (first_lacking s i gs) (first_lacking s i hs)
 unfolding IsLikeOption
 first_lacking-like s (hint.Of t) gs hs k = tt
 first_lacking-like s hint.Drop gs hs k = tt
@@ -184,7 +188,8 @@ ends-like : (s : Store) (t n : ℕ) (gs ends : List Given) (ys : List Yielded) �
 ends-like s t n gs ends ys h = by_first (find is_end gs) refl h where
   by_first : (o : Option Given) → find is_end gs ≡ o → (IsSome o → void_fits s t ≡ true) →
       IsLikeOption s (find is_end (gs ++ ends)) (find is_end (givens_from n ys ++ ends)) ⊎ (void_fits s t ≡ true)
-  by_first None e k = inl (rw (find-append is_end gs ends e, find-append is_end (givens_from n ys) ends (no_end n ys)) (same-option s (find is_end ends)))
+  by_first None e k =
+      inl (rw (find-append is_end gs ends e, find-append is_end (givens_from n ys) ends (no_end n ys)) (same-option s (find is_end ends)))
   by_first (Some g) e k = inr (k refl)
 
 first_misfit-like : (s : Store) (i : Hint) (n : ℕ) (gs ends : List Given) (ys : List Yielded) → AreToldYields s gs ys →
@@ -192,7 +197,8 @@ first_misfit-like : (s : Store) (i : Hint) (n : ℕ) (gs ends : List Given) (ys 
     IsLikeOption s (first_misfit s i (gs ++ ends)) (first_misfit s i (givens_from n ys ++ ends))
 unfolding IsLikeOption
 first_misfit-like s (hint.Of t) n gs ends ys k l =
-    unless-like s (void_fits s t) (find is_end (gs ++ ends)) (find is_end (givens_from n ys ++ ends)) (ends-like s t n gs ends ys (l t refl))
+    unless-like s (void_fits s t) (find is_end (gs ++ ends)) (find is_end (givens_from n ys ++ ends)) (ends-like s t n gs ends ys
+        (l t refl))
 first_misfit-like s hint.Drop n gs ends ys k l = tt
 first_misfit-like s hint.None n gs ends ys k l =
     let m = like-append s gs (givens_from n ys) ends ends (each-like-told s gs ys n k) (each-like-same s ends) in
@@ -234,7 +240,8 @@ values-told : (c : Context) (ys : List Yielded) → AreToldYields (store_of c) c
 values-told c ys h = ap (λ l. givens_from 0 ys ++ l) (end_behind-told c c.yields ys h)
 
 first_lacking-told : (c : Context) (ys : List Yielded) → AreToldYields (store_of c) c.yields ys →
-    IsLikeOption (store_of c) (first_lacking (store_of c) c.hint (block_values c)) (first_lacking (store_of c) c.hint (block_values (with_told ys c)))
+    IsLikeOption (store_of c) (first_lacking (store_of c) c.hint (block_values c)) (first_lacking (store_of c) c.hint (block_values
+        (with_told ys c)))
 first_lacking-told c ys h =
     let s = store_of c in
     let ends = end_behind c c.yields in
@@ -242,7 +249,8 @@ first_lacking-told c ys h =
     rw (values-told c ys h) (first_lacking-like s c.hint (block_values c) (givens_from 0 ys ++ ends) k)
 
 first_misfit-told : (c : Context) (ys : List Yielded) → AreToldYields (store_of c) c.yields ys → IsTaken c →
-    IsLikeOption (store_of c) (first_misfit (store_of c) c.hint (block_values c)) (first_misfit (store_of c) c.hint (block_values (with_told ys c)))
+    IsLikeOption (store_of c) (first_misfit (store_of c) c.hint (block_values c)) (first_misfit (store_of c) c.hint (block_values
+        (with_told ys c)))
 first_misfit-told c ys h k = rw (values-told c ys h) (first_misfit-like (store_of c) c.hint 0 c.yields (end_behind c c.yields) ys h k)
 
 block_type_by-like : (c : Context) (gs hs : List Given) → AreLike (store_of c) gs hs → block_type_by c hs ≡ block_type_by c gs
@@ -260,7 +268,8 @@ block_type-told c ys h =
     let k = like-append s c.yields (givens_from 0 ys) ends ends (each-like-told s c.yields ys 0 h) (each-like-same s ends) in
     rw (values-told c ys h) (block_type_by-like c (block_values c) (givens_from 0 ys ++ ends) k)
 
-pub type_by-told : (k : Kind) (ys : List Yielded) (c : Context) → AreToldYields (store_of c) c.yields ys → type_by (with_told ys c) k ≡ type_by c k
+pub type_by-told : (k : Kind) (ys : List Yielded) (c : Context) → AreToldYields (store_of c) c.yields ys →
+    type_by (with_told ys c) k ≡ type_by c k
 type_by-told ki.Block ys c h = ap (λ o. typed_as o) (block_type-told c ys h)
 type_by-told ki.Case ys c h = ap (λ o. typed_as o) (block_type-told c ys h)
 type_by-told ki.SwitchCase ys c h = ap (λ o. typed_as o) (block_type-told c ys h)

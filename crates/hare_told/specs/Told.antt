@@ -1,4 +1,5 @@
--- What a judge is told of a node, of all that is known of it. It is told of no binding that is not known, of no hint that a label has, and not
+-- What a judge is told of a node, of all that is known of it. It is told of no binding that is not known, of no hint that a label has,
+-- and not
 -- which node it is; a value that is yielded without a type is told as void.
 use Rattle.std.specs.Prelude.{◌≡◌, ℕ, Bool, true, false, List, [], ◌∷◌, map, slice_get, find, Option, Some, None, IsSome}
 use Rattle.hare_tree.specs.declared.kind.Kind.TheVariants as ki
@@ -95,5 +96,6 @@ pub record IsTold (c : Context) (ds : List DeclType) (ls : List Local) (q : Case
 -- taken by what it means, if it means something; and so has been whatever was yielded to the node without one.
 pub record IsLookedAt (c : Context) : Type 0 where
   pub path : (n : ℕ) → c.head.kind ≡ ki.Path → c.meaning ≡ means.Local n → (l : Local) × (slice_get c.locals n ≡ Some (Known l))
-  pub value : c.head.kind ≡ ki.Yield → holds asked.YieldTarget c ≡ true → holds asked.YieldInside c ≡ true → holds asked.YieldNoValue c ≡ true
+  pub value : c.head.kind ≡ ki.Yield → holds asked.YieldTarget c ≡ true → holds asked.YieldInside c ≡ true →
+      holds asked.YieldNoValue c ≡ true
   pub taken : (t : ℕ) → c.hint ≡ hint.Of t → IsSome (find is_end c.yields) → void_fits (store_of c) t ≡ true
