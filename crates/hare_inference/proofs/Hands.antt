@@ -85,7 +85,7 @@ settled-from c n i (x ∷ xs) k = by_target (target_of c c.head.kind i) (settled
 
 -- ---- what is settled before a tree
 
-coercions-before : (w : Setting) (a : Above) (h : Head) (xs : List TypedNode) (f : Flow) → (flow_before w a h xs f).coercions ≡ f.coercions
+pub coercions-before : (w : Setting) (a : Above) (h : Head) (xs : List TypedNode) (f : Flow) → (flow_before w a h xs f).coercions ≡ f.coercions
 coercions-before w a h xs f = by_kind (is_behind_operand h.kind (length xs)) where
   by_kind : (b : Bool) → (cond b (record f { locals = slice_set f.locals a.first (each_entry w h xs) }) f).coercions ≡ f.coercions
   by_kind true = refl
@@ -162,10 +162,10 @@ mutual
 -- ---- the numbers of a tree
 
 mutual
-  below-more : (n m : ℕ) (t : TypedNode) → n ≤ m → IsBelow n t → IsBelow m t
+  pub below-more : (n m : ℕ) (t : TypedNode) → n ≤ m → IsBelow n t → IsBelow m t
   below-more n m (marked h k ts) l b = (let q = b.0 in omega (arith, q, l), below_each-more n m ts l b.1)
 
-  below_each-more : (n m : ℕ) (ts : TypedNodes) → n ≤ m → AreBelow n ts → AreBelow m ts
+  pub below_each-more : (n m : ℕ) (ts : TypedNodes) → n ≤ m → AreBelow n ts → AreBelow m ts
   below_each-more n m typed_none l b = tt
   below_each-more n m (typed_more t ts) l b = (below-more n m t l b.0, below_each-more n m ts l b.1)
 
