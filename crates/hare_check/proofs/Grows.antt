@@ -1,7 +1,6 @@
 -- Stores that grow.
-use Rattle.std.proofs.Common.{◌≡◌, [], refl, ◌∙◌}
+use Rattle.std.proofs.Common.{[], refl, ◌∙◌}
 use Rattle.hare_types.specs.Store.{Store, Extends}
-use Rattle.hare_types.specs.Sound.{IsStore}
 use Rattle.hare_types.specs.Later.{IsLater}
 use Rattle.hare_types.proofs.CallerLemmas.{Extends-refl, Extends-trans}
 use Rattle.hare_check.specs.Grown.{IsGrown}

@@ -1,29 +1,30 @@
 -- What the walk does, step by step, over plain variables.
-use Rattle.std.proofs.Common.{◌≡◌, ℕ, zero, suc, ◌+◌, ◌<◌, ◌≤◌, List, [], ◌∷◌, ◌++◌, map, length, drop, Some, Result, Ok, Err, refl, ap, sym, ◌∙◌, subst, arith, add-one}
+use Rattle.std.proofs.Common.{◌≡◌, ℕ, zero, suc, ◌+◌, ◌≤◌, List, [], ◌∷◌, ◌++◌, map, length, drop, Some, Result, Ok, Err, refl, ap, sym, ◌∙◌, subst, arith, add-one}
 use Rattle.std.specs.Prelude.{slice_get, IfOk, IfErr, IsErrAnd, IsTrue}
 use Rattle.std.proofs.lemmas.List.{map-append}
 use Rattle.hare_tree.specs.declared.place.Fault.{Fault}
 use Rattle.hare_tree.specs.declared.stop.Stop.{Stop}
 use Rattle.hare_tree.specs.declared.stop.Stop.TheVariants.{Fault as Refused, Memory}
-use Rattle.hare_tree.specs.Node.{Head, Node, Nodes, branch, none, more, head, kids_of, nodes_of}
-use Rattle.hare_types.specs.declared.coercion.Coercion.{Coercion}
+use Rattle.hare_tree.specs.Node.{Head, Node, Nodes, branch, head, kids_of, nodes_of}
 use Rattle.hare_tree.specs.Shape.{is_shaped}
 use Rattle.hare_types.specs.Store.{Store}
 use Rattle.hare_types.specs.Sound.{IsStore}
 use Rattle.hare_types.specs.Later.{IsLater}
 use Rattle.hare_types.proofs.LaterLemmas.{later_here}
-use Rattle.hare_typed.specs.Typed.{TypedNode, TypedNodes, typed_none, typed_more, typed_nodes}
+use Rattle.hare_typed.specs.Typed.{TypedNode, typed_nodes}
+use Rattle.hare_typed.specs.Erased.{erase}
 use Rattle.hare_typed.specs.Coats.{coat}
 use Rattle.hare_rules.specs.Context.{Setting}
-use Rattle.hare_rules.specs.Above.{Above, over_kid, trees_in}
+use Rattle.hare_rules.specs.Above.{Above, over_kid}
 use Rattle.hare_rules.specs.Flow.{Flow, count, flow_before, all_settled}
 use Rattle.hare_rules.specs.Finished.{bare, IsTheTree, IsTheFault, expression}
-use Rattle.hare_inference.specs.Inferred.{Reason, Fails, Found, FoundKids, found, found_kids, with_kids, then_kids, infer, infer_each}
+use Rattle.hare_inference.specs.Inferred.{Reason, Found, FoundKids, found, found_kids, with_kids, then_kids, infer, infer_each}
 use Rattle.hare_inference.specs.Hands.{IsBelow, AreBelow}
 use Rattle.hare_inference.proofs.Orders.{count-behind, length-all_settled}
 use Rattle.hare_inference.proofs.Decided.{the_tree, the_fault}
+use Rattle.hare_inference.proofs.Bares.{erase-bare}
 use Rattle.hare_inference.proofs.Found.{finds}
-use Rattle.hare_inference.proofs.Hands.{coats-behind, below-behind, below-more, below_each-more, coercions-before, coat-coat}
+use Rattle.hare_inference.proofs.Hands.{coats-behind, below-behind, below_each-more, coercions-before, coat-coat}
 use Rattle.hare_check.specs.Grown.{IsGrown}
 use Rattle.hare_check.specs.Walks.{IsInHand, AreInHand, IsStop, IsInferred, IsStopped, IsTurned, IsTurnedBack, IsOver, IsBefore, IsAnswer}
 use Rattle.hare_check.proofs.Grows.{later-grown}
@@ -42,7 +43,7 @@ pub each_next : (w : Setting) (a : Above) (h : Head) (xs : List TypedNode) (ts :
     slice_get ts i ≡ Some t →
     infer_each w a h xs (nodes_of (drop i ts)) f
     ≡ then_kids (infer w (over_kid w a h xs t (nodes_of (drop (i + 1) ts))) t (flow_before w a h xs f))
-      (λ y g. infer_each w a h (xs ++ y ∷ []) (nodes_of (drop (i + 1) ts)) g)
+    (λ y g. infer_each w a h (xs ++ y ∷ []) (nodes_of (drop (i + 1) ts)) g)
 unfolding infer_each
 each_next w a h xs [] i t f e = cc
 each_next w a h xs (u ∷ ts) zero t f e = let s : u ≡ t = cc in rw s refl
@@ -55,11 +56,13 @@ infer_at w a (branch h us) f ts e = rw (← e) refl
 
 -- ---- stops
 
-pub stop_kids : (w : Setting) (a : Above) (h : Head) (r : Result FoundKids Reason) (e : Stop Fault) → IsStop e r → IsStop e (with_kids w a h r)
+pub stop_kids : (w : Setting) (a : Above) (h : Head) (r : Result FoundKids Reason) (e : Stop Fault) → IsStop e r →
+    IsStop e (with_kids w a h r)
 stop_kids w a h r Memory v = tt
 stop_kids w a h r (Refused e) (x, c, i, j) = (x, c, ap (with_kids w a h) i, j)
 
-pub stop_then : (r : Result Found Reason) (go : TypedNode → Flow → Result FoundKids Reason) (e : Stop Fault) → IsStop e r → IsStop e (then_kids r go)
+pub stop_then : (r : Result Found Reason) (go : TypedNode → Flow → Result FoundKids Reason) (e : Stop Fault) → IsStop e r →
+    IsStop e (then_kids r go)
 stop_then r go Memory v = tt
 stop_then r go (Refused e) (x, c, i, j) = (x, c, ap (λ q. then_kids q go) i, j)
 
@@ -103,7 +106,8 @@ same_coats f g [] h k = refl
 same_coats f g (x ∷ xs) h k = rw (h x k.0, same_coats f g xs h k.1) refl
 
 -- one tree more is in hand
-pub hand-more : (f g : Flow) (xs : List TypedNode) (x : TypedNode) → Leaves f g (bare x) → AreInHand f xs → AreBelow (count f) (typed_nodes (map bare xs)) →
+pub hand-more : (f g : Flow) (xs : List TypedNode) (x : TypedNode) → Leaves f g (bare x) → AreInHand f xs →
+    AreBelow (count f) (typed_nodes (map bare xs)) →
     IsInHand g x → AreInHand g (xs ++ x ∷ [])
 hand-more f g xs x l h k i =
     let a : xs ≡ map (coat g.coercions) (map bare xs) = h ∙ sym (same_coats f g (map bare xs) l.coats k) in
@@ -112,14 +116,17 @@ hand-more f g xs x l h k i =
     ∙ sym (map-append (coat g.coercions) (map bare xs) (bare x ∷ []))
     ∙ ap (map (coat g.coercions)) (sym (map-append bare xs (x ∷ [])))
 
-below-append : (n : ℕ) (xs : List TypedNode) (b : TypedNode) → AreBelow n (typed_nodes xs) → IsBelow n b → AreBelow n (typed_nodes (xs ++ b ∷ []))
+below-append : (n : ℕ) (xs : List TypedNode) (b : TypedNode) → AreBelow n (typed_nodes xs) → IsBelow n b →
+    AreBelow n (typed_nodes (xs ++ b ∷ []))
 below-append n [] b h k = (k, tt)
 below-append n (x ∷ xs) b h k = (h.0, below-append n xs b h.1 k)
 
-pub each_below-more : (f g : Flow) (xs : List TypedNode) (x : TypedNode) → Leaves f g (bare x) → AreBelow (count f) (typed_nodes (map bare xs)) →
+pub each_below-more : (f g : Flow) (xs : List TypedNode) (x : TypedNode) → Leaves f g (bare x) →
+    AreBelow (count f) (typed_nodes (map bare xs)) →
     AreBelow (count g) (typed_nodes (map bare (xs ++ x ∷ [])))
 each_below-more f g xs x l k =
-    let h = below-append (count g) (map bare xs) (bare x) (below_each-more (count f) (count g) (typed_nodes (map bare xs)) l.more k) l.below in
+    let h = below-append (count g) (map bare xs) (bare x) (below_each-more (count f) (count g) (typed_nodes
+    (map bare xs)) l.more k) l.below in
     rw (map-append bare xs (x ∷ [])) h
 
 -- ---- one kid
@@ -197,7 +204,8 @@ kids-stopped w s a t ts f e k h =
 
 -- ---- the same in a store that has grown, under equal names
 
-pub over-moved : (v w : Store → Setting) (s r : Store) (a b : Above) (h : Head) (xs : List TypedNode) (t : Node) (rest : Nodes) (o : Above) →
+pub over-moved : (v w : Store → Setting) (s r : Store) (a b : Above) (h : Head) (xs : List TypedNode) (t : Node) (rest : Nodes)
+    (o : Above) →
     v ≡ w → a ≡ b → IsGrown s r → IsOver v s a h xs t rest o → IsOver w r b h xs t rest o
 over-moved v w s r a b h xs t rest o m n k p =
     let q = subst (λ (z : Store → Setting). IsOver z s a h xs t rest o) m p in
@@ -235,6 +243,20 @@ pub stop_at : (w : Store → Setting) (a : Above) (h : Head) (xs : List TypedNod
     IsStop e (infer_each (w l) a h xs (nodes_of (drop i ts)) f)
 stop_at w a h xs ts n i f l e d k = subst (λ (m : ℕ). IsStop e (infer_each (w l) a h xs (nodes_of (drop m ts)) f)) d k
 
+-- ---- what a tree is of
+
+pub inferred-erases : (w : Store → Setting) (s : Store) (a : Above) (t : Node) (f g : Flow) (x : TypedNode) → IsInferred w s a t f x g →
+    IsStore s →
+    erase x ≡ t
+inferred-erases w s a t f g x h i =
+    let d = finds (w s) a t f (found (bare x) g) (h s (later_here s i)) in
+    sym (erase-bare x) ∙ d.erases
+
+pub turn-erases : (w : Store → Setting) (s : Store) (a : Above) (t : Node) (f g : Flow) (q : Result TypedNode (Stop Fault)) →
+    IfOk q (λ x. IsInferred w s a t f x g) → IsStore s → IfOk q (λ x. erase x ≡ t)
+turn-erases w s a t f g (Err e) h i = tt
+turn-erases w s a t f g (Ok x) h i = inferred-erases w s a t f g x h i
+
 -- ---- the whole walk
 
 pub answered : (w : Setting) (a : Above) (f : Flow) (t : Node) (e : Stop Fault) → IsStop e (infer w a t f) → IsAnswer w a f t e
@@ -247,5 +269,5 @@ finished w a f g t x z s p h =
     let l = inferred-leaves w a t f g (bare x) p in
     let b : IsBelow (length (all_settled g)) (bare x) = subst (λ (n : ℕ). IsBelow n (bare x)) (sym (length-all_settled g)) l.below in
     let c : coat (all_settled g) x ≡ coat (all_settled g) (bare x) =
-        ap (coat (all_settled g)) h ∙ coat-coat g.coercions (all_settled g) (bare x) b in
+    ap (coat (all_settled g)) h ∙ coat-coat g.coercions (all_settled g) (bare x) b in
     subst (λ (y : TypedNode). IsTheTree w a f t y) (sym c) (the_tree w a t f (bare x) g z s p)

@@ -1,9 +1,11 @@
 -- What a walk over a body says of the trees that it has judged. It says it of each store that may come later, since types are still put in.
-use Rattle.std.specs.Prelude.{◌≡◌, List, map, Result, Ok, Err}
+use Rattle.std.specs.Prelude.{◌≡◌, ◌⊎◌, true, List, [], ◌∷◌, map, Result, Ok, Err}
 use Rattle.hare_tree.specs.declared.place.Fault.{Fault}
 use Rattle.hare_tree.specs.declared.stop.Stop.{Stop}
 use Rattle.hare_tree.specs.declared.stop.Stop.TheVariants.{Fault as Refused, Memory}
+use Rattle.hare_tree.specs.declared.form.Sort.{Sort}
 use Rattle.hare_tree.specs.Node.{Head, Node, Nodes}
+use Rattle.hare_tree.specs.Shape.{is_shaped, is_leaf, is_none_or_comma}
 use Rattle.hare_types.specs.Store.{Store}
 use Rattle.hare_types.specs.Later.{IsLater}
 use Rattle.hare_typed.specs.Typed.{TypedNode}
@@ -16,7 +18,18 @@ use Rattle.hare_rules.specs.Rows.{fault_of}
 use Rattle.hare_rules.specs.Finished.{bare, IsTheFault}
 use Rattle.hare_inference.specs.Inferred.{Reason, Fails, found, found_kids, with_kids, infer}
 
+-- ---- trees of the grammar
+
+-- It is shaped, of some sort; or it stands in the place of a part that is left out, or of a trailing comma.
+abbrev pub IsPart : Node → Type 0
+IsPart t = ((s : Sort) × (is_shaped s t ≡ true)) ⊎ (is_leaf is_none_or_comma t ≡ true)
+
 -- ---- trees in hand
+
+-- so it is of each
+abbrev pub Each : {A : Type 0} → (A → Type 0) → List A → Type 0
+Each P [] = Unit {0}
+Each P (x ∷ xs) = P x × Each P xs
 
 -- the tree carries what is settled by now, and nothing else
 abbrev pub IsInHand : Flow → TypedNode → Type 0

@@ -6,10 +6,12 @@ ghost use Rattle.hare_tree.specs.Shape.{is_shaped};
 ghost use Rattle.hare_types.specs.Store.{Store};
 ghost use Rattle.hare_types.specs.Sound.{IsStore};
 ghost use Rattle.hare_types.specs.Later.{IsLater};
+ghost use Rattle.hare_typed.specs.Typed.{typed_nodes};
+ghost use Rattle.hare_typed.specs.Erased.{erase, erase_each};
 ghost use Rattle.hare_rules.specs.Finished.{bare, IsTheTree, expression};
 ghost use Rattle.hare_inference.specs.Inferred.{found_kids, infer_each};
 ghost use Rattle.hare_check.specs.Grown.{IsGrown};
-ghost use Rattle.hare_check.specs.Walks.{IsInHand, AreInHand, IsInferred, IsStopped, IsStop, IsAnswer};
+ghost use Rattle.hare_check.specs.Walks.{IsPart, Each, IsInHand, AreInHand, IsInferred, IsStopped, IsStop, IsAnswer};
 
 use crate::walk::Walk;
 use hare_tree::{Fault, Kids, Stop, Tree};
@@ -26,6 +28,7 @@ pub fn check_by<W: Walk>(
     body: &Tree,
 ) -> Result<Typed, Stop<Fault>>
     requires start { (W.flow w.old).coercions ≡ [] }
+    requires ready { W.Ready w.old s.old }
     requires shaped { IsTrue (is_shaped expression body.now) }
     ensures ok { IfOk result (λ x. IsTheTree (W.setting w.old s.new) (W.above w.old) (W.flow w.old) body.now x) }
     ensures err { IfErr result (λ e. IsAnswer (W.setting w.old s.new) (W.above w.old) (W.flow w.old) body.now e) }
@@ -45,8 +48,13 @@ fn judge_tree<W: Walk>(
     w: &mut W,
     t: &Tree,
 ) -> Result<Typed, Stop<Fault>>
+    requires ready { W.Ready w.old s.old }
+    requires part { IsPart t.now }
     ensures ok { IfOk result (λ x. IsInferred (W.setting w.old) s.new (W.above w.old) t.now (W.flow w.old) x (W.flow w.new)) }
     ensures hand { IfOk result (λ x. IsInHand (W.flow w.new) x) }
+    ensures erases { IfOk result (λ x. erase x ≡ t.now) }
+    ensures ready { OnOk result (W.Ready w.new s.new) }
+    ensures kept { IfOk result (λ x. (r : Store) → IsGrown s.new r → W.Keeps r x) }
     ensures err { IfErr result (λ e. IsStopped (W.setting w.old) s.new (W.above w.old) t.now (W.flow w.old) e) }
     ensures above { OnOk result (W.above w.new ≡ W.above w.old) }
     ensures outer { OnOk result (W.outer w.new ≡ W.outer w.old) }
@@ -67,9 +75,14 @@ fn judge_kids<W: Walk>(
     node: &Tree,
     kids: &Kids,
 ) -> Result<TypedKids, Stop<Fault>>
+    requires ready { W.Ready w.old s.old }
+    requires part { IsPart node.now }
     requires whole { kids_of node.now ≡ nodes_of kids.now }
     ensures ok { IfOk result (λ xs. (l : Store) → IsLater s.new l → infer_each (W.setting w.old l) (W.above w.old) (head node.now) [] (nodes_of kids.now) (W.flow w.old) ≡ Ok (found_kids (map bare xs) (W.flow w.new))) }
     ensures hand { IfOk result (λ xs. AreInHand (W.flow w.new) xs) }
+    ensures erases { IfOk result (λ xs. erase_each (typed_nodes xs) ≡ nodes_of kids.now) }
+    ensures ready { OnOk result (W.Ready w.new s.new) }
+    ensures kept { IfOk result (λ xs. Each (W.Keeps s.new) xs) }
     ensures err { IfErr result (λ e. (l : Store) → IsLater s.new l → IsStop e (infer_each (W.setting w.old l) (W.above w.old) (head node.now) [] (nodes_of kids.now) (W.flow w.old))) }
     ensures above { OnOk result (W.above w.new ≡ W.above w.old) }
     ensures outer { OnOk result (W.outer w.new ≡ W.outer w.old) }

@@ -19,7 +19,9 @@ pub trait Walk {
     ghost use Rattle.hare_rules.specs.Above.{Above};
     ghost use Rattle.hare_rules.specs.Flow.{Flow, all_settled};
     ghost use Rattle.hare_check.specs.Grown.{IsGrown};
-    ghost use Rattle.hare_check.specs.Walks.{IsInHand, AreInHand, IsTurned, IsTurnedBack, IsOver, IsBefore};
+    ghost use Rattle.hare_typed.specs.Typed.{TypedNode, typed_nodes};
+    ghost use Rattle.hare_typed.specs.Erased.{erase_each};
+    ghost use Rattle.hare_check.specs.Walks.{IsPart, Each, IsInHand, AreInHand, IsTurned, IsTurnedBack, IsOver, IsBefore};
 
     /// What is known of the program, over a store.
     ghost setting: { Self → Store → Setting };
@@ -33,6 +35,12 @@ pub trait Walk {
     /// What has been seen.
     ghost flow: { Self → Flow };
 
+    /// What it relies on of itself, with the store.
+    ghost Ready: { Self → Store → Type 0 };
+
+    /// What it relies on of each tree that has been judged.
+    ghost Keeps: { Store → TypedNode → Type 0 };
+
     /// Goes on to the kid behind those that are done.
     fn enter(
         &mut self,
@@ -44,9 +52,13 @@ pub trait Walk {
     ) -> Result<(), AllocError>
         requires whole { kids_of node.now ≡ nodes_of kids.now }
         requires next { slice_get kids.now (length done.now) ≡ Some kid.now }
+        requires ready { Ready self.old s.old }
+        requires part { IsPart node.now }
         requires hand { AreInHand (flow self.old) done.now }
+        requires kept { Each (Keeps s.old) done.now }
         ensures over { IfOk result (λ _. IsOver (setting self.old) s.new (above self.old) (head node.now) done.now kid.now (nodes_of (drop (length done.now + 1) kids.now)) (above self.new)) }
         ensures seen { IfOk result (λ _. IsBefore (setting self.old) s.new (above self.old) (head node.now) done.now (flow self.old) (flow self.new)) }
+        ensures ready { OnOk result (Ready self.new s.new) }
         ensures outer { OnOk result (outer self.new ≡ above self.old ∷ outer self.old) }
         ensures setting { setting self.new ≡ setting self.old }
         ensures grown { IsGrown s.old s.new }
@@ -56,6 +68,7 @@ pub trait Walk {
     fn leave(&mut self)
         ensures above { (a : Above) (rest : List Above) → outer self.old ≡ a ∷ rest → above self.new ≡ a }
         ensures outer { (a : Above) (rest : List Above) → outer self.old ≡ a ∷ rest → outer self.new ≡ rest }
+        ensures ready { (s : Store) → Ready self.old s → Ready self.new s }
         ensures flow { flow self.new ≡ flow self.old }
         ensures setting { setting self.new ≡ setting self.old };
 
@@ -67,10 +80,16 @@ pub trait Walk {
         node: &Tree,
         kids: TypedKids,
     ) -> Result<Typed, Stop<Fault>>
+        requires ready { Ready self.old s.old }
+        requires part { IsPart node.now }
+        requires whole { erase_each (typed_nodes kids) ≡ kids_of node.now }
         requires hand { AreInHand (flow self.old) kids }
+        requires kept { Each (Keeps s.old) kids }
         ensures ok { IfOk result (λ x. IsTurned (setting self.old) s.new (above self.old) (head node.now) kids (flow self.old) x (flow self.new)) }
         ensures hand { IfOk result (λ x. IsInHand (flow self.new) x) }
         ensures err { IfErr result (λ e. IsTurnedBack (setting self.old) s.new (above self.old) (head node.now) kids (flow self.old) e) }
+        ensures ready { OnOk result (Ready self.new s.new) }
+        ensures kept { IfOk result (λ x. (r : Store) → IsGrown s.new r → Keeps r x) }
         ensures above { OnOk result (above self.new ≡ above self.old) }
         ensures outer { OnOk result (outer self.new ≡ outer self.old) }
         ensures setting { setting self.new ≡ setting self.old }

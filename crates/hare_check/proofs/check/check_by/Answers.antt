@@ -1,7 +1,4 @@
-use Rattle.std.proofs.Common.{◌≡◌, ◌∙◌}
 use Rattle.hare_types.proofs.LaterLemmas.{later_here}
-use Rattle.hare_typed.specs.Typed.{TypedNode}
-use Rattle.hare_rules.specs.Finished.{IsTheTree}
 use Rattle.hare_check.specs.Walks.{IsAnswer}
 use Rattle.hare_check.proofs.Steps.{err_same, answered, finished}
 use Rattle.hare_check.proofs.check.check_by.Goals as goal
