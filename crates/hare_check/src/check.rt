@@ -19,8 +19,8 @@ use hare_typed::{Typed, TypedKids};
 use hare_types::TypeStore;
 use std::alloc::Global;
 
-/// The one typed tree of a body, or its first fault, by a walk of which nothing has been done. The store may grow, also where there is a fault. The call goes as
-/// deep in the host as the body is.
+/// The one typed tree of a body, or its first fault, by a walk of which nothing has been done. The store may grow, also where there is a fault.
+/// The call goes as deep in the host as the body is.
 pub fn check_by<W: Walk>(
     alloc: Global,
     s: &mut TypeStore,

@@ -5,8 +5,8 @@ use hare_typed::{Typed, TypedKids};
 use hare_types::TypeStore;
 use std::alloc::{AllocError, Global};
 
-/// A walk over a body, from kids to parent: what stands over the tree at hand, what has been seen so far, and the rules by which a node is judged. The order in
-/// which nodes come is that of `check_by`.
+/// A walk over a body, from kids to parent: what stands over the tree at hand, what has been seen so far, and the rules by which a node is
+/// judged. The order in which nodes come is that of `check_by`.
 ///
 /// Each call may put types into the store, so that its answer holds in every later one.
 pub trait Walk {

@@ -69,12 +69,12 @@ holds-blanks row.JumpTarget c e = ap is_some (loop_meant-blanks c.head.text c.in
     ∙ is_some-map blank (loop_meant c.head.text c.inside.labels)
 holds-blanks row.JumpInside c e =
     ap (is_inside c.inside) (loop_meant-blanks c.head.text c.inside.labels)
-        ∙ is_inside-blank c.inside (loop_meant c.head.text c.inside.labels)
+    ∙ is_inside-blank c.inside (loop_meant c.head.text c.inside.labels)
 holds-blanks row.YieldTarget c e = ap is_some (block_meant-blanks c.head.text c.inside.labels)
     ∙ is_some-map blank (block_meant c.head.text c.inside.labels)
 holds-blanks row.YieldInside c e =
     ap (is_inside c.inside) (block_meant-blanks c.head.text c.inside.labels)
-        ∙ is_inside-blank c.inside (block_meant c.head.text c.inside.labels)
+    ∙ is_inside-blank c.inside (block_meant c.head.text c.inside.labels)
 holds-blanks _ c e = refl
 
 pub stands-blanks : (r : RowId) (c : Context) → stands r (with_blanks c) ≡ stands r c

@@ -36,7 +36,7 @@ rows_in_role-judge BindingType k e = cc
 rows_in_role-judge Callee k e = cc
 rows_in_role-judge Length k e = cc
 
-type_in_role-judge : (c : Context) (o : Role) → has_judge o ≡ true → type_in_role c o ≡ type_by c c.head.kind
+pub type_in_role-judge : (c : Context) (o : Role) → has_judge o ≡ true → type_in_role c o ≡ type_by c c.head.kind
 type_in_role-judge c Ordinary e = refl
 type_in_role-judge c CaseValue e = refl
 type_in_role-judge c DeclaredValue e = refl
@@ -52,7 +52,7 @@ is_bound-judge BindingType e = cc
 is_bound-judge Callee e = cc
 is_bound-judge Length e = cc
 
-abbrev ordinary : Context → Context
+abbrev pub ordinary : Context → Context
 ordinary c = record c { inside = record c.inside { role = Ordinary } }
 
 holds-ordinary : (r : RowId) (c : Context) → has_judge c.inside.role ≡ true → type_of (ordinary c) ≡ type_of c →
@@ -117,10 +117,10 @@ binding-known c _ k = refl
 
 -- ---- all that a judge is not told, taken away
 
-abbrev plain : List Local → Context → Context
+abbrev pub plain : List Local → Context → Context
 plain ls c = with_locals ls (with_blanks (unnamed c))
 
-abbrev seen : List Local → List Yielded → Context → Context
+abbrev pub seen : List Local → List Yielded → Context → Context
 seen ls ys c = ordinary (with_told ys (plain ls c))
 
 type-plain : (ls : List Local) (c : Context) → AreToldEntries c.locals ls → IsKnownPath c →
@@ -295,7 +295,7 @@ labels-told : (ls : List Open) → map open_of (map told_label ls) ≡ map blank
 labels-told [] = refl
 labels-told (l ∷ ls) = ap (λ x. blank l ∷ x) (labels-told ls)
 
-told-seen : (c : Context) (ds : List DeclType) (ls : List Local) (q : Case) → IsTold c ds ls q → told c ds ls q ≡ seen ls q.yields c
+pub told-seen : (c : Context) (ds : List DeclType) (ls : List Local) (q : Case) → IsTold c ds ls q → told c ds ls q ≡ seen ls q.yields c
 told-seen c ds ls q t =
     rw (t.decls, t.hint, t.meaning, t.own, t.result, t.deferred, t.body, t.labels, labels-told c.inside.labels) refl
 

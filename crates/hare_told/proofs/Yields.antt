@@ -68,7 +68,7 @@ unfolding IsLikeType
 type_fits-like s o p t (inl e) = ap (λ x. type_fits s x t) e
 type_fits-like s o p t (inr (v, e, d, i)) =
     rw (e, d) (is_some-map _ (first_row s (OfTree (type_at s v)) (type_at s t))
-        ∙ ap (λ u. is_some (first_row s (OfTree u) (type_at s t))) i.tree)
+    ∙ ap (λ u. is_some (first_row s (OfTree u) (type_at s t))) i.tree)
 
 -- ---- some values
 
@@ -198,7 +198,7 @@ first_misfit-like : (s : Store) (i : Hint) (n : ℕ) (gs ends : List Given) (ys 
 unfolding IsLikeOption
 first_misfit-like s (hint.Of t) n gs ends ys k l =
     unless-like s (void_fits s t) (find is_end (gs ++ ends)) (find is_end (givens_from n ys ++ ends)) (ends-like s t n gs ends ys
-        (l t refl))
+    (l t refl))
 first_misfit-like s hint.Drop n gs ends ys k l = tt
 first_misfit-like s hint.None n gs ends ys k l =
     let m = like-append s gs (givens_from n ys) ends ends (each-like-told s gs ys n k) (each-like-same s ends) in
@@ -241,7 +241,7 @@ values-told c ys h = ap (λ l. givens_from 0 ys ++ l) (end_behind-told c c.yield
 
 first_lacking-told : (c : Context) (ys : List Yielded) → AreToldYields (store_of c) c.yields ys →
     IsLikeOption (store_of c) (first_lacking (store_of c) c.hint (block_values c)) (first_lacking (store_of c) c.hint (block_values
-        (with_told ys c)))
+    (with_told ys c)))
 first_lacking-told c ys h =
     let s = store_of c in
     let ends = end_behind c c.yields in
@@ -250,8 +250,16 @@ first_lacking-told c ys h =
 
 first_misfit-told : (c : Context) (ys : List Yielded) → AreToldYields (store_of c) c.yields ys → IsTaken c →
     IsLikeOption (store_of c) (first_misfit (store_of c) c.hint (block_values c)) (first_misfit (store_of c) c.hint (block_values
-        (with_told ys c)))
+    (with_told ys c)))
 first_misfit-told c ys h k = rw (values-told c ys h) (first_misfit-like (store_of c) c.hint 0 c.yields (end_behind c c.yields) ys h k)
+
+pub joined-told : (c : Context) (i : Hint) (ys : List Yielded) → AreToldYields (store_of c) c.yields ys →
+    joined (store_of c) i (block_values (with_told ys c)) ≡ joined (store_of c) i (block_values c)
+joined-told c i ys h =
+    let s = store_of c in
+    let ends = end_behind c c.yields in
+    let k = like-append s c.yields (givens_from 0 ys) ends ends (each-like-told s c.yields ys 0 h) (each-like-same s ends) in
+    rw (values-told c ys h) (joined-like s i (block_values c) (givens_from 0 ys ++ ends) k)
 
 block_type_by-like : (c : Context) (gs hs : List Given) → AreLike (store_of c) gs hs → block_type_by c hs ≡ block_type_by c gs
 unfolding AreLike

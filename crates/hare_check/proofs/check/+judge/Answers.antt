@@ -153,7 +153,8 @@ judge_kids-enter-requires-clause-kept g t c =
 
 pub judge_kids-judge_tree-requires : goal.judge_kids-judge_tree-requires
 judge_kids-judge_tree-requires g t c =
-    let part = part-kid c.args.node.now c.in-Some.kid.now c.args.kids.now c.loop-i.i c.requires.part c.requires.whole c.in-Some.ensures.found in
+    let found = c.in-Some.ensures.found in
+    let part = part-kid c.args.node.now c.in-Some.kid.now c.args.kids.now c.loop-i.i c.requires.part c.requires.whole found in
     λ k l. (search rules, (search rules, (c.in_ok-enter.ensures.ready, part)))
 
 pub judge_kids-returns-clause-erases : goal.judge_kids-returns-clause-erases
