@@ -19,7 +19,7 @@ use Rattle.hare_inference.proofs.Orders.{number_of-root, count-flow_before, coun
 -- ---- what is written behind a front leaves it
 
 -- each is of a node from this number on
-AreFrom : ℕ → List Settled → Type 0
+unfoldable pub AreFrom : ℕ → List Settled → Type 0
 AreFrom n [] = Unit {0}
 AreFrom n (s ∷ ss) = (n ≤ s.node) × AreFrom n ss
 
@@ -29,7 +29,7 @@ index-set_other (x ∷ cs) i zero c d h = absurd (omega arith)
 index-set_other (x ∷ cs) zero (suc j) c d h = refl
 index-set_other (x ∷ cs) (suc i) (suc j) c d h = index-set_other cs i j c d (omega arith)
 
-index-write_each : (ss : List Settled) (cs : List Coercion) (n i : ℕ) (d : Coercion) → AreFrom n ss → i < n →
+pub index-write_each : (ss : List Settled) (cs : List Coercion) (n i : ℕ) (d : Coercion) → AreFrom n ss → i < n →
     slice_index_or (write_each ss cs) i d ≡ slice_index_or cs i d
 unfolding AreFrom
 index-write_each [] cs n i d k h = refl
@@ -45,11 +45,11 @@ index-front (c ∷ cs) ds (suc i) d h = index-front cs ds i d (omega arith)
 -- ---- the kids of a node have numbers from its beginning on
 
 -- each has a number from this one on
-AreNumberedFrom : ℕ → List TypedNode → Type 0
+unfoldable pub AreNumberedFrom : ℕ → List TypedNode → Type 0
 AreNumberedFrom n [] = Unit {0}
 AreNumberedFrom n (x ∷ xs) = (n ≤ number_of x) × AreNumberedFrom n xs
 
-numbered-more : (n m : ℕ) (xs : List TypedNode) → n ≤ m → AreNumberedFrom m xs → AreNumberedFrom n xs
+pub numbered-more : (n m : ℕ) (xs : List TypedNode) → n ≤ m → AreNumberedFrom m xs → AreNumberedFrom n xs
 unfolding AreNumberedFrom
 numbered-more n m [] h k = tt
 numbered-more n m (x ∷ xs) h k = (let q = k.0 in omega (arith, q, h), numbered-more n m xs h k.1)
@@ -75,7 +75,7 @@ kids_numbered w a h xs (typed_more t ts) f cs k =
     let r = kids_numbered w a h (xs ++ bare t ∷ []) ts (behind w o t g) cs k.1 in
     (p, numbered-more (count f) (count (behind w o t g)) (map (coat cs) (bare_each ts)) q r)
 
-settled-from : (c : Context) (n i : ℕ) (xs : List TypedNode) → AreNumberedFrom n xs → AreFrom n (settles_from c i xs)
+pub settled-from : (c : Context) (n i : ℕ) (xs : List TypedNode) → AreNumberedFrom n xs → AreFrom n (settles_from c i xs)
 unfolding AreNumberedFrom AreFrom
 settled-from c n i [] k = tt
 settled-from c n i (x ∷ xs) k = by_target (target_of c c.head.kind i) (settled-from c n (suc i) xs k.1) where
@@ -85,7 +85,8 @@ settled-from c n i (x ∷ xs) k = by_target (target_of c c.head.kind i) (settled
 
 -- ---- what is settled before a tree
 
-pub coercions-before : (w : Setting) (a : Above) (h : Head) (xs : List TypedNode) (f : Flow) → (flow_before w a h xs f).coercions ≡ f.coercions
+pub coercions-before : (w : Setting) (a : Above) (h : Head) (xs : List TypedNode) (f : Flow) →
+    (flow_before w a h xs f).coercions ≡ f.coercions
 coercions-before w a h xs f = by_kind (is_behind_operand h.kind (length xs)) where
   by_kind : (b : Bool) → (cond b (record f { locals = slice_set f.locals a.first (each_entry w h xs) }) f).coercions ≡ f.coercions
   by_kind true = refl

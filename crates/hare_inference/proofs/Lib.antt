@@ -6,3 +6,4 @@ pub mod Found
 pub mod Decided
 pub mod Numbered
 pub mod Hands
+pub mod Turns

@@ -1,6 +1,7 @@
 //! What holds of well-typed trees and of first faults, whoever looks for them.
 
 ghost use Rattle.hare_inference.specs.Hands.{JudgedTreesStay};
+ghost use Rattle.hare_inference.specs.Turns.{TurnsSettle};
 ghost use Rattle.hare_inference.specs.Laws.{CoercionsAreSettled, InferenceIsExact, NumbersAreOrder, OneFault, OneTree, TreeOrFault};
 
 /// Over any store, and whatever stands over it, an untyped tree is that of at most one well-typed tree.
@@ -42,4 +43,10 @@ pub fn law_coercions_are_settled()
 #[tactic(auto, using(crate::proofs::Hands::trees_stay))]
 pub fn law_judged_trees_stay()
     ensures { JudgedTreesStay }
+{}
+
+/// Behind a node's turn the tree in hand is the node with its own coercion, over the kids with those that it settles of them.
+#[tactic(auto, using(crate::proofs::Turns::turns_settle))]
+pub fn law_turns_settle()
+    ensures { TurnsSettle }
 {}
