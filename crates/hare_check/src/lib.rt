@@ -2,7 +2,11 @@
 #![tactic(auto)]
 
 mod check;
+mod laws;
+#[cfg(test)]
+mod tests;
 mod walk;
 
 pub use check::check_by;
+pub use laws::law_verdicts_turn;
 pub use walk::Walk;
