@@ -1,5 +1,5 @@
 -- What has been seen when a node's turn comes: the bindings so far, the values yielded so far, and the coercions that are settled.
-use Rattle.std.specs.Prelude.{ℕ, Bool, true, false, not, cond, ◌==◌, nat_eq, List, [], ◌∷◌, ◌++◌, filter, length, map, slice_set, slice_index_or, Option, Some, None}
+use Rattle.std.specs.Prelude.{ℕ, Bool, true, false, not, cond, ◌==◌, nat_eq, List, [], ◌∷◌, ◌++◌, filter, length, map, slice_set, Option, Some, None}
 use Rattle.hare_tree.specs.declared.kind.Kind.{Kind}
 use Rattle.hare_tree.specs.declared.kind.Kind.TheVariants as ki
 use Rattle.hare_tree.specs.declared.place.Place.{Place}
@@ -8,7 +8,8 @@ use Rattle.hare_tree.specs.Node.{Head}
 use Rattle.hare_types.specs.declared.coercion.Ty.{Ty}
 use Rattle.hare_types.specs.declared.coercion.Ty.TheVariants as ty
 use Rattle.hare_types.specs.declared.coercion.Coercion.{Coercion}
-use Rattle.hare_typed.specs.Typed.{TypedNode, TypedNodes, marked, typed_none, typed_more, mark_of}
+use Rattle.hare_typed.specs.Typed.{TypedNode, marked, typed_none, typed_more, mark_of}
+use Rattle.hare_typed.specs.Coats.{coat}
 use Rattle.hare_typed.specs.Order.{tree_from_front}
 use Rattle.hare_typed.specs.Copies.{has_defers as takes_yields}
 use Rattle.hare_typed.specs.Given.{base_row, element_in}
@@ -44,15 +45,6 @@ count f = length f.coercions
 abbrev pub write_each : List Settled → List Coercion → List Coercion
 write_each [] cs = cs
 write_each (x ∷ xs) cs = write_each xs (slice_set cs x.node x.coercion)
-
--- the tree with these coercions, by the numbers of its nodes
-abbrev mutual
-  pub coat : List Coercion → TypedNode → TypedNode
-  coat cs (marked h m ts) = marked h (record m { coerce = slice_index_or cs m.node m.coerce }) (coat_each cs ts)
-
-  pub coat_each : List Coercion → TypedNodes → TypedNodes
-  coat_each cs typed_none = typed_none
-  coat_each cs (typed_more t ts) = typed_more (coat cs t) (coat_each cs ts)
 
 -- ---- yields
 

@@ -8,7 +8,8 @@ use Rattle.hare_types.specs.declared.coercion.Ty.{Ty}
 use Rattle.hare_types.specs.declared.coercion.Coercion.{Coercion}
 use Rattle.hare_types.specs.Store.{Store}
 use Rattle.hare_types.specs.Assign.{coercion}
-use Rattle.hare_typed.specs.Typed.{TypedNode, marked, mark_of}
+use Rattle.hare_typed.specs.Typed.{TypedNode, mark_of}
+use Rattle.hare_typed.specs.Coats.{with_coercion}
 use Rattle.hare_rules.specs.declared.hint.Hint.{Hint}
 use Rattle.hare_rules.specs.declared.hint.Hint.TheVariants as hint
 use Rattle.hare_rules.specs.Words.{id_in, common, common_type, are_iconsts, default_in}
@@ -131,9 +132,6 @@ abbrev pub settles_kids : Context → List Settled
 settles_kids c = settles_from c 0 c.kids
 
 -- ---- the kids behind the node's turn
-
-abbrev pub with_coercion : Coercion → TypedNode → TypedNode
-with_coercion r (marked h m ts) = marked h (record m { coerce = r }) ts
 
 abbrev pub settled_kid : Context → ℕ → Option ℕ → TypedNode → TypedNode
 settled_kid c i None x = x

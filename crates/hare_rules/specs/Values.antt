@@ -12,6 +12,7 @@ use Rattle.hare_types.specs.Store.{Store}
 use Rattle.hare_typed.specs.declared.constant.Const.{Const}
 use Rattle.hare_typed.specs.declared.constant.Const.TheVariants as constant
 use Rattle.hare_typed.specs.Typed.{TypedNode, marked, typed_nodes}
+use Rattle.hare_typed.specs.Coats.{with_coercion}
 use Rattle.hare_typed.specs.Folded.{folded, inconstant}
 use Rattle.hare_rules.specs.declared.declared.DeclType.{DeclType}
 use Rattle.hare_rules.specs.declared.hint.Hint.{Hint}
@@ -19,7 +20,7 @@ use Rattle.hare_rules.specs.declared.hint.Hint.TheVariants as hint
 use Rattle.hare_rules.specs.Words.{default_in}
 use Rattle.hare_rules.specs.Context.{Setting, Context, Role, Ordinary, Callee, Length, BindingType, CaseValue, DeclaredValue, declaration, store_of, own_type, place_or}
 use Rattle.hare_rules.specs.Control.{has_written_type, value_kid}
-use Rattle.hare_rules.specs.Settles.{own_coercion, to_type, with_coercion, settled_kids}
+use Rattle.hare_rules.specs.Settles.{own_coercion, to_type, settled_kids}
 use Rattle.hare_rules.specs.Types.{type_of}
 
 -- ---- the value of a def

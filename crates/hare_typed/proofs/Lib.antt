@@ -5,6 +5,7 @@ mod ArithmeticRows
 mod PointerRows
 mod UnionRows
 pub mod KidLemmas
+pub mod CoatLemmas
 pub mod GivenLemmas
 pub mod ExitLemmas
 pub mod CopyLemmas

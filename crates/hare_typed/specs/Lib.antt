@@ -1,4 +1,5 @@
 pub mod Typed
+pub mod Coats
 pub mod Erased
 pub mod Order
 pub mod Numbers

@@ -21,7 +21,7 @@ pub use copied::copies;
 pub use erased::erase;
 pub use laws::{law_costs_are_of_marks, law_orders_agree, law_weights_stay};
 pub use program::{Paths, Program};
-pub use typed::{Typed, TypedKids};
+pub use typed::{Typed, TypedKids, coat};
 pub use value_laws::{
     law_cells_spell, law_constants_are_quiet, law_constants_look_at_statics,
     law_looks_where_pointed,

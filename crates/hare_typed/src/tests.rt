@@ -1,7 +1,7 @@
 //! Each call once, with what a person expects of it.
 
 use crate::{
-    Const, Typed, TypedKids, copies, erase, law_costs_are_of_marks, law_orders_agree,
+    Const, Typed, TypedKids, coat, copies, erase, law_costs_are_of_marks, law_orders_agree,
     law_weights_stay,
 };
 use hare_tree::{Kind, Meaning, Place, Suffix, Word};
@@ -59,6 +59,19 @@ fn marks_are_erased(rt: HostRuntime) -> Result<(), Fail> {
     let tree = erase(rt.alloc(), &value)?;
     assert!(rt; tree.kind == Kind::Paren);
     assert!(rt; tree.kids.get(0).ok_or("kid")?.kind == Kind::Path);
+    Ok(())
+}
+
+#[test]
+fn coercions_are_settled(rt: HostRuntime) -> Result<(), Fail> {
+    let mut value = over(rt.alloc(), Kind::Paren, &Ty::Null)?;
+    value.kids.settle(0, kept(&Ty::Iconst(3)));
+    let Some(kid) = value.kids.get(0) else {
+        return Err("a kid".into());
+    };
+    assert_eq!(rt; kid.coerce, kept(&Ty::Iconst(3)));
+    coat(&mut value, [kept(&Ty::Iconst(4))].as_slice());
+    assert_eq!(rt; value.coerce, kept(&Ty::Iconst(4)));
     Ok(())
 }
 

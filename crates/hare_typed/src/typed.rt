@@ -2,7 +2,10 @@
 
 ghost use Rattle.std.specs.Prelude.{◌≡◌, ◌≤◌, [], ◌∷◌, ◌++◌, length, slice_get, IfSome, IfNone, OnOk, OnErr};
 
+mod coats;
+
 use crate::constant::Const;
+pub use coats::coat;
 use hare_tree::{Kind, Meaning, Place, Suffix, Word};
 use hare_types::{Coercion, Ty};
 use std::alloc::{AllocError, Global};

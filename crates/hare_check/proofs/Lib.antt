@@ -1,0 +1,5 @@
+pub mod Steps
+pub mod Grows
+pub mod Parts
+pub mod Verdicts
+pub mod NullLemmas

@@ -1,0 +1,4 @@
+pub mod Grown
+pub mod Walks
+pub mod Verdicts
+pub mod Nulls

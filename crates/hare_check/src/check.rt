@@ -1,0 +1,103 @@
+//! The walk: kids from left to right, then the node.
+
+ghost use Rattle.std.specs.Prelude.{◌≡◌, [], ◌∷◌, ◌++◌, map, IsTrue, OnOk, IfOk, IfErr, Ok};
+ghost use Rattle.hare_tree.specs.Node.{head, kids_of, nodes_of};
+ghost use Rattle.hare_tree.specs.Shape.{is_shaped};
+ghost use Rattle.hare_types.specs.Store.{Store};
+ghost use Rattle.hare_types.specs.Sound.{IsStore};
+ghost use Rattle.hare_types.specs.Later.{IsLater};
+ghost use Rattle.hare_typed.specs.Typed.{typed_nodes};
+ghost use Rattle.hare_typed.specs.Erased.{erase, erase_each};
+ghost use Rattle.hare_rules.specs.Finished.{bare, IsTheTree, expression};
+ghost use Rattle.hare_inference.specs.Inferred.{found_kids, infer_each};
+ghost use Rattle.hare_check.specs.Grown.{IsGrown};
+ghost use Rattle.hare_check.specs.Walks.{IsPart, Each, IsInHand, AreInHand, IsInferred, IsStopped, IsStop, IsAnswer};
+
+use crate::walk::Walk;
+use hare_tree::{Fault, Kids, Stop, Tree};
+use hare_typed::{Typed, TypedKids};
+use hare_types::TypeStore;
+use std::alloc::Global;
+
+/// The one typed tree of a body, or its first fault, by a walk of which nothing has been done. The store may grow, also where there is a fault.
+/// The call goes as deep in the host as the body is.
+pub fn check_by<W: Walk>(
+    alloc: Global,
+    s: &mut TypeStore,
+    w: &mut W,
+    body: &Tree,
+) -> Result<Typed, Stop<Fault>>
+    requires start { (W.flow w.old).coercions ≡ [] }
+    requires ready { W.Ready w.old s.old }
+    requires shaped { IsTrue (is_shaped expression body.now) }
+    ensures ok { IfOk result (λ x. IsTheTree (W.setting w.old s.new) (W.above w.old) (W.flow w.old) body.now x) }
+    ensures err { IfErr result (λ e. IsAnswer (W.setting w.old s.new) (W.above w.old) (W.flow w.old) body.now e) }
+    ensures grown { IsGrown s.old s.new }
+{
+    let judged = judge_tree(alloc, s, w, body);
+    let _sound = s.declarations();
+    let tree = judged?;
+    Ok(w.finish(tree))
+}
+
+/// The tree with its types, and all that is settled of it by now.
+#[cycle(judge)]
+fn judge_tree<W: Walk>(
+    alloc: Global,
+    s: &mut TypeStore,
+    w: &mut W,
+    t: &Tree,
+) -> Result<Typed, Stop<Fault>>
+    requires ready { W.Ready w.old s.old }
+    requires part { IsPart t.now }
+    ensures ok { IfOk result (λ x. IsInferred (W.setting w.old) s.new (W.above w.old) t.now (W.flow w.old) x (W.flow w.new)) }
+    ensures hand { IfOk result (λ x. IsInHand (W.flow w.new) x) }
+    ensures erases { IfOk result (λ x. erase x ≡ t.now) }
+    ensures ready { OnOk result (W.Ready w.new s.new) }
+    ensures kept { IfOk result (λ x. (r : Store) → IsGrown s.new r → W.Keeps r x) }
+    ensures err { IfErr result (λ e. IsStopped (W.setting w.old) s.new (W.above w.old) t.now (W.flow w.old) e) }
+    ensures above { OnOk result (W.above w.new ≡ W.above w.old) }
+    ensures outer { OnOk result (W.outer w.new ≡ W.outer w.old) }
+    ensures setting { W.setting w.new ≡ W.setting w.old }
+    ensures grown { IsGrown s.old s.new }
+    ensures sound { OnOk result (IsStore s.new) }
+{
+    let kids = judge_kids(alloc, s, w, t, &t.kids)?;
+    w.turn(alloc, s, t, kids)
+}
+
+/// The kids of a node with their types, and all that is settled of them by now.
+#[cycle(judge)]
+fn judge_kids<W: Walk>(
+    alloc: Global,
+    s: &mut TypeStore,
+    w: &mut W,
+    node: &Tree,
+    kids: &Kids,
+) -> Result<TypedKids, Stop<Fault>>
+    requires ready { W.Ready w.old s.old }
+    requires part { IsPart node.now }
+    requires whole { kids_of node.now ≡ nodes_of kids.now }
+    ensures ok { IfOk result (λ xs. (l : Store) → IsLater s.new l → infer_each (W.setting w.old l) (W.above w.old) (head node.now) [] (nodes_of kids.now) (W.flow w.old) ≡ Ok (found_kids (map bare xs) (W.flow w.new))) }
+    ensures hand { IfOk result (λ xs. AreInHand (W.flow w.new) xs) }
+    ensures erases { IfOk result (λ xs. erase_each (typed_nodes xs) ≡ nodes_of kids.now) }
+    ensures ready { OnOk result (W.Ready w.new s.new) }
+    ensures kept { IfOk result (λ xs. Each (W.Keeps s.new) xs) }
+    ensures err { IfErr result (λ e. (l : Store) → IsLater s.new l → IsStop e (infer_each (W.setting w.old l) (W.above w.old) (head node.now) [] (nodes_of kids.now) (W.flow w.old))) }
+    ensures above { OnOk result (W.above w.new ≡ W.above w.old) }
+    ensures outer { OnOk result (W.outer w.new ≡ W.outer w.old) }
+    ensures setting { W.setting w.new ≡ W.setting w.old }
+    ensures grown { IsGrown s.old s.new }
+{
+    let mut done = TypedKids::new(alloc);
+    for i in 0..kids.len() {
+        let Some(kid) = kids.get(i) else {
+            unreachable!();
+        };
+        w.enter(s, node, &done, kids, kid)?;
+        let x = judge_tree(alloc, s, w, kid)?;
+        w.leave();
+        done.push(alloc, x)?;
+    }
+    Ok(done)
+}

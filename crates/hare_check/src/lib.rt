@@ -1,0 +1,12 @@
+//! The checker of bodies: the one typed tree of a body, or its first fault.
+#![tactic(auto)]
+
+mod check;
+mod laws;
+#[cfg(test)]
+mod tests;
+mod walk;
+
+pub use check::check_by;
+pub use laws::law_verdicts_turn;
+pub use walk::Walk;

@@ -1,0 +1,5 @@
+pub mod Inferred
+pub mod Lacking
+pub mod Laws
+pub mod Hands
+pub mod Turns

@@ -1,0 +1,3 @@
+pub mod Told
+pub mod Enough
+pub mod Settled
