@@ -1,0 +1,5 @@
+pub mod Scopes
+pub mod Paths
+pub mod Meanings
+pub mod Doubled
+pub mod Violations
