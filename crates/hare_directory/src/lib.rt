@@ -1,13 +1,9 @@
-// A library with one function.
+//! What the modules of a program declare and what its files import, as tables, and the first fault of these.
 #![tactic(auto)]
 
-ghost use Rattle.std.specs.Prelude.{◌≡◌};
-ghost use Rattle.hare_directory.specs.Echo.{echo_of};
+mod directory;
+mod program;
 
-// The `ensures` clause is the contract: what `echo` returns is `echo_of` of its argument, a definition
-// in `specs/Echo.antt`, which a caller's clause can cite too.
-pub fn echo(x: usize) -> usize
-    ensures { result ≡ echo_of x }
-{
-    x
-}
+
+pub use directory::Directory;
+pub use program::look;
