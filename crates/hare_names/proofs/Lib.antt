@@ -1,0 +1,4 @@
+pub mod PlaceLemmas
+pub mod VerdictLemmas
+pub mod WalkLemmas
+pub mod DoubledLemmas

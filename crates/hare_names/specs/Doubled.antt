@@ -32,9 +32,12 @@ named_kids ts = filter (λ t. is_named (head t).kind) (listed ts)
 abbrev pub same_text : Node → Node → Bool
 same_text a b = bytes_eq (text_of a) (text_of b)
 
+abbrev pub doubled_fault : Node → Fault
+doubled_fault t = fault 12 (place_of t)
+
 -- E12, at each that has the name of one before it
 abbrev pub doubled_kids : Nodes → List Fault
-doubled_kids ts = map (λ t. fault 12 (place_of t)) (repeated same_text (named_kids ts))
+doubled_kids ts = map doubled_fault (repeated same_text (named_kids ts))
 
 -- in a tree, at any depth
 abbrev mutual

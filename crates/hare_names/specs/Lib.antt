@@ -3,3 +3,7 @@ pub mod Paths
 pub mod Meanings
 pub mod Doubled
 pub mod Violations
+pub mod Tables
+pub mod Spots
+pub mod Keys
+pub mod Doubling

@@ -1,5 +1,5 @@
 -- The paths of types and expressions, each with the scopes in which it stands.
-use Rattle.std.specs.Prelude.{ℕ, zero, ◌+◌, List, [], ◌∷◌, ◌++◌, Bool, true, false, ◌||◌, if◌then◌else◌}
+use Rattle.std.specs.Prelude.{ℕ, ◌+◌, List, [], ◌∷◌, ◌++◌, Bool, true, false, ◌||◌, if◌then◌else◌}
 use Rattle.std.specs.List.{flat_map}
 use Rattle.hare_tree.specs.declared.kind.Kind.{Kind}
 use Rattle.hare_tree.specs.declared.kind.Kind.TheVariants as ki
@@ -7,7 +7,7 @@ use Rattle.hare_tree.specs.declared.place.Place.{Place}
 use Rattle.hare_tree.specs.declared.tree.FileTree.{FileTree}
 use Rattle.hare_tree.specs.Node.{Head, Node, Nodes, branch, none, more}
 use Rattle.hare_tree.specs.Spell.{parts}
-use Rattle.hare_names.specs.Scopes.{Scopes, entered, with_locals, is_binding, is_scope, is_for_each, bindings_in, bound_by}
+use Rattle.hare_names.specs.Scopes.{Scopes, entered, with_locals, is_binding, is_scope, is_for_each, bindings_in, bound_by, bound_itself}
 
 -- a path at the position of a type: a type itself, and that of a struct literal
 abbrev pub is_type_path : Kind → Bool
@@ -57,7 +57,7 @@ abbrev mutual
   paths_of_loop n ss (more b none) = paths_in n ss b
   paths_of_loop n ss (more b (more over ts)) =
       paths_in n ss b ++ paths_in (n + bindings_in b) ss over
-      ++ paths_among (n + bindings_in b + bindings_in over) (with_locals (bound_by n b) ss) ts
+      ++ paths_among (n + bindings_in b + bindings_in over) (with_locals (bound_itself n b) ss) ts
 
 -- the paths of a declaration
 abbrev pub paths_of : Node → List Path

@@ -80,6 +80,10 @@ abbrev mutual
   bindings_among none = 0
   bindings_among (more t ts) = bindings_in t + bindings_among ts
 
+-- the local that a tree itself binds
+abbrev pub bound_itself : ℕ → Node → List Local
+bound_itself n (branch h ts) = if is_binding h.kind then (h.text, n) ∷ [] else []
+
 -- The locals that a tree makes visible behind it, in the scope in which it stands; `n` bindings of the declaration stand before it. What is bound
 -- deeper in it ends with a scope of its own.
 abbrev mutual
