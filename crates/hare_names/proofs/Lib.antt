@@ -4,3 +4,8 @@ pub mod WalkLemmas
 pub mod DoubledLemmas
 pub mod AdmittedLemmas
 pub mod JudgedLemmas
+pub mod NotedLemmas
+pub mod SpotLemmas
+pub mod ListedLemmas
+pub mod MeaningLemmas
+pub mod TurnLemmas

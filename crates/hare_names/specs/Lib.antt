@@ -7,3 +7,6 @@ pub mod Tables
 pub mod Spots
 pub mod Keys
 pub mod Doubling
+pub mod Noted
+pub mod Answers
+pub mod Rises

@@ -3,10 +3,12 @@
 
 mod doubled;
 mod kinds;
+mod names;
 mod notes;
 mod places;
+mod program;
 mod verdict;
 mod walk;
 
-pub use notes::Notes;
-pub use verdict::Verdict;
+pub use names::Names;
+pub use program::{Files2, resolve};
