@@ -9,3 +9,5 @@ pub mod SpotLemmas
 pub mod ListedLemmas
 pub mod MeaningLemmas
 pub mod TurnLemmas
+pub mod OrderLemmas
+pub mod ResolveLemmas

@@ -87,7 +87,7 @@ module _ (all : List Source) (d : Directory) (f : ℕ) (s : Source) (told : IsDi
       ∙ flat_map-map (spot_meanings d f) spot_of (paths_of t)
       ∙ flat_map-same (λ p. spot_meanings d f (spot_of p)) (path_meanings all s) (λ p. ap (meanings_by p.place) (judged all d f s told here p)) (paths_of t)
 
-  file-meanings : (ts : List Node) → flat_map (decl_meanings d f) ts ≡ flat_map (path_meanings all s) (flat_map paths_of ts)
+  pub file-meanings : (ts : List Node) → flat_map (decl_meanings d f) ts ≡ flat_map (path_meanings all s) (flat_map paths_of ts)
   file-meanings ts = flat_map-same (decl_meanings d f) (λ t. flat_map (path_meanings all s) (paths_of t)) decl-meanings ts ∙ sym (flat_map-flat_map (path_meanings all s) paths_of ts)
 
 -- a violation of a file: at equal names, or at a path
@@ -145,13 +145,13 @@ pub record InFile (all ss : List Source) (x : Fault) : Type 0 where
 abbrev pub Stands : List Source → ℕ → List Source → Type 0
 Stands all f ss = (i : ℕ) (s : Source) → slice_get ss i ≡ Some s → slice_get all (f + i) ≡ Some s
 
-stands-next : (all : List Source) (f : ℕ) (s : Source) (ss : List Source) → Stands all f (s ∷ ss) → Stands all (f + 1) ss
+pub stands-next : (all : List Source) (f : ℕ) (s : Source) (ss : List Source) → Stands all f (s ∷ ss) → Stands all (f + 1) ss
 stands-next all f s ss h i r e = let j : f + suc i ≡ f + 1 + i = omega arith in subst (λ k. slice_get all k ≡ Some r) j (h (suc i) r e)
 
-stands-here : (all : List Source) (f : ℕ) (s : Source) (ss : List Source) → Stands all f (s ∷ ss) → slice_get all f ≡ Some s
+pub stands-here : (all : List Source) (f : ℕ) (s : Source) (ss : List Source) → Stands all f (s ∷ ss) → slice_get all f ≡ Some s
 stands-here all f s ss h = subst (λ k. slice_get all k ≡ Some s) (add-zero f) (h 0 s refl)
 
-abbrev source_of : List ℕ → FileTree → Source
+abbrev pub source_of : List ℕ → FileTree → Source
 source_of p t = record { home = module_of p; tree = t }
 
 module _ (all : List Source) (d : Directory) (told : IsDirectoryOf all d) where
