@@ -7,6 +7,7 @@ use Rattle.std.proofs.lemmas.List.{map-append}
 use Rattle.std.proofs.lemmas.List.Folds.{find-append}
 use Rattle.hare_tree.specs.Node.{Node}
 use Rattle.hare_directory.proofs.FoundLemmas.{names-symmetric, find-filter, find-firsts, enumerate_from-append}
+use Rattle.hare_tree.specs.declared.token.Meaning.{Meaning}
 use Rattle.hare_tree.specs.declared.token.Meaning.TheVariants as me
 use Rattle.hare_modules.specs.declared.imports.Imported.{Imported}
 use Rattle.hare_modules.specs.declared.items.Entry.{Entry}
@@ -22,9 +23,13 @@ use Rattle.hare_names.specs.declared.verdict.Verdict.TheVariants.{Means, Fails}
 use Rattle.hare_names.specs.Scopes.{visible}
 use Rattle.hare_names.specs.Paths.{Path}
 use Rattle.hare_names.specs.Meanings.{Meant, local_meant, local_of, item_meant, is_unfit, unfit_number, member_number, pair_number, number_by, violation_number, meant}
-use Rattle.hare_names.specs.Violations.{meaning_or_none}
 use Rattle.hare_names.specs.Tables.{verdict, fit, local_verdict, exported_only, member_at, imported_verdict, own_verdict, name_verdict, entry_verdict, known_verdict, pair_verdict}
 use Rattle.hare_names.proofs.AdmittedLemmas.{the_item, only, member_of, behind_of, admitted-one, admitted-pair, admitted_module-found}
+
+-- what a path means, or None where it means nothing
+abbrev pub meaning_or_none : Option Meant → Meaning
+meaning_or_none None = me.None
+meaning_or_none (Some m) = m.meaning
 
 -- what the definitions say of a path, as a verdict
 abbrev pub verdict_of : Option ℕ → Option Meant → Verdict
@@ -46,13 +51,19 @@ map-map : (o : Option Triple) → option_map (λ t. item_meant t.item) o ≡ opt
 map-map None = refl
 map-map (Some t) = refl
 
+module _ (all : List Source) (s : Source) where
+  pub meant-is : (p : Path) (names : List (List ℕ)) → p.names ≡ names → meant all s p ≡ option_or (option_map local_meant (local_of p.scopes names)) (option_map item_meant (option_map the_item (admitted all s names)))
+  meant-is p names e =
+      ap (λ xs. option_or (option_map local_meant (local_of p.scopes xs)) (option_map (λ t. item_meant t.item) (admitted all s xs))) e
+      ∙ ap (option_or (option_map local_meant (local_of p.scopes names))) (map-map (admitted all s names))
+
 -- ---- modules that are not known
 
 abbrev AtHome : List Item → Type 0
 AtHome [] = Unit {0}
 AtHome (i ∷ is) = (i.home ≡ runtime) × AtHome is
 
-abbrev item_number : ℕ × Declared → Item
+abbrev pub item_number : ℕ × Declared → Item
 item_number e = record {
   home = e.1.home;
   name = text_of (name_in e.1.tree);
@@ -178,21 +189,16 @@ module _ (all : List Source) (d : Directory) (f : ℕ) (s : Source) (told : IsDi
 
   -- ---- all paths
 
-  meant-is : (p : Path) (names : List (List ℕ)) → p.names ≡ names → meant all s p ≡ option_or (option_map local_meant (local_of p.scopes names)) (option_map item_meant (option_map the_item (admitted all s names)))
-  meant-is p names e =
-      ap (λ xs. option_or (option_map local_meant (local_of p.scopes xs)) (option_map (λ t. item_meant t.item) (admitted all s xs))) e
-      ∙ ap (option_or (option_map local_meant (local_of p.scopes names))) (map-map (admitted all s names))
-
   pub judged : (p : Path) → verdict d f p.is_type (visible p.scopes) p.names ≡ verdict_of (violation_number all s p) (meant all s p)
   judged p = by p.names refl
     where
       by : (names : List (List ℕ)) → p.names ≡ names → verdict d f p.is_type (visible p.scopes) names ≡ verdict_of (number_by all s p names) (meant all s p)
       by [] e = refl
-      by (x ∷ []) e = name-same p x (number_of x (visible p.scopes)) ∙ ap (λ o. verdict_of (unfit_number p o) o) (sym (meant-is p (x ∷ []) e))
+      by (x ∷ []) e = name-same p x (number_of x (visible p.scopes)) ∙ ap (λ o. verdict_of (unfit_number p o) o) (sym (meant-is all s p (x ∷ []) e))
       by (m ∷ x ∷ []) e =
           ap (pair_verdict d p.is_type x) (told.imports_are f s m here)
           ∙ pair-same p x (find (λ i. bytes_eq i.name m) (imports s.tree))
           ∙ ap (λ o. verdict_of (pair_number all p (option_map item_meant (option_and_then (behind_of all s x) (find (λ i. bytes_eq i.name m) (imports s.tree)))) x o) (option_map item_meant (option_and_then (behind_of all s x) (find (λ i. bytes_eq i.name m) (imports s.tree))))) (sym (admitted_module-found all s m x))
           ∙ ap (λ o. verdict_of (pair_number all p (option_map item_meant o) x (admitted_module all s m)) (option_map item_meant o)) (sym (admitted-pair all s m x))
-          ∙ ap (λ o. verdict_of (pair_number all p o x (admitted_module all s m)) o) (sym (meant-is p (m ∷ x ∷ []) e))
+          ∙ ap (λ o. verdict_of (pair_number all p o x (admitted_module all s m)) o) (sym (meant-is all s p (m ∷ x ∷ []) e))
       by (m ∷ x ∷ y ∷ ys) e = refl

@@ -10,4 +10,7 @@ pub mod ListedLemmas
 pub mod MeaningLemmas
 pub mod TurnLemmas
 pub mod OrderLemmas
+pub mod SomethingLemmas
 pub mod ResolveLemmas
+pub mod ScopeLemmas
+pub mod Rows

@@ -23,11 +23,10 @@ use Rattle.hare_names.specs.Scopes.{visible}
 use Rattle.hare_names.specs.Paths.{Path, paths_of, paths_of_file}
 use Rattle.hare_names.specs.Doubled.{doubled_in, doubled_names}
 use Rattle.hare_names.specs.Meanings.{Meant, meant, violation_number, path_violation}
-use Rattle.hare_names.specs.Violations.{meaning_or_none}
 use Rattle.hare_names.specs.Tables.{verdict, meaning_at}
 use Rattle.hare_names.specs.Spots.{Spot, spots_in}
 use Rattle.hare_names.specs.Rises.{Rises, IsOrdered}
-use Rattle.hare_names.proofs.JudgedLemmas.{verdict_of, judged}
+use Rattle.hare_names.proofs.JudgedLemmas.{meaning_or_none, verdict_of, judged}
 use Rattle.hare_names.proofs.SpotLemmas.{spot_of, spots-in}
 use Rattle.hare_names.proofs.ListedLemmas.{Meanings, faults_by, meanings_by, spot_faults, spot_meanings, decl_faults, decl_meanings, faults_from, meanings_from, same-is, same-itself, meaning-append}
 

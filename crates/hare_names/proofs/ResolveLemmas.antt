@@ -15,14 +15,16 @@ use Rattle.hare_modules.proofs.OrderLemmas.{first-of-list, first-of-same}
 use Rattle.hare_names.specs.declared.notes.Notes.{Notes}
 use Rattle.hare_names.specs.Paths.{Path, paths_of, paths_of_file}
 use Rattle.hare_names.specs.Meanings.{meant, violation_number, path_violation}
-use Rattle.hare_names.specs.Violations.{IsPathOf, IsViolation, of_modules, doubled, of_path, AreMeanings, meaning_or_none}
+use Rattle.hare_names.specs.Violations.{IsPathOf, IsViolation, of_modules, doubled, of_path, AreMeanings, IsMeaningOf}
 use Rattle.hare_names.specs.Tables.{meaning_at}
 use Rattle.hare_names.specs.Noted.{files_noted}
 use Rattle.hare_names.specs.Answers.{AreFiles, meaning_in, or_no_meaning}
 use Rattle.hare_names.specs.Rises.{IsOrdered}
 use Rattle.hare_names.proofs.ListedLemmas.{Meanings, put_one, decl_meanings, faults_from, meanings_from, files-first, files-places, meaning-all, meaning-append}
 use Rattle.hare_names.proofs.MeaningLemmas.{path_meanings, file-meanings, IsFileViolation, at_double, at_path, InFile, Stands, stands-here, stands-next, source_of, faults-to, faults-from, elsewhere, at-path}
+use Rattle.hare_names.proofs.JudgedLemmas.{meaning_or_none}
 use Rattle.hare_names.proofs.OrderLemmas.{ordered}
+use Rattle.hare_names.proofs.SomethingLemmas.{fine-meant, fine-something}
 
 pub files-numbered : (ps : List (List ℕ)) (ts : List FileTree) → AreFiles ps ts → AreNumbered ps ts
 files-numbered ps ts h = record { paired = h.paired; numbered = λ k t e. (h.files k t e).is_tree.file_is; few_decls = h.few_decls }
@@ -130,7 +132,7 @@ module _ (ps : List (List ℕ)) (ts : List FileTree) (d : Directory) (h : AreFil
   -- where there is no violation, each path has its meaning
   pub resolved-meanings : (notes notes' : Notes) → ((f : Fault) → IsViolation all f → ⊥) → notes.places ≡ [] → notes' ≡ files_noted d 0 notes ts → AreMeanings all (meaning_in notes'.places)
   resolved-meanings notes notes' none e n = record {
-    at_path = λ s p i. ap or_no_meaning (found p.place ∙ all-there all d told 0 ps ts s p h.paired stands are-ordered i.is_source i.is_path (fine s p i));
+    at_path = λ s p i. meaning-there s p i;
     elsewhere = λ q f. ap or_no_meaning (found q ∙ all-elsewhere all d told 0 ps ts q h.paired stands (λ s p c b. f s p record { is_source = c; is_path = b }));
   }
     where
@@ -145,3 +147,10 @@ module _ (ps : List (List ℕ)) (ts : List FileTree) (d : Directory) (h : AreFil
           by : (o : Option ℕ) → violation_number all s p ≡ o → o ≡ None
           by None k = refl
           by (Some k) g = absurd (none (fault k p.place) (of_path s p i (ap (option_map (λ m. fault m p.place)) g)))
+
+      meaning-there : (s : Source) (p : Path) → IsPathOf all s p → IsMeaningOf all s p (meaning_in notes'.places p.place)
+      meaning-there s p i =
+          let m = fine-meant all s p (fine s p i) in
+          let value : meaning_in notes'.places p.place ≡ m.0.meaning =
+              ap or_no_meaning (found p.place ∙ all-there all d told 0 ps ts s p h.paired stands are-ordered i.is_source i.is_path (fine s p i)) ∙ ap meaning_or_none m.1 in
+          record { meant_as = m.0; is_meant = m.1; meaning_is = value; something = λ e. fine-something all s p (fine s p i) m.0 m.1 (sym value ∙ e) }

@@ -11,11 +11,11 @@ use Rattle.hare_names.specs.Spots.{Spot, spot_at, spots_in, spots_among, spots_o
 abbrev pub spot_of : Path → Spot
 spot_of p = record { place = p.place; names = p.names; is_type = p.is_type; locals = visible p.scopes }
 
-visible-with : (ls : List Local) (ss : Scopes) → visible (with_locals ls ss) ≡ ls ++ visible ss
+pub visible-with : (ls : List Local) (ss : Scopes) → visible (with_locals ls ss) ≡ ls ++ visible ss
 visible-with ls [] = refl
 visible-with ls (s ∷ ss) = append_assoc ls s (visible ss)
 
-visible-within : (k : Kind) (ss : Scopes) → visible (scopes_within k ss) ≡ visible ss
+pub visible-within : (k : Kind) (ss : Scopes) → visible (scopes_within k ss) ≡ visible ss
 visible-within k ss = by (is_scope k)
   where
     by : (b : Bool) → visible (if b then entered ss else ss) ≡ visible ss

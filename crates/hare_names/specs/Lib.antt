@@ -10,3 +10,4 @@ pub mod Doubling
 pub mod Noted
 pub mod Answers
 pub mod Rises
+pub mod Bindings

@@ -27,14 +27,16 @@ pub data IsViolation (ss : List Source) (f : Fault) : Type 0 where
   -- E13 to E15, at a path
   of_path : (s : Source) (p : Path) → IsPathOf ss s p → path_violation ss s p ≡ Some f → IsViolation ss f
 
--- what a path means, or None where it means nothing
-abbrev pub meaning_or_none : Option Meant → Meaning
-meaning_or_none None = me.None
-meaning_or_none (Some m) = m.meaning
+-- This is what the path means, which is not nothing.
+pub record IsMeaningOf (ss : List Source) (s : Source) (p : Path) (m : Meaning) : Type 0 where
+  pub meant_as : Meant
+  pub is_meant : meant ss s p ≡ Some meant_as
+  pub meaning_is : m ≡ meant_as.meaning
+  pub something : m ≡ me.None → ⊥
 
 -- The meanings of a program by places: at the place of each path what it means, and None where no path stands.
 pub record AreMeanings (ss : List Source) (means : Place → Meaning) : Type 0 where
-  pub at_path : (s : Source) (p : Path) → IsPathOf ss s p → means p.place ≡ meaning_or_none (meant ss s p)
+  pub at_path : (s : Source) (p : Path) → IsPathOf ss s p → IsMeaningOf ss s p (means p.place)
   pub elsewhere : (q : Place) → ((s : Source) (p : Path) → IsPathOf ss s p → p.place ≡ q → ⊥) → means q ≡ me.None
 
 -- the bindings of a program are few enough to have numbers
