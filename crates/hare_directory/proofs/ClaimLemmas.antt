@@ -1,18 +1,16 @@
 -- Equal names: those of the program's definition, and those that are found by the numbers of modules.
-use Rattle.std.proofs.Common.{◌≡◌, ℕ, ◌+◌, List, [], ◌∷◌, ◌++◌, Bool, true, false, cond, ◌&&◌, ◌||◌, ◌==◌, not, length, map, slice_get, bytes_eq, Some, refl, sym, ap, ◌∙◌, subst, suc, zero, add-zero, true≢false, arith}
+use Rattle.std.proofs.Common.{◌≡◌, ℕ, ◌+◌, List, [], ◌∷◌, ◌++◌, Bool, true, false, cond, ◌&&◌, ◌||◌, ◌==◌, not, length, map, slice_get, bytes_eq, Some, refl, sym, ap, ◌∙◌, subst, suc, add-zero, true≢false, arith}
 use Rattle.std.specs.List.{flat_map, list_any}
 use Rattle.std.proofs.lemmas.List.{map-append}
-use Rattle.hare_tree.specs.declared.place.Fault.{Fault}
 use Rattle.hare_tree.specs.declared.tree.FileTree.{FileTree}
 use Rattle.hare_tree.specs.Node.{Node, head}
 use Rattle.hare_tree.specs.Spell.{start_of}
 use Rattle.hare_modules.specs.declared.claims.Taker.{Taker}
-use Rattle.hare_modules.specs.declared.claims.Taker.TheVariants as ta
 use Rattle.hare_modules.specs.Order.{fault}
-use Rattle.hare_modules.specs.Modules.{Module, Source, sources, module_of, runtime, same_module}
+use Rattle.hare_modules.specs.Modules.{Module, Source, sources, module_of, runtime}
 use Rattle.hare_modules.specs.Uses.{Import, import_as, imports_of, imports, text_of, place_of, names_brought, is_braced, module_used}
 use Rattle.hare_modules.specs.Declarations.{name_in, Item, built_in}
-use Rattle.hare_modules.specs.Entries.{entry, entry_of}
+use Rattle.hare_modules.specs.Entries.{entry}
 use Rattle.hare_modules.specs.Repeated.{Claim, clash, claims_of, repeated_behind, repeated_claims}
 use Rattle.hare_modules.specs.Numbering.{AreHomes, IsNumbering}
 use Rattle.hare_modules.specs.Takings.{Taking, is_import, clashes, named, import_taker, number_used, use_takings, decl_takings, takings}

@@ -1,5 +1,5 @@
 -- What the names that are taken tell of the names that files import.
-use Rattle.std.proofs.Common.{◌≡◌, ℕ, ◌+◌, ◌<◌, List, [], ◌∷◌, ◌++◌, Bool, true, false, cond, ◌&&◌, ◌==◌, not, length, map, find, slice_get, position, bytes_eq, Option, Some, None, refl, sym, ap, ◌∙◌, subst, suc, zero, add-zero, true≢false, arith}
+use Rattle.std.proofs.Common.{◌≡◌, ℕ, ◌+◌, ◌<◌, List, [], ◌∷◌, ◌++◌, Bool, true, false, cond, ◌&&◌, ◌==◌, not, length, map, find, slice_get, position, bytes_eq, Option, Some, None, refl, sym, ap, ◌∙◌, suc, zero, add-zero, true≢false, arith}
 use Rattle.std.specs.Prelude.{option_map, option_and_then}
 use Rattle.std.specs.Option.{option_or}
 use Rattle.std.specs.List.{flat_map}

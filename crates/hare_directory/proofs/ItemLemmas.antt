@@ -1,5 +1,5 @@
 -- What the names that are taken tell of the names of modules.
-use Rattle.std.proofs.Common.{◌≡◌, ℕ, ◌+◌, List, [], ◌∷◌, ◌++◌, Bool, true, false, cond, ◌&&◌, ◌==◌, not, length, map, filter, find, slice_get, position, bytes_eq, Option, Some, None, refl, sym, ap, ◌∙◌, true≢false}
+use Rattle.std.proofs.Common.{◌≡◌, ℕ, ◌+◌, List, [], ◌∷◌, ◌++◌, Bool, true, false, cond, ◌&&◌, ◌==◌, not, length, map, filter, find, slice_get, bytes_eq, Option, Some, None, refl, sym, ap, ◌∙◌, true≢false}
 use Rattle.std.specs.Prelude.{option_map, option_and_then}
 use Rattle.std.specs.Option.{option_or}
 use Rattle.std.specs.List.{enumerate_from, flat_map}
@@ -14,12 +14,12 @@ use Rattle.hare_modules.specs.declared.imports.Imported.{Imported}
 use Rattle.hare_modules.specs.declared.items.Entry.{Entry}
 use Rattle.hare_modules.specs.declared.claims.Taker.{Taker}
 use Rattle.hare_modules.specs.declared.claims.Taker.TheVariants as ta
-use Rattle.hare_modules.specs.Modules.{Module, Source, sources, module_of, runtime, same_module}
+use Rattle.hare_modules.specs.Modules.{Module, sources, module_of, runtime, same_module}
 use Rattle.hare_modules.specs.Uses.{text_of, names_brought, is_braced}
 use Rattle.hare_modules.specs.Declarations.{Declared, declarations, name_in, is_exported, declares_type, Item, built_in, item_named}
 use Rattle.hare_modules.specs.Entries.{entry, entry_of}
 use Rattle.hare_modules.specs.Numbering.{AreHomes, IsNumbering}
-use Rattle.hare_modules.specs.Takings.{Taking, is_import, named, import_taker, number_used, use_takings, decl_takings, takings}
+use Rattle.hare_modules.specs.Takings.{Taking, is_import, named, number_used, use_takings, decl_takings, takings}
 use Rattle.hare_modules.specs.Taken.{declared, declares, declared_among, built_in_taking, built_in_takings}
 use Rattle.hare_directory.proofs.FoundLemmas.{names-symmetric, find-filter, find-firsts, option_map-or, found, found-append, enumerate_from-append}
 

@@ -1,13 +1,11 @@
 -- What is found of a program by numbers is what its definitions say of it.
-use Rattle.std.proofs.Common.{◌≡◌, ◌⊎◌, inl, inr, ℕ, ◌+◌, ◌<◌, ◌≤◌, List, [], ◌∷◌, ◌++◌, map, filter, fold, length, slice_get, position, bytes_eq, Option, Some, None, refl, sym, ap, ◌∙◌, subst, suc, zero, zero-add, arith}
+use Rattle.std.proofs.Common.{◌≡◌, ◌⊎◌, inl, inr, ℕ, ◌+◌, List, [], ◌∷◌, ◌++◌, map, fold, length, slice_get, position, bytes_eq, Option, Some, refl, sym, ap, ◌∙◌, subst, suc, zero, zero-add, arith}
 use Rattle.std.specs.Prelude.{option_map, option_and_then, Contains}
-use Rattle.std.specs.List.{filter_map, flat_map}
+use Rattle.std.specs.List.{filter_map}
 use Rattle.hare_tree.specs.declared.place.Fault.{Fault}
 use Rattle.hare_tree.specs.declared.tree.FileTree.{FileTree}
-use Rattle.hare_tree.specs.Spell.{start_of}
-use Rattle.hare_modules.specs.Order.{fault, earlier_of, first_in, TellsFirst}
-use Rattle.hare_modules.specs.Modules.{Module, Source, sources, module_of, runtime, same_module, is_known}
-use Rattle.hare_modules.specs.Uses.{module_used, path_in, place_of}
+use Rattle.hare_modules.specs.Order.{earlier_of, first_in, TellsFirst}
+use Rattle.hare_modules.specs.Modules.{Module, Source, sources, module_of}
 use Rattle.hare_modules.specs.Declarations.{item_named}
 use Rattle.hare_modules.specs.Entries.{entry}
 use Rattle.hare_modules.specs.Faults.{IsModuleFault, unknown_module, repeated_name, runtime_file, unknown_member, circle, IsCircle, unknown_modules, repeated_names, runtime_files, unknown_members}
@@ -27,7 +25,7 @@ use Rattle.hare_directory.proofs.ImportLemmas.{imports-told}
 use Rattle.hare_directory.proofs.PlacedLemmas.{takings-placed}
 use Rattle.hare_directory.proofs.ClaimLemmas.{repeated-are}
 use Rattle.hare_directory.proofs.MemberLemmas.{members-same}
-use Rattle.std.proofs.Common.{get_or, not}
+use Rattle.std.proofs.Common.{get_or}
 
 -- the numbers of a program's modules, and the tables of what is taken
 pub record IsLook (ps : List (List ℕ)) (ts : List FileTree) (known : List Module) (hs : List ℕ) (t : Tables) : Type 0 where

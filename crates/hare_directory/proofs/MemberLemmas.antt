@@ -9,17 +9,15 @@ use Rattle.hare_tree.specs.declared.place.Fault.{Fault}
 use Rattle.hare_tree.specs.declared.tree.FileTree.{FileTree}
 use Rattle.hare_tree.specs.Node.{Node, head}
 use Rattle.hare_modules.specs.declared.items.Entry.{Entry}
-use Rattle.hare_modules.specs.declared.claims.Taker.{Taker}
-use Rattle.hare_modules.specs.declared.claims.Taker.TheVariants as ta
 use Rattle.hare_modules.specs.Order.{fault}
 use Rattle.hare_modules.specs.Modules.{Module, Source, sources, module_of, is_known}
-use Rattle.hare_modules.specs.Uses.{Import, import_as, imports_of, imports, text_of, place_of, names_brought, is_braced, module_used}
+use Rattle.hare_modules.specs.Uses.{import_as, imports_of, imports, text_of, place_of, names_brought, is_braced, module_used}
 use Rattle.hare_modules.specs.Declarations.{Item, item_named}
 use Rattle.hare_modules.specs.Entries.{entry}
 use Rattle.hare_modules.specs.Faults.{member_fault, member_faults}
 use Rattle.hare_modules.specs.Numbering.{AreHomes}
 use Rattle.hare_modules.specs.Tables.{value_of}
-use Rattle.hare_modules.specs.Takings.{named, import_taker, number_used, use_takings, decl_takings, takings}
+use Rattle.hare_modules.specs.Takings.{named, import_taker, use_takings, decl_takings, takings}
 use Rattle.hare_modules.specs.Taken.{table_at, not_had, member_of, member_fault as member_fault_by}
 
 module _ (all : List Source) (known : List Module) (items : List (List (List ℕ × Entry))) (is-known : (m : Module) → is_some (position (bytes_eq m) known) ≡ is_known all m) (told : (m : Module) (n : ℕ) (x : List ℕ) → position (bytes_eq m) known ≡ Some n → value_of x (table_at items n) ≡ option_map entry (item_named all m x)) where

@@ -1,5 +1,5 @@
 -- The names that are taken are in the modules and files of the program.
-use Rattle.std.proofs.Common.{◌≡◌, ◌⊎◌, inl, inr, ℕ, ◌+◌, ◌<◌, ◌≤◌, List, [], ◌∷◌, ◌++◌, true, length, map, slice_get, Some, refl, sym, ap, ◌∙◌, subst, suc, zero, add-zero, arith}
+use Rattle.std.proofs.Common.{◌≡◌, ◌⊎◌, inl, inr, ℕ, ◌+◌, ◌<◌, ◌≤◌, List, [], ◌∷◌, ◌++◌, length, map, slice_get, Some, refl, sym, subst, suc, add-zero, arith}
 use Rattle.std.specs.Prelude.{Contains}
 use Rattle.std.specs.List.{flat_map}
 use Rattle.std.proofs.lemmas.List.Elements.{Contains-append_cases}
@@ -7,12 +7,12 @@ use Rattle.hare_tree.specs.declared.tree.FileTree.{FileTree}
 use Rattle.hare_tree.specs.Node.{Node, head}
 use Rattle.hare_modules.specs.declared.claims.Taker.{Taker}
 use Rattle.hare_modules.specs.declared.claims.Taker.TheVariants as ta
-use Rattle.hare_modules.specs.Modules.{Module, module_of}
+use Rattle.hare_modules.specs.Modules.{Module}
 use Rattle.hare_modules.specs.Uses.{names_brought, is_braced}
 use Rattle.hare_modules.specs.Declarations.{name_in}
 use Rattle.hare_modules.specs.Entries.{entry_of}
 use Rattle.hare_modules.specs.Numbering.{AreHomes}
-use Rattle.hare_modules.specs.Takings.{Taking, is_import, named, import_taker, number_used, use_takings, decl_takings, takings}
+use Rattle.hare_modules.specs.Takings.{Taking, named, import_taker, number_used, use_takings, decl_takings, takings}
 use Rattle.hare_modules.proofs.FloodLemmas.{Contains-none, Contains-cases}
 use Rattle.hare_modules.proofs.NumberLemmas.{get-within}
 use Rattle.hare_modules.proofs.TellsLemmas.{IsPlaced, ArePlaced}

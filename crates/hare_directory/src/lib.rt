@@ -3,7 +3,8 @@
 
 mod directory;
 mod program;
-
+#[cfg(test)]
+mod tests;
 
 pub use directory::Directory;
 pub use program::look;

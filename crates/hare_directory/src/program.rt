@@ -39,7 +39,10 @@ pub fn look(
     let runtime = runtime_file(homes.as_slice(), files);
     let module = unknown_module(uses.as_slice());
     let member = unknown_member(taken.items.as_slice(), claims.as_slice());
-    let first = earlier_of(earlier_of(earlier_of(earlier_of(circle, repeated), runtime), member), module);
+    let first = earlier_of(
+        earlier_of(earlier_of(earlier_of(circle, repeated), runtime), member),
+        module,
+    );
     let directory = Directory {
         homes,
         items: taken.items,

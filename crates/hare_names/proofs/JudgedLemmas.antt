@@ -9,20 +9,18 @@ use Rattle.hare_tree.specs.Node.{Node}
 use Rattle.hare_directory.proofs.FoundLemmas.{names-symmetric, find-filter, find-firsts, enumerate_from-append}
 use Rattle.hare_tree.specs.declared.token.Meaning.{Meaning}
 use Rattle.hare_tree.specs.declared.token.Meaning.TheVariants as me
-use Rattle.hare_modules.specs.declared.imports.Imported.{Imported}
-use Rattle.hare_modules.specs.declared.items.Entry.{Entry}
 use Rattle.hare_modules.specs.Modules.{Module, Source, is_known, runtime}
 use Rattle.hare_modules.specs.Uses.{Import, imports, text_of}
 use Rattle.hare_modules.specs.Declarations.{Item, item_named, Declared, declarations, name_in, is_exported, declares_type, built_in}
 use Rattle.hare_modules.specs.Admitted.{Triple, admitted, admitted_module}
 use Rattle.hare_modules.specs.Entries.{entry}
-use Rattle.hare_modules.specs.Directory.{Directory, IsDirectoryOf, item_at, own_at, import_at, imported}
+use Rattle.hare_modules.specs.Directory.{Directory, IsDirectoryOf, imported}
 use Rattle.hare_blocks.specs.Scopes.{number_of}
 use Rattle.hare_names.specs.declared.verdict.Verdict.{Verdict}
 use Rattle.hare_names.specs.declared.verdict.Verdict.TheVariants.{Means, Fails}
 use Rattle.hare_names.specs.Scopes.{visible}
 use Rattle.hare_names.specs.Paths.{Path}
-use Rattle.hare_names.specs.Meanings.{Meant, local_meant, local_of, item_meant, is_unfit, unfit_number, member_number, pair_number, number_by, violation_number, meant}
+use Rattle.hare_names.specs.Meanings.{Meant, local_meant, local_of, item_meant, unfit_number, member_number, pair_number, number_by, violation_number, meant}
 use Rattle.hare_names.specs.Tables.{verdict, fit, local_verdict, exported_only, member_at, imported_verdict, own_verdict, name_verdict, entry_verdict, known_verdict, pair_verdict}
 use Rattle.hare_names.proofs.AdmittedLemmas.{the_item, only, member_of, behind_of, admitted-one, admitted-pair, admitted_module-found}
 

@@ -1,15 +1,14 @@
 -- What is noted of a program is what its definitions say.
-use Rattle.std.proofs.Common.{◌≡◌, ◌⊎◌, inl, inr, ℕ, ◌+◌, ◌<◌, List, [], ◌∷◌, ◌++◌, Bool, true, false, cond, ◌||◌, ◌&&◌, ◌==◌, nat_lt, map, length, slice_get, Option, Some, None, refl, sym, ap, ◌∙◌, subst, suc, zero, add-zero, true≢false, arith, if◌then◌else◌}
+use Rattle.std.proofs.Common.{◌≡◌, ◌⊎◌, inl, inr, ℕ, ◌+◌, ◌<◌, List, [], ◌∷◌, ◌++◌, Bool, true, false, cond, ◌||◌, ◌&&◌, ◌==◌, nat_lt, length, slice_get, Option, Some, None, refl, sym, ap, ◌∙◌, subst, suc, add-zero, true≢false, arith}
 use Rattle.std.specs.Prelude.{option_map, Contains}
 use Rattle.std.specs.List.{flat_map}
 use Rattle.std.specs.Option.{option_or}
-use Rattle.std.proofs.lemmas.Bool.{eqb-true, eq-eqb, ltb-true, and_parts}
+use Rattle.std.proofs.lemmas.Bool.{ltb-true, and_parts}
 use Rattle.std.proofs.lemmas.List.Concat.{flat_map-append}
 use Rattle.std.proofs.lemmas.List.Folds.{flat_map-map}
 use Rattle.std.proofs.lemmas.List.Elements.{Contains-append_cases, Contains-append_left, Contains-append_right}
 use Rattle.hare_tree.specs.declared.place.Place.{Place}
 use Rattle.hare_tree.specs.declared.place.Fault.{Fault}
-use Rattle.hare_tree.specs.declared.token.Meaning.{Meaning}
 use Rattle.hare_tree.specs.declared.tree.FileTree.{FileTree}
 use Rattle.hare_tree.specs.Node.{Node}
 use Rattle.hare_lex.specs.Order.{is_before}
@@ -19,16 +18,14 @@ use Rattle.hare_modules.specs.Directory.{Directory, IsDirectoryOf}
 use Rattle.hare_modules.proofs.FloodLemmas.{Contains-none, Contains-cases, Contains-here, Contains-behind}
 use Rattle.hare_names.specs.declared.verdict.Verdict.{Verdict}
 use Rattle.hare_names.specs.declared.verdict.Verdict.TheVariants.{Means, Fails}
-use Rattle.hare_names.specs.Scopes.{visible}
 use Rattle.hare_names.specs.Paths.{Path, paths_of, paths_of_file}
 use Rattle.hare_names.specs.Doubled.{doubled_in, doubled_names}
-use Rattle.hare_names.specs.Meanings.{Meant, meant, violation_number, path_violation}
-use Rattle.hare_names.specs.Tables.{verdict, meaning_at}
-use Rattle.hare_names.specs.Spots.{Spot, spots_in}
-use Rattle.hare_names.specs.Rises.{Rises, IsOrdered}
+use Rattle.hare_names.specs.Meanings.{meant, violation_number, path_violation}
+use Rattle.hare_names.specs.Tables.{meaning_at}
+use Rattle.hare_names.specs.Rises.{Rises}
 use Rattle.hare_names.proofs.JudgedLemmas.{meaning_or_none, verdict_of, judged}
 use Rattle.hare_names.proofs.SpotLemmas.{spot_of, spots-in}
-use Rattle.hare_names.proofs.ListedLemmas.{Meanings, faults_by, meanings_by, spot_faults, spot_meanings, decl_faults, decl_meanings, faults_from, meanings_from, same-is, same-itself, meaning-append}
+use Rattle.hare_names.proofs.ListedLemmas.{Meanings, faults_by, meanings_by, spot_faults, spot_meanings, decl_faults, decl_meanings, faults_from, same-is, same-itself, meaning-append}
 
 -- ---- lists
 

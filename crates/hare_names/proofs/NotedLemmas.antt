@@ -1,5 +1,5 @@
 -- What is noted of declarations and files, one by one, and the room for the numbers of bindings.
-use Rattle.std.proofs.Common.{◌≡◌, ℕ, ◌+◌, ◌<◌, ◌≤◌, List, [], ◌∷◌, fold, drop, length, slice_get, Some, refl, sym, ap, ◌∙◌, suc, zero, zero-add, arith}
+use Rattle.std.proofs.Common.{◌≡◌, ℕ, ◌+◌, ◌≤◌, List, [], ◌∷◌, fold, drop, length, slice_get, Some, sym, ap, ◌∙◌, suc, zero, arith}
 use Rattle.std.specs.Prelude.{sum_by}
 use Rattle.std.proofs.lemmas.List.Sums.{sum_by-cons}
 use Rattle.hare_tree.specs.declared.tree.FileTree.{FileTree}

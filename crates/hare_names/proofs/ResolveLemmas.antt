@@ -1,5 +1,5 @@
 -- The answer of `resolve` is what the definitions say.
-use Rattle.std.proofs.Common.{◌≡◌, ◌⊎◌, inl, inr, ℕ, ◌+◌, List, [], ◌∷◌, ◌++◌, fold, length, slice_get, Option, Some, None, refl, sym, ap, ◌∙◌, subst, suc, zero, zero-add, add-zero, arith}
+use Rattle.std.proofs.Common.{◌≡◌, ◌⊎◌, inl, inr, ℕ, ◌+◌, List, [], ◌∷◌, fold, length, slice_get, Option, Some, None, refl, sym, ap, ◌∙◌, subst, suc, zero-add, add-zero, arith}
 use Rattle.std.specs.Prelude.{option_map, Contains}
 use Rattle.std.specs.List.{flat_map}
 use Rattle.std.specs.Option.{option_or}
@@ -13,15 +13,15 @@ use Rattle.hare_modules.specs.Directory.{Directory, IsDirectoryOf, AreNumbered}
 use Rattle.hare_modules.proofs.FloodLemmas.{Contains-none, Contains-cases, Contains-here, Contains-behind}
 use Rattle.hare_modules.proofs.OrderLemmas.{first-of-list, first-of-same}
 use Rattle.hare_names.specs.declared.notes.Notes.{Notes}
-use Rattle.hare_names.specs.Paths.{Path, paths_of, paths_of_file}
-use Rattle.hare_names.specs.Meanings.{meant, violation_number, path_violation}
+use Rattle.hare_names.specs.Paths.{Path, paths_of_file}
+use Rattle.hare_names.specs.Meanings.{meant, violation_number}
 use Rattle.hare_names.specs.Violations.{IsPathOf, IsViolation, of_modules, doubled, of_path, AreMeanings, IsMeaningOf}
 use Rattle.hare_names.specs.Tables.{meaning_at}
 use Rattle.hare_names.specs.Noted.{files_noted}
 use Rattle.hare_names.specs.Answers.{AreFiles, meaning_in, or_no_meaning}
 use Rattle.hare_names.specs.Rises.{IsOrdered}
-use Rattle.hare_names.proofs.ListedLemmas.{Meanings, put_one, decl_meanings, faults_from, meanings_from, files-first, files-places, meaning-all, meaning-append}
-use Rattle.hare_names.proofs.MeaningLemmas.{path_meanings, file-meanings, IsFileViolation, at_double, at_path, InFile, Stands, stands-here, stands-next, source_of, faults-to, faults-from, elsewhere, at-path}
+use Rattle.hare_names.proofs.ListedLemmas.{decl_meanings, faults_from, meanings_from, files-first, files-places, meaning-all, meaning-append}
+use Rattle.hare_names.proofs.MeaningLemmas.{path_meanings, file-meanings, IsFileViolation, at_double, at_path, Stands, stands-here, stands-next, source_of, faults-to, faults-from, elsewhere, at-path}
 use Rattle.hare_names.proofs.JudgedLemmas.{meaning_or_none}
 use Rattle.hare_names.proofs.OrderLemmas.{ordered}
 use Rattle.hare_names.proofs.SomethingLemmas.{fine-meant, fine-something}
@@ -152,5 +152,5 @@ module _ (ps : List (List ℕ)) (ts : List FileTree) (d : Directory) (h : AreFil
       meaning-there s p i =
           let m = fine-meant all s p (fine s p i) in
           let value : meaning_in notes'.places p.place ≡ m.0.meaning =
-              ap or_no_meaning (found p.place ∙ all-there all d told 0 ps ts s p h.paired stands are-ordered i.is_source i.is_path (fine s p i)) ∙ ap meaning_or_none m.1 in
+          ap or_no_meaning (found p.place ∙ all-there all d told 0 ps ts s p h.paired stands are-ordered i.is_source i.is_path (fine s p i)) ∙ ap meaning_or_none m.1 in
           record { meant_as = m.0; is_meant = m.1; meaning_is = value; something = λ e. fine-something all s p (fine s p i) m.0 m.1 (sym value ∙ e) }

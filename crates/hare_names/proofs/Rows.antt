@@ -1,6 +1,6 @@
 -- Small programs: what their paths mean, or their violations. Above each stands its source. Trees stand at the columns of their first tokens, and each
 -- declaration on a line of its own.
-use Rattle.std.specs.Prelude.{◌≡◌, refl, ℕ, List, [], ◌∷◌, ◌++◌, codes, map, Option, Some, None, option_map}
+use Rattle.std.specs.Prelude.{◌≡◌, refl, ℕ, List, [], ◌∷◌, ◌++◌, codes, option_map}
 use Rattle.std.specs.List.{flat_map, filter_map}
 use Rattle.hare_tree.specs.declared.kind.Kind.{Kind}
 use Rattle.hare_tree.specs.declared.kind.Kind.TheVariants as ki
@@ -10,11 +10,11 @@ use Rattle.hare_tree.specs.declared.token.Suffix.TheVariants as suffix
 use Rattle.hare_tree.specs.declared.token.Meaning.{Meaning}
 use Rattle.hare_tree.specs.declared.token.Meaning.TheVariants as me
 use Rattle.hare_tree.specs.declared.tree.FileTree.{FileTree}
-use Rattle.hare_tree.specs.Node.{Node, branch, none, nodes_of}
+use Rattle.hare_tree.specs.Node.{Node, branch, nodes_of}
 use Rattle.hare_modules.specs.Order.{fault}
 use Rattle.hare_modules.specs.Modules.{Source, sources}
-use Rattle.hare_modules.specs.Faults.{unknown_modules, repeated_names, runtime_files, unknown_members}
-use Rattle.hare_names.specs.Paths.{Path, paths_of_file}
+use Rattle.hare_modules.specs.Faults.{unknown_modules, runtime_files}
+use Rattle.hare_names.specs.Paths.{paths_of_file}
 use Rattle.hare_names.specs.Meanings.{meant, path_violation}
 use Rattle.hare_names.specs.Doubled.{doubled_names}
 

@@ -1,15 +1,15 @@
 -- The locals of a path are bindings of its declaration.
-use Rattle.std.proofs.Common.{◌≡◌, ◌⊎◌, inl, inr, ℕ, ◌+◌, List, [], ◌∷◌, ◌++◌, Bool, true, false, cond, ◌||◌, length, bytes_eq, slice_get, Option, Some, None, refl, sym, ap, ◌∙◌, subst, suc, zero, zero-add, add-zero, arith, if◌then◌else◌}
+use Rattle.std.proofs.Common.{◌≡◌, ◌⊎◌, inl, inr, ℕ, ◌+◌, List, [], ◌∷◌, ◌++◌, Bool, true, false, ◌||◌, length, bytes_eq, slice_get, Some, refl, sym, ap, ◌∙◌, subst, suc, zero, zero-add, add-zero, arith, if◌then◌else◌}
 use Rattle.std.specs.Prelude.{Contains}
 use Rattle.std.proofs.lemmas.List.{length-append}
-use Rattle.std.proofs.lemmas.List.Elements.{Contains-append_cases, Contains-append_left, Contains-append_right}
+use Rattle.std.proofs.lemmas.List.Elements.{Contains-append_cases}
 use Rattle.std.proofs.lemmas.Slice.Eq.{bytes_eq-Decides}
 use Rattle.hare_tree.specs.Node.{Head, Node, Nodes, branch, none, more}
 use Rattle.hare_modules.specs.Uses.{text_of}
 use Rattle.hare_modules.proofs.FloodLemmas.{Contains-none, Contains-cases, Contains-here, Contains-behind}
 use Rattle.hare_blocks.specs.Scopes.{number_of}
-use Rattle.hare_names.specs.Scopes.{Local, Scopes, entered, with_locals, visible, local_named, is_binding, is_params, is_scope, is_for_each, bindings_in, bindings_among, bound_by, bound_among, bound_itself}
-use Rattle.hare_names.specs.Paths.{Path, path_of, path_at, is_type_path, is_value_path, before_kids, scopes_within, paths_in, paths_among, paths_of_loop, paths_of}
+use Rattle.hare_names.specs.Scopes.{Local, Scopes, with_locals, visible, is_binding, is_params, is_for_each, bindings_in, bindings_among, bound_by, bound_among, bound_itself}
+use Rattle.hare_names.specs.Paths.{Path, path_of, path_at, is_type_path, is_value_path, before_kids, scopes_within, paths_in, paths_among, paths_of_loop}
 use Rattle.hare_names.specs.Meanings.{local_of}
 use Rattle.hare_names.specs.Bindings.{bindings_of, bindings_of_all, IsInScope, LocalsAreInScope}
 use Rattle.hare_names.proofs.SpotLemmas.{visible-with, visible-within}

@@ -1,5 +1,5 @@
 -- A path without a violation means something.
-use Rattle.std.proofs.Common.{◌≡◌, ℕ, ◌+◌, List, [], ◌∷◌, ◌++◌, Bool, true, false, cond, ◌&&◌, not, map, filter, find, bytes_eq, Option, Some, None, refl, sym, ap, ◌∙◌, subst, if◌then◌else◌}
+use Rattle.std.proofs.Common.{◌≡◌, ℕ, ◌+◌, List, [], ◌∷◌, ◌++◌, Bool, true, false, cond, not, map, filter, find, bytes_eq, Option, Some, None, refl, sym, ◌∙◌, subst, if◌then◌else◌}
 use Rattle.std.specs.Prelude.{option_map, option_and_then}
 use Rattle.std.specs.Option.{option_or}
 use Rattle.std.specs.List.{enumerate_from}
@@ -8,9 +8,9 @@ use Rattle.hare_tree.specs.declared.token.Meaning.TheVariants as me
 use Rattle.hare_modules.specs.Modules.{Module, Source}
 use Rattle.hare_modules.specs.Uses.{Import, imports}
 use Rattle.hare_modules.specs.Declarations.{Item, Declared, declarations, built_in, firsts, item_named}
-use Rattle.hare_modules.specs.Admitted.{Triple, admitted, admitted_module}
+use Rattle.hare_modules.specs.Admitted.{admitted, admitted_module}
 use Rattle.hare_names.specs.Paths.{Path}
-use Rattle.hare_names.specs.Meanings.{Meant, local_meant, local_of, item_meant, is_unfit, unfit_number, member_number, pair_number, number_by, violation_number, meant}
+use Rattle.hare_names.specs.Meanings.{Meant, local_meant, local_of, item_meant, unfit_number, member_number, pair_number, number_by, violation_number, meant}
 use Rattle.hare_names.proofs.AdmittedLemmas.{the_item, only, member_of, behind_of, admitted-one, admitted-pair}
 use Rattle.hare_names.proofs.JudgedLemmas.{item_number, meant-is}
 

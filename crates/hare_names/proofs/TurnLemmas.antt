@@ -20,7 +20,7 @@ abbrev pub InTurn : ℕ → ℕ → List ℕ → List Spelled → Type 0
 InTurn low high ns [] = low ≤ high
 InTurn low high ns (u ∷ us) = (low ≤ first_number ns) × InTurn (first_number ns + length u.1) high (numbers_behind ns) us
 
-wider : (low high a b : ℕ) (ns : List ℕ) (us : List Spelled) → a ≤ low → high ≤ b → InTurn low high ns us → InTurn a b ns us
+pub wider : (low high a b : ℕ) (ns : List ℕ) (us : List Spelled) → a ≤ low → high ≤ b → InTurn low high ns us → InTurn a b ns us
 wider low high a b ns [] e f w = omega arith
 wider low high a b ns (u ∷ us) e f w = (omega (arith, w.0), wider (first_number ns + length u.1) high (first_number ns + length u.1) b (numbers_behind ns) us (omega arith) f w.1)
 

@@ -1,5 +1,5 @@
 -- The walk over kids, kid by kid.
-use Rattle.std.proofs.Common.{◌≡◌, ℕ, ◌+◌, ◌<◌, ◌^◌, ◌≤◌, ◌-◌, List, [], ◌∷◌, ◌++◌, Bool, true, false, fold, length, drop, refl, sym, ap, ◌∙◌, subst, suc, zero, append_assoc, add-zero, arith}
+use Rattle.std.proofs.Common.{◌≡◌, ℕ, ◌+◌, ◌<◌, ◌^◌, ◌≤◌, ◌-◌, List, [], ◌∷◌, ◌++◌, fold, length, drop, refl, sym, ap, ◌∙◌, subst, suc, zero, append_assoc, add-zero, arith}
 use Rattle.std.proofs.lemmas.List.Sums.{fold-append}
 use Rattle.std.proofs.lemmas.List.{length-append}
 use Rattle.hare_tree.specs.Node.{Node, Nodes, none, more, nodes_of}

@@ -1,11 +1,11 @@
 -- The violations of names in a program, and what its paths mean.
-use Rattle.std.specs.Prelude.{◌≡◌, ℕ, ◌<◌, ◌-◌, ◌^◌, List, Bool, Option, Some, None, option_map, sum_by, Contains}
+use Rattle.std.specs.Prelude.{◌≡◌, ◌<◌, ◌-◌, ◌^◌, List, Some, sum_by, Contains}
 use Rattle.hare_tree.specs.declared.token.Meaning.{Meaning}
 use Rattle.hare_tree.specs.declared.token.Meaning.TheVariants as me
 use Rattle.hare_tree.specs.declared.place.Place.{Place}
 use Rattle.hare_tree.specs.declared.place.Fault.{Fault}
 use Rattle.hare_tree.specs.declared.tree.FileTree.{FileTree}
-use Rattle.hare_tree.specs.Node.{Node, nodes_of}
+use Rattle.hare_tree.specs.Node.{nodes_of}
 use Rattle.hare_modules.specs.Modules.{Source}
 use Rattle.hare_modules.specs.Faults.{IsModuleFault}
 use Rattle.hare_names.specs.Scopes.{bindings_among}

@@ -128,17 +128,18 @@ fn bind_itself(locals: &mut Scope, t: &Tree, before: u32) -> Result<(), AllocErr
 }
 
 /// Notes a tree, if it is a path.
-fn note(
-    setting: Setting<'_>,
-    locals: &Scope,
-    notes: &mut Notes,
-    t: &Tree,
-) -> Result<(), AllocError>
+fn note(setting: Setting<'_>, locals: &Scope, notes: &mut Notes, t: &Tree) -> Result<(), AllocError>
     ensures { OnOk result (notes.new ≡ fold (spec.noted (tables_of setting.entry.directory.now) setting.entry.file) notes.old (spec.spot_of t.now locals.now)) }
 {
     let is_type = is_type_path(t.kind);
     if is_type || is_value_path(t.kind) {
-        let verdict = judge(setting.directory, setting.file, is_type, locals, t.text.bytes());
+        let verdict = judge(
+            setting.directory,
+            setting.file,
+            is_type,
+            locals,
+            t.text.bytes(),
+        );
         return note_as(notes, t.place, verdict);
     }
     Ok(())

@@ -1,12 +1,12 @@
-use Rattle.std.proofs.Common.{◌≡◌, length, map, fold, subst, sym, ap, ◌∙◌}
+use Rattle.std.proofs.Common.{length, map, fold, subst, ap, ◌∙◌}
 use Rattle.hare_modules.specs.Modules.{module_of}
 use Rattle.hare_modules.specs.Takings as takings
 use Rattle.hare_modules.specs.Taken.{tables_of, tables_with, first_tables, repeated_faults, member_fault}
 use Rattle.hare_modules.specs.Order.{TellsFirst, first_in}
-use Rattle.hare_modules.specs.CirclesIn.{imports_graph, AreUsingsWithin, IsCircleIn}
+use Rattle.hare_modules.specs.CirclesIn.{imports_graph, IsCircleIn}
 use Rattle.std.specs.List.{filter_map}
 use Rattle.hare_modules.proofs.SourceLemmas.{usings-within}
-use Rattle.hare_directory.proofs.LookLemmas.{IsLook, look-tables, look-first}
+use Rattle.hare_directory.proofs.LookLemmas.{look-tables, look-first}
 use Rattle.hare_directory.proofs.program.look.Goals as goal
 
 pub first_circle-requires : goal.first_circle-requires
@@ -47,8 +47,8 @@ returns-clause-first c =
     let start = c.in_ok-taken.ensures ∙ ap (λ m. first_tables m c.len-2.result) c.len.ensures ∙ ap (first_tables (length known)) c.len-2.ensures in
     let filled = c.in_ok-repeated.ensures.taken ∙ ap (λ u. fold tables_with u (map takings.taking c.as_slice-3.result.now)) start ∙ ap (fold tables_with (first_tables (length known) (length ts))) ks-3 in
     let cycle : TellsFirst (IsCircleIn (imports_graph (length known) (takings.usings known hs ts)) (takings.usings known hs ts)) c.in_ok-circle.circle =
-        subst (λ v. TellsFirst (IsCircleIn (imports_graph (length known) v) v) c.in_ok-circle.circle) us-4
-        (subst (λ m. TellsFirst (IsCircleIn (imports_graph m (map takings.using c.as_slice-4.result.now)) (map takings.using c.as_slice-4.result.now)) c.in_ok-circle.circle) c.len-3.ensures c.in_ok-circle.ensures) in
+    subst (λ v. TellsFirst (IsCircleIn (imports_graph (length known) v) v) c.in_ok-circle.circle) us-4
+    (subst (λ m. TellsFirst (IsCircleIn (imports_graph m (map takings.using c.as_slice-4.result.now)) (map takings.using c.as_slice-4.result.now)) c.in_ok-circle.circle) c.len-3.ensures c.in_ok-circle.ensures) in
     let again = c.in_ok-repeated.ensures.first ∙ ap (λ u. first_in (repeated_faults u (map takings.taking c.as_slice-3.result.now))) start ∙ ap (λ k. first_in (repeated_faults (first_tables (length known) (length ts)) k)) ks-3 in
     let file = c.runtime_file-runtime.ensures ∙ ap (λ h. first_in (takings.runtime_files h ts)) c.as_slice-5.ensures.value in
     let member = c.unknown_member-member.ensures ∙ ap (λ u. first_in (filter_map (member_fault u) (map takings.taking c.as_slice-8.result.now))) c.as_slice-7.ensures.value ∙ ap (λ k. first_in (filter_map (member_fault t.items) k)) ks-8 in

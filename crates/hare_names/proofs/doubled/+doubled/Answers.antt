@@ -1,5 +1,4 @@
 use Rattle.std.proofs.Common.{arith}
-use Rattle.hare_tree.specs.Node.{nodes_of}
 use Rattle.hare_tree.proofs.KidsFrom.{nodes_from-get, nodes_from-past}
 use Rattle.hare_names.proofs.DoubledLemmas.{among-on, among-done}
 use Rattle.hare_names.proofs.doubled.+doubled.Goals as goal

@@ -1,4 +1,4 @@
-use Rattle.std.proofs.Common.{◌<◌, ◌≤◌, ◌^◌, arith}
+use Rattle.std.proofs.Common.{◌≤◌, arith}
 use Rattle.hare_tree.specs.Node.{nodes_of}
 use Rattle.hare_directory.specs.Seen.{tables_of}
 use Rattle.hare_names.specs.Scopes.{bindings_in, bindings_among}

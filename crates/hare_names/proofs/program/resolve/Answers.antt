@@ -1,4 +1,4 @@
-use Rattle.std.proofs.Common.{◌≡◌, [], subst, sym}
+use Rattle.std.proofs.Common.{subst, sym}
 use Rattle.hare_directory.specs.Seen.{tables_of}
 use Rattle.hare_modules.specs.Modules.{sources}
 use Rattle.hare_names.specs.declared.notes.Notes.{Notes}

@@ -1,4 +1,4 @@
-use Rattle.std.proofs.Common.{◌≡◌, ◌<◌, ◌≤◌, ◌+◌, ◌^◌, ◌++◌, length, append_assoc, ap, sym, ◌∙◌, refl, arith}
+use Rattle.std.proofs.Common.{◌≡◌, ◌<◌, ◌≤◌, ◌+◌, ◌^◌, ◌++◌, append_assoc, ap, sym, ◌∙◌, arith}
 use Rattle.hare_tree.specs.Node.{nodes_of, size_of, sizes_of}
 use Rattle.hare_tree.specs.Judged.{nodes_from}
 use Rattle.hare_tree.proofs.Sizes.{kid_size}
@@ -12,7 +12,7 @@ pub walk_kids-walk-requires : goal.walk_kids-walk-requires
 walk_kids-walk-requires t c =
     let less : size_of c.in-Some.kid.now < sizes_of (nodes_of c.args.kids.now) = kid_size c.args.kids.now c.loop-i.i c.in-Some.kid.now c.in-Some.ensures.found in
     let room : c.loop-i.behind + bindings_in c.in-Some.kid.now < 2 ^ 32 =
-        walking-room _ _ _ _ _ _ _ c.in-Some.kid.now _ _ _ _ (nodes_from-get c.args.kids.now c.loop-i.i c.in-Some.kid.now c.in-Some.ensures.found) c.requires c.loop-i.invariant in
+    walking-room _ _ _ _ _ _ _ c.in-Some.kid.now _ _ _ _ (nodes_from-get c.args.kids.now c.loop-i.i c.in-Some.kid.now c.in-Some.ensures.found) c.requires c.loop-i.invariant in
     (omega arith, room)
 
 pub walk_kids-loop-i-preserved : goal.walk_kids-loop-i-preserved
