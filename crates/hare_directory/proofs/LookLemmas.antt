@@ -34,7 +34,9 @@ pub record IsLook (ps : List (List ℕ)) (ts : List FileTree) (known : List Modu
   pub filled : t ≡ fold tables_with (first_tables (length known) (length ts)) (takings.takings known 0 0 hs ts)
 
 -- the module of a file, by its number
-home-of : (known : List Module) (ps : List (List ℕ)) (hs : List ℕ) (ts : List FileTree) (f : ℕ) (s : Source) → AreHomes known (map module_of ps) hs → slice_get (sources ps ts) f ≡ Some s → (h : ℕ) × (slice_get hs f ≡ Some h) × (slice_get known h ≡ Some s.home)
+home-of : (known : List Module) (ps : List (List ℕ)) (hs : List ℕ) (ts : List FileTree) (f : ℕ) (s : Source) →
+    AreHomes known (map module_of ps) hs → slice_get (sources ps ts) f ≡ Some s →
+    (h : ℕ) × (slice_get hs f ≡ Some h) × (slice_get known h ≡ Some s.home)
 home-of known [] hs ts f s a e = absurd cc
 home-of known (p ∷ ps) hs [] f s a e = absurd cc
 home-of known (p ∷ ps) [] (t ∷ ts) f s a e = absurd a
@@ -59,17 +61,21 @@ module _ (ps : List (List ℕ)) (ts : List FileTree) (known : List Module) (hs :
   tells : Tells (built_in_takings ++ ks) t.items t.imported t.imports
   tells =
       subst (λ u. Tells (built_in_takings ++ ks) u.items u.imported u.imports) (sym l.filled)
-      (tells-all (λ f. get_or hs f 0) (length known) (length ts) ks built_in_takings (first_tables (length known) (length ts)) (sized-first (length known) (length ts)) placed
+      (tells-all (λ f. get_or hs f 0) (length known) (length ts) ks built_in_takings (first_tables (length known) (length ts))
+      (sized-first (length known) (length ts)) placed
       (tells-first (length known) (length ts) (some-module (map module_of ps) known hs l.numbers)))
 
   -- what a name of a known module means
-  told : (m : Module) (n : ℕ) (x : List ℕ) → position (bytes_eq m) known ≡ Some n → value_of x (table_at t.items n) ≡ option_map entry (item_named ss m x)
-  told m n x e = tells.items_told n x ∙ items-told n m x (map module_of ps) known hs l.numbers (position-is known m n e) ps hs ts l.numbers.homes_are
+  told : (m : Module) (n : ℕ) (x : List ℕ) → position (bytes_eq m) known ≡ Some n →
+      value_of x (table_at t.items n) ≡ option_map entry (item_named ss m x)
+  told m n x e = tells.items_told n x ∙ items-told n m x (map module_of ps) known hs l.numbers
+      (position-is known m n e) ps hs ts l.numbers.homes_are
 
   abbrev seen : Directory
   seen = record { homes = hs; items = t.items; imports = t.imports }
 
-  own-told : (f : ℕ) (s : Source) (x : List ℕ) → slice_get ss f ≡ Some s → option_and_then (λ n. value_of x (table_at t.items n)) (slice_get hs f) ≡ option_map entry (item_named ss s.home x)
+  own-told : (f : ℕ) (s : Source) (x : List ℕ) → slice_get ss f ≡ Some s →
+      option_and_then (λ n. value_of x (table_at t.items n)) (slice_get hs f) ≡ option_map entry (item_named ss s.home x)
   own-told f s x e =
       let h = home-of known ps hs ts f s l.numbers.homes_are e in
       ap (option_and_then (λ n. value_of x (table_at t.items n))) h.1
@@ -105,7 +111,8 @@ module _ (ps : List (List ℕ)) (ts : List FileTree) (known : List Module) (hs :
   listed : (found : Option Fault) (fs gs : List Fault) → found ≡ first_in fs → fs ≡ gs → TellsFirst (λ f. Contains gs f) found
   listed found fs gs e d = subst (λ o. TellsFirst (λ f. Contains gs f) o) (sym (e ∙ ap first_in d)) (first-in gs)
 
-  two : (P Q : Fault → Type 0) (found other : Option Fault) → TellsFirst P found → TellsFirst Q other → TellsFirst (λ f. P f ⊎ Q f) (earlier_of found other)
+  two : (P Q : Fault → Type 0) (found other : Option Fault) → TellsFirst P found → TellsFirst Q other →
+      TellsFirst (λ f. P f ⊎ Q f) (earlier_of found other)
   two P Q found other = first-of-both P Q (λ f. P f ⊎ Q f) (λ f r. r) (λ f p. inl p) (λ f q. inr q) found other
 
   abbrev Any : Fault → Type 0
@@ -128,26 +135,33 @@ module _ (ps : List (List ℕ)) (ts : List FileTree) (known : List Module) (hs :
   circles : (found : Option Fault) → TellsFirst (IsCircleIn (imports_graph (length known) us) us) found → TellsFirst Circle found
   circles =
       first-of-same (IsCircleIn (imports_graph (length known) us) us) Circle
-      (circle-to (map module_of ps) known hs ps hs ts l.numbers l.numbers.homes_are) (circle-from (map module_of ps) known hs ps hs ts l.numbers l.numbers.homes_are)
+      (circle-to (map module_of ps) known hs ps hs ts l.numbers l.numbers.homes_are)
+      (circle-from (map module_of ps) known hs ps hs ts l.numbers l.numbers.homes_are)
 
   numbered : (i : ℕ) (u : FileTree) → slice_get ts i ≡ Some u → u.file ≡ 0 + i
   numbered i u e = l.files.numbered i u e ∙ sym (zero-add i)
 
   repeats : repeated_faults (first_tables (length known) (length ts)) ks ≡ repeated_names ss
   repeats =
-      repeated-is (λ f. get_or hs f 0) (length known) (length ts) ks built_in_takings (first_tables (length known) (length ts)) (sized-first (length known) (length ts)) placed
+      repeated-is (λ f. get_or hs f 0) (length known) (length ts) ks built_in_takings (first_tables (length known) (length ts))
+      (sized-first (length known) (length ts)) placed
       (filed-first (λ f. get_or hs f 0)) (tells-first (length known) (length ts) (some-module (map module_of ps) known hs l.numbers))
       ∙ sym (repeated-are known (map module_of ps) hs l.numbers ps hs ts l.numbers.homes_are numbered)
 
-  pub look-first : (cycle again file member other : Option Fault) → TellsFirst (IsCircleIn (imports_graph (length known) us) us) cycle → again ≡ first_in (repeated_faults (first_tables (length known) (length ts)) ks) → file ≡ first_in (takings.runtime_files hs ts) → member ≡ first_in (filter_map (member_fault t.items) ks) → other ≡ first_in (filter_map takings.unknown_module us) → TellsFirst (IsModuleFault ss) (earlier_of (earlier_of (earlier_of (earlier_of cycle again) file) member) other)
+  pub look-first : (cycle again file member other : Option Fault) → TellsFirst (IsCircleIn (imports_graph (length known) us) us) cycle →
+      again ≡ first_in (repeated_faults (first_tables (length known) (length ts)) ks) → file ≡ first_in (takings.runtime_files hs ts) →
+      member ≡ first_in (filter_map (member_fault t.items) ks) → other ≡ first_in (filter_map takings.unknown_module us) →
+      TellsFirst (IsModuleFault ss) (earlier_of (earlier_of (earlier_of (earlier_of cycle again) file) member) other)
   look-first cycle again file member other c r f m u =
       first-of-same Any (IsModuleFault ss) to from (earlier_of (earlier_of (earlier_of (earlier_of cycle again) file) member) other)
-      (two (λ g. ((Circle g ⊎ Repeated g) ⊎ Runtime g) ⊎ Member g) Unknown (earlier_of (earlier_of (earlier_of cycle again) file) member) other
+      (two (λ g. ((Circle g ⊎ Repeated g) ⊎ Runtime g) ⊎ Member g) Unknown
+      (earlier_of (earlier_of (earlier_of cycle again) file) member) other
       (two (λ g. (Circle g ⊎ Repeated g) ⊎ Runtime g) Member (earlier_of (earlier_of cycle again) file) member
       (two (λ g. Circle g ⊎ Repeated g) Runtime (earlier_of cycle again) file
       (two Circle Repeated cycle again (circles cycle c) (listed again _ _ r repeats))
       (listed file _ _ f (runtime-all (map module_of ps) known hs l.numbers ps hs ts l.numbers.homes_are)))
-      (listed member _ _ m (members-same ss known t.items (numbered-known known ps hs ts l.files.paired l.numbers) told 0 0 ps hs ts l.numbers.homes_are)))
+      (listed member _ _ m (members-same ss known t.items
+      (numbered-known known ps hs ts l.files.paired l.numbers) told 0 0 ps hs ts l.numbers.homes_are)))
       (listed other _ _ u (unknown-all ss known (numbered-known known ps hs ts l.files.paired l.numbers) ps hs ts l.numbers.homes_are)))
 
   pub look-within : AreUsingsWithin (length known) us

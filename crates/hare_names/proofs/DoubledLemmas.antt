@@ -17,11 +17,15 @@ use Rattle.hare_names.specs.Doubled.{is_named, same_text, doubled_fault, doubled
 
 -- ---- all kids
 
-pub among-on : (found found' : Option Fault) (ts : Nodes) (t : Node) (us : Nodes) (all : Option Fault) → ts ≡ more t us → found' ≡ fold earlier found (doubled_in t) → fold earlier found (doubled_among ts) ≡ all → fold earlier found' (doubled_among us) ≡ all
+pub among-on : (found found' : Option Fault) (ts : Nodes) (t : Node) (us : Nodes) (all : Option Fault) → ts ≡ more t us →
+    found' ≡ fold earlier found (doubled_in t) → fold earlier found (doubled_among ts) ≡ all →
+    fold earlier found' (doubled_among us) ≡ all
 among-on found found' ts t us all e k h =
-    ap (λ o. fold earlier o (doubled_among us)) k ∙ sym (fold-append earlier found (doubled_in t) (doubled_among us)) ∙ ap (λ vs. fold earlier found (doubled_among vs)) (sym e) ∙ h
+    ap (λ o. fold earlier o (doubled_among us)) k ∙ sym (fold-append earlier found (doubled_in t) (doubled_among us))
+    ∙ ap (λ vs. fold earlier found (doubled_among vs)) (sym e) ∙ h
 
-pub among-done : (found : Option Fault) (ts : Nodes) (all : Option Fault) → ts ≡ none → fold earlier found (doubled_among ts) ≡ all → found ≡ all
+pub among-done : (found : Option Fault) (ts : Nodes) (all : Option Fault) → ts ≡ none → fold earlier found (doubled_among ts) ≡ all →
+    found ≡ all
 among-done found ts all e h = ap (λ vs. fold earlier found (doubled_among vs)) (sym e) ∙ h
 
 -- ---- the names of one list
@@ -33,9 +37,11 @@ named t = is_named (head t).kind
 pub record Doubling (ts : List Node) (found : Option Fault) (i : ℕ) (names : List (List ℕ × Unit {0})) (first : Option Fault) : Type 0 where
   pub before : List Node
   pub told : (x : List ℕ) → has x names ≡ list_any (λ a. bytes_eq (text_of a) x) before
-  pub left : fold earlier first (map doubled_fault (repeated_behind same_text before (filter named (drop i ts)))) ≡ fold earlier found (doubled_kids (nodes_of ts))
+  pub left : fold earlier first (map doubled_fault (repeated_behind same_text before (filter named (drop i ts)))) ≡ fold earlier found
+      (doubled_kids (nodes_of ts))
 
-pub doubling-start : (ts : List Node) (found : Option Fault) (names : List (List ℕ × Unit {0})) → names ≡ [] → Doubling ts found 0 names found
+pub doubling-start : (ts : List Node) (found : Option Fault) (names : List (List ℕ × Unit {0})) → names ≡ [] →
+    Doubling ts found 0 names found
 doubling-start ts found names e = record {
   before = [];
   told = λ x. ap (has x) e;
@@ -43,12 +49,15 @@ doubling-start ts found names e = record {
 }
 
 -- a kid that has no such name
-doubling-pass : (ts : List Node) (found first : Option Fault) (i : ℕ) (names : List (List ℕ × Unit {0})) (t : Node) → slice_get ts i ≡ Some t → named t ≡ false → Doubling ts found i names first → Doubling ts found (i + 1) names first
+doubling-pass : (ts : List Node) (found first : Option Fault) (i : ℕ) (names : List (List ℕ × Unit {0})) (t : Node) →
+    slice_get ts i ≡ Some t → named t ≡ false → Doubling ts found i names first → Doubling ts found (i + 1) names first
 doubling-pass ts found first i names t e n w = record {
   before = w.before;
   told = w.told;
   left =
-      ap (λ us. fold earlier first (map doubled_fault (repeated_behind same_text w.before us))) (sym (ap (filter named) (drop-there ts i t e) ∙ ap (λ b. cond b (t ∷ filter named (drop (i + 1) ts)) (filter named (drop (i + 1) ts))) n)) ∙ w.left;
+      ap (λ us. fold earlier first (map doubled_fault (repeated_behind same_text w.before us)))
+      (sym (ap (filter named) (drop-there ts i t e) ∙ ap
+      (λ b. cond b (t ∷ filter named (drop (i + 1) ts)) (filter named (drop (i + 1) ts))) n)) ∙ w.left;
 }
 
 list_any-push : {A : Type 0} (p : A → Bool) (xs : List A) (x : A) → list_any p (xs ++ x ∷ []) ≡ (list_any p xs || p x)
@@ -72,7 +81,8 @@ has-push x y [] = by (bytes_eq x y)
     by false = refl
 has-push x y (e ∷ es) = by (bytes_eq x e.0) (has-push x y es)
   where
-    by : (b : Bool) → has x (es ++ (y, tt) ∷ []) ≡ (has x es || bytes_eq x y) → is_some (cond b (Some e.1) (value_of x (es ++ (y, tt) ∷ []))) ≡ (is_some (cond b (Some e.1) (value_of x es)) || bytes_eq x y)
+    by : (b : Bool) → has x (es ++ (y, tt) ∷ []) ≡ (has x es || bytes_eq x y) →
+        is_some (cond b (Some e.1) (value_of x (es ++ (y, tt) ∷ []))) ≡ (is_some (cond b (Some e.1) (value_of x es)) || bytes_eq x y)
     by true h = refl
     by false h = h
 
@@ -92,10 +102,15 @@ has-put x y es = by (has y es) refl
     by false h = has-push x y es
 
 -- a name more
-doubling-named : (ts : List Node) (found first first' : Option Fault) (i : ℕ) (names names' : List (List ℕ × Unit {0})) (t : Node) → slice_get ts i ≡ Some t → named t ≡ true → names' ≡ put names (text_of t) tt → first' ≡ (if has (text_of t) names then earlier first (doubled_fault t) else first) → Doubling ts found i names first → Doubling ts found (i + 1) names' first'
+doubling-named : (ts : List Node) (found first first' : Option Fault) (i : ℕ) (names names' : List (List ℕ × Unit {0})) (t : Node) →
+    slice_get ts i ≡ Some t → named t ≡ true → names' ≡ put names (text_of t) tt →
+    first' ≡ (if has (text_of t) names then earlier first (doubled_fault t) else first) → Doubling ts found i names first →
+    Doubling ts found (i + 1) names' first'
 doubling-named ts found first first' i names names' t e n p k w = record {
   before = w.before ++ t ∷ [];
-  told = λ x. ap (has x) p ∙ has-put x (text_of t) names ∙ ap (λ b. b || bytes_eq x (text_of t)) (w.told x) ∙ ap (λ b. list_any (λ a. bytes_eq (text_of a) x) w.before || b) (names-symmetric x (text_of t)) ∙ sym (list_any-push (λ a. bytes_eq (text_of a) x) w.before t);
+  told = λ x. ap (has x) p ∙ has-put x (text_of t) names ∙ ap (λ b. b || bytes_eq x (text_of t)) (w.told x)
+      ∙ ap (λ b. list_any (λ a. bytes_eq (text_of a) x) w.before || b) (names-symmetric x (text_of t))
+      ∙ sym (list_any-push (λ a. bytes_eq (text_of a) x) w.before t);
   left = by (has (text_of t) names) refl ∙ w.left;
 }
   where
@@ -108,31 +123,42 @@ doubling-named ts found first first' i names names' t e n p k w = record {
     all : Option Fault
     all = fold earlier first (map doubled_fault (repeated_behind same_text w.before (filter named (drop i ts))))
 
-    by : (b : Bool) → has (text_of t) names ≡ b → fold earlier first' (map doubled_fault (repeated_behind same_text (w.before ++ t ∷ []) rest)) ≡ all
+    by : (b : Bool) → has (text_of t) names ≡ b →
+        fold earlier first' (map doubled_fault (repeated_behind same_text (w.before ++ t ∷ []) rest)) ≡ all
     by b h =
         let any : list_any (λ a. same_text a t) w.before ≡ b = sym (w.told (text_of t)) ∙ h in
-        ap (λ o. fold earlier o (map doubled_fault (repeated_behind same_text (w.before ++ t ∷ []) rest))) (k ∙ ap (λ c. cond c (earlier first (doubled_fault t)) first) h)
+        ap (λ o. fold earlier o (map doubled_fault (repeated_behind same_text (w.before ++ t ∷ []) rest)))
+        (k ∙ ap (λ c. cond c (earlier first (doubled_fault t)) first) h)
         ∙ here b
-        ∙ ap (λ c. fold earlier first (map doubled_fault (cond c (t ∷ []) [] ++ repeated_behind same_text (w.before ++ t ∷ []) rest))) (sym any)
+        ∙ ap (λ c. fold earlier first (map doubled_fault (cond c (t ∷ []) [] ++ repeated_behind same_text (w.before ++ t ∷ []) rest)))
+        (sym any)
         ∙ ap (λ us. fold earlier first (map doubled_fault (repeated_behind same_text w.before us))) (sym front)
       where
-        here : (c : Bool) → fold earlier (cond c (earlier first (doubled_fault t)) first) (map doubled_fault (repeated_behind same_text (w.before ++ t ∷ []) rest)) ≡ fold earlier first (map doubled_fault (cond c (t ∷ []) [] ++ repeated_behind same_text (w.before ++ t ∷ []) rest))
+        here : (c : Bool) →
+            fold earlier (cond c (earlier first (doubled_fault t)) first)
+            (map doubled_fault (repeated_behind same_text (w.before ++ t ∷ []) rest)) ≡ fold earlier first
+            (map doubled_fault (cond c (t ∷ []) [] ++ repeated_behind same_text (w.before ++ t ∷ []) rest))
         here true = refl
         here false = refl
 
 -- a kid more
-pub doubling-on : (ts : List Node) (found first first' : Option Fault) (i : ℕ) (names names' : List (List ℕ × Unit {0})) (t : Node) → slice_get ts i ≡ Some t → names' ≡ names_with names t → first' ≡ first_with names t first → Doubling ts found i names first → Doubling ts found (i + 1) names' first'
+pub doubling-on : (ts : List Node) (found first first' : Option Fault) (i : ℕ) (names names' : List (List ℕ × Unit {0})) (t : Node) →
+    slice_get ts i ≡ Some t → names' ≡ names_with names t → first' ≡ first_with names t first → Doubling ts found i names first →
+    Doubling ts found (i + 1) names' first'
 doubling-on ts found first first' i names names' t e p k w = by (named t) refl
   where
     by : (b : Bool) → named t ≡ b → Doubling ts found (i + 1) names' first'
     by false n =
         let p' : names' ≡ names = p ∙ ap (λ c. if c then put names (text_of t) tt else names) n in
-        let k' : first' ≡ first = k ∙ ap (λ c. if c then (if has (text_of t) names then earlier first (doubled_fault t) else first) else first) n in
+        let k' : first' ≡ first = k ∙ ap (λ c. if c then (if has (text_of t) names then earlier first (doubled_fault t) else first) else
+        first) n in
         rw (p', k') (doubling-pass ts found first i names t e n w)
     by true n =
         doubling-named ts found first first' i names names' t e n (p ∙ ap (λ c. if c then put names (text_of t) tt else names) n)
         (k ∙ ap (λ c. if c then (if has (text_of t) names then earlier first (doubled_fault t) else first) else first) n) w
 
-pub doubling-done : (ts : List Node) (found first : Option Fault) (i : ℕ) (names : List (List ℕ × Unit {0})) → length ts ≤ i → Doubling ts found i names first → first ≡ fold earlier found (doubled_kids (nodes_of ts))
+pub doubling-done : (ts : List Node) (found first : Option Fault) (i : ℕ) (names : List (List ℕ × Unit {0})) → length ts ≤ i →
+    Doubling ts found i names first → first ≡ fold earlier found (doubled_kids (nodes_of ts))
 doubling-done ts found first i names l w =
-    ap (λ us. fold earlier first (map doubled_fault (repeated_behind same_text w.before (filter named us)))) (sym (drop-past ts i l)) ∙ w.left
+    ap (λ us. fold earlier first (map doubled_fault (repeated_behind same_text w.before (filter named us)))) (sym (drop-past ts i l))
+    ∙ w.left

@@ -50,7 +50,9 @@ map-map None = refl
 map-map (Some t) = refl
 
 module _ (all : List Source) (s : Source) where
-  pub meant-is : (p : Path) (names : List (List ℕ)) → p.names ≡ names → meant all s p ≡ option_or (option_map local_meant (local_of p.scopes names)) (option_map item_meant (option_map the_item (admitted all s names)))
+  pub meant-is : (p : Path) (names : List (List ℕ)) → p.names ≡ names →
+      meant all s p ≡ option_or (option_map local_meant (local_of p.scopes names))
+      (option_map item_meant (option_map the_item (admitted all s names)))
   meant-is p names e =
       ap (λ xs. option_or (option_map local_meant (local_of p.scopes xs)) (option_map (λ t. item_meant t.item) (admitted all s xs))) e
       ∙ ap (option_or (option_map local_meant (local_of p.scopes names))) (map-map (admitted all s names))
@@ -77,19 +79,23 @@ module _ (m : Module) (x : List ℕ) where
   built-none : bytes_eq m runtime ≡ false → (is : List Item) → AtHome is → find is_it is ≡ None
   built-none e [] h = refl
   built-none e (i ∷ is) h =
-      ap (λ b. cond (b && bytes_eq i.name x) (Some i) (find is_it is)) (ap (λ y. bytes_eq y m) h.0 ∙ names-symmetric runtime m ∙ e) ∙ built-none e is h.1
+      ap (λ b. cond (b && bytes_eq i.name x) (Some i) (find is_it is)) (ap (λ y. bytes_eq y m) h.0 ∙ names-symmetric runtime m ∙ e)
+      ∙ built-none e is h.1
 
-  file-none : (home : Module) → bytes_eq home m ≡ false → (n : ℕ) (ts : List Node) → find is_it (map item_number (enumerate_from n (map (λ t. record { home = home; tree = t }) ts))) ≡ None
+  file-none : (home : Module) → bytes_eq home m ≡ false → (n : ℕ) (ts : List Node) →
+      find is_it (map item_number (enumerate_from n (map (λ t. record { home = home; tree = t }) ts))) ≡ None
   file-none home e n [] = refl
   file-none home e n (t ∷ ts) =
-      ap (λ b. cond (b && bytes_eq (text_of (name_in t)) x) (Some (item_number (n, record { home = home; tree = t }))) (find is_it (map item_number (enumerate_from (n + 1) (map (λ u. record { home = home; tree = u }) ts))))) e
+      ap (λ b. cond (b && bytes_eq (text_of (name_in t)) x) (Some (item_number (n, record { home = home; tree = t })))
+      (find is_it (map item_number (enumerate_from (n + 1) (map (λ u. record { home = home; tree = u }) ts))))) e
       ∙ file-none home e (n + 1) ts
 
   or-none : (a b : Bool) → (a || b) ≡ false → (a ≡ false) × (b ≡ false)
   or-none false b e = (refl, e)
   or-none true b e = absurd (true≢false e)
 
-  files-none : (n : ℕ) (ss : List Source) → list_any (λ s. bytes_eq s.home m) ss ≡ false → find is_it (map item_number (enumerate_from n (declarations ss))) ≡ None
+  files-none : (n : ℕ) (ss : List Source) → list_any (λ s. bytes_eq s.home m) ss ≡ false →
+      find is_it (map item_number (enumerate_from n (declarations ss))) ≡ None
   files-none n [] e = refl
   files-none n (s ∷ ss) e =
       let own : List Declared = map (λ t. record { home = s.home; tree = t }) s.tree.decls in
@@ -97,7 +103,8 @@ module _ (m : Module) (x : List ℕ) where
       ap (λ ds. find is_it (map item_number ds)) (enumerate_from-append n own (declarations ss))
       ∙ ap (find is_it) (map-append item_number (enumerate_from n own) (enumerate_from (n + length own) (declarations ss)))
       ∙ find-append is_it (map item_number (enumerate_from n own)) (map item_number (enumerate_from (n + length own) (declarations ss)))
-      ∙ ap (λ o. option_or o (find is_it (map item_number (enumerate_from (n + length own) (declarations ss))))) (file-none s.home h.0 n s.tree.decls)
+      ∙ ap (λ o. option_or o (find is_it (map item_number (enumerate_from (n + length own) (declarations ss)))))
+      (file-none s.home h.0 n s.tree.decls)
       ∙ files-none (n + length own) ss h.1
 
   -- such a module declares nothing
@@ -108,7 +115,8 @@ module _ (m : Module) (x : List ℕ) where
       find-firsts (λ i. i.name) x (filter (λ i. bytes_eq i.home m) (built_in ++ others))
       ∙ find-filter (λ i. bytes_eq i.name x) (λ i. bytes_eq i.home m) (built_in ++ others)
       ∙ find-append is_it built_in others
-      ∙ ap (λ o. option_or o (find is_it others)) (built-none h.0 built_in (refl, (refl, (refl, (refl, (refl, (refl, (refl, (refl, tt)))))))))
+      ∙ ap (λ o. option_or o (find is_it others)) (built-none h.0 built_in
+      (refl, (refl, (refl, (refl, (refl, (refl, (refl, (refl, tt)))))))))
       ∙ files-none 0 all h.1
 
 unknown-none : (all : List Source) (m : Module) (x : List ℕ) → is_known all m ≡ false → item_named all m x ≡ None
@@ -116,7 +124,8 @@ unknown-none all m x e = unknown-item m x all e
 
 module _ (all : List Source) (d : Directory) (f : ℕ) (s : Source) (told : IsDirectoryOf all d) (here : slice_get all f ≡ Some s) where
   -- what a module with this number exports, by the table
-  exported-same : (p : Path) (o : Option Item) → exported_only p.is_type (option_map entry o) ≡ item_verdict p (option_and_then (only (λ e. e.exported)) o)
+  exported-same : (p : Path) (o : Option Item) →
+      exported_only p.is_type (option_map entry o) ≡ item_verdict p (option_and_then (only (λ e. e.exported)) o)
   exported-same p None = refl
   exported-same p (Some i) = by i.exported
     where
@@ -134,54 +143,85 @@ module _ (all : List Source) (d : Directory) (f : ℕ) (s : Source) (told : IsDi
 
   -- ---- one name
 
-  import-same : (p : Path) (x : List ℕ) (o : Option Import) → imported_verdict d p.is_type x (option_map (imported told.known) o) ≡ item_verdict p (option_and_then (member_of all s x) o)
+  import-same : (p : Path) (x : List ℕ) (o : Option Import) →
+      imported_verdict d p.is_type x (option_map (imported told.known) o) ≡ item_verdict p (option_and_then (member_of all s x) o)
   import-same p x None = refl
   import-same p x (Some i) = by i.whole
     where
-      by : (b : Bool) → (if b then Fails 13 else exported_only p.is_type (member_at d x (position (bytes_eq i.from) told.known))) ≡ item_verdict p (if b then None else option_and_then (only (λ e. e.exported)) (item_named all i.from x))
+      by : (b : Bool) →
+          (if b then Fails 13 else exported_only p.is_type (member_at d x (position (bytes_eq i.from) told.known))) ≡ item_verdict p
+          (if b then None else option_and_then (only (λ e. e.exported)) (item_named all i.from x))
       by true = refl
       by false = ap (exported_only p.is_type) (member-told i.from x) ∙ exported-same p (item_named all i.from x)
 
-  own-same : (p : Path) (x : List ℕ) (o : Option Item) → own_verdict d f p.is_type x (option_map entry o) ≡ item_verdict p (option_or o (option_and_then (member_of all s x) (find (λ i. bytes_eq i.name x) (imports s.tree))))
+  own-same : (p : Path) (x : List ℕ) (o : Option Item) →
+      own_verdict d f p.is_type x (option_map entry o) ≡ item_verdict p
+      (option_or o (option_and_then (member_of all s x) (find (λ i. bytes_eq i.name x) (imports s.tree))))
   own-same p x (Some i) = sym (fits p i)
-  own-same p x None = ap (imported_verdict d p.is_type x) (told.imports_are f s x here) ∙ import-same p x (find (λ i. bytes_eq i.name x) (imports s.tree))
+  own-same p x None = ap (imported_verdict d p.is_type x) (told.imports_are f s x here)
+      ∙ import-same p x (find (λ i. bytes_eq i.name x) (imports s.tree))
 
   local-same : (p : Path) (n : ℕ) → local_verdict p.is_type n ≡ verdict_of (unfit_number p (Some (local_meant n))) (Some (local_meant n))
   local-same p n = by p.is_type
     where
-      by : (b : Bool) → (if b then Fails 13 else Means (me.Local n)) ≡ verdict_of (if b && true then Some 13 else None) (Some (local_meant n))
+      by : (b : Bool) →
+          (if b then Fails 13 else Means (me.Local n)) ≡ verdict_of (if b && true then Some 13 else None) (Some (local_meant n))
       by true = refl
       by false = refl
 
-  name-same : (p : Path) (x : List ℕ) (o : Option ℕ) → name_verdict d f p.is_type x o ≡ verdict_of (unfit_number p (option_or (option_map local_meant o) (option_map item_meant (option_map the_item (admitted all s (x ∷ [])))))) (option_or (option_map local_meant o) (option_map item_meant (option_map the_item (admitted all s (x ∷ [])))))
+  name-same : (p : Path) (x : List ℕ) (o : Option ℕ) →
+      name_verdict d f p.is_type x o ≡ verdict_of (unfit_number p
+      (option_or (option_map local_meant o) (option_map item_meant (option_map the_item (admitted all s (x ∷ []))))))
+      (option_or (option_map local_meant o) (option_map item_meant (option_map the_item (admitted all s (x ∷ [])))))
   name-same p x (Some n) = local-same p n
   name-same p x None =
-      ap (own_verdict d f p.is_type x) (told.own f s x here) ∙ own-same p x (item_named all s.home x) ∙ ap (item_verdict p) (sym (admitted-one all s x))
+      ap (own_verdict d f p.is_type x) (told.own f s x here) ∙ own-same p x (item_named all s.home x)
+      ∙ ap (item_verdict p) (sym (admitted-one all s x))
 
   -- ---- two names
 
-  entry-same : (p : Path) (o : Option Item) → entry_verdict p.is_type (option_map entry o) ≡ verdict_of (member_number p (option_map item_meant (option_and_then (only (λ e. e.exported)) o)) o) (option_map item_meant (option_and_then (only (λ e. e.exported)) o))
+  entry-same : (p : Path) (o : Option Item) →
+      entry_verdict p.is_type (option_map entry o) ≡ verdict_of
+      (member_number p (option_map item_meant (option_and_then (only (λ e. e.exported)) o)) o)
+      (option_map item_meant (option_and_then (only (λ e. e.exported)) o))
   entry-same p None = refl
   entry-same p (Some i) = by i.exported
     where
-      by : (b : Bool) → (if b then fit p.is_type (entry i) else Fails 14) ≡ verdict_of (if b then unfit_number p (option_map item_meant (if b then Some i else None)) else Some 14) (option_map item_meant (if b then Some i else None))
+      by : (b : Bool) →
+          (if b then fit p.is_type (entry i) else Fails 14) ≡ verdict_of
+          (if b then unfit_number p (option_map item_meant (if b then Some i else None)) else Some 14)
+          (option_map item_meant (if b then Some i else None))
       by true = sym (fits p i)
       by false = refl
 
-  known-same : (p : Path) (x : List ℕ) (i : Import) → known_verdict d p.is_type x (position (bytes_eq i.from) told.known) ≡ verdict_of (pair_number all p (option_map item_meant (option_and_then (only (λ e. e.exported)) (item_named all i.from x))) x (if is_known all i.from then Some i else None)) (option_map item_meant (option_and_then (only (λ e. e.exported)) (item_named all i.from x)))
+  known-same : (p : Path) (x : List ℕ) (i : Import) →
+      known_verdict d p.is_type x (position (bytes_eq i.from) told.known) ≡ verdict_of
+      (pair_number all p (option_map item_meant (option_and_then (only (λ e. e.exported)) (item_named all i.from x))) x
+      (if is_known all i.from then Some i else None)) (option_map item_meant
+      (option_and_then (only (λ e. e.exported)) (item_named all i.from x)))
   known-same p x i = by (position (bytes_eq i.from) told.known) refl (is_known all i.from) (told.all_known i.from)
     where
-      by : (o : Option ℕ) → position (bytes_eq i.from) told.known ≡ o → (b : Bool) → is_some (position (bytes_eq i.from) told.known) ≡ b → known_verdict d p.is_type x o ≡ verdict_of (pair_number all p (option_map item_meant (option_and_then (only (λ e. e.exported)) (item_named all i.from x))) x (if b then Some i else None)) (option_map item_meant (option_and_then (only (λ e. e.exported)) (item_named all i.from x)))
+      by : (o : Option ℕ) → position (bytes_eq i.from) told.known ≡ o → (b : Bool) → is_some (position (bytes_eq i.from) told.known) ≡ b →
+          known_verdict d p.is_type x o ≡ verdict_of (pair_number all p
+          (option_map item_meant (option_and_then (only (λ e. e.exported)) (item_named all i.from x))) x (if b then Some i else None))
+          (option_map item_meant (option_and_then (only (λ e. e.exported)) (item_named all i.from x)))
       by (Some n) e true k = ap (entry_verdict p.is_type) (told.items i.from n x e) ∙ entry-same p (item_named all i.from x)
       by None e false k = refl
       by (Some n) e false k = absurd (true≢false (sym (ap is_some e) ∙ k))
       by None e true k = absurd (true≢false (sym k ∙ ap is_some e))
 
-  pair-same : (p : Path) (x : List ℕ) (o : Option Import) → pair_verdict d p.is_type x (option_map (imported told.known) o) ≡ verdict_of (pair_number all p (option_map item_meant (option_and_then (behind_of all s x) o)) x (option_and_then (only (λ i. i.whole && is_known all i.from)) o)) (option_map item_meant (option_and_then (behind_of all s x) o))
+  pair-same : (p : Path) (x : List ℕ) (o : Option Import) →
+      pair_verdict d p.is_type x (option_map (imported told.known) o) ≡ verdict_of
+      (pair_number all p (option_map item_meant (option_and_then (behind_of all s x) o)) x
+      (option_and_then (only (λ i. i.whole && is_known all i.from)) o)) (option_map item_meant (option_and_then (behind_of all s x) o))
   pair-same p x None = refl
   pair-same p x (Some i) = by i.whole
     where
-      by : (b : Bool) → (if b then known_verdict d p.is_type x (position (bytes_eq i.from) told.known) else Fails 13) ≡ verdict_of (pair_number all p (option_map item_meant (if b then option_and_then (only (λ e. e.exported)) (item_named all i.from x) else None)) x (if b && is_known all i.from then Some i else None)) (option_map item_meant (if b then option_and_then (only (λ e. e.exported)) (item_named all i.from x) else None))
+      by : (b : Bool) →
+          (if b then known_verdict d p.is_type x (position (bytes_eq i.from) told.known) else Fails 13) ≡ verdict_of
+          (pair_number all p (option_map item_meant (if b then option_and_then (only (λ e. e.exported))
+          (item_named all i.from x) else None)) x (if b && is_known all i.from then Some i else None))
+          (option_map item_meant (if b then option_and_then (only (λ e. e.exported)) (item_named all i.from x) else None))
       by true = known-same p x i
       by false = refl
 
@@ -190,13 +230,19 @@ module _ (all : List Source) (d : Directory) (f : ℕ) (s : Source) (told : IsDi
   pub judged : (p : Path) → verdict d f p.is_type (visible p.scopes) p.names ≡ verdict_of (violation_number all s p) (meant all s p)
   judged p = by p.names refl
     where
-      by : (names : List (List ℕ)) → p.names ≡ names → verdict d f p.is_type (visible p.scopes) names ≡ verdict_of (number_by all s p names) (meant all s p)
+      by : (names : List (List ℕ)) → p.names ≡ names →
+          verdict d f p.is_type (visible p.scopes) names ≡ verdict_of (number_by all s p names) (meant all s p)
       by [] e = refl
-      by (x ∷ []) e = name-same p x (number_of x (visible p.scopes)) ∙ ap (λ o. verdict_of (unfit_number p o) o) (sym (meant-is all s p (x ∷ []) e))
+      by (x ∷ []) e = name-same p x (number_of x (visible p.scopes))
+          ∙ ap (λ o. verdict_of (unfit_number p o) o) (sym (meant-is all s p (x ∷ []) e))
       by (m ∷ x ∷ []) e =
           ap (pair_verdict d p.is_type x) (told.imports_are f s m here)
           ∙ pair-same p x (find (λ i. bytes_eq i.name m) (imports s.tree))
-          ∙ ap (λ o. verdict_of (pair_number all p (option_map item_meant (option_and_then (behind_of all s x) (find (λ i. bytes_eq i.name m) (imports s.tree)))) x o) (option_map item_meant (option_and_then (behind_of all s x) (find (λ i. bytes_eq i.name m) (imports s.tree))))) (sym (admitted_module-found all s m x))
-          ∙ ap (λ o. verdict_of (pair_number all p (option_map item_meant o) x (admitted_module all s m)) (option_map item_meant o)) (sym (admitted-pair all s m x))
+          ∙ ap (λ o. verdict_of (pair_number all p (option_map item_meant
+          (option_and_then (behind_of all s x) (find (λ i. bytes_eq i.name m) (imports s.tree)))) x o)
+          (option_map item_meant (option_and_then (behind_of all s x) (find (λ i. bytes_eq i.name m) (imports s.tree)))))
+          (sym (admitted_module-found all s m x))
+          ∙ ap (λ o. verdict_of (pair_number all p (option_map item_meant o) x (admitted_module all s m)) (option_map item_meant o))
+          (sym (admitted-pair all s m x))
           ∙ ap (λ o. verdict_of (pair_number all p o x (admitted_module all s m)) o) (sym (meant-is all s p (m ∷ x ∷ []) e))
       by (m ∷ x ∷ y ∷ ys) e = refl

@@ -11,6 +11,7 @@ use Rattle.hare_tree.specs.declared.tree.FileTree.{FileTree}
 use Rattle.hare_tree.specs.Node.{Node}
 use Rattle.hare_modules.specs.Order.{fault, earlier, same_place}
 use Rattle.hare_modules.specs.Directory.{Directory}
+use Rattle.hare_directory.proofs.FoundLemmas.{option_or-none}
 use Rattle.hare_names.specs.declared.notes.Notes.{Notes}
 use Rattle.hare_names.specs.declared.verdict.Verdict.{Verdict}
 use Rattle.hare_names.specs.declared.verdict.Verdict.TheVariants.{Means, Fails}
@@ -54,7 +55,8 @@ module _ (d : Directory) (f : ℕ) where
   spots-first n [] = refl
   spots-first n (s ∷ ss) = by (verdict d f s.is_type s.locals s.names) (λ m. spots-first m ss)
     where
-      by : (v : Verdict) → ((m : Notes) → (fold (noted d f) m ss).first ≡ fold earlier m.first (flat_map (spot_faults d f) ss)) → (fold (noted d f) (noted_as n s.place v) ss).first ≡ fold earlier n.first (faults_by s.place v ++ flat_map (spot_faults d f) ss)
+      by : (v : Verdict) → ((m : Notes) → (fold (noted d f) m ss).first ≡ fold earlier m.first (flat_map (spot_faults d f) ss)) →
+          (fold (noted d f) (noted_as n s.place v) ss).first ≡ fold earlier n.first (faults_by s.place v ++ flat_map (spot_faults d f) ss)
       by (Means m) h = h (record n { places = put n.places s.place m })
       by (Fails k) h = h (record n { first = earlier n.first (fault k s.place) })
 
@@ -62,7 +64,9 @@ module _ (d : Directory) (f : ℕ) where
   spots-places n [] = refl
   spots-places n (s ∷ ss) = by (verdict d f s.is_type s.locals s.names) (λ m. spots-places m ss)
     where
-      by : (v : Verdict) → ((m : Notes) → (fold (noted d f) m ss).places ≡ fold put_one m.places (flat_map (spot_meanings d f) ss)) → (fold (noted d f) (noted_as n s.place v) ss).places ≡ fold put_one n.places (meanings_by s.place v ++ flat_map (spot_meanings d f) ss)
+      by : (v : Verdict) → ((m : Notes) → (fold (noted d f) m ss).places ≡ fold put_one m.places (flat_map (spot_meanings d f) ss)) →
+          (fold (noted d f) (noted_as n s.place v) ss).places ≡ fold put_one n.places
+          (meanings_by s.place v ++ flat_map (spot_meanings d f) ss)
       by (Means m) h = h (record n { places = put n.places s.place m })
       by (Fails k) h = h (record n { first = earlier n.first (fault k s.place) })
 
@@ -70,7 +74,9 @@ module _ (d : Directory) (f : ℕ) where
   decls-first n [] = refl
   decls-first n (t ∷ ts) =
       decls-first (decl_noted d f n t) ts
-      ∙ ap (λ o. fold earlier o (flat_map decl_faults ts)) (spots-first (with_doubled n t) (spots_in 0 [] t) ∙ sym (fold-append earlier n.first (doubled_in t) (flat_map (spot_faults d f) (spots_in 0 [] t))))
+      ∙ ap (λ o. fold earlier o (flat_map decl_faults ts))
+      (spots-first (with_doubled n t) (spots_in 0 [] t) ∙ sym
+      (fold-append earlier n.first (doubled_in t) (flat_map (spot_faults d f) (spots_in 0 [] t))))
       ∙ sym (fold-append earlier n.first (decl_faults t) (flat_map decl_faults ts))
 
   decls-places : (n : Notes) (ts : List Node) → (fold (decl_noted d f) n ts).places ≡ fold put_one n.places (flat_map decl_meanings ts)
@@ -90,31 +96,34 @@ abbrev pub meanings_from : Directory → ℕ → List FileTree → Meanings
 meanings_from d f [] = []
 meanings_from d f (t ∷ ts) = flat_map (decl_meanings d f) t.decls ++ meanings_from d (f + 1) ts
 
-pub files-first : (d : Directory) (f : ℕ) (n : Notes) (ts : List FileTree) → (files_noted d f n ts).first ≡ fold earlier n.first (faults_from d f ts)
+pub files-first : (d : Directory) (f : ℕ) (n : Notes) (ts : List FileTree) →
+    (files_noted d f n ts).first ≡ fold earlier n.first (faults_from d f ts)
 files-first d f n [] = refl
 files-first d f n (t ∷ ts) =
-    files-first d (f + 1) (fold (decl_noted d f) n t.decls) ts ∙ ap (λ o. fold earlier o (faults_from d (f + 1) ts)) (decls-first d f n t.decls)
+    files-first d (f + 1) (fold (decl_noted d f) n t.decls) ts
+    ∙ ap (λ o. fold earlier o (faults_from d (f + 1) ts)) (decls-first d f n t.decls)
     ∙ sym (fold-append earlier n.first (flat_map (decl_faults d f) t.decls) (faults_from d (f + 1) ts))
 
-pub files-places : (d : Directory) (f : ℕ) (n : Notes) (ts : List FileTree) → (files_noted d f n ts).places ≡ fold put_one n.places (meanings_from d f ts)
+pub files-places : (d : Directory) (f : ℕ) (n : Notes) (ts : List FileTree) →
+    (files_noted d f n ts).places ≡ fold put_one n.places (meanings_from d f ts)
 files-places d f n [] = refl
 files-places d f n (t ∷ ts) =
-    files-places d (f + 1) (fold (decl_noted d f) n t.decls) ts ∙ ap (λ es. fold put_one es (meanings_from d (f + 1) ts)) (decls-places d f n t.decls)
+    files-places d (f + 1) (fold (decl_noted d f) n t.decls) ts
+    ∙ ap (λ es. fold put_one es (meanings_from d (f + 1) ts)) (decls-places d f n t.decls)
     ∙ sym (fold-append put_one n.places (flat_map (decl_meanings d f) t.decls) (meanings_from d (f + 1) ts))
 
 -- ---- look-ups
 
-meaning-push : (q p : Place) (m : Meaning) (es : Meanings) → meaning_at q (es ++ (p, m) ∷ []) ≡ option_or (meaning_at q es) (cond (same_place q p) (Some m) None)
+meaning-push : (q p : Place) (m : Meaning) (es : Meanings) →
+    meaning_at q (es ++ (p, m) ∷ []) ≡ option_or (meaning_at q es) (cond (same_place q p) (Some m) None)
 meaning-push q p m [] = refl
 meaning-push q p m (e ∷ es) = by (same_place q e.0) (meaning-push q p m es)
   where
-    by : (b : Bool) → meaning_at q (es ++ (p, m) ∷ []) ≡ option_or (meaning_at q es) (cond (same_place q p) (Some m) None) → cond b (Some e.1) (meaning_at q (es ++ (p, m) ∷ [])) ≡ option_or (cond b (Some e.1) (meaning_at q es)) (cond (same_place q p) (Some m) None)
+    by : (b : Bool) → meaning_at q (es ++ (p, m) ∷ []) ≡ option_or (meaning_at q es) (cond (same_place q p) (Some m) None) →
+        cond b (Some e.1) (meaning_at q (es ++ (p, m) ∷ [])) ≡ option_or (cond b (Some e.1) (meaning_at q es))
+        (cond (same_place q p) (Some m) None)
     by true h = refl
     by false h = h
-
-option_or-none : {A : Type 0} (o : Option A) → option_or o None ≡ o
-option_or-none None = refl
-option_or-none (Some a) = refl
 
 option_or-assoc : {A : Type 0} (o p q : Option A) → option_or (option_or o p) q ≡ option_or o (option_or p q)
 option_or-assoc None p q = refl
@@ -134,15 +143,18 @@ same-is p q e =
 pub same-itself : (p : Place) → same_place p p ≡ true
 same-itself p = rw (eq-eqb p.file p.file refl, eq-eqb p.line p.line refl, eq-eqb p.column p.column refl) refl
 
-meaning-put : (q p : Place) (m : Meaning) (es : Meanings) → meaning_at q (put es p m) ≡ option_or (meaning_at q es) (cond (same_place q p) (Some m) None)
+meaning-put : (q p : Place) (m : Meaning) (es : Meanings) →
+    meaning_at q (put es p m) ≡ option_or (meaning_at q es) (cond (same_place q p) (Some m) None)
 meaning-put q p m es = by (is_some (meaning_at p es)) refl
   where
-    kept : is_some (meaning_at p es) ≡ true → (b : Bool) → same_place q p ≡ b → (o : Option Meaning) → meaning_at q es ≡ o → o ≡ option_or o (cond b (Some m) None)
+    kept : is_some (meaning_at p es) ≡ true → (b : Bool) → same_place q p ≡ b → (o : Option Meaning) → meaning_at q es ≡ o →
+        o ≡ option_or o (cond b (Some m) None)
     kept h b e (Some n) k = refl
     kept h false e None k = refl
     kept h true e None k = absurd (true≢false (sym h ∙ ap (λ r. is_some (meaning_at r es)) (sym (same-is q p e)) ∙ ap is_some k))
 
-    by : (b : Bool) → is_some (meaning_at p es) ≡ b → meaning_at q (if b then es else es ++ (p, m) ∷ []) ≡ option_or (meaning_at q es) (cond (same_place q p) (Some m) None)
+    by : (b : Bool) → is_some (meaning_at p es) ≡ b →
+        meaning_at q (if b then es else es ++ (p, m) ∷ []) ≡ option_or (meaning_at q es) (cond (same_place q p) (Some m) None)
     by true h = kept h (same_place q p) refl (meaning_at q es) refl
     by false h = meaning-push q p m es
 
@@ -162,6 +174,7 @@ pub meaning-append : (q : Place) (xs ys : Meanings) → meaning_at q (xs ++ ys) 
 meaning-append q [] ys = refl
 meaning-append q (x ∷ xs) ys = by (same_place q x.0) (meaning-append q xs ys)
   where
-    by : (b : Bool) → meaning_at q (xs ++ ys) ≡ option_or (meaning_at q xs) (meaning_at q ys) → cond b (Some x.1) (meaning_at q (xs ++ ys)) ≡ option_or (cond b (Some x.1) (meaning_at q xs)) (meaning_at q ys)
+    by : (b : Bool) → meaning_at q (xs ++ ys) ≡ option_or (meaning_at q xs) (meaning_at q ys) →
+        cond b (Some x.1) (meaning_at q (xs ++ ys)) ≡ option_or (cond b (Some x.1) (meaning_at q xs)) (meaning_at q ys)
     by true h = refl
     by false h = h

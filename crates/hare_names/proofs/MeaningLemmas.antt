@@ -42,7 +42,8 @@ Contains-flat_map g (x ∷ xs) y c = by (λ d. Contains-flat_map g xs y d) (Cont
     by more (inl d) = record { from = x; among = Contains-here x xs; gives = d }
     by more (inr d) = let w = more d in record { from = w.from; among = Contains-behind x w.from xs w.among; gives = w.gives }
 
-pub Contains-to_flat_map : {A B : Type 0} (g : A → List B) (xs : List A) (x : A) (y : B) → Contains xs x → Contains (g x) y → Contains (flat_map g xs) y
+pub Contains-to_flat_map : {A B : Type 0} (g : A → List B) (xs : List A) (x : A) (y : B) → Contains xs x → Contains (g x) y →
+    Contains (flat_map g xs) y
 Contains-to_flat_map g [] x y c d = absurd (Contains-none x c)
 Contains-to_flat_map g (z ∷ zs) x y c d = by (λ e. Contains-to_flat_map g zs x y e d) (Contains-cases z x zs c)
   where
@@ -54,7 +55,8 @@ flat_map-same : {A B : Type 0} (g h : A → List B) → ((x : A) → g x ≡ h x
 flat_map-same g h e [] = refl
 flat_map-same g h e (x ∷ xs) = ap (λ ys. ys ++ flat_map g xs) (e x) ∙ ap (λ ys. h x ++ ys) (flat_map-same g h e xs)
 
-flat_map-flat_map : {A B C : Type 0} (g : B → List C) (h : A → List B) (xs : List A) → flat_map g (flat_map h xs) ≡ flat_map (λ x. flat_map g (h x)) xs
+flat_map-flat_map : {A B C : Type 0} (g : B → List C) (h : A → List B) (xs : List A) →
+    flat_map g (flat_map h xs) ≡ flat_map (λ x. flat_map g (h x)) xs
 flat_map-flat_map g h [] = refl
 flat_map-flat_map g h (x ∷ xs) = flat_map-append g (h x) (flat_map h xs) ∙ ap (λ ys. flat_map g (h x) ++ ys) (flat_map-flat_map g h xs)
 
@@ -75,16 +77,19 @@ module _ (all : List Source) (d : Directory) (f : ℕ) (s : Source) (told : IsDi
   decl-faults t =
       ap (λ ss. doubled_in t ++ flat_map (spot_faults d f) ss) (sym (spots-in 0 [] t))
       ∙ ap (λ fs. doubled_in t ++ fs) (flat_map-map (spot_faults d f) spot_of (paths_of t)
-      ∙ flat_map-same (λ p. spot_faults d f (spot_of p)) (path_faults all s) (λ p. ap (faults_by p.place) (judged all d f s told here p)) (paths_of t))
+      ∙ flat_map-same (λ p. spot_faults d f (spot_of p)) (path_faults all s) (λ p. ap (faults_by p.place) (judged all d f s told here p))
+      (paths_of t))
 
   decl-meanings : (t : Node) → decl_meanings d f t ≡ flat_map (path_meanings all s) (paths_of t)
   decl-meanings t =
       ap (flat_map (spot_meanings d f)) (sym (spots-in 0 [] t))
       ∙ flat_map-map (spot_meanings d f) spot_of (paths_of t)
-      ∙ flat_map-same (λ p. spot_meanings d f (spot_of p)) (path_meanings all s) (λ p. ap (meanings_by p.place) (judged all d f s told here p)) (paths_of t)
+      ∙ flat_map-same (λ p. spot_meanings d f (spot_of p)) (path_meanings all s)
+      (λ p. ap (meanings_by p.place) (judged all d f s told here p)) (paths_of t)
 
   pub file-meanings : (ts : List Node) → flat_map (decl_meanings d f) ts ≡ flat_map (path_meanings all s) (flat_map paths_of ts)
-  file-meanings ts = flat_map-same (decl_meanings d f) (λ t. flat_map (path_meanings all s) (paths_of t)) decl-meanings ts ∙ sym (flat_map-flat_map (path_meanings all s) paths_of ts)
+  file-meanings ts = flat_map-same (decl_meanings d f) (λ t. flat_map (path_meanings all s) (paths_of t)) decl-meanings ts
+      ∙ sym (flat_map-flat_map (path_meanings all s) paths_of ts)
 
 -- a violation of a file: at equal names, or at a path
 pub data IsFileViolation (all : List Source) (s : Source) (x : Fault) : Type 0 where
@@ -102,20 +107,24 @@ path-fault-to all s p x c = by (violation_number all s p) c
         by-cases (inl e) = ap Some e
         by-cases (inr e) = absurd (Contains-none x e)
 
-path-fault-from : (all : List Source) (s : Source) (p : Path) (x : Fault) → path_violation all s p ≡ Some x → Contains (path_faults all s p) x
+path-fault-from : (all : List Source) (s : Source) (p : Path) (x : Fault) → path_violation all s p ≡ Some x →
+    Contains (path_faults all s p) x
 path-fault-from all s p x e = by (violation_number all s p) e
   where
     by : (o : Option ℕ) → option_map (λ n. fault n p.place) o ≡ Some x → Contains (faults_by p.place (verdict_of o (meant all s p))) x
     by None d = absurd cc
-    by (Some n) d = let same : fault n p.place ≡ x = cc in subst (λ y. Contains (fault n p.place ∷ []) y) same (Contains-here (fault n p.place) [])
+    by (Some n) d = let same : fault n p.place ≡ x = cc in subst (λ y. Contains (fault n p.place ∷ []) y) same
+        (Contains-here (fault n p.place) [])
 
 module _ (all : List Source) (d : Directory) (f : ℕ) (s : Source) (told : IsDirectoryOf all d) (here : slice_get all f ≡ Some s) where
   file-to : (x : Fault) → Contains (flat_map (decl_faults d f) s.tree.decls) x → IsFileViolation all s x
   file-to x c =
       let w = Contains-flat_map (decl_faults d f) s.tree.decls x c in
-      by w.from w.among (Contains-append_cases (doubled_in w.from) (flat_map (path_faults all s) (paths_of w.from)) x (subst (λ fs. Contains fs x) (decl-faults all d f s told here w.from) w.gives))
+      by w.from w.among (Contains-append_cases (doubled_in w.from) (flat_map (path_faults all s) (paths_of w.from)) x
+      (subst (λ fs. Contains fs x) (decl-faults all d f s told here w.from) w.gives))
     where
-      by : (t : Node) → Contains s.tree.decls t → Contains (doubled_in t) x ⊎ Contains (flat_map (path_faults all s) (paths_of t)) x → IsFileViolation all s x
+      by : (t : Node) → Contains s.tree.decls t → Contains (doubled_in t) x ⊎ Contains (flat_map (path_faults all s) (paths_of t)) x →
+          IsFileViolation all s x
       by t a (inl e) = at_double (Contains-to_flat_map doubled_in s.tree.decls t x a e)
       by t a (inr e) =
           let v = Contains-flat_map (path_faults all s) (paths_of t) x e in
@@ -128,7 +137,9 @@ module _ (all : List Source) (d : Directory) (f : ℕ) (s : Source) (told : IsDi
   file-from x (at_path p c e) =
       let w = Contains-flat_map paths_of s.tree.decls p c in
       let inside = Contains-to_flat_map (path_faults all s) (paths_of w.from) p x w.gives (path-fault-from all s p x e) in
-      Contains-to_flat_map (decl_faults d f) s.tree.decls w.from x w.among (subst (λ fs. Contains fs x) (sym (decl-faults all d f s told here w.from)) (Contains-append_right (doubled_in w.from) _ x inside))
+      Contains-to_flat_map (decl_faults d f) s.tree.decls w.from x w.among
+      (subst (λ fs. Contains fs x) (sym (decl-faults all d f s told here w.from))
+      (Contains-append_right (doubled_in w.from) _ x inside))
 
 -- ---- all files
 
@@ -151,24 +162,43 @@ abbrev pub source_of : List ℕ → FileTree → Source
 source_of p t = record { home = module_of p; tree = t }
 
 module _ (all : List Source) (d : Directory) (told : IsDirectoryOf all d) where
-  pub faults-to : (f : ℕ) (ps : List (List ℕ)) (ts : List FileTree) (x : Fault) → length ts ≡ length ps → Stands all f (sources ps ts) → Contains (faults_from d f ts) x → InFile all (sources ps ts) x
+  pub faults-to : (f : ℕ) (ps : List (List ℕ)) (ts : List FileTree) (x : Fault) → length ts ≡ length ps → Stands all f (sources ps ts) →
+      Contains (faults_from d f ts) x → InFile all (sources ps ts) x
   faults-to f ps [] x l h c = absurd (Contains-none x c)
   faults-to f [] (t ∷ ts) x l h c = absurd (omega (arith, l))
   faults-to f (p ∷ ps) (t ∷ ts) x l h c =
-      by (λ e. faults-to (f + 1) ps ts x (omega (arith, l)) (stands-next all f (source_of p t) (sources ps ts) h) e) (Contains-append_cases (flat_map (decl_faults d f) t.decls) (faults_from d (f + 1) ts) x c)
+      by (λ e. faults-to (f + 1) ps ts x (omega (arith, l)) (stands-next all f (source_of p t) (sources ps ts) h) e)
+      (Contains-append_cases (flat_map (decl_faults d f) t.decls) (faults_from d (f + 1) ts) x c)
     where
-      by : (Contains (faults_from d (f + 1) ts) x → InFile all (sources ps ts) x) → Contains (flat_map (decl_faults d f) t.decls) x ⊎ Contains (faults_from d (f + 1) ts) x → InFile all (sources (p ∷ ps) (t ∷ ts)) x
-      by more (inl e) = record { source = source_of p t; is_source = Contains-here (source_of p t) (sources ps ts); violation = file-to all d f (source_of p t) told (stands-here all f (source_of p t) (sources ps ts) h) x e }
-      by more (inr e) = let r = more e in record { source = r.source; is_source = Contains-behind (source_of p t) r.source (sources ps ts) r.is_source; violation = r.violation }
+      by : (Contains (faults_from d (f + 1) ts) x → InFile all (sources ps ts) x) →
+          Contains (flat_map (decl_faults d f) t.decls) x ⊎ Contains (faults_from d (f + 1) ts) x →
+          InFile all (sources (p ∷ ps) (t ∷ ts)) x
+      by more (inl e) = record {
+        source = source_of p t;
+        is_source = Contains-here (source_of p t) (sources ps ts);
+        violation =
+            file-to all d f (source_of p t) told (stands-here all f (source_of p t) (sources ps ts) h) x e;
+      }
+      by more (inr e) = let r = more e in record {
+        source = r.source;
+        is_source = Contains-behind (source_of p t) r.source
+            (sources ps ts) r.is_source;
+        violation = r.violation;
+      }
 
-  pub faults-from : (f : ℕ) (ps : List (List ℕ)) (ts : List FileTree) (s : Source) (x : Fault) → Stands all f (sources ps ts) → Contains (sources ps ts) s → IsFileViolation all s x → Contains (faults_from d f ts) x
+  pub faults-from : (f : ℕ) (ps : List (List ℕ)) (ts : List FileTree) (s : Source) (x : Fault) → Stands all f (sources ps ts) →
+      Contains (sources ps ts) s → IsFileViolation all s x → Contains (faults_from d f ts) x
   faults-from f [] ts s x h c v = absurd (Contains-none s c)
   faults-from f (p ∷ ps) [] s x h c v = absurd (Contains-none s c)
   faults-from f (p ∷ ps) (t ∷ ts) s x h c v =
-      by (λ e. faults-from (f + 1) ps ts s x (stands-next all f (source_of p t) (sources ps ts) h) e v) (Contains-cases (source_of p t) s (sources ps ts) c)
+      by (λ e. faults-from (f + 1) ps ts s x (stands-next all f (source_of p t) (sources ps ts) h) e v)
+      (Contains-cases (source_of p t) s (sources ps ts) c)
     where
-      by : (Contains (sources ps ts) s → Contains (faults_from d (f + 1) ts) x) → (source_of p t ≡ s) ⊎ Contains (sources ps ts) s → Contains (faults_from d f (t ∷ ts)) x
-      by more (inl e) = Contains-append_left (flat_map (decl_faults d f) t.decls) (faults_from d (f + 1) ts) x (file-from all d f (source_of p t) told (stands-here all f (source_of p t) (sources ps ts) h) x (subst (λ r. IsFileViolation all r x) (sym e) v))
+      by : (Contains (sources ps ts) s → Contains (faults_from d (f + 1) ts) x) → (source_of p t ≡ s) ⊎ Contains (sources ps ts) s →
+          Contains (faults_from d f (t ∷ ts)) x
+      by more (inl e) = Contains-append_left (flat_map (decl_faults d f) t.decls) (faults_from d (f + 1) ts) x
+          (file-from all d f (source_of p t) told (stands-here all f (source_of p t) (sources ps ts) h) x
+          (subst (λ r. IsFileViolation all r x) (sym e) v))
       by more (inr e) = Contains-append_right (flat_map (decl_faults d f) t.decls) (faults_from d (f + 1) ts) x (more e)
 
 -- ---- meanings at places
@@ -190,7 +220,9 @@ before-differs p q e = by (same_place q p) refl
         by-column (inl k) = irreflexive r.line k
         by-column (inr k) = irreflexive r.column (and_parts (r.line == r.line) (nat_lt r.column r.column) k).1
 
-        by-file : (nat_lt r.file r.file ≡ true) ⊎ ((r.file == r.file && (nat_lt r.line r.line || (r.line == r.line && nat_lt r.column r.column))) ≡ true) → ⊥
+        by-file : (nat_lt r.file r.file ≡ true) ⊎ ((r.file == r.file &&
+            (nat_lt r.line r.line || (r.line == r.line && nat_lt r.column r.column))) ≡ true) →
+            ⊥
         by-file (inl k) = irreflexive r.file k
         by-file (inr k) = by-column (or-cases (nat_lt r.line r.line) _ (and_parts (r.file == r.file) _ k).1)
 
@@ -208,27 +240,38 @@ module _ (all : List Source) (s : Source) where
       by false h = refl
       by true h = absurd (e (sym (same-is q p h)))
 
-  pub elsewhere : (q : Place) (ps : List Path) → ((p : Path) → Contains ps p → p.place ≡ q → ⊥) → meaning_at q (flat_map (path_meanings all s) ps) ≡ None
+  pub elsewhere : (q : Place) (ps : List Path) → ((p : Path) → Contains ps p → p.place ≡ q → ⊥) →
+      meaning_at q (flat_map (path_meanings all s) ps) ≡ None
   elsewhere q [] e = refl
   elsewhere q (p ∷ ps) e =
       meaning-append q (path_meanings all s p) (flat_map (path_meanings all s) ps)
-      ∙ ap (λ o. option_or o (meaning_at q (flat_map (path_meanings all s) ps))) (path-elsewhere q (path_verdict all s p) p.place (e p (Contains-here p ps)))
+      ∙ ap (λ o. option_or o (meaning_at q (flat_map (path_meanings all s) ps)))
+      (path-elsewhere q (path_verdict all s p) p.place (e p (Contains-here p ps)))
       ∙ elsewhere q ps (λ r c. e r (Contains-behind p r ps c))
 
   -- a path without a violation is found
-  path-there : (p : Path) → violation_number all s p ≡ None → meaning_at p.place (path_meanings all s p) ≡ Some (meaning_or_none (meant all s p))
+  path-there : (p : Path) → violation_number all s p ≡ None →
+      meaning_at p.place (path_meanings all s p) ≡ Some (meaning_or_none (meant all s p))
   path-there p e =
       ap (λ o. meaning_at p.place (meanings_by p.place (verdict_of o (meant all s p)))) e
       ∙ ap (λ b. cond b (Some (meaning_or_none (meant all s p))) None) (same-itself p.place)
 
-  pub at-path : (ps : List Path) (p : Path) → Rises ps → Contains ps p → violation_number all s p ≡ None → meaning_at p.place (flat_map (path_meanings all s) ps) ≡ Some (meaning_or_none (meant all s p))
+  pub at-path : (ps : List Path) (p : Path) → Rises ps → Contains ps p → violation_number all s p ≡ None →
+      meaning_at p.place (flat_map (path_meanings all s) ps) ≡ Some (meaning_or_none (meant all s p))
   at-path [] p r c e = absurd (Contains-none p c)
   at-path (q ∷ ps) p r c e =
-      meaning-append p.place (path_meanings all s q) (flat_map (path_meanings all s) ps) ∙ by (λ h. at-path ps p r.1 h e) (Contains-cases q p ps c)
+      meaning-append p.place (path_meanings all s q) (flat_map (path_meanings all s) ps)
+      ∙ by (λ h. at-path ps p r.1 h e) (Contains-cases q p ps c)
     where
-      by : (Contains ps p → meaning_at p.place (flat_map (path_meanings all s) ps) ≡ Some (meaning_or_none (meant all s p))) → (q ≡ p) ⊎ Contains ps p → option_or (meaning_at p.place (path_meanings all s q)) (meaning_at p.place (flat_map (path_meanings all s) ps)) ≡ Some (meaning_or_none (meant all s p))
-      by more (inl h) = ap (λ o. option_or o (meaning_at p.place (flat_map (path_meanings all s) ps))) (ap (λ x. meaning_at p.place (path_meanings all s x)) h ∙ path-there p e)
+      by : (Contains ps p → meaning_at p.place (flat_map (path_meanings all s) ps) ≡ Some (meaning_or_none (meant all s p))) →
+          (q ≡ p) ⊎ Contains ps p →
+          option_or (meaning_at p.place (path_meanings all s q)) (meaning_at p.place (flat_map (path_meanings all s) ps)) ≡ Some
+          (meaning_or_none (meant all s p))
+      by more (inl h) = ap (λ o. option_or o (meaning_at p.place (flat_map (path_meanings all s) ps)))
+          (ap (λ x. meaning_at p.place (path_meanings all s x)) h ∙ path-there p e)
       by more (inr h) =
           ap (λ o. option_or o (meaning_at p.place (flat_map (path_meanings all s) ps)))
-          (path-elsewhere p.place (path_verdict all s q) q.place (λ k. true≢false (sym (same-itself p.place) ∙ ap (λ x. same_place p.place x) (sym k) ∙ before-differs q.place p.place (r.0 p h))))
+          (path-elsewhere p.place (path_verdict all s q) q.place
+          (λ k. true≢false (sym (same-itself p.place) ∙ ap (λ x. same_place p.place x) (sym k)
+          ∙ before-differs q.place p.place (r.0 p h))))
           ∙ more h

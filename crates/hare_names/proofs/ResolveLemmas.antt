@@ -53,33 +53,44 @@ ordered-here : (f : ℕ) (t : FileTree) (ts : List FileTree) → AreOrdered f (t
 ordered-here f t ts h = subst (λ k. IsOrdered k t) (add-zero f) (h 0 t refl)
 
 module _ (all : List Source) (d : Directory) (told : IsDirectoryOf all d) where
-  own-meanings : (f : ℕ) (p : List ℕ) (t : FileTree) (ps : List (List ℕ)) (ts : List FileTree) → Stands all f (sources (p ∷ ps) (t ∷ ts)) → flat_map (decl_meanings d f) t.decls ≡ flat_map (path_meanings all (source_of p t)) (paths_of_file t)
+  own-meanings : (f : ℕ) (p : List ℕ) (t : FileTree) (ps : List (List ℕ)) (ts : List FileTree) → Stands all f (sources (p ∷ ps) (t ∷ ts)) →
+      flat_map (decl_meanings d f) t.decls ≡ flat_map (path_meanings all (source_of p t)) (paths_of_file t)
   own-meanings f p t ps ts h = file-meanings all d f (source_of p t) told (stands-here all f (source_of p t) (sources ps ts) h) t.decls
 
-  all-elsewhere : (f : ℕ) (ps : List (List ℕ)) (ts : List FileTree) (q : Place) → length ts ≡ length ps → Stands all f (sources ps ts) → ((s : Source) (p : Path) → Contains (sources ps ts) s → Contains (paths_of_file s.tree) p → p.place ≡ q → ⊥) → meaning_at q (meanings_from d f ts) ≡ None
+  all-elsewhere : (f : ℕ) (ps : List (List ℕ)) (ts : List FileTree) (q : Place) → length ts ≡ length ps → Stands all f (sources ps ts) →
+      ((s : Source) (p : Path) → Contains (sources ps ts) s → Contains (paths_of_file s.tree) p → p.place ≡ q → ⊥) →
+      meaning_at q (meanings_from d f ts) ≡ None
   all-elsewhere f ps [] q l h e = refl
   all-elsewhere f [] (t ∷ ts) q l h e = absurd (omega (arith, l))
   all-elsewhere f (p ∷ ps) (t ∷ ts) q l h e =
       meaning-append q (flat_map (decl_meanings d f) t.decls) (meanings_from d (f + 1) ts)
       ∙ ap (λ o. option_or o (meaning_at q (meanings_from d (f + 1) ts)))
-      (ap (meaning_at q) (own-meanings f p t ps ts h) ∙ elsewhere all (source_of p t) q (paths_of_file t) (λ r c. e (source_of p t) r (Contains-here (source_of p t) (sources ps ts)) c))
-      ∙ all-elsewhere (f + 1) ps ts q (omega (arith, l)) (stands-next all f (source_of p t) (sources ps ts) h) (λ s r c. e s r (Contains-behind (source_of p t) s (sources ps ts) c))
+      (ap (meaning_at q) (own-meanings f p t ps ts h) ∙ elsewhere all (source_of p t) q (paths_of_file t)
+      (λ r c. e (source_of p t) r (Contains-here (source_of p t) (sources ps ts)) c))
+      ∙ all-elsewhere (f + 1) ps ts q (omega (arith, l)) (stands-next all f (source_of p t) (sources ps ts) h)
+      (λ s r c. e s r (Contains-behind (source_of p t) s (sources ps ts) c))
 
-  all-there : (f : ℕ) (ps : List (List ℕ)) (ts : List FileTree) (s : Source) (p : Path) → length ts ≡ length ps → Stands all f (sources ps ts) → AreOrdered f ts → Contains (sources ps ts) s → Contains (paths_of_file s.tree) p → violation_number all s p ≡ None → meaning_at p.place (meanings_from d f ts) ≡ Some (meaning_or_none (meant all s p))
+  all-there : (f : ℕ) (ps : List (List ℕ)) (ts : List FileTree) (s : Source) (p : Path) → length ts ≡ length ps →
+      Stands all f (sources ps ts) → AreOrdered f ts → Contains (sources ps ts) s → Contains (paths_of_file s.tree) p →
+      violation_number all s p ≡ None → meaning_at p.place (meanings_from d f ts) ≡ Some (meaning_or_none (meant all s p))
   all-there f ps [] s p l h o c b v = by ps c
     where
-      by : (qs : List (List ℕ)) → Contains (sources qs []) s → meaning_at p.place (meanings_from d f []) ≡ Some (meaning_or_none (meant all s p))
+      by : (qs : List (List ℕ)) → Contains (sources qs []) s →
+          meaning_at p.place (meanings_from d f []) ≡ Some (meaning_or_none (meant all s p))
       by [] k = absurd (Contains-none s k)
       by (q ∷ qs) k = absurd (Contains-none s k)
   all-there f [] (t ∷ ts) s p l h o c b v = absurd (omega (arith, l))
   all-there f (q ∷ ps) (t ∷ ts) s p l h o c b v =
       meaning-append p.place (flat_map (decl_meanings d f) t.decls) (meanings_from d (f + 1) ts)
-      ∙ by (λ k. all-there (f + 1) ps ts s p (omega (arith, l)) (stands-next all f (source_of q t) (sources ps ts) h) (ordered-next f t ts o) k b v) (Contains-cases (source_of q t) s (sources ps ts) c)
+      ∙ by (λ k. all-there (f + 1) ps ts s p (omega (arith, l)) (stands-next all f (source_of q t) (sources ps ts) h)
+      (ordered-next f t ts o) k b v) (Contains-cases (source_of q t) s (sources ps ts) c)
     where
-      own : meaning_at p.place (flat_map (decl_meanings d f) t.decls) ≡ meaning_at p.place (flat_map (path_meanings all (source_of q t)) (paths_of_file t))
+      own : meaning_at p.place (flat_map (decl_meanings d f) t.decls) ≡ meaning_at p.place
+          (flat_map (path_meanings all (source_of q t)) (paths_of_file t))
       own = ap (meaning_at p.place) (own-meanings f q t ps ts h)
 
-      here : source_of q t ≡ s → meaning_at p.place (flat_map (path_meanings all (source_of q t)) (paths_of_file t)) ≡ Some (meaning_or_none (meant all s p))
+      here : source_of q t ≡ s →
+          meaning_at p.place (flat_map (path_meanings all (source_of q t)) (paths_of_file t)) ≡ Some (meaning_or_none (meant all s p))
       here e =
           ap (λ r. meaning_at p.place (flat_map (path_meanings all r) (paths_of_file r.tree))) e
           ∙ at-path all s (paths_of_file s.tree) p (subst (λ r. IsOrdered f r.tree) e (ordered-here f t ts o)).rises b v
@@ -92,9 +103,13 @@ module _ (all : List Source) (d : Directory) (told : IsDirectoryOf all d) where
           let same : r.place.file ≡ p.place.file = ap (λ x. x.file) g in
           omega arith
 
-      by : (Contains (sources ps ts) s → meaning_at p.place (meanings_from d (f + 1) ts) ≡ Some (meaning_or_none (meant all s p))) → (source_of q t ≡ s) ⊎ Contains (sources ps ts) s → option_or (meaning_at p.place (flat_map (decl_meanings d f) t.decls)) (meaning_at p.place (meanings_from d (f + 1) ts)) ≡ Some (meaning_or_none (meant all s p))
+      by : (Contains (sources ps ts) s → meaning_at p.place (meanings_from d (f + 1) ts) ≡ Some (meaning_or_none (meant all s p))) →
+          (source_of q t ≡ s) ⊎ Contains (sources ps ts) s →
+          option_or (meaning_at p.place (flat_map (decl_meanings d f) t.decls)) (meaning_at p.place (meanings_from d (f + 1) ts)) ≡ Some
+          (meaning_or_none (meant all s p))
       by more (inl e) = ap (λ x. option_or x (meaning_at p.place (meanings_from d (f + 1) ts))) (own ∙ here e)
-      by more (inr k) = ap (λ x. option_or x (meaning_at p.place (meanings_from d (f + 1) ts))) (own ∙ elsewhere all (source_of q t) p.place (paths_of_file t) (apart k)) ∙ more k
+      by more (inr k) = ap (λ x. option_or x (meaning_at p.place (meanings_from d (f + 1) ts)))
+          (own ∙ elsewhere all (source_of q t) p.place (paths_of_file t) (apart k)) ∙ more k
 
 -- ---- the whole
 
@@ -122,23 +137,29 @@ module _ (ps : List (List ℕ)) (ts : List FileTree) (d : Directory) (h : AreFil
   from f (of_path s p i e) = inr (faults-from all d told 0 ps ts s f stands i.is_source (at_path p i.is_path e))
 
   -- the first violation
-  pub resolved-first : (first : Option Fault) (notes notes' : Notes) → TellsFirst (IsModuleFault all) first → notes.first ≡ first → notes' ≡ files_noted d 0 notes ts → TellsFirst (IsViolation all) notes'.first
+  pub resolved-first : (first : Option Fault) (notes notes' : Notes) → TellsFirst (IsModuleFault all) first → notes.first ≡ first →
+      notes' ≡ files_noted d 0 notes ts → TellsFirst (IsViolation all) notes'.first
   resolved-first first notes notes' t e n =
-      let found : notes'.first ≡ fold earlier first (faults_from d 0 ts) = ap (λ m. m.first) n ∙ files-first d 0 notes ts ∙ ap (λ o. fold earlier o (faults_from d 0 ts)) e in
+      let found : notes'.first ≡ fold earlier first (faults_from d 0 ts) = ap (λ m. m.first) n ∙ files-first d 0 notes ts
+      ∙ ap (λ o. fold earlier o (faults_from d 0 ts)) e in
       subst (TellsFirst (IsViolation all)) (sym found)
-      (first-of-same (λ f. IsModuleFault all f ⊎ Contains (faults_from d 0 ts) f) (IsViolation all) to from (fold earlier first (faults_from d 0 ts))
+      (first-of-same (λ f. IsModuleFault all f ⊎ Contains (faults_from d 0 ts) f) (IsViolation all) to from
+      (fold earlier first (faults_from d 0 ts))
       (first-of-list (IsModuleFault all) first (faults_from d 0 ts) t))
 
   -- where there is no violation, each path has its meaning
-  pub resolved-meanings : (notes notes' : Notes) → ((f : Fault) → IsViolation all f → ⊥) → notes.places ≡ [] → notes' ≡ files_noted d 0 notes ts → AreMeanings all (meaning_in notes'.places)
+  pub resolved-meanings : (notes notes' : Notes) → ((f : Fault) → IsViolation all f → ⊥) → notes.places ≡ [] →
+      notes' ≡ files_noted d 0 notes ts → AreMeanings all (meaning_in notes'.places)
   resolved-meanings notes notes' none e n = record {
     at_path = λ s p i. meaning-there s p i;
-    elsewhere = λ q f. ap or_no_meaning (found q ∙ all-elsewhere all d told 0 ps ts q h.paired stands (λ s p c b. f s p record { is_source = c; is_path = b }));
+    elsewhere = λ q f. ap or_no_meaning (found q ∙ all-elsewhere all d told 0 ps ts q h.paired stands
+        (λ s p c b. f s p record { is_source = c; is_path = b }));
   }
     where
       found : (q : Place) → meaning_at q notes'.places ≡ meaning_at q (meanings_from d 0 ts)
       found q =
-          ap (λ m. meaning_at q m.places) n ∙ ap (meaning_at q) (files-places d 0 notes ts) ∙ meaning-all q notes.places (meanings_from d 0 ts)
+          ap (λ m. meaning_at q m.places) n ∙ ap (meaning_at q) (files-places d 0 notes ts)
+          ∙ meaning-all q notes.places (meanings_from d 0 ts)
           ∙ ap (λ es. option_or (meaning_at q es) (meaning_at q (meanings_from d 0 ts))) e
 
       fine : (s : Source) (p : Path) → IsPathOf all s p → violation_number all s p ≡ None
@@ -152,5 +173,12 @@ module _ (ps : List (List ℕ)) (ts : List FileTree) (d : Directory) (h : AreFil
       meaning-there s p i =
           let m = fine-meant all s p (fine s p i) in
           let value : meaning_in notes'.places p.place ≡ m.0.meaning =
-          ap or_no_meaning (found p.place ∙ all-there all d told 0 ps ts s p h.paired stands are-ordered i.is_source i.is_path (fine s p i)) ∙ ap meaning_or_none m.1 in
-          record { meant_as = m.0; is_meant = m.1; meaning_is = value; something = λ e. fine-something all s p (fine s p i) m.0 m.1 (sym value ∙ e) }
+          ap or_no_meaning (found p.place ∙ all-there all d told 0 ps ts s p h.paired stands are-ordered i.is_source i.is_path
+          (fine s p i)) ∙ ap meaning_or_none m.1 in
+          record {
+            meant_as = m.0;
+            is_meant = m.1;
+            meaning_is = value;
+            something = λ e. fine-something all s p (fine s p i) m.0 m.1
+                (sym value ∙ e);
+          }

@@ -31,7 +31,8 @@ mutual
   counted-all : (ts : Nodes) → length (bindings_of_all ts) ≡ bindings_among ts
   counted-all none = refl
   counted-all (more t ts) =
-      length-append (bindings_of t) (bindings_of_all ts) ∙ ap (λ n. n + length (bindings_of_all ts)) (counted t) ∙ ap (λ n. bindings_in t + n) (counted-all ts)
+      length-append (bindings_of t) (bindings_of_all ts) ∙ ap (λ n. n + length (bindings_of_all ts)) (counted t)
+      ∙ ap (λ n. bindings_in t + n) (counted-all ts)
 
 -- ---- bindings at their numbers
 
@@ -46,14 +47,16 @@ get-front (z ∷ zs) ys (suc i) x e = get-front zs ys i x e
 
 get-back : {A : Type 0} (xs ys : List A) (i : ℕ) (x : A) → slice_get ys i ≡ Some x → slice_get (xs ++ ys) (length xs + i) ≡ Some x
 get-back [] ys i x e = subst (λ k. slice_get ys k ≡ Some x) (sym (zero-add i)) e
-get-back (z ∷ zs) ys i x e = let j : suc (length zs) + i ≡ suc (length zs + i) = omega arith in subst (λ k. slice_get (z ∷ zs ++ ys) k ≡ Some x) (sym j) (get-back zs ys i x e)
+get-back (z ∷ zs) ys i x e = let j : suc (length zs) + i ≡ suc (length zs + i) = omega arith in subst
+    (λ k. slice_get (z ∷ zs ++ ys) k ≡ Some x) (sym j) (get-back zs ys i x e)
 
 sits-front : (all : List Node) (n : ℕ) (xs ys : List Node) → Sits all n (xs ++ ys) → Sits all n xs
 sits-front all n xs ys s i b e = s i b (get-front xs ys i b e)
 
 sits-back : (all : List Node) (n m : ℕ) (xs ys : List Node) → m ≡ n + length xs → Sits all n (xs ++ ys) → Sits all m ys
 sits-back all n m xs ys k s i b e =
-    let j : n + (length xs + i) ≡ m + i = omega (arith, k) in subst (λ x. slice_get all x ≡ Some b) j (s (length xs + i) b (get-back xs ys i b e))
+    let j : n + (length xs + i) ≡ m + i = omega (arith, k) in subst (λ x. slice_get all x ≡ Some b) j
+    (s (length xs + i) b (get-back xs ys i b e))
 
 -- the locals are bindings at their numbers
 abbrev AreBindings : List Node → List Local → Type 0
@@ -83,21 +86,28 @@ one-is all h ts n e x m c = by (Contains-cases (h.text, n) (x, m) [] c)
     by (inr d) = absurd (Contains-none (x, m) d)
 
 -- where the kids of a tree sit
-kids-sit : (all : List Node) (n : ℕ) (h : Head) (ts : Nodes) → Sits all n (bindings_of (branch h ts)) → Sits all (before_kids n h.kind) (bindings_of_all ts)
-kids-sit all n h ts s = sits-back all n (before_kids n h.kind) (if is_binding h.kind then branch h ts ∷ [] else []) (bindings_of_all ts) (by (is_binding h.kind)) s
+kids-sit : (all : List Node) (n : ℕ) (h : Head) (ts : Nodes) → Sits all n (bindings_of (branch h ts)) →
+    Sits all (before_kids n h.kind) (bindings_of_all ts)
+kids-sit all n h ts s = sits-back all n (before_kids n h.kind) (if is_binding h.kind then branch h ts ∷ [] else []) (bindings_of_all ts)
+    (by (is_binding h.kind)) s
   where
     by : (b : Bool) → (if b then n + 1 else n) ≡ n + length (if b then branch h ts ∷ [] else [])
     by true = refl
     by false = sym (add-zero n)
 
-own-sits : (all : List Node) (n : ℕ) (h : Head) (ts : Nodes) → is_binding h.kind ≡ true → Sits all n (bindings_of (branch h ts)) → slice_get all n ≡ Some (branch h ts)
-own-sits all n h ts e s = subst (λ k. slice_get all k ≡ Some (branch h ts)) (add-zero n) (s 0 (branch h ts) (ap (λ b. slice_get ((if b then branch h ts ∷ [] else []) ++ bindings_of_all ts) 0) e))
+own-sits : (all : List Node) (n : ℕ) (h : Head) (ts : Nodes) → is_binding h.kind ≡ true → Sits all n (bindings_of (branch h ts)) →
+    slice_get all n ≡ Some (branch h ts)
+own-sits all n h ts e s = subst (λ k. slice_get all k ≡ Some (branch h ts)) (add-zero n)
+    (s 0 (branch h ts) (ap (λ b. slice_get ((if b then branch h ts ∷ [] else []) ++ bindings_of_all ts) 0) e))
 
 mutual
   bound-are : (all : List Node) (n : ℕ) (t : Node) → Sits all n (bindings_of t) → AreBindings all (bound_by n t)
-  bound-are all n (branch h ts) s = by (is_binding h.kind) refl (is_params h.kind) refl (bound-all-are all (before_kids n h.kind) ts (kids-sit all n h ts s))
+  bound-are all n (branch h ts) s = by (is_binding h.kind) refl (is_params h.kind) refl
+      (bound-all-are all (before_kids n h.kind) ts (kids-sit all n h ts s))
     where
-      by : (b : Bool) → is_binding h.kind ≡ b → (c : Bool) → is_params h.kind ≡ c → AreBindings all (bound_among (before_kids n h.kind) ts) → AreBindings all (if b then (h.text, n) ∷ [] else if c then bound_among n ts else [])
+      by : (b : Bool) → is_binding h.kind ≡ b → (c : Bool) → is_params h.kind ≡ c →
+          AreBindings all (bound_among (before_kids n h.kind) ts) →
+          AreBindings all (if b then (h.text, n) ∷ [] else if c then bound_among n ts else [])
       by true e c d k = one-is all h ts n (own-sits all n h ts e s)
       by false e true d k = subst (λ m. AreBindings all (bound_among m ts)) (ap (λ b. if b then n + 1 else n) e) k
       by false e false d k = none-are all
@@ -106,7 +116,8 @@ mutual
   bound-all-are all n none s = none-are all
   bound-all-are all n (more t ts) s =
       both-are all (bound_among (n + bindings_in t) ts) (bound_by n t)
-      (bound-all-are all (n + bindings_in t) ts (sits-back all n (n + bindings_in t) (bindings_of t) (bindings_of_all ts) (ap (λ k. n + k) (sym (counted t))) s))
+      (bound-all-are all (n + bindings_in t) ts (sits-back all n (n + bindings_in t) (bindings_of t) (bindings_of_all ts)
+      (ap (λ k. n + k) (sym (counted t))) s))
       (bound-are all n t (sits-front all n (bindings_of t) (bindings_of_all ts) s))
 
 itself-is : (all : List Node) (n : ℕ) (t : Node) → Sits all n (bindings_of t) → AreBindings all (bound_itself n t)
@@ -128,15 +139,19 @@ both-fine all ps qs a b p c = by (Contains-append_cases ps qs p c)
     by (inl d) = a p d
     by (inr d) = b p d
 
-with-are : (all : List Node) (ls : List Local) (ss : Scopes) → AreBindings all ls → AreBindings all (visible ss) → AreBindings all (visible (with_locals ls ss))
+with-are : (all : List Node) (ls : List Local) (ss : Scopes) → AreBindings all ls → AreBindings all (visible ss) →
+    AreBindings all (visible (with_locals ls ss))
 with-are all ls ss a b = subst (AreBindings all) (sym (visible-with ls ss)) (both-are all ls (visible ss) a b)
 
 mutual
-  fine-in : (all : List Node) (n : ℕ) (ss : Scopes) (t : Node) → Sits all n (bindings_of t) → AreBindings all (visible ss) → Fine all (paths_in n ss t)
+  fine-in : (all : List Node) (n : ℕ) (ss : Scopes) (t : Node) → Sits all n (bindings_of t) → AreBindings all (visible ss) →
+      Fine all (paths_in n ss t)
   fine-in all n ss (branch h ts) s a =
-      both-fine all (path_at h ss) (if is_for_each h.kind then paths_of_loop (before_kids n h.kind) (scopes_within h.kind ss) ts else paths_among (before_kids n h.kind) (scopes_within h.kind ss) ts)
+      both-fine all (path_at h ss) (if is_for_each h.kind then paths_of_loop (before_kids n h.kind)
+      (scopes_within h.kind ss) ts else paths_among (before_kids n h.kind) (scopes_within h.kind ss) ts)
       (own (is_type_path h.kind || is_value_path h.kind))
-      (by (is_for_each h.kind) (fine-loop all (before_kids n h.kind) (scopes_within h.kind ss) ts (kids-sit all n h ts s) within) (fine-among all (before_kids n h.kind) (scopes_within h.kind ss) ts (kids-sit all n h ts s) within))
+      (by (is_for_each h.kind) (fine-loop all (before_kids n h.kind) (scopes_within h.kind ss) ts (kids-sit all n h ts s) within)
+      (fine-among all (before_kids n h.kind) (scopes_within h.kind ss) ts (kids-sit all n h ts s) within))
     where
       within : AreBindings all (visible (scopes_within h.kind ss))
       within = subst (AreBindings all) (sym (visible-within h.kind ss)) a
@@ -149,27 +164,39 @@ mutual
           by-one (inl e) = subst (λ q. AreBindings all (visible q.scopes)) e a
           by-one (inr e) = absurd (Contains-none p e)
 
-      by : (b : Bool) → Fine all (paths_of_loop (before_kids n h.kind) (scopes_within h.kind ss) ts) → Fine all (paths_among (before_kids n h.kind) (scopes_within h.kind ss) ts) → Fine all (if b then paths_of_loop (before_kids n h.kind) (scopes_within h.kind ss) ts else paths_among (before_kids n h.kind) (scopes_within h.kind ss) ts)
+      by : (b : Bool) → Fine all (paths_of_loop (before_kids n h.kind) (scopes_within h.kind ss) ts) →
+          Fine all (paths_among (before_kids n h.kind) (scopes_within h.kind ss) ts) →
+          Fine all (if b then paths_of_loop (before_kids n h.kind) (scopes_within h.kind ss) ts else paths_among (before_kids n h.kind)
+          (scopes_within h.kind ss) ts)
       by true x y = x
       by false x y = y
 
-  fine-among : (all : List Node) (n : ℕ) (ss : Scopes) (ts : Nodes) → Sits all n (bindings_of_all ts) → AreBindings all (visible ss) → Fine all (paths_among n ss ts)
+  fine-among : (all : List Node) (n : ℕ) (ss : Scopes) (ts : Nodes) → Sits all n (bindings_of_all ts) → AreBindings all (visible ss) →
+      Fine all (paths_among n ss ts)
   fine-among all n ss none s a = λ p c. absurd (Contains-none p c)
   fine-among all n ss (more t ts) s a =
       let here = sits-front all n (bindings_of t) (bindings_of_all ts) s in
       both-fine all (paths_in n ss t) (paths_among (n + bindings_in t) (with_locals (bound_by n t) ss) ts) (fine-in all n ss t here a)
-      (fine-among all (n + bindings_in t) (with_locals (bound_by n t) ss) ts (sits-back all n (n + bindings_in t) (bindings_of t) (bindings_of_all ts) (ap (λ k. n + k) (sym (counted t))) s) (with-are all (bound_by n t) ss (bound-are all n t here) a))
+      (fine-among all (n + bindings_in t) (with_locals (bound_by n t) ss) ts
+      (sits-back all n (n + bindings_in t) (bindings_of t) (bindings_of_all ts) (ap (λ k. n + k) (sym (counted t))) s)
+      (with-are all (bound_by n t) ss (bound-are all n t here) a))
 
-  fine-loop : (all : List Node) (n : ℕ) (ss : Scopes) (ts : Nodes) → Sits all n (bindings_of_all ts) → AreBindings all (visible ss) → Fine all (paths_of_loop n ss ts)
+  fine-loop : (all : List Node) (n : ℕ) (ss : Scopes) (ts : Nodes) → Sits all n (bindings_of_all ts) → AreBindings all (visible ss) →
+      Fine all (paths_of_loop n ss ts)
   fine-loop all n ss none s a = λ p c. absurd (Contains-none p c)
   fine-loop all n ss (more b none) s a = fine-in all n ss b (sits-front all n (bindings_of b) [] s) a
   fine-loop all n ss (more b (more over ts)) s a =
       let here = sits-front all n (bindings_of b) (bindings_of over ++ bindings_of_all ts) s in
-      let rest = sits-back all n (n + bindings_in b) (bindings_of b) (bindings_of over ++ bindings_of_all ts) (ap (λ k. n + k) (sym (counted b))) s in
-      let next = sits-back all (n + bindings_in b) (n + bindings_in b + bindings_in over) (bindings_of over) (bindings_of_all ts) (ap (λ k. n + bindings_in b + k) (sym (counted over))) rest in
-      both-fine all (paths_in n ss b ++ paths_in (n + bindings_in b) ss over) (paths_among (n + bindings_in b + bindings_in over) (with_locals (bound_itself n b) ss) ts)
-      (both-fine all (paths_in n ss b) (paths_in (n + bindings_in b) ss over) (fine-in all n ss b here a) (fine-in all (n + bindings_in b) ss over (sits-front all (n + bindings_in b) (bindings_of over) (bindings_of_all ts) rest) a))
-      (fine-among all (n + bindings_in b + bindings_in over) (with_locals (bound_itself n b) ss) ts next (with-are all (bound_itself n b) ss (itself-is all n b here) a))
+      let rest = sits-back all n (n + bindings_in b) (bindings_of b) (bindings_of over ++ bindings_of_all ts)
+      (ap (λ k. n + k) (sym (counted b))) s in
+      let next = sits-back all (n + bindings_in b) (n + bindings_in b + bindings_in over) (bindings_of over) (bindings_of_all ts)
+      (ap (λ k. n + bindings_in b + k) (sym (counted over))) rest in
+      both-fine all (paths_in n ss b ++ paths_in (n + bindings_in b) ss over)
+      (paths_among (n + bindings_in b + bindings_in over) (with_locals (bound_itself n b) ss) ts)
+      (both-fine all (paths_in n ss b) (paths_in (n + bindings_in b) ss over) (fine-in all n ss b here a)
+      (fine-in all (n + bindings_in b) ss over (sits-front all (n + bindings_in b) (bindings_of over) (bindings_of_all ts) rest) a))
+      (fine-among all (n + bindings_in b + bindings_in over) (with_locals (bound_itself n b) ss) ts next
+      (with-are all (bound_itself n b) ss (itself-is all n b here) a))
 
 -- ---- the local of a path
 
@@ -177,7 +204,8 @@ number-found : (x : List ℕ) (ls : List Local) (n : ℕ) → number_of x ls ≡
 number-found x [] n e = absurd cc
 number-found x (l ∷ ls) n e = by (bytes_eq l.0 x) refl (λ d. number-found x ls n d) e
   where
-    by : (b : Bool) → bytes_eq l.0 x ≡ b → (number_of x ls ≡ Some n → Contains ls (x, n)) → (if b then Some l.1 else number_of x ls) ≡ Some n → Contains (l ∷ ls) (x, n)
+    by : (b : Bool) → bytes_eq l.0 x ≡ b → (number_of x ls ≡ Some n → Contains ls (x, n)) →
+        (if b then Some l.1 else number_of x ls) ≡ Some n → Contains (l ∷ ls) (x, n)
     by false h go d = Contains-behind l (x, n) ls (go d)
     by true h go d =
         let name : l.0 ≡ x = (bytes_eq-Decides l.0 x).0 h in
@@ -188,7 +216,8 @@ pub locals_are_in_scope : LocalsAreInScope
 locals_are_in_scope t p n c e = by p.names refl e
   where
     fine : AreBindings (bindings_of t) (visible p.scopes)
-    fine = fine-in (bindings_of t) 0 [] t (λ i b d. subst (λ k. slice_get (bindings_of t) k ≡ Some b) (sym (zero-add i)) d) (none-are (bindings_of t)) p c
+    fine = fine-in (bindings_of t) 0 [] t (λ i b d. subst (λ k. slice_get (bindings_of t) k ≡ Some b) (sym (zero-add i)) d)
+        (none-are (bindings_of t)) p c
 
     by : (names : List (List ℕ)) → p.names ≡ names → local_of p.scopes names ≡ Some n → IsInScope t p n
     by [] k d = absurd cc

@@ -28,7 +28,8 @@ member-some p o (Some i) e = by i.exported e
     by true d = unfit-some p o d
     by false d = absurd cc
 
-pair-some : (all : List Source) (p : Path) (o : Option Meant) (x : List ℕ) (i : Option Import) → pair_number all p o x i ≡ None → (m : Meant) × (o ≡ Some m)
+pair-some : (all : List Source) (p : Path) (o : Option Meant) (x : List ℕ) (i : Option Import) → pair_number all p o x i ≡ None →
+    (m : Meant) × (o ≡ Some m)
 pair-some all p o x None e = absurd cc
 pair-some all p o x (Some i) e = member-some p o (item_named all i.from x) e
 
@@ -87,9 +88,11 @@ have-built_in = ((λ e. cc), ((λ e. cc), ((λ e. cc), ((λ e. cc), ((λ e. cc),
 
 has-item : (all : List Source) (m : Module) (x : List ℕ) → Has (item_named all m x)
 has-item all m x =
-    have-find (λ i. bytes_eq i.name x) (firsts (λ i. i.name) (filter (λ i. bytes_eq i.home m) (built_in ++ map item_number (enumerate_from 0 (declarations all)))))
+    have-find (λ i. bytes_eq i.name x) (firsts (λ i. i.name)
+    (filter (λ i. bytes_eq i.home m) (built_in ++ map item_number (enumerate_from 0 (declarations all)))))
     (have-firsts (filter (λ i. bytes_eq i.home m) (built_in ++ map item_number (enumerate_from 0 (declarations all))))
-    (have-filter (λ i. bytes_eq i.home m) (built_in ++ map item_number (enumerate_from 0 (declarations all))) (have-both built_in (map item_number (enumerate_from 0 (declarations all))) have-built_in (have-numbers 0 (declarations all)))))
+    (have-filter (λ i. bytes_eq i.home m) (built_in ++ map item_number (enumerate_from 0 (declarations all)))
+    (have-both built_in (map item_number (enumerate_from 0 (declarations all))) have-built_in (have-numbers 0 (declarations all)))))
 
 has-only : (q : Item → Bool) (o : Option Item) → Has o → Has (option_and_then (only q) o)
 has-only q None h = tt
@@ -125,16 +128,19 @@ module _ (all : List Source) (s : Source) where
   has-one : (x : List ℕ) → Has (option_map the_item (admitted all s (x ∷ [])))
   has-one x =
       subst Has (sym (admitted-one all s x))
-      (has-or (item_named all s.home x) (option_and_then (member_of all s x) (find (λ i. bytes_eq i.name x) (imports s.tree))) (has-item all s.home x) (has-then (member_of all s x) (has-member x) (find (λ i. bytes_eq i.name x) (imports s.tree))))
+      (has-or (item_named all s.home x) (option_and_then (member_of all s x) (find (λ i. bytes_eq i.name x) (imports s.tree)))
+      (has-item all s.home x) (has-then (member_of all s x) (has-member x) (find (λ i. bytes_eq i.name x) (imports s.tree))))
 
   has-pair : (m x : List ℕ) → Has (option_map the_item (admitted all s (m ∷ x ∷ [])))
-  has-pair m x = subst Has (sym (admitted-pair all s m x)) (has-then (behind_of all s x) (has-behind x) (find (λ i. bytes_eq i.name m) (imports s.tree)))
+  has-pair m x = subst Has (sym (admitted-pair all s m x))
+      (has-then (behind_of all s x) (has-behind x) (find (λ i. bytes_eq i.name m) (imports s.tree)))
 
   some-item : (o : Option Item) → Has o → (m : Meant) → option_map item_meant o ≡ Some m → IsSomething m.meaning
   some-item None h m e = absurd cc
   some-item (Some i) h m e = let same : item_meant i ≡ m = cc in subst (λ n. IsSomething n.meaning) same h
 
-  some-name : (l : Option ℕ) (o : Option Item) → Has o → (m : Meant) → option_or (option_map local_meant l) (option_map item_meant o) ≡ Some m → IsSomething m.meaning
+  some-name : (l : Option ℕ) (o : Option Item) → Has o → (m : Meant) →
+      option_or (option_map local_meant l) (option_map item_meant o) ≡ Some m → IsSomething m.meaning
   some-name None o h m e = some-item o h m e
   some-name (Some n) o h m e = let same : local_meant n ≡ m = cc in subst (λ k. IsSomething k.meaning) same (λ d. cc)
 
@@ -143,6 +149,8 @@ module _ (all : List Source) (s : Source) where
     where
       by : (names : List (List ℕ)) → p.names ≡ names → number_by all s p names ≡ None → IsSomething m.meaning
       by [] k d = absurd cc
-      by (x ∷ []) k d = some-name (local_of p.scopes (x ∷ [])) (option_map the_item (admitted all s (x ∷ []))) (has-one x) m (sym (meant-is all s p (x ∷ []) k) ∙ e)
-      by (y ∷ x ∷ []) k d = some-name None (option_map the_item (admitted all s (y ∷ x ∷ []))) (has-pair y x) m (sym (meant-is all s p (y ∷ x ∷ []) k) ∙ e)
+      by (x ∷ []) k d = some-name (local_of p.scopes (x ∷ [])) (option_map the_item (admitted all s (x ∷ []))) (has-one x) m
+          (sym (meant-is all s p (x ∷ []) k) ∙ e)
+      by (y ∷ x ∷ []) k d = some-name None (option_map the_item (admitted all s (y ∷ x ∷ []))) (has-pair y x) m
+          (sym (meant-is all s p (y ∷ x ∷ []) k) ∙ e)
       by (y ∷ x ∷ z ∷ zs) k d = absurd cc

@@ -36,31 +36,48 @@ mutual
   pub spots-in : (n : ℕ) (ss : Scopes) (t : Node) → map spot_of (paths_in n ss t) ≡ spots_in n (visible ss) t
   spots-in n ss (branch h ts) =
       both (path_at h ss) kids (spot_at h (visible ss)) seen (own-spot h ss)
-      (by (is_for_each h.kind) (spots-loop (before_kids n h.kind) (scopes_within h.kind ss) ts ∙ ap (λ ls. spots_of_loop (before_kids n h.kind) ls ts) (visible-within h.kind ss))
-      (spots-among (before_kids n h.kind) (scopes_within h.kind ss) ts ∙ ap (λ ls. spots_among (before_kids n h.kind) ls ts) (visible-within h.kind ss)))
+      (by (is_for_each h.kind) (spots-loop (before_kids n h.kind) (scopes_within h.kind ss) ts
+      ∙ ap (λ ls. spots_of_loop (before_kids n h.kind) ls ts) (visible-within h.kind ss))
+      (spots-among (before_kids n h.kind) (scopes_within h.kind ss) ts
+      ∙ ap (λ ls. spots_among (before_kids n h.kind) ls ts) (visible-within h.kind ss)))
     where
       kids : List Path
-      kids = if is_for_each h.kind then paths_of_loop (before_kids n h.kind) (scopes_within h.kind ss) ts else paths_among (before_kids n h.kind) (scopes_within h.kind ss) ts
+      kids = if is_for_each h.kind then paths_of_loop (before_kids n h.kind) (scopes_within h.kind ss) ts else paths_among
+          (before_kids n h.kind) (scopes_within h.kind ss) ts
 
       seen : List Spot
-      seen = if is_for_each h.kind then spots_of_loop (before_kids n h.kind) (visible ss) ts else spots_among (before_kids n h.kind) (visible ss) ts
+      seen = if is_for_each h.kind then spots_of_loop (before_kids n h.kind) (visible ss) ts else spots_among (before_kids n h.kind)
+          (visible ss) ts
 
-      by : (b : Bool) → map spot_of (paths_of_loop (before_kids n h.kind) (scopes_within h.kind ss) ts) ≡ spots_of_loop (before_kids n h.kind) (visible ss) ts → map spot_of (paths_among (before_kids n h.kind) (scopes_within h.kind ss) ts) ≡ spots_among (before_kids n h.kind) (visible ss) ts → map spot_of (if b then paths_of_loop (before_kids n h.kind) (scopes_within h.kind ss) ts else paths_among (before_kids n h.kind) (scopes_within h.kind ss) ts) ≡ (if b then spots_of_loop (before_kids n h.kind) (visible ss) ts else spots_among (before_kids n h.kind) (visible ss) ts)
+      by : (b : Bool) →
+          map spot_of (paths_of_loop (before_kids n h.kind) (scopes_within h.kind ss) ts) ≡ spots_of_loop (before_kids n h.kind)
+          (visible ss) ts →
+          map spot_of (paths_among (before_kids n h.kind) (scopes_within h.kind ss) ts) ≡ spots_among (before_kids n h.kind)
+          (visible ss) ts →
+          map spot_of (if b then paths_of_loop (before_kids n h.kind) (scopes_within h.kind ss) ts else paths_among (before_kids n h.kind)
+          (scopes_within h.kind ss) ts) ≡ (if b then spots_of_loop (before_kids n h.kind) (visible ss) ts else spots_among
+          (before_kids n h.kind) (visible ss) ts)
       by true e d = e
       by false e d = d
 
   pub spots-among : (n : ℕ) (ss : Scopes) (ts : Nodes) → map spot_of (paths_among n ss ts) ≡ spots_among n (visible ss) ts
   spots-among n ss none = refl
   spots-among n ss (more t ts) =
-      both (paths_in n ss t) (paths_among (n + bindings_in t) (with_locals (bound_by n t) ss) ts) (spots_in n (visible ss) t) (spots_among (n + bindings_in t) (bound_by n t ++ visible ss) ts)
+      both (paths_in n ss t) (paths_among (n + bindings_in t) (with_locals (bound_by n t) ss) ts) (spots_in n (visible ss) t)
+      (spots_among (n + bindings_in t) (bound_by n t ++ visible ss) ts)
       (spots-in n ss t)
-      (spots-among (n + bindings_in t) (with_locals (bound_by n t) ss) ts ∙ ap (λ ls. spots_among (n + bindings_in t) ls ts) (visible-with (bound_by n t) ss))
+      (spots-among (n + bindings_in t) (with_locals (bound_by n t) ss) ts
+      ∙ ap (λ ls. spots_among (n + bindings_in t) ls ts) (visible-with (bound_by n t) ss))
 
   pub spots-loop : (n : ℕ) (ss : Scopes) (ts : Nodes) → map spot_of (paths_of_loop n ss ts) ≡ spots_of_loop n (visible ss) ts
   spots-loop n ss none = refl
   spots-loop n ss (more b none) = spots-in n ss b
   spots-loop n ss (more b (more over ts)) =
-      both (paths_in n ss b ++ paths_in (n + bindings_in b) ss over) (paths_among (n + bindings_in b + bindings_in over) (with_locals (bound_itself n b) ss) ts)
-      (spots_in n (visible ss) b ++ spots_in (n + bindings_in b) (visible ss) over) (spots_among (n + bindings_in b + bindings_in over) (bound_itself n b ++ visible ss) ts)
-      (both (paths_in n ss b) (paths_in (n + bindings_in b) ss over) (spots_in n (visible ss) b) (spots_in (n + bindings_in b) (visible ss) over) (spots-in n ss b) (spots-in (n + bindings_in b) ss over))
-      (spots-among (n + bindings_in b + bindings_in over) (with_locals (bound_itself n b) ss) ts ∙ ap (λ ls. spots_among (n + bindings_in b + bindings_in over) ls ts) (visible-with (bound_itself n b) ss))
+      both (paths_in n ss b ++ paths_in (n + bindings_in b) ss over)
+      (paths_among (n + bindings_in b + bindings_in over) (with_locals (bound_itself n b) ss) ts)
+      (spots_in n (visible ss) b ++ spots_in (n + bindings_in b) (visible ss) over)
+      (spots_among (n + bindings_in b + bindings_in over) (bound_itself n b ++ visible ss) ts)
+      (both (paths_in n ss b) (paths_in (n + bindings_in b) ss over) (spots_in n (visible ss) b)
+      (spots_in (n + bindings_in b) (visible ss) over) (spots-in n ss b) (spots-in (n + bindings_in b) ss over))
+      (spots-among (n + bindings_in b + bindings_in over) (with_locals (bound_itself n b) ss) ts
+      ∙ ap (λ ls. spots_among (n + bindings_in b + bindings_in over) ls ts) (visible-with (bound_itself n b) ss))

@@ -13,10 +13,12 @@ parts-some taken part [] = (part, [], refl)
 parts-some true part (c ∷ s) = parts-some false part s
 parts-some false part (c ∷ s) = by (c == 58 && slice_index s 0 == 58) (parts-some false (part ++ c ∷ []) s)
   where
-    by : (b : Bool) → ((x : List ℕ) × (xs : List (List ℕ)) × (parts_from false (part ++ c ∷ []) s ≡ x ∷ xs)) → (x : List ℕ) × (xs : List (List ℕ)) × (cond b (part ∷ parts_from true [] s) (parts_from false (part ++ c ∷ []) s) ≡ x ∷ xs)
+    by : (b : Bool) → ((x : List ℕ) × (xs : List (List ℕ)) × (parts_from false (part ++ c ∷ []) s ≡ x ∷ xs)) →
+        (x : List ℕ) × (xs : List (List ℕ)) × (cond b (part ∷ parts_from true [] s) (parts_from false (part ++ c ∷ []) s) ≡ x ∷ xs)
     by true h = (part, parts_from true [] s, refl)
     by false h = h
 
 -- a path of three names or more
-pub verdict-many : (d : Directory) (f : ℕ) (b : Bool) (ls : List Local) (x y text : List ℕ) (names : List (List ℕ)) → names ≡ x ∷ (y ∷ parts text) → Fails 13 ≡ verdict d f b ls names
+pub verdict-many : (d : Directory) (f : ℕ) (b : Bool) (ls : List Local) (x y text : List ℕ) (names : List (List ℕ)) →
+    names ≡ x ∷ (y ∷ parts text) → Fails 13 ≡ verdict d f b ls names
 verdict-many d f b ls x y text names e = let p = parts-some false [] text in sym (ap (verdict d f b ls) (e ∙ ap (λ ps. x ∷ (y ∷ ps)) p.2))

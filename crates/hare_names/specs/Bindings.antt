@@ -44,4 +44,5 @@ Ascend (p ∷ ps) = ((q : Place) → Contains ps q → is_before p q ≡ true) �
 
 -- the bindings of a declaration of a file stand in their order, so that a binding's number is how many stand before its place
 abbrev pub BindingsAscend : Type 0
-BindingsAscend = (number : ℕ) (tree : FileTree) (t : Node) → IsFileOf number tree → Contains tree.decls t → Ascend (map place_of (bindings_of t))
+BindingsAscend = (number : ℕ) (tree : FileTree) (t : Node) → IsFileOf number tree → Contains tree.decls t → Ascend
+    (map place_of (bindings_of t))

@@ -13,4 +13,5 @@ names_with names t = if is_named (head t).kind then put names (text_of t) tt els
 
 -- the first fault, where the kid may have a name of those
 abbrev pub first_with : List (List ℕ × Unit {0}) → Node → Option Fault → Option Fault
-first_with names t first = if is_named (head t).kind then (if has (text_of t) names then earlier first (doubled_fault t) else first) else first
+first_with names t first = if is_named (head t).kind then
+    (if has (text_of t) names then earlier first (doubled_fault t) else first) else first

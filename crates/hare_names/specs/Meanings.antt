@@ -34,7 +34,8 @@ local_of ss (x ∷ y ∷ xs) = None
 
 -- what a path of a file means
 abbrev pub meant : List Source → Source → Path → Option Meant
-meant all s p = option_or (option_map local_meant (local_of p.scopes p.names)) (option_map (λ t. item_meant t.item) (admitted all s p.names))
+meant all s p = option_or (option_map local_meant (local_of p.scopes p.names))
+    (option_map (λ t. item_meant t.item) (admitted all s p.names))
 
 -- ---- violations at paths
 

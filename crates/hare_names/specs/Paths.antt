@@ -45,7 +45,8 @@ abbrev mutual
   pub paths_in : ℕ → Scopes → Node → List Path
   paths_in n ss (branch h ts) =
       path_at h ss
-      ++ (if is_for_each h.kind then paths_of_loop (before_kids n h.kind) (scopes_within h.kind ss) ts else paths_among (before_kids n h.kind) (scopes_within h.kind ss) ts)
+      ++ (if is_for_each h.kind then paths_of_loop (before_kids n h.kind) (scopes_within h.kind ss) ts else paths_among
+      (before_kids n h.kind) (scopes_within h.kind ss) ts)
 
   pub paths_among : ℕ → Scopes → Nodes → List Path
   paths_among n ss none = []

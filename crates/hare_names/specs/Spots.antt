@@ -21,7 +21,8 @@ pub record Spot : Type 0 where
 
 abbrev pub spot_at : Head → List Local → List Spot
 spot_at h ls =
-    if is_type_path h.kind || is_value_path h.kind then record { place = h.place; names = parts h.text; is_type = is_type_path h.kind; locals = ls } ∷ [] else []
+    if is_type_path h.kind || is_value_path h.kind then record
+    { place = h.place; names = parts h.text; is_type = is_type_path h.kind; locals = ls } ∷ [] else []
 
 -- of a tree that is a path
 abbrev pub spot_of : Node → List Local → List Spot
@@ -29,7 +30,8 @@ spot_of (branch h ts) ls = spot_at h ls
 
 abbrev mutual
   pub spots_in : ℕ → List Local → Node → List Spot
-  spots_in n ls (branch h ts) = spot_at h ls ++ (if is_for_each h.kind then spots_of_loop (before_kids n h.kind) ls ts else spots_among (before_kids n h.kind) ls ts)
+  spots_in n ls (branch h ts) = spot_at h ls ++ (if is_for_each h.kind then spots_of_loop (before_kids n h.kind) ls ts else spots_among
+      (before_kids n h.kind) ls ts)
 
   pub spots_among : ℕ → List Local → Nodes → List Spot
   spots_among n ls none = []
@@ -39,7 +41,8 @@ abbrev mutual
   spots_of_loop n ls none = []
   spots_of_loop n ls (more b none) = spots_in n ls b
   spots_of_loop n ls (more b (more over ts)) =
-      spots_in n ls b ++ spots_in (n + bindings_in b) ls over ++ spots_among (n + bindings_in b + bindings_in over) (bound_itself n b ++ ls) ts
+      spots_in n ls b ++ spots_in (n + bindings_in b) ls over ++ spots_among (n + bindings_in b + bindings_in over)
+      (bound_itself n b ++ ls) ts
 
 -- ---- notes
 

@@ -86,12 +86,12 @@ fn pair_verdict(
     directory: &Directory,
     file: usize,
     is_type: bool,
-    module: &[u8],
+    name: &[u8],
     member: &[u8],
 ) -> Verdict
-    ensures { result ≡ spec.pair_verdict (tables_of directory.now) is_type member.now (tables.import_at (tables_of directory.now) file module.now) }
+    ensures { result ≡ spec.pair_verdict (tables_of directory.now) is_type member.now (tables.import_at (tables_of directory.now) file name.now) }
 {
-    let Some(import) = import_at(directory, file, module) else {
+    let Some(import) = import_at(directory, file, name) else {
         return Verdict::Fails(13);
     };
     if !import.whole {

@@ -5,4 +5,5 @@ use Rattle.hare_names.proofs.program.note_files.Given as goal
 
 -- what is left of the files comes to the same as all of them
 abbrev pub invariant-loop-file : goal.invariant-loop-file
-invariant-loop-file l = files_noted (tables_of l.directory) l.file l.notes (drop l.file l.files) ≡ files_noted (tables_of l.directory) 0 l.initial.notes l.files
+invariant-loop-file l = files_noted (tables_of l.directory) l.file l.notes (drop l.file l.files) ≡ files_noted
+    (tables_of l.directory) 0 l.initial.notes l.files

@@ -16,4 +16,5 @@ decreases-walk_loop l = 2 * sizes_of (nodes_of l.kids.now) + 1
 
 abbrev pub invariant-walk_kids-loop-i : goal.invariant-walk_kids-loop-i
 invariant-walk_kids-loop-i l =
-    Walking (tables_of l.setting.directory.now) l.setting.file l.before l.initial.locals l.initial.notes (nodes_from l.from (nodes_of l.kids)) (nodes_from l.i (nodes_of l.kids)) l.behind l.locals l.notes
+    Walking (tables_of l.setting.directory.now) l.setting.file l.before l.initial.locals l.initial.notes
+    (nodes_from l.from (nodes_of l.kids)) (nodes_from l.i (nodes_of l.kids)) l.behind l.locals l.notes

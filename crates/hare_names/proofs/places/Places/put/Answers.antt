@@ -2,7 +2,8 @@ use Rattle.std.proofs.Common.{◌≡◌, false, is_some, sym, ap, ◌∙◌}
 use Rattle.indexmap.proofs.CallerLemmas.{insert_entry-new}
 use Rattle.hare_names.specs.Keys.{place_of}
 use Rattle.hare_names.specs.Tables.{meaning_at}
-use Rattle.hare_names.proofs.PlaceLemmas.{lookup-seen, keyed, put-new, none-of}
+use Rattle.hare_modules.proofs.TableLemmas.{none-of}
+use Rattle.hare_names.proofs.PlaceLemmas.{lookup-seen, keyed, put-new}
 use Rattle.hare_names.proofs.places.Places.put.Goals as goal
 
 pub returns-clause-ok : goal.returns-clause-ok
