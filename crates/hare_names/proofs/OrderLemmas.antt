@@ -1,0 +1,535 @@
+-- The paths of a file stand in it, in the order in which they are listed.
+use Rattle.std.proofs.Common.{◌≡◌, ◌⊎◌, inl, inr, ℕ, ◌+◌, ◌<◌, ◌≤◌, List, [], ◌∷◌, ◌++◌, Bool, true, false, ◌&&◌, ◌||◌, ◌==◌, map, length, get_or, refl, sym, ap, ◌∙◌, subst, suc, zero, add-zero, true≢false, arith, if◌then◌else◌}
+use Rattle.std.specs.Prelude.{Contains}
+use Rattle.std.specs.List.{flat_map, list_all}
+use Rattle.std.proofs.lemmas.Bool.{and_parts, eqb-true}
+use Rattle.std.proofs.lemmas.List.{length-append, length-map}
+use Rattle.hare_tree.specs.declared.kind.Kind.{Kind}
+use Rattle.hare_tree.specs.declared.kind.Kind.TheVariants as ki
+use Rattle.hare_tree.specs.declared.place.Place.{Place}
+use Rattle.hare_tree.specs.declared.token.Token.{Token}
+use Rattle.hare_tree.specs.declared.form.Lead.TheVariants as le
+use Rattle.hare_tree.specs.declared.form.Own.TheVariants as ow
+use Rattle.hare_tree.specs.declared.form.Piece.TheVariants as pi
+use Rattle.hare_tree.specs.declared.form.Sign.TheVariants as si
+use Rattle.hare_tree.specs.declared.form.Sort.TheVariants as so
+use Rattle.hare_tree.specs.declared.tree.FileTree.{FileTree}
+use Rattle.hare_tree.specs.Node.{Head, Node, Nodes, branch, none, more, nodes_of}
+use Rattle.hare_tree.specs.Forms.{form_of, expr}
+use Rattle.hare_tree.specs.Levels.{level}
+use Rattle.hare_tree.specs.declared.token.TokenKind.TheVariants as tk
+use Rattle.hare_tree.specs.Spell.{Spelled, start_of, spell, spells, spell_all, spell_file, word_token, pieces_tokens}
+use Rattle.hare_tree.specs.Shape.{is_none, is_shaped, is_shaped_file, are_kids, kid_pieces}
+use Rattle.hare_tree.specs.Depth.{begins, begins_led, first_number, numbers_behind, place_in, is_node, is_operator, is_shallow}
+use Rattle.hare_tree.specs.Grammar.{place_of, joined, joined_to, is_proper_string, string_at, unplaced, HasPlaces, HavePlaces}
+use Rattle.hare_lex.specs.Order.{is_before, AreOfFile}
+use Rattle.hare_parsing.proofs.Moved.{side_moved}
+use Rattle.hare_depth.proofs.FormKids.{has_form, have_forms, kids_have_forms, all_have_forms, node_some}
+use Rattle.hare_modules.specs.Uses.{place_of as place_of_node}
+use Rattle.hare_modules.proofs.FloodLemmas.{Contains-none, Contains-cases, Contains-here, Contains-behind}
+use Rattle.hare_names.specs.Scopes.{Scopes, with_locals, is_binding, is_for_each, bindings_in, bound_by, bound_itself}
+use Rattle.hare_names.specs.Paths.{Path, path_of, is_type_path, is_value_path, before_kids, scopes_within, paths_in, paths_among, paths_of_loop, paths_of}
+use Rattle.hare_names.specs.Rises.{Rises, IsOrdered}
+use Rattle.hare_names.specs.Answers.{IsFileOf}
+use Rattle.hare_names.specs.Bindings.{bindings_of, bindings_of_all, Ascend, BindingsAscend}
+use Rattle.hare_names.proofs.TurnLemmas.{InTurn, wider, pieces_turns, side_turns}
+
+-- ---- tokens in their order
+
+-- the tokens are of the file, and each stands before those behind it
+abbrev Up : ℕ → List Token → Type 0
+Up f [] = Unit {0}
+Up f (t ∷ ts) = (t.place.file ≡ f) × ((u : Token) → Contains ts u → is_before t.place u.place ≡ true) × Up f ts
+
+record At (ts : List Token) (u : Token) : Type 0 where
+  number : ℕ
+  within : number < length ts
+  is : (d : Token) → get_or ts number d ≡ u
+
+contained-at : (ts : List Token) (u : Token) → Contains ts u → At ts u
+contained-at [] u c = absurd (Contains-none u c)
+contained-at (t ∷ ts) u c = by (λ d. contained-at ts u d) (Contains-cases t u ts c)
+  where
+    by : (Contains ts u → At ts u) → (t ≡ u) ⊎ Contains ts u → At (t ∷ ts) u
+    by go (inl e) = record { number = 0; within = omega arith; is = λ d. e }
+    by go (inr c) = let a = go c in let l : a.number < length ts =
+        a.within in record { number = suc a.number; within = omega arith; is = a.is }
+
+up-from : (f : ℕ) (ts : List Token) → AreOfFile f ts →
+    ((i j : ℕ) (d : Token) → i < j → j < length ts → is_before (get_or ts i d).place (get_or ts j d).place ≡ true) → Up f ts
+up-from f [] o a = tt
+up-from f (t ∷ ts) o a =
+    let p = and_parts (t.place.file == f) (list_all (λ u. u.place.file == f) ts) o in
+    (eqb-true t.place.file f p.0, first, up-from f ts p.1 (λ i j d l k. a (suc i) (suc j) d (omega arith) (omega arith)))
+  where
+    first : (u : Token) → Contains ts u → is_before t.place u.place ≡ true
+    first u c =
+        let at = contained-at ts u c in
+        let l : at.number < length ts = at.within in
+        subst (λ v. is_before t.place v.place ≡ true) (at.is t) (a 0 (suc at.number) t (omega arith) (omega arith))
+
+-- a joined token stands where one of the tokens does
+joined-place : (ts : List Token) (u : Token) → Contains (joined ts) u → (v : Token) × Contains ts v × (v.place ≡ u.place)
+joined-place [] u c = absurd (Contains-none u c)
+joined-place (t ∷ ts) u c = by (joined ts) (λ x. joined-place ts x) c
+  where
+    behind : (x : Token) → ((v : Token) × Contains ts v × (v.place ≡ x.place)) → (v : Token) × Contains (t ∷ ts) v × (v.place ≡ x.place)
+    behind x h = (h.0, Contains-behind t h.0 ts h.1, h.2)
+
+    by : (js : List Token) → ((x : Token) → Contains js x → (v : Token) × Contains ts v × (v.place ≡ x.place)) →
+        Contains (joined_to t js) u → (v : Token) × Contains (t ∷ ts) v × (v.place ≡ u.place)
+    by [] go d = by-first (Contains-cases t u [] d)
+      where
+        by-first : (t ≡ u) ⊎ Contains [] u → (v : Token) × Contains (t ∷ ts) v × (v.place ≡ u.place)
+        by-first (inl e) = (t, Contains-here t ts, ap (λ x. x.place) e)
+        by-first (inr e) = absurd (Contains-none u e)
+    by (j ∷ js) go d = by-strings (is_proper_string t) (is_proper_string j) d
+      where
+        own : (x : Token) → x.place ≡ t.place → (x ≡ u) ⊎ Contains js u → (v : Token) × Contains (t ∷ ts) v × (v.place ≡ u.place)
+        own x e (inl h) = (t, Contains-here t ts, sym e ∙ ap (λ y. y.place) h)
+        own x e (inr h) = behind u (go u (Contains-behind j u js h))
+
+        apart : (t ≡ u) ⊎ Contains (j ∷ js) u → (v : Token) × Contains (t ∷ ts) v × (v.place ≡ u.place)
+        apart (inl h) = (t, Contains-here t ts, ap (λ y. y.place) h)
+        apart (inr h) = behind u (go u h)
+
+        by-strings : (a b : Bool) →
+            Contains (if a then (if b then string_at t.place (t.text ++ j.text) ∷ js else t ∷ j ∷ js) else t ∷ j ∷ js) u →
+            (v : Token) × Contains (t ∷ ts) v × (v.place ≡ u.place)
+        by-strings true true e = own (string_at t.place (t.text ++ j.text)) refl
+            (Contains-cases (string_at t.place (t.text ++ j.text)) u js e)
+        by-strings true false e = apart (Contains-cases t u (j ∷ js) e)
+        by-strings false b e = apart (Contains-cases t u (j ∷ js) e)
+
+joined-up : (f : ℕ) (ts : List Token) → Up f ts → Up f (joined ts)
+joined-up f [] h = tt
+joined-up f (t ∷ ts) h = by (joined ts) (joined-up f ts h.2) later
+  where
+    later : (u : Token) → Contains (joined ts) u → is_before t.place u.place ≡ true
+    later u c = let p = joined-place ts u c in subst (λ x. is_before t.place x ≡ true) p.2 (h.1 p.0 p.1)
+
+    by : (js : List Token) → Up f js → ((u : Token) → Contains js u → is_before t.place u.place ≡ true) → Up f (joined_to t js)
+    by [] u l = (h.0, (λ v c. absurd (Contains-none v c)), tt)
+    by (j ∷ js) u l = by-strings (is_proper_string t) (is_proper_string j)
+      where
+        by-strings : (a b : Bool) → Up f (if a then (if b then string_at t.place (t.text ++ j.text) ∷ js else t ∷ j ∷ js) else t ∷ j ∷ js)
+        by-strings true true = (h.0, (λ v c. l v (Contains-behind j v js c)), u.2)
+        by-strings true false = (h.0, l, u)
+        by-strings false b = (h.0, l, u)
+
+-- ---- places by numbers
+
+there : (f : ℕ) (ts : List Token) (k : ℕ) → Up f ts → k < length ts → (u : Token) × Contains ts u × (place_of ts k ≡ u.place)
+there f [] k h l = absurd (omega arith)
+there f (t ∷ ts) zero h l = (t, Contains-here t ts, refl)
+there f (t ∷ ts) (suc k) h l = let p = there f ts k h.2 (omega arith) in (p.0, Contains-behind t p.0 ts p.1, p.2)
+
+of-file : (f : ℕ) (ts : List Token) (k : ℕ) → Up f ts → k < length ts → (place_of ts k).file ≡ f
+of-file f [] k h l = absurd (omega arith)
+of-file f (t ∷ ts) zero h l = h.0
+of-file f (t ∷ ts) (suc k) h l = of-file f ts k h.2 (omega arith)
+
+before : (f : ℕ) (ts : List Token) (j k : ℕ) → Up f ts → j < k → k < length ts → is_before (place_of ts j) (place_of ts k) ≡ true
+before f [] j k h l m = absurd (omega arith)
+before f (t ∷ ts) j zero h l m = absurd (omega arith)
+before f (t ∷ ts) zero (suc k) h l m = let p = there f ts k h.2 (omega arith) in subst (λ x. is_before t.place x ≡ true) (sym p.2)
+    (h.1 p.0 p.1)
+before f (t ∷ ts) (suc j) (suc k) h l m = before f ts j k h.2 (omega arith) (omega arith)
+
+-- ---- paths by numbers
+
+module _ {A : Type 0} (place : A → Place) where
+  -- each stands before those behind it
+  abbrev Ascending : List A → Type 0
+  Ascending [] = Unit {0}
+  Ascending (p ∷ ps) = ((q : A) → Contains ps q → is_before (place p) (place q) ≡ true) × Ascending ps
+
+  -- each element stands at a token behind that of the one before it, from `low` on and in front of `high`
+  abbrev pub StandIn : List Token → ℕ → ℕ → List A → Type 0
+  StandIn ws low high [] = low ≤ high
+  StandIn ws low high (p ∷ ps) = (k : ℕ) × (low ≤ k) × (place p ≡ place_of ws k) × StandIn ws (suc k) high ps
+
+  lower : (ws : List Token) (a b c : ℕ) (ps : List A) → a ≤ b → StandIn ws b c ps → StandIn ws a c ps
+  lower ws a b c [] l s = omega arith
+  lower ws a b c (p ∷ ps) l s = let m : b ≤ s.0 = s.1 in (s.0, omega arith, s.2, s.3)
+
+  both-stand : (ws : List Token) (a b c : ℕ) (ps qs : List A) → StandIn ws a b ps → StandIn ws b c qs → StandIn ws a c (ps ++ qs)
+  both-stand ws a b c [] qs s t = lower ws a b c qs s t
+  both-stand ws a b c (p ∷ ps) qs s t = (s.0, s.1, s.2, both-stand ws (suc s.0) b c ps qs s.3 t)
+
+  raise : (ws : List Token) (a b c : ℕ) (ps : List A) → b ≤ c → StandIn ws a b ps → StandIn ws a c ps
+  raise ws a b c [] l s = omega arith
+  raise ws a b c (p ∷ ps) l s = (s.0, s.1, s.2, raise ws (suc s.0) b c ps l s.3)
+
+  least-most : (ws : List Token) (low high : ℕ) (ps : List A) → StandIn ws low high ps → low ≤ high
+  least-most ws low high [] s = s
+  least-most ws low high (p ∷ ps) s = let a : low ≤ s.0 = s.1 in let b : suc s.0 ≤ high = least-most ws (suc s.0) high ps s.3 in omega arith
+
+  record Numbered (ws : List Token) (low high : ℕ) (p : A) : Type 0 where
+    number : ℕ
+    least : low ≤ number
+    most : number < high
+    place_is : place p ≡ place_of ws number
+
+  number-of : (ws : List Token) (low high : ℕ) (ps : List A) (p : A) → StandIn ws low high ps → Contains ps p → Numbered ws low high p
+  number-of ws low high [] p s c = absurd (Contains-none p c)
+  number-of ws low high (q ∷ ps) p s c = by (λ d. number-of ws (suc s.0) high ps p s.3 d) (Contains-cases q p ps c)
+    where
+      by : (Contains ps p → Numbered ws (suc s.0) high p) → (q ≡ p) ⊎ Contains ps p → Numbered ws low high p
+      by go (inl e) =
+          let l : suc s.0 ≤ high = least-most ws (suc s.0) high ps s.3 in
+          record { number = s.0; least = s.1; most = omega arith; place_is = ap place (sym e) ∙ s.2 }
+      by go (inr d) =
+          let n = go d in
+          let a : suc s.0 ≤ n.number = n.least in
+          let b : low ≤ s.0 = s.1 in
+          record { number = n.number; least = omega arith; most = n.most; place_is = n.place_is }
+
+  stand-rises : (f : ℕ) (ws : List Token) (low high : ℕ) (ps : List A) → Up f ws → high ≤ length ws → StandIn ws low high ps → Ascending ps
+  stand-rises f ws low high [] u l s = tt
+  stand-rises f ws low high (p ∷ ps) u l s = (
+    (λ q c. (let n = number-of ws (suc s.0) high ps q s.3 c in let a : suc s.0 ≤ n.number = n.least in let b : n.number < high = n.most in
+        subst (λ x. is_before x (place q) ≡ true) (sym s.2)
+        (subst (λ x. is_before (place_of ws s.0) x ≡ true) (sym n.place_is) (before f ws s.0 n.number u (omega arith) (omega arith))))),
+    stand-rises f ws (suc s.0) high ps u l s.3,
+  )
+
+abbrev path_place : Path → Place
+path_place p = p.place
+
+abbrev node_place : Node → Place
+node_place t = place_of_node t
+
+-- ---- trees
+
+-- a path has no kids
+no-pieces : (k : Kind) → (is_type_path k || is_value_path k) ≡ true → kid_pieces (form_of k) ≡ []
+no-pieces ki.TypePath e = refl
+no-pieces ki.Path e = refl
+no-pieces _ e = absurd (true≢false (sym e))
+
+path-is_node : (k : Kind) → (is_type_path k || is_value_path k) ≡ true → (is_node k ≡ true) × (is_none k ≡ false)
+path-is_node ki.TypePath e = (refl, refl)
+path-is_node ki.Path e = (refl, refl)
+path-is_node _ e = absurd (true≢false (sym e))
+
+childless : (n : ℕ) (ts : Nodes) → are_kids n [] ts ≡ true → ts ≡ none
+unfolding is_shaped
+childless n none e = refl
+childless n (more t ts) e = absurd (true≢false (sym e))
+
+path-kids : (h : Head) (ts : Nodes) → (is_type_path h.kind || is_value_path h.kind) ≡ true → has_form (branch h ts) ≡ true → ts ≡ none
+path-kids h ts e k = childless (level h.kind h.text) ts (subst (λ ps. are_kids (level h.kind h.text) ps ts ≡ true) (no-pieces h.kind e) k)
+
+-- the place of a node that is no operator and not absent, as a path is
+leaf-place : (f : ℕ) (ws : List Token) (n : ℕ) (h : Head) → is_none h.kind ≡ false →
+    h.place ≡ (if is_none h.kind then start_of f else place_of ws (n + place_in h none)) → h.place ≡ place_of ws n
+leaf-place f ws n h i e = e ∙ ap (λ b. if b then start_of f else place_of ws (n + 0)) i ∙ ap (place_of ws) (add-zero n)
+
+mutual
+  unfolding HasPlaces spell
+
+  stand-in : (f : ℕ) (ws : List Token) (n m : ℕ) (ss : Scopes) (t : Node) → has_form t ≡ true → HasPlaces f ws n t →
+      StandIn path_place ws n (n + length (spell 0 t)) (paths_in m ss t)
+  stand-in f ws n m ss (branch h ts) k p =
+      own (is_type_path h.kind || is_value_path h.kind) refl
+      (by (is_for_each h.kind)
+      (stand-loop f ws n (n + length (spell 0 (branch h ts))) (before_kids m h.kind) (scopes_within h.kind ss)
+      (begins h (form_of h.kind) n (spells 0 ts)) ts turns forms p.1)
+      (stand-among f ws n (n + length (spell 0 (branch h ts))) (before_kids m h.kind) (scopes_within h.kind ss)
+      (begins h (form_of h.kind) n (spells 0 ts)) ts turns forms p.1))
+    where
+      turns : InTurn n (n + length (spell 0 (branch h ts))) (begins h (form_of h.kind) n (spells 0 ts)) (spells 0 ts)
+      turns = pieces_turns h (level h.kind h.text) (form_of h.kind) n ts k
+
+      forms : have_forms ts ≡ true
+      forms = kids_have_forms (level h.kind h.text) (kid_pieces (form_of h.kind)) ts k
+
+      kids : List Path
+      kids = if is_for_each h.kind then paths_of_loop (before_kids m h.kind) (scopes_within h.kind ss) ts else paths_among
+          (before_kids m h.kind) (scopes_within h.kind ss) ts
+
+      by : (b : Bool) →
+          StandIn path_place ws n (n + length (spell 0 (branch h ts))) (paths_of_loop (before_kids m h.kind) (scopes_within h.kind ss) ts) →
+          StandIn path_place ws n (n + length (spell 0 (branch h ts))) (paths_among (before_kids m h.kind) (scopes_within h.kind ss) ts) →
+          StandIn path_place ws n (n + length (spell 0 (branch h ts)))
+          (if b then paths_of_loop (before_kids m h.kind) (scopes_within h.kind ss) ts else paths_among (before_kids m h.kind)
+          (scopes_within h.kind ss) ts)
+      by true a b = a
+      by false a b = b
+
+      no-paths : ts ≡ none → kids ≡ []
+      no-paths e = ap (λ us. if is_for_each h.kind then paths_of_loop (before_kids m h.kind) (scopes_within h.kind ss) us else paths_among
+          (before_kids m h.kind) (scopes_within h.kind ss) us) e ∙ neither (is_for_each h.kind)
+        where
+          neither : (b : Bool) →
+              (if b then paths_of_loop (before_kids m h.kind) (scopes_within h.kind ss) none else paths_among (before_kids m h.kind)
+              (scopes_within h.kind ss) none) ≡ []
+          neither true = refl
+          neither false = refl
+
+      own : (b : Bool) → (is_type_path h.kind || is_value_path h.kind) ≡ b →
+          StandIn path_place ws n (n + length (spell 0 (branch h ts))) kids →
+          StandIn path_place ws n (n + length (spell 0 (branch h ts))) ((if b then path_of h ss ∷ [] else []) ++ kids)
+      own false e s = s
+      own true e s =
+          let none-left = path-kids h ts e k in
+          let is = path-is_node h.kind e in
+          let some : 1 ≤ length (spell 0 (branch h ts)) = node_some (branch h ts) is.0 in
+          let at = leaf-place f ws n h is.1 (subst (λ us. h.place ≡
+          (if is_none h.kind then start_of f else place_of ws (n + place_in h us))) none-left p.0) in
+          subst (λ ps. StandIn path_place ws n (n + length (spell 0 (branch h ts))) (path_of h ss ∷ ps)) (sym (no-paths none-left))
+          (n, omega arith, at, omega arith)
+
+  stand-among : (f : ℕ) (ws : List Token) (low high m : ℕ) (ss : Scopes) (ns : List ℕ) (ts : Nodes) → InTurn low high ns (spells 0 ts) →
+      have_forms ts ≡ true → HavePlaces f ws ns ts → StandIn path_place ws low high (paths_among m ss ts)
+  stand-among f ws low high m ss ns none w k p = w
+  stand-among f ws low high m ss ns (more t ts) w k p =
+      let q = and_parts (has_form t) (have_forms ts) k in
+      both-stand path_place ws low (first_number ns + length (spell 0 t)) high (paths_in m ss t)
+      (paths_among (m + bindings_in t) (with_locals (bound_by m t) ss) ts)
+      (lower path_place ws low (first_number ns) (first_number ns + length (spell 0 t)) (paths_in m ss t) w.0
+      (stand-in f ws (first_number ns) m ss t q.0 p.0))
+      (stand-among f ws (first_number ns + length (spell 0 t)) high (m + bindings_in t) (with_locals (bound_by m t) ss)
+      (numbers_behind ns) ts w.1 q.1 p.1)
+
+  stand-loop : (f : ℕ) (ws : List Token) (low high m : ℕ) (ss : Scopes) (ns : List ℕ) (ts : Nodes) → InTurn low high ns (spells 0 ts) →
+      have_forms ts ≡ true → HavePlaces f ws ns ts → StandIn path_place ws low high (paths_of_loop m ss ts)
+  stand-loop f ws low high m ss ns none w k p = w
+  stand-loop f ws low high m ss ns (more b none) w k p =
+      let q = and_parts (has_form b) true k in
+      raise path_place ws low (first_number ns + length (spell 0 b)) high (paths_in m ss b) w.1
+      (lower path_place ws low (first_number ns) (first_number ns + length (spell 0 b)) (paths_in m ss b) w.0
+      (stand-in f ws (first_number ns) m ss b q.0 p.0))
+  stand-loop f ws low high m ss ns (more b (more over ts)) w k p =
+      let q = and_parts (has_form b) (has_form over && have_forms ts) k in
+      let r = and_parts (has_form over) (have_forms ts) q.1 in
+      let ms = numbers_behind ns in
+      let n = first_number ns in
+      let j = first_number ms in
+      both-stand path_place ws low (j + length (spell 0 over)) high (paths_in m ss b ++ paths_in (m + bindings_in b) ss over)
+      (paths_among (m + bindings_in b + bindings_in over) (with_locals (bound_itself m b) ss) ts)
+      (both-stand path_place ws low (n + length (spell 0 b)) (j + length (spell 0 over)) (paths_in m ss b)
+      (paths_in (m + bindings_in b) ss over)
+      (lower path_place ws low n (n + length (spell 0 b)) (paths_in m ss b) w.0 (stand-in f ws n m ss b q.0 p.0))
+      (lower path_place ws (n + length (spell 0 b)) j (j + length (spell 0 over)) (paths_in (m + bindings_in b) ss over) w.1.0
+      (stand-in f ws j (m + bindings_in b) ss over r.0 p.1.0)))
+      (stand-among f ws (j + length (spell 0 over)) high (m + bindings_in b + bindings_in over) (with_locals (bound_itself m b) ss)
+      (numbers_behind ms) ts w.1.1 r.1 p.1.1)
+
+-- ---- files
+
+stand-decls : (f : ℕ) (ws : List Token) (low high : ℕ) (ns : List ℕ) (ts : List Node) → InTurn low high ns (spells 0 (nodes_of ts)) →
+    have_forms (nodes_of ts) ≡ true → HavePlaces f ws ns (nodes_of ts) → StandIn path_place ws low high (flat_map paths_of ts)
+unfolding HasPlaces spell
+stand-decls f ws low high ns [] w k p = w
+stand-decls f ws low high ns (t ∷ ts) w k p =
+    let q = and_parts (has_form t) (have_forms (nodes_of ts)) k in
+    both-stand path_place ws low (first_number ns + length (spell 0 t)) high (paths_of t) (flat_map paths_of ts)
+    (lower path_place ws low (first_number ns) (first_number ns + length (spell 0 t)) (paths_of t) w.0
+    (stand-in f ws (first_number ns) 0 [] t q.0 p.0))
+    (stand-decls f ws (first_number ns + length (spell 0 t)) high (numbers_behind ns) ts w.1 q.1 p.1)
+
+-- ---- bindings
+
+-- the kids of a binding begin behind its first token
+binding-turns : (h : Head) (k : Kind) (n m : ℕ) (us : Nodes) → is_binding k ≡ true → are_kids m (kid_pieces (form_of k)) us ≡ true →
+    InTurn (suc n) (n + length (pieces_tokens 0 h (form_of k) (spells 0 us))) (begins h (form_of k) n (spells 0 us)) (spells 0 us)
+binding-turns h ki.Param n m us e k = wider (n + 1) _ (suc n) _ _ (spells 0 us) (omega arith) (omega arith)
+    (pieces_turns h m (pi.Fixed si.Colon ∷ pi.Kid so.Type ∷ []) (n + 1) us k)
+binding-turns h ki.Let n m us e k = wider (n + 1) _ (suc n) _ _ (spells 0 us) (omega arith) (omega arith)
+    (pieces_turns h m (pi.Own ow.Name ∷ pi.Led si.Colon so.Type ∷ pi.Fixed si.Equals ∷ pi.Kid expr ∷ []) (n + 1) us k)
+binding-turns h ki.Const n m us e k = wider (n + 1) _ (suc n) _ _ (spells 0 us) (omega arith) (omega arith)
+    (pieces_turns h m (pi.Own ow.Name ∷ pi.Led si.Colon so.Type ∷ pi.Fixed si.Equals ∷ pi.Kid expr ∷ []) (n + 1) us k)
+binding-turns h ki.Binding n m us e k = wider (n + 1) _ (suc n) _ _ (spells 0 us) (omega arith) (omega arith)
+    (pieces_turns h m (pi.Own ow.Name ∷ pi.Optional so.ByRef ∷ pi.Fixed si.DotDot ∷ []) (n + 1) us k)
+binding-turns h ki.PatternLet n m us e k = wider (n + 1) _ (suc n) _ _ (spells 0 us) (omega arith) (omega arith)
+    (pieces_turns h m (pi.Own ow.Name ∷ pi.Fixed si.Colon ∷ pi.Kid so.Type ∷ []) (n + 1) us k)
+binding-turns h _ n m us e k = absurd (true≢false (sym e))
+
+-- it stands at its first token
+binding-kind : (k : Kind) → is_binding k ≡ true → (is_none k ≡ false) × (is_operator k ≡ false)
+binding-kind ki.Param e = (refl, refl)
+binding-kind ki.Let e = (refl, refl)
+binding-kind ki.Const e = (refl, refl)
+binding-kind ki.Binding e = (refl, refl)
+binding-kind ki.PatternLet e = (refl, refl)
+binding-kind _ e = absurd (true≢false (sym e))
+
+first-token : (h : Head) (us : Nodes) → is_operator h.kind ≡ false → place_in h us ≡ 0
+first-token h none e = refl
+first-token h (more u us) e = rw e refl
+
+binding-place : (f : ℕ) (ws : List Token) (n : ℕ) (h : Head) (us : Nodes) → is_binding h.kind ≡ true →
+    h.place ≡ (if is_none h.kind then start_of f else place_of ws (n + place_in h us)) → h.place ≡ place_of ws n
+binding-place f ws n h us e p =
+    let is = binding-kind h.kind e in
+    p ∙ ap (λ b. if b then start_of f else place_of ws (n + place_in h us)) is.0 ∙ ap (λ k. place_of ws (n + k)) (first-token h us is.1)
+    ∙ ap (place_of ws) (add-zero n)
+
+mutual
+  unfolding HasPlaces spell
+
+  bindings-stand : (f : ℕ) (ws : List Token) (n : ℕ) (t : Node) → has_form t ≡ true → HasPlaces f ws n t →
+      StandIn node_place ws n (n + length (spell 0 t)) (bindings_of t)
+  bindings-stand f ws n (branch h ts) k p =
+      by (is_binding h.kind) refl
+      (λ low turns. all-bindings-stand f ws low (n + length (spell 0 (branch h ts))) (begins h (form_of h.kind) n (spells 0 ts)) ts turns
+      (kids_have_forms (level h.kind h.text) (kid_pieces (form_of h.kind)) ts k) p.1)
+    where
+      by : (b : Bool) → is_binding h.kind ≡ b →
+          ((low : ℕ) → InTurn low (n + length (spell 0 (branch h ts))) (begins h (form_of h.kind) n (spells 0 ts)) (spells 0 ts) →
+          StandIn node_place ws low (n + length (spell 0 (branch h ts))) (bindings_of_all ts)) →
+          StandIn node_place ws n (n + length (spell 0 (branch h ts))) ((if b then branch h ts ∷ [] else []) ++ bindings_of_all ts)
+      by true e go = (n, omega arith, binding-place f ws n h ts e p.0, go (suc n) (binding-turns h h.kind n (level h.kind h.text) ts e k))
+      by false e go = go n (pieces_turns h (level h.kind h.text) (form_of h.kind) n ts k)
+
+  all-bindings-stand : (f : ℕ) (ws : List Token) (low high : ℕ) (ns : List ℕ) (ts : Nodes) → InTurn low high ns (spells 0 ts) →
+      have_forms ts ≡ true → HavePlaces f ws ns ts → StandIn node_place ws low high (bindings_of_all ts)
+  all-bindings-stand f ws low high ns none w k p = w
+  all-bindings-stand f ws low high ns (more t ts) w k p =
+      let q = and_parts (has_form t) (have_forms ts) k in
+      both-stand node_place ws low (first_number ns + length (spell 0 t)) high (bindings_of t) (bindings_of_all ts)
+      (lower node_place ws low (first_number ns) (first_number ns + length (spell 0 t)) (bindings_of t) w.0
+      (bindings-stand f ws (first_number ns) t q.0 p.0))
+      (all-bindings-stand f ws (first_number ns + length (spell 0 t)) high (numbers_behind ns) ts w.1 q.1 p.1)
+
+-- ---- one declaration of a file
+
+-- a declaration begins behind so many tokens
+record Begins (f : ℕ) (ws : List Token) (high : ℕ) (t : Node) : Type 0 where
+  at : ℕ
+  has : has_form t ≡ true
+  placed : HasPlaces f ws at t
+  within : at + length (spell 0 t) ≤ high
+
+turns-least : (low high : ℕ) (ns : List ℕ) (us : List Spelled) → InTurn low high ns us → low ≤ high
+turns-least low high ns [] w = w
+turns-least low high ns (u ∷ us) w = let a : low ≤ first_number ns = w.0 in let b : first_number ns + length u.1 ≤ high = turns-least
+    (first_number ns + length u.1) high (numbers_behind ns) us w.1 in omega arith
+
+decl-begins : (f : ℕ) (ws : List Token) (low high : ℕ) (ns : List ℕ) (ts : List Node) (t : Node) →
+    InTurn low high ns (spells 0 (nodes_of ts)) → have_forms (nodes_of ts) ≡ true → HavePlaces f ws ns (nodes_of ts) → Contains ts t →
+    Begins f ws high t
+unfolding HasPlaces spell
+decl-begins f ws low high ns [] t w k p c = absurd (Contains-none t c)
+decl-begins f ws low high ns (u ∷ us) t w k p c =
+    let q = and_parts (has_form u) (have_forms (nodes_of us)) k in
+    by q.0 (λ d. decl-begins f ws (first_number ns + length (spell 0 u)) high (numbers_behind ns) us t w.1 q.1 p.1 d)
+    (Contains-cases u t us c)
+  where
+    by : has_form u ≡ true → (Contains us t → Begins f ws high t) → (u ≡ t) ⊎ Contains us t → Begins f ws high t
+    by e go (inr d) = go d
+    by e go (inl same) =
+        subst (Begins f ws high) same
+        record {
+          at = first_number ns;
+          has = e;
+          placed = p.0;
+          within = turns-least (first_number ns + length (spell 0 u)) high
+              (numbers_behind ns) (spells 0 (nodes_of us)) w.1;
+        }
+
+ascends : (ns : List Node) → Ascending node_place ns → Ascend (map node_place ns)
+ascends [] a = tt
+ascends (n ∷ ns) a = ((λ q c. by q (among ns q c)), ascends ns a.1)
+  where
+    among : (ms : List Node) (q : Place) → Contains (map node_place ms) q → (m : Node) × Contains ms m × (node_place m ≡ q)
+    among [] q c = absurd (Contains-none q c)
+    among (m ∷ ms) q c = by-cases (λ d. among ms q d) (Contains-cases (node_place m) q (map node_place ms) c)
+      where
+        by-cases : (Contains (map node_place ms) q → (r : Node) × Contains ms r × (node_place r ≡ q)) →
+            (node_place m ≡ q) ⊎ Contains (map node_place ms) q → (r : Node) × Contains (m ∷ ms) r × (node_place r ≡ q)
+        by-cases go (inl e) = (m, Contains-here m ms, e)
+        by-cases go (inr d) = let r = go d in (r.0, Contains-behind m r.0 ms r.1, r.2)
+
+    by : (q : Place) → ((m : Node) × Contains ns m × (node_place m ≡ q)) → is_before (node_place n) q ≡ true
+    by q m = subst (λ x. is_before (node_place n) x ≡ true) m.2 (a.0 m.0 m.1)
+
+-- how many tokens trees have does not rest on the file
+length-moved : (f : ℕ) (ts : List Node) → length (spell_all f ts) ≡ length (spell_all 0 ts)
+length-moved f ts = sym (length-map (spell_all f ts) unplaced) ∙ ap length (side_moved f (nodes_of ts))
+
+-- what is known of the tokens of a file and of its declarations
+record Tokens (number : ℕ) (tree : FileTree) : Type 0 where
+  ws : List Token
+  up : Up number ws
+  first : ℕ
+  high : ℕ
+  turns : InTurn first high (begins_led le.Nothing first (spells 0 (nodes_of tree.decls))) (spells 0 (nodes_of tree.decls))
+  forms : have_forms (nodes_of tree.decls) ≡ true
+  placed : HavePlaces tree.file ws (begins_led le.Nothing first (spells 0 (nodes_of tree.decls))) (nodes_of tree.decls)
+  enough : high ≤ length ws
+
+tokens-of : (number : ℕ) (tree : FileTree) → IsFileOf number tree → Tokens number tree
+tokens-of number tree h = record {
+  ws = ws;
+  up = up;
+  first = first;
+  high = high;
+  turns = side_turns first
+      (spells 0 (nodes_of tree.decls));
+  forms = all_have_forms so.Decl tree.decls shaped;
+  placed = h.is_tree.placed.decls;
+  enough = enough;
+}
+  where
+    ws : List Token
+    ws = joined h.tokens
+
+    first : ℕ
+    first = length (spell_all 0 tree.uses)
+
+    high : ℕ
+    high = first + length (spell_all 0 tree.decls)
+
+    up : Up number ws
+    up = joined-up number h.tokens (up-from number h.tokens h.in_order.of_file (λ i j d l k. h.in_order.ascend i j d l k))
+
+    shaped : list_all (is_shaped so.Decl) tree.decls ≡ true
+    shaped =
+        let a = and_parts (is_shaped_file tree && list_all is_shallow tree.uses) (list_all is_shallow tree.decls) h.is_tree.fits in
+        let b = and_parts (is_shaped_file tree) (list_all is_shallow tree.uses) a.0 in
+        (and_parts (list_all (is_shaped so.Use) tree.uses) (list_all (is_shaped so.Decl) tree.decls) b.0).1
+
+    counted : length (spell_file tree) ≡ length ws
+    counted = sym (length-map (spell_file tree) unplaced) ∙ ap length h.is_tree.spelled ∙ length-map ws unplaced
+
+    enough : high ≤ length ws
+    enough =
+        let a = length-append (spell_all tree.file tree.uses) (spell_all tree.file tree.decls ++ end ∷ []) in
+        let b = length-append (spell_all tree.file tree.decls) (end ∷ []) in
+        omega (arith, counted, a, b, length-moved tree.file tree.uses, length-moved tree.file tree.decls)
+      where
+        end : Token
+        end = word_token tree.file tk.End []
+
+pub ordered : (number : ℕ) (tree : FileTree) → IsFileOf number tree → IsOrdered number tree
+ordered number tree h = record {
+  of_file = λ p c. (let n = number-of path_place k.ws k.first k.high
+      (flat_map paths_of tree.decls) p stands c in let m : n.number < k.high = n.most in let l : k.high ≤ length k.ws = k.enough in ap
+      (λ x. x.file) n.place_is ∙ of-file number k.ws n.number k.up (omega arith));
+  rises = paths-rise (flat_map paths_of tree.decls) (stand-rises path_place number k.ws k.first k.high
+      (flat_map paths_of tree.decls) k.up k.enough stands);
+}
+  where
+    k : Tokens number tree
+    k = tokens-of number tree h
+
+    stands : StandIn path_place k.ws k.first k.high (flat_map paths_of tree.decls)
+    stands = stand-decls tree.file k.ws k.first k.high
+        (begins_led le.Nothing k.first (spells 0 (nodes_of tree.decls))) tree.decls k.turns k.forms k.placed
+
+    paths-rise : (ps : List Path) → Ascending path_place ps → Rises ps
+    paths-rise [] a = tt
+    paths-rise (p ∷ ps) a = (a.0, paths-rise ps a.1)
+
+pub bindings_ascend : BindingsAscend
+bindings_ascend number tree t h c =
+    let k = tokens-of number tree h in
+    let b = decl-begins tree.file k.ws k.first k.high (begins_led le.Nothing k.first (spells 0 (nodes_of tree.decls))) tree.decls t
+    k.turns k.forms k.placed c in
+    let within : b.at + length (spell 0 t) ≤ k.high = b.within in
+    let enough : k.high ≤ length k.ws = k.enough in
+    ascends (bindings_of t) (stand-rises node_place number k.ws b.at (b.at + length (spell 0 t)) (bindings_of t) k.up (omega arith)
+    (bindings-stand tree.file k.ws b.at t b.has b.placed))

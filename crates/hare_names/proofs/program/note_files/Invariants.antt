@@ -1,0 +1,9 @@
+use Rattle.std.proofs.Common.{◌≡◌, drop}
+use Rattle.hare_directory.specs.Seen.{tables_of}
+use Rattle.hare_names.specs.Noted.{files_noted}
+use Rattle.hare_names.proofs.program.note_files.Given as goal
+
+-- what is left of the files comes to the same as all of them
+abbrev pub invariant-loop-file : goal.invariant-loop-file
+invariant-loop-file l = files_noted (tables_of l.directory) l.file l.notes (drop l.file l.files) ≡ files_noted
+    (tables_of l.directory) 0 l.initial.notes l.files

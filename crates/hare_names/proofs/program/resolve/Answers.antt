@@ -1,0 +1,39 @@
+use Rattle.std.proofs.Common.{subst, sym}
+use Rattle.hare_directory.specs.Seen.{tables_of}
+use Rattle.hare_modules.specs.Modules.{sources}
+use Rattle.hare_names.specs.declared.notes.Notes.{Notes}
+use Rattle.hare_names.specs.Violations.{AreMeanings}
+use Rattle.hare_names.specs.Answers.{meaning_in}
+use Rattle.hare_names.proofs.ResolveLemmas.{files-numbered, resolved-first, resolved-meanings}
+use Rattle.hare_names.proofs.program.resolve.Goals as goal
+use Rattle.std.proofs.Common.{refl}
+
+pub look-requires : goal.look-requires
+look-requires c = files-numbered c.args.paths.now c.args.files.now c.requires
+
+pub returns-in-Some-clause-err : goal.returns-in-Some-clause-err
+returns-in-Some-clause-err c =
+    let start : Notes = record { places = c.new.result; first = c.in_ok-directory.first } in
+    let t = resolved-first c.args.paths.now c.args.files.now
+    (tables_of c.in_ok-directory.directory) c.requires c.in_ok-directory.ensures.tables c.in_ok-directory.first start
+    c.note_files.new.notes c.in_ok-directory.ensures.first refl c.in_ok-note_files.ensures in
+    t.first c.in-Some.fault c.in-Some.is
+
+pub returns-clause-sound : goal.returns-clause-sound
+returns-clause-sound c =
+    let start : Notes = record { places = c.new.result; first = c.in_ok-directory.first } in
+    let t = resolved-first c.args.paths.now c.args.files.now
+    (tables_of c.in_ok-directory.directory) c.requires c.in_ok-directory.ensures.tables c.in_ok-directory.first start
+    c.note_files.new.notes c.in_ok-directory.ensures.first refl c.in_ok-note_files.ensures in
+    t.none c.in-None.is
+
+pub returns-clause-ok : goal.returns-clause-ok
+returns-clause-ok c =
+    let start : Notes = record { places = c.new.result; first = c.in_ok-directory.first } in
+    let t = resolved-first c.args.paths.now c.args.files.now
+    (tables_of c.in_ok-directory.directory) c.requires c.in_ok-directory.ensures.tables c.in_ok-directory.first start
+    c.note_files.new.notes c.in_ok-directory.ensures.first refl c.in_ok-note_files.ensures in
+    let m = resolved-meanings c.args.paths.now c.args.files.now
+    (tables_of c.in_ok-directory.directory) c.requires c.in_ok-directory.ensures.tables start c.note_files.new.notes
+    (t.none c.in-None.is) c.new.ensures c.in_ok-note_files.ensures in
+    subst (λ es. AreMeanings (sources c.args.paths.now c.args.files.now) (meaning_in es)) (sym c.new-in-None.ensures) m

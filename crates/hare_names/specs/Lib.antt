@@ -1,0 +1,13 @@
+pub mod Scopes
+pub mod Paths
+pub mod Meanings
+pub mod Doubled
+pub mod Violations
+pub mod Tables
+pub mod Spots
+pub mod Keys
+pub mod Doubling
+pub mod Noted
+pub mod Answers
+pub mod Rises
+pub mod Bindings

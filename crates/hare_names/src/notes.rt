@@ -1,0 +1,11 @@
+//! What is noted of the paths of a program.
+
+use crate::places::Places;
+use hare_tree::Fault;
+
+/// The meanings of paths, and the violation that counts first of those that were found.
+#[derive(Drop)]
+pub struct Notes {
+    pub places: Places,
+    pub first: Option<Fault>,
+}

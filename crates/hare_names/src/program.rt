@@ -1,0 +1,107 @@
+//! The names of a program.
+
+ghost use Rattle.std.specs.Prelude.{◌≡◌, ◌<◌, ◌-◌, ◌^◌, fold, length, sum_by, OnOk, IfOk, IfErr};
+ghost use Rattle.hare_tree.specs.declared.place.Fault as fault;
+ghost use Rattle.hare_tree.specs.Node.{nodes_of};
+ghost use Rattle.hare_directory.specs.Seen.{tables_of};
+ghost use Rattle.hare_modules.specs.Modules.{sources};
+ghost use Rattle.hare_names.specs.Scopes.{bindings_in, bindings_among};
+ghost use Rattle.hare_names.specs.Violations.{IsViolation, AreMeanings};
+ghost use Rattle.hare_names.specs.Noted as noted;
+ghost use Rattle.hare_names.specs.Answers.{AreFiles, StopsAtFirst, meaning_in};
+
+use crate::doubled::first_doubled;
+use crate::names::Names;
+use crate::notes::Notes;
+use crate::places::Places;
+use crate::walk::{Setting, walk};
+use hare_blocks::Scope;
+use hare_directory::{Directory, look};
+use hare_tree::{Fault, FileTree, Kids, Stop, Tree};
+use hx_base::{Items, Text};
+use std::alloc::{AllocError, Global};
+
+/// The trees of files, in the order of their paths.
+pub type Files2 = Items<FileTree>;
+
+/// What each path of a program means; or of all violations of its names (E11 to E16) the one that counts first: that of the first file, there the one at the
+/// least place, and at one place the smaller number.
+///
+/// Takes time in proportion to the nodes of the trees, but for look-ups of names.
+pub fn resolve(alloc: Global, paths: &[Text], files: &Files2) -> Result<Names, Stop<Fault>>
+    requires { AreFiles paths.now files.now }
+
+    // The names tell of each path what it means, and of no other place anything.
+    ensures ok { IfOk result (λ n. AreMeanings (sources paths.now files.now) (meaning_in n)) }
+    // They are given where there is no violation alone.
+    ensures sound { OnOk result ((f : fault.Fault) → IsViolation (sources paths.now files.now) f → ⊥) }
+
+    // The fault is the violation that counts first.
+    ensures err { IfErr result (StopsAtFirst (sources paths.now files.now)) }
+{
+    let (directory, first) = look(alloc, paths, files)?;
+    let mut notes = Notes {
+        places: Places::new(alloc),
+        first,
+    };
+    note_files(alloc, &directory, &mut notes, files)?;
+    match notes.first {
+        Some(fault) => Err(Stop::Fault(fault)),
+        None => Ok(Names::new(notes.places)),
+    }
+}
+
+/// Notes the declarations of all files.
+fn note_files(
+    alloc: Global,
+    directory: &Directory,
+    notes: &mut Notes,
+    files: &Files2,
+) -> Result<(), AllocError>
+    requires { sum_by (λ t. bindings_among (nodes_of t.decls)) files.now < 2 ^ 32 }
+    ensures { OnOk result (notes.new ≡ noted.files_noted (tables_of directory.now) 0 notes.old files.now) }
+{
+    for file in 0..files.len() {
+        let Some(tree) = files.get(file) else {
+            return Ok(());
+        };
+        let decls = &tree.decls;
+        note_decls(alloc, Setting { directory, file }, notes, decls)?;
+    }
+    Ok(())
+}
+
+/// Notes the declarations of a file.
+fn note_decls(
+    alloc: Global,
+    setting: Setting<'_>,
+    notes: &mut Notes,
+    decls: &Kids,
+) -> Result<(), AllocError>
+    requires { bindings_among (nodes_of decls.now) < 2 ^ 32 }
+    ensures { OnOk result (notes.new ≡ fold (noted.decl_noted (tables_of setting.entry.directory.now) setting.entry.file) notes.old decls.now) }
+{
+    for i in 0..decls.len() {
+        let Some(decl) = decls.get(i) else {
+            return Ok(());
+        };
+        note_decl(alloc, setting, notes, decl)?;
+    }
+    Ok(())
+}
+
+/// Notes a declaration.
+fn note_decl(
+    alloc: Global,
+    setting: Setting<'_>,
+    notes: &mut Notes,
+    decl: &Tree,
+) -> Result<(), AllocError>
+    requires { bindings_in decl.now < 2 ^ 32 }
+    ensures { OnOk result (notes.new ≡ noted.decl_noted (tables_of setting.entry.directory.now) setting.entry.file notes.old decl.now) }
+{
+    notes.first = first_doubled(alloc, decl, notes.first)?;
+    let mut locals = Scope::new(alloc);
+    walk(setting, &mut locals, notes, decl, 0)?;
+    Ok(())
+}

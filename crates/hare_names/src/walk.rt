@@ -1,0 +1,157 @@
+//! The walk over the tree of a declaration, which notes what each path means, or which rule it violates.
+//!
+//! The walk goes as deep as the tree does.
+
+ghost use Rattle.std.specs.Prelude.{◌≡◌, ◌<◌, ◌+◌, ◌^◌, ◌++◌, fold, IfOk, OnOk};
+ghost use Rattle.hare_tree.specs.Node.{nodes_of};
+ghost use Rattle.hare_tree.specs.Judged.{nodes_from};
+ghost use Rattle.hare_directory.specs.Seen.{tables_of};
+ghost use Rattle.hare_names.specs.Scopes as scopes;
+ghost use Rattle.hare_names.specs.Spots as spec;
+
+use crate::kinds::{is_binding, is_for_each, is_params, is_type_path, is_value_path};
+use crate::notes::Notes;
+use crate::verdict::{Verdict, judge};
+use hare_blocks::Scope;
+use hare_directory::Directory;
+use hare_modules::earlier;
+use hare_tree::{Fault, Kids, Place, Tree};
+use std::alloc::AllocError;
+
+/// A file of a program, by its number, with what modules declare and files import.
+#[derive(Clone, Copy)]
+pub struct Setting<'a> {
+    pub directory: &'a Directory,
+    pub file: usize,
+}
+
+/// Notes the paths of a tree, before which so many bindings of its declaration stand. The answer is how many stand behind it; then what it binds is
+/// visible.
+#[cycle(walk)]
+pub fn walk(
+    setting: Setting<'_>,
+    locals: &mut Scope,
+    notes: &mut Notes,
+    t: &Tree,
+    before: u32,
+) -> Result<u32, AllocError>
+    requires { before + scopes.bindings_in t.now < 2 ^ 32 }
+    ensures count { IfOk result (λ n. n ≡ before + scopes.bindings_in t.now) }
+    ensures locals { OnOk result (locals.new ≡ scopes.bound_by before t.now ++ locals.old) }
+    ensures notes { OnOk result (notes.new ≡ fold (spec.noted (tables_of setting.entry.directory.now) setting.entry.file) notes.old (spec.spots_in before locals.old t.now)) }
+{
+    note(setting, locals, notes, t)?;
+    let first = if is_binding(t.kind) {
+        before + 1
+    } else {
+        before
+    };
+    let mark = locals.mark();
+    let behind = if is_for_each(t.kind) {
+        walk_loop(setting, locals, notes, &t.kids, first)?
+    } else {
+        walk_kids(setting, locals, notes, &t.kids, 0, first)?
+    };
+    if is_binding(t.kind) {
+        locals.back_to(mark);
+        locals.declare(t.text.bytes(), before)?;
+    } else if !is_params(t.kind) {
+        locals.back_to(mark);
+    }
+    Ok(behind)
+}
+
+/// Notes the paths of kids from one on, before which so many bindings stand. What they bind stays visible.
+#[cycle(walk)]
+fn walk_kids(
+    setting: Setting<'_>,
+    locals: &mut Scope,
+    notes: &mut Notes,
+    kids: &Kids,
+    from: usize,
+    before: u32,
+) -> Result<u32, AllocError>
+    requires { before + scopes.bindings_among (nodes_from from (nodes_of kids.now)) < 2 ^ 32 }
+    ensures count { IfOk result (λ n. n ≡ before + scopes.bindings_among (nodes_from from (nodes_of kids.now))) }
+    ensures locals { OnOk result (locals.new ≡ scopes.bound_among before (nodes_from from (nodes_of kids.now)) ++ locals.old) }
+    ensures notes { OnOk result (notes.new ≡ fold (spec.noted (tables_of setting.entry.directory.now) setting.entry.file) notes.old (spec.spots_among before locals.old (nodes_from from (nodes_of kids.now)))) }
+{
+    let mut behind = before;
+    for i in from..kids.len() {
+        let Some(kid) = kids.get(i) else {
+            return Ok(behind);
+        };
+        behind = walk(setting, locals, notes, kid, behind)?;
+    }
+    Ok(behind)
+}
+
+/// Notes the paths of the kids of a `for` over items: a binding, what is gone over, where the binding is not visible, and the body.
+#[cycle(walk)]
+fn walk_loop(
+    setting: Setting<'_>,
+    locals: &mut Scope,
+    notes: &mut Notes,
+    kids: &Kids,
+    before: u32,
+) -> Result<u32, AllocError>
+    requires { before + scopes.bindings_among (nodes_of kids.now) < 2 ^ 32 }
+    ensures count { IfOk result (λ n. n ≡ before + scopes.bindings_among (nodes_of kids.now)) }
+    ensures locals { OnOk result (locals.new ≡ locals.old) }
+    ensures notes { OnOk result (notes.new ≡ fold (spec.noted (tables_of setting.entry.directory.now) setting.entry.file) notes.old (spec.spots_of_loop before locals.old (nodes_of kids.now))) }
+{
+    let mark = locals.mark();
+    let Some(binding) = kids.get(0) else {
+        return Ok(before);
+    };
+    let behind = walk(setting, locals, notes, binding, before)?;
+    locals.back_to(mark);
+    let Some(over) = kids.get(1) else {
+        return Ok(behind);
+    };
+    let behind = walk(setting, locals, notes, over, behind)?;
+    locals.back_to(mark);
+    bind_itself(locals, binding, before)?;
+    let behind = walk_kids(setting, locals, notes, kids, 2, behind)?;
+    locals.back_to(mark);
+    Ok(behind)
+}
+
+/// Makes the local visible that a tree itself binds, if it does.
+fn bind_itself(locals: &mut Scope, t: &Tree, before: u32) -> Result<(), AllocError>
+    ensures { OnOk result (locals.new ≡ scopes.bound_itself before t.now ++ locals.old) }
+{
+    if is_binding(t.kind) {
+        locals.declare(t.text.bytes(), before)?;
+    }
+    Ok(())
+}
+
+/// Notes a tree, if it is a path.
+fn note(setting: Setting<'_>, locals: &Scope, notes: &mut Notes, t: &Tree) -> Result<(), AllocError>
+    ensures { OnOk result (notes.new ≡ fold (spec.noted (tables_of setting.entry.directory.now) setting.entry.file) notes.old (spec.spot_of t.now locals.now)) }
+{
+    let is_type = is_type_path(t.kind);
+    if is_type || is_value_path(t.kind) {
+        let verdict = judge(
+            setting.directory,
+            setting.file,
+            is_type,
+            locals,
+            t.text.bytes(),
+        );
+        return note_as(notes, t.place, verdict);
+    }
+    Ok(())
+}
+
+/// Notes what is said of the path at a place.
+fn note_as(notes: &mut Notes, place: Place, verdict: Verdict) -> Result<(), AllocError>
+    ensures { OnOk result (notes.new ≡ spec.noted_as notes.old place verdict) }
+{
+    match verdict {
+        Verdict::Means(meaning) => notes.places.put(place, meaning)?,
+        Verdict::Fails(number) => notes.first = earlier(notes.first, Fault { number, place }),
+    }
+    Ok(())
+}
