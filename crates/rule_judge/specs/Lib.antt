@@ -1,0 +1,6 @@
+pub mod Defined
+pub mod Settings
+pub mod Turns
+pub mod Grown
+pub mod Asked
+pub mod Answers
