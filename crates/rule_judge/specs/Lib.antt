@@ -1,3 +1,4 @@
+pub mod Decls
 pub mod Defined
 pub mod Settings
 pub mod Turns

@@ -17,15 +17,15 @@ pub struct DeclTypes {
 }
 
 impl Model for DeclTypes {
-    ghost use Rattle.std.specs.Prelude.{◌≡◌, ℕ, List, nat_eq, position};
-    ghost use Rattle.std.specs.Map.{lookup};
+    ghost use Rattle.std.specs.Prelude.{List};
     ghost use Rattle.hare_rules.specs.declared.declared.DeclType.{DeclType};
+    ghost use Rattle.rule_judge.specs.Decls.{AreFirst};
 
     ghost Value = { List DeclType };
 
     ghost view = { λ a. a.list };
 
-    ghost invariant = { λ a. (n : ℕ) → lookup (nat_eq n) a.places.entries ≡ position (λ d. nat_eq d.decl n) a.list };
+    ghost invariant = { λ a. AreFirst a.list a.places.entries };
 }
 
 impl DeclTypes {

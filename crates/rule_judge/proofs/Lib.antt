@@ -1,0 +1,5 @@
+pub mod DefinedLemmas
+pub mod NameLemmas
+pub mod BaseLemmas
+pub mod KidLemmas
+pub mod DeclLemmas
