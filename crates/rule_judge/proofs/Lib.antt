@@ -3,3 +3,5 @@ pub mod NameLemmas
 pub mod BaseLemmas
 pub mod KidLemmas
 pub mod DeclLemmas
+pub mod TurnLemmas
+pub mod WalkLemmas

@@ -24,11 +24,14 @@ abbrev pub own_rows : List RowId → List RowId
 own_rows [] = []
 own_rows (r ∷ rs) = cond (is_site r) [] (r ∷ own_rows rs)
 
+abbrev pub is_kept_alone : List RowId → Bool
+is_kept_alone (row.Kept ∷ []) = true
+is_kept_alone _ = false
+
 -- `Site` and then `Kept` end the list, and each row before them is one of these
 abbrev pub are_asked : (RowId → Bool) → List RowId → Bool
 are_asked p [] = false
-are_asked p (row.Site ∷ row.Kept ∷ []) = true
-are_asked p (r ∷ rs) = p r && are_asked p rs
+are_asked p (r ∷ rs) = cond (is_site r) (is_kept_alone rs) (p r && are_asked p rs)
 
 -- the place of the fault, where the row fails
 abbrev pub unmet : RowId → Context → Option Place
