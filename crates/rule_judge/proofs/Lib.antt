@@ -5,3 +5,4 @@ pub mod KidLemmas
 pub mod DeclLemmas
 pub mod TurnLemmas
 pub mod WalkLemmas
+pub mod YieldLemmas

@@ -120,7 +120,7 @@ module _ (m : ℕ → Option Tree) (finite : (d : ℕ) (u : Tree) → m d ≡ So
       step ih d e (Some v) g a =
           ih (rest_of d ds) (omega (arith, l, length-rest_of d ds a.0)) v
           (λ way q w. let there = h (d ∷ way) q (e, (v, g, w)) in
-              (Among-rest_of d ds q there.0 (λ same. finite d v g (way, Tops-lead m v way d (subst (λ n. Tops m v way n) (sym same) w))), there.1))
+          (Among-rest_of d ds q there.0 (λ same. finite d v g (way, Tops-lead m v way d (subst (λ n. Tops m v way n) (sym same) w))), there.1))
 
 -- ---- a store
 

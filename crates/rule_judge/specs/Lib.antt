@@ -4,4 +4,5 @@ pub mod Settings
 pub mod Turns
 pub mod Grown
 pub mod Asked
+pub mod Yields
 pub mod Answers

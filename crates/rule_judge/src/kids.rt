@@ -1,12 +1,12 @@
 //! The coercions of kids that were asked for no type.
 
-ghost use Rattle.std.specs.Prelude.{◌≡◌, true, None, IfOk};
+ghost use Rattle.std.specs.Prelude.{◌≡◌, true, None, IfOk, IfSome};
 ghost use Rattle.hare_types.specs.Store.{Store};
 ghost use Rattle.hare_types.specs.Later.{IsLater};
 ghost use Rattle.hare_rules.specs.Above as above;
 ghost use Rattle.hare_rules.specs.Judged as spec;
-ghost use Rattle.rule_judge.specs.Asked.{own_failing};
-ghost use Rattle.rule_judge.specs.Defined.{AreDefinedCoercions};
+ghost use Rattle.rule_judge.specs.Asked.{listed, own_failing};
+ghost use Rattle.rule_judge.specs.Defined.{IsDefinedTy, AreDefinedCoercions};
 ghost use Rattle.rule_judge.specs.Grown.{IsGrown};
 ghost use Rattle.rule_judge.specs.Turns.{context_in, kind_in, IsTurn};
 
@@ -16,7 +16,7 @@ use crate::told::{kind_at, type_at};
 use crate::turn::Turn;
 use hare_rules::Coercions;
 use hare_tree::Kind;
-use hare_types::TypeStore;
+use hare_types::{Coercion, TypeStore};
 use std::alloc::{AllocError, Global};
 
 /// Whether a part of this kind is no expression and no statement: nothing is asked of it.
@@ -76,6 +76,30 @@ fn was_hinted<R: Rules>(
     R::asks_type(alloc, s, t, i)
 }
 
+/// The coercion of kid number `i`, where it was asked for no type.
+fn kid_coercion<R: Rules>(
+    alloc: Global,
+    s: &mut TypeStore,
+    t: &Turn<'_>,
+    i: usize,
+) -> Result<Option<Coercion>, AllocError>
+    requires kind { R.judges (kind_in t.now) ≡ true }
+    requires turn { IsTurn s.old t.now }
+    requires needs { R.Needs s.old t.now }
+    requires rows { (f : Store) → IsLater s.old f → own_failing (context_in f t.now) ≡ None }
+    ensures value { IfOk result (λ o. (f : Store) → IsLater s.new f → o ≡ listed (context_in f t.now) i) }
+    ensures defined { IfOk result (λ o. IfSome o (λ r. IsDefinedTy s.new r.to)) }
+    ensures grown { IsGrown s.old s.new }
+{
+    let _law = s.declarations();
+    if was_hinted::<R>(alloc, s, t, i)? {
+        return Ok(None);
+    }
+    let to = R::target(alloc, s, t, i)?;
+    let own = type_at(t.kids, i);
+    Ok(Some(to_type(s, &own, &to)))
+}
+
 /// The coercions of the kids that were asked for no type, in order.
 pub(crate) fn kid_coercions<R: Rules>(
     alloc: Global,
@@ -93,10 +117,8 @@ pub(crate) fn kid_coercions<R: Rules>(
     let _law = s.declarations();
     let mut coercions = Coercions::new(alloc);
     for i in 0..t.kids.len() {
-        if !was_hinted::<R>(alloc, s, t, i)? {
-            let to = R::target(alloc, s, t, i)?;
-            let own = type_at(t.kids, i);
-            coercions.push(to_type(s, &own, to))?;
+        if let Some(r) = kid_coercion::<R>(alloc, s, t, i)? {
+            coercions.push(r)?;
         }
     }
     Ok(coercions)

@@ -40,7 +40,7 @@ returns-in-Some-clause-value g c f l =
     let i = c.loop-row.row-index in
     let x = context_in f c.args.t.now in
     at_failed x rs i (get_or rs i row.NumberFits) (left rs i row.NumberFits c.loop-row-test.true) (sym c.if-is_site.ensures) c.in-Some.place (sym c.in-Some.is ∙ c.in_ok-place.ensures.value f l)
-        c.number.result c.number.ensures.value (c.loop-row.invariant.rest f (later_trans c.loop-row.s c.unmet.new.s f c.unmet.ensures.grown.later l))
+    c.number.result c.number.ensures.value (c.loop-row.invariant.rest f (later_trans c.loop-row.s c.unmet.new.s f c.unmet.ensures.grown.later l))
 
 pub returns-in-Some-clause-grown : goal.returns-in-Some-clause-grown
 returns-in-Some-clause-grown g c = grown_trans c.args.s.now c.loop-row.s c.unmet.new.s c.loop-row.invariant.grown c.unmet.ensures.grown
