@@ -118,3 +118,12 @@ some_defined s (Some q) r h e = let same : q ≡ r = cc in subst (λ x. IsDefine
 pub no_coercion : (o : Option Coercion) → ((r : Coercion) → ¬ (o ≡ Some r)) → None ≡ o
 no_coercion None h = refl
 no_coercion (Some r) h = absurd (h r refl)
+
+-- ---- the first of some trees
+
+pub first_is : (xs : List TypedNode) (t : TypedNode) → slice_get xs 0 ≡ Some t → (ts : List TypedNode) × (xs ≡ t ∷ ts)
+first_is [] t e = absurd cc
+first_is (x ∷ xs) t e = let same : x ≡ t = cc in (xs, ap (λ y. y ∷ xs) same)
+
+pub seen_given : (s : Store) (t x : TypedNode) → x ≡ t → IsDefinedTree s t → IsDefinedTy s (given x)
+seen_given s t x e d = seen_of s x (subst (IsDefinedTree s) (sym e) d)

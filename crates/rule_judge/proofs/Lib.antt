@@ -6,3 +6,5 @@ pub mod DeclLemmas
 pub mod TurnLemmas
 pub mod WalkLemmas
 pub mod YieldLemmas
+pub mod MemberLemmas
+pub mod JudgedLemmas

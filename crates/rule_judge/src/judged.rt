@@ -33,6 +33,7 @@ pub fn judge_by<R: Rules>(
     ensures defined { IfOk result (IsDefinedVerdict s.new) }
     ensures kept { IsGrown s.old s.new }
 {
+    let _law = s.declarations();
     if let Some(fault) = own_fault::<R>(alloc, s, t)? {
         return Err(Stop::Fault(fault));
     }
