@@ -13,8 +13,7 @@ use Rattle.hare_typed.specs.World.{World}
 use Rattle.hare_typed.specs.Sequence.{value}
 use Rattle.hare_typed.specs.Evaluated.{ValueForm}
 use Rattle.hare_typed.specs.ConstantForms.{own_type}
-use Rattle.hare_meaning.specs.Steps.{bindings_before, bound, is_meant, void_at, unless_void}
-use Rattle.hare_meaning.specs.Places.{is_written}
+use Rattle.hare_meaning.specs.Steps.{bindings_before, bound, is_meant, is_written, void_at, unless_void}
 
 -- ---- deferred expressions
 

@@ -1,5 +1,5 @@
 -- `if`, `match` and `switch`.
-use Rattle.std.specs.Prelude.{ℕ, suc, ◌+◌, Bool, true, false, nat_eq, List, [], ◌∷◌, ◌++◌, map, filter, position, length, Option, Some, None, is_none, if◌then◌else◌}
+use Rattle.std.specs.Prelude.{ℕ, suc, ◌+◌, Bool, true, false, nat_eq, List, [], ◌∷◌, ◌++◌, map, filter, position, length, Option, Some, None, if◌then◌else◌}
 use Rattle.std.specs.Option.{option_or}
 use Rattle.std.specs.List.{flat_map, enumerate_from}
 use Rattle.hare_tree.specs.declared.kind.Kind.{Kind}
@@ -22,7 +22,7 @@ use Rattle.hare_typed.specs.World.{World, answered}
 use Rattle.hare_typed.specs.Sequence.{value, on_value}
 use Rattle.hare_typed.specs.Evaluated.{ValueForm, as_coerced}
 use Rattle.hare_typed.specs.ConstantForms.{own_type, type_of_kid, number_of_kid, truth, id_in, constant_cells, with_texts}
-use Rattle.hare_meaning.specs.Steps.{scoped, bindings_before, binding, unless_void, is_nullable_row}
+use Rattle.hare_meaning.specs.Steps.{is_absent, scoped, bindings_before, binding, unless_void, is_nullable_row}
 
 -- ---- if
 
@@ -43,10 +43,6 @@ cases_of t = rest_of (listed_nodes (kids_of t))
 -- what stands at the head of a case: a pattern, or values; nothing in the one that stands for all others
 abbrev pub head_of_case : TypedNode → TypedNode
 head_of_case c = kid_from_front 0 c
-
-abbrev pub is_absent : Kind → Bool
-is_absent kind.None = true
-is_absent _ = false
 
 -- the case that stands for all others, by how many cases stand before it
 abbrev pub other_case : List TypedNode → Option ℕ
@@ -147,25 +143,25 @@ abbrev pub all_values : List TypedNode → List (ℕ × TypedNode)
 all_values cs = flat_map (λ c. map (λ v. (c.0, v)) (values_of c.1)) (enumerate_from 0 cs)
 
 -- what the operand is compared as
-pub data Operand : Type 0 where
-  Numeric : List Cell → Operand
-  Textual : Words → Operand
+pub data Compared : Type 0 where
+  Numeric : List Cell → Compared
+  Textual : Words → Compared
 
 abbrev pub cells_of_value : World → TypedNode → List Cell
 cells_of_value w v = constant_cells w (mark_of v).value
 
 -- whether the operand is the constant; of a text of the same length all bytes are read
-abbrev pub is_constant : World → TypedNode → Operand → TypedNode → (Bool → Act) → Act
+abbrev pub is_constant : World → TypedNode → Compared → TypedNode → (Bool → Act) → Act
 is_constant w t (Numeric cs) v k =
     k (same_number (number_of_kid w t 0 cs) (number_of_value w.types (given v) (cells_of_value w v)))
 is_constant w t (Textual a) v k = answered w (head_of t) (words (cells_of_value w v)) λ b. with_texts w t a b k
 
 -- the case of the first that is equal
-abbrev pub compared : World → TypedNode → Operand → List (ℕ × TypedNode) → (Option ℕ → Act) → Act
+abbrev pub compared : World → TypedNode → Compared → List (ℕ × TypedNode) → (Option ℕ → Act) → Act
 compared w t op [] k = k None
 compared w t op (v ∷ vs) k = tick 4 (is_constant w t op v.1 λ same. if same then k (Some v.0) else compared w t op vs k)
 
-abbrev pub switch_by : World → TypedNode → Scope → Operand → ValueForm
+abbrev pub switch_by : World → TypedNode → Scope → Compared → ValueForm
 switch_by w t sc op k =
     compared w t op (all_values (cases_of t)) λ i.
     chosen (option_or i (other_case (cases_of t))) (λ i. plain_case w t sc i k) (k [])

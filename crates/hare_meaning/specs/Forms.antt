@@ -13,7 +13,7 @@ use Rattle.hare_typed.specs.World.{World}
 use Rattle.hare_typed.specs.Evaluated.{ValueForm, PlaceForm, evaluated, ticks_of_value, gives}
 use Rattle.hare_typed.specs.ConstantForms.{number_form, bool_form, str_form, path_form, paren_form, neg_form, not_form, bang_form, arith_form, shift_form, less_form, equal_form, logic_form, cast_form, struct_form, field_value_form, tuple_form, array_form, size_form, align_form, offset_form, len_form, addr_form, path_place, paren_place}
 use Rattle.hare_meaning.specs.Code.{declaration}
-use Rattle.hare_meaning.specs.Places.{deref_place, index_place, field_place, slice_form}
+use Rattle.hare_meaning.specs.Places.{deref_place, index_place, field_place, slice_form, reading_form}
 use Rattle.hare_meaning.specs.Stores.{assign_form, op_assign_form, let_form}
 use Rattle.hare_meaning.specs.Runtime.{abort_form, assert_form}
 use Rattle.hare_meaning.specs.Blocks.{block_form, case_form, break_form, continue_form, yield_form, return_form}
@@ -89,10 +89,10 @@ value_form w t sc kind.Alloc k = alloc_form w t sc k
 value_form w t sc kind.Free k = free_form w t sc k
 value_form w t sc kind.Append k = append_form w t sc k
 value_form w t sc kind.Delete k = delete_form w t sc k
--- places by form alone: they are read as values
-value_form w t sc kind.Deref k = no_cells k
-value_form w t sc kind.Index k = no_cells k
-value_form w t sc kind.Field k = no_cells k
+-- places that are read as values
+value_form w t sc kind.Deref k = reading_form w t (deref_place sc) k
+value_form w t sc kind.Index k = reading_form w t (index_place w t sc) k
+value_form w t sc kind.Field k = reading_form w t (field_place w t sc) k
 -- asked by `match` and `switch` alone
 value_form w t sc kind.Case k = case_form w t sc k
 value_form w t sc kind.SwitchCase k = case_form w t sc k

@@ -30,8 +30,8 @@ use Rattle.hare_typed.specs.World.{World, answered}
 use Rattle.hare_typed.specs.Sequence.{value, place, on_value, on_place}
 use Rattle.hare_typed.specs.Evaluated.{ValueForm, read_type, read_value}
 use Rattle.hare_typed.specs.ConstantForms.{own_type, type_of_kid, number_of_kid, id_in, is_array_row}
-use Rattle.hare_meaning.specs.Steps.{with_objects, storing, is_slice_row}
-use Rattle.hare_meaning.specs.Places.{Operand, Gave, Stands, gives_value, reached_place, is_written}
+use Rattle.hare_meaning.specs.Steps.{with_objects, storing, is_slice_row, is_written}
+use Rattle.hare_meaning.specs.Places.{Operand, Gave, Stands, gives_value, reached_place}
 
 -- ---- what the heap takes
 

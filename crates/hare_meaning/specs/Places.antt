@@ -1,14 +1,10 @@
 -- Places behind pointers, elements, fields and slices.
 use Rattle.std.specs.Prelude.{ℕ, Bool, true, false, List, [], Option, Some, None, is_some, unwrap_or, if◌then◌else◌}
-use Rattle.hare_tree.specs.declared.kind.Kind.{Kind}
-use Rattle.hare_tree.specs.declared.kind.Kind.TheVariants as kind
 use Rattle.hare_types.specs.declared.coercion.Ty.{Ty}
 use Rattle.hare_types.specs.Store.{Store}
 use Rattle.hare_types.specs.ByIds.{size_at}
 use Rattle.hare_typed.specs.declared.cell.Cell.{Cell}
 use Rattle.hare_typed.specs.Typed.{TypedNode, head_of}
-use Rattle.hare_typed.specs.Order.{kid_from_front}
-use Rattle.hare_typed.specs.Constants.{own_kind}
 use Rattle.hare_typed.specs.Given.{base_row, pointee, element}
 use Rattle.hare_typed.specs.Answers.{Answer, Gives, ◌then◌}
 use Rattle.hare_typed.specs.Scalars.{Pointer}
@@ -21,9 +17,9 @@ use Rattle.hare_typed.specs.State.{Scope}
 use Rattle.hare_typed.specs.Acts.{Act, look}
 use Rattle.hare_typed.specs.World.{World, answered}
 use Rattle.hare_typed.specs.Sequence.{value, place}
-use Rattle.hare_typed.specs.Evaluated.{ValueForm, PlaceForm}
-use Rattle.hare_typed.specs.ConstantForms.{type_of_kid, number_of_kid, id_in, offset_in, part_named}
-use Rattle.hare_meaning.specs.Steps.{is_slice_row}
+use Rattle.hare_typed.specs.Evaluated.{ValueForm, PlaceForm, read_value}
+use Rattle.hare_typed.specs.ConstantForms.{own_type, type_of_kid, number_of_kid, id_in, offset_in, part_named}
+use Rattle.hare_meaning.specs.Steps.{is_slice_row, is_written}
 
 -- ---- operands
 
@@ -93,15 +89,12 @@ field_place w t sc k =
     move (reading m.objects) p (offset_in w.types whole (part_named w.types whole (head_of t))))
     k
 
+-- A place as a value: it is read at the type of its node. What stands behind a value that is no place is read from the object that holds this.
+abbrev pub reading_form : World → TypedNode → PlaceForm → ValueForm
+reading_form w t form k =
+    form λ p. look λ m. answered w (head_of t) (read_value w.types (reading m.objects) p (own_type t)) k
+
 -- ---- slices
-
-abbrev pub is_none : Kind → Bool
-is_none kind.None = true
-is_none _ = false
-
--- whether the kid was written
-abbrev pub is_written : ℕ → TypedNode → Bool
-is_written i t = if is_none (own_kind (kid_from_front i t)) then false else true
 
 -- a bound of a slice, where it is written
 abbrev pub bound_of : World → TypedNode → ℕ → List Cell → ℕ → ℕ

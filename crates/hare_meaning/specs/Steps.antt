@@ -1,5 +1,5 @@
 -- What several kinds of node do: scopes, bindings, stores, aborts with a message, and the void that no node gives.
-use Rattle.std.specs.Prelude.{ℕ, zero, suc, ◌+◌, ◌-◌, Bool, true, false, ◌||◌, nat_eq, bytes_eq, List, [], ◌∷◌, length, position, Option, Some, None, unwrap_or, if◌then◌else◌}
+use Rattle.std.specs.Prelude.{ℕ, zero, suc, ◌+◌, ◌-◌, Bool, true, false, not, ◌||◌, nat_eq, bytes_eq, List, [], ◌∷◌, length, position, Option, Some, None, unwrap_or, if◌then◌else◌}
 use Rattle.hare_tree.specs.declared.kind.Kind.{Kind}
 use Rattle.hare_tree.specs.declared.kind.Kind.TheVariants as kind
 use Rattle.hare_tree.specs.Node.{Head}
@@ -60,6 +60,16 @@ binding w sc x f cs k = make None (local_object w.types f cs) λ o. k (with_loca
 -- a jump goes to what it names: to the nearest without a label, and to what has its label
 abbrev pub is_meant : (own jump : Label) → Bool
 is_meant own l = nat_eq (length l) 0 || bytes_eq own l
+
+-- ---- parts that may be left out
+
+abbrev pub is_absent : Kind → Bool
+is_absent kind.None = true
+is_absent _ = false
+
+-- whether the kid with so many before it was written
+abbrev pub is_written : ℕ → TypedNode → Bool
+is_written i t = not (is_absent (own_kind (kid_from_front i t)))
 
 -- ---- stores
 
