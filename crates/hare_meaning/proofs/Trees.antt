@@ -202,3 +202,20 @@ outcome ds n = (result ds n).0
 
 abbrev pub output : List TypedNode → ℕ → List ℕ
 output ds n = (result ds n).1.output
+
+abbrev pub byte_of : TypedNode → TypedNode
+byte_of e = node kind.Cast [] 0 u8 (e ∷ type_node u8 ∷ [])
+
+-- gives the status of the program
+abbrev pub tell : TypedNode → TypedNode
+tell e = exit (byte_of e)
+
+abbrev pub plus : TypedNode → TypedNode → TypedNode
+plus a b = arith (codes "+") u8 a b
+
+abbrev pub times : TypedNode → TypedNode → TypedNode
+times a b = arith (codes "*") u8 a b
+
+-- a `u8` literal
+abbrev pub n8 : ℕ → TypedNode
+n8 n = num u8 n
