@@ -219,3 +219,11 @@ times a b = arith (codes "*") u8 a b
 -- a `u8` literal
 abbrev pub n8 : ℕ → TypedNode
 n8 n = num u8 n
+
+-- the program with other bounds, in which each call counts so many bytes
+abbrev pub counting_calls : ℕ → List TypedNode → Code
+counting_calls n ds = record (program ds) { bounds = map (λ d. n) ds }
+
+-- run with arguments and an input
+abbrev pub result_of : List TypedNode → List (List ℕ) → List ℕ → ℕ → Result
+result_of ds args input n = run (program ds) args input n
