@@ -12,10 +12,12 @@ use Rattle.hare_typed.specs.declared.constant.Const.{Const}
 use Rattle.hare_typed.specs.declared.constant.Const.TheVariants as constant
 use Rattle.hare_typed.specs.declared.cell.Cell.{Cell}
 use Rattle.hare_typed.specs.Typed.{TypedNode, marked, typed_nodes}
-use Rattle.hare_typed.specs.State.{Outcome, Result}
-use Rattle.hare_meaning.specs.Code.{Code, statics_of}
-use Rattle.hare_meaning.specs.Run.{run}
-use Rattle.hare_meaning.proofs.Samples.{types, void, never, bool, str, u8, int, size}
+use Rattle.hare_typed.specs.State.{AsValue, Outcome, Result}
+use Rattle.hare_typed.specs.Interpreter.{evaluate}
+use Rattle.hare_meaning.specs.Code.{Code, statics_of, world_of}
+use Rattle.hare_meaning.specs.Forms.{forms}
+use Rattle.hare_meaning.specs.Run.{run, start, ending, entry_of, entry_scope}
+use Rattle.hare_meaning.proofs.Samples.{types, void, never, bool, str, u8, int, size, added}
 
 -- ---- nodes
 
@@ -227,3 +229,34 @@ counting_calls n ds = record (program ds) { bounds = map (λ d. n) ds }
 -- run with arguments and an input
 abbrev pub result_of : List TypedNode → List (List ℕ) → List ℕ → ℕ → Result
 result_of ds args input n = run (program ds) args input n
+
+-- run where so many bytes of the heap live, or were ever taken, already
+abbrev pub begun : Code → (live taken turns : ℕ) → Result
+begun c live taken n =
+    let s = start c [] [] in
+    ending (evaluate (forms (world_of c 0)) n (entry_of c) AsValue (entry_scope c) (record s { memory = record s.memory { live = live; taken = taken } }))
+
+-- ---- allocations
+
+-- `alloc(e)`, `alloc(e, capacity)`, `append(s, v)`, `append(s, v...)` and `delete(e)`
+abbrev pub alloc : ℕ → TypedNode → TypedNode
+alloc t e = node kind.Alloc [] 0 t (e ∷ absent ∷ [])
+
+abbrev pub alloc_for : ℕ → TypedNode → ℕ → TypedNode
+alloc_for t e n = node kind.Alloc [] 0 t (e ∷ num size n ∷ [])
+
+abbrev pub append : TypedNode → TypedNode → TypedNode
+append s v = node kind.Append [] 0 added (s ∷ v ∷ absent ∷ [])
+
+abbrev pub append_all : TypedNode → TypedNode → TypedNode
+append_all s v = node kind.Append [] 0 added (s ∷ v ∷ node kind.Dots [] 0 void [] ∷ [])
+
+abbrev pub delete : TypedNode → TypedNode
+delete e = one kind.Delete void e
+
+abbrev pub free : TypedNode → TypedNode
+free e = one kind.Free void e
+
+-- the member that is no error
+abbrev pub sure : ℕ → TypedNode → TypedNode
+sure t e = one kind.Force t e
