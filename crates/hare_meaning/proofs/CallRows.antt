@@ -6,8 +6,8 @@ use Rattle.hare_typed.specs.declared.cell.Cell.TheVariants.{Byte as byte}
 use Rattle.hare_typed.specs.Typed.{TypedNode}
 use Rattle.hare_typed.specs.State.{Exit, Abort, Over, Spent, Undefined}
 use Rattle.hare_meaning.specs.Run.{run}
-use Rattle.hare_meaning.proofs.Samples.{void, never, u8, int, size, str, bytes, four_bytes, byte_pointer}
-use Rattle.hare_meaning.proofs.Trees.{place, at, absent, node, one, main, function, call, rt, puts, text, block, giving, outcome, output, result, result_of, counting_calls, exit, tell, bind, local, hand, set, set_by, give, either, when, n8, num, plus, times, less, equal, array, part, index, global, known}
+use Rattle.hare_meaning.proofs.Samples.{void, never, u8, size, str, bytes, four_bytes, byte_pointer}
+use Rattle.hare_meaning.proofs.Trees.{place, at, absent, node, one, main, function, call, rt, puts, text, block, giving, outcome, output, ends, shows, result_of, counting_calls, exit, tell, bind, local, hand, set, give, either, when, n8, num, plus, times, equal, array, part, global, known}
 
 -- ---- calls
 
@@ -19,7 +19,8 @@ arguments_in_order : outcome (main (exit (call 1 u8 (n8 1 ∷ n8 2 ∷ [])) ∷ 
 arguments_in_order = refl
 
 evaluated_from_left_to_right : output
-    (main (bind (call 1 u8 (giving u8 (puts 0 (codes "a") ∷ hand (n8 1) ∷ []) ∷ giving u8 (puts 1 (codes "b") ∷ hand (n8 2) ∷ []) ∷ [])) ∷ []) ∷ joined ∷ []) 1
+    (main (bind (call 1 u8 (giving u8 (puts 0 (codes "a") ∷ hand (n8 1) ∷ []) ∷ giving u8 (puts 1 (codes "b") ∷ hand (n8 2) ∷ [])
+    ∷ [])) ∷ []) ∷ joined ∷ []) 1
     ≡ codes "ab"
 evaluated_from_left_to_right = refl
 
@@ -27,7 +28,8 @@ evaluated_from_left_to_right = refl
 call_without_a_turn : outcome (main (exit (call 1 u8 (n8 1 ∷ n8 2 ∷ [])) ∷ []) ∷ joined ∷ []) 0 ≡ Spent
 call_without_a_turn = refl
 
-arguments_before_spent : output (main (bind (call 1 u8 (giving u8 (puts 0 (codes "a") ∷ hand (n8 1) ∷ []) ∷ n8 2 ∷ [])) ∷ []) ∷ joined ∷ []) 0 ≡ codes "a"
+arguments_before_spent : output (main (bind (call 1 u8 (giving u8 (puts 0 (codes "a") ∷ hand (n8 1) ∷ []) ∷ n8 2 ∷ [])) ∷ []) ∷ joined
+    ∷ []) 0 ≡ codes "a"
 arguments_before_spent = refl
 
 -- a parameter is an object of the call: the argument stays
@@ -61,10 +63,11 @@ early_return : outcome
     ∷ function [] u8 (giving u8 (block (give (n8 4) ∷ []) ∷ hand (n8 9) ∷ [])) ∷ []) 1 ≡ Exit 5
 early_return = refl
 
-return_without_a_value : outcome (main (call 1 void [] ∷ exit (n8 2) ∷ []) ∷ function [] void (block (give absent ∷ exit (n8 1) ∷ [])) ∷ []) 1 ≡ Exit 2
+return_without_a_value : outcome (main (call 1 void [] ∷ exit (n8 2) ∷ []) ∷ function [] void (block (give absent ∷ exit (n8 1) ∷ []))
+    ∷ []) 1 ≡ Exit 2
 return_without_a_value = refl
 
-return_of_main : outcome (main (give absent ∷ exit (n8 2) ∷ []) ∷ []) 0 ≡ Exit 0
+return_of_main : ends (give absent ∷ exit (n8 2) ∷ []) 0 ≡ Exit 0
 return_of_main = refl
 
 -- an inner call of the entry returns as any other
@@ -89,11 +92,13 @@ spent_before_over = refl
 -- and arguments before both
 arguments_before_over :
     (run (counting_calls (2 ^ 30)
-    (main (bind (call 1 u8 (giving u8 (puts 0 (codes "a") ∷ hand (n8 1) ∷ []) ∷ n8 2 ∷ [])) ∷ []) ∷ joined ∷ [])) [] [] 1).1.output ≡ codes "a"
+    (main (bind (call 1 u8 (giving u8 (puts 0 (codes "a") ∷ hand (n8 1) ∷ []) ∷ n8 2 ∷ [])) ∷ []) ∷ joined ∷ [])) [] [] 1).1.output
+    ≡ codes "a"
 arguments_before_over = refl
 
 -- what a call counted is given back
-given_back : (run (counting_calls (2 ^ 29) (main (call 1 void [] ∷ call 1 void [] ∷ exit (n8 3) ∷ []) ∷ function [] void (block []) ∷ [])) [] [] 1).0 ≡ Exit 3
+given_back : (run (counting_calls (2 ^ 29) (main (call 1 void [] ∷ call 1 void [] ∷ exit (n8 3) ∷ []) ∷ function [] void (block [])
+    ∷ [])) [] [] 1).0 ≡ Exit 3
 given_back = refl
 
 deep_recursion_is_over : (run (counting_calls (2 ^ 28) (main (exit (call 1 u8 (n8 4 ∷ [])) ∷ []) ∷ summing ∷ [])) [] [] 9).0 ≡ Over
@@ -104,18 +109,19 @@ deep_recursion_is_over = refl
 abbrev buffer : TypedNode
 buffer = array four_bytes (n8 1 ∷ n8 2 ∷ n8 3 ∷ n8 4 ∷ [])
 
-puts_a_text : output (main (puts 0 (codes "hello\n") ∷ []) ∷ []) 0 ≡ codes "hello\n"
+puts_a_text : shows (puts 0 (codes "hello\n") ∷ []) 0 ≡ codes "hello\n"
 puts_a_text = refl
 
-writes_bytes : output (main (bind buffer ∷ rt 1 void (part bytes (local 0 four_bytes) (num size 1) (num size 3) ∷ []) ∷ []) ∷ []) 0 ≡ 2 ∷ 3 ∷ []
+writes_bytes : shows (bind buffer ∷ rt 1 void (part bytes (local 0 four_bytes) (num size 1) (num size 3) ∷ []) ∷ []) 0 ≡ 2 ∷ 3 ∷ []
 writes_bytes = refl
 
-text_as_bytes : output (main (rt 1 void (rt 3 bytes (text 0 (codes "ab") ∷ []) ∷ []) ∷ []) ∷ []) 0 ≡ codes "ab"
+text_as_bytes : shows (rt 1 void (rt 3 bytes (text 0 (codes "ab") ∷ []) ∷ []) ∷ []) 0 ≡ codes "ab"
 text_as_bytes = refl
 
 -- a read fills the buffer as far as the input goes, and tells how far; the other bytes stay
 abbrev reading : TypedNode
-reading = main (bind buffer ∷ bind (rt 2 size (part bytes (local 0 four_bytes) absent absent ∷ [])) ∷ rt 1 void (part bytes (local 0 four_bytes) absent absent ∷ []) ∷ tell (local 1 size) ∷ [])
+reading = main (bind buffer ∷ bind (rt 2 size (part bytes (local 0 four_bytes) absent absent ∷ []))
+    ∷ rt 1 void (part bytes (local 0 four_bytes) absent absent ∷ []) ∷ tell (local 1 size) ∷ [])
 
 read_all : (result_of (reading ∷ []) [] (codes "abcdef") 0).1.output ≡ codes "abcd"
 read_all = refl
@@ -138,7 +144,8 @@ read_nothing = refl
 number_of_arguments : (result_of (main (tell (rt 4 size []) ∷ []) ∷ []) (codes "a" ∷ codes "bc" ∷ []) [] 0).0 ≡ Exit 2
 number_of_arguments = refl
 
-argument : (result_of (main (rt 0 void (rt 5 str (num size 1 ∷ []) ∷ []) ∷ []) ∷ []) (codes "a" ∷ codes "bc" ∷ []) [] 0).1.output ≡ codes "bc"
+argument : (result_of (main (rt 0 void (rt 5 str (num size 1 ∷ []) ∷ []) ∷ []) ∷ []) (codes "a" ∷ codes "bc" ∷ []) [] 0).1.output
+    ≡ codes "bc"
 argument = refl
 
 no_such_argument : (result_of (main (rt 0 void (at 9 (rt 5 str (num size 2 ∷ [])) ∷ []) ∷ []) ∷ []) (codes "a" ∷ codes "bc" ∷ []) [] 0).0
@@ -146,34 +153,34 @@ no_such_argument : (result_of (main (rt 0 void (at 9 (rt 5 str (num size 2 ∷ [
 unfolding digits
 no_such_argument = refl
 
-exits : outcome (main (exit (n8 200) ∷ []) ∷ []) 0 ≡ Exit 200
+exits : ends (exit (n8 200) ∷ []) 0 ≡ Exit 200
 exits = refl
 
 -- ---- aborts
 
-aborts : outcome (main (at 3 (node kind.Abort [] 0 never (absent ∷ [])) ∷ []) ∷ []) 0 ≡ Abort (codes "m.ha:1:3: abort 9")
+aborts : ends (at 3 (node kind.Abort [] 0 never (absent ∷ [])) ∷ []) 0 ≡ Abort (codes "m.ha:1:3: abort 9")
 unfolding digits
 aborts = refl
 
-aborts_with_a_message : outcome (main (at 3 (node kind.Abort [] 0 never (node kind.Message (codes "no") 0 void [] ∷ [])) ∷ []) ∷ []) 0
+aborts_with_a_message : ends (at 3 (node kind.Abort [] 0 never (node kind.Message (codes "no") 0 void [] ∷ [])) ∷ []) 0
     ≡ Abort (codes "m.ha:1:3: abort 9: no")
 unfolding digits
 aborts_with_a_message = refl
 
-empty_message : outcome (main (at 3 (node kind.Abort [] 0 never (node kind.Message [] 0 void [] ∷ [])) ∷ []) ∷ []) 0
+empty_message : ends (at 3 (node kind.Abort [] 0 never (node kind.Message [] 0 void [] ∷ [])) ∷ []) 0
     ≡ Abort (codes "m.ha:1:3: abort 9: ")
 unfolding digits
 empty_message = refl
 
 -- an abort that stands for a `!` that failed
-aborts_for_a_failure : outcome (main (at 3 (node kind.Abort [] 7 never (absent ∷ [])) ∷ []) ∷ []) 0 ≡ Abort (codes "m.ha:1:3: abort 7")
+aborts_for_a_failure : ends (at 3 (node kind.Abort [] 7 never (absent ∷ [])) ∷ []) 0 ≡ Abort (codes "m.ha:1:3: abort 7")
 unfolding digits
 aborts_for_a_failure = refl
 
-asserted : outcome (main (node kind.Assert [] 0 void (equal (n8 1) (n8 1) ∷ absent ∷ []) ∷ exit (n8 1) ∷ []) ∷ []) 0 ≡ Exit 1
+asserted : ends (node kind.Assert [] 0 void (equal (n8 1) (n8 1) ∷ absent ∷ []) ∷ exit (n8 1) ∷ []) 0 ≡ Exit 1
 asserted = refl
 
-assertion_fails : outcome (main (at 3 (node kind.Assert [] 0 void (equal (n8 1) (n8 2) ∷ node kind.Message (codes "no") 0 void [] ∷ [])) ∷ []) ∷ []) 0
+assertion_fails : ends (at 3 (node kind.Assert [] 0 void (equal (n8 1) (n8 2) ∷ node kind.Message (codes "no") 0 void [] ∷ [])) ∷ []) 0
     ≡ Abort (codes "m.ha:1:3: abort 6: no")
 unfolding digits
 assertion_fails = refl

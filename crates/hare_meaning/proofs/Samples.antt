@@ -1,5 +1,5 @@
 -- A store of types for worked programs.
-use Rattle.std.proofs.Common.{ℕ, true, List, [], ◌∷◌, Some}
+use Rattle.std.proofs.Common.{ℕ, true, [], ◌∷◌, Some}
 use Rattle.hare_types.specs.declared.row.Row.TheVariants as row
 use Rattle.hare_types.specs.declared.row.Scalar.TheVariants as keyword
 use Rattle.hare_types.specs.Store.{Store}

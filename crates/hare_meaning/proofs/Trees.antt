@@ -1,5 +1,5 @@
 -- Typed trees in few words, and the programs that are made of them.
-use Rattle.std.proofs.Common.{ℕ, List, [], ◌∷◌, ◌++◌, codes, pos, map, Option, Some, None}
+use Rattle.std.proofs.Common.{ℕ, List, [], ◌∷◌, ◌++◌, codes, map}
 use Rattle.hare_tree.specs.declared.kind.Kind.{Kind}
 use Rattle.hare_tree.specs.declared.kind.Kind.TheVariants as kind
 use Rattle.hare_tree.specs.declared.place.Place.{Place}
@@ -8,7 +8,6 @@ use Rattle.hare_tree.specs.declared.token.Meaning.TheVariants as meant
 use Rattle.hare_tree.specs.declared.token.Suffix.TheVariants as suffix
 use Rattle.hare_types.specs.declared.coercion.Ty.{Ty}
 use Rattle.hare_types.specs.declared.coercion.Ty.TheVariants as kept
-use Rattle.hare_typed.specs.declared.constant.Const.{Const}
 use Rattle.hare_typed.specs.declared.constant.Const.TheVariants as constant
 use Rattle.hare_typed.specs.declared.cell.Cell.{Cell}
 use Rattle.hare_typed.specs.Typed.{TypedNode, marked, typed_nodes}
@@ -17,7 +16,7 @@ use Rattle.hare_typed.specs.Interpreter.{evaluate}
 use Rattle.hare_meaning.specs.Code.{Code, statics_of, world_of}
 use Rattle.hare_meaning.specs.Forms.{forms}
 use Rattle.hare_meaning.specs.Run.{run, start, ending, entry_of, entry_scope}
-use Rattle.hare_meaning.proofs.Samples.{types, void, never, bool, str, u8, int, size, added}
+use Rattle.hare_meaning.proofs.Samples.{types, void, never, bool, str, u8, size, added}
 
 -- ---- nodes
 
@@ -229,6 +228,13 @@ counting_calls n ds = record (program ds) { bounds = map (λ d. n) ds }
 -- run with arguments and an input
 abbrev pub result_of : List TypedNode → List (List ℕ) → List ℕ → ℕ → Result
 result_of ds args input n = run (program ds) args input n
+
+-- the same of a program that is its entry alone
+abbrev pub ends : List TypedNode → ℕ → Outcome
+ends ts n = outcome (main ts ∷ []) n
+
+abbrev pub shows : List TypedNode → ℕ → List ℕ
+shows ts n = output (main ts ∷ []) n
 
 -- run where so many bytes of the heap live, or were ever taken, already
 abbrev pub begun : Code → (live taken turns : ℕ) → Result

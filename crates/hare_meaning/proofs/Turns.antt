@@ -1,10 +1,10 @@
 -- More turns keep the outcome and extend the output, whatever the forms of the nodes are.
-use Rattle.std.proofs.Common.{◌≡◌, ℕ, zero, suc, ◌+◌, ◌≤◌, ◌<◌, List, [], ◌∷◌, ◌++◌, length, take, drop, refl, sym, ap, ◌∙◌, subst, arith, append_assoc, append-nil}
+use Rattle.std.proofs.Common.{◌≡◌, ℕ, zero, suc, ◌+◌, ◌≤◌, List, [], ◌++◌, length, take, drop, refl, sym, ap, ◌∙◌, subst, arith, append_assoc, append-nil}
 use Rattle.hare_typed.specs.Typed.{TypedNode, TypedNodes, marked, typed_none, typed_more}
 use Rattle.hare_typed.specs.Bindings.{own_bindings, bindings_in}
-use Rattle.hare_typed.specs.State.{State, Scope, Mode, AsValue, Outcome, Value, Reached, Break, Continue, Yield, Return, Exit, Abort, Undefined, Over, Spent, Result}
+use Rattle.hare_typed.specs.State.{State, Scope, Mode, AsValue, Outcome, Spent, Result}
 use Rattle.hare_typed.specs.Acts.{Act, end, look, put, make, tick, say, take_in, kid, part, within, turn, call, Task, Turn, Call}
-use Rattle.hare_typed.specs.Interpreter.{Evaluation, Tasks, Forms, Kids, after, with_memory, with_objects, made_object, number_made, closed, scope_of_call, act, behind, node_act, kid_act, part_act, task_act, fewer_than, evaluate}
+use Rattle.hare_typed.specs.Interpreter.{Tasks, Forms, Kids, after, with_memory, with_objects, made_object, number_made, closed, scope_of_call, act, behind, node_act, kid_act, part_act, task_act, fewer_than, evaluate}
 use Rattle.hare_meaning.specs.Code.{Code, world_of}
 use Rattle.hare_meaning.specs.Forms.{forms}
 use Rattle.hare_meaning.specs.Run.{run, ended, ending, entry_of, entry_scope, start, first_objects}
@@ -49,7 +49,8 @@ module _ (ks : Kids) (less : Tasks) (kids_grow : KidsGrow ks) (less_grows : Task
       after_grows s.output (closed (length s.memory.objects.made) (act ks less a s)) _ (act_grows a s) (λ o s'. act_grows (f o) s')
   act_grows (turn t r sc f) s = after_grows s.output (less (Turn t r) sc s) _ (less_grows (Turn t r) sc s) (λ o s'. act_grows (f o) s')
   act_grows (call d cs f) s =
-      after_grows s.output (less (Call d cs) (scope_of_call d) s) _ (less_grows (Call d cs) (scope_of_call d) s) (λ o s'. act_grows (f o) s')
+      after_grows s.output (less (Call d cs) (scope_of_call d) s) _ (less_grows (Call d cs) (scope_of_call d) s)
+      (λ o s'. act_grows (f o) s')
 
 -- ---- the same, or cut short
 
@@ -88,7 +89,9 @@ KidsBelow ks ks' =
 abbrev TasksBelow : (less less' : Tasks) → Type 0
 TasksBelow less less' = (k : Task) (sc : Scope) → IsBelow (less k sc) (less' k sc)
 
-module _ (ks ks' : Kids) (less less' : Tasks) (kids_below : KidsBelow ks ks') (less_below : TasksBelow less less') (kids_grow : KidsGrow ks') (less_grows : TasksGrow less') where
+module _
+    (ks ks' : Kids) (less less' : Tasks)
+    (kids_below : KidsBelow ks ks') (less_below : TasksBelow less less') (kids_grow : KidsGrow ks') (less_grows : TasksGrow less') where
   abbrev goes : (Outcome → Act) → Outcome → State → Result
   goes f o s = act ks less (f o) s
 
@@ -138,9 +141,10 @@ module _ (fs : Forms) where
             kid = λ i. behind (own_bindings h.kind) (kid_act fs less ts i);
             part = λ i j. behind (own_bindings h.kind) (part_act fs less ts i j);
           })
-          less
-          (λ i mode sc. kids_grow ts i mode (shifted (own_bindings h.kind) sc),
-          λ i j mode sc. parts_grow ts i j mode (shifted (own_bindings h.kind) sc))
+          less (
+            λ i mode sc. kids_grow ts i mode (shifted (own_bindings h.kind) sc),
+            λ i j mode sc. parts_grow ts i j mode (shifted (own_bindings h.kind) sc),
+          )
           less_grows (fs.node (marked h m ts) mode sc) s
 
       kids_grow : (ts : TypedNodes) (i : ℕ) (mode : Mode) (sc : Scope) → Grows (kid_act fs less ts i mode sc)
@@ -175,15 +179,18 @@ module _ (fs : Forms) where
             kid = λ i. behind (own_bindings h.kind) (kid_act fs less' ts i);
             part = λ i j. behind (own_bindings h.kind) (part_act fs less' ts i j);
           })
-          less less'
-          (λ i mode sc. kids_below ts i mode (shifted (own_bindings h.kind) sc),
-          λ i j mode sc. parts_below ts i j mode (shifted (own_bindings h.kind) sc))
-          less_below
-          (λ i mode sc. kids_grow less' less_grows ts i mode (shifted (own_bindings h.kind) sc),
-          λ i j mode sc. parts_grow less' less_grows ts i j mode (shifted (own_bindings h.kind) sc))
+          less less' (
+            λ i mode sc. kids_below ts i mode (shifted (own_bindings h.kind) sc),
+            λ i j mode sc. parts_below ts i j mode (shifted (own_bindings h.kind) sc),
+          )
+          less_below (
+            λ i mode sc. kids_grow less' less_grows ts i mode (shifted (own_bindings h.kind) sc),
+            λ i j mode sc. parts_grow less' less_grows ts i j mode (shifted (own_bindings h.kind) sc),
+          )
           less_grows (fs.node (marked h m ts) mode sc) s
 
-      kids_below : (ts : TypedNodes) (i : ℕ) (mode : Mode) (sc : Scope) → IsBelow (kid_act fs less ts i mode sc) (kid_act fs less' ts i mode sc)
+      kids_below : (ts : TypedNodes) (i : ℕ) (mode : Mode) (sc : Scope) →
+          IsBelow (kid_act fs less ts i mode sc) (kid_act fs less' ts i mode sc)
       kids_below typed_none i mode sc s = same refl
       kids_below (typed_more t ts) zero mode sc s = node_below t mode sc s
       kids_below (typed_more t ts) (suc i) mode sc s = kids_below ts i mode (shifted (bindings_in t) sc) s
@@ -209,7 +216,8 @@ module _ (fs : Forms) where
   fewer_below (suc n) (suc n') le k sc s =
       task_below (fewer_than fs n) (fewer_than fs n') (fewer_below n n' (omega arith)) (fewer_grows n') k sc s
 
-  evaluate_below : (n n' : ℕ) → n ≤ n' → (t : TypedNode) (mode : Mode) (sc : Scope) → IsBelow (evaluate fs n t mode sc) (evaluate fs n' t mode sc)
+  evaluate_below : (n n' : ℕ) → n ≤ n' → (t : TypedNode) (mode : Mode) (sc : Scope) →
+      IsBelow (evaluate fs n t mode sc) (evaluate fs n' t mode sc)
   evaluate_below n n' le t mode sc s =
       node_below (fewer_than fs n) (fewer_than fs n') (fewer_below n n' le) (fewer_grows n') t mode sc s
 

@@ -1,16 +1,16 @@
 -- `if`, `match` and `switch`.
-use Rattle.std.specs.Prelude.{ℕ, suc, ◌+◌, Bool, true, false, nat_eq, List, [], ◌∷◌, ◌++◌, map, filter, position, length, Option, Some, None, if◌then◌else◌}
+use Rattle.std.specs.Prelude.{ℕ, suc, ◌+◌, Bool, true, false, nat_eq, List, [], ◌∷◌, map, filter, position, Option, Some, None, if◌then◌else◌}
 use Rattle.std.specs.Option.{option_or}
 use Rattle.std.specs.List.{flat_map, enumerate_from}
 use Rattle.hare_tree.specs.declared.kind.Kind.{Kind}
 use Rattle.hare_tree.specs.declared.kind.Kind.TheVariants as kind
 use Rattle.hare_types.specs.declared.coercion.Ty.{Ty}
 use Rattle.hare_typed.specs.declared.cell.Cell.{Cell}
-use Rattle.hare_typed.specs.Typed.{TypedNode, TypedNodes, typed_none, typed_more, head_of, mark_of, kids_of, listed_nodes}
+use Rattle.hare_typed.specs.Typed.{TypedNode, head_of, mark_of, kids_of, listed_nodes}
 use Rattle.hare_typed.specs.Order.{kid_from_front}
 use Rattle.hare_typed.specs.Constants.{own_kind}
 use Rattle.hare_typed.specs.Given.{given, base_row, is_str}
-use Rattle.hare_typed.specs.Answers.{Answer, Gives, ◌then◌}
+use Rattle.hare_typed.specs.Answers.{◌then◌}
 use Rattle.hare_typed.specs.Scalars.{Pointer, Null, Address}
 use Rattle.hare_typed.specs.Words.{Words, words}
 use Rattle.hare_typed.specs.Arithmetic.{same_number}

@@ -1,8 +1,8 @@
--- The code that is evaluated: what a program is to evaluation. A program and its unwound bodies are both such, so that one evaluation serves both.
-use Rattle.std.specs.Prelude.{ℕ, ◌+◌, ◌*◌, ◌^◌, ◌==◌, Bool, true, false, List, [], ◌∷◌, ◌++◌, map, length, position, slice_index_or, flat_map, Option, Some, None, unwrap_or, if◌then◌else◌}
+-- The code that is evaluated: what a program is to evaluation. A program and its unwound bodies are both such, so that one evaluation
+-- serves both.
+use Rattle.std.specs.Prelude.{ℕ, ◌+◌, ◌*◌, ◌^◌, ◌==◌, Bool, true, false, List, [], ◌∷◌, ◌++◌, map, length, position, nat_eq, flat_map, Option, Some, None, unwrap_or, if◌then◌else◌}
 use Rattle.std.specs.List.{enumerate_from}
 use Rattle.std.specs.Map.{lookup}
-use Rattle.std.specs.Prelude.{nat_eq}
 use Rattle.hare_tree.specs.declared.kind.Kind.{Kind}
 use Rattle.hare_tree.specs.declared.kind.Kind.TheVariants as kind
 use Rattle.hare_types.specs.Store.{Store}
@@ -10,12 +10,12 @@ use Rattle.hare_typed.specs.declared.cell.Cell.{Cell}
 use Rattle.hare_typed.specs.declared.constant.Const.{Const}
 use Rattle.hare_typed.specs.declared.constant.Const.TheVariants as constant
 use Rattle.hare_typed.specs.Typed.{TypedNode, head_of, mark_of}
-use Rattle.hare_typed.specs.Order.{missing, kid_from_end, tree_from_front}
+use Rattle.hare_typed.specs.Order.{kid_from_end, tree_from_front}
 use Rattle.hare_typed.specs.Numbers.{kind_of, numbered}
 use Rattle.hare_typed.specs.Given.{given, size_in}
 use Rattle.hare_typed.specs.Shapes.{align_in}
 use Rattle.hare_typed.specs.Cells.{byte_cells, undefined_cells}
-use Rattle.hare_typed.specs.Objects.{Object, ObjectKind, Local, Global, Constant}
+use Rattle.hare_typed.specs.Objects.{Object, ObjectKind, Global, Constant}
 use Rattle.hare_typed.specs.Evaluated.{is_place, makes_slice}
 use Rattle.hare_typed.specs.ConstantValues.{listed_objects}
 use Rattle.hare_typed.specs.World.{World, homed_cell}
@@ -110,8 +110,10 @@ abbrev pub static_of : Store → ℕ × TypedNode → TypedNode → Kind → Lis
 static_of s d t kind.Str = (number_of_static d.0 t, text_object t) ∷ []
 static_of s d t _ =
     if is_static_array s d.1 t
-    then (number_of_static d.0 t,
-    array_with s t (lookup (nat_eq (number_of_static d.0 t)) (objects_of_constant (mark_of (value_of d.1)).value))) ∷ []
+    then (
+      number_of_static d.0 t,
+      array_with s t (lookup (nat_eq (number_of_static d.0 t)) (objects_of_constant (mark_of (value_of d.1)).value)),
+    ) ∷ []
     else []
 
 -- by declaration and node, one for each string of any body or value, and one for each such array

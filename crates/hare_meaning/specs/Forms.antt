@@ -1,8 +1,7 @@
 -- The forms of all kinds: what each kind of node does, as acts.
-use Rattle.std.specs.Prelude.{ℕ, true, false, List, [], if◌then◌else◌}
+use Rattle.std.specs.Prelude.{[]}
 use Rattle.hare_tree.specs.declared.kind.Kind.{Kind}
 use Rattle.hare_tree.specs.declared.kind.Kind.TheVariants as kind
-use Rattle.hare_typed.specs.declared.cell.Cell.{Cell}
 use Rattle.hare_typed.specs.Typed.{TypedNode, TypedNodes, kids_of}
 use Rattle.hare_typed.specs.Constants.{own_kind}
 use Rattle.hare_typed.specs.Scalars.{Null}

@@ -1,11 +1,10 @@
 -- The heap: `alloc`, `free`, `append` and `delete`.
-use Rattle.std.specs.Prelude.{ℕ, ◌+◌, ◌-◌, ◌*◌, ◌/◌, ◌^◌, max, Bool, true, false, not, ◌||◌, ◌&&◌, nat_eq, nat_lt, nat_le, List, [], ◌∷◌, ◌++◌, find, length, Option, Some, None, unwrap_or, if◌then◌else◌}
+use Rattle.std.specs.Prelude.{ℕ, ◌+◌, ◌-◌, ◌*◌, ◌/◌, ◌^◌, max, Bool, true, false, not, ◌||◌, ◌&&◌, nat_eq, nat_lt, nat_le, List, [], ◌++◌, find, length, Option, Some, None, unwrap_or, if◌then◌else◌}
 use Rattle.hare_tree.specs.declared.kind.Kind.{Kind}
 use Rattle.hare_tree.specs.declared.kind.Kind.TheVariants as kind
 use Rattle.hare_types.specs.declared.row.Row.{Row}
 use Rattle.hare_types.specs.declared.row.Row.TheVariants as row
 use Rattle.hare_types.specs.declared.coercion.Ty.{Ty}
-use Rattle.hare_types.specs.declared.coercion.Ty.TheVariants as kept
 use Rattle.hare_types.specs.Store.{Store}
 use Rattle.hare_types.specs.Layout.{round_up}
 use Rattle.hare_types.specs.ByIds.{row_at, size_at, align_at}
@@ -14,23 +13,23 @@ use Rattle.hare_typed.specs.Cells.{undefined_cells}
 use Rattle.hare_typed.specs.Typed.{TypedNode, head_of}
 use Rattle.hare_typed.specs.Order.{kid_from_front}
 use Rattle.hare_typed.specs.Constants.{own_kind}
-use Rattle.hare_typed.specs.Given.{given, base_row, element}
+use Rattle.hare_typed.specs.Given.{base_row, element}
 use Rattle.hare_typed.specs.Shapes.{align_in}
 use Rattle.hare_typed.specs.Answers.{Answer, Gives, Aborts, IsUndefined, ◌then◌}
-use Rattle.hare_typed.specs.Scalars.{Pointer, Null, Address, Pointing, Reference, Nullable, cells}
-use Rattle.hare_typed.specs.Objects.{Object, ObjectKind, Local, Heap, Global, Constant, Objects, Reading, reading, read_cells, kill}
+use Rattle.hare_typed.specs.Scalars.{Pointer, Null, Address, Pointing, Reference, cells}
+use Rattle.hare_typed.specs.Objects.{Object, ObjectKind, Local, Heap, Global, Constant, Reading, reading, read_cells, kill}
 use Rattle.hare_typed.specs.Pointers.{move}
 use Rattle.hare_typed.specs.Words.{Words, three, words, natural_of, within_length}
 use Rattle.hare_typed.specs.Unions.{union_members, union_cells}
-use Rattle.hare_typed.specs.Coercions.{number_of_value, pointer_of, length_of_row}
+use Rattle.hare_typed.specs.Coercions.{pointer_of, length_of_row}
 use Rattle.hare_typed.specs.Followed.{reached_type}
-use Rattle.hare_typed.specs.State.{Memory, Scope, AsValue, AsPlace, Outcome, Over}
+use Rattle.hare_typed.specs.State.{Memory, Scope, AsValue, AsPlace, Over}
 use Rattle.hare_typed.specs.Acts.{Act, end, look, put, make, tick, part}
 use Rattle.hare_typed.specs.World.{World, answered}
 use Rattle.hare_typed.specs.Sequence.{value, place, on_value, on_place}
 use Rattle.hare_typed.specs.Evaluated.{ValueForm, read_type, read_value}
 use Rattle.hare_typed.specs.ConstantForms.{own_type, type_of_kid, number_of_kid, id_in, is_array_row}
-use Rattle.hare_meaning.specs.Steps.{with_objects, storing, is_slice_row, is_written}
+use Rattle.hare_meaning.specs.Steps.{storing, is_slice_row, is_written}
 use Rattle.hare_meaning.specs.Places.{Operand, Gave, Stands, gives_value, reached_place}
 
 -- ---- what the heap takes

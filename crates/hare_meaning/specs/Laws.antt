@@ -6,7 +6,8 @@ use Rattle.hare_typed.specs.Interpreter.{Forms, evaluate}
 use Rattle.hare_meaning.specs.Code.{Code}
 use Rattle.hare_meaning.specs.Run.{run}
 
--- An outcome other than Spent stays, with all of its state, at every greater number of turns: of any node, whatever the forms are, and of a run.
+-- An outcome other than Spent stays, with all of its state, at every greater number of turns: of any node, whatever the forms are, and of
+-- a run.
 pub record TurnsKeepOutcomes : Type 0 where
   pub of_nodes : (fs : Forms) (n m : ℕ) (t : TypedNode) (mode : Mode) (sc : Scope) (s : State) → n ≤ m →
       ¬ ((evaluate fs n t mode sc s).0 ≡ Spent) → evaluate fs m t mode sc s ≡ evaluate fs n t mode sc s

@@ -1,11 +1,10 @@
 -- Loops: `for` with a condition, and `for` over the elements of an array or a slice.
 --
--- A turn is a task of its own, with one turn less than the loop: its condition, body, afterthought and the next turn all have that. What stands
--- behind the loop has the loop's turns.
-use Rattle.std.specs.Prelude.{ℕ, ◌+◌, ◌*◌, ◌/◌, Bool, true, false, nat_eq, List, [], ◌∷◌, Option, Some, None, unwrap_or, if◌then◌else◌}
+-- A turn is a task of its own, with one turn less than the loop: its condition, body, afterthought and the next turn all have that.
+-- What stands behind the loop has the loop's turns.
+use Rattle.std.specs.Prelude.{ℕ, ◌+◌, ◌*◌, ◌/◌, Bool, true, false, nat_eq, List, [], None, unwrap_or, if◌then◌else◌}
 use Rattle.hare_tree.specs.declared.kind.Kind.{Kind}
 use Rattle.hare_tree.specs.declared.kind.Kind.TheVariants as kind
-use Rattle.hare_types.specs.declared.coercion.Ty.{Ty}
 use Rattle.hare_types.specs.declared.coercion.Ty.TheVariants as kept
 use Rattle.hare_types.specs.ByIds.{size_at}
 use Rattle.hare_typed.specs.declared.cell.Cell.{Cell}
@@ -14,7 +13,6 @@ use Rattle.hare_typed.specs.Typed.{TypedNode, head_of}
 use Rattle.hare_typed.specs.Order.{kid_from_front}
 use Rattle.hare_typed.specs.Constants.{own_kind}
 use Rattle.hare_typed.specs.Given.{given, base_row, element, size_in}
-use Rattle.hare_typed.specs.Answers.{Answer, Gives}
 use Rattle.hare_typed.specs.Scalars.{Pointer, Null, Pointing, Nullable, cells}
 use Rattle.hare_typed.specs.Objects.{Object, Local, Reading, reading}
 use Rattle.hare_typed.specs.Pointers.{move}
@@ -121,7 +119,9 @@ over_operand w t sc Spent = end Spent
 abbrev pub each_form : World → TypedNode → Scope → ValueForm
 each_form w t sc k =
     within
-    (if is_array_row (base_row w.types (type_of_kid 1 t)) then kid 1 AsPlace sc (over_operand w t sc) else kid 1 AsValue sc (over_operand w t sc))
+    (if is_array_row (base_row w.types (type_of_kid 1 t))
+    then kid 1 AsPlace sc (over_operand w t sc)
+    else kid 1 AsValue sc (over_operand w t sc))
     (on_value λ cs. k [])
 
 -- whether the binding is the element's address

@@ -1,5 +1,5 @@
 -- Members of unions, and pointers that may be null, taken apart.
-use Rattle.std.specs.Prelude.{ℕ, Bool, true, false, not, nat_eq, List, [], filter, length, Option, Some, None, is_some, if◌then◌else◌}
+use Rattle.std.specs.Prelude.{ℕ, Bool, true, false, not, nat_eq, List, filter, length, Some, if◌then◌else◌}
 use Rattle.hare_types.specs.declared.coercion.Ty.{Ty}
 use Rattle.hare_types.specs.declared.coercion.Ty.TheVariants as kept
 use Rattle.hare_types.specs.Store.{Store}
@@ -12,8 +12,8 @@ use Rattle.hare_typed.specs.Answers.{Answer, Gives, Aborts, ◌then◌}
 use Rattle.hare_typed.specs.Scalars.{Pointer, Null, Address}
 use Rattle.hare_typed.specs.Unions.{union_members, member_by_tag, payload, union_cells}
 use Rattle.hare_typed.specs.Coercions.{pointer_of, assigned}
-use Rattle.hare_typed.specs.State.{Scope, Outcome, Return}
-use Rattle.hare_typed.specs.Acts.{Act, end}
+use Rattle.hare_typed.specs.State.{Scope, Return}
+use Rattle.hare_typed.specs.Acts.{end}
 use Rattle.hare_typed.specs.World.{World, answered}
 use Rattle.hare_typed.specs.Sequence.{value}
 use Rattle.hare_typed.specs.Evaluated.{ValueForm}

@@ -1,12 +1,12 @@
 -- Places behind pointers, elements, fields and slices.
-use Rattle.std.specs.Prelude.{ℕ, Bool, true, false, List, [], Option, Some, None, is_some, unwrap_or, if◌then◌else◌}
+use Rattle.std.specs.Prelude.{ℕ, Bool, true, false, List, is_some, unwrap_or, if◌then◌else◌}
 use Rattle.hare_types.specs.declared.coercion.Ty.{Ty}
 use Rattle.hare_types.specs.Store.{Store}
 use Rattle.hare_types.specs.ByIds.{size_at}
 use Rattle.hare_typed.specs.declared.cell.Cell.{Cell}
 use Rattle.hare_typed.specs.Typed.{TypedNode, head_of}
 use Rattle.hare_typed.specs.Given.{base_row, pointee, element}
-use Rattle.hare_typed.specs.Answers.{Answer, Gives, ◌then◌}
+use Rattle.hare_typed.specs.Answers.{Answer, ◌then◌}
 use Rattle.hare_typed.specs.Scalars.{Pointer}
 use Rattle.hare_typed.specs.Objects.{Reading, reading}
 use Rattle.hare_typed.specs.Pointers.{move}
@@ -67,8 +67,8 @@ operand w t sc k = if gives_value w.types (type_of_kid 0 t) then (value 0 sc λ 
 abbrev pub deref_place : Scope → PlaceForm
 deref_place sc k = value 0 sc λ cs. k (pointer_of cs)
 
--- the operand, then the index; then pointers are followed and words read, abort 0 for an element that is not there, and U1 where its place is
--- past the end of what is pointed to
+-- the operand, then the index; then pointers are followed and words read, abort 0 for an element that is not there, and U1 where its place
+-- is past the end of what is pointed to
 abbrev pub index_place : World → TypedNode → Scope → PlaceForm
 index_place w t sc k =
     let f = type_of_kid 0 t in
@@ -89,7 +89,8 @@ field_place w t sc k =
     move (reading m.objects) p (offset_in w.types whole (part_named w.types whole (head_of t))))
     k
 
--- A place as a value: it is read at the type of its node. What stands behind a value that is no place is read from the object that holds this.
+-- A place as a value: it is read at the type of its node. What stands behind a value that is no place is read from the object that holds
+-- this.
 abbrev pub reading_form : World → TypedNode → PlaceForm → ValueForm
 reading_form w t form k =
     form λ p. look λ m. answered w (head_of t) (read_value w.types (reading m.objects) p (own_type t)) k

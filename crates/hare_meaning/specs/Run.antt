@@ -1,13 +1,12 @@
 -- A run of a program, within a number of turns.
-use Rattle.std.specs.Prelude.{ℕ, List, [], ◌∷◌, ◌++◌, map, length, slice_index, true}
+use Rattle.std.specs.Prelude.{ℕ, List, [], ◌++◌, map, length, slice_index, true}
 use Rattle.hare_typed.specs.Typed.{TypedNode}
 use Rattle.hare_typed.specs.Order.{kid_from_front}
 use Rattle.hare_typed.specs.Numbers.{parameters_of}
 use Rattle.hare_typed.specs.Cells.{byte_cells}
 use Rattle.hare_typed.specs.Objects.{Object, Constant}
-use Rattle.hare_typed.specs.State.{Memory, State, Scope, AsValue, Outcome, Value, Reached, Break, Continue, Yield, Return, Exit, Abort, Undefined, Over, Spent, Result}
+use Rattle.hare_typed.specs.State.{State, Scope, AsValue, Outcome, Value, Reached, Break, Continue, Yield, Return, Exit, Abort, Undefined, Over, Spent, Result}
 use Rattle.hare_typed.specs.Interpreter.{evaluate, closed}
-use Rattle.hare_typed.specs.World.{World}
 use Rattle.hare_meaning.specs.Code.{Code, declaration, world_of}
 use Rattle.hare_meaning.specs.Forms.{forms}
 

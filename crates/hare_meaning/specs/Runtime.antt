@@ -1,17 +1,15 @@
 -- The functions of the module `rt`, and the nodes that end a program.
-use Rattle.std.specs.Prelude.{ℕ, ◌/◌, ◌-◌, pos, ℤ, true, nat_eq, nat_lt, List, [], ◌∷◌, length, slice_index, Option, Some, None, if◌then◌else◌}
-use Rattle.hare_typed.specs.declared.cell.Cell.{Cell}
-use Rattle.hare_typed.specs.Typed.{TypedNode, head_of, kids_of}
-use Rattle.hare_typed.specs.Weight.{count}
+use Rattle.std.specs.Prelude.{ℕ, ◌/◌, pos, true, nat_eq, nat_lt, [], length, slice_index, if◌then◌else◌}
+use Rattle.hare_typed.specs.Typed.{TypedNode, head_of}
 use Rattle.hare_typed.specs.Answers.{Answer, Gives, Aborts}
 use Rattle.hare_typed.specs.Cells.{byte_cells}
-use Rattle.hare_typed.specs.Scalars.{Pointer, Address}
+use Rattle.hare_typed.specs.Scalars.{Address}
 use Rattle.hare_typed.specs.Objects.{reading, reached, read_bytes, write_cells, cells_of}
 use Rattle.hare_typed.specs.Words.{Words, three, words, natural_of}
-use Rattle.hare_typed.specs.State.{Memory, Scope, Outcome, Exit}
-use Rattle.hare_typed.specs.Acts.{Act, end, look, put, tick, say, take_in}
+use Rattle.hare_typed.specs.State.{Memory, Scope, Exit}
+use Rattle.hare_typed.specs.Acts.{end, look, put, tick, say, take_in}
 use Rattle.hare_typed.specs.World.{World, answered}
-use Rattle.hare_typed.specs.Sequence.{value, values}
+use Rattle.hare_typed.specs.Sequence.{value}
 use Rattle.hare_typed.specs.Evaluated.{ValueForm}
 use Rattle.hare_typed.specs.ConstantForms.{number_of_kid, own_number, truth}
 use Rattle.hare_meaning.specs.Steps.{with_objects, aborting}

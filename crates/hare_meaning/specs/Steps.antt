@@ -9,7 +9,7 @@ use Rattle.hare_types.specs.declared.coercion.Ty.{Ty}
 use Rattle.hare_types.specs.declared.coercion.Ty.TheVariants as kept
 use Rattle.hare_types.specs.Store.{Store}
 use Rattle.hare_typed.specs.declared.cell.Cell.{Cell}
-use Rattle.hare_typed.specs.Typed.{TypedNode, TypedNodes, typed_none, typed_more, head_of, kids_of}
+use Rattle.hare_typed.specs.Typed.{TypedNode, TypedNodes, typed_none, typed_more, head_of}
 use Rattle.hare_typed.specs.Order.{kid_from_front}
 use Rattle.hare_typed.specs.Constants.{own_kind}
 use Rattle.hare_typed.specs.Constancy.{is_void_row}
@@ -19,7 +19,7 @@ use Rattle.hare_typed.specs.Scalars.{Pointer}
 use Rattle.hare_typed.specs.Objects.{Object, Local, Objects, store_cells}
 use Rattle.hare_typed.specs.Shapes.{align_in}
 use Rattle.hare_typed.specs.Coercions.{assigned}
-use Rattle.hare_typed.specs.State.{Memory, Scope, AsValue, Label, Outcome, Value, Abort}
+use Rattle.hare_typed.specs.State.{Memory, Scope, AsValue, Label, Outcome, Abort}
 use Rattle.hare_typed.specs.Acts.{Act, end, look, put, make, kid, within}
 use Rattle.hare_typed.specs.World.{World, abort_text, answered}
 

@@ -1,16 +1,14 @@
 -- Assignments and bindings.
 use Rattle.std.specs.Prelude.{ℕ, ℤ, ◌-◌, ◌||◌, Bool, bytes_eq, codes, List, [], length, take, None, if◌then◌else◌}
 use Rattle.hare_types.specs.declared.coercion.Ty.{Ty}
-use Rattle.hare_typed.specs.declared.cell.Cell.{Cell}
 use Rattle.hare_typed.specs.Typed.{TypedNode, head_of}
 use Rattle.hare_typed.specs.Answers.{Answer, Gives}
-use Rattle.hare_typed.specs.Scalars.{Pointer}
 use Rattle.hare_typed.specs.Objects.{reading}
 use Rattle.hare_typed.specs.Arithmetic.{arithmetic_of, arithmetic, shift_of, shifted}
 use Rattle.hare_typed.specs.Shapes.{align_in}
 use Rattle.hare_typed.specs.Coercions.{number_of_value, number_cells}
 use Rattle.hare_typed.specs.State.{Scope}
-use Rattle.hare_typed.specs.Acts.{Act, look, make}
+use Rattle.hare_typed.specs.Acts.{look, make}
 use Rattle.hare_typed.specs.World.{World, answered}
 use Rattle.hare_typed.specs.Sequence.{value, place}
 use Rattle.hare_typed.specs.Evaluated.{ValueForm, read_value}
