@@ -6,7 +6,7 @@ use Rattle.hare_types.specs.declared.coercion.Ty.TheVariants as kept
 use Rattle.hare_typed.specs.Typed.{TypedNode}
 use Rattle.hare_typed.specs.State.{Undefined, Exit, Abort}
 use Rattle.hare_meaning.proofs.Samples.{void, bool, u8, int, size, pointer, nullable, byte_pointer, pointer_to_pointer, slice_pointer, pair_pointer, bytes, four_bytes, int_or_bool, new_int, new_bytes}
-use Rattle.hare_meaning.proofs.Trees.{place, at, to, of_type, absent, node, one, main, rt, text, block, giving, ends, result_of, exit, tell, bind, local, hand, set, set_by, loop, each, element, again, n8, num, equal, array, part, index, field, type_node, alloc, alloc_for, append, append_all, delete, free, sure}
+use Rattle.hare_meaning.proofs.Trees.{place, at, to, of_type, absent, node, one, main, rt, text, block, giving, ends, result_of, exit, tell, bind, local, hand, set, set_by, loop, each, element, again, n8, num, equal, array, part, index, field, type_node, alloc, alloc_for, append, append_all, delete, free, sure, begun, program}
 
 abbrev four : TypedNode
 four = array four_bytes (n8 1 ∷ n8 2 ∷ n8 3 ∷ n8 4 ∷ [])
@@ -236,7 +236,12 @@ misaligned_before_no_value : ends (loop (bind (giving four_bytes (again
     ≡ Undefined 4 (place 7)
 misaligned_before_no_value = refl
 
--- U7 before a refusal, and before the elements of a freed slice are read
+-- U7 before a refusal: as many bytes live as may
+growth_before_the_refusal : (begun (program (main (bind four ∷ bind (part bytes (local 0 four_bytes) absent absent)
+    ∷ bind (at 7 (append (local 1 bytes) (n8 5))) ∷ []) ∷ [])) 67108864 0 0).0 ≡ Undefined 7 (place 7)
+growth_before_the_refusal = refl
+
+-- and before the elements of a freed slice are read
 growth_before_reading : ends (bind four ∷ bind (part bytes (local 0 four_bytes) absent absent)
     ∷ bind (at 7 (append_all (local 1 bytes) (freed_slice 3))) ∷ []) 0 ≡ Undefined 7 (place 7)
 growth_before_reading = refl
