@@ -12,3 +12,4 @@ pub mod Calls
 pub mod Forms
 pub mod Run
 pub mod Laws
+pub mod Related
