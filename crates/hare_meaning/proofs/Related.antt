@@ -1,0 +1,11 @@
+pub mod Asides
+pub mod Blocks
+pub mod Cells
+pub mod Deaths
+pub mod Keeps
+pub mod Kept
+pub mod Made
+pub mod New
+pub mod Start
+pub mod Store
+pub mod Streams

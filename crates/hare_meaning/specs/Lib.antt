@@ -1,0 +1,15 @@
+pub mod Code
+pub mod Steps
+pub mod Places
+pub mod Stores
+pub mod Runtime
+pub mod Blocks
+pub mod Loops
+pub mod Choices
+pub mod Members
+pub mod Heap
+pub mod Calls
+pub mod Forms
+pub mod Run
+pub mod Laws
+pub mod Related
