@@ -1,0 +1,4 @@
+pub mod CoverLemmas
+pub mod NumberLemmas
+mod ExampleConstants
+mod ConstantRows

@@ -1,0 +1,108 @@
+//! The numbers that cells spell.
+
+ghost use Rattle.std.specs.Prelude.{◌≡◌, ◌≤◌, ◌<◌, ◌^◌, pos, neg_ℤ, ◌≤ℤ◌, ◌<ℤ◌, length, option_map, IfSome, Some};
+ghost use Rattle.hx_base.specs.Memory.{le_number};
+ghost use Rattle.hare_typed.specs.Cells.{bytes_of};
+ghost use Rattle.hare_typed.specs.Scalars.{number_spelled, bool_spelled};
+ghost use Rattle.hare_const.specs.Shapes.{shape_of, IsNarrow};
+ghost use Rattle.hare_const.specs.Numbers as spec;
+
+use crate::shape::{Shape, shape_at};
+use hare_typed::{Cell, Const};
+use hare_types::{Ty, TypeId, TypeStore};
+use hx_base::wrap;
+
+/// The byte that a cell is.
+fn byte_of(cell: Cell) -> Option<u8>
+    ensures { result ≡ spec.byte_in cell }
+{
+    match cell {
+        Cell::Byte(b) => Some(b),
+        _ => None,
+    }
+}
+
+/// The number that bytes spell, the lowest first; none where a cell is no byte.
+fn little_endian(cells: &[Cell]) -> Option<u64>
+    requires { length cells.now ≤ 8 }
+    ensures value { result ≡ option_map le_number (bytes_of cells.now) }
+    ensures within { IfSome result (λ n. n < 256 ^ length cells.now) }
+{
+    let Some((first, others)) = cells.split_first() else {
+        return Some(0);
+    };
+    let low = byte_of(*first)?;
+    match little_endian(others) {
+        Some(high) => Some(u64::from(low) + 256 * high),
+        None => None,
+    }
+}
+
+/// The number of so many bytes that cells spell.
+fn whole(cells: &[Cell], bytes: u32, signed: bool) -> Option<i128>
+    requires { bytes ≤ 8 }
+    ensures value { result ≡ spec.number_of_scalar (number_spelled bytes signed cells.now) }
+    ensures low { IfSome result (λ v. neg_ℤ (pos (2 ^ 63)) ≤ℤ v) }
+    ensures high { IfSome result (λ v. v <ℤ pos (2 ^ 64)) }
+{
+    if cells.len() != bytes as usize {
+        return None;
+    }
+    if bytes == 0 {
+        return Some(0);
+    }
+    match little_endian(cells) {
+        Some(number) => Some(wrap(i128::from(number), 8 * bytes, signed)),
+        None => None,
+    }
+}
+
+/// 1 where a cell is the byte of true, and 0 where it is that of false.
+fn truth(cells: &[Cell]) -> Option<i128>
+    ensures value { result ≡ spec.number_of_scalar (bool_spelled cells.now) }
+    ensures low { IfSome result (λ v. neg_ℤ (pos (2 ^ 63)) ≤ℤ v) }
+    ensures high { IfSome result (λ v. v <ℤ pos (2 ^ 64)) }
+{
+    match cells {
+        [Cell::Byte(0)] => Some(0),
+        [Cell::Byte(1)] => Some(1),
+        _ => None,
+    }
+}
+
+/// The number that cells spell at the shape of a type.
+fn number_by(shape: Shape, cells: &[Cell]) -> Option<i128>
+    requires { IsNarrow shape }
+    ensures value { result ≡ spec.number_by (Some (shape_of shape)) cells.now }
+    ensures low { IfSome result (λ v. neg_ℤ (pos (2 ^ 63)) ≤ℤ v) }
+    ensures high { IfSome result (λ v. v <ℤ pos (2 ^ 64)) }
+{
+    match shape {
+        Shape::Whole(bytes, signed) => whole(cells, bytes, signed),
+        Shape::Truth => truth(cells),
+        Shape::Reference | Shape::Nullable => None,
+    }
+}
+
+/// The number that a constant of a type is.
+pub(crate) fn number_of(s: &TypeStore, t: TypeId, c: &Const) -> Option<i128>
+    ensures value { result ≡ spec.number_of s.now t c.now }
+    ensures low { IfSome result (λ v. neg_ℤ (pos (2 ^ 63)) ≤ℤ v) }
+    ensures high { IfSome result (λ v. v <ℤ pos (2 ^ 64)) }
+{
+    let Const::Known { cells, .. } = c else {
+        return None;
+    };
+    let shape = shape_at(s, t)?;
+    number_by(shape, cells.as_slice())
+}
+
+/// The same, where the constant has a type of the store.
+pub(crate) fn number_in(s: &TypeStore, t: Ty, c: &Const) -> Option<i128>
+    ensures value { result ≡ spec.number_in s.now t c.now }
+{
+    match t {
+        Ty::Of(t) => number_of(s, t, c),
+        _ => None,
+    }
+}

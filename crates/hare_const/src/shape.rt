@@ -1,0 +1,63 @@
+//! The scalar types that a store has.
+
+ghost use Rattle.std.specs.Prelude.{◌≡◌, ◌≤◌, option_copied, option_map, IfSome};
+ghost use Rattle.hare_types.specs.declared.coercion.Ty.TheVariants as ty;
+ghost use Rattle.hare_typed.specs.Given.{base_row};
+ghost use Rattle.hare_typed.specs.Shapes as spec;
+ghost use Rattle.hare_const.specs.Shapes.{shape_of, IsNarrow};
+
+use hare_types::{Row, Scalar, TypeId, TypeStore};
+
+/// What is needed of a scalar type.
+#[derive(Clone, Copy, Debug, PartialEq, Eq)]
+pub(crate) enum Shape {
+    /// An integer type, a rune, and void with no bytes.
+    Whole(u32, bool),
+    /// A bool.
+    Truth,
+    /// A pointer that is never null.
+    Reference,
+    /// A pointer that may be null.
+    Nullable,
+}
+
+/// The row of the base of a type; none where it comes to a name that is not defined.
+pub(crate) fn base_row(s: &TypeStore, t: TypeId) -> Option<&Row>
+    ensures { option_copied result ≡ base_row s.now (ty.Of t) }
+{
+    let b = s.base(t)?;
+    Some(s.row(b))
+}
+
+/// The shape of a type that is one word.
+fn shape_of_word(k: Scalar) -> Option<Shape>
+    ensures value { option_map shape_of result ≡ spec.shape_of_word k }
+    ensures narrow { IfSome result IsNarrow }
+{
+    match k {
+        Scalar::Void => Some(Shape::Whole(0, false)),
+        Scalar::Never | Scalar::Opaque | Scalar::Str => None,
+        Scalar::Bool => Some(Shape::Truth),
+        Scalar::I8 => Some(Shape::Whole(1, true)),
+        Scalar::I16 => Some(Shape::Whole(2, true)),
+        Scalar::I32 | Scalar::Int => Some(Shape::Whole(4, true)),
+        Scalar::I64 => Some(Shape::Whole(8, true)),
+        Scalar::U8 => Some(Shape::Whole(1, false)),
+        Scalar::U16 => Some(Shape::Whole(2, false)),
+        Scalar::Rune | Scalar::U32 | Scalar::Uint => Some(Shape::Whole(4, false)),
+        Scalar::U64 | Scalar::Size => Some(Shape::Whole(8, false)),
+    }
+}
+
+/// The shape of a type, where its base is scalar.
+pub(crate) fn shape_at(s: &TypeStore, t: TypeId) -> Option<Shape>
+    ensures value { option_map shape_of result ≡ spec.shape_at s.now t }
+    ensures narrow { IfSome result IsNarrow }
+{
+    match base_row(s, t) {
+        Some(Row::Scalar(k)) => shape_of_word(*k),
+        Some(Row::Pointer(_)) => Some(Shape::Reference),
+        Some(Row::Nullable(_)) => Some(Shape::Nullable),
+        _ => None,
+    }
+}
