@@ -202,8 +202,10 @@ if_hint n m b h r e d = ap (λ x. is_type_hint (by_place x (b ∷ then_hint h r 
 if_unasked : (c : Context) (i t : ℕ) → i < length c.kids → target_of c ki.If i ≡ Some t → is_type_hint (asked_as ki.If c i) ≡ false
 if_unasked c zero t l e = cc
 if_unasked c (suc i) t l e =
+    let m : suc i ≤ length c.kids = omega (arith, l) in
+    let n = length-take_within c.kids (suc i) m in
     let h = unasked-joined (store_of c) c.hint (branches c) t (where_some _ _ _ e) in
-    if_hint (length (take (suc i) c.kids)) i _ c.hint (rest c (suc i)) (length-take_within c.kids (suc i) (omega (arith, l))) h
+    if_hint (length (take (suc i) c.kids)) i _ c.hint (rest c (suc i)) n h
 
 case_hint : (n : ℕ) (h : Hint) → h ≡ hint.None → is_type_hint (by_place n (hint.None ∷ []) h) ≡ false
 case_hint zero h e = refl

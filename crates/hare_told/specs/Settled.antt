@@ -25,14 +25,14 @@ abbrev pub unless_hinted : Bool → Settled → List Settled
 unless_hinted true s = []
 unless_hinted false s = s ∷ []
 
--- the coercions that a verdict lists for the kids from this one on, each under the number of its kid
-abbrev pub listed_from : Context → ℕ → List TypedNode → List Settled
+-- the coercion that a verdict has for kid number i, under the kid's own number
+abbrev pub listed_kid : Context → (i : ℕ) → TypedNode → Settled
+listed_kid j i x = record { node = number_of x; coercion = kid_coercion j i }
+
+-- what a verdict lists for the kids from number i on: for those that were asked for no type
+abbrev pub listed_from : Context → (i : ℕ) → List TypedNode → List Settled
 listed_from j i [] = []
-listed_from j i (x ∷ xs) = unless_hinted (was_hinted j i) (record {
-  node = number_of x;
-  coercion =
-      kid_coercion j i;
-}) ++ listed_from j (suc i) xs
+listed_from j i (x ∷ xs) = unless_hinted (was_hinted j i) (listed_kid j i x) ++ listed_from j (suc i) xs
 
 -- no kid has the number of another
 abbrev pub HasNone : ℕ → List TypedNode → Type 0
