@@ -5,7 +5,7 @@
 mod common;
 mod compare;
 mod exact;
-mod judge;
+mod judged;
 mod met;
 mod numbers;
 mod operators;
@@ -14,4 +14,4 @@ mod targets;
 mod tests;
 mod types;
 
-pub use judge::judge_operator as judge;
+pub use judged::judge;

@@ -43,7 +43,7 @@ fn in_range(k: Kind, sign: &[u8], a: &Ty, b: &Ty) -> bool
 pub(crate) fn is_shift_sign(sign: &[u8]) -> bool
     ensures { result ≡ spec.is_shift_sign sign.now }
 {
-    sign == b"<<=" || sign == b">>="
+    matches!(sign, b"<<=" | b">>=")
 }
 
 /// Whether an assignment with this operator gives a value of the type of the left side.

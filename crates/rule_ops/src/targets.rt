@@ -15,10 +15,9 @@ ghost use Rattle.rule_ops.specs.Typed.{equal_target_of};
 use crate::common::{are_iconsts, common_type};
 use crate::compare::goes_to_other;
 use crate::met::is_shift_sign;
-use hare_rules::Hint;
 use hare_tree::Kind;
 use hare_types::{Scalar, Ty, TypeId, TypeStore};
-use rule_judge::{Turn, default_in, seen_at, type_at, word};
+use rule_judge::{Turn, default_in, is_type_hint, seen_at, type_at, word};
 use std::alloc::AllocError;
 
 /// The id of a type, where it has one.
@@ -42,7 +41,7 @@ pub(crate) fn asks_type(s: &mut TypeStore, t: &Turn<'_>, i: usize) -> Result<boo
     let node = t.node;
     let case = t.case;
     match node.kind {
-        Kind::Paren => Ok(matches!(case.hint, Hint::Of(_))),
+        Kind::Paren => Ok(is_type_hint(&case.hint)),
         Kind::Logic => {
             word(s, Scalar::Bool)?;
             Ok(true)
