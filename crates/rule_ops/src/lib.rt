@@ -8,6 +8,7 @@ mod exact;
 mod judged;
 mod met;
 mod numbers;
+mod operands;
 mod operators;
 mod targets;
 #[cfg(test)]

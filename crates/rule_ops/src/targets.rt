@@ -15,9 +15,10 @@ ghost use Rattle.rule_ops.specs.Typed.{equal_target_of};
 use crate::common::{are_iconsts, common_type};
 use crate::compare::goes_to_other;
 use crate::met::is_shift_sign;
+use crate::operands::{operand, written};
 use hare_tree::Kind;
 use hare_types::{Scalar, Ty, TypeId, TypeStore};
-use rule_judge::{Turn, default_in, is_type_hint, seen_at, type_at, word};
+use rule_judge::{Turn, default_in, is_type_hint, word};
 use std::alloc::AllocError;
 
 /// The id of a type, where it has one.
@@ -83,8 +84,8 @@ pub(crate) fn target(
 {
     let _law = s.declarations();
     let node = t.node;
-    let a = seen_at(t.kids, 0);
-    let b = seen_at(t.kids, 1);
+    let a = operand(s, t, 0);
+    let b = operand(s, t, 1);
     match node.kind {
         Kind::Arith | Kind::Less => Ok(common_type(s, &a, &b)),
         Kind::Equal => {
@@ -96,7 +97,10 @@ pub(crate) fn target(
         }
         Kind::Shift => {
             if i == 0 && !are_iconsts(&a, &b) {
-                default_in(s, &type_at(t.kids, 0))
+                {
+                    let own = written(s, t, 0);
+                    default_in(s, &own)
+                }
             } else {
                 Ok(None)
             }
@@ -110,7 +114,7 @@ pub(crate) fn target(
         }
         Kind::Cast => {
             if i == 0 {
-                Ok(id_in(&type_at(t.kids, 1)))
+                Ok(id_in(&written(s, t, 1)))
             } else {
                 Ok(None)
             }

@@ -16,9 +16,10 @@ ghost use Rattle.rule_ops.specs.Typed.{text_in, exact_type_of, arith_type_of, sh
 use crate::common::{are_iconsts, common_type};
 use crate::exact::{exact_of, unary};
 use crate::numbers::number_type;
+use crate::operands::{operand, written};
 use hare_tree::Kind;
 use hare_types::{Scalar, Ty, TypeStore};
-use rule_judge::{Turn, default_in, seen_at, type_at, word};
+use rule_judge::{Turn, default_in, word};
 use std::alloc::AllocError;
 
 /// The type of `-` or `~`: a whole number without a suffix gives another, and any other operand its own type.
@@ -98,8 +99,8 @@ pub(crate) fn own_type(s: &mut TypeStore, t: &Turn<'_>) -> Result<Ty, AllocError
 {
     let _law = s.declarations();
     let node = t.node;
-    let a = seen_at(t.kids, 0);
-    let b = seen_at(t.kids, 1);
+    let a = operand(s, t, 0);
+    let b = operand(s, t, 1);
     match node.kind {
         Kind::Number => number_type(s, node.suffix, node.number),
         Kind::Str => word_type(s, Scalar::Str),
@@ -115,7 +116,7 @@ pub(crate) fn own_type(s: &mut TypeStore, t: &Turn<'_>) -> Result<Ty, AllocError
             let shifted = shift_type(s, t, &a, &b)?;
             Ok(shifted.unwrap())
         }
-        Kind::Cast => Ok(type_at(t.kids, 1)),
+        Kind::Cast => Ok(written(s, t, 1)),
         _ => unreachable!(),
     }
 }
