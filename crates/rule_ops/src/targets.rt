@@ -10,7 +10,7 @@ ghost use Rattle.rule_judge.specs.Defined.{IsDefined, IsDefinedTy};
 ghost use Rattle.rule_judge.specs.Grown.{IsGrown};
 ghost use Rattle.rule_judge.specs.Turns.{context_in, kind_in, IsTurn};
 ghost use Rattle.rule_ops.specs.Kinds.{is_operator};
-ghost use Rattle.rule_ops.specs.Typed.{equal_target_of};
+ghost use Rattle.rule_ops.specs.Typed.{other_target_of, equal_target_of};
 
 use crate::common::{are_iconsts, common_type};
 use crate::compare::goes_to_other;
@@ -51,20 +51,34 @@ pub(crate) fn asks_type(s: &mut TypeStore, t: &Turn<'_>, i: usize) -> Result<boo
     }
 }
 
-/// Where an operand of `==` or `!=` goes, of which the other one is `b`.
-fn equal_target(s: &TypeStore, a: &Ty, b: &Ty) -> Option<TypeId>
+/// The type of the second operand, where the first goes there.
+fn other_target(s: &TypeStore, a: &Ty, b: &Ty) -> Option<TypeId>
     requires first { IsDefinedTy s.now a.now }
     requires second { IsDefinedTy s.now b.now }
-    ensures value { (f : Store) → IsLater s.now f → result ≡ equal_target_of f a.now b.now }
+    ensures value { (f : Store) → IsLater s.now f → result ≡ other_target_of f a.now b.now }
+    ensures defined { IfSome result (IsDefined s.now) }
+{
+    if goes_to_other(s, a, b) {
+        id_in(b)
+    } else {
+        None
+    }
+}
+
+/// Where the left operand of `==` or `!=` goes, or the right one.
+fn equal_target(s: &TypeStore, a: &Ty, b: &Ty, is_left: bool) -> Option<TypeId>
+    requires first { IsDefinedTy s.now a.now }
+    requires second { IsDefinedTy s.now b.now }
+    ensures value { (f : Store) → IsLater s.now f → result ≡ equal_target_of f a.now b.now is_left }
     ensures defined { IfSome result (IsDefined s.now) }
 {
     match common_type(s, a, b) {
         Some(c) => Some(c),
         None => {
-            if goes_to_other(s, a, b) {
-                id_in(b)
+            if is_left {
+                other_target(s, a, b)
             } else {
-                None
+                other_target(s, b, a)
             }
         }
     }
@@ -88,13 +102,7 @@ pub(crate) fn target(
     let b = operand(s, t, 1);
     match node.kind {
         Kind::Arith | Kind::Less => Ok(common_type(s, &a, &b)),
-        Kind::Equal => {
-            if i == 0 {
-                Ok(equal_target(s, &a, &b))
-            } else {
-                Ok(equal_target(s, &b, &a))
-            }
-        }
+        Kind::Equal => Ok(equal_target(s, &a, &b, i == 0)),
         Kind::Shift => {
             if i == 0 && !are_iconsts(&a, &b) {
                 {

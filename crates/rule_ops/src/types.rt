@@ -1,6 +1,6 @@
 //! The types of nodes that meet their rows.
 
-ghost use Rattle.std.specs.Prelude.{◌≡◌, true, None, Some, IfOk, IfSome};
+ghost use Rattle.std.specs.Prelude.{◌≡◌, true, None, Some, IfOk, IfSome, is_some};
 ghost use Rattle.hare_types.specs.Store.{Store};
 ghost use Rattle.hare_types.specs.Later.{IsLater};
 ghost use Rattle.hare_rules.specs.Operators as spec;
@@ -11,7 +11,7 @@ ghost use Rattle.rule_judge.specs.Defined.{IsDefinedTy};
 ghost use Rattle.rule_judge.specs.Grown.{IsGrown};
 ghost use Rattle.rule_judge.specs.Turns.{context_in, kind_in, IsTurn};
 ghost use Rattle.rule_ops.specs.Kinds.{is_operator};
-ghost use Rattle.rule_ops.specs.Typed.{text_in, exact_type_of, arith_type_of, shift_type_of};
+ghost use Rattle.rule_ops.specs.Typed.{text_in, exact_type_of, arith_type_of, shift_type_of, has_shift_type};
 
 use crate::common::{are_iconsts, common_type};
 use crate::exact::{exact_of, unary};
@@ -37,7 +37,8 @@ fn unary_type(k: Kind, a: &Ty) -> Option<Ty>
 
 /// The type of an operator on two whole numbers without a suffix.
 fn exact_type(t: &Turn<'_>, a: &Ty, b: &Ty) -> Option<Ty>
-    ensures { result ≡ exact_type_of (kind_in t.now) (text_in t.now) a.now b.now }
+    ensures value { result ≡ exact_type_of (kind_in t.now) (text_in t.now) a.now b.now }
+    ensures defined { (f : Store) → IfSome result (IsDefinedTy f) }
 {
     let node = t.node;
     match exact_of(node.kind, node.text.bytes(), a, b) {
@@ -66,6 +67,7 @@ fn arith_type(s: &TypeStore, t: &Turn<'_>, a: &Ty, b: &Ty) -> Option<Ty>
 fn shift_type(s: &mut TypeStore, t: &Turn<'_>, a: &Ty, b: &Ty) -> Result<Option<Ty>, AllocError>
     requires { IsDefinedTy s.old a.now }
     ensures value { IfOk result (λ o. (f : Store) → IsLater s.new f → o ≡ shift_type_of f (kind_in t.now) (text_in t.now) a.now b.now) }
+    ensures there { IfOk result (λ o. is_some o ≡ has_shift_type (kind_in t.now) (text_in t.now) a.now b.now) }
     ensures defined { IfOk result (λ o. IfSome o (IsDefinedTy s.new)) }
     ensures grown { IsGrown s.old s.new }
 {
