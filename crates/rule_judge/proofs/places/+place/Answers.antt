@@ -13,4 +13,4 @@ is_first_place-is_place-requires t c =
 
 pub is_first_place-returns-in-Some : goal.is_first_place-returns-in-Some
 is_first_place-returns-in-Some t c f l =
-    c.is_place.ensures f l ∙ sym (ap (λ xs. is_first_place (setting_of f c.args.decls.now)  (typed_nodes xs)) (first_is c.args.trees.now c.in-Some.tree.now c.in-Some.ensures.found).1)
+    c.is_place.ensures f l ∙ sym (ap (λ xs. is_first_place (setting_of f c.args.decls.now) (typed_nodes xs)) (first_is c.args.trees.now c.in-Some.tree.now c.in-Some.ensures.found).1)
