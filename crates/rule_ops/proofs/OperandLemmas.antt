@@ -1,12 +1,12 @@
 -- What two operands have in common, and what stands first.
-use Rattle.std.proofs.Common.{◌≡◌, Bool, true, false, cond, List, [], ◌∷◌, Option, Some, None, refl, ap, sym, ◌∙◌}
+use Rattle.std.proofs.Common.{◌≡◌, Bool, true, false, cond, List, [], ◌∷◌, Option, Some, None, refl}
 use Rattle.std.specs.Prelude.{ℕ, is_some, slice_get, ◌&&◌, nat_eq}
 use Rattle.hare_types.specs.declared.coercion.Ty.{Ty}
 use Rattle.hare_types.specs.declared.coercion.Ty.TheVariants as ty
 use Rattle.hare_types.specs.Store.{Store}
 use Rattle.hare_typed.specs.Typed.{TypedNode}
 use Rattle.hare_typed.specs.Order.{tree_from_front}
-use Rattle.hare_rules.specs.Words.{are_iconsts, has_integer_base, widens, holds_in, integer_word, Common, Typed, common, common_of_types, common_type}
+use Rattle.hare_rules.specs.Words.{are_iconsts, has_integer_base, widens, holds_in, integer_word, Common, Typed, common, common_type}
 
 typed_some : (b : Bool) (t : ℕ) (o : Option Common) → is_some (common_type o) ≡ is_some o → is_some (common_type (cond b (Some (Typed t)) o)) ≡ is_some (cond b (Some (Typed t)) o)
 typed_some true t o e = refl

@@ -1,5 +1,5 @@
 -- Where the operands of a comparison go, by their places.
-use Rattle.std.proofs.Common.{◌≡◌, ℕ, zero, suc, Bool, true, false, nat_eq, refl, ap, sym, ◌∙◌}
+use Rattle.std.proofs.Common.{◌≡◌, ℕ, zero, suc, Bool, true, false, nat_eq, refl, ap}
 use Rattle.std.specs.Cmp.{unsigned_Decides}
 use Rattle.hare_rules.specs.Context.{Context, store_of}
 use Rattle.hare_rules.specs.Operators.{first_seen, second_seen}

@@ -1,23 +1,21 @@
 -- The types of nodes that meet their rows.
-use Rattle.std.proofs.Common.{◌≡◌, ℕ, ◌<◌, ◌^◌, Bool, true, false, not, ◌&&◌, ◌||◌, cond, nat_eq, List, [], ◌∷◌, Option, Some, None, IsSome, refl, ap, ap₂, sym, ◌∙◌, subst, arith}
+use Rattle.std.proofs.Common.{◌≡◌, ℕ, ◌<◌, ◌^◌, Bool, true, false, not, ◌&&◌, ◌||◌, cond, nat_eq, List, [], ◌∷◌, Option, Some, None, IsSome, refl, ap, ap₂, sym, ◌∙◌}
 use Rattle.std.specs.Prelude.{ℤ, find, is_some, option_map, nat_lt}
 use Rattle.std.proofs.lemmas.Bool.{ltb-true}
 use Rattle.hare_tree.specs.declared.kind.Kind.{Kind}
 use Rattle.hare_tree.specs.declared.kind.Kind.TheVariants as ki
 use Rattle.hare_tree.specs.declared.form.Sort.{Sort}
 use Rattle.hare_tree.specs.Node.{Head, Node, Nodes, branch, head}
-use Rattle.hare_tree.specs.Levels.{admits}
 use Rattle.hare_tree.specs.Forms.{form_of}
 use Rattle.hare_tree.specs.Shape.{is_shaped, is_own, own_of}
 use Rattle.hare_types.specs.declared.coercion.Ty.{Ty}
 use Rattle.hare_types.specs.declared.coercion.Ty.TheVariants as ty
-use Rattle.hare_types.specs.Store.{Store}
 use Rattle.hare_rules.specs.declared.row_id.RowId.{RowId}
 use Rattle.hare_rules.specs.declared.row_id.RowId.TheVariants as row
-use Rattle.hare_rules.specs.Words.{are_iconsts, has_default, has_integer_base, widens, holds_in, integer_word, typed_as, Common, Typed, Exact, common, common_type}
+use Rattle.hare_rules.specs.Words.{are_iconsts, has_default, has_integer_base, widens, holds_in, integer_word, typed_as, Common, Typed, common, common_type}
 use Rattle.hare_rules.specs.Exact.{exact_of}
 use Rattle.hare_rules.specs.Context.{Context, store_of}
-use Rattle.hare_rules.specs.Operators.{first_seen, second_seen, operands_common, in_range, shift_left_has_default, arith_type_by, arith_type}
+use Rattle.hare_rules.specs.Operators.{first_seen, second_seen, operands_common, arith_type_by, arith_type}
 use Rattle.hare_rules.specs.Table.{rows_of}
 use Rattle.hare_rules.specs.Rows.{holds}
 use Rattle.rule_judge.specs.Asked.{own_rows, own_failing}

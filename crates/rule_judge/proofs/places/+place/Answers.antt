@@ -2,7 +2,7 @@ use Rattle.std.proofs.Common.{◌<◌, sym, ap, ◌∙◌, arith}
 use Rattle.hare_typed.specs.Typed.{typed_nodes, size_of, sizes_of}
 use Rattle.hare_typed.proofs.KidLemmas.{kid_size}
 use Rattle.hare_rules.specs.Places.{is_first_place}
-use Rattle.rule_judge.specs.Settings.{setting_of, entries}
+use Rattle.rule_judge.specs.Settings.{setting_of}
 use Rattle.rule_judge.proofs.KidLemmas.{kid_defined, first_is}
 use Rattle.rule_judge.proofs.places.+place.Goals as goal
 

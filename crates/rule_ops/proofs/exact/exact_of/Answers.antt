@@ -1,4 +1,4 @@
-use Rattle.std.proofs.Common.{rules, sym, ◌∙◌}
+use Rattle.std.proofs.Common.{rules}
 use Rattle.rule_ops.proofs.SignLemmas.{some_operator, no_operator}
 use Rattle.rule_ops.proofs.exact.exact_of.Goals as goal
 

@@ -1,4 +1,4 @@
-use Rattle.std.proofs.Common.{sym, ◌∙◌, ap}
+use Rattle.std.proofs.Common.{◌∙◌, ap}
 use Rattle.hare_rules.specs.Places.{is_mutable}
 use Rattle.rule_judge.specs.Settings.{setting_of, entries}
 use Rattle.rule_judge.proofs.KidLemmas.{kid_defined}

@@ -1,6 +1,6 @@
-use Rattle.std.proofs.Common.{sym, ◌∙◌, ap}
+use Rattle.std.proofs.Common.{◌∙◌, ap}
 use Rattle.hare_rules.specs.Places.{is_place}
-use Rattle.rule_judge.specs.Settings.{setting_of, entries}
+use Rattle.rule_judge.specs.Settings.{setting_of}
 use Rattle.rule_judge.proofs.KidLemmas.{kid_defined}
 use Rattle.rule_ops.proofs.OperandLemmas.{first_kid}
 use Rattle.rule_ops.proofs.met.is_place_first.Goals as goal

@@ -1,6 +1,5 @@
 use Rattle.std.proofs.Common.{nat_eq, ap, ap₂, sym, ◌∙◌}
 use Rattle.hare_tree.specs.Node.{head}
-use Rattle.hare_rules.specs.Context.{store_of}
 use Rattle.hare_rules.specs.Settles.{target_of}
 use Rattle.rule_judge.specs.Turns.{context_in}
 use Rattle.rule_ops.specs.Typed.{equal_target_of}

@@ -1,4 +1,3 @@
-use Rattle.hare_rules.specs.Words.{are_iconsts}
 use Rattle.rule_judge.specs.Turns.{kind_in}
 use Rattle.rule_ops.specs.Typed.{text_in}
 use Rattle.rule_ops.proofs.TypeLemmas.{exact_there}
