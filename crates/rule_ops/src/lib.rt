@@ -11,8 +11,6 @@ mod numbers;
 mod operands;
 mod operators;
 mod targets;
-#[cfg(test)]
-mod tests;
 mod types;
 
 pub use judged::judge;
