@@ -1,24 +1,22 @@
 -- Bases, error marks and sizes of types of which each name is defined, and the verdicts that rest on them, in this store and in later ones.
-use Rattle.std.proofs.Common.{◌≡◌, ℕ, zero, suc, ◌<◌, Bool, List, [], ◌∷◌, length, map, Option, Some, None, IsSome, refl, ap, ap₂, sym, ◌∙◌, subst, arith}
-use Rattle.std.specs.Prelude.{Contains, option_and_then, slice_get}
+use Rattle.std.proofs.Common.{◌≡◌, ℕ, zero, suc, List, [], ◌∷◌, length, Option, Some, None, IsSome, refl, ap, sym, ◌∙◌, subst, arith}
+use Rattle.std.specs.Prelude.{Contains, option_and_then}
 use Rattle.std.specs.List.{cons_option}
-use Rattle.std.proofs.lemmas.Option.{slice_get_within}
 use Rattle.hare_types.specs.declared.coercion.Ty.{Ty}
 use Rattle.hare_types.specs.declared.coercion.Ty.TheVariants as ty
 use Rattle.hare_types.specs.declared.row.Row.{Row}
 use Rattle.hare_types.specs.declared.row.Row.TheVariants as row
-use Rattle.hare_types.specs.Trees.{Tree, Trees, Scalar, Pointer, Nullable, Slice, Array, Struct, Tuple, Union, Error, Named, trees_of, EachTree}
+use Rattle.hare_types.specs.Trees.{Trees, Union, EachTree}
 use Rattle.hare_types.specs.Rows.{tree_of, trees}
-use Rattle.hare_types.specs.Bases.{base_over, IsBaseOf}
+use Rattle.hare_types.specs.Bases.{base_over}
 use Rattle.hare_types.specs.Store.{Store, tree_at, definition_of, meaning_of, sized_of}
 use Rattle.hare_types.specs.Sound.{IsStore}
 use Rattle.hare_types.specs.Layout.{following, base_with}
-use Rattle.hare_types.specs.ByIds.{row_at, found_within, base_at, error_over, marked_at, is_error_at, sized_over, sized_at, has_size_at}
-use Rattle.hare_types.specs.Assign.{Value, Of, type_at, value_at, base, coercion, is_castable}
-use Rattle.hare_types.specs.Later.{IsLater, KeepsTypes}
+use Rattle.hare_types.specs.ByIds.{row_at, found_within, base_at, error_over, marked_at, is_error_at, sized_over, has_size_at}
+use Rattle.hare_types.specs.Assign.{type_at, value_at, base, coercion, is_castable}
+use Rattle.hare_types.specs.Later.{IsLater}
 use Rattle.hare_types.proofs.LaterLemmas.{types_stay}
 use Rattle.hare_types.proofs.IdLemmas.{base_tells}
-use Rattle.hare_types.proofs.MeaningsLemmas.{ids_mean_trees}
 use Rattle.hare_layout.proofs.NamesLemmas.{names_enough}
 use Rattle.hare_layout.proofs.OffsetLemmas.{base_with-near}
 use Rattle.hare_layout.proofs.SpreadLemmas.{id-tree_at}

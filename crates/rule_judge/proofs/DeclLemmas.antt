@@ -1,11 +1,10 @@
 -- One declaration more.
-use Rattle.std.proofs.Common.{◌≡◌, ℕ, zero, suc, ◌+◌, ◌<◌, Bool, true, false, cond, nat_eq, true≢false, List, [], ◌∷◌, ◌++◌, length, Option, Some, None, IsSome, refl, ap, sym, ◌∙◌, subst, arith, length-append}
+use Rattle.std.proofs.Common.{◌≡◌, ℕ, zero, suc, ◌+◌, ◌<◌, Bool, true, false, cond, nat_eq, List, [], ◌∷◌, ◌++◌, length, Option, Some, None, IsSome, refl, ap, sym, ◌∙◌, subst, arith, length-append}
 use Rattle.std.specs.Prelude.{find, slice_get, option_and_then, is_some}
 use Rattle.std.specs.Cmp.{unsigned_Decides}
 use Rattle.std.specs.Map.{lookup}
 use Rattle.std.specs.Option.{option_or}
 use Rattle.hare_types.proofs.ListLemmas.{slice_get_front, slice_get_end}
-use Rattle.hare_types.proofs.GrowthLemmas.{option_map-more}
 use Rattle.hare_rules.specs.declared.declared.DeclType.{DeclType}
 use Rattle.rule_judge.specs.Decls.{is_number, AreFirst}
 

@@ -1,5 +1,5 @@
 -- From the rows that are asked, in their order, to the answer.
-use Rattle.std.proofs.Common.{◌≡◌, Bool, true, false, not, ◌&&◌, cond, List, [], ◌∷◌, ◌++◌, Option, Some, None, refl, ap, ap₂, sym, ◌∙◌, subst}
+use Rattle.std.proofs.Common.{◌≡◌, Bool, true, false, not, ◌&&◌, cond, List, [], ◌∷◌, Option, Some, None, refl, ap, ap₂, sym, ◌∙◌}
 use Rattle.std.specs.Prelude.{ℕ, find, option_map}
 use Rattle.std.specs.Option.{option_or}
 use Rattle.hare_tree.specs.declared.place.Fault.{Fault}

@@ -1,17 +1,13 @@
 -- The members of the union that is the base of a type, one by one.
-use Rattle.std.proofs.Common.{◌≡◌, ℕ, zero, suc, ◌+◌, ◌<◌, ◌≤◌, Bool, true, false, not, cond, List, [], ◌∷◌, ◌++◌, length, drop, take, get_or, Option, Some, None, IsSome, refl, ap, sym, ◌∙◌, subst, arith}
-use Rattle.std.specs.Prelude.{Contains, filter, option_map, option_and_then, option_copied}
-use Rattle.std.proofs.Math.Seq.{drop-cons}
-use Rattle.std.proofs.lemmas.List.{take_more}
+use Rattle.std.proofs.Common.{◌≡◌, ℕ, zero, suc, ◌<◌, List, [], ◌∷◌, length, get_or, Option, Some, None, refl, sym, subst, arith}
+use Rattle.std.specs.Prelude.{Contains, option_and_then}
 use Rattle.hare_types.specs.declared.coercion.Ty.{Ty}
 use Rattle.hare_types.specs.declared.coercion.Ty.TheVariants as ty
-use Rattle.hare_types.specs.declared.row.Row.{Row}
-use Rattle.hare_types.specs.declared.row.Row.TheVariants as row
 use Rattle.hare_types.specs.Store.{Store}
-use Rattle.hare_types.specs.ByIds.{row_at, base_at, is_error_at, members_of, members_at}
+use Rattle.hare_types.specs.ByIds.{row_at, base_at, members_of}
 use Rattle.hare_typed.specs.Given.{base_row}
-use Rattle.hare_rules.specs.Words.{members_in, error_members, is_not_empty, has_error_member}
-use Rattle.rule_judge.specs.Defined.{IsDefined, HoldsDefined}
+use Rattle.hare_rules.specs.Words.{members_in}
+use Rattle.rule_judge.specs.Defined.{IsDefined}
 
 -- members by the row of the base
 by_base : (s : Store) (t : ℕ) (o : Option ℕ) → option_and_then (λ b. option_and_then members_of (row_at s b)) o ≡ option_and_then members_of (option_and_then (row_at s) o)

@@ -1,6 +1,6 @@
 -- A type has a base where each name that it mentions is defined, since no name comes back to itself.
 use Rattle.std.proofs.Common.{◌≡◌, ℕ, zero, suc, ◌<◌, Bool, true, false, cond, nat_eq, true≢false, List, [], ◌∷◌, length, map, Option, Some, None, IsSome, refl, ap, sym, ◌∙◌, subst, arith, ◌⊎◌, inl, inr}
-use Rattle.std.specs.Prelude.{Contains, option_and_then, ◌++◌}
+use Rattle.std.specs.Prelude.{Contains, option_and_then}
 use Rattle.std.specs.Cmp.{unsigned_Decides}
 use Rattle.std.specs.Map.{lookup}
 use Rattle.std.specs.List.{cons_option}
@@ -9,7 +9,6 @@ use Rattle.hare_types.specs.declared.declared.Declared.{Declared}
 use Rattle.hare_types.specs.declared.row.Row.{Row}
 use Rattle.hare_types.specs.declared.row.Row.TheVariants as row
 use Rattle.hare_types.specs.Trees.{Tree, Scalar, Pointer, Nullable, Slice, Array, Struct, Tuple, Union, Error, Named}
-use Rattle.hare_types.specs.Rows.{tree_of, trees}
 use Rattle.hare_types.specs.Store.{Store, tree_at, definition_of, meaning_of}
 use Rattle.hare_types.specs.Sound.{IsStore}
 use Rattle.hare_types.specs.ByValue.{held, Leads}
@@ -18,9 +17,7 @@ use Rattle.hare_types.specs.Layout.{following, base_with}
 use Rattle.hare_types.specs.Assign.{type_at, base}
 use Rattle.hare_assign.proofs.TypeLemmas.{type_at_row, tree_at-type}
 use Rattle.hare_assign.proofs.ChosenLemmas.{base_none}
-use Rattle.hare_layout.proofs.NamesLemmas.{names_enough}
-use Rattle.hare_layout.proofs.OffsetLemmas.{base_with-near}
-use Rattle.rule_judge.specs.Defined.{made_of, Mentions, itself, through, IsDefined}
+use Rattle.rule_judge.specs.Defined.{Mentions, itself, through, IsDefined}
 use Rattle.rule_judge.proofs.DefinedLemmas.{row_of, defined_part, defined_mentioned}
 
 -- ---- the name in front

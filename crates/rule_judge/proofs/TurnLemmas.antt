@@ -1,7 +1,7 @@
 -- What a judge may rely on stays as the store grows.
-use Rattle.std.proofs.Common.{◌≡◌, List, refl, sym, ap, subst, ◌∙◌}
+use Rattle.std.proofs.Common.{◌≡◌, List, refl, ap, ◌∙◌}
 use Rattle.hare_types.specs.declared.row.Row.{Row}
-use Rattle.hare_types.specs.Store.{Store, Extends}
+use Rattle.hare_types.specs.Store.{Store}
 use Rattle.hare_types.specs.Sound.{IsStore}
 use Rattle.hare_types.specs.Later.{IsLater}
 use Rattle.hare_types.proofs.CallerLemmas.{Extends-refl, Extends-trans}

@@ -1,20 +1,19 @@
 -- Unions that rules make.
-use Rattle.std.proofs.Common.{◌≡◌, ◌≢◌, ℕ, zero, suc, ◌+◌, ◌<◌, ◌≤◌, ◌==◌, Bool, true, false, not, cond, nat_lt, List, [], ◌∷◌, ◌++◌, length, take, get_or, Option, Some, None, IsSome, refl, ap, sym, ◌∙◌, subst, arith, ◌⊎◌, inl, inr}
-use Rattle.std.specs.Prelude.{Contains, slice_get, filter, option_map, option_and_then, if◌then◌else◌}
+use Rattle.std.proofs.Common.{◌≡◌, ◌≢◌, ℕ, zero, suc, ◌≤◌, ◌==◌, Bool, true, false, nat_lt, List, [], ◌∷◌, length, Option, Some, None, IsSome, refl, ap, sym, ◌∙◌, subst, arith, ◌⊎◌, inl, inr}
+use Rattle.std.specs.Prelude.{Contains, slice_get, option_and_then, if◌then◌else◌}
 use Rattle.std.specs.Cmp.{unsigned_Decides}
 use Rattle.std.specs.List.{cons_option}
-use Rattle.hare_types.specs.declared.row.Row.{Row}
 use Rattle.hare_types.specs.declared.row.Row.TheVariants as row
 use Rattle.hare_types.specs.declared.row.Scalar.TheVariants as keyword
-use Rattle.hare_types.specs.Rows.{AreMembers, Ascends}
+use Rattle.hare_types.specs.Rows.{AreMembers}
 use Rattle.hare_types.specs.Store.{Store, definition_of}
 use Rattle.hare_types.specs.Sound.{IsStore}
 use Rattle.hare_types.specs.Later.{IsLater}
 use Rattle.hare_types.specs.ByIds.{row_at}
-use Rattle.hare_types.specs.Unions.{id_of, put, ascending, union_of}
+use Rattle.hare_types.specs.Unions.{id_of, ascending, union_of}
 use Rattle.hare_types.proofs.MeaningsLemmas.{ids_ascend}
 use Rattle.hare_rules.specs.Words.{nomem, with_refusal}
-use Rattle.rule_judge.specs.Defined.{made_of, IsDefined, IsDefinedName, IsRefusable, HoldsDefined}
+use Rattle.rule_judge.specs.Defined.{IsDefined, IsDefinedName, IsRefusable}
 use Rattle.rule_judge.proofs.DefinedLemmas.{defined_by_row, defined_stays, row_stays}
 
 name_held : (s : Store) (j : ℕ) (o : Option ℕ) → o ≡ Some j → IsDefined s j → (i : ℕ) → Contains (cons_option o []) i → IsDefined s i

@@ -1,12 +1,11 @@
 -- The walk over the rows of a node.
-use Rattle.std.proofs.Common.{◌≡◌, ℕ, zero, suc, ◌+◌, ◌<◌, ◌≤◌, Bool, true, false, not, ◌&&◌, cond, List, [], ◌∷◌, length, drop, get_or, Option, Some, None, refl, ap, ap₂, sym, ◌∙◌, arith, add-one}
+use Rattle.std.proofs.Common.{◌≡◌, ℕ, zero, suc, ◌+◌, ◌<◌, ◌≤◌, Bool, true, false, not, ◌&&◌, cond, List, [], ◌∷◌, length, drop, get_or, Option, Some, None, refl, ap, ap₂, sym, ◌∙◌, arith}
 use Rattle.std.specs.Prelude.{find, option_map}
 use Rattle.std.proofs.Math.Seq.{drop-cons}
 use Rattle.hare_tree.specs.declared.place.Place.{Place}
-use Rattle.hare_tree.specs.declared.place.Fault.{Fault}
 use Rattle.hare_rules.specs.declared.row_id.RowId.{RowId}
 use Rattle.hare_rules.specs.Context.{Context}
-use Rattle.hare_rules.specs.Table.{rows_of, number_of}
+use Rattle.hare_rules.specs.Table.{number_of}
 use Rattle.hare_rules.specs.Rows.{is_site, holds, stands, fault_of}
 use Rattle.rule_judge.specs.Asked.{own_rows, is_kept_alone, are_asked, unmet, own_failing, own_fault}
 

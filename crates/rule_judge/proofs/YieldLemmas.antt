@@ -1,6 +1,6 @@
 -- The values that are yielded to a node, and their coercions.
 use Rattle.std.proofs.Common.{◌≡◌, ℕ, zero, suc, ◌+◌, ◌<◌, Bool, true, false, not, ◌&&◌, ◌==◌, cond, nat_lt, List, [], ◌∷◌, ◌++◌, length, map, take, get_or, Option, Some, None, refl, ap, sym, ◌∙◌, subst, arith, append_assoc}
-use Rattle.std.specs.Prelude.{find, option_map, IfSome}
+use Rattle.std.specs.Prelude.{find, option_map}
 use Rattle.std.proofs.lemmas.Bool.{lt-ltb}
 use Rattle.std.proofs.lemmas.List.{take_more, map_push}
 use Rattle.hare_tree.specs.declared.place.Place.{Place}
@@ -12,7 +12,7 @@ use Rattle.hare_rules.specs.declared.judged.Yielded.{Yielded}
 use Rattle.hare_rules.specs.Words.{is_never, default_in, word_id}
 use Rattle.hare_rules.specs.Context.{Context, Given}
 use Rattle.hare_rules.specs.Control.{is_open, end_of, end_behind, block_values}
-use Rattle.hare_rules.specs.Joined.{goes_on, default_of_first, void_at}
+use Rattle.hare_rules.specs.Joined.{goes_on, default_of_first}
 use Rattle.hare_rules.specs.declared.hint.Hint.{Hint}
 use Rattle.hare_rules.specs.declared.hint.Hint.TheVariants as hint
 use Rattle.hare_rules.specs.Judged.{givens_from, is_type_hint, yield_coercions}

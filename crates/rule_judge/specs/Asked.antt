@@ -1,6 +1,5 @@
 -- The rows that a crate of judges asks, and the two that all share.
 use Rattle.std.specs.Prelude.{ℕ, Bool, true, false, cond, not, ◌&&◌, List, [], ◌∷◌, find, take, drop, suc, Option, Some, None, option_map}
-use Rattle.hare_tree.specs.declared.kind.Kind.{Kind}
 use Rattle.hare_tree.specs.declared.place.Place.{Place}
 use Rattle.hare_tree.specs.declared.place.Fault.{Fault}
 use Rattle.hare_types.specs.declared.coercion.Ty.{Ty}

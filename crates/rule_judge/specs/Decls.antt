@@ -1,5 +1,5 @@
 -- How declarations are found by their numbers.
-use Rattle.std.specs.Prelude.{◌≡◌, ℕ, ◌<◌, nat_eq, Bool, List, find, length, slice_get, Option, Some, option_and_then}
+use Rattle.std.specs.Prelude.{◌≡◌, ℕ, ◌<◌, nat_eq, Bool, List, find, length, slice_get, Some, option_and_then}
 use Rattle.std.specs.Map.{lookup}
 use Rattle.hare_rules.specs.declared.declared.DeclType.{DeclType}
 

@@ -1,9 +1,9 @@
 pub mod Decls
 pub mod Defined
 pub mod Settings
+pub mod Told
 pub mod Turns
 pub mod Grown
 pub mod Asked
 pub mod Yields
 pub mod Answers
-pub mod Told

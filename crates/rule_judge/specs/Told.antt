@@ -1,4 +1,4 @@
--- The same as in Turns and Answers, of a node that is told part by part.
+-- What a judge may rely on when it is told of a node, and what its answer means in each store that may come later.
 use Rattle.std.specs.Prelude.{◌≡◌, true, List}
 use Rattle.hare_tree.specs.declared.form.Sort.{Sort}
 use Rattle.hare_tree.specs.declared.place.Fault.{Fault}

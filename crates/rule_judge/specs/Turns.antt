@@ -1,17 +1,13 @@
--- What a judge is told of a node, and what it may rely on.
-use Rattle.std.specs.Prelude.{◌≡◌, ℕ, true, List}
+-- A node whose turn has come: its context, and what a judge may rely on.
+use Rattle.std.specs.Prelude.{List}
 use Rattle.hare_tree.specs.declared.kind.Kind.{Kind}
-use Rattle.hare_tree.specs.declared.form.Sort.{Sort}
-use Rattle.hare_tree.specs.Node.{Head, Node, head, kids_of}
-use Rattle.hare_tree.specs.Shape.{is_shaped}
+use Rattle.hare_tree.specs.Node.{Head, head}
 use Rattle.hare_types.specs.Store.{Store}
-use Rattle.hare_typed.specs.Typed.{typed_nodes}
-use Rattle.hare_typed.specs.Erased.{erase_each}
 use Rattle.hare_rules.specs.declared.judged.Yielded.{Yielded}
 use Rattle.hare_rules.specs.Context.{Context}
 use Rattle.hare_rules.specs.Judged.{context_of}
 use Rattle.rule_judge.specs.declared.turn.Turn.{Turn}
-use Rattle.rule_judge.specs.Defined.{IsDefinedHint, AreDefinedYields, AreDefinedTrees}
+use Rattle.rule_judge.specs.Told.{IsToldNode}
 
 abbrev pub head_in : Turn → Head
 head_in t = head t.node.now
@@ -26,11 +22,6 @@ context_in s t = context_of s t.decls.now t.locals.now t.case.now (head_in t) t.
 abbrev pub yields_in : Turn → List Yielded
 yields_in t = t.case.now.yields
 
--- The node is shaped, its kids are those that are told, and each type that is told with it, or stands in a kid, is in the store and
--- mentions no name that is not defined.
-pub record IsTurn (s : Store) (t : Turn) : Type 0 where
-  pub shaped : (sort : Sort) × (is_shaped sort t.node.now ≡ true)
-  pub kids : erase_each (typed_nodes t.kids.now) ≡ kids_of t.node.now
-  pub types : AreDefinedTrees s (typed_nodes t.kids.now)
-  pub hint : IsDefinedHint s t.case.now.hint
-  pub yields : AreDefinedYields s t.case.now.yields
+-- what a judge may rely on
+abbrev pub IsTurn : Store → Turn → Type 0
+IsTurn s t = IsToldNode s t.case.now t.node.now t.kids.now

@@ -1,5 +1,5 @@
 -- What the values come to that are yielded to a node.
-use Rattle.std.specs.Prelude.{ℕ, Bool, not, ◌&&◌, cond, List, find, length, Option, option_map, nat_lt}
+use Rattle.std.specs.Prelude.{not, ◌&&◌, cond, List, find, length, Option, option_map, nat_lt}
 use Rattle.hare_types.specs.declared.coercion.Ty.{Ty}
 use Rattle.hare_types.specs.declared.row.Scalar.{Scalar as Keyword}
 use Rattle.hare_types.specs.declared.row.Scalar.TheVariants as keyword

@@ -1,6 +1,6 @@
 //! The types that values take where nothing asks for one.
 
-ghost use Rattle.std.specs.Prelude.{◌≡◌, IfOk, IfSome};
+ghost use Rattle.std.specs.Prelude.{◌≡◌, IfOk, IfSome, is_some};
 ghost use Rattle.hare_types.specs.Store.{Store};
 ghost use Rattle.hare_types.specs.Later.{IsLater};
 ghost use Rattle.hare_rules.specs.Words as words;
@@ -26,6 +26,7 @@ pub fn has_default(a: &Ty) -> bool
 pub fn default_in(s: &mut TypeStore, a: &Ty) -> Result<Option<TypeId>, AllocError>
     requires { IsDefinedTy s.old a.now }
     ensures value { IfOk result (λ o. (f : Store) → IsLater s.new f → o ≡ words.default_in f a.now) }
+    ensures there { IfOk result (λ o. is_some o ≡ words.has_default a.now) }
     ensures defined { IfOk result (λ o. IfSome o (IsDefined s.new)) }
     ensures grown { IsGrown s.old s.new }
 {

@@ -1,3 +1,4 @@
+pub mod Signs
 pub mod Kinds
 pub mod Typed
 pub mod Laws

@@ -1,39 +1,12 @@
 //! Operators on whole numbers without a suffix. They are exact, from -2^127 to 2^127 - 1.
 
-ghost use Rattle.std.specs.Prelude.{◌≡◌, int_div, int_rem, ◌+ℤ◌, ◌-ℤ◌, ◌*ℤ◌, Some, option_map};
+ghost use Rattle.std.specs.Prelude.{◌≡◌, ◌<◌, ◌^◌, ◌*ℤ◌, int_rem, pos, IfSome, Some};
 ghost use Rattle.hare_rules.specs.Exact as spec;
 ghost use Rattle.hare_rules.specs.Operators as operators;
+ghost use Rattle.rule_ops.specs.Signs as signs;
 
 use hare_tree::Kind;
 use hare_types::Ty;
-
-/// The sum, where it is in range.
-fn sum(a: i128, b: i128) -> Option<i128>
-    ensures { result ≡ spec.ranged (a +ℤ b) }
-{
-    a.checked_add(b)
-}
-
-/// The difference, where it is in range.
-fn difference(a: i128, b: i128) -> Option<i128>
-    ensures { result ≡ spec.ranged (a -ℤ b) }
-{
-    a.checked_sub(b)
-}
-
-/// The product, where it is in range.
-fn product(a: i128, b: i128) -> Option<i128>
-    ensures { result ≡ spec.ranged (a *ℤ b) }
-{
-    a.checked_mul(b)
-}
-
-/// The quotient, rounded toward zero; none by 0.
-fn quotient(a: i128, b: i128) -> Option<i128>
-    ensures { result ≡ spec.unless_zero b (spec.ranged (int_div a b)) }
-{
-    a.checked_div(b)
-}
 
 /// The remainder, which has the sign of the dividend; none by 0. That of the least number by -1 is 0.
 fn remainder(a: i128, b: i128) -> Option<i128>
@@ -47,7 +20,8 @@ fn remainder(a: i128, b: i128) -> Option<i128>
 
 /// A shift amount, from 0 to 127.
 fn amount(b: i128) -> Option<u32>
-    ensures { result ≡ spec.amount b }
+    ensures value { result ≡ spec.amount b }
+    ensures small { IfSome result (λ n. n < 128) }
 {
     if 0 <= b && b < 128 {
         Some(b as u32)
@@ -56,56 +30,103 @@ fn amount(b: i128) -> Option<u32>
     }
 }
 
+/// The number shifted to the left by 127, where no bit is lost.
+fn shift_most(a: i128) -> Option<i128>
+    ensures { result ≡ spec.ranged (a *ℤ pos (2 ^ 127)) }
+{
+    match a {
+        0 => Some(0),
+        -1 => Some(i128::MIN),
+        _ => None,
+    }
+}
+
 /// The number shifted to the left, where no bit is lost.
-fn shift_left(a: i128, n: Option<u32>) -> Option<i128>
-    ensures { result ≡ spec.shift_left a n }
+fn shift_left(a: i128, n: u32) -> Option<i128>
+    requires { n < 128 }
+    ensures { result ≡ spec.ranged (a *ℤ pos (2 ^ n)) }
 {
-    match n {
-        None => None,
-        Some(127) => match a {
-            0 => Some(0),
-            -1 => Some(i128::MIN),
-            _ => None,
+    if n < 127 {
+        a.checked_mul(2i128.pow(n))
+    } else {
+        shift_most(a)
+    }
+}
+
+/// An operator on two whole numbers.
+#[derive(Clone, Copy)]
+enum Operator {
+    Sum,
+    Difference,
+    Product,
+    Quotient,
+    Remainder,
+    And,
+    Or,
+    Xor,
+    Left,
+    Right,
+}
+
+/// What the operator `+ - * / % & ^ |` is that is written by this sign.
+fn arithmetic_operator(sign: &[u8]) -> Option<Operator>
+    ensures { result ≡ signs.operator_from sign.now signs.arithmetic_signs }
+{
+    match sign {
+        b"+" => Some(Operator::Sum),
+        b"-" => Some(Operator::Difference),
+        b"*" => Some(Operator::Product),
+        b"/" => Some(Operator::Quotient),
+        b"%" => Some(Operator::Remainder),
+        b"&" => Some(Operator::And),
+        b"|" => Some(Operator::Or),
+        b"^" => Some(Operator::Xor),
+        _ => None,
+    }
+}
+
+/// Which of `<<` and `>>` is written by this sign.
+fn shift_operator(sign: &[u8]) -> Option<Operator>
+    ensures { result ≡ signs.operator_from sign.now signs.shift_signs }
+{
+    match sign {
+        b"<<" => Some(Operator::Left),
+        b">>" => Some(Operator::Right),
+        _ => None,
+    }
+}
+
+/// The operator of a node of this kind that is written by this sign.
+fn operator_of(k: Kind, sign: &[u8]) -> Option<Operator>
+    ensures { result ≡ signs.operator_of k sign.now }
+{
+    match k {
+        Kind::Shift => shift_operator(sign),
+        _ => arithmetic_operator(sign),
+    }
+}
+
+/// The result of an operator.
+fn applied(operator: Operator, a: i128, b: i128) -> Option<i128>
+    ensures { result ≡ signs.applied operator a b }
+{
+    match operator {
+        Operator::Sum => a.checked_add(b),
+        Operator::Difference => a.checked_sub(b),
+        Operator::Product => a.checked_mul(b),
+        Operator::Quotient => a.checked_div(b),
+        Operator::Remainder => remainder(a, b),
+        Operator::And => Some(a & b),
+        Operator::Or => Some(a | b),
+        Operator::Xor => Some(a ^ b),
+        Operator::Left => match amount(b) {
+            Some(n) => shift_left(a, n),
+            None => None,
         },
-        Some(n) => a.checked_mul(1 << n),
-    }
-}
-
-/// The number shifted to the right, rounded down.
-fn shift_right(a: i128, n: Option<u32>) -> Option<i128>
-    ensures { result ≡ spec.shift_right a n }
-{
-    match n {
-        None => None,
-        Some(n) => Some(a >> n),
-    }
-}
-
-/// The result of `+ - * / % & ^ |`.
-fn arithmetic(sign: &[u8], a: i128, b: i128) -> Option<i128>
-    ensures { result ≡ spec.arithmetic sign.now a b }
-{
-    match sign {
-        b"+" => sum(a, b),
-        b"-" => difference(a, b),
-        b"*" => product(a, b),
-        b"/" => quotient(a, b),
-        b"%" => remainder(a, b),
-        b"&" => Some(a & b),
-        b"|" => Some(a | b),
-        b"^" => Some(a ^ b),
-        _ => None,
-    }
-}
-
-/// The result of `<<` and `>>`.
-fn shift(sign: &[u8], a: i128, b: i128) -> Option<i128>
-    ensures { result ≡ spec.shift sign.now a b }
-{
-    match sign {
-        b"<<" => shift_left(a, amount(b)),
-        b">>" => shift_right(a, amount(b)),
-        _ => None,
+        Operator::Right => match amount(b) {
+            Some(n) => Some(a >> n),
+            None => None,
+        },
     }
 }
 
@@ -119,10 +140,9 @@ pub(crate) fn exact_of(k: Kind, sign: &[u8], a: &Ty, b: &Ty) -> Option<i128>
     let Ty::Iconst(y) = b else {
         return None;
     };
-    if k == Kind::Shift {
-        shift(sign, *x, *y)
-    } else {
-        arithmetic(sign, *x, *y)
+    match operator_of(k, sign) {
+        Some(operator) => applied(operator, *x, *y),
+        None => None,
     }
 }
 

@@ -5,13 +5,12 @@
 mod common;
 mod compare;
 mod exact;
-mod judge;
+mod judged;
 mod met;
 mod numbers;
+mod operands;
 mod operators;
 mod targets;
-#[cfg(test)]
-mod tests;
 mod types;
 
-pub use judge::judge_operator as judge;
+pub use judged::judge;

@@ -14,13 +14,12 @@ use crate::common::{are_iconsts, common_type, has_common};
 use crate::compare::{are_equatable, are_ordered, has_base_word};
 use crate::exact::{exact_of, unary};
 use crate::numbers::number_fits;
+use crate::operands::{operand, written};
 use hare_assign::castable;
 use hare_rules::RowId;
 use hare_tree::Kind;
 use hare_types::{Scalar, Ty, TypeStore};
-use rule_judge::{
-    Turn, has_default, has_size, integer_word, is_integer, is_mutable, is_place, seen_at, type_at,
-};
+use rule_judge::{Turn, has_default, has_size, integer_word, is_integer, is_mutable, is_place};
 
 /// Whether `-` or `~` of the operand is in range, where it is a whole number without a suffix.
 fn unary_in_range(k: Kind, a: &Ty) -> bool
@@ -43,7 +42,7 @@ fn in_range(k: Kind, sign: &[u8], a: &Ty, b: &Ty) -> bool
 pub(crate) fn is_shift_sign(sign: &[u8]) -> bool
     ensures { result ≡ spec.is_shift_sign sign.now }
 {
-    sign == b"<<=" || sign == b">>="
+    matches!(sign, b"<<=" | b">>=")
 }
 
 /// Whether an assignment with this operator gives a value of the type of the left side.
@@ -70,6 +69,7 @@ fn castable_to(s: &TypeStore, a: &Ty, to: &Ty) -> bool
     requires to { IsDefinedTy s.now to.now }
     ensures { (f : Store) → IsLater s.now f → result ≡ spec.castable_to f a.now (words.id_in to.now) }
 {
+    let _law = s.declarations();
     match to {
         Ty::Of(t) => castable(s, *t, *a),
         Ty::Iconst(_) | Ty::Null | Ty::Empty => false,
@@ -116,8 +116,8 @@ pub(crate) fn is_met(s: &TypeStore, t: &Turn<'_>, row: RowId) -> bool
     ensures { (f : Store) → IsLater s.now f → result ≡ holds row (context_in f t.now) }
 {
     let node = t.node;
-    let a = seen_at(t.kids, 0);
-    let b = seen_at(t.kids, 1);
+    let a = operand(s, t, 0);
+    let b = operand(s, t, 1);
     match row {
         RowId::NumberFits => number_fits(node.suffix, node.number),
         RowId::UnaryInteger => is_integer(s, &a),
@@ -132,8 +132,8 @@ pub(crate) fn is_met(s: &TypeStore, t: &Turn<'_>, row: RowId) -> bool
         RowId::OpAssignPlace => is_place_first(s, t),
         RowId::OpAssignMutable => is_mutable_first(s, t),
         RowId::OpAssignFitting => fits_left(s, node.text.bytes(), &a, &b),
-        RowId::CastCastable => castable_to(s, &a, &type_at(t.kids, 1)),
-        RowId::MeasureHasSize => has_size_of(s, &type_at(t.kids, 0)),
+        RowId::CastCastable => castable_to(s, &a, &written(s, t, 1)),
+        RowId::MeasureHasSize => has_size_of(s, &written(s, t, 0)),
         _ => unreachable!(),
     }
 }

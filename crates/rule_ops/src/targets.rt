@@ -10,15 +10,15 @@ ghost use Rattle.rule_judge.specs.Defined.{IsDefined, IsDefinedTy};
 ghost use Rattle.rule_judge.specs.Grown.{IsGrown};
 ghost use Rattle.rule_judge.specs.Turns.{context_in, kind_in, IsTurn};
 ghost use Rattle.rule_ops.specs.Kinds.{is_operator};
-ghost use Rattle.rule_ops.specs.Typed.{equal_target_of};
+ghost use Rattle.rule_ops.specs.Typed.{other_target_of, equal_target_of};
 
 use crate::common::{are_iconsts, common_type};
 use crate::compare::goes_to_other;
 use crate::met::is_shift_sign;
-use hare_rules::Hint;
+use crate::operands::{operand, written};
 use hare_tree::Kind;
 use hare_types::{Scalar, Ty, TypeId, TypeStore};
-use rule_judge::{Turn, default_in, seen_at, type_at, word};
+use rule_judge::{Turn, default_in, is_type_hint, word};
 use std::alloc::AllocError;
 
 /// The id of a type, where it has one.
@@ -42,7 +42,7 @@ pub(crate) fn asks_type(s: &mut TypeStore, t: &Turn<'_>, i: usize) -> Result<boo
     let node = t.node;
     let case = t.case;
     match node.kind {
-        Kind::Paren => Ok(matches!(case.hint, Hint::Of(_))),
+        Kind::Paren => Ok(is_type_hint(&case.hint)),
         Kind::Logic => {
             word(s, Scalar::Bool)?;
             Ok(true)
@@ -51,20 +51,34 @@ pub(crate) fn asks_type(s: &mut TypeStore, t: &Turn<'_>, i: usize) -> Result<boo
     }
 }
 
-/// Where an operand of `==` or `!=` goes, of which the other one is `b`.
-fn equal_target(s: &TypeStore, a: &Ty, b: &Ty) -> Option<TypeId>
+/// The type of the second operand, where the first goes there.
+fn other_target(s: &TypeStore, a: &Ty, b: &Ty) -> Option<TypeId>
     requires first { IsDefinedTy s.now a.now }
     requires second { IsDefinedTy s.now b.now }
-    ensures value { (f : Store) → IsLater s.now f → result ≡ equal_target_of f a.now b.now }
+    ensures value { (f : Store) → IsLater s.now f → result ≡ other_target_of f a.now b.now }
+    ensures defined { IfSome result (IsDefined s.now) }
+{
+    if goes_to_other(s, a, b) {
+        id_in(b)
+    } else {
+        None
+    }
+}
+
+/// Where the left operand of `==` or `!=` goes, or the right one.
+fn equal_target(s: &TypeStore, a: &Ty, b: &Ty, is_left: bool) -> Option<TypeId>
+    requires first { IsDefinedTy s.now a.now }
+    requires second { IsDefinedTy s.now b.now }
+    ensures value { (f : Store) → IsLater s.now f → result ≡ equal_target_of f a.now b.now is_left }
     ensures defined { IfSome result (IsDefined s.now) }
 {
     match common_type(s, a, b) {
         Some(c) => Some(c),
         None => {
-            if goes_to_other(s, a, b) {
-                id_in(b)
+            if is_left {
+                other_target(s, a, b)
             } else {
-                None
+                other_target(s, b, a)
             }
         }
     }
@@ -84,20 +98,17 @@ pub(crate) fn target(
 {
     let _law = s.declarations();
     let node = t.node;
-    let a = seen_at(t.kids, 0);
-    let b = seen_at(t.kids, 1);
+    let a = operand(s, t, 0);
+    let b = operand(s, t, 1);
     match node.kind {
         Kind::Arith | Kind::Less => Ok(common_type(s, &a, &b)),
-        Kind::Equal => {
-            if i == 0 {
-                Ok(equal_target(s, &a, &b))
-            } else {
-                Ok(equal_target(s, &b, &a))
-            }
-        }
+        Kind::Equal => Ok(equal_target(s, &a, &b, i == 0)),
         Kind::Shift => {
             if i == 0 && !are_iconsts(&a, &b) {
-                default_in(s, &type_at(t.kids, 0))
+                {
+                    let own = written(s, t, 0);
+                    default_in(s, &own)
+                }
             } else {
                 Ok(None)
             }
@@ -111,7 +122,7 @@ pub(crate) fn target(
         }
         Kind::Cast => {
             if i == 0 {
-                Ok(id_in(&type_at(t.kids, 1)))
+                Ok(id_in(&written(s, t, 1)))
             } else {
                 Ok(None)
             }

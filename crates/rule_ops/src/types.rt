@@ -1,6 +1,6 @@
 //! The types of nodes that meet their rows.
 
-ghost use Rattle.std.specs.Prelude.{◌≡◌, true, None, Some, IfOk, IfSome};
+ghost use Rattle.std.specs.Prelude.{◌≡◌, true, None, Some, IfOk, IfSome, is_some};
 ghost use Rattle.hare_types.specs.Store.{Store};
 ghost use Rattle.hare_types.specs.Later.{IsLater};
 ghost use Rattle.hare_rules.specs.Operators as spec;
@@ -11,14 +11,15 @@ ghost use Rattle.rule_judge.specs.Defined.{IsDefinedTy};
 ghost use Rattle.rule_judge.specs.Grown.{IsGrown};
 ghost use Rattle.rule_judge.specs.Turns.{context_in, kind_in, IsTurn};
 ghost use Rattle.rule_ops.specs.Kinds.{is_operator};
-ghost use Rattle.rule_ops.specs.Typed.{text_in, exact_type_of, arith_type_of, shift_type_of};
+ghost use Rattle.rule_ops.specs.Typed.{text_in, exact_type_of, arith_type_of, shift_type_of, has_shift_type};
 
 use crate::common::{are_iconsts, common_type};
 use crate::exact::{exact_of, unary};
 use crate::numbers::number_type;
+use crate::operands::{operand, written};
 use hare_tree::Kind;
 use hare_types::{Scalar, Ty, TypeStore};
-use rule_judge::{Turn, default_in, seen_at, type_at, word};
+use rule_judge::{Turn, default_in, word};
 use std::alloc::AllocError;
 
 /// The type of `-` or `~`: a whole number without a suffix gives another, and any other operand its own type.
@@ -36,7 +37,8 @@ fn unary_type(k: Kind, a: &Ty) -> Option<Ty>
 
 /// The type of an operator on two whole numbers without a suffix.
 fn exact_type(t: &Turn<'_>, a: &Ty, b: &Ty) -> Option<Ty>
-    ensures { result ≡ exact_type_of (kind_in t.now) (text_in t.now) a.now b.now }
+    ensures value { result ≡ exact_type_of (kind_in t.now) (text_in t.now) a.now b.now }
+    ensures defined { (f : Store) → IfSome result (IsDefinedTy f) }
 {
     let node = t.node;
     match exact_of(node.kind, node.text.bytes(), a, b) {
@@ -65,6 +67,7 @@ fn arith_type(s: &TypeStore, t: &Turn<'_>, a: &Ty, b: &Ty) -> Option<Ty>
 fn shift_type(s: &mut TypeStore, t: &Turn<'_>, a: &Ty, b: &Ty) -> Result<Option<Ty>, AllocError>
     requires { IsDefinedTy s.old a.now }
     ensures value { IfOk result (λ o. (f : Store) → IsLater s.new f → o ≡ shift_type_of f (kind_in t.now) (text_in t.now) a.now b.now) }
+    ensures there { IfOk result (λ o. is_some o ≡ has_shift_type (kind_in t.now) (text_in t.now) a.now b.now) }
     ensures defined { IfOk result (λ o. IfSome o (IsDefinedTy s.new)) }
     ensures grown { IsGrown s.old s.new }
 {
@@ -98,8 +101,8 @@ pub(crate) fn own_type(s: &mut TypeStore, t: &Turn<'_>) -> Result<Ty, AllocError
 {
     let _law = s.declarations();
     let node = t.node;
-    let a = seen_at(t.kids, 0);
-    let b = seen_at(t.kids, 1);
+    let a = operand(s, t, 0);
+    let b = operand(s, t, 1);
     match node.kind {
         Kind::Number => number_type(s, node.suffix, node.number),
         Kind::Str => word_type(s, Scalar::Str),
@@ -115,7 +118,7 @@ pub(crate) fn own_type(s: &mut TypeStore, t: &Turn<'_>) -> Result<Ty, AllocError
             let shifted = shift_type(s, t, &a, &b)?;
             Ok(shifted.unwrap())
         }
-        Kind::Cast => Ok(type_at(t.kids, 1)),
+        Kind::Cast => Ok(written(s, t, 1)),
         _ => unreachable!(),
     }
 }

@@ -1,5 +1,4 @@
-use Rattle.std.proofs.Common.{◌≡◌, Some, sym, ◌∙◌}
-use Rattle.hare_types.specs.ByIds.{base_at}
+use Rattle.std.proofs.Common.{sym, ◌∙◌}
 use Rattle.hare_typed.proofs.GivenLemmas.{base_within}
 use Rattle.rule_judge.proofs.BaseLemmas.{base_row_is, base_there, base_held}
 use Rattle.rule_judge.proofs.bases.base_row.Goals as goal

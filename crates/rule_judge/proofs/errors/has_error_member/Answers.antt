@@ -1,4 +1,4 @@
-use Rattle.std.proofs.Common.{◌≡◌, ℕ, List, sym, subst}
+use Rattle.std.proofs.Common.{ℕ, sym, subst}
 use Rattle.std.specs.Prelude.{Contains}
 use Rattle.rule_judge.specs.Defined.{IsDefined, HoldsDefined}
 use Rattle.rule_judge.proofs.MemberLemmas.{held_member}

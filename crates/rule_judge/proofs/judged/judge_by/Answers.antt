@@ -1,6 +1,5 @@
 use Rattle.std.proofs.Common.{ap, refl, sym, ◌∙◌, ◌++◌, subst}
 use Rattle.hare_tree.specs.Node.{head}
-use Rattle.hare_types.specs.Store.{Store}
 use Rattle.hare_types.proofs.LaterLemmas.{later_trans}
 use Rattle.hare_rules.specs.Judged.{IsRefusal, yield_coercions}
 use Rattle.hare_rules.specs.Control.{block_values}

@@ -26,9 +26,9 @@ loop-i-preserved g c =
       grown = grown_trans c.args.s.now now new c.loop-i.invariant.grown c.kid_coercion.ensures.grown;
       defined =
           elim c.match-branch-2.branch [
-            in-Some+in_ok-push w ↦
-              subst (AreDefinedCoercions new) (sym (w.coercions-is ∙ w.in_ok-push.ensures.ok))
-              (coercions_push new c.loop-i.coercions w.in-Some.r kept (some_defined new c.in_ok-r.field-0 w.in-Some.r c.in_ok-r.ensures.defined w.in-Some.is))
+            | in-Some+in_ok-push w ↦
+                subst (AreDefinedCoercions new) (sym (w.coercions-is ∙ w.in_ok-push.ensures.ok))
+                (coercions_push new c.loop-i.coercions w.in-Some.r kept (some_defined new c.in_ok-r.field-0 w.in-Some.r c.in_ok-r.ensures.defined w.in-Some.is))
             | in_default w ↦ subst (AreDefinedCoercions new) (sym w.coercions-is) kept
           ];
       rest = λ f l.
@@ -37,12 +37,12 @@ loop-i-preserved g c =
           let before = c.loop-i.invariant.rest f (later_trans now new f later l) in
           let is = c.in_ok-r.ensures.value f l in
           elim c.match-branch-2.branch [
-            in-Some+in_ok-push w ↦
-              put_listed c.loop-i.coercions c.match-branch-2.coercions w.in-Some.r _ _ _ before (listed_next x c.loop-i.i h w.in-Some.r (sym w.in-Some.is ∙ is))
-              (w.coercions-is ∙ w.in_ok-push.ensures.ok)
+            | in-Some+in_ok-push w ↦
+                put_listed c.loop-i.coercions c.match-branch-2.coercions w.in-Some.r _ _ _ before (listed_next x c.loop-i.i h w.in-Some.r (sym w.in-Some.is ∙ is))
+                (w.coercions-is ∙ w.in_ok-push.ensures.ok)
             | in_default w ↦
-              before ∙ ap (λ cs. c.loop-i.coercions ++ cs) (skipped x c.loop-i.i h (no_coercion c.in_ok-r.field-0 w.in_default.not-Some ∙ is))
-              ∙ ap (λ cs. cs ++ coercions_from x (c.loop-i.i + 1) (drop (c.loop-i.i + 1) x.kids)) (sym w.coercions-is)
+                before ∙ ap (λ cs. c.loop-i.coercions ++ cs) (skipped x c.loop-i.i h (no_coercion c.in_ok-r.field-0 w.in_default.not-Some ∙ is))
+                ∙ ap (λ cs. cs ++ coercions_from x (c.loop-i.i + 1) (drop (c.loop-i.i + 1) x.kids)) (sym w.coercions-is)
           ];
     }
 

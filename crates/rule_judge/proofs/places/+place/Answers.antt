@@ -2,7 +2,7 @@ use Rattle.std.proofs.Common.{◌<◌, sym, ap, ◌∙◌, arith}
 use Rattle.hare_typed.specs.Typed.{typed_nodes, size_of, sizes_of}
 use Rattle.hare_typed.proofs.KidLemmas.{kid_size}
 use Rattle.hare_rules.specs.Places.{is_first_place}
-use Rattle.rule_judge.specs.Settings.{setting_of, entries}
+use Rattle.rule_judge.specs.Settings.{setting_of}
 use Rattle.rule_judge.proofs.KidLemmas.{kid_defined, first_is}
 use Rattle.rule_judge.proofs.places.+place.Goals as goal
 
@@ -13,4 +13,4 @@ is_first_place-is_place-requires t c =
 
 pub is_first_place-returns-in-Some : goal.is_first_place-returns-in-Some
 is_first_place-returns-in-Some t c f l =
-    c.is_place.ensures f l ∙ sym (ap (λ xs. is_first_place (setting_of f c.args.decls.now)  (typed_nodes xs)) (first_is c.args.trees.now c.in-Some.tree.now c.in-Some.ensures.found).1)
+    c.is_place.ensures f l ∙ sym (ap (λ xs. is_first_place (setting_of f c.args.decls.now) (typed_nodes xs)) (first_is c.args.trees.now c.in-Some.tree.now c.in-Some.ensures.found).1)

@@ -1,6 +1,6 @@
 use Rattle.std.proofs.Common.{sym, subst}
 use Rattle.std.proofs.lemmas.Result.{IfOk-weaker}
-use Rattle.std.specs.Prelude.{ℕ, List, Contains}
+use Rattle.std.specs.Prelude.{ℕ, Contains}
 use Rattle.hare_types.specs.Rows.{AreMembers}
 use Rattle.hare_types.proofs.LaterLemmas.{later_trans}
 use Rattle.rule_judge.specs.Defined.{IsDefined}

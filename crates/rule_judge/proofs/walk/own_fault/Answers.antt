@@ -1,9 +1,9 @@
-use Rattle.std.proofs.Common.{◌≡◌, true, get_or, ap, sym, ◌∙◌}
+use Rattle.std.proofs.Common.{◌≡◌, get_or, ap, sym, ◌∙◌}
 use Rattle.hare_types.proofs.LaterLemmas.{later_trans}
 use Rattle.hare_rules.specs.declared.row_id.RowId.TheVariants as row
 use Rattle.hare_tree.specs.Node.{head}
 use Rattle.hare_rules.specs.Table.{rows_of}
-use Rattle.rule_judge.specs.Asked.{are_asked, own_failing}
+use Rattle.rule_judge.specs.Asked.{are_asked}
 use Rattle.rule_judge.specs.Turns.{context_in, kind_in}
 use Rattle.rule_judge.proofs.TurnLemmas.{grown_here, grown_trans, turn_stays}
 use Rattle.rule_judge.proofs.WalkLemmas.{failing, left, asked_here, asked_next, no_place, at_site, at_met, at_failed, no_fault}

@@ -17,8 +17,8 @@ pub returns-clause-value : goal.returns-clause-value
 returns-clause-value c =
     on_ok_weaker c.put_yields.result
     (λ h f l.
-        let w = c.args.t.now.case.now in
-        let o = joined_target f w.hint (block_values (context_in f c.args.t.now)) in
-        h f l ∙ ap (λ p. c.args.coercions.now ++ map (λ y. to_type f y.ty p) w.yields) (c.in_ok-to.ensures.value f l)
-        ∙ ap (λ rs. c.args.coercions.now ++ rs) (sym (unhinted f w.hint o w.yields (sym c.if-is_type_hint.ensures))))
+    let w = c.args.t.now.case.now in
+    let o = joined_target f w.hint (block_values (context_in f c.args.t.now)) in
+    h f l ∙ ap (λ p. c.args.coercions.now ++ map (λ y. to_type f y.ty p) w.yields) (c.in_ok-to.ensures.value f l)
+    ∙ ap (λ rs. c.args.coercions.now ++ rs) (sym (unhinted f w.hint o w.yields (sym c.if-is_type_hint.ensures))))
     c.put_yields.ensures.value

@@ -1,10 +1,8 @@
-use Rattle.std.proofs.Common.{◌<◌, false, not, length, sym, ap, ◌∙◌, subst, arith}
-use Rattle.std.specs.List.{list_any}
+use Rattle.std.proofs.Common.{◌<◌, not, length, sym, ap, ◌∙◌, subst, arith}
 use Rattle.hare_rules.specs.Words.{is_never}
-use Rattle.hare_rules.specs.Context.{own_type}
 use Rattle.hare_types.specs.Assign.{IsIn}
 use Rattle.rule_judge.proofs.DefinedLemmas.{in_store}
-use Rattle.rule_judge.proofs.KidLemmas.{own_defined, never_here, never_next, drop_past}
+use Rattle.rule_judge.proofs.KidLemmas.{own_defined, never_here, never_next}
 use Rattle.rule_judge.proofs.yields.is_open.Goals as goal
 
 pub is_never-requires : goal.is_never-requires

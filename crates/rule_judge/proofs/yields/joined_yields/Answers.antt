@@ -10,8 +10,8 @@ pub returns-in-Some-clause-value : goal.returns-in-Some-clause-value
 returns-in-Some-clause-value c =
     IfOk-weaker c.default_in.result _ _
     (λ o h f l.
-        joined_some f (context_in f c.args.t.now) c.args.t.now.case.now.yields refl c.in-Some.a o
-        (c.in-Some.ensures.value f (later_trans c.args.s.now c.default_in.new.s f c.default_in.ensures.grown.later l)) (h f l))
+    joined_some f (context_in f c.args.t.now) c.args.t.now.case.now.yields refl c.in-Some.a o
+    (c.in-Some.ensures.value f (later_trans c.args.s.now c.default_in.new.s f c.default_in.ensures.grown.later l)) (h f l))
     c.default_in.ensures.value
 
 pub returns-in_ok-word-in-None-clause-value : goal.returns-in_ok-word-in-None-clause-value

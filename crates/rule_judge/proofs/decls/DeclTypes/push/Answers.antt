@@ -1,4 +1,4 @@
-use Rattle.std.proofs.Common.{ℕ, cond, nat_eq, Some, sym, ap, ◌∙◌, subst}
+use Rattle.std.proofs.Common.{cond, nat_eq, Some, sym, ap, ◌∙◌, subst}
 use Rattle.std.specs.Map.{lookup}
 use Rattle.rule_judge.specs.Decls.{AreFirst}
 use Rattle.rule_judge.proofs.DeclLemmas.{first-there, first-new, none_there}

@@ -20,7 +20,7 @@ use std::alloc::Global;
 ///
 /// The node is shaped and has these kids, which have been judged; each type that stands in them or in `c` is in the store, and mentions no name
 /// that is not defined.
-pub fn judge_operator(
+pub fn judge(
     alloc: Global,
     s: &mut TypeStore,
     decls: &DeclTypes,

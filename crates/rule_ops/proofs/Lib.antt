@@ -1,0 +1,4 @@
+pub mod OperandLemmas
+pub mod SignLemmas
+pub mod TargetLemmas
+pub mod TypeLemmas
