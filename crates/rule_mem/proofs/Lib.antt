@@ -1,0 +1,17 @@
+pub mod TurnLemmas
+pub mod WalkLemmas
+pub mod NameLemmas
+pub mod KidLemmas
+pub mod DefinedLemmas
+pub mod DeclLemmas
+pub mod BaseLemmas
+pub mod HeldLemmas
+pub mod BoolLemmas
+pub mod HintLemmas
+pub mod MemberLemmas
+pub mod SpellingLemmas
+pub mod ExtentLemmas
+pub mod ReachLemmas
+pub mod FillLemmas
+pub mod ListLemmas
+pub mod DeleteLemmas

@@ -1,0 +1,12 @@
+pub mod Decls
+pub mod Answers
+pub mod Defined
+pub mod Settings
+pub mod Turns
+pub mod Grown
+pub mod Asked
+pub mod Members
+pub mod Named
+pub mod Filled
+pub mod Asking
+pub mod Meant

@@ -1,0 +1,26 @@
+//! The typing rules of places, aggregates and the heap.
+#![tactic(auto)]
+
+mod arrays;
+mod bases;
+mod decls;
+mod deletes;
+mod defaults;
+mod errors;
+mod made;
+mod paths;
+mod places;
+mod rules;
+mod told;
+mod tuples;
+mod turn;
+mod unions;
+
+mod fill;
+mod hints;
+mod ids;
+mod members;
+mod reached;
+mod reads;
+mod rows;
+mod turns;
