@@ -5,6 +5,7 @@ use Rattle.std.specs.List.{cons_option}
 use Rattle.std.proofs.lemmas.Option.{slice_get-get_or, slice_get_within}
 use Rattle.hare_types.specs.declared.coercion.Ty.{Ty}
 use Rattle.hare_types.specs.declared.coercion.Ty.TheVariants as ty
+use Rattle.hare_types.specs.declared.coercion.Coercion.{Coercion}
 use Rattle.hare_types.specs.declared.lists.Field.{Field}
 use Rattle.hare_types.specs.declared.row.Row.{Row}
 use Rattle.hare_types.specs.declared.row.Row.TheVariants as row
@@ -20,7 +21,7 @@ use Rattle.hare_typed.specs.Typed.{TypedNode, TypedNodes, marked, typed_none, ty
 use Rattle.hare_rules.specs.declared.hint.Hint.{Hint}
 use Rattle.hare_rules.specs.declared.hint.Hint.TheVariants as hint
 use Rattle.hare_rules.specs.declared.judged.Yielded.{Yielded}
-use Rattle.rule_mem.specs.Defined.{made_of, Mentions, itself, through, IsDefined, IsDefinedTy, IsDefinedHint, AreDefinedYields, IsDefinedTree, AreDefinedTrees, HoldsDefined}
+use Rattle.rule_mem.specs.Defined.{made_of, Mentions, itself, through, IsDefined, IsDefinedTy, IsDefinedHint, AreDefinedYields, IsDefinedTree, AreDefinedTrees, HoldsDefined, AreDefinedCoercions}
 
 -- ---- parts
 
@@ -208,3 +209,7 @@ made_defined now new v l r t e held unnamed =
     defined_by_row new t r e
     (λ i c. defined_stays now new v l i (held i (subst (λ is. Contains is i) (unnamed_made now new r unnamed) c)))
     (λ d h. absurd (unnamed d h))
+
+pub coercions_stay : (now later : Store) → IsStore now → IsLater now later → (rs : List Coercion) → AreDefinedCoercions now rs → AreDefinedCoercions later rs
+coercions_stay now later v l [] h = tt
+coercions_stay now later v l (r ∷ rs) h = (ty_stays now later v l r.to h.0, coercions_stay now later v l rs h.1)

@@ -1,11 +1,16 @@
 -- Kids by their places.
-use Rattle.std.proofs.Common.{◌≡◌, ℕ, zero, suc, ◌+◌, ◌<◌, ◌≤◌, Bool, true, false, ◌||◌, List, [], ◌∷◌, length, drop, Some, refl, ap, subst, sym, ◌∙◌, arith, add-one}
-use Rattle.std.specs.Prelude.{slice_get}
+use Rattle.std.proofs.Common.{◌≡◌, ℕ, zero, suc, ◌+◌, ◌<◌, ◌≤◌, Bool, true, false, ◌||◌, cond, List, [], ◌∷◌, ◌++◌, length, drop, Option, Some, None, refl, ap, ap₂, append_assoc, subst, sym, ◌∙◌, arith, add-one}
+use Rattle.std.specs.Prelude.{slice_get, IfSome}
 use Rattle.std.specs.List.{list_any}
 use Rattle.hare_types.specs.Store.{Store}
 use Rattle.hare_typed.specs.Given.{given}
 use Rattle.hare_typed.specs.Typed.{TypedNode, marked, typed_nodes}
-use Rattle.hare_rules.specs.Context.{own_type}
+use Rattle.hare_types.specs.declared.coercion.Ty.{Ty}
+use Rattle.hare_types.specs.declared.coercion.Coercion.{Coercion}
+use Rattle.hare_rules.specs.Context.{Context, store_of, kid, own_type}
+use Rattle.hare_rules.specs.Settles.{to_type, target_of, kid_coercion}
+use Rattle.hare_rules.specs.Judged.{was_hinted, unless, coercions_from}
+use Rattle.rule_mem.specs.Asked.{listed}
 use Rattle.hare_rules.specs.Words.{is_never}
 use Rattle.hare_typed.specs.Order.{missing, tree_from_front}
 use Rattle.rule_mem.specs.Defined.{IsDefinedTy, IsDefinedTree, AreDefinedTrees}
@@ -69,3 +74,47 @@ drop_past [] zero h = refl
 drop_past [] (suc i) h = refl
 drop_past (x ∷ xs) zero h = absurd (omega arith)
 drop_past (x ∷ xs) (suc i) h = drop_past xs i (omega arith)
+
+-- ---- coercions
+
+pub listed_is : (c : Context) (i : ℕ) (a : Ty) (o : Option ℕ) (r : Coercion) → was_hinted c i ≡ false → r ≡ to_type (store_of c) a o → a ≡ own_type (kid c i)
+    → o ≡ target_of c c.head.kind i → Some r ≡ listed c i
+listed_is c i a o r h e own to =
+    ap Some (e ∙ ap₂ (to_type (store_of c)) own to) ∙ sym (ap (λ b. cond b None (Some (kid_coercion c i))) h)
+
+module _ (c : Context) (i : ℕ) (h : i < length c.kids) where
+  rest : coercions_from c i (drop i c.kids) ≡ unless (was_hinted c i) (kid_coercion c i) ++ coercions_from c (suc i) (drop (i + 1) c.kids)
+  rest = ap (coercions_from c i) (drop_front c.kids i h)
+
+  -- nothing is listed of a kid that was asked for a type
+  pub skipped : None ≡ listed c i → coercions_from c i (drop i c.kids) ≡ coercions_from c (i + 1) (drop (i + 1) c.kids)
+  skipped e =
+      let next : suc i ≡ i + 1 = omega arith in
+      rest ∙ by (was_hinted c i) e ∙ ap (λ n. coercions_from c n (drop (i + 1) c.kids)) next
+    where
+      by : (b : Bool) → None ≡ cond b None (Some (kid_coercion c i))
+          → unless b (kid_coercion c i) ++ coercions_from c (suc i) (drop (i + 1) c.kids) ≡ coercions_from c (suc i) (drop (i + 1) c.kids)
+      by true g = refl
+      by false g = absurd cc
+
+  pub listed_next : (r : Coercion) → Some r ≡ listed c i → coercions_from c i (drop i c.kids) ≡ r ∷ coercions_from c (i + 1) (drop (i + 1) c.kids)
+  listed_next r e =
+      let next : suc i ≡ i + 1 = omega arith in
+      rest ∙ by (was_hinted c i) e ∙ ap (λ n. r ∷ coercions_from c n (drop (i + 1) c.kids)) next
+    where
+      by : (b : Bool) → Some r ≡ cond b None (Some (kid_coercion c i))
+          → unless b (kid_coercion c i) ++ coercions_from c (suc i) (drop (i + 1) c.kids) ≡ r ∷ coercions_from c (suc i) (drop (i + 1) c.kids)
+      by true g = absurd cc
+      by false g = let same : kid_coercion c i ≡ r = cc in ap (λ q. q ∷ coercions_from c (suc i) (drop (i + 1) c.kids)) same
+
+pub put_listed : (done new : List Coercion) (r : Coercion) (all rest next : List Coercion) → all ≡ done ++ rest → rest ≡ r ∷ next → new ≡ done ++ r ∷ [] → all ≡ new ++ next
+put_listed done new r all left next e g k =
+    e ∙ ap (λ xs. done ++ xs) g ∙ sym (append_assoc done (r ∷ []) next) ∙ sym (ap (λ xs. xs ++ next) k)
+
+pub some_defined : (s : Store) (o : Option Coercion) (r : Coercion) → IfSome o (λ q. IsDefinedTy s q.to) → o ≡ Some r → IsDefinedTy s r.to
+some_defined s None r h e = absurd cc
+some_defined s (Some q) r h e = let same : q ≡ r = cc in subst (λ x. IsDefinedTy s x.to) same h
+
+pub no_coercion : (o : Option Coercion) → ((r : Coercion) → ¬ (o ≡ Some r)) → None ≡ o
+no_coercion None h = refl
+no_coercion (Some r) h = absurd (h r refl)

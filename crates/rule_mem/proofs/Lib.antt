@@ -1,3 +1,4 @@
+pub mod YieldLemmas
 pub mod TurnLemmas
 pub mod WalkLemmas
 pub mod NameLemmas
@@ -15,3 +16,8 @@ pub mod ReachLemmas
 pub mod FillLemmas
 pub mod ListLemmas
 pub mod DeleteLemmas
+pub mod IdsLemmas
+pub mod TupleLemmas
+pub mod ArrayLemmas
+pub mod StructLemmas
+pub mod PathLemmas

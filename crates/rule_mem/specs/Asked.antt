@@ -4,6 +4,7 @@ use Rattle.hare_tree.specs.declared.kind.Kind.{Kind}
 use Rattle.hare_tree.specs.declared.place.Place.{Place}
 use Rattle.hare_tree.specs.declared.place.Fault.{Fault}
 use Rattle.hare_types.specs.declared.coercion.Ty.{Ty}
+use Rattle.hare_types.specs.declared.coercion.Coercion.{Coercion}
 use Rattle.hare_types.specs.Store.{Store}
 use Rattle.hare_typed.specs.Typed.{typed_nodes}
 use Rattle.hare_typed.specs.Erased.{erase, erase_each}
@@ -13,7 +14,8 @@ use Rattle.hare_rules.specs.declared.row_id.RowId.{RowId}
 use Rattle.hare_rules.specs.declared.row_id.RowId.TheVariants as row
 use Rattle.hare_rules.specs.Context.{Context, kid}
 use Rattle.hare_rules.specs.Above.{hint_of}
-use Rattle.hare_rules.specs.Judged.{is_type_hint}
+use Rattle.hare_rules.specs.Judged.{is_type_hint, was_hinted}
+use Rattle.hare_rules.specs.Settles.{kid_coercion}
 use Rattle.hare_rules.specs.Table.{rows_of}
 use Rattle.hare_rules.specs.Rows.{holds, stands, is_site, fault_of, fits_hint, may_drop}
 
@@ -57,3 +59,7 @@ abbrev pub asks_type : Context → ℕ → Bool
 asks_type c i =
     is_type_hint
     (hint_of c.setting c.head c.hint hint.None c.inside.labels c.inside.result (take i c.kids) (erase (kid c i)) (erase_each (typed_nodes (drop (suc i) c.kids))) c.head.kind)
+
+-- the coercion of kid number i, where it was given no hint of a type
+abbrev pub listed : Context → ℕ → Option Coercion
+listed c i = cond (was_hinted c i) None (Some (kid_coercion c i))

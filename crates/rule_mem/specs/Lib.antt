@@ -1,3 +1,4 @@
+pub mod Yields
 pub mod Decls
 pub mod Answers
 pub mod Defined

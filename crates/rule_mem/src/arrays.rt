@@ -15,10 +15,8 @@ use crate::errors::has_size;
 use crate::hints::{hinted_element, hinted_length};
 use crate::ids::is_small;
 use crate::made::array_of;
-use crate::told::kind_at;
 use crate::turn::Turn;
-use crate::turns::own;
-use hare_tree::Kind;
+use crate::turns::{is_there, own};
 use hare_types::{TypeId, TypeStore};
 use std::alloc::AllocError;
 
@@ -34,7 +32,10 @@ fn has_dots(t: &Turn<'_>) -> bool
     ensures { result ≡ spec.there (spec.last_of (spec.but_last t.now.kids.now)) }
 {
     let count = t.kids.len();
-    count >= 2 && kind_at(t.kids, count - 2) != Kind::None
+    if count < 2 {
+        return false;
+    }
+    is_there(t.kids, count - 2)
 }
 
 /// Whether a hint gives the element.
@@ -51,7 +52,13 @@ pub(crate) fn has_first_default(s: &TypeStore, t: &Turn<'_>) -> bool
     requires { IsTurn s.now t.now }
     ensures { (f : Store) → IsLater s.now f → result ≡ holds row.ArrayFirstDefault (context_in f t.now) }
 {
-    is_hinted(s, t) || item_count(t) == 0 || has_default(&own(t, 0))
+    if is_hinted(s, t) {
+        return true;
+    }
+    if item_count(t) == 0 {
+        return true;
+    }
+    has_default(&own(t, 0))
 }
 
 /// Whether the hint is an array of at least as many elements as there are items, where `...` stands behind them.
@@ -99,7 +106,9 @@ pub(crate) fn item_type(s: &mut TypeStore, t: &Turn<'_>) -> Result<Option<TypeId
     if item_count(t) == 0 {
         return Ok(None);
     }
-    default_in(s, &own(t, 0))
+    let first = own(t, 0);
+    let d = default_in(s, &first)?;
+    Ok(d)
 }
 
 /// Whether the element has a size.

@@ -1,27 +1,26 @@
 //! What paths mean.
 
-ghost use Rattle.std.specs.Prelude.{◌≡◌, Some, IfOk};
+ghost use Rattle.std.specs.Prelude.{◌≡◌, Some, IfOk, map, slice_get};
 ghost use Rattle.hare_types.specs.Store.{Store};
 ghost use Rattle.hare_types.specs.Later.{IsLater};
 ghost use Rattle.hare_types.specs.Unions.{id_of};
 ghost use Rattle.hare_types.specs.declared.row.Row.TheVariants.{Named};
+ghost use Rattle.hare_tree.specs.declared.token.Meaning.TheVariants as means;
+ghost use Rattle.hare_rules.specs.Context.{declaration, known_local, Known};
 ghost use Rattle.hare_rules.specs.Operators as spec;
 ghost use Rattle.hare_rules.specs.Words as words;
 ghost use Rattle.rule_mem.specs.Defined.{IsDefined, IsDefinedTy, IsDefinedName};
 ghost use Rattle.rule_mem.specs.Grown.{IsGrown};
-ghost use Rattle.rule_mem.specs.Meant.{IsMeant};
+ghost use Rattle.rule_mem.specs.Meant.{IsMeant, IsKnownDecl};
 ghost use Rattle.rule_mem.specs.Settings.{setting_of};
-ghost use Rattle.rule_mem.specs.Turns.{context_in};
 
 use crate::bases::base_row;
 use crate::decls::DeclTypes;
 use crate::turn::Turn;
+use hare_rules::Locals;
 use hare_tree::{Kind, Meaning};
 use hare_types::{Row, Scalar, Ty, TypeId, TypeStore};
 use std::alloc::AllocError;
-
-/// The number of the declaration of `rt::nomem`.
-const NOMEM: u32 = 4_294_967_295;
 
 /// The type of the declaration with this number.
 fn named(s: &mut TypeStore, n: u32) -> Result<TypeId, AllocError>
@@ -31,7 +30,8 @@ fn named(s: &mut TypeStore, n: u32) -> Result<TypeId, AllocError>
     ensures grown { IsGrown s.old s.new }
 {
     let _law = s.declarations();
-    s.intern(Row::Named(n))
+    let u = s.intern(Row::Named(n))?;
+    Ok(u)
 }
 
 /// Whether the declared type with this number has `void` as its base.
@@ -45,4 +45,72 @@ fn names_void(s: &mut TypeStore, n: u32) -> Result<bool, AllocError>
         base_row(s, &Ty::Of(u)),
         Some(Row::Scalar(Scalar::Void))
     ))
+}
+
+/// Whether the declaration with this number is a value, or a type whose one value is written by its name.
+fn declares_value(s: &mut TypeStore, decls: &DeclTypes, n: u32) -> Result<bool, AllocError>
+    requires known { IsKnownDecl s.old n (declaration (setting_of s.old decls.now) n) }
+    requires nomem { IsDefinedName s.old words.nomem }
+    ensures value { IfOk result (λ b. (f : Store) → IsLater s.new f → b ≡ spec.names_value (setting_of f decls.now) (means.Decl n)) }
+    ensures grown { IsGrown s.old s.new }
+{
+    let _law = s.declarations();
+    match decls.find(n) {
+        Some(d) => match d.kind {
+            Kind::Def | Kind::GlobalLet | Kind::GlobalConst => Ok(true),
+            Kind::TypeDecl => names_void(s, n),
+            _ => Ok(false),
+        },
+        None => names_void(s, n),
+    }
+}
+
+/// Whether what a path means is a value.
+pub(crate) fn names_value(s: &mut TypeStore, t: &Turn<'_>) -> Result<bool, AllocError>
+    requires meant { IsMeant s.old t.now.decls.now t.now.locals.now t.now.case.now.meaning }
+    requires nomem { IsDefinedName s.old words.nomem }
+    ensures value { IfOk result (λ b. (f : Store) → IsLater s.new f → b ≡ spec.names_value (setting_of f t.now.decls.now) t.now.case.now.meaning) }
+    ensures grown { IsGrown s.old s.new }
+{
+    let _law = s.declarations();
+    let case = t.case;
+    match case.meaning {
+        Meaning::Local(_) => Ok(true),
+        Meaning::Decl(n) => declares_value(s, t.decls, n),
+        Meaning::Rt(_) | Meaning::None => Ok(false),
+    }
+}
+
+/// The type of the local with this number.
+fn local_type(locals: &Locals, n: u32) -> Option<Ty>
+    ensures { result ≡ spec.type_of_local (known_local (slice_get (map Known locals.now) n)) }
+{
+    match locals.get(n as usize) {
+        Some(l) => Some(Ty::Of(l.ty)),
+        None => None,
+    }
+}
+
+/// The type of the value that the declaration with this number has.
+fn declared_type(s: &mut TypeStore, decls: &DeclTypes, n: u32) -> Result<Ty, AllocError>
+    requires known { IsKnownDecl s.old n (declaration (setting_of s.old decls.now) n) }
+    requires nomem { IsDefinedName s.old words.nomem }
+    ensures value { IfOk result (λ a. (f : Store) → IsLater s.new f → spec.type_of_declaration (setting_of f decls.now) (declaration (setting_of f decls.now) n) n ≡ Some a) }
+    ensures defined { IfOk result (IsDefinedTy s.new) }
+    ensures grown { IsGrown s.old s.new }
+{
+    let _law = s.declarations();
+    match decls.find(n) {
+        Some(d) => match d.kind {
+            Kind::TypeDecl => {
+                let u = named(s, n)?;
+                Ok(Ty::Of(u))
+            }
+            _ => Ok(Ty::Of(d.ty)),
+        },
+        None => {
+            let u = named(s, n)?;
+            Ok(Ty::Of(u))
+        }
+    }
 }

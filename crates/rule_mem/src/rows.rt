@@ -21,7 +21,7 @@ use crate::places::{is_mutable, is_place};
 use crate::reads::{element, pointee, slice_element};
 use crate::told::kind_at;
 use crate::turn::Turn;
-use crate::turns::seen;
+use crate::turns::{is_there, seen};
 use hare_tree::Kind;
 use hare_types::{Row, Scalar, TypeId, TypeStore};
 
@@ -77,7 +77,7 @@ fn is_slice(s: &TypeStore, t: &Turn<'_>) -> bool
 pub(crate) fn has_capacity(t: &Turn<'_>) -> bool
     ensures { (f : Store) → result ≡ spec.has_capacity (context_in f t.now) }
 {
-    kind_at(t.kids, 1) != Kind::None
+    is_there(t.kids, 1)
 }
 
 /// Whether an allocation without a capacity has an operand with a default type.

@@ -73,10 +73,11 @@ fn defaults(alloc: Global, s: &mut TypeStore, t: &Turn<'_>) -> Result<Option<Typ
     let _law = s.declarations();
     let mut types = TypeIds::new(alloc);
     for i in 0..t.kids.len().saturating_sub(1) {
-        match default_in(s, &own(t, i))? {
-            Some(d) => types.push(d)?,
-            None => return Ok(None),
-        }
+        let item = own(t, i);
+        let Some(d) = default_in(s, &item)? else {
+            return Ok(None);
+        };
+        types.push(d)?;
     }
     Ok(Some(types))
 }
@@ -94,11 +95,16 @@ pub(crate) fn components(
 {
     let _law = s.declarations();
     let case = t.case;
-    if let Some(types) = hinted_components(s, &case.hint, item_count(t)) {
-        let copy = copied(alloc, types)?;
-        return Ok(Some(copy));
+    match hinted_components(s, &case.hint, item_count(t)) {
+        Some(types) => {
+            let copy = copied(alloc, types)?;
+            Ok(Some(copy))
+        }
+        None => {
+            let own = defaults(alloc, s, t)?;
+            Ok(own)
+        }
     }
-    defaults(alloc, s, t)
 }
 
 /// Whether each component has a size.

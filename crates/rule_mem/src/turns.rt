@@ -4,12 +4,15 @@ ghost use Rattle.std.specs.Prelude.{◌≡◌};
 ghost use Rattle.hare_types.specs.Store.{Store};
 ghost use Rattle.hare_typed.specs.Given.{given};
 ghost use Rattle.hare_typed.specs.Order.{tree_from_front};
+ghost use Rattle.hare_rules.specs.Context as context;
 ghost use Rattle.hare_rules.specs.Context.{own_type};
 ghost use Rattle.rule_mem.specs.Defined.{IsDefinedTy};
 ghost use Rattle.rule_mem.specs.Turns.{IsTurn};
 
-use crate::told::{seen_at, type_at};
+use crate::told::{kind_at, seen_at, type_at};
 use crate::turn::Turn;
+use hare_tree::Kind;
+use hare_typed::TypedKids;
 use hare_types::Ty;
 
 /// The type of what kid `i` gives, as its coercion leaves it.
@@ -26,4 +29,11 @@ pub(crate) fn own(t: &Turn<'_>, i: usize) -> Ty
     ensures defined { (s : Store) → IsTurn s t.now → IsDefinedTy s result }
 {
     type_at(t.kids, i)
+}
+
+/// Whether a kid is not left out.
+pub(crate) fn is_there(kids: &TypedKids, i: usize) -> bool
+    ensures { result ≡ context.is_there (tree_from_front i kids.now) }
+{
+    kind_at(kids, i) != Kind::None
 }

@@ -2,7 +2,7 @@ use Rattle.std.proofs.Common.{ap, sym, ◌∙◌, Some}
 use Rattle.hare_tree.specs.Node.{head}
 use Rattle.hare_types.proofs.LaterLemmas.{later_here}
 use Rattle.rule_mem.specs.Members.{member_of}
-use Rattle.rule_mem.proofs.MemberLemmas.{row_of_base, base_named, field_defined, component_defined}
+use Rattle.rule_mem.proofs.StructLemmas.{row_of_base, base_named, field_defined, component_defined}
 use Rattle.rule_mem.proofs.members.member.Goals as goal
 
 pub field-requires-clause-names : goal.field-requires-clause-names

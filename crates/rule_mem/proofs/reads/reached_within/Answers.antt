@@ -1,6 +1,6 @@
 use Rattle.std.proofs.Common.{◌-◌, sym, ◌∙◌, arith}
 use Rattle.hare_types.proofs.LaterLemmas.{later_here}
-use Rattle.rule_mem.proofs.MemberLemmas.{named_pointee}
+use Rattle.rule_mem.proofs.StructLemmas.{named_pointee}
 use Rattle.rule_mem.proofs.ReachLemmas.{reached_within-stuck, reached_within-more}
 use Rattle.rule_mem.proofs.reads.reached_within.Goals as goal
 
