@@ -1,3 +1,4 @@
+pub mod JudgedLemmas
 pub mod YieldLemmas
 pub mod TurnLemmas
 pub mod WalkLemmas
@@ -21,3 +22,4 @@ pub mod TupleLemmas
 pub mod ArrayLemmas
 pub mod StructLemmas
 pub mod PathLemmas
+pub mod FirstLemmas

@@ -137,3 +137,14 @@ member_type-of c (Some (row.Tuple is)) = refl
 member_type-of c (Some (row.Union is)) = refl
 member_type-of c (Some (row.Error i)) = refl
 member_type-of c (Some (row.Named d)) = refl
+
+-- the fields of the struct that a type comes to
+pub struct_named : (s : Store) (a : Ty) (r : Row) (fs us : List Field) → IsNamedTy s a → Some r ≡ base_row s a → r ≡ row.Struct fs → us ≡ fs → HaveNames s us
+struct_named s (ty.Iconst v) r fs us h e k m = absurd cc
+struct_named s ty.Null r fs us h e k m = absurd cc
+struct_named s ty.Empty r fs us h e k m = absurd cc
+struct_named s (ty.Of t) r fs us h e k m = subst (HaveNames s) (sym m) (by (base_at s t) refl e)
+  where
+    by : (o : Option ℕ) → base_at s t ≡ o → Some r ≡ option_and_then (row_at s) o → HaveNames s fs
+    by None g n = absurd cc
+    by (Some b) g n = base_named s (ty.Of t) t b fs h refl (sym g) (sym n ∙ ap Some k)

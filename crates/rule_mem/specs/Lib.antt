@@ -11,3 +11,5 @@ pub mod Named
 pub mod Filled
 pub mod Asking
 pub mod Meant
+pub mod Kinds
+pub mod Needs

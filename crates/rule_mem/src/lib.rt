@@ -1,12 +1,14 @@
 //! The typing rules of places, aggregates and the heap.
 #![tactic(auto)]
 
+mod allocs;
 mod arrays;
 mod bases;
 mod decls;
 mod deletes;
 mod defaults;
 mod errors;
+mod literals;
 mod made;
 mod paths;
 mod places;
@@ -15,6 +17,7 @@ mod told;
 mod tuples;
 mod turn;
 mod unions;
+mod unmet;
 
 mod fill;
 mod hints;

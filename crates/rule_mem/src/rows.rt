@@ -5,7 +5,6 @@ ghost use Rattle.hare_types.specs.Store.{Store};
 ghost use Rattle.hare_types.specs.Later.{IsLater};
 ghost use Rattle.hare_typed.specs.Given.{given};
 ghost use Rattle.hare_typed.specs.Order.{tree_from_front};
-ghost use Rattle.hare_rules.specs.Aggregates as spec;
 ghost use Rattle.hare_rules.specs.Operators as operators;
 ghost use Rattle.hare_rules.specs.Rows.{holds, first_place, first_mutable};
 ghost use Rattle.hare_rules.specs.declared.row_id.RowId.TheVariants as row;
@@ -14,19 +13,18 @@ ghost use Rattle.rule_mem.specs.Named.{IsNamedTy};
 ghost use Rattle.rule_mem.specs.Turns.{context_in, IsTurn};
 
 use crate::bases::base_row;
-use crate::defaults::has_default;
 use crate::reached::{element_reached, member_reached};
 use crate::errors::has_size;
 use crate::places::{is_mutable, is_place};
-use crate::reads::{element, pointee, slice_element};
+use crate::reads::{pointee, slice_element};
 use crate::told::kind_at;
 use crate::turn::Turn;
-use crate::turns::{is_there, seen};
+use crate::turns::seen;
 use hare_tree::Kind;
 use hare_types::{Row, Scalar, TypeId, TypeStore};
 
 /// Whether what is indexed or sliced is an array or a slice, once pointers are followed.
-fn is_indexable(s: &TypeStore, t: &Turn<'_>) -> bool
+pub(crate) fn is_indexable(s: &TypeStore, t: &Turn<'_>) -> bool
     requires { IsTurn s.now t.now }
     ensures index { (f : Store) → IsLater s.now f → result ≡ holds row.IndexIndexable (context_in f t.now) }
     ensures slice { (f : Store) → IsLater s.now f → result ≡ holds row.SliceIndexable (context_in f t.now) }
@@ -35,7 +33,7 @@ fn is_indexable(s: &TypeStore, t: &Turn<'_>) -> bool
 }
 
 /// Whether the operand has the member that the node names.
-fn has_member(s: &TypeStore, t: &Turn<'_>) -> bool
+pub(crate) fn has_member(s: &TypeStore, t: &Turn<'_>) -> bool
     requires turn { IsTurn s.now t.now }
     requires named { IsNamedTy s.now (given (tree_from_front 0 t.now.kids.now)) }
     ensures { (f : Store) → IsLater s.now f → result ≡ holds row.FieldMember (context_in f t.now) }
@@ -44,7 +42,7 @@ fn has_member(s: &TypeStore, t: &Turn<'_>) -> bool
 }
 
 /// Whether the operand is a pointer or a slice.
-fn is_freeable(s: &TypeStore, t: &Turn<'_>) -> bool
+pub(crate) fn is_freeable(s: &TypeStore, t: &Turn<'_>) -> bool
     requires { IsTurn s.now t.now }
     ensures { (f : Store) → IsLater s.now f → result ≡ holds row.FreeFreeable (context_in f t.now) }
 {
@@ -55,7 +53,7 @@ fn is_freeable(s: &TypeStore, t: &Turn<'_>) -> bool
 }
 
 /// Whether the operand is an array, a slice or a `str`.
-fn is_counted(s: &TypeStore, t: &Turn<'_>) -> bool
+pub(crate) fn is_counted(s: &TypeStore, t: &Turn<'_>) -> bool
     requires { IsTurn s.now t.now }
     ensures { (f : Store) → IsLater s.now f → result ≡ holds row.LenCounted (context_in f t.now) }
 {
@@ -66,51 +64,29 @@ fn is_counted(s: &TypeStore, t: &Turn<'_>) -> bool
 }
 
 /// Whether the operand of `append` is a slice.
-fn is_slice(s: &TypeStore, t: &Turn<'_>) -> bool
+pub(crate) fn is_slice(s: &TypeStore, t: &Turn<'_>) -> bool
     requires { IsTurn s.now t.now }
     ensures { (f : Store) → IsLater s.now f → result ≡ holds row.AppendSequence (context_in f t.now) }
 {
     slice_element(s, &seen(t, 0)).is_some()
 }
 
-/// Whether an allocation has a capacity.
-pub(crate) fn has_capacity(t: &Turn<'_>) -> bool
-    ensures { (f : Store) → result ≡ spec.has_capacity (context_in f t.now) }
-{
-    is_there(t.kids, 1)
-}
-
-/// Whether an allocation without a capacity has an operand with a default type.
-fn has_object(t: &Turn<'_>) -> bool
-    ensures { (f : Store) → result ≡ holds row.AllocDefault (context_in f t.now) }
-{
-    has_capacity(t) || has_default(&seen(t, 0))
-}
-
-/// Whether an allocation with a capacity has an array or a slice as its operand.
-fn has_sequence(s: &TypeStore, t: &Turn<'_>) -> bool
-    requires { IsTurn s.now t.now }
-    ensures { (f : Store) → IsLater s.now f → result ≡ holds row.AllocSequence (context_in f t.now) }
-{
-    !has_capacity(t) || element(s, &seen(t, 0)).is_some()
-}
-
 /// Whether the operand of `delete` is an index or a slice.
-fn is_part(t: &Turn<'_>) -> bool
+pub(crate) fn is_part(t: &Turn<'_>) -> bool
     ensures { (f : Store) → result ≡ holds row.DeleteKind (context_in f t.now) }
 {
     matches!(kind_at(t.kids, 0), Kind::Index | Kind::Slice)
 }
 
 /// Whether the operand of `offset` is a member.
-fn is_member(t: &Turn<'_>) -> bool
+pub(crate) fn is_member(t: &Turn<'_>) -> bool
     ensures { (f : Store) → result ≡ holds row.OffsetKind (context_in f t.now) }
 {
     kind_at(t.kids, 0) == Kind::Field
 }
 
 /// Whether the operand is a pointer to a type with a size.
-fn is_pointed(s: &TypeStore, t: &Turn<'_>) -> bool
+pub(crate) fn is_pointed(s: &TypeStore, t: &Turn<'_>) -> bool
     requires { IsTurn s.now t.now }
     ensures { (f : Store) → IsLater s.now f → result ≡ holds row.DerefPointed (context_in f t.now) }
 {
@@ -136,7 +112,7 @@ pub(crate) fn pointed(s: &TypeStore, t: &Turn<'_>) -> Option<TypeId>
 }
 
 /// Whether the first operand is a place.
-fn is_first_place(s: &TypeStore, t: &Turn<'_>) -> bool
+pub(crate) fn is_first_place(s: &TypeStore, t: &Turn<'_>) -> bool
     requires { IsTurn s.now t.now }
     ensures { (f : Store) → IsLater s.now f → result ≡ first_place (context_in f t.now) }
 {
@@ -147,7 +123,7 @@ fn is_first_place(s: &TypeStore, t: &Turn<'_>) -> bool
 }
 
 /// Whether the first operand is a place that may be assigned to.
-fn is_first_mutable(s: &TypeStore, t: &Turn<'_>) -> bool
+pub(crate) fn is_first_mutable(s: &TypeStore, t: &Turn<'_>) -> bool
     requires { IsTurn s.now t.now }
     ensures { (f : Store) → IsLater s.now f → result ≡ first_mutable (context_in f t.now) }
 {

@@ -1,7 +1,7 @@
 use Rattle.std.proofs.Common.{ap, ◌∙◌}
 use Rattle.hare_rules.specs.Words.{has_default}
 use Rattle.rule_mem.proofs.BoolLemmas.{or_first, or_second}
-use Rattle.rule_mem.proofs.rows.has_object.Goals as goal
+use Rattle.rule_mem.proofs.allocs.has_object.Goals as goal
 
 pub returns-then-has_capacity : goal.returns-then-has_capacity
 returns-then-has_capacity c f = or_first _ _ _ c.if-has_capacity.true (c.has_capacity.ensures f)

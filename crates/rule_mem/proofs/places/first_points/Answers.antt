@@ -1,0 +1,14 @@
+use Rattle.std.proofs.Common.{ap, sym, ◌∙◌, subst}
+use Rattle.hare_typed.specs.Given.{given}
+use Rattle.hare_rules.specs.Places.{is_pointer}
+use Rattle.rule_mem.specs.Defined.{IsDefinedTree}
+use Rattle.rule_mem.proofs.KidLemmas.{kid_defined}
+use Rattle.rule_mem.proofs.FirstLemmas.{first_points-get}
+use Rattle.rule_mem.proofs.places.first_points.Goals as goal
+
+pub is_pointer-requires : goal.is_pointer-requires
+is_pointer-requires c =
+    (subst (IsDefinedTree c.args.s.now) (sym c.tree.view_is) (kid_defined c.args.s.now c.args.trees.now 0 c.in-Some.tree.now c.requires c.in-Some.ensures.found)).1
+
+pub returns-in-Some : goal.returns-in-Some
+returns-in-Some c f l = c.is_pointer.ensures f l ∙ ap (λ t. is_pointer f (given t)) c.tree.view_is ∙ first_points-get f c.args.trees.now c.in-Some.tree.now c.in-Some.ensures.found

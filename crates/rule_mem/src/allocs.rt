@@ -1,0 +1,71 @@
+//! The object of an allocation.
+
+ghost use Rattle.std.specs.Prelude.{◌≡◌, IfOk, IfSome};
+ghost use Rattle.hare_types.specs.Store.{Store};
+ghost use Rattle.hare_types.specs.Later.{IsLater};
+ghost use Rattle.hare_rules.specs.Aggregates as spec;
+ghost use Rattle.hare_rules.specs.Rows.{holds};
+ghost use Rattle.hare_rules.specs.declared.row_id.RowId.TheVariants as row;
+ghost use Rattle.rule_mem.specs.Defined.{IsDefined};
+ghost use Rattle.rule_mem.specs.Grown.{IsGrown};
+ghost use Rattle.rule_mem.specs.Turns.{context_in, IsTurn};
+
+use crate::defaults::{default_in, has_default};
+use crate::errors::has_size;
+use crate::reads::element;
+use crate::turn::Turn;
+use crate::turns::{is_there, seen};
+use hare_types::{TypeId, TypeStore};
+use std::alloc::AllocError;
+
+/// Whether an allocation has a capacity.
+pub(crate) fn has_capacity(t: &Turn<'_>) -> bool
+    ensures { (f : Store) → result ≡ spec.has_capacity (context_in f t.now) }
+{
+    is_there(t.kids, 1)
+}
+
+/// The type of the object that an allocation of one operand makes.
+pub(crate) fn object_type(s: &mut TypeStore, t: &Turn<'_>) -> Result<Option<TypeId>, AllocError>
+    requires { IsTurn s.old t.now }
+    ensures value { IfOk result (λ o. (f : Store) → IsLater s.new f → o ≡ spec.object_type (context_in f t.now)) }
+    ensures defined { IfOk result (λ o. IfSome o (λ u. IsDefined s.new u)) }
+    ensures grown { IsGrown s.old s.new }
+{
+    let _law = s.declarations();
+    let operand = seen(t, 0);
+    let d = default_in(s, &operand)?;
+    Ok(d)
+}
+
+/// Whether an allocation without a capacity has an operand with a default type.
+pub(crate) fn has_object(t: &Turn<'_>) -> bool
+    ensures { (f : Store) → result ≡ holds row.AllocDefault (context_in f t.now) }
+{
+    has_capacity(t) || has_default(&seen(t, 0))
+}
+
+/// Whether an allocation without a capacity has an operand with a size.
+pub(crate) fn has_sized_object(s: &mut TypeStore, t: &Turn<'_>) -> Result<bool, AllocError>
+    requires { IsTurn s.old t.now }
+    ensures value { IfOk result (λ b. (f : Store) → IsLater s.new f → b ≡ holds row.AllocHasSize (context_in f t.now)) }
+    ensures grown { IsGrown s.old s.new }
+{
+    let _law = s.declarations();
+    if has_capacity(t) {
+        return Ok(true);
+    }
+    let found = object_type(s, t)?;
+    match found {
+        Some(u) => Ok(has_size(s, u)),
+        None => Ok(true),
+    }
+}
+
+/// Whether an allocation with a capacity has an array or a slice as its operand.
+pub(crate) fn has_sequence(s: &TypeStore, t: &Turn<'_>) -> bool
+    requires { IsTurn s.now t.now }
+    ensures { (f : Store) → IsLater s.now f → result ≡ holds row.AllocSequence (context_in f t.now) }
+{
+    !has_capacity(t) || element(s, &seen(t, 0)).is_some()
+}
