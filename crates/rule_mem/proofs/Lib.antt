@@ -23,3 +23,4 @@ pub mod ArrayLemmas
 pub mod StructLemmas
 pub mod PathLemmas
 pub mod FirstLemmas
+pub mod UnmetLemmas

@@ -78,7 +78,8 @@ pub(crate) fn unmet(
         RowId::AddrMutable | RowId::AssignMutable | RowId::AppendMutable => {
             Ok(unless(is_first_mutable(s, t), here))
         }
-        RowId::IndexIndexable | RowId::SliceIndexable => Ok(unless(is_indexable(s, t), here)),
+        RowId::IndexIndexable => Ok(unless(is_indexable(s, t), here)),
+        RowId::SliceIndexable => Ok(unless(is_indexable(s, t), here)),
         RowId::FieldMember => Ok(unless(has_member(s, t), here)),
         RowId::StructLitFields => {
             let met = names_fields(alloc, s, t)?;
