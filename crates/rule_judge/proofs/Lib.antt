@@ -1,0 +1,10 @@
+pub mod DefinedLemmas
+pub mod NameLemmas
+pub mod BaseLemmas
+pub mod KidLemmas
+pub mod DeclLemmas
+pub mod TurnLemmas
+pub mod WalkLemmas
+pub mod YieldLemmas
+pub mod MemberLemmas
+pub mod JudgedLemmas
