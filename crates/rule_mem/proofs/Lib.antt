@@ -24,3 +24,4 @@ pub mod StructLemmas
 pub mod PathLemmas
 pub mod FirstLemmas
 pub mod UnmetLemmas
+pub mod TypeLemmas

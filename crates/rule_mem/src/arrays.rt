@@ -77,7 +77,7 @@ pub(crate) fn is_long(s: &TypeStore, t: &Turn<'_>) -> bool
 }
 
 /// How many elements the array has.
-fn element_count(s: &TypeStore, t: &Turn<'_>) -> u64
+pub(crate) fn element_count(s: &TypeStore, t: &Turn<'_>) -> u64
     requires { IsTurn s.now t.now }
     ensures { (f : Store) → IsLater s.now f → result ≡ spec.array_count (context_in f t.now) }
 {
@@ -109,6 +109,17 @@ pub(crate) fn item_type(s: &mut TypeStore, t: &Turn<'_>) -> Result<Option<TypeId
     let first = own(t, 0);
     let d = default_in(s, &first)?;
     Ok(d)
+}
+
+/// Whether the array has no items and no hint gives its type.
+pub(crate) fn is_empty(s: &TypeStore, t: &Turn<'_>) -> bool
+    requires { IsTurn s.now t.now }
+    ensures { (f : Store) → IsLater s.now f → result ≡ spec.is_empty_array (context_in f t.now) }
+{
+    if is_hinted(s, t) {
+        return false;
+    }
+    item_count(t) == 0
 }
 
 /// Whether the element has a size.

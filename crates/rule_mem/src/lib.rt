@@ -27,3 +27,4 @@ mod reached;
 mod reads;
 mod rows;
 mod turns;
+mod types;

@@ -1,0 +1,31 @@
+use Rattle.std.proofs.Common.{ap, sym, ◌∙◌}
+use Rattle.std.specs.Prelude.{option_and_then}
+use Rattle.hare_types.specs.declared.coercion.Ty.{Ty}
+use Rattle.hare_types.proofs.LaterLemmas.{later_here, later_trans}
+use Rattle.hare_typed.specs.Given.{base_row, element_in}
+use Rattle.hare_rules.specs.Aggregates.{slice_of}
+use Rattle.hare_rules.specs.Words.{typed_as, with_refusal, nomem}
+use Rattle.rule_mem.proofs.TypeLemmas.{refusable_slice, name_defined}
+use Rattle.rule_mem.proofs.types.sequence_type.Goals as goal
+
+pub refusable-requires-clause-kept : goal.refusable-requires-clause-kept
+refusable-requires-clause-kept c =
+    let sound = c.slice_of.ensures.grown.later.sound in
+    refusable_slice c.slice_of.new.s sound c.in-Some.u c.in_ok-made-in-Some.made c.in_ok-made-in-Some.ensures.defined (c.in_ok-made-in-Some.ensures.id c.slice_of.new.s (later_here c.slice_of.new.s sound))
+
+pub refusable-requires-clause-nomem : goal.refusable-requires-clause-nomem
+refusable-requires-clause-nomem c = name_defined c.args.s.now c.slice_of.new.s c.declarations-law.ensures.sound c.slice_of.ensures.grown.later nomem c.requires.nomem
+
+pub returns-in_ok-whole-in-Some-clause-value : goal.returns-in_ok-whole-in-Some-clause-value
+returns-in_ok-whole-in-Some-clause-value c f l =
+    let made = later_trans c.slice_of.new.s c.refusable.new.s f c.refusable.ensures.grown.later l in
+    let before = later_trans c.args.s.now c.slice_of.new.s f c.slice_of.ensures.grown.later made in
+    ap typed_as
+    (sym (c.in_ok-whole-in-Some.ensures.id f l)
+    ∙ ap (option_and_then (with_refusal f))
+      (sym (c.in_ok-made-in-Some.ensures.id f made)
+      ∙ ap (slice_of f) (c.in-Some.ensures.value f before ∙ ap (λ (a : Ty). element_in (base_row f a)) c.seen-operand.ensures.value)))
+
+pub returns-in-None-clause-value : goal.returns-in-None-clause-value
+returns-in-None-clause-value c f l =
+    ap typed_as (ap (option_and_then (with_refusal f)) (ap (slice_of f) (c.in-None.ensures.value f l ∙ ap (λ (a : Ty). element_in (base_row f a)) c.seen-operand.ensures.value)))
