@@ -8,3 +8,4 @@ pub mod WalkLemmas
 pub mod YieldLemmas
 pub mod MemberLemmas
 pub mod JudgedLemmas
+pub mod UnionLemmas

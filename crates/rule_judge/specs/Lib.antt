@@ -6,3 +6,4 @@ pub mod Grown
 pub mod Asked
 pub mod Yields
 pub mod Answers
+pub mod Told

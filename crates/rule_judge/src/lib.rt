@@ -34,5 +34,5 @@ pub use rules::Rules;
 pub use sites::{coerced, own_coercion, to_type};
 pub use told::{kind_at, seen_at, type_at};
 pub use turn::Turn;
-pub use unions::{refusable, without_errors};
-pub use yields::{is_open, joined_yields};
+pub use unions::refusable;
+pub use yields::{is_open, is_type_hint, joined_yields};

@@ -1,4 +1,4 @@
-//! Unions that rules make: with the refusal of memory, and without error members.
+//! The union of a type with the refusal of memory.
 
 ghost use Rattle.std.specs.Prelude.{◌≡◌, ◌<◌, ℕ, List, IfOk, IsSome, Some, length};
 ghost use Rattle.std.specs.Prelude.{[], ◌∷◌, Contains, filter, not};
@@ -11,10 +11,8 @@ ghost use Rattle.hare_rules.specs.Words as words;
 ghost use Rattle.rule_judge.specs.Defined.{IsDefined, IsDefinedName, IsRefusable};
 ghost use Rattle.rule_judge.specs.Grown.{IsGrown};
 
-use crate::bases::base_row;
-use crate::errors::is_error;
-use crate::made::{entered, word};
-use hare_types::{Row, Scalar, Ty, TypeId, TypeIds, TypeStore};
+use crate::made::entered;
+use hare_types::{Row, TypeId, TypeIds, TypeStore};
 use std::alloc::{AllocError, Global};
 
 /// The number of the declaration of `rt::nomem`.
@@ -57,40 +55,8 @@ pub fn refusable(alloc: Global, s: &mut TypeStore, t: TypeId) -> Result<TypeId, 
     ensures defined { IfOk result (IsDefined s.new) }
     ensures grown { IsGrown s.old s.new }
 {
+    let _law = s.declarations();
     let n = nomem(s)?;
     let members = both(alloc, t, n)?;
     entered(s, Row::Union(members))
-}
-
-/// The members that are no error types.
-fn values_in(alloc: Global, s: &TypeStore, members: &TypeIds) -> Result<TypeIds, AllocError>
-    requires { (i : ℕ) → Contains members.now i → IsDefined s.now i }
-    ensures { IfOk result (λ is. (f : Store) → IsLater s.now f → is ≡ filter (λ i. not (is_error_at f i)) members.now) }
-{
-    let mut values = TypeIds::new(alloc);
-    for member in members.as_slice() {
-        if !is_error(s, *member) {
-            values.push(*member)?;
-        }
-    }
-    Ok(values)
-}
-
-/// What is left of the union that is the base of the type, without its error members: `never` where none is left.
-pub fn without_errors(alloc: Global, s: &mut TypeStore, t: TypeId) -> Result<TypeId, AllocError>
-    requires defined { IsDefined s.old t }
-    requires union { IsSome (members_at s.old t) }
-    ensures id { IfOk result (λ u. (f : Store) → IsLater s.new f → unions.without_errors f t ≡ Some u) }
-    ensures defined { IfOk result (IsDefined s.new) }
-    ensures grown { IsGrown s.old s.new }
-{
-    let Some(Row::Union(members)) = base_row(s, &Ty::Of(t)) else {
-        unreachable!()
-    };
-    let values = values_in(alloc, s, members)?;
-    match values.as_slice() {
-        [] => word(s, Scalar::Never),
-        [value] => Ok(*value),
-        _ => entered(s, Row::Union(values)),
-    }
 }

@@ -129,7 +129,7 @@ fn yield_target(s: &mut TypeStore, t: &Turn<'_>) -> Result<Option<TypeId>, Alloc
 }
 
 /// Whether the hint asks for a value of a type.
-pub(crate) fn is_type_hint(hint: &Hint) -> bool
+pub fn is_type_hint(hint: &Hint) -> bool
     ensures { result ≡ spec.is_type_hint hint.now }
 {
     matches!(hint, Hint::Of(_))
