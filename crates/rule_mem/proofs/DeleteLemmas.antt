@@ -5,7 +5,7 @@ use Rattle.hare_tree.specs.Node.{Head}
 use Rattle.hare_types.specs.Store.{Store}
 use Rattle.hare_typed.specs.Typed.{TypedNode, Mark, marked, kids_of, typed_nodes, listed_nodes}
 use Rattle.hare_typed.specs.Order.{tree_from_front, kid_from_front}
-use Rattle.rule_mem.specs.Defined.{IsDefinedTree, AreDefinedTrees}
+use Rattle.rule_judge.specs.Defined.{IsDefinedTree, AreDefinedTrees}
 
 listed-typed : (ts : List TypedNode) → listed_nodes (typed_nodes ts) ≡ ts
 listed-typed [] = refl

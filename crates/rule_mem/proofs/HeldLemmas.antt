@@ -4,7 +4,7 @@ use Rattle.std.specs.Prelude.{slice_get, Contains}
 use Rattle.hare_types.specs.declared.row.Row.{Row}
 use Rattle.hare_types.specs.declared.row.Row.TheVariants as row
 use Rattle.hare_types.specs.Store.{Store}
-use Rattle.rule_mem.specs.Defined.{made_of, IsDefined, HoldsDefined}
+use Rattle.rule_judge.specs.Defined.{made_of, IsDefined, HoldsDefined}
 
 pub first_of : (t : ℕ) (ts : List ℕ) → Contains (t ∷ ts) t
 first_of t ts = (0, omega arith, refl)

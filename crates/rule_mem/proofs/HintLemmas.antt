@@ -5,7 +5,7 @@ use Rattle.hare_types.specs.declared.row.Row.{Row}
 use Rattle.hare_types.specs.declared.row.Row.TheVariants as row
 use Rattle.hare_types.specs.Store.{Store}
 use Rattle.hare_rules.specs.Words.{only_one}
-use Rattle.rule_mem.specs.Defined.{made_of, IsDefined, HoldsDefined}
+use Rattle.rule_judge.specs.Defined.{made_of, IsDefined, HoldsDefined}
 
 -- the one of these, where one was found before them or none
 abbrev pub one_with : Option ℕ → List ℕ → Option ℕ

@@ -3,7 +3,7 @@ use Rattle.std.proofs.Common.{◌≡◌, ℕ, suc, ◌+◌, ◌<◌, ◌≤◌, 
 use Rattle.hare_types.specs.Store.{Store}
 use Rattle.hare_types.specs.ByIds.{has_size_at}
 use Rattle.hare_rules.specs.Aggregates.{all_sized}
-use Rattle.rule_mem.proofs.KidLemmas.{drop_past}
+use Rattle.rule_judge.proofs.KidLemmas.{drop_past}
 
 pub drop-more : (ts : List ℕ) (i t : ℕ) → i < length ts → t ≡ get_or ts i t → drop i ts ≡ t ∷ drop (i + 1) ts
 drop-more ts i t h e = rw add-one (drop-cons ts i t h ∙ ap (λ u. u ∷ drop (suc i) ts) (sym e))

@@ -1,16 +1,6 @@
-pub mod JudgedLemmas
-pub mod YieldLemmas
-pub mod TurnLemmas
-pub mod WalkLemmas
-pub mod NameLemmas
-pub mod KidLemmas
-pub mod DefinedLemmas
-pub mod DeclLemmas
-pub mod BaseLemmas
 pub mod HeldLemmas
 pub mod BoolLemmas
 pub mod HintLemmas
-pub mod MemberLemmas
 pub mod SpellingLemmas
 pub mod ExtentLemmas
 pub mod ReachLemmas
@@ -22,6 +12,5 @@ pub mod TupleLemmas
 pub mod ArrayLemmas
 pub mod StructLemmas
 pub mod PathLemmas
-pub mod FirstLemmas
 pub mod UnmetLemmas
 pub mod TypeLemmas

@@ -15,7 +15,7 @@ use Rattle.hare_typed.specs.Given.{base_row, pointee_in, pointee}
 use Rattle.hare_rules.specs.Context.{Context, store_of}
 use Rattle.hare_rules.specs.Aggregates.{name_number, field_named, field_type, member_type}
 use Rattle.rule_mem.specs.Members.{member_of}
-use Rattle.rule_mem.specs.Defined.{made_of, Mentions, itself, through, IsDefined, HoldsDefined}
+use Rattle.rule_judge.specs.Defined.{made_of, Mentions, itself, through, IsDefined, HoldsDefined}
 use Rattle.rule_mem.specs.Named.{HaveNames, IsNamed, IsNamedTy}
 use Rattle.rule_mem.proofs.HeldLemmas.{first_of, one_of}
 

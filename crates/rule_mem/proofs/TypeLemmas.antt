@@ -1,5 +1,8 @@
 -- Types that can stand beside the refusal of memory, and choices that are made.
 use Rattle.std.proofs.Common.{◌≡◌, ◌≢◌, ℕ, List, Bool, true, false, cond, Some, refl, ap, sym, ◌∙◌}
+use Rattle.std.specs.Prelude.{IsSome}
+use Rattle.hare_types.specs.declared.coercion.Ty.{Ty}
+use Rattle.hare_types.specs.declared.coercion.Ty.TheVariants as ty
 use Rattle.hare_types.specs.declared.row.Row.{Row}
 use Rattle.hare_types.specs.declared.row.Row.TheVariants as row
 use Rattle.hare_types.specs.declared.row.Scalar.TheVariants as keyword
@@ -9,9 +12,9 @@ use Rattle.hare_types.specs.ByIds.{row_at}
 use Rattle.hare_types.specs.Later.{IsLater}
 use Rattle.hare_types.specs.Unions.{id_of}
 use Rattle.hare_types.proofs.IdLemmas.{id_tells}
-use Rattle.hare_rules.specs.Words.{nomem}
-use Rattle.rule_mem.specs.Defined.{IsDefined, IsDefinedName, IsRefusable}
-use Rattle.rule_mem.proofs.DefinedLemmas.{defined_stays}
+use Rattle.hare_rules.specs.Words.{nomem, id_in}
+use Rattle.rule_judge.specs.Defined.{IsDefined, IsDefinedName, IsRefusable}
+use Rattle.rule_judge.proofs.DefinedLemmas.{defined_stays}
 
 refusable_row : (s : Store) → IsStore s → (r : Row) (t : ℕ) → IsDefined s t → id_of s r ≡ Some t
     → r ≢ row.Scalar keyword.Never → ((is : List ℕ) → r ≢ row.Union is) → r ≢ row.Named nomem → IsRefusable s t
@@ -44,3 +47,10 @@ name_defined now later v l d (t, e, h) = (t, l.grows.defined d t e, defined_stay
 -- the second of two is chosen
 pub if_not : {A : Type 0} (b : Bool) (x y z : A) → b ≡ false → x ≡ y → x ≡ cond b z y
 if_not b x y z e h = h ∙ sym (ap (λ c. cond c z y) e)
+
+-- what has an id is a type
+pub id_there : (a : Ty) → IsSome (id_in a) → ((t : ℕ) → a ≡ ty.Of t → ⊥) → ⊥
+id_there (ty.Of t) h k = k t refl
+id_there (ty.Iconst v) h k = cc
+id_there ty.Null h k = cc
+id_there ty.Empty h k = cc

@@ -5,21 +5,13 @@ use Rattle.hare_tree.specs.declared.kind.Kind.TheVariants as ki
 use Rattle.hare_rules.specs.declared.row_id.RowId.{RowId}
 use Rattle.hare_rules.specs.declared.row_id.RowId.TheVariants as row
 
--- the kinds that are judged here
+-- the kinds that are judged here: paths, what pointers lead to, addresses, members, and what is asked of the heap and of lengths
 abbrev pub judges : Kind → Bool
 judges ki.Path = true
 judges ki.Deref = true
 judges ki.Addr = true
-judges ki.Assign = true
-judges ki.Index = true
-judges ki.Slice = true
 judges ki.Field = true
-judges ki.StructLit = true
-judges ki.Tuple = true
-judges ki.Array = true
-judges ki.Alloc = true
 judges ki.Free = true
-judges ki.Append = true
 judges ki.Delete = true
 judges ki.Len = true
 judges ki.Offset = true

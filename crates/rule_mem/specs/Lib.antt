@@ -1,11 +1,3 @@
-pub mod Yields
-pub mod Decls
-pub mod Answers
-pub mod Defined
-pub mod Settings
-pub mod Turns
-pub mod Grown
-pub mod Asked
 pub mod Members
 pub mod Named
 pub mod Filled
@@ -13,3 +5,4 @@ pub mod Asking
 pub mod Meant
 pub mod Kinds
 pub mod Needs
+pub mod Laws

@@ -9,8 +9,8 @@ use Rattle.hare_rules.specs.declared.declared.Local.{Local}
 use Rattle.hare_rules.specs.declared.declared.DeclType.{DeclType}
 use Rattle.hare_rules.specs.Words.{nomem}
 use Rattle.hare_rules.specs.Context.{declaration}
-use Rattle.rule_mem.specs.Defined.{IsDefined, IsDefinedName}
-use Rattle.rule_mem.specs.Settings.{setting_of}
+use Rattle.rule_judge.specs.Defined.{IsDefined, IsDefinedName}
+use Rattle.rule_judge.specs.Settings.{setting_of}
 
 -- of a declared type its name is defined, and of any other declaration the type of its value
 abbrev pub IsKnownKind : Store → ℕ → DeclType → Kind → Type 0

@@ -6,7 +6,7 @@ use Rattle.hare_types.specs.declared.lists.Field.{Field}
 use Rattle.hare_types.specs.declared.row.Row.TheVariants as row
 use Rattle.hare_types.specs.Store.{Store}
 use Rattle.hare_types.specs.ByIds.{row_at}
-use Rattle.rule_mem.specs.Defined.{Mentions}
+use Rattle.rule_judge.specs.Defined.{Mentions}
 
 -- the names of these fields stand in the store
 abbrev pub HaveNames : Store → List Field → Type 0

@@ -6,16 +6,14 @@ ghost use Rattle.hare_types.specs.Later.{IsLater};
 ghost use Rattle.hare_rules.specs.Aggregates as spec;
 ghost use Rattle.hare_rules.specs.Rows.{holds};
 ghost use Rattle.hare_rules.specs.declared.row_id.RowId.TheVariants as row;
-ghost use Rattle.rule_mem.specs.Defined.{IsDefined};
-ghost use Rattle.rule_mem.specs.Grown.{IsGrown};
-ghost use Rattle.rule_mem.specs.Turns.{context_in, IsTurn};
+ghost use Rattle.rule_judge.specs.Defined.{IsDefined};
+ghost use Rattle.rule_judge.specs.Grown.{IsGrown};
+ghost use Rattle.rule_judge.specs.Turns.{context_in, IsTurn};
 
-use crate::defaults::{default_in, has_default};
-use crate::errors::has_size;
 use crate::reads::element;
-use crate::turn::Turn;
 use crate::turns::{is_there, seen};
 use hare_types::{TypeId, TypeStore};
+use rule_judge::{Turn, default_in, has_default, has_size};
 use std::alloc::AllocError;
 
 /// Whether an allocation has a capacity.

@@ -11,16 +11,14 @@ ghost use Rattle.hare_rules.specs.Aggregates as spec;
 ghost use Rattle.hare_rules.specs.Places as places;
 ghost use Rattle.hare_rules.specs.Rows.{holds};
 ghost use Rattle.hare_rules.specs.declared.row_id.RowId.TheVariants as row;
-ghost use Rattle.rule_mem.specs.Defined.{IsDefinedTy, IsDefinedTree};
-ghost use Rattle.rule_mem.specs.Settings.{setting_of, entries};
-ghost use Rattle.rule_mem.specs.Turns.{context_in, IsTurn};
+ghost use Rattle.rule_judge.specs.Defined.{IsDefinedTy, IsDefinedTree};
+ghost use Rattle.rule_judge.specs.Settings.{setting_of, entries};
+ghost use Rattle.rule_judge.specs.Turns.{context_in, IsTurn};
 
-use crate::places::{is_mutable, is_place};
 use crate::reads::{pointee, reached, slice_element};
-use crate::told::seen_at;
-use crate::turn::Turn;
-use hare_types::{Ty, TypeStore};
 use hare_typed::Typed;
+use hare_types::{Ty, TypeStore};
+use rule_judge::{Turn, is_mutable, is_place, seen_at};
 
 /// What the operand of the first kid of a tree gives.
 fn operand_seen(tree: &Typed) -> Ty

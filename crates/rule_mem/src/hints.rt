@@ -7,11 +7,11 @@ ghost use Rattle.hare_rules.specs.Above as above;
 ghost use Rattle.hare_rules.specs.Aggregates as spec;
 ghost use Rattle.hare_rules.specs.Words as words;
 ghost use Rattle.rule_mem.specs.Asking.{object_of};
-ghost use Rattle.rule_mem.specs.Defined.{IsDefined, IsDefinedHint, HoldsDefined};
+ghost use Rattle.rule_judge.specs.Defined.{IsDefined, IsDefinedHint, HoldsDefined};
 
-use crate::bases::base_row;
 use hare_rules::Hint;
 use hare_types::{Row, Ty, TypeId, TypeStore};
+use rule_judge::base_row;
 
 /// The row of the base of the type that a hint asks for; none where it asks for none.
 pub(crate) fn hint_base<'s>(s: &'s TypeStore, hint: &Hint) -> Option<&'s Row>

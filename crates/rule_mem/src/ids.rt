@@ -5,11 +5,11 @@ ghost use Rattle.hare_types.specs.ByIds.{extent_at};
 ghost use Rattle.hare_types.specs.Store.{Store};
 ghost use Rattle.hare_types.specs.Later.{IsLater};
 ghost use Rattle.hare_rules.specs.Aggregates as spec;
-ghost use Rattle.rule_mem.specs.Defined.{IsDefined};
+ghost use Rattle.rule_judge.specs.Defined.{IsDefined};
 
-use crate::errors::has_size;
 use crate::reads::extent;
 use hare_types::{TypeId, TypeIds, TypeStore};
+use rule_judge::has_size;
 use std::alloc::{AllocError, Global};
 
 /// The greatest size of a type, in bytes.

@@ -3,28 +3,21 @@
 
 mod allocs;
 mod arrays;
-mod bases;
-mod decls;
 mod deletes;
-mod defaults;
-mod errors;
-mod literals;
-mod made;
-mod paths;
-mod places;
-mod rules;
-mod told;
-mod tuples;
-mod turn;
-mod unions;
-mod unmet;
-
 mod fill;
 mod hints;
+mod hinted;
 mod ids;
+mod judge;
+mod literals;
 mod members;
+mod paths;
 mod reached;
 mod reads;
 mod rows;
+mod tuples;
 mod turns;
 mod types;
+mod unmet;
+
+pub use judge::judge;

@@ -10,13 +10,13 @@ ghost use Rattle.hare_types.specs.Store.{Store};
 ghost use Rattle.hare_types.specs.Later.{IsLater};
 ghost use Rattle.hare_typed.specs.Given as given;
 ghost use Rattle.hare_rules.specs.Aggregates as spec;
-ghost use Rattle.rule_mem.specs.Defined.{IsDefined, IsDefinedTy};
+ghost use Rattle.rule_judge.specs.Defined.{IsDefined, IsDefinedTy};
 ghost use Rattle.rule_mem.specs.Members.{member_of};
 ghost use Rattle.rule_mem.specs.Named.{HaveNames, IsNamedTy};
 
-use crate::bases::base_row;
 use hare_tree::{Suffix, Tree};
 use hare_types::{Fields, Row, Ty, TypeId, TypeIds, TypeStore};
+use rule_judge::base_row;
 
 /// Whether these are decimal digits.
 fn are_digits(text: &[u8]) -> bool

@@ -1,25 +1,23 @@
 //! What paths mean.
 
-ghost use Rattle.std.specs.Prelude.{◌≡◌, Some, IfOk, map, slice_get};
+ghost use Rattle.std.specs.Prelude.{◌≡◌, true, Some, IfOk};
 ghost use Rattle.hare_types.specs.Store.{Store};
 ghost use Rattle.hare_types.specs.Later.{IsLater};
 ghost use Rattle.hare_types.specs.Unions.{id_of};
 ghost use Rattle.hare_types.specs.declared.row.Row.TheVariants.{Named};
 ghost use Rattle.hare_tree.specs.declared.token.Meaning.TheVariants as means;
-ghost use Rattle.hare_rules.specs.Context.{declaration, known_local, Known};
+ghost use Rattle.hare_rules.specs.Context.{declaration};
 ghost use Rattle.hare_rules.specs.Operators as spec;
 ghost use Rattle.hare_rules.specs.Words as words;
-ghost use Rattle.rule_mem.specs.Defined.{IsDefined, IsDefinedTy, IsDefinedName};
-ghost use Rattle.rule_mem.specs.Grown.{IsGrown};
+ghost use Rattle.rule_judge.specs.Defined.{IsDefined, IsDefinedTy, IsDefinedName};
+ghost use Rattle.rule_judge.specs.Grown.{IsGrown};
 ghost use Rattle.rule_mem.specs.Meant.{IsMeant, IsKnownDecl};
-ghost use Rattle.rule_mem.specs.Settings.{setting_of};
+ghost use Rattle.rule_judge.specs.Settings.{setting_of};
+ghost use Rattle.rule_judge.specs.Turns.{context_in};
 
-use crate::bases::base_row;
-use crate::decls::DeclTypes;
-use crate::turn::Turn;
-use hare_rules::Locals;
 use hare_tree::{Kind, Meaning};
 use hare_types::{Row, Scalar, Ty, TypeId, TypeStore};
+use rule_judge::{DeclTypes, Turn, base_row};
 use std::alloc::AllocError;
 
 /// The type of the declaration with this number.
@@ -41,10 +39,7 @@ fn names_void(s: &mut TypeStore, n: u32) -> Result<bool, AllocError>
     ensures grown { IsGrown s.old s.new }
 {
     let u = named(s, n)?;
-    Ok(matches!(
-        base_row(s, &Ty::Of(u)),
-        Some(Row::Scalar(Scalar::Void))
-    ))
+    Ok(matches!(base_row(s, &Ty::Of(u)), Some(Row::Scalar(Scalar::Void))))
 }
 
 /// Whether the declaration with this number is a value, or a type whose one value is written by its name.
@@ -81,16 +76,6 @@ pub(crate) fn names_value(s: &mut TypeStore, t: &Turn<'_>) -> Result<bool, Alloc
     }
 }
 
-/// The type of the local with this number.
-fn local_type(locals: &Locals, n: u32) -> Option<Ty>
-    ensures { result ≡ spec.type_of_local (known_local (slice_get (map Known locals.now) n)) }
-{
-    match locals.get(n as usize) {
-        Some(l) => Some(Ty::Of(l.ty)),
-        None => None,
-    }
-}
-
 /// The type of the value that the declaration with this number has.
 fn declared_type(s: &mut TypeStore, decls: &DeclTypes, n: u32) -> Result<Ty, AllocError>
     requires known { IsKnownDecl s.old n (declaration (setting_of s.old decls.now) n) }
@@ -112,5 +97,29 @@ fn declared_type(s: &mut TypeStore, decls: &DeclTypes, n: u32) -> Result<Ty, All
             let u = named(s, n)?;
             Ok(Ty::Of(u))
         }
+    }
+}
+
+/// The type of the value that a path means.
+pub(crate) fn value_type(s: &mut TypeStore, t: &Turn<'_>) -> Result<Ty, AllocError>
+    requires meant { IsMeant s.old t.now.decls.now t.now.locals.now t.now.case.now.meaning }
+    requires nomem { IsDefinedName s.old words.nomem }
+    requires met { (f : Store) → IsLater s.old f → spec.names_value (setting_of f t.now.decls.now) t.now.case.now.meaning ≡ true }
+    ensures value { IfOk result (λ a. (f : Store) → IsLater s.new f → spec.path_type (context_in f t.now) t.now.case.now.meaning ≡ Some a) }
+    ensures defined { IfOk result (IsDefinedTy s.new) }
+    ensures grown { IsGrown s.old s.new }
+{
+    let _law = s.declarations();
+    let case = t.case;
+    match case.meaning {
+        Meaning::Local(n) => match t.locals.get(n as usize) {
+            Some(l) => Ok(Ty::Of(l.ty)),
+            None => unreachable!(),
+        },
+        Meaning::Decl(n) => {
+            let a = declared_type(s, t.decls, n)?;
+            Ok(a)
+        }
+        Meaning::Rt(_) | Meaning::None => unreachable!(),
     }
 }

@@ -6,15 +6,15 @@ ghost use Rattle.hare_types.specs.Later.{IsLater};
 ghost use Rattle.hare_typed.specs.Given.{given, element_in};
 ghost use Rattle.hare_typed.specs.Order.{tree_from_front};
 ghost use Rattle.hare_rules.specs.Aggregates as spec;
-ghost use Rattle.rule_mem.specs.Defined.{IsDefined, IsDefinedTy};
+ghost use Rattle.rule_judge.specs.Defined.{IsDefined, IsDefinedTy};
 ghost use Rattle.rule_mem.specs.Named.{IsNamedTy};
-ghost use Rattle.rule_mem.specs.Turns.{context_in, IsTurn};
+ghost use Rattle.rule_judge.specs.Turns.{context_in, IsTurn};
 
 use crate::members::member;
 use crate::reads::{element, reached};
-use crate::turn::Turn;
 use crate::turns::seen;
 use hare_types::{TypeId, TypeStore};
+use rule_judge::Turn;
 
 /// The element of the array or slice that the operand reaches.
 pub(crate) fn element_reached(s: &TypeStore, t: &Turn<'_>) -> Option<TypeId>

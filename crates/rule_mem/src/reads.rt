@@ -8,11 +8,11 @@ ghost use Rattle.hare_types.specs.Later.{IsLater};
 ghost use Rattle.hare_typed.specs.Given as given;
 ghost use Rattle.hare_typed.specs.Coercions.{element_of_slice};
 ghost use Rattle.hare_typed.specs.Followed as follow;
-ghost use Rattle.rule_mem.specs.Defined.{IsDefined, IsDefinedTy};
+ghost use Rattle.rule_judge.specs.Defined.{IsDefined, IsDefinedTy};
 ghost use Rattle.rule_mem.specs.Named.{IsNamedTy};
 
-use crate::bases::base_row;
 use hare_types::{Extent, Row, Ty, TypeId, TypeStore};
+use rule_judge::base_row;
 
 /// How many pointers an element or a member is taken through at most.
 const MOST_POINTERS: u64 = 16;

@@ -8,20 +8,16 @@ ghost use Rattle.hare_typed.specs.Order.{tree_from_front};
 ghost use Rattle.hare_rules.specs.Operators as operators;
 ghost use Rattle.hare_rules.specs.Rows.{holds, first_place, first_mutable};
 ghost use Rattle.hare_rules.specs.declared.row_id.RowId.TheVariants as row;
-ghost use Rattle.rule_mem.specs.Defined.{IsDefined};
+ghost use Rattle.rule_judge.specs.Defined.{IsDefined};
 ghost use Rattle.rule_mem.specs.Named.{IsNamedTy};
-ghost use Rattle.rule_mem.specs.Turns.{context_in, IsTurn};
+ghost use Rattle.rule_judge.specs.Turns.{context_in, IsTurn};
 
-use crate::bases::base_row;
 use crate::reached::{element_reached, member_reached};
-use crate::errors::has_size;
-use crate::places::{is_mutable, is_place};
 use crate::reads::{pointee, slice_element};
-use crate::told::kind_at;
-use crate::turn::Turn;
 use crate::turns::seen;
 use hare_tree::Kind;
 use hare_types::{Row, Scalar, TypeId, TypeStore};
+use rule_judge::{Turn, base_row, has_size, is_mutable, is_place, kind_at};
 
 /// Whether what is indexed or sliced is an array or a slice, once pointers are followed.
 pub(crate) fn is_indexable(s: &TypeStore, t: &Turn<'_>) -> bool
@@ -100,13 +96,7 @@ pub(crate) fn pointed(s: &TypeStore, t: &Turn<'_>) -> Option<TypeId>
     ensures defined { IfSome result (λ u. IsDefined s.now u) }
 {
     match pointee(s, &seen(t, 0)) {
-        Some(u) => {
-            if has_size(s, u) {
-                Some(u)
-            } else {
-                None
-            }
-        }
+        Some(u) => { if has_size(s, u) { Some(u) } else { None } }
         None => None,
     }
 }

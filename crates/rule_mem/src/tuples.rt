@@ -7,18 +7,16 @@ ghost use Rattle.hare_rules.specs.Context as context;
 ghost use Rattle.hare_rules.specs.Aggregates as spec;
 ghost use Rattle.hare_rules.specs.Rows.{holds};
 ghost use Rattle.hare_rules.specs.declared.row_id.RowId.TheVariants as row;
-ghost use Rattle.rule_mem.specs.Defined.{IsDefined};
-ghost use Rattle.rule_mem.specs.Grown.{IsGrown};
-ghost use Rattle.rule_mem.specs.Turns.{context_in, IsTurn};
+ghost use Rattle.rule_judge.specs.Defined.{IsDefined};
+ghost use Rattle.rule_judge.specs.Grown.{IsGrown};
+ghost use Rattle.rule_judge.specs.Turns.{context_in, IsTurn};
 
-use crate::defaults::{default_in, has_default};
 use crate::hints::hinted_components;
 use crate::ids::{all_sized, copied, is_small};
-use crate::made::tuple_of;
-use crate::turn::Turn;
 use crate::turns::own;
 use hare_tree::Place;
 use hare_types::{TypeIds, TypeStore};
+use rule_judge::{Turn, default_in, has_default, tuple_of};
 use std::alloc::{AllocError, Global};
 
 /// How many items a tuple has.
@@ -108,11 +106,7 @@ pub(crate) fn components(
 }
 
 /// Whether each component has a size.
-pub(crate) fn are_sized(
-    alloc: Global,
-    s: &mut TypeStore,
-    t: &Turn<'_>,
-) -> Result<bool, AllocError>
+pub(crate) fn are_sized(alloc: Global, s: &mut TypeStore, t: &Turn<'_>) -> Result<bool, AllocError>
     requires { IsTurn s.old t.now }
     ensures value { IfOk result (λ b. (f : Store) → IsLater s.new f → b ≡ holds row.TupleHasSize (context_in f t.now)) }
     ensures grown { IsGrown s.old s.new }

@@ -6,14 +6,13 @@ ghost use Rattle.hare_typed.specs.Given.{given};
 ghost use Rattle.hare_typed.specs.Order.{tree_from_front};
 ghost use Rattle.hare_rules.specs.Context as context;
 ghost use Rattle.hare_rules.specs.Context.{own_type};
-ghost use Rattle.rule_mem.specs.Defined.{IsDefinedTy};
-ghost use Rattle.rule_mem.specs.Turns.{IsTurn};
+ghost use Rattle.rule_judge.specs.Defined.{IsDefinedTy};
+ghost use Rattle.rule_judge.specs.Turns.{IsTurn};
 
-use crate::told::{kind_at, seen_at, type_at};
-use crate::turn::Turn;
 use hare_tree::Kind;
 use hare_typed::TypedKids;
 use hare_types::Ty;
+use rule_judge::{Turn, kind_at, seen_at, type_at};
 
 /// The type of what kid `i` gives, as its coercion leaves it.
 pub(crate) fn seen(t: &Turn<'_>, i: usize) -> Ty

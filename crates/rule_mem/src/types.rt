@@ -1,115 +1,124 @@
 //! The types of nodes that meet their own rows.
 
-ghost use Rattle.std.specs.Prelude.{◌≡◌, IfOk, IfSome};
+ghost use Rattle.std.specs.Prelude.{◌≡◌, true, Some, None, IsSome, IfOk, IfSome};
+ghost use Rattle.hare_tree.specs.declared.kind.Kind.TheVariants as ki;
 ghost use Rattle.hare_types.specs.Store.{Store};
 ghost use Rattle.hare_types.specs.Later.{IsLater};
 ghost use Rattle.hare_rules.specs.Aggregates as spec;
 ghost use Rattle.hare_rules.specs.Operators as operators;
 ghost use Rattle.hare_rules.specs.Words as words;
+ghost use Rattle.hare_rules.specs.Rows.{holds};
+ghost use Rattle.hare_rules.specs.Types.{type_by, type_of};
+ghost use Rattle.hare_rules.specs.declared.row_id.RowId.TheVariants as row;
+ghost use Rattle.rule_mem.specs.Named.{IsNamedTy};
 ghost use Rattle.hare_types.specs.declared.row.Scalar.TheVariants as keyword;
 ghost use Rattle.hare_typed.specs.Given as given;
 ghost use Rattle.hare_typed.specs.Given.{element_in};
 ghost use Rattle.hare_typed.specs.Order.{tree_from_front};
-ghost use Rattle.rule_mem.specs.Defined.{IsDefined, IsDefinedTy, IsDefinedName};
-ghost use Rattle.rule_mem.specs.Grown.{IsGrown};
+ghost use Rattle.rule_judge.specs.Defined.{IsDefined, IsDefinedTy, IsDefinedName};
+ghost use Rattle.rule_judge.specs.Grown.{IsGrown};
 ghost use Rattle.rule_mem.specs.Needs.{IsReady};
-ghost use Rattle.rule_mem.specs.Turns.{context_in, IsTurn};
+ghost use Rattle.rule_judge.specs.Asked.{own_failing};
+ghost use Rattle.rule_judge.specs.Turns.{context_in, kind_in, IsTurn};
+ghost use Rattle.rule_mem.specs.Kinds.{judges};
 
 use crate::allocs::{has_capacity, object_type};
-use crate::arrays;
-use crate::made::{array_of, pointer_to, slice_of, tuple_of, word};
-use crate::paths;
 use crate::reached::{element_reached, member_reached};
 use crate::reads::element;
 use crate::rows::pointed;
-use crate::tuples;
-use crate::turn::Turn;
 use crate::turns::{own, seen};
-use crate::unions::refusable;
+use crate::{arrays, paths, tuples};
 use hare_tree::Kind;
 use hare_types::{Scalar, Ty, TypeStore};
+use rule_judge::{Turn, array_of, pointer_to, refusable, slice_of, tuple_of, word};
 use std::alloc::{AllocError, Global};
 
 /// The type that is written by one word.
-fn word_type(s: &mut TypeStore, k: Scalar) -> Result<Option<Ty>, AllocError>
-    ensures value { IfOk result (λ o. (f : Store) → IsLater s.new f → o ≡ words.typed_as (words.word_id f k)) }
-    ensures defined { IfOk result (λ o. IfSome o (λ a. IsDefinedTy s.new a)) }
+fn word_type(s: &mut TypeStore, k: Scalar) -> Result<Ty, AllocError>
+    ensures value { IfOk result (λ a. (f : Store) → IsLater s.new f → words.typed_as (words.word_id f k) ≡ Some a) }
+    ensures defined { IfOk result (IsDefinedTy s.new) }
     ensures grown { IsGrown s.old s.new }
 {
     let u = word(s, k)?;
-    Ok(Some(Ty::Of(u)))
+    Ok(Ty::Of(u))
 }
 
 /// The type of what is indexed.
-fn index_type(s: &TypeStore, t: &Turn<'_>) -> Option<Ty>
-    requires { IsTurn s.now t.now }
-    ensures value { (f : Store) → IsLater s.now f → result ≡ words.typed_as (element_in (spec.reached f (tree_from_front 0 t.now.kids.now))) }
-    ensures defined { IfSome result (λ a. IsDefinedTy s.now a) }
+fn index_type(s: &TypeStore, t: &Turn<'_>) -> Ty
+    requires turn { IsTurn s.now t.now }
+    requires met { (f : Store) → IsLater s.now f → holds row.IndexIndexable (context_in f t.now) ≡ true }
+    ensures value { (f : Store) → IsLater s.now f → type_by (context_in f t.now) ki.Index ≡ Some result }
+    ensures defined { IsDefinedTy s.now result }
 {
+    let _law = s.declarations();
     match element_reached(s, t) {
-        Some(u) => Some(Ty::Of(u)),
-        None => None,
+        Some(u) => Ty::Of(u),
+        None => unreachable!(),
     }
 }
 
 /// The type of a slice of what is sliced.
-fn slice_type(s: &mut TypeStore, t: &Turn<'_>) -> Result<Option<Ty>, AllocError>
-    requires { IsTurn s.old t.now }
-    ensures value { IfOk result (λ o. (f : Store) → IsLater s.new f → o ≡ words.typed_as (spec.slice_of f (element_in (spec.reached f (tree_from_front 0 t.now.kids.now))))) }
-    ensures defined { IfOk result (λ o. IfSome o (λ a. IsDefinedTy s.new a)) }
+fn slice_type(s: &mut TypeStore, t: &Turn<'_>) -> Result<Ty, AllocError>
+    requires turn { IsTurn s.old t.now }
+    requires met { (f : Store) → IsLater s.old f → holds row.SliceIndexable (context_in f t.now) ≡ true }
+    ensures value { IfOk result (λ a. (f : Store) → IsLater s.new f → type_by (context_in f t.now) ki.Slice ≡ Some a) }
+    ensures defined { IfOk result (IsDefinedTy s.new) }
     ensures grown { IsGrown s.old s.new }
 {
     let _law = s.declarations();
     match element_reached(s, t) {
         Some(u) => {
             let made = slice_of(s, u)?;
-            Ok(Some(Ty::Of(made)))
+            Ok(Ty::Of(made))
         }
-        None => Ok(None),
+        None => unreachable!(),
     }
 }
 
 /// The type of a member.
-fn member_type(s: &TypeStore, t: &Turn<'_>) -> Option<Ty>
+fn member_type(s: &TypeStore, t: &Turn<'_>) -> Ty
     requires turn { IsTurn s.now t.now }
-    requires needs { IsReady s.now t.now }
-    ensures value { (f : Store) → IsLater s.now f → result ≡ words.typed_as (spec.member_type (context_in f t.now) (spec.reached f (tree_from_front 0 t.now.kids.now))) }
-    ensures defined { IfSome result (λ a. IsDefinedTy s.now a) }
+    requires named { IsNamedTy s.now (given.given (tree_from_front 0 t.now.kids.now)) }
+    requires met { (f : Store) → IsLater s.now f → holds row.FieldMember (context_in f t.now) ≡ true }
+    ensures value { (f : Store) → IsLater s.now f → type_by (context_in f t.now) ki.Field ≡ Some result }
+    ensures defined { IsDefinedTy s.now result }
 {
+    let _law = s.declarations();
     match member_reached(s, t) {
-        Some(u) => Some(Ty::Of(u)),
-        None => None,
+        Some(u) => Ty::Of(u),
+        None => unreachable!(),
     }
 }
 
 /// The type of what a pointer leads to.
-fn pointed_type(s: &TypeStore, t: &Turn<'_>) -> Option<Ty>
-    requires { IsTurn s.now t.now }
-    ensures value { (f : Store) → IsLater s.now f → result ≡ words.typed_as (operators.pointed f (operators.first_seen (context_in f t.now))) }
-    ensures defined { IfSome result (λ a. IsDefinedTy s.now a) }
+fn pointed_type(s: &TypeStore, t: &Turn<'_>) -> Ty
+    requires turn { IsTurn s.now t.now }
+    requires met { (f : Store) → IsLater s.now f → holds row.DerefPointed (context_in f t.now) ≡ true }
+    ensures value { (f : Store) → IsLater s.now f → type_by (context_in f t.now) ki.Deref ≡ Some result }
+    ensures defined { IsDefinedTy s.now result }
 {
+    let _law = s.declarations();
     match pointed(s, t) {
-        Some(u) => Some(Ty::Of(u)),
-        None => None,
+        Some(u) => Ty::Of(u),
+        None => unreachable!(),
     }
 }
 
 /// The type of an address.
-fn address_type(s: &mut TypeStore, t: &Turn<'_>) -> Result<Option<Ty>, AllocError>
-    requires { IsTurn s.old t.now }
-    ensures value { IfOk result (λ o. (f : Store) → IsLater s.new f → o ≡ words.typed_as (spec.pointer_to f (words.id_in (operators.first_seen (context_in f t.now))))) }
-    ensures defined { IfOk result (λ o. IfSome o (λ a. IsDefinedTy s.new a)) }
+fn address_type(s: &mut TypeStore, t: &Turn<'_>) -> Result<Ty, AllocError>
+    requires turn { IsTurn s.old t.now }
+    requires typed { IsSome (words.id_in (given.given (tree_from_front 0 t.now.kids.now))) }
+    ensures value { IfOk result (λ a. (f : Store) → IsLater s.new f → type_by (context_in f t.now) ki.Addr ≡ Some a) }
+    ensures defined { IfOk result (IsDefinedTy s.new) }
     ensures grown { IsGrown s.old s.new }
 {
     let _law = s.declarations();
     let operand = seen(t, 0);
-    match operand {
-        Ty::Of(u) => {
-            let made = pointer_to(s, u)?;
-            Ok(Some(Ty::Of(made)))
-        }
-        Ty::Iconst(_) | Ty::Null | Ty::Empty => Ok(None),
-    }
+    let Ty::Of(u) = operand else {
+        unreachable!();
+    };
+    let made = pointer_to(s, u)?;
+    Ok(Ty::Of(made))
 }
 
 /// The type of a tuple.
@@ -191,14 +200,48 @@ fn object_pointer(alloc: Global, s: &mut TypeStore, t: &Turn<'_>) -> Result<Opti
 }
 
 /// The type of `append`.
-fn append_type(alloc: Global, s: &mut TypeStore) -> Result<Option<Ty>, AllocError>
+fn append_type(alloc: Global, s: &mut TypeStore) -> Result<Ty, AllocError>
     requires { IsDefinedName s.old words.nomem }
-    ensures value { IfOk result (λ o. (f : Store) → IsLater s.new f → o ≡ spec.refusable f (words.word_id f keyword.Void)) }
-    ensures defined { IfOk result (λ o. IfSome o (λ a. IsDefinedTy s.new a)) }
+    ensures value { IfOk result (λ a. (f : Store) → IsLater s.new f → spec.refusable f (words.word_id f keyword.Void) ≡ Some a) }
+    ensures defined { IfOk result (IsDefinedTy s.new) }
     ensures grown { IsGrown s.old s.new }
 {
     let _law = s.declarations();
     let void = word(s, Scalar::Void)?;
     let whole = refusable(alloc, s, void)?;
-    Ok(Some(Ty::Of(whole)))
+    Ok(Ty::Of(whole))
+}
+
+/// The type of a node of these kinds that meets its own rows.
+pub(crate) fn own_type(s: &mut TypeStore, t: &Turn<'_>) -> Result<Ty, AllocError>
+    requires kind { judges (kind_in t.now) ≡ true }
+    requires turn { IsTurn s.old t.now }
+    requires needs { IsReady s.old t.now }
+    requires rows { (f : Store) → IsLater s.old f → own_failing (context_in f t.now) ≡ None }
+    ensures value { IfOk result (λ a. (f : Store) → IsLater s.new f → type_of (context_in f t.now) ≡ Some a) }
+    ensures defined { IfOk result (IsDefinedTy s.new) }
+    ensures grown { IsGrown s.old s.new }
+{
+    let _law = s.declarations();
+    let node = t.node;
+    match node.kind {
+        Kind::Path => {
+            let a = paths::value_type(s, t)?;
+            Ok(a)
+        }
+        Kind::Deref => Ok(pointed_type(s, t)),
+        Kind::Addr => {
+            let a = address_type(s, t)?;
+            Ok(a)
+        }
+        Kind::Field => Ok(member_type(s, t)),
+        Kind::Len | Kind::Offset => {
+            let a = word_type(s, Scalar::Size)?;
+            Ok(a)
+        }
+        _ => {
+            let a = word_type(s, Scalar::Void)?;
+            Ok(a)
+        }
+    }
 }

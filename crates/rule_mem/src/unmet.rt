@@ -5,14 +5,13 @@ ghost use Rattle.hare_types.specs.Store.{Store};
 ghost use Rattle.hare_types.specs.Later.{IsLater};
 ghost use Rattle.hare_typed.specs.Order.{tree_from_front};
 ghost use Rattle.hare_rules.specs.Context as context;
-ghost use Rattle.rule_mem.specs.Asked as spec;
+ghost use Rattle.rule_judge.specs.Asked as spec;
 ghost use Rattle.rule_mem.specs.Kinds.{asks};
-ghost use Rattle.rule_mem.specs.Grown.{IsGrown};
+ghost use Rattle.rule_judge.specs.Grown.{IsGrown};
 ghost use Rattle.rule_mem.specs.Needs.{IsReady};
-ghost use Rattle.rule_mem.specs.Turns.{context_in, IsTurn};
+ghost use Rattle.rule_judge.specs.Turns.{context_in, IsTurn};
 
 use crate::allocs::{has_object, has_sequence, has_sized_object};
-use crate::arrays;
 use crate::deletes::{deletes_at_mutable, deletes_at_place, deletes_from_slice};
 use crate::literals::names_fields;
 use crate::paths::names_value;
@@ -20,12 +19,12 @@ use crate::rows::{
     has_member, is_counted, is_first_mutable, is_first_place, is_freeable, is_indexable, is_member,
     is_part, is_pointed, is_slice,
 };
-use crate::tuples;
-use crate::turn::Turn;
+use crate::{arrays, tuples};
 use hare_rules::RowId;
 use hare_tree::Place;
 use hare_typed::TypedKids;
 use hare_types::TypeStore;
+use rule_judge::Turn;
 use std::alloc::{AllocError, Global};
 
 /// The place of the fault, unless the row is met.

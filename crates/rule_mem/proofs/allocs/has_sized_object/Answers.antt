@@ -1,6 +1,6 @@
 use Rattle.std.proofs.Common.{refl, ap, sym, ◌∙◌}
 use Rattle.hare_rules.specs.Rows.{sized_item}
-use Rattle.rule_mem.specs.Turns.{context_in}
+use Rattle.rule_judge.specs.Turns.{context_in}
 use Rattle.rule_mem.proofs.BoolLemmas.{or_first, or_second}
 use Rattle.rule_mem.proofs.allocs.has_sized_object.Goals as goal
 

@@ -1,7 +1,7 @@
 use Rattle.std.proofs.Common.{ℕ, Option, ap₂, sym, ◌∙◌}
 use Rattle.hare_types.proofs.LaterLemmas.{later_trans}
 use Rattle.hare_rules.specs.Rows.{small_item}
-use Rattle.rule_mem.specs.Turns.{context_in}
+use Rattle.rule_judge.specs.Turns.{context_in}
 use Rattle.rule_mem.proofs.TupleLemmas.{array_fits}
 use Rattle.rule_mem.proofs.arrays.fits.Goals as goal
 

@@ -2,7 +2,7 @@ use Rattle.std.proofs.Common.{ap, ◌∙◌}
 use Rattle.hare_typed.specs.Typed.{TypedNode}
 use Rattle.hare_typed.specs.Given.{given}
 use Rattle.hare_typed.specs.Order.{kid_from_front}
-use Rattle.rule_mem.proofs.KidLemmas.{kid_defined, front_found}
+use Rattle.rule_judge.proofs.KidLemmas.{kid_defined, front_found}
 use Rattle.rule_mem.proofs.deletes.deleted_seen.Goals as goal
 
 pub returns-in-Some-clause-value : goal.returns-in-Some-clause-value

@@ -3,8 +3,8 @@ use Rattle.hare_typed.specs.Typed.{TypedNode}
 use Rattle.hare_typed.specs.Given.{pointee}
 use Rattle.hare_typed.specs.Order.{kid_from_front}
 use Rattle.hare_rules.specs.Places.{is_mutable}
-use Rattle.rule_mem.specs.Settings.{setting_of, entries}
-use Rattle.rule_mem.proofs.KidLemmas.{kid_defined, front_found}
+use Rattle.rule_judge.specs.Settings.{setting_of, entries}
+use Rattle.rule_judge.proofs.KidLemmas.{kid_defined, front_found}
 use Rattle.rule_mem.proofs.BoolLemmas.{or_first, or_second}
 use Rattle.rule_mem.proofs.deletes.deletes_at_mutable.Goals as goal
 

@@ -9,5 +9,5 @@ pub returns : goal.returns
 returns c f l =
     c.is_some.ensures
     ∙ ap is_some
-      (c.slice_element.ensures.value f l
-      ∙ ap (λ (a : Ty). element_of_slice (base_row f a)) (c.reached.ensures.value f l ∙ ap (reached_type f) (c.deleted_seen.ensures.value f)))
+    (c.slice_element.ensures.value f l
+    ∙ ap (λ (a : Ty). element_of_slice (base_row f a)) (c.reached.ensures.value f l ∙ ap (reached_type f) (c.deleted_seen.ensures.value f)))

@@ -1,7 +1,7 @@
 use Rattle.std.proofs.Common.{ap, sym, ◌∙◌, subst}
 use Rattle.hare_typed.specs.Given.{given}
-use Rattle.rule_mem.specs.Defined.{IsDefinedTy}
-use Rattle.rule_mem.proofs.KidLemmas.{seen_defined}
+use Rattle.rule_judge.specs.Defined.{IsDefinedTy}
+use Rattle.rule_judge.proofs.KidLemmas.{seen_defined}
 use Rattle.rule_mem.proofs.DeleteLemmas.{kid-front, kids_defined}
 use Rattle.rule_mem.proofs.deletes.operand_seen.Goals as goal
 

@@ -3,7 +3,7 @@ use Rattle.std.specs.Prelude.{IfSome}
 use Rattle.hare_types.specs.Store.{Store}
 use Rattle.hare_types.specs.Later.{IsLater}
 use Rattle.hare_rules.specs.Words.{is_allocated, only_one}
-use Rattle.rule_mem.specs.Defined.{IsDefined}
+use Rattle.rule_judge.specs.Defined.{IsDefined}
 use Rattle.rule_mem.proofs.HintLemmas.{one_with}
 use Rattle.rule_mem.proofs.hints.only_allocated.Given as goal
 

@@ -6,7 +6,7 @@ use Rattle.hare_typed.specs.Followed.{reached_type}
 use Rattle.hare_typed.specs.Order.{tree_from_front}
 use Rattle.hare_rules.specs.Aggregates.{reached}
 use Rattle.rule_mem.specs.Members.{member_of}
-use Rattle.rule_mem.specs.Turns.{context_in}
+use Rattle.rule_judge.specs.Turns.{context_in}
 use Rattle.rule_mem.proofs.StructLemmas.{member_type-of}
 use Rattle.rule_mem.proofs.reached.member_reached.Goals as goal
 

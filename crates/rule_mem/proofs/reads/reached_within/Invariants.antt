@@ -2,7 +2,7 @@ use Rattle.std.proofs.Common.{◌≡◌, ◌-◌}
 use Rattle.hare_types.specs.Store.{Store}
 use Rattle.hare_types.specs.Later.{IsLater}
 use Rattle.hare_typed.specs.Followed.{reached_within}
-use Rattle.rule_mem.specs.Defined.{IsDefinedTy}
+use Rattle.rule_judge.specs.Defined.{IsDefinedTy}
 use Rattle.rule_mem.specs.Named.{IsNamedTy}
 use Rattle.rule_mem.proofs.reads.reached_within.Given as goal
 

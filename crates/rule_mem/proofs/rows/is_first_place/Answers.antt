@@ -1,7 +1,7 @@
 use Rattle.std.proofs.Common.{ap, ◌∙◌}
 use Rattle.hare_rules.specs.Places.{is_place}
-use Rattle.rule_mem.specs.Settings.{setting_of, entries}
-use Rattle.rule_mem.proofs.KidLemmas.{kid_defined, front_found}
+use Rattle.rule_judge.specs.Settings.{setting_of, entries}
+use Rattle.rule_judge.proofs.KidLemmas.{kid_defined, front_found}
 use Rattle.rule_mem.proofs.rows.is_first_place.Goals as goal
 
 pub is_place-requires : goal.is_place-requires

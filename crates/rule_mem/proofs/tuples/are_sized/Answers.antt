@@ -1,6 +1,6 @@
 use Rattle.std.proofs.Common.{ℕ, List, Option, subst}
 use Rattle.std.specs.Prelude.{Contains, IfSome}
-use Rattle.rule_mem.specs.Defined.{IsDefined}
+use Rattle.rule_judge.specs.Defined.{IsDefined}
 use Rattle.rule_mem.proofs.tuples.are_sized.Goals as goal
 
 pub all_sized-requires : goal.all_sized-requires

@@ -1,9 +1,9 @@
 use Rattle.std.proofs.Common.{ℕ, Option, sym, ◌∙◌, subst, arith}
 use Rattle.std.specs.Prelude.{IfSome}
 use Rattle.hare_types.proofs.LaterLemmas.{later_trans}
-use Rattle.rule_mem.specs.Defined.{IsDefined}
-use Rattle.rule_mem.proofs.DefinedLemmas.{defined_stays}
-use Rattle.rule_mem.proofs.TurnLemmas.{turn_stays, grown_trans}
+use Rattle.rule_judge.specs.Defined.{IsDefined}
+use Rattle.rule_judge.proofs.DefinedLemmas.{defined_stays}
+use Rattle.rule_judge.proofs.TurnLemmas.{turn_stays, grown_trans}
 use Rattle.rule_mem.proofs.TupleLemmas.{defaults-more, defaults-none, defaults-end, each-more}
 use Rattle.rule_mem.proofs.tuples.defaults.Goals as goal
 

@@ -3,8 +3,8 @@ use Rattle.std.specs.Prelude.{Contains, option_map}
 use Rattle.hare_types.specs.Store.{Store}
 use Rattle.hare_types.specs.Later.{IsLater}
 use Rattle.hare_rules.specs.Aggregates.{but_last, defaults}
-use Rattle.rule_mem.specs.Defined.{IsDefined}
-use Rattle.rule_mem.specs.Grown.{IsGrown}
+use Rattle.rule_judge.specs.Defined.{IsDefined}
+use Rattle.rule_judge.specs.Grown.{IsGrown}
 use Rattle.rule_mem.proofs.tuples.defaults.Given as goal
 
 -- the defaults so far, and those that are left

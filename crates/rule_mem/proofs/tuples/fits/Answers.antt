@@ -1,7 +1,7 @@
 use Rattle.std.proofs.Common.{ap, sym, ◌∙◌}
 use Rattle.hare_types.proofs.LaterLemmas.{later_trans}
 use Rattle.hare_rules.specs.Rows.{small_fields}
-use Rattle.rule_mem.specs.Turns.{context_in}
+use Rattle.rule_judge.specs.Turns.{context_in}
 use Rattle.rule_mem.proofs.TupleLemmas.{tuple_small}
 use Rattle.rule_mem.proofs.tuples.fits.Goals as goal
 

@@ -1,6 +1,6 @@
 use Rattle.std.proofs.Common.{sym, subst}
-use Rattle.rule_mem.specs.Defined.{IsDefinedTy}
-use Rattle.rule_mem.proofs.KidLemmas.{own_defined}
+use Rattle.rule_judge.specs.Defined.{IsDefinedTy}
+use Rattle.rule_judge.proofs.KidLemmas.{own_defined}
 use Rattle.rule_mem.proofs.turns.own.Goals as goal
 
 pub returns-clause-defined : goal.returns-clause-defined

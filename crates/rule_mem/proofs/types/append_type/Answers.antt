@@ -15,6 +15,5 @@ refusable-requires-clause-nomem c = name_defined c.args.s.now c.word.new.s c.dec
 
 pub returns-clause-value : goal.returns-clause-value
 returns-clause-value c f l =
-    ap typed_as
-    (sym (c.in_ok-whole.ensures.id f l)
-    ∙ ap (option_and_then (with_refusal f)) (sym (c.in_ok-void.ensures.id f (later_trans c.word.new.s c.refusable.new.s f c.refusable.ensures.grown.later l))))
+    ap (λ o. typed_as (option_and_then (with_refusal f) o)) (c.in_ok-void.ensures.id f (later_trans c.word.new.s c.refusable.new.s f c.refusable.ensures.grown.later l))
+    ∙ ap typed_as (c.in_ok-whole.ensures.id f l)

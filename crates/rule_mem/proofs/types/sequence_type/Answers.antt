@@ -23,8 +23,8 @@ returns-in_ok-whole-in-Some-clause-value c f l =
     ap typed_as
     (sym (c.in_ok-whole-in-Some.ensures.id f l)
     ∙ ap (option_and_then (with_refusal f))
-      (sym (c.in_ok-made-in-Some.ensures.id f made)
-      ∙ ap (slice_of f) (c.in-Some.ensures.value f before ∙ ap (λ (a : Ty). element_in (base_row f a)) c.seen-operand.ensures.value)))
+    (sym (c.in_ok-made-in-Some.ensures.id f made)
+    ∙ ap (slice_of f) (c.in-Some.ensures.value f before ∙ ap (λ (a : Ty). element_in (base_row f a)) c.seen-operand.ensures.value)))
 
 pub returns-in-None-clause-value : goal.returns-in-None-clause-value
 returns-in-None-clause-value c f l =

@@ -1,6 +1,6 @@
 use Rattle.std.proofs.Common.{ap, ◌∙◌}
 use Rattle.hare_rules.specs.Context.{place_of}
-use Rattle.rule_mem.proofs.KidLemmas.{front_found, front_past}
+use Rattle.rule_judge.proofs.KidLemmas.{front_found, front_past}
 use Rattle.rule_mem.proofs.unmet.place_at.Goals as goal
 
 pub returns-in-Some : goal.returns-in-Some

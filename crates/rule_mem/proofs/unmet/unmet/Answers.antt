@@ -6,8 +6,8 @@ use Rattle.hare_rules.specs.Aggregates.{hinted_element}
 use Rattle.hare_rules.specs.Rows.{holds}
 use Rattle.hare_rules.specs.declared.row_id.RowId.{RowId}
 use Rattle.hare_rules.specs.declared.row_id.RowId.TheVariants as row
-use Rattle.rule_mem.specs.Asked.{unmet}
-use Rattle.rule_mem.specs.Turns.{context_in}
+use Rattle.rule_judge.specs.Asked.{unmet}
+use Rattle.rule_judge.specs.Turns.{context_in}
 use Rattle.rule_mem.proofs.UnmetLemmas.{told_place, item_place}
 use Rattle.rule_mem.proofs.unmet.unmet.Goals as goal
 

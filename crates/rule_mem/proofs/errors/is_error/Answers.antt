@@ -1,6 +1,0 @@
-use Rattle.std.proofs.Common.{sym, ◌∙◌}
-use Rattle.rule_mem.proofs.BaseLemmas.{mark_stays}
-use Rattle.rule_mem.proofs.errors.is_error.Goals as goal
-
-pub returns : goal.returns
-returns c f l = c.is_error.ensures ∙ sym (mark_stays c.args.s.now f c.row-law.ensures.sound l c.args.t c.requires)
