@@ -14,3 +14,4 @@ pub mod StructLemmas
 pub mod PathLemmas
 pub mod UnmetLemmas
 pub mod TypeLemmas
+pub mod OwnLemmas

@@ -7,6 +7,7 @@ ghost use Rattle.rule_judge.specs.Asked as asked;
 ghost use Rattle.rule_judge.specs.Turns.{context_in, kind_in};
 ghost use Rattle.rule_mem.specs.Kinds.{judges};
 
+use hare_tree::Kind;
 use hare_types::TypeId;
 use rule_judge::Turn;
 
@@ -15,8 +16,18 @@ pub(crate) fn asks_type(t: &Turn<'_>, i: usize) -> bool
     requires { judges (kind_in t.now) ≡ true }
     ensures { (f : Store) → result ≡ asked.asks_type (context_in f t.now) i }
 {
-    let _node = (t, i);
-    false
+    let node = t.node;
+    match node.kind {
+        Kind::Path
+        | Kind::Deref
+        | Kind::Addr
+        | Kind::Field
+        | Kind::Free
+        | Kind::Delete
+        | Kind::Len
+        | Kind::Offset => false,
+        _ => unreachable!(),
+    }
 }
 
 /// The type to which kid number `i` goes: of these kinds each stays as it is.
@@ -24,6 +35,16 @@ pub(crate) fn target(t: &Turn<'_>, i: usize) -> Option<TypeId>
     requires { judges (kind_in t.now) ≡ true }
     ensures { (f : Store) → result ≡ target_of (context_in f t.now) (kind_in t.now) i }
 {
-    let _node = (t, i);
-    None
+    let node = t.node;
+    match node.kind {
+        Kind::Path
+        | Kind::Deref
+        | Kind::Addr
+        | Kind::Field
+        | Kind::Free
+        | Kind::Delete
+        | Kind::Len
+        | Kind::Offset => None,
+        _ => unreachable!(),
+    }
 }

@@ -6,10 +6,6 @@ use Rattle.hare_rules.specs.Words.{id_in, typed_as}
 use Rattle.rule_mem.proofs.TypeLemmas.{id_there}
 use Rattle.rule_mem.proofs.types.address_type.Goals as goal
 
-pub prove-unreachable-requires : goal.prove-unreachable-requires
-prove-unreachable-requires c =
-    id_there c.seen-operand.result (subst (λ (a : Ty). IsSome (id_in a)) (sym c.seen-operand.ensures.value) c.requires.typed) c.in_default.not-Of
-
 pub returns-clause-value : goal.returns-clause-value
 returns-clause-value c f l =
     ap typed_as (ap (pointer_to f) (ap id_in (sym c.seen-operand.ensures.value ∙ c.in-Of.is)) ∙ c.in_ok-made.ensures.id f l)
