@@ -15,3 +15,4 @@ pub mod PathLemmas
 pub mod UnmetLemmas
 pub mod TypeLemmas
 pub mod OwnLemmas
+pub mod HintedLemmas

@@ -5,13 +5,17 @@ use Rattle.hare_tree.specs.declared.kind.Kind.TheVariants as ki
 use Rattle.hare_rules.specs.declared.row_id.RowId.{RowId}
 use Rattle.hare_rules.specs.declared.row_id.RowId.TheVariants as row
 
--- the kinds that are judged here: paths, what pointers lead to, addresses, members, and what is asked of the heap and of lengths
+-- the kinds that are judged here: places, assignments, and what is asked of slices, of lengths and of the heap
 abbrev pub judges : Kind → Bool
 judges ki.Path = true
 judges ki.Deref = true
 judges ki.Addr = true
+judges ki.Assign = true
+judges ki.Index = true
+judges ki.Slice = true
 judges ki.Field = true
 judges ki.Free = true
+judges ki.Append = true
 judges ki.Delete = true
 judges ki.Len = true
 judges ki.Offset = true

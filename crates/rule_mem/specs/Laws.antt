@@ -37,8 +37,12 @@ pub rows_asked : (k : Kind) → judges k ≡ true → are_asked asks (rows_of k)
 rows_asked ki.Path h = refl
 rows_asked ki.Deref h = refl
 rows_asked ki.Addr h = refl
+rows_asked ki.Assign h = refl
+rows_asked ki.Index h = refl
+rows_asked ki.Slice h = refl
 rows_asked ki.Field h = refl
 rows_asked ki.Free h = refl
+rows_asked ki.Append h = refl
 rows_asked ki.Delete h = refl
 rows_asked ki.Len h = refl
 rows_asked ki.Offset h = refl

@@ -1,23 +1,97 @@
 //! What a node asks of its kids, and where they go that were asked for no type.
 
-ghost use Rattle.std.specs.Prelude.{◌≡◌, true};
+ghost use Rattle.std.specs.Prelude.{◌≡◌, true, None, nat_eq, length, take, is_some, IfOk};
+ghost use Rattle.hare_tree.specs.declared.kind.Kind.TheVariants as ki;
 ghost use Rattle.hare_types.specs.Store.{Store};
+ghost use Rattle.hare_types.specs.Later.{IsLater};
+ghost use Rattle.hare_typed.specs.Given.{given};
+ghost use Rattle.hare_typed.specs.Order.{tree_from_front};
 ghost use Rattle.hare_rules.specs.Settles.{target_of};
+ghost use Rattle.hare_rules.specs.Words.{id_in};
 ghost use Rattle.rule_judge.specs.Asked as asked;
-ghost use Rattle.rule_judge.specs.Turns.{context_in, kind_in};
+ghost use Rattle.rule_judge.specs.Grown.{IsGrown};
+ghost use Rattle.rule_judge.specs.Turns.{context_in, kind_in, IsTurn};
+ghost use Rattle.rule_mem.specs.Asking.{asks_as};
 ghost use Rattle.rule_mem.specs.Kinds.{judges};
 
+use crate::reads::slice_element;
+use crate::turns::seen;
 use hare_tree::Kind;
-use hare_types::TypeId;
-use rule_judge::Turn;
+use hare_types::{Scalar, Ty, TypeId, TypeStore};
+use rule_judge::{Turn, word};
+use std::alloc::AllocError;
 
-/// Whether the node has asked its kid number `i` for a value of a type: none of these kinds does.
-pub(crate) fn asks_type(t: &Turn<'_>, i: usize) -> bool
-    requires { judges (kind_in t.now) ≡ true }
-    ensures { (f : Store) → result ≡ asked.asks_type (context_in f t.now) i }
+/// How many kids stand before kid number `i`.
+fn kids_before(t: &Turn<'_>, i: usize) -> usize
+    ensures { result ≡ length (take i t.now.kids.now) }
 {
+    i.min(t.kids.len())
+}
+
+/// Whether one kid stands before kid number `i`.
+fn is_second(t: &Turn<'_>, i: usize) -> bool
+    ensures { result ≡ nat_eq (length (take i t.now.kids.now)) 1 }
+{
+    kids_before(t, i) == 1
+}
+
+/// Whether the first kid gives a value of a type.
+fn has_type(t: &Turn<'_>) -> bool
+    ensures { result ≡ is_some (id_in (given (tree_from_front 0 t.now.kids.now))) }
+{
+    match seen(t, 0) {
+        Ty::Of(_) => true,
+        Ty::Iconst(_) | Ty::Null | Ty::Empty => false,
+    }
+}
+
+/// Whether an assignment asks its kid number `i` for a type: the right side, where the left one has a type.
+fn assignment_asks(t: &Turn<'_>, i: usize) -> bool
+    ensures { (f : Store) → result ≡ asks_as (context_in f t.now) i ki.Assign }
+{
+    is_second(t, i) && has_type(t)
+}
+
+/// Whether `append` asks its kid number `i` for a type: what is put behind a slice.
+fn append_asks(s: &TypeStore, t: &Turn<'_>, i: usize) -> bool
+    requires { IsTurn s.now t.now }
+    ensures { (f : Store) → IsLater s.now f → result ≡ asks_as (context_in f t.now) i ki.Append }
+{
+    is_second(t, i) && slice_element(s, &seen(t, 0)).is_some()
+}
+
+/// Whether an index or a slice asks its kid number `i` for a type: each but the operand, for `size`.
+fn bound_asks(s: &mut TypeStore, t: &Turn<'_>, i: usize) -> Result<bool, AllocError>
+    ensures index { IfOk result (λ b. (f : Store) → IsLater s.new f → b ≡ asks_as (context_in f t.now) i ki.Index) }
+    ensures slice { IfOk result (λ b. (f : Store) → IsLater s.new f → b ≡ asks_as (context_in f t.now) i ki.Slice) }
+    ensures grown { IsGrown s.old s.new }
+{
+    let made = word(s, Scalar::Size)?;
+    let _size = made;
+    let before = kids_before(t, i);
+    Ok(before != 0)
+}
+
+/// Whether the node has asked its kid number `i` for a value of a type.
+pub(crate) fn asks_type(s: &mut TypeStore, t: &Turn<'_>, i: usize) -> Result<bool, AllocError>
+    requires kind { judges (kind_in t.now) ≡ true }
+    requires turn { IsTurn s.old t.now }
+    ensures value { IfOk result (λ b. (f : Store) → IsLater s.new f → b ≡ asked.asks_type (context_in f t.now) i) }
+    ensures grown { IsGrown s.old s.new }
+{
+    let _law = s.declarations();
     let node = t.node;
     match node.kind {
+        Kind::Assign => Ok(assignment_asks(t, i)),
+        Kind::Append => Ok(append_asks(s, t, i)),
+        Kind::Index => {
+            let b = bound_asks(s, t, i)?;
+            Ok(b)
+        }
+        Kind::Slice => {
+            let b = bound_asks(s, t, i)?;
+            Ok(b)
+        }
         Kind::Path
         | Kind::Deref
         | Kind::Addr
@@ -25,7 +99,7 @@ pub(crate) fn asks_type(t: &Turn<'_>, i: usize) -> bool
         | Kind::Free
         | Kind::Delete
         | Kind::Len
-        | Kind::Offset => false,
+        | Kind::Offset => Ok(false),
         _ => unreachable!(),
     }
 }
@@ -33,15 +107,20 @@ pub(crate) fn asks_type(t: &Turn<'_>, i: usize) -> bool
 /// The type to which kid number `i` goes: of these kinds each stays as it is.
 pub(crate) fn target(t: &Turn<'_>, i: usize) -> Option<TypeId>
     requires { judges (kind_in t.now) ≡ true }
-    ensures { (f : Store) → result ≡ target_of (context_in f t.now) (kind_in t.now) i }
+    ensures value { (f : Store) → result ≡ target_of (context_in f t.now) (kind_in t.now) i }
+    ensures none { result ≡ None }
 {
     let node = t.node;
     match node.kind {
         Kind::Path
         | Kind::Deref
         | Kind::Addr
+        | Kind::Assign
+        | Kind::Index
+        | Kind::Slice
         | Kind::Field
         | Kind::Free
+        | Kind::Append
         | Kind::Delete
         | Kind::Len
         | Kind::Offset => None,

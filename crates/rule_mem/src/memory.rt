@@ -40,8 +40,8 @@ impl Rules for Memory {
         unmet(alloc, s, t, row)
     }
 
-    fn own_type(_alloc: Global, s: &mut TypeStore, t: &Turn<'_>) -> Result<Ty, AllocError> {
-        types::own_type(s, t)
+    fn own_type(alloc: Global, s: &mut TypeStore, t: &Turn<'_>) -> Result<Ty, AllocError> {
+        types::own_type(alloc, s, t)
     }
 
     fn asks_type(
@@ -50,8 +50,7 @@ impl Rules for Memory {
         t: &Turn<'_>,
         i: usize,
     ) -> Result<bool, AllocError> {
-        let _law = s.declarations();
-        Ok(hinted::asks_type(t, i))
+        hinted::asks_type(s, t, i)
     }
 
     fn target(

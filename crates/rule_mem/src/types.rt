@@ -213,7 +213,7 @@ fn append_type(alloc: Global, s: &mut TypeStore) -> Result<Ty, AllocError>
 }
 
 /// The type of a node of these kinds that meets its own rows.
-pub(crate) fn own_type(s: &mut TypeStore, t: &Turn<'_>) -> Result<Ty, AllocError>
+pub(crate) fn own_type(alloc: Global, s: &mut TypeStore, t: &Turn<'_>) -> Result<Ty, AllocError>
     requires kind { judges (kind_in t.now) ≡ true }
     requires turn { IsTurn s.old t.now }
     requires needs { IsReady s.old t.now }
@@ -235,6 +235,15 @@ pub(crate) fn own_type(s: &mut TypeStore, t: &Turn<'_>) -> Result<Ty, AllocError
             Ok(a)
         }
         Kind::Field => Ok(member_type(s, t)),
+        Kind::Index => Ok(index_type(s, t)),
+        Kind::Slice => {
+            let a = slice_type(s, t)?;
+            Ok(a)
+        }
+        Kind::Append => {
+            let a = append_type(alloc, s)?;
+            Ok(a)
+        }
         Kind::Len | Kind::Offset => {
             let a = word_type(s, Scalar::Size)?;
             Ok(a)

@@ -20,3 +20,11 @@ address_type-requires-clause-typed c =
 pub member_type-requires-clause-met : goal.member_type-requires-clause-met
 member_type-requires-clause-met c f l =
     first_met (context_in f c.args.t.now) ki.Field row.FieldMember [] (sym (ap (λ n. (head n).kind) c.node.view_is) ∙ c.in-Field.is) refl (c.requires.rows f l)
+
+pub index_type-requires-clause-met : goal.index_type-requires-clause-met
+index_type-requires-clause-met c f l =
+    first_met (context_in f c.args.t.now) ki.Index row.IndexIndexable [] (sym (ap (λ n. (head n).kind) c.node.view_is) ∙ c.in-Index.is) refl (c.requires.rows f l)
+
+pub slice_type-requires-clause-met : goal.slice_type-requires-clause-met
+slice_type-requires-clause-met c f l =
+    first_met (context_in f c.args.t.now) ki.Slice row.SliceIndexable [] (sym (ap (λ n. (head n).kind) c.node.view_is) ∙ c.in-Slice.is) refl (c.requires.rows f l)

@@ -1,0 +1,66 @@
+-- What nodes ask of their kids.
+use Rattle.std.proofs.Common.{◌≡◌, ℕ, zero, suc, ◌<◌, ◌≤◌, Bool, true, false, ◌&&◌, cond, List, [], ◌∷◌, length, take, Option, Some, None, is_some, nat_eq, refl, ap, ap₂, sym, ◌∙◌, arith}
+use Rattle.std.specs.Cmp.{unsigned_Decides}
+use Rattle.hare_types.specs.declared.coercion.Ty.{Ty}
+use Rattle.hare_types.specs.declared.coercion.Ty.TheVariants as ty
+use Rattle.hare_types.specs.Store.{Store}
+use Rattle.hare_typed.specs.Typed.{TypedNode}
+use Rattle.hare_typed.specs.Given.{base_row, given}
+use Rattle.hare_typed.specs.Coercions.{element_of_slice}
+use Rattle.hare_typed.specs.Order.{tree_from_front}
+use Rattle.hare_rules.specs.declared.hint.Hint.{Hint}
+use Rattle.hare_rules.specs.declared.hint.Hint.TheVariants as hint
+use Rattle.hare_rules.specs.Above.{by_place, hint_to}
+use Rattle.hare_rules.specs.Judged.{is_type_hint}
+use Rattle.hare_rules.specs.Words.{id_in}
+
+-- the first of some kids
+pub first_take : (xs : List TypedNode) (i : ℕ) → length (take i xs) ≡ 1 → tree_from_front 0 (take i xs) ≡ tree_from_front 0 xs
+first_take [] zero e = refl
+first_take [] (suc i) e = refl
+first_take (x ∷ xs) zero e = absurd (omega (arith, e))
+first_take (x ∷ xs) (suc i) e = refl
+
+pub hint_to-asks : (o : Option ℕ) → is_type_hint (hint_to o) ≡ is_some o
+hint_to-asks None = refl
+hint_to-asks (Some t) = refl
+
+-- the second kid alone is asked
+pub second_asked : (ys : List TypedNode) (h : Hint) (c : Bool) → (length ys ≡ 1 → is_type_hint h ≡ c)
+    → (nat_eq (length ys) 1 && c) ≡ is_type_hint (by_place (length ys) (hint.None ∷ h ∷ []) hint.None)
+second_asked [] h c k = refl
+second_asked (y ∷ []) h c k = sym (k refl)
+second_asked (y ∷ z ∷ zs) h c k = by (nat_eq (length (y ∷ z ∷ zs)) 1) refl
+  where
+    by : (b : Bool) → nat_eq (length (y ∷ z ∷ zs)) 1 ≡ b → (b && c) ≡ false
+    by true e = absurd (omega (arith, (unsigned_Decides (length (y ∷ z ∷ zs)) 1).0 e))
+    by false e = refl
+
+-- each but the first is asked
+pub later_asked : (ys : List TypedNode) (h : Hint) (b : Bool) → (b ≡ true → length ys ≡ 0 → ⊥) → (b ≡ false → length ys ≡ 0) → is_type_hint h ≡ true
+    → b ≡ is_type_hint (by_place (length ys) (hint.None ∷ []) h)
+later_asked [] h true a c k = absurd (a refl refl)
+later_asked [] h false a c k = refl
+later_asked (y ∷ ys) h true a c k = sym k
+later_asked (y ∷ ys) h false a c k = absurd (omega (arith, c refl))
+
+-- what is put behind a slice
+pub appended : (s : Store) (a : Ty) (b : Bool)
+    → is_type_hint (cond (is_some (element_of_slice (base_row s a))) (cond b (hint_to (element_of_slice (base_row s a))) (hint_to (id_in a))) hint.None)
+    ≡ is_some (element_of_slice (base_row s a))
+appended s (ty.Iconst v) b = refl
+appended s ty.Null b = refl
+appended s ty.Empty b = refl
+appended s (ty.Of t) b = by (element_of_slice (base_row s (ty.Of t))) b
+  where
+    by : (o : Option ℕ) (c : Bool) → is_type_hint (cond (is_some o) (cond c (hint_to o) (hint.Of t)) hint.None) ≡ is_some o
+    by None c = refl
+    by (Some u) true = refl
+    by (Some u) false = refl
+
+-- both tests
+pub and_both : (b c d e r : Bool) → b ≡ true → b ≡ d → c ≡ e → (d && e) ≡ r → c ≡ r
+and_both b c d e r t k h g = h ∙ ap (λ x. x && e) (sym (sym k ∙ t)) ∙ g
+
+pub and_not : (b d e r : Bool) → b ≡ false → b ≡ d → (d && e) ≡ r → b ≡ r
+and_not b d e r t k g = t ∙ ap (λ x. x && e) (sym (sym k ∙ t)) ∙ g
