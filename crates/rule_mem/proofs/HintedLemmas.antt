@@ -4,13 +4,17 @@ use Rattle.std.specs.Cmp.{unsigned_Decides}
 use Rattle.hare_types.specs.declared.coercion.Ty.{Ty}
 use Rattle.hare_types.specs.declared.coercion.Ty.TheVariants as ty
 use Rattle.hare_types.specs.Store.{Store}
-use Rattle.hare_typed.specs.Typed.{TypedNode}
+use Rattle.hare_tree.specs.Node.{head}
+use Rattle.hare_typed.specs.Typed.{TypedNode, marked}
+use Rattle.hare_typed.specs.Erased.{erase}
+use Rattle.hare_rules.specs.Context.{Setting, text_of, own_type}
+use Rattle.hare_rules.specs.Aggregates.{field_type}
 use Rattle.hare_typed.specs.Given.{base_row, given}
 use Rattle.hare_typed.specs.Coercions.{element_of_slice}
 use Rattle.hare_typed.specs.Order.{tree_from_front}
 use Rattle.hare_rules.specs.declared.hint.Hint.{Hint}
 use Rattle.hare_rules.specs.declared.hint.Hint.TheVariants as hint
-use Rattle.hare_rules.specs.Above.{by_place, hint_to}
+use Rattle.hare_rules.specs.Above.{by_place, hint_to, field_hint}
 use Rattle.hare_rules.specs.Judged.{is_type_hint}
 use Rattle.hare_rules.specs.Words.{id_in}
 
@@ -64,3 +68,23 @@ and_both b c d e r t k h g = h ∙ ap (λ x. x && e) (sym (sym k ∙ t)) ∙ g
 
 pub and_not : (b d e r : Bool) → b ≡ false → b ≡ d → (d && e) ≡ r → b ≡ r
 and_not b d e r t k g = t ∙ ap (λ x. x && e) (sym (sym k ∙ t)) ∙ g
+
+-- ---- struct literals
+
+erased_text : (x : TypedNode) → (head (erase x)).text ≡ text_of x
+erased_text (marked h m ts) = refl
+
+-- nothing is asked of the first kid
+pub literal_first : (w : Setting) (ys : List TypedNode) (x : TypedNode) → length ys ≡ 0 → false ≡ is_type_hint (field_hint w ys (head (erase x)))
+literal_first w [] x e = refl
+literal_first w (y ∷ ys) x e = absurd (omega (arith, e))
+
+-- of each other one the type of the field of its name
+pub literal_later : (w : Setting) (xs : List TypedNode) (i : ℕ) (x : TypedNode) → (length (take i xs) ≡ 0 → ⊥)
+    → is_some (field_type w.store (base_row w.store (own_type (tree_from_front 0 xs))) (text_of x)) ≡ is_type_hint (field_hint w (take i xs) (head (erase x)))
+literal_later w [] zero x k = absurd (k refl)
+literal_later w [] (suc i) x k = absurd (k refl)
+literal_later w (y ∷ ys) zero x k = absurd (k refl)
+literal_later w (y ∷ ys) (suc i) x k =
+    ap (λ t. is_some (field_type w.store (base_row w.store (own_type y)) t)) (sym (erased_text x))
+    ∙ sym (hint_to-asks (field_type w.store (base_row w.store (own_type y)) (head (erase x)).text))

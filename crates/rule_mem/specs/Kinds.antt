@@ -14,6 +14,7 @@ judges ki.Assign = true
 judges ki.Index = true
 judges ki.Slice = true
 judges ki.Field = true
+judges ki.StructLit = true
 judges ki.Free = true
 judges ki.Append = true
 judges ki.Delete = true

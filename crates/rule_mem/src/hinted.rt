@@ -6,6 +6,7 @@ ghost use Rattle.hare_types.specs.Store.{Store};
 ghost use Rattle.hare_types.specs.Later.{IsLater};
 ghost use Rattle.hare_typed.specs.Given.{given};
 ghost use Rattle.hare_typed.specs.Order.{tree_from_front};
+ghost use Rattle.hare_rules.specs.Context as context;
 ghost use Rattle.hare_rules.specs.Settles.{target_of};
 ghost use Rattle.hare_rules.specs.Words.{id_in};
 ghost use Rattle.rule_judge.specs.Asked as asked;
@@ -13,10 +14,13 @@ ghost use Rattle.rule_judge.specs.Grown.{IsGrown};
 ghost use Rattle.rule_judge.specs.Turns.{context_in, kind_in, IsTurn};
 ghost use Rattle.rule_mem.specs.Asking.{asks_as};
 ghost use Rattle.rule_mem.specs.Kinds.{judges};
+ghost use Rattle.rule_mem.specs.Named.{IsNamedTy};
 
+use crate::members::field_of;
 use crate::reads::slice_element;
-use crate::turns::seen;
+use crate::turns::{own, seen};
 use hare_tree::Kind;
+use hare_typed::TypedKids;
 use hare_types::{Scalar, Ty, TypeId, TypeStore};
 use rule_judge::{Turn, word};
 use std::alloc::AllocError;
@@ -72,10 +76,33 @@ fn bound_asks(s: &mut TypeStore, t: &Turn<'_>, i: usize) -> Result<bool, AllocEr
     Ok(before != 0)
 }
 
+/// The text of a kid; nothing of one that is not there.
+fn text_at<'a>(kids: &'a TypedKids, i: usize) -> &'a [u8]
+    ensures { result.now ≡ context.text_of (tree_from_front i kids.now) }
+{
+    match kids.get(i) {
+        Some(kid) => kid.text.bytes(),
+        None => &[],
+    }
+}
+
+/// Whether a struct literal asks its kid number `i` for a type: a value, where its name is that of a field.
+fn literal_asks(s: &TypeStore, t: &Turn<'_>, i: usize) -> bool
+    requires turn { IsTurn s.now t.now }
+    requires named { IsNamedTy s.now (context.own_type (tree_from_front 0 t.now.kids.now)) }
+    ensures { (f : Store) → IsLater s.now f → result ≡ asks_as (context_in f t.now) i ki.StructLit }
+{
+    if kids_before(t, i) == 0 {
+        return false;
+    }
+    field_of(s, &own(t, 0), text_at(t.kids, i)).is_some()
+}
+
 /// Whether the node has asked its kid number `i` for a value of a type.
 pub(crate) fn asks_type(s: &mut TypeStore, t: &Turn<'_>, i: usize) -> Result<bool, AllocError>
     requires kind { judges (kind_in t.now) ≡ true }
     requires turn { IsTurn s.old t.now }
+    requires named { IsNamedTy s.old (context.own_type (tree_from_front 0 t.now.kids.now)) }
     ensures value { IfOk result (λ b. (f : Store) → IsLater s.new f → b ≡ asked.asks_type (context_in f t.now) i) }
     ensures grown { IsGrown s.old s.new }
 {
@@ -84,6 +111,7 @@ pub(crate) fn asks_type(s: &mut TypeStore, t: &Turn<'_>, i: usize) -> Result<boo
     match node.kind {
         Kind::Assign => Ok(assignment_asks(t, i)),
         Kind::Append => Ok(append_asks(s, t, i)),
+        Kind::StructLit => Ok(literal_asks(s, t, i)),
         Kind::Index => {
             let b = bound_asks(s, t, i)?;
             Ok(b)
@@ -119,6 +147,7 @@ pub(crate) fn target(t: &Turn<'_>, i: usize) -> Option<TypeId>
         | Kind::Index
         | Kind::Slice
         | Kind::Field
+        | Kind::StructLit
         | Kind::Free
         | Kind::Append
         | Kind::Delete

@@ -105,3 +105,24 @@ pub(crate) fn member(s: &TypeStore, a: &Ty, node: &Tree) -> Option<TypeId>
         _ => None,
     }
 }
+
+/// The type of the field with this name of what has this type. The time is constant.
+pub(crate) fn field_of(s: &TypeStore, a: &Ty, text: &[u8]) -> Option<TypeId>
+    requires defined { IsDefinedTy s.now a.now }
+    requires named { IsNamedTy s.now a.now }
+    ensures { (f : Store) → IsLater s.now f → result ≡ spec.field_type f (given.base_row f a.now) text.now }
+{
+    let Ty::Of(t) = a else {
+        return None;
+    };
+    let Some(row) = base_row(s, a) else {
+        return None;
+    };
+    let Some(b) = s.base(*t) else {
+        return None;
+    };
+    match row {
+        Row::Struct(fields) => field(s, b, fields, text),
+        _ => None,
+    }
+}

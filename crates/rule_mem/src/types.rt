@@ -235,6 +235,7 @@ pub(crate) fn own_type(alloc: Global, s: &mut TypeStore, t: &Turn<'_>) -> Result
             Ok(a)
         }
         Kind::Field => Ok(member_type(s, t)),
+        Kind::StructLit => Ok(own(t, 0)),
         Kind::Index => Ok(index_type(s, t)),
         Kind::Slice => {
             let a = slice_type(s, t)?;

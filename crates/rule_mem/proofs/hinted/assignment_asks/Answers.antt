@@ -13,7 +13,7 @@ returns-then-is_second c f =
     let ys = take c.args.i xs in
     and_both c.is_second.result c.has_type.result _ _ _ c.if-is_second.true c.is_second.ensures c.has_type.ensures
     (second_asked ys (hint_seen (first ys)) (is_some (id_in (given (tree_from_front 0 xs))))
-      (λ e. hint_to-asks (id_in (given (first ys))) ∙ ap (λ (x : TypedNode). is_some (id_in (given x))) (first_take xs c.args.i e)))
+    (λ e. hint_to-asks (id_in (given (first ys))) ∙ ap (λ (x : TypedNode). is_some (id_in (given x))) (first_take xs c.args.i e)))
 
 pub returns-else-is_second : goal.returns-else-is_second
 returns-else-is_second c f =
@@ -21,4 +21,4 @@ returns-else-is_second c f =
     let ys = take c.args.i xs in
     and_not c.is_second.result _ _ _ c.if-is_second.false c.is_second.ensures
     (second_asked ys (hint_seen (first ys)) (is_some (id_in (given (tree_from_front 0 xs))))
-      (λ e. hint_to-asks (id_in (given (first ys))) ∙ ap (λ (x : TypedNode). is_some (id_in (given x))) (first_take xs c.args.i e)))
+    (λ e. hint_to-asks (id_in (given (first ys))) ∙ ap (λ (x : TypedNode). is_some (id_in (given x))) (first_take xs c.args.i e)))

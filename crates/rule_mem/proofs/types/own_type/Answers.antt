@@ -15,7 +15,7 @@ address_type-requires-clause-typed c =
     let kind = sym (ap (λ n. (head n).kind) c.node.view_is) ∙ c.in-Addr.is in
     c.requires.needs.typed
     (place_form (setting_of c.args.s.now c.args.t.now.decls.now) (tree_from_front 0 c.args.t.now.kids.now)
-      (first_met (context_in c.args.s.now c.args.t.now) ki.Addr row.AddrPlace (row.AddrMutable ∷ []) kind refl (c.requires.rows c.args.s.now h)))
+    (first_met (context_in c.args.s.now c.args.t.now) ki.Addr row.AddrPlace (row.AddrMutable ∷ []) kind refl (c.requires.rows c.args.s.now h)))
 
 pub member_type-requires-clause-met : goal.member_type-requires-clause-met
 member_type-requires-clause-met c f l =
