@@ -16,3 +16,4 @@ pub mod UnmetLemmas
 pub mod TypeLemmas
 pub mod OwnLemmas
 pub mod HintedLemmas
+mod MemoryRows

@@ -1,11 +1,10 @@
 //! The types of nodes that meet their own rows.
 
-ghost use Rattle.std.specs.Prelude.{◌≡◌, true, Some, None, IsSome, IfOk, IfSome};
+ghost use Rattle.std.specs.Prelude.{◌≡◌, true, Some, None, IsSome, IfOk};
 ghost use Rattle.hare_tree.specs.declared.kind.Kind.TheVariants as ki;
 ghost use Rattle.hare_types.specs.Store.{Store};
 ghost use Rattle.hare_types.specs.Later.{IsLater};
 ghost use Rattle.hare_rules.specs.Aggregates as spec;
-ghost use Rattle.hare_rules.specs.Operators as operators;
 ghost use Rattle.hare_rules.specs.Words as words;
 ghost use Rattle.hare_rules.specs.Rows.{holds};
 ghost use Rattle.hare_rules.specs.Types.{type_by, type_of};
@@ -13,24 +12,21 @@ ghost use Rattle.hare_rules.specs.declared.row_id.RowId.TheVariants as row;
 ghost use Rattle.rule_mem.specs.Named.{IsNamedTy};
 ghost use Rattle.hare_types.specs.declared.row.Scalar.TheVariants as keyword;
 ghost use Rattle.hare_typed.specs.Given as given;
-ghost use Rattle.hare_typed.specs.Given.{element_in};
 ghost use Rattle.hare_typed.specs.Order.{tree_from_front};
-ghost use Rattle.rule_judge.specs.Defined.{IsDefined, IsDefinedTy, IsDefinedName};
+ghost use Rattle.rule_judge.specs.Defined.{IsDefinedTy, IsDefinedName};
 ghost use Rattle.rule_judge.specs.Grown.{IsGrown};
 ghost use Rattle.rule_mem.specs.Needs.{IsReady};
 ghost use Rattle.rule_judge.specs.Asked.{own_failing};
 ghost use Rattle.rule_judge.specs.Turns.{context_in, kind_in, IsTurn};
 ghost use Rattle.rule_mem.specs.Kinds.{judges};
 
-use crate::allocs::{has_capacity, object_type};
+use crate::paths;
 use crate::reached::{element_reached, member_reached};
-use crate::reads::element;
 use crate::rows::pointed;
 use crate::turns::{own, seen};
-use crate::{arrays, paths, tuples};
 use hare_tree::Kind;
 use hare_types::{Scalar, Ty, TypeStore};
-use rule_judge::{Turn, array_of, pointer_to, refusable, slice_of, tuple_of, word};
+use rule_judge::{Turn, pointer_to, refusable, slice_of, word};
 use std::alloc::{AllocError, Global};
 
 /// The type that is written by one word.
@@ -119,84 +115,6 @@ fn address_type(s: &mut TypeStore, t: &Turn<'_>) -> Result<Ty, AllocError>
     };
     let made = pointer_to(s, u)?;
     Ok(Ty::Of(made))
-}
-
-/// The type of a tuple.
-fn tuple_type(alloc: Global, s: &mut TypeStore, t: &Turn<'_>) -> Result<Option<Ty>, AllocError>
-    requires { IsTurn s.old t.now }
-    ensures value { IfOk result (λ o. (f : Store) → IsLater s.new f → o ≡ spec.tuple_type (context_in f t.now)) }
-    ensures defined { IfOk result (λ o. IfSome o (λ a. IsDefinedTy s.new a)) }
-    ensures grown { IsGrown s.old s.new }
-{
-    let _law = s.declarations();
-    match tuples::components(alloc, s, t)? {
-        Some(types) => {
-            let made = tuple_of(s, types)?;
-            Ok(Some(Ty::Of(made)))
-        }
-        None => Ok(None),
-    }
-}
-
-/// The type of an array.
-fn array_type(s: &mut TypeStore, t: &Turn<'_>) -> Result<Option<Ty>, AllocError>
-    requires { IsTurn s.old t.now }
-    ensures value { IfOk result (λ o. (f : Store) → IsLater s.new f → o ≡ spec.array_type (context_in f t.now)) }
-    ensures defined { IfOk result (λ o. IfSome o (λ a. IsDefinedTy s.new a)) }
-    ensures grown { IsGrown s.old s.new }
-{
-    let _law = s.declarations();
-    if arrays::is_empty(s, t) {
-        return Ok(Some(Ty::Empty));
-    }
-    let count = arrays::element_count(s, t);
-    match arrays::item_type(s, t)? {
-        Some(u) => {
-            let made = array_of(s, count, u)?;
-            Ok(Some(Ty::Of(made)))
-        }
-        None => Ok(None),
-    }
-}
-
-/// The type of an allocation with a capacity.
-fn sequence_type(alloc: Global, s: &mut TypeStore, t: &Turn<'_>) -> Result<Option<Ty>, AllocError>
-    requires turn { IsTurn s.old t.now }
-    requires nomem { IsDefinedName s.old words.nomem }
-    ensures value { IfOk result (λ o. (f : Store) → IsLater s.new f → o ≡ spec.refusable f (spec.slice_of f (element_in (given.base_row f (operators.first_seen (context_in f t.now)))))) }
-    ensures defined { IfOk result (λ o. IfSome o (λ a. IsDefinedTy s.new a)) }
-    ensures grown { IsGrown s.old s.new }
-{
-    let _law = s.declarations();
-    let operand = seen(t, 0);
-    match element(s, &operand) {
-        Some(u) => {
-            let made = slice_of(s, u)?;
-            let whole = refusable(alloc, s, made)?;
-            Ok(Some(Ty::Of(whole)))
-        }
-        None => Ok(None),
-    }
-}
-
-/// The type of an allocation of one operand.
-fn object_pointer(alloc: Global, s: &mut TypeStore, t: &Turn<'_>) -> Result<Option<Ty>, AllocError>
-    requires turn { IsTurn s.old t.now }
-    requires nomem { IsDefinedName s.old words.nomem }
-    ensures value { IfOk result (λ o. (f : Store) → IsLater s.new f → o ≡ spec.refusable f (spec.pointer_to f (spec.object_type (context_in f t.now)))) }
-    ensures defined { IfOk result (λ o. IfSome o (λ a. IsDefinedTy s.new a)) }
-    ensures grown { IsGrown s.old s.new }
-{
-    let _law = s.declarations();
-    let found = object_type(s, t)?;
-    match found {
-        Some(u) => {
-            let made = pointer_to(s, u)?;
-            let whole = refusable(alloc, s, made)?;
-            Ok(Some(Ty::Of(whole)))
-        }
-        None => Ok(None),
-    }
 }
 
 /// The type of `append`.
