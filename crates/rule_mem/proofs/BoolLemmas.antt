@@ -1,5 +1,5 @@
 -- Tests that stop at the first that decides.
-use Rattle.std.proofs.Common.{◌≡◌, Bool, true, false, ◌||◌, Option, Some, None, is_some, Bor, refl, ap, sym, ◌∙◌}
+use Rattle.std.proofs.Common.{◌≡◌, Bool, true, false, not, ◌||◌, Option, Some, None, is_some, Bor, refl, ap, sym, ◌∙◌}
 use Rattle.std.specs.Prelude.{option_copied}
 
 -- the first test decides
@@ -14,3 +14,7 @@ or_second b l i x f e h = h ∙ sym (ap (λ y. y || i) (sym e ∙ f))
 pub is_some-copied : {A : Type 0} (o : Option (Bor A)) → is_some o ≡ is_some (option_copied o)
 is_some-copied None = refl
 is_some-copied (Some x) = refl
+
+-- where the first is so, the second has to be
+pub or_rest : (b h x : Bool) → b ≡ true → b ≡ h → (not h || x) ≡ true → x ≡ true
+or_rest b h x t e k = sym (ap (λ y. not y || x) (sym e ∙ t)) ∙ k

@@ -40,3 +40,13 @@ mutual
   first_form : (w : Setting) (ts : TypedNodes) → is_first_place w ts ≡ true → has_first_form ts ≡ true
   first_form w typed_none e = cc
   first_form w (typed_more t ts) e = place_form w t e
+
+-- the third of a node's own rows
+pub third_met : (c : Context) (k : Kind) (p q r : RowId) (rs : List RowId) → c.head.kind ≡ k → own_rows (rows_of k) ≡ p ∷ q ∷ r ∷ rs → own_failing c ≡ None → holds r c ≡ true
+third_met c k p q r rs e h n =
+    let all = sym (ap (find (λ x. not (holds x c))) (ap (λ j. own_rows (rows_of j)) e ∙ h)) ∙ n in
+    met (holds r c) r (find (λ x. not (holds x c)) rs) (behind (holds q c) q _ (behind (holds p c) p _ all))
+  where
+    behind : (b : Bool) (x : RowId) (o : Option RowId) → cond (not b) (Some x) o ≡ None → o ≡ None
+    behind true x o e = e
+    behind false x o e = cc

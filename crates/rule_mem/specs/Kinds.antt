@@ -15,6 +15,7 @@ judges ki.Index = true
 judges ki.Slice = true
 judges ki.Field = true
 judges ki.StructLit = true
+judges ki.Alloc = true
 judges ki.Free = true
 judges ki.Append = true
 judges ki.Delete = true

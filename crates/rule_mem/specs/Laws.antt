@@ -42,6 +42,7 @@ rows_asked ki.Index h = refl
 rows_asked ki.Slice h = refl
 rows_asked ki.Field h = refl
 rows_asked ki.StructLit h = refl
+rows_asked ki.Alloc h = refl
 rows_asked ki.Free h = refl
 rows_asked ki.Append h = refl
 rows_asked ki.Delete h = refl

@@ -1,19 +1,20 @@
 //! The object of an allocation.
 
-ghost use Rattle.std.specs.Prelude.{◌≡◌, IfOk, IfSome};
+ghost use Rattle.std.specs.Prelude.{◌≡◌, true, Some, IfOk, IfSome};
 ghost use Rattle.hare_types.specs.Store.{Store};
 ghost use Rattle.hare_types.specs.Later.{IsLater};
 ghost use Rattle.hare_rules.specs.Aggregates as spec;
+ghost use Rattle.hare_rules.specs.Words as words;
 ghost use Rattle.hare_rules.specs.Rows.{holds};
 ghost use Rattle.hare_rules.specs.declared.row_id.RowId.TheVariants as row;
-ghost use Rattle.rule_judge.specs.Defined.{IsDefined};
+ghost use Rattle.rule_judge.specs.Defined.{IsDefined, IsDefinedTy};
 ghost use Rattle.rule_judge.specs.Grown.{IsGrown};
 ghost use Rattle.rule_judge.specs.Turns.{context_in, IsTurn};
 
 use crate::reads::element;
 use crate::turns::{is_there, seen};
-use hare_types::{TypeId, TypeStore};
-use rule_judge::{Turn, default_in, has_default, has_size};
+use hare_types::{Scalar, Ty, TypeId, TypeStore};
+use rule_judge::{Turn, default_in, has_default, has_size, word};
 use std::alloc::AllocError;
 
 /// Whether an allocation has a capacity.
@@ -66,4 +67,26 @@ pub(crate) fn has_sequence(s: &TypeStore, t: &Turn<'_>) -> bool
     ensures { (f : Store) → IsLater s.now f → result ≡ holds row.AllocSequence (context_in f t.now) }
 {
     !has_capacity(t) || element(s, &seen(t, 0)).is_some()
+}
+
+/// The default type of a value that has one.
+pub(crate) fn default_of(s: &mut TypeStore, a: &Ty) -> Result<TypeId, AllocError>
+    requires defined { IsDefinedTy s.old a.now }
+    requires met { words.has_default a.now ≡ true }
+    ensures value { IfOk result (λ u. (f : Store) → IsLater s.new f → words.default_in f a.now ≡ Some u) }
+    ensures defined { IfOk result (IsDefined s.new) }
+    ensures grown { IsGrown s.old s.new }
+{
+    let _law = s.declarations();
+    match a {
+        Ty::Of(t) => Ok(*t),
+        Ty::Iconst(v) => match Scalar::default_of(*v) {
+            Some(k) => {
+                let u = word(s, k)?;
+                Ok(u)
+            }
+            None => unreachable!(),
+        },
+        Ty::Null | Ty::Empty => unreachable!(),
+    }
 }

@@ -1,6 +1,6 @@
 //! What a node asks of its kids, and where they go that were asked for no type.
 
-ghost use Rattle.std.specs.Prelude.{◌≡◌, true, None, nat_eq, length, take, is_some, IfOk};
+ghost use Rattle.std.specs.Prelude.{◌≡◌, true, None, nat_eq, length, take, is_some, IfOk, IfSome};
 ghost use Rattle.hare_tree.specs.declared.kind.Kind.TheVariants as ki;
 ghost use Rattle.hare_types.specs.Store.{Store};
 ghost use Rattle.hare_types.specs.Later.{IsLater};
@@ -9,20 +9,23 @@ ghost use Rattle.hare_typed.specs.Order.{tree_from_front};
 ghost use Rattle.hare_rules.specs.Context as context;
 ghost use Rattle.hare_rules.specs.Settles.{target_of};
 ghost use Rattle.hare_rules.specs.Words.{id_in};
-ghost use Rattle.rule_judge.specs.Asked as asked;
+ghost use Rattle.rule_judge.specs.Asked.{asks_type};
+ghost use Rattle.rule_judge.specs.Defined.{IsDefined};
 ghost use Rattle.rule_judge.specs.Grown.{IsGrown};
 ghost use Rattle.rule_judge.specs.Turns.{context_in, kind_in, IsTurn};
 ghost use Rattle.rule_mem.specs.Asking.{asks_as};
 ghost use Rattle.rule_mem.specs.Kinds.{judges};
 ghost use Rattle.rule_mem.specs.Named.{IsNamedTy};
 
+use crate::allocs::has_capacity;
+use crate::hints::{asked, object_asked};
 use crate::members::field_of;
 use crate::reads::slice_element;
 use crate::turns::{own, seen};
 use hare_tree::Kind;
 use hare_typed::TypedKids;
 use hare_types::{Scalar, Ty, TypeId, TypeStore};
-use rule_judge::{Turn, word};
+use rule_judge::{Turn, default_in, word};
 use std::alloc::AllocError;
 
 /// How many kids stand before kid number `i`.
@@ -98,12 +101,31 @@ fn literal_asks(s: &TypeStore, t: &Turn<'_>, i: usize) -> bool
     field_of(s, &own(t, 0), text_at(t.kids, i)).is_some()
 }
 
+/// Whether an allocation asks its kid number `i` for a type: the operand, where the hint asks for such a value, and the capacity for `size`.
+fn allocation_asks(s: &mut TypeStore, t: &Turn<'_>, i: usize) -> Result<bool, AllocError>
+    requires { IsTurn s.old t.now }
+    ensures value { IfOk result (λ b. (f : Store) → IsLater s.new f → b ≡ asks_as (context_in f t.now) i ki.Alloc) }
+    ensures grown { IsGrown s.old s.new }
+{
+    let _law = s.declarations();
+    let case = t.case;
+    if kids_before(t, i) != 0 {
+        let counted = word(s, Scalar::Size)?;
+        let _size = counted;
+        return Ok(true);
+    }
+    if has_capacity(t) {
+        return Ok(asked(s, &case.hint).is_some());
+    }
+    Ok(object_asked(s, &case.hint).is_some())
+}
+
 /// Whether the node has asked its kid number `i` for a value of a type.
 pub(crate) fn asks_type(s: &mut TypeStore, t: &Turn<'_>, i: usize) -> Result<bool, AllocError>
     requires kind { judges (kind_in t.now) ≡ true }
     requires turn { IsTurn s.old t.now }
     requires named { IsNamedTy s.old (context.own_type (tree_from_front 0 t.now.kids.now)) }
-    ensures value { IfOk result (λ b. (f : Store) → IsLater s.new f → b ≡ asked.asks_type (context_in f t.now) i) }
+    ensures value { IfOk result (λ b. (f : Store) → IsLater s.new f → b ≡ asks_type (context_in f t.now) i) }
     ensures grown { IsGrown s.old s.new }
 {
     let _law = s.declarations();
@@ -112,6 +134,10 @@ pub(crate) fn asks_type(s: &mut TypeStore, t: &Turn<'_>, i: usize) -> Result<boo
         Kind::Assign => Ok(assignment_asks(t, i)),
         Kind::Append => Ok(append_asks(s, t, i)),
         Kind::StructLit => Ok(literal_asks(s, t, i)),
+        Kind::Alloc => {
+            let b = allocation_asks(s, t, i)?;
+            Ok(b)
+        }
         Kind::Index => {
             let b = bound_asks(s, t, i)?;
             Ok(b)
@@ -132,14 +158,48 @@ pub(crate) fn asks_type(s: &mut TypeStore, t: &Turn<'_>, i: usize) -> Result<boo
     }
 }
 
-/// The type to which kid number `i` goes: of these kinds each stays as it is.
-pub(crate) fn target(t: &Turn<'_>, i: usize) -> Option<TypeId>
-    requires { judges (kind_in t.now) ≡ true }
-    ensures value { (f : Store) → result ≡ target_of (context_in f t.now) (kind_in t.now) i }
-    ensures none { result ≡ None }
+/// The type to which the operand of an allocation goes: its default, where no hint says what the object is.
+fn object_target(s: &mut TypeStore, t: &Turn<'_>, i: usize) -> Result<Option<TypeId>, AllocError>
+    requires { IsTurn s.old t.now }
+    ensures value { IfOk result (λ o. (f : Store) → IsLater s.new f → o ≡ target_of (context_in f t.now) ki.Alloc i) }
+    ensures defined { IfOk result (λ o. IfSome o (λ u. IsDefined s.new u)) }
+    ensures grown { IsGrown s.old s.new }
 {
+    let _law = s.declarations();
+    let case = t.case;
+    if i != 0 {
+        return Ok(None);
+    }
+    if has_capacity(t) {
+        return Ok(None);
+    }
+    if object_asked(s, &case.hint).is_some() {
+        return Ok(None);
+    }
+    let operand = own(t, i);
+    let d = default_in(s, &operand)?;
+    Ok(d)
+}
+
+/// The type to which kid number `i` goes that was asked for none; none where it stays as it is.
+pub(crate) fn target(
+    s: &mut TypeStore,
+    t: &Turn<'_>,
+    i: usize,
+) -> Result<Option<TypeId>, AllocError>
+    requires kind { judges (kind_in t.now) ≡ true }
+    requires turn { IsTurn s.old t.now }
+    ensures value { IfOk result (λ o. (f : Store) → IsLater s.new f → o ≡ target_of (context_in f t.now) (kind_in t.now) i) }
+    ensures defined { IfOk result (λ o. IfSome o (λ u. IsDefined s.new u)) }
+    ensures grown { IsGrown s.old s.new }
+{
+    let _law = s.declarations();
     let node = t.node;
     match node.kind {
+        Kind::Alloc => {
+            let o = object_target(s, t, i)?;
+            Ok(o)
+        }
         Kind::Path
         | Kind::Deref
         | Kind::Addr
@@ -152,7 +212,7 @@ pub(crate) fn target(t: &Turn<'_>, i: usize) -> Option<TypeId>
         | Kind::Append
         | Kind::Delete
         | Kind::Len
-        | Kind::Offset => None,
+        | Kind::Offset => Ok(None),
         _ => unreachable!(),
     }
 }

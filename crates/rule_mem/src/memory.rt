@@ -59,8 +59,7 @@ impl Rules for Memory {
         t: &Turn<'_>,
         i: usize,
     ) -> Result<Option<TypeId>, AllocError> {
-        let _law = s.declarations();
-        Ok(hinted::target(t, i))
+        hinted::target(s, t, i)
     }
 
     ghost rows = { rows_asked };

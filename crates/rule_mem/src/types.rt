@@ -1,6 +1,6 @@
 //! The types of nodes that meet their own rows.
 
-ghost use Rattle.std.specs.Prelude.{◌≡◌, true, Some, None, IsSome, IfOk};
+ghost use Rattle.std.specs.Prelude.{◌≡◌, true, Some, None, is_some, IsSome, IfOk};
 ghost use Rattle.hare_tree.specs.declared.kind.Kind.TheVariants as ki;
 ghost use Rattle.hare_types.specs.Store.{Store};
 ghost use Rattle.hare_types.specs.Later.{IsLater};
@@ -20,8 +20,10 @@ ghost use Rattle.rule_judge.specs.Asked.{own_failing};
 ghost use Rattle.rule_judge.specs.Turns.{context_in, kind_in, IsTurn};
 ghost use Rattle.rule_mem.specs.Kinds.{judges};
 
+use crate::allocs::{default_of, has_capacity};
 use crate::paths;
 use crate::reached::{element_reached, member_reached};
+use crate::reads::element;
 use crate::rows::pointed;
 use crate::turns::{own, seen};
 use hare_tree::Kind;
@@ -117,6 +119,61 @@ fn address_type(s: &mut TypeStore, t: &Turn<'_>) -> Result<Ty, AllocError>
     Ok(Ty::Of(made))
 }
 
+/// The type of an allocation with a capacity.
+fn sequence_type(alloc: Global, s: &mut TypeStore, t: &Turn<'_>) -> Result<Ty, AllocError>
+    requires turn { IsTurn s.old t.now }
+    requires nomem { IsDefinedName s.old words.nomem }
+    requires met { (f : Store) → IsLater s.old f → is_some (given.element_in (given.base_row f (given.given (tree_from_front 0 t.now.kids.now)))) ≡ true }
+    ensures value { IfOk result (λ a. (f : Store) → IsLater s.new f → spec.refusable f (spec.slice_of f (given.element_in (given.base_row f (given.given (tree_from_front 0 t.now.kids.now))))) ≡ Some a) }
+    ensures defined { IfOk result (IsDefinedTy s.new) }
+    ensures grown { IsGrown s.old s.new }
+{
+    let _law = s.declarations();
+    let operand = seen(t, 0);
+    let Some(u) = element(s, &operand) else {
+        unreachable!();
+    };
+    let made = slice_of(s, u)?;
+    let whole = refusable(alloc, s, made)?;
+    Ok(Ty::Of(whole))
+}
+
+/// The type of an allocation of one operand.
+fn object_pointer(alloc: Global, s: &mut TypeStore, t: &Turn<'_>) -> Result<Ty, AllocError>
+    requires turn { IsTurn s.old t.now }
+    requires nomem { IsDefinedName s.old words.nomem }
+    requires met { words.has_default (given.given (tree_from_front 0 t.now.kids.now)) ≡ true }
+    ensures value { IfOk result (λ a. (f : Store) → IsLater s.new f → spec.refusable f (spec.pointer_to f (words.default_in f (given.given (tree_from_front 0 t.now.kids.now)))) ≡ Some a) }
+    ensures defined { IfOk result (IsDefinedTy s.new) }
+    ensures grown { IsGrown s.old s.new }
+{
+    let _law = s.declarations();
+    let operand = seen(t, 0);
+    let u = default_of(s, &operand)?;
+    let made = pointer_to(s, u)?;
+    let whole = refusable(alloc, s, made)?;
+    Ok(Ty::Of(whole))
+}
+
+/// The type of an allocation.
+fn alloc_type(alloc: Global, s: &mut TypeStore, t: &Turn<'_>) -> Result<Ty, AllocError>
+    requires turn { IsTurn s.old t.now }
+    requires nomem { IsDefinedName s.old words.nomem }
+    requires object { (f : Store) → IsLater s.old f → holds row.AllocDefault (context_in f t.now) ≡ true }
+    requires sequence { (f : Store) → IsLater s.old f → holds row.AllocSequence (context_in f t.now) ≡ true }
+    ensures value { IfOk result (λ a. (f : Store) → IsLater s.new f → type_by (context_in f t.now) ki.Alloc ≡ Some a) }
+    ensures defined { IfOk result (IsDefinedTy s.new) }
+    ensures grown { IsGrown s.old s.new }
+{
+    let _law = s.declarations();
+    if has_capacity(t) {
+        let a = sequence_type(alloc, s, t)?;
+        return Ok(a);
+    }
+    let a = object_pointer(alloc, s, t)?;
+    Ok(a)
+}
+
 /// The type of `append`.
 fn append_type(alloc: Global, s: &mut TypeStore) -> Result<Ty, AllocError>
     requires { IsDefinedName s.old words.nomem }
@@ -157,6 +214,10 @@ pub(crate) fn own_type(alloc: Global, s: &mut TypeStore, t: &Turn<'_>) -> Result
         Kind::Index => Ok(index_type(s, t)),
         Kind::Slice => {
             let a = slice_type(s, t)?;
+            Ok(a)
+        }
+        Kind::Alloc => {
+            let a = alloc_type(alloc, s, t)?;
             Ok(a)
         }
         Kind::Append => {

@@ -6,7 +6,7 @@ use Rattle.hare_typed.specs.Order.{tree_from_front}
 use Rattle.hare_rules.specs.declared.row_id.RowId.TheVariants as row
 use Rattle.rule_judge.specs.Settings.{setting_of}
 use Rattle.rule_judge.specs.Turns.{context_in}
-use Rattle.rule_mem.proofs.OwnLemmas.{first_met, place_form}
+use Rattle.rule_mem.proofs.OwnLemmas.{first_met, third_met, place_form}
 use Rattle.rule_mem.proofs.types.own_type.Goals as goal
 
 pub address_type-requires-clause-typed : goal.address_type-requires-clause-typed
@@ -28,3 +28,8 @@ index_type-requires-clause-met c f l =
 pub slice_type-requires-clause-met : goal.slice_type-requires-clause-met
 slice_type-requires-clause-met c f l =
     first_met (context_in f c.args.t.now) ki.Slice row.SliceIndexable [] (sym (ap (λ n. (head n).kind) c.node.view_is) ∙ c.in-Slice.is) refl (c.requires.rows f l)
+
+pub alloc_type-requires-clause-sequence : goal.alloc_type-requires-clause-sequence
+alloc_type-requires-clause-sequence c f l =
+    third_met (context_in f c.args.t.now) ki.Alloc row.AllocDefault row.AllocHasSize row.AllocSequence [] (sym (ap (λ n. (head n).kind) c.node.view_is) ∙ c.in-Alloc.is) refl
+    (c.requires.rows f l)
