@@ -1,20 +1,25 @@
 -- What nodes ask of their kids.
-use Rattle.std.proofs.Common.{◌≡◌, ℕ, zero, suc, ◌<◌, ◌≤◌, Bool, true, false, ◌&&◌, cond, List, [], ◌∷◌, length, take, Option, Some, None, is_some, nat_eq, refl, ap, ap₂, sym, ◌∙◌, arith}
+use Rattle.std.proofs.Common.{◌≡◌, ℕ, zero, suc, ◌<◌, ◌≤◌, Bool, true, false, not, ◌&&◌, cond, List, [], ◌∷◌, length, take, drop, Option, Some, None, is_some, nat_eq, refl, ap, ap₂, sym, ◌∙◌, arith}
+use Rattle.std.specs.Prelude.{is_none}
 use Rattle.std.specs.Cmp.{unsigned_Decides}
+use Rattle.hare_tree.specs.Shape.{is_none as is_left_out}
 use Rattle.hare_types.specs.declared.coercion.Ty.{Ty}
 use Rattle.hare_types.specs.declared.coercion.Ty.TheVariants as ty
 use Rattle.hare_types.specs.Store.{Store}
 use Rattle.hare_tree.specs.Node.{head}
-use Rattle.hare_typed.specs.Typed.{TypedNode, marked}
-use Rattle.hare_typed.specs.Erased.{erase}
-use Rattle.hare_rules.specs.Context.{Setting, text_of, own_type}
+use Rattle.hare_typed.specs.Typed.{TypedNode, marked, typed_nodes}
+use Rattle.hare_typed.specs.Erased.{erase, erase_each}
+use Rattle.hare_typed.specs.Numbers.{kind_of}
+use Rattle.hare_rules.specs.Context.{Setting, text_of, own_type, is_there}
+use Rattle.hare_rules.specs.Settles.{only_where}
+use Rattle.rule_judge.proofs.KidLemmas.{drop_past}
 use Rattle.hare_rules.specs.Aggregates.{field_type}
 use Rattle.hare_typed.specs.Given.{base_row, given}
 use Rattle.hare_typed.specs.Coercions.{element_of_slice}
 use Rattle.hare_typed.specs.Order.{tree_from_front}
 use Rattle.hare_rules.specs.declared.hint.Hint.{Hint}
 use Rattle.hare_rules.specs.declared.hint.Hint.TheVariants as hint
-use Rattle.hare_rules.specs.Above.{by_place, hint_to, field_hint}
+use Rattle.hare_rules.specs.Above.{by_place, hint_to, hint_id, field_hint, next_kind, allocated_hint}
 use Rattle.hare_rules.specs.Judged.{is_type_hint}
 use Rattle.hare_rules.specs.Words.{id_in}
 
@@ -88,3 +93,41 @@ literal_later w (y ∷ ys) zero x k = absurd (k refl)
 literal_later w (y ∷ ys) (suc i) x k =
     ap (λ t. is_some (field_type w.store (base_row w.store (own_type y)) t)) (sym (erased_text x))
     ∙ sym (hint_to-asks (field_type w.store (base_row w.store (own_type y)) (head (erase x)).text))
+
+-- ---- allocations
+
+erased_kind : (x : TypedNode) → (head (erase x)).kind ≡ kind_of x
+erased_kind (marked h m ts) = refl
+
+-- what stands behind the first kid
+next_is : (xs : List TypedNode) (i : ℕ) → length (take i xs) ≡ 0 → next_kind (erase_each (typed_nodes (drop (suc i) xs))) ≡ kind_of (tree_from_front 1 xs)
+next_is [] i e = ap (λ ys. next_kind (erase_each (typed_nodes ys))) (drop_past [] (suc i) (omega arith))
+next_is (x ∷ []) zero e = refl
+next_is (x ∷ y ∷ ys) zero e = erased_kind y
+next_is (x ∷ xs) (suc i) e = absurd (omega (arith, e))
+
+pub allocation_first : (w : Setting) (own hw : Hint) (xs : List TypedNode) (i : ℕ) (b : Bool) → length (take i xs) ≡ 0 → b ≡ is_there (tree_from_front 1 xs)
+    → is_type_hint (allocated_hint w own b)
+    ≡ is_type_hint (by_place (length (take i xs)) (allocated_hint w own (not (is_left_out (next_kind (erase_each (typed_nodes (drop (suc i) xs)))))) ∷ []) hw)
+allocation_first w own hw xs i b e k =
+    ap (λ c. is_type_hint (allocated_hint w own c)) (k ∙ sym (ap (λ j. not (is_left_out j)) (next_is xs i e)))
+    ∙ sym (ap (λ n. is_type_hint (by_place n (allocated_hint w own (not (is_left_out (next_kind (erase_each (typed_nodes (drop (suc i) xs)))))) ∷ []) hw)) e)
+
+-- with a capacity the operand stays
+pub not_full : (n h k : Bool) (o : Option ℕ) → h ≡ true → None ≡ only_where ((n && not h) && k) o
+not_full true true k o e = refl
+not_full false true k o e = refl
+not_full n false k o e = cc
+
+-- it goes to its default, where nothing is asked of it
+pub at_operand : (n h k : Bool) (o d : Option ℕ) → n ≡ true → h ≡ false → k ≡ true → d ≡ o → d ≡ only_where ((n && not h) && k) o
+at_operand true false true o d a b c e = e
+at_operand false h k o d a b c e = cc
+at_operand true true k o d a b c e = cc
+at_operand true false false o d a b c e = cc
+
+pub none_asked : (o r : Option ℕ) (b : Bool) → r ≡ o → b ≡ is_some r → b ≡ false → is_none (hint_id (hint_to o)) ≡ true
+none_asked None r b e k f = refl
+none_asked (Some t) r b e k f =
+    let no : true ≡ false = sym (k ∙ ap is_some e) ∙ f in
+    cc
