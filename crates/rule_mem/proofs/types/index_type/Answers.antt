@@ -1,0 +1,13 @@
+use Rattle.std.proofs.Common.{◌≡◌, true, false, ap, sym, ◌∙◌, is_some}
+use Rattle.hare_types.proofs.LaterLemmas.{later_here}
+use Rattle.hare_rules.specs.Words.{typed_as}
+use Rattle.rule_mem.proofs.types.index_type.Goals as goal
+
+pub unreachable-requires : goal.unreachable-requires
+unreachable-requires c =
+    let h = later_here c.args.s.now c.declarations-law.ensures.sound in
+    let no : false ≡ true = ap is_some (c.in-None.ensures.value c.args.s.now h) ∙ c.requires.met c.args.s.now h in
+    cc
+
+pub returns-clause-value : goal.returns-clause-value
+returns-clause-value c f l = ap typed_as (sym (c.in-Some.ensures.value f l))

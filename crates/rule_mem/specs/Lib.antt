@@ -1,0 +1,8 @@
+pub mod Members
+pub mod Named
+pub mod Filled
+pub mod Asking
+pub mod Meant
+pub mod Kinds
+pub mod Needs
+pub mod Laws

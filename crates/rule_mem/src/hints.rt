@@ -1,0 +1,143 @@
+//! What hints ask of aggregates and of allocations.
+
+ghost use Rattle.std.specs.Prelude.{◌≡◌, ℕ, option_copied, option_and_then, filter, Contains, Some, IfSome, length};
+ghost use Rattle.hare_types.specs.Store.{Store};
+ghost use Rattle.hare_types.specs.Later.{IsLater};
+ghost use Rattle.hare_rules.specs.Above as above;
+ghost use Rattle.hare_rules.specs.Aggregates as spec;
+ghost use Rattle.hare_rules.specs.Words as words;
+ghost use Rattle.rule_mem.specs.Asking.{object_of};
+ghost use Rattle.rule_judge.specs.Defined.{IsDefined, IsDefinedHint, HoldsDefined};
+
+use hare_rules::Hint;
+use hare_types::{Row, Ty, TypeId, TypeStore};
+use rule_judge::base_row;
+
+/// The row of the base of the type that a hint asks for; none where it asks for none.
+pub(crate) fn hint_base<'s>(s: &'s TypeStore, hint: &Hint) -> Option<&'s Row>
+    requires { IsDefinedHint s.now hint.now }
+    ensures value { (f : Store) → IsLater s.now f → option_copied result ≡ spec.hint_base f hint.now }
+    ensures defined { IfSome result (λ r. HoldsDefined s.now r.now) }
+{
+    match hint {
+        Hint::Of(t) => base_row(s, &Ty::Of(*t)),
+        Hint::Drop | Hint::None => None,
+    }
+}
+
+/// The element that a hint gives to an array.
+pub(crate) fn hinted_element(s: &TypeStore, hint: &Hint) -> Option<TypeId>
+    requires { IsDefinedHint s.now hint.now }
+    ensures value { (f : Store) → IsLater s.now f → result ≡ spec.hinted_element f hint.now }
+    ensures defined { IfSome result (λ t. IsDefined s.now t) }
+{
+    match hint_base(s, hint) {
+        Some(Row::Slice(t)) => Some(*t),
+        Some(Row::Array(_, t)) => Some(*t),
+        _ => None,
+    }
+}
+
+/// The length of the array for which a hint asks.
+pub(crate) fn hinted_length(s: &TypeStore, hint: &Hint) -> Option<u64>
+    requires { IsDefinedHint s.now hint.now }
+    ensures { (f : Store) → IsLater s.now f → result ≡ words.array_length (spec.hint_base f hint.now) }
+{
+    match hint_base(s, hint) {
+        Some(Row::Array(n, _)) => Some(*n),
+        _ => None,
+    }
+}
+
+/// The components that a hint gives to a tuple of so many items.
+pub(crate) fn hinted_components<'s>(
+    s: &'s TypeStore,
+    hint: &Hint,
+    count: usize,
+) -> Option<&'s [TypeId]>
+    requires { IsDefinedHint s.now hint.now }
+    ensures value { (f : Store) → IsLater s.now f → option_copied result ≡ spec.hinted_components f hint.now count }
+    ensures defined { IfSome result (λ ts. (i : ℕ) → Contains ts.now i → IsDefined s.now i) }
+{
+    match hint_base(s, hint) {
+        Some(Row::Tuple(types)) => {
+            if types.len() == count {
+                Some(types.as_slice())
+            } else {
+                None
+            }
+        }
+        _ => None,
+    }
+}
+
+/// Whether the base of a type is a pointer, an array or a slice.
+fn is_allocated(s: &TypeStore, t: TypeId) -> bool
+    requires { IsDefined s.now t }
+    ensures { (f : Store) → IsLater s.now f → result ≡ words.is_allocated f t }
+{
+    matches!(
+        base_row(s, &Ty::Of(t)),
+        Some(Row::Pointer(_) | Row::Nullable(_) | Row::Array(_, _) | Row::Slice(_))
+    )
+}
+
+/// The one of these types whose base is a pointer, an array or a slice; none where there is none or several.
+fn only_allocated(s: &TypeStore, types: &[TypeId]) -> Option<TypeId>
+    requires { (i : ℕ) → Contains types.now i → IsDefined s.now i }
+    ensures value { (f : Store) → IsLater s.now f → result ≡ words.only_one (filter (words.is_allocated f) types.now) }
+    ensures defined { IfSome result (λ t. IsDefined s.now t) }
+{
+    let mut found = None;
+    for t in types {
+        if is_allocated(s, *t) {
+            match found {
+                Some(_) => return None,
+                None => found = Some(*t),
+            }
+        }
+    }
+    found
+}
+
+/// The type of which a type that is asked for asks an allocation: itself, where its base is a pointer, an array or a slice; else, of a
+/// union, the one member of which that is so.
+fn allocation(s: &TypeStore, t: TypeId) -> Option<TypeId>
+    requires { IsDefined s.now t }
+    ensures value { (f : Store) → IsLater s.now f → result ≡ words.allocation f t }
+    ensures defined { IfSome result (λ u. IsDefined s.now u) }
+{
+    match base_row(s, &Ty::Of(t)) {
+        Some(Row::Pointer(_) | Row::Nullable(_) | Row::Array(_, _) | Row::Slice(_)) => Some(t),
+        Some(Row::Union(members)) => only_allocated(s, members.as_slice()),
+        _ => None,
+    }
+}
+
+/// The type of which a hint asks an allocation.
+pub(crate) fn asked(s: &TypeStore, hint: &Hint) -> Option<TypeId>
+    requires { IsDefinedHint s.now hint.now }
+    ensures value { (f : Store) → IsLater s.now f → result ≡ option_and_then (words.allocation f) (above.hint_id hint.now) }
+    ensures defined { IfSome result (λ u. IsDefined s.now u) }
+{
+    match hint {
+        Hint::Of(t) => allocation(s, *t),
+        Hint::Drop | Hint::None => None,
+    }
+}
+
+/// The object that an allocation of one operand is asked for.
+pub(crate) fn object_asked(s: &TypeStore, hint: &Hint) -> Option<TypeId>
+    requires { IsDefinedHint s.now hint.now }
+    ensures value { (f : Store) → IsLater s.now f → result ≡ object_of f hint.now }
+    ensures defined { IfSome result (λ u. IsDefined s.now u) }
+{
+    let Some(t) = asked(s, hint) else {
+        return None;
+    };
+    match base_row(s, &Ty::Of(t)) {
+        Some(Row::Pointer(u)) => Some(*u),
+        Some(Row::Nullable(u)) => Some(*u),
+        _ => None,
+    }
+}

@@ -1,0 +1,23 @@
+//! The typing rules of places, aggregates and the heap.
+#![tactic(auto)]
+
+mod allocs;
+mod arrays;
+mod deletes;
+mod fill;
+mod hinted;
+mod hints;
+mod ids;
+mod literals;
+mod members;
+mod memory;
+mod paths;
+mod reached;
+mod reads;
+mod rows;
+mod tuples;
+mod turns;
+mod types;
+mod unmet;
+
+pub use memory::judge;
