@@ -2,7 +2,6 @@
 """Runs a command of the kit, as the gate, and prints the processor minutes of each crate.
 
     scripts/gate_minutes.py              runs `rt ci`
-    scripts/gate_minutes.py rt ci --anew proves from nothing what earlier runs kept
     scripts/gate_minutes.py rt check     any other command that checks crates
 
 It stands at the top of the repository, and reads crates.txt for the chains of crates. Each half second it asks the system (Linux, /proc) which
