@@ -1,5 +1,5 @@
 -- How far the walk over the tokens has come.
-use Rattle.std.proofs.Common.{◌≡◌, ℕ, zero, suc, ◌+◌, ◌-◌, ◌<◌, ◌≤◌, List, [], ◌∷◌, ◌++◌, Option, Some, None, Bool, true, false, length, take, drop, refl, sym, ap, ◌∙◌, subst, arith, append_assoc, append-nil, add-one, length-append}
+use Rattle.std.proofs.Common.{◌≡◌, ℕ, zero, suc, ◌+◌, ◌-◌, ◌<◌, ◌≤◌, List, [], ◌∷◌, ◌++◌, Some, Bool, true, false, length, drop, refl, sym, ap, ◌∙◌, subst, arith, append_assoc, append-nil, add-one, length-append}
 use Rattle.std.specs.Prelude.{slice_get}
 use Rattle.hare_tree.specs.declared.token.Token.{Token}
 use Rattle.hare_tree.specs.Tokens.{Reads, Stands, IsTokens, is_path_mark, no_gap, place_at, end_at}
@@ -20,7 +20,8 @@ pub record Walked (src : List ℕ) (tokens : List Token) (n at : ℕ) (pieces : 
   pub at_path : Bool
   pub reads : Reads 0 before behind (drop n (before_end tokens)) rest [] at_path
   pub at_is : at + length rest ≡ length src
-  pub goes_on : (more : List Piece) → ConsistsOf at behind rest (drop n (before_end tokens)) more → ConsistsOf 0 false src (before_end tokens) (pieces ++ more)
+  pub goes_on : (more : List Piece) → ConsistsOf at behind rest (drop n (before_end tokens)) more
+      → ConsistsOf 0 false src (before_end tokens) (pieces ++ more)
 
 before_last : (ts : List Token) (t : Token) → before_end (ts ++ t ∷ []) ≡ ts
 before_last [] t = refl
@@ -40,7 +41,8 @@ walked_start src tokens h =
     }
 
 -- the next token
-token_next : (tokens : List Token) (n : ℕ) (t : Token) → n < length tokens - 1 → slice_get tokens n ≡ Some t → drop n (before_end tokens) ≡ t ∷ drop (suc n) (before_end tokens)
+token_next : (tokens : List Token) (n : ℕ) (t : Token) → n < length tokens - 1 → slice_get tokens n ≡ Some t
+    → drop n (before_end tokens) ≡ t ∷ drop (suc n) (before_end tokens)
 token_next [] n t h e = absurd (omega arith)
 token_next (u ∷ []) n t h e = absurd (omega arith)
 token_next (u ∷ v ∷ vs) zero t h e = let k : u ≡ t = cc in ap (λ x. x ∷ before_end (v ∷ vs)) k
@@ -55,7 +57,8 @@ pub record Turn (behind : Bool) (t : Token) (ts : List Token) (text : List ℕ) 
   pub before : List ℕ
   pub reads : Reads 0 before (is_path_mark t.kind t.text) ts rest [] at_path
 
-turn_of : (before : List ℕ) (b : Bool) (t : Token) (ts : List Token) (s text : List ℕ) (at_path : Bool) → Reads 0 before b (t ∷ ts) s [] at_path → skipped false s ≡ text → Turn b t ts text at_path
+turn_of : (before : List ℕ) (b : Bool) (t : Token) (ts : List Token) (s text : List ℕ) (at_path : Bool)
+    → Reads 0 before b (t ∷ ts) s [] at_path → skipped false s ≡ text → Turn b t ts text at_path
 turn_of before b t ts s text at_path r e = record {
   word = r.1;
   rest = r.2;
@@ -66,7 +69,8 @@ turn_of before b t ts s text at_path r e = record {
 }
 
 -- a turn of the walk: behind the comments that were put stands this token
-pub record Behind (src : List ℕ) (tokens : List Token) (n at : ℕ) (old : List Piece) (s : List ℕ) (mid : List Piece) (k : ℕ) (t : Token) (text : List ℕ) : Type 0 where
+pub record Behind (src : List ℕ) (tokens : List Token) (n at : ℕ) (old : List Piece) (s : List ℕ) (mid : List Piece) (k : ℕ) (t : Token)
+    (text : List ℕ) : Type 0 where
   pub walked : Walked src tokens n at old s
   pub leads : Leads at s old mid k
   pub fresh : no_gap (drop k s) ≡ true
@@ -74,15 +78,19 @@ pub record Behind (src : List ℕ) (tokens : List Token) (n at : ℕ) (old : Lis
   pub token : slice_get tokens n ≡ Some t
   pub text_is : text ≡ drop k s
 
-pub turn : (src : List ℕ) (tokens : List Token) (n at : ℕ) (old : List Piece) (s : List ℕ) (mid : List Piece) (k : ℕ) (t : Token) (text : List ℕ) → (h : Behind src tokens n at old s mid k t text) → Turn h.walked.behind t (drop (suc n) (before_end tokens)) text h.walked.at_path
+pub turn : (src : List ℕ) (tokens : List Token) (n at : ℕ) (old : List Piece) (s : List ℕ) (mid : List Piece) (k : ℕ) (t : Token)
+    (text : List ℕ) → (h : Behind src tokens n at old s mid k t text)
+    → Turn h.walked.behind t (drop (suc n) (before_end tokens)) text h.walked.at_path
 turn src tokens n at old s mid k t text h =
     let w = h.walked in
     let next = token_next tokens n t h.within h.token in
-    turn_of w.before w.behind t (drop (suc n) (before_end tokens)) s text w.at_path (subst (λ l. Reads 0 w.before w.behind l s [] w.at_path) next w.reads)
+    turn_of w.before w.behind t (drop (suc n) (before_end tokens)) s text w.at_path
+    (subst (λ l. Reads 0 w.before w.behind l s [] w.at_path) next w.reads)
     (leads_skip at s old mid k h.leads h.fresh ∙ sym h.text_is)
 
 -- the token stands in front
-pub in_front : (src : List ℕ) (tokens : List Token) (n at : ℕ) (old : List Piece) (s : List ℕ) (mid : List Piece) (k : ℕ) (t : Token) (text : List ℕ) → Behind src tokens n at old s mid k t text → IsInFront t text
+pub in_front : (src : List ℕ) (tokens : List Token) (n at : ℕ) (old : List Piece) (s : List ℕ) (mid : List Piece) (k : ℕ) (t : Token)
+    (text : List ℕ) → Behind src tokens n at old s mid k t text → IsInFront t text
 in_front src tokens n at old s mid k t text h =
     let r = turn src tokens n at old s mid k t text h in
     record { word = r.word; rest = r.rest; split = r.split; spells = r.stands.fits.spells }
@@ -93,8 +101,10 @@ length-parts [] (suc k) h = absurd (omega arith)
 length-parts (c ∷ s) (suc k) h = let i = length-parts s k (omega arith) in omega (arith, i)
 
 -- one more token is cut
-pub walked_more : (src : List ℕ) (tokens : List Token) (n at : ℕ) (old : List Piece) (s : List ℕ) (mid : List Piece) (k : ℕ) (t : Token) (text : List ℕ) (len from to : ℕ) (new : List Piece) (rest : List ℕ)
-    → Behind src tokens n at old s mid k t text → PutsToken t from text mid new len → k ≤ length s → from ≡ at + k → to ≡ from + len → rest ≡ drop len text
+pub walked_more : (src : List ℕ) (tokens : List Token) (n at : ℕ) (old : List Piece) (s : List ℕ) (mid : List Piece) (k : ℕ) (t : Token)
+    (text : List ℕ) (len from to : ℕ) (new : List Piece) (rest : List ℕ)
+    → Behind src tokens n at old s mid k t text → PutsToken t from text mid new len → k ≤ length s → from ≡ at + k → to ≡ from + len
+    → rest ≡ drop len text
     → Walked src tokens (n + 1) to new rest
 walked_more src tokens n at old s mid k t text len from to new rest h m f a b d =
     let w = h.walked in
@@ -123,9 +133,11 @@ walked_more src tokens n at old s mid k t text len from to new rest h m f a b d 
           subst (λ l. ConsistsOf (at + k) w.behind l (t ∷ left) (piece ∷ more)) (sym r.split ∙ h.text_is)
           (subst (λ i. ConsistsOf i w.behind (r.word ++ r.rest) (t ∷ left) (piece ∷ more)) a one) in
           let led = h.leads.goes_on w.behind (t ∷ left) (piece ∷ more) here in
-          let whole = w.goes_on (h.leads.found ++ piece ∷ more) (subst (λ l. ConsistsOf at w.behind s l (h.leads.found ++ piece ∷ more)) (sym next) led) in
+          let whole = w.goes_on (h.leads.found ++ piece ∷ more)
+          (subst (λ l. ConsistsOf at w.behind s l (h.leads.found ++ piece ∷ more)) (sym next) led) in
           subst (λ l. ConsistsOf 0 false src (before_end tokens) l)
-          (sym (ap (λ l. l ++ more) (e ∙ ap (λ l. l ++ piece ∷ []) h.leads.new_is) ∙ append_assoc (old ++ h.leads.found) (piece ∷ []) more ∙ append_assoc old h.leads.found (piece ∷ more)))
+          (sym (ap (λ l. l ++ more) (e ∙ ap (λ l. l ++ piece ∷ []) h.leads.new_is) ∙ append_assoc (old ++ h.leads.found) (piece ∷ []) more
+          ∙ append_assoc old h.leads.found (piece ∷ more)))
           whole;
     } in
     subst (λ i. Walked src tokens i to new rest) (sym (add-one n)) (subst (λ l. Walked src tokens (suc n) to new l) (sym rest_is) walked)
@@ -140,7 +152,9 @@ none_left (u ∷ []) (suc n) h = refl
 none_left (u ∷ v ∷ vs) zero h = absurd (omega arith)
 none_left (u ∷ v ∷ vs) (suc n) h = none_left (v ∷ vs) n (omega arith)
 
-pub walked_end : (src : List ℕ) (tokens : List Token) (n at : ℕ) (old : List Piece) (s : List ℕ) (new : List Piece) (k : ℕ) → IsTokens 0 src tokens → length tokens - 1 ≤ n → Walked src tokens n at old s → Leads at s old new k → no_gap (drop k s) ≡ true → ArePieces src new
+pub walked_end : (src : List ℕ) (tokens : List Token) (n at : ℕ) (old : List Piece) (s : List ℕ) (new : List Piece) (k : ℕ)
+    → IsTokens 0 src tokens → length tokens - 1 ≤ n → Walked src tokens n at old s → Leads at s old new k → no_gap (drop k s) ≡ true
+    → ArePieces src new
 walked_end src tokens n at old s new k h end w l f =
     let none = none_left tokens n end in
     let r = subst (λ (ts : List Token). Reads 0 w.before w.behind ts s [] w.at_path) none w.reads in

@@ -1,7 +1,9 @@
 -- The pieces of a text: its tokens and comments, in order, by their bytes.
 --
--- Blanks stand between pieces. A piece is a comment, from `//` to before the end of its line, or it spells the next token of the text: the longest that
--- fits, at a place where neither a blank nor a comment begins. So there is one piece for each token, also for strings side by side, and one for each
+-- Blanks stand between pieces. A piece is a comment, from `//` to before the end of its line, or it spells the next token of the text:
+-- the longest that
+-- fits, at a place where neither a blank nor a comment begins. So there is one piece for each token, also for strings side by side, and
+-- one for each
 -- comment.
 use Rattle.std.specs.Prelude.{◌≡◌, ℕ, ◌+◌, List, [], ◌∷◌, ◌++◌, Bool, true, false, length, ◌⊎◌}
 use Rattle.std.specs.List.{list_all}
@@ -15,12 +17,14 @@ use Rattle.hare_pieces.specs.declared.piece.Piece.{Piece}
 abbrev pub are_blank : List ℕ → Bool
 are_blank s = list_all is_blank s
 
--- Behind so many bytes of the file stands this text, which consists of these pieces and of blanks around them: those that are no comments spell these
+-- Behind so many bytes of the file stands this text, which consists of these pieces and of blanks around them: those that are no comments
+-- spell these
 -- tokens, one each, and the token before the first is `::` or not.
 abbrev pub ConsistsOf : ℕ → Bool → List ℕ → List Token → List Piece → Type 0
 ConsistsOf at behind_path text ts [] = (ts ≡ []) × (are_blank text ≡ true)
 ConsistsOf at behind_path text ts (p ∷ ps) =
-    (blank s rest : List ℕ) × (text ≡ blank ++ (s ++ rest)) × (are_blank blank ≡ true) × (p.from ≡ at + length blank) × (p.to ≡ p.from + length s)
+    (blank s rest : List ℕ) × (text ≡ blank ++ (s ++ rest)) × (are_blank blank ≡ true) × (p.from ≡ at + length blank)
+    × (p.to ≡ p.from + length s)
     × (((p.comment ≡ true) × IsComment s rest × ConsistsOf p.to behind_path rest ts ps)
     ⊎ ((t : Token) × (more : List Token) × (p.comment ≡ false) × (ts ≡ t ∷ more) × (no_gap (s ++ rest) ≡ true) × Stands behind_path t s rest
     × ConsistsOf p.to (is_path_mark t.kind t.text) rest more ps))

@@ -1,5 +1,5 @@
 -- What the private functions of the walk over a text speak of. No public clause cites it.
-use Rattle.std.specs.Prelude.{◌≡◌, ℕ, ◌+◌, List, [], ◌∷◌, ◌++◌, Bool, true, false, ◌&&◌, ◌==◌, ◌⊎◌, length, drop, slice_index}
+use Rattle.std.specs.Prelude.{◌≡◌, ℕ, ◌+◌, List, [], ◌∷◌, ◌++◌, Bool, false, ◌&&◌, ◌==◌, ◌⊎◌, length, drop, slice_index}
 use Rattle.hare_tree.specs.declared.token.Token.{Token}
 use Rattle.hare_tree.specs.Tokens.{Gap}
 use Rattle.hare_tree.specs.Spelling.{IsSpelling, IsQuoted, IsRaw}
@@ -10,12 +10,14 @@ use Rattle.hare_pieces.specs.Pieces.{ConsistsOf}
 abbrev pub begins_comment : List ℕ → Bool
 begins_comment s = slice_index s 0 == 47 && slice_index s 1 == 47
 
--- The pieces found at the front of a text, which begins behind `at` bytes of the file, are put behind the old ones: the first n bytes are these pieces and
+-- The pieces found at the front of a text, which begins behind `at` bytes of the file, are put behind the old ones: the first n bytes are
+-- these pieces and
 -- blanks, and a gap.
 pub record Leads (at : ℕ) (s : List ℕ) (old new : List Piece) (n : ℕ) : Type 0 where
   pub found : List Piece
   pub new_is : new ≡ old ++ found
-  pub goes_on : (b : Bool) (ts : List Token) (more : List Piece) → ConsistsOf (at + n) b (drop n s) ts more → ConsistsOf at b s ts (found ++ more)
+  pub goes_on : (b : Bool) (ts : List Token) (more : List Piece) → ConsistsOf (at + n) b (drop n s) ts more
+      → ConsistsOf at b s ts (found ++ more)
   pub gap : (parts : List (List ℕ)) (left : List ℕ) → Gap parts (drop n s) left → (whole : List (List ℕ)) × Gap whole s left
 
 -- the token is spelled at the front of the text

@@ -10,7 +10,8 @@ use crate::piece::Piece;
 use crate::pieces::Pieces;
 use std::alloc::AllocError;
 
-// Puts the comments in front of the next token, in a text that begins behind `at` bytes of the file, and gives the length of what stands before that token.
+// Puts the comments in front of the next token, in a text that begins behind `at` bytes of the file, and gives the length of what stands
+// before that token.
 pub fn put_comments(pieces: &mut Pieces, at: usize, s: &[u8]) -> Result<usize, AllocError>
     requires { at + length s.now < 2 ^ 64 }
     ensures within { IfOk result (λ n. n ≤ length s.now) }

@@ -14,7 +14,8 @@ use hare_lex::{LexStop, tokens};
 use hare_tree::{Token, Tokens};
 use std::alloc::{AllocError, Global};
 
-/// The tokens and comments of a text that has tokens without a fault, in order, by their bytes. Strings side by side are pieces of their own. There are
+/// The tokens and comments of a text that has tokens without a fault, in order, by their bytes. Strings side by side are pieces of their
+/// own. There are
 /// fewer than 2^32 - 1 bytes, as `tokens` asks.
 ///
 /// The time is linear in the bytes.

@@ -7,6 +7,8 @@ mod laws;
 mod length;
 mod piece;
 mod pieces;
+#[cfg(test)]
+mod tests;
 
 pub use cut::pieces_of;
 pub use laws::law_one_list_of_pieces;

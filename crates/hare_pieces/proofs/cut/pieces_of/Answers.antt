@@ -1,6 +1,4 @@
-use Rattle.std.proofs.Common.{◌≡◌, ◌∙◌, sym, ap, Result, Ok, Err, IfOk, List}
-use Rattle.hare_tree.specs.declared.token.Token.{Token}
-use Rattle.hare_lex.specs.declared.stop.LexStop.TheVariants.{Fault, Memory}
+use Rattle.std.proofs.Common.{◌∙◌, sym}
 use Rattle.hare_pieces.proofs.Once.{only_pieces}
 use Rattle.hare_pieces.proofs.cut.pieces_of.Goals as goal
 
