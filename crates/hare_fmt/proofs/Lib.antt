@@ -1,0 +1,5 @@
+pub mod Once
+pub mod RowWords
+pub mod LineRows
+pub mod BreakRows
+pub mod LayoutRows

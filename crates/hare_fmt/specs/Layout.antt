@@ -1,0 +1,65 @@
+-- The layout of a file: a relation between two texts.
+--
+-- A text is the layout of a source where it is what the source's tree and pieces are laid out as:
+--   * what is read of the source (Read.antt): for each piece its bytes, and whether none, one or more line ends stand before it;
+--   * the way of each token (Ways.antt, with Joins.antt and Breaks.antt): whether it begins a line, whether a blank may stand before it, how many broken
+--     braces and lists are open, and whether a comma is added;
+--   * the gap before each piece (Gaps.antt);
+--   * the bytes (here).
+use Rattle.std.specs.Prelude.{◌≡◌, ℕ, List, [], ◌∷◌, ◌++◌, Bool, true, false, replicate, None}
+use Rattle.std.specs.List.{flat_map}
+use Rattle.hare_tree.specs.declared.token.Token.{Token}
+use Rattle.hare_tree.specs.declared.tree.FileTree.{FileTree}
+use Rattle.hare_tree.specs.Tokens.{IsTokens}
+use Rattle.hare_tree.specs.Grammar.{IsFileTree}
+use Rattle.hare_pieces.specs.declared.piece.Piece.{Piece}
+use Rattle.hare_pieces.specs.Pieces.{ArePieces}
+use Rattle.hare_fmt.specs.declared.way.Gap.{Gap}
+use Rattle.hare_fmt.specs.declared.way.Gap.TheVariants.{First, Join, Blank, Line}
+use Rattle.hare_fmt.specs.Read.{Seen, seen, comments_before}
+use Rattle.hare_fmt.specs.Ways.{file_ways}
+use Rattle.hare_fmt.specs.Gaps.{placed, laid, at_start}
+
+-- ---- bytes
+
+abbrev pub feeds : Bool → List ℕ
+feeds true = 10 ∷ 10 ∷ []
+feeds false = 10 ∷ []
+
+abbrev pub gap_bytes : Gap → List ℕ
+gap_bytes First = []
+gap_bytes Join = []
+gap_bytes Blank = 32 ∷ []
+gap_bytes (Line empty tabs) = feeds empty ++ replicate tabs 9
+
+-- a text that is not empty ends its last line
+abbrev pub with_end : List ℕ → List ℕ
+with_end [] = []
+with_end (c ∷ s) = (c ∷ s) ++ 10 ∷ []
+
+abbrev pub bytes_of : List (Gap × List ℕ) → List ℕ
+bytes_of l = with_end (flat_map (λ p. gap_bytes p.0 ++ p.1) l)
+
+-- ---- texts
+
+-- what the tree and the pieces of a file are laid out as
+abbrev pub layout : FileTree → List Seen → List ℕ
+layout tree xs = bytes_of (laid at_start (placed None (file_ways (comments_before 0 false xs) tree) xs))
+
+-- what a text with this tree and these pieces is laid out as
+abbrev pub layout_of : List ℕ → FileTree → List Piece → List ℕ
+layout_of text tree ps = layout tree (seen text ps)
+
+-- The text is the layout of the source, which has tokens without a fault and a tree.
+pub record IsLaidOut (src text : List ℕ) : Type 0 where
+  pub tokens : List Token
+  pub are : IsTokens 0 src tokens
+  pub tree : FileTree
+  pub file_is : IsFileTree 0 tokens tree
+  pub pieces : List Piece
+  pub cut : ArePieces src pieces
+  pub text_is : text ≡ layout_of src tree pieces
+
+-- a source has one layout
+abbrev pub SourcesHaveOneLayout : Type 0
+SourcesHaveOneLayout = (src text other : List ℕ) → IsLaidOut src text → IsLaidOut src other → text ≡ other
