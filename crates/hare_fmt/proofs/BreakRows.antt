@@ -10,11 +10,13 @@ use Rattle.hare_fmt.proofs.RowWords.{text, pieces, node, named, none, comma, dot
 
 -- ---- broken comma lists
 
-broken_by_a_comma : laid_out (set (node ki.Array (a ∷ b ∷ none ∷ comma ∷ []))) (codes "let x = [ a , b , ] ;") ≡ text (codes "let x = [@#a,@#b,@];@")
+broken_by_a_comma : laid_out (set (node ki.Array (a ∷ b ∷ none ∷ comma ∷ []))) (codes "let x = [ a , b , ] ;") ≡ text
+    (codes "let x = [@#a,@#b,@];@")
 unfolding ways spell stops
 broken_by_a_comma = refl
 
-broken_by_a_comment : laid_out (set (node ki.Call (a ∷ b ∷ none ∷ []))) (codes "let x = a ( b //c @ ) ;") ≡ text (codes "let x = a(@#b, //c@);@")
+broken_by_a_comment : laid_out (set (node ki.Call (a ∷ b ∷ none ∷ []))) (codes "let x = a ( b //c @ ) ;") ≡ text
+    (codes "let x = a(@#b, //c@);@")
 unfolding ways spell stops
 broken_by_a_comment = refl
 
@@ -22,7 +24,8 @@ without_items : laid_out (set (node ki.Call (a ∷ none ∷ []))) (codes "let x 
 unfolding ways spell stops
 without_items = refl
 
-struct_types : laid_out (type (node ki.TypeStruct (named ki.StructField (codes "a") (int ∷ []) ∷ named ki.StructField (codes "b") (int ∷ []) ∷ none ∷ [])))
+struct_types : laid_out (type
+    (node ki.TypeStruct (named ki.StructField (codes "a") (int ∷ []) ∷ named ki.StructField (codes "b") (int ∷ []) ∷ none ∷ [])))
     (codes "type x = struct { a : int , b : int } ;")
     ≡ text (codes "type x = struct {@#a: int,@#b: int,@};@")
 unfolding ways spell stops
@@ -34,7 +37,8 @@ lists_in_lists : laid_out (set (node ki.Tuple (node ki.Call (a ∷ b ∷ comma �
 unfolding ways spell stops
 lists_in_lists = refl
 
-imports : layout (file (node ki.UseNames (node ki.ImportPath (name (codes "a") ∷ []) ∷ name (codes "b") ∷ comma ∷ []) ∷ []) []) (pieces (codes "use a :: { b , } ;"))
+imports : layout (file (node ki.UseNames (node ki.ImportPath (name (codes "a") ∷ []) ∷ name (codes "b") ∷ comma ∷ []) ∷ []) [])
+    (pieces (codes "use a :: { b , } ;"))
     ≡ text (codes "use a::{@#b,@};@")
 unfolding ways spell stops
 imports = refl
@@ -56,7 +60,8 @@ strings_side_by_side = refl
 
 -- ---- braces
 
-blocks : laid_out (set (node ki.Block (a ∷ node ki.Block (b ∷ []) ∷ []))) (codes "let x = { a ; { b ; } ; } ;") ≡ text (codes "let x = {@#a;@#{@##b;@#};@};@")
+blocks : laid_out (set (node ki.Block (a ∷ node ki.Block (b ∷ []) ∷ []))) (codes "let x = { a ; { b ; } ; } ;") ≡ text
+    (codes "let x = {@#a;@#{@##b;@#};@};@")
 unfolding ways spell stops
 blocks = refl
 
@@ -70,24 +75,30 @@ braces_round_a_comment = refl
 
 -- ---- cases
 
-one_statement : laid_out (set (node ki.Match (a ∷ node ki.Case (node ki.PatternNull [] ∷ b ∷ []) ∷ node ki.Case (named ki.PatternLet (codes "n") (int ∷ []) ∷ node ki.Block (c ∷ []) ∷ []) ∷ [])))
+one_statement : laid_out (set
+    (node ki.Match (a ∷ node ki.Case (node ki.PatternNull [] ∷ b ∷ []) ∷ node ki.Case
+    (named ki.PatternLet (codes "n") (int ∷ []) ∷ node ki.Block (c ∷ []) ∷ []) ∷ [])))
     (codes "let x = match ( a ) { case null => b ; case let n : int => { c ; } ; } ;")
     ≡ text (codes "let x = match (a) {@case null => b;@case let n: int => {@##c;@#};@};@")
 unfolding ways spell stops
 one_statement = refl
 
-more_statements : laid_out (set (node ki.Switch (a ∷ node ki.SwitchCase (node ki.Values (number (codes "1") ∷ number (codes "2") ∷ none ∷ []) ∷ []) ∷ node ki.SwitchCase (none ∷ b ∷ c ∷ []) ∷ [])))
+more_statements : laid_out
+    (set (node ki.Switch (a ∷ node ki.SwitchCase
+    (node ki.Values (number (codes "1") ∷ number (codes "2") ∷ none ∷ []) ∷ []) ∷ node ki.SwitchCase (none ∷ b ∷ c ∷ []) ∷ [])))
     (codes "let x = switch ( a ) { case 1 , 2 => case => b ; c ; } ;")
     ≡ text (codes "let x = switch (a) {@case 1, 2 =>@case =>@#b;@#c;@};@")
 unfolding ways spell stops
 more_statements = refl
 
-a_comment_in_a_case : laid_out (set (node ki.Match (a ∷ node ki.Case (none ∷ b ∷ []) ∷ []))) (codes "let x = match ( a ) { case => //c @ b ; } ;")
+a_comment_in_a_case : laid_out (set (node ki.Match (a ∷ node ki.Case (none ∷ b ∷ []) ∷ [])))
+    (codes "let x = match ( a ) { case => //c @ b ; } ;")
     ≡ text (codes "let x = match (a) {@case => //c@#b;@};@")
 unfolding ways spell stops
 a_comment_in_a_case = refl
 
-a_comment_before_a_case : laid_out (set (node ki.Match (a ∷ node ki.Case (none ∷ b ∷ []) ∷ []))) (codes "let x = match ( a ) { @ //c @ case => b ; @ //d @ } ;")
+a_comment_before_a_case : laid_out (set (node ki.Match (a ∷ node ki.Case (none ∷ b ∷ []) ∷ [])))
+    (codes "let x = match ( a ) { @ //c @ case => b ; @ //d @ } ;")
     ≡ text (codes "let x = match (a) {@#//c@case => b;@#//d@};@")
 unfolding ways spell stops
 a_comment_before_a_case = refl

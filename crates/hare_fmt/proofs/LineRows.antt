@@ -10,7 +10,8 @@ use Rattle.hare_fmt.proofs.RowWords.{text, pieces, node, named, none, comma, dot
 
 -- ---- types
 
-marks_of_types : laid_out (type (node ki.TypeNullable (node ki.TypeError (node ki.TypeSlice (scalar (codes "u8") ∷ []) ∷ []) ∷ []))) (codes "type x = nullable * ! [ ] u8 ;")
+marks_of_types : laid_out (type (node ki.TypeNullable (node ki.TypeError (node ki.TypeSlice (scalar (codes "u8") ∷ []) ∷ []) ∷ [])))
+    (codes "type x = nullable * ! [ ] u8 ;")
     ≡ text (codes "type x = nullable *![]u8;@")
 unfolding ways spell stops
 marks_of_types = refl
@@ -20,14 +21,16 @@ arrays : laid_out (type (node ki.TypeArray (number (codes "2") ∷ node ki.TypeP
 unfolding ways spell stops
 arrays = refl
 
-unions : laid_out (type (node ki.TypeUnion (int ∷ node ki.Spread (named ki.TypePath (codes "a::b") [] ∷ []) ∷ none ∷ []))) (codes "type x = ( int | ... a :: b ) ;")
+unions : laid_out (type (node ki.TypeUnion (int ∷ node ki.Spread (named ki.TypePath (codes "a::b") [] ∷ []) ∷ none ∷ [])))
+    (codes "type x = ( int | ... a :: b ) ;")
     ≡ text (codes "type x = (int | ...a::b);@")
 unfolding ways spell stops
 unions = refl
 
 -- ---- prefix operators, and the two places where a blank is kept
 
-signs : laid_out (set (node ki.Neg (node ki.Paren (node ki.Neg (a ∷ []) ∷ []) ∷ []))) (codes "let x = - ( - a ) ;") ≡ text (codes "let x = -(-a);@")
+signs : laid_out (set (node ki.Neg (node ki.Paren (node ki.Neg (a ∷ []) ∷ []) ∷ []))) (codes "let x = - ( - a ) ;") ≡ text
+    (codes "let x = -(-a);@")
 unfolding ways spell stops
 signs = refl
 
@@ -39,7 +42,8 @@ addresses : laid_out (set (node ki.Addr (node ki.Addr (a ∷ []) ∷ []))) (code
 unfolding ways spell stops
 addresses = refl
 
-member_of_number : laid_out (set (named ki.Field (codes "0") (number (codes "1") ∷ []))) (codes "let x = 1 . 0 ;") ≡ text (codes "let x = 1. 0;@")
+member_of_number : laid_out (set (named ki.Field (codes "0") (number (codes "1") ∷ []))) (codes "let x = 1 . 0 ;") ≡ text
+    (codes "let x = 1. 0;@")
 unfolding ways spell stops
 member_of_number = refl
 
@@ -56,32 +60,38 @@ member_behind_comment = refl
 
 -- ---- postfix forms and paths
 
-postfix_forms : laid_out (set (named ki.Field (codes "c") (node ki.Force (node ki.Try (node ki.Call (path (codes "a::nomem") ∷ a ∷ b ∷ none ∷ []) ∷ []) ∷ []) ∷ [])))
+postfix_forms : laid_out (set
+    (named ki.Field (codes "c") (node ki.Force (node ki.Try (node ki.Call (path (codes "a::nomem") ∷ a ∷ b ∷ none ∷ []) ∷ []) ∷ []) ∷ [])))
     (codes "let x = a :: nomem ( a , b ) ? ! . c ;")
     ≡ text (codes "let x = a::nomem(a, b)?!.c;@")
 unfolding ways spell stops
 postfix_forms = refl
 
-slices : laid_out (set (node ki.Slice (a ∷ number (codes "1") ∷ number (codes "2") ∷ []))) (codes "let x = a [ 1 .. 2 ] ;") ≡ text (codes "let x = a[1..2];@")
+slices : laid_out (set (node ki.Slice (a ∷ number (codes "1") ∷ number (codes "2") ∷ []))) (codes "let x = a [ 1 .. 2 ] ;") ≡ text
+    (codes "let x = a[1..2];@")
 unfolding ways spell stops
 slices = refl
 
-indices : laid_out (set (node ki.Index (a ∷ node ki.Array (b ∷ none ∷ none ∷ []) ∷ []))) (codes "let x = a [ [ b ] ] ;") ≡ text (codes "let x = a[[b]];@")
+indices : laid_out (set (node ki.Index (a ∷ node ki.Array (b ∷ none ∷ none ∷ []) ∷ []))) (codes "let x = a [ [ b ] ] ;") ≡ text
+    (codes "let x = a[[b]];@")
 unfolding ways spell stops
 indices = refl
 
-casts : laid_out (set (node ki.As (node ki.Cast (a ∷ int ∷ []) ∷ scalar (codes "u8") ∷ []))) (codes "let x = a : int as u8 ;") ≡ text (codes "let x = a: int as u8;@")
+casts : laid_out (set (node ki.As (node ki.Cast (a ∷ int ∷ []) ∷ scalar (codes "u8") ∷ []))) (codes "let x = a : int as u8 ;") ≡ text
+    (codes "let x = a: int as u8;@")
 unfolding ways spell stops
 casts = refl
 
 -- ---- operators and brackets
 
-operators : laid_out (set (named ki.Arith (codes "*") (node ki.Paren (named ki.Arith (codes "+") (a ∷ b ∷ []) ∷ []) ∷ c ∷ []))) (codes "let x = ( a + b ) * c ;")
+operators : laid_out (set (named ki.Arith (codes "*") (node ki.Paren (named ki.Arith (codes "+") (a ∷ b ∷ []) ∷ []) ∷ c ∷ [])))
+    (codes "let x = ( a + b ) * c ;")
     ≡ text (codes "let x = (a + b) * c;@")
 unfolding ways spell stops
 operators = refl
 
-built_in : laid_out (set (node ki.Append (a ∷ node ki.Len (b ∷ []) ∷ dots ∷ []))) (codes "let x = append ( a , len ( b ) ... ) ;") ≡ text (codes "let x = append(a, len(b)...);@")
+built_in : laid_out (set (node ki.Append (a ∷ node ki.Len (b ∷ []) ∷ dots ∷ []))) (codes "let x = append ( a , len ( b ) ... ) ;") ≡ text
+    (codes "let x = append(a, len(b)...);@")
 unfolding ways spell stops
 built_in = refl
 
@@ -89,7 +99,8 @@ elements : laid_out (set (node ki.Array (a ∷ b ∷ dots ∷ none ∷ []))) (co
 unfolding ways spell stops
 elements = refl
 
-fields : laid_out (set (node ki.StructLit (named ki.TypePath (codes "a") [] ∷ named ki.FieldValue (codes "b") (c ∷ []) ∷ none ∷ []))) (codes "let x = a { b = c } ;")
+fields : laid_out (set (node ki.StructLit (named ki.TypePath (codes "a") [] ∷ named ki.FieldValue (codes "b") (c ∷ []) ∷ none ∷ [])))
+    (codes "let x = a { b = c } ;")
     ≡ text (codes "let x = a { b = c };@")
 unfolding ways spell stops
 fields = refl
@@ -114,12 +125,14 @@ loops : laid_out (set (named ki.For (codes "l") (named ki.Let (codes "i") (none 
 unfolding ways spell stops
 loops = refl
 
-loops_over : laid_out (set (node ki.ForEach (named ki.Binding (codes "e") (node ki.ByRef [] ∷ []) ∷ a ∷ b ∷ []))) (codes "let x = for ( let e & .. a ) b ;")
+loops_over : laid_out (set (node ki.ForEach (named ki.Binding (codes "e") (node ki.ByRef [] ∷ []) ∷ a ∷ b ∷ [])))
+    (codes "let x = for ( let e & .. a ) b ;")
     ≡ text (codes "let x = for (let e &.. a) b;@")
 unfolding ways spell stops
 loops_over = refl
 
-loops_over_values : laid_out (set (node ki.ForEach (named ki.Binding (codes "e") (none ∷ []) ∷ a ∷ b ∷ []))) (codes "let x = for ( let e .. a ) b ;")
+loops_over_values : laid_out (set (node ki.ForEach (named ki.Binding (codes "e") (none ∷ []) ∷ a ∷ b ∷ [])))
+    (codes "let x = for ( let e .. a ) b ;")
     ≡ text (codes "let x = for (let e .. a) b;@")
 unfolding ways spell stops
 loops_over_values = refl
@@ -130,13 +143,15 @@ yields = refl
 
 -- ---- imports and functions
 
-imports : layout (file (node ki.UseNames (node ki.ImportPath (name (codes "a") ∷ name (codes "b") ∷ []) ∷ name (codes "c") ∷ name (codes "d") ∷ none ∷ []) ∷ []) [])
+imports : layout (file (node ki.UseNames
+    (node ki.ImportPath (name (codes "a") ∷ name (codes "b") ∷ []) ∷ name (codes "c") ∷ name (codes "d") ∷ none ∷ []) ∷ []) [])
     (pieces (codes "use a :: b :: { c , d } ;"))
     ≡ text (codes "use a::b::{c, d};@")
 unfolding ways spell stops
 imports = refl
 
-functions : laid_out (node ki.Fn (node ki.Export [] ∷ name (codes "f") ∷ node ki.Params (named ki.Param (codes "a") (int ∷ []) ∷ none ∷ []) ∷ int ∷ a ∷ []))
+functions : laid_out (node ki.Fn
+    (node ki.Export [] ∷ name (codes "f") ∷ node ki.Params (named ki.Param (codes "a") (int ∷ []) ∷ none ∷ []) ∷ int ∷ a ∷ []))
     (codes "export fn f ( a : int ) int = a ;")
     ≡ text (codes "export fn f(a: int) int = a;@")
 unfolding ways spell stops

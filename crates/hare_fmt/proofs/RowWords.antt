@@ -11,10 +11,10 @@ use Rattle.hare_fmt.specs.declared.way.Feeds.TheVariants.{Same, Next, Empty}
 use Rattle.hare_fmt.specs.Read.{Seen}
 use Rattle.hare_fmt.specs.Layout.{layout}
 
--- ---- texts, with `@` for a line end and `#` for a tab
+-- ---- texts, with `@` for a line end, `#` for a tab, `%` for a double quote and `~` for a blank in a comment
 
 abbrev byte_of : ℕ → ℕ
-byte_of c = if c == 64 then 10 else if c == 35 then 9 else c
+byte_of c = if c == 64 then 10 else if c == 35 then 9 else if c == 37 then 34 else if c == 126 then 32 else c
 
 abbrev pub text : List ℕ → List ℕ
 text s = map byte_of s
@@ -35,7 +35,7 @@ read f (w ∷ ws) =
     if bytes_eq w [] then read f ws
     else if bytes_eq w (codes "@") then read Next ws
     else if bytes_eq w (codes "@@") then read Empty ws
-    else record { feeds = f; body = w; comment = bytes_eq (take 2 w) (codes "//") } ∷ read Same ws
+    else record { feeds = f; body = text w; comment = bytes_eq (take 2 w) (codes "//") } ∷ read Same ws
 
 abbrev pub pieces : List ℕ → List Seen
 pieces s = read Same (words s)

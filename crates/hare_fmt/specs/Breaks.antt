@@ -13,7 +13,8 @@ use Rattle.hare_tree.specs.Spell.{Spelled, piece_tokens, left_behind}
 
 -- ---- the kinds
 
--- What has a comma list between brackets: parameters, arguments, fields and their values, elements, and the names of a `use`. The operands of `alloc`,
+-- What has a comma list between brackets: parameters, arguments, fields and their values, elements, and the names of a `use`. The
+-- operands of `alloc`,
 -- `append` and `assert` and the values of a case are none, nor are the members of a union.
 abbrev pub is_list : Kind → Bool
 is_list ki.Params = true
@@ -116,7 +117,8 @@ wants_behind ki.TrailingComma wants ends = false
 wants_behind ki.Dots wants ends = true
 wants_behind _ wants ends = ends
 
--- A comma may be added behind the last of these: it is `...`, or an item that does not end in a `yield` with a label and no value, which would take the
+-- A comma may be added behind the last of these: it is `...`, or an item that does not end in a `yield` with a label and no value, which
+-- would take the
 -- comma for its own.
 abbrev pub wants_comma : Bool → List Item → Bool
 wants_comma wants [] = wants
@@ -139,7 +141,8 @@ has_own_lines statements commented = not (is_one statements && not commented)
 
 -- ---- what is broken
 
--- A comma list is broken where it ends in a comma or a comment stands in it, and that of a struct type always. Braces are broken unless they are empty and no
+-- A comma list is broken where it ends in a comma or a comment stands in it, and that of a struct type always. Braces are broken unless
+-- they are empty and no
 -- comment stands in them.
 abbrev pub is_broken : Kind → List Item → Bool → Bool
 is_broken k inside commented =
@@ -164,6 +167,7 @@ breaks_of comments h n us items =
     record {
       kind = h.kind;
       brackets = brackets;
-      statements = if is_case h.kind then has_own_lines (kids_behind si.Arrow (form_of h.kind) items) (has_case_comment comments h n us) else brackets;
+      statements = if is_case h.kind then has_own_lines (kids_behind si.Arrow (form_of h.kind) items)
+          (has_case_comment comments h n us) else brackets;
       comma = brackets && is_list h.kind && wants_comma false inside;
     }

@@ -29,7 +29,8 @@ abbrev pub next_way : List Way → Way
 next_way [] = end_way
 next_way (w ∷ ws) = w
 
--- The way of the next token of the text. Behind a string, of which this is the depth, a further string belongs to the same of the tree's tokens.
+-- The way of the next token of the text. Behind a string, of which this is the depth, a further string belongs to the same of the tree's
+-- tokens.
 abbrev pub way_ahead : Option ℕ → List Way → List Seen → Way
 way_ahead string ws [] = next_way ws
 way_ahead string ws (x ∷ xs) = if x.comment then way_ahead string ws xs else token_way string (is_string x)
@@ -86,7 +87,8 @@ at_start = record { before = Nothing; joins = false; run = [] }
 
 -- ---- tabs
 
--- A line has as many tabs as broken braces and lists are open in front of its first piece; a closing bracket and a `case` have one tab less.
+-- A line has as many tabs as broken braces and lists are open in front of its first piece; a closing bracket and a `case` have one tab
+-- less.
 abbrev pub tabs_of : Way → ℕ
 tabs_of w = start_tabs w.start w.depth
   where
@@ -108,7 +110,8 @@ is_empty Same = false
 is_empty Next = false
 is_empty Empty = true
 
--- A new line. An empty line stands before it exactly where the source has one there, but not in front of the first line and not behind a line that ends in an
+-- A new line. An empty line stands before it exactly where the source has one there, but not in front of the first line and not behind a
+-- line that ends in an
 -- opening bracket.
 abbrev pub line : Before → Feeds → ℕ → Gap
 line Nothing feeds tabs = First
@@ -133,7 +136,8 @@ comment_gap Other feeds tabs = line Other feeds tabs
 abbrev pub are_digits : List ℕ → Bool
 are_digits s = not (is_nil s) && list_all is_ascii_digit s
 
--- Joined to these pieces of its line, the piece would not be the token that it is: `&` behind `&`, and a number behind a `.` that stands behind plain decimal
+-- Joined to these pieces of its line, the piece would not be the token that it is: `&` behind `&`, and a number behind a `.` that stands
+-- behind plain decimal
 -- digits.
 abbrev pub grows : List (List ℕ) → List ℕ → Bool
 grows [] body = false
@@ -146,7 +150,8 @@ abbrev pub within_line : Bool → Gap
 within_line true = Join
 within_line false = Blank
 
--- A token begins a line where its way says so, and behind a comment. Else it is joined to the piece before it where one of the two wants it, unless it would grow
+-- A token begins a line where its way says so, and behind a comment. Else it is joined to the piece before it where one of the two wants
+-- it, unless it would grow
 -- together with it.
 abbrev pub token_gap : Behind → Way → Seen → Gap
 token_gap b w x = by_before b.before w.start
@@ -162,7 +167,8 @@ token_gap b w x = by_before b.before w.start
     by_before Other Within = inner
     by_before Other s = line Other x.feeds (tabs_of w)
 
--- A comment's line has the tabs of a token there, one more than a closing bracket or `case` behind it has, and one more still where the token behind it begins no
+-- A comment's line has the tabs of a token there, one more than a closing bracket or `case` behind it has, and one more still where the
+-- token behind it begins no
 -- line by itself.
 abbrev pub gap_of : Behind → Placed → Gap
 gap_of b p =

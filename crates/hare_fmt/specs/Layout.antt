@@ -2,7 +2,8 @@
 --
 -- A text is the layout of a source where it is what the source's tree and pieces are laid out as:
 --   * what is read of the source (Read.antt): for each piece its bytes, and whether none, one or more line ends stand before it;
---   * the way of each token (Ways.antt, with Joins.antt and Breaks.antt): whether it begins a line, whether a blank may stand before it, how many broken
+--   * the way of each token (Ways.antt, with Joins.antt and Breaks.antt): whether it begins a line, whether a blank may stand before it,
+-- how many broken
 --     braces and lists are open, and whether a comma is added;
 --   * the gap before each piece (Gaps.antt);
 --   * the bytes (here).

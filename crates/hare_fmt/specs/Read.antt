@@ -57,7 +57,8 @@ seen text ps = seen_from text 0 ps
 abbrev pub is_string : Seen → Bool
 is_string x = not x.comment && (slice_index x.body 0 == 34 || slice_index x.body 0 == 96)
 
--- How many comments stand in front of each of the tree's tokens, and in front of the end of the file. `n` stand in front of these pieces, and the token
+-- How many comments stand in front of each of the tree's tokens, and in front of the end of the file. `n` stand in front of these pieces,
+-- and the token
 -- before them is a string or not.
 abbrev pub comments_before : ℕ → Bool → List Seen → List ℕ
 comments_before n behind_string [] = n ∷ []
