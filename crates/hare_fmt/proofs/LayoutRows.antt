@@ -1,5 +1,5 @@
 -- Rows of the layout, by computing: comments, empty lines, and whole texts.
-use Rattle.std.specs.Prelude.{◌≡◌, ℕ, List, [], ◌∷◌, codes, true, false}
+use Rattle.std.specs.Prelude.{◌≡◌, ℕ, List, [], ◌∷◌, ◌++◌, codes, true, false}
 use Rattle.std.proofs.Common.{refl}
 use Rattle.hare_tree.specs.declared.kind.Kind.TheVariants as ki
 use Rattle.hare_tree.specs.Spell.{spell}
@@ -68,7 +68,8 @@ seen_pieces = pieces (codes "use rt ; export fn main ( ) void = { rt :: puts ( %
 
 -- the blanks at the end of a comment are dropped
 function_is_read : seen (text (codes "use rt;export fn main()void={rt::puts(%a%);// x @};"))
-    (token 0 3 ∷ token 4 6 ∷ token 6 7 ∷ token 7 13 ∷ token 14 16 ∷ token 17 21 ∷ token 21 22 ∷ token 22 23 ∷ token 23 27 ∷ token 27 28 ∷ token 28 29
+    (token 0 3 ∷ token 4 6 ∷ token 6 7 ∷ token 7 13 ∷ token 14 16 ∷ token 17 21 ∷ token 21 22 ∷ token 22 23
+    ∷ token 23 27 ∷ token 27 28 ∷ token 28 29
     ∷ token 29 31 ∷ token 31 33 ∷ token 33 37 ∷ token 37 38 ∷ token 38 41 ∷ token 41 42 ∷ token 42 43 ∷ record { from = 43; to = 48;
         comment = true }
     ∷ token 49 50 ∷ token 50 51 ∷ [])
@@ -87,7 +88,8 @@ function_is_laid_out = refl
 of_a_list : layout_of (text (codes "let a: [2]int = [1, 2,];"))
     (file [] (node ki.GlobalLet (none ∷ name (codes "a") ∷ node ki.TypeArray (number (codes "2") ∷ int ∷ [])
     ∷ node ki.Array (number (codes "1") ∷ number (codes "2") ∷ none ∷ comma ∷ []) ∷ []) ∷ []))
-    (token 0 3 ∷ token 4 5 ∷ token 5 6 ∷ token 7 8 ∷ token 8 9 ∷ token 9 10 ∷ token 10 13 ∷ token 14 15 ∷ token 16 17 ∷ token 17 18 ∷ token 18 19
+    (token 0 3 ∷ token 4 5 ∷ token 5 6 ∷ token 7 8 ∷ token 8 9 ∷ token 9 10 ∷ token 10 13 ∷ token 14 15 ∷ token 16 17 ∷ token 17 18
+    ∷ token 18 19
     ∷ token 20 21 ∷ token 21 22 ∷ token 22 23 ∷ token 23 24 ∷ [])
     ≡ text (codes "let a: [2]int = [@#1,@#2,@];@")
 unfolding ways spell stops
@@ -103,9 +105,9 @@ page_is_laid_out : layout
     ∷ node ki.ForEach (named ki.Binding (codes "n") (none ∷ []) ∷ path (codes "names") ∷ node ki.Call
         (path (codes "rt::puts") ∷ path (codes "n") ∷ none ∷ []) ∷ [])
     ∷ []) ∷ []) ∷ []))
-    (pieces (codes "use rt ; export fn main
-        ( ) void = { //~greets @ let names = [ %Ada% , %Bob% //~both @ ] ; @@ for ( let n .. names ) rt :: puts ( n ) ; } ;"))
-    ≡ text (codes "use rt;@export fn main() void = {~//~greets@#let names = [@##%Ada%,@##%Bob%, //~both@#];@@#for
-        (let n .. names) rt::puts(n);@};@")
+    (pieces (codes "use rt ; export fn main ( ) void = { //~greets @ let names = [ %Ada% , %Bob% //~both @ ] ; @@ "
+    ++ codes "for ( let n .. names ) rt :: puts ( n ) ; } ;"))
+    ≡ text (codes "use rt;@export fn main() void = {~//~greets@#let names = [@##%Ada%,@##%Bob%, //~both@#];@@"
+    ++ codes "#for (let n .. names) rt::puts(n);@};@")
 unfolding ways spell stops
 page_is_laid_out = refl
