@@ -8,7 +8,7 @@ use Rattle.hare_pieces.specs.declared.piece.Piece.{Piece}
 use Rattle.hare_fmt.specs.Ways.{ways}
 use Rattle.hare_fmt.specs.Read.{Seen, seen}
 use Rattle.hare_fmt.specs.Layout.{layout, layout_of}
-use Rattle.hare_fmt.proofs.RowWords.{text, pieces, node, named, none, comma, dots, name, path, a, b, c, number, scalar, int, file, set, type, laid_out}
+use Rattle.hare_fmt.proofs.RowWords.{text, pieces, node, named, none, comma, name, path, a, b, c, number, scalar, int, file, set, laid_out}
 
 -- ---- comments
 
@@ -70,8 +70,11 @@ seen_pieces = pieces (codes "use rt ; export fn main ( ) void = { rt :: puts ( %
 function_is_read : seen (text (codes "use rt;export fn main()void={rt::puts(%a%);// x @};"))
     (token 0 3 ∷ token 4 6 ∷ token 6 7 ∷ token 7 13 ∷ token 14 16 ∷ token 17 21 ∷ token 21 22 ∷ token 22 23
     ∷ token 23 27 ∷ token 27 28 ∷ token 28 29
-    ∷ token 29 31 ∷ token 31 33 ∷ token 33 37 ∷ token 37 38 ∷ token 38 41 ∷ token 41 42 ∷ token 42 43 ∷ record { from = 43; to = 48;
-        comment = true }
+    ∷ token 29 31 ∷ token 31 33 ∷ token 33 37 ∷ token 37 38 ∷ token 38 41 ∷ token 41 42 ∷ token 42 43 ∷ record {
+      from = 43;
+      to = 48;
+      comment = true;
+    }
     ∷ token 49 50 ∷ token 50 51 ∷ [])
     ≡ seen_pieces
 function_is_read = refl
@@ -101,9 +104,9 @@ page_is_laid_out : layout
     (node ki.Fn (node ki.Export [] ∷ name (codes "main") ∷ node ki.Params (none ∷ []) ∷ scalar (codes "void")
     ∷ node ki.Block
     (named ki.Let (codes "names")
-        (none ∷ node ki.Array (named ki.Str (codes "Ada") [] ∷ named ki.Str (codes "Bob") [] ∷ none ∷ none ∷ []) ∷ [])
+    (none ∷ node ki.Array (named ki.Str (codes "Ada") [] ∷ named ki.Str (codes "Bob") [] ∷ none ∷ none ∷ []) ∷ [])
     ∷ node ki.ForEach (named ki.Binding (codes "n") (none ∷ []) ∷ path (codes "names") ∷ node ki.Call
-        (path (codes "rt::puts") ∷ path (codes "n") ∷ none ∷ []) ∷ [])
+    (path (codes "rt::puts") ∷ path (codes "n") ∷ none ∷ []) ∷ [])
     ∷ []) ∷ []) ∷ []))
     (pieces (codes "use rt ; export fn main ( ) void = { //~greets @ let names = [ %Ada% , %Bob% //~both @ ] ; @@ "
     ++ codes "for ( let n .. names ) rt :: puts ( n ) ; } ;"))

@@ -1,12 +1,12 @@
 -- Rows of the layout, by computing: where no blank stands on a line.
-use Rattle.std.specs.Prelude.{◌≡◌, List, [], ◌∷◌, codes}
+use Rattle.std.specs.Prelude.{◌≡◌, [], ◌∷◌, codes}
 use Rattle.std.proofs.Common.{refl}
 use Rattle.hare_tree.specs.declared.kind.Kind.TheVariants as ki
 use Rattle.hare_tree.specs.Spell.{spell}
 use Rattle.hare_tree.specs.Shape.{stops}
 use Rattle.hare_fmt.specs.Ways.{ways}
 use Rattle.hare_fmt.specs.Layout.{layout}
-use Rattle.hare_fmt.proofs.RowWords.{text, pieces, node, named, none, comma, dots, name, path, a, b, c, number, scalar, int, file, set, type, laid_out}
+use Rattle.hare_fmt.proofs.RowWords.{text, pieces, node, named, none, dots, name, path, a, b, c, number, scalar, int, file, set, type, laid_out}
 
 -- ---- types
 

@@ -1,7 +1,7 @@
 -- Where no blank stands: the signs of the grammar that on one line stand directly behind the piece before them, or directly in front of
 -- the piece behind
 -- them. Between any other two pieces of a line stands one blank.
-use Rattle.std.specs.Prelude.{List, [], ◌∷◌, Bool, true, false, not}
+use Rattle.std.specs.Prelude.{Bool, true, false, not}
 use Rattle.hare_tree.specs.declared.kind.Kind.{Kind}
 use Rattle.hare_tree.specs.declared.kind.Kind.TheVariants as ki
 use Rattle.hare_tree.specs.declared.form.Sign.{Sign}

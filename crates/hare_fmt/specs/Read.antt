@@ -1,5 +1,5 @@
 -- What is read of a file's text: its pieces with the line ends in front of them. Nothing else of the text has a part in its layout.
-use Rattle.std.specs.Prelude.{ℕ, zero, suc, ◌+◌, List, [], ◌∷◌, Bool, true, false, ◌&&◌, ◌||◌, not, ◌==◌, count_by, slice_index, slice_range, if◌then◌else◌}
+use Rattle.std.specs.Prelude.{ℕ, zero, suc, ◌+◌, List, [], ◌∷◌, Bool, true, ◌&&◌, ◌||◌, not, ◌==◌, count_by, slice_index, slice_range, if◌then◌else◌}
 use Rattle.hare_tree.specs.Words.{is_blank}
 use Rattle.hare_pieces.specs.declared.piece.Piece.{Piece}
 use Rattle.hare_fmt.specs.declared.way.Feeds.{Feeds}

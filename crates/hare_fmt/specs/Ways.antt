@@ -73,10 +73,20 @@ statement_start b = if b.statements then Begins else Within
 -- The closing bracket: of broken ones it begins a line with one tab less, and a comma is added before it or not. Empty braces are `{}`.
 abbrev pub closing_way : Breaks → Sign → Way
 closing_way b s =
-    if b.brackets then record { start = Outdented; depth = 0; joins_before = joins_before s b.kind; joins_behind = joins_behind s b.kind;
-        comma = b.comma }
-    else record { start = Within; depth = 0; joins_before = joins_before s b.kind || is_braced b.kind;
-        joins_behind = joins_behind s b.kind; comma = false }
+    if b.brackets then record {
+      start = Outdented;
+      depth = 0;
+      joins_before = joins_before s b.kind;
+      joins_behind = joins_behind s b.kind;
+      comma = b.comma;
+    }
+    else record {
+      start = Within;
+      depth = 0;
+      joins_before = joins_before s b.kind || is_braced b.kind;
+      joins_behind = joins_behind s b.kind;
+      comma = false;
+    }
 
 abbrev pub fixed_way : Breaks → Bool → Sign → Way
 fixed_way b inside s = if inside && is_sign s (closing b.kind) then closing_way b s else sign_way b.kind s
