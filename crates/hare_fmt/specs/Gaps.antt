@@ -1,5 +1,5 @@
 -- The gap before each piece: nothing, a blank, a line with its tabs, or an empty line and a line.
-use Rattle.std.specs.Prelude.{ℕ, ◌+◌, ◌-◌, List, [], ◌∷◌, ◌++◌, Bool, true, false, ◌&&◌, ◌||◌, not, bytes_eq, codes, drop, slice_index, Option, Some, None, if◌then◌else◌}
+use Rattle.std.specs.Prelude.{ℕ, ◌+◌, ◌-◌, List, [], ◌∷◌, ◌++◌, Bool, true, false, ◌&&◌, ◌||◌, not, ◌==◌, length, bytes_eq, codes, drop, slice_index, if◌then◌else◌}
 use Rattle.std.specs.List.{list_all}
 use Rattle.std.specs.Char.{is_ascii_digit}
 use Rattle.hare_fmt.specs.declared.way.Feeds.{Feeds}
@@ -7,10 +7,11 @@ use Rattle.hare_fmt.specs.declared.way.Feeds.TheVariants.{Same, Next, Empty}
 use Rattle.hare_fmt.specs.declared.way.Start.{Start}
 use Rattle.hare_fmt.specs.declared.way.Start.TheVariants.{Within, Begins, Outdented}
 use Rattle.hare_fmt.specs.declared.way.Way.{Way}
+use Rattle.hare_fmt.specs.declared.way.Before.{Before}
+use Rattle.hare_fmt.specs.declared.way.Before.TheVariants.{Nothing, Opening, Remark, Other}
 use Rattle.hare_fmt.specs.declared.way.Gap.{Gap}
 use Rattle.hare_fmt.specs.declared.way.Gap.TheVariants.{First, Join, Blank, Line}
 use Rattle.hare_fmt.specs.Read.{Seen, is_string}
-use Rattle.hare_fmt.specs.Breaks.{is_nil}
 use Rattle.hare_fmt.specs.Ways.{end_way}
 
 -- ---- ways for pieces
@@ -20,7 +21,13 @@ pub record Placed : Type 0 where
   pub piece : Seen
   pub way : Way
 
--- a string behind a string: no new line, and one blank
+-- the next token is a string
+abbrev pub next_is_string : List Seen → Bool
+next_is_string [] = false
+next_is_string (x ∷ xs) = if x.comment then next_is_string xs else is_string x
+
+-- A string behind a string is of the same token of the tree: it begins no line, and stands behind a blank. This is its way, where that of the first has this
+-- depth.
 abbrev pub string_way : ℕ → Way
 string_way depth = record { start = Within; depth = depth; joins_before = false; joins_behind = false; comma = false }
 
@@ -29,73 +36,45 @@ abbrev pub next_way : List Way → Way
 next_way [] = end_way
 next_way (w ∷ ws) = w
 
--- The way of the next token of the text. Behind a string, of which this is the depth, a further string belongs to the same of the tree's
--- tokens.
-abbrev pub way_ahead : Option ℕ → List Way → List Seen → Way
-way_ahead string ws [] = next_way ws
-way_ahead string ws (x ∷ xs) = if x.comment then way_ahead string ws xs else token_way string (is_string x)
-  where
-    token_way : Option ℕ → Bool → Way
-    token_way (Some depth) true = string_way depth
-    token_way (Some depth) false = next_way ws
-    token_way None b = next_way ws
-
--- whether that token is such a string
-abbrev pub continues : Option ℕ → List Seen → Bool
-continues string [] = false
-continues string (x ∷ xs) = if x.comment then continues string xs else behind_string string && is_string x
-  where
-    behind_string : Option ℕ → Bool
-    behind_string (Some depth) = true
-    behind_string None = false
-
--- the comma is added but once, in front of the first of these pieces
+-- a comma is added but once, in front of the first of the pieces that stand before a token
 abbrev pub without_comma : List Way → List Way
 without_comma [] = []
 without_comma (w ∷ ws) =
     record { start = w.start; depth = w.depth; joins_before = w.joins_before; joins_behind = w.joins_behind; comma = false } ∷ ws
 
--- the pieces of a text with their ways; the token before them is a string of this depth, or none
-abbrev pub placed : Option ℕ → List Way → List Seen → List Placed
-placed string ws [] = []
-placed string ws (x ∷ xs) =
-    record { piece = x; way = way_ahead string ws (x ∷ xs) }
-    ∷ (if continues string (x ∷ xs) then placed string ws xs
-    else if x.comment then placed string (without_comma ws) xs
-    else placed (if is_string x then Some (next_way ws).depth else None) (drop 1 ws) xs)
+-- The pieces of a text with their ways. The next token is a string behind a string, of which the first has this depth, or it is the first of a token of the
+-- tree.
+abbrev pub placed : (joined : Bool) (depth : ℕ) → List Way → List Seen → List Placed
+placed joined depth ws [] = []
+placed joined depth ws (x ∷ xs) =
+    let w = if joined then string_way depth else next_way ws in
+    record { piece = x; way = w }
+    ∷ (if x.comment then placed joined depth (if joined then ws else without_comma ws) xs
+    else placed (is_string x && next_is_string xs) w.depth (if joined then ws else drop 1 ws) xs)
 
 -- ---- what stands before a piece
 
-pub data Before : Type 0 where
-  -- nothing: the piece is the first
-  Nothing : Before
-  -- a token `{`, `(` or `[`
-  Opening : Before
-  -- a comment
-  Remark : Before
-  -- any other token
-  Other : Before
-
--- the piece before, whether a blank may stand behind it, and the pieces back to the last blank or line end, the latest first
+-- The piece before, whether no blank is to stand behind it, and the last two pieces back to the last blank or line end, or nothing where there are none.
 pub record Behind : Type 0 where
   pub before : Before
   pub joins : Bool
-  pub run : List (List ℕ)
+  pub last : List ℕ
+  pub previous : List ℕ
 
 abbrev pub at_start : Behind
-at_start = record { before = Nothing; joins = false; run = [] }
+at_start = record { before = Nothing; joins = false; last = []; previous = [] }
 
 -- ---- tabs
 
 -- A line has as many tabs as broken braces and lists are open in front of its first piece; a closing bracket and a `case` have one tab
 -- less.
+abbrev pub start_tabs : Start → ℕ → ℕ
+start_tabs Within depth = depth
+start_tabs Begins depth = depth
+start_tabs Outdented depth = depth - 1
+
 abbrev pub tabs_of : Way → ℕ
 tabs_of w = start_tabs w.start w.depth
-  where
-    start_tabs : Start → ℕ → ℕ
-    start_tabs Within depth = depth
-    start_tabs Begins depth = depth
-    start_tabs Outdented depth = depth - 1
 
 -- one more, where the token begins its line only since a comment stands before it
 abbrev pub extra_tab : Start → ℕ
@@ -126,81 +105,98 @@ abbrev pub comment_gap : Before → Feeds → ℕ → Gap
 comment_gap Nothing feeds tabs = First
 comment_gap Remark feeds tabs = line Remark feeds tabs
 comment_gap Opening Same tabs = Blank
-comment_gap Opening feeds tabs = line Opening feeds tabs
+comment_gap Opening Next tabs = line Opening Next tabs
+comment_gap Opening Empty tabs = line Opening Empty tabs
 comment_gap Other Same tabs = Blank
-comment_gap Other feeds tabs = line Other feeds tabs
+comment_gap Other Next tabs = line Other Next tabs
+comment_gap Other Empty tabs = line Other Empty tabs
 
 -- ---- where no blank stands
 
 -- plain decimal digits
 abbrev pub are_digits : List ℕ → Bool
-are_digits s = not (is_nil s) && list_all is_ascii_digit s
+are_digits s = not (length s == 0) && list_all is_ascii_digit s
 
--- Joined to these pieces of its line, the piece would not be the token that it is: `&` behind `&`, and a number behind a `.` that stands
--- behind plain decimal
--- digits.
-abbrev pub grows : List (List ℕ) → List ℕ → Bool
-grows [] body = false
-grows (a ∷ []) body = bytes_eq a (codes "&") && bytes_eq body (codes "&")
-grows (a ∷ b ∷ run) body =
-    (bytes_eq a (codes "&") && bytes_eq body (codes "&"))
-    || (are_digits b && bytes_eq a (codes ".") && is_ascii_digit (slice_index body 0))
+-- Joined to these pieces of its line, the piece would not be the token that it is: `&` behind `&`, and a number behind a `.` that stands behind
+-- plain decimal digits.
+abbrev pub grows : (last previous : List ℕ) → List ℕ → Bool
+grows last previous body =
+    (bytes_eq last (codes "&") && bytes_eq body (codes "&"))
+    || (are_digits previous && bytes_eq last (codes ".") && is_ascii_digit (slice_index body 0))
 
 abbrev pub within_line : Bool → Gap
 within_line true = Join
 within_line false = Blank
 
--- A token begins a line where its way says so, and behind a comment. Else it is joined to the piece before it where one of the two wants
--- it, unless it would grow
--- together with it.
-abbrev pub token_gap : Behind → Way → Seen → Gap
-token_gap b w x = by_before b.before w.start
-  where
-    inner : Gap
-    inner = within_line ((b.joins || w.joins_before) && not (grows b.run x.body))
+-- A token begins a line where its way says so, and behind a comment. Else it is joined to the piece before it where one of the two wants it, unless
+-- it would grow together with it.
+abbrev pub joins : Behind → Way → List ℕ → Bool
+joins b w body = (b.joins || w.joins_before) && not (grows b.last b.previous body)
 
-    by_before : Before → Start → Gap
-    by_before Nothing s = First
-    by_before Remark s = line Remark x.feeds (tabs_of w + extra_tab s)
-    by_before Opening Within = inner
-    by_before Opening s = line Opening x.feeds (tabs_of w)
-    by_before Other Within = inner
-    by_before Other s = line Other x.feeds (tabs_of w)
+abbrev pub start_gap : Behind → Way → Feeds → List ℕ → Start → Gap
+start_gap b w feeds body Within = within_line (joins b w body)
+start_gap b w feeds body Begins = line b.before feeds (tabs_of w)
+start_gap b w feeds body Outdented = line b.before feeds (tabs_of w)
 
--- A comment's line has the tabs of a token there, one more than a closing bracket or `case` behind it has, and one more still where the
--- token behind it begins no
--- line by itself.
+abbrev pub before_gap : Behind → Way → Feeds → List ℕ → Before → Gap
+before_gap b w feeds body Nothing = First
+before_gap b w feeds body Remark = line Remark feeds (tabs_of w + extra_tab w.start)
+before_gap b w feeds body Opening = start_gap b w feeds body w.start
+before_gap b w feeds body Other = start_gap b w feeds body w.start
+
+abbrev pub token_gap : Behind → Way → Feeds → List ℕ → Gap
+token_gap b w feeds body = before_gap b w feeds body b.before
+
+-- A comment's line has the tabs of a token there, one more than a closing bracket or `case` behind it has, and one more still where the token behind
+-- it begins no line by itself.
+abbrev pub comment_tabs : Way → ℕ
+comment_tabs w = w.depth + extra_tab w.start
+
 abbrev pub gap_of : Behind → Placed → Gap
 gap_of b p =
-    if p.piece.comment then comment_gap b.before p.piece.feeds (p.way.depth + extra_tab p.way.start) else token_gap b p.way p.piece
+    if p.piece.comment then comment_gap b.before p.piece.feeds (comment_tabs p.way) else token_gap b p.way p.piece.feeds p.piece.body
 
 -- ---- behind a piece
 
 abbrev pub is_opening : List ℕ → Bool
 is_opening body = bytes_eq body (codes "{") || bytes_eq body (codes "(") || bytes_eq body (codes "[")
 
--- the pieces back to the last blank or line end
-abbrev pub run_behind : Gap → List (List ℕ) → List ℕ → List (List ℕ)
-run_behind Join run body = body ∷ run
-run_behind _ run body = body ∷ []
+abbrev pub previous_of : Gap → List ℕ → List ℕ
+previous_of Join last = last
+previous_of _ last = []
+
+abbrev pub behind_token : Gap → Behind → Way → List ℕ → Behind
+behind_token g b w body = record {
+  before = if is_opening body then Opening else Other;
+  joins = w.joins_behind;
+  last = body;
+  previous = previous_of g b.last;
+}
+
+abbrev pub behind_comment : Behind
+behind_comment = record { before = Remark; joins = false; last = []; previous = [] }
 
 abbrev pub behind_piece : Behind → Placed → Behind
-behind_piece b p =
-    if p.piece.comment then record { before = Remark; joins = false; run = [] }
-    else record {
-      before = if is_opening p.piece.body then Opening else Other;
-      joins = p.way.joins_behind;
-      run = run_behind (gap_of b p) b.run p.piece.body;
-    }
+behind_piece b p = if p.piece.comment then behind_comment else behind_token (gap_of b p) b p.way p.piece.body
 
+-- behind a comma that was added
 abbrev pub behind_comma : Behind
-behind_comma = record { before = Other; joins = false; run = [] }
+behind_comma = record { before = Other; joins = false; last = []; previous = [] }
 
 -- ---- the pieces with their gaps
 
--- The pieces that are laid out, with their gaps: a comma is added in front of those that ask for it, directly behind the piece before.
+-- a comma that is added stands directly behind the piece before
+abbrev pub comma_of : Bool → List (Gap × List ℕ)
+comma_of true = (Join, codes ",") ∷ []
+comma_of false = []
+
+abbrev pub behind_added : Bool → Behind → Behind
+behind_added true b = behind_comma
+behind_added false b = b
+
+-- The pieces that are laid out, with their gaps; in front of those that ask for it a comma is added.
 abbrev pub laid : Behind → List Placed → List (Gap × List ℕ)
 laid b [] = []
 laid b (p ∷ ps) =
-    let here = if p.way.comma then behind_comma else b in
-    (if p.way.comma then (Join, codes ",") ∷ [] else []) ++ (gap_of here p, p.piece.body) ∷ laid (behind_piece here p) ps
+    let here = behind_added p.way.comma b in
+    comma_of p.way.comma ++ (gap_of here p, p.piece.body) ∷ laid (behind_piece here p) ps

@@ -7,7 +7,7 @@
 --     braces and lists are open, and whether a comma is added;
 --   * the gap before each piece (Gaps.antt);
 --   * the bytes (here).
-use Rattle.std.specs.Prelude.{◌≡◌, ℕ, List, [], ◌∷◌, ◌++◌, Bool, true, false, replicate, None}
+use Rattle.std.specs.Prelude.{◌≡◌, ℕ, List, [], ◌∷◌, ◌++◌, Bool, true, false, replicate}
 use Rattle.std.specs.List.{flat_map}
 use Rattle.hare_tree.specs.declared.token.Token.{Token}
 use Rattle.hare_tree.specs.declared.tree.FileTree.{FileTree}
@@ -16,6 +16,7 @@ use Rattle.hare_tree.specs.Grammar.{IsFileTree}
 use Rattle.hare_pieces.specs.declared.piece.Piece.{Piece}
 use Rattle.hare_pieces.specs.Pieces.{ArePieces}
 use Rattle.hare_fmt.specs.declared.way.Gap.{Gap}
+use Rattle.hare_fmt.specs.declared.way.Way.{Way}
 use Rattle.hare_fmt.specs.declared.way.Gap.TheVariants.{First, Join, Blank, Line}
 use Rattle.hare_fmt.specs.Read.{Seen, seen, comments_before}
 use Rattle.hare_fmt.specs.Ways.{file_ways}
@@ -38,14 +39,19 @@ abbrev pub with_end : List ℕ → List ℕ
 with_end [] = []
 with_end (c ∷ s) = (c ∷ s) ++ 10 ∷ []
 
-abbrev pub bytes_of : List (Gap × List ℕ) → List ℕ
-bytes_of l = with_end (flat_map (λ p. gap_bytes p.0 ++ p.1) l)
+-- the bytes of pieces with their gaps
+abbrev pub laid_bytes : List (Gap × List ℕ) → List ℕ
+laid_bytes l = flat_map (λ p. gap_bytes p.0 ++ p.1) l
 
 -- ---- texts
 
+-- what pieces with the ways of the tree's tokens are laid out as
+abbrev pub written : List Way → List Seen → List ℕ
+written ws xs = with_end (laid_bytes (laid at_start (placed false 0 ws xs)))
+
 -- what the tree and the pieces of a file are laid out as
 abbrev pub layout : FileTree → List Seen → List ℕ
-layout tree xs = bytes_of (laid at_start (placed None (file_ways (comments_before 0 false xs) tree) xs))
+layout tree xs = written (file_ways (comments_before 0 false xs) tree) xs
 
 -- what a text with this tree and these pieces is laid out as
 abbrev pub layout_of : List ℕ → FileTree → List Piece → List ℕ

@@ -4,3 +4,5 @@ pub mod Breaks
 pub mod Ways
 pub mod Gaps
 pub mod Layout
+pub mod Behind
+pub mod Write

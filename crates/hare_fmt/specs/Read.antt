@@ -35,13 +35,13 @@ pub record Seen : Type 0 where
   pub body : List ℕ
   pub comment : Bool
 
+-- the bytes of a piece as they are read
+abbrev pub body_of : List ℕ → Piece → List ℕ
+body_of text p = if p.comment then trimmed (slice_range text p.from p.to) else slice_range text p.from p.to
+
 -- the piece behind these bytes of the text
 abbrev pub seen_piece : List ℕ → ℕ → Piece → Seen
-seen_piece text at p = record {
-  feeds = feeds_in (slice_range text at p.from);
-  body = if p.comment then trimmed (slice_range text p.from p.to) else slice_range text p.from p.to;
-  comment = p.comment;
-}
+seen_piece text at p = record { feeds = feeds_in (slice_range text at p.from); body = body_of text p; comment = p.comment }
 
 abbrev pub seen_from : List ℕ → ℕ → List Piece → List Seen
 seen_from text at [] = []
@@ -53,9 +53,13 @@ seen text ps = seen_from text 0 ps
 
 -- ---- tokens as the tree counts them: strings side by side are one
 
+-- bytes that begin with a quote of a string
+abbrev pub is_quoted : List ℕ → Bool
+is_quoted body = slice_index body 0 == 34 || slice_index body 0 == 96
+
 -- a token that is a string
 abbrev pub is_string : Seen → Bool
-is_string x = not x.comment && (slice_index x.body 0 == 34 || slice_index x.body 0 == 96)
+is_string x = not x.comment && is_quoted x.body
 
 -- How many comments stand in front of each of the tree's tokens, and in front of the end of the file. `n` stand in front of these pieces,
 -- and the token

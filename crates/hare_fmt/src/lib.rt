@@ -2,7 +2,10 @@
 #![tactic(auto)]
 
 mod laws;
+mod line;
+mod read;
 mod way;
+mod write;
 
 pub use laws::law_one_layout;
-pub use way::{Feeds, Gap, Start, Way};
+pub use way::{Before, Feeds, Gap, Start, Way};

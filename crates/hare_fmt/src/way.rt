@@ -27,7 +27,7 @@ pub enum Start {
 pub struct Way {
     pub start: Start,
     /// How many broken braces and lists are open in front of it.
-    pub depth: usize,
+    pub depth: u32,
     /// On one line, no blank stands before it.
     pub joins_before: bool,
     /// On one line, no blank stands behind it.
@@ -47,4 +47,17 @@ pub enum Gap {
     Blank,
     /// A line end, and an empty line or none, and so many tabs.
     Line(bool, usize),
+}
+
+/// What stands before a piece.
+#[derive(Clone, Copy, Debug, PartialEq, Eq)]
+pub enum Before {
+    /// Nothing: the piece is the first.
+    Nothing,
+    /// A token `{`, `(` or `[`.
+    Opening,
+    /// A comment.
+    Remark,
+    /// Any other token.
+    Other,
 }
