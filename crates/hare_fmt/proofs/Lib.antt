@@ -2,6 +2,7 @@ pub mod Once
 pub mod Written
 pub mod Trimmed
 pub mod ReadLemmas
+pub mod Kept
 pub mod RowWords
 pub mod LineRows
 pub mod BreakRows

@@ -3,7 +3,7 @@ use Rattle.std.proofs.Common.{◌≡◌, ℕ, zero, suc, ◌+◌, ◌<◌, ◌�
 use Rattle.hare_pieces.specs.declared.piece.Piece.{Piece}
 use Rattle.hare_fmt.specs.Read.{seen_from, body_of, is_quoted}
 use Rattle.hare_fmt.specs.Gaps.{next_is_string}
-use Rattle.hare_fmt.specs.Write.{InOrder}
+use Rattle.hare_fmt.specs.Layout.{InOrder}
 use Rattle.hare_fmt.proofs.Written.{piece_next}
 
 -- what is ahead of these pieces is what is ahead of those from the i-th on

@@ -7,7 +7,7 @@
 --     braces and lists are open, and whether a comma is added;
 --   * the gap before each piece (Gaps.antt);
 --   * the bytes (here).
-use Rattle.std.specs.Prelude.{◌≡◌, ℕ, List, [], ◌∷◌, ◌++◌, Bool, true, false, replicate}
+use Rattle.std.specs.Prelude.{◌≡◌, ℕ, ◌<◌, ◌≤◌, List, [], ◌∷◌, ◌++◌, Bool, true, false, codes, map, length, replicate, if◌then◌else◌}
 use Rattle.std.specs.List.{flat_map}
 use Rattle.hare_tree.specs.declared.token.Token.{Token}
 use Rattle.hare_tree.specs.declared.tree.FileTree.{FileTree}
@@ -20,7 +20,7 @@ use Rattle.hare_fmt.specs.declared.way.Way.{Way}
 use Rattle.hare_fmt.specs.declared.way.Gap.TheVariants.{First, Join, Blank, Line}
 use Rattle.hare_fmt.specs.Read.{Seen, seen, comments_before}
 use Rattle.hare_fmt.specs.Ways.{file_ways}
-use Rattle.hare_fmt.specs.Gaps.{placed, laid, at_start}
+use Rattle.hare_fmt.specs.Gaps.{Placed, Behind, placed, laid, at_start}
 
 -- ---- bytes
 
@@ -70,3 +70,26 @@ pub record IsLaidOut (src text : List ℕ) : Type 0 where
 -- a source has one layout
 abbrev pub SourcesHaveOneLayout : Type 0
 SourcesHaveOneLayout = (src text other : List ℕ) → IsLaidOut src text → IsLaidOut src other → text ≡ other
+
+-- ---- what a layout keeps
+
+-- the pieces stand in their order behind `at` bytes of a text with n bytes, and none is empty
+abbrev pub InOrder : ℕ → ℕ → List Piece → Type 0
+InOrder at n [] = at ≤ n
+InOrder at n (p ∷ ps) = (at ≤ p.from) × (p.from < p.to) × (p.to ≤ n) × InOrder p.to n ps
+
+-- the pieces with their ways are the pieces
+abbrev pub PlacedAreSeen : Type 0
+PlacedAreSeen = (joined : Bool) (depth : ℕ) (ws : List Way) (xs : List Seen) → map (λ p. p.piece) (placed joined depth ws xs) ≡ xs
+
+-- the bytes of a piece, behind the comma that is added in front of it
+abbrev pub bodies_of : Placed → List (List ℕ)
+bodies_of p = if p.way.comma then codes "," ∷ p.piece.body ∷ [] else p.piece.body ∷ []
+
+-- What is laid out are these pieces in their order, and the commas that are added.
+abbrev pub LaidAreKept : Type 0
+LaidAreKept = (b : Behind) (ps : List Placed) → map (λ g. g.1) (laid b ps) ≡ flat_map bodies_of ps
+
+-- the pieces of a text stand in their order, within the text, and none is empty
+abbrev pub PiecesAreInOrder : Type 0
+PiecesAreInOrder = (text : List ℕ) (ps : List Piece) → ArePieces text ps → InOrder 0 (length text) ps

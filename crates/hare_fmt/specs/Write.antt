@@ -1,5 +1,5 @@
 -- What the private functions of the writer speak of.
-use Rattle.std.specs.Prelude.{ℕ, ◌<◌, ◌≤◌, List, [], ◌∷◌, Bool, true, false, if◌then◌else◌}
+use Rattle.std.specs.Prelude.{ℕ, List, Bool, true, false, if◌then◌else◌}
 use Rattle.hare_pieces.specs.declared.piece.Piece.{Piece}
 use Rattle.hare_fmt.specs.declared.way.Way.{Way}
 use Rattle.hare_fmt.specs.declared.write.State.{State}
@@ -7,11 +7,6 @@ use Rattle.hare_fmt.specs.Read.{seen_from}
 use Rattle.hare_fmt.specs.Gaps.{placed, laid, next_way, string_way, without_comma}
 use Rattle.hare_fmt.specs.Behind.{behind_of}
 use Rattle.hare_fmt.specs.Layout.{laid_bytes}
-
--- the pieces stand in their order behind `at` bytes of a text with n bytes, and none is empty
-abbrev pub InOrder : ℕ → ℕ → List Piece → Type 0
-InOrder at n [] = at ≤ n
-InOrder at n (p ∷ ps) = (at ≤ p.from) × (p.from < p.to) × (p.to ≤ n) × InOrder p.to n ps
 
 -- the ways that are left, the comma of the first added or not
 abbrev pub ways_left : Bool → List Way → List Way

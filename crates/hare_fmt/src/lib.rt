@@ -4,8 +4,11 @@
 mod laws;
 mod line;
 mod read;
+#[cfg(test)]
+mod tests;
 mod way;
 mod write;
 
-pub use laws::law_one_layout;
+pub use laws::{law_one_layout, law_pieces_are_in_order, law_pieces_are_kept};
 pub use way::{Before, Feeds, Gap, Start, Way};
+pub use write::write_pieces;

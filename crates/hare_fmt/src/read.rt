@@ -4,7 +4,7 @@ ghost use Rattle.std.specs.Prelude.{◌≡◌, ◌<◌, ◌≤◌, length, slice
 ghost use Rattle.hare_tree.specs.Words as words;
 ghost use Rattle.hare_fmt.specs.Read as spec;
 ghost use Rattle.hare_fmt.specs.Gaps.{next_is_string};
-ghost use Rattle.hare_fmt.specs.Write.{InOrder};
+ghost use Rattle.hare_fmt.specs.Layout.{InOrder};
 
 use crate::way::Feeds;
 use hare_pieces::Piece;

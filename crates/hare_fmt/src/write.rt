@@ -29,9 +29,17 @@ pub struct State<'a> {
     pub line: Line<'a>,
 }
 
-// The text of the pieces of a source, where the tokens of its tree have these ways.
-pub fn write(alloc: Global, src: &[u8], pieces: &[Piece], ways: &[Way]) -> Result<Bytes, AllocError>
-    requires { spec.InOrder 0 (length src.now) pieces.now }
+/// The text of the pieces of a source, which stand in it in their order, where the tokens of its tree have these ways: each piece behind its gap, and the
+/// commas that are added.
+///
+/// The time is linear in the source and the text.
+pub fn write_pieces(
+    alloc: Global,
+    src: &[u8],
+    pieces: &[Piece],
+    ways: &[Way],
+) -> Result<Bytes, AllocError>
+    requires { layout.InOrder 0 (length src.now) pieces.now }
     ensures { IfOk result (λ text. text ≡ layout.written ways.now (seen src.now pieces.now)) }
 {
     let mut out = Bytes::new(alloc);
@@ -61,8 +69,8 @@ fn put_next<'a>(
     i: usize,
 ) -> Result<State<'a>, AllocError>
     requires within { i < length pieces.now }
-    requires order { spec.InOrder state.at (length src.now) (drop i pieces.now) }
-    ensures order { IfOk result (λ next. spec.InOrder next.at (length src.entry.now) (drop (i + 1) pieces.now)) }
+    requires order { layout.InOrder state.at (length src.now) (drop i pieces.now) }
+    ensures order { IfOk result (λ next. layout.InOrder next.at (length src.entry.now) (drop (i + 1) pieces.now)) }
     ensures text { IfOk result (λ next. out.new ++ spec.left src.entry.now next (drop (i + 1) pieces.now) ≡ out.old ++ spec.left src.entry.now state.entry (drop i pieces.now)) }
 {
     let piece = pieces[i];
@@ -90,7 +98,7 @@ fn put_next<'a>(
 
 // Whether the token behind this one, in front of these pieces, is a string behind a string.
 fn is_joined(src: &[u8], body: &[u8], behind: &[Piece], at: usize) -> bool
-    requires { spec.InOrder at (length src.now) behind.now }
+    requires { layout.InOrder at (length src.now) behind.now }
     ensures { result ≡ (is_quoted body.now && next_is_string (seen_from src.now at behind.now)) }
 {
     is_quoted(body) && next_is_string(src, behind, at)

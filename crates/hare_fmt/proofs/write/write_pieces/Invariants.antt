@@ -1,9 +1,9 @@
 use Rattle.std.proofs.Common.{◌≡◌, ◌++◌, drop, length, false}
 use Rattle.hare_fmt.specs.Read.{seen}
 use Rattle.hare_fmt.specs.Gaps.{placed, laid, at_start}
-use Rattle.hare_fmt.specs.Layout.{laid_bytes}
-use Rattle.hare_fmt.specs.Write.{InOrder, left}
-use Rattle.hare_fmt.proofs.write.write.Given as goal
+use Rattle.hare_fmt.specs.Write.{left}
+use Rattle.hare_fmt.specs.Layout.{InOrder, laid_bytes}
+use Rattle.hare_fmt.proofs.write.write_pieces.Given as goal
 
 -- what is written, and behind it what is left, is the whole
 abbrev pub invariant-loop-i : goal.invariant-loop-i
