@@ -1,5 +1,5 @@
 -- Bytes without the blanks at their end, from the end on.
-use Rattle.std.proofs.Common.{◌≡◌, ℕ, zero, suc, ◌+◌, ◌-◌, ◌<◌, ◌≤◌, List, [], ◌∷◌, ◌++◌, Bool, true, false, length, take, get_or, refl, sym, ap, ◌∙◌, subst, arith}
+use Rattle.std.proofs.Common.{◌≡◌, ℕ, zero, suc, ◌-◌, ◌<◌, ◌≤◌, List, [], ◌∷◌, ◌++◌, true, false, length, take, get_or, refl, sym, ap, ◌∙◌, subst, arith}
 use Rattle.std.proofs.Math.Seq.{take-length}
 use Rattle.hare_tree.specs.Words.{is_blank}
 use Rattle.hare_fmt.specs.Read.{trimmed, before_blanks}
@@ -25,15 +25,18 @@ pub trimmed_start : (s : List ℕ) (n : ℕ) → n ≡ length s → trimmed (tak
 trimmed_start s n e = ap trimmed (ap (λ k. take k s) e ∙ take-length s)
 
 -- one more blank is left out
-pub trimmed_less : (s : List ℕ) (n : ℕ) → 0 < n → n ≤ length s → is_blank (get_or s (n - 1) 0) ≡ true → trimmed (take n s) ≡ trimmed s → trimmed (take (n - 1) s) ≡ trimmed s
+pub trimmed_less : (s : List ℕ) (n : ℕ) → 0 < n → n ≤ length s → is_blank (get_or s (n - 1) 0) ≡ true → trimmed (take n s) ≡ trimmed s
+    → trimmed (take (n - 1) s) ≡ trimmed s
 trimmed_less s zero p h b e = absurd (omega arith)
 trimmed_less s (suc n) p h b e =
     let same : suc n - 1 ≡ n = omega arith in
     let blank : is_blank (get_or s n 0) ≡ true = subst (λ k. is_blank (get_or s k 0) ≡ true) same b in
-    ap (λ k. trimmed (take k s)) same ∙ sym (trimmed_blank (take n s) (get_or s n 0) blank) ∙ ap trimmed (sym (take_snoc s n (omega arith))) ∙ e
+    ap (λ k. trimmed (take k s)) same ∙ sym (trimmed_blank (take n s) (get_or s n 0) blank)
+    ∙ ap trimmed (sym (take_snoc s n (omega arith))) ∙ e
 
 -- nothing is left to leave out
-pub trimmed_done : (s : List ℕ) (n : ℕ) → 0 < n → n ≤ length s → is_blank (get_or s (n - 1) 0) ≡ false → trimmed (take n s) ≡ trimmed s → take n s ≡ trimmed s
+pub trimmed_done : (s : List ℕ) (n : ℕ) → 0 < n → n ≤ length s → is_blank (get_or s (n - 1) 0) ≡ false → trimmed (take n s) ≡ trimmed s
+    → take n s ≡ trimmed s
 trimmed_done s zero p h b e = absurd (omega arith)
 trimmed_done s (suc n) p h b e =
     let same : suc n - 1 ≡ n = omega arith in

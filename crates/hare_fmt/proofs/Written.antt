@@ -1,5 +1,5 @@
 -- One step of the writer.
-use Rattle.std.proofs.Common.{◌≡◌, ℕ, zero, suc, ◌+◌, ◌<◌, List, [], ◌∷◌, ◌++◌, Bool, true, false, ◌&&◌, ◌||◌, not, length, drop, get_or, refl, sym, ap, ◌∙◌, subst, arith, append_assoc, add-one, if◌then◌else◌}
+use Rattle.std.proofs.Common.{◌≡◌, ℕ, zero, suc, ◌+◌, ◌<◌, List, [], ◌∷◌, ◌++◌, Bool, true, false, ◌&&◌, length, drop, get_or, refl, sym, ap, ◌∙◌, arith, append_assoc, add-one, if◌then◌else◌}
 use Rattle.std.specs.Prelude.{slice_range}
 use Rattle.hare_fmt.specs.declared.line.Line.{Line}
 use Rattle.hare_pieces.specs.declared.piece.Piece.{Piece}
@@ -7,8 +7,8 @@ use Rattle.hare_fmt.specs.declared.way.Feeds.{Feeds}
 use Rattle.hare_fmt.specs.declared.way.Way.{Way}
 use Rattle.hare_fmt.specs.declared.way.Gap.{Gap}
 use Rattle.hare_fmt.specs.declared.write.State.{State}
-use Rattle.hare_fmt.specs.Read.{Seen, seen_from, seen_piece, body_of, feeds_in, is_quoted}
-use Rattle.hare_fmt.specs.Gaps.{Behind, Placed, placed, laid, next_is_string, string_way, next_way, without_comma, comment_gap, comment_tabs, token_gap, behind_comment, behind_token, behind_added, comma_of}
+use Rattle.hare_fmt.specs.Read.{Seen, seen_from, body_of, feeds_in, is_quoted}
+use Rattle.hare_fmt.specs.Gaps.{Behind, placed, laid, next_is_string, string_way, next_way, without_comma, comment_gap, comment_tabs, token_gap, behind_comment, behind_token, behind_added, comma_of}
 use Rattle.hare_fmt.specs.Behind.{behind_of}
 use Rattle.hare_fmt.specs.Write.{ways_left, left, way_here}
 use Rattle.hare_fmt.specs.Layout.{laid_bytes, gap_bytes}
@@ -19,7 +19,8 @@ piece_next [] i p h e = absurd (omega arith)
 piece_next (q ∷ ps) zero p h e = ap (λ x. x ∷ ps) (sym e)
 piece_next (q ∷ ps) (suc i) p h e = piece_next ps i p (omega arith) e
 
-bytes_step : (c : Bool) (g : Gap) (body : List ℕ) (l : List (Gap × List ℕ)) → laid_bytes (comma_of c ++ (g, body) ∷ l) ≡ laid_bytes (comma_of c) ++ ((gap_bytes g ++ body) ++ laid_bytes l)
+bytes_step : (c : Bool) (g : Gap) (body : List ℕ) (l : List (Gap × List ℕ))
+    → laid_bytes (comma_of c ++ (g, body) ∷ l) ≡ laid_bytes (comma_of c) ++ ((gap_bytes g ++ body) ++ laid_bytes l)
 bytes_step true g body l = refl
 bytes_step false g body l = refl
 
@@ -34,7 +35,8 @@ pub comment_step : (b : Behind) (joined : Bool) (depth : ℕ) (ws : List Way) (f
     ++ ((gap_bytes (comment_gap (behind_added (way_at joined depth ws).comma b).before f (comment_tabs (way_at joined depth ws))) ++ o)
     ++ laid_bytes (laid behind_comment (placed joined depth (if joined then ws else without_comma ws) xs)))
 comment_step b joined depth ws f o xs =
-    bytes_step (way_at joined depth ws).comma (comment_gap (behind_added (way_at joined depth ws).comma b).before f (comment_tabs (way_at joined depth ws))) o
+    bytes_step (way_at joined depth ws).comma
+    (comment_gap (behind_added (way_at joined depth ws).comma b).before f (comment_tabs (way_at joined depth ws))) o
     (laid behind_comment (placed joined depth (if joined then ws else without_comma ws) xs))
 
 -- a token is written
@@ -42,11 +44,13 @@ pub token_step : (b : Behind) (joined : Bool) (depth : ℕ) (ws : List Way) (f :
     → laid_bytes (laid b (placed joined depth ws (record { feeds = f; body = o; comment = false } ∷ xs)))
     ≡ laid_bytes (comma_of (way_at joined depth ws).comma)
     ++ ((gap_bytes (token_gap (behind_added (way_at joined depth ws).comma b) (way_at joined depth ws) f o) ++ o)
-    ++ laid_bytes (laid (behind_token (token_gap (behind_added (way_at joined depth ws).comma b) (way_at joined depth ws) f o) (behind_added (way_at joined depth ws).comma b) (way_at joined depth ws) o)
+    ++ laid_bytes (laid (behind_token (token_gap (behind_added (way_at joined depth ws).comma b) (way_at joined depth ws) f o)
+    (behind_added (way_at joined depth ws).comma b) (way_at joined depth ws) o)
     (placed (is_quoted o && next_is_string xs) (way_at joined depth ws).depth (if joined then ws else drop 1 ws) xs)))
 token_step b joined depth ws f o xs =
     bytes_step (way_at joined depth ws).comma (token_gap (behind_added (way_at joined depth ws).comma b) (way_at joined depth ws) f o) o
-    (laid (behind_token (token_gap (behind_added (way_at joined depth ws).comma b) (way_at joined depth ws) f o) (behind_added (way_at joined depth ws).comma b) (way_at joined depth ws) o)
+    (laid (behind_token (token_gap (behind_added (way_at joined depth ws).comma b) (way_at joined depth ws) f o)
+    (behind_added (way_at joined depth ws).comma b) (way_at joined depth ws) o)
     (placed (is_quoted o && next_is_string xs) (way_at joined depth ws).depth (if joined then ws else drop 1 ws) xs))
 
 -- ---- the facts of a step
@@ -61,7 +65,8 @@ abbrev rest : List ℕ → List Piece → Behind → Bool → ℕ → List Way �
 rest src ps b joined depth ws at i = laid_bytes (laid b (placed joined depth ws (seen_from src at (drop i ps))))
 
 -- a piece is read, the comma in front of it is written, and then its gap and its bytes
-pub record Put (src : List ℕ) (ps : List Piece) (i : ℕ) (p : Piece) (s : State) (line : Line) (w : Way) (f : Feeds) (o : List ℕ) (g : Gap) (old new : List ℕ) : Type 0 where
+pub record Put (src : List ℕ) (ps : List Piece) (i : ℕ) (p : Piece) (s : State) (line : Line) (w : Way) (f : Feeds) (o : List ℕ) (g : Gap)
+    (old new : List ℕ) : Type 0 where
   pub here : drop i ps ≡ p ∷ drop (suc i) ps
   pub way : w ≡ way_here s
   pub feeds : f ≡ feeds_in (slice_range src s.at p.from)
@@ -79,12 +84,14 @@ joined_texts old c g r = append_assoc (old ++ c) g r ∙ append_assoc old c (g +
 
 pub record BehindComment (s next : State) (p : Piece) : Type 0 where
   pub at : next.at ≡ p.to
-  pub ways : ways_left next.added next.ways.now ≡ (if s.joined then ways_left s.added s.ways.now else without_comma (ways_left s.added s.ways.now))
+  pub ways : ways_left next.added next.ways.now ≡
+      (if s.joined then ways_left s.added s.ways.now else without_comma (ways_left s.added s.ways.now))
   pub joined : next.joined ≡ s.joined
   pub depth : next.depth ≡ s.depth
   pub line : behind_of next.line ≡ behind_comment
 
-pub comment_written : (src : List ℕ) (ps : List Piece) (i : ℕ) (p : Piece) (s next : State) (line : Line) (w : Way) (f : Feeds) (o : List ℕ) (g : Gap) (old new : List ℕ)
+pub comment_written : (src : List ℕ) (ps : List Piece) (i : ℕ) (p : Piece) (s next : State) (line : Line) (w : Way) (f : Feeds)
+    (o : List ℕ) (g : Gap) (old new : List ℕ)
     → Put src ps i p s line w f o g old new → p.comment ≡ true → g ≡ comment_gap line.before f (comment_tabs w) → BehindComment s next p
     → new ++ left src next (drop (i + 1) ps) ≡ old ++ left src s (drop i ps)
 unfolding seen_here
@@ -93,17 +100,22 @@ comment_written src ps i p s next line w f o g old new h k e n =
     let b = behind_of s.line in
     let xs = seen_from src p.to (drop (suc i) ps) in
     let r = laid_bytes (laid behind_comment (placed s.joined s.depth (if s.joined then ws else without_comma ws) xs)) in
-    let after : left src next (drop (i + 1) ps) ≡ r = λ t. rest src ps (n.line t) (n.joined t) (n.depth t) (n.ways t) (n.at t) (add-one i t) in
+    let after : left src next (drop (i + 1) ps) ≡ r = λ t. rest src ps (n.line t) (n.joined t) (n.depth t) (n.ways t) (n.at t)
+    (add-one i t) in
     let read : left src s (drop i ps) ≡ laid_bytes (laid b (placed s.joined s.depth ws (seen_here src s.at p true ∷ xs))) =
     ap (left src s) h.here ∙ ap (λ c. laid_bytes (laid b (placed s.joined s.depth ws (seen_here src s.at p c ∷ xs)))) k in
     let step = comment_step b s.joined s.depth ws (feeds_in (slice_range src s.at p.from)) (body_of src p) xs in
     let way = sym h.way in
     let feeds = sym h.feeds in
     let body = sym h.body in
-    let moved : laid_bytes (comma_of (way_here s).comma) ++ ((gap_bytes (comment_gap (behind_added (way_here s).comma b).before (feeds_in (slice_range src s.at p.from)) (comment_tabs (way_here s))) ++ body_of src p) ++ r)
+    let moved : laid_bytes (comma_of (way_here s).comma) ++
+    ((gap_bytes (comment_gap (behind_added (way_here s).comma b).before (feeds_in (slice_range src s.at p.from))
+    (comment_tabs (way_here s))) ++ body_of src p) ++ r)
     ≡ laid_bytes (comma_of w.comma) ++ ((gap_bytes (comment_gap (behind_added w.comma b).before f (comment_tabs w)) ++ o) ++ r) =
-    λ t. laid_bytes (comma_of (way t).comma) ++ ((gap_bytes (comment_gap (behind_added (way t).comma b).before (feeds t) (comment_tabs (way t))) ++ body t) ++ r) in
-    let gap : comment_gap (behind_added w.comma b).before f (comment_tabs w) ≡ g = ap (λ (x : Behind). comment_gap x.before f (comment_tabs w)) (sym h.line_is) ∙ sym e in
+    λ t. laid_bytes (comma_of (way t).comma) ++
+    ((gap_bytes (comment_gap (behind_added (way t).comma b).before (feeds t) (comment_tabs (way t))) ++ body t) ++ r) in
+    let gap : comment_gap (behind_added w.comma b).before f (comment_tabs w) ≡ g = ap
+    (λ (x : Behind). comment_gap x.before f (comment_tabs w)) (sym h.line_is) ∙ sym e in
     let whole : left src s (drop i ps) ≡ laid_bytes (comma_of w.comma) ++ ((gap_bytes g ++ o) ++ r) =
     read ∙ step ∙ moved ∙ ap (λ x. laid_bytes (comma_of w.comma) ++ ((gap_bytes x ++ o) ++ r)) gap in
     let front : new ≡ (old ++ laid_bytes (comma_of w.comma)) ++ (gap_bytes g ++ o) = h.text ∙ ap (λ l. l ++ (gap_bytes g ++ o)) h.comma in
@@ -112,15 +124,18 @@ comment_written src ps i p s next line w f o g old new h k e n =
     ∙ joined_texts old (laid_bytes (comma_of w.comma)) (gap_bytes g ++ o) r
     ∙ ap (λ l. old ++ l) (sym whole)
 
-pub record BehindToken (src : List ℕ) (ps : List Piece) (i : ℕ) (s next : State) (p : Piece) (line : Line) (w : Way) (o : List ℕ) (g : Gap) : Type 0 where
+pub record BehindToken (src : List ℕ) (ps : List Piece) (i : ℕ) (s next : State) (p : Piece) (line : Line) (w : Way) (o : List ℕ)
+    (g : Gap) : Type 0 where
   pub at : next.at ≡ p.to
   pub ways : ways_left next.added next.ways.now ≡ (if s.joined then ways_left s.added s.ways.now else drop 1 (ways_left s.added s.ways.now))
   pub joined : next.joined ≡ (is_quoted o && next_is_string (seen_from src p.to (drop (i + 1) ps)))
   pub depth : next.depth ≡ w.depth
   pub line_is : behind_of next.line ≡ behind_token g (behind_of line) w o
 
-pub token_written : (src : List ℕ) (ps : List Piece) (i : ℕ) (p : Piece) (s next : State) (line : Line) (w : Way) (f : Feeds) (o : List ℕ) (g : Gap) (old new : List ℕ)
-    → Put src ps i p s line w f o g old new → p.comment ≡ false → g ≡ token_gap (behind_of line) w f o → BehindToken src ps i s next p line w o g
+pub token_written : (src : List ℕ) (ps : List Piece) (i : ℕ) (p : Piece) (s next : State) (line : Line) (w : Way) (f : Feeds) (o : List ℕ)
+    (g : Gap) (old new : List ℕ)
+    → Put src ps i p s line w f o g old new → p.comment ≡ false → g ≡ token_gap (behind_of line) w f o
+    → BehindToken src ps i s next p line w o g
     → new ++ left src next (drop (i + 1) ps) ≡ old ++ left src s (drop i ps)
 unfolding seen_here
 token_written src ps i p s next line w f o g old new h k e n =
@@ -129,8 +144,10 @@ token_written src ps i p s next line w f o g old new h k e n =
     let xs = seen_from src p.to (drop (suc i) ps) in
     let others = if s.joined then ws else drop 1 ws in
     let r = laid_bytes (laid (behind_token g (behind_of line) w o) (placed (is_quoted o && next_is_string xs) w.depth others xs)) in
-    let joined : next.joined ≡ (is_quoted o && next_is_string xs) = n.joined ∙ ap (λ j. is_quoted o && next_is_string (seen_from src p.to (drop j ps))) (add-one i) in
-    let after : left src next (drop (i + 1) ps) ≡ r = λ t. rest src ps (n.line_is t) (joined t) (n.depth t) (n.ways t) (n.at t) (add-one i t) in
+    let joined : next.joined ≡ (is_quoted o && next_is_string xs) = n.joined
+    ∙ ap (λ j. is_quoted o && next_is_string (seen_from src p.to (drop j ps))) (add-one i) in
+    let after : left src next (drop (i + 1) ps) ≡ r = λ t. rest src ps (n.line_is t) (joined t) (n.depth t) (n.ways t) (n.at t)
+    (add-one i t) in
     let read : left src s (drop i ps) ≡ laid_bytes (laid b (placed s.joined s.depth ws (seen_here src s.at p false ∷ xs))) =
     ap (left src s) h.here ∙ ap (λ c. laid_bytes (laid b (placed s.joined s.depth ws (seen_here src s.at p c ∷ xs)))) k in
     let step = token_step b s.joined s.depth ws (feeds_in (slice_range src s.at p.from)) (body_of src p) xs in
@@ -138,11 +155,15 @@ token_written src ps i p s next line w f o g old new h k e n =
     let feeds = sym h.feeds in
     let body = sym h.body in
     let part : Way → Behind → Feeds → List ℕ → Gap → List ℕ =
-    λ v x y z q. laid_bytes (comma_of v.comma) ++ ((gap_bytes q ++ z) ++ laid_bytes (laid (behind_token q x v z) (placed (is_quoted z && next_is_string xs) v.depth others xs))) in
-    let moved : part (way_here s) (behind_added (way_here s).comma b) (feeds_in (slice_range src s.at p.from)) (body_of src p) (token_gap (behind_added (way_here s).comma b) (way_here s) (feeds_in (slice_range src s.at p.from)) (body_of src p))
+    λ v x y z q. laid_bytes (comma_of v.comma) ++
+    ((gap_bytes q ++ z) ++ laid_bytes (laid (behind_token q x v z) (placed (is_quoted z && next_is_string xs) v.depth others xs))) in
+    let moved : part (way_here s) (behind_added (way_here s).comma b) (feeds_in (slice_range src s.at p.from)) (body_of src p)
+    (token_gap (behind_added (way_here s).comma b) (way_here s) (feeds_in (slice_range src s.at p.from)) (body_of src p))
     ≡ part w (behind_added w.comma b) f o (token_gap (behind_added w.comma b) w f o) =
-    λ t. part (way t) (behind_added (way t).comma b) (feeds t) (body t) (token_gap (behind_added (way t).comma b) (way t) (feeds t) (body t)) in
-    let lined : part w (behind_added w.comma b) f o (token_gap (behind_added w.comma b) w f o) ≡ part w (behind_of line) f o (token_gap (behind_of line) w f o) =
+    λ t. part (way t) (behind_added (way t).comma b) (feeds t) (body t)
+    (token_gap (behind_added (way t).comma b) (way t) (feeds t) (body t)) in
+    let lined : part w (behind_added w.comma b) f o (token_gap (behind_added w.comma b) w f o) ≡ part w (behind_of line) f o
+    (token_gap (behind_of line) w f o) =
     ap (λ x. part w x f o (token_gap x w f o)) (sym h.line_is) in
     let whole : left src s (drop i ps) ≡ laid_bytes (comma_of w.comma) ++ ((gap_bytes g ++ o) ++ r) =
     read ∙ step ∙ moved ∙ lined ∙ ap (λ q. part w (behind_of line) f o q) (sym e) in

@@ -26,7 +26,8 @@ abbrev pub next_is_string : List Seen → Bool
 next_is_string [] = false
 next_is_string (x ∷ xs) = if x.comment then next_is_string xs else is_string x
 
--- A string behind a string is of the same token of the tree: it begins no line, and stands behind a blank. This is its way, where that of the first has this
+-- A string behind a string is of the same token of the tree: it begins no line, and stands behind a blank. This is its way, where that of
+-- the first has this
 -- depth.
 abbrev pub string_way : ℕ → Way
 string_way depth = record { start = Within; depth = depth; joins_before = false; joins_behind = false; comma = false }
@@ -42,7 +43,8 @@ without_comma [] = []
 without_comma (w ∷ ws) =
     record { start = w.start; depth = w.depth; joins_before = w.joins_before; joins_behind = w.joins_behind; comma = false } ∷ ws
 
--- The pieces of a text with their ways. The next token is a string behind a string, of which the first has this depth, or it is the first of a token of the
+-- The pieces of a text with their ways. The next token is a string behind a string, of which the first has this depth, or it is the first
+-- of a token of the
 -- tree.
 abbrev pub placed : (joined : Bool) (depth : ℕ) → List Way → List Seen → List Placed
 placed joined depth ws [] = []
@@ -54,7 +56,8 @@ placed joined depth ws (x ∷ xs) =
 
 -- ---- what stands before a piece
 
--- The piece before, whether no blank is to stand behind it, and the last two pieces back to the last blank or line end, or nothing where there are none.
+-- The piece before, whether no blank is to stand behind it, and the last two pieces back to the last blank or line end, or nothing where
+-- there are none.
 pub record Behind : Type 0 where
   pub before : Before
   pub joins : Bool
@@ -117,7 +120,8 @@ comment_gap Other Empty tabs = line Other Empty tabs
 abbrev pub are_digits : List ℕ → Bool
 are_digits s = not (length s == 0) && list_all is_ascii_digit s
 
--- Joined to these pieces of its line, the piece would not be the token that it is: `&` behind `&`, and a number behind a `.` that stands behind
+-- Joined to these pieces of its line, the piece would not be the token that it is: `&` behind `&`, and a number behind a `.` that stands
+-- behind
 -- plain decimal digits.
 abbrev pub grows : (last previous : List ℕ) → List ℕ → Bool
 grows last previous body =
@@ -128,7 +132,8 @@ abbrev pub within_line : Bool → Gap
 within_line true = Join
 within_line false = Blank
 
--- A token begins a line where its way says so, and behind a comment. Else it is joined to the piece before it where one of the two wants it, unless
+-- A token begins a line where its way says so, and behind a comment. Else it is joined to the piece before it where one of the two wants
+-- it, unless
 -- it would grow together with it.
 abbrev pub joins : Behind → Way → List ℕ → Bool
 joins b w body = (b.joins || w.joins_before) && not (grows b.last b.previous body)
@@ -147,7 +152,8 @@ before_gap b w feeds body Other = start_gap b w feeds body w.start
 abbrev pub token_gap : Behind → Way → Feeds → List ℕ → Gap
 token_gap b w feeds body = before_gap b w feeds body b.before
 
--- A comment's line has the tabs of a token there, one more than a closing bracket or `case` behind it has, and one more still where the token behind
+-- A comment's line has the tabs of a token there, one more than a closing bracket or `case` behind it has, and one more still where the
+-- token behind
 -- it begins no line by itself.
 abbrev pub comment_tabs : Way → ℕ
 comment_tabs w = w.depth + extra_tab w.start

@@ -8,7 +8,8 @@ ghost use Rattle.hare_fmt.specs.Behind.{behind_of};
 
 use crate::way::{Before, Feeds, Gap, Start, Way};
 
-// What stands before a piece: the piece before, whether no blank is to stand behind it, and the last two pieces back to the last blank or line end.
+// What stands before a piece: the piece before, whether no blank is to stand behind it, and the last two pieces back to the last blank or
+// line end.
 #[derive(Clone, Copy)]
 pub struct Line<'a> {
     pub before: Before,

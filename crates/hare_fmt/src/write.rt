@@ -29,7 +29,8 @@ pub struct State<'a> {
     pub line: Line<'a>,
 }
 
-/// The text of the pieces of a source, which stand in it in their order, where the tokens of its tree have these ways: each piece behind its gap, and the
+/// The text of the pieces of a source, which stand in it in their order, where the tokens of its tree have these ways: each piece behind
+/// its gap, and the
 /// commas that are added.
 ///
 /// The time is linear in the source and the text.
@@ -71,7 +72,9 @@ fn put_next<'a>(
     requires within { i < length pieces.now }
     requires order { layout.InOrder state.at (length src.now) (drop i pieces.now) }
     ensures order { IfOk result (λ next. layout.InOrder next.at (length src.entry.now) (drop (i + 1) pieces.now)) }
-    ensures text { IfOk result (λ next. out.new ++ spec.left src.entry.now next (drop (i + 1) pieces.now) ≡ out.old ++ spec.left src.entry.now state.entry (drop i pieces.now)) }
+    ensures text { IfOk result
+        (λ next. out.new ++ spec.left src.entry.now next (drop (i + 1) pieces.now) ≡ out.old ++ spec.left src.entry.now state.entry
+        (drop i pieces.now)) }
 {
     let piece = pieces[i];
     let body = body_of(src, piece);
@@ -107,7 +110,9 @@ fn is_joined(src: &[u8], body: &[u8], behind: &[Piece], at: usize) -> bool
 // Behind a token, but for the line.
 fn behind_token<'a>(state: State<'a>, at: usize, joined: bool, depth: u32) -> State<'a>
     ensures at { result.at ≡ at }
-    ensures ways { spec.ways_left result.added result.ways.now ≡ (if state.entry.joined then spec.ways_left state.entry.added state.entry.ways.now else drop 1 (spec.ways_left state.entry.added state.entry.ways.now)) }
+    ensures ways { spec.ways_left result.added result.ways.now ≡
+        (if state.entry.joined then spec.ways_left state.entry.added state.entry.ways.now else drop 1
+        (spec.ways_left state.entry.added state.entry.ways.now)) }
     ensures joined { result.joined ≡ joined }
     ensures depth { result.depth ≡ depth }
 {
@@ -134,7 +139,9 @@ fn behind_token<'a>(state: State<'a>, at: usize, joined: bool, depth: u32) -> St
 // Behind a comment, whose token is still to come.
 fn behind_comment<'a>(state: State<'a>, at: usize) -> State<'a>
     ensures at { result.at ≡ at }
-    ensures ways { spec.ways_left result.added result.ways.now ≡ (if state.entry.joined then spec.ways_left state.entry.added state.entry.ways.now else without_comma (spec.ways_left state.entry.added state.entry.ways.now)) }
+    ensures ways { spec.ways_left result.added result.ways.now ≡
+        (if state.entry.joined then spec.ways_left state.entry.added state.entry.ways.now else without_comma
+        (spec.ways_left state.entry.added state.entry.ways.now)) }
     ensures joined { result.joined ≡ state.entry.joined }
     ensures depth { result.depth ≡ state.entry.depth }
     ensures line { behind_of result.line ≡ behind_comment }

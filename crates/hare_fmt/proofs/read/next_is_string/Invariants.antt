@@ -1,6 +1,3 @@
-use Rattle.std.proofs.Common.{◌≡◌, drop, length}
-use Rattle.hare_fmt.specs.Gaps.{next_is_string}
-use Rattle.hare_fmt.specs.Read.{seen_from}
 use Rattle.hare_fmt.proofs.ReadLemmas.{Ahead}
 use Rattle.hare_fmt.proofs.read.next_is_string.Given as goal
 

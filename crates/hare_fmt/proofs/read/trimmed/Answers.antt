@@ -1,4 +1,4 @@
-use Rattle.std.proofs.Common.{◌≡◌, ◌∙◌, sym, arith, subst}
+use Rattle.std.proofs.Common.{◌∙◌, sym, arith}
 use Rattle.hare_fmt.proofs.Trimmed.{trimmed_less, trimmed_done, trimmed_none}
 use Rattle.hare_fmt.proofs.read.trimmed.Goals as goal
 use Rattle.hare_fmt.proofs.read.trimmed.Goals.{then-blanks-test+else-is_blank, else-blanks-test}
@@ -17,6 +17,6 @@ returns c =
     c.split_at.ensures.front
     ∙ elim c.blanks-test.branch [
       | then-blanks-test+else-is_blank w ↦
-        trimmed_done c.args.s.now c.blanks.end w.blanks-test.true kept.within (sym w.is_blank.ensures ∙ w.if-is_blank.false) kept.same
+          trimmed_done c.args.s.now c.blanks.end w.blanks-test.true kept.within (sym w.is_blank.ensures ∙ w.if-is_blank.false) kept.same
       | else-blanks-test w ↦ trimmed_none c.args.s.now c.blanks.end (omega (arith, w.blanks-test.false)) kept.same
     ]

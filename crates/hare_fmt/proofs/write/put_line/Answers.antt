@@ -1,4 +1,4 @@
-use Rattle.std.proofs.Common.{◌≡◌, ℕ, ◌∙◌, List, ◌++◌, ◌≤◌, ap, sym, arith, append_assoc}
+use Rattle.std.proofs.Common.{◌≡◌, ◌∙◌, ◌++◌, ap, arith, append_assoc}
 use Rattle.std.specs.Prelude.{replicate}
 use Rattle.hare_fmt.specs.Layout.{feeds}
 use Rattle.hare_fmt.proofs.write.put_line.Goals as goal

@@ -1,4 +1,4 @@
-use Rattle.std.proofs.Common.{◌≡◌, ◌∙◌, ◌&&◌, ap, get_or, false}
+use Rattle.std.proofs.Common.{◌∙◌, ◌&&◌, ap, get_or, false}
 use Rattle.hare_pieces.specs.declared.piece.Piece.{Piece}
 use Rattle.hare_fmt.specs.declared.write.State.{State}
 use Rattle.hare_fmt.specs.Read.{seen_from, is_quoted}
@@ -36,7 +36,14 @@ returns-clause-text c =
     let next = c.behind_token-next.ensures in
     let body = c.body_of-body.result.now in
     let r = c.behind_token-next.result in
-    let made : State = record { at = r.at; ways = r.ways; added = r.added; joined = r.joined; depth = r.depth; line = c.line_behind_token.result } in
+    let made : State = record {
+      at = r.at;
+      ways = r.ways;
+      added = r.added;
+      joined = r.joined;
+      depth = r.depth;
+      line = c.line_behind_token.result;
+    } in
     token_written c.args.src.now ps i p c.args.state made c.in_ok-line.line c.way_here-way.result
     c.feeds_in-feeds.result body c.token_gap-gap.result c.args.out.now c.put-2.new.out
     (record {
@@ -53,7 +60,8 @@ returns-clause-text c =
     (record {
       at = next.at;
       ways = next.ways;
-      joined = next.joined ∙ c.is_joined-joined.ensures ∙ ap (λ l. is_quoted body && next_is_string (seen_from c.args.src.now p.to l)) c.split_at.ensures.back;
+      joined = next.joined ∙ c.is_joined-joined.ensures
+          ∙ ap (λ l. is_quoted body && next_is_string (seen_from c.args.src.now p.to l)) c.split_at.ensures.back;
       depth = next.depth;
       line_is = c.line_behind_token.ensures;
     })
