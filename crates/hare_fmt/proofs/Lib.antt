@@ -3,6 +3,8 @@ pub mod Written
 pub mod Trimmed
 pub mod ReadLemmas
 pub mod Kept
+pub mod Counted
+pub mod Again
 pub mod RowWords
 pub mod LineRows
 pub mod BreakRows

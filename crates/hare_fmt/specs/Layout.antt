@@ -11,16 +11,20 @@ use Rattle.std.specs.Prelude.{◌≡◌, ℕ, ◌<◌, ◌≤◌, List, [], ◌�
 use Rattle.std.specs.List.{flat_map}
 use Rattle.hare_tree.specs.declared.token.Token.{Token}
 use Rattle.hare_tree.specs.declared.tree.FileTree.{FileTree}
+use Rattle.hare_tree.specs.Node.{Node}
+use Rattle.hare_tree.specs.Spell.{spell, spell_file}
 use Rattle.hare_tree.specs.Tokens.{IsTokens}
 use Rattle.hare_tree.specs.Grammar.{IsFileTree}
 use Rattle.hare_pieces.specs.declared.piece.Piece.{Piece}
 use Rattle.hare_pieces.specs.Pieces.{ArePieces}
+use Rattle.hare_fmt.specs.declared.way.Feeds.{Feeds}
+use Rattle.hare_fmt.specs.declared.way.Feeds.TheVariants.{Same, Next, Empty}
 use Rattle.hare_fmt.specs.declared.way.Gap.{Gap}
 use Rattle.hare_fmt.specs.declared.way.Way.{Way}
 use Rattle.hare_fmt.specs.declared.way.Gap.TheVariants.{First, Join, Blank, Line}
 use Rattle.hare_fmt.specs.Read.{Seen, seen, comments_before}
-use Rattle.hare_fmt.specs.Ways.{file_ways}
-use Rattle.hare_fmt.specs.Gaps.{Placed, Behind, placed, laid, at_start}
+use Rattle.hare_fmt.specs.Ways.{ways, file_ways}
+use Rattle.hare_fmt.specs.Gaps.{Placed, Behind, placed, laid, gap_of, at_start}
 
 -- ---- bytes
 
@@ -93,3 +97,29 @@ LaidAreKept = (b : Behind) (ps : List Placed) → map (λ g. g.1) (laid b ps) �
 -- the pieces of a text stand in their order, within the text, and none is empty
 abbrev pub PiecesAreInOrder : Type 0
 PiecesAreInOrder = (text : List ℕ) (ps : List Piece) → ArePieces text ps → InOrder 0 (length text) ps
+
+-- each token of a tree has one way
+abbrev pub TreesHaveWays : Type 0
+TreesHaveWays = (comments : List ℕ) (n : ℕ) (t : Node) → length (ways comments n t) ≡ length (spell 0 t)
+
+-- and each token of a file, and its end
+abbrev pub FilesHaveWays : Type 0
+FilesHaveWays = (comments : List ℕ) (t : FileTree) → t.file ≡ 0 → length (file_ways comments t) ≡ length (spell_file t)
+
+-- ---- reading a laid out text
+
+-- the line ends that are read where this gap stands
+abbrev pub read_back : Gap → Feeds
+read_back First = Same
+read_back Join = Same
+read_back Blank = Same
+read_back (Line false tabs) = Next
+read_back (Line true tabs) = Empty
+
+-- the piece as it is read from the laid out text
+abbrev pub read_again : Behind → Placed → Placed
+read_again b p = record { piece = record { feeds = read_back (gap_of b p); body = p.piece.body; comment = p.piece.comment }; way = p.way }
+
+-- a piece that is read from a laid out text has the gap again that it has there
+abbrev pub GapsStay : Type 0
+GapsStay = (b : Behind) (p : Placed) → gap_of b (read_again b p) ≡ gap_of b p
