@@ -5,6 +5,7 @@ pub mod ReadLemmas
 pub mod Kept
 pub mod Counted
 pub mod Again
+pub mod Grown
 pub mod RowWords
 pub mod LineRows
 pub mod BreakRows

@@ -7,13 +7,13 @@
 --     braces and lists are open, and whether a comma is added;
 --   * the gap before each piece (Gaps.antt);
 --   * the bytes (here).
-use Rattle.std.specs.Prelude.{◌≡◌, ℕ, ◌<◌, ◌≤◌, List, [], ◌∷◌, ◌++◌, Bool, true, false, codes, map, length, replicate, if◌then◌else◌}
+use Rattle.std.specs.Prelude.{◌≡◌, ℕ, ◌<◌, ◌≤◌, List, [], ◌∷◌, ◌++◌, ◌⊎◌, Bool, true, false, codes, map, length, replicate, if◌then◌else◌}
 use Rattle.std.specs.List.{flat_map}
 use Rattle.hare_tree.specs.declared.token.Token.{Token}
 use Rattle.hare_tree.specs.declared.tree.FileTree.{FileTree}
 use Rattle.hare_tree.specs.Node.{Node}
 use Rattle.hare_tree.specs.Spell.{spell, spell_file}
-use Rattle.hare_tree.specs.Tokens.{IsTokens}
+use Rattle.hare_tree.specs.Tokens.{IsTokens, Stands}
 use Rattle.hare_tree.specs.Grammar.{IsFileTree}
 use Rattle.hare_pieces.specs.declared.piece.Piece.{Piece}
 use Rattle.hare_pieces.specs.Pieces.{ArePieces}
@@ -24,7 +24,7 @@ use Rattle.hare_fmt.specs.declared.way.Way.{Way}
 use Rattle.hare_fmt.specs.declared.way.Gap.TheVariants.{First, Join, Blank, Line}
 use Rattle.hare_fmt.specs.Read.{Seen, seen, comments_before}
 use Rattle.hare_fmt.specs.Ways.{ways, file_ways}
-use Rattle.hare_fmt.specs.Gaps.{Placed, Behind, placed, laid, gap_of, at_start}
+use Rattle.hare_fmt.specs.Gaps.{Placed, Behind, placed, laid, gap_of, grows, at_start}
 
 -- ---- bytes
 
@@ -123,3 +123,17 @@ read_again b p = record { piece = record { feeds = read_back (gap_of b p); body 
 -- a piece that is read from a laid out text has the gap again that it has there
 abbrev pub GapsStay : Type 0
 GapsStay = (b : Behind) (p : Placed) → gap_of b (read_again b p) ≡ gap_of b p
+
+-- ---- the blank that is kept for the tokens' sake
+
+-- no token is spelled so in front of this text
+abbrev pub NoTokenStands : List ℕ → List ℕ → Type 0
+NoTokenStands s rest = (b : Bool) (t : Token) → Stands b t s rest → ⊥
+
+-- Where a piece would grow together with those that it is joined to, it would indeed: the piece before it would not be a token there, or
+-- the piece before
+-- that.
+abbrev pub GrowingPiecesAreOthers : Type 0
+GrowingPiecesAreOthers =
+    (last previous body rest : List ℕ) → grows last previous body ≡ true
+    → NoTokenStands last (body ++ rest) ⊎ NoTokenStands previous (last ++ (body ++ rest))

@@ -1,6 +1,6 @@
 //! What holds of layouts.
 
-ghost use Rattle.hare_fmt.specs.Layout.{SourcesHaveOneLayout, TreesHaveWays, FilesHaveWays, GapsStay, PlacedAreSeen, LaidAreKept, PiecesAreInOrder};
+ghost use Rattle.hare_fmt.specs.Layout.{SourcesHaveOneLayout, TreesHaveWays, FilesHaveWays, GapsStay, GrowingPiecesAreOthers, PlacedAreSeen, LaidAreKept, PiecesAreInOrder};
 
 /// A source has one layout.
 pub fn law_one_layout()
@@ -28,4 +28,11 @@ pub fn law_each_token_has_a_way()
 /// pieces.
 pub fn law_gaps_stay()
     ensures { GapsStay }
+{}
+
+/// Where a blank is kept for the tokens' sake, between `&` and `&` and before a number behind a `.` that stands behind plain decimal
+/// digits, the text without
+/// it would have other tokens.
+pub fn law_blanks_are_needed()
+    ensures { GrowingPiecesAreOthers }
 {}
