@@ -1,0 +1,5 @@
+pub mod Fronts
+pub mod Passed
+pub mod Lengths
+pub mod Walked
+pub mod Once

@@ -1,0 +1,16 @@
+//! The pieces of a text of Hare: its tokens and comments, in order, by their bytes.
+#![tactic(auto)]
+
+mod comments;
+mod cut;
+mod laws;
+mod length;
+mod piece;
+mod pieces;
+#[cfg(test)]
+mod tests;
+
+pub use cut::pieces_of;
+pub use laws::law_one_list_of_pieces;
+pub use piece::Piece;
+pub use pieces::Pieces;
