@@ -7,7 +7,7 @@
 -- runtime one more for each 64 bytes moved.
 --
 -- What operations give is a parameter, so that this says it in the words of the language that code is made in.
-use Rattle.std.specs.Prelude.{ℕ, zero, suc, ◌+◌, ◌-◌, ◌/◌, max, Bool, true, false, ◌&&◌, not, List, [], ◌∷◌, length, map, Option, None, Some, nat_eq, nat_lt, bytes_eq, ◌==◌, if◌then◌else◌}
+use Rattle.std.specs.Prelude.{ℕ, zero, suc, ◌+◌, ◌-◌, ◌/◌, max, Bool, true, false, List, [], ◌∷◌, length, map, Option, None, Some, nat_lt, bytes_eq, ◌==◌, if◌then◌else◌}
 use Rattle.hx_base.specs.declared.Class.{Class}
 use Rattle.hx_base.specs.declared.Class.TheVariants.{W, L}
 use Rattle.hx_base.specs.Memory.{Memory, round_up, map_range, unmap_range, load, store, move}
@@ -23,7 +23,8 @@ use Rattle.flat_code.specs.declared.value.Value.{Value}
 use Rattle.flat_code.specs.Code.{Code, Codes, none, more, Seq, Set, Load, Store, Move, If, Loop, Leave, Call, Ret}
 use Rattle.flat_code.specs.Shape.{code_of}
 use Rattle.flat_code.specs.Costs.{call_cost}
-use Rattle.flat_code.specs.Signatures.{runtime_params, runtime_result}
+use Rattle.hx_runtime.specs.Functions.{runtime_params, runtime_result}
+pub use Rattle.hx_runtime.specs.Ranges.{overlap}
 use Rattle.flat_code.specs.State.{State, cut, value_of, set_temp, give, with_memory, stepped, FlatFault, Wild, Overlap, BadFree, BadArg, ZeroDivisor, NoFunction, Next, Left, Returned, Exit, Abort, Fault, HeapFull, Spent, Result, then_go, caught, then_turn, spends}
 
 -- ---- operations
@@ -68,10 +69,6 @@ loaded meaning s t how (Some v) = computed s t L (meaning L (extension how) v 0)
 abbrev pub stored : State → Option Memory → Result
 stored s None = (Fault Wild, s)
 stored s (Some m) = (Next, with_memory s m)
-
--- whether two ranges of `n` bytes overlap in part. Equal ranges and ranges that touch do not.
-abbrev pub overlap : ℕ → ℕ → ℕ → Bool
-overlap a b n = not (nat_eq a b) && nat_lt a (b + n) && nat_lt b (a + n)
 
 -- a Move of `n` bytes, by whether the ranges overlap and by the memory behind it. That a byte is not mapped is looked at first.
 abbrev pub moved : State → ℕ → Bool → Option Memory → Result

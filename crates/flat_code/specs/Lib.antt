@@ -4,10 +4,8 @@ pub mod Falls
 pub mod Costs
 pub mod Addresses
 pub mod State
-pub mod Signatures
 pub mod Evaluation
 pub mod Run
 pub mod Kinds
-pub mod RuntimeNames
 pub mod Temps
 pub mod WellFormed

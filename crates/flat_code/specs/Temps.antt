@@ -6,7 +6,7 @@ use Rattle.hx_base.specs.Runtime.{RuntimeFunction, runtime_function}
 use Rattle.flat_code.specs.declared.program.FlatFn.{FlatFn}
 use Rattle.flat_code.specs.Code.{Code, Codes, none, more, Seq, Set, Load, Store, Move, If, Loop, Leave, Call, Ret}
 use Rattle.flat_code.specs.Shape.{code_of}
-use Rattle.flat_code.specs.Signatures.{runtime_result}
+use Rattle.hx_runtime.specs.Functions.{runtime_result}
 
 -- ---- classes
 

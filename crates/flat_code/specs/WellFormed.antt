@@ -1,5 +1,5 @@
 -- Which programs of flat code are well formed: those that code of the intermediate language can be made of.
-use Rattle.std.specs.Prelude.{ℕ, zero, suc, ◌+◌, ◌^◌, List, [], ◌∷◌, Option, None, Some, Bool, true, false, not, length, ◌||◌, ◌&&◌, nat_le, nat_lt, ◌==◌, codes, bytes_eq, take, IsTrue, sum_by, count_by, if◌then◌else◌}
+use Rattle.std.specs.Prelude.{ℕ, zero, suc, ◌+◌, ◌^◌, List, [], ◌∷◌, Option, None, Some, Bool, true, false, not, length, ◌||◌, ◌&&◌, nat_le, nat_lt, ◌==◌, codes, bytes_eq, IsTrue, sum_by, count_by, if◌then◌else◌}
 use Rattle.std.specs.List.{list_all, list_any}
 use Rattle.hx_base.specs.declared.Class.{Class}
 use Rattle.hx_base.specs.declared.Class.TheVariants.{W, L}
@@ -15,7 +15,8 @@ use Rattle.flat_code.specs.Code.{Code, Codes, none, more, Seq, Set, Load, Store,
 use Rattle.flat_code.specs.Shape.{code_of}
 use Rattle.flat_code.specs.Addresses.{item_size}
 use Rattle.flat_code.specs.Kinds.{op_kind, takes_two, first_class, second_class, may_give}
-use Rattle.flat_code.specs.Signatures.{runtime_params, runtime_result}
+use Rattle.hx_runtime.specs.Functions.{runtime_params, runtime_result}
+pub use Rattle.hx_runtime.specs.Functions.{is_reserved}
 use Rattle.flat_code.specs.Temps.{is_set, has_one_class}
 
 -- ---- what is not built yet
@@ -190,10 +191,6 @@ is_name_byte c = (nat_le 97 c && nat_le c 122) || (nat_le 65 c && nat_le c 90) |
 abbrev pub is_identifier : List ℕ → Bool
 is_identifier [] = false
 is_identifier (c ∷ s) = not (is_digit_byte c) && list_all is_name_byte (c ∷ s)
-
--- a symbol of the runtime begins with `rt.`
-abbrev pub is_reserved : List ℕ → Bool
-is_reserved name = bytes_eq (take 3 name) (codes "rt.")
 
 -- a symbol of a program: an identifier that is none of the runtime's
 abbrev pub is_symbol : List ℕ → Bool

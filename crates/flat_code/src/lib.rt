@@ -11,7 +11,6 @@ mod kinds;
 mod op;
 mod program;
 mod rules;
-mod runtime;
 #[cfg(test)]
 mod tests;
 mod value;
@@ -22,5 +21,4 @@ pub use kinds::OpKind;
 pub use op::{LoadKind, Op};
 pub use program::{Classes, Data, DataList, FlatFn, FlatFns, FlatProgram, Item};
 pub use rules::well_formed;
-pub use runtime::Runtime;
 pub use value::{Value, Values};

@@ -1,5 +1,5 @@
 -- What the program does of which a module does what it does: each run of the module is one of the program.
-use Rattle.std.proofs.Common.{◌≡◌, ℕ, ◌+◌, ◌-◌, ◌≤◌, List, Option, Some, None, length, refl, sym, ap, ◌∙◌, inl, inr, arith}
+use Rattle.std.proofs.Common.{◌≡◌, ℕ, ◌+◌, ◌-◌, ◌≤◌, List, Option, Some, None, length, length-append, refl, sym, ap, ◌∙◌, inl, inr, arith}
 use Rattle.std.specs.Prelude.{◌⊎◌, codes}
 use Rattle.flat_code.specs.Run as flat
 use Rattle.flat_code.specs.State.{Flow}
@@ -13,7 +13,7 @@ use Rattle.il_code.specs.MachineLaws.{IsFront, jumps_and_calls}
 use Rattle.il_code.specs.State.{Code, function_named}
 use Rattle.il_code.specs.Run.{Run, end_of, start, started, start_world, machine, machine_end, machine_output}
 use Rattle.il_code.proofs.Budgets.{Order, less, most, order_of, ends_stay}
-use Rattle.il_code.proofs.Steps.{output_grows, counts_are_bounded}
+use Rattle.il_code.proofs.Steps.{output_grows, done_is_kept}
 use Rattle.il_emit.specs.Meaning.{il_meaning}
 use Rattle.il_emit.specs.Reaches.{Reaches, Arrives, Overflows, end_for}
 use Rattle.low_blocks.specs.Agreement.{DoesTheSame, flat_end}
@@ -59,9 +59,8 @@ module _ (m : Module) (args : List (List ℕ)) (input : List ℕ) (fill : ℕ) w
   later_counts : (n k : ℕ) → n ≤ k → jumps_and_calls (machine m args input fill n) ≤ jumps_and_calls (machine m args input fill k)
   later_counts n k l =
       let more : n + (k - n) ≡ k = omega arith in
-      let jumps = rw more at (counts_are_bounded.jumps m (start m args input fill) n (k - n)) in
-      let calls = rw more at (counts_are_bounded.calls m (start m args input fill) n (k - n)) in
-      omega (arith, jumps, calls)
+      let kept = rw more at (done_is_kept.grows m (start m args input fill) n (k - n)) in
+      omega (arith, length-append kept.0 (machine m args input fill n).state.done, ap length kept.1)
 
   -- a run has ended, or goes on
   data Stands (r : Run) : Type 0 where
@@ -115,7 +114,7 @@ backs m args input fill budget reached n Spent expected way f e o j more =
 -- The module of a lowered program does nothing that the program does not do.
 pub does_back : (source : List ℕ) (p : Program) (m : Module) → IsSource source p → DoesTheSame p (lowered p) → Reaches (lowered p) m → Back m (evaluation_of p)
 does_back source p m s does reaches args input fill budget few byte = record {
-  few = omega (arith, counts_are_bounded.few m (start m args input fill) budget, none_begun m args input fill);
+  few = omega (arith, done_is_kept.few m (start m args input fill) budget, none_begun m args input fill);
   backs = pick (reaches args input fill (jumps_and_calls (machine m args input fill budget) + 1));
 }
   where

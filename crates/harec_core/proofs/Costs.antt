@@ -11,7 +11,7 @@ use Rattle.flat_code.specs.Code.{Code, Codes, none, more, Seq, Set, Load, Store,
 use Rattle.flat_code.specs.Costs.{addressed, addressed_in, addressed_in_all, call_cost}
 use Rattle.flat_code.specs.Evaluation.{Meaning, Less, computed, acted, runtime_called, function_named, flat_begun, flats_in, flat_below, flat, cut_each, entered}
 use Rattle.flat_code.specs.Run.{run, ended, start_world, before_calls}
-use Rattle.flat_code.specs.Signatures.{runtime_params, runtime_result}
+use Rattle.hx_runtime.specs.Functions.{runtime_params, runtime_result}
 use Rattle.flat_code.specs.State.{State, cut, value_of, give, stepped, Next, Left, Returned, Exit, Abort, Fault, HeapFull, Spent, Result, then_go, caught, then_turn, spends}
 use Rattle.il_emit.proofs.Counts.{sum_cons}
 use Rattle.hare_blocks.specs.Trees.{Program}

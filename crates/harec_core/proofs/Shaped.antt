@@ -1,5 +1,5 @@
 -- The module of a lowered program has the outline of the program.
-use Rattle.std.proofs.Common.{◌≡◌, ℕ, suc, List, [], ◌∷◌, ◌++◌, map, length, Option, Some, refl, ap, subst, arith}
+use Rattle.std.proofs.Common.{◌≡◌, ℕ, suc, List, [], ◌∷◌, ◌++◌, map, length, Option, None, Some, refl, ap, subst, arith}
 use Rattle.std.specs.Prelude.{codes}
 use Rattle.flat_code.specs.Code.{Code, Codes, none, more, Seq, Set, Load, Store, Move, If, Loop, Leave, Call, Ret, codes_of}
 use Rattle.flat_code.specs.declared.program.FlatFn.{FlatFn}
@@ -37,7 +37,7 @@ module _ (p : Program) where
   each_string [] i = refl
   each_string (t ∷ ts) i = omega (arith, each_string ts (suc i))
 
-  main_named : (ts : List (List ℕ)) (i : ℕ) → il.function_named (blocks_at ts i) (codes "main") ≡ Some (record { params = []; blocks = main_body.blocks })
+  main_named : (ts : List (List ℕ)) (i : ℕ) → il.function_named (blocks_at ts i) (codes "main") ≡ Some (record { name = codes "main"; class = None; params = []; blocks = main_body.blocks })
   main_named [] i = refl
   main_named (t ∷ ts) i = main_named ts (suc i)
 
@@ -101,7 +101,7 @@ lowered_shape p shaped loops =
     let items = blocks_at p (program_texts p) 0 in
     let body = lowered_main (body_code p) in
     let code = Seq (codes_of (body_code p).code) in
-    let alike : IsShapedAs body (record { params = []; blocks = (main_body p).blocks }) = subst (λ (c : Option il.Code). emit.AreAlike (Some body) c) (main_named p (program_texts p) 0) (shaped (codes "main")) in
+    let alike : IsShapedAs body (record { name = codes "main"; class = None; params = []; blocks = (main_body p).blocks }) = subst (λ (c : Option il.Code). emit.AreAlike (Some body) c) (main_named p (program_texts p) 0) (shaped (codes "main")) in
     let one = sum_cons (λ (g : FlatFn). code_loops (code_of g.body)) body [] in
     let quiet = no_calls code (statements_fit Any start (body_of p) (any_held 0 (program_texts p))) in
     let all = one_function p (program_texts p) 0 in

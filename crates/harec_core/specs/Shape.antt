@@ -57,7 +57,7 @@ pub record HasShape (o : Outline) (m : Module) : Type 0 where
 -- that it takes there.
 pub record IsWithinFrame (frame : ℕ) (b : Body) : Type 0 where
   pub placed : IsTrue (allocs_are_placed b.blocks)
-  pub cost : full_cost (record { params = b.params; blocks = b.blocks }) ≤ frame
+  pub cost : full_cost b.params b.blocks ≤ frame
 
 -- the same of each function, in order
 abbrev pub AreWithinFrames : List ℕ → List Body → Type 0

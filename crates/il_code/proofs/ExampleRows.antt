@@ -12,6 +12,7 @@ use Rattle.il_code.specs.declared.types.Inst.TheVariants.{Store, Call}
 use Rattle.il_code.specs.declared.types.Jump.TheVariants.{Fall, Jnz, Ret}
 use Rattle.il_code.specs.Machine.{Exit, Spent}
 use Rattle.il_code.specs.Addresses.{stack_start}
+use Rattle.il_code.specs.MachineLaws.{jumps_done, calls_done}
 use Rattle.il_code.specs.Run.{after_steps, start}
 use Rattle.il_code.proofs.RunModules.{block, only_block, param, arg, phi, phi_arg, main, data_item, module_of, one, two, temp, runs, result}
 
@@ -29,7 +30,7 @@ example = module_of (
 -- after so many steps: the units used, the cost of the stack, the bytes of the stack that are taken, the jumps and the calls done
 abbrev shows : ℕ → ℕ → ℕ → ℕ → ℕ → ℕ → Type 0
 shows k units cost bytes jumps calls = let r = after_steps example k (start example [] [] 165) in
-    (r.used ≡ units) × (r.state.active.cost ≡ cost) × (r.state.active.pointer - stack_start ≡ bytes) × (r.state.jumps ≡ jumps) × (r.state.calls ≡ calls)
+    (r.used ≡ units) × (r.state.active.cost ≡ cost) × (r.state.active.pointer - stack_start ≡ bytes) × (jumps_done r ≡ jumps) × (calls_done r ≡ calls)
 
 at_start : shows 0 0 104 0 0 0
 at_start = (refl, refl, refl, refl, refl)

@@ -1,14 +1,11 @@
 pub mod Budgets
-pub mod Costs
-mod MachineRows
 mod RunModules
 mod RunRows
 mod MemoryRows
 mod ExampleRows
 mod OperationRows
 pub mod Steps
-pub mod StraightRuns
-pub mod StraightSteps
+mod Inputs
 mod Possible
 mod ShapedLemmas
 mod TokensOf
@@ -16,6 +13,7 @@ mod TokensOfCode
 mod TokensOfModule
 pub mod Validates
 mod ValidRows
+mod RuleRows
 mod ScannedTokens
 mod Unique
 mod UniqueLists

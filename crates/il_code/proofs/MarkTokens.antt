@@ -1,14 +1,12 @@
 -- The tokens of operands, instructions, phis and jumps are unmarked exactly where these are right.
-use Rattle.std.proofs.Common.{◌≡◌, ℕ, List, [], ◌∷◌, ◌++◌, Option, None, Some, Bool, true, false, ◌&&◌, ◌||◌, not, bytes_eq, codes, refl, sym, ap, ◌∙◌, arith, tests}
-use Rattle.std.specs.Prelude.{find}
-use Rattle.std.specs.List.{list_all, list_any, flat_map}
+use Rattle.std.proofs.Common.{◌≡◌, ℕ, List, [], ◌∷◌, ◌++◌, Option, None, Some, Bool, true, false, ◌&&◌, ◌||◌, not, bytes_eq, refl, sym, ap, ◌∙◌, arith, tests}
+use Rattle.std.specs.Prelude.{find, is_some}
+use Rattle.std.specs.List.{list_all, flat_map}
 use Rattle.std.proofs.Math.Bool.{and-true, and_assoc}
-use Rattle.std.proofs.lemmas.Bool.{and_parts, false≢true}
 use Rattle.std.proofs.lemmas.List.Folds.{list_all-append}
 use Rattle.hx_base.specs.declared.Class.{Class}
 use Rattle.hx_base.specs.declared.Class.TheVariants.{W, L}
 use Rattle.il_code.specs.declared.types.IlItem.{IlItem}
-use Rattle.il_code.specs.declared.types.IlItem.TheVariants.{Data, Function}
 use Rattle.il_code.specs.declared.types.IlParam.{IlParam}
 use Rattle.il_code.specs.declared.types.Block.{Block}
 use Rattle.il_code.specs.declared.types.Phi.{Phi}
@@ -20,10 +18,12 @@ use Rattle.il_code.specs.declared.types.Inst.{Inst}
 use Rattle.il_code.specs.declared.types.Inst.TheVariants.{Set, Store, Blit, Call}
 use Rattle.il_code.specs.declared.types.Jump.{Jump}
 use Rattle.il_code.specs.declared.types.Jump.TheVariants.{Fall, Jmp, Jnz, Ret, Hlt}
+use Rattle.hx_base.specs.Runtime.{RuntimeFunction, runtime_function}
+use Rattle.il_code.specs.Items.{Code, function_named}
 use Rattle.il_code.specs.Classes.{op_kind, first_class, second_class, may_give}
-use Rattle.il_code.specs.Rules.{item_name, has_named, has_label, phi_labels_known, targets_pass, phi_is_placed, is_set, is_long, is_right, takes_result, has_classes, is_runtime_call, is_call_of_item, is_call_right, second_is_right, stored_class, call_is_right, inst_is_right, phi_is_right, return_is_right, jump_is_right}
+use Rattle.il_code.specs.Rules.{item_name, has_named, has_label, phi_labels_known, targets_pass, phi_is_placed, is_set, is_long, is_right, is_runtime_call, is_runtime_call_of, is_call_of, is_call_right, second_is_right, stored_class, call_is_right, inst_is_right, phi_is_right, return_is_right, jump_is_right}
 use Rattle.il_code.specs.Loose.{PhiLine, InstLine}
-use Rattle.il_code.specs.Marks.{Numbers, temp_marks, symbol_marks, value_marks, maybe_marks, label_marks, line_sets, is_first_class, set_marks, runtime_names, is_function_named, is_callable, call_marks, result_marks, inst_marks, phi_marks, is_start, return_marks, jump_marks}
+use Rattle.il_code.specs.Marks.{Numbers, temp_marks, symbol_marks, value_marks, maybe_marks, label_marks, line_sets, is_first_class, set_marks, is_callable, call_marks, result_marks, inst_marks, phi_marks, is_start, return_marks, jump_marks}
 use Rattle.il_code.specs.MarkLaws.{is_clean}
 use Rattle.il_code.proofs.MarkLists.{same_when, not-not, not-or, list_all-same, list_all-and, list_all-flat_map, is_clean-when, is_clean-unless, is_clean-whens}
 use Rattle.il_code.proofs.MarkNames.{is_as_first}
@@ -34,69 +34,18 @@ clear ms = list_all is_clean ms
 
 -- ---- calls
 
-or_elim : (a b c : Bool) → (a ≡ true → c ≡ true) → (b ≡ true → c ≡ true) → (a || b) ≡ true → c ≡ true
-or_elim true b c f g h = f refl
-or_elim false b c f g h = g h
-
-list_any-weaker : {A : Type 0} (p q : A → Bool) → ((x : A) → p x ≡ true → q x ≡ true) → (xs : List A) → list_any p xs ≡ true → list_any q xs ≡ true
-list_any-weaker p q k [] h = h
-list_any-weaker p q k (x ∷ xs) h = or_elim (p x) (list_any p xs) (q x || list_any q xs) (λ e. rw (k x e) refl) (λ e. rw (list_any-weaker p q k xs e) (or_true (q x))) h
-  where
-    or_true : (a : Bool) → (a || true) ≡ true
-    or_true true = refl
-    or_true false = refl
-
-eleven : (a b c d e f g h i j k a' b' c' d' e' f' g' h' i' j' k' : Bool)
-    → ((a && a') || (b && b') || (c && c') || (d && d') || (e && e') || (f && f') || (g && g') || (h && h') || (i && i') || (j && j') || (k && k')) ≡ true
-    → (a || (b || (c || (d || (e || (f || (g || (h || (i || (j || (k || false))))))))))) ≡ true
-eleven a b c d e f g h i j k a' b' c' d' e' f' g' h' i' j' k' x = grind (arith, tests)
-
--- the result and the arguments are those of a function of the runtime
-abbrev fits : Option IlParam → List IlArg → Option Class → List Class → Bool
-fits result args given wanted = takes_result result given && has_classes args wanted
-
-runtime_is_named : (result : Option IlParam) (target : List ℕ) (args : List IlArg) → is_runtime_call result target args ≡ true → list_any (bytes_eq target) runtime_names ≡ true
-unfolding is_runtime_call
-runtime_is_named result target args h =
-    eleven
-    (bytes_eq target (codes "rt.puts"))
-    (bytes_eq target (codes "rt.write"))
-    (bytes_eq target (codes "rt.read"))
-    (bytes_eq target (codes "rt.malloc"))
-    (bytes_eq target (codes "rt.free"))
-    (bytes_eq target (codes "rt.move"))
-    (bytes_eq target (codes "rt.same"))
-    (bytes_eq target (codes "rt.abort"))
-    (bytes_eq target (codes "rt.exit"))
-    (bytes_eq target (codes "rt.nargs"))
-    (bytes_eq target (codes "rt.arg"))
-    (fits result args None (L ∷ L ∷ []))
-    (fits result args None (L ∷ L ∷ []))
-    (fits result args (Some L) (L ∷ L ∷ []))
-    (fits result args (Some L) (L ∷ []))
-    (fits result args None (L ∷ []))
-    (fits result args None (L ∷ L ∷ L ∷ []))
-    (fits result args (Some W) (L ∷ L ∷ L ∷ []))
-    (fits result args None (L ∷ L ∷ []))
-    (fits result args None (W ∷ []))
-    (fits result args (Some L) ([]))
-    (fits result args (Some L) (L ∷ []))
-    h
-
-called_is_named : (result : Option IlParam) (target : List ℕ) (args : List IlArg) (i : IlItem) → is_call_of_item result target args i ≡ true → is_function_named target i ≡ true
-called_is_named result target args (Data export name align parts) h = h
-called_is_named result target args (Function export class name params blocks) h = (and_parts (bytes_eq name target) _ h).0
-
-or_into : (a b : Bool) → (a ≡ true → (a || b) ≡ true) × (b ≡ true → (a || b) ≡ true)
-or_into true b = (λ h. refl, λ h. refl)
-or_into false b = (λ h. absurd (false≢true h), λ h. h)
-
+-- a right call is of a function that is there
 callable_from : (items : List IlItem) (result : Option IlParam) (target : List ℕ) (args : List IlArg) → is_call_right items result target args ≡ true → is_callable items target ≡ true
-callable_from items result target args h =
-    let k = or_into (list_any (is_function_named target) items) (list_any (bytes_eq target) runtime_names) in
-    or_elim (list_any (is_call_of_item result target args) items) (is_runtime_call result target args) (is_callable items target)
-    (λ e. k.0 (list_any-weaker (is_call_of_item result target args) (is_function_named target) (called_is_named result target args) items e))
-    (λ e. k.1 (runtime_is_named result target args e)) h
+unfolding is_runtime_call
+callable_from items result target args h = pick (function_named items target) h
+  where
+    of_runtime : (g : Option RuntimeFunction) → is_runtime_call_of result args g ≡ true → is_some g ≡ true
+    of_runtime (Some g) h = refl
+    of_runtime None h = h
+
+    pick : (f : Option Code) → is_call_of result target args f ≡ true → (is_some f || is_some (runtime_function target)) ≡ true
+    pick (Some f) h = refl
+    pick None h = of_runtime (runtime_function target) h
 
 clear-call : (items : List IlItem) (result : Option IlParam) (target : List ℕ) (args : List IlArg) → clear (call_marks items result target args) ≡ is_call_right items result target args
 clear-call items result target args =

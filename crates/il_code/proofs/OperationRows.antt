@@ -1,25 +1,33 @@
 -- What the operations give on chosen numbers, and on any numbers at class l.
-use Rattle.std.proofs.Common.{◌≡◌, ℕ, ◌+◌, ◌-◌, ◌*◌, ◌%◌, ◌^◌, [], Some, None, refl}
-use Rattle.std.specs.Prelude.{Ok, Err}
+use Rattle.std.proofs.Common.{◌≡◌, ℕ, ◌+◌, ◌-◌, ◌*◌, ◌%◌, ◌^◌, Some, None, refl}
+use Rattle.std.specs.Prelude.{Option, Result, Ok, Err, option_map}
 use Rattle.hx_base.specs.declared.Class.{Class}
 use Rattle.hx_base.specs.declared.Class.TheVariants.{W, L}
 use Rattle.il_code.specs.declared.op.IlOp.{IlOp}
 use Rattle.il_code.specs.declared.op.IlOp.TheVariants.{Neg, Copy, Alloc4, Extsb, Extub, Extsh, Extuh, Extsw, Extuw, Loadl, Add, Sub, Mul, Div, Rem, Udiv, Urem, And, Or, Xor, Shl, Shr, Sar, Ceqw, Ceql, Cnew, Cnel, Cslew, Cslel, Csltw, Csltl, Csgew, Csgel, Csgtw, Csgtl, Culew, Culel, Cultw, Cultl, Cugew, Cugel, Cugtw, Cugtl}
 use Rattle.il_code.specs.declared.types.MachineFault.TheVariants.{ZeroDivisor}
-use Rattle.il_code.specs.declared.types.IlValue.TheVariants.{Number}
-use Rattle.il_code.specs.Machine.{set_value}
+use Rattle.il_code.specs.declared.types.MachineFault.{MachineFault}
+use Rattle.il_code.specs.Operations.{cut, op_value}
+
+-- what an operation gives, cut to its class
+abbrev cut_value : Class → Result ℕ MachineFault → Result ℕ MachineFault
+cut_value class (Ok v) = Ok (cut class v)
+cut_value class (Err f) = Err f
+
+abbrev value_of : Class → IlOp → ℕ → Option ℕ → Option (Result ℕ MachineFault)
+value_of class op a b = option_map (cut_value class) (op_value class op a b)
 
 -- an operation on one number gives a number
 abbrev one : Class → IlOp → ℕ → ℕ → Type 0
-one class op a v = set_value 0 [] class op (Number a) None ≡ Some (Ok v)
+one class op a v = value_of class op a None ≡ Some (Ok v)
 
 -- an operation on two numbers gives a number
 abbrev two : Class → IlOp → ℕ → ℕ → ℕ → Type 0
-two class op a b v = set_value 0 [] class op (Number a) (Some (Number b)) ≡ Some (Ok v)
+two class op a b v = value_of class op a (Some b) ≡ Some (Ok v)
 
 -- an operation on two numbers faults
 abbrev faults : Class → IlOp → ℕ → ℕ → Type 0
-faults class op a b = set_value 0 [] class op (Number a) (Some (Number b)) ≡ Some (Err ZeroDivisor)
+faults class op a b = value_of class op a (Some b) ≡ Some (Err ZeroDivisor)
 
 -- two comparisons of two numbers, at w and at l
 abbrev both : IlOp → IlOp → ℕ → ℕ → ℕ → ℕ → Type 0
@@ -283,14 +291,14 @@ csgt_l = refl
 
 -- ---- what is none of these
 
-alloc_none : set_value 0 [] L Alloc4 (Number 8) None ≡ None
+alloc_none : value_of L Alloc4 8 None ≡ None
 alloc_none = refl
 
-load_none : set_value 0 [] L Loadl (Number 8) None ≡ None
+load_none : value_of L Loadl 8 None ≡ None
 load_none = refl
 
-neg_two : set_value 0 [] L Neg (Number 8) (Some (Number 8)) ≡ None
+neg_two : value_of L Neg 8 (Some 8) ≡ None
 neg_two = refl
 
-add_one : set_value 0 [] L Add (Number 8) None ≡ None
+add_one : value_of L Add 8 None ≡ None
 add_one = refl

@@ -8,12 +8,20 @@ use Rattle.il_code.specs.declared.types.IlItem.TheVariants.{Function}
 use Rattle.il_code.specs.declared.types.Module.{Module}
 use Rattle.il_code.specs.declared.types.Part.TheVariants as part
 use Rattle.il_code.specs.declared.types.PartValue.TheVariants as value
+use Rattle.il_code.specs.declared.types.IlValue.{IlValue}
 use Rattle.il_code.specs.declared.types.IlValue.TheVariants.{Number, Symbol}
+use Rattle.il_code.specs.declared.types.Inst.{Inst}
 use Rattle.il_code.specs.declared.types.Inst.TheVariants.{Store, Blit, Call}
 use Rattle.il_code.specs.declared.types.Jump.TheVariants.{Fall, Jmp, Jnz, Ret, Hlt}
-use Rattle.il_code.specs.Machine.{Exit, Fault, StackFull, Spent}
-use Rattle.il_code.specs.Run.{machine}
-use Rattle.il_code.proofs.RunModules.{block, only_block, param, phi, phi_arg, main, data_item, module_of, main_of, one, two, temp, runs, gives, ends}
+use Rattle.il_code.specs.Machine.{Exit, Fault, StackFull, Spent, temp_value, call_cost}
+use Rattle.il_code.specs.MachineLaws.{jumps_done, calls_done}
+use Rattle.il_code.specs.State.{Jumped, Called}
+use Rattle.il_code.specs.Run.{machine, end_of}
+use Rattle.il_code.proofs.RunModules.{block, only_block, param, arg, phi, phi_arg, main, data_item, module_of, main_of, one, two, temp, runs, gives, ends}
+
+-- `call $rt.exit(w v)`
+abbrev exits : IlValue → Inst
+exits v = Call None (codes "rt.exit") (arg W v ∷ [])
 
 -- ---- blocks
 
@@ -96,10 +104,35 @@ recursion_spent = refl
 
 -- how many jumps and calls were done
 abbrev counts : Module → ℕ → ℕ × ℕ
-counts m n = let r = machine m [] [] 170 n in (r.state.jumps, r.state.calls)
+counts m n = let r = machine m [] [] 170 n in (jumps_done r, calls_done r)
 
 recursion_counts : counts (recursive 5) 100 ≡ (6, 6)
 recursion_counts = refl
+
+-- what was done, the newest first
+recursion_done : (machine (recursive 1) [] [] 170 100).state.done
+    ≡ Jumped (codes "f") (codes "last") ∷ Called (codes "f") ∷ Jumped (codes "f") (codes "more") ∷ Called (codes "f") ∷ []
+recursion_done = refl
+
+-- of two items with one name the first is called, here one that gives 1
+abbrev two_of_a_name : Module
+two_of_a_name = module_of (
+    Function false (Some W) (codes "f") [] (only_block [] (Ret (Some (Number 1))))
+    ∷ Function false (Some W) (codes "f") [] (only_block [] (Ret (Some (Number 2))))
+    ∷ main (Some W) (only_block (gives (codes "x") W (codes "f") [] ∷ []) (Ret (Some (temp (codes "x"))))) ∷ [])
+
+first_is_called : ends two_of_a_name 9 ≡ Exit 1
+first_is_called = refl
+
+-- data that stands first hides the function
+abbrev hidden : Module
+hidden = module_of (
+    data_item (codes "f") 1 []
+    ∷ Function false None (codes "f") [] (only_block [] (Ret None))
+    ∷ main None (only_block (Call None (codes "f") [] ∷ []) (Ret None)) ∷ [])
+
+hidden_is_not_called : ends hidden 9 ≡ Fault fault.Hlt
+hidden_is_not_called = refl
 
 -- an inner call of `$main` returns as any other
 abbrev main_again : Module
@@ -168,6 +201,35 @@ exit_3 = refl
 
 exit_1000 : ends short 1000 ≡ Exit 2
 exit_1000 = refl
+
+-- the result of `$main` counts modulo 256
+return_value : ends (main_of (two (codes "a") W Sub (Number 0) (Number 1) ∷ []) (Ret (Some (temp (codes "a"))))) 2 ≡ Exit 255
+return_value = refl
+
+exit_256 : ends (main_of (exits (Number 256) ∷ []) (Ret None)) 1 ≡ Exit 0
+exit_256 = refl
+
+-- the newest value counts
+assigned_twice : ends (main_of (one (codes "a") L Copy (Number 1) ∷ one (codes "a") L Copy (Number 2) ∷ exits (temp (codes "a")) ∷ []) (Ret None)) 9 ≡ Exit 2
+assigned_twice = refl
+
+-- a temporary that was not assigned has the fill byte in each of eight bytes
+unassigned : ends (main_of (exits (temp (codes "a")) ∷ []) (Ret None)) 9 ≡ Exit 170
+unassigned = refl
+
+unassigned_eight : temp_value 170 [] (codes "a") ≡ 12297829382473034410
+unassigned_eight = refl
+
+-- three arguments, whose number is given as a long; the result of a call may be dropped
+three_arguments : end_of (machine (main_of (gives (codes "n") L (codes "rt.nargs") [] ∷ exits (temp (codes "n")) ∷ []) (Ret None)) ([] ∷ [] ∷ [] ∷ []) [] 170 9) ≡ Exit 3
+three_arguments = refl
+
+arguments_dropped : ends (main_of (runs (codes "rt.nargs") [] ∷ []) (Ret None)) 9 ≡ Exit 0
+arguments_dropped = refl
+
+-- three temporaries: parameters, phis and instructions assign them, one twice
+cost_of_three : call_cost (param L (codes "x") ∷ []) (block (codes "start") (phi (codes "y") L [] ∷ []) (one (codes "x") L Copy (Number 1) ∷ gives (codes "z") L (codes "rt.nargs") [] ∷ []) Hlt ∷ []) ≡ 88
+cost_of_three = refl
 
 -- a step that moves 128 bytes costs 3 units, and is begun with one left: then 4 are used, and the jump is begun only with a fifth
 abbrev blitting : Module

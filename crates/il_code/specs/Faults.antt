@@ -239,12 +239,12 @@ pub record IsFirst (Fault : ℕ → List ℕ → Type 0) (number : ℕ) (here : 
   pub first : (other : ℕ) (there : List ℕ) → Fault other there → IsNoLater number here other there
 
 -- nothing is found while the text is read
-abbrev pub IsReadable : List ℕ → Type 0
-IsReadable text = (number : ℕ) (here : List ℕ) → ¬ (ReadingFault text number here)
+abbrev pub HasNoReadingFault : List ℕ → Type 0
+HasNoReadingFault text = (number : ℕ) (here : List ℕ) → ¬ (ReadingFault text number here)
 
 -- what is found while reading comes before every broken rule
 abbrev pub IsFirstIn : List ℕ → ℕ → List ℕ → Type 0
-IsFirstIn text number here = IsFirst (ReadingFault text) number here ⊎ (IsReadable text × IsFirst (ValidityFault text) number here)
+IsFirstIn text number here = IsFirst (ReadingFault text) number here ⊎ (HasNoReadingFault text × IsFirst (ValidityFault text) number here)
 
 -- ---- lines and columns
 

@@ -6,7 +6,6 @@ use Rattle.std.specs.List.{list_any, flat_map}
 use Rattle.hx_base.specs.declared.Class.{Class}
 use Rattle.hx_base.specs.declared.Class.TheVariants.{W, L}
 use Rattle.il_code.specs.declared.types.IlItem.{IlItem}
-use Rattle.il_code.specs.declared.types.IlItem.TheVariants.{Data, Function}
 use Rattle.il_code.specs.declared.types.Part.{Part}
 use Rattle.il_code.specs.declared.types.Part.TheVariants.{Values, Zero}
 use Rattle.il_code.specs.declared.types.PartValue.{PartValue}
@@ -22,6 +21,8 @@ use Rattle.il_code.specs.declared.types.Inst.{Inst}
 use Rattle.il_code.specs.declared.types.Inst.TheVariants.{Set, Store, Blit, Call}
 use Rattle.il_code.specs.declared.types.Jump.{Jump}
 use Rattle.il_code.specs.declared.types.Jump.TheVariants.{Fall, Jmp, Jnz, Ret, Hlt}
+use Rattle.hx_base.specs.Runtime.{runtime_function}
+use Rattle.il_code.specs.Items.{function_named}
 use Rattle.il_code.specs.Classes.{op_kind, first_class, second_class, may_give}
 use Rattle.il_code.specs.Tokens.{IlToken, Word, TempName, SymbolName, LabelName, Numeral, Quoted, Mark, LineEnd}
 use Rattle.il_code.specs.Rules.{item_name, has_named, is_reserved, has_label, phi_is_placed, same_class, is_set, is_long, is_call_right, stored_class, is_main_right}
@@ -103,17 +104,9 @@ set_marks sets name class = when (not (is_first_class class (find (λ p. bytes_e
 
 -- ---- calls
 
--- the functions of the runtime
-abbrev pub runtime_names : List (List ℕ)
-runtime_names = codes "rt.puts" ∷ codes "rt.write" ∷ codes "rt.read" ∷ codes "rt.malloc" ∷ codes "rt.free" ∷ codes "rt.move" ∷ codes "rt.same" ∷ codes "rt.abort" ∷ codes "rt.exit" ∷ codes "rt.nargs" ∷ codes "rt.arg" ∷ []
-
-abbrev pub is_function_named : List ℕ → IlItem → Bool
-is_function_named target (Data export name align parts) = false
-is_function_named target (Function export class name params blocks) = bytes_eq name target
-
--- a function of the module or of the runtime has this name
+-- a call of this target is of a function of the module or of the runtime
 abbrev pub is_callable : List IlItem → List ℕ → Bool
-is_callable items target = list_any (is_function_named target) items || list_any (bytes_eq target) runtime_names
+is_callable items target = is_some (function_named items target) || is_some (runtime_function target)
 
 -- class mismatch (8), at the word `call`; unknown symbol (9), at the target
 abbrev pub call_marks : List IlItem → Option IlParam → List ℕ → List IlArg → List Numbers

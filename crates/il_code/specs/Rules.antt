@@ -1,5 +1,5 @@
 -- What a module must keep beside its grammar, and when it is valid.
-use Rattle.std.specs.Prelude.{ℕ, List, [], ◌∷◌, Option, None, Some, Bool, true, false, not, length, ◌||◌, ◌&&◌, nat_le, ◌==◌, codes, bytes_eq, take, IsTrue, sum_by, count_by, zip, if◌then◌else◌}
+use Rattle.std.specs.Prelude.{ℕ, List, [], ◌∷◌, Option, None, Some, Bool, true, false, not, length, ◌||◌, ◌&&◌, nat_le, ◌==◌, codes, bytes_eq, IsTrue, sum_by, count_by, zip, if◌then◌else◌}
 use Rattle.std.specs.List.{list_all, list_any}
 use Rattle.hx_base.specs.declared.Class.{Class}
 use Rattle.hx_base.specs.declared.Class.TheVariants.{W, L}
@@ -21,15 +21,16 @@ use Rattle.il_code.specs.declared.types.Inst.{Inst}
 use Rattle.il_code.specs.declared.types.Inst.TheVariants.{Set, Store, Blit, Call}
 use Rattle.il_code.specs.declared.types.Jump.{Jump}
 use Rattle.il_code.specs.declared.types.Jump.TheVariants.{Fall, Jmp, Jnz, Ret, Hlt}
+use Rattle.hx_base.specs.Runtime.{RuntimeFunction, runtime_function}
+use Rattle.hx_runtime.specs.Functions.{runtime_params, runtime_result}
+pub use Rattle.hx_runtime.specs.Functions.{is_reserved}
+use Rattle.il_code.specs.Items.{Code, function_named}
+pub use Rattle.il_code.specs.Items.{item_name}
 use Rattle.il_code.specs.Classes.{op_kind, first_class, second_class, may_give}
 use Rattle.il_code.specs.Print.{module_text}
 use Rattle.il_code.specs.Grammar.{Spells}
 
 -- ---- names
-
-abbrev pub item_name : IlItem → List ℕ
-item_name (Data export name align parts) = name
-item_name (Function export class name params blocks) = name
 
 -- how many have this name
 abbrev pub how_many : {A : Type 0} → (A → List ℕ) → List ℕ → List A → ℕ
@@ -42,10 +43,6 @@ are_distinct name_of xs = list_all (λ x. how_many name_of (name_of x) xs == 1) 
 -- one has this name
 abbrev pub has_named : {A : Type 0} → (A → List ℕ) → List ℕ → List A → Bool
 has_named name_of name xs = list_any (λ x. bytes_eq (name_of x) name) xs
-
--- a symbol of the runtime begins with `rt.`
-abbrev pub is_reserved : List ℕ → Bool
-is_reserved name = bytes_eq (take 3 name) (codes "rt.")
 
 -- Duplicate (5): a symbol is defined once and is none of the runtime's, and a function's labels and parameters differ.
 abbrev pub has_own_names : IlItem → Bool
@@ -200,34 +197,24 @@ takes_result None given = true
 takes_result (Some p) None = false
 takes_result (Some p) (Some c) = same_class p.class c
 
--- the call is of this function of the runtime, at its classes
-abbrev pub is_call_of : List ℕ → Option Class → List Class → Option IlParam → List ℕ → List IlArg → Bool
-is_call_of name given wanted result target args = bytes_eq target name && (takes_result result given && has_classes args wanted)
+-- a call of a function of the runtime, if there is one, at its classes
+abbrev pub is_runtime_call_of : Option IlParam → List IlArg → Option RuntimeFunction → Bool
+is_runtime_call_of result args None = false
+is_runtime_call_of result args (Some f) = takes_result result (runtime_result f) && has_classes args (runtime_params f)
 
--- the calls of the runtime's functions
+-- the call is of a function of the runtime, at its classes
 unfoldable pub is_runtime_call : Option IlParam → List ℕ → List IlArg → Bool
-is_runtime_call result target args =
-    is_call_of (codes "rt.puts") None (L ∷ L ∷ []) result target args
-    || is_call_of (codes "rt.write") None (L ∷ L ∷ []) result target args
-    || is_call_of (codes "rt.read") (Some L) (L ∷ L ∷ []) result target args
-    || is_call_of (codes "rt.malloc") (Some L) (L ∷ []) result target args
-    || is_call_of (codes "rt.free") None (L ∷ []) result target args
-    || is_call_of (codes "rt.move") None (L ∷ L ∷ L ∷ []) result target args
-    || is_call_of (codes "rt.same") (Some W) (L ∷ L ∷ L ∷ []) result target args
-    || is_call_of (codes "rt.abort") None (L ∷ L ∷ []) result target args
-    || is_call_of (codes "rt.exit") None (W ∷ []) result target args
-    || is_call_of (codes "rt.nargs") (Some L) [] result target args
-    || is_call_of (codes "rt.arg") (Some L) (L ∷ []) result target args
+is_runtime_call result target args = is_runtime_call_of result args (runtime_function target)
 
--- the call is of this item, a function, at its classes
-abbrev pub is_call_of_item : Option IlParam → List ℕ → List IlArg → IlItem → Bool
-is_call_of_item result target args (Data export name align parts) = false
-is_call_of_item result target args (Function export class name params blocks) = bytes_eq name target && (takes_result result class && has_classes_of args params)
+-- a call of a function of the module, if there is one, at its classes; else it is of the runtime
+abbrev pub is_call_of : Option IlParam → List ℕ → List IlArg → Option Code → Bool
+is_call_of result target args None = is_runtime_call result target args
+is_call_of result target args (Some f) = takes_result result f.class && has_classes_of args f.params
 
 -- A call is of a function of the module or of the runtime (else unknown symbol, 9), with its number and classes of arguments and its result (else class
--- mismatch, 8).
+-- mismatch, 8). Which one it is, is decided as the machine does.
 abbrev pub is_call_right : List IlItem → Option IlParam → List ℕ → List IlArg → Bool
-is_call_right items result target args = list_any (is_call_of_item result target args) items || is_runtime_call result target args
+is_call_right items result target args = is_call_of result target args (function_named items target)
 
 -- ---- instructions, phis and jumps
 

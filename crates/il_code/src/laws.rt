@@ -1,7 +1,7 @@
 //! What holds of every text, of the rules that a module breaks, and of every run of the machine, of any module and from any point on.
 
 ghost use Rattle.il_code.specs.FaultLaws.{FirstFaultIsOne};
-ghost use Rattle.il_code.specs.MachineLaws.{EndsStay, OutputGrows, CountsAreBounded, BudgetsAreReached};
+ghost use Rattle.il_code.specs.MachineLaws.{EndsStay, OutputGrows, DoneIsKept, InputIsTaken, BudgetsAreReached};
 ghost use Rattle.il_code.specs.MarkLaws.{MarksAreTheRules, FaultsAreTheRules};
 ghost use Rattle.il_code.specs.TextLaws.{TextsSpellOne, PrintIsInjective};
 
@@ -25,9 +25,14 @@ pub fn law_output()
     ensures { OutputGrows }
 {}
 
-/// The jumps and the calls that were done never fall, and there are at most as many as units.
+/// The jumps and the calls that were done are kept in their order, so that their counts never fall, and there are at most as many as units.
 pub fn law_counts()
-    ensures { CountsAreBounded }
+    ensures { DoneIsKept }
+{}
+
+/// The input left is a rest of the input, and a run depends on its input only by what it took and by whether it met the end.
+pub fn law_input()
+    ensures { InputIsTaken }
 {}
 
 /// A budget is reached exactly, and a run that stopped goes on as if it had not.

@@ -13,15 +13,13 @@ mod numbers;
 mod operands;
 mod shape;
 mod temps;
-#[cfg(test)]
-mod tests;
 
 use crate::types::{IlItem, Module};
 use flow::flow_is_right;
 use names::{are_distinct, has_own_names};
 use numbers::{is_small, item_is_small};
 use operands::{is_main, item_is_right};
-use shape::is_shaped;
+pub use shape::is_shaped;
 
 /// Whether the module is valid: its printed text is that of this same module, and it breaks no rule of the language. Takes no memory.
 ///

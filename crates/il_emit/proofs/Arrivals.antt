@@ -54,7 +54,7 @@ module _ (p : FlatProgram) (w : IsWellFormed p) (few : AllByRecursion HasFewName
     address = address_is p w;
     address_fits = address_small p w;
     no_function = no_function;
-    no_code = λ name g e. items_named p.globals p.globals p.functions name ∙ ap (emitted p.globals) (no_function name g e);
+    no_code = λ name g e. items_named p w name ∙ ap (emitted p.globals) (no_function name g e);
   }
     where
       set_below : (t : ℕ) (class : Class) → is_set f t class ≡ true → t < f.temps
@@ -90,10 +90,10 @@ module _ (p : FlatProgram) (w : IsWellFormed p) (few : AllByRecursion HasFewName
     floor = flat_cost.call_cost f
 
     abbrev call : Activation
-    call = record { lines = all; pointer = stack_start; cost = cost; floor = floor; waiting = [] }
+    call = record { name = f.name; lines = all; pointer = stack_start; cost = cost; floor = floor; waiting = [] }
 
     abbrev first : Mark
-    first = record { used = 0; from = []; label = label_name 0; temps = []; jumps = 0; calls = 0 }
+    first = record { used = 0; from = []; label = label_name 0; temps = []; done = [] }
 
     -- where the body begins
     abbrev begins : Run
@@ -116,27 +116,25 @@ module _ (p : FlatProgram) (w : IsWellFormed p) (few : AllByRecursion HasFewName
     -- the start of the machine
     starts : start (module_of p) args input fill ≡ begun_with (if nat_lt stack_size cost then Some StackFull else None)
     starts =
-        ap (started world) (items_named p.globals p.globals p.functions (codes "main") ∙ ap (emitted p.globals) named)
+        ap (started world) (items_named p w (codes "main") ∙ ap (emitted p.globals) named)
         ∙ ap (λ (ts : Temps). record {
           used = 0;
           ended = if nat_lt stack_size cost then Some StackFull else None;
           state = record {
-            active = record { blocks = blocks_of p.globals f; place = il.start_of [] (blocks_of p.globals f); temps = ts; pointer = stack_start; cost = cost };
+            active = record { function = f.name; blocks = blocks_of p.globals f; place = il.start_of [] (blocks_of p.globals f); temps = ts; pointer = stack_start; cost = cost };
             waiting = [];
             world = world;
-            jumps = 0;
-            calls = 0;
+            done = [];
           };
         }) (nothing_bound (params_of 0 f.params))
         ∙ ap (λ (bs : List Block). record {
           used = 0;
           ended = if nat_lt stack_size cost then Some StackFull else None;
           state = record {
-            active = record { blocks = bs; place = il.start_of [] bs; temps = []; pointer = stack_start; cost = cost };
+            active = record { function = f.name; blocks = bs; place = il.start_of [] bs; temps = []; pointer = stack_start; cost = cost };
             waiting = [];
             world = world;
-            jumps = 0;
-            calls = 0;
+            done = [];
           };
         }) (function_blocks p.globals f)
 

@@ -14,7 +14,7 @@ use Rattle.flat_code.specs.Code.{Code, Codes, none, more, Seq, Set, Load, Store,
 use Rattle.flat_code.specs.Costs as flat
 use Rattle.flat_code.specs.Costs.{addressed, addressed_in, addressed_in_all}
 use Rattle.flat_code.specs.Shape.{code_of}
-use Rattle.flat_code.specs.Signatures.{runtime_params, runtime_result}
+use Rattle.hx_runtime.specs.Functions.{runtime_params, runtime_result}
 use Rattle.flat_code.specs.Temps.{call_class, has_one_class}
 use Rattle.flat_code.specs.WellFormed.{is_right, is_target, is_call, are_args, takes_result}
 use Rattle.il_code.specs.declared.types.Block.{Block}

@@ -16,7 +16,7 @@ use Rattle.flat_code.specs.Costs.{addressed}
 use Rattle.flat_code.specs.Evaluation as flat
 use Rattle.flat_code.specs.Evaluation.{cut_each}
 use Rattle.flat_code.specs.Kinds.{op_kind, takes_two, first_class, second_class}
-use Rattle.flat_code.specs.Signatures.{runtime_params, runtime_result}
+use Rattle.hx_runtime.specs.Functions.{runtime_params, runtime_result}
 use Rattle.flat_code.specs.State as state
 use Rattle.flat_code.specs.State.{State, Result, Spent, value_of, set_temp, give, stepped}
 use Rattle.flat_code.specs.Temps.{call_class, has_one_class}

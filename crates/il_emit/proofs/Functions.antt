@@ -20,6 +20,8 @@ use Rattle.il_code.specs.declared.types.Inst.{Inst}
 use Rattle.il_code.specs.declared.types.Jump.{Jump}
 use Rattle.il_code.specs.declared.types.Jump.TheVariants as jump
 use Rattle.il_code.specs.Rules as rule
+use Rattle.hx_base.specs.Runtime.{RuntimeFunction, runtime_function}
+use Rattle.il_code.specs.Items.{function_named}
 use Rattle.il_code.specs.Rules.{item_name, how_many, are_distinct, has_named, has_label, labels_known, block_labels_known, targets_pass, start_is_no_target, phis_are_placed, is_set, sets, result_sets, inst_sets, block_sets, inst_has_one_class, block_has_one_class, each_has_one_class, inst_is_right, jump_is_right, return_is_right, block_is_right, has_own_names, flow_is_right, item_is_right}
 use Rattle.il_code.specs.Shaped.{is_param, is_inst, is_jump, is_block, is_item}
 use Rattle.il_emit.specs.Names.{temp_name, address_name, label_name}
@@ -131,7 +133,8 @@ record Parts (globals : ℕ) (f : FlatFn) : Type 0 where
 
 module _ (globals : List Data) (f : FlatFn) (items : List IlItem) (right : is_function_right (length globals) f ≡ true) (few : HasFewNames f)
     (identifiers : (i : ℕ) → i < length globals → is_identifier (name_at globals i) ≡ true)
-    (symbols : (i : ℕ) → i < length globals → has_named item_name (name_at globals i) items ≡ true) where
+    (symbols : (i : ℕ) → i < length globals → has_named item_name (name_at globals i) items ≡ true)
+    (no_code : (name : List ℕ) (g : RuntimeFunction) → runtime_function name ≡ Some g → function_named items name ≡ None) where
   abbrev body : Code
   body = code_of f.body
 
@@ -216,6 +219,7 @@ module _ (globals : List Data) (f : FlatFn) (items : List IlItem) (right : is_fu
     labels = λ n h. counted (λ (b : Block). bytes_eq b.label (label_name n)) blocks (label_count n h);
     identifiers = identifiers;
     symbols = symbols;
+    no_code = no_code;
   }
 
   abbrev inst_good : Inst → Bool

@@ -1,5 +1,5 @@
 -- The module of a well formed program, whose names are few, is valid.
-use Rattle.std.proofs.Common.{◌≡◌, ℕ, Bool, true, ◌||◌, not, ◌<◌, List, [], ◌∷◌, ◌++◌, map, length, refl, ap, ◌∙◌, arith}
+use Rattle.std.proofs.Common.{◌≡◌, ℕ, Bool, true, ◌||◌, not, ◌<◌, List, [], ◌∷◌, ◌++◌, map, length, Some, None, refl, ap, ◌∙◌, arith}
 use Rattle.std.specs.Prelude.{count_by, sum_by, bytes_eq, ◌==◌}
 use Rattle.std.specs.List.{list_all, list_any, AllByRecursion}
 use Rattle.std.proofs.lemmas.Bool.{and_parts}
@@ -11,6 +11,8 @@ use Rattle.flat_code.specs.declared.program.FlatProgram.{FlatProgram}
 use Rattle.flat_code.specs.WellFormed.{IsWellFormed, is_symbol, is_identifier, is_reserved, is_alignment, is_item, is_global, global_size}
 use Rattle.flat_code.specs.WellFormed as flat
 use Rattle.il_code.specs.declared.types.IlItem.{IlItem}
+use Rattle.hx_base.specs.Runtime.{RuntimeFunction, runtime_function, runtime_names}
+use Rattle.il_code.specs.Items.{function_named}
 use Rattle.il_code.specs.Rules.{item_name, how_many, is_main, is_function, item_is_small, item_size, is_small, has_named, has_own_names, flow_is_right, item_is_right, IsValid}
 use Rattle.il_code.specs.Shaped as il
 use Rattle.il_code.specs.Shaped.{is_shaped, is_lawful}
@@ -21,6 +23,7 @@ use Rattle.il_emit.specs.Numbered.{HasFewNames}
 use Rattle.il_emit.proofs.Counts.{both_true, or_true, count_append, count_map, count_all, count_none, sum_map, sum_none, any_map, all_map, all_append, all_same, all_more}
 use Rattle.il_emit.proofs.Functions.{shaped, own_names, flows, rightful}
 use Rattle.il_emit.proofs.Globals.{name_passes, name_there, data_shaped, data_right, data_own}
+use Rattle.il_emit.proofs.NamedFunctions.{emitted, items_named, none_named, reserved}
 use Rattle.il_emit.proofs.Smalls.{function_small, parts_small, parts_size}
 
 both_ways : {A : Type 0} {P : A → Type 0} (f g : A → Bool) → ((x : A) → f x ≡ true → P x → g x ≡ true) → (xs : List A) → list_all f xs ≡ true → AllByRecursion P xs → list_all g xs ≡ true
@@ -111,18 +114,21 @@ module _ (p : FlatProgram) (w : IsWellFormed p) (few : AllByRecursion HasFewName
   symbols : (i : ℕ) → i < length p.globals → has_named item_name (name_at p.globals i) (map data_item p.globals ++ map (function_item p.globals) p.functions) ≡ true
   symbols i h = known (name_at p.globals i) (name_there p.globals i h)
 
+  no_code : (name : List ℕ) (g : RuntimeFunction) → runtime_function name ≡ Some g → function_named (map data_item p.globals ++ map (function_item p.globals) p.functions) name ≡ None
+  no_code name g e = items_named p w name ∙ ap (emitted p.globals) (none_named (length p.globals) p.functions name w.functions (reserved name runtime_names g refl e))
+
   shape : is_shaped (module_of p) ≡ true
   unfolding is_shaped
-  shape = each_item il.is_item (data_shaped p (map data_item p.globals ++ map (function_item p.globals) p.functions) spelled known) (λ f r s. shaped p.globals f (map data_item p.globals ++ map (function_item p.globals) p.functions) r s names symbols)
+  shape = each_item il.is_item (data_shaped p (map data_item p.globals ++ map (function_item p.globals) p.functions) spelled known) (λ f r s. shaped p.globals f (map data_item p.globals ++ map (function_item p.globals) p.functions) r s names symbols no_code)
 
   laws : is_lawful (module_of p).items ≡ true
   unfolding is_lawful
   laws =
       let items = map data_item p.globals ++ map (function_item p.globals) p.functions in
       both_true _ _ once
-      (both_true _ _ (each_item has_own_names (data_own p items spelled known) (λ f r s. own_names p.globals f items r s names symbols))
-      (both_true _ _ (each_item flow_is_right (λ d h. refl) (λ f r s. flows p.globals f items r s names symbols))
-      (both_true _ _ (each_item (item_is_right items) (data_right p items spelled known) (λ f r s. rightful p.globals f items r s names symbols))
+      (both_true _ _ (each_item has_own_names (data_own p items spelled known) (λ f r s. own_names p.globals f items r s names symbols no_code))
+      (both_true _ _ (each_item flow_is_right (λ d h. refl) (λ f r s. flows p.globals f items r s names symbols no_code))
+      (both_true _ _ (each_item (item_is_right items) (data_right p items spelled known) (λ f r s. rightful p.globals f items r s names symbols no_code))
       (both_true _ _ main (both_true _ _ numbers small)))))
 
   pub valid : IsValid (module_of p)

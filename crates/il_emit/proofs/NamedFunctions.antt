@@ -1,6 +1,6 @@
 -- Functions by their names: those of the module are those of the program, and none has a name of the runtime.
-use Rattle.std.proofs.Common.{◌≡◌, ℕ, ◌≤◌, Bool, true, false, not, ◌||◌, List, [], ◌∷◌, ◌++◌, map, length, Option, None, Some, refl, sym, subst, arith}
-use Rattle.std.specs.Prelude.{bytes_eq, codes, nat_le, if◌then◌else◌}
+use Rattle.std.proofs.Common.{◌≡◌, ℕ, ◌≤◌, Bool, true, false, not, ◌||◌, List, [], ◌∷◌, ◌++◌, map, length, Option, None, Some, refl, sym, ap, ◌∙◌, subst, arith, ◌+◌}
+use Rattle.std.specs.Prelude.{bytes_eq, codes, nat_le, count_by, ◌==◌, if◌then◌else◌}
 use Rattle.std.specs.List.{list_all, list_any, AllByRecursion}
 use Rattle.std.proofs.lemmas.Bool.{and_parts}
 use Rattle.std.proofs.lemmas.Bool.Decides.{nat_tests}
@@ -8,20 +8,22 @@ use Rattle.std.proofs.lemmas.Slice.Eq.{bytes_eq-Decides}
 use Rattle.hx_base.specs.Runtime.{RuntimeFunction, lookup}
 use Rattle.flat_code.specs.declared.program.Data.{Data}
 use Rattle.flat_code.specs.declared.program.FlatFn.{FlatFn}
+use Rattle.flat_code.specs.declared.program.FlatProgram.{FlatProgram}
 use Rattle.flat_code.specs.Evaluation as flat
 use Rattle.flat_code.specs.Evaluation.{flat_begun, flat_below, framed, in_temps, cut_each, entered}
 use Rattle.flat_code.specs.Shape.{code_of}
-use Rattle.flat_code.specs.WellFormed.{deepest, is_symbol, is_identifier, is_reserved, is_main, is_main_right, is_function_right, has_no_frame, nests_within, is_built, is_right, params_have_one_class}
+use Rattle.flat_code.specs.WellFormed.{IsWellFormed, how_many, deepest, is_symbol, is_identifier, is_reserved, is_main, is_main_right, is_function_right, has_no_frame, nests_within, is_built, is_right, params_have_one_class}
 use Rattle.il_code.specs.State as il
 use Rattle.il_emit.specs.Emitted.{data_item, params_of, blocks_of, function_item}
 use Rattle.il_emit.specs.Numbered.{HasFewNames}
+use Rattle.il_emit.proofs.Counts.{weight, sum_cons}
 
 -- ---- functions by name
 
 -- the function of the module for one of the program
 abbrev pub emitted : List Data → Option FlatFn → Option il.Code
 emitted globals None = None
-emitted globals (Some f) = Some (record { params = params_of 0 f.params; blocks = blocks_of globals f })
+emitted globals (Some f) = Some (record { name = f.name; class = f.result; params = params_of 0 f.params; blocks = blocks_of globals f })
 
 functions_named : (globals : List Data) (fs : List FlatFn) (name : List ℕ) → il.function_named (map (function_item globals) fs) name ≡ emitted globals (flat.function_named fs name)
 functions_named globals [] name = refl
@@ -32,9 +34,68 @@ functions_named globals (f ∷ fs) name = pick (bytes_eq f.name name) refl (func
     pick true e on = rw e refl
     pick false e on = rw e on
 
-pub items_named : (globals ds : List Data) (fs : List FlatFn) (name : List ℕ) → il.function_named (map data_item ds ++ map (function_item globals) fs) name ≡ emitted globals (flat.function_named fs name)
-items_named globals [] fs name = functions_named globals fs name
-items_named globals (d ∷ ds) fs name = items_named globals ds fs name
+count_cons : {A : Type 0} (q : A → Bool) (x : A) (xs : List A) → count_by q (x ∷ xs) ≡ weight (q x) + count_by q xs
+count_cons q x xs = sum_cons (λ y. weight (q y)) x xs
+
+-- no global hides a function where none has its name
+past_globals : (globals ds : List Data) (fs : List FlatFn) (name : List ℕ) → count_by (λ (d : Data). bytes_eq d.name name) ds ≡ 0
+    → il.function_named (map data_item ds ++ map (function_item globals) fs) name ≡ emitted globals (flat.function_named fs name)
+past_globals globals [] fs name h = functions_named globals fs name
+past_globals globals (d ∷ ds) fs name h = pick (bytes_eq d.name name) refl (past_globals globals ds fs name)
+  where
+    pick : (b : Bool) → bytes_eq d.name name ≡ b
+        → (count_by (λ (x : Data). bytes_eq x.name name) ds ≡ 0 → il.function_named (map data_item ds ++ map (function_item globals) fs) name ≡ emitted globals (flat.function_named fs name))
+        → il.function_named (map data_item (d ∷ ds) ++ map (function_item globals) fs) name ≡ emitted globals (flat.function_named fs name)
+    pick true e on = absurd (omega (arith, h, count_cons (λ (x : Data). bytes_eq x.name name) d ds, ap weight e))
+    pick false e on = rw e (on (omega (arith, h, count_cons (λ (x : Data). bytes_eq x.name name) d ds)))
+
+-- and where no function has a name, none is found
+none_behind : (globals ds : List Data) (fs : List FlatFn) (name : List ℕ) → flat.function_named fs name ≡ None → il.function_named (map data_item ds ++ map (function_item globals) fs) name ≡ None
+none_behind globals [] fs name h = functions_named globals fs name ∙ ap (emitted globals) h
+none_behind globals (d ∷ ds) fs name h = pick (bytes_eq d.name name) refl (none_behind globals ds fs name h)
+  where
+    pick : (b : Bool) → bytes_eq d.name name ≡ b → il.function_named (map data_item ds ++ map (function_item globals) fs) name ≡ None
+        → il.function_named (map data_item (d ∷ ds) ++ map (function_item globals) fs) name ≡ None
+    pick true e on = rw e refl
+    pick false e on = rw e on
+
+-- a function that is found stands among them, and has the name
+record IsAmong (test : FlatFn → Bool) (name : List ℕ) (fs : List FlatFn) (f : FlatFn) : Type 0 where
+  named : f.name ≡ name
+  passes : test f ≡ true
+  counted : 1 ≤ count_by (λ (x : FlatFn). bytes_eq x.name name) fs
+
+is_among : (test : FlatFn → Bool) (name : List ℕ) (fs : List FlatFn) (f : FlatFn) → list_all test fs ≡ true → flat.function_named fs name ≡ Some f → IsAmong test name fs f
+is_among test name [] f h e = cc
+is_among test name (x ∷ fs) f h e = pick (bytes_eq x.name name) refl e (is_among test name fs f (and_parts (test x) (list_all test fs) h).1)
+  where
+    pick : (b : Bool) → bytes_eq x.name name ≡ b → (if b then Some x else flat.function_named fs name) ≡ Some f → (flat.function_named fs name ≡ Some f → IsAmong test name fs f) → IsAmong test name (x ∷ fs) f
+    pick true n e' on =
+        let same : x ≡ f = cc in
+        let k = count_cons (λ (y : FlatFn). bytes_eq y.name name) x fs in
+        record {
+          named = ap (λ (y : FlatFn). y.name) (sym same) ∙ (bytes_eq-Decides x.name name).0 n;
+          passes = subst (λ (y : FlatFn). test y ≡ true) same (and_parts (test x) (list_all test fs) h).0;
+          counted = omega (arith, k, ap weight n);
+        }
+    pick false n e' on =
+        let r = on e' in
+        let c = r.counted in
+        record { named = r.named; passes = r.passes; counted = omega (arith, count_cons (λ (y : FlatFn). bytes_eq y.name name) x fs, c) }
+
+pub items_named : (p : FlatProgram) → IsWellFormed p → (name : List ℕ) → il.function_named (map data_item p.globals ++ map (function_item p.globals) p.functions) name ≡ emitted p.globals (flat.function_named p.functions name)
+items_named p w name = pick (flat.function_named p.functions name) refl
+  where
+    once : (n : ℕ) → (n == 1) ≡ true → n ≡ 1
+    once n h = grind (arith, nat_tests)
+
+    pick : (o : Option FlatFn) → flat.function_named p.functions name ≡ o → il.function_named (map data_item p.globals ++ map (function_item p.globals) p.functions) name ≡ emitted p.globals (flat.function_named p.functions name)
+    pick None e = none_behind p.globals p.globals p.functions name e ∙ sym (ap (emitted p.globals) e)
+    pick (Some f) e =
+        let k = is_among (λ (x : FlatFn). how_many p x.name == 1) name p.functions f w.functions_differ e in
+        let one : how_many p name ≡ 1 = once (how_many p name) (subst (λ (s : List ℕ). (how_many p s == 1) ≡ true) k.named k.passes) in
+        let c = k.counted in
+        past_globals p.globals p.globals p.functions name (omega arith)
 
 -- a function that is found
 pub record Found (globals : ℕ) (name : List ℕ) (f : FlatFn) : Type 0 where

@@ -111,7 +111,7 @@ branch = refl
 -- ---- the stack
 
 -- 64, and 8 for each of three temporaries and an address, where flat code has 64 + 8 * 5 + 16
-counting_cost : full_cost (record { params = []; blocks = blocks_of [] counting_main }) ≡ 96
+counting_cost : full_cost [] (blocks_of [] counting_main) ≡ 96
 unfolding digits
 counting_cost = refl
 

@@ -15,7 +15,7 @@ use Rattle.flat_code.specs.declared.value.Value.TheVariants.{Temp, Number, Symbo
 use Rattle.flat_code.specs.Code.{Set}
 use Rattle.flat_code.specs.Costs.{addressed}
 use Rattle.flat_code.specs.Kinds.{op_kind, takes_two, first_class, second_class, may_give}
-use Rattle.flat_code.specs.Signatures.{runtime_params, runtime_result}
+use Rattle.hx_runtime.specs.Functions.{runtime_params, runtime_result}
 use Rattle.flat_code.specs.Temps.{call_class, other_class, has_one_class}
 use Rattle.flat_code.specs.Temps as flat
 use Rattle.flat_code.specs.WellFormed.{is_bits, is_operand, is_second, is_target, is_right, are_args, takes_result, is_call, is_return, is_long}
@@ -30,7 +30,8 @@ use Rattle.il_code.specs.declared.types.Inst.TheVariants as inst
 use Rattle.il_code.specs.declared.types.Jump.{Jump}
 use Rattle.il_code.specs.declared.types.Jump.TheVariants as jump
 use Rattle.il_code.specs.Rules as rule
-use Rattle.il_code.specs.Rules.{item_name, has_named, has_label, targets_pass, is_set, inst_has_one_class, each_has_class, has_classes, is_call_right, is_call_of_item, is_runtime_call, call_is_right, second_is_right, inst_is_right, return_is_right, jump_is_right}
+use Rattle.il_code.specs.Items.{function_named}
+use Rattle.il_code.specs.Rules.{item_name, has_named, has_label, targets_pass, is_set, inst_has_one_class, each_has_class, has_classes, is_call_right, is_call_of, is_runtime_call, call_is_right, second_is_right, inst_is_right, return_is_right, jump_is_right}
 use Rattle.il_code.specs.Shaped.{is_value, is_arg, is_result, is_inst, is_jump}
 use Rattle.il_code.specs.Shaped as shape
 use Rattle.il_code.specs.Tokens.{is_identifier}
@@ -69,6 +70,7 @@ pub record Names (globals : List Data) (f : FlatFn) (items : List IlItem) (param
   pub labels : (n : ℕ) → n < most_labels → has_label blocks (label_name n) ≡ true
   pub identifiers : (i : ℕ) → i < length globals → is_identifier (name_at globals i) ≡ true
   pub symbols : (i : ℕ) → i < length globals → has_named item_name (name_at globals i) items ≡ true
+  pub no_code : (name : List ℕ) (g : RuntimeFunction) → runtime_function name ≡ Some g → function_named items name ≡ None
 
 pub record ArgsFine (items : List IlItem) (params : List IlParam) (blocks : List Block) (classes : List Class) (args : List IlArg) : Type 0 where
   pub as_many : length args ≡ length classes
@@ -197,9 +199,9 @@ module _ (globals : List Data) (f : FlatFn) (items : List IlItem) (params : List
       let p = target_fine t c h in
       record { taken = class_same c; spelled = p.0; one_class = λ name args. p.1 }
 
-  call_right : (result : Option IlParam) (name : List ℕ) (args : List IlArg) → is_runtime_call result name args ≡ true → list_all (λ (a : IlArg). rule.is_right items params blocks a.class a.value) args ≡ true → call_is_right items params blocks result name args ≡ true
+  call_right : (result : Option IlParam) (name : List ℕ) (args : List IlArg) → function_named items name ≡ None → is_runtime_call result name args ≡ true → list_all (λ (a : IlArg). rule.is_right items params blocks a.class a.value) args ≡ true → call_is_right items params blocks result name args ≡ true
   unfolding call_is_right
-  call_right result name args h k = both_true _ _ (or_true _ (is_runtime_call result name args) h) k
+  call_right result name args none h k = both_true _ _ (ap (is_call_of result name args) none ∙ h) k
 
   called_good : (temp : Option ℕ) (name : List ℕ) (args : List Value) (k : ℕ) (g : Option RuntimeFunction) → runtime_function name ≡ g → is_call (length globals) f temp args g ≡ true → k + all_addressed args ≤ most_addresses
       → good (inst.Call (result_param temp (call_class g)) name (args_of globals (call_params g) args k))
@@ -213,7 +215,7 @@ module _ (globals : List Data) (f : FlatFn) (items : List IlItem) (params : List
       let t = result_param temp (runtime_result g) in
       both_true _ _
       (both_true _ _ to.spelled (both_true _ _ known.identifier xs.spelled))
-      (both_true _ _ (to.one_class name x) (call_right t name x (known.call t x (both_true _ _ to.taken (classes_fine (runtime_params g) x xs))) xs.right))
+      (both_true _ _ (to.one_class name x) (call_right t name x (n.no_code name g e) (known.call t x (both_true _ _ to.taken (classes_fine (runtime_params g) x xs))) xs.right))
 
   -- ---- jumps
 

@@ -1,5 +1,5 @@
 -- Runs of the machine from places before lines: what each line does.
-use Rattle.std.proofs.Common.{◌≡◌, ℕ, zero, suc, ◌+◌, ◌*◌, ◌^◌, ◌<◌, ◌≤◌, List, ◌∷◌, None, Some, refl, ap, arith}
+use Rattle.std.proofs.Common.{◌≡◌, ℕ, zero, suc, ◌+◌, ◌*◌, ◌^◌, ◌<◌, ◌≤◌, List, ◌∷◌, length, None, Some, refl, ap, arith}
 use Rattle.hx_base.specs.Runtime.{World}
 use Rattle.flat_code.specs.State as flat
 use Rattle.flat_code.specs.State.{Result, Next, Left, Returned, HeapFull, Spent}
@@ -12,7 +12,7 @@ use Rattle.il_code.specs.Addresses.{address}
 use Rattle.il_code.specs.Machine.{Temps, temp_value}
 use Rattle.il_code.specs.Machine as machine
 use Rattle.il_code.specs.MachineLaws.{jumps_and_calls}
-use Rattle.il_code.specs.State.{State, Waiting, start_of}
+use Rattle.il_code.specs.State.{State, Waiting, Done, Jumped, start_of}
 use Rattle.il_code.specs.Step.{step, value_of, returned}
 use Rattle.il_code.specs.Run.{Run, further, after_steps}
 use Rattle.il_emit.specs.Names.{temp_name, label_name}
@@ -20,9 +20,10 @@ use Rattle.il_emit.specs.Lines.{Line, End}
 use Rattle.il_emit.specs.Reaches.{fault_for}
 use Rattle.il_emit.proofs.Places.{line_blocks, place_of, Finds}
 
--- What stays as a call runs: the lines of its function, the stack pointer, what the stack has cost up to it, and the calls that wait for it. In flat code, calls have
+-- What stays as a call runs: the name of its function and the lines of it, the stack pointer, what the stack has cost up to it, and the calls that wait for it. In flat code, calls have
 -- cost at least `floor` at once.
 pub record Activation : Type 0 where
+  pub name : List ℕ
   pub lines : List Line
   pub pointer : ℕ
   pub cost : ℕ
@@ -35,12 +36,11 @@ pub record Mark : Type 0 where
   pub from : List ℕ
   pub label : List ℕ
   pub temps : Temps
-  pub jumps : ℕ
-  pub calls : ℕ
+  pub done : List Done
 
--- the jumps and calls done
+-- how many jumps and calls were done
 abbrev pub counted : Mark → ℕ
-counted c = c.jumps + c.calls
+counted c = length c.done
 
 -- the value of an operand
 abbrev pub worth : Module → World → Temps → IlValue → ℕ
@@ -69,11 +69,10 @@ out_of rest out (suc k) = out k
 module _ (m : Module) (call : Activation) where
   abbrev pub state_at : List Line → World → Mark → State
   state_at ls w c = record {
-    active = record { blocks = line_blocks call.lines; place = place_of c.from c.label ls; temps = c.temps; pointer = call.pointer; cost = call.cost };
+    active = record { function = call.name; blocks = line_blocks call.lines; place = place_of c.from c.label ls; temps = c.temps; pointer = call.pointer; cost = call.cost };
     waiting = call.waiting;
     world = w;
-    jumps = c.jumps;
-    calls = c.calls;
+    done = c.done;
   }
 
   -- the run that stands before these lines
@@ -89,7 +88,7 @@ module _ (m : Module) (call : Activation) where
 
   -- behind a jump to a label
   abbrev pub jumped_to : ℕ → Mark → Mark
-  jumped_to n c = record c { used = c.used + 1 + 0; from = c.label; label = label_name n; jumps = c.jumps + 1 }
+  jumped_to n c = record c { used = c.used + 1 + 0; from = c.label; label = label_name n; done = Jumped call.name (label_name n) ∷ c.done }
 
   pub jump_step : (n : ℕ) (ls rest : List Line) (w : World) (c : Mark) → Finds call.lines n ls → further m (before (End (jump.Jmp (label_name n)) ∷ rest) w c) ≡ before ls w (jumped_to n c)
   jump_step n ls rest w c h =
@@ -97,11 +96,10 @@ module _ (m : Module) (call : Activation) where
         used = c.used + 1 + 0;
         ended = None;
         state = record {
-          active = record { blocks = line_blocks call.lines; place = start_of c.label bs; temps = c.temps; pointer = call.pointer; cost = call.cost };
+          active = record { function = call.name; blocks = line_blocks call.lines; place = start_of c.label bs; temps = c.temps; pointer = call.pointer; cost = call.cost };
           waiting = call.waiting;
           world = w;
-          jumps = c.jumps + 1;
-          calls = c.calls;
+          done = Jumped call.name (label_name n) ∷ c.done;
         };
       }) h.blocks
 

@@ -91,7 +91,7 @@ module _ (globals : List Data) (f : FlatFn) (right : is_right (length globals) f
 
 -- ---- all functions
 
-shaped : (globals : List Data) (f : FlatFn) → is_right (length globals) f 0 (code_of f.body) ≡ true → length f.params ≤ f.temps → IsShapedAs f (record { params = params_of 0 f.params; blocks = blocks_of globals f })
+shaped : (globals : List Data) (f : FlatFn) → is_right (length globals) f 0 (code_of f.body) ≡ true → length f.params ≤ f.temps → IsShapedAs f (record { name = f.name; class = f.result; params = params_of 0 f.params; blocks = blocks_of globals f })
 shaped globals f r few = record {
   jumps = jumps_few globals f r;
   calls = λ name. calls_few globals name f;
@@ -100,7 +100,7 @@ shaped globals f r few = record {
 }
 
 pub shape : (p : FlatProgram) → IsWellFormed p → AllByRecursion HasFewNames p.functions → HasShape p (module_of p)
-shape p w few name = subst (λ (c : Option il.Code). AreAlike (flat.function_named p.functions name) c) (sym (items_named p.globals p.globals p.functions name)) (pick (flat.function_named p.functions name) refl)
+shape p w few name = subst (λ (c : Option il.Code). AreAlike (flat.function_named p.functions name) c) (sym (items_named p w name)) (pick (flat.function_named p.functions name) refl)
   where
     pick : (o : Option FlatFn) → flat.function_named p.functions name ≡ o → AreAlike o (emitted p.globals o)
     pick None e = tt

@@ -69,7 +69,7 @@ module _ (p : FlatProgram) (f : FlatFn) (m : Module) (set : Setting p f m) (few_
   all = function_lines p.globals f
 
   abbrev call : Activation
-  call = record { lines = all; pointer = pointer; cost = cost; floor = floor; waiting = waiting }
+  call = record { name = f.name; lines = all; pointer = pointer; cost = cost; floor = floor; waiting = waiting }
 
   abbrev run_at : List Line → World → Mark → Run
   run_at ls w c = before m call ls w c
@@ -205,9 +205,9 @@ module _ (p : FlatProgram) (f : FlatFn) (m : Module) (set : Setting p f m) (few_
           let jumps = address_jumps p f m set call v k at in
           let few = addressed_one v in
           let held : Holds floor s behind = record { same = address_same p f m set call v k at s.temps h.same; most = h.most } in
-          later m call (addressed v + 1) _ _ comes (4 * s.steps) (4 * (s.steps + 1)) (at.used + 3) (behind.used + 1 + 0 + 4) (omega arith) n n (counted at) (behind.jumps + 1 + behind.calls) out rest _ (omega arith) (omega arith) (side z behind held)
+          later m call (addressed v + 1) _ _ comes (4 * s.steps) (4 * (s.steps + 1)) (at.used + 3) (behind.used + 1 + 0 + 4) (omega arith) n n (counted at) (suc (counted behind)) out rest _ (omega arith) (omega arith) (side z behind held)
         where
-          side : (y : Bool) (c : Mark) → Holds floor s c → Meets m call n (c.jumps + 1 + c.calls) (4 * (s.steps + 1)) (c.used + 1 + 0 + 4) out rest (run_at (if y then other_side else (one ++ over)) s.world (jumped_to m call (if y then label + 1 else label) c)) (side_meets n a b s y)
+          side : (y : Bool) (c : Mark) → Holds floor s c → Meets m call n (suc (counted c)) (4 * (s.steps + 1)) (c.used + 1 + 0 + 4) out rest (run_at (if y then other_side else (one ++ over)) s.world (jumped_to m call (if y then label + 1 else label) c)) (side_meets n a b s y)
           side true c hc = other_meets (stepped 1 s) (jumped_to m call (label + 1) c) (stepped_holds floor s _ (jumped_holds m call floor (label + 1) s c hc))
           side false c hc = one_meets (stepped 1 s) (jumped_to m call label c) (stepped_holds floor s _ (jumped_holds m call floor label s c hc))
 

@@ -11,7 +11,7 @@ use Rattle.flat_code.specs.Code.{Code, Codes, none, more, Seq, Set, Load, Store,
 use Rattle.flat_code.specs.Shape.{code_of}
 use Rattle.flat_code.specs.Costs.{addressed}
 use Rattle.flat_code.specs.Kinds.{op_kind, takes_two}
-use Rattle.flat_code.specs.Signatures.{runtime_params}
+use Rattle.hx_runtime.specs.Functions.{runtime_params}
 use Rattle.flat_code.specs.Temps.{call_class}
 use Rattle.il_code.specs.declared.op.IlOp.TheVariants as op
 use Rattle.il_code.specs.declared.types.IlArg.{IlArg}

@@ -8,6 +8,7 @@ use Rattle.flat_code.specs.Costs as flat_cost
 use Rattle.flat_code.specs.Evaluation as flat
 use Rattle.flat_code.specs.Shape.{code_of}
 use Rattle.il_code.specs.declared.types.Block.{Block}
+use Rattle.il_code.specs.declared.types.IlParam.{IlParam}
 use Rattle.il_code.specs.declared.types.IlValue.{IlValue}
 use Rattle.il_code.specs.declared.types.IlValue.TheVariants as il_value
 use Rattle.il_code.specs.declared.types.Inst.{Inst}
@@ -85,8 +86,8 @@ takes (inst.Blit from to bytes) = 0
 takes (inst.Call result target args) = 0
 
 -- what a call of a function costs the stack in all
-abbrev pub full_cost : il.Code → ℕ
-full_cost c = call_cost c.params c.blocks + sum_by (λ (b : Block). sum_by takes b.insts) c.blocks
+abbrev pub full_cost : List IlParam → List Block → ℕ
+full_cost params blocks = call_cost params blocks + sum_by (λ (b : Block). sum_by takes b.insts) blocks
 
 -- ---- code
 
@@ -134,7 +135,7 @@ pub record IsShapedAs (f : FlatFn) (c : il.Code) : Type 0 where
   pub jumps : backward_jumps c.blocks ≤ loops_in (code_of f.body)
   pub calls : (name : List ℕ) → calls_of name c.blocks ≤ calls_in name (code_of f.body)
   pub allocs : IsTrue (allocs_are_placed c.blocks)
-  pub cost : full_cost c ≤ flat_cost.call_cost f
+  pub cost : full_cost c.params c.blocks ≤ flat_cost.call_cost f
 
 -- the function of the module for one of the program, which is there exactly where that is
 abbrev pub AreAlike : Option FlatFn → Option il.Code → Type 0

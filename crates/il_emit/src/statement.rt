@@ -13,8 +13,9 @@ use crate::emitter::Emitter;
 use crate::names::{label_name, same_text, temp_name};
 use crate::op::il_op;
 use crate::operand::second;
-use flat_code::{Data, Op, Runtime, Value};
+use flat_code::{Data, Op, Value};
 use hx_base::{Class, Text};
+use hx_runtime::Runtime;
 use il_code::{IlArg, IlArgs, IlParam, IlValue, Inst, Jump};
 use std::alloc::{AllocError, Global};
 

@@ -12,9 +12,9 @@ use super::temps::has_one_class;
 use crate::flat::{Flat, FlatKids};
 use crate::op::Op;
 use crate::program::FlatFn;
-use crate::runtime::Runtime;
 use crate::value::Value;
 use hx_base::Class;
+use hx_runtime::Runtime;
 
 /// How many statements may stand within one another.
 pub const DEEPEST: u32 = 4096;

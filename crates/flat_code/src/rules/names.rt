@@ -2,9 +2,10 @@
 
 ghost use Rattle.std.specs.Prelude.{◌≡◌, ◌+◌, ◌==◌, bytes_eq, count_by};
 ghost use Rattle.std.specs.List.{list_all};
-ghost use Rattle.flat_code.specs.WellFormed.{how_many, is_digit_byte, is_name_byte, is_identifier, is_reserved, is_symbol};
+ghost use Rattle.flat_code.specs.WellFormed.{how_many, is_digit_byte, is_name_byte, is_identifier, is_symbol};
 
 use crate::program::{Data, FlatFn, FlatProgram};
+use hx_runtime::is_reserved;
 
 /// Whether exactly one function or global has the name.
 pub fn is_once(p: &FlatProgram, name: &[u8]) -> bool
@@ -40,12 +41,6 @@ pub fn is_symbol(name: &[u8]) -> bool
     ensures { result ≡ is_symbol name.now }
 {
     is_identifier(name) && !is_reserved(name)
-}
-
-fn is_reserved(name: &[u8]) -> bool
-    ensures { result ≡ is_reserved name.now }
-{
-    name.starts_with(b"rt.")
 }
 
 fn is_identifier(s: &[u8]) -> bool

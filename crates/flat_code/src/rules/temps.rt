@@ -8,8 +8,8 @@ ghost use Rattle.flat_code.specs.Temps.{same_class, other_class, is_temp_of, cal
 
 use crate::flat::{Flat, FlatKids};
 use crate::program::FlatFn;
-use crate::runtime::Runtime;
 use hx_base::Class;
+use hx_runtime::Runtime;
 
 fn same_class(a: Class, b: Class) -> bool
     ensures { result ≡ same_class a b }

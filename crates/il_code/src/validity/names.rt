@@ -3,10 +3,11 @@
 ghost use Rattle.std.specs.Prelude.{◌≡◌, ℕ, List};
 ghost use Rattle.std.specs.List.{list_all};
 ghost use Rattle.il_code.specs.Tokens.{is_digit_byte, is_name_byte, is_identifier};
-ghost use Rattle.il_code.specs.Rules.{item_name, how_many, are_distinct, has_named, is_reserved, has_own_names};
+ghost use Rattle.il_code.specs.Rules.{item_name, how_many, are_distinct, has_named, has_own_names};
 ghost use Rattle.il_code.specs.Shaped.{some};
 
 use crate::types::{Block, IlItem, IlParam, PhiArg};
+use hx_runtime::is_reserved;
 
 /// What has a name.
 pub trait Named {
@@ -110,13 +111,6 @@ pub fn some<T>(xs: &[T]) -> bool
         [] => false,
         [_, ..] => true,
     }
-}
-
-/// Whether a symbol is the runtime's.
-fn is_reserved(name: &[u8]) -> bool
-    ensures { result ≡ is_reserved name.now }
-{
-    name.starts_with(b"rt.")
 }
 
 /// Whether a symbol is none of the runtime's, and a function's parameters and labels differ.

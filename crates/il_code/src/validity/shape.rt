@@ -11,7 +11,8 @@ use crate::types::{
     Block, IlArg, IlItem, IlParam, IlValue, Inst, Jump, Module, Part, PartValue, Phi, PhiArg,
 };
 
-/// Whether some text is that of the module.
+/// Whether some text is that of the module, and so the printed one is: names are identifiers, numbers have 64 bits, strings can be written,
+/// each operation has its operands, and control does not fall out of a function. Takes no memory.
 #[tactic(auto, unfolding(crate::specs::Shaped::is_shaped))]
 pub fn is_shaped(m: &Module) -> bool
     ensures { result ≡ is_shaped m.now }

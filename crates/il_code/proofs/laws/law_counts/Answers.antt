@@ -1,5 +1,5 @@
-use Rattle.il_code.proofs.Steps.{counts_are_bounded}
+use Rattle.il_code.proofs.Steps.{done_is_kept}
 use Rattle.il_code.proofs.laws.law_counts.Goals as goal
 
 pub returns : goal.returns
-returns c = counts_are_bounded
+returns c = done_is_kept

@@ -1,9 +1,12 @@
-use Rattle.std.proofs.Common.{◌≡◌, Some, ap, ◌∙◌}
+use Rattle.std.proofs.Common.{◌≡◌, ℕ, List, ◌&&◌, true, false, Some, refl, ap, ◌∙◌}
+use Rattle.std.specs.List.{list_all}
 use Rattle.std.proofs.lemmas.Bool.{false≢true}
 use Rattle.std.proofs.lemmas.Slice.Eq.{bytes_eq-Decides}
 use Rattle.il_code.specs.declared.types.Module.{Module}
 use Rattle.il_code.specs.Print.{module_text}
-use Rattle.il_read.specs.Readable.{IsReadable}
+use Rattle.il_code.specs.Shaped.{is_shaped}
+use Rattle.il_read.specs.Items.{module_at}
+use Rattle.il_read.specs.Readable.{is_aligned, IsReadable}
 use Rattle.il_read.proofs.ItemsAgain.{no_memory, module_none, module_some, module_text-again}
 use Rattle.il_read.proofs.printed.read_printed.Goals as goal
 
@@ -16,6 +19,18 @@ returns-in-Err-Fault-clause-found c = λ m h e. absurd (other_than_printed c m h
 
 pub returns-in-Err-Fault-clause-none : goal.returns-in-Err-Fault-clause-none
 returns-in-Err-Fault-clause-none c = other_than_printed c
+
+-- what is read is not readable, so that no readable module was printed so
+unreadable : (src : List ℕ) (x m : Module) → module_at src ≡ Some x → false ≡ (is_shaped x && list_all is_aligned x.items) → IsReadable m → src ≡ module_text m → ⊥
+unreadable src x m at fails h e =
+    let passes : (is_shaped m && list_all is_aligned m.items) ≡ true = rw (h.shaped, h.aligned) refl in
+    false≢true (fails ∙ ap (λ (z : Module). is_shaped z && list_all is_aligned z.items) (module_some src x m at h e) ∙ passes)
+
+pub returns-then-not-is_readable-clause-found : goal.returns-then-not-is_readable-clause-found
+returns-then-not-is_readable-clause-found c = λ m h e. absurd (unreadable c.args.src.now c.in-Ok.module m c.in-Ok.ensures c.if-not-is_readable.ensures h e)
+
+pub returns-then-not-is_readable-clause-none : goal.returns-then-not-is_readable-clause-none
+returns-then-not-is_readable-clause-none c = λ m h e. unreadable c.args.src.now c.in-Ok.module m c.in-Ok.ensures c.if-not-is_readable.ensures h e
 
 pub returns-then-eq-clause-found : goal.returns-then-eq-clause-found
 returns-then-eq-clause-found c = λ m h e. ap Some (module_some c.args.src.now c.in-Ok.module m c.in-Ok.ensures h e)

@@ -2,8 +2,7 @@
 
 ghost use Rattle.std.specs.Prelude.{◌≡◌, option_map};
 ghost use Rattle.hx_base.specs.Runtime.{runtime_function};
-ghost use Rattle.flat_code.specs.RuntimeNames.{function_of};
-ghost use Rattle.flat_code.specs.Signatures.{runtime_params, runtime_result};
+ghost use Rattle.hx_runtime.specs.Functions.{function_of, runtime_params, runtime_result, is_reserved};
 
 use hx_base::Class;
 
@@ -85,4 +84,11 @@ impl Runtime {
             | Runtime::Exit => None,
         }
     }
+}
+
+/// Whether a symbol is the runtime's: one that begins with `rt.`, whether or not the runtime has a function of that name.
+pub fn is_reserved(name: &[u8]) -> bool
+    ensures { result ≡ is_reserved name.now }
+{
+    name.starts_with(b"rt.")
 }
