@@ -1,1 +1,2 @@
 pub mod UndefinedLemmas
+pub mod FieldLemmas

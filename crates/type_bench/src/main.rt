@@ -1,9 +1,10 @@
 //! Takes ROWS types into a store and asks for each again, so that the time of the store can be measured. By `type_bench ROWS names` it defines
-//! ROWS names in place of that, while all wait for one.
+//! ROWS names in place of that, while all wait for one; by `type_bench ROWS fields` it takes in a struct of ROWS fields, and looks for each.
 #![tactic(auto)]
 
 ghost use Rattle.std.specs.Prelude.{◌<◌, length, IfOk};
 
+mod fields;
 mod names;
 
 use anyhow::{Context, Result, bail};
@@ -11,7 +12,7 @@ use hare_types::{Extent, Row, Scalar, TypeId, TypeStore};
 use std::alloc::AllocError;
 use std::env;
 
-const USAGE: &str = "usage: type_bench ROWS [names]";
+const USAGE: &str = "usage: type_bench ROWS [names|fields]";
 
 fn main(rt: HostRuntime) -> Result<()> {
     let mut words = env::args(&rt)?;
@@ -22,12 +23,11 @@ fn main(rt: HostRuntime) -> Result<()> {
         .context("ROWS is a number below 2^32")?;
     match words.next() {
         None => ask_again(rt, rows),
-        Some(mode) => {
-            if mode.as_str() != "names" {
-                bail!("{USAGE}");
-            }
-            define(rt, rows)
-        }
+        Some(mode) => match mode.as_str() {
+            "names" => define(rt, rows),
+            "fields" => look_up(rt, rows),
+            _ => bail!("{USAGE}"),
+        },
     }
 }
 
@@ -43,13 +43,20 @@ fn ask_again(rt: HostRuntime, rows: u32) -> Result<()> {
 
 /// Defines so many names in a chain, and so many in a fan.
 fn define(rt: HostRuntime, rows: u32) -> Result<()> {
-    let mut store = TypeStore::new(rt.alloc());
-    let first = bytes(names::chain(&mut store, rows)?);
-    let mut store = TypeStore::new(rt.alloc());
-    let last = bytes(names::fan(&mut store, rows)?);
+    let first = bytes(names::in_chain(rt.alloc(), rows)?);
+    let last = bytes(names::in_fan(rt.alloc(), rows)?);
     println!(rt;
         "names {rows}, the first of the chain takes {first} bytes, the last of the fan {last}"
     )?;
+    Ok(())
+}
+
+/// Takes in a struct of so many fields, and looks for each by its name.
+fn look_up(rt: HostRuntime, rows: u32) -> Result<()> {
+    let mut store = TypeStore::new(rt.alloc());
+    let t = fields::structure(rt.alloc(), &mut store, rows)?;
+    let found = fields::found(&store, t, rows);
+    println!(rt; "fields {rows}, found {found}")?;
     Ok(())
 }
 
@@ -66,11 +73,18 @@ fn bytes(extent: Option<Extent>) -> u64 {
 fn chain(store: &mut TypeStore, rows: u32) -> Result<TypeId, AllocError>
     ensures { IfOk result (λ t. t < length store.new.rows) }
 {
-    let mut last = store.intern(Row::Scalar(Scalar::Int))?;
+    let mut last = int(store)?;
     for n in 0..rows {
         last = over(store, last, n)?;
     }
     Ok(last)
+}
+
+/// The type `int`.
+fn int(store: &mut TypeStore) -> Result<TypeId, AllocError>
+    ensures { IfOk result (λ t. t < length store.new.rows) }
+{
+    store.intern(Row::Scalar(Scalar::Int))
 }
 
 /// A type over another: a pointer to it, or an array of so many of it.
@@ -79,9 +93,8 @@ fn over(store: &mut TypeStore, below: TypeId, n: u32) -> Result<TypeId, AllocErr
     ensures { IfOk result (λ t. t < length store.new.rows) }
 {
     if n % 2 == 0 {
-        let t = store.intern(Row::Pointer(below))?;
-        return Ok(t);
+        store.intern(Row::Pointer(below))
+    } else {
+        store.intern(Row::Array(u64::from(n), below))
     }
-    let t = store.intern(Row::Array(u64::from(n), below))?;
-    Ok(t)
 }

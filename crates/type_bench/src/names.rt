@@ -5,30 +5,40 @@ ghost use Rattle.hare_types.specs.Store.{sized_of, tree_at};
 ghost use Rattle.hare_types.specs.Trees.{Array, Named};
 
 use hare_types::{Extent, Row, Scalar, TypeId, TypeStore};
-use std::alloc::AllocError;
+use std::alloc::{AllocError, Global};
+
+/// The extent of the first of so many names in a chain, in a store of their own.
+pub(crate) fn in_chain(alloc: Global, names: u32) -> Result<Option<Extent>, AllocError> {
+    let mut store = TypeStore::new(alloc);
+    chain(&mut store, names)
+}
+
+/// The extent of the last of so many names in a fan, in a store of their own.
+pub(crate) fn in_fan(alloc: Global, names: u32) -> Result<Option<Extent>, AllocError> {
+    let mut store = TypeStore::new(alloc);
+    fan(&mut store, names)
+}
 
 /// Defines so many names in a chain, each to hold the next, and then the last one: all wait until then. The answer is the extent of the first.
-pub(crate) fn chain(store: &mut TypeStore, names: u32) -> Result<Option<Extent>, AllocError>
+fn chain(store: &mut TypeStore, names: u32) -> Result<Option<Extent>, AllocError>
     requires { (d : ℕ) → sized_of store.old d ≡ None }
 {
     for n in 0..names {
         define_over(store, n, n + 1, 1)?;
     }
     define_last(store, names)?;
-    let first = store.intern(Row::Named(0))?;
-    Ok(store.extent(first))
+    extent_of(store, 0)
 }
 
 /// Defines so many names to hold one and the same other, and then that one: all wait until then. The answer is the extent of the last.
-pub(crate) fn fan(store: &mut TypeStore, names: u32) -> Result<Option<Extent>, AllocError>
+fn fan(store: &mut TypeStore, names: u32) -> Result<Option<Extent>, AllocError>
     requires { (d : ℕ) → sized_of store.old d ≡ None }
 {
     for n in 0..names {
         define_over(store, n + 1, 0, u64::from(n) + 1)?;
     }
     define_last(store, 0)?;
-    let last = store.intern(Row::Named(names))?;
-    Ok(store.extent(last))
+    extent_of(store, names)
 }
 
 /// Declares a name, and defines it as an array of so many of another name, which is not declared yet.
@@ -64,4 +74,10 @@ fn define_last(store: &mut TypeStore, decl: u32) -> Result<(), AllocError>
     let int = store.intern(Row::Scalar(Scalar::Int))?;
     store.define(decl, int);
     Ok(())
+}
+
+/// The extent of a name.
+fn extent_of(store: &mut TypeStore, decl: u32) -> Result<Option<Extent>, AllocError> {
+    let name = store.intern(Row::Named(decl))?;
+    Ok(store.extent(name))
 }
