@@ -117,10 +117,11 @@ pub record Related (g : Ground) (ps : Places) (s : State) (w : World) (calls : �
   -- what a live object covers is mapped, and covered by no other
   pub mapped : (o a : ℕ) → Covered ps (objects_in s) o a → is_mapped w.memory a ≡ true
   pub apart : (o p a : ℕ) → Covered ps (objects_in s) o a → Covered ps (objects_in s) p a → o ≡ p
-  -- addresses of live objects are not 0, aligned, and below 2^64
-  pub placed : (o a : ℕ) (x : Object) → IsLive (objects_in s) o x → slice_get ps o ≡ Some (At a) →
-      (0 < a) × (a % x.align ≡ 0) × (a + extent_of x ≤ 2 ^ 64)
-  -- their cells agree with the bytes there, and with those of the values of temporaries
+  -- The address of an object is not 0, and is aligned, and the address just past its end is below 2^64. So it is of a dead object too: a
+  -- pointer that still names it is not null.
+  pub placed : (o a : ℕ) (x : Object) → slice_get (objects_in s) o ≡ Some x → slice_get ps o ≡ Some (At a) →
+      (0 < a) × (a % x.align ≡ 0) × (a + extent_of x < 2 ^ 64)
+  -- the cells of live objects agree with the bytes there, and with those of the values of temporaries
   pub cells : (o a k : ℕ) (x : Object) (c : Cell) → IsLive (objects_in s) o x → slice_get ps o ≡ Some (At a) →
       slice_get x.cells k ≡ Some c → Agrees ps c (byte_at w.memory (a + k))
   pub held_cells : (o c t n : ℕ) (signed : Bool) (x : Object) → IsLive (objects_in s) o x →
