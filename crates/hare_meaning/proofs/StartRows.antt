@@ -62,7 +62,7 @@ addresses = 4096 ∷ 4104 ∷ 4128 ∷ 4130 ∷ 4131 ∷ []
 
 -- behind them stands the text of an abort
 abbrev ground : Ground
-ground = record { fill = 170; fixed = (4200, codes "!") ∷ []; standing = (0, 4096) ∷ (1, 4104) ∷ [] }
+ground = record { fill = 170; fixed = (4200, codes "!") ∷ []; standing = (0, 4096) ∷ (1, 4104) ∷ []; arguments = 2 }
 
 abbrev memory : Memory
 memory =
@@ -133,6 +133,7 @@ begins = record {
   fill = refl;
   input = refl;
   output = refl;
+  arguments = refl;
 }
   where
     placed : (i : ℕ) (p : ℕ × ℕ) → slice_get ground.standing i ≡ Some p → slice_get addresses p.0 ≡ Some p.1

@@ -98,6 +98,7 @@ pub record Ground : Type 0 where
   pub fill : ℕ  -- the byte that memory holds where nothing was written
   pub fixed : List (ℕ × List ℕ)  -- bytes that no object covers: the texts of aborts, and the records of arguments
   pub standing : List (ℕ × ℕ)  -- the objects that stand from the start, each with its address
+  pub arguments : ℕ  -- how many arguments the program has
 
 -- what the temporaries of the calls under way hold, by the numbers of call and temporary
 abbrev pub Values : Type 0
@@ -144,3 +145,4 @@ pub record Related (g : Ground) (ps : Places) (s : State) (w : World) (calls : �
   pub fill : w.memory.fill ≡ g.fill
   pub input : s.input ≡ w.input
   pub output : s.output ≡ w.output
+  pub arguments : w.arguments ≡ g.arguments

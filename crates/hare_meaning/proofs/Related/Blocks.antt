@@ -59,6 +59,7 @@ module _ (ground : Ground) where
     fill = r.fill;
     input = r.input;
     output = r.output;
+    arguments = r.arguments;
   }
     where
       objs' : List Object

@@ -48,6 +48,7 @@ module _ (ground : Ground) where
     fill = r.fill;
     input = r.input;
     output = r.output;
+    arguments = r.arguments;
   }
     where
       back : (o a : ℕ) → Covered ps objs' o a → Covered ps (objects_in s) o a

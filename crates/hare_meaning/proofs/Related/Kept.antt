@@ -44,6 +44,7 @@ module _ (ground : Ground) where
     fixed_apart = λ i l p f e h g. r.fixed_apart i l p f e h (back p (f.0 + l) g);
     input = r.input;
     output = r.output;
+    arguments = r.arguments;
   }
     where
       x' : Object
@@ -120,6 +121,7 @@ module _ (ground : Ground) where
     fixed_apart = λ i l o f e h g. r.fixed_apart i l o f e h (back o (f.0 + l) g);
     input = r.input;
     output = r.output;
+    arguments = r.arguments;
   }
     where
       new : Standing

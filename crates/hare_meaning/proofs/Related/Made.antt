@@ -74,6 +74,7 @@ module _ (ground : Ground) where
     fixed_apart = λ i l o f e g c. text i l o f e g (which o (f.0 + l) c);
     input = r.input;
     output = r.output;
+    arguments = r.arguments;
   }
     where
       b : ℕ

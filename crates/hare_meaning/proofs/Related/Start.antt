@@ -142,6 +142,7 @@ module _ (ground : Ground) where
     pub fill : w.memory.fill ≡ ground.fill
     pub input : s.input ≡ w.input
     pub output : s.output ≡ w.output
+    pub arguments : w.arguments ≡ ground.arguments
 
   pub start_related : (ats : List ℕ) (s : State) (w : World) (calls : ℕ) (value : Values) → Begins ats s w →
       Related ground (map At ats) s w calls value
@@ -167,6 +168,7 @@ module _ (ground : Ground) where
     fill = h.fill;
     input = h.input;
     output = h.output;
+    arguments = h.arguments;
   }
     where
       ps : Places

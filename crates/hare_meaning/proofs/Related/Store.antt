@@ -45,6 +45,7 @@ module _ (ground : Ground) where
     fixed_apart = λ i l p f e h c. r.fixed_apart i l p f e h (back p (f.0 + l) c);
     input = r.input;
     output = r.output;
+    arguments = r.arguments;
   }
     where
       x' : Object
