@@ -6,17 +6,19 @@ use Rattle.hx_base.specs.Memory.{Memory, empty_memory, write, map_range, le_byte
 use Rattle.hx_base.specs.Runtime.{World, heap_start}
 use Rattle.hx_base.proofs.MemoryLemmas.{all_mapped-each}
 use Rattle.hare_tree.specs.declared.kind.Kind.TheVariants as kind
+use Rattle.hare_types.specs.declared.coercion.Ty.TheVariants as kept
 use Rattle.hare_typed.specs.declared.cell.Cell.{Cell}
 use Rattle.hare_typed.specs.declared.cell.Cell.TheVariants as cell
 use Rattle.hare_typed.specs.Cells.{byte_cells}
 use Rattle.hare_typed.specs.Objects.{Object, Global, Constant}
 use Rattle.hare_typed.specs.Typed.{TypedNode}
 use Rattle.hare_typed.specs.State.{State}
+use Rattle.hare_meaning.specs.Code.{statics_of}
 use Rattle.hare_meaning.specs.Run.{start}
 use Rattle.hare_meaning.specs.Related.{At, BytesAre, FragmentIs, Match, Ground, Values, objects_in, Related}
 use Rattle.hare_meaning.proofs.Related.Start.{AreLaid, Begins, start_related}
-use Rattle.hare_meaning.proofs.Samples.{void}
-use Rattle.hare_meaning.proofs.Trees.{absent, node, main, text, n8, known, program}
+use Rattle.hare_meaning.proofs.Samples.{types, void, slice}
+use Rattle.hare_meaning.proofs.Trees.{absent, of_type, node, to, numbered, main, text, n8, known, program}
 
 -- the cells of a pointer to the first byte of an object
 abbrev pointer : ℕ → List Cell
@@ -60,7 +62,7 @@ addresses = 4096 ∷ 4104 ∷ 4128 ∷ 4130 ∷ 4131 ∷ []
 
 -- behind them stands the text of an abort
 abbrev ground : Ground
-ground = record { fill = 170; fixed = (4200, codes "!") ∷ []; standing = (0, 4096) ∷ (1, 4104) ∷ [] }
+ground = record { fill = 170; fixed = (4200, codes "!") ∷ []; standing = (0, 4096) ∷ (1, 4104) ∷ []; arguments = 2 }
 
 abbrev memory : Memory
 memory =
@@ -131,6 +133,7 @@ begins = record {
   fill = refl;
   input = refl;
   output = refl;
+  arguments = refl;
 }
   where
     placed : (i : ℕ) (p : ℕ × ℕ) → slice_get ground.standing i ≡ Some p → slice_get addresses p.0 ≡ Some p.1
@@ -151,3 +154,19 @@ begins = record {
 
 start_row : (value : Values) → Related ground (map At addresses) begin world 0 value
 start_row value = start_related ground addresses begin world 0 value begins
+
+-- ---- an empty array that becomes a slice
+
+-- its slice: where it stands, a length and a capacity of 0
+abbrev no_items : TypedNode
+no_items =
+    known (pointer (2 * 2 ^ 32 + 3) ++ byte_cells (le_bytes 8 0) ++ byte_cells (le_bytes 8 0))
+    (to 7 slice (numbered 3 (of_type kind.Array [] 0 kept.Empty (absent ∷ absent ∷ []))))
+
+-- `let none: []int = [];`
+abbrev of_none : List TypedNode
+of_none = main [] ∷ node kind.GlobalLet [] 0 void (absent ∷ absent ∷ absent ∷ no_items ∷ []) ∷ []
+
+-- the array is aligned as an int, and its slice as a pointer
+empty_array_row : map (λ s. s.1.align) (statics_of types of_none) ≡ 8 ∷ 4 ∷ []
+empty_array_row = refl

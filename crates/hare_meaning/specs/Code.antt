@@ -6,6 +6,7 @@ use Rattle.std.specs.Map.{lookup}
 use Rattle.hare_tree.specs.declared.kind.Kind.{Kind}
 use Rattle.hare_tree.specs.declared.kind.Kind.TheVariants as kind
 use Rattle.hare_types.specs.Store.{Store}
+use Rattle.hare_types.specs.ByIds.{align_at}
 use Rattle.hare_typed.specs.declared.cell.Cell.{Cell}
 use Rattle.hare_typed.specs.declared.constant.Const.{Const}
 use Rattle.hare_typed.specs.declared.constant.Const.TheVariants as constant
@@ -16,6 +17,7 @@ use Rattle.hare_typed.specs.Given.{given, size_in}
 use Rattle.hare_typed.specs.Shapes.{align_in}
 use Rattle.hare_typed.specs.Cells.{byte_cells, undefined_cells}
 use Rattle.hare_typed.specs.Objects.{Object, ObjectKind, Global, Constant}
+use Rattle.hare_typed.specs.Coercions.{sliced_element}
 use Rattle.hare_typed.specs.Evaluated.{is_place, makes_slice}
 use Rattle.hare_typed.specs.ConstantValues.{listed_objects}
 use Rattle.hare_typed.specs.World.{World, homed_cell}
@@ -90,12 +92,20 @@ number_of_static d t = (d + 1) * 2 ^ 32 + (mark_of t).node
 abbrev pub text_object : TypedNode → Object
 text_object t = record { cells = byte_cells (head_of t).text; kind = Constant; align = 1; alive = true }
 
--- The array of a global's value that becomes a slice may be stored to, also where the global may not. Its cells are those that the global's
--- constant leads to.
+-- The array of a global's value that becomes a slice may be stored to, also where the global may not. It is aligned as its elements are, also
+-- where it is empty, and its cells are those that the global's constant leads to.
+abbrev pub array_over : Store → TypedNode → List Cell → Object
+array_over s t cs =
+    record {
+      cells = cs;
+      kind = Global;
+      align = align_at s (unwrap_or (sliced_element s (mark_of t).ty (mark_of t).coerce) 0);
+      alive = true;
+    }
+
 abbrev pub array_with : Store → TypedNode → Option Object → Object
-array_with s t None =
-    record { cells = undefined_cells (size_in s (mark_of t).ty); kind = Global; align = align_in s (mark_of t).ty; alive = true }
-array_with s t (Some o) = record { cells = o.cells; kind = Global; align = align_in s (mark_of t).ty; alive = true }
+array_with s t None = array_over s t (undefined_cells (size_in s (mark_of t).ty))
+array_with s t (Some o) = array_over s t o.cells
 
 abbrev pub is_global : Kind → Bool
 is_global kind.GlobalLet = true

@@ -98,6 +98,7 @@ pub record Ground : Type 0 where
   pub fill : ℕ  -- the byte that memory holds where nothing was written
   pub fixed : List (ℕ × List ℕ)  -- bytes that no object covers: the texts of aborts, and the records of arguments
   pub standing : List (ℕ × ℕ)  -- the objects that stand from the start, each with its address
+  pub arguments : ℕ  -- how many arguments the program has
 
 -- what the temporaries of the calls under way hold, by the numbers of call and temporary
 abbrev pub Values : Type 0
@@ -117,10 +118,11 @@ pub record Related (g : Ground) (ps : Places) (s : State) (w : World) (calls : �
   -- what a live object covers is mapped, and covered by no other
   pub mapped : (o a : ℕ) → Covered ps (objects_in s) o a → is_mapped w.memory a ≡ true
   pub apart : (o p a : ℕ) → Covered ps (objects_in s) o a → Covered ps (objects_in s) p a → o ≡ p
-  -- addresses of live objects are not 0, aligned, and below 2^64
-  pub placed : (o a : ℕ) (x : Object) → IsLive (objects_in s) o x → slice_get ps o ≡ Some (At a) →
-      (0 < a) × (a % x.align ≡ 0) × (a + extent_of x ≤ 2 ^ 64)
-  -- their cells agree with the bytes there, and with those of the values of temporaries
+  -- The address of an object is not 0, and is aligned, and the address just past its end is below 2^64. So it is of a dead object too: a
+  -- pointer that still names it is not null.
+  pub placed : (o a : ℕ) (x : Object) → slice_get (objects_in s) o ≡ Some x → slice_get ps o ≡ Some (At a) →
+      (0 < a) × (a % x.align ≡ 0) × (a + extent_of x < 2 ^ 64)
+  -- the cells of live objects agree with the bytes there, and with those of the values of temporaries
   pub cells : (o a k : ℕ) (x : Object) (c : Cell) → IsLive (objects_in s) o x → slice_get ps o ≡ Some (At a) →
       slice_get x.cells k ≡ Some c → Agrees ps c (byte_at w.memory (a + k))
   pub held_cells : (o c t n : ℕ) (signed : Bool) (x : Object) → IsLive (objects_in s) o x →
@@ -143,3 +145,4 @@ pub record Related (g : Ground) (ps : Places) (s : State) (w : World) (calls : �
   pub fill : w.memory.fill ≡ g.fill
   pub input : s.input ≡ w.input
   pub output : s.output ≡ w.output
+  pub arguments : w.arguments ≡ g.arguments

@@ -44,6 +44,7 @@ module _ (ground : Ground) where
     fill = k.fill;
     input = refl;
     output = refl;
+    arguments = refl;
   }
     where
       outside : (o a : ℕ) → Covered ps (objects_in s) o a → (a < at) ⊎ (at + n ≤ a)
@@ -146,6 +147,7 @@ module _ (ground : Ground) where
     fill = refl;
     input = refl;
     output = refl;
+    arguments = refl;
   }
 
   -- the call of a temporary that holds an object is under way

@@ -9,7 +9,7 @@ use Rattle.hare_typed.specs.declared.cell.Cell.{Cell}
 use Rattle.hare_typed.specs.Objects.{Object, Heap, extent_of}
 use Rattle.hare_typed.specs.State.{State}
 use Rattle.hare_meaning.specs.Related.{At, Places, IsLive, Covered, Held, Agrees, BytesAre, BlockOf, Ground, Values, objects_in, Related}
-use Rattle.hare_meaning.proofs.Related.Cells.{Same, same, other, is_same, Inside, inside, before, behind, inside_of, get_set_other, length_set, Now, changed, as_before, after_set, at_is, live_covers}
+use Rattle.hare_meaning.proofs.Related.Cells.{Same, same, other, is_same, Inside, inside, before, behind, inside_of, get_set_other, length_set, Now, changed, as_before, after_set, at_is, live_covers, placed_set}
 use Rattle.hx_base.specs.Memory.{round_up, unmap_range, clear_range}
 use Rattle.hx_base.specs.Runtime.{without_block}
 use Rattle.hx_base.proofs.RangeLemmas.{is_mapped-unmap_range_outside, is_mapped-unmap_range_before, is_mapped-clear_range, byte_at-clear_range_outside}
@@ -43,7 +43,7 @@ module _ (ground : Ground) where
     standing = r.standing;
     mapped = λ p q c. still_mapped p q c;
     apart = λ p q e c d. r.apart p q e (back p e c) (back q e d);
-    placed = λ p q y l g. r.placed p q y (was p y l) g;
+    placed = placed_set ps (objects_in s) o x (killed x) there.0 refl refl r.placed;
     cells = λ p q i y c l g e. same_cell p q i y c l g e;
     held_cells = λ p c t n signed y l g. r.held_cells p c t n signed y (was p y l) g;
     held_apart = λ p q c t f g. r.held_apart p q c t (held p c t f) (held q c t g);
@@ -59,6 +59,7 @@ module _ (ground : Ground) where
     fill = r.fill;
     input = r.input;
     output = r.output;
+    arguments = r.arguments;
   }
     where
       objs' : List Object

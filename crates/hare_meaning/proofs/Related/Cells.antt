@@ -1,5 +1,5 @@
 -- Lists, and the cells of objects.
-use Rattle.std.proofs.Common.{◌≡◌, ◌≢◌, ℕ, zero, suc, ◌+◌, ◌-◌, ◌<◌, ◌≤◌, List, [], ◌∷◌, ◌++◌, length, drop, Some, refl, ap, sym, ◌∙◌, subst, arith, ◌⊎◌, inl, inr, true, false, eqb}
+use Rattle.std.proofs.Common.{◌≡◌, ◌≢◌, ℕ, zero, suc, ◌+◌, ◌-◌, ◌%◌, ◌^◌, ◌<◌, ◌≤◌, List, [], ◌∷◌, ◌++◌, length, drop, Some, refl, ap, sym, ◌∙◌, subst, arith, ◌⊎◌, inl, inr, true, false, eqb}
 use Rattle.std.specs.Prelude.{slice_get, slice_set}
 use Rattle.std.proofs.lemmas.Bool.{cases_lt}
 use Rattle.std.proofs.lemmas.Bool.Decides.{eqb_tells}
@@ -178,21 +178,34 @@ match_bytes ps m (c ∷ cs) at h = (
 
 -- ---- objects
 
--- what is so of an object once one of them has changed
+-- what an object is, dead or alive, once one of them has changed
+pub data Found (objs : List Object) (o : ℕ) (x' : Object) (p : ℕ) (y : Object) : Type 0 where
+  found_changed : p ≡ o → y ≡ x' → Found objs o x' p y
+  found_before : p ≢ o → slice_get objs p ≡ Some y → Found objs o x' p y
+
+pub found_set : (objs : List Object) (o : ℕ) (x x' : Object) (p : ℕ) (y : Object) → slice_get objs o ≡ Some x →
+    slice_get (slice_set objs o x') p ≡ Some y → Found objs o x' p y
+found_set objs o x x' p y g e = pick (is_same p o)
+  where
+    pick : Same p o → Found objs o x' p y
+    pick (same f) =
+        let h : slice_get (slice_set objs o x') o ≡ Some x' = get_set objs o x' x g in
+        let k : slice_get (slice_set objs o x') o ≡ Some y = subst (λ q. slice_get (slice_set objs o x') q ≡ Some y) f e in
+        found_changed f cc
+    pick (other n) = found_before n (sym (get_set_other objs o p x' (λ f. n (sym f))) ∙ e)
+
+-- what is so of a live object once one of them has changed
 pub data Now (objs : List Object) (o : ℕ) (x' : Object) (p : ℕ) (y : Object) : Type 0 where
   changed : p ≡ o → y ≡ x' → Now objs o x' p y
   as_before : p ≢ o → IsLive objs p y → Now objs o x' p y
 
 pub after_set : (objs : List Object) (o : ℕ) (x x' : Object) (p : ℕ) (y : Object) → slice_get objs o ≡ Some x →
     IsLive (slice_set objs o x') p y → Now objs o x' p y
-after_set objs o x x' p y g l = pick (is_same p o)
+after_set objs o x x' p y g l = pick (found_set objs o x x' p y g l.0)
   where
-    pick : Same p o → Now objs o x' p y
-    pick (same e) =
-        let h : slice_get (slice_set objs o x') o ≡ Some x' = get_set objs o x' x g in
-        let k : slice_get (slice_set objs o x') o ≡ Some y = subst (λ q. slice_get (slice_set objs o x') q ≡ Some y) e l.0 in
-        changed e cc
-    pick (other n) = as_before n (sym (get_set_other objs o p x' (λ e. n (sym e))) ∙ l.0, l.1)
+    pick : Found objs o x' p y → Now objs o x' p y
+    pick (found_changed e f) = changed e f
+    pick (found_before n e) = as_before n (e, l.1)
 
 pub at_is : (a b : ℕ) → Some (At a) ≡ Some (At b) → a ≡ b
 at_is a b e = cc
@@ -203,6 +216,27 @@ live_covers ps objs o a k x l at h = record { x = x; from = a; k = k; live = l; 
 
 pub extent-same : (x x' : Object) → length x'.cells ≡ length x.cells → extent_of x' ≡ extent_of x
 extent-same x x' e = rw e refl
+
+-- the address is not 0, and is aligned for the object, and the one just past its end is below 2^64
+abbrev pub IsPlaced : ℕ → Object → Type 0
+IsPlaced a x = (0 < a) × (a % x.align ≡ 0) × (a + extent_of x < 2 ^ 64)
+
+-- and so it is for an object of the same length and alignment
+pub placed-same : (a : ℕ) (x x' : Object) → length x'.cells ≡ length x.cells → x'.align ≡ x.align → IsPlaced a x → IsPlaced a x'
+placed-same a x x' e f h = (h.0, rw f h.1, rw (extent-same x x' e) h.2)
+
+-- the changed object is placed as it was, where it keeps its length and alignment
+pub placed_set : (ps : Places) (objs : List Object) (o : ℕ) (x x' : Object) → slice_get objs o ≡ Some x →
+    length x'.cells ≡ length x.cells → x'.align ≡ x.align →
+    ((p q : ℕ) (y : Object) → slice_get objs p ≡ Some y → slice_get ps p ≡ Some (At q) → IsPlaced q y) → (p q : ℕ) (y : Object) →
+    slice_get (slice_set objs o x') p ≡ Some y → slice_get ps p ≡ Some (At q) → IsPlaced q y
+placed_set ps objs o x x' there len al was p q y e at = pick (found_set objs o x x' p y there e)
+  where
+    pick : Found objs o x' p y → IsPlaced q y
+    pick (found_changed f g) =
+        let before = was p q x (subst (λ z. slice_get objs z ≡ Some x) (sym f) there) at in
+        placed-same q x y (ap (λ v. length v.cells) g ∙ len) (ap (λ v. v.align) g ∙ al) before
+    pick (found_before n f) = was p q y f at
 
 -- an object that keeps its extent covers what it covered
 pub covered_back : (ps : Places) (objs : List Object) (o : ℕ) (x x' : Object) → IsLive objs o x → extent_of x' ≡ extent_of x → (p q : ℕ) →

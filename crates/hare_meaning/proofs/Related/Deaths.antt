@@ -5,15 +5,23 @@ use Rattle.hx_base.specs.Runtime.{World}
 use Rattle.hare_typed.specs.Objects.{Object, Local, Heap}
 use Rattle.hare_typed.specs.State.{State}
 use Rattle.hare_meaning.specs.Related.{Places, IsLive, Covered, Held, BlockOf, Ground, Values, objects_in, Related}
-use Rattle.hare_meaning.proofs.Related.Cells.{get_set_other, length_set, Now, changed, as_before, after_set}
+use Rattle.hare_meaning.proofs.Related.Cells.{get_set_other, length_set, Found, found_changed, found_before, found_set, Now, changed, as_before, after_set, placed-same}
 use Rattle.hare_typed.specs.Objects.{killed, is_local, killed_local, locals_killed_from}
 use Rattle.hare_meaning.proofs.Related.Store.{with_made}
 
--- No object is more alive than it was, and heap objects live on.
+-- an object of the same length and alignment has the number
+pub record Alike (objs : List Object) (o : ℕ) (y : Object) : Type 0 where
+  pub x : Object
+  pub there : slice_get objs o ≡ Some x
+  pub count : length y.cells ≡ length x.cells
+  pub align : y.align ≡ x.align
+
+-- No object is more alive than it was, heap objects live on, and each object, also one that died, keeps its length and alignment.
 pub record IsFewer (objs objs' : List Object) : Type 0 where
   pub count : length objs' ≡ length objs
   pub was : (o : ℕ) (x : Object) → IsLive objs' o x → IsLive objs o x
   pub heap : (o : ℕ) (x : Object) → IsLive objs o x → x.kind ≡ Heap → IsLive objs' o x
+  pub alike : (o : ℕ) (y : Object) → slice_get objs' o ≡ Some y → Alike objs o y
 
 module _ (ground : Ground) where
   pub fewer_related : (ps : Places) (s : State) (w : World) (calls : ℕ) (value : Values) (objs' : List Object) →
@@ -24,7 +32,7 @@ module _ (ground : Ground) where
     standing = r.standing;
     mapped = λ o a c. r.mapped o a (back o a c);
     apart = λ o p a c d. r.apart o p a (back o a c) (back p a d);
-    placed = λ o a x l at. r.placed o a x (h.was o x l) at;
+    placed = λ o a x e at. let k = h.alike o x e in placed-same a k.x x k.count k.align (r.placed o a k.x k.there at);
     cells = λ o a k x c l at e. r.cells o a k x c (h.was o x l) at e;
     held_cells = λ o c t n signed x l at. r.held_cells o c t n signed x (h.was o x l) at;
     held_apart = λ o p c t f g. r.held_apart o p c t (held o c t f) (held p c t g);
@@ -40,6 +48,7 @@ module _ (ground : Ground) where
     fill = r.fill;
     input = r.input;
     output = r.output;
+    arguments = r.arguments;
   }
     where
       back : (o a : ℕ) → Covered ps objs' o a → Covered ps (objects_in s) o a
@@ -65,8 +74,19 @@ dies objs o x there local = record {
       let never : Local ≡ Heap = sym local ∙ ap (λ v. v.kind) same ∙ e in cc
       in
       (get_set_other objs o p (killed x) (λ q. apart (sym q)) ∙ l.0, l.1);
+  alike = λ p y e. alike p y (found_set objs o x (killed x) p y there e);
 }
   where
+    alike : (p : ℕ) (y : Object) → Found objs o (killed x) p y → Alike objs p y
+    alike p y (found_changed e f) =
+        record {
+          x = x;
+          there = subst (λ z. slice_get objs z ≡ Some x) (sym e) there;
+          count = ap (λ v. length v.cells) f;
+          align = ap (λ v. v.align) f;
+        }
+    alike p y (found_before n e) = record { x = y; there = e; count = refl; align = refl }
+
     before_it : (p : ℕ) (y : Object) → IsLive (slice_set objs o (killed x)) p y → Now objs o (killed x) p y → IsLive objs p y
     before_it p y l (changed e f) = absurd (let never : false ≡ true = ap (λ v. v.alive) (sym f) ∙ l.1 in cc)
     before_it p y l (as_before n g) = g
@@ -83,8 +103,20 @@ killed_local-live x y e l = by (is_local x.kind) e
     by true f = absurd (let never : false ≡ true = ap (λ v. v.alive) f ∙ l in cc)
     by false f = f
 
+killed_local-same : (x y : Object) → killed_local x ≡ y → (length y.cells ≡ length x.cells) × (y.align ≡ x.align)
+killed_local-same x y e = by (is_local x.kind) e
+  where
+    by : (b : Bool) → cond b (killed x) x ≡ y → (length y.cells ≡ length x.cells) × (y.align ≡ x.align)
+    by true f = (ap (λ v. length v.cells) (sym f), ap (λ v. v.align) (sym f))
+    by false f = (ap (λ v. length v.cells) (sym f), ap (λ v. v.align) (sym f))
+
 pub scope_ends : (n : ℕ) (objs : List Object) → IsFewer objs (locals_killed_from n objs)
-scope_ends n objs = record { count = count n objs; was = λ o x l. (was n objs o x l.0 l.1, l.1); heap = λ o x l e. (heap n objs o x l.0 e, l.1) }
+scope_ends n objs = record {
+  count = count n objs;
+  was = λ o x l. (was n objs o x l.0 l.1, l.1);
+  heap = λ o x l e. (heap n objs o x l.0 e, l.1);
+  alike = alike n objs;
+}
   where
     count : (n : ℕ) (objs : List Object) → length (locals_killed_from n objs) ≡ length objs
     count n [] = refl
@@ -108,3 +140,16 @@ scope_ends n objs = record { count = count n objs; was = λ o x l. (was n objs o
     heap zero (x ∷ objs) (suc o) y e h = heap zero objs o y e h
     heap (suc n) (x ∷ objs) zero y e h = e
     heap (suc n) (x ∷ objs) (suc o) y e h = heap n objs o y e h
+
+    further : (x : Object) (objs : List Object) (o : ℕ) (y : Object) → Alike objs o y → Alike (x ∷ objs) (suc o) y
+    further x objs o y k = record { x = k.x; there = k.there; count = k.count; align = k.align }
+
+    alike : (n : ℕ) (objs : List Object) (o : ℕ) (y : Object) → slice_get (locals_killed_from n objs) o ≡ Some y → Alike objs o y
+    alike n [] o y e = cc
+    alike zero (x ∷ objs) zero y e =
+        let f : killed_local x ≡ y = cc in
+        let same = killed_local-same x y f in
+        record { x = x; there = refl; count = same.0; align = same.1 }
+    alike zero (x ∷ objs) (suc o) y e = further x objs o y (alike zero objs o y e)
+    alike (suc n) (x ∷ objs) zero y e = record { x = y; there = e; count = refl; align = refl }
+    alike (suc n) (x ∷ objs) (suc o) y e = further x objs o y (alike n objs o y e)

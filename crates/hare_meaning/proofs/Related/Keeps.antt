@@ -25,6 +25,7 @@ module _ (ground : Ground) where
     pub fill : w'.memory.fill ≡ w.memory.fill
     pub input : w'.input ≡ w.input
     pub output : w'.output ≡ w.output
+    pub arguments : w'.arguments ≡ w.arguments
 
   pub keeps_related : (ps : Places) (s : State) (w w' : World) (calls calls' j k : ℕ) (value value' : Values) →
       Related ground ps s w calls value → Keeps ps (objects_in s) w w' calls calls' value value' →
@@ -54,4 +55,5 @@ module _ (ground : Ground) where
     fixed_apart = r.fixed_apart;
     input = r.input ∙ sym h.input;
     output = r.output ∙ sym h.output;
+    arguments = h.arguments ∙ r.arguments;
   }

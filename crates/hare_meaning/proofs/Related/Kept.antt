@@ -8,7 +8,7 @@ use Rattle.hare_typed.specs.declared.cell.Cell.{Cell}
 use Rattle.hare_typed.specs.Objects.{Object, Local, Heap}
 use Rattle.hare_typed.specs.State.{State}
 use Rattle.hare_meaning.specs.Related.{Standing, At, Temp, Places, IsLive, Covered, Held, Match, IsNormal, BlockOf, Ground, Values, objects_in, Related}
-use Rattle.hare_meaning.proofs.Related.Cells.{Same, same, other, is_same, get_set_other, length_set, get_more, get_front, get_end, agrees_on, match_on, Now, changed, as_before, after_set, held_back}
+use Rattle.hare_meaning.proofs.Related.Cells.{Same, same, other, is_same, get_set_other, length_set, get_more, get_front, get_end, agrees_on, match_on, Found, found_changed, found_before, found_set, Now, changed, as_before, after_set, IsPlaced, held_back}
 use Rattle.hare_meaning.proofs.Related.Store.{with_made}
 use Rattle.hare_meaning.proofs.Related.New.{Newer, newest, older, after_more, front_more}
 
@@ -28,7 +28,7 @@ module _ (ground : Ground) where
     standing = r.standing;
     mapped = λ p a h. r.mapped p a (back p a h);
     apart = λ p q a g h. r.apart p q a (back p a g) (back q a h);
-    placed = λ p a y l g. r.placed p a y (mem p a y g (after_set (objects_in s) o x x' p y live.0 l)) g;
+    placed = λ p a y e g. placed_at p a y g (found_set (objects_in s) o x x' p y live.0 e);
     cells = λ p a i y d l g e. r.cells p a i y d (mem p a y g (after_set (objects_in s) o x x' p y live.0 l)) g e;
     held_cells = λ p d u z zs y l g. held p d u z zs y g (after_set (objects_in s) o x x' p y live.0 l);
     held_apart = λ p q d u f g. r.held_apart p q d u (held_back ps (objects_in s) o x x' live p d u f) (held_back ps (objects_in s) o x x' live q d u g);
@@ -44,6 +44,7 @@ module _ (ground : Ground) where
     fixed_apart = λ i l p f e h g. r.fixed_apart i l p f e h (back p (f.0 + l) g);
     input = r.input;
     output = r.output;
+    arguments = r.arguments;
   }
     where
       x' : Object
@@ -53,6 +54,10 @@ module _ (ground : Ground) where
       mem : (p a : ℕ) (y : Object) → slice_get ps p ≡ Some (At a) → Now (objects_in s) o x' p y → IsLive (objects_in s) p y
       mem p a y g (changed e f) = absurd (let h : slice_get ps o ≡ Some (At a) = ap (slice_get ps) (sym e) ∙ g in cc)
       mem p a y g (as_before m l) = l
+
+      placed_at : (p a : ℕ) (y : Object) → slice_get ps p ≡ Some (At a) → Found (objects_in s) o x' p y → IsPlaced a y
+      placed_at p a y g (found_changed e f) = absurd (let h : slice_get ps o ≡ Some (At a) = ap (slice_get ps) (sym e) ∙ g in cc)
+      placed_at p a y g (found_before m e) = r.placed p a y e g
 
       back : (p a : ℕ) → Covered ps (slice_set (objects_in s) o x') p a → Covered ps (objects_in s) p a
       back p a g = record { x = g.x; from = g.from; k = g.k; live = mem p g.from g.x g.at (after_set (objects_in s) o x x' p g.x live.0 g.live); at = g.at; within = g.within; is = g.is }
@@ -100,13 +105,13 @@ module _ (ground : Ground) where
     standing = λ i p e. front_more ps new p.0 (At p.1) (r.standing i p e);
     mapped = λ o a h. r.mapped o a (back o a h);
     apart = λ o p a g h. r.apart o p a (back o a g) (back p a h);
-    placed = λ o a y l at. r.placed o a y (mem o a y at (after_more (objects_in s) x o y l)) (place_old o (At a) y (mem o a y at (after_more (objects_in s) x o y l)) at);
-    cells = λ o a i y d l at g. let l' = mem o a y at (after_more (objects_in s) x o y l) in agrees_on ps ps' d (byte_at w.memory (a + i)) (front_more ps new) (r.cells o a i y d l' (place_old o (At a) y l' at) g);
+    placed = λ o a y e at. placed_at o a y (get_more (objects_in s) x o y e) at;
+    cells = λ o a i y d l at g. let l' = mem o a y at (after_more (objects_in s) x o y l) in agrees_on ps ps' d (byte_at w.memory (a + i)) (front_more ps new) (r.cells o a i y d l' (place_old o (At a) y l'.0 at) g);
     held_cells = λ o d u z zs y l at. held o d u z zs y (after_more (objects_in s) x o y l) at;
     held_apart = λ o p d u f g. apart o p d u f g (after_more (objects_in s) x o f.x f.live) (after_more (objects_in s) x p g.x g.live);
     heap_next = r.heap_next;
     heap_above = r.heap_above;
-    heap_blocks = λ o a y l e at. let l' = mem o a y at (after_more (objects_in s) x o y l) in r.heap_blocks o a y l' e (place_old o (At a) y l' at);
+    heap_blocks = λ o a y l e at. let l' = mem o a y at (after_more (objects_in s) x o y l) in r.heap_blocks o a y l' e (place_old o (At a) y l'.0 at);
     heap_objects = λ a z e. let g = r.heap_objects a z e in record { o = g.o; x = g.x; live = (get_front (objects_in s) (x ∷ []) g.o g.x g.live.0, g.live.1); kind = g.kind; at = front_more ps new g.o (At a) g.at; is = g.is };
     heap_places = λ o y l e. heap_at o y e (after_more (objects_in s) x o y l);
     heap_apart = r.heap_apart;
@@ -116,6 +121,7 @@ module _ (ground : Ground) where
     fixed_apart = λ i l o f e h g. r.fixed_apart i l o f e h (back o (f.0 + l) g);
     input = r.input;
     output = r.output;
+    arguments = r.arguments;
   }
     where
       new : Standing
@@ -124,12 +130,12 @@ module _ (ground : Ground) where
       ps' : List Standing
       ps' = ps ++ new ∷ []
 
-      place_old : (o : ℕ) (p : Standing) (y : Object) → IsLive (objects_in s) o y → slice_get ps' o ≡ Some p → slice_get ps o ≡ Some p
-      place_old o p y l e = pick (get_more ps new o p e)
+      place_old : (o : ℕ) (p : Standing) (y : Object) → slice_get (objects_in s) o ≡ Some y → slice_get ps' o ≡ Some p → slice_get ps o ≡ Some p
+      place_old o p y live e = pick (get_more ps new o p e)
         where
           pick : (slice_get ps o ≡ Some p) ⊎ ((o ≡ length ps) × (p ≡ new)) → slice_get ps o ≡ Some p
           pick (inl h) = h
-          pick (inr h) = absurd (omega (arith, h.0, r.all, slice_get_within (objects_in s) o y l.0))
+          pick (inr h) = absurd (omega (arith, h.0, r.all, slice_get_within (objects_in s) o y live))
 
       place_new : (o : ℕ) (p : Standing) → o ≡ length (objects_in s) → slice_get ps' o ≡ Some p → p ≡ Temp c t n sign
       place_new o p e g = let h : slice_get ps' o ≡ Some new = rw (e ∙ sym r.all) (get_end ps new) in cc
@@ -138,8 +144,13 @@ module _ (ground : Ground) where
       mem o a y at (newest e f) = absurd (let h = place_new o (At a) e at in cc)
       mem o a y at (older l) = l
 
+      placed_at : (o a : ℕ) (y : Object) → (slice_get (objects_in s) o ≡ Some y) ⊎ ((o ≡ length (objects_in s)) × (y ≡ x)) →
+          slice_get ps' o ≡ Some (At a) → IsPlaced a y
+      placed_at o a y (inl e) at = r.placed o a y e (place_old o (At a) y e at)
+      placed_at o a y (inr e) at = absurd (let h = place_new o (At a) e.0 at in cc)
+
       back : (o a : ℕ) → Covered ps' (objects_in s ++ x ∷ []) o a → Covered ps (objects_in s) o a
-      back o a g = let l = mem o g.from g.x g.at (after_more (objects_in s) x o g.x g.live) in record { x = g.x; from = g.from; k = g.k; live = l; at = place_old o (At g.from) g.x l g.at; within = g.within; is = g.is }
+      back o a g = let l = mem o g.from g.x g.at (after_more (objects_in s) x o g.x g.live) in record { x = g.x; from = g.from; k = g.k; live = l; at = place_old o (At g.from) g.x l.0 g.at; within = g.within; is = g.is }
 
       held : (o d u z : ℕ) (zs : Bool) (y : Object) → Newer (objects_in s) x o y → slice_get ps' o ≡ Some (Temp d u z zs) →
           Match ps' y.cells (le_bytes z (value d u)) × IsNormal z zs (value d u) × (d ≤ calls)
@@ -151,7 +162,7 @@ module _ (ground : Ground) where
           let es : zs ≡ sign = cc in
           rw (ed, eu, ez, es, f) (match_on ps ps' x.cells (le_bytes n (value c t)) (front_more ps new) ma, nv, cc_le)
       held o d u z zs y (older l) at =
-          let h = r.held_cells o d u z zs y l (place_old o (Temp d u z zs) y l at) in
+          let h = r.held_cells o d u z zs y l (place_old o (Temp d u z zs) y l.0 at) in
           (match_on ps ps' y.cells (le_bytes z (value d u)) (front_more ps new) h.0, h.1, h.2)
 
       heap_at : (o : ℕ) (y : Object) → y.kind ≡ Heap → Newer (objects_in s) x o y → (a : ℕ) × (slice_get ps' o ≡ Some (At a))
@@ -160,7 +171,7 @@ module _ (ground : Ground) where
 
       was : (o d u : ℕ) → Held ps' (objects_in s ++ x ∷ []) o d u → (y : Object) → IsLive (objects_in s) o y → (z : ℕ) (zs : Bool) →
           slice_get ps' o ≡ Some (Temp d u z zs) → Held ps (objects_in s) o d u
-      was o d u h y l z zs at = record { x = y; width = z; signed = zs; live = l; at = place_old o (Temp d u z zs) y l at }
+      was o d u h y l z zs at = record { x = y; width = z; signed = zs; live = l; at = place_old o (Temp d u z zs) y l.0 at }
 
       newly : (o p d u z : ℕ) (zs : Bool) → o ≡ length (objects_in s) → slice_get ps' o ≡ Some (Temp d u z zs) →
           Held ps (objects_in s) p d u → ⊥

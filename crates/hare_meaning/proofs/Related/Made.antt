@@ -12,7 +12,7 @@ use Rattle.hare_typed.specs.declared.cell.Cell.{Cell}
 use Rattle.hare_typed.specs.Objects.{Object, Heap, extent_of}
 use Rattle.hare_typed.specs.State.{State}
 use Rattle.hare_meaning.specs.Related.{Standing, At, Temp, Places, IsLive, Covered, Held, Agrees, Match, IsNormal, BytesAre, BlockOf, Ground, Values, objects_in, Related}
-use Rattle.hare_meaning.proofs.Related.Cells.{Same, same, other, is_same, Inside, inside, before, behind, inside_of, get_more, get_front, get_end, agrees_on, match_on}
+use Rattle.hare_meaning.proofs.Related.Cells.{Same, same, other, is_same, Inside, inside, before, behind, inside_of, get_more, get_front, get_end, agrees_on, match_on, IsPlaced}
 use Rattle.hare_meaning.proofs.Related.New.{Newer, newest, older, after_more, front_more}
 use Rattle.hare_meaning.proofs.Related.Blocks.{with_heap}
 
@@ -44,7 +44,7 @@ module _ (ground : Ground) where
     pub alive : x.alive ≡ true
     pub heap : x.kind ≡ Heap
     pub aligned : w.heap.next % x.align ≡ 0
-    pub ends : w.heap.next + extent_of x ≤ 2 ^ 64
+    pub ends : w.heap.next + extent_of x < 2 ^ 64
     pub holds : (i : ℕ) (c : Cell) → slice_get x.cells i ≡ Some c → Agrees ps c (byte_at w.memory (w.heap.next + i))
 
   pub made_related : (ps : Places) (s : State) (w : World) (calls : ℕ) (value : Values) (x : Object) → Related ground ps s w calls value →
@@ -58,7 +58,7 @@ module _ (ground : Ground) where
     standing = λ i p e. front_more ps (At b) p.0 (At p.1) (r.standing i p e);
     mapped = λ o a c. mapped_at o a (which o a c);
     apart = λ o p a c d. apart_at o p a (which o a c) (which p a d);
-    placed = λ o a y l at. placed_at o a y (after_more (objects_in s) x o y l) at;
+    placed = λ o a y e at. placed_at o a y (get_more (objects_in s) x o y e) at;
     cells = λ o a i y c l at g. agrees_on ps ps' c (byte_at w.memory (a + i)) (front_more ps (At b)) (cells_at o a i y c (after_more (objects_in s) x o y l) at g);
     held_cells = λ o c t n signed y l at. held_at o c t n signed y (after_more (objects_in s) x o y l) at;
     held_apart = λ o p c t f g. r.held_apart o p c t (held_old o c t f) (held_old p c t g);
@@ -74,6 +74,7 @@ module _ (ground : Ground) where
     fixed_apart = λ i l o f e g c. text i l o f e g (which o (f.0 + l) c);
     input = r.input;
     output = r.output;
+    arguments = r.arguments;
   }
     where
       b : ℕ
@@ -88,12 +89,12 @@ module _ (ground : Ground) where
       up : n ≤ round_up n 16
       up = round_up-reaches n
 
-      place_old : (o : ℕ) (p : Standing) (y : Object) → IsLive (objects_in s) o y → slice_get ps' o ≡ Some p → slice_get ps o ≡ Some p
-      place_old o p y l e = pick (get_more ps (At b) o p e)
+      place_old : (o : ℕ) (p : Standing) (y : Object) → slice_get (objects_in s) o ≡ Some y → slice_get ps' o ≡ Some p → slice_get ps o ≡ Some p
+      place_old o p y live e = pick (get_more ps (At b) o p e)
         where
           pick : (slice_get ps o ≡ Some p) ⊎ ((o ≡ length ps) × (p ≡ At b)) → slice_get ps o ≡ Some p
           pick (inl g) = g
-          pick (inr g) = absurd (omega (arith, g.0, r.all, slice_get_within (objects_in s) o y l.0))
+          pick (inr g) = absurd (omega (arith, g.0, r.all, slice_get_within (objects_in s) o y live))
 
       place_new : (o : ℕ) (p : Standing) → o ≡ length (objects_in s) → slice_get ps' o ≡ Some p → p ≡ At b
       place_new o p e g = let z : slice_get ps' o ≡ Some (At b) = rw (e ∙ sym r.all) (get_end ps (At b)) in cc
@@ -105,7 +106,7 @@ module _ (ground : Ground) where
           pick (newest e f) =
               let z : c.from ≡ b = let g = place_new o (At c.from) e c.at in cc in
               new_one e c.k (subst (λ y. c.k < extent_of y) f c.within) (c.is ∙ ap (λ y. y + c.k) z)
-          pick (older l) = old_one record { x = c.x; from = c.from; k = c.k; live = l; at = place_old o (At c.from) c.x l c.at; within = c.within; is = c.is }
+          pick (older l) = old_one record { x = c.x; from = c.from; k = c.k; live = l; at = place_old o (At c.from) c.x l.0 c.at; within = c.within; is = c.is }
 
       -- what was covered lies below the block
       below : (o a : ℕ) → Covered ps (objects_in s) o a → a < b
@@ -127,23 +128,23 @@ module _ (ground : Ground) where
       starts : 0 < b
       starts = let e = r.heap_next in omega (arith, e)
 
-      placed_at : (o a : ℕ) (y : Object) → Newer (objects_in s) x o y → slice_get ps' o ≡ Some (At a) →
-          (0 < a) × (a % y.align ≡ 0) × (a + extent_of y ≤ 2 ^ 64)
-      placed_at o a y (newest e f) at = let z : a ≡ b = let g = place_new o (At a) e at in cc in rw (z, f) (starts, h.aligned, h.ends)
-      placed_at o a y (older l) at = r.placed o a y l (place_old o (At a) y l at)
+      placed_at : (o a : ℕ) (y : Object) → (slice_get (objects_in s) o ≡ Some y) ⊎ ((o ≡ length (objects_in s)) × (y ≡ x)) →
+          slice_get ps' o ≡ Some (At a) → IsPlaced a y
+      placed_at o a y (inl e) at = r.placed o a y e (place_old o (At a) y e at)
+      placed_at o a y (inr e) at = let z : a ≡ b = let g = place_new o (At a) e.0 at in cc in rw (z, e.1) (starts, h.aligned, h.ends)
 
       cells_at : (o a i : ℕ) (y : Object) (c : Cell) → Newer (objects_in s) x o y → slice_get ps' o ≡ Some (At a) →
           slice_get y.cells i ≡ Some c → Agrees ps c (byte_at w.memory (a + i))
       cells_at o a i y c (newest e f) at g =
           let z : a ≡ b = let q = place_new o (At a) e at in cc in
           rw z (h.holds i c (ap (λ v. slice_get v.cells i) (sym f) ∙ g))
-      cells_at o a i y c (older l) at g = r.cells o a i y c l (place_old o (At a) y l at) g
+      cells_at o a i y c (older l) at g = r.cells o a i y c l (place_old o (At a) y l.0 at) g
 
       held_at : (o c t k : ℕ) (signed : Bool) (y : Object) → Newer (objects_in s) x o y → slice_get ps' o ≡ Some (Temp c t k signed) →
           Match ps' y.cells (le_bytes k (value c t)) × IsNormal k signed (value c t) × (c ≤ calls)
       held_at o c t k signed y (newest e f) at = absurd (let g = place_new o (Temp c t k signed) e at in cc)
       held_at o c t k signed y (older l) at =
-          let g = r.held_cells o c t k signed y l (place_old o (Temp c t k signed) y l at) in
+          let g = r.held_cells o c t k signed y l (place_old o (Temp c t k signed) y l.0 at) in
           (match_on ps ps' y.cells (le_bytes k (value c t)) (front_more ps (At b)) g.0, g.1, g.2)
 
       held_old : (o c t : ℕ) → Held ps' (objects_in s ++ x ∷ []) o c t → Held ps (objects_in s) o c t
@@ -151,7 +152,7 @@ module _ (ground : Ground) where
         where
           pick : Newer (objects_in s) x o g.x → Held ps (objects_in s) o c t
           pick (newest e f) = absurd (let z = place_new o (Temp c t g.width g.signed) e g.at in cc)
-          pick (older l) = record { x = g.x; width = g.width; signed = g.signed; live = l; at = place_old o (Temp c t g.width g.signed) g.x l g.at }
+          pick (older l) = record { x = g.x; width = g.width; signed = g.signed; live = l; at = place_old o (Temp c t g.width g.signed) g.x l.0 g.at }
 
       above : (a : ℕ) → Inside b n a → is_mapped (map_range w.memory b n) a ≡ true → a < b + round_up n 16
       above a (inside k l f) e = omega (arith, up)
@@ -165,7 +166,7 @@ module _ (ground : Ground) where
           block_size ((b, n) ∷ w.heap.blocks) a ≡ Some (extent_of y)
       blocks o a y e (newest g f) at = let z : a ≡ b = let q = place_new o (At a) g at in cc in rw (z, f) (block_size-first b n w.heap.blocks)
       blocks o a y e (older l) at =
-          let was = place_old o (At a) y l at in
+          let was = place_old o (At a) y l.0 at in
           let low = first o a y l was in
           let apart : a ≢ b = λ z. absurd (omega (arith, z, low)) in
           block_size-behind b n a w.heap.blocks apart ∙ r.heap_blocks o a y l e was

@@ -10,7 +10,7 @@ use Rattle.hare_typed.specs.declared.cell.Cell.{Cell}
 use Rattle.hare_typed.specs.Objects.{Object, Heap, extent_of}
 use Rattle.hare_typed.specs.State.{State}
 use Rattle.hare_meaning.specs.Related.{Standing, At, Temp, Places, IsLive, Covered, Agrees, Match, BytesAre, Ground, Values, objects_in, Related}
-use Rattle.hare_meaning.proofs.Related.Cells.{Inside, inside, before, behind, inside_of, match_get}
+use Rattle.hare_meaning.proofs.Related.Cells.{Inside, inside, before, behind, inside_of, match_get, IsPlaced}
 
 -- an object stands at an address, which is at least so much
 pub record StandsAt (ps : Places) (m : Memory) (low a : ℕ) (x : Object) : Type 0 where
@@ -142,6 +142,7 @@ module _ (ground : Ground) where
     pub fill : w.memory.fill ≡ ground.fill
     pub input : s.input ≡ w.input
     pub output : s.output ≡ w.output
+    pub arguments : w.arguments ≡ ground.arguments
 
   pub start_related : (ats : List ℕ) (s : State) (w : World) (calls : ℕ) (value : Values) → Begins ats s w →
       Related ground (map At ats) s w calls value
@@ -151,7 +152,7 @@ module _ (ground : Ground) where
     standing = λ i p e. map_at ats p.0 p.1 (h.standing i p e);
     mapped = λ o a c. mapped_at o a c (at_map ats o (At c.from) c.at);
     apart = λ o p a c d. apart_at o p a c d (at_map ats o (At c.from) c.at) (at_map ats p (At d.from) d.at);
-    placed = λ o a x l at. placed_at o a x l (at_map ats o (At a) at);
+    placed = λ o a x e at. placed_at o a x e (at_map ats o (At a) at);
     cells = λ o a k x c l at e. cell_at o a k x c l e (at_map ats o (At a) at);
     held_cells = λ o c t n signed x l at. absurd (no_temporary o c t n signed at);
     held_apart = λ o p c t f g. absurd (no_temporary o c t f.width f.signed f.at);
@@ -167,6 +168,7 @@ module _ (ground : Ground) where
     fill = h.fill;
     input = h.input;
     output = h.output;
+    arguments = h.arguments;
   }
     where
       ps : Places
@@ -176,8 +178,8 @@ module _ (ground : Ground) where
       length_places [] = refl
       length_places (b ∷ bs) = ap suc (length_places bs)
 
-      stands : (o a : ℕ) (x : Object) → IsLive (objects_in s) o x → slice_get ats o ≡ Some a → StandsAt ps w.memory 1 a x
-      stands o a x l e = laid_at ps w.memory 1 ats (objects_in s) o a x h.laid e l.0
+      stands : (o a : ℕ) (x : Object) → slice_get (objects_in s) o ≡ Some x → slice_get ats o ≡ Some a → StandsAt ps w.memory 1 a x
+      stands o a x there e = laid_at ps w.memory 1 ats (objects_in s) o a x h.laid e there
 
       address_of : (o a : ℕ) → (b : ℕ) × (slice_get ats o ≡ Some b) × (At a ≡ At b) → slice_get ats o ≡ Some a
       address_of o a b = let e : a ≡ b.0 = let f = b.2 in cc in rw e b.1
@@ -185,7 +187,7 @@ module _ (ground : Ground) where
       mapped_at : (o a : ℕ) (c : Covered ps (objects_in s) o a) → (b : ℕ) × (slice_get ats o ≡ Some b) × (At c.from ≡ At b) →
           is_mapped w.memory a ≡ true
       mapped_at o a c b =
-          let g = stands o c.from c.x c.live (address_of o c.from b) in
+          let g = stands o c.from c.x c.live.0 (address_of o c.from b) in
           let l = c.within in
           rw c.is (all_mapped-each w.memory c.from (extent_of c.x) (c.from + c.k) g.mapped (omega arith) (omega (arith, l)))
 
@@ -211,23 +213,23 @@ module _ (ground : Ground) where
           pick (inr l) (inr r) = omega arith
 
       -- the last byte of an object is mapped, and so low
-      ends : (o a : ℕ) (x : Object) → StandsAt ps w.memory 1 a x → a + extent_of x ≤ 2 ^ 64
+      ends : (o a : ℕ) (x : Object) → StandsAt ps w.memory 1 a x → a + extent_of x < 2 ^ 64
       ends o a x g =
           let last = all_mapped-each w.memory a (extent_of x) (a + (extent_of x - 1)) g.mapped (omega arith) (omega arith) in
           let low = mapped_below heap_start w.memory.mappings (a + (extent_of x - 1)) h.below last in
           omega (arith, low)
 
-      placed_at : (o a : ℕ) (x : Object) → IsLive (objects_in s) o x → (b : ℕ) × (slice_get ats o ≡ Some b) × (At a ≡ At b) →
-          (0 < a) × (a % x.align ≡ 0) × (a + extent_of x ≤ 2 ^ 64)
-      placed_at o a x l b =
-          let g = stands o a x l (address_of o a b) in
+      placed_at : (o a : ℕ) (x : Object) → slice_get (objects_in s) o ≡ Some x →
+          (b : ℕ) × (slice_get ats o ≡ Some b) × (At a ≡ At b) → IsPlaced a x
+      placed_at o a x there b =
+          let g = stands o a x there (address_of o a b) in
           let low = g.at_least in
           (omega (arith, low), g.aligned, ends o a x g)
 
       cell_at : (o a k : ℕ) (x : Object) (c : Cell) → IsLive (objects_in s) o x → slice_get x.cells k ≡ Some c →
           (b : ℕ) × (slice_get ats o ≡ Some b) × (At a ≡ At b) → Agrees ps c (byte_at w.memory (a + k))
       cell_at o a k x c l e b =
-          let g = stands o a x l (address_of o a b) in
+          let g = stands o a x l.0 (address_of o a b) in
           let m = match_get ps x.cells (bytes_at w.memory a (length x.cells)) k c g.cells e in
           let f = slice_get-bytes_at w.memory a (length x.cells) k (slice_get_within x.cells k c e) in
           let v : m.0 ≡ byte_at w.memory (a + k) = let u = m.1 in cc in
@@ -238,7 +240,7 @@ module _ (ground : Ground) where
 
       no_block : (o a : ℕ) (x : Object) → IsLive (objects_in s) o x → x.kind ≡ Heap →
           (b : ℕ) × (slice_get ats o ≡ Some b) × (At a ≡ At b) → ⊥
-      no_block o a x l e b = (stands o a x l (address_of o a b)).no_block e
+      no_block o a x l e b = (stands o a x l.0 (address_of o a b)).no_block e
 
       -- an object has an address
       no_heap : (o : ℕ) (x : Object) → IsLive (objects_in s) o x → x.kind ≡ Heap → ⊥
@@ -248,7 +250,7 @@ module _ (ground : Ground) where
           lengths = laid_lengths ps w.memory 1 ats (objects_in s) h.laid
 
           pick : (b : Option ℕ) → slice_get ats o ≡ b → ⊥
-          pick (Some a) f = (stands o a x l f).no_block e
+          pick (Some a) f = (stands o a x l.0 f).no_block e
           pick None f =
               let low = slice_get_within (objects_in s) o x l.0 in
               let high = get_none ats o f in

@@ -1,5 +1,5 @@
 -- A store into a live object, and a load from one.
-use Rattle.std.proofs.Common.{◌≡◌, ℕ, ◌+◌, ◌-◌, ◌%◌, ◌^◌, ◌<◌, ◌≤◌, List, length, Some, ap, sym, ◌∙◌, subst, arith, inl, inr, Bool, true}
+use Rattle.std.proofs.Common.{◌≡◌, ℕ, ◌+◌, ◌-◌, ◌<◌, ◌≤◌, List, length, Some, refl, ap, sym, ◌∙◌, subst, arith, inl, inr, Bool, true}
 use Rattle.std.specs.Prelude.{slice_get, slice_set}
 use Rattle.std.proofs.lemmas.Option.{slice_get_within}
 use Rattle.hx_base.specs.Memory.{le_bytes, byte_at, is_mapped, all_mapped, bytes_at, write}
@@ -10,7 +10,7 @@ use Rattle.hare_typed.specs.Cells.{with_cells, cells_within}
 use Rattle.hare_typed.specs.Objects.{Object, Heap, extent_of}
 use Rattle.hare_typed.specs.State.{State}
 use Rattle.hare_meaning.specs.Related.{At, Temp, Places, IsLive, Covered, Agrees, Match, IsNormal, BytesAre, BlockOf, Ground, Values, objects_in, Related}
-use Rattle.hare_meaning.proofs.Related.Cells.{Same, same, other, is_same, Inside, inside, before, behind, inside_of, get_set, get_set_other, length_set, with_cells-length, with_cells-before, with_cells-behind, with_cells-at, cells_within-at, length-cells_within, match_length, match_get, match_bytes, Now, changed, as_before, after_set, at_is, live_covers, extent-same, covered_back, held_back}
+use Rattle.hare_meaning.proofs.Related.Cells.{Same, same, other, is_same, Inside, inside, before, behind, inside_of, get_set, get_set_other, length_set, with_cells-length, with_cells-before, with_cells-behind, with_cells-at, cells_within-at, length-cells_within, match_length, match_get, match_bytes, Now, changed, as_before, after_set, at_is, live_covers, extent-same, placed_set, covered_back, held_back}
 
 -- the state with other objects
 abbrev pub with_made : State → List Object → State
@@ -29,7 +29,7 @@ module _ (ground : Ground) where
     standing = r.standing;
     mapped = λ p q c. r.mapped p q (back p q c);
     apart = λ p q e c f. r.apart p q e (back p e c) (back q e f);
-    placed = λ p q y l g. placed p q y g (after_set (objects_in s) o x x' p y live.0 l);
+    placed = placed_set ps (objects_in s) o x x' live.0 (with_cells-length x.cells d cs) refl r.placed;
     cells = λ p q i y c l g e. cells p q i y c g e (after_set (objects_in s) o x x' p y live.0 l);
     held_cells = λ p c t n signed y l g. held p c t n signed y g (after_set (objects_in s) o x x' p y live.0 l);
     held_apart = λ p q c t f g. r.held_apart p q c t (held_back ps (objects_in s) o x x' live p c t f) (held_back ps (objects_in s) o x x' live q c t g);
@@ -45,6 +45,7 @@ module _ (ground : Ground) where
     fixed_apart = λ i l p f e h c. r.fixed_apart i l p f e h (back p (f.0 + l) c);
     input = r.input;
     output = r.output;
+    arguments = r.arguments;
   }
     where
       x' : Object
@@ -70,15 +71,6 @@ module _ (ground : Ground) where
           pick (inside i l e) = absurd (n (subst (λ y. Covered ps (objects_in s) o y) (sym e) (written i l)))
           pick (before l) = byte_at-write_outside w.memory (a + d) bs z (inl l)
           pick (behind l) = byte_at-write_outside w.memory (a + d) bs z (inr l)
-
-      placed : (p q : ℕ) (y : Object) → slice_get ps p ≡ Some (At q) → Now (objects_in s) o x' p y →
-          (0 < q) × (q % y.align ≡ 0) × (q + extent_of y ≤ 2 ^ 64)
-      placed p q y g (changed e f) =
-          let h = r.placed p q x (subst (λ z. IsLive (objects_in s) z x) (sym e) live) g in
-          let al : y.align ≡ x.align = ap (λ z. z.align) f in
-          let ex : extent_of y ≡ extent_of x = ap extent_of f ∙ same_extent in
-          (h.0, rw al h.1, rw ex h.2)
-      placed p q y g (as_before n l) = r.placed p q y l g
 
       own : (i : ℕ) (c : Cell) → slice_get (with_cells d cs x.cells) i ≡ Some c → Inside d (length cs) i →
           Agrees ps c (byte_at (write w.memory (a + d) bs) (a + i))

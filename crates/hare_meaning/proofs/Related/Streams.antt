@@ -29,6 +29,7 @@ module _ (ground : Ground) where
     fill = r.fill;
     input = r.input;
     output = ap (λ z. z ++ bs) r.output;
+    arguments = r.arguments;
   }
 
   pub taken_related : (ps : Places) (s : State) (w : World) (calls : ℕ) (value : Values) (n : ℕ) → Related ground ps s w calls value →
@@ -55,4 +56,5 @@ module _ (ground : Ground) where
     fill = r.fill;
     input = ap (λ z. drop n z) r.input;
     output = r.output;
+    arguments = r.arguments;
   }
