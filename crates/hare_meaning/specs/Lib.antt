@@ -13,3 +13,9 @@ pub mod Forms
 pub mod Run
 pub mod Laws
 pub mod Related
+pub mod Around
+pub mod SettledTypes
+pub mod SettledValues
+pub mod SettledParts
+pub mod SettledControl
+pub mod Settled

@@ -1,0 +1,195 @@
+-- Rows of settled trees: bodies of each kind that are settled, and nodes that are not.
+use Rattle.std.proofs.Common.{ℕ, pos, List, [], ◌∷◌, ◌++◌, codes, rules}
+use Rattle.hare_tree.specs.declared.kind.Kind.TheVariants as kind
+use Rattle.hare_typed.specs.Typed.{TypedNode}
+use Rattle.hare_typed.specs.Cells.{byte_cells}
+use Rattle.hare_meaning.specs.Settled.{IsSettledFunction}
+use Rattle.hare_meaning.proofs.Samples.{void, never, bool, u8, int, size, pointer, nullable, slice, three_ints, slice_pointer, pair, pair_pointer, tuple, int_or_bool, int_or_failure, void_or_failure, new_int, new_ints}
+use Rattle.hare_types.specs.declared.coercion.Ty.TheVariants as kept
+use Rattle.hare_meaning.proofs.Trees.{of_type, known, labelled, sure, node, to, absent, num, n8, yes, local, global, one, less, equal, index, part, field, type_node, array, set, set_by, bind, block, giving, labelled, later, when, either, loop, each, element, element_address, leave, again, hand, give, call, puts, function, program, plus, alloc, alloc_for, append, append_all, delete, free}
+
+-- the function is settled that has this body, this parameter and this result
+abbrev Settles : (parameter result : ℕ) → TypedNode → Type 0
+Settles p r b = IsSettledFunction (program (function (p ∷ []) r b ∷ [])) 0
+
+-- the same of a body of `main`, whose strings stand in it
+abbrev SettlesMain : TypedNode → Type 0
+SettlesMain b = IsSettledFunction (program (function [] void b ∷ [])) 0
+
+-- the same of `main` with other declarations behind it
+abbrev SettlesBefore : TypedNode → List TypedNode → Type 0
+SettlesBefore b ds = IsSettledFunction (program (function [] void b ∷ ds)) 0
+
+-- ---- values, paths and operators
+
+nothing : SettlesMain (block [])
+nothing = search rules
+
+a_sum : Settles u8 u8 (giving u8 (bind (local 0 u8) ∷ hand (plus (local 1 u8) (n8 7)) ∷ []))
+a_sum = search rules
+
+a_text : SettlesMain (block (puts 0 (codes "a") ∷ []))
+a_text = search rules
+
+a_comparison : Settles u8 bool (giving bool (hand (less (codes "<") (local 0 u8) (n8 7)) ∷ []))
+a_comparison = search rules
+
+an_equality : Settles nullable bool (giving bool (hand (equal (local 0 nullable) (to 6 nullable (of_type kind.Null [] 0 kept.Null []))) ∷ []))
+an_equality = search rules
+
+a_cast : Settles u8 int (giving int (hand (node kind.Cast [] 0 int (local 0 u8 ∷ type_node int ∷ [])) ∷ []))
+a_cast = search rules
+
+-- a whole number without a suffix, at a site of type u8
+a_number : Settles u8 u8 (to 3 u8 (of_type kind.Number [] 200 (kept.Iconst (pos 200)) []))
+a_number = search rules
+
+abbrev variable : TypedNode
+variable = node kind.GlobalLet [] 0 void (absent ∷ absent ∷ absent ∷ known (byte_cells (5 ∷ [])) (n8 5) ∷ [])
+
+a_global : SettlesBefore (block (set (global 1 u8) (n8 6) ∷ [])) (variable ∷ [])
+a_global = search rules
+
+a_def : SettlesBefore (block (bind (known (byte_cells (9 ∷ [])) (global 1 u8)) ∷ [])) (absent ∷ [])
+a_def = search rules
+
+-- ---- values with parts
+
+an_array : SettlesMain (block (bind (array three_ints (num int 1 ∷ num int 2 ∷ num int 3 ∷ [])) ∷ []))
+an_array = search rules
+
+a_pair : SettlesMain (block (bind (node kind.Tuple [] 0 tuple (n8 1 ∷ num int 2 ∷ absent ∷ [])) ∷ []))
+a_pair = search rules
+
+-- ---- places
+
+an_element : Settles slice int (giving int (hand (index int (local 0 slice) (num size 0)) ∷ []))
+an_element = search rules
+
+behind_a_pointer : Settles slice_pointer int (giving int (hand (index int (local 0 slice_pointer) (num size 0)) ∷ []))
+behind_a_pointer = search rules
+
+a_part : Settles slice void (block (bind (part slice (local 0 slice) absent (num size 2)) ∷ []))
+a_part = search rules
+
+a_field : Settles pair_pointer int (giving int (hand (field int (codes "b") (local 0 pair_pointer)) ∷ []))
+a_field = search rules
+
+an_address : Settles int void (block (bind (one kind.Addr pointer (local 0 int)) ∷ set (one kind.Deref int (local 1 pointer)) (num int 3) ∷ []))
+an_address = search rules
+
+by_an_operator : Settles u8 void (block (set_by (codes "<<=") (local 0 u8) (num size 3) ∷ set_by (codes "+=") (local 0 u8) (n8 3) ∷ []))
+by_an_operator = search rules
+
+-- ---- members of unions
+
+a_member : Settles u8 int_or_bool (giving int_or_bool (hand (to 9 int_or_bool (num int 1)) ∷ []))
+a_member = search rules
+
+as_a_member : Settles int_or_bool int (giving int (hand (node kind.As [] 0 int (local 0 int_or_bool ∷ type_node int ∷ [])) ∷ []))
+as_a_member = search rules
+
+is_a_pointer : Settles nullable bool (giving bool (hand (node kind.Is [] 0 bool (local 0 nullable ∷ type_node pointer ∷ [])) ∷ []))
+is_a_pointer = search rules
+
+-- ---- the heap
+
+one_object : Settles int void (block (bind (alloc new_int (local 0 int)) ∷ bind (alloc_for new_ints (array three_ints (num int 1 ∷ num int 2
+    ∷ num int 3 ∷ [])) 8) ∷ []))
+one_object = search rules
+
+and_given_back : Settles slice void (block (bind (append (local 0 slice) (num int 1)) ∷ bind (append_all (local 0 slice) (local 0 slice))
+    ∷ delete (index int (local 0 slice) (num size 0)) ∷ free (local 0 slice) ∷ []))
+and_given_back = search rules
+
+-- ---- control
+
+branches : Settles bool u8 (giving u8 (hand (either u8 (local 0 bool) (n8 1) (n8 2)) ∷ when (local 0 bool) (block []) absent ∷ []))
+branches = search rules
+
+a_loop : Settles bool void (block (loop (bind (n8 1)) (less (codes "<") (local 1 u8) (n8 9)) (set (local 1 u8) (n8 9)) (block (leave ∷ again ∷ []))
+    ∷ []))
+a_loop = search rules
+
+over_elements : Settles slice void (block (each element (local 0 slice) (block (set (local 1 int) (num int 1) ∷ again ∷ [])) ∷ []))
+over_elements = search rules
+
+over_addresses : Settles slice void (block (each element_address (local 0 slice) (block (bind (local 1 pointer) ∷ [])) ∷ []))
+over_addresses = search rules
+
+a_labelled_yield : Settles u8 u8
+    (labelled (codes "a") (giving u8 (giving u8 (labelled (codes "a") (hand (n8 7)) ∷ []) ∷ hand (n8 8) ∷ [])))
+a_labelled_yield = search rules
+
+a_return : Settles u8 u8 (to 2 u8 (node kind.Block [] 0 never (give (local 0 u8) ∷ [])))
+a_return = search rules
+
+deferred : Settles u8 void (block (later (loop absent yes absent (block (leave ∷ []))) ∷ later (puts 0 (codes "a")) ∷ []))
+deferred = search rules
+
+a_call : SettlesBefore (block (bind (call 1 u8 (n8 1 ∷ [])) ∷ [])) (function (u8 ∷ []) u8 (giving u8 (hand (local 0 u8) ∷ [])) ∷ [])
+a_call = search rules
+
+errors_leave : SettlesBefore (block []) (function (void_or_failure ∷ []) void_or_failure (to 8 void_or_failure
+    (giving void_or_failure (one kind.Try void (local 0 void_or_failure) ∷ []))) ∷ [])
+errors_leave = search rules
+
+abbrev case : TypedNode → List TypedNode → TypedNode
+case p ts = node kind.Case [] 0 void (p ∷ ts)
+
+abbrev binds_int : TypedNode
+binds_int = node kind.PatternLet [] 0 void (type_node int ∷ [])
+
+-- `match (x) { case let i: int => i = 1; case bool => x = x; }`
+abbrev by_member : List TypedNode → TypedNode
+by_member ts = node kind.Match [] 0 void (local 0 int_or_bool ∷ ts)
+
+a_match : Settles int_or_bool void (block (by_member (case binds_int (set (local 1 int) (num int 1) ∷ [])
+    ∷ case (type_node bool) (set (local 0 int_or_bool) (local 0 int_or_bool) ∷ []) ∷ []) ∷ []))
+a_match = search rules
+
+abbrev byte_value : ℕ → TypedNode
+byte_value n = known (byte_cells (n ∷ [])) (n8 n)
+
+abbrev switch_case : TypedNode → List TypedNode → TypedNode
+switch_case vs ts = node kind.SwitchCase [] 0 void (vs ∷ ts)
+
+abbrev values : List TypedNode → TypedNode
+values vs = node kind.Values [] 0 void (vs ++ absent ∷ [])
+
+a_switch : Settles u8 void (block (node kind.Switch [] 0 void (local 0 u8 ∷ switch_case (values (byte_value 1 ∷ byte_value 2 ∷ [])) []
+    ∷ switch_case absent [] ∷ []) ∷ []))
+a_switch = search rules
+
+a_struct : Settles u8 void (block (bind (node kind.StructLit [] 0 pair (type_node pair ∷ node kind.FieldValue (codes "b") 0 void (num int 2 ∷ [])
+    ∷ node kind.FieldValue (codes "a") 0 void (n8 1 ∷ []) ∷ absent ∷ [])) ∷ []))
+a_struct = search rules
+
+a_sure_value : Settles int_or_failure int (giving int (hand (sure int (local 0 int_or_failure)) ∷ []))
+a_sure_value = search rules
+
+-- ---- what is not settled
+
+no_such_local : Settles u8 u8 (giving u8 (hand (local 1 u8) ∷ [])) → ⊥
+no_such_local s = s.body.2.0.2.0.1.meant
+
+behind_its_block : SettlesMain (block (block (bind (n8 1) ∷ []) ∷ bind (local 0 u8) ∷ [])) → ⊥
+behind_its_block s = s.body.2.1.0.2.1.0.1.meant
+
+behind_its_case : Settles int_or_bool void (block (by_member (case binds_int [] ∷ case (type_node bool) (bind (local 1 int) ∷ []) ∷ []) ∷ [])) → ⊥
+behind_its_case s = s.body.2.0.2.1.1.0.2.1.0.2.1.0.1.meant
+
+outside_a_loop : SettlesMain (block (leave ∷ [])) → ⊥
+outside_a_loop s = let e = s.body.2.0.1.target in cc
+
+out_of_a_deferred_expression : SettlesMain (block (loop absent yes absent (block (later leave ∷ [])) ∷ [])) → ⊥
+out_of_a_deferred_expression s = let e = s.body.2.0.2.1.1.1.0.2.0.2.0.1.target in cc
+
+a_deferred_return : SettlesMain (block (later (give absent) ∷ [])) → ⊥
+a_deferred_return s = s.body.2.0.2.0.1.result
+
+no_case : Settles int_or_bool void (block (by_member (case (type_node bool) [] ∷ []) ∷ [])) → ⊥
+no_case s = let e = s.body.2.0.1.covered in cc
+
+a_wrong_row : Settles u8 int (to 3 int (local 0 u8)) → ⊥
+a_wrong_row s = let e = s.body.0.joined in cc
