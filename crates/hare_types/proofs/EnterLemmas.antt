@@ -12,7 +12,8 @@ use Rattle.hare_types.specs.declared.root.Root.{Root}
 use Rattle.hare_types.specs.declared.row.Row.{Row}
 use Rattle.hare_types.specs.declared.row.Row.TheVariants as row
 use Rattle.hare_types.specs.Numbering.{most, IsNumbered, IsOnce}
-use Rattle.hare_types.specs.Rows.{IsWithin, IsReduced, AreRows}
+use Rattle.hare_types.specs.Rows.{IsWithin, IsReduced, AreRows, NamesBelow}
+use Rattle.hare_types.specs.ByIds.{fields_in}
 use Rattle.hare_types.specs.Store.{Store}
 use Rattle.hare_types.specs.Sound.{IsStore}
 use Rattle.hare_types.specs.Kept.{known, defined, extent_over, IsBounded, KeepsExtents, IsInert}
@@ -20,7 +21,7 @@ use Rattle.hare_types.specs.Roots.{known_root, with_mark, root_over, KeepsRoots}
 use Rattle.hare_types.specs.Waiting.{nowhere, blank, kept_at, extents, roots, extent_at, root_at, Among, EndsWith, Chain, first_of, IsAtRest, HaveRoots, AreSeen, AreSettling, AreSettlingBut, AreKept, IsTakenIn, KeepsFound, NoneFollows, NeedsAreWithin}
 use Rattle.hare_types.proofs.ListLemmas.{slice_get_end, slice_get_push}
 use Rattle.hare_types.proofs.TreeLemmas.{IsWithin-le}
-use Rattle.hare_types.proofs.SoundLemmas.{IsStore-rows}
+use Rattle.hare_types.proofs.SoundLemmas.{IsStore-rows, names_new}
 use Rattle.hare_types.proofs.InternLemmas.{AreRows-new, kept_new, Continues-grows}
 use Rattle.hare_types.proofs.KeptLemmas.{KeepsExtents-push, extent_over-front, known-front}
 use Rattle.hare_types.proofs.RootLemmas.{KeepsRoots-push}
@@ -314,9 +315,9 @@ module _ (s : Store) (ks : List Kept) (r : Row) (rows : List Row) (es : List (�
 
 -- ---- a row that was numbered
 
-pub taken_in : (s : Store) (ks old : List Kept) (r : Row) (new : List Row) (n : ℕ) → AreKept s ks → old ≡ ks → IsWithin (length s.rows) r → IsReduced s.rows r → IsNumbered s.rows new r n → IsOnce new
-    → length new ≤ most → IsTakenIn s old r new
-taken_in s ks old r new n v same within reduced numbered once few =
+pub taken_in : (s : Store) (ks old : List Kept) (r : Row) (new : List Row) (n : ℕ) → AreKept s ks → old ≡ ks → IsWithin (length s.rows) r → IsReduced s.rows r
+    → NamesBelow (length s.names) (fields_in r) → IsNumbered s.rows new r n → IsOnce new → length new ≤ most → IsTakenIn s old r new
+taken_in s ks old r new n v same within reduced names numbered once few =
     let sound : AreRows new = AreRows-new s.rows r v.store.rows_sound within reduced new n numbered once in
     let more = Continues-grows s.rows new r numbered.grows in
     let longer : length s.rows ≤ length new = omega (arith, ap length more.1, length-append s.rows more.0) in
@@ -324,5 +325,5 @@ taken_in s ks old r new n v same within reduced numbered once few =
       kept = subst (AreKept s) (sym same) v;
       within = within;
       grows = numbered.grows;
-      sound = IsStore-rows s new v.store sound few longer (kept_new s.rows r v.store.rows_sound within reduced new n numbered once);
+      sound = IsStore-rows s new v.store sound few longer (names_new s v.store r new numbered.grows names) (kept_new s.rows r v.store.rows_sound within reduced new n numbered once);
     }

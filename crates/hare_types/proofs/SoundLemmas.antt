@@ -1,28 +1,33 @@
 -- A store goes on to be one.
-use Rattle.std.proofs.Common.{◌≡◌, ℕ, ◌<◌, ◌≤◌, Bool, List, length, Option, Some, None, refl, ap, sym, ◌∙◌, subst, arith, cond, nat_eq, ◌⊎◌, inl, inr, IsSome, IfSome, true, false}
+use Rattle.std.proofs.Common.{◌≡◌, ℕ, ◌<◌, ◌≤◌, Bool, List, [], ◌∷◌, ◌++◌, length, Option, Some, None, refl, ap, sym, ◌∙◌, subst, arith, cond, nat_eq, ◌⊎◌, inl, inr, IsSome, IfSome, true, false}
 use Rattle.std.specs.Prelude.{slice_get, option_and_then, option_map}
 use Rattle.std.specs.Map.{lookup}
+use Rattle.hare_types.specs.declared.lists.Field.{Field}
 use Rattle.hare_types.specs.declared.row.Row.{Row}
+use Rattle.hare_types.specs.declared.row.Row.TheVariants as row
 use Rattle.hare_types.specs.declared.declared.Declared.{Declared}
 use Rattle.hare_types.specs.Numbering.{IsOnce, most}
 use Rattle.hare_types.specs.Trees.{Tree}
-use Rattle.hare_types.specs.Rows.{trees, AreRows}
+use Rattle.hare_types.specs.Rows.{trees, AreRows, NamesBelow}
 use Rattle.hare_types.specs.Store.{Store, tree_at, sized_of, definition_of, meaning_of}
 use Rattle.hare_types.specs.ByValue.{has_size, HoldsByValue}
+use Rattle.hare_types.specs.ByIds.{fields_in}
 use Rattle.hare_types.specs.Sound.{IsStore}
 use Rattle.hare_types.proofs.DefinitionLemmas.{meaning_kept, has_size_by-more, Leads-more, declared-definition, declared-sized, defined-here, defined-there, defined-sized}
-use Rattle.hare_types.proofs.ListLemmas.{slice_get_none}
+use Rattle.hare_types.proofs.ListLemmas.{slice_get_none, slice_get_push}
 use Rattle.hare_types.proofs.TreeLemmas.{length-trees}
 use Rattle.hare_types.proofs.FiniteLemmas.{all_finite}
 
 -- with more rows
 pub IsStore-rows : (s : Store) (new : List Row) → IsStore s → AreRows new → length new ≤ most → length s.rows ≤ length new
+    → ((t : ℕ) (fs : List Field) → slice_get new t ≡ Some (row.Struct fs) → NamesBelow (length s.names) fs)
     → ((i : ℕ) (u : Tree) → slice_get (trees s.rows) i ≡ Some u → slice_get (trees new) i ≡ Some u) → IsStore (record s { rows = new })
-IsStore-rows s new v sound few longer kept = record {
+IsStore-rows s new v sound few longer named kept = record {
   names_once = v.names_once;
   names_few = v.names_few;
   rows_sound = sound;
   rows_few = few;
+  fields_named = named;
   listed_once = v.listed_once;
   listed_few = v.listed_few;
   defined_within = λ d t e. omega (arith, v.defined_within d t e);
@@ -33,13 +38,25 @@ IsStore-rows s new v sound few longer kept = record {
     same : (d : ℕ) → meaning_of (record s { rows = new }) d ≡ meaning_of s d
     same d = meaning_kept s.rows new kept (definition_of s d) (v.defined_within d)
 
+-- a row whose fields have names of the store leaves it so
+pub names_new : (s : Store) → IsStore s → (r : Row) (new : List Row) → (new ≡ s.rows) ⊎ (new ≡ s.rows ++ r ∷ []) → NamesBelow (length s.names) (fields_in r)
+    → (t : ℕ) (fs : List Field) → slice_get new t ≡ Some (row.Struct fs) → NamesBelow (length s.names) fs
+names_new s v r new (inl e) names t fs here = v.fields_named t fs (ap (λ l. slice_get l t) (sym e) ∙ here)
+names_new s v r new (inr e) names t fs here = by (slice_get_push s.rows r t (row.Struct fs) (ap (λ l. slice_get l t) (sym e) ∙ here))
+  where
+    by : (slice_get s.rows t ≡ Some (row.Struct fs)) ⊎ ((t ≡ length s.rows) × (row.Struct fs ≡ r)) → NamesBelow (length s.names) fs
+    by (inl h) = v.fields_named t fs h
+    by (inr h) = subst (λ q. NamesBelow (length s.names) (fields_in q)) (sym h.1) names
+
 -- with more names
-pub IsStore-names : (s : Store) (new : List (List ℕ)) → IsStore s → IsOnce new → length new ≤ most → IsStore (record s { names = new })
-IsStore-names s new v once few = record {
+pub IsStore-names : (s : Store) (new : List (List ℕ)) → IsStore s → IsOnce new → length new ≤ most → length s.names ≤ length new
+    → IsStore (record s { names = new })
+IsStore-names s new v once few longer = record {
   names_once = once;
   names_few = few;
   rows_sound = v.rows_sound;
   rows_few = v.rows_few;
+  fields_named = λ t fs e f m. omega (arith, v.fields_named t fs e f m);
   listed_once = v.listed_once;
   listed_few = v.listed_few;
   defined_within = v.defined_within;
@@ -54,6 +71,7 @@ IsStore-listed s new v once few = record {
   names_few = v.names_few;
   rows_sound = v.rows_sound;
   rows_few = v.rows_few;
+  fields_named = v.fields_named;
   listed_once = once;
   listed_few = few;
   defined_within = v.defined_within;
@@ -69,6 +87,7 @@ IsStore-declared s new d fresh v plain none put = record {
   names_few = v.names_few;
   rows_sound = v.rows_sound;
   rows_few = v.rows_few;
+  fields_named = v.fields_named;
   listed_once = v.listed_once;
   listed_few = v.listed_few;
   defined_within = λ q t e. v.defined_within q t (sym (defined q) ∙ e);
@@ -94,6 +113,7 @@ IsStore-defined s new d t entry u v was plain put within tree size finite = reco
   names_few = v.names_few;
   rows_sound = v.rows_sound;
   rows_few = v.rows_few;
+  fields_named = v.fields_named;
   listed_once = v.listed_once;
   listed_few = v.listed_few;
   defined_within = λ q k e. within_at q k e (there q);

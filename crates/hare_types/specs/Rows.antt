@@ -42,6 +42,10 @@ abbrev pub FieldsBelow : ℕ → List Field → Type 0
 FieldsBelow n [] = Unit {0}
 FieldsBelow n (f ∷ fs) = (f.ty < n) × FieldsBelow n fs
 
+-- the fields have numbers of the first n names
+abbrev pub NamesBelow : ℕ → List Field → Type 0
+NamesBelow n fs = (f : Field) → Contains fs f → f.name < n
+
 -- the ids in a row are among the first n
 abbrev pub IsWithin : ℕ → Row → Type 0
 IsWithin n (row.Scalar k) = Unit {0}

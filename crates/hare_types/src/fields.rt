@@ -1,11 +1,12 @@
 //! Where the fields of the structs of a store stand, by the numbers of their names.
 
-ghost use Rattle.std.specs.Prelude.{◌≡◌, ◌≢◌, ◌≤◌, ℕ, length, position, Some, None, ◌==◌, slice_get, option_and_then, OnOk};
+ghost use Rattle.std.specs.Prelude.{◌≡◌, ◌≢◌, ◌≤◌, ℕ, length, position, true, Some, None, ◌==◌, slice_get, option_and_then, OnOk};
 ghost use Rattle.indexmap.specs.IndexMap.{spare};
 ghost use Rattle.hare_types.specs.declared.row.Row.{Row as RowOf};
 ghost use Rattle.hare_types.specs.ByIds.{fields_in, field_in};
 ghost use Rattle.hare_types.specs.Fields.{place_of};
 ghost use Rattle.hare_types.specs.Numbering.{most};
+ghost use Rattle.hare_types.specs.Rows.{NamesBelow};
 
 use crate::id::TypeId;
 use crate::lists::Field;
@@ -31,6 +32,18 @@ fn fields_in(row: &Row) -> &[Field]
         Row::Struct(fields) => fields.as_slice(),
         _ => &[],
     }
+}
+
+/// Whether each field of a row has the number of one of so many names.
+pub(crate) fn are_named(row: &Row, names: usize) -> bool
+    ensures { result ≡ true → NamesBelow names (fields_in row.now) }
+{
+    for field in fields_in(row) {
+        if field.name as usize >= names {
+            return false;
+        }
+    }
+    true
 }
 
 /// Makes room for the places of the fields of a row.

@@ -17,7 +17,7 @@ ghost use Rattle.hare_types.specs.Unions.{id_of};
 
 use crate::declared::{Declared, set_definition};
 use crate::extent::Extent;
-use crate::fields::{FieldName, FieldPlaces, enter_if_new, reserve_fields};
+use crate::fields::{FieldName, FieldPlaces, are_named, enter_if_new, reserve_fields};
 use crate::id::TypeId;
 use crate::kept::{Kept, extent_at, root_at};
 use crate::marks::{has_size, is_error};
@@ -172,6 +172,8 @@ impl TypeStore {
 
     /// The id of a type: the same for equal types, and another for other ones. The row's ids are of this store, and the members of
     /// a union are at least two, ascend by id, and none of them is never or an unnamed union.
+    ///
+    /// A struct is taken in only where its fields have names of this store, and is else answered by `AllocError`.
     pub fn intern(&mut self, r: Row) -> Result<TypeId, AllocError>
         requires within { IsWithin (length self.old.rows) r }
         requires reduced { IsReduced self.old.rows r }
@@ -186,6 +188,9 @@ impl TypeStore {
         ensures later { IsLater self.old self.new }
         ensures err { OnErr result (self.new ≡ self.old) }
     {
+        if !are_named(&r, self.names.len()) {
+            return Err(AllocError);
+        }
         let here = self.rows.len();
         self.kept.reserve(1)?;
         reserve_fields(&mut self.fields, &r)?;

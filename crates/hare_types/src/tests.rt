@@ -78,14 +78,33 @@ fn marks_and_names_have_bases(rt: HostRuntime) -> Result<(), Fail> {
 fn fields_are_found_by_name(rt: HostRuntime) -> Result<(), Fail> {
     let mut store = TypeStore::new(rt.alloc());
     let int = store.intern(Row::Scalar(Scalar::Int))?;
+    let first = store.name(b"first")?;
+    let second = store.name(b"second")?;
+    let other = store.name(b"other")?;
     let mut fields = Fields::new(rt.alloc());
-    fields.push(Field { name: 4, ty: int })?;
-    fields.push(Field { name: 2, ty: int })?;
+    fields.push(Field {
+        name: second,
+        ty: int,
+    })?;
+    fields.push(Field {
+        name: first,
+        ty: int,
+    })?;
     let pair = store.intern(Row::Struct(fields))?;
-    assert!(rt; store.field(pair, 4) == Some(0));
-    assert!(rt; store.field(pair, 2) == Some(1));
-    assert!(rt; store.field(pair, 3) == None);
-    assert!(rt; store.field(int, 4) == None);
+    assert!(rt; store.field(pair, second) == Some(0));
+    assert!(rt; store.field(pair, first) == Some(1));
+    assert!(rt; store.field(pair, other) == None);
+    assert!(rt; store.field(int, first) == None);
+    Ok(())
+}
+
+#[test]
+fn a_field_has_a_name_of_the_store(rt: HostRuntime) -> Result<(), Fail> {
+    let mut store = TypeStore::new(rt.alloc());
+    let int = store.intern(Row::Scalar(Scalar::Int))?;
+    let mut fields = Fields::new(rt.alloc());
+    fields.push(Field { name: 0, ty: int })?;
+    assert!(rt; store.intern(Row::Struct(fields)).is_err());
     Ok(())
 }
 

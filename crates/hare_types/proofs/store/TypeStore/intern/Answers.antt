@@ -1,11 +1,12 @@
-use Rattle.std.proofs.Common.{◌≡◌, ℕ, ◌≤◌, length, Some, refl, ap, sym, ◌∙◌, subst, [], map}
+use Rattle.std.proofs.Common.{◌≡◌, ℕ, ◌≤◌, List, length, Some, refl, ap, sym, ◌∙◌, subst, arith, [], map}
 use Rattle.std.specs.Prelude.{slice_get, option_and_then}
-use Rattle.std.proofs.lemmas.List.{append-nil}
+use Rattle.std.proofs.lemmas.List.{append-nil, length-map}
+use Rattle.hare_types.specs.declared.lists.Field.{Field}
 use Rattle.hare_types.specs.Trees.{Tree}
 use Rattle.hare_types.specs.KeyLaws.{row_eq-Decides}
 use Rattle.hare_types.specs.Keys.{row_eq}
 use Rattle.hare_types.specs.Numbering.{IsNumbered, IsOnce}
-use Rattle.hare_types.specs.Rows.{IsWithin, IsReduced, trees}
+use Rattle.hare_types.specs.Rows.{IsWithin, IsReduced, NamesBelow, trees}
 use Rattle.hare_types.specs.Store.{Store}
 use Rattle.hare_types.specs.Waiting.{AreKept, IsTakenIn}
 use Rattle.indexmap.specs.IndexMap.{spare}
@@ -32,6 +33,13 @@ once c = plain_once row_eq row_eq-Decides _ _ _ _ c.in_ok-place.ensures.place c.
 
 within : (c : goal.After-at) → IsWithin (length c.self.inside.rows.keys) c.args.r
 within c = rw (← c.self.view_is) at c.requires.within
+
+-- as many names are spelled as there are
+spelled : {A B : Type 0} (g : A → B) (keys : List A) (n : ℕ) (fs : List Field) → n ≡ length keys → NamesBelow n fs → NamesBelow (length (map g keys)) fs
+spelled g keys n fs many below f m = omega (arith, below f m, many, length-map keys g)
+
+names : (c : goal.After-at) → NamesBelow (length (before c).names) (fields_in c.args.r)
+names c = spelled (λ v. v.items) c.self.inside.names.keys c.len.result (fields_in c.args.r) c.len.ensures.len (c.are_named.ensures c.if-not-are_named.false)
 
 reduced : (c : goal.After-at) → IsReduced c.self.inside.rows.keys c.args.r
 reduced c = rw (← c.self.view_is) at c.requires.reduced
@@ -74,7 +82,9 @@ keep_if_new-requires-clause-taken c =
     let once : IsOnce new = plain_once row_eq row_eq-Decides _ _ _ _ c.in_ok-place.ensures.place c.in_ok-place.ensures.kept c.in_ok-place.ensures.added v.store.rows_sound.once in
     let within : IsWithin (length s.rows) c.args.r = rw (← c.self.view_is) at c.requires.within in
     let reduced : IsReduced s.rows c.args.r = rw (← c.self.view_is) at c.requires.reduced in
-    let taken : IsTakenIn s c.reserve.new.self.items c.args.r new = taken_in s _ _ c.args.r new _ v c.reserve.ensures.items within reduced numbered once c.number.ensures.few in
+    let names : NamesBelow (length s.names) (fields_in c.args.r) =
+    spelled (λ v. v.items) c.self.inside.names.keys c.len.result (fields_in c.args.r) c.len.ensures.len (c.are_named.ensures c.if-not-are_named.false) in
+    let taken : IsTakenIn s c.reserve.new.self.items c.args.r new = taken_in s _ _ c.args.r new _ v c.reserve.ensures.items within reduced names numbered once c.number.ensures.few in
     (s, c.args.r, refl, c.len-here.ensures.len, subst (IsTakenIn s c.reserve.new.self.items c.args.r) (sym c.as_slice.ensures.keys) taken)
 
 pub invariant_of-self-2 : goal.invariant_of-self-2
@@ -84,7 +94,7 @@ invariant_of-self-2 c =
     let fields : KeepsFields c.number.new.set.keys es =
     KeepsFields-taken c.self.inside.rows.keys c.number.new.set.keys c.args.r c.len-here.result c.len-here.ensures.len (numbered c).grows c.reserve_fields.new.places.entries es (kept_fields c) (own_fields c) c.enter_if_new.ensures.there in
     let taken : IsTakenIn s c.reserve.new.self.items c.args.r c.number.new.set.keys =
-    taken_in s _ _ c.args.r _ _ c.self.invariant.kept c.reserve.ensures.items (within c) (reduced c) (numbered c) (once c) c.number.ensures.few in
+    taken_in s _ _ c.args.r _ _ c.self.invariant.kept c.reserve.ensures.items (within c) (reduced c) (names c) (numbered c) (once c) c.number.ensures.few in
     record {
       kept =
           subst (λ l. AreKept (record s { rows = l }) c.keep_if_new.new.kept.items) c.as_slice.ensures.keys

@@ -1,4 +1,4 @@
-use Rattle.std.proofs.Common.{◌≡◌, ℕ, nat_eq, List, [], Vec, Global, map, refl, ap, sym, ◌∙◌, ◌++◌}
+use Rattle.std.proofs.Common.{◌≡◌, ℕ, ◌≤◌, nat_eq, List, [], length, length-append, Vec, Global, map, refl, ap, sym, ◌∙◌, ◌++◌, arith}
 use Rattle.std.specs.Bool.{Decides}
 use Rattle.std.specs.Cmp.{unsigned_Decides}
 use Rattle.std.specs.Cmp.Lexicographic.{pointwise, pointwise_decides}
@@ -30,10 +30,16 @@ name_once c =
     once_more (λ v. v.items) c.args.spelling.now (λ v. pointwise nat_eq c.extend_from_slice.new.self.items v.items) (λ v. spelled c.args.spelling.now c.extend_from_slice.new.self v (owned c))
     c.self.inside.names.keys c.number.new.set.keys c.extend_from_slice.new.self (owned c) c.in_ok-n.n c.in_ok-n.ensures.place c.in_ok-n.ensures.kept c.in_ok-n.ensures.added c.self.invariant.kept.store.names_once
 
+longer : (c : goal.In_ok-n) → length (map (λ (v : Vec ℕ Global). v.items) c.self.inside.names.keys) ≤ length (map (λ (v : Vec ℕ Global). v.items) c.number.new.set.keys)
+longer c =
+    let old = map (λ (v : Vec ℕ Global). v.items) c.self.inside.names.keys in
+    let more = Continues-grows old (map (λ (v : Vec ℕ Global). v.items) c.number.new.set.keys) c.args.spelling.now (name_numbered c).grows in
+    omega (arith, ap length more.1, length-append old more.0)
+
 pub invariant_of-self-2 : goal.invariant_of-self-2
 invariant_of-self-2 c = record {
   kept = record {
-    store = IsStore-names _ (map (λ (v : Vec ℕ Global). v.items) c.number.new.set.keys) c.self.invariant.kept.store (name_once c) (rw length-map c.number.ensures.few);
+    store = IsStore-names _ (map (λ (v : Vec ℕ Global). v.items) c.number.new.set.keys) c.self.invariant.kept.store (name_once c) (rw length-map c.number.ensures.few) (longer c);
     extents = KeepsExtents-same _ _ (extents c.self.inside.kept.items) refl refl c.self.invariant.kept.extents;
     roots = KeepsRoots-same _ _ (roots c.self.inside.kept.items) refl refl c.self.invariant.kept.roots;
     rooted = c.self.invariant.kept.rooted;
