@@ -1,5 +1,5 @@
-use Rattle.hare_check.proofs.NullLemmas.{null_is_shaped}
-use Rattle.hare_check.proofs.tests.null_is_judged.Goals as goal
+use Rattle.hare_walk.proofs.NullLemmas.{null_is_shaped}
+use Rattle.hare_walk.proofs.tests.null_is_judged.Goals as goal
 
 pub check_by-requires-clause-shaped : goal.check_by-requires-clause-shaped
 check_by-requires-clause-shaped g c = null_is_shaped (record {

@@ -1,7 +1,7 @@
 use Rattle.hare_types.proofs.LaterLemmas.{later_here}
-use Rattle.hare_check.specs.Walks.{IsAnswer}
-use Rattle.hare_check.proofs.Steps.{err_same, answered, finished}
-use Rattle.hare_check.proofs.check.check_by.Goals as goal
+use Rattle.hare_walk.specs.Walks.{IsAnswer}
+use Rattle.hare_walk.proofs.Steps.{err_same, answered, finished}
+use Rattle.hare_walk.proofs.check.check_by.Goals as goal
 
 pub returns-in_err-tree-clause-err : goal.returns-in_err-tree-clause-err
 returns-in_err-tree-clause-err g c =

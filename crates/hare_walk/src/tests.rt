@@ -34,7 +34,7 @@ struct Nulls {
 }
 
 impl Walk for Nulls {
-    ghost use Rattle.hare_check.specs.Nulls.{no_program, over_null, seen_of};
+    ghost use Rattle.hare_walk.specs.Nulls.{no_program, over_null, seen_of};
 
     ghost setting = { λ w s. no_program s };
 

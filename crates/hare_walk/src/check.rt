@@ -10,8 +10,8 @@ ghost use Rattle.hare_typed.specs.Typed.{typed_nodes};
 ghost use Rattle.hare_typed.specs.Erased.{erase, erase_each};
 ghost use Rattle.hare_rules.specs.Finished.{bare, IsTheTree, expression};
 ghost use Rattle.hare_inference.specs.Inferred.{found_kids, infer_each};
-ghost use Rattle.hare_check.specs.Grown.{IsGrown};
-ghost use Rattle.hare_check.specs.Walks.{IsPart, Each, IsInHand, AreInHand, IsInferred, IsStopped, IsStop, IsAnswer};
+ghost use Rattle.hare_walk.specs.Grown.{IsGrown};
+ghost use Rattle.hare_walk.specs.Walks.{IsPart, Each, IsInHand, AreInHand, IsInferred, IsStopped, IsStop, IsAnswer};
 
 use crate::walk::Walk;
 use hare_tree::{Fault, Kids, Stop, Tree};

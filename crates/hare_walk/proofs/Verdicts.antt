@@ -13,7 +13,7 @@ use Rattle.hare_rules.specs.Rows.{first_failing}
 use Rattle.hare_inference.specs.Inferred.{Fails, judged, found, mark_found, with_type}
 use Rattle.hare_told.specs.Enough.{told, IsSameVerdict}
 use Rattle.hare_told.proofs.Verdicts.{told_is_enough}
-use Rattle.hare_check.specs.Verdicts.{flow_of, VerdictsTurn}
+use Rattle.hare_walk.specs.Verdicts.{flow_of, VerdictsTurn}
 
 judged_as : (c : Context) (t : Ty) → first_failing c ≡ None → type_of c ≡ Some t → judged c ≡ Ok t
 judged_as c t e d = rw (e, d) refl

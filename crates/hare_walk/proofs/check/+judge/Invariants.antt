@@ -8,9 +8,9 @@ use Rattle.hare_rules.specs.Flow.{count}
 use Rattle.hare_rules.specs.Finished.{bare}
 use Rattle.hare_inference.specs.Inferred.{infer_each}
 use Rattle.hare_inference.specs.Hands.{AreBelow}
-use Rattle.hare_check.specs.Grown.{IsGrown}
-use Rattle.hare_check.specs.Walks.{Each, AreInHand}
-use Rattle.hare_check.proofs.check.+judge.Given as goal
+use Rattle.hare_walk.specs.Grown.{IsGrown}
+use Rattle.hare_walk.specs.Walks.{Each, AreInHand}
+use Rattle.hare_walk.proofs.check.+judge.Given as goal
 
 abbrev pub invariant-judge_kids-loop-i : goal.invariant-judge_kids-loop-i
 invariant-judge_kids-loop-i g l = record {

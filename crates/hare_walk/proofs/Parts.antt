@@ -14,9 +14,9 @@ use Rattle.hare_types.specs.Store.{Store}
 use Rattle.hare_typed.specs.Typed.{TypedNode, typed_nodes}
 use Rattle.hare_typed.specs.Erased.{erase, erase_each}
 use Rattle.hare_typed.proofs.KidLemmas.{take-get, nodes_of-map_erase}
-use Rattle.hare_check.specs.Grown.{IsGrown}
-use Rattle.hare_check.specs.Walks.{IsPart, Each}
-use Rattle.hare_check.proofs.Grows.{grown-trans}
+use Rattle.hare_walk.specs.Grown.{IsGrown}
+use Rattle.hare_walk.specs.Walks.{IsPart, Each}
+use Rattle.hare_walk.proofs.Grows.{grown-trans}
 
 -- ---- kids
 

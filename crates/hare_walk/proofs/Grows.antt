@@ -3,7 +3,7 @@ use Rattle.std.proofs.Common.{[], refl, ◌∙◌}
 use Rattle.hare_types.specs.Store.{Store, Extends}
 use Rattle.hare_types.specs.Later.{IsLater}
 use Rattle.hare_types.proofs.CallerLemmas.{Extends-refl, Extends-trans}
-use Rattle.hare_check.specs.Grown.{IsGrown}
+use Rattle.hare_walk.specs.Grown.{IsGrown}
 
 pub grown-refl : (s : Store) → IsGrown s s
 grown-refl s = record { grows = Extends-refl s; declared = refl }

@@ -18,10 +18,10 @@ pub trait Walk {
     ghost use Rattle.hare_rules.specs.Context.{Setting};
     ghost use Rattle.hare_rules.specs.Above.{Above};
     ghost use Rattle.hare_rules.specs.Flow.{Flow, all_settled};
-    ghost use Rattle.hare_check.specs.Grown.{IsGrown};
+    ghost use Rattle.hare_walk.specs.Grown.{IsGrown};
     ghost use Rattle.hare_typed.specs.Typed.{TypedNode, typed_nodes};
     ghost use Rattle.hare_typed.specs.Erased.{erase_each};
-    ghost use Rattle.hare_check.specs.Walks.{IsPart, Each, IsInHand, AreInHand, IsTurned, IsTurnedBack, IsOver, IsBefore};
+    ghost use Rattle.hare_walk.specs.Walks.{IsPart, Each, IsInHand, AreInHand, IsTurned, IsTurnedBack, IsOver, IsBefore};
 
     /// What is known of the program, over a store.
     ghost setting: { Self → Store → Setting };

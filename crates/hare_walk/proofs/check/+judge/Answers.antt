@@ -2,12 +2,12 @@ use Rattle.std.proofs.Common.{◌≡◌, ◌+◌, ◌≤◌, ◌++◌, ◌∷◌
 use Rattle.hare_tree.specs.Node.{head, kids_of, nodes_of}
 use Rattle.hare_types.specs.Store.{Store}
 use Rattle.hare_rules.specs.Finished.{bare}
-use Rattle.hare_check.specs.Walks.{IsStopped}
-use Rattle.hare_check.specs.Grown.{IsGrown}
-use Rattle.hare_check.proofs.Grows.{grown-refl, grown-trans, later-grown}
-use Rattle.hare_check.proofs.Parts.{part-kid, each-grown, each-now, each-append, erased-more, erased-all, take_all}
-use Rattle.hare_check.proofs.Steps.{IsKid, each_end, err_same, turn-inferred, turn-stopped, turn-erases, kids-stopped, over-moved, before-moved, inferred-moved, stopped-moved, next_at, rest_at, stop_at, kid-rest, kid-leaves, kid-stopped, hand-more, each_below-more, stop-same}
-use Rattle.hare_check.proofs.check.+judge.Goals as goal
+use Rattle.hare_walk.specs.Walks.{IsStopped}
+use Rattle.hare_walk.specs.Grown.{IsGrown}
+use Rattle.hare_walk.proofs.Grows.{grown-refl, grown-trans, later-grown}
+use Rattle.hare_walk.proofs.Parts.{part-kid, each-grown, each-now, each-append, erased-more, erased-all, take_all}
+use Rattle.hare_walk.proofs.Steps.{IsKid, each_end, err_same, turn-inferred, turn-stopped, turn-erases, kids-stopped, over-moved, before-moved, inferred-moved, stopped-moved, next_at, rest_at, stop_at, kid-rest, kid-leaves, kid-stopped, hand-more, each_below-more, stop-same}
+use Rattle.hare_walk.proofs.check.+judge.Goals as goal
 
 pub judge_tree-returns-in_err-kids-clause-err : goal.judge_tree-returns-in_err-kids-clause-err
 judge_tree-returns-in_err-kids-clause-err g t c =

@@ -25,9 +25,9 @@ use Rattle.hare_inference.proofs.Decided.{the_tree, the_fault}
 use Rattle.hare_inference.proofs.Bares.{erase-bare}
 use Rattle.hare_inference.proofs.Found.{finds}
 use Rattle.hare_inference.proofs.Hands.{coats-behind, below-behind, below_each-more, coercions-before, coat-coat}
-use Rattle.hare_check.specs.Grown.{IsGrown}
-use Rattle.hare_check.specs.Walks.{IsInHand, AreInHand, IsStop, IsInferred, IsStopped, IsTurned, IsTurnedBack, IsOver, IsBefore, IsAnswer}
-use Rattle.hare_check.proofs.Grows.{later-grown}
+use Rattle.hare_walk.specs.Grown.{IsGrown}
+use Rattle.hare_walk.specs.Walks.{IsInHand, AreInHand, IsStop, IsInferred, IsStopped, IsTurned, IsTurnedBack, IsOver, IsBefore, IsAnswer}
+use Rattle.hare_walk.proofs.Grows.{later-grown}
 
 -- ---- inference over lists of kids
 

@@ -18,7 +18,7 @@ use Rattle.hare_rules.specs.Judged.{IsVerdict, IsRefusal}
 use Rattle.hare_inference.specs.Inferred.{found, found_kids, mark_found, with_kids}
 use Rattle.hare_told.specs.Told.{IsTold, IsLookedAt}
 use Rattle.hare_told.specs.Enough.{told}
-use Rattle.hare_check.specs.Walks.{IsStop}
+use Rattle.hare_walk.specs.Walks.{IsStop}
 
 -- what has been seen behind a node of this type
 abbrev pub flow_of : Context → Above → Head → List TypedNode → Flow → Ty → Flow

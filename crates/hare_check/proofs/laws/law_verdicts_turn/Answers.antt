@@ -1,5 +1,0 @@
-use Rattle.hare_check.proofs.Verdicts.{verdicts_turn}
-use Rattle.hare_check.proofs.laws.law_verdicts_turn.Goals as goal
-
-pub returns : goal.returns
-returns c = verdicts_turn
