@@ -12,6 +12,9 @@ use hare_typed::{Cell, Const};
 use hare_types::{Ty, TypeId, TypeStore};
 use hx_base::wrap;
 
+/// How many cells a number has at most.
+const MOST_CELLS: usize = 8;
+
 /// The byte that a cell is.
 fn byte_of(cell: Cell) -> Option<u8>
     ensures { result ≡ spec.byte_in cell }
@@ -94,7 +97,14 @@ pub(crate) fn number_of(s: &TypeStore, t: TypeId, c: &Const) -> Option<i128>
         return None;
     };
     let shape = shape_at(s, t)?;
-    number_by(shape, cells.as_slice())
+    let count = cells.len();
+    if count > MOST_CELLS {
+        return None;
+    }
+    let mut buffer = [Cell::Undef; MOST_CELLS];
+    let read = &mut buffer[..count];
+    let _whole = cells.read(0, read);
+    number_by(shape, read)
 }
 
 /// The same, where the constant has a type of the store.

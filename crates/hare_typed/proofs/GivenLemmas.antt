@@ -1,6 +1,6 @@
 -- What nodes give, and the bases of their types, as calls tell them.
-use Rattle.std.proofs.Common.{◌≡◌, ℕ, suc, ◌+◌, ◌-◌, ◌<◌, List, [], ◌∷◌, length, Some, None, Option, refl, ap, sym, ◌∙◌, ◌⊎◌, inl, inr, arith}
-use Rattle.std.specs.Prelude.{slice_get, IfSome, IfNone}
+use Rattle.std.proofs.Common.{◌≡◌, ℕ, suc, ◌+◌, ◌-◌, ◌<◌, List, [], ◌∷◌, length, Some, refl, ap, sym, ◌∙◌, ◌⊎◌, inl, inr, arith}
+use Rattle.std.specs.Prelude.{slice_get}
 use Rattle.std.proofs.lemmas.Option.{slice_get_within}
 use Rattle.hare_tree.specs.declared.kind.Kind.{Kind}
 use Rattle.hare_tree.specs.declared.kind.Kind.TheVariants as kind
@@ -10,7 +10,6 @@ use Rattle.hare_types.specs.Store.{Store}
 use Rattle.hare_types.specs.Bases.{IsBaseOf}
 use Rattle.hare_types.specs.Bases.{IsBaseOf}
 use Rattle.hare_types.proofs.IdLemmas.{row_of_tree}
-use Rattle.hare_types.specs.Meanings.{MeanTrees}
 use Rattle.hare_typed.specs.Typed.{TypedNode, typed_nodes}
 use Rattle.hare_typed.specs.Given.{given, first_given, pointee, one_more, followed_within}
 use Rattle.hare_typed.specs.Weight.{count, items_of}

@@ -4,6 +4,7 @@ mod ObjectRows
 mod ArithmeticRows
 mod PointerRows
 mod UnionRows
+pub mod RepeatLemmas
 pub mod KidLemmas
 pub mod CoatLemmas
 pub mod GivenLemmas

@@ -21,6 +21,7 @@ use Rattle.hare_typed.specs.Given.{given, base_row, is_str, size_in}
 use Rattle.hare_typed.specs.Weight.{items_of}
 use Rattle.hare_typed.specs.Answers.{Answer, Gives, ◌then◌}
 use Rattle.hare_typed.specs.Cells.{with_cells, undefined_cells}
+use Rattle.hare_typed.specs.Repeats.{again}
 use Rattle.hare_typed.specs.Scalars.{Address, Scalar, Number, Pointing, Shape, Whole, Truth, Reference, Nullable, cells, spelled}
 use Rattle.hare_typed.specs.Objects.{reading}
 use Rattle.hare_typed.specs.Arithmetic.{IntType, arithmetic_of, shift_of, order_of, logic_of, by_equality, arithmetic, shifted, negated, complemented, in_order, same_number, leaves_open, logic}
@@ -263,10 +264,6 @@ abbrev pub last_of : List (List Cell) → List Cell
 last_of [] = []
 last_of (c ∷ []) = c
 last_of (c ∷ d ∷ ds) = last_of (d ∷ ds)
-
-abbrev pub again : ℕ → List Cell → List Cell
-again zero c = []
-again (suc n) c = c ++ again n c
 
 -- whether `...` stands behind the last item
 abbrev pub has_dots : TypedNode → Bool

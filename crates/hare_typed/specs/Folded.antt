@@ -1,5 +1,5 @@
 -- The constant of a value: whether it has one, and its cells with the objects to which they lead.
-use Rattle.std.specs.Prelude.{ℕ, zero, suc, ◌^◌, Bool, true, false, nat_eq, nat_le, List, [], ◌∷◌, ◌++◌, length, flat_map, Option, Some, None, if◌then◌else◌}
+use Rattle.std.specs.Prelude.{ℕ, zero, suc, ◌^◌, Bool, true, false, nat_eq, nat_le, List, [], ◌∷◌, length, flat_map, Option, Some, None, if◌then◌else◌}
 use Rattle.std.specs.Map.{lookup}
 use Rattle.hare_types.specs.Store.{Store}
 use Rattle.hare_types.specs.Unions.{put_all, ascending}
@@ -10,7 +10,7 @@ use Rattle.hare_typed.specs.declared.constant.Const.TheVariants as constant
 use Rattle.hare_typed.specs.declared.constant.ConstObject.{ConstObject}
 use Rattle.hare_typed.specs.Typed.{TypedNode}
 use Rattle.hare_typed.specs.Objects.{Object}
-use Rattle.hare_typed.specs.State.{Outcome, Value, Abort, Reached, Break, Continue, Yield, Return, Exit, Undefined, Over, Spent, Result}
+use Rattle.hare_typed.specs.State.{Outcome, Value, Abort, Result}
 use Rattle.hare_typed.specs.Constancy.{first_inconstant}
 use Rattle.hare_typed.specs.ConstantValues.{constant_result}
 

@@ -1,7 +1,5 @@
 //! Cells, of which values and objects are made.
 
-use hx_base::Items;
-
 /// One cell of a value or of an object: a byte of eight bits, or what stands in the place of one.
 #[derive(Clone, Copy, Debug, PartialEq, Eq)]
 pub enum Cell {
@@ -13,6 +11,3 @@ pub enum Cell {
     /// No value at all.
     Undef,
 }
-
-/// The cells of a value, in the order of their addresses.
-pub type Cells = Items<Cell>;

@@ -1,6 +1,6 @@
 //! Constants: values that are known before the program runs.
 
-use crate::cell::Cells;
+use crate::cells::Cells;
 use hx_base::Items;
 
 /// The constant of a node, where it has one.

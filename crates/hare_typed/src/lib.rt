@@ -2,6 +2,7 @@
 #![tactic(auto)]
 
 mod cell;
+mod cells;
 mod constant;
 mod copied;
 mod erased;
@@ -15,7 +16,8 @@ mod typed;
 mod value_laws;
 mod weights;
 
-pub use cell::{Cell, Cells};
+pub use cell::Cell;
+pub use cells::Cells;
 pub use constant::{Const, ConstObject, ConstObjects, Consts};
 pub use copied::copies;
 pub use erased::erase;

@@ -1,8 +1,8 @@
 //! Each call once, with what a person expects of it.
 
 use crate::{
-    Const, Typed, TypedKids, coat, copies, erase, law_costs_are_of_marks, law_orders_agree,
-    law_weights_stay,
+    Cell, Cells, Const, Typed, TypedKids, coat, copies, erase, law_costs_are_of_marks,
+    law_orders_agree, law_weights_stay,
 };
 use hare_tree::{Kind, Meaning, Place, Suffix, Word};
 use hare_types::{Coercion, Ty};
@@ -80,4 +80,25 @@ fn laws_are_called(_rt: HostRuntime) {
     law_costs_are_of_marks();
     law_orders_agree();
     law_weights_stay();
+}
+
+#[test]
+fn repeated_cells_stand_once(rt: HostRuntime) -> Result<(), Fail> {
+    let mut part = Cells::new(rt.alloc());
+    part.push(Cell::Byte(7))?;
+    part.push(Cell::Undef)?;
+    part.repeat(0, 67_108_863)?;
+    let mut whole = Cells::new(rt.alloc());
+    whole.push(Cell::Byte(1))?;
+    whole.append(rt.alloc(), &part)?;
+    whole.repeat(1, 67_108_863)?;
+    assert_eq!(rt; whole.len(), 9_007_199_254_740_993);
+    assert!(rt; whole.get(0) == Some(Cell::Byte(1)));
+    assert!(rt; whole.get(9_007_199_254_740_991) == Some(Cell::Byte(7)));
+    assert!(rt; whole.get(9_007_199_254_740_993).is_none());
+    assert!(rt; whole.repeat(0, 4_096).is_err());
+    let mut read = [Cell::Byte(0); 3];
+    assert!(rt; whole.read(134_217_728, &mut read));
+    assert!(rt; read == [Cell::Undef, Cell::Byte(7), Cell::Undef]);
+    Ok(())
 }

@@ -26,7 +26,8 @@ use Rattle.hare_typed.specs.Interpreter.{Kids}
 use Rattle.hare_typed.specs.World.{World, static_number, homed, answered}
 use Rattle.hare_typed.specs.Sequence.{on_value, on_place, value, place, values}
 use Rattle.hare_typed.specs.Evaluated.{ValueForm, with_coercion, slice_over, array_number, coerced_from, as_coerced, by_value}
-use Rattle.hare_typed.specs.ConstantForms.{own_type, own_number, bool_cells, constant_cells, with_numbers, is_iconst, arith_answer, shift_answer, Equality, OfNumbers, OfPointers, OfTexts, with_texts, with_equality, equality_of, type_of_kid, cast_cells, is_whole, number_of_kid, offset_in, with_parts, made_of, joined, last_of, again}
+use Rattle.hare_typed.specs.ConstantForms.{own_type, own_number, bool_cells, constant_cells, with_numbers, is_iconst, arith_answer, shift_answer, Equality, OfNumbers, OfPointers, OfTexts, with_texts, with_equality, equality_of, type_of_kid, cast_cells, is_whole, number_of_kid, offset_in, with_parts, made_of, joined, last_of}
+use Rattle.hare_typed.specs.Repeats.{again}
 use Rattle.hare_typed.specs.ConstantValues.{constant_form}
 use Rattle.hare_typed.specs.Alike.{AreAlike}
 use Rattle.hare_typed.proofs.AlikeLemmas.{looks_where_pointed}
