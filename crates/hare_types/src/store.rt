@@ -19,8 +19,8 @@ use crate::declared::{Declared, set_definition};
 use crate::extent::Extent;
 use crate::fields::{FieldName, FieldPlaces, are_named, enter_if_new, reserve_fields};
 use crate::id::TypeId;
-use crate::kept::{Kept, extent_at, root_at};
-use crate::marks::{has_size, is_error};
+use crate::kept::{Kept, base_at, extent_at, root_at};
+use crate::marks::has_size;
 use crate::measure::extent_over;
 use crate::numbering::number;
 use crate::places::Rows;
@@ -241,20 +241,17 @@ impl TypeStore {
         ensures none { IfNone result ((b : ℕ) → ¬ IsBaseOf self.now t b) }
         ensures sound { IsStore self.now }
     {
-        match root_at(self.kept.as_slice(), t) {
-            Some(root) => Some(root.base),
-            None => None,
-        }
+        base_at(self.kept.as_slice(), t)
     }
 
     /// Whether the type is an error type: it bears an error mark, or names a type that does; of a name that is not defined this is not known,
-    /// and the answer is no. The time is constant where the type has a base, and else that of the names that it comes to.
+    /// and the answer is no. The time is constant.
     pub fn is_error(&self, t: TypeId) -> bool
         ensures { result ≡ is_error_at self.now t }
     {
         match root_at(self.kept.as_slice(), t) {
             Some(root) => root.is_error,
-            None => is_error(self.rows.as_slice(), &self.declared, t),
+            None => false,
         }
     }
 
