@@ -11,7 +11,7 @@ ghost use Rattle.hare_types.specs.Later.{IsLater};
 ghost use Rattle.hare_types.specs.Numbering.{IsNumbered};
 ghost use Rattle.hare_types.specs.Rows.{tree_of, trees, IsWithin, IsReduced};
 ghost use Rattle.hare_types.specs.Sound.{IsStore};
-ghost use Rattle.hare_types.specs.Store.{Store, empty, tree_at, sized_of, definition_of, with_declared, IsTag, Extends};
+ghost use Rattle.hare_types.specs.Store.{Store, empty, tree_at, sized_of, definition_of, with_declared, Extends};
 ghost use Rattle.hare_types.specs.Trees.{Tree, Same};
 ghost use Rattle.hare_types.specs.Unions.{id_of};
 
@@ -278,7 +278,7 @@ impl TypeStore {
     /// The tag of a type, counted from 1: its place in the list of the types that have tags, where it is put last unless it is there.
     pub fn mention(&mut self, t: TypeId) -> Result<u32, AllocError>
         requires { t < length self.old.rows }
-        ensures tag { IfOk result (λ n. IsTag self.new t n) }
+        ensures tag { IfOk result (λ n. tag_at self.new t ≡ Some n) }
         ensures numbered { IfOk result (λ n. (k : ℕ) × (n ≡ k + 1) × IsNumbered self.old.listed self.new.listed t k) }
         ensures rest { OnOk result (self.new ≡ record self.old { listed = self.new.listed }) }
         ensures grows { Extends self.old self.new }
@@ -300,7 +300,6 @@ impl TypeStore {
     /// The tag of a type, `None` where it has none.
     pub fn tag(&self, t: TypeId) -> Option<u32>
         ensures value { result ≡ tag_at self.now t }
-        ensures found { IfSome result (λ n. IsTag self.now t n) }
         ensures none { IfNone result ((k : ℕ) → slice_get self.now.listed k ≢ Some t) }
     {
         match self.listed.get_index_of(&t) {
