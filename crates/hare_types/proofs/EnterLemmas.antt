@@ -1,6 +1,6 @@
 -- What is kept beside rows, as rows are taken in and names are declared and defined.
 use Rattle.std.proofs.Common.{◌≡◌, ℕ, zero, suc, ◌+◌, ◌<◌, ◌≤◌, true, false, List, [], ◌∷◌, ◌++◌, length, get_or, Option, Some, None, IfSome, IsSome, refl, ap, ap₂, sym, ◌∙◌, subst, arith, ◌⊎◌, inl, inr, length-append}
-use Rattle.std.specs.Prelude.{slice_get, option_map, option_and_then}
+use Rattle.std.specs.Prelude.{slice_get, option_and_then}
 use Rattle.std.proofs.lemmas.Option.{slice_get-get_or, slice_get_within}
 use Rattle.std.proofs.lemmas.List.{map-append, length-map}
 use Rattle.std.proofs.Math.Seq.{get_or-append_seam}
@@ -17,14 +17,15 @@ use Rattle.hare_types.specs.ByIds.{fields_in}
 use Rattle.hare_types.specs.Store.{Store}
 use Rattle.hare_types.specs.Sound.{IsStore}
 use Rattle.hare_types.specs.Kept.{known, defined, extent_over, IsBounded, KeepsExtents, IsInert}
+use Rattle.hare_types.specs.Packed.{base_in}
 use Rattle.hare_types.specs.Roots.{known_root, with_mark, root_over, KeepsRoots}
-use Rattle.hare_types.specs.Waiting.{nowhere, blank, kept_at, extents, roots, extent_at, root_at, Among, EndsWith, Chain, first_of, IsAtRest, HaveRoots, AreSeen, AreSettling, AreSettlingBut, AreKept, IsTakenIn, KeepsFound, NoneFollows, NeedsAreWithin}
+use Rattle.hare_types.specs.Waiting.{nowhere, blank, kept_at, extents, roots, extent_at, root_at, Among, EndsWith, Chain, first_of, HasRoot, IsAtRest, HaveRoots, AreSeen, AreSettling, AreSettlingBut, AreKept, IsTakenIn, KeepsFound, NoneFollows, NeedsAreWithin}
 use Rattle.hare_types.proofs.ListLemmas.{slice_get_end, slice_get_push}
 use Rattle.hare_types.proofs.TreeLemmas.{IsWithin-le}
 use Rattle.hare_types.proofs.SoundLemmas.{IsStore-rows, names_new}
 use Rattle.hare_types.proofs.InternLemmas.{AreRows-new, kept_new, Continues-grows}
 use Rattle.hare_types.proofs.KeptLemmas.{KeepsExtents-push, extent_over-front, known-front}
-use Rattle.hare_types.proofs.RootLemmas.{KeepsRoots-push}
+use Rattle.hare_types.proofs.RootLemmas.{KeepsRoots-push, TellsAll-of, TellsAll-same}
 use Rattle.hare_types.proofs.ChainLemmas.{equal_or_not, Chain-below}
 use Rattle.hare_types.proofs.NeedLemmas.{extent-rooted}
 use Rattle.hare_types.proofs.WaitLemmas.{HaveRoots-kept}
@@ -71,7 +72,7 @@ Chain-longer ks new len same (x ∷ xs) h c =
 
 root_front : (definition : ℕ → Option ℕ) (bs : List (Option Root)) (o : Option Root) (i : ℕ) (r : Row) → IsWithin (length bs) r → ((d t : ℕ) → definition d ≡ Some t → t < length bs)
     → root_over definition (known_root (bs ++ o ∷ [])) i r ≡ root_over definition (known_root bs) i r
-root_front definition bs o i (row.Error j) h ids = ap (option_map with_mark) (get_or-append bs (o ∷ []) None j h)
+root_front definition bs o i (row.Error j) h ids = ap (λ x. Some (with_mark x)) (get_or-append bs (o ∷ []) None j h)
 root_front definition bs o i (row.Named d) h ids = by (definition d) (λ t. ids d t)
   where
     by : (q : Option ℕ) → ((t : ℕ) → q ≡ Some t → t < length bs) → option_and_then (known_root (bs ++ o ∷ [])) q ≡ option_and_then (known_root bs) q
@@ -149,11 +150,11 @@ module _ (s : Store) (ks : List Kept) (v : AreKept s ks) (r : Row) (w : IsWithin
   pub push-rooted : HaveRoots pushed
   push-rooted i h = by (kept_within i h)
     where
-      by : (i < length s.rows) ⊎ (i ≡ length s.rows) → IsSome (root_at pushed i)
-      by (inl l) = subst IsSome (sym (root_old i l)) (v.rooted i (subst IsSome (extent_old i l) h))
+      by : (i < length s.rows) ⊎ (i ≡ length s.rows) → IsSome (base_in (root_at pushed i))
+      by (inl l) = subst IsSome (sym (ap base_in (root_old i l))) (v.rooted i (subst IsSome (extent_old i l) h))
       by (inr e) =
           let here : IsSome k.extent = subst IsSome (ap (extent_at pushed) e ∙ extent_last) h in
-          subst IsSome (sym (ap (root_at pushed) e ∙ root_last ∙ root_is)) (extent-rooted s.declared ks v.rooted (length s.rows) r (subst IsSome extent_is here))
+          subst IsSome (sym (ap base_in (ap (root_at pushed) e ∙ root_last ∙ root_is))) (extent-rooted s.declared ks v.rooted (length s.rows) r (subst IsSome extent_is here))
 
   pub push-seen : AreSeen (s.rows ++ r ∷ []) pushed
   push-seen i n p q g l e = by (slice_get_push s.rows r i q g)
@@ -185,7 +186,7 @@ module _ (s : Store) (ks : List Kept) (v : AreKept s ks) (r : Row) (w : IsWithin
           absurd (omega arith)
       by (inr h) =
           subst (NoneFollows s.declared pushed (length s.rows)) (sym h.1)
-          (over_front r w ∙ sym extent_is ∙ sym extent_last ∙ u, λ b. roots_front (length s.rows) r w ∙ sym root_is ∙ sym root_last ∙ b)
+          (over_front r w ∙ sym extent_is ∙ sym extent_last ∙ u, TellsAll-of _ _ (root_last ∙ root_is ∙ sym (roots_front (length s.rows) r w)))
 
   in_old : (n i : ℕ) → Among (v.lists n) i → i < length s.rows
   in_old n i a = omega (arith, as_many, Chain-below ks (v.lists n) (first_of ks nowhere n) (v.settled.waiting.links.chains n) i a)
@@ -234,12 +235,12 @@ module _ (s : Store) (ks : List Kept) (v : AreKept s ks) (r : Row) (w : IsWithin
               inr (x.0, x.1, extent_old x.0 below ∙ x.2)
 
           on : (slice_get s.rows i ≡ Some q) ⊎ ((i ≡ length s.rows) × (q ≡ r))
-              → (root_at pushed i ≡ None → root_over (defined s.declared) (root_at pushed) i q ≡ None) × (IsInert s.declared q ⊎ ((p : ℕ) × Among (v.lists (suc p)) i × (extent_at pushed p ≡ None)))
+              → HasRoot s.declared pushed i q × (IsInert s.declared q ⊎ ((p : ℕ) × Among (v.lists (suc p)) i × (extent_at pushed p ≡ None)))
           on (inr h) = absurd (other (sym h.0))
           on (inl h) =
               let l = slice_get_within s.rows i q h in
               let x = a q h (sym (extent_old i l) ∙ u) in
-              ((λ b. roots_front i q (IsWithin-le i (length s.rows) q (omega arith) (v.store.rows_sound.within i q h)) ∙ x.0 (sym (root_old i l) ∙ b)), kept h x.1)
+              (TellsAll-same _ _ _ _ (root_old i l) (roots_front i q (IsWithin-le i (length s.rows) q (omega arith) (v.store.rows_sound.within i q h))) x.0, kept h x.1)
 
       by : (i : ℕ) → (length s.rows ≡ i) ⊎ (¬ (length s.rows ≡ i)) → IsAtRest s.rows s.declared ks v.lists i ⊎ Among (v.lists 0) i
           → (length s.rows ≡ i) ⊎ (IsAtRest (s.rows ++ r ∷ []) s.declared pushed v.lists i ⊎ Among (v.lists 0) i)

@@ -1,6 +1,6 @@
 -- What is found of a row, and what the rows that wait for it come to.
-use Rattle.std.proofs.Common.{◌≡◌, ◌≢◌, ℕ, suc, ◌<◌, true, false, List, [], ◌++◌, length, set, Option, Some, None, IfSome, IsSome, refl, ap, sym, ◌∙◌, subst, arith, ◌⊎◌, inl, inr, length-set, get_or-set_other, get_or-set_same}
-use Rattle.std.specs.Prelude.{slice_get}
+use Rattle.std.proofs.Common.{◌≡◌, ◌≢◌, ℕ, suc, ◌<◌, true, false, List, [], ◌++◌, length, map, set, Option, Some, None, IfSome, IsSome, refl, ap, sym, ◌∙◌, subst, arith, ◌⊎◌, inl, inr, length-set, get_or-set_other, get_or-set_same}
+use Rattle.std.specs.Prelude.{slice_get, slice_index_or}
 use Rattle.std.proofs.lemmas.List.{map-set, length-map}
 use Rattle.std.proofs.Math.Seq.{map-set_same}
 use Rattle.std.proofs.Math.ListN.{get_or-map}
@@ -12,13 +12,14 @@ use Rattle.hare_types.specs.declared.row.Row.{Row}
 use Rattle.hare_types.specs.Store.{Store}
 use Rattle.hare_types.specs.Sound.{IsStore}
 use Rattle.hare_types.specs.Kept.{known, defined, extent_over, IsBounded, AreBounded, KeepsExtents, IsInert, unknown}
-use Rattle.hare_types.specs.Roots.{known_root, root_over, KeepsRoots}
-use Rattle.hare_types.specs.Waiting.{blank, kept_at, extents, roots, extent_at, root_at, Among, AreLinked, IsAtRest, HaveRoots, AreSeen, AreSettlingBut, KeepsFound, with_found, with_list, released, IsFound, NoneFollows, unknowns}
-use Rattle.hare_types.proofs.KeptLemmas.{KeepsExtents-set, unknown-set, unknown-more}
-use Rattle.hare_types.proofs.RootLemmas.{KeepsRoots-set}
+use Rattle.hare_types.specs.Packed.{base_in}
+use Rattle.hare_types.specs.Roots.{known_root, root_over, KeepsRoots, TellsMore}
+use Rattle.hare_types.specs.Waiting.{blank, kept_at, extents, roots, bases, extent_at, root_at, Among, AreLinked, HasRoot, IsAtRest, HaveRoots, AreSeen, AreSettlingBut, KeepsFound, with_found, with_list, released, IsFound, NoneFollows, unknowns}
+use Rattle.hare_types.proofs.KeptLemmas.{KeepsExtents-set, unknown-set, unknown-least, unknown-filled, unknown-more}
+use Rattle.hare_types.proofs.RootLemmas.{KeepsRoots-set, TellsAll-same}
 use Rattle.hare_types.proofs.ChainLemmas.{kept-same, equal_or_not, with_list-here, with_list-there, with_list-from, Among-append, Among-left, Among-right}
 use Rattle.hare_types.proofs.LinkLemmas.{AreLinked-same}
-use Rattle.hare_types.proofs.NeedLemmas.{root_over-near, root_over-inert}
+use Rattle.hare_types.proofs.NeedLemmas.{root_over-near, root_over-inert, base-kept}
 
 -- ---- what is found of one row
 
@@ -102,9 +103,12 @@ module _ (rows : List Row) (es : List (ℕ × Declared)) (old mid : List Kept) (
   pub found-rooted : HaveRoots old → HaveRoots mid
   found-rooted h j s = by (equal_or_not j i)
     where
-      by : (j ≡ i) ⊎ (¬ (j ≡ i)) → IsSome (root_at mid j)
-      by (inl e) = subst IsSome (sym (ap (λ l. root_at l i) f.new_is ∙ root-here old i f.extent f.root within) ∙ ap (root_at mid) (sym e)) f.rooted
-      by (inr other) = subst IsSome (sym (b_mid j other)) (h j (subst IsSome (e_mid j other) s))
+      by : (j ≡ i) ⊎ (¬ (j ≡ i)) → IsSome (base_in (root_at mid j))
+      by (inl e) =
+          let extent : IsSome f.extent = subst IsSome (ap (extent_at mid) e ∙ ap (λ l. extent_at l i) f.new_is ∙ extent-here old i f.extent f.root within) s in
+          let root : root_at mid j ≡ f.root = ap (root_at mid) e ∙ ap (λ l. root_at l i) f.new_is ∙ root-here old i f.extent f.root within in
+          subst IsSome (sym (ap base_in root)) (f.based extent)
+      by (inr other) = subst IsSome (sym (ap base_in (b_mid j other))) (h j (subst IsSome (e_mid j other) s))
 
   pub found-seen : AreSeen rows old → AreSeen rows mid
   found-seen h j k p q g l e = by (equal_or_not p i)
@@ -131,24 +135,45 @@ module _ (rows : List Row) (es : List (ℕ × Declared)) (old mid : List Kept) (
   pub found-fewer : unknowns mid < unknowns old
   found-fewer = subst (λ l. unknowns l < unknowns old) (sym f.new_is) (by f.extent refl f.more)
     where
-      roots_less : root_at old i ≡ None → (o : Option Root) → f.root ≡ o → IsSome o → unknown (set (roots old) i f.root) < unknown (roots old)
-      roots_less h None e s = absurd cc
-      roots_less h (Some b) e s = subst (λ o. unknown (set (roots old) i o) < unknown (roots old)) (sym e) (unknown-set (roots old) i b (omega (arith, within, length-map old (λ k. k.root))) h)
+      roots_within : i < length (roots old)
+      roots_within = omega (arith, within, length-map old (λ k. k.root))
 
-      by : (o : Option Extent) → f.extent ≡ o → IsSome f.extent ⊎ (root_at old i ≡ None) → unknowns (with_found old i f.extent f.root) < unknowns old
+      bases_within : i < length (bases old)
+      bases_within = omega (arith, roots_within, length-map (roots old) base_in)
+
+      roots_now : unknown (roots (with_found old i f.extent f.root)) ≡ unknown (set (roots old) i f.root)
+      roots_now = ap unknown (roots-found old i f.extent f.root)
+
+      bases_now : unknown (bases (with_found old i f.extent f.root)) ≡ unknown (set (bases old) i (base_in f.root))
+      bases_now = ap unknown (ap (map base_in) (roots-found old i f.extent f.root) ∙ map-set base_in (roots old) i f.root)
+
+      no_base : base_in (root_at old i) ≡ None → slice_index_or (bases old) i None ≡ None
+      no_base h = get_or-map base_in (roots old) i None ∙ h
+
+      as_before : f.extent ≡ None → unknown (extents (with_found old i f.extent f.root)) ≡ unknown (extents old)
+      as_before e = ap unknown (ap (λ o. extents (with_found old i o f.root)) e ∙ extents-none old i f.root none)
+
+      more : f.extent ≡ None → (root_at old i ≡ None) ⊎ ((base_in (root_at old i) ≡ None) × IsSome (base_in f.root)) → unknowns (with_found old i f.extent f.root) < unknowns old
+      more e (inl h) =
+          let less = unknown-filled (roots old) i f.root roots_within h f.rooted in
+          let rest = unknown-least (bases old) i (base_in f.root) (no_base (ap base_in h)) in
+          omega (arith, as_before e, roots_now, bases_now, less, rest)
+      more e (inr h) =
+          let less = unknown-filled (bases old) i (base_in f.root) bases_within (no_base h.0) h.1 in
+          let rest = unknown-more (roots old) i f.root f.rooted in
+          omega (arith, as_before e, roots_now, bases_now, less, rest)
+
+      by : (o : Option Extent) → f.extent ≡ o → IsSome f.extent ⊎ TellsMore (root_at old i) f.root → unknowns (with_found old i f.extent f.root) < unknowns old
       by (Some x) e h =
-          let first = unknown-set (extents old) i x (omega (arith, within, length-map old (λ k. k.extent))) none in
+          let less = unknown-set (extents old) i x (omega (arith, within, length-map old (λ k. k.extent))) none in
+          let first : unknown (extents (with_found old i f.extent f.root)) ≡ unknown (set (extents old) i (Some x)) = ap unknown (extents-found old i f.extent f.root ∙ ap (set (extents old) i) e) in
           let second = unknown-more (roots old) i f.root f.rooted in
-          let one : unknown (extents (with_found old i f.extent f.root)) ≡ unknown (set (extents old) i (Some x)) = ap unknown (extents-found old i f.extent f.root ∙ ap (set (extents old) i) e) in
-          let two : unknown (roots (with_found old i f.extent f.root)) ≡ unknown (set (roots old) i f.root) = ap unknown (roots-found old i f.extent f.root) in
-          omega (arith, first, second, one, two)
+          let third = unknown-more (bases old) i (base_in f.root) (f.based (subst IsSome (sym e) refl)) in
+          omega (arith, less, first, second, third, roots_now, bases_now)
       by None e (inl s) =
           let nothing : false ≡ true = subst IsSome e s in
           absurd cc
-      by None e (inr h) =
-          let one : unknown (extents (with_found old i f.extent f.root)) ≡ unknown (extents old) = ap unknown (ap (λ o. extents (with_found old i o f.root)) e ∙ extents-none old i f.root none) in
-          let two : unknown (roots (with_found old i f.extent f.root)) ≡ unknown (set (roots old) i f.root) = ap unknown (roots-found old i f.extent f.root) in
-          omega (arith, one, two, roots_less h f.root refl f.rooted)
+      by None e (inr h) = more e h.1
 
   pub found-length : length mid ≡ length old
   found-length = ap length f.new_is ∙ length-set old i (record (kept_at old i) { extent = f.extent; root = f.root })
@@ -192,11 +217,14 @@ module _ (rows : List Row) (es : List (ℕ × Declared)) (old mid : List Kept) (
       extent : extent_over (defined es) (known (extents new)) r ≡ None
       extent = ap (λ l. extent_over (defined es) (known l) r) extents_stay ∙ sym f.extent_is ∙ unfound
 
-      root : root_at new i ≡ None → root_over (defined es) (root_at new) i r ≡ None
-      root b =
-          let gone : f.root ≡ None = sym (ap (λ l. root_at l i) f.new_is ∙ root-here old i f.extent f.root within) ∙ sym (ap (λ l. known_root l i) k.roots) ∙ b in
-          let nothing : false ≡ true = subst IsSome gone f.rooted in
-          absurd cc
+      root_now : root_at new i ≡ f.root
+      root_now = ap (λ l. known_root l i) k.roots ∙ ap (λ l. root_at l i) f.new_is ∙ root-here old i f.extent f.root within
+
+      root : HasRoot es new i r
+      root = record {
+        root = λ n. let nothing : false ≡ true = subst IsSome (sym root_now ∙ n) f.rooted in absurd cc;
+        base = base-kept es (root_at old) (root_at new) i r (root_now ∙ f.root_is) (λ j other. ap (λ l. known_root l j) k.roots ∙ b_mid j other);
+      }
 
   -- once those that wait for it are released, each other row is at rest or looked at later
   module _ (new : List Kept) (keeps : KeepsFound mid new) (pile pile' : ℕ) (lists : ℕ → List ℕ) (links : AreLinked new pile' (released lists i)) (h : AreSettlingBut i rows es old pile lists) where
@@ -222,23 +250,23 @@ module _ (rows : List Row) (es : List (ℕ × Declared)) (old mid : List Kept) (
       where
         -- what is said of one row
         said : (j : ℕ) (q : Row) → slice_get rows j ≡ Some q
-            → ((root_at new j ≡ None → root_over (defined es) (root_at new) j q ≡ None) × (IsInert es q ⊎ ((p : ℕ) × Among (released lists i (suc p)) j × (extent_at new p ≡ None)))) → IsAtRest rows es new (released lists i) j
+            → (HasRoot es new j q × (IsInert es q ⊎ ((p : ℕ) × Among (released lists i (suc p)) j × (extent_at new p ≡ None)))) → IsAtRest rows es new (released lists i) j
         said j q g s q' g' u =
             let both : Some q ≡ Some q' = sym g ∙ g' in
             let same : q ≡ q' = cc in
-            subst (λ x. (root_at new j ≡ None → root_over (defined es) (root_at new) j x ≡ None) × (IsInert es x ⊎ ((p : ℕ) × Among (released lists i (suc p)) j × (extent_at new p ≡ None)))) same s
+            subst (λ x. HasRoot es new j x × (IsInert es x ⊎ ((p : ℕ) × Among (released lists i (suc p)) j × (extent_at new p ≡ None)))) same s
 
-        at_rest : (j : ℕ) → j ≢ i → (q : Row) → slice_get rows j ≡ Some q → (root_at old j ≡ None → root_over (defined es) (root_at old) j q ≡ None)
+        at_rest : (j : ℕ) → j ≢ i → (q : Row) → slice_get rows j ≡ Some q → HasRoot es old j q
             → IsInert es q ⊎ ((p : ℕ) × Among (lists (suc p)) j × (extent_at old p ≡ None)) → IsAtRest rows es new (released lists i) j ⊎ Among (released lists i 0) j
         at_rest j other q g root (inl inert) =
-            inl (said j q g ((λ b. root_over-inert es (root_at old) (root_at new) j q inert ∙ root (sym (b_new j other) ∙ b)), inl inert))
+            inl (said j q g (TellsAll-same _ _ _ _ (b_new j other) (root_over-inert es (root_at old) (root_at new) j q inert) root, inl inert))
         at_rest j other q g root (inr w) = on (equal_or_not w.0 i)
           where
             on : (w.0 ≡ i) ⊎ (¬ (w.0 ≡ i)) → IsAtRest rows es new (released lists i) j ⊎ Among (released lists i 0) j
             on (inl e) = inr (released-pile lists i j (inl (subst (λ p. Among (lists (suc p)) j) e w.1)))
             on (inr away) =
                 inl (said j q g (
-                  (λ b. root_over-near es (root_at old) (root_at new) j q w.0 (h.waiting.needs w.0 j w.1 q g) (b_new w.0 away) ∙ root (sym (b_new j other) ∙ b)),
+                  TellsAll-same _ _ _ _ (b_new j other) (root_over-near es (root_at old) (root_at new) j q w.0 (h.waiting.needs w.0 j w.1 q g) (b_new w.0 away)) root,
                   inr (w.0, released-to lists i w.0 j away w.1, e_new w.0 away ∙ w.2),
                 ))
 

@@ -13,7 +13,7 @@ use Rattle.hare_types.specs.Keys.{row_eq}
 use Rattle.hare_types.specs.KeyLaws.{row_eq-Decides}
 use Rattle.hare_types.specs.Trees.{Tree, Scalar, Named, trees_of, Same}
 use Rattle.hare_types.specs.Rows.{tree_in, tree_of, trees}
-use Rattle.hare_types.specs.Store.{Store, tree_at, sized_of, definition_of, meaning_of, IsTag}
+use Rattle.hare_types.specs.Store.{Store, tree_at, sized_of, definition_of, meaning_of}
 use Rattle.hare_types.specs.Sound.{IsStore}
 use Rattle.hare_types.specs.ByValue.{has_size}
 use Rattle.hare_types.specs.Layout.{fields_extent, union_extent, following, base_with, error_with, IsError, extent_with, extents_with}
@@ -453,19 +453,19 @@ module _ (s : Store) (v : IsStore s) where
           absurd (nowhere (ap (λ l. slice_get l t) (map-id s.rows) ∙ h))
       whole h (Some i) e = e ∙ ap Some (v.rows_sound.once.once i t r (sound i e) h)
 
-  pub tag_tells : (t n : ℕ) → (tag_at s t ≡ Some n) ↔ IsTag s t n
+  pub tag_tells : (t n : ℕ) → (tag_at s t ≡ Some n) ↔ ((k : ℕ) × (n ≡ k + 1) × (slice_get s.listed k ≡ Some t))
   tag_tells t n = (λ e. sound (position (nat_eq t) s.listed) refl e, λ h. whole h (position (nat_eq t) s.listed) refl)
     where
       place : (k : ℕ) → position (nat_eq t) s.listed ≡ Some k → slice_get s.listed k ≡ Some t
       place k e = simp map-id at (position_found (λ q. q) t (nat_eq t) (unsigned_Decides t) s.listed k (sym e))
 
-      sound : (o : Option ℕ) → position (nat_eq t) s.listed ≡ o → option_map suc o ≡ Some n → IsTag s t n
+      sound : (o : Option ℕ) → position (nat_eq t) s.listed ≡ o → option_map suc o ≡ Some n → (k : ℕ) × (n ≡ k + 1) × (slice_get s.listed k ≡ Some t)
       sound None f e = absurd cc
       sound (Some k) f e =
           let same : suc k ≡ n = cc in
           (k, omega (arith, same), place k f)
 
-      whole : IsTag s t n → (o : Option ℕ) → position (nat_eq t) s.listed ≡ o → tag_at s t ≡ Some n
+      whole : (k : ℕ) × (n ≡ k + 1) × (slice_get s.listed k ≡ Some t) → (o : Option ℕ) → position (nat_eq t) s.listed ≡ o → tag_at s t ≡ Some n
       whole h None f =
           let nowhere = position_absent (λ q. q) t (nat_eq t) (unsigned_Decides t) s.listed (sym f) h.0 in
           absurd (nowhere (ap (λ l. slice_get l h.0) (map-id s.listed) ∙ h.2))

@@ -324,6 +324,20 @@ unknown-set (Some y ∷ ks) zero x l e = absurd cc
 unknown-set (None ∷ ks) (suc i) x l e = omega (arith, unknown-set ks i x (omega arith) e)
 unknown-set (Some y ∷ ks) (suc i) x l e = unknown-set ks i x (omega arith) e
 
+-- where none was kept, no more are unknown, whatever is
+pub unknown-least : {A : Type 0} (ks : List (Option A)) (i : ℕ) (o : Option A) → slice_index_or ks i None ≡ None → unknown (set ks i o) ≤ unknown ks
+unknown-least [] i o e = omega arith
+unknown-least (None ∷ ks) zero None e = omega arith
+unknown-least (None ∷ ks) zero (Some x) e = omega arith
+unknown-least (Some y ∷ ks) zero o e = absurd cc
+unknown-least (None ∷ ks) (suc i) o e = omega (arith, unknown-least ks i o e)
+unknown-least (Some y ∷ ks) (suc i) o e = unknown-least ks i o e
+
+-- and fewer are, where one is
+pub unknown-filled : {A : Type 0} (ks : List (Option A)) (i : ℕ) (o : Option A) → i < length ks → slice_index_or ks i None ≡ None → IsSome o → unknown (set ks i o) < unknown ks
+unknown-filled ks i None l e h = absurd cc
+unknown-filled ks i (Some x) l e h = unknown-set ks i x l e
+
 -- once one is kept, no more are unknown
 pub unknown-more : {A : Type 0} (ks : List (Option A)) (i : ℕ) (o : Option A) → IsSome o → unknown (set ks i o) ≤ unknown ks
 unknown-more ks i None h = absurd cc

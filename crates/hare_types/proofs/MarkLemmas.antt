@@ -1,16 +1,14 @@
 -- What an error mark marks.
-use Rattle.std.proofs.Common.{◌≡◌, ℕ, suc, ◌-◌, ◌<◌, Bool, false, arith, subst, List, Option, Some, None, refl, ap, sym, ◌∙◌}
+use Rattle.std.proofs.Common.{◌≡◌, ℕ, ◌<◌, Bool, false, List, Option, Some, None, refl, ap, sym, ◌∙◌}
 use Rattle.std.specs.Prelude.{slice_get, option_and_then}
 use Rattle.std.specs.Option.{unwrap_or}
 use Rattle.hare_types.specs.declared.row.Row.{Row}
 use Rattle.hare_types.specs.declared.row.Row.TheVariants as row
 use Rattle.hare_types.specs.declared.declared.Declared.{Declared}
-use Rattle.hare_types.specs.declared.marks.Mark.{Mark}
-use Rattle.hare_types.specs.Kept.{defined}
-use Rattle.hare_types.specs.ByIds.{found_within, error_over, marked_at, is_error_at, sized_over, sized_at, has_size_at}
-use Rattle.hare_types.specs.Marks.{marked_in, mark_by, sized_in}
+use Rattle.hare_types.specs.ByIds.{sized_over, sized_at, has_size_at}
+use Rattle.hare_types.specs.Marks.{marked_in, sized_in}
 use Rattle.hare_types.specs.Rows.{IsWithin}
-use Rattle.hare_types.specs.Store.{Store, sized_of, definition_of}
+use Rattle.hare_types.specs.Store.{Store, sized_of}
 use Rattle.hare_types.proofs.IdLemmas.{no_row, sized-row}
 
 marked_row : (r : Row) (j : ℕ) → marked_in r ≡ Some j → r ≡ row.Error j
@@ -58,32 +56,3 @@ module _ (rows : List Row) (es : List (ℕ × Declared)) (t u : ℕ) (s : Store)
       none : (o : Option Bool) → sized_at s u ≡ o → sized_at s u ≡ None
       none None e = e
       none (Some b) e = absurd (no_row s (sized_over (sized_of s)) u (ap (λ l. slice_get l u) of ∙ gone) b e)
-
--- ---- whether a type is an error type
-
--- what is found of row `at` in so many steps is what is found of type t
-abbrev pub Follows : List Row → List (ℕ × Declared) → ℕ → ℕ → ℕ → Type 0
-Follows rows es t left at = (s : Store) → s.rows ≡ rows → s.declared ≡ es → found_within s (error_over (definition_of s)) left at ≡ marked_at s t
-
-module _ (rows : List Row) (es : List (ℕ × Declared)) (t left at : ℕ) (more : 0 < left) (follows : Follows rows es t left at) (s : Store) (of : s.rows ≡ rows) (by_names : s.declared ≡ es) where
-  -- one row further
-  further_row : (o : Option Row) → slice_get rows at ≡ o
-      → option_and_then (error_over (definition_of s) (found_within s (error_over (definition_of s)) (left - 1)) at) o ≡ marked_at s t
-  further_row o here =
-      let one : suc (left - 1) ≡ left = omega (arith, more) in
-      ap (option_and_then (error_over (definition_of s) (found_within s (error_over (definition_of s)) (left - 1)) at)) (sym here ∙ ap (λ l. slice_get l at) (sym of))
-      ∙ subst (λ n. found_within s (error_over (definition_of s)) n at ≡ marked_at s t) (sym one) (follows s of by_names)
-
-  pub mark_row : (r : Row) → slice_get rows at ≡ Some r → (m n : Mark)
-      → ((ks : ℕ → Option Bool) (i : ℕ) → error_over (defined es) ks i r ≡ mark_by ks m) → m ≡ n
-      → mark_by (found_within s (error_over (definition_of s)) (left - 1)) n ≡ marked_at s t
-  mark_row r here m n value same =
-      let ks = found_within s (error_over (definition_of s)) (left - 1) in
-      ap (mark_by ks) (sym same) ∙ sym (value ks at) ∙ ap (λ l. error_over (defined l) ks at r) (sym by_names) ∙ further_row (Some r) here
-
-  pub no_mark_row : slice_get rows at ≡ None → None ≡ marked_at s t
-  no_mark_row gone = further_row None gone
-
--- what is known of an error mark is told
-pub mark_told : (s : Store) (t : ℕ) (o : Option Bool) → o ≡ marked_at s t → unwrap_or o false ≡ is_error_at s t
-mark_told s t o e = ap (λ p. unwrap_or p false) e

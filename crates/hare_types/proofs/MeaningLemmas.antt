@@ -18,6 +18,7 @@ use Rattle.hare_types.specs.Layout.{following, extent_with}
 use Rattle.hare_types.specs.Kept.{parts_of, defined, KeepsExtents, IsInert}
 use Rattle.hare_types.specs.Roots.{root_over}
 use Rattle.hare_types.specs.Waiting.{nowhere, extents, extent_at, root_at, Among, NeedsRow, Needs, IsAtRest, AreSettling, AreSettlingButName, NeedsAreWithin}
+use Rattle.hare_types.proofs.RootLemmas.{TellsAll-same}
 use Rattle.hare_types.proofs.TreeLemmas.{IsWithin-le}
 use Rattle.hare_types.proofs.CallerLemmas.{tree_at_row}
 use Rattle.hare_types.proofs.KeptLemmas.{FieldsBelow-ids}
@@ -103,7 +104,7 @@ rest_same : (rows : List Row) (es new : List (ℕ × Declared)) (ks : List Kept)
     → IsAtRest rows es ks lists i → IsAtRest rows new ks lists i
 rest_same rows es new ks lists i same h r g u =
     let q = h r g u in
-    ((λ b. root_same (defined new) (defined es) (root_at ks) i r (λ d e. same r d g e) ∙ q.0 b), by q.1)
+    (TellsAll-same _ _ _ _ refl (root_same (defined new) (defined es) (root_at ks) i r (λ d e. same r d g e)) q.0, by q.1)
   where
     by : IsInert es r ⊎ ((p : ℕ) × Among (lists (suc p)) i × (extent_at ks p ≡ None)) → IsInert new r ⊎ ((p : ℕ) × Among (lists (suc p)) i × (extent_at ks p ≡ None))
     by (inl x) = inl (inert_same es new r (λ d e. same r d g e) x)

@@ -1,5 +1,5 @@
 -- What rows need, and what follows from it.
-use Rattle.std.proofs.Common.{◌≡◌, ℕ, zero, suc, ◌<◌, List, [], ◌∷◌, Option, Some, None, IsSome, refl, ap, ap₂, sym, ◌∙◌, arith}
+use Rattle.std.proofs.Common.{◌≡◌, ℕ, zero, suc, ◌<◌, List, [], ◌∷◌, Option, Some, None, IsSome, refl, ap, ap₂, sym, ◌∙◌, arith, ◌⊎◌, inl, inr}
 use Rattle.std.specs.Prelude.{slice_get, option_map, option_and_then}
 use Rattle.hare_types.specs.declared.declared.Declared.{Declared}
 use Rattle.hare_types.specs.declared.extent.Extent.{Extent}
@@ -8,8 +8,10 @@ use Rattle.hare_types.specs.declared.root.Root.{Root}
 use Rattle.hare_types.specs.declared.row.Row.{Row}
 use Rattle.hare_types.specs.declared.row.Row.TheVariants as row
 use Rattle.hare_types.specs.Kept.{parts_of, known, defined, all_known, extent_over, IsInert}
+use Rattle.hare_types.specs.Packed.{base_in}
 use Rattle.hare_types.specs.Roots.{with_mark, root_over}
 use Rattle.hare_types.specs.Waiting.{extents, root_at, NeedsRow, HaveRoots, needed_at}
+use Rattle.hare_types.proofs.ChainLemmas.{equal_or_not}
 
 -- ---- what a row needs
 
@@ -112,7 +114,7 @@ needed-none es f (row.Slice j) k none before e = absurd cc
 -- ---- roots follow from what rows need
 
 pub root_over-near : (es : List (ℕ × Declared)) (f g : ℕ → Option Root) (i : ℕ) (r : Row) (p : ℕ) → NeedsRow es r p → g p ≡ f p → root_over (defined es) g i r ≡ root_over (defined es) f i r
-root_over-near es f g i (row.Error j) p h e = ap (option_map with_mark) (ap g h ∙ e ∙ ap f (sym h))
+root_over-near es f g i (row.Error j) p h e = ap (λ o. Some (with_mark o)) (ap g h ∙ e ∙ ap f (sym h))
 root_over-near es f g i (row.Named d) p h e = ap (option_and_then g) h ∙ e ∙ sym (ap (option_and_then f) h)
 root_over-near es f g i (row.Array n j) p h e = refl
 root_over-near es f g i (row.Struct fs) p h e = refl
@@ -135,16 +137,13 @@ root_over-inert es f g i (row.Pointer j) h = absurd h
 root_over-inert es f g i (row.Nullable j) h = absurd h
 root_over-inert es f g i (row.Slice j) h = absurd h
 
--- a row has a root where it has an extent
-pub extent-rooted : (es : List (ℕ × Declared)) (ks : List Kept) → HaveRoots ks → (i : ℕ) (r : Row) → IsSome (extent_over (defined es) (known (extents ks)) r) → IsSome (root_over (defined es) (root_at ks) i r)
-extent-rooted es ks h i (row.Error j) s = by (root_at ks j) (h j s)
-  where
-    by : (o : Option Root) → IsSome o → IsSome (option_map with_mark o)
-    by None e = e
-    by (Some r) e = refl
+-- a row has a base where it has an extent
+pub extent-rooted : (es : List (ℕ × Declared)) (ks : List Kept) → HaveRoots ks → (i : ℕ) (r : Row) → IsSome (extent_over (defined es) (known (extents ks)) r)
+    → IsSome (base_in (root_over (defined es) (root_at ks) i r))
+extent-rooted es ks h i (row.Error j) s = h j s
 extent-rooted es ks h i (row.Named d) s = by (defined es d) s
   where
-    by : (o : Option ℕ) → IsSome (option_and_then (known (extents ks)) o) → IsSome (option_and_then (root_at ks) o)
+    by : (o : Option ℕ) → IsSome (option_and_then (known (extents ks)) o) → IsSome (base_in (option_and_then (root_at ks) o))
     by None s = s
     by (Some t) s = h t s
 extent-rooted es ks h i (row.Scalar k) s = refl
@@ -155,3 +154,35 @@ extent-rooted es ks h i (row.Array n j) s = refl
 extent-rooted es ks h i (row.Struct fs) s = refl
 extent-rooted es ks h i (row.Tuple js) s = refl
 extent-rooted es ks h i (row.Union js) s = refl
+
+-- where a row with a base is a root
+pub rooted-based : (o : Option Root) → IsSome (base_in o) → IsSome o
+rooted-based None h = h
+rooted-based (Some r) h = refl
+
+-- Once what follows for row i is kept of it, and of the other rows what was, no base follows that is not kept. No matter whether the row rests on
+-- itself.
+pub base-kept : (es : List (ℕ × Declared)) (f g : ℕ → Option Root) (i : ℕ) (r : Row) → g i ≡ root_over (defined es) f i r → ((j : ℕ) → ¬ (j ≡ i) → g j ≡ f j)
+    → base_in (g i) ≡ None → base_in (root_over (defined es) g i r) ≡ None
+base-kept es f g i (row.Error j) here there h = by (equal_or_not j i)
+  where
+    by : (j ≡ i) ⊎ (¬ (j ≡ i)) → base_in (g j) ≡ None
+    by (inl e) = ap (λ n. base_in (g n)) e ∙ h
+    by (inr other) = ap base_in (there j other) ∙ sym (ap base_in here) ∙ h
+base-kept es f g i (row.Named d) here there h = by (defined es d) refl
+  where
+    on : (t : ℕ) → defined es d ≡ Some t → (t ≡ i) ⊎ (¬ (t ≡ i)) → base_in (g t) ≡ None
+    on t e (inl same) = ap (λ n. base_in (g n)) same ∙ h
+    on t e (inr other) = ap base_in (there t other) ∙ sym (ap base_in (here ∙ ap (option_and_then f) e)) ∙ h
+
+    by : (o : Option ℕ) → defined es d ≡ o → base_in (option_and_then g o) ≡ None
+    by None e = refl
+    by (Some t) e = on t e (equal_or_not t i)
+base-kept es f g i (row.Scalar k) here there h = sym (ap base_in here) ∙ h
+base-kept es f g i (row.Pointer j) here there h = sym (ap base_in here) ∙ h
+base-kept es f g i (row.Nullable j) here there h = sym (ap base_in here) ∙ h
+base-kept es f g i (row.Slice j) here there h = sym (ap base_in here) ∙ h
+base-kept es f g i (row.Array n j) here there h = sym (ap base_in here) ∙ h
+base-kept es f g i (row.Struct fs) here there h = sym (ap base_in here) ∙ h
+base-kept es f g i (row.Tuple js) here there h = sym (ap base_in here) ∙ h
+base-kept es f g i (row.Union js) here there h = sym (ap base_in here) ∙ h

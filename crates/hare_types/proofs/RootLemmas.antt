@@ -12,7 +12,8 @@ use Rattle.hare_types.specs.Store.{Store, definition_of}
 use Rattle.hare_types.specs.Kept.{defined}
 use Rattle.hare_types.specs.Bases.{base_over}
 use Rattle.hare_types.specs.ByIds.{row_at, found_within, base_at, error_over, marked_at}
-use Rattle.hare_types.specs.Roots.{known_root, with_mark, root_over, IsRootOf, KeepsRoots}
+use Rattle.hare_types.specs.Roots.{known_root, own_root, with_mark, root_over, IsRootOf, KeepsRoots, TellsAll}
+use Rattle.hare_types.specs.Packed.{base_in}
 use Rattle.hare_types.proofs.ListLemmas.{slice_get_end}
 use Rattle.hare_types.proofs.GrowthLemmas.{Knows}
 use Rattle.hare_types.proofs.FollowLemmas.{Continues-same, found-more}
@@ -24,7 +25,8 @@ use Rattle.hare_types.proofs.IdLemmas.{base_over-grows, error_over-grows, base-r
 pub IsRootOf-more : (old new : Store) → Continues old.rows new.rows → Knows (definition_of old) (definition_of new) → (t : ℕ) (r : Root)
     → IsRootOf old t r → IsRootOf new t r
 IsRootOf-more old new rows more t r h = record {
-  base = found-more old new rows (base_over (definition_of old)) (base_over (definition_of new)) (base_over-grows (definition_of old) (definition_of new) more) t r.base h.base;
+  base = λ b e.
+      found-more old new rows (base_over (definition_of old)) (base_over (definition_of new)) (base_over-grows (definition_of old) (definition_of new) more) t b (h.base b e);
   marked = found-more old new rows (error_over (definition_of old)) (error_over (definition_of new)) (error_over-grows (definition_of old) (definition_of new) more) t r.is_error h.marked;
 }
 
@@ -33,26 +35,32 @@ IsRootOf-more old new rows more t r h = record {
 module _ (s : Store) (ks : ℕ → Option Root) (sound : (i : ℕ) (r : Root) → ks i ≡ Some r → IsRootOf s i r) where
   itself : (t : ℕ) (q : Row) → row_at s t ≡ Some q → base_over (definition_of s) (base_at s) t q ≡ Some t
       → error_over (definition_of s) (marked_at s) t q ≡ Some false
-      → (r : Root) → Some (record { base = t; is_error = false }) ≡ Some r → IsRootOf s t r
+      → (r : Root) → Some (own_root t) ≡ Some r → IsRootOf s t r
   itself t q here b m r e =
-      let base : Some t ≡ Some r.base = ap (option_map (λ x. x.base)) e in
       let mark : Some false ≡ Some r.is_error = ap (option_map (λ x. x.is_error)) e in
-      record { base = base-row s t q here ∙ b ∙ base; marked = marked-row s t q here ∙ m ∙ mark }
+      record {
+        base = λ c f. let own : Some t ≡ Some c = ap base_in e ∙ f in base-row s t q here ∙ b ∙ own;
+        marked = marked-row s t q here ∙ m ∙ mark;
+      }
 
-  by_mark : (t j : ℕ) → row_at s t ≡ Some (row.Error j) → (o : Option Root) → ks j ≡ o → (r : Root) → option_map with_mark o ≡ Some r
-      → IsRootOf s t r
-  by_mark t j here None f r e = absurd cc
-  by_mark t j here (Some x) f r e =
-      let base : Some x.base ≡ Some r.base = ap (option_map (λ y. y.base)) e in
+  base_told : (j : ℕ) (o : Option Root) → ks j ≡ o → (b : ℕ) → base_in o ≡ Some b → base_at s j ≡ Some b
+  base_told j None f b e = absurd cc
+  base_told j (Some x) f b e = (sound j x f).base b e
+
+  by_mark : (t j : ℕ) → row_at s t ≡ Some (row.Error j) → (r : Root) → Some (with_mark (ks j)) ≡ Some r → IsRootOf s t r
+  by_mark t j here r e =
       let mark : Some true ≡ Some r.is_error = ap (option_map (λ y. y.is_error)) e in
-      record { base = base-row s t (row.Error j) here ∙ (sound j x f).base ∙ base; marked = marked-row s t (row.Error j) here ∙ mark }
+      record {
+        base = λ b f. base-row s t (row.Error j) here ∙ base_told j (ks j) refl b (ap base_in e ∙ f);
+        marked = marked-row s t (row.Error j) here ∙ mark;
+      }
 
   by_name : (t d : ℕ) → row_at s t ≡ Some (row.Named d) → (o : Option ℕ) → definition_of s d ≡ o → (r : Root)
       → option_and_then ks o ≡ Some r → IsRootOf s t r
   by_name t d here None f r e = absurd cc
   by_name t d here (Some q) f r e =
       record {
-        base = base-row s t (row.Named d) here ∙ ap (option_and_then (base_at s)) f ∙ (sound q r e).base;
+        base = λ b g. base-row s t (row.Named d) here ∙ ap (option_and_then (base_at s)) f ∙ (sound q r e).base b g;
         marked = marked-row s t (row.Named d) here ∙ ap (option_and_then (marked_at s)) f ∙ (sound q r e).marked;
       }
 
@@ -66,7 +74,7 @@ module _ (s : Store) (ks : ℕ → Option Root) (sound : (i : ℕ) (r : Root) �
   root-step t (row.Struct fs) h r e = itself t (row.Struct fs) h refl refl r e
   root-step t (row.Tuple js) h r e = itself t (row.Tuple js) h refl refl r e
   root-step t (row.Union js) h r e = itself t (row.Union js) h refl refl r e
-  root-step t (row.Error j) h r e = by_mark t j h (ks j) refl r e
+  root-step t (row.Error j) h r e = by_mark t j h r e
   root-step t (row.Named d) h r e = by_name t d h (definition_of s d) refl r e
 
 -- ---- a store that grows
@@ -149,58 +157,120 @@ KeepsRoots-set s ks i q o here value k = record {
         let there : known_root (set ks i o) j ≡ known_root ks j = get_or-set_other ks i j o None other in
         k.sound j r (sym there ∙ e)
 
--- ---- where nothing is kept, there is no base
+-- ---- what is kept, and what follows
 
-module _ (s : Store) (ks : ℕ → Option Root) (settled : (i : ℕ) (q : Row) → slice_get s.rows i ≡ Some q → ks i ≡ None → root_over (definition_of s) ks i q ≡ None) where
-  abbrev Found : ℕ → Type 0
-  Found i = (r : Root) × (ks i ≡ Some r)
+pub TellsAll-of : (kept follows : Option Root) → kept ≡ follows → TellsAll kept follows
+TellsAll-of kept follows e = record { root = λ n. sym e ∙ n; base = λ n. sym (ap base_in e) ∙ n }
 
-  must : (i : ℕ) (q : Row) → slice_get s.rows i ≡ Some q → (r : Root) → root_over (definition_of s) ks i q ≡ Some r → Found i
-  must i q here r e = by (ks i) refl
+pub TellsAll-same : (kept now follows next : Option Root) → now ≡ kept → next ≡ follows → TellsAll kept follows → TellsAll now next
+TellsAll-same kept now follows next e f h = record {
+  root = λ n. f ∙ h.root (sym e ∙ n);
+  base = λ n. ap base_in f ∙ h.base (sym (ap base_in e) ∙ n);
+}
+
+-- ---- where nothing is kept, there is no base, and no error mark
+
+module _ (s : Store) (ks : ℕ → Option Root) (settled : (i : ℕ) (q : Row) → slice_get s.rows i ≡ Some q → TellsAll (ks i) (root_over (definition_of s) ks i q)) where
+  abbrev Based : ℕ → Type 0
+  Based i = (b : ℕ) × (base_in (ks i) ≡ Some b)
+
+  abbrev Met : ℕ → Type 0
+  Met i = (r : Root) × (ks i ≡ Some r)
+
+  base_kept : (i : ℕ) (q : Row) → slice_get s.rows i ≡ Some q → (b : ℕ) → base_in (root_over (definition_of s) ks i q) ≡ Some b → Based i
+  base_kept i q here b e = by (base_in (ks i)) refl
     where
-      by : (o : Option Root) → ks i ≡ o → Found i
+      by : (o : Option ℕ) → base_in (ks i) ≡ o → Based i
       by None f =
-          let none = settled i q here f in
+          let none = (settled i q here).base f in
           absurd cc
       by (Some z) f = (z, f)
 
-  of_row : (n : ℕ) → ((j b : ℕ) → found_within s (base_over (definition_of s)) n j ≡ Some b → Found j) → (t b : ℕ) (q : Row)
-      → slice_get s.rows t ≡ Some q
-      → base_over (definition_of s) (found_within s (base_over (definition_of s)) n) t q ≡ Some b → Found t
-  of_row n ih t b (row.Error j) here e =
-      let inner = ih j b e in
-      must t (row.Error j) here (with_mark inner.0) (ap (option_map with_mark) inner.1)
-  of_row n ih t b (row.Named d) here e = by (definition_of s d) refl e
+  root_kept : (i : ℕ) (q : Row) → slice_get s.rows i ≡ Some q → (r : Root) → root_over (definition_of s) ks i q ≡ Some r → Met i
+  root_kept i q here r e = by (ks i) refl
     where
-      by : (o : Option ℕ) → definition_of s d ≡ o → option_and_then (found_within s (base_over (definition_of s)) n) o ≡ Some b → Found t
+      by : (o : Option Root) → ks i ≡ o → Met i
+      by None f =
+          let none = (settled i q here).root f in
+          absurd cc
+      by (Some z) f = (z, f)
+
+  based_row : (n : ℕ) → ((j b : ℕ) → found_within s (base_over (definition_of s)) n j ≡ Some b → Based j) → (t b : ℕ) (q : Row)
+      → slice_get s.rows t ≡ Some q
+      → base_over (definition_of s) (found_within s (base_over (definition_of s)) n) t q ≡ Some b → Based t
+  based_row n ih t b (row.Error j) here e =
+      let inner = ih j b e in
+      base_kept t (row.Error j) here inner.0 inner.1
+  based_row n ih t b (row.Named d) here e = by (definition_of s d) refl e
+    where
+      by : (o : Option ℕ) → definition_of s d ≡ o → option_and_then (found_within s (base_over (definition_of s)) n) o ≡ Some b → Based t
       by None f g = absurd cc
       by (Some p) f g =
           let inner = ih p b g in
-          must t (row.Named d) here inner.0 (ap (option_and_then ks) f ∙ inner.1)
-  of_row n ih t b (row.Scalar k) here e = must t (row.Scalar k) here _ refl
-  of_row n ih t b (row.Pointer j) here e = must t (row.Pointer j) here _ refl
-  of_row n ih t b (row.Nullable j) here e = must t (row.Nullable j) here _ refl
-  of_row n ih t b (row.Slice j) here e = must t (row.Slice j) here _ refl
-  of_row n ih t b (row.Array m j) here e = must t (row.Array m j) here _ refl
-  of_row n ih t b (row.Struct fs) here e = must t (row.Struct fs) here _ refl
-  of_row n ih t b (row.Tuple js) here e = must t (row.Tuple js) here _ refl
-  of_row n ih t b (row.Union js) here e = must t (row.Union js) here _ refl
+          base_kept t (row.Named d) here inner.0 (ap (λ o. base_in (option_and_then ks o)) f ∙ inner.1)
+  based_row n ih t b (row.Scalar k) here e = base_kept t (row.Scalar k) here t refl
+  based_row n ih t b (row.Pointer j) here e = base_kept t (row.Pointer j) here t refl
+  based_row n ih t b (row.Nullable j) here e = base_kept t (row.Nullable j) here t refl
+  based_row n ih t b (row.Slice j) here e = base_kept t (row.Slice j) here t refl
+  based_row n ih t b (row.Array m j) here e = base_kept t (row.Array m j) here t refl
+  based_row n ih t b (row.Struct fs) here e = base_kept t (row.Struct fs) here t refl
+  based_row n ih t b (row.Tuple js) here e = base_kept t (row.Tuple js) here t refl
+  based_row n ih t b (row.Union js) here e = base_kept t (row.Union js) here t refl
 
-  whole : (n t b : ℕ) → found_within s (base_over (definition_of s)) n t ≡ Some b → Found t
-  whole zero t b e = absurd cc
-  whole (suc n) t b e = by (whole n) (row_at s t) refl e
+  marked_row : (n : ℕ) → ((j : ℕ) (b : Bool) → found_within s (error_over (definition_of s)) n j ≡ Some b → Met j) → (t : ℕ) (b : Bool) (q : Row)
+      → slice_get s.rows t ≡ Some q
+      → error_over (definition_of s) (found_within s (error_over (definition_of s)) n) t q ≡ Some b → Met t
+  marked_row n ih t b (row.Named d) here e = by (definition_of s d) refl e
     where
-      by : ((j c : ℕ) → found_within s (base_over (definition_of s)) n j ≡ Some c → Found j) → (o : Option Row) → row_at s t ≡ o
-          → option_and_then (base_over (definition_of s) (found_within s (base_over (definition_of s)) n) t) o ≡ Some b → Found t
-      by ih None g k = absurd cc
-      by ih (Some q) g k = of_row n ih t b q g k
+      by : (o : Option ℕ) → definition_of s d ≡ o → option_and_then (found_within s (error_over (definition_of s)) n) o ≡ Some b → Met t
+      by None f g = absurd cc
+      by (Some p) f g =
+          let inner = ih p b g in
+          root_kept t (row.Named d) here inner.0 (ap (option_and_then ks) f ∙ inner.1)
+  marked_row n ih t b (row.Error j) here e = root_kept t (row.Error j) here _ refl
+  marked_row n ih t b (row.Scalar k) here e = root_kept t (row.Scalar k) here _ refl
+  marked_row n ih t b (row.Pointer j) here e = root_kept t (row.Pointer j) here _ refl
+  marked_row n ih t b (row.Nullable j) here e = root_kept t (row.Nullable j) here _ refl
+  marked_row n ih t b (row.Slice j) here e = root_kept t (row.Slice j) here _ refl
+  marked_row n ih t b (row.Array m j) here e = root_kept t (row.Array m j) here _ refl
+  marked_row n ih t b (row.Struct fs) here e = root_kept t (row.Struct fs) here _ refl
+  marked_row n ih t b (row.Tuple js) here e = root_kept t (row.Tuple js) here _ refl
+  marked_row n ih t b (row.Union js) here e = root_kept t (row.Union js) here _ refl
 
-  pub none_rooted : (t : ℕ) → ks t ≡ None → base_at s t ≡ None
-  none_rooted t e = by (base_at s t) refl
+  all_based : (n t b : ℕ) → found_within s (base_over (definition_of s)) n t ≡ Some b → Based t
+  all_based zero t b e = absurd cc
+  all_based (suc n) t b e = by (all_based n) (row_at s t) refl e
+    where
+      by : ((j c : ℕ) → found_within s (base_over (definition_of s)) n j ≡ Some c → Based j) → (o : Option Row) → row_at s t ≡ o
+          → option_and_then (base_over (definition_of s) (found_within s (base_over (definition_of s)) n) t) o ≡ Some b → Based t
+      by ih None g k = absurd cc
+      by ih (Some q) g k = based_row n ih t b q g k
+
+  all_marked : (n t : ℕ) (b : Bool) → found_within s (error_over (definition_of s)) n t ≡ Some b → Met t
+  all_marked zero t b e = absurd cc
+  all_marked (suc n) t b e = by (all_marked n) (row_at s t) refl e
+    where
+      by : ((j : ℕ) (c : Bool) → found_within s (error_over (definition_of s)) n j ≡ Some c → Met j) → (o : Option Row) → row_at s t ≡ o
+          → option_and_then (error_over (definition_of s) (found_within s (error_over (definition_of s)) n) t) o ≡ Some b → Met t
+      by ih None g k = absurd cc
+      by ih (Some q) g k = marked_row n ih t b q g k
+
+  pub none_based : (t : ℕ) → base_in (ks t) ≡ None → base_at s t ≡ None
+  none_based t e = by (base_at s t) refl
     where
       by : (o : Option ℕ) → base_at s t ≡ o → base_at s t ≡ None
       by None g = g
       by (Some b) g =
-          let found = whole (length s.rows) t b g in
+          let found = all_based (length s.rows) t b g in
+          let both : None ≡ Some found.0 = sym e ∙ found.1 in
+          absurd cc
+
+  pub none_marked : (t : ℕ) → ks t ≡ None → marked_at s t ≡ None
+  none_marked t e = by (marked_at s t) refl
+    where
+      by : (o : Option Bool) → marked_at s t ≡ o → marked_at s t ≡ None
+      by None g = g
+      by (Some b) g =
+          let found = all_marked (length s.rows) t b g in
           let both : None ≡ Some found.0 = sym e ∙ found.1 in
           absurd cc

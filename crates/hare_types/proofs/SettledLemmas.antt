@@ -8,8 +8,8 @@ use Rattle.hare_types.specs.declared.kept.Kept.{Kept}
 use Rattle.hare_types.specs.declared.row.Row.{Row}
 use Rattle.hare_types.specs.Numbering.{most}
 use Rattle.hare_types.specs.Kept.{known, defined, extent_over, IsSettled, IsInert}
-use Rattle.hare_types.specs.Roots.{root_over}
-use Rattle.hare_types.specs.Waiting.{nowhere, extents, extent_at, root_at, Among, IsAtRest, HaveRoots, AreSettling, with_list, unknowns, IsLess, steps}
+use Rattle.hare_types.specs.Packed.{base_in}
+use Rattle.hare_types.specs.Waiting.{nowhere, extents, extent_at, root_at, Among, HasRoot, IsAtRest, HaveRoots, AreSettling, with_list, unknowns, IsLess, steps}
 use Rattle.hare_types.proofs.KeptLemmas.{inert-none}
 use Rattle.hare_types.proofs.ChainLemmas.{with_list-here, Chain-nowhere, Chain-somewhere, steps-Chain, length-list}
 use Rattle.hare_types.proofs.NeedLemmas.{needs-none}
@@ -32,16 +32,20 @@ module _ (rows : List Row) (es : List (ℕ × Declared)) (ks : List Kept) (few :
       by (inl inert) = inert-none es (known (extents ks)) r inert
       by (inr w) = needs-none es (known (extents ks)) r w.0 (h.waiting.needs w.0 i w.1 r g) w.2
 
-  -- and no root
-  pub roots-settled : HaveRoots ks → (i : ℕ) (r : Row) → slice_get rows i ≡ Some r → root_at ks i ≡ None → root_over (defined es) (root_at ks) i r ≡ None
-  roots-settled rooted i r g u = by (extent_at ks i) refl
+  -- and no root that tells more
+  pub roots-settled : HaveRoots ks → (i : ℕ) (r : Row) → slice_get rows i ≡ Some r → HasRoot es ks i r
+  roots-settled rooted i r g = by (extent_at ks i) refl
     where
-      by : (o : Option Extent) → extent_at ks i ≡ o → root_over (defined es) (root_at ks) i r ≡ None
-      by None e = (all_rest i r g e).0 u
-      by (Some x) e =
-          let some : IsSome (root_at ks i) = rooted i (subst IsSome (sym e) refl) in
-          let nothing : false ≡ true = subst IsSome u some in
+      based : IsSome (base_in (root_at ks i)) → base_in (root_at ks i) ≡ None → ⊥
+      based h n =
+          let nothing : false ≡ true = subst IsSome n h in
           absurd cc
+
+      by : (o : Option Extent) → extent_at ks i ≡ o → HasRoot es ks i r
+      by None e = (all_rest i r g e).0
+      by (Some x) e =
+          let some = rooted i (subst IsSome (sym e) refl) in
+          record { root = λ n. absurd (based some (ap base_in n)); base = λ n. absurd (based some n) }
 
 -- ---- the rows that are to be looked at become fewer
 

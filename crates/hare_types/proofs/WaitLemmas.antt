@@ -9,11 +9,13 @@ use Rattle.hare_types.specs.declared.row.Row.{Row}
 use Rattle.hare_types.specs.declared.row.Row.TheVariants as row
 use Rattle.hare_types.specs.Numbering.{IsOnce}
 use Rattle.hare_types.specs.Kept.{parts_of, known, defined, IsInert, unknown}
+use Rattle.hare_types.specs.Packed.{base_in}
 use Rattle.hare_types.specs.Roots.{known_root, root_over}
-use Rattle.hare_types.specs.Waiting.{nowhere, blank, kept_at, extent_at, root_at, Among, AreDistinct, AreLinked, NeedsRow, Needs, IsAtRest, HaveRoots, AreSeen, AreSettling, AreSettlingBut, KeepsFound, KeepsSeen, with_seen, with_list, linked, AreSettlingButName}
+use Rattle.hare_types.specs.Waiting.{nowhere, blank, kept_at, extent_at, Among, AreDistinct, AreLinked, NeedsRow, Needs, HasRoot, IsAtRest, HaveRoots, AreSeen, AreSettling, AreSettlingBut, KeepsFound, KeepsSeen, with_seen, with_list, linked, AreSettlingButName}
 use Rattle.hare_types.proofs.ChainLemmas.{KeepsFound-set, kept-same, kept-here, kept-there, equal_or_not, with_list-here, with_list-there, with_list-from}
 use Rattle.hare_types.proofs.LinkLemmas.{AreLinked-same, AreLinked-pop}
 use Rattle.hare_types.proofs.FoundLemmas.{extent_field}
+use Rattle.hare_types.proofs.RootLemmas.{TellsAll-same}
 
 -- ---- a row waits, or does not
 
@@ -21,7 +23,7 @@ pub rest-kept : (rows : List Row) (es : List (ℕ × Declared)) (old new : List 
     → IsAtRest rows es old lists j → IsAtRest rows es new after j
 rest-kept rows es old new lists after j k more h r g u =
     let q = h r g (sym (ap (λ l. known l j) k.extents) ∙ u) in
-    ((λ b. ap (λ bs. root_over (defined es) (known_root bs) j r) k.roots ∙ q.0 (sym (ap (λ l. known_root l j) k.roots) ∙ b)), by q.1)
+    (TellsAll-same _ _ _ _ (ap (λ l. known_root l j) k.roots) (ap (λ bs. root_over (defined es) (known_root bs) j r) k.roots) q.0, by q.1)
   where
     by : IsInert es r ⊎ ((p : ℕ) × Among (lists (suc p)) j × (extent_at old p ≡ None)) → IsInert es r ⊎ ((p : ℕ) × Among (after (suc p)) j × (extent_at new p ≡ None))
     by (inl x) = inl x
@@ -42,7 +44,7 @@ module _ (rows : List Row) (es : List (ℕ × Declared)) (old new : List Kept) (
 
   -- it does
   pub wait-settling : (t : ℕ) (r : Row) → slice_get rows i ≡ Some r → AreLinked new pile (linked lists t i) → extent_at old i ≡ None → NeedsRow es r t → extent_at old t ≡ None
-      → (root_at old i ≡ None → root_over (defined es) (root_at old) i r ≡ None) → AreSettling rows es new pile (linked lists t i)
+      → HasRoot es old i r → AreSettling rows es new pile (linked lists t i)
   wait-settling t r g links unknown needs free root = record {
     waiting = record { links = links; unknown = unknown_at; needs = needs_at };
     rest = λ j. by j (h.rest j);
@@ -89,8 +91,8 @@ module _ (rows : List Row) (es : List (ℕ × Declared)) (old new : List Kept) (
 
       here : IsAtRest rows es new (linked lists t i) i
       here q k u =
-          subst (λ x. (root_at new i ≡ None → root_over (defined es) (root_at new) i x ≡ None) × (IsInert es x ⊎ ((p : ℕ) × Among (linked lists t i (suc p)) i × (extent_at new p ≡ None)))) (same_row q k) (
-            (λ b. ap (λ bs. root_over (defined es) (known_root bs) i r) keeps.roots ∙ root (sym (ap (λ l. known_root l i) keeps.roots) ∙ b)),
+          subst (λ x. HasRoot es new i x × (IsInert es x ⊎ ((p : ℕ) × Among (linked lists t i (suc p)) i × (extent_at new p ≡ None)))) (same_row q k) (
+            TellsAll-same _ _ _ _ (ap (λ l. known_root l i) keeps.roots) (ap (λ bs. root_over (defined es) (known_root bs) i r) keeps.roots) root,
             inr (t, subst (λ xs. Among xs i) (sym (with_list-here lists (suc t) (i ∷ lists (suc t)))) (inl refl), e_new t ∙ free),
           )
 
@@ -141,7 +143,7 @@ pub AreSeen-kept : (rows : List Row) (old new : List Kept) → KeepsFound old ne
 AreSeen-kept rows old new k s h i j p r g l e = subst IsSome (sym (ap (λ x. known x p) k.extents)) (h i j p r g (omega (arith, l, s i)) e)
 
 pub HaveRoots-kept : (old new : List Kept) → KeepsFound old new → HaveRoots old → HaveRoots new
-HaveRoots-kept old new k h i s = subst IsSome (sym (ap (λ l. known_root l i) k.roots)) (h i (subst IsSome (ap (λ l. known l i) k.extents) s))
+HaveRoots-kept old new k h i s = subst IsSome (sym (ap (λ l. base_in (known_root l i)) k.roots)) (h i (subst IsSome (ap (λ l. known l i) k.extents) s))
 
 -- ---- a row is taken
 

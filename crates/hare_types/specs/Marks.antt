@@ -2,8 +2,6 @@
 use Rattle.std.specs.Prelude.{ℕ, Bool, nat_eq, List, Some, None, Option, option_map}
 use Rattle.std.specs.Map.{lookup}
 use Rattle.hare_types.specs.declared.declared.Declared.{Declared}
-use Rattle.hare_types.specs.declared.marks.Mark.{Mark}
-use Rattle.hare_types.specs.declared.marks.Mark.TheVariants as mark
 use Rattle.hare_types.specs.declared.row.Row.{Row}
 use Rattle.hare_types.specs.declared.row.Row.TheVariants as row
 
@@ -23,9 +21,3 @@ marked_in (row.Named d) = None
 -- what is entered of the size of a name
 abbrev pub sized_in : List (ℕ × Declared) → ℕ → Option Bool
 sized_in es d = option_map (λ e. e.sized) (lookup (nat_eq d) es)
-
--- whether the type of a row is an error type that says this of it
-abbrev pub mark_by : (ℕ → Option Bool) → Mark → Option Bool
-mark_by ks (mark.Known b) = Some b
-mark_by ks (mark.As j) = ks j
-mark_by ks mark.Unknown = None

@@ -1,11 +1,11 @@
 -- What is said of types by their ids is what is said of the trees for which the ids stand.
-use Rattle.std.specs.Prelude.{◌≡◌, ◌↔◌, ℕ, Bool, List, Some, Contains}
+use Rattle.std.specs.Prelude.{◌≡◌, ◌↔◌, ℕ, ◌+◌, Bool, List, slice_get, Some, Contains}
 use Rattle.hare_types.specs.declared.extent.Extent.{Extent}
 use Rattle.hare_types.specs.declared.row.Row.{Row}
 use Rattle.hare_types.specs.declared.row.Row.TheVariants as row
 use Rattle.hare_types.specs.Trees.{Tree, Same}
 use Rattle.hare_types.specs.Rows.{Ascends, tree_of, trees}
-use Rattle.hare_types.specs.Store.{Store, tree_at, IsTag}
+use Rattle.hare_types.specs.Store.{Store, tree_at}
 use Rattle.hare_types.specs.Sound.{IsStore}
 use Rattle.hare_types.specs.ByValue.{has_size}
 use Rattle.hare_types.specs.Layout.{IsError}
@@ -25,7 +25,7 @@ pub record MeanTrees (s : Store) : Type 0 where
   pub extent : (t : ℕ) (x : Extent) → (extent_at s t ≡ Some x) ↔ LiesIn s t x
   pub members : (t : ℕ) (is : List ℕ) → (members_at s t ≡ Some is) ↔ ((b : ℕ) × IsBaseOf s t b × (row_at s b ≡ Some (row.Union is)))
   pub id : (r : Row) (t : ℕ) → (id_of s r ≡ Some t) ↔ (row_at s t ≡ Some r)
-  pub tag : (t n : ℕ) → (tag_at s t ≡ Some n) ↔ IsTag s t n
+  pub tag : (t n : ℕ) → (tag_at s t ≡ Some n) ↔ ((k : ℕ) × (n ≡ k + 1) × (slice_get s.listed k ≡ Some t))
 
 abbrev pub IdsMeanTrees : Type 0
 IdsMeanTrees = (s : Store) → IsStore s → MeanTrees s

@@ -1,5 +1,6 @@
 -- Optional values in one word each, as they are kept beside the rows of a store.
-use Rattle.std.specs.Prelude.{ℕ, zero, suc, ◌+◌, ◌*◌, ◌/◌, ◌%◌, Bool, false, Some, None, Option}
+use Rattle.std.specs.Prelude.{◌≡◌, ℕ, zero, suc, ◌+◌, ◌*◌, ◌/◌, ◌%◌, ◌<◌, Bool, true, false, Some, None, Option, IfSome}
+use Rattle.hare_types.specs.Numbering.{most}
 use Rattle.hare_types.specs.declared.extent.Extent.{Extent}
 use Rattle.hare_types.specs.declared.root.Root.{Root}
 
@@ -21,14 +22,21 @@ abbrev pub id_word : Option ℕ → ℕ
 id_word None = 0
 id_word (Some n) = suc n
 
--- the root that is kept in two parts
+-- the root that is kept in two parts: where there is neither a base nor an error mark, there is none
 abbrev pub root_in : Option ℕ → Bool → Option Root
-root_in None e = None
-root_in (Some b) e = Some (record { base = b; is_error = e })
+root_in (Some b) e = Some (record { base = Some b; is_error = e })
+root_in None true = Some (record { base = None; is_error = true })
+root_in None false = None
 
+-- the base that is told, where there is one
 abbrev pub base_in : Option Root → Option ℕ
 base_in None = None
-base_in (Some r) = Some r.base
+base_in (Some r) = r.base
+
+-- the root tells something: a base, or an error mark
+pub record Tells (r : Root) : Type 0 where
+  pub something : r.base ≡ None → r.is_error ≡ true
+  pub within : IfSome r.base (λ b. b < most)
 
 abbrev pub mark_in : Option Root → Bool
 mark_in None = false

@@ -1,5 +1,5 @@
 -- Packed values give their words back.
-use Rattle.std.proofs.Common.{◌≡◌, ℕ, zero, suc, Bool, false, Option, Some, None, refl, sym}
+use Rattle.std.proofs.Common.{◌≡◌, ℕ, zero, suc, Bool, true, false, Option, Some, None, refl}
 use Rattle.std.proofs.Math.Nat.{div-add-mod}
 use Rattle.hare_types.specs.Packed.{extent_in, extent_word, id_in, id_word, root_in, base_in, mark_in}
 
@@ -12,9 +12,11 @@ id_word-id_in zero = refl
 id_word-id_in (suc n) = refl
 
 pub base_in-root_in : (o : Option ℕ) (e : Bool) → base_in (root_in o e) ≡ o
-base_in-root_in None e = refl
+base_in-root_in None true = refl
+base_in-root_in None false = refl
 base_in-root_in (Some b) e = refl
 
-pub mark_in-root_in : (o : Option ℕ) (e : Bool) → (o ≡ None → e ≡ false) → mark_in (root_in o e) ≡ e
-mark_in-root_in None e h = sym (h refl)
-mark_in-root_in (Some b) e h = refl
+pub mark_in-root_in : (o : Option ℕ) (e : Bool) → mark_in (root_in o e) ≡ e
+mark_in-root_in None true = refl
+mark_in-root_in None false = refl
+mark_in-root_in (Some b) e = refl

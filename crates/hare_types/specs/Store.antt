@@ -1,5 +1,5 @@
 -- What a store of types is, what it says of a declaration, and how it grows.
-use Rattle.std.specs.Prelude.{◌≡◌, ℕ, ◌+◌, Bool, List, [], ◌∷◌, ◌++◌, slice_get, Some, None, Option, option_map, option_and_then, nat_eq}
+use Rattle.std.specs.Prelude.{◌≡◌, ℕ, Bool, List, [], ◌∷◌, ◌++◌, slice_get, Some, None, Option, option_map, option_and_then, nat_eq}
 use Rattle.std.specs.Map.{lookup}
 use Rattle.hare_types.specs.declared.row.Row.{Row}
 use Rattle.hare_types.specs.declared.declared.Declared.{Declared}
@@ -37,10 +37,6 @@ meaning_of s d = option_and_then (tree_at s) (definition_of s d)
 -- the store with one more declaration
 abbrev pub with_declared : Store → ℕ → Bool → Store
 with_declared s d sized = record s { declared = s.declared ++ (d, record { sized = sized; definition = None }) ∷ [] }
-
--- the tag of a type: 1 plus its place in the list of the types that have tags
-abbrev pub IsTag : Store → ℕ → ℕ → Type 0
-IsTag s t n = (k : ℕ) × (n ≡ k + 1) × (slice_get s.listed k ≡ Some t)
 
 -- ---- growth
 

@@ -11,7 +11,8 @@ use Rattle.hare_types.specs.Rows.{IsWithin}
 use Rattle.hare_types.specs.Store.{Store}
 use Rattle.hare_types.specs.Sound.{IsStore}
 use Rattle.hare_types.specs.Kept.{parts_of, known, defined, extent_over, IsBounded, IsInert, KeepsExtents, unknown}
-use Rattle.hare_types.specs.Roots.{known_root, root_over, KeepsRoots}
+use Rattle.hare_types.specs.Roots.{known_root, root_over, KeepsRoots, TellsAll, TellsMore}
+use Rattle.hare_types.specs.Packed.{base_in}
 
 -- ---- what is kept
 
@@ -30,6 +31,9 @@ extents ks = map (λ k. k.extent) ks
 
 abbrev pub roots : List Kept → List (Option Root)
 roots ks = map (λ k. k.root) ks
+
+abbrev pub bases : List Kept → List (Option ℕ)
+bases ks = map base_in (roots ks)
 
 -- the extent and the root that are kept of an id
 abbrev pub extent_at : List Kept → ℕ → Option Extent
@@ -93,15 +97,19 @@ pub record AreWaiting (rows : List Row) (es : List (ℕ × Declared)) (ks : List
   pub unknown : (n i : ℕ) → Among (lists n) i → extent_at ks i ≡ None
   pub needs : (p i : ℕ) → Among (lists (suc p)) i → Needs rows es i p
 
--- where no extent is kept of row i, no root follows that is not kept, and the row is inert, or waits for one of which no extent is kept
+-- no root follows for row i that tells more than the one that is kept
+abbrev pub HasRoot : List (ℕ × Declared) → List Kept → ℕ → Row → Type 0
+HasRoot es ks i r = TellsAll (root_at ks i) (root_over (defined es) (root_at ks) i r)
+
+-- where no extent is kept of row i, its root is kept, and the row is inert, or waits for one of which no extent is kept
 abbrev pub IsAtRest : List Row → List (ℕ × Declared) → List Kept → (ℕ → List ℕ) → ℕ → Type 0
 IsAtRest rows es ks lists i =
     (r : Row) → slice_get rows i ≡ Some r → extent_at ks i ≡ None
-    → (root_at ks i ≡ None → root_over (defined es) (root_at ks) i r ≡ None) × (IsInert es r ⊎ ((p : ℕ) × Among (lists (suc p)) i × (extent_at ks p ≡ None)))
+    → HasRoot es ks i r × (IsInert es r ⊎ ((p : ℕ) × Among (lists (suc p)) i × (extent_at ks p ≡ None)))
 
--- where an extent is kept, a root is
+-- where an extent is kept, a base is
 abbrev pub HaveRoots : List Kept → Type 0
-HaveRoots ks = (i : ℕ) → IsSome (extent_at ks i) → IsSome (root_at ks i)
+HaveRoots ks = (i : ℕ) → IsSome (extent_at ks i) → IsSome (base_in (root_at ks i))
 
 -- of the parts of a row that were seen an extent is kept
 abbrev pub AreSeen : List Row → List Kept → Type 0
@@ -160,15 +168,16 @@ pub record IsFound (es : List (ℕ × Declared)) (old new : List Kept) (i : ℕ)
   pub root_is : root ≡ root_over (defined es) (root_at old) i r
   pub bounded : IfSome extent (λ x. IsBounded x)
   pub rooted : IsSome root
-  pub more : IsSome extent ⊎ (root_at old i ≡ None)
+  pub based : IsSome extent → IsSome (base_in root)
+  pub more : IsSome extent ⊎ TellsMore (root_at old i) root
 
 -- no more follows for row i
 abbrev pub NoneFollows : List (ℕ × Declared) → List Kept → ℕ → Row → Type 0
-NoneFollows es ks i r = (extent_over (defined es) (known (extents ks)) r ≡ None) × (root_at ks i ≡ None → root_over (defined es) (root_at ks) i r ≡ None)
+NoneFollows es ks i r = (extent_over (defined es) (known (extents ks)) r ≡ None) × HasRoot es ks i r
 
--- how many extents and roots are not kept
+-- how many extents, roots and bases are not kept
 abbrev pub unknowns : List Kept → ℕ
-unknowns ks = unknown (extents ks) + unknown (roots ks)
+unknowns ks = unknown (extents ks) + unknown (roots ks) + unknown (bases ks)
 
 -- the type whose extent is looked at next, where the first k parts were seen
 abbrev pub needed_at : (ℕ → Option ℕ) → Row → ℕ → Option ℕ

@@ -2,6 +2,7 @@
 
 ghost use Rattle.std.specs.Prelude.{◌≡◌, ◌<◌, IfSome};
 ghost use Rattle.hare_types.specs.Numbering.{most};
+ghost use Rattle.hare_types.specs.Packed.{Tells, base_in};
 ghost use Rattle.hare_types.specs.Waiting.{extent_at, root_at};
 
 use crate::extent::Extent;
@@ -39,10 +40,21 @@ pub(crate) fn extent_at(kept: &[Kept], t: TypeId) -> Option<Extent>
 /// The root that is kept of a type.
 pub(crate) fn root_at(kept: &[Kept], t: TypeId) -> Option<Root>
     ensures value { result ≡ root_at kept.now t }
-    ensures within { IfSome result (λ r. r.base < most) }
+    ensures tells { IfSome result (λ r. Tells r) }
 {
     match kept.get(t.index() as usize) {
         Some(k) => k.root.get(),
+        None => None,
+    }
+}
+
+/// The base that is kept of a type.
+pub(crate) fn base_at(kept: &[Kept], t: TypeId) -> Option<TypeId>
+    ensures value { result ≡ base_in (root_at kept.now t) }
+    ensures within { IfSome result (λ b. b < most) }
+{
+    match root_at(kept, t) {
+        Some(root) => root.base,
         None => None,
     }
 }

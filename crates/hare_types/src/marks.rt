@@ -1,18 +1,16 @@
-//! Which types are error types, and which have a size.
+//! Which types have a size.
 
 ghost use Rattle.std.specs.Prelude.{◌≡◌, ℕ, Bool, None, Some, Option, false, slice_get, option_and_then};
 ghost use Rattle.std.specs.Option.{unwrap_or};
 ghost use Rattle.hare_types.specs.declared.row.Row.{Row as RowOf};
-ghost use Rattle.hare_types.specs.ByIds.{error_over, is_error_at, sized_over, sized_at, has_size_at};
-ghost use Rattle.hare_types.specs.Kept.{defined};
-ghost use Rattle.hare_types.specs.Marks.{marked_in, mark_by, sized_in};
+ghost use Rattle.hare_types.specs.ByIds.{sized_over, sized_at, has_size_at};
+ghost use Rattle.hare_types.specs.Marks.{marked_in, sized_in};
 ghost use Rattle.hare_types.specs.Rows.{IsWithin};
 ghost use Rattle.hare_types.specs.Store.{Store};
 
 use crate::bytes::scalar_extent;
 use crate::declared::Declared;
 use crate::id::TypeId;
-use crate::measure::definition;
 use crate::row::Row;
 use indexmap::IndexMap;
 
@@ -66,49 +64,4 @@ pub(crate) fn has_size(rows: &[Row], declared: &IndexMap<u32, Declared>, t: Type
         Some(row) => is_sized(row, declared),
         None => false,
     }
-}
-
-/// What a row says of whether its type is an error type.
-enum Mark {
-    /// It is one, or none.
-    Known(bool),
-    /// It is one exactly where another type is.
-    As(TypeId),
-    /// It has the name of a type that is not defined.
-    Unknown,
-}
-
-/// What a row says of whether its type is an error type.
-fn mark_of(row: &Row, declared: &IndexMap<u32, Declared>) -> Mark
-    ensures { (ks : ℕ → Option Bool) (t : ℕ) → error_over (defined declared.now.entries) ks t row.now ≡ mark_by ks result }
-{
-    match row {
-        Row::Error(_) => Mark::Known(true),
-        Row::Named(decl) => match definition(*decl, declared) {
-            Some(meaning) => Mark::As(meaning),
-            None => Mark::Unknown,
-        },
-        _ => Mark::Known(false),
-    }
-}
-
-/// Whether a type is an error type. Names are followed until one is met that is not defined, or what a name is defined to be is no name. No way
-/// that comes to an end goes twice through one row.
-pub(crate) fn is_error(rows: &[Row], declared: &IndexMap<u32, Declared>, t: TypeId) -> bool
-    ensures { (s : Store) → s.rows ≡ rows.now → s.declared ≡ declared.now.entries → result ≡ is_error_at s t }
-{
-    let mut at = t;
-    let mut left = rows.len();
-    while left > 0 {
-        left -= 1;
-        match rows.get(at.index() as usize) {
-            Some(row) => match mark_of(row, declared) {
-                Mark::Known(is_error) => return is_error,
-                Mark::As(next) => at = next,
-                Mark::Unknown => return false,
-            },
-            None => return false,
-        }
-    }
-    false
 }

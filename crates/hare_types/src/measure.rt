@@ -4,6 +4,7 @@ ghost use Rattle.std.specs.Prelude.{◌≡◌, ◌<◌, ◌≤◌, ◌^◌, IfSo
 ghost use Rattle.hare_types.specs.Kept.{parts_of, known, defined, all_known, extent_over, IsBounded, AreBounded};
 ghost use Rattle.hare_types.specs.declared.row.Row.TheVariants as RowOf;
 ghost use Rattle.hare_types.specs.Waiting.{extents, root_at};
+ghost use Rattle.hare_types.specs.Packed.{Tells};
 ghost use Rattle.hare_types.specs.Roots.{root_over};
 ghost use Rattle.hare_types.specs.Numbering.{most};
 ghost use Rattle.hare_types.specs.Run.{no_parts, with_parts, IsRun};
@@ -12,7 +13,7 @@ use crate::bytes::{Run, fields_extent, repeated, scalar_extent, union_extent, wi
 use crate::declared::Declared;
 use crate::extent::Extent;
 use crate::id::TypeId;
-use crate::kept::{Kept, extent_at, root_at};
+use crate::kept::{Kept, base_at, extent_at, root_at};
 use crate::parts::{part_at, part_count};
 use crate::root::Root;
 use crate::row::Row;
@@ -89,7 +90,7 @@ fn named(decl: u32, declared: &IndexMap<u32, Declared>, kept: &[Kept]) -> Option
     }
 }
 
-/// The root of row `t`, `None` where none is kept of the type that it is marked as an error of, or named to be.
+/// The root of row `t`, as far as it follows from those that are kept: `None` where none is kept of the type that it is named to be.
 pub(crate) fn root_over(
     row: &Row,
     t: TypeId,
@@ -98,22 +99,19 @@ pub(crate) fn root_over(
 ) -> Option<Root>
     requires { t < most }
     ensures value { result ≡ root_over (defined declared.now.entries) (root_at kept.now) t row.now }
-    ensures within { IfSome result (λ r. r.base < most) }
+    ensures tells { IfSome result (λ r. Tells r) }
 {
     match row {
-        Row::Error(inner) => match root_at(kept, *inner) {
-            Some(root) => Some(Root {
-                is_error: true,
-                ..root
-            }),
-            None => None,
-        },
+        Row::Error(inner) => Some(Root {
+            base: base_at(kept, *inner),
+            is_error: true,
+        }),
         Row::Named(decl) => match definition(*decl, declared) {
             Some(meaning) => root_at(kept, meaning),
             None => None,
         },
         _ => Some(Root {
-            base: t,
+            base: Some(t),
             is_error: false,
         }),
     }

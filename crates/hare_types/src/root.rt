@@ -1,16 +1,17 @@
 //! What lies under names and error marks.
 
-ghost use Rattle.std.specs.Prelude.{◌≡◌, ◌<◌, IfSome};
-ghost use Rattle.hare_types.specs.Numbering.{most};
+ghost use Rattle.std.specs.Prelude.{◌≡◌, IfSome};
+ghost use Rattle.hare_types.specs.Packed.{Tells};
 
 use crate::id::TypeId;
 use crate::packed::PackedId;
 use std::marker::Model;
 
-/// What a type comes to once names and error marks are followed until neither is left, and whether an error mark was met on the way.
+/// What is known of a type once names and error marks are followed: what it comes to where neither is left, and whether an error mark was met on
+/// the way. A type is known to be an error type as soon as a mark is met, before its base is known.
 #[derive(Clone, Copy, Debug, PartialEq, Eq)]
 pub(crate) struct Root {
-    pub base: TypeId,
+    pub base: Option<TypeId>,
     pub is_error: bool,
 }
 
@@ -22,7 +23,7 @@ pub(crate) struct PackedRoot {
 }
 
 impl Model for PackedRoot {
-    ghost use Rattle.std.specs.Prelude.{◌≡◌, Option, None, false};
+    ghost use Rattle.std.specs.Prelude.{Option};
     ghost use Rattle.hare_types.specs.declared.root.Root.{Root as RootOf};
     ghost use Rattle.hare_types.specs.Packed.{root_in, base_in, mark_in};
     ghost use Rattle.hare_types.specs.PackedLaws.{base_in-root_in, mark_in-root_in};
@@ -33,20 +34,18 @@ impl Model for PackedRoot {
 
     ghost inverse = { λ x. record { base = base_in x; is_error = mark_in x } };
 
-    ghost invariant = { λ a. a.base ≡ None → a.is_error ≡ false };
-
-    ghost inverse_ok = { λ a h i. record { base = base_in-root_in a.base a.is_error i; is_error = mark_in-root_in a.base a.is_error h i } };
+    ghost inverse_ok = { λ a h i. record { base = base_in-root_in a.base a.is_error i; is_error = mark_in-root_in a.base a.is_error i } };
 }
 
 impl PackedRoot {
     /// The root. A store takes in no type with the greatest number.
     pub(crate) fn of(root: Option<Root>) -> PackedRoot
-        requires { IfSome root (λ r. r.base < most) }
+        requires { IfSome root (λ r. Tells r) }
         ensures { result ≡ root }
     {
         match root {
             Some(r) => PackedRoot {
-                base: PackedId::of(Some(r.base)),
+                base: PackedId::of(r.base),
                 is_error: r.is_error,
             },
             None => PackedRoot {
@@ -59,14 +58,23 @@ impl PackedRoot {
     /// The root.
     pub(crate) fn get(self) -> Option<Root>
         ensures value { result ≡ self }
-        ensures within { IfSome result (λ r. r.base < most) }
+        ensures tells { IfSome result (λ r. Tells r) }
     {
         match self.base.get() {
             Some(base) => Some(Root {
-                base,
+                base: Some(base),
                 is_error: self.is_error,
             }),
-            None => None,
+            None => {
+                if self.is_error {
+                    Some(Root {
+                        base: None,
+                        is_error: true,
+                    })
+                } else {
+                    None
+                }
+            }
         }
     }
 }

@@ -6,7 +6,8 @@ ghost use Rattle.hare_types.specs.Numbering.{IsOnce, most};
 ghost use Rattle.hare_types.specs.Sound.{IsStore};
 ghost use Rattle.hare_types.specs.Store.{Store};
 ghost use Rattle.hare_types.specs.Kept.{defined, known, parts_of, extent_over, IsBounded, AreBounded, KeepsExtents};
-ghost use Rattle.hare_types.specs.Roots.{root_over, KeepsRoots};
+ghost use Rattle.hare_types.specs.Packed.{Tells};
+ghost use Rattle.hare_types.specs.Roots.{root_over, KeepsRoots, TellsAll, TellsMore};
 ghost use Rattle.hare_types.specs.Waiting.{nowhere, blank, extents, roots, extent_at, root_at, kept_at, with_found, with_seen, Among, HaveRoots, AreSeen, AreSettling, AreSettlingBut, KeepsFound, IsFound, NoneFollows, NeedsAreWithin, needed_at, IsLess, AreSettlingButName, AreKept, IsTakenIn};
 
 use crate::declared::Declared;
@@ -26,7 +27,7 @@ use indexmap::IndexMap;
 fn set_found(kept: &mut Vec<Kept>, i: usize, extent: Option<Extent>, root: Option<Root>)
     requires there { i < length kept.old.items }
     requires bounded { IfSome extent (λ x. IsBounded x) }
-    requires within { IfSome root (λ r. r.base < most) }
+    requires tells { IfSome root (λ r. Tells r) }
     ensures { kept.new.items ≡ with_found kept.old.items i extent root }
 {
     let old = kept[i];
@@ -63,13 +64,25 @@ fn look(rows: &[Row], declared: &IndexMap<u32, Declared>, kept: &mut Vec<Kept>, 
         set_found(kept, i, extent, root);
         return true;
     }
-    if root.is_some() {
-        if kept[i].root.get().is_none() {
-            set_found(kept, i, extent, root);
-            return true;
-        }
+    if is_more(&kept[i].root.get(), &root) {
+        set_found(kept, i, extent, root);
+        return true;
     }
     false
+}
+
+/// Whether a root that follows tells more than the one that is kept.
+fn is_more(kept: &Option<Root>, follows: &Option<Root>) -> bool
+    ensures more { result ≡ true → TellsMore kept.now follows.now }
+    ensures all { result ≡ false → TellsAll kept.now follows.now }
+{
+    match follows {
+        Some(new) => match kept {
+            Some(old) => old.base.is_none() && new.base.is_some(),
+            None => true,
+        },
+        None => false,
+    }
 }
 
 /// How many parts of a row, from the first on, have an extent that is kept. It is known of the first `seen` of them.

@@ -11,7 +11,7 @@ ghost use Rattle.hare_types.specs.Later.{IsLater};
 ghost use Rattle.hare_types.specs.Numbering.{IsNumbered};
 ghost use Rattle.hare_types.specs.Rows.{tree_of, trees, IsWithin, IsReduced};
 ghost use Rattle.hare_types.specs.Sound.{IsStore};
-ghost use Rattle.hare_types.specs.Store.{Store, empty, tree_at, sized_of, definition_of, with_declared, IsTag, Extends};
+ghost use Rattle.hare_types.specs.Store.{Store, empty, tree_at, sized_of, definition_of, with_declared, Extends};
 ghost use Rattle.hare_types.specs.Trees.{Tree, Same};
 ghost use Rattle.hare_types.specs.Unions.{id_of};
 
@@ -19,8 +19,8 @@ use crate::declared::{Declared, set_definition};
 use crate::extent::Extent;
 use crate::fields::{FieldName, FieldPlaces, are_named, enter_if_new, reserve_fields};
 use crate::id::TypeId;
-use crate::kept::{Kept, extent_at, root_at};
-use crate::marks::{has_size, is_error};
+use crate::kept::{Kept, base_at, extent_at, root_at};
+use crate::marks::has_size;
 use crate::measure::extent_over;
 use crate::numbering::number;
 use crate::places::Rows;
@@ -241,20 +241,17 @@ impl TypeStore {
         ensures none { IfNone result ((b : ℕ) → ¬ IsBaseOf self.now t b) }
         ensures sound { IsStore self.now }
     {
-        match root_at(self.kept.as_slice(), t) {
-            Some(root) => Some(root.base),
-            None => None,
-        }
+        base_at(self.kept.as_slice(), t)
     }
 
     /// Whether the type is an error type: it bears an error mark, or names a type that does; of a name that is not defined this is not known,
-    /// and the answer is no. The time is constant where the type has a base, and else that of the names that it comes to.
+    /// and the answer is no. The time is constant.
     pub fn is_error(&self, t: TypeId) -> bool
         ensures { result ≡ is_error_at self.now t }
     {
         match root_at(self.kept.as_slice(), t) {
             Some(root) => root.is_error,
-            None => is_error(self.rows.as_slice(), &self.declared, t),
+            None => false,
         }
     }
 
@@ -281,7 +278,7 @@ impl TypeStore {
     /// The tag of a type, counted from 1: its place in the list of the types that have tags, where it is put last unless it is there.
     pub fn mention(&mut self, t: TypeId) -> Result<u32, AllocError>
         requires { t < length self.old.rows }
-        ensures tag { IfOk result (λ n. IsTag self.new t n) }
+        ensures tag { IfOk result (λ n. tag_at self.new t ≡ Some n) }
         ensures numbered { IfOk result (λ n. (k : ℕ) × (n ≡ k + 1) × IsNumbered self.old.listed self.new.listed t k) }
         ensures rest { OnOk result (self.new ≡ record self.old { listed = self.new.listed }) }
         ensures grows { Extends self.old self.new }
@@ -303,7 +300,6 @@ impl TypeStore {
     /// The tag of a type, `None` where it has none.
     pub fn tag(&self, t: TypeId) -> Option<u32>
         ensures value { result ≡ tag_at self.now t }
-        ensures found { IfSome result (λ n. IsTag self.now t n) }
         ensures none { IfNone result ((k : ℕ) → slice_get self.now.listed k ≢ Some t) }
     {
         match self.listed.get_index_of(&t) {

@@ -1,6 +1,5 @@
-use Rattle.std.proofs.Common.{◌≡◌, ℕ, ◌<◌, get_or, ap, sym, ◌∙◌, subst, arith}
+use Rattle.std.proofs.Common.{◌≡◌, ◌<◌, get_or, sym, ◌∙◌, subst, arith}
 use Rattle.std.proofs.lemmas.List.{get_or_default}
-use Rattle.hare_types.specs.declared.lists.Field.{Field}
 use borrow.Author.Count.{below_more}
 use Rattle.hare_types.proofs.fields.are_named.Goals as goal
 

@@ -1,9 +1,10 @@
-use Rattle.std.proofs.Common.{◌≡◌, ◌<◌, ◌+◌, length, Some, ap₂, sym, ◌∙◌, subst, arith, inl}
+use Rattle.std.proofs.Common.{◌≡◌, ◌<◌, ◌+◌, length, map, Some, ap₂, sym, ◌∙◌, subst, arith, inl}
 use Rattle.std.specs.Prelude.{slice_get, slice_index_or}
 use Rattle.std.proofs.lemmas.Option.{slice_get-get_or}
 use Rattle.hare_types.specs.declared.row.Row.TheVariants as row
 use Rattle.hare_types.specs.declared.row.Scalar.TheVariants as keyword
 use Rattle.hare_types.specs.Kept.{AreBounded, KeepsExtents, unknown}
+use Rattle.hare_types.specs.Packed.{base_in}
 use Rattle.hare_types.specs.Roots.{KeepsRoots}
 use Rattle.hare_types.specs.Waiting.{IsFound, NoneFollows, unknowns, released}
 use Rattle.hare_types.proofs.ChainLemmas.{KeepsFound-trans}
@@ -66,7 +67,7 @@ returns-then-look c =
           let links = c.release-first.ensures.lists lists (found-links c.args.rows.now es ks c.look.new.kept.items c.args.i r f within c.requires.unknown c.args.pile lists h.waiting.links) in
           let settling = release-settling c.args.rows.now es ks c.look.new.kept.items c.args.i r f within c.requires.unknown c.release-first.new.kept.items c.release-first.ensures.found c.args.pile c.release-first.result lists links h in
           let w = c.wait.ensures.settled c.release-first.result (released lists c.args.i) settling in
-          let same : unknowns c.wait.new.kept.items ≡ unknowns c.look.new.kept.items = ap₂ (λ a b. unknown a + unknown b) both.extents both.roots in
+          let same : unknowns c.wait.new.kept.items ≡ unknowns c.look.new.kept.items = ap₂ (λ a b. unknown a + unknown b + unknown (map base_in b)) both.extents both.roots in
           (w.0, w.1, inl (omega (arith, same, fewer)));
     }
 

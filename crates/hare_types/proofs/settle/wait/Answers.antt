@@ -3,8 +3,7 @@ use Rattle.std.specs.Prelude.{slice_get, is_some}
 use Rattle.std.proofs.lemmas.Option.{slice_get-get_or}
 use Rattle.std.proofs.lemmas.List.{get_or_default, length-set}
 use Rattle.hare_types.specs.Kept.{parts_of, known, defined, IsInert}
-use Rattle.hare_types.specs.Roots.{root_over}
-use Rattle.hare_types.specs.Waiting.{extents, extent_at, root_at, Among, needed_at, NeedsRow, linked}
+use Rattle.hare_types.specs.Waiting.{extents, extent_at, HasRoot, Among, needed_at, NeedsRow, linked}
 use Rattle.hare_types.proofs.ChainLemmas.{KeepsFound-trans}
 use Rattle.hare_types.proofs.WaitLemmas.{unknown-read, seen-found, seen-links, seen-more, AreSeen-kept, stay-settling, wait-settling, linked-pile}
 use Rattle.hare_types.proofs.NeedLemmas.{needed-needs, needed-unknown, needed-none}
@@ -86,7 +85,7 @@ returns-in-None c =
         lists,
         stay-settling c.args.rows.now c.args.declared.now.entries ks c.set_seen.new.kept.items pile c.args.i lists h found
             (seen-links c.args.rows.now ks c.set_seen.new.kept.items c.args.i c.min.result r here within c.set_seen.ensures before pile lists h.waiting.links)
-            (λ q g u. let same : Some r ≡ Some q = sym here ∙ g in let row : r ≡ q = cc in subst (λ x. (root_at ks c.args.i ≡ None → root_over (defined c.args.declared.now.entries) (root_at ks) c.args.i x ≡ None) × (IsInert c.args.declared.now.entries x ⊎ ((p : ℕ) × Among (lists (suc p)) c.args.i × (extent_at ks p ≡ None)))) row (follows.1, inl inert)),
+            (λ q g u. let same : Some r ≡ Some q = sym here ∙ g in let row : r ≡ q = cc in subst (λ x. HasRoot c.args.declared.now.entries ks c.args.i x × (IsInert c.args.declared.now.entries x ⊎ ((p : ℕ) × Among (lists (suc p)) c.args.i × (extent_at ks p ≡ None)))) row (follows.1, inl inert)),
         refl,
       );
     }

@@ -9,6 +9,7 @@ use Rattle.hare_types.specs.Waiting.{extents, roots}
 use Rattle.hare_types.proofs.KeptLemmas.{KeepsExtents-same}
 use Rattle.hare_types.proofs.RootLemmas.{KeepsRoots-same}
 use Rattle.hare_types.proofs.LaterLemmas.{later_grown}
+use Rattle.hare_types.proofs.IdLemmas.{tag_tells}
 use Rattle.hare_types.proofs.store.TypeStore.mention.Goals as goal
 
 numbered : (c : goal.In_ok-place) → IsNumbered c.self.inside.listed.keys c.number.new.set.keys c.args.t c.in_ok-place.place
@@ -32,7 +33,7 @@ invariant_of-self-2 c = record {
 }
 
 pub returns-clause-tag : goal.returns-clause-tag
-returns-clause-tag c = (c.in_ok-place.place, refl, (numbered c).stands)
+returns-clause-tag c = (tag_tells _ (invariant_of-self-2 c).kept.store c.args.t _).1 (c.in_ok-place.place, refl, (numbered c).stands)
 
 pub returns-clause-numbered : goal.returns-clause-numbered
 returns-clause-numbered c = (c.in_ok-place.place, refl, rw (← c.self.view_is) (numbered c))

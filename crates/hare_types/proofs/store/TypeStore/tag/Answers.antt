@@ -1,13 +1,8 @@
-use Rattle.std.proofs.Common.{refl, nat_eq}
+use Rattle.std.proofs.Common.{nat_eq}
 use Rattle.std.specs.Cmp.{unsigned_Decides}
 use Rattle.std.proofs.lemmas.List.{map-id}
-use Rattle.hare_types.proofs.NumberingLemmas.{position_found, position_absent}
+use Rattle.hare_types.proofs.NumberingLemmas.{position_absent}
 use Rattle.hare_types.proofs.store.TypeStore.tag.Goals as goal
-
-pub returns-in-Some-clause-found : goal.returns-in-Some-clause-found
-returns-in-Some-clause-found c =
-    let here = position_found (λ t. t) c.args.t (nat_eq c.args.t) (unsigned_Decides c.args.t) c.self.inside.listed.keys c.in-Some.place c.in-Some.ensures.index in
-    (c.in-Some.place, refl, rw (← c.self.view_is) (simp map-id at here))
 
 pub returns-in-None-clause-none : goal.returns-in-None-clause-none
 returns-in-None-clause-none c =
