@@ -1,5 +1,5 @@
 -- The nearest of the labels round a jump.
-use Rattle.std.proofs.Common.{◌≡◌, ℕ, ◌+◌, Bool, true, false, cond, ◌||◌, List, [], ◌∷◌, ◌++◌, map, take, Option, Some, None, refl, ap, sym, ◌∙◌}
+use Rattle.std.proofs.Common.{◌≡◌, ℕ, ◌+◌, Bool, true, false, cond, ◌||◌, List, [], ◌∷◌, ◌++◌, map, take, Some, None, refl, ap, ◌∙◌}
 use Rattle.std.specs.Prelude.{find, reverse, slice_get}
 use Rattle.std.proofs.lemmas.List.{reverse-append, map_push}
 use Rattle.hare_typed.proofs.KidLemmas.{take-get}

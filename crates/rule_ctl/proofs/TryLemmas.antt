@@ -1,5 +1,5 @@
 -- Errors that are handed on, and what an allocation under `?` or `!` is asked for.
-use Rattle.std.proofs.Common.{◌≡◌, ℕ, suc, ◌+◌, ◌<◌, Bool, true, false, not, ◌&&◌, cond, List, [], ◌∷◌, length, drop, get_or, Option, Some, None, is_some, refl, ap, sym, ◌∙◌, add-one, drop-cons}
+use Rattle.std.proofs.Common.{◌≡◌, ℕ, suc, ◌+◌, ◌<◌, Bool, true, false, not, ◌&&◌, cond, List, ◌∷◌, length, drop, get_or, Option, Some, None, is_some, refl, ap, sym, ◌∙◌, add-one, drop-cons}
 use Rattle.std.specs.Prelude.{option_and_then, filter}
 use Rattle.std.specs.Option.{option_or}
 use Rattle.hare_tree.specs.Node.{Node}
@@ -11,7 +11,7 @@ use Rattle.hare_types.specs.Unions.{id_of}
 use Rattle.hare_typed.specs.Given.{base_row}
 use Rattle.hare_rules.specs.declared.hint.Hint.{Hint}
 use Rattle.hare_rules.specs.declared.hint.Hint.TheVariants as hint
-use Rattle.hare_rules.specs.Above.{allocates, made_by, asked, leads_to, hint_id, hint_to, refusable_hint, tried_hint}
+use Rattle.hare_rules.specs.Above.{allocates, made_by, asked, leads_to, hint_id, refusable_hint, tried_hint}
 use Rattle.hare_rules.specs.Aggregates.{pointer_to, slice_of, all_fit}
 use Rattle.hare_rules.specs.Context.{Setting}
 use Rattle.hare_rules.specs.Judged.{is_type_hint}

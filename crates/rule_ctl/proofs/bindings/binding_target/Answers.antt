@@ -1,4 +1,4 @@
-use Rattle.std.proofs.Common.{nat_eq, ap, sym, ◌∙◌}
+use Rattle.std.proofs.Common.{ap, sym, ◌∙◌}
 use Rattle.std.proofs.lemmas.Result.{IfOk-weaker}
 use Rattle.hare_rules.specs.Control.{has_written_type}
 use Rattle.hare_rules.specs.Settles.{default_at}
