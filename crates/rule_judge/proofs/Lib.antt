@@ -9,3 +9,9 @@ pub mod YieldLemmas
 pub mod MemberLemmas
 pub mod JudgedLemmas
 pub mod UnionLemmas
+pub mod MeantLemmas
+pub mod RefusableLemmas
+pub mod HeldLemmas
+pub mod HintLemmas
+pub mod RowLemmas
+pub mod VoidLemmas

@@ -1,5 +1,6 @@
 -- The rows that a crate of judges asks, and the two that all share.
 use Rattle.std.specs.Prelude.{ℕ, Bool, true, false, cond, not, ◌&&◌, List, [], ◌∷◌, find, take, drop, suc, Option, Some, None, option_map}
+use Rattle.hare_tree.specs.declared.kind.Kind.{Kind}
 use Rattle.hare_tree.specs.declared.place.Place.{Place}
 use Rattle.hare_tree.specs.declared.place.Fault.{Fault}
 use Rattle.hare_types.specs.declared.coercion.Ty.{Ty}
@@ -53,11 +54,15 @@ last_failing s h a = cond (fits_hint s h (Some a)) (cond (may_drop s h (Some a))
 
 -- ---- kids
 
--- the node asks its kid number i for a type, where that is an expression or a statement
-abbrev pub asks_type : Context → ℕ → Bool
-asks_type c i =
+-- a node of this kind would ask its kid number i for a type, where that is an expression or a statement
+abbrev pub asks_as : Context → ℕ → Kind → Bool
+asks_as c i k =
     is_type_hint
-    (hint_of c.setting c.head c.hint hint.None c.inside.labels c.inside.result (take i c.kids) (erase (kid c i)) (erase_each (typed_nodes (drop (suc i) c.kids))) c.head.kind)
+    (hint_of c.setting c.head c.hint hint.None c.inside.labels c.inside.result (take i c.kids) (erase (kid c i)) (erase_each (typed_nodes (drop (suc i) c.kids))) k)
+
+-- the node itself asks it for a type
+abbrev pub asks_type : Context → ℕ → Bool
+asks_type c i = asks_as c i c.head.kind
 
 -- the coercion of kid number i, where it was given no hint of a type
 abbrev pub listed : Context → ℕ → Option Coercion

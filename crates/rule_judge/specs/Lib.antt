@@ -1,6 +1,7 @@
 pub mod Decls
 pub mod Defined
 pub mod Settings
+pub mod Meant
 pub mod Told
 pub mod Turns
 pub mod Grown

@@ -1,16 +1,20 @@
 //! What becomes of values at their sites.
 
-ghost use Rattle.std.specs.Prelude.{◌≡◌, IfSome};
+ghost use Rattle.std.specs.Prelude.{◌≡◌, IfOk, IfSome};
 ghost use Rattle.hare_types.specs.Assign as assign;
 ghost use Rattle.hare_types.specs.declared.coercion.Ty.TheVariants.{Of};
 ghost use Rattle.hare_types.specs.Store.{Store};
 ghost use Rattle.hare_types.specs.Later.{IsLater};
+ghost use Rattle.hare_rules.specs.Joined as joined;
 ghost use Rattle.hare_rules.specs.Settles as settles;
 ghost use Rattle.rule_judge.specs.Defined.{IsDefined, IsDefinedTy, IsDefinedHint};
+ghost use Rattle.rule_judge.specs.Grown.{IsGrown};
 
+use crate::made::word;
 use hare_assign::assignable;
 use hare_rules::Hint;
-use hare_types::{Coercion, Ty, TypeId, TypeStore};
+use hare_types::{Coercion, Scalar, Ty, TypeId, TypeStore};
+use std::alloc::AllocError;
 
 /// What becomes of a value of type `a` that is assigned to type `to`; none where it may not be.
 pub fn coerced(s: &TypeStore, a: &Ty, to: TypeId) -> Option<Coercion>
@@ -21,6 +25,17 @@ pub fn coerced(s: &TypeStore, a: &Ty, to: TypeId) -> Option<Coercion>
 {
     let _law = s.row(to);
     assignable(s, to, *a)
+}
+
+/// Whether a value of type `void` may be assigned to the type.
+pub fn void_fits(s: &mut TypeStore, to: TypeId) -> Result<bool, AllocError>
+    requires { IsDefined s.old to }
+    ensures value { IfOk result (λ b. (f : Store) → IsLater s.new f → b ≡ joined.void_fits f to) }
+    ensures grown { IsGrown s.old s.new }
+{
+    let _law = s.declarations();
+    let void = word(s, Scalar::Void)?;
+    Ok(coerced(s, &Ty::Of(void), to).is_some())
 }
 
 /// A value goes to the type, where there is one and it may be assigned to it; else it stays as it is.

@@ -18,7 +18,7 @@ use Rattle.hare_types.proofs.GrowthLemmas.{option_map-more, option_and_then-more
 use Rattle.hare_types.proofs.IdLemmas.{extent-row}
 use Rattle.hare_types.proofs.LaterLemmas.{types_stay}
 use Rattle.rule_judge.specs.Defined.{made_of, Mentions, itself, through, IsDefined}
-use Rattle.rule_mem.proofs.HeldLemmas.{first_of}
+use Rattle.rule_judge.proofs.HeldLemmas.{first_of}
 
 -- ---- the parts of a defined type
 

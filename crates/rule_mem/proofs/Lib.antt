@@ -1,6 +1,4 @@
-pub mod HeldLemmas
 pub mod BoolLemmas
-pub mod HintLemmas
 pub mod SpellingLemmas
 pub mod ExtentLemmas
 pub mod ReachLemmas

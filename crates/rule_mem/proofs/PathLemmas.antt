@@ -8,7 +8,7 @@ use Rattle.hare_types.specs.Sound.{IsStore}
 use Rattle.hare_types.specs.ByIds.{row_at}
 use Rattle.hare_types.specs.Later.{IsLater}
 use Rattle.rule_judge.specs.Defined.{IsDefined, IsDefinedName}
-use Rattle.rule_mem.proofs.HeldLemmas.{only_of}
+use Rattle.rule_judge.proofs.HeldLemmas.{only_of}
 use Rattle.rule_judge.proofs.DefinedLemmas.{defined_by_row, defined_stays}
 
 -- the type of a name that is defined

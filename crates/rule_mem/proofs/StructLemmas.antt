@@ -17,7 +17,7 @@ use Rattle.hare_rules.specs.Aggregates.{name_number, field_named, field_type, me
 use Rattle.rule_mem.specs.Members.{member_of}
 use Rattle.rule_judge.specs.Defined.{made_of, Mentions, itself, through, IsDefined, HoldsDefined}
 use Rattle.rule_mem.specs.Named.{HaveNames, IsNamed, IsNamedTy}
-use Rattle.rule_mem.proofs.HeldLemmas.{first_of, one_of}
+use Rattle.rule_judge.proofs.HeldLemmas.{first_of, one_of}
 
 -- ---- what a type comes to
 

@@ -1,32 +1,25 @@
 -- What the rules of these kinds rest on.
-use Rattle.std.specs.Prelude.{◌≡◌, ℕ, ◌<◌, true, List, [], length, Option, Some, None, refl, slice_get, Contains}
+use Rattle.std.specs.Prelude.{◌≡◌, ℕ, true, List, Some, refl, Contains}
 use Rattle.std.specs.List.{cons_option}
 use Rattle.std.proofs.Common.{ap, sym, ◌∙◌, subst}
 use Rattle.hare_tree.specs.declared.kind.Kind.{Kind}
 use Rattle.hare_tree.specs.declared.kind.Kind.TheVariants as ki
-use Rattle.hare_tree.specs.declared.token.Meaning.{Meaning}
-use Rattle.hare_tree.specs.declared.token.Meaning.TheVariants as means
 use Rattle.hare_types.specs.declared.coercion.Ty.{Ty}
 use Rattle.hare_types.specs.declared.coercion.Ty.TheVariants as ty
-use Rattle.hare_types.specs.declared.lists.Field.{Field}
 use Rattle.hare_types.specs.declared.row.Row.{Row}
 use Rattle.hare_types.specs.declared.row.Row.TheVariants as row
 use Rattle.hare_types.specs.Store.{Store, definition_of}
 use Rattle.hare_types.specs.Sound.{IsStore}
 use Rattle.hare_types.specs.ByIds.{row_at}
-use Rattle.hare_rules.specs.declared.declared.Local.{Local}
-use Rattle.hare_rules.specs.declared.declared.DeclType.{DeclType}
 use Rattle.hare_rules.specs.Words.{nomem}
-use Rattle.hare_rules.specs.Context.{declaration}
 use Rattle.hare_rules.specs.Table.{rows_of}
 use Rattle.rule_judge.specs.declared.turn.Turn.{Turn}
 use Rattle.rule_judge.specs.Asked.{are_asked}
-use Rattle.rule_judge.specs.Defined.{made_of, Mentions, itself, through, IsDefined, IsDefinedName}
+use Rattle.rule_judge.specs.Defined.{made_of, Mentions, itself, through}
 use Rattle.rule_judge.specs.Grown.{IsGrown}
-use Rattle.rule_judge.specs.Settings.{setting_of}
-use Rattle.rule_judge.proofs.DefinedLemmas.{defined_stays, row_stays, within_stays}
+use Rattle.rule_judge.proofs.DefinedLemmas.{row_stays, within_stays}
+use Rattle.rule_judge.proofs.MeantLemmas.{name_stays, meant_stays}
 use Rattle.rule_mem.specs.Kinds.{judges, asks}
-use Rattle.rule_mem.specs.Meant.{IsKnownKind, IsKnownDecl, IsKnownLocal, IsMeant}
 use Rattle.rule_mem.specs.Named.{HaveNames, IsNamed, IsNamedTy}
 use Rattle.rule_mem.specs.Needs.{IsSoundReady}
 
@@ -101,33 +94,12 @@ module _ (now later : Store) (v : IsStore now) (g : IsGrown now later) where
   ty_named ty.Null h = tt
   ty_named ty.Empty h = tt
 
-  name_stays : (d : ℕ) → IsDefinedName now d → IsDefinedName later d
-  name_stays d (t, e, h) = (t, definition_same d ∙ e, defined_stays now later v g.later t h)
-
-  kind_stays : (n : ℕ) (d : DeclType) (k : Kind) → IsKnownKind now n d k → IsKnownKind later n d k
-  kind_stays n d ki.TypeDecl h = name_stays n h
-  kind_stays n d _ h = defined_stays now later v g.later d.ty h
-
-  decl_stays : (n : ℕ) (o : Option DeclType) → IsKnownDecl now n o → IsKnownDecl later n o
-  decl_stays n None h = h
-  decl_stays n (Some d) h = kind_stays n d d.kind h
-
-  local_stays : (o : Option Local) → IsKnownLocal now o → IsKnownLocal later o
-  local_stays None h = h
-  local_stays (Some l) h = defined_stays now later v g.later l.ty h
-
-  meant_stays : (decls : List DeclType) (locals : List Local) (m : Meaning) → IsMeant now decls locals m → IsMeant later decls locals m
-  meant_stays decls locals (means.Local n) h = local_stays (slice_get locals n) h
-  meant_stays decls locals (means.Decl n) h = decl_stays n (declaration (setting_of now decls) n) h
-  meant_stays decls locals (means.Rt n) h = tt
-  meant_stays decls locals means.None h = tt
-
 pub ready_stays : (now later : Store) (t : Turn) → IsGrown now later → IsSoundReady now t → IsSoundReady later t
 ready_stays now later t g h = record {
   sound = g.later.sound;
   ready = record {
-    nomem = name_stays now later h.sound g nomem h.ready.nomem;
-    meant = meant_stays now later h.sound g t.decls.now t.locals.now t.case.now.meaning h.ready.meant;
+    nomem = name_stays now later h.sound g.later nomem h.ready.nomem;
+    meant = meant_stays now later h.sound g.later t.decls.now t.locals.now t.case.now.meaning h.ready.meant;
     given_named = ty_named now later h.sound g _ h.ready.given_named;
     own_named = ty_named now later h.sound g _ h.ready.own_named;
     typed = h.ready.typed;

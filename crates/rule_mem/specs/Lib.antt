@@ -2,7 +2,6 @@ pub mod Members
 pub mod Named
 pub mod Filled
 pub mod Asking
-pub mod Meant
 pub mod Kinds
 pub mod Needs
 pub mod Laws

@@ -14,7 +14,7 @@ use Rattle.hare_rules.specs.Context.{own_type}
 use Rattle.hare_rules.specs.Words.{id_in, nomem}
 use Rattle.rule_judge.specs.declared.turn.Turn.{Turn}
 use Rattle.rule_judge.specs.Defined.{IsDefinedName}
-use Rattle.rule_mem.specs.Meant.{IsMeant}
+use Rattle.rule_judge.specs.Meant.{IsMeant}
 use Rattle.rule_mem.specs.Named.{IsNamedTy}
 
 -- the kinds of trees that can be places

@@ -13,12 +13,12 @@ ghost use Rattle.rule_judge.specs.Asked.{asks_type};
 ghost use Rattle.rule_judge.specs.Defined.{IsDefined};
 ghost use Rattle.rule_judge.specs.Grown.{IsGrown};
 ghost use Rattle.rule_judge.specs.Turns.{context_in, kind_in, IsTurn};
-ghost use Rattle.rule_mem.specs.Asking.{asks_as};
+ghost use Rattle.rule_judge.specs.Asked.{asks_as};
 ghost use Rattle.rule_mem.specs.Kinds.{judges};
 ghost use Rattle.rule_mem.specs.Named.{IsNamedTy};
 
 use crate::allocs::has_capacity;
-use crate::hints::{asked, object_asked};
+use crate::hints::object_asked;
 use crate::members::field_of;
 use crate::reads::slice_element;
 use crate::turns::{kids_before, own, seen};
@@ -26,7 +26,7 @@ use crate::{arrays, tuples};
 use hare_tree::Kind;
 use hare_typed::TypedKids;
 use hare_types::{Scalar, Ty, TypeId, TypeStore};
-use rule_judge::{Turn, default_in, word};
+use rule_judge::{Turn, asked, default_in, word};
 use std::alloc::AllocError;
 
 /// Whether one kid stands before kid number `i`.

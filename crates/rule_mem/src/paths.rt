@@ -11,7 +11,7 @@ ghost use Rattle.hare_rules.specs.Operators as spec;
 ghost use Rattle.hare_rules.specs.Words as words;
 ghost use Rattle.rule_judge.specs.Defined.{IsDefined, IsDefinedTy, IsDefinedName};
 ghost use Rattle.rule_judge.specs.Grown.{IsGrown};
-ghost use Rattle.rule_mem.specs.Meant.{IsMeant, IsKnownDecl};
+ghost use Rattle.rule_judge.specs.Meant.{IsMeant, IsKnownDecl};
 ghost use Rattle.rule_judge.specs.Settings.{setting_of};
 ghost use Rattle.rule_judge.specs.Turns.{context_in};
 

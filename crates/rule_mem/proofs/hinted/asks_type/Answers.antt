@@ -1,7 +1,7 @@
 use Rattle.std.proofs.Common.{ap, sym, ◌∙◌}
 use Rattle.hare_tree.specs.Node.{head}
 use Rattle.rule_judge.specs.Turns.{context_in}
-use Rattle.rule_mem.specs.Asking.{asks_as}
+use Rattle.rule_judge.specs.Asked.{asks_as}
 use Rattle.rule_mem.proofs.hinted.asks_type.Goals as goal
 
 pub returns-in-Assign-clause-value : goal.returns-in-Assign-clause-value

@@ -1,4 +1,4 @@
-use Rattle.rule_mem.proofs.HintLemmas.{held_each}
+use Rattle.rule_judge.proofs.HintLemmas.{held_each}
 use Rattle.rule_mem.proofs.hints.hinted_components.Goals as goal
 
 pub returns-then-len-count-clause-defined : goal.returns-then-len-count-clause-defined

@@ -1,4 +1,4 @@
-use Rattle.rule_mem.proofs.HeldLemmas.{held_slice, held_array}
+use Rattle.rule_judge.proofs.HeldLemmas.{held_slice, held_array}
 use Rattle.rule_mem.proofs.reads.element.Goals as goal
 
 pub returns-in-Some-Slice-clause-defined : goal.returns-in-Some-Slice-clause-defined

@@ -1,4 +1,4 @@
-use Rattle.rule_mem.proofs.HeldLemmas.{held_pointer}
+use Rattle.rule_judge.proofs.HeldLemmas.{held_pointer}
 use Rattle.rule_mem.proofs.reads.pointee.Goals as goal
 
 pub returns-in-Some-Pointer-clause-defined : goal.returns-in-Some-Pointer-clause-defined

@@ -3,7 +3,8 @@ use Rattle.hare_types.specs.declared.coercion.Ty.{Ty}
 use Rattle.hare_types.proofs.LaterLemmas.{later_here, later_trans}
 use Rattle.hare_rules.specs.Aggregates.{pointer_to, refusable}
 use Rattle.hare_rules.specs.Words.{typed_as, default_in, has_default, nomem}
-use Rattle.rule_mem.proofs.TypeLemmas.{refusable_pointer, name_defined}
+use Rattle.rule_judge.proofs.MeantLemmas.{name_stays}
+use Rattle.rule_judge.proofs.RefusableLemmas.{refusable_pointer}
 use Rattle.rule_mem.proofs.types.object_pointer.Goals as goal
 
 pub refusable-requires-clause-kept : goal.refusable-requires-clause-kept
@@ -13,7 +14,7 @@ refusable-requires-clause-kept c =
 
 pub refusable-requires-clause-nomem : goal.refusable-requires-clause-nomem
 refusable-requires-clause-nomem c =
-    name_defined c.args.s.now c.pointer_to.new.s c.declarations-law.ensures.sound (later_trans c.args.s.now c.default_of.new.s c.pointer_to.new.s c.default_of.ensures.grown.later c.pointer_to.ensures.grown.later) nomem
+    name_stays c.args.s.now c.pointer_to.new.s c.declarations-law.ensures.sound (later_trans c.args.s.now c.default_of.new.s c.pointer_to.new.s c.default_of.ensures.grown.later c.pointer_to.ensures.grown.later) nomem
     c.requires.nomem
 
 pub returns-clause-value : goal.returns-clause-value

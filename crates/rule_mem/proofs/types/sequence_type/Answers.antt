@@ -5,7 +5,8 @@ use Rattle.hare_types.proofs.LaterLemmas.{later_here, later_trans}
 use Rattle.hare_typed.specs.Given.{base_row, element_in}
 use Rattle.hare_rules.specs.Aggregates.{slice_of, refusable}
 use Rattle.hare_rules.specs.Words.{typed_as, with_refusal, nomem}
-use Rattle.rule_mem.proofs.TypeLemmas.{refusable_slice, name_defined}
+use Rattle.rule_judge.proofs.MeantLemmas.{name_stays}
+use Rattle.rule_judge.proofs.RefusableLemmas.{refusable_slice}
 use Rattle.rule_mem.proofs.types.sequence_type.Goals as goal
 
 pub refusable-requires-clause-kept : goal.refusable-requires-clause-kept
@@ -14,7 +15,7 @@ refusable-requires-clause-kept c =
     refusable_slice c.slice_of.new.s sound c.in-Some.u c.in_ok-made.made c.in_ok-made.ensures.defined (c.in_ok-made.ensures.id c.slice_of.new.s (later_here c.slice_of.new.s sound))
 
 pub refusable-requires-clause-nomem : goal.refusable-requires-clause-nomem
-refusable-requires-clause-nomem c = name_defined c.args.s.now c.slice_of.new.s c.declarations-law.ensures.sound c.slice_of.ensures.grown.later nomem c.requires.nomem
+refusable-requires-clause-nomem c = name_stays c.args.s.now c.slice_of.new.s c.declarations-law.ensures.sound c.slice_of.ensures.grown.later nomem c.requires.nomem
 
 pub returns-clause-value : goal.returns-clause-value
 returns-clause-value c f l =

@@ -1,5 +1,5 @@
-use Rattle.rule_mem.proofs.HintLemmas.{held_members}
-use Rattle.rule_mem.proofs.hints.allocation.Goals as goal
+use Rattle.rule_judge.proofs.HintLemmas.{held_members}
+use Rattle.rule_judge.proofs.hints.allocation.Goals as goal
 
 pub only_allocated-requires : goal.only_allocated-requires
 only_allocated-requires c =

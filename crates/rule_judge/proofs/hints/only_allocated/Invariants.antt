@@ -4,8 +4,8 @@ use Rattle.hare_types.specs.Store.{Store}
 use Rattle.hare_types.specs.Later.{IsLater}
 use Rattle.hare_rules.specs.Words.{is_allocated, only_one}
 use Rattle.rule_judge.specs.Defined.{IsDefined}
-use Rattle.rule_mem.proofs.HintLemmas.{one_with}
-use Rattle.rule_mem.proofs.hints.only_allocated.Given as goal
+use Rattle.rule_judge.proofs.HintLemmas.{one_with}
+use Rattle.rule_judge.proofs.hints.only_allocated.Given as goal
 
 -- what was found, and what is left
 abbrev pub invariant-loop-t : goal.invariant-loop-t

@@ -1,10 +1,10 @@
-use Rattle.std.proofs.Common.{ℕ, Some, sym, ◌∙◌, subst}
+use Rattle.std.proofs.Common.{ℕ, sym, ◌∙◌, subst}
 use Rattle.std.specs.Prelude.{Option, IfSome}
 use Rattle.hare_rules.specs.Words.{is_allocated}
 use Rattle.rule_judge.specs.Defined.{IsDefined}
-use Rattle.rule_mem.proofs.HintLemmas.{one_with-found, one_with-second, one_with-other}
-use Rattle.rule_mem.proofs.hints.only_allocated.Goals as goal
-use Rattle.rule_mem.proofs.hints.only_allocated.Goals.{then-is_allocated+in-None, else-is_allocated}
+use Rattle.rule_judge.proofs.HintLemmas.{one_with-found, one_with-other}
+use Rattle.rule_judge.proofs.hints.only_allocated.Goals as goal
+use Rattle.rule_judge.proofs.hints.only_allocated.Goals.{then-is_allocated+in-None, else-is_allocated}
 
 pub is_allocated-requires : goal.is_allocated-requires
 is_allocated-requires c = c.requires c.t-item.result (c.loop-t.t-index, c.loop-t-test.true, sym c.t-item.is)

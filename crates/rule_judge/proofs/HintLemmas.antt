@@ -1,11 +1,11 @@
 -- What hints ask of allocations.
-use Rattle.std.proofs.Common.{◌≡◌, ℕ, suc, ◌+◌, ◌<◌, Bool, true, false, cond, List, [], ◌∷◌, length, drop, filter, get_or, Option, Some, None, refl, ap, sym, ◌∙◌, subst, arith, add-one, drop-cons}
+use Rattle.std.proofs.Common.{◌≡◌, ℕ, suc, ◌+◌, ◌<◌, Bool, true, false, cond, List, [], ◌∷◌, length, drop, filter, get_or, Option, Some, None, refl, ap, sym, ◌∙◌, subst, add-one, drop-cons}
 use Rattle.std.specs.Prelude.{Contains}
 use Rattle.hare_types.specs.declared.row.Row.{Row}
 use Rattle.hare_types.specs.declared.row.Row.TheVariants as row
 use Rattle.hare_types.specs.Store.{Store}
 use Rattle.hare_rules.specs.Words.{only_one}
-use Rattle.rule_judge.specs.Defined.{made_of, IsDefined, HoldsDefined}
+use Rattle.rule_judge.specs.Defined.{IsDefined, HoldsDefined}
 
 -- the one of these, where one was found before them or none
 abbrev pub one_with : Option ℕ → List ℕ → Option ℕ
