@@ -14,4 +14,5 @@ pub mod UnmetLemmas
 pub mod TypeLemmas
 pub mod OwnLemmas
 pub mod HintedLemmas
+pub mod ItemLemmas
 mod MemoryRows

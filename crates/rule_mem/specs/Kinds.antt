@@ -5,7 +5,7 @@ use Rattle.hare_tree.specs.declared.kind.Kind.TheVariants as ki
 use Rattle.hare_rules.specs.declared.row_id.RowId.{RowId}
 use Rattle.hare_rules.specs.declared.row_id.RowId.TheVariants as row
 
--- the kinds that are judged here: places, assignments, and what is asked of slices, of lengths and of the heap
+-- the kinds that are judged here: places, assignments, aggregates, and what is asked of slices, of lengths and of the heap
 abbrev pub judges : Kind → Bool
 judges ki.Path = true
 judges ki.Deref = true
@@ -15,6 +15,8 @@ judges ki.Index = true
 judges ki.Slice = true
 judges ki.Field = true
 judges ki.StructLit = true
+judges ki.Tuple = true
+judges ki.Array = true
 judges ki.Alloc = true
 judges ki.Free = true
 judges ki.Append = true

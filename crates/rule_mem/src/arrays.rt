@@ -1,19 +1,22 @@
 //! The items of an array, and its elements.
 
-ghost use Rattle.std.specs.Prelude.{◌≡◌, Some, IfOk, IfSome, is_some, length};
+ghost use Rattle.std.specs.Prelude.{◌≡◌, ◌&&◌, true, not, Some, IfOk, IfSome, is_some, length};
+ghost use Rattle.hare_tree.specs.declared.kind.Kind.TheVariants as ki;
 ghost use Rattle.hare_types.specs.Store.{Store};
 ghost use Rattle.hare_types.specs.Later.{IsLater};
 ghost use Rattle.hare_rules.specs.Aggregates as spec;
 ghost use Rattle.hare_rules.specs.Rows.{holds};
+ghost use Rattle.hare_rules.specs.Settles.{target_of};
 ghost use Rattle.hare_rules.specs.declared.row_id.RowId.TheVariants as row;
-ghost use Rattle.rule_judge.specs.Defined.{IsDefined};
+ghost use Rattle.rule_judge.specs.Defined.{IsDefined, IsDefinedTy};
 ghost use Rattle.rule_judge.specs.Grown.{IsGrown};
 ghost use Rattle.rule_judge.specs.Turns.{context_in, IsTurn};
+ghost use Rattle.rule_mem.specs.Asking.{asks_as};
 
 use crate::hints::{hinted_element, hinted_length};
 use crate::ids::is_small;
-use crate::turns::{is_there, own};
-use hare_types::{TypeId, TypeStore};
+use crate::turns::{is_there, kids_before, own};
+use hare_types::{Ty, TypeId, TypeStore};
 use rule_judge::{Turn, array_of, default_in, has_default, has_size};
 use std::alloc::AllocError;
 
@@ -92,6 +95,7 @@ pub(crate) fn element_count(s: &TypeStore, t: &Turn<'_>) -> u64
 pub(crate) fn item_type(s: &mut TypeStore, t: &Turn<'_>) -> Result<Option<TypeId>, AllocError>
     requires { IsTurn s.old t.now }
     ensures value { IfOk result (λ o. (f : Store) → IsLater s.new f → o ≡ spec.item_type (context_in f t.now)) }
+    ensures there { IfOk result (λ o. (f : Store) → IsLater s.old f → is_some o ≡ (not (spec.is_empty_array (context_in f t.now)) && holds row.ArrayFirstDefault (context_in f t.now))) }
     ensures defined { IfOk result (λ o. IfSome o (λ u. IsDefined s.new u)) }
     ensures grown { IsGrown s.old s.new }
 {
@@ -146,4 +150,70 @@ pub(crate) fn fits(s: &mut TypeStore, t: &Turn<'_>) -> Result<bool, AllocError>
         }
         None => Ok(true),
     }
+}
+
+/// The type of an array whose first item has a type, where there is one.
+pub(crate) fn array_type(s: &mut TypeStore, t: &Turn<'_>) -> Result<Ty, AllocError>
+    requires turn { IsTurn s.old t.now }
+    requires met { (f : Store) → IsLater s.old f → holds row.ArrayFirstDefault (context_in f t.now) ≡ true }
+    ensures value { IfOk result (λ a. (f : Store) → IsLater s.new f → spec.array_type (context_in f t.now) ≡ Some a) }
+    ensures defined { IfOk result (IsDefinedTy s.new) }
+    ensures grown { IsGrown s.old s.new }
+{
+    let _law = s.declarations();
+    if is_empty(s, t) {
+        return Ok(Ty::Empty);
+    }
+    let count = element_count(s, t);
+    match item_type(s, t)? {
+        Some(u) => {
+            let made = array_of(s, count, u)?;
+            Ok(Ty::Of(made))
+        }
+        None => unreachable!(),
+    }
+}
+
+/// Whether an array asks its kid number `i` for a type: for the element that a hint gives, or else, behind the first, for the default of that.
+pub(crate) fn item_asks(s: &mut TypeStore, t: &Turn<'_>, i: usize) -> Result<bool, AllocError>
+    requires { IsTurn s.old t.now }
+    ensures value { IfOk result (λ b. (f : Store) → IsLater s.new f → b ≡ asks_as (context_in f t.now) i ki.Array) }
+    ensures grown { IsGrown s.old s.new }
+{
+    let _law = s.declarations();
+    if is_hinted(s, t) {
+        return Ok(true);
+    }
+    if kids_before(t, i) == 0 {
+        return Ok(false);
+    }
+    let first = own(t, 0);
+    let d = default_in(s, &first)?;
+    Ok(d.is_some())
+}
+
+/// The type to which kid number `i` of an array goes: its default, where it is the first item and no hint gives the element.
+pub(crate) fn item_target(
+    s: &mut TypeStore,
+    t: &Turn<'_>,
+    i: usize,
+) -> Result<Option<TypeId>, AllocError>
+    requires { IsTurn s.old t.now }
+    ensures value { IfOk result (λ o. (f : Store) → IsLater s.new f → o ≡ target_of (context_in f t.now) ki.Array i) }
+    ensures defined { IfOk result (λ o. IfSome o (λ u. IsDefined s.new u)) }
+    ensures grown { IsGrown s.old s.new }
+{
+    let _law = s.declarations();
+    if i != 0 {
+        return Ok(None);
+    }
+    if item_count(t) == 0 {
+        return Ok(None);
+    }
+    if is_hinted(s, t) {
+        return Ok(None);
+    }
+    let item = own(t, i);
+    let d = default_in(s, &item)?;
+    Ok(d)
 }

@@ -21,19 +21,13 @@ use crate::allocs::has_capacity;
 use crate::hints::object_asked;
 use crate::members::field_of;
 use crate::reads::slice_element;
-use crate::turns::{own, seen};
+use crate::turns::{kids_before, own, seen};
+use crate::{arrays, tuples};
 use hare_tree::Kind;
 use hare_typed::TypedKids;
 use hare_types::{Scalar, Ty, TypeId, TypeStore};
 use rule_judge::{Turn, asked, default_in, word};
 use std::alloc::AllocError;
-
-/// How many kids stand before kid number `i`.
-fn kids_before(t: &Turn<'_>, i: usize) -> usize
-    ensures { result ≡ length (take i t.now.kids.now) }
-{
-    i.min(t.kids.len())
-}
 
 /// Whether one kid stands before kid number `i`.
 fn is_second(t: &Turn<'_>, i: usize) -> bool
@@ -134,6 +128,11 @@ pub(crate) fn asks_type(s: &mut TypeStore, t: &Turn<'_>, i: usize) -> Result<boo
         Kind::Assign => Ok(assignment_asks(t, i)),
         Kind::Append => Ok(append_asks(s, t, i)),
         Kind::StructLit => Ok(literal_asks(s, t, i)),
+        Kind::Tuple => Ok(tuples::item_asks(s, t, i)),
+        Kind::Array => {
+            let b = arrays::item_asks(s, t, i)?;
+            Ok(b)
+        }
         Kind::Alloc => {
             let b = allocation_asks(s, t, i)?;
             Ok(b)
@@ -198,6 +197,14 @@ pub(crate) fn target(
     match node.kind {
         Kind::Alloc => {
             let o = object_target(s, t, i)?;
+            Ok(o)
+        }
+        Kind::Tuple => {
+            let o = tuples::item_target(s, t, i)?;
+            Ok(o)
+        }
+        Kind::Array => {
+            let o = arrays::item_target(s, t, i)?;
             Ok(o)
         }
         Kind::Path

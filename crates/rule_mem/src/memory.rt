@@ -1,4 +1,4 @@
-//! The judge of places, members and the heap.
+//! The judge of places, aggregates and the heap.
 
 ghost use Rattle.std.specs.Prelude.{◌≡◌, true, IfOk, IfErr};
 ghost use Rattle.hare_tree.specs.Node.{head};
@@ -17,7 +17,7 @@ use hare_types::{Ty, TypeId, TypeStore};
 use rule_judge::{DeclTypes, Rules, Turn, judge_by};
 use std::alloc::{AllocError, Global};
 
-/// The rules of places, members and the heap.
+/// The rules of places, aggregates and the heap.
 pub(crate) struct Memory;
 
 impl Rules for Memory {
@@ -67,9 +67,9 @@ impl Rules for Memory {
     ghost needs_stay = { ready_stays };
 }
 
-/// Judges a path, what a pointer leads to, an address, a member, `free`, `delete`, `len` or `offset`: its type and the coercions that it settles,
-/// or the fault of the first row of the table of typing rules that it fails. The answer is that of every later store. The store may grow in
-/// types, also where there is a fault.
+/// Judges a path, what a pointer leads to, an address, an assignment, an index, a slice, a member, a struct literal, a tuple, an array, `alloc`,
+/// `free`, `append`, `delete`, `len` or `offset`: its type and the coercions that it settles, or the fault of the first row of the table of typing
+/// rules that it fails. The answer is that of every later store. The store may grow in types, also where there is a fault.
 ///
 /// The node is shaped and has these kids, which have been judged; each type that stands in them or in `c` is in the store, and mentions no name
 /// that is not defined. What a path means is known, and the store defines `rt::nomem`.

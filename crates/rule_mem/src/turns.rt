@@ -1,6 +1,6 @@
 //! What the kids of a node give to it.
 
-ghost use Rattle.std.specs.Prelude.{◌≡◌};
+ghost use Rattle.std.specs.Prelude.{◌≡◌, length, take};
 ghost use Rattle.hare_types.specs.Store.{Store};
 ghost use Rattle.hare_typed.specs.Given.{given};
 ghost use Rattle.hare_typed.specs.Order.{tree_from_front};
@@ -35,4 +35,11 @@ pub(crate) fn is_there(kids: &TypedKids, i: usize) -> bool
     ensures { result ≡ context.is_there (tree_from_front i kids.now) }
 {
     kind_at(kids, i) != Kind::None
+}
+
+/// How many kids stand before kid number `i`.
+pub(crate) fn kids_before(t: &Turn<'_>, i: usize) -> usize
+    ensures { result ≡ length (take i t.now.kids.now) }
+{
+    i.min(t.kids.len())
 }

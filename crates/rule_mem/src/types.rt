@@ -21,11 +21,11 @@ ghost use Rattle.rule_judge.specs.Turns.{context_in, kind_in, IsTurn};
 ghost use Rattle.rule_mem.specs.Kinds.{judges};
 
 use crate::allocs::{default_of, has_capacity};
-use crate::paths;
 use crate::reached::{element_reached, member_reached};
 use crate::reads::element;
 use crate::rows::pointed;
 use crate::turns::{own, seen};
+use crate::{arrays, paths, tuples};
 use hare_tree::Kind;
 use hare_types::{Scalar, Ty, TypeStore};
 use rule_judge::{Turn, pointer_to, refusable, slice_of, word};
@@ -211,6 +211,14 @@ pub(crate) fn own_type(alloc: Global, s: &mut TypeStore, t: &Turn<'_>) -> Result
         }
         Kind::Field => Ok(member_type(s, t)),
         Kind::StructLit => Ok(own(t, 0)),
+        Kind::Tuple => {
+            let a = tuples::tuple_type(alloc, s, t)?;
+            Ok(a)
+        }
+        Kind::Array => {
+            let a = arrays::array_type(s, t)?;
+            Ok(a)
+        }
         Kind::Index => Ok(index_type(s, t)),
         Kind::Slice => {
             let a = slice_type(s, t)?;

@@ -1,10 +1,11 @@
-use Rattle.std.proofs.Common.{ℕ, Option, sym, ◌∙◌, subst, arith}
+use Rattle.std.proofs.Common.{ℕ, Option, is_some, refl, ap, sym, ◌∙◌, subst, arith}
 use Rattle.std.specs.Prelude.{IfSome}
 use Rattle.hare_types.proofs.LaterLemmas.{later_trans}
 use Rattle.rule_judge.specs.Defined.{IsDefined}
 use Rattle.rule_judge.proofs.DefinedLemmas.{defined_stays}
 use Rattle.rule_judge.proofs.TurnLemmas.{turn_stays, grown_trans}
 use Rattle.rule_mem.proofs.TupleLemmas.{defaults-more, defaults-none, defaults-end, each-more}
+use Rattle.rule_mem.proofs.ItemLemmas.{lacking-here, lacking-passed, lacking-end}
 use Rattle.rule_mem.proofs.tuples.defaults.Goals as goal
 
 pub default_in-requires : goal.default_in-requires
@@ -15,6 +16,10 @@ pub returns-in_default-clause-value : goal.returns-in_default-clause-value
 returns-in_default-clause-value c f l =
     defaults-none f c.args.t.now.kids.now c.loop-i.types c.loop-i.i c.own-item.result _ (omega arith) c.own-item.ensures.value (sym c.in_default.is ∙ c.in_ok-d.ensures.value f l)
     (c.loop-i.invariant.rest f (later_trans c.loop-i.s c.default_in.new.s f c.default_in.ensures.grown.later l))
+
+pub returns-in_default-clause-there : goal.returns-in_default-clause-there
+returns-in_default-clause-there c =
+    lacking-here c.args.t.now.kids.now c.loop-i.i c.own-item.result _ _ (omega arith) c.own-item.ensures.value (sym (ap is_some c.in_default.is) ∙ c.in_ok-d.ensures.there) refl c.loop-i.invariant.lacking
 
 pub loop-i-preserved : goal.loop-i-preserved
 loop-i-preserved c = record {
@@ -27,7 +32,12 @@ loop-i-preserved c = record {
       defaults-more f c.args.t.now.kids.now c.loop-i.types c.push.new.self c.loop-i.i c.in-Some.d c.own-item.result _ (omega arith) c.own-item.ensures.value (sym c.in-Some.is ∙ c.in_ok-d.ensures.value f l)
       c.in_ok-push.ensures.ok
       (c.loop-i.invariant.rest f (later_trans c.loop-i.s c.default_in.new.s f c.default_in.ensures.grown.later l));
+  lacking =
+      lacking-passed c.args.t.now.kids.now c.loop-i.i c.own-item.result _ _ (omega arith) c.own-item.ensures.value (sym (ap is_some c.in-Some.is) ∙ c.in_ok-d.ensures.there) refl c.loop-i.invariant.lacking;
 }
 
 pub returns-clause-value : goal.returns-clause-value
 returns-clause-value c f l = defaults-end f c.args.t.now.kids.now c.loop-i.types c.loop-i.i _ (omega arith) (c.loop-i.invariant.rest f l)
+
+pub returns-clause-there : goal.returns-clause-there
+returns-clause-there c = lacking-end c.args.t.now.kids.now c.loop-i.i _ (omega arith) c.loop-i.invariant.lacking

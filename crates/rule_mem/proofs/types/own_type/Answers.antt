@@ -33,3 +33,12 @@ pub alloc_type-requires-clause-sequence : goal.alloc_type-requires-clause-sequen
 alloc_type-requires-clause-sequence c f l =
     third_met (context_in f c.args.t.now) ki.Alloc row.AllocDefault row.AllocHasSize row.AllocSequence [] (sym (ap (λ n. (head n).kind) c.node.view_is) ∙ c.in-Alloc.is) refl
     (c.requires.rows f l)
+
+pub tuple_type-requires-clause-met : goal.tuple_type-requires-clause-met
+tuple_type-requires-clause-met c f l =
+    first_met (context_in f c.args.t.now) ki.Tuple row.TupleDefaults (row.TupleHasSize ∷ row.TupleSmall ∷ []) (sym (ap (λ n. (head n).kind) c.node.view_is) ∙ c.in-Tuple.is) refl (c.requires.rows f l)
+
+pub array_type-requires-clause-met : goal.array_type-requires-clause-met
+array_type-requires-clause-met c f l =
+    first_met (context_in f c.args.t.now) ki.Array row.ArrayFirstDefault (row.ArrayLong ∷ row.ArrayHasSize ∷ row.ArraySmall ∷ []) (sym (ap (λ n. (head n).kind) c.node.view_is) ∙ c.in-Array.is) refl
+    (c.requires.rows f l)
