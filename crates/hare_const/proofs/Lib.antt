@@ -1,4 +1,5 @@
 pub mod CoverLemmas
 pub mod NumberLemmas
+pub mod OperatorLemmas
 mod ExampleConstants
 mod ConstantRows

@@ -1,4 +1,5 @@
 pub mod Shapes
 pub mod Numbers
+pub mod Operators
 pub mod Lengths
 pub mod Covering

@@ -4,9 +4,15 @@
 mod cover;
 mod length;
 mod number;
+mod operators;
 mod shape;
 #[cfg(test)]
 mod tests;
 
 pub use cover::covers;
 pub use length::array_length;
+pub use number::{number_cells, number_of_value};
+pub use operators::{
+    Arithmetic, IntType, Logic, Order, Shift, combined, complemented, computed, in_order,
+    leaves_open, negated, same_number, shifted,
+};

@@ -1,19 +1,35 @@
 //! The numbers that cells spell.
 
-ghost use Rattle.std.specs.Prelude.{◌≡◌, ◌≤◌, ◌<◌, ◌^◌, pos, neg_ℤ, ◌≤ℤ◌, ◌<ℤ◌, length, option_map, IfSome, Some};
-ghost use Rattle.hx_base.specs.Memory.{le_number};
-ghost use Rattle.hare_typed.specs.Cells.{bytes_of};
-ghost use Rattle.hare_typed.specs.Scalars.{number_spelled, bool_spelled};
+ghost use Rattle.std.specs.Prelude.{◌≡◌, ◌≤◌, ◌<◌, ◌^◌, pos, neg_ℤ, ◌≤ℤ◌, ◌<ℤ◌, length, option_map, IfSome, IfOk, Some};
+ghost use Rattle.hx_base.specs.Memory.{le_bytes, le_number};
+ghost use Rattle.hare_typed.specs.Cells.{bytes_of, byte_cells};
+ghost use Rattle.hare_typed.specs.Scalars.{number_spelled, bool_spelled, width as scalar_width};
+ghost use Rattle.hare_typed.specs.Shapes.{shape_at as spec_shape_at};
+ghost use Rattle.hare_typed.specs.Coercions.{number_of_value as number_of_cells, number_cells as cells_of_number};
 ghost use Rattle.hare_const.specs.Shapes.{shape_of, IsNarrow};
 ghost use Rattle.hare_const.specs.Numbers as spec;
 
 use crate::shape::{Shape, shape_at};
-use hare_typed::{Cell, Const};
+use hare_typed::{Cell, Cells, Const};
 use hare_types::{Ty, TypeId, TypeStore};
-use hx_base::wrap;
+use hx_base::{le_byte, wrap};
+use std::alloc::{AllocError, Global};
 
 /// How many cells a number has at most.
 const MOST_CELLS: usize = 8;
+
+/// How many cells a scalar has.
+fn width(shape: Shape) -> u32
+    requires { IsNarrow shape }
+    ensures value { result ≡ scalar_width (shape_of shape) }
+    ensures few { result ≤ 8 }
+{
+    match shape {
+        Shape::Whole(bytes, _) => bytes,
+        Shape::Truth => 1,
+        Shape::Reference | Shape::Nullable => 8,
+    }
+}
 
 /// The byte that a cell is.
 fn byte_of(cell: Cell) -> Option<u8>
@@ -87,15 +103,12 @@ fn number_by(shape: Shape, cells: &[Cell]) -> Option<i128>
     }
 }
 
-/// The number that a constant of a type is.
-pub(crate) fn number_of(s: &TypeStore, t: TypeId, c: &Const) -> Option<i128>
-    ensures value { result ≡ spec.number_of s.now t c.now }
+/// The number that the cells of a value of a type spell.
+fn number_at(s: &TypeStore, t: TypeId, cells: &Cells) -> Option<i128>
+    ensures value { result ≡ spec.number_by (spec_shape_at s.now t) cells.now }
     ensures low { IfSome result (λ v. neg_ℤ (pos (2 ^ 63)) ≤ℤ v) }
     ensures high { IfSome result (λ v. v <ℤ pos (2 ^ 64)) }
 {
-    let Const::Known { cells, .. } = c else {
-        return None;
-    };
     let shape = shape_at(s, t)?;
     let count = cells.len();
     if count > MOST_CELLS {
@@ -105,6 +118,58 @@ pub(crate) fn number_of(s: &TypeStore, t: TypeId, c: &Const) -> Option<i128>
     let read = &mut buffer[..count];
     let _whole = cells.read(0, read);
     number_by(shape, read)
+}
+
+/// The number that a value of a type is. A whole number without a suffix has no cells: its type says which it is. What is no number is 0.
+pub fn number_of_value(s: &TypeStore, t: Ty, cells: &Cells) -> i128
+    ensures { result ≡ number_of_cells s.now t cells.now }
+{
+    match t {
+        Ty::Of(t) => number_at(s, t, cells).unwrap_or(0),
+        Ty::Iconst(v) => v,
+        Ty::Null | Ty::Empty => 0,
+    }
+}
+
+/// The lowest bytes of a number, the lowest first.
+fn byte_cells_of(alloc: Global, number: u64, bytes: u32) -> Result<Cells, AllocError>
+    requires { bytes ≤ 8 }
+    ensures { IfOk result (λ cells. cells ≡ byte_cells (le_bytes bytes number)) }
+{
+    let mut cells = Cells::new(alloc);
+    for k in 0..bytes {
+        cells.push(Cell::Byte(le_byte(number, k)))?;
+    }
+    Ok(cells)
+}
+
+/// The cells of a number at a type: as many bytes as it has, the lowest first, in two's complement. A whole number without a suffix has none.
+pub fn number_cells(alloc: Global, s: &TypeStore, t: Ty, v: i128) -> Result<Cells, AllocError>
+    ensures { IfOk result (λ cells. cells ≡ cells_of_number s.now t v) }
+{
+    let Ty::Of(t) = t else {
+        return Ok(Cells::new(alloc));
+    };
+    let Some(shape) = shape_at(s, t) else {
+        return Ok(Cells::new(alloc));
+    };
+    let bytes = width(shape);
+    if bytes == 0 {
+        return Ok(Cells::new(alloc));
+    }
+    byte_cells_of(alloc, wrap(v, 8 * bytes, false) as u64, bytes)
+}
+
+/// The number that a constant of a type is.
+pub(crate) fn number_of(s: &TypeStore, t: TypeId, c: &Const) -> Option<i128>
+    ensures value { result ≡ spec.number_of s.now t c.now }
+    ensures low { IfSome result (λ v. neg_ℤ (pos (2 ^ 63)) ≤ℤ v) }
+    ensures high { IfSome result (λ v. v <ℤ pos (2 ^ 64)) }
+{
+    let Const::Known { cells, .. } = c else {
+        return None;
+    };
+    number_at(s, t, cells)
 }
 
 /// The same, where the constant has a type of the store.
