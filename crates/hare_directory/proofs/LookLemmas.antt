@@ -15,7 +15,7 @@ use Rattle.hare_modules.specs.Takings as takings
 use Rattle.hare_modules.specs.Taken.{Tables, tables_with, first_tables, table_at, Tells, built_in_takings, repeated_faults, member_fault}
 use Rattle.hare_modules.specs.CirclesIn.{imports_graph, IsCircleIn, AreUsingsWithin}
 use Rattle.hare_modules.specs.Directory.{Directory, IsDirectoryOf, AreNumbered}
-use Rattle.hare_modules.proofs.Trees.{get_or-there}
+use Rattle.hare_graph.proofs.Elements.{get_or-there}
 use Rattle.hare_modules.proofs.NumberLemmas.{position-is, position-of, some-module}
 use Rattle.hare_modules.proofs.SourceLemmas.{usings-within, circle-to, circle-from, numbered-known, unknown-all, runtime-all}
 use Rattle.hare_modules.proofs.OrderLemmas.{first-of-both, first-of-same, first-in}

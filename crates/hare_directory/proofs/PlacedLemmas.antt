@@ -13,7 +13,7 @@ use Rattle.hare_modules.specs.Declarations.{name_in}
 use Rattle.hare_modules.specs.Entries.{entry_of}
 use Rattle.hare_modules.specs.Numbering.{AreHomes}
 use Rattle.hare_modules.specs.Takings.{Taking, named, import_taker, number_used, use_takings, decl_takings, takings}
-use Rattle.hare_modules.proofs.FloodLemmas.{Contains-none, Contains-cases}
+use Rattle.hare_graph.proofs.Elements.{Contains-none, Contains-cases}
 use Rattle.hare_modules.proofs.NumberLemmas.{get-within}
 use Rattle.hare_modules.proofs.TellsLemmas.{IsPlaced, ArePlaced}
 use Rattle.std.specs.Prelude.{not}

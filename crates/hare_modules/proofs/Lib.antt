@@ -9,4 +9,3 @@ pub mod CircleLemmas
 pub mod NumberLemmas
 pub mod SourceLemmas
 pub mod TellsLemmas
-pub mod FloodLemmas

@@ -3,7 +3,7 @@ use Rattle.std.proofs.Common.{◌≡◌, ℕ, ◌<◌, ◌≤◌, Bool, true, fa
 use Rattle.std.proofs.lemmas.Bool.{cases_lt, ltb-true, lt-ltb, and_parts, eqb-true, eq-eqb}
 use Rattle.hare_tree.specs.declared.place.Fault.{Fault}
 use Rattle.std.specs.Prelude.{Contains}
-use Rattle.hare_modules.proofs.FloodLemmas.{Contains-none, Contains-cases, Contains-here, Contains-behind}
+use Rattle.hare_graph.proofs.Elements.{Contains-none, Contains-cases, Contains-here, Contains-behind}
 use Rattle.hare_modules.specs.Order.{decides, counts_before, earlier, earlier_of, first_in, IsFirst, TellsFirst}
 
 -- ---- the order

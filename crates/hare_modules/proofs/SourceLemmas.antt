@@ -15,12 +15,12 @@ use Rattle.hare_modules.specs.Modules.{Module, Source, sources, module_of, runti
 use Rattle.hare_modules.specs.Uses.{module_used, path_in, place_of}
 use Rattle.hare_modules.specs.Circles.{Imports, LeadsTo, there, onward}
 use Rattle.hare_modules.specs.Faults.{IsCircle}
-use Rattle.hare_modules.specs.Graphs.{Graph, HasEdge, Reached, at_start, along, edgeless}
+use Rattle.hare_graph.specs.Graphs.{Graph, HasEdge, Reached, at_start, along, edgeless}
 use Rattle.hare_modules.specs.Takings.{Using, using_of, usings, number_used, unknown_module, runtime_files}
 use Rattle.hare_modules.specs.CirclesIn.{with_target, with_import, imports_graph, AreUsingsWithin, IsCircleIn}
 use Rattle.hare_modules.specs.Numbering.{AreHomes, IsNumbering}
-use Rattle.hare_modules.proofs.FloodLemmas.{Contains-none, Contains-cases, Contains-here, Contains-behind}
-use Rattle.hare_modules.proofs.CircleLemmas.{edge-kept, edge-new, edge-from, no-edges, length-with_edge}
+use Rattle.hare_graph.proofs.Elements.{Contains-none, Contains-cases, Contains-here, Contains-behind}
+use Rattle.hare_graph.proofs.EdgeLemmas.{edge-kept, edge-new, edge-from, no-edges, length-with_edge}
 use Rattle.hare_modules.proofs.NumberLemmas.{get-within, position-is, position-of}
 
 -- ---- imports by numbers

@@ -18,7 +18,7 @@ use Rattle.hare_modules.specs.Entries.{built_in}
 use Rattle.hare_modules.specs.Tables.{value_of, has, put}
 use Rattle.hare_modules.specs.Takings.{Taking, is_import, clashes}
 use Rattle.hare_modules.specs.Taken.{table_at, declared, imported, declares, imports_in, imports_at, declared_among, is_imported_among, imported_among, Tells, put_at, items_with, imported_with, imports_with, Tables, tables_with, is_taken, repeated_faults, empty_tables, first_tables, built_in_taking, built_in_takings}
-use Rattle.hare_modules.proofs.FloodLemmas.{Contains-none, Contains-cases, Contains-here, Contains-behind, Other, other}
+use Rattle.hare_graph.proofs.Elements.{Contains-none, Contains-cases, Contains-here, Contains-behind, Other, other}
 
 -- ---- one or else the other
 

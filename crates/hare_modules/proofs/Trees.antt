@@ -1,16 +1,12 @@
 -- Kids of trees, by the lists that the code reads them from.
 use Rattle.std.proofs.Common.{◌≡◌, ℕ, ◌≤◌, List, [], ◌∷◌, length, get_or, slice_get, Some, None, refl, sym, ap, ◌∙◌, suc, zero, arith}
 use Rattle.hare_tree.specs.Node.{Head, Node, branch, nodes_of}
+use Rattle.hare_graph.proofs.Elements.{get_or-there}
 use Rattle.hare_modules.specs.Uses.{listed, kids, kid}
 
 pub listed-nodes_of : (ts : List Node) → listed (nodes_of ts) ≡ ts
 listed-nodes_of [] = refl
 listed-nodes_of (t ∷ ts) = ap (λ us. t ∷ us) (listed-nodes_of ts)
-
-pub get_or-there : {A : Type 0} (xs : List A) (i : ℕ) (x d : A) → slice_get xs i ≡ Some x → get_or xs i d ≡ x
-get_or-there [] i x d e = absurd cc
-get_or-there (y ∷ ys) zero x d e = cc
-get_or-there (y ∷ ys) (suc i) x d e = get_or-there ys i x d e
 
 pub get_or-past : {A : Type 0} (xs : List A) (i : ℕ) (d : A) → length xs ≤ i → get_or xs i d ≡ d
 get_or-past [] i d h = refl
@@ -26,8 +22,3 @@ kid-there h ts t k i e g = sym (ap (λ us. get_or us i t) (kids-seen h ts t e) �
 
 pub kid-past : (h : Head) (ts : List Node) (t : Node) (i : ℕ) → branch h (nodes_of ts) ≡ t → length ts ≤ i → t ≡ kid t i
 kid-past h ts t i e g = sym (ap (λ us. get_or us i t) (kids-seen h ts t e) ∙ get_or-past ts i t g)
-
-pub get_or-none : {A : Type 0} (xs : List A) (i : ℕ) (d : A) → slice_get xs i ≡ None → get_or xs i d ≡ d
-get_or-none [] i d e = refl
-get_or-none (y ∷ ys) zero d e = absurd cc
-get_or-none (y ∷ ys) (suc i) d e = get_or-none ys i d e

@@ -1,9 +1,9 @@
--- Circles of imports by the numbers of modules, and ranks.
-use Rattle.std.specs.Prelude.{◌≡◌, ◌⊎◌, ℕ, ◌<◌, ◌≤◌, List, Bool, false, not, nat_lt, fold, length, Option, Some, None, Contains}
+-- Circles of imports by the numbers of modules.
+use Rattle.std.specs.Prelude.{◌≡◌, ◌⊎◌, ℕ, ◌<◌, List, Bool, false, not, fold, Option, Some, None, Contains}
 use Rattle.hare_tree.specs.declared.place.Fault.{Fault}
 use Rattle.hare_modules.specs.Order.{fault, counts_before, TellsFirst}
 use Rattle.hare_modules.specs.Uses.{place_of}
-use Rattle.hare_modules.specs.Graphs.{Graph, HasEdge, Reached, label_of, edgeless, with_edge}
+use Rattle.hare_graph.specs.Graphs.{Graph, Reached, edgeless, with_edge}
 use Rattle.hare_modules.specs.Takings.{Using}
 
 -- the graph with an import more
@@ -47,33 +47,11 @@ pub record IsCircleAt (g : Graph) (u : Using) (f : Fault) : Type 0 where
 abbrev pub IsCircleIn : Graph → List Using → Fault → Type 0
 IsCircleIn g us f = (u : Using) × Contains us u × IsCircleAt g u f
 
--- no edge leads from a node to one of a lower rank
-abbrev pub AreRanks : Graph → List (Option ℕ) → Type 0
-AreRanks g rs = (a b j : ℕ) → HasEdge g a b → label_of rs b ≡ Some j → (i : ℕ) × (label_of rs a ≡ Some i) × (i ≤ j)
-
--- each edge leads to a node
-abbrev pub StaysWithin : Graph → Type 0
-StaysWithin g = (a b : ℕ) → HasEdge g a b → b < length g
-
--- the second graph has each edge of the first the other way round
-pub record IsReverse (g h : Graph) : Type 0 where
-  pub size : length h ≡ length g
-  pub back : (a b : ℕ) → HasEdge g a b → HasEdge h b a
-
 -- ---- following imports
 
 abbrev pub is_later : Option Fault → Fault → Bool
 is_later None f = false
 is_later (Some g) f = not (counts_before f g)
-
-abbrev pub is_higher : Option ℕ → Option ℕ → Bool
-is_higher None j = false
-is_higher (Some i) None = false
-is_higher (Some i) (Some j) = nat_lt i j
-
--- the second node has a higher rank
-abbrev pub leads_up : List (Option ℕ) → ℕ → ℕ → Bool
-leads_up rs a b = is_higher (label_of rs a) (label_of rs b)
 
 -- One import more was followed: what is found then tells the first of what was found before and of its circle.
 abbrev pub Follows : Graph → Using → Option Fault → Option Fault → Type 0

@@ -6,7 +6,6 @@ pub mod Declarations
 pub mod Entries
 pub mod Admitted
 pub mod Repeated
-pub mod Graphs
 pub mod Takings
 pub mod Taken
 pub mod Circles

@@ -4,18 +4,16 @@
 //! the others are followed. The ranks are those of Kosaraju's algorithm, where each import within a rank lies on a circle: the first that is followed
 //! ends the search, and all takes linear time. But the answer rests on nothing more than that no import leads to a lower rank.
 
-ghost use Rattle.std.specs.Prelude.{◌≡◌, ◌↔◌, ◌<◌, map, length, IsTrue, IfOk, OnOk};
+ghost use Rattle.std.specs.Prelude.{◌≡◌, map, length, IfOk, OnOk};
 ghost use Rattle.hare_modules.specs.Order.{TellsFirst, fault};
 ghost use Rattle.hare_modules.specs.Uses.{place_of};
-ghost use Rattle.hare_modules.specs.Graphs.{Reached};
+ghost use Rattle.hare_graph.specs.Ranks.{AreRanks, StaysWithin};
 ghost use Rattle.hare_modules.specs.CirclesIn as spec;
 ghost use Rattle.hare_modules.specs.Takings.{using};
 
 use crate::claims::Used;
-use crate::flood::{flood, label_of, no_labels};
-use crate::graph::Graph;
 use crate::order::{counts_before, earlier};
-use crate::ranks::ranks;
+use hare_graph::{Graph, leads_to, leads_up, ranks};
 use hare_tree::Fault;
 use std::alloc::{AllocError, Global};
 
@@ -83,8 +81,8 @@ fn follow_all(
     ranks: &[Option<usize>],
     uses: &[Used<'_>],
 ) -> Result<Option<Fault>, AllocError>
-    requires ranks { spec.AreRanks forward.now ranks.now }
-    requires stays { spec.StaysWithin forward.now }
+    requires ranks { AreRanks forward.now ranks.now }
+    requires stays { StaysWithin forward.now }
     requires within { spec.AreUsingsWithin (length forward.now) (map using uses.now) }
     ensures { IfOk result (TellsFirst (spec.IsCircleIn forward.now (map using uses.now))) }
 {
@@ -103,8 +101,8 @@ fn follow(
     used: Used<'_>,
     found: Option<Fault>,
 ) -> Result<Option<Fault>, AllocError>
-    requires ranks { spec.AreRanks forward.now ranks.now }
-    requires stays { spec.StaysWithin forward.now }
+    requires ranks { AreRanks forward.now ranks.now }
+    requires stays { StaysWithin forward.now }
     requires within { spec.IsUsingWithin (length forward.now) (using used) }
     ensures { IfOk result (spec.Follows forward.now (using used.entry) found) }
 {
@@ -143,28 +141,4 @@ fn is_later(found: Option<Fault>, other: Fault) -> bool
         Some(f) => !counts_before(other, f),
         None => false,
     }
-}
-
-/// Whether the second module has a higher rank than the first.
-fn leads_up(ranks: &[Option<usize>], from: usize, to: usize) -> bool
-    ensures { result ≡ spec.leads_up ranks.now from to }
-{
-    match label_of(ranks, from) {
-        Some(low) => match label_of(ranks, to) {
-            Some(high) => low < high,
-            None => false,
-        },
-        None => false,
-    }
-}
-
-/// Whether a node leads to another, or is it.
-fn leads_to(alloc: Global, graph: &Graph, from: usize, to: usize) -> Result<bool, AllocError>
-    requires there { from < length graph.now }
-    requires stays { spec.StaysWithin graph.now }
-    ensures { IfOk result (λ b. IsTrue b ↔ Reached graph.now from to) }
-{
-    let mut labels = no_labels(alloc, graph.len())?;
-    flood(alloc, graph, &mut labels, from, 0)?;
-    Ok(label_of(&labels, to).is_some())
 }

@@ -7,15 +7,12 @@
 
 mod circles;
 mod claims;
-mod flood;
-mod graph;
 mod homes;
 mod imports;
 mod items;
 mod looks;
 mod order;
 mod paths;
-mod ranks;
 mod register;
 mod table;
 mod taken;

@@ -15,7 +15,7 @@ use Rattle.hare_lex.specs.Order.{is_before}
 use Rattle.hare_modules.specs.Order.{fault, same_place}
 use Rattle.hare_modules.specs.Modules.{Source, sources, module_of}
 use Rattle.hare_modules.specs.Directory.{Directory, IsDirectoryOf}
-use Rattle.hare_modules.proofs.FloodLemmas.{Contains-none, Contains-cases, Contains-here, Contains-behind}
+use Rattle.hare_graph.proofs.Elements.{Contains-none, Contains-cases, Contains-here, Contains-behind}
 use Rattle.hare_names.specs.declared.verdict.Verdict.{Verdict}
 use Rattle.hare_names.specs.declared.verdict.Verdict.TheVariants.{Means, Fails}
 use Rattle.hare_names.specs.Paths.{Path, paths_of, paths_of_file}

@@ -26,7 +26,7 @@ use Rattle.hare_lex.specs.Order.{is_before, AreOfFile}
 use Rattle.hare_parsing.proofs.Moved.{side_moved}
 use Rattle.hare_depth.proofs.FormKids.{has_form, have_forms, kids_have_forms, all_have_forms, node_some}
 use Rattle.hare_modules.specs.Uses.{place_of as place_of_node}
-use Rattle.hare_modules.proofs.FloodLemmas.{Contains-none, Contains-cases, Contains-here, Contains-behind}
+use Rattle.hare_graph.proofs.Elements.{Contains-none, Contains-cases, Contains-here, Contains-behind}
 use Rattle.hare_names.specs.Scopes.{Scopes, with_locals, is_binding, is_for_each, bindings_in, bound_by, bound_itself}
 use Rattle.hare_names.specs.Paths.{Path, path_of, is_type_path, is_value_path, before_kids, scopes_within, paths_in, paths_among, paths_of_loop, paths_of}
 use Rattle.hare_names.specs.Rises.{Rises, IsOrdered}

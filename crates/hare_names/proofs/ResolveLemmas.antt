@@ -10,7 +10,7 @@ use Rattle.hare_modules.specs.Order.{fault, earlier, TellsFirst}
 use Rattle.hare_modules.specs.Modules.{Source, sources}
 use Rattle.hare_modules.specs.Faults.{IsModuleFault}
 use Rattle.hare_modules.specs.Directory.{Directory, IsDirectoryOf, AreNumbered}
-use Rattle.hare_modules.proofs.FloodLemmas.{Contains-none, Contains-cases, Contains-here, Contains-behind}
+use Rattle.hare_graph.proofs.Elements.{Contains-none, Contains-cases, Contains-here, Contains-behind}
 use Rattle.hare_modules.proofs.OrderLemmas.{first-of-list, first-of-same}
 use Rattle.hare_names.specs.declared.notes.Notes.{Notes}
 use Rattle.hare_names.specs.Paths.{Path, paths_of_file}

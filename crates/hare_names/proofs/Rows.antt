@@ -15,7 +15,7 @@ use Rattle.hare_modules.specs.Order.{fault, counts_before}
 use Rattle.hare_modules.specs.Modules.{Source, sources}
 use Rattle.hare_modules.specs.Circles.{there}
 use Rattle.hare_modules.specs.Faults.{unknown_modules, repeated_names, runtime_files, unknown_members, IsCircle}
-use Rattle.hare_modules.proofs.FloodLemmas.{Contains-here}
+use Rattle.hare_graph.proofs.Elements.{Contains-here}
 use Rattle.hare_names.specs.Paths.{paths_of_file}
 use Rattle.hare_names.specs.Meanings.{meant, path_violation}
 use Rattle.hare_names.specs.Doubled.{doubled_names}

@@ -6,7 +6,7 @@ use Rattle.std.proofs.lemmas.List.Elements.{Contains-append_cases}
 use Rattle.std.proofs.lemmas.Slice.Eq.{bytes_eq-Decides}
 use Rattle.hare_tree.specs.Node.{Head, Node, Nodes, branch, none, more}
 use Rattle.hare_modules.specs.Uses.{text_of}
-use Rattle.hare_modules.proofs.FloodLemmas.{Contains-none, Contains-cases, Contains-here, Contains-behind}
+use Rattle.hare_graph.proofs.Elements.{Contains-none, Contains-cases, Contains-here, Contains-behind}
 use Rattle.hare_blocks.specs.Scopes.{number_of}
 use Rattle.hare_names.specs.Scopes.{Local, Scopes, with_locals, visible, is_binding, is_params, is_for_each, bindings_in, bindings_among, bound_by, bound_among, bound_itself}
 use Rattle.hare_names.specs.Paths.{Path, path_of, path_at, is_type_path, is_value_path, before_kids, scopes_within, paths_in, paths_among, paths_of_loop}

@@ -1,6 +1,7 @@
 use Rattle.std.proofs.Common.{◌≡◌, map, length, sym, ap, ◌∙◌, subst}
 use Rattle.hare_modules.specs.Takings.{using}
-use Rattle.hare_modules.specs.CirclesIn.{IsReverse, StaysWithin, AreRanks, AreUsingsWithin, imports_graph}
+use Rattle.hare_graph.specs.Ranks.{IsReverse, StaysWithin, AreRanks}
+use Rattle.hare_modules.specs.CirclesIn.{AreUsingsWithin, imports_graph}
 use Rattle.hare_modules.proofs.CircleLemmas.{imports-reverse, imports-stay, length-imports}
 use Rattle.hare_modules.proofs.circles.first_circle.Goals as goal
 

@@ -1,7 +1,8 @@
 use Rattle.std.proofs.Common.{sym, subst, ◌∙◌, true≢false}
 use Rattle.hare_modules.specs.Takings.{using}
 use Rattle.hare_modules.specs.CirclesIn.{Follows}
-use Rattle.hare_modules.proofs.CircleLemmas.{follows-none, follows-later, follows-circle, no-way-up, no-circle, no-target}
+use Rattle.hare_graph.proofs.RankLemmas.{no-way-up}
+use Rattle.hare_modules.proofs.CircleLemmas.{follows-none, follows-later, follows-circle, no-circle, no-target}
 use Rattle.hare_modules.proofs.circles.follow.Goals as goal
 
 pub returns-in_default : goal.returns-in_default

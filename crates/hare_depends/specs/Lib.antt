@@ -1,0 +1,5 @@
+pub mod Sorts
+pub mod Said
+pub mod Dependence
+pub mod Circles
+pub mod Order

@@ -1,0 +1,5 @@
+pub mod Elements
+pub mod EdgeLemmas
+pub mod FloodLemmas
+pub mod ReachLemmas
+pub mod RankLemmas

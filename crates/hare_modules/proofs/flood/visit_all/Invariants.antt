@@ -1,8 +1,0 @@
-use Rattle.std.proofs.Common.{◌≡◌, fold, drop}
-use Rattle.hare_modules.specs.Graphs.{visited, marks}
-use Rattle.hare_modules.proofs.flood.visit_all.Given as goal
-
-abbrev pub invariant-loop-node : goal.invariant-loop-node
-invariant-loop-node l =
-    fold (visited l.label) (marks l.labels.items l.left.items) (drop l.node-index l.nodes)
-    ≡ fold (visited l.label) (marks l.fn.labels.items l.fn.left.items) l.nodes

@@ -1,6 +1,0 @@
-use Rattle.std.proofs.Common.{◌≡◌}
-use Rattle.hare_modules.specs.Graphs.{edgeless}
-use Rattle.hare_modules.proofs.graph.Graph.new.Given as goal
-
-abbrev pub invariant-loop : goal.invariant-loop
-invariant-loop l = l.nodes.items ≡ edgeless l.counter

@@ -1,6 +1,0 @@
-use Rattle.hare_modules.proofs.CircleLemmas.{ranking-on}
-use Rattle.hare_modules.proofs.ranks.ranks.Goals as goal
-
-pub loop-rank-preserved : goal.loop-rank-preserved
-loop-rank-preserved c =
-    ranking-on c.args.forward.now c.args.backward.now _ c.loop-rank.rank c.loop-rank.ranks.items c.flood.new.labels.items c.requires c.in_ok-flood.ensures c.loop-rank.invariant

@@ -1,0 +1,7 @@
+pub mod Parts
+pub mod Declared
+pub mod Tags
+pub mod Limits
+pub mod Listing
+pub mod Turns
+pub mod Programs
