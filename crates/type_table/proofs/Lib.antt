@@ -1,4 +1,5 @@
 pub mod BelowLemmas
 pub mod DefinableLemmas
 pub mod FieldLemmas
+pub mod MemberLemmas
 pub mod SmallLemmas

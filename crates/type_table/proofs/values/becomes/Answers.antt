@@ -1,0 +1,5 @@
+use Rattle.type_table.proofs.MemberLemmas.{chosen_within}
+use Rattle.type_table.proofs.values.becomes.Goals as goal
+
+pub told-requires : goal.told-requires
+told-requires c = chosen_within _ ? _ _ _ c.in-Some.ensures.some
