@@ -1,5 +1,5 @@
--- Small programs: what their paths mean, or their violations. Above each stands its source. Trees stand at the columns of their first tokens, and each
--- declaration on a line of its own.
+-- Small programs: what their paths mean, or their violations. Above each stands its source. Trees stand at the columns of their first
+-- tokens, and each declaration on a line of its own.
 use Rattle.std.specs.Prelude.{◌≡◌, refl, ℕ, List, [], ◌∷◌, ◌++◌, codes, option_map, true, false}
 use Rattle.std.specs.List.{flat_map, filter_map}
 use Rattle.hare_tree.specs.declared.kind.Kind.{Kind}
@@ -317,24 +317,28 @@ number_last = (refl, refl)
 -- ---- scopes entered and left
 
 -- `fn f(x: int) void = void; fn g() void = x;`: a parameter ends with its function
-parameter_ends : violations (alone [] (fn_of no (at 0 1 1) (codes "f") (at 0 1 4) (tree ki.Param (at 0 1 6) (codes "x") (no ∷ []) ∷ []) void_value
+parameter_ends : violations (alone [] (fn_of no (at 0 1 1) (codes "f") (at 0 1 4) (tree ki.Param (at 0 1 6) (codes "x") (no ∷ [])
+    ∷ []) void_value
     ∷ fn_of no (at 0 2 1) (codes "g") (at 0 2 4) [] (path_at (at 0 2 16) (codes "x")) ∷ [])) ≡ fault 13 (at 0 2 16) ∷ []
 parameter_ends = refl
 
 -- `type t = int; fn f(t: int) t = void;`: it is visible in the result
 parameter_in_result : violations (alone [] (tree ki.TypeDecl (at 0 1 1) [] (no ∷ tree ki.Name (at 0 1 6) (codes "t") [] ∷ no ∷ [])
-    ∷ tree ki.Fn (at 0 2 1) [] (no ∷ tree ki.Name (at 0 2 4) (codes "f") [] ∷ tree ki.Params (at 0 2 5) [] (tree ki.Param (at 0 2 6) (codes "t") (no ∷ []) ∷ no ∷ [])
+    ∷ tree ki.Fn (at 0 2 1) [] (no ∷ tree ki.Name (at 0 2 4) (codes "f") []
+    ∷ tree ki.Params (at 0 2 5) [] (tree ki.Param (at 0 2 6) (codes "t") (no ∷ []) ∷ no ∷ [])
     ∷ type_at (at 0 2 14) (codes "t") ∷ void_value ∷ []) ∷ [])) ≡ fault 13 (at 0 2 14) ∷ []
 parameter_in_result = refl
 
 -- `let x = void; { let x = void; x; }; x;`: the inner one hides the outer one, up to the end of its block
 hidden_and_back : means (body (let_of (at 0 2 1) (codes "x") no void_value
-    ∷ tree ki.Block (at 0 3 1) [] (let_of (at 0 3 3) (codes "x") no void_value ∷ path_at (at 0 3 17) (codes "x") ∷ []) ∷ path_at (at 0 4 1) (codes "x") ∷ []))
+    ∷ tree ki.Block (at 0 3 1) [] (let_of (at 0 3 3) (codes "x") no void_value ∷ path_at (at 0 3 17) (codes "x") ∷ [])
+    ∷ path_at (at 0 4 1) (codes "x") ∷ []))
     ≡ (at 0 3 17, me.Local 1) ∷ (at 0 4 1, me.Local 0) ∷ []
 hidden_and_back = refl
 
 -- `const x = void; x;`
-constant : means (body (tree ki.Const (at 0 2 1) (codes "x") (no ∷ void_value ∷ []) ∷ path_at (at 0 3 1) (codes "x") ∷ [])) ≡ (at 0 3 1, me.Local 0) ∷ []
+constant : means (body (tree ki.Const (at 0 2 1) (codes "x") (no ∷ void_value ∷ []) ∷ path_at (at 0 3 1) (codes "x") ∷ []))
+    ≡ (at 0 3 1, me.Local 0) ∷ []
 constant = refl
 
 -- `switch (void) { case void => let x = void; x; case => x; }`: a name ends with its case
@@ -348,14 +352,16 @@ switch_scope = (refl, refl)
 
 -- `let n = void; let a: [n]int = void;`: a length may mean a local
 length_local : (means (body (let_of (at 0 2 1) (codes "n") no void_value
-    ∷ let_of (at 0 3 1) (codes "a") (tree ki.TypeArray (at 0 3 8) [] (path_at (at 0 3 9) (codes "n") ∷ no ∷ [])) void_value ∷ [])) ≡ (at 0 3 9, me.Local 0) ∷ [])
+    ∷ let_of (at 0 3 1) (codes "a") (tree ki.TypeArray (at 0 3 8) [] (path_at (at 0 3 9) (codes "n") ∷ no ∷ [])) void_value ∷ []))
+    ≡ (at 0 3 9, me.Local 0) ∷ [])
     × (violations (body (let_of (at 0 2 1) (codes "n") no void_value
     ∷ let_of (at 0 3 1) (codes "a") (tree ki.TypeArray (at 0 3 8) [] (path_at (at 0 3 9) (codes "n") ∷ no ∷ [])) void_value ∷ [])) ≡ [])
 length_local = (refl, refl)
 
 -- `let s = void; s { a = s };`: the path of a struct literal is a type
 literal_local : violations (body (let_of (at 0 2 1) (codes "s") no void_value
-    ∷ tree ki.StructLit (at 0 3 1) [] (type_at (at 0 3 1) (codes "s") ∷ tree ki.FieldValue (at 0 3 5) (codes "a") (path_at (at 0 3 9) (codes "s") ∷ []) ∷ no ∷ []) ∷ []))
+    ∷ tree ki.StructLit (at 0 3 1) [] (type_at (at 0 3 1) (codes "s")
+    ∷ tree ki.FieldValue (at 0 3 5) (codes "a") (path_at (at 0 3 9) (codes "s") ∷ []) ∷ no ∷ []) ∷ []))
     ≡ fault 13 (at 0 3 1) ∷ []
 literal_local = refl
 
@@ -365,16 +371,20 @@ literal_local = refl
 abbrev beside_m : List Node → List Source
 beside_m ts = sources (codes "a.ha" ∷ codes "m/b.ha" ∷ [])
     (file 0 (use_of 0 1 (codes "m") ∷ []) (fn_of no (at 0 2 1) (codes "h") (at 0 2 4) [] (tree ki.Block (at 0 2 9) [] ts) ∷ [])
-    ∷ file 1 [] (plain_fn 1 1 (codes "f") ∷ exported_fn 1 2 (codes "g") ∷ tree ki.TypeDecl (at 1 3 1) [] (tree ki.Export (at 1 3 1) [] [] ∷ tree ki.Name (at 1 3 13) (codes "t") [] ∷ no ∷ []) ∷ []) ∷ [])
+    ∷ file 1 [] (plain_fn 1 1 (codes "f") ∷ exported_fn 1 2 (codes "g") ∷ tree ki.TypeDecl (at 1 3 1) [] (tree ki.Export (at 1 3 1) [] []
+    ∷ tree ki.Name (at 1 3 13) (codes "t") [] ∷ no ∷ []) ∷ []) ∷ [])
 
 -- where a type has to stand: E14 comes before E13 of a function, E15 where nothing is declared, and the type is a type
-types_of_m : violations (beside_m (let_of (at 0 3 1) (codes "x") (type_at (at 0 3 8) (codes "m::f")) void_value ∷ let_of (at 0 4 1) (codes "x") (type_at (at 0 4 8) (codes "m::g")) void_value
-    ∷ let_of (at 0 5 1) (codes "x") (type_at (at 0 5 8) (codes "m::h")) void_value ∷ let_of (at 0 6 1) (codes "x") (type_at (at 0 6 8) (codes "m::t")) void_value ∷ []))
+types_of_m : violations (beside_m (let_of (at 0 3 1) (codes "x") (type_at (at 0 3 8) (codes "m::f")) void_value
+    ∷ let_of (at 0 4 1) (codes "x") (type_at (at 0 4 8) (codes "m::g")) void_value
+    ∷ let_of (at 0 5 1) (codes "x") (type_at (at 0 5 8) (codes "m::h")) void_value
+    ∷ let_of (at 0 6 1) (codes "x") (type_at (at 0 6 8) (codes "m::t")) void_value ∷ []))
     ≡ fault 14 (at 0 3 8) ∷ fault 13 (at 0 4 8) ∷ fault 15 (at 0 5 8) ∷ []
 types_of_m = refl
 
 -- as values: E14, a function, E15, a type, and three names of which the first two are a member
-values_of_m : violations (beside_m (path_at (at 0 3 1) (codes "m::f") ∷ path_at (at 0 4 1) (codes "m::g") ∷ path_at (at 0 5 1) (codes "m::h") ∷ path_at (at 0 6 1) (codes "m::t") ∷ path_at (at 0 7 1) (codes "m::g::x") ∷ []))
+values_of_m : violations (beside_m (path_at (at 0 3 1) (codes "m::f") ∷ path_at (at 0 4 1) (codes "m::g")
+    ∷ path_at (at 0 5 1) (codes "m::h") ∷ path_at (at 0 6 1) (codes "m::t") ∷ path_at (at 0 7 1) (codes "m::g::x") ∷ []))
     ≡ fault 14 (at 0 3 1) ∷ fault 15 (at 0 5 1) ∷ fault 13 (at 0 7 1) ∷ []
 values_of_m = refl
 
@@ -383,11 +393,17 @@ member_alone : violations (beside_m (path_at (at 0 3 1) (codes "g") ∷ [])) ≡
 member_alone = refl
 
 -- a name between braces that is not exported means nothing in the file: E14 at the import, and E13 at the path
-unexported_member : (unknown_members (sources (codes "a.ha" ∷ codes "m/b.ha" ∷ []) (file 0 (use_name 0 1 (codes "m") 9 (codes "f") ∷ []) (fn_of no (at 0 2 1) (codes "g") (at 0 2 4) [] (path_at (at 0 2 16) (codes "f")) ∷ []) ∷ file 1 [] (plain_fn 1 1 (codes "f") ∷ []) ∷ [])) ≡ fault 14 (at 0 1 9) ∷ [])
-    × (violations (sources (codes "a.ha" ∷ codes "m/b.ha" ∷ []) (file 0 (use_name 0 1 (codes "m") 9 (codes "f") ∷ []) (fn_of no (at 0 2 1) (codes "g") (at 0 2 4) [] (path_at (at 0 2 16) (codes "f")) ∷ []) ∷ file 1 [] (plain_fn 1 1 (codes "f") ∷ []) ∷ [])) ≡ fault 13 (at 0 2 16) ∷ [])
+unexported_member : (unknown_members (sources (codes "a.ha" ∷ codes "m/b.ha" ∷ []) (file 0 (use_name 0 1 (codes "m") 9 (codes "f")
+    ∷ []) (fn_of no (at 0 2 1) (codes "g") (at 0 2 4) [] (path_at (at 0 2 16) (codes "f")) ∷ []) ∷ file 1 [] (plain_fn 1 1 (codes "f")
+    ∷ []) ∷ [])) ≡ fault 14 (at 0 1 9) ∷ [])
+    × (violations (sources (codes "a.ha" ∷ codes "m/b.ha" ∷ []) (file 0 (use_name 0 1 (codes "m") 9 (codes "f")
+    ∷ []) (fn_of no (at 0 2 1) (codes "g") (at 0 2 4) [] (path_at (at 0 2 16) (codes "f")) ∷ []) ∷ file 1 [] (plain_fn 1 1 (codes "f")
+    ∷ []) ∷ [])) ≡ fault 13 (at 0 2 16) ∷ [])
 unexported_member = (refl, refl)
 
 -- an import of no known module admits nothing: E11 at the import, and E13 at the path
-unknown_admits_nothing : (unknown_modules (alone (use_of 0 1 (codes "q") ∷ []) (fn_of no (at 0 2 1) (codes "g") (at 0 2 4) [] (path_at (at 0 2 16) (codes "q::x")) ∷ [])) ≡ fault 11 (at 0 1 5) ∷ [])
-    × (violations (alone (use_of 0 1 (codes "q") ∷ []) (fn_of no (at 0 2 1) (codes "g") (at 0 2 4) [] (path_at (at 0 2 16) (codes "q::x")) ∷ [])) ≡ fault 13 (at 0 2 16) ∷ [])
+unknown_admits_nothing : (unknown_modules (alone (use_of 0 1 (codes "q")
+    ∷ []) (fn_of no (at 0 2 1) (codes "g") (at 0 2 4) [] (path_at (at 0 2 16) (codes "q::x")) ∷ [])) ≡ fault 11 (at 0 1 5) ∷ [])
+    × (violations (alone (use_of 0 1 (codes "q")
+    ∷ []) (fn_of no (at 0 2 1) (codes "g") (at 0 2 4) [] (path_at (at 0 2 16) (codes "q::x")) ∷ [])) ≡ fault 13 (at 0 2 16) ∷ [])
 unknown_admits_nothing = (refl, refl)

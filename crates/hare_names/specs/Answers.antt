@@ -15,7 +15,8 @@ use Rattle.hare_modules.specs.Modules.{Source}
 use Rattle.hare_names.specs.Tables.{meaning_at}
 use Rattle.hare_names.specs.Violations.{IsViolation, AreFewBindings}
 
--- The tree is that of the file with this number: it is in the language, spells tokens of the file, which stand in their order, and has their places.
+-- The tree is that of the file with this number: it is in the language, spells tokens of the file, which stand in their order, and has
+-- their places.
 pub record IsFileOf (number : ℕ) (tree : FileTree) : Type 0 where
   pub tokens : List Token
   pub in_order : AreInOrder number tokens

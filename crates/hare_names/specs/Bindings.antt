@@ -21,8 +21,8 @@ abbrev mutual
 
 -- ---- locals
 
--- The local with this number is a binding of the declaration in scope at the path: it has so many bindings before it, and the path's one name; and it is
--- visible in the scopes of the path.
+-- The local with this number is a binding of the declaration in scope at the path: it has so many bindings before it, and the path's one
+-- name; and it is visible in the scopes of the path.
 pub record IsInScope (t : Node) (p : Path) (n : ℕ) : Type 0 where
   pub name : List ℕ
   pub path_is : p.names ≡ name ∷ []

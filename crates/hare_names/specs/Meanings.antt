@@ -1,5 +1,5 @@
--- What a path means: the innermost local of its name, or else the one triple of that path that its file admits. Only a path of one name can mean a
--- local.
+-- What a path means: the innermost local of its name, or else the one triple of that path that its file admits. Only a path of one name
+-- can mean a local.
 use Rattle.std.specs.Prelude.{ℕ, List, [], ◌∷◌, Bool, true, false, not, ◌&&◌, Option, Some, None, option_map, if◌then◌else◌}
 use Rattle.std.specs.Option.{option_or}
 use Rattle.hare_tree.specs.declared.token.Meaning.{Meaning}

@@ -39,8 +39,8 @@ before_kids n k = if is_binding k then n + 1 else n
 abbrev pub scopes_within : Kind → Scopes → Scopes
 scopes_within k ss = if is_scope k then entered ss else ss
 
--- The paths of a tree that stands in these scopes, and before which `n` bindings of its declaration stand. Each kid stands behind those before it,
--- and sees what they bind; but a `for` over items binds its name behind what it goes over.
+-- The paths of a tree that stands in these scopes, and before which `n` bindings of its declaration stand. Each kid stands behind those
+-- before it, and sees what they bind; but a `for` over items binds its name behind what it goes over.
 abbrev mutual
   pub paths_in : ℕ → Scopes → Node → List Path
   paths_in n ss (branch h ts) =

@@ -1,8 +1,8 @@
 -- Local names: which trees bind one, where it is visible, and which of them a name means.
 --
--- A local is visible from behind its whole binding to the end of its scope: a `let` or `const` behind its value, a parameter behind its type, the
--- binding of a `for` over items behind what it goes over, a `let` pattern in the statements of its case. Functions, blocks, cases and whole
--- `for`s are scopes.
+-- A local is visible from behind its whole binding to the end of its scope: a `let` or `const` behind its value, a parameter behind its
+-- type, the binding of a `for` over items behind what it goes over, a `let` pattern in the statements of its case. Functions, blocks,
+-- cases and whole `for`s are scopes.
 use Rattle.std.specs.Prelude.{ℕ, ◌+◌, List, [], ◌∷◌, ◌++◌, Bool, true, false, Option, if◌then◌else◌}
 use Rattle.hare_tree.specs.declared.kind.Kind.{Kind}
 use Rattle.hare_tree.specs.declared.kind.Kind.TheVariants as ki
@@ -84,8 +84,8 @@ abbrev mutual
 abbrev pub bound_itself : ℕ → Node → List Local
 bound_itself n (branch h ts) = if is_binding h.kind then (h.text, n) ∷ [] else []
 
--- The locals that a tree makes visible behind it, in the scope in which it stands; `n` bindings of the declaration stand before it. What is bound
--- deeper in it ends with a scope of its own.
+-- The locals that a tree makes visible behind it, in the scope in which it stands; `n` bindings of the declaration stand before it. What
+-- is bound deeper in it ends with a scope of its own.
 abbrev mutual
   pub bound_by : ℕ → Node → List Local
   bound_by n (branch h ts) = if is_binding h.kind then (h.text, n) ∷ [] else if is_params h.kind then bound_among n ts else []

@@ -6,4 +6,6 @@ use Rattle.hare_names.proofs.places.Places.get.Goals as goal
 
 pub returns : goal.returns
 returns c =
-    c.copied.ensures ∙ c.get.ensures.value ∙ lookup-seen place_of c.args.place _ (λ k. keyed (place_of c.key_of.result) (place_of k) c.args.place c.key_of.ensures) c.self.inside.meanings.entries ∙ ap (meaning_at c.args.place) c.self.view_is
+    c.copied.ensures ∙ c.get.ensures.value
+    ∙ lookup-seen place_of c.args.place _ (λ k. keyed (place_of c.key_of.result)
+    (place_of k) c.args.place c.key_of.ensures) c.self.inside.meanings.entries ∙ ap (meaning_at c.args.place) c.self.view_is
