@@ -1,3 +1,7 @@
 pub mod Samples
 pub mod SaidRows
 pub mod DependenceRows
+pub mod ListLemmas
+pub mod EdgeLemmas
+pub mod LeadLemmas
+pub mod FindLemmas
