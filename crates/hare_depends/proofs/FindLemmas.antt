@@ -89,7 +89,7 @@ within-graph ds g h d a l = omega (arith, a.forward.length_is)
 
 -- ---- circles
 
-depends-there : (ds : List Said) (d e : ℕ) → DependsOn ds d e → d < length ds
+pub depends-there : (ds : List Said) (d e : ℕ) → DependsOn ds d e → d < length ds
 depends-there ds d e (needed f c) = let n = number-said ds (λ z. needed_by ds z.sort z) d e c in there-within ds d n.0 n.1
 depends-there ds d e (mentioned f t v c m) = let n = number-said ds (λ z. needed_by ds z.sort z) d f c in there-within ds d n.0 n.1
 

@@ -5,3 +5,4 @@ pub mod ListLemmas
 pub mod EdgeLemmas
 pub mod LeadLemmas
 pub mod FindLemmas
+pub mod OrderLemmas

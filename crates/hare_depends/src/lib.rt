@@ -3,7 +3,9 @@
 
 mod circles;
 mod edges;
+mod laws;
 mod said;
 
 pub use circles::first_circle;
+pub use laws::law_one_order;
 pub use said::{Numbers, Said, Sort};
