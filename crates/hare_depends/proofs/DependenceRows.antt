@@ -1,10 +1,9 @@
 -- Dependence, circles and orders of small programs, worked out by hand.
-use Rattle.std.proofs.Common.{◌≡◌, ◌⊎◌, inl, inr, ℕ, ◌<◌, List, [], ◌∷◌, Some, refl, zero, suc, true, false, arith}
+use Rattle.std.proofs.Common.{◌≡◌, ℕ, List, [], ◌∷◌, refl, arith}
 use Rattle.std.specs.Prelude.{Contains}
-use Rattle.hare_tree.specs.declared.place.Fault.{Fault}
 use Rattle.hare_depends.specs.declared.said.Said.{Said}
 use Rattle.hare_depends.specs.declared.said.Sort.TheVariants as so
-use Rattle.hare_depends.specs.Dependence.{needs, types_named, Mentions, by_name, within, DependsOn, needed, mentioned, LeadsTo, at_once, further}
+use Rattle.hare_depends.specs.Dependence.{needs, types_named, by_name, needed, mentioned, LeadsTo, at_once, further}
 use Rattle.hare_depends.specs.Circles.{IsCircleFault, of_constant}
 use Rattle.hare_depends.proofs.Samples.{at, says}
 use Rattle.hare_graph.proofs.Elements.{Contains-here}

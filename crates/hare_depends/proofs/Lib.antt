@@ -1,3 +1,8 @@
 pub mod Samples
 pub mod SaidRows
 pub mod DependenceRows
+pub mod ListLemmas
+pub mod EdgeLemmas
+pub mod LeadLemmas
+pub mod FindLemmas
+pub mod OrderLemmas

@@ -1,10 +1,10 @@
 -- What declarations say of others, worked out by hand. A path's column is the number of the declaration that it means, of nine.
-use Rattle.std.proofs.Common.{◌≡◌, ℕ, List, [], ◌∷◌, refl}
+use Rattle.std.proofs.Common.{◌≡◌, [], ◌∷◌, refl}
 use Rattle.hare_tree.specs.Node.{Node}
 use Rattle.hare_depends.specs.declared.said.Said.{Said}
 use Rattle.hare_depends.specs.declared.said.Sort.TheVariants as so
 use Rattle.hare_depends.specs.Said.{said_of}
-use Rattle.hare_depends.proofs.Samples.{at, absent, type_path, path, by_column, type_decl, def, global, function, param, pointer, slice, array, struct_with, field, spread, union_with, word, says}
+use Rattle.hare_depends.proofs.Samples.{absent, type_path, path, by_column, type_decl, def, global, function, param, pointer, slice, array, struct_with, field, spread, union_with, says}
 
 abbrev said : Node → Said
 said = said_of 9 by_column

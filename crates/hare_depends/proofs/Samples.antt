@@ -1,5 +1,5 @@
 -- Small declarations, whose places are the columns of one line.
-use Rattle.std.proofs.Common.{ℕ, List, [], ◌∷◌, codes, Bool, true, false, if◌then◌else◌, ◌==◌}
+use Rattle.std.proofs.Common.{ℕ, List, [], ◌∷◌, codes}
 use Rattle.hare_tree.specs.declared.kind.Kind.{Kind}
 use Rattle.hare_tree.specs.declared.kind.Kind.TheVariants as ki
 use Rattle.hare_tree.specs.declared.place.Place.{Place}

@@ -41,3 +41,7 @@ pub record IsCircleFault (ds : List Said) (f : Fault) : Type 0 where
 abbrev pub TellsCircle : List Said → Option Fault → Type 0
 TellsCircle ds None = (d : ℕ) → ¬ IsCircular ds d
 TellsCircle ds (Some f) = IsCircleFault ds f
+
+-- there is at most one such fault
+abbrev pub CircleFaultsAreOne : Type 0
+CircleFaultsAreOne = (ds : List Said) (f g : Fault) → IsCircleFault ds f → IsCircleFault ds g → f ≡ g

@@ -4,7 +4,7 @@ use Rattle.std.specs.List.{flat_map}
 use Rattle.hare_depends.specs.declared.said.Said.{Said}
 use Rattle.hare_depends.specs.declared.said.Sort.{Sort}
 use Rattle.hare_depends.specs.declared.said.Sort.TheVariants as so
-use Rattle.hare_depends.specs.Sorts.{is_type, is_constant, is_global, has_value}
+use Rattle.hare_depends.specs.Sorts.{is_type, is_global, has_value}
 
 -- ---- looking up
 

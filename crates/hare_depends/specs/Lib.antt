@@ -3,3 +3,4 @@ pub mod Said
 pub mod Dependence
 pub mod Circles
 pub mod Order
+pub mod Edges

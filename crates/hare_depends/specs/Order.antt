@@ -2,6 +2,7 @@
 use Rattle.std.specs.Prelude.{◌≡◌, ℕ, ◌<◌, List, length, take, slice_get, Some, Contains}
 use Rattle.hare_depends.specs.declared.said.Said.{Said}
 use Rattle.hare_depends.specs.Dependence.{DependsOn}
+use Rattle.hare_depends.specs.Circles.{IsCircular}
 
 -- all on which it depends is done
 abbrev pub IsReady : List Said → List ℕ → ℕ → Type 0
@@ -20,5 +21,15 @@ AreInTurn ds order = (k d : ℕ) → slice_get order k ≡ Some d → IsNext ds 
 
 -- the order of all declarations
 pub record IsOrder (ds : List Said) (order : List ℕ) : Type 0 where
-  pub all : length order ≡ length ds
+  pub all : (d : ℕ) → d < length ds → Contains order d
   pub in_turn : AreInTurn ds order
+
+-- ---- what holds of orders
+
+-- there is at most one
+abbrev pub OrdersAreOne : Type 0
+OrdersAreOne = (ds : List Said) (xs ys : List ℕ) → IsOrder ds xs → IsOrder ds ys → xs ≡ ys
+
+-- and none where a declaration depends on itself
+abbrev pub OrdersHaveNoCircles : Type 0
+OrdersHaveNoCircles = (ds : List Said) (xs : List ℕ) (d : ℕ) → IsOrder ds xs → ¬ IsCircular ds d

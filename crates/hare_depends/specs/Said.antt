@@ -1,12 +1,12 @@
 -- What a declaration says of others: the paths in its tree, and which declarations they mean.
-use Rattle.std.specs.Prelude.{ℕ, ◌+◌, List, [], ◌∷◌, ◌++◌, Bool, true, false, nat_lt, map, if◌then◌else◌}
+use Rattle.std.specs.Prelude.{ℕ, List, [], ◌∷◌, ◌++◌, Bool, true, false, nat_lt, if◌then◌else◌}
 use Rattle.std.specs.List.{flat_map}
 use Rattle.hare_tree.specs.declared.kind.Kind.{Kind}
 use Rattle.hare_tree.specs.declared.kind.Kind.TheVariants as ki
 use Rattle.hare_tree.specs.declared.place.Place.{Place}
 use Rattle.hare_tree.specs.declared.token.Meaning.{Meaning}
 use Rattle.hare_tree.specs.declared.token.Meaning.TheVariants as me
-use Rattle.hare_tree.specs.Node.{Node, Nodes, branch, none, more, head}
+use Rattle.hare_tree.specs.Node.{Node, Nodes, branch, none, more}
 use Rattle.hare_modules.specs.Uses.{kid, place_of}
 use Rattle.hare_modules.specs.Declarations.{name_in}
 use Rattle.hare_depends.specs.declared.said.Said.{Said}

@@ -51,7 +51,8 @@ sum-le f g h (x ∷ xs) =
     omega (arith, sum_by-cons f x xs, sum_by-cons g x xs)
 
 -- each byte gives at most eight nodes, and each file eight more
-nodes-le : (before file : ℕ) (ss : List (List ℕ)) (ts : List FileTree) → AreReadFrom before file ss ts → sum_by file_count ts ≤ 8 * (bytes_of ss + length ss)
+nodes-le : (before file : ℕ) (ss : List (List ℕ)) (ts : List FileTree) → AreReadFrom before file ss ts →
+    sum_by file_count ts ≤ 8 * (bytes_of ss + length ss)
 nodes-le before file [] [] h = omega arith
 nodes-le before file [] (u ∷ us) h = absurd h
 nodes-le before file (x ∷ xs) [] h = absurd h

@@ -62,7 +62,8 @@ first-once P f g a b = neither-before f g (b.none_before f a.stands) (a.none_bef
 -- ---- one file
 
 -- a file has a tree or a fault
-fault-or-tree : (before file : ℕ) (text : List ℕ) (t : FileTree) (f : fault.Fault) → IsRead before file text t → IsFaultOfFile before file text f → ⊥
+fault-or-tree : (before file : ℕ) (text : List ℕ) (t : FileTree) (f : fault.Fault) → IsRead before file text t →
+    IsFaultOfFile before file text f → ⊥
 fault-or-tree before file text t f r (too_large l e) = omega (arith, r.small.alone)
 fault-or-tree before file text t f r (too_many l m e) = omega (arith, r.small.together)
 fault-or-tree before file text t f r (of_source s h) = only_source_fault file text (Ok t) r.source tt f h
@@ -71,7 +72,8 @@ the-fault : (f g : fault.Fault) → GivesFault {A = FileTree} g (Err (Fault f)) 
 the-fault f g (inl e) = absurd cc
 the-fault f g (inr e) = cc
 
-fault-once : (before file : ℕ) (text : List ℕ) (f g : fault.Fault) → IsFaultOfFile before file text f → IsFaultOfFile before file text g → f ≡ g
+fault-once : (before file : ℕ) (text : List ℕ) (f g : fault.Fault) → IsFaultOfFile before file text f →
+    IsFaultOfFile before file text g → f ≡ g
 fault-once before file text f g (too_large l e) (too_large k d) = e ∙ sym d
 fault-once before file text f g (too_large l e) (too_many k m d) = absurd (omega arith)
 fault-once before file text f g (too_large l e) (of_source s h) = absurd (omega (arith, s.alone))
@@ -87,7 +89,8 @@ tree-once before file text t u r q = only_source file text (Ok t) r.source tt u 
 
 -- ---- all files
 
-trees-once : (before file : ℕ) (ss : List (List ℕ)) (ts us : List FileTree) → AreReadFrom before file ss ts → AreReadFrom before file ss us → ts ≡ us
+trees-once : (before file : ℕ) (ss : List (List ℕ)) (ts us : List FileTree) → AreReadFrom before file ss ts →
+    AreReadFrom before file ss us → ts ≡ us
 trees-once before file [] [] [] h k = refl
 trees-once before file [] [] (u ∷ us) h k = absurd k
 trees-once before file [] (t ∷ ts) us h k = absurd h
@@ -98,13 +101,15 @@ trees-once before file (s ∷ ss) (t ∷ ts) (u ∷ us) h k =
     let b = trees-once (before + length s) (suc file) ss ts us h.1 k.1 in
     ap (λ x. x ∷ ts) a ∙ ap (λ xs. u ∷ xs) b
 
-no-fault : (before file : ℕ) (ss : List (List ℕ)) (ts : List FileTree) (f : fault.Fault) → AreReadFrom before file ss ts → IsFaultFrom before file ss f → ⊥
+no-fault : (before file : ℕ) (ss : List (List ℕ)) (ts : List FileTree) (f : fault.Fault) → AreReadFrom before file ss ts →
+    IsFaultFrom before file ss f → ⊥
 no-fault before file [] ts f h k = k
 no-fault before file (s ∷ ss) [] f h k = h
 no-fault before file (s ∷ ss) (t ∷ ts) f h (inl k) = fault-or-tree before file s t f h.0 k
 no-fault before file (s ∷ ss) (t ∷ ts) f h (inr k) = no-fault (before + length s) (suc file) ss ts f h.1 k.2
 
-faults-once : (before file : ℕ) (ss : List (List ℕ)) (f g : fault.Fault) → IsFaultFrom before file ss f → IsFaultFrom before file ss g → f ≡ g
+faults-once : (before file : ℕ) (ss : List (List ℕ)) (f g : fault.Fault) → IsFaultFrom before file ss f → IsFaultFrom before file ss g →
+    f ≡ g
 faults-once before file [] f g h k = absurd h
 faults-once before file (s ∷ ss) f g (inl h) (inl k) = fault-once before file s f g h k
 faults-once before file (s ∷ ss) f g (inl h) (inr k) = absurd (fault-or-tree before file s k.0 f k.1 h)
@@ -116,26 +121,30 @@ trees_are_one srcs ts us h k = trees-once 0 0 srcs ts us h k
 
 -- ---- what calls give
 
-pub only-trees : (srcs : List (List ℕ)) (result : Result (List FileTree) (Stop fault.Fault)) → IfOk result (λ ts. AreRead srcs ts) → IfErr result (Stops (IsFaultOfFiles srcs)) → (ts : List FileTree) → AreRead srcs ts → GivesTrees ts result
+pub only-trees : (srcs : List (List ℕ)) (result : Result (List FileTree) (Stop fault.Fault)) → IfOk result (λ ts. AreRead srcs ts) →
+    IfErr result (Stops (IsFaultOfFiles srcs)) → (ts : List FileTree) → AreRead srcs ts → GivesTrees ts result
 only-trees srcs (Ok us) h k ts r = trees_are_one srcs us ts h r
 only-trees srcs (Err Memory) h k ts r = refl
 only-trees srcs (Err (Fault f)) h k ts r = absurd (no-fault 0 0 srcs ts f r k)
 
-pub only-fault : (srcs : List (List ℕ)) (result : Result (List FileTree) (Stop fault.Fault)) → IfOk result (λ ts. AreRead srcs ts) → IfErr result (Stops (IsFaultOfFiles srcs)) → (f : fault.Fault) → IsFaultOfFiles srcs f → GivesFault f result
+pub only-fault : (srcs : List (List ℕ)) (result : Result (List FileTree) (Stop fault.Fault)) → IfOk result (λ ts. AreRead srcs ts) →
+    IfErr result (Stops (IsFaultOfFiles srcs)) → (f : fault.Fault) → IsFaultOfFiles srcs f → GivesFault f result
 only-fault srcs (Ok us) h k f r = no-fault 0 0 srcs us f h r
 only-fault srcs (Err Memory) h k f r = inl refl
 only-fault srcs (Err (Fault g)) h k f r = inr (ap Fault (faults-once 0 0 srcs g f k r))
 
 -- ---- files and names
 
-pub early_faults_are_one : (paths srcs : List (List ℕ)) (f g : fault.Fault) → IsEarlyFault paths srcs f → IsEarlyFault paths srcs g → f ≡ g
+pub early_faults_are_one : (paths srcs : List (List ℕ)) (f g : fault.Fault) → IsEarlyFault paths srcs f → IsEarlyFault paths srcs g →
+    f ≡ g
 early_faults_are_one paths srcs f g (of_files h) (of_files k) = faults-once 0 0 srcs f g h k
 early_faults_are_one paths srcs f g (of_files h) (of_names ts r k) = absurd (no-fault 0 0 srcs ts f r h)
 early_faults_are_one paths srcs f g (of_names ts r h) (of_files k) = absurd (no-fault 0 0 srcs ts g r k)
 early_faults_are_one paths srcs f g (of_names ts r h) (of_names us q k) =
     first-once (IsViolation (sources paths us)) f g (subst (λ xs. IsFirst (IsViolation (sources paths xs)) f) (trees_are_one srcs ts us r q) h) k
 
-pub named_or_faulty : (paths srcs : List (List ℕ)) (ts : List FileTree) (means : Place → Meaning) (f : fault.Fault) → AreNamed paths srcs ts means → ¬ IsEarlyFault paths srcs f
+pub named_or_faulty : (paths srcs : List (List ℕ)) (ts : List FileTree) (means : Place → Meaning) (f : fault.Fault) →
+    AreNamed paths srcs ts means → ¬ IsEarlyFault paths srcs f
 named_or_faulty paths srcs ts means f n (of_files h) = no-fault 0 0 srcs ts f n.read h
 named_or_faulty paths srcs ts means f n (of_names us q h) =
     n.sound f (subst (λ xs. IsViolation (sources paths xs) f) (trees_are_one srcs us ts q n.read) h.stands)

@@ -35,7 +35,9 @@ later : (file n : ℕ) → file + suc n ≡ suc file + n
 later file n = omega arith
 
 -- one file more is read
-pub read-push : (before file : ℕ) (ss : List (List ℕ)) (ts : List FileTree) (s : List ℕ) (t : FileTree) → AreReadFrom before file ss ts → IsRead (before + bytes_of ss) (file + length ss) s t → AreReadFrom before file (ss ++ s ∷ []) (ts ++ t ∷ [])
+pub read-push : (before file : ℕ) (ss : List (List ℕ)) (ts : List FileTree) (s : List ℕ) (t : FileTree) →
+    AreReadFrom before file ss ts → IsRead (before + bytes_of ss) (file + length ss) s t →
+    AreReadFrom before file (ss ++ s ∷ []) (ts ++ t ∷ [])
 read-push before file [] [] s t h r = (r, tt)
 read-push before file [] (u ∷ us) s t h r = absurd h
 read-push before file (x ∷ xs) [] s t h r = absurd h
@@ -45,7 +47,9 @@ read-push before file (x ∷ xs) (u ∷ us) s t h r =
     (subst (λ n. IsRead (before + bytes_of (x ∷ xs)) n s t) (later file (length xs)) r)))
 
 -- the first that is not read has the first fault
-pub fault-behind : (before file : ℕ) (ss : List (List ℕ)) (ts : List FileTree) (s : List ℕ) (rest : List (List ℕ)) (f : Fault) → AreReadFrom before file ss ts → IsFaultOfFile (before + bytes_of ss) (file + length ss) s f → IsFaultFrom before file (ss ++ s ∷ rest) f
+pub fault-behind : (before file : ℕ) (ss : List (List ℕ)) (ts : List FileTree) (s : List ℕ) (rest : List (List ℕ)) (f : Fault) →
+    AreReadFrom before file ss ts → IsFaultOfFile (before + bytes_of ss) (file + length ss) s f →
+    IsFaultFrom before file (ss ++ s ∷ rest) f
 fault-behind before file [] [] s rest f h k = inl k
 fault-behind before file [] (u ∷ us) s rest f h k = absurd h
 fault-behind before file (x ∷ xs) [] s rest f h k = absurd h
@@ -55,7 +59,8 @@ fault-behind before file (x ∷ xs) (u ∷ us) s rest f h k =
     (subst (λ n. IsFaultOfFile (before + bytes_of (x ∷ xs)) n s f) (later file (length xs)) k)))
 
 -- what is read is within the limit
-pub read-within : (before file : ℕ) (ss : List (List ℕ)) (ts : List FileTree) → before ≤ most_of_all → AreReadFrom before file ss ts → before + bytes_of ss ≤ most_of_all
+pub read-within : (before file : ℕ) (ss : List (List ℕ)) (ts : List FileTree) → before ≤ most_of_all → AreReadFrom before file ss ts →
+    before + bytes_of ss ≤ most_of_all
 read-within before file [] [] l h = l
 read-within before file [] (u ∷ us) l h = absurd h
 read-within before file (x ∷ xs) [] l h = absurd h
@@ -118,7 +123,8 @@ module _ (srcs : List (List ℕ)) (i before : ℕ) (ts : List FileTree) (s : Lis
 pub file-of : (file : ℕ) (text : List ℕ) (t : FileTree) → IsSource file text t → IsFileOf file t
 file-of file text t h = record { tokens = h.tokens; in_order = tokens_are_in_order file text h.tokens h.are; is_tree = h.file_is.read }
 
-pub files-of : (before file : ℕ) (ss : List (List ℕ)) (ts : List FileTree) → AreReadFrom before file ss ts → (k : ℕ) (t : FileTree) → slice_get ts k ≡ Some t → IsFileOf (file + k) t
+pub files-of : (before file : ℕ) (ss : List (List ℕ)) (ts : List FileTree) → AreReadFrom before file ss ts → (k : ℕ) (t : FileTree) →
+    slice_get ts k ≡ Some t → IsFileOf (file + k) t
 files-of before file [] [] h k t e = absurd cc
 files-of before file [] (u ∷ us) h k t e = absurd h
 files-of before file (x ∷ xs) [] h k t e = absurd h

@@ -1,1 +1,3 @@
-
+pub mod StepRows
+pub mod TagRows
+pub mod LimitRows

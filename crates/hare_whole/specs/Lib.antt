@@ -5,3 +5,4 @@ pub mod Limits
 pub mod Listing
 pub mod Turns
 pub mod Programs
+pub mod Judged
