@@ -1,5 +1,6 @@
 pub mod CoverLemmas
 pub mod NumberLemmas
 pub mod OperatorLemmas
+pub mod UnionLemmas
 mod ExampleConstants
 mod ConstantRows

@@ -8,6 +8,7 @@ mod operators;
 mod shape;
 #[cfg(test)]
 mod tests;
+mod unions;
 
 pub use cover::covers;
 pub use length::array_length;
@@ -16,3 +17,4 @@ pub use operators::{
     Arithmetic, IntType, Logic, Order, Shift, combined, complemented, computed, in_order,
     leaves_open, negated, same_number, shifted,
 };
+pub use unions::union_cells;

@@ -132,7 +132,7 @@ pub fn number_of_value(s: &TypeStore, t: Ty, cells: &Cells) -> i128
 }
 
 /// The lowest bytes of a number, the lowest first.
-fn byte_cells_of(alloc: Global, number: u64, bytes: u32) -> Result<Cells, AllocError>
+pub(crate) fn byte_cells_of(alloc: Global, number: u64, bytes: u32) -> Result<Cells, AllocError>
     requires { bytes ≤ 8 }
     ensures { IfOk result (λ cells. cells ≡ byte_cells (le_bytes bytes number)) }
 {
