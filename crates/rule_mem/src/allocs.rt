@@ -12,9 +12,8 @@ ghost use Rattle.rule_judge.specs.Grown.{IsGrown};
 ghost use Rattle.rule_judge.specs.Turns.{context_in, IsTurn};
 
 use crate::reads::element;
-use crate::turns::{is_there, seen};
 use hare_types::{Scalar, Ty, TypeId, TypeStore};
-use rule_judge::{Turn, default_in, has_default, has_size, word};
+use rule_judge::{Turn, default_in, has_default, has_size, is_there, seen, word};
 use std::alloc::AllocError;
 
 /// Whether an allocation has a capacity.

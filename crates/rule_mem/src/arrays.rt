@@ -11,13 +11,12 @@ ghost use Rattle.hare_rules.specs.declared.row_id.RowId.TheVariants as row;
 ghost use Rattle.rule_judge.specs.Defined.{IsDefined, IsDefinedTy};
 ghost use Rattle.rule_judge.specs.Grown.{IsGrown};
 ghost use Rattle.rule_judge.specs.Turns.{context_in, IsTurn};
-ghost use Rattle.rule_mem.specs.Asking.{asks_as};
+ghost use Rattle.rule_judge.specs.Asked.{asks_as};
 
 use crate::hints::{hinted_element, hinted_length};
 use crate::ids::is_small;
-use crate::turns::{is_there, kids_before, own};
 use hare_types::{Ty, TypeId, TypeStore};
-use rule_judge::{Turn, array_of, default_in, has_default, has_size};
+use rule_judge::{Turn, array_of, default_in, has_default, has_size, is_there, kids_before, own};
 use std::alloc::AllocError;
 
 /// How many items an array has.
@@ -184,7 +183,7 @@ pub(crate) fn item_asks(s: &mut TypeStore, t: &Turn<'_>, i: usize) -> Result<boo
     if is_hinted(s, t) {
         return Ok(true);
     }
-    if kids_before(t, i) == 0 {
+    if kids_before(t.kids, i) == 0 {
         return Ok(false);
     }
     let first = own(t, 0);

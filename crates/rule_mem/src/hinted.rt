@@ -21,19 +21,18 @@ use crate::allocs::has_capacity;
 use crate::hints::object_asked;
 use crate::members::field_of;
 use crate::reads::slice_element;
-use crate::turns::{kids_before, own, seen};
 use crate::{arrays, tuples};
 use hare_tree::Kind;
 use hare_typed::TypedKids;
 use hare_types::{Scalar, Ty, TypeId, TypeStore};
-use rule_judge::{Turn, asked, default_in, word};
+use rule_judge::{Turn, asked, default_in, kids_before, own, seen, word};
 use std::alloc::AllocError;
 
 /// Whether one kid stands before kid number `i`.
 fn is_second(t: &Turn<'_>, i: usize) -> bool
     ensures { result ≡ nat_eq (length (take i t.now.kids.now)) 1 }
 {
-    kids_before(t, i) == 1
+    kids_before(t.kids, i) == 1
 }
 
 /// Whether the first kid gives a value of a type.
@@ -69,7 +68,7 @@ fn bound_asks(s: &mut TypeStore, t: &Turn<'_>, i: usize) -> Result<bool, AllocEr
 {
     let made = word(s, Scalar::Size)?;
     let _size = made;
-    let before = kids_before(t, i);
+    let before = kids_before(t.kids, i);
     Ok(before != 0)
 }
 
@@ -89,7 +88,7 @@ fn literal_asks(s: &TypeStore, t: &Turn<'_>, i: usize) -> bool
     requires named { IsNamedTy s.now (context.own_type (tree_from_front 0 t.now.kids.now)) }
     ensures { (f : Store) → IsLater s.now f → result ≡ asks_as (context_in f t.now) i ki.StructLit }
 {
-    if kids_before(t, i) == 0 {
+    if kids_before(t.kids, i) == 0 {
         return false;
     }
     field_of(s, &own(t, 0), text_at(t.kids, i)).is_some()
@@ -103,7 +102,7 @@ fn allocation_asks(s: &mut TypeStore, t: &Turn<'_>, i: usize) -> Result<bool, Al
 {
     let _law = s.declarations();
     let case = t.case;
-    if kids_before(t, i) != 0 {
+    if kids_before(t.kids, i) != 0 {
         let counted = word(s, Scalar::Size)?;
         let _size = counted;
         return Ok(true);

@@ -16,7 +16,6 @@ mod reached;
 mod reads;
 mod rows;
 mod tuples;
-mod turns;
 mod types;
 mod unmet;
 

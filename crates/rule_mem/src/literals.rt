@@ -11,9 +11,8 @@ ghost use Rattle.rule_mem.specs.Named.{IsNamedTy};
 ghost use Rattle.rule_judge.specs.Turns.{context_in, IsTurn};
 
 use crate::fill::is_filled;
-use crate::turns::own;
 use hare_types::{Row, TypeStore};
-use rule_judge::{Turn, base_row};
+use rule_judge::{Turn, base_row, own};
 use std::alloc::{AllocError, Global};
 
 /// Whether the values of a struct literal name each field of its type once, and nothing else.

@@ -12,9 +12,8 @@ ghost use Rattle.rule_judge.specs.Turns.{context_in, IsTurn};
 
 use crate::members::member;
 use crate::reads::{element, reached};
-use crate::turns::seen;
 use hare_types::{TypeId, TypeStore};
-use rule_judge::Turn;
+use rule_judge::{Turn, seen};
 
 /// The element of the array or slice that the operand reaches.
 pub(crate) fn element_reached(s: &TypeStore, t: &Turn<'_>) -> Option<TypeId>

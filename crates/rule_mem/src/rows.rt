@@ -14,10 +14,9 @@ ghost use Rattle.rule_judge.specs.Turns.{context_in, IsTurn};
 
 use crate::reached::{element_reached, member_reached};
 use crate::reads::{pointee, slice_element};
-use crate::turns::seen;
 use hare_tree::Kind;
 use hare_types::{Row, Scalar, TypeId, TypeStore};
-use rule_judge::{Turn, base_row, has_size, is_mutable, is_place, kind_at};
+use rule_judge::{Turn, base_row, has_size, is_mutable, is_place, kind_at, seen};
 
 /// Whether what is indexed or sliced is an array or a slice, once pointers are followed.
 pub(crate) fn is_indexable(s: &TypeStore, t: &Turn<'_>) -> bool

@@ -12,14 +12,13 @@ ghost use Rattle.hare_rules.specs.declared.row_id.RowId.TheVariants as row;
 ghost use Rattle.rule_judge.specs.Defined.{IsDefined, IsDefinedTy};
 ghost use Rattle.rule_judge.specs.Grown.{IsGrown};
 ghost use Rattle.rule_judge.specs.Turns.{context_in, IsTurn};
-ghost use Rattle.rule_mem.specs.Asking.{asks_as};
+ghost use Rattle.rule_judge.specs.Asked.{asks_as};
 
 use crate::hints::hinted_components;
 use crate::ids::{all_sized, copied, is_small};
-use crate::turns::own;
 use hare_tree::Place;
 use hare_types::{Ty, TypeId, TypeIds, TypeStore};
-use rule_judge::{Turn, default_in, has_default, tuple_of};
+use rule_judge::{Turn, default_in, has_default, own, tuple_of};
 use std::alloc::{AllocError, Global};
 
 /// How many items a tuple has.

@@ -24,11 +24,10 @@ use crate::allocs::{default_of, has_capacity};
 use crate::reached::{element_reached, member_reached};
 use crate::reads::element;
 use crate::rows::pointed;
-use crate::turns::{own, seen};
 use crate::{arrays, paths, tuples};
 use hare_tree::Kind;
 use hare_types::{Scalar, Ty, TypeStore};
-use rule_judge::{Turn, pointer_to, refusable, slice_of, word};
+use rule_judge::{Turn, own, pointer_to, refusable, seen, slice_of, word};
 use std::alloc::{AllocError, Global};
 
 /// The type that is written by one word.

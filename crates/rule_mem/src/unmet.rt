@@ -3,8 +3,6 @@
 ghost use Rattle.std.specs.Prelude.{◌≡◌, true, cond, Some, None, IfOk};
 ghost use Rattle.hare_types.specs.Store.{Store};
 ghost use Rattle.hare_types.specs.Later.{IsLater};
-ghost use Rattle.hare_typed.specs.Order.{tree_from_front};
-ghost use Rattle.hare_rules.specs.Context as context;
 ghost use Rattle.rule_judge.specs.Asked as spec;
 ghost use Rattle.rule_mem.specs.Kinds.{asks};
 ghost use Rattle.rule_judge.specs.Grown.{IsGrown};
@@ -22,9 +20,8 @@ use crate::rows::{
 use crate::{arrays, tuples};
 use hare_rules::RowId;
 use hare_tree::Place;
-use hare_typed::TypedKids;
 use hare_types::TypeStore;
-use rule_judge::Turn;
+use rule_judge::{Turn, place_at};
 use std::alloc::{AllocError, Global};
 
 /// The place of the fault, unless the row is met.
@@ -32,20 +29,6 @@ fn unless(met: bool, place: Place) -> Option<Place>
     ensures { result ≡ cond met None (Some place) }
 {
     if met { None } else { Some(place) }
-}
-
-/// Where a kid stands.
-fn place_at(kids: &TypedKids, i: usize) -> Place
-    ensures { result ≡ context.place_of (tree_from_front i kids.now) }
-{
-    match kids.get(i) {
-        Some(kid) => kid.place,
-        None => Place {
-            file: 0,
-            line: 0,
-            column: 0,
-        },
-    }
 }
 
 /// The place of the fault, where the node fails one of these rows; none where it meets it.
