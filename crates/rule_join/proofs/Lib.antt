@@ -1,0 +1,6 @@
+pub mod BreakLemmas
+pub mod TogetherLemmas
+pub mod ValueLemmas
+pub mod AskedLemmas
+pub mod TypeLemmas
+pub mod UnmetLemmas

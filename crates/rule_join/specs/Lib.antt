@@ -1,0 +1,5 @@
+pub mod Kinds
+pub mod Together
+pub mod Breaks
+pub mod Needs
+pub mod Laws

@@ -1,0 +1,13 @@
+//! The typing rules of nodes whose type joins what branches, cases and yields give, and of loops.
+#![tactic(auto)]
+
+mod asked;
+mod blocks;
+mod joins;
+mod judged;
+mod loops;
+mod types;
+mod unmet;
+mod values;
+
+pub use judged::judge;
