@@ -1,0 +1,18 @@
+use Rattle.std.proofs.Common.{ap, refl, sym, ◌∙◌, subst, rules}
+use Rattle.hare_tree.specs.Node.{head}
+use Rattle.rule_types.specs.Answers.{IsStoppedType}
+use Rattle.rule_types.proofs.OwnLemmas.{fault_at}
+use Rattle.rule_types.proofs.JudgedLemmas.{stopped, unsized}
+use Rattle.hare_types.proofs.LaterLemmas.{later_here}
+use Rattle.rule_types.proofs.judged.judge.Goals as goal
+
+pub returns-in_err-found-clause-err : goal.returns-in_err-found-clause-err
+returns-in_err-found-clause-err c = search (rules, stopped c.own_type.new.s c.args.t.now c.requires.kind c.in_err-found.field-0.0 c.in_err-found.ensures.err)
+
+pub returns-then-not-has_size-clause-err : goal.returns-then-not-has_size-clause-err
+returns-then-not-has_size-clause-err c =
+    let p = c.node.inside.place in
+    subst (IsStoppedType c.own_type.new.s c.args.t.now) (sym c.stop.ensures)
+    (unsized c.own_type.new.s c.args.t.now c.requires.kind c.in_ok-found.found c.in_ok-found.ensures.ok c.if-t.true (λ f l. sym c.if-not-has_size.true ∙ c.has_size.ensures f l)
+    (sym c.if-not-has_size.true ∙ c.has_size.ensures c.own_type.new.s (later_here c.own_type.new.s c.own_type.ensures.grown.later.sound)) p (fault_at 17 p) refl
+    (λ f. sym (ap (λ n. (head n).place) c.node.view_is)))

@@ -1,0 +1,11 @@
+pub mod Grown
+pub mod Lengths
+pub mod Words
+pub mod Small
+pub mod Contexts
+pub mod Known
+pub mod Parts
+pub mod Members
+pub mod Joinable
+pub mod Answers
+pub mod Enough
