@@ -7,7 +7,7 @@ use Rattle.hare_tree.specs.declared.place.Fault.{Fault}
 use Rattle.hare_depends.specs.declared.said.Said.{Said}
 use Rattle.hare_depends.specs.Dependence.{DependsOn, LeadsTo, at_once, further}
 use Rattle.hare_depends.specs.Circles.{IsCircular, CircleNumber, of_constant, of_type, IsCircleFault}
-use Rattle.hare_depends.specs.Order.{IsNext, IsOrder}
+use Rattle.hare_depends.specs.Order.{IsReady, IsFirstLeft, Descends, arrives, goes_on, IsAny, IsNext, IsOrder}
 use Rattle.hare_depends.proofs.FindLemmas.{depends-there}
 
 -- ---- fronts of lists
@@ -58,19 +58,46 @@ in-front (y ∷ ys) (suc j) (suc k) x l e = let c = in-front ys j k x (omega ari
 
 -- ---- the next is one
 
-next-once : (ds : List Said) (done : List ℕ) (d e : ℕ) → IsNext ds done d → IsNext ds done e → d ≡ e
-next-once ds done d e a b = by (cases_lt d e) (cases_lt e d)
-  where
-    by : (d < e) ⊎ (e ≤ d) → (e < d) ⊎ (d ≤ e) → d ≡ e
-    by (inl l) k = absurd (b.first d l a.is_left a.ready)
-    by (inr l) (inl k) = absurd (a.first e k b.is_left b.ready)
-    by (inr l) (inr k) = omega arith
+module _ (ds : List Said) (done : List ℕ) where
+  first-once : (P : ℕ → Type 0) (d e : ℕ) → IsFirstLeft ds done P d → IsFirstLeft ds done P e → d ≡ e
+  first-once P d e a b = by (cases_lt d e) (cases_lt e d)
+    where
+      by : (d < e) ⊎ (e ≤ d) → (e < d) ⊎ (d ≤ e) → d ≡ e
+      by (inl l) k = absurd (b.first d l a.is_left a.holds)
+      by (inr l) (inl k) = absurd (a.first e k b.is_left b.holds)
+      by (inr l) (inr k) = omega arith
+
+  descends-once : (c d e : ℕ) → Descends ds done c d → Descends ds done c e → d ≡ e
+  descends-once c d e (arrives x r) (arrives y q) = refl
+  descends-once c d e (arrives x r) (goes_on y u z f w) = absurd (f.is_left (r u f.holds))
+  descends-once c d e (goes_on x u z f w) (arrives y q) = absurd (f.is_left (q u f.holds))
+  descends-once c d e (goes_on x u z f w) (goes_on y v z' g w') =
+      let s : u ≡ v = first-once (DependsOn ds c) u v f g in
+      descends-once u d e w (subst (λ n. Descends ds done n e) (sym s) w')
+
+  next-once : (d e : ℕ) → IsNext ds done d → IsNext ds done e → d ≡ e
+  next-once d e a b =
+      let s : a.from ≡ b.from = first-once IsAny a.from b.from a.first b.first in
+      descends-once a.from d e a.descends (subst (λ n. Descends ds done n e) (sym s) b.descends)
+
+  -- what is next is one of those that are left, and all on which it depends is done
+  record IsTaken (d : ℕ) : Type 0 where
+    is_there : d < length ds
+    is_left : ¬ Contains done d
+    ready : IsReady ds done d
+
+  descends-taken : (c d : ℕ) → c < length ds → ¬ Contains done c → Descends ds done c d → IsTaken d
+  descends-taken c d l n (arrives x r) = record { is_there = l; is_left = n; ready = r }
+  descends-taken c d l n (goes_on x u z f w) = descends-taken u d f.is_there f.is_left w
+
+  next-taken : (d : ℕ) → IsNext ds done d → IsTaken d
+  next-taken d a = descends-taken a.from d a.first.is_there a.first.is_left a.descends
 
 module _ (ds : List Said) (xs ys : List ℕ) (a : IsOrder ds xs) (b : IsOrder ds ys) where
   -- where one has ended, the other has not gone on
   none-left : (us vs : List ℕ) (n d : ℕ) → IsOrder ds vs → take n us ≡ take n vs → slice_get vs n ≡ None → IsNext ds (take n us) d → ⊥
   none-left us vs n d o e q i =
-      i.is_left (subst (λ zs. Contains zs d) (sym (e ∙ front-none vs n q)) (o.all d i.is_there))
+      (next-taken ds (take n us) d i).is_left (subst (λ zs. Contains zs d) (sym (e ∙ front-none vs n q)) (o.all d (next-taken ds (take n us) d i).is_there))
 
   fronts-agree : (n : ℕ) → take n xs ≡ take n ys
   fronts-agree zero = refl
@@ -97,7 +124,7 @@ orders_are_one ds xs ys a b = one-order ds xs ys a b
 
 module _ (ds : List Said) (xs : List ℕ) (a : IsOrder ds xs) where
   depends-earlier : (d e k : ℕ) → slice_get xs k ≡ Some d → DependsOn ds d e → (j : ℕ) × (j < k) × (slice_get xs j ≡ Some e)
-  depends-earlier d e k q h = front-place xs k e ((a.in_turn k d q).ready e h)
+  depends-earlier d e k q h = front-place xs k e ((next-taken ds (take k xs) d (a.in_turn k d q)).ready e h)
 
   leads-earlier : (d e k : ℕ) → slice_get xs k ≡ Some d → LeadsTo ds d e → (j : ℕ) × (j < k) × (slice_get xs j ≡ Some e)
   leads-earlier d e k q (at_once f h) = depends-earlier d e k q h
@@ -113,7 +140,7 @@ module _ (ds : List Said) (xs : List ℕ) (a : IsOrder ds xs) where
   no-circle d l =
       let p = place-of xs d (a.all d (next-there d d l)) in
       let r = leads-earlier d d p.0 p.1 l in
-      (a.in_turn p.0 d p.1).is_left (in-front xs r.0 p.0 d r.1 r.2)
+      (next-taken ds (take p.0 xs) d (a.in_turn p.0 d p.1)).is_left (in-front xs r.0 p.0 d r.1 r.2)
 
 pub orders_have_no_circles : (ds : List Said) (xs : List ℕ) (d : ℕ) → IsOrder ds xs → IsCircular ds d → ⊥
 orders_have_no_circles ds xs d a l = no-circle ds xs a d l

@@ -1,4 +1,4 @@
--- The order in which declarations are judged: that of the source, but each behind those on which it depends.
+-- The order in which declarations are judged: that of the source, each behind those on which it depends, depth first.
 use Rattle.std.specs.Prelude.{◌≡◌, ℕ, ◌<◌, List, length, take, slice_get, Some, Contains}
 use Rattle.hare_depends.specs.declared.said.Said.{Said}
 use Rattle.hare_depends.specs.Dependence.{DependsOn}
@@ -8,12 +8,26 @@ use Rattle.hare_depends.specs.Circles.{IsCircular}
 abbrev pub IsReady : List Said → List ℕ → ℕ → Type 0
 IsReady ds done d = (e : ℕ) → DependsOn ds d e → Contains done e
 
--- the next behind these: of those that are left the first in source order that is ready
-pub record IsNext (ds : List Said) (done : List ℕ) (d : ℕ) : Type 0 where
+-- of those that are left, the first in source order of which it is so
+pub record IsFirstLeft (ds : List Said) (done : List ℕ) (P : ℕ → Type 0) (d : ℕ) : Type 0 where
   pub is_there : d < length ds
   pub is_left : ¬ Contains done d
-  pub ready : IsReady ds done d
-  pub first : (c : ℕ) → c < d → ¬ Contains done c → ¬ IsReady ds done c
+  pub holds : P d
+  pub first : (c : ℕ) → c < d → ¬ Contains done c → ¬ P c
+
+-- Depth first: from one that is left to the first of those that are left on which it depends, and so on until one is ready.
+pub data Descends (ds : List Said) (done : List ℕ) : ℕ → ℕ → Type 0 where
+  arrives : (d : ℕ) → IsReady ds done d → Descends ds done d d
+  goes_on : (c e d : ℕ) → IsFirstLeft ds done (DependsOn ds c) e → Descends ds done e d → Descends ds done c d
+
+abbrev pub IsAny : ℕ → Type 0
+IsAny d = Unit {0}
+
+-- the next behind these: the one to which the first of all that are left descends
+pub record IsNext (ds : List Said) (done : List ℕ) (d : ℕ) : Type 0 where
+  pub from : ℕ
+  pub first : IsFirstLeft ds done IsAny from
+  pub descends : Descends ds done from d
 
 -- each is the next behind those before it
 abbrev pub AreInTurn : List Said → List ℕ → Type 0
