@@ -1,6 +1,5 @@
 -- What nodes ask of their kids.
-use Rattle.std.proofs.Common.{◌≡◌, ℕ, zero, suc, ◌≤◌, Bool, true, false, not, ◌&&◌, cond, List, [], ◌∷◌, length, take, drop, Option, Some, None, refl, ap, ap₂, sym, ◌∙◌, arith}
-use Rattle.hare_tree.specs.declared.kind.Kind.TheVariants as ki
+use Rattle.std.proofs.Common.{◌≡◌, ℕ, zero, suc, Bool, true, false, not, ◌&&◌, cond, List, [], ◌∷◌, length, take, drop, Option, None, refl, ap, ap₂, sym, ◌∙◌, arith}
 use Rattle.hare_tree.specs.Node.{head}
 use Rattle.hare_tree.specs.Shape.{is_none as is_left_out}
 use Rattle.hare_typed.specs.Typed.{TypedNode, marked, typed_nodes}

@@ -1,5 +1,5 @@
 -- Breaks, tree by tree.
-use Rattle.std.proofs.Common.{◌≡◌, ℕ, zero, suc, ◌+◌, Bool, true, false, not, ◌&&◌, ◌||◌, ◌==◌, cond, List, [], ◌∷◌, length, drop, Some, refl, ap, ap₂, sym, ◌∙◌, arith, add-one}
+use Rattle.std.proofs.Common.{◌≡◌, ℕ, zero, suc, ◌+◌, Bool, true, false, not, ◌&&◌, ◌||◌, ◌==◌, List, [], ◌∷◌, length, drop, Some, refl, ap, ap₂, sym, ◌∙◌, arith, add-one}
 use Rattle.std.specs.Prelude.{slice_get, bytes_eq}
 use Rattle.std.specs.List.{list_any}
 use Rattle.std.specs.Cmp.{unsigned_Decides}
@@ -8,7 +8,7 @@ use Rattle.hare_tree.specs.declared.kind.Kind.TheVariants as ki
 use Rattle.hare_tree.specs.Node.{Head}
 use Rattle.hare_typed.specs.Typed.{TypedNode, TypedNodes, Mark, marked, typed_none, typed_more, typed_nodes}
 use Rattle.hare_typed.specs.Copies.{is_unlabelled as is_nameless}
-use Rattle.hare_rules.specs.Control.{is_break_of, is_break_out, is_loop_kind, breaks, breaks_in}
+use Rattle.hare_rules.specs.Control.{is_break_out, is_loop_kind, breaks, breaks_in}
 use Rattle.rule_join.specs.Breaks.{is_break}
 
 -- the trees from one on

@@ -1,20 +1,18 @@
 -- The values that come together in a node, as they are listed and as the table has them.
-use Rattle.std.proofs.Common.{◌≡◌, ℕ, zero, suc, ◌<◌, ◌≤◌, Bool, true, false, not, ◌&&◌, cond, nat_lt, List, [], ◌∷◌, ◌++◌, length, map, drop, Option, Some, None, is_some, refl, ap, sym, ◌∙◌, subst, arith, append-nil}
+use Rattle.std.proofs.Common.{◌≡◌, ℕ, suc, Bool, true, false, not, ◌&&◌, cond, nat_lt, List, [], ◌∷◌, ◌++◌, length, Option, Some, None, refl, ap, sym, ◌∙◌, arith, append-nil}
 use Rattle.std.specs.Prelude.{find, option_map, is_none}
 use Rattle.std.specs.Option.{option_or}
 use Rattle.std.proofs.lemmas.Bool.{lt-ltb}
 use Rattle.hare_tree.specs.declared.place.Place.{Place}
-use Rattle.hare_types.specs.declared.coercion.Ty.{Ty}
 use Rattle.hare_types.specs.declared.row.Scalar.TheVariants as keyword
 use Rattle.hare_types.specs.Store.{Store}
 use Rattle.hare_typed.specs.Typed.{TypedNode}
 use Rattle.hare_typed.specs.Order.{tree_from_front}
-use Rattle.hare_rules.specs.declared.hint.Hint.{Hint}
 use Rattle.hare_rules.specs.declared.hint.Hint.TheVariants as hint
 use Rattle.hare_rules.specs.declared.judged.Yielded.{Yielded}
 use Rattle.hare_rules.specs.Words.{is_never, has_default, default_in, fits, word_id}
 use Rattle.hare_rules.specs.Context.{Context, Given, is_there}
-use Rattle.hare_rules.specs.Control.{is_open, end_of, end_behind, block_values}
+use Rattle.hare_rules.specs.Control.{is_open, end_of, end_behind}
 use Rattle.hare_rules.specs.Joined as table
 use Rattle.hare_rules.specs.Joined.{given_by, void_at, void_fits, goes_on, given_fits, is_end, default_of_first, first_lacking, first_misfit, joined}
 use Rattle.hare_rules.specs.Judged.{givens_from}
@@ -22,7 +20,7 @@ use Rattle.rule_judge.specs.declared.turn.Turn.{Turn}
 use Rattle.rule_judge.specs.Turns.{context_in}
 use Rattle.rule_join.specs.declared.values.Source.{Source}
 use Rattle.rule_join.specs.declared.values.Source.TheVariants as source
-use Rattle.rule_join.specs.Together.{together, handed, listed_in, ends, going, place_in, place_told, without_default, if_lacking, end_misfit, lacking, misfit, two_branches}
+use Rattle.rule_join.specs.Together.{together, listed_in, ends, going, place_in, place_told, without_default, if_lacking, end_misfit, lacking, misfit, two_branches}
 
 -- ---- one by one
 

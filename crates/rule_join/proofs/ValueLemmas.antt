@@ -1,6 +1,6 @@
 -- The listed values, one by one.
-use Rattle.std.proofs.Common.{◌≡◌, ℕ, zero, suc, ◌+◌, ◌<◌, ◌≤◌, Bool, true, false, not, ◌&&◌, ◌||◌, ◌==◌, cond, nat_lt, List, [], ◌∷◌, length, drop, get_or, Option, Some, None, is_some, refl, ap, ap₂, sym, ◌∙◌, subst, arith, add-one}
-use Rattle.std.specs.Prelude.{find, slice_get, is_none}
+use Rattle.std.proofs.Common.{◌≡◌, ℕ, zero, suc, ◌+◌, ◌<◌, Bool, true, false, not, ◌&&◌, ◌||◌, ◌==◌, cond, nat_lt, List, [], ◌∷◌, length, drop, get_or, Some, None, refl, ap, ap₂, sym, ◌∙◌, subst, arith, add-one}
+use Rattle.std.specs.Prelude.{find, slice_get}
 use Rattle.std.proofs.lemmas.Bool.{lt-ltb}
 use Rattle.std.proofs.lemmas.Option.{slice_get-get_or}
 use Rattle.hare_tree.specs.declared.place.Place.{Place}

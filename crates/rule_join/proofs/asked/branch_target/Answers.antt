@@ -1,6 +1,5 @@
 use Rattle.std.proofs.Common.{arith}
 use Rattle.std.proofs.lemmas.Bool.{lt-ltb}
-use Rattle.hare_types.proofs.LaterLemmas.{later_trans}
 use Rattle.rule_join.proofs.AskedLemmas.{target_without, target_with}
 use Rattle.rule_join.proofs.asked.branch_target.Goals as goal
 
