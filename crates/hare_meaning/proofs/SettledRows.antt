@@ -161,7 +161,7 @@ a_switch : Settles u8 void (block (node kind.Switch [] 0 void (local 0 u8 ∷ sw
     ∷ switch_case absent [] ∷ []) ∷ []))
 a_switch = search rules
 
-a_struct : Settles u8 void (block (bind (node kind.StructLit [] 0 pair (type_node pair ∷ node kind.FieldValue (codes "b") 0 void (num int 2 ∷ [])
+a_struct : Settles u8 void (block (bind (node kind.StructLit [] 0 pair (node kind.TypePath [] 0 pair [] ∷ node kind.FieldValue (codes "b") 0 void (num int 2 ∷ [])
     ∷ node kind.FieldValue (codes "a") 0 void (n8 1 ∷ []) ∷ absent ∷ [])) ∷ []))
 a_struct = search rules
 
@@ -171,25 +171,25 @@ a_sure_value = search rules
 -- ---- what is not settled
 
 no_such_local : Settles u8 u8 (giving u8 (hand (local 1 u8) ∷ [])) → ⊥
-no_such_local s = s.body.2.0.2.0.1.meant
+no_such_local s = s.body.3.0.3.0.1.meant
 
 behind_its_block : SettlesMain (block (block (bind (n8 1) ∷ []) ∷ bind (local 0 u8) ∷ [])) → ⊥
-behind_its_block s = s.body.2.1.0.2.1.0.1.meant
+behind_its_block s = s.body.3.1.0.3.1.0.1.meant
 
 behind_its_case : Settles int_or_bool void (block (by_member (case binds_int [] ∷ case (type_node bool) (bind (local 1 int) ∷ []) ∷ []) ∷ [])) → ⊥
-behind_its_case s = s.body.2.0.2.1.1.0.2.1.0.2.1.0.1.meant
+behind_its_case s = s.body.3.0.3.1.1.0.3.1.0.3.1.0.1.meant
 
 outside_a_loop : SettlesMain (block (leave ∷ [])) → ⊥
-outside_a_loop s = let e = s.body.2.0.1.target in cc
+outside_a_loop s = s.body.3.0.1.target
 
 out_of_a_deferred_expression : SettlesMain (block (loop absent yes absent (block (later leave ∷ [])) ∷ [])) → ⊥
-out_of_a_deferred_expression s = let e = s.body.2.0.2.1.1.1.0.2.0.2.0.1.target in cc
+out_of_a_deferred_expression s = s.body.3.0.3.1.1.1.0.3.0.3.0.1.target
 
 a_deferred_return : SettlesMain (block (later (give absent) ∷ [])) → ⊥
-a_deferred_return s = s.body.2.0.2.0.1.result
+a_deferred_return s = s.body.3.0.3.0.1.result
 
 no_case : Settles int_or_bool void (block (by_member (case (type_node bool) [] ∷ []) ∷ [])) → ⊥
-no_case s = let e = s.body.2.0.1.covered in cc
+no_case s = let e = s.body.3.0.1.covered in cc
 
 a_wrong_row : Settles u8 int (to 3 int (local 0 u8)) → ⊥
 a_wrong_row s = let e = s.body.0.joined in cc

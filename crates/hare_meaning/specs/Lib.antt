@@ -14,6 +14,7 @@ pub mod Run
 pub mod Laws
 pub mod Related
 pub mod Around
+pub mod SettledForm
 pub mod SettledTypes
 pub mod SettledValues
 pub mod SettledParts
