@@ -2,12 +2,10 @@
 -- is in scope, where a jump goes, and which members of unions have tags. Nothing here asks how types are found: there are no hints, no faults and
 -- no rows of typing rules. So a tree that a checker found and one that was made of it by unwinding can both be settled, and whoever evaluates or
 -- lowers trees asks for this alone.
-use Rattle.std.specs.Prelude.{◌≡◌, ◌⊎◌, ℕ, suc, ◌<◌, Bool, true, false, length}
+use Rattle.std.specs.Prelude.{◌≡◌, ◌⊎◌, ℕ, suc, Bool, true, false, List, length, map}
 use Rattle.hare_tree.specs.declared.kind.Kind.{Kind}
 use Rattle.hare_tree.specs.declared.kind.Kind.TheVariants as kind
 use Rattle.hare_tree.specs.Forms.{expr}
-use Rattle.hare_typed.specs.declared.cell.Cell.{Cell}
-use Rattle.hare_typed.specs.declared.cell.Cell.TheVariants as cell
 use Rattle.hare_typed.specs.Objects.{Object, Global, Constant}
 use Rattle.hare_typed.specs.Typed.{TypedNode, TypedNodes, marked, typed_none, typed_more}
 use Rattle.hare_typed.specs.Order.{kid_from_front}
@@ -19,7 +17,9 @@ use Rattle.hare_meaning.specs.Code.{Code, declaration}
 use Rattle.hare_meaning.specs.Steps.{is_void}
 use Rattle.hare_meaning.specs.Calls.{type_of_parameter}
 use Rattle.hare_meaning.specs.Around.{Around, around_kid, around_function, result_of_function}
-use Rattle.hare_meaning.specs.SettledTypes.{Each, IsMarked, IsAdmittedTy, is_sized}
+use Rattle.hare_meaning.specs.Within.{LeadsWithin}
+use Rattle.hare_meaning.specs.Each.{Each}
+use Rattle.hare_meaning.specs.SettledTypes.{IsMarked, IsAdmittedTy, is_sized}
 use Rattle.hare_meaning.specs.SettledForm.{is_of, has_form}
 use Rattle.hare_meaning.specs.SettledValues as v
 use Rattle.hare_meaning.specs.SettledParts as p
@@ -176,22 +176,16 @@ pub record IsSettledFunction (c : Code) (d : ℕ) : Type 0 where
   pub gives : given (kid_from_front 4 (declaration c.declarations d)) ≡ result_of_function (declaration c.declarations d)
   pub body : IsSettled (around_function c d) (kid_from_front 4 (declaration c.declarations d))
 
--- a pointer in the cell leads to one of so many objects
-abbrev pub LeadsBelow : ℕ → Cell → Type 0
-LeadsBelow n (cell.Byte b) = Unit {0}
-LeadsBelow n (cell.Fragment o d k) = o < n
-LeadsBelow n cell.Undef = Unit {0}
-
--- an object that stands from the start: neither a scope nor `free` ends it, and its pointers lead to such objects
-pub record IsStatic (n : ℕ) (o : Object) : Type 0 where
+-- an object that stands from the start with these: neither a scope nor `free` ends it, and its pointers lead within them
+pub record IsStatic (objects : List Object) (o : Object) : Type 0 where
   pub alive : o.alive ≡ true
   pub kind : (o.kind ≡ Global) ⊎ (o.kind ≡ Constant)
-  pub leads : Each (LeadsBelow n) o.cells
+  pub leads : Each (LeadsWithin objects) o.cells
 
 -- Each function of the code is settled, and a run begins with one that takes nothing and gives nothing.
 pub record IsSettledCode (c : Code) : Type 0 where
   pub functions : (d : ℕ) → own_kind (declaration c.declarations d) ≡ kind.Fn → IsSettledFunction c d
-  pub statics : Each (λ s. IsStatic (length c.statics) s.1) c.statics
+  pub statics : Each (λ s. IsStatic (map (λ s. s.1) c.statics) s.1) c.statics
   pub entry : own_kind (declaration c.declarations c.entry) ≡ kind.Fn
   pub no_parameters : length (parameters_of (declaration c.declarations c.entry)) ≡ 0
   pub no_result : is_void c.types (result_of_function (declaration c.declarations c.entry)) ≡ true

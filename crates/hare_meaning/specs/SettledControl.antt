@@ -18,7 +18,8 @@ use Rattle.hare_meaning.specs.Code.{Code, cells_of_constant}
 use Rattle.hare_meaning.specs.Steps.{is_absent, is_written, is_void}
 use Rattle.hare_meaning.specs.Choices.{cases_of, head_of_case, pattern_type, is_null_pattern, is_type_pattern, values_of}
 use Rattle.hare_meaning.specs.Around.{Around, loop_for, block_for}
-use Rattle.hare_meaning.specs.SettledTypes.{Each, AreValues, is_word, is_integer, is_never, nullable, takes_void}
+use Rattle.hare_meaning.specs.Each.{Each}
+use Rattle.hare_meaning.specs.SettledTypes.{AreValues, is_word, is_integer, is_never, nullable, takes_void}
 use Rattle.hare_meaning.specs.SettledValues.{store_of, IsConstantOf}
 use Rattle.hare_meaning.specs.SettledParts.{stays, IsMemberOf}
 

@@ -22,7 +22,8 @@ use Rattle.hare_meaning.specs.Steps.{is_written, is_void}
 use Rattle.hare_meaning.specs.Stores.{operator_of, is_shift}
 use Rattle.hare_meaning.specs.Heap.{is_nomem, given_member, refusal_member, own_union, deleted}
 use Rattle.hare_meaning.specs.SettledForm.{has_form}
-use Rattle.hare_meaning.specs.SettledTypes.{Each, IsAdmittedTy, AreValues, is_word, is_integer, is_counting, is_sized, nullable, slice, is_address, may_become}
+use Rattle.hare_meaning.specs.Each.{Each}
+use Rattle.hare_meaning.specs.SettledTypes.{IsAdmittedTy, AreValues, is_word, is_integer, is_counting, is_sized, nullable, slice, is_address, may_become}
 
 -- ---- places
 

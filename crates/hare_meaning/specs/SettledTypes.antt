@@ -1,5 +1,5 @@
 -- What a settled tree says of types, and of a node's own type and coercion.
-use Rattle.std.specs.Prelude.{◌≡◌, ℕ, ◌<◌, ◌≤◌, ◌^◌, ℤ, Bool, true, false, ◌||◌, length, Option, Some, None, is_some, option_and_then, IsSome, List, [], ◌∷◌}
+use Rattle.std.specs.Prelude.{◌≡◌, ℕ, ◌<◌, ◌≤◌, ◌^◌, ℤ, Bool, true, false, ◌||◌, length, Option, Some, None, is_some, option_and_then, IsSome}
 use Rattle.hare_types.specs.declared.row.Row.{Row}
 use Rattle.hare_types.specs.declared.row.Row.TheVariants as row
 use Rattle.hare_types.specs.declared.row.Scalar.{Scalar as Keyword}
@@ -17,12 +17,8 @@ use Rattle.hare_typed.specs.Shapes.{shape_of_row}
 use Rattle.hare_typed.specs.Unions.{union_members}
 use Rattle.hare_typed.specs.Coercions.{length_of_row}
 use Rattle.hare_typed.specs.ConstantForms.{is_iconst, is_whole}
+use Rattle.hare_meaning.specs.Each.{Each}
 use Rattle.hare_meaning.specs.Steps.{void_type}
-
--- so it is of each
-abbrev pub Each : {A : Type 0} → (A → Type 0) → List A → Type 0
-Each P [] = Unit {0}
-Each P (x ∷ xs) = P x × Each P xs
 
 -- ---- sizes that are admitted
 

@@ -1,5 +1,5 @@
 -- What a settled tree says of literals, paths, operators, literals of parts, and calls. In each, t is the node.
-use Rattle.std.specs.Prelude.{◌≡◌, ◌⊎◌, ℕ, zero, suc, ◌+◌, ◌^◌, ◌<◌, ◌≤◌, pos, Bool, true, false, ◌||◌, nat_eq, List, length, map, take, drop, position, slice_get, Option, Some, None, option_map, unwrap_or, IsSome, []}
+use Rattle.std.specs.Prelude.{◌≡◌, ◌⊎◌, ℕ, zero, suc, ◌+◌, ◌^◌, ◌<◌, ◌≤◌, pos, Bool, true, false, ◌||◌, nat_eq, List, length, map, take, drop, slice_get, Option, Some, None, option_map, unwrap_or, IsSome, []}
 use Rattle.std.specs.Map.{lookup}
 use Rattle.hare_tree.specs.declared.kind.Kind.TheVariants as kind
 use Rattle.hare_tree.specs.declared.token.Meaning.{Meaning}
@@ -16,7 +16,7 @@ use Rattle.hare_typed.specs.declared.constant.Const.{Const}
 use Rattle.hare_typed.specs.declared.constant.Const.TheVariants as constant
 use Rattle.hare_typed.specs.Typed.{TypedNode, Mark, head_of, mark_of, kids_of, listed_nodes}
 use Rattle.hare_typed.specs.Order.{kid_from_front}
-use Rattle.hare_typed.specs.Constants.{own_kind}
+use Rattle.hare_typed.specs.Constants.{is_known, own_kind}
 use Rattle.hare_typed.specs.Constancy.{names_void}
 use Rattle.hare_typed.specs.Numbers.{parameters_of}
 use Rattle.hare_typed.specs.Weight.{count, items_of}
@@ -32,7 +32,9 @@ use Rattle.hare_meaning.specs.Code.{Code, declaration, value_of, number_of_stati
 use Rattle.hare_meaning.specs.Steps.{is_void}
 use Rattle.hare_meaning.specs.Calls.{arguments_of, type_of_parameter}
 use Rattle.hare_meaning.specs.Around.{Around, Bound, Holds, PointsTo, bound_at, result_of_function}
-use Rattle.hare_meaning.specs.SettledTypes.{Each, IsAdmittedTy, is_word, is_integer, is_numeric, is_counting, fits_number, is_sized, is_never, is_address, slice}
+use Rattle.hare_meaning.specs.Within.{LeadsInto}
+use Rattle.hare_meaning.specs.Each.{Each}
+use Rattle.hare_meaning.specs.SettledTypes.{IsAdmittedTy, is_word, is_integer, is_numeric, is_counting, fits_number, is_sized, is_never, is_address, slice}
 
 abbrev pub store_of : Around → Store
 store_of a = a.code.types
@@ -73,10 +75,10 @@ IsBoundAs s f None = ⊥
 IsBoundAs s f (Some (Holds g)) = f ≡ g
 IsBoundAs s f (Some (PointsTo x)) = pointee s f ≡ Some x
 
--- each pointer among the cells leads to an object that stands from the start
+-- a pointer of which the cell is a part leads within an object that stands from the start
 abbrev pub Leads : List (ℕ × Object) → Cell → Type 0
 Leads ss (cell.Byte b) = Unit {0}
-Leads ss (cell.Fragment o d k) = IsSome (position (λ s. nat_eq s.0 o) ss)
+Leads ss (cell.Fragment o d k) = LeadsInto d (lookup (nat_eq o) ss)
 Leads ss cell.Undef = Unit {0}
 
 -- cells are a value of the type where it is scalar: they spell one
@@ -107,14 +109,14 @@ pub record IsGlobal (c : Code) (d : ℕ) (f : Ty) : Type 0 where
   pub ty : f ≡ given (value_of (declaration c.declarations d))
   pub stands : Stands c.types f (lookup (nat_eq d) c.statics)
 
--- a path to a def has its constant, one to a type of base void has nothing, and any other to a declaration means a global
+-- a path to a def has its constant, one to a type of base void has nothing, and any other to a declaration means a global; one to a local has none
 abbrev pub IsDeclared : Code → ℕ → Mark → Bool → Const → Type 0
 IsDeclared c d m true v = IsGlobal c d m.ty
 IsDeclared c d m false constant.Absent = names_void c.types m.meaning m.ty ≡ true
 IsDeclared c d m false (constant.Known cs os) = IsConstantOf c m.ty (constant.Known cs os)
 
 abbrev pub IsMeant : Around → Mark → Meaning → Type 0
-IsMeant a m (meant.Local x) = IsBoundAs (store_of a) m.ty (bound_at a.bindings x)
+IsMeant a m (meant.Local x) = IsBoundAs (store_of a) m.ty (bound_at a.bindings x) × (is_known m.value ≡ false)
 IsMeant a m (meant.Decl d) = IsDeclared a.code d m (names_object (store_of a) m) m.value
 IsMeant a m (meant.Rt f) = ⊥
 IsMeant a m meant.None = ⊥
