@@ -1,9 +1,10 @@
 -- Rows of blocks, of what is deferred in them, and of the jumps that leave them.
 use Rattle.std.proofs.Common.{◌≡◌, [], ◌∷◌, codes, refl}
 use Rattle.hare_tree.specs.declared.kind.Kind.TheVariants as kind
+use Rattle.hare_typed.specs.Typed.{TypedNode}
 use Rattle.hare_typed.specs.State.{Exit, Undefined}
-use Rattle.hare_meaning.proofs.Samples.{void, never, u8, byte_pointer, failure, void_or_failure}
-use Rattle.hare_meaning.proofs.Trees.{place, at, to, absent, node, one, main, function, call, puts, later, block, giving, labelled, outcome, output, ends, shows, exit, bind, local, hand, set, leave, again, give, loop, yes, no, n8, plus, times, type_node}
+use Rattle.hare_meaning.proofs.Samples.{void, never, bool, u8, byte_pointer, failure, void_or_failure}
+use Rattle.hare_meaning.proofs.Trees.{place, at, to, either, absent, node, one, main, function, call, puts, later, block, giving, labelled, outcome, output, ends, shows, exit, bind, local, hand, set, leave, again, give, loop, yes, no, n8, plus, times, type_node}
 
 -- ---- blocks
 
@@ -98,6 +99,28 @@ scope_of_deferred = refl
 -- it sees what was bound where it stands
 names_of_deferred : ends (bind (n8 5) ∷ later (exit (local 0 u8)) ∷ bind (n8 6) ∷ []) 0 ≡ Exit 5
 names_of_deferred = refl
+
+-- ---- void that stands in no node
+
+-- it is coerced where it arrives: here to a member of a union
+
+abbrev is_void : TypedNode → TypedNode
+is_void e = exit (either u8 (node kind.Is [] 0 bool (e ∷ type_node void ∷ [])) (n8 1) (n8 2))
+
+end_as_a_member : ends (is_void (giving void_or_failure []) ∷ []) 0 ≡ Exit 1
+end_as_a_member = refl
+
+yield_as_a_member : ends (is_void (giving void_or_failure (hand absent ∷ [])) ∷ []) 0 ≡ Exit 1
+yield_as_a_member = refl
+
+end_of_a_case_as_a_member : ends (is_void (node kind.Match [] 0 void_or_failure (giving void_or_failure []
+    ∷ node kind.Case [] 0 void_or_failure (absent ∷ []) ∷ [])) ∷ []) 0 ≡ Exit 1
+end_of_a_case_as_a_member = refl
+
+return_as_a_member : outcome
+    (main (is_void (call 1 void_or_failure []) ∷ [])
+    ∷ function [] void_or_failure (to 2 void_or_failure (node kind.Block [] 0 never (give absent ∷ []))) ∷ []) 1 ≡ Exit 1
+return_as_a_member = refl
 
 -- ---- the end of a scope
 

@@ -3,7 +3,7 @@ use Rattle.std.proofs.Common.{◌≡◌, ℕ, [], ◌∷◌, codes, refl}
 use Rattle.hare_tree.specs.declared.kind.Kind.TheVariants as kind
 use Rattle.hare_typed.specs.Typed.{TypedNode}
 use Rattle.hare_typed.specs.State.{Exit, Undefined, Spent}
-use Rattle.hare_meaning.proofs.Samples.{u8, size, byte_pointer, bytes, four_bytes}
+use Rattle.hare_meaning.proofs.Samples.{bool, u8, size, byte_pointer, bytes, four_bytes}
 use Rattle.hare_meaning.proofs.Trees.{place, at, absent, one, puts, block, giving, labelled, ends, shows, exit, bind, local, hand, set, set_by, leave, again, loop, each, element, element_address, when, yes, no, n8, num, less, equal, array, part, index}
 
 -- `for (let i = 0u8; i < n; i += 1) body`
@@ -103,6 +103,33 @@ continued_by_label : shows (labelled (codes "a") (counting 2 (loop absent yes ab
     ∷ labelled (codes "a") again ∷ [])))) ∷ puts 1 (codes "y") ∷ []) 3
     ≡ codes "xxy"
 continued_by_label = refl
+
+-- a `break` in the condition ends the loop, and one in the afterthought does
+broken_in_the_condition : shows (loop absent (giving bool (leave ∷ [])) absent (puts 0 (codes "x")) ∷ puts 1 (codes "y") ∷ []) 1 ≡ codes "y"
+broken_in_the_condition = refl
+
+broken_in_the_afterthought : shows (loop absent yes leave (puts 0 (codes "x")) ∷ puts 1 (codes "y") ∷ []) 1 ≡ codes "xy"
+broken_in_the_afterthought = refl
+
+-- a `continue` in the condition goes on with the afterthought: here for the binding 1
+continued_in_the_condition : shows (loop (bind (n8 0))
+    (giving bool (when (equal (local 0 u8) (n8 1)) again absent ∷ hand (less (codes "<") (local 0 u8) (n8 3)) ∷ []))
+    (set_by (codes "+=") (local 0 u8) (n8 1)) (puts 0 (codes "x")) ∷ []) 4 ≡ codes "xx"
+continued_in_the_condition = refl
+
+-- and one in the afterthought with the next turn: here for the binding 2
+continued_in_the_afterthought : shows (loop (bind (n8 0)) (less (codes "<") (local 0 u8) (n8 3))
+    (block (set_by (codes "+=") (local 0 u8) (n8 1) ∷ when (equal (local 0 u8) (n8 2)) again absent ∷ puts 0 (codes "a") ∷ []))
+    (puts 1 (codes "x")) ∷ []) 4 ≡ codes "xaxxa"
+continued_in_the_afterthought = refl
+
+-- both in the operand of a loop over elements end it, before any turn
+broken_in_the_operand : shows (each element (giving bytes (leave ∷ [])) (puts 0 (codes "x")) ∷ puts 1 (codes "y") ∷ []) 0 ≡ codes "y"
+broken_in_the_operand = refl
+
+continued_in_the_operand : shows (each element (giving four_bytes (again ∷ [])) (puts 0 (codes "x")) ∷ puts 1 (codes "y") ∷ []) 0
+    ≡ codes "y"
+continued_in_the_operand = refl
 
 -- a yield with a label leaves a loop
 yielded_out_of_a_loop : ends (exit (labelled (codes "a") (giving u8 (loop absent yes absent (labelled (codes "a") (hand (n8 7)))

@@ -5,7 +5,7 @@ use Rattle.hare_tree.specs.declared.kind.Kind.TheVariants as kind
 use Rattle.hare_typed.specs.declared.cell.Cell.TheVariants.{Byte as byte}
 use Rattle.hare_typed.specs.Typed.{TypedNode}
 use Rattle.hare_typed.specs.State.{Exit, Abort}
-use Rattle.hare_meaning.proofs.Samples.{void, u8, int, size, bytes, four_bytes, byte_pointer, pair, pair_pointer, slice, slice_pointer, three_ints, tuple}
+use Rattle.hare_meaning.proofs.Samples.{void, u8, int, size, bytes, four_bytes, byte_pointer, pair, pair_pointer, pair_pointer_pointer, slice, slice_pointer, three_ints, tuple}
 use Rattle.hare_meaning.proofs.Trees.{at, absent, node, one, main, function, call, puts, text, block, giving, outcome, ends, shows, exit, tell, bind, local, global, hand, set, set_by, n8, num, plus, times, equal, array, part, index, field, type_node, known}
 
 abbrev four : TypedNode
@@ -110,6 +110,19 @@ element_through_a_pointer : ends (bind (array three_ints (num int 1 ∷ num int 
     ∷ bind (part slice (local 0 three_ints) absent absent)
     ∷ bind (one kind.Addr slice_pointer (local 1 slice)) ∷ tell (index int (local 2 slice_pointer) (num size 2)) ∷ []) 0 ≡ Exit 3
 element_through_a_pointer = refl
+
+-- also more than one
+field_through_two_pointers : ends (bind made ∷ bind (one kind.Addr pair_pointer (local 0 pair))
+    ∷ bind (one kind.Addr pair_pointer_pointer (local 1 pair_pointer))
+    ∷ set (field u8 (codes "a") (local 2 pair_pointer_pointer)) (n8 7) ∷ exit (field u8 (codes "a") (local 0 pair)) ∷ []) 0 ≡ Exit 7
+field_through_two_pointers = refl
+
+-- each is read where the one before it leads: a store to the inner one is seen
+field_through_another_pointer : ends (bind made ∷ bind made ∷ bind (one kind.Addr pair_pointer (local 0 pair))
+    ∷ bind (one kind.Addr pair_pointer_pointer (local 2 pair_pointer)) ∷ set (field u8 (codes "a") (local 1 pair)) (n8 9)
+    ∷ set (local 2 pair_pointer) (one kind.Addr pair_pointer (local 1 pair))
+    ∷ exit (field u8 (codes "a") (local 3 pair_pointer_pointer)) ∷ []) 0 ≡ Exit 9
+field_through_another_pointer = refl
 
 -- ---- assignments
 

@@ -6,6 +6,7 @@ pub mod Keeps
 pub mod Kept
 pub mod Made
 pub mod New
+pub mod Pointers
 pub mod Start
 pub mod Store
 pub mod Streams

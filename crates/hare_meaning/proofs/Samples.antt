@@ -99,6 +99,20 @@ new_bytes = 27
 abbrev pub added : ℕ
 added = 28
 
+-- `rune`, `*never`
+abbrev pub rune : ℕ
+rune = 29
+
+abbrev pub never_pointer : ℕ
+never_pointer = 30
+
+-- `**struct { a: u8, b: int }`, `*str`
+abbrev pub pair_pointer_pointer : ℕ
+pair_pointer_pointer = 31
+
+abbrev pub str_pointer : ℕ
+str_pointer = 32
+
 -- the field names `a` and `b` have the numbers 0 and 1; tags from 1 on: int, bool, `!void`, void, *int, []int, []u8, nomem
 abbrev pub types : Store
 types = record {
@@ -133,6 +147,10 @@ types = record {
       ∷ row.Union (7 ∷ 13 ∷ [])
       ∷ row.Union (7 ∷ 15 ∷ [])
       ∷ row.Union (0 ∷ 7 ∷ [])
+      ∷ row.Scalar keyword.Rune
+      ∷ row.Pointer 1
+      ∷ row.Pointer 19
+      ∷ row.Pointer 3
       ∷ [];
   declared = (4294967295, record { sized = true; definition = Some 8 }) ∷ [];
   listed = 5 ∷ 2 ∷ 8 ∷ 0 ∷ 9 ∷ 13 ∷ 15 ∷ 7 ∷ [];

@@ -1,23 +1,25 @@
--- Rows of settled trees: bodies of each kind that are settled, and nodes that are not.
-use Rattle.std.proofs.Common.{ℕ, pos, List, [], ◌∷◌, ◌++◌, codes, rules}
+-- Rows of settled trees: bodies in which each kind stands, and a program.
+use Rattle.std.proofs.Common.{◌≡◌, ℕ, zero, suc, refl, pos, List, [], ◌∷◌, ◌++◌, codes, rules}
 use Rattle.hare_tree.specs.declared.kind.Kind.TheVariants as kind
 use Rattle.hare_typed.specs.Typed.{TypedNode}
 use Rattle.hare_typed.specs.Cells.{byte_cells}
-use Rattle.hare_meaning.specs.Settled.{IsSettledFunction}
-use Rattle.hare_meaning.proofs.Samples.{void, never, bool, u8, int, size, pointer, nullable, slice, three_ints, slice_pointer, pair, pair_pointer, tuple, int_or_bool, int_or_failure, void_or_failure, new_int, new_ints}
+use Rattle.hare_typed.specs.Constants.{own_kind}
+use Rattle.hare_meaning.specs.Code.{declaration}
+use Rattle.hare_meaning.specs.Settled.{IsSettledFunction, IsSettledCode}
+use Rattle.hare_meaning.proofs.Samples.{void, never, bool, str, rune, u8, int, size, bytes, pointer, nullable, slice, three_ints, slice_pointer, pair, pair_pointer, tuple, int_or_bool, int_or_failure, void_or_failure, new_int, new_ints}
 use Rattle.hare_types.specs.declared.coercion.Ty.TheVariants as kept
-use Rattle.hare_meaning.proofs.Trees.{of_type, known, labelled, sure, node, to, absent, num, n8, yes, local, global, one, less, equal, index, part, field, type_node, array, set, set_by, bind, block, giving, labelled, later, when, either, loop, each, element, element_address, leave, again, hand, give, call, puts, function, program, plus, alloc, alloc_for, append, append_all, delete, free}
+use Rattle.hare_meaning.proofs.Trees.{of_type, known, sure, text, two, rt, node, to, absent, num, n8, yes, local, global, one, less, equal, index, part, field, type_node, array, set, set_by, bind, block, giving, labelled, later, when, either, loop, each, element, element_address, leave, again, hand, give, call, puts, function, program, plus, alloc, alloc_for, append, append_all, delete, free}
 
 -- the function is settled that has this body, this parameter and this result
-abbrev Settles : (parameter result : ℕ) → TypedNode → Type 0
+abbrev pub Settles : (parameter result : ℕ) → TypedNode → Type 0
 Settles p r b = IsSettledFunction (program (function (p ∷ []) r b ∷ [])) 0
 
 -- the same of a body of `main`, whose strings stand in it
-abbrev SettlesMain : TypedNode → Type 0
+abbrev pub SettlesMain : TypedNode → Type 0
 SettlesMain b = IsSettledFunction (program (function [] void b ∷ [])) 0
 
 -- the same of `main` with other declarations behind it
-abbrev SettlesBefore : TypedNode → List TypedNode → Type 0
+abbrev pub SettlesBefore : TypedNode → List TypedNode → Type 0
 SettlesBefore b ds = IsSettledFunction (program (function [] void b ∷ ds)) 0
 
 -- ---- values, paths and operators
@@ -44,7 +46,7 @@ a_cast = search rules
 a_number : Settles u8 u8 (to 3 u8 (of_type kind.Number [] 200 (kept.Iconst (pos 200)) []))
 a_number = search rules
 
-abbrev variable : TypedNode
+abbrev pub variable : TypedNode
 variable = node kind.GlobalLet [] 0 void (absent ∷ absent ∷ absent ∷ known (byte_cells (5 ∷ [])) (n8 5) ∷ [])
 
 a_global : SettlesBefore (block (set (global 1 u8) (n8 6) ∷ [])) (variable ∷ [])
@@ -75,7 +77,8 @@ a_part = search rules
 a_field : Settles pair_pointer int (giving int (hand (field int (codes "b") (local 0 pair_pointer)) ∷ []))
 a_field = search rules
 
-an_address : Settles int void (block (bind (one kind.Addr pointer (local 0 int)) ∷ set (one kind.Deref int (local 1 pointer)) (num int 3) ∷ []))
+an_address : Settles int void (block (bind (one kind.Addr pointer (local 0 int))
+    ∷ set (one kind.Deref int (local 1 pointer)) (num int 3) ∷ []))
 an_address = search rules
 
 by_an_operator : Settles u8 void (block (set_by (codes "<<=") (local 0 u8) (num size 3) ∷ set_by (codes "+=") (local 0 u8) (n8 3) ∷ []))
@@ -130,66 +133,122 @@ deferred = search rules
 a_call : SettlesBefore (block (bind (call 1 u8 (n8 1 ∷ [])) ∷ [])) (function (u8 ∷ []) u8 (giving u8 (hand (local 0 u8) ∷ [])) ∷ [])
 a_call = search rules
 
-errors_leave : SettlesBefore (block []) (function (void_or_failure ∷ []) void_or_failure (to 8 void_or_failure
-    (giving void_or_failure (one kind.Try void (local 0 void_or_failure) ∷ []))) ∷ [])
+errors_leave : Settles void_or_failure void_or_failure
+    (giving void_or_failure (one kind.Try void (local 0 void_or_failure) ∷ []))
 errors_leave = search rules
 
-abbrev case : TypedNode → List TypedNode → TypedNode
+abbrev pub case : TypedNode → List TypedNode → TypedNode
 case p ts = node kind.Case [] 0 void (p ∷ ts)
 
-abbrev binds_int : TypedNode
+abbrev pub binds_int : TypedNode
 binds_int = node kind.PatternLet [] 0 void (type_node int ∷ [])
 
 -- `match (x) { case let i: int => i = 1; case bool => x = x; }`
-abbrev by_member : List TypedNode → TypedNode
+abbrev pub by_member : List TypedNode → TypedNode
 by_member ts = node kind.Match [] 0 void (local 0 int_or_bool ∷ ts)
 
 a_match : Settles int_or_bool void (block (by_member (case binds_int (set (local 1 int) (num int 1) ∷ [])
     ∷ case (type_node bool) (set (local 0 int_or_bool) (local 0 int_or_bool) ∷ []) ∷ []) ∷ []))
 a_match = search rules
 
-abbrev byte_value : ℕ → TypedNode
+abbrev pub byte_value : ℕ → TypedNode
 byte_value n = known (byte_cells (n ∷ [])) (n8 n)
 
-abbrev switch_case : TypedNode → List TypedNode → TypedNode
+abbrev pub switch_case : TypedNode → List TypedNode → TypedNode
 switch_case vs ts = node kind.SwitchCase [] 0 void (vs ∷ ts)
 
-abbrev values : List TypedNode → TypedNode
+abbrev pub values : List TypedNode → TypedNode
 values vs = node kind.Values [] 0 void (vs ++ absent ∷ [])
 
 a_switch : Settles u8 void (block (node kind.Switch [] 0 void (local 0 u8 ∷ switch_case (values (byte_value 1 ∷ byte_value 2 ∷ [])) []
     ∷ switch_case absent [] ∷ []) ∷ []))
 a_switch = search rules
 
-a_struct : Settles u8 void (block (bind (node kind.StructLit [] 0 pair (type_node pair ∷ node kind.FieldValue (codes "b") 0 void (num int 2 ∷ [])
+a_struct : Settles u8 void (block (bind (node kind.StructLit [] 0 pair (node kind.TypePath [] 0 pair []
+    ∷ node kind.FieldValue (codes "b") 0 void (num int 2 ∷ [])
     ∷ node kind.FieldValue (codes "a") 0 void (n8 1 ∷ []) ∷ absent ∷ [])) ∷ []))
 a_struct = search rules
 
 a_sure_value : Settles int_or_failure int (giving int (hand (sure int (local 0 int_or_failure)) ∷ []))
 a_sure_value = search rules
 
--- ---- what is not settled
+-- ---- the other kinds
 
-no_such_local : Settles u8 u8 (giving u8 (hand (local 1 u8) ∷ [])) → ⊥
-no_such_local s = s.body.2.0.2.0.1.meant
+a_rune : SettlesMain (block (node kind.RuneLit [] 65 rune [] ∷ node kind.Void [] 0 void [] ∷ []))
+a_rune = search rules
 
-behind_its_block : SettlesMain (block (block (bind (n8 1) ∷ []) ∷ bind (local 0 u8) ∷ [])) → ⊥
-behind_its_block s = s.body.2.1.0.2.1.0.1.meant
+in_parentheses : Settles u8 u8 (giving u8 (set (one kind.Paren u8 (local 0 u8)) (n8 1) ∷ hand (one kind.Paren u8 (local 0 u8)) ∷ []))
+in_parentheses = search rules
 
-behind_its_case : Settles int_or_bool void (block (by_member (case binds_int [] ∷ case (type_node bool) (bind (local 1 int) ∷ []) ∷ []) ∷ [])) → ⊥
-behind_its_case s = s.body.2.0.2.1.1.0.2.1.0.2.1.0.1.meant
+-- in parentheses a value goes to its site, and what they give stays
+to_a_site_in_parentheses : Settles int int_or_bool
+    (giving int_or_bool (hand (one kind.Paren int_or_bool (to 9 int_or_bool (local 0 int))) ∷ []))
+to_a_site_in_parentheses = search rules
 
-outside_a_loop : SettlesMain (block (leave ∷ [])) → ⊥
-outside_a_loop s = let e = s.body.2.0.1.target in cc
+signs : Settles u8 u8 (giving u8 (hand (one kind.Neg u8 (one kind.Not u8 (local 0 u8))) ∷ []))
+signs = search rules
 
-out_of_a_deferred_expression : SettlesMain (block (loop absent yes absent (block (later leave ∷ [])) ∷ [])) → ⊥
-out_of_a_deferred_expression s = let e = s.body.2.0.2.1.1.1.0.2.0.2.0.1.target in cc
+a_negation : Settles bool bool (giving bool (hand (one kind.Bang bool (two kind.Logic (codes "^^") bool (local 0 bool) yes)) ∷ []))
+a_negation = search rules
 
-a_deferred_return : SettlesMain (block (later (give absent) ∷ [])) → ⊥
-a_deferred_return s = s.body.2.0.2.0.1.result
+a_shift : Settles u8 u8 (giving u8 (hand (two kind.Shift (codes ">>") u8 (local 0 u8) (num size 3)) ∷ []))
+a_shift = search rules
 
-no_case : Settles int_or_bool void (block (by_member (case (type_node bool) [] ∷ []) ∷ [])) → ⊥
-no_case s = let e = s.body.2.0.1.covered in cc
+-- a whole number without a suffix
+abbrev whole : ℕ → TypedNode
+whole n = of_type kind.Number [] n (kept.Iconst (pos n)) []
 
-a_wrong_row : Settles u8 int (to 3 int (local 0 u8)) → ⊥
-a_wrong_row s = let e = s.body.0.joined in cc
+sum_without_a_type : Settles u8 u8 (to 3 u8 (of_type kind.Arith (codes "+") 0 (kept.Iconst (pos 5)) (whole 2 ∷ whole 3 ∷ [])))
+sum_without_a_type = search rules
+
+sizes : Settles pair void (block (bind (one kind.Size size (type_node pair)) ∷ bind (one kind.Align size (type_node pair))
+    ∷ bind (one kind.Offset size (field int (codes "b") (local 0 pair))) ∷ []))
+sizes = search rules
+
+lengths : Settles slice void (block (bind (one kind.Len size (local 0 slice)) ∷ bind (one kind.Len size (text 0 (codes "abc"))) ∷ []))
+lengths = search rules
+
+the_last_again : SettlesMain (block (bind (node kind.Array [] 0 three_ints (num int 1 ∷ node kind.Dots [] 0 void [] ∷ absent ∷ [])) ∷ []))
+the_last_again = search rules
+
+no_items : SettlesMain (block (bind (to 7 slice (of_type kind.Array [] 0 kept.Empty (absent ∷ absent ∷ []))) ∷ []))
+no_items = search rules
+
+an_array_as_a_slice : Settles three_ints void (block (bind (to 7 slice (local 0 three_ints)) ∷ []))
+an_array_as_a_slice = search rules
+
+calls_of_the_runtime : Settles bytes void (block (rt 1 void (local 0 bytes ∷ []) ∷ bind (rt 2 size (local 0 bytes ∷ []))
+    ∷ bind (rt 3 bytes (text 0 (codes "ab") ∷ [])) ∷ bind (rt 5 str (rt 4 size [] ∷ [])) ∷ rt 6 never (n8 1 ∷ []) ∷ []))
+calls_of_the_runtime = search rules
+
+constant_and_assertion : Settles bool void (block (node kind.Const [] 0 void (absent ∷ n8 1 ∷ [])
+    ∷ node kind.Assert [] 0 void (local 0 bool ∷ node kind.Message (codes "no") 0 void [] ∷ []) ∷ []))
+constant_and_assertion = search rules
+
+-- behind an abort no end is reached
+an_abort : Settles u8 u8 (to 2 u8 (node kind.Block [] 0 never (node kind.Abort [] 0 never (absent ∷ []) ∷ [])))
+an_abort = search rules
+
+-- nor behind a loop that no `break` leaves; one of a loop within it does not
+endless : Settles u8 u8 (to 2 u8 (node kind.Block [] 0 never (node kind.For [] 0 never (absent ∷ yes ∷ absent
+    ∷ block (loop absent yes absent (block (leave ∷ [])) ∷ []) ∷ []) ∷ [])))
+endless = search rules
+
+by_a_pointer : Settles nullable void (block (node kind.Match [] 0 void (local 0 nullable ∷ case (node kind.PatternNull [] 0 void []) []
+    ∷ case (node kind.PatternLet [] 0 void (type_node pointer ∷ [])) (set (one kind.Deref int (local 1 pointer)) (num int 1)
+    ∷ []) ∷ []) ∷ []))
+by_a_pointer = search rules
+
+-- ---- a program
+
+-- with a text, and a global that it sets
+abbrev whole_program : List TypedNode
+whole_program = function [] void (block (puts 0 (codes "a") ∷ set (global 1 u8) (n8 6) ∷ [])) ∷ variable ∷ []
+
+settled_program : IsSettledCode (program whole_program)
+settled_program = record { functions = each_function; statics = search rules; entry = refl; no_parameters = refl; no_result = refl }
+  where
+    each_function : (d : ℕ) → own_kind (declaration whole_program d) ≡ kind.Fn → IsSettledFunction (program whole_program) d
+    each_function zero e = search rules
+    each_function (suc zero) e = cc
+    each_function (suc (suc d)) e = cc

@@ -1,9 +1,9 @@
 -- A start state, and a memory in which its objects stand: two globals, a literal to which one of them points, and two arguments.
-use Rattle.std.proofs.Common.{◌≡◌, ℕ, zero, suc, ◌+◌, ◌*◌, ◌^◌, ◌≤◌, List, [], ◌∷◌, ◌++◌, map, Some, codes, refl, subst, arith, true}
+use Rattle.std.proofs.Common.{◌≡◌, ℕ, zero, suc, ◌+◌, ◌*◌, ◌^◌, List, [], ◌∷◌, ◌++◌, map, Some, codes, refl, subst, arith, rules, length, ◌<◌, true}
 use Rattle.std.specs.Prelude.{slice_get, slice_index}
 use Rattle.std.proofs.lemmas.Option.{same_Some}
-use Rattle.hx_base.specs.Memory.{Memory, empty_memory, write, map_range, le_bytes, bytes_at}
-use Rattle.hx_base.specs.Runtime.{World, heap_start}
+use Rattle.hx_base.specs.Memory.{Memory, empty_memory, write, map_range, le_bytes, bytes_at, all_mapped}
+use Rattle.hx_base.specs.Runtime.{World, heap_start, with_arguments}
 use Rattle.hx_base.proofs.MemoryLemmas.{all_mapped-each}
 use Rattle.hare_tree.specs.declared.kind.Kind.TheVariants as kind
 use Rattle.hare_types.specs.declared.coercion.Ty.TheVariants as kept
@@ -11,14 +11,19 @@ use Rattle.hare_typed.specs.declared.cell.Cell.{Cell}
 use Rattle.hare_typed.specs.declared.cell.Cell.TheVariants as cell
 use Rattle.hare_typed.specs.Cells.{byte_cells}
 use Rattle.hare_typed.specs.Objects.{Object, Global, Constant}
-use Rattle.hare_typed.specs.Typed.{TypedNode}
-use Rattle.hare_typed.specs.State.{State}
+use Rattle.hare_typed.specs.declared.constant.Const.{Const}
+use Rattle.hare_typed.specs.declared.constant.Const.TheVariants as constant
+use Rattle.hare_typed.specs.Typed.{TypedNode, marked}
+use Rattle.hare_typed.specs.State.{State, Exit}
 use Rattle.hare_meaning.specs.Code.{statics_of}
 use Rattle.hare_meaning.specs.Run.{start}
+use Rattle.std.specs.List.{enumerate_from}
+use Rattle.hare_meaning.specs.Within.{PointersLeadWithin}
+use Rattle.hare_meaning.specs.Ground.{argument_addresses, record_of, records_of, IsGroundOf}
 use Rattle.hare_meaning.specs.Related.{At, BytesAre, FragmentIs, Match, Ground, Values, objects_in, Related}
-use Rattle.hare_meaning.proofs.Related.Start.{AreLaid, Begins, start_related}
-use Rattle.hare_meaning.proofs.Samples.{types, void, slice}
-use Rattle.hare_meaning.proofs.Trees.{absent, of_type, node, to, numbered, main, text, n8, known, program}
+use Rattle.hare_meaning.proofs.Related.Start.{AreLaid, AreBeside, Begins, ground_standing, start_related}
+use Rattle.hare_meaning.proofs.Samples.{types, void, u8, size, slice, bytes, four_bytes}
+use Rattle.hare_meaning.proofs.Trees.{absent, of_type, node, to, numbered, main, text, n8, num, known, program, exit, index, global, array, outcome}
 
 -- the cells of a pointer to the first byte of an object
 abbrev pointer : ℕ → List Cell
@@ -40,8 +45,11 @@ declarations =
     ∷ node kind.GlobalConst [] 0 void (absent ∷ absent ∷ absent ∷ known (of_two literal) (text 3 (codes "hi")) ∷ [])
     ∷ []
 
+abbrev arguments : List (List ℕ)
+arguments = codes "a" ∷ codes "xyz" ∷ []
+
 abbrev begin : State
-begin = start (program declarations) (codes "a" ∷ codes "xyz" ∷ []) (codes "in")
+begin = start (program declarations) arguments (codes "in")
 
 abbrev objects : List Object
 objects =
@@ -55,22 +63,43 @@ objects =
 begin_objects : objects_in begin ≡ objects
 begin_objects = refl
 
+-- their pointers lead within them
+begin_within : PointersLeadWithin objects
+begin_within = search rules
+
 -- ---- where they stand
 
-abbrev addresses : List ℕ
-addresses = 4096 ∷ 4104 ∷ 4128 ∷ 4130 ∷ 4131 ∷ []
+-- those of the globals and the literal, and behind the records of the arguments those of the arguments
+abbrev statics : List ℕ
+statics = 4096 ∷ 4104 ∷ 4128 ∷ []
 
--- behind them stands the text of an abort
+abbrev addresses : List ℕ
+addresses = statics ++ argument_addresses arguments
+
+-- behind the literal stands the text of an abort
+abbrev texts : List (ℕ × List ℕ)
+texts = (4200, codes "!") ∷ []
+
 abbrev ground : Ground
-ground = record { fill = 170; fixed = (4200, codes "!") ∷ []; standing = (0, 4096) ∷ (1, 4104) ∷ []; arguments = 2 }
+ground = record { fill = 170; fixed = records_of arguments ++ texts; standing = enumerate_from 0 addresses; arguments = 2 }
+
+ground_row : IsGroundOf (program declarations) arguments statics texts ground
+ground_row = record { every = refl; standing = refl; fixed = refl; arguments = refl }
+
+-- record 0 has the address of the first argument, which is behind both records, and its length of one byte twice; and so on
+records_row : records_of arguments
+    ≡ (2 ^ 36, le_bytes 8 (2 ^ 36 + 48) ++ le_bytes 8 1 ++ le_bytes 8 1)
+    ∷ (2 ^ 36 + 24, le_bytes 8 (2 ^ 36 + 49) ++ le_bytes 8 3 ++ le_bytes 8 3)
+    ∷ []
+records_row = refl
 
 abbrev memory : Memory
 memory =
     let ready = map_range (empty_memory 170) 4096 4096 in
     let numbered = write ready 4096 (5 ∷ []) in
     let pointing = write numbered 4104 (le_bytes 8 4128 ++ le_bytes 8 2 ++ le_bytes 8 2) in
-    let spelled = write pointing 4128 (codes "hiaxyz") in
-    write spelled 4200 (codes "!")
+    let spelled = write pointing 4128 (codes "hi") in
+    with_arguments (write spelled 4200 (codes "!")) arguments
 
 abbrev world : World
 world = record {
@@ -119,6 +148,10 @@ laid = (
   ),
 )
 
+-- what is fixed stands there, and beside the objects
+abbrev IsHeld : ℕ × List ℕ → Type 0
+IsHeld f = BytesAre memory f.0 f.1 × AreBeside f.0 (length f.1) addresses objects
+
 begins : Begins ground addresses begin world
 begins = record {
   laid = laid;
@@ -127,8 +160,8 @@ begins = record {
   none_taken = refl;
   next = refl;
   blocks = refl;
-  below = (omega arith, tt);
-  standing = λ i p e. placed i p e;
+  below = (omega arith, (omega arith, tt));
+  standing = ground_standing (program declarations) arguments statics texts ground ground_row;
   fixed = λ i f e. held i f e;
   fill = refl;
   input = refl;
@@ -136,21 +169,25 @@ begins = record {
   arguments = refl;
 }
   where
-    placed : (i : ℕ) (p : ℕ × ℕ) → slice_get ground.standing i ≡ Some p → slice_get addresses p.0 ≡ Some p.1
-    placed zero p e = subst (λ q. slice_get addresses q.0 ≡ Some q.1) (same_Some (0, 4096) p e) refl
-    placed (suc zero) p e = subst (λ q. slice_get addresses q.0 ≡ Some q.1) (same_Some (1, 4104) p e) refl
-    placed (suc (suc i)) p e = cc
-
-    mark : BytesAre memory 4200 (codes "!")
-    mark = record {
-      bytes = refl;
-      mapped = λ k l. all_mapped-each memory 4200 1 (4200 + k) refl (omega arith) (omega arith);
-      ends = omega arith;
+    stands : (at : ℕ) (bs : List ℕ) → bytes_at memory at (length bs) ≡ bs → all_mapped memory at (length bs) ≡ true →
+        at + length bs < 2 ^ 64 → BytesAre memory at bs
+    stands at bs e m l = record {
+      bytes = e;
+      mapped = λ k h. all_mapped-each memory at (length bs) (at + k) m (omega arith) (omega (arith, h));
+      ends = l;
     }
 
-    held : (i : ℕ) (f : ℕ × List ℕ) → slice_get ground.fixed i ≡ Some f → BytesAre memory f.0 f.1 × (4134 ≤ f.0)
-    held zero f e = subst (λ q. BytesAre memory q.0 q.1 × (4134 ≤ q.0)) (same_Some (4200, codes "!") f e) (mark, omega arith)
-    held (suc i) f e = cc
+    held : (i : ℕ) (f : ℕ × List ℕ) → slice_get ground.fixed i ≡ Some f → IsHeld f
+    held zero f e =
+        subst IsHeld (same_Some (2 ^ 36, record_of (2 ^ 36 + 48) (codes "a")) f e)
+        (stands (2 ^ 36) (record_of (2 ^ 36 + 48) (codes "a")) refl refl (omega arith), search rules)
+    held (suc zero) f e =
+        subst IsHeld (same_Some (2 ^ 36 + 24, record_of (2 ^ 36 + 49) (codes "xyz")) f e)
+        (stands (2 ^ 36 + 24) (record_of (2 ^ 36 + 49) (codes "xyz")) refl refl (omega arith), search rules)
+    held (suc (suc zero)) f e =
+        subst IsHeld (same_Some (4200, codes "!") f e)
+        (stands 4200 (codes "!") refl refl (omega arith), search rules)
+    held (suc (suc (suc i))) f e = cc
 
 start_row : (value : Values) → Related ground (map At addresses) begin world 0 value
 start_row value = start_related ground addresses begin world 0 value begins
@@ -170,3 +207,36 @@ of_none = main [] ∷ node kind.GlobalLet [] 0 void (absent ∷ absent ∷ absen
 -- the array is aligned as an int, and its slice as a pointer
 empty_array_row : map (λ s. s.1.align) (statics_of types of_none) ≡ 8 ∷ 4 ∷ []
 empty_array_row = refl
+
+-- ---- an array that becomes a slice
+
+-- the array of `let some: []u8 = [1, 2, 3, 4];`, of which the constant has the cells
+abbrev some_items : TypedNode
+some_items = to 7 bytes (numbered 7 (array four_bytes (n8 1 ∷ n8 2 ∷ n8 3 ∷ n8 4 ∷ [])))
+
+abbrev array_number : ℕ
+array_number = 2 * 2 ^ 32 + 7
+
+abbrev constant_of_some : Const
+constant_of_some =
+    constant.Known (pointer array_number ++ byte_cells (le_bytes 8 4) ++ byte_cells (le_bytes 8 4))
+    (record { object = array_number; cells = byte_cells (1 ∷ 2 ∷ 3 ∷ 4 ∷ []) } ∷ [])
+
+abbrev with_constant : Const → TypedNode → TypedNode
+with_constant v (marked h m ts) = marked h (record m { value = v }) ts
+
+abbrev of_some : List TypedNode
+of_some =
+    main (exit (index u8 (global 1 bytes) (num size 2)) ∷ [])
+    ∷ node kind.GlobalLet [] 0 void (absent ∷ absent ∷ absent ∷ with_constant constant_of_some some_items ∷ [])
+    ∷ []
+
+-- the global's words lead to it, and it may be stored to
+some_items_row : map (λ s. s.1) (statics_of types of_some)
+    ≡ record { cells = pointer 1 ++ byte_cells (le_bytes 8 4) ++ byte_cells (le_bytes 8 4); kind = Global; align = 8; alive = true }
+    ∷ record { cells = byte_cells (1 ∷ 2 ∷ 3 ∷ 4 ∷ []); kind = Global; align = 1; alive = true }
+    ∷ []
+some_items_row = refl
+
+element_of_some : outcome of_some 0 ≡ Exit 3
+element_of_some = refl

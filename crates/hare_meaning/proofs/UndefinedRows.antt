@@ -1,12 +1,15 @@
 -- Rows of undefined acts: each with its place, and which comes first where two apply.
-use Rattle.std.proofs.Common.{◌≡◌, ℕ, [], ◌∷◌, codes, refl}
+use Rattle.std.proofs.Common.{◌≡◌, ℕ, ◌+◌, ◌*◌, ◌^◌, [], ◌∷◌, ◌++◌, map, codes, refl}
 use Rattle.std.specs.Fmt.{digits}
 use Rattle.hare_tree.specs.declared.kind.Kind.TheVariants as kind
 use Rattle.hare_types.specs.declared.coercion.Ty.TheVariants as kept
+use Rattle.hx_base.specs.Memory.{le_bytes}
+use Rattle.hare_typed.specs.declared.cell.Cell.TheVariants as cell
+use Rattle.hare_typed.specs.Cells.{byte_cells}
 use Rattle.hare_typed.specs.Typed.{TypedNode}
 use Rattle.hare_typed.specs.State.{Undefined, Exit, Abort}
-use Rattle.hare_meaning.proofs.Samples.{void, bool, u8, int, size, pointer, nullable, byte_pointer, pointer_to_pointer, slice_pointer, pair_pointer, bytes, four_bytes, int_or_bool, new_int, new_bytes}
-use Rattle.hare_meaning.proofs.Trees.{place, at, to, of_type, absent, node, one, main, rt, text, block, giving, ends, result_of, exit, tell, bind, local, hand, set, set_by, loop, each, element, again, n8, num, equal, array, part, index, field, type_node, alloc, alloc_for, append, append_all, delete, free, sure, begun, program}
+use Rattle.hare_meaning.proofs.Samples.{void, bool, str, str_pointer, pair_pointer_pointer, u8, int, size, pointer, nullable, byte_pointer, pointer_to_pointer, slice_pointer, pair_pointer, bytes, four_bytes, int_or_bool, new_int, new_bytes}
+use Rattle.hare_meaning.proofs.Trees.{place, at, to, numbered, known, global, outcome, of_type, absent, node, one, main, rt, text, block, giving, ends, result_of, exit, tell, bind, local, hand, set, set_by, loop, each, element, again, n8, num, equal, array, part, index, field, type_node, alloc, alloc_for, append, append_all, delete, free, sure, begun, program}
 
 abbrev four : TypedNode
 four = array four_bytes (n8 1 ∷ n8 2 ∷ n8 3 ∷ n8 4 ∷ [])
@@ -86,11 +89,36 @@ deleted_from_a_freed_slice : ends (bind (freed_slice 1) ∷ at 7 (delete (index 
     ≡ Undefined 1 (place 7)
 deleted_from_a_freed_slice = refl
 
+-- what is followed, behind the first pointer
+through_a_dead_pointer : ends (bind (cast pair_pointer_pointer (dangling 1))
+    ∷ exit (at 7 (field u8 (codes "a") (local 0 pair_pointer_pointer))) ∷ []) 0 ≡ Undefined 1 (place 7)
+through_a_dead_pointer = refl
+
+-- a slice as a text of its bytes
+abbrev as_text : ℕ → TypedNode
+as_text x = deref str (cast str_pointer (address slice_pointer (local x bytes)))
+
+equality_of_a_freed_text : ends (bind (freed_slice 1) ∷ bind (at 7 (equal (text 0 (codes "abcd")) (as_text 0))) ∷ []) 0
+    ≡ Undefined 1 (place 7)
+equality_of_a_freed_text = refl
+
+-- of another length nothing is looked at
+freed_text_of_another_length : ends (bind (freed_slice 1) ∷ bind (at 7 (equal (text 0 (codes "abc")) (as_text 0))) ∷ exit (n8 1) ∷ []) 0
+    ≡ Exit 1
+freed_text_of_another_length = refl
+
 -- ---- U2: stores to constants
 
 -- the bytes of a text
 abbrev text_bytes : TypedNode
 text_bytes = rt 3 bytes (text 0 (codes "abcd") ∷ [])
+
+-- a slice of two bytes, with room for four, over an array of the global's value
+abbrev two_of_four : TypedNode
+two_of_four =
+    known (map (λ k. cell.Fragment (2 * 2 ^ 32 + 5) 0 k) (0 ∷ 1 ∷ 2 ∷ 3 ∷ 4 ∷ 5 ∷ 6 ∷ 7 ∷ [])
+    ++ byte_cells (le_bytes 8 2) ++ byte_cells (le_bytes 8 4))
+    (to 7 bytes (numbered 5 four))
 
 store_to_a_text : ends (at 7 (set (index u8 text_bytes (num size 0)) (n8 1)) ∷ []) 0 ≡ Undefined 2 (place 7)
 store_to_a_text = refl
@@ -107,6 +135,17 @@ input_of_that = refl
 
 deleted_from_a_text : ends (bind text_bytes ∷ at 7 (delete (index u8 (local 0 bytes) (num size 0))) ∷ []) 0 ≡ Undefined 2 (place 7)
 deleted_from_a_text = refl
+
+-- elements that are appended within the room: here behind two bytes of a text of four
+appended_to_a_text : ends (bind (part bytes text_bytes absent (num size 2)) ∷ bind (at 7 (append (local 0 bytes) (n8 9))) ∷ []) 0
+    ≡ Undefined 2 (place 7)
+appended_to_a_text = refl
+
+-- the words, behind the elements: those of a constant global
+appended_to_a_constant : outcome
+    (main (bind (at 7 (append_all (deref bytes (address slice_pointer (global 1 bytes))) (part bytes four absent (num size 1)))) ∷ [])
+    ∷ node kind.GlobalConst [] 0 void (absent ∷ absent ∷ absent ∷ two_of_four ∷ []) ∷ []) 0 ≡ Undefined 2 (place 7)
+appended_to_a_constant = refl
 
 -- ---- U3: cells that spell nothing
 
@@ -141,6 +180,13 @@ no_tag : ends (loop (bind (giving int_or_bool (again ∷ []))) (at 7 (node kind.
     ∷ []))) absent (block []) ∷ []) 1
     ≡ Undefined 3 (place 7)
 no_tag = refl
+
+-- fragments of a pointer as the bytes of a text
+equality_of_no_bytes : ends (bind (n8 1) ∷ bind (address byte_pointer (local 0 u8))
+    ∷ bind (part bytes (deref four_bytes (cast byte_pointer (address byte_pointer (local 1 byte_pointer)))) absent absent)
+    ∷ bind (at 7 (equal (text 0 (codes "abcd")) (as_text 2))) ∷ []) 0
+    ≡ Undefined 3 (place 7)
+equality_of_no_bytes = refl
 
 -- ---- U4: accesses at another alignment
 

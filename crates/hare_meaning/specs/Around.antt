@@ -1,5 +1,5 @@
 -- What stands round a node of a body: which bindings are in scope and what they are, where a jump may go, and what the function gives.
-use Rattle.std.specs.Prelude.{ℕ, zero, suc, ◌+◌, Bool, true, false, nat_eq, List, [], ◌∷◌, ◌++◌, length, Option, Some, None, if◌then◌else◌}
+use Rattle.std.specs.Prelude.{ℕ, zero, suc, ◌+◌, Bool, nat_eq, List, [], ◌∷◌, ◌++◌, length, Option, Some, None, if◌then◌else◌}
 use Rattle.hare_tree.specs.declared.kind.Kind.{Kind}
 use Rattle.hare_tree.specs.declared.kind.Kind.TheVariants as kind
 use Rattle.hare_types.specs.declared.coercion.Ty.{Ty}
@@ -35,21 +35,21 @@ bound_at (b ∷ bs) x = if nat_eq b.0 x then Some b.1 else bound_at bs x
 
 -- ---- where a jump may go
 
--- a loop; a block or a case, with the type of what it gives; a case has no label
+-- a loop; a block or a case, which has no label; each with the type of what it gives
 pub data Goal : Type 0 where
-  Loop : Label → Goal
+  Loop : Label → Ty → Goal
   Block : Label → Ty → Goal
 
--- whether a loop stands round the node to which a jump with the label goes
-abbrev pub has_loop : Label → List Goal → Bool
-has_loop l [] = false
-has_loop l (Loop own ∷ gs) = if is_meant own l then true else has_loop l gs
-has_loop l (Block own f ∷ gs) = has_loop l gs
+-- what the nearest loop gives to which a `break` or `continue` with the label goes
+abbrev pub loop_for : Label → List Goal → Option Ty
+loop_for l [] = None
+loop_for l (Loop own f ∷ gs) = if is_meant own l then Some f else loop_for l gs
+loop_for l (Block own f ∷ gs) = loop_for l gs
 
--- what the nearest block or case gives to which a `yield` with the label goes
+-- the same of the nearest block or case, and a `yield`
 abbrev pub block_for : Label → List Goal → Option Ty
 block_for l [] = None
-block_for l (Loop own ∷ gs) = block_for l gs
+block_for l (Loop own f ∷ gs) = block_for l gs
 block_for l (Block own f ∷ gs) = if is_meant own l then Some f else block_for l gs
 
 -- ---- what stands round a node
@@ -105,8 +105,8 @@ bound_for a t i _ = []
 
 -- what a node is to the jumps in its kid number i: a loop to all of its parts, and a case to its statements alone
 abbrev pub goals_for : TypedNode → ℕ → List Goal → Kind → List Goal
-goals_for t i gs kind.For = Loop (head_of t).text ∷ gs
-goals_for t i gs kind.ForEach = Loop (head_of t).text ∷ gs
+goals_for t i gs kind.For = Loop (head_of t).text (own_type t) ∷ gs
+goals_for t i gs kind.ForEach = Loop (head_of t).text (own_type t) ∷ gs
 goals_for t i gs kind.Block = Block (head_of t).text (own_type t) ∷ gs
 goals_for t zero gs kind.Case = gs
 goals_for t (suc i) gs kind.Case = Block [] (own_type t) ∷ gs

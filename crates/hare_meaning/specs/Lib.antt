@@ -12,8 +12,12 @@ pub mod Calls
 pub mod Forms
 pub mod Run
 pub mod Laws
+pub mod Each
+pub mod Within
 pub mod Related
+pub mod Ground
 pub mod Around
+pub mod SettledForm
 pub mod SettledTypes
 pub mod SettledValues
 pub mod SettledParts

@@ -2,9 +2,11 @@
 -- is in scope, where a jump goes, and which members of unions have tags. Nothing here asks how types are found: there are no hints, no faults and
 -- no rows of typing rules. So a tree that a checker found and one that was made of it by unwinding can both be settled, and whoever evaluates or
 -- lowers trees asks for this alone.
-use Rattle.std.specs.Prelude.{◌≡◌, ℕ, suc, Bool, true, false, length}
+use Rattle.std.specs.Prelude.{◌≡◌, ◌⊎◌, ℕ, suc, Bool, true, false, List, length, map}
 use Rattle.hare_tree.specs.declared.kind.Kind.{Kind}
 use Rattle.hare_tree.specs.declared.kind.Kind.TheVariants as kind
+use Rattle.hare_tree.specs.Forms.{expr}
+use Rattle.hare_typed.specs.Objects.{Object, Global, Constant}
 use Rattle.hare_typed.specs.Typed.{TypedNode, TypedNodes, marked, typed_none, typed_more}
 use Rattle.hare_typed.specs.Order.{kid_from_front}
 use Rattle.hare_typed.specs.Constants.{own_kind}
@@ -12,9 +14,13 @@ use Rattle.hare_typed.specs.Numbers.{parameters_of}
 use Rattle.hare_typed.specs.Given.{given}
 use Rattle.hare_typed.specs.Evaluated.{is_evaluated}
 use Rattle.hare_meaning.specs.Code.{Code, declaration}
+use Rattle.hare_meaning.specs.Steps.{is_void}
 use Rattle.hare_meaning.specs.Calls.{type_of_parameter}
 use Rattle.hare_meaning.specs.Around.{Around, around_kid, around_function, result_of_function}
-use Rattle.hare_meaning.specs.SettledTypes.{Each, IsMarked, IsAdmittedTy, is_sized}
+use Rattle.hare_meaning.specs.Within.{LeadsWithin}
+use Rattle.hare_meaning.specs.Each.{Each}
+use Rattle.hare_meaning.specs.SettledTypes.{IsMarked, IsAdmittedTy, is_sized}
+use Rattle.hare_meaning.specs.SettledForm.{is_of, has_form}
 use Rattle.hare_meaning.specs.SettledValues as v
 use Rattle.hare_meaning.specs.SettledParts as p
 use Rattle.hare_meaning.specs.SettledControl as c
@@ -44,7 +50,7 @@ IsKind a t kind.Size = v.IsMeasure a.code.types t
 IsKind a t kind.Align = v.IsMeasure a.code.types t
 IsKind a t kind.Len = v.IsLength a.code.types t
 IsKind a t kind.StructLit = v.IsStructLiteral a.code.types t
-IsKind a t kind.FieldValue = v.IsFieldValue t
+IsKind a t kind.FieldValue = Unit {0}
 IsKind a t kind.Tuple = v.IsTupleLiteral a.code.types t
 IsKind a t kind.Array = v.IsArrayLiteral a.code.types t
 IsKind a t kind.Call = v.IsCall a.code t
@@ -71,8 +77,8 @@ IsKind a t kind.Assert = c.IsAssert a.code.types t
 IsKind a t kind.If = c.IsIf a.code.types t
 IsKind a t kind.For = c.IsFor a.code.types t
 IsKind a t kind.ForEach = c.IsForEach a.code.types t
-IsKind a t kind.Break = c.IsLoopJump a t
-IsKind a t kind.Continue = c.IsLoopJump a t
+IsKind a t kind.Break = c.IsBreak a t
+IsKind a t kind.Continue = c.IsContinue a t
 IsKind a t kind.Yield = c.IsYield a t
 IsKind a t kind.Return = c.IsReturn a t
 IsKind a t kind.Block = c.IsBlock a.code.types t
@@ -144,7 +150,11 @@ by_use Ignores whole parts = Unit {0}
 
 abbrev mutual
   pub IsSettled : Around → TypedNode → Type 0
-  IsSettled a (marked h m ts) = IsMarked a.code.types m × IsKind a (marked h m ts) h.kind × AreSettled a (marked h m ts) h.kind 0 ts
+  IsSettled a (marked h m ts) =
+      IsMarked a.code.types m
+      × IsKind a (marked h m ts) h.kind
+      × (has_form (marked h m ts) ≡ true)
+      × AreSettled a (marked h m ts) h.kind 0 ts
 
   -- the kids of a node, from number i on
   pub AreSettled : Around → TypedNode → Kind → ℕ → TypedNodes → Type 0
@@ -157,16 +167,25 @@ abbrev mutual
 
 -- ---- a program
 
--- Types of values have sizes; the body gives the result, and is settled where it stands.
+-- Types of values have sizes; the body is an expression that gives the result, and is settled where it stands.
 pub record IsSettledFunction (c : Code) (d : ℕ) : Type 0 where
   pub result : IsAdmittedTy c.types (result_of_function (declaration c.declarations d))
   pub parameters : Each (λ p. IsAdmittedTy c.types (type_of_parameter p)) (parameters_of (declaration c.declarations d))
   pub sized : Each (λ p. is_sized c.types (type_of_parameter p) ≡ true) (parameters_of (declaration c.declarations d))
+  pub expression : is_of expr (own_kind (kid_from_front 4 (declaration c.declarations d))) ≡ true
   pub gives : given (kid_from_front 4 (declaration c.declarations d)) ≡ result_of_function (declaration c.declarations d)
   pub body : IsSettled (around_function c d) (kid_from_front 4 (declaration c.declarations d))
 
--- Each function of the code is settled, and a run begins with one that takes nothing.
+-- an object that stands from the start with these: neither a scope nor `free` ends it, and its pointers lead within them
+pub record IsStatic (objects : List Object) (o : Object) : Type 0 where
+  pub alive : o.alive ≡ true
+  pub kind : (o.kind ≡ Global) ⊎ (o.kind ≡ Constant)
+  pub leads : Each (LeadsWithin objects) o.cells
+
+-- Each function of the code is settled, and a run begins with one that takes nothing and gives nothing.
 pub record IsSettledCode (c : Code) : Type 0 where
   pub functions : (d : ℕ) → own_kind (declaration c.declarations d) ≡ kind.Fn → IsSettledFunction c d
+  pub statics : Each (λ s. IsStatic (map (λ s. s.1) c.statics) s.1) c.statics
   pub entry : own_kind (declaration c.declarations c.entry) ≡ kind.Fn
   pub no_parameters : length (parameters_of (declaration c.declarations c.entry)) ≡ 0
+  pub no_result : is_void c.types (result_of_function (declaration c.declarations c.entry)) ≡ true

@@ -1,5 +1,5 @@
 -- What a settled tree says of types, and of a node's own type and coercion.
-use Rattle.std.specs.Prelude.{◌≡◌, ℕ, ◌<◌, ◌≤◌, ℤ, Bool, true, false, ◌||◌, length, Option, Some, None, is_some, option_and_then, IsSome, List, [], ◌∷◌}
+use Rattle.std.specs.Prelude.{◌≡◌, ℕ, ◌<◌, ◌≤◌, ◌^◌, ℤ, Bool, true, false, ◌||◌, length, Option, Some, None, is_some, option_and_then, IsSome}
 use Rattle.hare_types.specs.declared.row.Row.{Row}
 use Rattle.hare_types.specs.declared.row.Row.TheVariants as row
 use Rattle.hare_types.specs.declared.row.Scalar.{Scalar as Keyword}
@@ -15,25 +15,28 @@ use Rattle.hare_typed.specs.Arithmetic.{same_number}
 use Rattle.hare_typed.specs.Given.{base_row}
 use Rattle.hare_typed.specs.Shapes.{shape_of_row}
 use Rattle.hare_typed.specs.Unions.{union_members}
+use Rattle.hare_typed.specs.Coercions.{length_of_row}
 use Rattle.hare_typed.specs.ConstantForms.{is_iconst, is_whole}
+use Rattle.hare_meaning.specs.Each.{Each}
 use Rattle.hare_meaning.specs.Steps.{void_type}
-
--- so it is of each
-abbrev pub Each : {A : Type 0} → (A → Type 0) → List A → Type 0
-Each P [] = Unit {0}
-Each P (x ∷ xs) = P x × Each P xs
 
 -- ---- sizes that are admitted
 
 abbrev pub most_bytes : ℕ
 most_bytes = 67108864
 
--- The type is in the store, and what it is named is followed to an end; where its values have a size it is known, and not too large.
+-- how many items an array has that is the base of the type
+abbrev pub items_at : Store → ℕ → ℕ
+items_at s t = length_of_row (base_row s (kept.Of t))
+
+-- The type is in the store, and what it is named is followed to an end; where its values have a size it is known, and not too large. Nor has
+-- an array too many items, also where they take no bytes.
 pub record IsAdmitted (s : Store) (t : ℕ) : Type 0 where
   pub within : t < length s.rows
   pub base : IsSome (base_at s t)
   pub known : has_size_at s t ≡ true → IsSome (extent_at s t)
   pub small : size_at s t ≤ most_bytes
+  pub short : items_at s t ≤ most_bytes
 
 -- a whole number without a suffix, null and an array of no items have no type of which that could be asked
 abbrev pub IsAdmittedTy : Store → Ty → Type 0
@@ -49,6 +52,16 @@ is_sized s (kept.Iconst v) = false
 is_sized s kept.Null = false
 is_sized s kept.Empty = false
 
+-- values of the type have a size, which is admitted
+pub record HasValues (s : Store) (t : ℕ) : Type 0 where
+  pub admitted : IsAdmitted s t
+  pub sized : has_size_at s t ≡ true
+
+-- there is a type of which that is so: of elements, and of what is reached
+abbrev pub AreValues : Store → Option ℕ → Type 0
+AreValues s None = ⊥
+AreValues s (Some t) = HasValues s t
+
 -- ---- a node's own type and coercion
 
 -- The coercion goes by the first row of the table of assignability that admits the value to the type. What has no type stays what it is.
@@ -58,9 +71,14 @@ Joins s f r (kept.Iconst v) = (f ≡ kept.Iconst v) × (r ≡ 1)
 Joins s f r kept.Null = (f ≡ kept.Null) × (r ≡ 1)
 Joins s f r kept.Empty = (f ≡ kept.Empty) × (r ≡ 1)
 
--- each member of the union that is the base of the type has a tag
+-- a type has a tag, which four bytes hold
+abbrev pub IsTag : Option ℕ → Type 0
+IsTag None = ⊥
+IsTag (Some k) = k < 2 ^ 32
+
+-- each member of the union that is the base of the type has one
 abbrev pub AreListed : Store → Ty → Type 0
-AreListed s (kept.Of t) = Each (λ m. IsSome (tag_at s m)) (union_members s t)
+AreListed s (kept.Of t) = Each (λ m. IsTag (tag_at s m)) (union_members s t)
 AreListed s (kept.Iconst v) = Unit {0}
 AreListed s kept.Null = Unit {0}
 AreListed s kept.Empty = Unit {0}

@@ -1,5 +1,5 @@
 -- What a settled tree says of literals, paths, operators, literals of parts, and calls. In each, t is the node.
-use Rattle.std.specs.Prelude.{◌≡◌, ◌⊎◌, ℕ, zero, suc, ◌+◌, ◌^◌, ◌<◌, ◌≤◌, pos, Bool, true, false, ◌||◌, nat_eq, List, length, map, take, drop, position, slice_get, Option, Some, None, option_map, unwrap_or, IsSome, []}
+use Rattle.std.specs.Prelude.{◌≡◌, ◌⊎◌, ℕ, zero, suc, ◌+◌, ◌^◌, ◌<◌, ◌≤◌, pos, Bool, true, false, ◌||◌, nat_eq, List, length, map, take, drop, slice_get, Option, Some, None, option_map, unwrap_or, IsSome, []}
 use Rattle.std.specs.Map.{lookup}
 use Rattle.hare_tree.specs.declared.kind.Kind.TheVariants as kind
 use Rattle.hare_tree.specs.declared.token.Meaning.{Meaning}
@@ -16,12 +16,15 @@ use Rattle.hare_typed.specs.declared.constant.Const.{Const}
 use Rattle.hare_typed.specs.declared.constant.Const.TheVariants as constant
 use Rattle.hare_typed.specs.Typed.{TypedNode, Mark, head_of, mark_of, kids_of, listed_nodes}
 use Rattle.hare_typed.specs.Order.{kid_from_front}
-use Rattle.hare_typed.specs.Constants.{own_kind}
+use Rattle.hare_typed.specs.Constants.{is_known, own_kind}
 use Rattle.hare_typed.specs.Constancy.{names_void}
 use Rattle.hare_typed.specs.Numbers.{parameters_of}
 use Rattle.hare_typed.specs.Weight.{count, items_of}
 use Rattle.hare_typed.specs.Given.{given, base_row, pointee, element, size_in, is_str}
 use Rattle.hare_typed.specs.Evaluated.{names_object}
+use Rattle.hare_typed.specs.Answers.{Gives}
+use Rattle.hare_typed.specs.Shapes.{align_in}
+use Rattle.hare_typed.specs.Unions.{checked}
 use Rattle.hare_typed.specs.Objects.{Object}
 use Rattle.hare_typed.specs.Coercions.{length_of_row}
 use Rattle.hare_typed.specs.ConstantForms.{own_type, type_of_kid, id_in, is_iconst, is_array_row, fields_from, counted_from, has_dots}
@@ -29,7 +32,9 @@ use Rattle.hare_meaning.specs.Code.{Code, declaration, value_of, number_of_stati
 use Rattle.hare_meaning.specs.Steps.{is_void}
 use Rattle.hare_meaning.specs.Calls.{arguments_of, type_of_parameter}
 use Rattle.hare_meaning.specs.Around.{Around, Bound, Holds, PointsTo, bound_at, result_of_function}
-use Rattle.hare_meaning.specs.SettledTypes.{Each, is_word, is_integer, is_numeric, is_counting, fits_number, is_sized, is_never, is_address, slice}
+use Rattle.hare_meaning.specs.Within.{LeadsInto}
+use Rattle.hare_meaning.specs.Each.{Each}
+use Rattle.hare_meaning.specs.SettledTypes.{IsAdmittedTy, is_word, is_integer, is_numeric, is_counting, fits_number, is_sized, is_never, is_address, slice}
 
 abbrev pub store_of : Around → Store
 store_of a = a.code.types
@@ -42,30 +47,24 @@ kids_in t = count (kids_of t)
 
 -- its type can be this number
 pub record IsNumber (s : Store) (t : TypedNode) : Type 0 where
-  pub kids : kids_in t ≡ 0
   pub fits : fits_number s (pos (head_of t).number) (own_type t) ≡ true
 
 pub record IsRune (s : Store) (t : TypedNode) : Type 0 where
-  pub kids : kids_in t ≡ 0
   pub rune : is_word keyword.Rune s (own_type t) ≡ true
   pub small : (head_of t).number < 2 ^ 32
 
 pub record IsTruth (s : Store) (t : TypedNode) : Type 0 where
-  pub kids : kids_in t ≡ 0
   pub bool : is_word keyword.Bool s (own_type t) ≡ true
 
 -- its bytes stand from the start, under the number that its node has among the objects of constants
 pub record IsText (a : Around) (t : TypedNode) : Type 0 where
-  pub kids : kids_in t ≡ 0
   pub str : is_str (store_of a) (own_type t) ≡ true
   pub stands : lookup (nat_eq (number_of_static a.own t)) a.code.statics ≡ Some (text_object t)
 
 pub record IsNull (t : TypedNode) : Type 0 where
-  pub kids : kids_in t ≡ 0
   pub null : own_type t ≡ kept.Null
 
 pub record IsVoid (s : Store) (t : TypedNode) : Type 0 where
-  pub kids : kids_in t ≡ 0
   pub void : is_void s (own_type t) ≡ true
 
 -- ---- paths
@@ -76,44 +75,60 @@ IsBoundAs s f None = ⊥
 IsBoundAs s f (Some (Holds g)) = f ≡ g
 IsBoundAs s f (Some (PointsTo x)) = pointee s f ≡ Some x
 
--- each pointer among the cells leads to an object that stands from the start
+-- a pointer of which the cell is a part leads within an object that stands from the start
 abbrev pub Leads : List (ℕ × Object) → Cell → Type 0
 Leads ss (cell.Byte b) = Unit {0}
-Leads ss (cell.Fragment o d k) = IsSome (position (λ s. nat_eq s.0 o) ss)
+Leads ss (cell.Fragment o d k) = LeadsInto d (lookup (nat_eq o) ss)
 Leads ss cell.Undef = Unit {0}
+
+-- cells are a value of the type where it is scalar: they spell one
+abbrev pub Spells : Store → Ty → List Cell → Type 0
+Spells s (kept.Of t) cs = checked s t cs ≡ Gives cs
+Spells s (kept.Iconst v) cs = Unit {0}
+Spells s kept.Null cs = Unit {0}
+Spells s kept.Empty cs = Unit {0}
 
 -- the cells of a constant are a value of the type
 pub record IsConstantOf (c : Code) (f : Ty) (v : Const) : Type 0 where
   pub whole : length (cells_of_constant v) ≡ size_in c.types f
+  pub spelled : Spells c.types f (cells_of_constant v)
   pub leads : Each (Leads c.statics) (cells_of_constant v)
+
+-- an object has the size and the alignment of the type
+pub record IsObjectOf (s : Store) (f : Ty) (o : Object) : Type 0 where
+  pub whole : length o.cells ≡ size_in s f
+  pub aligned : o.align ≡ align_in s f
+
+abbrev pub Stands : Store → Ty → Option Object → Type 0
+Stands s f None = ⊥
+Stands s f (Some o) = IsObjectOf s f o
 
 -- a global stands from the start, and has the type of its value
 pub record IsGlobal (c : Code) (d : ℕ) (f : Ty) : Type 0 where
   pub kind : is_global (own_kind (declaration c.declarations d)) ≡ true
   pub ty : f ≡ given (value_of (declaration c.declarations d))
-  pub stands : IsSome (lookup (nat_eq d) c.statics)
+  pub stands : Stands c.types f (lookup (nat_eq d) c.statics)
 
--- a path to a def has its constant, one to a type of base void has nothing, and any other to a declaration means a global
+-- a path to a def has its constant, one to a type of base void has nothing, and any other to a declaration means a global; one to a local has none
 abbrev pub IsDeclared : Code → ℕ → Mark → Bool → Const → Type 0
 IsDeclared c d m true v = IsGlobal c d m.ty
 IsDeclared c d m false constant.Absent = names_void c.types m.meaning m.ty ≡ true
 IsDeclared c d m false (constant.Known cs os) = IsConstantOf c m.ty (constant.Known cs os)
 
 abbrev pub IsMeant : Around → Mark → Meaning → Type 0
-IsMeant a m (meant.Local x) = IsBoundAs (store_of a) m.ty (bound_at a.bindings x)
+IsMeant a m (meant.Local x) = IsBoundAs (store_of a) m.ty (bound_at a.bindings x) × (is_known m.value ≡ false)
 IsMeant a m (meant.Decl d) = IsDeclared a.code d m (names_object (store_of a) m) m.value
 IsMeant a m (meant.Rt f) = ⊥
 IsMeant a m meant.None = ⊥
 
 pub record IsPath (a : Around) (t : TypedNode) : Type 0 where
-  pub kids : kids_in t ≡ 0
+  pub sized : is_sized (store_of a) (own_type t) ≡ true
   pub meant : IsMeant a (mark_of t) (mark_of t).meaning
 
 -- ---- operators
 
 -- what stands in it, as it is
 pub record IsParen (t : TypedNode) : Type 0 where
-  pub kids : kids_in t ≡ 1
   pub same : own_type t ≡ type_of_kid 0 t
 
 -- both are whole numbers without a suffix, or one integer type
@@ -122,22 +137,18 @@ AreOneInteger s f g = ((is_iconst f ≡ true) × (is_iconst g ≡ true)) ⊎ ((f
 
 -- `-` and `~`
 pub record IsUnary (s : Store) (t : TypedNode) : Type 0 where
-  pub kids : kids_in t ≡ 1
   pub number : AreOneInteger s (own_type t) (type_of_kid 0 t)
 
 pub record IsBang (s : Store) (t : TypedNode) : Type 0 where
-  pub kids : kids_in t ≡ 1
   pub bool : is_word keyword.Bool s (own_type t) ≡ true
   pub same : own_type t ≡ type_of_kid 0 t
 
 pub record IsArith (s : Store) (t : TypedNode) : Type 0 where
-  pub kids : kids_in t ≡ 2
   pub left : AreOneInteger s (own_type t) (type_of_kid 0 t)
   pub right : AreOneInteger s (own_type t) (type_of_kid 1 t)
 
 -- how far is shifted is a number of any integer type
 pub record IsShift (s : Store) (t : TypedNode) : Type 0 where
-  pub kids : kids_in t ≡ 2
   pub left : AreOneInteger s (own_type t) (type_of_kid 0 t)
   pub right : is_counting s (type_of_kid 1 t) ≡ true
 
@@ -146,27 +157,23 @@ abbrev pub AreOneNumber : Store → Ty → Ty → Type 0
 AreOneNumber s f g = ((is_iconst f ≡ true) × (is_iconst g ≡ true)) ⊎ ((f ≡ g) × (is_numeric s f ≡ true))
 
 pub record IsLess (s : Store) (t : TypedNode) : Type 0 where
-  pub kids : kids_in t ≡ 2
   pub bool : is_word keyword.Bool s (own_type t) ≡ true
   pub ordered : AreOneNumber s (type_of_kid 0 t) (type_of_kid 1 t)
 
 -- numbers, or one type whose base is bool, str, a pointer or a nullable one
 pub record IsEqual (s : Store) (t : TypedNode) : Type 0 where
-  pub kids : kids_in t ≡ 2
   pub bool : is_word keyword.Bool s (own_type t) ≡ true
   pub equal : AreOneNumber s (type_of_kid 0 t) (type_of_kid 1 t)
       ⊎ ((type_of_kid 0 t ≡ type_of_kid 1 t)
       × ((is_word keyword.Bool s (type_of_kid 0 t) || is_str s (type_of_kid 0 t) || is_address s (type_of_kid 0 t)) ≡ true))
 
 pub record IsLogic (s : Store) (t : TypedNode) : Type 0 where
-  pub kids : kids_in t ≡ 2
   pub bool : is_word keyword.Bool s (own_type t) ≡ true
   pub left : own_type t ≡ type_of_kid 0 t
   pub right : own_type t ≡ type_of_kid 1 t
 
 -- to the type that is written: a value that has it already, a number as a number, or an address as an address
 pub record IsCast (s : Store) (t : TypedNode) : Type 0 where
-  pub kids : kids_in t ≡ 2
   pub to : own_type t ≡ type_of_kid 1 t
   pub from : (own_type t ≡ type_of_kid 0 t)
       ⊎ (((is_numeric s (own_type t) ≡ true) × (is_numeric s (type_of_kid 0 t) ≡ true))
@@ -174,13 +181,12 @@ pub record IsCast (s : Store) (t : TypedNode) : Type 0 where
 
 -- of a type that has a size
 pub record IsMeasure (s : Store) (t : TypedNode) : Type 0 where
-  pub kids : kids_in t ≡ 1
+  pub admitted : IsAdmittedTy s (type_of_kid 0 t)
   pub size : is_word keyword.Size s (own_type t) ≡ true
   pub sized : is_sized s (type_of_kid 0 t) ≡ true
 
 -- of an array, a slice or a text
 pub record IsLength (s : Store) (t : TypedNode) : Type 0 where
-  pub kids : kids_in t ≡ 1
   pub size : is_word keyword.Size s (own_type t) ≡ true
   pub counted : IsSome (element s (type_of_kid 0 t)) ⊎ (is_str s (type_of_kid 0 t) ≡ true)
 
@@ -204,15 +210,14 @@ types_given s t =
     let ts = parts_in s (own_type t) in
     map (λ n. option_map kept.Of (slice_get ts n)) (fields_from s (own_type t) 1 (length ts) t)
 
--- its path, a value for each field, and a comma or none; what is given to a field has the field's type
+-- a value for each field; what is given to a field has the field's type
 pub record IsStructLiteral (s : Store) (t : TypedNode) : Type 0 where
   pub fields : IsSome (fields_at s (id_in (own_type t)))
   pub kids : kids_in t ≡ length (parts_in s (own_type t)) + 2
-  pub values : Each (λ v. own_kind v ≡ kind.FieldValue) (kids_between 1 (length (parts_in s (own_type t))) t)
   pub typed : map (λ v. Some (type_of_kid 0 v)) (kids_between 1 (length (parts_in s (own_type t))) t) ≡ types_given s t
   pub once : AreAll (fields_from s (own_type t) 1 (length (parts_in s (own_type t))) t) (length (parts_in s (own_type t)))
 
--- a value for each component, and a comma or none
+-- a value for each component
 pub record IsTupleLiteral (s : Store) (t : TypedNode) : Type 0 where
   pub components : IsSome (fields_at s (id_in (own_type t)))
   pub kids : kids_in t ≡ length (parts_in s (own_type t)) + 1
@@ -236,12 +241,7 @@ ItemsFit s t (Some x) =
     × (is_array_row (base_row s (own_type t)) ≡ true)
 
 pub record IsArrayLiteral (s : Store) (t : TypedNode) : Type 0 where
-  pub kids : 2 ≤ kids_in t
   pub items : ItemsFit s t (element s (own_type t))
-
--- a field and its value
-pub record IsFieldValue (t : TypedNode) : Type 0 where
-  pub kids : kids_in t ≡ 1
 
 -- ---- calls
 
@@ -281,8 +281,7 @@ IsCalled c t (meant.Rt f) = IsRuntimeCall c.types f (arguments_of t) (type_of_ki
 IsCalled c t (meant.Local x) = ⊥
 IsCalled c t meant.None = ⊥
 
--- the path of what is called, the arguments, and a comma or none
+-- what is called is named by a path
 pub record IsCall (c : Code) (t : TypedNode) : Type 0 where
-  pub kids : 2 ≤ kids_in t
   pub callee : own_kind (kid_from_front 0 t) ≡ kind.Path
   pub called : IsCalled c t (mark_of (kid_from_front 0 t)).meaning

@@ -1,5 +1,5 @@
 -- The start of a run: objects that are laid out one behind another.
-use Rattle.std.proofs.Common.{◌≡◌, ◌≢◌, ℕ, zero, suc, ◌+◌, ◌-◌, ◌%◌, ◌^◌, ◌<◌, ◌≤◌, List, [], ◌∷◌, map, length, Option, Some, None, refl, ap, sym, ◌∙◌, subst, arith, ◌⊎◌, inl, inr, Bool, true}
+use Rattle.std.proofs.Common.{◌≡◌, ◌≢◌, ℕ, zero, suc, ◌+◌, ◌-◌, ◌%◌, ◌^◌, ◌<◌, ◌≤◌, List, [], ◌∷◌, ◌++◌, map, length, Option, Some, None, refl, ap, sym, ◌∙◌, subst, arith, ◌⊎◌, inl, inr, Bool, true}
 use Rattle.std.specs.Prelude.{slice_get}
 use Rattle.std.proofs.lemmas.Option.{slice_get_within}
 use Rattle.std.proofs.lemmas.Bool.{cases_lt}
@@ -9,8 +9,24 @@ use Rattle.hx_base.proofs.MemoryLemmas.{all_mapped-each, slice_get-bytes_at, in_
 use Rattle.hare_typed.specs.declared.cell.Cell.{Cell}
 use Rattle.hare_typed.specs.Objects.{Object, Heap, extent_of}
 use Rattle.hare_typed.specs.State.{State}
+use Rattle.std.specs.List.{enumerate_from}
+use Rattle.hare_meaning.specs.Code.{Code}
+use Rattle.hare_meaning.specs.Ground.{argument_addresses, IsGroundOf}
 use Rattle.hare_meaning.specs.Related.{Standing, At, Temp, Places, IsLive, Covered, Agrees, Match, BytesAre, Ground, Values, objects_in, Related}
 use Rattle.hare_meaning.proofs.Related.Cells.{Inside, inside, before, behind, inside_of, match_get, IsPlaced}
+
+-- so many bytes stand beside each of some objects
+abbrev pub AreBeside : (at bytes : ℕ) → List ℕ → List Object → Type 0
+AreBeside b n [] xs = Unit {0}
+AreBeside b n (a ∷ ats) [] = Unit {0}
+AreBeside b n (a ∷ ats) (x ∷ xs) = ((b + n ≤ a) ⊎ (a + extent_of x ≤ b)) × AreBeside b n ats xs
+
+pub beside_at : (b n : ℕ) (ats : List ℕ) (xs : List Object) (o a : ℕ) (x : Object) → AreBeside b n ats xs →
+    slice_get ats o ≡ Some a → slice_get xs o ≡ Some x → (b + n ≤ a) ⊎ (a + extent_of x ≤ b)
+beside_at b n [] xs o a x h e f = cc
+beside_at b n (c ∷ ats) [] o a x h e f = cc
+beside_at b n (c ∷ ats) (y ∷ xs) zero a x h e f = let p : c ≡ a = cc in let q : y ≡ x = cc in rw (← p, ← q) h.0
+beside_at b n (c ∷ ats) (y ∷ xs) (suc o) a x h e f = beside_at b n ats xs o a x h.1 e f
 
 -- an object stands at an address, which is at least so much
 pub record StandsAt (ps : Places) (m : Memory) (low a : ℕ) (x : Object) : Type 0 where
@@ -26,12 +42,6 @@ AreLaid ps m low [] [] = Unit {0}
 AreLaid ps m low [] (x ∷ xs) = ⊥
 AreLaid ps m low (a ∷ ats) [] = ⊥
 AreLaid ps m low (a ∷ ats) (x ∷ xs) = StandsAt ps m low a x × AreLaid ps m (a + extent_of x) ats xs
-
--- one behind the last of them
-abbrev pub end_of : ℕ → List ℕ → List Object → ℕ
-end_of low (a ∷ ats) (x ∷ xs) = end_of (a + extent_of x) ats xs
-end_of low (a ∷ ats) [] = low
-end_of low [] xs = low
 
 pub laid_lengths : (ps : Places) (m : Memory) (low : ℕ) (ats : List ℕ) (xs : List Object) → AreLaid ps m low ats xs → length ats ≡ length xs
 laid_lengths ps m low [] [] h = refl
@@ -77,25 +87,6 @@ laid_apart ps m low (c ∷ ats) (y ∷ xs) zero (suc p) a b x h l e f g =
 laid_apart ps m low (c ∷ ats) (y ∷ xs) (suc o) (suc p) a b x h l e f g =
     laid_apart ps m (c + extent_of y) ats xs o p a b x h.1 (omega arith) e f g
 
-pub laid_end : (ps : Places) (m : Memory) (low : ℕ) (ats : List ℕ) (xs : List Object) → AreLaid ps m low ats xs → low ≤ end_of low ats xs
-laid_end ps m low [] [] h = omega arith
-laid_end ps m low [] (x ∷ xs) h = absurd h
-laid_end ps m low (a ∷ ats) [] h = absurd h
-laid_end ps m low (a ∷ ats) (x ∷ xs) h =
-    let l = h.0.at_least in
-    let k = laid_end ps m (a + extent_of x) ats xs h.1 in
-    omega (arith, l, k)
-
-pub laid_within : (ps : Places) (m : Memory) (low : ℕ) (ats : List ℕ) (xs : List Object) (o a : ℕ) (x : Object) → AreLaid ps m low ats xs →
-    slice_get ats o ≡ Some a → slice_get xs o ≡ Some x → a + extent_of x ≤ end_of low ats xs
-laid_within ps m low [] xs o a x h e f = cc
-laid_within ps m low (b ∷ ats) [] o a x h e f = cc
-laid_within ps m low (b ∷ ats) (y ∷ xs) zero a x h e f =
-    let p : b ≡ a = cc in
-    let q : y ≡ x = cc in
-    rw (← p, ← q) (laid_end ps m (b + extent_of y) ats xs h.1)
-laid_within ps m low (b ∷ ats) (y ∷ xs) (suc o) a x h e f = laid_within ps m (b + extent_of y) ats xs o a x h.1 e f
-
 pub get_none : {A : Type 0} (xs : List A) (i : ℕ) → slice_get xs i ≡ None → length xs ≤ i
 get_none [] i e = omega arith
 get_none (x ∷ xs) zero e = cc
@@ -126,8 +117,25 @@ mapped_below n (r ∷ rs) a h e = pick (inside_of r.at r.bytes a) (mapped_below 
     pick (before l) go = go (let f = rw (in_range-outside r.at r.bytes a (inl l)) at e in f)
     pick (behind l) go = go (let f = rw (in_range-outside r.at r.bytes a (inr l)) at e in f)
 
+-- what is numbered, by its number
+pub enumerated : (n i : ℕ) (xs : List ℕ) (p : ℕ × ℕ) → slice_get (enumerate_from n xs) i ≡ Some p →
+    (p.0 ≡ n + i) × (slice_get xs i ≡ Some p.1)
+enumerated n i [] p e = cc
+enumerated n zero (x ∷ xs) p e = let f : (n, x) ≡ p = cc in subst (λ q. (q.0 ≡ n + 0) × (Some x ≡ Some q.1)) f (omega arith, refl)
+enumerated n (suc i) (x ∷ xs) p e = let h = enumerated (n + 1) i xs p e in let f = h.0 in (omega (arith, f), h.1)
+
+-- objects that stand from the start, by their numbers
+pub ground_standing : (c : Code) (args : List (List ℕ)) (statics : List ℕ) (texts : List (ℕ × List ℕ)) (g : Ground) →
+    IsGroundOf c args statics texts g → (i : ℕ) (p : ℕ × ℕ) → slice_get g.standing i ≡ Some p →
+    slice_get (statics ++ argument_addresses args) p.0 ≡ Some p.1
+ground_standing c args statics texts g h i p e =
+    let f = enumerated 0 i (statics ++ argument_addresses args) p (rw (← h.standing) e) in
+    let m = f.0 in
+    let n : p.0 ≡ i = omega (arith, m) in
+    rw n f.1
+
 module _ (ground : Ground) where
-  -- a run begins: nothing was taken from the heap, and what is fixed lies behind the objects
+  -- a run begins: nothing was taken from the heap, and what is fixed lies beside the objects
   pub record Begins (ats : List ℕ) (s : State) (w : World) : Type 0 where
     pub laid : AreLaid (map At ats) w.memory 1 ats (objects_in s)
     pub unnamed : s.memory.objects.named ≡ []
@@ -138,7 +146,7 @@ module _ (ground : Ground) where
     pub below : EndBelow heap_start w.memory.mappings
     pub standing : (i : ℕ) (p : ℕ × ℕ) → slice_get ground.standing i ≡ Some p → slice_get ats p.0 ≡ Some p.1
     pub fixed : (i : ℕ) (f : ℕ × List ℕ) → slice_get ground.fixed i ≡ Some f →
-        BytesAre w.memory f.0 f.1 × (end_of 1 ats (objects_in s) ≤ f.0)
+        BytesAre w.memory f.0 f.1 × AreBeside f.0 (length f.1) ats (objects_in s)
     pub fill : w.memory.fill ≡ ground.fill
     pub input : s.input ≡ w.input
     pub output : s.output ≡ w.output
@@ -164,7 +172,7 @@ module _ (ground : Ground) where
     heap_apart = rw h.blocks tt;
     live = h.none_live ∙ ap live_bytes (sym h.blocks);
     fixed_hold = λ i f e. (h.fixed i f e).0;
-    fixed_apart = λ i k o f e l c. behind_all k o f (h.fixed i f e).1 c (at_map ats o (At c.from) c.at);
+    fixed_apart = λ i k o f e l c. beside_all k o f l (h.fixed i f e).1 c (at_map ats o (At c.from) c.at);
     fill = h.fill;
     input = h.input;
     output = h.output;
@@ -256,9 +264,10 @@ module _ (ground : Ground) where
               let high = get_none ats o f in
               omega (arith, low, high, lengths)
 
-      behind_all : (k o : ℕ) (f : ℕ × List ℕ) → end_of 1 ats (objects_in s) ≤ f.0 → (c : Covered ps (objects_in s) o (f.0 + k)) →
-          (b : ℕ) × (slice_get ats o ≡ Some b) × (At c.from ≡ At b) → ⊥
-      behind_all k o f l c b =
-          let low = laid_within ps w.memory 1 ats (objects_in s) o c.from c.x h.laid (address_of o c.from b) c.live.0 in
-          let i = c.is in let j = c.within in
-          omega (arith, low, i, j, l)
+      beside_all : (k o : ℕ) (f : ℕ × List ℕ) → k < length f.1 → AreBeside f.0 (length f.1) ats (objects_in s) →
+          (c : Covered ps (objects_in s) o (f.0 + k)) → (b : ℕ) × (slice_get ats o ≡ Some b) × (At c.from ≡ At b) → ⊥
+      beside_all k o f l h c b = pick (beside_at f.0 (length f.1) ats (objects_in s) o c.from c.x h (address_of o c.from b) c.live.0)
+        where
+          pick : (f.0 + length f.1 ≤ c.from) ⊎ (c.from + extent_of c.x ≤ f.0) → ⊥
+          pick (inl m) = let i = c.is in omega (arith, m, l, i)
+          pick (inr m) = let i = c.is in let j = c.within in omega (arith, m, i, j)
