@@ -1,6 +1,9 @@
 //! Each call once, with what a person expects of it.
 
-use crate::{array_length, covers};
+use crate::{
+    Logic, Order, array_length, combined, covers, in_order, leaves_open, number_cells,
+    number_of_value, same_number,
+};
 use hare_tree::{Kind, Meaning, Place, Suffix, Word};
 use hare_typed::{Const, Consts, Typed, TypedKids};
 use hare_types::{Coercion, Row, Scalar, Ty, TypeStore};
@@ -46,5 +49,23 @@ fn literals_are_lengths(rt: HostRuntime) -> Result<(), Fail> {
             assert_eq!(rt; fault.place.column, 2);
         }
     }
+    Ok(())
+}
+
+#[test]
+fn operators_compare(rt: HostRuntime) {
+    assert!(rt; in_order(Order::of_sign(b"<="), 3, 3));
+    assert!(rt; !same_number(3, 4));
+    assert!(rt; !leaves_open(Logic::of_sign(b"&&"), false));
+    assert!(rt; combined(Logic::One, true, false));
+}
+
+#[test]
+fn numbers_have_cells(rt: HostRuntime) -> Result<(), Fail> {
+    let mut types = TypeStore::new(rt.alloc());
+    let t = Ty::Of(types.intern(Row::Scalar(Scalar::I16))?);
+    let cells = number_cells(rt.alloc(), &types, t, -2)?;
+    assert_eq!(rt; cells.len(), 2);
+    assert_eq!(rt; number_of_value(&types, t, &cells), -2);
     Ok(())
 }
