@@ -1,0 +1,3 @@
+pub mod YieldLemmas
+pub mod WriteLemmas
+pub mod SeenLemmas
