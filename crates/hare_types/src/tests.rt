@@ -114,9 +114,11 @@ fn marks_and_words_are_told(rt: HostRuntime) -> Result<(), Fail> {
     let never = store.intern(Row::Scalar(Scalar::Never))?;
     let marked = store.intern(Row::Error(never))?;
     let named = store.intern(Row::Named(7))?;
+    let waiting = store.intern(Row::Error(named))?;
     assert!(rt; !store.is_error(never));
     assert!(rt; store.is_error(marked));
     assert!(rt; !store.is_error(named));
+    assert!(rt; store.is_error(waiting));
     assert!(rt; !store.has_size(marked));
     assert!(rt; !store.has_size(named));
     store.declare(7, true)?;
