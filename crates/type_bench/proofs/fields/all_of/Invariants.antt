@@ -1,7 +1,7 @@
-use Rattle.std.proofs.Common.{◌<◌, ℕ}
+use Rattle.std.proofs.Common.{◌≡◌, ◌<◌, ℕ}
 use Rattle.hare_types.specs.Rows.{FieldsBelow}
 use Rattle.type_bench.proofs.fields.all_of.Given as goal
 
--- the fields so far lie in each store in which their type does
-abbrev pub invariant-loop-name : goal.invariant-loop-name
-invariant-loop-name l = (n : ℕ) → l.ty < n → FieldsBelow n l.fields
+-- the fields so far lie in each store in which their type does, and the types of the store are as they were
+abbrev pub invariant-loop-n : goal.invariant-loop-n
+invariant-loop-n l = record { within : (m : ℕ) → l.ty < m → FieldsBelow m l.fields; rows : l.store.rows ≡ l.initial.store.rows }
