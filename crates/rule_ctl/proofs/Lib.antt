@@ -1,0 +1,6 @@
+pub mod AskLemmas
+pub mod JumpLemmas
+pub mod CallLemmas
+pub mod TryLemmas
+pub mod TypeLemmas
+pub mod BindingLemmas

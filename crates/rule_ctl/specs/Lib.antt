@@ -1,0 +1,6 @@
+pub mod Kinds
+pub mod Jumps
+pub mod Calls
+pub mod Tried
+pub mod Needs
+pub mod Laws

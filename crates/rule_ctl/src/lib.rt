@@ -1,0 +1,15 @@
+//! The typing rules of calls, of bindings, of what asks of a value which member of a union it is, and of what leaves.
+#![tactic(auto)]
+
+mod bindings;
+mod calls;
+mod control;
+mod hinted;
+mod jumps;
+mod leaves;
+mod tries;
+mod types;
+mod unions;
+mod unmet;
+
+pub use control::judge;
