@@ -6,3 +6,4 @@ pub mod EdgeLemmas
 pub mod LeadLemmas
 pub mod FindLemmas
 pub mod OrderLemmas
+pub mod OrderRows
