@@ -1,11 +1,9 @@
 -- Ranks, made by labels that spread over the edges the other way round.
-use Rattle.std.proofs.Common.{◌≡◌, ◌⊎◌, inl, inr, ◌↔◌, IsTrue, ℕ, ◌+◌, ◌<◌, ◌≤◌, List, [], ◌∷◌, ◌++◌, Bool, true, false, length, get_or, set, replicate, nat_lt, Option, Some, None, is_some, refl, sym, ap, ◌∙◌, subst, suc, zero, arith}
-use Rattle.std.specs.Prelude.{Contains}
-use Rattle.std.proofs.lemmas.Bool.{ltb-true, lt-ltb}
-use Rattle.std.proofs.lemmas.List.{length-set, get_or-set_same, get_or-set_other, length-replicate}
-use Rattle.std.proofs.lemmas.List.Elements.{Contains-push, Contains-append_left, Contains-push_cases}
-use Rattle.hare_graph.specs.Graphs.{Graph, HasEdge, Reached, at_start, along, label_of, IsLabelled, edgeless, with_edge, Spreads}
-use Rattle.hare_graph.specs.Ranks.{AreRanks, StaysWithin, IsReverse, is_higher, leads_up}
+use Rattle.std.proofs.Common.{◌≡◌, ◌⊎◌, inl, inr, ℕ, ◌+◌, ◌<◌, ◌≤◌, List, [], ◌∷◌, true, length, replicate, Option, Some, None, refl, sym, ap, ◌∙◌, suc, zero, arith}
+use Rattle.std.proofs.lemmas.Bool.{ltb-true}
+use Rattle.std.proofs.lemmas.List.{length-replicate}
+use Rattle.hare_graph.specs.Graphs.{Graph, HasEdge, Reached, at_start, along, label_of, IsLabelled, Spreads}
+use Rattle.hare_graph.specs.Ranks.{AreRanks, IsReverse, is_higher, leads_up}
 use Rattle.hare_graph.proofs.Elements.{Contains-none}
 use Rattle.hare_graph.proofs.ReachLemmas.{label_of-replicate}
 

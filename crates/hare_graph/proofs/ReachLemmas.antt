@@ -1,11 +1,8 @@
 -- What a label that spreads tells of what is reached.
-use Rattle.std.proofs.Common.{◌≡◌, ◌⊎◌, inl, inr, ◌↔◌, IsTrue, ℕ, ◌+◌, ◌<◌, ◌≤◌, List, [], ◌∷◌, ◌++◌, Bool, true, false, length, get_or, set, replicate, nat_lt, Option, Some, None, is_some, refl, sym, ap, ◌∙◌, subst, suc, zero, arith}
-use Rattle.std.specs.Prelude.{Contains}
-use Rattle.std.proofs.lemmas.Bool.{ltb-true, lt-ltb}
-use Rattle.std.proofs.lemmas.List.{length-set, get_or-set_same, get_or-set_other, length-replicate}
-use Rattle.std.proofs.lemmas.List.Elements.{Contains-push, Contains-append_left, Contains-push_cases}
-use Rattle.hare_graph.specs.Graphs.{Graph, HasEdge, Reached, at_start, along, label_of, IsLabelled, edgeless, with_edge, Spreads}
-use Rattle.hare_graph.specs.Ranks.{AreRanks, StaysWithin, IsReverse, is_higher, leads_up}
+use Rattle.std.proofs.Common.{◌≡◌, ◌⊎◌, inl, inr, ◌↔◌, IsTrue, ℕ, ◌<◌, List, Bool, true, false, length, replicate, Option, Some, None, is_some, refl, sym, ap, ◌∙◌, subst, suc, zero, arith}
+use Rattle.std.proofs.lemmas.List.{length-replicate}
+use Rattle.hare_graph.specs.Graphs.{Graph, Reached, at_start, along, label_of, IsLabelled, Spreads}
+use Rattle.hare_graph.specs.Ranks.{StaysWithin}
 
 pub label_of-replicate : (n a : ℕ) → label_of (replicate n None) a ≡ None
 label_of-replicate zero a = refl

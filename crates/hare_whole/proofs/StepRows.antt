@@ -1,10 +1,10 @@
 -- The steps of small programs, worked out by hand. A path's column is the number of the declaration that it means.
-use Rattle.std.proofs.Common.{◌≡◌, ℕ, List, [], ◌∷◌, refl}
+use Rattle.std.proofs.Common.{◌≡◌, List, [], ◌∷◌, refl}
 use Rattle.hare_tree.specs.Node.{Node}
 use Rattle.hare_rules.specs.Context.{Ordinary, BindingType}
 use Rattle.hare_depends.proofs.Samples.{absent, type_path, path, by_column, type_decl, def, global, function, param, pointer, array}
 use Rattle.hare_whole.specs.Listing.{Listing, written_types}
-use Rattle.hare_whole.specs.Turns.{Step, Types, Value, Done, early, turn}
+use Rattle.hare_whole.specs.Turns.{Types, Value, Done, early, turn}
 
 abbrev listing : List Node → Listing
 listing ts = record { decls = ts; means = by_column }

@@ -1,5 +1,5 @@
 -- Lists of tags, worked out by hand over a store of a few types.
-use Rattle.std.proofs.Common.{◌≡◌, ℕ, List, [], ◌∷◌, codes, true, false, refl}
+use Rattle.std.proofs.Common.{◌≡◌, ℕ, List, [], ◌∷◌, refl}
 use Rattle.hare_tree.specs.declared.kind.Kind.{Kind}
 use Rattle.hare_tree.specs.declared.kind.Kind.TheVariants as ki
 use Rattle.hare_tree.specs.declared.place.Place.{Place}
@@ -20,9 +20,9 @@ types =
     record {
       names = [];
       rows =
-        row.Scalar keyword.Void ∷ row.Scalar keyword.I8 ∷ row.Scalar keyword.U8 ∷ row.Scalar keyword.Str ∷ row.Scalar keyword.Never
-        ∷ row.Union (1 ∷ 2 ∷ []) ∷ row.Pointer 5 ∷ row.Union (3 ∷ 6 ∷ []) ∷ row.Named nomem ∷ row.Pointer 1 ∷ row.Union (8 ∷ 9 ∷ [])
-        ∷ row.Union (0 ∷ 8 ∷ []) ∷ [];
+          row.Scalar keyword.Void ∷ row.Scalar keyword.I8 ∷ row.Scalar keyword.U8 ∷ row.Scalar keyword.Str ∷ row.Scalar keyword.Never
+          ∷ row.Union (1 ∷ 2 ∷ []) ∷ row.Pointer 5 ∷ row.Union (3 ∷ 6 ∷ []) ∷ row.Named nomem ∷ row.Pointer 1 ∷ row.Union (8 ∷ 9 ∷ [])
+          ∷ row.Union (0 ∷ 8 ∷ []) ∷ [];
       declared = [];
       listed = [];
     }

@@ -1,5 +1,5 @@
 -- What a well-typed declaration is. Its parts are judged by the rules each for itself: written types, a value, a body; and then the declaration.
-use Rattle.std.specs.Prelude.{◌≡◌, ◌⊎◌, ℕ, suc, ◌+◌, List, [], ◌∷◌, ◌++◌, Bool, true, false, length, map, replicate, Option, Some, None}
+use Rattle.std.specs.Prelude.{◌≡◌, ◌⊎◌, ℕ, suc, List, [], ◌∷◌, ◌++◌, Bool, true, false, length, map, replicate, Option, None}
 use Rattle.std.specs.Option.{unwrap_or}
 use Rattle.hare_tree.specs.declared.kind.Kind.{Kind}
 use Rattle.hare_tree.specs.declared.kind.Kind.TheVariants as ki
@@ -9,7 +9,7 @@ use Rattle.hare_types.specs.declared.coercion.Ty.{Ty}
 use Rattle.hare_types.specs.declared.coercion.Ty.TheVariants as ty
 use Rattle.hare_types.specs.declared.row.Scalar.TheVariants as keyword
 use Rattle.hare_typed.specs.declared.constant.Const.TheVariants as constant
-use Rattle.hare_typed.specs.Typed.{TypedNode, TypedNodes, Mark, marked, typed_none, typed_more, typed_nodes, head_of, kids_of}
+use Rattle.hare_typed.specs.Typed.{TypedNode, TypedNodes, Mark, marked, typed_none, typed_more, typed_nodes, head_of}
 use Rattle.hare_typed.specs.Coats.{with_coercion}
 use Rattle.hare_typed.specs.Erased.{erase}
 use Rattle.hare_typed.specs.Numbers.{kind_of, parameters_of}

@@ -1,5 +1,5 @@
 -- The parts of a declaration, typed and untyped, and what is known of it once they have been judged.
-use Rattle.std.specs.Prelude.{ℕ, List, [], ◌∷◌, Bool, true, false, cond, map, filter_map, sum_by, Option, Some, None}
+use Rattle.std.specs.Prelude.{ℕ, List, [], Bool, true, false, cond, map, sum_by, Option}
 use Rattle.std.specs.Option.{unwrap_or}
 use Rattle.std.specs.List.{enumerate_from}
 use Rattle.hare_tree.specs.declared.kind.Kind.{Kind}

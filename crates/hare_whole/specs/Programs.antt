@@ -1,5 +1,5 @@
--- What a whole program is, apart from where its names are in scope.
-use Rattle.std.specs.Prelude.{◌≡◌, ℕ, ◌<◌, ◌≤◌, List, true, false, length, map, slice_get, sum_by, Some, Contains}
+-- What a whole program is, apart from its names.
+use Rattle.std.specs.Prelude.{◌≡◌, ℕ, ◌<◌, ◌≤◌, List, true, false, length, slice_get, sum_by, Some, Contains}
 use Rattle.hare_tree.specs.declared.place.Place.{Place}
 use Rattle.hare_tree.specs.declared.token.Meaning.{Meaning}
 use Rattle.hare_tree.specs.declared.form.Sort.TheVariants as sorts
@@ -7,6 +7,7 @@ use Rattle.hare_tree.specs.Node.{Head}
 use Rattle.hare_tree.specs.Shape.{is_shaped}
 use Rattle.hare_tree.specs.Size.{text_bytes}
 use Rattle.hare_types.specs.Store.{Store, definition_of}
+use Rattle.hare_types.specs.Sound.{IsStore}
 use Rattle.hare_typed.specs.Typed.{TypedNode}
 use Rattle.hare_typed.specs.Erased.{erase, heads}
 use Rattle.hare_typed.specs.Numbers.{kind_of}
@@ -82,3 +83,19 @@ most_of_texts = 4194304
 -- the bytes of all string literals and messages
 abbrev pub bytes_of_texts : List TypedNode → ℕ
 bytes_of_texts ds = sum_by (λ d. text_bytes (erase d)) ds
+
+-- ---- programs
+
+-- What a whole program is, but for two things that are said of names elsewhere: that its paths are words that name files, and that each local of a path is
+-- a binding in scope there.
+pub record IsComplete (s : Store) (paths : List (List ℕ)) (ds : List TypedNode) (means : Place → Meaning) (entry : ℕ) : Type 0 where
+  pub sound : IsStore s
+  pub shaped : AreShaped ds
+  pub in_files : AreInFiles paths ds
+  pub names_differ : NamesDiffer paths ds
+  pub few_texts : bytes_of_texts ds ≤ most_of_texts
+  pub well : AreWell (setting_of s ds means) ds
+  pub defined : AreDefined s ds
+  pub nomem_defined : DefinesNomem s
+  pub tags : s.listed ≡ tag_list s ds
+  pub limits : AreWithinLimits paths s ds entry

@@ -9,7 +9,6 @@ use Rattle.hare_types.specs.declared.coercion.Ty.{Ty}
 use Rattle.hare_types.specs.declared.row.Row.TheVariants as row
 use Rattle.hare_types.specs.declared.row.Scalar.TheVariants as keyword
 use Rattle.hare_types.specs.Store.{Store}
-use Rattle.hare_types.specs.ByIds.{row_at}
 use Rattle.hare_types.specs.Unions.{id_of}
 use Rattle.hare_typed.specs.Typed.{TypedNode, TypedNodes, marked, typed_none, typed_more, mark_of}
 use Rattle.hare_typed.specs.Order.{check_order}

@@ -1,7 +1,7 @@
 -- The third and the fourth phase: declarations in their order, and then bodies in that of the source; and the first fault of each.
 --
 -- One store is spoken of throughout, that with which the checking ends. At each turn no more of it is seen than the definitions of the types that are done.
-use Rattle.std.specs.Prelude.{◌≡◌, ◌⊎◌, ℕ, ◌<◌, List, [], ◌∷◌, ◌++◌, Bool, true, false, not, ◌||◌, cond, filter, length, map, nat_eq, slice_get, Option, Some, None, Contains}
+use Rattle.std.specs.Prelude.{◌≡◌, ◌⊎◌, ℕ, ◌<◌, List, [], ◌∷◌, ◌++◌, Bool, true, false, not, ◌||◌, cond, filter, length, map, nat_eq, Option, Some, None, Contains}
 use Rattle.std.specs.Option.{unwrap_or}
 use Rattle.std.specs.Map.{lookup}
 use Rattle.hare_tree.specs.declared.kind.Kind.{Kind}
@@ -261,7 +261,7 @@ abbrev pub IsFaultOfBody : Setting → ℕ → Node → Fault → Type 0
 IsFaultOfBody w n t f =
     (q : RowId) × (c : Context)
     × FailsIn w (over_body n (result_in (declaration w n)) (length (params_in (declaration w n)))) (kid t 4)
-      (before_body (params_in (declaration w n)) (kid t 4)) q c
+    (before_body (params_in (declaration w n)) (kid t 4)) q c
     × (f ≡ fault_of q c)
 
 -- the first fault of bodies, where all declarations have been judged: that of the first function whose body has one
