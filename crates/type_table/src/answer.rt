@@ -4,11 +4,11 @@ ghost use Rattle.std.specs.Prelude.{◌≡◌, ◌<◌, length, IsTrue};
 ghost use Rattle.hare_layout.specs.Members.{IsUnion};
 
 use crate::definable::is_definable;
-use crate::layout::{fields, payload};
+use crate::layout::fields;
 use crate::listing::listing;
 use crate::spelled::type_in;
 use crate::table::Table;
-use crate::values::{assign, becomes, cast};
+use crate::values::{assign, cast};
 use anyhow::{Context, Result, bail, ensure};
 use hare_layout::subset;
 use hare_types::{Row, TypeId, TypeStore};
@@ -24,9 +24,7 @@ pub(crate) fn answer(table: &mut Table, line: &str) -> Result<String> {
         "base" => base(table, skipped, rest),
         "extent" => extent(table, skipped, rest),
         "fields" => fields(table, skipped, rest),
-        "payload" => payload(table, skipped, rest),
         "assign" => assign(table, skipped, rest),
-        "becomes" => becomes(table, skipped, rest),
         "cast" => cast(table, skipped, rest),
         "subset" => is_subset(table, skipped, rest),
         "tag" => tag(table, skipped, rest),

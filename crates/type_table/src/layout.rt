@@ -1,7 +1,6 @@
 //! Where the bytes of types lie.
 
-ghost use Rattle.std.specs.Prelude.{◌≡◌, ◌<◌, ◌≤◌, ℕ, List, length, map, IsTrue, Some, IsSome};
-ghost use Rattle.hare_types.specs.ByIds.{members_at};
+ghost use Rattle.std.specs.Prelude.{◌≡◌, ◌<◌, ◌≤◌, ℕ, List, length, map, IsTrue, Some};
 ghost use Rattle.hare_types.specs.Rows.{AllBelow, FieldsBelow};
 ghost use Rattle.hare_types.specs.declared.extent.Extent.{Extent as ExtentOf};
 ghost use Rattle.hare_layout.specs.Small.{LiesIn, extent_by, extents_by, name_extents};
@@ -10,7 +9,7 @@ ghost use Rattle.hare_layout.specs.Offsets.{HasField};
 use crate::spelled::type_in;
 use crate::table::Table;
 use anyhow::{Result, bail};
-use hare_layout::{align_of, offset_of, payload_of, size_of};
+use hare_layout::{align_of, offset_of, size_of};
 use hare_types::{Field, Row, TypeId, TypeStore};
 
 /// The greatest size of a type, in bytes.
@@ -34,30 +33,6 @@ pub(crate) fn fields(table: &mut Table, skipped: usize, spelling: &str) -> Resul
         write!(out, "{offset}")?;
     }
     Ok(out)
-}
-
-/// Where the payload of a union begins.
-pub(crate) fn payload(table: &mut Table, skipped: usize, spelling: &str) -> Result<String> {
-    let t = type_in(table, skipped, spelling)?;
-    if !is_small(&table.store, t, MOST_NAMES) {
-        bail!("too large");
-    }
-    if !has_members(&table.store, t) {
-        bail!("no union");
-    }
-    let payload = payload_of(&table.store, t);
-    Ok(format!(in table.alloc; "payload at {payload}")?)
-}
-
-/// Whether the type comes to a union.
-fn has_members(store: &TypeStore, t: TypeId) -> bool
-    requires { t < length store.now.rows }
-    ensures { IsTrue result → IsSome (members_at store.now t) }
-{
-    match store.base(t) {
-        Some(base) => matches!(store.row(base), Row::Union(_)),
-        None => false,
-    }
 }
 
 /// Whether the extent of the type is known, and is no larger than a type may be.

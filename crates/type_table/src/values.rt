@@ -1,15 +1,13 @@
 //! Values and the types that they are assigned or cast to.
 
-ghost use Rattle.std.specs.Prelude.{◌≡◌, ◌<◌, ◌≤◌, ℕ, length, IfOk};
-ghost use Rattle.hare_types.specs.declared.coercion.Ty.TheVariants.{Of};
+ghost use Rattle.std.specs.Prelude.{◌<◌, ◌≤◌, length, IfOk};
 ghost use Rattle.hare_types.specs.Assign.{IsIn};
 
-use crate::listing::listing;
 use crate::spelled::type_in;
 use crate::table::Table;
-use anyhow::{Context, Result, bail};
-use hare_assign::{assignable, castable, chosen_member};
-use hare_types::{Coercion, Ty, TypeId};
+use anyhow::{Context, Result};
+use hare_assign::{assignable, castable};
+use hare_types::{Ty, TypeId};
 
 /// A value and the type that it is brought to.
 #[derive(Drop)]
@@ -27,30 +25,6 @@ pub(crate) fn assign(table: &mut Table, skipped: usize, spelling: &str) -> Resul
             Ok(format!(in table.alloc; "row {row}")?)
         }
         None => Ok(String::from_str(table.alloc, "no row")?),
-    }
-}
-
-/// Which member of a union a value becomes, and by which row it goes to it, as `row 3 to u8`.
-pub(crate) fn becomes(table: &mut Table, skipped: usize, spelling: &str) -> Result<String> {
-    let pair = type_and_value(table, skipped, spelling)?;
-    let _law = table.store.declarations();
-    match chosen_member(&table.store, pair.to, pair.from) {
-        Some(chosen) => told(table, chosen),
-        None => Ok(String::from_str(table.alloc, "no member")?),
-    }
-}
-
-/// A row and the type to which a value goes by it.
-fn told(table: &Table, chosen: Coercion) -> Result<String>
-    requires { (t : ℕ) → chosen.to ≡ Of t → t < length table.now.store.rows }
-{
-    match chosen.to {
-        Ty::Of(t) => {
-            let member = listing(table, t)?;
-            let row = chosen.row;
-            Ok(format!(in table.alloc; "row {row} to {member}")?)
-        }
-        _ => bail!("no type"),
     }
 }
 
