@@ -10,7 +10,7 @@ use Rattle.hare_types.specs.Later.{IsLater}
 use Rattle.hare_typed.specs.Typed.{TypedNode}
 use Rattle.hare_rules.specs.Context.{text_of}
 use Rattle.hare_rules.specs.Aggregates.{name_number, is_named_by, but_last, each_once, fill}
-use Rattle.rule_mem.specs.Named.{HaveNames}
+use Rattle.hare_types.specs.Rows.{NamesBelow}
 use Rattle.rule_mem.specs.Filled.{spells, values_of, times_named}
 use Rattle.rule_mem.proofs.SpellingLemmas.{name_tells, name_stays, name_new}
 
@@ -128,7 +128,7 @@ module _ (now later : Store) (v : IsStore now) (l : IsLater now later) where
       omega (arith, both, first, word, rest)
 
   -- each field is named once by what is counted
-  pub each_once-counted : (counts : ℕ → ℕ) (xs : List TypedNode) (fs : List Field) → ((n : ℕ) → counts n ≡ times_named now n xs) → HaveNames now fs
+  pub each_once-counted : (counts : ℕ → ℕ) (xs : List TypedNode) (fs : List Field) → ((n : ℕ) → counts n ≡ times_named now n xs) → NamesBelow (length now.names) fs
       → list_all (λ f. counts f.name == 1) fs ≡ each_once later fs xs
   each_once-counted counts xs [] h k = refl
   each_once-counted counts xs (f ∷ fs) h k =

@@ -17,7 +17,7 @@ use Rattle.hare_types.specs.Later.{IsLater}
 use Rattle.hare_types.proofs.ListLemmas.{slice_get_front, slice_get_past}
 use Rattle.hare_types.proofs.NumberingLemmas.{position_found, position_absent}
 use Rattle.hare_rules.specs.Aggregates.{name_number, field_named, field_type}
-use Rattle.rule_mem.specs.Named.{HaveNames}
+use Rattle.hare_types.specs.Rows.{NamesBelow}
 
 -- ---- names
 
@@ -76,7 +76,7 @@ field_named-absent (f ∷ fs) n m h k = by (field_named-absent fs n m (λ g c. h
     by rest true e = let same : f.name ≡ m = (unsigned_Decides f.name m).0 e in absurd (omega (arith, here))
     by rest false e = rest
 
-module _ (now later : Store) (l : IsLater now later) (fs : List Field) (names : HaveNames now fs) (text : List ℕ) where
+module _ (now later : Store) (l : IsLater now later) (fs : List Field) (names : NamesBelow (length now.names) fs) (text : List ℕ) where
   -- a name that is none yet names no field
   pub field_type-new : ((n : ℕ) → slice_get now.names n ≢ Some text) → field_type later (Some (row.Struct fs)) text ≡ None
   field_type-new h = by (name_number later text) refl

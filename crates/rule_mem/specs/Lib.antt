@@ -1,5 +1,4 @@
 pub mod Members
-pub mod Named
 pub mod Filled
 pub mod Asking
 pub mod Kinds

@@ -10,12 +10,10 @@ use Rattle.hare_rules.specs.declared.judged.Case.{Case}
 use Rattle.hare_typed.specs.Typed.{TypedNode, TypedNodes, marked, typed_none, typed_more}
 use Rattle.hare_typed.specs.Given.{given}
 use Rattle.hare_typed.specs.Order.{tree_from_front}
-use Rattle.hare_rules.specs.Context.{own_type}
 use Rattle.hare_rules.specs.Words.{id_in, nomem}
 use Rattle.rule_judge.specs.declared.turn.Turn.{Turn}
 use Rattle.rule_judge.specs.Defined.{IsDefinedName}
 use Rattle.rule_judge.specs.Meant.{IsMeant}
-use Rattle.rule_mem.specs.Named.{IsNamedTy}
 
 -- the kinds of trees that can be places
 abbrev pub leads_by : Kind → Bool → Bool
@@ -35,13 +33,10 @@ abbrev mutual
   has_first_form typed_none = false
   has_first_form (typed_more t ts) = has_place_form t
 
--- The refusal of memory is defined; what a path means is known; the fields of the structs of the first kid have names of the store; and
--- where the first kid can be a place, it has a type.
+-- The refusal of memory is defined; what a path means is known; and where the first kid can be a place, it has a type.
 pub record IsReadyNode (s : Store) (decls : List DeclType) (locals : List Local) (c : Case) (xs : List TypedNode) : Type 0 where
   pub nomem : IsDefinedName s nomem
   pub meant : IsMeant s decls locals c.meaning
-  pub given_named : IsNamedTy s (given (tree_from_front 0 xs))
-  pub own_named : IsNamedTy s (own_type (tree_from_front 0 xs))
   pub typed : has_place_form (tree_from_front 0 xs) ≡ true → IsSome (id_in (given (tree_from_front 0 xs)))
 
 abbrev pub IsReady : Store → Turn → Type 0

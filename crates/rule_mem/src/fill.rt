@@ -1,14 +1,14 @@
 //! Which fields the values of a struct literal fill.
 
-ghost use Rattle.std.specs.Prelude.{◌≡◌, ◌+◌, ◌^◌, ◌<◌, ◌==◌, ℕ, nat_eq, if◌then◌else◌, drop, IfOk, OnOk, Some};
+ghost use Rattle.std.specs.Prelude.{◌≡◌, ◌+◌, ◌^◌, ◌<◌, ◌==◌, ℕ, nat_eq, if◌then◌else◌, drop, length, IfOk, OnOk, Some};
 ghost use Rattle.std.specs.List.{list_all};
 ghost use Rattle.std.specs.Option.{unwrap_or};
 ghost use Rattle.indexmap.specs.IndexMap.{get};
+ghost use Rattle.hare_types.specs.Rows.{NamesBelow};
 ghost use Rattle.hare_types.specs.Store.{Store};
 ghost use Rattle.hare_types.specs.Later.{IsLater};
 ghost use Rattle.hare_rules.specs.Aggregates as spec;
 ghost use Rattle.rule_mem.specs.Filled.{spells, values_of, times_named};
-ghost use Rattle.rule_mem.specs.Named.{HaveNames};
 
 use hare_typed::TypedKids;
 use hare_types::{Field, TypeStore};
@@ -82,7 +82,7 @@ pub(crate) fn is_filled(
     fields: &[Field],
     kids: &TypedKids,
 ) -> Result<bool, AllocError>
-    requires { HaveNames s.now fields.now }
+    requires { NamesBelow (length s.now.names) fields.now }
     ensures { IfOk result (λ b. (f : Store) → IsLater s.now f → b ≡ spec.fill f (Some fields.now) (values_of kids.now)) }
 {
     let _law = s.declarations();

@@ -15,7 +15,6 @@ ghost use Rattle.rule_judge.specs.Grown.{IsGrown};
 ghost use Rattle.rule_judge.specs.Turns.{context_in, kind_in, IsTurn};
 ghost use Rattle.rule_judge.specs.Asked.{asks_as};
 ghost use Rattle.rule_mem.specs.Kinds.{judges};
-ghost use Rattle.rule_mem.specs.Named.{IsNamedTy};
 
 use crate::allocs::has_capacity;
 use crate::hints::object_asked;
@@ -84,8 +83,7 @@ fn text_at<'a>(kids: &'a TypedKids, i: usize) -> &'a [u8]
 
 /// Whether a struct literal asks its kid number `i` for a type: a value, where its name is that of a field.
 fn literal_asks(s: &TypeStore, t: &Turn<'_>, i: usize) -> bool
-    requires turn { IsTurn s.now t.now }
-    requires named { IsNamedTy s.now (context.own_type (tree_from_front 0 t.now.kids.now)) }
+    requires { IsTurn s.now t.now }
     ensures { (f : Store) → IsLater s.now f → result ≡ asks_as (context_in f t.now) i ki.StructLit }
 {
     if kids_before(t.kids, i) == 0 {
@@ -117,7 +115,6 @@ fn allocation_asks(s: &mut TypeStore, t: &Turn<'_>, i: usize) -> Result<bool, Al
 pub(crate) fn asks_type(s: &mut TypeStore, t: &Turn<'_>, i: usize) -> Result<bool, AllocError>
     requires kind { judges (kind_in t.now) ≡ true }
     requires turn { IsTurn s.old t.now }
-    requires named { IsNamedTy s.old (context.own_type (tree_from_front 0 t.now.kids.now)) }
     ensures value { IfOk result (λ b. (f : Store) → IsLater s.new f → b ≡ asks_type (context_in f t.now) i) }
     ensures grown { IsGrown s.old s.new }
 {

@@ -3,11 +3,8 @@
 ghost use Rattle.std.specs.Prelude.{◌≡◌, IfOk};
 ghost use Rattle.hare_types.specs.Store.{Store};
 ghost use Rattle.hare_types.specs.Later.{IsLater};
-ghost use Rattle.hare_typed.specs.Order.{tree_from_front};
-ghost use Rattle.hare_rules.specs.Context.{own_type};
 ghost use Rattle.hare_rules.specs.Rows.{holds};
 ghost use Rattle.hare_rules.specs.declared.row_id.RowId.TheVariants as row;
-ghost use Rattle.rule_mem.specs.Named.{IsNamedTy};
 ghost use Rattle.rule_judge.specs.Turns.{context_in, IsTurn};
 
 use crate::fill::is_filled;
@@ -17,8 +14,7 @@ use std::alloc::{AllocError, Global};
 
 /// Whether the values of a struct literal name each field of its type once, and nothing else.
 pub(crate) fn names_fields(alloc: Global, s: &TypeStore, t: &Turn<'_>) -> Result<bool, AllocError>
-    requires turn { IsTurn s.now t.now }
-    requires named { IsNamedTy s.now (own_type (tree_from_front 0 t.now.kids.now)) }
+    requires { IsTurn s.now t.now }
     ensures { IfOk result (λ b. (f : Store) → IsLater s.now f → b ≡ holds row.StructLitFields (context_in f t.now)) }
 {
     let _law = s.declarations();

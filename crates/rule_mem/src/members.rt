@@ -12,7 +12,6 @@ ghost use Rattle.hare_typed.specs.Given as given;
 ghost use Rattle.hare_rules.specs.Aggregates as spec;
 ghost use Rattle.rule_judge.specs.Defined.{IsDefined, IsDefinedTy};
 ghost use Rattle.rule_mem.specs.Members.{member_of};
-ghost use Rattle.rule_mem.specs.Named.{HaveNames, IsNamedTy};
 
 use hare_tree::{Suffix, Tree};
 use hare_types::{Fields, Row, Ty, TypeId, TypeIds, TypeStore};
@@ -69,10 +68,10 @@ fn type_at(fields: &Fields, place: usize) -> Option<TypeId>
 
 /// The type of the field with this name of a struct. The time is constant.
 pub(crate) fn field(s: &TypeStore, t: TypeId, fields: &Fields, text: &[u8]) -> Option<TypeId>
-    requires row { row_at s.now t ≡ Some (Struct fields.now) }
-    requires names { HaveNames s.now fields.now }
+    requires { row_at s.now t ≡ Some (Struct fields.now) }
     ensures { (f : Store) → IsLater s.now f → result ≡ spec.field_type f (Some (Struct fields.now)) text.now }
 {
+    let _law = s.declarations();
     let Some(name) = s.find_name(text) else {
         return None;
     };
@@ -85,8 +84,7 @@ pub(crate) fn field(s: &TypeStore, t: TypeId, fields: &Fields, text: &[u8]) -> O
 /// The type of the member that a node names of what has this type: a field of a struct by its name, or a component of a tuple by its
 /// number. The time is constant.
 pub(crate) fn member(s: &TypeStore, a: &Ty, node: &Tree) -> Option<TypeId>
-    requires defined { IsDefinedTy s.now a.now }
-    requires named { IsNamedTy s.now a.now }
+    requires { IsDefinedTy s.now a.now }
     ensures value { (f : Store) → IsLater s.now f → result ≡ member_of f (head node.now) (given.base_row f a.now) }
     ensures defined { IfSome result (λ t. IsDefined s.now t) }
 {
@@ -108,8 +106,7 @@ pub(crate) fn member(s: &TypeStore, a: &Ty, node: &Tree) -> Option<TypeId>
 
 /// The type of the field with this name of what has this type. The time is constant.
 pub(crate) fn field_of(s: &TypeStore, a: &Ty, text: &[u8]) -> Option<TypeId>
-    requires defined { IsDefinedTy s.now a.now }
-    requires named { IsNamedTy s.now a.now }
+    requires { IsDefinedTy s.now a.now }
     ensures { (f : Store) → IsLater s.now f → result ≡ spec.field_type f (given.base_row f a.now) text.now }
 {
     let Ty::Of(t) = a else {

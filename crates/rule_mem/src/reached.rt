@@ -3,11 +3,10 @@
 ghost use Rattle.std.specs.Prelude.{◌≡◌, IfSome};
 ghost use Rattle.hare_types.specs.Store.{Store};
 ghost use Rattle.hare_types.specs.Later.{IsLater};
-ghost use Rattle.hare_typed.specs.Given.{given, element_in};
+ghost use Rattle.hare_typed.specs.Given.{element_in};
 ghost use Rattle.hare_typed.specs.Order.{tree_from_front};
 ghost use Rattle.hare_rules.specs.Aggregates as spec;
 ghost use Rattle.rule_judge.specs.Defined.{IsDefined, IsDefinedTy};
-ghost use Rattle.rule_mem.specs.Named.{IsNamedTy};
 ghost use Rattle.rule_judge.specs.Turns.{context_in, IsTurn};
 
 use crate::members::member;
@@ -26,8 +25,7 @@ pub(crate) fn element_reached(s: &TypeStore, t: &Turn<'_>) -> Option<TypeId>
 
 /// The type of the member that the node names of what the operand reaches.
 pub(crate) fn member_reached(s: &TypeStore, t: &Turn<'_>) -> Option<TypeId>
-    requires turn { IsTurn s.now t.now }
-    requires named { IsNamedTy s.now (given (tree_from_front 0 t.now.kids.now)) }
+    requires { IsTurn s.now t.now }
     ensures value { (f : Store) → IsLater s.now f → result ≡ spec.member_type (context_in f t.now) (spec.reached f (tree_from_front 0 t.now.kids.now)) }
     ensures defined { IfSome result (λ u. IsDefined s.now u) }
 {

@@ -9,7 +9,6 @@ ghost use Rattle.hare_typed.specs.Given as given;
 ghost use Rattle.hare_typed.specs.Coercions.{element_of_slice};
 ghost use Rattle.hare_typed.specs.Followed as follow;
 ghost use Rattle.rule_judge.specs.Defined.{IsDefined, IsDefinedTy};
-ghost use Rattle.rule_mem.specs.Named.{IsNamedTy};
 
 use hare_types::{Extent, Row, Ty, TypeId, TypeStore};
 use rule_judge::base_row;
@@ -59,7 +58,6 @@ fn reached_within(s: &TypeStore, a: &Ty, most: u64) -> Ty
     requires { IsDefinedTy s.now a.now }
     ensures value { (f : Store) → IsLater s.now f → result ≡ follow.reached_within most f a.now }
     ensures defined { IsDefinedTy s.now result }
-    ensures named { IsNamedTy s.now a.now → IsNamedTy s.now result }
 {
     let _law = s.declarations();
     let mut at = *a;
@@ -77,7 +75,6 @@ pub(crate) fn reached(s: &TypeStore, a: &Ty) -> Ty
     requires { IsDefinedTy s.now a.now }
     ensures value { (f : Store) → IsLater s.now f → result ≡ follow.reached_type f a.now }
     ensures defined { IsDefinedTy s.now result }
-    ensures named { IsNamedTy s.now a.now → IsNamedTy s.now result }
 {
     reached_within(s, a, MOST_POINTERS)
 }

@@ -3,13 +3,10 @@
 ghost use Rattle.std.specs.Prelude.{◌≡◌, IfSome};
 ghost use Rattle.hare_types.specs.Store.{Store};
 ghost use Rattle.hare_types.specs.Later.{IsLater};
-ghost use Rattle.hare_typed.specs.Given.{given};
-ghost use Rattle.hare_typed.specs.Order.{tree_from_front};
 ghost use Rattle.hare_rules.specs.Operators as operators;
 ghost use Rattle.hare_rules.specs.Rows.{holds, first_place, first_mutable};
 ghost use Rattle.hare_rules.specs.declared.row_id.RowId.TheVariants as row;
 ghost use Rattle.rule_judge.specs.Defined.{IsDefined};
-ghost use Rattle.rule_mem.specs.Named.{IsNamedTy};
 ghost use Rattle.rule_judge.specs.Turns.{context_in, IsTurn};
 
 use crate::reached::{element_reached, member_reached};
@@ -29,8 +26,7 @@ pub(crate) fn is_indexable(s: &TypeStore, t: &Turn<'_>) -> bool
 
 /// Whether the operand has the member that the node names.
 pub(crate) fn has_member(s: &TypeStore, t: &Turn<'_>) -> bool
-    requires turn { IsTurn s.now t.now }
-    requires named { IsNamedTy s.now (given (tree_from_front 0 t.now.kids.now)) }
+    requires { IsTurn s.now t.now }
     ensures { (f : Store) → IsLater s.now f → result ≡ holds row.FieldMember (context_in f t.now) }
 {
     member_reached(s, t).is_some()

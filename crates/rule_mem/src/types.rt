@@ -9,7 +9,6 @@ ghost use Rattle.hare_rules.specs.Words as words;
 ghost use Rattle.hare_rules.specs.Rows.{holds};
 ghost use Rattle.hare_rules.specs.Types.{type_by, type_of};
 ghost use Rattle.hare_rules.specs.declared.row_id.RowId.TheVariants as row;
-ghost use Rattle.rule_mem.specs.Named.{IsNamedTy};
 ghost use Rattle.hare_types.specs.declared.row.Scalar.TheVariants as keyword;
 ghost use Rattle.hare_typed.specs.Given as given;
 ghost use Rattle.hare_typed.specs.Order.{tree_from_front};
@@ -75,7 +74,6 @@ fn slice_type(s: &mut TypeStore, t: &Turn<'_>) -> Result<Ty, AllocError>
 /// The type of a member.
 fn member_type(s: &TypeStore, t: &Turn<'_>) -> Ty
     requires turn { IsTurn s.now t.now }
-    requires named { IsNamedTy s.now (given.given (tree_from_front 0 t.now.kids.now)) }
     requires met { (f : Store) → IsLater s.now f → holds row.FieldMember (context_in f t.now) ≡ true }
     ensures value { (f : Store) → IsLater s.now f → type_by (context_in f t.now) ki.Field ≡ Some result }
     ensures defined { IsDefinedTy s.now result }

@@ -1,13 +1,10 @@
 use Rattle.std.proofs.Common.{◌-◌, sym, ◌∙◌, arith}
-use Rattle.hare_types.proofs.LaterLemmas.{later_here}
-use Rattle.rule_mem.proofs.StructLemmas.{named_pointee}
 use Rattle.rule_mem.proofs.ReachLemmas.{reached_within-stuck, reached_within-more}
 use Rattle.rule_mem.proofs.reads.reached_within.Goals as goal
 
 pub loop-passed-preserved : goal.loop-passed-preserved
 loop-passed-preserved c = record {
   defined = c.in-Some.ensures.defined;
-  named = λ h. named_pointee c.args.s.now c.loop-passed.at c.in-Some.t (c.loop-passed.invariant.named h) (c.in-Some.ensures.value c.args.s.now (later_here c.args.s.now c.declarations-law.ensures.sound));
   rest = λ f l.
       reached_within-more c.args.most c.loop-passed.passed f c.loop-passed.at _ c.in-Some.t (omega arith) (sym (c.in-Some.ensures.value f l)) (c.loop-passed.invariant.rest f l);
 }
