@@ -42,6 +42,23 @@ fn lists_keep_their_order(rt: HostRuntime) -> Result<(), Fail> {
 }
 
 #[test]
+fn lists_are_cut(rt: HostRuntime) -> Result<(), Fail> {
+    let mut list: Items<u64> = Items::new(rt.alloc());
+    assert_eq!(rt; list.pop(), None);
+    list.push(7)?;
+    list.push(9)?;
+    list.push(11)?;
+    list.set(1, 8);
+    list.set(3, 0);
+    assert_eq!(rt; list.pop(), Some(11));
+    assert_eq!(rt; list.as_slice(), [7, 8].as_slice());
+    list.truncate(1);
+    list.truncate(3);
+    assert_eq!(rt; list.as_slice(), [7].as_slice());
+    Ok(())
+}
+
+#[test]
 fn numbers_are_cut_and_put_together(rt: HostRuntime) {
     assert_eq!(rt; wrap(-129, 8, true), 127);
     assert_eq!(rt; wrap(-129, 8, false), 127);
