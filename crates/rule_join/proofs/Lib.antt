@@ -4,3 +4,4 @@ pub mod ValueLemmas
 pub mod AskedLemmas
 pub mod TypeLemmas
 pub mod UnmetLemmas
+pub mod CaseLemmas

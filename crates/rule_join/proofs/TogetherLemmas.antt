@@ -1,5 +1,5 @@
 -- The values that come together in a node, as they are listed and as the table has them.
-use Rattle.std.proofs.Common.{◌≡◌, ℕ, suc, Bool, true, false, not, ◌&&◌, cond, nat_lt, List, [], ◌∷◌, ◌++◌, length, Option, Some, None, refl, ap, sym, ◌∙◌, arith, append-nil}
+use Rattle.std.proofs.Common.{◌≡◌, ℕ, suc, Bool, true, false, not, ◌&&◌, cond, nat_lt, List, [], ◌∷◌, ◌++◌, length, Option, Some, None, refl, ap, sym, ◌∙◌, arith, append-nil, map, drop}
 use Rattle.std.specs.Prelude.{find, option_map, is_none}
 use Rattle.std.specs.Option.{option_or}
 use Rattle.std.proofs.lemmas.Bool.{lt-ltb}
@@ -20,7 +20,7 @@ use Rattle.rule_judge.specs.declared.turn.Turn.{Turn}
 use Rattle.rule_judge.specs.Turns.{context_in}
 use Rattle.rule_join.specs.declared.values.Source.{Source}
 use Rattle.rule_join.specs.declared.values.Source.TheVariants as source
-use Rattle.rule_join.specs.Together.{together, listed_in, ends, going, place_in, place_told, without_default, if_lacking, end_misfit, lacking, misfit, two_branches}
+use Rattle.rule_join.specs.Together.{together, handed, listed_in, ends, going, place_in, place_told, without_default, if_lacking, end_misfit, lacking, misfit, two_branches}
 
 -- ---- one by one
 
@@ -42,6 +42,10 @@ alike_branches : (b : Bool) (xs : List TypedNode) → Alike (cond b (given_by (t
 alike_branches true xs = (refl, (refl, tt))
 alike_branches false xs = tt
 
+alike_cases : (xs : List TypedNode) → Alike (map given_by xs) (map handed xs)
+alike_cases [] = tt
+alike_cases (x ∷ xs) = (refl, alike_cases xs)
+
 record IsListed (vs : List Given) (ys : List Yielded) (b : Bool) (p : Place) : Type 0 where
   values : List Given
   like : Alike values ys
@@ -58,6 +62,9 @@ is_listed f source.Branches t =
 is_listed f source.Yields t =
     let c = context_in f t in
     record { values = c.yields; like = alike_yields 0 t.case.now.yields; all = ap (λ ws. c.yields ++ ws) (end_counts c c.yields) }
+is_listed f source.Cases t =
+    let vs = together source.Cases (context_in f t) in
+    record { values = vs; like = alike_cases (drop 1 t.kids.now); all = sym (append-nil vs) }
 
 -- ---- the first that goes on
 

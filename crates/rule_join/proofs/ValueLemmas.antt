@@ -1,5 +1,5 @@
 -- The listed values, one by one.
-use Rattle.std.proofs.Common.{◌≡◌, ℕ, zero, suc, ◌+◌, ◌<◌, Bool, true, false, not, ◌&&◌, ◌||◌, ◌==◌, cond, nat_lt, List, [], ◌∷◌, length, drop, get_or, Some, None, refl, ap, ap₂, sym, ◌∙◌, subst, arith, add-one}
+use Rattle.std.proofs.Common.{◌≡◌, ℕ, zero, suc, ◌+◌, ◌<◌, Bool, true, false, not, ◌&&◌, ◌||◌, ◌==◌, cond, nat_lt, List, [], ◌∷◌, ◌-◌, length, drop, map, get_or, Some, None, refl, ap, ap₂, sym, ◌∙◌, subst, arith, add-one}
 use Rattle.std.specs.Prelude.{find, slice_get}
 use Rattle.std.proofs.lemmas.Bool.{lt-ltb}
 use Rattle.std.proofs.lemmas.Option.{slice_get-get_or}
@@ -35,10 +35,12 @@ at_branch source.Branches t i y e h k =
     let next : i + 1 ≡ suc i = add-one i in
     branch_at _ t.kids.now i h ∙ ap Some (sym (k ∙ ap (λ n. handed (tree_from_front n t.kids.now)) next))
 at_branch source.Yields t i y e h k = cc
+at_branch source.Cases t i y e h k = cc
 
 pub branch_within : (v : Source) (t : Turn) (i : ℕ) → v ≡ source.Branches → i < length (listed_in v t) → i < 2
 branch_within source.Branches t i e h = branch_few _ t.kids.now i h
 branch_within source.Yields t i e h = cc
+branch_within source.Cases t i e h = cc
 
 yields_are : (v : Source) (t : Turn) → v ≡ source.Yields → listed_in v t ≡ yields_in t
 yields_are v t e = ap (λ w. listed_in w t) e
@@ -51,6 +53,37 @@ pub at_yield : (v : Source) (t : Turn) (i : ℕ) (y : Yielded) (zs : List Yielde
 at_yield v t i y zs e h z g =
     ap (λ us. slice_get us i) (yields_are v t e) ∙ slice_get-get_or (yields_in t) i y (yield_within v t i e h)
     ∙ ap (λ us. Some (get_or us i y)) (sym z) ∙ ap Some (sym g)
+
+cases_are : (v : Source) (t : Turn) → v ≡ source.Cases → listed_in v t ≡ map handed (drop 1 t.kids.now)
+cases_are v t e = ap (λ w. listed_in w t) e
+
+length-handed : (xs : List TypedNode) → length (map handed xs) ≡ length xs
+length-handed [] = refl
+length-handed (x ∷ xs) = ap suc (length-handed xs)
+
+length-cases : (xs : List TypedNode) → length (map handed (drop 1 xs)) ≡ length xs - 1
+length-cases [] = refl
+length-cases (x ∷ xs) = length-handed xs ∙ omega arith
+
+pub case_count : (v : Source) (t : Turn) → v ≡ source.Cases → length t.kids.now - 1 ≡ length (listed_in v t)
+case_count v t e = sym (ap length (cases_are v t e) ∙ length-cases t.kids.now)
+
+pub case_within : (v : Source) (t : Turn) (i : ℕ) → v ≡ source.Cases → i < length (listed_in v t) → i + 1 < length t.kids.now
+case_within v t i e h = let all = case_count v t e in omega arith
+
+handed_at : (xs : List TypedNode) (i : ℕ) → i < length (map handed xs) → slice_get (map handed xs) i ≡ Some (handed (tree_from_front i xs))
+handed_at [] i h = absurd (omega arith)
+handed_at (x ∷ xs) zero h = refl
+handed_at (x ∷ xs) (suc i) h = handed_at xs i (omega arith)
+
+case_at : (xs : List TypedNode) (i : ℕ) → i < length (map handed (drop 1 xs)) → slice_get (map handed (drop 1 xs)) i ≡ Some (handed (tree_from_front (i + 1) xs))
+case_at [] i h = absurd (omega arith)
+case_at (x ∷ xs) i h = rw add-one (handed_at xs i h)
+
+pub at_case : (v : Source) (t : Turn) (i : ℕ) (y : Yielded) → v ≡ source.Cases → i < length (listed_in v t) → y ≡ handed (tree_from_front (i + 1) t.kids.now)
+    → slice_get (listed_in v t) i ≡ Some y
+at_case v t i y e h k =
+    ap (λ ys. slice_get ys i) (cases_are v t e) ∙ case_at t.kids.now i (subst (λ ys. i < length ys) (cases_are v t e) h) ∙ ap Some (sym k)
 
 -- ---- the first of them of which something is so
 

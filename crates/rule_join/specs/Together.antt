@@ -1,5 +1,5 @@
--- The values that come together in a node: of branches, or what was yielded to it, and then its end.
-use Rattle.std.specs.Prelude.{ℕ, Bool, true, false, not, cond, ◌&&◌, nat_lt, List, [], ◌∷◌, find, length, Option, Some, None, option_map}
+-- The values that come together in a node: of branches, of cases, or what was yielded to it, and then its end.
+use Rattle.std.specs.Prelude.{ℕ, Bool, true, false, not, cond, ◌&&◌, nat_lt, List, [], ◌∷◌, drop, find, length, map, Option, Some, None, option_map}
 use Rattle.hare_tree.specs.declared.place.Place.{Place}
 use Rattle.hare_types.specs.Store.{Store}
 use Rattle.hare_typed.specs.Typed.{TypedNode}
@@ -8,7 +8,7 @@ use Rattle.hare_rules.specs.declared.judged.Yielded.{Yielded}
 use Rattle.hare_rules.specs.Words.{is_never, has_default}
 use Rattle.hare_rules.specs.Context.{Context, Given, store_of, is_there, own_type, place_of}
 use Rattle.hare_rules.specs.Joined.{first_lacking, first_misfit, void_fits}
-use Rattle.hare_rules.specs.Control.{is_open, branches, block_values}
+use Rattle.hare_rules.specs.Control.{is_open, branches, block_values, case_values}
 use Rattle.rule_judge.specs.declared.turn.Turn.{Turn}
 use Rattle.rule_judge.specs.Turns.{yields_in}
 use Rattle.rule_join.specs.declared.values.Source.{Source}
@@ -20,6 +20,7 @@ use Rattle.rule_join.specs.declared.values.Source.TheVariants as source
 abbrev pub together : Source → Context → List Given
 together source.Branches c = branches c
 together source.Yields c = block_values c
+together source.Cases c = case_values c
 
 abbrev pub place_in : Given → Place
 place_in g = g.place
@@ -34,7 +35,7 @@ misfit v c = option_map place_in (first_misfit (store_of c) c.hint (together v c
 
 -- ---- as a judge is told of them
 
--- what a branch hands to the node
+-- what a branch or a case hands to the node
 abbrev pub handed : TypedNode → Yielded
 handed x = record { place = place_of x; ty = own_type x }
 
@@ -46,6 +47,7 @@ two_branches false xs = []
 abbrev pub listed : Source → List TypedNode → List Yielded → List Yielded
 listed source.Branches xs ys = two_branches (is_there (tree_from_front 2 xs)) xs
 listed source.Yields xs ys = ys
+listed source.Cases xs ys = map handed (drop 1 xs)
 
 abbrev pub listed_in : Source → Turn → List Yielded
 listed_in v t = listed v t.kids.now (yields_in t)
@@ -54,6 +56,7 @@ listed_in v t = listed v t.kids.now (yields_in t)
 abbrev pub ends : Source → Context → Bool
 ends source.Branches c = false
 ends source.Yields c = nat_lt 0 (length c.yields) && is_open c
+ends source.Cases c = false
 
 -- the first that goes on
 abbrev pub going : Store → List Yielded → Option Yielded

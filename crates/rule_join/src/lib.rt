@@ -3,6 +3,7 @@
 
 mod asked;
 mod blocks;
+mod cases;
 mod joins;
 mod judged;
 mod loops;
@@ -10,4 +11,5 @@ mod types;
 mod unmet;
 mod values;
 
+pub use cases::{asks_case, case_misfit, case_target, cases_type};
 pub use judged::judge;

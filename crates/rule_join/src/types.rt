@@ -35,7 +35,7 @@ fn word_type(s: &mut TypeStore, k: Scalar) -> Result<Ty, AllocError>
 }
 
 /// The type of what comes together, where the first value that goes on has a default or none is asked for.
-fn type_together(s: &mut TypeStore, v: Source, t: &Turn<'_>) -> Result<Ty, AllocError>
+pub(crate) fn type_together(s: &mut TypeStore, v: Source, t: &Turn<'_>) -> Result<Ty, AllocError>
     requires turn { IsTurn s.old t.now }
     requires defaults { (f : Store) → IsLater s.old f → joined.first_lacking f t.now.case.now.hint (together v (context_in f t.now)) ≡ None }
     ensures value { IfOk result (λ a. (f : Store) → IsLater s.new f → words.typed_as (joined.joined f t.now.case.now.hint (together v (context_in f t.now))) ≡ Some a) }

@@ -21,6 +21,8 @@ pub(crate) enum Source {
     Branches,
     /// What was yielded to a block or a case, and then its end, where anything was and it is reached.
     Yields,
+    /// The cases of a `match` or a `switch`.
+    Cases,
 }
 
 /// What kid `i` hands to the node.
@@ -43,6 +45,7 @@ pub(crate) fn count(v: Source, t: &Turn<'_>) -> usize
             let case = t.case;
             case.yields.len()
         }
+        Source::Cases => t.kids.len().saturating_sub(1),
     }
 }
 
@@ -57,6 +60,11 @@ pub(crate) fn value_at(v: Source, t: &Turn<'_>, i: usize) -> Yielded
         Source::Yields => {
             let case = t.case;
             case.yields.as_slice()[i]
+        }
+        Source::Cases => {
+            let all = t.kids.len();
+            prove!(i < all);
+            handed(t.kids, i + 1)
         }
     }
 }
@@ -82,7 +90,7 @@ pub(crate) fn ends(s: &TypeStore, v: Source, t: &Turn<'_>) -> bool
     ensures { (f : Store) → IsLater s.now f → result ≡ spec.ends v (context_in f t.now) }
 {
     match v {
-        Source::Branches => false,
+        Source::Branches | Source::Cases => false,
         Source::Yields => {
             let case = t.case;
             !case.yields.is_empty() && is_open(s, t)
