@@ -1,0 +1,4 @@
+pub mod Patterns
+pub mod Kinds
+pub mod Needs
+pub mod Laws
