@@ -21,11 +21,14 @@ use Rattle.rule_match.specs.Patterns.{AreListed, points_to, as_cover}
 module _ (p : Pattern → Bool) (xs : List TypedNode) (i : ℕ) (all : Bool) (e : all ≡ list_any p (map pattern_of (drop i xs))) where
   pub some_here : (x : Pattern) → i < length xs → x ≡ pattern_of (tree_from_front i xs) → p x ≡ true → true ≡ all
   some_here x l g h =
-      sym (e ∙ ap (λ ys. list_any p (map pattern_of ys)) (drop_front xs i l) ∙ ap (λ b. b || list_any p (map pattern_of (drop (i + 1) xs))) (ap p (sym g) ∙ h))
+      sym (e ∙ ap (λ ys. list_any p (map pattern_of ys)) (drop_front xs i l)
+      ∙ ap (λ b. b || list_any p (map pattern_of (drop (i + 1) xs))) (ap p (sym g) ∙ h))
 
-  pub some_later : (x : Pattern) → i < length xs → x ≡ pattern_of (tree_from_front i xs) → p x ≡ false → all ≡ list_any p (map pattern_of (drop (i + 1) xs))
+  pub some_later : (x : Pattern) → i < length xs → x ≡ pattern_of (tree_from_front i xs) → p x ≡ false
+      → all ≡ list_any p (map pattern_of (drop (i + 1) xs))
   some_later x l g h =
-      e ∙ ap (λ ys. list_any p (map pattern_of ys)) (drop_front xs i l) ∙ ap (λ b. b || list_any p (map pattern_of (drop (i + 1) xs))) (ap p (sym g) ∙ h)
+      e ∙ ap (λ ys. list_any p (map pattern_of ys)) (drop_front xs i l)
+      ∙ ap (λ b. b || list_any p (map pattern_of (drop (i + 1) xs))) (ap p (sym g) ∙ h)
 
   pub some_nowhere : length xs ≤ i → false ≡ all
   some_nowhere l = sym (e ∙ ap (λ ys. list_any p (map pattern_of ys)) (drop_past xs i l))
@@ -39,7 +42,8 @@ member_listed t (NullPointer ∷ ps) = member_listed t ps
 member_listed t (Member u ∷ ps) = ap (λ b. nat_eq t u || b) (member_listed t ps)
 member_listed t (Lacking ∷ ps) = member_listed t ps
 
-pointer_listed : (f : Store) (u : ℕ) (ps : List Pattern) → list_any (points_to f u) ps ≡ list_any (λ t. is_pointer_to u (row_at f t)) (members_listed ps)
+pointer_listed : (f : Store) (u : ℕ) (ps : List Pattern)
+    → list_any (points_to f u) ps ≡ list_any (λ t. is_pointer_to u (row_at f t)) (members_listed ps)
 pointer_listed f u [] = refl
 pointer_listed f u (Default ∷ ps) = pointer_listed f u ps
 pointer_listed f u (NullPointer ∷ ps) = pointer_listed f u ps
@@ -59,11 +63,14 @@ module _ (f : Store) (q : Patterns) (ps : List Pattern) (h : AreListed q ps) whe
   module _ (a : Ty) (without : q.has_default ≡ false) (o : Option Row) (base : o ≡ base_row f a) where
     pub covers_by : (b : Bool) → b ≡ covers_row f o (as_cover ps) → b ≡ match_covers f a (as_cover ps)
     covers_by b e =
-        e ∙ ap (λ r. covers_row f r (as_cover ps)) base ∙ sym (ap (λ d. d || covers_row f (base_row f a) (as_cover ps)) (sym (h Default) ∙ without))
+        e ∙ ap (λ r. covers_row f r (as_cover ps)) base
+        ∙ sym (ap (λ d. d || covers_row f (base_row f a) (as_cover ps)) (sym (h Default) ∙ without))
 
-    pub covers_union : (is : List ℕ) (b : Bool) → o ≡ Some (row.Union is) → b ≡ list_all (contains nat_eq q.types) is → b ≡ match_covers f a (as_cover ps)
+    pub covers_union : (is : List ℕ) (b : Bool) → o ≡ Some (row.Union is) → b ≡ list_all (contains nat_eq q.types) is
+        → b ≡ match_covers f a (as_cover ps)
     covers_union is b g e = covers_by b (e ∙ each_listed is ∙ sym (ap (λ r. covers_row f r (as_cover ps)) g))
 
-    pub covers_nullable : (u : ℕ) (b : Bool) → o ≡ Some (row.Nullable u) → b ≡ (q.has_null && list_any (points_to f u) ps) → b ≡ match_covers f a (as_cover ps)
+    pub covers_nullable : (u : ℕ) (b : Bool) → o ≡ Some (row.Nullable u) → b ≡ (q.has_null && list_any (points_to f u) ps)
+        → b ≡ match_covers f a (as_cover ps)
     covers_nullable u b g e =
         covers_by b (e ∙ ap₂ (λ n k. n && k) (h NullPointer) (pointer_listed f u ps) ∙ sym (ap (λ r. covers_row f r (as_cover ps)) g))

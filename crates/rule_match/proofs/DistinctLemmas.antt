@@ -24,21 +24,25 @@ module _ (q : Patterns) (all xs : List TypedNode) (i : ℕ) (h : AreEarlier q al
     step : holds q x ≡ false → repeated_pattern [] all ≡ repeated_pattern (x ∷ h.earlier) (drop (i + 1) xs)
     step n =
         h.rest ∙ ap (repeated_pattern h.earlier) (drop_front xs i l)
-        ∙ ap (λ b. cond b (Some (tree_from_front i xs)) (repeated_pattern (pattern_of (tree_from_front i xs) ∷ h.earlier) (drop (i + 1) xs)))
+        ∙ ap (λ b. cond b (Some (tree_from_front i xs))
+        (repeated_pattern (pattern_of (tree_from_front i xs) ∷ h.earlier) (drop (i + 1) xs)))
         (sym (h.listed (pattern_of (tree_from_front i xs))) ∙ ap (holds q) (sym e) ∙ n)
         ∙ ap (λ y. repeated_pattern (y ∷ h.earlier) (drop (i + 1) xs)) (sym e)
 
-    pub earlier_more : (new : Patterns) → holds q x ≡ false → ((p : Pattern) → holds new p ≡ (same_pattern p x || holds q p)) → AreEarlier new all (drop (i + 1) xs)
+    pub earlier_more : (new : Patterns) → holds q x ≡ false → ((p : Pattern) → holds new p ≡ (same_pattern p x || holds q p))
+        → AreEarlier new all (drop (i + 1) xs)
     earlier_more new n k = record {
       earlier = x ∷ h.earlier;
       listed = λ p. k p ∙ ap (λ b. same_pattern p x || b) (h.listed p);
       rest = step n;
     }
 
-    pub repeats_here : (p : Place) → holds q x ≡ true → p ≡ place_of (tree_from_front i xs) → Some p ≡ option_map place_of (repeated_pattern [] all)
+    pub repeats_here : (p : Place) → holds q x ≡ true → p ≡ place_of (tree_from_front i xs)
+        → Some p ≡ option_map place_of (repeated_pattern [] all)
     repeats_here p n g =
         sym (ap (option_map place_of) (h.rest ∙ ap (repeated_pattern h.earlier) (drop_front xs i l)
-        ∙ ap (λ b. cond b (Some (tree_from_front i xs)) (repeated_pattern (pattern_of (tree_from_front i xs) ∷ h.earlier) (drop (i + 1) xs)))
+        ∙ ap (λ b. cond b (Some (tree_from_front i xs))
+        (repeated_pattern (pattern_of (tree_from_front i xs) ∷ h.earlier) (drop (i + 1) xs)))
         (sym (h.listed (pattern_of (tree_from_front i xs))) ∙ ap (holds q) (sym e) ∙ n)) ∙ ap Some (sym g))
 
   pub none_repeats : length xs ≤ i → None ≡ option_map place_of (repeated_pattern [] all)

@@ -25,5 +25,6 @@ module _ (p : TypedNode → Bool) (xs : List TypedNode) (i : ℕ) (all : Option 
   found_nowhere l = sym (ap (option_map (λ x. place_of (pattern_kid x))) (e ∙ ap (find p) (drop_past xs i l)))
 
 -- whether a pattern is none of a type
-pub misfits : (f : Store) (a b : Ty) (p q : Pattern) (fit : Bool) → a ≡ b → p ≡ q → fit ≡ fits_pattern f a p → not (fits_pattern f b q) ≡ not fit
+pub misfits : (f : Store) (a b : Ty) (p q : Pattern) (fit : Bool) → a ≡ b → p ≡ q → fit ≡ fits_pattern f a p
+    → not (fits_pattern f b q) ≡ not fit
 misfits f a b p q fit e g h = ap not (sym (h ∙ ap₂ (fits_pattern f) e g))

@@ -42,20 +42,23 @@ module _ (old new : Patterns) where
       → (q : Pattern) → holds new q ≡ (same_pattern q (meant p) || holds old q)
   put m p e h q = h q ∙ sym (ap (λ x. same_pattern q x || holds old q) e)
 
-  pub holds-default : new.has_default ≡ true → new.has_null ≡ old.has_null → new.types ≡ old.types → (q : Pattern) → holds new q ≡ (same_pattern q Default || holds old q)
+  pub holds-default : new.has_default ≡ true → new.has_null ≡ old.has_null → new.types ≡ old.types → (q : Pattern)
+      → holds new q ≡ (same_pattern q Default || holds old q)
   holds-default d n h Default = d
   holds-default d n h NullPointer = n
   holds-default d n h (Member t) = ap (λ ts. contains nat_eq ts t) h
   holds-default d n h Lacking = refl
 
-  pub holds-null : new.has_default ≡ old.has_default → new.has_null ≡ true → new.types ≡ old.types → (q : Pattern) → holds new q ≡ (same_pattern q NullPointer || holds old q)
+  pub holds-null : new.has_default ≡ old.has_default → new.has_null ≡ true → new.types ≡ old.types → (q : Pattern)
+      → holds new q ≡ (same_pattern q NullPointer || holds old q)
   holds-null d n h Default = d
   holds-null d n h NullPointer = n
   holds-null d n h (Member t) = ap (λ ts. contains nat_eq ts t) h
   holds-null d n h Lacking = refl
 
   pub holds-member : (t : ℕ) → new.has_default ≡ old.has_default → new.has_null ≡ old.has_null
-      → ((u : ℕ) → contains nat_eq new.types u ≡ cond (nat_eq t u) true (contains nat_eq old.types u)) → (q : Pattern) → holds new q ≡ (same_pattern q (Member t) || holds old q)
+      → ((u : ℕ) → contains nat_eq new.types u ≡ cond (nat_eq t u) true (contains nat_eq old.types u)) → (q : Pattern)
+      → holds new q ≡ (same_pattern q (Member t) || holds old q)
   holds-member t d n h Default = d
   holds-member t d n h NullPointer = n
   holds-member t d n h (Member u) = h u ∙ either t u (contains nat_eq old.types u)
@@ -77,7 +80,8 @@ joined false true r all n e h = ap (λ b. b || r) e ∙ h
 joined false false r all n e h = ap (λ b. b || r) e ∙ h
 
 module _ (xs : List TypedNode) (i : ℕ) (p : Pattern) where
-  pub listed_more : (x : Pattern) (old new all : Bool) → i < length xs → x ≡ pattern_of (tree_from_front i xs) → new ≡ (same_pattern p x || old)
+  pub listed_more : (x : Pattern) (old new all : Bool) → i < length xs → x ≡ pattern_of (tree_from_front i xs)
+      → new ≡ (same_pattern p x || old)
       → (old || stands_among (map pattern_of (drop i xs)) p) ≡ all → (new || stands_among (map pattern_of (drop (i + 1) xs)) p) ≡ all
   listed_more x old new all l e n h =
       joined (same_pattern p x) old (stands_among (map pattern_of (drop (i + 1) xs)) p) all new n

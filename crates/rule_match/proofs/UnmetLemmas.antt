@@ -14,7 +14,8 @@ is_match ki.Match e = refl
 is_match _ e = absurd cc
 
 -- at the pattern of the case that is found
-pub told_pattern : (o : Option TypedNode) (p : Place) → option_map (λ x. place_of (pattern_kid x)) o ≡ cond (is_none o) None (Some (place_of_pattern p o))
+pub told_pattern : (o : Option TypedNode) (p : Place)
+    → option_map (λ x. place_of (pattern_kid x)) o ≡ cond (is_none o) None (Some (place_of_pattern p o))
 told_pattern None p = refl
 told_pattern (Some x) p = refl
 

@@ -2,3 +2,4 @@ pub mod Patterns
 pub mod Kinds
 pub mod Needs
 pub mod Laws
+pub mod Smallest

@@ -8,6 +8,8 @@ mod fitting;
 mod judged;
 mod listed;
 mod patterns;
+#[cfg(test)]
+mod tests;
 mod unmet;
 
 pub use judged::judge;

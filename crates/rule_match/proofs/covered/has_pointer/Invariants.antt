@@ -9,4 +9,5 @@ use Rattle.rule_match.proofs.covered.has_pointer.Given as goal
 abbrev pub invariant-loop-i : goal.invariant-loop-i
 invariant-loop-i l =
     (f : Store) → IsLater l.s f
-    → list_any (points_to f l.pointee) (map pattern_of (drop 1 l.kids)) ≡ list_any (points_to f l.pointee) (map pattern_of (drop l.i l.kids))
+    → list_any (points_to f l.pointee) (map pattern_of (drop 1 l.kids)) ≡ list_any (points_to f l.pointee)
+    (map pattern_of (drop l.i l.kids))

@@ -8,12 +8,14 @@ loop-i-init c = none_earlier c.new-earlier.result (drop 1 c.args.kids.now) c.new
 
 pub loop-i-preserved : goal.loop-i-preserved
 loop-i-preserved c =
-    earlier_more c.loop-i.earlier (drop 1 c.args.kids.now) c.args.kids.now c.loop-i.i c.loop-i.invariant (meant c.pattern_at-pattern.result) (omega arith)
+    earlier_more c.loop-i.earlier (drop 1 c.args.kids.now) c.args.kids.now c.loop-i.i c.loop-i.invariant
+    (meant c.pattern_at-pattern.result) (omega arith)
     c.pattern_at-pattern.ensures.value c.insert.new.self (sym c.if-contains.ensures) c.in_ok-insert.ensures
 
 pub returns-then-contains : goal.returns-then-contains
 returns-then-contains c =
-    repeats_here c.loop-i.earlier (drop 1 c.args.kids.now) c.args.kids.now c.loop-i.i c.loop-i.invariant (meant c.pattern_at-pattern.result) (omega arith)
+    repeats_here c.loop-i.earlier (drop 1 c.args.kids.now) c.args.kids.now c.loop-i.i c.loop-i.invariant
+    (meant c.pattern_at-pattern.result) (omega arith)
     c.pattern_at-pattern.ensures.value _ (sym c.if-contains.ensures) c.place_at.ensures
 
 pub returns : goal.returns

@@ -12,17 +12,20 @@ is_fitting-requires-clause-pattern c = c.pattern_at.ensures.defined c.args.s.now
 
 pub returns-then-not-is_fitting : goal.returns-then-not-is_fitting
 returns-then-not-is_fitting c f l =
-    found_here (λ (x : TypedNode). not (fits_pattern f (given (tree_from_front 0 c.args.t.now.kids.now)) (pattern_of x))) c.args.t.now.kids.now c.loop-i.i
+    found_here (λ (x : TypedNode). not (fits_pattern f (given (tree_from_front 0 c.args.t.now.kids.now)) (pattern_of x)))
+    c.args.t.now.kids.now c.loop-i.i
     (odd_case (context_in f c.args.t.now)) (c.loop-i.invariant f l) c.pattern_place.result (omega arith)
     (misfits f _ _ _ _ _ c.seen-operand.ensures.value c.pattern_at.ensures.value (c.if-not-is_fitting.ensures f l)) c.pattern_place.ensures
 
 pub loop-i-preserved : goal.loop-i-preserved
 loop-i-preserved c f l =
-    found_later (λ (x : TypedNode). not (fits_pattern f (given (tree_from_front 0 c.args.t.now.kids.now)) (pattern_of x))) c.args.t.now.kids.now c.loop-i.i
+    found_later (λ (x : TypedNode). not (fits_pattern f (given (tree_from_front 0 c.args.t.now.kids.now)) (pattern_of x)))
+    c.args.t.now.kids.now c.loop-i.i
     (odd_case (context_in f c.args.t.now)) (c.loop-i.invariant f l) (omega arith)
     (misfits f _ _ _ _ _ c.seen-operand.ensures.value c.pattern_at.ensures.value (c.if-not-is_fitting.ensures f l))
 
 pub returns : goal.returns
 returns c f l =
-    found_nowhere (λ (x : TypedNode). not (fits_pattern f (given (tree_from_front 0 c.args.t.now.kids.now)) (pattern_of x))) c.args.t.now.kids.now c.loop-i.i
+    found_nowhere (λ (x : TypedNode). not (fits_pattern f (given (tree_from_front 0 c.args.t.now.kids.now)) (pattern_of x)))
+    c.args.t.now.kids.now c.loop-i.i
     (odd_case (context_in f c.args.t.now)) (c.loop-i.invariant f l) (omega arith)

@@ -11,4 +11,5 @@ use Rattle.rule_match.proofs.fitting.odd_pattern.Given as goal
 abbrev pub invariant-loop-i : goal.invariant-loop-i
 invariant-loop-i l =
     (f : Store) → IsLater l.s f
-    → odd_case (context_in f l.t) ≡ find (λ x. not (fits_pattern f (given (tree_from_front 0 l.t.kids.now)) (pattern_of x))) (drop l.i l.t.kids.now)
+    → odd_case (context_in f l.t) ≡ find (λ x. not (fits_pattern f (given (tree_from_front 0 l.t.kids.now)) (pattern_of x)))
+    (drop l.i l.t.kids.now)

@@ -10,7 +10,8 @@ pub returns-in-Some : goal.returns-in-Some
 returns-in-Some c =
     c.place_at.ensures
     ∙ ap place_of
-    (kid-front 0 _ _ c.case.inside.kids c.in-Some.case.now c.case.view_is ∙ ap pattern_kid (front_found c.args.kids.now c.args.i c.in-Some.case.now c.in-Some.ensures.found))
+    (kid-front 0 _ _ c.case.inside.kids c.in-Some.case.now c.case.view_is
+    ∙ ap pattern_kid (front_found c.args.kids.now c.args.i c.in-Some.case.now c.in-Some.ensures.found))
 
 pub returns-in-None : goal.returns-in-None
 returns-in-None c =

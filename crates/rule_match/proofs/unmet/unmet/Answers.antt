@@ -9,7 +9,8 @@ use Rattle.rule_match.proofs.unmet.unmet.Goals as goal
 
 pub returns-in-MatchPatterns-clause-value : goal.returns-in-MatchPatterns-clause-value
 returns-in-MatchPatterns-clause-value c f l =
-    c.odd_pattern.ensures f l ∙ told_pattern _ (head c.args.t.now.node.now).place ∙ sym (ap (λ (r : RowId). unmet r (context_in f c.args.t.now)) c.in-MatchPatterns.is)
+    c.odd_pattern.ensures f l ∙ told_pattern _ (head c.args.t.now.node.now).place
+    ∙ sym (ap (λ (r : RowId). unmet r (context_in f c.args.t.now)) c.in-MatchPatterns.is)
 
 pub returns-in_ok-at-in-MatchDistinct-clause-value : goal.returns-in_ok-at-in-MatchDistinct-clause-value
 returns-in_ok-at-in-MatchDistinct-clause-value c f l =

@@ -20,7 +20,8 @@ pub returns-in_ok-insert-in-Member : goal.returns-in_ok-insert-in-Member
 returns-in_ok-insert-in-Member c =
     let old = c.args.self.now in
     let new = record old { types = c.insert.new.self } in
-    put old new (Member c.in-Member.t) c.args.p (ap meant c.in-Member.is) (holds-member old new c.in-Member.t refl refl c.in_ok-insert-in-Member.ensures.updates.0)
+    put old new (Member c.in-Member.t) c.args.p (ap meant c.in-Member.is)
+    (holds-member old new c.in-Member.t refl refl c.in_ok-insert-in-Member.ensures.updates.0)
 
 pub returns-in-Lacking : goal.returns-in-Lacking
 returns-in-Lacking c = put c.args.self.now c.args.self.now Lacking c.args.p (ap meant c.in-Lacking.is) (holds-lacking c.args.self.now)

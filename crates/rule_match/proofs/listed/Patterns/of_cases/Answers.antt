@@ -9,7 +9,8 @@ loop-i-init c p = ap (λ b. b || stands_among (map pattern_of (drop 1 c.args.kid
 
 pub loop-i-preserved : goal.loop-i-preserved
 loop-i-preserved c p =
-    listed_more c.args.kids.now c.loop-i.i p (meant c.pattern_at.result) _ _ _ (omega arith) c.pattern_at.ensures.value (c.in_ok-insert.ensures p) (c.loop-i.invariant p)
+    listed_more c.args.kids.now c.loop-i.i p (meant c.pattern_at.result) _ _ _ (omega arith) c.pattern_at.ensures.value
+    (c.in_ok-insert.ensures p) (c.loop-i.invariant p)
 
 pub returns : goal.returns
 returns c p = listed_all c.args.kids.now c.loop-i.i p _ _ (omega arith) (c.loop-i.invariant p)
