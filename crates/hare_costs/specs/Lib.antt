@@ -1,0 +1,4 @@
+pub mod Amounts
+pub mod Costs
+pub mod Leaving
+pub mod Sizes

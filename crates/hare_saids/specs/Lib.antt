@@ -1,0 +1,2 @@
+pub mod Saids
+pub mod Kinds
