@@ -113,7 +113,14 @@ pair_pointer_pointer = 31
 abbrev pub str_pointer : ℕ
 str_pointer = 32
 
--- the field names `a` and `b` have the numbers 0 and 1; tags from 1 on: int, bool, `!void`, void, *int, []int, []u8, nomem
+-- `!int`, `(bool | !int)`
+abbrev pub bad : ℕ
+bad = 33
+
+abbrev pub bool_or_bad : ℕ
+bool_or_bad = 34
+
+-- the field names `a` and `b` have the numbers 0 and 1; tags from 1 on: int, bool, `!void`, void, *int, []int, []u8, nomem, `!int`
 abbrev pub types : Store
 types = record {
   names = (97 ∷ []) ∷ (98 ∷ []) ∷ [];
@@ -151,7 +158,9 @@ types = record {
       ∷ row.Pointer 1
       ∷ row.Pointer 19
       ∷ row.Pointer 3
+      ∷ row.Error 5
+      ∷ row.Union (2 ∷ 33 ∷ [])
       ∷ [];
   declared = (4294967295, record { sized = true; definition = Some 8 }) ∷ [];
-  listed = 5 ∷ 2 ∷ 8 ∷ 0 ∷ 9 ∷ 13 ∷ 15 ∷ 7 ∷ [];
+  listed = 5 ∷ 2 ∷ 8 ∷ 0 ∷ 9 ∷ 13 ∷ 15 ∷ 7 ∷ 33 ∷ [];
 }

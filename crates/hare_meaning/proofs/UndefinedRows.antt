@@ -1,37 +1,11 @@
--- Rows of undefined acts: each with its place, and which comes first where two apply.
-use Rattle.std.proofs.Common.{◌≡◌, ℕ, ◌+◌, ◌*◌, ◌^◌, [], ◌∷◌, ◌++◌, map, codes, refl}
-use Rattle.std.specs.Fmt.{digits}
+-- Rows of undefined acts, each with its place.
+use Rattle.std.proofs.Common.{◌≡◌, [], ◌∷◌, codes, refl}
 use Rattle.hare_tree.specs.declared.kind.Kind.TheVariants as kind
 use Rattle.hare_types.specs.declared.coercion.Ty.TheVariants as kept
-use Rattle.hx_base.specs.Memory.{le_bytes}
-use Rattle.hare_typed.specs.declared.cell.Cell.TheVariants as cell
-use Rattle.hare_typed.specs.Cells.{byte_cells}
-use Rattle.hare_typed.specs.Typed.{TypedNode}
-use Rattle.hare_typed.specs.State.{Undefined, Exit, Abort}
-use Rattle.hare_meaning.proofs.Samples.{void, bool, str, str_pointer, pair_pointer_pointer, u8, int, size, pointer, nullable, byte_pointer, pointer_to_pointer, slice_pointer, pair_pointer, bytes, four_bytes, int_or_bool, new_int, new_bytes}
-use Rattle.hare_meaning.proofs.Trees.{place, at, to, numbered, known, global, outcome, of_type, absent, node, one, main, rt, text, block, giving, ends, result_of, exit, tell, bind, local, hand, set, set_by, loop, each, element, again, n8, num, equal, array, part, index, field, type_node, alloc, alloc_for, append, append_all, delete, free, sure, begun, program}
-
-abbrev four : TypedNode
-four = array four_bytes (n8 1 ∷ n8 2 ∷ n8 3 ∷ n8 4 ∷ [])
-
--- a pointer as one to values of another type
-abbrev cast : ℕ → TypedNode → TypedNode
-cast t e = node kind.Cast [] 0 t (e ∷ type_node t ∷ [])
-
-abbrev address : ℕ → TypedNode → TypedNode
-address t e = one kind.Addr t e
-
-abbrev deref : ℕ → TypedNode → TypedNode
-deref t e = one kind.Deref t e
-
--- the address of a local of an inner block, behind that; before the block so many bindings begin
-abbrev dangling : ℕ → TypedNode
-dangling n = giving byte_pointer (bind (n8 2) ∷ hand (address byte_pointer (local n u8)) ∷ [])
-
--- a slice of four bytes, freed
-abbrev freed_slice : ℕ → TypedNode
-freed_slice n =
-    giving bytes (bind (sure bytes (alloc_for new_bytes four 4)) ∷ free (local n bytes) ∷ hand (local n bytes) ∷ [])
+use Rattle.hare_typed.specs.State.{Undefined, Exit}
+use Rattle.hare_meaning.proofs.Samples.{void, bool, pair_pointer_pointer, u8, int, size, pointer, nullable, byte_pointer, pointer_to_pointer, slice_pointer, pair_pointer, bytes, four_bytes, int_or_bool, new_int, new_bytes}
+use Rattle.hare_meaning.proofs.Trees.{place, at, to, global, outcome, of_type, absent, node, main, rt, text, block, giving, ends, result_of, exit, tell, bind, local, hand, set, set_by, loop, each, element, again, n8, num, equal, array, part, index, field, type_node, alloc, alloc_for, append, append_all, delete, free, sure}
+use Rattle.hare_meaning.proofs.Faulty.{four, cast, address, deref, dangling, freed_slice, text_bytes, words_over_four, as_text, a_union, overwritten, fragments}
 
 -- ---- U1: outside what lives
 
@@ -94,10 +68,6 @@ through_a_dead_pointer : ends (bind (cast pair_pointer_pointer (dangling 1))
     ∷ exit (at 7 (field u8 (codes "a") (local 0 pair_pointer_pointer))) ∷ []) 0 ≡ Undefined 1 (place 7)
 through_a_dead_pointer = refl
 
--- a slice as a text of its bytes
-abbrev as_text : ℕ → TypedNode
-as_text x = deref str (cast str_pointer (address slice_pointer (local x bytes)))
-
 equality_of_a_freed_text : ends (bind (freed_slice 1) ∷ bind (at 7 (equal (text 0 (codes "abcd")) (as_text 0))) ∷ []) 0
     ≡ Undefined 1 (place 7)
 equality_of_a_freed_text = refl
@@ -108,17 +78,6 @@ freed_text_of_another_length : ends (bind (freed_slice 1) ∷ bind (at 7 (equal 
 freed_text_of_another_length = refl
 
 -- ---- U2: stores to constants
-
--- the bytes of a text
-abbrev text_bytes : TypedNode
-text_bytes = rt 3 bytes (text 0 (codes "abcd") ∷ [])
-
--- a slice of two bytes, with room for four, over an array of the global's value
-abbrev two_of_four : TypedNode
-two_of_four =
-    known (map (λ k. cell.Fragment (2 * 2 ^ 32 + 5) 0 k) (0 ∷ 1 ∷ 2 ∷ 3 ∷ 4 ∷ 5 ∷ 6 ∷ 7 ∷ [])
-    ++ byte_cells (le_bytes 8 2) ++ byte_cells (le_bytes 8 4))
-    (to 7 bytes (numbered 5 four))
 
 store_to_a_text : ends (at 7 (set (index u8 text_bytes (num size 0)) (n8 1)) ∷ []) 0 ≡ Undefined 2 (place 7)
 store_to_a_text = refl
@@ -144,7 +103,7 @@ appended_to_a_text = refl
 -- the words, behind the elements: those of a constant global
 appended_to_a_constant : outcome
     (main (bind (at 7 (append_all (deref bytes (address slice_pointer (global 1 bytes))) (part bytes four absent (num size 1)))) ∷ [])
-    ∷ node kind.GlobalConst [] 0 void (absent ∷ absent ∷ absent ∷ two_of_four ∷ []) ∷ []) 0 ≡ Undefined 2 (place 7)
+    ∷ node kind.GlobalConst [] 0 void (absent ∷ absent ∷ absent ∷ words_over_four 2 4 ∷ []) ∷ []) 0 ≡ Undefined 2 (place 7)
 appended_to_a_constant = refl
 
 -- ---- U3: cells that spell nothing
@@ -183,8 +142,7 @@ no_tag = refl
 
 -- fragments of a pointer as the bytes of a text
 equality_of_no_bytes : ends (bind (n8 1) ∷ bind (address byte_pointer (local 0 u8))
-    ∷ bind (part bytes (deref four_bytes (cast byte_pointer (address byte_pointer (local 1 byte_pointer)))) absent absent)
-    ∷ bind (at 7 (equal (text 0 (codes "abcd")) (as_text 2))) ∷ []) 0
+    ∷ bind (fragments 1) ∷ bind (at 7 (equal (text 0 (codes "abcd")) (as_text 2))) ∷ []) 0
     ≡ Undefined 3 (place 7)
 equality_of_no_bytes = refl
 
@@ -244,67 +202,14 @@ growth_of_what_was_freed = refl
 
 -- ---- U8: tags of no member
 
--- the first byte of a union becomes 99
-abbrev overwritten : TypedNode
-overwritten = set (deref u8 (cast byte_pointer (address byte_pointer (local 0 int_or_bool)))) (n8 99)
-
-abbrev a_union : TypedNode
-a_union = to 9 int_or_bool (num int 5)
-
-match_of_no_member : ends (bind a_union ∷ overwritten ∷ at 7 (node kind.Match [] 0 void (local 0 int_or_bool
+match_of_no_member : ends (bind a_union ∷ overwritten 0 ∷ at 7 (node kind.Match [] 0 void (local 0 int_or_bool
     ∷ node kind.Case [] 0 void (absent ∷ []) ∷ [])) ∷ []) 0 ≡ Undefined 8 (place 7)
 match_of_no_member = refl
 
-as_of_no_member : ends (bind a_union ∷ overwritten ∷ tell (at 7 (node kind.As [] 0 int (local 0 int_or_bool ∷ type_node int ∷ [])))
+as_of_no_member : ends (bind a_union ∷ overwritten 0 ∷ tell (at 7 (node kind.As [] 0 int (local 0 int_or_bool ∷ type_node int ∷ [])))
     ∷ []) 0 ≡ Undefined 8 (place 7)
 as_of_no_member = refl
 
-is_of_no_member : ends (bind a_union ∷ overwritten ∷ bind (at 7 (node kind.Is [] 0 bool (local 0 int_or_bool ∷ type_node int ∷ [])))
+is_of_no_member : ends (bind a_union ∷ overwritten 0 ∷ bind (at 7 (node kind.Is [] 0 bool (local 0 int_or_bool ∷ type_node int ∷ [])))
     ∷ []) 0 ≡ Undefined 8 (place 7)
 is_of_no_member = refl
-
--- ---- which comes first
-
--- U1 before U4: too few bytes at a place of another alignment
-outside_before_misaligned : ends (bind four
-    ∷ tell (at 7 (deref int (cast pointer (address byte_pointer (index u8 (local 0 four_bytes) (num size 1)))))) ∷ []) 0
-    ≡ Undefined 1 (place 7)
-outside_before_misaligned = refl
-
--- U4 before U2: an int that is stored to the bytes of a text
-misaligned_before_constant : ends (at 7 (set (deref int (cast pointer (address byte_pointer (index u8 text_bytes (num size 0))))) (num int 1)) ∷ []) 0
-    ≡ Undefined 4 (place 7)
-misaligned_before_constant = refl
-
--- U4 before U3: a bool is read of no value at all, an int at another alignment
-misaligned_before_no_value : ends (loop (bind (giving four_bytes (again
-    ∷ []))) (equal (at 7 (deref int (cast pointer (address byte_pointer (local 0 four_bytes))))) (num int 0)) absent (block []) ∷ []) 1
-    ≡ Undefined 4 (place 7)
-misaligned_before_no_value = refl
-
--- U7 before a refusal: as many bytes live as may
-growth_before_the_refusal : (begun (program (main (bind four ∷ bind (part bytes (local 0 four_bytes) absent absent)
-    ∷ bind (at 7 (append (local 1 bytes) (n8 5))) ∷ []) ∷ [])) 67108864 0 0).0 ≡ Undefined 7 (place 7)
-growth_before_the_refusal = refl
-
--- and before the elements of a freed slice are read
-growth_before_reading : ends (bind four ∷ bind (part bytes (local 0 four_bytes) absent absent)
-    ∷ bind (at 7 (append_all (local 1 bytes) (freed_slice 3))) ∷ []) 0 ≡ Undefined 7 (place 7)
-growth_before_reading = refl
-
--- abort 0 before a dead object is looked at
-abort_before_dead : ends (exit (at 7 (index u8 (part bytes (freed_slice 0) absent (num size 0)) (num size 0))) ∷ []) 0
-    ≡ Abort (codes "m.ha:1:7: abort 0")
-unfolding digits
-abort_before_dead = refl
-
--- U3 of words before abort 5
-words_before_room : ends (loop (bind (giving bytes (again
-    ∷ []))) (equal (n8 0) (n8 0)) absent (block (bind (at 7 (alloc_for new_bytes (local 0 bytes) 0)) ∷ [])) ∷ []) 1
-    ≡ Undefined 3 (place 7)
-words_before_room = refl
-
--- abort 5 before elements are read
-room_before_elements : ends (bind (at 7 (alloc_for new_bytes (freed_slice 1) 3)) ∷ []) 0 ≡ Abort (codes "m.ha:1:7: abort 5")
-unfolding digits
-room_before_elements = refl

@@ -53,7 +53,7 @@ no_body s = let e = s.expression in cc
 
 -- the types of the worked programs, and behind them an array that is too large
 abbrev large : ℕ
-large = 33
+large = 35
 
 abbrev with_large : List TypedNode → Code
 with_large ds = record (program ds) { types = record types { rows = types.rows ++ row.Array 67108865 4 ∷ [] } }

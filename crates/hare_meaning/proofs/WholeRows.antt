@@ -1,13 +1,13 @@
 -- Of each kind a small program, with its outcome, its output and its ticks at a number of turns.
-use Rattle.std.proofs.Common.{◌≡◌, ℕ, List, [], ◌∷◌, codes, refl}
+use Rattle.std.proofs.Common.{◌≡◌, ℕ, List, [], ◌∷◌, ◌++◌, codes, replicate, refl}
 use Rattle.std.specs.Fmt.{digits}
 use Rattle.hare_tree.specs.declared.kind.Kind.TheVariants as kind
 use Rattle.hare_types.specs.declared.coercion.Ty.TheVariants as kept
 use Rattle.hare_typed.specs.declared.cell.Cell.TheVariants.{Byte as byte}
 use Rattle.hare_typed.specs.Typed.{TypedNode}
 use Rattle.hare_typed.specs.State.{Outcome, Exit, Abort}
-use Rattle.hare_meaning.proofs.Samples.{void, never, bool, u8, int, size, rune, nullable, pointer, byte_pointer, bytes, four_bytes, pair, tuple, int_or_bool, void_or_failure, new_int}
-use Rattle.hare_meaning.proofs.Trees.{of_type, to, absent, node, one, two, main, function, call, rt, puts, text, block, giving, result, exit, tell, byte_of, bind, local, hand, give, set, set_by, leave, again, loop, each, element, later, when, yes, no, n8, num, plus, less, equal, array, part, index, field, type_node, known, alloc, free, sure}
+use Rattle.hare_meaning.proofs.Samples.{void, never, bool, u8, int, size, rune, nullable, pointer, byte_pointer, bytes, four_bytes, pair, tuple, int_or_bool, void_or_failure, new_int, new_bytes}
+use Rattle.hare_meaning.proofs.Trees.{of_type, to, absent, node, one, two, main, function, call, rt, puts, text, block, giving, result, exit, tell, byte_of, bind, local, hand, give, set, set_by, leave, again, loop, each, element, later, when, yes, no, n8, num, plus, less, equal, array, part, index, field, type_node, known, alloc, free, sure, alloc_for, append, append_all, delete}
 
 -- a program of these declarations, and one that is its entry alone
 abbrev ran_of : List TypedNode → ℕ → Outcome × (List ℕ × ℕ)
@@ -201,3 +201,37 @@ an_allocation = refl
 
 given_back : ran (new ∷ free (local 0 pointer) ∷ []) 0 ≡ (Exit 0, ([], 17))
 given_back = refl
+
+-- 64 bytes of each of two letters on the heap, with room for so many, and put out at the end
+abbrev letters : ℕ → TypedNode
+letters n = bind (sure bytes (alloc_for new_bytes (rt 3 bytes (text 0 (replicate 64 97 ++ replicate 64 98) ∷ [])) n))
+
+abbrev s : TypedNode
+s = local 0 bytes
+
+abbrev show : TypedNode
+show = rt 1 void (s ∷ [])
+
+-- 1 block; 2 binding, 3 `!`, 4 `alloc`, 2 call, 1 text, 1 number, 2 for 128 bytes; 3 `!`, 4 `append`, 1 no dots, 1 path, 1 number;
+-- 2 call, 1 path, 2 for 129 bytes
+an_append : ran (letters 256 ∷ sure void (append s (n8 9)) ∷ show ∷ []) 0
+    ≡ (Exit 0, (replicate 64 97 ++ replicate 64 98 ++ 9 ∷ [], 31))
+an_append = refl
+
+-- and 2 for 129 bytes that move
+an_append_that_grows : ran (letters 128 ∷ sure void (append s (n8 9)) ∷ show ∷ []) 0
+    ≡ (Exit 0, (replicate 64 97 ++ replicate 64 98 ++ 9 ∷ [], 33))
+an_append_that_grows = refl
+
+-- 2 for 128 bytes within the room, and 4 for 256 that are put out
+an_append_of_all : ran (letters 256 ∷ sure void (append_all s s) ∷ show ∷ []) 0
+    ≡ (Exit 0, (replicate 64 97 ++ replicate 64 98 ++ replicate 64 97 ++ replicate 64 98, 35))
+an_append_of_all = refl
+
+-- 4 `delete`, 1 path, 1 number, 1 for 127 bytes that move; 2 call, 1 path, 1 for 127 bytes
+a_deletion : ran (letters 128 ∷ delete (index u8 s (num size 0)) ∷ show ∷ []) 0 ≡ (Exit 0, (replicate 63 97 ++ replicate 64 98, 27))
+a_deletion = refl
+
+-- the same for 64 bytes
+a_deletion_of_more : ran (letters 128 ∷ delete (part bytes s absent (num size 64)) ∷ show ∷ []) 0 ≡ (Exit 0, (replicate 64 98, 27))
+a_deletion_of_more = refl

@@ -4,11 +4,12 @@ ghost use Rattle.std.specs.Prelude.{◌≡◌, ◌<◌, length, IsTrue};
 ghost use Rattle.hare_layout.specs.Members.{IsUnion};
 
 use crate::definable::is_definable;
-use crate::layout::fields;
+use crate::layout::{field, fields};
 use crate::listing::listing;
 use crate::spelled::type_in;
 use crate::table::Table;
-use crate::values::{assign, cast};
+use crate::unions::payload;
+use crate::values::{assign, becomes, cast};
 use anyhow::{Context, Result, bail, ensure};
 use hare_layout::subset;
 use hare_types::{Row, TypeId, TypeStore};
@@ -24,7 +25,10 @@ pub(crate) fn answer(table: &mut Table, line: &str) -> Result<String> {
         "base" => base(table, skipped, rest),
         "extent" => extent(table, skipped, rest),
         "fields" => fields(table, skipped, rest),
+        "field" => field(table, skipped, rest),
+        "payload" => payload(table, skipped, rest),
         "assign" => assign(table, skipped, rest),
+        "becomes" => becomes(table, skipped, rest),
         "cast" => cast(table, skipped, rest),
         "subset" => is_subset(table, skipped, rest),
         "tag" => tag(table, skipped, rest),

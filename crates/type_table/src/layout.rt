@@ -3,12 +3,12 @@
 ghost use Rattle.std.specs.Prelude.{◌≡◌, ◌<◌, ◌≤◌, ℕ, List, length, map, IsTrue, Some};
 ghost use Rattle.hare_types.specs.Rows.{AllBelow, FieldsBelow};
 ghost use Rattle.hare_types.specs.declared.extent.Extent.{Extent as ExtentOf};
-ghost use Rattle.hare_layout.specs.Small.{LiesIn, extent_by, extents_by, name_extents};
+ghost use Rattle.hare_layout.specs.Small.{IsSmall, LiesIn, extent_by, extents_by, name_extents};
 ghost use Rattle.hare_layout.specs.Offsets.{HasField};
 
 use crate::spelled::type_in;
 use crate::table::Table;
-use anyhow::{Result, bail};
+use anyhow::{Context, Result, bail};
 use hare_layout::{align_of, offset_of, size_of};
 use hare_types::{Field, Row, TypeId, TypeStore};
 
@@ -21,7 +21,7 @@ const MOST_NAMES: u32 = 100;
 /// The size and the alignment of a type, and where its fields begin.
 pub(crate) fn fields(table: &mut Table, skipped: usize, spelling: &str) -> Result<String> {
     let t = type_in(table, skipped, spelling)?;
-    if !is_small(&table.store, t, MOST_NAMES) {
+    if !is_known_small(&table.store, t) {
         bail!("too large");
     }
     let size = size_of(&table.store, t);
@@ -33,6 +33,26 @@ pub(crate) fn fields(table: &mut Table, skipped: usize, spelling: &str) -> Resul
         write!(out, "{offset}")?;
     }
     Ok(out)
+}
+
+/// At which place a struct has the field of a name, counted from 0.
+pub(crate) fn field(table: &mut Table, skipped: usize, rest: &str) -> Result<String> {
+    let (name, spelling) = rest.split_once(" of ").context("no type")?;
+    let skipped = skipped.saturating_add(name.len()).saturating_add(4);
+    let t = type_in(table, skipped, spelling)?;
+    let number = table.number(name)?;
+    match table.store.field(t, number) {
+        Some(place) => Ok(format!(in table.alloc; "field {place}")?),
+        None => Ok(String::from_str(table.alloc, "no field")?),
+    }
+}
+
+/// Whether neither the type nor a type that it holds by value is known to be too large.
+pub(crate) fn is_known_small(store: &TypeStore, t: TypeId) -> bool
+    requires { t < length store.now.rows }
+    ensures { IsTrue result → IsSmall store.now t }
+{
+    is_small(store, t, MOST_NAMES)
 }
 
 /// Whether the extent of the type is known, and is no larger than a type may be.

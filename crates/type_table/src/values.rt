@@ -3,9 +3,11 @@
 ghost use Rattle.std.specs.Prelude.{◌<◌, ◌≤◌, length, IfOk};
 ghost use Rattle.hare_types.specs.Assign.{IsIn};
 
+use crate::listing::listing;
 use crate::spelled::type_in;
 use crate::table::Table;
-use anyhow::{Context, Result};
+use crate::unions::{becomes_member, is_union_type};
+use anyhow::{Context, Result, bail, ensure};
 use hare_assign::{assignable, castable};
 use hare_types::{Ty, TypeId};
 
@@ -25,6 +27,33 @@ pub(crate) fn assign(table: &mut Table, skipped: usize, spelling: &str) -> Resul
             Ok(format!(in table.alloc; "row {row}")?)
         }
         None => Ok(String::from_str(table.alloc, "no row")?),
+    }
+}
+
+/// Which member of a union a value becomes, and by which row it is assigned to that, as `u8 by row 3`.
+pub(crate) fn becomes(table: &mut Table, skipped: usize, spelling: &str) -> Result<String> {
+    let pair = type_and_value(table, skipped, spelling)?;
+    ensure!(is_union_type(&table.store, pair.to), "no union");
+    if assignable(&table.store, pair.to, pair.from).is_none() {
+        return Ok(String::from_str(table.alloc, "no row")?);
+    }
+    match becomes_member(&table.store, pair.to, pair.from) {
+        Some(coercion) => {
+            let row = coercion.row;
+            let member = listed(table, coercion.to)?;
+            Ok(format!(in table.alloc; "{member} by row {row}")?)
+        }
+        None => Ok(String::from_str(table.alloc, "the member that it has")?),
+    }
+}
+
+/// The type of a value that has found its type.
+fn listed(table: &Table, ty: Ty) -> Result<String>
+    requires { IsIn table.now.store ty }
+{
+    match ty {
+        Ty::Of(t) => listing(table, t),
+        _ => bail!("no type"),
     }
 }
 
