@@ -1,6 +1,6 @@
 //! Whether constants cover a type.
 
-ghost use Rattle.std.specs.Prelude.{◌↔◌, ◌≡◌, IsTrue, Some, None, MatchOption};
+ghost use Rattle.std.specs.Prelude.{◌↔◌, ◌≡◌, ◌^◌, pos, neg_ℤ, ◌≤ℤ◌, ◌<ℤ◌, IsTrue, Some, None, IfSome, MatchOption};
 ghost use Rattle.hare_types.specs.declared.coercion.Ty.TheVariants as ty;
 ghost use Rattle.hare_typed.specs.Cover.{range_of_word, range_of};
 ghost use Rattle.hare_typed.specs.Given.{base_row as row_of_base};
@@ -13,14 +13,19 @@ use hare_types::{Row, Scalar, TypeId, TypeStore};
 
 /// The least and the greatest value of a type.
 #[derive(Clone, Copy, Debug, PartialEq, Eq)]
-struct Limits {
-    least: i128,
-    greatest: i128,
+pub struct Limits {
+    /// The least value.
+    pub least: i128,
+    /// The greatest value.
+    pub greatest: i128,
 }
 
 /// The values of a type that is one word, where it has a least and a greatest.
 fn limits_of(k: Scalar) -> Option<Limits>
-    ensures { MatchOption result (range_of_word k ≡ None) (λ r. range_of_word k ≡ Some (record { least = r.least; greatest = r.greatest })) }
+    ensures low { IfSome result (λ r. neg_ℤ (pos (2 ^ 63)) ≤ℤ r.least) }
+    ensures some { IfSome result (λ r. r.least ≤ℤ r.greatest) }
+    ensures high { IfSome result (λ r. r.greatest <ℤ pos (2 ^ 64)) }
+    ensures value { MatchOption result (range_of_word k ≡ None) (λ r. range_of_word k ≡ Some (record { least = r.least; greatest = r.greatest })) }
 {
     let (least, greatest) = match k {
         Scalar::Void | Scalar::Never | Scalar::Opaque | Scalar::Str => return None,
@@ -37,9 +42,12 @@ fn limits_of(k: Scalar) -> Option<Limits>
     Some(Limits { least, greatest })
 }
 
-/// The values of a type, where its base has a least and a greatest one.
-fn limits_at(s: &TypeStore, t: TypeId) -> Option<Limits>
-    ensures { MatchOption result (range_of (row_of_base s.now (ty.Of t)) ≡ None) (λ r. range_of (row_of_base s.now (ty.Of t)) ≡ Some (record { least = r.least; greatest = r.greatest })) }
+/// The least and the greatest value of a type: of an integer type or rune, and 0 and 1 of bool. None where its base has no such values.
+pub fn limits_at(s: &TypeStore, t: TypeId) -> Option<Limits>
+    ensures low { IfSome result (λ r. neg_ℤ (pos (2 ^ 63)) ≤ℤ r.least) }
+    ensures some { IfSome result (λ r. r.least ≤ℤ r.greatest) }
+    ensures high { IfSome result (λ r. r.greatest <ℤ pos (2 ^ 64)) }
+    ensures value { MatchOption result (range_of (row_of_base s.now (ty.Of t)) ≡ None) (λ r. range_of (row_of_base s.now (ty.Of t)) ≡ Some (record { least = r.least; greatest = r.greatest })) }
 {
     match base_row(s, t) {
         Some(Row::Scalar(k)) => limits_of(*k),

@@ -10,9 +10,9 @@ mod shape;
 mod tests;
 mod unions;
 
-pub use cover::covers;
+pub use cover::{Limits, covers, limits_at};
 pub use length::array_length;
-pub use number::{number_cells, number_of_value};
+pub use number::{little_endian, number_cells, number_of, number_of_value};
 pub use operators::{
     Arithmetic, IntType, Logic, Order, Shift, combined, complemented, computed, in_order,
     leaves_open, negated, same_number, shifted,

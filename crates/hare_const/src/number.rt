@@ -42,7 +42,7 @@ fn byte_of(cell: Cell) -> Option<u8>
 }
 
 /// The number that bytes spell, the lowest first; none where a cell is no byte.
-fn little_endian(cells: &[Cell]) -> Option<u64>
+pub fn little_endian(cells: &[Cell]) -> Option<u64>
     requires { length cells.now ≤ 8 }
     ensures value { result ≡ option_map le_number (bytes_of cells.now) }
     ensures within { IfSome result (λ n. n < 256 ^ length cells.now) }
@@ -160,8 +160,8 @@ pub fn number_cells(alloc: Global, s: &TypeStore, t: Ty, v: i128) -> Result<Cell
     byte_cells_of(alloc, wrap(v, 8 * bytes, false) as u64, bytes)
 }
 
-/// The number that a constant of a type is.
-pub(crate) fn number_of(s: &TypeStore, t: TypeId, c: &Const) -> Option<i128>
+/// The number that a constant of a type is; none where its cells are no number of the type.
+pub fn number_of(s: &TypeStore, t: TypeId, c: &Const) -> Option<i128>
     ensures value { result ≡ spec.number_of s.now t c.now }
     ensures low { IfSome result (λ v. neg_ℤ (pos (2 ^ 63)) ≤ℤ v) }
     ensures high { IfSome result (λ v. v <ℤ pos (2 ^ 64)) }

@@ -15,3 +15,4 @@ pub mod HeldLemmas
 pub mod HintLemmas
 pub mod RowLemmas
 pub mod VoidLemmas
+pub mod PartLemmas
