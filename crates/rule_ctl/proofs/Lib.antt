@@ -4,3 +4,4 @@ pub mod CallLemmas
 pub mod TryLemmas
 pub mod TypeLemmas
 pub mod BindingLemmas
+pub mod DeclarationLemmas

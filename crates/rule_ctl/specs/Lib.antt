@@ -4,3 +4,5 @@ pub mod Calls
 pub mod Tried
 pub mod Needs
 pub mod Laws
+pub mod Declaring
+pub mod DeclaringLaws

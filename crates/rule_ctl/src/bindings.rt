@@ -11,7 +11,7 @@ ghost use Rattle.hare_rules.specs.Settles as settles;
 ghost use Rattle.hare_rules.specs.Words as words;
 ghost use Rattle.hare_rules.specs.declared.row_id.RowId.TheVariants as row;
 ghost use Rattle.rule_judge.specs.Asked.{asks_as};
-ghost use Rattle.rule_judge.specs.Defined.{IsDefined};
+ghost use Rattle.rule_judge.specs.Defined.{IsDefined, IsDefinedTy};
 ghost use Rattle.rule_judge.specs.Grown.{IsGrown};
 ghost use Rattle.rule_judge.specs.Turns.{context_in, kind_in, IsTurn};
 
@@ -32,7 +32,7 @@ fn type_kid(t: &Turn<'_>) -> usize
 }
 
 /// Which kid is the value.
-fn value_kid(t: &Turn<'_>) -> usize
+pub(crate) fn value_kid(t: &Turn<'_>) -> usize
     ensures { result ≡ suc (spec.type_kid_of (kind_in t.now)) }
 {
     type_kid(t) + 1
@@ -60,6 +60,17 @@ pub(crate) fn value_place(t: &Turn<'_>) -> Place
     ensures { (f : Store) → result ≡ context.place_of (spec.value_kid (context_in f t.now)) }
 {
     place_at(t.kids, value_kid(t))
+}
+
+/// The type that is written, or else that of the value.
+pub(crate) fn written_or_value(t: &Turn<'_>) -> Ty
+    ensures value { (f : Store) → result ≡ spec.declared_type (context_in f t.now) }
+    ensures defined { (s : Store) → IsTurn s t.now → IsDefinedTy s result }
+{
+    if has_written_type(t) {
+        return own(t, type_kid(t));
+    }
+    own(t, value_kid(t))
 }
 
 /// The id of a type.
@@ -124,6 +135,19 @@ pub(crate) fn binding_asks(t: &Turn<'_>, i: usize) -> bool
         return false;
     }
     id_in(&own(t, 0)).is_some()
+}
+
+/// Whether a declaration asks its kid number `i` for a type: the value, where the type is written.
+pub(crate) fn declared_asks(t: &Turn<'_>, i: usize) -> bool
+    ensures { (f : Store) → result ≡ asks_as (context_in f t.now) i ki.Def }
+{
+    if kids_before(t.kids, i) < 3 {
+        return false;
+    }
+    if !is_there(t.kids, 2) {
+        return false;
+    }
+    id_in(&own(t, 2)).is_some()
 }
 
 /// The type to which kid number `i` goes that was asked for none: the value to its default, where no type is written.

@@ -4,6 +4,7 @@
 mod bindings;
 mod calls;
 mod control;
+mod declarations;
 mod hinted;
 mod jumps;
 mod leaves;
@@ -13,3 +14,4 @@ mod unions;
 mod unmet;
 
 pub use control::judge;
+pub use declarations::judge_declaration;

@@ -20,7 +20,7 @@ use rule_judge::{Turn, own, word};
 use std::alloc::{AllocError, Global};
 
 /// The type that is written by one word.
-fn word_type(s: &mut TypeStore, k: Scalar) -> Result<Ty, AllocError>
+pub(crate) fn word_type(s: &mut TypeStore, k: Scalar) -> Result<Ty, AllocError>
     ensures value { IfOk result (λ a. (f : Store) → IsLater s.new f → words.typed_as (words.word_id f k) ≡ Some a) }
     ensures defined { IfOk result (IsDefinedTy s.new) }
     ensures grown { IsGrown s.old s.new }
