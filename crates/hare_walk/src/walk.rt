@@ -21,7 +21,7 @@ pub trait Walk {
     ghost use Rattle.hare_walk.specs.Grown.{IsGrown};
     ghost use Rattle.hare_typed.specs.Typed.{TypedNode, typed_nodes};
     ghost use Rattle.hare_typed.specs.Erased.{erase_each};
-    ghost use Rattle.hare_walk.specs.Walks.{IsPart, Each, IsInHand, AreInHand, IsTurned, IsTurnedBack, IsOver, IsBefore};
+    ghost use Rattle.hare_walk.specs.Walks.{IsPart, Each, IsInHand, AreInHand, IsTurned, IsTurnedBack, IsOver, IsBefore, AreInferred};
 
     /// What is known of the program, over a store.
     ghost setting: { Self → Store → Setting };
@@ -83,6 +83,7 @@ pub trait Walk {
         requires ready { Ready self.old s.old }
         requires part { IsPart node.now }
         requires whole { erase_each (typed_nodes kids) ≡ kids_of node.now }
+        requires inferred { AreInferred (setting self.old) s.old (above self.old) (head node.now) (kids_of node.now) kids (flow self.old) }
         requires hand { AreInHand (flow self.old) kids }
         requires kept { Each (Keeps s.old) kids }
         ensures ok { IfOk result (λ x. IsTurned (setting self.old) s.new (above self.old) (head node.now) kids (flow self.old) x (flow self.new)) }

@@ -13,3 +13,4 @@ mod unions;
 mod unmet;
 
 pub use control::judge;
+pub use hinted::asks_type;

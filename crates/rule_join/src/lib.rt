@@ -10,4 +10,5 @@ mod types;
 mod unmet;
 mod values;
 
+pub use asked::asks_type;
 pub use judged::judge;

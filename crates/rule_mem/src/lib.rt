@@ -19,4 +19,5 @@ mod tuples;
 mod types;
 mod unmet;
 
+pub use hinted::asks_type;
 pub use memory::judge;

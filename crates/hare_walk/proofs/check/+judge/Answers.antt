@@ -6,7 +6,7 @@ use Rattle.hare_walk.specs.Walks.{IsStopped}
 use Rattle.hare_walk.specs.Grown.{IsGrown}
 use Rattle.hare_walk.proofs.Grows.{grown-refl, grown-trans, later-grown}
 use Rattle.hare_walk.proofs.Parts.{part-kid, each-grown, each-now, each-append, erased-more, erased-all, take_all}
-use Rattle.hare_walk.proofs.Steps.{IsKid, each_end, err_same, turn-inferred, turn-stopped, turn-erases, kids-stopped, over-moved, before-moved, inferred-moved, stopped-moved, next_at, rest_at, stop_at, kid-rest, kid-leaves, kid-stopped, hand-more, each_below-more, stop-same}
+use Rattle.hare_walk.proofs.Steps.{IsKid, each_end, err_same, turn-inferred, turn-stopped, turn-erases, kids-stopped, kids-inferred, over-moved, before-moved, inferred-moved, stopped-moved, next_at, rest_at, stop_at, kid-rest, kid-leaves, kid-stopped, hand-more, each_below-more, stop-same}
 use Rattle.hare_walk.proofs.check.+judge.Goals as goal
 
 pub judge_tree-returns-in_err-kids-clause-err : goal.judge_tree-returns-in_err-kids-clause-err
@@ -165,3 +165,11 @@ judge_kids-returns-clause-erases g t c =
 pub judge_kids-returns-clause-kept : goal.judge_kids-returns-clause-kept
 judge_kids-returns-clause-kept g t c =
     each-now g.W.Walk.Keeps c.loop-i.s c.loop-i.s c.loop-i.done (grown-refl c.loop-i.s) c.loop-i.invariant.kept
+
+pub judge_tree-turn-requires-clause-inferred : goal.judge_tree-turn-requires-clause-inferred
+judge_tree-turn-requires-clause-inferred g t c =
+    let w = c.args.w.now in
+    let v = c.judge_kids.new.w in
+    kids-inferred (g.W.Walk.setting w) (g.W.Walk.setting v) c.judge_kids.new.s (g.W.Walk.above w) (g.W.Walk.above v) c.args.t.now
+    (nodes_of c.t.inside.kids) c.in_ok-kids.kids (g.W.Walk.flow w) (g.W.Walk.flow v)
+    (sym (ap kids_of c.t.view_is)) c.in_ok-kids.ensures.setting c.in_ok-kids.ensures.above c.in_ok-kids.ensures.ok

@@ -1,0 +1,5 @@
+//! The checker of bodies: the one typed tree of a body by the typing rules, or its first fault.
+#![tactic(auto)]
+
+mod marks;
+mod settle;
