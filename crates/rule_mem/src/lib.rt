@@ -19,4 +19,7 @@ mod tuples;
 mod types;
 mod unmet;
 
+pub use hints::{hinted_components, hinted_element, object_asked};
+pub use members::field_of;
 pub use memory::judge;
+pub use reads::slice_element;
