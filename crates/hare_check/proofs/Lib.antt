@@ -1,1 +1,5 @@
 pub mod ListedLemmas
+pub mod ToldLemmas
+pub mod FindingLemmas
+pub mod JudgedLemmas
+pub mod NextLemmas

@@ -1,5 +1,6 @@
 -- What is settled of kids, one by one.
 use Rattle.std.proofs.Common.{◌≡◌, ℕ, zero, suc, ◌+◌, ◌<◌, ◌≤◌, List, [], ◌∷◌, ◌++◌, length, take, drop, get_or, refl, ap, sym, ◌∙◌, arith, Option, Some, None}
+use Rattle.std.proofs.lemmas.List.{take-append-drop}
 use Rattle.hare_types.specs.declared.coercion.Coercion.{Coercion}
 use Rattle.hare_typed.specs.Typed.{TypedNode}
 use Rattle.hare_typed.specs.Coats.{settled_at}
@@ -74,12 +75,20 @@ coated_step (x ∷ xs) (p ∷ os) (suc i) o h l e =
 
 -- ---- all
 
+none_written : (xs : List TypedNode) → written_each xs [] ≡ []
+none_written [] = refl
+none_written (x ∷ xs) = refl
+
+none_coated : (xs : List TypedNode) → coated_each xs [] ≡ xs
+none_coated [] = refl
+none_coated (x ∷ xs) = refl
+
 pub written_none : (xs : List TypedNode) (os : List (Option Coercion)) (i : ℕ) (cs : List Coercion) → length xs ≤ i →
     write_each (written_each (drop i xs) (drop i os)) cs ≡ cs
 written_none [] os zero cs h = refl
 written_none [] os (suc i) cs h = refl
 written_none (x ∷ xs) os zero cs h = absurd (omega arith)
-written_none (x ∷ xs) [] (suc i) cs h = written_none xs [] i cs (omega arith)
+written_none (x ∷ xs) [] (suc i) cs h = rw (none_written (drop i xs)) refl
 written_none (x ∷ xs) (o ∷ os) (suc i) cs h = written_none xs os i cs (omega arith)
 
 pub coated_all : (xs : List TypedNode) (os : List (Option Coercion)) (i : ℕ) → length xs ≤ i →
@@ -87,7 +96,7 @@ pub coated_all : (xs : List TypedNode) (os : List (Option Coercion)) (i : ℕ) �
 coated_all [] os zero h = refl
 coated_all [] os (suc i) h = refl
 coated_all (x ∷ xs) os zero h = absurd (omega arith)
-coated_all (x ∷ xs) [] (suc i) h = ap (λ ys. x ∷ ys) (coated_all xs [] i (omega arith))
+coated_all (x ∷ xs) [] (suc i) h = rw (none_coated (drop i xs)) (ap (λ ys. x ∷ ys) (take-append-drop i xs))
 coated_all (x ∷ xs) (o ∷ os) (suc i) h = ap (λ ys. x ∷ ys) (coated_all xs os i (omega arith))
 
 -- ---- the kid with a number

@@ -1,2 +1,5 @@
 pub mod Listed
 pub mod Marks
+pub mod Yields
+pub mod Late
+pub mod Findings

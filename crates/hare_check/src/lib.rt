@@ -1,5 +1,9 @@
 //! The checker of bodies: the one typed tree of a body by the typing rules, or its first fault.
 #![tactic(auto)]
 
+mod finding;
+mod late;
+mod listed;
 mod marks;
 mod settle;
+mod told;
