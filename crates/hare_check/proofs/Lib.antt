@@ -3,3 +3,4 @@ pub mod ToldLemmas
 pub mod FindingLemmas
 pub mod JudgedLemmas
 pub mod NextLemmas
+pub mod LateLemmas

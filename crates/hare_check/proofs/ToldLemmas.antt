@@ -1,7 +1,7 @@
 -- What a judge is told of what was yielded.
-use Rattle.std.proofs.Common.{◌≡◌, ℕ, zero, suc, ◌+◌, ◌<◌, ◌≤◌, List, [], ◌∷◌, ◌++◌, length, take, get_or, refl, ap, arith, Some}
+use Rattle.std.proofs.Common.{◌≡◌, ℕ, zero, suc, ◌+◌, ◌<◌, ◌≤◌, List, [], ◌∷◌, ◌++◌, length, take, get_or, refl, ap, arith, Option, Some, None}
 use Rattle.std.specs.Prelude.{map}
-use Rattle.hare_types.specs.declared.coercion.Ty.TheVariants as ty
+use Rattle.hare_types.specs.declared.coercion.Ty.{Ty}
 use Rattle.hare_types.specs.declared.row.Row.TheVariants as row
 use Rattle.hare_types.specs.declared.row.Scalar.TheVariants as keyword
 use Rattle.hare_types.specs.Store.{Store}
@@ -22,8 +22,8 @@ use Rattle.hare_check.specs.Yields.{IsDefinedOption, AreDefinedGivens}
 -- the type that is written `void` is that of a value without a type
 pub void_here : (f : Store) → IsStore f → (v : ℕ) → word_id f keyword.Void ≡ Some v → IsVoidOf f v
 void_here f s v e =
-    let row = (id_tells f s (row.Scalar keyword.Void) v).0 e in
-    record { word = e; row = row; tree = type_at_row f s v (row.Scalar keyword.Void) row }
+    let here = (id_tells f s (row.Scalar keyword.Void) v).0 e in
+    record { word = e; row = here; tree = type_at_row f s v (row.Scalar keyword.Void) here }
 
 -- ---- one more
 
@@ -55,3 +55,11 @@ given_all [] zero l = refl
 given_all [] (suc i) l = refl
 given_all (p ∷ hs) zero l = absurd (omega arith)
 given_all (p ∷ hs) (suc i) l = ap (λ gs. p ∷ gs) (given_all hs i (omega arith))
+
+option_stays : (now later : Store) → IsStore now → IsLater now later → (o : Option Ty) → IsDefinedOption now o → IsDefinedOption later o
+option_stays now later v l None h = tt
+option_stays now later v l (Some a) h = ty_stays now later v l a h
+
+pub givens_stay : (now later : Store) → IsStore now → IsLater now later → (gs : List Given) → AreDefinedGivens now gs → AreDefinedGivens later gs
+givens_stay now later v l [] h = tt
+givens_stay now later v l (g ∷ gs) h = (option_stays now later v l g.ty h.0, givens_stay now later v l gs h.1)

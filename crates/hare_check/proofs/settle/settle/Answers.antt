@@ -1,4 +1,4 @@
-use Rattle.std.proofs.Common.{◌≡◌, ◌<◌, ◌≤◌, ◌+◌, length, ap, sym, ◌∙◌, arith, add-one}
+use Rattle.std.proofs.Common.{◌≡◌, ◌<◌, ◌≤◌, ◌+◌, length, refl, ap, sym, ◌∙◌, arith, add-one}
 use Rattle.hare_rules.specs.Flow.{Flow}
 use Rattle.hare_check.proofs.ListedLemmas.{coated-length, written_step, coated_step, written_none, coated_all}
 use Rattle.hare_check.proofs.settle.settle.Goals as goal
