@@ -12,6 +12,7 @@ use Rattle.hare_types.specs.declared.coercion.Ty.{Ty}
 use Rattle.hare_types.specs.Store.{Store}
 use Rattle.hare_types.specs.Later.{IsLater}
 use Rattle.hare_typed.specs.Typed.{TypedNode}
+use Rattle.hare_typed.specs.Coats.{coat}
 use Rattle.hare_typed.specs.Copies.{has_defers as takes_yields}
 use Rattle.hare_rules.specs.declared.hint.Hint.{Hint}
 use Rattle.hare_rules.specs.declared.hint.Hint.TheVariants as hint
@@ -44,6 +45,7 @@ use Rattle.hare_judge.specs.Kinds.{is_judged_kind}
 use Rattle.hare_check.specs.declared.finding.Finding.{Finding}
 use Rattle.hare_check.specs.Listed.{listed_each, yields_listed, written_each, coated_each}
 use Rattle.hare_check.specs.Late.{settled_in}
+use Rattle.hare_check.specs.Settling.{option_in}
 use Rattle.hare_check.specs.Findings.{lists, IsAsked, IsFoundAt}
 use Rattle.hare_check.proofs.FindingLemmas.{listed_same, coated_from, as_is-more, no_yield_target, no_case_target, none_settled, none_moved, nones_written, nones_coated}
 
@@ -51,8 +53,8 @@ use Rattle.hare_check.proofs.FindingLemmas.{listed_same, coated_from, as_is-more
 pub record IsTakenFrom (l : Store) (t : Turn) (gs : List Given) (v : Verdict) (x : Finding) : Type 0 where
   pub ty : x.ty ≡ v.ty
   pub own : x.own ≡ v.own
-  pub listed : lists (kind_in t) ≡ true → x.kids ≡ listed_each (context_in l t) 0 t.kids.now
-  pub nones : lists (kind_in t) ≡ false → x.kids ≡ replicate (length t.kids.now) None
+  pub listed : lists (kind_in t) ≡ true → map option_in x.kids ≡ listed_each (context_in l t) 0 t.kids.now
+  pub nones : lists (kind_in t) ≡ false → map option_in x.kids ≡ replicate (length t.kids.now) None
   pub asked : t.case.now.hint ≡ hint.None → takes_yields (kind_in t) ≡ true →
       map settled_in x.late ≡ listed_late gs (yields_listed (context_in l t) (yields_in t))
   pub hinted : ¬ (t.case.now.hint ≡ hint.None) → x.late ≡ []
@@ -172,9 +174,9 @@ found_judged w s a f t gs v x l kind q later i from =
           (λ b. ap (map settled_in) (from.others b));
     }
   where
-    kids_by : (b : Bool) → lists (kind_in t) ≡ b → AreFound (context_at w a f t l) t.kids.now f.coercions x.kids
+    kids_by : (b : Bool) → lists (kind_in t) ≡ b → AreFound (context_at w a f t l) t.kids.now f.coercions (map option_in x.kids)
     kids_by true e =
-        found_listed (context_at w a f t l) (context_in l t) t.locals.now t.case.now.yields t.kids.now f.coercions x.kids
+        found_listed (context_at w a f t l) (context_in l t) t.locals.now t.case.now.yields t.kids.now f.coercions (map option_in x.kids)
         (record {
           seen = told_here w s a f t gs l q
               ∙ told-seen (context_at w a f t l) t.decls.now t.locals.now t.case.now (q.told l later);
@@ -186,7 +188,7 @@ found_judged w s a f t gs v x l kind q later i from =
           listed = from.listed e;
         })
     kids_by false e =
-        found_none (context_at w a f t l) t.kids.now f.coercions x.kids (length t.kids.now) (unlisted (kind_in t) e) (sym q.hand) (from.nones e)
+        found_none (context_at w a f t l) t.kids.now f.coercions (map option_in x.kids) (length t.kids.now) (unlisted (kind_in t) e) (sym q.hand) (from.nones e)
 
 -- ---- a refusal
 

@@ -4,3 +4,4 @@ pub mod FindingLemmas
 pub mod JudgedLemmas
 pub mod NextLemmas
 pub mod LateLemmas
+pub mod ResultLemmas

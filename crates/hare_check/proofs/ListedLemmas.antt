@@ -1,5 +1,5 @@
 -- What is settled of kids, one by one.
-use Rattle.std.proofs.Common.{◌≡◌, ℕ, zero, suc, ◌+◌, ◌<◌, ◌≤◌, List, [], ◌∷◌, ◌++◌, length, take, drop, get_or, refl, ap, sym, ◌∙◌, arith, Option, Some, None}
+use Rattle.std.proofs.Common.{◌≡◌, ℕ, zero, suc, true, false, cond, ◌+◌, ◌<◌, ◌≤◌, List, [], ◌∷◌, ◌++◌, length, map, take, drop, get_or, refl, ap, sym, ◌∙◌, arith, Option, Some, None}
 use Rattle.std.proofs.lemmas.List.{take-append-drop}
 use Rattle.hare_types.specs.declared.coercion.Coercion.{Coercion}
 use Rattle.hare_typed.specs.Typed.{TypedNode}
@@ -9,6 +9,8 @@ use Rattle.hare_typed.specs.Numbers.{number_of}
 use Rattle.hare_typed.specs.Order.{tree_from_front}
 use Rattle.hare_rules.specs.Settles.{Settled}
 use Rattle.hare_rules.specs.Flow.{write_each}
+use Rattle.hare_check.specs.declared.listed.Settling.{Settling}
+use Rattle.hare_check.specs.Settling.{option_in}
 use Rattle.hare_check.specs.Listed.{written_one, written_each, coated_one, coated_at, coated_each}
 
 -- ---- writes
@@ -98,6 +100,18 @@ coated_all [] os (suc i) h = refl
 coated_all (x ∷ xs) os zero h = absurd (omega arith)
 coated_all (x ∷ xs) [] (suc i) h = rw (none_coated (drop i xs)) (ap (λ ys. x ∷ ys) (take-append-drop i xs))
 coated_all (x ∷ xs) (o ∷ os) (suc i) h = ap (λ ys. x ∷ ys) (coated_all xs os i (omega arith))
+
+pub option_moves : (k : Settling) → k.moves ≡ true → option_in k ≡ Some k.coercion
+option_moves k e = ap (λ b. cond b (Some k.coercion) None) e
+
+pub option_stays : (k : Settling) → k.moves ≡ false → option_in k ≡ None
+option_stays k e = ap (λ b. cond b (Some k.coercion) None) e
+
+pub got_option : (ks : List Settling) (i : ℕ) (k : Settling) → k ≡ get_or ks i k →
+    option_in k ≡ get_or (map option_in ks) i (option_in k)
+got_option [] i k e = refl
+got_option (p ∷ ks) zero k e = ap option_in e
+got_option (p ∷ ks) (suc i) k e = got_option ks i k e
 
 -- ---- the kid with a number
 

@@ -1,7 +1,6 @@
 -- What a verdict lists for one kid more.
 use Rattle.std.proofs.Common.{◌≡◌, ℕ, zero, suc, ◌+◌, ◌<◌, ◌≤◌, Bool, true, false, cond, List, [], ◌∷◌, ◌++◌, length, drop, refl, ap, sym, ◌∙◌, subst, arith, Option, Some, None, add-one}
 use Rattle.std.specs.Prelude.{slice_get}
-use Rattle.std.specs.Option.{option_to_list}
 use Rattle.hare_types.specs.declared.coercion.Coercion.{Coercion}
 use Rattle.hare_types.specs.Store.{Store}
 use Rattle.hare_types.specs.Sound.{IsStore}
@@ -49,9 +48,9 @@ by_kid c i ys h =
     ap (λ xs. coercions_from c i xs ++ yields_listed c ys) k.1
     ∙ append_assoc' (unless (was_hinted c i) (kid_coercion c i)) (coercions_from c (suc i) (drop (suc i) c.kids)) (yields_listed c ys)
   where
-    append_assoc' : (as bs cs : List Coercion) → (as ++ bs) ++ cs ≡ as ++ (bs ++ cs)
+    append_assoc' : (ps bs cs : List Coercion) → (ps ++ bs) ++ cs ≡ ps ++ (bs ++ cs)
     append_assoc' [] bs cs = refl
-    append_assoc' (a ∷ as) bs cs = ap (λ zs. a ∷ zs) (append_assoc' as bs cs)
+    append_assoc' (p ∷ ps) bs cs = ap (λ zs. p ∷ zs) (append_assoc' ps bs cs)
 
 pub listed_there : (c : Context) (i n : ℕ) (ys : List Yielded) (cs : List Coercion) → i < length c.kids → was_hinted c i ≡ false →
     drop n cs ≡ listed_behind c i ys → slice_get cs n ≡ Some (kid_coercion c i)
@@ -65,32 +64,30 @@ listed_unhinted c i b = ap (λ z. cond z None (Some (kid_coercion c i))) b
 pub listed_hinted : (c : Context) (i : ℕ) → was_hinted c i ≡ true → listed c i ≡ None
 listed_hinted c i b = ap (λ z. cond z None (Some (kid_coercion c i))) b
 
-used : (b : Bool) (r : Coercion) (n : ℕ) (cs rest : List Coercion) → drop n cs ≡ unless b r ++ rest →
-    drop (n + length (option_to_list (cond b None (Some r)))) cs ≡ rest
-used true r n cs rest e = rw add-zero e
-  where
-    add-zero : {m : ℕ} → m + 0 ≡ m
-    add-zero {m} = omega arith
-used false r n cs rest e = rw add-one (next_dropped cs rest n r e)
-
 -- what is left behind it
-pub listed_next : (c : Context) (i n : ℕ) (o : Option Coercion) (ys : List Yielded) (cs : List Coercion) → i < length c.kids → o ≡ listed c i →
-    drop n cs ≡ listed_behind c i ys → drop (n + length (option_to_list o)) cs ≡ listed_behind c (i + 1) ys
-listed_next c i n o ys cs h k e =
-    let p = used (was_hinted c i) (kid_coercion c i) n cs (listed_behind c (suc i) ys) (e ∙ by_kid c i ys h) in
-    rw (add-one, k) p
+pub left_hinted : (c : Context) (i n : ℕ) (ys : List Yielded) (cs : List Coercion) → i < length c.kids → was_hinted c i ≡ true →
+    drop n cs ≡ listed_behind c i ys → drop n cs ≡ listed_behind c (i + 1) ys
+left_hinted c i n ys cs h b e =
+    rw add-one (e ∙ by_kid c i ys h ∙ ap (λ z. unless z (kid_coercion c i) ++ listed_behind c (suc i) ys) b)
+
+pub left_unhinted : (c : Context) (i n : ℕ) (ys : List Yielded) (cs : List Coercion) → i < length c.kids → was_hinted c i ≡ false →
+    drop n cs ≡ listed_behind c i ys → drop (n + 1) cs ≡ listed_behind c (i + 1) ys
+left_unhinted c i n ys cs h b e =
+    rw (add-one, add-one)
+    (next_dropped cs (listed_behind c (suc i) ys) n (kid_coercion c i)
+    (e ∙ by_kid c i ys h ∙ ap (λ z. unless z (kid_coercion c i) ++ listed_behind c (suc i) ys) b))
 
 -- what is put behind what was listed
-pub listed_put : (c : Context) (i : ℕ) (o : Option Coercion) (os all : List (Option Coercion)) → i < length c.kids → o ≡ listed c i →
-    os ++ listed_each c i (drop i c.kids) ≡ all → (os ++ o ∷ []) ++ listed_each c (i + 1) (drop (i + 1) c.kids) ≡ all
-listed_put c i o os all h k e =
+pub listed_put : (c : Context) (i : ℕ) (os new all : List (Option Coercion)) → i < length c.kids → new ≡ os ++ listed c i ∷ [] →
+    os ++ listed_each c i (drop i c.kids) ≡ all → new ++ listed_each c (i + 1) (drop (i + 1) c.kids) ≡ all
+listed_put c i os new all h k e =
     let f = first_kid c.kids i h in
     let p : os ++ listed c i ∷ listed_each c (suc i) (drop (suc i) c.kids) ≡ all = ap (λ xs. os ++ listed_each c i xs) (sym f.1) ∙ e in
     rw (add-one, k) (moved os (listed c i) (listed_each c (suc i) (drop (suc i) c.kids)) ∙ p)
   where
-    moved : (as : List (Option Coercion)) (b : Option Coercion) (bs : List (Option Coercion)) → (as ++ b ∷ []) ++ bs ≡ as ++ b ∷ bs
+    moved : (ps : List (Option Coercion)) (b : Option Coercion) (bs : List (Option Coercion)) → (ps ++ b ∷ []) ++ bs ≡ ps ++ b ∷ bs
     moved [] b bs = refl
-    moved (a ∷ as) b bs = ap (λ zs. a ∷ zs) (moved as b bs)
+    moved (p ∷ ps) b bs = ap (λ zs. p ∷ zs) (moved ps b bs)
 
 -- ---- what a judge relies on stays
 

@@ -50,11 +50,11 @@ given_more [] i h l e = absurd (omega arith)
 given_more (p ∷ hs) zero h l e = rw e refl
 given_more (p ∷ hs) (suc i) h l e = ap (λ gs. given_of p ∷ gs) (given_more hs i h (omega arith) e)
 
-pub given_all : (hs : List Handed) (i : ℕ) → length hs ≤ i → take i hs ≡ hs
-given_all [] zero l = refl
-given_all [] (suc i) l = refl
-given_all (p ∷ hs) zero l = absurd (omega arith)
-given_all (p ∷ hs) (suc i) l = ap (λ gs. p ∷ gs) (given_all hs i (omega arith))
+pub taken_all : {A : Type 0} (hs : List A) (i : ℕ) → length hs ≤ i → take i hs ≡ hs
+taken_all [] zero l = refl
+taken_all [] (suc i) l = refl
+taken_all (p ∷ hs) zero l = absurd (omega arith)
+taken_all (p ∷ hs) (suc i) l = ap (λ gs. p ∷ gs) (taken_all hs i (omega arith))
 
 option_stays : (now later : Store) → IsStore now → IsLater now later → (o : Option Ty) → IsDefinedOption now o → IsDefinedOption later o
 option_stays now later v l None h = tt

@@ -23,6 +23,7 @@ use Rattle.rule_judge.specs.Turns.{context_in, head_in, kind_in}
 use Rattle.hare_check.specs.declared.finding.Finding.{Finding}
 use Rattle.hare_check.specs.Listed.{written_each, coated_each}
 use Rattle.hare_check.specs.Late.{settled_in}
+use Rattle.hare_check.specs.Settling.{option_in}
 
 -- What a verdict lists for kids is what the node settles of them, but of a `yield`, whose judge is not told what its label asks for, and of
 -- a case of a `switch`, whose values hand on what they are asked for: these settle nothing.
@@ -47,23 +48,15 @@ pub record IsFoundAt (c : Context) (xs : List TypedNode) (cs : List Coercion) (x
   pub failing : first_failing c ≡ None
   pub type : type_of c ≡ Some x.ty
   pub own : own_settled c x.ty ≡ x.own
-  pub kids : (r : Coercion) → write_each (settles_kids c) (cs ++ r ∷ []) ≡ write_each (written_each xs x.kids) (cs ++ r ∷ [])
-  pub coated : settled_kids c ≡ coated_each xs x.kids
+  pub kids : (r : Coercion) → write_each (settles_kids c) (cs ++ r ∷ []) ≡ write_each (written_each xs (map option_in x.kids)) (cs ++ r ∷ [])
+  pub coated : settled_kids c ≡ coated_each xs (map option_in x.kids)
   pub late : settles_late c c.head.kind ≡ map settled_in x.late
 
 -- in each later store
 abbrev pub IsFound : (Store → Setting) → Store → Above → Head → List TypedNode → Flow → Finding → Type 0
 IsFound w s a h xs f x = (l : Store) → IsLater s l → IsFoundAt (context (w l) a h (map bare xs) f) xs f.coercions x
 
--- ---- types
-
-abbrev pub AreDefinedKids : Store → List (Option Coercion) → Type 0
-AreDefinedKids s [] = Unit {0}
-AreDefinedKids s (None ∷ os) = AreDefinedKids s os
-AreDefinedKids s (Some r ∷ os) = IsDefinedTy s r.to × AreDefinedKids s os
-
--- each type that stands in it is in the store, and mentions no name that is not defined
+-- the types of the node are in the store, and mention no name that is not defined
 pub record IsDefinedFinding (s : Store) (x : Finding) : Type 0 where
   pub ty : IsDefinedTy s x.ty
   pub own : IsDefinedTy s x.own.to
-  pub kids : AreDefinedKids s x.kids

@@ -3,3 +3,4 @@ pub mod Marks
 pub mod Yields
 pub mod Late
 pub mod Findings
+pub mod Settling

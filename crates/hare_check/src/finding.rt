@@ -17,10 +17,12 @@ ghost use Rattle.hare_judge.specs.Kinds.{is_judged_kind};
 ghost use Rattle.hare_judge.specs.Needs.{IsReadyTurn};
 ghost use Rattle.hare_told.specs.Settled.{listed_late};
 ghost use Rattle.hare_check.specs.Late.{settled_in};
+ghost use Rattle.hare_check.specs.Settling.{option_in};
+ghost use Rattle.hare_check.specs.Findings as spec;
 ghost use Rattle.hare_check.specs.Findings.{IsAsked, IsFound, IsDefinedFinding};
 
 use crate::late::{Late, late_each};
-use crate::listed::{Listed, list_kids};
+use crate::listed::{Listed, Settling, list_kids, put_stay};
 use hare_flow::Handed;
 use hare_judge::judge;
 use hare_rules::{Hint, Verdict};
@@ -37,19 +39,19 @@ pub(crate) struct Finding {
     pub(crate) ty: Ty,
     /// What becomes of that at its site.
     pub(crate) own: Coercion,
-    /// The coercion of each kid; none where it stays.
-    pub(crate) kids: Items<Option<Coercion>>,
+    /// What is settled of each kid.
+    pub(crate) kids: Items<Settling>,
     /// What is settled of what was yielded to it.
     pub(crate) late: Items<Late>,
 }
 
-/// None for each of so many kids.
-fn nones(alloc: Global, count: usize) -> Result<Items<Option<Coercion>>, AllocError>
-    ensures { IfOk result (λ xs. xs ≡ replicate count None) }
+/// Of so many kids that each stays as it is.
+fn nones(alloc: Global, count: usize) -> Result<Items<Settling>, AllocError>
+    ensures { IfOk result (λ xs. map option_in xs ≡ replicate count None) }
 {
     let mut xs = Items::new(alloc);
     for _ in 0..count {
-        xs.push(None)?;
+        put_stay(&mut xs)?;
     }
     Ok(xs)
 }
@@ -75,6 +77,29 @@ fn late_of(
     Ok(Items::new(alloc))
 }
 
+/// Whether what a verdict lists for kids of a node of this kind is what the node settles of them.
+fn lists(k: Kind) -> bool
+    ensures { result ≡ spec.lists k }
+{
+    !matches!(k, Kind::Yield | Kind::SwitchCase)
+}
+
+/// What a node settles of its kids, where this is listed for them.
+fn settled(
+    alloc: Global,
+    t: &Turn<'_>,
+    listed: Items<Settling>,
+) -> Result<Items<Settling>, AllocError>
+    ensures listed { IfOk result (λ xs. spec.lists (kind_in t.now) ≡ true → xs ≡ listed) }
+    ensures nones { IfOk result (λ xs. spec.lists (kind_in t.now) ≡ false → map option_in xs ≡ replicate (length t.now.kids.now) None) }
+{
+    let node = t.node;
+    if lists(node.kind) {
+        return Ok(listed);
+    }
+    nones(alloc, t.kids.len())
+}
+
 /// Judges a node of which a hint asks something, with what was yielded to it: what is found of it, or its fault, in every later store. The store
 /// may grow in types.
 pub(crate) fn find_judged(
@@ -88,18 +113,13 @@ pub(crate) fn find_judged(
     ensures ok { IfOk result (λ x. (w : Store → Setting) (a : Above) (f : Flow) → IsAsked w s.new a f t.now (map given_of gs.now) → IsFound w s.new a (head t.now.node.now) t.now.kids.now f x) }
     ensures err { IfErr result (λ e. (w : Store → Setting) (a : Above) (f : Flow) → IsAsked w s.new a f t.now (map given_of gs.now) → IsTurnedBack w s.new a (head t.now.node.now) t.now.kids.now f e) }
     ensures defined { IfOk result (IsDefinedFinding s.new) }
-    ensures many { IfOk result (λ x. length x.kids ≡ length t.now.kids.now) }
     ensures grown { IsGrown s.old s.new }
 {
     let _law = s.declarations();
     let v = judge(alloc, s, t)?;
     let Listed { kids, count } = list_kids(alloc, s, t, &v)?;
     let late = late_of(alloc, t, &v, gs, count)?;
-    let node = t.node;
-    let kids = match node.kind {
-        Kind::SwitchCase | Kind::Yield => nones(alloc, t.kids.len())?,
-        _ => kids,
-    };
+    let kids = settled(alloc, t, kids)?;
     Ok(Finding {
         ty: v.ty,
         own: v.own,

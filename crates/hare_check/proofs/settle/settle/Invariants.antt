@@ -1,4 +1,5 @@
-use Rattle.std.proofs.Common.{◌≡◌, ◌≤◌, ◌++◌, length, take, drop}
+use Rattle.std.proofs.Common.{◌≡◌, ◌≤◌, ◌++◌, length, map, take, drop}
+use Rattle.hare_check.specs.Settling.{option_in}
 use Rattle.hare_rules.specs.Flow.{write_each}
 use Rattle.hare_check.specs.Listed.{written_each, coated_each}
 use Rattle.hare_check.proofs.settle.settle.Given as goal
@@ -10,7 +11,7 @@ invariant-loop-i l = record {
   locals : l.seen.locals ≡ l.initial.seen.locals;
   yields : l.seen.yields ≡ l.initial.seen.yields;
   late : l.seen.late ≡ l.initial.seen.late;
-  rest : write_each (written_each (drop l.i l.kids) (drop l.i l.listed)) l.seen.coercions
-      ≡ write_each (written_each l.initial.kids l.listed) l.initial.seen.coercions;
-  kids : take l.i l.kids ++ coated_each (drop l.i l.kids) (drop l.i l.listed) ≡ coated_each l.initial.kids l.listed;
+  rest : write_each (written_each (drop l.i l.kids) (drop l.i (map option_in l.settlings))) l.seen.coercions
+      ≡ write_each (written_each l.initial.kids (map option_in l.settlings)) l.initial.seen.coercions;
+  kids : take l.i l.kids ++ coated_each (drop l.i l.kids) (drop l.i (map option_in l.settlings)) ≡ coated_each l.initial.kids (map option_in l.settlings);
 }

@@ -4,7 +4,7 @@ use Rattle.rule_judge.specs.Defined.{AreDefinedYields}
 use Rattle.hare_flow.specs.declared.yields.Handed.{Handed}
 use Rattle.hare_flow.specs.Seen.{given_of}
 use Rattle.hare_check.specs.Yields.{IsDefinedOption}
-use Rattle.hare_check.proofs.ToldLemmas.{told-append, defined-append, given_at, given_more, given_all}
+use Rattle.hare_check.proofs.ToldLemmas.{told-append, defined-append, given_at, given_more, taken_all}
 use Rattle.hare_check.proofs.told.told_each.Goals as goal
 
 pub loop-i-preserved : goal.loop-i-preserved
@@ -29,4 +29,4 @@ pub returns-clause-told : goal.returns-clause-told
 returns-clause-told c f v =
     let gs = c.args.gs.now in
     let past : length gs ≤ c.loop-i.i = omega arith in
-    subst (λ (hs : List Handed). AreToldYields f (map given_of hs) c.loop-i.told) (given_all gs c.loop-i.i past) (c.loop-i.invariant.told f v)
+    subst (λ (hs : List Handed). AreToldYields f (map given_of hs) c.loop-i.told) (taken_all gs c.loop-i.i past) (c.loop-i.invariant.told f v)

@@ -1,5 +1,5 @@
 use Rattle.std.proofs.Common.{map}
-use Rattle.std.proofs.lemmas.Result.{if_ok_weaker}
+use Rattle.hare_check.proofs.ResultLemmas.{if_ok_weaker}
 use Rattle.hare_flow.specs.Seen.{given_of}
 use Rattle.hare_check.proofs.ToldLemmas.{void_here, givens_stay}
 use Rattle.hare_check.proofs.told.told_yields.Goals as goal
