@@ -12,6 +12,4 @@ mod types;
 mod unions;
 mod unmet;
 
-pub use calls::{bytes_slice, callee_meaning};
 pub use control::judge;
-pub use tries::made;
