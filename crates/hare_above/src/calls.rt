@@ -1,10 +1,11 @@
 //! What calls ask of their arguments.
 
-ghost use Rattle.std.specs.Prelude.{◌≡◌, ◌<◌, IfOk, IfSome};
+ghost use Rattle.std.specs.Prelude.{◌≡◌, IfOk, IfSome, Some};
 ghost use Rattle.hare_tree.specs.declared.kind.Kind.TheVariants as ki;
 ghost use Rattle.hare_tree.specs.declared.token.Meaning.TheVariants as means;
 ghost use Rattle.hare_types.specs.Store.{Store};
 ghost use Rattle.hare_types.specs.Later.{IsLater};
+ghost use Rattle.hare_typed.specs.Order.{tree_from_front};
 ghost use Rattle.hare_rules.specs.Above as above;
 ghost use Rattle.hare_rules.specs.Aggregates as spec;
 ghost use Rattle.hare_rules.specs.Context.{Setting};
@@ -17,10 +18,34 @@ ghost use Rattle.hare_above.specs.Ready.{IsKnown};
 use crate::asking::{Asking, hint_to};
 use hare_rules::Hint;
 use hare_tree::{Kind, Meaning};
+use hare_typed::TypedKids;
 use hare_types::{Scalar, TypeId, TypeStore};
-use rule_ctl::{bytes_slice, callee_meaning};
-use rule_judge::{DeclTypes, word};
+use rule_judge::{DeclTypes, slice_of, word};
 use std::alloc::AllocError;
+
+/// The type of a slice of bytes.
+fn bytes_slice(s: &mut TypeStore) -> Result<TypeId, AllocError>
+    ensures id { IfOk result (λ u. (f : Store) → IsLater s.new f → spec.bytes_slice f ≡ Some u) }
+    ensures defined { IfOk result (IsDefined s.new) }
+    ensures grown { IsGrown s.old s.new }
+{
+    let _law = s.declarations();
+    let byte = word(s, Scalar::U8)?;
+    slice_of(s, byte)
+}
+
+/// What the callee means; nothing where it is no path.
+fn callee_meaning(kids: &TypedKids) -> Meaning
+    ensures { result ≡ spec.callee_meaning (tree_from_front 0 kids.now) }
+{
+    match kids.get(0) {
+        Some(kid) => match kid.kind {
+            Kind::Path => kid.meaning,
+            _ => Meaning::None,
+        },
+        None => Meaning::None,
+    }
+}
 
 /// The type of the one parameter of the function of the module `rt` with this number; none where it has none, or there is no such function.
 fn runtime_param(s: &mut TypeStore, n: u32) -> Result<Option<TypeId>, AllocError>

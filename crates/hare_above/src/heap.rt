@@ -9,16 +9,18 @@ ghost use Rattle.hare_typed.specs.Typed.{typed_nodes};
 ghost use Rattle.hare_rules.specs.Above as above;
 ghost use Rattle.hare_rules.specs.Context.{Setting};
 ghost use Rattle.hare_rules.specs.Words as words;
-ghost use Rattle.rule_judge.specs.Defined.{IsDefined, IsDefinedHint, IsDefinedName, AreDefinedTrees};
+ghost use Rattle.rule_judge.specs.Defined.{IsDefined, IsDefinedHint, IsDefinedName, IsRefusable, AreDefinedTrees};
+ghost use Rattle.rule_ctl.specs.Tried.{element_of, made_of};
+ghost use Rattle.hare_typed.specs.Given.{base_row};
+ghost use Rattle.hare_types.specs.declared.coercion.Ty.TheVariants.{Of};
 ghost use Rattle.rule_judge.specs.Grown.{IsGrown};
 ghost use Rattle.hare_above.specs.Asked.{asked_as, rest_in};
 
 use crate::asking::{Asking, hint_to, word_hint};
 use hare_rules::Hint;
 use hare_tree::{Kids, Kind, Tree};
-use hare_types::{Scalar, Ty, TypeId, TypeStore};
-use rule_ctl::made;
-use rule_judge::{asked, refusable, type_at};
+use hare_types::{Row, Scalar, Ty, TypeId, TypeStore};
+use rule_judge::{asked, base_row, pointer_to, refusable, slice_of, type_at};
 use rule_mem::{object_asked, slice_element};
 use std::alloc::{AllocError, Global};
 
@@ -42,6 +44,53 @@ fn first_allocates(trees: &Kids) -> bool
     match trees.get(0) {
         Some(tree) => allocates(tree),
         None => false,
+    }
+}
+
+/// To what the base of the type points, which may be null or not.
+fn pointee(s: &TypeStore, t: TypeId) -> Option<TypeId>
+    requires { IsDefined s.now t }
+    ensures value { (f : Store) → IsLater s.now f → result ≡ above.leads_to (base_row f (Of t)) }
+    ensures defined { IfSome result (IsDefined s.now) }
+{
+    match base_row(s, &Ty::Of(t)) {
+        Some(Row::Pointer(u)) => Some(*u),
+        Some(Row::Nullable(u)) => Some(*u),
+        _ => None,
+    }
+}
+
+/// The element of the slice or array that is the base of the type.
+fn element(s: &TypeStore, t: TypeId) -> Option<TypeId>
+    requires { IsDefined s.now t }
+    ensures value { (f : Store) → IsLater s.now f → result ≡ element_of (base_row f (Of t)) }
+    ensures defined { IfSome result (IsDefined s.now) }
+{
+    match base_row(s, &Ty::Of(t)) {
+        Some(Row::Slice(u)) => Some(*u),
+        Some(Row::Array(_, u)) => Some(*u),
+        _ => None,
+    }
+}
+
+/// What an allocation makes that is asked for a value of the type: a pointer or a slice.
+fn made(s: &mut TypeStore, t: TypeId) -> Result<Option<TypeId>, AllocError>
+    requires { IsDefined s.old t }
+    ensures value { IfOk result (λ o. (f : Store) → IsLater s.new f → o ≡ made_of f t) }
+    ensures refusable { IfOk result (λ o. IfSome o (IsRefusable s.new)) }
+    ensures grown { IsGrown s.old s.new }
+{
+    let _law = s.declarations();
+    if let Some(u) = pointee(s, t) {
+        let p = pointer_to(s, u)?;
+        return Ok(Some(p));
+    }
+    match element(s, t) {
+        Some(u) => {
+            let p = slice_of(s, u)?;
+            Ok(Some(p))
+        }
+        None => Ok(None),
     }
 }
 

@@ -91,7 +91,7 @@ pub(crate) fn has_arity(t: &Turn<'_>) -> bool
 }
 
 /// The type of a slice of bytes.
-pub fn bytes_slice(s: &mut TypeStore) -> Result<TypeId, AllocError>
+fn bytes_slice(s: &mut TypeStore) -> Result<TypeId, AllocError>
     ensures id { IfOk result (λ u. (f : Store) → IsLater s.new f → spec.bytes_slice f ≡ Some u) }
     ensures defined { IfOk result (IsDefined s.new) }
     ensures grown { IsGrown s.old s.new }
@@ -152,7 +152,7 @@ pub(crate) fn call_type(s: &mut TypeStore, t: &Turn<'_>) -> Result<Ty, AllocErro
 }
 
 /// What the callee means; nothing where it is no path.
-pub fn callee_meaning(kids: &TypedKids) -> Meaning
+fn callee_meaning(kids: &TypedKids) -> Meaning
     ensures { result ≡ spec.callee_meaning (tree_from_front 0 kids.now) }
 {
     match kids.get(0) {

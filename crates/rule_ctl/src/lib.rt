@@ -12,7 +12,5 @@ mod types;
 mod unions;
 mod unmet;
 
-pub use calls::{bytes_slice, callee_meaning};
 pub use control::judge;
 pub use hinted::asks_type;
-pub use tries::made;

@@ -143,7 +143,7 @@ fn element(s: &TypeStore, t: TypeId) -> Option<TypeId>
 }
 
 /// What an allocation makes that is asked for a value of the type: a pointer or a slice.
-pub fn made(s: &mut TypeStore, t: TypeId) -> Result<Option<TypeId>, AllocError>
+fn made(s: &mut TypeStore, t: TypeId) -> Result<Option<TypeId>, AllocError>
     requires { IsDefined s.old t }
     ensures value { IfOk result (λ o. (f : Store) → IsLater s.new f → o ≡ made_of f t) }
     ensures refusable { IfOk result (λ o. IfSome o (IsRefusable s.new)) }
