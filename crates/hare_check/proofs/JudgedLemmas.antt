@@ -60,7 +60,7 @@ pub record IsTakenFrom (l : Store) (t : Turn) (gs : List Given) (v : Verdict) (x
   pub hinted : ¬ (t.case.now.hint ≡ hint.None) → x.late ≡ []
   pub others : takes_yields (kind_in t) ≡ false → x.late ≡ []
 
-judged_role : (o : Role) (k : Kind) → has_judge o ≡ true → rows_in_role o k ≡ rows_of k
+pub judged_role : (o : Role) (k : Kind) → has_judge o ≡ true → rows_in_role o k ≡ rows_of k
 judged_role Ordinary k e = refl
 judged_role CaseValue k e = refl
 judged_role DeclaredValue k e = refl

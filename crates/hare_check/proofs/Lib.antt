@@ -5,3 +5,4 @@ pub mod JudgedLemmas
 pub mod NextLemmas
 pub mod LateLemmas
 pub mod ResultLemmas
+pub mod LookedLemmas

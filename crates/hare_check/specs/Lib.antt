@@ -4,3 +4,4 @@ pub mod Yields
 pub mod Late
 pub mod Findings
 pub mod Settling
+pub mod Looked

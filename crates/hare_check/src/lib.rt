@@ -4,6 +4,7 @@
 mod finding;
 mod late;
 mod listed;
+mod looked;
 mod marks;
 mod settle;
 mod told;

@@ -51,12 +51,7 @@ fn is_bare_part(k: Kind) -> bool
 }
 
 /// Whether the node itself asks its kid number `i` for a type, where that is an expression or a statement.
-fn asks_type(
-    alloc: Global,
-    s: &mut TypeStore,
-    t: &Turn<'_>,
-    i: usize,
-) -> Result<bool, AllocError>
+fn asks_type(alloc: Global, s: &mut TypeStore, t: &Turn<'_>, i: usize) -> Result<bool, AllocError>
     requires kind { is_judged_kind (kind_in t.now) ≡ true }
     requires ready { IsReadyTurn s.old t.now }
     ensures value { IfOk result (λ b. (f : Store) → IsLater s.new f → b ≡ asked.asks_type (context_in f t.now) i) }

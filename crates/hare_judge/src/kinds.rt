@@ -75,12 +75,9 @@ pub fn judge_of(kind: Kind) -> Option<Judge>
         | Kind::Continue
         | Kind::Return
         | Kind::Yield => Some(Judge::Control),
-        Kind::If
-        | Kind::For
-        | Kind::ForEach
-        | Kind::Block
-        | Kind::Case
-        | Kind::SwitchCase => Some(Judge::Joining),
+        Kind::If | Kind::For | Kind::ForEach | Kind::Block | Kind::Case | Kind::SwitchCase => Some(
+            Judge::Joining,
+        ),
         Kind::Match | Kind::Switch | Kind::Def | Kind::GlobalLet | Kind::GlobalConst => {
             Some(Judge::Waiting)
         }
