@@ -1,19 +1,17 @@
 -- What a verdict comes to, as what is found of a node.
-use Rattle.std.proofs.Common.{◌≡◌, ℕ, zero, suc, Bool, true, false, cond, List, [], ◌∷◌, ◌++◌, map, drop, refl, ap, sym, ◌∙◌, subst, Option, Some, None}
-use Rattle.std.specs.Prelude.{slice_get, slice_index_or, replicate, length}
+use Rattle.std.proofs.Common.{◌≡◌, ℕ, zero, suc, Bool, true, false, cond, List, [], ◌∷◌, ◌++◌, map, drop, refl, ap, sym, ◌∙◌, Option, Some, None}
+use Rattle.std.specs.Prelude.{slice_get, slice_index_or, replicate}
 use Rattle.hare_tree.specs.declared.kind.Kind.{Kind}
 use Rattle.hare_tree.specs.declared.kind.Kind.TheVariants as ki
 use Rattle.hare_types.specs.declared.coercion.Coercion.{Coercion}
-use Rattle.hare_types.specs.Store.{Store}
 use Rattle.hare_typed.specs.Typed.{TypedNode, marked, mark_of}
-use Rattle.hare_typed.specs.Coats.{coat, coat_each, with_coercion}
+use Rattle.hare_typed.specs.Coats.{coat, with_coercion}
 use Rattle.hare_typed.specs.Numbers.{kind_of, number_of}
 use Rattle.hare_rules.specs.declared.declared.Local.{Local}
 use Rattle.hare_rules.specs.declared.judged.Yielded.{Yielded}
 use Rattle.hare_rules.specs.Context.{Context, store_of, kid, own_type}
-use Rattle.hare_rules.specs.Settles.{Settled, same, to_type, target_of, kid_coercion, settled_where, settles_from, settled_kid, settled_from}
+use Rattle.hare_rules.specs.Settles.{same, to_type, target_of, kid_coercion, settles_from, settled_kid, settled_from}
 use Rattle.hare_rules.specs.Judged.{was_hinted, hands_on}
-use Rattle.hare_rules.specs.Flow.{write_each}
 use Rattle.hare_rules.specs.Finished.{bare}
 use Rattle.hare_told.specs.Settled.{unless_hinted, listed_from, AreAsIs, HandNothingOn}
 use Rattle.hare_told.proofs.Settling.{target_of-seen, kid_coercion-seen, first_left, left_within, next_left}

@@ -29,14 +29,13 @@ use Rattle.hare_rules.specs.Rows.{is_site, rows_in_role, is_judged}
 use Rattle.hare_rules.specs.Table.{rows_of}
 use Rattle.hare_rules.specs.Judged.{context_of, IsVerdict, IsRefusal}
 use Rattle.hare_rules.specs.Finished.{bare}
-use Rattle.hare_inference.specs.Inferred.{found_kids, with_kids}
 use Rattle.hare_told.specs.Told.{IsTold, IsLookedAt, has_judge}
 use Rattle.hare_told.specs.Enough.{told, IsSameVerdict}
 use Rattle.hare_told.specs.Settled.{listed_from, listed_late, AreApart, AreAsIs, HandNothingOn, IsAllSettled}
 use Rattle.hare_told.proofs.Verdicts.{seen, told-seen, told_is_enough}
 use Rattle.hare_told.proofs.Settling.{kids_written, verdicts_settle}
 use Rattle.hare_walk.specs.Verdicts.{IsTurnOf}
-use Rattle.hare_walk.specs.Walks.{IsStop, IsTurnedBack}
+use Rattle.hare_walk.specs.Walks.{IsTurnedBack}
 use Rattle.hare_walk.proofs.Verdicts.{verdicts_turn}
 use Rattle.rule_judge.specs.declared.turn.Turn.{Turn}
 use Rattle.rule_judge.specs.Told.{IsStoppedNode}

@@ -1,5 +1,5 @@
 -- What is settled of kids, one by one.
-use Rattle.std.proofs.Common.{◌≡◌, ℕ, zero, suc, true, false, cond, ◌+◌, ◌<◌, ◌≤◌, List, [], ◌∷◌, ◌++◌, length, map, take, drop, get_or, refl, ap, sym, ◌∙◌, arith, Option, Some, None}
+use Rattle.std.proofs.Common.{◌≡◌, ℕ, zero, suc, true, false, cond, ◌<◌, ◌≤◌, List, [], ◌∷◌, ◌++◌, length, map, take, drop, get_or, refl, ap, ◌∙◌, arith, Option, Some, None}
 use Rattle.std.proofs.lemmas.List.{take-append-drop}
 use Rattle.hare_types.specs.declared.coercion.Coercion.{Coercion}
 use Rattle.hare_typed.specs.Typed.{TypedNode}

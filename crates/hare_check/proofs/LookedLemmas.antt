@@ -1,15 +1,14 @@
 -- A path to a binding that is not known.
-use Rattle.std.proofs.Common.{◌≡◌, ℕ, true, false, not, cond, List, [], ◌∷◌, ap, ◌∙◌, subst, Option, Some, None}
-use Rattle.std.specs.Prelude.{find, slice_get}
+use Rattle.std.proofs.Common.{◌≡◌, ℕ, false, not, cond, List, ◌∷◌, ap, ◌∙◌, subst, Option, Some}
+use Rattle.std.specs.Prelude.{find}
 use Rattle.hare_tree.specs.declared.kind.Kind.TheVariants as ki
 use Rattle.hare_tree.specs.declared.place.Place.{Place}
-use Rattle.hare_tree.specs.declared.token.Meaning.TheVariants as means
 use Rattle.hare_rules.specs.declared.row_id.RowId.{RowId}
 use Rattle.hare_rules.specs.declared.row_id.RowId.TheVariants as asked
 use Rattle.hare_rules.specs.Context.{Context, Entry, Odd}
 use Rattle.hare_rules.specs.Operators.{binding_known, entry_is_known}
 use Rattle.hare_rules.specs.Table.{rows_of, asked as last_rows}
-use Rattle.hare_rules.specs.Rows.{holds, odd_place, binding_place_of, rows_in_role, first_failing}
+use Rattle.hare_rules.specs.Rows.{holds, odd_place, binding_place_of, rows_in_role}
 use Rattle.hare_rules.specs.Judged.{IsRefusal}
 use Rattle.hare_check.specs.Looked.{MeansLocal}
 use Rattle.hare_check.proofs.JudgedLemmas.{judged_role}

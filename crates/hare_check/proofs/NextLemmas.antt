@@ -1,5 +1,5 @@
 -- What a verdict lists for one kid more.
-use Rattle.std.proofs.Common.{◌≡◌, ℕ, zero, suc, ◌+◌, ◌<◌, ◌≤◌, Bool, true, false, cond, List, [], ◌∷◌, ◌++◌, length, drop, refl, ap, sym, ◌∙◌, subst, arith, Option, Some, None, add-one}
+use Rattle.std.proofs.Common.{◌≡◌, ℕ, zero, suc, ◌+◌, ◌<◌, true, false, cond, List, [], ◌∷◌, ◌++◌, length, drop, refl, ap, sym, ◌∙◌, arith, Option, Some, None, add-one}
 use Rattle.std.specs.Prelude.{slice_get}
 use Rattle.hare_types.specs.declared.coercion.Coercion.{Coercion}
 use Rattle.hare_types.specs.Store.{Store}
@@ -13,7 +13,6 @@ use Rattle.hare_rules.specs.Judged.{was_hinted, unless, coercions_from}
 use Rattle.hare_rules.specs.Words.{nomem}
 use Rattle.rule_judge.specs.declared.turn.Turn.{Turn}
 use Rattle.rule_judge.specs.Asked.{listed}
-use Rattle.rule_judge.specs.Turns.{context_in, yields_in}
 use Rattle.rule_judge.proofs.DefinedLemmas.{defined_stays}
 use Rattle.rule_judge.proofs.MeantLemmas.{name_stays, meant_stays}
 use Rattle.rule_judge.proofs.TurnLemmas.{turn_stays}

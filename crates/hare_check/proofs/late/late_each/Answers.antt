@@ -1,4 +1,4 @@
-use Rattle.std.proofs.Common.{◌≡◌, ◌-◌, ◌<◌, ◌≤◌, ◌++◌, [], List, length, map, take, drop, ap, sym, ◌∙◌, arith, append-nil}
+use Rattle.std.proofs.Common.{◌≡◌, ◌-◌, ◌≤◌, ◌++◌, [], List, length, map, take, drop, ap, sym, ◌∙◌, arith, append-nil}
 use Rattle.std.proofs.lemmas.List.{length-drop}
 use Rattle.hare_types.specs.declared.coercion.Coercion.{Coercion}
 use Rattle.rule_judge.proofs.KidLemmas.{drop_past}

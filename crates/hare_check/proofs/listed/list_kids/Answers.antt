@@ -1,13 +1,11 @@
-use Rattle.std.proofs.Common.{◌≡◌, ◌+◌, ◌<◌, ◌≤◌, ◌++◌, ◌∷◌, [], List, length, map, drop, ap, sym, ◌∙◌, subst, arith, append-nil, Option}
-use Rattle.std.proofs.lemmas.List.{length-append}
-use Rattle.hare_types.specs.declared.coercion.Coercion.{Coercion}
+use Rattle.std.proofs.Common.{◌<◌, ◌≤◌, ◌++◌, length, map, ap, sym, ◌∙◌, arith, append-nil}
 use Rattle.hare_types.proofs.LaterLemmas.{later_trans}
 use Rattle.hare_rules.specs.Judged.{coercions_from}
 use Rattle.rule_judge.specs.Turns.{context_in, yields_in}
 use Rattle.rule_judge.proofs.TurnLemmas.{grown_trans}
 use Rattle.rule_judge.proofs.KidLemmas.{drop_past}
 use Rattle.hare_check.specs.Settling.{option_in}
-use Rattle.hare_check.specs.Listed.{listed_each, listed_behind, yields_listed}
+use Rattle.hare_check.specs.Listed.{listed_each, yields_listed}
 use Rattle.hare_check.proofs.NextLemmas.{ready_stays, listed_put}
 use Rattle.hare_check.proofs.listed.list_kids.Goals as goal
 

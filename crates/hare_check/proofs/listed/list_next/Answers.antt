@@ -1,11 +1,11 @@
-use Rattle.std.proofs.Common.{◌≡◌, true, false, ◌++◌, ◌∷◌, [], List, map, ap, sym, ◌∙◌, Some, None, Option}
+use Rattle.std.proofs.Common.{◌≡◌, true, false, ◌++◌, ◌∷◌, [], List, map, ap, sym, ◌∙◌, Option}
 use Rattle.std.specs.Option.{option_copied}
 use Rattle.hare_types.specs.declared.coercion.Coercion.{Coercion}
 use Rattle.hare_types.proofs.LaterLemmas.{later_here, later_trans}
 use Rattle.hare_rules.specs.Judged.{was_hinted}
 use Rattle.rule_judge.specs.Turns.{context_in, yields_in}
 use Rattle.hare_check.specs.Settling.{option_in}
-use Rattle.hare_check.proofs.NextLemmas.{listed_there, listed_unhinted, listed_hinted, left_hinted, left_unhinted}
+use Rattle.hare_check.proofs.NextLemmas.{listed_there, listed_unhinted, left_hinted, left_unhinted}
 use Rattle.hare_check.proofs.listed.list_next.Goals as goal
 
 pub unreachable-requires : goal.unreachable-requires

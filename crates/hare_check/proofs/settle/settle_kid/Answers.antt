@@ -1,4 +1,4 @@
-use Rattle.std.proofs.Common.{◌≡◌, List, cond, ap, sym, ◌∙◌, Some, None}
+use Rattle.std.proofs.Common.{List, ap, sym, ◌∙◌}
 use Rattle.hare_types.specs.declared.coercion.Coercion.{Coercion}
 use Rattle.hare_typed.specs.Numbers.{number_of}
 use Rattle.hare_rules.specs.Flow.{Flow}

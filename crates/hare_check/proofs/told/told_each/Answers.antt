@@ -1,6 +1,5 @@
-use Rattle.std.proofs.Common.{◌≡◌, ◌<◌, ◌≤◌, ◌+◌, ◌++◌, ◌∷◌, [], List, length, take, map, sym, subst, arith, add-one}
+use Rattle.std.proofs.Common.{◌≡◌, ◌<◌, ◌≤◌, ◌++◌, ◌∷◌, [], List, length, take, map, sym, subst, arith, add-one}
 use Rattle.hare_told.specs.Told.{AreToldYields}
-use Rattle.rule_judge.specs.Defined.{AreDefinedYields}
 use Rattle.hare_flow.specs.declared.yields.Handed.{Handed}
 use Rattle.hare_flow.specs.Seen.{given_of}
 use Rattle.hare_check.specs.Yields.{IsDefinedOption}

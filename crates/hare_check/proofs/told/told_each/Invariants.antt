@@ -1,4 +1,4 @@
-use Rattle.std.proofs.Common.{◌≡◌, ◌≤◌, length, take}
+use Rattle.std.proofs.Common.{◌≤◌, length, take}
 use Rattle.std.specs.Prelude.{map}
 use Rattle.hare_types.specs.Store.{Store}
 use Rattle.hare_told.specs.Told.{IsVoidOf, AreToldYields}
