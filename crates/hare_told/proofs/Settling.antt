@@ -30,11 +30,11 @@ use Rattle.hare_told.proofs.Targets.{target_unhinted}
 
 -- ---- where kids go
 
-target_of-seen : (k : Kind) (ls : List Local) (ys : List Yielded) (c : Context) (i : ℕ) → target_of (seen ls ys c) k i ≡ target_of c k i
+pub target_of-seen : (k : Kind) (ls : List Local) (ys : List Yielded) (c : Context) (i : ℕ) → target_of (seen ls ys c) k i ≡ target_of c k i
 target_of-seen ki.Arith ls ys c i = refl
 target_of-seen _ ls ys c i = refl
 
-kid_coercion-seen : (ls : List Local) (ys : List Yielded) (c : Context) (i : ℕ) → kid_coercion (seen ls ys c) i ≡ kid_coercion c i
+pub kid_coercion-seen : (ls : List Local) (ys : List Yielded) (c : Context) (i : ℕ) → kid_coercion (seen ls ys c) i ≡ kid_coercion c i
 kid_coercion-seen ls ys c i = ap (to_type (store_of c) (own_type (kid c i))) (target_of-seen c.head.kind ls ys c i)
 
 -- ---- lists
@@ -56,19 +56,19 @@ as_is-set : (j : Context) (i n : ℕ) (xs : List TypedNode) (cs : List Coercion)
 as_is-set j i n [] cs r h k = tt
 as_is-set j i n (x ∷ xs) cs r h k = (λ e. get_other cs n (number_of x) r h.0 ∙ k.0 e, as_is-set j (suc i) n xs cs r h.1 k.1)
 
-first_left : (xs ys : List TypedNode) (i : ℕ) (x : TypedNode) → drop i xs ≡ x ∷ ys → tree_from_front i xs ≡ x
+pub first_left : (xs ys : List TypedNode) (i : ℕ) (x : TypedNode) → drop i xs ≡ x ∷ ys → tree_from_front i xs ≡ x
 first_left [] ys zero x e = cc
 first_left [] ys (suc i) x e = cc
 first_left (y ∷ xs) ys zero x e = cc
 first_left (y ∷ xs) ys (suc i) x e = first_left xs ys i x e
 
-left_within : (xs ys : List TypedNode) (i : ℕ) (x : TypedNode) → drop i xs ≡ x ∷ ys → i < length xs
+pub left_within : (xs ys : List TypedNode) (i : ℕ) (x : TypedNode) → drop i xs ≡ x ∷ ys → i < length xs
 left_within [] ys zero x e = cc
 left_within [] ys (suc i) x e = cc
 left_within (y ∷ xs) ys zero x e = omega arith
 left_within (y ∷ xs) ys (suc i) x e = let h = left_within xs ys i x e in omega (arith, h)
 
-next_left : (xs ys : List TypedNode) (i : ℕ) (x : TypedNode) → drop i xs ≡ x ∷ ys → drop (suc i) xs ≡ ys
+pub next_left : (xs ys : List TypedNode) (i : ℕ) (x : TypedNode) → drop i xs ≡ x ∷ ys → drop (suc i) xs ≡ ys
 next_left [] ys zero x e = cc
 next_left [] ys (suc i) x e = cc
 next_left (y ∷ xs) ys zero x e = cc

@@ -3,3 +3,4 @@ pub mod Grows
 pub mod Parts
 pub mod Verdicts
 pub mod NullLemmas
+pub mod Counted

@@ -26,7 +26,7 @@ use Rattle.hare_inference.proofs.Bares.{erase-bare}
 use Rattle.hare_inference.proofs.Found.{finds}
 use Rattle.hare_inference.proofs.Hands.{coats-behind, below-behind, below_each-more, coercions-before, coat-coat}
 use Rattle.hare_walk.specs.Grown.{IsGrown}
-use Rattle.hare_walk.specs.Walks.{IsInHand, AreInHand, IsStop, IsInferred, IsStopped, IsTurned, IsTurnedBack, IsOver, IsBefore, IsAnswer}
+use Rattle.hare_walk.specs.Walks.{IsInHand, AreInHand, AreInferred, IsStop, IsInferred, IsStopped, IsTurned, IsTurnedBack, IsOver, IsBefore, IsAnswer}
 use Rattle.hare_walk.proofs.Grows.{later-grown}
 
 -- ---- inference over lists of kids
@@ -196,6 +196,16 @@ turn-stopped w v s r a b t ts xs f g (Err e) k m n o p h =
     let moved = subst (λ (z : Store → Setting). IsTurnedBack z r b (head t) xs g e) m h in
     let turned = subst (λ (z : Above). IsTurnedBack w r z (head t) xs g e) n moved in
     λ l d. stop-same e _ _ (sym (infer_at (w l) a t f ts k ∙ ap (with_kids (w l) a (head t)) (p l (later-grown s r l o d)))) (turned l d)
+
+pub kids-inferred : (w v : Store → Setting) (s : Store) (a b : Above) (t : Node) (ts : Nodes) (xs : List TypedNode) (f g : Flow) →
+    kids_of t ≡ ts → v ≡ w → b ≡ a →
+    ((l : Store) → IsLater s l → infer_each (w l) a (head t) [] ts f ≡ Ok (found_kids (map bare xs) g)) →
+    AreInferred v s b (head t) (kids_of t) xs g
+kids-inferred w v s a b t ts xs f g k m n p =
+    let q : AreInferred w s a (head t) (kids_of t) xs g =
+    (f, λ l e. ap (λ us. infer_each (w l) a (head t) [] us f) k ∙ p l e) in
+    let r = subst (λ (z : Store → Setting). AreInferred z s a (head t) (kids_of t) xs g) (sym m) q in
+    subst (λ (z : Above). AreInferred v s z (head t) (kids_of t) xs g) (sym n) r
 
 pub kids-stopped : (w : Store → Setting) (s : Store) (a : Above) (t : Node) (ts : Nodes) (f : Flow) (e : Stop Fault) → kids_of t ≡ ts →
     ((l : Store) → IsLater s l → IsStop e (infer_each (w l) a (head t) [] ts f)) → IsStopped w s a t f e

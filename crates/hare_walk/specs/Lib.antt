@@ -2,3 +2,4 @@ pub mod Grown
 pub mod Walks
 pub mod Verdicts
 pub mod Nulls
+pub mod Counts

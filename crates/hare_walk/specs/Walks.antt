@@ -16,7 +16,7 @@ use Rattle.hare_rules.specs.Above.{Above, over_kid}
 use Rattle.hare_rules.specs.Flow.{Flow, flow_before}
 use Rattle.hare_rules.specs.Rows.{fault_of}
 use Rattle.hare_rules.specs.Finished.{bare, IsTheFault}
-use Rattle.hare_inference.specs.Inferred.{Reason, Fails, found, found_kids, with_kids, infer}
+use Rattle.hare_inference.specs.Inferred.{Reason, Fails, found, found_kids, with_kids, infer, infer_each}
 
 -- ---- trees of the grammar
 
@@ -51,6 +51,10 @@ IsInferred w s a t f x g = (l : Store) → IsLater s l → infer (w l) a t f ≡
 
 abbrev pub IsStopped : (Store → Setting) → Store → Above → Node → Flow → Stop Fault → Type 0
 IsStopped w s a t f e = (l : Store) → IsLater s l → IsStop e (infer (w l) a t f)
+
+-- These trees are what is inferred of the kids of a node, in each later store, from what had been seen when the first of them began.
+abbrev pub AreInferred : (Store → Setting) → Store → Above → Head → Nodes → List TypedNode → Flow → Type 0
+AreInferred w s a h ts xs g = (f : Flow) × ((l : Store) → IsLater s l → infer_each (w l) a h [] ts f ≡ Ok (found_kids (map bare xs) g))
 
 -- the same of a node whose kids have been judged
 abbrev pub IsTurned : (Store → Setting) → Store → Above → Head → List TypedNode → Flow → TypedNode → Flow → Type 0

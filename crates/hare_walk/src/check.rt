@@ -10,31 +10,41 @@ ghost use Rattle.hare_typed.specs.Typed.{typed_nodes};
 ghost use Rattle.hare_typed.specs.Erased.{erase, erase_each};
 ghost use Rattle.hare_rules.specs.Finished.{bare, IsTheTree, expression};
 ghost use Rattle.hare_inference.specs.Inferred.{found_kids, infer_each};
+ghost use Rattle.hare_walk.specs.Counts.{IsBegun, IsAmong, IsBehind};
 ghost use Rattle.hare_walk.specs.Grown.{IsGrown};
 ghost use Rattle.hare_walk.specs.Walks.{IsPart, Each, IsInHand, AreInHand, IsInferred, IsStopped, IsStop, IsAnswer};
 
+use crate::counts::{At, Counts, label_number};
 use crate::walk::Walk;
 use hare_tree::{Fault, Kids, Stop, Tree};
 use hare_typed::{Typed, TypedKids};
 use hare_types::TypeStore;
 use std::alloc::Global;
 
-/// The one typed tree of a body, or its first fault, by a walk of which nothing has been done. The store may grow, also where there is a fault.
-/// The call goes as deep in the host as the body is.
+/// The one typed tree of a body, or its first fault, by a walk of which nothing has been done: `first` bindings of the declaration begin before it.
+/// The store may grow, also where there is a fault. A body of more than 2^32 - 1 nodes or bindings is answered as want of memory. The call goes as
+/// deep in the host as the body is.
 pub fn check_by<W: Walk>(
     alloc: Global,
     s: &mut TypeStore,
     w: &mut W,
     body: &Tree,
+    first: u32,
 ) -> Result<Typed, Stop<Fault>>
     requires start { (W.flow w.old).coercions ≡ [] }
+    requires begins { (W.above w.old).begins ≡ 0 }
+    requires first { (W.above w.old).first ≡ first }
     requires ready { W.Ready w.old s.old }
     requires shaped { IsTrue (is_shaped expression body.now) }
     ensures ok { IfOk result (λ x. IsTheTree (W.setting w.old s.new) (W.above w.old) (W.flow w.old) body.now x) }
     ensures err { IfErr result (λ e. IsAnswer (W.setting w.old s.new) (W.above w.old) (W.flow w.old) body.now e) }
     ensures grown { IsGrown s.old s.new }
 {
-    let judged = judge_tree(alloc, s, w, body);
+    let mut counts = Counts {
+        nodes: 0,
+        bindings: first,
+    };
+    let judged = judge_tree(alloc, s, w, body, &mut counts);
     let _sound = s.declarations();
     let tree = judged?;
     Ok(w.finish(tree))
@@ -47,11 +57,14 @@ fn judge_tree<W: Walk>(
     s: &mut TypeStore,
     w: &mut W,
     t: &Tree,
+    counts: &mut Counts,
 ) -> Result<Typed, Stop<Fault>>
     requires ready { W.Ready w.old s.old }
     requires part { IsPart t.now }
+    requires counts { IsBegun (W.above w.old) counts.old }
     ensures ok { IfOk result (λ x. IsInferred (W.setting w.old) s.new (W.above w.old) t.now (W.flow w.old) x (W.flow w.new)) }
     ensures hand { IfOk result (λ x. IsInHand (W.flow w.new) x) }
+    ensures counts { IfOk result (λ x. IsBehind counts.old (bare x) counts.new) }
     ensures erases { IfOk result (λ x. erase x ≡ t.now) }
     ensures ready { OnOk result (W.Ready w.new s.new) }
     ensures kept { IfOk result (λ x. (r : Store) → IsGrown s.new r → W.Keeps r x) }
@@ -62,7 +75,9 @@ fn judge_tree<W: Walk>(
     ensures grown { IsGrown s.old s.new }
     ensures sound { OnOk result (IsStore s.new) }
 {
-    let kids = judge_kids(alloc, s, w, t, &t.kids)?;
+    counts.begin(t.kind)?;
+    let kids = judge_kids(alloc, s, w, t, &t.kids, counts)?;
+    counts.finish()?;
     w.turn(alloc, s, t, kids)
 }
 
@@ -74,12 +89,15 @@ fn judge_kids<W: Walk>(
     w: &mut W,
     node: &Tree,
     kids: &Kids,
+    counts: &mut Counts,
 ) -> Result<TypedKids, Stop<Fault>>
     requires ready { W.Ready w.old s.old }
     requires part { IsPart node.now }
+    requires counts { IsAmong (W.above w.old) (head node.now) [] counts.old }
     requires whole { kids_of node.now ≡ nodes_of kids.now }
     ensures ok { IfOk result (λ xs. (l : Store) → IsLater s.new l → infer_each (W.setting w.old l) (W.above w.old) (head node.now) [] (nodes_of kids.now) (W.flow w.old) ≡ Ok (found_kids (map bare xs) (W.flow w.new))) }
     ensures hand { IfOk result (λ xs. AreInHand (W.flow w.new) xs) }
+    ensures counts { IfOk result (λ xs. IsAmong (W.above w.old) (head node.now) (map bare xs) counts.new) }
     ensures erases { IfOk result (λ xs. erase_each (typed_nodes xs) ≡ nodes_of kids.now) }
     ensures ready { OnOk result (W.Ready w.new s.new) }
     ensures kept { IfOk result (λ xs. Each (W.Keeps s.new) xs) }
@@ -89,13 +107,19 @@ fn judge_kids<W: Walk>(
     ensures setting { W.setting w.new ≡ W.setting w.old }
     ensures grown { IsGrown s.old s.new }
 {
+    let number = label_number(counts.nodes, node.kind, kids)?;
     let mut done = TypedKids::new(alloc);
     for i in 0..kids.len() {
         let Some(kid) = kids.get(i) else {
             unreachable!();
         };
-        w.enter(s, node, &done, kids, kid)?;
-        let x = judge_tree(alloc, s, w, kid)?;
+        let at = At {
+            begins: counts.nodes,
+            first: counts.bindings,
+            number,
+        };
+        w.enter(s, node, &done, kids, kid, at)?;
+        let x = judge_tree(alloc, s, w, kid, counts)?;
         w.leave();
         done.push(alloc, x)?;
     }

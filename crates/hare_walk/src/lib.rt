@@ -2,11 +2,13 @@
 #![tactic(auto)]
 
 mod check;
+mod counts;
 mod laws;
 #[cfg(test)]
 mod tests;
 mod walk;
 
 pub use check::check_by;
+pub use counts::At;
 pub use laws::law_verdicts_turn;
 pub use walk::Walk;

@@ -4,7 +4,7 @@ ghost use Rattle.std.specs.Prelude.{◌≡◌, []};
 ghost use Rattle.hare_types.specs.declared.coercion.Ty.TheVariants as ty;
 ghost use Rattle.hare_rules.specs.Settles.{same};
 
-use crate::{Walk, check_by};
+use crate::{At, Walk, check_by};
 use hare_tree::{Fault, Kids, Kind, Meaning, Place, Stop, Suffix, Tree, Word};
 use hare_typed::{Const, Typed, TypedKids, coat};
 use hare_types::{Coercion, Ty, TypeStore};
@@ -55,6 +55,7 @@ impl Walk for Nulls {
         _done: &TypedKids,
         _kids: &Kids,
         _kid: &Tree,
+        _at: At,
     ) -> Result<(), AllocError> {
         let _sound = s.declarations();
         Err(AllocError)
@@ -110,7 +111,7 @@ fn null_is_judged(rt: HostRuntime) -> Result<(), Fail> {
     let mut w = Nulls {
         coercions: Vec::new(rt.alloc()),
     };
-    match check_by(rt.alloc(), &mut s, &mut w, &body) {
+    match check_by(rt.alloc(), &mut s, &mut w, &body, 0) {
         Ok(tree) => assert_eq!(rt; tree.coerce, kept()),
         Err(_) => return Err("a tree".into()),
     }

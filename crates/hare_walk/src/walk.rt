@@ -1,5 +1,6 @@
 //! What a walk over a body asks of the typing rules.
 
+use crate::counts::At;
 use hare_tree::{Fault, Kids, Stop, Tree};
 use hare_typed::{Typed, TypedKids};
 use hare_types::TypeStore;
@@ -18,10 +19,12 @@ pub trait Walk {
     ghost use Rattle.hare_rules.specs.Context.{Setting};
     ghost use Rattle.hare_rules.specs.Above.{Above};
     ghost use Rattle.hare_rules.specs.Flow.{Flow, all_settled};
+    ghost use Rattle.hare_rules.specs.Finished.{bare};
+    ghost use Rattle.hare_walk.specs.Counts.{IsAt};
     ghost use Rattle.hare_walk.specs.Grown.{IsGrown};
     ghost use Rattle.hare_typed.specs.Typed.{TypedNode, typed_nodes};
     ghost use Rattle.hare_typed.specs.Erased.{erase_each};
-    ghost use Rattle.hare_walk.specs.Walks.{IsPart, Each, IsInHand, AreInHand, IsTurned, IsTurnedBack, IsOver, IsBefore};
+    ghost use Rattle.hare_walk.specs.Walks.{IsPart, Each, IsInHand, AreInHand, IsTurned, IsTurnedBack, IsOver, IsBefore, AreInferred};
 
     /// What is known of the program, over a store.
     ghost setting: { Self → Store → Setting };
@@ -41,7 +44,7 @@ pub trait Walk {
     /// What it relies on of each tree that has been judged.
     ghost Keeps: { Store → TypedNode → Type 0 };
 
-    /// Goes on to the kid behind those that are done.
+    /// Goes on to the kid behind those that are done, which stands there.
     fn enter(
         &mut self,
         s: &mut TypeStore,
@@ -49,9 +52,11 @@ pub trait Walk {
         done: &TypedKids,
         kids: &Kids,
         kid: &Tree,
+        at: At,
     ) -> Result<(), AllocError>
         requires whole { kids_of node.now ≡ nodes_of kids.now }
         requires next { slice_get kids.now (length done.now) ≡ Some kid.now }
+        requires at { IsAt (above self.old) (head node.now) (map bare done.now) kid.now (nodes_of (drop (length done.now + 1) kids.now)) at }
         requires ready { Ready self.old s.old }
         requires part { IsPart node.now }
         requires hand { AreInHand (flow self.old) done.now }
@@ -83,6 +88,7 @@ pub trait Walk {
         requires ready { Ready self.old s.old }
         requires part { IsPart node.now }
         requires whole { erase_each (typed_nodes kids) ≡ kids_of node.now }
+        requires inferred { AreInferred (setting self.old) s.old (above self.old) (head node.now) (kids_of node.now) kids (flow self.old) }
         requires hand { AreInHand (flow self.old) kids }
         requires kept { Each (Keeps s.old) kids }
         ensures ok { IfOk result (λ x. IsTurned (setting self.old) s.new (above self.old) (head node.now) kids (flow self.old) x (flow self.new)) }

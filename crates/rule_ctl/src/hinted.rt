@@ -20,7 +20,7 @@ use rule_judge::{Turn, word};
 use std::alloc::{AllocError, Global};
 
 /// Whether the node has asked its kid number `i` for a value of a type. A label does not tell what it is asked for, and so `yield` asks for none.
-pub(crate) fn asks_type(
+pub fn asks_type(
     alloc: Global,
     s: &mut TypeStore,
     t: &Turn<'_>,

@@ -15,3 +15,4 @@ mod unmet;
 
 pub use control::judge;
 pub use declarations::judge_declaration;
+pub use hinted::asks_type;

@@ -47,7 +47,7 @@ fn for_asks(s: &mut TypeStore, t: &Turn<'_>, i: usize) -> Result<bool, AllocErro
 }
 
 /// Whether the node has asked its kid number `i` for a value of a type.
-pub(crate) fn asks_type(s: &mut TypeStore, t: &Turn<'_>, i: usize) -> Result<bool, AllocError>
+pub fn asks_type(s: &mut TypeStore, t: &Turn<'_>, i: usize) -> Result<bool, AllocError>
     requires kind { judges (kind_in t.now) ≡ true }
     ensures value { IfOk result (λ b. (f : Store) → IsLater s.new f → b ≡ asks_type (context_in f t.now) i) }
     ensures grown { IsGrown s.old s.new }

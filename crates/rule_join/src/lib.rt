@@ -11,5 +11,6 @@ mod types;
 mod unmet;
 mod values;
 
+pub use asked::asks_type;
 pub use cases::{asks_case, case_misfit, case_target, cases_type};
 pub use judged::judge;

@@ -112,7 +112,7 @@ fn allocation_asks(s: &mut TypeStore, t: &Turn<'_>, i: usize) -> Result<bool, Al
 }
 
 /// Whether the node has asked its kid number `i` for a value of a type.
-pub(crate) fn asks_type(s: &mut TypeStore, t: &Turn<'_>, i: usize) -> Result<bool, AllocError>
+pub fn asks_type(s: &mut TypeStore, t: &Turn<'_>, i: usize) -> Result<bool, AllocError>
     requires kind { judges (kind_in t.now) ≡ true }
     requires turn { IsTurn s.old t.now }
     ensures value { IfOk result (λ b. (f : Store) → IsLater s.new f → b ≡ asks_type (context_in f t.now) i) }

@@ -25,7 +25,7 @@ pub(crate) fn hint_base<'s>(s: &'s TypeStore, hint: &Hint) -> Option<&'s Row>
 }
 
 /// The element that a hint gives to an array.
-pub(crate) fn hinted_element(s: &TypeStore, hint: &Hint) -> Option<TypeId>
+pub fn hinted_element(s: &TypeStore, hint: &Hint) -> Option<TypeId>
     requires { IsDefinedHint s.now hint.now }
     ensures value { (f : Store) → IsLater s.now f → result ≡ spec.hinted_element f hint.now }
     ensures defined { IfSome result (λ t. IsDefined s.now t) }
@@ -49,11 +49,7 @@ pub(crate) fn hinted_length(s: &TypeStore, hint: &Hint) -> Option<u64>
 }
 
 /// The components that a hint gives to a tuple of so many items.
-pub(crate) fn hinted_components<'s>(
-    s: &'s TypeStore,
-    hint: &Hint,
-    count: usize,
-) -> Option<&'s [TypeId]>
+pub fn hinted_components<'s>(s: &'s TypeStore, hint: &Hint, count: usize) -> Option<&'s [TypeId]>
     requires { IsDefinedHint s.now hint.now }
     ensures value { (f : Store) → IsLater s.now f → option_copied result ≡ spec.hinted_components f hint.now count }
     ensures defined { IfSome result (λ ts. (i : ℕ) → Contains ts.now i → IsDefined s.now i) }
@@ -71,7 +67,7 @@ pub(crate) fn hinted_components<'s>(
 }
 
 /// The object that an allocation of one operand is asked for.
-pub(crate) fn object_asked(s: &TypeStore, hint: &Hint) -> Option<TypeId>
+pub fn object_asked(s: &TypeStore, hint: &Hint) -> Option<TypeId>
     requires { IsDefinedHint s.now hint.now }
     ensures value { (f : Store) → IsLater s.now f → result ≡ object_of f hint.now }
     ensures defined { IfSome result (λ u. IsDefined s.now u) }

@@ -19,4 +19,8 @@ mod tuples;
 mod types;
 mod unmet;
 
+pub use hinted::asks_type;
+pub use hints::{hinted_components, hinted_element, object_asked};
+pub use members::field_of;
 pub use memory::judge;
+pub use reads::slice_element;

@@ -105,7 +105,7 @@ pub(crate) fn member(s: &TypeStore, a: &Ty, node: &Tree) -> Option<TypeId>
 }
 
 /// The type of the field with this name of what has this type. The time is constant.
-pub(crate) fn field_of(s: &TypeStore, a: &Ty, text: &[u8]) -> Option<TypeId>
+pub fn field_of(s: &TypeStore, a: &Ty, text: &[u8]) -> Option<TypeId>
     requires { IsDefinedTy s.now a.now }
     ensures { (f : Store) → IsLater s.now f → result ≡ spec.field_type f (given.base_row f a.now) text.now }
 {

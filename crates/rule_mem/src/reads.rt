@@ -29,7 +29,7 @@ pub(crate) fn pointee(s: &TypeStore, a: &Ty) -> Option<TypeId>
 }
 
 /// The type of the elements, where the base of a type is a slice.
-pub(crate) fn slice_element(s: &TypeStore, a: &Ty) -> Option<TypeId>
+pub fn slice_element(s: &TypeStore, a: &Ty) -> Option<TypeId>
     requires { IsDefinedTy s.now a.now }
     ensures value { (f : Store) → IsLater s.now f → result ≡ element_of_slice (given.base_row f a.now) }
     ensures defined { IfSome result (λ t. IsDefined s.now t) }

@@ -14,3 +14,4 @@ mod targets;
 mod types;
 
 pub use judged::judge;
+pub use targets::asks_type;

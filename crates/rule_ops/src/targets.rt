@@ -32,7 +32,7 @@ fn id_in(a: &Ty) -> Option<TypeId>
 }
 
 /// Whether the node has asked its kid number `i` for a value of a type.
-pub(crate) fn asks_type(s: &mut TypeStore, t: &Turn<'_>, i: usize) -> Result<bool, AllocError>
+pub fn asks_type(s: &mut TypeStore, t: &Turn<'_>, i: usize) -> Result<bool, AllocError>
     requires kind { is_operator (kind_in t.now) ≡ true }
     requires turn { IsTurn s.old t.now }
     ensures value { IfOk result (λ b. (f : Store) → IsLater s.new f → b ≡ asked.asks_type (context_in f t.now) i) }

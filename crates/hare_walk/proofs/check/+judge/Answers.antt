@@ -4,9 +4,10 @@ use Rattle.hare_types.specs.Store.{Store}
 use Rattle.hare_rules.specs.Finished.{bare}
 use Rattle.hare_walk.specs.Walks.{IsStopped}
 use Rattle.hare_walk.specs.Grown.{IsGrown}
+use Rattle.hare_walk.proofs.Counted.{at-kid, begun-kid, among-more, behind-turn}
 use Rattle.hare_walk.proofs.Grows.{grown-refl, grown-trans, later-grown}
 use Rattle.hare_walk.proofs.Parts.{part-kid, each-grown, each-now, each-append, erased-more, erased-all, take_all}
-use Rattle.hare_walk.proofs.Steps.{IsKid, each_end, err_same, turn-inferred, turn-stopped, turn-erases, kids-stopped, over-moved, before-moved, inferred-moved, stopped-moved, next_at, rest_at, stop_at, kid-rest, kid-leaves, kid-stopped, hand-more, each_below-more, stop-same}
+use Rattle.hare_walk.proofs.Steps.{IsKid, each_end, err_same, turn-inferred, turn-stopped, turn-erases, kids-stopped, kids-inferred, over-moved, before-moved, inferred-moved, stopped-moved, next_at, rest_at, stop_at, kid-rest, kid-leaves, kid-stopped, hand-more, each_below-more, stop-same}
 use Rattle.hare_walk.proofs.check.+judge.Goals as goal
 
 pub judge_tree-returns-in_err-kids-clause-err : goal.judge_tree-returns-in_err-kids-clause-err
@@ -16,7 +17,7 @@ judge_tree-returns-in_err-kids-clause-err g t c =
     let f = g.W.Walk.flow c.args.w.now in
     let s = c.judge_kids.new.s in
     let e = c.in_err-kids.field-0.0 in
-    err_same c.from_residual.result e (λ x. IsStopped w s a c.args.t.now f x) c.from_residual.ensures.1
+    err_same c.from_residual-in_err-kids.result e (λ x. IsStopped w s a c.args.t.now f x) c.from_residual-in_err-kids.ensures.1
     (kids-stopped w s a c.args.t.now (nodes_of c.t.inside.kids) f e (sym (ap kids_of c.t.view_is)) c.in_err-kids.ensures.err)
 
 pub judge_tree-returns-clause-ok : goal.judge_tree-returns-clause-ok
@@ -128,6 +129,7 @@ judge_kids-loop-i-preserved g t c =
       setting = c.leave.ensures.setting ∙ c.judge_tree.ensures.setting ∙ c.enter.ensures.setting ∙ i.setting;
       hand = rw (flow, p) hand;
       below = rw (flow, p) below;
+      counts = among-more a h xs c.push.new.self x c.loop-i.counts c.judge_tree.new.counts i.counts c.in_ok-x.ensures.counts p;
       ready = c.leave.ensures.ready s c.in_ok-x.ensures.ready;
       kept =
           let each = each-grown g.W.Walk.Keeps c.loop-i.s s xs grown i.kept in
@@ -155,7 +157,28 @@ pub judge_kids-judge_tree-requires : goal.judge_kids-judge_tree-requires
 judge_kids-judge_tree-requires g t c =
     let found = c.in-Some.ensures.found in
     let part = part-kid c.args.node.now c.in-Some.kid.now c.args.kids.now c.loop-i.i c.requires.part c.requires.whole found in
-    λ k l. (search rules, (search rules, (c.in_ok-enter.ensures.ready, part)))
+    let begun = begun-kid (g.W.Walk.setting c.loop-i.w) (g.W.Walk.setting c.loop-i.w) c.enter.new.s (g.W.Walk.above c.args.w.now) (g.W.Walk.above c.loop-i.w)
+    (g.W.Walk.above c.enter.new.self) (head c.args.node.now) c.loop-i.done c.in-Some.kid.now (nodes_of (drop (length c.loop-i.done + 1) c.args.kids.now))
+    c.loop-i.counts c.loop-i.invariant.above c.enter.ensures.sound c.in_ok-enter.ensures.over c.loop-i.invariant.counts in
+    λ k l. (search rules, (search rules, (c.in_ok-enter.ensures.ready, (part, begun))))
+
+pub judge_kids-enter-requires-clause-at : goal.judge_kids-enter-requires-clause-at
+judge_kids-enter-requires-clause-at g t c =
+    let i = c.loop-i.invariant in
+    at-kid (g.W.Walk.above c.args.w.now) (g.W.Walk.above c.loop-i.w) (head c.args.node.now) c.node.inside.kind c.loop-i.done c.args.kids.now c.loop-i.i
+    c.in-Some.kid.now c.loop-i.counts c.args.counts.now c.in_ok-number.number i.above (sym (ap (λ n. (head n).kind) c.node.view_is)) i.many i.erased
+    c.in-Some.ensures.found c.requires.counts i.counts c.in_ok-number.ensures
+
+pub judge_kids-returns-clause-counts : goal.judge_kids-returns-clause-counts
+judge_kids-returns-clause-counts g t c = c.loop-i.invariant.counts
+
+pub judge_tree-returns-clause-counts : goal.judge_tree-returns-clause-counts
+judge_tree-returns-clause-counts g t c =
+    let v = c.judge_kids.new.w in
+    behind-turn (g.W.Walk.setting v) c.turn.new.s (g.W.Walk.above c.args.w.now) (g.W.Walk.above v) (head c.args.t.now) c.in_ok-kids.kids
+    (g.W.Walk.flow v) (g.W.Walk.flow c.turn.new.self) c.turn.result c.args.counts.now c.judge_kids.new.counts c.finish.new.self
+    c.in_ok-kids.ensures.above c.turn.ensures.ok c.turn.ensures.sound c.requires.counts c.in_ok-kids.ensures.counts (ap (λ x. x.nodes) c.in_ok-finish.ensures)
+    (ap (λ x. x.bindings) c.in_ok-finish.ensures)
 
 pub judge_kids-returns-clause-erases : goal.judge_kids-returns-clause-erases
 judge_kids-returns-clause-erases g t c =
@@ -165,3 +188,11 @@ judge_kids-returns-clause-erases g t c =
 pub judge_kids-returns-clause-kept : goal.judge_kids-returns-clause-kept
 judge_kids-returns-clause-kept g t c =
     each-now g.W.Walk.Keeps c.loop-i.s c.loop-i.s c.loop-i.done (grown-refl c.loop-i.s) c.loop-i.invariant.kept
+
+pub judge_tree-turn-requires-clause-inferred : goal.judge_tree-turn-requires-clause-inferred
+judge_tree-turn-requires-clause-inferred g t c =
+    let w = c.args.w.now in
+    let v = c.judge_kids.new.w in
+    kids-inferred (g.W.Walk.setting w) (g.W.Walk.setting v) c.judge_kids.new.s (g.W.Walk.above w) (g.W.Walk.above v) c.args.t.now
+    (nodes_of c.t.inside.kids) c.in_ok-kids.kids (g.W.Walk.flow w) (g.W.Walk.flow v)
+    (sym (ap kids_of c.t.view_is)) c.in_ok-kids.ensures.setting c.in_ok-kids.ensures.above c.in_ok-kids.ensures.ok

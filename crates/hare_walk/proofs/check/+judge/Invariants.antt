@@ -8,6 +8,7 @@ use Rattle.hare_rules.specs.Flow.{count}
 use Rattle.hare_rules.specs.Finished.{bare}
 use Rattle.hare_inference.specs.Inferred.{infer_each}
 use Rattle.hare_inference.specs.Hands.{AreBelow}
+use Rattle.hare_walk.specs.Counts.{IsAmong}
 use Rattle.hare_walk.specs.Grown.{IsGrown}
 use Rattle.hare_walk.specs.Walks.{Each, AreInHand}
 use Rattle.hare_walk.proofs.check.+judge.Given as goal
@@ -20,6 +21,7 @@ invariant-judge_kids-loop-i g l = record {
   setting : g.W.Walk.setting l.w ≡ g.W.Walk.setting l.initial.w;
   hand : AreInHand (g.W.Walk.flow l.w) l.done;
   below : AreBelow (count (g.W.Walk.flow l.w)) (typed_nodes (map bare l.done));
+  counts : IsAmong (g.W.Walk.above l.initial.w) (head l.node) (map bare l.done) l.counts;
   ready : g.W.Walk.Ready l.w l.s;
   kept : Each (λ x. (r : Store) → IsGrown l.s r → g.W.Walk.Keeps r x) l.done;
   erased : map erase l.done ≡ take l.i l.kids;

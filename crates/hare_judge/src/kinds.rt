@@ -1,0 +1,86 @@
+//! Which rules a kind of node has.
+
+ghost use Rattle.std.specs.Prelude.{◌≡◌, true, false, IfSome, None};
+ghost use Rattle.hare_judge.specs.Kinds.{is_judged_kind, judges};
+
+use hare_tree::Kind;
+
+/// The rules by which a node is judged, by its kind.
+#[derive(Clone, Copy, Debug, PartialEq, Eq)]
+pub enum Judge {
+    /// Literals, operators, casts, sizes and parentheses.
+    Operators,
+    /// Places, aggregates and the heap.
+    Memory,
+    /// Calls, bindings, members of unions, and what leaves.
+    Control,
+    /// Branches, loops, blocks and cases.
+    Joining,
+    /// `match`, `switch`, and declarations of values: their rules are not joined yet.
+    Waiting,
+}
+
+/// The rules of a kind of node; none of a kind that has none, and of a written type, which no hint asks for anything.
+pub fn judge_of(kind: Kind) -> Option<Judge>
+    ensures some { IfSome result (λ j. judges j kind ≡ true) }
+    ensures none { result ≡ None → is_judged_kind kind ≡ false }
+{
+    match kind {
+        Kind::Number
+        | Kind::Str
+        | Kind::RuneLit
+        | Kind::Bool
+        | Kind::Null
+        | Kind::Void
+        | Kind::Neg
+        | Kind::Not
+        | Kind::Bang
+        | Kind::Arith
+        | Kind::Shift
+        | Kind::Less
+        | Kind::Equal
+        | Kind::Logic
+        | Kind::OpAssign
+        | Kind::Cast
+        | Kind::Size
+        | Kind::Align
+        | Kind::Paren => Some(Judge::Operators),
+        Kind::Path
+        | Kind::Deref
+        | Kind::Addr
+        | Kind::Assign
+        | Kind::Index
+        | Kind::Slice
+        | Kind::Field
+        | Kind::StructLit
+        | Kind::Tuple
+        | Kind::Array
+        | Kind::Alloc
+        | Kind::Free
+        | Kind::Append
+        | Kind::Delete
+        | Kind::Len
+        | Kind::Offset => Some(Judge::Memory),
+        Kind::As
+        | Kind::Is
+        | Kind::Call
+        | Kind::Try
+        | Kind::Force
+        | Kind::Abort
+        | Kind::Assert
+        | Kind::Let
+        | Kind::Const
+        | Kind::Defer
+        | Kind::Break
+        | Kind::Continue
+        | Kind::Return
+        | Kind::Yield => Some(Judge::Control),
+        Kind::If | Kind::For | Kind::ForEach | Kind::Block | Kind::Case | Kind::SwitchCase => Some(
+            Judge::Joining,
+        ),
+        Kind::Match | Kind::Switch | Kind::Def | Kind::GlobalLet | Kind::GlobalConst => {
+            Some(Judge::Waiting)
+        }
+        _ => None,
+    }
+}
