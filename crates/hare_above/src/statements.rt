@@ -1,6 +1,6 @@
 //! What bindings, branches and statements ask of their parts.
 
-ghost use Rattle.std.specs.Prelude.{◌≡◌, [], ◌∷◌, IfOk, length};
+ghost use Rattle.std.specs.Prelude.{◌≡◌, [], ◌∷◌, IfOk, length, slice_get, Some};
 ghost use Rattle.hare_tree.specs.declared.kind.Kind.TheVariants as ki;
 ghost use Rattle.hare_tree.specs.Node.{head};
 ghost use Rattle.hare_types.specs.Later.{IsLater};
@@ -57,7 +57,8 @@ pub(crate) fn declared_hint(q: &Asking<'_>) -> Hint
 
 /// What an `if` asks of its next kid: `bool` of the condition; and of the branches what it is itself asked for, or nothing, where there is no `else`.
 pub(crate) fn branch_hint(s: &mut TypeStore, q: &Asking<'_>) -> Result<Hint, AllocError>
-    requires { IsDefinedHint s.old q.now.own }
+    requires own { IsDefinedHint s.old q.now.own }
+    requires next { slice_get q.now.kids.now (length q.now.done.now) ≡ Some q.now.kid.now }
     ensures value { IfOk result (λ h. (w : Setting) → IsLater s.new w.store → h ≡ asked_as w q.now ki.If) }
     ensures defined { IfOk result (IsDefinedHint s.new) }
     ensures grown { IsGrown s.old s.new }
@@ -109,7 +110,7 @@ pub(crate) fn yield_hint(q: &Asking<'_>) -> Hint
 
 /// What a block asks of a statement: it is dropped, unless it is a binding or deferred.
 pub(crate) fn statement_hint(q: &Asking<'_>) -> Hint
-    ensures { (w : Setting) → result ≡ asked_as w q.now ki.Block }
+    ensures { result ≡ above.statement_hint (head q.now.kid.now).kind }
 {
     let kid = q.kid;
     match kid.kind {
