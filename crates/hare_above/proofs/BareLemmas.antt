@@ -1,11 +1,20 @@
 -- Kids without their coercions: what hints read of them.
 use Rattle.std.proofs.Common.{◌≡◌, ℕ, zero, suc, ◌+◌, ◌<◌, ◌≤◌, Bool, true, false, cond, not, List, [], ◌∷◌, map, drop, length, Option, Some, None, refl, ap, ap₂, sym, ◌∙◌, arith, add-one}
-use Rattle.std.specs.Prelude.{slice_get, option_and_then}
+use Rattle.std.specs.Prelude.{slice_get, option_and_then, IfSome}
 use Rattle.hare_tree.specs.Node.{Head, Node, Nodes, nodes_of, head}
 use Rattle.hare_tree.specs.declared.kind.Kind.{Kind}
 use Rattle.hare_tree.specs.declared.kind.Kind.TheVariants as ki
 use Rattle.hare_tree.specs.declared.token.Meaning.{Meaning}
 use Rattle.hare_types.specs.declared.coercion.Ty.{Ty}
+use Rattle.hare_types.specs.declared.coercion.Ty.TheVariants as ty
+use Rattle.hare_types.specs.declared.row.Row.{Row}
+use Rattle.hare_types.specs.declared.row.Row.TheVariants as row
+use Rattle.hare_types.specs.Store.{Store}
+use Rattle.hare_types.specs.Sound.{IsStore}
+use Rattle.hare_types.specs.ByIds.{row_at, base_at}
+use Rattle.rule_judge.specs.Defined.{IsDefined, IsDefinedTy, HoldsDefined}
+use Rattle.rule_judge.proofs.BaseLemmas.{base_held}
+use Rattle.rule_mem.proofs.StructLemmas.{field_defined}
 use Rattle.hare_typed.specs.Typed.{TypedNode, marked}
 use Rattle.hare_typed.specs.Given.{given, base_row}
 use Rattle.hare_typed.specs.Order.{tree_from_front}
@@ -108,3 +117,23 @@ pub refusable-some : (w : Setting) (h : Hint) (t : ℕ) → Some t ≡ option_an
     with_refusal w.store p ≡ Some u → hint_to (Some u) ≡ refusable_hint w (asked w h)
 refusable-some w h t e p u k g =
     ap hint_to (sym g) ∙ ap (λ o. hint_to (option_and_then (with_refusal w.store) o)) k ∙ ap (refusable_hint w) e
+
+-- ---- fields
+
+field_row-defined : (s : Store) (r : Option Row) (text : List ℕ) (o : Option ℕ) → ((q : Row) → r ≡ Some q → HoldsDefined s q) →
+    o ≡ field_type s r text → IfSome o (IsDefined s)
+field_row-defined s (Some (row.Struct fs)) text o h e = field_defined s (row.Struct fs) fs text o (h (row.Struct fs) refl) refl e
+field_row-defined s None text o h e = rw e tt
+field_row-defined s (Some _) text o h e = rw e tt
+
+field_base-defined : (s : Store) → IsStore s → (t : ℕ) (b : Option ℕ) (text : List ℕ) (o : Option ℕ) → IsDefined s t → base_at s t ≡ b →
+    o ≡ field_type s (option_and_then (row_at s) b) text → IfSome o (IsDefined s)
+field_base-defined s v t None text o d g e = rw e tt
+field_base-defined s v t (Some b) text o d g e = field_row-defined s (row_at s b) text o (λ q k. base_held s v (ty.Of t) t b q refl d g k) e
+
+pub field_type-defined : (s : Store) → IsStore s → (a : Ty) (text : List ℕ) (o : Option ℕ) → IsDefinedTy s a →
+    o ≡ field_type s (base_row s a) text → IfSome o (IsDefined s)
+field_type-defined s v (ty.Of t) text o d e = field_base-defined s v t (base_at s t) text o d refl e
+field_type-defined s v (ty.Iconst n) text o d e = rw e tt
+field_type-defined s v ty.Null text o d e = rw e tt
+field_type-defined s v ty.Empty text o d e = rw e tt

@@ -1,12 +1,12 @@
 //! What a node asks of its next kid.
 
-ghost use Rattle.std.specs.Prelude.{◌≡◌, IfOk};
+ghost use Rattle.std.specs.Prelude.{◌≡◌, IfOk, IfSome};
 ghost use Rattle.hare_rules.specs.Above as above;
 ghost use Rattle.hare_rules.specs.Context.{Setting};
 ghost use Rattle.hare_rules.specs.Words as words;
 ghost use Rattle.hare_types.specs.Store.{Store};
 ghost use Rattle.hare_types.specs.Later.{IsLater};
-ghost use Rattle.rule_judge.specs.Defined.{IsDefinedHint};
+ghost use Rattle.rule_judge.specs.Defined.{IsDefined, IsDefinedHint};
 ghost use Rattle.rule_judge.specs.Grown.{IsGrown};
 ghost use Rattle.hare_tree.specs.Node.{head};
 ghost use Rattle.hare_above.specs.Asked.{IsProgram, IsAsking, asked, asked_as};
@@ -84,7 +84,8 @@ pub(crate) fn is_bare_part(k: Kind) -> bool
 
 /// A value of the type, where there is one.
 pub(crate) fn hint_to(o: Option<TypeId>) -> Hint
-    ensures { result ≡ above.hint_to o }
+    ensures value { result ≡ above.hint_to o }
+    ensures defined { (s : Store) → IfSome o (IsDefined s) → IsDefinedHint s result }
 {
     match o {
         Some(t) => Hint::Of(t),

@@ -3,11 +3,13 @@
 ghost use Rattle.std.specs.Prelude.{◌≡◌, [], ◌∷◌, IfOk, length, slice_get, Some};
 ghost use Rattle.hare_tree.specs.declared.kind.Kind.TheVariants as ki;
 ghost use Rattle.hare_tree.specs.Node.{head};
+ghost use Rattle.hare_types.specs.Store.{Store};
 ghost use Rattle.hare_types.specs.Later.{IsLater};
+ghost use Rattle.hare_typed.specs.Typed.{typed_nodes};
 ghost use Rattle.hare_typed.specs.Order.{tree_from_front};
 ghost use Rattle.hare_rules.specs.Above as above;
 ghost use Rattle.hare_rules.specs.Context.{Setting};
-ghost use Rattle.rule_judge.specs.Defined.{IsDefinedHint};
+ghost use Rattle.rule_judge.specs.Defined.{IsDefinedHint, AreDefinedTrees};
 ghost use Rattle.rule_judge.specs.Grown.{IsGrown};
 ghost use Rattle.hare_above.specs.Asked.{asked_as};
 
@@ -24,7 +26,8 @@ use std::alloc::AllocError;
 
 /// What a binding asks of its value: a value of the type that is written as its kid number `i`, if one is.
 fn written_hint(kids: &TypedKids, i: usize) -> Hint
-    ensures { result ≡ above.written_hint (tree_from_front i kids.now) }
+    ensures value { result ≡ above.written_hint (tree_from_front i kids.now) }
+    ensures defined { (s : Store) → AreDefinedTrees s (typed_nodes kids.now) → IsDefinedHint s result }
 {
     if !is_there(kids, i) {
         return Hint::None;
@@ -36,6 +39,7 @@ fn written_hint(kids: &TypedKids, i: usize) -> Hint
 pub(crate) fn binding_hint(q: &Asking<'_>) -> Hint
     ensures variable { (w : Setting) → result ≡ asked_as w q.now ki.Let }
     ensures constant { (w : Setting) → result ≡ asked_as w q.now ki.Const }
+    ensures defined { (s : Store) → AreDefinedTrees s (typed_nodes q.now.done.now) → IsDefinedHint s result }
 {
     if q.done.len() != 1 {
         return Hint::None;
@@ -48,6 +52,7 @@ pub(crate) fn declared_hint(q: &Asking<'_>) -> Hint
     ensures constant { (w : Setting) → result ≡ asked_as w q.now ki.Def }
     ensures variable { (w : Setting) → result ≡ asked_as w q.now ki.GlobalLet }
     ensures fixed { (w : Setting) → result ≡ asked_as w q.now ki.GlobalConst }
+    ensures defined { (s : Store) → AreDefinedTrees s (typed_nodes q.now.done.now) → IsDefinedHint s result }
 {
     if q.done.len() < 3 {
         return Hint::None;

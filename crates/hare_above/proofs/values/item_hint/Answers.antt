@@ -13,4 +13,4 @@ returns-clause-value c w l =
     let before = later_trans c.args.s.now c.default_in.new.s w.store c.default_in.ensures.grown.later l in
     default-later w c.args.q.now.done.now _ c.in_ok-o.o c.hint_to.result (λ e. omega (arith, e))
     (no_type c.hinted_element.result c.in_default.not-Some ∙ c.hinted_element.ensures.value w.store before)
-    (rw (sym c.type_at-first.ensures) (c.in_ok-o.ensures.value w.store l)) c.hint_to.ensures
+    (rw (sym c.type_at-first.ensures) (c.in_ok-o.ensures.value w.store l)) c.hint_to.ensures.value
