@@ -1,5 +1,5 @@
 -- What a `yield` means among the labels round it.
-use Rattle.std.proofs.Common.{◌≡◌, ℕ, zero, suc, ◌+◌, ◌≤◌, Bool, true, false, cond, List, [], ◌∷◌, ◌++◌, drop, length, Option, Some, None, refl, ap, ap₂, sym, ◌∙◌, arith, add-one}
+use Rattle.std.proofs.Common.{◌≡◌, ℕ, zero, suc, ◌+◌, ◌≤◌, Bool, true, false, cond, List, [], ◌∷◌, ◌++◌, drop, length, Option, Some, None, refl, ap, ap₂, sym, ◌∙◌, subst, arith, add-one}
 use Rattle.std.specs.Prelude.{slice_get, reverse, find}
 use Rattle.std.proofs.lemmas.List.{reverse-append}
 use Rattle.hare_rules.specs.declared.hint.Hint.{Hint}
@@ -7,7 +7,10 @@ use Rattle.hare_rules.specs.declared.hint.Hint.TheVariants as hint
 use Rattle.hare_rules.specs.declared.inside.Label.{Label}
 use Rattle.hare_rules.specs.Context.{Open}
 use Rattle.hare_rules.specs.Control.{level_from, hint_of_open}
+use Rattle.hare_types.specs.Store.{Store}
+use Rattle.rule_judge.specs.Defined.{IsDefinedHint}
 use Rattle.hare_above.specs.Frames.{open_of, opens}
+use Rattle.hare_above.specs.Ready.{AreDefinedOpens}
 
 opens-at : (ls : List Label) (hs : List Hint) (i : ℕ) (l : Label) → length hs ≡ length ls → slice_get ls i ≡ Some l →
     (h : Hint) × (slice_get hs i ≡ Some h) × (drop i (opens ls hs) ≡ open_of l h ∷ drop (suc i) (opens ls hs))
@@ -76,3 +79,14 @@ opens-none (l ∷ ls) [] zero h = refl
 opens-none (l ∷ ls) [] (suc i) h = refl
 opens-none (l ∷ ls) (x ∷ hs) zero h = absurd (omega arith)
 opens-none (l ∷ ls) (x ∷ hs) (suc i) h = opens-none ls hs i (omega arith)
+
+last-defined : (s : Store) (p : Open → Bool) (h : Hint) (ls : List Open) → IsDefinedHint s h → AreDefinedOpens s ls → IsDefinedHint s (last_hint p h ls)
+last-defined s p h [] d k = d
+last-defined s p h (l ∷ ls) d k = last-defined s p (cond (p l) l.hint h) ls (by (p l)) k.1
+  where
+    by : (b : Bool) → IsDefinedHint s (cond b l.hint h)
+    by true = k.0
+    by false = d
+
+pub meant-defined : (s : Store) (p : Open → Bool) (ls : List Open) → AreDefinedOpens s ls → IsDefinedHint s (hint_of_open (find p (reverse ls)))
+meant-defined s p ls k = subst (IsDefinedHint s) (last-meant p ls) (last-defined s p hint.None ls tt k)

@@ -129,8 +129,11 @@ fn kind_hint(
         Kind::Array => item_hint(s, q),
         Kind::Alloc => allocated_hint(s, q),
         Kind::Append => Ok(appended_hint(s, q)),
-        Kind::Let | Kind::Const => Ok(binding_hint(q)),
-        Kind::Def | Kind::GlobalLet | Kind::GlobalConst => Ok(declared_hint(q)),
+        Kind::Let => Ok(binding_hint(q)),
+        Kind::Const => Ok(binding_hint(q)),
+        Kind::Def => Ok(declared_hint(q)),
+        Kind::GlobalLet => Ok(declared_hint(q)),
+        Kind::GlobalConst => Ok(declared_hint(q)),
         Kind::Defer => Ok(Hint::Drop),
         Kind::If => branch_hint(s, q),
         Kind::For => loop_hint(s, q),
@@ -140,7 +143,8 @@ fn kind_hint(
         Kind::Block => Ok(statement_hint(q)),
         Kind::Case => Ok(case_hint(q, &Hint::None)),
         Kind::SwitchCase => Ok(case_hint(q, &q.values)),
-        Kind::Match | Kind::Switch => Ok(operand_hint(q)),
+        Kind::Match => Ok(operand_hint(q)),
+        Kind::Switch => Ok(operand_hint(q)),
         _ => Ok(Hint::None),
     }
 }

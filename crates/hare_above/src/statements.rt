@@ -11,7 +11,8 @@ ghost use Rattle.hare_rules.specs.Above as above;
 ghost use Rattle.hare_rules.specs.Context.{Setting};
 ghost use Rattle.rule_judge.specs.Defined.{IsDefinedHint, AreDefinedTrees};
 ghost use Rattle.rule_judge.specs.Grown.{IsGrown};
-ghost use Rattle.hare_above.specs.Asked.{asked_as};
+ghost use Rattle.hare_above.specs.Asked.{asked_as, labels_in};
+ghost use Rattle.hare_above.specs.Ready.{AreDefinedOpens};
 
 use crate::asking::{Asking, hint_to, word_hint};
 use crate::heap::kind_behind;
@@ -95,7 +96,8 @@ pub(crate) fn loop_hint(s: &mut TypeStore, q: &Asking<'_>) -> Result<Hint, Alloc
 
 /// What a `for` over elements asks of its next kid: the body is dropped.
 pub(crate) fn each_hint(q: &Asking<'_>) -> Hint
-    ensures { (w : Setting) → result ≡ asked_as w q.now ki.ForEach }
+    ensures value { (w : Setting) → result ≡ asked_as w q.now ki.ForEach }
+    ensures defined { (s : Store) → IsDefinedHint s result }
 {
     if q.done.len() < 2 {
         Hint::None
@@ -107,7 +109,8 @@ pub(crate) fn each_hint(q: &Asking<'_>) -> Hint
 /// What a `yield` asks of its value: what is asked of its block or case.
 pub(crate) fn yield_hint(q: &Asking<'_>) -> Hint
     requires { length q.now.hints.now ≡ length q.now.labels.now }
-    ensures { (w : Setting) → result ≡ asked_as w q.now ki.Yield }
+    ensures value { (w : Setting) → result ≡ asked_as w q.now ki.Yield }
+    ensures defined { (s : Store) → AreDefinedOpens s (labels_in q.now) → IsDefinedHint s result }
 {
     let node = q.node;
     yielded_hint(node.text.bytes(), q.labels, q.hints)
@@ -138,6 +141,7 @@ pub(crate) fn case_hint(q: &Asking<'_>, first: &Hint) -> Hint
 pub(crate) fn operand_hint(q: &Asking<'_>) -> Hint
     ensures matched { (w : Setting) → result ≡ asked_as w q.now ki.Match }
     ensures switched { (w : Setting) → result ≡ asked_as w q.now ki.Switch }
+    ensures defined { (s : Store) → IsDefinedHint s q.now.own → IsDefinedHint s result }
 {
     if q.done.len() == 0 { Hint::None } else { q.own }
 }
