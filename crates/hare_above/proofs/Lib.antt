@@ -1,0 +1,4 @@
+pub mod FrameLemmas
+pub mod BareLemmas
+pub mod JumpLemmas
+pub mod ParamLemmas

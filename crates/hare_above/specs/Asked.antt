@@ -16,14 +16,14 @@ use Rattle.hare_above.specs.Frames.{opens}
 use Rattle.hare_above.specs.Ready.{AreDefinedOpens, IsKnown}
 
 -- The program over a later store: its declarations are these, and whatever paths mean.
-pub record IsProgram (s : Store) (decls : List DeclType) (w : Setting) : Type 0 where
+pub record IsProgram (s : Store) (ds : List DeclType) (w : Setting) : Type 0 where
   pub later : IsLater s w.store
-  pub decls : w.decls ≡ decls
+  pub decls : w.decls ≡ ds
 
 -- the same for each store
-pub record AreDeclared (decls : List DeclType) (w : Store → Setting) : Type 0 where
+pub record AreDeclared (ds : List DeclType) (w : Store → Setting) : Type 0 where
   pub store : (s : Store) → (w s).store ≡ s
-  pub decls : (s : Store) → (w s).decls ≡ decls
+  pub decls : (s : Store) → (w s).decls ≡ ds
 
 -- ---- a node and its next kid
 

@@ -1,12 +1,12 @@
 //! What a node asks of its next kid.
 
-ghost use Rattle.std.specs.Prelude.{◌≡◌, IfOk};
+ghost use Rattle.std.specs.Prelude.{◌≡◌, IfOk, IfSome};
 ghost use Rattle.hare_rules.specs.Above as above;
 ghost use Rattle.hare_rules.specs.Context.{Setting};
 ghost use Rattle.hare_rules.specs.Words as words;
 ghost use Rattle.hare_types.specs.Store.{Store};
 ghost use Rattle.hare_types.specs.Later.{IsLater};
-ghost use Rattle.rule_judge.specs.Defined.{IsDefinedHint};
+ghost use Rattle.rule_judge.specs.Defined.{IsDefined, IsDefinedHint};
 ghost use Rattle.rule_judge.specs.Grown.{IsGrown};
 ghost use Rattle.hare_tree.specs.Node.{head};
 ghost use Rattle.hare_above.specs.Asked.{IsProgram, IsAsking, asked, asked_as};
@@ -84,7 +84,8 @@ pub(crate) fn is_bare_part(k: Kind) -> bool
 
 /// A value of the type, where there is one.
 pub(crate) fn hint_to(o: Option<TypeId>) -> Hint
-    ensures { result ≡ above.hint_to o }
+    ensures value { result ≡ above.hint_to o }
+    ensures defined { (s : Store) → IfSome o (IsDefined s) → IsDefinedHint s result }
 {
     match o {
         Some(t) => Hint::Of(t),
@@ -128,8 +129,11 @@ fn kind_hint(
         Kind::Array => item_hint(s, q),
         Kind::Alloc => allocated_hint(s, q),
         Kind::Append => Ok(appended_hint(s, q)),
-        Kind::Let | Kind::Const => Ok(binding_hint(q)),
-        Kind::Def | Kind::GlobalLet | Kind::GlobalConst => Ok(declared_hint(q)),
+        Kind::Let => Ok(binding_hint(q)),
+        Kind::Const => Ok(binding_hint(q)),
+        Kind::Def => Ok(declared_hint(q)),
+        Kind::GlobalLet => Ok(declared_hint(q)),
+        Kind::GlobalConst => Ok(declared_hint(q)),
         Kind::Defer => Ok(Hint::Drop),
         Kind::If => branch_hint(s, q),
         Kind::For => loop_hint(s, q),
@@ -139,7 +143,8 @@ fn kind_hint(
         Kind::Block => Ok(statement_hint(q)),
         Kind::Case => Ok(case_hint(q, &Hint::None)),
         Kind::SwitchCase => Ok(case_hint(q, &q.values)),
-        Kind::Match | Kind::Switch => Ok(operand_hint(q)),
+        Kind::Match => Ok(operand_hint(q)),
+        Kind::Switch => Ok(operand_hint(q)),
         _ => Ok(Hint::None),
     }
 }

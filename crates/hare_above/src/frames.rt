@@ -15,8 +15,6 @@ pub(crate) struct Frame {
     pub(crate) begins: u32,
     /// How many labels stand round the tree.
     pub(crate) labels: usize,
-    /// How many of these stand outside of the innermost deferred expression, where one is open.
-    pub(crate) unmarked: usize,
-    /// Room for the labels with the marks that they had, where the tree is a deferred expression; else empty.
-    pub(crate) blanks: Labels,
+    /// These labels with their marks, where the tree is a deferred expression, in which they lose them.
+    pub(crate) kept: Option<Labels>,
 }

@@ -1,6 +1,6 @@
 //! What allocations are asked for.
 
-ghost use Rattle.std.specs.Prelude.{◌≡◌, IfOk, IfSome};
+ghost use Rattle.std.specs.Prelude.{◌≡◌, IfOk, IfSome, slice_get, length, Some};
 ghost use Rattle.hare_tree.specs.declared.kind.Kind.TheVariants as ki;
 ghost use Rattle.hare_tree.specs.Node.{head, nodes_of};
 ghost use Rattle.hare_types.specs.Store.{Store};
@@ -139,8 +139,10 @@ pub(crate) fn tried_hint(
 
 /// The kind of the kid behind the next one; None where there is none.
 pub(crate) fn kind_behind(q: &Asking<'_>) -> Kind
+    requires { slice_get q.now.kids.now (length q.now.done.now) ≡ Some q.now.kid.now }
     ensures { result ≡ above.next_kind (rest_in q.now) }
 {
+    let _count = q.kids.len();
     match q.kids.get(q.done.len() + 1) {
         Some(t) => t.kind,
         None => Kind::None,
@@ -149,7 +151,8 @@ pub(crate) fn kind_behind(q: &Asking<'_>) -> Kind
 
 /// What `alloc` asks of its next kid: of the operand what the hint asks for, and a capacity of the type `size`.
 pub(crate) fn allocated_hint(s: &mut TypeStore, q: &Asking<'_>) -> Result<Hint, AllocError>
-    requires { IsDefinedHint s.old q.now.own }
+    requires own { IsDefinedHint s.old q.now.own }
+    requires next { slice_get q.now.kids.now (length q.now.done.now) ≡ Some q.now.kid.now }
     ensures value { IfOk result (λ h. (w : Setting) → IsLater s.new w.store → h ≡ asked_as w q.now ki.Alloc) }
     ensures defined { IfOk result (IsDefinedHint s.new) }
     ensures grown { IsGrown s.old s.new }
@@ -166,7 +169,8 @@ pub(crate) fn allocated_hint(s: &mut TypeStore, q: &Asking<'_>) -> Result<Hint, 
 
 /// What `append` asks of its next kid: behind a slice an element of it, or, with `...`, a slice of its type.
 pub(crate) fn appended_hint(s: &TypeStore, q: &Asking<'_>) -> Hint
-    requires { AreDefinedTrees s.now (typed_nodes q.now.done.now) }
+    requires done { AreDefinedTrees s.now (typed_nodes q.now.done.now) }
+    requires next { slice_get q.now.kids.now (length q.now.done.now) ≡ Some q.now.kid.now }
     ensures value { (w : Setting) → IsLater s.now w.store → result ≡ asked_as w q.now ki.Append }
     ensures defined { IsDefinedHint s.now result }
 {

@@ -1,6 +1,6 @@
 //! What a `yield` means.
 
-ghost use Rattle.std.specs.Prelude.{◌≡◌, List, length};
+ghost use Rattle.std.specs.Prelude.{◌≡◌, cond, List, length, Some};
 ghost use Rattle.hare_typed.specs.Copies.{means};
 ghost use Rattle.hare_rules.specs.declared.hint.Hint.{Hint as HintOf};
 ghost use Rattle.hare_rules.specs.Control as control;
@@ -27,6 +27,17 @@ fn takes_yield(name: &[u8], l: &Label) -> bool
     }
 }
 
+/// The number of the label, where the `yield` can mean it; else that of the nearest before it.
+fn nearer(name: &[u8], l: &Label, i: usize, nearest: Option<usize>) -> Option<usize>
+    ensures { (h : HintOf) → result ≡ cond (control.takes_yield name.now (open_of l.now h)) (Some i) nearest }
+{
+    if takes_yield(name, l) {
+        Some(i)
+    } else {
+        nearest
+    }
+}
+
 /// How many labels stand round the block or case that a `yield` with this name means; none where it means none. The time is that of the labels.
 pub(crate) fn yield_level(name: &[u8], labels: &Labels) -> Option<usize>
     ensures { (hs : List HintOf) → length hs ≡ length labels.now → result ≡ control.yield_level name.now (opens labels.now hs) }
@@ -36,11 +47,16 @@ pub(crate) fn yield_level(name: &[u8], labels: &Labels) -> Option<usize>
         let Some(l) = labels.get(i) else {
             unreachable!();
         };
-        if takes_yield(name, l) {
-            nearest = Some(i);
-        }
+        nearest = nearer(name, l, i, nearest);
     }
     nearest
+}
+
+/// What is asked of the label, where the `yield` can mean it; else of the nearest before it.
+fn nearer_hint(name: &[u8], l: &Label, h: &Hint, nearest: &Hint) -> Hint
+    ensures { result ≡ cond (control.takes_yield name.now (open_of l.now h.now)) h.now nearest.now }
+{
+    if takes_yield(name, l) { *h } else { *nearest }
 }
 
 /// What is asked of a value that a `yield` with this name hands on; nothing where it means nothing. The time is that of the labels.
@@ -53,9 +69,7 @@ pub(crate) fn yielded_hint(name: &[u8], labels: &Labels, hints: &Items<Hint>) ->
         let (Some(l), Some(h)) = (labels.get(i), hints.get(i)) else {
             unreachable!();
         };
-        if takes_yield(name, l) {
-            nearest = *h;
-        }
+        nearest = nearer_hint(name, l, h, &nearest);
     }
     nearest
 }

@@ -1,37 +1,31 @@
 //! The marks of labels: which of them stand inside the innermost deferred expression that is open.
 
-ghost use Rattle.std.specs.Prelude.{◌≡◌, length, IfOk};
-ghost use Rattle.hare_above.specs.Frames.{marked};
+ghost use Rattle.std.specs.Prelude.{◌≡◌, map, IfOk};
+ghost use Rattle.hare_above.specs.Frames.{unmarked};
 
-use hare_rules::{Label, Labels, Target};
+use hare_rules::{Label, Labels};
 use hare_tree::Word;
 use std::alloc::{AllocError, Global};
 
-/// Room for so many labels.
-pub(crate) fn blanks(alloc: Global, count: usize) -> Result<Labels, AllocError>
-    ensures { IfOk result (λ ls. length ls ≡ count) }
+/// The label, as it stands round what is deferred.
+fn outside(alloc: Global, l: &Label) -> Result<Label, AllocError>
+    ensures { IfOk result (λ u. u ≡ unmarked l.now) }
 {
-    let mut blanks = Labels::new(alloc);
-    for _ in 0..count {
-        blanks.push(Label {
-            name: Word::new(alloc),
-            target: Target::Loop,
-            node: 0,
-            deferred: false,
-        })?;
-    }
-    Ok(blanks)
+    Ok(Label {
+        name: Word::copy(alloc, l.name.bytes())?,
+        target: l.target,
+        node: l.node,
+        deferred: false,
+    })
 }
 
-/// Marks those labels that stand behind the first `unmarked`, or none, and moves all into the room that is given. Takes no memory.
-pub(crate) fn mark(labels: &mut Labels, mut room: Labels, deferred: bool, unmarked: usize)
-    requires { length room ≡ length labels.old }
-    ensures { labels.new ≡ marked deferred unmarked labels.old }
+/// The labels, as they stand round what is deferred: none of them is marked. The time is that of their names.
+pub(crate) fn all_outside(alloc: Global, labels: &Labels) -> Result<Labels, AllocError>
+    ensures { IfOk result (λ us. us ≡ map unmarked labels.now) }
 {
-    while let Some(mut label) = labels.pop() {
-        let i = labels.len();
-        label.deferred = deferred && unmarked <= i;
-        room.set(i, label);
+    let mut copies = Labels::new(alloc);
+    for l in labels.as_slice() {
+        copies.push(outside(alloc, l)?)?;
     }
-    *labels = room;
+    Ok(copies)
 }

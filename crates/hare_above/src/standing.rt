@@ -26,7 +26,7 @@ ghost use Rattle.hare_above.specs.Stands.{start, told_case, inner, labels_with};
 use crate::asking::{Asking, hint_to, kid_hint};
 use crate::frames::Frame;
 use crate::jumps::{yield_level, yielded_hint};
-use crate::marks::{blanks, mark};
+use crate::marks::all_outside;
 use crate::role::{Role, role_of};
 use hare_rules::{Case, Hint, Inside, Label, Labels, Target, Yields};
 use hare_tree::{Kids, Kind, Meaning, Tree, Word};
@@ -37,11 +37,12 @@ use hx_base::Items;
 use rule_judge::{DeclTypes, default_in, type_at};
 use std::alloc::{AllocError, Global};
 use std::marker::Model;
+use std::mem::replace;
 
 /// What stands over the tree at hand, and over the trees round it, as a walk goes in and out. Contracts see it as the rules do.
 ///
-/// All trees that the walk is inside of share one stack of labels. A step takes constant time beside its hint, but for a deferred expression, where
-/// each label round it loses its mark and gets it back.
+/// All trees that the walk is inside of share one stack of labels. A step takes constant time beside its hint, but for a deferred expression: each
+/// label round it loses its mark there, and is copied.
 #[derive(Drop)]
 pub struct Standing {
     /// What the judge of the tree at hand is told.
@@ -50,12 +51,10 @@ pub struct Standing {
     role: Role,
     first: u32,
     begins: u32,
-    /// How many labels stand outside of the innermost deferred expression that is open.
-    unmarked: usize,
     /// What is asked of what is yielded to each label.
     hints: Items<Hint>,
     /// Those of the trees round the one at hand, the innermost last.
-    frames: Items<Frame>,
+    frames: Vec<Frame>,
 }
 
 impl Model for Standing {
@@ -80,12 +79,12 @@ impl Model for Standing {
         first = a.first;
         begins = a.begins;
       };
-      outer = outer_at a.case.inside.own a.case.inside.result (reverse a.frames) a.case.inside.labels a.hints;
+      outer = outer_at a.case.inside.own a.case.inside.result (reverse a.frames.items) a.case.inside.labels a.hints;
       meaning = a.case.meaning;
       yields = a.case.yields;
     } };
 
-    ghost invariant = { λ a. AreFramed a.case.inside.labels a.hints a.case.inside.deferred a.unmarked a.frames };
+    ghost invariant = { λ a. AreFramed a.case.inside.labels a.hints a.frames.items };
 }
 
 /// What a `switch` asks of the values of its cases: the default of its operand.
@@ -96,12 +95,17 @@ fn values_under(s: &mut TypeStore, k: Kind, done: &TypedKids) -> Result<Hint, Al
     ensures grown { judged.IsGrown s.old s.new }
 {
     let _law = s.declarations();
-    if k != Kind::Switch || done.len() == 0 {
-        return Ok(Hint::None);
+    match k {
+        Kind::Switch => {
+            if done.len() == 0 {
+                return Ok(Hint::None);
+            }
+            let operand = type_at(done, 0);
+            let o = default_in(s, &operand)?;
+            Ok(hint_to(o))
+        }
+        _ => Ok(Hint::None),
     }
-    let operand = type_at(done, 0);
-    let o = default_in(s, &operand)?;
-    Ok(hint_to(o))
 }
 
 /// What kid number `i` of a node of kind `k`, which is no deferred expression, has round it more than the node: what a jump means by the node.
@@ -149,9 +153,8 @@ impl Standing {
             role,
             first,
             begins: 0,
-            unmarked: 0,
             hints: Items::new(alloc),
-            frames: Items::new(alloc),
+            frames: Vec::new(alloc),
         }
     }
 
@@ -245,7 +248,7 @@ impl Standing {
     }
 
     /// Goes in, to where the same stands over the tree at hand as over the one round it.
-    fn go_in(&mut self, room: Labels) -> Result<(), AllocError>
+    fn go_in(&mut self) -> Result<(), AllocError>
         ensures { OnOk result (self.new ≡ record self.old { outer = self.old.above ∷ self.old.outer }) }
     {
         let frame = Frame {
@@ -257,10 +260,10 @@ impl Standing {
             first: self.first,
             begins: self.begins,
             labels: self.case.inside.labels.len(),
-            unmarked: self.unmarked,
-            blanks: room,
+            kept: None,
         };
-        self.frames.push(frame)
+        self.frames.push(frame)?;
+        Ok(())
     }
 
     /// Puts a label round the tree at hand.
@@ -270,24 +273,35 @@ impl Standing {
     {
         let count = self.hints.len();
         self.hints.push(hint)?;
-        if self.case.inside.labels.push(label).is_err() {
-            self.hints.truncate(count);
-            return Err(AllocError);
+        match self.case.inside.labels.push(label) {
+            Ok(()) => Ok(()),
+            Err(e) => {
+                self.hints.truncate(count);
+                Err(e)
+            }
         }
-        Ok(())
     }
 
     /// Goes into a deferred expression: no label from outside is marked there.
     fn go_in_deferred(&mut self, alloc: Global) -> Result<(), AllocError>
         ensures { OnOk result (self.new ≡ record self.old { above = record self.old.above { inside = record self.old.above.inside { labels = map above.outside self.old.above.inside.labels; deferred = true } }; outer = self.old.above ∷ self.old.outer }) }
     {
-        let count = self.level();
-        let room = blanks(alloc, count)?;
-        let way_back = blanks(alloc, count)?;
-        self.go_in(way_back)?;
-        mark(&mut self.case.inside.labels, room, true, count);
+        let inner = all_outside(alloc, &self.case.inside.labels)?;
+        let labels = self.case.inside.labels.len();
+        let kept = replace(&mut self.case.inside.labels, inner);
+        let frame = Frame {
+            hint: self.case.hint,
+            values: self.values,
+            deferred: self.case.inside.deferred,
+            body: self.case.inside.body,
+            role: self.role,
+            first: self.first,
+            begins: self.begins,
+            labels,
+            kept: Some(kept),
+        };
+        self.frames.push(frame)?;
         self.case.inside.deferred = true;
-        self.unmarked = count;
         Ok(())
     }
 
@@ -304,7 +318,7 @@ impl Standing {
         if node.kind == Kind::Defer {
             return self.go_in_deferred(alloc);
         }
-        self.go_in(Labels::new(alloc))?;
+        self.go_in()?;
         let Some(target) = target_round(node.kind, i) else {
             return Ok(());
         };
@@ -378,26 +392,33 @@ impl Standing {
         ensures yields { self.new.yields ≡ self.old.yields }
         ensures ready { (s : Store) → IsReady s self.old → IsReady s self.new }
     {
-        let Some(frame) = self.frames.pop() else {
+        let Some(
+            Frame {
+                hint,
+                values,
+                deferred,
+                body,
+                role,
+                first,
+                begins,
+                labels,
+                kept,
+            },
+        ) = self.frames.pop()
+        else {
             return;
         };
-        self.hints.truncate(frame.labels);
-        self.case.inside.labels.truncate(frame.labels);
-        if frame.blanks.len() == frame.labels {
-            mark(
-                &mut self.case.inside.labels,
-                frame.blanks,
-                frame.deferred,
-                frame.unmarked,
-            );
+        self.hints.truncate(labels);
+        match kept {
+            Some(own) => self.case.inside.labels = own,
+            None => self.case.inside.labels.truncate(labels),
         }
-        self.case.hint = frame.hint;
-        self.case.inside.deferred = frame.deferred;
-        self.case.inside.body = frame.body;
-        self.values = frame.values;
-        self.role = frame.role;
-        self.first = frame.first;
-        self.begins = frame.begins;
-        self.unmarked = frame.unmarked;
+        self.case.hint = hint;
+        self.case.inside.deferred = deferred;
+        self.case.inside.body = body;
+        self.values = values;
+        self.role = role;
+        self.first = first;
+        self.begins = begins;
     }
 }

@@ -1,15 +1,18 @@
 //! What bindings, branches and statements ask of their parts.
 
-ghost use Rattle.std.specs.Prelude.{◌≡◌, [], ◌∷◌, IfOk, length};
+ghost use Rattle.std.specs.Prelude.{◌≡◌, [], ◌∷◌, IfOk, length, slice_get, Some};
 ghost use Rattle.hare_tree.specs.declared.kind.Kind.TheVariants as ki;
 ghost use Rattle.hare_tree.specs.Node.{head};
+ghost use Rattle.hare_types.specs.Store.{Store};
 ghost use Rattle.hare_types.specs.Later.{IsLater};
+ghost use Rattle.hare_typed.specs.Typed.{typed_nodes};
 ghost use Rattle.hare_typed.specs.Order.{tree_from_front};
 ghost use Rattle.hare_rules.specs.Above as above;
 ghost use Rattle.hare_rules.specs.Context.{Setting};
-ghost use Rattle.rule_judge.specs.Defined.{IsDefinedHint};
+ghost use Rattle.rule_judge.specs.Defined.{IsDefinedHint, AreDefinedTrees};
 ghost use Rattle.rule_judge.specs.Grown.{IsGrown};
-ghost use Rattle.hare_above.specs.Asked.{asked_as};
+ghost use Rattle.hare_above.specs.Asked.{asked_as, labels_in};
+ghost use Rattle.hare_above.specs.Ready.{AreDefinedOpens};
 
 use crate::asking::{Asking, hint_to, word_hint};
 use crate::heap::kind_behind;
@@ -24,7 +27,8 @@ use std::alloc::AllocError;
 
 /// What a binding asks of its value: a value of the type that is written as its kid number `i`, if one is.
 fn written_hint(kids: &TypedKids, i: usize) -> Hint
-    ensures { result ≡ above.written_hint (tree_from_front i kids.now) }
+    ensures value { result ≡ above.written_hint (tree_from_front i kids.now) }
+    ensures defined { (s : Store) → AreDefinedTrees s (typed_nodes kids.now) → IsDefinedHint s result }
 {
     if !is_there(kids, i) {
         return Hint::None;
@@ -36,6 +40,7 @@ fn written_hint(kids: &TypedKids, i: usize) -> Hint
 pub(crate) fn binding_hint(q: &Asking<'_>) -> Hint
     ensures variable { (w : Setting) → result ≡ asked_as w q.now ki.Let }
     ensures constant { (w : Setting) → result ≡ asked_as w q.now ki.Const }
+    ensures defined { (s : Store) → AreDefinedTrees s (typed_nodes q.now.done.now) → IsDefinedHint s result }
 {
     if q.done.len() != 1 {
         return Hint::None;
@@ -48,6 +53,7 @@ pub(crate) fn declared_hint(q: &Asking<'_>) -> Hint
     ensures constant { (w : Setting) → result ≡ asked_as w q.now ki.Def }
     ensures variable { (w : Setting) → result ≡ asked_as w q.now ki.GlobalLet }
     ensures fixed { (w : Setting) → result ≡ asked_as w q.now ki.GlobalConst }
+    ensures defined { (s : Store) → AreDefinedTrees s (typed_nodes q.now.done.now) → IsDefinedHint s result }
 {
     if q.done.len() < 3 {
         return Hint::None;
@@ -57,7 +63,8 @@ pub(crate) fn declared_hint(q: &Asking<'_>) -> Hint
 
 /// What an `if` asks of its next kid: `bool` of the condition; and of the branches what it is itself asked for, or nothing, where there is no `else`.
 pub(crate) fn branch_hint(s: &mut TypeStore, q: &Asking<'_>) -> Result<Hint, AllocError>
-    requires { IsDefinedHint s.old q.now.own }
+    requires own { IsDefinedHint s.old q.now.own }
+    requires next { slice_get q.now.kids.now (length q.now.done.now) ≡ Some q.now.kid.now }
     ensures value { IfOk result (λ h. (w : Setting) → IsLater s.new w.store → h ≡ asked_as w q.now ki.If) }
     ensures defined { IfOk result (IsDefinedHint s.new) }
     ensures grown { IsGrown s.old s.new }
@@ -89,7 +96,8 @@ pub(crate) fn loop_hint(s: &mut TypeStore, q: &Asking<'_>) -> Result<Hint, Alloc
 
 /// What a `for` over elements asks of its next kid: the body is dropped.
 pub(crate) fn each_hint(q: &Asking<'_>) -> Hint
-    ensures { (w : Setting) → result ≡ asked_as w q.now ki.ForEach }
+    ensures value { (w : Setting) → result ≡ asked_as w q.now ki.ForEach }
+    ensures defined { (s : Store) → IsDefinedHint s result }
 {
     if q.done.len() < 2 {
         Hint::None
@@ -101,7 +109,8 @@ pub(crate) fn each_hint(q: &Asking<'_>) -> Hint
 /// What a `yield` asks of its value: what is asked of its block or case.
 pub(crate) fn yield_hint(q: &Asking<'_>) -> Hint
     requires { length q.now.hints.now ≡ length q.now.labels.now }
-    ensures { (w : Setting) → result ≡ asked_as w q.now ki.Yield }
+    ensures value { (w : Setting) → result ≡ asked_as w q.now ki.Yield }
+    ensures defined { (s : Store) → AreDefinedOpens s (labels_in q.now) → IsDefinedHint s result }
 {
     let node = q.node;
     yielded_hint(node.text.bytes(), q.labels, q.hints)
@@ -109,7 +118,7 @@ pub(crate) fn yield_hint(q: &Asking<'_>) -> Hint
 
 /// What a block asks of a statement: it is dropped, unless it is a binding or deferred.
 pub(crate) fn statement_hint(q: &Asking<'_>) -> Hint
-    ensures { (w : Setting) → result ≡ asked_as w q.now ki.Block }
+    ensures { result ≡ above.statement_hint (head q.now.kid.now).kind }
 {
     let kid = q.kid;
     match kid.kind {
@@ -132,6 +141,7 @@ pub(crate) fn case_hint(q: &Asking<'_>, first: &Hint) -> Hint
 pub(crate) fn operand_hint(q: &Asking<'_>) -> Hint
     ensures matched { (w : Setting) → result ≡ asked_as w q.now ki.Match }
     ensures switched { (w : Setting) → result ≡ asked_as w q.now ki.Switch }
+    ensures defined { (s : Store) → IsDefinedHint s q.now.own → IsDefinedHint s result }
 {
     if q.done.len() == 0 { Hint::None } else { q.own }
 }

@@ -2,6 +2,7 @@
 
 ghost use Rattle.std.specs.Prelude.{◌≡◌, IfOk, IfSome, slice_get, Some};
 ghost use Rattle.hare_tree.specs.declared.kind.Kind.TheVariants as ki;
+ghost use Rattle.hare_types.specs.Store.{Store};
 ghost use Rattle.hare_types.specs.Later.{IsLater};
 ghost use Rattle.hare_typed.specs.Typed.{typed_nodes};
 ghost use Rattle.hare_rules.specs.Above as above;
@@ -9,7 +10,7 @@ ghost use Rattle.hare_rules.specs.Context.{Setting};
 ghost use Rattle.hare_rules.specs.Words as words;
 ghost use Rattle.hare_typed.specs.Order.{tree_from_front};
 ghost use Rattle.hare_rules.specs.Context.{own_type};
-ghost use Rattle.rule_judge.specs.Defined.{IsDefinedHint, AreDefinedTrees};
+ghost use Rattle.rule_judge.specs.Defined.{IsDefined, IsDefinedHint, AreDefinedTrees};
 ghost use Rattle.rule_judge.specs.Grown.{IsGrown};
 ghost use Rattle.hare_above.specs.Asked.{asked_as};
 ghost use Rattle.std.specs.Prelude.{length};
@@ -24,7 +25,8 @@ use std::alloc::AllocError;
 
 /// The id of the type of what a kid gives; none where it has none.
 pub(crate) fn id_at(kids: &TypedKids, i: usize) -> Option<TypeId>
-    ensures { result ≡ words.id_in (own_type (tree_from_front i kids.now)) }
+    ensures value { result ≡ words.id_in (own_type (tree_from_front i kids.now)) }
+    ensures defined { (s : Store) → AreDefinedTrees s (typed_nodes kids.now) → IfSome result (IsDefined s) }
 {
     match type_at(kids, i) {
         Ty::Of(t) => Some(t),
@@ -34,7 +36,8 @@ pub(crate) fn id_at(kids: &TypedKids, i: usize) -> Option<TypeId>
 
 /// What an assignment asks of its next kid: of the right side a value of the type of the left one.
 pub(crate) fn assigned_hint(q: &Asking<'_>) -> Hint
-    ensures { (w : Setting) → result ≡ asked_as w q.now ki.Assign }
+    ensures value { (w : Setting) → result ≡ asked_as w q.now ki.Assign }
+    ensures defined { (s : Store) → AreDefinedTrees s (typed_nodes q.now.done.now) → IsDefinedHint s result }
 {
     if q.done.len() != 1 {
         return Hint::None;
@@ -62,6 +65,7 @@ pub(crate) fn field_hint(s: &TypeStore, q: &Asking<'_>) -> Hint
     ensures value { (w : Setting) → IsLater s.now w.store → result ≡ asked_as w q.now ki.StructLit }
     ensures defined { IsDefinedHint s.now result }
 {
+    let _law = s.declarations();
     if q.done.len() == 0 {
         return Hint::None;
     }
