@@ -1,4 +1,0 @@
-pub mod FrameLemmas
-pub mod BareLemmas
-pub mod JumpLemmas
-pub mod ParamLemmas

@@ -1,4 +1,0 @@
-pub mod Frames
-pub mod Stands
-pub mod Ready
-pub mod Asked
