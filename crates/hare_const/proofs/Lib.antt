@@ -4,3 +4,4 @@ pub mod OperatorLemmas
 pub mod UnionLemmas
 mod ExampleConstants
 mod ConstantRows
+pub mod Shown

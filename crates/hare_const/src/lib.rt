@@ -5,6 +5,7 @@ mod cover;
 mod length;
 mod number;
 mod operators;
+mod outcome;
 mod shape;
 #[cfg(test)]
 mod tests;
