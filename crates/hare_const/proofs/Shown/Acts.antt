@@ -1,16 +1,15 @@
 -- What acts come to that look at nothing, where it is known what the kids come to.
 use Rattle.std.proofs.Common.{◌≡◌, ℕ, zero, suc, List, [], ◌∷◌, refl, subst}
-use Rattle.std.specs.Prelude.{◌+◌, Option, Some, None}
+use Rattle.std.specs.Prelude.{◌+◌, Some}
 use Rattle.hare_tree.specs.Node.{Head}
 use Rattle.hare_typed.specs.declared.cell.Cell.{Cell}
 use Rattle.hare_typed.specs.Answers.{Answer, Gives, Aborts as aborts, IsUndefined}
 use Rattle.hare_typed.specs.Objects.{Object}
-use Rattle.hare_typed.specs.State.{State, Scope, AsValue, AsPlace, Outcome as End, Value, Reached, Abort, Undefined as undefined, Spent, Result}
-use Rattle.hare_typed.specs.Acts.{Act, end, make, tick, kid}
+use Rattle.hare_typed.specs.State.{State, Scope, AsValue, Outcome as End, Value, Abort, Result}
+use Rattle.hare_typed.specs.Acts.{Act, make, tick}
 use Rattle.hare_typed.specs.Interpreter.{Tasks, Kids, after, act, with_objects, made_object}
 use Rattle.hare_typed.specs.World.{World, answered}
-use Rattle.hare_typed.specs.Sequence.{on_value, on_place, value, place, values}
-use Rattle.hare_typed.specs.Scalars.{Pointer}
+use Rattle.hare_typed.specs.Sequence.{on_value, value, values}
 use Rattle.hare_const.specs.declared.outcome.Outcome.{Outcome}
 use Rattle.hare_const.specs.declared.outcome.Outcome.TheVariants.{Known, Aborts, Undefined}
 use Rattle.hare_const.specs.NodeValues.{on_cells, on_answer, kid_at, kids_at}

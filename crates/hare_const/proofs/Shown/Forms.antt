@@ -1,6 +1,6 @@
 -- The acts of the constant kinds come to the value of the node, where it is known what its kids come to.
 use Rattle.std.proofs.Common.{◌≡◌, ℕ, zero, suc, Bool, true, false, List, [], ◌∷◌, refl, ap, sym, subst}
-use Rattle.std.specs.Prelude.{ℤ, pos, not, map, Option, Some, None, if◌then◌else◌}
+use Rattle.std.specs.Prelude.{ℤ, pos, map, Option, Some, None, if◌then◌else◌}
 use Rattle.hare_tree.specs.Node.{Head}
 use Rattle.hare_tree.specs.declared.kind.Kind.{Kind}
 use Rattle.hare_tree.specs.declared.kind.Kind.TheVariants as kind
@@ -17,18 +17,18 @@ use Rattle.hare_typed.specs.Answers.{Answer, Gives, Aborts as aborts, IsUndefine
 use Rattle.hare_typed.specs.Arithmetic.{logic_of, leaves_open, by_equality, same_number}
 use Rattle.hare_typed.specs.Scalars.{Pointer, Address}
 use Rattle.hare_typed.specs.Words.{words}
-use Rattle.hare_typed.specs.State.{State, Scope, AsValue, AsPlace, Outcome as End, Value, Reached, Result}
+use Rattle.hare_typed.specs.State.{State, Scope, AsValue, AsPlace, Value, Reached, Result}
 use Rattle.hare_typed.specs.Acts.{Act, end}
 use Rattle.hare_typed.specs.Interpreter.{Tasks, Kids, after, act}
 use Rattle.hare_typed.specs.World.{World, static_number, homed_cell, answered}
 use Rattle.hare_typed.specs.Sequence.{on_place, value, place, values}
 use Rattle.hare_typed.specs.Evaluated.{ticks_of_value, with_coercion, slice_over, array_object, coerced_from, as_coerced, by_value}
-use Rattle.hare_typed.specs.ConstantForms.{own_type, own_number, constant_cells, with_numbers, is_iconst, arith_answer, shift_answer, Equality, OfNumbers, OfPointers, OfTexts, with_equality, equality_of, type_of_kid, is_array_row, bool_cells, truth}
+use Rattle.hare_typed.specs.ConstantForms.{own_type, constant_cells, with_numbers, is_iconst, arith_answer, shift_answer, Equality, OfNumbers, OfPointers, OfTexts, with_equality, equality_of, type_of_kid, is_array_row, bool_cells, truth}
 use Rattle.hare_typed.specs.ConstantValues.{without_run, constant_form}
 use Rattle.hare_typed.specs.Coercions.{sliced_element, length_of_value, coerced}
 use Rattle.hare_const.specs.declared.outcome.Outcome.{Outcome}
 use Rattle.hare_const.specs.declared.outcome.Outcome.TheVariants.{Known, Aborts, Undefined}
-use Rattle.hare_const.specs.NodeValues.{on_cells, on_answer, kid_at, kids_at, two_cells, numbered, number_of_kid, arithmetic_value, shift_value, equality_value, logic_value, length_value, declared_by, own_value, coerced_value, slice_of, cells_known, array_value, tuple_value, struct_value}
+use Rattle.hare_const.specs.NodeValues.{on_cells, on_answer, kid_at, kids_at, numbered, number_of_kid, arithmetic_value, shift_value, logic_value, length_value, declared_by, kind_value, coerced_value, slice_of, cells_known, array_value, tuple_value, struct_value}
 use Rattle.hare_const.proofs.Shown.Acts.{shown, Shows, Ends, EndsBehind, ends_tick, ends_make, ends_value, ends_values, ends_answered}
 
 -- ---- one step behind another
@@ -75,7 +75,7 @@ module _ (s : Store) (own : ℕ) (ks : Kids) (less : Tasks) where
 
     ends_two : (k : List Cell → List Cell → Act) (g : List Cell → List Cell → Outcome) (f : List Cell → Outcome) →
         ((a b : List Cell) → Ends ks less (k a b) (on_cells (g a b) f)) →
-        Ends ks less (value 0 sc λ a. value 1 sc λ b. k a b) (on_cells (two_cells os g) f)
+        Ends ks less (value 0 sc λ a. value 1 sc λ b. k a b) (on_cells (on_cells (kid_at 0 os) λ a. on_cells (kid_at 1 os) λ b. g a b) f)
     ends_two k g f h =
         ends_kid 0 (λ a. value 1 sc λ b. k a b) (λ a. on_cells (kid_at 1 os) λ b. g a b) f
         (λ a. ends_kid 1 (λ b. k a b) (λ b. g a b) f (h a))
@@ -86,9 +86,6 @@ module _ (s : Store) (own : ℕ) (ks : Kids) (less : Tasks) where
     ends_each i n k g f h =
         subst (λ o. Ends ks less (values i n sc k) o) (behind-kids i n os g f)
         (ends_values ks less own os sc e m i n k (λ cs. on_cells (g cs) f) h)
-
-    ends_first : (k : List Cell → Act) (f : List Cell → Outcome) → Behind k f → Ends ks less (value 0 sc k) (on_cells (kid_at 0 os) f)
-    ends_first k f h = ends_value ks less own 0 sc k (kid_at 0 os) f e (m 0) h
 
   ends_told : {A : Type 0} (w : World) (h : Head) (a : Answer A) (k : A → Act) (g : A → Outcome) (f : List Cell → Outcome) →
       ((x : A) → Ends ks less (k x) (on_cells (g x) f)) → Ends ks less (answered w h a k) (on_cells (on_answer a g) f)
@@ -149,14 +146,14 @@ module _ (s : Store) (own : ℕ) (ks : Kids) (less : Tasks) where
 
   pub ends_form : (os : List Outcome) (t : TypedNode) (sc : Scope) → sc.own ≡ own → (x : Kind) (k : List Cell → Act)
       (f : List Cell → Outcome) → Ready os t x → Behind k f →
-      Ends ks less (constant_form (without_run s) t sc x k) (on_cells (own_value s own t x os) f)
+      Ends ks less (constant_form (without_run s) t sc x k) (on_cells (kind_value s own t x os) f)
   ends_form os t sc e kind.Number k f m h = h _
   ends_form os t sc e kind.RuneLit k f m h = h _
   ends_form os t sc e kind.Bool k f m h = h _
   ends_form os t sc e kind.Str k f m h =
-      subst (λ o. Ends ks less (constant_form (without_run s) t sc kind.Str k) (on_cells (own_value s o t kind.Str os) f)) e (h _)
+      subst (λ o. Ends ks less (constant_form (without_run s) t sc kind.Str k) (on_cells (kind_value s o t kind.Str os) f)) e (h _)
   ends_form os t sc e kind.Path k f m h = ends_constant (mark_of t).value k f h
-  ends_form os t sc e kind.Paren k f m h = ends_first os m sc e k f h
+  ends_form os t sc e kind.Paren k f m h = ends_kid os m sc e 0 k Known f h
   ends_form os t sc e kind.Neg k f m h = ends_kid os m sc e 0 _ _ f (λ a. h _)
   ends_form os t sc e kind.Not k f m h = ends_kid os m sc e 0 _ _ f (λ a. h _)
   ends_form os t sc e kind.Bang k f m h = ends_kid os m sc e 0 _ _ f (λ a. h _)
@@ -176,7 +173,7 @@ module _ (s : Store) (own : ℕ) (ks : Kids) (less : Tasks) where
   ends_form os t sc e kind.StructLit k f m h =
       ends_each os m sc e 1 (items_of kind.StructLit (kids_of t)) (λ cs. k (struct_value s t cs)) (λ cs. Known (struct_value s t cs)) f
       (λ cs. h (struct_value s t cs))
-  ends_form os t sc e kind.FieldValue k f m h = ends_first os m sc e k f h
+  ends_form os t sc e kind.FieldValue k f m h = ends_kid os m sc e 0 k Known f h
   ends_form os t sc e kind.Tuple k f m h =
       ends_each os m sc e 0 (items_of kind.Tuple (kids_of t)) (λ cs. k (tuple_value s t cs)) (λ cs. Known (tuple_value s t cs)) f
       (λ cs. h (tuple_value s t cs))
@@ -223,7 +220,7 @@ module _ (s : Store) (own : ℕ) (ks : Kids) (less : Tasks) where
 
   pub ends_value_of : (os : List Outcome) (t : TypedNode) (sc : Scope) (x : Kind) → sc.own ≡ own → Ready os t x →
       Ends ks less (by_value (without_run s) t sc (constant_form (without_run s) t sc x) ending)
-      (on_cells (own_value s own t x os) (coerced_value s own t))
+      (on_cells (kind_value s own t x os) (coerced_value s own t))
   ends_value_of os t sc x e m =
       ends_tick ks less (ticks_of_value s t) (constant_form (without_run s) t sc x (λ cs. as_coerced (without_run s) t sc cs ending)) _
       (ends_form os t sc e x (λ cs. as_coerced (without_run s) t sc cs ending) (coerced_value s own t) m (λ cs. ends_coerced t sc cs e))

@@ -1,8 +1,10 @@
 -- The evaluation of a constant comes to the value of its tree.
-use Rattle.std.proofs.Common.{◌≡◌, ℕ, zero, suc, Bool, true, false, List, [], ◌∷◌, refl, sym, ap, subst, ◌∙◌}
+use Rattle.std.proofs.Common.{◌≡◌, ℕ, zero, suc, Bool, true, false, [], refl, sym, ap, subst, ◌∙◌}
 use Rattle.std.specs.Prelude.{◌+◌, if◌then◌else◌, not, ◌&&◌, ◌||◌, ◌==◌, Option, Some, None, option_and_then}
 use Rattle.hare_tree.specs.declared.kind.Kind.{Kind}
 use Rattle.hare_tree.specs.declared.kind.Kind.TheVariants as kind
+use Rattle.hare_tree.specs.declared.place.Fault.{Fault}
+use Rattle.hare_tree.specs.declared.stop.Stop.{Stop}
 use Rattle.hare_tree.specs.declared.token.Meaning.{Meaning}
 use Rattle.hare_tree.specs.declared.token.Meaning.TheVariants as meant
 use Rattle.hare_tree.specs.Levels.{is_type}
@@ -12,35 +14,34 @@ use Rattle.hare_types.specs.declared.row.Row.TheVariants as row
 use Rattle.hare_types.specs.declared.row.Scalar.{Scalar as Keyword}
 use Rattle.hare_types.specs.declared.row.Scalar.TheVariants as keyword
 use Rattle.hare_types.specs.Store.{Store}
-use Rattle.hare_typed.specs.declared.cell.Cell.{Cell}
-use Rattle.hare_typed.specs.Typed.{TypedNode, TypedNodes, Mark, marked, typed_none, typed_more, mark_of, kids_of}
+use Rattle.hare_typed.specs.declared.constant.Const.TheVariants as constant
+use Rattle.hare_typed.specs.Typed.{TypedNode, TypedNodes, Mark, marked, typed_none, typed_more, mark_of}
 use Rattle.hare_typed.specs.Order.{kid_from_front}
 use Rattle.hare_typed.specs.Given.{base_row, first_given, is_str, is_str_row}
 use Rattle.hare_typed.specs.Shapes.{shape_of_row}
-use Rattle.hare_typed.specs.Constants.{is_known, own_kind}
-use Rattle.hare_typed.specs.Constancy.{is_address_row, is_global_path, begins_with_global, names_void, is_constant_kind, is_constant, hides_kids, or_else, first_inconstant, first_inconstant_of}
+use Rattle.hare_typed.specs.Constants.{is_known}
+use Rattle.hare_typed.specs.Constancy.{is_address_row, is_global_path, begins_with_global, names_void, is_constant, hides_kids, or_else, first_inconstant, first_inconstant_of}
 use Rattle.hare_typed.specs.Scalars.{Address}
-use Rattle.hare_typed.specs.State.{State, Scope, Mode, AsValue, AsPlace, Outcome as End, Value, Reached, Abort, Result}
+use Rattle.hare_typed.specs.State.{State, Scope, AsValue, AsPlace, Outcome as End, Value, Reached, Abort, Result}
 use Rattle.hare_typed.specs.Bindings.{own_bindings}
 use Rattle.hare_typed.specs.Interpreter.{Tasks, Kids, act, behind, node_act, kid_act, part_act, fewer_than}
-use Rattle.hare_typed.specs.World.{World}
-use Rattle.hare_typed.specs.Evaluated.{ValueForm, is_evaluated, is_named, is_place_kind, is_place, first_is_place, place_in_mode, value_in_mode, evaluated, gives}
-use Rattle.hare_typed.specs.ConstantForms.{Equality, OfNumbers, OfTexts, equality_of_shape, equality_of, type_of_kid, object_meant}
+use Rattle.hare_typed.specs.Evaluated.{ValueForm, is_evaluated, is_named, is_place_kind, is_place, first_is_place, place_in_mode, value_in_mode, gives}
+use Rattle.hare_typed.specs.ConstantForms.{OfNumbers, OfTexts, equality_of_shape, equality_of, type_of_kid, object_meant}
 use Rattle.hare_typed.specs.ConstantValues.{without_run, constant_form, constant_place, constant_node, constant_forms, constant_result}
-use Rattle.hare_typed.specs.Folded.{is_abort, aborts, inconstant}
+use Rattle.hare_typed.specs.Folded.{is_abort, aborts, inconstant, folded_from, folded}
 use Rattle.hare_const.specs.declared.outcome.Outcome.{Outcome}
-use Rattle.hare_const.specs.declared.outcome.Outcome.TheVariants.{Known, Aborts, Undefined}
-use Rattle.hare_const.specs.NodeValues.{on_cells, kid_at, declared_by, own_value, coerced_value, node_value, tree_value, kid_values, PlainKind, IsPlain, ArePlain, is_aborted, first_refused}
+use Rattle.hare_const.specs.declared.outcome.Outcome.TheVariants.{Known}
+use Rattle.hare_const.specs.NodeValues.{on_cells, kid_at, declared_by, own_value, coerced_value, tree_value, kid_values, PlainKind, IsPlain, ArePlain, IsSimple, AreSimple, is_aborted, first_refused, Refuses, cells_in, cells_of}
 use Rattle.hare_const.proofs.Shown.Acts.{shown, Shows, Ends}
-use Rattle.hare_const.proofs.Shown.Forms.{KidsShow, Ready, ends_value_of}
+use Rattle.hare_const.proofs.Shown.Forms.{Ready, ends_value_of}
 
 -- ---- what constancy says of a node
 
-first-none : (x y : Option TypedNode) → or_else x y ≡ None → (x ≡ None) × (y ≡ None)
+pub first-none : (x y : Option TypedNode) → or_else x y ≡ None → (x ≡ None) × (y ≡ None)
 first-none None y e = (refl, e)
 first-none (Some t) y e = absurd cc
 
-both-none : (x y : Option TypedNode) → x ≡ None → y ≡ None → or_else x y ≡ None
+pub both-none : (x y : Option TypedNode) → x ≡ None → y ≡ None → or_else x y ≡ None
 both-none None y e f = f
 both-none (Some t) y e f = absurd cc
 
@@ -74,7 +75,7 @@ constant_from s h m ts f e =
     }
 
 -- types are not evaluated
-type-idle : (k : Kind) → is_type k ≡ true → is_evaluated k ≡ false
+pub type-idle : (k : Kind) → is_type k ≡ true → is_evaluated k ≡ false
 type-idle kind.TypeScalar e = refl
 type-idle kind.TypePath e = refl
 type-idle kind.TypePointer e = refl
@@ -229,7 +230,7 @@ module _ (s : Store) (own : ℕ) (less : Tasks) where
   form h m ts sc = constant_form (without_run s) (marked h m ts) sc h.kind
 
   abbrev result : Head → Mark → TypedNodes → Outcome
-  result h m ts = on_cells (own_value s own (marked h m ts) h.kind (kid_values s own ts)) (coerced_value s own (marked h m ts))
+  result h m ts = on_cells (own_value s own (marked h m ts) (kid_values s own ts)) (coerced_value s own (marked h m ts))
 
   node-shown : (h : Head) (m : Mark) (ts : TypedNodes) → first_inconstant s (λ u. false) (marked h m ts) ≡ None → PlainKind s h.kind ts →
       (first_inconstant_of s (λ u. false) ts ≡ None →
@@ -365,3 +366,39 @@ mutual
   inconstant-each s own (typed_more t ts) p =
       ap (λ o. or_else o (first_inconstant_of s (aborts s own) ts)) (inconstant_same s own t p.0)
       ∙ ap (λ o. or_else (first_refused s own t) o) (inconstant-each s own ts p.1)
+
+-- ---- the constant
+
+mutual
+  pub plain_from : (s : Store) (t : TypedNode) → IsSimple s t → IsPlain s t
+  plain_from s (marked h m ts) p = (p.1, plain-each s ts p.4)
+
+  plain-each : (s : Store) (ts : TypedNodes) → AreSimple s ts → ArePlain s ts
+  plain-each s typed_none p = tt
+  plain-each s (typed_more t ts) p = (plain_from s t p.0, plain-each s ts p.1)
+
+folded-cells : (r : Result) → cells_in (folded_from r) ≡ cells_of (shown r.0)
+folded-cells (Value cs, st) = refl
+folded-cells (Abort text, st) = refl
+folded-cells (_, st) = refl
+
+folded-none : (o : Option TypedNode) (r : Result) → o ≡ None →
+    cells_in (elim o [ None ↦ folded_from r | Some u ↦ constant.Absent ]) ≡ cells_in (folded_from r)
+folded-none None r e = refl
+folded-none (Some u) r e = absurd cc
+
+-- where no node is refused, the constant has the cells of the tree's value
+pub folded_cells : (s : Store) (own : ℕ) (t : TypedNode) → IsSimple s t → first_refused s own t ≡ None →
+    (inconstant s own t ≡ None) × (cells_in (folded s own t) ≡ cells_of (tree_value s own t))
+folded_cells s own t p e =
+    let plain = plain_from s t p in
+    let none : inconstant s own t ≡ None = inconstant_same s own t plain ∙ e in (
+      none,
+      folded-none (inconstant s own t) (constant_result s own t) none
+          ∙ folded-cells (constant_result s own t)
+          ∙ ap cells_of (value_shown s own t (constant-too s (aborts s own) t none) plain),
+    )
+
+pub folded_refused : (s : Store) (own : ℕ) (t : TypedNode) (e : Stop Fault) → IsSimple s t → Refuses (first_refused s own t) e →
+    Refuses (inconstant s own t) e
+folded_refused s own t e p r = subst (λ o. Refuses o e) (sym (inconstant_same s own t (plain_from s t p))) r
