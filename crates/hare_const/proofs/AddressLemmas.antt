@@ -16,7 +16,8 @@ fragments-suc o d j (suc k) =
     ∙ ap (λ n. cell.Fragment o d j ∷ (fragments o d (suc j) k ++ cell.Fragment o d n ∷ [])) e
 
 -- one more fragment is written
-pub one_fragment_more : (o k : ℕ) (cs new : List Cell) → cs ≡ fragments o 0 0 k → new ≡ cs ++ cell.Fragment o 0 k ∷ [] → new ≡ fragments o 0 0 (k + 1)
+pub one_fragment_more : (o k : ℕ) (cs new : List Cell) → cs ≡ fragments o 0 0 k → new ≡ cs ++ cell.Fragment o 0 k ∷ [] →
+    new ≡ fragments o 0 0 (k + 1)
 one_fragment_more o k cs new e f =
     let z : 0 + k ≡ k = omega arith in
     let next : suc k ≡ k + 1 = omega arith in

@@ -62,7 +62,8 @@ rest-next s t os i n k done c e f =
     ∙ kids-same (suc i) k os _ _ (λ cs. ap (λ xs. Known (array_value s t xs)) (sym (append_assoc done (c ∷ []) cs)))
 
 -- one more item is laid
-pub laid-more : (s : Store) (t : TypedNode) (os : List Outcome) (i n last at : ℕ) (whole new c : List Cell) → Laid s t os i n last whole → i < n →
+pub laid-more : (s : Store) (t : TypedNode) (os : List Outcome) (i n last at : ℕ) (whole new c : List Cell) →
+    Laid s t os i n last whole → i < n →
     kid_at i os ≡ Known c → at ≡ length whole → new ≡ whole ++ c → Laid s t os (i + 1) n at new
 laid-more s t os i n last at whole new c l h e a w =
     let f : n - i ≡ suc (n - (i + 1)) = omega arith in
@@ -77,7 +78,8 @@ laid-more s t os i n last at whole new c l h e a w =
     }
 
 -- an item that has no value
-pub laid-stopped : (s : Store) (t : TypedNode) (os : List Outcome) (i n last : ℕ) (whole : List Cell) (o : Outcome) → Laid s t os i n last whole → i < n →
+pub laid-stopped : (s : Store) (t : TypedNode) (os : List Outcome) (i n last : ℕ) (whole : List Cell) (o : Outcome) →
+    Laid s t os i n last whole → i < n →
     n ≡ items_of kind.Array (kids_of t) → kid_at i os ≡ o → ((f : List Cell → Outcome) → on_cells o f ≡ o) →
     o ≡ kids_at 0 (items_of kind.Array (kids_of t)) os (λ cs. Known (array_value s t cs))
 laid-stopped s t os i n last whole o l h m e f =
@@ -87,7 +89,8 @@ laid-stopped s t os i n last whole o l h m e f =
     ∙ ap (λ k. kids_at 0 k os (λ cs. Known (array_value s t cs))) m
 
 -- all items are laid, and the last one is repeated
-pub laid-all : (s : Store) (t : TypedNode) (os : List Outcome) (i n last k : ℕ) (whole new : List Cell) → Laid s t os i n last whole → n ≤ i →
+pub laid-all : (s : Store) (t : TypedNode) (os : List Outcome) (i n last k : ℕ) (whole new : List Cell) → Laid s t os i n last whole →
+    n ≤ i →
     n ≡ items_of kind.Array (kids_of t) → k ≡ repeats (without_run s) t (items_of kind.Array (kids_of t)) →
     new ≡ whole ++ again k (drop last whole) →
     Known new ≡ kids_at 0 (items_of kind.Array (kids_of t)) os (λ cs. Known (array_value s t cs))

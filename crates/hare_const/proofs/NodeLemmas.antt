@@ -14,7 +14,8 @@ use Rattle.hare_typed.specs.Constants.{own_kind}
 use Rattle.hare_typed.specs.Constancy.{is_global_path, begins_with_global}
 use Rattle.hare_typed.specs.ConstantForms.{type_of_kid}
 
-pub kid-found : (ts : List TypedNode) (i : ℕ) (x : TypedNode) → slice_get ts i ≡ Some x → tree_from_front i (listed_nodes (typed_nodes ts)) ≡ x
+pub kid-found : (ts : List TypedNode) (i : ℕ) (x : TypedNode) → slice_get ts i ≡ Some x →
+    tree_from_front i (listed_nodes (typed_nodes ts)) ≡ x
 kid-found [] i x e = cc
 kid-found (t ∷ ts) zero x e = cc
 kid-found (t ∷ ts) (suc i) x e = kid-found ts i x e
@@ -24,7 +25,8 @@ kid-missing [] i e = refl
 kid-missing (t ∷ ts) zero e = absurd (omega arith)
 kid-missing (t ∷ ts) (suc i) e = kid-missing ts i (omega arith)
 
-pub type-found : (t x : TypedNode) (h hx : Head) (m mx : Mark) (ts : List TypedNode) (us : TypedNodes) (i : ℕ) → marked h m (typed_nodes ts) ≡ t →
+pub type-found : (t x : TypedNode) (h hx : Head) (m mx : Mark) (ts : List TypedNode) (us : TypedNodes) (i : ℕ) →
+    marked h m (typed_nodes ts) ≡ t →
     marked hx mx us ≡ x → slice_get ts i ≡ Some x → mx.coerce.to ≡ type_of_kid i t
 type-found t x h hx m mx ts us i e f g =
     ap given f ∙ sym (ap given (kid-found ts i x g)) ∙ ap (type_of_kid i) e
@@ -37,12 +39,14 @@ pub type-missing : (t : TypedNode) (h : Head) (m : Mark) (ts : List TypedNode) (
     given missing ≡ type_of_kid i t
 type-missing t h m ts i e l = sym (ap given (kid-missing ts i l)) ∙ ap (type_of_kid i) e
 
-pub meaning-found : (t x : TypedNode) (h hx : Head) (m mx : Mark) (ts : List TypedNode) (us : TypedNodes) (i : ℕ) → marked h m (typed_nodes ts) ≡ t →
+pub meaning-found : (t x : TypedNode) (h hx : Head) (m mx : Mark) (ts : List TypedNode) (us : TypedNodes) (i : ℕ) →
+    marked h m (typed_nodes ts) ≡ t →
     marked hx mx us ≡ x → slice_get ts i ≡ Some x → mx.meaning ≡ (mark_of (kid_from_front i t)).meaning
 meaning-found t x h hx m mx ts us i e f g =
     ap (λ y. (mark_of y).meaning) f ∙ sym (ap (λ y. (mark_of y).meaning) (kid-found ts i x g)) ∙ ap (λ y. (mark_of (kid_from_front i y)).meaning) e
 
-pub meaning-missing : (t : TypedNode) (h : Head) (m : Mark) (ts : List TypedNode) (i : ℕ) → marked h m (typed_nodes ts) ≡ t → length ts ≤ i →
+pub meaning-missing : (t : TypedNode) (h : Head) (m : Mark) (ts : List TypedNode) (i : ℕ) → marked h m (typed_nodes ts) ≡ t →
+    length ts ≤ i →
     (mark_of missing).meaning ≡ (mark_of (kid_from_front i t)).meaning
 meaning-missing t h m ts i e l = sym (ap (λ y. (mark_of y).meaning) (kid-missing ts i l)) ∙ ap (λ y. (mark_of (kid_from_front i y)).meaning) e
 
@@ -78,11 +82,13 @@ from-end (t ∷ ts) zero n x e l =
 from-end (t ∷ ts) (suc i) n x e l =
     front-of (backwards (listed_nodes (typed_nodes ts))) (t ∷ []) n (omega (arith, length-backwards ts)) ∙ from-end ts i n x e (omega arith)
 
-pub kid-from-end : (t x : TypedNode) (h : Head) (m : Mark) (ts : List TypedNode) (i n : ℕ) → marked h m (typed_nodes ts) ≡ t → slice_get ts i ≡ Some x →
+pub kid-from-end : (t x : TypedNode) (h : Head) (m : Mark) (ts : List TypedNode) (i n : ℕ) → marked h m (typed_nodes ts) ≡ t →
+    slice_get ts i ≡ Some x →
     i + suc n ≡ length ts → kid_from_end n t ≡ x
 kid-from-end t x h m ts i n e f l = sym (ap (kid_from_end n) e) ∙ from-end ts i n x f l
 
-pub kid-before-first : (t : TypedNode) (h : Head) (m : Mark) (ts : List TypedNode) (n : ℕ) → marked h m (typed_nodes ts) ≡ t → length ts ≤ n →
+pub kid-before-first : (t : TypedNode) (h : Head) (m : Mark) (ts : List TypedNode) (n : ℕ) → marked h m (typed_nodes ts) ≡ t →
+    length ts ≤ n →
     kid_from_end n t ≡ missing
 kid-before-first t h m ts n e l =
     sym (ap (kid_from_end n) e) ∙ past-front (backwards (listed_nodes (typed_nodes ts))) n (omega (arith, length-backwards ts))
@@ -101,7 +107,8 @@ outcome-missing (x ∷ os) (suc i) l = outcome-missing os i (omega arith)
 
 -- ---- items
 
-pub count-kids : (t : TypedNode) (h : Head) (m : Mark) (ts : List TypedNode) → marked h m (typed_nodes ts) ≡ t → length ts ≡ count (kids_of t)
+pub count-kids : (t : TypedNode) (h : Head) (m : Mark) (ts : List TypedNode) → marked h m (typed_nodes ts) ≡ t →
+    length ts ≡ count (kids_of t)
 count-kids t h m ts e = sym (each ts) ∙ ap (λ y. count (kids_of y)) e
   where
     each : (us : List TypedNode) → count (typed_nodes us) ≡ length us
@@ -110,12 +117,14 @@ count-kids t h m ts e = sym (each ts) ∙ ap (λ y. count (kids_of y)) e
 
 -- ---- the path whose address is taken
 
-begins-at : (ts : List TypedNode) (x : TypedNode) → slice_get ts 0 ≡ Some x → is_global_path (own_kind x) (mark_of x) ≡ begins_with_global (typed_nodes ts)
+begins-at : (ts : List TypedNode) (x : TypedNode) → slice_get ts 0 ≡ Some x →
+    is_global_path (own_kind x) (mark_of x) ≡ begins_with_global (typed_nodes ts)
 begins-at [] x g = absurd cc
 begins-at (marked h m us ∷ ts) x g =
     let f : marked h m us ≡ x = cc in
     sym (ap (λ y. is_global_path (own_kind y) (mark_of y)) f)
 
-pub begins-found : (t x : TypedNode) (h : Head) (m : Mark) (ts : List TypedNode) → marked h m (typed_nodes ts) ≡ t → slice_get ts 0 ≡ Some x →
+pub begins-found : (t x : TypedNode) (h : Head) (m : Mark) (ts : List TypedNode) → marked h m (typed_nodes ts) ≡ t →
+    slice_get ts 0 ≡ Some x →
     is_global_path (own_kind x) (mark_of x) ≡ begins_with_global (kids_of t)
 begins-found t x h m ts e g = begins-at ts x g ∙ ap (λ y. begins_with_global (kids_of y)) e

@@ -1,5 +1,5 @@
 -- The constants of a few values, and the places of those that are none, worked out by evaluation itself.
-use Rattle.std.proofs.Common.{◌≡◌, refl, ℕ, List, [], ◌∷◌, ◌++◌, Some, Option}
+use Rattle.std.proofs.Common.{pos, ◌≡◌, refl, ℕ, List, [], ◌∷◌, ◌++◌, Some, Option}
 use Rattle.std.specs.Prelude.{option_map, codes, ◌+◌, ◌*◌, ◌^◌}
 use Rattle.hare_tree.specs.declared.kind.Kind.TheVariants as kind
 use Rattle.hare_tree.specs.declared.token.Meaning.TheVariants as meant
@@ -30,6 +30,11 @@ low_byte_first = refl
 sum_wraps : cells (between kind.Arith 2 (codes "+") 0 (number 1 255 0) (number 3 2 0)) ≡ Some (byte_cells (1 ∷ []))
 sum_wraps = refl
 
+-- by how much is shifted may be a number without a type
+shifted_by_untyped : cells (between kind.Shift 2 (codes "<<") 0 (number 1 1 0)
+    (node kind.Number 3 [] 11 (ty.Iconst (pos 11)) 1 (ty.Iconst (pos 11)) meant.None constant.Absent [])) ≡ Some (byte_cells (8 ∷ []))
+shifted_by_untyped = refl
+
 negative : cells (plain kind.Neg 1 (codes "-") 0 3 (number 2 2 3 ∷ [])) ≡ Some (byte_cells (254 ∷ 255 ∷ []))
 negative = refl
 
@@ -56,7 +61,8 @@ length_of_array = refl
 of_a_global : cells (plain kind.Addr 1 [] 0 7 (path_to 2 4 0 constant.Absent ∷ [])) ≡ Some (fragments 4 0 0 8)
 of_a_global = refl
 
-null_is_zero : cells (node kind.Null 1 [] 0 ty.Null 6 (ty.Of 8) meant.None constant.Absent []) ≡ Some (byte_cells (0 ∷ 0 ∷ 0 ∷ 0 ∷ 0 ∷ 0 ∷ 0 ∷ 0 ∷ []))
+null_is_zero : cells (node kind.Null 1 [] 0 ty.Null 6 (ty.Of 8) meant.None constant.Absent [])
+    ≡ Some (byte_cells (0 ∷ 0 ∷ 0 ∷ 0 ∷ 0 ∷ 0 ∷ 0 ∷ 0 ∷ []))
 null_is_zero = refl
 
 -- that of a string has the number of its node in declaration 6
@@ -81,5 +87,6 @@ not_run = refl
 global_itself : refused_at (plain kind.Paren 1 [] 0 0 (path_to 2 4 0 constant.Absent ∷ [])) ≡ Some 2
 global_itself = refl
 
-address_in_parentheses : refused_at (plain kind.Addr 1 [] 0 7 (plain kind.Paren 2 [] 0 0 (path_to 3 4 0 constant.Absent ∷ []) ∷ [])) ≡ Some 3
+address_in_parentheses : refused_at (plain kind.Addr 1 [] 0 7 (plain kind.Paren 2 [] 0 0 (path_to 3 4 0 constant.Absent ∷ []) ∷ []))
+    ≡ Some 3
 address_in_parentheses = refl

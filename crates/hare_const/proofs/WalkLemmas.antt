@@ -1,6 +1,6 @@
 -- The first node of a tree that is refused, from what is known of its kids and of its root.
 use Rattle.std.proofs.Common.{◌≡◌, ◌∙◌, sym, ap, subst, refl, ℕ, zero, suc, ◌+◌, ◌≤◌, Bool, true, false, List, [], ◌∷◌, ◌++◌, take, length}
-use Rattle.std.specs.Prelude.{if◌then◌else◌, not, ◌&&◌, ◌||◌, Option, Some, None, slice_get}
+use Rattle.std.specs.Prelude.{IsTrue, ◌==◌, if◌then◌else◌, not, ◌&&◌, ◌||◌, Option, Some, None, slice_get}
 use Rattle.std.proofs.Common.{Result, Ok, Err, IfErr}
 use Rattle.std.specs.Prelude.{IsErrAnd}
 use Rattle.std.proofs.lemmas.List.{take_all}
@@ -14,12 +14,18 @@ use Rattle.hare_tree.specs.Node.{Head}
 use Rattle.hare_types.specs.Store.{Store}
 use Rattle.hare_typed.specs.Typed.{TypedNode, TypedNodes, Mark, marked, typed_nodes, kids_of}
 use Rattle.hare_typed.specs.Constants.{own_kind}
-use Rattle.hare_typed.specs.Constancy.{is_constant, hides_kids, or_else}
+use Rattle.hare_typed.specs.Constancy.{is_counted_row, is_constant, hides_kids, or_else}
+use Rattle.hare_types.specs.declared.row.Row.{Row}
+use Rattle.hare_types.specs.declared.row.Row.TheVariants as row
+use Rattle.hare_types.specs.declared.row.Scalar.TheVariants as word
+use Rattle.hare_typed.specs.Given.{base_row, first_given, is_str, is_str_row}
+use Rattle.hare_typed.specs.ConstantForms.{type_of_kid, is_array_row}
 use Rattle.hare_typed.specs.Evaluated.{is_evaluated}
 use Rattle.hare_typed.proofs.KidLemmas.{take-get}
 use Rattle.hare_const.specs.declared.outcome.Outcome.{Outcome}
 use Rattle.hare_const.specs.declared.outcome.Outcome.TheVariants.{Known}
-use Rattle.hare_const.specs.NodeValues.{on_cells, kind_value, own_value, coerced_value, node_value, tree_value, kid_values, is_aborted, first_refused, first_refused_of, Refuses, is_constant_node, RefusesNode, IsSimple, AreSimple}
+use Rattle.hare_const.specs.NodeValues.{on_cells, kind_value, own_value, coerced_value, node_value, tree_value, kid_values, is_aborted, first_refused, first_refused_of, Refuses, is_constant_node, RefusesNode, AskedKind, SimpleKind, IsSimple, AreSimple}
+use Rattle.hare_const.proofs.NodeLemmas.{first-given}
 use Rattle.hare_const.proofs.Shown.Trees.{type-idle, first-none, both-none}
 
 -- ---- a node
@@ -105,12 +111,14 @@ hidden-own s own t kind.Offset ts os e = refl
 hidden-own s own t kind.Addr ts os e = refl
 hidden-own s own t _ ts os e = absurd cc
 
-pub hidden-value : (s : Store) (own : ℕ) (t : TypedNode) → true ≡ hides_kids (own_kind t) (kids_of t) → node_value s own t [] ≡ tree_value s own t
+pub hidden-value : (s : Store) (own : ℕ) (t : TypedNode) → true ≡ hides_kids (own_kind t) (kids_of t) →
+    node_value s own t [] ≡ tree_value s own t
 hidden-value s own (marked h m ts) e =
     ap (λ o. if is_evaluated h.kind then on_cells o (coerced_value s own (marked h m ts)) else Known [])
     (hidden-own s own (marked h m ts) h.kind ts (kid_values s own ts) (sym e))
 
-pub seen-value : (s : Store) (own : ℕ) (t : TypedNode) (os : List Outcome) → os ≡ kid_values s own (kids_of t) → node_value s own t os ≡ tree_value s own t
+pub seen-value : (s : Store) (own : ℕ) (t : TypedNode) (os : List Outcome) → os ≡ kid_values s own (kids_of t) →
+    node_value s own t os ≡ tree_value s own t
 seen-value s own (marked h m ts) os e = ap (node_value s own (marked h m ts)) e
 
 -- ---- refusals
@@ -184,7 +192,32 @@ valued-all s own ts i os v l =
 
 -- ---- conditions
 
-pub simple-kid : (s : Store) (ts : List TypedNode) (i : ℕ) (x : TypedNode) → slice_get ts i ≡ Some x → AreSimple s (typed_nodes ts) → IsSimple s x
+array-counted : (r : Option Row) → is_str_row r ≡ false → is_counted_row r ≡ true → IsTrue (is_array_row r)
+array-counted None e f = absurd cc
+array-counted (Some (row.Array n i)) e f = refl
+array-counted (Some (row.Scalar word.Str)) e f = absurd cc
+array-counted (Some (row.Scalar _)) e f = absurd cc
+array-counted (Some _) e f = absurd cc
+
+constant-kind : (a b : Bool) → (false || (a && b)) ≡ true → a ≡ true
+constant-kind true b e = refl
+constant-kind false b e = absurd cc
+
+-- what is asked of a constant node
+asked-kind : (s : Store) (t : TypedNode) (k : Kind) (m : Mark) (ts : TypedNodes) → type_of_kid 0 t ≡ first_given ts → SimpleKind s t k →
+    is_constant s k m ts ≡ true → AskedKind s t k
+asked-kind s t kind.Len m ts g p c =
+    let counted = constant-kind (is_counted_row (base_row s (first_given ts))) (not (m.coerce.row == 2)) c in
+    subst (λ f. IsTrue (is_array_row (base_row s f))) (sym g)
+    (array-counted (base_row s (first_given ts)) (subst (λ f. is_str s f ≡ false) g p) counted)
+asked-kind s t _ m ts g p c = p
+
+pub asked-constant : (s : Store) (t : TypedNode) → IsSimple s t → true ≡ is_constant_node s t → AskedKind s t (own_kind t)
+asked-constant s (marked h m ts) p c =
+    asked-kind s (marked h m ts) h.kind m ts (first-given (marked h m ts)) p.0 (sym c)
+
+pub simple-kid : (s : Store) (ts : List TypedNode) (i : ℕ) (x : TypedNode) → slice_get ts i ≡ Some x → AreSimple s (typed_nodes ts) →
+    IsSimple s x
 simple-kid s [] i x e h = absurd cc
 simple-kid s (t ∷ ts) zero x e h = let f : t ≡ x = cc in subst (IsSimple s) f h.0
 simple-kid s (t ∷ ts) (suc i) x e h = simple-kid s ts i x e h.1
@@ -194,7 +227,8 @@ pub simple-kids : (s : Store) (t : TypedNode) (h : Head) (m : Mark) (ts : List T
 simple-kids s t h m ts e p = let q = subst (IsSimple s) (sym e) p in q.4
 
 -- an error that is handed on
-pub err-same : {A : Type 0} (result : Result A (Stop Fault)) (e : Stop Fault) (P : Stop Fault → Type 0) → IsErrAnd result (λ y. y ≡ e) → P e →
+pub err-same : {A : Type 0} (result : Result A (Stop Fault)) (e : Stop Fault) (P : Stop Fault → Type 0) →
+    IsErrAnd result (λ y. y ≡ e) → P e →
     IfErr result P
 err-same (Ok a) e P h k = tt
 err-same (Err y) e P h k = subst P (sym h) k

@@ -301,7 +301,7 @@ IsSized s kept.Empty = Unit {0}
 abbrev pub HasNumber : Store → TypedNode → Type 0
 HasNumber s t = is_iconst (own_type t) ≡ false → IsWidth (int_in s (own_type t)).bits × (is_iconst (type_of_kid 0 t) ≡ false)
 
--- the same of an operator between two numbers
+-- the same of arithmetic on two numbers; by how much is shifted may be a number without a type
 abbrev pub HasNumbers : Store → TypedNode → Type 0
 HasNumbers s t = HasNumber s t × (is_iconst (own_type t) ≡ false → is_iconst (type_of_kid 1 t) ≡ false)
 
@@ -327,7 +327,7 @@ AskedKind s t kind.RuneLit = (head_of t).number < 2 ^ 127
 AskedKind s t kind.Neg = HasNumber s t
 AskedKind s t kind.Not = HasNumber s t
 AskedKind s t kind.Arith = HasNumbers s t
-AskedKind s t kind.Shift = HasNumbers s t
+AskedKind s t kind.Shift = HasNumber s t
 AskedKind s t kind.Size = IsSized s (type_of_kid 0 t)
 AskedKind s t kind.Align = IsSized s (type_of_kid 0 t)
 AskedKind s t kind.Len = IsTrue (is_array_row (base_row s (type_of_kid 0 t)))
@@ -336,11 +336,16 @@ AskedKind s t kind.StructLit = ⊥
 AskedKind s t kind.Offset = ⊥
 AskedKind s t _ = Unit {0}
 
+-- the same where it is not known yet whether the node is constant: no length is that of a text
+abbrev pub SimpleKind : Store → TypedNode → Kind → Type 0
+SimpleKind s t kind.Len = is_str s (type_of_kid 0 t) ≡ false
+SimpleKind s t k = AskedKind s t k
+
 -- The tree has no struct, tuple, offset, union or length of a text, and compares no texts; its types are those of the store.
 abbrev mutual
   pub IsSimple : Store → TypedNode → Type 0
   IsSimple s (marked h m ts) =
-      AskedKind s (marked h m ts) h.kind × PlainKind s h.kind ts × IsIn s m.ty × (m.coerce.row ≢ 9) × AreSimple s ts
+      SimpleKind s (marked h m ts) h.kind × PlainKind s h.kind ts × IsIn s m.ty × (m.coerce.row ≢ 9) × AreSimple s ts
 
   pub AreSimple : Store → TypedNodes → Type 0
   AreSimple s typed_none = Unit {0}

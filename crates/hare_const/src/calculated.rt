@@ -126,14 +126,14 @@ pub(crate) fn shift_value(
     left: &Cells,
     right: &Cells,
 ) -> Result<Cells, AllocError>
-    requires { spec.HasNumbers s.now t.now }
+    requires { spec.HasNumber s.now t.now }
     ensures { IfOk result (λ cs. cs ≡ spec.shift_value s.now t.now left.now right.now) }
 {
     let Ty::Of(of) = t.ty else {
         return Ok(Cells::new(alloc));
     };
     let way = Shift::of_sign(t.text.bytes());
-    let (x, y) = (operand(s, t, 0, left), operand(s, t, 1, right));
+    let (x, y) = (operand(s, t, 0, left), number_of_kid(s, t, 1, right));
     number_cells(alloc, s, t.ty, shifted(way, int_at(s, of), x, y))
 }
 

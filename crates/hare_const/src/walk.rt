@@ -38,13 +38,14 @@ fn own_outcome(
     ensures ok { IfOk result (λ o. (spec.is_constant_node s.now t.now ≡ true) × (o ≡ spec.node_value s.now own t.now kids.now) × (spec.is_aborted o ≡ false)) }
     ensures err { IfErr result (spec.RefusesNode s.now own t.now kids.now) }
 {
-    if !is_constant(s, t) {
-        return Err(Stop::Fault(not_constant(t)));
-    }
-    match node_value(alloc, s, own, t, kids)? {
-        Outcome::Aborts => Err(Stop::Fault(not_constant(t))),
-        Outcome::Known(cells) => Ok(Outcome::Known(cells)),
-        Outcome::Undefined => Ok(Outcome::Undefined),
+    if is_constant(s, t) {
+        match node_value(alloc, s, own, t, kids)? {
+            Outcome::Aborts => Err(Stop::Fault(not_constant(t))),
+            Outcome::Known(cells) => Ok(Outcome::Known(cells)),
+            Outcome::Undefined => Ok(Outcome::Undefined),
+        }
+    } else {
+        Err(Stop::Fault(not_constant(t)))
     }
 }
 

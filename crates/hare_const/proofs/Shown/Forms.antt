@@ -93,7 +93,8 @@ module _ (s : Store) (own : ℕ) (ks : Kids) (less : Tasks) where
   ends_told w h (aborts r) k g f q st = refl
   ends_told w h (IsUndefined u) k g f q st = refl
 
-  ends_if : (x : Bool) (a b : Act) (o p : Outcome) (f : List Cell → Outcome) → Ends ks less a (on_cells o f) → Ends ks less b (on_cells p f) →
+  ends_if : (x : Bool) (a b : Act) (o p : Outcome) (f : List Cell → Outcome) → Ends ks less a (on_cells o f) →
+      Ends ks less b (on_cells p f) →
       Ends ks less (if x then a else b) (on_cells (if x then o else p) f)
   ends_if true a b o p f h k = h
   ends_if false a b o p f h k = k

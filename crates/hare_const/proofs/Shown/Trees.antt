@@ -239,7 +239,8 @@ module _ (s : Store) (own : ℕ) (less : Tasks) where
       Ends (over h ts) less (constant_node (without_run s) (marked h m ts) AsValue sc) (tree_value s own (marked h m ts))
   node-shown h m ts e p f sc q = go (is_type h.kind) refl
     where
-      placed : (y : Bool) → y ≡ false → (x : Bool) → Ends (over h ts) less (value_in_mode (without_run s) (marked h m ts) AsValue sc (form h m ts sc)) (result h m ts) →
+      placed : (y : Bool) → y ≡ false → (x : Bool) →
+          Ends (over h ts) less (value_in_mode (without_run s) (marked h m ts) AsValue sc (form h m ts sc)) (result h m ts) →
           Ends (over h ts) less (if not x then gives [] else
           (if y then place_in_mode (without_run s) (marked h m ts) AsValue sc (form h m ts sc) (constant_place (without_run s) (marked h m ts) sc h.kind)
           else value_in_mode (without_run s) (marked h m ts) AsValue sc (form h m ts sc))) (if x then result h m ts else Known [])
@@ -287,7 +288,8 @@ abort-shown (Abort text) = refl
 abort-shown _ = refl
 
 mutual
-  constant-too : (s : Store) (a : TypedNode → Bool) (t : TypedNode) → first_inconstant s a t ≡ None → first_inconstant s (λ u. false) t ≡ None
+  constant-too : (s : Store) (a : TypedNode → Bool) (t : TypedNode) → first_inconstant s a t ≡ None →
+      first_inconstant s (λ u. false) t ≡ None
   constant-too s a (marked h m ts) e = go (is_type h.kind) e (λ f. constant-each s a ts f)
     where
       hidden : (x : Bool) → (if x then None else first_inconstant_of s a ts) ≡ None →
