@@ -2,5 +2,12 @@ pub mod CoverLemmas
 pub mod NumberLemmas
 pub mod OperatorLemmas
 pub mod UnionLemmas
+pub mod NodeLemmas
+pub mod AddressLemmas
+pub mod ArrayLemmas
+pub mod WalkLemmas
 mod ExampleConstants
 mod ConstantRows
+pub mod Shown
+mod ExampleValues
+mod ValueRows

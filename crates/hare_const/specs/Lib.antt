@@ -3,3 +3,4 @@ pub mod Numbers
 pub mod Operators
 pub mod Lengths
 pub mod Covering
+pub mod NodeValues

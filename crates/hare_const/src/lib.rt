@@ -1,15 +1,29 @@
 //! Constants: whether they cover a type, and which of them may be the length of an array.
 #![tactic(auto)]
 
+mod addresses;
+mod array;
+mod calculated;
+mod casts;
+mod constancy;
+mod constant;
 mod cover;
+mod kids;
 mod length;
+mod literals;
+mod measures;
+mod node;
 mod number;
+mod operands;
 mod operators;
+mod outcome;
 mod shape;
 #[cfg(test)]
 mod tests;
 mod unions;
+mod walk;
 
+pub use constant::constant_cells;
 pub use cover::{Limits, covers, limits_at};
 pub use length::array_length;
 pub use number::{little_endian, number_cells, number_of, number_of_value};

@@ -7,6 +7,8 @@ ghost use Rattle.hare_typed.specs.Scalars.{number_spelled, bool_spelled, width a
 ghost use Rattle.hare_typed.specs.Shapes.{shape_at as spec_shape_at};
 ghost use Rattle.hare_typed.specs.Coercions.{number_of_value as number_of_cells, number_cells as cells_of_number};
 ghost use Rattle.hare_const.specs.Shapes.{shape_of, IsNarrow};
+ghost use Rattle.hare_types.specs.declared.coercion.Ty.TheVariants as ty;
+ghost use Rattle.hare_const.specs.Operators.{IsWhole};
 ghost use Rattle.hare_const.specs.Numbers as spec;
 
 use crate::shape::{Shape, shape_at};
@@ -120,12 +122,20 @@ fn number_at(s: &TypeStore, t: TypeId, cells: &Cells) -> Option<i128>
     number_by(shape, read)
 }
 
+/// The number that a value of a type of the store is. What is no number is 0.
+pub(crate) fn typed_number(s: &TypeStore, t: TypeId, cells: &Cells) -> i128
+    ensures value { result ≡ number_of_cells s.now (ty.Of t) cells.now }
+    ensures whole { IsWhole result }
+{
+    number_at(s, t, cells).unwrap_or(0)
+}
+
 /// The number that a value of a type is. A whole number without a suffix has no cells: its type says which it is. What is no number is 0.
 pub fn number_of_value(s: &TypeStore, t: Ty, cells: &Cells) -> i128
     ensures { result ≡ number_of_cells s.now t cells.now }
 {
     match t {
-        Ty::Of(t) => number_at(s, t, cells).unwrap_or(0),
+        Ty::Of(t) => typed_number(s, t, cells),
         Ty::Iconst(v) => v,
         Ty::Null | Ty::Empty => 0,
     }

@@ -223,8 +223,7 @@ pub fn complemented(t: IntType, x: i128) -> i128
 
 /// By how many bits is shifted: the amount modulo the bits of the type.
 fn distance(t: IntType, amount: i128) -> u32
-    requires width { IsWidth t.bits }
-    requires by { IsWhole amount }
+    requires { IsWidth t.bits }
     ensures value { result ≡ residue t.bits amount }
     ensures short { result < t.bits }
 {
@@ -235,7 +234,6 @@ fn distance(t: IntType, amount: i128) -> u32
 pub fn shifted(way: Shift, t: IntType, x: i128, amount: i128) -> i128
     requires width { IsWidth t.bits }
     requires operand { IsWhole x }
-    requires by { IsWhole amount }
     ensures { result ≡ spec.shifted (shift_of way) (int_of t) x amount }
 {
     let by = distance(t, amount);

@@ -1,5 +1,6 @@
 use Rattle.std.proofs.Common.{◌≡◌, ◌∙◌, ap, sym, subst, ◌^◌, to_z, of_z}
 use Rattle.std.specs.Prelude.{pos, ◌*ℤ◌}
+use Rattle.std.proofs.lemmas.Int.{to_z-of_z}
 use mir.Syntax.{w128}
 use mir.Val.{SFits}
 use Rattle.hare_typed.specs.Arithmetic as spec
@@ -28,4 +29,4 @@ returns-in-Left c =
     ∙ ap (λ v. spec.cut (int_of t) (to_z w128 (of_z w128 (v *ℤ to_z w128 (of_z w128 c.pow.result))))) (whole-kept x c.requires.operand)
     ∙ ap (λ v. spec.cut (int_of t) (to_z w128 (of_z w128 (x *ℤ v)))) power
     ∙ ap (spec.cut (int_of t)) (kept (x *ℤ pos (2 ^ by)) fits)
-    ∙ left_given t c.args.way x c.args.amount (to_z w128 (of_z w128 c.args.amount)) by c.in-Left.is (whole-kept c.args.amount c.requires.by) c.distance-by.ensures.value
+    ∙ left_given t c.args.way x c.args.amount (to_z w128 (of_z w128 c.args.amount)) by c.in-Left.is (to_z-of_z w128 c.args.amount c.ranges.amount) c.distance-by.ensures.value

@@ -1,0 +1,4 @@
+-- The evaluation of a constant comes to the value of its tree.
+pub mod Acts
+pub mod Forms
+pub mod Trees

@@ -1,0 +1,406 @@
+-- The evaluation of a constant comes to the value of its tree.
+use Rattle.std.proofs.Common.{◌≡◌, ℕ, zero, suc, Bool, true, false, [], refl, sym, ap, subst, ◌∙◌}
+use Rattle.std.specs.Prelude.{◌+◌, if◌then◌else◌, not, ◌&&◌, ◌||◌, ◌==◌, Option, Some, None, option_and_then}
+use Rattle.hare_tree.specs.declared.kind.Kind.{Kind}
+use Rattle.hare_tree.specs.declared.kind.Kind.TheVariants as kind
+use Rattle.hare_tree.specs.declared.place.Fault.{Fault}
+use Rattle.hare_tree.specs.declared.stop.Stop.{Stop}
+use Rattle.hare_tree.specs.declared.token.Meaning.{Meaning}
+use Rattle.hare_tree.specs.declared.token.Meaning.TheVariants as meant
+use Rattle.hare_tree.specs.Levels.{is_type}
+use Rattle.hare_tree.specs.Node.{Head}
+use Rattle.hare_types.specs.declared.row.Row.{Row}
+use Rattle.hare_types.specs.declared.row.Row.TheVariants as row
+use Rattle.hare_types.specs.declared.row.Scalar.{Scalar as Keyword}
+use Rattle.hare_types.specs.declared.row.Scalar.TheVariants as keyword
+use Rattle.hare_types.specs.Store.{Store}
+use Rattle.hare_typed.specs.declared.constant.Const.TheVariants as constant
+use Rattle.hare_typed.specs.Typed.{TypedNode, TypedNodes, Mark, marked, typed_none, typed_more, mark_of}
+use Rattle.hare_typed.specs.Order.{kid_from_front}
+use Rattle.hare_typed.specs.Given.{base_row, first_given, is_str, is_str_row}
+use Rattle.hare_typed.specs.Shapes.{shape_of_row}
+use Rattle.hare_typed.specs.Constants.{is_known}
+use Rattle.hare_typed.specs.Constancy.{is_address_row, is_global_path, begins_with_global, names_void, is_constant, hides_kids, or_else, first_inconstant, first_inconstant_of}
+use Rattle.hare_typed.specs.Scalars.{Address}
+use Rattle.hare_typed.specs.State.{State, Scope, AsValue, AsPlace, Outcome as End, Value, Reached, Abort, Result}
+use Rattle.hare_typed.specs.Bindings.{own_bindings}
+use Rattle.hare_typed.specs.Interpreter.{Tasks, Kids, act, behind, node_act, kid_act, part_act, fewer_than}
+use Rattle.hare_typed.specs.Evaluated.{ValueForm, is_evaluated, is_named, is_place_kind, is_place, first_is_place, place_in_mode, value_in_mode, gives}
+use Rattle.hare_typed.specs.ConstantForms.{OfNumbers, OfTexts, equality_of_shape, equality_of, type_of_kid, object_meant}
+use Rattle.hare_typed.specs.ConstantValues.{without_run, constant_form, constant_place, constant_node, constant_forms, constant_result}
+use Rattle.hare_typed.specs.Folded.{is_abort, aborts, inconstant, folded_from, folded}
+use Rattle.hare_const.specs.declared.outcome.Outcome.{Outcome}
+use Rattle.hare_const.specs.declared.outcome.Outcome.TheVariants.{Known}
+use Rattle.hare_const.specs.NodeValues.{on_cells, kid_at, declared_by, own_value, coerced_value, tree_value, kid_values, PlainKind, IsPlain, ArePlain, IsSimple, AreSimple, is_aborted, first_refused, Refuses, cells_in, cells_of}
+use Rattle.hare_const.proofs.Shown.Acts.{shown, Shows, Ends}
+use Rattle.hare_const.proofs.Shown.Forms.{Ready, ends_value_of}
+
+-- ---- what constancy says of a node
+
+pub first-none : (x y : Option TypedNode) → or_else x y ≡ None → (x ≡ None) × (y ≡ None)
+first-none None y e = (refl, e)
+first-none (Some t) y e = absurd cc
+
+pub both-none : (x y : Option TypedNode) → x ≡ None → y ≡ None → or_else x y ≡ None
+both-none None y e f = f
+both-none (Some t) y e f = absurd cc
+
+unless-none : (x a : Bool) (t : TypedNode) → (if not x || a then Some t else None) ≡ None → x ≡ true
+unless-none true a t e = refl
+unless-none false a t e = absurd cc
+
+shown-none : (x : Bool) (r : Option TypedNode) → (if x then None else r) ≡ None → x ≡ false → r ≡ None
+shown-none true r e f = absurd cc
+shown-none false r e f = e
+
+-- what is asked of a node that is no type
+abbrev asked : Store → (TypedNode → Bool) → Head → Mark → TypedNodes → Option TypedNode
+asked s a h m ts =
+    or_else (if hides_kids h.kind ts then None else first_inconstant_of s a ts)
+    (if not (is_constant s h.kind m ts) || a (marked h m ts) then Some (marked h m ts) else None)
+
+record Constant (s : Store) (h : Head) (m : Mark) (ts : TypedNodes) : Type 0 where
+  itself : is_constant s h.kind m ts ≡ true
+  kids : hides_kids h.kind ts ≡ false → first_inconstant_of s (λ u. false) ts ≡ None
+
+constant_from : (s : Store) (h : Head) (m : Mark) (ts : TypedNodes) → is_type h.kind ≡ false →
+    first_inconstant s (λ u. false) (marked h m ts) ≡ None → Constant s h m ts
+constant_from s h m ts f e =
+    let n : asked s (λ u. false) h m ts ≡ None
+    = subst (λ x. (if x then None else asked s (λ u. false) h m ts) ≡ None) f e in
+    let p = first-none _ _ n in
+    record {
+      itself = unless-none (is_constant s h.kind m ts) false (marked h m ts) p.1;
+      kids = shown-none (hides_kids h.kind ts) (first_inconstant_of s (λ u. false) ts) p.0;
+    }
+
+-- types are not evaluated
+pub type-idle : (k : Kind) → is_type k ≡ true → is_evaluated k ≡ false
+type-idle kind.TypeScalar e = refl
+type-idle kind.TypePath e = refl
+type-idle kind.TypePointer e = refl
+type-idle kind.TypeNullable e = refl
+type-idle kind.TypeSlice e = refl
+type-idle kind.TypeError e = refl
+type-idle kind.TypeArray e = refl
+type-idle kind.TypeStruct e = refl
+type-idle kind.TypeTuple e = refl
+type-idle kind.TypeUnion e = refl
+type-idle _ e = absurd cc
+
+-- ---- a constant node is no place by its form
+
+type-no_place : (s : Store) (k : Kind) (m : Mark) (ts : TypedNodes) → is_type k ≡ true →
+    is_place_kind s k m (first_given ts) (first_is_place s ts) ≡ false
+type-no_place s kind.Path m ts e = absurd cc
+type-no_place s kind.Deref m ts e = absurd cc
+type-no_place s kind.Index m ts e = absurd cc
+type-no_place s kind.Field m ts e = absurd cc
+type-no_place s kind.Paren m ts e = absurd cc
+type-no_place s _ m ts e = refl
+
+path-no_object : (named known void odd : Bool) → (false || ((known || void) && odd)) ≡ true → (named && not (known || void)) ≡ false
+path-no_object true true void odd e = refl
+path-no_object true false true odd e = refl
+path-no_object true false false odd e = absurd cc
+path-no_object false known void odd e = refl
+
+constant-no_place : (s : Store) (k : Kind) (m : Mark) (ts : TypedNodes) → is_constant s k m ts ≡ true →
+    (hides_kids k ts ≡ false → first_is_place s ts ≡ false) → is_place_kind s k m (first_given ts) (first_is_place s ts) ≡ false
+constant-no_place s kind.Path m ts e f =
+    path-no_object (is_named m.meaning) (is_known m.value) (names_void s m.meaning m.ty) (not (m.coerce.row == 2)) e
+constant-no_place s kind.Deref m ts e f = absurd cc
+constant-no_place s kind.Index m ts e f = absurd cc
+constant-no_place s kind.Field m ts e f = absurd cc
+constant-no_place s kind.Paren m ts e f = f refl
+constant-no_place s _ m ts e f = refl
+
+mutual
+  no_place : (s : Store) (t : TypedNode) → first_inconstant s (λ u. false) t ≡ None → is_place s t ≡ false
+  no_place s (marked h m ts) e = go (is_type h.kind) refl (λ f. first-no_place s ts f)
+    where
+      go : (x : Bool) → is_type h.kind ≡ x → (first_inconstant_of s (λ u. false) ts ≡ None → first_is_place s ts ≡ false) →
+          is_place s (marked h m ts) ≡ false
+      go true f k = type-no_place s h.kind m ts f
+      go false f k =
+          let c = constant_from s h m ts f e in
+          constant-no_place s h.kind m ts c.itself (λ g. k (c.kids g))
+
+  first-no_place : (s : Store) (ts : TypedNodes) → first_inconstant_of s (λ u. false) ts ≡ None → first_is_place s ts ≡ false
+  first-no_place s typed_none e = refl
+  first-no_place s (typed_more t ts) e = no_place s t (first-none (first_inconstant s (λ u. false) t) _ e).0
+
+-- ---- an equality that is constant and compares no texts compares numbers
+
+equality-word : (k : Keyword) → is_str_row (Some (row.Scalar k)) ≡ false →
+    (if is_str_row (Some (row.Scalar k)) then OfTexts else equality_of_shape (option_and_then shape_of_row (Some (row.Scalar k)))) ≡ OfNumbers
+equality-word keyword.Str e = absurd cc
+equality-word _ e = refl
+
+equality-row : (r : Option Row) → is_str_row r ≡ false → is_address_row r ≡ false →
+    (if is_str_row r then OfTexts else equality_of_shape (option_and_then shape_of_row r)) ≡ OfNumbers
+equality-row None e f = refl
+equality-row (Some (row.Scalar k)) e f = equality-word k e
+equality-row (Some (row.Pointer i)) e f = absurd cc
+equality-row (Some (row.Nullable i)) e f = absurd cc
+equality-row (Some _) e f = refl
+
+and-left : (x y : Bool) → (false || (x && y)) ≡ true → x ≡ true
+and-left true y q = refl
+and-left false y q = absurd cc
+
+not-true : (x : Bool) → not x ≡ true → x ≡ false
+not-true true e = absurd cc
+not-true false e = refl
+
+equality_known : (s : Store) (h : Head) (m : Mark) (ts : TypedNodes) → is_str s (first_given ts) ≡ false →
+    is_address_row (base_row s (first_given ts)) ≡ false → equality_of s (type_of_kid 0 (marked h m ts)) ≡ OfNumbers
+equality_known s h m typed_none e f = equality-row (base_row s (first_given typed_none)) e f
+equality_known s h m (typed_more t ts) e f = equality-row (base_row s (first_given (typed_more t ts))) e f
+
+-- ---- the place of a global
+
+global_meaning : (m : Mark) → is_global_path kind.Path m ≡ true → (d : ℕ) × (m.meaning ≡ meant.Decl d)
+global_meaning m e = go m.meaning e
+  where
+    go : (x : Meaning) → is_global_path kind.Path (record m { meaning = x }) ≡ true → (d : ℕ) × (x ≡ meant.Decl d)
+    go (meant.Local x) q = absurd cc
+    go (meant.Decl d) q = (d, refl)
+    go (meant.Rt x) q = absurd cc
+    go meant.None q = absurd cc
+
+module _ (s : Store) (own : ℕ) (less : Tasks) where
+  -- what the kids of a node give
+  abbrev over : Head → TypedNodes → Kids
+  over h ts =
+      record {
+        kid = λ i. behind (own_bindings h.kind) (kid_act (constant_forms (without_run s)) less ts i);
+        part = λ i j. behind (own_bindings h.kind) (part_act (constant_forms (without_run s)) less ts i j);
+      }
+
+  object-named : (m : Mark) (sc : Scope) → is_global_path kind.Path m ≡ true →
+      object_meant (without_run s) sc m.meaning ≡ declared_by m.meaning
+  object-named m sc e =
+      let g = global_meaning m e in
+      subst (λ x. object_meant (without_run s) sc x ≡ declared_by x) (sym g.1) refl
+
+  path-reached : (ks : Kids) (t : TypedNode) (sc : Scope) (st : State) (x : Bool) → x ≡ true → is_global_path kind.Path (mark_of t) ≡ true →
+      (act ks less (if x then place_in_mode (without_run s) t AsPlace sc (constant_form (without_run s) t sc kind.Path)
+      (constant_place (without_run s) t sc kind.Path)
+      else value_in_mode (without_run s) t AsPlace sc (constant_form (without_run s) t sc kind.Path)) st).0
+      ≡ Reached (Address (declared_by (mark_of t).meaning) 0)
+  path-reached ks t sc st true q e = ap (λ d. Reached (Address d 0)) (object-named (mark_of t) sc e)
+  path-reached ks t sc st false q e = absurd cc
+
+  global-reached : (ks : Kids) (t : TypedNode) (sc : Scope) (st : State) (k : Kind) → is_global_path k (mark_of t) ≡ true →
+      is_place s t ≡ true →
+      (act ks less (if not (is_evaluated k) then gives [] else
+      (if is_place s t then place_in_mode (without_run s) t AsPlace sc (constant_form (without_run s) t sc k) (constant_place (without_run s) t sc k)
+      else value_in_mode (without_run s) t AsPlace sc (constant_form (without_run s) t sc k))) st).0
+      ≡ Reached (Address (declared_by (mark_of t).meaning) 0)
+  global-reached ks t sc st kind.Path e p = path-reached ks t sc st (is_place s t) p e
+  global-reached ks t sc st _ e p = absurd cc
+
+  first-reached : (h : Head) (m : Mark) (ts : TypedNodes) → begins_with_global ts ≡ true → first_is_place s ts ≡ true →
+      (sc : Scope) (st : State) → sc.own ≡ own →
+      (kid_act (constant_forms (without_run s)) less ts 0 AsPlace sc st).0
+      ≡ Reached (Address (declared_by (mark_of (kid_from_front 0 (marked h m ts))).meaning) 0)
+  first-reached h m typed_none e p sc st q = absurd cc
+  first-reached h m (typed_more (marked h' m' us) ts) e p sc st q =
+      global-reached (over h' us) (marked h' m' us) sc st h'.kind e p
+
+  -- ---- nodes
+
+  -- a constant node is as its kind asks
+  ready : (h : Head) (k : Kind) (m : Mark) (ts : TypedNodes) → is_constant s k m ts ≡ true → PlainKind s k ts →
+      (hides_kids k ts ≡ false → (i : ℕ) → Shows own (kid_act (constant_forms (without_run s)) less ts i AsValue) (kid_at i (kid_values s own ts))) →
+      Ready s own (over h ts) less (kid_values s own ts) (marked h m ts) k
+  ready h kind.Addr m ts e p f = λ sc st q.
+      first-reached h m ts (and-left (begins_with_global ts) (not (m.coerce.row == 2)) e) p
+      (record sc { first = sc.first + own_bindings h.kind }) st q
+  ready h kind.Offset m ts e p f = tt
+  ready h kind.Equal m ts e p f = (
+    λ i sc st q. f refl i (record sc { first = sc.first + own_bindings h.kind }) st q,
+    equality_known s h m ts p (not-true _ (and-left _ (not (m.coerce.row == 2)) e)),
+  )
+  ready h _ m ts e p f = λ i sc st q. f refl i (record sc { first = sc.first + own_bindings h.kind }) st q
+
+  -- the acts of a node up to its own value, and what they come to
+  abbrev form : Head → Mark → TypedNodes → Scope → ValueForm
+  form h m ts sc = constant_form (without_run s) (marked h m ts) sc h.kind
+
+  abbrev result : Head → Mark → TypedNodes → Outcome
+  result h m ts = on_cells (own_value s own (marked h m ts) (kid_values s own ts)) (coerced_value s own (marked h m ts))
+
+  node-shown : (h : Head) (m : Mark) (ts : TypedNodes) → first_inconstant s (λ u. false) (marked h m ts) ≡ None → PlainKind s h.kind ts →
+      (first_inconstant_of s (λ u. false) ts ≡ None →
+      (i : ℕ) → Shows own (kid_act (constant_forms (without_run s)) less ts i AsValue) (kid_at i (kid_values s own ts))) →
+      (sc : Scope) → sc.own ≡ own →
+      Ends (over h ts) less (constant_node (without_run s) (marked h m ts) AsValue sc) (tree_value s own (marked h m ts))
+  node-shown h m ts e p f sc q = go (is_type h.kind) refl
+    where
+      placed : (y : Bool) → y ≡ false → (x : Bool) →
+          Ends (over h ts) less (value_in_mode (without_run s) (marked h m ts) AsValue sc (form h m ts sc)) (result h m ts) →
+          Ends (over h ts) less (if not x then gives [] else
+          (if y then place_in_mode (without_run s) (marked h m ts) AsValue sc (form h m ts sc) (constant_place (without_run s) (marked h m ts) sc h.kind)
+          else value_in_mode (without_run s) (marked h m ts) AsValue sc (form h m ts sc))) (if x then result h m ts else Known [])
+      placed true r x v = absurd cc
+      placed false r true v = v
+      placed false r false v = λ st. refl
+
+      idle : (x : Bool) → x ≡ false → Ends (over h ts) less (if not x then gives [] else
+          (if is_place s (marked h m ts) then place_in_mode (without_run s) (marked h m ts) AsValue sc (form h m ts sc) (constant_place (without_run s) (marked h m ts) sc h.kind)
+          else value_in_mode (without_run s) (marked h m ts) AsValue sc (form h m ts sc))) (if x then result h m ts else Known [])
+      idle true r = absurd cc
+      idle false r = λ st. refl
+
+      go : (x : Bool) → is_type h.kind ≡ x →
+          Ends (over h ts) less (constant_node (without_run s) (marked h m ts) AsValue sc) (tree_value s own (marked h m ts))
+      go true g = idle (is_evaluated h.kind) (type-idle h.kind g)
+      go false g =
+          let c = constant_from s h m ts g e in
+          placed (is_place s (marked h m ts)) (no_place s (marked h m ts) e) (is_evaluated h.kind)
+          (ends_value_of s own (over h ts) less (kid_values s own ts) (marked h m ts) sc h.kind q
+          (ready h h.kind m ts c.itself p (λ r. f (c.kids r))))
+
+  mutual
+    tree-shown : (t : TypedNode) → first_inconstant s (λ u. false) t ≡ None → IsPlain s t →
+        Shows own (node_act (constant_forms (without_run s)) less t AsValue) (tree_value s own t)
+    tree-shown (marked h m ts) e p sc st q = node-shown h m ts e p.0 (λ f i. kids-shown ts f p.1 i) sc q st
+
+    kids-shown : (ts : TypedNodes) → first_inconstant_of s (λ u. false) ts ≡ None → ArePlain s ts → (i : ℕ) →
+        Shows own (kid_act (constant_forms (without_run s)) less ts i AsValue) (kid_at i (kid_values s own ts))
+    kids-shown typed_none e p i sc st q = refl
+    kids-shown (typed_more t ts) e p zero sc st q = tree-shown t (first-none (first_inconstant s (λ u. false) t) _ e).0 p.0 sc st q
+    kids-shown (typed_more t ts) e p (suc i) sc st q =
+        kids-shown ts (first-none (first_inconstant s (λ u. false) t) _ e).1 p.1 i _ st q
+
+-- the value of a constant is that of its tree
+pub value_shown : (s : Store) (own : ℕ) (t : TypedNode) → first_inconstant s (λ u. false) t ≡ None → IsPlain s t →
+    shown (constant_result s own t).0 ≡ tree_value s own t
+value_shown s own t e p = tree-shown s own (fewer_than (constant_forms (without_run s)) 0) t e p _ _ refl
+
+-- ---- the first that is not constant
+
+abort-shown : (o : End) → is_abort o ≡ is_aborted (shown o)
+abort-shown (Value cs) = refl
+abort-shown (Abort text) = refl
+abort-shown _ = refl
+
+mutual
+  constant-too : (s : Store) (a : TypedNode → Bool) (t : TypedNode) → first_inconstant s a t ≡ None →
+      first_inconstant s (λ u. false) t ≡ None
+  constant-too s a (marked h m ts) e = go (is_type h.kind) e (λ f. constant-each s a ts f)
+    where
+      hidden : (x : Bool) → (if x then None else first_inconstant_of s a ts) ≡ None →
+          (first_inconstant_of s a ts ≡ None → first_inconstant_of s (λ u. false) ts ≡ None) →
+          (if x then None else first_inconstant_of s (λ u. false) ts) ≡ None
+      hidden true q k = refl
+      hidden false q k = k q
+
+      itself : (x b : Bool) → (if not x || b then Some (marked h m ts) else None) ≡ None →
+          (if not x || false then Some (marked h m ts) else None) ≡ None
+      itself true b q = refl
+      itself false b q = absurd cc
+
+      go : (x : Bool) → (if x then None else asked s a h m ts) ≡ None →
+          (first_inconstant_of s a ts ≡ None → first_inconstant_of s (λ u. false) ts ≡ None) →
+          (if x then None else asked s (λ u. false) h m ts) ≡ None
+      go true q k = refl
+      go false q k =
+          let p = first-none _ _ q in
+          both-none _ _ (hidden (hides_kids h.kind ts) p.0 k) (itself (is_constant s h.kind m ts) (a (marked h m ts)) p.1)
+
+  constant-each : (s : Store) (a : TypedNode → Bool) (ts : TypedNodes) → first_inconstant_of s a ts ≡ None →
+      first_inconstant_of s (λ u. false) ts ≡ None
+  constant-each s a typed_none e = refl
+  constant-each s a (typed_more t ts) e =
+      let p = first-none (first_inconstant s a t) _ e in
+      both-none _ _ (constant-too s a t p.0) (constant-each s a ts p.1)
+
+abort_same : (s : Store) (own : ℕ) (t : TypedNode) → first_inconstant s (λ u. false) t ≡ None → IsPlain s t →
+    aborts s own t ≡ is_aborted (tree_value s own t)
+abort_same s own t e p = abort-shown (constant_result s own t).0 ∙ ap is_aborted (value_shown s own t e p)
+
+-- where the kids have none, two tests that agree of the node find the same
+same-step : (k : Option TypedNode) (x a b : Bool) (t : TypedNode) → (k ≡ None → x ≡ true → a ≡ b) →
+    or_else k (if not x || a then Some t else None) ≡ or_else k (if not x || b then Some t else None)
+same-step (Some u) x a b t h = refl
+same-step None true a b t h = ap (λ c. if c then Some t else None) (h refl refl)
+same-step None false a b t h = refl
+
+same-hidden : (x : Bool) (a b : Option TypedNode) → a ≡ b → (if x then None else a) ≡ (if x then None else b)
+same-hidden true a b e = refl
+same-hidden false a b e = e
+
+if-none : (x : Bool) (a : Option TypedNode) → a ≡ None → (if x then None else a) ≡ None
+if-none true a e = refl
+if-none false a e = e
+
+none-hidden : (x : Bool) (a b : Option TypedNode) → (if x then None else a) ≡ None → (a ≡ None → b ≡ None) → (if x then None else b) ≡ None
+none-hidden true a b e h = refl
+none-hidden false a b e h = h e
+
+constant-itself : (x : Bool) (t : TypedNode) → x ≡ true → (if not x || false then Some t else None) ≡ None
+constant-itself true t e = refl
+constant-itself false t e = absurd cc
+
+mutual
+  pub inconstant_same : (s : Store) (own : ℕ) (t : TypedNode) → IsPlain s t → inconstant s own t ≡ first_refused s own t
+  inconstant_same s own (marked h m ts) p = go (is_type h.kind) (inconstant-each s own ts p.1)
+    where
+      go : (x : Bool) → first_inconstant_of s (aborts s own) ts ≡ first_inconstant_of s (λ u. is_aborted (tree_value s own u)) ts →
+          (if x then None else asked s (aborts s own) h m ts) ≡ (if x then None else asked s (λ u. is_aborted (tree_value s own u)) h m ts)
+      go true k = refl
+      go false k =
+          same-step (if hides_kids h.kind ts then None else first_inconstant_of s (aborts s own) ts) (is_constant s h.kind m ts)
+          (aborts s own (marked h m ts)) (is_aborted (tree_value s own (marked h m ts))) (marked h m ts)
+          (λ n c. abort_same s own (marked h m ts)
+          (if-none (is_type h.kind) (asked s (λ u. false) h m ts)
+          (both-none _ _ (none-hidden (hides_kids h.kind ts) _ (first_inconstant_of s (λ u. false) ts) n (constant-each s (aborts s own) ts))
+          (constant-itself (is_constant s h.kind m ts) (marked h m ts) c))) p)
+          ∙ ap (λ o. or_else o (if not (is_constant s h.kind m ts) || is_aborted (tree_value s own (marked h m ts)) then Some (marked h m ts) else None))
+          (same-hidden (hides_kids h.kind ts) _ _ k)
+
+  inconstant-each : (s : Store) (own : ℕ) (ts : TypedNodes) → ArePlain s ts →
+      first_inconstant_of s (aborts s own) ts ≡ first_inconstant_of s (λ u. is_aborted (tree_value s own u)) ts
+  inconstant-each s own typed_none p = refl
+  inconstant-each s own (typed_more t ts) p =
+      ap (λ o. or_else o (first_inconstant_of s (aborts s own) ts)) (inconstant_same s own t p.0)
+      ∙ ap (λ o. or_else (first_refused s own t) o) (inconstant-each s own ts p.1)
+
+-- ---- the constant
+
+mutual
+  pub plain_from : (s : Store) (t : TypedNode) → IsSimple s t → IsPlain s t
+  plain_from s (marked h m ts) p = (p.1, plain-each s ts p.4)
+
+  plain-each : (s : Store) (ts : TypedNodes) → AreSimple s ts → ArePlain s ts
+  plain-each s typed_none p = tt
+  plain-each s (typed_more t ts) p = (plain_from s t p.0, plain-each s ts p.1)
+
+folded-cells : (r : Result) → cells_in (folded_from r) ≡ cells_of (shown r.0)
+folded-cells (Value cs, st) = refl
+folded-cells (Abort text, st) = refl
+folded-cells (_, st) = refl
+
+folded-none : (o : Option TypedNode) (r : Result) → o ≡ None →
+    cells_in (elim o [ None ↦ folded_from r | Some u ↦ constant.Absent ]) ≡ cells_in (folded_from r)
+folded-none None r e = refl
+folded-none (Some u) r e = absurd cc
+
+-- where no node is refused, the constant has the cells of the tree's value
+pub folded_cells : (s : Store) (own : ℕ) (t : TypedNode) → IsSimple s t → first_refused s own t ≡ None →
+    (inconstant s own t ≡ None) × (cells_in (folded s own t) ≡ cells_of (tree_value s own t))
+folded_cells s own t p e =
+    let plain = plain_from s t p in
+    let none : inconstant s own t ≡ None = inconstant_same s own t plain ∙ e in (
+      none,
+      folded-none (inconstant s own t) (constant_result s own t) none
+          ∙ folded-cells (constant_result s own t)
+          ∙ ap cells_of (value_shown s own t (constant-too s (aborts s own) t none) plain),
+    )
+
+pub folded_refused : (s : Store) (own : ℕ) (t : TypedNode) (e : Stop Fault) → IsSimple s t → Refuses (first_refused s own t) e →
+    Refuses (inconstant s own t) e
+folded_refused s own t e p r = subst (λ o. Refuses o e) (sym (inconstant_same s own t (plain_from s t p))) r

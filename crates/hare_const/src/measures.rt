@@ -1,0 +1,98 @@
+//! Sizes, alignments and lengths.
+
+ghost use Rattle.std.specs.Prelude.{◌≡◌, IfOk, IsTrue};
+ghost use Rattle.hare_typed.specs.Given.{size_in as size_of_type, base_row as row_of_base};
+ghost use Rattle.hare_typed.specs.Shapes.{align_in as align_of_type};
+ghost use Rattle.hare_typed.specs.Coercions as coercions;
+ghost use Rattle.hare_typed.specs.ConstantForms.{type_of_kid as kid_type, is_array_row};
+ghost use Rattle.hare_types.specs.Assign.{IsIn};
+ghost use Rattle.hare_const.specs.NodeValues as spec;
+
+use crate::kids::type_of_kid;
+use crate::number::number_cells;
+use crate::shape::base_row;
+use hare_layout::{align_of, size_of};
+use hare_typed::{Cells, Typed};
+use hare_types::{Row, Ty, TypeStore};
+use std::alloc::{AllocError, Global};
+
+/// The size of a type in bytes; none of what has no type yet.
+fn size_in(s: &TypeStore, t: Ty) -> u64
+    requires { spec.IsSized s.now t }
+    ensures { result ≡ size_of_type s.now t }
+{
+    match t {
+        Ty::Of(t) => size_of(s, t),
+        Ty::Iconst(_) | Ty::Null | Ty::Empty => 0,
+    }
+}
+
+/// Of what the address of a value of the type is a multiple.
+fn align_in(s: &TypeStore, t: Ty) -> u64
+    requires { spec.IsSized s.now t }
+    ensures { result ≡ align_of_type s.now t }
+{
+    match t {
+        Ty::Of(t) => align_of(s, t),
+        Ty::Iconst(_) | Ty::Null | Ty::Empty => 1,
+    }
+}
+
+/// The value of `size(..)`.
+pub(crate) fn size_value(alloc: Global, s: &TypeStore, t: &Typed) -> Result<Cells, AllocError>
+    requires { spec.IsSized s.now (kid_type 0 t.now) }
+    ensures { IfOk result (λ cells. cells ≡ spec.size_value s.now t.now) }
+{
+    number_cells(alloc, s, t.ty, i128::from(size_in(s, type_of_kid(t, 0))))
+}
+
+/// The value of `align(..)`.
+pub(crate) fn align_value(alloc: Global, s: &TypeStore, t: &Typed) -> Result<Cells, AllocError>
+    requires { spec.IsSized s.now (kid_type 0 t.now) }
+    ensures { IfOk result (λ cells. cells ≡ spec.align_value s.now t.now) }
+{
+    number_cells(alloc, s, t.ty, i128::from(align_in(s, type_of_kid(t, 0))))
+}
+
+/// The length of the array that is the base of a type; 0 where it is none.
+pub(crate) fn length_of_base(s: &TypeStore, t: Ty) -> u64
+    ensures { result ≡ coercions.length_of_row (row_of_base s.now t) }
+{
+    let Ty::Of(t) = t else {
+        return 0;
+    };
+    match base_row(s, t) {
+        Some(Row::Array(n, _)) => *n,
+        _ => 0,
+    }
+}
+
+/// The length of an array type itself, names and error marks not followed; 0 where it is none.
+pub(crate) fn length_of_value(s: &TypeStore, t: Ty) -> u64
+    requires { IsIn s.now t }
+    ensures { result ≡ coercions.length_of_value s.now t }
+{
+    let Ty::Of(t) = t else {
+        return 0;
+    };
+    match s.row(t) {
+        Row::Array(n, _) => *n,
+        _ => 0,
+    }
+}
+
+/// The value of `len(..)` of an array, whose length its type has.
+pub(crate) fn array_length_value(
+    alloc: Global,
+    s: &TypeStore,
+    t: &Typed,
+) -> Result<Cells, AllocError>
+    ensures { IfOk result (λ cells. cells ≡ spec.array_length_value s.now t.now) }
+{
+    number_cells(
+        alloc,
+        s,
+        t.ty,
+        i128::from(length_of_base(s, type_of_kid(t, 0))),
+    )
+}
