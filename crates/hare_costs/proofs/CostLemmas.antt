@@ -69,7 +69,8 @@ total-once v t = let z : v t ≡ 1 * v t = omega arith in z ∙ sym (total-one v
 
 cost_of-one : (s : Store) (t : TypedNode) → own_cost s t ≡ cost_of s (once t ∷ [])
 cost_of-one s t =
-    ap (λ n. amount n (node_frame s t)) (total-once (weight_of s) t) ∙ ap (amount (total (weight_of s) (once t ∷ []))) (total-once (node_frame s) t)
+    ap (λ n. amount n (node_frame s t)) (total-once (weight_of s) t)
+    ∙ ap (amount (total (weight_of s) (once t ∷ []))) (total-once (node_frame s) t)
 
 -- ---- copies of copies
 
@@ -77,7 +78,8 @@ if-scaled : (b : Bool) (a m n : ℕ) → (if b then a * m else a * n) ≡ a * (i
 if-scaled true a m n = refl
 if-scaled false a m n = refl
 
-deferred-scaled : (b : Bool) (a own : ℕ) (ts : TypedNodes) → (if b then deferred_copies (a * own) ts else a * own) ≡ a * (if b then deferred_copies own ts else own)
+deferred-scaled : (b : Bool) (a own : ℕ) (ts : TypedNodes)
+    → (if b then deferred_copies (a * own) ts else a * own) ≡ a * (if b then deferred_copies own ts else own)
 deferred-scaled true a own ts = mul_assoc a own (suc (length (exits_each ts)))
 deferred-scaled false a own ts = refl
 
@@ -85,21 +87,24 @@ spread : (a x y : ℕ) → a * x + a * y ≡ a * (x + y)
 spread a x y = omega arith
 
 mutual
-  total-scaled : (v : TypedNode → ℕ) (a own deferred : ℕ) (t : TypedNode) → total v (copied (a * own) (a * deferred) t) ≡ a * total v (copied own deferred t)
+  total-scaled : (v : TypedNode → ℕ) (a own deferred : ℕ) (t : TypedNode)
+      → total v (copied (a * own) (a * deferred) t) ≡ a * total v (copied own deferred t)
   total-scaled v a own deferred (marked h m ts) =
       let t = marked h m ts in
       let inner = inner_copies h.kind own deferred in
       let last : List Copied = record { tree = t; times = own } ∷ [] in
       let one : total v (record { tree = t; times = a * own } ∷ []) ≡ a * total v last
       = total-one v t (a * own) ∙ mul_assoc a own (v t) ∙ ap (λ n. a * n) (sym (total-one v t own)) in
-      ap (λ n. total v (copied_each (has_defers h.kind) n ts ++ record { tree = t; times = a * own } ∷ [])) (if-scaled (is_defer h.kind) a deferred own)
+      ap (λ n. total v (copied_each (has_defers h.kind) n ts ++ record { tree = t; times = a * own } ∷ []))
+      (if-scaled (is_defer h.kind) a deferred own)
       ∙ total-append v (copied_each (has_defers h.kind) (a * inner) ts) (record { tree = t; times = a * own } ∷ [])
       ∙ ap (λ n. n + total v (record { tree = t; times = a * own } ∷ [])) (total-scaled-each v (has_defers h.kind) a inner ts)
       ∙ ap (λ n. a * total v (copied_each (has_defers h.kind) inner ts) + n) one
       ∙ spread a (total v (copied_each (has_defers h.kind) inner ts)) (total v last)
       ∙ ap (λ n. a * n) (sym (total-append v (copied_each (has_defers h.kind) inner ts) last))
 
-  total-scaled-each : (v : TypedNode → ℕ) (b : Bool) (a own : ℕ) (ts : TypedNodes) → total v (copied_each b (a * own) ts) ≡ a * total v (copied_each b own ts)
+  total-scaled-each : (v : TypedNode → ℕ) (b : Bool) (a own : ℕ) (ts : TypedNodes)
+      → total v (copied_each b (a * own) ts) ≡ a * total v (copied_each b own ts)
   total-scaled-each v b a own typed_none = let z : 0 ≡ a * 0 = omega arith in z
   total-scaled-each v b a own (typed_more t ts) =
       let d = if b then deferred_copies own ts else own in
@@ -117,7 +122,8 @@ same-inner true n = refl
 same-inner false n = refl
 
 -- a tree, by its kids and itself
-pub cost-tree : (s : Store) (b : Bool) (h : Head) (m : Mark) (ts : TypedNodes) (t : TypedNode) (inner : Amount) → marked h m ts ≡ t → b ≡ has_defers h.kind
+pub cost-tree : (s : Store) (b : Bool) (h : Head) (m : Mark) (ts : TypedNodes) (t : TypedNode) (inner : Amount) → marked h m ts ≡ t
+    → b ≡ has_defers h.kind
     → inner ≡ cost_of s (copied_each b 1 ts) → plus inner (own_cost s t) ≡ cost_of s (copied 1 1 t)
 cost-tree s b h m ts t inner v g e =
     let u = marked h m ts in
@@ -135,7 +141,8 @@ is_defer-block kind.Case e = cc
 is_defer-block kind.SwitchCase e = cc
 is_defer-block _ e = refl
 
-cost_of-scaled : (s : Store) (b : Bool) (l : ℕ) (ts : TypedNodes) → times (suc l) (cost_of s (copied_each b 1 ts)) ≡ cost_of s (copied_each b (suc l) ts)
+cost_of-scaled : (s : Store) (b : Bool) (l : ℕ) (ts : TypedNodes)
+    → times (suc l) (cost_of s (copied_each b 1 ts)) ≡ cost_of s (copied_each b (suc l) ts)
 cost_of-scaled s b l ts =
     let xs = copied_each b 1 ts in
     let one : suc l * 1 ≡ suc l = omega arith in
@@ -147,8 +154,10 @@ cost_of-scaled s b l ts =
     ∙ ap (λ n. amount n (suc l * total (node_frame s) xs)) x ∙ ap (amount (total (weight_of s) (copied_each b (suc l) ts))) y
 
 -- a deferred expression runs once more than there are exits behind it
-pub cost-defer : (s : Store) (l : ℕ) (b : Bool) (h : Head) (m : Mark) (ts : TypedNodes) (t : TypedNode) (inner : Amount) → marked h m ts ≡ t → is_defer h.kind ≡ true → b ≡ true
-    → inner ≡ cost_of s (copied_each false 1 ts) → plus (times (suc l) inner) (own_cost s t) ≡ cost_of s (copied 1 (if b then 1 * suc l else 1) t)
+pub cost-defer : (s : Store) (l : ℕ) (b : Bool) (h : Head) (m : Mark) (ts : TypedNodes) (t : TypedNode) (inner : Amount)
+    → marked h m ts ≡ t → is_defer h.kind ≡ true → b ≡ true
+    → inner ≡ cost_of s (copied_each false 1 ts)
+    → plus (times (suc l) inner) (own_cost s t) ≡ cost_of s (copied 1 (if b then 1 * suc l else 1) t)
 cost-defer s l b h m ts t inner v d g e =
     let u = marked h m ts in
     let one : 1 * suc l ≡ suc l = omega arith in
@@ -166,8 +175,10 @@ cost-defer s l b h m ts t inner v d g e =
 -- ---- kids
 
 -- the kids from one on, by that one and those behind it
-pub cost-kids : (s : Store) (b : Bool) (ks : List TypedNode) (i j l : ℕ) (t : TypedNode) (own rest : Amount) → j ≡ i + 1 → slice_get ks i ≡ Some t
-    → l ≡ length (exits_each (typed_nodes (drop j ks))) → own ≡ cost_of s (copied 1 (if b then 1 * suc l else 1) t) → rest ≡ cost_of s (copied_each b 1 (typed_nodes (drop j ks)))
+pub cost-kids : (s : Store) (b : Bool) (ks : List TypedNode) (i j l : ℕ) (t : TypedNode) (own rest : Amount) → j ≡ i + 1
+    → slice_get ks i ≡ Some t
+    → l ≡ length (exits_each (typed_nodes (drop j ks))) → own ≡ cost_of s (copied 1 (if b then 1 * suc l else 1) t)
+    → rest ≡ cost_of s (copied_each b 1 (typed_nodes (drop j ks)))
     → plus own rest ≡ cost_of s (copied_each b 1 (typed_nodes (drop i ks)))
 cost-kids s b ks i j l t own rest q g n e f =
     let us = drop j ks in
@@ -182,7 +193,8 @@ cost-kids s b ks i j l t own rest q g n e f =
 abbrev pub parameters_cost : Store → List TypedNode → Amount
 parameters_cost s ks = cost_of s (map once (params_among (typed_nodes ks)))
 
-pub cost-parameters : (s : Store) (ks : List TypedNode) (i j : ℕ) (t : TypedNode) (own rest : Amount) → j ≡ i + 1 → slice_get ks i ≡ Some t → own ≡ cost_of s (map once (as_parameter t))
+pub cost-parameters : (s : Store) (ks : List TypedNode) (i j : ℕ) (t : TypedNode) (own rest : Amount) → j ≡ i + 1
+    → slice_get ks i ≡ Some t → own ≡ cost_of s (map once (as_parameter t))
     → rest ≡ parameters_cost s (drop j ks) → plus own rest ≡ parameters_cost s (drop i ks)
 cost-parameters s ks i j t own rest q g e f =
     let us = drop j ks in
@@ -209,18 +221,21 @@ front-past (u ∷ us) zero e = absurd (omega arith)
 front-past (u ∷ us) (suc i) e = front-past us i (omega arith)
 
 -- the parameters stand in the third kid
-third : (s : Store) (h : Head) (m : Mark) (ks : List TypedNode) (f t : TypedNode) → marked h m (typed_nodes ks) ≡ f → tree_from_front 2 ks ≡ t
+third : (s : Store) (h : Head) (m : Mark) (ks : List TypedNode) (f t : TypedNode) → marked h m (typed_nodes ks) ≡ f
+    → tree_from_front 2 ks ≡ t
     → cost_of s (map once (params_among (kids_of t))) ≡ cost_of s (map once (parameters_of f))
 third s h m ks f t v e =
     ap (λ u. cost_of s (map once (params_among (kids_of u)))) (sym e ∙ sym (ap (tree_from_front 2) (listed-typed ks)))
     ∙ ap (λ u. cost_of s (map once (parameters_of u))) v
 
-pub third-get : (s : Store) (h : Head) (m : Mark) (ks : List TypedNode) (f : TypedNode) (x : Head) (y : Mark) (us : List TypedNode) (t : TypedNode) → marked h m (typed_nodes ks) ≡ f
+pub third-get : (s : Store) (h : Head) (m : Mark) (ks : List TypedNode) (f : TypedNode) (x : Head) (y : Mark) (us : List TypedNode)
+    (t : TypedNode) → marked h m (typed_nodes ks) ≡ f
     → slice_get ks 2 ≡ Some t → marked x y (typed_nodes us) ≡ t → parameters_cost s us ≡ cost_of s (map once (parameters_of f))
 third-get s h m ks f x y us t v e w =
     ap (λ u. cost_of s (map once (params_among (kids_of u)))) w ∙ third s h m ks f t v (front-get ks 2 t e)
 
-pub third-past : (s : Store) (h : Head) (m : Mark) (ks : List TypedNode) (f : TypedNode) → marked h m (typed_nodes ks) ≡ f → length ks ≤ 2 → none ≡ cost_of s (map once (parameters_of f))
+pub third-past : (s : Store) (h : Head) (m : Mark) (ks : List TypedNode) (f : TypedNode) → marked h m (typed_nodes ks) ≡ f → length ks ≤ 2
+    → none ≡ cost_of s (map once (parameters_of f))
 third-past s h m ks f v e = third s h m ks f missing v (front-past ks 2 e)
 
 last-get : (ts : List TypedNode) (i : ℕ) (t : TypedNode) → i + 1 ≡ length ts → slice_get ts i ≡ Some t → last_of ts ≡ t ∷ []
@@ -231,7 +246,8 @@ last-get (u ∷ v ∷ vs) zero t h e = absurd (omega arith)
 last-get (u ∷ v ∷ vs) (suc i) t h e = last-get (v ∷ vs) i t (omega arith) e
 
 -- the body is the last kid
-pub body-last : (s : Store) (h : Head) (m : Mark) (ks : List TypedNode) (f : TypedNode) (i : ℕ) (t : TypedNode) → marked h m (typed_nodes ks) ≡ f → i + 1 ≡ length ks → slice_get ks i ≡ Some t
+pub body-last : (s : Store) (h : Head) (m : Mark) (ks : List TypedNode) (f : TypedNode) (i : ℕ) (t : TypedNode)
+    → marked h m (typed_nodes ks) ≡ f → i + 1 ≡ length ks → slice_get ks i ≡ Some t
     → cost_of s (copied 1 1 t) ≡ cost_of s (flat_map (copied 1 1) (body_of f))
 body-last s h m ks f i t v w e =
     ap (cost_of s) (sym (append-nil (copied 1 1 t)))

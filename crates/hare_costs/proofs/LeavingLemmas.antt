@@ -45,7 +45,8 @@ one-exit l = of l.way l.label.now
 
 as-many : (xs : List Leaving) → length (flat_map exit_of xs) ≡ length xs
 as-many [] = refl
-as-many (x ∷ xs) = length-append (exit_of x) (flat_map exit_of xs) ∙ ap (λ n. n + length (flat_map exit_of xs)) (one-exit x) ∙ omega (arith, as-many xs)
+as-many (x ∷ xs) = length-append (exit_of x) (flat_map exit_of xs) ∙ ap (λ n. n + length (flat_map exit_of xs)) (one-exit x)
+    ∙ omega (arith, as-many xs)
 
 pub meets-length : (a b : List Leaving) (es : List Exit) → Meets a b es → length b ≡ length a + length es
 meets-length a b es p =
@@ -55,7 +56,8 @@ meets-length a b es p =
 
 -- ---- what is kept
 
-kept-one : (k : Kind) (own : List ℕ) (l : Leaving) (b : Bool) → ends k own l ≡ b → filter (λ e. not (ends_at k own e)) (exit_of l) ≡ cond (not b) (exit_of l) []
+kept-one : (k : Kind) (own : List ℕ) (l : Leaving) (b : Bool) → ends k own l ≡ b
+    → filter (λ e. not (ends_at k own e)) (exit_of l) ≡ cond (not b) (exit_of l) []
 kept-one k own l b h = of l.way l.label.now h
   where
     of : (w : Way) (x : List ℕ) → first_is (ends_at k own) (exit_by (way_of (kind_by w)) x) ≡ b
@@ -64,13 +66,18 @@ kept-one k own l b h = of l.way l.label.now h
     of way.Break x e = ap (λ c. cond (not c) (exit_by (way_of (kind_by way.Break)) x) []) e
     of way.Yield x e = ap (λ c. cond (not c) (exit_by (way_of (kind_by way.Yield)) x) []) e
 
-first-kept : (k : Kind) (own : List ℕ) (x : Leaving) (ys zs : List Leaving) (b : Bool) → flat_map exit_of ys ≡ filter (λ e. not (ends_at k own e)) (flat_map exit_of zs) → ends k own x ≡ b
-    → flat_map exit_of (cond (not b) (x ∷ ys) ys) ≡ filter (λ e. not (ends_at k own e)) (exit_of x) ++ filter (λ e. not (ends_at k own e)) (flat_map exit_of zs)
-first-kept k own x ys zs true h e = h ∙ ap (λ xs. xs ++ filter (λ e. not (ends_at k own e)) (flat_map exit_of zs)) (sym (kept-one k own x true e))
+first-kept : (k : Kind) (own : List ℕ) (x : Leaving) (ys zs : List Leaving) (b : Bool)
+    → flat_map exit_of ys ≡ filter (λ e. not (ends_at k own e)) (flat_map exit_of zs) → ends k own x ≡ b
+    → flat_map exit_of (cond (not b) (x ∷ ys) ys) ≡ filter (λ e. not (ends_at k own e)) (exit_of x) ++ filter (λ e. not (ends_at k own e))
+    (flat_map exit_of zs)
+first-kept k own x ys zs true h e = h
+    ∙ ap (λ xs. xs ++ filter (λ e. not (ends_at k own e)) (flat_map exit_of zs)) (sym (kept-one k own x true e))
 first-kept k own x ys zs false h e =
-    ap (λ xs. exit_of x ++ xs) h ∙ ap (λ xs. xs ++ filter (λ e. not (ends_at k own e)) (flat_map exit_of zs)) (sym (kept-one k own x false e))
+    ap (λ xs. exit_of x ++ xs) h
+    ∙ ap (λ xs. xs ++ filter (λ e. not (ends_at k own e)) (flat_map exit_of zs)) (sym (kept-one k own x false e))
 
-kept-all : (k : Kind) (own : List ℕ) (xs : List Leaving) → flat_map exit_of (filter (leaves k own) xs) ≡ filter (λ e. not (ends_at k own e)) (flat_map exit_of xs)
+kept-all : (k : Kind) (own : List ℕ) (xs : List Leaving)
+    → flat_map exit_of (filter (leaves k own) xs) ≡ filter (λ e. not (ends_at k own e)) (flat_map exit_of xs)
 kept-all k own [] = refl
 kept-all k own (x ∷ xs) =
     first-kept k own x (filter (leaves k own) xs) xs (ends k own x) (kept-all k own xs) refl
@@ -110,10 +117,12 @@ kept_so_far k own xs kept i = take kept xs ++ filter (leaves k own) (drop i xs)
 
 next-kept : (p : Leaving → Bool) (xs : List Leaving) (i : ℕ) (x : Leaving) (b : Bool) → slice_get xs i ≡ Some x → p x ≡ b
     → filter p (drop i xs) ≡ cond b (x ∷ filter p (drop (i + 1) xs)) (filter p (drop (i + 1) xs))
-next-kept p xs i x b g e = ap (filter p) (drop-get xs i x g) ∙ ap (λ c. cond c (x ∷ filter p (drop (i + 1) xs)) (filter p (drop (i + 1) xs))) e
+next-kept p xs i x b g e = ap (filter p) (drop-get xs i x g)
+    ∙ ap (λ c. cond c (x ∷ filter p (drop (i + 1) xs)) (filter p (drop (i + 1) xs))) e
 
 -- one more is kept
-pub kept-moved : (k : Kind) (own : List ℕ) (xs : List Leaving) (kept i : ℕ) (x : Leaving) → kept ≤ i → i < length xs → slice_get xs i ≡ Some x → ends k own x ≡ false
+pub kept-moved : (k : Kind) (own : List ℕ) (xs : List Leaving) (kept i : ℕ) (x : Leaving) → kept ≤ i → i < length xs
+    → slice_get xs i ≡ Some x → ends k own x ≡ false
     → kept_so_far k own (set xs kept x) (kept + 1) (i + 1) ≡ kept_so_far k own xs kept i
 kept-moved k own xs kept i x h l g e =
     let p = leaves k own in
@@ -134,22 +143,27 @@ kept-done k own xs kept i l = sym (append-nil (take kept xs)) ∙ ap (λ ys. tak
 -- ---- of trees
 
 -- what leaves a tree is what its kids and it leave with, but for what ends there
-pub meets-tree : (a b c d : List Leaving) (n : ℕ) (own : List ℕ) (h : Head) (m : Mark) (ts : TypedNodes) (t : TypedNode) → marked h m ts ≡ t → own ≡ h.text → n ≡ length a
+pub meets-tree : (a b c d : List Leaving) (n : ℕ) (own : List ℕ) (h : Head) (m : Mark) (ts : TypedNodes) (t : TypedNode)
+    → marked h m ts ≡ t → own ≡ h.text → n ≡ length a
     → Meets a b (exits_each ts) → Meets b c (own_exit t) → d ≡ take n c ++ filter (leaves h.kind own) (drop n c) → Meets a d (exits t)
 meets-tree a b c d n own h m ts t v e l p q f =
     let u = marked h m ts in
     let q' : Meets b c (own_exit u) = subst (λ x. Meets b c (own_exit x)) (sym v) q in
     let all : Meets a c (own_exit u ++ exits_each ts) = meets-append a b c (exits_each ts) (own_exit u) p q' in
     let kept = meets-kept a c h.kind h.text (own_exit u ++ exits_each ts) all in
-    let same : d ≡ take (length a) c ++ filter (leaves h.kind h.text) (drop (length a) c) = f ∙ ap (λ i. take i c ++ filter (leaves h.kind own) (drop i c)) l ∙ ap (λ x. take (length a) c ++ filter (leaves h.kind x) (drop (length a) c)) e in
+    let same : d ≡ take (length a) c ++ filter (leaves h.kind h.text) (drop (length a) c) = f
+    ∙ ap (λ i. take i c ++ filter (leaves h.kind own) (drop i c)) l
+    ∙ ap (λ x. take (length a) c ++ filter (leaves h.kind x) (drop (length a) c)) e in
     let done : Meets a d (exits u) = subst (λ x. Meets a x (exits u)) (sym same) kept in
     subst (λ x. Meets a d (exits x)) v done
 
 -- the kids from one on, by that one and those behind it
-pub meets-kids : (a b c : List Leaving) (ks : List TypedNode) (i j : ℕ) (t : TypedNode) → j ≡ i + 1 → slice_get ks i ≡ Some t → Meets a b (exits_each (typed_nodes (drop j ks)))
+pub meets-kids : (a b c : List Leaving) (ks : List TypedNode) (i j : ℕ) (t : TypedNode) → j ≡ i + 1 → slice_get ks i ≡ Some t
+    → Meets a b (exits_each (typed_nodes (drop j ks)))
     → Meets b c (exits t) → Meets a c (exits_each (typed_nodes (drop i ks)))
 meets-kids a b c ks i j t q g p r =
-    let all : Meets a c (exits t ++ exits_each (typed_nodes (drop j ks))) = meets-append a b c (exits_each (typed_nodes (drop j ks))) (exits t) p r in
+    let all : Meets a c (exits t ++ exits_each (typed_nodes (drop j ks))) = meets-append a b c (exits_each (typed_nodes (drop j ks)))
+    (exits t) p r in
     let same : exits t ++ exits_each (typed_nodes (drop j ks)) ≡ exits_each (typed_nodes (drop i ks))
     = ap (λ k. exits t ++ exits_each (typed_nodes (drop k ks))) q ∙ ap (λ us. exits_each (typed_nodes us)) (sym (drop-get ks i t g)) in
     subst (Meets a c) same all
@@ -161,10 +175,12 @@ ends-defer _ own e h = cc
 none-left : (k : Kind) (own : List ℕ) (es : List Exit) → is_defer k ≡ true → filter (λ e. not (ends_at k own e)) es ≡ []
 none-left k own [] h = refl
 none-left k own (e ∷ es) h =
-    ap (λ b. cond (not b) (e ∷ filter (λ x. not (ends_at k own x)) es) (filter (λ x. not (ends_at k own x)) es)) (ends-defer k own e h) ∙ none-left k own es h
+    ap (λ b. cond (not b) (e ∷ filter (λ x. not (ends_at k own x)) es) (filter (λ x. not (ends_at k own x)) es)) (ends-defer k own e h)
+    ∙ none-left k own es h
 
 -- nothing leaves a deferred expression
-pub meets-defer : (a b c : List Leaving) (n : ℕ) (es : List Exit) (h : Head) (m : Mark) (ts : TypedNodes) (t : TypedNode) → marked h m ts ≡ t → is_defer h.kind ≡ true → n ≡ length a
+pub meets-defer : (a b c : List Leaving) (n : ℕ) (es : List Exit) (h : Head) (m : Mark) (ts : TypedNodes) (t : TypedNode)
+    → marked h m ts ≡ t → is_defer h.kind ≡ true → n ≡ length a
     → Meets a b es → c ≡ take n b → Meets a c (exits t)
 meets-defer a b c n es h m ts t v d l p f =
     let front : c ≡ a = f ∙ ap (λ i. take i b) l ∙ ap (take (length a)) p.grows ∙ take-append_seam a p.fresh in

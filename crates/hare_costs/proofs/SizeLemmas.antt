@@ -19,11 +19,13 @@ second_given-past [] h = cc
 second_given-past (u ∷ []) h = cc
 second_given-past (u ∷ v ∷ vs) h = absurd (omega arith)
 
-pub first_kind-get : (ts : List TypedNode) (x t : TypedNode) → slice_get ts 0 ≡ Some t → x ≡ t → kind_of x ≡ kind_of (first_of (typed_nodes ts))
+pub first_kind-get : (ts : List TypedNode) (x t : TypedNode) → slice_get ts 0 ≡ Some t → x ≡ t
+    → kind_of x ≡ kind_of (first_of (typed_nodes ts))
 first_kind-get [] x t e h = cc
 first_kind-get (u ∷ us) x t e h = let k : u ≡ t = cc in ap kind_of (h ∙ sym k)
 
-pub by_reference-get : (ts us : List TypedNode) (h : Head) (m : Mark) (t : TypedNode) (k : Kind) → slice_get ts 0 ≡ Some t → marked h m (typed_nodes us) ≡ t
+pub by_reference-get : (ts us : List TypedNode) (h : Head) (m : Mark) (t : TypedNode) (k : Kind) → slice_get ts 0 ≡ Some t
+    → marked h m (typed_nodes us) ≡ t
     → k ≡ kind_of (first_of (typed_nodes us)) → k ≡ by_reference (first_of (typed_nodes ts))
 by_reference-get [] us h m t k e v w = cc
 by_reference-get (x ∷ xs) us h m t k e v w =

@@ -1,8 +1,7 @@
 -- The first of some elements for which something holds.
-use Rattle.std.proofs.Common.{◌≡◌, ℕ, zero, suc, ◌+◌, ◌<◌, ◌≤◌, Bool, true, false, cond, List, [], ◌∷◌, length, map, Some, None, Option, nat_lt, ◌⊎◌, inl, inr, refl, ap, sym, subst, ◌∙◌, arith, rules}
+use Rattle.std.proofs.Common.{◌≡◌, ℕ, zero, suc, ◌+◌, ◌<◌, ◌≤◌, Bool, true, false, cond, List, [], ◌∷◌, length, map, Some, None, Option, nat_lt, inl, inr, refl, ap, sym, ◌∙◌, arith}
 use Rattle.std.specs.Prelude.{slice_get, not, ◌||◌, position, option_map}
 use Rattle.std.specs.List.{prefix_len, list_any}
-use Rattle.std.proofs.lemmas.List.{length-map}
 use Rattle.std.proofs.lemmas.Bool.{lt-ltb, le-ltb}
 use Rattle.std.proofs.lemmas.Option.{slice_get-map, slice_get_within}
 use Rattle.hare_graph.proofs.Elements.{Other, other}
@@ -18,7 +17,8 @@ same-element : {A : Type 0} (xs : List A) (k i : ℕ) (x y : A) → k ≡ i → 
 same-element xs k i x y q e g = let h : slice_get xs i ≡ Some x = ap (slice_get xs) (sym q) ∙ e in cc
 
 -- nor of one more
-pub none-more : {A : Type 0} (p : A → Bool) (xs : List A) (i : ℕ) (y : A) → slice_get xs i ≡ Some y → p y ≡ false → NoneBelow p xs i → NoneBelow p xs (i + 1)
+pub none-more : {A : Type 0} (p : A → Bool) (xs : List A) (i : ℕ) (y : A) → slice_get xs i ≡ Some y → p y ≡ false → NoneBelow p xs i
+    → NoneBelow p xs (i + 1)
 none-more p xs i y g e none k x l h = by (other k i)
   where
     by : Other k i → p x ≡ false
@@ -27,7 +27,8 @@ none-more p xs i y g e none k x l h = by (other k i)
 
 -- ---- where the first stands
 
-first-length : {A : Type 0} (p : A → Bool) (xs : List A) (i : ℕ) (x : A) → NoneBelow p xs i → slice_get xs i ≡ Some x → p x ≡ true → prefix_len (λ y. not (p y)) xs ≡ i
+first-length : {A : Type 0} (p : A → Bool) (xs : List A) (i : ℕ) (x : A) → NoneBelow p xs i → slice_get xs i ≡ Some x → p x ≡ true
+    → prefix_len (λ y. not (p y)) xs ≡ i
 first-length p [] i x none g e = cc
 first-length p (y ∷ ys) zero x none g e =
     let q : p y ≡ true = let h : y ≡ x = cc in ap p h ∙ e in
@@ -37,7 +38,8 @@ first-length p (y ∷ ys) (suc i) x none g e =
     let r : prefix_len (λ z. not (p z)) ys ≡ i = first-length p ys i x (λ k z l h. none (suc k) z (omega arith) h) g e in
     ap (λ b. cond (not b) (1 + prefix_len (λ z. not (p z)) ys) 0) q ∙ omega arith
 
-pub position-here : {A : Type 0} (p : A → Bool) (xs : List A) (i : ℕ) (x : A) → NoneBelow p xs i → slice_get xs i ≡ Some x → p x ≡ true → Some i ≡ position p xs
+pub position-here : {A : Type 0} (p : A → Bool) (xs : List A) (i : ℕ) (x : A) → NoneBelow p xs i → slice_get xs i ≡ Some x → p x ≡ true
+    → Some i ≡ position p xs
 position-here p xs i x none g e =
     sym (ap (λ n. cond (nat_lt n (length xs)) (Some n) None) (first-length p xs i x none g e)
     ∙ ap (λ b. cond b (Some i) None) (lt-ltb i (length xs) (slice_get_within xs i x g)))
@@ -54,7 +56,8 @@ position-nowhere p xs i l none =
     sym (ap (λ n. cond (nat_lt n (length xs)) (Some n) None) (all-length p xs (λ k x m h. none k x (omega arith) h))
     ∙ ap (λ b. cond b (Some (length xs)) None) (le-ltb (length xs) (length xs) (omega arith)))
 
-prefix-same : {A : Type 0} (p q : A → Bool) (xs : List A) → ((x : A) → p x ≡ q x) → prefix_len (λ y. not (p y)) xs ≡ prefix_len (λ y. not (q y)) xs
+prefix-same : {A : Type 0} (p q : A → Bool) (xs : List A) → ((x : A) → p x ≡ q x)
+    → prefix_len (λ y. not (p y)) xs ≡ prefix_len (λ y. not (q y)) xs
 prefix-same p q [] h = refl
 prefix-same p q (x ∷ xs) h =
     ap (λ b. cond (not b) (1 + prefix_len (λ y. not (p y)) xs) 0) (h x) ∙ ap (λ n. cond (not (q x)) (1 + n) 0) (prefix-same p q xs h)
@@ -78,11 +81,13 @@ pub any-nowhere : {A : Type 0} (p : A → Bool) (xs : List A) (i : ℕ) → leng
 any-nowhere p [] i l none = refl
 any-nowhere p (y ∷ ys) zero l none = absurd (omega arith)
 any-nowhere p (y ∷ ys) (suc i) l none =
-    any-nowhere p ys i (omega arith) (λ k z m h. none (suc k) z (omega arith) h) ∙ sym (ap (λ b. b || list_any p ys) (none 0 y (omega arith) refl))
+    any-nowhere p ys i (omega arith) (λ k z m h. none (suc k) z (omega arith) h)
+    ∙ sym (ap (λ b. b || list_any p ys) (none 0 y (omega arith) refl))
 
 -- ---- of mapped lists
 
-pub below-mapped : {A B : Type 0} (f : A → B) (p : B → Bool) (xs : List A) (i : ℕ) → NoneBelow (λ x. p (f x)) xs i → NoneBelow p (map f xs) i
+pub below-mapped : {A B : Type 0} (f : A → B) (p : B → Bool) (xs : List A) (i : ℕ) → NoneBelow (λ x. p (f x)) xs i
+    → NoneBelow p (map f xs) i
 below-mapped {A = A} f p xs i none k y l e = by (slice_get xs k) refl
   where
     by : (o : Option A) → slice_get xs k ≡ o → p y ≡ false

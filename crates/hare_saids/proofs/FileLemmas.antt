@@ -19,14 +19,16 @@ use Rattle.hare_saids.specs.Saids.{decls, saids}
 -- ---- one more of a list
 
 -- one element more has been mapped and put behind others
-pub mapped-more : {A B : Type 0} (f : A → B) (now new all : List B) (xs : List A) (i : ℕ) (x : A) (y : B) → slice_get xs i ≡ Some x → y ≡ f x → new ≡ now ++ y ∷ []
+pub mapped-more : {A B : Type 0} (f : A → B) (now new all : List B) (xs : List A) (i : ℕ) (x : A) (y : B) → slice_get xs i ≡ Some x
+    → y ≡ f x → new ≡ now ++ y ∷ []
     → now ++ map f (drop i xs) ≡ all → new ++ map f (drop (i + 1) xs) ≡ all
 mapped-more f now new all xs i x y g e n w =
     ap (λ z. z ++ map f (drop (i + 1) xs)) (n ∙ ap (λ z. now ++ z ∷ []) e) ∙ append_assoc now (f x ∷ []) (map f (drop (i + 1) xs))
     ∙ ap (λ zs. now ++ map f zs) (sym (drop-there xs i x g)) ∙ w
 
 -- all files have been gone over
-pub file-done : (f : Node → Said) (now all : List Said) (fs : List FileTree) (i : ℕ) → length fs ≤ i → now ++ map f (decls (drop i fs)) ≡ all → now ≡ all
+pub file-done : (f : Node → Said) (now all : List Said) (fs : List FileTree) (i : ℕ) → length fs ≤ i
+    → now ++ map f (decls (drop i fs)) ≡ all → now ≡ all
 file-done f now all fs i l w = sym (append-nil now) ∙ ap (λ zs. now ++ map f (decls zs)) (sym (drop-past fs i l)) ∙ w
 
 -- ---- numbers are those of declarations

@@ -10,7 +10,8 @@ loop-i-preserved c =
           rw (w.exits-is, w.kept-is) (record {
             behind = omega arith;
             kept =
-                kept-moved c.args.k c.args.own.now c.loop-i.exits c.loop-i.kept c.loop-i.i c.exit_at-exit.result c.loop-i.invariant.behind (omega arith) c.exit_at-exit.ensures
+                kept-moved c.args.k c.args.own.now c.loop-i.exits c.loop-i.kept c.loop-i.i c.exit_at-exit.result c.loop-i.invariant.behind
+                (omega arith) c.exit_at-exit.ensures
                 (sym c.ends_at.ensures ∙ w.if-not-ends_at.true)
                 ∙ c.loop-i.invariant.kept;
           })

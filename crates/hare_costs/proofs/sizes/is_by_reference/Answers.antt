@@ -6,4 +6,5 @@ use Rattle.hare_costs.proofs.sizes.is_by_reference.Goals as goal
 pub returns-in-Some : goal.returns-in-Some
 returns-in-Some c =
     c.is_reference.ensures
-    ∙ ap is_reference (by_reference-get c.args.kids.now c.binding.inside.kids _ _ c.in-Some.binding.now c.first_kind.result c.in-Some.ensures.found c.binding.view_is c.first_kind.ensures)
+    ∙ ap is_reference (by_reference-get c.args.kids.now c.binding.inside.kids _ _ c.in-Some.binding.now c.first_kind.result
+    c.in-Some.ensures.found c.binding.view_is c.first_kind.ensures)

@@ -10,13 +10,15 @@ use Rattle.hare_limits.proofs.entries.entry.Goals as goal
 
 pub returns-in_default-clause-err : goal.returns-in_default-clause-err
 returns-in_default-clause-err c =
-    let same = main-same c.args.paths.now c.in_ok-homes.homes.first.items c.in_ok-homes.homes.kept.items (map erase c.args.decls.now) c.in_ok-homes.ensures in
+    let same = main-same c.args.paths.now c.in_ok-homes.homes.first.items c.in_ok-homes.homes.kept.items (map erase c.args.decls.now)
+    c.in_ok-homes.ensures in
     let none : main_of c.args.paths.now (map erase c.args.decls.now) ≡ None = sym same ∙ sym c.main_among.ensures ∙ c.in_default.is in
     no_main none c.bad_entry.ensures
 
 pub returns-then-is_entry_shaped-clause-ok : goal.returns-then-is_entry_shaped-clause-ok
 returns-then-is_entry_shaped-clause-ok c =
-    let same = main-same c.args.paths.now c.in_ok-homes.homes.first.items c.in_ok-homes.homes.kept.items (map erase c.args.decls.now) c.in_ok-homes.ensures in
+    let same = main-same c.args.paths.now c.in_ok-homes.homes.first.items c.in_ok-homes.homes.kept.items (map erase c.args.decls.now)
+    c.in_ok-homes.ensures in
     record {
       main = sym same ∙ sym c.in-Some.ensures;
       tree = erase c.in-Some-get.decl.now;
@@ -26,8 +28,10 @@ returns-then-is_entry_shaped-clause-ok c =
 
 pub returns-clause-err : goal.returns-clause-err
 returns-clause-err c =
-    let same = main-same c.args.paths.now c.in_ok-homes.homes.first.items c.in_ok-homes.homes.kept.items (map erase c.args.decls.now) c.in_ok-homes.ensures in
+    let same = main-same c.args.paths.now c.in_ok-homes.homes.first.items c.in_ok-homes.homes.kept.items (map erase c.args.decls.now)
+    c.in_ok-homes.ensures in
     odd_main c.in-Some.number (erase c.in-Some-get.decl.now) (sym same ∙ sym c.in-Some.ensures)
-    (erased-there c.args.decls.now c.in-Some.number c.in-Some-get.decl.now c.in-Some-get.ensures.found) (sym c.is_entry_shaped.ensures ∙ c.if-is_entry_shaped.false)
+    (erased-there c.args.decls.now c.in-Some.number c.in-Some-get.decl.now c.in-Some-get.ensures.found) (sym c.is_entry_shaped.ensures
+    ∙ c.if-is_entry_shaped.false)
     (c.bad_entry-else-is_entry_shaped.ensures
     ∙ ap (λ (u : TypedNode). fault 46 (place_of (erase u))) c.behind-decl.view_is ∙ ap (λ u. fault 46 (place_of u)) c.name_in.ensures)

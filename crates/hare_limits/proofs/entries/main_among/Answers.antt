@@ -16,7 +16,8 @@ returns-then-is_main c =
 
 pub loop-i-preserved : goal.loop-i-preserved
 loop-i-preserved c =
-    none-more (λ t. is_main_by c.args.homes.now.first.items c.args.homes.now.kept.items (erase t)) c.args.decls.now c.loop-i.i c.in-Some.decl.now c.in-Some.ensures.found
+    none-more (λ t. is_main_by c.args.homes.now.first.items c.args.homes.now.kept.items (erase t)) c.args.decls.now c.loop-i.i
+    c.in-Some.decl.now c.in-Some.ensures.found
     (sym c.is_main.ensures ∙ c.if-is_main.false) c.loop-i.invariant
 
 pub returns : goal.returns

@@ -17,7 +17,8 @@ returns-then-is_param c =
 pub loop-i-preserved : goal.loop-i-preserved
 loop-i-preserved c =
     none-more (λ t. is_param (head (erase t)).kind) c.args.kids.now c.loop-i.i c.in-Some.t.now c.in-Some.ensures.found
-    (ap (λ (u : TypedNode). is_param (head (erase u)).kind) (sym c.t.view_is) ∙ sym c.is_param.ensures ∙ c.if-is_param.false) c.loop-i.invariant
+    (ap (λ (u : TypedNode). is_param (head (erase u)).kind) (sym c.t.view_is) ∙ sym c.is_param.ensures
+    ∙ c.if-is_param.false) c.loop-i.invariant
 
 pub returns : goal.returns
 returns c =

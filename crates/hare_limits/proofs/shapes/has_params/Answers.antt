@@ -9,5 +9,6 @@ use Rattle.hare_limits.proofs.shapes.has_params.Goals as goal
 pub returns : goal.returns
 returns c =
     c.has_param_among.ensures
-    ∙ sym (ap (list_any (λ (p : Node). is_param (head p).kind)) (kids-erased _ _ c.behind-t.inside.kids c.kid.result.now c.behind-t.view_is))
+    ∙ sym (ap (list_any (λ (p : Node). is_param (head p).kind))
+    (kids-erased _ _ c.behind-t.inside.kids c.kid.result.now c.behind-t.view_is))
     ∙ ap (λ u. list_any (λ (p : Node). is_param (head p).kind) (kids u)) c.kid.ensures
