@@ -17,7 +17,8 @@ match_shaped : is_shaped expression match_of_null ≡ true
 unfolding is_shaped
 match_shaped = refl
 
-pub match_told : (s : Store) (c : Case) (n : Node) (xs : List TypedNode) → n ≡ match_of_null → xs ≡ null_operand ∷ [] → c.hint ≡ hint.None → c.yields ≡ []
+pub match_told : (s : Store) (c : Case) (n : Node) (xs : List TypedNode) → n ≡ match_of_null → xs ≡ null_operand ∷ [] →
+    c.hint ≡ hint.None → c.yields ≡ []
     → IsToldNode s c n xs
 match_told s c n xs e k h y = record {
   shaped = (expression, ap (is_shaped expression) e ∙ match_shaped);

@@ -42,18 +42,23 @@ pub number_stays : (s f : Store) → IsStore s → IsLater s f → (t : ℕ) →
 number_stays s f v l t d constant.Absent = refl
 number_stays s f v l t d (constant.Known cs os) =
     number_same (option_and_then shape_of_row (base_row s (Of t))) cs
-    ∙ ap (λ (o : Option Row). option_and_then (λ shape. number_of_scalar (spelled shape cs)) (option_and_then shape_of_row o)) (base_row_stays s f v l (Of t) d)
+    ∙ ap (λ (o : Option Row). option_and_then (λ shape. number_of_scalar (spelled shape cs)) (option_and_then shape_of_row o))
+    (base_row_stays s f v l (Of t) d)
 
 -- ---- one label
 
 module _ (f : Store) (o : Option ℕ) (v : Const) where
-  pub label_text : (t : ℕ) → o ≡ Some t → true ≡ is_word keyword.Str (base_row f (Of t)) → rules.text_label (rules.text_in v) ≡ rules.label_of f o v
+  pub label_text : (t : ℕ) → o ≡ Some t → true ≡ is_word keyword.Str (base_row f (Of t)) →
+      rules.text_label (rules.text_in v) ≡ rules.label_of f o v
   label_text t e h =
-      sym (ap (λ p. rules.label_of f p v) e ∙ ap (λ b. cond b (rules.text_label (rules.text_in v)) (rules.value_label (number_in f t v))) (sym h))
+      sym (ap (λ p. rules.label_of f p v) e ∙
+      ap (λ b. cond b (rules.text_label (rules.text_in v)) (rules.value_label (number_in f t v))) (sym h))
 
-  pub label_number : (t : ℕ) → o ≡ Some t → false ≡ is_word keyword.Str (base_row f (Of t)) → rules.value_label (number_in f t v) ≡ rules.label_of f o v
+  pub label_number : (t : ℕ) → o ≡ Some t → false ≡ is_word keyword.Str (base_row f (Of t)) →
+      rules.value_label (number_in f t v) ≡ rules.label_of f o v
   label_number t e h =
-      sym (ap (λ p. rules.label_of f p v) e ∙ ap (λ b. cond b (rules.text_label (rules.text_in v)) (rules.value_label (number_in f t v))) (sym h))
+      sym (ap (λ p. rules.label_of f p v) e ∙
+      ap (λ b. cond b (rules.text_label (rules.text_in v)) (rules.value_label (number_in f t v))) (sym h))
 
   pub label_none : o ≡ None → rules.Lacking ≡ rules.label_of f o v
   label_none e = sym (ap (λ p. rules.label_of f p v) e)
@@ -61,13 +66,15 @@ module _ (f : Store) (o : Option ℕ) (v : Const) where
 -- ---- one more
 
 -- what stands there, and what is left to be put
-put_one : {A B : Type 0} (g : A → B) (old new : List A) (x : A) (y : B) (rest : List B) → new ≡ old ++ x ∷ [] → g x ≡ y → map g new ++ rest ≡ map g old ++ (y ∷ rest)
+put_one : {A B : Type 0} (g : A → B) (old new : List A) (x : A) (y : B) (rest : List B) → new ≡ old ++ x ∷ [] → g x ≡ y →
+    map g new ++ rest ≡ map g old ++ (y ∷ rest)
 put_one g old new x y rest e h =
     ap (λ us. map g us ++ rest) e ∙ ap (λ us. us ++ rest) (map-append g old (x ∷ [])) ∙ append_assoc (map g old) (g x ∷ []) rest
     ∙ ap (λ z. map g old ++ (z ∷ rest)) h
 
 module _ (f : Store) (o : Option ℕ) where
-  pub value_put : (vs : List TypedNode) (i : ℕ) (v : TypedNode) (old new : List Labelled) (x : Labelled) (all : List rules.Labelled) → slice_get vs i ≡ Some v
+  pub value_put : (vs : List TypedNode) (i : ℕ) (v : TypedNode) (old new : List Labelled) (x : Labelled) (all : List rules.Labelled) →
+      slice_get vs i ≡ Some v
       → i < length vs - 1 → new ≡ old ++ x ∷ [] → told x ≡ labelled f o v
       → map told old ++ map (labelled f o) (but_last (drop i vs)) ≡ all
       → map told new ++ map (labelled f o) (but_last (drop (i + 1) vs)) ≡ all
@@ -88,15 +95,18 @@ module _ (f : Store) (o : Option ℕ) where
       sym (ap (map (labelled f o)) h)
       ∙ sym (ap (λ (b : Bool). cond b (map (labelled f o) (values_of x)) (record { place = place_of x; label = rules.Default } ∷ [])) e)
 
-  pub labels_default : (x : TypedNode) (old new : List Labelled) (y : Labelled) → is_there (kid_from_front 0 x) ≡ false → new ≡ old ++ y ∷ []
+  pub labels_default : (x : TypedNode) (old new : List Labelled) (y : Labelled) → is_there (kid_from_front 0 x) ≡ false →
+      new ≡ old ++ y ∷ []
       → told y ≡ record { place = place_of x; label = rules.Default } → map told new ≡ map told old ++ labels_of f o x
   labels_default x old new y e h k =
       sym (append-nil (map told new)) ∙ put_one told old new y (record { place = place_of x; label = rules.Default }) [] h k
-      ∙ sym (ap (λ (b : Bool). map told old ++ cond b (map (labelled f o) (values_of x)) (record { place = place_of x; label = rules.Default } ∷ [])) e)
+      ∙ sym (ap (λ (b : Bool). map told old ++ cond b (map (labelled f o) (values_of x))
+      (record { place = place_of x; label = rules.Default } ∷ [])) e)
 
   -- ---- of all cases
 
-  pub case_put : (xs : List TypedNode) (i : ℕ) (x : TypedNode) (old new : List Labelled) (all : List rules.Labelled) → slice_get xs i ≡ Some x
+  pub case_put : (xs : List TypedNode) (i : ℕ) (x : TypedNode) (old new : List Labelled) (all : List rules.Labelled) →
+      slice_get xs i ≡ Some x
       → map told new ≡ map told old ++ labels_of f o x
       → map told old ++ each_label f o (drop i xs) ≡ all
       → map told new ++ each_label f o (drop (i + 1) xs) ≡ all

@@ -17,7 +17,8 @@ use Rattle.rule_switch.specs.Odd.{is_odd}
 
 -- ---- the first kid of a case
 
-pub first_kid : (x : TypedNode) (h : Head) (m : Mark) (ks : List TypedNode) → marked h m (typed_nodes ks) ≡ x → kid_from_front 0 x ≡ tree_from_front 0 ks
+pub first_kid : (x : TypedNode) (h : Head) (m : Mark) (ks : List TypedNode) → marked h m (typed_nodes ks) ≡ x →
+    kid_from_front 0 x ≡ tree_from_front 0 ks
 first_kid x h m ks e = sym (ap (kid_from_front 0) e) ∙ ap (tree_from_front 0) (listed-typed ks)
 
 kids_listed : (x : TypedNode) (h : Head) (m : Mark) (ks : List TypedNode) → marked h m (typed_nodes ks) ≡ x → listed_nodes (kids_of x) ≡ ks
@@ -28,7 +29,8 @@ module _ (x : TypedNode) (h : Head) (m : Mark) (ks : List TypedNode) (e : marked
   pub values_in : (y : TypedNode) (j : Head) (n : Mark) (vs : List TypedNode) → slice_get ks 0 ≡ Some y → marked j n (typed_nodes vs) ≡ y
       → values_of x ≡ but_last vs
   values_in y j n vs g k =
-      ap (λ z. but_last (listed_nodes (kids_of z))) (first_kid x h m ks e ∙ sym (front_found ks 0 y g)) ∙ ap but_last (kids_listed y j n vs k)
+      ap (λ z. but_last (listed_nodes (kids_of z))) (first_kid x h m ks e ∙ sym (front_found ks 0 y g)) ∙
+      ap but_last (kids_listed y j n vs k)
 
   pub values_none : length ks ≤ 0 → values_of x ≡ []
   values_none g = ap (λ z. but_last (listed_nodes (kids_of z))) (first_kid x h m ks e ∙ sym (front_past ks 0 g))
@@ -40,10 +42,12 @@ odd_place vs = option_map place_of (find is_odd vs)
 
 module _ (vs : List TypedNode) (i : ℕ) (x : TypedNode) (e : slice_get vs i ≡ Some x) (h : i < length vs - 1) where
   pub odd_here : true ≡ is_odd x → Some (place_of x) ≡ odd_place (but_last (drop i vs))
-  odd_here k = sym (ap odd_place (but_last-drop vs i x e h) ∙ ap (λ b. option_map place_of (cond b (Some x) (find is_odd (but_last (drop (i + 1) vs))))) (sym k))
+  odd_here k = sym (ap odd_place (but_last-drop vs i x e h) ∙
+      ap (λ b. option_map place_of (cond b (Some x) (find is_odd (but_last (drop (i + 1) vs))))) (sym k))
 
   pub odd_next : false ≡ is_odd x → odd_place (but_last (drop i vs)) ≡ odd_place (but_last (drop (i + 1) vs))
-  odd_next k = ap odd_place (but_last-drop vs i x e h) ∙ ap (λ b. option_map place_of (cond b (Some x) (find is_odd (but_last (drop (i + 1) vs))))) (sym k)
+  odd_next k = ap odd_place (but_last-drop vs i x e h) ∙
+      ap (λ b. option_map place_of (cond b (Some x) (find is_odd (but_last (drop (i + 1) vs))))) (sym k)
 
 pub odd_end : (vs : List TypedNode) (i : ℕ) → length vs - 1 ≤ i → None ≡ odd_place (but_last (drop i vs))
 odd_end vs i h = sym (ap odd_place (but_last-end vs i h))

@@ -95,7 +95,8 @@ lacking_met ls l = sym (ap (λ b. b || is_among_labels ls l) (lacking_unlike l))
 -- ---- the first that is repeated
 
 -- it rests on which labels are among the earlier ones, and not on their order
-pub repeated_alike : (ls ms : List rules.Label) → ((l : rules.Label) → is_among_labels ls l ≡ is_among_labels ms l) → (xs : List rules.Labelled)
+pub repeated_alike : (ls ms : List rules.Label) → ((l : rules.Label) → is_among_labels ls l ≡ is_among_labels ms l) →
+    (xs : List rules.Labelled)
     → repeated_label ls xs ≡ repeated_label ms xs
 repeated_alike ls ms h [] = refl
 repeated_alike ls ms h (x ∷ xs) =
@@ -106,13 +107,15 @@ module _ (ls ms : List rules.Label) (x : rules.Labelled) (xs : List rules.Labell
   pub repeated_here : is_among_labels ls x.label ≡ true → repeated_label ls (x ∷ xs) ≡ Some x
   repeated_here e = ap (λ b. cond b (Some x) (repeated_label (x.label ∷ ls) xs)) e
 
-  pub repeated_next : is_among_labels ls x.label ≡ false → ((l : rules.Label) → is_among_labels ms l ≡ (same_label l x.label || is_among_labels ls l))
+  pub repeated_next : is_among_labels ls x.label ≡ false → ((l : rules.Label) →
+      is_among_labels ms l ≡ (same_label l x.label || is_among_labels ls l))
       → repeated_label ls (x ∷ xs) ≡ repeated_label ms xs
   repeated_next e h = ap (λ b. cond b (Some x) (repeated_label (x.label ∷ ls) xs)) e ∙ sym (repeated_alike ms (x.label ∷ ls) h xs)
 
 -- ---- one by one
 
-module _ (xs : List Labelled) (i : ℕ) (x : Labelled) (h : i < length xs) (e : x ≡ get_or xs i x) (all : Option rules.Labelled) (ls : List rules.Label)
+module _ (xs : List Labelled) (i : ℕ) (x : Labelled) (h : i < length xs) (e : x ≡ get_or xs i x) (all : Option rules.Labelled)
+    (ls : List rules.Label)
     (g : all ≡ repeated_label ls (map told (drop i xs))) where
   first_is : all ≡ repeated_label ls (told x ∷ map told (drop (suc i) xs))
   first_is = g ∙ ap (λ us. repeated_label ls (map told us)) (drop-cons xs i x h ∙ ap (λ y. y ∷ drop (suc i) xs) (sym e))
@@ -127,7 +130,8 @@ module _ (xs : List Labelled) (i : ℕ) (x : Labelled) (h : i < length xs) (e : 
       let next : suc i ≡ i + 1 = omega arith in
       first_is ∙ repeated_next ls ms (told x) (map told (drop (suc i) xs)) k m ∙ ap (λ j. repeated_label ms (map told (drop j xs))) next
 
-pub labels_end : (xs : List Labelled) (i : ℕ) (all : Option rules.Labelled) (ls : List rules.Label) → length xs ≤ i → all ≡ repeated_label ls (map told (drop i xs))
+pub labels_end : (xs : List Labelled) (i : ℕ) (all : Option rules.Labelled) (ls : List rules.Label) → length xs ≤ i →
+    all ≡ repeated_label ls (map told (drop i xs))
     → None ≡ option_map place_in all
 labels_end xs i all ls h g = sym (ap (option_map place_in) (g ∙ ap (λ us. repeated_label ls (map told us)) (drop_past xs i h)))
 

@@ -4,8 +4,10 @@ use Rattle.rule_switch.proofs.asked.target.Goals as goal
 
 pub returns-then-i-eq0-clause-value : goal.returns-then-i-eq0-clause-value
 returns-then-i-eq0-clause-value c f l =
-    operand_goes (context_in f c.args.t.now) c.args.i (kind_in c.args.t.now) c.in_ok-to.to c.requires.kind c.if-i-eq0.true (c.in_ok-to.ensures.value f l)
+    operand_goes (context_in f c.args.t.now) c.args.i (kind_in c.args.t.now) c.in_ok-to.to c.requires.kind c.if-i-eq0.true
+    (c.in_ok-to.ensures.value f l)
 
 pub returns-clause-value : goal.returns-clause-value
 returns-clause-value c f l =
-    case_goes (context_in f c.args.t.now) c.args.i (kind_in c.args.t.now) c.in_ok-to-2.to c.requires.kind c.if-i-eq0.false (c.in_ok-to-2.ensures.value f l)
+    case_goes (context_in f c.args.t.now) c.args.i (kind_in c.args.t.now) c.in_ok-to-2.to c.requires.kind c.if-i-eq0.false
+    (c.in_ok-to-2.ensures.value f l)

@@ -15,7 +15,8 @@ returns-in-Some-limits_at c f l =
     let s = c.args.s.now in
     let d = subst (λ o. IfSome o (IsDefined s)) c.in-Some.is c.requires in
     c.is_width.ensures ∙ ap (λ n. int_eq (pos n) (width_of (range_told c.in-Some-limits_at.limits))) c.count_within.ensures
-    ∙ covers_by f c.args.to.now c.in-Some.t (base_row s (Of c.in-Some.t)) (range_told c.in-Some-limits_at.limits) (numbers_in (map told c.args.labels.now)) c.in-Some.is
+    ∙ covers_by f c.args.to.now c.in-Some.t (base_row s (Of c.in-Some.t)) (range_told c.in-Some-limits_at.limits) (numbers_in
+    (map told c.args.labels.now)) c.in-Some.is
     (base_row_stays s f c.declarations-law.ensures.sound l (Of c.in-Some.t) d) c.in-Some-limits_at.ensures.value
 
 pub returns-in-None : goal.returns-in-None

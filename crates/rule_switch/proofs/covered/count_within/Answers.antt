@@ -6,7 +6,8 @@ use Rattle.rule_switch.proofs.covered.count_within.Goals as goal
 pub loop-x-preserved : goal.loop-x-preserved
 loop-x-preserved c = record {
   whole =
-      counted_next (range_told c.args.limits) c.args.labels.now c.loop-x.x-index c.x-item.result c.loop-x.count c.tally-count.result _ c.loop-x-test.true c.x-item.is c.tally-count.ensures
+      counted_next (range_told c.args.limits) c.args.labels.now c.loop-x.x-index c.x-item.result c.loop-x.count c.tally-count.result _
+      c.loop-x-test.true c.x-item.is c.tally-count.ensures
       c.loop-x.invariant.whole;
   few =
       let one : c.tally-count.result ≤ 1 = counted_few _ _ c.tally-count.ensures in
@@ -14,7 +15,8 @@ loop-x-preserved c = record {
 }
 
 pub returns : goal.returns
-returns c = counted_all (range_told c.args.limits) c.args.labels.now c.loop-x.x-index c.loop-x.count _ (omega arith) c.loop-x.invariant.whole
+returns c = counted_all (range_told c.args.limits) c.args.labels.now c.loop-x.x-index c.loop-x.count _
+    (omega arith) c.loop-x.invariant.whole
 
 pub overflow_add-count : goal.overflow_add-count
 overflow_add-count c =

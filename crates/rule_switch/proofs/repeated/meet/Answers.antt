@@ -12,11 +12,14 @@ returns-then-not-is_constant-clause-first c =
 pub returns-then-not-is_constant-clause-met : goal.returns-then-not-is_constant-clause-met
 returns-then-not-is_constant-clause-met c h l =
     let ls = labels_met c.args.met.now.keys in
-    lacking_met ls l ∙ sym (ap (λ a. same_label l (label_told a) || is_among_labels ls l) (lacking_is c.args.label.now c.if-not-is_constant.ensures))
+    lacking_met ls l ∙ sym (ap (λ a. same_label l (label_told a) || is_among_labels ls l)
+    (lacking_is c.args.label.now c.if-not-is_constant.ensures))
 
 pub returns-clause-first : goal.returns-clause-first
-returns-clause-first c = c.in_ok-insert.ensures.added ∙ ap not (among_met c.args.label.now (sym c.if-not-is_constant.ensures) c.args.met.now.keys)
+returns-clause-first c = c.in_ok-insert.ensures.added ∙
+    ap not (among_met c.args.label.now (sym c.if-not-is_constant.ensures) c.args.met.now.keys)
 
 pub returns-clause-met : goal.returns-clause-met
 returns-clause-met c h l =
-    met_more c.args.label c.args.met.now.keys c.insert.new.self.keys (not_among _ _ c.in_ok-insert.ensures.added h) c.in_ok-insert.ensures.keys l
+    met_more c.args.label c.args.met.now.keys c.insert.new.self.keys
+    (not_among _ _ c.in_ok-insert.ensures.added h) c.in_ok-insert.ensures.keys l

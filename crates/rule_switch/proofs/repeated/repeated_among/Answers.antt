@@ -6,15 +6,18 @@ use Rattle.rule_switch.proofs.repeated.repeated_among.Goals as goal
 
 pub loop-x-preserved : goal.loop-x-preserved
 loop-x-preserved c =
-    label_new c.args.labels.now c.loop-x.x-index c.x-item.result c.loop-x-test.true c.x-item.is (repeated_label [] (map told c.args.labels.now)) (labels_met c.loop-x.met.keys)
+    label_new c.args.labels.now c.loop-x.x-index c.x-item.result c.loop-x-test.true c.x-item.is (repeated_label []
+    (map told c.args.labels.now)) (labels_met c.loop-x.met.keys)
     c.loop-x.invariant (labels_met c.meet.new.met.keys) (not_among _ _ c.in_ok-is_first.ensures.first c.if-not-is_first.false)
     (c.in_ok-is_first.ensures.met c.if-not-is_first.false)
 
 pub returns-then-not-is_first : goal.returns-then-not-is_first
 returns-then-not-is_first c =
-    label_repeated c.args.labels.now c.loop-x.x-index c.x-item.result c.loop-x-test.true c.x-item.is (repeated_label [] (map told c.args.labels.now)) (labels_met c.loop-x.met.keys)
+    label_repeated c.args.labels.now c.loop-x.x-index c.x-item.result c.loop-x-test.true c.x-item.is (repeated_label []
+    (map told c.args.labels.now)) (labels_met c.loop-x.met.keys)
     c.loop-x.invariant (is_among _ _ c.in_ok-is_first.ensures.first c.if-not-is_first.true)
 
 pub returns : goal.returns
 returns c =
-    labels_end c.args.labels.now c.loop-x.x-index (repeated_label [] (map told c.args.labels.now)) (labels_met c.loop-x.met.keys) (omega arith) c.loop-x.invariant
+    labels_end c.args.labels.now c.loop-x.x-index (repeated_label [] (map told c.args.labels.now)) (labels_met c.loop-x.met.keys)
+    (omega arith) c.loop-x.invariant

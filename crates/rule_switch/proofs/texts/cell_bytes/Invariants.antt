@@ -5,4 +5,5 @@ use Rattle.rule_switch.proofs.texts.cell_bytes.Given as goal
 
 -- the bytes so far, and those that are left
 abbrev pub invariant-loop-i : goal.invariant-loop-i
-invariant-loop-i l = option_map (λ bs. l.out.items ++ bs) (bytes_of (take l.left (drop l.i l.cells))) ≡ bytes_of (cells_within l.from l.count l.cells)
+invariant-loop-i l = option_map (λ bs. l.out.items ++ bs) (bytes_of (take l.left (drop l.i l.cells))) ≡ bytes_of
+    (cells_within l.from l.count l.cells)

@@ -9,7 +9,8 @@ use Rattle.rule_switch.proofs.unmet.unmet.Goals as goal
 
 pub returns-in-SwitchConstants-clause-value : goal.returns-in-SwitchConstants-clause-value
 returns-in-SwitchConstants-clause-value c f l =
-    c.odd_value.ensures f ∙ told_value _ (head c.args.t.now.node.now).place ∙ sym (ap (λ (r : RowId). unmet r (context_in f c.args.t.now)) c.in-SwitchConstants.is)
+    c.odd_value.ensures f ∙ told_value _ (head c.args.t.now.node.now).place ∙
+    sym (ap (λ (r : RowId). unmet r (context_in f c.args.t.now)) c.in-SwitchConstants.is)
 
 pub returns-in_ok-at-in-SwitchDistinct-clause-value : goal.returns-in_ok-at-in-SwitchDistinct-clause-value
 returns-in_ok-at-in-SwitchDistinct-clause-value c f l =
