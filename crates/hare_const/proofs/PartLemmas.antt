@@ -18,7 +18,7 @@ use Rattle.hare_typed.specs.Given.{size_in, pointee}
 use Rattle.hare_typed.specs.ConstantForms.{type_of_kid, offset_in, part_named, with_parts, made_of, counted_from, fields_from}
 use Rattle.hare_types.specs.declared.coercion.Ty.{Ty}
 use Rattle.hare_const.specs.declared.outcome.Outcome.{Outcome}
-use Rattle.hare_const.specs.declared.outcome.Outcome.TheVariants.{Known, Aborts, Undefined}
+use Rattle.hare_const.specs.declared.outcome.Outcome.TheVariants.{Known}
 use Rattle.hare_const.specs.NodeValues.{on_cells, kid_at, kids_at, filled, HasParts, type_with_offset}
 use Rattle.hare_const.proofs.NodeLemmas.{kid-found, kid-missing}
 

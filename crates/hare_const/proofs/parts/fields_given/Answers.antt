@@ -1,4 +1,4 @@
-use Rattle.std.proofs.Common.{◌∙◌, ap, sym, arith, ◌≡◌, ◌++◌, ◌∷◌, [], List, ℕ, ◌+◌}
+use Rattle.std.proofs.Common.{◌∙◌, ap, sym, arith, ◌≡◌, ◌++◌, ◌∷◌, [], ◌+◌}
 use Rattle.hare_tree.specs.declared.kind.Kind.TheVariants as kind
 use Rattle.hare_types.specs.declared.coercion.Ty.TheVariants as ty
 use Rattle.hare_typed.specs.Typed.{kids_of, head_of}
