@@ -5,6 +5,8 @@ pub mod UnionLemmas
 pub mod NodeLemmas
 pub mod AddressLemmas
 pub mod ArrayLemmas
+pub mod PlacingLemmas
+pub mod PartLemmas
 pub mod WalkLemmas
 mod ExampleConstants
 mod ConstantRows

@@ -39,14 +39,14 @@ with_first [] (y ∷ ys) zs e = absurd (omega arith)
 with_first (n ∷ ns) [] zs e = absurd (omega arith)
 with_first (n ∷ ns) (y ∷ ys) zs e = ap (λ xs. n ∷ xs) (with_first ns ys zs (omega arith))
 
-with_later : (at : ℕ) (ns xs ys zs : List Cell) → length xs ≡ at → length ys ≡ length ns → with_cells at ns (xs ++ (ys ++ zs)) ≡ xs ++ (ns ++ zs)
+pub with_later : (at : ℕ) (ns xs ys zs : List Cell) → length xs ≡ at → length ys ≡ length ns → with_cells at ns (xs ++ (ys ++ zs)) ≡ xs ++ (ns ++ zs)
 with_later zero ns [] ys zs e f = with_first ns ys zs f
 with_later zero ns (x ∷ xs) ys zs e f = absurd (omega arith)
 with_later (suc at) ns [] ys zs e f = absurd (omega arith)
 with_later (suc at) ns (x ∷ xs) ys zs e f = ap (λ cs. x ∷ cs) (with_later at ns xs ys zs (omega arith) f)
 
 -- so many undefined cells as so many and so many more
-apart : (m k n : ℕ) → m + k ≡ n → undefined_cells n ≡ undefined_cells m ++ undefined_cells k
+pub apart : (m k n : ℕ) → m + k ≡ n → undefined_cells n ≡ undefined_cells m ++ undefined_cells k
 apart m k n e = ap undefined_cells (sym e) ∙ sym (replicate-append-replicate m k cell.Undef)
 
 payload_put : (cs : List Cell) (p n : ℕ) → p + length cs ≤ n → with_cells p cs (undefined_cells n) ≡ undefined_cells p ++ (cs ++ undefined_cells (n - p - length cs))

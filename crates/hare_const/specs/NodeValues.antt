@@ -1,6 +1,7 @@
 -- The value of a typed tree, where no program runs and no object is looked at: each kind of which constants are made gives it from the values of
 -- its kids.
-use Rattle.std.specs.Prelude.{◌≡◌, ◌≢◌, ◌<◌, IsTrue, ℕ, zero, suc, ◌+◌, ◌*◌, ◌^◌, pos, ℤ, Bool, true, false, not, ◌&&◌, bytes_eq, codes, List, [], ◌∷◌, ◌++◌, length, Option, Some, None, is_some, option_and_then, if◌then◌else◌}
+use Rattle.std.specs.List.{All}
+use Rattle.std.specs.Prelude.{◌≡◌, ◌≢◌, ◌<◌, IsTrue, ℕ, zero, suc, ◌+◌, ◌-◌, ◌*◌, ◌^◌, pos, ℤ, Bool, true, false, not, ◌&&◌, bytes_eq, codes, List, [], ◌∷◌, ◌++◌, length, Option, Some, None, is_some, option_and_then, if◌then◌else◌}
 use Rattle.hare_tree.specs.declared.kind.Kind.{Kind}
 use Rattle.hare_tree.specs.declared.kind.Kind.TheVariants as kind
 use Rattle.hare_tree.specs.declared.place.Fault.{Fault}
@@ -13,6 +14,7 @@ use Rattle.hare_types.specs.declared.coercion.Ty.TheVariants as kept
 use Rattle.hare_types.specs.Store.{Store}
 use Rattle.hare_types.specs.Assign.{IsIn}
 use Rattle.hare_layout.specs.Small.{IsSmall}
+use Rattle.hare_layout.specs.Offsets.{HasField}
 use Rattle.hare_typed.specs.declared.cell.Cell.{Cell}
 use Rattle.hare_typed.specs.declared.constant.Const.{Const}
 use Rattle.hare_typed.specs.declared.constant.Const.TheVariants as constant
@@ -22,6 +24,7 @@ use Rattle.hare_typed.specs.Constants.{own_kind}
 use Rattle.hare_typed.specs.Given.{base_row, first_given, is_str, size_in}
 use Rattle.hare_typed.specs.Constancy.{is_constant, first_inconstant, first_inconstant_of}
 use Rattle.hare_typed.specs.Weight.{items_of}
+use Rattle.hare_typed.specs.Cells.{undefined_cells}
 use Rattle.hare_typed.specs.Repeats.{again}
 use Rattle.hare_typed.specs.Answers.{Answer, Gives, Aborts as aborts, IsUndefined}
 use Rattle.hare_typed.specs.Scalars.{Address, Pointing, Nullable, cells}
@@ -152,12 +155,20 @@ tuple_value s t cs = made_of s (own_type t) (counted_from 0 (items_of kind.Tuple
 abbrev pub struct_value : Store → TypedNode → List (List Cell) → List Cell
 struct_value s t cs = made_of s (own_type t) (fields_from s (own_type t) 1 (items_of kind.StructLit (kids_of t)) t) cs
 
+-- a value of so many cells, of which these are known: the others are undefined
+abbrev pub filled : ℕ → List Cell → List Cell
+filled n cs = cs ++ undefined_cells (n - length cs)
+
+-- the type in which the field stands whose offset is asked for, and which of its parts the field is
+abbrev pub type_with_offset : Store → TypedNode → Ty
+type_with_offset s t = reached_type s (type_of_kid 0 (kid_from_front 0 t))
+
+abbrev pub part_with_offset : Store → TypedNode → ℕ
+part_with_offset s t = part_named s (type_with_offset s t) (head_of (kid_from_front 0 t))
+
 -- where the field begins that the kid names
 abbrev pub offset_value : Store → TypedNode → List Cell
-offset_value s t =
-    let field = kid_from_front 0 t in
-    let whole = reached_type s (type_of_kid 0 field) in
-    numbered s t (pos (offset_in s whole (part_named s whole (head_of field))))
+offset_value s t = numbered s t (pos (offset_in s (type_with_offset s t) (part_with_offset s t)))
 
 abbrev pub size_value : Store → TypedNode → List Cell
 size_value s t = numbered s t (pos (size_in s (type_of_kid 0 t)))
@@ -320,6 +331,20 @@ abbrev mutual
   ArePlain s typed_none = Unit {0}
   ArePlain s (typed_more t ts) = IsPlain s t × ArePlain s ts
 
+-- the type is a struct or tuple whose size can be told, and has these parts
+abbrev pub HasParts : Store → Ty → List ℕ → Type 0
+HasParts s (kept.Of f) ns = IsSmall s f × All (HasField s f) ns
+HasParts s (kept.Iconst v) ns = ⊥
+HasParts s kept.Null ns = ⊥
+HasParts s kept.Empty ns = ⊥
+
+-- which components a tuple gives, and which fields a struct, in the order in which they are written
+abbrev pub components_given : TypedNode → List ℕ
+components_given t = counted_from 0 (items_of kind.Tuple (kids_of t))
+
+abbrev pub fields_given : Store → TypedNode → List ℕ
+fields_given s t = fields_from s (own_type t) 1 (items_of kind.StructLit (kids_of t)) t
+
 -- what is asked of a node, which each node that meets its rules has
 abbrev pub AskedKind : Store → TypedNode → Kind → Type 0
 AskedKind s t kind.Number = (head_of t).number < 2 ^ 127
@@ -331,9 +356,9 @@ AskedKind s t kind.Shift = HasNumber s t
 AskedKind s t kind.Size = IsSized s (type_of_kid 0 t)
 AskedKind s t kind.Align = IsSized s (type_of_kid 0 t)
 AskedKind s t kind.Len = IsTrue (is_array_row (base_row s (type_of_kid 0 t)))
-AskedKind s t kind.Tuple = ⊥
-AskedKind s t kind.StructLit = ⊥
-AskedKind s t kind.Offset = ⊥
+AskedKind s t kind.Tuple = HasParts s (own_type t) (components_given t)
+AskedKind s t kind.StructLit = HasParts s (own_type t) (fields_given s t)
+AskedKind s t kind.Offset = HasParts s (type_with_offset s t) (part_with_offset s t ∷ [])
 AskedKind s t _ = Unit {0}
 
 -- the same where it is not known yet whether the node is constant: no length is that of a text
@@ -341,7 +366,7 @@ abbrev pub SimpleKind : Store → TypedNode → Kind → Type 0
 SimpleKind s t kind.Len = is_str s (type_of_kid 0 t) ≡ false
 SimpleKind s t k = AskedKind s t k
 
--- The tree has no struct, tuple, offset, union or length of a text, and compares no texts; its types are those of the store.
+-- The tree has no union or length of a text, and compares no texts; its types are those of the store.
 abbrev mutual
   pub IsSimple : Store → TypedNode → Type 0
   IsSimple s (marked h m ts) =

@@ -25,8 +25,10 @@ fn cells_of(outcome: Outcome) -> Option<Cells>
 /// constant or whose evaluation would abort, also where it would not run. `None` where the evaluation meets an undefined act, which it does in no tree
 /// that was checked.
 ///
-/// The conditions are that each node has what its rules ask for, and that no node is a struct, a tuple, an offset, the length of a text or an equality
-/// of texts, and none is coerced to a union. Each node is evaluated once, and the call goes as deep in the host as the tree is.
+/// The conditions are that each node has what its rules ask for, and that no node is the length of a text or an equality of texts, and none is coerced
+/// to a union. Each node is evaluated once, and the call goes as deep in the host as the tree is. The parts of a tuple take the memory of their own
+/// cells, and so do the fields of a struct that are written in the order of its type; where a field is written behind a later one, each cell that is
+/// known by then is copied once more.
 pub fn constant_cells(
     alloc: Global,
     s: &TypeStore,

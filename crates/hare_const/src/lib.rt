@@ -17,6 +17,8 @@ mod number;
 mod operands;
 mod operators;
 mod outcome;
+mod parts;
+mod placing;
 mod shape;
 #[cfg(test)]
 mod tests;

@@ -1,20 +1,26 @@
 //! Sizes, alignments and lengths.
 
-ghost use Rattle.std.specs.Prelude.{◌≡◌, IfOk, IsTrue};
-ghost use Rattle.hare_typed.specs.Given.{size_in as size_of_type, base_row as row_of_base};
+ghost use Rattle.std.specs.Prelude.{◌≡◌, [], ◌∷◌, IfOk, IsTrue};
+ghost use Rattle.hare_typed.specs.Followed as follow;
+ghost use Rattle.hare_typed.specs.Given.{size_in as size_of_type, base_row as row_of_base, pointee};
 ghost use Rattle.hare_typed.specs.Shapes.{align_in as align_of_type};
 ghost use Rattle.hare_typed.specs.Coercions as coercions;
 ghost use Rattle.hare_typed.specs.ConstantForms.{type_of_kid as kid_type, is_array_row};
+ghost use Rattle.hare_types.specs.declared.coercion.Ty.TheVariants as ty;
 ghost use Rattle.hare_types.specs.Assign.{IsIn};
 ghost use Rattle.hare_const.specs.NodeValues as spec;
 
 use crate::kids::type_of_kid;
 use crate::number::number_cells;
+use crate::parts::{part_named, part_number};
 use crate::shape::base_row;
-use hare_layout::{align_of, size_of};
+use hare_layout::{align_of, offset_of, size_of};
 use hare_typed::{Cells, Typed};
-use hare_types::{Row, Ty, TypeStore};
+use hare_types::{Row, Ty, TypeId, TypeStore};
 use std::alloc::{AllocError, Global};
+
+/// Through how many pointers a field is taken at most.
+const MOST_POINTERS: u64 = 16;
 
 /// The size of a type in bytes; none of what has no type yet.
 fn size_in(s: &TypeStore, t: Ty) -> u64
@@ -52,6 +58,63 @@ pub(crate) fn align_value(alloc: Global, s: &TypeStore, t: &Typed) -> Result<Cel
     ensures { IfOk result (λ cells. cells ≡ spec.align_value s.now t.now) }
 {
     number_cells(alloc, s, t.ty, i128::from(align_in(s, type_of_kid(t, 0))))
+}
+
+/// What is reached from a value of a type where its pointer is followed, if it is one.
+fn followed(s: &TypeStore, t: Ty) -> Ty
+    ensures { result ≡ follow.pointee_or t (pointee s.now t) }
+{
+    let Ty::Of(of) = t else {
+        return t;
+    };
+    match base_row(s, of) {
+        Some(Row::Pointer(to)) => Ty::Of(*to),
+        _ => t,
+    }
+}
+
+/// What is reached from a value of a type through so many pointers at most.
+fn reached_within(s: &TypeStore, t: Ty, most: u64) -> Ty
+    ensures { result ≡ follow.reached_within most s.now t }
+{
+    let mut at = t;
+    for passed in 0..most {
+        at = followed(s, at);
+    }
+    at
+}
+
+/// The type in which the field stands that an `offset(..)` names.
+fn type_with_offset(s: &TypeStore, t: &Typed) -> Ty
+    ensures { result ≡ spec.type_with_offset s.now t.now }
+{
+    match t.kids.get(0) {
+        Some(field) => reached_within(s, type_of_kid(field, 0), MOST_POINTERS),
+        None => Ty::Empty,
+    }
+}
+
+/// Which part of that type the field is.
+fn part_with_offset(s: &TypeStore, whole: TypeId, t: &Typed) -> u128
+    requires { spec.type_with_offset s.now t.now ≡ ty.Of whole }
+    ensures { result ≡ spec.part_with_offset s.now t.now }
+{
+    match t.kids.get(0) {
+        Some(field) => part_named(s, whole, field),
+        None => unreachable!(),
+    }
+}
+
+/// The value of `offset(..)`: of the node within it only the type and the name count.
+pub(crate) fn offset_value(alloc: Global, s: &TypeStore, t: &Typed) -> Result<Cells, AllocError>
+    requires { spec.HasParts s.now (spec.type_with_offset s.now t.now) (spec.part_with_offset s.now t.now ∷ []) }
+    ensures { IfOk result (λ cells. cells ≡ spec.offset_value s.now t.now) }
+{
+    let Ty::Of(whole) = type_with_offset(s, t) else {
+        unreachable!()
+    };
+    let part = part_number(part_with_offset(s, whole, t))?;
+    number_cells(alloc, s, t.ty, i128::from(offset_of(s, whole, part)))
 }
 
 /// The length of the array that is the base of a type; 0 where it is none.

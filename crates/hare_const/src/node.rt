@@ -19,9 +19,10 @@ use crate::casts::{cast_value, coerced_cells};
 use crate::constancy::is_evaluated;
 use crate::kids::kid_at;
 use crate::literals::{cells_known, literal, literal_bool};
-use crate::measures::{align_value, array_length_value, size_value};
+use crate::measures::{align_value, array_length_value, offset_value, size_value};
 use crate::operands::{Operands, operands_of};
 use crate::outcome::Outcome;
+use crate::parts::{struct_value, tuple_value};
 use hare_tree::Kind;
 use hare_typed::{Cells, Typed};
 use hare_types::TypeStore;
@@ -41,7 +42,7 @@ fn leaf_value(alloc: Global, s: &TypeStore, own: u32, t: &Typed) -> Result<Cells
         Kind::Size => size_value(alloc, s, t),
         Kind::Align => align_value(alloc, s, t),
         Kind::Addr => address_value(alloc, t),
-        Kind::Offset => unreachable!(),
+        Kind::Offset => offset_value(alloc, s, t),
         _ => Ok(Cells::new(alloc)),
     }
 }
@@ -138,7 +139,8 @@ fn own_value(
             operator_value(alloc, s, t, operands, first, second)
         }
         Operands::Elements => array_value(alloc, s, t, kids),
-        Operands::Components | Operands::Fields => unreachable!(),
+        Operands::Components => tuple_value(alloc, s, t, kids),
+        Operands::Fields => struct_value(alloc, s, t, kids),
     }
 }
 

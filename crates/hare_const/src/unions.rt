@@ -16,7 +16,7 @@ use std::alloc::{AllocError, Global};
 const TAG_CELLS: usize = 4;
 
 /// The cells with so many undefined ones behind them, which take the memory of one.
-fn with_undefined(mut cells: Cells, count: usize) -> Result<Cells, AllocError>
+pub(crate) fn with_undefined(mut cells: Cells, count: usize) -> Result<Cells, AllocError>
     ensures { IfOk result (λ more. more ≡ cells ++ undefined_cells count) }
 {
     if count == 0 {
