@@ -1,6 +1,11 @@
 -- Kids without their coercions: what hints read of them.
 use Rattle.std.proofs.Common.{◌≡◌, ℕ, zero, suc, ◌+◌, ◌<◌, ◌≤◌, Bool, true, false, cond, not, List, [], ◌∷◌, map, drop, length, Option, Some, None, refl, ap, ap₂, sym, ◌∙◌, arith, add-one}
-use Rattle.std.specs.Prelude.{slice_get, option_and_then, IfSome}
+use Rattle.std.proofs.Common.{◌-◌, length-drop}
+use Rattle.std.specs.Prelude.{is_some}
+use Rattle.hare_tree.specs.Shape.{is_none as is_left_out}
+use Rattle.hare_typed.specs.Coercions.{element_of_slice as slice_element}
+use Rattle.std.proofs.lemmas.Option.{slice_get_within, get_or_from_slice_get}
+use Rattle.std.specs.Prelude.{slice_get, option_and_then, IfSome, Contains}
 use Rattle.hare_tree.specs.Node.{Head, Node, Nodes, nodes_of, head}
 use Rattle.hare_tree.specs.declared.kind.Kind.{Kind}
 use Rattle.hare_tree.specs.declared.kind.Kind.TheVariants as ki
@@ -22,12 +27,12 @@ use Rattle.hare_rules.specs.declared.hint.Hint.{Hint}
 use Rattle.hare_rules.specs.declared.hint.Hint.TheVariants as hint
 use Rattle.hare_rules.specs.Context.{Setting, own_type, is_there}
 use Rattle.hare_rules.specs.Words.{id_in, default_in, allocation, with_refusal}
-use Rattle.hare_rules.specs.Above.{Above, asked, hint_id, refusable_hint, allocates, first_allocates, item_hint_by, field_hint, argument_hint, param_at, values_under, hint_to, hint_seen, first, by_place, written_hint, declared_hint, next_kind}
-use Rattle.hare_rules.specs.Aggregates.{callee_meaning, called, field_type}
+use Rattle.hare_rules.specs.Above.{Above, asked, hint_id, refusable_hint, allocates, first_allocates, item_hint_by, field_hint, argument_hint, param_at, values_under, hint_to, hint_seen, first, by_place, written_hint, declared_hint, next_kind, count_of, component_at, component_hint, appended_hint, has_slice_base, element_hint}
+use Rattle.hare_rules.specs.Aggregates.{callee_meaning, called, field_type, hinted_components}
 use Rattle.hare_rules.specs.Finished.{bare}
 use Rattle.rule_ctl.specs.Tried.{made_of}
 
-length-bare : (xs : List TypedNode) → length (map bare xs) ≡ length xs
+pub length-bare : (xs : List TypedNode) → length (map bare xs) ≡ length xs
 length-bare [] = refl
 length-bare (x ∷ xs) = ap suc (length-bare xs)
 
@@ -107,6 +112,32 @@ values-later w a [] k o h s n e g = absurd (n refl)
 values-later w a (x ∷ xs) k o h s n e g =
     g ∙ ap hint_to (e ∙ ap (default_in w.store) (sym (own-bare x))) ∙ ap (λ y. values_under w a y (bare x ∷ map bare xs)) (sym s)
 
+-- ---- tuples
+
+count-nodes : (ts : List Node) → count_of (nodes_of ts) ≡ length ts
+count-nodes [] = refl
+count-nodes (t ∷ ts) = ap suc (count-nodes ts)
+
+-- those that are done, the next one and those behind it are all
+kids-count : (xs : List TypedNode) (ts : List Node) (t : Node) → slice_get ts (length xs) ≡ Some t →
+    length (map bare xs) + suc (count_of (nodes_of (drop (length xs + 1) ts))) ≡ length ts
+kids-count xs ts t e =
+    let within : length xs < length ts = slice_get_within ts (length xs) t e in
+    omega (arith, length-bare xs, count-nodes (drop (length xs + 1) ts), length-drop (length xs + 1) ts)
+
+pub component-next : (w : Setting) (h g : Hint) (o : Option (List ℕ)) (xs : List TypedNode) (ts : List Node) (t : Node) (m : ℕ) →
+    slice_get ts (length xs) ≡ Some t → m ≡ length ts - 1 → o ≡ hinted_components w.store h m → g ≡ hint_to (component_at o (length xs)) →
+    g ≡ component_hint w h (length (map bare xs) + suc (count_of (nodes_of (drop (length xs + 1) ts)))) (length (map bare xs))
+component-next w h g o xs ts t m e k n i =
+    let same : m ≡ (length (map bare xs) + suc (count_of (nodes_of (drop (length xs + 1) ts)))) - 1 =
+    k ∙ ap (λ x. x - 1) (sym (kids-count xs ts t e)) in
+    i ∙ ap₂ (λ y z. hint_to (component_at y z)) (n ∙ ap (hinted_components w.store h) same) (sym (length-bare xs))
+
+-- what holds of each component holds of one
+pub component-held : (P : ℕ → Type 0) (ts : List ℕ) (i : ℕ) (o : Option ℕ) → ((t : ℕ) → Contains ts t → P t) → o ≡ slice_get ts i → IfSome o P
+component-held P ts i None h e = tt
+component-held P ts i (Some t) h e = h t (i, slice_get_within ts i t (sym e), get_or_from_slice_get ts i t t (sym e))
+
 -- ---- allocations
 
 pub refusable-none : (w : Setting) (h : Hint) (t : ℕ) → Some t ≡ option_and_then (allocation w.store) (hint_id h) → None ≡ made_of w.store t →
@@ -137,3 +168,48 @@ field_type-defined s v (ty.Of t) text o d e = field_base-defined s v t (base_at 
 field_type-defined s v (ty.Iconst n) text o d e = rw e tt
 field_type-defined s v ty.Null text o d e = rw e tt
 field_type-defined s v ty.Empty text o d e = rw e tt
+
+-- ---- what is put behind a slice
+
+not-left_out : (k : Kind) → (k ≡ ki.None → ⊥) → is_left_out k ≡ false
+not-left_out ki.None h = absurd (h refl)
+not-left_out _ h = refl
+
+abbrev appended_by : Option ℕ → Hint → Nodes → Hint
+appended_by o h rest = cond (is_some o) (cond (is_left_out (next_kind rest)) (hint_to o) h) hint.None
+
+-- the hint of what stands behind this slice, whose element is known
+appended-as : (w : Setting) (x : TypedNode) (rest : Nodes) (o : Option ℕ) → o ≡ slice_element (base_row w.store (own_type x)) →
+    appended_by o (hint_to (id_in (own_type x))) rest ≡ appended_hint w (bare x) rest
+appended-as w x rest o e =
+    ap (λ p. appended_by p (hint_to (id_in (own_type x))) rest) e
+    ∙ ap (λ (a : Ty). appended_by (slice_element (base_row w.store a)) (hint_to (id_in a)) rest) (sym (given-bare x))
+
+appended-second : (w : Setting) (xs : List TypedNode) (rest : Nodes) (o : Option ℕ) (h : Hint) → length xs ≡ 1 →
+    o ≡ slice_element (base_row w.store (own_type (tree_from_front 0 xs))) → h ≡ appended_by o (hint_to (id_in (own_type (tree_from_front 0 xs)))) rest →
+    h ≡ by_place (length (map bare xs)) (hint.None ∷ appended_hint w (first (map bare xs)) rest ∷ []) hint.None
+appended-second w [] rest o h k e g = absurd (omega (arith, k))
+appended-second w (x ∷ []) rest o h k e g = g ∙ appended-as w x rest o e
+appended-second w (x ∷ y ∷ xs) rest o h k e g = absurd (omega (arith, k))
+
+-- what is no slice has no element
+pub appended-nothing : (w : Setting) (xs : List TypedNode) (rest : Nodes) → length xs ≡ 1 →
+    None ≡ slice_element (base_row w.store (own_type (tree_from_front 0 xs))) →
+    hint.None ≡ by_place (length (map bare xs)) (hint.None ∷ appended_hint w (first (map bare xs)) rest ∷ []) hint.None
+appended-nothing w xs rest k e = appended-second w xs rest None hint.None k e refl
+
+pub appended-element : (w : Setting) (xs : List TypedNode) (rest : Nodes) (t : ℕ) → length xs ≡ 1 →
+    Some t ≡ slice_element (base_row w.store (own_type (tree_from_front 0 xs))) → ki.None ≡ next_kind rest →
+    hint.Of t ≡ by_place (length (map bare xs)) (hint.None ∷ appended_hint w (first (map bare xs)) rest ∷ []) hint.None
+appended-element w xs rest t k e g =
+    appended-second w xs rest (Some t) (hint.Of t) k e
+    (ap (λ x. cond (is_left_out x) (hint.Of t) (hint_to (id_in (own_type (tree_from_front 0 xs))))) g)
+
+-- with `...` its own type is asked for
+pub appended-slice : (w : Setting) (xs : List TypedNode) (rest : Nodes) (t : ℕ) (h : Hint) → length xs ≡ 1 →
+    Some t ≡ slice_element (base_row w.store (own_type (tree_from_front 0 xs))) → (next_kind rest ≡ ki.None → ⊥) →
+    h ≡ hint_to (id_in (own_type (tree_from_front 0 xs))) →
+    h ≡ by_place (length (map bare xs)) (hint.None ∷ appended_hint w (first (map bare xs)) rest ∷ []) hint.None
+appended-slice w xs rest t h k e n g =
+    appended-second w xs rest (Some t) h k e
+    (g ∙ sym (ap (λ b. cond b (hint.Of t) (hint_to (id_in (own_type (tree_from_front 0 xs))))) (not-left_out (next_kind rest) n)))

@@ -17,6 +17,7 @@ ghost use Rattle.rule_judge.specs.Grown.{IsGrown};
 ghost use Rattle.hare_above.specs.Asked.{asked_as, rest_in};
 
 use crate::asking::{Asking, hint_to, word_hint};
+use crate::values::id_at;
 use hare_rules::Hint;
 use hare_tree::{Kids, Kind, Tree};
 use hare_types::{Row, Scalar, Ty, TypeId, TypeStore};
@@ -181,11 +182,8 @@ pub(crate) fn appended_hint(s: &TypeStore, q: &Asking<'_>) -> Hint
     let Some(element) = slice_element(s, &slice) else {
         return Hint::None;
     };
-    if kind_behind(q) == Kind::None {
-        return Hint::Of(element);
-    }
-    match slice {
-        Ty::Of(t) => Hint::Of(t),
-        Ty::Iconst(_) | Ty::Null | Ty::Empty => Hint::None,
+    match kind_behind(q) {
+        Kind::None => Hint::Of(element),
+        _ => hint_to(id_at(q.done, 0)),
     }
 }

@@ -73,6 +73,13 @@ pub(crate) fn field_hint(s: &TypeStore, q: &Asking<'_>) -> Hint
     hint_to(field_of(s, &type_at(q.done, 0), kid.text.bytes()))
 }
 
+/// Component number `i`, counted from 0; none where there are not so many.
+fn component(types: &[TypeId], i: usize) -> Option<TypeId>
+    ensures { result ≡ slice_get types.now i }
+{
+    types.get(i).copied()
+}
+
 /// What a tuple asks of its next kid: of an item the component that the hint has there.
 pub(crate) fn component_hint(s: &TypeStore, q: &Asking<'_>) -> Hint
     requires next { slice_get q.now.kids.now (length q.now.done.now) ≡ Some q.now.kid.now }
@@ -81,11 +88,8 @@ pub(crate) fn component_hint(s: &TypeStore, q: &Asking<'_>) -> Hint
     ensures defined { IsDefinedHint s.now result }
 {
     let items = q.kids.len().saturating_sub(1);
-    let Some(types) = hinted_components(s, &q.own, items) else {
-        return Hint::None;
-    };
-    match types.get(q.done.len()) {
-        Some(t) => Hint::Of(*t),
+    match hinted_components(s, &q.own, items) {
+        Some(types) => hint_to(component(types, q.done.len())),
         None => Hint::None,
     }
 }
