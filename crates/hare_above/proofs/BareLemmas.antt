@@ -1,5 +1,5 @@
 -- Kids without their coercions: what hints read of them.
-use Rattle.std.proofs.Common.{◌≡◌, ℕ, zero, suc, ◌+◌, ◌<◌, ◌≤◌, Bool, true, false, cond, not, List, [], ◌∷◌, map, drop, length, Option, Some, None, refl, ap, ap₂, sym, ◌∙◌, arith, add-one}
+use Rattle.std.proofs.Common.{◌≡◌, ℕ, zero, suc, ◌+◌, ◌<◌, ◌≤◌, false, cond, List, [], ◌∷◌, map, drop, length, Option, Some, None, refl, ap, ap₂, sym, ◌∙◌, arith}
 use Rattle.std.proofs.Common.{◌-◌, length-drop}
 use Rattle.std.specs.Prelude.{is_some}
 use Rattle.hare_tree.specs.Shape.{is_none as is_left_out}
@@ -25,9 +25,9 @@ use Rattle.hare_typed.specs.Given.{given, base_row}
 use Rattle.hare_typed.specs.Order.{tree_from_front}
 use Rattle.hare_rules.specs.declared.hint.Hint.{Hint}
 use Rattle.hare_rules.specs.declared.hint.Hint.TheVariants as hint
-use Rattle.hare_rules.specs.Context.{Setting, own_type, is_there}
+use Rattle.hare_rules.specs.Context.{Setting, own_type}
 use Rattle.hare_rules.specs.Words.{id_in, default_in, allocation, with_refusal}
-use Rattle.hare_rules.specs.Above.{Above, asked, hint_id, refusable_hint, allocates, first_allocates, item_hint_by, field_hint, argument_hint, param_at, values_under, hint_to, hint_seen, first, by_place, written_hint, declared_hint, next_kind, count_of, component_at, component_hint, appended_hint, has_slice_base, element_hint}
+use Rattle.hare_rules.specs.Above.{Above, asked, hint_id, refusable_hint, allocates, first_allocates, item_hint_by, field_hint, argument_hint, param_at, values_under, hint_to, hint_seen, first, by_place, written_hint, declared_hint, next_kind, count_of, component_at, component_hint, appended_hint}
 use Rattle.hare_rules.specs.Aggregates.{callee_meaning, called, field_type, hinted_components}
 use Rattle.hare_rules.specs.Finished.{bare}
 use Rattle.rule_ctl.specs.Tried.{made_of}

@@ -1,15 +1,14 @@
 -- The stack of labels, and the frames of the trees round the one at hand.
-use Rattle.std.proofs.Common.{◌≡◌, ℕ, zero, suc, ◌+◌, ◌<◌, ◌≤◌, get_or, true, false, List, [], ◌∷◌, ◌++◌, map, take, length, Option, Some, None, refl, ap, ap₂, sym, ◌∙◌, subst, arith, add-one}
+use Rattle.std.proofs.Common.{◌≡◌, ℕ, zero, suc, ◌+◌, ◌<◌, ◌≤◌, get_or, List, [], ◌∷◌, ◌++◌, map, take, length, Option, Some, None, refl, ap, ap₂, sym, ◌∙◌, subst, arith, add-one}
 use Rattle.std.specs.Prelude.{reverse}
-use Rattle.std.proofs.lemmas.List.{map-append, reverse-append, length-append, length-map, length-take-le, take_all, take-append-le}
+use Rattle.std.proofs.lemmas.List.{map-append, reverse-append, length-append, length-take-le, take-append-le}
 use Rattle.hare_rules.specs.declared.hint.Hint.{Hint}
 use Rattle.hare_rules.specs.declared.inside.Label.{Label}
 use Rattle.hare_rules.specs.declared.judged.Case.{Case}
-use Rattle.hare_rules.specs.Context.{Open}
-use Rattle.hare_rules.specs.Above.{Above, outside}
+use Rattle.hare_rules.specs.Above.{outside}
 use Rattle.hare_told.specs.Told.{told_label}
 use Rattle.hare_above.specs.declared.frames.Frame.{Frame}
-use Rattle.hare_above.specs.Frames.{open_of, opens, unmarked, labels_by, labels_at, hints_at, above_at, outer_at, IsKept, AreKept, AreFramed}
+use Rattle.hare_above.specs.Frames.{open_of, opens, unmarked, labels_by, labels_at, hints_at, above_at, outer_at, AreKept, AreFramed}
 
 -- ---- labels with their hints
 

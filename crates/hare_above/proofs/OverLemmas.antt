@@ -1,14 +1,13 @@
 -- What stands over the next kid, part by part.
-use Rattle.std.proofs.Common.{◌≡◌, ℕ, zero, suc, ◌+◌, Bool, true, false, ◌||◌, List, [], ◌∷◌, map, drop, length, refl, ap, sym, ◌∙◌}
+use Rattle.std.proofs.Common.{◌≡◌, ℕ, zero, suc, ◌+◌, Bool, true, false, ◌||◌, List, ◌∷◌, map, drop, length, refl, ap, sym, ◌∙◌}
 use Rattle.hare_tree.specs.declared.kind.Kind.{Kind}
 use Rattle.hare_tree.specs.declared.kind.Kind.TheVariants as ki
 use Rattle.hare_tree.specs.Node.{Head, Node, Nodes, nodes_of, head}
-use Rattle.hare_types.specs.Store.{Store}
 use Rattle.hare_typed.specs.Typed.{TypedNode}
 use Rattle.hare_typed.specs.Copies.{is_defer}
 use Rattle.hare_rules.specs.declared.hint.Hint.{Hint}
 use Rattle.hare_rules.specs.declared.inside.Target.TheVariants as target
-use Rattle.hare_rules.specs.Context.{Setting, Inside, Open, Role}
+use Rattle.hare_rules.specs.Context.{Setting, Open, Role}
 use Rattle.hare_rules.specs.Above.{Above, hint_of, unless_bare, labels_by, opened, number_above, role_of, values_under, over_kid}
 use Rattle.hare_rules.specs.Finished.{bare}
 use Rattle.hare_walk.specs.declared.counts.At.{At}

@@ -1,7 +1,7 @@
 -- What a node asks of its next kid, as the definition has it, of what the walk has in hand.
 use Rattle.std.specs.Prelude.{◌≡◌, ◌+◌, List, length, map, drop, slice_get, Some}
 use Rattle.hare_tree.specs.declared.kind.Kind.{Kind}
-use Rattle.hare_tree.specs.Node.{Head, Nodes, head, nodes_of}
+use Rattle.hare_tree.specs.Node.{Nodes, head, nodes_of}
 use Rattle.hare_types.specs.Store.{Store}
 use Rattle.hare_types.specs.Later.{IsLater}
 use Rattle.hare_typed.specs.Typed.{TypedNode, typed_nodes}

@@ -1,6 +1,4 @@
-use Rattle.std.proofs.Common.{sym, ap, ◌∙◌}
-use Rattle.hare_tree.specs.Node.{nodes_of}
-use Rattle.hare_rules.specs.Above.{first_allocates}
+use Rattle.std.proofs.Common.{◌∙◌}
 use Rattle.hare_above.proofs.BareLemmas.{head-node}
 use Rattle.hare_above.proofs.heap.+allocates.Goals as goal
 

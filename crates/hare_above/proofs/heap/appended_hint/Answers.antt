@@ -1,4 +1,4 @@
-use Rattle.std.proofs.Common.{◌≡◌, ap, sym, ◌∙◌, length, arith, Some, None}
+use Rattle.std.proofs.Common.{◌≡◌, ap, ◌∙◌, length, arith}
 use Rattle.hare_types.specs.declared.coercion.Ty.{Ty}
 use Rattle.hare_typed.specs.Coercions.{element_of_slice}
 use Rattle.hare_typed.specs.Given.{base_row}

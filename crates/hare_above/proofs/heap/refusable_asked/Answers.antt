@@ -1,4 +1,4 @@
-use Rattle.std.proofs.Common.{◌≡◌, sym, ap, ◌∙◌}
+use Rattle.std.proofs.Common.{sym, ◌∙◌}
 use Rattle.hare_types.proofs.LaterLemmas.{later_trans}
 use Rattle.hare_rules.specs.Words.{nomem}
 use Rattle.rule_judge.proofs.MeantLemmas.{name_stays}

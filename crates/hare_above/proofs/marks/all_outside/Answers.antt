@@ -1,4 +1,4 @@
-use Rattle.std.proofs.Common.{ap, ◌∙◌, ◌≤◌, length, map, arith, refl}
+use Rattle.std.proofs.Common.{ap, ◌∙◌, ◌≤◌, length, map, arith}
 use Rattle.std.proofs.lemmas.List.{take_all}
 use Rattle.hare_above.specs.Frames.{unmarked}
 use Rattle.hare_above.proofs.FrameLemmas.{copied-next}

@@ -1,4 +1,4 @@
-use Rattle.std.proofs.Common.{◌≡◌, sym, arith}
+use Rattle.std.proofs.Common.{sym, arith}
 use Rattle.rule_judge.proofs.KidLemmas.{own_defined}
 use Rattle.hare_above.proofs.BareLemmas.{values-later}
 use Rattle.hare_above.proofs.standing.values_under.Goals as goal

@@ -1,5 +1,4 @@
-use Rattle.std.proofs.Common.{sym, ap, ◌∙◌, subst}
-use Rattle.hare_tree.specs.Node.{head}
+use Rattle.std.proofs.Common.{sym, subst}
 use Rattle.rule_judge.specs.Defined.{IsDefinedHint}
 use Rattle.hare_rules.specs.Control.{takes_yield}
 use Rattle.hare_above.specs.Asked.{labels_in}

@@ -1,7 +1,5 @@
-use Rattle.std.proofs.Common.{refl, sym, ap, ◌∙◌, Some, None, ◌-◌}
-use Rattle.std.specs.Prelude.{option_copied}
+use Rattle.std.proofs.Common.{refl, ap, ◌∙◌, Some, None, ◌-◌}
 use Rattle.hare_rules.specs.Above.{hint_to, component_at}
-use Rattle.hare_types.proofs.LaterLemmas.{later_here}
 use Rattle.rule_judge.specs.Defined.{IsDefined}
 use Rattle.hare_above.proofs.BareLemmas.{component-next, component-held}
 use Rattle.hare_above.proofs.values.component_hint.Goals as goal

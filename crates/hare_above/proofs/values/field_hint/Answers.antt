@@ -1,4 +1,4 @@
-use Rattle.std.proofs.Common.{◌≡◌, sym, ap, ap₂, ◌∙◌, arith, ℕ, List}
+use Rattle.std.proofs.Common.{ap, ap₂, ◌∙◌, arith, ℕ, List}
 use Rattle.hare_tree.specs.Node.{head}
 use Rattle.hare_types.specs.declared.coercion.Ty.{Ty}
 use Rattle.hare_typed.specs.Given.{base_row}

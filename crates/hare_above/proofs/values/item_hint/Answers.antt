@@ -1,4 +1,4 @@
-use Rattle.std.proofs.Common.{◌≡◌, sym, ◌∙◌, arith, length}
+use Rattle.std.proofs.Common.{sym, ◌∙◌, arith}
 use Rattle.hare_types.proofs.LaterLemmas.{later_trans}
 use Rattle.rule_judge.proofs.KidLemmas.{own_defined}
 use Rattle.rule_ctl.proofs.TryLemmas.{no_type}

@@ -1,4 +1,4 @@
-use Rattle.std.proofs.Common.{◌≡◌, sym, refl}
+use Rattle.std.proofs.Common.{sym, refl}
 use Rattle.std.specs.Prelude.{reverse}
 use Rattle.hare_above.proofs.FrameLemmas.{framed-append, opens-append, outer-append}
 use Rattle.hare_above.proofs.standing.Standing.open.Goals as goal
