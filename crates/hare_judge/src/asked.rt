@@ -8,7 +8,7 @@ ghost use Rattle.hare_rules.specs.Judged as judged;
 ghost use Rattle.rule_judge.specs.Asked as asked;
 ghost use Rattle.rule_judge.specs.Grown.{IsGrown};
 ghost use Rattle.rule_judge.specs.Turns.{context_in, kind_in};
-ghost use Rattle.hare_judge.specs.Kinds.{is_judged_kind};
+ghost use Rattle.hare_judge.specs.Kinds.{has_cases, is_judged_kind};
 ghost use Rattle.hare_judge.specs.Needs.{IsReadyTurn};
 
 use crate::kinds::{Judge, judge_of};
@@ -50,6 +50,14 @@ fn is_bare_part(k: Kind) -> bool
     )
 }
 
+/// Whether a `match` or a `switch` asks its kid number `i` for a type.
+fn asks_case(t: &Turn<'_>, i: usize) -> bool
+    requires { has_cases (kind_in t.now) ≡ true }
+    ensures { (f : Store) → result ≡ asked.asks_type (context_in f t.now) i }
+{
+    rule_join::asks_case(t, i)
+}
+
 /// Whether the node itself asks its kid number `i` for a type, where that is an expression or a statement.
 fn asks_type(alloc: Global, s: &mut TypeStore, t: &Turn<'_>, i: usize) -> Result<bool, AllocError>
     requires kind { is_judged_kind (kind_in t.now) ≡ true }
@@ -64,7 +72,8 @@ fn asks_type(alloc: Global, s: &mut TypeStore, t: &Turn<'_>, i: usize) -> Result
         Some(Judge::Memory) => rule_mem::asks_type(s, t, i),
         Some(Judge::Control) => rule_ctl::asks_type(alloc, s, t, i),
         Some(Judge::Joining) => rule_join::asks_type(s, t, i),
-        Some(Judge::Waiting) => Err(AllocError),
+        Some(Judge::Matching) => Ok(asks_case(t, i)),
+        Some(Judge::Switching) => Ok(asks_case(t, i)),
         None => unreachable!(),
     }
 }

@@ -15,13 +15,11 @@ use hare_types::TypeStore;
 use rule_judge::Turn;
 use std::alloc::Global;
 
-/// Judges a node of which a hint asks something: an expression, a statement or a declaration of a value. The answer is its type and the coercions
-/// that it settles, or the fault of the first row of the table of typing rules that it fails, in every later store. The store may grow in types,
-/// also where there is a fault.
+/// Judges an expression or a statement. The answer is its type and the coercions that it settles, or the fault of the first row of the table of
+/// typing rules that it fails, in every later store. The store may grow in types, also where there is a fault.
 ///
 /// The node is shaped and has its kids, which have been judged; each type that stands in them or is told with it is in the store, and mentions
-/// no name that is not defined. What a path means is known, and the store defines `rt::nomem`. Of the kinds whose rules are not joined yet
-/// the answer is that memory is short.
+/// no name that is not defined. What a path means is known, the store defines `rt::nomem`, and each case of a `match` or a `switch` has a type.
 pub fn judge(alloc: Global, s: &mut TypeStore, t: &Turn<'_>) -> Result<Verdict, Stop<Fault>>
     requires kind { is_judged_kind (kind_in t.now) ≡ true }
     requires ready { IsReadyTurn s.old t.now }
@@ -45,7 +43,12 @@ pub fn judge(alloc: Global, s: &mut TypeStore, t: &Turn<'_>) -> Result<Verdict, 
         Some(Judge::Joining) => {
             rule_join::judge(alloc, s, t.decls, t.locals, t.case, node, t.kids)
         }
-        Some(Judge::Waiting) => Err(Stop::Memory),
+        Some(Judge::Matching) => {
+            rule_match::judge(alloc, s, t.decls, t.locals, t.case, node, t.kids)
+        }
+        Some(Judge::Switching) => {
+            rule_switch::judge(alloc, s, t.decls, t.locals, t.case, node, t.kids)
+        }
         None => unreachable!(),
     }
 }

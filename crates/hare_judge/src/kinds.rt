@@ -16,11 +16,14 @@ pub enum Judge {
     Control,
     /// Branches, loops, blocks and cases.
     Joining,
-    /// `match`, `switch`, and declarations of values: their rules are not joined yet.
-    Waiting,
+    /// `match`.
+    Matching,
+    /// `switch`.
+    Switching,
 }
 
-/// The rules of a kind of node; none of a kind that has none, and of a written type, which no hint asks for anything.
+/// The rules of a kind of node of a body; none of a kind that has none, of a written type, which no hint asks for anything, and of a declaration,
+/// which is judged by itself.
 pub fn judge_of(kind: Kind) -> Option<Judge>
     ensures some { IfSome result (λ j. judges j kind ≡ true) }
     ensures none { result ≡ None → is_judged_kind kind ≡ false }
@@ -78,9 +81,8 @@ pub fn judge_of(kind: Kind) -> Option<Judge>
         Kind::If | Kind::For | Kind::ForEach | Kind::Block | Kind::Case | Kind::SwitchCase => Some(
             Judge::Joining,
         ),
-        Kind::Match | Kind::Switch | Kind::Def | Kind::GlobalLet | Kind::GlobalConst => {
-            Some(Judge::Waiting)
-        }
+        Kind::Match => Some(Judge::Matching),
+        Kind::Switch => Some(Judge::Switching),
         _ => None,
     }
 }
