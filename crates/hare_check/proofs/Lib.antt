@@ -6,3 +6,5 @@ pub mod NextLemmas
 pub mod LateLemmas
 pub mod ResultLemmas
 pub mod LookedLemmas
+pub mod BindingLemmas
+pub mod ClosingLemmas

@@ -5,3 +5,5 @@ pub mod Late
 pub mod Findings
 pub mod Settling
 pub mod Looked
+pub mod Levels
+pub mod Closing
