@@ -2,14 +2,14 @@
 use Rattle.std.proofs.Common.{◌≡◌, ◌↔◌, ℕ, ◌+◌, ◌<◌, ◌≤◌, List, [], ◌∷◌, ◌++◌, ◌⊎◌, inl, inr, Bool, true, false, length, get_or, slice_get, set, fold, filter, nat_lt, replicate, sum_by, cond, is_none, is_some, Option, Some, None, refl, sym, ap, ◌∙◌, subst, zero, suc, arith, length-append}
 use Rattle.std.specs.Prelude.{Contains}
 use Rattle.std.specs.List.Sorted.{IsPermutation, IsNonDecreasing}
-use Rattle.std.proofs.lemmas.Bool.{cases_lt, ltb-true, lt-ltb}
+use Rattle.std.proofs.lemmas.Bool.{and_parts, cases_lt, ltb-true, lt-ltb}
 use Rattle.std.proofs.lemmas.List.{length-set, get_or-set_same, get_or-set_other, length-replicate}
 use Rattle.std.proofs.lemmas.List.Sums.{sum_by-set}
 use Rattle.std.proofs.lemmas.List.Sorted.{Contains-permutation, IsPermutation-sym}
 use Rattle.std.proofs.lemmas.List.Elements.{Contains-push, Contains-append_left, Contains-push_cases}
 use Rattle.hare_graph.specs.Graphs.{Graph, HasEdge, Reached, at_start, along, label_of, IsLabelled, count_free, Spreads, AreNew, cleared}
 use Rattle.hare_graph.specs.Ranks.{StaysWithin}
-use Rattle.hare_graph.proofs.Elements.{Contains-none, Contains-cases, Contains-here, Contains-behind, Other, other}
+use Rattle.hare_graph.proofs.Elements.{Contains-none, Contains-cases, Contains-here, Contains-behind, Other, other, get_or-there}
 use Rattle.hare_graph.proofs.ReachLemmas.{label_of-replicate}
 use Rattle.hare_depends.specs.declared.said.Said.{Said}
 use Rattle.hare_depends.specs.declared.search.Frame.{Frame}
@@ -17,8 +17,8 @@ use Rattle.hare_depends.specs.declared.search.Search.{Search}
 use Rattle.hare_depends.specs.Dependence.{DependsOn}
 use Rattle.hare_depends.specs.Circles.{TellsCircle}
 use Rattle.hare_depends.specs.Order.{IsReady, IsFirstLeft, IsAny, AreInTurn, IsOrder}
-use Rattle.hare_depends.specs.Search.{source, IsDependence, IsClosed, AreSpent, is_below, AreLeft, wants, last_of, IsOnWay, IsFrame, IsWay, IsNextOn, IsUnder, AreEntered, Stands, work, Continues, Skips, IsAt}
-use Rattle.hare_depends.proofs.ListLemmas.{Contains-filter, filter-from}
+use Rattle.hare_depends.specs.Search.{source, IsDependence, IsClosed, AreSpent, is_below, AreLeft, wants, last_of, IsOnWay, IsFrame, IsWay, IsNextOn, IsUnder, AreEntered, Stands, work, Continues, Skips, is_passed, IsAt}
+use Rattle.hare_depends.proofs.ListLemmas.{Contains-filter, filter-from, there-within}
 use Rattle.hare_depends.proofs.WayLemmas.{on-way-push, on-way-cases, last-push, way-push, way-front, way-first, way-frame, way-next, next-fresh, way-done, turn-more, done-kept}
 
 -- ---- labels
@@ -454,6 +454,18 @@ module _ (ds : List Said) (g : Graph) (done : List ℕ) (spent entered : List (O
       by (inl c) = c
       by (inr x) = subst (Contains done) (same-default f.left.items x.0 0 e x.1 ∙ x.2) (passed x.0 (omega (arith, x.1)) x.1)
 
+-- what is read of a frame
+pub got : (xs ys : List ℕ) (i x : ℕ) → ys ≡ xs → slice_get ys i ≡ Some x → (i < length xs) × (get_or xs i 0 ≡ x)
+got xs ys i x q e = let f : slice_get xs i ≡ Some x = subst (λ zs. slice_get zs i ≡ Some x) q e in (there-within xs i x f, get_or-there xs i x 0 f)
+
+none-past : (xs : List ℕ) (i : ℕ) → slice_get xs i ≡ None → length xs ≤ i
+none-past [] i e = omega arith
+none-past (x ∷ xs) zero e = absurd cc
+none-past (x ∷ xs) (suc i) e = let l : length xs ≤ i = none-past xs i e in omega arith
+
+pub got-none : (xs ys : List ℕ) (i : ℕ) → ys ≡ xs → slice_get ys i ≡ None → length xs ≤ i
+got-none xs ys i q e = none-past xs i (subst (λ zs. slice_get zs i ≡ None) q e)
+
 -- the next is entered behind a frame
 pub goes-to : (ds : List Said) (g : Graph) (s u t : Search) (f h : Frame) (next : ℕ) → f.decl ≡ h.decl → u.done.items ≡ s.done.items → u.entered.items ≡ s.entered.items →
     u.way.items ≡ s.way.items ++ h ∷ [] → Continues ds g u next (work u) t → Continues ds g s f.decl (work s + 1) t
@@ -566,3 +578,33 @@ finished ds g k s h q = record { stands = h.stands; empty = q; before = λ e l. 
 -- at the end all are in order
 pub in-order : (ds : List Said) (g : Graph) (k : ℕ) (s : Search) → IsAt ds g k s → length ds ≤ k → IsOrder ds s.done.items
 in-order ds g k s a l = record { all = λ d m. a.before d (omega arith); in_turn = a.stands.in_turn }
+
+-- ---- what a test tells of a label
+
+some-told : (o : Option ℕ) → is_some o ≡ true → (l : ℕ) × (o ≡ Some l)
+some-told None e = absurd cc
+some-told (Some l) e = (l, refl)
+
+none-told : (o : Option ℕ) → is_some o ≡ false → o ≡ None
+none-told None e = refl
+none-told (Some l) e = absurd cc
+
+pub tested-true : (ls ms : List (Option ℕ)) (n : ℕ) (o : Option ℕ) (b : Bool) → ms ≡ ls → o ≡ label_of ms n → b ≡ is_some o → b ≡ true → IsLabelled ls n
+tested-true ls ms n o b q e f t = some-told (label_of ls n) (ap is_some (sym (e ∙ ap (λ xs. label_of xs n) q)) ∙ sym f ∙ t)
+
+pub tested-false : (ls ms : List (Option ℕ)) (n : ℕ) (o : Option ℕ) (b : Bool) → ms ≡ ls → o ≡ label_of ms n → b ≡ is_some o → b ≡ false → label_of ls n ≡ None
+tested-false ls ms n o b q e f t = none-told (label_of ls n) (ap is_some (sym (e ∙ ap (λ xs. label_of xs n) q)) ∙ sym f ∙ t)
+
+-- one more of a frame has a label
+pub passed-more : (ls : List (Option ℕ)) (xs ys : List ℕ) (from n : ℕ) → ys ≡ xs → is_passed ls ys n ≡ true →
+    ((j : ℕ) → j < n → j < length xs → (j < from) ⊎ IsLabelled ls (get_or xs j 0)) → (j : ℕ) → j < n + 1 → j < length xs → (j < from) ⊎ IsLabelled ls (get_or xs j 0)
+passed-more ls xs ys from n q t inv j l m = by (other j n)
+  where
+    here : IsLabelled ls (get_or xs n 0)
+    here =
+        let u : is_passed ls xs n ≡ true = subst (λ zs. is_passed ls zs n ≡ true) q t in
+        some-told (label_of ls (get_or xs n 0)) (and_parts _ _ u).1
+
+    by : Other j n → (j < from) ⊎ IsLabelled ls (get_or xs j 0)
+    by (inl e) = inr (subst (λ i. IsLabelled ls (get_or xs i 0)) (sym e) here)
+    by (inr k) = inv j (omega arith) m

@@ -1,5 +1,5 @@
 -- How the order of declarations is searched for, in depth. No public clause cites it.
-use Rattle.std.specs.Prelude.{◌≡◌, ◌↔◌, ℕ, ◌+◌, ◌*◌, ◌<◌, ◌≤◌, List, [], ◌∷◌, ◌++◌, ◌⊎◌, Bool, nat_lt, length, fold, slice_index_or, Option, Some, None, Contains, if◌then◌else◌}
+use Rattle.std.specs.Prelude.{◌≡◌, ◌↔◌, ℕ, ◌+◌, ◌*◌, ◌<◌, ◌≤◌, List, [], ◌∷◌, ◌++◌, ◌⊎◌, Bool, ◌&&◌, nat_lt, is_some, length, fold, slice_index_or, Option, Some, None, Contains, if◌then◌else◌}
 use Rattle.std.specs.List.Sorted.{IsNonDecreasing}
 use Rattle.hare_graph.specs.Graphs.{Graph, HasEdge, Reached, label_of, IsLabelled, with_edge, edgeless, count_free}
 use Rattle.hare_graph.specs.Ranks.{StaysWithin}
@@ -116,6 +116,10 @@ pub record Continues (ds : List Said) (g : Graph) (s : Search) (d left : ℕ) (t
   pub stands : Stands ds g t.done.items t.spent.items t.entered.items t.way.items
   pub under : (e : ℕ) → IsUnder s.done.items s.way.items e ⊎ (d ≡ e) → IsUnder t.done.items t.way.items e
   pub less : work t < left
+
+-- there is such an element, and it has a label
+abbrev pub is_passed : List (Option ℕ) → List ℕ → ℕ → Bool
+is_passed ls xs i = nat_lt i (length xs) && is_some (label_of ls (slice_index_or xs i 0))
 
 -- the frame has gone over some that have labels, up to one that has none or the end
 pub record Skips (ls : List (Option ℕ)) (f h : Frame) : Type 0 where

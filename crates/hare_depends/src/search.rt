@@ -4,7 +4,7 @@
 //! ascending order: the first of them that is still left is gone on to. Nodes of what is mentioned get a label once all that they lead to is done, and are not
 //! looked at again.
 
-ghost use Rattle.std.specs.Prelude.{◌≡◌, ◌+◌, ◌<◌, ◌^◌, ◌++◌, ◌∷◌, [], length, filter, None, IfOk, OnOk};
+ghost use Rattle.std.specs.Prelude.{◌≡◌, ◌+◌, ◌<◌, ◌^◌, ◌++◌, ◌∷◌, [], length, slice_get, filter, None, IfOk, OnOk};
 ghost use Rattle.hare_graph.specs.Graphs.{label_of};
 ghost use Rattle.hare_graph.specs.Ranks.{StaysWithin};
 ghost use Rattle.hare_depends.specs.Circles.{AllWithin, TellsCircle};
@@ -112,7 +112,7 @@ fn go_on(
 {
     let mut search = search;
     let frame = skip_done(frame, &search.spent);
-    let Some(next) = frame.left.get(frame.next).copied() else {
+    let Some(next) = next_of(&frame.left, frame.next) else {
         return put_out(alloc, saids, graph, search, frame);
     };
     search.way.push(frame)?;
@@ -120,15 +120,29 @@ fn go_on(
     Ok(search)
 }
 
+/// The element with this number.
+fn next_of(left: &[usize], next: usize) -> Option<usize>
+    ensures { result ≡ slice_get left.now next }
+{
+    left.get(next).copied()
+}
+
 /// Passes over those of a frame that are done.
 fn skip_done(frame: Frame, spent: &[Option<usize>]) -> Frame
     ensures { spec.Skips spent.now frame result }
 {
     let mut frame = frame;
-    while frame.next < frame.left.len() && label_of(spent, frame.left[frame.next]).is_some() {
+    while is_passed(&frame.left, frame.next, spent) {
         frame.next += 1;
     }
     frame
+}
+
+/// Whether there is such an element, and it has a label.
+fn is_passed(left: &[usize], next: usize, spent: &[Option<usize>]) -> bool
+    ensures { result ≡ spec.is_passed spent.now left.now next }
+{
+    next < left.len() && label_of(spent, left[next]).is_some()
 }
 
 /// Enters a declaration: the first of those that are left on which the last on the way depends, or of all.
