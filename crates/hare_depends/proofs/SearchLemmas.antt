@@ -568,12 +568,27 @@ finishing-on ds g k s u t f h qd qw c = record { stands = c.stands; under = λ e
     from e (inl x) = inl (inl (subst (λ ns. Contains ns e) (sym qd) x))
     from e (inr w) = cases e (on-way-cases u.way.items f e (subst (λ ws. IsOnWay ws e) qw w))
 
-pub finished : (ds : List Said) (g : Graph) (k : ℕ) (s : Search) → Finishing ds g k s → s.way.items ≡ [] → IsAt ds g (k + 1) s
-finished ds g k s h q = record { stands = h.stands; empty = q; before = λ e l. by e (subst (λ ws. IsUnder s.done.items ws e) q (h.under e l)) }
+pub finished : (ds : List Said) (g : Graph) (k : ℕ) (s t : Search) → t.done.items ≡ s.done.items → t.spent.items ≡ s.spent.items →
+    t.entered.items ≡ s.entered.items → Finishing ds g k s → s.way.items ≡ [] → t.way.items ≡ [] → IsAt ds g (k + 1) t
+finished ds g k s t qd qs qe h q r = record {
+  stands =
+      subst (λ ns. Stands ds g ns t.spent.items t.entered.items t.way.items) (sym qd)
+      (subst (λ ls. Stands ds g s.done.items ls t.entered.items t.way.items) (sym qs)
+      (subst (λ es. Stands ds g s.done.items s.spent.items es t.way.items) (sym qe)
+      (subst (λ ws. Stands ds g s.done.items s.spent.items s.entered.items ws) (q ∙ sym r) h.stands)));
+  empty = r;
+  before = λ e l. subst (λ ns. Contains ns e) (sym qd) (by e (subst (λ ws. IsUnder s.done.items ws e) q (h.under e l)));
+}
   where
     by : (e : ℕ) → IsUnder s.done.items [] e → Contains s.done.items e
     by e (inl c) = c
     by e (inr w) = absurd w
+
+pub goes-less : (s u t : Search) (f : Frame) → u.entered.items ≡ s.entered.items → s.way.items ≡ u.way.items ++ f ∷ [] → work t < work u + 1 → work t < work s
+goes-less s u t f qe qw l =
+    let e : count_free u.entered.items ≡ count_free s.entered.items = ap count_free qe in
+    let w : length s.way.items ≡ length u.way.items + 1 = ap length qw ∙ length-append u.way.items (f ∷ []) in
+    omega (arith, l, e, w)
 
 -- at the end all are in order
 pub in-order : (ds : List Said) (g : Graph) (k : ℕ) (s : Search) → IsAt ds g k s → length ds ≤ k → IsOrder ds s.done.items
@@ -603,7 +618,7 @@ passed-more ls xs ys from n q t inv j l m = by (other j n)
     here : IsLabelled ls (get_or xs n 0)
     here =
         let u : is_passed ls xs n ≡ true = subst (λ zs. is_passed ls zs n ≡ true) q t in
-        some-told (label_of ls (get_or xs n 0)) (and_parts _ _ u).1
+        some-told (label_of ls (get_or xs n 0)) (and_parts (nat_lt n (length xs)) (is_some (label_of ls (get_or xs n 0))) u).1
 
     by : Other j n → (j < from) ⊎ IsLabelled ls (get_or xs j 0)
     by (inl e) = inr (subst (λ i. IsLabelled ls (get_or xs i 0)) (sym e) here)

@@ -51,11 +51,29 @@ pub fn order(alloc: Global, saids: &[Said]) -> Result<Vec<u32>, AllocError>
     ensures { IfOk result (λ ds. IsOrder saids.now ds.items) }
 {
     let graph = dependence_of(alloc, saids)?;
-    let mut search = start(alloc, saids, &graph)?;
-    for decl in 0..saids.len() {
-        search = finish(alloc, saids, &graph, search, decl)?;
-    }
+    let begun = start(alloc, saids, &graph)?;
+    let search = finish_all(alloc, saids, &graph, begun)?;
     Ok(search.done)
+}
+
+/// Goes on until all declarations are done.
+fn finish_all(
+    alloc: Global,
+    saids: &[Said],
+    graph: &Graph,
+    search: Search,
+) -> Result<Search, AllocError>
+    requires few { length saids.now < 2 ^ 32 }
+    requires no_circle { TellsCircle saids.now None }
+    requires graph { spec.IsDependence saids.now graph.now }
+    requires at { spec.IsAt saids.now graph.now 0 search }
+    ensures { IfOk result (λ s. IsOrder saids.now s.done.items) }
+{
+    let mut search = search;
+    for decl in 0..saids.len() {
+        search = finish(alloc, saids, graph, search, decl)?;
+    }
+    Ok(search)
 }
 
 /// Nothing is done.

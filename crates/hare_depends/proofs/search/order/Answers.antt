@@ -1,6 +1,0 @@
-use Rattle.std.proofs.Common.{arith}
-use Rattle.hare_depends.proofs.SearchLemmas.{in-order}
-use Rattle.hare_depends.proofs.search.order.Goals as goal
-
-pub returns : goal.returns
-returns c = in-order c.args.saids.now c.in_ok-graph.graph c.loop-decl.decl c.loop-decl.search c.loop-decl.invariant (omega arith)
