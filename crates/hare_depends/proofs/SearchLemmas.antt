@@ -23,9 +23,6 @@ use Rattle.hare_depends.proofs.WayLemmas.{on-way-push, on-way-cases, last-push, 
 
 -- ---- labels
 
-
-
-
 told-of : (o : Option ℕ) → ((l : ℕ) × (o ≡ Some l)) ⊎ (o ≡ None)
 told-of None = inr refl
 told-of (Some l) = inl (l, refl)

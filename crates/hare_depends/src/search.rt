@@ -181,7 +181,11 @@ fn enter(
     let mut search = search;
     let left = left_of(alloc, graph, &mut search.spent, saids.len(), decl)?;
     search.entered[decl] = Some(0);
-    search.way.push(Frame { decl, left, next: 0 })?;
+    search.way.push(Frame {
+        decl,
+        left,
+        next: 0,
+    })?;
     Ok(search)
 }
 
@@ -239,7 +243,13 @@ fn put_out(
     let mut search = search;
     let decl = frame.decl;
     search.done.push(decl as u32)?;
-    flood(alloc, graph, &mut search.spent, source(saids.len(), decl), 0)?;
+    flood(
+        alloc,
+        graph,
+        &mut search.spent,
+        source(saids.len(), decl),
+        0,
+    )?;
     search.spent[decl] = Some(0);
     Ok(search)
 }
