@@ -269,7 +269,7 @@ module _ (ds : List Said) (w : AllWithin ds) where
 
 -- ---- graphs of edges
 
-folded-both : (n : ℕ) (es : List Edge) (g h : Graph) → ((x : Edge) → Contains es x → LiesWithin n x) → Both n g h →
+pub folded-both : (n : ℕ) (es : List Edge) (g h : Graph) → ((x : Edge) → Contains es x → LiesWithin n x) → Both n g h →
     Both n (fold with_forward g es) (fold with_backward h es)
 folded-both n [] g h w t = t
 folded-both n (e ∷ es) g h w t =
@@ -283,7 +283,7 @@ folded-back n (e ∷ es) g h w t =
     let l = w e (Contains-here e es) in
     folded-back n es (with_forward g e) (with_backward h e) (λ x c. w x (Contains-behind e x es c)) (both-on n h g e.to e.from l.1 l.0 t)
 
-folded-from : (es : List Edge) (g : Graph) (a b : ℕ) → HasEdge (fold with_forward g es) a b → HasEdge g a b ⊎ Contains es (edge a b)
+pub folded-from : (es : List Edge) (g : Graph) (a b : ℕ) → HasEdge (fold with_forward g es) a b → HasEdge g a b ⊎ Contains es (edge a b)
 folded-from [] g a b h = inl h
 folded-from (e ∷ es) g a b h = by (folded-from es (with_forward g e) a b h)
   where
@@ -302,7 +302,7 @@ folded-keeps : (es : List Edge) (g : Graph) (a b : ℕ) → HasEdge g a b → Ha
 folded-keeps [] g a b h = h
 folded-keeps (e ∷ es) g a b h = folded-keeps es (with_forward g e) a b (edge-kept g e.from e.to a b h)
 
-folded-has : (es : List Edge) (g : Graph) (x : Edge) → x.from < length g → Contains es x → HasEdge (fold with_forward g es) x.from x.to
+pub folded-has : (es : List Edge) (g : Graph) (x : Edge) → x.from < length g → Contains es x → HasEdge (fold with_forward g es) x.from x.to
 folded-has [] g x l c = absurd (Contains-none x c)
 folded-has (e ∷ es) g x l c =
     by (λ d. folded-has es (with_forward g e) x (omega (arith, length-with_edge g e.from e.to)) d) (Contains-cases e x es c)

@@ -7,3 +7,6 @@ pub mod LeadLemmas
 pub mod FindLemmas
 pub mod OrderLemmas
 mod OrderRows
+pub mod DependLemmas
+pub mod WayLemmas
+pub mod SearchLemmas

@@ -4,3 +4,4 @@ pub mod Dependence
 pub mod Circles
 pub mod Order
 pub mod Edges
+pub mod Search

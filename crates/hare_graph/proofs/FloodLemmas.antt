@@ -6,7 +6,7 @@ use Rattle.std.proofs.lemmas.List.{length-set, get_or-set_same, get_or-set_other
 use Rattle.std.proofs.lemmas.List.Sums.{sum_by-set}
 use Rattle.std.proofs.lemmas.List.Elements.{Contains-push, Contains-append_left, Contains-push_cases}
 use Rattle.hare_graph.proofs.Elements.{Contains-none, Contains-cases, Contains-here, Contains-behind, Other, other}
-use Rattle.hare_graph.specs.Graphs.{Graph, HasEdge, Reached, at_start, along, label_of, IsLabelled, Marks, is_free, visited, marks, count_free, Spreads}
+use Rattle.hare_graph.specs.Graphs.{Graph, HasEdge, Reached, at_start, along, label_of, IsLabelled, Marks, is_free, visited, marks, count_free, Spreads, AreNew}
 
 -- ---- one step
 
@@ -268,3 +268,61 @@ flooded g start k old now left e f = record {
     by : (a b : ℕ) → IsLabelled now b ⊎ Contains left a → IsLabelled now b
     by a b (inl x) = x
     by a b (inr c) = absurd (Contains-none a (subst (λ xs. Contains xs a) e c))
+
+-- ---- the nodes that got the label
+
+-- those so far, which were left and are gone on from
+pub record Gathering (g : Graph) (start : ℕ) (old now : List (Option ℕ)) (left found : List ℕ) : Type 0 where
+  pub all : (n : ℕ) → label_of old n ≡ None → IsLabelled now n → Contains found n ⊎ Contains left n
+  pub only : (n : ℕ) → Contains found n → (label_of old n ≡ None) × Reached g start n
+
+pub gathering-start : (g : Graph) (start k : ℕ) (old now : List (Option ℕ)) (none left found : List ℕ) → none ≡ [] → found ≡ [] → marks now left ≡ visited k (marks old none) start → Gathering g start old now left found
+gathering-start g start k old now none left found n q e = record {
+  all = λ a h l. by a l.0 h (s.fresh a l.0 l.1);
+  only = λ a c. absurd (Contains-none a (subst (λ xs. Contains xs a) q c));
+}
+  where
+    f : marks now left ≡ visited k (marks old []) start
+    f = e ∙ ap (λ xs. visited k (marks old xs) start) n
+
+    s : Step k (start ∷ []) (marks old []) (marks now left)
+    s = subst (λ m. Step k (start ∷ []) (marks old []) m) (sym f) (visited-step k (marks old []) start)
+
+    by : (a l : ℕ) → label_of old a ≡ None → (label_of old a ≡ Some l) ⊎ ((label_of old a ≡ None) × (l ≡ k) × Contains (start ∷ []) a × Contains left a) → Contains found a ⊎ Contains left a
+    by a l h (inl x) = absurd cc
+    by a l h (inr x) = inr x.3
+
+pub gathering-on : (g : Graph) (start k : ℕ) (old now now' : List (Option ℕ)) (all left left' found : List ℕ) (node : ℕ) → all ≡ left ++ node ∷ [] → marks now' left' ≡ fold (visited k) (marks now left) (get_or g node []) → Flooding g start k old now all → Gathering g start old now all found → Gathering g start old now' left' (found ++ node ∷ [])
+gathering-on g start k old now now' all left left' found node a e f t = record {
+  all = λ n h l. fresh n l.0 h (s.fresh n l.0 l.1);
+  only = λ n c. only n (Contains-push_cases found node n c);
+}
+  where
+    s : Step k (get_or g node []) (marks now left) (marks now' left')
+    s = subst (λ m. Step k (get_or g node []) (marks now left) m) (sym e) (all-step k (marks now left) (get_or g node []))
+
+    waiting : (n : ℕ) → Contains left n ⊎ (node ≡ n) → Contains (found ++ node ∷ []) n ⊎ Contains left' n
+    waiting n (inl c) = inr (s.stays n c)
+    waiting n (inr q) = inl (subst (λ x. Contains (found ++ node ∷ []) x) q (Contains-push found node))
+
+    before : (n : ℕ) → Contains found n ⊎ Contains all n → Contains (found ++ node ∷ []) n ⊎ Contains left' n
+    before n (inl c) = inl (Contains-append_left found (node ∷ []) n c)
+    before n (inr c) = waiting n (Contains-push_cases left node n (subst (λ xs. Contains xs n) a c))
+
+    fresh : (n l : ℕ) → label_of old n ≡ None → (label_of now n ≡ Some l) ⊎ ((label_of now n ≡ None) × (l ≡ k) × Contains (get_or g node []) n × Contains left' n) → Contains (found ++ node ∷ []) n ⊎ Contains left' n
+    fresh n l h (inl x) = before n (t.all n h (l, x))
+    fresh n l h (inr x) = inr x.3
+
+    only : (n : ℕ) → Contains found n ⊎ (node ≡ n) → (label_of old n ≡ None) × Reached g start n
+    only n (inl c) = t.only n c
+    only n (inr q) = f.left_new n (subst (λ xs. Contains xs n) (sym a) (subst (λ x. Contains (left ++ node ∷ []) x) q (Contains-push left node)))
+
+pub gathered : (g : Graph) (start : ℕ) (old now : List (Option ℕ)) (left found : List ℕ) → left ≡ [] → Gathering g start old now left found → AreNew g start old now found
+gathered g start old now left found e t = record {
+  all = λ n h l. by n (t.all n h l);
+  only = t.only;
+}
+  where
+    by : (n : ℕ) → Contains found n ⊎ Contains left n → Contains found n
+    by n (inl c) = c
+    by n (inr c) = absurd (Contains-none n (subst (λ xs. Contains xs n) e c))

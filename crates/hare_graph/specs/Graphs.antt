@@ -58,3 +58,12 @@ pub record Spreads (g : Graph) (start k : ℕ) (old new : List (Option ℕ)) : T
   pub fresh : (n l : ℕ) → label_of new n ≡ Some l → (label_of old n ≡ Some l) ⊎ ((label_of old n ≡ None) × (l ≡ k) × Reached g start n)
   pub started : start < length old → IsLabelled new start
   pub closed : (a b : ℕ) → label_of old a ≡ None → IsLabelled new a → HasEdge g a b → b < length old → IsLabelled new b
+
+-- the nodes that have a label now and had none
+pub record AreNew (g : Graph) (start : ℕ) (old new : List (Option ℕ)) (ns : List ℕ) : Type 0 where
+  pub all : (n : ℕ) → label_of old n ≡ None → IsLabelled new n → Contains ns n
+  pub only : (n : ℕ) → Contains ns n → (label_of old n ≡ None) × Reached g start n
+
+-- the node loses its label, where there is such a node
+abbrev pub cleared : List (Option ℕ) → ℕ → List (Option ℕ)
+cleared ls n = if nat_lt n (length ls) then slice_set ls n None else ls

@@ -16,12 +16,40 @@ pub fn flood(
 ) -> Result<(), AllocError>
     ensures { OnOk result (spec.Spreads graph.now start label labels.old.items labels.new.items) }
 {
+    spread(alloc, graph, labels, start, label)?;
+    Ok(())
+}
+
+/// Does the same as `flood`, and gives the nodes that get the label.
+pub fn spread(
+    alloc: Global,
+    graph: &Graph,
+    labels: &mut Vec<Option<usize>>,
+    start: usize,
+    label: usize,
+) -> Result<Vec<usize>, AllocError>
+    ensures spreads { IfOk result (λ ns. spec.Spreads graph.now start label labels.old.items labels.new.items) }
+    ensures nodes { IfOk result (λ ns. spec.AreNew graph.now start labels.old.items labels.new.items ns.items) }
+{
+    let mut found = Vec::new(alloc);
     let mut left = Vec::new(alloc);
     visit(labels, &mut left, start, label)?;
     while let Some(node) = left.pop() {
+        found.push(node)?;
         go_on(graph, labels, &mut left, node, label)?;
     }
-    Ok(())
+    Ok(found)
+}
+
+/// Takes their labels from these nodes.
+pub fn clear(labels: &mut Vec<Option<usize>>, nodes: &[usize])
+    ensures { labels.new.items ≡ fold spec.cleared labels.old.items nodes.now }
+{
+    for node in nodes {
+        if *node < labels.len() {
+            labels[*node] = None;
+        }
+    }
 }
 
 /// Gives a label to each node without one to which a node leads.

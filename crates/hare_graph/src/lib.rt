@@ -7,6 +7,6 @@ mod ranking;
 mod reach;
 
 pub use graph::Graph;
-pub use labels::{flood, label_of, no_labels};
+pub use labels::{clear, flood, label_of, no_labels, spread};
 pub use ranking::ranks;
 pub use reach::{leads_to, leads_up};
