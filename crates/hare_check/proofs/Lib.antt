@@ -6,3 +6,7 @@ pub mod NextLemmas
 pub mod LateLemmas
 pub mod ResultLemmas
 pub mod LookedLemmas
+pub mod KidLemmas
+pub mod HintLemmas
+pub mod ValueLemmas
+pub mod AskedLemmas
