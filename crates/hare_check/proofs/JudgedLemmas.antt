@@ -1,6 +1,6 @@
 -- That a verdict is what is found of its node.
 use Rattle.std.proofs.Common.{◌≡◌, ℕ, Bool, true, false, List, [], ◌∷◌, ◌++◌, map, length, refl, ap, sym, ◌∙◌, subst, Option, Some, None}
-use Rattle.std.specs.Prelude.{replicate}
+use Rattle.std.specs.Prelude.{not, ◌&&◌, replicate}
 use Rattle.std.specs.List.{list_any}
 use Rattle.hare_tree.specs.declared.kind.Kind.{Kind}
 use Rattle.hare_tree.specs.declared.kind.Kind.TheVariants as ki
@@ -40,12 +40,14 @@ use Rattle.hare_walk.proofs.Verdicts.{verdicts_turn}
 use Rattle.rule_judge.specs.declared.turn.Turn.{Turn}
 use Rattle.rule_judge.specs.Told.{IsStoppedNode}
 use Rattle.rule_judge.specs.Turns.{context_in, head_in, kind_in, yields_in}
+use Rattle.rule_ctl.specs.Declaring.{declares}
 use Rattle.hare_judge.specs.Kinds.{is_judged_kind}
 use Rattle.hare_check.specs.declared.finding.Finding.{Finding}
 use Rattle.hare_check.specs.Listed.{listed_each, yields_listed, written_each, coated_each}
 use Rattle.hare_check.specs.Late.{settled_in}
 use Rattle.hare_check.specs.Settling.{option_in}
-use Rattle.hare_check.specs.Findings.{lists, IsAsked, IsFoundAt}
+use Rattle.hare_check.specs.Findings.{lists, IsFoundAt}
+use Rattle.hare_check.proofs.AskedLemmas.{IsAsked, context_at, told_context}
 use Rattle.hare_check.proofs.FindingLemmas.{listed_same, coated_from, as_is-more, no_yield_target, no_case_target, none_settled, none_moved, nones_written, nones_coated}
 
 -- what a finding takes of a verdict
@@ -67,21 +69,17 @@ judged_role BindingType k e = refl
 judged_role Callee k e = cc
 judged_role Length k e = cc
 
+has_site : (k : Kind) → is_judged_kind k ≡ true → list_any is_site (rows_of k) ≡ true
+has_site k e = first (list_any is_site (rows_of k)) (not (declares k)) e where
+  first : (a b : Bool) → (a && b) ≡ true → a ≡ true
+  first true b h = refl
+  first false b h = h
+
 -- the node is one of those that settle nothing
 unlisted : (k : Kind) → lists k ≡ false → (c : Context) (i : ℕ) → target_of c k i ≡ None
 unlisted ki.Yield e = no_yield_target ki.Yield refl
 unlisted ki.SwitchCase e = no_case_target ki.SwitchCase refl
 unlisted _ e = cc
-
-abbrev context_at : (Store → Setting) → Above → Flow → Turn → Store → Context
-context_at w a f t l = context (w l) a (head_in t) (map bare t.kids.now) f
-
--- the context that the judge is told is that of the node, as far as it is told
-told_here : (w : Store → Setting) (s : Store) (a : Above) (f : Flow) (t : Turn) (gs : List Given) (l : Store) → IsAsked w s a f t gs →
-    context_in l t ≡ told (context_at w a f t l) t.decls.now t.locals.now t.case.now
-told_here w s a f t gs l q =
-    ap (λ z. context_of z t.decls.now t.locals.now t.case.now (head_in t) t.kids.now) (sym (q.store l))
-    ∙ ap (context_of (store_of (context_at w a f t l)) t.decls.now t.locals.now t.case.now (head_in t)) q.hand
 
 -- ---- the kids of a node that settles what is listed
 
@@ -149,7 +147,7 @@ found_judged w s a f t gs v x l kind q later i from =
     let ls = t.locals.now in
     let k = t.case.now in
     let xs = t.kids.now in
-    let here = told_here w s a f t gs l q in
+    let here = told_context w a f t l (q.store l) q.hand in
     let told_ : IsTold c ds ls k = q.told l later in
     let looked : IsLookedAt c = q.looked l later in
     let verdict : IsVerdict (told c ds ls k) k.yields v = subst (λ z. IsVerdict z k.yields v) here i in
@@ -157,7 +155,7 @@ found_judged w s a f t gs v x l kind q later i from =
     let turn : IsTurnOf (w l) a (head_in t) (map bare xs) f ds ls k c =
     verdicts_turn (w l) a (head_in t) (map bare xs) f ds ls k told_ looked in
     let settle : IsAllSettled c (told c ds ls k) k = verdicts_settle c ds ls k told_ in
-    let judged : is_judged c ≡ true = ap (list_any is_site) (judged_role c.inside.role c.head.kind told_.role) ∙ kind in
+    let judged : is_judged c ≡ true = ap (list_any is_site) (judged_role c.inside.role c.head.kind told_.role) ∙ has_site (kind_in t) kind in
     let type : type_of c ≡ Some v.ty = sym enough.type ∙ verdict.type in
     let kids = kids_by (lists (kind_in t)) refl in
     record {
@@ -177,7 +175,7 @@ found_judged w s a f t gs v x l kind q later i from =
     kids_by true e =
         found_listed (context_at w a f t l) (context_in l t) t.locals.now t.case.now.yields t.kids.now f.coercions (map option_in x.kids)
         (record {
-          seen = told_here w s a f t gs l q
+          seen = told_context w a f t l (q.store l) q.hand
               ∙ told-seen (context_at w a f t l) t.decls.now t.locals.now t.case.now (q.told l later);
           hand = q.hand;
           kids = sym q.hand;
@@ -198,7 +196,7 @@ turned_back w s a f t gs Memory q h = λ l d. tt
 turned_back w s a f t gs (Refused e) q h =
     λ l d.
     let c = context_at w a f t l in
-    let r = subst (λ z. IsRefusal z e) (told_here w s a f t gs l q) (h l d) in
+    let r = subst (λ z. IsRefusal z e) (told_context w a f t l (q.store l) q.hand) (h l d) in
     let turn : IsTurnOf (w l) a (head_in t) (map bare t.kids.now) f t.decls.now t.locals.now t.case.now c =
     verdicts_turn (w l) a (head_in t) (map bare t.kids.now) f t.decls.now t.locals.now t.case.now (q.told l d) (q.looked l d) in
     turn.refused e r

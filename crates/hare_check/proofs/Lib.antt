@@ -8,3 +8,7 @@ pub mod ResultLemmas
 pub mod LookedLemmas
 pub mod BindingLemmas
 pub mod ClosingLemmas
+pub mod KidLemmas
+pub mod HintLemmas
+pub mod ValueLemmas
+pub mod AskedLemmas

@@ -100,5 +100,6 @@ ready_stays now later v l t h =
             meant = meant_stays now later v l t.decls.now t.locals.now t.case.now.meaning h.ready.meant;
             result = defined_stays now later v l t.case.now.inside.result h.ready.result;
             typed = h.ready.typed;
+            cases = h.ready.cases;
           };
     }

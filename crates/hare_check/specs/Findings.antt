@@ -2,7 +2,7 @@
 use Rattle.std.specs.Prelude.{◌≡◌, Bool, true, false, List, [], ◌∷◌, ◌++◌, map, length, Some, None}
 use Rattle.hare_tree.specs.declared.kind.Kind.{Kind}
 use Rattle.hare_tree.specs.declared.kind.Kind.TheVariants as ki
-use Rattle.hare_tree.specs.Node.{Head}
+use Rattle.hare_tree.specs.Node.{Head, kids_of}
 use Rattle.hare_types.specs.declared.coercion.Coercion.{Coercion}
 use Rattle.hare_types.specs.Store.{Store}
 use Rattle.hare_types.specs.Later.{IsLater}
@@ -10,16 +10,15 @@ use Rattle.hare_typed.specs.Typed.{TypedNode}
 use Rattle.hare_rules.specs.Context.{Setting, Context, Given}
 use Rattle.hare_rules.specs.Above.{Above}
 use Rattle.hare_rules.specs.Settles.{settles_kids, settled_kids, settles_late}
-use Rattle.hare_rules.specs.Flow.{Flow, yields_to, context, own_settled, write_each}
+use Rattle.hare_rules.specs.Flow.{Flow, yields_to, context, path_meaning, own_settled, write_each}
 use Rattle.hare_rules.specs.Types.{type_of}
 use Rattle.hare_rules.specs.Rows.{first_failing}
 use Rattle.hare_rules.specs.Finished.{bare}
-use Rattle.hare_told.specs.Told.{IsTold, IsLookedAt}
-use Rattle.hare_told.specs.Settled.{AreApart, AreAsIs, HandNothingOn}
-use Rattle.hare_walk.specs.Walks.{AreInHand}
+use Rattle.hare_told.specs.Told.{AreToldEntries, AreToldYields, IsLookedAt, told_label, has_judge}
+use Rattle.hare_walk.specs.Walks.{AreInHand, AreInferred}
 use Rattle.rule_judge.specs.declared.turn.Turn.{Turn}
 use Rattle.rule_judge.specs.Defined.{IsDefinedTy}
-use Rattle.rule_judge.specs.Turns.{context_in, head_in, kind_in}
+use Rattle.rule_judge.specs.Turns.{head_in, kind_in}
 use Rattle.hare_check.specs.declared.finding.Finding.{Finding}
 use Rattle.hare_check.specs.Listed.{written_each, coated_each}
 use Rattle.hare_check.specs.Late.{settled_in}
@@ -32,16 +31,25 @@ lists ki.Yield = false
 lists ki.SwitchCase = false
 lists _ = true
 
--- Over a node stands this, and this has been seen: a judge is told of it, and the walk has looked at the rest.
-pub record IsAsked (w : Store → Setting) (s : Store) (a : Above) (f : Flow) (t : Turn) (gs : List Given) : Type 0 where
+-- The turn of a node has come. Its kids have been judged and are in hand; its judge is told of what stands over it, of the bindings that have been
+-- seen, and of what was yielded to it; and the walk has looked at the rest.
+pub record IsAtTurn (w : Store → Setting) (s : Store) (a : Above) (f : Flow) (t : Turn) (gs : List Given) : Type 0 where
   pub store : (l : Store) → (w l).store ≡ l
+  pub decls : (l : Store) → (w l).decls ≡ t.decls.now
+  pub inferred : AreInferred w s a (head_in t) (kids_of t.node.now) t.kids.now f
   pub hand : AreInHand f t.kids.now
-  pub told : (l : Store) → IsLater s l → IsTold (context (w l) a (head_in t) (map bare t.kids.now) f) t.decls.now t.locals.now t.case.now
-  pub looked : (l : Store) → IsLater s l → IsLookedAt (context (w l) a (head_in t) (map bare t.kids.now) f)
+  pub locals : AreToldEntries f.locals t.locals.now
+  pub hint : t.case.now.hint ≡ a.hint
+  pub own : t.case.now.inside.own ≡ a.inside.own
+  pub result : t.case.now.inside.result ≡ a.inside.result
+  pub deferred : t.case.now.inside.deferred ≡ a.inside.deferred
+  pub body : t.case.now.inside.body ≡ a.inside.body
+  pub labels : t.case.now.inside.labels ≡ map told_label a.inside.labels
+  pub role : has_judge a.inside.role ≡ true
+  pub meaning : (l : Store) → IsLater s l → t.case.now.meaning ≡ path_meaning (w l) (head_in t) (kind_in t) (map bare t.kids.now)
   pub yields : yields_to (kind_in t) (length a.inside.labels) f.yields ≡ gs
-  pub apart : AreApart t.kids.now
-  pub hands : lists (kind_in t) ≡ true → HandNothingOn t.kids.now
-  pub as_is : lists (kind_in t) ≡ true → (l : Store) → IsLater s l → AreAsIs (context_in l t) 0 t.kids.now f.coercions
+  pub given : (l : Store) → IsLater s l → AreToldYields l gs t.case.now.yields
+  pub looked : (l : Store) → IsLater s l → IsLookedAt (context (w l) a (head_in t) (map bare t.kids.now) f)
 
 -- The node of this context, with these kids, behind nodes with these coercions, meets its list, and this is what is found of it.
 pub record IsFoundAt (c : Context) (xs : List TypedNode) (cs : List Coercion) (x : Finding) : Type 0 where

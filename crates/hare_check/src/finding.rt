@@ -19,7 +19,7 @@ ghost use Rattle.hare_told.specs.Settled.{listed_late};
 ghost use Rattle.hare_check.specs.Late.{settled_in};
 ghost use Rattle.hare_check.specs.Settling.{option_in};
 ghost use Rattle.hare_check.specs.Findings as spec;
-ghost use Rattle.hare_check.specs.Findings.{IsAsked, IsFound, IsDefinedFinding};
+ghost use Rattle.hare_check.specs.Findings.{IsAtTurn, IsFound, IsDefinedFinding};
 
 use crate::late::{Late, late_each};
 use crate::listed::{Listed, Settling, list_kids, put_stay};
@@ -110,8 +110,8 @@ pub(crate) fn find_judged(
 ) -> Result<Finding, Stop<Fault>>
     requires kind { is_judged_kind (kind_in t.now) ≡ true }
     requires ready { IsReadyTurn s.old t.now }
-    ensures ok { IfOk result (λ x. (w : Store → Setting) (a : Above) (f : Flow) → IsAsked w s.new a f t.now (map given_of gs.now) → IsFound w s.new a (head t.now.node.now) t.now.kids.now f x) }
-    ensures err { IfErr result (λ e. (w : Store → Setting) (a : Above) (f : Flow) → IsAsked w s.new a f t.now (map given_of gs.now) → IsTurnedBack w s.new a (head t.now.node.now) t.now.kids.now f e) }
+    ensures ok { IfOk result (λ x. (w : Store → Setting) (a : Above) (f : Flow) → IsAtTurn w s.new a f t.now (map given_of gs.now) → IsFound w s.new a (head t.now.node.now) t.now.kids.now f x) }
+    ensures err { IfErr result (λ e. (w : Store → Setting) (a : Above) (f : Flow) → IsAtTurn w s.new a f t.now (map given_of gs.now) → IsTurnedBack w s.new a (head t.now.node.now) t.now.kids.now f e) }
     ensures defined { IfOk result (IsDefinedFinding s.new) }
     ensures grown { IsGrown s.old s.new }
 {

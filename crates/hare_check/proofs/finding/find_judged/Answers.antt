@@ -10,7 +10,8 @@ use Rattle.hare_tree.specs.Node.{head}
 use Rattle.hare_walk.specs.Walks.{IsTurnedBack}
 use Rattle.hare_walk.proofs.Steps.{err_same}
 use Rattle.rule_judge.proofs.DefinedLemmas.{ty_stays}
-use Rattle.hare_check.specs.Findings.{IsAsked}
+use Rattle.hare_check.specs.Findings.{IsAtTurn}
+use Rattle.hare_check.proofs.AskedLemmas.{asked-at}
 use Rattle.hare_check.specs.Settling.{option_in}
 use Rattle.hare_check.proofs.NextLemmas.{ready_stays}
 use Rattle.hare_check.proofs.JudgedLemmas.{found_judged, turned_back}
@@ -23,9 +24,10 @@ returns-in_err-v-clause-err c =
     let s = c.judge.new.s in
     let e = c.in_err-v.field-0.0 in
     err_same c.from_residual.result e
-    (λ x. (w : Store → Setting) (a : Above) (f : Flow) → IsAsked w s a f t gs → IsTurnedBack w s a (head t.node.now) t.kids.now f x)
+    (λ x. (w : Store → Setting) (a : Above) (f : Flow) → IsAtTurn w s a f t gs → IsTurnedBack w s a (head t.node.now) t.kids.now f x)
     c.from_residual.ensures.1
-    (λ w a f q. turned_back w s a f t gs e q c.in_err-v.ensures.err)
+    (λ w a f q.
+    turned_back w s a f t gs e (asked-at w c.args.s.now s a f t gs c.judge.ensures.kept.later.sound c.requires.ready.turn q) c.in_err-v.ensures.err)
 
 pub list_kids-requires-clause-ready : goal.list_kids-requires-clause-ready
 list_kids-requires-clause-ready c =
@@ -36,7 +38,8 @@ returns-clause-ok c w a f q l d =
     let gs = map given_of c.args.gs.now in
     let s = c.list_kids.new.s in
     found_judged w s a f c.args.t.now gs c.in_ok-v.v
-    (record { ty = c.in_ok-v.v.ty; own = c.in_ok-v.v.own; kids = c.in_ok-kids-2.kids; late = c.in_ok-late.late }) l c.requires.kind q d
+    (record { ty = c.in_ok-v.v.ty; own = c.in_ok-v.v.own; kids = c.in_ok-kids-2.kids; late = c.in_ok-late.late }) l c.requires.kind
+    (asked-at w c.args.s.now s a f c.args.t.now gs c.list_kids.ensures.grown.later.sound c.requires.ready.turn q) d
     (c.in_ok-v.ensures.ok l (later_trans c.judge.new.s s l c.list_kids.ensures.grown.later d))
     (record {
       ty = refl;
