@@ -51,7 +51,8 @@ told_context w a f t l e h =
 
 -- ---- what is told
 
-told-at : (w : Store → Setting) (s : Store) (a : Above) (f : Flow) (t : Turn) (gs : List Given) (l : Store) → IsAtTurn w s a f t gs → IsLater s l →
+told-at : (w : Store → Setting) (s : Store) (a : Above) (f : Flow) (t : Turn) (gs : List Given) (l : Store) → IsAtTurn w s a f t gs →
+    IsLater s l →
     IsTold (context_at w a f t l) t.decls.now t.locals.now t.case.now
 told-at w s a f t gs l q d =
     record {
@@ -72,7 +73,8 @@ told-at w s a f t gs l q d =
 
 -- ---- the kids
 
-found-at : (w : Store → Setting) (s : Store) (a : Above) (f : Flow) (t : Turn) (gs : List Given) (l : Store) (q : IsAtTurn w s a f t gs) → IsLater s l →
+found-at : (w : Store → Setting) (s : Store) (a : Above) (f : Flow) (t : Turn) (gs : List Given) (l : Store)
+    (q : IsAtTurn w s a f t gs) → IsLater s l →
     AreKidsFound (w l) a (head_in t) [] (kids_of t.node.now) q.inferred.0 (map bare t.kids.now) f
 found-at w s a f t gs l q d =
     kids-found (w l) a (head_in t) [] (kids_of t.node.now) q.inferred.0 (found_kids (map bare t.kids.now) f) (q.inferred.1 l d)
@@ -81,13 +83,15 @@ rising-bare : (n : ℕ) (xs : List TypedNode) → IsRising n (map bare xs) → I
 rising-bare n [] k = tt
 rising-bare n (marked h m ts ∷ xs) k = (k.0, rising-bare (suc m.node) xs k.1)
 
-apart-at : (w : Store → Setting) (s : Store) (a : Above) (f : Flow) (t : Turn) (gs : List Given) → IsStore s → IsAtTurn w s a f t gs → AreApart t.kids.now
+apart-at : (w : Store → Setting) (s : Store) (a : Above) (f : Flow) (t : Turn) (gs : List Given) → IsStore s → IsAtTurn w s a f t gs →
+    AreApart t.kids.now
 apart-at w s a f t gs v q =
     let k = found-at w s a f t gs s q (later_here s v) in
     let n = count q.inferred.0 in
     rising-apart n t.kids.now (rising-bare n t.kids.now (subst (λ (ys : List TypedNode). IsRising n ys) (sym k.split) k.rising))
 
-pub each-at : (w : Store → Setting) (s : Store) (a : Above) (f : Flow) (t : Turn) (gs : List Given) (l : Store) → IsAtTurn w s a f t gs → IsLater s l →
+pub each-at : (w : Store → Setting) (s : Store) (a : Above) (f : Flow) (t : Turn) (gs : List Given) (l : Store) → IsAtTurn w s a f t gs →
+    IsLater s l →
     EachOver (IsKidFound (w l) f.coercions) (w l) a (head_in t) [] (map bare t.kids.now)
 each-at w s a f t gs l q d =
     let k = found-at w s a f t gs l q d in
@@ -101,7 +105,8 @@ no_switch_case _ e = refl
 hands-at : (r : Store) (t : Turn) → IsTurn r t → lists (kind_in t) ≡ true → HandNothingOn t.kids.now
 hands-at r t i e = hand-nothing i.shaped.0 t.node.now t.kids.now (no_switch_case (kind_in t) e) i.shaped.1 i.kids
 
-as_is-at : (w : Store → Setting) (r s : Store) (a : Above) (f : Flow) (t : Turn) (gs : List Given) (l : Store) → IsTurn r t → IsAtTurn w s a f t gs →
+as_is-at : (w : Store → Setting) (r s : Store) (a : Above) (f : Flow) (t : Turn) (gs : List Given) (l : Store) → IsTurn r t →
+    IsAtTurn w s a f t gs →
     lists (kind_in t) ≡ true → IsLater s l → AreAsIs (context_in l t) 0 t.kids.now f.coercions
 as_is-at w r s a f t gs l i q e d =
     let c = context_at w a f t l in
@@ -116,7 +121,8 @@ as_is-at w r s a f t gs l i q e d =
     subst (λ (z : Context). AreAsIs z 0 t.kids.now f.coercions) (sym here)
     (subst (λ (xs : List TypedNode). AreAsIs (seen ls ys c) 0 xs f.coercions) (sym q.hand) k)
 
-pub asked-at : (w : Store → Setting) (r s : Store) (a : Above) (f : Flow) (t : Turn) (gs : List Given) → IsStore s → IsTurn r t → IsAtTurn w s a f t gs →
+pub asked-at : (w : Store → Setting) (r s : Store) (a : Above) (f : Flow) (t : Turn) (gs : List Given) → IsStore s → IsTurn r t →
+    IsAtTurn w s a f t gs →
     IsAsked w s a f t gs
 asked-at w r s a f t gs v i q =
     record {

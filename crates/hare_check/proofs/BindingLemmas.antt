@@ -74,7 +74,8 @@ pub pattern_known : (c : Context) (k : Kind) (xs : List TypedNode) (a : Ty) (o :
     k ≡ ki.PatternLet → c.kids ≡ xs → a ≡ own_type (tree_from_front 0 xs) → o ≡ id_in a → entry_of b ≡ known_as true o →
     locals_after c k n ls ≡ slice_set ls n (entry_of b)
 pattern_known c k xs a o b n ls e q d g f =
-    let t : id_in (own_type (tree_from_front 0 c.kids)) ≡ o = ap (λ ys. id_in (own_type (tree_from_front 0 ys))) q ∙ ap id_in (sym d) ∙ sym g in
+    let t : id_in (own_type (tree_from_front 0 c.kids)) ≡ o = ap (λ ys. id_in (own_type (tree_from_front 0 ys))) q ∙ ap id_in (sym d) ∙
+    sym g in
     ap (λ x. locals_after c x n ls) e ∙ ap (slice_set ls n) (ap (known_as true) t ∙ sym f)
 
 pub none_known : (c : Context) (k : Kind) (n : ℕ) (ls : List Entry) → ¬ (k ≡ ki.Let) → ¬ (k ≡ ki.Const) → ¬ (k ≡ ki.PatternLet) →

@@ -68,7 +68,8 @@ yields_taken ki.Case ls h xs ys n e g = ap (λ z. filter (λ y. not (is_at z y))
 yields_taken ki.SwitchCase ls h xs ys n e g = ap (λ z. filter (λ y. not (is_at z y)) ys) g
 yields_taken _ ls h xs ys n e g = cc
 
-pub yields_left : (k : Kind) (ls : List Open) (h : Head) (xs : List TypedNode) (ys : List Yielded) → takes_yields k ≡ false → ¬ (k ≡ ki.Yield) →
+pub yields_left : (k : Kind) (ls : List Open) (h : Head) (xs : List TypedNode) (ys : List Yielded) → takes_yields k ≡ false →
+    ¬ (k ≡ ki.Yield) →
     yields_after k ls h xs ys ≡ ys
 yields_left ki.Yield ls h xs ys e n = absurd (n refl)
 yields_left ki.Block ls h xs ys e n = cc

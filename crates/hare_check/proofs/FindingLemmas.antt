@@ -58,14 +58,16 @@ one_coated c false i x None r cs p q h k g = kept cs x g (k refl) ∙ ap (λ y. 
 one_coated c true i x (Some t) r cs p q h k g = let e = h t refl in cc
 one_coated c false i x (Some t) r cs p q h k g = ap (λ y. with_coercion y x) q
 
-head_in_hand : (cs : List Coercion) (x : TypedNode) (xs : List TypedNode) → x ∷ xs ≡ map (coat cs) (map bare (x ∷ xs)) → x ≡ coat cs (bare x)
+head_in_hand : (cs : List Coercion) (x : TypedNode) (xs : List TypedNode) → x ∷ xs ≡ map (coat cs) (map bare (x ∷ xs)) →
+    x ≡ coat cs (bare x)
 head_in_hand cs x xs e = cc
 
 tail_in_hand : (cs : List Coercion) (x : TypedNode) (xs : List TypedNode) → x ∷ xs ≡ map (coat cs) (map bare (x ∷ xs)) →
     xs ≡ map (coat cs) (map bare xs)
 tail_in_hand cs x xs e = cc
 
-pub coated_from : (c : Context) (ls : List Local) (ys : List Yielded) (i : ℕ) (xs : List TypedNode) (cs : List Coercion) → drop i c.kids ≡ xs →
+pub coated_from : (c : Context) (ls : List Local) (ys : List Yielded) (i : ℕ) (xs : List TypedNode) (cs : List Coercion) →
+    drop i c.kids ≡ xs →
     HandNothingOn xs → AreAsIs (seen ls ys c) i xs cs → xs ≡ map (coat cs) (map bare xs) →
     settled_from c i xs ≡ coated_each xs (listed_each (seen ls ys c) i xs)
 coated_from c ls ys i [] cs e h k g = refl

@@ -60,12 +60,14 @@ field-coat : (cs : List Coercion) (w : Setting) (k : Head) (xs : List TypedNode)
 field-coat cs w k [] = refl
 field-coat cs w k (marked h m ts ∷ xs) = refl
 
-item-coat : (cs : List Coercion) (w : Setting) (o : Option ℕ) (xs : List TypedNode) → item_hint_by w o (map (coat cs) xs) ≡ item_hint_by w o xs
+item-coat : (cs : List Coercion) (w : Setting) (o : Option ℕ) (xs : List TypedNode) →
+    item_hint_by w o (map (coat cs) xs) ≡ item_hint_by w o xs
 item-coat cs w (Some t) xs = refl
 item-coat cs w None [] = refl
 item-coat cs w None (marked h m ts ∷ xs) = refl
 
-argument-coat : (cs : List Coercion) (w : Setting) (n : ℕ) (xs : List TypedNode) → argument_hint w (map (coat cs) xs) n ≡ argument_hint w xs n
+argument-coat : (cs : List Coercion) (w : Setting) (n : ℕ) (xs : List TypedNode) →
+    argument_hint w (map (coat cs) xs) n ≡ argument_hint w xs n
 argument-coat cs w zero xs = refl
 argument-coat cs w (suc n) xs = ap (λ m. hint_to (param_at (called w m) n)) (meaning-coat cs xs)
 
@@ -90,7 +92,8 @@ appended-same w x y rest e =
     hint.None)
     e
 
-hint-coat : (k : Kind) (w : Setting) (h : Head) (own values : Hint) (ls ms : List Open) (result : ℕ) (cs : List Coercion) (xs : List TypedNode)
+hint-coat : (k : Kind) (w : Setting) (h : Head) (own values : Hint) (ls ms : List Open) (result : ℕ) (cs : List Coercion)
+    (xs : List TypedNode)
     (t : Node) (rest : Nodes) → lists k ≡ true → (looks_at_first k ≡ true → given (first (map (coat cs) xs)) ≡ given (first xs)) →
     hint_of (without_names w) h own hint.None ms result (map (coat cs) xs) t rest k ≡ hint_of w h own values ls result xs t rest k
 hint-coat ki.Yield w h own values ls ms result cs xs t rest e g = cc
@@ -173,7 +176,8 @@ take_next (y ∷ xs) ys zero x e = let s : y ≡ x = cc in ap (λ z. z ∷ []) s
 take_next (y ∷ xs) ys (suc i) x e = ap (λ zs. y ∷ zs) (take_next xs ys i x e)
 
 -- a kid that the judge finds unasked stands under no hint of a type
-hint-same : (w : Setting) (a : Above) (h : Head) (all : List TypedNode) (f : Flow) (ls : List Local) (ys : List Yielded) (i : ℕ) (xs zs : List TypedNode)
+hint-same : (w : Setting) (a : Above) (h : Head) (all : List TypedNode) (f : Flow) (ls : List Local) (ys : List Yielded) (i : ℕ)
+    (xs zs : List TypedNode)
     (z : TypedNode) →
     lists h.kind ≡ true → drop i (map (coat f.coercions) all) ≡ coat f.coercions (bare z) ∷ map (coat f.coercions) zs →
     take i (map (coat f.coercions) all) ≡ map (coat f.coercions) xs →
@@ -200,18 +204,22 @@ hint-same w a h all f ls ys i xs zs z e d t n g u =
     let same_rest : erase_each (typed_nodes rest) ≡ erase_each (typed_nodes zs) = erased-coats cs zs in
     let as_told : told_hint y (map (coat cs) xs) rest
     ≡ unless_bare (head (erase (bare z))).kind
-    (hint_of (without_names w) h a.hint hint.None (map blank a.inside.labels) a.inside.result (map (coat cs) xs) (erase (bare z)) (erase_each (typed_nodes zs)) h.kind) =
+    (hint_of (without_names w) h a.hint hint.None (map blank a.inside.labels) a.inside.result (map (coat cs) xs) (erase (bare z))
+    (erase_each (typed_nodes zs)) h.kind) =
     rw (kind, same_tree, same_rest) refl in
-    let here = hint-coat h.kind w h a.hint a.values a.inside.labels (map blank a.inside.labels) a.inside.result cs xs (erase (bare z)) (erase_each (typed_nodes zs)) e g in
+    let here = hint-coat h.kind w h a.hint a.values a.inside.labels (map blank a.inside.labels) a.inside.result cs xs (erase (bare z))
+    (erase_each (typed_nodes zs)) e g in
     sym (ap is_type_hint (moved ∙ as_told ∙ ap (unless_bare (head (erase (bare z))).kind) here)) ∙ asked
   where
     told_hint : TypedNode → List TypedNode → List TypedNode → Hint
     told_hint x qs rs =
         unless_bare (kind_of x)
-        (hint_of (without_names w) h a.hint hint.None (map blank a.inside.labels) a.inside.result qs (erase x) (erase_each (typed_nodes rs)) h.kind)
+        (hint_of (without_names w) h a.hint hint.None (map blank a.inside.labels) a.inside.result qs (erase x) (erase_each
+        (typed_nodes rs)) h.kind)
 
 -- Each kid that the judge finds unasked has been left as it is.
-pub as_is-from : (w : Setting) (a : Above) (h : Head) (all : List TypedNode) (f : Flow) (ls : List Local) (ys : List Yielded) (i : ℕ) (xs zs : List TypedNode) →
+pub as_is-from : (w : Setting) (a : Above) (h : Head) (all : List TypedNode) (f : Flow) (ls : List Local) (ys : List Yielded) (i : ℕ)
+    (xs zs : List TypedNode) →
     lists h.kind ≡ true → drop i (map (coat f.coercions) all) ≡ map (coat f.coercions) (map bare zs) →
     take i (map (coat f.coercions) all) ≡ map (coat f.coercions) xs →
     HandNothingOn (map (coat f.coercions) (map bare zs)) →
@@ -225,6 +233,8 @@ as_is-from w a h all f ls ys i xs (z ∷ zs) e d t n g k =
     let y = coat cs (bare z) in
     let rest = map (coat cs) (map bare zs) in
     let next : take (suc i) kids ≡ map (coat cs) (xs ++ bare z ∷ []) =
-    take_next kids rest i y d ∙ ap (λ qs. qs ++ y ∷ []) t ∙ sym (map-append (coat cs) xs (bare z ∷ [])) in
-    ((λ u. stays-coat cs z (k.0.stays (hint-same w a h all f ls ys i xs (map bare zs) z e d t n.0 g u))),
-     as_is-from w a h all f ls ys (suc i) (xs ++ bare z ∷ []) zs e (next_left kids rest i y d) next n.1 (first-next cs w a h xs (map bare zs) z k.0 g) k.1)
+    take_next kids rest i y d ∙ ap (λ qs. qs ++ y ∷ []) t ∙ sym (map-append (coat cs) xs (bare z ∷ [])) in (
+      (λ u. stays-coat cs z (k.0.stays (hint-same w a h all f ls ys i xs (map bare zs) z e d t n.0 g u))),
+      as_is-from w a h all f ls ys (suc i) (xs ++ bare z ∷ []) zs e (next_left kids rest i y d) next n.1 (first-next cs w a h xs
+          (map bare zs) z k.0 g) k.1,
+    )

@@ -84,7 +84,8 @@ unlisted _ e = cc
 -- ---- the kids of a node that settles what is listed
 
 -- what is known of the kids, where a judge is told `k` of the node `c`
-record AreListed (c k : Context) (ls : List Local) (ys : List Yielded) (xs : List TypedNode) (cs : List Coercion) (os : List (Option Coercion)) : Type 0 where
+record AreListed (c k : Context) (ls : List Local) (ys : List Yielded) (xs : List TypedNode) (cs : List Coercion) (os : List
+    (Option Coercion)) : Type 0 where
   seen : k ≡ seen ls ys c
   hand : xs ≡ map (coat cs) (map bare xs)
   kids : c.kids ≡ xs
@@ -98,7 +99,8 @@ record AreFound (c : Context) (xs : List TypedNode) (cs : List Coercion) (os : L
   kids : (r : Coercion) → write_each (settles_kids c) (cs ++ r ∷ []) ≡ write_each (written_each xs os) (cs ++ r ∷ [])
   coated : settled_kids c ≡ coated_each xs os
 
-found_listed : (c k : Context) (ls : List Local) (ys : List Yielded) (xs : List TypedNode) (cs : List Coercion) (os : List (Option Coercion)) →
+found_listed : (c k : Context) (ls : List Local) (ys : List Yielded) (xs : List TypedNode) (cs : List Coercion) (os : List
+    (Option Coercion)) →
     AreListed c k ls ys xs cs os → AreFound c xs cs os
 found_listed c k ls ys xs cs os h =
     let j = seen ls ys c in
@@ -138,8 +140,10 @@ late_by c q j ls v gs (hint.Of n) true s e d t y asked hinted others = s.asked n
 
 -- ---- a verdict
 
-pub found_judged : (w : Store → Setting) (s : Store) (a : Above) (f : Flow) (t : Turn) (gs : List Given) (v : Verdict) (x : Finding) (l : Store) →
-    is_judged_kind (kind_in t) ≡ true → IsAsked w s a f t gs → IsLater s l → IsVerdict (context_in l t) (yields_in t) v → IsTakenFrom l t gs v x →
+pub found_judged : (w : Store → Setting) (s : Store) (a : Above) (f : Flow) (t : Turn) (gs : List Given) (v : Verdict) (x : Finding)
+    (l : Store) →
+    is_judged_kind (kind_in t) ≡ true → IsAsked w s a f t gs → IsLater s l → IsVerdict (context_in l t) (yields_in t) v →
+    IsTakenFrom l t gs v x →
     IsFoundAt (context_at w a f t l) t.kids.now f.coercions x
 found_judged w s a f t gs v x l kind q later i from =
     let c = context_at w a f t l in
@@ -155,7 +159,8 @@ found_judged w s a f t gs v x l kind q later i from =
     let turn : IsTurnOf (w l) a (head_in t) (map bare xs) f ds ls k c =
     verdicts_turn (w l) a (head_in t) (map bare xs) f ds ls k told_ looked in
     let settle : IsAllSettled c (told c ds ls k) k = verdicts_settle c ds ls k told_ in
-    let judged : is_judged c ≡ true = ap (list_any is_site) (judged_role c.inside.role c.head.kind told_.role) ∙ has_site (kind_in t) kind in
+    let judged : is_judged c ≡ true = ap (list_any is_site) (judged_role c.inside.role c.head.kind told_.role) ∙
+    has_site (kind_in t) kind in
     let type : type_of c ≡ Some v.ty = sym enough.type ∙ verdict.type in
     let kids = kids_by (lists (kind_in t)) refl in
     record {
@@ -185,7 +190,8 @@ found_judged w s a f t gs v x l kind q later i from =
           listed = from.listed e;
         })
     kids_by false e =
-        found_none (context_at w a f t l) t.kids.now f.coercions (map option_in x.kids) (length t.kids.now) (unlisted (kind_in t) e) (sym q.hand) (from.nones e)
+        found_none (context_at w a f t l) t.kids.now f.coercions (map option_in x.kids) (length t.kids.now) (unlisted (kind_in t) e)
+        (sym q.hand) (from.nones e)
 
 -- ---- a refusal
 

@@ -78,7 +78,8 @@ own-unhinted c b e = by_judge (is_judged c) c.hint e where
   by_judge true hint.Drop e = refl
   by_judge true (hint.Of t) e = cc
 
-root-unhinted : (w : Setting) (o : Above) (y : TypedNode) (f g : Flow) → AllCarry w o y f → behind w o y f ≡ g → is_type_hint o.hint ≡ false →
+root-unhinted : (w : Setting) (o : Above) (y : TypedNode) (f g : Flow) → AllCarry w o y f → behind w o y f ≡ g →
+    is_type_hint o.hint ≡ false →
     slice_index_or g.coercions (number_of y) (same (own_type y)) ≡ same (own_type y)
 root-unhinted w o (marked h m ts) f g k e u =
     ap (λ (z : Flow). slice_index_or z.coercions m.node (same m.ty)) (sym e)
@@ -93,7 +94,8 @@ get_within (c ∷ cs) (suc n) d h = get_within cs n d (omega arith)
 -- ---- kids
 
 -- These are found behind some.
-pub record AreKidsFound (w : Setting) (a : Above) (h : Head) (xs : List TypedNode) (ts : Nodes) (f : Flow) (ys : List TypedNode) (g : Flow) :
+pub record AreKidsFound (w : Setting) (a : Above) (h : Head) (xs : List TypedNode) (ts : Nodes) (f : Flow) (ys : List TypedNode)
+    (g : Flow) :
     Type 0 where
   pub rest : List TypedNode
   pub split : ys ≡ xs ++ rest
@@ -103,7 +105,8 @@ pub record AreKidsFound (w : Setting) (a : Above) (h : Head) (xs : List TypedNod
   pub kept : (i : ℕ) (d : Coercion) → i < count f → slice_index_or g.coercions i d ≡ slice_index_or f.coercions i d
   pub more : count f ≤ count g
 
-kids-more : (w : Setting) (a : Above) (h : Head) (xs : List TypedNode) (t : Node) (ts : Nodes) (f g i : Flow) (x : TypedNode) (ys : List TypedNode) →
+kids-more : (w : Setting) (a : Above) (h : Head) (xs : List TypedNode) (t : Node) (ts : Nodes) (f g i : Flow) (x : TypedNode)
+    (ys : List TypedNode) →
     IsFound w (over_kid w a h xs t ts) t (flow_before w a h xs f) x g → AreKidsFound w a h (xs ++ x ∷ []) ts g ys i →
     AreKidsFound w a h xs (more t ts) f ys i
 kids-more w a h xs t ts f g i x ys p q =
@@ -140,9 +143,11 @@ kids-more w a h xs t ts f g i x ys p q =
       more = omega (arith, before, behind_it, all);
     }
 
-kids-then : (w : Setting) (a : Above) (h : Head) (xs : List TypedNode) (t : Node) (ts : Nodes) (f : Flow) (r : FoundKids) (s : Result Found Reason) →
+kids-then : (w : Setting) (a : Above) (h : Head) (xs : List TypedNode) (t : Node) (ts : Nodes) (f : Flow) (r : FoundKids)
+    (s : Result Found Reason) →
     ((q : Found) → s ≡ Ok q → IsFound w (over_kid w a h xs t ts) t (flow_before w a h xs f) q.tree q.flow) →
-    ((q : Found) → infer_each w a h (xs ++ q.tree ∷ []) ts q.flow ≡ Ok r → AreKidsFound w a h (xs ++ q.tree ∷ []) ts q.flow r.trees r.flow) →
+    ((q : Found) → infer_each w a h (xs ++ q.tree ∷ []) ts q.flow ≡ Ok r →
+    AreKidsFound w a h (xs ++ q.tree ∷ []) ts q.flow r.trees r.flow) →
     then_kids s (λ x g. infer_each w a h (xs ++ x ∷ []) ts g) ≡ Ok r → AreKidsFound w a h xs (more t ts) f r.trees r.flow
 kids-then w a h xs t ts f r (Err e) k l p = cc
 kids-then w a h xs t ts f r (Ok q) k l p = kids-more w a h xs t ts f q.flow r.flow q.tree r.trees (k q refl) (l q p)

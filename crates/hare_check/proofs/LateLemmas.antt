@@ -12,7 +12,8 @@ none_late [] = refl
 none_late (g ∷ gs) = refl
 
 -- one more
-late_more : (gs : List Handed) (rs : List Coercion) (i : ℕ) (g : Handed) (r : Coercion) → i < length gs → i < length rs → g ≡ get_or gs i g →
+late_more : (gs : List Handed) (rs : List Coercion) (i : ℕ) (g : Handed) (r : Coercion) → i < length gs → i < length rs →
+    g ≡ get_or gs i g →
     r ≡ get_or rs i r →
     listed_late (map given_of (drop i gs)) (drop i rs)
     ≡ late_where (given_of g).node (given_of g).ty r ++ listed_late (map given_of (drop (suc i) gs)) (drop (suc i) rs)

@@ -21,7 +21,8 @@ pub unknown_refused : (c : Context) (n : ℕ) (p : Place) (o : Option Entry) →
     IsRefusal c (record { number = 33; place = odd_place p o })
 unknown_refused c n p o m e =
     let unknown : holds asked.PathBindingKnown c ≡ false = ap (binding_known c) m.meaning ∙ ap entry_is_known m.entry ∙ e in
-    let rows : rows_in_role c.inside.role c.head.kind ≡ rows_of ki.Path = judged_role c.inside.role c.head.kind m.role ∙ ap rows_of m.kind in
+    let rows : rows_in_role c.inside.role c.head.kind ≡ rows_of ki.Path = judged_role c.inside.role c.head.kind m.role ∙
+    ap rows_of m.kind in
     record {
       row = asked.PathBindingKnown;
       first = ap (find (λ r. not (holds r c))) rows ∙ first_unknown c (asked.PathNamed ∷ last_rows) unknown;

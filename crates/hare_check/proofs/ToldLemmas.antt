@@ -34,7 +34,8 @@ told-append f [] (z ∷ ys) g y h k = absurd h
 told-append f (p ∷ gs) [] g y h k = absurd h
 told-append f (p ∷ gs) (z ∷ ys) g y h k = (h.0, told-append f gs ys g y h.1 k)
 
-pub defined-append : (s : Store) (ys : List Yielded) (y : Yielded) → AreDefinedYields s ys → IsDefinedTy s y.ty → AreDefinedYields s (ys ++ y ∷ [])
+pub defined-append : (s : Store) (ys : List Yielded) (y : Yielded) → AreDefinedYields s ys → IsDefinedTy s y.ty →
+    AreDefinedYields s (ys ++ y ∷ [])
 defined-append s [] y h k = (k, tt)
 defined-append s (z ∷ ys) y h k = (h.0, defined-append s ys y h.1 k)
 
@@ -60,6 +61,7 @@ option_stays : (now later : Store) → IsStore now → IsLater now later → (o 
 option_stays now later v l None h = tt
 option_stays now later v l (Some a) h = ty_stays now later v l a h
 
-pub givens_stay : (now later : Store) → IsStore now → IsLater now later → (gs : List Given) → AreDefinedGivens now gs → AreDefinedGivens later gs
+pub givens_stay : (now later : Store) → IsStore now → IsLater now later → (gs : List Given) → AreDefinedGivens now gs →
+    AreDefinedGivens later gs
 givens_stay now later v l [] h = tt
 givens_stay now later v l (g ∷ gs) h = (option_stays now later v l g.ty h.0, givens_stay now later v l gs h.1)

@@ -30,4 +30,5 @@ returns-clause-told c =
     on_ok_weaker c.settle_all.result
     (λ settled k.
     let same = ap (λ (f : Flow). f.locals) settled ∙ ap (λ (f : Flow). f.locals) c.in_ok-pass_yields.ensures.rest in
-    subst (λ (es : List Entry). AreToldEntries es c.bind_behind.new.told) (sym same) (c.bind_behind.ensures.told k)) c.settle_all.ensures.seen
+    subst (λ (es : List Entry). AreToldEntries es c.bind_behind.new.told) (sym same)
+    (c.bind_behind.ensures.told k)) c.settle_all.ensures.seen

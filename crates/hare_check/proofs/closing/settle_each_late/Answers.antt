@@ -13,6 +13,7 @@ loop-i-preserved c =
       yields = ap (λ (f : Flow). f.yields) settled ∙ now.yields;
       coercions = ap (λ (f : Flow). f.coercions) settled ∙ now.coercions;
       late =
-          late_taken c.args.late.now c.loop-i.i c.index-late-i.result c.args.seen.now.late c.loop-i.seen.late c.settle_late.new.self.late (omega arith)
+          late_taken c.args.late.now c.loop-i.i c.index-late-i.result c.args.seen.now.late c.loop-i.seen.late c.settle_late.new.self.late
+          (omega arith)
           c.index-late-i.is now.late (ap (λ (f : Flow). f.late) settled);
     }

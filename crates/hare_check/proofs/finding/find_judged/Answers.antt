@@ -27,7 +27,8 @@ returns-in_err-v-clause-err c =
     (λ x. (w : Store → Setting) (a : Above) (f : Flow) → IsAtTurn w s a f t gs → IsTurnedBack w s a (head t.node.now) t.kids.now f x)
     c.from_residual.ensures.1
     (λ w a f q.
-    turned_back w s a f t gs e (asked-at w c.args.s.now s a f t gs c.judge.ensures.kept.later.sound c.requires.ready.turn q) c.in_err-v.ensures.err)
+    turned_back w s a f t gs e (asked-at w c.args.s.now s a f t gs c.judge.ensures.kept.later.sound c.requires.ready.turn q)
+    c.in_err-v.ensures.err)
 
 pub list_kids-requires-clause-ready : goal.list_kids-requires-clause-ready
 list_kids-requires-clause-ready c =

@@ -28,5 +28,6 @@ returns-then-i-rest c =
     let none : listed_late (map given_of (drop i gs)) (drop i rest) ≡ [] =
     ap (listed_late (map given_of (drop i gs))) (drop_past rest i past) ∙ none_late (map given_of (drop i gs)) in
     let many : length (drop from xs) ≤ length xs - from = omega (arith, length-drop from xs) in
-    let whole : rest ≡ drop from c.args.coercions.now = taken_all (drop from xs) (length xs - from) many ∙ ap (drop from) c.as_slice.ensures in
+    let whole : rest ≡ drop from c.args.coercions.now = taken_all (drop from xs) (length xs - from) many ∙
+    ap (drop from) c.as_slice.ensures in
     sym (append-nil now) ∙ ap (λ ss. now ++ ss) (sym none) ∙ c.loop-i.invariant.rest ∙ ap (listed_late (map given_of gs)) whole

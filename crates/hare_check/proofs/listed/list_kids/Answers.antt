@@ -28,7 +28,8 @@ loop-i-preserved c =
       grown = grown_trans c.args.s.now now new inv.grown c.list_next.ensures.grown;
       rest = λ f l. c.in_ok-count.ensures.rest f l;
       done = λ f l.
-          listed_put (context_in f t) i (map option_in c.loop-i.kids) (map option_in c.list_next.new.kids) (listed_each (context_in f t) 0 t.kids.now) h
+          listed_put (context_in f t) i (map option_in c.loop-i.kids) (map option_in c.list_next.new.kids) (listed_each
+          (context_in f t) 0 t.kids.now) h
           (c.in_ok-count.ensures.kids f l) (inv.done f (later_trans now new f later l));
     }
 

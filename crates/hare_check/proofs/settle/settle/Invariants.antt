@@ -13,5 +13,6 @@ invariant-loop-i l = record {
   late : l.seen.late ≡ l.initial.seen.late;
   rest : write_each (written_each (drop l.i l.kids) (drop l.i (map option_in l.settlings))) l.seen.coercions
       ≡ write_each (written_each l.initial.kids (map option_in l.settlings)) l.initial.seen.coercions;
-  kids : take l.i l.kids ++ coated_each (drop l.i l.kids) (drop l.i (map option_in l.settlings)) ≡ coated_each l.initial.kids (map option_in l.settlings);
+  kids : take l.i l.kids ++ coated_each (drop l.i l.kids) (drop l.i (map option_in l.settlings)) ≡ coated_each l.initial.kids
+      (map option_in l.settlings);
 }

@@ -18,7 +18,8 @@ loop-i-preserved c =
     record {
       within = omega arith;
       told = λ f v. rw (add-one, given_more gs i g l e, p)
-          (told-append f (map given_of (take i gs)) c.loop-i.told (given_of g) y (c.loop-i.invariant.told f v) (c.told_yield.ensures.told f v));
+          (told-append f (map given_of (take i gs)) c.loop-i.told (given_of g) y (c.loop-i.invariant.told f v)
+          (c.told_yield.ensures.told f v));
       defined = λ s v d. rw p
           (defined-append s c.loop-i.told y (c.loop-i.invariant.defined s v d)
           (c.told_yield.ensures.defined s v (subst (λ (x : Handed). IsDefinedOption s x.ty) (sym e) (given_at s gs i g l d))));
@@ -28,4 +29,5 @@ pub returns-clause-told : goal.returns-clause-told
 returns-clause-told c f v =
     let gs = c.args.gs.now in
     let past : length gs ≤ c.loop-i.i = omega arith in
-    subst (λ (hs : List Handed). AreToldYields f (map given_of hs) c.loop-i.told) (taken_all gs c.loop-i.i past) (c.loop-i.invariant.told f v)
+    subst (λ (hs : List Handed). AreToldYields f (map given_of hs) c.loop-i.told) (taken_all gs c.loop-i.i past)
+    (c.loop-i.invariant.told f v)

@@ -13,5 +13,6 @@ returns-clause-told c =
 pub returns-clause-defined : goal.returns-clause-defined
 returns-clause-defined c =
     let s = c.word.new.s in
-    let gs = givens_stay c.args.s.now s c.declarations-law.ensures.sound c.word.ensures.grown.later (map given_of c.args.gs.now) c.requires in
+    let gs = givens_stay c.args.s.now s c.declarations-law.ensures.sound c.word.ensures.grown.later
+    (map given_of c.args.gs.now) c.requires in
     if_ok_weaker c.told_each.result (λ ys h. h s c.in_ok-void.ensures.defined gs) c.told_each.ensures.defined
