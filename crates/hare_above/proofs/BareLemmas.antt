@@ -61,7 +61,8 @@ written-second [] h e g = absurd (omega (arith, e))
 written-second (x ∷ []) h e g = g ∙ sym (written-bare x)
 written-second (x ∷ y ∷ xs) h e g = absurd (omega (arith, e))
 
-pub declared-fourth : (xs : List TypedNode) (h : Hint) → 3 ≤ length xs → h ≡ written_hint (tree_from_front 2 xs) → h ≡ declared_hint (map bare xs)
+pub declared-fourth : (xs : List TypedNode) (h : Hint) → 3 ≤ length xs → h ≡ written_hint (tree_from_front 2 xs) →
+    h ≡ declared_hint (map bare xs)
 declared-fourth [] h e g = absurd (omega (arith, e))
 declared-fourth (x ∷ []) h e g = absurd (omega (arith, e))
 declared-fourth (x ∷ y ∷ []) h e g = absurd (omega (arith, e))
@@ -87,7 +88,8 @@ head-node (u ∷ us) t e = let same : t ≡ u = cc in ap allocates same
 
 -- ---- hints of later kids
 
-pub default-later : (w : Setting) (xs : List TypedNode) (o r : Option ℕ) (h : Hint) → (length xs ≡ 0 → ⊥) → None ≡ o → r ≡ default_in w.store (own_type (tree_from_front 0 xs)) →
+pub default-later : (w : Setting) (xs : List TypedNode) (o r : Option ℕ) (h : Hint) → (length xs ≡ 0 → ⊥) → None ≡ o →
+    r ≡ default_in w.store (own_type (tree_from_front 0 xs)) →
     h ≡ hint_to r → h ≡ item_hint_by w o (map bare xs)
 default-later w [] o r h k n e g = absurd (k refl)
 default-later w (x ∷ xs) o r h k n e g =
@@ -106,7 +108,8 @@ argument-later w (x ∷ xs) n m o h e g k i =
     let p : length (map bare xs) ≡ n = length-bare xs ∙ omega (arith, e) in
     i ∙ ap hint_to (k ∙ ap₂ (λ y z. param_at (called w y) z) (g ∙ sym (meaning-bare x)) (sym p))
 
-pub values-later : (w : Setting) (a : Above) (xs : List TypedNode) (k : Kind) (o : Option ℕ) (h : Hint) → k ≡ ki.Switch → (length xs ≡ 0 → ⊥) →
+pub values-later : (w : Setting) (a : Above) (xs : List TypedNode) (k : Kind) (o : Option ℕ) (h : Hint) → k ≡ ki.Switch →
+    (length xs ≡ 0 → ⊥) →
     o ≡ default_in w.store (own_type (tree_from_front 0 xs)) → h ≡ hint_to o → h ≡ values_under w a k (map bare xs)
 values-later w a [] k o h s n e g = absurd (n refl)
 values-later w a (x ∷ xs) k o h s n e g =
@@ -134,17 +137,20 @@ component-next w h g o xs ts t m e k n i =
     i ∙ ap₂ (λ y z. hint_to (component_at y z)) (n ∙ ap (hinted_components w.store h) same) (sym (length-bare xs))
 
 -- what holds of each component holds of one
-pub component-held : (P : ℕ → Type 0) (ts : List ℕ) (i : ℕ) (o : Option ℕ) → ((t : ℕ) → Contains ts t → P t) → o ≡ slice_get ts i → IfSome o P
+pub component-held : (P : ℕ → Type 0) (ts : List ℕ) (i : ℕ) (o : Option ℕ) → ((t : ℕ) → Contains ts t → P t) → o ≡ slice_get ts i →
+    IfSome o P
 component-held P ts i None h e = tt
 component-held P ts i (Some t) h e = h t (i, slice_get_within ts i t (sym e), get_or_from_slice_get ts i t t (sym e))
 
 -- ---- allocations
 
-pub refusable-none : (w : Setting) (h : Hint) (t : ℕ) → Some t ≡ option_and_then (allocation w.store) (hint_id h) → None ≡ made_of w.store t →
+pub refusable-none : (w : Setting) (h : Hint) (t : ℕ) → Some t ≡ option_and_then (allocation w.store) (hint_id h) →
+    None ≡ made_of w.store t →
     hint_to None ≡ refusable_hint w (asked w h)
 refusable-none w h t e k = ap (λ o. hint_to (option_and_then (with_refusal w.store) o)) k ∙ ap (refusable_hint w) e
 
-pub refusable-some : (w : Setting) (h : Hint) (t : ℕ) → Some t ≡ option_and_then (allocation w.store) (hint_id h) → (p u : ℕ) → Some p ≡ made_of w.store t →
+pub refusable-some : (w : Setting) (h : Hint) (t : ℕ) → Some t ≡ option_and_then (allocation w.store) (hint_id h) → (p u : ℕ) →
+    Some p ≡ made_of w.store t →
     with_refusal w.store p ≡ Some u → hint_to (Some u) ≡ refusable_hint w (asked w h)
 refusable-some w h t e p u k g =
     ap hint_to (sym g) ∙ ap (λ o. hint_to (option_and_then (with_refusal w.store) o)) k ∙ ap (refusable_hint w) e
@@ -186,7 +192,8 @@ appended-as w x rest o e =
     ∙ ap (λ (a : Ty). appended_by (slice_element (base_row w.store a)) (hint_to (id_in a)) rest) (sym (given-bare x))
 
 appended-second : (w : Setting) (xs : List TypedNode) (rest : Nodes) (o : Option ℕ) (h : Hint) → length xs ≡ 1 →
-    o ≡ slice_element (base_row w.store (own_type (tree_from_front 0 xs))) → h ≡ appended_by o (hint_to (id_in (own_type (tree_from_front 0 xs)))) rest →
+    o ≡ slice_element (base_row w.store (own_type (tree_from_front 0 xs))) →
+        h ≡ appended_by o (hint_to (id_in (own_type (tree_from_front 0 xs)))) rest →
     h ≡ by_place (length (map bare xs)) (hint.None ∷ appended_hint w (first (map bare xs)) rest ∷ []) hint.None
 appended-second w [] rest o h k e g = absurd (omega (arith, k))
 appended-second w (x ∷ []) rest o h k e g = g ∙ appended-as w x rest o e

@@ -49,7 +49,8 @@ outer-push own result fs gs f ls us hs k e g =
     ∙ ap₂ (λ (x : List Label) (y : List Hint). above_at own result f us hs ∷ outer_at own result (reverse fs) x y) e g
 
 -- the labels of the innermost frame are not those behind
-labels-append : (o : Option (List Label)) (n : ℕ) (ls : List Label) (l : Label) → n ≤ length ls → labels_by o n (ls ++ l ∷ []) ≡ labels_by o n ls
+labels-append : (o : Option (List Label)) (n : ℕ) (ls : List Label) (l : Label) → n ≤ length ls →
+    labels_by o n (ls ++ l ∷ []) ≡ labels_by o n ls
 labels-append None n ls l h = take-append-le n ls (l ∷ []) h
 labels-append (Some us) n ls l h = refl
 
@@ -72,7 +73,8 @@ pub framed-append : (ls : List Label) (hs : List Hint) (fs : List Frame) (l : La
 framed-append ls hs fs l h a =
     let p = length-append ls (l ∷ []) in
     let q = length-append hs (h ∷ []) in
-    record { hints = omega (arith, p, q, a.hints); kept = kept-more (length ls) (length (ls ++ l ∷ [])) (reverse fs) (omega (arith, p)) a.kept }
+    record { hints = omega (arith, p, q, a.hints); kept =
+        kept-more (length ls) (length (ls ++ l ∷ [])) (reverse fs) (omega (arith, p)) a.kept }
 
 -- one frame more, with all labels
 pub framed-push : (ls us : List Label) (hs : List Hint) (fs gs : List Frame) (f : Frame) → gs ≡ fs ++ f ∷ [] → f.labels ≡ length ls →
@@ -94,7 +96,8 @@ kept-length : (o : Option (List Label)) (n : ℕ) (ls : List Label) → n ≤ le
 kept-length None n ls h k = length-take-le n ls h
 kept-length (Some us) n ls h k = k us refl
 
-pub is_back : (own result : ℕ) (ls us : List Label) (hs : List Hint) (fs gs : List Frame) (f : Frame) → gs ≡ fs ++ f ∷ [] → us ≡ labels_at f ls →
+pub is_back : (own result : ℕ) (ls us : List Label) (hs : List Hint) (fs gs : List Frame) (f : Frame) → gs ≡ fs ++ f ∷ [] →
+    us ≡ labels_at f ls →
     AreFramed ls hs gs → IsBack own result ls us hs fs gs f
 is_back own result ls us hs fs gs f e m a =
     let k : AreKept (length ls) (f ∷ reverse fs) = subst (AreKept (length ls)) (ap reverse e ∙ reverse-last fs f) a.kept in

@@ -20,8 +20,10 @@ opens-at (u ∷ us) (h ∷ hs) zero l e g = let same : u ≡ l = cc in (h, refl,
 opens-at (u ∷ us) (h ∷ hs) (suc i) l e g = opens-at us hs i l (omega (arith, e)) g
 
 -- one label more is looked at
-pub level-next : (p : Open → Bool) (ls : List Label) (hs : List Hint) (i : ℕ) (l : Label) (best next all : Option ℕ) → length hs ≡ length ls →
-    slice_get ls i ≡ Some l → ((h : Hint) → next ≡ cond (p (open_of l h)) (Some i) best) → level_from p i (drop i (opens ls hs)) best ≡ all →
+pub level-next : (p : Open → Bool) (ls : List Label) (hs : List Hint) (i : ℕ) (l : Label) (best next all : Option ℕ) →
+    length hs ≡ length ls →
+    slice_get ls i ≡ Some l → ((h : Hint) → next ≡ cond (p (open_of l h)) (Some i) best) →
+        level_from p i (drop i (opens ls hs)) best ≡ all →
     level_from p (i + 1) (drop (i + 1) (opens ls hs)) next ≡ all
 level-next p ls hs i l best next all e g n k =
     let o = opens-at ls hs i l e g in
@@ -41,11 +43,13 @@ or-last : (b : Bool) (l : Open) (h : Hint) → hint_or (cond b (Some l) None) h 
 or-last true l h = refl
 or-last false l h = refl
 
-or-next : (b : Bool) (u : Open) (x y : Option Open) (h g : Hint) → hint_or x h ≡ hint_or y g → hint_or (cond b (Some u) x) h ≡ hint_or (cond b (Some u) y) g
+or-next : (b : Bool) (u : Open) (x y : Option Open) (h g : Hint) → hint_or x h ≡ hint_or y g →
+    hint_or (cond b (Some u) x) h ≡ hint_or (cond b (Some u) y) g
 or-next true u x y h g e = refl
 or-next false u x y h g e = e
 
-find-append : (p : Open → Bool) (ls : List Open) (l : Open) (h : Hint) → hint_or (find p (ls ++ l ∷ [])) h ≡ hint_or (find p ls) (cond (p l) l.hint h)
+find-append : (p : Open → Bool) (ls : List Open) (l : Open) (h : Hint) →
+    hint_or (find p (ls ++ l ∷ [])) h ≡ hint_or (find p ls) (cond (p l) l.hint h)
 find-append p [] l h = or-last (p l) l h
 find-append p (u ∷ us) l h = or-next (p u) u (find p (us ++ l ∷ [])) (find p us) h (cond (p l) l.hint h) (find-append p us l h)
 
@@ -63,7 +67,8 @@ pub last-meant : (p : Open → Bool) (ls : List Open) → last_hint p hint.None 
 last-meant p ls = last-found p ls hint.None ∙ or-none (find p (reverse ls))
 
 pub hint-next : (p : Open → Bool) (ls : List Label) (hs : List Hint) (i : ℕ) (l : Label) (h best next all : Hint) → length hs ≡ length ls →
-    slice_get ls i ≡ Some l → slice_get hs i ≡ Some h → next ≡ cond (p (open_of l h)) h best → last_hint p best (drop i (opens ls hs)) ≡ all →
+    slice_get ls i ≡ Some l → slice_get hs i ≡ Some h → next ≡ cond (p (open_of l h)) h best →
+        last_hint p best (drop i (opens ls hs)) ≡ all →
     last_hint p next (drop (i + 1) (opens ls hs)) ≡ all
 hint-next p ls hs i l h best next all e g k n a =
     let o = opens-at ls hs i l e g in
@@ -80,7 +85,8 @@ opens-none (l ∷ ls) [] (suc i) h = refl
 opens-none (l ∷ ls) (x ∷ hs) zero h = absurd (omega arith)
 opens-none (l ∷ ls) (x ∷ hs) (suc i) h = opens-none ls hs i (omega arith)
 
-last-defined : (s : Store) (p : Open → Bool) (h : Hint) (ls : List Open) → IsDefinedHint s h → AreDefinedOpens s ls → IsDefinedHint s (last_hint p h ls)
+last-defined : (s : Store) (p : Open → Bool) (h : Hint) (ls : List Open) → IsDefinedHint s h → AreDefinedOpens s ls →
+    IsDefinedHint s (last_hint p h ls)
 last-defined s p h [] d k = d
 last-defined s p h (l ∷ ls) d k = last-defined s p (cond (p l) l.hint h) ls (by (p l)) k.1
   where
@@ -88,5 +94,6 @@ last-defined s p h (l ∷ ls) d k = last-defined s p (cond (p l) l.hint h) ls (b
     by true = k.0
     by false = d
 
-pub meant-defined : (s : Store) (p : Open → Bool) (ls : List Open) → AreDefinedOpens s ls → IsDefinedHint s (hint_of_open (find p (reverse ls)))
+pub meant-defined : (s : Store) (p : Open → Bool) (ls : List Open) → AreDefinedOpens s ls →
+    IsDefinedHint s (hint_of_open (find p (reverse ls)))
 meant-defined s p ls k = subst (IsDefinedHint s) (last-meant p ls) (last-defined s p hint.None ls tt k)

@@ -18,11 +18,13 @@ use Rattle.hare_above.specs.Stands.{Stands, inner}
 use Rattle.hare_above.proofs.BareLemmas.{length-bare}
 
 -- what is asked of the kid, of what the walk has in hand
-pub asked-is : (w : Setting) (q : Asking) (a : Above) (node t : Node) (xs : List TypedNode) (ts : List Node) → q.own ≡ a.hint → q.values ≡ a.values →
+pub asked-is : (w : Setting) (q : Asking) (a : Above) (node t : Node) (xs : List TypedNode) (ts : List Node) → q.own ≡ a.hint →
+    q.values ≡ a.values →
     labels_in q ≡ a.inside.labels → q.result ≡ a.inside.result → q.node.now ≡ node → q.done.now ≡ xs → q.kids.now ≡ ts → q.kid.now ≡ t →
     asked w q
     ≡ unless_bare (head t).kind
-    (hint_of w (head node) a.hint a.values a.inside.labels a.inside.result (map bare xs) t (nodes_of (drop (length xs + 1) ts)) (head node).kind)
+    (hint_of w (head node) a.hint a.values a.inside.labels a.inside.result (map bare xs) t (nodes_of (drop (length xs + 1) ts))
+        (head node).kind)
 asked-is w q a node t xs ts e f g h i j k m = rw (e, f, g, h, i, j, k, m) refl
 
 -- a node that is no label makes no use of its number
@@ -43,7 +45,8 @@ abbrev pub over_by : Above → Bool → List Open → Hint → Hint → Role →
 over_by a d os g v r f c =
     record { hint = g; values = v; inside = record a.inside { labels = os; deferred = d; body = false; role = r }; first = f; begins = c }
 
-over-same : (a : Above) (d : Bool) (os us : List Open) (g h v u : Hint) (r q : Role) (f k c b : ℕ) → os ≡ us → g ≡ h → v ≡ u → r ≡ q → f ≡ k → c ≡ b →
+over-same : (a : Above) (d : Bool) (os us : List Open) (g h v u : Hint) (r q : Role) (f k c b : ℕ) → os ≡ us → g ≡ h → v ≡ u → r ≡ q →
+    f ≡ k → c ≡ b →
     over_by a d os g v r f c ≡ over_by a d us h u q k b
 over-same a d os us g h v u r q f k c b e1 e2 e3 e4 e5 e6 = rw (e1, e2, e3, e4, e5, e6) refl
 
@@ -52,10 +55,12 @@ pub over-is : (w : Setting) (a : Above) (h : Head) (xs : List TypedNode) (t : No
     IsAt a h (map bare xs) t rest at →
     g ≡ unless_bare (head t).kind (hint_of w h a.hint a.values a.inside.labels a.inside.result (map bare xs) t rest h.kind) →
     v ≡ values_under w a h.kind (map bare xs) → r ≡ role_of h.kind (length xs) (head t).kind →
-    over_by a (a.inside.deferred || is_defer h.kind) (labels_by a h at.number (length xs) h.kind) g v r at.first at.begins ≡ over_kid w a h (map bare xs) t rest
+    over_by a (a.inside.deferred || is_defer h.kind) (labels_by a h at.number (length xs) h.kind) g v r at.first at.begins ≡ over_kid w a h
+        (map bare xs) t rest
 over-is w a h xs t rest at g v r i e k m =
     let place : length xs ≡ length (map bare xs) = sym (length-bare xs) in
-    let labels : labels_by a h at.number (length xs) h.kind ≡ labels_by a h (number_above a (map bare xs) t rest) (length (map bare xs)) h.kind =
+    let labels : labels_by a h at.number (length xs) h.kind ≡ labels_by a h (number_above a (map bare xs) t rest) (length (map bare xs))
+        h.kind =
     ap (λ j. labels_by a h at.number j h.kind) place
     ∙ labels-number a h at.number (number_above a (map bare xs) t rest) (length (map bare xs)) h.kind i.number in
     over-same a (a.inside.deferred || is_defer h.kind) _ _ g _ v _ r _ at.first _ at.begins _ labels e k

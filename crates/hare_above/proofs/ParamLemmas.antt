@@ -26,7 +26,8 @@ known-by : (s : Store) (ds : List DeclType) (n i : ℕ) (d : DeclType) (b : Bool
 known-by s ds n i d true o k f e = some-known s ds n i d o k f (e ∙ get-some d.params i)
 known-by s ds n i d false o k f e = rw e tt
 
-known-of : (s : Store) (ds : List DeclType) (n i : ℕ) (x : Option DeclType) (o : Option ℕ) → IsKnown s ds → find (λ e. nat_eq e.decl n) ds ≡ x →
+known-of : (s : Store) (ds : List DeclType) (n i : ℕ) (x : Option DeclType) (o : Option ℕ) → IsKnown s ds →
+    find (λ e. nat_eq e.decl n) ds ≡ x →
     o ≡ param_at (option_and_then signature_of x) i → IfSome o (IsDefined s)
 known-of s ds n i None o k f e = rw e tt
 known-of s ds n i (Some d) o k f e = known-by s ds n i d (is_function d.kind) o k f e

@@ -16,7 +16,8 @@ use Rattle.hare_above.proofs.standing.Standing.enter.Goals as goal
 
 pub values_under-requires : goal.values_under-requires
 values_under-requires c =
-    trees_stay c.args.s.now c.kid_hint.new.s c.declarations-law.ensures.sound c.kid_hint.ensures.grown.later (typed_nodes c.args.done.now) c.requires.types
+    trees_stay c.args.s.now c.kid_hint.new.s c.declarations-law.ensures.sound c.kid_hint.ensures.grown.later (typed_nodes c.args.done.now)
+        c.requires.types
 
 pub returns-clause-over : goal.returns-clause-over
 returns-clause-over c w d l p =
@@ -34,14 +35,17 @@ returns-clause-over c w d l p =
     ∙ ap (λ i. role_of (head node).kind i c.kid.inside.kind) c.len-i.ensures ∙ ap (role_of (head node).kind (length xs)) own in
     let in_hand = c.asking-q.ensures in
     let asks = c.in_ok-hint.ensures.value (w l) (record { later = before; decls = d.decls l })
-    ∙ asked-is (w l) c.asking-q.result above node kid xs c.args.kids.now in_hand.own in_hand.values in_hand.labels in_hand.gives in_hand.node in_hand.done
+    ∙ asked-is (w l) c.asking-q.result above node kid xs c.args.kids.now in_hand.own in_hand.values in_hand.labels in_hand.gives
+        in_hand.node in_hand.done
     in_hand.kids in_hand.kid in
     let values = c.in_ok-values.ensures.value (w l) above later ∙ ap (λ k. values_under (w l) above k (map bare xs)) kind in
     let gone = c.in_ok-go_in_to.ensures ∙ ap (inner c.args.self.now (head node) c.args.at.number) c.len-i.ensures in
     ap (λ s. s.above)
-    (stood c.args.self.now c.go_in_to.new.self c.stand.new.self (head node) c.args.at.number (length xs) c.in_ok-hint.hint c.in_ok-values.values
+    (stood c.args.self.now c.go_in_to.new.self c.stand.new.self (head node) c.args.at.number (length xs) c.in_ok-hint.hint
+        c.in_ok-values.values
     (role_in c.role_of.result) c.args.at.first c.args.at.begins gone c.stand.ensures)
-    ∙ over-is (w l) above (head node) xs kid rest c.args.at c.in_ok-hint.hint c.in_ok-values.values (role_in c.role_of.result) c.requires.at asks values role
+    ∙ over-is (w l) above (head node) xs kid rest c.args.at c.in_ok-hint.hint c.in_ok-values.values (role_in c.role_of.result)
+        c.requires.at asks values role
 
 pub returns-clause-ready : goal.returns-clause-ready
 returns-clause-ready c =
@@ -57,7 +61,8 @@ returns-clause-ready c =
     let was = c.requires.ready in
     let ready : IsReady end (record st {
       above = over_by st.above (st.above.inside.deferred || is_defer node.kind)
-          (labels_by st.above node c.args.at.number c.len-i.result node.kind) c.in_ok-hint.hint c.in_ok-values.values (role_in c.role_of.result)
+          (labels_by st.above node c.args.at.number c.len-i.result node.kind) c.in_ok-hint.hint c.in_ok-values.values
+              (role_in c.role_of.result)
           c.args.at.first c.args.at.begins;
       outer = st.above ∷ st.outer;
     }) = record {
@@ -65,7 +70,8 @@ returns-clause-ready c =
         hint = hint_stays between end more.sound most c.in_ok-hint.hint c.in_ok-hint.ensures.defined;
         values = c.in_ok-values.ensures.defined;
         result = defined_stays start end sound later st.above.inside.result was.above.result;
-        labels = opens_stay start end sound later _ (labels-defined start st.above node c.args.at.number c.len-i.result node.kind was.above.labels was.above.hint);
+        labels = opens_stay start end sound later _
+            (labels-defined start st.above node c.args.at.number c.len-i.result node.kind was.above.labels was.above.hint);
       };
       outer = (above_stays start end sound later st.above was.above, aboves_stay start end sound later st.outer was.outer);
     } in
