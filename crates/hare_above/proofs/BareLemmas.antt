@@ -193,7 +193,7 @@ appended-as w x rest o e =
 
 appended-second : (w : Setting) (xs : List TypedNode) (rest : Nodes) (o : Option ℕ) (h : Hint) → length xs ≡ 1 →
     o ≡ slice_element (base_row w.store (own_type (tree_from_front 0 xs))) →
-        h ≡ appended_by o (hint_to (id_in (own_type (tree_from_front 0 xs)))) rest →
+    h ≡ appended_by o (hint_to (id_in (own_type (tree_from_front 0 xs)))) rest →
     h ≡ by_place (length (map bare xs)) (hint.None ∷ appended_hint w (first (map bare xs)) rest ∷ []) hint.None
 appended-second w [] rest o h k e g = absurd (omega (arith, k))
 appended-second w (x ∷ []) rest o h k e g = g ∙ appended-as w x rest o e

@@ -73,8 +73,11 @@ pub framed-append : (ls : List Label) (hs : List Hint) (fs : List Frame) (l : La
 framed-append ls hs fs l h a =
     let p = length-append ls (l ∷ []) in
     let q = length-append hs (h ∷ []) in
-    record { hints = omega (arith, p, q, a.hints); kept =
-        kept-more (length ls) (length (ls ++ l ∷ [])) (reverse fs) (omega (arith, p)) a.kept }
+    record {
+      hints = omega (arith, p, q, a.hints);
+      kept =
+          kept-more (length ls) (length (ls ++ l ∷ [])) (reverse fs) (omega (arith, p)) a.kept;
+    }
 
 -- one frame more, with all labels
 pub framed-push : (ls us : List Label) (hs : List Hint) (fs gs : List Frame) (f : Frame) → gs ≡ fs ++ f ∷ [] → f.labels ≡ length ls →

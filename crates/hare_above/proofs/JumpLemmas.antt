@@ -23,7 +23,7 @@ opens-at (u ∷ us) (h ∷ hs) (suc i) l e g = opens-at us hs i l (omega (arith,
 pub level-next : (p : Open → Bool) (ls : List Label) (hs : List Hint) (i : ℕ) (l : Label) (best next all : Option ℕ) →
     length hs ≡ length ls →
     slice_get ls i ≡ Some l → ((h : Hint) → next ≡ cond (p (open_of l h)) (Some i) best) →
-        level_from p i (drop i (opens ls hs)) best ≡ all →
+    level_from p i (drop i (opens ls hs)) best ≡ all →
     level_from p (i + 1) (drop (i + 1) (opens ls hs)) next ≡ all
 level-next p ls hs i l best next all e g n k =
     let o = opens-at ls hs i l e g in
@@ -68,7 +68,7 @@ last-meant p ls = last-found p ls hint.None ∙ or-none (find p (reverse ls))
 
 pub hint-next : (p : Open → Bool) (ls : List Label) (hs : List Hint) (i : ℕ) (l : Label) (h best next all : Hint) → length hs ≡ length ls →
     slice_get ls i ≡ Some l → slice_get hs i ≡ Some h → next ≡ cond (p (open_of l h)) h best →
-        last_hint p best (drop i (opens ls hs)) ≡ all →
+    last_hint p best (drop i (opens ls hs)) ≡ all →
     last_hint p next (drop (i + 1) (opens ls hs)) ≡ all
 hint-next p ls hs i l h best next all e g k n a =
     let o = opens-at ls hs i l e g in

@@ -24,7 +24,7 @@ pub asked-is : (w : Setting) (q : Asking) (a : Above) (node t : Node) (xs : List
     asked w q
     ≡ unless_bare (head t).kind
     (hint_of w (head node) a.hint a.values a.inside.labels a.inside.result (map bare xs) t (nodes_of (drop (length xs + 1) ts))
-        (head node).kind)
+    (head node).kind)
 asked-is w q a node t xs ts e f g h i j k m = rw (e, f, g, h, i, j, k, m) refl
 
 -- a node that is no label makes no use of its number
@@ -56,11 +56,11 @@ pub over-is : (w : Setting) (a : Above) (h : Head) (xs : List TypedNode) (t : No
     g ≡ unless_bare (head t).kind (hint_of w h a.hint a.values a.inside.labels a.inside.result (map bare xs) t rest h.kind) →
     v ≡ values_under w a h.kind (map bare xs) → r ≡ role_of h.kind (length xs) (head t).kind →
     over_by a (a.inside.deferred || is_defer h.kind) (labels_by a h at.number (length xs) h.kind) g v r at.first at.begins ≡ over_kid w a h
-        (map bare xs) t rest
+    (map bare xs) t rest
 over-is w a h xs t rest at g v r i e k m =
     let place : length xs ≡ length (map bare xs) = sym (length-bare xs) in
     let labels : labels_by a h at.number (length xs) h.kind ≡ labels_by a h (number_above a (map bare xs) t rest) (length (map bare xs))
-        h.kind =
+    h.kind =
     ap (λ j. labels_by a h at.number j h.kind) place
     ∙ labels-number a h at.number (number_above a (map bare xs) t rest) (length (map bare xs)) h.kind i.number in
     over-same a (a.inside.deferred || is_defer h.kind) _ _ g _ v _ r _ at.first _ at.begins _ labels e k

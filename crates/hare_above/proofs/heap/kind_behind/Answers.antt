@@ -7,10 +7,10 @@ use Rattle.hare_above.proofs.heap.kind_behind.Goals as goal
 pub overflow_add-len : goal.overflow_add-len
 overflow_add-len c =
     let h : length c.args.q.now.done.now < length c.args.q.now.kids.now =
-        slice_get_within c.args.q.now.kids.now _ c.args.q.now.kid.now c.requires in
+    slice_get_within c.args.q.now.kids.now _ c.args.q.now.kid.now c.requires in
     omega arith
 
 pub returns-in-Some : goal.returns-in-Some
 returns-in-Some c =
     behind-kid c.args.q.now.kids.now _ _ c.in-Some.t.now c.t.inside.kind (ap (λ t. (head t).kind) c.t.view_is)
-        (ap (λ n. n + 1) c.len.ensures) c.in-Some.ensures.found
+    (ap (λ n. n + 1) c.len.ensures) c.in-Some.ensures.found

@@ -16,4 +16,4 @@ pub returns : goal.returns
 returns c hs e =
     let past : length c.args.labels.now ≤ c.loop-i.i = omega arith in
     sym (ap (λ x. level_from (takes_yield c.args.name.now) c.loop-i.i x c.loop-i.nearest)
-        (opens-none c.args.labels.now hs c.loop-i.i past)) ∙ c.loop-i.invariant hs e
+    (opens-none c.args.labels.now hs c.loop-i.i past)) ∙ c.loop-i.invariant hs e

@@ -11,7 +11,7 @@ loop-i-init c = refl
 pub loop-i-preserved : goal.loop-i-preserved
 loop-i-preserved c =
     hint-next (takes_yield c.args.name.now) c.args.labels.now c.args.hints.now c.loop-i.i c.in-Some-Some.l.now c.in-Some-Some.h.now
-        c.loop-i.nearest
+    c.loop-i.nearest
     c.nearer_hint-nearest.result (last_hint (takes_yield c.args.name.now) hint.None (opens c.args.labels.now c.args.hints.now)) c.requires
     (sym c.in-Some-Some.ensures) (sym c.in-Some-Some.ensures') c.nearer_hint-nearest.ensures c.loop-i.invariant
 

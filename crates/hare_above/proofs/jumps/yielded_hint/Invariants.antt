@@ -8,4 +8,4 @@ use Rattle.hare_above.proofs.jumps.yielded_hint.Given as goal
 abbrev pub invariant-loop-i : goal.invariant-loop-i
 invariant-loop-i l =
     last_hint (takes_yield l.name) l.nearest (drop l.i (opens l.labels l.hints)) ≡ last_hint (takes_yield l.name) hint.None
-        (opens l.labels l.hints)
+    (opens l.labels l.hints)

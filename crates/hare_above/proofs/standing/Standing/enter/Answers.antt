@@ -17,7 +17,7 @@ use Rattle.hare_above.proofs.standing.Standing.enter.Goals as goal
 pub values_under-requires : goal.values_under-requires
 values_under-requires c =
     trees_stay c.args.s.now c.kid_hint.new.s c.declarations-law.ensures.sound c.kid_hint.ensures.grown.later (typed_nodes c.args.done.now)
-        c.requires.types
+    c.requires.types
 
 pub returns-clause-over : goal.returns-clause-over
 returns-clause-over c w d l p =
@@ -36,16 +36,16 @@ returns-clause-over c w d l p =
     let in_hand = c.asking-q.ensures in
     let asks = c.in_ok-hint.ensures.value (w l) (record { later = before; decls = d.decls l })
     ∙ asked-is (w l) c.asking-q.result above node kid xs c.args.kids.now in_hand.own in_hand.values in_hand.labels in_hand.gives
-        in_hand.node in_hand.done
+    in_hand.node in_hand.done
     in_hand.kids in_hand.kid in
     let values = c.in_ok-values.ensures.value (w l) above later ∙ ap (λ k. values_under (w l) above k (map bare xs)) kind in
     let gone = c.in_ok-go_in_to.ensures ∙ ap (inner c.args.self.now (head node) c.args.at.number) c.len-i.ensures in
     ap (λ s. s.above)
     (stood c.args.self.now c.go_in_to.new.self c.stand.new.self (head node) c.args.at.number (length xs) c.in_ok-hint.hint
-        c.in_ok-values.values
+    c.in_ok-values.values
     (role_in c.role_of.result) c.args.at.first c.args.at.begins gone c.stand.ensures)
     ∙ over-is (w l) above (head node) xs kid rest c.args.at c.in_ok-hint.hint c.in_ok-values.values (role_in c.role_of.result)
-        c.requires.at asks values role
+    c.requires.at asks values role
 
 pub returns-clause-ready : goal.returns-clause-ready
 returns-clause-ready c =
@@ -62,7 +62,7 @@ returns-clause-ready c =
     let ready : IsReady end (record st {
       above = over_by st.above (st.above.inside.deferred || is_defer node.kind)
           (labels_by st.above node c.args.at.number c.len-i.result node.kind) c.in_ok-hint.hint c.in_ok-values.values
-              (role_in c.role_of.result)
+          (role_in c.role_of.result)
           c.args.at.first c.args.at.begins;
       outer = st.above ∷ st.outer;
     }) = record {

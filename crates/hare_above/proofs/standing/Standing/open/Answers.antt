@@ -7,7 +7,7 @@ pub invariant_of-self-in-Ok : goal.invariant_of-self-in-Ok
 invariant_of-self-in-Ok c =
     rw (c.in-Ok.ensures.ok, c.in_ok-push.ensures.ok)
     (framed-append c.self.inside.case.inside.labels c.self.inside.hints c.self.inside.frames.items c.args.label c.args.hint
-        c.self.invariant)
+    c.self.invariant)
 
 pub returns-in-Ok : goal.returns-in-Ok
 returns-in-Ok c =
