@@ -1,21 +1,20 @@
 -- When the turn of a node has come, its judge may be asked.
-use Rattle.std.proofs.Common.{◌≡◌, ℕ, suc, Bool, true, false, List, [], ◌∷◌, map, length, refl, ap, sym, ◌∙◌, subst}
+use Rattle.std.proofs.Common.{◌≡◌, ℕ, suc, true, false, List, [], ◌∷◌, map, length, refl, ap, sym, ◌∙◌, subst}
 use Rattle.hare_tree.specs.declared.kind.Kind.{Kind}
 use Rattle.hare_tree.specs.declared.kind.Kind.TheVariants as ki
-use Rattle.hare_tree.specs.Node.{Node, Nodes, kids_of}
+use Rattle.hare_tree.specs.Node.{kids_of}
 use Rattle.hare_types.specs.Store.{Store}
 use Rattle.hare_types.specs.Sound.{IsStore}
 use Rattle.hare_types.specs.Later.{IsLater}
 use Rattle.hare_types.proofs.LaterLemmas.{later_here}
 use Rattle.hare_typed.specs.Typed.{TypedNode, marked}
 use Rattle.hare_typed.specs.Coats.{coat}
-use Rattle.hare_typed.specs.Numbers.{number_of}
 use Rattle.hare_rules.specs.Context.{Setting, Context, Given, store_of}
 use Rattle.hare_rules.specs.Above.{Above}
 use Rattle.hare_rules.specs.Flow.{Flow, count, yields_to, context}
 use Rattle.hare_rules.specs.Judged.{context_of}
 use Rattle.hare_rules.specs.Finished.{bare}
-use Rattle.hare_inference.specs.Inferred.{found_kids, infer_each}
+use Rattle.hare_inference.specs.Inferred.{found_kids}
 use Rattle.hare_told.specs.Told.{IsTold, IsLookedAt, AreToldYields}
 use Rattle.hare_told.specs.Enough.{told}
 use Rattle.hare_told.specs.Settled.{AreApart, AreAsIs, HandNothingOn}

@@ -14,11 +14,11 @@ use Rattle.hare_typed.specs.Copies.{has_defers as takes_yields}
 use Rattle.hare_typed.specs.Numbers.{number_of}
 use Rattle.hare_typed.specs.Order.{tree_from_front}
 use Rattle.hare_rules.specs.Above.{Above}
-use Rattle.hare_rules.specs.Context.{Setting, Context, Entry, Given, Open, is_there, own_type, place_of, store_of}
+use Rattle.hare_rules.specs.Context.{Setting, Entry, Given, Open, is_there, own_type, place_of, store_of}
 use Rattle.hare_rules.specs.Control.{yield_level}
 use Rattle.hare_rules.specs.Finished.{bare}
 use Rattle.hare_rules.specs.Flow.{Flow, Yielded, is_at, add_yield, context, locals_after, yields_after, yielded, write_each, settled_type, flow_after}
-use Rattle.hare_rules.specs.Settles.{Settled, settles_kids, settles_late}
+use Rattle.hare_rules.specs.Settles.{Settled, settles_kids}
 use Rattle.hare_rules.specs.Types.{type_of}
 use Rattle.hare_check.specs.declared.finding.Finding.{Finding}
 use Rattle.hare_check.specs.declared.late.Late.{Late}

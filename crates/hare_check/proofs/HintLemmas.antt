@@ -1,5 +1,5 @@
 -- What a judge is told of a node tells which kids were asked for a type, as what stands over each of them does.
-use Rattle.std.proofs.Common.{◌≡◌, ℕ, zero, suc, ◌+◌, Bool, true, false, cond, not, List, [], ◌∷◌, ◌++◌, map, take, drop, length, refl, ap, ap₂, sym, ◌∙◌, subst, Option, Some, None}
+use Rattle.std.proofs.Common.{◌≡◌, ℕ, zero, suc, ◌+◌, Bool, true, false, cond, List, [], ◌∷◌, ◌++◌, map, take, drop, length, refl, ap, ap₂, sym, ◌∙◌, Option, Some, None}
 use Rattle.std.specs.Prelude.{slice_get, slice_index_or, is_some}
 use Rattle.std.proofs.lemmas.List.{map-append}
 use Rattle.hare_tree.specs.declared.kind.Kind.{Kind}
@@ -14,14 +14,13 @@ use Rattle.hare_typed.specs.Coats.{coat}
 use Rattle.hare_typed.specs.Coercions.{element_of_slice as slice_element}
 use Rattle.hare_typed.specs.Given.{given, base_row}
 use Rattle.hare_typed.specs.Numbers.{number_of, kind_of}
-use Rattle.hare_typed.specs.Order.{tree_from_front}
 use Rattle.hare_rules.specs.declared.hint.Hint.{Hint}
 use Rattle.hare_rules.specs.declared.hint.Hint.TheVariants as hint
 use Rattle.hare_rules.specs.declared.declared.Local.{Local}
 use Rattle.hare_rules.specs.declared.judged.Yielded.{Yielded}
 use Rattle.hare_rules.specs.Context.{Setting, Open, own_type, kid}
 use Rattle.hare_rules.specs.Aggregates.{called, callee_meaning, hinted_element}
-use Rattle.hare_rules.specs.Above.{Above, over_kid, hint_of, unless_bare, is_bare_part, hint_to, hint_seen, first, by_place, param_at, argument_hint, field_hint, component_hint, item_hint_by, written_hint, declared_hint, appended_hint, next_kind, count_of}
+use Rattle.hare_rules.specs.Above.{Above, over_kid, hint_of, unless_bare, is_bare_part, hint_to, first, by_place, param_at, argument_hint, field_hint, component_hint, item_hint_by, written_hint, declared_hint, appended_hint, next_kind, count_of}
 use Rattle.hare_rules.specs.Settles.{same}
 use Rattle.hare_rules.specs.Judged.{is_type_hint, hands_on, was_hinted}
 use Rattle.hare_rules.specs.Words.{id_in}

@@ -20,14 +20,14 @@ use Rattle.hare_rules.specs.declared.declared.Local.{Local}
 use Rattle.hare_rules.specs.declared.judged.Case.{Case}
 use Rattle.hare_rules.specs.declared.judged.Verdict.{Verdict}
 use Rattle.hare_rules.specs.declared.judged.Yielded.{Yielded}
-use Rattle.hare_rules.specs.Context.{Setting, Context, Given, Role, Ordinary, Callee, Length, BindingType, CaseValue, DeclaredValue, store_of}
+use Rattle.hare_rules.specs.Context.{Setting, Context, Given, Role, Ordinary, Callee, Length, BindingType, CaseValue, DeclaredValue}
 use Rattle.hare_rules.specs.Above.{Above}
 use Rattle.hare_rules.specs.Settles.{Settled, target_of, settles_from, settles_kids, settled_from, settled_kids, settles_late}
-use Rattle.hare_rules.specs.Flow.{Flow, context, own_settled, write_each}
+use Rattle.hare_rules.specs.Flow.{Flow, own_settled, write_each}
 use Rattle.hare_rules.specs.Types.{type_of}
 use Rattle.hare_rules.specs.Rows.{is_site, rows_in_role, is_judged}
 use Rattle.hare_rules.specs.Table.{rows_of}
-use Rattle.hare_rules.specs.Judged.{context_of, IsVerdict, IsRefusal}
+use Rattle.hare_rules.specs.Judged.{IsVerdict, IsRefusal}
 use Rattle.hare_rules.specs.Finished.{bare}
 use Rattle.hare_told.specs.Told.{IsTold, IsLookedAt, has_judge}
 use Rattle.hare_told.specs.Enough.{told, IsSameVerdict}

@@ -1,15 +1,13 @@
 -- What has been found of the kids of a node when its turn comes: their numbers, their coercions and their types.
-use Rattle.std.proofs.Common.{◌≡◌, ℕ, zero, suc, ◌+◌, ◌<◌, ◌≤◌, Bool, true, false, cond, List, [], ◌∷◌, ◌++◌, map, length, refl, ap, sym, ◌∙◌, subst, append_assoc, Option, Some, None, Result, Ok, Err, arith}
+use Rattle.std.proofs.Common.{◌≡◌, ℕ, zero, suc, ◌+◌, ◌<◌, ◌≤◌, Bool, true, false, cond, List, [], ◌∷◌, ◌++◌, length, refl, ap, sym, ◌∙◌, subst, append_assoc, Some, Result, Ok, Err, arith}
 use Rattle.std.specs.Prelude.{slice_get, slice_index_or}
 use Rattle.std.proofs.lemmas.List.{append-nil}
 use Rattle.hare_tree.specs.Node.{Head, Node, Nodes, branch, none, more}
 use Rattle.hare_types.specs.declared.coercion.Coercion.{Coercion}
 use Rattle.hare_types.specs.declared.coercion.Ty.{Ty}
-use Rattle.hare_types.specs.Store.{Store}
-use Rattle.hare_typed.specs.Typed.{TypedNode, TypedNodes, marked, typed_nodes, head_of, mark_of}
+use Rattle.hare_typed.specs.Typed.{TypedNode, marked, typed_nodes, head_of, mark_of}
 use Rattle.hare_typed.specs.Erased.{erase, erase_each}
 use Rattle.hare_typed.specs.Numbers.{number_of}
-use Rattle.hare_typed.specs.Coats.{coat}
 use Rattle.hare_rules.specs.declared.hint.Hint.{Hint}
 use Rattle.hare_rules.specs.declared.hint.Hint.TheVariants as hint
 use Rattle.hare_rules.specs.Context.{Setting, Context, own_type, store_of}
@@ -19,8 +17,8 @@ use Rattle.hare_rules.specs.Judged.{is_type_hint}
 use Rattle.hare_rules.specs.Types.{type_of}
 use Rattle.hare_rules.specs.Rows.{is_judged}
 use Rattle.hare_rules.specs.Flow.{Flow, count, context, flow_before, own_settled}
-use Rattle.hare_rules.specs.Finished.{bare, bare_each, behind, behind_each, AllCarry}
-use Rattle.hare_inference.specs.Inferred.{Reason, Found, FoundKids, found, found_kids, then_kids, infer, infer_each}
+use Rattle.hare_rules.specs.Finished.{bare_each, behind, behind_each, AllCarry}
+use Rattle.hare_inference.specs.Inferred.{Reason, Found, FoundKids, found_kids, then_kids, infer, infer_each}
 use Rattle.hare_inference.specs.Laws.{IsFound}
 use Rattle.hare_inference.proofs.Orders.{number_of-root, count-flow_before, count-behind}
 use Rattle.hare_inference.proofs.Hands.{coercions-before, settled-behind}

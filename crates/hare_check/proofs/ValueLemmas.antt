@@ -1,7 +1,7 @@
 -- No kid of a node is a list of values, unless the node is a case of a `switch`.
-use Rattle.std.proofs.Common.{◌≡◌, ℕ, suc, ◌+◌, Bool, true, false, List, [], ◌∷◌, refl, ap, sym, ◌∙◌, subst, arith, if◌then◌else◌}
+use Rattle.std.proofs.Common.{◌≡◌, ℕ, ◌+◌, Bool, true, false, List, [], ◌∷◌, refl, ap, sym, ◌∙◌, subst, arith, if◌then◌else◌}
 use Rattle.std.proofs.lemmas.Bool.{lt-leb}
-use Rattle.std.specs.Prelude.{◌&&◌, ◌||◌, nat_le, codes}
+use Rattle.std.specs.Prelude.{◌&&◌, ◌||◌, nat_le}
 use Rattle.hare_tree.specs.declared.kind.Kind.{Kind}
 use Rattle.hare_tree.specs.declared.kind.Kind.TheVariants as ki
 use Rattle.hare_tree.specs.declared.form.Own.TheVariants as ow
@@ -11,12 +11,11 @@ use Rattle.hare_tree.specs.declared.form.Piece.{Piece}
 use Rattle.hare_tree.specs.declared.form.Piece.TheVariants as pi
 use Rattle.hare_tree.specs.Node.{Head, Node, Nodes, branch, none, more, head, kids_of}
 use Rattle.hare_tree.specs.Forms.{form_of}
-use Rattle.hare_tree.specs.Levels.{operators, operator_level, level, admits, sort_in}
+use Rattle.hare_tree.specs.Levels.{operator_level, level, admits, sort_in}
 use Rattle.hare_tree.specs.Shape.{is_shaped, is_own, is_leaf, is_absent, is_none, is_none_or_comma, is_none_or_dots, are_kids, kid_pieces}
-use Rattle.hare_tree.specs.Words.{is_listed}
-use Rattle.hare_tree.proofs.ShapedKids.{Kids, shaped_admits, kids_of_shaped}
+use Rattle.hare_tree.proofs.ShapedKids.{shaped_admits}
 use Rattle.hare_typed.specs.Typed.{TypedNode, marked, typed_nodes}
-use Rattle.hare_typed.specs.Erased.{erase, erase_each}
+use Rattle.hare_typed.specs.Erased.{erase_each}
 use Rattle.hare_rules.specs.Judged.{hands_on}
 use Rattle.hare_told.specs.Settled.{HandNothingOn}
 
