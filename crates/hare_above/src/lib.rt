@@ -10,8 +10,6 @@ mod marks;
 mod role;
 mod standing;
 mod statements;
-#[cfg(test)]
-mod tests;
 mod values;
 
 pub use role::Role;

@@ -1,11 +1,11 @@
 //! Each call once, with what a person expects of it.
 
 use crate::{
-    Logic, Order, array_length, combined, constant_cells, covers, in_order, leaves_open,
-    number_cells, number_of_value, same_number,
+    Logic, Order, array_length, combined, covers, in_order, leaves_open, number_cells,
+    number_of_value, same_number,
 };
 use hare_tree::{Kind, Meaning, Place, Suffix, Word};
-use hare_typed::{Cell, Const, Consts, Typed, TypedKids};
+use hare_typed::{Const, Consts, Typed, TypedKids};
 use hare_types::{Coercion, Row, Scalar, Ty, TypeStore};
 use std::test::Fail;
 
@@ -67,37 +67,5 @@ fn numbers_have_cells(rt: HostRuntime) -> Result<(), Fail> {
     let cells = number_cells(rt.alloc(), &types, t, -2)?;
     assert_eq!(rt; cells.len(), 2);
     assert_eq!(rt; number_of_value(&types, t, &cells), -2);
-    Ok(())
-}
-
-#[test]
-fn literals_are_constants(rt: HostRuntime) -> Result<(), Fail> {
-    let mut types = TypeStore::new(rt.alloc());
-    let of = Ty::Of(types.intern(Row::Scalar(Scalar::U16))?);
-    let literal = Typed {
-        kind: Kind::Number,
-        place: Place {
-            file: 0,
-            line: 1,
-            column: 1,
-        },
-        text: Word::new(rt.alloc()),
-        number: 258,
-        suffix: Suffix::U16,
-        node: 0,
-        ty: of,
-        coerce: Coercion { row: 1, to: of },
-        meaning: Meaning::None,
-        value: Const::Absent,
-        kids: TypedKids::new(rt.alloc()),
-    };
-    match constant_cells(rt.alloc(), &types, 0, &literal)? {
-        Some(cells) => {
-            assert_eq!(rt; cells.len(), 2);
-            assert!(rt; cells.get(0) == Some(Cell::Byte(2)));
-            assert!(rt; cells.get(1) == Some(Cell::Byte(1)));
-        }
-        None => assert!(rt; false),
-    }
     Ok(())
 }
