@@ -1,0 +1,10 @@
+use Rattle.std.proofs.Common.{ap, ◌∙◌}
+use Rattle.hare_typed.specs.Numbers.{number_of}
+use Rattle.rule_judge.proofs.KidLemmas.{front_found, front_past}
+use Rattle.hare_find.proofs.yields.first_number.Goals as goal
+
+pub returns-in-Some : goal.returns-in-Some
+returns-in-Some c = ap number_of (c.kid.view_is ∙ front_found c.args.kids.now 0 c.in-Some.kid.now c.in-Some.ensures.found)
+
+pub returns-in-None : goal.returns-in-None
+returns-in-None c = ap number_of (front_past c.args.kids.now 0 c.in-None.ensures.none)
