@@ -1,5 +1,5 @@
 -- What is found of a node at its turn, and what a judge may be asked with.
-use Rattle.std.specs.Prelude.{◌≡◌, Bool, true, false, List, [], ◌∷◌, ◌++◌, map, length, Some, None}
+use Rattle.std.specs.Prelude.{◌≡◌, Bool, true, false, List, [], ◌∷◌, ◌++◌, map, length, Option, Some, None}
 use Rattle.hare_tree.specs.declared.kind.Kind.{Kind}
 use Rattle.hare_tree.specs.declared.kind.Kind.TheVariants as ki
 use Rattle.hare_tree.specs.Node.{Head, kids_of}
@@ -64,7 +64,17 @@ pub record IsFoundAt (c : Context) (xs : List TypedNode) (cs : List Coercion) (x
 abbrev pub IsFound : (Store → Setting) → Store → Above → Head → List TypedNode → Flow → Finding → Type 0
 IsFound w s a h xs f x = (l : Store) → IsLater s l → IsFoundAt (context (w l) a h (map bare xs) f) xs f.coercions x
 
--- the types of the node are in the store, and mention no name that is not defined
+-- what is settled of each kid leads to a type that is in the store, and mentions no name that is not defined
+abbrev pub IsDefinedSettling : Store → Option Coercion → Type 0
+IsDefinedSettling s None = Unit {0}
+IsDefinedSettling s (Some r) = IsDefinedTy s r.to
+
+abbrev pub AreDefinedSettlings : Store → List (Option Coercion) → Type 0
+AreDefinedSettlings s [] = Unit {0}
+AreDefinedSettlings s (o ∷ os) = IsDefinedSettling s o × AreDefinedSettlings s os
+
+-- the types of the node, and those to which its kids go, are in the store, and mention no name that is not defined
 pub record IsDefinedFinding (s : Store) (x : Finding) : Type 0 where
   pub ty : IsDefinedTy s x.ty
   pub own : IsDefinedTy s x.own.to
+  pub kids : AreDefinedSettlings s (map option_in x.kids)

@@ -1,0 +1,1 @@
+-- Where yielded values may go while a walk stands among the kids of a node.
