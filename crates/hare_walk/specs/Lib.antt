@@ -1,4 +1,5 @@
 pub mod Grown
+pub mod Spots
 pub mod Walks
 pub mod Verdicts
 pub mod Nulls

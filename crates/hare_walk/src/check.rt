@@ -1,6 +1,6 @@
 //! The walk: kids from left to right, then the node.
 
-ghost use Rattle.std.specs.Prelude.{◌≡◌, [], ◌∷◌, ◌++◌, map, IsTrue, OnOk, IfOk, IfErr, Ok};
+ghost use Rattle.std.specs.Prelude.{◌≡◌, List, [], ◌∷◌, ◌++◌, map, length, IsTrue, OnOk, IfOk, IfErr, Ok};
 ghost use Rattle.hare_tree.specs.Node.{head, kids_of, nodes_of};
 ghost use Rattle.hare_tree.specs.Shape.{is_shaped};
 ghost use Rattle.hare_types.specs.Store.{Store};
@@ -12,6 +12,7 @@ ghost use Rattle.hare_rules.specs.Finished.{bare, IsTheTree, expression};
 ghost use Rattle.hare_inference.specs.Inferred.{found_kids, infer_each};
 ghost use Rattle.hare_walk.specs.Counts.{IsBegun, IsAmong, IsBehind};
 ghost use Rattle.hare_walk.specs.Grown.{IsGrown};
+ghost use Rattle.hare_walk.specs.Spots.{Spot, spot};
 ghost use Rattle.hare_walk.specs.Walks.{IsPart, Each, IsInHand, AreInHand, IsInferred, IsStopped, IsStop, IsAnswer};
 
 use crate::counts::{At, Counts, label_number};
@@ -34,7 +35,7 @@ pub fn check_by<W: Walk>(
     requires start { (W.flow w.old).coercions ≡ [] }
     requires begins { (W.above w.old).begins ≡ 0 }
     requires first { (W.above w.old).first ≡ first }
-    requires ready { W.Ready w.old s.old }
+    requires ready { W.Ready w.old s.old (spot (head body.now).kind 0 ∷ []) }
     requires shaped { IsTrue (is_shaped expression body.now) }
     ensures ok { IfOk result (λ x. IsTheTree (W.setting w.old s.new) (W.above w.old) (W.flow w.old) body.now x) }
     ensures err { IfErr result (λ e. IsAnswer (W.setting w.old s.new) (W.above w.old) (W.flow w.old) body.now e) }
@@ -59,14 +60,14 @@ fn judge_tree<W: Walk>(
     t: &Tree,
     counts: &mut Counts,
 ) -> Result<Typed, Stop<Fault>>
-    requires ready { W.Ready w.old s.old }
+    requires ready { (ps : List Spot) × W.Ready w.old s.old (spot (head t.now).kind 0 ∷ ps) }
     requires part { IsPart t.now }
     requires counts { IsBegun (W.above w.old) counts.old }
     ensures ok { IfOk result (λ x. IsInferred (W.setting w.old) s.new (W.above w.old) t.now (W.flow w.old) x (W.flow w.new)) }
     ensures hand { IfOk result (λ x. IsInHand (W.flow w.new) x) }
     ensures counts { IfOk result (λ x. IsBehind counts.old (bare x) counts.new) }
     ensures erases { IfOk result (λ x. erase x ≡ t.now) }
-    ensures ready { OnOk result (W.Ready w.new s.new) }
+    ensures ready { OnOk result ((ps : List Spot) → W.Ready w.old s.old (spot (head t.now).kind 0 ∷ ps) → W.Ready w.new s.new (spot (head t.now).kind 0 ∷ ps)) }
     ensures kept { IfOk result (λ x. (r : Store) → IsGrown s.new r → W.Keeps r x) }
     ensures err { IfErr result (λ e. IsStopped (W.setting w.old) s.new (W.above w.old) t.now (W.flow w.old) e) }
     ensures above { OnOk result (W.above w.new ≡ W.above w.old) }
@@ -91,7 +92,7 @@ fn judge_kids<W: Walk>(
     kids: &Kids,
     counts: &mut Counts,
 ) -> Result<TypedKids, Stop<Fault>>
-    requires ready { W.Ready w.old s.old }
+    requires ready { (ps : List Spot) × W.Ready w.old s.old (spot (head node.now).kind 0 ∷ ps) }
     requires part { IsPart node.now }
     requires counts { IsAmong (W.above w.old) (head node.now) [] counts.old }
     requires whole { kids_of node.now ≡ nodes_of kids.now }
@@ -99,7 +100,7 @@ fn judge_kids<W: Walk>(
     ensures hand { IfOk result (λ xs. AreInHand (W.flow w.new) xs) }
     ensures counts { IfOk result (λ xs. IsAmong (W.above w.old) (head node.now) (map bare xs) counts.new) }
     ensures erases { IfOk result (λ xs. erase_each (typed_nodes xs) ≡ nodes_of kids.now) }
-    ensures ready { OnOk result (W.Ready w.new s.new) }
+    ensures ready { IfOk result (λ xs. (ps : List Spot) → W.Ready w.old s.old (spot (head node.now).kind 0 ∷ ps) → W.Ready w.new s.new (spot (head node.now).kind (length xs) ∷ ps)) }
     ensures kept { IfOk result (λ xs. Each (W.Keeps s.new) xs) }
     ensures err { IfErr result (λ e. (l : Store) → IsLater s.new l → IsStop e (infer_each (W.setting w.old l) (W.above w.old) (head node.now) [] (nodes_of kids.now) (W.flow w.old))) }
     ensures above { OnOk result (W.above w.new ≡ W.above w.old) }

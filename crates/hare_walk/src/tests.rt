@@ -44,7 +44,7 @@ impl Walk for Nulls {
 
     ghost flow = { λ w. seen_of w.coercions.items };
 
-    ghost Ready = { λ w s. Unit {0} };
+    ghost Ready = { λ w s ps. Unit {0} };
 
     ghost Keeps = { λ s t. Unit {0} };
 

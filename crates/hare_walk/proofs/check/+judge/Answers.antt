@@ -4,6 +4,7 @@ use Rattle.hare_types.specs.Store.{Store}
 use Rattle.hare_rules.specs.Finished.{bare}
 use Rattle.hare_walk.specs.Walks.{IsStopped}
 use Rattle.hare_walk.specs.Grown.{IsGrown}
+use Rattle.hare_walk.specs.Spots.{spot}
 use Rattle.hare_walk.proofs.Counted.{at-kid, begun-kid, among-more, behind-turn}
 use Rattle.hare_walk.proofs.Grows.{grown-refl, grown-trans, later-grown}
 use Rattle.hare_walk.proofs.Parts.{part-kid, each-grown, each-now, each-append, erased-more, erased-all, take_all}
@@ -130,7 +131,11 @@ judge_kids-loop-i-preserved g t c =
       hand = rw (flow, p) hand;
       below = rw (flow, p) below;
       counts = among-more a h xs c.push.new.self x c.loop-i.counts c.judge_tree.new.counts i.counts c.in_ok-x.ensures.counts p;
-      ready = c.leave.ensures.ready s c.in_ok-x.ensures.ready;
+      ready = λ ps r.
+          let at = spot h.kind (length xs) in
+          let judged = c.in_ok-x.ensures.ready (at ∷ ps) (c.in_ok-enter.ensures.ready ps (i.ready ps r)) in
+          let n : length c.push.new.self ≡ length xs + 1 = ap length p ∙ length-append xs (x ∷ []) in
+          rw n (c.leave.ensures.ready s (head kid).kind at ps judged);
       kept =
           let each = each-grown g.W.Walk.Keeps c.loop-i.s s xs grown i.kept in
           rw p (each-append (λ y. (r : Store) → IsGrown s r → g.W.Walk.Keeps r y) xs x each c.in_ok-x.ensures.kept);
@@ -160,7 +165,10 @@ judge_kids-judge_tree-requires g t c =
     let begun = begun-kid (g.W.Walk.setting c.loop-i.w) (g.W.Walk.setting c.loop-i.w) c.enter.new.s (g.W.Walk.above c.args.w.now) (g.W.Walk.above c.loop-i.w)
     (g.W.Walk.above c.enter.new.self) (head c.args.node.now) c.loop-i.done c.in-Some.kid.now (nodes_of (drop (length c.loop-i.done + 1) c.args.kids.now))
     c.loop-i.counts c.loop-i.invariant.above c.enter.ensures.sound c.in_ok-enter.ensures.over c.loop-i.invariant.counts in
-    λ k l. (search rules, (search rules, (c.in_ok-enter.ensures.ready, (part, begun))))
+    let at = spot (head c.args.node.now).kind (length c.loop-i.done) in
+    let ps = c.requires.ready.0 in
+    let ready = c.in_ok-enter.ensures.ready ps (c.loop-i.invariant.ready ps c.requires.ready.1) in
+    λ k l. (search rules, (search rules, ((at ∷ ps, ready), (part, begun))))
 
 pub judge_kids-enter-requires-clause-at : goal.judge_kids-enter-requires-clause-at
 judge_kids-enter-requires-clause-at g t c =
@@ -196,3 +204,8 @@ judge_tree-turn-requires-clause-inferred g t c =
     kids-inferred (g.W.Walk.setting w) (g.W.Walk.setting v) c.judge_kids.new.s (g.W.Walk.above w) (g.W.Walk.above v) c.args.t.now
     (nodes_of c.t.inside.kids) c.in_ok-kids.kids (g.W.Walk.flow w) (g.W.Walk.flow v)
     (sym (ap kids_of c.t.view_is)) c.in_ok-kids.ensures.setting c.in_ok-kids.ensures.above c.in_ok-kids.ensures.ok
+
+pub judge_kids-returns-in_err-push-clause-grown : goal.judge_kids-returns-in_err-push-clause-grown
+judge_kids-returns-in_err-push-clause-grown g t c =
+    let step = grown-trans c.loop-i.s c.enter.new.s c.judge_tree.new.s c.enter.ensures.grown c.judge_tree.ensures.grown in
+    grown-trans c.args.s.now c.loop-i.s c.judge_tree.new.s c.loop-i.invariant.grown step
