@@ -6,6 +6,7 @@ pub mod NextLemmas
 pub mod LateLemmas
 pub mod ResultLemmas
 pub mod LookedLemmas
+pub mod YieldLemmas
 pub mod BindingLemmas
 pub mod ClosingLemmas
 pub mod KidLemmas

@@ -17,7 +17,7 @@ pub use closing::close;
 pub use finding::{Finding, find_judged};
 pub use late::Late;
 pub use listed::Settling;
-pub use looked::look_at_binding;
+pub use looked::{look_at_binding, look_at_yield};
 pub use marks::{Found, typed};
 pub use told::told_yields;
 pub use yields::Levels;
