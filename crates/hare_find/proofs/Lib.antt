@@ -13,4 +13,5 @@ pub mod HintLemmas
 pub mod ValueLemmas
 pub mod AskedLemmas
 pub mod UnsettledLemmas
+pub mod PlainLemmas
 pub mod DefinedLemmas

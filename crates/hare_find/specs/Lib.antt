@@ -8,3 +8,4 @@ pub mod Looked
 pub mod Levels
 pub mod Closing
 pub mod Unsettled
+pub mod Plain

@@ -8,8 +8,10 @@ mod late;
 mod listed;
 mod looked;
 mod marks;
+mod plain;
 mod settle;
 mod told;
+mod unsettled;
 mod yields;
 
 pub use bindings::bind;
@@ -19,5 +21,6 @@ pub use late::Late;
 pub use listed::Settling;
 pub use looked::look_at_binding;
 pub use marks::{Found, typed};
+pub use plain::{find_callee, find_plain, is_plain};
 pub use told::told_yields;
 pub use yields::Levels;
