@@ -14,4 +14,5 @@ pub mod ValueLemmas
 pub mod AskedLemmas
 pub mod UnsettledLemmas
 pub mod PlainLemmas
+pub mod LengthLemmas
 pub mod DefinedLemmas

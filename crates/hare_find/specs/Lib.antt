@@ -9,3 +9,4 @@ pub mod Levels
 pub mod Closing
 pub mod Unsettled
 pub mod Plain
+pub mod Lengths
