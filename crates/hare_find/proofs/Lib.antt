@@ -15,4 +15,5 @@ pub mod AskedLemmas
 pub mod UnsettledLemmas
 pub mod PlainLemmas
 pub mod LengthLemmas
+pub mod WrittenLemmas
 pub mod DefinedLemmas

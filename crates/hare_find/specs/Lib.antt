@@ -10,3 +10,4 @@ pub mod Closing
 pub mod Unsettled
 pub mod Plain
 pub mod Lengths
+pub mod Written

@@ -13,6 +13,7 @@ mod plain;
 mod settle;
 mod told;
 mod unsettled;
+mod written;
 mod yields;
 
 pub use bindings::bind;
@@ -25,4 +26,5 @@ pub use looked::look_at_binding;
 pub use marks::{Found, typed};
 pub use plain::{find_callee, find_plain, is_plain};
 pub use told::told_yields;
+pub use written::find_written;
 pub use yields::Levels;
