@@ -22,7 +22,7 @@ use Rattle.hare_rules.specs.declared.judged.Verdict.{Verdict}
 use Rattle.hare_rules.specs.declared.judged.Yielded.{Yielded}
 use Rattle.hare_rules.specs.Context.{Setting, Context, Given, Role, Ordinary, Callee, Length, BindingType, CaseValue, DeclaredValue}
 use Rattle.hare_rules.specs.Above.{Above}
-use Rattle.hare_rules.specs.Settles.{Settled, target_of, settles_from, settles_kids, settled_from, settled_kids, settles_late}
+use Rattle.hare_rules.specs.Settles.{Settled, target_of, settles_from, settled_from, settles_late}
 use Rattle.hare_rules.specs.Flow.{Flow, own_settled, write_each}
 use Rattle.hare_rules.specs.Types.{type_of}
 use Rattle.hare_rules.specs.Rows.{is_site, rows_in_role, is_judged}
@@ -47,8 +47,9 @@ use Rattle.hare_find.specs.Listed.{listed_each, yields_listed, written_each, coa
 use Rattle.hare_find.specs.Late.{settled_in}
 use Rattle.hare_find.specs.Settling.{option_in}
 use Rattle.hare_find.specs.Findings.{lists, IsFoundAt}
+use Rattle.hare_find.proofs.UnsettledLemmas.{AreFound, found_none}
 use Rattle.hare_find.proofs.AskedLemmas.{IsAsked, context_at, told_context}
-use Rattle.hare_find.proofs.FindingLemmas.{listed_same, coated_from, as_is-more, no_yield_target, no_case_target, none_settled, none_moved, nones_written, nones_coated}
+use Rattle.hare_find.proofs.FindingLemmas.{listed_same, coated_from, as_is-more, no_yield_target, no_case_target}
 
 -- what a finding takes of a verdict
 pub record IsTakenFrom (l : Store) (t : Turn) (gs : List Given) (v : Verdict) (x : Finding) : Type 0 where
@@ -94,11 +95,6 @@ record AreListed (c k : Context) (ls : List Local) (ys : List Yielded) (xs : Lis
   as_is : AreAsIs k 0 xs cs
   listed : os ≡ listed_each k 0 xs
 
--- the kids go as is found of them
-record AreFound (c : Context) (xs : List TypedNode) (cs : List Coercion) (os : List (Option Coercion)) : Type 0 where
-  kids : (r : Coercion) → write_each (settles_kids c) (cs ++ r ∷ []) ≡ write_each (written_each xs os) (cs ++ r ∷ [])
-  coated : settled_kids c ≡ coated_each xs os
-
 found_listed : (c k : Context) (ls : List Local) (ys : List Yielded) (xs : List TypedNode) (cs : List Coercion) (os : List
     (Option Coercion)) →
     AreListed c k ls ys xs cs os → AreFound c xs cs os
@@ -114,16 +110,6 @@ found_listed c k ls ys xs cs os h =
           kids_written c ls ys 0 xs ds h.kids h.hands h.apart (as_is-more j 0 xs cs (r ∷ []) as_is) in
           ap (λ zs. write_each (settles_from c 0 zs) ds) h.kids ∙ p ∙ ap (λ ss. write_each ss ds) same;
       coated = ap (settled_from c 0) h.kids ∙ coated_from c ls ys 0 xs cs h.kids h.hands as_is h.hand ∙ ap (coated_each xs) all;
-    }
-
-found_none : (c : Context) (xs : List TypedNode) (cs : List Coercion) (os : List (Option Coercion)) (n : ℕ) →
-    ((d : Context) (i : ℕ) → target_of d c.head.kind i ≡ None) → c.kids ≡ xs → os ≡ replicate n None → AreFound c xs cs os
-found_none c xs cs os n none e h =
-    record {
-      kids = λ r.
-          let ds = cs ++ r ∷ [] in
-          ap (λ ss. write_each ss ds) (none_settled c 0 c.kids none ∙ sym (nones_written n xs) ∙ ap (written_each xs) (sym h));
-      coated = none_moved c 0 c.kids none ∙ e ∙ sym (nones_coated n xs) ∙ ap (coated_each xs) (sym h);
     }
 
 -- ---- what was yielded

@@ -13,3 +13,8 @@ pub mod KidLemmas
 pub mod HintLemmas
 pub mod ValueLemmas
 pub mod AskedLemmas
+pub mod UnsettledLemmas
+pub mod PlainLemmas
+pub mod LengthLemmas
+pub mod WrittenLemmas
+pub mod DefinedLemmas

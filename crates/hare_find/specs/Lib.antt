@@ -7,3 +7,7 @@ pub mod Settling
 pub mod Looked
 pub mod Levels
 pub mod Closing
+pub mod Unsettled
+pub mod Plain
+pub mod Lengths
+pub mod Written

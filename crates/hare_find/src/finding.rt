@@ -46,7 +46,7 @@ pub struct Finding {
 }
 
 /// Of so many kids that each stays as it is.
-fn nones(alloc: Global, count: usize) -> Result<Items<Settling>, AllocError>
+pub(crate) fn nones(alloc: Global, count: usize) -> Result<Items<Settling>, AllocError>
     ensures { IfOk result (λ xs. map option_in xs ≡ replicate count None) }
 {
     let mut xs = Items::new(alloc);
@@ -112,6 +112,7 @@ pub fn find_judged(
     requires ready { IsReadyTurn s.old t.now }
     ensures ok { IfOk result (λ x. (w : Store → Setting) (a : Above) (f : Flow) → IsAtTurn w s.new a f t.now (map given_of gs.now) → IsFound w s.new a (head t.now.node.now) t.now.kids.now f x) }
     ensures err { IfErr result (λ e. (w : Store → Setting) (a : Above) (f : Flow) → IsAtTurn w s.new a f t.now (map given_of gs.now) → IsTurnedBack w s.new a (head t.now.node.now) t.now.kids.now f e) }
+    ensures many { IfOk result (λ x. length x.kids ≡ length t.now.kids.now) }
     ensures defined { IfOk result (IsDefinedFinding s.new) }
     ensures grown { IsGrown s.old s.new }
 {

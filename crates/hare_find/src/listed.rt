@@ -105,6 +105,7 @@ pub(crate) fn list_kids(
     requires ready { IsReadyTurn s.old t.now }
     requires verdict { IsJudged s.old t.now v.now }
     ensures kids { IfOk result (λ x. (f : Store) → IsLater s.new f → map option_in x.kids ≡ listed_each (context_in f t.now) 0 t.now.kids.now) }
+    ensures many { IfOk result (λ x. length x.kids ≡ length t.now.kids.now) }
     ensures yields { IfOk result (λ x. (f : Store) → IsLater s.new f → drop x.count v.now.coerce ≡ yields_listed (context_in f t.now) (yields_in t.now)) }
     ensures grown { IsGrown s.old s.new }
 {

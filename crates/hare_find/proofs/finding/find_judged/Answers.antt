@@ -1,5 +1,5 @@
-use Rattle.std.proofs.Common.{refl, map, ap, ◌∙◌}
-use Rattle.hare_types.proofs.LaterLemmas.{later_trans}
+use Rattle.std.proofs.Common.{◌≡◌, ◌++◌, length, refl, map, ap, sym, ◌∙◌, subst}
+use Rattle.hare_types.proofs.LaterLemmas.{later_here, later_trans}
 use Rattle.hare_told.specs.Settled.{listed_late}
 use Rattle.hare_flow.specs.Seen.{given_of}
 use Rattle.hare_rules.specs.Context.{Setting}
@@ -9,11 +9,16 @@ use Rattle.hare_types.specs.Store.{Store}
 use Rattle.hare_tree.specs.Node.{head}
 use Rattle.hare_walk.specs.Walks.{IsTurnedBack}
 use Rattle.hare_walk.proofs.Steps.{err_same}
-use Rattle.rule_judge.proofs.DefinedLemmas.{ty_stays}
-use Rattle.hare_find.specs.Findings.{IsAtTurn}
+use Rattle.hare_rules.specs.Judged.{coercions_from}
+use Rattle.rule_judge.specs.Defined.{AreDefinedCoercions}
+use Rattle.rule_judge.specs.Turns.{context_in, kind_in, yields_in}
+use Rattle.rule_judge.proofs.DefinedLemmas.{ty_stays, coercions_stay}
+use Rattle.hare_find.specs.Findings.{IsAtTurn, AreDefinedSettlings}
+use Rattle.hare_find.specs.Listed.{yields_listed}
 use Rattle.hare_find.proofs.AskedLemmas.{asked-at}
 use Rattle.hare_find.specs.Settling.{option_in}
 use Rattle.hare_find.proofs.NextLemmas.{ready_stays}
+use Rattle.hare_find.proofs.DefinedLemmas.{AreSettled, settled_many, settled_defined, listed_defined}
 use Rattle.hare_find.proofs.JudgedLemmas.{found_judged, turned_back}
 use Rattle.hare_find.proofs.finding.find_judged.Goals as goal
 
@@ -52,13 +57,35 @@ returns-clause-ok c w a f q l d =
       others = c.in_ok-late.ensures.others;
     })
 
+pub returns-clause-many : goal.returns-clause-many
+returns-clause-many c =
+    let t = c.args.t.now in
+    let n = length t.kids.now in
+    let settled : AreSettled (kind_in t) n c.in_ok-kids.field-0.kids c.in_ok-kids-2.kids =
+    record { listed = c.in_ok-kids-2.ensures.listed; nones = c.in_ok-kids-2.ensures.nones } in
+    settled_many (kind_in t) n c.in_ok-kids.field-0.kids c.in_ok-kids-2.kids settled c.in_ok-kids.ensures.many
+
 pub returns-clause-defined : goal.returns-clause-defined
 returns-clause-defined c =
+    let t = c.args.t.now in
     let s = c.judge.new.s in
+    let new = c.list_kids.new.s in
     let later = c.list_kids.ensures.grown.later in
-    let v = c.in_ok-v.ensures.defined in
+    let here = later_here new later.sound in
+    let x = context_in new t in
+    let v = c.in_ok-v.v in
+    let d = c.in_ok-v.ensures.defined in
     let sound = c.judge.ensures.kept.later.sound in
+    let rest = yields_listed x (yields_in t) in
+    let stays : AreDefinedCoercions new v.coerce = coercions_stay s new sound later v.coerce d.coerce in
+    let is : v.coerce ≡ coercions_from x 0 t.kids.now ++ rest = (c.in_ok-v.ensures.ok new later).coerce in
+    let each = listed_defined new x 0 t.kids.now rest (subst (AreDefinedCoercions new) is stays) in
+    let listed : AreDefinedSettlings new (map option_in c.in_ok-kids.field-0.kids) =
+    subst (AreDefinedSettlings new) (sym (c.in_ok-kids.ensures.kids new here)) each in
+    let settled : AreSettled (kind_in t) (length t.kids.now) c.in_ok-kids.field-0.kids c.in_ok-kids-2.kids =
+    record { listed = c.in_ok-kids-2.ensures.listed; nones = c.in_ok-kids-2.ensures.nones } in
     record {
-      ty = ty_stays s c.list_kids.new.s sound later c.in_ok-v.v.ty v.ty;
-      own = ty_stays s c.list_kids.new.s sound later c.in_ok-v.v.own.to v.own;
+      ty = ty_stays s new sound later v.ty d.ty;
+      own = ty_stays s new sound later v.own.to d.own;
+      kids = settled_defined new (kind_in t) (length t.kids.now) c.in_ok-kids.field-0.kids c.in_ok-kids-2.kids settled listed;
     }

@@ -1,11 +1,12 @@
-use Rattle.std.proofs.Common.{◌<◌, ◌≤◌, ◌++◌, length, map, ap, sym, ◌∙◌, arith, append-nil}
-use Rattle.hare_types.proofs.LaterLemmas.{later_trans}
+use Rattle.std.proofs.Common.{◌≡◌, ◌<◌, ◌≤◌, ◌++◌, length, map, ap, sym, ◌∙◌, arith, append-nil}
+use Rattle.hare_types.proofs.LaterLemmas.{later_here, later_trans}
 use Rattle.hare_rules.specs.Judged.{coercions_from}
 use Rattle.rule_judge.specs.Turns.{context_in, yields_in}
 use Rattle.rule_judge.proofs.TurnLemmas.{grown_trans}
 use Rattle.rule_judge.proofs.KidLemmas.{drop_past}
 use Rattle.hare_find.specs.Settling.{option_in}
 use Rattle.hare_find.specs.Listed.{listed_each, yields_listed}
+use Rattle.hare_find.proofs.DefinedLemmas.{length-options, length-listed_each}
 use Rattle.hare_find.proofs.NextLemmas.{ready_stays, listed_put}
 use Rattle.hare_find.proofs.listed.list_kids.Goals as goal
 
@@ -41,6 +42,19 @@ returns-clause-kids c f l =
     sym (append-nil (map option_in c.loop-i.kids))
     ∙ ap (λ ys. map option_in c.loop-i.kids ++ listed_each (context_in f t) c.loop-i.i ys) (sym (drop_past xs c.loop-i.i past))
     ∙ c.loop-i.invariant.done f l
+
+pub returns-clause-many : goal.returns-clause-many
+returns-clause-many c =
+    let t = c.args.t.now in
+    let s = c.loop-i.s in
+    let xs = t.kids.now in
+    let past : length xs ≤ c.loop-i.i = omega arith in
+    let here = later_here s c.loop-i.invariant.grown.later.sound in
+    let all : map option_in c.loop-i.kids ≡ listed_each (context_in s t) 0 xs =
+    sym (append-nil (map option_in c.loop-i.kids))
+    ∙ ap (λ ys. map option_in c.loop-i.kids ++ listed_each (context_in s t) c.loop-i.i ys) (sym (drop_past xs c.loop-i.i past))
+    ∙ c.loop-i.invariant.done s here in
+    length-options c.loop-i.kids (listed_each (context_in s t) 0 xs) all ∙ length-listed_each (context_in s t) 0 xs
 
 pub returns-clause-yields : goal.returns-clause-yields
 returns-clause-yields c f l =
