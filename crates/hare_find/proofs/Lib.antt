@@ -12,3 +12,5 @@ pub mod KidLemmas
 pub mod HintLemmas
 pub mod ValueLemmas
 pub mod AskedLemmas
+pub mod LoopLemmas
+pub mod DefinedLemmas

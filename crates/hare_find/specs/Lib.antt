@@ -7,3 +7,4 @@ pub mod Settling
 pub mod Looked
 pub mod Levels
 pub mod Closing
+pub mod Defined

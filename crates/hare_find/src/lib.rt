@@ -7,12 +7,13 @@ mod finding;
 mod late;
 mod listed;
 mod looked;
+mod loops;
 mod marks;
 mod settle;
 mod told;
 mod yields;
 
-pub use bindings::bind;
+pub use bindings::{bind, bind_before};
 pub use closing::close;
 pub use finding::{Finding, find_judged};
 pub use late::Late;
