@@ -1,5 +1,5 @@
 -- That no type of what has been seen mentions a name that is not defined: what stays in later stores, and what comes of what is handed on.
-use Rattle.std.proofs.Common.{◌≡◌, ℕ, zero, suc, Bool, true, false, cond, not, List, [], ◌∷◌, ◌++◌, map, refl, ap, sym, subst, Option, Some, None}
+use Rattle.std.proofs.Common.{◌≡◌, ℕ, zero, suc, Bool, true, false, cond, List, [], ◌∷◌, ◌++◌, map, subst, Option, Some, None}
 use Rattle.std.specs.Prelude.{filter, slice_set, slice_get}
 use Rattle.hare_tree.specs.declared.kind.Kind.{Kind}
 use Rattle.hare_types.specs.declared.coercion.Coercion.{Coercion}
@@ -8,13 +8,12 @@ use Rattle.hare_types.specs.Store.{Store}
 use Rattle.hare_types.specs.Sound.{IsStore}
 use Rattle.hare_types.specs.Later.{IsLater}
 use Rattle.hare_typed.specs.Typed.{TypedNode, marked, typed_nodes}
-use Rattle.hare_typed.specs.Coats.{with_coercion}
 use Rattle.hare_typed.specs.Copies.{has_defers as takes_yields}
 use Rattle.hare_rules.specs.declared.declared.Local.{Local}
 use Rattle.hare_rules.specs.Context.{Given}
 use Rattle.hare_rules.specs.Flow.{Yielded, is_at, yields_to}
-use Rattle.rule_judge.specs.Defined.{IsDefined, IsDefinedTy, IsDefinedTree, AreDefinedTrees}
-use Rattle.rule_judge.proofs.DefinedLemmas.{defined_stays, ty_stays, trees_stay}
+use Rattle.rule_judge.specs.Defined.{IsDefined, IsDefinedTree, AreDefinedTrees}
+use Rattle.rule_judge.proofs.DefinedLemmas.{defined_stays, ty_stays}
 use Rattle.hare_find.specs.Defined.{AreDefinedLocals, AreDefinedYielded}
 use Rattle.hare_find.specs.Findings.{IsDefinedSettling, AreDefinedSettlings}
 use Rattle.hare_find.specs.Listed.{coated_one, coated_each}
@@ -90,7 +89,8 @@ givens_defined s k n ys h =
 
 -- ---- kids that are settled
 
-one_coated : (s : Store) (x : TypedNode) (o : Option Coercion) → IsDefinedTree s x → IsDefinedSettling s o → IsDefinedTree s (coated_one x o)
+one_coated : (s : Store) (x : TypedNode) (o : Option Coercion) → IsDefinedTree s x → IsDefinedSettling s o →
+    IsDefinedTree s (coated_one x o)
 one_coated s x None h k = h
 one_coated s (marked g m ts) (Some r) h k = (h.0, k, h.2)
 

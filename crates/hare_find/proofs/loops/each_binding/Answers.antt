@@ -17,7 +17,8 @@ returns-in_default-clause-value c w l =
 
 pub returns-clause-value : goal.returns-clause-value
 returns-clause-value c w l =
+    let later = later_trans c.args.s.now c.bound_element.new.s w.store c.bound_element.ensures.grown.later l in
     each_known w (head c.args.node.now) c.args.kids.now c.type_at-operand.result c.in-Some.t c.in_ok-ty.ty c.requires.two
     c.type_at-operand.ensures
-    (sym c.in-Some.is ∙ c.element.ensures.value w.store (later_trans c.args.s.now c.bound_element.new.s w.store c.bound_element.ensures.grown.later l))
+    (sym c.in-Some.is ∙ c.element.ensures.value w.store later)
     (c.in_ok-ty.ensures.value w l)
