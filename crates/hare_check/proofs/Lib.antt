@@ -1,0 +1,4 @@
+pub mod KeepLemmas
+pub mod KeepJudged
+pub mod KeepPlain
+pub mod KeepCases
