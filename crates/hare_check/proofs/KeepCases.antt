@@ -57,6 +57,7 @@ cases_of s ki.Match n xs e d h = behind_operand s true n xs d h
 cases_of s ki.Switch n xs e d h = behind_operand s false n xs d h
 cases_of s _ n xs e d h = cc
 
+-- each case has a type
 pub cases-typed : (s : Store) (sort : Sort) (n : Node) (xs : List TypedNode) → is_shaped sort n ≡ true → has_cases (head n).kind ≡ true →
     erase_each (typed_nodes xs) ≡ kids_of n → AreKeptTrees s xs →
     AreTyped (drop 1 xs)

@@ -38,6 +38,7 @@ use Rattle.hare_check.proofs.KeepLemmas.{first-typed}
 
 -- ---- types with an id
 
+-- a type that is made of an id has one
 pub typed_id : (o : Option ℕ) (a : Ty) → typed_as o ≡ Some a → IsSome (id_in a)
 typed_id None a e = cc
 typed_id (Some t) a e = let same : ty.Of t ≡ a = cc in subst (λ (b : Ty). IsSome (id_in b)) same refl
@@ -77,11 +78,13 @@ either_id : (b : Bool) (r q : Coercion) → IsSome (id_in r.to) → IsSome (id_i
 either_id true r q h k = h
 either_id false r q h k = k
 
+-- a hint leads to a type, and without one the type stays
 pub settled_id : (c : Context) (a : Ty) → IsSome (id_in a) → IsSome (id_in (own_settled c a).to)
 settled_id c a h = either_id (is_judged c) (own_coercion (store_of c) c.hint a) (same a) (site_id (store_of c) c.hint a h) h
 
 -- ---- forms of kids
 
+-- what is settled of a kid says nothing of whether it can be a place
 form-coated : (o : Option Coercion) (x : TypedNode) → has_place_form (coated_one x o) ≡ has_place_form x
 form-coated None x = refl
 form-coated (Some r) (marked h m ts) = refl
@@ -112,6 +115,7 @@ place_id c ki.Field b a e f l = typed_id _ a e
 place_id c ki.Paren b a e f l = let same : first_seen c ≡ a = cc in subst (λ (b : Ty). IsSome (id_in b)) same (f l)
 place_id c _ b a e f l = cc
 
+-- what comes together in a case has a type
 case_id : (c : Context) (k : Kind) (a : Ty) → type_by c k ≡ Some a → is_case k ≡ true → IsSome (id_in a)
 case_id c ki.Case a e l = typed_id (block_type_by c (block_values c)) a e
 case_id c ki.SwitchCase a e l = typed_id (block_type_by c (block_values c)) a e
@@ -145,6 +149,7 @@ pub record IsJudgedTree (s : Store) (c : Context) (h : Head) (m : Mark) (xs ys :
   pub settled : (os : List (Option Coercion)) × (ys ≡ coated_each xs os)
   pub types : IsDefinedTree s (marked h m (typed_nodes ys))
 
+-- such a node is kept
 pub kept-judged : (s : Store) (c : Context) (h : Head) (m : Mark) (xs ys : List TypedNode) → IsJudgedTree s c h m xs ys →
     IsKeptTree s (marked h m (typed_nodes ys))
 kept-judged s c h m xs ys q =

@@ -144,34 +144,41 @@ module _ (now later : Store) (v : IsStore now) (g : Extends now later) where
     part = part_kept (kind_of x) x h.part;
   }
 
+-- what is kept stays kept as a walk goes on
 pub kept-grown : (s r : Store) → IsStore s → IsGrown s r → (x : TypedNode) → IsKeptTree s x → IsKeptTree r x
 kept-grown s r v g x h = kept_stays s r v g.grows x h
 
+-- so it is of each
 pub each_kept-grown : (s r : Store) → IsStore s → IsGrown s r → (xs : List TypedNode) → AreKeptTrees s xs → AreKeptTrees r xs
 each_kept-grown s r v g [] h = tt
 each_kept-grown s r v g (x ∷ xs) h = (kept-grown s r v g x h.0, each_kept-grown s r v g xs h.1)
 
 -- ---- lists
 
+-- what a walk says of each kid is this
 pub each-kept : (s : Store) (xs : List TypedNode) → Each (IsKeptTree s) xs → AreKeptTrees s xs
 each-kept s [] h = tt
 each-kept s (x ∷ xs) h = (h.0, each-kept s xs h.1)
 
+-- and back
 pub kept-each : (s : Store) (xs : List TypedNode) → AreKeptTrees s xs → Each (IsKeptTree s) xs
 kept-each s [] h = tt
 kept-each s (x ∷ xs) h = (h.0, kept-each s xs h.1)
 
 -- ---- what is asked of kids
 
+-- where the first kid can be a place, it has a type
 pub first-typed : (s : Store) (xs : List TypedNode) → AreKeptTrees s xs → has_place_form (tree_from_front 0 xs) ≡ true →
     IsSome (id_in (given (tree_from_front 0 xs)))
 first-typed s [] h e = cc
 first-typed s (x ∷ xs) h e = h.0.place e
 
+-- what the kids of a written type write is known
 pub parts-known : (s : Store) (xs : List TypedNode) → AreKeptTrees s xs → AreKnownParts s xs
 parts-known s [] h = tt
 parts-known s (x ∷ xs) h = (h.0.part, parts-known s xs h.1)
 
+-- no type that stands in a kid mentions a name without a definition
 pub trees-defined : (s : Store) (xs : List TypedNode) → AreKeptTrees s xs → AreDefinedTrees s (typed_nodes xs)
 trees-defined s [] h = tt
 trees-defined s (x ∷ xs) h = (h.0.types, trees-defined s xs h.1)

@@ -39,6 +39,7 @@ use Rattle.hare_check.proofs.KeepJudged.{typed_id, path_id, settled_id}
 
 -- ---- written types
 
+-- what is known of what a written type writes is known of it as a part, and the other way round
 type-known : (s : Store) (k : Kind) (x : TypedNode) → is_type k ≡ true → IsKnownTy s (own_type x) → IsKnownBy s k x
 type-known s ki.TypeScalar x e h = h
 type-known s ki.TypePath x e h = h
@@ -83,6 +84,7 @@ not_both : {A : Type 0} (b : Bool) → b ≡ false → b ≡ true → A
 not_both true e d = cc
 not_both false e d = cc
 
+-- a written type is kept, where what it writes is known
 pub kept-written : (s : Store) (h : Head) (m : Mark) (ts : TypedNodes) (u : ℕ) → is_type h.kind ≡ true → m.ty ≡ ty.Of u → IsKnown s u →
     IsDefinedTree s (marked h m ts) →
     IsKeptTree s (marked h m ts)
@@ -95,6 +97,7 @@ kept-written s h m ts u e d k t = record {
 
 -- ---- nodes of kinds without rows
 
+-- no node without rows can be a place, and none is a case
 rowless-leads : (k : Kind) (b : Bool) → rows_of k ≡ [] → leads_by k b ≡ false
 rowless-leads ki.Path b e = cc
 rowless-leads ki.Deref b e = cc
@@ -137,6 +140,7 @@ based-known s v (ty.Iconst n) k d = absurd k
 based-known s v ty.Null k d = absurd k
 based-known s v ty.Empty k d = absurd k
 
+-- the first kid, where it is a path to a type
 path_kid : (s : Store) → IsStore s → (n : ℕ) (xs : List TypedNode) →
     are_kids n (pi.Kid so.TypePath ∷ []) (erase_each (typed_nodes xs)) ≡ true → AreKeptTrees s xs →
     IsBasedTy s (own_type (tree_from_front 0 xs))
@@ -148,6 +152,7 @@ path_kid s v n (marked h m ts ∷ xs) e k =
 
 -- ---- parts
 
+-- what is settled of the first kid leaves its own type
 own-coated : (xs : List TypedNode) (os : List (Option Coercion)) →
     own_type (tree_from_front 0 (coated_each xs os)) ≡ own_type (tree_from_front 0 xs)
 own-coated [] os = refl
@@ -185,31 +190,33 @@ kids_by h ts k (inl q) d f =
     (level h.kind h.text, subst (λ j. are_kids (level h.kind h.text) (kid_pieces (form_of j)) ts ≡ true) d (shaped_kids q.0 h ts q.1))
 kids_by h ts k (inr q) d f = not_both (is_none_or_comma k) f (leaf_kind is_none_or_comma h ts k q d)
 
-part-plain : (s : Store) → IsStore s → (h : Head) (ts : Nodes) (m : Mark) (xs ys : List TypedNode) (os : List (Option Coercion)) →
-    (k : Kind) → h.kind ≡ k → rows_of k ≡ [] → IsPart (branch h ts) → erase_each (typed_nodes xs) ≡ ts → AreKeptTrees s xs → ys ≡ coated_each xs os →
+-- a field is known by its type, and what is spread by its base
+part-plain : (s : Store) (h : Head) (ts : Nodes) (m : Mark) (xs ys : List TypedNode) (k : Kind) → h.kind ≡ k → rows_of k ≡ [] →
+    IsPlainTree s (branch h ts) m xs ys →
     IsKnownBy s k (marked h m (typed_nodes ys))
-part-plain s v h ts m xs ys os ki.StructField d e p t g c =
-    let q = kids_by h ts ki.StructField p d refl in
-    let r : are_kids q.0 (pi.Kid so.Type ∷ []) (erase_each (typed_nodes xs)) ≡ true =
-    ap (are_kids q.0 (pi.Kid so.Type ∷ [])) t ∙ q.1 in
-    subst (IsKnownTy s) (sym (own-first xs ys os c)) (type_kid s q.0 xs r g)
-part-plain s v h ts m xs ys os ki.Spread d e p t g c =
-    let q = kids_by h ts ki.Spread p d refl in
-    let r : are_kids q.0 (pi.Kid so.TypePath ∷ []) (erase_each (typed_nodes xs)) ≡ true =
-    ap (are_kids q.0 (pi.Kid so.TypePath ∷ [])) t ∙ q.1 in
-    subst (IsBasedTy s) (sym (own-first xs ys os c)) (path_kid s v q.0 xs r g)
-part-plain s v h ts m xs ys os ki.TypeScalar d e p t g c = cc
-part-plain s v h ts m xs ys os ki.TypePath d e p t g c = cc
-part-plain s v h ts m xs ys os ki.TypePointer d e p t g c = cc
-part-plain s v h ts m xs ys os ki.TypeNullable d e p t g c = cc
-part-plain s v h ts m xs ys os ki.TypeSlice d e p t g c = cc
-part-plain s v h ts m xs ys os ki.TypeError d e p t g c = cc
-part-plain s v h ts m xs ys os ki.TypeArray d e p t g c = cc
-part-plain s v h ts m xs ys os ki.TypeStruct d e p t g c = cc
-part-plain s v h ts m xs ys os ki.TypeTuple d e p t g c = cc
-part-plain s v h ts m xs ys os ki.TypeUnion d e p t g c = cc
-part-plain s v h ts m xs ys os _ d e p t g c = tt
+part-plain s h ts m xs ys ki.StructField d e q =
+    let f = kids_by h ts ki.StructField q.part d refl in
+    let r : are_kids f.0 (pi.Kid so.Type ∷ []) (erase_each (typed_nodes xs)) ≡ true =
+    ap (are_kids f.0 (pi.Kid so.Type ∷ [])) q.erased ∙ f.1 in
+    subst (IsKnownTy s) (sym (own-first xs ys q.settled.0 q.settled.1)) (type_kid s f.0 xs r q.kept)
+part-plain s h ts m xs ys ki.Spread d e q =
+    let f = kids_by h ts ki.Spread q.part d refl in
+    let r : are_kids f.0 (pi.Kid so.TypePath ∷ []) (erase_each (typed_nodes xs)) ≡ true =
+    ap (are_kids f.0 (pi.Kid so.TypePath ∷ [])) q.erased ∙ f.1 in
+    subst (IsBasedTy s) (sym (own-first xs ys q.settled.0 q.settled.1)) (path_kid s q.sound f.0 xs r q.kept)
+part-plain s h ts m xs ys ki.TypeScalar d e q = cc
+part-plain s h ts m xs ys ki.TypePath d e q = cc
+part-plain s h ts m xs ys ki.TypePointer d e q = cc
+part-plain s h ts m xs ys ki.TypeNullable d e q = cc
+part-plain s h ts m xs ys ki.TypeSlice d e q = cc
+part-plain s h ts m xs ys ki.TypeError d e q = cc
+part-plain s h ts m xs ys ki.TypeArray d e q = cc
+part-plain s h ts m xs ys ki.TypeStruct d e q = cc
+part-plain s h ts m xs ys ki.TypeTuple d e q = cc
+part-plain s h ts m xs ys ki.TypeUnion d e q = cc
+part-plain s h ts m xs ys _ d e q = tt
 
+-- such a node is kept
 pub kept-plain : (s : Store) (n : Node) (m : Mark) (xs ys : List TypedNode) → IsPlainTree s n m xs ys →
     IsKeptTree s (marked (head n) m (typed_nodes ys))
 kept-plain s (branch h ts) m xs ys q = record {
@@ -217,7 +224,7 @@ kept-plain s (branch h ts) m xs ys q = record {
   place =
       not_both (leads_by h.kind (has_first_form (typed_nodes ys))) (rowless-leads h.kind (has_first_form (typed_nodes ys)) q.rows);
   case = not_both (is_case h.kind) (rowless-case h.kind q.rows);
-  part = part-plain s q.sound h ts m xs ys q.settled.0 h.kind refl q.rows q.part q.erased q.kept q.settled.1;
+  part = part-plain s h ts m xs ys h.kind refl q.rows q;
 }
 
 -- ---- paths that are called, and lengths
@@ -235,6 +242,7 @@ is_length ki.Number = true
 is_length ki.Path = true
 is_length _ = false
 
+-- the void of a path that is called has an id, and so has the type of a def
 void_id : (c : Context) (a : Ty) → type_in_role c Callee ≡ Some a → IsSome (id_in a)
 void_id c a e = typed_id (word_id (store_of c) keyword.Void) a e
 
@@ -261,6 +269,7 @@ length-part s _ x e = cc
 path-length : (k : Kind) → k ≡ ki.Path → is_length k ≡ true
 path-length k e = ap is_length e
 
+-- a path that is called is kept
 pub kept-callee : (s : Store) (c : Context) (h : Head) (m : Mark) (ts : TypedNodes) → h.kind ≡ ki.Path → c.inside.role ≡ Callee →
     IsLeftTree s c h m ts →
     IsKeptTree s (marked h m ts)
@@ -272,6 +281,7 @@ kept-callee s c h m ts e r q = record {
   part = length-part s h.kind (marked h m ts) (path-length h.kind e);
 }
 
+-- and so is a length: a whole number without a type can be no place
 pub kept-length : (s : Store) (c : Context) (h : Head) (m : Mark) (ts : TypedNodes) → is_length h.kind ≡ true → c.inside.role ≡ Length →
     IsLeftTree s c h m ts →
     IsKeptTree s (marked h m ts)

@@ -2,3 +2,4 @@ pub mod KeepLemmas
 pub mod KeepJudged
 pub mod KeepPlain
 pub mod KeepCases
+pub mod ReadyLemmas

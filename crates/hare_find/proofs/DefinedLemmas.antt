@@ -44,6 +44,7 @@ module _ (now later : Store) (v : IsStore now) (l : IsLater now later) where
 
 -- ---- locals
 
+-- one local instead of another
 pub locals_set : (s : Store) (ls : List Local) (n : ℕ) (x : Local) → IsDefined s x.ty → AreDefinedLocals s ls →
     AreDefinedLocals s (slice_set ls n x)
 locals_set s [] zero x h k = k
@@ -51,6 +52,7 @@ locals_set s [] (suc n) x h k = k
 locals_set s (p ∷ ls) zero x h k = (h, k.1)
 locals_set s (p ∷ ls) (suc n) x h k = (k.0, locals_set s ls n x h k.1)
 
+-- one of the locals
 pub local_defined : (s : Store) (ls : List Local) (n : ℕ) (x : Local) → slice_get ls n ≡ Some x → AreDefinedLocals s ls → IsDefined s x.ty
 local_defined s [] zero x e k = cc
 local_defined s [] (suc n) x e k = cc
@@ -64,10 +66,12 @@ yielded_kept : (s : Store) (b : Bool) (y : Yielded) (ys : List Yielded) → IsDe
 yielded_kept s true y ys h k = (h, k)
 yielded_kept s false y ys h k = k
 
+-- some of the values
 pub yielded_filter : (s : Store) (p : Yielded → Bool) (ys : List Yielded) → AreDefinedYielded s ys → AreDefinedYielded s (filter p ys)
 yielded_filter s p [] h = tt
 yielded_filter s p (y ∷ ys) h = yielded_kept s (p y) y (filter p ys) h.0 (yielded_filter s p ys h.1)
 
+-- one value more
 pub yielded_append : (s : Store) (ys : List Yielded) (y : Yielded) → AreDefinedYielded s ys → IsDefinedOption s y.given.ty →
     AreDefinedYielded s (ys ++ y ∷ [])
 yielded_append s [] y h k = (k, tt)
@@ -94,6 +98,7 @@ one_coated : (s : Store) (x : TypedNode) (o : Option Coercion) → IsDefinedTree
 one_coated s x None h k = h
 one_coated s (marked g m ts) (Some r) h k = (h.0, k, h.2)
 
+-- the kids with the coercions that are settled of them
 pub coated_defined : (s : Store) (xs : List TypedNode) (os : List (Option Coercion)) → AreDefinedTrees s (typed_nodes xs) →
     AreDefinedSettlings s os →
     AreDefinedTrees s (typed_nodes (coated_each xs os))

@@ -12,6 +12,8 @@ use Rattle.hare_rules.specs.Context.{Setting, Entry, Known, Odd, is_there, own_t
 use Rattle.hare_rules.specs.Finished.{bare}
 use Rattle.hare_rules.specs.Flow.{Flow, is_by_reference, bound_element, each_entry_of, each_entry, is_behind_operand, flow_before}
 
+-- ---- kids without their coercions
+
 length-bare : (xs : List TypedNode) → length (map bare xs) ≡ length xs
 length-bare [] = refl
 length-bare (x ∷ xs) = ap suc (length-bare xs)
@@ -42,6 +44,7 @@ each-bare : (w : Setting) (h : Head) (x y : TypedNode) →
     ≡ each_entry_of h.place (element_in (base_row w.store (own_type y))) (bound_element w x (element_in (base_row w.store (own_type y))))
 each-bare w h x y = rw (given-bare y, element-bare w x (element_in (base_row w.store (own_type y)))) refl
 
+-- over what is no array and no slice
 pub each_odd : (w : Setting) (h : Head) (xs : List TypedNode) (a : Ty) → length xs ≡ 2 → a ≡ own_type (tree_from_front 1 xs) →
     None ≡ element_in (base_row w.store a) →
     Odd h.place ≡ each_entry w h (map bare xs)
@@ -52,6 +55,7 @@ each_odd w h (x ∷ y ∷ []) a l e n =
     ap (λ p. each_entry_of h.place p (bound_element w x p)) o ∙ sym (each-bare w h x y)
 each_odd w h (x ∷ y ∷ z ∷ xs) a l e n = absurd (omega (arith, l))
 
+-- over an array or a slice with this element
 pub each_known : (w : Setting) (h : Head) (xs : List TypedNode) (a : Ty) (t u : ℕ) → length xs ≡ 2 → a ≡ own_type (tree_from_front 1 xs) →
     Some t ≡ element_in (base_row w.store a) → bound_element w (tree_from_front 0 xs) (Some t) ≡ Some u →
     Known (record { ty = u; mutable = true }) ≡ each_entry w h (map bare xs)
@@ -64,12 +68,14 @@ each_known w h (x ∷ y ∷ z ∷ xs) a t u l e n b = absurd (omega (arith, l))
 
 -- ---- what is seen when a kid begins
 
+-- before any kid but the body of a loop nothing changes
 pub before_other : (w : Setting) (a : Above) (h : Head) (xs : List TypedNode) (f : Flow) → is_behind_operand h.kind (length xs) ≡ false →
     f ≡ flow_before w a h (map bare xs) f
 before_other w a h xs f e =
     let d : is_behind_operand h.kind (length (map bare xs)) ≡ false = ap (is_behind_operand h.kind) (length-bare xs) ∙ e in
     rw d refl
 
+-- before the body of a loop its binding is known
 pub before_body : (w : Setting) (a : Above) (h : Head) (xs : List TypedNode) (f g : Flow) (n : ℕ) (b : Entry) →
     is_behind_operand h.kind (length xs) ≡ true → a.first ≡ n → b ≡ each_entry w h (map bare xs) →
     g ≡ record f { locals = slice_set f.locals n b } →
