@@ -3,7 +3,6 @@ use Rattle.std.proofs.Common.{◌≡◌, ℕ, zero, suc, Bool, true, false, cond
 use Rattle.std.specs.Prelude.{filter, slice_set, slice_get}
 use Rattle.hare_tree.specs.declared.kind.Kind.{Kind}
 use Rattle.hare_types.specs.declared.coercion.Coercion.{Coercion}
-use Rattle.hare_types.specs.declared.coercion.Ty.{Ty}
 use Rattle.hare_types.specs.Store.{Store}
 use Rattle.hare_types.specs.Sound.{IsStore}
 use Rattle.hare_types.specs.Later.{IsLater}
@@ -14,6 +13,7 @@ use Rattle.hare_rules.specs.Context.{Given}
 use Rattle.hare_rules.specs.Flow.{Yielded, is_at, yields_to}
 use Rattle.rule_judge.specs.Defined.{IsDefined, IsDefinedTree, AreDefinedTrees}
 use Rattle.rule_judge.proofs.DefinedLemmas.{defined_stays, ty_stays}
+use Rattle.hare_find.proofs.ToldLemmas.{option_stays}
 use Rattle.hare_find.specs.Defined.{AreDefinedLocals, AreDefinedYielded}
 use Rattle.hare_find.specs.Findings.{IsDefinedSettling, AreDefinedSettlings}
 use Rattle.hare_find.specs.Listed.{coated_one, coated_each}
@@ -26,13 +26,9 @@ module _ (now later : Store) (v : IsStore now) (l : IsLater now later) where
   locals_stay [] h = tt
   locals_stay (x ∷ ls) h = (defined_stays now later v l x.ty h.0, locals_stay ls h.1)
 
-  pub option_stays : (o : Option Ty) → IsDefinedOption now o → IsDefinedOption later o
-  option_stays None h = tt
-  option_stays (Some a) h = ty_stays now later v l a h
-
   pub yielded_stay : (ys : List Yielded) → AreDefinedYielded now ys → AreDefinedYielded later ys
   yielded_stay [] h = tt
-  yielded_stay (y ∷ ys) h = (option_stays y.given.ty h.0, yielded_stay ys h.1)
+  yielded_stay (y ∷ ys) h = (option_stays now later v l y.given.ty h.0, yielded_stay ys h.1)
 
   pub settling_stays : (o : Option Coercion) → IsDefinedSettling now o → IsDefinedSettling later o
   settling_stays None h = tt
