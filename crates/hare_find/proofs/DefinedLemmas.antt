@@ -1,69 +1,103 @@
--- How many kids a finding speaks of, and that the types to which they go are defined.
-use Rattle.std.proofs.Common.{◌≡◌, ℕ, suc, Bool, true, false, cond, List, [], ◌∷◌, ◌++◌, map, length, refl, ap, sym, ◌∙◌, subst, Option, Some, None}
-use Rattle.std.specs.Prelude.{replicate}
-use Rattle.std.proofs.lemmas.List.{length-map, length-replicate}
+-- That no type of what has been seen mentions a name that is not defined: what stays in later stores, and what comes of what is handed on.
+use Rattle.std.proofs.Common.{◌≡◌, ℕ, zero, suc, Bool, true, false, cond, List, [], ◌∷◌, ◌++◌, map, subst, Option, Some, None}
+use Rattle.std.specs.Prelude.{filter, slice_set, slice_get}
 use Rattle.hare_tree.specs.declared.kind.Kind.{Kind}
 use Rattle.hare_types.specs.declared.coercion.Coercion.{Coercion}
 use Rattle.hare_types.specs.Store.{Store}
-use Rattle.hare_typed.specs.Typed.{TypedNode}
-use Rattle.hare_rules.specs.Context.{Context}
-use Rattle.hare_rules.specs.Judged.{was_hinted, unless, coercions_from}
-use Rattle.hare_rules.specs.Settles.{kid_coercion}
-use Rattle.rule_judge.specs.Defined.{AreDefinedCoercions}
-use Rattle.hare_find.specs.declared.listed.Settling.{Settling}
-use Rattle.hare_find.specs.Findings.{lists, AreDefinedSettlings}
-use Rattle.hare_find.specs.Listed.{listed_each}
-use Rattle.hare_find.specs.Settling.{option_in}
-use Rattle.hare_find.proofs.UnsettledLemmas.{nones_defined}
+use Rattle.hare_types.specs.Sound.{IsStore}
+use Rattle.hare_types.specs.Later.{IsLater}
+use Rattle.hare_typed.specs.Typed.{TypedNode, marked, typed_nodes}
+use Rattle.hare_typed.specs.Copies.{has_defers as takes_yields}
+use Rattle.hare_rules.specs.declared.declared.Local.{Local}
+use Rattle.hare_rules.specs.Context.{Given}
+use Rattle.hare_rules.specs.Flow.{Yielded, is_at, yields_to}
+use Rattle.rule_judge.specs.Defined.{IsDefined, IsDefinedTree, AreDefinedTrees}
+use Rattle.rule_judge.proofs.DefinedLemmas.{defined_stays, ty_stays}
+use Rattle.hare_find.proofs.ToldLemmas.{option_stays}
+use Rattle.hare_find.specs.Defined.{AreDefinedLocals, AreDefinedYielded}
+use Rattle.hare_find.specs.Findings.{IsDefinedSettling, AreDefinedSettlings}
+use Rattle.hare_find.specs.Listed.{coated_one, coated_each}
+use Rattle.hare_find.specs.Yields.{IsDefinedOption, AreDefinedGivens}
 
--- ---- how many
+-- ---- later stores
 
-pub length-options : (ks : List Settling) (os : List (Option Coercion)) → map option_in ks ≡ os → length ks ≡ length os
-length-options ks os e = sym (length-map ks option_in) ∙ ap length e
+module _ (now later : Store) (v : IsStore now) (l : IsLater now later) where
+  pub locals_stay : (ls : List Local) → AreDefinedLocals now ls → AreDefinedLocals later ls
+  locals_stay [] h = tt
+  locals_stay (x ∷ ls) h = (defined_stays now later v l x.ty h.0, locals_stay ls h.1)
 
-pub length-nones : (ks : List Settling) (n : ℕ) → map option_in ks ≡ replicate n None → length ks ≡ n
-length-nones ks n e = length-options ks (replicate n None) e ∙ length-replicate n None
+  pub yielded_stay : (ys : List Yielded) → AreDefinedYielded now ys → AreDefinedYielded later ys
+  yielded_stay [] h = tt
+  yielded_stay (y ∷ ys) h = (option_stays now later v l y.given.ty h.0, yielded_stay ys h.1)
 
-pub length-listed_each : (c : Context) (i : ℕ) (xs : List TypedNode) → length (listed_each c i xs) ≡ length xs
-length-listed_each c i [] = refl
-length-listed_each c i (x ∷ xs) = ap suc (length-listed_each c (suc i) xs)
+  pub settling_stays : (o : Option Coercion) → IsDefinedSettling now o → IsDefinedSettling later o
+  settling_stays None h = tt
+  settling_stays (Some r) h = ty_stays now later v l r.to h
 
--- ---- what a verdict lists
+  pub settlings_stay : (os : List (Option Coercion)) → AreDefinedSettlings now os → AreDefinedSettlings later os
+  settlings_stay [] h = tt
+  settlings_stay (o ∷ os) h = (settling_stays o h.0, settlings_stay os h.1)
 
-one_defined : (s : Store) (b : Bool) (r : Coercion) (os : List (Option Coercion)) (rs rest : List Coercion) →
-    AreDefinedCoercions s ((unless b r ++ rs) ++ rest) → (AreDefinedCoercions s (rs ++ rest) → AreDefinedSettlings s os) →
-    AreDefinedSettlings s (cond b None (Some r) ∷ os)
-one_defined s true r os rs rest h g = (tt, g h)
-one_defined s false r os rs rest h g = (h.0, g h.1)
+-- ---- locals
 
--- each type to which a kid goes is defined, where those of the verdict are
-pub listed_defined : (s : Store) (c : Context) (i : ℕ) (xs : List TypedNode) (rest : List Coercion) →
-    AreDefinedCoercions s (coercions_from c i xs ++ rest) → AreDefinedSettlings s (listed_each c i xs)
-listed_defined s c i [] rest h = tt
-listed_defined s c i (x ∷ xs) rest h =
-    one_defined s (was_hinted c i) (kid_coercion c i) (listed_each c (suc i) xs) (coercions_from c (suc i) xs) rest h
-    (listed_defined s c (suc i) xs rest)
+-- one local instead of another
+pub locals_set : (s : Store) (ls : List Local) (n : ℕ) (x : Local) → IsDefined s x.ty → AreDefinedLocals s ls →
+    AreDefinedLocals s (slice_set ls n x)
+locals_set s [] zero x h k = k
+locals_set s [] (suc n) x h k = k
+locals_set s (p ∷ ls) zero x h k = (h, k.1)
+locals_set s (p ∷ ls) (suc n) x h k = (k.0, locals_set s ls n x h k.1)
 
--- ---- what is settled of kids
+-- one of the locals
+pub local_defined : (s : Store) (ls : List Local) (n : ℕ) (x : Local) → slice_get ls n ≡ Some x → AreDefinedLocals s ls → IsDefined s x.ty
+local_defined s [] zero x e k = cc
+local_defined s [] (suc n) x e k = cc
+local_defined s (p ∷ ls) zero x e k = let same : p ≡ x = cc in subst (λ (q : Local). IsDefined s q.ty) same k.0
+local_defined s (p ∷ ls) (suc n) x e k = local_defined s ls n x e k.1
 
--- what is settled of the kids of a node of this kind is what is listed for them, or nothing
-pub record AreSettled (k : Kind) (n : ℕ) (ls ks : List Settling) : Type 0 where
-  pub listed : lists k ≡ true → ks ≡ ls
-  pub nones : lists k ≡ false → map option_in ks ≡ replicate n None
+-- ---- values that were yielded
 
--- for each kid one
-pub settled_many : (k : Kind) (n : ℕ) (ls ks : List Settling) → AreSettled k n ls ks → length ls ≡ n → length ks ≡ n
-settled_many k n ls ks q e = by (lists k) refl
-  where
-    by : (b : Bool) → lists k ≡ b → length ks ≡ n
-    by true h = ap length (q.listed h) ∙ e
-    by false h = length-nones ks n (q.nones h)
+yielded_kept : (s : Store) (b : Bool) (y : Yielded) (ys : List Yielded) → IsDefinedOption s y.given.ty → AreDefinedYielded s ys →
+    AreDefinedYielded s (cond b (y ∷ ys) ys)
+yielded_kept s true y ys h k = (h, k)
+yielded_kept s false y ys h k = k
 
--- and each is defined
-pub settled_defined : (s : Store) (k : Kind) (n : ℕ) (ls ks : List Settling) → AreSettled k n ls ks →
-    AreDefinedSettlings s (map option_in ls) → AreDefinedSettlings s (map option_in ks)
-settled_defined s k n ls ks q d = by (lists k) refl
-  where
-    by : (b : Bool) → lists k ≡ b → AreDefinedSettlings s (map option_in ks)
-    by true h = subst (λ zs. AreDefinedSettlings s (map option_in zs)) (sym (q.listed h)) d
-    by false h = subst (AreDefinedSettlings s) (sym (q.nones h)) (nones_defined s n)
+-- some of the values
+pub yielded_filter : (s : Store) (p : Yielded → Bool) (ys : List Yielded) → AreDefinedYielded s ys → AreDefinedYielded s (filter p ys)
+yielded_filter s p [] h = tt
+yielded_filter s p (y ∷ ys) h = yielded_kept s (p y) y (filter p ys) h.0 (yielded_filter s p ys h.1)
+
+-- one value more
+pub yielded_append : (s : Store) (ys : List Yielded) (y : Yielded) → AreDefinedYielded s ys → IsDefinedOption s y.given.ty →
+    AreDefinedYielded s (ys ++ y ∷ [])
+yielded_append s [] y h k = (k, tt)
+yielded_append s (z ∷ ys) y h k = (h.0, yielded_append s ys y h.1 k)
+
+givens_of : (s : Store) (ys : List Yielded) → AreDefinedYielded s ys → AreDefinedGivens s (map (λ y. y.given) ys)
+givens_of s [] h = tt
+givens_of s (y ∷ ys) h = (h.0, givens_of s ys h.1)
+
+givens_where : (s : Store) (b : Bool) (gs : List Given) → AreDefinedGivens s gs → AreDefinedGivens s (cond b gs [])
+givens_where s true gs h = h
+givens_where s false gs h = tt
+
+-- what was yielded to a node
+pub givens_defined : (s : Store) (k : Kind) (n : ℕ) (ys : List Yielded) → AreDefinedYielded s ys → AreDefinedGivens s (yields_to k n ys)
+givens_defined s k n ys h =
+    givens_where s (takes_yields k) (map (λ y. y.given) (filter (is_at n) ys))
+    (givens_of s (filter (is_at n) ys) (yielded_filter s (is_at n) ys h))
+
+-- ---- kids that are settled
+
+one_coated : (s : Store) (x : TypedNode) (o : Option Coercion) → IsDefinedTree s x → IsDefinedSettling s o →
+    IsDefinedTree s (coated_one x o)
+one_coated s x None h k = h
+one_coated s (marked g m ts) (Some r) h k = (h.0, k, h.2)
+
+-- the kids with the coercions that are settled of them
+pub coated_defined : (s : Store) (xs : List TypedNode) (os : List (Option Coercion)) → AreDefinedTrees s (typed_nodes xs) →
+    AreDefinedSettlings s os →
+    AreDefinedTrees s (typed_nodes (coated_each xs os))
+coated_defined s [] os h k = tt
+coated_defined s (x ∷ xs) [] h k = h
+coated_defined s (x ∷ xs) (o ∷ os) h k = (one_coated s x o h.0 k.0, coated_defined s xs os h.1 k.1)

@@ -17,4 +17,6 @@ pub mod UnsettledLemmas
 pub mod PlainLemmas
 pub mod LengthLemmas
 pub mod WrittenLemmas
+pub mod LoopLemmas
 pub mod DefinedLemmas
+pub mod SettledLemmas

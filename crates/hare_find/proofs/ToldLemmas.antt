@@ -57,7 +57,8 @@ taken_all [] (suc i) l = refl
 taken_all (p ∷ hs) zero l = absurd (omega arith)
 taken_all (p ∷ hs) (suc i) l = ap (λ gs. p ∷ gs) (taken_all hs i (omega arith))
 
-option_stays : (now later : Store) → IsStore now → IsLater now later → (o : Option Ty) → IsDefinedOption now o → IsDefinedOption later o
+-- the type of a value, where it has one, goes on to mention no name without a definition
+pub option_stays : (now later : Store) → IsStore now → IsLater now later → (o : Option Ty) → IsDefinedOption now o → IsDefinedOption later o
 option_stays now later v l None h = tt
 option_stays now later v l (Some a) h = ty_stays now later v l a h
 

@@ -11,3 +11,4 @@ pub mod Unsettled
 pub mod Plain
 pub mod Lengths
 pub mod Written
+pub mod Defined

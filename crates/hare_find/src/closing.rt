@@ -14,7 +14,8 @@ ghost use Rattle.hare_told.specs.Told.{AreToldEntries};
 ghost use Rattle.rule_judge.specs.Defined.{AreDefinedTrees};
 ghost use Rattle.rule_judge.specs.Grown.{IsGrown};
 ghost use Rattle.hare_find.specs.Closing.{Closes};
-ghost use Rattle.hare_find.specs.Findings.{IsFound};
+ghost use Rattle.hare_find.specs.Defined.{AreDefinedLocals, AreDefinedYielded};
+ghost use Rattle.hare_find.specs.Findings.{IsFound, AreDefinedSettlings};
 ghost use Rattle.hare_find.specs.Late.{settled_in};
 ghost use Rattle.hare_find.specs.Listed.{written_each, coated_each};
 ghost use Rattle.hare_find.specs.Settling.{option_in};
@@ -72,6 +73,9 @@ pub fn close(
     ensures seen { OnOk result ((w : Store → Setting) (a : Above) → Closes w a (head node.now) kids.old seen.old first levels.now → IsFound w s.old a (head node.now) kids.old seen.old found.now → (l : Store) → IsLater s.new l → seen.new ≡ flow_after (w l) a (head node.now) (map bare kids.old) seen.old) }
     ensures kids { OnOk result (kids.new ≡ coated_each kids.old (map option_in found.now.kids)) }
     ensures told { OnOk result (AreToldEntries seen.old.locals told.old → AreToldEntries seen.new.locals told.new) }
+    ensures locals { AreDefinedLocals s.old told.old → OnOk result (AreDefinedLocals s.new told.new) }
+    ensures yields { AreDefinedYielded s.old seen.old.yields → OnOk result (AreDefinedYielded s.new seen.new.yields) }
+    ensures types { AreDefinedSettlings s.old (map option_in found.now.kids) → OnOk result (AreDefinedTrees s.new (typed_nodes kids.new)) }
     ensures grown { IsGrown s.old s.new }
 {
     let _law = s.declarations();

@@ -8,6 +8,7 @@ mod late;
 mod lengths;
 mod listed;
 mod looked;
+mod loops;
 mod marks;
 mod plain;
 mod settle;
@@ -16,7 +17,7 @@ mod unsettled;
 mod written;
 mod yields;
 
-pub use bindings::bind;
+pub use bindings::{bind, bind_before};
 pub use closing::close;
 pub use finding::{Finding, find_judged};
 pub use late::Late;

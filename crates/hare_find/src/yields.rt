@@ -2,14 +2,19 @@
 
 ghost use Rattle.std.specs.Prelude.{◌≡◌, [], true, List, filter, map, take, OnOk};
 ghost use Rattle.hare_tree.specs.Node.{head};
+ghost use Rattle.hare_types.specs.Store.{Store};
 ghost use Rattle.hare_typed.specs.Copies.{has_defers as takes_yields};
 ghost use Rattle.hare_typed.specs.Numbers.{number_of};
 ghost use Rattle.hare_typed.specs.Order.{tree_from_front};
+ghost use Rattle.hare_typed.specs.Typed.{typed_nodes};
 ghost use Rattle.hare_flow.specs.Seen.{given_of};
 ghost use Rattle.hare_rules.specs.Context.{Open};
 ghost use Rattle.hare_rules.specs.Finished.{bare};
 ghost use Rattle.hare_rules.specs.Flow.{is_at, yielded, add_yield, yields_after};
+ghost use Rattle.rule_judge.specs.Defined.{AreDefinedTrees};
+ghost use Rattle.hare_find.specs.Defined.{AreDefinedYielded};
 ghost use Rattle.hare_find.specs.Levels.{AreLevels};
+ghost use Rattle.hare_find.specs.Yields.{IsDefinedOption};
 
 use hare_flow::{Handed, Seen};
 use hare_tree::{Kind, Tree};
@@ -40,7 +45,8 @@ fn first_number(kids: &TypedKids) -> u32
 
 /// The value that a `yield` hands on; without one, the void that its absent part has, at the `yield`.
 fn handed(node: &Tree, kids: &TypedKids) -> Handed
-    ensures { given_of result ≡ yielded (head node.now) (tree_from_front 0 (map bare kids.now)) }
+    ensures value { given_of result ≡ yielded (head node.now) (tree_from_front 0 (map bare kids.now)) }
+    ensures defined { (s : Store) → AreDefinedTrees s (typed_nodes kids.now) → IsDefinedOption s result.ty }
 {
     if is_there(kids, 0) {
         return Handed {
@@ -63,7 +69,8 @@ fn hand_on(
     kids: &TypedKids,
     meant: Option<usize>,
 ) -> Result<(), AllocError>
-    ensures { OnOk result (seen.new ≡ record seen.old { yields = add_yield (head node.now) (map bare kids.now) meant seen.old.yields }) }
+    ensures seen { OnOk result (seen.new ≡ record seen.old { yields = add_yield (head node.now) (map bare kids.now) meant seen.old.yields }) }
+    ensures defined { (s : Store) → AreDefinedTrees s (typed_nodes kids.now) → AreDefinedYielded s seen.old.yields → OnOk result (AreDefinedYielded s seen.new.yields) }
 {
     match meant {
         Some(level) => seen.hand(level, handed(node, kids)),
@@ -89,6 +96,7 @@ pub(crate) fn pass_yields(
     requires { takes_yields (head node.now).kind ≡ true → filter (is_at levels.now.own) (take levels.now.from seen.old.yields) ≡ [] }
     ensures yields { OnOk result ((ls : List Open) → AreLevels ls (head node.now) levels.now → seen.new ≡ record seen.old { yields = yields_after (head node.now).kind ls (head node.now) (map bare kids.now) seen.old.yields }) }
     ensures rest { OnOk result (seen.new ≡ record seen.old { yields = seen.new.yields }) }
+    ensures defined { (s : Store) → AreDefinedTrees s (typed_nodes kids.now) → AreDefinedYielded s seen.old.yields → OnOk result (AreDefinedYielded s seen.new.yields) }
 {
     if is_handed_to(node.kind) {
         return seen.take(alloc, levels.from, levels.own);

@@ -14,3 +14,7 @@ returns-clause-value c =
     (λ o h x l e k.
     valued_binding x c.args.kids.now c.type_at-value.result o e k (sym c.is_there.ensures ∙ c.if-is_there.false) c.type_at-value.ensures
     (h (store_of x) l)) c.default_in.ensures.value
+
+pub returns-then-is_there-clause-defined : goal.returns-then-is_there-clause-defined
+returns-then-is_there-clause-defined c =
+    c.id_in.ensures.defined c.args.s.now (rw c.type_at-written.ensures (own_defined c.args.s.now c.args.kids.now 0 c.requires))

@@ -18,7 +18,7 @@ use Rattle.hare_find.specs.Listed.{yields_listed}
 use Rattle.hare_find.proofs.AskedLemmas.{asked-at}
 use Rattle.hare_find.specs.Settling.{option_in}
 use Rattle.hare_find.proofs.NextLemmas.{ready_stays}
-use Rattle.hare_find.proofs.DefinedLemmas.{AreSettled, settled_many, settled_defined, listed_defined}
+use Rattle.hare_find.proofs.SettledLemmas.{AreSettled, settled_many, settled_defined, listed_defined}
 use Rattle.hare_find.proofs.JudgedLemmas.{found_judged, turned_back}
 use Rattle.hare_find.proofs.finding.find_judged.Goals as goal
 
