@@ -1,6 +1,6 @@
 //! Which rules a kind of node has.
 
-ghost use Rattle.std.specs.Prelude.{◌≡◌, true, false, IfSome, None};
+ghost use Rattle.std.specs.Prelude.{◌≡◌, true, is_some, IfSome};
 ghost use Rattle.hare_judge.specs.Kinds.{is_judged_kind, judges};
 
 use hare_tree::Kind;
@@ -26,7 +26,7 @@ pub enum Judge {
 /// which is judged by itself.
 pub fn judge_of(kind: Kind) -> Option<Judge>
     ensures some { IfSome result (λ j. judges j kind ≡ true) }
-    ensures none { result ≡ None → is_judged_kind kind ≡ false }
+    ensures known { is_some result ≡ is_judged_kind kind }
 {
     match kind {
         Kind::Number
