@@ -1,4 +1,15 @@
 //! The checker of bodies: the one typed tree of a body by the typing rules, or its first fault.
 #![tactic(auto)]
 
+mod beginnings;
+mod check;
+mod closing;
+mod constants;
+mod finding;
+mod known;
+mod looking;
+mod meanings;
 mod numbers;
+mod walker;
+
+pub use check::{Env, check_body};

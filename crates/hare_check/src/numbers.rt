@@ -7,7 +7,7 @@ use hare_flow::Seen;
 use std::alloc::AllocError;
 
 /// The number of the node at hand: so many have been judged before it. One of 2^32 or more is answered as want of memory.
-fn next_number(seen: &Seen) -> Result<u32, AllocError>
+pub(crate) fn next_number(seen: &Seen) -> Result<u32, AllocError>
     ensures { IfOk result (λ n. n ≡ count seen.now) }
 {
     match u32::try_from(seen.count()) {

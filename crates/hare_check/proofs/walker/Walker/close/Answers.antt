@@ -1,0 +1,194 @@
+use Rattle.std.proofs.Common.{List, refl, sym, subst}
+use Rattle.hare_tree.specs.Node.{head}
+use Rattle.hare_typed.specs.Typed.{TypedNode, Mark}
+use Rattle.hare_rules.specs.Flow.{Flow}
+use Rattle.hare_walk.specs.Walks.{IsTurned, IsInHand}
+use Rattle.hare_find.specs.Closing.{Closes}
+use Rattle.hare_check.specs.Keeps.{IsKeptTree}
+use Rattle.hare_check.specs.Nodes.{program_of, above_of}
+use Rattle.hare_check.proofs.CloseLemmas.{IsClosing, closing-closed, closing-kept, closing-walks}
+use Rattle.hare_check.proofs.KeepLemmas.{trees-defined}
+use Rattle.hare_check.proofs.LookingLemmas.{none-before}
+use Rattle.hare_check.proofs.TurnedLemmas.{is_turned, in_hand}
+use Rattle.hare_check.proofs.walker.Walker.close.Goals as goal
+
+pub close-requires-clause-defined : goal.close-requires-clause-defined
+close-requires-clause-defined c = trees-defined c.args.s.now c.args.kids c.requires.node.kept
+
+pub close-requires-clause-from : goal.close-requires-clause-from
+close-requires-clause-from c k =
+    let w = c.args.self.now in
+    none-before _ _ _ _ _ _ w.seen.yields c.levels-levels.result.from c.levels-levels.result.own c.requires.node.walks.1.spots
+    c.levels-levels.ensures.from (sym c.levels-levels.ensures.levels.own)
+
+pub returns-clause-ok : goal.returns-clause-ok
+returns-clause-ok c =
+    let w = c.args.self.now in
+    let n = c.args.node.now in
+    let xs : List TypedNode = c.args.kids in
+    let x = c.args.found.now in
+    let s = c.args.s.now in
+    let r = c.close.new.s in
+    let g : Flow = c.close.new.seen in
+    let ys : List TypedNode = c.close.new.kids in
+    let m : Mark =
+    record {
+      node = c.in_ok-number.number;
+      ty = x.ty;
+      coerce = x.own;
+      meaning = c.own_meaning-meaning.result;
+      value = c.in_ok-value.value;
+    } in
+    let closes : Closes (program_of w) (above_of w) (head n) xs w.seen c.first-first.result c.levels-levels.result =
+    record {
+      store = λ l. refl;
+      first = sym c.first-first.ensures;
+      levels = c.levels-levels.ensures.levels;
+      hand = c.requires.node.hand;
+    } in
+    let q : IsClosing s r w n xs x g m ys =
+    record {
+      sound = c.declarations-law.ensures.sound;
+      grown = c.in_ok-close.ensures.grown;
+      node = c.requires.node;
+      found = c.requires.found;
+      flow = λ l d. c.in_ok-close.ensures.seen (program_of w) (above_of w) closes c.requires.found.found l d;
+      kids = c.in_ok-close.ensures.kids;
+      number = c.in_ok-number.ensures;
+      ty = refl;
+      own = refl;
+      meaning = λ l. c.own_meaning-meaning.ensures (program_of w l) refl;
+      value = c.in_ok-value.ensures;
+    } in
+    subst (λ (z : TypedNode). IsTurned (program_of w) r (above_of w) (head n) xs w.seen z g) (sym c.in_ok-tree.ensures)
+    (is_turned (program_of w) r (above_of w) n xs w.seen g x m ys (closing-closed s r w n xs x g m ys q))
+
+pub returns-clause-hand : goal.returns-clause-hand
+returns-clause-hand c =
+    let w = c.args.self.now in
+    let n = c.args.node.now in
+    let xs : List TypedNode = c.args.kids in
+    let x = c.args.found.now in
+    let s = c.args.s.now in
+    let r = c.close.new.s in
+    let g : Flow = c.close.new.seen in
+    let ys : List TypedNode = c.close.new.kids in
+    let m : Mark =
+    record {
+      node = c.in_ok-number.number;
+      ty = x.ty;
+      coerce = x.own;
+      meaning = c.own_meaning-meaning.result;
+      value = c.in_ok-value.value;
+    } in
+    let closes : Closes (program_of w) (above_of w) (head n) xs w.seen c.first-first.result c.levels-levels.result =
+    record {
+      store = λ l. refl;
+      first = sym c.first-first.ensures;
+      levels = c.levels-levels.ensures.levels;
+      hand = c.requires.node.hand;
+    } in
+    let q : IsClosing s r w n xs x g m ys =
+    record {
+      sound = c.declarations-law.ensures.sound;
+      grown = c.in_ok-close.ensures.grown;
+      node = c.requires.node;
+      found = c.requires.found;
+      flow = λ l d. c.in_ok-close.ensures.seen (program_of w) (above_of w) closes c.requires.found.found l d;
+      kids = c.in_ok-close.ensures.kids;
+      number = c.in_ok-number.ensures;
+      ty = refl;
+      own = refl;
+      meaning = λ l. c.own_meaning-meaning.ensures (program_of w l) refl;
+      value = c.in_ok-value.ensures;
+    } in
+    subst (IsInHand g) (sym c.in_ok-tree.ensures)
+    (in_hand (program_of w) r (above_of w) n xs w.seen g x m ys q.grown.later.sound (closing-closed s r w n xs x g m ys q))
+
+pub returns-clause-walks : goal.returns-clause-walks
+returns-clause-walks c ps h =
+    let w = c.args.self.now in
+    let n = c.args.node.now in
+    let xs : List TypedNode = c.args.kids in
+    let x = c.args.found.now in
+    let s = c.args.s.now in
+    let r = c.close.new.s in
+    let g : Flow = c.close.new.seen in
+    let ys : List TypedNode = c.close.new.kids in
+    let m : Mark =
+    record {
+      node = c.in_ok-number.number;
+      ty = x.ty;
+      coerce = x.own;
+      meaning = c.own_meaning-meaning.result;
+      value = c.in_ok-value.value;
+    } in
+    let closes : Closes (program_of w) (above_of w) (head n) xs w.seen c.first-first.result c.levels-levels.result =
+    record {
+      store = λ l. refl;
+      first = sym c.first-first.ensures;
+      levels = c.levels-levels.ensures.levels;
+      hand = c.requires.node.hand;
+    } in
+    let q : IsClosing s r w n xs x g m ys =
+    record {
+      sound = c.declarations-law.ensures.sound;
+      grown = c.in_ok-close.ensures.grown;
+      node = c.requires.node;
+      found = c.requires.found;
+      flow = λ l d. c.in_ok-close.ensures.seen (program_of w) (above_of w) closes c.requires.found.found l d;
+      kids = c.in_ok-close.ensures.kids;
+      number = c.in_ok-number.ensures;
+      ty = refl;
+      own = refl;
+      meaning = λ l. c.own_meaning-meaning.ensures (program_of w l) refl;
+      value = c.in_ok-value.ensures;
+    } in
+    closing-walks s r w n xs x g m ys c.close.new.told ps q
+    (record {
+      entries = c.in_ok-close.ensures.told h.entries;
+      locals = c.in_ok-close.ensures.locals h.locals;
+      yields = c.in_ok-close.ensures.yields h.yields;
+    })
+    h
+
+pub returns-clause-kept : goal.returns-clause-kept
+returns-clause-kept c u h =
+    let w = c.args.self.now in
+    let n = c.args.node.now in
+    let xs : List TypedNode = c.args.kids in
+    let x = c.args.found.now in
+    let s = c.args.s.now in
+    let r = c.close.new.s in
+    let g : Flow = c.close.new.seen in
+    let ys : List TypedNode = c.close.new.kids in
+    let m : Mark =
+    record {
+      node = c.in_ok-number.number;
+      ty = x.ty;
+      coerce = x.own;
+      meaning = c.own_meaning-meaning.result;
+      value = c.in_ok-value.value;
+    } in
+    let closes : Closes (program_of w) (above_of w) (head n) xs w.seen c.first-first.result c.levels-levels.result =
+    record {
+      store = λ l. refl;
+      first = sym c.first-first.ensures;
+      levels = c.levels-levels.ensures.levels;
+      hand = c.requires.node.hand;
+    } in
+    let q : IsClosing s r w n xs x g m ys =
+    record {
+      sound = c.declarations-law.ensures.sound;
+      grown = c.in_ok-close.ensures.grown;
+      node = c.requires.node;
+      found = c.requires.found;
+      flow = λ l d. c.in_ok-close.ensures.seen (program_of w) (above_of w) closes c.requires.found.found l d;
+      kids = c.in_ok-close.ensures.kids;
+      number = c.in_ok-number.ensures;
+      ty = refl;
+      own = refl;
+      meaning = λ l. c.own_meaning-meaning.ensures (program_of w l) refl;
+      value = c.in_ok-value.ensures;
+    } in
+    subst (IsKeptTree u) (sym c.in_ok-tree.ensures) (closing-kept s r w n xs x g m ys q u h)
