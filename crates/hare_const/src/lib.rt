@@ -6,9 +6,11 @@ mod array;
 mod calculated;
 mod casts;
 mod constancy;
-mod constant;
 mod cover;
+mod folded;
 mod kids;
+mod laws;
+mod leads;
 mod length;
 mod literals;
 mod measures;
@@ -19,18 +21,22 @@ mod operators;
 mod outcome;
 mod parts;
 mod placing;
+mod settled;
 mod shape;
+mod sizes;
 #[cfg(test)]
 mod tests;
 mod unions;
 mod walk;
 
-pub use constant::constant_cells;
 pub use cover::{Limits, covers, limits_at};
+pub use folded::{constant, constant_cells};
+pub use laws::law_constants_stay;
 pub use length::array_length;
 pub use number::{little_endian, number_cells, number_of, number_of_value};
 pub use operators::{
     Arithmetic, IntType, Logic, Order, Shift, combined, complemented, computed, in_order,
     leaves_open, negated, same_number, shifted,
 };
+pub use settled::is_settled;
 pub use unions::union_cells;
