@@ -6,3 +6,4 @@ pub mod Covering
 pub mod Sizes
 pub mod NodeValues
 pub mod Settled
+pub mod Texts

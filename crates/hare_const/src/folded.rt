@@ -10,6 +10,7 @@ ghost use Rattle.hare_const.specs.NodeValues as spec;
 use crate::leads::are_bare;
 use crate::outcome::Outcome;
 use crate::settled::is_settled;
+use crate::texts::{is_text, text_constant};
 use crate::walk::tree_value;
 use hare_tree::{Fault, Stop};
 use hare_typed::{Cells, Const, ConstObjects, Typed};
@@ -70,11 +71,14 @@ fn without_objects(alloc: Global, cells: Cells) -> Result<Const, AllocError>
 /// Where the store or the tree tells too little, the answer is want of memory: so it is of a tree with a type that comes to a name which is not
 /// defined, or with a tuple or struct whose size is not known to be at most 67,108,864 bytes, or with parts that its type has not. It is so also of what
 /// the crate does not work out yet: lengths and equalities of texts, values of unions, and cells that lead to a string or to an array that became
-/// a slice. The time is that of the tree and of the cells.
+/// a slice, but for a string by itself, at a type of its base. The time is that of the tree and of the cells.
 pub fn constant(alloc: Global, s: &TypeStore, own: u32, t: &Typed) -> Result<Const, AllocError>
     requires own { own < 2 ^ 32 - 1 }
     ensures { IfOk result (λ c. (l : Store) → IsLater s.now l → c ≡ folded l own t.now) }
 {
+    if is_text(t) {
+        return text_constant(alloc, own, t);
+    }
     let _law = s.declarations();
     if !is_settled(s, t) {
         return Err(AllocError);

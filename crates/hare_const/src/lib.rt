@@ -1,4 +1,4 @@
-//! Constants: whether they cover a type, and which of them may be the length of an array.
+//! Constants: what a tree has as its constant, whether constants cover a type, and which may be the length of an array.
 #![tactic(auto)]
 
 mod addresses;
@@ -26,6 +26,7 @@ mod shape;
 mod sizes;
 #[cfg(test)]
 mod tests;
+mod texts;
 mod unions;
 mod walk;
 

@@ -1,9 +1,12 @@
 use Rattle.std.proofs.Common.{◌≡◌, ◌∙◌, []}
+use Rattle.std.proofs.lemmas.Result.{IfOk-weaker}
 use Rattle.hare_types.specs.Store.{Store}
 use Rattle.hare_types.specs.Later.{IsLater}
 use Rattle.hare_typed.specs.declared.constant.Const.TheVariants as constant
 use Rattle.hare_typed.specs.Folded.{folded, leads}
 use Rattle.hare_const.proofs.FoldedLemmas.{bare_later, none_later, refused_later, ok_both}
+use Rattle.hare_const.specs.Texts.{text_constant}
+use Rattle.hare_const.proofs.TextLemmas.{folded_text}
 use Rattle.hare_const.proofs.folded.constant.Goals as goal
 
 pub returns-in-Ok-Some : goal.returns-in-Ok-Some
@@ -23,3 +26,9 @@ pub returns-in-Err-Fault : goal.returns-in-Err-Fault
 returns-in-Err-Fault c =
     refused_later c.args.s.now c.args.own c.args.t.now c.declarations-law.ensures.sound (c.is_settled.ensures c.if-not-is_settled.false)
     c.in-Err-Fault.field-0 c.in-Err-Fault.field-0-0 c.in-Err-Fault.field-0-is c.in-Err-Fault.ensures.err
+
+pub returns-then-is_text : goal.returns-then-is_text
+returns-then-is_text c =
+    IfOk-weaker c.text_constant.result (λ x. x ≡ text_constant c.args.own c.args.t.now)
+    (λ x. (l : Store) → IsLater c.args.s.now l → x ≡ folded l c.args.own c.args.t.now)
+    (λ x e l later. e ∙ folded_text l c.args.own c.args.t.now (c.is_text.ensures c.if-is_text.true)) c.text_constant.ensures
