@@ -17,38 +17,15 @@ use Rattle.hare_typed.specs.Typed.{TypedNode}
 use Rattle.hare_typed.specs.Objects.{Object}
 use Rattle.hare_typed.specs.State.{Result, Value}
 use Rattle.hare_typed.specs.ConstantValues.{constant_result}
-use Rattle.hare_typed.specs.Folded.{led_to, leads, reached_in, with_cells_of, objects_behind, folded_from, folded, inconstant}
+use Rattle.hare_typed.specs.Folded.{led_to, leads, with_cells_of, folded_from, folded, inconstant}
 use Rattle.hare_const.specs.NodeValues.{cells_in, Refuses}
 use Rattle.hare_const.specs.Settled.{IsSettled}
+use Rattle.std.specs.List.{AllByRecursion}
+use Rattle.hare_const.specs.Statics.{IsEnd, statics_in}
 use Rattle.hare_const.proofs.LaterTrees.{constants_stay}
+use Rattle.hare_const.proofs.StaticLemmas.{folded_ends}
 
--- ---- objects
-
-reached_none : (k : ℕ) (os : List (ℕ × Object)) → reached_in k os [] ≡ []
-reached_none zero os = refl
-reached_none (suc k) os = reached_none k os
-
-none_behind : (os : List (ℕ × Object)) (cs : List Cell) → leads cs ≡ [] → objects_behind os cs ≡ []
-none_behind os cs e =
-    ap (λ ns. with_cells_of os (reached_in (length os) os (ascending ns))) e ∙ ap (with_cells_of os) (reached_none (length os) os)
-
--- ---- the constant
-
-from_bare : (r : Result) (cs : List Cell) → cells_in (folded_from r) ≡ Some cs → leads cs ≡ [] → folded_from r ≡ constant.Known cs []
-from_bare (Value ds, st) cs e f =
-    let same : ds ≡ cs = cc in
-    ap₂ (λ xs os. constant.Known xs os) same (none_behind st.memory.objects.named ds (subst (λ xs. leads xs ≡ []) (sym same) f))
-from_bare (_, st) cs e f = absurd cc
-
--- one whose cells lead to no object has none
-pub folded_bare : (s : Store) (own : ℕ) (t : TypedNode) (cs : List Cell) → cells_in (folded s own t) ≡ Some cs → leads cs ≡ [] →
-    folded s own t ≡ constant.Known cs []
-folded_bare s own t cs e f = by (inconstant s own t) (constant_result s own t) e
-  where
-    by : (o : Option TypedNode) (r : Result) → cells_in (elim o [ None ↦ folded_from r | Some u ↦ constant.Absent ]) ≡ Some cs →
-        elim o [ None ↦ folded_from r | Some u ↦ constant.Absent ] ≡ constant.Known cs []
-    by None r g = from_bare r cs g f
-    by (Some u) r g = absurd cc
+-- ---- none
 
 pub absent_in : (c : Const) → cells_in c ≡ None → c ≡ constant.Absent
 absent_in constant.Absent e = refl
@@ -98,9 +75,9 @@ bare_all cs i h go = go (ap leads (drop-past cs i h))
 
 -- the answers to a settled tree, by what is known of its constant over the first store
 module _ (s : Store) (own : ℕ) (t : TypedNode) (v : IsStore s) (p : IsSettled s t) where
-  pub bare_later : (cs : List Cell) → cells_in (folded s own t) ≡ Some cs → leads cs ≡ [] → (c : Const) → c ≡ constant.Known cs [] →
-      (l : Store) → IsLater s l → c ≡ folded l own t
-  bare_later cs e f c g l later = g ∙ sym (folded_bare l own t cs ((constants_stay s l v later own t p).cells ∙ e) f)
+  pub ends_later : (cs : List Cell) → cells_in (folded s own t) ≡ Some cs → AllByRecursion (IsEnd (statics_in own t)) (ascending (leads cs)) →
+      (c : Const) → c ≡ constant.Known cs (with_cells_of (statics_in own t) (ascending (leads cs))) → (l : Store) → IsLater s l → c ≡ folded l own t
+  ends_later cs e f c g l later = g ∙ sym (folded_ends l own t cs ((constants_stay s l v later own t p).cells ∙ e) f)
 
   pub none_later : cells_in (folded s own t) ≡ None → (l : Store) → IsLater s l → constant.Absent ≡ folded l own t
   none_later e l later = sym (absent_in (folded l own t) ((constants_stay s l v later own t p).cells ∙ e))

@@ -13,7 +13,7 @@ pub mod LaterNodes
 pub mod LaterTrees
 pub mod SettledLemmas
 pub mod FoldedLemmas
-pub mod TextLemmas
+pub mod StaticLemmas
 pub mod WalkLemmas
 mod ExampleConstants
 mod ConstantRows

@@ -6,4 +6,4 @@ pub mod Covering
 pub mod Sizes
 pub mod NodeValues
 pub mod Settled
-pub mod Texts
+pub mod Statics

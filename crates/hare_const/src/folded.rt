@@ -1,19 +1,21 @@
 //! The cells of a constant.
 
-ghost use Rattle.std.specs.Prelude.{◌≡◌, ◌-◌, ◌<◌, ◌^◌, [], None, IfOk, IfErr, OnOk};
+ghost use Rattle.std.specs.Prelude.{◌≡◌, ◌-◌, ◌<◌, ◌^◌, None, IfOk, IfErr, OnOk};
 ghost use Rattle.hare_typed.specs.declared.constant.Const.TheVariants as constant;
 ghost use Rattle.hare_types.specs.Store.{Store};
 ghost use Rattle.hare_types.specs.Later.{IsLater};
-ghost use Rattle.hare_typed.specs.Folded.{folded, inconstant, leads};
+ghost use Rattle.std.specs.List.{AllByRecursion};
+ghost use Rattle.hare_types.specs.Unions.{ascending};
+ghost use Rattle.hare_typed.specs.Folded.{folded, inconstant, leads, with_cells_of};
+ghost use Rattle.hare_const.specs.Statics.{statics_in, IsEnd};
 ghost use Rattle.hare_const.specs.NodeValues as spec;
 
-use crate::leads::are_bare;
+use crate::objects::objects_led_to;
 use crate::outcome::Outcome;
 use crate::settled::is_settled;
-use crate::texts::{is_text, text_constant};
 use crate::walk::tree_value;
 use hare_tree::{Fault, Stop};
-use hare_typed::{Cells, Const, ConstObjects, Typed};
+use hare_typed::{Cells, Const, Typed};
 use hare_types::TypeStore;
 use std::alloc::{AllocError, Global};
 
@@ -50,19 +52,15 @@ pub fn constant_cells(
     Ok(cells_of(outcome))
 }
 
-/// The constant of these cells; want of memory where they lead to an object that is no global's.
-fn without_objects(alloc: Global, cells: Cells) -> Result<Const, AllocError>
-    ensures ok { IfOk result (λ c. c ≡ constant.Known cells []) }
-    ensures bare { OnOk result (leads cells ≡ []) }
+/// The constant of these cells, with the objects of the tree to which they lead; want of memory where they lead to another object, or where one of
+/// these leads on.
+fn with_objects(alloc: Global, own: u32, t: &Typed, cells: Cells) -> Result<Const, AllocError>
+    requires own { own < 2 ^ 32 - 1 }
+    ensures value { IfOk result (λ c. c ≡ constant.Known cells (with_cells_of (statics_in own t.now) (ascending (leads cells)))) }
+    ensures ends { OnOk result (AllByRecursion (IsEnd (statics_in own t.now)) (ascending (leads cells))) }
 {
-    if are_bare(&cells) {
-        Ok(Const::Known {
-            cells,
-            objects: ConstObjects::new(alloc),
-        })
-    } else {
-        Err(AllocError)
-    }
+    let objects = objects_led_to(alloc, own, t, &cells)?;
+    Ok(Const::Known { cells, objects })
 }
 
 /// The constant that a value of the declaration `own` has, as its coercion gives it; `Absent` where one of its nodes is no constant, or would abort.
@@ -70,21 +68,18 @@ fn without_objects(alloc: Global, cells: Cells) -> Result<Const, AllocError>
 ///
 /// Where the store or the tree tells too little, the answer is want of memory: so it is of a tree with a type that comes to a name which is not
 /// defined, or with a tuple or struct whose size is not known to be at most 67,108,864 bytes, or with parts that its type has not. It is so also of what
-/// the crate does not work out yet: lengths and equalities of texts, values of unions, and cells that lead to a string or to an array that became
-/// a slice, but for a string by itself, at a type of its base. The time is that of the tree and of the cells.
+/// the crate does not work out yet: lengths and equalities of texts, values of unions, and cells that lead to an array that became a slice here, to an
+/// object of a constant that leads on, or to more than 64 objects. The time is that of the tree, for each object once more, and of the cells.
 pub fn constant(alloc: Global, s: &TypeStore, own: u32, t: &Typed) -> Result<Const, AllocError>
     requires own { own < 2 ^ 32 - 1 }
     ensures { IfOk result (λ c. (l : Store) → IsLater s.now l → c ≡ folded l own t.now) }
 {
-    if is_text(t) {
-        return text_constant(alloc, own, t);
-    }
     let _law = s.declarations();
     if !is_settled(s, t) {
         return Err(AllocError);
     }
     match constant_cells(alloc, s, own, t) {
-        Ok(Some(cells)) => without_objects(alloc, cells),
+        Ok(Some(cells)) => with_objects(alloc, own, t, cells),
         Ok(None) => Ok(Const::Absent),
         Err(Stop::Fault(_)) => Ok(Const::Absent),
         Err(Stop::Memory) => Err(AllocError),

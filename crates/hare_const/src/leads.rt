@@ -6,7 +6,7 @@ ghost use Rattle.hare_typed.specs.Folded.{led_to, leads};
 use hare_typed::{Cell, Cells};
 
 /// The objects of strings, and of arrays that became slices, have the numbers from here on.
-const FIRST_OBJECT: u64 = 4_294_967_296;
+pub(crate) const FIRST_OBJECT: u64 = 4_294_967_296;
 
 /// Whether a cell leads to no object but a global.
 fn is_bare(cell: Option<Cell>) -> bool

@@ -16,6 +16,7 @@ mod literals;
 mod measures;
 mod node;
 mod number;
+mod objects;
 mod operands;
 mod operators;
 mod outcome;
@@ -26,7 +27,6 @@ mod shape;
 mod sizes;
 #[cfg(test)]
 mod tests;
-mod texts;
 mod unions;
 mod walk;
 
