@@ -14,8 +14,7 @@ use Rattle.hare_typed.specs.declared.cell.Cell.{Cell}
 use Rattle.hare_typed.specs.declared.constant.Const.{Const}
 use Rattle.hare_typed.specs.declared.constant.Const.TheVariants as constant
 use Rattle.hare_typed.specs.Typed.{TypedNode}
-use Rattle.hare_typed.specs.Objects.{Object}
-use Rattle.hare_typed.specs.State.{Result, Value}
+use Rattle.hare_typed.specs.State.{Result}
 use Rattle.hare_typed.specs.ConstantValues.{constant_result}
 use Rattle.hare_typed.specs.Folded.{led_to, leads, with_cells_of, folded_from, folded, inconstant}
 use Rattle.hare_const.specs.NodeValues.{cells_in, Refuses}

@@ -4,18 +4,16 @@ use Rattle.std.specs.Prelude.{◌≢◌, nat_eq, cond, slice_get, flat_map, opti
 use Rattle.std.specs.List.{AllByRecursion}
 use Rattle.std.specs.Map.{lookup}
 use Rattle.std.proofs.lemmas.Option.{slice_get-get_or}
-use Rattle.hare_tree.specs.declared.kind.Kind.{Kind}
 use Rattle.hare_types.specs.Store.{Store}
 use Rattle.hare_types.specs.Unions.{put_all, ascending}
 use Rattle.hare_typed.specs.declared.cell.Cell.{Cell}
-use Rattle.hare_typed.specs.declared.constant.Const.{Const}
 use Rattle.hare_typed.specs.declared.constant.Const.TheVariants as constant
 use Rattle.hare_typed.specs.declared.constant.ConstObject.{ConstObject}
-use Rattle.hare_typed.specs.Typed.{TypedNode, TypedNodes, marked, typed_nodes, mark_of, kids_of}
+use Rattle.hare_typed.specs.Typed.{TypedNode, marked, typed_nodes, mark_of, kids_of}
 use Rattle.hare_typed.specs.Constants.{own_kind}
 use Rattle.hare_typed.specs.Objects.{Object}
 use Rattle.hare_typed.specs.State.{Result, Value, AsValue}
-use Rattle.hare_typed.specs.ConstantValues.{constant_object, listed_objects, objects_of, text_object, statics, state_without_run, constant_result, without_run}
+use Rattle.hare_typed.specs.ConstantValues.{constant_object, listed_objects, objects_of, text_object, state_without_run, constant_result, without_run}
 use Rattle.hare_typed.specs.Folded.{led_to, leads, cells_named, cells_of_named, reached_in, with_cells_of, objects_behind, folded_from, folded, inconstant}
 use Rattle.hare_typed.proofs.Quiet.Runs.{constants_are_quiet}
 use Rattle.hare_typed.proofs.KidLemmas.{take-get}

@@ -1,4 +1,4 @@
-use Rattle.std.proofs.Common.{◌≡◌, ◌<◌, ◌≤◌, length, arith}
+use Rattle.std.proofs.Common.{◌<◌, ◌≤◌, length, arith}
 use Rattle.hare_types.specs.Unions.{ascending}
 use Rattle.hare_typed.specs.Folded.{leads}
 use Rattle.hare_const.proofs.StaticLemmas.{led_more, led_done}

@@ -1,4 +1,4 @@
-use Rattle.std.proofs.Common.{◌≡◌, ◌∙◌, sym, ap, Some, ◌++◌}
+use Rattle.std.proofs.Common.{◌∙◌, sym, ap, Some, ◌++◌}
 use Rattle.hare_typed.specs.ConstantValues.{objects_of}
 use Rattle.hare_const.specs.Statics.{cells_found}
 use Rattle.hare_const.proofs.StaticLemmas.{listed_found, listed_passed}

@@ -1,4 +1,4 @@
-use Rattle.std.proofs.Common.{◌≡◌, ◌<◌, get_or, arith}
+use Rattle.std.proofs.Common.{get_or, arith}
 use Rattle.hare_layout.proofs.AscendingLemmas.{there, placed, placed-last}
 use Rattle.hare_const.proofs.StaticLemmas.{get_or_any}
 use Rattle.hare_const.proofs.objects.place_for.Goals as goal
