@@ -51,7 +51,8 @@ drop-past [] (suc i) h = refl
 drop-past (c ∷ cs) zero h = absurd (omega arith)
 drop-past (c ∷ cs) (suc i) h = drop-past cs i (omega arith)
 
-bare-next : (cs : List Cell) (i : ℕ) (c : Cell) → slice_get cs i ≡ Some c → led_to c ≡ [] → leads (drop (suc i) cs) ≡ [] → leads (drop i cs) ≡ []
+bare-next : (cs : List Cell) (i : ℕ) (c : Cell) → slice_get cs i ≡ Some c → led_to c ≡ [] → leads (drop (suc i) cs) ≡ [] →
+    leads (drop i cs) ≡ []
 bare-next cs i c e f g = ap leads (drop-next cs i c e) ∙ ap₂ (λ xs ys. xs ++ ys) f g
 
 -- where this cell leads nowhere, and those behind it do not
@@ -74,8 +75,10 @@ bare_all cs i h go = go (ap leads (drop-past cs i h))
 
 -- the answers to a settled tree, by what is known of its constant over the first store
 module _ (s : Store) (own : ℕ) (t : TypedNode) (v : IsStore s) (p : IsSettled s t) where
-  pub ends_later : (cs : List Cell) → cells_in (folded s own t) ≡ Some cs → AllByRecursion (IsEnd (statics_in own t)) (ascending (leads cs)) →
-      (c : Const) → c ≡ constant.Known cs (with_cells_of (statics_in own t) (ascending (leads cs))) → (l : Store) → IsLater s l → c ≡ folded l own t
+  pub ends_later : (cs : List Cell) → cells_in (folded s own t) ≡ Some cs →
+      AllByRecursion (IsEnd (statics_in own t)) (ascending (leads cs)) →
+      (c : Const) → c ≡ constant.Known cs (with_cells_of (statics_in own t) (ascending (leads cs))) → (l : Store) → IsLater s l → c
+      ≡ folded l own t
   ends_later cs e f c g l later = g ∙ sym (folded_ends l own t cs ((constants_stay s l v later own t p).cells ∙ e) f)
 
   pub none_later : cells_in (folded s own t) ≡ None → (l : Store) → IsLater s l → constant.Absent ≡ folded l own t

@@ -127,7 +127,8 @@ module _ (s l : Store) (v : IsStore s) (later : IsLater s l) where
         if_same (is_iconst (own_type t)) (Known []) _ _
         (ap₂ (λ j k. on_answer (arithmetic op (int_in l (own_type t)) j k) λ i. Known (numbered l t i)) (kid_same 0 x) (kid_same 1 y)
         ∙ ap (λ i. on_answer (arithmetic op i m n) λ j. Known (numbered l t j)) own_int
-        ∙ told_same (arithmetic op (int_in s (own_type t)) m n) (λ j. Known (numbered l t j)) (λ j. Known (numbered s t j)) (λ j. ap Known (numbered_same j)))
+        ∙ told_same (arithmetic op (int_in s (own_type t)) m n) (λ j. Known (numbered l t j)) (λ j. Known (numbered s t j))
+        (λ j. ap Known (numbered_same j)))
 
     shift_same : (x y : List Cell) → shift_value l t x y ≡ shift_value s t x y
     shift_same x y =
@@ -139,11 +140,13 @@ module _ (s l : Store) (v : IsStore s) (later : IsLater s l) where
 
     negation_same : (x : List Cell) → negation l t x ≡ negation s t x
     negation_same x =
-        ap₂ (λ i n. numbered l t (negated i n)) own_int (kid_same 0 x) ∙ numbered_same (negated (int_in s (own_type t)) (number_of_kid s t 0 x))
+        ap₂ (λ i n. numbered l t (negated i n)) own_int (kid_same 0 x)
+        ∙ numbered_same (negated (int_in s (own_type t)) (number_of_kid s t 0 x))
 
     complement_same : (x : List Cell) → complement l t x ≡ complement s t x
     complement_same x =
-        ap₂ (λ i n. numbered l t (complemented i n)) own_int (kid_same 0 x) ∙ numbered_same (complemented (int_in s (own_type t)) (number_of_kid s t 0 x))
+        ap₂ (λ i n. numbered l t (complemented i n)) own_int (kid_same 0 x)
+        ∙ numbered_same (complemented (int_in s (own_type t)) (number_of_kid s t 0 x))
 
     order_same : (x y : List Cell) → order_value l t x y ≡ order_value s t x y
     order_same x y = ap₂ (λ j k. bool_cells (in_order (order_of (head_of t).text) j k)) (kid_same 0 x) (kid_same 1 y)
@@ -160,9 +163,11 @@ module _ (s l : Store) (v : IsStore s) (later : IsLater s l) where
     len_same x =
         let r = base_row_same s l v later (type_of_kid 0 t) (a.kid 0) in
         ap₂ (λ q o. if is_array_row q then o else on_answer (words x) λ w. Known (numbered l t (pos w.length))) r
-        (ap (λ q. Known (numbered l t (pos (length_of_row q)))) r ∙ ap Known (numbered_same (pos (length_of_row (base_row s (type_of_kid 0 t))))))
+        (ap (λ q. Known (numbered l t (pos (length_of_row q)))) r
+        ∙ ap Known (numbered_same (pos (length_of_row (base_row s (type_of_kid 0 t))))))
         ∙ if_same (is_array_row (base_row s (type_of_kid 0 t))) (Known (array_length_value s t)) _ _
-        (told_same (words x) (λ w. Known (numbered l t (pos w.length))) (λ w. Known (numbered s t (pos w.length))) (λ w. ap Known (numbered_same (pos w.length))))
+        (told_same (words x) (λ w. Known (numbered l t (pos w.length))) (λ w. Known (numbered s t (pos w.length)))
+        (λ w. ap Known (numbered_same (pos w.length))))
 
     array_same : (cs : List (List Cell)) → array_value l t cs ≡ array_value s t cs
     array_same cs =
@@ -173,7 +178,8 @@ module _ (s l : Store) (v : IsStore s) (later : IsLater s l) where
     fields_given_same = fields_same s l v later (own_type t) 1 (items_of kind.StructLit (kids_of t)) t a.own
 
     struct_same : (cs : List (List Cell)) → HasParts s (own_type t) (fields_given s t) → struct_value l t cs ≡ struct_value s t cs
-    struct_same cs h = ap (λ ns. made_of l (own_type t) ns cs) fields_given_same ∙ made_same s l v later (own_type t) (fields_given s t) cs h
+    struct_same cs h = ap (λ ns. made_of l (own_type t) ns cs) fields_given_same
+        ∙ made_same s l v later (own_type t) (fields_given s t) cs h
 
     -- ---- offsets
 
@@ -199,7 +205,8 @@ module _ (s l : Store) (v : IsStore s) (later : IsLater s l) where
                   ap (λ f. part_named l f (head_of (kid_from_front 0 t))) whole
                   ∙ named_same s l v later (type_with_offset s t) (head_of (kid_from_front 0 t)) base;
               start =
-                  ap (λ f. offset_in l f (part_with_offset s t)) e ∙ ap (λ o. unwrap_or o 0) (part_same s l v later w (part_with_offset s t) part)
+                  ap (λ f. offset_in l f (part_with_offset s t)) e
+                  ∙ ap (λ o. unwrap_or o 0) (part_same s l v later w (part_with_offset s t) part)
                   ∙ sym (ap (λ f. offset_in s f (part_with_offset s t)) e);
             }
 
@@ -233,9 +240,11 @@ module _ (s l : Store) (v : IsStore s) (later : IsLater s l) where
     kind_same own os kind.Cast h = one_kid kind.Cast os (λ x. ap Known (cast_same x))
     kind_same own os kind.Len h = one_kid kind.Len os len_same
     kind_same own os kind.Size h =
-        ap (λ n. Known (numbered l t (pos n))) (size_same s l v later (type_of_kid 0 t) h) ∙ ap Known (numbered_same (pos (size_in s (type_of_kid 0 t))))
+        ap (λ n. Known (numbered l t (pos n))) (size_same s l v later (type_of_kid 0 t) h)
+        ∙ ap Known (numbered_same (pos (size_in s (type_of_kid 0 t))))
     kind_same own os kind.Align h =
-        ap (λ n. Known (numbered l t (pos n))) (align_same s l v later (type_of_kid 0 t) h) ∙ ap Known (numbered_same (pos (align_in s (type_of_kid 0 t))))
+        ap (λ n. Known (numbered l t (pos n))) (align_same s l v later (type_of_kid 0 t) h)
+        ∙ ap Known (numbered_same (pos (align_in s (type_of_kid 0 t))))
     kind_same own os kind.Offset h = ap Known (offset_value_same h)
     kind_same own os kind.Tuple h =
         kids_on 0 (items_of kind.Tuple (kids_of t)) os (λ cs. Known (tuple_value l t cs)) (λ cs. Known (tuple_value s t cs))

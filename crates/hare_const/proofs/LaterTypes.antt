@@ -142,7 +142,8 @@ module _ (s l : Store) (v : IsStore s) (later : IsLater s l) where
 
   pub int_same : (f : Ty) → HasBase s f → int_in l f ≡ int_in s f
   int_same (ty.Of t) h =
-      ap (λ r. unwrap_or (option_map int_of_shape (option_and_then shape_of_row r)) (record { bits = 0; signed = false })) (base_row_same (ty.Of t) h)
+      ap (λ r. unwrap_or (option_map int_of_shape (option_and_then shape_of_row r)) (record { bits = 0; signed = false }))
+      (base_row_same (ty.Of t) h)
   int_same (ty.Iconst v) h = refl
   int_same ty.Null h = refl
   int_same ty.Empty h = refl
@@ -194,7 +195,8 @@ module _ (s l : Store) (v : IsStore s) (later : IsLater s l) where
   parts_same f t (n ∷ ns) (c ∷ cs) into e h =
       let id : id_in f ≡ t = ap id_in e in
       let at : offset_in l f n ≡ offset_in s f n
-      = ap (λ i. unwrap_or (offset_at l i n) 0) id ∙ ap (λ o. unwrap_or o 0) (part_same t n h.0) ∙ ap (λ i. unwrap_or (offset_at s i n) 0) (sym id) in
+      = ap (λ i. unwrap_or (offset_at l i n) 0) id ∙ ap (λ o. unwrap_or o 0) (part_same t n h.0)
+      ∙ ap (λ i. unwrap_or (offset_at s i n) 0) (sym id) in
       parts_same f t ns cs (with_cells (offset_in l f n) c into) e h.1 ∙ ap (λ k. with_parts s f ns cs (with_cells k c into)) at
 
   -- a value of a type with these parts
@@ -222,7 +224,8 @@ module _ (s l : Store) (v : IsStore s) (later : IsLater s l) where
       (ap (λ ns. slice_get ns n) more.1 ∙ slice_get_front s.names more.0 n (slice_get_within s.names n text here) ∙ here)
 
   -- a name that was not there came later
-  new_name : (text : List ℕ) (n : ℕ) → position (bytes_eq text) s.names ≡ None → position (bytes_eq text) l.names ≡ Some n → length s.names ≤ n
+  new_name : (text : List ℕ) (n : ℕ) → position (bytes_eq text) s.names ≡ None → position (bytes_eq text) l.names ≡ Some n →
+      length s.names ≤ n
   new_name text n g k = by (cases_lt n (length s.names))
     where
       by : (n < length s.names) ⊎ (length s.names ≤ n) → length s.names ≤ n
@@ -255,7 +258,8 @@ module _ (s l : Store) (v : IsStore s) (later : IsLater s l) where
       inside = slice_get_within s.rows b (row.Struct fs) e
 
       by : (o : Option ℕ) → position (bytes_eq text) s.names ≡ o → (p : Option ℕ) → position (bytes_eq text) l.names ≡ p →
-          option_and_then (field_at l b) (position (bytes_eq text) l.names) ≡ option_and_then (field_at s b) (position (bytes_eq text) s.names)
+          option_and_then (field_at l b) (position (bytes_eq text) l.names)
+          ≡ option_and_then (field_at s b) (position (bytes_eq text) s.names)
       by (Some n) g p k =
           ap (option_and_then (field_at l b)) (name_stays text n g) ∙ keeps.field b n inside ∙ sym (ap (option_and_then (field_at s b)) g)
       by None g None k = ap (option_and_then (field_at l b)) k ∙ sym (ap (option_and_then (field_at s b)) g)
@@ -266,7 +270,8 @@ module _ (s l : Store) (v : IsStore s) (later : IsLater s l) where
   part_in_same : (t b : ℕ) (h : Head) (r : Row) → base_at s t ≡ Some b → row_at s b ≡ Some r →
       part_in l (ty.Of t) h (Some r) ≡ part_in s (ty.Of t) h (Some r)
   part_in_same t b h (row.Struct fs) e g =
-      ap (λ o. unwrap_or (option_and_then (λ c. option_and_then (field_at l c) (position (bytes_eq h.text) l.names)) o) 0) (keeps.base t b e)
+      ap (λ o. unwrap_or (option_and_then (λ c. option_and_then (field_at l c) (position (bytes_eq h.text) l.names)) o) 0)
+      (keeps.base t b e)
       ∙ ap (λ o. unwrap_or o 0) (field_same b fs h.text g)
       ∙ sym (ap (λ o. unwrap_or (option_and_then (λ c. option_and_then (field_at s c) (position (bytes_eq h.text) s.names)) o) 0) e)
   part_in_same t b h (row.Scalar k) e g = refl

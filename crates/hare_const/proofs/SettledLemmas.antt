@@ -48,7 +48,8 @@ components_there s t f n e h m parts =
     (h, subst (λ c. All (HasPart s f) (counted_from 0 c)) m (counted_each (HasPart s f) 0 n few))
 
 -- the fields from one on are parts, where it is one and those behind it are
-pub field_there : (s : Store) (f : Ty) (t : TypedNode) (of i n p : ℕ) (G : Type 0) → i < n → p ≡ part_named s f (head_of (kid_from_front (i + 1) t)) →
+pub field_there : (s : Store) (f : Ty) (t : TypedNode) (of i n p : ℕ) (G : Type 0) → i < n →
+    p ≡ part_named s f (head_of (kid_from_front (i + 1) t)) →
     HasPart s of p →
     (All (HasPart s of) (fields_from s f (suc i) (n - i) t) → G) → All (HasPart s of) (fields_from s f (suc (i + 1)) (n - (i + 1)) t) → G
 field_there s f t of i n p G l e h go rest =
@@ -59,7 +60,8 @@ field_there s f t of i n p G l e h go rest =
     let behind : All (HasPart s of) (fields_from s f (suc (suc i)) (n - (i + 1)) t)
     = subst (λ k. All (HasPart s of) (fields_from s f (suc k) (n - (i + 1)) t)) next rest in
     go (subst (λ k. All (HasPart s of) (fields_from s f (suc i) k t)) left
-    (All-cons (HasPart s of) (part_named s f (head_of (kid_from_front (suc i) t))) (fields_from s f (suc (suc i)) (n - (i + 1)) t) here behind))
+    (All-cons (HasPart s of) (part_named s f (head_of (kid_from_front (suc i) t)))
+    (fields_from s f (suc (suc i)) (n - (i + 1)) t) here behind))
 
 pub fields_there : (s : Store) (f : Ty) (t : TypedNode) (of i n : ℕ) (G : Type 0) → n ≤ i →
     (All (HasPart s of) (fields_from s f (suc i) (n - i) t) → G) → G
@@ -87,7 +89,8 @@ place_first s [] x g e n = absurd cc
 place_first s (marked h m us ∷ ts) x g e n =
     let same : x ≡ marked h m us = cc in
     global_place s h.kind m (first_given us) (first_is_place s us)
-    (subst (λ y. is_global_path (own_kind y) (mark_of y) ≡ true) same e) (subst (λ y. names_void s (mark_of y).meaning (mark_of y).ty ≡ false) same n)
+    (subst (λ y. is_global_path (own_kind y) (mark_of y) ≡ true) same e)
+    (subst (λ y. names_void s (mark_of y).meaning (mark_of y).ty ≡ false) same n)
 
 -- the first kid is a place, where it is a path to a global
 pub first_placed : (s : Store) (t x : TypedNode) (h : Head) (m : Mark) (ts : List TypedNode) → marked h m (typed_nodes ts) ≡ t →

@@ -20,7 +20,8 @@ told_few : (x : Extent) → x.size ≤ 67108864 → told x ≡ x
 told_few x h = let e : min x.size 1099511627777 ≡ x.size = omega arith in ap (λ n. record { size = n; align = x.align }) e
 
 -- a type that is told to have few bytes has so few
-pub told_fits : (s : Store) (t : ℕ) (x : Extent) (o : Option Extent) → extent_at s t ≡ o → Some x ≡ option_map told o → x.size ≤ 67108864 → Fits s t
+pub told_fits : (s : Store) (t : ℕ) (x : Extent) (o : Option Extent) → extent_at s t ≡ o → Some x ≡ option_map told o →
+    x.size ≤ 67108864 → Fits s t
 told_fits s t x None e f h = absurd cc
 told_fits s t x (Some y) e f h =
     let same : x ≡ told y = cc in
@@ -39,7 +40,8 @@ few_from_fits s t h x e = let same : h.extent ≡ x = let both = sym h.at ∙ e 
 
 -- ---- parts
 
-first_some : {A B : Type 0} (o : Option A) (f : A → Option B) (b : B) → option_and_then f o ≡ Some b → (a : A) × (o ≡ Some a) × (f a ≡ Some b)
+first_some : {A B : Type 0} (o : Option A) (f : A → Option B) (b : B) → option_and_then f o ≡ Some b →
+    (a : A) × (o ≡ Some a) × (f a ≡ Some b)
 first_some None f b e = absurd cc
 first_some (Some a) f b e = (a, refl, e)
 
@@ -107,7 +109,8 @@ pub record Starts (s : Store) (t k : ℕ) : Type 0 where
   pub few : AreFew s row
 
 -- the parts of a type that fits are few
-few_parts : (s : Store) (t : ℕ) (h : Fits s t) (types : List ℕ) → fields_at s t ≡ Some types → (i p : ℕ) → slice_get types i ≡ Some p → IsFew s p
+few_parts : (s : Store) (t : ℕ) (h : Fits s t) (types : List ℕ) → fields_at s t ≡ Some types → (i p : ℕ) → slice_get types i ≡ Some p →
+    IsFew s p
 few_parts s t h types e i p g x f =
     let lie : FieldsLieIn s t h.extent = fields_lie_in s t h.extent h.at in
     let found = lie.placed types i e (slice_get_within types i p g) in

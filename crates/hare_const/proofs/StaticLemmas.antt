@@ -49,7 +49,8 @@ if_found : (b : Bool) (x : Object) (r q : Option Object) (cs : List Cell) →
 if_found true x r q cs h e = e
 if_found false x r q cs h e = h e
 
-found_front : (front bs : List (ℕ × Object)) (n : ℕ) (cs : List Cell) → cells_found front n ≡ Some cs → cells_found (front ++ bs) n ≡ Some cs
+found_front : (front bs : List (ℕ × Object)) (n : ℕ) (cs : List Cell) → cells_found front n ≡ Some cs →
+    cells_found (front ++ bs) n ≡ Some cs
 found_front [] bs n cs e = absurd cc
 found_front (a ∷ front) bs n cs e =
     if_found (nat_eq n a.0) a.1 (lookup (nat_eq n) front) (lookup (nat_eq n) (front ++ bs)) cs (found_front front bs n cs) e
@@ -81,7 +82,8 @@ module _ (own n : ℕ) where
       sym (found_front (text ++ objects_of m.value) (statics_in_each own ts) n cs (found_behind text (objects_of m.value) n e ∙ f))
 
   pub kids_last : (t : TypedNode) → cells_found (text_object (scope_in own) t (own_kind t)) n ≡ None →
-      cells_found (objects_of (mark_of t).value) n ≡ None → cells_found (statics_in_each own (kids_of t)) n ≡ cells_found (statics_in own t) n
+      cells_found (objects_of (mark_of t).value) n ≡ None → cells_found (statics_in_each own (kids_of t)) n
+      ≡ cells_found (statics_in own t) n
   kids_last (marked h m ts) e f =
       let text = text_object (scope_in own) (marked h m ts) h.kind in
       sym (found_behind (text ++ objects_of m.value) (statics_in_each own ts) n (found_behind text (objects_of m.value) n e ∙ f))
@@ -130,14 +132,16 @@ module _ (own n : ℕ) where
       found_among (drop i os) ≡ found_among os → Some o.cells ≡ found_among os
   listed_found os i o e f g =
       sym (ap found_among (drop_next os i o e)
-      ∙ ap (λ b. option_map (λ z. z.cells) (cond b (Some (constant_object o.cells)) (lookup (nat_eq n) (listed_objects (drop (suc i) os))))) (same_number o.object f)) ∙ g
+      ∙ ap (λ b. option_map (λ z. z.cells)
+      (cond b (Some (constant_object o.cells)) (lookup (nat_eq n) (listed_objects (drop (suc i) os))))) (same_number o.object f)) ∙ g
 
   pub listed_passed : (os : List ConstObject) (i : ℕ) (o : ConstObject) → slice_get os i ≡ Some o → o.object ≢ n →
       found_among (drop i os) ≡ found_among os → found_among (drop (i + 1) os) ≡ found_among os
   listed_passed os i o e f g =
       ap (λ k. found_among (drop k os)) (sym (next i))
       ∙ sym (ap found_among (drop_next os i o e)
-      ∙ ap (λ b. option_map (λ z. z.cells) (cond b (Some (constant_object o.cells)) (lookup (nat_eq n) (listed_objects (drop (suc i) os))))) (other_number o.object f)) ∙ g
+      ∙ ap (λ b. option_map (λ z. z.cells)
+      (cond b (Some (constant_object o.cells)) (lookup (nat_eq n) (listed_objects (drop (suc i) os))))) (other_number o.object f)) ∙ g
 
   pub listed_done : (os : List ConstObject) (i : ℕ) → length os ≤ i → found_among (drop i os) ≡ found_among os → None ≡ found_among os
   listed_done os i h g = sym (ap found_among (drop_past os i h)) ∙ g
@@ -206,7 +210,8 @@ pub record Ended (os : List (ℕ × Object)) (ns : List ℕ) (found : List Const
   pub value : found ≡ with_cells_of os ns
   pub ends : AllByRecursion (IsEnd os) ns
 
-pub ended_more : (os : List (ℕ × Object)) (ns more : List ℕ) (n : ℕ) (found all : List ConstObject) (o : ConstObject) → more ≡ ns ++ n ∷ [] →
+pub ended_more : (os : List (ℕ × Object)) (ns more : List ℕ) (n : ℕ) (found all : List ConstObject) (o : ConstObject) →
+    more ≡ ns ++ n ∷ [] →
     o.object ≡ n → cells_found os n ≡ Some o.cells → leads o.cells ≡ [] → all ≡ found ++ o ∷ [] → Ended os ns found → Ended os more all
 ended_more os ns more n found all o g e f b w h =
     record {
@@ -239,7 +244,8 @@ folded_ends s own t cs e h = by (inconstant s own t) (constant_result s own t) (
   where
     by : (o : Option TypedNode) (r : Result) → (new : List (ℕ × Object)) × (r.1.memory.objects.named ≡ statics_in own t ++ new) →
         cells_in (elim o [ None ↦ folded_from r | Some u ↦ constant.Absent ]) ≡ Some cs →
-        elim o [ None ↦ folded_from r | Some u ↦ constant.Absent ] ≡ constant.Known cs (with_cells_of (statics_in own t) (ascending (leads cs)))
+        elim o [ None ↦ folded_from r | Some u ↦ constant.Absent ]
+        ≡ constant.Known cs (with_cells_of (statics_in own t) (ascending (leads cs)))
     by None r q g = from_statics (statics_in own t) q.0 r cs q.1 g h
     by (Some u) r q g = absurd cc
 

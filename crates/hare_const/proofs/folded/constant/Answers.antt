@@ -16,7 +16,8 @@ returns-in-Ok-Some c =
     ok_both c.with_objects.result (λ x. x ≡ constant.Known cells (with_cells_of os (ascending (leads cells))))
     (λ x. (l : Store) → IsLater c.args.s.now l → x ≡ folded l c.args.own c.args.t.now) (AllByRecursion (IsEnd os) (ascending (leads cells)))
     c.with_objects.ensures.value c.with_objects.ensures.ends
-    (λ x e f. ends_later c.args.s.now c.args.own c.args.t.now c.declarations-law.ensures.sound (c.is_settled.ensures c.if-not-is_settled.false)
+    (λ x e f. ends_later c.args.s.now c.args.own c.args.t.now c.declarations-law.ensures.sound
+    (c.is_settled.ensures c.if-not-is_settled.false)
     cells (c.in-Ok-Some.ensures.ok.1 ∙ c.in-Ok-Some.field-0-is) f x e)
 
 pub returns-in-Ok-None : goal.returns-in-Ok-None

@@ -16,7 +16,8 @@ pub static_cells-returns : goal.static_cells-returns
 static_cells-returns t c =
     let value : cells_found (objects_of (mark_of c.args.t.now).value) c.args.n ≡ None =
     sym (ap (λ y. cells_found (objects_of (mark_of y).value) c.args.n) c.t.view_is) ∙ sym c.in_ok-cells-2.ensures ∙ c.in_default-2.is in
-    let same : cells_found (statics_in_each c.args.own (typed_nodes c.t.inside.kids)) c.args.n ≡ cells_found (statics_in c.args.own c.args.t.now) c.args.n =
+    let same : cells_found (statics_in_each c.args.own (typed_nodes c.t.inside.kids)) c.args.n
+    ≡ cells_found (statics_in c.args.own c.args.t.now) c.args.n =
     ap (λ y. cells_found (statics_in_each c.args.own (kids_of y)) c.args.n) c.t.view_is
     ∙ kids_last c.args.own c.args.n c.args.t.now (sym c.in_ok-cells.ensures ∙ c.in_default.is) value in
     subst (λ x. IfOk c.static_cells_of.result (λ o. o ≡ x)) same c.static_cells_of.ensures

@@ -8,8 +8,10 @@ loop-n-preserved c =
     let os = statics_in c.args.own c.args.t.now in
     let ns = c.args.numbers.now in
     let n = get_or ns c.loop-n.n-index 0 in
-    let before : Ended os (take c.loop-n.n-index ns) c.loop-n.objects = record { value = c.loop-n.invariant.value; ends = c.loop-n.invariant.ends } in
+    let before : Ended os (take c.loop-n.n-index ns) c.loop-n.objects =
+    record { value = c.loop-n.invariant.value; ends = c.loop-n.invariant.ends } in
     let h = ended_more os (take c.loop-n.n-index ns) (take (c.loop-n.n-index + 1) ns) n c.loop-n.objects c.push.new.self c.in_ok-end.field-0
-    (taken_more ns c.loop-n.n-index n c.loop-n-test.true (get_or_any ns c.loop-n.n-index 0 n c.loop-n-test.true)) c.in_ok-end.ensures.number c.in_ok-end.ensures.found
+    (taken_more ns c.loop-n.n-index n c.loop-n-test.true
+    (get_or_any ns c.loop-n.n-index 0 n c.loop-n-test.true)) c.in_ok-end.ensures.number c.in_ok-end.ensures.found
     c.in_ok-end.ensures.bare c.in_ok-push.ensures.ok before in
     record { value = h.value; ends = h.ends }

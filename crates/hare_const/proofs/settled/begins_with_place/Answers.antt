@@ -24,5 +24,6 @@ returns-then-has_base c e g =
     let x = c.in-Some.kid.now in
     let global : is_global_path (own_kind x) (mark_of x) ≡ true = sym c.is_global_path.ensures ∙ c.if-not-is_global_path.false in
     let void : names_void s (mark_of x).meaning (mark_of x).ty ≡ false =
-    sym (ap (λ y. names_void s (mark_of y).meaning (mark_of y).ty) c.kid.view_is) ∙ sym c.names_void.ensures ∙ not-true c.names_void.result e in
+    sym (ap (λ y. names_void s (mark_of y).meaning (mark_of y).ty) c.kid.view_is) ∙ sym c.names_void.ensures
+    ∙ not-true c.names_void.result e in
     first_placed s c.args.t.now x _ _ c.t.inside.kids c.t.view_is c.in-Some.ensures.found global void

@@ -26,7 +26,8 @@ returns c e =
     let s = c.args.s.now in
     let t = c.args.t.now in
     let all = count-kids t _ _ c.t.inside.kids c.t.view_is in
-    let many : c.saturating_sub-i-end.result ≡ items_of kind.StructLit (kids_of t) = omega (arith, all, c.saturating_sub-i-end.ensures, c.len.ensures) in
+    let many : c.saturating_sub-i-end.result ≡ items_of kind.StructLit (kids_of t) =
+    omega (arith, all, c.saturating_sub-i-end.ensures, c.len.ensures) in
     let whole : All (HasPart s c.args.of) (fields_from s (ty.Of c.args.of) 1 c.saturating_sub-i-end.result t)
     = fields_there s (ty.Of c.args.of) t c.args.of c.loop-i.i c.saturating_sub-i-end.result _ c.loop-i-test.false c.loop-i.invariant in
     subst (λ f. All (HasPart s c.args.of) (fields_from s f 1 (items_of kind.StructLit (kids_of t)) t)) (sym c.requires.own)

@@ -8,4 +8,5 @@ use Rattle.hare_const.proofs.settled.has_fields.Given as goal
 -- all are parts where those are that are left
 abbrev pub invariant-loop-i : goal.invariant-loop-i
 invariant-loop-i l =
-    All (HasPart l.s l.of) (fields_from l.s (ty.Of l.of) (suc l.i) (l.i-end - l.i) l.t) → All (HasPart l.s l.of) (fields_from l.s (ty.Of l.of) 1 l.i-end l.t)
+    All (HasPart l.s l.of) (fields_from l.s (ty.Of l.of) (suc l.i) (l.i-end - l.i) l.t) →
+    All (HasPart l.s l.of) (fields_from l.s (ty.Of l.of) 1 l.i-end l.t)

@@ -18,7 +18,8 @@ loop-i-preserved c = record {
   end = omega (arith, c.round_up.ensures.within, c.in-Some.ensures.modest.size, c.loop-i.invariant.end);
   value = λ xs e.
       let rest = c.loop-i.invariant.value xs e in
-      let next = known_next (extent_at c.args.s.now) (parts_in c.args.row.now) c.loop-i.i c.part_at.result rest.0 c.part_at.ensures rest.1 in
+      let next = known_next (extent_at c.args.s.now)
+      (parts_in c.args.row.now) c.loop-i.i c.part_at.result rest.0 c.part_at.ensures rest.1 in
       let both = c.in-Some.ensures.value ∙ next.2 in
       let same : c.in-Some.x ≡ next.0 = cc in (
         next.1,

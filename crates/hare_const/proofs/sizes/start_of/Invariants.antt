@@ -12,5 +12,6 @@ invariant-loop-i l =
     record {
       end : l.end ≤ l.i * 2199023255552;
       value : (xs : List Extent) → all_known (extent_at l.s) (parts_in l.row) ≡ Some xs
-          → (ys : List Extent) × (all_known (extent_at l.s) (drop l.i (parts_in l.row)) ≡ Some ys) × (field_start l.end ys (l.k - l.i) ≡ field_start 0 xs l.k);
+          → (ys : List Extent) × (all_known (extent_at l.s) (drop l.i (parts_in l.row)) ≡ Some ys) × (field_start l.end ys (l.k - l.i)
+          ≡ field_start 0 xs l.k);
     }
