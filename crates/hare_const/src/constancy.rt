@@ -136,7 +136,7 @@ pub(crate) fn names_void(s: &TypeStore, meaning: Meaning, t: Ty) -> bool
 }
 
 /// Whether there is a constant.
-pub(crate) fn is_known(value: &Const) -> bool
+fn is_known(value: &Const) -> bool
     ensures { result ≡ known value.now }
 {
     matches!(value, Const::Known { .. })
