@@ -7,6 +7,13 @@ pub mod AddressLemmas
 pub mod ArrayLemmas
 pub mod PlacingLemmas
 pub mod PartLemmas
+pub mod SizeLemmas
+pub mod LaterTypes
+pub mod LaterNodes
+pub mod LaterTrees
+pub mod SettledLemmas
+pub mod FoldedLemmas
+pub mod StaticLemmas
 pub mod WalkLemmas
 mod ExampleConstants
 mod ConstantRows

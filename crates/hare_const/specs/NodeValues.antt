@@ -13,8 +13,6 @@ use Rattle.hare_types.specs.declared.coercion.Ty.{Ty}
 use Rattle.hare_types.specs.declared.coercion.Ty.TheVariants as kept
 use Rattle.hare_types.specs.Store.{Store}
 use Rattle.hare_types.specs.Assign.{IsIn}
-use Rattle.hare_layout.specs.Small.{IsSmall}
-use Rattle.hare_layout.specs.Offsets.{HasField}
 use Rattle.hare_typed.specs.declared.cell.Cell.{Cell}
 use Rattle.hare_typed.specs.declared.constant.Const.{Const}
 use Rattle.hare_typed.specs.declared.constant.Const.TheVariants as constant
@@ -22,7 +20,7 @@ use Rattle.hare_typed.specs.Typed.{TypedNode, TypedNodes, marked, typed_none, ty
 use Rattle.hare_typed.specs.Order.{kid_from_front}
 use Rattle.hare_typed.specs.Constants.{own_kind}
 use Rattle.hare_typed.specs.Given.{base_row, first_given, is_str, size_in}
-use Rattle.hare_typed.specs.Constancy.{is_constant, first_inconstant, first_inconstant_of}
+use Rattle.hare_typed.specs.Constancy.{begins_with_global, is_constant, first_inconstant, first_inconstant_of}
 use Rattle.hare_typed.specs.Weight.{items_of}
 use Rattle.hare_typed.specs.Cells.{undefined_cells}
 use Rattle.hare_typed.specs.Repeats.{again}
@@ -37,6 +35,7 @@ use Rattle.hare_typed.specs.Evaluated.{is_evaluated, first_is_place}
 use Rattle.hare_typed.specs.ConstantForms.{own_type, type_of_kid, is_iconst, int_in, bool_cells, truth, is_whole, cast_cells, offset_in, part_named, made_of, counted_from, fields_from, joined, last_of, repeats, is_array_row}
 use Rattle.hare_typed.specs.ConstantValues.{without_run}
 use Rattle.hare_const.specs.Operators.{IsWidth}
+use Rattle.hare_const.specs.Sizes.{Fits, HasPart}
 use Rattle.hare_const.specs.declared.operands.Operands.{Operands}
 use Rattle.hare_const.specs.declared.operands.Operands.TheVariants.{NoKid, OneKid, TwoKids, RightIfOpen, Components, Fields, Elements}
 use Rattle.hare_const.specs.declared.outcome.Outcome.{Outcome}
@@ -303,7 +302,7 @@ abbrev mutual
 
 -- where a type has a size, it is one that can be told
 abbrev pub IsSized : Store → Ty → Type 0
-IsSized s (kept.Of t) = IsSmall s t
+IsSized s (kept.Of t) = Fits s t
 IsSized s (kept.Iconst v) = Unit {0}
 IsSized s kept.Null = Unit {0}
 IsSized s kept.Empty = Unit {0}
@@ -316,10 +315,10 @@ HasNumber s t = is_iconst (own_type t) ≡ false → IsWidth (int_in s (own_type
 abbrev pub HasNumbers : Store → TypedNode → Type 0
 HasNumbers s t = HasNumber s t × (is_iconst (own_type t) ≡ false → is_iconst (type_of_kid 1 t) ≡ false)
 
--- an equality compares numbers or bools, and an address is that of a place
+-- an equality compares numbers or bools, and a global whose address is taken is a place
 abbrev pub PlainKind : Store → Kind → TypedNodes → Type 0
 PlainKind s kind.Equal ts = is_str s (first_given ts) ≡ false
-PlainKind s kind.Addr ts = first_is_place s ts ≡ true
+PlainKind s kind.Addr ts = begins_with_global ts ≡ true → first_is_place s ts ≡ true
 PlainKind s _ ts = Unit {0}
 
 -- no value of the tree rests on what an object holds
@@ -333,7 +332,7 @@ abbrev mutual
 
 -- the type is a struct or tuple whose size can be told, and has these parts
 abbrev pub HasParts : Store → Ty → List ℕ → Type 0
-HasParts s (kept.Of f) ns = IsSmall s f × All (HasField s f) ns
+HasParts s (kept.Of f) ns = Fits s f × All (HasPart s f) ns
 HasParts s (kept.Iconst v) ns = ⊥
 HasParts s kept.Null ns = ⊥
 HasParts s kept.Empty ns = ⊥

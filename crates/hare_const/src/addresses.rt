@@ -44,7 +44,7 @@ fn slice_cells(alloc: Global, object: u64, count: u64) -> Result<Cells, AllocErr
 }
 
 /// The number of the object of a node: of a string, or of an array that becomes a slice.
-fn object_number(own: u32, t: &Typed) -> u64
+pub(crate) fn object_number(own: u32, t: &Typed) -> u64
     requires { own < 2 ^ 32 - 1 }
     ensures { result ≡ spec.object_number own t.now }
 {

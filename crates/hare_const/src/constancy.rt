@@ -125,7 +125,7 @@ fn is_void(s: &TypeStore, t: TypeId) -> bool
 }
 
 /// Whether a path means the declared type that it has as its type, and whose base is void.
-fn names_void(s: &TypeStore, meaning: Meaning, t: Ty) -> bool
+pub(crate) fn names_void(s: &TypeStore, meaning: Meaning, t: Ty) -> bool
     requires { IsIn s.now t }
     ensures { result ≡ spec.names_void s.now meaning t }
 {
@@ -166,7 +166,7 @@ fn is_counted(s: &TypeStore, t: Ty) -> bool
 }
 
 /// Whether a tree is a path to a global.
-fn is_global_path(t: &Typed) -> bool
+pub(crate) fn is_global_path(t: &Typed) -> bool
     ensures { result ≡ spec.is_global_path (own_kind t.now) (mark_of t.now) }
 {
     match t.kind {

@@ -1,4 +1,4 @@
-//! Constants: whether they cover a type, and which of them may be the length of an array.
+//! Constants: what a tree has as its constant, whether constants cover a type, and which may be the length of an array.
 #![tactic(auto)]
 
 mod addresses;
@@ -6,31 +6,38 @@ mod array;
 mod calculated;
 mod casts;
 mod constancy;
-mod constant;
 mod cover;
+mod folded;
 mod kids;
+mod laws;
+mod leads;
 mod length;
 mod literals;
 mod measures;
 mod node;
 mod number;
+mod objects;
 mod operands;
 mod operators;
 mod outcome;
 mod parts;
 mod placing;
+mod settled;
 mod shape;
+mod sizes;
 #[cfg(test)]
 mod tests;
 mod unions;
 mod walk;
 
-pub use constant::constant_cells;
 pub use cover::{Limits, covers, limits_at};
+pub use folded::{constant, constant_cells};
+pub use laws::law_constants_stay;
 pub use length::array_length;
 pub use number::{little_endian, number_cells, number_of, number_of_value};
 pub use operators::{
     Arithmetic, IntType, Logic, Order, Shift, combined, complemented, computed, in_order,
     leaves_open, negated, same_number, shifted,
 };
+pub use settled::is_settled;
 pub use unions::union_cells;

@@ -1,6 +1,7 @@
 //! Literals, and names that stand for what is known.
 
 ghost use Rattle.std.specs.Prelude.{◌≡◌, ◌<◌, ◌^◌, IfOk};
+ghost use Rattle.hare_typed.specs.Cells.{byte_cells};
 ghost use Rattle.hare_typed.specs.Typed.{head_of};
 ghost use Rattle.hare_typed.specs.ConstantForms.{bool_cells as cells_of_bool};
 ghost use Rattle.hare_const.specs.NodeValues as spec;
@@ -43,4 +44,15 @@ pub(crate) fn cells_known(alloc: Global, value: &Const) -> Result<Cells, AllocEr
         copy.append(alloc, cells)?;
     }
     Ok(copy)
+}
+
+/// Bytes as the cells of an object.
+pub(crate) fn cells_of_bytes(alloc: Global, bytes: &[u8]) -> Result<Cells, AllocError>
+    ensures { IfOk result (λ cells. cells ≡ byte_cells bytes.now) }
+{
+    let mut cells = Cells::new(alloc);
+    for b in bytes {
+        cells.push(Cell::Byte(*b))?;
+    }
+    Ok(cells)
 }

@@ -14,7 +14,7 @@ use crate::kids::type_of_kid;
 use crate::number::number_cells;
 use crate::parts::{part_named, part_number};
 use crate::shape::base_row;
-use hare_layout::{align_of, offset_of, size_of};
+use crate::sizes::{align_of, offset_of, size_of};
 use hare_typed::{Cells, Typed};
 use hare_types::{Row, Ty, TypeId, TypeStore};
 use std::alloc::{AllocError, Global};
@@ -85,7 +85,7 @@ fn reached_within(s: &TypeStore, t: Ty, most: u64) -> Ty
 }
 
 /// The type in which the field stands that an `offset(..)` names.
-fn type_with_offset(s: &TypeStore, t: &Typed) -> Ty
+pub(crate) fn type_with_offset(s: &TypeStore, t: &Typed) -> Ty
     ensures { result ≡ spec.type_with_offset s.now t.now }
 {
     match t.kids.get(0) {
@@ -95,7 +95,7 @@ fn type_with_offset(s: &TypeStore, t: &Typed) -> Ty
 }
 
 /// Which part of that type the field is.
-fn part_with_offset(s: &TypeStore, whole: TypeId, t: &Typed) -> u128
+pub(crate) fn part_with_offset(s: &TypeStore, whole: TypeId, t: &Typed) -> u128
     requires { spec.type_with_offset s.now t.now ≡ ty.Of whole }
     ensures { result ≡ spec.part_with_offset s.now t.now }
 {

@@ -5,21 +5,20 @@ ghost use Rattle.std.specs.List.{All};
 ghost use Rattle.hare_tree.specs.declared.kind.Kind.TheVariants as kind;
 ghost use Rattle.hare_types.specs.declared.coercion.Ty.TheVariants as ty;
 ghost use Rattle.hare_types.specs.ByIds.{field_at};
-ghost use Rattle.hare_layout.specs.Small.{IsSmall};
-ghost use Rattle.hare_layout.specs.Offsets.{HasField};
 ghost use Rattle.hare_typed.specs.Typed.{head_of, kids_of};
 ghost use Rattle.hare_typed.specs.Weight.{items_of};
 ghost use Rattle.hare_typed.specs.ConstantForms as forms;
 ghost use Rattle.hare_typed.specs.ConstantForms.{own_type};
 ghost use Rattle.hare_const.specs.declared.outcome.Outcome.TheVariants.{Known};
+ghost use Rattle.hare_const.specs.Sizes.{Fits, HasPart};
 ghost use Rattle.hare_const.specs.NodeValues as spec;
 
 use crate::kids::kid_at;
 use crate::outcome::Outcome;
 use crate::placing::with_part;
 use crate::shape::base_row;
+use crate::sizes::{offset_of, size_of};
 use crate::unions::with_undefined;
-use hare_layout::{offset_of, size_of};
 use hare_typed::{Cells, Typed};
 use hare_types::{Row, Ty, TypeId, TypeStore};
 use std::alloc::{AllocError, Global};
@@ -95,8 +94,8 @@ fn laid(
     kids: &[Outcome],
     none: &Outcome,
 ) -> Result<Outcome, AllocError>
-    requires small { IsSmall s.now of }
-    requires parts { All (HasField s.now of) parts.now }
+    requires fits { Fits s.now of }
+    requires parts { All (HasPart s.now of) parts.now }
     requires from { from ≤ 1 }
     requires none { none.now ≡ Known [] }
     ensures { IfOk result (λ o. o ≡ spec.kids_at from (length parts.now) kids.now (λ cs. Known (forms.made_of s.now (ty.Of of) parts.now cs))) }

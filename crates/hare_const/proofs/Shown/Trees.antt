@@ -149,7 +149,7 @@ and-left : (x y : Bool) → (false || (x && y)) ≡ true → x ≡ true
 and-left true y q = refl
 and-left false y q = absurd cc
 
-not-true : (x : Bool) → not x ≡ true → x ≡ false
+pub not-true : (x : Bool) → not x ≡ true → x ≡ false
 not-true true e = absurd cc
 not-true false e = refl
 
@@ -160,7 +160,7 @@ equality_known s h m (typed_more t ts) e f = equality-row (base_row s (first_giv
 
 -- ---- the place of a global
 
-global_meaning : (m : Mark) → is_global_path kind.Path m ≡ true → (d : ℕ) × (m.meaning ≡ meant.Decl d)
+pub global_meaning : (m : Mark) → is_global_path kind.Path m ≡ true → (d : ℕ) × (m.meaning ≡ meant.Decl d)
 global_meaning m e = go m.meaning e
   where
     go : (x : Meaning) → is_global_path kind.Path (record m { meaning = x }) ≡ true → (d : ℕ) × (x ≡ meant.Decl d)
@@ -216,7 +216,8 @@ module _ (s : Store) (own : ℕ) (less : Tasks) where
       (hides_kids k ts ≡ false → (i : ℕ) → Shows own (kid_act (constant_forms (without_run s)) less ts i AsValue) (kid_at i (kid_values s own ts))) →
       Ready s own (over h ts) less (kid_values s own ts) (marked h m ts) k
   ready h kind.Addr m ts e p f = λ sc st q.
-      first-reached h m ts (and-left (begins_with_global ts) (not (m.coerce.row == 2)) e) p
+      let g = and-left (begins_with_global ts) (not (m.coerce.row == 2)) e in
+      first-reached h m ts g (p g)
       (record sc { first = sc.first + own_bindings h.kind }) st q
   ready h kind.Offset m ts e p f = tt
   ready h kind.Equal m ts e p f = (

@@ -9,7 +9,7 @@ pub loop-i-preserved : goal.loop-i-preserved
 loop-i-preserved c =
     placed_more c.args.s.now (ty.Of c.args.of) c.size_of-size.result c.args.parts.now c.args.from c.args.kids.now c.loop-i.i c.offset_of-start.result
     c.loop-i.whole c.in_ok-whole-in-Known.whole c.in-Known.cells c.loop-i.invariant c.loop-i-test.true (sym c.kid_at.ensures ∙ c.in-Known.is)
-    (sym (ap (λ o. unwrap_or o 0) c.offset_of-start.ensures.at)) c.in_ok-whole-in-Known.ensures.within c.in_ok-whole-in-Known.ensures.value
+    (sym (ap (λ o. unwrap_or o 0) c.offset_of-start.ensures)) c.in_ok-whole-in-Known.ensures.within c.in_ok-whole-in-Known.ensures.value
 
 pub returns : goal.returns
 returns c =

@@ -3,7 +3,7 @@ use Rattle.hare_typed.specs.Folded.{inconstant}
 use Rattle.hare_const.specs.NodeValues.{Refuses, cells_of}
 use Rattle.hare_const.proofs.WalkLemmas.{err-same}
 use Rattle.hare_const.proofs.Shown.Trees.{folded_cells, folded_refused}
-use Rattle.hare_const.proofs.constant.constant_cells.Goals as goal
+use Rattle.hare_const.proofs.folded.constant_cells.Goals as goal
 
 pub returns-in_err-outcome-clause-err : goal.returns-in_err-outcome-clause-err
 returns-in_err-outcome-clause-err c =

@@ -1,0 +1,227 @@
+//! Which trees have a constant that can be told, and is in each later store the same.
+
+ghost use Rattle.std.specs.Prelude.{◌≡◌, ◌<◌, ℕ, true, [], ◌∷◌};
+ghost use Rattle.std.specs.List.{All};
+ghost use Rattle.hare_tree.specs.declared.kind.Kind.TheVariants as kind;
+ghost use Rattle.hare_types.specs.declared.coercion.Ty.TheVariants as ty;
+ghost use Rattle.hare_typed.specs.Typed.{typed_nodes, kids_of};
+ghost use Rattle.hare_typed.specs.Constants.{own_kind};
+ghost use Rattle.hare_typed.specs.Given.{is_str as str_type};
+ghost use Rattle.hare_typed.specs.ConstantForms.{own_type, int_in, is_iconst as iconst};
+ghost use Rattle.hare_const.specs.Operators.{IsWidth};
+ghost use Rattle.hare_const.specs.Sizes.{Fits, HasPart};
+ghost use Rattle.hare_const.specs.NodeValues as values;
+ghost use Rattle.hare_const.specs.Settled as spec;
+
+use crate::constancy::{is_global_path, names_void};
+use crate::kids::{first_given, type_of_kid};
+use crate::measures::{part_with_offset, type_with_offset};
+use crate::parts::part_named;
+use crate::shape::{Shape, base_row, shape_at};
+use crate::sizes::{fits, has_part, part_count};
+use hare_tree::Kind;
+use hare_typed::{Typed, TypedKids};
+use hare_types::{Row, Scalar, Ty, TypeId, TypeStore};
+
+/// The number of the row of the table of assignability by which a value goes to a union.
+const TO_UNION: u8 = 9;
+
+/// Literals below this are numbers of some type.
+const END_OF_NUMBERS: u128 = 1 << 127;
+
+/// Whether each name is defined to which a type comes, where there is one.
+fn has_base(s: &TypeStore, t: Ty) -> bool
+    ensures { result ≡ true → spec.HasBase s.now t }
+{
+    match t {
+        Ty::Of(t) => s.base(t).is_some(),
+        Ty::Iconst(_) | Ty::Null | Ty::Empty => true,
+    }
+}
+
+/// Whether it is a whole number without a suffix.
+fn is_iconst(t: Ty) -> bool
+    ensures { result ≡ iconst t }
+{
+    matches!(t, Ty::Iconst(_))
+}
+
+/// Whether a type has bits that operators work on.
+fn has_width(s: &TypeStore, t: Ty) -> bool
+    ensures { result ≡ true → IsWidth (int_in s.now t).bits }
+{
+    let Ty::Of(t) = t else {
+        return false;
+    };
+    match shape_at(s, t) {
+        Some(Shape::Whole(bytes, _)) => bytes > 0,
+        Some(Shape::Truth | Shape::Reference | Shape::Nullable) => true,
+        None => false,
+    }
+}
+
+/// Whether an operator gives a number with bits, of an operand with a type; or has no type itself.
+fn has_number(s: &TypeStore, t: &Typed) -> bool
+    ensures { result ≡ true → values.HasNumber s.now t.now }
+{
+    is_iconst(t.ty) || (has_width(s, t.ty) && !is_iconst(type_of_kid(t, 0)))
+}
+
+/// The same of two operands.
+fn has_numbers(s: &TypeStore, t: &Typed) -> bool
+    ensures { result ≡ true → values.HasNumbers s.now t.now }
+{
+    has_number(s, t) && (is_iconst(t.ty) || !is_iconst(type_of_kid(t, 1)))
+}
+
+/// Whether the size of a type can be told, where there is one.
+fn is_sized(s: &TypeStore, t: Ty) -> bool
+    ensures { result ≡ true → values.IsSized s.now t }
+{
+    match t {
+        Ty::Of(t) => fits(s, t),
+        Ty::Iconst(_) | Ty::Null | Ty::Empty => true,
+    }
+}
+
+/// Whether the base of a type is str.
+fn is_str(s: &TypeStore, t: Ty) -> bool
+    ensures { result ≡ str_type s.now t }
+{
+    let Ty::Of(t) = t else {
+        return false;
+    };
+    matches!(base_row(s, t), Some(Row::Scalar(Scalar::Str)))
+}
+
+/// Whether a type that fits has so many parts.
+fn has_parts(s: &TypeStore, of: TypeId, count: usize) -> bool
+    requires { Fits s.now of }
+    ensures { result ≡ true → (k : ℕ) → k < count → HasPart s.now of k }
+{
+    count == 0 || has_part(s, of, (count - 1) as u128)
+}
+
+/// Whether a tuple has a type with the components that it gives.
+fn gives_components(s: &TypeStore, t: &Typed) -> bool
+    ensures { result ≡ true → values.HasParts s.now (own_type t.now) (values.components_given t.now) }
+{
+    let Ty::Of(of) = t.ty else {
+        return false;
+    };
+    fits(s, of) && has_parts(s, of, t.kids.len().saturating_sub(1))
+}
+
+/// Whether a type that fits has the fields that a struct gives.
+fn has_fields(s: &TypeStore, of: TypeId, t: &Typed) -> bool
+    requires fits { Fits s.now of }
+    requires own { own_type t.now ≡ ty.Of of }
+    ensures { result ≡ true → All (HasPart s.now of) (values.fields_given s.now t.now) }
+{
+    for i in 0..t.kids.len().saturating_sub(2) {
+        let Some(field) = t.kids.get(i + 1) else {
+            return false;
+        };
+        if !has_part(s, of, part_named(s, of, field)) {
+            return false;
+        }
+    }
+    true
+}
+
+/// Whether a struct has a type with the fields that it gives.
+fn gives_fields(s: &TypeStore, t: &Typed) -> bool
+    ensures { result ≡ true → values.HasParts s.now (own_type t.now) (values.fields_given s.now t.now) }
+{
+    let Ty::Of(of) = t.ty else {
+        return false;
+    };
+    fits(s, of) && has_fields(s, of, t)
+}
+
+/// Whether what an `offset(..)` names is a part of a type whose size can be told.
+fn has_offset(s: &TypeStore, t: &Typed) -> bool
+    ensures { result ≡ true → values.HasParts s.now (values.type_with_offset s.now t.now) (values.part_with_offset s.now t.now ∷ []) }
+{
+    let Ty::Of(whole) = type_with_offset(s, t) else {
+        return false;
+    };
+    fits(s, whole) && has_part(s, whole, part_with_offset(s, whole, t))
+}
+
+/// Whether a node has what each node of its kind has that meets its rules, and is not the length of a text.
+fn is_simple_kind(s: &TypeStore, t: &Typed) -> bool
+    ensures { result ≡ true → values.SimpleKind s.now t.now (own_kind t.now) }
+{
+    match t.kind {
+        Kind::Number | Kind::RuneLit => t.number < END_OF_NUMBERS,
+        Kind::Neg | Kind::Not | Kind::Shift => has_number(s, t),
+        Kind::Arith => has_numbers(s, t),
+        Kind::Size | Kind::Align => is_sized(s, type_of_kid(t, 0)),
+        Kind::Len => !is_str(s, type_of_kid(t, 0)),
+        Kind::Tuple => gives_components(s, t),
+        Kind::StructLit => gives_fields(s, t),
+        Kind::Offset => has_offset(s, t),
+        _ => true,
+    }
+}
+
+/// Whether the first kid, where it is a path to a global, is a place.
+fn begins_with_place(s: &TypeStore, t: &Typed) -> bool
+    ensures { result ≡ true → values.PlainKind s.now kind.Addr (kids_of t.now) }
+{
+    let Some(kid) = t.kids.get(0) else {
+        return true;
+    };
+    if !is_global_path(kid) {
+        return true;
+    }
+    has_base(s, kid.ty) && !names_void(s, kid.meaning, kid.ty)
+}
+
+/// Whether a node is no equality of texts, and no address of what is no place.
+fn is_plain_kind(s: &TypeStore, t: &Typed) -> bool
+    ensures { result ≡ true → values.PlainKind s.now (own_kind t.now) (kids_of t.now) }
+{
+    match t.kind {
+        Kind::Equal => !is_str(s, first_given(t)),
+        Kind::Addr => begins_with_place(s, t),
+        _ => true,
+    }
+}
+
+/// Whether the value of a node can be told of its kids', and rests on no name that is not defined.
+fn is_settled_node(s: &TypeStore, t: &Typed) -> bool
+    ensures { result ≡ true → spec.IsSettledNode s.now t.now }
+{
+    has_base(s, t.ty)
+        && has_base(s, t.coerce.to)
+        && t.coerce.row != TO_UNION
+        && is_simple_kind(s, t)
+        && is_plain_kind(s, t)
+}
+
+/// Whether the constant of a tree can be told, and rests on no name that is not defined yet. The work of a node is constant, but for the fields of a
+/// struct, and the call goes as deep in the host as the tree is.
+#[cycle(settled)]
+pub fn is_settled(s: &TypeStore, t: &Typed) -> bool
+    ensures { result ≡ true → spec.IsSettled s.now t.now }
+{
+    is_settled_node(s, t) && are_settled(s, &t.kids)
+}
+
+/// The same of each of some trees.
+#[cycle(settled)]
+fn are_settled(s: &TypeStore, kids: &TypedKids) -> bool
+    ensures { result ≡ true → spec.AreSettled s.now (typed_nodes kids.now) }
+{
+    for i in 0..kids.len() {
+        let Some(kid) = kids.get(i) else {
+            return false;
+        };
+        if !is_settled(s, kid) {
+            return false;
+        }
+    }
+    true
+}
