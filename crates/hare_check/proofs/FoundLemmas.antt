@@ -130,7 +130,8 @@ type-finding r w n xs x u e t k q = record {
 }
 
 -- the same of what a judge of written types answers
-pub type-answer : (r : Store) (w : Walker) (n : Node) (xs : List TypedNode) (q : Result Finding (Stop Fault)) → is_type (head n).kind ≡ true →
+pub type-answer : (r : Store) (w : Walker) (n : Node) (xs : List TypedNode) (q : Result Finding (Stop Fault)) →
+    is_type (head n).kind ≡ true →
     IfOk q (λ x. IsFound (program_of w) r (above_of w) (head n) xs w.seen x) → IfOk q (λ x. length x.kids ≡ length xs) →
     IfOk q (λ x. (u : ℕ) × (x.ty ≡ ty.Of u)) → IfOk q (λ x. (u : ℕ) → x.ty ≡ ty.Of u → IsKnown r u) → IfOk q (λ x. IsDefinedFinding r x) →
     IfOk q (λ x. IsFindingOf r w n xs x)

@@ -38,7 +38,8 @@ pub record IsJudgedAt (r : Store) (w : Walker) (t : Turn) (gs : List Given) : Ty
   pub hand : t.kids.now ≡ (context_at (program_of w) (above_of w) t.node.now t.kids.now w.seen r).kids
   pub turn : IsAtTurn (program_of w) r (above_of w) w.seen t gs
   pub void :
-      kind_in t ≡ ki.Yield → (l : Store) → IsLater r l → MeansInside (context_at (program_of w) (above_of w) t.node.now t.kids.now w.seen l) →
+      kind_in t ≡ ki.Yield → (l : Store) → IsLater r l →
+      MeansInside (context_at (program_of w) (above_of w) t.node.now t.kids.now w.seen l) →
       IsTakenAt r w t.node.now t.kids.now
 
 judged-finding : (r : Store) (w : Walker) (t : Turn) (gs : List Given) (x : Finding) → IsJudgedAt r w t gs →
@@ -77,7 +78,8 @@ judged-answer r w t gs (Ok x) k f m d =
 
 pub judged-stop : (r : Store) (w : Walker) (t : Turn) (gs : List Given) (q : Result Finding (Stop Fault)) →
     IsAtTurn (program_of w) r (above_of w) w.seen t gs →
-    IfErr q (λ e. (v : Store → Setting) (a : Above) (f : Flow) → IsAtTurn v r a f t gs → IsTurnedBack v r a (head t.node.now) t.kids.now f e) →
+    IfErr q (λ e. (v : Store → Setting) (a : Above) (f : Flow) → IsAtTurn v r a f t gs →
+    IsTurnedBack v r a (head t.node.now) t.kids.now f e) →
     IfErr q (λ e. IsStopOf r w t.node.now t.kids.now e)
 judged-stop r w t gs (Ok x) k f = tt
 judged-stop r w t gs (Err e) k f = f (program_of w) (above_of w) w.seen k

@@ -56,7 +56,8 @@ ready-turn s w t st a k q m y =
     let d = a.walks.1 in
     let shaped = judged-shaped t.node.now a.part k in
     let hint : t.case.now.hint ≡ (above_of w).hint = ap (λ c. c.hint) q.case ∙ ap (λ b. b.hint) q.above in
-    let result : t.case.now.inside.result ≡ (above_of w).inside.result = ap (λ c. c.inside.result) q.case ∙ ap (λ b. b.inside.result) q.above in
+    let result : t.case.now.inside.result ≡ (above_of w).inside.result = ap (λ c. c.inside.result) q.case
+    ∙ ap (λ b. b.inside.result) q.above in
     record {
       turn = record {
         shaped = shaped;

@@ -75,8 +75,10 @@ turned-at w s a n xs f g x m ys l q d =
     sym (bare_each-nodes ys ∙ ap (map bare) q.kids ∙ bare-coated xs (map option_in x.kids)) in
     p
     ∙ ap (λ z. Ok (found (marked (head n) z (typed_nodes (map bare xs))) (flow_after (w l) a (head n) (map bare xs) f))) e
-    ∙ ap (λ zs. Ok (found (marked (head n) (record m { coerce = same m.ty }) (typed_nodes zs)) (flow_after (w l) a (head n) (map bare xs) f))) kids
-    ∙ ap (λ z. Ok (found (marked (head n) (record m { coerce = same m.ty }) (typed_nodes (bare_each (typed_nodes ys)))) z)) (sym (q.flow l d))
+    ∙ ap (λ zs. Ok (found (marked (head n) (record m { coerce = same m.ty }) (typed_nodes zs)) (flow_after (w l) a (head n)
+    (map bare xs) f))) kids
+    ∙ ap (λ z. Ok (found (marked (head n) (record m { coerce = same m.ty }) (typed_nodes (bare_each (typed_nodes ys)))) z)) (sym
+    (q.flow l d))
 
 pub is_turned : (w : Store → Setting) (s : Store) (a : Above) (n : Node) (xs : List TypedNode) (f g : Flow) (x : Finding) (m : Mark)
     (ys : List TypedNode) → IsClosed w s a n xs f g x m ys → IsTurned w s a (head n) xs f (marked (head n) m (typed_nodes ys)) g
