@@ -3,8 +3,8 @@ use Rattle.std.proofs.Common.{◌≡◌, [], ◌∷◌, codes, refl}
 use Rattle.hare_tree.specs.declared.kind.Kind.TheVariants as kind
 use Rattle.hare_typed.specs.Typed.{TypedNode}
 use Rattle.hare_typed.specs.State.{Exit, Undefined}
-use Rattle.hare_meaning.proofs.Samples.{void, never, bool, u8, byte_pointer, failure, void_or_failure}
-use Rattle.hare_meaning.proofs.Trees.{place, at, to, either, absent, node, one, main, function, call, puts, later, block, giving, labelled, outcome, output, ends, shows, exit, bind, local, hand, set, leave, again, give, loop, yes, no, n8, plus, times, type_node}
+use Rattle.hare_meaning.proofs.Samples.{void, never, bool, u8, int, byte_pointer, failure, void_or_failure, bad, bool_or_bad}
+use Rattle.hare_meaning.proofs.Trees.{place, at, to, either, absent, node, one, main, function, call, puts, later, block, giving, labelled, outcome, output, ends, shows, exit, bind, local, hand, set, leave, again, give, loop, yes, no, n8, num, plus, times, type_node}
 
 -- ---- blocks
 
@@ -81,12 +81,24 @@ returned_before : outcome
     ∷ function [] u8 (giving u8 (bind (n8 1) ∷ later (set (local 0 u8) (n8 2)) ∷ give (local 0 u8) ∷ [])) ∷ []) 1 ≡ Exit 1
 returned_before = refl
 
--- an exit and an abort run none
+-- so it is of an error that is returned: what is deferred makes a value of it, too late
+returned_error_before : outcome
+    (main (exit (either u8 (node kind.Is [] 0 bool (call 1 bool_or_bad [] ∷ type_node bool ∷ [])) (n8 1) (n8 2)) ∷ [])
+    ∷ function [] bool_or_bad (giving bool_or_bad (bind (to 9 bool_or_bad (node kind.Cast [] 0 bad (num int 5 ∷ type_node bad ∷ [])))
+    ∷ later (set (local 0 bool_or_bad) (to 9 bool_or_bad yes)) ∷ one kind.Try bool (local 0 bool_or_bad)
+    ∷ hand (to 9 bool_or_bad yes) ∷ [])) ∷ []) 1 ≡ Exit 2
+returned_error_before = refl
+
+-- an exit, an abort and an undefined act run none
 none_by_exit : shows (later (puts 0 (codes "a")) ∷ exit (n8 1) ∷ []) 0 ≡ []
 none_by_exit = refl
 
 none_by_abort : shows (later (puts 0 (codes "a")) ∷ node kind.Abort [] 0 never (absent ∷ []) ∷ []) 0 ≡ []
 none_by_abort = refl
+
+none_by_an_undefined_act : shows (later (puts 0 (codes "a"))
+    ∷ one kind.Deref u8 (giving byte_pointer (bind (n8 2) ∷ hand (one kind.Addr byte_pointer (local 0 u8)) ∷ [])) ∷ []) 0 ≡ []
+none_by_an_undefined_act = refl
 
 -- one that ends the program does so, and those left do not run
 exit_in_deferred : ends (later (exit (n8 1)) ∷ later (exit (n8 2)) ∷ []) 0 ≡ Exit 2

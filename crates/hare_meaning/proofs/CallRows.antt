@@ -7,7 +7,7 @@ use Rattle.hare_typed.specs.Typed.{TypedNode}
 use Rattle.hare_typed.specs.State.{Exit, Abort, Over, Spent, Undefined}
 use Rattle.hare_meaning.specs.Run.{run}
 use Rattle.hare_meaning.proofs.Samples.{void, never, u8, size, str, bytes, four_bytes, byte_pointer}
-use Rattle.hare_meaning.proofs.Trees.{place, at, absent, node, one, main, function, call, rt, puts, text, block, giving, outcome, output, ends, shows, result_of, counting_calls, exit, tell, bind, local, hand, set, give, either, when, n8, num, plus, times, equal, array, part, global, known}
+use Rattle.hare_meaning.proofs.Trees.{place, at, absent, node, one, main, function, call, rt, puts, text, later, block, giving, outcome, output, ends, shows, result_of, counting_calls, exit, tell, bind, local, hand, set, give, either, when, n8, num, plus, times, equal, array, part, global, known}
 
 -- ---- calls
 
@@ -81,6 +81,11 @@ call_of_main = refl
 -- a call is over where the measure of the stack would pass 2^30
 over : (run (counting_calls (2 ^ 30) (main (exit (call 1 u8 (n8 1 ∷ n8 2 ∷ [])) ∷ []) ∷ joined ∷ [])) [] [] 1).0 ≡ Over
 over = refl
+
+-- and what is deferred does not run then
+none_by_over : (run (counting_calls (2 ^ 30) (main (later (puts 0 (codes "a")) ∷ call 1 void [] ∷ []) ∷ function [] void (block [])
+    ∷ [])) [] [] 1).1.output ≡ []
+none_by_over = refl
 
 just_not_over : (run (counting_calls (2 ^ 29) (main (exit (call 1 u8 (n8 1 ∷ n8 2 ∷ [])) ∷ []) ∷ joined ∷ [])) [] [] 1).0 ≡ Exit 18
 just_not_over = refl

@@ -3,7 +3,7 @@ use Rattle.std.proofs.Common.{◌≡◌, ℕ, [], ◌∷◌, codes, refl}
 use Rattle.hare_tree.specs.declared.kind.Kind.TheVariants as kind
 use Rattle.hare_typed.specs.Typed.{TypedNode}
 use Rattle.hare_typed.specs.State.{Exit, Undefined, Spent}
-use Rattle.hare_meaning.proofs.Samples.{bool, u8, size, byte_pointer, bytes, four_bytes}
+use Rattle.hare_meaning.proofs.Samples.{bool, u8, int, size, pointer, pointer_to_pointer, three_ints, byte_pointer, bytes, four_bytes}
 use Rattle.hare_meaning.proofs.Trees.{place, at, absent, one, puts, block, giving, labelled, ends, shows, exit, bind, local, hand, set, set_by, leave, again, loop, each, element, element_address, when, yes, no, n8, num, less, equal, array, part, index}
 
 -- `for (let i = 0u8; i < n; i += 1) body`
@@ -159,6 +159,24 @@ over_an_array = refl
 over_an_array_spent : ends (bind four ∷ bind (n8 0) ∷ sum_of (local 0 four_bytes) ∷ exit (local 1 u8) ∷ []) 4 ≡ Spent
 over_an_array_spent = refl
 
+-- A loop of two turns in the body of a loop over one element: the body has one turn less than the loop.
+abbrev nested_in_elements : TypedNode
+nested_in_elements =
+    each element (part bytes (local 0 four_bytes) absent (num size 1))
+    (loop (bind (n8 0)) (less (codes "<") (local 2 u8) (n8 1)) (set_by (codes "+=") (local 2 u8) (n8 1)) (puts 0 (codes "x")))
+
+nested_in_elements_output_at_1 : shows (bind four ∷ nested_in_elements ∷ []) 1 ≡ codes ""
+nested_in_elements_output_at_1 = refl
+
+nested_in_elements_at_2 : ends (bind four ∷ nested_in_elements ∷ []) 2 ≡ Spent
+nested_in_elements_at_2 = refl
+
+nested_in_elements_output_at_2 : shows (bind four ∷ nested_in_elements ∷ []) 2 ≡ codes "x"
+nested_in_elements_output_at_2 = refl
+
+nested_in_elements_at_3 : ends (bind four ∷ nested_in_elements ∷ []) 3 ≡ Exit 0
+nested_in_elements_at_3 = refl
+
 over_a_slice : ends (bind four ∷ bind (n8 0) ∷ sum_of (part bytes (local 0 four_bytes) (num size 1) (num size 3)) ∷ exit (local 1 u8)
     ∷ []) 5 ≡ Exit 5
 over_a_slice = refl
@@ -180,6 +198,16 @@ element_of_the_turn_before : ends (bind four ∷ bind (one kind.Addr byte_pointe
     (block (when (equal (local 2 u8) (n8 2)) (exit (at 7 (one kind.Deref u8 (local 1 byte_pointer)))) absent
     ∷ set (local 1 byte_pointer) (one kind.Addr byte_pointer (local 2 u8)) ∷ [])) ∷ []) 5 ≡ Undefined 1 (place 7)
 element_of_the_turn_before = refl
+
+-- and so where its address is bound: for each turn a new object that holds it
+address_of_the_turn_before : ends (bind (array three_ints (num int 1 ∷ num int 2 ∷ num int 3 ∷ []))
+    ∷ bind (one kind.Addr pointer (index int (local 0 three_ints) (num size 0)))
+    ∷ bind (one kind.Addr pointer_to_pointer (local 1 pointer))
+    ∷ each element_address (local 0 three_ints)
+    (block (when (equal (one kind.Deref int (local 3 pointer)) (num int 2))
+    (at 7 (one kind.Deref pointer (local 2 pointer_to_pointer))) absent
+    ∷ set (local 2 pointer_to_pointer) (one kind.Addr pointer_to_pointer (local 3 pointer)) ∷ [])) ∷ []) 4 ≡ Undefined 1 (place 7)
+address_of_the_turn_before = refl
 
 -- stores into an array that is gone over are seen
 stores_are_seen : ends (bind four ∷ bind (n8 0)

@@ -1,12 +1,15 @@
--- Rows of ticks that depend on the run: of compared values, and of bytes that are read, copied and moved.
-use Rattle.std.proofs.Common.{◌≡◌, ℕ, List, [], ◌∷◌, replicate, refl}
+-- Rows of ticks that depend on the run: of compared values, of bytes that are read, copied and moved, and of elements that are gone over.
+use Rattle.std.proofs.Common.{◌≡◌, ℕ, List, [], ◌∷◌, ◌++◌, replicate, refl}
 use Rattle.hare_tree.specs.declared.kind.Kind.TheVariants as kind
+use Rattle.hare_types.specs.declared.row.Row.TheVariants as row
+use Rattle.hare_types.specs.Store.{Store}
 use Rattle.hare_typed.specs.declared.cell.Cell.TheVariants.{Byte as byte}
 use Rattle.hare_typed.specs.Typed.{TypedNode}
 use Rattle.hare_typed.specs.Words.{three}
 use Rattle.hare_typed.specs.Scalars.{Address}
-use Rattle.hare_meaning.proofs.Samples.{void, u8, size, bytes, new_bytes}
-use Rattle.hare_meaning.proofs.Trees.{absent, node, main, rt, text, result, result_of, exit, bind, local, n8, num, part, index, known, alloc_for, append_all, delete, sure}
+use Rattle.hare_meaning.specs.Run.{run}
+use Rattle.hare_meaning.proofs.Samples.{types, void, u8, size, bytes, new_bytes}
+use Rattle.hare_meaning.proofs.Trees.{absent, node, main, rt, text, result, result_of, program, block, giving, loop, each, element, again, yes, exit, bind, local, n8, num, part, index, known, alloc_for, append_all, delete, sure}
 
 abbrev ticks : List TypedNode → ℕ
 ticks ts = (result (main ts ∷ []) 0).1.ticks
@@ -95,3 +98,24 @@ ticks_of_a_read = refl
 
 ticks_of_less_input : (result_of reads [] (replicate 64 98) 0).1.ticks ≡ 22
 ticks_of_less_input = refl
+
+-- ---- elements
+
+-- the types with `[128]u8` and `[2][128]u8` behind them
+abbrev wide : ℕ
+wide = 35
+
+abbrev two_wide : ℕ
+two_wide = 36
+
+abbrev with_wide : Store
+with_wide = record types { rows = types.rows ++ row.Array 128 u8 ∷ row.Array 2 wide ∷ [] }
+
+-- `for (let x: [2][128]u8 = { continue; }; true) for (let e .. x) {}`
+abbrev over_wide : TypedNode
+over_wide = loop (bind (giving two_wide (again ∷ []))) yes absent (each element (local 0 two_wide) (block []))
+
+-- 1 block; 2 loop, 2 binding, 5 block of 256 bytes, 1 `continue`, 1 test; 6 loop over elements, 1 operand; and 4 for its turn, 2 for an
+-- element of 128 bytes
+ticks_of_a_wide_element : (run (record (program (main (over_wide ∷ []) ∷ [])) { types = with_wide }) [] [] 1).1.ticks ≡ 25
+ticks_of_a_wide_element = refl
