@@ -18,5 +18,6 @@ pub mod NodeLemmas
 pub mod LookingLemmas
 pub mod JudgingLemmas
 pub mod StepLemmas
+pub mod FoldLemmas
 pub mod CloseLemmas
 pub mod SameLemmas

@@ -6,6 +6,7 @@ mod check;
 mod closing;
 mod constants;
 mod finding;
+mod folding;
 mod known;
 mod looking;
 mod meanings;
