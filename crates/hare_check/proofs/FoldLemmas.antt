@@ -28,8 +28,9 @@ mark-finished c a m r e n i v = cc
 tree-finished : (c : Context) (a : Ty) (m : Mark) (ys : List TypedNode) (r : Coercion) → IsFinishing c a m ys →
     marked c.head (record m { coerce = r }) (typed_nodes ys) ≡ finished c a r
 tree-finished c a m ys r q =
+    let n : Mark = record { node = c.node; ty = a; coerce = r; meaning = c.meaning; value = value_named c } in
     ap (λ (z : Mark). marked c.head z (typed_nodes ys)) (mark-finished c a m r q.ty q.node q.meaning q.value)
-    ∙ ap (λ zs. marked c.head (record { node = c.node; ty = a; coerce = r; meaning = c.meaning; value = value_named c }) (typed_nodes zs)) q.kids
+    ∙ ap (λ zs. marked c.head n (typed_nodes zs)) q.kids
 
 value-in : (c : Context) (a : Ty) (m : Mark) (ys : List TypedNode) → IsFinishing c a m ys → (r : Role) →
     constant_in r (store_of c) c.hint c.inside.own (marked c.head m (typed_nodes ys)) ≡ value_as c r a

@@ -14,8 +14,8 @@ use Rattle.hare_rules.specs.Values.{declared_coercion}
 abbrev pub with_constant : Const → TypedNode → TypedNode
 with_constant v (marked h m ts) = marked h (record m { value = v }) ts
 
--- The constant of a tree that is asked for this: a value of a case and the value of a declaration are folded as they will be, any other tree has what
--- stands in it.
+-- The constant of a tree that is asked for this: a value of a case and the value of a declaration are folded as they will be, any other
+-- tree has what stands in it.
 abbrev pub constant_in : Role → Store → Hint → (own : ℕ) → TypedNode → Const
 constant_in CaseValue s h own t = folded s own (with_coercion (own_coercion s h (mark_of t).ty) t)
 constant_in DeclaredValue s h own t = folded s own (with_coercion (declared_coercion s h (mark_of t).ty) t)

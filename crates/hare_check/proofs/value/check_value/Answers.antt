@@ -15,7 +15,8 @@ check_by-judged-requires-clause-ready c =
     let ds = c.args.env.now.decls.now in
     let v = c.declarations-law.ensures.sound in
     let l = c.in_ok-never.ensures.grown.later in
-    c.in_ok-w.ensures.walks r (known_stays s r v l ds c.requires.known) (decls_stay s r v l ds c.requires.decls) c.in_ok-never.ensures.defined
+    c.in_ok-w.ensures.walks r (known_stays s r v l ds c.requires.known)
+    (decls_stay s r v l ds c.requires.decls) c.in_ok-never.ensures.defined
     (hint_stays s r v l c.args.hint c.requires.hint) (head c.args.value.now).kind
 
 pub returns-clause-ok : goal.returns-clause-ok
@@ -25,9 +26,10 @@ returns-clause-ok c =
     let e = c.args.env.now in
     let w = c.in_ok-w.w in
     let later = grown-later s r c.declarations-sound.ensures.sound c.check_by-judged.ensures.grown in
-    let over = over-value (program_over e.names.now e.decls.now r) e.own c.in_ok-never.never c.args.hint (c.in_ok-never.ensures.id r later) in
-    judged-ok r c.args.value.now e.names.now w.names.now e.decls.now w.decls.now _ w.standing.above (whole.before_value c.args.value.now) w.seen
-    c.check_by-judged.result
+    let over = over-value (program_over e.names.now e.decls.now r) e.own c.in_ok-never.never c.args.hint
+    (c.in_ok-never.ensures.id r later) in
+    judged-ok r c.args.value.now e.names.now w.names.now e.decls.now w.decls.now _ w.standing.above
+    (whole.before_value c.args.value.now) w.seen c.check_by-judged.result
     (record {
       names = c.in_ok-w.ensures.names;
       decls = c.in_ok-w.ensures.decls;
@@ -43,9 +45,10 @@ returns-clause-err c =
     let e = c.args.env.now in
     let w = c.in_ok-w.w in
     let later = grown-later s r c.declarations-sound.ensures.sound c.check_by-judged.ensures.grown in
-    let over = over-value (program_over e.names.now e.decls.now r) e.own c.in_ok-never.never c.args.hint (c.in_ok-never.ensures.id r later) in
-    judged-err r c.args.value.now e.names.now w.names.now e.decls.now w.decls.now _ w.standing.above (whole.before_value c.args.value.now) w.seen
-    c.check_by-judged.result
+    let over = over-value (program_over e.names.now e.decls.now r) e.own c.in_ok-never.never c.args.hint
+    (c.in_ok-never.ensures.id r later) in
+    judged-err r c.args.value.now e.names.now w.names.now e.decls.now w.decls.now _ w.standing.above
+    (whole.before_value c.args.value.now) w.seen c.check_by-judged.result
     (record {
       names = c.in_ok-w.ensures.names;
       decls = c.in_ok-w.ensures.decls;

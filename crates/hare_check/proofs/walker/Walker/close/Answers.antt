@@ -92,6 +92,7 @@ returns-clause-ok c =
       value = λ l d.
           let k = c.requires.found.found l (later_trans s r l grown.later d) in
           let o = context_at (program_of w) (above_of w) n xs w.seen l in
+          let i = c.own_meaning-meaning.ensures (program_of w l) refl in
           c.in_ok-tree.ensures.value l d
           ∙ finishing-value o x.ty f ys
           (record {
@@ -99,7 +100,7 @@ returns-clause-ok c =
             ty = refl;
             node = c.in_ok-number.ensures;
             meaning = c.path_meaning-meant.ensures (program_of w l) refl;
-            value = c.in_ok-value.ensures o refl refl (own-path w n xs l c.own_meaning-meaning.result (c.own_meaning-meaning.ensures (program_of w l) refl));
+            value = c.in_ok-value.ensures o refl refl (own-path w n xs l c.own_meaning-meaning.result i);
             kids = c.in_ok-close.ensures.kids ∙ sym k.coated;
           });
     } in
@@ -158,6 +159,7 @@ returns-clause-hand c =
       value = λ l d.
           let k = c.requires.found.found l (later_trans s r l grown.later d) in
           let o = context_at (program_of w) (above_of w) n xs w.seen l in
+          let i = c.own_meaning-meaning.ensures (program_of w l) refl in
           c.in_ok-tree.ensures.value l d
           ∙ finishing-value o x.ty f ys
           (record {
@@ -165,7 +167,7 @@ returns-clause-hand c =
             ty = refl;
             node = c.in_ok-number.ensures;
             meaning = c.path_meaning-meant.ensures (program_of w l) refl;
-            value = c.in_ok-value.ensures o refl refl (own-path w n xs l c.own_meaning-meaning.result (c.own_meaning-meaning.ensures (program_of w l) refl));
+            value = c.in_ok-value.ensures o refl refl (own-path w n xs l c.own_meaning-meaning.result i);
             kids = c.in_ok-close.ensures.kids ∙ sym k.coated;
           });
     } in
@@ -224,6 +226,7 @@ returns-clause-walks c ps h =
       value = λ l d.
           let k = c.requires.found.found l (later_trans s r l grown.later d) in
           let o = context_at (program_of w) (above_of w) n xs w.seen l in
+          let i = c.own_meaning-meaning.ensures (program_of w l) refl in
           c.in_ok-tree.ensures.value l d
           ∙ finishing-value o x.ty f ys
           (record {
@@ -231,7 +234,7 @@ returns-clause-walks c ps h =
             ty = refl;
             node = c.in_ok-number.ensures;
             meaning = c.path_meaning-meant.ensures (program_of w l) refl;
-            value = c.in_ok-value.ensures o refl refl (own-path w n xs l c.own_meaning-meaning.result (c.own_meaning-meaning.ensures (program_of w l) refl));
+            value = c.in_ok-value.ensures o refl refl (own-path w n xs l c.own_meaning-meaning.result i);
             kids = c.in_ok-close.ensures.kids ∙ sym k.coated;
           });
     } in
@@ -297,6 +300,7 @@ returns-clause-kept c t h =
       value = λ l d.
           let k = c.requires.found.found l (later_trans s r l grown.later d) in
           let o = context_at (program_of w) (above_of w) n xs w.seen l in
+          let i = c.own_meaning-meaning.ensures (program_of w l) refl in
           c.in_ok-tree.ensures.value l d
           ∙ finishing-value o x.ty f ys
           (record {
@@ -304,7 +308,7 @@ returns-clause-kept c t h =
             ty = refl;
             node = c.in_ok-number.ensures;
             meaning = c.path_meaning-meant.ensures (program_of w l) refl;
-            value = c.in_ok-value.ensures o refl refl (own-path w n xs l c.own_meaning-meaning.result (c.own_meaning-meaning.ensures (program_of w l) refl));
+            value = c.in_ok-value.ensures o refl refl (own-path w n xs l c.own_meaning-meaning.result i);
             kids = c.in_ok-close.ensures.kids ∙ sym k.coated;
           });
     } in
