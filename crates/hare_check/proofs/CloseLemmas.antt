@@ -1,6 +1,6 @@
 -- What is known when a walker has closed the turn of a node.
-use Rattle.std.proofs.Common.{◌≡◌, List, ◌∷◌, length, map, refl, ap, sym, ◌∙◌, subst, Option, Some}
-use Rattle.std.specs.Prelude.{reverse, is_some, IsSome}
+use Rattle.std.proofs.Common.{◌≡◌, List, ◌∷◌, length, map, ap, sym, ◌∙◌, subst}
+use Rattle.std.specs.Prelude.{reverse}
 use Rattle.hare_tree.specs.declared.kind.Kind.TheVariants as ki
 use Rattle.hare_tree.specs.declared.token.Meaning.{Meaning}
 use Rattle.hare_tree.specs.Node.{Node, head}
@@ -10,10 +10,8 @@ use Rattle.hare_types.specs.Later.{IsLater}
 use Rattle.hare_types.proofs.LaterLemmas.{later_here, later_trans}
 use Rattle.hare_typed.specs.Typed.{TypedNode, Mark, marked, typed_nodes}
 use Rattle.hare_rules.specs.declared.declared.Local.{Local}
-use Rattle.hare_rules.specs.Context.{Context}
 use Rattle.hare_rules.specs.Finished.{bare}
 use Rattle.hare_rules.specs.Flow.{Flow, count, meaning_of, path_meaning, flow_after}
-use Rattle.hare_rules.specs.Types.{type_of}
 use Rattle.hare_rules.specs.Values.{value_of}
 use Rattle.hare_told.specs.Told.{AreToldEntries}
 use Rattle.rule_judge.specs.Defined.{IsDefinedTree}
@@ -48,16 +46,12 @@ pub record IsClosing (s r : Store) (w : Walker) (n : Node) (xs : List TypedNode)
   pub ty : m.ty ≡ x.ty
   pub own : m.coerce ≡ x.own
   pub meaning : (l : Store) → m.meaning ≡ meaning_of (program_of w l) (head n)
-  pub value :
-      (c : Context) → c.setting.decls ≡ w.decls.now → c.inside.role ≡ (above_of w).inside.role → c.head ≡ head n →
-      ((head n).kind ≡ ki.Path → c.meaning ≡ m.meaning) → IsSome (type_of c) → m.value ≡ value_of c
+  pub value : (l : Store) → IsLater r l → m.value ≡ value_of (context_at (program_of w) (above_of w) n xs w.seen l)
 
 -- ---- the tree
 
-some-type : {A : Type 0} (o : Option A) (a : A) → o ≡ Some a → IsSome o
-some-type o a e = ap is_some e
-
-own-path : (w : Walker) (n : Node) (xs : List TypedNode) (l : Store) (m : Meaning) → m ≡ meaning_of (program_of w l) (head n) →
+-- a path itself is what it means
+pub own-path : (w : Walker) (n : Node) (xs : List TypedNode) (l : Store) (m : Meaning) → m ≡ meaning_of (program_of w l) (head n) →
     (head n).kind ≡ ki.Path → (context_at (program_of w) (above_of w) n xs w.seen l).meaning ≡ m
 own-path w n xs l m e k = ap (λ z. path_meaning (program_of w l) (head n) z (map bare xs)) k ∙ sym e
 
@@ -75,10 +69,7 @@ closing-closed s r w n xs x g m ys q =
       ty = q.ty;
       own = q.own;
       meaning = λ l d. q.meaning l;
-      value = λ l d.
-          let k = q.found.found l (later l d) in
-          let c = context_at (program_of w) (above_of w) n xs w.seen l in
-          q.value c refl refl refl (own-path w n xs l m.meaning (q.meaning l)) (some-type (type_of c) x.ty k.type);
+      value = q.value;
     }
 
 -- the types of the tree are defined, and it is kept

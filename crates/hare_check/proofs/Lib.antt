@@ -18,5 +18,7 @@ pub mod NodeLemmas
 pub mod LookingLemmas
 pub mod JudgingLemmas
 pub mod StepLemmas
+pub mod ValueLemmas
+pub mod FoldLemmas
 pub mod CloseLemmas
 pub mod SameLemmas

@@ -5,3 +5,4 @@ pub mod Turned
 pub mod Walking
 pub mod Nodes
 pub mod Beginnings
+pub mod Folding

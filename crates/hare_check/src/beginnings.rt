@@ -119,3 +119,14 @@ pub(crate) fn before_body(alloc: Global, d: &DeclType, body: &Tree) -> Result<Be
     known.push_later(count, d.ty)?;
     Ok(known)
 }
+
+/// What is known before the value of a declaration: nothing of any binding. Judges are told this type of each, which says nothing.
+pub(crate) fn before_value(alloc: Global, ty: TypeId, value: &Tree) -> Result<Beginning, AllocError>
+    ensures bindings { IfOk result (λ b. map entry_of b.bindings.items ≡ whole.unknown_locals value.now) }
+    ensures told { IfOk result (λ b. b.told ≡ replicate (bindings_of value.now) (record { ty = ty; mutable = false })) }
+{
+    let mut known = Beginning::new(alloc);
+    let count = count_in(0, value)?;
+    known.push_later(count, ty)?;
+    Ok(known)
+}

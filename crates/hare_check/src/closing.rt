@@ -1,11 +1,10 @@
 //! The end of a node's turn.
 
-ghost use Rattle.std.specs.Prelude.{◌≡◌, ℕ, List, ◌∷◌, length, reverse, IsSome, IfOk, OnOk};
+ghost use Rattle.std.specs.Prelude.{◌≡◌, ℕ, List, ◌∷◌, length, reverse, IfOk, OnOk};
 ghost use Rattle.hare_tree.specs.declared.kind.Kind.TheVariants as ki;
 ghost use Rattle.hare_tree.specs.Node.{head};
 ghost use Rattle.hare_types.specs.Store.{Store};
 ghost use Rattle.hare_rules.specs.Context.{Context};
-ghost use Rattle.hare_rules.specs.Types.{type_of};
 ghost use Rattle.hare_rules.specs.Values as values;
 ghost use Rattle.hare_find.specs.Levels.{AreLevels};
 ghost use Rattle.hare_walk.specs.Grown.{IsGrown};
@@ -15,11 +14,10 @@ ghost use Rattle.hare_check.specs.Keeps.{IsKeptTree};
 ghost use Rattle.hare_check.specs.Nodes.{program_of, above_of, Walks, IsAtNode, IsFindingOf, IsUnder};
 
 use crate::constants::named_value;
-use crate::meanings::own_meaning;
+use crate::meanings::{own_meaning, path_meaning};
 use crate::numbers::next_number;
 use crate::walker::Walker;
-use hare_above::Role;
-use hare_find::{Finding, Found, Levels, close, typed};
+use hare_find::{Finding, Found, Levels, close};
 use hare_tree::{Kind, Meaning, Tree};
 use hare_typed::{Const, Typed, TypedKids};
 use hare_types::TypeStore;
@@ -52,16 +50,13 @@ impl<'a> Walker<'a> {
         }
     }
 
-    /// The constant of the node at hand: that of the def that a path means. Of a value of a case or of a declaration it is answered as want of memory.
-    fn constant(&self, node: &Tree, meaning: Meaning) -> Result<Const, AllocError>
-        ensures { IfOk result (λ v. (c : Context) → c.setting.decls ≡ self.now.decls.now → c.inside.role ≡ (above_of self.now).inside.role → c.head ≡ head node.now → ((head node.now).kind ≡ ki.Path → c.meaning ≡ meaning) → IsSome (type_of c) → v ≡ values.value_of c) }
+    /// The constant of the def that the node at hand means, where it is a path; none where it means none.
+    fn named(&self, node: &Tree, meaning: Meaning) -> Result<Const, AllocError>
+        ensures { IfOk result (λ v. (c : Context) → c.setting.decls ≡ self.now.decls.now → c.head ≡ head node.now → ((head node.now).kind ≡ ki.Path → c.meaning ≡ meaning) → v ≡ values.value_named c) }
     {
-        match self.standing.role() {
-            Role::CaseValue | Role::DeclaredValue => Err(AllocError),
-            Role::Ordinary | Role::Callee | Role::Length | Role::BindingType => match node.kind {
-                Kind::Path => named_value(self.alloc, self.decls, meaning),
-                _ => Ok(Const::Absent),
-            },
+        match node.kind {
+            Kind::Path => named_value(self.alloc, self.decls, meaning),
+            _ => Ok(Const::Absent),
         }
     }
 
@@ -84,7 +79,8 @@ impl<'a> Walker<'a> {
     {
         let _law = s.declarations();
         let meaning = own_meaning(self.names, node);
-        let value = self.constant(node, meaning)?;
+        let meant = path_meaning(self.names, node, &kids);
+        let value = self.named(node, meaning)?;
         let number = next_number(&self.seen)?;
         let levels = self.levels(node);
         let first = self.standing.first();
@@ -99,18 +95,15 @@ impl<'a> Walker<'a> {
             &levels,
             found,
         )?;
-        let tree = typed(
-            self.alloc,
-            node,
-            Found {
-                node: number,
-                ty: found.ty,
-                own: found.own,
-                meaning,
-                value,
-            },
-            kids,
-        )?;
+        let _closed = s.declarations();
+        let mark = Found {
+            node: number,
+            ty: found.ty,
+            own: found.own,
+            meaning,
+            value,
+        };
+        let tree = self.tree(s, node, kids, mark, meant)?;
         Ok(tree)
     }
 }

@@ -1,4 +1,4 @@
-//! The checker of bodies: the one typed tree of a body by the typing rules, or its first fault.
+//! The checker of bodies and of values of declarations: the one typed tree of each by the typing rules, or its first fault.
 #![tactic(auto)]
 
 mod beginnings;
@@ -6,10 +6,13 @@ mod check;
 mod closing;
 mod constants;
 mod finding;
+mod folding;
 mod known;
 mod looking;
 mod meanings;
 mod numbers;
+mod value;
 mod walker;
 
 pub use check::{Env, check_body};
+pub use value::check_value;
