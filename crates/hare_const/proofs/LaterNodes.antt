@@ -1,6 +1,6 @@
 -- The value of a node, and whether it is constant, are in each later store the same.
 use Rattle.std.proofs.Common.{◌≡◌, ◌∙◌, sym, ap, ap₂, subst, refl, ℕ, zero, suc, arith, Bool, true, false, List, [], ◌∷◌, Option, Some, None, IsSome}
-use Rattle.std.specs.Prelude.{◌≢◌, ◌==◌, ◌-◌, ◌||◌, ◌&&◌, nat_eq, not, pos, ℤ, option_and_then, unwrap_or, ◌++◌, if◌then◌else◌}
+use Rattle.std.specs.Prelude.{◌≢◌, ◌==◌, ◌-◌, ◌||◌, ◌&&◌, nat_eq, not, pos, ℤ, is_some, option_and_then, unwrap_or, ◌++◌, if◌then◌else◌}
 use Rattle.hare_tree.specs.declared.kind.Kind.{Kind}
 use Rattle.hare_tree.specs.declared.kind.Kind.TheVariants as kind
 use Rattle.hare_tree.specs.declared.token.Meaning.{Meaning}
@@ -32,7 +32,8 @@ use Rattle.hare_typed.specs.ConstantForms.{own_type, type_of_kid, is_iconst, int
 use Rattle.hare_const.specs.declared.operands.Operands.TheVariants.{OneKid, TwoKids}
 use Rattle.hare_const.specs.declared.outcome.Outcome.{Outcome}
 use Rattle.hare_const.specs.declared.outcome.Outcome.TheVariants.{Known, Aborts, Undefined}
-use Rattle.hare_const.specs.NodeValues.{on_cells, on_answer, kid_at, kids_at, numbered, number_of_kid, negation, complement, order_value, equality_value, cast_value, offset_value, arithmetic_value, shift_value, length_value, array_length_value, tuple_value, struct_value, array_value, type_with_offset, part_with_offset, unary_value, binary_value, operator_value, kind_value, coerced_value, cells_to_coerce, slice_of, HasNumber, HasParts, fields_given, components_given, SimpleKind, PlainKind}
+use Rattle.hare_const.specs.NodeValues.{on_cells, on_answer, object_number, kid_at, kids_at, numbered, number_of_kid, negation, complement, order_value, equality_value, cast_value, offset_value, arithmetic_value, shift_value, length_value, array_length_value, tuple_value, struct_value, array_value, type_with_offset, part_with_offset, unary_value, binary_value, operator_value, kind_value, coerced_value, cells_to_coerce, slice_of, HasNumber, HasParts, fields_given, components_given, SimpleKind, PlainKind}
+use Rattle.hare_const.specs.Made.{own_object}
 use Rattle.hare_const.specs.Operators.{IsWidth}
 use Rattle.hare_const.specs.Sizes.{Fits, HasPart}
 use Rattle.hare_const.specs.Settled.{HasBase, HasBases, HaveBases}
@@ -327,6 +328,13 @@ module _ (s l : Store) (v : IsStore s) (later : IsLater s l) where
       = ap₂ (λ o m. elim o [ None ↦ cs | Some x ↦ slice_of own t m ]) (sliced_same f r to e k) (length_same s l v later f h) in
       ap (λ x. on_answer (coerced_into l f r to x) Known) put
       ∙ ap (λ x. on_answer x Known) (into_same f r to (cells_to_coerce s own t cs) e h k)
+
+  -- the object that the node makes
+  pub object_same : (own : ℕ) (t : TypedNode) (cs : List Cell) → HasBase s (mark_of t).coerce.to → (mark_of t).coerce.row ≢ 9 →
+      own_object l own t cs ≡ own_object s own t cs
+  object_same own t cs k n =
+      ap (λ o. if is_some o then record { object = object_number own t; cells = cs } ∷ [] else [])
+      (sliced_same (mark_of t).ty (mark_of t).coerce.row (mark_of t).coerce.to (not-nine (mark_of t).coerce.row n) k)
 
   -- ---- constancy
 

@@ -14,7 +14,9 @@ pub mod LaterTrees
 pub mod SettledLemmas
 pub mod FoldedLemmas
 pub mod StaticLemmas
+pub mod ReachedLemmas
 pub mod WalkLemmas
+pub mod MadeLemmas
 mod ExampleConstants
 mod ConstantRows
 pub mod Shown

@@ -1,4 +1,6 @@
 -- The evaluation of a constant comes to the value of its tree.
 pub mod Acts
 pub mod Forms
+pub mod Made
 pub mod Trees
+pub mod MadeTrees

@@ -1,9 +1,14 @@
 -- The objects of a tree to which a constant leads.
-use Rattle.std.proofs.Common.{◌≡◌, ◌∙◌, sym, ap, ap₂, subst, refl, ℕ, zero, suc, ◌+◌, ◌<◌, ◌≤◌, arith, Bool, true, false, List, [], ◌∷◌, ◌++◌, length, get_or, take, drop, Option, Some, None}
-use Rattle.std.specs.Prelude.{◌≢◌, nat_eq, cond, slice_get, flat_map, option_map}
-use Rattle.std.specs.List.{AllByRecursion}
+use Rattle.std.proofs.Common.{◌≡◌, ◌∙◌, sym, ap, ap₂, refl, ℕ, zero, suc, ◌+◌, ◌<◌, ◌≤◌, ◌⊎◌, inl, inr, arith, take, append_assoc, append-nil, Bool, true, false, List, [], ◌∷◌, ◌++◌, length, Option, Some, None}
+use Rattle.std.specs.Prelude.{nat_eq, cond, slice_get, IsSome, flat_map, option_map, unwrap_or}
+use Rattle.std.specs.declared.cmp.Ordering.TheVariants.{Less, Equal, Greater}
+use Rattle.std.specs.Ordering.{nat_cmp, is_eq}
+use Rattle.std.specs.Cmp.{nat_cmp_is}
+use Rattle.std.specs.BTreeMap.{BTreeMap, get, is_at}
+use Rattle.std.proofs.lemmas.Bool.{cases_order}
+use Rattle.std.proofs.lemmas.Bool.Decides.{nat_tests}
+use Rattle.std.proofs.lemmas.List.{take_all}
 use Rattle.std.specs.Map.{lookup}
-use Rattle.std.proofs.lemmas.Option.{slice_get-get_or}
 use Rattle.hare_types.specs.Store.{Store}
 use Rattle.hare_types.specs.Unions.{put_all, ascending}
 use Rattle.hare_typed.specs.declared.cell.Cell.{Cell}
@@ -12,248 +17,199 @@ use Rattle.hare_typed.specs.declared.constant.ConstObject.{ConstObject}
 use Rattle.hare_typed.specs.Typed.{TypedNode, marked, typed_nodes, mark_of, kids_of}
 use Rattle.hare_typed.specs.Constants.{own_kind}
 use Rattle.hare_typed.specs.Objects.{Object}
-use Rattle.hare_typed.specs.State.{Result, Value, AsValue}
-use Rattle.hare_typed.specs.ConstantValues.{constant_object, listed_objects, objects_of, text_object, state_without_run, constant_result, without_run}
-use Rattle.hare_typed.specs.Folded.{led_to, leads, cells_named, cells_of_named, reached_in, with_cells_of, objects_behind, folded_from, folded, inconstant}
-use Rattle.hare_typed.proofs.Quiet.Runs.{constants_are_quiet}
+use Rattle.hare_typed.specs.State.{Result, Value}
+use Rattle.hare_typed.specs.ConstantValues.{constant_object, listed_objects, objects_of, text_object, statics, statics_of_each, constant_result}
+use Rattle.hare_typed.specs.Folded.{leads, cells_named, cells_of_named, reached_in, with_cells_of, objects_behind, aborts, folded_from, folded, inconstant}
+use Rattle.hare_const.specs.NodeValues.{cells_in, IsSimple}
+use Rattle.hare_const.specs.Statics.{scope_in, held, statics_in, statics_in_each, objects_in, objects_led_to, cells_found, cells_by, reached_by, listed_by}
+use Rattle.hare_const.proofs.Shown.Trees.{constant-too, plain_from}
+use Rattle.hare_const.proofs.Shown.Made.{held-append}
+use Rattle.hare_const.proofs.Shown.MadeTrees.{made_shown}
 use Rattle.hare_typed.proofs.KidLemmas.{take-get}
-use Rattle.hare_const.specs.NodeValues.{cells_in}
-use Rattle.hare_const.specs.Statics.{scope_in, statics_in, statics_in_each, cells_found, led_by, IsEnd}
 
--- ---- lists
+-- ---- objects by what is found of them
 
-drop_next : {A : Type 0} (xs : List A) (i : ℕ) (x : A) → slice_get xs i ≡ Some x → drop i xs ≡ x ∷ drop (suc i) xs
-drop_next [] i x e = absurd cc
-drop_next (y ∷ ys) zero x e = let same : y ≡ x = cc in ap (λ z. z ∷ ys) same
-drop_next (y ∷ ys) (suc i) x e = drop_next ys i x e
+module _ (os : List (ℕ × Object)) (find : ℕ → Option (List Cell)) (same : (n : ℕ) → cells_of_named os n ≡ cells_by find n) where
+  led_same : (ns : List ℕ) → flat_map (λ n. leads (cells_of_named os n)) ns ≡ flat_map (λ n. leads (cells_by find n)) ns
+  led_same [] = refl
+  led_same (n ∷ ns) = ap₂ (λ xs ys. xs ++ ys) (ap leads (same n)) (led_same ns)
 
-drop_past : {A : Type 0} (xs : List A) (i : ℕ) → length xs ≤ i → drop i xs ≡ []
-drop_past [] zero h = refl
-drop_past [] (suc i) h = refl
-drop_past (x ∷ xs) zero h = absurd (omega arith)
-drop_past (x ∷ xs) (suc i) h = drop_past xs i (omega arith)
+  reached_same : (k : ℕ) (ns : List ℕ) → reached_in k os ns ≡ reached_by find k ns
+  reached_same zero ns = refl
+  reached_same (suc k) ns =
+      ap (λ ms. reached_in k os (put_all ms ns)) (led_same ns)
+      ∙ reached_same k (put_all (flat_map (λ n. leads (cells_by find n)) ns) ns)
 
-none_past : {A : Type 0} (xs : List A) (i : ℕ) → slice_get xs i ≡ None → i < length xs → ⊥
-none_past [] i e h = omega arith
-none_past (x ∷ xs) zero e h = absurd cc
-none_past (x ∷ xs) (suc i) e h = none_past xs i e (omega arith)
+  listed_same : (ns : List ℕ) → with_cells_of os ns ≡ listed_by find ns
+  listed_same [] = refl
+  listed_same (n ∷ ns) = ap₂ (λ cs l. record { object = n; cells = cs } ∷ l) (same n) (listed_same ns)
 
-next : (i : ℕ) → suc i ≡ i + 1
-next i = omega arith
+  pub behind_same : (cs : List Cell) → objects_behind os cs ≡ listed_by find (reached_by find (length os) (ascending (leads cs)))
+  behind_same cs =
+      listed_same (reached_in (length os) os (ascending (leads cs)))
+      ∙ ap (listed_by find) (reached_same (length os) (ascending (leads cs)))
 
--- ---- finding
+-- ---- objects as a constant lists them
 
-if_found : (b : Bool) (x : Object) (r q : Option Object) (cs : List Cell) →
-    (option_map (λ o. o.cells) r ≡ Some cs → option_map (λ o. o.cells) q ≡ Some cs) →
-    option_map (λ o. o.cells) (cond b (Some x) r) ≡ Some cs → option_map (λ o. o.cells) (cond b (Some x) q) ≡ Some cs
-if_found true x r q cs h e = e
-if_found false x r q cs h e = h e
+named_found : (o : Option Object) → cells_named o ≡ unwrap_or (option_map (λ x. x.cells) o) []
+named_found None = refl
+named_found (Some o) = refl
 
-found_front : (front bs : List (ℕ × Object)) (n : ℕ) (cs : List Cell) → cells_found front n ≡ Some cs →
-    cells_found (front ++ bs) n ≡ Some cs
-found_front [] bs n cs e = absurd cc
-found_front (a ∷ front) bs n cs e =
-    if_found (nat_eq n a.0) a.1 (lookup (nat_eq n) front) (lookup (nat_eq n) (front ++ bs)) cs (found_front front bs n cs) e
+-- what is found among these objects
+pub found_same : (os : List ConstObject) (n : ℕ) → cells_of_named (listed_objects os) n ≡ cells_by (cells_found os) n
+found_same os n = named_found (lookup (nat_eq n) (listed_objects os))
 
-if_none : (b : Bool) (x : Object) (r q : Option Object) (o : Option (List Cell)) →
-    (option_map (λ z. z.cells) r ≡ None → option_map (λ z. z.cells) q ≡ o) →
-    option_map (λ z. z.cells) (cond b (Some x) r) ≡ None → option_map (λ z. z.cells) (cond b (Some x) q) ≡ o
-if_none true x r q o h e = absurd cc
-if_none false x r q o h e = h e
+held_found : (os : List (ℕ × Object)) (n : ℕ) → cells_of_named os n ≡ cells_by (cells_found (held os)) n
+held_found [] n = refl
+held_found (o ∷ os) n = by (nat_eq n o.0) (held_found os n)
+  where
+    by : (b : Bool) → cells_of_named os n ≡ cells_by (cells_found (held os)) n →
+        cells_named (cond b (Some o.1) (lookup (nat_eq n) os))
+        ≡ unwrap_or (option_map (λ x. x.cells) (cond b (Some (constant_object o.1.cells)) (lookup (nat_eq n) (listed_objects (held os))))) []
+    by true rest = refl
+    by false rest = rest
 
-found_behind : (front bs : List (ℕ × Object)) (n : ℕ) → cells_found front n ≡ None → cells_found (front ++ bs) n ≡ cells_found bs n
-found_behind [] bs n e = refl
-found_behind (a ∷ front) bs n e =
-    if_none (nat_eq n a.0) a.1 (lookup (nat_eq n) front) (lookup (nat_eq n) (front ++ bs)) (cells_found bs n) (found_behind front bs n) e
+length_held : (os : List (ℕ × Object)) → length os ≡ length (listed_objects (held os))
+length_held [] = refl
+length_held (o ∷ os) = ap suc (length_held os)
 
--- ---- in a tree
+pub length_listed : (os : List ConstObject) → length (listed_objects os) ≡ length os
+length_listed [] = refl
+length_listed (o ∷ os) = ap suc (length_listed os)
 
-module _ (own n : ℕ) where
-  pub text_first : (t : TypedNode) (cs : List Cell) → cells_found (text_object (scope_in own) t (own_kind t)) n ≡ Some cs →
-      Some cs ≡ cells_found (statics_in own t) n
-  text_first (marked h m ts) cs e =
-      let text = text_object (scope_in own) (marked h m ts) h.kind in
-      sym (found_front (text ++ objects_of m.value) (statics_in_each own ts) n cs (found_front text (objects_of m.value) n cs e))
+held_behind : (os : List (ℕ × Object)) (cs : List Cell) → objects_behind os cs ≡ objects_led_to (held os) cs
+held_behind os cs =
+    let find = cells_found (held os) in
+    behind_same os find (held_found os) cs
+    ∙ ap (λ k. listed_by find (reached_by find k (ascending (leads cs)))) (length_held os)
+    ∙ sym (behind_same (listed_objects (held os)) find (found_same (held os)) cs)
 
-  pub value_first : (t : TypedNode) (cs : List Cell) → cells_found (text_object (scope_in own) t (own_kind t)) n ≡ None →
-      cells_found (objects_of (mark_of t).value) n ≡ Some cs → Some cs ≡ cells_found (statics_in own t) n
-  value_first (marked h m ts) cs e f =
-      let text = text_object (scope_in own) (marked h m ts) h.kind in
-      sym (found_front (text ++ objects_of m.value) (statics_in_each own ts) n cs (found_behind text (objects_of m.value) n e ∙ f))
+-- ---- the objects that stand in a tree
 
-  pub kids_last : (t : TypedNode) → cells_found (text_object (scope_in own) t (own_kind t)) n ≡ None →
-      cells_found (objects_of (mark_of t).value) n ≡ None → cells_found (statics_in_each own (kids_of t)) n
-      ≡ cells_found (statics_in own t) n
-  kids_last (marked h m ts) e f =
-      let text = text_object (scope_in own) (marked h m ts) h.kind in
-      sym (found_behind (text ++ objects_of m.value) (statics_in_each own ts) n (found_behind text (objects_of m.value) n e ∙ f))
+pub held_listed : (os : List ConstObject) → held (listed_objects os) ≡ os
+held_listed [] = refl
+held_listed (o ∷ os) = ap (λ l. o ∷ l) (held_listed os)
 
-  pub kid_found : (ts : List TypedNode) (i : ℕ) (x : TypedNode) (cs : List Cell) → slice_get ts i ≡ Some x →
-      Some cs ≡ cells_found (statics_in own x) n →
-      cells_found (statics_in_each own (typed_nodes (drop i ts))) n ≡ cells_found (statics_in_each own (typed_nodes ts)) n →
-      Some cs ≡ cells_found (statics_in_each own (typed_nodes ts)) n
-  kid_found ts i x cs e f g =
-      sym (ap (λ l. cells_found (statics_in_each own (typed_nodes l)) n) (drop_next ts i x e)
-      ∙ found_front (statics_in own x) (statics_in_each own (typed_nodes (drop (suc i) ts))) n cs (sym f)) ∙ g
+pub statics_parts : (own : ℕ) (t : TypedNode) →
+    (held (text_object (scope_in own) t (own_kind t)) ++ held (objects_of (mark_of t).value)) ++ statics_in_each own (kids_of t) ≡ statics_in own t
+statics_parts own (marked h m ts) =
+    let text = text_object (scope_in own) (marked h m ts) h.kind in
+    sym (held-append (text ++ objects_of m.value) (statics_of_each (scope_in own) ts)
+    ∙ ap (λ l. l ++ statics_in_each own ts) (held-append text (objects_of m.value)))
 
-  pub kid_passed : (ts : List TypedNode) (i : ℕ) (x : TypedNode) → slice_get ts i ≡ Some x → None ≡ cells_found (statics_in own x) n →
-      cells_found (statics_in_each own (typed_nodes (drop i ts))) n ≡ cells_found (statics_in_each own (typed_nodes ts)) n →
-      cells_found (statics_in_each own (typed_nodes (drop (i + 1) ts))) n ≡ cells_found (statics_in_each own (typed_nodes ts)) n
-  kid_passed ts i x e f g =
-      ap (λ k. cells_found (statics_in_each own (typed_nodes (drop k ts))) n) (sym (next i))
-      ∙ sym (ap (λ l. cells_found (statics_in_each own (typed_nodes l)) n) (drop_next ts i x e)
-      ∙ found_behind (statics_in own x) (statics_in_each own (typed_nodes (drop (suc i) ts))) n (sym f)) ∙ g
+statics_push : (own : ℕ) (ts : List TypedNode) (x : TypedNode) →
+    statics_in_each own (typed_nodes (ts ++ x ∷ [])) ≡ statics_in_each own (typed_nodes ts) ++ statics_in own x
+statics_push own [] x = held-append (statics (scope_in own) x) [] ∙ append-nil (statics_in own x)
+statics_push own (t ∷ ts) x =
+    held-append (statics (scope_in own) t) (statics_of_each (scope_in own) (typed_nodes (ts ++ x ∷ [])))
+    ∙ ap (λ l. statics_in own t ++ l) (statics_push own ts x)
+    ∙ sym (append_assoc (statics_in own t) (statics_in_each own (typed_nodes ts)) (statics_in own x))
+    ∙ ap (λ l. l ++ statics_in own x) (sym (held-append (statics (scope_in own) t) (statics_of_each (scope_in own) (typed_nodes ts))))
 
-  pub kids_done : (ts : List TypedNode) (i : ℕ) → length ts ≤ i →
-      cells_found (statics_in_each own (typed_nodes (drop i ts))) n ≡ cells_found (statics_in_each own (typed_nodes ts)) n →
-      None ≡ cells_found (statics_in_each own (typed_nodes ts)) n
-  kids_done ts i h g = sym (ap (λ l. cells_found (statics_in_each own (typed_nodes l)) n) (drop_past ts i h)) ∙ g
+-- those of one kid more
+pub statics_more : (own : ℕ) (ts : List TypedNode) (i : ℕ) (x : TypedNode) (first before new : List ConstObject) → slice_get ts i ≡ Some x →
+    before ≡ first ++ statics_in_each own (typed_nodes (take i ts)) → new ≡ before ++ statics_in own x →
+    new ≡ first ++ statics_in_each own (typed_nodes (take (i + 1) ts))
+statics_more own ts i x first before new e f g =
+    g ∙ ap (λ l. l ++ statics_in own x) f
+    ∙ append_assoc first (statics_in_each own (typed_nodes (take i ts))) (statics_in own x)
+    ∙ ap (λ l. first ++ l) (sym (statics_push own (take i ts) x) ∙ ap (λ l. statics_in_each own (typed_nodes l)) (sym (take-get ts i x e)))
 
-  -- ---- in a constant
+pub statics_all : (own : ℕ) (ts : List TypedNode) (i : ℕ) (first all : List ConstObject) → length ts ≤ i →
+    all ≡ first ++ statics_in_each own (typed_nodes (take i ts)) → all ≡ first ++ statics_in_each own (typed_nodes ts)
+statics_all own ts i first all h e = e ∙ ap (λ l. first ++ statics_in_each own (typed_nodes l)) (take_all i ts h)
 
-  abbrev found_among : List ConstObject → Option (List Cell)
-  found_among os = cells_found (listed_objects os) n
+-- one object more of a constant
+pub listed_more : (os : List ConstObject) (i : ℕ) (o : ConstObject) (first before new : List ConstObject) → slice_get os i ≡ Some o →
+    before ≡ first ++ take i os → new ≡ before ++ o ∷ [] → new ≡ first ++ take (i + 1) os
+listed_more os i o first before new e f g =
+    g ∙ ap (λ l. l ++ o ∷ []) f ∙ append_assoc first (take i os) (o ∷ []) ∙ ap (λ l. first ++ l) (sym (take-get os i o e))
 
-  same_number : (m : ℕ) → m ≡ n → nat_eq n m ≡ true
-  same_number m e = by (nat_eq n m) refl
-    where
-      by : (b : Bool) → nat_eq n m ≡ b → nat_eq n m ≡ true
-      by true f = f
-      by false f = absurd (grind (arith, e, f))
+pub listed_all : (os : List ConstObject) (i : ℕ) (first all : List ConstObject) → length os ≤ i → all ≡ first ++ take i os →
+    all ≡ first ++ held (listed_objects os)
+listed_all os i first all h e = e ∙ ap (λ l. first ++ l) (take_all i os h ∙ sym (held_listed os))
 
-  other_number : (m : ℕ) → m ≢ n → nat_eq n m ≡ false
-  other_number m h = by (nat_eq n m) refl
-    where
-      by : (b : Bool) → nat_eq n m ≡ b → nat_eq n m ≡ false
-      by false f = f
-      by true f = absurd (h (grind (arith, f)))
+-- ---- the cells by the numbers
 
-  pub listed_found : (os : List ConstObject) (i : ℕ) (o : ConstObject) → slice_get os i ≡ Some o → o.object ≡ n →
-      found_among (drop i os) ≡ found_among os → Some o.cells ≡ found_among os
-  listed_found os i o e f g =
-      sym (ap found_among (drop_next os i o e)
-      ∙ ap (λ b. option_map (λ z. z.cells)
-      (cond b (Some (constant_object o.cells)) (lookup (nat_eq n) (listed_objects (drop (suc i) os))))) (same_number o.object f)) ∙ g
+-- what is found among these, and else what was found
+abbrev pub found_or : List ConstObject → ℕ → Option (List Cell) → Option (List Cell)
+found_or [] n d = d
+found_or (o ∷ os) n d = cond (nat_eq n o.object) (Some o.cells) (found_or os n d)
 
-  pub listed_passed : (os : List ConstObject) (i : ℕ) (o : ConstObject) → slice_get os i ≡ Some o → o.object ≢ n →
-      found_among (drop i os) ≡ found_among os → found_among (drop (i + 1) os) ≡ found_among os
-  listed_passed os i o e f g =
-      ap (λ k. found_among (drop k os)) (sym (next i))
-      ∙ sym (ap found_among (drop_next os i o e)
-      ∙ ap (λ b. option_map (λ z. z.cells)
-      (cond b (Some (constant_object o.cells)) (lookup (nat_eq n) (listed_objects (drop (suc i) os))))) (other_number o.object f)) ∙ g
+or_none : (os : List ConstObject) (n : ℕ) → found_or os n None ≡ cells_found os n
+or_none [] n = refl
+or_none (o ∷ os) n = by (nat_eq n o.object) (or_none os n)
+  where
+    by : (b : Bool) → found_or os n None ≡ cells_found os n →
+        cond b (Some o.cells) (found_or os n None)
+        ≡ option_map (λ x. x.cells) (cond b (Some (constant_object o.cells)) (lookup (nat_eq n) (listed_objects os)))
+    by true rest = refl
+    by false rest = rest
 
-  pub listed_done : (os : List ConstObject) (i : ℕ) → length os ≤ i → found_among (drop i os) ≡ found_among os → None ≡ found_among os
-  listed_done os i h g = sym (ap found_among (drop_past os i h)) ∙ g
+or_last : (os : List ConstObject) (o : ConstObject) (n : ℕ) (d : Option (List Cell)) →
+    found_or (os ++ o ∷ []) n d ≡ found_or os n (cond (nat_eq n o.object) (Some o.cells) d)
+or_last [] o n d = refl
+or_last (p ∷ os) o n d = ap (λ x. cond (nat_eq n p.object) (Some p.cells) x) (or_last os o n d)
 
--- ---- the numbers to which cells lead
+-- so many from the front are still to be put into the table
+abbrev pub Tables : List ConstObject → List ConstObject → BTreeMap ℕ (List Cell) → Type 0
+Tables whole os m = (n : ℕ) → found_or os n (get nat_cmp m n) ≡ cells_found whole n
 
-put_each : (xs ys v : List ℕ) → put_all (xs ++ ys) v ≡ put_all ys (put_all xs v)
-put_each [] ys v = refl
-put_each (x ∷ xs) ys v = put_each xs ys _
+pub tables_first : (os : List ConstObject) (m : BTreeMap ℕ (List Cell)) → m.entries ≡ [] → Tables os os m
+tables_first os m e n = ap (λ es. found_or os n (lookup (is_at (nat_cmp n)) es)) e ∙ or_none os n
 
-pub led_more : (cs : List Cell) (i : ℕ) (o : Option Cell) (v new all : List ℕ) → o ≡ slice_get cs i → i < length cs →
-    new ≡ put_all (led_by o) v → put_all (leads (drop i cs)) v ≡ all → put_all (leads (drop (i + 1) cs)) new ≡ all
-led_more cs i None v new all e h f g = absurd (none_past cs i (sym e) h)
-led_more cs i (Some c) v new all e h f g =
-    ap₂ (λ k w. put_all (leads (drop k cs)) w) (sym (next i)) f
-    ∙ sym (put_each (led_to c) (leads (drop (suc i) cs)) v)
-    ∙ ap (λ l. put_all (leads l) v) (sym (drop_next cs i c (sym e))) ∙ g
+at_same : (n q : ℕ) → is_at (nat_cmp n) q ≡ nat_eq q n
+at_same n q = by (cases_order n q)
+  where
+    by : (n ≡ q) ⊎ ((n < q) ⊎ (q < n)) → is_at (nat_cmp n) q ≡ nat_eq q n
+    by (inl e) = ap is_eq (sym (nat_cmp_is n q Equal e)) ∙ sym (grind (arith, nat_tests))
+    by (inr (inl l)) = ap is_eq (sym (nat_cmp_is n q Less l)) ∙ sym (grind (arith, nat_tests))
+    by (inr (inr l)) = ap is_eq (sym (nat_cmp_is n q Greater l)) ∙ sym (grind (arith, nat_tests))
 
-pub led_done : (cs : List Cell) (i : ℕ) (v all : List ℕ) → length cs ≤ i → put_all (leads (drop i cs)) v ≡ all → v ≡ all
-led_done cs i v all h g = sym (ap (λ l. put_all (leads l) v) (drop_past cs i h)) ∙ g
+pub tables_more : (whole os rest : List ConstObject) (o : ConstObject) (m new : BTreeMap ℕ (List Cell)) → os ≡ rest ++ o ∷ [] →
+    ((q : ℕ) → get nat_cmp new q ≡ cond (is_at (nat_cmp o.object) q) (Some o.cells) (get nat_cmp m q)) → Tables whole os m → Tables whole rest new
+tables_more whole os rest o m new e f h n =
+    ap (found_or rest n) (f n ∙ ap (λ b. cond b (Some o.cells) (get nat_cmp m n)) (at_same o.object n))
+    ∙ sym (or_last rest o n (get nat_cmp m n)) ∙ ap (λ l. found_or l n (get nat_cmp m n)) (sym e) ∙ h n
 
--- ---- objects that lead to no other
+none_left : (os : List ConstObject) → (0 < length os → IsSome {T = ConstObject} None) → os ≡ []
+none_left [] h = refl
+none_left (o ∷ os) h = let none : IsSome {T = ConstObject} None = h (omega arith) in absurd cc
 
-module _ (os new : List (ℕ × Object)) where
-  named_found : (o : Option Object) (cs : List Cell) → option_map (λ z. z.cells) o ≡ Some cs → cells_named o ≡ cs
-  named_found None cs e = absurd cc
-  named_found (Some o) cs e = cc
+pub tables_all : (whole os : List ConstObject) (m : BTreeMap ℕ (List Cell)) → (0 < length os → IsSome {T = ConstObject} None) → Tables whole os m →
+    (n : ℕ) → get nat_cmp m n ≡ cells_found whole n
+tables_all whole os m e h n = ap (λ l. found_or l n (get nat_cmp m n)) (sym (none_left os e)) ∙ h n
 
-  end_cells : (n : ℕ) (h : IsEnd os n) → cells_of_named os n ≡ h.cells
-  end_cells n h = named_found (lookup (nat_eq n) os) h.cells h.found
+-- ---- what the table tells
 
-  end_cells_more : (n : ℕ) (h : IsEnd os n) → cells_of_named (os ++ new) n ≡ h.cells
-  end_cells_more n h = named_found (lookup (nat_eq n) (os ++ new)) h.cells (found_front os new n h.cells h.found)
-
-  no_more : (ns : List ℕ) → AllByRecursion (IsEnd os) ns → flat_map (λ n. leads (cells_of_named (os ++ new) n)) ns ≡ []
-  no_more [] h = refl
-  no_more (n ∷ ns) h = ap₂ (λ xs ys. xs ++ ys) (ap leads (end_cells_more n h.0) ∙ h.0.bare) (no_more ns h.1)
-
-  reached_ends : (k : ℕ) (ns : List ℕ) → AllByRecursion (IsEnd os) ns → reached_in k (os ++ new) ns ≡ ns
-  reached_ends zero ns h = refl
-  reached_ends (suc k) ns h = ap (λ ms. reached_in k (os ++ new) (put_all ms ns)) (no_more ns h) ∙ reached_ends k ns h
-
-  cells_ends : (ns : List ℕ) → AllByRecursion (IsEnd os) ns → with_cells_of (os ++ new) ns ≡ with_cells_of os ns
-  cells_ends [] h = refl
-  cells_ends (n ∷ ns) h =
-      ap₂ (λ ds rest. record { object = n; cells = ds } ∷ rest) (end_cells_more n h.0 ∙ sym (end_cells n h.0)) (cells_ends ns h.1)
-
-  objects_ends : (cs : List Cell) → AllByRecursion (IsEnd os) (ascending (leads cs)) →
-      objects_behind (os ++ new) cs ≡ with_cells_of os (ascending (leads cs))
-  objects_ends cs h =
-      ap (with_cells_of (os ++ new)) (reached_ends (length (os ++ new)) (ascending (leads cs)) h) ∙ cells_ends (ascending (leads cs)) h
-
--- the objects so far, and one more
-ends_push : (os : List (ℕ × Object)) (ns : List ℕ) (n : ℕ) (o : ConstObject) → o.object ≡ n → cells_found os n ≡ Some o.cells →
-    with_cells_of os (ns ++ n ∷ []) ≡ with_cells_of os ns ++ o ∷ []
-ends_push os [] n o e f =
-    ap₂ (λ k ds. record { object = k; cells = ds } ∷ []) (sym e) (named_found os [] (lookup (nat_eq n) os) o.cells f)
-ends_push os (m ∷ ns) n o e f = ap (λ l. record { object = m; cells = cells_of_named os m } ∷ l) (ends_push os ns n o e f)
-
-All-push : (P : ℕ → Type 0) (ns : List ℕ) (n : ℕ) → AllByRecursion P ns → P n → AllByRecursion P (ns ++ n ∷ [])
-All-push P [] n h p = (p, tt)
-All-push P (m ∷ ns) n h p = (h.0, All-push P ns n h.1 p)
-
--- the objects of so many numbers
-pub record Ended (os : List (ℕ × Object)) (ns : List ℕ) (found : List ConstObject) : Type 0 where
-  pub value : found ≡ with_cells_of os ns
-  pub ends : AllByRecursion (IsEnd os) ns
-
-pub ended_more : (os : List (ℕ × Object)) (ns more : List ℕ) (n : ℕ) (found all : List ConstObject) (o : ConstObject) →
-    more ≡ ns ++ n ∷ [] →
-    o.object ≡ n → cells_found os n ≡ Some o.cells → leads o.cells ≡ [] → all ≡ found ++ o ∷ [] → Ended os ns found → Ended os more all
-ended_more os ns more n found all o g e f b w h =
-    record {
-      value =
-          w ∙ ap (λ l. l ++ o ∷ []) h.value ∙ sym (ends_push os ns n o e f) ∙ ap (with_cells_of os) (sym g);
-      ends = subst (AllByRecursion (IsEnd os)) (sym g) (All-push (IsEnd os) ns n h.ends (record { cells = o.cells; found = f; bare = b }));
-    }
+pub led_by_table : (os : List ConstObject) (m : BTreeMap ℕ (List Cell)) (cs : List Cell) (count : ℕ) (numbers : List ℕ) →
+    ((n : ℕ) → get nat_cmp m n ≡ cells_found os n) → count ≡ length os → numbers ≡ reached_by (get nat_cmp m) count (ascending (leads cs)) →
+    listed_by (get nat_cmp m) numbers ≡ objects_led_to os cs
+led_by_table os m cs count numbers h e f =
+    ap (listed_by (get nat_cmp m)) (f ∙ ap (λ k. reached_by (get nat_cmp m) k (ascending (leads cs))) (e ∙ sym (length_listed os)))
+    ∙ sym (behind_same (listed_objects os) (get nat_cmp m) (λ n. found_same os n ∙ ap (λ o. unwrap_or o []) (sym (h n))) cs)
 
 -- ---- the constant
 
--- the objects of a tree come before those that its evaluation makes
-named_after : (s : Store) (own : ℕ) (t : TypedNode) →
-    (new : List (ℕ × Object)) × ((constant_result s own t).1.memory.objects.named ≡ statics_in own t ++ new)
-named_after s own t =
-    (constants_are_quiet.keeps (without_run s) 0 t AsValue (scope_in own) (state_without_run (statics_in own t))).named
-
-from_statics : (os new : List (ℕ × Object)) (r : Result) (cs : List Cell) → r.1.memory.objects.named ≡ os ++ new →
-    cells_in (folded_from r) ≡ Some cs → AllByRecursion (IsEnd os) (ascending (leads cs)) →
-    folded_from r ≡ constant.Known cs (with_cells_of os (ascending (leads cs)))
-from_statics os new (Value ds, st) cs g e h =
+from_objects : (os : List ConstObject) (r : Result) (cs : List Cell) →
+    ((ds : List Cell) → r.0 ≡ Value ds → held r.1.memory.objects.named ≡ os) → cells_in (folded_from r) ≡ Some cs →
+    folded_from r ≡ constant.Known cs (objects_led_to os cs)
+from_objects os (Value ds, st) cs m e =
     let same : ds ≡ cs = cc in
-    ap₂ (λ xs ns. constant.Known xs (objects_behind ns xs)) same g ∙ ap (constant.Known cs) (objects_ends os new cs h)
-from_statics os new (_, st) cs g e h = absurd cc
+    ap₂ (λ xs l. constant.Known xs l) same
+    (ap (objects_behind st.memory.objects.named) same ∙ held_behind st.memory.objects.named cs ∙ ap (λ l. objects_led_to l cs) (m ds refl))
+from_objects os (_, st) cs m e = absurd cc
 
--- one whose cells lead to such objects of its tree alone
-pub folded_ends : (s : Store) (own : ℕ) (t : TypedNode) (cs : List Cell) → cells_in (folded s own t) ≡ Some cs →
-    AllByRecursion (IsEnd (statics_in own t)) (ascending (leads cs)) →
-    folded s own t ≡ constant.Known cs (with_cells_of (statics_in own t) (ascending (leads cs)))
-folded_ends s own t cs e h = by (inconstant s own t) (constant_result s own t) (named_after s own t) e
+-- the constant with these cells
+pub folded_known : (s : Store) (own : ℕ) (t : TypedNode) (cs : List Cell) → IsSimple s t → cells_in (folded s own t) ≡ Some cs →
+    folded s own t ≡ constant.Known cs (objects_led_to (objects_in s own t) cs)
+folded_known s own t cs p e = by (inconstant s own t) refl e
   where
-    by : (o : Option TypedNode) (r : Result) → (new : List (ℕ × Object)) × (r.1.memory.objects.named ≡ statics_in own t ++ new) →
-        cells_in (elim o [ None ↦ folded_from r | Some u ↦ constant.Absent ]) ≡ Some cs →
-        elim o [ None ↦ folded_from r | Some u ↦ constant.Absent ]
-        ≡ constant.Known cs (with_cells_of (statics_in own t) (ascending (leads cs)))
-    by None r q g = from_statics (statics_in own t) q.0 r cs q.1 g h
-    by (Some u) r q g = absurd cc
-
--- an element of a list is the same whatever stands for those past its end
-pub get_or_any : (js : List ℕ) (p x y : ℕ) → p < length js → get_or js p x ≡ get_or js p y
-get_or_any [] p x y h = absurd (omega arith)
-get_or_any (j ∷ js) zero x y h = refl
-get_or_any (j ∷ js) (suc p) x y h = get_or_any js p x y (omega arith)
-
-pub taken_more : (ns : List ℕ) (i n : ℕ) → i < length ns → n ≡ get_or ns i n → take (i + 1) ns ≡ take i ns ++ n ∷ []
-taken_more ns i n h e = take-get ns i n (slice_get-get_or ns i n h ∙ ap Some (sym e))
+    by : (o : Option TypedNode) → inconstant s own t ≡ o →
+        cells_in (elim o [ None ↦ folded_from (constant_result s own t) | Some u ↦ constant.Absent ]) ≡ Some cs →
+        elim o [ None ↦ folded_from (constant_result s own t) | Some u ↦ constant.Absent ]
+        ≡ constant.Known cs (objects_led_to (objects_in s own t) cs)
+    by None q g =
+        from_objects (objects_in s own t) (constant_result s own t) cs
+        (λ ds. made_shown s own t (constant-too s (aborts s own) t q) (plain_from s t p) ds) g
+    by (Some u) q g = absurd cc

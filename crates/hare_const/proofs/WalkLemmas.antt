@@ -105,7 +105,7 @@ seen-asked s own t e =
     unless_type (hides_kids (own_kind t) (kids_of t)) (first_refused_of s own (kids_of t)) _ (sym e) refl
 
 -- the value of a node whose kids are passed over rests on none of theirs
-hidden-own : (s : Store) (own : ℕ) (t : TypedNode) (k : Kind) (ts : TypedNodes) (os : List Outcome) → hides_kids k ts ≡ true →
+pub hidden-own : (s : Store) (own : ℕ) (t : TypedNode) (k : Kind) (ts : TypedNodes) (os : List Outcome) → hides_kids k ts ≡ true →
     kind_value s own t k [] ≡ kind_value s own t k os
 hidden-own s own t kind.Offset ts os e = refl
 hidden-own s own t kind.Addr ts os e = refl

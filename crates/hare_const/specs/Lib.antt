@@ -5,5 +5,6 @@ pub mod Lengths
 pub mod Covering
 pub mod Sizes
 pub mod NodeValues
+pub mod Made
 pub mod Settled
 pub mod Statics

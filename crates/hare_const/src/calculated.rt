@@ -56,7 +56,7 @@ fn number_of_kid(s: &TypeStore, t: &Typed, i: usize, cells: &Cells) -> i128
 }
 
 /// Whether the cells are those of true.
-fn truth(cells: &Cells) -> bool
+pub(crate) fn truth(cells: &Cells) -> bool
     ensures { result ≡ holds cells.now }
 {
     cells.len() == 1 && cells.get(0) == Some(Cell::Byte(1))

@@ -1,21 +1,19 @@
-//! The cells of a constant.
+//! The constant of a tree.
 
-ghost use Rattle.std.specs.Prelude.{◌≡◌, ◌-◌, ◌<◌, ◌^◌, None, IfOk, IfErr, OnOk};
-ghost use Rattle.hare_typed.specs.declared.constant.Const.TheVariants as constant;
+ghost use Rattle.std.specs.Prelude.{◌≡◌, ◌++◌, ◌-◌, ◌<◌, ◌^◌, None, IfOk, IfErr, OnOk};
 ghost use Rattle.hare_types.specs.Store.{Store};
 ghost use Rattle.hare_types.specs.Later.{IsLater};
-ghost use Rattle.std.specs.List.{AllByRecursion};
-ghost use Rattle.hare_types.specs.Unions.{ascending};
-ghost use Rattle.hare_typed.specs.Folded.{folded, inconstant, leads, with_cells_of};
-ghost use Rattle.hare_const.specs.Statics.{statics_in, IsEnd};
+ghost use Rattle.hare_typed.specs.Folded.{folded, inconstant};
+ghost use Rattle.hare_const.specs.Made.{made_by};
 ghost use Rattle.hare_const.specs.NodeValues as spec;
 
-use crate::objects::objects_led_to;
 use crate::outcome::Outcome;
+use crate::reached::objects_led_to;
 use crate::settled::is_settled;
+use crate::statics::put_statics;
 use crate::walk::tree_value;
 use hare_tree::{Fault, Stop};
-use hare_typed::{Cells, Const, Typed};
+use hare_typed::{Cells, Const, ConstObjects, Typed};
 use hare_types::TypeStore;
 use std::alloc::{AllocError, Global};
 
@@ -27,6 +25,24 @@ fn cells_of(outcome: Outcome) -> Option<Cells>
         Outcome::Known(cells) => Some(cells),
         Outcome::Aborts | Outcome::Undefined => None,
     }
+}
+
+/// The same as `constant_cells`; the objects that the evaluation makes are put behind the others.
+fn cells_and_objects(
+    alloc: Global,
+    s: &TypeStore,
+    own: u32,
+    t: &Typed,
+    objects: &mut ConstObjects,
+) -> Result<Option<Cells>, Stop<Fault>>
+    requires own { own < 2 ^ 32 - 1 }
+    requires simple { spec.IsSimple s.now t.now }
+    ensures ok { IfOk result (λ cells. (inconstant s.now own t.now ≡ None) × (spec.cells_in (folded s.now own t.now) ≡ cells)) }
+    ensures objects { OnOk result (objects.new ≡ objects.old ++ made_by s.now own t.now) }
+    ensures err { IfErr result (spec.Refuses (inconstant s.now own t.now)) }
+{
+    let outcome = tree_value(alloc, s, own, t, objects)?;
+    Ok(cells_of(outcome))
 }
 
 /// The cells of the constant that a value of the declaration `own` has, as its coercion gives it; or E21 at its first node, in check order, that is no
@@ -48,28 +64,17 @@ pub fn constant_cells(
     ensures ok { IfOk result (λ cells. (inconstant s.now own t.now ≡ None) × (spec.cells_in (folded s.now own t.now) ≡ cells)) }
     ensures err { IfErr result (spec.Refuses (inconstant s.now own t.now)) }
 {
-    let outcome = tree_value(alloc, s, own, t)?;
-    Ok(cells_of(outcome))
-}
-
-/// The constant of these cells, with the objects of the tree to which they lead; want of memory where they lead to another object, or where one of
-/// these leads on.
-fn with_objects(alloc: Global, own: u32, t: &Typed, cells: Cells) -> Result<Const, AllocError>
-    requires own { own < 2 ^ 32 - 1 }
-    ensures value { IfOk result (λ c. c ≡ constant.Known cells (with_cells_of (statics_in own t.now) (ascending (leads cells)))) }
-    ensures ends { OnOk result (AllByRecursion (IsEnd (statics_in own t.now)) (ascending (leads cells))) }
-{
-    let objects = objects_led_to(alloc, own, t, &cells)?;
-    Ok(Const::Known { cells, objects })
+    let mut made = ConstObjects::new(alloc);
+    cells_and_objects(alloc, s, own, t, &mut made)
 }
 
 /// The constant that a value of the declaration `own` has, as its coercion gives it; `Absent` where one of its nodes is no constant, or would abort.
-/// It is the constant over each later store too.
+/// It is the constant over each later store too. The objects of strings, and of arrays that become slices, to which its cells lead are listed with it.
 ///
 /// Where the store or the tree tells too little, the answer is want of memory: so it is of a tree with a type that comes to a name which is not
-/// defined, or with a tuple or struct whose size is not known to be at most 67,108,864 bytes, or with parts that its type has not. It is so also of what
-/// the crate does not work out yet: lengths and equalities of texts, values of unions, and cells that lead to an array that became a slice here, to an
-/// object of a constant that leads on, or to more than 64 objects. The time is that of the tree, for each object once more, and of the cells.
+/// defined, or with a tuple or struct whose size is not known to be at most 67,108,864 bytes, or with parts that its type has not; and of cells that
+/// lead to objects which are not there, where there are more of these than there are objects. It is so also of what the crate does not work out yet:
+/// lengths and equalities of texts, and values of unions. The time is that of the tree and of the cells, and n log n in the objects.
 pub fn constant(alloc: Global, s: &TypeStore, own: u32, t: &Typed) -> Result<Const, AllocError>
     requires own { own < 2 ^ 32 - 1 }
     ensures { IfOk result (λ c. (l : Store) → IsLater s.now l → c ≡ folded l own t.now) }
@@ -78,8 +83,16 @@ pub fn constant(alloc: Global, s: &TypeStore, own: u32, t: &Typed) -> Result<Con
     if !is_settled(s, t) {
         return Err(AllocError);
     }
-    match constant_cells(alloc, s, own, t) {
-        Ok(Some(cells)) => with_objects(alloc, own, t, cells),
+    let mut objects = ConstObjects::new(alloc);
+    put_statics(alloc, own, t, &mut objects)?;
+    match cells_and_objects(alloc, s, own, t, &mut objects) {
+        Ok(Some(cells)) => {
+            let listed = objects_led_to(alloc, objects, &cells)?;
+            Ok(Const::Known {
+                cells,
+                objects: listed,
+            })
+        }
         Ok(None) => Ok(Const::Absent),
         Err(Stop::Fault(_)) => Ok(Const::Absent),
         Err(Stop::Memory) => Err(AllocError),

@@ -1,6 +1,6 @@
 //! The value of a node from those of its kids.
 
-ghost use Rattle.std.specs.Prelude.{◌≡◌, ◌≢◌, ◌-◌, ◌<◌, ◌^◌, IfOk};
+ghost use Rattle.std.specs.Prelude.{◌≡◌, ◌≢◌, ◌++◌, ◌-◌, ◌<◌, ◌^◌, IfOk, OnOk};
 ghost use Rattle.hare_types.specs.Assign.{IsIn};
 ghost use Rattle.hare_typed.specs.Typed.{mark_of};
 ghost use Rattle.hare_typed.specs.Constants.{own_kind};
@@ -8,6 +8,7 @@ ghost use Rattle.hare_typed.specs.Evaluated.{is_evaluated as evaluated};
 ghost use Rattle.hare_typed.specs.ConstantForms.{own_type};
 ghost use Rattle.hare_const.specs.declared.outcome.Outcome.TheVariants.{Known};
 ghost use Rattle.hare_const.specs.NodeValues as spec;
+ghost use Rattle.hare_const.specs.Made.{made_of_node};
 
 use crate::addresses::{address_value, literal_text};
 use crate::array::array_value;
@@ -24,7 +25,7 @@ use crate::operands::{Operands, operands_of};
 use crate::outcome::Outcome;
 use crate::parts::{struct_value, tuple_value};
 use hare_tree::Kind;
-use hare_typed::{Cells, Typed};
+use hare_typed::{Cells, ConstObjects, Typed};
 use hare_types::TypeStore;
 use std::alloc::{AllocError, Global};
 
@@ -144,25 +145,31 @@ fn own_value(
     }
 }
 
-/// The value of a node, as its coercion gives it, from those of its kids.
+/// The value of a node, as its coercion gives it, from those of its kids. Where it is an array that becomes a slice, its object is put behind the
+/// others.
 pub(crate) fn node_value(
     alloc: Global,
     s: &TypeStore,
     own: u32,
     t: &Typed,
     kids: &[Outcome],
+    made: &mut ConstObjects,
 ) -> Result<Outcome, AllocError>
     requires own { own < 2 ^ 32 - 1 }
     requires asked { spec.AskedKind s.now t.now (own_kind t.now) }
     requires types { IsIn s.now (own_type t.now) }
     requires simple { (mark_of t.now).coerce.row ≢ 9 }
-    ensures { IfOk result (λ o. o ≡ spec.node_value s.now own t.now kids.now) }
+    ensures value { IfOk result (λ o. o ≡ spec.node_value s.now own t.now kids.now) }
+    ensures made { OnOk result (made.new ≡ made.old ++ made_of_node s.now own t.now (own_kind t.now) kids.now) }
 {
     if !is_evaluated(t.kind) {
         return Ok(Outcome::Known(Cells::new(alloc)));
     }
     match own_value(alloc, s, own, t, kids)? {
-        Outcome::Known(cells) => Ok(Outcome::Known(coerced_cells(alloc, s, own, t, cells)?)),
+        Outcome::Known(cells) => {
+            let coerced = coerced_cells(alloc, s, own, t, cells, made)?;
+            Ok(Outcome::Known(coerced))
+        }
         Outcome::Aborts => Ok(Outcome::Aborts),
         Outcome::Undefined => Ok(Outcome::Undefined),
     }

@@ -51,7 +51,8 @@ behind-kids i (suc n) os g f = go (kid_at i os) (λ c. behind-kids (suc i) n os 
     go Aborts h = refl
     go Undefined h = refl
 
-homed-same : (cs : List Cell) → map (homed_cell (λ n. n)) cs ≡ cs
+-- where no program runs, objects have the numbers that constants have for them
+pub homed-same : (cs : List Cell) → map (homed_cell (λ n. n)) cs ≡ cs
 homed-same [] = refl
 homed-same (cell.Byte b ∷ cs) = ap (λ l. cell.Byte b ∷ l) (homed-same cs)
 homed-same (cell.Fragment o d k ∷ cs) = ap (λ l. cell.Fragment o d k ∷ l) (homed-same cs)

@@ -59,11 +59,11 @@ asked s a h m ts =
     or_else (if hides_kids h.kind ts then None else first_inconstant_of s a ts)
     (if not (is_constant s h.kind m ts) || a (marked h m ts) then Some (marked h m ts) else None)
 
-record Constant (s : Store) (h : Head) (m : Mark) (ts : TypedNodes) : Type 0 where
-  itself : is_constant s h.kind m ts ≡ true
-  kids : hides_kids h.kind ts ≡ false → first_inconstant_of s (λ u. false) ts ≡ None
+pub record Constant (s : Store) (h : Head) (m : Mark) (ts : TypedNodes) : Type 0 where
+  pub itself : is_constant s h.kind m ts ≡ true
+  pub kids : hides_kids h.kind ts ≡ false → first_inconstant_of s (λ u. false) ts ≡ None
 
-constant_from : (s : Store) (h : Head) (m : Mark) (ts : TypedNodes) → is_type h.kind ≡ false →
+pub constant_from : (s : Store) (h : Head) (m : Mark) (ts : TypedNodes) → is_type h.kind ≡ false →
     first_inconstant s (λ u. false) (marked h m ts) ≡ None → Constant s h m ts
 constant_from s h m ts f e =
     let n : asked s (λ u. false) h m ts ≡ None
@@ -116,7 +116,7 @@ constant-no_place s kind.Paren m ts e f = f refl
 constant-no_place s _ m ts e f = refl
 
 mutual
-  no_place : (s : Store) (t : TypedNode) → first_inconstant s (λ u. false) t ≡ None → is_place s t ≡ false
+  pub no_place : (s : Store) (t : TypedNode) → first_inconstant s (λ u. false) t ≡ None → is_place s t ≡ false
   no_place s (marked h m ts) e = go (is_type h.kind) refl (λ f. first-no_place s ts f)
     where
       go : (x : Bool) → is_type h.kind ≡ x → (first_inconstant_of s (λ u. false) ts ≡ None → first_is_place s ts ≡ false) →
@@ -145,7 +145,7 @@ equality-row (Some (row.Pointer i)) e f = absurd cc
 equality-row (Some (row.Nullable i)) e f = absurd cc
 equality-row (Some _) e f = refl
 
-and-left : (x y : Bool) → (false || (x && y)) ≡ true → x ≡ true
+pub and-left : (x y : Bool) → (false || (x && y)) ≡ true → x ≡ true
 and-left true y q = refl
 and-left false y q = absurd cc
 
@@ -153,7 +153,7 @@ pub not-true : (x : Bool) → not x ≡ true → x ≡ false
 not-true true e = absurd cc
 not-true false e = refl
 
-equality_known : (s : Store) (h : Head) (m : Mark) (ts : TypedNodes) → is_str s (first_given ts) ≡ false →
+pub equality_known : (s : Store) (h : Head) (m : Mark) (ts : TypedNodes) → is_str s (first_given ts) ≡ false →
     is_address_row (base_row s (first_given ts)) ≡ false → equality_of s (type_of_kid 0 (marked h m ts)) ≡ OfNumbers
 equality_known s h m typed_none e f = equality-row (base_row s (first_given typed_none)) e f
 equality_known s h m (typed_more t ts) e f = equality-row (base_row s (first_given (typed_more t ts))) e f
@@ -171,7 +171,7 @@ global_meaning m e = go m.meaning e
 
 module _ (s : Store) (own : ℕ) (less : Tasks) where
   -- what the kids of a node give
-  abbrev over : Head → TypedNodes → Kids
+  abbrev pub over : Head → TypedNodes → Kids
   over h ts =
       record {
         kid = λ i. behind (own_bindings h.kind) (kid_act (constant_forms (without_run s)) less ts i);
@@ -201,7 +201,7 @@ module _ (s : Store) (own : ℕ) (less : Tasks) where
   global-reached ks t sc st kind.Path e p = path-reached ks t sc st (is_place s t) p e
   global-reached ks t sc st _ e p = absurd cc
 
-  first-reached : (h : Head) (m : Mark) (ts : TypedNodes) → begins_with_global ts ≡ true → first_is_place s ts ≡ true →
+  pub first-reached : (h : Head) (m : Mark) (ts : TypedNodes) → begins_with_global ts ≡ true → first_is_place s ts ≡ true →
       (sc : Scope) (st : State) → sc.own ≡ own →
       (kid_act (constant_forms (without_run s)) less ts 0 AsPlace sc st).0
       ≡ Reached (Address (declared_by (mark_of (kid_from_front 0 (marked h m ts))).meaning) 0)
@@ -227,7 +227,7 @@ module _ (s : Store) (own : ℕ) (less : Tasks) where
   ready h _ m ts e p f = λ i sc st q. f refl i (record sc { first = sc.first + own_bindings h.kind }) st q
 
   -- the acts of a node up to its own value, and what they come to
-  abbrev form : Head → Mark → TypedNodes → Scope → ValueForm
+  abbrev pub form : Head → Mark → TypedNodes → Scope → ValueForm
   form h m ts sc = constant_form (without_run s) (marked h m ts) sc h.kind
 
   abbrev result : Head → Mark → TypedNodes → Outcome
@@ -269,7 +269,7 @@ module _ (s : Store) (own : ℕ) (less : Tasks) where
         Shows own (node_act (constant_forms (without_run s)) less t AsValue) (tree_value s own t)
     tree-shown (marked h m ts) e p sc st q = node-shown h m ts e p.0 (λ f i. kids-shown ts f p.1 i) sc q st
 
-    kids-shown : (ts : TypedNodes) → first_inconstant_of s (λ u. false) ts ≡ None → ArePlain s ts → (i : ℕ) →
+    pub kids-shown : (ts : TypedNodes) → first_inconstant_of s (λ u. false) ts ≡ None → ArePlain s ts → (i : ℕ) →
         Shows own (kid_act (constant_forms (without_run s)) less ts i AsValue) (kid_at i (kid_values s own ts))
     kids-shown typed_none e p i sc st q = refl
     kids-shown (typed_more t ts) e p zero sc st q = tree-shown t (first-none (first_inconstant s (λ u. false) t) _ e).0 p.0 sc st q
@@ -289,7 +289,7 @@ abort-shown (Abort text) = refl
 abort-shown _ = refl
 
 mutual
-  constant-too : (s : Store) (a : TypedNode → Bool) (t : TypedNode) → first_inconstant s a t ≡ None →
+  pub constant-too : (s : Store) (a : TypedNode → Bool) (t : TypedNode) → first_inconstant s a t ≡ None →
       first_inconstant s (λ u. false) t ≡ None
   constant-too s a (marked h m ts) e = go (is_type h.kind) e (λ f. constant-each s a ts f)
     where

@@ -1,24 +1,21 @@
-use Rattle.std.proofs.Common.{◌≡◌, ◌∙◌}
-use Rattle.hare_types.specs.Store.{Store}
-use Rattle.hare_types.specs.Later.{IsLater}
-use Rattle.hare_typed.specs.declared.constant.Const.TheVariants as constant
-use Rattle.std.specs.List.{AllByRecursion}
-use Rattle.hare_types.specs.Unions.{ascending}
-use Rattle.hare_typed.specs.Folded.{folded, leads, with_cells_of}
-use Rattle.hare_const.specs.Statics.{statics_in, IsEnd}
-use Rattle.hare_const.proofs.FoldedLemmas.{ends_later, none_later, refused_later, ok_both}
+use Rattle.std.proofs.Common.{◌≡◌, ◌∙◌, ◌++◌, ap}
+use Rattle.hare_const.specs.Made.{made_by}
+use Rattle.hare_const.specs.Statics.{statics_in, objects_in, objects_led_to}
+use Rattle.hare_const.proofs.FoldedLemmas.{known_later, none_later, refused_later}
 use Rattle.hare_const.proofs.folded.constant.Goals as goal
 
 pub returns-in-Ok-Some : goal.returns-in-Ok-Some
 returns-in-Ok-Some c =
+    let s = c.args.s.now in
+    let own = c.args.own in
+    let t = c.args.t.now in
     let cells = c.in-Ok-Some.cells in
-    let os = statics_in c.args.own c.args.t.now in
-    ok_both c.with_objects.result (λ x. x ≡ constant.Known cells (with_cells_of os (ascending (leads cells))))
-    (λ x. (l : Store) → IsLater c.args.s.now l → x ≡ folded l c.args.own c.args.t.now) (AllByRecursion (IsEnd os) (ascending (leads cells)))
-    c.with_objects.ensures.value c.with_objects.ensures.ends
-    (λ x e f. ends_later c.args.s.now c.args.own c.args.t.now c.declarations-law.ensures.sound
-    (c.is_settled.ensures c.if-not-is_settled.false)
-    cells (c.in-Ok-Some.ensures.ok.1 ∙ c.in-Ok-Some.field-0-is) f x e)
+    let all : c.cells_and_objects.new.objects ≡ objects_in s own t =
+    c.in-Ok-Some.ensures.objects
+    ∙ ap (λ l. l ++ made_by s own t) (c.in_ok-put_statics.ensures ∙ ap (λ l. l ++ statics_in own t) c.new-objects.ensures) in
+    known_later s own t c.declarations-law.ensures.sound (c.is_settled.ensures c.if-not-is_settled.false) cells
+    (c.in-Ok-Some.ensures.ok.1 ∙ c.in-Ok-Some.field-0-is) c.in_ok-listed-in-Ok-Some.listed
+    (c.in_ok-listed-in-Ok-Some.ensures ∙ ap (λ os. objects_led_to os cells) all)
 
 pub returns-in-Ok-None : goal.returns-in-Ok-None
 returns-in-Ok-None c =

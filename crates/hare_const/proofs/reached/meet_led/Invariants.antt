@@ -1,0 +1,13 @@
+use Rattle.std.proofs.Common.{◌≡◌, take}
+use Rattle.hare_types.specs.Unions.{ascending}
+use Rattle.hare_typed.specs.Folded.{leads}
+use Rattle.hare_const.specs.Statics.{Adds}
+use Rattle.hare_const.proofs.reached.meet_led.Given as goal
+
+-- those are met to which the cells so far lead
+abbrev pub invariant-loop-i : goal.invariant-loop-i
+invariant-loop-i l =
+    record {
+      numbers : l.met.numbers.keys ≡ ascending l.met.order.items;
+      order : Adds (leads (take l.i l.cells)) l.initial.met.order.items l.met.order.items;
+    }
