@@ -1,0 +1,5 @@
+pub mod BaseLemmas
+pub mod PartLemmas
+pub mod SearchLemmas
+pub mod StayLemmas
+pub mod TestLemmas
