@@ -1,5 +1,6 @@
 -- What is found of written types.
-use Rattle.std.proofs.Common.{◌≡◌, ℕ, Bool, true, false, List, [], map, refl, ap, sym, ◌∙◌, subst, Some, None, Err, Ok}
+use Rattle.std.proofs.Common.{◌≡◌, ℕ, Bool, true, false, List, [], map, refl, ap, sym, ◌∙◌, subst, Option, Some, None, Err, Ok}
+use Rattle.std.specs.Prelude.{option_map}
 use Rattle.std.specs.List.{list_any}
 use Rattle.hare_tree.specs.declared.kind.Kind.{Kind}
 use Rattle.hare_tree.specs.declared.kind.Kind.TheVariants as ki
@@ -9,12 +10,14 @@ use Rattle.hare_tree.specs.declared.stop.Stop.TheVariants.{Fault as Refused, Mem
 use Rattle.hare_tree.specs.Levels.{is_type}
 use Rattle.hare_tree.specs.Node.{Head}
 use Rattle.hare_types.specs.declared.coercion.Ty.TheVariants as ty
+use Rattle.hare_types.specs.declared.extent.Extent.{Extent}
 use Rattle.hare_types.specs.Sound.{IsStore}
 use Rattle.hare_types.specs.Store.{Store}
 use Rattle.hare_types.specs.Later.{IsLater}
 use Rattle.hare_typed.specs.Typed.{TypedNode}
 use Rattle.hare_rules.specs.declared.row_id.RowId.{RowId}
 use Rattle.hare_rules.specs.Above.{Above}
+use Rattle.hare_rules.specs.Aggregates.{is_small}
 use Rattle.hare_rules.specs.Context.{Setting, Context, Role}
 use Rattle.hare_rules.specs.Finished.{bare}
 use Rattle.hare_rules.specs.Flow.{Flow, context}
@@ -25,7 +28,9 @@ use Rattle.hare_rules.specs.Table.{rows_of}
 use Rattle.hare_rules.specs.Types.{type_of}
 use Rattle.hare_inference.specs.Inferred.{Fails, judged, found_kids, with_type, with_kids}
 use Rattle.hare_walk.specs.Walks.{IsStop, IsTurnedBack}
+use Rattle.hare_seen.specs.Sizes.{size_row_by, FitsAs}
 use Rattle.rule_judge.specs.Defined.{IsDefined}
+use Rattle.rule_judge.proofs.DefinedLemmas.{row_stays}
 use Rattle.rule_mem.proofs.ExtentLemmas.{extent_stays}
 use Rattle.rule_types.specs.declared.written.Written.{Written}
 use Rattle.rule_types.specs.Answers.{IsWrittenType, IsStoppedType}
@@ -81,6 +86,12 @@ told_type w s a f t l q d =
 
 -- ---- its type
 
+-- what fits stays so where each name that it mentions is defined
+fits_stays : (s l : Store) → IsStore s → IsLater s l → (k : Kind) (u : ℕ) → IsDefined s u → FitsAs s k u → FitsAs l k u
+fits_stays s l v d k u g h r e =
+    ap (λ (o : Option Extent). is_small (option_map (λ x. x.size) o)) (extent_stays s l v d u g)
+    ∙ h r (ap (size_row_by k) (sym (row_stays s l v d u g.within)) ∙ e)
+
 -- what is found of a type node that writes this type
 pub found_written : (w : Store → Setting) (s : Store) (a : Above) (f : Flow) (t : Written) (u n : ℕ) (x : Finding) → IsStore s →
     is_type (kind_in t) ≡ true → IsWrittenType s t u → IsDefined s u → IsUnsettled (ty.Of u) n x → IsAtType w s a f t →
@@ -89,7 +100,7 @@ found_written w s a f t u n x v k i g z q l d =
     let c = context_at w a f t l in
     let same : IsSameType c (told c t.bound) = types_are_told c t.bound k q.role in
     let here = told_type w s a f t l q d in
-    let failing : first_failing c ≡ None = sym same.failing ∙ ap first_failing here ∙ i.rows l d (extent_stays s l v d u g) in
+    let failing : first_failing c ≡ None = sym same.failing ∙ ap first_failing here ∙ i.rows l d (fits_stays s l v d (kind_in t) u g i.fits) in
     let type : type_of c ≡ Some (ty.Of u) = sym same.type ∙ ap type_of here ∙ i.type l d in
     found_unsettled c t.kids.now f.coercions (ty.Of u) n x z (type_silent c t.bound k q.role) failing type (sym q.hand)
 

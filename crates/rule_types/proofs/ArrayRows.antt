@@ -7,7 +7,7 @@ use Rattle.hare_types.specs.declared.coercion.Ty.{Ty}
 use Rattle.hare_types.specs.declared.coercion.Ty.TheVariants as ty
 use Rattle.hare_types.specs.declared.row.Row.TheVariants as ro
 use Rattle.hare_types.specs.Store.{Store}
-use Rattle.hare_types.specs.ByIds.{row_at, has_size_at, extent_at}
+use Rattle.hare_types.specs.ByIds.{row_at, has_size_at}
 use Rattle.hare_types.specs.Later.{IsLater}
 use Rattle.hare_types.specs.Unions.{id_of}
 use Rattle.hare_typed.specs.Order.{tree_from_front}
@@ -20,12 +20,12 @@ use Rattle.hare_rules.specs.Table.{number_of}
 use Rattle.hare_rules.specs.Types.{array_of}
 use Rattle.hare_rules.specs.Rows.{holds, stands, small_array}
 use Rattle.rule_judge.specs.Settings.{setting_of}
+use Rattle.hare_seen.specs.Sizes.{is_small_at}
 use Rattle.rule_types.specs.declared.written.Written.{Written}
 use Rattle.rule_types.specs.Contexts.{context_in, own_failing}
 use Rattle.rule_types.specs.Known.{IsKnown}
-use Rattle.rule_types.specs.Small.{is_small_at}
 use Rattle.rule_types.specs.Answers.{IsOwnType, IsOwnFault}
-use Rattle.rule_types.proofs.OwnLemmas.{failing, met, failed, own_fault, never_unsized}
+use Rattle.rule_types.proofs.OwnLemmas.{failing, met, failed, own_fault, never_unsized, asked}
 use Rattle.rule_types.proofs.SmallLemmas.{array_fits}
 
 abbrev length_in : Store → Written → Option ℕ
@@ -67,10 +67,8 @@ module _ (s : Store) (t : Written) (n i : ℕ) (length : (f : Store) → IsLater
     array_large x p h at large =
         own_fault s t ki.TypeArray row.ArrayTypeSmall p x h (λ f l. last f l ∙ failed (context_in f t) row.ArrayTypeSmall [] (small_row f l false (large f l))) (λ f l. at f)
 
-    pub array_is : IsKnown s u → row_at s u ≡ Some (ro.Array n i) → ((f : Store) → IsLater s f → extent_at f u ≡ extent_at s u → is_small_at f u ≡ true) → IsOwnType s t ki.TypeArray u
-    array_is known here small = record {
-      type = λ f l. ap₂ (λ (o : Option ℕ) (a : Ty). array_of (context_in f t) o (id_in a)) (sym (length f l)) e ∙ ap typed_as (id f l);
-      rows = λ f l g. last f l ∙ met (context_in f t) row.ArrayTypeSmall [] (small_row f l true (small f l g));
-      unsized = λ z. never_unsized s u (ro.Array n i) here refl z;
-      known = known;
-    }
+    pub array_is : IsKnown s u → row_at s u ≡ Some (ro.Array n i) → is_small_at s u ≡ true → IsOwnType s t ki.TypeArray u
+    array_is known here small =
+        asked s t ki.TypeArray u (λ f l. ap₂ (λ (o : Option ℕ) (a : Ty). array_of (context_in f t) o (id_in a)) (sym (length f l)) e ∙ ap typed_as (id f l)) known
+        row.ArrayTypeSmall refl (λ f l. refl) (λ f l h. last f l ∙ met (context_in f t) row.ArrayTypeSmall [] (small_row f l true h))
+        (λ f l h. last f l ∙ failed (context_in f t) row.ArrayTypeSmall [] (small_row f l false h)) (λ z. never_unsized s u (ro.Array n i) here refl z) small

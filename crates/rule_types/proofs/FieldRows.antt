@@ -8,7 +8,7 @@ use Rattle.hare_tree.specs.declared.place.Fault.{Fault}
 use Rattle.hare_types.specs.declared.lists.Field.{Field}
 use Rattle.hare_types.specs.declared.row.Row.TheVariants as ro
 use Rattle.hare_types.specs.Store.{Store}
-use Rattle.hare_types.specs.ByIds.{row_at, extent_at}
+use Rattle.hare_types.specs.ByIds.{row_at}
 use Rattle.hare_types.specs.Later.{IsLater}
 use Rattle.hare_types.specs.Unions.{id_of}
 use Rattle.hare_rules.specs.declared.row_id.RowId.TheVariants as row
@@ -17,12 +17,12 @@ use Rattle.hare_rules.specs.Aggregates.{but_last, field_types, all_sized, fields
 use Rattle.hare_rules.specs.Table.{number_of}
 use Rattle.hare_rules.specs.Written.{part_ids, fields}
 use Rattle.hare_rules.specs.Rows.{holds, stands}
+use Rattle.hare_seen.specs.Sizes.{is_small_at}
 use Rattle.rule_types.specs.declared.written.Written.{Written}
 use Rattle.rule_types.specs.Contexts.{context_in}
 use Rattle.rule_types.specs.Known.{IsKnown}
-use Rattle.rule_types.specs.Small.{is_small_at}
 use Rattle.rule_types.specs.Answers.{IsOwnType, IsOwnFault}
-use Rattle.rule_types.proofs.OwnLemmas.{failing, met, failed, own_fault, never_unsized}
+use Rattle.rule_types.proofs.OwnLemmas.{failing, met, failed, own_fault, never_unsized, asked}
 use Rattle.rule_types.proofs.SmallLemmas.{struct_small, tuple_small}
 
 module _ (s : Store) (t : Written) (ts : List ℕ) (e : part_ids (but_last t.kids.now) ≡ Some ts) where
@@ -49,13 +49,11 @@ module _ (s : Store) (t : Written) (ts : List ℕ) (e : part_ids (but_last t.kid
 
 module _ (s : Store) (t : Written) (u : ℕ) (ts : List ℕ) (e : part_ids (but_last t.kids.now) ≡ Some ts) (id : (f : Store) → IsLater s f → id_of f (ro.Tuple ts) ≡ Some u)
     (sized : (f : Store) → IsLater s f → true ≡ all_sized f ts) where
-  pub tuple_is : IsKnown s u → row_at s u ≡ Some (ro.Tuple ts) → ((f : Store) → IsLater s f → extent_at f u ≡ extent_at s u → is_small_at f u ≡ true) → IsOwnType s t ki.TypeTuple u
-  tuple_is known here small = record {
-    type = λ f l. ap (λ o. typed_as (option_and_then (λ us. id_of f (ro.Tuple us)) o)) e ∙ ap typed_as (id f l);
-    rows = λ f l g. both_met s t ts e f (sized f l) (sym (small f l g) ∙ tuple_small f l.sound u ts (id f l));
-    unsized = λ n. never_unsized s u (ro.Tuple ts) here refl n;
-    known = known;
-  }
+  pub tuple_is : IsKnown s u → row_at s u ≡ Some (ro.Tuple ts) → is_small_at s u ≡ true → IsOwnType s t ki.TypeTuple u
+  tuple_is known here small =
+      asked s t ki.TypeTuple u (λ f l. ap (λ o. typed_as (option_and_then (λ us. id_of f (ro.Tuple us)) o)) e ∙ ap typed_as (id f l)) known
+      row.FieldsSmall refl (λ f l. refl) (λ f l h. both_met s t ts e f (sized f l) (sym h ∙ tuple_small f l.sound u ts (id f l)))
+      (λ f l h. second_failed s t ts e f (sized f l) (sym h ∙ tuple_small f l.sound u ts (id f l))) (λ n. never_unsized s u (ro.Tuple ts) here refl n) small
 
   pub tuple_large : (x : Fault) (p : Place) → x ≡ record { number = number_of row.FieldsSmall; place = p } → ((f : Store) → stands row.FieldsSmall (context_in f t) ≡ p)
       → ((f : Store) → IsLater s f → is_small_at f u ≡ false) → IsOwnFault s t ki.TypeTuple x
@@ -65,13 +63,11 @@ module _ (s : Store) (t : Written) (u : ℕ) (ts : List ℕ) (e : part_ids (but_
 module _ (s : Store) (t : Written) (u : ℕ) (fs : List Field) (e : part_ids (but_last t.kids.now) ≡ Some (field_types fs)) (id : (f : Store) → IsLater s f → id_of f (ro.Struct fs) ≡ Some u)
     (sized : (f : Store) → IsLater s f → true ≡ all_sized f (field_types fs)) where
   pub struct_is : IsKnown s u → row_at s u ≡ Some (ro.Struct fs) → ((f : Store) → IsLater s f → fields f (but_last t.kids.now) ≡ Some fs)
-      → ((f : Store) → IsLater s f → extent_at f u ≡ extent_at s u → is_small_at f u ≡ true) → IsOwnType s t ki.TypeStruct u
-  struct_is known here value small = record {
-    type = λ f l. ap (λ o. typed_as (option_and_then (λ us. id_of f (ro.Struct us)) o)) (value f l) ∙ ap typed_as (id f l);
-    rows = λ f l g. both_met s t (field_types fs) e f (sized f l) (sym (small f l g) ∙ struct_small f l.sound u fs (id f l));
-    unsized = λ n. never_unsized s u (ro.Struct fs) here refl n;
-    known = known;
-  }
+      → is_small_at s u ≡ true → IsOwnType s t ki.TypeStruct u
+  struct_is known here value small =
+      asked s t ki.TypeStruct u (λ f l. ap (λ o. typed_as (option_and_then (λ us. id_of f (ro.Struct us)) o)) (value f l) ∙ ap typed_as (id f l)) known
+      row.FieldsSmall refl (λ f l. refl) (λ f l h. both_met s t (field_types fs) e f (sized f l) (sym h ∙ struct_small f l.sound u fs (id f l)))
+      (λ f l h. second_failed s t (field_types fs) e f (sized f l) (sym h ∙ struct_small f l.sound u fs (id f l))) (λ n. never_unsized s u (ro.Struct fs) here refl n) small
 
   pub struct_large : (x : Fault) (p : Place) → x ≡ record { number = number_of row.FieldsSmall; place = p } → ((f : Store) → stands row.FieldsSmall (context_in f t) ≡ p)
       → ((f : Store) → IsLater s f → is_small_at f u ≡ false) → IsOwnFault s t ki.TypeStruct x

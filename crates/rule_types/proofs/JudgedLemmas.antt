@@ -12,6 +12,7 @@ use Rattle.hare_types.specs.declared.coercion.Ty.TheVariants as ty
 use Rattle.hare_types.specs.Store.{Store}
 use Rattle.hare_types.specs.ByIds.{has_size_at}
 use Rattle.hare_types.specs.Later.{IsLater}
+use Rattle.hare_rules.specs.declared.row_id.RowId.{RowId}
 use Rattle.hare_rules.specs.declared.row_id.RowId.TheVariants as row
 use Rattle.hare_rules.specs.Context.{Context}
 use Rattle.hare_rules.specs.Table.{rows_of, number_of}
@@ -62,6 +63,14 @@ type_by_role : (c : Context) (b : Bool) → type_in_role c (role_of b) ≡ type_
 type_by_role c true = refl
 type_by_role c false = refl
 
+-- where the type of a binding has a size, or is none of a binding
+pub sized_in_role : (b x : Bool) → x ≡ true → (not (is_bound (role_of b)) || x) ≡ true
+sized_in_role true x e = e
+sized_in_role false x e = refl
+
+pub no_binding : (b x : Bool) → b ≡ false → (not (is_bound (role_of b)) || x) ≡ true
+no_binding b x e = ap (λ y. not (is_bound (role_of y)) || x) e
+
 module _ (s : Store) (t : Written) (kind : is_type (kind_in t) ≡ true) where
   abbrev k : Kind
   k = kind_in t
@@ -69,11 +78,14 @@ module _ (s : Store) (t : Written) (kind : is_type (kind_in t) ≡ true) where
   all_rows : (f : Store) → first_failing (context_in f t) ≡ find (λ r. not (holds r (context_in f t))) (own_rows k ++ row.Bound ∷ [])
   all_rows f = ap (find (λ r. not (holds r (context_in f t)))) (rows_by t.bound k ∙ ends_bound k kind)
 
+  first_of_own : (f : Store) (r : RowId) → own_failing k (context_in f t) ≡ Some r → first_failing (context_in f t) ≡ Some r
+  first_of_own f r e = all_rows f ∙ find-some (λ r. not (holds r (context_in f t))) (own_rows k) (row.Bound ∷ []) r e
+
   -- an earlier row fails
   pub refused : (e : Fault) → IsOwnFault s t k e → IsStoppedType s t (Refused e)
   refused e h f l = record {
     row = h.row;
-    first = all_rows f ∙ find-some (λ r. not (holds r (context_in f t))) (own_rows k) (row.Bound ∷ []) h.row (h.first f l);
+    first = first_of_own f h.row (h.first f l);
     is = h.is f l;
   }
 
@@ -108,4 +120,6 @@ module _ (s : Store) (t : Written) (kind : is_type (kind_in t) ≡ true) where
     met_all z = record {
       type = type_is;
       rows = λ f l g. last f true (own.rows f l g) (bound_by f u (has_size_at f u) (type_is f l) refl ∙ z f l);
+      large = λ f r l e n. first_of_own f r (own.large f r l e n);
+      fits = own.fits;
     }

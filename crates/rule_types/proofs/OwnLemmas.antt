@@ -23,6 +23,8 @@ use Rattle.hare_rules.specs.Words.{id_in, typed_as}
 use Rattle.hare_rules.specs.Aggregates.{each_of}
 use Rattle.hare_rules.specs.Table.{number_of}
 use Rattle.hare_rules.specs.Rows.{holds, stands}
+use Rattle.hare_rules.specs.Types.{type_by}
+use Rattle.hare_seen.specs.Sizes.{size_row, is_small_at}
 use Rattle.rule_types.specs.declared.written.Written.{Written}
 use Rattle.rule_types.specs.Contexts.{context_in, own_failing}
 use Rattle.rule_types.specs.Known.{IsKnown}
@@ -48,6 +50,34 @@ own_fault s t k r p e h first at = record {
   is = λ f l. ap (λ (q : Place). let x : Fault = record { number = number_of r; place = q } in x) (at f l) ∙ sym h;
 }
 
+-- ---- types, by whether a row asks for their bytes
+
+module _ (s : Store) (t : Written) (k : Kind) (u : ℕ) (type : (f : Store) → IsLater s f → type_by (context_in f t) k ≡ Some (ty.Of u)) (known : IsKnown s u) where
+  -- none does
+  pub unasked : size_row s k u ≡ None → ((f : Store) → IsLater s f → size_row f k u ≡ None) → ((f : Store) → IsLater s f → own_failing k (context_in f t) ≡ None) → IsOwnType s t k u
+  unasked here later all = record {
+    type = type;
+    rows = λ f l g. all f l;
+    large = λ f r l e n. let none = later f l in absurd cc;
+    fits = λ r e. absurd cc;
+    unsized = λ n f l. all f l;
+    known = known;
+  }
+
+  -- this one does
+  pub asked : (q : RowId) → size_row s k u ≡ Some q → ((f : Store) → IsLater s f → size_row f k u ≡ Some q)
+      → ((f : Store) → IsLater s f → is_small_at f u ≡ true → own_failing k (context_in f t) ≡ None)
+      → ((f : Store) → IsLater s f → is_small_at f u ≡ false → own_failing k (context_in f t) ≡ Some q)
+      → (has_size_at s u ≡ false → (f : Store) → IsLater s f → own_failing k (context_in f t) ≡ None) → is_small_at s u ≡ true → IsOwnType s t k u
+  asked q here later small large unsized fits = record {
+    type = type;
+    rows = λ f l g. small f l (g q (later f l));
+    large = λ f r l e n. large f l n ∙ sym (later f l) ∙ e;
+    fits = λ r e. fits;
+    unsized = unsized;
+    known = known;
+  }
+
 abbrev pub fault_at : ℕ → Place → Fault
 fault_at n p = record { number = n; place = p }
 
@@ -68,24 +98,18 @@ never_unsized s u r e h n = let both : true ≡ false = sym (sized_by_row s u r 
 
 module _ (s : Store) (t : Written) (u i : ℕ) (e : own_type (tree_from_front 0 t.kids.now) ≡ ty.Of i) (known : IsKnown s u) where
   pub pointer_is : ((f : Store) → IsLater s f → id_of f (ro.Pointer i) ≡ Some u) → IsOwnType s t ki.TypePointer u
-  pointer_is h = record { type = λ f l. inner_is f (own_type (tree_from_front 0 t.kids.now)) i u ro.Pointer e (h f l); rows = λ f l g. refl; unsized = λ n f l. refl; known = known }
+  pointer_is h = unasked s t ki.TypePointer u (λ f l. inner_is f (own_type (tree_from_front 0 t.kids.now)) i u ro.Pointer e (h f l)) known refl (λ f l. refl) (λ f l. refl)
 
   pub nullable_is : ((f : Store) → IsLater s f → id_of f (ro.Nullable i) ≡ Some u) → IsOwnType s t ki.TypeNullable u
-  nullable_is h = record { type = λ f l. inner_is f (own_type (tree_from_front 0 t.kids.now)) i u ro.Nullable e (h f l); rows = λ f l g. refl; unsized = λ n f l. refl; known = known }
+  nullable_is h = unasked s t ki.TypeNullable u (λ f l. inner_is f (own_type (tree_from_front 0 t.kids.now)) i u ro.Nullable e (h f l)) known refl (λ f l. refl) (λ f l. refl)
 
   pub error_is : ((f : Store) → IsLater s f → id_of f (ro.Error i) ≡ Some u) → IsOwnType s t ki.TypeError u
-  error_is h = record { type = λ f l. inner_is f (own_type (tree_from_front 0 t.kids.now)) i u ro.Error e (h f l); rows = λ f l g. refl; unsized = λ n f l. refl; known = known }
+  error_is h = unasked s t ki.TypeError u (λ f l. inner_is f (own_type (tree_from_front 0 t.kids.now)) i u ro.Error e (h f l)) known refl (λ f l. refl) (λ f l. refl)
 
   pub slice_is : ((f : Store) → IsLater s f → true ≡ has_size_at f i) → ((f : Store) → IsLater s f → id_of f (ro.Slice i) ≡ Some u) → IsOwnType s t ki.TypeSlice u
-  slice_is z h = record {
-    type = λ f l. inner_is f (own_type (tree_from_front 0 t.kids.now)) i u ro.Slice e (h f l);
-    rows = λ f l g. all f l;
-    unsized = λ n f l. all f l;
-    known = known;
-  }
-    where
-      all : (f : Store) → IsLater s f → own_failing ki.TypeSlice (context_in f t) ≡ None
-      all f l = met (context_in f t) row.SliceElementSized [] (sized_item (has_size_at f) (own_type (tree_from_front 0 t.kids.now)) i true e (z f l))
+  slice_is z h =
+      unasked s t ki.TypeSlice u (λ f l. inner_is f (own_type (tree_from_front 0 t.kids.now)) i u ro.Slice e (h f l)) known refl (λ f l. refl)
+      (λ f l. met (context_in f t) row.SliceElementSized [] (sized_item (has_size_at f) (own_type (tree_from_front 0 t.kids.now)) i true e (z f l)))
 
 pub slice_unsized : (s : Store) (t : Written) (i : ℕ) (e : Fault) (p : Place) → own_type (tree_from_front 0 t.kids.now) ≡ ty.Of i → ((f : Store) → IsLater s f → false ≡ has_size_at f i)
     → e ≡ record { number = number_of row.SliceElementSized; place = p } → ((f : Store) → stands row.SliceElementSized (context_in f t) ≡ p) → IsOwnFault s t ki.TypeSlice e

@@ -16,7 +16,7 @@ use Rattle.hare_types.proofs.IdLemmas.{extent-row, id_tells}
 use Rattle.hare_types.specs.Unions.{id_of}
 use Rattle.hare_rules.specs.Aggregates.{is_small, field_types, fields_small, array_small}
 use Rattle.hare_rules.specs.Written.{union_small}
-use Rattle.rule_types.specs.Small.{is_small_at}
+use Rattle.hare_seen.specs.Sizes.{is_small_at}
 
 past : (n m : ℕ) → m ≡ min n 1099511627777 → nat_le m 67108864 ≡ false → nat_le n 67108864 ≡ false
 past n m e h = grind (arith, nat_tests)

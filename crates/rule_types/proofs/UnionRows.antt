@@ -1,16 +1,19 @@
 -- Unions that meet their rows, and those that fail one.
-use Rattle.std.proofs.Common.{◌≡◌, ℕ, zero, suc, ◌<◌, ◌≤◌, ◌==◌, Bool, true, false, List, [], ◌∷◌, length, Option, Some, None, is_none, refl, ap, sym, ◌∙◌, arith}
+use Rattle.std.proofs.Common.{◌≡◌, ℕ, zero, suc, ◌<◌, ◌≤◌, ◌≢◌, ◌==◌, Bool, true, false, List, [], ◌∷◌, length, Option, Some, None, is_none, refl, ap, sym, ◌∙◌, subst, arith}
 use Rattle.std.specs.Prelude.{nat_lt, nat_le, option_map}
 use Rattle.std.specs.Cmp.{unsigned_Decides}
 use Rattle.std.proofs.lemmas.Bool.{lt-ltb, le-leb, lt-leb}
 use Rattle.hare_tree.specs.declared.kind.Kind.TheVariants as ki
 use Rattle.hare_tree.specs.declared.place.Place.{Place}
 use Rattle.hare_tree.specs.declared.place.Fault.{Fault}
+use Rattle.hare_types.specs.declared.row.Row.{Row}
 use Rattle.hare_types.specs.declared.row.Row.TheVariants as ro
 use Rattle.hare_types.specs.Store.{Store}
-use Rattle.hare_types.specs.ByIds.{row_at, extent_at}
+use Rattle.hare_types.specs.Sound.{IsStore}
+use Rattle.hare_types.specs.ByIds.{row_at}
 use Rattle.hare_types.specs.Later.{IsLater}
 use Rattle.hare_types.specs.Unions.{ascending, joined}
+use Rattle.hare_types.proofs.FollowLemmas.{row-continued}
 use Rattle.hare_typed.specs.Typed.{TypedNode}
 use Rattle.hare_rules.specs.declared.row_id.RowId.{RowId}
 use Rattle.hare_rules.specs.declared.row_id.RowId.TheVariants as row
@@ -19,12 +22,14 @@ use Rattle.hare_rules.specs.Context.{place_of, place_or}
 use Rattle.hare_rules.specs.Table.{number_of}
 use Rattle.hare_rules.specs.Written.{odd_spread, members_sized, all_brought, left_small}
 use Rattle.hare_rules.specs.Rows.{holds, stands}
+use Rattle.hare_seen.specs.Sizes.{size_row_by, is_small_at}
+use Rattle.rule_judge.proofs.DefinedLemmas.{row_stays}
 use Rattle.rule_types.specs.declared.written.Written.{Written}
 use Rattle.rule_types.specs.Contexts.{context_in, own_failing}
 use Rattle.rule_types.specs.Known.{IsKnown}
-use Rattle.rule_types.specs.Small.{is_small_at}
+use Rattle.rule_types.specs.Joinable.{IsMember}
 use Rattle.rule_types.specs.Answers.{IsOwnType, IsOwnFault}
-use Rattle.rule_types.proofs.OwnLemmas.{failing, met, failed, own_fault, never_unsized}
+use Rattle.rule_types.proofs.OwnLemmas.{failing, met, failed, own_fault, never_unsized, asked, unasked}
 use Rattle.rule_types.proofs.SmallLemmas.{union_fits}
 
 spread_none : (o : Option TypedNode) → None ≡ option_map place_of o → is_none o ≡ true
@@ -50,6 +55,17 @@ is_zero n e = (unsigned_Decides n 0).0 e
 pub is_more : (n : ℕ) → (n == 0) ≡ false → 0 < n
 is_more zero e = absurd cc
 is_more (suc n) e = omega arith
+
+-- ---- which unions are asked for their bytes
+
+abbrev IsNoUnion : Option Row → Type 0
+IsNoUnion o = (is : List ℕ) → o ≢ Some (ro.Union is)
+
+no_union : (o : Option Row) → IsNoUnion o → size_row_by ki.TypeUnion o ≡ None
+no_union (Some (ro.Union is)) h = absurd (h is refl)
+no_union _ h = refl
+
+-- ---- rows
 
 abbrev narrow : List RowId
 narrow = row.UnionNarrow ∷ row.UnionSmall ∷ []
@@ -135,23 +151,18 @@ module _ (s : Store) (t : Written) where
                 own_fault s t ki.TypeUnion row.UnionSmall p x h
                 (λ f l. last f l ∙ failed (context_in f t) row.UnionSmall [] (small_row f l false (several f l (ascending brought) false (id f l) many (large f l)))) (λ f l. at f)
 
-            -- one that is left alone is itself the type
-            pub lone_is : length (ascending brought) ≤ 1 → IsKnown s u → IsOwnType s t ki.TypeUnion u
-            lone_is one known = record {
-              type = type_is;
-              rows = λ f l g. all f l;
-              unsized = λ n f l. all f l;
-              known = known;
-            }
-              where
-                all : (f : Store) → IsLater s f → own_failing ki.TypeUnion (context_in f t) ≡ None
-                all f l = last f l ∙ met (context_in f t) row.UnionSmall [] (small_row f l true (one_small f (ascending brought) one))
+            -- one that is left alone is itself the type, and no union
+            pub lone_is : length (ascending brought) ≤ 1 → IsStore s → IsKnown s u → IsMember s u → IsOwnType s t ki.TypeUnion u
+            lone_is one v known member =
+                unasked s t ki.TypeUnion u type_is known (no_union (row_at s u) member.not_union)
+                (λ f l. no_union (row_at f u) (subst IsNoUnion (sym (row_stays s f v l u member.within)) member.not_union))
+                (λ f l. last f l ∙ met (context_in f t) row.UnionSmall [] (small_row f l true (one_small f (ascending brought) one)))
 
             pub union_is : 1 < length (ascending brought) → IsKnown s u → row_at s u ≡ Some (ro.Union (ascending brought))
-                → ((f : Store) → IsLater s f → extent_at f u ≡ extent_at s u → is_small_at f u ≡ true) → IsOwnType s t ki.TypeUnion u
-            union_is many known here small = record {
-              type = type_is;
-              rows = λ f l g. last f l ∙ met (context_in f t) row.UnionSmall [] (small_row f l true (several f l (ascending brought) true (id f l) many (small f l g)));
-              unsized = λ n. never_unsized s u (ro.Union (ascending brought)) here refl n;
-              known = known;
-            }
+                → is_small_at s u ≡ true → IsOwnType s t ki.TypeUnion u
+            union_is many known here small =
+                asked s t ki.TypeUnion u type_is known row.UnionSmall (ap (size_row_by ki.TypeUnion) here)
+                (λ f l. ap (size_row_by ki.TypeUnion) (row-continued s f l.grows.rows u (ro.Union (ascending brought)) here))
+                (λ f l h. last f l ∙ met (context_in f t) row.UnionSmall [] (small_row f l true (several f l (ascending brought) true (id f l) many h)))
+                (λ f l h. last f l ∙ failed (context_in f t) row.UnionSmall [] (small_row f l false (several f l (ascending brought) false (id f l) many h)))
+                (λ n. never_unsized s u (ro.Union (ascending brought)) here refl n) small

@@ -1,7 +1,6 @@
 pub mod Grown
 pub mod Lengths
 pub mod Words
-pub mod Small
 pub mod Contexts
 pub mod Known
 pub mod Parts

@@ -65,7 +65,8 @@ fn own_type(alloc: Global, s: &mut TypeStore, t: &Written<'_>) -> Result<TypeId,
 /// of every later store. The store may grow in names and types, also where there is a fault.
 ///
 /// The node is a shaped type and has these kids, which have been judged. What is not known yet of the bytes of the type is not looked at, so
-/// that a type may be found too large once a name that it holds by value is defined: it meets its rows as long as no more is known of them.
+/// that a type may turn out to be too large once a name that it holds by value is defined. It meets its rows in each later store in which it is
+/// small as far as its bytes are known; in each other one the row that asks for it is the first that fails.
 pub fn judge(alloc: Global, s: &mut TypeStore, t: &Written<'_>) -> Result<TypeId, Stop<Fault>>
     requires kind { is_type (kind_in t.now) ≡ true }
     requires told { IsToldType s.old t.now }

@@ -1,13 +1,13 @@
 //! What rows of written types read of the store.
 
 ghost use Rattle.std.specs.Prelude.{◌≡◌, ◌<◌, true, false, length};
-ghost use Rattle.hare_types.specs.ByIds.{row_at, has_size_at, extent_at};
+ghost use Rattle.hare_types.specs.ByIds.{row_at, has_size_at};
 ghost use Rattle.hare_types.specs.Store.{Store};
 ghost use Rattle.hare_types.specs.Later.{IsLater};
 ghost use Rattle.hare_types.specs.declared.row.Scalar.TheVariants as keyword;
 ghost use Rattle.hare_rules.specs.Words.{is_word};
+ghost use Rattle.hare_seen.specs.Sizes.{is_small_at};
 ghost use Rattle.rule_types.specs.Known.{IsKnown};
-ghost use Rattle.rule_types.specs.Small.{is_small_at};
 
 use hare_types::{Row, Scalar, TypeId, TypeStore};
 
@@ -33,7 +33,7 @@ pub(crate) fn is_never(s: &TypeStore, t: TypeId) -> bool
 
 /// Whether the type has at most as many bytes as a type may have. It is so of one of whose bytes nothing is known yet.
 pub(crate) fn is_small(s: &TypeStore, t: TypeId) -> bool
-    ensures small { result ≡ true → (f : Store) → IsLater s.now f → extent_at f t ≡ extent_at s.now t → is_small_at f t ≡ true }
+    ensures small { result ≡ true → is_small_at s.now t ≡ true }
     ensures large { result ≡ false → (f : Store) → IsLater s.now f → is_small_at f t ≡ false }
 {
     match s.extent(t) {

@@ -11,7 +11,7 @@ ghost use Rattle.rule_judge.specs.Defined.{IsDefined};
 ghost use Rattle.rule_types.specs.Grown.{IsGrown};
 ghost use Rattle.rule_types.specs.Known.{IsKnown};
 ghost use Rattle.rule_types.specs.Members.{AreMembersKnown, AreMembersDefined};
-ghost use Rattle.rule_types.specs.Joinable.{AreJoinable, IsLoneKnown};
+ghost use Rattle.rule_types.specs.Joinable.{IsMember, AreJoinable, IsLoneKnown};
 ghost use Rattle.rule_types.specs.Answers.{IsOwnType, IsOwnStop};
 
 use crate::ids::{MOST_MEMBERS, ascending, listed};
@@ -30,6 +30,7 @@ fn joined(alloc: Global, s: &mut TypeStore, left: &[TypeId]) -> Result<TypeId, A
     requires joinable { AreJoinable s.old left.now }
     ensures id { IfOk result (λ u. (f : Store) → IsLater s.new f → unions.joined f left.now ≡ Some u) }
     ensures row { IfOk result (λ u. 1 < length left.now → row_at s.new u ≡ Some (row.Union left.now)) }
+    ensures member { IfOk result (λ u. length left.now ≡ 1 → IsMember s.new u) }
     ensures known { IfOk result (λ u. IsLoneKnown s.old left.now → IsKnown s.new u) }
     ensures defined { IfOk result (λ u. ((i : ℕ) → Contains left.now i → IsDefined s.old i) → IsDefined s.new u) }
     ensures grown { IsGrown s.old s.new }

@@ -34,4 +34,4 @@ returns-clause-ok c =
     array_is c.entered.new.s c.args.t.now c.in-Some.count c.part-u.result (λ f l. sym c.in-Some.is ∙ c.length.ensures f (later_trans c.args.s.now c.entered.new.s f c.entered.ensures.grown.later l))
     c.part-u.ensures c.in_ok-made.made c.in_ok-made.ensures.id
     (λ f l. sym c.if-not-has_size.false ∙ c.has_size.ensures f (later_trans c.args.s.now c.entered.new.s f c.entered.ensures.grown.later l))
-    (c.in_ok-made.ensures.known refl) c.in_ok-made.ensures.row (λ f l. c.is_small.ensures.small c.if-not-is_small.false f l)
+    (c.in_ok-made.ensures.known refl) c.in_ok-made.ensures.row (c.is_small.ensures.small c.if-not-is_small.false)

@@ -50,7 +50,7 @@ returns-clause-ok c =
     ∙ c.all_sized.ensures f (later_trans c.args.s.now c.fields.new.s f c.fields.ensures.grown.later (later_trans c.fields.new.s c.entered.new.s f c.entered.ensures.grown.later l))
     ∙ ap (all_sized f) (c.as_slice.ensures ∙ same))
     (c.in_ok-made.ensures.known refl) c.in_ok-made.ensures.row (λ f l. c.in_ok-list.ensures.value f (later_trans c.fields.new.s c.entered.new.s f c.entered.ensures.grown.later l))
-    (λ f l. c.is_small.ensures.small c.if-not-is_small.false f l)
+    (c.is_small.ensures.small c.if-not-is_small.false)
 
 pub returns-clause-defined : goal.returns-clause-defined
 returns-clause-defined c d =

@@ -37,7 +37,7 @@ pub returns-clause-ok : goal.returns-clause-ok
 returns-clause-ok c =
     tuple_is c.entered.new.s c.args.t.now c.in_ok-made.made c.in_ok-types.types c.in_ok-types.ensures c.in_ok-made.ensures.id
     (λ f l. sym c.if-not-all_sized.false ∙ c.all_sized.ensures f (later_trans c.args.s.now c.entered.new.s f c.entered.ensures.grown.later l) ∙ ap (all_sized f) c.as_slice.ensures)
-    (c.in_ok-made.ensures.known refl) c.in_ok-made.ensures.row (λ f l. c.is_small.ensures.small c.if-not-is_small.false f l)
+    (c.in_ok-made.ensures.known refl) c.in_ok-made.ensures.row (c.is_small.ensures.small c.if-not-is_small.false)
 
 pub returns-clause-defined : goal.returns-clause-defined
 returns-clause-defined c d =

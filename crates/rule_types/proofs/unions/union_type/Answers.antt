@@ -61,7 +61,8 @@ returns-then-len-eq1-clause-ok c =
     let known = c.in_ok-made.ensures.known (subst (IsLoneKnown c.args.s.now) (sym (list ∙ ap ascending here)) (lone_known c.args.s.now v c.args.t.now.kids.now c.requires)) in
     lone_is c.joined.new.s c.args.t.now (λ f l. no_place c.odd_spread.result c.in_default.not-Some ∙ c.odd_spread.ensures f (later_trans c.args.s.now c.joined.new.s f c.joined.ensures.grown.later l))
     (λ f l. sym c.if-not-are_sized.false ∙ c.are_sized.ensures f (later_trans c.args.s.now c.joined.new.s f c.joined.ensures.grown.later l)) c.as_slice.result.now (λ f l. c.as_slice.ensures.value ∙ c.in_ok-brought.ensures f (later_trans c.args.s.now c.joined.new.s f c.joined.ensures.grown.later l)) some (subst (λ (js : List ℕ). length js ≤ 64) all few) c.in_ok-made.made (λ f l. ap (joined f) (sym list) ∙ c.in_ok-made.ensures.id f l)
-    (omega (arith, ap length all, c.len-2.ensures, c.if-len-eq1.true)) known
+    (omega (arith, ap length all, c.len-2.ensures, c.if-len-eq1.true)) c.joined.ensures.grown.later.sound known
+    (c.in_ok-made.ensures.member (omega (arith, ap length c.as_slice-2.ensures.value, c.len-2.ensures, c.if-len-eq1.true)))
 
 pub returns-then-not-is_small-clause-err : goal.returns-then-not-is_small-clause-err
 returns-then-not-is_small-clause-err c =
@@ -87,7 +88,7 @@ returns-clause-ok c =
     let many : 1 < length (ascending c.as_slice.result.now) = omega (arith, ap length all, c.len-2.ensures, c.if-len-eq1.false, some) in
     union_is c.joined.new.s c.args.t.now (λ f l. no_place c.odd_spread.result c.in_default.not-Some ∙ c.odd_spread.ensures f (later_trans c.args.s.now c.joined.new.s f c.joined.ensures.grown.later l))
     (λ f l. sym c.if-not-are_sized.false ∙ c.are_sized.ensures f (later_trans c.args.s.now c.joined.new.s f c.joined.ensures.grown.later l)) c.as_slice.result.now (λ f l. c.as_slice.ensures.value ∙ c.in_ok-brought.ensures f (later_trans c.args.s.now c.joined.new.s f c.joined.ensures.grown.later l)) some (subst (λ (js : List ℕ). length js ≤ 64) all few) c.in_ok-made.made (λ f l. ap (joined f) (sym list) ∙ c.in_ok-made.ensures.id f l)
-    many known (c.in_ok-made.ensures.row (subst (λ (js : List ℕ). 1 < length js) (sym list) many) ∙ ap (λ (js : List ℕ). Some (ro.Union js)) list) (λ f l. c.is_small.ensures.small c.if-not-is_small.false f l)
+    many known (c.in_ok-made.ensures.row (subst (λ (js : List ℕ). 1 < length js) (sym list) many) ∙ ap (λ (js : List ℕ). Some (ro.Union js)) list) (c.is_small.ensures.small c.if-not-is_small.false)
 
 pub returns-then-len-eq1-clause-defined : goal.returns-then-len-eq1-clause-defined
 returns-then-len-eq1-clause-defined c d =
