@@ -6,3 +6,4 @@ pub mod Walking
 pub mod Nodes
 pub mod Beginnings
 pub mod Folding
+pub mod Answers

@@ -4,17 +4,16 @@ ghost use Rattle.std.specs.Prelude.{◌≡◌, ℕ, [], ◌∷◌, Some, IsTrue,
 ghost use Rattle.hare_tree.specs.declared.kind.Kind.{Kind};
 ghost use Rattle.hare_tree.specs.Shape.{is_shaped};
 ghost use Rattle.hare_above.specs.Ready.{IsKnown};
-ghost use Rattle.hare_rules.specs.Context.{declaration};
-ghost use Rattle.hare_rules.specs.Finished.{IsTheTree, expression};
+ghost use Rattle.hare_rules.specs.Finished.{expression};
+ghost use Rattle.hare_types.specs.Sound.{IsStore};
 ghost use Rattle.hare_types.specs.Store.{Store};
 ghost use Rattle.hare_walk.specs.Grown.{IsGrown};
 ghost use Rattle.hare_walk.specs.Spots.{spot};
 ghost use Rattle.rule_judge.specs.Defined.{IsDefined};
-ghost use Rattle.hare_walk.specs.Walks.{IsAnswer};
 ghost use Rattle.hare_whole.specs.Declared as whole;
-ghost use Rattle.hare_whole.specs.Turns.{params_in, result_in};
+ghost use Rattle.hare_check.specs.Answers.{IsTreeOfBody, IsStopOfBody};
 ghost use Rattle.hare_check.specs.Nodes.{Walks};
-ghost use Rattle.hare_check.specs.Walking.{program_over, AreKnownDecls};
+ghost use Rattle.hare_check.specs.Walking.{AreKnownDecls};
 
 use crate::beginnings::{Beginning, before_body};
 use crate::walker::Walker;
@@ -80,7 +79,7 @@ fn walker_over<'a>(
 }
 
 /// The one typed tree of the body of a function, by the typing rules, or exactly its first fault: that of the first row that fails at the first node, in
-/// check order, that fails. The store may grow in names and types, also where there is a fault.
+/// check order, that fails. The store may grow in names and types, also where there is a fault, and the answer holds in each later store.
 ///
 /// The conditions are that each declared type that is known is defined, and that all other types that are told mention no name that is not defined. A path
 /// that means nothing known, a declaration that is not told or is no function, and a body of more than 2^32 - 1 nodes or bindings are answered as want of
@@ -95,9 +94,10 @@ pub fn check_body(
     requires shaped { IsTrue (is_shaped expression body.now) }
     requires known { IsKnown s.old env.now.decls.now }
     requires decls { AreKnownDecls s.old env.now.decls.now }
-    ensures ok { IfOk result (λ x. let w = program_over env.now.names.now env.now.decls.now s.new in let d = declaration w env.now.own in IsTheTree w (whole.over_body env.now.own (result_in d) (length (params_in d))) (whole.before_body (params_in d) body.now) body.now x) }
-    ensures err { IfErr result (λ e. let w = program_over env.now.names.now env.now.decls.now s.new in let d = declaration w env.now.own in IsAnswer w (whole.over_body env.now.own (result_in d) (length (params_in d))) (whole.before_body (params_in d) body.now) body.now e) }
+    ensures ok { IfOk result (IsTreeOfBody env.now s.new body.now) }
+    ensures err { IfErr result (IsStopOfBody env.now s.new body.now) }
     ensures grown { IsGrown s.old s.new }
+    ensures sound { IsStore s.new }
 {
     let _law = s.declarations();
     let Some(d) = env.decls.find(env.own) else {

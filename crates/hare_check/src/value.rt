@@ -6,15 +6,16 @@ ghost use Rattle.hare_tree.specs.Shape.{is_shaped};
 ghost use Rattle.hare_above.specs.Ready.{IsKnown};
 ghost use Rattle.hare_above.specs.Stands.{start};
 ghost use Rattle.hare_rules.specs.Context as context;
-ghost use Rattle.hare_rules.specs.Finished.{IsTheTree, expression};
+ghost use Rattle.hare_rules.specs.Finished.{expression};
+ghost use Rattle.hare_types.specs.Sound.{IsStore};
 ghost use Rattle.hare_types.specs.Store.{Store};
 ghost use Rattle.hare_walk.specs.Grown.{IsGrown};
 ghost use Rattle.hare_walk.specs.Spots.{spot};
 ghost use Rattle.rule_judge.specs.Defined.{IsDefined, IsDefinedHint};
-ghost use Rattle.hare_walk.specs.Walks.{IsAnswer};
 ghost use Rattle.hare_whole.specs.Declared as whole;
+ghost use Rattle.hare_check.specs.Answers.{IsTreeOfValue, IsStopOfValue};
 ghost use Rattle.hare_check.specs.Nodes.{Walks};
-ghost use Rattle.hare_check.specs.Walking.{program_over, AreKnownDecls};
+ghost use Rattle.hare_check.specs.Walking.{AreKnownDecls};
 
 use crate::beginnings::{Beginning, before_value};
 use crate::check::Env;
@@ -60,7 +61,7 @@ fn walker_over_value<'a>(
 
 /// The one typed tree of the value of a def or a global that is asked for this, by the typing rules, or exactly its first fault: that of the first row
 /// that fails at the first node, in check order, that fails. What the value goes to stands in its constant; its own coercion is that of its turn. The
-/// store may grow in names and types, also where there is a fault.
+/// store may grow in names and types, also where there is a fault, and the answer holds in each later store.
 ///
 /// The conditions are that the type that is asked for and each declared type that is known are defined, and that all other types that are told mention no
 /// name that is not defined. A path that means nothing known, a value of more than 2^32 - 1 nodes or bindings, a declaration whose number is 2^32 - 1,
@@ -77,13 +78,15 @@ pub fn check_value(
     requires known { IsKnown s.old env.now.decls.now }
     requires decls { AreKnownDecls s.old env.now.decls.now }
     requires hint { IsDefinedHint s.old hint }
-    ensures ok { IfOk result (λ x. let w = program_over env.now.names.now env.now.decls.now s.new in IsTheTree w (whole.over_value w env.now.own hint) (whole.before_value value.now) value.now x) }
-    ensures err { IfErr result (λ e. let w = program_over env.now.names.now env.now.decls.now s.new in IsAnswer w (whole.over_value w env.now.own hint) (whole.before_value value.now) value.now e) }
+    ensures ok { IfOk result (IsTreeOfValue env.now s.new hint value.now) }
+    ensures err { IfErr result (IsStopOfValue env.now s.new hint value.now) }
     ensures grown { IsGrown s.old s.new }
+    ensures sound { IsStore s.new }
 {
     let _law = s.declarations();
-    let never = word(s, Scalar::Never)?;
+    let entered = word(s, Scalar::Never);
     let _interned = s.declarations();
+    let never = entered?;
     let mut w = walker_over_value(alloc, env, hint, never, value)?;
     let judged = check_by(alloc, s, &mut w, value, 0);
     let _sound = s.declarations();

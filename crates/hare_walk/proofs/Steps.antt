@@ -26,7 +26,7 @@ use Rattle.hare_inference.proofs.Bares.{erase-bare}
 use Rattle.hare_inference.proofs.Found.{finds}
 use Rattle.hare_inference.proofs.Hands.{coats-behind, below-behind, below_each-more, coercions-before, coat-coat}
 use Rattle.hare_walk.specs.Grown.{IsGrown}
-use Rattle.hare_walk.specs.Walks.{IsInHand, AreInHand, AreInferred, IsStop, IsInferred, IsStopped, IsTurned, IsTurnedBack, IsOver, IsBefore, IsAnswer}
+use Rattle.hare_walk.specs.Walks.{IsInHand, AreInHand, AreInferred, IsStop, IsInferred, IsStopped, IsTurned, IsTurnedBack, IsOver, IsBefore, IsAnswer, IsTheTreeLater, IsAnswerLater}
 use Rattle.hare_walk.proofs.Grows.{later-grown}
 
 -- ---- inference over lists of kids
@@ -281,3 +281,13 @@ finished w a f g t x z s p h =
     let c : coat (all_settled g) x ≡ coat (all_settled g) (bare x) =
     ap (coat (all_settled g)) h ∙ coat-coat g.coercions (all_settled g) (bare x) b in
     subst (λ (y : TypedNode). IsTheTree w a f t y) (sym c) (the_tree w a t f (bare x) g z s p)
+
+-- ---- the same in each later store
+
+pub answered_later : (w : Store → Setting) (s : Store) (a : Above) (f : Flow) (t : Node) (e : Stop Fault) → IsStopped w s a t f e →
+    IsAnswerLater w s a f t e
+answered_later w s a f t e h = λ l k. answered (w l) a f t e (h l k)
+
+pub finished_later : (w : Store → Setting) (s : Store) (a : Above) (f g : Flow) (t : Node) (x : TypedNode) → f.coercions ≡ [] →
+    IsTrue (is_shaped expression t) → IsInferred w s a t f x g → IsInHand g x → IsTheTreeLater w s a f t (coat (all_settled g) x)
+finished_later w s a f g t x z k p h = λ l e. finished (w l) a f g t x z k (p l e) h

@@ -15,7 +15,7 @@ use Rattle.hare_rules.specs.Context.{Setting, Context}
 use Rattle.hare_rules.specs.Above.{Above, over_kid}
 use Rattle.hare_rules.specs.Flow.{Flow, flow_before}
 use Rattle.hare_rules.specs.Rows.{fault_of}
-use Rattle.hare_rules.specs.Finished.{bare, IsTheFault}
+use Rattle.hare_rules.specs.Finished.{bare, IsTheTree, IsTheFault}
 use Rattle.hare_inference.specs.Inferred.{Reason, Fails, found, found_kids, with_kids, infer, infer_each}
 
 -- ---- trees of the grammar
@@ -75,3 +75,11 @@ IsBefore w s a h xs f g = (l : Store) → IsLater s l → g ≡ flow_before (w l
 abbrev pub IsAnswer : Setting → Above → Flow → Node → Stop Fault → Type 0
 IsAnswer w a f t Memory = Unit {0}
 IsAnswer w a f t (Refused e) = IsTheFault w a f t e
+
+-- in each later store the tree is well typed and erases to the body, and no other is
+abbrev pub IsTheTreeLater : (Store → Setting) → Store → Above → Flow → Node → TypedNode → Type 0
+IsTheTreeLater w s a f t x = (l : Store) → IsLater s l → IsTheTree (w l) a f t x
+
+-- in each later store the fault that is told is the first of the body
+abbrev pub IsAnswerLater : (Store → Setting) → Store → Above → Flow → Node → Stop Fault → Type 0
+IsAnswerLater w s a f t e = (l : Store) → IsLater s l → IsAnswer (w l) a f t e

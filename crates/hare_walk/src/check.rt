@@ -8,12 +8,12 @@ ghost use Rattle.hare_types.specs.Sound.{IsStore};
 ghost use Rattle.hare_types.specs.Later.{IsLater};
 ghost use Rattle.hare_typed.specs.Typed.{typed_nodes};
 ghost use Rattle.hare_typed.specs.Erased.{erase, erase_each};
-ghost use Rattle.hare_rules.specs.Finished.{bare, IsTheTree, expression};
+ghost use Rattle.hare_rules.specs.Finished.{bare, expression};
 ghost use Rattle.hare_inference.specs.Inferred.{found_kids, infer_each};
 ghost use Rattle.hare_walk.specs.Counts.{IsBegun, IsAmong, IsBehind};
 ghost use Rattle.hare_walk.specs.Grown.{IsGrown};
 ghost use Rattle.hare_walk.specs.Spots.{Spot, spot};
-ghost use Rattle.hare_walk.specs.Walks.{IsPart, Each, IsInHand, AreInHand, IsInferred, IsStopped, IsStop, IsAnswer};
+ghost use Rattle.hare_walk.specs.Walks.{IsPart, Each, IsInHand, AreInHand, IsInferred, IsStopped, IsStop, IsTheTreeLater, IsAnswerLater};
 
 use crate::counts::{At, Counts, label_number};
 use crate::walk::Walk;
@@ -23,7 +23,7 @@ use hare_types::TypeStore;
 use std::alloc::Global;
 
 /// The one typed tree of a body, or its first fault, by a walk of which nothing has been done: `first` bindings of the declaration begin before it.
-/// The store may grow, also where there is a fault. A body of more than 2^32 - 1 nodes or bindings is answered as want of memory. The call goes as
+/// The store may grow, also where there is a fault, and the answer holds in each later store. A body of more than 2^32 - 1 nodes or bindings is answered as want of memory. The call goes as
 /// deep in the host as the body is.
 pub fn check_by<W: Walk>(
     alloc: Global,
@@ -37,9 +37,10 @@ pub fn check_by<W: Walk>(
     requires first { (W.above w.old).first ≡ first }
     requires ready { W.Ready w.old s.old (spot (head body.now).kind 0 ∷ []) }
     requires shaped { IsTrue (is_shaped expression body.now) }
-    ensures ok { IfOk result (λ x. IsTheTree (W.setting w.old s.new) (W.above w.old) (W.flow w.old) body.now x) }
-    ensures err { IfErr result (λ e. IsAnswer (W.setting w.old s.new) (W.above w.old) (W.flow w.old) body.now e) }
+    ensures ok { IfOk result (IsTheTreeLater (W.setting w.old) s.new (W.above w.old) (W.flow w.old) body.now) }
+    ensures err { IfErr result (IsAnswerLater (W.setting w.old) s.new (W.above w.old) (W.flow w.old) body.now) }
     ensures grown { IsGrown s.old s.new }
+    ensures sound { IsStore s.new }
 {
     let mut counts = Counts {
         nodes: 0,
