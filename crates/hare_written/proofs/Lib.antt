@@ -1,0 +1,9 @@
+pub mod NodeLemmas
+pub mod FitLemmas
+pub mod KindLemmas
+pub mod TurnLemmas
+pub mod KidLemmas
+pub mod TreeLemmas
+pub mod FoundLemmas
+pub mod KnownLemmas
+pub mod AnswerLemmas

@@ -1,0 +1,1 @@
+//! A type of a struct with an array and a pointer.
