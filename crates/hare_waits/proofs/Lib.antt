@@ -1,0 +1,11 @@
+mod ElementLemmas
+mod GrowthLemmas
+mod HeldLemmas
+mod StayLemmas
+mod DoneLemmas
+mod NodeLemmas
+mod EnterLemmas
+mod FirstLemmas
+mod ListLemmas
+mod AwaitLemmas
+mod TreeLemmas

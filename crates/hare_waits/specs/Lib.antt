@@ -1,0 +1,5 @@
+pub mod Held
+pub mod Nodes
+pub mod Lists
+pub mod Waits
+pub mod Laws
