@@ -8,9 +8,9 @@ use Rattle.hare_tree.specs.declared.kind.Kind.{Kind}
 use Rattle.hare_tree.specs.declared.kind.Kind.TheVariants as ki
 use Rattle.hare_tree.specs.declared.place.Fault.{Fault}
 use Rattle.hare_tree.specs.Node.{Node, head}
-use Rattle.hare_types.specs.declared.declared.Declared.{Declared}
 use Rattle.hare_types.specs.Store.{Store, definition_of}
 use Rattle.hare_types.specs.Unions.{ascending}
+use Rattle.hare_seen.specs.Seen.{seen_by}
 use Rattle.hare_typed.specs.Typed.{TypedNode, marked, typed_none}
 use Rattle.hare_typed.specs.Erased.{erase}
 use Rattle.hare_typed.specs.Order.{missing, tree_from_front, backwards}
@@ -78,13 +78,12 @@ pub record Stage : Type 0 where
 abbrev pub start : Stage
 start = record { done = []; known = []; typed = [] }
 
-abbrev pub masked : Bool → Declared → Declared
-masked true x = x
-masked false x = record x { definition = None }
-
 -- the store, of whose definitions no more is seen than those of these types, and that of `rt::nomem`
+abbrev pub is_seen : List ℕ → ℕ → Bool
+is_seen done d = is_among d done || nat_eq d nomem
+
 abbrev pub seen : Store → List ℕ → Store
-seen s done = record s { declared = map (λ e. (e.0, masked (is_among e.0 done || nat_eq e.0 nomem) e.1)) s.declared }
+seen s done = seen_by (is_seen done) s
 
 abbrev pub setting_at : Listing → Store → Stage → Setting
 setting_at p s g = record { store = seen s g.done; decls = g.known; means = p.means }
@@ -122,7 +121,7 @@ known_by_types s n k so.Constant ts = []
 known_by_types s n k so.Global ts = global_known s n k (tree_from_front 0 ts) missing ∷ []
 
 abbrev pub with_types : Store → Stage → ℕ → Node → List TypedNode → Stage
-with_types s g n t ts = record g { known = known_by_types s n (head t).kind (sort_of t) ts ++ g.known; typed = (n, ts) ∷ g.typed }
+with_types s g n t ts = record g { known = g.known ++ known_by_types s n (head t).kind (sort_of t) ts; typed = (n, ts) ∷ g.typed }
 
 -- ---- values
 
@@ -167,7 +166,7 @@ known_by_value s n k so.Global t v = []
 
 abbrev pub with_value : Setting → Store → Stage → ℕ → Node → TypedNode → Stage
 with_value w s g n t v =
-    record g { known = known_by_value s n (head t).kind (sort_of t) (type_or_plain w (kid t 2) (typed_at g n)) v ++ g.known }
+    record g { known = g.known ++ known_by_value s n (head t).kind (sort_of t) (type_or_plain w (kid t 2) (typed_at g n)) v }
 
 -- ---- types that are done
 

@@ -1,0 +1,15 @@
+mod ListLemmas
+mod LaterLemmas
+mod SizeLemmas
+mod EndLemmas
+mod StopLemmas
+mod JudgedLemmas
+mod KnownLemmas
+mod RowLemmas
+mod AgreeLemmas
+mod StepLemmas
+mod DoneLemmas
+mod CourseLemmas
+mod TypesLemmas
+mod ToldLemmas
+mod OverLemmas

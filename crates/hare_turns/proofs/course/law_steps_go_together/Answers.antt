@@ -1,0 +1,5 @@
+use Rattle.hare_turns.proofs.CourseLemmas.{steps_go_together}
+use Rattle.hare_turns.proofs.course.law_steps_go_together.Goals as goal
+
+pub returns : goal.returns
+returns c = steps_go_together

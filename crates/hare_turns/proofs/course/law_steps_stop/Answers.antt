@@ -1,0 +1,5 @@
+use Rattle.hare_turns.proofs.CourseLemmas.{steps_stop}
+use Rattle.hare_turns.proofs.course.law_steps_stop.Goals as goal
+
+pub returns : goal.returns
+returns c = steps_stop

@@ -1,0 +1,5 @@
+use Rattle.hare_turns.proofs.ToldLemmas.{known_begins}
+use Rattle.hare_turns.proofs.known.law_known_begins.Goals as goal
+
+pub returns : goal.returns
+returns c = known_begins
