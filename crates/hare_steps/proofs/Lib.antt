@@ -1,0 +1,5 @@
+pub mod EarlyLemmas
+pub mod JudgedLemmas
+pub mod OrderLemmas
+pub mod PlaceLemmas
+pub mod TurnLemmas
