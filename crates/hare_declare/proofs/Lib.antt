@@ -1,0 +1,6 @@
+pub mod SeenLemmas
+pub mod GraphLemmas
+pub mod EnteredLemmas
+pub mod NomemLemmas
+pub mod ListingLemmas
+pub mod DeclaredLemmas
