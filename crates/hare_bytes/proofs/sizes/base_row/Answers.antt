@@ -1,0 +1,5 @@
+use Rattle.hare_typed.proofs.GivenLemmas.{base_within}
+use Rattle.hare_bytes.proofs.sizes.base_row.Goals as goal
+
+pub row-requires : goal.row-requires
+row-requires c = base_within c.args.s.now _ c.in_ok-b.b c.in_ok-b.ensures.some

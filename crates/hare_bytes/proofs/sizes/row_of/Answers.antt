@@ -1,0 +1,5 @@
+use Rattle.hare_bytes.proofs.RowLemmas.{based_within}
+use Rattle.hare_bytes.proofs.sizes.row_of.Goals as goal
+
+pub row-requires : goal.row-requires
+row-requires c = based_within c.args.s.now c.args.t _ c.in-Some.ensures.some
