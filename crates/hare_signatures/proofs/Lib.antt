@@ -1,0 +1,3 @@
+mod ShapeLemmas
+mod ListLemmas
+mod TypeLemmas
