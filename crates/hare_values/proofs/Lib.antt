@@ -1,0 +1,5 @@
+mod ShapeLemmas
+mod ReadyLemmas
+mod JudgingLemmas
+mod AgreeLemmas
+mod AnswerLemmas
