@@ -1,0 +1,7 @@
+mod FindLemmas
+mod KnownLemmas
+mod AgreeLemmas
+mod TypeLemmas
+mod FinishLemmas
+mod PartLemmas
+mod JoinedLemmas
