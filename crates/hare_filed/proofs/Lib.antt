@@ -1,0 +1,7 @@
+pub mod ListLemmas
+mod TokenLemmas
+mod HeadLemmas
+mod FileLemmas
+mod NameLemmas
+mod CountLemmas
+mod FiledLemmas
