@@ -18,7 +18,7 @@ use hare_names::Names;
 use hare_ready::{are_ready, is_named};
 use hare_steps::{DeclPlace, declaration_at};
 use hare_tree::{Fault, FileTree, Kind, Stop};
-use hare_typed::TypedKids;
+use hare_typed::Typed;
 use hare_types::TypeStore;
 use hx_base::Items;
 use rule_judge::DeclTypes;
@@ -51,7 +51,7 @@ pub fn judge_bodies(
     files: &Items<FileTree>,
     places: &[DeclPlace],
     known: &DeclTypes,
-) -> Result<TypedKids, Stop<Fault>>
+) -> Result<Items<Typed>, Stop<Fault>>
     requires places { ArePlaces files.now places.now }
     requires shaped { (t : Node) → Contains (decls files.now) t → is_shaped sorts.Decl t ≡ true }
     ensures ok { IfOk result (AreBodies (listing names.now files.now) known.now s.new 0 (decls files.now)) }
@@ -63,7 +63,7 @@ pub fn judge_bodies(
     if !can_judge(alloc, s, known)? {
         return Err(Stop::Memory);
     }
-    let mut bodies = TypedKids::new(alloc);
+    let mut bodies = Items::new(alloc);
     for i in 0..places.len() {
         let Ok(number) = u32::try_from(i) else {
             return Err(Stop::Memory);
@@ -73,7 +73,7 @@ pub fn judge_bodies(
         };
         if decl.kind == Kind::Fn {
             let body = judge_function(alloc, s, names, known, number, decl)?;
-            bodies.push(alloc, body)?;
+            bodies.push(body)?;
         }
     }
     Ok(bodies)
