@@ -1,0 +1,6 @@
+mod StoreLemmas
+mod FinishedLemmas
+mod PhaseLemmas
+mod CompleteLemmas
+mod TagLemmas
+mod ProgramLemmas

@@ -1,0 +1,10 @@
+//! Whole programs: from the paths and bytes of files to the checked program, or the first fault.
+#![tactic(auto)]
+
+mod checked;
+mod finished;
+mod limits;
+mod phases;
+mod reversed;
+
+pub use checked::{Checked, program};
