@@ -1,0 +1,4 @@
+pub mod FileLemmas
+pub mod LogLemmas
+pub mod NameLemmas
+pub mod AnswerLemmas
