@@ -1,6 +1,7 @@
 -- How the program's rows and waits are read as those of the table.
-use Rattle.std.specs.Prelude.{◌<◌, List, [], ◌∷◌}
+use Rattle.std.specs.Prelude.{◌<◌, List, [], ◌∷◌, Option, Some, None}
 use Rattle.std.specs.List.{flat_map}
+use Rattle.hare_tree.specs.declared.form.Sign.{Sign}
 use Rattle.hare_grammar.specs.declared.rule.Symbol.{Symbol}
 use Rattle.hare_grammar.specs.declared.class.Class.{Class}
 use Rattle.hare_grammar.specs.declared.class.Class.TheVariants as cl
@@ -30,3 +31,8 @@ seen (ro.Uses cs ws) = rows.Uses cs.items (waited ws.items)
 abbrev pub has_room : Class → Type 0
 has_room (cl.Binary m) = m < 255
 has_room _ = Unit {0}
+
+-- the class of a sign that was found, or else another class
+abbrev pub sign_or_else : Option Sign → Class → Class
+sign_or_else None other = other
+sign_or_else (Some s) other = cl.Sign s

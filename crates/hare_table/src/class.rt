@@ -4,9 +4,9 @@ ghost use Rattle.std.specs.Prelude.{◌≡◌, ◌^◌, nat_lt, bytes_eq, slice_
 ghost use Rattle.std.specs.Char.{is_ascii_digit};
 ghost use Rattle.hare_tree.specs.Shape as shape;
 ghost use Rattle.hare_grammar.specs.Classes as classes;
-ghost use Rattle.hare_table.specs.Seen.{has_room};
+ghost use Rattle.hare_table.specs.Seen.{has_room, sign_or_else};
 
-use crate::signs::{KEYWORDS, MARKS};
+use crate::signs::{keywords_like, marks_like};
 use hare_grammar::Class;
 use hare_tree::{
     Kind, Own, Sign, Suffix, Token, TokenKind, is_listed, is_name, is_operator_of, operator_level,
@@ -70,7 +70,20 @@ fn keyword_class(text: &[u8]) -> Class
     ensures value { result ≡ classes.sign_or (classes.word_class text.now) classes.keyword_signs text.now }
     ensures within { has_room result }
 {
-    sign_or(word_class(text), &KEYWORDS, text)
+    match keyword_sign(text) {
+        Some(sign) => Class::Sign(sign),
+        None => word_class(text),
+    }
+}
+
+/// The keyword with this spelling that forms have; none where there is none.
+fn keyword_sign(text: &[u8]) -> Option<Sign>
+    ensures { (other : Class) → sign_or_else result other ≡ classes.sign_or other classes.keyword_signs text.now }
+{
+    match text {
+        [first, ..] => sign_in(keywords_like(*first), text),
+        [] => None,
+    }
 }
 
 /// The class of a mark.
@@ -78,28 +91,39 @@ fn mark_class(text: &[u8]) -> Class
     ensures value { result ≡ classes.sign_or (classes.operator_class text.now) classes.mark_signs text.now }
     ensures within { has_room result }
 {
-    sign_or(operator_class(text), &MARKS, text)
+    match mark_sign(text) {
+        Some(sign) => Class::Sign(sign),
+        None => operator_class(text),
+    }
 }
 
-/// The sign of the list with this spelling, or else the other class.
-fn sign_or(other: Class, signs: &[Sign], text: &[u8]) -> Class
-    requires { has_room other }
-    ensures value { result ≡ classes.sign_or other signs.now text.now }
-    ensures within { has_room result }
+/// The mark with this spelling that forms have; none where there is none.
+fn mark_sign(text: &[u8]) -> Option<Sign>
+    ensures { (other : Class) → sign_or_else result other ≡ classes.sign_or other classes.mark_signs text.now }
+{
+    match text {
+        [first, ..] => sign_in(marks_like(*first), text),
+        [] => None,
+    }
+}
+
+/// The sign of the list with this spelling; none where there is none.
+fn sign_in(signs: &[Sign], text: &[u8]) -> Option<Sign>
+    ensures { (other : Class) → sign_or_else result other ≡ classes.sign_or other signs.now text.now }
 {
     for sign in signs {
         if is_same(sign_word(*sign), text) {
-            return Class::Sign(*sign);
+            return Some(*sign);
         }
     }
-    other
+    None
 }
 
 /// Whether two words are the same.
 fn is_same(a: &[u8], b: &[u8]) -> bool
     ensures { result ≡ bytes_eq a.now b.now }
 {
-    a == b
+    a.len() == b.len() && a == b
 }
 
 /// The class of a keyword that is no sign.

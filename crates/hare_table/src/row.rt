@@ -47,8 +47,17 @@ pub fn uses(alloc: Global, changes: &[Change], waits: &[Wait]) -> Result<Row, Al
     ensures { IfOk result (λ r. seen r ≡ rows.Uses changes.now (waited waits.now)) }
 {
     let changes = Vec::from_slice(alloc, changes)?;
-    let waits = Vec::from_slice(alloc, waits)?;
+    let waits = with_room(alloc, waits)?;
     Ok(Row::Uses(changes, waits))
+}
+
+/// These waits, with room for the few that other rules put behind them.
+fn with_room(alloc: Global, waits: &[Wait]) -> Result<Vec<Wait>, AllocError>
+    ensures { IfOk result (λ all. all.items ≡ waits.now) }
+{
+    let mut all = Vec::with_capacity(alloc, waits.len() + 2)?;
+    all.extend_from_slice(waits)?;
+    Ok(all)
 }
 
 /// The rule is over after these changes.

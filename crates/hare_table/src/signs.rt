@@ -1,67 +1,67 @@
-//! The keywords and marks that forms have.
+//! The keywords and marks that forms have, by their first bytes.
+
+ghost use Rattle.std.specs.Prelude.{◌≡◌, List, ℕ, ◌∷◌};
+ghost use Rattle.hare_grammar.specs.declared.class.Class.{Class};
+ghost use Rattle.hare_grammar.specs.Classes as classes;
 
 use hare_tree::Sign;
 
-/// The keywords that forms have.
-pub const KEYWORDS: [Sign; 34] = [
-    Sign::Abort,
-    Sign::Align,
-    Sign::Alloc,
-    Sign::Append,
-    Sign::As,
-    Sign::Assert,
-    Sign::Break,
-    Sign::Case,
-    Sign::Const,
-    Sign::Continue,
-    Sign::Def,
-    Sign::Defer,
-    Sign::Delete,
-    Sign::Else,
-    Sign::Export,
-    Sign::Fn,
-    Sign::For,
-    Sign::Free,
-    Sign::If,
-    Sign::Is,
-    Sign::Len,
-    Sign::Let,
-    Sign::Match,
-    Sign::Null,
-    Sign::Nullable,
-    Sign::Offset,
-    Sign::Return,
-    Sign::Size,
-    Sign::Struct,
-    Sign::Switch,
-    Sign::Type,
-    Sign::Use,
-    Sign::Void,
-    Sign::Yield,
-];
+/// The keywords that forms have and that begin with this byte.
+pub fn keywords_like(first: u8) -> &'static [Sign]
+    ensures { (other : Class) (rest : List ℕ) → classes.sign_or other result.now (first ∷ rest) ≡ classes.sign_or other classes.keyword_signs (first ∷ rest) }
+{
+    match first {
+        b'a' => &[
+            Sign::Abort,
+            Sign::Align,
+            Sign::Alloc,
+            Sign::Append,
+            Sign::As,
+            Sign::Assert,
+        ],
+        b'b' => &[Sign::Break],
+        b'c' => &[Sign::Case, Sign::Const, Sign::Continue],
+        b'd' => &[Sign::Def, Sign::Defer, Sign::Delete],
+        b'e' => &[Sign::Else, Sign::Export],
+        b'f' => &[Sign::Fn, Sign::For, Sign::Free],
+        b'i' => &[Sign::If, Sign::Is],
+        b'l' => &[Sign::Len, Sign::Let],
+        b'm' => &[Sign::Match],
+        b'n' => &[Sign::Null, Sign::Nullable],
+        b'o' => &[Sign::Offset],
+        b'r' => &[Sign::Return],
+        b's' => &[Sign::Size, Sign::Struct, Sign::Switch],
+        b't' => &[Sign::Type],
+        b'u' => &[Sign::Use],
+        b'v' => &[Sign::Void],
+        b'y' => &[Sign::Yield],
+        _ => &[],
+    }
+}
 
-/// The marks that forms have.
-pub const MARKS: [Sign; 22] = [
-    Sign::Bang,
-    Sign::Ampersand,
-    Sign::LeftParen,
-    Sign::RightParen,
-    Sign::Star,
-    Sign::Comma,
-    Sign::Minus,
-    Sign::Dot,
-    Sign::DotDot,
-    Sign::Dots,
-    Sign::Colon,
-    Sign::PathMark,
-    Sign::Semicolon,
-    Sign::Equals,
-    Sign::Arrow,
-    Sign::Question,
-    Sign::LeftBracket,
-    Sign::RightBracket,
-    Sign::LeftBrace,
-    Sign::Bar,
-    Sign::RightBrace,
-    Sign::Tilde,
-];
+/// The marks that forms have and that begin with this byte.
+pub fn marks_like(first: u8) -> &'static [Sign]
+    ensures { (other : Class) (rest : List ℕ) → classes.sign_or other result.now (first ∷ rest) ≡ classes.sign_or other classes.mark_signs (first ∷ rest) }
+{
+    match first {
+        b'!' => &[Sign::Bang],
+        b'&' => &[Sign::Ampersand],
+        b'(' => &[Sign::LeftParen],
+        b')' => &[Sign::RightParen],
+        b'*' => &[Sign::Star],
+        b',' => &[Sign::Comma],
+        b'-' => &[Sign::Minus],
+        b'.' => &[Sign::Dot, Sign::DotDot, Sign::Dots],
+        b':' => &[Sign::Colon, Sign::PathMark],
+        b';' => &[Sign::Semicolon],
+        b'=' => &[Sign::Equals, Sign::Arrow],
+        b'?' => &[Sign::Question],
+        b'[' => &[Sign::LeftBracket],
+        b']' => &[Sign::RightBracket],
+        b'{' => &[Sign::LeftBrace],
+        b'|' => &[Sign::Bar],
+        b'}' => &[Sign::RightBrace],
+        b'~' => &[Sign::Tilde],
+        _ => &[],
+    }
+}

@@ -1,6 +1,6 @@
-use Rattle.std.proofs.Common.{◌∙◌, ap}
-use Rattle.hare_grammar.specs.Classes.{sign_or, keyword_signs}
+use Rattle.hare_grammar.specs.Classes.{keyword_signs}
+use Rattle.hare_table.proofs.Classified.{sign_or_other}
 use Rattle.hare_table.proofs.class.keyword_class.Goals as goal
 
-pub returns-clause-value : goal.returns-clause-value
-returns-clause-value c = c.sign_or.ensures.value ∙ ap (λ w. sign_or w keyword_signs c.args.text.now) c.word_class.ensures.value
+pub returns-in-None-clause-value : goal.returns-in-None-clause-value
+returns-in-None-clause-value c = sign_or_other _ keyword_signs c.args.text.now _ _ c.keyword_sign.ensures c.in-None.is c.word_class.ensures.value
