@@ -1,14 +1,12 @@
 -- The longest word of a table at the front of a text.
-use Rattle.std.proofs.Common.{◌≡◌, ℕ, zero, suc, ◌<◌, ◌≤◌, List, [], ◌∷◌, ◌++◌, Bool, true, false, cond, not, leb, eqb, length, take, refl, sym, ap, ◌∙◌, arith, if◌then◌else◌}
+use Rattle.std.proofs.Common.{◌≡◌, ℕ, zero, suc, ◌<◌, ◌≤◌, List, [], ◌∷◌, ◌++◌, Bool, true, false, cond, not, leb, length, take, refl, ap, arith}
 use Rattle.std.specs.List.{list_all, AllByRecursion}
 use Rattle.std.specs.Char.{is_digit, digit_value}
-use Rattle.std.specs.Prelude.{◌&&◌, ◌||◌, bytes_eq}
-use Rattle.std.proofs.lemmas.Bool.{eq-eqb, eqb-true}
 use Rattle.std.proofs.lemmas.Bool.Decides.{nat_tests}
 use Rattle.hare_tree.specs.declared.token.Suffix.{Suffix}
 use Rattle.hare_tree.specs.declared.token.Suffix.TheVariants.{None, I8, I16, I32, I64, U8, U16, U32, U64, I, U, Z}
 use Rattle.hare_tree.specs.Words.{is_listed, marks, suffix_word}
-use Rattle.hare_lex.specs.Lexing.{longest, longest_by_length, of_length, suffixes, suffix_named}
+use Rattle.hare_lex.specs.Lexing.{longest, suffixes, suffix_named}
 use Rattle.hare_lex.proofs.Lists.{and_left, and_right, listed_case, take_take}
 
 -- a length that is picked by three tests
@@ -152,62 +150,9 @@ suffix_no_digit I r h = ap not (not_digit 105 r (omega arith) h)
 suffix_no_digit U r h = ap not (not_digit 117 r (omega arith) h)
 suffix_no_digit Z r h = ap not (not_digit 122 r (omega arith) h)
 
--- ---- words by their lengths
+-- ---- words by their first byte
 
-and_no : (b : Bool) → (b && false) ≡ false
-and_no true = refl
-and_no false = refl
-
--- words of two lengths are not the same
-other_length : (k w : List ℕ) → (length k ≡ length w → ⊥) → bytes_eq k w ≡ false
-other_length [] [] e = absurd (e refl)
-other_length [] (y ∷ w) e = refl
-other_length (x ∷ k) [] e = refl
-other_length (x ∷ k) (y ∷ w) e = rw (other_length k w (λ h. e (ap suc h))) (and_no (eqb x y))
-
-not_same : (a b : ℕ) → eqb a b ≡ false → a ≡ b → ⊥
-not_same a b h l = let t = eq-eqb a b l in cc
-
-listed_of_length : (words : List (List ℕ)) (w : List ℕ) (n : ℕ) → length w ≡ n → is_listed (of_length n words) w ≡ is_listed words w
-listed_of_length [] w n e = refl
-listed_of_length (k ∷ words) w n e = by (eqb (length k) n) refl (listed_of_length words w n e)
-  where
-    by : (b : Bool) → eqb (length k) n ≡ b → is_listed (of_length n words) w ≡ is_listed words w → is_listed (if b then k ∷ of_length n words else of_length n words) w ≡ is_listed (k ∷ words) w
-    by true h i = ap (λ r. bytes_eq k w || r) i
-    by false h i =
-        let d : bytes_eq k w ≡ false = other_length k w (λ l. absurd (not_same (length k) n h (l ∙ e))) in
-        i ∙ sym (ap (λ b. b || is_listed words w) d)
-
--- no word of another length is at the front
-none_of_length : (words : List (List ℕ)) (w : List ℕ) (n : ℕ) → (length w ≡ n → ⊥) → is_listed (of_length n words) w ≡ false
-none_of_length [] w n e = refl
-none_of_length (k ∷ words) w n e = by (eqb (length k) n) refl (none_of_length words w n e)
-  where
-    by : (b : Bool) → eqb (length k) n ≡ b → is_listed (of_length n words) w ≡ false → is_listed (if b then k ∷ of_length n words else of_length n words) w ≡ false
-    by true h i =
-        let d : bytes_eq k w ≡ false = other_length k w (λ l. e (sym l ∙ eqb-true (length k) n h)) in
-        ap (λ b. b || is_listed (of_length n words) w) d ∙ i
-    by false h i = i
-
-pub longest_is_by_length : (words : List (List ℕ)) (s : List ℕ) → is_listed words [] ≡ false → longest_by_length words s ≡ longest words s
+-- lists that agree on the words that begin with a byte agree on the longest in front of a text that begins with it
+pub longest_like : (some all : List (List ℕ)) (c : ℕ) (s : List ℕ) → ((rest : List ℕ) → is_listed some (c ∷ rest) ≡ is_listed all (c ∷ rest)) → longest some (c ∷ s) ≡ longest all (c ∷ s)
 unfolding longest
-longest_is_by_length words [] e =
-    rw (none_of_length words [] 3 (λ h. cc), none_of_length words [] 2 (λ h. cc), none_of_length words [] 1 (λ h. cc), e) refl
-longest_is_by_length words (a ∷ []) e =
-    rw (none_of_length words (a ∷ []) 3 (λ h. cc), none_of_length words (a ∷ []) 2 (λ h. cc), listed_of_length words (a ∷ []) 1 refl) (alone (is_listed words (a ∷ [])))
-  where
-    alone : (p : Bool) → cond p (length (a ∷ [])) 0 ≡ cond p (length (a ∷ [])) (cond p (length (a ∷ [])) (cond p (length (a ∷ [])) 0))
-    alone true = refl
-    alone false = refl
-longest_is_by_length words (a ∷ b ∷ []) e =
-    rw (none_of_length words (a ∷ b ∷ []) 3 (λ h. cc), listed_of_length words (a ∷ b ∷ []) 2 refl, listed_of_length words (a ∷ []) 1 refl)
-    (pair (is_listed words (a ∷ b ∷ [])) (cond (is_listed words (a ∷ [])) (length (a ∷ [])) 0))
-  where
-    pair : (p : Bool) (n : ℕ) → cond p (length (a ∷ b ∷ [])) n ≡ cond p (length (a ∷ b ∷ [])) (cond p (length (a ∷ b ∷ [])) n)
-    pair true n = refl
-    pair false n = refl
-longest_is_by_length words (a ∷ b ∷ c ∷ s) e =
-    rw (listed_of_length words (a ∷ b ∷ c ∷ []) 3 refl, listed_of_length words (a ∷ b ∷ []) 2 refl, listed_of_length words (a ∷ []) 1 refl) refl
-
-pub marks_by_length : (s : List ℕ) → longest_by_length marks s ≡ longest marks s
-marks_by_length s = longest_is_by_length marks s refl
+longest_like some all c s h = rw (h (take 2 s), h (take 1 s), h []) refl

@@ -28,19 +28,6 @@ longest words s =
     else if is_listed words (take 1 s) then length (take 1 s)
     else 0
 
--- the words with so many bytes
-abbrev pub of_length : ℕ → List (List ℕ) → List (List ℕ)
-of_length n [] = []
-of_length n (w ∷ words) = if length w == n then w ∷ of_length n words else of_length n words
-
--- the same, where each front is compared with the words of its length alone
-abbrev pub longest_by_length : List (List ℕ) → List ℕ → ℕ
-longest_by_length words s =
-    if is_listed (of_length 3 words) (take 3 s) then length (take 3 s)
-    else if is_listed (of_length 2 words) (take 2 s) then length (take 2 s)
-    else if is_listed (of_length 1 words) (take 1 s) then length (take 1 s)
-    else 0
-
 abbrev pub suffixes : List (List ℕ)
 suffixes =
     codes "i8" ∷ codes "i16" ∷ codes "i32" ∷ codes "i64" ∷ codes "u8" ∷ codes "u16" ∷ codes "u32" ∷ codes "u64" ∷ codes "i" ∷ codes "u"

@@ -1,26 +1,11 @@
 //! The tables of marks and suffixes, and how they are looked up.
 
-ghost use Rattle.std.specs.Prelude.{◌≡◌, ◌≤◌, length, map};
-ghost use Rattle.hare_tree.specs.Words.{marks};
-ghost use Rattle.hare_lex.specs.Lexing.{longest, longest_by_length, suffixes, suffix_named};
+ghost use Rattle.std.specs.Prelude.{◌≡◌, ◌≤◌, List, ℕ, ◌∷◌, length, map};
+ghost use Rattle.hare_tree.specs.Words.{is_listed, marks};
+ghost use Rattle.hare_lex.specs.Lexing.{longest, suffixes, suffix_named};
 
 use crate::bytes::front;
 use hare_tree::{Suffix, is_listed};
-
-/// The marks of three bytes.
-const THREE: [&[u8]; 3] = [b"...", b"<<=", b">>="];
-
-/// The marks of two bytes.
-const TWO: [&[u8]; 20] = [
-    b"!=", b"%=", b"&=", b"&&", b"*=", b"+=", b"-=", b"..", b"/=", b"::", b"<<", b"<=", b"==",
-    b"=>", b">=", b">>", b"^=", b"^^", b"|=", b"||",
-];
-
-/// The marks of one byte.
-const ONE: [&[u8]; 24] = [
-    b"!", b"%", b"&", b"(", b")", b"*", b"+", b",", b"-", b".", b"/", b":", b";", b"<", b"=", b">",
-    b"?", b"[", b"]", b"^", b"{", b"|", b"}", b"~",
-];
 
 /// The suffixes of numbers.
 pub const SUFFIXES: [&[u8]; 11] = [
@@ -28,29 +13,47 @@ pub const SUFFIXES: [&[u8]; 11] = [
 ];
 
 // The length of the longest mark at the front, 0 where none stands there.
-#[tactic(auto, using(crate::proofs::Longest::marks_by_length, crate::proofs::Longest::longest_within))]
+#[tactic(auto, using(crate::proofs::Longest::longest_like), unfolding(crate::specs::Lexing::longest))]
 pub fn mark_len(s: &[u8]) -> usize
     ensures value { result ≡ longest marks s.now }
     ensures within { result ≤ length s.now }
 {
-    longest_mark(s)
+    match s {
+        [first, ..] => longest(marks_like(*first), s),
+        [] => 0,
+    }
 }
 
-// The same, by the lengths of marks, so that each is compared only with those of its length.
-fn longest_mark(s: &[u8]) -> usize
-    ensures { result ≡ longest_by_length marks s.now }
+// The marks that begin with this byte.
+fn marks_like(first: u8) -> &'static [&'static [u8]]
+    ensures { (rest : List ℕ) → is_listed (map (λ w. w.now) result.now) (first ∷ rest) ≡ is_listed marks (first ∷ rest) }
 {
-    let three = front(s, 3);
-    let two = front(s, 2);
-    let one = front(s, 1);
-    if is_listed(&THREE, three) {
-        three.len()
-    } else if is_listed(&TWO, two) {
-        two.len()
-    } else if is_listed(&ONE, one) {
-        one.len()
-    } else {
-        0
+    match first {
+        b'!' => &[b"!", b"!="],
+        b'%' => &[b"%", b"%="],
+        b'&' => &[b"&", b"&=", b"&&"],
+        b'(' => &[b"("],
+        b')' => &[b")"],
+        b'*' => &[b"*", b"*="],
+        b'+' => &[b"+", b"+="],
+        b',' => &[b","],
+        b'-' => &[b"-", b"-="],
+        b'.' => &[b".", b"..", b"..."],
+        b'/' => &[b"/", b"/="],
+        b':' => &[b":", b"::"],
+        b';' => &[b";"],
+        b'<' => &[b"<", b"<<", b"<<=", b"<="],
+        b'=' => &[b"=", b"==", b"=>"],
+        b'>' => &[b">", b">=", b">>", b">>="],
+        b'?' => &[b"?"],
+        b'[' => &[b"["],
+        b']' => &[b"]"],
+        b'^' => &[b"^", b"^=", b"^^"],
+        b'{' => &[b"{"],
+        b'|' => &[b"|", b"|=", b"||"],
+        b'}' => &[b"}"],
+        b'~' => &[b"~"],
+        _ => &[],
     }
 }
 
