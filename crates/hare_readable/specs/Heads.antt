@@ -2,12 +2,10 @@
 use Rattle.std.specs.Prelude.{◌≡◌, ℕ, List, Contains, IsSome}
 use Rattle.hare_tree.specs.declared.kind.Kind.{Kind}
 use Rattle.hare_tree.specs.declared.place.Place.{Place}
-use Rattle.hare_tree.specs.declared.token.Meaning.{Meaning}
 use Rattle.hare_tree.specs.declared.token.Meaning.TheVariants as me
 use Rattle.hare_tree.specs.Node.{Head, Node, nodes_of}
 use Rattle.hare_typed.specs.Erased.{heads, heads_each}
 use Rattle.hare_rules.specs.declared.declared.DeclType.{DeclType}
-use Rattle.hare_names.specs.Answers.{meaning_in}
 use Rattle.hare_depends.specs.declared.said.Sort.TheVariants as so
 use Rattle.hare_depends.specs.Sorts.{sort_of}
 use Rattle.hare_whole.specs.Listing.{Listing, IsDecl}
@@ -25,9 +23,9 @@ InKids P ts = (h : Head) → Contains (heads_each (nodes_of ts)) h → P h
 
 -- ---- paths
 
--- the path means no declaration, or one that is known
-abbrev pub MeansKnown : List (Place × Meaning) → List DeclType → Place → Type 0
-MeansKnown ns ds q = (n : ℕ) → meaning_in ns q ≡ me.Decl n → IsSome (known_of ds n)
+-- the path means no declaration of the program, or one that is known
+abbrev pub MeansKnown : Listing → List DeclType → Place → Type 0
+MeansKnown p ds q = (n : ℕ) → p.means q ≡ me.Decl n → (t : Node) → IsDecl p n t → IsSome (known_of ds n)
 
 -- the path means no declaration of the program, or a type
 abbrev pub MeansType : Listing → Place → Type 0

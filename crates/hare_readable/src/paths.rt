@@ -10,14 +10,24 @@ use hare_tree::{FileTree, Kind, Meaning, Place};
 use hx_base::Items;
 use rule_judge::DeclTypes;
 
-/// Whether the path of an expression at a place means no declaration, or one that is known.
-fn is_known(names: &Names, known: &DeclTypes, place: Place) -> bool
-    ensures { IsTrue result → MeansKnown names.now known.now place }
+/// Whether the path of an expression at a place means no declaration of the program, or one that is known. `rt::nomem` is none of the program.
+fn is_known(
+    names: &Names,
+    known: &DeclTypes,
+    files: &Items<FileTree>,
+    places: &[DeclPlace],
+    place: Place,
+) -> bool
+    requires places { ArePlaces files.now places.now }
+    ensures value { IsTrue result → MeansKnown (listing names.now files.now) known.now place }
 {
     let Meaning::Decl(number) = names.meaning(place) else {
         return true;
     };
-    known.find(number).is_some()
+    match declaration_at(files, places, number) {
+        Some(_) => known.find(number).is_some(),
+        None => true,
+    }
 }
 
 /// Whether the path of a type at a place means no declaration of the program, or a type.
@@ -47,7 +57,7 @@ pub(crate) fn is_readable_at(
     ensures value { IsTrue result → IsReadableAt (listing names.now files.now) known.now kind place }
 {
     match kind {
-        Kind::Path => is_known(names, known, place),
+        Kind::Path => is_known(names, known, files, places, place),
         Kind::TypePath => means_type(names, files, places, place),
         _ => true,
     }

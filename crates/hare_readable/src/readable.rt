@@ -12,8 +12,8 @@ use hare_tree::{FileTree, Kids, Tree};
 use hx_base::Items;
 use rule_judge::DeclTypes;
 
-/// Whether what the paths of a tree say stays as it is when more becomes known of declarations: each path of an expression that means a declaration means
-/// one that is known, and each path of a type one of a type, or one that is not of the program. The call goes as deep in the host as the tree is.
+/// Whether what the paths of a tree say stays as it is when more becomes known of declarations: of the declarations of the program each path of an expression
+/// means one that is known, if any, and each path of a type one of a type. The call goes as deep in the host as the tree is.
 pub fn is_readable(
     names: &Names,
     known: &DeclTypes,

@@ -19,7 +19,7 @@ use Rattle.hare_whole.specs.Turns.{IsTyped, AreTyped, IsTypeFault, IsTypesFault,
 use Rattle.hare_turns.specs.Stages.{over, AreReadable, AreTypesOf, IsValueOf}
 use Rattle.hare_turns.proofs.ListLemmas.{Contains-head, Contains-tail}
 use Rattle.hare_turns.proofs.LaterLemmas.{IsLater-refl}
-use Rattle.hare_turns.proofs.KnownLemmas.{AreReadable-more, says_the_same}
+use Rattle.hare_turns.proofs.KnownLemmas.{AreOfProgram, AreReadable-more, says_the_same}
 use Rattle.hare_turns.proofs.RowLemmas.{first_failing-told}
 
 -- what paths of written types say stays as it is
@@ -27,11 +27,11 @@ abbrev AreAllReadable : Listing → List DeclType → List Written → Type 0
 AreAllReadable p ds [] = Unit {0}
 AreAllReadable p ds (r ∷ rs) = AreReadable p ds r.1 × AreAllReadable p ds rs
 
-module _ (enough : ValuesAreEnough) (p : Listing) (ds ks : List DeclType) where
+module _ (enough : ValuesAreEnough) (p : Listing) (ds ks : List DeclType) (own : AreOfProgram p ks) where
   agreed : (f : Store) (a : Above) (x : Flow) (t : Node) → AreReadable p ds t → IsAgreed (over p ds f) (over p (ds ++ ks) f) a x t
   agreed f a x t h =
       enough (over p ds f) (over p (ds ++ ks) f) a x t (record { store = refl; means = refl })
-      (λ k n c e i. says_the_same p ds ks k.kind n e (h k n c i))
+      (λ k n c e i. says_the_same p ds ks own k.kind n e (h k n c i))
 
   -- ---- written types
 

@@ -22,6 +22,7 @@ use Rattle.hare_turns.specs.Laws.{EndsAreSeen, IsNewIn, TypesGoOn, ValueGoesOn}
 use Rattle.hare_turns.proofs.ListLemmas.{Contains-cons_cases, slice_get-same}
 use Rattle.hare_turns.proofs.LaterLemmas.{IsLater-refl}
 use Rattle.hare_turns.proofs.SizeLemmas.{AllFit-later}
+use Rattle.hare_turns.proofs.KnownLemmas.{AreOfProgram, known_by_types-of_program, known_by_value-of_program}
 use Rattle.hare_turns.proofs.AgreeLemmas.{AreTypesOf-more, IsValueOf-more}
 
 -- the checking may end with the store as it is
@@ -40,6 +41,9 @@ module _ (enough : ValuesAreEnough) (p : Listing) (s : Store) (g : Stage) (vs : 
     (fit : AllFit s ts) where
   abbrev known_then : List DeclType
   known_then = known_by_types s n (head t).kind (sort_of t) ts
+
+  of_program : AreOfProgram p known_then
+  of_program = known_by_types-of_program p s n t d (head t).kind (sort_of t) ts
 
   stage_with_types : IsStage p s (with_types s g n t ts) vs
   stage_with_types = record {
@@ -64,7 +68,7 @@ module _ (enough : ValuesAreEnough) (p : Listing) (s : Store) (g : Stage) (vs : 
 
       more : (m : ℕ) (u : Node) (us : List TypedNode) → AllFit s us → AreTypesOf p g.known s m u us →
           AreTypesOf p (g.known ++ known_then) s m u us
-      more m u us a b = AreTypesOf-more enough p g.known known_then s m u us h.sound a b
+      more m u us a b = AreTypesOf-more enough p g.known known_then of_program s m u us h.sound a b
 
       types : (m : ℕ) (u : Node) (us : List TypedNode) → Contains ((n, ts) ∷ g.typed) (m, us) → IsDecl p m u →
           AreTypesOf p (g.known ++ known_then) s m u us
@@ -87,7 +91,7 @@ module _ (enough : ValuesAreEnough) (p : Listing) (s : Store) (g : Stage) (vs : 
       values m u v c i =
           subst (λ (xs : List TypedNode). IsValueOf p (g.known ++ known_then) s m u xs v)
           (sym (typed_at-other s g n t ts m (λ j. new.unvalued v (subst (λ (k : ℕ). Contains vs (k, v)) j c))))
-          (IsValueOf-more enough p g.known known_then s m u (typed_at g m) v (h.values m u v c i))
+          (IsValueOf-more enough p g.known known_then of_program s m u (typed_at g m) v (h.values m u v c i))
 
 pub types_go_on : TypesStay → ValuesAreEnough → EndsAreSeen → TypesGoOn
 types_go_on stay enough ends p s g k vs n t ts h d new own fit is = record {
@@ -107,6 +111,10 @@ module _ (enough : ValuesAreEnough) (p : Listing) (s : Store) (g : Stage) (vs : 
   abbrev known_behind : List DeclType
   known_behind = known_by_value s n (head t).kind (sort_of t) (type_or_plain (setting_at p s g) (kid t 2) (typed_at g n)) v
 
+  behind_of_program : AreOfProgram p known_behind
+  behind_of_program =
+      known_by_value-of_program p s n t d (head t).kind (sort_of t) (type_or_plain (setting_at p s g) (kid t 2) (typed_at g n)) v
+
   stage_with_value : IsStage p s (with_value (setting_at p s g) s g n t v) ((n, v) ∷ vs)
   stage_with_value = record {
     sound = h.sound;
@@ -115,14 +123,15 @@ module _ (enough : ValuesAreEnough) (p : Listing) (s : Store) (g : Stage) (vs : 
     only = h.only;
     done = h.done;
     there = h.there;
-    types = λ m u us c i. AreTypesOf-more enough p g.known known_behind s m u us h.sound (h.fit m us c) (h.types m u us c i);
+    types = λ m u us c i.
+        AreTypesOf-more enough p g.known known_behind behind_of_program s m u us h.sound (h.fit m us c) (h.types m u us c i);
     fit = h.fit;
     values = values;
   }
     where
       more : (m : ℕ) (u : Node) (x : TypedNode) → IsValueOf p g.known s m u (typed_at g m) x →
           IsValueOf p (g.known ++ known_behind) s m u (typed_at g m) x
-      more m u x b = IsValueOf-more enough p g.known known_behind s m u (typed_at g m) x b
+      more m u x b = IsValueOf-more enough p g.known known_behind behind_of_program s m u (typed_at g m) x b
 
       values : (m : ℕ) (u : Node) (x : TypedNode) → Contains ((n, v) ∷ vs) (m, x) → IsDecl p m u →
           IsValueOf p (g.known ++ known_behind) s m u (typed_at g m) x

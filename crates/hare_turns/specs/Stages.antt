@@ -38,10 +38,10 @@ pub record IsEnd (p : Listing) (s l : Store) : Type 0 where
 abbrev pub known_of : List DeclType → ℕ → Option DeclType
 known_of ds n = find (λ d. nat_eq d.decl n) ds
 
--- What a path says stays as it is when more becomes known: of an expression it means a declaration that is known; in a type one of a type,
--- or one that is not of the program.
+-- What a path says stays as it is when more becomes known: where it means a declaration of the program, that is known already, or in a type
+-- is a type. `rt::nomem` is not of the program, and nothing becomes known of it.
 abbrev pub IsReadable : Listing → List DeclType → Kind → ℕ → Type 0
-IsReadable p ds ki.Path n = IsSome (known_of ds n)
+IsReadable p ds ki.Path n = (t : Node) → IsDecl p n t → IsSome (known_of ds n)
 IsReadable p ds ki.TypePath n = (t : Node) → IsDecl p n t → sort_of t ≡ so.Type
 IsReadable p ds _ n = Unit {0}
 

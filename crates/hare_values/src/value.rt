@@ -48,7 +48,7 @@ pub struct Program<'a> {
 /// rows. Or the first fault of the value, or where it has none that of the declaration. `ready` is that part of what is known of which all types are defined;
 /// what the value names is put there.
 ///
-/// A value that names a declaration which is not known, or of which a type mentions a name that is not defined, is answered as want of memory; so is a written
+/// A value that names a declaration of the program which is not known, or one of which a type mentions a name that is not defined, is answered as want of memory; so is a written
 /// type that mentions such a name, all where `rt::nomem` is not defined, and what `check_value` and `judge_binding` answer so. The time is that of the value
 /// and of what it names for the first time.
 pub fn judge_value(
