@@ -1,16 +1,23 @@
 -- What the phases from declarations to bodies come to.
-use Rattle.std.proofs.Common.{List, [], sym, subst}
+use Rattle.std.proofs.Common.{◌≡◌, ℕ, zero, suc, ◌+◌, List, [], slice_get, Some, ap, sym, ◌∙◌, subst, arith}
 use Rattle.hare_tree.specs.declared.place.Fault.{Fault}
 use Rattle.hare_tree.specs.declared.stop.Stop.{Stop}
 use Rattle.hare_tree.specs.declared.stop.Stop.TheVariants.{Fault as Refused, Memory}
+use Rattle.hare_tree.specs.Node.{Node}
 use Rattle.hare_types.specs.Store.{Store}
 use Rattle.hare_types.specs.Sound.{IsStore}
 use Rattle.hare_types.specs.Later.{IsLater}
+use Rattle.hare_types.proofs.LaterLemmas.{later_trans}
 use Rattle.hare_typed.specs.Typed.{TypedNode}
+use Rattle.hare_rules.specs.declared.declared.DeclType.{DeclType}
+use Rattle.hare_depends.specs.declared.said.Sort.TheVariants as so
+use Rattle.hare_depends.specs.Sorts.{sort_of}
 use Rattle.hare_sources.specs.declared.named.Named.{Named}
 use Rattle.hare_whole.specs.Listing.{Listing, saids}
-use Rattle.hare_whole.specs.Judged.{IsFinal, IsFaultOfPhases, AreTyped}
-use Rattle.hare_turns.specs.Ends.{AreBodies, IsBodyStop, IsDeclarationStop, BodiesStop}
+use Rattle.hare_whole.specs.Turns.{Stage, seen}
+use Rattle.hare_whole.specs.Judged.{IsFinal, AreTyped, AreFaultless, IsFaultOfPhases}
+use Rattle.hare_turns.specs.Laws.{IsGrownTo, IsSeenAt, StagesStay, EndsAreSeen}
+use Rattle.hare_turns.specs.Ends.{IsBodyOf, AreBodies, IsBodyStop, IsDeclarationStop, BodiesStop}
 use Rattle.hare_walk.specs.Grown.{IsGrown}
 use Rattle.hare_steps.specs.Plans.{StopsAtCircle}
 use Rattle.hare_declarations.specs.declared.parts.Judged.{Judged}
@@ -75,3 +82,41 @@ pub typed-finished : FinishedAreTyped → (p : Listing) (s r f : Store) (j : Jud
 typed-finished law p s r f j bs ds k l later final =
     law p s r f l j bs ds k.judged.judged (grown-to s r k.judged.sound_behind k.judged.grown) k.bodies (grown-to r f k.sound k.grown) k.finished
     (record { later = later; final = final })
+
+-- ---- that no phase up to bodies finds a fault
+
+-- the body of a function among these, of which the first declaration has this number
+body-at : (p : Listing) (ds : List DeclType) (s : Store) {m : ℕ} {ts : List Node} {xs : List TypedNode} → AreBodies p ds s m ts xs →
+    (i n : ℕ) (t : Node) → m + i ≡ n → slice_get ts i ≡ Some t → sort_of t ≡ so.Function → (x : TypedNode) × IsBodyOf p ds s n t x
+body-at p ds s (AreBodies.none m) i n t e h f = absurd cc
+body-at p ds s (AreBodies.function m u x us xs g b rest) zero n t e h f =
+    let same : u ≡ t = cc in
+    let here : m ≡ n = omega arith in
+    (x, subst (λ (z : Node). IsBodyOf p ds s n z x) same (subst (λ (k : ℕ). IsBodyOf p ds s k u x) here b))
+body-at p ds s (AreBodies.function m u x us xs g b rest) (suc i) n t e h f = body-at p ds s rest i n t (omega arith) h f
+body-at p ds s (AreBodies.other m u us xs g rest) zero n t e h f = let same : u ≡ t = cc in absurd (g (ap sort_of same ∙ f))
+body-at p ds s (AreBodies.other m u us xs g rest) (suc i) n t e h f = body-at p ds s rest i n t (omega arith) h f
+
+-- Where declarations were judged with the first store and bodies with the second, with whatever store the checking ends.
+pub faultless-judged : StagesStay → EndsAreSeen → (p : Listing) (s r : Store) (j : Judged) (bs : List TypedNode) → AreJudgedWith p s r j →
+    AreBodies p j.known r 0 p.decls bs → (l : Store) → IsLater r l → IsFinal p l → AreFaultless p l
+faultless-judged stay ends p s r j bs k bodies l later final = record {
+  stage = g;
+  judged = k.judged.judged.judged l (record { later = later_trans s r l grown.later later; final = final });
+  bodies = λ n t i f.
+      let b = body-at p g.known r known n n t (omega arith) i f in
+      record { tree = b.0; erases = b.1.erases; well = b.1.well (seen l g.done) behind.later };
+}
+  where
+    g : Stage
+    g = k.judged.stage
+
+    grown : IsGrownTo s r
+    grown = grown-to s r k.sound_behind k.grown
+
+    known : AreBodies p g.known r 0 p.decls bs
+    known = subst (λ (ds : List DeclType). AreBodies p ds r 0 p.decls bs) (sym k.judged.same) bodies
+
+    behind : IsSeenAt r (seen l g.done)
+    behind =
+        ends p r l g k.judged.values (stay p s r g k.judged.values k.judged.judged.stage grown) (record { later = later; final = final })

@@ -2,13 +2,14 @@
 
 ghost use Rattle.std.specs.Prelude.{IfOk, IfErr};
 ghost use Rattle.hare_sources.specs.Named.{ArePaired};
-ghost use Rattle.hare_unit.specs.Programs.{IsChecked, IsProgramStop};
+ghost use Rattle.hare_unit.specs.Programs.{IsChecked, IsFaultless, IsOnlyProgramStop, IsProgramStop};
 
 use crate::limits::entry_of;
 use crate::phases::{Typing, judge};
 use hare_filed::law_programs_are_filed;
 use hare_names::Names;
-use hare_sources::{Sources, read};
+use hare_sole::law_one_fault_of_phases;
+use hare_sources::{Sources, law_one_early_fault, read};
 use hare_tree::{Fault, Stop};
 use hare_typed::{Paths, Program};
 use std::alloc::Global;
@@ -27,14 +28,20 @@ pub struct Checked {
 /// frames (E47) and sums (E48). A later phase is looked at only where all earlier ones found nothing.
 ///
 /// There is one path for each file, and at most 65,536 of them. What is answered as want of memory beside it: values of declarations whose constant
-/// is not worked out (`hare_const::constant` says which), a value that names `rt::nomem`, and a `switch` over what has no such constants. Nothing
-/// recurses in the host deeper than a tree of the syntax.
+/// is not worked out (`hare_const::constant` says which), and a `switch` over what has no such constants. Nothing recurses in the host deeper than a
+/// tree of the syntax.
 pub fn program(alloc: Global, paths: Paths, srcs: &Sources) -> Result<Checked, Stop<Fault>>
     requires { ArePaired paths srcs.now }
     ensures ok { IfOk result (IsChecked paths srcs.now) }
     ensures err { IfErr result (IsProgramStop paths srcs.now) }
+
+    // Over one store a program is checked or has one first fault, and never both.
+    ensures only { IfOk result (IsFaultless paths srcs.now) }
+    ensures only_fault { IfErr result (IsOnlyProgramStop paths srcs.now) }
 {
     law_programs_are_filed();
+    law_one_early_fault();
+    law_one_fault_of_phases();
     let named = read(alloc, paths.as_slice(), srcs)?;
     let mut typing = judge(alloc, &named)?;
     let entry = entry_of(alloc, paths.as_slice(), &named, &mut typing)?;

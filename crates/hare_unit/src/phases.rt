@@ -13,7 +13,7 @@ use hare_joined::law_finished_are_typed;
 use hare_sources::Named;
 use hare_steps::plan;
 use hare_tree::{Fault, Stop};
-use hare_turns::{law_bodies_stop, law_stages_stay};
+use hare_turns::{law_bodies_stop, law_ends_are_seen, law_stages_stay};
 use hare_typed::TypedKids;
 use hare_types::TypeStore;
 use std::alloc::Global;
@@ -34,6 +34,7 @@ pub(crate) fn judge(alloc: Global, named: &Named) -> Result<Typing, Stop<Fault>>
     law_finished_are_typed();
     law_bodies_stop();
     law_stages_stay();
+    law_ends_are_seen();
     let plan = plan(alloc, &named.names, &named.files)?;
     let mut types = TypeStore::new(alloc);
     declare_all(alloc, &mut types, &named.names, &named.files)?;

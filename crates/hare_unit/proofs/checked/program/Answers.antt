@@ -5,9 +5,9 @@ use Rattle.hare_sources.specs.Named.{AreNamed, IsEarlyFault}
 use Rattle.hare_decl.specs.Answers.{Stops}
 use Rattle.hare_filed.specs.Filed.{AreFiled}
 use Rattle.hare_walk.proofs.Steps.{err_same}
-use Rattle.hare_unit.specs.Programs.{IsProgramStop, IsEnded, IsLimitStop, listing_of}
+use Rattle.hare_unit.specs.Programs.{IsProgramStop, IsOnlyProgramStop, IsEnded, IsLimitStop, listing_of}
 use Rattle.hare_unit.proofs.CompleteLemmas.{is-complete}
-use Rattle.hare_unit.proofs.ProgramLemmas.{early-stops, phase-stops, ended-stops, is-seen}
+use Rattle.hare_unit.proofs.ProgramLemmas.{early-stops, phase-stops, ended-stops, is-seen, only-early, only-phase, only-limit, all-passed}
 use Rattle.hare_unit.proofs.checked.program.Goals as goal
 
 pub returns-in_err-named-clause-err : goal.returns-in_err-named-clause-err
@@ -17,6 +17,15 @@ returns-in_err-named-clause-err c =
     let e = c.in_err-named.field-0.0 in
     err_same c.from_residual.result e (IsProgramStop paths srcs) c.from_residual.ensures.1
     (early-stops paths srcs e (subst (λ ps. Stops (IsEarlyFault ps srcs) e) c.as_slice.ensures c.in_err-named.ensures.err))
+
+pub returns-in_err-named-clause-only_fault : goal.returns-in_err-named-clause-only_fault
+returns-in_err-named-clause-only_fault c =
+    let paths = c.args.paths in
+    let srcs = c.args.srcs.now in
+    let e = c.in_err-named.field-0.0 in
+    err_same c.from_residual.result e (IsOnlyProgramStop paths srcs) c.from_residual.ensures.1
+    (only-early c.law_one_early_fault.ensures.one c.law_one_early_fault.ensures.none paths srcs e
+    (subst (λ ps. Stops (IsEarlyFault ps srcs) e) c.as_slice.ensures c.in_err-named.ensures.err))
 
 pub judge-requires : goal.judge-requires
 judge-requires c =
@@ -38,6 +47,17 @@ returns-in_err-typing-clause-err c =
     err_same c.from_residual-in_err-typing.result e (IsProgramStop paths srcs) c.from_residual-in_err-typing.ensures.1
     (phase-stops paths srcs n e named c.in_err-typing.ensures.err)
 
+pub returns-in_err-typing-clause-only_fault : goal.returns-in_err-typing-clause-only_fault
+returns-in_err-typing-clause-only_fault c =
+    let paths = c.args.paths in
+    let srcs = c.args.srcs.now in
+    let n = c.in_ok-named.named in
+    let e = c.in_err-typing.field-0.0 in
+    let named : AreNamed paths srcs n.files (meaning_in n.names) =
+    subst (λ ps. AreNamed ps srcs n.files (meaning_in n.names)) c.as_slice.ensures c.in_ok-named.ensures.ok in
+    err_same c.from_residual-in_err-typing.result e (IsOnlyProgramStop paths srcs) c.from_residual-in_err-typing.ensures.1
+    (only-phase c.law_one_fault_of_phases.ensures.one c.law_one_fault_of_phases.ensures.none paths srcs n named e c.in_err-typing.ensures.err)
+
 pub returns-in_err-entry-clause-err : goal.returns-in_err-entry-clause-err
 returns-in_err-entry-clause-err c =
     let paths = c.args.paths in
@@ -49,6 +69,18 @@ returns-in_err-entry-clause-err c =
     let stop : IsLimitStop paths n e = subst (λ ps. IsLimitStop ps n e) c.as_slice-2.ensures c.in_err-entry.ensures.err in
     err_same c.from_residual-in_err-entry.result e (IsProgramStop paths srcs) c.from_residual-in_err-entry.ensures.1
     (ended-stops paths srcs n e named stop)
+
+pub returns-in_err-entry-clause-only_fault : goal.returns-in_err-entry-clause-only_fault
+returns-in_err-entry-clause-only_fault c =
+    let paths = c.args.paths in
+    let srcs = c.args.srcs.now in
+    let n = c.in_ok-named.named in
+    let e = c.in_err-entry.field-0.0 in
+    let named : AreNamed paths srcs n.files (meaning_in n.names) =
+    subst (λ ps. AreNamed ps srcs n.files (meaning_in n.names)) c.as_slice.ensures c.in_ok-named.ensures.ok in
+    let stop : IsLimitStop paths n e = subst (λ ps. IsLimitStop ps n e) c.as_slice-2.ensures c.in_err-entry.ensures.err in
+    err_same c.from_residual-in_err-entry.result e (IsOnlyProgramStop paths srcs) c.from_residual-in_err-entry.ensures.1
+    (only-limit c.law_one_fault_of_phases.ensures.one c.law_one_fault_of_phases.ensures.none paths srcs n named e stop)
 
 pub returns-clause-ok : goal.returns-clause-ok
 returns-clause-ok c =
@@ -67,4 +99,23 @@ returns-clause-ok c =
       paths_are = refl;
       erases = ended.typed.erases;
       complete = is-complete paths (listing_of n) t.types t.decls entry (is-seen paths n t entry filed ended);
+    }
+
+pub returns-clause-only : goal.returns-clause-only
+returns-clause-only c =
+    let paths = c.args.paths in
+    let srcs = c.args.srcs.now in
+    let n = c.in_ok-named.named in
+    let t = c.entry_of.new.typing in
+    let entry = c.in_ok-entry.entry in
+    let named : AreNamed paths srcs n.files (meaning_in n.names) =
+    subst (λ ps. AreNamed ps srcs n.files (meaning_in n.names)) c.as_slice.ensures c.in_ok-named.ensures.ok in
+    let ended : IsEnded paths n t entry = subst (λ ps. IsEnded ps n t entry) c.as_slice-2.ensures c.in_ok-entry.ensures.ok in
+    let passed = all-passed paths n t entry ended in
+    record {
+      trees = n.files;
+      named = named;
+      early = λ f h. c.law_one_early_fault.ensures.none paths srcs n.files (meaning_in n.names) f named h;
+      checked = passed;
+      late = λ f h. c.law_one_fault_of_phases.ensures.none paths (listing_of n) t.types t.decls entry f passed h;
     }
