@@ -12,8 +12,8 @@ use Rattle.std.proofs.lemmas.List.Elements.{All-nil, All-cons, All-weaker}
 use Rattle.std.proofs.lemmas.List.{take_all, drop_all}
 use Rattle.std.proofs.lemmas.List.Sums.{split_at_first, passes_at_first}
 use Rattle.std.proofs.lemmas.Option.{same_Some}
-use Rattle.harec_words.specs.Commands.{IsFile, AreFiles, IsProgram, IsUnits, default_units, Limits, Brings, AreArguments, Runs, Command, Check, Emit, Run, Exec, IsCommand, MeanOneCommand}
-use Rattle.harec_words.specs.Reading.{is_file, are_files, begins_with_dashes, is_program, is_units, units_of, number_in, units_behind, is_dashes, named_in, args_in, are_arguments, run_of, run_in, files_behind, command_in}
+use Rattle.harec_words.specs.Commands.{IsFile, AreFiles, IsOneFile, IsProgram, IsUnits, default_units, Limits, Brings, AreArguments, Runs, Command, Check, Emit, Run, Exec, Fmt, IsCommand, MeanOneCommand}
+use Rattle.harec_words.specs.Reading.{is_file, are_files, is_one_file, begins_with_dashes, is_program, is_units, units_of, number_in, units_behind, is_dashes, named_in, args_in, are_arguments, run_of, run_in, files_behind, file_behind, command_in}
 use Rattle.harec_words.proofs.PathLemmas.{file_decides}
 use Rattle.harec_words.proofs.ListLemmas.{IsCut, cut_at, cut_end}
 
@@ -41,6 +41,14 @@ files_decide files = by (nat_le 1 (length files) && nat_le (length files) 65536)
       λ k. absurd cc,
       λ f. absurd (false≢true (sym e ∙ and_from _ _ (le-leb 1 (length files) f.some) (le-leb (length files) 65536 f.few))),
     )
+
+one_decides : (file : List (List ℕ)) → Decides (is_one_file file) (IsOneFile file)
+one_decides [] = (λ k. absurd cc, λ p. let e = p.only in absurd cc)
+one_decides (v ∷ w ∷ ws) = (λ k. absurd cc, λ p. let e = p.only in absurd cc)
+one_decides (word ∷ []) = (
+  λ k. record { word = word; only = refl; named = (file_decides word).0 k },
+  λ p. let e : word ≡ p.word = let o = p.only in cc in (file_decides word).1 (subst IsFile (sym e) p.named),
+)
 
 program_decides : (program : List (List ℕ)) → Decides (is_program program) (IsProgram program)
 program_decides [] = (λ k. absurd cc, λ p. let e = p.only in absurd cc)
@@ -276,12 +284,23 @@ file_words make name rest c e = by (are_files rest) refl e
     by true h k = (same_Some _ _ k, (files_decide rest).0 h)
     by false h k = absurd cc
 
+file_word : (name : List ℕ) (rest : List (List ℕ)) (c : Command) → option_map Fmt (file_behind (name ∷ rest)) ≡ Some c →
+    (Fmt rest ≡ c) × IsOneFile rest
+file_word name rest c e = by (is_one_file rest) refl e
+  where
+    by : (b : Bool) → is_one_file rest ≡ b → option_map Fmt (cond b (Some rest) None) ≡ Some c → (Fmt rest ≡ c) × IsOneFile rest
+    by true h k = (same_Some _ _ k, (one_decides rest).0 h)
+    by false h k = absurd cc
+
 -- the commands in the order in which they are looked for
-abbrev exec_or_none : List ℕ → List (List ℕ) → Option Command
-exec_or_none name words = cond (bytes_eq name (codes "exec")) (run_in is_program Exec words) None
+abbrev fmt_or_none : List ℕ → List (List ℕ) → Option Command
+fmt_or_none name words = cond (bytes_eq name (codes "fmt")) (option_map Fmt (file_behind words)) None
+
+abbrev exec_or_fmt : List ℕ → List (List ℕ) → Option Command
+exec_or_fmt name words = cond (bytes_eq name (codes "exec")) (run_in is_program Exec words) (fmt_or_none name words)
 
 abbrev run_or_exec : List ℕ → List (List ℕ) → Option Command
-run_or_exec name words = cond (bytes_eq name (codes "run")) (run_in are_files Run words) (exec_or_none name words)
+run_or_exec name words = cond (bytes_eq name (codes "run")) (run_in are_files Run words) (exec_or_fmt name words)
 
 abbrev emit_or_run : List ℕ → List (List ℕ) → Option Command
 emit_or_run name words = cond (bytes_eq name (codes "emit")) (option_map Emit (files_behind words)) (run_or_exec name words)
@@ -291,17 +310,24 @@ pub reads : (words : List (List ℕ)) (c : Command) → command_in words ≡ Som
 reads [] c e = absurd cc
 reads (name ∷ rest) c e = by_check (bytes_eq name (codes "check")) refl e
   where
-    by_exec : (b : Bool) → bytes_eq name (codes "exec") ≡ b → cond b (run_in is_program Exec (name ∷ rest)) None ≡ Some c →
+    by_fmt : (b : Bool) → bytes_eq name (codes "fmt") ≡ b → cond b (option_map Fmt (file_behind (name ∷ rest))) None ≡ Some c →
         IsCommand (name ∷ rest) c
+    by_fmt true h k =
+        let f = file_word name rest c k in
+        subst (IsCommand (name ∷ rest)) f.0 (ap (λ n. n ∷ rest) (same_name name _ h), f.1)
+    by_fmt false h k = absurd cc
+
+    by_exec : (b : Bool) → bytes_eq name (codes "exec") ≡ b →
+        cond b (run_in is_program Exec (name ∷ rest)) (fmt_or_none name (name ∷ rest)) ≡ Some c → IsCommand (name ∷ rest) c
     by_exec true h k =
         let r = run_reads is_program Exec name rest c k in
         let runs : Runs (name ∷ rest) (codes "exec") r.units r.named r.args =
         subst (λ n. Runs (name ∷ rest) n r.units r.named r.args) (same_name name _ h) r.runs in
         subst (IsCommand (name ∷ rest)) r.made (runs, (program_decides r.named).0 r.passes)
-    by_exec false h k = absurd cc
+    by_exec false h k = by_fmt _ refl k
 
     by_run : (b : Bool) → bytes_eq name (codes "run") ≡ b →
-        cond b (run_in are_files Run (name ∷ rest)) (exec_or_none name (name ∷ rest)) ≡ Some c → IsCommand (name ∷ rest) c
+        cond b (run_in are_files Run (name ∷ rest)) (exec_or_fmt name (name ∷ rest)) ≡ Some c → IsCommand (name ∷ rest) c
     by_run true h k =
         let r = run_reads are_files Run name rest c k in
         let runs : Runs (name ∷ rest) (codes "run") r.units r.named r.args =
@@ -335,6 +361,7 @@ tells words (Exec units program args) h =
     let passes = (program_decides program).1 h.1 in
     let told = run_is is_program Exec (codes "exec") words units program args program_plain h.0 passes in
     rw h.0.spelled (subst (λ ws. run_in is_program Exec ws ≡ Some (Exec units program args)) h.0.spelled told)
+tells words (Fmt file) h = let f : is_one_file file ≡ true = (one_decides file).1 h.1 in rw (h.0, f) refl
 
 -- words are at most one command
 pub one_command : MeanOneCommand

@@ -3,6 +3,7 @@ pub mod DigitLemmas
 mod ExecRows
 mod FaultRows
 mod FileRows
+mod FmtRows
 mod LimitRows
 pub mod ListLemmas
 pub mod MeantLemmas

@@ -162,9 +162,6 @@ no_eval_turns = none refl
 no_run_turns : IsNone "run --turns 5 x.ha"
 no_run_turns = none refl
 
-no_fmt : IsNone "fmt x.ha"
-no_fmt = none refl
-
 no_big : IsNone "big 1 2"
 no_big = none refl
 

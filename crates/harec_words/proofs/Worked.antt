@@ -2,7 +2,7 @@
 use Prim.Native.String.{String}
 use Rattle.std.proofs.Common.{◌≡◌, ℕ, ◌==◌, List, [], Some, None, codes, sym, ◌∙◌}
 use Rattle.std.specs.List.{slice_split}
-use Rattle.harec_words.specs.Commands.{Command, Check, Emit, Run, Exec, IsCommand, IsNoCommand}
+use Rattle.harec_words.specs.Commands.{Command, Check, Emit, Run, Exec, Fmt, IsCommand, IsNoCommand}
 use Rattle.harec_words.specs.Reading.{command_in}
 use Rattle.harec_words.proofs.CommandLemmas.{reads, tells}
 
@@ -17,6 +17,7 @@ pub data Told : Type 0 where
   RunsWith : (units : ℕ) (files args : String) → Told
   Executes : (units : ℕ) (program : String) → Told
   ExecutesWith : (units : ℕ) (program args : String) → Told
+  LaysOut : (file : String) → Told
 
 abbrev pub told : Told → Command
 told (Checks files) = Check (spaced files)
@@ -25,6 +26,7 @@ told (Runs units files) = Run units (spaced files) []
 told (RunsWith units files args) = Run units (spaced files) (spaced args)
 told (Executes units program) = Exec units (spaced program) []
 told (ExecutesWith units program args) = Exec units (spaced program) (spaced args)
+told (LaysOut file) = Fmt (spaced file)
 
 pub record Is (line : String) (t : Told) : Type 0 where
   pub command : IsCommand (spaced line) (told t)

@@ -4,6 +4,7 @@
 --   emit FILES
 --   run [--units N] FILES [-- ARGS]
 --   exec [--units N] IL [-- ARGS]
+--   fmt FILE
 --
 -- Any other words are no command.
 use Rattle.std.specs.Prelude.{◌≡◌, ℕ, ◌^◌, ◌≤◌, ◌⊎◌, List, [], ◌∷◌, ◌++◌, true, false, codes, length, sum_by, All, Contains}
@@ -18,6 +19,7 @@ pub data Command : Type 0 where
   Emit : (files : List (List ℕ)) → Command
   Run : (units : ℕ) (files args : List (List ℕ)) → Command
   Exec : (units : ℕ) (program args : List (List ℕ)) → Command
+  Fmt : (file : List (List ℕ)) → Command
 
 -- ---- FILES
 
@@ -59,6 +61,12 @@ pub record AreFiles (files : List (List ℕ)) : Type 0 where
   pub some : 1 ≤ length files
   pub few : length files ≤ 65536
   pub named : All IsFile files
+
+-- one word that names a file
+pub record IsOneFile (file : List (List ℕ)) : Type 0 where
+  pub word : List ℕ
+  pub only : file ≡ word ∷ []
+  pub named : IsFile word
 
 -- ---- IL
 
@@ -113,6 +121,7 @@ IsCommand words (Check files) = (words ≡ codes "check" ∷ files) × AreFiles 
 IsCommand words (Emit files) = (words ≡ codes "emit" ∷ files) × AreFiles files
 IsCommand words (Run units files args) = Runs words (codes "run") units files args × AreFiles files
 IsCommand words (Exec units program args) = Runs words (codes "exec") units program args × IsProgram program
+IsCommand words (Fmt file) = (words ≡ codes "fmt" ∷ file) × IsOneFile file
 
 -- the words are no command
 abbrev pub IsNoCommand : List (List ℕ) → Type 0

@@ -4,7 +4,7 @@ use Rattle.std.specs.Char.{is_ascii_digit}
 use Rattle.std.specs.List.{list_all, slice_split, starts_with, ends_with, before_first, after_first}
 use Rattle.std.specs.Str.Parse.{digits_value}
 use Rattle.hare_tree.specs.Levels.{is_name}
-use Rattle.harec_words.specs.Commands.{Command, Check, Emit, Run, Exec, default_units}
+use Rattle.harec_words.specs.Commands.{Command, Check, Emit, Run, Exec, Fmt, default_units}
 
 -- ---- FILES
 
@@ -32,6 +32,11 @@ is_file word = if nat_le (length word) 1024 then is_path (without_dot word) else
 
 abbrev pub are_files : List (List ℕ) → Bool
 are_files files = if nat_le 1 (length files) && nat_le (length files) 65536 then list_all is_file files else false
+
+abbrev pub is_one_file : List (List ℕ) → Bool
+is_one_file (word ∷ []) = is_file word
+is_one_file [] = false
+is_one_file (v ∷ w ∷ ws) = false
 
 -- ---- IL
 
@@ -92,12 +97,17 @@ run_in test make words = option_and_then (λ u. run_of test make u.0 (drop u.1 w
 abbrev pub files_behind : List (List ℕ) → Option (List (List ℕ))
 files_behind words = if are_files (drop 1 words) then Some (drop 1 words) else None
 
+-- the one word behind the name of a command on a file
+abbrev pub file_behind : List (List ℕ) → Option (List (List ℕ))
+file_behind words = if is_one_file (drop 1 words) then Some (drop 1 words) else None
+
 abbrev pub command_named : List ℕ → List (List ℕ) → Option Command
 command_named name words =
     if bytes_eq name (codes "check") then option_map Check (files_behind words)
     else if bytes_eq name (codes "emit") then option_map Emit (files_behind words)
     else if bytes_eq name (codes "run") then run_in are_files Run words
     else if bytes_eq name (codes "exec") then run_in is_program Exec words
+    else if bytes_eq name (codes "fmt") then option_map Fmt (file_behind words)
     else None
 
 abbrev pub command_in : List (List ℕ) → Option Command

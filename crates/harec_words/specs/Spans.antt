@@ -2,7 +2,7 @@
 use Rattle.std.specs.Prelude.{ℕ, List, ◌≤◌, slice_range}
 use Rattle.harec_words.specs.declared.command.Span.{Span}
 use Rattle.harec_words.specs.declared.command.Command.{Command}
-use Rattle.harec_words.specs.declared.command.Command.TheVariants.{Check, Emit, Run, Exec}
+use Rattle.harec_words.specs.declared.command.Command.TheVariants.{Check, Emit, Run, Exec, Fmt}
 use Rattle.harec_words.specs.Commands as spec
 
 -- the words that a span names
@@ -15,6 +15,7 @@ meant words (Check files) = spec.Check (words_at words files)
 meant words (Emit files) = spec.Emit (words_at words files)
 meant words (Run units files args) = spec.Run units (words_at words files) (words_at words args)
 meant words (Exec units program args) = spec.Exec units (words_at words program) (words_at words args)
+meant words (Fmt file) = spec.Fmt (words_at words file)
 
 -- the span names places of so many words
 pub record IsWithin (count : ℕ) (s : Span) : Type 0 where
@@ -27,3 +28,4 @@ NamesWithin count (Check files) = IsWithin count files
 NamesWithin count (Emit files) = IsWithin count files
 NamesWithin count (Run units files args) = IsWithin count files × IsWithin count args
 NamesWithin count (Exec units program args) = IsWithin count program × IsWithin count args
+NamesWithin count (Fmt file) = IsWithin count file

@@ -45,6 +45,8 @@ pub fn read(words: &[Text]) -> Option<Command>
         run_of(words)
     } else if name == b"exec".as_slice() {
         exec_of(words)
+    } else if name == b"fmt".as_slice() {
+        Some(Command::Fmt(file_behind(words)?))
     } else {
         None
     }
@@ -62,6 +64,23 @@ fn files_behind(words: &[Text]) -> Option<Span>
     };
     if are_files(&words[1..]) {
         Some(files)
+    } else {
+        None
+    }
+}
+
+/// The one file behind the name of a command, where nothing else stands there.
+fn file_behind(words: &[Text]) -> Option<Span>
+    requires { 1 ≤ length words.now }
+    ensures value { option_map (words_at words.now) result ≡ spec.file_behind words.now }
+    ensures within { IfSome result (IsWithin (length words.now)) }
+{
+    let file = Span {
+        from: 1,
+        to: words.len(),
+    };
+    if is_one_file(&words[1..]) {
+        Some(file)
     } else {
         None
     }
@@ -188,6 +207,16 @@ fn name_files(words: &[Text]) -> bool
     ensures { result ≡ list_all spec.is_file words.now }
 {
     words.iter().all(|word| is_file(word.bytes()))
+}
+
+/// Whether the words are one that names a file.
+fn is_one_file(file: &[Text]) -> bool
+    ensures { result ≡ spec.is_one_file file.now }
+{
+    match file {
+        [word] => is_file(word.bytes()),
+        _ => false,
+    }
 }
 
 /// Whether the words are one that may name a text to be run.
