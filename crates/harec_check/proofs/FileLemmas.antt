@@ -1,12 +1,8 @@
 -- Bytes of files.
-use Rattle.std.proofs.Common.{◌≡◌, ℕ, ◌+◌, ◌-◌, ◌^◌, ◌<◌, ◌≤◌, List, [], ◌∷◌, ◌++◌, length, take, get_or, Option, IfSome, refl, sym, subst}
+use Rattle.std.proofs.Common.{◌≡◌, ℕ, ◌+◌, ◌<◌, ◌≤◌, List, [], ◌∷◌, ◌++◌, length, take, get_or, Option, IfSome, sym, subst}
 use Rattle.std.proofs.lemmas.List.Elements.{all_zip_more, length_all_zip}
-use Rattle.std.proofs.lemmas.Option.{slice_get_read}
 use Rattle.hare_sources.specs.Named.{ArePaired}
-use Rattle.harec_check.specs.Causes.{IsUnread}
-use Rattle.harec_check.specs.Files.{AreTold, IsFirstUnread}
-use Rattle.harec_check.specs.Outside.{call}
-use Rattle.harec_check.proofs.LogLemmas.{risen}
+use Rattle.harec_check.specs.Files.{AreTold}
 
 module _ (content : List ℕ → Option (List ℕ)) (paths : List (List ℕ)) where
   -- one file more
@@ -18,17 +14,8 @@ module _ (content : List ℕ → Option (List ℕ)) (paths : List (List ℕ)) wh
       (all_zip_more (λ p s. IfSome (content p) (λ t. s ≡ t)) paths srcs i path src within here told more)
 
   -- one list of bytes for each path
-  pub AreTold-paired : (srcs : List (List ℕ)) → length paths ≤ 65536 → AreTold content paths srcs → ArePaired paths srcs
-  AreTold-paired srcs few told =
-      record { paired = sym (length_all_zip (λ p s. IfSome (content p) (λ t. s ≡ t)) paths srcs told); few = few }
+  pub length-AreTold : (srcs : List (List ℕ)) → AreTold content paths srcs → length srcs ≡ length paths
+  length-AreTold srcs told = sym (length_all_zip (λ p s. IfSome (content p) (λ t. s ≡ t)) paths srcs told)
 
-  -- the first file that was not read
-  pub unread-first : (before now number : ℕ) (path : List ℕ) → before < 2 ^ 64 - 1 →
-      IsFirstUnread content paths before now number → path ≡ get_or paths number path → IsUnread (call paths content before now) path
-  unread-first before now number path few first here = record {
-    risen = risen before now few first.risen;
-    number = number;
-    word = slice_get_read paths (length paths) number path refl first.within here;
-    srcs = first.srcs;
-    told = first.read;
-  }
+  pub AreTold-paired : (srcs : List (List ℕ)) → length paths ≤ 65536 → AreTold content paths srcs → ArePaired paths srcs
+  AreTold-paired srcs few told = record { paired = length-AreTold srcs told; few = few }

@@ -1,4 +1,3 @@
 pub mod FileLemmas
-pub mod LogLemmas
+mod JudgeLemmas
 pub mod NameLemmas
-pub mod AnswerLemmas

@@ -1,4 +1,3 @@
 pub mod Files
 pub mod Lines
-pub mod Outside
-pub mod Causes
+pub mod Stops

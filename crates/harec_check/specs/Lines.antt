@@ -1,15 +1,9 @@
--- The lines of the log.
-use Rattle.std.specs.Prelude.{◌≡◌, ℕ, List, ◌++◌, codes, slice_get, Some}
+-- The lines of faults.
+use Rattle.std.specs.Prelude.{◌≡◌, ℕ, List, slice_get, Some}
 use Rattle.hare_tree.specs.declared.place.Fault.{Fault}
+use Rattle.harec_check.specs.declared.stopped.Stopped.{Stopped}
+use Rattle.harec_check.specs.declared.stopped.Stopped.TheVariants.{Refused, Unread, Memory}
 use Rattle.harec_words.specs.Faults.{fault_line}
-
--- the line of a file that was not read, by the word that names it
-abbrev pub unread_line : List ℕ → List ℕ
-unread_line path = path ++ codes ": file fault\n"
-
--- the line of want of memory
-abbrev pub memory_line : List ℕ
-memory_line = codes "harec: memory\n"
 
 -- the letter E, of the faults of the language
 abbrev pub letter : ℕ
@@ -20,3 +14,9 @@ pub record IsFaultLine (paths : List (List ℕ)) (f : Fault) (line : List ℕ) :
   pub path : List ℕ
   pub word : slice_get paths f.place.file ≡ Some path
   pub text : line ≡ fault_line path letter f.number f.place.line f.place.column
+
+-- a refusal is that of this fault, with its line; or memory for the line ran out
+abbrev pub IsRefusal : List (List ℕ) → Fault → Stopped → Type 0
+IsRefusal paths f (Refused r) = (r.fault ≡ f) × IsFaultLine paths f r.line
+IsRefusal paths f (Unread number) = ⊥
+IsRefusal paths f Memory = Unit {0}

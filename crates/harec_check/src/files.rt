@@ -2,28 +2,21 @@
 
 ghost use Rattle.std.specs.Prelude.{◌≡◌, ℕ, ◌∷◌, [], ◌++◌, List, IfOk, IfErr, IfSome};
 ghost use Rattle.hx_io.specs.Causes.{CountsFile};
-ghost use Rattle.harec_check.specs.Files.{AreTold, IsReadStop};
+ghost use Rattle.harec_check.specs.Files.{AreTold};
+ghost use Rattle.harec_check.specs.Stops.{IsReadStop};
 
+use crate::stopped::Stopped;
 use hare_sources::Sources;
 use hx_base::Text;
 use hx_io::{FileError, Files};
 use std::alloc::Global;
-
-/// Why not all files were read.
-#[derive(Debug, Drop)]
-pub(crate) enum Unread {
-    /// The file with this number, counted from 0, was not read. It is the first such file.
-    At(usize),
-    /// There was not enough memory.
-    Memory,
-}
 
 /// The bytes of the files at these paths, in their order. Where one is not read, none behind it is.
 pub(crate) fn read_all<F: Files>(
     alloc: Global,
     paths: &[Text],
     files: &mut F,
-) -> Result<Sources, Unread>
+) -> Result<Sources, Stopped>
     ensures ok { IfOk result (λ srcs. AreTold (F.content files.old) paths.now srcs × (F.faults files.new ≡ F.faults files.old)) }
     ensures err { IfErr result (IsReadStop (F.content files.old) paths.now (F.faults files.old) (F.faults files.new)) }
     ensures same { (p : List ℕ) → F.content files.new p ≡ F.content files.old p }
@@ -32,8 +25,8 @@ pub(crate) fn read_all<F: Files>(
     for (i, path) in paths.iter().enumerate() {
         match read_one(alloc, path, files, &mut srcs) {
             Ok(()) => {}
-            Err(FileError::Failed) => return Err(Unread::At(i)),
-            Err(FileError::Memory) => return Err(Unread::Memory),
+            Err(FileError::Failed) => return Err(Stopped::Unread(i)),
+            Err(FileError::Memory) => return Err(Stopped::Memory),
         }
     }
     Ok(srcs)

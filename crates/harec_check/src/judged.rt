@@ -1,11 +1,13 @@
 //! Checking a program whose files were read.
 
-ghost use Rattle.std.specs.Prelude.{◌≡◌, ◌≤◌, length, IfOk, MatchOption};
+ghost use Rattle.std.specs.Prelude.{◌≡◌, ◌≤◌, length, IfOk, IfErr, OnOk};
 ghost use Rattle.hare_sources.specs.Named.{ArePaired};
 ghost use Rattle.hare_unit.specs.declared.checked.Checked.{Checked};
-ghost use Rattle.hare_unit.specs.Programs.{IsChecked, IsFaultOfProgram};
-ghost use Rattle.harec_check.specs.Lines.{IsFaultLine};
+ghost use Rattle.hare_unit.specs.Programs.{IsChecked};
+ghost use Rattle.harec_check.specs.Lines.{IsFaultLine, IsRefusal};
+ghost use Rattle.harec_check.specs.Stops.{IsJudgeStop};
 
+use crate::stopped::{Refusal, Stopped};
 use hare_sources::Sources;
 use hare_tree::{Fault, Stop};
 use hare_typed::Paths;
@@ -20,31 +22,16 @@ const LETTER: u8 = b'E';
 /// The number of the last fault of the language that has a name.
 const LAST_FAULT: u8 = 49;
 
-/// The first fault of a program, and its line.
-#[derive(Drop)]
-pub(crate) struct Refusal {
-    pub(crate) fault: Fault,
-    pub(crate) line: Text,
-}
-
-/// The first fault of the program of these files, with its line. None: the program is checked.
-pub(crate) fn judge(
-    alloc: Global,
-    paths: &[Text],
-    srcs: &Sources,
-) -> Result<Option<Refusal>, AllocError>
+/// Checks the program of these files; or else tells its first fault, with its line.
+pub(crate) fn judge(alloc: Global, paths: &[Text], srcs: &Sources) -> Result<(), Stopped>
     requires { ArePaired paths.now srcs.now }
-    ensures { IfOk result (λ found. MatchOption found
-        ((c : Checked) × IsChecked paths.now srcs.now c)
-        (λ r. IsFaultOfProgram paths.now srcs.now r.fault × IsFaultLine paths.now r.fault r.line)) }
+    ensures ok { OnOk result ((c : Checked) × IsChecked paths.now srcs.now c) }
+    ensures err { IfErr result (IsJudgeStop paths.now srcs.now) }
 {
     match program(alloc, copied(alloc, paths)?, srcs) {
-        Ok(_checked) => Ok(None),
-        Err(Stop::Memory) => Err(AllocError),
-        Err(Stop::Fault(fault)) => {
-            let line = line_of(alloc, paths, fault)?;
-            Ok(Some(Refusal { fault, line }))
-        }
+        Ok(_checked) => Ok(()),
+        Err(Stop::Memory) => Err(Stopped::Memory),
+        Err(Stop::Fault(fault)) => Err(refused(alloc, paths, fault)),
     }
 }
 
@@ -59,6 +46,17 @@ fn copied(alloc: Global, paths: &[Text]) -> Result<Paths, AllocError>
         copy.push(word)?;
     }
     Ok(copy)
+}
+
+/// Why a program with this fault is not checked or not built: the fault, with its line; or want of memory for that. A fault of no file, or with a number that
+/// has no name, is answered as want of memory too. There are names of E1 to E49.
+pub fn refused(alloc: Global, paths: &[Text], fault: Fault) -> Stopped
+    ensures { IsRefusal paths.now fault result }
+{
+    match line_of(alloc, paths, fault) {
+        Ok(line) => Stopped::Refused(Refusal { fault, line }),
+        Err(_) => Stopped::Memory,
+    }
 }
 
 /// The line of a fault. A fault of no file, or with a number that has no name, is answered as want of memory.

@@ -1,9 +1,11 @@
-//! The command `check`: reads the files of a program, checks it, and writes the line of what was found to a log.
+//! From the files of a program to their bytes, where the program that they are is checked; or to why it is not.
 #![tactic(auto)]
 
 mod files;
 mod judged;
-mod log;
+mod stopped;
 mod top;
 
-pub use top::{Verdict, check};
+pub use judged::refused;
+pub use stopped::{Refusal, Stopped};
+pub use top::check;

@@ -1,6 +1,6 @@
-pub mod WordsLemmas
 pub mod SentLemmas
 pub mod Causes
+pub mod Answering
 pub mod Distinct
 pub mod PlainLines
 pub mod PlainCode

@@ -9,7 +9,7 @@ use Rattle.il_code.specs.Rules.{IsValidText}
 use Rattle.il_code.specs.Run.{machine, machine_end, machine_output}
 use Rattle.harec_core.specs.Programs.{Outcome, Exits, Aborts, Breaks, Goes, Evaluation, Outline, Measures}
 use Rattle.harec_core.specs.Shape.{HasShape, AreWithinFrames, functions_of}
-use Rattle.harec_core.specs.Words.{AreArguments}
+use Rattle.harec_words.specs.Commands.{AreArguments}
 
 -- a program and a run of the machine end alike: both exit with one status, or both abort with one text
 abbrev pub EndAlike : Outcome → End → Type 0

@@ -1,6 +1,5 @@
 pub mod Status
-pub mod Words
-pub mod Commands
+pub mod Asked
 pub mod Outside
 pub mod Log
 pub mod Programs

@@ -1,14 +1,14 @@
 -- The line that the log gets for an answer.
-use Rattle.std.specs.Prelude.{ℕ, List, [], ◌++◌, codes}
+use Rattle.std.specs.Prelude.{◌≡◌, ℕ, List, [], ◌++◌, codes, slice_get, Some}
 use Rattle.std.specs.Fmt.{decimal}
 use Rattle.il_code.specs.declared.types.MachineFault.{MachineFault}
 use Rattle.il_code.specs.declared.types.MachineFault.TheVariants.{Wild, Overlap, BadFree, BadArg, ZeroDivisor, Hlt}
+use Rattle.harec_check.specs.Lines.{IsFaultLine}
 use Rattle.harec_core.specs.declared.answer.Undef.{Undef}
 use Rattle.harec_core.specs.declared.answer.Undef.TheVariants.{Il, Hare}
 use Rattle.harec_core.specs.declared.answer.Answer.{Answer}
 use Rattle.harec_core.specs.declared.answer.Answer.TheVariants.{Accepted, Exited, Usage, Refused, FileFault, Undefined, Memory, ReadFault, WriteFault, Spent, StackFull, Aborted}
 use Rattle.harec_core.specs.Outside.{Sent, IsSent, IsCutOff}
-use Rattle.harec_core.specs.Words.{Action, Emits, Runs}
 
 -- the name of a fault of the machine
 abbrev pub fault_name : MachineFault → List ℕ
@@ -24,21 +24,44 @@ abbrev pub act_name : Undef → List ℕ
 act_name (Il fault) = fault_name fault
 act_name (Hare number) = []
 
--- The line of an answer to a command on the file of this path, which runs with so many units if it runs. A program's own exit has none, and
--- nor has an accepted file. The one refusal of today is the fault 49, at the start of the file; and no program of today aborts.
-abbrev pub line : List ℕ → ℕ → Answer → List ℕ
-line path units Accepted = []
-line path units (Exited status) = []
-line path units Usage = codes "harec: usage\n"
-line path units (Refused number) = path ++ codes ":1:1: E49 NotBuilt\n"
-line path units FileFault = path ++ codes ": file fault\n"
-line path units (Undefined act) = codes "harec: undefined " ++ (act_name act ++ codes "\n")
-line path units Memory = codes "harec: memory\n"
-line path units ReadFault = codes "harec: read fault\n"
-line path units WriteFault = codes "harec: write fault\n"
-line path units Spent = codes "harec: spent " ++ (decimal units ++ codes " units\n")
-line path units StackFull = codes "harec: stack full\n"
-line path units Aborted = []
+-- words that are no command of today
+abbrev pub usage_line : List ℕ
+usage_line = codes "harec: usage\n"
+
+-- the file of this path was not read
+abbrev pub unread_line : List ℕ → List ℕ
+unread_line path = path ++ codes ": file fault\n"
+
+-- a run did what has no meaning
+abbrev pub undefined_line : Undef → List ℕ
+undefined_line act = codes "harec: undefined " ++ (act_name act ++ codes "\n")
+
+-- a run spent so many units
+abbrev pub spent_line : ℕ → List ℕ
+spent_line units = codes "harec: spent " ++ (decimal units ++ codes " units\n")
+
+-- the line of one of the files of these paths
+pub record IsUnreadLine (paths : List (List ℕ)) (line : List ℕ) : Type 0 where
+  pub number : ℕ
+  pub path : List ℕ
+  pub word : slice_get paths number ≡ Some path
+  pub text : line ≡ unread_line path
+
+-- The line of an answer to a command on the files of these paths, which runs with so many units if it runs. A program's own exit has none, and
+-- nor has an accepted program; and no program of today aborts.
+abbrev pub IsLine : (paths : List (List ℕ)) (units : ℕ) → Answer → List ℕ → Type 0
+IsLine paths units Accepted line = line ≡ []
+IsLine paths units (Exited status) line = line ≡ []
+IsLine paths units Usage line = line ≡ usage_line
+IsLine paths units (Refused fault) line = IsFaultLine paths fault line
+IsLine paths units FileFault line = IsUnreadLine paths line
+IsLine paths units (Undefined act) line = line ≡ undefined_line act
+IsLine paths units Memory line = line ≡ codes "harec: memory\n"
+IsLine paths units ReadFault line = line ≡ codes "harec: read fault\n"
+IsLine paths units WriteFault line = line ≡ codes "harec: write fault\n"
+IsLine paths units Spent line = line ≡ spent_line units
+IsLine paths units StackFull line = line ≡ codes "harec: stack full\n"
+IsLine paths units Aborted line = line ≡ []
 
 -- what the call answers, where this answer was found and its line is for the log: that answer, with the whole line in the log, or the fault
 -- of a log that failed, with a front of the line in it
@@ -46,7 +69,17 @@ pub data Logs (line : List ℕ) (log : Sent) (found : Answer) : Answer → Type 
   told : IsSent line log → Logs line log found found
   failed : IsCutOff line log → Logs line log found WriteFault
 
--- the units of a command, 0 where nothing is run
-abbrev pub units_of : Action → ℕ
-units_of Emits = 0
-units_of (Runs units args) = units
+-- Nothing was called on the log, and so it is as it was, at the answers that have no line.
+abbrev pub LeavesLog : {L : Type 0} → Answer → L → L → Type 0
+LeavesLog Accepted old new = new ≡ old
+LeavesLog (Exited status) old new = new ≡ old
+LeavesLog Usage old new = Unit {0}
+LeavesLog (Refused fault) old new = Unit {0}
+LeavesLog FileFault old new = Unit {0}
+LeavesLog (Undefined act) old new = Unit {0}
+LeavesLog Memory old new = Unit {0}
+LeavesLog ReadFault old new = Unit {0}
+LeavesLog WriteFault old new = Unit {0}
+LeavesLog Spent old new = Unit {0}
+LeavesLog StackFull old new = Unit {0}
+LeavesLog Aborted old new = new ≡ old

@@ -1,5 +1,5 @@
--- What the stages from a file's bytes to the end of its run hand on. No public clause cites this file.
-use Rattle.std.specs.Prelude.{◌≡◌, ◌⊎◌, ℕ, List, IsTrue}
+-- What the stages from words to the end of a run hand on. No public clause cites this file.
+use Rattle.std.specs.Prelude.{◌≡◌, ◌<◌, ◌⊎◌, ℕ, List, [], ◌∷◌, length, IsTrue, Result, Ok, Err}
 use Rattle.il_code.specs.declared.types.Module.{Module}
 use Rattle.il_code.specs.Print.{module_text}
 use Rattle.il_code.specs.Rules.{IsValid}
@@ -8,11 +8,34 @@ use Rattle.il_plain.specs.declared.ended.Ended.TheVariants.{Exit, Fault, StackFu
 use Rattle.il_plain.specs.Plain.{is_plain}
 use Rattle.hare_blocks.specs.Class.{IsSource}
 use Rattle.hare_blocks.specs.Trees.{Program}
+use Rattle.harec_words.specs.Commands as words
+use Rattle.harec_check.specs.declared.stopped.Stopped.{Stopped}
+use Rattle.harec_check.specs.declared.stopped.Stopped.TheVariants as stopped
+use Rattle.harec_check.specs.Lines.{IsFaultLine}
 use Rattle.harec_core.specs.declared.answer.Answer.{Answer}
 use Rattle.harec_core.specs.declared.answer.Answer.TheVariants as answer
 use Rattle.harec_core.specs.declared.answer.Undef.TheVariants.{Il}
+use Rattle.harec_core.specs.declared.asked.Action.{Action}
+use Rattle.harec_core.specs.declared.asked.Action.TheVariants.{Check, Emit, Run}
+use Rattle.harec_core.specs.declared.asked.Task.{Task}
+use Rattle.harec_core.specs.declared.carry.Done.{Done}
+use Rattle.harec_core.specs.declared.carry.Done.TheVariants as done
+use Rattle.harec_core.specs.Answers.{AreNotOfClass, not_built}
 use Rattle.harec_core.specs.Class.{CarriesProgram}
 use Rattle.harec_core.specs.Outside.{Sent, IsSent, IsCutOff}
+
+-- ---- words
+
+-- what is done with these files, as a command
+abbrev pub command_on : List (List ℕ) → Action → words.Command
+command_on files Check = words.Check files
+command_on files Emit = words.Emit files
+command_on files (Run units args) = words.Run units files args.now
+
+abbrev pub command_of : Task → words.Command
+command_of a = command_on a.files.now a.action
+
+-- ---- texts
 
 -- the module of the one program of a file, which can be run, and whose text carries the program
 pub record IsModuleOf (source : List ℕ) (m : Module) : Type 0 where
@@ -28,11 +51,23 @@ pub record IsTextOf (source text : List ℕ) (m : Module) : Type 0 where
   pub made : IsModuleOf source m
   pub printed : text ≡ module_text m
 
+-- the files are one, and the text is that of its module
+pub record IsBuilt (srcs : List (List ℕ)) (text : List ℕ) (m : Module) : Type 0 where
+  pub source : List ℕ
+  pub one : srcs ≡ source ∷ []
+  pub made : IsTextOf source text m
+
+-- why no text was made of these files
+abbrev pub IsBuildStop : (paths srcs : List (List ℕ)) → Stopped → Type 0
+IsBuildStop paths srcs (stopped.Refused r) = (r.fault ≡ not_built) × IsFaultLine paths r.fault r.line × AreNotOfClass srcs
+IsBuildStop paths srcs (stopped.Unread number) = ⊥
+IsBuildStop paths srcs stopped.Memory = Unit {0}
+
 -- ---- what is done with a text
 
 -- the answer to a text that is written out
-abbrev pub Emits : List ℕ → Sent → Answer → Type 0
-Emits text out a = ((a ≡ answer.Accepted) × IsSent text out) ⊎ ((a ≡ answer.WriteFault) × IsCutOff text out)
+abbrev pub Emits : List ℕ → Sent → Done → Type 0
+Emits text out d = ((d ≡ done.Accepted) × IsSent text out) ⊎ ((d ≡ done.Cut) × IsCutOff text out)
 
 -- the answer of a run
 abbrev pub answer_of : Ended → Answer
@@ -41,3 +76,27 @@ answer_of (Fault fault) = answer.Undefined (Il fault)
 answer_of StackFull = answer.StackFull
 answer_of Spent = answer.Spent
 answer_of WriteFault = answer.WriteFault
+
+-- ---- what is found
+
+-- the answer to a command that was carried out
+abbrev pub done_answer : Done → Answer
+done_answer done.Accepted = answer.Accepted
+done_answer (done.Ended end) = answer_of end
+done_answer done.Cut = answer.WriteFault
+
+-- the answer to one that was not
+abbrev pub stopped_answer : Stopped → Answer
+stopped_answer (stopped.Refused r) = answer.Refused r.fault
+stopped_answer (stopped.Unread number) = answer.FileFault
+stopped_answer stopped.Memory = answer.Memory
+
+abbrev pub found_answer : Result Done Stopped → Answer
+found_answer (Ok d) = done_answer d
+found_answer (Err s) = stopped_answer s
+
+-- what is found brings all that its line takes
+abbrev pub HasLine : List (List ℕ) → Stopped → Type 0
+HasLine paths (stopped.Refused r) = IsFaultLine paths r.fault r.line
+HasLine paths (stopped.Unread number) = number < length paths
+HasLine paths stopped.Memory = Unit {0}

@@ -8,7 +8,7 @@ abbrev pub status : Answer → ℕ
 status Accepted = 0
 status (Exited k) = k
 status Usage = 64
-status (Refused number) = 65
+status (Refused fault) = 65
 status FileFault = 66
 status (Undefined act) = 70
 status Memory = 71

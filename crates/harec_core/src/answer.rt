@@ -3,6 +3,7 @@
 ghost use Rattle.std.specs.Prelude.{◌≡◌};
 ghost use Rattle.harec_core.specs.Status.{status};
 
+use hare_tree::Fault;
 use il_code::MachineFault;
 
 /// An act that the program's meaning leaves undefined.
@@ -17,14 +18,14 @@ pub enum Undef {
 /// What the top call answers.
 #[derive(Clone, Copy, Debug, PartialEq, Eq)]
 pub enum Answer {
-    /// The command is done, and ran no program.
+    /// The command is done: the program is checked, and its text is written out where that was asked.
     Accepted,
     /// The program ended with this status.
     Exited(u8),
-    /// The words are no command.
+    /// The words ask for nothing that is built.
     Usage,
-    /// The file has the fault of this number.
-    Refused(u8),
+    /// The program has this fault. E49 says that it is not compiled yet.
+    Refused(Fault),
     /// A file was not read.
     FileFault,
     /// The program did what has no meaning.

@@ -1,72 +1,81 @@
-//! Doing with a made text what the command says.
+//! Doing with a checked program what the command says.
 
-ghost use Rattle.std.specs.Prelude.{◌≡◌, ℕ, ◌<◌, ◌-◌, ◌^◌, List};
-ghost use Rattle.il_code.specs.declared.types.Module.{Module};
+ghost use Rattle.std.specs.Prelude.{◌≡◌, ◌<◌, ◌-◌, ◌^◌, [], length, IfErr};
+ghost use Rattle.hare_unit.specs.declared.checked.Checked.{Checked};
+ghost use Rattle.hare_unit.specs.Programs.{IsChecked};
 ghost use Rattle.harec_core.specs.Answers.{HasCause, LeavesOutput};
-ghost use Rattle.harec_core.specs.Commands.{action_of};
 ghost use Rattle.harec_core.specs.Outside.{Count, Stands, sent};
-ghost use Rattle.harec_core.specs.Stages.{IsTextOf, Emits, answer_of};
+ghost use Rattle.harec_core.specs.Stages.{Emits, HasLine, command_of, found_answer};
 
-use crate::answer::{Answer, Undef};
+use crate::asked::{Action, Task};
+use crate::compile::build;
 use crate::piece::write;
 use crate::run::run_text;
-use crate::words::Action;
+use hare_sources::Sources;
+use harec_check::Stopped;
+use hx_base::Bytes;
 use hx_io::Sink;
 use il_plain::Ended;
 use std::alloc::Global;
 
-/// Writes the text out, or runs the program that it is, and answers what came of it.
+/// How a command ended that was carried out.
+#[derive(Clone, Copy)]
+pub enum Done {
+    /// The program was checked, or its text was written out.
+    Accepted,
+    /// The program was run.
+    Ended(Ended),
+    /// The output failed while the text was written.
+    Cut,
+}
+
+/// Checks no more; or makes the text of the checked program of these files, and writes it out or runs it.
 pub fn carry_out<O: Sink>(
     alloc: Global,
-    action: Action<'_>,
-    text: &[u8],
+    task: Task<'_>,
+    srcs: &Sources,
     out: &mut O,
     fill: u8,
-) -> Answer
+    text: &mut Bytes,
+) -> Result<Done, Stopped>
+    requires empty { text.old ≡ [] }
+    requires paired { length srcs.now ≡ length task.files.now }
+    requires checked { (c : Checked) × IsChecked task.files.now srcs.now c }
     requires count { O.faults out.old < 2 ^ 64 - 1 }
-    requires made { (source : List ℕ) × (m : Module) × IsTextOf source text.now m }
-    ensures cause { (source : List ℕ) (m : Module) (files : Count) → IsTextOf source text.now m → Stands files
+    ensures cause { (files : Count) → Stands files
         → HasCause (record {
-          action = action_of action.entry;
-          source = source;
+          command = command_of task.entry;
+          sources = srcs.now;
           fill = fill;
-          text = text.now;
+          text = text.new;
           files = files;
           out = sent (O.faults out.old) (O.faults out.new) (O.written out.old) (O.written out.new);
-        }) result }
-    ensures leaves { LeavesOutput result out.old out.new }
+        }) (found_answer result) }
+    ensures line { IfErr result (HasLine task.entry.files.now) }
+    ensures leaves { LeavesOutput (command_of task.entry) (found_answer result) out.old out.new }
 {
-    match action {
-        Action::Emit => emit(text, out),
+    match task.action {
+        Action::Check => Ok(Done::Accepted),
+        Action::Emit => {
+            build(alloc, task.files, srcs, text)?;
+            Ok(emit(text.bytes(), out))
+        }
         Action::Run { units, args } => {
-            match run_text(alloc, text, args.len() as u64, fill, units, out) {
-                Ok(ended) => answer_of(ended),
-                Err(_) => Answer::Memory,
-            }
+            build(alloc, task.files, srcs, text)?;
+            let count = args.len() as u64;
+            let end = run_text(alloc, text.bytes(), count, fill, units, out)?;
+            Ok(Done::Ended(end))
         }
     }
 }
 
 // Writes the text out.
-fn emit<O: Sink>(text: &[u8], out: &mut O) -> Answer
+fn emit<O: Sink>(text: &[u8], out: &mut O) -> Done
     requires { O.faults out.old < 2 ^ 64 - 1 }
     ensures { Emits text.now (sent (O.faults out.old) (O.faults out.new) (O.written out.old) (O.written out.new)) result }
 {
     match write(out, text) {
-        Ok(()) => Answer::Accepted,
-        Err(_) => Answer::WriteFault,
-    }
-}
-
-// The answer of a run.
-fn answer_of(ended: Ended) -> Answer
-    ensures { result ≡ answer_of ended }
-{
-    match ended {
-        Ended::Exit(status) => Answer::Exited(status),
-        Ended::Fault(fault) => Answer::Undefined(Undef::Il(fault)),
-        Ended::StackFull => Answer::StackFull,
-        Ended::Spent => Answer::Spent,
-        Ended::WriteFault => Answer::WriteFault,
+        Ok(()) => Done::Accepted,
+        Err(_) => Done::Cut,
     }
 }

@@ -2,16 +2,15 @@
 #![tactic(auto)]
 
 mod answer;
+mod asked;
 mod carry;
 mod compile;
 mod log;
 mod piece;
 mod run;
-#[cfg(test)]
-mod tests;
 mod top;
-mod words;
 
 pub use answer::{Answer, Undef, status};
+pub use hare_tree::{Fault, Place};
 pub use il_code::MachineFault;
 pub use top::harec;

@@ -1,67 +1,141 @@
 //! The one line that the log gets.
 
-ghost use Rattle.std.specs.Prelude.{◌≡◌, ◌<◌, ◌-◌, ◌^◌, ◌++◌, codes};
+ghost use Rattle.std.specs.Prelude.{◌≡◌, ◌<◌, ◌-◌, ◌^◌, ◌++◌, ℕ, List, length, codes, IfErr};
 ghost use Rattle.std.specs.Fmt.{decimal};
-ghost use Rattle.harec_core.specs.Log.{Logs, line, act_name, fault_name};
-ghost use Rattle.harec_core.specs.Outside.{Writes, sent};
+ghost use Rattle.harec_core.specs.declared.answer.Answer.TheVariants as answer;
+ghost use Rattle.harec_core.specs.declared.answer.Undef.TheVariants.{Il};
+ghost use Rattle.harec_core.specs.Log.{Logs, IsLine, LeavesLog, fault_name, unread_line, undefined_line, spent_line};
+ghost use Rattle.harec_core.specs.Outside.{Sent, Writes, sent};
+ghost use Rattle.harec_core.specs.Stages.{HasLine, answer_of, done_answer, found_answer};
 
 use crate::answer::{Answer, Undef};
+use crate::carry::Done;
 use crate::piece::write;
+use harec_check::Stopped;
+use hx_base::Text;
 use hx_io::{Failed, Sink};
 use il_code::MachineFault;
+use il_plain::Ended;
 
-/// Writes the line of an answer that was found to the log, and answers it; or else, where the log fails, that it did. Takes no memory.
+/// Writes the line of what was found to the log, if it has one, and answers what was found; or else, where the log fails, that it did. Takes no memory.
 ///
-/// `path` is the word that names the file, and `units` are those of a run.
-pub fn report<L: Sink>(log: &mut L, path: &[u8], units: u64, found: Answer) -> Answer
-    requires { L.faults log.old < 2 ^ 64 - 1 }
-    ensures { Logs (line path.now units found)
-        (sent (L.faults log.old) (L.faults log.new) (L.written log.old) (L.written log.new))
-        found result }
+/// `paths` are the words that name the files, and `units` are those of a run.
+pub fn tell<L: Sink>(
+    log: &mut L,
+    paths: &[Text],
+    units: u64,
+    found: Result<Done, Stopped>,
+) -> Answer
+    requires count { L.faults log.old < 2 ^ 64 - 1 }
+    requires line { IfErr found (HasLine paths.now) }
+    ensures line { (line : List ℕ) × IsLine paths.now units (found_answer found) line
+        × Logs line (sent (L.faults log.old) (L.faults log.new) (L.written log.old) (L.written log.new)) (found_answer found) result }
+    ensures leaves { LeavesLog (found_answer found) log.old log.new }
 {
-    match write_line(log, path, units, found) {
+    match found {
+        Ok(done) => tell_done(log, paths, units, done),
+        Err(Stopped::Refused(refusal)) => {
+            report(log, refusal.line.bytes(), Answer::Refused(refusal.fault))
+        }
+        Err(Stopped::Unread(number)) => report_unread(log, paths[number].bytes()),
+        Err(Stopped::Memory) => report(log, b"harec: memory\n", Answer::Memory),
+    }
+}
+
+// The same of a command that was carried out.
+fn tell_done<L: Sink>(log: &mut L, paths: &[Text], units: u64, done: Done) -> Answer
+    requires { L.faults log.old < 2 ^ 64 - 1 }
+    ensures line { (line : List ℕ) × IsLine paths.now units (done_answer done) line
+        × Logs line (sent (L.faults log.old) (L.faults log.new) (L.written log.old) (L.written log.new)) (done_answer done) result }
+    ensures leaves { LeavesLog (done_answer done) log.old log.new }
+{
+    match done {
+        Done::Accepted => Answer::Accepted,
+        Done::Ended(end) => tell_end(log, paths, units, end),
+        Done::Cut => report(log, b"harec: write fault\n", Answer::WriteFault),
+    }
+}
+
+// The same of a run.
+fn tell_end<L: Sink>(log: &mut L, paths: &[Text], units: u64, end: Ended) -> Answer
+    requires { L.faults log.old < 2 ^ 64 - 1 }
+    ensures line { (line : List ℕ) × IsLine paths.now units (answer_of end) line
+        × Logs line (sent (L.faults log.old) (L.faults log.new) (L.written log.old) (L.written log.new)) (answer_of end) result }
+    ensures leaves { LeavesLog (answer_of end) log.old log.new }
+{
+    match end {
+        Ended::Exit(status) => Answer::Exited(status),
+        Ended::Fault(fault) => report_undefined(log, fault),
+        Ended::StackFull => report(log, b"harec: stack full\n", Answer::StackFull),
+        Ended::Spent => report_spent(log, units),
+        Ended::WriteFault => report(log, b"harec: write fault\n", Answer::WriteFault),
+    }
+}
+
+/// Writes a line to the log, and answers this; or else, where the log fails, that it did. Takes no memory.
+pub fn report<L: Sink>(log: &mut L, line: &[u8], found: Answer) -> Answer
+    requires { L.faults log.old < 2 ^ 64 - 1 }
+    ensures { Logs line.now (sent (L.faults log.old) (L.faults log.new) (L.written log.old) (L.written log.new)) found result }
+{
+    answered(write(log, line), found)
+}
+
+// Reports a file that was not read.
+fn report_unread<L: Sink>(log: &mut L, path: &[u8]) -> Answer
+    requires { L.faults log.old < 2 ^ 64 - 1 }
+    ensures { Logs (unread_line path.now)
+        (sent (L.faults log.old) (L.faults log.new) (L.written log.old) (L.written log.new)) answer.FileFault result }
+{
+    answered(write_two(log, path, b": file fault\n"), Answer::FileFault)
+}
+
+// Reports a run that did what has no meaning.
+fn report_undefined<L: Sink>(log: &mut L, fault: MachineFault) -> Answer
+    requires { L.faults log.old < 2 ^ 64 - 1 }
+    ensures { Logs (undefined_line (Il fault))
+        (sent (L.faults log.old) (L.faults log.new) (L.written log.old) (L.written log.new)) (answer.Undefined (Il fault)) result }
+{
+    answered(
+        write_undefined(log, fault),
+        Answer::Undefined(Undef::Il(fault)),
+    )
+}
+
+// Reports a run that spent its units.
+fn report_spent<L: Sink>(log: &mut L, units: u64) -> Answer
+    requires { L.faults log.old < 2 ^ 64 - 1 }
+    ensures { Logs (spent_line units)
+        (sent (L.faults log.old) (L.faults log.new) (L.written log.old) (L.written log.new)) answer.Spent result }
+{
+    answered(write_spent(log, units), Answer::Spent)
+}
+
+// What is answered where this was found, and its line was written or cut off.
+fn answered(written: Result<(), Failed>, found: Answer) -> Answer
+    ensures { (line : List ℕ) (log : Sent) → Writes line log written → Logs line log found result }
+{
+    match written {
         Ok(()) => found,
         Err(Failed) => Answer::WriteFault,
     }
 }
 
-// Writes the line of an answer.
-fn write_line<L: Sink>(log: &mut L, path: &[u8], units: u64, found: Answer) -> Result<(), Failed>
-    requires { L.faults log.old < 2 ^ 64 - 1 }
-    ensures { Writes (line path.now units found)
-        (sent (L.faults log.old) (L.faults log.new) (L.written log.old) (L.written log.new))
-        result }
-{
-    match found {
-        Answer::Accepted | Answer::Exited(_) | Answer::Aborted => write(log, b""),
-        Answer::Usage => write(log, b"harec: usage\n"),
-        Answer::Refused(_) => write_two(log, path, b":1:1: E49 NotBuilt\n"),
-        Answer::FileFault => write_two(log, path, b": file fault\n"),
-        Answer::Undefined(act) => write_undefined(log, act),
-        Answer::Memory => write(log, b"harec: memory\n"),
-        Answer::ReadFault => write(log, b"harec: read fault\n"),
-        Answer::WriteFault => write(log, b"harec: write fault\n"),
-        Answer::Spent => write_spent(log, units),
-        Answer::StackFull => write(log, b"harec: stack full\n"),
-    }
-}
-
 // Writes the line of a run that did what has no meaning.
-fn write_undefined<L: Sink>(log: &mut L, act: Undef) -> Result<(), Failed>
+fn write_undefined<L: Sink>(log: &mut L, fault: MachineFault) -> Result<(), Failed>
     requires { L.faults log.old < 2 ^ 64 - 1 }
-    ensures { Writes (codes "harec: undefined " ++ (act_name act ++ codes "\n"))
+    ensures { Writes (undefined_line (Il fault))
         (sent (L.faults log.old) (L.faults log.new) (L.written log.old) (L.written log.new))
         result }
 {
     write(log, b"harec: undefined ")?;
-    write_two(log, act_name(act), b"\n")?;
+    write_two(log, fault_name(fault), b"\n")?;
     Ok(())
 }
 
 // Writes the line of a run that spent its units.
 fn write_spent<L: Sink>(log: &mut L, units: u64) -> Result<(), Failed>
     requires { L.faults log.old < 2 ^ 64 - 1 }
-    ensures { Writes (codes "harec: spent " ++ (decimal units ++ codes " units\n"))
+    ensures { Writes (spent_line units)
         (sent (L.faults log.old) (L.faults log.new) (L.written log.old) (L.written log.new))
         result }
 {
@@ -81,16 +155,6 @@ fn write_two<L: Sink>(log: &mut L, first: &[u8], second: &[u8]) -> Result<(), Fa
     write(log, first)?;
     write(log, second)?;
     Ok(())
-}
-
-// The name of an undefined act.
-fn act_name(act: Undef) -> &'static [u8]
-    ensures { result.now ≡ act_name act }
-{
-    match act {
-        Undef::Il(fault) => fault_name(fault),
-        Undef::Hare(_) => b"",
-    }
 }
 
 // The name of a fault of the machine.

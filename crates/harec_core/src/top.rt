@@ -1,30 +1,34 @@
 //! The top call: from words and files to an answer.
 
-ghost use Rattle.std.specs.Prelude.{◌≡◌, ℕ, ◌<◌, ◌-◌, ◌^◌, ◌↔◌, ◌⊎◌, List, [], IfSome};
+ghost use Rattle.std.specs.Prelude.{◌≡◌, ℕ, ◌<◌, ◌≤◌, ◌-◌, ◌^◌, ◌↔◌, ◌⊎◌, List, [], length, IfErr};
+ghost use Rattle.harec_words.specs.Commands.{Command};
+ghost use Rattle.harec_check.specs.Files.{AreTold};
 ghost use Rattle.harec_core.specs.declared.answer.Answer.{Answer};
 ghost use Rattle.harec_core.specs.declared.answer.Answer.TheVariants as answer;
 ghost use Rattle.harec_core.specs.Answers.{Answers, HasCause, LeavesOutput};
-ghost use Rattle.harec_core.specs.Commands.{action_of};
-ghost use Rattle.harec_core.specs.Log.{Logs, line, units_of};
-ghost use Rattle.harec_core.specs.Outside.{Count, Stands, sent};
-ghost use Rattle.harec_core.specs.Words.{IsCommand, IsNoCommand};
-ghost use Rattle.harec_core.specs.Words as spec;
+ghost use Rattle.harec_core.specs.Asked.{IsAsked, IsNotAsked, files_of, units_of};
+ghost use Rattle.harec_core.specs.Log.{Logs, IsLine, LeavesLog, usage_line};
+ghost use Rattle.harec_core.specs.Outside.{sent};
+ghost use Rattle.harec_core.specs.Stages.{HasLine, command_of, command_on, found_answer};
 
 use crate::answer::Answer;
-use crate::carry::carry_out;
-use crate::compile::make_text;
-use crate::log::report;
-use crate::words::{Action, Command, command_of};
+use crate::asked::{Action, Task, asked};
+use crate::carry::{Done, carry_out};
+use crate::log::{report, tell};
+use harec_check::{Stopped, check};
 use hx_base::{Bytes, Text};
-use hx_io::{FileError, Files, Sink, Source};
+use hx_io::{Files, Sink, Source};
 use il_code::law_text;
 use std::alloc::Global;
 
 /// Does all that the program does: answers the words, over the files, the input, the output and the log that are handed in.
 ///
-/// `emit FILE` writes the IL text of the file's program to the output. `run [--units N] FILE [-- ARGS]` makes the same text, reads the module back
-/// from it and runs that, with the arguments and at most N units, and writes the program's output as it comes. Each answer but an accepted file and
-/// a program's own exit has one line, which the log gets. All memory is taken before the first byte of output, and the line takes none.
+/// All files are read in their order before anything else, and no file is read behind one that failed. Then their program is checked, whatever is
+/// asked: where it has a fault, that is the answer. `check FILES` does no more. `emit FILES` writes the IL text of the program to the output. `run
+/// [--units N] FILES [-- ARGS]` makes the same text, reads the module back from it and runs that, with the arguments and at most N units, and writes
+/// the program's output as it comes. Programs of several files, and of a file that is not of the class of today, are not compiled yet: E49 at the start
+/// of the first file. Each answer but an accepted program and a program's own exit has one line, which the log gets. All memory is taken before the first byte
+/// of output or of the log.
 ///
 /// `fill` is the byte that new memory and unassigned temporaries of a run hold. `text` becomes the IL text that was made: it is empty where no module
 /// was made, and after want of memory it is the text or empty.
@@ -48,112 +52,86 @@ pub fn harec<F: Files, I: Source, O: Sink, L: Sink>(
     ensures write_fault { (result ≡ answer.WriteFault)
         ↔ ((O.faults out.old < O.faults out.new) ⊎ (L.faults log.old < L.faults log.new)) }
 
-    // A file fault comes exactly where reading the file failed, and the log did not.
+    // A file fault comes exactly where reading a file failed, and the log did not.
     ensures file_fault { (result ≡ answer.FileFault)
         ↔ ((F.faults files.old < F.faults files.new) × (L.faults log.new ≡ L.faults log.old)) }
 
-    // Usage comes exactly where the words are no command, and the log did not fail. Then nothing but the log is touched.
+    // Usage comes exactly where the words ask for nothing, and the log did not fail. Then nothing but the log is touched.
     ensures usage { (result ≡ answer.Usage)
-        ↔ (IsNoCommand words.now × (L.faults log.new ≡ L.faults log.old)) }
-    ensures unasked { IsNoCommand words.now → (files.new ≡ files.old) × (out.new ≡ out.old) × (text.new ≡ [])
-        × Logs (line [] 0 answer.Usage)
+        ↔ (IsNotAsked words.now × (L.faults log.new ≡ L.faults log.old)) }
+    ensures unasked { IsNotAsked words.now → (files.new ≡ files.old) × (out.new ≡ out.old) × (text.new ≡ [])
+        × Logs usage_line
         (sent (L.faults log.old) (L.faults log.new) (L.written log.old) (L.written log.new))
         answer.Usage result }
 
-    // The answer to a command is found by the file's bytes, which are those that the files tell. Then its line goes to the log.
-    ensures command { (c : spec.Command) → IsCommand words.now c
-        → (source : List ℕ) × IfSome (F.content files.old c.path) (λ told. source ≡ told)
+    // The answer to a command is found by the bytes of its files, which are those that the files tell. Then its line goes to the log.
+    ensures command { (c : Command) → IsAsked words.now c
+        → (srcs : List (List ℕ)) × AreTold (F.content files.old) (files_of c) srcs
         × (found : Answer)
         × Answers (record {
-          action = c.action;
-          source = source;
+          command = c;
+          sources = srcs;
           fill = fill;
           text = text.new;
           files = record { before = F.faults files.old; now = F.faults files.new };
           out = sent (O.faults out.old) (O.faults out.new) (O.written out.old) (O.written out.new);
         }) found
-        × LeavesOutput found out.old out.new
-        × Logs (line c.path (units_of c.action) found)
+        × LeavesOutput c found out.old out.new
+        × LeavesLog found log.old log.new
+        × (line : List ℕ) × IsLine (files_of c) (units_of c) found line
+        × Logs line
         (sent (L.faults log.old) (L.faults log.new) (L.written log.old) (L.written log.new))
         found result }
 
-    // Nothing is read from the input.
+    // Nothing is read from the input, and what the paths of files hold stays as it is.
     ensures kept { input.new ≡ input.old }
+    ensures same { (p : List ℕ) → F.content files.new p ≡ F.content files.old p }
 {
-    let Some(command) = command_of(words) else {
-        return report(log, b"", 0, Answer::Usage);
+    let Some(task) = asked(words) else {
+        return report(log, b"harec: usage\n", Answer::Usage);
     };
-    let found = answer_to(alloc, command, files, out, fill, text);
+    let found = answer_to(alloc, task, files, out, fill, text);
     // Texts spell one module at most, and so the contract may speak of the one that `text` spells.
     law_text();
-    report(log, command.path.bytes(), units_of(command.action), found)
+    tell(log, task.files, units_of(task.action), found)
 }
 
 // The units of a run; 0 where nothing is run.
 fn units_of(action: Action) -> u64
-    ensures { result ≡ units_of (action_of action.entry) }
+    ensures { (files : List (List ℕ)) → result ≡ units_of (command_on files action.entry) }
 {
     match action {
-        Action::Emit => 0,
+        Action::Check | Action::Emit => 0,
         Action::Run { units, .. } => units,
     }
 }
 
-// The answer to a command, before the log gets its line.
+// What is found for a command, before the log gets its line.
 fn answer_to<F: Files, O: Sink>(
     alloc: Global,
-    command: Command<'_>,
+    task: Task<'_>,
     files: &mut F,
     out: &mut O,
     fill: u8,
     text: &mut Bytes,
-) -> Answer
+) -> Result<Done, Stopped>
     requires empty { text.old ≡ [] }
+    requires few { length task.files.now ≤ 65536 }
     requires count_of_files { F.faults files.old < 2 ^ 64 - 1 }
     requires count_of_out { O.faults out.old < 2 ^ 64 - 1 }
-    ensures cause { (source : List ℕ) × IfSome (F.content files.old command.entry.path.now) (λ told. source ≡ told)
+    ensures cause { (srcs : List (List ℕ)) × AreTold (F.content files.old) task.entry.files.now srcs
         × HasCause (record {
-          action = action_of command.entry.action;
-          source = source;
+          command = command_of task.entry;
+          sources = srcs;
           fill = fill;
           text = text.new;
           files = record { before = F.faults files.old; now = F.faults files.new };
           out = sent (O.faults out.old) (O.faults out.new) (O.written out.old) (O.written out.new);
-        }) result }
-    ensures leaves { LeavesOutput result out.old out.new }
+        }) (found_answer result) }
+    ensures line { IfErr result (HasLine task.entry.files.now) }
+    ensures leaves { LeavesOutput (command_of task.entry) (found_answer result) out.old out.new }
+    ensures same { (p : List ℕ) → F.content files.new p ≡ F.content files.old p }
 {
-    match files.read(alloc, command.path) {
-        Err(FileError::Failed) => Answer::FileFault,
-        Err(FileError::Memory) => Answer::Memory,
-        Ok(source) => answer_on(alloc, command.action, source.bytes(), out, fill, text),
-    }
-}
-
-// The answer to a command on a file's bytes.
-fn answer_on<O: Sink>(
-    alloc: Global,
-    action: Action<'_>,
-    source: &[u8],
-    out: &mut O,
-    fill: u8,
-    text: &mut Bytes,
-) -> Answer
-    requires empty { text.old ≡ [] }
-    requires count_of_out { O.faults out.old < 2 ^ 64 - 1 }
-    ensures cause { (files : Count) → Stands files
-        → HasCause (record {
-          action = action_of action.entry;
-          source = source.now;
-          fill = fill;
-          text = text.new;
-          files = files;
-          out = sent (O.faults out.old) (O.faults out.new) (O.written out.old) (O.written out.new);
-        }) result }
-    ensures leaves { LeavesOutput result out.old out.new }
-{
-    match make_text(alloc, source, text) {
-        Err(_) => Answer::Memory,
-        Ok(false) => Answer::Refused(49),
-        Ok(true) => carry_out(alloc, action, text.bytes(), out, fill),
-    }
+    let srcs = check(alloc, task.files, files)?;
+    carry_out(alloc, task, &srcs, out, fill, text)
 }

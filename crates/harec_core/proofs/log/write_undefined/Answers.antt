@@ -5,7 +5,9 @@ pub returns-in_err-write : goal.returns-in_err-write
 returns-in_err-write g c = Writes-err _ _ _ c.from_residual.ensures.0 (cut_in_front _ _ _ _ _ _ c.in_err-write.ensures)
 
 pub returns-in_err-write_two : goal.returns-in_err-write_two
-returns-in_err-write_two g c = Writes-err _ _ _ c.from_residual-in_err-write_two.ensures.0 (cut_behind _ _ _ _ _ _ _ _ c.in_ok-write.ensures (rw c.act_name.ensures at c.in_err-write_two.ensures))
+returns-in_err-write_two g c =
+    let named = rw c.fault_name.ensures at c.in_err-write_two.ensures in
+    Writes-err _ _ _ c.from_residual-in_err-write_two.ensures.0 (cut_behind _ _ _ _ _ _ _ _ c.in_ok-write.ensures named)
 
 pub returns : goal.returns
-returns g c = sent_both _ _ _ _ _ _ _ _ c.in_ok-write.ensures (rw c.act_name.ensures at c.in_ok-write_two.ensures)
+returns g c = sent_both _ _ _ _ _ _ _ _ c.in_ok-write.ensures (rw c.fault_name.ensures at c.in_ok-write_two.ensures)

@@ -1,19 +1,21 @@
-use Rattle.std.proofs.Common.{inl}
-use Rattle.harec_core.proofs.Causes.{bytes_told, risen, silent}
+use Rattle.std.proofs.lemmas.Result.{err_from_is_err_and}
+use Rattle.harec_check.proofs.FileLemmas.{length-AreTold}
+use Rattle.harec_core.specs.Outside.{Count}
+use Rattle.harec_core.proofs.Causes.{files_of-command_on, silent, stop_cause}
 use Rattle.harec_core.proofs.top.answer_to.Goals as goal
 
-pub returns-in-Err-Failed-clause-cause : goal.returns-in-Err-Failed-clause-cause
-returns-in-Err-Failed-clause-cause g c =
-    let read = rw c.in-Err-Failed.field-0-is at c.in-Err-Failed.ensures in
-    let source = bytes_told (g.F.Files.content c.args.files.now c.args.command.path.now) in
-    (source.0, source.1, record { files = risen _ _ c.requires.count_of_files read.count.cause; silent = silent _ _; text = c.requires.empty })
+pub returns-in_err-srcs-clause-cause : goal.returns-in_err-srcs-clause-cause
+returns-in_err-srcs-clause-cause g c =
+    let p = err_from_is_err_and c.from_residual.result c.from_residual.ensures.1 in
+    let same = files_of-command_on c.args.task.files.now c.args.task.action in
+    rw (p.1, p.2)
+    (stop_cause _ _ _ _ c.requires.count_of_files _ c.args.fill _ _ _ same (silent _ _) c.requires.empty c.in_err-srcs.ensures.err)
 
-pub returns-in-Err-Memory-clause-cause : goal.returns-in-Err-Memory-clause-cause
-returns-in-Err-Memory-clause-cause g c =
-    let read = rw c.in-Err-Memory.field-0-is at c.in-Err-Memory.ensures in
-    let source = bytes_told (g.F.Files.content c.args.files.now c.args.command.path.now) in
-    (source.0, source.1, record { files = read.count.cause; silent = silent _ _; text = inl c.requires.empty })
+pub carry_out-requires-clause-paired : goal.carry_out-requires-clause-paired
+carry_out-requires-clause-paired g c = length-AreTold _ _ _ c.in_ok-srcs.ensures.ok.told
 
-pub returns-in-Ok-clause-cause : goal.returns-in-Ok-clause-cause
-returns-in-Ok-clause-cause g c =
-    (c.in-Ok.source, c.in-Ok.ensures.bytes, rw c.bytes.ensures at (c.answer_on.ensures.cause (record { before = g.F.Files.faults c.args.files.now; now = g.F.Files.faults c.read.new.self }) c.in-Ok.ensures.count.cause))
+pub returns-clause-cause : goal.returns-clause-cause
+returns-clause-cause g c =
+    let read = c.in_ok-srcs.ensures.ok in
+    let files : Count = record { before = g.F.Files.faults c.args.files.now; now = g.F.Files.faults c.check.new.files } in
+    (c.in_ok-srcs.srcs, read.told, c.carry_out.ensures.cause files read.stands)

@@ -1,0 +1,63 @@
+//! What the words behind the program's name ask for.
+
+ghost use Rattle.std.specs.Prelude.{◌≡◌, IfSome, MatchOption, length};
+ghost use Rattle.harec_words.specs.Commands as spec;
+ghost use Rattle.harec_words.specs.Spans.{IsWithin, words_at};
+ghost use Rattle.harec_core.specs.Asked.{IsAsked};
+ghost use Rattle.harec_core.specs.Stages.{command_of};
+
+use harec_words::{Command, Span, command_of};
+use hx_base::Text;
+
+/// A command that is built, with the words that it names.
+#[derive(Clone, Copy)]
+pub struct Task<'a> {
+    /// The words that name its files.
+    pub files: &'a [Text],
+    pub action: Action<'a>,
+}
+
+/// What is done with the program of the files.
+#[derive(Clone, Copy)]
+pub enum Action<'a> {
+    /// It is checked.
+    Check,
+    /// Its text is written out.
+    Emit,
+    /// It is run with these arguments, and at most so many units.
+    Run { units: u64, args: &'a [Text] },
+}
+
+/// What the words ask for: `check FILES`, `emit FILES` or `run [--units N] FILES [-- ARGS]`, as `harec_words::command_of` reads them. None: they are
+/// no command, or `exec` or `fmt`, which are not built yet.
+pub fn asked(words: &[Text]) -> Option<Task<'_>>
+    ensures found { IfSome result (λ a. IsAsked words.now (command_of a)) }
+    ensures only { (c : spec.Command) → IsAsked words.now c → MatchOption result ⊥ (λ a. command_of a ≡ c) }
+{
+    match command_of(words)? {
+        Command::Check(files) => Some(Task {
+            files: words_in(words, files),
+            action: Action::Check,
+        }),
+        Command::Emit(files) => Some(Task {
+            files: words_in(words, files),
+            action: Action::Emit,
+        }),
+        Command::Run(units, files, args) => Some(Task {
+            files: words_in(words, files),
+            action: Action::Run {
+                units,
+                args: words_in(words, args),
+            },
+        }),
+        Command::Exec(..) | Command::Fmt(_) => None,
+    }
+}
+
+/// The words that a span names.
+fn words_in(words: &[Text], span: Span) -> &[Text]
+    requires { IsWithin (length words.now) span }
+    ensures { result.now ≡ words_at words.now span }
+{
+    &words[span.from..span.to]
+}
