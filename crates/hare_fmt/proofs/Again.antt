@@ -2,11 +2,11 @@
 use Rattle.std.proofs.Common.{◌≡◌, ℕ, ◌+◌, List, Bool, true, false, refl, if◌then◌else◌}
 use Rattle.hare_fmt.specs.declared.way.Feeds.{Feeds}
 use Rattle.hare_fmt.specs.declared.way.Feeds.TheVariants.{Same, Next, Empty}
-use Rattle.hare_fmt.specs.declared.way.Start.{Start}
-use Rattle.hare_fmt.specs.declared.way.Start.TheVariants.{Within, Begins, Outdented}
+use Rattle.hare_ways.specs.declared.way.Start.{Start}
+use Rattle.hare_ways.specs.declared.way.Start.TheVariants.{Within, Begins, Outdented}
 use Rattle.hare_fmt.specs.declared.way.Before.{Before}
 use Rattle.hare_fmt.specs.declared.way.Before.TheVariants.{Nothing, Opening, Remark, Other}
-use Rattle.hare_fmt.specs.declared.way.Way.{Way}
+use Rattle.hare_ways.specs.declared.way.Way.{Way}
 use Rattle.hare_fmt.specs.Gaps.{Behind, line, comment_gap, comment_tabs, start_gap, before_gap, token_gap, tabs_of, extra_tab}
 use Rattle.hare_fmt.specs.Layout.{read_back, GapsStay}
 

@@ -4,7 +4,7 @@ use Rattle.std.proofs.Common.{refl}
 use Rattle.hare_tree.specs.declared.kind.Kind.TheVariants as ki
 use Rattle.hare_tree.specs.Spell.{spell}
 use Rattle.hare_tree.specs.Shape.{stops}
-use Rattle.hare_fmt.specs.Ways.{ways}
+use Rattle.hare_ways.specs.Ways.{ways}
 use Rattle.hare_fmt.specs.Layout.{layout}
 use Rattle.hare_fmt.proofs.RowWords.{text, pieces, node, named, none, comma, dots, name, a, b, c, number, int, labelled, file, set, type, laid_out}
 

@@ -5,7 +5,7 @@ use Rattle.hare_tree.specs.declared.kind.Kind.TheVariants as ki
 use Rattle.hare_tree.specs.Spell.{spell}
 use Rattle.hare_tree.specs.Shape.{stops}
 use Rattle.hare_pieces.specs.declared.piece.Piece.{Piece}
-use Rattle.hare_fmt.specs.Ways.{ways}
+use Rattle.hare_ways.specs.Ways.{ways}
 use Rattle.hare_fmt.specs.Read.{Seen, seen}
 use Rattle.hare_fmt.specs.Layout.{layout, layout_of}
 use Rattle.hare_fmt.proofs.RowWords.{text, pieces, node, named, none, comma, name, path, a, b, c, number, scalar, int, file, set, laid_out}

@@ -57,7 +57,7 @@ none_ahead : (src : List ℕ) (at : ℕ) (ps : List Piece) (i : ℕ) → drop i 
     → false ≡ next_is_string (seen_from src at ps)
 none_ahead src at ps i e a = ap (λ l. next_is_string (seen_from src a.from l)) (sym e) ∙ a.same
 
-drop_over : (ps : List Piece) (i : ℕ) → length ps ≤ i → drop i ps ≡ []
+pub drop_over : (ps : List Piece) (i : ℕ) → length ps ≤ i → drop i ps ≡ []
 drop_over [] zero h = refl
 drop_over [] (suc i) h = refl
 drop_over (p ∷ ps) zero h = absurd (omega arith)

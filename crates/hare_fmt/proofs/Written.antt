@@ -4,7 +4,7 @@ use Rattle.std.specs.Prelude.{slice_range}
 use Rattle.hare_fmt.specs.declared.line.Line.{Line}
 use Rattle.hare_pieces.specs.declared.piece.Piece.{Piece}
 use Rattle.hare_fmt.specs.declared.way.Feeds.{Feeds}
-use Rattle.hare_fmt.specs.declared.way.Way.{Way}
+use Rattle.hare_ways.specs.declared.way.Way.{Way}
 use Rattle.hare_fmt.specs.declared.way.Gap.{Gap}
 use Rattle.hare_fmt.specs.declared.write.State.{State}
 use Rattle.hare_fmt.specs.Read.{Seen, seen_from, body_of, feeds_in, is_quoted}

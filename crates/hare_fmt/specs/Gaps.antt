@@ -4,15 +4,15 @@ use Rattle.std.specs.List.{list_all}
 use Rattle.std.specs.Char.{is_ascii_digit}
 use Rattle.hare_fmt.specs.declared.way.Feeds.{Feeds}
 use Rattle.hare_fmt.specs.declared.way.Feeds.TheVariants.{Same, Next, Empty}
-use Rattle.hare_fmt.specs.declared.way.Start.{Start}
-use Rattle.hare_fmt.specs.declared.way.Start.TheVariants.{Within, Begins, Outdented}
-use Rattle.hare_fmt.specs.declared.way.Way.{Way}
+use Rattle.hare_ways.specs.declared.way.Start.{Start}
+use Rattle.hare_ways.specs.declared.way.Start.TheVariants.{Within, Begins, Outdented}
+use Rattle.hare_ways.specs.declared.way.Way.{Way}
 use Rattle.hare_fmt.specs.declared.way.Before.{Before}
 use Rattle.hare_fmt.specs.declared.way.Before.TheVariants.{Nothing, Opening, Remark, Other}
 use Rattle.hare_fmt.specs.declared.way.Gap.{Gap}
 use Rattle.hare_fmt.specs.declared.way.Gap.TheVariants.{First, Join, Blank, Line}
 use Rattle.hare_fmt.specs.Read.{Seen, is_string}
-use Rattle.hare_fmt.specs.Ways.{end_way}
+use Rattle.hare_ways.specs.Ways.{end_way}
 
 -- ---- ways for pieces
 

@@ -11,8 +11,6 @@ use Rattle.std.specs.Prelude.{◌≡◌, ℕ, ◌<◌, ◌≤◌, List, [], ◌�
 use Rattle.std.specs.List.{flat_map}
 use Rattle.hare_tree.specs.declared.token.Token.{Token}
 use Rattle.hare_tree.specs.declared.tree.FileTree.{FileTree}
-use Rattle.hare_tree.specs.Node.{Node}
-use Rattle.hare_tree.specs.Spell.{spell, spell_file}
 use Rattle.hare_tree.specs.Tokens.{IsTokens, Stands}
 use Rattle.hare_tree.specs.Grammar.{IsFileTree}
 use Rattle.hare_pieces.specs.declared.piece.Piece.{Piece}
@@ -20,10 +18,10 @@ use Rattle.hare_pieces.specs.Pieces.{ArePieces}
 use Rattle.hare_fmt.specs.declared.way.Feeds.{Feeds}
 use Rattle.hare_fmt.specs.declared.way.Feeds.TheVariants.{Same, Next, Empty}
 use Rattle.hare_fmt.specs.declared.way.Gap.{Gap}
-use Rattle.hare_fmt.specs.declared.way.Way.{Way}
+use Rattle.hare_ways.specs.declared.way.Way.{Way}
 use Rattle.hare_fmt.specs.declared.way.Gap.TheVariants.{First, Join, Blank, Line}
 use Rattle.hare_fmt.specs.Read.{Seen, seen, comments_before}
-use Rattle.hare_fmt.specs.Ways.{ways, file_ways}
+use Rattle.hare_ways.specs.Ways.{file_ways}
 use Rattle.hare_fmt.specs.Gaps.{Placed, Behind, placed, laid, gap_of, grows, at_start}
 
 -- ---- bytes
@@ -97,14 +95,6 @@ LaidAreKept = (b : Behind) (ps : List Placed) → map (λ g. g.1) (laid b ps) �
 -- the pieces of a text stand in their order, within the text, and none is empty
 abbrev pub PiecesAreInOrder : Type 0
 PiecesAreInOrder = (text : List ℕ) (ps : List Piece) → ArePieces text ps → InOrder 0 (length text) ps
-
--- each token of a tree has one way
-abbrev pub TreesHaveWays : Type 0
-TreesHaveWays = (comments : List ℕ) (n : ℕ) (t : Node) → length (ways comments n t) ≡ length (spell 0 t)
-
--- and each token of a file, and its end
-abbrev pub FilesHaveWays : Type 0
-FilesHaveWays = (comments : List ℕ) (t : FileTree) → t.file ≡ 0 → length (file_ways comments t) ≡ length (spell_file t)
 
 -- ---- reading a laid out text
 

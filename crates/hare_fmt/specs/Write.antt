@@ -1,7 +1,7 @@
 -- What the private functions of the writer speak of.
 use Rattle.std.specs.Prelude.{ℕ, List, Bool, true, false, if◌then◌else◌}
 use Rattle.hare_pieces.specs.declared.piece.Piece.{Piece}
-use Rattle.hare_fmt.specs.declared.way.Way.{Way}
+use Rattle.hare_ways.specs.declared.way.Way.{Way}
 use Rattle.hare_fmt.specs.declared.write.State.{State}
 use Rattle.hare_fmt.specs.Read.{seen_from}
 use Rattle.hare_fmt.specs.Gaps.{placed, laid, next_way, string_way, without_comma}

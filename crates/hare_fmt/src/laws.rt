@@ -1,6 +1,6 @@
 //! What holds of layouts.
 
-ghost use Rattle.hare_fmt.specs.Layout.{SourcesHaveOneLayout, TreesHaveWays, FilesHaveWays, GapsStay, GrowingPiecesAreOthers, PlacedAreSeen, LaidAreKept, PiecesAreInOrder};
+ghost use Rattle.hare_fmt.specs.Layout.{SourcesHaveOneLayout, GapsStay, GrowingPiecesAreOthers, PlacedAreSeen, LaidAreKept, PiecesAreInOrder};
 
 /// A source has one layout.
 pub fn law_one_layout()
@@ -16,12 +16,6 @@ pub fn law_pieces_are_kept()
 /// The pieces of a text stand in their order, within the text, and none is empty.
 pub fn law_pieces_are_in_order()
     ensures { PiecesAreInOrder }
-{}
-
-/// Each token of a tree has one way, and so have each token of a file and its end.
-pub fn law_each_token_has_a_way()
-    ensures trees { TreesHaveWays }
-    ensures files { FilesHaveWays }
 {}
 
 /// A piece that is read from a laid out text, with the line ends that stand there in front of it, has the same gap again behind the same

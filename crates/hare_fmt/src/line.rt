@@ -6,7 +6,8 @@ ghost use Rattle.std.specs.List.{list_all};
 ghost use Rattle.hare_fmt.specs.Gaps as spec;
 ghost use Rattle.hare_fmt.specs.Behind.{behind_of};
 
-use crate::way::{Before, Feeds, Gap, Start, Way};
+use crate::way::{Before, Feeds, Gap};
+use hare_ways::{Start, Way};
 
 // What stands before a piece: the piece before, whether no blank is to stand behind it, and the last two pieces back to the last blank or
 // line end.

@@ -9,8 +9,9 @@ ghost use Rattle.hare_fmt.specs.Write as spec;
 
 use crate::line::{Line, comment_gap, line_behind, line_behind_token, token_gap};
 use crate::read::{body_of, feeds_in, is_quoted, next_is_string};
-use crate::way::{Before, Gap, Start, Way};
+use crate::way::{Before, Gap};
 use hare_pieces::Piece;
+use hare_ways::{Start, Way};
 use hx_base::Bytes;
 use std::alloc::{AllocError, Global};
 

@@ -12,15 +12,15 @@ use Rattle.hare_tree.specs.declared.form.Lead.{Lead}
 use Rattle.hare_tree.specs.declared.form.Lead.TheVariants as le
 use Rattle.hare_tree.specs.Node.{Head, Node, Nodes, branch, none, more, nodes_of}
 use Rattle.hare_tree.specs.Forms.{form_of}
-use Rattle.hare_tree.specs.Depth.{begins, begins_led, first_number, numbers_behind}
-use Rattle.hare_tree.specs.Spell.{Spelled, parts, path_tokens, label_tokens, own_tokens, stands_alone, with_lead, all_led, one_led, listed, value_lead, piece_tokens, pieces_tokens, left_behind, spell, spells, spell_all, word_token}
+use Rattle.hare_tree.specs.Depth.{lead_length, begins, begins_led, first_number, numbers_behind}
+use Rattle.hare_tree.specs.Spell.{Spelled, parts, path_tokens, label_tokens, own_tokens, stands_alone, with_lead, all_led, one_led, listed, value_lead, piece_tokens, pieces_tokens, left_behind, spell, spells, spelled_kid, spell_all, word_token}
 use Rattle.hare_tree.specs.declared.token.TokenKind.TheVariants as tk
-use Rattle.hare_fmt.specs.declared.way.Start.{Start}
-use Rattle.hare_fmt.specs.declared.way.Start.TheVariants.{Begins}
-use Rattle.hare_fmt.specs.declared.way.Way.{Way}
-use Rattle.hare_fmt.specs.Breaks.{Breaks}
-use Rattle.hare_fmt.specs.Ways.{Laid, ways, kids_laid, pieces_ways, piece_ways, within_brackets, inside_behind, deeper, starting, led_ways, all_ways, one_way, listed_ways, own_ways, path_ways, label_ways, roots_ways, file_ways, end_way}
-use Rattle.hare_fmt.specs.Layout.{TreesHaveWays, FilesHaveWays}
+use Rattle.hare_ways.specs.declared.way.Start.{Start}
+use Rattle.hare_ways.specs.declared.way.Start.TheVariants.{Begins}
+use Rattle.hare_ways.specs.declared.way.Way.{Way}
+use Rattle.hare_ways.specs.declared.breaks.Breaks.{Breaks}
+use Rattle.hare_ways.specs.Ways.{Laid, ways, kids_laid, pieces_ways, piece_ways, within_brackets, inside_behind, deeper, starting, led_ways, all_ways, one_way, listed_ways, own_ways, path_ways, label_ways, roots_ways, file_ways, end_way, TreesHaveWays, FilesHaveWays}
+use Rattle.hare_ways.specs.Walk.{laid_kid, kid_ways}
 
 -- ---- kids side by side
 
@@ -35,7 +35,7 @@ AreLike [] (v ∷ vs) = ⊥
 AreLike (u ∷ us) [] = ⊥
 AreLike (u ∷ us) (v ∷ vs) = IsLike u v × AreLike us vs
 
-length-starting : (s : Start) (ws : List Way) → length (starting s ws) ≡ length ws
+pub length-starting : (s : Start) (ws : List Way) → length (starting s ws) ≡ length ws
 length-starting s [] = refl
 length-starting s (w ∷ ws) = refl
 
@@ -97,7 +97,7 @@ listed_like k s us vs h =
 
 -- ---- a tree's own tokens
 
-path_length : (k : Kind) (xs : List (List ℕ)) → length (path_ways k xs) ≡ length (path_tokens 0 xs)
+pub path_length : (k : Kind) (xs : List (List ℕ)) → length (path_ways k xs) ≡ length (path_tokens 0 xs)
 path_length k [] = refl
 path_length k (x ∷ []) = refl
 path_length k (x ∷ y ∷ xs) = ap (λ n. suc (suc n)) (path_length k (y ∷ xs))
@@ -155,11 +155,11 @@ left_like (pi.List s) us vs e = tt
 left_like (pi.Elements s) us vs e = tt
 left_like (pi.MoreElements s) us vs e = tt
 
-length-map : (ws : List Way) → length (map deeper ws) ≡ length ws
+pub length-map : (ws : List Way) → length (map deeper ws) ≡ length ws
 length-map [] = refl
 length-map (w ∷ ws) = ap suc (length-map ws)
 
-within_if : (c : Bool) (ws : List Way) → length (if c then map deeper ws else ws) ≡ length ws
+pub within_if : (c : Bool) (ws : List Way) → length (if c then map deeper ws else ws) ≡ length ws
 within_if true ws = length-map ws
 within_if false ws = refl
 
@@ -192,6 +192,18 @@ mutual
   kids_like cs ns none = tt
   kids_like cs ns (more t ts) = (record { kind = refl; many = tree_like cs (first_number ns) t }, kids_like cs (numbers_behind ns) ts)
 
+-- a kid with the sign that stands with it has as many ways as tokens
+pub kid_length : (cs : List ℕ) (k : Kind) (s : Start) (l : Lead) (n : ℕ) (t : Node)
+    → length (kid_ways cs k s l n t) ≡ length (with_lead 0 l (spelled_kid 0 t))
+kid_length cs k s l n t =
+    led_like k s l (laid_kid cs (n + lead_length l (spelled_kid 0 t)) t) (spelled_kid 0 t)
+    record { kind = refl; many = tree_like cs (n + lead_length l (spelled_kid 0 t)) t }
+
+-- and a piece of a form
+pub piece_length : (cs : List ℕ) (h : Head) (b : Breaks) (inside : Bool) (p : Piece) (ns : List ℕ) (ts : Nodes)
+    → length (piece_ways h b inside p (kids_laid cs ns ts)) ≡ length (piece_tokens 0 h p (spells 0 ts))
+piece_length cs h b inside p ns ts = piece_like h b inside p (kids_laid cs ns ts) (spells 0 ts) (kids_like cs ns ts)
+
 pub trees_have_ways : TreesHaveWays
 trees_have_ways cs n t = tree_like cs n t
 
@@ -212,7 +224,7 @@ roots_like (u ∷ us) (v ∷ vs) h =
       length-append v.1 (all_led 0 le.Nothing vs),
     )
 
-roots_length : (cs : List ℕ) (n : ℕ) (ts : List Node) → length (roots_ways cs n ts) ≡ length (spell_all 0 ts)
+pub roots_length : (cs : List ℕ) (n : ℕ) (ts : List Node) → length (roots_ways cs n ts) ≡ length (spell_all 0 ts)
 roots_length cs n ts =
     roots_like (kids_laid cs (begins_led le.Nothing n (spells 0 (nodes_of ts))) (nodes_of ts)) (spells 0 (nodes_of ts))
     (kids_like cs (begins_led le.Nothing n (spells 0 (nodes_of ts))) (nodes_of ts))

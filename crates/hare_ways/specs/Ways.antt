@@ -1,5 +1,5 @@
 -- The way of each token, from the tree: by one recursion beside the one that spells it.
-use Rattle.std.specs.Prelude.{ℕ, ◌+◌, List, [], ◌∷◌, ◌++◌, Bool, true, false, ◌&&◌, ◌||◌, not, map, length, take, drop, if◌then◌else◌}
+use Rattle.std.specs.Prelude.{◌≡◌, ℕ, ◌+◌, List, [], ◌∷◌, ◌++◌, Bool, true, false, ◌&&◌, ◌||◌, not, map, length, take, drop, if◌then◌else◌}
 use Rattle.std.specs.List.{flat_map}
 use Rattle.hare_tree.specs.declared.kind.Kind.{Kind}
 use Rattle.hare_tree.specs.declared.form.Sign.{Sign}
@@ -14,14 +14,15 @@ use Rattle.hare_tree.specs.declared.tree.FileTree.{FileTree}
 use Rattle.hare_tree.specs.Node.{Head, Node, Nodes, branch, none, more, head, nodes_of}
 use Rattle.hare_tree.specs.Signs.{is_sign}
 use Rattle.hare_tree.specs.Forms.{form_of}
-use Rattle.hare_tree.specs.Spell.{Spelled, parts, spells, spell_all, stands_alone, value_lead, left_behind}
+use Rattle.hare_tree.specs.Spell.{Spelled, parts, spell, spells, spell_all, spell_file, stands_alone, value_lead, left_behind}
 use Rattle.hare_tree.specs.Depth.{begins, begins_led, first_number, numbers_behind}
 use Rattle.hare_tree.specs.Shape.{stops}
-use Rattle.hare_fmt.specs.declared.way.Start.{Start}
-use Rattle.hare_fmt.specs.declared.way.Start.TheVariants.{Within, Begins, Outdented}
-use Rattle.hare_fmt.specs.declared.way.Way.{Way}
-use Rattle.hare_fmt.specs.Joins.{joins_before, joins_behind}
-use Rattle.hare_fmt.specs.Breaks.{Item, Breaks, breaks_of, opening, closing, is_braced}
+use Rattle.hare_ways.specs.declared.way.Start.{Start}
+use Rattle.hare_ways.specs.declared.way.Start.TheVariants.{Within, Begins, Outdented}
+use Rattle.hare_ways.specs.declared.way.Way.{Way}
+use Rattle.hare_ways.specs.Joins.{joins_before, joins_behind}
+use Rattle.hare_ways.specs.declared.breaks.Breaks.{Breaks}
+use Rattle.hare_ways.specs.Breaks.{Item, breaks_of, opening, closing, is_braced}
 
 -- ---- tokens
 
@@ -176,3 +177,13 @@ end_way = record { start = Begins; depth = 0; joins_before = false; joins_behind
 abbrev pub file_ways : List ℕ → FileTree → List Way
 file_ways comments t =
     roots_ways comments 0 t.uses ++ (roots_ways comments (length (spell_all 0 t.uses)) t.decls ++ end_way ∷ [])
+
+-- ---- as many ways as tokens
+
+-- each token of a tree has one way
+abbrev pub TreesHaveWays : Type 0
+TreesHaveWays = (comments : List ℕ) (n : ℕ) (t : Node) → length (ways comments n t) ≡ length (spell 0 t)
+
+-- and each token of a file, and its end
+abbrev pub FilesHaveWays : Type 0
+FilesHaveWays = (comments : List ℕ) (t : FileTree) → t.file ≡ 0 → length (file_ways comments t) ≡ length (spell_file t)

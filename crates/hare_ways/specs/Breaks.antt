@@ -10,6 +10,7 @@ use Rattle.hare_tree.specs.Node.{Head}
 use Rattle.hare_tree.specs.Signs.{is_sign}
 use Rattle.hare_tree.specs.Forms.{form_of}
 use Rattle.hare_tree.specs.Spell.{Spelled, piece_tokens, left_behind}
+use Rattle.hare_ways.specs.declared.breaks.Breaks.{Breaks}
 
 -- ---- the kinds
 
@@ -151,15 +152,6 @@ is_broken k inside commented =
     else false
 
 -- how the form of a node is broken
-pub record Breaks : Type 0 where
-  pub kind : Kind
-  -- its brackets are: what stands between them, and the closing one, begins lines
-  pub brackets : Bool
-  -- its statements begin lines
-  pub statements : Bool
-  -- a comma is added behind its last item
-  pub comma : Bool
-
 abbrev pub breaks_of : List ℕ → Head → ℕ → List Spelled → List Item → Breaks
 breaks_of comments h n us items =
     let inside = kids_behind (opening h.kind) (form_of h.kind) items in

@@ -1,5 +1,5 @@
-use Rattle.hare_fmt.proofs.Counted.{trees_have_ways, files_have_ways}
-use Rattle.hare_fmt.proofs.laws.law_each_token_has_a_way.Goals as goal
+use Rattle.hare_ways.proofs.Counted.{trees_have_ways, files_have_ways}
+use Rattle.hare_ways.proofs.laws.law_each_token_has_a_way.Goals as goal
 
 pub returns-clause-trees : goal.returns-clause-trees
 returns-clause-trees c = trees_have_ways

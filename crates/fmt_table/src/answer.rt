@@ -1,0 +1,39 @@
+//! What a line comes to.
+
+use anyhow::{Context, Result, bail};
+use hare_fmt::format;
+use hare_tree::{Fault, Stop};
+use std::alloc::Global;
+
+/// The line with what is found of its file before the ` ~> `.
+pub(crate) fn answer(alloc: Global, line: &str) -> Result<String> {
+    let (_, source) = line.split_once(" ~> ").context("a line without ~>")?;
+    let found = found(alloc, source)?;
+    Ok(format!(in alloc; "{found} ~> {source}")?)
+}
+
+/// The layout of a file, or its fault.
+fn found(alloc: Global, source: &str) -> Result<String> {
+    let src = source.replace(alloc, '$', "\n")?.replace(alloc, '#', "\t")?;
+    let bytes = src.as_bytes();
+    if bytes.len() > 65536 {
+        bail!("the file is too long");
+    }
+    match format(alloc, bytes) {
+        Ok(text) => written(alloc, text.bytes()),
+        Err(Stop::Fault(fault)) => refused(alloc, fault),
+        Err(Stop::Memory) => bail!("out of memory"),
+    }
+}
+
+/// A text on one line.
+fn written(alloc: Global, text: &[u8]) -> Result<String> {
+    let text = str::from_utf8(text)?;
+    Ok(text.replace(alloc, '\n', "$")?.replace(alloc, '\t', "#")?)
+}
+
+/// A fault.
+fn refused(alloc: Global, fault: Fault) -> Result<String> {
+    let (number, line, column) = (fault.number, fault.place.line, fault.place.column);
+    Ok(format!(in alloc; "E{number} {line}:{column}")?)
+}

@@ -1,0 +1,14 @@
+pub mod Breaking
+pub mod Counted
+pub mod Counting
+pub mod Depths
+pub mod Ends
+pub mod Files
+pub mod FormSteps
+pub mod KidLemmas
+pub mod LedPuts
+pub mod PartLemmas
+pub mod Paths
+pub mod Puts
+pub mod RowPuts
+pub mod Walked
