@@ -1,6 +1,11 @@
-// Counts how often each word of the input occurs, and prints the words in the order of their first use. The compiler of today takes no file like this one yet.
+// Counts how often each word of the input occurs, and prints the words in the order of their first use.
 use rt;
-type entry = struct { word: []u8, count: size };
+
+type entry = struct {
+	word: []u8,
+	count: size,
+};
+
 fn same(a: []u8, b: []u8) bool = {
 	if (len(a) != len(b)) return false;
 	for (let i = 0z; i < len(a); i += 1) {
@@ -8,21 +13,24 @@ fn same(a: []u8, b: []u8) bool = {
 	};
 	return true;
 };
+
 fn find(list: []entry, word: []u8) (size | void) = {
 	for (let i = 0z; i < len(list); i += 1) {
 		if (same(list[i].word, word)) return i;
 	};
 };
+
 fn add(list: *[]entry, word: []u8) void = match (find(*list, word)) {
 case let i: size => list[i].count += 1;
-case void =>
-	append(*list, entry { word = alloc(word, len(word)), count = 1 });
+case void => append(*list, entry { word = alloc(word, len(word))!, count = 1 })!;
 };
+
 fn number(n: size) void = {
 	if (n >= 10) number(n / 10);
 	let d: [1]u8 = [48 + (n % 10): u8];
 	rt::write(d);
 };
+
 export fn main() void = {
 	let buf: [4096]u8 = [0...];
 	let list: []entry = [];

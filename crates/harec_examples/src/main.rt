@@ -1,0 +1,54 @@
+//! Does what `harec` does on each line of the standard input, of which the words stand with a blank between them: the files are those of the folder
+//! examples/. Of each line is printed the line as one would type it, what `harec` writes to its output and to its log, and the status.
+#![tactic(auto)]
+
+use anyhow::Result;
+use harec_core::{harec, status};
+use hx_base::{Bytes, Text};
+use hx_io::{HostFiles, HostSink, SureSource};
+use std::alloc::Global;
+
+/// The byte that new memory and unassigned temporaries of a run hold.
+const FILL: u8 = 165;
+
+fn main(rt: HostRuntime) -> Result<()> {
+    let alloc = rt.alloc();
+    for line in rt.lines(alloc) {
+        let line = line?;
+        println!(rt; "$ harec {line}")?;
+        let status = status_of(&rt, line.as_str())?;
+        println!(rt; "{status}")?;
+    }
+    Ok(())
+}
+
+/// The status with which `harec` ends on these words, over the files of the folder, an empty input, and the standard output for output and log.
+fn status_of(rt: &HostRuntime, line: &str) -> Result<u8> {
+    let alloc = rt.alloc();
+    let words = words(alloc, line)?;
+    let mut files = HostFiles::new(rt);
+    let mut input = SureSource::new(alloc, Bytes::new(alloc));
+    let mut out = HostSink::new(rt.stdout());
+    let mut log = HostSink::new(rt.stdout());
+    let mut text = Bytes::new(alloc);
+    let answer = harec(
+        alloc,
+        words.as_slice(),
+        &mut files,
+        &mut input,
+        &mut out,
+        &mut log,
+        FILL,
+        &mut text,
+    );
+    Ok(status(&answer))
+}
+
+/// The words of a line.
+fn words(alloc: Global, line: &str) -> Result<Vec<Text>> {
+    let mut words = Vec::new(alloc);
+    for word in line.split(' ') {
+        words.push(Text::copy(alloc, word)?)?;
+    }
+    Ok(words)
+}
