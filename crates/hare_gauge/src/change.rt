@@ -6,14 +6,14 @@ ghost use Rattle.hare_gauge.specs.Capped.{capped};
 
 use crate::frame::{Frame, Mark};
 use hare_grammar::Change;
-use hare_table::Pile;
+use hare_table::{Pile, Spare};
 use hare_tree::Kind;
-use std::alloc::{AllocError, Global};
+use std::alloc::AllocError;
 
 /// These changes at the token with this number, in their order.
 #[tactic(auto, unfolding(hare_depth::specs::Marks::all_changed))]
 pub fn all_changed(
-    alloc: Global,
+    spare: &mut Spare<Mark>,
     number: usize,
     changes: &[Change],
     frames: &mut Pile<Frame>,
@@ -21,14 +21,14 @@ pub fn all_changed(
     ensures { OnOk result (capped frames.new ≡ capped (marks.all_changed number changes.now frames.old)) }
 {
     for change in changes {
-        changed(alloc, number, *change, frames)?;
+        changed(spare, number, *change, frames)?;
     }
     Ok(())
 }
 
 /// A change at the token with this number.
 fn changed(
-    alloc: Global,
+    spare: &mut Spare<Mark>,
     number: usize,
     change: Change,
     frames: &mut Pile<Frame>,
@@ -38,15 +38,12 @@ fn changed(
     match change {
         Change::Absent => put(Mark::leaf(Kind::None, 1), frames),
         Change::Mark(kind) | Change::Leaf(kind) => put(Mark::leaf(kind, number), frames),
-        Change::Open => frames.push(Frame::begun(number, Vec::new(alloc))),
-        Change::Over => over(alloc, number, frames),
+        Change::Open => frames.push(Frame::begun(number, spare.take())),
+        Change::Over => over(spare, number, frames),
         Change::Take | Change::Join => Ok(()),
-        Change::Close(kind) => close(kind, frames),
-        Change::Lift => lift(frames),
-        Change::Drop => {
-            let _ = frames.pop();
-            Ok(())
-        }
+        Change::Close(kind) => close(spare, kind, frames),
+        Change::Lift => lift(spare, frames),
+        Change::Drop => let_go(spare, frames),
     }
 }
 
@@ -63,23 +60,29 @@ fn put(tree: Mark, frames: &mut Pile<Frame>) -> Result<(), AllocError>
 
 /// The innermost tree under way is whole, and of this kind.
 #[tactic(auto, using(crate::proofs::Capping::put_same))]
-pub fn close(kind: Kind, frames: &mut Pile<Frame>) -> Result<(), AllocError>
+pub fn close(
+    spare: &mut Spare<Mark>,
+    kind: Kind,
+    frames: &mut Pile<Frame>,
+) -> Result<(), AllocError>
     ensures { OnOk result (capped frames.new ≡ capped (marks.close kind frames.old)) }
 {
     let Some(frame) = frames.pop() else {
         return Ok(());
     };
-    put(frame.mark_as(kind), frames)
+    let tree = frame.mark_as(kind);
+    spare.keep(frame.into_kids())?;
+    put(tree, frames)
 }
 
 /// A tree begins at the token with this number, whose first kid is the last of the tree round it.
-fn over(alloc: Global, number: usize, frames: &mut Pile<Frame>) -> Result<(), AllocError>
+fn over(spare: &mut Spare<Mark>, number: usize, frames: &mut Pile<Frame>) -> Result<(), AllocError>
     ensures { OnOk result (frames.new ≡ marks.over number frames.old) }
 {
     let Some(mut frame) = frames.pop() else {
         return Ok(());
     };
-    let mut kids = Vec::new(alloc);
+    let mut kids = spare.take();
     if let Some(tree) = frame.take_last() {
         kids.push(tree)?;
     }
@@ -88,7 +91,7 @@ fn over(alloc: Global, number: usize, frames: &mut Pile<Frame>) -> Result<(), Al
 }
 
 /// The kids of the innermost tree under way are those of the tree round it.
-fn lift(frames: &mut Pile<Frame>) -> Result<(), AllocError>
+fn lift(spare: &mut Spare<Mark>, frames: &mut Pile<Frame>) -> Result<(), AllocError>
     ensures { OnOk result (frames.new ≡ marks.lift frames.old) }
 {
     let Some(frame) = frames.pop() else {
@@ -97,6 +100,18 @@ fn lift(frames: &mut Pile<Frame>) -> Result<(), AllocError>
     let Some(mut outer) = frames.pop() else {
         return Ok(());
     };
-    outer.add_all(frame.into_kids())?;
+    let mut kids = frame.into_kids();
+    outer.add_all(&mut kids)?;
+    spare.keep(kids)?;
     frames.push(outer)
+}
+
+/// The innermost tree under way is none.
+fn let_go(spare: &mut Spare<Mark>, frames: &mut Pile<Frame>) -> Result<(), AllocError>
+    ensures { OnOk result (frames.new ≡ marks.let_go frames.old) }
+{
+    match frames.pop() {
+        Some(frame) => spare.keep(frame.into_kids()),
+        None => Ok(()),
+    }
 }

@@ -116,10 +116,10 @@ impl Frame {
     }
 
     /// These are the next kids.
-    pub fn add_all(&mut self, mut kids: Vec<Mark>) -> Result<(), AllocError>
-        ensures { OnOk result (self.new ≡ record { at = self.old.at; kids = self.old.kids ++ kids.items }) }
+    pub fn add_all(&mut self, kids: &mut Vec<Mark>) -> Result<(), AllocError>
+        ensures { OnOk result (self.new ≡ record { at = self.old.at; kids = self.old.kids ++ kids.old.items }) }
     {
-        self.kids.append(&mut kids)
+        self.kids.append(kids)
     }
 
     /// Takes out the last kid, if there is one.

@@ -12,7 +12,7 @@ use crate::found::{found, lesser};
 use crate::frame::Frame;
 use crate::step::step;
 use crate::width::place_behind_joined;
-use hare_table::{Answer, Pile, class_of, place_behind};
+use hare_table::{Answer, Pile, RowBuffer, Spare, class_of, place_behind};
 use hare_tree::Tokens;
 use std::alloc::{AllocError, Global};
 
@@ -46,11 +46,20 @@ pub fn run(
     ensures told { IfOk result (λ r. r.told ≡ least (gauges.gauge (spec.seen_from 1 (drop from tokens.now)) (waited agenda.old.waits) frames.old).faults) }
     ensures stops { IfOk result (λ r. spec.Stops tokens.now from (gauges.gauge (spec.seen_from 1 (drop from tokens.now)) (waited agenda.old.waits) frames.old) r.stop) }
 {
+    let mut buffer = RowBuffer::new(alloc);
+    let mut spare = Spare::new(alloc);
     let mut told = None;
     let mut at = from;
     while let Some(token) = tokens.get(at) {
         let number = number_of(tokens, from, at);
-        match step(alloc, number, class_of(token), agenda, frames)? {
+        match step(
+            &mut spare,
+            number,
+            class_of(token),
+            &mut buffer,
+            agenda,
+            frames,
+        )? {
             Answer::Goes => {
                 told = lesser(told, found(&agenda.nodes, frames));
                 at = place_behind_joined(tokens, at, token);

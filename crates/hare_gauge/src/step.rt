@@ -9,18 +9,19 @@ ghost use Rattle.hare_table.specs.Seen.{waited, has_room};
 
 use crate::agenda::Agenda;
 use crate::change::{all_changed, close};
-use crate::frame::Frame;
+use crate::frame::{Frame, Mark};
 use hare_grammar::{Class, Symbol};
-use hare_table::{Answer, Pile, Row, has_sign, row_at};
-use std::alloc::{AllocError, Global};
+use hare_table::{Answer, Pile, Row, RowBuffer, Spare, has_sign, row_at};
+use std::alloc::AllocError;
 
 /// Reads the token with this number, of which the class is given: the trees under way that are whole in front of it are closed, and it is used by
-/// the first rule that has a place for it.
+/// the first rule that has a place for it. Rows are made in the buffer.
 #[tactic(auto, using(crate::proofs::SteppedMarks::step_alike), unfolding(hare_depth::specs::Gauge::step))]
 pub fn step(
-    alloc: Global,
+    spare: &mut Spare<Mark>,
     number: usize,
     class: Class,
+    buffer: &mut RowBuffer,
     agenda: &mut Agenda,
     frames: &mut Pile<Frame>,
 ) -> Result<Answer, AllocError>
@@ -31,19 +32,19 @@ pub fn step(
 {
     while let Some(symbol) = agenda.next()? {
         match symbol {
-            Symbol::Close(kind) => close(kind, frames)?,
+            Symbol::Close(kind) => close(spare, kind, frames)?,
             Symbol::Want(sign) => {
                 if has_sign(sign, class) {
                     return Ok(Answer::Goes);
                 }
                 return Ok(Answer::Stuck);
             }
-            Symbol::Part(rule) => match row_at(alloc, rule, class)? {
+            Symbol::Part(rule) => match row_at(buffer, rule, class)? {
                 Row::Fault => return Ok(Answer::Stuck),
-                Row::Skips(changes) => all_changed(alloc, number, &changes, frames)?,
+                Row::Skips(changes) => all_changed(spare, number, changes, frames)?,
                 Row::Uses(changes, waits) => {
-                    all_changed(alloc, number, &changes, frames)?;
-                    agenda.push_all(&waits)?;
+                    all_changed(spare, number, changes, frames)?;
+                    agenda.push_all(waits)?;
                     return Ok(Answer::Goes);
                 }
             },

@@ -7,13 +7,13 @@ ghost use Rattle.hare_grammar.specs.Engine as engine;
 use crate::group::Group;
 use crate::whole::{bare_leaf, full_leaf};
 use hare_grammar::Change;
-use hare_table::Pile;
+use hare_table::{Pile, Spare};
 use hare_tree::{Kind, Place, Token, Tree};
 use std::alloc::{AllocError, Global};
 
 /// These changes at a token of the file, in their order.
 pub fn all_changed(
-    alloc: Global,
+    spare: &mut Spare<Tree>,
     file: u32,
     token: &Token,
     changes: &[Change],
@@ -22,14 +22,14 @@ pub fn all_changed(
     ensures { OnOk result (groups.new ≡ engine.all_changed file token.now changes.now groups.old) }
 {
     for change in changes {
-        changed(alloc, file, token, *change, groups)?;
+        changed(spare, file, token, *change, groups)?;
     }
     Ok(())
 }
 
 /// A change at a token of the file.
 fn changed(
-    alloc: Global,
+    spare: &mut Spare<Tree>,
     file: u32,
     token: &Token,
     change: Change,
@@ -38,19 +38,16 @@ fn changed(
     ensures { OnOk result (groups.new ≡ engine.changed file token.now change groups.old) }
 {
     match change {
-        Change::Absent => add(groups, bare_leaf(alloc, Kind::None, start_of(file))),
-        Change::Mark(kind) => add(groups, bare_leaf(alloc, kind, token.place)),
-        Change::Leaf(kind) => add(groups, full_leaf(alloc, kind, token)?),
-        Change::Open => groups.push(Group::begun(alloc, token.place, Vec::new(alloc))),
-        Change::Over => over(alloc, token.place, groups),
-        Change::Take => take_text(alloc, token, groups),
+        Change::Absent => add(groups, bare_leaf(spare.alloc(), Kind::None, start_of(file))),
+        Change::Mark(kind) => add(groups, bare_leaf(spare.alloc(), kind, token.place)),
+        Change::Leaf(kind) => add(groups, full_leaf(spare.alloc(), kind, token)?),
+        Change::Open => groups.push(Group::begun(spare.alloc(), token.place, spare.take())),
+        Change::Over => over(spare, token.place, groups),
+        Change::Take => take_text(spare.alloc(), token, groups),
         Change::Join => join_text(token, groups),
-        Change::Close(kind) => close(alloc, kind, groups),
-        Change::Lift => lift(groups),
-        Change::Drop => {
-            let _ = groups.pop();
-            Ok(())
-        }
+        Change::Close(kind) => close(spare, kind, groups),
+        Change::Lift => lift(spare, groups),
+        Change::Drop => let_go(spare, groups),
     }
 }
 
@@ -81,13 +78,17 @@ fn add(groups: &mut Pile<Group>, tree: Tree) -> Result<(), AllocError>
 }
 
 /// The innermost tree under way is whole, and of this kind.
-pub fn close(alloc: Global, kind: Kind, groups: &mut Pile<Group>) -> Result<(), AllocError>
+pub fn close(
+    spare: &mut Spare<Tree>,
+    kind: Kind,
+    groups: &mut Pile<Group>,
+) -> Result<(), AllocError>
     ensures { OnOk result (groups.new ≡ engine.close kind groups.old) }
 {
     let Some(group) = groups.pop() else {
         return Ok(());
     };
-    add(groups, group.into_tree(alloc, kind)?)
+    add(groups, group.into_tree(spare, kind)?)
 }
 
 /// The innermost tree under way takes the token's text, number and suffix.
@@ -113,22 +114,22 @@ fn join_text(token: &Token, groups: &mut Pile<Group>) -> Result<(), AllocError>
 }
 
 /// A tree begins whose first kid is the last of the tree round it.
-fn over(alloc: Global, place: Place, groups: &mut Pile<Group>) -> Result<(), AllocError>
+fn over(spare: &mut Spare<Tree>, place: Place, groups: &mut Pile<Group>) -> Result<(), AllocError>
     ensures { OnOk result (groups.new ≡ engine.over place groups.old) }
 {
     let Some(mut group) = groups.pop() else {
         return Ok(());
     };
-    let mut kids = Vec::new(alloc);
+    let mut kids = spare.take();
     if let Some(tree) = group.take_last() {
         kids.push(tree)?;
     }
     groups.push(group)?;
-    groups.push(Group::begun(alloc, place, kids))
+    groups.push(Group::begun(spare.alloc(), place, kids))
 }
 
 /// The kids of the innermost tree under way are those of the tree round it.
-fn lift(groups: &mut Pile<Group>) -> Result<(), AllocError>
+fn lift(spare: &mut Spare<Tree>, groups: &mut Pile<Group>) -> Result<(), AllocError>
     ensures { OnOk result (groups.new ≡ engine.lift groups.old) }
 {
     let Some(group) = groups.pop() else {
@@ -137,6 +138,18 @@ fn lift(groups: &mut Pile<Group>) -> Result<(), AllocError>
     let Some(mut outer) = groups.pop() else {
         return Ok(());
     };
-    outer.add_all(group.into_kids())?;
+    let mut kids = group.into_kids();
+    outer.add_all(&mut kids)?;
+    spare.keep(kids)?;
     groups.push(outer)
+}
+
+/// The innermost tree under way is none.
+fn let_go(spare: &mut Spare<Tree>, groups: &mut Pile<Group>) -> Result<(), AllocError>
+    ensures { OnOk result (groups.new ≡ engine.let_go groups.old) }
+{
+    match groups.pop() {
+        Some(group) => spare.keep(group.into_kids()),
+        None => Ok(()),
+    }
 }

@@ -5,6 +5,7 @@ ghost use Rattle.hare_tree.specs.Node.{branch, nodes_of};
 ghost use Rattle.hare_grammar.specs.Engine as engine;
 
 use crate::whole::kids_of;
+use hare_table::Spare;
 use hare_tree::{Kind, Place, Suffix, Token, Tree, Word};
 use std::alloc::{AllocError, Global};
 use std::marker::Model;
@@ -68,8 +69,8 @@ impl Group {
         kids
     }
 
-    /// The tree is whole, and of this kind.
-    pub fn into_tree(self, alloc: Global, kind: Kind) -> Result<Tree, AllocError>
+    /// The tree is whole, and of this kind. The memory of the list of its kids goes to the spare lists.
+    pub fn into_tree(self, spare: &mut Spare<Tree>, kind: Kind) -> Result<Tree, AllocError>
         ensures { IfOk result (λ t. t ≡ branch (engine.head_in kind self) (nodes_of self.kids)) }
     {
         let Group {
@@ -77,16 +78,17 @@ impl Group {
             text,
             number,
             suffix,
-            kids,
+            mut kids,
         } = self;
-        let kids = kids_of(alloc, kids)?;
+        let taken = kids_of(spare.alloc(), &mut kids)?;
+        spare.keep(kids)?;
         Ok(Tree {
             kind,
             place,
             text,
             number,
             suffix,
-            kids,
+            kids: taken,
         })
     }
 
@@ -99,10 +101,10 @@ impl Group {
     }
 
     /// These are the next kids.
-    pub fn add_all(&mut self, mut kids: Vec<Tree>) -> Result<(), AllocError>
-        ensures { OnOk result (self.new ≡ engine.with_kids self.old (self.old.kids ++ kids.items)) }
+    pub fn add_all(&mut self, kids: &mut Vec<Tree>) -> Result<(), AllocError>
+        ensures { OnOk result (self.new ≡ engine.with_kids self.old (self.old.kids ++ kids.old.items)) }
     {
-        self.kids.append(&mut kids)
+        self.kids.append(kids)
     }
 
     /// Takes out the last kid, if there is one.

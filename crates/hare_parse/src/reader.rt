@@ -15,7 +15,7 @@ use crate::change::start_of;
 use crate::group::Group;
 use crate::run::{Reached, bottom, run};
 use crate::step::step;
-use hare_table::{Answer, Pile, Wait, class_of, of};
+use hare_table::{Answer, Pile, RowBuffer, Spare, Wait, class_of, of};
 use hare_tree::{Sort, Suffix, Token, TokenKind, Tokens, Tree, Word};
 use std::alloc::{AllocError, Global};
 
@@ -68,7 +68,17 @@ fn ends(
     ensures { IfOk result (λ ends. engine.run file (closed []) (waited stack.old) groups.old ≡ spec.outcome_at_end ends groups.new) }
 {
     let end = end_token(alloc);
-    match step(alloc, file, &end, class_of(&end), stack, groups)? {
+    let mut buffer = RowBuffer::new(alloc);
+    let mut spare = Spare::new(alloc);
+    match step(
+        &mut spare,
+        file,
+        &end,
+        class_of(&end),
+        &mut buffer,
+        stack,
+        groups,
+    )? {
         Answer::Ends => Ok(true),
         Answer::Goes | Answer::Stuck => Ok(false),
     }

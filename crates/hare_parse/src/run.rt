@@ -12,9 +12,10 @@ use crate::change::start_of;
 use crate::group::Group;
 use crate::step::step;
 use hare_table::{
-    Answer, Joined, Pile, Wait, class_of, is_proper_string, place_behind, strings_at,
+    Answer, Joined, Pile, RowBuffer, Spare, Wait, class_of, is_proper_string, place_behind,
+    strings_at,
 };
-use hare_tree::{Token, Tokens};
+use hare_tree::{Token, Tokens, Tree};
 use std::alloc::{AllocError, Global};
 
 /// What came of the token at a place of the list, and the place of the next.
@@ -56,9 +57,20 @@ pub fn run(
     ensures place { IfOk result (λ r. IsPlace tokens.now from (spec.place_in r)) }
     ensures onward { IfOk result (λ r. spec.IsUsedUp r tokens.now → (us : List Token) → engine.run file (joined (drop from tokens.now) ++ us) (waited stack.old) groups.old ≡ engine.run file us (waited stack.new) groups.new) }
 {
+    let mut buffer = RowBuffer::new(alloc);
+    let mut spare = Spare::new(alloc);
     let mut at = from;
     while let Some(token) = tokens.get(at) {
-        let read = read_at(alloc, file, tokens, at, token, stack, groups)?;
+        let read = read_at(
+            &mut spare,
+            file,
+            tokens,
+            at,
+            token,
+            &mut buffer,
+            stack,
+            groups,
+        )?;
         match read.answer {
             Answer::Goes => at = read.next,
             Answer::Ends => return Ok(Reached::End(at)),
@@ -70,11 +82,12 @@ pub fn run(
 
 /// Reads the token at a place of the list, where strings side by side are one.
 fn read_at(
-    alloc: Global,
+    spare: &mut Spare<Tree>,
     file: u32,
     tokens: &Tokens,
     at: usize,
     token: &Token,
+    buffer: &mut RowBuffer,
     stack: &mut Pile<Wait>,
     groups: &mut Pile<Group>,
 ) -> Result<Read, AllocError>
@@ -82,11 +95,11 @@ fn read_at(
     ensures { IfOk result (λ r. spec.Reads file tokens.now at (waited stack.old) groups.old r (waited stack.new) groups.new) }
 {
     if is_proper_string(token) {
-        let Joined { token, next } = strings_at(alloc, tokens, at, token)?;
-        let answer = step(alloc, file, &token, class_of(&token), stack, groups)?;
+        let Joined { token, next } = strings_at(spare.alloc(), tokens, at, token)?;
+        let answer = step(spare, file, &token, class_of(&token), buffer, stack, groups)?;
         return Ok(Read { answer, next });
     }
-    let answer = step(alloc, file, token, class_of(token), stack, groups)?;
+    let answer = step(spare, file, token, class_of(token), buffer, stack, groups)?;
     Ok(Read {
         answer,
         next: place_behind(tokens, at),

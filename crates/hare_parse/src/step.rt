@@ -8,18 +8,21 @@ ghost use Rattle.hare_parse.specs.Steps.{Says};
 use crate::change::{all_changed, close};
 use crate::group::Group;
 use hare_grammar::{Class, Symbol};
-use hare_table::{Answer, Pile, Row, Wait, has_sign, next_symbol, push_waits, row_at};
-use hare_tree::Token;
-use std::alloc::{AllocError, Global};
+use hare_table::{
+    Answer, Pile, Row, RowBuffer, Spare, Wait, has_sign, next_symbol, push_waits, row_at,
+};
+use hare_tree::{Token, Tree};
+use std::alloc::AllocError;
 
 /// Reads one token of the file, of which the class is given: the trees under way that are whole in front of it are closed, and it is used by the
-/// first rule that has a place for it.
+/// first rule that has a place for it. Rows are made in the buffer.
 #[tactic(auto, unfolding(hare_grammar::specs::Engine::step))]
 pub fn step(
-    alloc: Global,
+    spare: &mut Spare<Tree>,
     file: u32,
     token: &Token,
     class: Class,
+    buffer: &mut RowBuffer,
     stack: &mut Pile<Wait>,
     groups: &mut Pile<Group>,
 ) -> Result<Answer, AllocError>
@@ -28,19 +31,19 @@ pub fn step(
 {
     while let Some(symbol) = next_symbol(stack)? {
         match symbol {
-            Symbol::Close(kind) => close(alloc, kind, groups)?,
+            Symbol::Close(kind) => close(spare, kind, groups)?,
             Symbol::Want(sign) => {
                 if has_sign(sign, class) {
                     return Ok(Answer::Goes);
                 }
                 return Ok(Answer::Stuck);
             }
-            Symbol::Part(rule) => match row_at(alloc, rule, class)? {
+            Symbol::Part(rule) => match row_at(buffer, rule, class)? {
                 Row::Fault => return Ok(Answer::Stuck),
-                Row::Skips(changes) => all_changed(alloc, file, token, &changes, groups)?,
+                Row::Skips(changes) => all_changed(spare, file, token, changes, groups)?,
                 Row::Uses(changes, waits) => {
-                    all_changed(alloc, file, token, &changes, groups)?;
-                    push_waits(stack, &waits)?;
+                    all_changed(spare, file, token, changes, groups)?;
+                    push_waits(stack, waits)?;
                     return Ok(Answer::Goes);
                 }
             },

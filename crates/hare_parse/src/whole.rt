@@ -35,12 +35,12 @@ pub fn full_leaf(alloc: Global, kind: Kind, token: &Token) -> Result<Tree, Alloc
     })
 }
 
-/// Trees as the kids of one.
-pub fn kids_of(alloc: Global, trees: Vec<Tree>) -> Result<Kids, AllocError>
-    ensures { IfOk result (λ kids. kids ≡ trees.items) }
+/// Trees as the kids of one, which are taken out of their list.
+pub fn kids_of(alloc: Global, trees: &mut Vec<Tree>) -> Result<Kids, AllocError>
+    ensures { IfOk result (λ kids. kids ≡ trees.old.items) }
 {
     let mut kids = Kids::new(alloc);
-    for tree in trees {
+    for tree in trees.drain(..) {
         kids.push(tree)?;
     }
     Ok(kids)

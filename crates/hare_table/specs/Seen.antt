@@ -3,6 +3,7 @@ use Rattle.std.specs.Prelude.{◌<◌, List, [], ◌∷◌, Option, Some, None}
 use Rattle.std.specs.List.{flat_map}
 use Rattle.hare_tree.specs.declared.form.Sign.{Sign}
 use Rattle.hare_grammar.specs.declared.rule.Symbol.{Symbol}
+use Rattle.hare_grammar.specs.declared.rule.Change.{Change}
 use Rattle.hare_grammar.specs.declared.class.Class.{Class}
 use Rattle.hare_grammar.specs.declared.class.Class.TheVariants as cl
 use Rattle.hare_grammar.specs.Rows as rows
@@ -11,6 +12,9 @@ use Rattle.hare_table.specs.declared.row.Wait.{Wait}
 use Rattle.hare_table.specs.declared.row.Wait.TheVariants as wa
 use Rattle.hare_table.specs.declared.row.Row.{Row}
 use Rattle.hare_table.specs.declared.row.Row.TheVariants as ro
+use Rattle.hare_table.specs.declared.row.Action.{Action}
+use Rattle.hare_table.specs.declared.row.Action.TheVariants as ac
+use Rattle.hare_table.specs.declared.row.RowBuffer.{RowBuffer}
 
 -- the symbols that are waited for
 abbrev pub symbols_in : Wait → List Symbol
@@ -24,8 +28,18 @@ waited ws = flat_map symbols_in ws
 -- the row of the table that a row is
 abbrev pub seen : Row → rows.Row
 seen ro.Fault = rows.Fault
-seen (ro.Skips cs) = rows.Skips cs.items
-seen (ro.Uses cs ws) = rows.Uses cs.items (waited ws.items)
+seen (ro.Skips cs) = rows.Skips cs.now
+seen (ro.Uses cs ws) = rows.Uses cs.now (waited ws.now)
+
+-- the row of the table with this action, these changes and these waits
+abbrev pub row_of : Action → List Change → List Wait → rows.Row
+row_of ac.Faults cs ws = rows.Fault
+row_of ac.Skips cs ws = rows.Skips cs
+row_of ac.Uses cs ws = rows.Uses cs (waited ws)
+
+-- the row of the table that was made last
+abbrev pub row_in : RowBuffer → rows.Row
+row_in b = row_of b.action b.changes.items b.waits.items
 
 -- a binary operator of this class has a level above it
 abbrev pub has_room : Class → Type 0

@@ -8,6 +8,7 @@ mod pile;
 mod row;
 mod rows;
 mod signs;
+mod spare;
 mod strings;
 #[cfg(test)]
 mod tests;
@@ -16,7 +17,8 @@ mod waits;
 pub use answer::Answer;
 pub use class::class_of;
 pub use pile::Pile;
-pub use row::{Row, Wait, has_sign, of, part};
+pub use row::{Action, Row, RowBuffer, Wait, has_sign, of, part};
 pub use rows::row_at;
+pub use spare::Spare;
 pub use strings::{Joined, is_proper_string, place_behind, strings_at};
 pub use waits::{next_symbol, push_waits};

@@ -1,8 +1,8 @@
 //! Rows of the table: what a rule does at a class of token, and what is waited for.
 
-ghost use Rattle.std.specs.Prelude.{◌≡◌, ◌++◌, IfOk};
+ghost use Rattle.std.specs.Prelude.{◌≡◌, ◌++◌, OnOk};
 ghost use Rattle.hare_grammar.specs.Rows as rows;
-ghost use Rattle.hare_table.specs.Seen.{seen, waited};
+ghost use Rattle.hare_table.specs.Seen.{seen, row_in, waited};
 
 use hare_grammar::{Change, Class, Rule, Symbol};
 use hare_tree::{Kind, Sign, Sort};
@@ -18,14 +18,60 @@ pub enum Wait {
 }
 
 /// What a rule does at a class of token.
-#[derive(Drop)]
-pub enum Row {
+#[derive(Clone, Copy)]
+pub enum Row<'a> {
     /// The token cannot stand here.
     Fault,
     /// The rule is over after these changes, and the token is looked at again.
-    Skips(Vec<Change>),
+    Skips(&'a [Change]),
     /// The token is used: these changes, and then this is waited for.
-    Uses(Vec<Change>, Vec<Wait>),
+    Uses(&'a [Change], &'a [Wait]),
+}
+
+/// What a rule does with the token.
+#[derive(Clone, Copy, Debug, PartialEq, Eq)]
+pub enum Action {
+    /// The token cannot stand here.
+    Faults,
+    /// The rule is over, and the token is looked at again.
+    Skips,
+    /// The token is used.
+    Uses,
+}
+
+/// Where rows are made, one after the other, so that a row takes memory only where it is longer than all before it.
+#[derive(Drop)]
+pub struct RowBuffer {
+    /// What is done with the token.
+    pub action: Action,
+    /// The changes, where there is no fault.
+    pub changes: Vec<Change>,
+    /// What is waited for where the token is used.
+    pub waits: Vec<Wait>,
+}
+
+impl RowBuffer {
+    /// A buffer with no memory yet.
+    pub fn new(alloc: Global) -> RowBuffer
+        ensures { row_in result ≡ rows.Fault }
+    {
+        RowBuffer {
+            action: Action::Faults,
+            changes: Vec::new(alloc),
+            waits: Vec::new(alloc),
+        }
+    }
+
+    /// The row that was made last.
+    pub fn row(&self) -> Row<'_>
+        ensures { seen result ≡ row_in self.now }
+    {
+        match self.action {
+            Action::Faults => Row::Fault,
+            Action::Skips => Row::Skips(&self.changes),
+            Action::Uses => Row::Uses(&self.changes, &self.waits),
+        }
+    }
 }
 
 /// A tree of the sort is waited for.
@@ -42,71 +88,75 @@ pub fn part(rule: Rule) -> Wait
     Wait::One(Symbol::Part(rule))
 }
 
-/// The token is used: these changes, and then this is waited for.
-pub fn uses(alloc: Global, changes: &[Change], waits: &[Wait]) -> Result<Row, AllocError>
-    ensures { IfOk result (λ r. seen r ≡ rows.Uses changes.now (waited waits.now)) }
-{
-    let changes = Vec::from_slice(alloc, changes)?;
-    let waits = with_room(alloc, waits)?;
-    Ok(Row::Uses(changes, waits))
-}
+// ---- rows in the buffer
 
-/// These waits, with room for the few that other rules put behind them.
-fn with_room(alloc: Global, waits: &[Wait]) -> Result<Vec<Wait>, AllocError>
-    ensures { IfOk result (λ all. all.items ≡ waits.now) }
+/// The token cannot stand here.
+pub fn faults(row: &mut RowBuffer) -> Result<(), AllocError>
+    ensures { OnOk result (row_in row.new ≡ rows.Fault) }
 {
-    let mut all = Vec::with_capacity(alloc, waits.len() + 2)?;
-    all.extend_from_slice(waits)?;
-    Ok(all)
+    row.action = Action::Faults;
+    Ok(())
 }
 
 /// The rule is over after these changes.
-pub fn skips(alloc: Global, changes: &[Change]) -> Result<Row, AllocError>
-    ensures { IfOk result (λ r. seen r ≡ rows.Skips changes.now) }
+pub fn skips(row: &mut RowBuffer, changes: &[Change]) -> Result<(), AllocError>
+    ensures { OnOk result (row_in row.new ≡ rows.Skips changes.now) }
 {
-    Ok(Row::Skips(Vec::from_slice(alloc, changes)?))
+    row.action = Action::Skips;
+    row.changes.clear();
+    row.changes.extend_from_slice(changes)
+}
+
+/// The token is used: these changes, and then this is waited for.
+pub fn uses(row: &mut RowBuffer, changes: &[Change], waits: &[Wait]) -> Result<(), AllocError>
+    ensures { OnOk result (row_in row.new ≡ rows.Uses changes.now (waited waits.now)) }
+{
+    row.action = Action::Uses;
+    row.changes.clear();
+    row.changes.extend_from_slice(changes)?;
+    row.waits.clear();
+    row.waits.extend_from_slice(waits)
 }
 
 /// The row, and then this is waited for.
-pub fn before(row: Row, behind: &[Wait]) -> Result<Row, AllocError>
-    ensures { IfOk result (λ r. seen r ≡ rows.before (seen row) (waited behind.now)) }
+pub fn before(row: &mut RowBuffer, behind: &[Wait]) -> Result<(), AllocError>
+    ensures { OnOk result (row_in row.new ≡ rows.before (row_in row.old) (waited behind.now)) }
 {
-    match row {
-        Row::Uses(changes, mut waits) => {
-            waits.extend_from_slice(behind)?;
-            Ok(Row::Uses(changes, waits))
-        }
-        Row::Fault | Row::Skips(_) => Ok(row),
+    match row.action {
+        Action::Uses => row.waits.extend_from_slice(behind),
+        Action::Faults | Action::Skips => Ok(()),
     }
 }
 
 /// The row, with these changes first.
-pub fn led_by(alloc: Global, first: &[Change], row: Row) -> Result<Row, AllocError>
-    ensures { IfOk result (λ r. seen r ≡ rows.led_by first.now (seen row)) }
+pub fn led_by(row: &mut RowBuffer, first: &[Change]) -> Result<(), AllocError>
+    ensures { OnOk result (row_in row.new ≡ rows.led_by first.now (row_in row.old)) }
 {
-    match row {
-        Row::Fault => Ok(row),
-        Row::Skips(changes) => Ok(Row::Skips(put_first(alloc, first, &changes)?)),
-        Row::Uses(changes, waits) => Ok(Row::Uses(put_first(alloc, first, &changes)?, waits)),
+    match row.action {
+        Action::Faults => Ok(()),
+        Action::Skips | Action::Uses => put_first(&mut row.changes, first),
     }
 }
 
-/// These changes, and then those.
-fn put_first(alloc: Global, first: &[Change], then: &[Change]) -> Result<Vec<Change>, AllocError>
-    ensures { IfOk result (λ all. all.items ≡ first.now ++ then.now) }
+/// Puts these changes in front of the others.
+fn put_first(changes: &mut Vec<Change>, first: &[Change]) -> Result<(), AllocError>
+    ensures { OnOk result (changes.new.items ≡ first.now ++ changes.old.items) }
 {
-    let mut all = Vec::from_slice(alloc, first)?;
-    all.extend_from_slice(then)?;
-    Ok(all)
+    let mut left = first.len();
+    while left > 0 {
+        left -= 1;
+        changes.insert(0, first[left])?;
+    }
+    Ok(())
 }
 
 /// The row where it uses the token, or else an end after these changes.
-pub fn or_skips(alloc: Global, row: Row, changes: &[Change]) -> Result<Row, AllocError>
-    ensures { IfOk result (λ r. seen r ≡ rows.or_skips (seen row) changes.now) }
+pub fn or_skips(row: &mut RowBuffer, changes: &[Change]) -> Result<(), AllocError>
+    ensures { OnOk result (row_in row.new ≡ rows.or_skips (row_in row.old) changes.now) }
 {
-    match row {
-        Row::Uses(_, _) => Ok(row),
-        Row::Fault | Row::Skips(_) => skips(alloc, changes),
+    match row.action {
+        Action::Uses => Ok(()),
+        Action::Faults | Action::Skips => skips(row, changes),
     }
 }
 
@@ -123,40 +173,40 @@ pub fn has_sign(sign: Sign, class: Class) -> bool
 // ---- rows of one tree
 
 /// A tree of this kind begins at the token, which is the first piece of its form.
-pub fn opens(alloc: Global, kind: Kind) -> Result<Row, AllocError>
-    ensures { IfOk result (λ r. seen r ≡ rows.opens kind) }
+pub fn opens(row: &mut RowBuffer, kind: Kind) -> Result<(), AllocError>
+    ensures { OnOk result (row_in row.new ≡ rows.opens kind) }
 {
-    uses(alloc, &[Change::Open], &[Wait::Rest(1, kind)])
+    uses(row, &[Change::Open], &[Wait::Rest(1, kind)])
 }
 
 /// The token is the tree.
-pub fn leaf(alloc: Global, kind: Kind) -> Result<Row, AllocError>
-    ensures { IfOk result (λ r. seen r ≡ rows.leaf kind) }
+pub fn leaf(row: &mut RowBuffer, kind: Kind) -> Result<(), AllocError>
+    ensures { OnOk result (row_in row.new ≡ rows.leaf kind) }
 {
-    uses(alloc, &[Change::Leaf(kind)], &[])
+    uses(row, &[Change::Leaf(kind)], &[])
 }
 
 /// A path begins.
-pub fn path(alloc: Global, kind: Kind) -> Result<Row, AllocError>
-    ensures { IfOk result (λ r. seen r ≡ rows.path kind) }
+pub fn path(row: &mut RowBuffer, kind: Kind) -> Result<(), AllocError>
+    ensures { OnOk result (row_in row.new ≡ rows.path kind) }
 {
     uses(
-        alloc,
+        row,
         &[Change::Open, Change::Take],
         &[part(Rule::PathRest(kind))],
     )
 }
 
 /// The token is the tree, which says nothing but its kind.
-pub fn mark(alloc: Global, kind: Kind) -> Result<Row, AllocError>
-    ensures { IfOk result (λ r. seen r ≡ rows.mark kind) }
+pub fn mark(row: &mut RowBuffer, kind: Kind) -> Result<(), AllocError>
+    ensures { OnOk result (row_in row.new ≡ rows.mark kind) }
 {
-    uses(alloc, &[Change::Mark(kind)], &[])
+    uses(row, &[Change::Mark(kind)], &[])
 }
 
 /// The token is the text of a tree that begins there.
-pub fn names(alloc: Global, kind: Kind) -> Result<Row, AllocError>
-    ensures { IfOk result (λ r. seen r ≡ rows.names kind) }
+pub fn names(row: &mut RowBuffer, kind: Kind) -> Result<(), AllocError>
+    ensures { OnOk result (row_in row.new ≡ rows.names kind) }
 {
-    uses(alloc, &[Change::Open, Change::Take], &[Wait::Rest(1, kind)])
+    uses(row, &[Change::Open, Change::Take], &[Wait::Rest(1, kind)])
 }

@@ -1,8 +1,8 @@
 //! The public calls, each on a case that a person reads off the grammar.
 
 use crate::{
-    Joined, Pile, Row, Wait, class_of, is_proper_string, next_symbol, of, place_behind, push_waits,
-    row_at, strings_at,
+    Joined, Pile, Row, RowBuffer, Spare, Wait, class_of, is_proper_string, next_symbol, of,
+    place_behind, push_waits, row_at, strings_at,
 };
 use hare_grammar::{Class, Rule, Symbol};
 use hare_tree::{Kind, Place, Sign, Sort, Suffix, Token, TokenKind, Tokens, Word};
@@ -92,7 +92,7 @@ fn what_is_waited_for_comes_in_its_order(rt: HostRuntime) -> Result<(), Fail> {
 }
 
 // How many changes a row makes and how many waits it has; none where the token cannot stand there.
-fn counts(row: &Row) -> Option<(usize, usize)> {
+fn counts(row: Row<'_>) -> Option<(usize, usize)> {
     match row {
         Row::Fault => None,
         Row::Skips(changes) => Some((changes.len(), 0)),
@@ -103,16 +103,19 @@ fn counts(row: &Row) -> Option<(usize, usize)> {
 // A last comma that is left out is a tree of kind None.
 #[test]
 fn rules_have_their_rows(rt: HostRuntime) -> Result<(), Fail> {
-    let a = rt.alloc();
+    let mut buffer = RowBuffer::new(rt.alloc());
     let rule = Rule::Of(Sort::Type);
-    assert_eq!(rt; counts(&row_at(a, rule, Class::Scalar)?), Some((1, 0)));
     assert_eq!(rt;
-        counts(&row_at(a, rule, Class::Sign(Sign::Star))?),
+        counts(row_at(&mut buffer, rule, Class::Scalar)?),
+        Some((1, 0))
+    );
+    assert_eq!(rt;
+        counts(row_at(&mut buffer, rule, Class::Sign(Sign::Star))?),
         Some((1, 1))
     );
-    assert_eq!(rt; counts(&row_at(a, rule, Class::Number)?), None);
+    assert_eq!(rt; counts(row_at(&mut buffer, rule, Class::Number)?), None);
     assert_eq!(rt;
-        counts(&row_at(a, Rule::LastComma, Class::Junk)?),
+        counts(row_at(&mut buffer, Rule::LastComma, Class::Junk)?),
         Some((1, 0))
     );
     Ok(())
@@ -129,5 +132,18 @@ fn the_last_item_of_a_pile_is_on_top(rt: HostRuntime) -> Result<(), Fail> {
     assert_eq!(rt; pile.pop(), Some(7));
     assert_eq!(rt; pile.pop(), Some(5));
     assert_eq!(rt; pile.pop(), None);
+    Ok(())
+}
+
+// A list that was done with is empty when it is taken again, and has its memory.
+#[test]
+fn a_list_that_is_done_with_is_taken_again(rt: HostRuntime) -> Result<(), Fail> {
+    let mut spare = Spare::new(rt.alloc());
+    let mut list = spare.take();
+    list.push(5u8)?;
+    spare.keep(list)?;
+    let again = spare.take();
+    assert_eq!(rt; again.len(), 0);
+    assert!(rt; again.capacity() > 0);
     Ok(())
 }

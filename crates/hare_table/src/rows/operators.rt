@@ -1,41 +1,41 @@
 //! Rows of the operators behind an operand.
 
-ghost use Rattle.std.specs.Prelude.{◌≡◌, ◌<◌, IfOk};
+ghost use Rattle.std.specs.Prelude.{◌≡◌, ◌<◌, OnOk};
 ghost use Rattle.hare_grammar.specs.ExpressionRows as rows;
-ghost use Rattle.hare_table.specs.Seen.{seen, has_room};
+ghost use Rattle.hare_table.specs.Seen.{row_in, has_room};
 
-use crate::row::{Row, Wait, before, of, part, skips, uses};
+use crate::row::{RowBuffer, Wait, before, of, part, skips, uses};
 use hare_grammar::{Change, Class, Rule, Symbol};
 use hare_tree::{Kind, Sign, Sort};
-use std::alloc::{AllocError, Global};
+use std::alloc::AllocError;
 
-/// An operator of the level, where those from `low` up to `high` may follow.
-fn climbs(alloc: Global, low: u8, high: u8, level: u8, row: Row) -> Result<Row, AllocError>
-    ensures { IfOk result (λ r. seen r ≡ rows.climbs low high level (seen row)) }
+/// The row of an operator of the level, where those from `low` up to `high` may follow.
+fn climbs(row: &mut RowBuffer, low: u8, high: u8, level: u8) -> Result<(), AllocError>
+    ensures { OnOk result (row_in row.new ≡ rows.climbs low high level (row_in row.old)) }
 {
     if low <= level && level <= high {
         before(row, &[part(Rule::Climb(low, level))])
     } else {
-        skips(alloc, &[])
+        skips(row, &[])
     }
 }
 
-/// An operator of an assignment, whose left side is an operand of a prefix operator or binds more tightly.
-fn assigns(alloc: Global, low: u8, high: u8, row: Row) -> Result<Row, AllocError>
-    ensures { IfOk result (λ r. seen r ≡ rows.assigns low high (seen row)) }
+/// The row of an operator of an assignment, whose left side is an operand of a prefix operator or binds more tightly.
+fn assigns(row: &mut RowBuffer, low: u8, high: u8) -> Result<(), AllocError>
+    ensures { OnOk result (row_in row.new ≡ rows.assigns low high (row_in row.old)) }
 {
     if low <= 1 && 14 <= high {
         before(row, &[part(Rule::Climb(low, 1))])
     } else {
-        skips(alloc, &[])
+        skips(row, &[])
     }
 }
 
 /// A form whose first piece is the operand and whose second is the token.
-fn behind_operand(alloc: Global, kind: Kind) -> Result<Row, AllocError>
-    ensures { IfOk result (λ r. seen r ≡ rows.behind_operand kind) }
+fn behind_operand(row: &mut RowBuffer, kind: Kind) -> Result<(), AllocError>
+    ensures { OnOk result (row_in row.new ≡ rows.behind_operand kind) }
 {
-    uses(alloc, &[Change::Over], &[Wait::Rest(2, kind)])
+    uses(row, &[Change::Over], &[Wait::Rest(2, kind)])
 }
 
 /// The kind of the binary operators of a level.
@@ -56,12 +56,12 @@ fn binary_kind(level: u8) -> Kind
 }
 
 /// A binary operator of the level.
-fn binary_at(alloc: Global, level: u8) -> Result<Row, AllocError>
+fn binary_at(row: &mut RowBuffer, level: u8) -> Result<(), AllocError>
     requires { level < 255 }
-    ensures { IfOk result (λ r. seen r ≡ rows.binary_at level) }
+    ensures { OnOk result (row_in row.new ≡ rows.binary_at level) }
 {
     uses(
-        alloc,
+        row,
         &[Change::Over, Change::Take],
         &[
             of(Sort::Level(level + 1)),
@@ -70,48 +70,68 @@ fn binary_at(alloc: Global, level: u8) -> Result<Row, AllocError>
     )
 }
 
+/// A binary operator of the level, where those from `low` up to `high` may follow.
+fn binary(row: &mut RowBuffer, low: u8, high: u8, level: u8) -> Result<(), AllocError>
+    requires { level < 255 }
+    ensures { OnOk result (row_in row.new ≡ rows.climbs low high level (rows.binary_at level)) }
+{
+    binary_at(row, level)?;
+    climbs(row, low, high, level)
+}
+
+/// A form of the level behind an operand, where those from `low` up to `high` may follow.
+fn postfix(row: &mut RowBuffer, low: u8, high: u8, level: u8, kind: Kind) -> Result<(), AllocError>
+    ensures { OnOk result (row_in row.new ≡ rows.climbs low high level (rows.behind_operand kind)) }
+{
+    behind_operand(row, kind)?;
+    climbs(row, low, high, level)
+}
+
 /// The operators of the levels from `low` up to `high`, and what stands behind them.
-pub fn climb_row(alloc: Global, low: u8, high: u8, class: Class) -> Result<Row, AllocError>
+pub fn climb_row(row: &mut RowBuffer, low: u8, high: u8, class: Class) -> Result<(), AllocError>
     requires { has_room class }
-    ensures { IfOk result (λ r. seen r ≡ rows.climb_row low high class) }
+    ensures { OnOk result (row_in row.new ≡ rows.climb_row low high class) }
 {
     match class {
-        Class::Binary(level) => climbs(alloc, low, high, level, binary_at(alloc, level)?),
+        Class::Binary(level) => binary(row, low, high, level),
         Class::OpAssign => {
             let close = Wait::One(Symbol::Close(Kind::OpAssign));
-            let row = uses(
-                alloc,
+            uses(
+                row,
                 &[Change::Over, Change::Take],
                 &[of(Sort::Level(1)), close],
             )?;
-            assigns(alloc, low, high, row)
+            assigns(row, low, high)
         }
-        Class::Sign(sign) => sign_climb_row(alloc, low, high, sign),
-        _ => skips(alloc, &[]),
+        Class::Sign(sign) => sign_climb_row(row, low, high, sign),
+        _ => skips(row, &[]),
     }
 }
 
 /// The same at a keyword or a mark.
-fn sign_climb_row(alloc: Global, low: u8, high: u8, sign: Sign) -> Result<Row, AllocError>
-    ensures { IfOk result (λ r. seen r ≡ rows.climb_row low high (Class.Sign sign)) }
+fn sign_climb_row(row: &mut RowBuffer, low: u8, high: u8, sign: Sign) -> Result<(), AllocError>
+    ensures { OnOk result (row_in row.new ≡ rows.climb_row low high (Class.Sign sign)) }
 {
     match sign {
-        Sign::Equals => assigns(alloc, low, high, behind_operand(alloc, Kind::Assign)?),
-        Sign::Star => climbs(alloc, low, high, 12, binary_at(alloc, 12)?),
-        Sign::Minus => climbs(alloc, low, high, 11, binary_at(alloc, 11)?),
-        Sign::Ampersand => climbs(alloc, low, high, 9, binary_at(alloc, 9)?),
-        Sign::Bar => climbs(alloc, low, high, 7, binary_at(alloc, 7)?),
-        Sign::Colon => climbs(alloc, low, high, 13, behind_operand(alloc, Kind::Cast)?),
-        Sign::As => climbs(alloc, low, high, 13, behind_operand(alloc, Kind::As)?),
-        Sign::Is => climbs(alloc, low, high, 13, behind_operand(alloc, Kind::Is)?),
-        Sign::LeftParen => climbs(alloc, low, high, 15, behind_operand(alloc, Kind::Call)?),
-        Sign::LeftBracket => {
-            let row = uses(alloc, &[Change::Over], &[part(Rule::InIndex)])?;
-            climbs(alloc, low, high, 15, row)
+        Sign::Equals => {
+            behind_operand(row, Kind::Assign)?;
+            assigns(row, low, high)
         }
-        Sign::Dot => climbs(alloc, low, high, 15, behind_operand(alloc, Kind::Field)?),
-        Sign::Question => climbs(alloc, low, high, 15, behind_operand(alloc, Kind::Try)?),
-        Sign::Bang => climbs(alloc, low, high, 15, behind_operand(alloc, Kind::Force)?),
-        _ => skips(alloc, &[]),
+        Sign::Star => binary(row, low, high, 12),
+        Sign::Minus => binary(row, low, high, 11),
+        Sign::Ampersand => binary(row, low, high, 9),
+        Sign::Bar => binary(row, low, high, 7),
+        Sign::Colon => postfix(row, low, high, 13, Kind::Cast),
+        Sign::As => postfix(row, low, high, 13, Kind::As),
+        Sign::Is => postfix(row, low, high, 13, Kind::Is),
+        Sign::LeftParen => postfix(row, low, high, 15, Kind::Call),
+        Sign::LeftBracket => {
+            uses(row, &[Change::Over], &[part(Rule::InIndex)])?;
+            climbs(row, low, high, 15)
+        }
+        Sign::Dot => postfix(row, low, high, 15, Kind::Field),
+        Sign::Question => postfix(row, low, high, 15, Kind::Try),
+        Sign::Bang => postfix(row, low, high, 15, Kind::Force),
+        _ => skips(row, &[]),
     }
 }

@@ -1,203 +1,204 @@
 //! Rows of small parts, statements and patterns, and the row of each sort.
 
-ghost use Rattle.std.specs.Prelude.{◌≡◌, IfOk};
+ghost use Rattle.std.specs.Prelude.{◌≡◌, OnOk};
 ghost use Rattle.hare_grammar.specs.DeclarationRows as rows;
-ghost use Rattle.hare_table.specs.Seen.{seen};
+ghost use Rattle.hare_table.specs.Seen.{row_in};
 
-use crate::row::{Row, Wait, before, leaf, led_by, mark, names, opens};
+use crate::row::{RowBuffer, Wait, before, faults, leaf, led_by, mark, names, opens};
 use crate::rows::declarations::{decl_row, import_path_row, use_row};
 use crate::rows::starts::level_row;
 use crate::rows::types::{bare_row, length_row, member_row, type_path_row, type_row};
 use hare_grammar::{Change, Class};
 use hare_tree::{Kind, Sign, Sort};
-use std::alloc::{AllocError, Global};
+use std::alloc::AllocError;
 
 /// A name.
-fn name_row(alloc: Global, class: Class) -> Result<Row, AllocError>
-    ensures { IfOk result (λ r. seen r ≡ rows.name_row class) }
+fn name_row(row: &mut RowBuffer, class: Class) -> Result<(), AllocError>
+    ensures { OnOk result (row_in row.new ≡ rows.name_row class) }
 {
     match class {
-        Class::Name => leaf(alloc, Kind::Name),
-        _ => Ok(Row::Fault),
+        Class::Name => leaf(row, Kind::Name),
+        _ => faults(row),
     }
 }
 
 /// A name behind `::`.
-fn further_name_row(alloc: Global, class: Class) -> Result<Row, AllocError>
-    ensures { IfOk result (λ r. seen r ≡ rows.further_name_row class) }
+fn further_name_row(row: &mut RowBuffer, class: Class) -> Result<(), AllocError>
+    ensures { OnOk result (row_in row.new ≡ rows.further_name_row class) }
 {
     match class {
-        Class::Name | Class::PathWord => leaf(alloc, Kind::Name),
-        _ => Ok(Row::Fault),
+        Class::Name | Class::PathWord => leaf(row, Kind::Name),
+        _ => faults(row),
     }
 }
 
 /// A tree of the kind that begins with its name.
-fn named_row(alloc: Global, kind: Kind, class: Class) -> Result<Row, AllocError>
-    ensures { IfOk result (λ r. seen r ≡ rows.named_row kind class) }
+fn named_row(row: &mut RowBuffer, kind: Kind, class: Class) -> Result<(), AllocError>
+    ensures { OnOk result (row_in row.new ≡ rows.named_row kind class) }
 {
     match class {
-        Class::Name => names(alloc, kind),
-        _ => Ok(Row::Fault),
+        Class::Name => names(row, kind),
+        _ => faults(row),
     }
 }
 
 /// The text of an abort or an assertion.
-fn message_row(alloc: Global, class: Class) -> Result<Row, AllocError>
-    ensures { IfOk result (λ r. seen r ≡ rows.message_row class) }
+fn message_row(row: &mut RowBuffer, class: Class) -> Result<(), AllocError>
+    ensures { OnOk result (row_in row.new ≡ rows.message_row class) }
 {
     match class {
-        Class::Text => leaf(alloc, Kind::Message),
-        _ => Ok(Row::Fault),
+        Class::Text => leaf(row, Kind::Message),
+        _ => faults(row),
     }
 }
 
 /// `export`.
-fn export_row(alloc: Global, class: Class) -> Result<Row, AllocError>
-    ensures { IfOk result (λ r. seen r ≡ rows.export_row class) }
+fn export_row(row: &mut RowBuffer, class: Class) -> Result<(), AllocError>
+    ensures { OnOk result (row_in row.new ≡ rows.export_row class) }
 {
     match class {
-        Class::Sign(Sign::Export) => mark(alloc, Kind::Export),
-        _ => Ok(Row::Fault),
+        Class::Sign(Sign::Export) => mark(row, Kind::Export),
+        _ => faults(row),
     }
 }
 
 /// `...`.
-fn dots_row(alloc: Global, class: Class) -> Result<Row, AllocError>
-    ensures { IfOk result (λ r. seen r ≡ rows.dots_row class) }
+fn dots_row(row: &mut RowBuffer, class: Class) -> Result<(), AllocError>
+    ensures { OnOk result (row_in row.new ≡ rows.dots_row class) }
 {
     match class {
-        Class::Sign(Sign::Dots) => mark(alloc, Kind::Dots),
-        _ => Ok(Row::Fault),
+        Class::Sign(Sign::Dots) => mark(row, Kind::Dots),
+        _ => faults(row),
     }
 }
 
 /// `&` of a binding.
-fn by_ref_row(alloc: Global, class: Class) -> Result<Row, AllocError>
-    ensures { IfOk result (λ r. seen r ≡ rows.by_ref_row class) }
+fn by_ref_row(row: &mut RowBuffer, class: Class) -> Result<(), AllocError>
+    ensures { OnOk result (row_in row.new ≡ rows.by_ref_row class) }
 {
     match class {
-        Class::Sign(Sign::Ampersand) => mark(alloc, Kind::ByRef),
-        _ => Ok(Row::Fault),
+        Class::Sign(Sign::Ampersand) => mark(row, Kind::ByRef),
+        _ => faults(row),
     }
 }
 
 /// The parameters of a function.
-fn params_row(alloc: Global, class: Class) -> Result<Row, AllocError>
-    ensures { IfOk result (λ r. seen r ≡ rows.params_row class) }
+fn params_row(row: &mut RowBuffer, class: Class) -> Result<(), AllocError>
+    ensures { OnOk result (row_in row.new ≡ rows.params_row class) }
 {
     match class {
-        Class::Sign(Sign::LeftParen) => opens(alloc, Kind::Params),
-        _ => Ok(Row::Fault),
+        Class::Sign(Sign::LeftParen) => opens(row, Kind::Params),
+        _ => faults(row),
     }
 }
 
 // ---- statements and patterns
 
 /// A binding of a loop with a condition.
-fn let_row(alloc: Global, class: Class) -> Result<Row, AllocError>
-    ensures { IfOk result (λ r. seen r ≡ rows.let_row class) }
+fn let_row(row: &mut RowBuffer, class: Class) -> Result<(), AllocError>
+    ensures { OnOk result (row_in row.new ≡ rows.let_row class) }
 {
     match class {
-        Class::Sign(Sign::Let) => opens(alloc, Kind::Let),
-        _ => Ok(Row::Fault),
+        Class::Sign(Sign::Let) => opens(row, Kind::Let),
+        _ => faults(row),
     }
 }
 
 /// A binding of a loop over items.
-fn binding_row(alloc: Global, class: Class) -> Result<Row, AllocError>
-    ensures { IfOk result (λ r. seen r ≡ rows.binding_row class) }
+fn binding_row(row: &mut RowBuffer, class: Class) -> Result<(), AllocError>
+    ensures { OnOk result (row_in row.new ≡ rows.binding_row class) }
 {
     match class {
-        Class::Sign(Sign::Let) => opens(alloc, Kind::Binding),
-        _ => Ok(Row::Fault),
+        Class::Sign(Sign::Let) => opens(row, Kind::Binding),
+        _ => faults(row),
     }
 }
 
 /// A statement.
-fn statement_row(alloc: Global, class: Class) -> Result<Row, AllocError>
-    ensures { IfOk result (λ r. seen r ≡ rows.statement_row class) }
+fn statement_row(row: &mut RowBuffer, class: Class) -> Result<(), AllocError>
+    ensures { OnOk result (row_in row.new ≡ rows.statement_row class) }
 {
     match class {
-        Class::Sign(Sign::Let) => opens(alloc, Kind::Let),
-        Class::Sign(Sign::Const) => opens(alloc, Kind::Const),
-        Class::Sign(Sign::Defer) => opens(alloc, Kind::Defer),
-        _ => level_row(alloc, 1, class),
+        Class::Sign(Sign::Let) => opens(row, Kind::Let),
+        Class::Sign(Sign::Const) => opens(row, Kind::Const),
+        Class::Sign(Sign::Defer) => opens(row, Kind::Defer),
+        _ => level_row(row, 1, class),
     }
 }
 
 /// A pattern of a `match`.
-fn pattern_row(alloc: Global, class: Class) -> Result<Row, AllocError>
-    ensures { IfOk result (λ r. seen r ≡ rows.pattern_row class) }
+fn pattern_row(row: &mut RowBuffer, class: Class) -> Result<(), AllocError>
+    ensures { OnOk result (row_in row.new ≡ rows.pattern_row class) }
 {
     match class {
-        Class::Sign(Sign::Let) => opens(alloc, Kind::PatternLet),
-        Class::Sign(Sign::Null) => mark(alloc, Kind::PatternNull),
-        _ => type_row(alloc, class),
+        Class::Sign(Sign::Let) => opens(row, Kind::PatternLet),
+        Class::Sign(Sign::Null) => mark(row, Kind::PatternNull),
+        _ => type_row(row, class),
     }
 }
 
 /// A case of a `match`.
-fn case_row(alloc: Global, class: Class) -> Result<Row, AllocError>
-    ensures { IfOk result (λ r. seen r ≡ rows.case_row class) }
+fn case_row(row: &mut RowBuffer, class: Class) -> Result<(), AllocError>
+    ensures { OnOk result (row_in row.new ≡ rows.case_row class) }
 {
     match class {
-        Class::Sign(Sign::Case) => opens(alloc, Kind::Case),
-        _ => Ok(Row::Fault),
+        Class::Sign(Sign::Case) => opens(row, Kind::Case),
+        _ => faults(row),
     }
 }
 
 /// A case of a `switch`.
-fn switch_case_row(alloc: Global, class: Class) -> Result<Row, AllocError>
-    ensures { IfOk result (λ r. seen r ≡ rows.switch_case_row class) }
+fn switch_case_row(row: &mut RowBuffer, class: Class) -> Result<(), AllocError>
+    ensures { OnOk result (row_in row.new ≡ rows.switch_case_row class) }
 {
     match class {
-        Class::Sign(Sign::Case) => opens(alloc, Kind::SwitchCase),
-        _ => Ok(Row::Fault),
+        Class::Sign(Sign::Case) => opens(row, Kind::SwitchCase),
+        _ => faults(row),
     }
 }
 
 /// The values of a case, which begin with the first of them.
-fn values_row(alloc: Global, class: Class) -> Result<Row, AllocError>
-    ensures { IfOk result (λ r. seen r ≡ rows.values_row class) }
+fn values_row(row: &mut RowBuffer, class: Class) -> Result<(), AllocError>
+    ensures { OnOk result (row_in row.new ≡ rows.values_row class) }
 {
-    let first = before(level_row(alloc, 1, class)?, &[Wait::Rest(1, Kind::Values)])?;
-    led_by(alloc, &[Change::Open], first)
+    level_row(row, 1, class)?;
+    before(row, &[Wait::Rest(1, Kind::Values)])?;
+    led_by(row, &[Change::Open])
 }
 
 // ---- all sorts
 
 /// A tree of the sort.
-pub fn of_row(alloc: Global, sort: Sort, class: Class) -> Result<Row, AllocError>
-    ensures { IfOk result (λ r. seen r ≡ rows.of_row sort class) }
+pub fn of_row(row: &mut RowBuffer, sort: Sort, class: Class) -> Result<(), AllocError>
+    ensures { OnOk result (row_in row.new ≡ rows.of_row sort class) }
 {
     match sort {
-        Sort::Use => use_row(alloc, class),
-        Sort::Decl => decl_row(alloc, class),
-        Sort::ImportPath => import_path_row(alloc, class),
-        Sort::Name => name_row(alloc, class),
-        Sort::PathName => further_name_row(alloc, class),
-        Sort::Export => export_row(alloc, class),
-        Sort::Params => params_row(alloc, class),
-        Sort::Param => named_row(alloc, Kind::Param, class),
-        Sort::StructField => named_row(alloc, Kind::StructField, class),
-        Sort::Dots => dots_row(alloc, class),
-        Sort::ByRef => by_ref_row(alloc, class),
-        Sort::Type => type_row(alloc, class),
-        Sort::BareType => bare_row(alloc, class),
-        Sort::Member => member_row(alloc, class),
-        Sort::TypePath => type_path_row(alloc, class),
-        Sort::Length => length_row(alloc, class),
-        Sort::Message => message_row(alloc, class),
-        Sort::Level(level) => level_row(alloc, level, class),
-        Sort::Left | Sort::Right => Ok(Row::Fault),
-        Sort::FieldValue => named_row(alloc, Kind::FieldValue, class),
-        Sort::Let => let_row(alloc, class),
-        Sort::Binding => binding_row(alloc, class),
-        Sort::Statement => statement_row(alloc, class),
-        Sort::Pattern => pattern_row(alloc, class),
-        Sort::Case => case_row(alloc, class),
-        Sort::SwitchCase => switch_case_row(alloc, class),
-        Sort::Values => values_row(alloc, class),
+        Sort::Use => use_row(row, class),
+        Sort::Decl => decl_row(row, class),
+        Sort::ImportPath => import_path_row(row, class),
+        Sort::Name => name_row(row, class),
+        Sort::PathName => further_name_row(row, class),
+        Sort::Export => export_row(row, class),
+        Sort::Params => params_row(row, class),
+        Sort::Param => named_row(row, Kind::Param, class),
+        Sort::StructField => named_row(row, Kind::StructField, class),
+        Sort::Dots => dots_row(row, class),
+        Sort::ByRef => by_ref_row(row, class),
+        Sort::Type => type_row(row, class),
+        Sort::BareType => bare_row(row, class),
+        Sort::Member => member_row(row, class),
+        Sort::TypePath => type_path_row(row, class),
+        Sort::Length => length_row(row, class),
+        Sort::Message => message_row(row, class),
+        Sort::Level(level) => level_row(row, level, class),
+        Sort::Left | Sort::Right => faults(row),
+        Sort::FieldValue => named_row(row, Kind::FieldValue, class),
+        Sort::Let => let_row(row, class),
+        Sort::Binding => binding_row(row, class),
+        Sort::Statement => statement_row(row, class),
+        Sort::Pattern => pattern_row(row, class),
+        Sort::Case => case_row(row, class),
+        Sort::SwitchCase => switch_case_row(row, class),
+        Sort::Values => values_row(row, class),
     }
 }

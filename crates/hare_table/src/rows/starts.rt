@@ -1,13 +1,13 @@
 //! Rows of the first token of an expression.
 
-ghost use Rattle.std.specs.Prelude.{◌≡◌, IfOk};
+ghost use Rattle.std.specs.Prelude.{◌≡◌, OnOk};
 ghost use Rattle.hare_grammar.specs.ExpressionRows as rows;
-ghost use Rattle.hare_table.specs.Seen.{seen};
+ghost use Rattle.hare_table.specs.Seen.{row_in};
 
-use crate::row::{Row, Wait, before, leaf, mark, of, opens, part, uses};
+use crate::row::{RowBuffer, Wait, before, faults, leaf, mark, of, opens, part, uses};
 use hare_grammar::{Change, Class, Rule, Symbol};
 use hare_tree::{Kind, Own, Sign, Sort};
-use std::alloc::{AllocError, Global};
+use std::alloc::AllocError;
 
 /// How tightly the expression binds that a token begins, before any operator behind it: from 1 for what is no operand, up to 16.
 pub fn start_level(class: Class) -> u8
@@ -23,50 +23,50 @@ pub fn start_level(class: Class) -> u8
 }
 
 /// The form that a token begins.
-pub fn start_row(alloc: Global, class: Class) -> Result<Row, AllocError>
-    ensures { IfOk result (λ r. seen r ≡ rows.start_row class) }
+pub fn start_row(row: &mut RowBuffer, class: Class) -> Result<(), AllocError>
+    ensures { OnOk result (row_in row.new ≡ rows.start_row class) }
 {
     match class {
         Class::Name => uses(
-            alloc,
+            row,
             &[Change::Open, Change::Open, Change::Take],
             &[part(Rule::PathOrStruct)],
         ),
-        Class::Number => leaf(alloc, Kind::Number),
-        Class::Rune => leaf(alloc, Kind::RuneLit),
-        Class::Text => leaf(alloc, Kind::Str),
-        Class::Bool => leaf(alloc, Kind::Bool),
-        Class::Sign(sign) => sign_row(alloc, sign),
-        _ => Ok(Row::Fault),
+        Class::Number => leaf(row, Kind::Number),
+        Class::Rune => leaf(row, Kind::RuneLit),
+        Class::Text => leaf(row, Kind::Str),
+        Class::Bool => leaf(row, Kind::Bool),
+        Class::Sign(sign) => sign_row(row, sign),
+        _ => faults(row),
     }
 }
 
 /// The form that a keyword or a mark begins.
-fn sign_row(alloc: Global, sign: Sign) -> Result<Row, AllocError>
-    ensures { IfOk result (λ r. seen r ≡ rows.start_row (Class.Sign sign)) }
+fn sign_row(row: &mut RowBuffer, sign: Sign) -> Result<(), AllocError>
+    ensures { OnOk result (row_in row.new ≡ rows.start_row (Class.Sign sign)) }
 {
     match sign {
-        Sign::Null => mark(alloc, Kind::Null),
-        Sign::Void => mark(alloc, Kind::Void),
+        Sign::Null => mark(row, Kind::Null),
+        Sign::Void => mark(row, Kind::Void),
         Sign::LeftParen => uses(
-            alloc,
+            row,
             &[Change::Open],
             &[of(Sort::Level(1)), part(Rule::AfterValue)],
         ),
-        Sign::LeftBracket => opens(alloc, Kind::Array),
-        Sign::LeftBrace => uses(alloc, &[Change::Open], &[Wait::Rest(2, Kind::Block)]),
+        Sign::LeftBracket => opens(row, Kind::Array),
+        Sign::LeftBrace => uses(row, &[Change::Open], &[Wait::Rest(2, Kind::Block)]),
         Sign::Colon => uses(
-            alloc,
+            row,
             &[Change::Open],
             &[part(Rule::Own(Own::Name)), Wait::Rest(1, Kind::Block)],
         ),
-        Sign::Minus => opens(alloc, Kind::Neg),
-        Sign::Tilde => opens(alloc, Kind::Not),
-        Sign::Bang => opens(alloc, Kind::Bang),
-        Sign::Star => opens(alloc, Kind::Deref),
-        Sign::Ampersand => opens(alloc, Kind::Addr),
+        Sign::Minus => opens(row, Kind::Neg),
+        Sign::Tilde => opens(row, Kind::Not),
+        Sign::Bang => opens(row, Kind::Bang),
+        Sign::Star => opens(row, Kind::Deref),
+        Sign::Ampersand => opens(row, Kind::Addr),
         Sign::For => uses(
-            alloc,
+            row,
             &[Change::Open],
             &[
                 part(Rule::Own(Own::Label)),
@@ -74,35 +74,36 @@ fn sign_row(alloc: Global, sign: Sign) -> Result<Row, AllocError>
                 part(Rule::ForHead),
             ],
         ),
-        Sign::Yield => uses(alloc, &[Change::Open], &[part(Rule::AfterYield)]),
-        Sign::Free => opens(alloc, Kind::Free),
-        Sign::Delete => opens(alloc, Kind::Delete),
-        Sign::Len => opens(alloc, Kind::Len),
-        Sign::Offset => opens(alloc, Kind::Offset),
-        Sign::Size => opens(alloc, Kind::Size),
-        Sign::Align => opens(alloc, Kind::Align),
-        Sign::Alloc => opens(alloc, Kind::Alloc),
-        Sign::Append => opens(alloc, Kind::Append),
-        Sign::Abort => opens(alloc, Kind::Abort),
-        Sign::Assert => opens(alloc, Kind::Assert),
-        Sign::If => opens(alloc, Kind::If),
-        Sign::Break => opens(alloc, Kind::Break),
-        Sign::Continue => opens(alloc, Kind::Continue),
-        Sign::Return => opens(alloc, Kind::Return),
-        Sign::Match => opens(alloc, Kind::Match),
-        Sign::Switch => opens(alloc, Kind::Switch),
-        _ => Ok(Row::Fault),
+        Sign::Yield => uses(row, &[Change::Open], &[part(Rule::AfterYield)]),
+        Sign::Free => opens(row, Kind::Free),
+        Sign::Delete => opens(row, Kind::Delete),
+        Sign::Len => opens(row, Kind::Len),
+        Sign::Offset => opens(row, Kind::Offset),
+        Sign::Size => opens(row, Kind::Size),
+        Sign::Align => opens(row, Kind::Align),
+        Sign::Alloc => opens(row, Kind::Alloc),
+        Sign::Append => opens(row, Kind::Append),
+        Sign::Abort => opens(row, Kind::Abort),
+        Sign::Assert => opens(row, Kind::Assert),
+        Sign::If => opens(row, Kind::If),
+        Sign::Break => opens(row, Kind::Break),
+        Sign::Continue => opens(row, Kind::Continue),
+        Sign::Return => opens(row, Kind::Return),
+        Sign::Match => opens(row, Kind::Match),
+        Sign::Switch => opens(row, Kind::Switch),
+        _ => faults(row),
     }
 }
 
 /// An expression that binds at least so tightly as the level.
-pub fn level_row(alloc: Global, level: u8, class: Class) -> Result<Row, AllocError>
-    ensures { IfOk result (λ r. seen r ≡ rows.level_row level class) }
+pub fn level_row(row: &mut RowBuffer, level: u8, class: Class) -> Result<(), AllocError>
+    ensures { OnOk result (row_in row.new ≡ rows.level_row level class) }
 {
     let start = start_level(class);
     if level <= start {
-        before(start_row(alloc, class)?, &[part(Rule::Climb(level, start))])
+        start_row(row, class)?;
+        before(row, &[part(Rule::Climb(level, start))])
     } else {
-        Ok(Row::Fault)
+        faults(row)
     }
 }
