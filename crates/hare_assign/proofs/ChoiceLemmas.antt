@@ -16,9 +16,9 @@ use Rattle.hare_types.proofs.LaterLemmas as laters
 use Rattle.hare_types.proofs.MeaningsLemmas.{ids_mean_trees}
 use Rattle.hare_layout.proofs.AscendingLemmas.{In}
 use Rattle.hare_assign.specs.Shapes.{types_at}
-use Rattle.hare_assign.specs.Chosen.{is_its_default, first_of, only_of, member_for, chosen}
-use Rattle.hare_assign.specs.Growth.{HasBase, IsKnown, AreKnown, ChoicesStay}
-use Rattle.hare_assign.proofs.ChosenLemmas.{Goes, is_for, base_none, union_base, members_below}
+use Rattle.hare_assign.specs.Chosen.{is_its_default, first_of, only_of, member_for, first_member, first_choice, chosen}
+use Rattle.hare_assign.specs.Growth.{HasBase, IsKnown, AreKnown, ChoicesStay, IsOneFirst, FirstsStay}
+use Rattle.hare_assign.proofs.ChosenLemmas.{Goes, is_for, first_for, base_none, union_base, members_below}
 use Rattle.hare_assign.proofs.GrowthLemmas as growth
 
 -- ---- rows before that of unions
@@ -107,6 +107,16 @@ module _ (now later : Store) (v : IsStore now) (l : IsLater now later) where
         let lones = only_stays (is_lone later f) (is_lone now f) (growth.lone_stays now later l.sound l.grows f) is below h in
         ap₂ option_or own (ap₂ option_or default (ap₂ option_or numbers lones))
 
+    first_member_stays : (is : List ℕ) → AllBelow (length now.rows) is → EachTree (HasBase now) (types_at now is)
+        → first_member later f is ≡ first_member now f is
+    first_member_stays is below h =
+        let same : (p q : Tree → Bool) → ((t : Tree) → base later t ≡ base now t → p t ≡ q t) → first_of later p is ≡ first_of now q is
+        = λ p q k. first_stays p q (λ t b. k t (growth.base_stays now later l.sound l.grows t b)) is below h in
+        ap₂ option_or (same (is_same f) (is_same f) (λ t b. refl))
+        (ap₂ option_or (same (is_its_default f) (is_its_default f) (λ t b. refl))
+        (ap₂ option_or (same (is_const later f) (is_const now f) (growth.const_stays now later l.sound l.grows f))
+        (same (is_lone later f) (is_lone now f) (growth.lone_stays now later l.sound l.grows f))))
+
   based : (is : List ℕ) (m : ℕ) → EachTree (HasBase now) (types_at now is) → In m is → HasBase now (type_at now m)
   based [] m h k = absurd k
   based (i ∷ is) m h (inl e) = subst (λ j. HasBase now (type_at now j)) e h.0
@@ -149,5 +159,46 @@ module _ (now later : Store) (v : IsStore now) (l : IsLater now later) where
           let below = members_below now v to is e in
           ap (option_and_then (coercion later from)) (member_stays f known.value is below bases) ∙ to_member is bases below (member_for now f is) refl
 
+  -- ---- the first member
+
+  first : (from : Ty) (to : ℕ) → IsIn now from → to < length now.rows → AreKnown now (value_at now from) (type_at now to)
+      → IsOneFirst now later from to
+  first from to here w known = by (members_at now to) refl
+    where
+      f : Value
+      f = value_at now from
+
+      value : value_at later from ≡ f
+      value = growth.value_stays now later l.sound l.grows from here
+
+      found : first_choice later from to ≡ option_and_then (first_member later f) (members_at now to)
+      found =
+          ap (λ g. option_and_then (first_member later g) (members_at later to)) value
+          ∙ ap (option_and_then (first_member later f)) (members_stay to w known.type)
+
+      by : (o : Option (List ℕ)) → members_at now to ≡ o → IsOneFirst now later from to
+      by None e =
+          let no : first_choice now from to ≡ None = ap (option_and_then (first_member now f)) e in
+          record {
+            member = found ∙ ap (option_and_then (first_member later f)) e ∙ sym no;
+            goes = λ m g. let both : None ≡ Some m = sym no ∙ g in absurd cc;
+          }
+      by (Some is) e =
+          let bases = known.members (types_at now is) (union_base now v to w is e) in
+          let below = members_below now v to is e in
+          let here : first_choice now from to ≡ first_member now f is = ap (option_and_then (first_member now f)) e in
+          record {
+            member =
+                found ∙ ap (option_and_then (first_member later f)) e ∙ first_member_stays f known.value is below bases ∙ sym here;
+            goes = λ m g.
+                let k = first_for now f is m (sym here ∙ g) in
+                let type = growth.type_stays now later l.sound l.grows m (within is m below k.among) in
+                ap (option_map (λ n. record { row = n; to = ty.Of m }))
+                (ap₂ (first_row later) value type ∙ row_stays f (type_at now m) known.value (based is m bases k.among) k.goes);
+          }
+
 pub choices_stay : ChoicesStay
 choices_stay now later v l from to here w known = choice now later v l from to here w known
+
+pub firsts_stay : FirstsStay
+firsts_stay now later v l from to here w known = first now later v l from to here w known

@@ -1,6 +1,6 @@
 -- The member that a value becomes, where it is made a union.
 use Rattle.std.proofs.Common.{◌≡◌, ℕ, zero, suc, ◌<◌, Bool, true, false, ◌||◌, ◌==◌, cond, List, [], ◌∷◌, length, Option, Some, None, refl, ap, ap₂, sym, ◌∙◌, subst, arith, lit<, ◌⊎◌, inl, inr}
-use Rattle.std.specs.Prelude.{ℤ, ◌+◌, slice_get}
+use Rattle.std.specs.Prelude.{ℤ, ◌+◌, slice_get, IfSome}
 use Rattle.std.specs.Option.{option_or}
 use Rattle.hare_types.specs.declared.coercion.Ty.{Ty}
 use Rattle.hare_types.specs.declared.coercion.Coercion.{Coercion}
@@ -23,7 +23,7 @@ use Rattle.hare_layout.proofs.AscendingLemmas.{In, In-to}
 use Rattle.hare_layout.proofs.BaseLemmas.{base_by-following}
 use Rattle.hare_layout.proofs.BaseOfLemmas.{base-value}
 use Rattle.hare_assign.specs.Shapes.{types_at}
-use Rattle.hare_assign.specs.Chosen.{is_its_default, first_of, only_of, member_for, IsChosen, KeepsMember}
+use Rattle.hare_assign.specs.Chosen.{is_its_default, first_of, only_of, member_for, first_member, IsChosen, KeepsMember}
 use Rattle.hare_assign.proofs.FirstLemmas.{first_from-none}
 use Rattle.hare_assign.proofs.TypeLemmas.{type_at_row, row_within}
 
@@ -57,7 +57,7 @@ module _ (s : Store) (v : IsStore s) (t : ℕ) where
           absurd (other is same)
 
   -- what is left of the type
-  base_is : t < length s.rows → (b : ℕ) → IsBaseOf s t b → base s (type_at s t) ≡ Some (type_at s b)
+  pub base_is : t < length s.rows → (b : ℕ) → IsBaseOf s t b → base s (type_at s t) ≡ Some (type_at s b)
   base_is l b h = sym (base-value s v t l (Some b) h tt ∙ base_by-following s (length s.declared) (type_at s t))
 
   pub union_base : t < length s.rows → (is : List ℕ) → members_at s t ≡ Some is → base s (type_at s t) ≡ Some (Union (types_at s is))
@@ -90,7 +90,7 @@ module _ (s : Store) (v : IsStore s) (t : ℕ) where
       ∙ base_by-following s (length s.declared) (type_at s t))
 
   -- the type has members where its base is a union
-  base_union : t < length s.rows → (ts : Trees) → base s (type_at s t) ≡ Some (Union ts)
+  pub base_union : t < length s.rows → (ts : Trees) → base s (type_at s t) ≡ Some (Union ts)
       → (is : List ℕ) × (members_at s t ≡ Some is) × (ts ≡ types_at s is)
   base_union l ts e = by (base_at s t) refl
     where
@@ -366,6 +366,45 @@ member_within s from is m h e = below_in (length s.rows) is m h (is_for s (value
     below_in n [] i h k = absurd k
     below_in n (j ∷ js) i h (inl e) = subst (λ x. x < n) e h.0
     below_in n (j ∷ js) i h (inr k) = below_in n js i h.1 k
+
+-- ---- the first member
+
+-- it is one, and the value goes there by a row before that of unions
+pub record IsFirstFor (s : Store) (f : Value) (is : List ℕ) (m : ℕ) : Type 0 where
+  pub among : In m is
+  pub goes : Goes s f (type_at s m)
+
+pub first_for : (s : Store) (f : Value) (is : List ℕ) (m : ℕ) → first_member s f is ≡ Some m → IsFirstFor s f is m
+first_for s f is m e = by (first_of s (is_same f) is) refl (first_of s (is_its_default f) is) refl (first_of s (is_const s f) is) refl e
+  where
+    by : (a : Option ℕ) → first_of s (is_same f) is ≡ a → (b : Option ℕ) → first_of s (is_its_default f) is ≡ b → (c : Option ℕ)
+        → first_of s (is_const s f) is ≡ c → option_or a (option_or b (option_or c (first_of s (is_lone s f) is))) ≡ Some m → IsFirstFor s f is m
+    by (Some i) g b h c k e =
+        let same : i ≡ m = cc in
+        let here = found_in s (is_same f) is m (g ∙ ap Some same) in
+        record { among = here.0; goes = goes_own s f (type_at s m) here.1 }
+    by None g (Some i) h c k e =
+        let same : i ≡ m = cc in
+        let here = found_in s (is_its_default f) is m (h ∙ ap Some same) in
+        record { among = here.0; goes = goes_const s f (type_at s m) (default_const s f (type_at s m) here.1) }
+    by None g None h (Some i) k e =
+        let same : i ≡ m = cc in
+        let here = found_in s (is_const s f) is m (k ∙ ap Some same) in
+        record { among = here.0; goes = goes_const s f (type_at s m) here.1 }
+    by None g None h None k e =
+        let here = found_in s (is_lone s f) is m e in
+        record { among = here.0; goes = goes_lone s f (type_at s m) here.1 }
+
+-- it is in the store
+pub first_within : (s : Store) (from : Ty) (is : List ℕ) (o : Option ℕ) → AllBelow (length s.rows) is → o ≡ first_member s (value_at s from) is
+    → IfSome o (λ m. m < length s.rows)
+first_within s from is None h e = tt
+first_within s from is (Some m) h e = below_in is h (first_for s (value_at s from) is m (sym e)).among
+  where
+    below_in : (js : List ℕ) → AllBelow (length s.rows) js → In m js → m < length s.rows
+    below_in [] k i = absurd i
+    below_in (j ∷ js) k (inl g) = subst (λ x. x < length s.rows) g k.0
+    below_in (j ∷ js) k (inr i) = below_in js k.1 i
 
 -- ---- the coercion to it
 

@@ -29,6 +29,15 @@ only_of s p is = if only_one p (types_at s is) then first_of s p is else None
 abbrev pub member_for : Store → Value → List ℕ → Option ℕ
 member_for s f is = option_or (first_of s (is_same f) is) (option_or (first_of s (is_its_default f) is) (option_or (only_of s (is_const s f) is) (only_of s (is_lone s f) is)))
 
+-- The first member to which the value goes: as its own type; or as the default type of a number; or as an integer type that holds the number; or as
+-- a pointer, as null or as a slice. Where the union admits the value, this is the member that it becomes.
+abbrev pub first_member : Store → Value → List ℕ → Option ℕ
+first_member s f is = option_or (first_of s (is_same f) is) (option_or (first_of s (is_its_default f) is) (option_or (first_of s (is_const s f) is) (first_of s (is_lone s f) is)))
+
+-- that of the members of the union that the type comes to
+abbrev pub first_choice : Store → Ty → ℕ → Option ℕ
+first_choice s from to = option_and_then (first_member s (value_at s from)) (members_at s to)
+
 -- How the value goes to that member of the union that the type comes to: by the first row of the table, as to any type.
 abbrev pub chosen : Store → Ty → ℕ → Option Coercion
 chosen s from to = option_and_then (coercion s from) (option_and_then (member_for s (value_at s from)) (members_at s to))

@@ -6,7 +6,7 @@ use Rattle.hare_types.specs.Store.{Store}
 use Rattle.hare_types.specs.Sound.{IsStore}
 use Rattle.hare_types.specs.Later.{IsLater}
 use Rattle.hare_types.specs.Assign.{Value, Of, Iconst, Null, Empty, IsIn, type_at, value_at, base, table, coercion, is_castable}
-use Rattle.hare_assign.specs.Chosen.{chosen}
+use Rattle.hare_assign.specs.Chosen.{first_choice, chosen}
 
 -- the base of the type is known: each name that it comes to is defined
 abbrev pub HasBase : Store → Tree → Type 0
@@ -43,3 +43,14 @@ abbrev pub ChoicesStay : Type 0
 ChoicesStay =
     (now later : Store) → IsStore now → IsLater now later → (from : Ty) (to : ℕ) → IsIn now from → to < length now.rows
     → AreKnown now (value_at now from) (type_at now to) → chosen later from to ≡ chosen now from to
+
+-- the first member to which a value goes, and the row by which it goes there, are over both stores the same
+pub record IsOneFirst (now later : Store) (from : Ty) (to : ℕ) : Type 0 where
+  pub member : first_choice later from to ≡ first_choice now from to
+  pub goes : (m : ℕ) → first_choice now from to ≡ Some m → coercion later from m ≡ coercion now from m
+
+-- what is found so over a store is found over every later one
+abbrev pub FirstsStay : Type 0
+FirstsStay =
+    (now later : Store) → IsStore now → IsLater now later → (from : Ty) (to : ℕ) → IsIn now from → to < length now.rows
+    → AreKnown now (value_at now from) (type_at now to) → IsOneFirst now later from to

@@ -5,6 +5,7 @@ ghost use Rattle.hare_types.specs.Rows.{AllBelow};
 ghost use Rattle.hare_types.specs.Sound.{IsStore};
 ghost use Rattle.hare_types.specs.ByIds.{members_at};
 ghost use Rattle.hare_types.specs.Assign.{type_at, value_at, IsIn};
+ghost use Rattle.hare_assign.specs.Chosen as spec;
 ghost use Rattle.hare_assign.specs.Chosen.{is_its_default, first_of, member_for, chosen, IsChosen, KeepsMember};
 ghost use Rattle.hare_assign.specs.Ways.{passes};
 
@@ -127,6 +128,42 @@ pub fn chosen_member(s: &TypeStore, to: TypeId, from: Ty) -> Option<Coercion>
             Some(m) => assignable(s, m, from),
             None => None,
         },
+        None => None,
+    }
+}
+
+/// The first of the types to which the value goes in the first way in which it goes to one.
+fn first_member(s: &TypeStore, members: &[TypeId], from: &Ty) -> Option<TypeId>
+    requires members { AllBelow (length s.now.rows) members.now }
+    requires from { IsIn s.now from.now }
+    ensures { result ≡ spec.first_member s.now (value_at s.now from.now) members.now }
+{
+    if let Some(m) = first_of(s, Way::Own, members, from) {
+        return Some(m);
+    }
+    if let Some(m) = first_of(s, Way::Default, members, from) {
+        return Some(m);
+    }
+    if let Some(m) = first_of(s, Way::Number, members, from) {
+        return Some(m);
+    }
+    first_of(s, Way::Lone, members, from)
+}
+
+/// The first member of a union to which a value goes: as its own type; or as the default type of a whole number without a suffix; or as an integer type
+/// that holds the number; or as a pointer, as `null` or as a slice. Names and error marks of the type are followed to the union. Where the union admits
+/// the value, this is the member that it becomes, which `chosen_member` tells: members are not counted here.
+///
+/// `None` where no member admits the value so: where the union admits it all the same, it is of a union itself, and keeps the member that it has. `None`
+/// also of a type that comes to no union. The types are in the store. The time grows with the members.
+pub fn first_choice(s: &TypeStore, to: TypeId, from: Ty) -> Option<TypeId>
+    requires to { to < length s.now.rows }
+    requires from { IsIn s.now from }
+    ensures value { result ≡ spec.first_choice s.now from to }
+    ensures within { IfSome result (λ m. m < length s.now.rows) }
+{
+    match members_of_base(s, to) {
+        Some(members) => first_member(s, members, &from),
         None => None,
     }
 }

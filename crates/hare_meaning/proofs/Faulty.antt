@@ -6,7 +6,7 @@ use Rattle.hare_typed.specs.declared.cell.Cell.TheVariants as cell
 use Rattle.hare_typed.specs.Cells.{byte_cells}
 use Rattle.hare_typed.specs.Typed.{TypedNode}
 use Rattle.hare_meaning.proofs.Samples.{str, str_pointer, u8, int, size, pointer, byte_pointer, pointer_to_pointer, slice_pointer, bytes, three_ints, four_bytes, int_or_bool, new_bytes}
-use Rattle.hare_meaning.proofs.Trees.{to, numbered, known, node, one, rt, text, giving, bind, local, hand, set, n8, num, array, part, index, type_node, alloc_for, free, sure, absent}
+use Rattle.hare_meaning.proofs.Trees.{to, numbered, known, node, one, rt, text, giving, bind, local, global, hand, set, n8, num, array, part, index, type_node, alloc_for, free, sure, absent}
 
 abbrev pub four : TypedNode
 four = array four_bytes (n8 1 ∷ n8 2 ∷ n8 3 ∷ n8 4 ∷ [])
@@ -38,12 +38,16 @@ freed_slice n =
 abbrev pub text_bytes : TypedNode
 text_bytes = rt 3 bytes (text 0 (codes "abcd") ∷ [])
 
--- a slice of so many bytes, with room for so many, over an array of four in the value of the second declaration
+-- a slice of four bytes, over an array that has node 5
+abbrev pub slice_of_four : TypedNode
+slice_of_four = to 7 bytes (numbered 5 four)
+
+-- a constant slice of so many bytes, with room for so many, over the array in the value of the third declaration
 abbrev pub words_over_four : (length capacity : ℕ) → TypedNode
 words_over_four l c =
-    known (map (λ k. cell.Fragment (2 * 2 ^ 32 + 5) 0 k) (0 ∷ 1 ∷ 2 ∷ 3 ∷ 4 ∷ 5 ∷ 6 ∷ 7 ∷ [])
+    known (map (λ k. cell.Fragment (3 * 2 ^ 32 + 5) 0 k) (0 ∷ 1 ∷ 2 ∷ 3 ∷ 4 ∷ 5 ∷ 6 ∷ 7 ∷ [])
     ++ byte_cells (le_bytes 8 l) ++ byte_cells (le_bytes 8 c))
-    (to 7 bytes (numbered 5 four))
+    (global 3 bytes)
 
 -- ---- slices and texts
 

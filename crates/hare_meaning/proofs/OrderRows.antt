@@ -8,7 +8,7 @@ use Rattle.hare_typed.specs.State.{Undefined, Exit, Abort, Over, Spent, Result}
 use Rattle.hare_typed.specs.Words.{three}
 use Rattle.hare_meaning.proofs.Samples.{void, bool, u8, int, size, pointer, byte_pointer, pair_pointer_pointer, slice, slice_pointer, three_ints, bytes, four_bytes, int_or_bool, int_bool_or_failure, bad, bool_or_bad, new_ints, new_bytes}
 use Rattle.hare_meaning.proofs.Trees.{place, at, to, known, global, outcome, absent, node, one, main, function, call, rt, text, block, giving, ends, result_of, begun, program, exit, tell, bind, local, hand, set, set_by, yes, loop, each, element, again, equal, n8, num, array, part, index, field, type_node, alloc_for, append, append_all, delete, free, sure}
-use Rattle.hare_meaning.proofs.Faulty.{four, cast, address, deref, dangling, freed_slice, text_bytes, words_over_four, as_text, of_length, broken, fragments, dead_fragments, a_union, overwritten, spoiled}
+use Rattle.hare_meaning.proofs.Faulty.{four, cast, address, deref, dangling, freed_slice, text_bytes, words_over_four, slice_of_four, as_text, of_length, broken, fragments, dead_fragments, a_union, overwritten, spoiled}
 
 -- a slice of bytes, that is a local, as one of so many ints
 abbrev as_ints : ℕ → TypedNode
@@ -298,7 +298,7 @@ elements_before_where_they_go : ends (bind (part bytes text_bytes absent (num si
     ∷ bind (at 7 (append_all (local 0 bytes) (part bytes (freed_slice 2) absent (num size 1)))) ∷ []) 0 ≡ Undefined 1 (place 7)
 elements_before_where_they_go = refl
 
-elements_before_words : outcome (main (bind (at 7 (append (global 1 bytes) (n8 9))) ∷ []) ∷ constant (words_over_four 4 9) ∷ []) 0
+elements_before_words : outcome (main (bind (at 7 (append (global 1 bytes) (n8 9))) ∷ []) ∷ constant (words_over_four 4 9) ∷ constant slice_of_four ∷ []) 0
     ≡ Undefined 1 (place 7)
 elements_before_words = refl
 
@@ -344,7 +344,7 @@ reading_before_over = refl
 abbrev appended_to_an_empty_constant : (taken : ℕ) → Result
 appended_to_an_empty_constant n =
     begun
-    (program (main (bind (at 7 (append (global 1 bytes) (n8 9))) ∷ []) ∷ constant (words_over_four 0 0) ∷ [])) 0 n 0
+    (program (main (bind (at 7 (append (global 1 bytes) (n8 9))) ∷ []) ∷ constant (words_over_four 0 0) ∷ constant slice_of_four ∷ [])) 0 n 0
 
 over_before_words : (appended_to_an_empty_constant (2 ^ 62)).0 ≡ Over
 over_before_words = refl

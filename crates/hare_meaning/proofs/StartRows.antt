@@ -15,15 +15,18 @@ use Rattle.hare_typed.specs.declared.constant.Const.{Const}
 use Rattle.hare_typed.specs.declared.constant.Const.TheVariants as constant
 use Rattle.hare_typed.specs.Typed.{TypedNode, marked}
 use Rattle.hare_typed.specs.State.{State, Exit}
-use Rattle.hare_meaning.specs.Code.{statics_of}
+use Rattle.hare_typed.specs.Unions.{tag_of, union_cells}
+use Rattle.hare_typed.specs.Folded.{folded, tagged_by_id}
+use Rattle.hare_meaning.specs.Code.{statics_of, cells_of_constant}
 use Rattle.hare_meaning.specs.Run.{start}
 use Rattle.std.specs.List.{enumerate_from}
 use Rattle.hare_meaning.specs.Within.{PointersLeadWithin}
 use Rattle.hare_meaning.specs.Ground.{argument_addresses, record_of, records_of, IsGroundOf}
 use Rattle.hare_meaning.specs.Related.{At, BytesAre, FragmentIs, Match, Ground, Values, objects_in, Related}
 use Rattle.hare_meaning.proofs.Related.Start.{AreLaid, AreBeside, Begins, ground_standing, start_related}
-use Rattle.hare_meaning.proofs.Samples.{types, void, u8, size, slice, bytes, four_bytes}
+use Rattle.hare_meaning.proofs.Samples.{types, void, u8, int, size, slice, bytes, four_bytes, int_or_bool}
 use Rattle.hare_meaning.proofs.Trees.{absent, of_type, node, to, numbered, main, text, n8, num, known, program, exit, index, global, array, outcome}
+use Rattle.hare_meaning.proofs.Faulty.{a_union}
 
 -- the cells of a pointer to the first byte of an object
 abbrev pointer : ℕ → List Cell
@@ -240,3 +243,20 @@ some_items_row = refl
 
 element_of_some : outcome of_some 0 ≡ Exit 3
 element_of_some = refl
+
+-- ---- a value of a union
+
+-- `const either: (int | bool) = 5;`
+abbrev of_union : List TypedNode
+of_union = main [] ∷ node kind.GlobalConst [] 0 void (absent ∷ absent ∷ absent ∷ a_union ∷ []) ∷ []
+
+-- its object has the tag of int in the finished list
+tag_row : map (λ s. s.1.cells) (statics_of types of_union) ≡ union_cells types int_or_bool int (byte_cells (le_bytes 4 5)) ∷ []
+tag_row = refl
+
+-- the constant that its tree carries has the one by id
+tag_by_id_row : cells_of_constant (folded types 1 a_union) ≡ union_cells (tagged_by_id types) int_or_bool int (byte_cells (le_bytes 4 5))
+tag_by_id_row = refl
+
+tags_of_int : (tag_of types int ≡ 1) × (tag_of (tagged_by_id types) int ≡ int + 1)
+tags_of_int = (refl, refl)

@@ -5,7 +5,7 @@ use Rattle.hare_types.specs.declared.coercion.Ty.TheVariants as kept
 use Rattle.hare_typed.specs.State.{Undefined, Exit}
 use Rattle.hare_meaning.proofs.Samples.{void, bool, pair_pointer_pointer, u8, int, size, pointer, nullable, byte_pointer, pointer_to_pointer, slice_pointer, pair_pointer, bytes, four_bytes, int_or_bool, new_int, new_bytes}
 use Rattle.hare_meaning.proofs.Trees.{place, at, to, global, outcome, of_type, absent, node, main, rt, text, block, giving, ends, result_of, exit, tell, bind, local, hand, set, set_by, loop, each, element, again, n8, num, equal, array, part, index, field, type_node, alloc, alloc_for, append, append_all, delete, free, sure}
-use Rattle.hare_meaning.proofs.Faulty.{four, cast, address, deref, dangling, freed_slice, text_bytes, words_over_four, as_text, a_union, overwritten, fragments}
+use Rattle.hare_meaning.proofs.Faulty.{four, cast, address, deref, dangling, freed_slice, text_bytes, words_over_four, slice_of_four, as_text, a_union, overwritten, fragments}
 
 -- ---- U1: outside what lives
 
@@ -103,7 +103,8 @@ appended_to_a_text = refl
 -- the words, behind the elements: those of a constant global
 appended_to_a_constant : outcome
     (main (bind (at 7 (append_all (deref bytes (address slice_pointer (global 1 bytes))) (part bytes four absent (num size 1)))) ∷ [])
-    ∷ node kind.GlobalConst [] 0 void (absent ∷ absent ∷ absent ∷ words_over_four 2 4 ∷ []) ∷ []) 0 ≡ Undefined 2 (place 7)
+    ∷ node kind.GlobalConst [] 0 void (absent ∷ absent ∷ absent ∷ words_over_four 2 4 ∷ [])
+    ∷ node kind.GlobalConst [] 0 void (absent ∷ absent ∷ absent ∷ slice_of_four ∷ []) ∷ []) 0 ≡ Undefined 2 (place 7)
 appended_to_a_constant = refl
 
 -- ---- U3: cells that spell nothing

@@ -19,7 +19,8 @@ use Rattle.hare_typed.specs.Cells.{byte_cells, undefined_cells}
 use Rattle.hare_typed.specs.Objects.{Object, ObjectKind, Global, Constant}
 use Rattle.hare_typed.specs.Coercions.{sliced_element}
 use Rattle.hare_typed.specs.Evaluated.{is_place, makes_slice}
-use Rattle.hare_typed.specs.ConstantValues.{listed_objects}
+use Rattle.hare_typed.specs.ConstantValues.{listed_objects, constant_result}
+use Rattle.hare_typed.specs.Folded.{folded_from}
 use Rattle.hare_typed.specs.World.{World, homed_cell}
 
 pub record Code : Type 0 where
@@ -71,13 +72,18 @@ abbrev pub objects_of_constant : Const → List (ℕ × Object)
 objects_of_constant constant.Absent = []
 objects_of_constant (constant.Known cs os) = listed_objects os
 
+-- The constant of a global, a declaration with its number: what its value comes to with the tags of the finished program. The one that its tree carries
+-- has the tags by id.
+abbrev pub constant_of : Store → ℕ × TypedNode → Const
+constant_of s d = folded_from (constant_result s d.0 (value_of d.1))
+
 -- an object of a global: the cells of its constant
-abbrev pub global_object : Store → ObjectKind → TypedNode → Object
-global_object s k v = record { cells = cells_of_constant (mark_of v).value; kind = k; align = align_in s (given v); alive = true }
+abbrev pub global_object : Store → ObjectKind → ℕ × TypedNode → Object
+global_object s k d = record { cells = cells_of_constant (constant_of s d); kind = k; align = align_in s (given (value_of d.1)); alive = true }
 
 abbrev pub global_with : Store → ℕ × TypedNode → Kind → List (ℕ × Object)
-global_with s d kind.GlobalLet = (d.0, global_object s Global (value_of d.1)) ∷ []
-global_with s d kind.GlobalConst = (d.0, global_object s Constant (value_of d.1)) ∷ []
+global_with s d kind.GlobalLet = (d.0, global_object s Global d) ∷ []
+global_with s d kind.GlobalConst = (d.0, global_object s Constant d) ∷ []
 global_with s d _ = []
 
 -- the object of a global has the number of its declaration
@@ -122,7 +128,7 @@ static_of s d t _ =
     if is_static_array s d.1 t
     then (
       number_of_static d.0 t,
-      array_with s t (lookup (nat_eq (number_of_static d.0 t)) (objects_of_constant (mark_of (value_of d.1)).value)),
+      array_with s t (lookup (nat_eq (number_of_static d.0 t)) (objects_of_constant (constant_of s d))),
     ) ∷ []
     else []
 

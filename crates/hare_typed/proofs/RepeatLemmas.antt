@@ -1,8 +1,9 @@
 -- Lists of cells with repetitions.
-use Rattle.std.proofs.Common.{◌≡◌, ℕ, zero, suc, ◌+◌, ◌-◌, ◌*◌, ◌/◌, ◌%◌, ◌<◌, ◌≤◌, List, [], ◌∷◌, ◌++◌, length, map, take, drop, get_or, set, Some, None, refl, ap, ◌∙◌, sym, subst, arith, append_assoc, length-append, length-drop}
+use Rattle.std.proofs.Common.{◌≡◌, ℕ, zero, suc, ◌+◌, ◌-◌, ◌*◌, ◌/◌, ◌%◌, ◌<◌, ◌≤◌, List, [], ◌∷◌, ◌++◌, length, map, take, drop, get_or, set, Some, None, refl, ap, ◌∙◌, sym, subst, arith, append_assoc, length-append, length-drop, Contains, ◌⊎◌, inl, inr}
 use Rattle.std.proofs.Math.Nat.{mul_comm, mul-le-mul_right}
 use Rattle.std.specs.Prelude.{slice_get}
 use Rattle.std.proofs.lemmas.List.{take-append-le, drop-append-le, length-take-le, take-append-drop, take_more, take_all, drop_all, append-nil, get_or_default, map_more, take_more_set}
+use Rattle.std.proofs.lemmas.List.Elements.{Contains-append_left, Contains-append_right, Contains-append_cases}
 use Rattle.hare_types.proofs.ListLemmas.{slice_get_front, slice_get_none}
 use Rattle.hare_typed.proofs.KidLemmas.{take-get}
 use Rattle.hare_typed.specs.declared.cell.Cell.{Cell}
@@ -166,6 +167,58 @@ fit-front (r ∷ rs) ss cs h = (h.0, h.1, fit-front rs ss (with_repeat r cs) h.2
 pub fit-behind : (rs ss : List Repeat) (cs : List Cell) → FitIn (rs ++ ss) cs → FitIn ss (repeated rs cs)
 fit-behind [] ss cs h = h
 fit-behind (r ∷ rs) ss cs h = fit-behind rs ss (with_repeat r cs) h.2
+
+-- ---- which cells there are
+
+in-front : (n : ℕ) (cs : List Cell) (c : Cell) → Contains (take n cs) c → Contains cs c
+in-front n cs c h = subst (λ xs. Contains xs c) (take-append-drop n cs) (Contains-append_left (take n cs) (drop n cs) c h)
+
+in-rest : (n : ℕ) (cs : List Cell) (c : Cell) → Contains (drop n cs) c → Contains cs c
+in-rest n cs c h = subst (λ xs. Contains xs c) (take-append-drop n cs) (Contains-append_right (take n cs) (drop n cs) c h)
+
+of-again : (n : ℕ) (cs : List Cell) (c : Cell) → Contains (again n cs) c → Contains cs c
+of-again zero cs c h = absurd (omega (arith, h.1))
+of-again (suc n) cs c h = by (of-again n cs c) (Contains-append_cases cs (again n cs) c h)
+  where
+    by : (Contains (again n cs) c → Contains cs c) → Contains cs c ⊎ Contains (again n cs) c → Contains cs c
+    by more (inl k) = k
+    by more (inr k) = more k
+
+of-with_repeat : (r : Repeat) (cs : List Cell) (c : Cell) → Contains (with_repeat r cs) c → Contains cs c
+of-with_repeat r cs c h = by (Contains-append_cases front (again r.more (drop r.from front) ++ drop r.to cs) c h)
+  where
+    front : List Cell
+    front = take r.to cs
+
+    behind : Contains (again r.more (drop r.from front)) c ⊎ Contains (drop r.to cs) c → Contains cs c
+    behind (inl k) = in-front r.to cs c (in-rest r.from front c (of-again r.more (drop r.from front) c k))
+    behind (inr k) = in-rest r.to cs c k
+
+    by : Contains front c ⊎ Contains (again r.more (drop r.from front) ++ drop r.to cs) c → Contains cs c
+    by (inl k) = in-front r.to cs c k
+    by (inr k) = behind (Contains-append_cases (again r.more (drop r.from front)) (drop r.to cs) c k)
+
+in-with_repeat : (r : Repeat) (cs : List Cell) (c : Cell) → Contains cs c → Contains (with_repeat r cs) c
+in-with_repeat r cs c h = by (Contains-append_cases front (drop r.to cs) c (subst (λ xs. Contains xs c) (sym (take-append-drop r.to cs)) h))
+  where
+    front : List Cell
+    front = take r.to cs
+
+    copies : List Cell
+    copies = again r.more (drop r.from front)
+
+    by : Contains front c ⊎ Contains (drop r.to cs) c → Contains (with_repeat r cs) c
+    by (inl k) = Contains-append_left front (copies ++ drop r.to cs) c k
+    by (inr k) = Contains-append_right front (copies ++ drop r.to cs) c (Contains-append_right copies (drop r.to cs) c k)
+
+-- a repetition adds no other cells
+pub of-repeated : (rs : List Repeat) (cs : List Cell) (c : Cell) → Contains (repeated rs cs) c → Contains cs c
+of-repeated [] cs c h = h
+of-repeated (r ∷ rs) cs c h = of-with_repeat r cs c (of-repeated rs (with_repeat r cs) c h)
+
+pub in-repeated : (rs : List Repeat) (cs : List Cell) (c : Cell) → Contains cs c → Contains (repeated rs cs) c
+in-repeated [] cs c h = h
+in-repeated (r ∷ rs) cs c h = in-repeated rs (with_repeat r cs) c (in-with_repeat r cs c h)
 
 -- ---- what the calls do
 

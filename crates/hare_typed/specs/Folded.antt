@@ -12,7 +12,15 @@ use Rattle.hare_typed.specs.Typed.{TypedNode}
 use Rattle.hare_typed.specs.Objects.{Object}
 use Rattle.hare_typed.specs.State.{Outcome, Value, Abort, Result}
 use Rattle.hare_typed.specs.Constancy.{first_inconstant}
+use Rattle.hare_typed.specs.ConstantForms.{counted_from}
 use Rattle.hare_typed.specs.ConstantValues.{constant_result}
+
+-- ---- tags
+
+-- Which types have tags, and in which order, is known when all bodies are checked. Until then the tag of a type is one more than its id: in the
+-- constants that trees carry it is always so, and no later store says otherwise. The objects of globals have the tags of the finished program.
+abbrev pub tagged_by_id : Store → Store
+tagged_by_id s = record s { listed = counted_from 0 (length s.rows) }
 
 -- ---- whether a value has a constant
 
@@ -22,7 +30,7 @@ is_abort _ = false
 
 -- the evaluation of the node would abort
 abbrev pub aborts : Store → (own : ℕ) → TypedNode → Bool
-aborts s own t = is_abort (constant_result s own t).0
+aborts s own t = is_abort (constant_result (tagged_by_id s) own t).0
 
 -- The first node of the value of a declaration, in check order, that is not constant or would abort. It is looked at also where it would not run.
 abbrev pub inconstant : Store → (own : ℕ) → TypedNode → Option TypedNode
@@ -70,4 +78,4 @@ folded_from (o, s) = constant.Absent
 
 -- The constant that the value of a declaration has, as its coercion gives it; Absent where it has none.
 abbrev pub folded : Store → (own : ℕ) → TypedNode → Const
-folded s own t = elim (inconstant s own t) [ None ↦ folded_from (constant_result s own t) | Some u ↦ constant.Absent ]
+folded s own t = elim (inconstant s own t) [ None ↦ folded_from (constant_result (tagged_by_id s) own t) | Some u ↦ constant.Absent ]

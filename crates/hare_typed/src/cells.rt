@@ -1,6 +1,6 @@
 //! Lists of cells in which a part that stands there often is kept once.
 
-ghost use Rattle.std.specs.Prelude.{◌≡◌, ◌↔◌, IsTrue, if◌then◌else◌, [], ◌∷◌, ◌++◌, ◌+◌, ◌<◌, ◌≤◌, List, drop, length, map, slice_get, IfOk, OnOk, OnErr};
+ghost use Rattle.std.specs.Prelude.{◌≡◌, ◌↔◌, IsTrue, if◌then◌else◌, [], ◌∷◌, ◌++◌, ◌+◌, ◌<◌, ◌≤◌, List, drop, length, map, slice_get, Contains, IfOk, OnOk, OnErr};
 ghost use Rattle.hare_typed.specs.declared.cell.Cell.{Cell as CellValue};
 ghost use Rattle.hare_typed.specs.Cells.{cells_within};
 ghost use Rattle.hare_typed.specs.Repeats.{again, moved, with_repeat, repeated, FitIn};
@@ -119,6 +119,13 @@ impl Cells {
             Some(cell) => Some(*cell),
             None => None,
         }
+    }
+
+    /// The cells that were written, each once, however often it is repeated: just the cells that stand in the list, in no order.
+    pub fn kept(&self) -> &[Cell]
+        ensures { (c : CellValue) → Contains result.now c ↔ Contains self.now c }
+    {
+        self.written.as_slice()
     }
 
     /// Copies the cells from a place on, as many as there is room for, and says whether there are so many. Nothing is copied where there are not.
