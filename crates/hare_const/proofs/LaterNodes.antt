@@ -1,43 +1,40 @@
 -- The value of a node, and whether it is constant, are in each later store the same.
-use Rattle.std.proofs.Common.{◌≡◌, ◌∙◌, sym, ap, ap₂, subst, refl, ℕ, zero, suc, arith, Bool, true, false, List, [], ◌∷◌, Option, Some, None, IsSome}
-use Rattle.std.specs.Prelude.{◌≢◌, ◌==◌, ◌-◌, ◌||◌, ◌&&◌, nat_eq, not, pos, ℤ, is_some, option_and_then, unwrap_or, ◌++◌, if◌then◌else◌}
+use Rattle.std.proofs.Common.{◌≡◌, ◌∙◌, sym, ap, ap₂, subst, refl, ℕ, zero, suc, Bool, true, false, List, [], ◌∷◌, IsSome}
+use Rattle.std.specs.Prelude.{◌==◌, ◌-◌, ◌||◌, ◌&&◌, not, pos, ℤ, option_and_then, unwrap_or, ◌++◌, if◌then◌else◌}
 use Rattle.hare_tree.specs.declared.kind.Kind.{Kind}
 use Rattle.hare_tree.specs.declared.kind.Kind.TheVariants as kind
 use Rattle.hare_tree.specs.declared.token.Meaning.{Meaning}
 use Rattle.hare_tree.specs.declared.token.Meaning.TheVariants as meant
 use Rattle.hare_types.specs.declared.coercion.Ty.{Ty}
 use Rattle.hare_types.specs.declared.coercion.Ty.TheVariants as ty
-use Rattle.hare_types.specs.declared.coercion.Coercion.{Coercion}
 use Rattle.hare_types.specs.Store.{Store}
 use Rattle.hare_types.specs.Sound.{IsStore}
 use Rattle.hare_types.specs.Later.{IsLater}
 use Rattle.hare_types.specs.ByIds.{base_at}
 use Rattle.std.proofs.lemmas.List.Elements.{recursion_from_All}
 use Rattle.hare_typed.specs.declared.cell.Cell.{Cell}
-use Rattle.hare_typed.specs.Typed.{TypedNode, TypedNodes, Mark, marked, typed_none, typed_more, head_of, mark_of, kids_of, listed_nodes}
+use Rattle.hare_typed.specs.Typed.{TypedNode, TypedNodes, Mark, marked, typed_none, typed_more, head_of, kids_of, listed_nodes}
 use Rattle.hare_typed.specs.Order.{kid_from_front, tree_from_front}
 use Rattle.hare_typed.specs.Given.{base_row, first_given, given, is_str, is_str_row, size_in}
 use Rattle.hare_typed.specs.Weight.{items_of}
 use Rattle.hare_typed.specs.Answers.{Answer, Gives, Aborts as aborts, IsUndefined}
 use Rattle.hare_typed.specs.Repeats.{again}
-use Rattle.hare_typed.specs.Scalars.{Pointing, Null, Nullable, cells}
 use Rattle.hare_typed.specs.Arithmetic.{arithmetic_of, shift_of, order_of, by_equality, arithmetic, shifted, negated, complemented, in_order, same_number}
 use Rattle.hare_typed.specs.Shapes.{shape_of_row, align_in}
 use Rattle.hare_typed.specs.Constants.{is_known}
 use Rattle.hare_typed.specs.Constancy.{is_name_of, is_void_row, names_void, is_address_row, is_counted_row, is_wrapper, is_constant_kind, is_constant, is_global_path, begins_with_global}
-use Rattle.hare_typed.specs.Coercions.{coerced_by, coerced_to_union, coerced_into, number_of_value, number_cells, length_of_row, inner_to, inner_by, element_of_slice, element_by}
+use Rattle.hare_typed.specs.Coercions.{length_of_row}
 use Rattle.hare_typed.specs.Words.{words}
 use Rattle.hare_typed.specs.Evaluated.{is_named, is_place_kind, first_is_place}
 use Rattle.hare_typed.specs.ConstantForms.{own_type, type_of_kid, is_iconst, int_in, bool_cells, is_array_row, is_whole, has_dots, joined, last_of, offset_in, part_named, made_of}
 use Rattle.hare_const.specs.declared.operands.Operands.TheVariants.{OneKid, TwoKids}
 use Rattle.hare_const.specs.declared.outcome.Outcome.{Outcome}
 use Rattle.hare_const.specs.declared.outcome.Outcome.TheVariants.{Known, Aborts, Undefined}
-use Rattle.hare_const.specs.NodeValues.{on_cells, on_answer, object_number, kid_at, kids_at, numbered, number_of_kid, negation, complement, order_value, equality_value, cast_value, offset_value, arithmetic_value, shift_value, length_value, array_length_value, tuple_value, struct_value, array_value, type_with_offset, part_with_offset, unary_value, binary_value, operator_value, kind_value, coerced_value, cells_to_coerce, slice_of, HasNumber, HasParts, fields_given, components_given, SimpleKind, PlainKind}
-use Rattle.hare_const.specs.Made.{own_object}
+use Rattle.hare_const.specs.NodeValues.{on_cells, on_answer, kid_at, kids_at, numbered, number_of_kid, negation, complement, order_value, equality_value, cast_value, offset_value, arithmetic_value, shift_value, length_value, array_length_value, tuple_value, struct_value, array_value, type_with_offset, part_with_offset, unary_value, binary_value, operator_value, kind_value, HasNumber, HasParts, fields_given, components_given, AskedKind, PlainKind}
 use Rattle.hare_const.specs.Operators.{IsWidth}
 use Rattle.hare_const.specs.Sizes.{Fits, HasPart}
 use Rattle.hare_const.specs.Settled.{HasBase, HasBases, HaveBases}
-use Rattle.hare_const.proofs.LaterTypes.{known_base, base_row_same, row_same, cells_same, number_same, int_same, length_same, sized, size_same, align_same, part_same, made_same, has_parts, named_same, fields_same, reached_same}
+use Rattle.hare_const.proofs.LaterTypes.{known_base, base_row_same, row_same, cells_same, number_same, int_same, sized, size_same, align_same, part_same, made_same, has_parts, named_same, fields_same, reached_same}
 use Rattle.hare_const.proofs.SizeLemmas.{starts}
 use Rattle.hare_const.proofs.PartLemmas.{type_with_parts}
 
@@ -71,13 +68,6 @@ around s t b = record {
 pub first-base : (s : Store) (ts : TypedNodes) → HaveBases s ts → HasBase s (first_given ts)
 first-base s typed_none b = tt
 first-base s (typed_more t ts) b = given-base s t b.0
-
-not-nine : (r : ℕ) → r ≢ 9 → nat_eq r 9 ≡ false
-not-nine r h = by (nat_eq r 9) refl
-  where
-    by : (x : Bool) → nat_eq r 9 ≡ x → nat_eq r 9 ≡ false
-    by true e = absurd (h (grind (arith, e)))
-    by false e = e
 
 -- ---- what goes on from the same goes on alike
 
@@ -229,7 +219,7 @@ module _ (s l : Store) (v : IsStore s) (later : IsLater s l) where
         cells_on (kid_at 0 os) (λ x. on_cells (kid_at 1 os) (binary_value l t k x)) (λ x. on_cells (kid_at 1 os) (binary_value s t k x))
         (λ x. cells_on (kid_at 1 os) (binary_value l t k x) (binary_value s t k x) (h x))
 
-    pub kind_same : (own : ℕ) (os : List Outcome) (k : Kind) → SimpleKind s t k → kind_value l own t k os ≡ kind_value s own t k os
+    pub kind_same : (own : ℕ) (os : List Outcome) (k : Kind) → AskedKind s t k → kind_value l own t k os ≡ kind_value s own t k os
     kind_same own os kind.Number h = ap Known (numbered_same (pos (head_of t).number))
     kind_same own os kind.RuneLit h = ap Known (numbered_same (pos (head_of t).number))
     kind_same own os kind.Neg h = one_kid kind.Neg os (λ x. ap Known (negation_same x))
@@ -263,7 +253,7 @@ module _ (s l : Store) (v : IsStore s) (later : IsLater s l) where
     number_stays : HasNumber s t → HasNumber l t
     number_stays h e = (subst (λ i. IsWidth i.bits) (sym own_int) (h e).0, (h e).1)
 
-    pub simple_stays : (k : Kind) → SimpleKind s t k → SimpleKind l t k
+    pub simple_stays : (k : Kind) → AskedKind s t k → AskedKind l t k
     simple_stays kind.Number h = h
     simple_stays kind.RuneLit h = h
     simple_stays kind.Neg h = number_stays h
@@ -272,7 +262,6 @@ module _ (s l : Store) (v : IsStore s) (later : IsLater s l) where
     simple_stays kind.Shift h = number_stays h
     simple_stays kind.Size h = sized s l v later (type_of_kid 0 t) h
     simple_stays kind.Align h = sized s l v later (type_of_kid 0 t) h
-    simple_stays kind.Len h = str_same (type_of_kid 0 t) (a.kid 0) ∙ h
     simple_stays kind.Tuple h = has_parts s l v later (own_type t) (components_given t) h
     simple_stays kind.StructLit h =
         subst (HasParts l (own_type t)) (sym fields_given_same) (has_parts s l v later (own_type t) (fields_given s t) h)
@@ -282,59 +271,6 @@ module _ (s l : Store) (v : IsStore s) (later : IsLater s l) where
         (subst (λ n. HasParts l (type_with_offset s t) (n ∷ [])) (sym o.part)
         (has_parts s l v later (type_with_offset s t) (part_with_offset s t ∷ []) h))
     simple_stays _ h = h
-
-  -- ---- coercions
-
-  coerced_plain : (x : Store) (f : Ty) (r u : ℕ) (cs : List Cell) → nat_eq r 9 ≡ false →
-      coerced_into x f r (ty.Of u) cs ≡ Gives (coerced_by x f r u cs)
-  coerced_plain x f r u cs e = ap (λ b. if b then coerced_to_union x f u cs else Gives (coerced_by x f r u cs)) e
-
-  into_same : (f : Ty) (r : ℕ) (to : Ty) (cs : List Cell) → nat_eq r 9 ≡ false → HasBase s f → HasBase s to →
-      coerced_into l f r to cs ≡ coerced_into s f r to cs
-  into_same f r (ty.Of u) cs e h k =
-      coerced_plain l f r u cs e
-      ∙ ap (λ n. Gives (if nat_eq r 3 || nat_eq r 4 then n else (if nat_eq r 6 then cells Nullable (Pointing Null) else cs)))
-      (cells_same s l v later (ty.Of u) (number_of_value l f cs) k ∙ ap (number_cells s (ty.Of u)) (number_same s l v later f cs h))
-      ∙ sym (coerced_plain s f r u cs e)
-  into_same f r (ty.Iconst n) cs e h k = refl
-  into_same f r ty.Null cs e h k = refl
-  into_same f r ty.Empty cs e h k = refl
-
-  -- what a coercion by such a row makes a slice of
-  abbrev sliced_by : Store → Ty → ℕ → Ty → Option ℕ
-  sliced_by x f r to = let i = inner_by x f r to in element_by x i.row i.to
-
-  sliced_plain : (x : Store) (f : Ty) (r u : ℕ) → nat_eq r 9 ≡ false → sliced_by x f r (ty.Of u) ≡ element_by x r (ty.Of u)
-  sliced_plain x f r u e =
-      ap (λ b. let i : Coercion = if b then inner_to x f u else record { row = r; to = ty.Of u } in element_by x i.row i.to) e
-
-  sliced_same : (f : Ty) (r : ℕ) (to : Ty) → nat_eq r 9 ≡ false → HasBase s to → sliced_by l f r to ≡ sliced_by s f r to
-  sliced_same f r (ty.Of u) e k =
-      sliced_plain l f r u e
-      ∙ ap (λ o. if nat_eq r 7 then element_of_slice o else None) (base_row_same s l v later (ty.Of u) k)
-      ∙ sym (sliced_plain s f r u e)
-  sliced_same f r (ty.Iconst n) e k = refl
-  sliced_same f r ty.Null e k = refl
-  sliced_same f r ty.Empty e k = refl
-
-  pub coerced_same : (own : ℕ) (t : TypedNode) (cs : List Cell) → HasBase s (mark_of t).ty → HasBase s (mark_of t).coerce.to →
-      (mark_of t).coerce.row ≢ 9 → coerced_value l own t cs ≡ coerced_value s own t cs
-  coerced_same own t cs h k n =
-      let f = (mark_of t).ty in
-      let r = (mark_of t).coerce.row in
-      let to = (mark_of t).coerce.to in
-      let e = not-nine r n in
-      let put : cells_to_coerce l own t cs ≡ cells_to_coerce s own t cs
-      = ap₂ (λ o m. elim o [ None ↦ cs | Some x ↦ slice_of own t m ]) (sliced_same f r to e k) (length_same s l v later f h) in
-      ap (λ x. on_answer (coerced_into l f r to x) Known) put
-      ∙ ap (λ x. on_answer x Known) (into_same f r to (cells_to_coerce s own t cs) e h k)
-
-  -- the object that the node makes
-  pub object_same : (own : ℕ) (t : TypedNode) (cs : List Cell) → HasBase s (mark_of t).coerce.to → (mark_of t).coerce.row ≢ 9 →
-      own_object l own t cs ≡ own_object s own t cs
-  object_same own t cs k n =
-      ap (λ o. if is_some o then record { object = object_number own t; cells = cs } ∷ [] else [])
-      (sliced_same (mark_of t).ty (mark_of t).coerce.row (mark_of t).coerce.to (not-nine (mark_of t).coerce.row n) k)
 
   -- ---- constancy
 

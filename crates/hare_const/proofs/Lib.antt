@@ -10,6 +10,13 @@ pub mod PartLemmas
 pub mod SizeLemmas
 pub mod LaterTypes
 pub mod LaterNodes
+pub mod JoinedLemmas
+pub mod LaterUnions
+pub mod LaterCoercions
+pub mod Tagged
+pub mod CoercionLemmas
+pub mod PayloadLemmas
+pub mod ToldLemmas
 pub mod LaterTrees
 pub mod SettledLemmas
 pub mod FoldedLemmas
@@ -22,3 +29,4 @@ mod ConstantRows
 pub mod Shown
 mod ExampleValues
 mod ValueRows
+mod UnionRows

@@ -1,6 +1,6 @@
 -- The objects that are reached from cells: met one behind another, they are those of the definition.
-use Rattle.std.proofs.Common.{◌≡◌, ◌∙◌, sym, ap, ap₂, subst, refl, ℕ, zero, suc, ◌+◌, ◌<◌, ◌≤◌, ◌⊎◌, inl, inr, arith, Bool, true, false, List, [], ◌∷◌, ◌++◌, length, get_or, take, append_assoc, append-nil, Option, Some, None}
-use Rattle.std.specs.Prelude.{Contains, slice_get, flat_map}
+use Rattle.std.proofs.Common.{◌≡◌, ◌∙◌, sym, ap, ap₂, subst, refl, ℕ, zero, suc, ◌+◌, ◌<◌, ◌≤◌, ◌⊎◌, inl, inr, arith, true, List, [], ◌∷◌, ◌++◌, length, get_or, take, append_assoc, append-nil, Option, Some, None}
+use Rattle.std.specs.Prelude.{Contains, ◌↔◌, slice_get, flat_map}
 use Rattle.std.specs.declared.cmp.Ordering.TheVariants.{Less, Equal, Greater}
 use Rattle.std.specs.Ordering.{nat_cmp, match_ordering}
 use Rattle.std.specs.Cmp.{nat_cmp_is}
@@ -18,7 +18,7 @@ use Rattle.hare_typed.specs.declared.cell.Cell.{Cell}
 use Rattle.hare_typed.specs.declared.constant.ConstObject.{ConstObject}
 use Rattle.hare_typed.specs.Folded.{led_to, leads}
 use Rattle.hare_typed.proofs.KidLemmas.{take-get}
-use Rattle.hare_const.specs.Statics.{led_by, cells_by, reached_by, listed_by, led_from, Adds}
+use Rattle.hare_const.specs.Statics.{cells_by, reached_by, listed_by, led_from, Adds}
 
 -- ---- what a list has
 
@@ -130,22 +130,43 @@ leads-append : (cs ds : List Cell) → leads (cs ++ ds) ≡ leads cs ++ leads ds
 leads-append [] ds = refl
 leads-append (c ∷ cs) ds = ap (λ l. led_to c ++ l) (leads-append cs ds) ∙ sym (append_assoc (led_to c) (leads cs) (leads ds))
 
-none_past : (cs : List Cell) (i : ℕ) → slice_get cs i ≡ None → i < length cs → ⊥
-none_past [] i e h = omega arith
-none_past (c ∷ cs) zero e h = absurd cc
-none_past (c ∷ cs) (suc i) e h = none_past cs i e (omega arith)
-
 -- those to which the cells lead up to one, and those to which this leads
-pub adds_more : (cs : List Cell) (i : ℕ) (o : Option Cell) (a b c : List ℕ) → o ≡ slice_get cs i → i < length cs → Adds (leads (take i cs)) a b →
-    Adds (led_by o) b c → Adds (leads (take (i + 1) cs)) a c
-adds_more cs i None a b c e h p q = absurd (none_past cs i (sym e) h)
-adds_more cs i (Some x) a b c e h p q =
+pub adds_more : (cs : List Cell) (i : ℕ) (x : Cell) (a b c : List ℕ) → slice_get cs i ≡ Some x → Adds (leads (take i cs)) a b →
+    Adds (led_to x) b c → Adds (leads (take (i + 1) cs)) a c
+adds_more cs i x a b c e p q =
     let more : leads (take (i + 1) cs) ≡ leads (take i cs) ++ led_to x
-    = ap leads (take-get cs i x (sym e)) ∙ leads-append (take i cs) (x ∷ []) ∙ ap (λ l. leads (take i cs) ++ l) (append-nil (led_to x)) in
+    = ap leads (take-get cs i x e) ∙ leads-append (take i cs) (x ∷ []) ∙ ap (λ l. leads (take i cs) ++ l) (append-nil (led_to x)) in
     subst (λ ns. Adds ns a c) (sym more) (adds_both (leads (take i cs)) (led_to x) a b c p q)
 
-pub adds_all : (cs : List Cell) (i : ℕ) (a b : List ℕ) → length cs ≤ i → Adds (leads (take i cs)) a b → Adds (leads cs) a b
-adds_all cs i a b h p = subst (λ l. Adds (leads l) a b) (take_all i cs h) p
+-- a cell leads to what those lead to among which it is
+leads_one : (cs : List Cell) (c : Cell) (n : ℕ) → Contains cs c → Contains (led_to c) n → Contains (leads cs) n
+leads_one [] c n (k, l, e) h = absurd (omega (arith, l))
+leads_one (x ∷ cs) c n (zero, l, e) h = Contains-append_left (led_to x) (leads cs) n (subst (λ y. Contains (led_to y) n) (sym e) h)
+leads_one (x ∷ cs) c n (suc k, l, e) h = Contains-append_right (led_to x) (leads cs) n (leads_one cs c n (k, omega (arith, l), e) h)
+
+led_by_one : (cs : List Cell) (n : ℕ) → Contains (leads cs) n → (c : Cell) × Contains cs c × Contains (led_to c) n
+led_by_one [] n (k, l, e) = absurd (omega (arith, l))
+led_by_one (x ∷ cs) n h = by (led_by_one cs n) (Contains-append_cases (led_to x) (leads cs) n h)
+  where
+    by : (Contains (leads cs) n → (c : Cell) × Contains cs c × Contains (led_to c) n) → Contains (led_to x) n ⊎ Contains (leads cs) n →
+        (c : Cell) × Contains (x ∷ cs) c × Contains (led_to c) n
+    by rest (inl g) = (x, (0, omega arith, refl), g)
+    by rest (inr g) = let r = rest g in (r.0, (suc r.1.0, omega (arith, r.1.1), r.1.2), r.2)
+
+leads_within : (xs ys : List Cell) → ((c : Cell) → Contains xs c → Contains ys c) → (n : ℕ) → Contains (leads xs) n → Contains (leads ys) n
+leads_within xs ys f n h = let r = led_by_one xs n h in leads_one ys r.0 n (f r.0 r.1) r.2
+
+-- two lists with the same cells add the same
+pub adds_alike : (xs ys : List Cell) (i : ℕ) (a b : List ℕ) → length xs ≤ i → ((c : Cell) → Contains xs c ↔ Contains ys c) →
+    Adds (leads (take i xs)) a b → Adds (leads ys) a b
+adds_alike xs ys i a b l f h =
+    let p = subst (λ cs. Adds (leads cs) a b) (take_all i xs l) h in
+    record {
+      others = p.others;
+      behind = p.behind;
+      all = λ n k. p.all n (leads_within ys xs (λ c. (f c).1) n k);
+      only = λ n k. leads_within xs ys (λ c. (f c).0) n (p.only n k);
+    }
 
 -- ---- what is reached
 

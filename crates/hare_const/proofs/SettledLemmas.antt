@@ -111,7 +111,7 @@ bases-of s (typed_more t ts) p = (p.0.bases, bases-of s ts p.1)
 -- a node and its kids
 pub settled_tree : (s : Store) (t : TypedNode) → IsSettledNode s t → AreSettled s (kids_of t) → IsSettled s t
 settled_tree s (marked h m ts) n p = record {
-  simple = (n.simple, n.plain, in_store s m.ty n.own, n.row, simple-of s ts p);
+  simple = (n.simple, n.plain, in_store s m.ty n.own, n.joins, simple-of s ts p);
   bases = (n.own, n.to, bases-of s ts p);
 }
 

@@ -1,7 +1,8 @@
 -- Where the parts of a type begin whose size can be told.
-use Rattle.std.proofs.Common.{◌≡◌, ◌∙◌, sym, ap, subst, refl, ℕ, zero, suc, ◌+◌, ◌-◌, ◌<◌, ◌≤◌, arith, List, [], ◌∷◌, length, drop, Option, Some, None, IsSome}
+use Rattle.std.proofs.Common.{◌≡◌, ◌∙◌, sym, ap, subst, refl, ℕ, zero, suc, ◌+◌, ◌-◌, ◌<◌, ◌≤◌, arith, List, [], ◌∷◌, ◌++◌, append_assoc, append-nil, length, drop, get_or, Option, Some, None, IsSome}
 use Rattle.std.specs.Prelude.{slice_get, min, option_map, option_and_then, unwrap_or}
-use Rattle.std.proofs.lemmas.Option.{slice_get_within}
+use Rattle.std.proofs.lemmas.List.{drop_all}
+use Rattle.std.proofs.lemmas.Option.{slice_get_within, slice_get-get_or}
 use Rattle.hare_types.specs.declared.extent.Extent.{Extent}
 use Rattle.hare_types.specs.declared.row.Row.{Row}
 use Rattle.hare_types.specs.declared.coercion.Ty.TheVariants as ty
@@ -12,6 +13,7 @@ use Rattle.hare_types.specs.ByIds.{row_at, base_at, extent_at, fields_of, fields
 use Rattle.hare_layout.specs.Whole.{FieldsLieIn}
 use Rattle.hare_layout.proofs.PlacesLemmas.{fields_lie_in}
 use Rattle.hare_typed.specs.Given.{base_row}
+use Rattle.hare_typed.specs.ConstantForms.{offset_in}
 use Rattle.hare_const.specs.Sizes.{Fits, HasPart, parts_in, IsFew, AreFew, IsModest}
 
 -- ---- what is told of an extent
@@ -162,3 +164,75 @@ has_part s t k r h e l = by (fields_of r) refl l
         = ap (option_and_then (λ b. option_and_then fields_of (row_at s b))) base.1 ∙ ap (option_and_then fields_of) base.2 ∙ f in
         let found = (fields_lie_in s t h.extent h.at).placed types k fields m in
         subst IsSome (sym found.2.begins) refl
+
+-- ---- where all parts begin
+
+-- the parts are few of a type that fits
+pub few_row : (s : Store) (t : ℕ) (r : Row) → Fits s t → base_row s (ty.Of t) ≡ Some r → AreFew s r
+few_row s t r h e = by (fields_of r) refl
+  where
+    base : (b : ℕ) × (base_at s t ≡ Some b) × (row_at s b ≡ Some r)
+    base = first_some (base_at s t) (row_at s) r e
+
+    of_parts : (o : Option (List ℕ)) (i p : ℕ) → fields_of r ≡ o → slice_get (parts_in r) i ≡ Some p → slice_get (unwrap_or o []) i ≡ Some p
+    of_parts o i p f g = subst (λ q. slice_get (unwrap_or q []) i ≡ Some p) f g
+
+    by : (o : Option (List ℕ)) → fields_of r ≡ o → AreFew s r
+    by None f i p g = let none = of_parts None i p f g in absurd cc
+    by (Some types) f i p g =
+        let fields : fields_at s t ≡ Some types
+        = ap (option_and_then (λ b. option_and_then fields_of (row_at s b))) base.1 ∙ ap (option_and_then fields_of) base.2 ∙ f in
+        few_parts s t h types fields i p (of_parts (Some types) i p f g)
+
+-- where parts with these extents begin, the first from `at` on
+abbrev pub field_starts : ℕ → List Extent → List ℕ
+field_starts at [] = []
+field_starts at (x ∷ xs) = round_up at x.align ∷ field_starts (round_up at x.align + x.size) xs
+
+start_among : (at : ℕ) (xs : List Extent) (k : ℕ) → slice_get (field_starts at xs) k ≡ field_start at xs k
+start_among at [] k = refl
+start_among at (x ∷ xs) zero = refl
+start_among at (x ∷ xs) (suc k) = start_among (round_up at x.align + x.size) xs k
+
+-- one more
+pub starts_more : (end start : ℕ) (x : Extent) (zs ys : List Extent) (done new all : List ℕ) → ys ≡ x ∷ zs → start ≡ round_up end x.align →
+    new ≡ done ++ start ∷ [] → done ++ field_starts end ys ≡ all → new ++ field_starts (start + x.size) zs ≡ all
+starts_more end start x zs ys done new all e f g h =
+    ap (λ l. l ++ field_starts (start + x.size) zs) g
+    ∙ append_assoc done (start ∷ []) (field_starts (start + x.size) zs)
+    ∙ ap (λ n. done ++ n ∷ field_starts (n + x.size) zs) f
+    ∙ ap (λ l. done ++ field_starts end l) (sym e)
+    ∙ h
+
+pub starts_all : (f : ℕ → Option Extent) (ps : List ℕ) (i end : ℕ) (xs ys : List Extent) (done : List ℕ) → length ps ≤ i →
+    all_known f (drop i ps) ≡ Some ys → done ++ field_starts end ys ≡ field_starts 0 xs → (k : ℕ) → slice_get done k ≡ field_start 0 xs k
+starts_all f ps i end xs ys done l e h k =
+    let none : [] ≡ ys = let both = sym (ap (all_known f) (drop_all i ps l)) ∙ e in cc in
+    let all : done ≡ field_starts 0 xs = sym (append-nil done) ∙ ap (λ zs. done ++ field_starts end zs) none ∙ h in
+    ap (λ ns. slice_get ns k) all ∙ start_among 0 xs k
+
+-- of a type that fits they are where its parts begin
+pub starts_there : (s : Store) (t : ℕ) (r : Row) (ns : List ℕ) → Fits s t → base_row s (ty.Of t) ≡ Some r →
+    ((xs : List Extent) → all_known (extent_at s) (parts_in r) ≡ Some xs → (k : ℕ) → slice_get ns k ≡ field_start 0 xs k) →
+    (k : ℕ) → HasPart s t k → slice_get ns k ≡ offset_at s t k
+starts_there s t r ns f e h k p =
+    let q = starts s t k f p in
+    let same : q.row ≡ r = let both = sym q.here ∙ e in cc in
+    h q.extents (subst (λ y. all_known (extent_at s) (parts_in y) ≡ Some q.extents) same q.known) k ∙ q.begins ∙ sym q.at
+
+pub no_starts : (s : Store) (t : ℕ) → Fits s t → base_row s (ty.Of t) ≡ None → (k : ℕ) → HasPart s t k → slice_get [] k ≡ offset_at s t k
+no_starts s t f e k p = let both = sym (starts s t k f p).here ∙ e in absurd cc
+
+-- a part begins at one of these
+pub start_within : (s : Store) (t k : ℕ) (ns : List ℕ) → HasPart s t k → slice_get ns k ≡ offset_at s t k → k < length ns
+start_within s t k ns p e = by (slice_get ns k) refl (subst IsSome (sym e) p)
+  where
+    by : (o : Option ℕ) → slice_get ns k ≡ o → IsSome o → k < length ns
+    by None f q = absurd cc
+    by (Some n) f q = slice_get_within ns k n f
+
+pub start_found : (s : Store) (t k n d : ℕ) (ns : List ℕ) → HasPart s t k → slice_get ns k ≡ offset_at s t k → n ≡ get_or ns k d →
+    n ≡ offset_in s (ty.Of t) k
+start_found s t k n d ns p e f =
+    let here : slice_get ns k ≡ Some (get_or ns k d) = slice_get-get_or ns k d (start_within s t k ns p e) in
+    f ∙ ap (λ o. unwrap_or o 0) (sym here ∙ e)

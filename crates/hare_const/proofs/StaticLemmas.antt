@@ -19,10 +19,13 @@ use Rattle.hare_typed.specs.Constants.{own_kind}
 use Rattle.hare_typed.specs.Objects.{Object}
 use Rattle.hare_typed.specs.State.{Result, Value}
 use Rattle.hare_typed.specs.ConstantValues.{constant_object, listed_objects, objects_of, text_object, statics, statics_of_each, constant_result}
-use Rattle.hare_typed.specs.Folded.{leads, cells_named, cells_of_named, reached_in, with_cells_of, objects_behind, aborts, folded_from, folded, inconstant}
-use Rattle.hare_const.specs.NodeValues.{cells_in, IsSimple}
+use Rattle.hare_typed.specs.Folded.{leads, cells_named, cells_of_named, reached_in, with_cells_of, objects_behind, tagged_by_id, folded_from, folded, inconstant}
+use Rattle.hare_const.specs.NodeValues.{cells_in}
+use Rattle.hare_const.specs.Settled.{IsSettled}
 use Rattle.hare_const.specs.Statics.{scope_in, held, statics_in, statics_in_each, objects_in, objects_led_to, cells_found, cells_by, reached_by, listed_by}
-use Rattle.hare_const.proofs.Shown.Trees.{constant-too, plain_from}
+use Rattle.hare_const.proofs.Shown.Trees.{plain_from}
+use Rattle.hare_const.proofs.Tagged.{tagged_settled, constant_there}
+use Rattle.hare_types.specs.Sound.{IsStore}
 use Rattle.hare_const.proofs.Shown.Made.{held-append}
 use Rattle.hare_const.proofs.Shown.MadeTrees.{made_shown}
 use Rattle.hare_typed.proofs.KidLemmas.{take-get}
@@ -201,15 +204,16 @@ from_objects os (Value ds, st) cs m e =
 from_objects os (_, st) cs m e = absurd cc
 
 -- the constant with these cells
-pub folded_known : (s : Store) (own : ℕ) (t : TypedNode) (cs : List Cell) → IsSimple s t → cells_in (folded s own t) ≡ Some cs →
-    folded s own t ≡ constant.Known cs (objects_led_to (objects_in s own t) cs)
-folded_known s own t cs p e = by (inconstant s own t) refl e
+pub folded_known : (s : Store) → IsStore s → (own : ℕ) (t : TypedNode) (cs : List Cell) → IsSettled s t → cells_in (folded s own t) ≡ Some cs →
+    folded s own t ≡ constant.Known cs (objects_led_to (objects_in (tagged_by_id s) own t) cs)
+folded_known s v own t cs p e = by (inconstant s own t) refl e
   where
     by : (o : Option TypedNode) → inconstant s own t ≡ o →
-        cells_in (elim o [ None ↦ folded_from (constant_result s own t) | Some u ↦ constant.Absent ]) ≡ Some cs →
-        elim o [ None ↦ folded_from (constant_result s own t) | Some u ↦ constant.Absent ]
-        ≡ constant.Known cs (objects_led_to (objects_in s own t) cs)
+        cells_in (elim o [ None ↦ folded_from (constant_result (tagged_by_id s) own t) | Some u ↦ constant.Absent ]) ≡ Some cs →
+        elim o [ None ↦ folded_from (constant_result (tagged_by_id s) own t) | Some u ↦ constant.Absent ]
+        ≡ constant.Known cs (objects_led_to (objects_in (tagged_by_id s) own t) cs)
     by None q g =
-        from_objects (objects_in s own t) (constant_result s own t) cs
-        (λ ds. made_shown s own t (constant-too s (aborts s own) t q) (plain_from s t p) ds) g
+        from_objects (objects_in (tagged_by_id s) own t) (constant_result (tagged_by_id s) own t) cs
+        (λ ds. made_shown (tagged_by_id s) own t (constant_there s v own t p q)
+        (plain_from (tagged_by_id s) t (tagged_settled s v own t p).simple) ds) g
     by (Some u) q g = absurd cc

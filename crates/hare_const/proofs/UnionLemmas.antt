@@ -1,6 +1,6 @@
 -- Cells that stand at places among undefined ones.
 use Rattle.std.proofs.Common.{◌≡◌, ◌∙◌, sym, ap, subst, refl, ℕ, zero, suc, ◌+◌, ◌-◌, ◌%◌, ◌^◌, ◌<◌, ◌≤◌, arith, List, [], ◌∷◌, ◌++◌, length, append_assoc, drop}
-use Rattle.std.specs.Prelude.{pos, Some, unwrap_or}
+use Rattle.std.specs.Prelude.{pos, Option, Some, None, IsSome, option_map, unwrap_or}
 use Rattle.std.proofs.lemmas.List.{length-replicate, replicate-append-replicate, drop_at, length-map}
 use Rattle.std.proofs.Math.Nat.{mod-eq_of_lt}
 use Rattle.hx_base.specs.Memory.{le_bytes}
@@ -12,7 +12,10 @@ use Rattle.hare_typed.specs.Repeats.{again}
 use Rattle.hare_typed.specs.Scalars.{Number, cells}
 use Rattle.hare_typed.specs.Unions.{tag_shape, tag_of, payload_of, union_cells}
 use Rattle.hare_types.specs.Store.{Store}
-use Rattle.hare_types.specs.ByIds.{payload_at, size_at}
+use Rattle.hare_types.specs.declared.extent.Extent.{Extent}
+use Rattle.hare_types.specs.ByIds.{members_at, payload_at, size_at, align_at}
+use Rattle.hare_layout.proofs.PlacesLemmas.{payload-align}
+use Rattle.hare_const.specs.Sizes.{Fits}
 
 -- ---- undefined cells
 
@@ -108,3 +111,14 @@ union_given s u m cs tagged padded joined tag p n l b =
     ∙ ap (λ xs. with_cells 0 xs (with_cells p cs (undefined_cells n))) (sym tag_is)
     ∙ ap (λ k. with_cells 0 (cells tag_shape (Number (pos (tag_of s m)))) (with_cells k cs (undefined_cells n))) (sym start)
     ∙ ap (λ k. with_cells 0 (cells tag_shape (Number (pos (tag_of s m)))) (with_cells (payload_of s u) cs (undefined_cells k))) (sym b.size)
+
+-- the payload begins at the alignment of the union
+pub payload_aligned : (s : Store) (u n : ℕ) → Fits s u → IsSome (members_at s u) → align_at s u ≡ n → payload_at s u ≡ Some n
+payload_aligned s u n h k e = by (members_at s u) refl k
+  where
+    align : h.extent.align ≡ n
+    align = sym (ap (λ o. unwrap_or (option_map (λ (x : Extent). x.align) o) 1) h.at) ∙ e
+
+    by : (o : Option (List ℕ)) → members_at s u ≡ o → IsSome o → payload_at s u ≡ Some n
+    by None g some = absurd cc
+    by (Some is) g some = payload-align s u h.extent is h.at g ∙ ap Some align

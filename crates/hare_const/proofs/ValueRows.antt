@@ -5,10 +5,12 @@ use Rattle.hare_tree.specs.declared.kind.Kind.TheVariants as kind
 use Rattle.hare_tree.specs.declared.token.Meaning.TheVariants as meant
 use Rattle.hare_types.specs.declared.coercion.Ty.TheVariants as ty
 use Rattle.hare_typed.specs.declared.cell.Cell.{Cell}
+use Rattle.hare_typed.specs.declared.constant.Const.{Const}
 use Rattle.hare_typed.specs.declared.constant.Const.TheVariants as constant
 use Rattle.hare_typed.specs.Typed.{TypedNode, head_of}
 use Rattle.hare_typed.specs.Cells.{byte_cells, fragments}
 use Rattle.hare_typed.specs.Folded.{folded, inconstant}
+use Rattle.hare_const.specs.Lengths.{length_of}
 use Rattle.hare_const.specs.NodeValues.{cells_in}
 use Rattle.hare_const.proofs.ExampleValues.{types, node, plain, number, untyped, between, left_out, thrice, path_to}
 
@@ -69,6 +71,27 @@ null_is_zero = refl
 of_a_string : cells (plain kind.Str 5 (codes "ab") 0 2 [])
     ≡ Some (fragments (7 * 2 ^ 32 + 5) 0 0 8 ++ byte_cells (2 ∷ 0 ∷ 0 ∷ 0 ∷ 0 ∷ 0 ∷ 0 ∷ 0 ∷ []) ++ byte_cells (2 ∷ 0 ∷ 0 ∷ 0 ∷ 0 ∷ 0 ∷ 0 ∷ 0 ∷ []))
 of_a_string = refl
+
+-- the length of a text is among its cells
+abbrev eight : ℕ → List Cell
+eight n = byte_cells (n ∷ 0 ∷ 0 ∷ 0 ∷ 0 ∷ 0 ∷ 0 ∷ 0 ∷ [])
+
+length_of_string : cells (plain kind.Len 1 [] 0 4 (plain kind.Str 5 (codes "abc") 0 2 [] ∷ [])) ≡ Some (eight 3)
+length_of_string = refl
+
+length_of_no_bytes : cells (plain kind.Len 1 [] 0 4 (plain kind.Str 5 [] 0 2 [] ∷ [])) ≡ Some (eight 0)
+length_of_no_bytes = refl
+
+-- a def of type str: four bytes of an object with room for five
+abbrev text : Const
+text = constant.Known (fragments (3 * 2 ^ 32 + 1) 0 0 8 ++ eight 4 ++ eight 5) []
+
+length_of_a_text_def : cells (plain kind.Len 1 [] 0 4 (path_to 2 3 2 text ∷ [])) ≡ Some (eight 4)
+length_of_a_text_def = refl
+
+-- a def of such a length is the length of an array
+counts_items : length_of types (path_to 1 3 4 (folded types 6 (plain kind.Len 1 [] 0 4 (plain kind.Str 5 (codes "abc") 0 2 [] ∷ [])))) ≡ Some 3
+counts_items = refl
 
 -- ---- no constants
 

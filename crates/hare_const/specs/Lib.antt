@@ -4,7 +4,9 @@ pub mod Operators
 pub mod Lengths
 pub mod Covering
 pub mod Sizes
+pub mod Joined
 pub mod NodeValues
+pub mod Coerced
 pub mod Made
 pub mod Settled
 pub mod Statics

@@ -1,7 +1,7 @@
 -- The value of a typed tree, where no program runs and no object is looked at: each kind of which constants are made gives it from the values of
 -- its kids.
 use Rattle.std.specs.List.{All}
-use Rattle.std.specs.Prelude.{◌≡◌, ◌≢◌, ◌<◌, IsTrue, ℕ, zero, suc, ◌+◌, ◌-◌, ◌*◌, ◌^◌, pos, ℤ, Bool, true, false, not, ◌&&◌, bytes_eq, codes, List, [], ◌∷◌, ◌++◌, length, Option, Some, None, is_some, option_and_then, if◌then◌else◌}
+use Rattle.std.specs.Prelude.{◌≡◌, ◌<◌, ℕ, zero, suc, ◌+◌, ◌-◌, ◌*◌, ◌^◌, pos, ℤ, Bool, true, false, not, ◌&&◌, bytes_eq, codes, List, [], ◌∷◌, ◌++◌, length, Option, Some, None, is_some, option_and_then, if◌then◌else◌}
 use Rattle.hare_tree.specs.declared.kind.Kind.{Kind}
 use Rattle.hare_tree.specs.declared.kind.Kind.TheVariants as kind
 use Rattle.hare_tree.specs.declared.place.Fault.{Fault}
@@ -34,6 +34,8 @@ use Rattle.hare_typed.specs.Followed.{reached_type}
 use Rattle.hare_typed.specs.Evaluated.{is_evaluated, first_is_place}
 use Rattle.hare_typed.specs.ConstantForms.{own_type, type_of_kid, is_iconst, int_in, bool_cells, truth, is_whole, cast_cells, offset_in, part_named, made_of, counted_from, fields_from, joined, last_of, repeats, is_array_row}
 use Rattle.hare_typed.specs.ConstantValues.{without_run}
+use Rattle.hare_typed.specs.Folded.{tagged_by_id}
+use Rattle.hare_const.specs.Joined.{Joins}
 use Rattle.hare_const.specs.Operators.{IsWidth}
 use Rattle.hare_const.specs.Sizes.{Fits, HasPart}
 use Rattle.hare_const.specs.declared.operands.Operands.{Operands}
@@ -354,22 +356,16 @@ AskedKind s t kind.Arith = HasNumbers s t
 AskedKind s t kind.Shift = HasNumber s t
 AskedKind s t kind.Size = IsSized s (type_of_kid 0 t)
 AskedKind s t kind.Align = IsSized s (type_of_kid 0 t)
-AskedKind s t kind.Len = IsTrue (is_array_row (base_row s (type_of_kid 0 t)))
 AskedKind s t kind.Tuple = HasParts s (own_type t) (components_given t)
 AskedKind s t kind.StructLit = HasParts s (own_type t) (fields_given s t)
 AskedKind s t kind.Offset = HasParts s (type_with_offset s t) (part_with_offset s t ∷ [])
 AskedKind s t _ = Unit {0}
 
--- the same where it is not known yet whether the node is constant: no length is that of a text
-abbrev pub SimpleKind : Store → TypedNode → Kind → Type 0
-SimpleKind s t kind.Len = is_str s (type_of_kid 0 t) ≡ false
-SimpleKind s t k = AskedKind s t k
-
--- The tree has no union or length of a text, and compares no texts; its types are those of the store.
+-- The tree compares no texts; its types are those of the store, and of the unions to which its values go all is known of which these are made.
 abbrev mutual
   pub IsSimple : Store → TypedNode → Type 0
   IsSimple s (marked h m ts) =
-      SimpleKind s (marked h m ts) h.kind × PlainKind s h.kind ts × IsIn s m.ty × (m.coerce.row ≢ 9) × AreSimple s ts
+      AskedKind s (marked h m ts) h.kind × PlainKind s h.kind ts × IsIn s m.ty × Joins s m.ty m.coerce.row m.coerce.to × AreSimple s ts
 
   pub AreSimple : Store → TypedNodes → Type 0
   AreSimple s typed_none = Unit {0}
@@ -382,12 +378,12 @@ is_aborted (Known cs) = false
 is_aborted Aborts = true
 is_aborted Undefined = false
 
--- the first node, in check order, that is not constant or whose value would abort
+-- The first node, in check order, that is not constant or whose value would abort. In values the tag of a type is one more than its id.
 abbrev pub first_refused : Store → (own : ℕ) → TypedNode → Option TypedNode
-first_refused s own t = first_inconstant s (λ u. is_aborted (tree_value s own u)) t
+first_refused s own t = first_inconstant s (λ u. is_aborted (tree_value (tagged_by_id s) own u)) t
 
 abbrev pub first_refused_of : Store → (own : ℕ) → TypedNodes → Option TypedNode
-first_refused_of s own ts = first_inconstant_of s (λ u. is_aborted (tree_value s own u)) ts
+first_refused_of s own ts = first_inconstant_of s (λ u. is_aborted (tree_value (tagged_by_id s) own u)) ts
 
 -- that a node is no constant
 abbrev pub not_constant : TypedNode → Fault
@@ -404,7 +400,7 @@ is_constant_node s t = is_constant s (own_kind t) (mark_of t) (kids_of t)
 
 -- the fault is that the node itself is no constant, where its kids have these values
 abbrev pub RefusesNode : Store → (own : ℕ) → TypedNode → List Outcome → Stop Fault → Type 0
-RefusesNode s own t os (stop.Fault f) = (f ≡ not_constant t) × ((is_constant_node s t && not (is_aborted (node_value s own t os))) ≡ false)
+RefusesNode s own t os (stop.Fault f) = (f ≡ not_constant t) × ((is_constant_node s t && not (is_aborted (node_value (tagged_by_id s) own t os))) ≡ false)
 RefusesNode s own t os stop.Memory = Unit {0}
 
 -- ---- constants

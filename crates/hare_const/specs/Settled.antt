@@ -1,5 +1,5 @@
 -- Trees whose constants can be told, and are in each later store the same.
-use Rattle.std.specs.Prelude.{◌≡◌, ◌≢◌, ℕ, IsSome}
+use Rattle.std.specs.Prelude.{◌≡◌, ℕ, IsSome}
 use Rattle.hare_types.specs.declared.coercion.Ty.{Ty}
 use Rattle.hare_types.specs.declared.coercion.Ty.TheVariants as kept
 use Rattle.hare_types.specs.Store.{Store}
@@ -8,8 +8,9 @@ use Rattle.hare_types.specs.Later.{IsLater}
 use Rattle.hare_types.specs.ByIds.{base_at}
 use Rattle.hare_typed.specs.Typed.{TypedNode, TypedNodes, marked, typed_none, typed_more, mark_of, kids_of}
 use Rattle.hare_typed.specs.Constants.{own_kind}
-use Rattle.hare_typed.specs.Folded.{folded, inconstant}
-use Rattle.hare_const.specs.NodeValues.{tree_value, SimpleKind, PlainKind, IsSimple, cells_in}
+use Rattle.hare_typed.specs.Folded.{tagged_by_id, folded, inconstant}
+use Rattle.hare_const.specs.Joined.{Joins}
+use Rattle.hare_const.specs.NodeValues.{tree_value, AskedKind, PlainKind, IsSimple, cells_in}
 
 -- ---- types
 
@@ -38,11 +39,11 @@ pub record IsSettled (s : Store) (t : TypedNode) : Type 0 where
 
 -- the same of a node, but for its kids
 pub record IsSettledNode (s : Store) (t : TypedNode) : Type 0 where
-  pub simple : SimpleKind s t (own_kind t)
+  pub simple : AskedKind s t (own_kind t)
   pub plain : PlainKind s (own_kind t) (kids_of t)
   pub own : HasBase s (mark_of t).ty
   pub to : HasBase s (mark_of t).coerce.to
-  pub row : (mark_of t).coerce.row ≢ 9
+  pub joins : Joins s (mark_of t).ty (mark_of t).coerce.row (mark_of t).coerce.to
 
 abbrev pub AreSettled : Store → TypedNodes → Type 0
 AreSettled s typed_none = Unit {0}
@@ -53,7 +54,7 @@ AreSettled s (typed_more t ts) = IsSettled s t × AreSettled s ts
 -- a tree is as settled in the later store, with the same value, the same first node that is no constant, and the same cells
 pub record KeepsConstant (now later : Store) (own : ℕ) (t : TypedNode) : Type 0 where
   pub settled : IsSettled later t
-  pub value : tree_value later own t ≡ tree_value now own t
+  pub value : tree_value (tagged_by_id later) own t ≡ tree_value (tagged_by_id now) own t
   pub inconstant : inconstant later own t ≡ inconstant now own t
   pub cells : cells_in (folded later own t) ≡ cells_in (folded now own t)
 

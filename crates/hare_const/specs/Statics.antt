@@ -9,7 +9,7 @@ use Rattle.hare_typed.specs.Objects.{Object}
 use Rattle.hare_typed.specs.Typed.{TypedNode, TypedNodes}
 use Rattle.hare_typed.specs.State.{Scope}
 use Rattle.hare_typed.specs.ConstantValues.{listed_objects, statics, statics_of_each}
-use Rattle.hare_typed.specs.Folded.{led_to, leads, objects_behind}
+use Rattle.hare_typed.specs.Folded.{leads, objects_behind}
 use Rattle.hare_const.specs.Made.{made_by}
 
 -- where the value of a declaration is evaluated
@@ -38,11 +38,6 @@ objects_led_to os cs = objects_behind (listed_objects os) cs
 -- the cells of the first object with this number
 abbrev pub cells_found : List ConstObject → ℕ → Option (List Cell)
 cells_found os n = option_map (λ o. o.cells) (lookup (nat_eq n) (listed_objects os))
-
--- to what a cell leads, where there is one
-abbrev pub led_by : Option Cell → List ℕ
-led_by None = []
-led_by (Some c) = led_to c
 
 -- ---- what is reached where the cells of objects are looked up
 

@@ -1,4 +1,4 @@
-//! Casts and coercions.
+//! Casts.
 
 ghost use Rattle.std.specs.Prelude.{◌≡◌, ◌≢◌, ◌++◌, ◌-◌, ◌<◌, ◌^◌, IfOk, OnOk, IsTrue, option_map, false};
 ghost use Rattle.hare_types.specs.declared.coercion.Ty.TheVariants as ty;
@@ -50,44 +50,4 @@ pub(crate) fn cast_value(
     let mut copy = Cells::new(alloc);
     copy.append(alloc, cells)?;
     Ok(copy)
-}
-
-/// Whether the base of a type is a slice.
-fn is_slice(s: &TypeStore, t: TypeId) -> bool
-    ensures { result ≡ spec.is_slice_type s.now t }
-{
-    matches!(base_row(s, t), Some(Row::Slice(_)))
-}
-
-/// The value of a node as its coercion gives it, where this gives no union: by the row of the table of assignability a number at the type, null, a
-/// slice over the node's object, or the value as it is. The object of an array that becomes a slice is put behind the others.
-pub(crate) fn coerced_cells(
-    alloc: Global,
-    s: &TypeStore,
-    own: u32,
-    t: &Typed,
-    cells: Cells,
-    made: &mut ConstObjects,
-) -> Result<Cells, AllocError>
-    requires own { own < 2 ^ 32 - 1 }
-    requires types { IsIn s.now (own_type t.now) }
-    requires simple { (mark_of t.now).coerce.row ≢ 9 }
-    ensures value { IfOk result (λ cs. Known cs ≡ spec.coerced_value s.now own t.now cells) }
-    ensures made { OnOk result (made.new ≡ made.old ++ own_object s.now own t.now cells) }
-{
-    let Ty::Of(to) = t.coerce.to else {
-        return Ok(cells);
-    };
-    match t.coerce.row {
-        3 | 4 => number_cells(alloc, s, t.coerce.to, number_of_value(s, t.ty, &cells)),
-        6 => null_cells(alloc),
-        7 if is_slice(s, to) => {
-            made.push(ConstObject {
-                object: object_number(own, t),
-                cells,
-            })?;
-            slice_of(alloc, own, t, length_of_value(s, t.ty))
-        }
-        _ => Ok(cells),
-    }
 }

@@ -3,9 +3,10 @@
 ghost use Rattle.std.specs.Prelude.{◌≡◌, ◌++◌, ◌-◌, ◌<◌, ◌^◌, None, IfOk, IfErr, OnOk};
 ghost use Rattle.hare_types.specs.Store.{Store};
 ghost use Rattle.hare_types.specs.Later.{IsLater};
-ghost use Rattle.hare_typed.specs.Folded.{folded, inconstant};
+ghost use Rattle.hare_typed.specs.Folded.{tagged_by_id, folded, inconstant};
 ghost use Rattle.hare_const.specs.Made.{made_by};
 ghost use Rattle.hare_const.specs.NodeValues as spec;
+ghost use Rattle.hare_const.specs.Settled.{IsSettled};
 
 use crate::outcome::Outcome;
 use crate::reached::objects_led_to;
@@ -36,11 +37,12 @@ fn cells_and_objects(
     objects: &mut ConstObjects,
 ) -> Result<Option<Cells>, Stop<Fault>>
     requires own { own < 2 ^ 32 - 1 }
-    requires simple { spec.IsSimple s.now t.now }
+    requires settled { IsSettled s.now t.now }
     ensures ok { IfOk result (λ cells. (inconstant s.now own t.now ≡ None) × (spec.cells_in (folded s.now own t.now) ≡ cells)) }
-    ensures objects { OnOk result (objects.new ≡ objects.old ++ made_by s.now own t.now) }
+    ensures objects { OnOk result (objects.new ≡ objects.old ++ made_by (tagged_by_id s.now) own t.now) }
     ensures err { IfErr result (spec.Refuses (inconstant s.now own t.now)) }
 {
+    let _law = s.declarations();
     let outcome = tree_value(alloc, s, own, t, objects)?;
     Ok(cells_of(outcome))
 }
@@ -49,8 +51,9 @@ fn cells_and_objects(
 /// constant or whose evaluation would abort, also where it would not run. `None` where the evaluation meets an undefined act, which it does in no tree
 /// that was checked.
 ///
-/// The conditions are that each node has what its rules ask for, and that no node is the length of a text or an equality of texts, and none is coerced
-/// to a union. Each node is evaluated once, and the call goes as deep in the host as the tree is. The parts of a tuple take the memory of their own
+/// The condition is the one that `is_settled` tests: each node has what its rules ask for, no node is an equality of texts, and of the types all is
+/// known of which values are made. In a union the tag of a type is one more than its id. Each node is evaluated once, and the call goes as deep in the
+/// host as the tree is. The parts of a tuple take the memory of their own
 /// cells, and so do the fields of a struct that are written in the order of its type; where a field is written behind a later one, each cell that is
 /// known by then is copied once more.
 pub fn constant_cells(
@@ -60,7 +63,7 @@ pub fn constant_cells(
     t: &Typed,
 ) -> Result<Option<Cells>, Stop<Fault>>
     requires own { own < 2 ^ 32 - 1 }
-    requires simple { spec.IsSimple s.now t.now }
+    requires settled { IsSettled s.now t.now }
     ensures ok { IfOk result (λ cells. (inconstant s.now own t.now ≡ None) × (spec.cells_in (folded s.now own t.now) ≡ cells)) }
     ensures err { IfErr result (spec.Refuses (inconstant s.now own t.now)) }
 {
@@ -72,9 +75,11 @@ pub fn constant_cells(
 /// It is the constant over each later store too. The objects of strings, and of arrays that become slices, to which its cells lead are listed with it.
 ///
 /// Where the store or the tree tells too little, the answer is want of memory: so it is of a tree with a type that comes to a name which is not
-/// defined, or with a tuple or struct whose size is not known to be at most 67,108,864 bytes, or with parts that its type has not; and of cells that
+/// defined, or with a tuple or struct whose size is not known to be at most 67,108,864 bytes, or with parts that its type has not; of a value that goes to a
+/// union of which, or of whose members, so much is not known; and of cells that
 /// lead to objects which are not there, where there are more of these than there are objects. It is so also of what the crate does not work out yet:
-/// lengths and equalities of texts, and values of unions. The time is that of the tree and of the cells, and n log n in the objects.
+/// equalities of texts. The tag of a type in a union is one more than its id, in each store. The time is that of the tree and of the cells, and n log n
+/// in the objects.
 pub fn constant(alloc: Global, s: &TypeStore, own: u32, t: &Typed) -> Result<Const, AllocError>
     requires own { own < 2 ^ 32 - 1 }
     ensures { IfOk result (λ c. (l : Store) → IsLater s.now l → c ≡ folded l own t.now) }

@@ -5,9 +5,11 @@ mod addresses;
 mod array;
 mod calculated;
 mod casts;
+mod coercions;
 mod constancy;
 mod cover;
 mod folded;
+mod joined;
 mod kids;
 mod laws;
 mod length;
@@ -19,6 +21,7 @@ mod operands;
 mod operators;
 mod outcome;
 mod parts;
+mod payloads;
 mod placing;
 mod reached;
 mod settled;
@@ -31,6 +34,7 @@ mod taken;
 mod tests;
 mod unions;
 mod walk;
+mod words;
 
 pub use cover::{Limits, covers, limits_at};
 pub use folded::{constant, constant_cells};
@@ -42,4 +46,3 @@ pub use operators::{
     leaves_open, negated, same_number, shifted,
 };
 pub use settled::is_settled;
-pub use unions::union_cells;

@@ -8,6 +8,7 @@ ghost use Rattle.hare_typed.specs.Coercions as coercions;
 ghost use Rattle.hare_typed.specs.ConstantForms.{type_of_kid as kid_type, is_array_row};
 ghost use Rattle.hare_types.specs.declared.coercion.Ty.TheVariants as ty;
 ghost use Rattle.hare_types.specs.Assign.{IsIn};
+ghost use Rattle.hare_const.specs.declared.outcome.Outcome.TheVariants.{Known};
 ghost use Rattle.hare_const.specs.NodeValues as spec;
 
 use crate::kids::type_of_kid;
@@ -15,6 +16,7 @@ use crate::number::number_cells;
 use crate::parts::{part_named, part_number};
 use crate::shape::base_row;
 use crate::sizes::{align_of, offset_of, size_of};
+use crate::words::length_of_text;
 use hare_typed::{Cells, Typed};
 use hare_types::{Row, Ty, TypeId, TypeStore};
 use std::alloc::{AllocError, Global};
@@ -145,11 +147,7 @@ pub(crate) fn length_of_value(s: &TypeStore, t: Ty) -> u64
 }
 
 /// The value of `len(..)` of an array, whose length its type has.
-pub(crate) fn array_length_value(
-    alloc: Global,
-    s: &TypeStore,
-    t: &Typed,
-) -> Result<Cells, AllocError>
+fn array_length_value(alloc: Global, s: &TypeStore, t: &Typed) -> Result<Cells, AllocError>
     ensures { IfOk result (λ cells. cells ≡ spec.array_length_value s.now t.now) }
 {
     number_cells(
@@ -158,4 +156,33 @@ pub(crate) fn array_length_value(
         t.ty,
         i128::from(length_of_base(s, type_of_kid(t, 0))),
     )
+}
+
+/// Whether the base of a type is an array.
+fn is_array(s: &TypeStore, t: Ty) -> bool
+    ensures { result ≡ is_array_row (row_of_base s.now t) }
+{
+    let Ty::Of(t) = t else {
+        return false;
+    };
+    matches!(base_row(s, t), Some(Row::Array(_, _)))
+}
+
+/// The value of `len(..)`: the length of an array is in its type, and that of a text among its cells. Cells that are no text are want of memory; no
+/// tree that was checked comes to them.
+pub(crate) fn length_value(
+    alloc: Global,
+    s: &TypeStore,
+    t: &Typed,
+    cells: &Cells,
+) -> Result<Cells, AllocError>
+    ensures { IfOk result (λ cs. Known cs ≡ spec.length_value s.now t.now cells.now) }
+{
+    if is_array(s, type_of_kid(t, 0)) {
+        return array_length_value(alloc, s, t);
+    }
+    match length_of_text(cells) {
+        Some(length) => number_cells(alloc, s, t.ty, i128::from(length)),
+        None => Err(AllocError),
+    }
 }

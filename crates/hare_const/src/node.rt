@@ -1,14 +1,13 @@
 //! The value of a node from those of its kids.
 
-ghost use Rattle.std.specs.Prelude.{◌≡◌, ◌≢◌, ◌++◌, ◌-◌, ◌<◌, ◌^◌, IfOk, OnOk};
-ghost use Rattle.hare_types.specs.Assign.{IsIn};
-ghost use Rattle.hare_typed.specs.Typed.{mark_of};
+ghost use Rattle.std.specs.Prelude.{◌≡◌, ◌++◌, ◌-◌, ◌<◌, ◌^◌, IfOk, OnOk};
+ghost use Rattle.hare_typed.specs.Folded.{tagged_by_id};
 ghost use Rattle.hare_typed.specs.Constants.{own_kind};
 ghost use Rattle.hare_typed.specs.Evaluated.{is_evaluated as evaluated};
-ghost use Rattle.hare_typed.specs.ConstantForms.{own_type};
 ghost use Rattle.hare_const.specs.declared.outcome.Outcome.TheVariants.{Known};
 ghost use Rattle.hare_const.specs.NodeValues as spec;
 ghost use Rattle.hare_const.specs.Made.{made_of_node};
+ghost use Rattle.hare_const.specs.Settled.{IsSettled};
 
 use crate::addresses::{address_value, literal_text};
 use crate::array::array_value;
@@ -16,11 +15,12 @@ use crate::calculated::{
     arithmetic_value, complement, denial, equality_value, logic_value, negation, order_value,
     shift_value,
 };
-use crate::casts::{cast_value, coerced_cells};
+use crate::casts::cast_value;
+use crate::coercions::coerced_cells;
 use crate::constancy::is_evaluated;
 use crate::kids::kid_at;
 use crate::literals::{cells_known, literal, literal_bool};
-use crate::measures::{align_value, array_length_value, offset_value, size_value};
+use crate::measures::{align_value, length_value, offset_value, size_value};
 use crate::operands::{Operands, operands_of};
 use crate::outcome::Outcome;
 use crate::parts::{struct_value, tuple_value};
@@ -67,7 +67,7 @@ fn unary_value(alloc: Global, s: &TypeStore, t: &Typed, cells: &Cells) -> Result
         Kind::Not => complement(alloc, s, t, cells),
         Kind::Bang => denial(alloc, cells),
         Kind::Cast => cast_value(alloc, s, t, cells),
-        Kind::Len => array_length_value(alloc, s, t),
+        Kind::Len => length_value(alloc, s, t, cells),
         _ => copied(alloc, cells),
     }
 }
@@ -157,11 +157,11 @@ pub(crate) fn node_value(
 ) -> Result<Outcome, AllocError>
     requires own { own < 2 ^ 32 - 1 }
     requires asked { spec.AskedKind s.now t.now (own_kind t.now) }
-    requires types { IsIn s.now (own_type t.now) }
-    requires simple { (mark_of t.now).coerce.row ≢ 9 }
-    ensures value { IfOk result (λ o. o ≡ spec.node_value s.now own t.now kids.now) }
-    ensures made { OnOk result (made.new ≡ made.old ++ made_of_node s.now own t.now (own_kind t.now) kids.now) }
+    requires settled { IsSettled s.now t.now }
+    ensures value { IfOk result (λ o. o ≡ spec.node_value (tagged_by_id s.now) own t.now kids.now) }
+    ensures made { OnOk result (made.new ≡ made.old ++ made_of_node (tagged_by_id s.now) own t.now (own_kind t.now) kids.now) }
 {
+    let _law = s.declarations();
     if !is_evaluated(t.kind) {
         return Ok(Outcome::Known(Cells::new(alloc)));
     }

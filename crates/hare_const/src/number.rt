@@ -106,7 +106,7 @@ fn number_by(shape: Shape, cells: &[Cell]) -> Option<i128>
 }
 
 /// The number that the cells of a value of a type spell.
-fn number_at(s: &TypeStore, t: TypeId, cells: &Cells) -> Option<i128>
+pub(crate) fn number_at(s: &TypeStore, t: TypeId, cells: &Cells) -> Option<i128>
     ensures value { result ≡ spec.number_by (spec_shape_at s.now t) cells.now }
     ensures low { IfSome result (λ v. neg_ℤ (pos (2 ^ 63)) ≤ℤ v) }
     ensures high { IfSome result (λ v. v <ℤ pos (2 ^ 64)) }

@@ -17,7 +17,7 @@ use crate::kids::kid_at;
 use crate::outcome::Outcome;
 use crate::placing::with_part;
 use crate::shape::base_row;
-use crate::sizes::{offset_of, size_of};
+use crate::sizes::{size_of, starts_of};
 use crate::unions::with_undefined;
 use hare_typed::{Cells, Typed};
 use hare_types::{Row, Ty, TypeId, TypeStore};
@@ -84,7 +84,8 @@ fn fields_given(alloc: Global, s: &TypeStore, of: TypeId, t: &Typed) -> Result<V
     Ok(places)
 }
 
-/// Parts at their offsets, in this order, which are the values of the kids from one on; `none` stands for a kid that is not there.
+/// Parts at their offsets, in this order, which are the values of the kids from one on; `none` stands for a kid that is not there. Where each part of
+/// the type begins is worked out once.
 fn laid(
     alloc: Global,
     s: &TypeStore,
@@ -101,11 +102,12 @@ fn laid(
     ensures { IfOk result (λ o. o ≡ spec.kids_at from (length parts.now) kids.now (λ cs. Known (forms.made_of s.now (ty.Of of) parts.now cs))) }
 {
     let size = size_of(s, of) as usize;
+    let starts = starts_of(alloc, s, of)?;
     let mut whole = Cells::new(alloc);
     for i in 0..parts.len() {
         match kid_at(kids, from + i, none) {
             Outcome::Known(cells) => {
-                let start = offset_of(s, of, parts[i]);
+                let start = starts[parts[i] as usize];
                 whole = with_part(alloc, whole, size, start as usize, cells)?;
             }
             Outcome::Aborts => return Ok(Outcome::Aborts),

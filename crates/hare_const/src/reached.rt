@@ -3,6 +3,7 @@
 ghost use Rattle.std.specs.Prelude.{◌≡◌, ◌∷◌, [], slice_get, option_to_list, IfOk, OnOk};
 ghost use Rattle.std.specs.Ordering.{nat_cmp};
 ghost use Rattle.std.specs.BTreeMap.{get};
+ghost use Rattle.hare_typed.specs.Folded as folded;
 ghost use Rattle.hare_typed.specs.Folded.{leads};
 ghost use Rattle.hare_types.specs.Unions.{ascending};
 ghost use Rattle.hare_const.specs.Statics as spec;
@@ -23,20 +24,18 @@ struct Met {
 }
 
 /// The number of the object to which a cell leads, where it leads to one that is no global.
-fn led_to(cell: Option<Cell>) -> Option<u64>
-    ensures { option_to_list result ≡ spec.led_by cell }
+fn led_to(cell: Cell) -> Option<u64>
+    ensures { option_to_list result ≡ folded.led_to cell }
 {
     match cell {
-        Some(Cell::Fragment(object, _, _)) => {
+        Cell::Fragment(object, _, _) => {
             if object < FIRST_OBJECT {
                 None
             } else {
                 Some(object)
             }
         }
-        Some(Cell::Byte(_)) => None,
-        Some(Cell::Undef) => None,
-        None => None,
+        Cell::Byte(_) | Cell::Undef => None,
     }
 }
 
@@ -53,10 +52,10 @@ fn meet(met: &mut Met, n: u64) -> Result<(), AllocError>
 }
 
 /// Meets the object to which a cell leads, where it leads to one.
-fn meet_from(met: &mut Met, cell: Option<Cell>) -> Result<(), AllocError>
+fn meet_from(met: &mut Met, cell: Cell) -> Result<(), AllocError>
     requires { met.old.numbers.keys ≡ ascending met.old.order.items }
     ensures numbers { OnOk result (met.new.numbers.keys ≡ ascending met.new.order.items) }
-    ensures order { OnOk result (spec.Adds (spec.led_by cell) met.old.order.items met.new.order.items) }
+    ensures order { OnOk result (spec.Adds (folded.led_to cell) met.old.order.items met.new.order.items) }
 {
     match led_to(cell) {
         Some(n) => meet(met, n),
@@ -64,14 +63,15 @@ fn meet_from(met: &mut Met, cell: Option<Cell>) -> Result<(), AllocError>
     }
 }
 
-/// Meets the objects to which cells lead.
+/// Meets the objects to which cells lead. A cell that is repeated is looked at once.
 fn meet_led(met: &mut Met, cells: &Cells) -> Result<(), AllocError>
     requires { met.old.numbers.keys ≡ ascending met.old.order.items }
     ensures numbers { OnOk result (met.new.numbers.keys ≡ ascending met.new.order.items) }
     ensures order { OnOk result (spec.Adds (leads cells.now) met.old.order.items met.new.order.items) }
 {
-    for i in 0..cells.len() {
-        meet_from(met, cells.get(i))?;
+    let kept = cells.kept();
+    for cell in kept {
+        meet_from(met, *cell)?;
     }
     Ok(())
 }

@@ -14,6 +14,7 @@ ghost use Rattle.hare_const.specs.NodeValues as values;
 ghost use Rattle.hare_const.specs.Settled as spec;
 
 use crate::constancy::{is_global_path, names_void};
+use crate::joined::joins;
 use crate::kids::{first_given, type_of_kid};
 use crate::measures::{part_with_offset, type_with_offset};
 use crate::parts::part_named;
@@ -22,9 +23,6 @@ use crate::sizes::{fits, has_part, part_count};
 use hare_tree::Kind;
 use hare_typed::{Typed, TypedKids};
 use hare_types::{Row, Scalar, Ty, TypeId, TypeStore};
-
-/// The number of the row of the table of assignability by which a value goes to a union.
-const TO_UNION: u8 = 9;
 
 /// Literals below this are numbers of some type.
 const END_OF_NUMBERS: u128 = 1 << 127;
@@ -149,16 +147,15 @@ fn has_offset(s: &TypeStore, t: &Typed) -> bool
     fits(s, whole) && has_part(s, whole, part_with_offset(s, whole, t))
 }
 
-/// Whether a node has what each node of its kind has that meets its rules, and is not the length of a text.
-fn is_simple_kind(s: &TypeStore, t: &Typed) -> bool
-    ensures { result ≡ true → values.SimpleKind s.now t.now (own_kind t.now) }
+/// Whether a node has what each node of its kind has that meets its rules.
+fn is_asked_kind(s: &TypeStore, t: &Typed) -> bool
+    ensures { result ≡ true → values.AskedKind s.now t.now (own_kind t.now) }
 {
     match t.kind {
         Kind::Number | Kind::RuneLit => t.number < END_OF_NUMBERS,
         Kind::Neg | Kind::Not | Kind::Shift => has_number(s, t),
         Kind::Arith => has_numbers(s, t),
         Kind::Size | Kind::Align => is_sized(s, type_of_kid(t, 0)),
-        Kind::Len => !is_str(s, type_of_kid(t, 0)),
         Kind::Tuple => gives_components(s, t),
         Kind::StructLit => gives_fields(s, t),
         Kind::Offset => has_offset(s, t),
@@ -196,8 +193,8 @@ fn is_settled_node(s: &TypeStore, t: &Typed) -> bool
 {
     has_base(s, t.ty)
         && has_base(s, t.coerce.to)
-        && t.coerce.row != TO_UNION
-        && is_simple_kind(s, t)
+        && joins(s, t)
+        && is_asked_kind(s, t)
         && is_plain_kind(s, t)
 }
 

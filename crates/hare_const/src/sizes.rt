@@ -1,6 +1,6 @@
 //! Sizes of types, and where their parts begin.
 
-ghost use Rattle.std.specs.Prelude.{◌≡◌, ◌<◌, ◌≤◌, ◌+◌, ◌^◌, List, true, length, slice_get, Some, IfSome};
+ghost use Rattle.std.specs.Prelude.{◌≡◌, ◌<◌, ◌≤◌, ◌+◌, ◌^◌, ℕ, List, true, length, slice_get, Some, IfSome, IfOk};
 ghost use Rattle.hare_types.specs.declared.extent.Extent.{Extent as ExtentOf};
 ghost use Rattle.hare_types.specs.ByIds.{extent_at, size_at, align_at, offset_at};
 ghost use Rattle.hare_types.specs.Kept.{all_known};
@@ -9,6 +9,7 @@ ghost use Rattle.hare_const.specs.Sizes as spec;
 
 use crate::shape::base_row;
 use hare_types::{Extent, Row, TypeId, TypeStore};
+use std::alloc::{AllocError, Global};
 
 /// The most bytes that a type has which a program may spell.
 const MOST_BYTES: u64 = 67_108_864;
@@ -106,6 +107,40 @@ fn start_of(s: &TypeStore, row: &Row, k: usize) -> Option<u128>
     match extent_of(s, part_at(row, k)) {
         Some(x) => Some(round_up(end, x.align)),
         None => None,
+    }
+}
+
+/// Where the parts of a struct or tuple of this row begin, in their order. Want of memory where the extent of one is not known, or one would begin
+/// behind the greatest type; of a type that fits neither is so.
+fn starts_in(alloc: Global, s: &TypeStore, row: &Row) -> Result<Vec<u64>, AllocError>
+    requires { spec.AreFew s.now row.now }
+    ensures { IfOk result (λ starts. (xs : List ExtentOf) → all_known (extent_at s.now) (spec.parts_in row.now) ≡ Some xs → (k : ℕ) → slice_get starts.items k ≡ field_start 0 xs k) }
+{
+    let mut starts = Vec::new(alloc);
+    let mut end = 0;
+    for i in 0..part_count(row) {
+        let Some(x) = extent_of(s, part_at(row, i)) else {
+            return Err(AllocError);
+        };
+        let start = round_up(u128::from(end), x.align) as u64;
+        if start > MOST_BYTES {
+            return Err(AllocError);
+        }
+        starts.push(start)?;
+        end = start + x.size;
+    }
+    Ok(starts)
+}
+
+/// Where each part of a type begins: how many bytes behind the first byte of the whole. Names and error marks of the type are followed. The time is
+/// that of the parts.
+pub(crate) fn starts_of(alloc: Global, s: &TypeStore, t: TypeId) -> Result<Vec<u64>, AllocError>
+    requires { spec.Fits s.now t }
+    ensures { IfOk result (λ starts. (k : ℕ) → spec.HasPart s.now t k → slice_get starts.items k ≡ offset_at s.now t k) }
+{
+    match base_row(s, t) {
+        Some(row) => starts_in(alloc, s, row),
+        None => Ok(Vec::new(alloc)),
     }
 }
 

@@ -1,13 +1,14 @@
 //! The cells of values of unions.
 
-ghost use Rattle.std.specs.Prelude.{◌≡◌, ◌≤◌, ◌+◌, ◌++◌, length, IfOk, IsSome};
-ghost use Rattle.hare_types.specs.ByIds.{members_at, size_at};
-ghost use Rattle.hare_layout.specs.Small.{IsSmall};
+ghost use Rattle.std.specs.Prelude.{◌≡◌, ◌<◌, ◌++◌, length, Some, IfOk, IsSome};
+ghost use Rattle.hare_types.specs.ByIds.{members_at, payload_at};
 ghost use Rattle.hare_typed.specs.Cells.{undefined_cells};
+ghost use Rattle.hare_typed.specs.Folded.{tagged_by_id};
 ghost use Rattle.hare_typed.specs.Unions as spec;
+ghost use Rattle.hare_const.specs.Sizes.{Fits};
 
 use crate::number::byte_cells_of;
-use hare_layout::{payload_of, size_of};
+use crate::sizes::{align_of, size_of};
 use hare_typed::{Cell, Cells};
 use hare_types::{TypeId, TypeStore};
 use std::alloc::{AllocError, Global};
@@ -28,26 +29,38 @@ pub(crate) fn with_undefined(mut cells: Cells, count: usize) -> Result<Cells, Al
     Ok(cells)
 }
 
-/// The cells of a union's value, of these cells of one of its members: the member's tag, and at the place of the payload its cells. All other cells
-/// are undefined, and take the memory of one. The conditions are that the type is small enough for `size_of`, and comes to a union with room for
-/// the cells behind the tag.
-pub fn union_cells(
+/// Where the payload of a union begins: how many bytes behind the first byte of the whole, whichever member it is of.
+pub(crate) fn payload_of(s: &TypeStore, t: TypeId) -> u64
+    requires fits { Fits s.now t }
+    requires union { IsSome (members_at s.now t) }
+    ensures { payload_at s.now t ≡ Some result }
+{
+    align_of(s, t)
+}
+
+/// The cells of a union's value in a constant, of these cells of one of its members: the member's tag, which is one more than the member's id, and at
+/// the place of the payload its cells. All other cells are undefined, and take the memory of one. The conditions are that the size of the union can be
+/// told, and that the member is in the store. Where the cells have no room behind the tag, the answer is want of memory: no union has such a member.
+pub(crate) fn union_cells(
     alloc: Global,
     s: &TypeStore,
     of_union: TypeId,
     member: TypeId,
     cells: &Cells,
 ) -> Result<Cells, AllocError>
-    requires small { IsSmall s.now of_union }
+    requires fits { Fits s.now of_union }
     requires union { IsSome (members_at s.now of_union) }
-    requires behind { 4 ≤ spec.payload_of s.now of_union }
-    requires within { spec.payload_of s.now of_union + length cells.now ≤ size_at s.now of_union }
-    ensures { IfOk result (λ whole. whole ≡ spec.union_cells s.now of_union member cells.now) }
+    requires member { member < length s.now.rows }
+    ensures { IfOk result (λ whole. whole ≡ spec.union_cells (tagged_by_id s.now) of_union member cells.now) }
 {
+    let _law = s.declarations();
     let payload = payload_of(s, of_union) as usize;
     let size = size_of(s, of_union) as usize;
-    let tag = s.tag(member).unwrap_or(0);
-    let tagged = byte_cells_of(alloc, u64::from(tag), TAG_CELLS as u32)?;
+    if payload < TAG_CELLS || size < payload || size - payload < cells.len() {
+        return Err(AllocError);
+    }
+    let tag = u64::from(member.index()) + 1;
+    let tagged = byte_cells_of(alloc, tag, TAG_CELLS as u32)?;
     let mut whole = with_undefined(tagged, payload - TAG_CELLS)?;
     whole.append(alloc, cells)?;
     with_undefined(whole, size - payload - cells.len())

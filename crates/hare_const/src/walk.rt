@@ -3,7 +3,9 @@
 ghost use Rattle.std.specs.Prelude.{◌≡◌, ◌++◌, ◌-◌, ◌<◌, ◌^◌, true, false, if◌then◌else◌, take, None, IfOk, IfErr, OnOk};
 ghost use Rattle.hare_typed.specs.Typed.{typed_nodes};
 ghost use Rattle.hare_typed.specs.Constants.{own_kind};
+ghost use Rattle.hare_typed.specs.Folded.{tagged_by_id};
 ghost use Rattle.hare_const.specs.Made as objects;
+ghost use Rattle.hare_const.specs.Settled.{IsSettled, AreSettled};
 ghost use Rattle.hare_const.specs.NodeValues as spec;
 
 use crate::constancy::{hides_kids, is_constant, is_type};
@@ -39,9 +41,9 @@ fn own_outcome(
     made: &mut ConstObjects,
 ) -> Result<Outcome, Stop<Fault>>
     requires own { own < 2 ^ 32 - 1 }
-    requires simple { spec.IsSimple s.now t.now }
-    ensures ok { IfOk result (λ o. (spec.is_constant_node s.now t.now ≡ true) × (o ≡ spec.node_value s.now own t.now kids.now) × (spec.is_aborted o ≡ false)) }
-    ensures made { OnOk result (made.new ≡ made.old ++ objects.made_of_node s.now own t.now (own_kind t.now) kids.now) }
+    requires settled { IsSettled s.now t.now }
+    ensures ok { IfOk result (λ o. (spec.is_constant_node s.now t.now ≡ true) × (o ≡ spec.node_value (tagged_by_id s.now) own t.now kids.now) × (spec.is_aborted o ≡ false)) }
+    ensures made { OnOk result (made.new ≡ made.old ++ objects.made_of_node (tagged_by_id s.now) own t.now (own_kind t.now) kids.now) }
     ensures err { IfErr result (spec.RefusesNode s.now own t.now kids.now) }
 {
     if is_constant(s, t) {
@@ -75,9 +77,9 @@ pub(crate) fn tree_value(
     made: &mut ConstObjects,
 ) -> Result<Outcome, Stop<Fault>>
     requires own { own < 2 ^ 32 - 1 }
-    requires simple { spec.IsSimple s.now t.now }
-    ensures ok { IfOk result (λ o. (o ≡ spec.tree_value s.now own t.now) × (spec.first_refused s.now own t.now ≡ None)) }
-    ensures made { OnOk result (made.new ≡ made.old ++ objects.made_by s.now own t.now) }
+    requires settled { IsSettled s.now t.now }
+    ensures ok { IfOk result (λ o. (o ≡ spec.tree_value (tagged_by_id s.now) own t.now) × (spec.first_refused s.now own t.now ≡ None)) }
+    ensures made { OnOk result (made.new ≡ made.old ++ objects.made_by (tagged_by_id s.now) own t.now) }
     ensures err { IfErr result (spec.Refuses (spec.first_refused s.now own t.now)) }
 {
     if is_type(t.kind) {
@@ -102,9 +104,9 @@ fn kid_values(
     made: &mut ConstObjects,
 ) -> Result<Vec<Outcome>, Stop<Fault>>
     requires own { own < 2 ^ 32 - 1 }
-    requires simple { spec.AreSimple s.now (typed_nodes kids.now) }
-    ensures ok { IfOk result (λ os. (os.items ≡ spec.kid_values s.now own (typed_nodes kids.now)) × (spec.first_refused_of s.now own (typed_nodes kids.now) ≡ None)) }
-    ensures made { IfOk result (λ os. made.new ≡ made.old ++ objects.made_by_kids node.now (spec.operands_of (own_kind node.now)) os.items (objects.made_by_each s.now own (typed_nodes kids.now))) }
+    requires settled { AreSettled s.now (typed_nodes kids.now) }
+    ensures ok { IfOk result (λ os. (os.items ≡ spec.kid_values (tagged_by_id s.now) own (typed_nodes kids.now)) × (spec.first_refused_of s.now own (typed_nodes kids.now) ≡ None)) }
+    ensures made { IfOk result (λ os. made.new ≡ made.old ++ objects.made_by_kids node.now (spec.operands_of (own_kind node.now)) os.items (objects.made_by_each (tagged_by_id s.now) own (typed_nodes kids.now))) }
     ensures err { IfErr result (spec.Refuses (spec.first_refused_of s.now own (typed_nodes kids.now))) }
 {
     let operands = operands_of(node.kind);

@@ -19,18 +19,18 @@ use Rattle.hare_typed.specs.Arithmetic.{shift_of, shifted, logic_of, leaves_open
 use Rattle.hare_typed.specs.Scalars.{Pointer, Address}
 use Rattle.hare_typed.specs.Words.{Words, words}
 use Rattle.hare_typed.specs.Objects.{Object}
-use Rattle.hare_typed.specs.State.{State, Scope, AsValue, AsPlace, Outcome as End, Value, Reached, Spent, Result}
+use Rattle.hare_typed.specs.State.{State, Scope, AsValue, AsPlace, Outcome as End, Value, Reached, Result}
 use Rattle.hare_typed.specs.Acts.{Act, end, make, tick}
 use Rattle.hare_typed.specs.Interpreter.{Tasks, Kids, after, act, with_objects, made_object}
 use Rattle.hare_typed.specs.World.{World, static_number, answered}
 use Rattle.hare_typed.specs.Sequence.{on_value, on_place, value, place, values}
-use Rattle.hare_typed.specs.Evaluated.{makes_slice, ticks_of_value, with_coercion, slice_over, array_object, coerced_from, as_coerced, by_value}
-use Rattle.hare_typed.specs.ConstantForms.{own_type, int_in, constant_cells, with_numbers, is_iconst, arith_answer, shift_answer, Equality, OfNumbers, OfPointers, OfTexts, with_equality, equality_of, type_of_kid, is_array_row, bool_cells, truth}
+use Rattle.hare_typed.specs.Evaluated.{ticks_of_value, with_coercion, slice_over, array_object, coerced_from, as_coerced, by_value}
+use Rattle.hare_typed.specs.ConstantForms.{own_type, int_in, constant_cells, is_iconst, arith_answer, Equality, OfNumbers, OfPointers, OfTexts, with_equality, equality_of, type_of_kid, is_array_row, bool_cells, truth}
 use Rattle.hare_typed.specs.ConstantValues.{without_run, constant_form}
 use Rattle.hare_typed.specs.Coercions.{sliced_element, length_of_value, coerced}
 use Rattle.hare_const.specs.declared.operands.Operands.TheVariants.{NoKid, OneKid, TwoKids, RightIfOpen, Components, Fields, Elements}
 use Rattle.hare_const.specs.declared.outcome.Outcome.{Outcome}
-use Rattle.hare_const.specs.declared.outcome.Outcome.TheVariants.{Known, Aborts, Undefined}
+use Rattle.hare_const.specs.declared.outcome.Outcome.TheVariants.{Known}
 use Rattle.hare_const.specs.NodeValues.{on_cells, on_answer, kid_at, kids_at, object_number, literal_text, numbered, number_of_kid, array_length_value, declared_by, operands_of, unary_value, binary_value, operator_value, kind_value, slice_of, cells_known, array_value, tuple_value, struct_value}
 use Rattle.hare_const.specs.Made.{is_open, is_taken, taken_from, made_by_kids, own_object, made_of_value}
 use Rattle.hare_const.specs.Statics.{held}

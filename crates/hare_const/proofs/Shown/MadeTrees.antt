@@ -1,6 +1,6 @@
 -- The objects that the evaluation of a constant makes are those of its tree.
-use Rattle.std.proofs.Common.{◌≡◌, ◌∙◌, ℕ, zero, suc, Bool, true, false, List, [], ◌∷◌, ◌++◌, refl, ap, sym, subst, append-nil}
-use Rattle.std.specs.Prelude.{◌+◌, ◌==◌, not, if◌then◌else◌, Option, Some, None}
+use Rattle.std.proofs.Common.{◌≡◌, ◌∙◌, ℕ, zero, suc, Bool, true, false, List, [], ◌++◌, refl, ap, sym, append-nil}
+use Rattle.std.specs.Prelude.{◌+◌, ◌==◌, not, if◌then◌else◌, None}
 use Rattle.hare_tree.specs.declared.kind.Kind.{Kind}
 use Rattle.hare_tree.specs.declared.kind.Kind.TheVariants as kind
 use Rattle.hare_tree.specs.Levels.{is_type}
@@ -18,7 +18,7 @@ use Rattle.hare_typed.specs.Evaluated.{is_evaluated, is_place, first_is_place, p
 use Rattle.hare_typed.specs.ConstantValues.{without_run, constant_form, constant_place, constant_node, constant_forms, constant_result}
 use Rattle.hare_const.specs.declared.operands.Operands.TheVariants.{NoKid}
 use Rattle.hare_const.specs.NodeValues.{kid_at, operands_of, kind_value, kid_values, PlainKind, IsPlain, ArePlain}
-use Rattle.hare_const.specs.Made.{made_by_kids, made_of_value, made_of_node, made_by, made_by_each}
+use Rattle.hare_const.specs.Made.{made_by_kids, made_of_value, made_by, made_by_each}
 use Rattle.hare_const.specs.Statics.{held, objects_in}
 use Rattle.hare_const.proofs.Shown.Acts.{Shows}
 use Rattle.hare_const.proofs.Shown.Made.{made_at, named_in, MakesThese, Makes, makes_as, makes_end, taken_none, ReadyToMake, makes_value_of}

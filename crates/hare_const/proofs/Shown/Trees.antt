@@ -3,8 +3,6 @@ use Rattle.std.proofs.Common.{◌≡◌, ℕ, zero, suc, Bool, true, false, [], 
 use Rattle.std.specs.Prelude.{◌+◌, if◌then◌else◌, not, ◌&&◌, ◌||◌, ◌==◌, Option, Some, None, option_and_then}
 use Rattle.hare_tree.specs.declared.kind.Kind.{Kind}
 use Rattle.hare_tree.specs.declared.kind.Kind.TheVariants as kind
-use Rattle.hare_tree.specs.declared.place.Fault.{Fault}
-use Rattle.hare_tree.specs.declared.stop.Stop.{Stop}
 use Rattle.hare_tree.specs.declared.token.Meaning.{Meaning}
 use Rattle.hare_tree.specs.declared.token.Meaning.TheVariants as meant
 use Rattle.hare_tree.specs.Levels.{is_type}
@@ -14,7 +12,6 @@ use Rattle.hare_types.specs.declared.row.Row.TheVariants as row
 use Rattle.hare_types.specs.declared.row.Scalar.{Scalar as Keyword}
 use Rattle.hare_types.specs.declared.row.Scalar.TheVariants as keyword
 use Rattle.hare_types.specs.Store.{Store}
-use Rattle.hare_typed.specs.declared.constant.Const.TheVariants as constant
 use Rattle.hare_typed.specs.Typed.{TypedNode, TypedNodes, Mark, marked, typed_none, typed_more, mark_of}
 use Rattle.hare_typed.specs.Order.{kid_from_front}
 use Rattle.hare_typed.specs.Given.{base_row, first_given, is_str, is_str_row}
@@ -28,10 +25,10 @@ use Rattle.hare_typed.specs.Interpreter.{Tasks, Kids, act, behind, node_act, kid
 use Rattle.hare_typed.specs.Evaluated.{ValueForm, is_evaluated, is_named, is_place_kind, is_place, first_is_place, place_in_mode, value_in_mode, gives}
 use Rattle.hare_typed.specs.ConstantForms.{OfNumbers, OfTexts, equality_of_shape, equality_of, type_of_kid, object_meant}
 use Rattle.hare_typed.specs.ConstantValues.{without_run, constant_form, constant_place, constant_node, constant_forms, constant_result}
-use Rattle.hare_typed.specs.Folded.{is_abort, aborts, inconstant, folded_from, folded}
+use Rattle.hare_typed.specs.Folded.{is_abort, folded_from}
 use Rattle.hare_const.specs.declared.outcome.Outcome.{Outcome}
 use Rattle.hare_const.specs.declared.outcome.Outcome.TheVariants.{Known}
-use Rattle.hare_const.specs.NodeValues.{on_cells, kid_at, declared_by, own_value, coerced_value, tree_value, kid_values, PlainKind, IsPlain, ArePlain, IsSimple, AreSimple, is_aborted, first_refused, Refuses, cells_in, cells_of}
+use Rattle.hare_const.specs.NodeValues.{on_cells, kid_at, declared_by, own_value, coerced_value, tree_value, kid_values, PlainKind, IsPlain, ArePlain, IsSimple, AreSimple, is_aborted, cells_in, cells_of}
 use Rattle.hare_const.proofs.Shown.Acts.{shown, Shows, Ends}
 use Rattle.hare_const.proofs.Shown.Forms.{Ready, ends_value_of}
 
@@ -319,8 +316,12 @@ mutual
       let p = first-none (first_inconstant s a t) _ e in
       both-none _ _ (constant-too s a t p.0) (constant-each s a ts p.1)
 
+-- whether the evaluation of the node would abort
+abbrev pub stops : Store → (own : ℕ) → TypedNode → Bool
+stops s own t = is_abort (constant_result s own t).0
+
 abort_same : (s : Store) (own : ℕ) (t : TypedNode) → first_inconstant s (λ u. false) t ≡ None → IsPlain s t →
-    aborts s own t ≡ is_aborted (tree_value s own t)
+    stops s own t ≡ is_aborted (tree_value s own t)
 abort_same s own t e p = abort-shown (constant_result s own t).0 ∙ ap is_aborted (value_shown s own t e p)
 
 -- where the kids have none, two tests that agree of the node find the same
@@ -347,28 +348,29 @@ constant-itself true t e = refl
 constant-itself false t e = absurd cc
 
 mutual
-  pub inconstant_same : (s : Store) (own : ℕ) (t : TypedNode) → IsPlain s t → inconstant s own t ≡ first_refused s own t
+  pub inconstant_same : (s : Store) (own : ℕ) (t : TypedNode) → IsPlain s t →
+      first_inconstant s (stops s own) t ≡ first_inconstant s (λ u. is_aborted (tree_value s own u)) t
   inconstant_same s own (marked h m ts) p = go (is_type h.kind) (inconstant-each s own ts p.1)
     where
-      go : (x : Bool) → first_inconstant_of s (aborts s own) ts ≡ first_inconstant_of s (λ u. is_aborted (tree_value s own u)) ts →
-          (if x then None else asked s (aborts s own) h m ts) ≡ (if x then None else asked s (λ u. is_aborted (tree_value s own u)) h m ts)
+      go : (x : Bool) → first_inconstant_of s (stops s own) ts ≡ first_inconstant_of s (λ u. is_aborted (tree_value s own u)) ts →
+          (if x then None else asked s (stops s own) h m ts) ≡ (if x then None else asked s (λ u. is_aborted (tree_value s own u)) h m ts)
       go true k = refl
       go false k =
-          same-step (if hides_kids h.kind ts then None else first_inconstant_of s (aborts s own) ts) (is_constant s h.kind m ts)
-          (aborts s own (marked h m ts)) (is_aborted (tree_value s own (marked h m ts))) (marked h m ts)
+          same-step (if hides_kids h.kind ts then None else first_inconstant_of s (stops s own) ts) (is_constant s h.kind m ts)
+          (stops s own (marked h m ts)) (is_aborted (tree_value s own (marked h m ts))) (marked h m ts)
           (λ n c. abort_same s own (marked h m ts)
           (if-none (is_type h.kind) (asked s (λ u. false) h m ts)
-          (both-none _ _ (none-hidden (hides_kids h.kind ts) _ (first_inconstant_of s (λ u. false) ts) n (constant-each s (aborts s own) ts))
+          (both-none _ _ (none-hidden (hides_kids h.kind ts) _ (first_inconstant_of s (λ u. false) ts) n (constant-each s (stops s own) ts))
           (constant-itself (is_constant s h.kind m ts) (marked h m ts) c))) p)
           ∙ ap (λ o. or_else o (if not (is_constant s h.kind m ts) || is_aborted (tree_value s own (marked h m ts)) then Some (marked h m ts) else None))
           (same-hidden (hides_kids h.kind ts) _ _ k)
 
   inconstant-each : (s : Store) (own : ℕ) (ts : TypedNodes) → ArePlain s ts →
-      first_inconstant_of s (aborts s own) ts ≡ first_inconstant_of s (λ u. is_aborted (tree_value s own u)) ts
+      first_inconstant_of s (stops s own) ts ≡ first_inconstant_of s (λ u. is_aborted (tree_value s own u)) ts
   inconstant-each s own typed_none p = refl
   inconstant-each s own (typed_more t ts) p =
-      ap (λ o. or_else o (first_inconstant_of s (aborts s own) ts)) (inconstant_same s own t p.0)
-      ∙ ap (λ o. or_else (first_refused s own t) o) (inconstant-each s own ts p.1)
+      ap (λ o. or_else o (first_inconstant_of s (stops s own) ts)) (inconstant_same s own t p.0)
+      ∙ ap (λ o. or_else (first_inconstant s (λ u. is_aborted (tree_value s own u)) t) o) (inconstant-each s own ts p.1)
 
 -- ---- the constant
 
@@ -380,28 +382,7 @@ mutual
   plain-each s typed_none p = tt
   plain-each s (typed_more t ts) p = (plain_from s t p.0, plain-each s ts p.1)
 
-folded-cells : (r : Result) → cells_in (folded_from r) ≡ cells_of (shown r.0)
+pub folded-cells : (r : Result) → cells_in (folded_from r) ≡ cells_of (shown r.0)
 folded-cells (Value cs, st) = refl
 folded-cells (Abort text, st) = refl
 folded-cells (_, st) = refl
-
-folded-none : (o : Option TypedNode) (r : Result) → o ≡ None →
-    cells_in (elim o [ None ↦ folded_from r | Some u ↦ constant.Absent ]) ≡ cells_in (folded_from r)
-folded-none None r e = refl
-folded-none (Some u) r e = absurd cc
-
--- where no node is refused, the constant has the cells of the tree's value
-pub folded_cells : (s : Store) (own : ℕ) (t : TypedNode) → IsSimple s t → first_refused s own t ≡ None →
-    (inconstant s own t ≡ None) × (cells_in (folded s own t) ≡ cells_of (tree_value s own t))
-folded_cells s own t p e =
-    let plain = plain_from s t p in
-    let none : inconstant s own t ≡ None = inconstant_same s own t plain ∙ e in (
-      none,
-      folded-none (inconstant s own t) (constant_result s own t) none
-          ∙ folded-cells (constant_result s own t)
-          ∙ ap cells_of (value_shown s own t (constant-too s (aborts s own) t none) plain),
-    )
-
-pub folded_refused : (s : Store) (own : ℕ) (t : TypedNode) (e : Stop Fault) → IsSimple s t → Refuses (first_refused s own t) e →
-    Refuses (inconstant s own t) e
-folded_refused s own t e p r = subst (λ o. Refuses o e) (sym (inconstant_same s own t (plain_from s t p))) r

@@ -1,4 +1,5 @@
 use Rattle.std.proofs.Common.{◌≡◌, ◌∙◌, ◌++◌, ap}
+use Rattle.hare_typed.specs.Folded.{tagged_by_id}
 use Rattle.hare_const.specs.Made.{made_by}
 use Rattle.hare_const.specs.Statics.{statics_in, objects_in, objects_led_to}
 use Rattle.hare_const.proofs.FoldedLemmas.{known_later, none_later, refused_later}
@@ -10,9 +11,9 @@ returns-in-Ok-Some c =
     let own = c.args.own in
     let t = c.args.t.now in
     let cells = c.in-Ok-Some.cells in
-    let all : c.cells_and_objects.new.objects ≡ objects_in s own t =
+    let all : c.cells_and_objects.new.objects ≡ objects_in (tagged_by_id s) own t =
     c.in-Ok-Some.ensures.objects
-    ∙ ap (λ l. l ++ made_by s own t) (c.in_ok-put_statics.ensures ∙ ap (λ l. l ++ statics_in own t) c.new-objects.ensures) in
+    ∙ ap (λ l. l ++ made_by (tagged_by_id s) own t) (c.in_ok-put_statics.ensures ∙ ap (λ l. l ++ statics_in own t) c.new-objects.ensures) in
     known_later s own t c.declarations-law.ensures.sound (c.is_settled.ensures c.if-not-is_settled.false) cells
     (c.in-Ok-Some.ensures.ok.1 ∙ c.in-Ok-Some.field-0-is) c.in_ok-listed-in-Ok-Some.listed
     (c.in_ok-listed-in-Ok-Some.ensures ∙ ap (λ os. objects_led_to os cells) all)

@@ -1,15 +1,32 @@
-use Rattle.std.proofs.Common.{◌∙◌, ap, sym}
-use Rattle.std.specs.Prelude.{unwrap_or}
+use Rattle.std.proofs.Common.{◌<◌, ◌∙◌, sym, arith, length, get_or}
+use Rattle.std.proofs.lemmas.List.Elements.{All-get_or}
 use Rattle.hare_types.specs.declared.coercion.Ty.TheVariants as ty
+use Rattle.hare_const.specs.Sizes.{HasPart}
 use Rattle.hare_const.proofs.PlacingLemmas.{filled_all}
+use Rattle.hare_const.proofs.SizeLemmas.{start_within, start_found}
 use Rattle.hare_const.proofs.PartLemmas.{placed_more, placed_all}
 use Rattle.hare_const.proofs.parts.laid.Goals as goal
 
+pub index-start-requires : goal.index-start-requires
+index-start-requires c =
+    let s = c.args.s.now in
+    let of = c.args.of in
+    let k = get_or c.args.parts.now c.loop-i.i 0 in
+    let part : HasPart s of k = All-get_or (HasPart s of) c.args.parts.now c.loop-i.i 0 c.loop-i-test.true c.requires.parts in
+    let inside : k < length c.in_ok-starts.starts.items = start_within s of k c.in_ok-starts.starts.items part (c.in_ok-starts.ensures k part) in
+    omega (arith, inside)
+
 pub loop-i-preserved : goal.loop-i-preserved
 loop-i-preserved c =
-    placed_more c.args.s.now (ty.Of c.args.of) c.size_of-size.result c.args.parts.now c.args.from c.args.kids.now c.loop-i.i c.offset_of-start.result
+    let s = c.args.s.now in
+    let of = c.args.of in
+    let k = get_or c.args.parts.now c.loop-i.i 0 in
+    let ns = c.in_ok-starts.starts.items in
+    let part : HasPart s of k = All-get_or (HasPart s of) c.args.parts.now c.loop-i.i 0 c.loop-i-test.true c.requires.parts in
+    placed_more s (ty.Of of) c.size_of-size.result c.args.parts.now c.args.from c.args.kids.now c.loop-i.i c.index-start.result.now
     c.loop-i.whole c.in_ok-whole-in-Known.whole c.in-Known.cells c.loop-i.invariant c.loop-i-test.true (sym c.kid_at.ensures ∙ c.in-Known.is)
-    (sym (ap (λ o. unwrap_or o 0) c.offset_of-start.ensures)) c.in_ok-whole-in-Known.ensures.within c.in_ok-whole-in-Known.ensures.value
+    (start_found s of k c.index-start.result.now c.index-start.result.now ns part (c.in_ok-starts.ensures k part) c.index-start.ensures)
+    c.in_ok-whole-in-Known.ensures.within c.in_ok-whole-in-Known.ensures.value
 
 pub returns : goal.returns
 returns c =

@@ -4,4 +4,4 @@ use Rattle.hare_const.proofs.parts.laid.Given as goal
 
 -- the parts so far stand in the value
 abbrev pub invariant-loop-i : goal.invariant-loop-i
-invariant-loop-i l = Placed l.s (ty.Of l.of) l.size l.parts l.from l.kids l.i l.whole
+invariant-loop-i l = Placed l.s (ty.Of l.fn.of) l.size l.parts l.from l.kids l.i l.whole

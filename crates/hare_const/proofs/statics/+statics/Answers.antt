@@ -5,7 +5,7 @@ use Rattle.hare_typed.specs.Constants.{own_kind}
 use Rattle.hare_typed.specs.ConstantValues.{objects_of, text_object}
 use Rattle.hare_const.specs.Statics.{scope_in, held, statics_in, statics_in_each}
 use Rattle.hare_typed.proofs.KidLemmas.{kid_size}
-use Rattle.hare_const.proofs.StaticLemmas.{statics_parts, statics_more, statics_all}
+use Rattle.hare_const.proofs.StaticLemmas.{statics_parts, statics_more}
 use Rattle.hare_const.proofs.statics.+statics.Goals as goal
 
 pub put_statics_of-put_statics-requires : goal.put_statics_of-put_statics-requires

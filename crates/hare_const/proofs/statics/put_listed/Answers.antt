@@ -1,4 +1,4 @@
-use Rattle.std.proofs.Common.{◌≡◌, ◌∙◌, ◌≤◌, ◌++◌, ◌∷◌, [], sym, ap, length, arith}
+use Rattle.std.proofs.Common.{◌∙◌, ◌≤◌, ◌++◌, ◌∷◌, [], sym, ap, length, arith}
 use Rattle.hare_typed.specs.ConstantValues.{objects_of}
 use Rattle.hare_const.specs.Statics.{held}
 use Rattle.hare_const.proofs.StaticLemmas.{listed_more, listed_all}

@@ -1,23 +1,24 @@
-use Rattle.std.proofs.Common.{◌≡◌, ◌∙◌, sym, ap, subst, ◌<◌, ◌≤◌, arith, false, take, length, ◌+◌, ◌++◌, ◌∷◌, [], ap₂}
+use Rattle.std.proofs.Common.{◌≡◌, ◌∙◌, sym, ap, subst, ◌<◌, ◌≤◌, arith, rules, true, false, take, length, ◌+◌, ◌++◌, ◌∷◌, [], ap₂}
 use Rattle.std.proofs.lemmas.List.{length-take, length-append}
-use Rattle.hare_const.proofs.MadeLemmas.{type-made, hidden-made, seen-made, length-valued, made_more, made_all}
+use Rattle.hare_const.proofs.MadeLemmas.{type-made, hidden-made, length-valued, made_more, made_all}
 use Rattle.std.specs.Prelude.{None, OnOk, if◌then◌else◌}
 use Rattle.std.proofs.lemmas.Result.{IfErr-weaker}
 use Rattle.hare_tree.specs.Levels.{is_type}
 use Rattle.hare_typed.specs.Typed.{typed_nodes, size_of, sizes_of, kids_of}
+use Rattle.hare_typed.specs.Folded.{tagged_by_id}
 use Rattle.hare_typed.specs.Constants.{own_kind}
 use Rattle.hare_typed.specs.Constancy.{hides_kids}
 use Rattle.hare_typed.proofs.KidLemmas.{kid_size}
 use Rattle.hare_const.specs.Made.{is_taken}
 use Rattle.hare_const.specs.NodeValues.{kid_at, operands_of, node_value, tree_value, kid_values, first_refused, first_refused_of, Refuses, RefusesNode}
-use Rattle.hare_const.proofs.WalkLemmas.{kids_asked, err-same, refuse-kid, refuse-node, valued-more, simple-kid, seen-value, seen-asked}
+use Rattle.hare_const.proofs.WalkLemmas.{kids_asked, err-same, refuse-kid, refuse-node, valued-more, settled-kid, settled-kids, hidden-asked, hidden-value, seen-value, seen-asked}
 use Rattle.hare_const.proofs.walk.+walk.Goals as goal
 
 pub kid_values-tree_value-requires : goal.kid_values-tree_value-requires
 kid_values-tree_value-requires t c =
     let h : size_of c.in-Some.kid.now < sizes_of (typed_nodes c.args.kids.now) =
     kid_size c.args.kids.now c.loop-i.i c.in-Some.kid.now c.in-Some.ensures.found in
-    (omega arith, (c.requires.own, simple-kid c.args.s.now c.args.kids.now c.loop-i.i c.in-Some.kid.now c.in-Some.ensures.found c.requires.simple))
+    (omega arith, (c.requires.own, settled-kid c.args.s.now c.args.kids.now c.loop-i.i c.in-Some.kid.now c.in-Some.ensures.found c.requires.settled))
 
 pub kid_values-loop-i-preserved : goal.kid_values-loop-i-preserved
 kid_values-loop-i-preserved t c =
@@ -59,8 +60,8 @@ tree_value-returns-clause-err t c =
     let seen : false ≡ hides_kids (own_kind u) (kids_of u) = sym c.if-hides_kids.false ∙ c.hides_kids.ensures in
     let passed : kids_asked s own u ≡ None =
     seen-asked s own u seen ∙ sym (ap (λ y. first_refused_of s own (kids_of y)) c.t.view_is) ∙ c.in_ok-kids.ensures.ok.1 in
-    let value : node_value s own u os ≡ tree_value s own u =
-    seen-value s own u os (c.as_slice.ensures.value ∙ c.in_ok-kids.ensures.ok.0 ∙ ap (λ y. kid_values s own (kids_of y)) c.t.view_is) in
+    let value : node_value (tagged_by_id s) own u os ≡ tree_value (tagged_by_id s) own u =
+    seen-value s own u os (c.as_slice.ensures.value ∙ c.in_ok-kids.ensures.ok.0 ∙ ap (λ y. kid_values (tagged_by_id s) own (kids_of y)) c.t.view_is) in
     IfErr-weaker c.own_outcome-2.result (RefusesNode s own u os) (Refuses (first_refused s own u))
     (λ e r. refuse-node s own u os e plain passed value r) c.own_outcome-2.ensures.err
 
@@ -88,3 +89,17 @@ pub tree_value-returns-then-hides_kids-clause-made : goal.tree_value-returns-the
 tree_value-returns-then-hides_kids-clause-made t c =
     let same = hidden-made c.args.s.now c.args.own c.args.t.now (sym c.if-hides_kids.true ∙ c.hides_kids.ensures) in
     subst (λ x. OnOk c.own_outcome.result (c.own_outcome.new.made ≡ c.args.made.now ++ x)) same c.own_outcome.ensures.made
+
+pub tree_value-returns-then-hides_kids-clause-err : goal.tree_value-returns-then-hides_kids-clause-err
+tree_value-returns-then-hides_kids-clause-err t c =
+    let s = c.args.s.now in
+    let own = c.args.own in
+    let u = c.args.t.now in
+    let plain : false ≡ is_type (own_kind u) = sym c.if-is_type.false ∙ c.is_type.ensures ∙ ap (λ y. is_type (own_kind y)) c.t.view_is in
+    let hidden : true ≡ hides_kids (own_kind u) (kids_of u) = sym c.if-hides_kids.true ∙ c.hides_kids.ensures in
+    IfErr-weaker c.own_outcome.result (RefusesNode s own u []) (Refuses (first_refused s own u))
+    (λ e r. refuse-node s own u [] e plain (hidden-asked s own u hidden) (hidden-value s own u hidden) r) c.own_outcome.ensures.err
+
+pub tree_value-kid_values-requires : goal.tree_value-kid_values-requires
+tree_value-kid_values-requires t c =
+    (search rules, (c.requires.own, settled-kids c.args.s.now c.args.t.now _ _ _ c.t.view_is c.requires.settled))

@@ -1,5 +1,6 @@
 use Rattle.std.proofs.Common.{◌≡◌, ◌++◌, take}
 use Rattle.hare_typed.specs.Typed.{typed_nodes}
+use Rattle.hare_typed.specs.Folded.{tagged_by_id}
 use Rattle.hare_typed.specs.Constants.{own_kind}
 use Rattle.hare_const.specs.NodeValues.{operands_of}
 use Rattle.hare_const.specs.Made.{made_by_kids, made_by_each}
@@ -18,5 +19,5 @@ invariant-kid_values-loop-i l =
     record {
       valued : Valued l.s l.own l.kids l.i l.values.items;
       made : l.made ≡ l.initial.made
-          ++ made_by_kids l.node (operands_of (own_kind l.node)) l.values.items (made_by_each l.s l.own (typed_nodes (take l.i l.kids)));
+          ++ made_by_kids l.node (operands_of (own_kind l.node)) l.values.items (made_by_each (tagged_by_id l.s) l.own (typed_nodes (take l.i l.kids)));
     }

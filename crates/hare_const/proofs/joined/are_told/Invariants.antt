@@ -1,0 +1,7 @@
+use Rattle.std.proofs.Common.{drop}
+use Rattle.hare_const.specs.Joined.{AreTold}
+use Rattle.hare_const.proofs.joined.are_told.Given as goal
+
+-- all are told where those are that are left
+abbrev pub invariant-loop-t : goal.invariant-loop-t
+invariant-loop-t l = AreTold l.s (drop l.t-index l.types) → AreTold l.s l.types

@@ -1,0 +1,89 @@
+//! What the words of a text say.
+
+ghost use Rattle.std.specs.Prelude.{◌≡◌, ◌+◌, ◌≤◌, length, true, is_some, IsSome, IfSome};
+ghost use Rattle.hare_typed.specs.Answers.{Gives, ◌then◌};
+ghost use Rattle.hare_typed.specs.Cells as cells_of;
+ghost use Rattle.hare_typed.specs.Cells.{cells_within};
+ghost use Rattle.hare_typed.specs.Scalars.{Nullable, spelled};
+ghost use Rattle.hare_typed.specs.Words as spec;
+
+use crate::number::little_endian;
+use hare_typed::{Cell, Cells};
+
+/// How many cells a word has.
+const WORD: usize = 8;
+
+/// Whether cells are the fragments of the pointer to an offset of an object from the one with this place on, in order.
+fn are_fragments(object: u64, offset: u64, place: u32, cells: &[Cell]) -> bool
+    requires { place + length cells.now ≤ 8 }
+    ensures { result ≡ cells_of.are_fragments object offset place cells.now }
+{
+    let Some((first, others)) = cells.split_first() else {
+        return true;
+    };
+    match *first {
+        Cell::Fragment(o, d, k) => {
+            object == o
+                && (offset == d && place == k)
+                && are_fragments(object, offset, place + 1, others)
+        }
+        Cell::Byte(_) | Cell::Undef => false,
+    }
+}
+
+/// Whether the cells of a word are a pointer, null or not.
+fn is_pointer(word: &[Cell]) -> bool
+    requires { length word.now ≡ 8 }
+    ensures { result ≡ is_some (spelled Nullable word.now) }
+{
+    let Some((first, _)) = word.split_first() else {
+        return false;
+    };
+    match *first {
+        Cell::Fragment(object, offset, _) => are_fragments(object, offset, 0, word),
+        Cell::Byte(_) | Cell::Undef => match little_endian(word) {
+            Some(number) => number == 0,
+            None => false,
+        },
+    }
+}
+
+/// The number that the cells of a word are.
+fn size_in(word: &[Cell]) -> Option<u64>
+    requires { length word.now ≡ 8 }
+    ensures { IfSome result (λ n. spec.size_in word.now ≡ Gives n) }
+{
+    little_endian(word)
+}
+
+/// Whether a value begins with a pointer, null or not.
+fn begins_with_pointer(cells: &Cells) -> bool
+    ensures { result ≡ true → IsSome (spelled Nullable (cells_within 0 8 cells.now)) }
+{
+    let mut word = [Cell::Undef; WORD];
+    cells.read(0, &mut word) && is_pointer(&word)
+}
+
+/// The number that the word at a place of a value is.
+fn size_at(cells: &Cells, at: usize) -> Option<u64>
+    ensures { IfSome result (λ n. spec.size_in (cells_within at 8 cells.now) ≡ Gives n) }
+{
+    let mut word = [Cell::Undef; WORD];
+    if cells.read(at, &mut word) {
+        size_in(&word)
+    } else {
+        None
+    }
+}
+
+/// The length of a text, or of a slice, of its three words; none where the cells are no three words.
+pub(crate) fn length_of_text(cells: &Cells) -> Option<u64>
+    ensures { IfSome result (λ n. (spec.words cells.now then λ w. Gives w.length) ≡ Gives n) }
+{
+    if !begins_with_pointer(cells) {
+        return None;
+    }
+    let length = size_at(cells, WORD)?;
+    let _capacity = size_at(cells, 2 * WORD)?;
+    Some(length)
+}
