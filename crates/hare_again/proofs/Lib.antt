@@ -1,0 +1,9 @@
+pub mod Alike
+pub mod PiecesAgain
+pub mod Counts
+pub mod Comments
+pub mod Gaps
+pub mod Sources
+pub mod Files
+pub mod Reading
+pub mod Rows

@@ -1,0 +1,5 @@
+use Rattle.hare_again.proofs.Comments.{comments-stay}
+use Rattle.hare_again.proofs.laws.law_comments_stay.Goals as goal
+
+pub returns : goal.returns
+returns c = comments-stay

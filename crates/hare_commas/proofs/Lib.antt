@@ -1,0 +1,15 @@
+pub mod Spread
+pub mod Flags
+pub mod Plain
+pub mod Kin
+pub mod Kids
+pub mod Parts
+pub mod Pieces
+pub mod ListForms
+pub mod Comments
+pub mod Trees
+pub mod Regular
+pub mod Files
+pub mod Keeps
+pub mod Shaped
+pub mod Deep

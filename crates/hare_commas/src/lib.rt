@@ -1,0 +1,6 @@
+//! The commas that a layout adds behind the last items of lists.
+#![tactic(auto)]
+
+mod laws;
+
+pub use laws::law_commas_stand_in_trees;
