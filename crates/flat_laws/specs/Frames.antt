@@ -1,0 +1,34 @@
+-- What a call of a function maps and leaves mapped.
+use Rattle.std.specs.Prelude.{◌≡◌, ℕ, ◌+◌, ◌<◌, ◌≤◌, ◌⊎◌, List, true, false}
+use Rattle.hx_base.specs.Memory.{byte_at, is_mapped, round_up}
+use Rattle.flat_code.specs.declared.program.FlatFn.{FlatFn}
+use Rattle.flat_code.specs.declared.program.FlatProgram.{FlatProgram}
+use Rattle.flat_code.specs.Shape.{code_of}
+use Rattle.flat_code.specs.State.{State, Result}
+use Rattle.flat_code.specs.Evaluation.{Meaning, entered, left, flat_below}
+use Rattle.flat_laws.specs.Runs.{GoesOn}
+
+-- what a call maps as the function begins
+pub record IsEntered (s : State) (f : FlatFn) (s' : State) : Type 0 where
+  pub frame : s'.frame ≡ s.top
+  pub mapped : (a : ℕ) → s.top ≤ a → a < s.top + f.frame → is_mapped s'.world.memory a ≡ true
+  pub others : (a : ℕ) → (a < s.top) ⊎ (s.top + f.frame ≤ a) → is_mapped s'.world.memory a ≡ is_mapped s.world.memory a
+  pub bytes : (a : ℕ) → byte_at s'.world.memory a ≡ byte_at s.world.memory a
+
+-- and what it leaves mapped as the caller goes on, from `s'` in which the function ended
+pub record IsLeft (s : State) (f : FlatFn) (s' s'' : State) : Type 0 where
+  pub unmapped : (a : ℕ) → s.top ≤ a → a < s.top + round_up f.frame 16 → is_mapped s''.world.memory a ≡ false
+  pub others : (a : ℕ) → (a < s.top) ⊎ (s.top + round_up f.frame 16 ≤ a) → is_mapped s''.world.memory a ≡ is_mapped s'.world.memory a
+  pub bytes : (a : ℕ) → byte_at s''.world.memory a ≡ byte_at s'.world.memory a
+  -- the frame that was mapped is within what is unmapped
+  pub within : f.frame ≤ round_up f.frame 16
+
+-- a call of a function of the program: how its body begins, and how the caller goes on behind it
+pub record IsApart (s : State) (f : FlatFn) (begun : State) (r : Result) : Type 0 where
+  pub enters : IsEntered s f begun
+  pub leaves : GoesOn r.0 → IsLeft s f r.1 (left s r.1)
+
+abbrev pub CallsStayApart : Type 0
+CallsStayApart =
+    (meaning : Meaning) (p : FlatProgram) (n : ℕ) (s : State) (f : FlatFn) (vs : List ℕ)
+    → IsApart s f (entered s f vs) (flat_below meaning p n (code_of f.body) (entered s f vs))
