@@ -35,15 +35,13 @@ module _ (content : List ℕ → Option (List ℕ)) (paths : List (List ℕ)) (b
   IsStop (Unread number) = IsFirstUnread content paths before now number
   IsStop Memory = now ≡ before
 
-  -- ---- its two steps; no public clause cites what follows
-
   -- why reading stopped
   abbrev pub IsReadStop : Stopped → Type 0
   IsReadStop (Refused r) = ⊥
   IsReadStop (Unread number) = IsFirstUnread content paths before now number
   IsReadStop Memory = now ≡ before
 
--- why the program of these files is not checked
+-- Why the program of these files is not checked. No public clause cites this.
 abbrev pub IsJudgeStop : (paths srcs : List (List ℕ)) → Stopped → Type 0
 IsJudgeStop paths srcs (Refused r) = IsFirstFault paths srcs r
 IsJudgeStop paths srcs (Unread number) = ⊥

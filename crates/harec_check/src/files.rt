@@ -12,11 +12,7 @@ use hx_io::{FileError, Files};
 use std::alloc::Global;
 
 /// The bytes of the files at these paths, in their order. Where one is not read, none behind it is.
-pub(crate) fn read_all<F: Files>(
-    alloc: Global,
-    paths: &[Text],
-    files: &mut F,
-) -> Result<Sources, Stopped>
+pub fn read_all<F: Files>(alloc: Global, paths: &[Text], files: &mut F) -> Result<Sources, Stopped>
     ensures ok { IfOk result (λ srcs. AreTold (F.content files.old) paths.now srcs × (F.faults files.new ≡ F.faults files.old)) }
     ensures err { IfErr result (IsReadStop (F.content files.old) paths.now (F.faults files.old) (F.faults files.new)) }
     ensures same { (p : List ℕ) → F.content files.new p ≡ F.content files.old p }

@@ -6,6 +6,7 @@ mod judged;
 mod stopped;
 mod top;
 
+pub use files::read_all;
 pub use judged::refused;
 pub use stopped::{Refusal, Stopped};
 pub use top::check;

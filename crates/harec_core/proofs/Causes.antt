@@ -14,14 +14,16 @@ use Rattle.harec_words.specs.Commands.{Command, Check, Emit, Run}
 use Rattle.harec_check.specs.declared.stopped.Stopped.{Stopped}
 use Rattle.harec_check.specs.declared.stopped.Stopped.TheVariants.{Refused, Unread, Memory}
 use Rattle.harec_check.specs.Files.{AreTold}
-use Rattle.harec_check.specs.Stops.{IsStop}
+use Rattle.harec_check.specs.Stops.{IsStop, IsReadStop}
 use Rattle.harec_core.specs.declared.asked.Action.{Action}
 use Rattle.harec_core.specs.declared.asked.Action.TheVariants as action
+use Rattle.harec_core.specs.declared.asked.Purpose.{Purpose}
+use Rattle.harec_core.specs.declared.asked.Purpose.TheVariants as purpose
 use Rattle.harec_core.specs.declared.carry.Done.{Done}
 use Rattle.harec_core.specs.Answers.{Call, HasCause, Emitted, EndedIn, CutEmit, IsMade, IsCompiled}
-use Rattle.harec_core.specs.Asked.{files_of, Compiles}
+use Rattle.harec_core.specs.Asked.{IsAsked, files_of, Checks, Compiles}
 use Rattle.harec_core.specs.Outside.{Count, HasRisen, Stands, Sent, sent, IsSent}
-use Rattle.harec_core.specs.Stages.{IsTextOf, IsBuilt, Emits, answer_of, done_answer, stopped_answer, command_on}
+use Rattle.harec_core.specs.Stages.{AreFew, IsTextOf, IsBuilt, Emits, answer_of, done_answer, stopped_answer, command_on, command_for}
 
 -- ---- counts and bytes
 
@@ -56,18 +58,35 @@ all_told content (p ∷ ps) =
 
 -- ---- the files of a command
 
-pub files_of-command_on : (files : List (List ℕ)) (a : Action) → files_of (command_on files a) ≡ files
-files_of-command_on files action.Check = refl
-files_of-command_on files action.Emit = refl
-files_of-command_on files (action.Run units args) = refl
+pub files_of-command_on : (files : List (List ℕ)) (p : Purpose) → files_of (command_on files p) ≡ files
+files_of-command_on files purpose.Check = refl
+files_of-command_on files purpose.Emit = refl
+files_of-command_on files (purpose.Run units args) = refl
 
--- ---- why files were not checked
+pub files_of-command_for : (files : List (List ℕ)) (a : Action) → files_of (command_for files a) ≡ files
+files_of-command_for files action.Layout = refl
+files_of-command_for files (action.Program p) = files_of-command_on files p
+
+-- what is done with a program is a command on one
+pub Checks-command_on : (files : List (List ℕ)) (p : Purpose) → Checks (command_on files p)
+Checks-command_on files purpose.Check = tt
+Checks-command_on files purpose.Emit = tt
+Checks-command_on files (purpose.Run units args) = tt
+
+-- words ask for few files, and for one that is laid out
+pub few_asked : (words files : List (List ℕ)) (a : Action) → IsAsked words (command_for files a) → AreFew files a
+few_asked words files action.Layout h = ap length h.0.1.only
+few_asked words files (action.Program purpose.Check) h = h.0.1.few
+few_asked words files (action.Program purpose.Emit) h = h.0.1.few
+few_asked words files (action.Program (purpose.Run units args)) h = h.0.1.few
+
+-- ---- why nothing was done
 
 module _ (content : List ℕ → Option (List ℕ)) (paths : List (List ℕ)) (before now : ℕ) (few : before < 2 ^ 64 - 1) where
-  -- of a call on them, in which nothing was done
+  -- files were not checked
   pub stop_cause :
-      (command : Command) (fill : ℕ) (out : Sent) (text : List ℕ) (s : Stopped) → files_of command ≡ paths → IsSent [] out
-      → text ≡ [] → IsStop content paths before now s
+      (command : Command) (fill : ℕ) (out : Sent) (text : List ℕ) (s : Stopped) → Checks command → files_of command ≡ paths
+      → IsSent [] out → text ≡ [] → IsStop content paths before now s
       → (srcs : List (List ℕ)) × AreTold content paths srcs × HasCause (record {
         command = command;
         sources = srcs;
@@ -76,19 +95,38 @@ module _ (content : List ℕ → Option (List ℕ)) (paths : List (List ℕ)) (b
         out = out;
         text = text;
       }) (stopped_answer s)
-  stop_cause command fill out text (Refused r) e quiet empty h =
-      (h.srcs, h.told, inl (record { files = h.stands; first = rw e h.refusal.first; silent = quiet; text = empty }))
-  stop_cause command fill out text (Unread number) e quiet empty h =
+  stop_cause command fill out text (Refused r) k e quiet empty h =
+      (h.srcs, h.told, inl (record { checks = k; files = h.stands; first = rw e h.refusal.first; silent = quiet; text = empty }))
+  stop_cause command fill out text (Unread number) k e quiet empty h =
       let told = all_told content paths in
       (told.0, told.1, record { files = risen before now few h.risen; silent = quiet; text = empty })
-  stop_cause command fill out text Memory e quiet empty h =
+  stop_cause command fill out text Memory k e quiet empty h =
       let told = all_told content paths in
       (told.0, told.1, record { files = h; silent = quiet; text = inl empty })
+
+  -- files were not read
+  pub read_stop_cause :
+      (command : Command) (out : Sent) (s : Stopped) → IsSent [] out → IsReadStop content paths before now s
+      → (srcs : List (List ℕ)) × AreTold content paths srcs × ((fill : ℕ) (text : List ℕ) → text ≡ [] → HasCause (record {
+        command = command;
+        sources = srcs;
+        fill = fill;
+        files = record { before = before; now = now };
+        out = out;
+        text = text;
+      }) (stopped_answer s))
+  read_stop_cause command out (Refused r) quiet h = absurd h
+  read_stop_cause command out (Unread number) quiet h =
+      let told = all_told content paths in
+      (told.0, told.1, λ fill text empty. record { files = risen before now few h.risen; silent = quiet; text = empty })
+  read_stop_cause command out Memory quiet h =
+      let told = all_told content paths in
+      (told.0, told.1, λ fill text empty. record { files = h; silent = quiet; text = inl empty })
 
 -- ---- what is compiled
 
 -- a list of one
-single : (xs : List (List ℕ)) → length xs ≡ 1 → (x : List ℕ) × (xs ≡ x ∷ [])
+pub single : (xs : List (List ℕ)) → length xs ≡ 1 → (x : List ℕ) × (xs ≡ x ∷ [])
 single [] e = absurd (omega (arith, e))
 single (x ∷ []) e = (x, refl)
 single (x ∷ y ∷ ys) e = absurd (omega (arith, e))
@@ -105,17 +143,17 @@ made_of source text m t = record {
 
 -- a checked program that is compiled
 pub compiled_on :
-    (files : List (List ℕ)) (a : Action) (srcs : List (List ℕ)) (fill : ℕ) (count : Count) (out : Sent) (text : List ℕ)
-    (m : Module) → Compiles (command_on files a) → Stands count → (p : Checked) × IsChecked files srcs p
+    (files : List (List ℕ)) (p : Purpose) (srcs : List (List ℕ)) (fill : ℕ) (count : Count) (out : Sent) (text : List ℕ)
+    (m : Module) → Compiles (command_on files p) → Stands count → (c : Checked) × IsChecked files srcs c
     → length srcs ≡ length files → IsBuilt srcs text m
-    → IsCompiled (record { command = command_on files a; sources = srcs; fill = fill; files = count; out = out; text = text }) m
-compiled_on files a srcs fill count out text m k s p paired b =
-    let same = files_of-command_on files a in
+    → IsCompiled (record { command = command_on files p; sources = srcs; fill = fill; files = count; out = out; text = text }) m
+compiled_on files p srcs fill count out text m k s c paired b =
+    let same = files_of-command_on files p in
     let one : length files ≡ 1 = sym paired ∙ ap length b.one in
     let (path, named) = single files one in
     record {
       compiles = k;
-      sound = record { files = s; program = p.0; checked = rw same p.1 };
+      sound = record { checks = Checks-command_on files p; files = s; program = c.0; checked = rw same c.1 };
       path = path;
       named = same ∙ named;
       source = b.source;
@@ -131,7 +169,7 @@ pub emit_cause :
     → HasCause c (done_answer d)
 emit_cause c m d paths e k (inl h) =
     let cause : Emitted c = record { paths = paths; command = e; program = m; compiled = k; sent = h.1 } in
-    subst (λ d. HasCause c (done_answer d)) (sym h.0) (inr cause)
+    subst (λ d. HasCause c (done_answer d)) (sym h.0) (inr (inl cause))
 emit_cause c m d paths e k (inr h) =
     let cut : CutEmit c = record { paths = paths; command = e; program = m; compiled = k; cut = h.1 } in
     subst (λ d. HasCause c (done_answer d)) (sym h.0) (inl cut)
@@ -163,7 +201,7 @@ module _
   run_cause (ended.Fault f) few counts r = ended_in (machine.Fault f) (counts.kept (λ h. cc)) r
   run_cause ended.StackFull few counts r = ended_in machine.StackFull (counts.kept (λ h. cc)) r
   run_cause ended.Spent few counts r = ended_in machine.Spent (counts.kept (λ h. cc)) r
-  run_cause ended.WriteFault few counts r = inr (record {
+  run_cause ended.WriteFault few counts r = inr (inl (record {
     units = units;
     paths = paths;
     args = args;
@@ -175,4 +213,4 @@ module _
       count = (r input).0;
       written = (r input).1;
     };
-  })
+  }))

@@ -1,5 +1,6 @@
 pub mod SentLemmas
 pub mod Causes
+pub mod LayoutLemmas
 pub mod Answering
 pub mod Distinct
 pub mod PlainLines

@@ -8,6 +8,7 @@ use Rattle.harec_core.specs.declared.answer.Answer.TheVariants.{Exited, Refused,
 use Rattle.harec_core.specs.declared.answer.Undef.TheVariants.{Il}
 use Rattle.harec_core.specs.Answers.{not_built}
 use Rattle.harec_core.specs.Asked.{IsNotAsked}
+use Rattle.harec_core.specs.Layouts.{too_large_fault}
 use Rattle.harec_core.specs.Log.{IsLine}
 
 -- ---- words
@@ -28,7 +29,10 @@ exec_is_not_built (Run units files args) h = words_differ (h.0.0.front ++ files 
     words_differ : (rest : List (List ℕ)) → codes "exec" ∷ codes "x.il" ∷ [] ≡ codes "run" ∷ rest → ⊥
     words_differ rest e = cc
 exec_is_not_built (Exec units program args) h = h.1
-exec_is_not_built (Fmt file) h = h.1
+exec_is_not_built (Fmt file) h = words_differ h.0.0
+  where
+    words_differ : codes "exec" ∷ codes "x.il" ∷ [] ≡ codes "fmt" ∷ file → ⊥
+    words_differ e = cc
 
 -- ---- lines
 
@@ -38,6 +42,10 @@ files = codes "a.ha" ∷ codes "lib/b.ha" ∷ []
 not_built_line : IsLine files 0 (Refused not_built) (codes "a.ha:1:1: E49 NotBuilt\n")
 unfolding digits
 not_built_line = record { path = codes "a.ha"; word = refl; text = refl }
+
+too_large_line : IsLine files 0 (Refused too_large_fault) (codes "a.ha:1:1: E1 FileTooLarge\n")
+unfolding digits
+too_large_line = record { path = codes "a.ha"; word = refl; text = refl }
 
 abbrev fault : Fault
 fault = record { number = 25; place = record { file = 1; line = 2; column = 13 } }

@@ -1,9 +1,9 @@
 -- The causes of the answers to a command.
 --
 -- Each answer has one cause, which says besides what the text, the output and the files are then. A file that was not read and a write that failed
--- have one answer each. Want of memory comes at will. Behind these the program of the files is checked: where it has a fault, this is the
--- answer; and what is compiled, written out or run has been checked.
-use Rattle.std.specs.Prelude.{◌≡◌, ℕ, ◌⊎◌, List, [], ◌∷◌}
+-- have one answer each. Want of memory comes at will. Behind these a file is laid out by its bytes alone; or the program of the files is checked:
+-- where it has a fault, this is the answer; and what is compiled, written out or run has been checked.
+use Rattle.std.specs.Prelude.{◌≡◌, ℕ, ◌≤◌, ◌⊎◌, List, [], ◌∷◌, length}
 use Rattle.il_code.specs.declared.types.Module.{Module}
 use Rattle.il_code.specs.Machine.{End}
 use Rattle.il_code.specs.Machine as machine
@@ -12,15 +12,18 @@ use Rattle.il_code.specs.Run.{machine_end, machine_output}
 use Rattle.hare_tree.specs.declared.place.Fault.{Fault}
 use Rattle.hare_blocks.specs.Trees.{Program}
 use Rattle.hare_blocks.specs.Class.{IsSource, IsNoSource}
+use Rattle.hare_fmt.specs.Layout.{IsLaidOut}
+use Rattle.hare_sources.specs.Files.{most_of_file}
 use Rattle.hare_unit.specs.declared.checked.Checked.{Checked}
 use Rattle.hare_unit.specs.Programs.{IsChecked, IsFaultOfProgram}
 use Rattle.harec_words.specs.Commands.{Command, Check, Emit, Run, Exec, Fmt}
 use Rattle.harec_core.specs.declared.answer.Answer.{Answer}
 use Rattle.harec_core.specs.declared.answer.Answer.TheVariants.{Accepted, Exited, Usage, Refused, FileFault, Undefined, Memory, ReadFault, WriteFault, Spent, StackFull, Aborted}
 use Rattle.harec_core.specs.declared.answer.Undef.TheVariants.{Il, Hare}
-use Rattle.harec_core.specs.Asked.{files_of, Compiles}
+use Rattle.harec_core.specs.Asked.{files_of, Checks, Compiles}
 use Rattle.harec_core.specs.Outside.{Count, HasRisen, Stands, Sent, IsSent, IsCutOff}
 use Rattle.harec_core.specs.Class.{CarriesProgram}
+use Rattle.harec_core.specs.Layouts.{HasLayout, HasNoLayout, IsLayoutFault}
 
 -- a command on files
 pub record Call : Type 0 where
@@ -42,8 +45,9 @@ pub record IsQuiet (c : Call) : Type 0 where
 
 -- ---- what is checked, and what is compiled
 
--- all files were read, and their program is checked
+-- The command is one on a program: all of its files were read, and their program is checked.
 pub record IsSound (c : Call) : Type 0 where
+  pub checks : Checks c.command
   pub files : Stands c.files
   pub program : Checked
   pub checked : IsChecked (files_of c.command) c.sources program
@@ -76,6 +80,16 @@ AreNotOfClass (source ∷ second ∷ others) = Unit {0}
 abbrev pub not_built : Fault
 not_built = record { number = 49; place = record { file = 0; line = 1; column = 1 } }
 
+-- ---- what is laid out
+
+-- The command is to lay out a file, which was read and has these bytes. No text of a program was made.
+pub record IsToLayOut (c : Call) (source : List ℕ) : Type 0 where
+  pub file : List (List ℕ)
+  pub command : c.command ≡ Fmt file
+  pub files : Stands c.files
+  pub one : c.sources ≡ source ∷ []
+  pub text : c.text ≡ []
+
 -- ---- the causes
 
 -- a file was not read
@@ -84,8 +98,9 @@ pub record NotRead (c : Call) : Type 0 where
   pub silent : IsSilent c
   pub text : c.text ≡ []
 
--- all files were read, and their program has this first fault
+-- the command is one on a program: all files were read, and their program has this first fault
 pub record NotSound (c : Call) (f : Fault) : Type 0 where
+  pub checks : Checks c.command
   pub files : Stands c.files
   pub first : IsFaultOfProgram (files_of c.command) c.sources f
   pub silent : IsSilent c
@@ -98,6 +113,13 @@ pub record NotBuilt (c : Call) : Type 0 where
   pub sources : AreNotOfClass c.sources
   pub silent : IsSilent c
   pub text : c.text ≡ []
+
+-- the file was read, and has this fault, so that it is not laid out
+pub record NotLaidOut (c : Call) (f : Fault) : Type 0 where
+  pub source : List ℕ
+  pub asked : IsToLayOut c source
+  pub fault : HasNoLayout source f
+  pub silent : IsSilent c
 
 -- memory ran out, before anything was written
 pub record NoMemory (c : Call) : Type 0 where
@@ -121,6 +143,14 @@ pub record Emitted (c : Call) : Type 0 where
   pub compiled : IsCompiled c program
   pub sent : IsSent c.text c.out
 
+-- the layout of the file was written out, and nothing else
+pub record LaidOut (c : Call) : Type 0 where
+  pub source : List ℕ
+  pub asked : IsToLayOut c source
+  pub layout : List ℕ
+  pub laid : HasLayout source layout
+  pub sent : IsSent layout c.out
+
 -- The run ended so: that of the machine over the module that the text spells, with the arguments, the units and the fill byte of the call, whatever
 -- the input is. All of its output was written.
 pub record EndedIn (c : Call) (end : End) : Type 0 where
@@ -141,6 +171,14 @@ pub record CutEmit (c : Call) : Type 0 where
   pub compiled : IsCompiled c program
   pub cut : IsCutOff c.text c.out
 
+-- the output failed while the layout of the file was written, of which a front was
+pub record CutLayout (c : Call) : Type 0 where
+  pub source : List ℕ
+  pub asked : IsToLayOut c source
+  pub layout : List ℕ
+  pub laid : HasLayout source layout
+  pub cut : IsCutOff layout c.out
+
 -- the output failed during the run, of whose output a front was written
 pub record CutRun (c : Call) : Type 0 where
   pub units : ℕ
@@ -153,16 +191,16 @@ pub record CutRun (c : Call) : Type 0 where
 
 -- why a command has this answer
 abbrev pub HasCause : Call → Answer → Type 0
-HasCause c Accepted = Passed c ⊎ Emitted c
+HasCause c Accepted = Passed c ⊎ Emitted c ⊎ LaidOut c
 HasCause c (Exited status) = EndedIn c (machine.Exit status)
 HasCause c Usage = ⊥
-HasCause c (Refused fault) = NotSound c fault ⊎ ((fault ≡ not_built) × NotBuilt c)
+HasCause c (Refused fault) = NotSound c fault ⊎ ((fault ≡ not_built) × NotBuilt c) ⊎ NotLaidOut c fault
 HasCause c FileFault = NotRead c
 HasCause c (Undefined (Il fault)) = EndedIn c (machine.Fault fault)
 HasCause c (Undefined (Hare number)) = ⊥
 HasCause c Memory = NoMemory c
 HasCause c ReadFault = ⊥
-HasCause c WriteFault = CutEmit c ⊎ CutRun c
+HasCause c WriteFault = CutEmit c ⊎ CutRun c ⊎ CutLayout c
 HasCause c Spent = EndedIn c machine.Spent
 HasCause c StackFull = EndedIn c machine.StackFull
 HasCause c Aborted = (text : List ℕ) × EndedIn c (machine.Abort text)
@@ -184,6 +222,10 @@ pub data Gives (c : Call) (answer this : Answer) : Type 0 where
   exhausted : answer ≡ Memory → Gives c answer this
   faulty : (f : Fault) → answer ≡ Refused f → IsFaultOfProgram (files_of c.command) c.sources f → Gives c answer this
 
+-- the answer is this one, or memory ran out
+abbrev pub IsOrMemory : (answer this : Answer) → Type 0
+IsOrMemory answer this = (answer ≡ this) ⊎ (answer ≡ Memory)
+
 -- The answer to a command has its cause, and comes wherever its cause holds.
 pub record Answers (c : Call) (answer : Answer) : Type 0 where
   pub cause : HasCause c answer
@@ -194,6 +236,12 @@ pub record Answers (c : Call) (answer : Answer) : Type 0 where
   pub accepted :
       (paths : List (List ℕ)) (source : List ℕ) (p : Program) → IsQuiet c → c.command ≡ Emit paths → c.sources ≡ source ∷ []
       → IsSource source p → Gives c answer Accepted
+  pub laid_out :
+      (file : List (List ℕ)) (source layout : List ℕ) → IsQuiet c → c.command ≡ Fmt file → c.sources ≡ source ∷ []
+      → length source ≤ most_of_file → IsLaidOut source layout → IsOrMemory answer Accepted
+  pub not_laid_out :
+      (file : List (List ℕ)) (source : List ℕ) (f : Fault) → Stands c.files → c.command ≡ Fmt file → c.sources ≡ source ∷ []
+      → IsLayoutFault source f → IsOrMemory answer (Refused f)
   pub ended :
       (units : ℕ) (paths args : List (List ℕ)) (source : List ℕ) (p : Program) (m : Module) (input : List ℕ) → IsQuiet c
       → c.command ≡ Run units paths args → c.sources ≡ source ∷ [] → IsSource source p → IsValidText c.text m

@@ -2,13 +2,13 @@
 use Rattle.std.specs.Prelude.{ℕ, List}
 use Rattle.harec_words.specs.Commands.{Command, Check, Emit, Run, Exec, Fmt, IsCommand}
 
--- The command is built. Texts of the intermediate language are not run yet, and no file is laid out.
+-- The command is built. Texts of the intermediate language are not run yet.
 abbrev pub IsBuilt : Command → Type 0
 IsBuilt (Check files) = Unit {0}
 IsBuilt (Emit files) = Unit {0}
 IsBuilt (Run units files args) = Unit {0}
 IsBuilt (Exec units program args) = ⊥
-IsBuilt (Fmt file) = ⊥
+IsBuilt (Fmt file) = Unit {0}
 
 -- the words ask for this command
 abbrev pub IsAsked : List (List ℕ) → Command → Type 0
@@ -33,6 +33,14 @@ units_of (Emit files) = 0
 units_of (Run units files args) = units
 units_of (Exec units program args) = units
 units_of (Fmt file) = 0
+
+-- a command whose files are checked, as those of one program
+abbrev pub Checks : Command → Type 0
+Checks (Check files) = Unit {0}
+Checks (Emit files) = Unit {0}
+Checks (Run units files args) = Unit {0}
+Checks (Exec units program args) = ⊥
+Checks (Fmt file) = ⊥
 
 -- a command for which a program is compiled
 abbrev pub Compiles : Command → Type 0

@@ -6,5 +6,6 @@ pub mod Programs
 pub mod Shape
 pub mod Carries
 pub mod Class
+pub mod Layouts
 pub mod Answers
 pub mod Stages

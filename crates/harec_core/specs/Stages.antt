@@ -1,5 +1,5 @@
 -- What the stages from words to the end of a run hand on. No public clause cites this file.
-use Rattle.std.specs.Prelude.{◌≡◌, ◌<◌, ◌⊎◌, ℕ, List, [], ◌∷◌, length, IsTrue, Result, Ok, Err}
+use Rattle.std.specs.Prelude.{◌≡◌, ◌<◌, ◌≤◌, ◌⊎◌, ℕ, List, [], ◌∷◌, length, IsTrue, Result, Ok, Err}
 use Rattle.il_code.specs.declared.types.Module.{Module}
 use Rattle.il_code.specs.Print.{module_text}
 use Rattle.il_code.specs.Rules.{IsValid}
@@ -16,24 +16,37 @@ use Rattle.harec_core.specs.declared.answer.Answer.{Answer}
 use Rattle.harec_core.specs.declared.answer.Answer.TheVariants as answer
 use Rattle.harec_core.specs.declared.answer.Undef.TheVariants.{Il}
 use Rattle.harec_core.specs.declared.asked.Action.{Action}
-use Rattle.harec_core.specs.declared.asked.Action.TheVariants.{Check, Emit, Run}
+use Rattle.harec_core.specs.declared.asked.Action.TheVariants.{Layout, Program as OnProgram}
+use Rattle.harec_core.specs.declared.asked.Purpose.{Purpose}
+use Rattle.harec_core.specs.declared.asked.Purpose.TheVariants.{Check, Emit, Run}
 use Rattle.harec_core.specs.declared.asked.Task.{Task}
 use Rattle.harec_core.specs.declared.carry.Done.{Done}
 use Rattle.harec_core.specs.declared.carry.Done.TheVariants as done
 use Rattle.harec_core.specs.Answers.{AreNotOfClass, not_built}
 use Rattle.harec_core.specs.Class.{CarriesProgram}
+use Rattle.harec_core.specs.Layouts.{HasNoLayout}
 use Rattle.harec_core.specs.Outside.{Sent, IsSent, IsCutOff}
 
 -- ---- words
 
--- what is done with these files, as a command
-abbrev pub command_on : List (List ℕ) → Action → words.Command
+-- what is done with the program of these files, as a command
+abbrev pub command_on : List (List ℕ) → Purpose → words.Command
 command_on files Check = words.Check files
 command_on files Emit = words.Emit files
 command_on files (Run units args) = words.Run units files args.now
 
+-- what is done with these files, as a command
+abbrev pub command_for : List (List ℕ) → Action → words.Command
+command_for files Layout = words.Fmt files
+command_for files (OnProgram purpose) = command_on files purpose
+
 abbrev pub command_of : Task → words.Command
-command_of a = command_on a.files.now a.action
+command_of a = command_for a.files.now a.action
+
+-- a file that is laid out is the only one
+abbrev pub AreFew : List (List ℕ) → Action → Type 0
+AreFew files Layout = length files ≡ 1
+AreFew files (OnProgram purpose) = length files ≤ 65536
 
 -- ---- texts
 
@@ -62,6 +75,12 @@ abbrev pub IsBuildStop : (paths srcs : List (List ℕ)) → Stopped → Type 0
 IsBuildStop paths srcs (stopped.Refused r) = (r.fault ≡ not_built) × IsFaultLine paths r.fault r.line × AreNotOfClass srcs
 IsBuildStop paths srcs (stopped.Unread number) = ⊥
 IsBuildStop paths srcs stopped.Memory = Unit {0}
+
+-- why a file with these bytes has no layout
+abbrev pub IsLayoutStop : (paths : List (List ℕ)) (source : List ℕ) → Stopped → Type 0
+IsLayoutStop paths source (stopped.Refused r) = HasNoLayout source r.fault × IsFaultLine paths r.fault r.line
+IsLayoutStop paths source (stopped.Unread number) = ⊥
+IsLayoutStop paths source stopped.Memory = Unit {0}
 
 -- ---- what is done with a text
 

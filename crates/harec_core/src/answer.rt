@@ -18,13 +18,13 @@ pub enum Undef {
 /// What the top call answers.
 #[derive(Clone, Copy, Debug, PartialEq, Eq)]
 pub enum Answer {
-    /// The command is done: the program is checked, and its text is written out where that was asked.
+    /// The command is done: the program is checked, and its text is written out where that was asked; or the layout of the file is written out.
     Accepted,
     /// The program ended with this status.
     Exited(u8),
     /// The words ask for nothing that is built.
     Usage,
-    /// The program has this fault. E49 says that it is not compiled yet.
+    /// The program, or the file that is to be laid out, has this fault. E49 says that the program is not compiled yet.
     Refused(Fault),
     /// A file was not read.
     FileFault,

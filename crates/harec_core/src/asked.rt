@@ -17,10 +17,19 @@ pub struct Task<'a> {
     pub action: Action<'a>,
 }
 
-/// What is done with the program of the files.
+/// What is done with the files.
 #[derive(Clone, Copy)]
 pub enum Action<'a> {
-    /// It is checked.
+    /// The one file is laid out, and its layout is written out.
+    Layout,
+    /// Their program is checked, and goes on so.
+    Program(Purpose<'a>),
+}
+
+/// What the program of the files is checked for.
+#[derive(Clone, Copy)]
+pub enum Purpose<'a> {
+    /// It is checked, and that is all.
     Check,
     /// Its text is written out.
     Emit,
@@ -28,8 +37,8 @@ pub enum Action<'a> {
     Run { units: u64, args: &'a [Text] },
 }
 
-/// What the words ask for: `check FILES`, `emit FILES` or `run [--units N] FILES [-- ARGS]`, as `harec_words::command_of` reads them. None: they are
-/// no command, or `exec` or `fmt`, which are not built yet.
+/// What the words ask for: `check FILES`, `emit FILES`, `run [--units N] FILES [-- ARGS]` or `fmt FILE`, as `harec_words::command_of` reads them.
+/// None: they are no command, or `exec`, which is not built yet.
 pub fn asked(words: &[Text]) -> Option<Task<'_>>
     ensures found { IfSome result (λ a. IsAsked words.now (command_of a)) }
     ensures only { (c : spec.Command) → IsAsked words.now c → MatchOption result ⊥ (λ a. command_of a ≡ c) }
@@ -37,20 +46,24 @@ pub fn asked(words: &[Text]) -> Option<Task<'_>>
     match command_of(words)? {
         Command::Check(files) => Some(Task {
             files: words_in(words, files),
-            action: Action::Check,
+            action: Action::Program(Purpose::Check),
         }),
         Command::Emit(files) => Some(Task {
             files: words_in(words, files),
-            action: Action::Emit,
+            action: Action::Program(Purpose::Emit),
         }),
         Command::Run(units, files, args) => Some(Task {
             files: words_in(words, files),
-            action: Action::Run {
+            action: Action::Program(Purpose::Run {
                 units,
                 args: words_in(words, args),
-            },
+            }),
         }),
-        Command::Exec(..) | Command::Fmt(_) => None,
+        Command::Fmt(file) => Some(Task {
+            files: words_in(words, file),
+            action: Action::Layout,
+        }),
+        Command::Exec(..) => None,
     }
 }
 

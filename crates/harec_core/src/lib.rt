@@ -5,9 +5,12 @@ mod answer;
 mod asked;
 mod carry;
 mod compile;
+mod layout;
 mod log;
 mod piece;
 mod run;
+#[cfg(test)]
+mod tests;
 mod top;
 
 pub use answer::{Answer, Undef, status};

@@ -9,11 +9,12 @@ ghost use Rattle.harec_core.specs.Answers.{Answers, HasCause, LeavesOutput};
 ghost use Rattle.harec_core.specs.Asked.{IsAsked, IsNotAsked, files_of, units_of};
 ghost use Rattle.harec_core.specs.Log.{Logs, IsLine, LeavesLog, usage_line};
 ghost use Rattle.harec_core.specs.Outside.{sent};
-ghost use Rattle.harec_core.specs.Stages.{HasLine, command_of, command_on, found_answer};
+ghost use Rattle.harec_core.specs.Stages.{AreFew, HasLine, command_for, command_of, command_on, found_answer};
 
 use crate::answer::Answer;
-use crate::asked::{Action, Task, asked};
+use crate::asked::{Action, Purpose, Task, asked};
 use crate::carry::{Done, carry_out};
+use crate::layout::lay_out;
 use crate::log::{report, tell};
 use harec_check::{Stopped, check};
 use hx_base::{Bytes, Text};
@@ -23,15 +24,18 @@ use std::alloc::Global;
 
 /// Does all that the program does: answers the words, over the files, the input, the output and the log that are handed in.
 ///
-/// All files are read in their order before anything else, and no file is read behind one that failed. Then their program is checked, whatever is
-/// asked: where it has a fault, that is the answer. `check FILES` does no more. `emit FILES` writes the IL text of the program to the output. `run
+/// All files are read in their order before anything else, and no file is read behind one that failed. `fmt FILE` then writes the layout of the file
+/// to the output, and nothing else: where the file has more than 1,048,576 bytes (E1) or a fault of tokens or syntax (E3 to E10), that is the answer,
+/// and no name and no type is looked at. With every other command the program of the files is checked: where it has a fault, that is the answer. `check
+/// FILES` does no more. `emit FILES` writes the IL text of the program to the output. `run
 /// [--units N] FILES [-- ARGS]` makes the same text, reads the module back from it and runs that, with the arguments and at most N units, and writes
 /// the program's output as it comes. Programs of several files, and of a file that is not of the class of today, are not compiled yet: E49 at the start
-/// of the first file. Each answer but an accepted program and a program's own exit has one line, which the log gets. All memory is taken before the first byte
-/// of output or of the log.
+/// of the first file. Each answer but an accepted program or file and a program's own exit has one line, which the log gets. All memory is taken before
+/// the first byte of output or of the log.
 ///
 /// `fill` is the byte that new memory and unassigned temporaries of a run hold. `text` becomes the IL text that was made: it is empty where no module
 /// was made, and after want of memory it is the text or empty.
+#[tactic(auto, using(crate::proofs::Causes::few_asked))]
 pub fn harec<F: Files, I: Source, O: Sink, L: Sink>(
     alloc: Global,
     words: &[Text],
@@ -98,11 +102,11 @@ pub fn harec<F: Files, I: Source, O: Sink, L: Sink>(
 
 // The units of a run; 0 where nothing is run.
 fn units_of(action: Action) -> u64
-    ensures { (files : List (List ℕ)) → result ≡ units_of (command_on files action.entry) }
+    ensures { (files : List (List ℕ)) → result ≡ units_of (command_for files action.entry) }
 {
     match action {
-        Action::Check | Action::Emit => 0,
-        Action::Run { units, .. } => units,
+        Action::Layout | Action::Program(Purpose::Check | Purpose::Emit) => 0,
+        Action::Program(Purpose::Run { units, .. }) => units,
     }
 }
 
@@ -116,7 +120,7 @@ fn answer_to<F: Files, O: Sink>(
     text: &mut Bytes,
 ) -> Result<Done, Stopped>
     requires empty { text.old ≡ [] }
-    requires few { length task.files.now ≤ 65536 }
+    requires few { AreFew task.files.now task.action }
     requires count_of_files { F.faults files.old < 2 ^ 64 - 1 }
     requires count_of_out { O.faults out.old < 2 ^ 64 - 1 }
     ensures cause { (srcs : List (List ℕ)) × AreTold (F.content files.old) task.entry.files.now srcs
@@ -132,6 +136,39 @@ fn answer_to<F: Files, O: Sink>(
     ensures leaves { LeavesOutput (command_of task.entry) (found_answer result) out.old out.new }
     ensures same { (p : List ℕ) → F.content files.new p ≡ F.content files.old p }
 {
-    let srcs = check(alloc, task.files, files)?;
-    carry_out(alloc, task, &srcs, out, fill, text)
+    match task.action {
+        Action::Layout => lay_out(alloc, task.files, files, out),
+        Action::Program(purpose) => checked(alloc, task.files, purpose, files, out, fill, text),
+    }
+}
+
+// The same for a command on a program, which is checked first.
+fn checked<F: Files, O: Sink>(
+    alloc: Global,
+    paths: &[Text],
+    purpose: Purpose<'_>,
+    files: &mut F,
+    out: &mut O,
+    fill: u8,
+    text: &mut Bytes,
+) -> Result<Done, Stopped>
+    requires empty { text.old ≡ [] }
+    requires few { length paths.now ≤ 65536 }
+    requires count_of_files { F.faults files.old < 2 ^ 64 - 1 }
+    requires count_of_out { O.faults out.old < 2 ^ 64 - 1 }
+    ensures cause { (srcs : List (List ℕ)) × AreTold (F.content files.old) paths.now srcs
+        × HasCause (record {
+          command = command_on paths.now purpose.entry;
+          sources = srcs;
+          fill = fill;
+          text = text.new;
+          files = record { before = F.faults files.old; now = F.faults files.new };
+          out = sent (O.faults out.old) (O.faults out.new) (O.written out.old) (O.written out.new);
+        }) (found_answer result) }
+    ensures line { IfErr result (HasLine paths.now) }
+    ensures leaves { LeavesOutput (command_on paths.now purpose.entry) (found_answer result) out.old out.new }
+    ensures same { (p : List ℕ) → F.content files.new p ≡ F.content files.old p }
+{
+    let srcs = check(alloc, paths, files)?;
+    carry_out(alloc, paths, purpose, &srcs, out, fill, text)
 }

@@ -7,4 +7,3 @@ export fn main() void = {
 	};
 	rt::exit((i * 2z): u8);
 };
-

@@ -7,31 +7,28 @@ use Rattle.harec_core.proofs.carry.carry_out.Goals as goal
 
 pub returns-in_ok-build-in-Emit-clause-cause : goal.returns-in_ok-build-in-Emit-clause-cause
 returns-in_ok-build-in-Emit-clause-cause g c = λ files s.
-    let task = c.args.task in
-    let e = ap (command_on task.files.now) c.in-Emit.is in
+    let e = ap (command_on c.args.paths.now) c.in-Emit.is in
     let (m, built) = c.in_ok-build-in-Emit.ensures.ok in
-    let k : Compiles (command_on task.files.now task.action) = subst Compiles (sym e) tt in
-    let compiled = compiled_on task.files.now task.action _ _ _ _ _ m k s c.requires.checked c.requires.paired built in
-    emit_cause _ m _ task.files.now e compiled (rw c.bytes.ensures at c.emit.ensures)
+    let k : Compiles (command_on c.args.paths.now c.args.purpose) = subst Compiles (sym e) tt in
+    let compiled = compiled_on c.args.paths.now c.args.purpose _ _ _ _ _ m k s c.requires.checked c.requires.paired built in
+    emit_cause _ m _ c.args.paths.now e compiled (rw c.bytes.ensures at c.emit.ensures)
 
 pub returns-in_ok-end-in-Run-clause-cause : goal.returns-in_ok-end-in-Run-clause-cause
 returns-in_ok-end-in-Run-clause-cause g c = λ files s.
-    let task = c.args.task in
-    let e = ap (command_on task.files.now) c.in-Run.is in
+    let e = ap (command_on c.args.paths.now) c.in-Run.is in
     let (m, built) = c.in_ok-build-in-Run.ensures.ok in
-    let k : Compiles (command_on task.files.now task.action) = subst Compiles (sym e) tt in
-    let compiled = compiled_on task.files.now task.action _ _ _ _ _ m k s c.requires.checked c.requires.paired built in
+    let k : Compiles (command_on c.args.paths.now c.args.purpose) = subst Compiles (sym e) tt in
+    let compiled = compiled_on c.args.paths.now c.args.purpose _ _ _ _ _ m k s c.requires.checked c.requires.paired built in
     let text : IsTextOf built.source c.bytes-in-Run.result.now m = rw c.bytes-in-Run.ensures built.made in
     let ran = c.in_ok-end-in-Run.ensures in
-    run_cause _ m c.in-Run.units task.files.now c.in-Run.args.now e compiled c.in_ok-end-in-Run.end c.requires.count ran.count
+    run_cause _ m c.in-Run.units c.args.paths.now c.in-Run.args.now e compiled c.in_ok-end-in-Run.end c.requires.count ran.count
     (λ input. ran.ran built.source m c.in-Run.args.now input text refl)
 
 pub returns-in_err-end-in-Run-clause-cause : goal.returns-in_err-end-in-Run-clause-cause
 returns-in_err-end-in-Run-clause-cause g c = λ files s.
-    let task = c.args.task in
-    let e = ap (command_on task.files.now) c.in-Run.is in
+    let e = ap (command_on c.args.paths.now) c.in-Run.is in
     let (m, built) = c.in_ok-build-in-Run.ensures.ok in
-    let k : Compiles (command_on task.files.now task.action) = subst Compiles (sym e) tt in
-    let compiled = compiled_on task.files.now task.action _ _ _ _ _ m k s c.requires.checked c.requires.paired built in
+    let k : Compiles (command_on c.args.paths.now c.args.purpose) = subst Compiles (sym e) tt in
+    let compiled = compiled_on c.args.paths.now c.args.purpose _ _ _ _ _ m k s c.requires.checked c.requires.paired built in
     let p = err_from_is_err_and c.from_residual-in_err-end-in-Run.result c.from_residual-in_err-end-in-Run.ensures.1 in
     rw (p.1, p.2) (record { files = s; silent = rw c.in_err-end-in-Run.ensures.err (silent _ _); text = inr (m, compiled) })

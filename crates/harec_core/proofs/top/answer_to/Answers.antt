@@ -1,21 +1,21 @@
-use Rattle.std.proofs.lemmas.Result.{err_from_is_err_and}
-use Rattle.harec_check.proofs.FileLemmas.{length-AreTold}
-use Rattle.harec_core.specs.Outside.{Count}
-use Rattle.harec_core.proofs.Causes.{files_of-command_on, silent, stop_cause}
 use Rattle.harec_core.proofs.top.answer_to.Goals as goal
 
-pub returns-in_err-srcs-clause-cause : goal.returns-in_err-srcs-clause-cause
-returns-in_err-srcs-clause-cause g c =
-    let p = err_from_is_err_and c.from_residual.result c.from_residual.ensures.1 in
-    let same = files_of-command_on c.args.task.files.now c.args.task.action in
-    rw (p.1, p.2)
-    (stop_cause _ _ _ _ c.requires.count_of_files _ c.args.fill _ _ _ same (silent _ _) c.requires.empty c.in_err-srcs.ensures.err)
+pub lay_out-requires-clause-one : goal.lay_out-requires-clause-one
+lay_out-requires-clause-one g c = rw c.in-Layout.is at c.requires.few
 
-pub carry_out-requires-clause-paired : goal.carry_out-requires-clause-paired
-carry_out-requires-clause-paired g c = length-AreTold _ _ _ c.in_ok-srcs.ensures.ok.told
+pub returns-in-Layout-clause-cause : goal.returns-in-Layout-clause-cause
+returns-in-Layout-clause-cause g c =
+    let (srcs, told, cause) = c.lay_out.ensures.cause in
+    rw c.in-Layout.is (srcs, told, cause _ _ c.requires.empty)
 
-pub returns-clause-cause : goal.returns-clause-cause
-returns-clause-cause g c =
-    let read = c.in_ok-srcs.ensures.ok in
-    let files : Count = record { before = g.F.Files.faults c.args.files.now; now = g.F.Files.faults c.check.new.files } in
-    (c.in_ok-srcs.srcs, read.told, c.carry_out.ensures.cause files read.stands)
+pub returns-in-Layout-clause-leaves : goal.returns-in-Layout-clause-leaves
+returns-in-Layout-clause-leaves g c = rw c.in-Layout.is c.lay_out.ensures.leaves
+
+pub checked-requires-clause-few : goal.checked-requires-clause-few
+checked-requires-clause-few g c = rw c.in-Program.is at c.requires.few
+
+pub returns-in-Program-clause-cause : goal.returns-in-Program-clause-cause
+returns-in-Program-clause-cause g c = rw c.in-Program.is c.checked.ensures.cause
+
+pub returns-in-Program-clause-leaves : goal.returns-in-Program-clause-leaves
+returns-in-Program-clause-leaves g c = rw c.in-Program.is c.checked.ensures.leaves

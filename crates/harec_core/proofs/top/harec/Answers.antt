@@ -1,7 +1,7 @@
 use Rattle.std.proofs.Common.{◌≢◌, refl}
 use Rattle.harec_core.specs.declared.answer.Answer.TheVariants.{Usage, FileFault, WriteFault}
 use Rattle.harec_core.proofs.Answering.{answered_is, answers, found_file_fault, found_usage, write_fault_where}
-use Rattle.harec_core.proofs.Causes.{files_of-command_on}
+use Rattle.harec_core.proofs.Causes.{files_of-command_for}
 use Rattle.harec_core.proofs.top.harec.Goals as goal
 
 usage_differs : Usage ≢ WriteFault
@@ -45,7 +45,7 @@ pub returns-clause-command : goal.returns-clause-command
 returns-clause-command g c = λ command w.
     let found = c.answer_to-found.ensures.cause in
     let line = c.tell.ensures.line in
-    let files = files_of-command_on c.in-Some.task.files.now c.in-Some.task.action in
+    let files = files_of-command_for c.in-Some.task.files.now c.in-Some.task.action in
     rw (← c.in-Some.ensures.only command w) (
       found.0,
       rw files found.1,

@@ -1,0 +1,2 @@
+use rt;export fn main()void={rt::puts("a");// greets
+};

@@ -1,0 +1,1 @@
+export fn main() void = {
