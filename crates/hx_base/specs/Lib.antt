@@ -1,3 +1,4 @@
 pub mod Memory
 pub mod Numbers
+pub mod Operations
 pub mod Runtime
