@@ -39,7 +39,8 @@ knowing-said ds w a f t k =
           };
       fails = λ r c l. fails-alike ds w a t f r c k l;
       fault = λ r c l.
-          ap (λ (z : Setting). fault_of r (record c { setting = knowing ds z })) (sym (setting_of-fails w a t f r c l)) ∙ fault_of-told ds c r;
+          ap (λ (z : Setting). fault_of r (record c { setting = knowing ds z })) (sym (setting_of-fails w a t f r c l)) ∙ fault_of-told ds c
+          r;
       lacks = λ c l. lacks-alike ds w a t f c k l;
       behind = λ x e c. behind-alike ds w a x f (ks x e) c;
     }

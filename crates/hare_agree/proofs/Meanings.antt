@@ -162,7 +162,8 @@ IsKnownAlike-callee w v (marked h m ts) k = by_path (is_path h.kind) k.0 where
   by_path true j = j refl
   by_path false j = λ n e. cc
 
-pub callee-alike : (ds : List DeclType) (w : Setting) (x : TypedNode) → IsTreeAlike w (knowing ds w) x → callee (knowing ds w) x ≡ callee w x
+pub callee-alike : (ds : List DeclType) (w : Setting) (x : TypedNode) → IsTreeAlike w (knowing ds w) x →
+    callee (knowing ds w) x ≡ callee w x
 callee-alike ds w x k = called-alike ds w (callee_meaning x) (IsKnownAlike-callee w (knowing ds w) x k)
 
 pub function_called-alike : (ds : List DeclType) (c : Context) → IsKnownAlike c.setting (knowing ds c.setting) c.meaning →

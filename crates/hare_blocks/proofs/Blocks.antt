@@ -46,7 +46,8 @@ module _ (n : ℕ) where
     tail : List Token
     tests : Reads test_tokens ConditionFits test behind (block_tokens body ++ tail)
     blocks : ReadsBlock body (block_tokens body ++ tail) tail
-    ends : ((s ≡ chooses test body) × (tail ≡ rest)) ⊎ ((other : Statements) × (s ≡ chooses_one test body other) × (tail ≡ token.Else ∷ (block_tokens other ++ rest)) × BlockFits n other)
+    ends : ((s ≡ chooses test body) × (tail ≡ rest)) ⊎
+        ((other : Statements) × (s ≡ chooses_one test body other) × (tail ≡ token.Else ∷ (block_tokens other ++ rest)) × BlockFits n other)
 
   chosen : (s : Statement) (behind rest : List Token) → ReadsStatement n s (token.If ∷ behind) rest → Chosen s behind rest
   chosen (declares x e) behind rest h = let k = h.spelled in absurd cc
@@ -56,10 +57,16 @@ module _ (n : ℕ) where
     body = body;
     tail = rest;
     tests = record {
-      spelled = let k = h.spelled in let l : behind ≡ (test_tokens c ++ block_tokens body) ++ rest = cc in l ∙ append_assoc (test_tokens c) (block_tokens body) rest;
+      spelled =
+          let k = h.spelled in let l : behind ≡ (test_tokens c ++ block_tokens body) ++ rest =
+          cc in l ∙ append_assoc (test_tokens c) (block_tokens body) rest;
       fits = all_left (condition_exprs c) (statements_exprs body) h.fits.limited;
     };
-    blocks = record { spelled = refl; fits = record { blocks = h.fits.blocks; limited = all_right (condition_exprs c) (statements_exprs body) h.fits.limited } };
+    blocks = record {
+      spelled = refl;
+      fits =
+          record { blocks = h.fits.blocks; limited = all_right (condition_exprs c) (statements_exprs body) h.fits.limited };
+    };
     ends = inl (refl, refl);
   }
   chosen (chooses_one c body other) behind rest h =
@@ -70,18 +77,35 @@ module _ (n : ℕ) where
         body = body;
         tail = token.Else ∷ (block_tokens other ++ rest);
         tests = record {
-          spelled = let k = h.spelled in let l : behind ≡ (test_tokens c ++ (block_tokens body ++ (token.Else ∷ block_tokens other))) ++ rest = cc in l ∙ append_assoc (test_tokens c) (block_tokens body ++ (token.Else ∷ block_tokens other)) rest ∙ ap (λ y. test_tokens c ++ y) (append_assoc (block_tokens body) (token.Else ∷ block_tokens other) rest);
+          spelled =
+              let k = h.spelled in let l : behind ≡ (test_tokens c ++ (block_tokens body ++ (token.Else ∷ block_tokens other))) ++ rest =
+              cc in l ∙ append_assoc (test_tokens c) (block_tokens body ++ (token.Else ∷ block_tokens other)) rest ∙ ap
+              (λ y. test_tokens c ++ y) (append_assoc (block_tokens body) (token.Else ∷ block_tokens other) rest);
           fits = all_left (condition_exprs c) (statements_exprs body ++ statements_exprs other) h.fits.limited;
         };
-        blocks = record { spelled = refl; fits = record { blocks = omega (arith, deep); limited = all_left (statements_exprs body) (statements_exprs other) blocks } };
-        ends = inr (other, refl, refl, record { blocks = omega (arith, deep); limited = all_right (statements_exprs body) (statements_exprs other) blocks });
+        blocks = record {
+          spelled = refl;
+          fits =
+              record { blocks = omega (arith, deep); limited = all_left (statements_exprs body) (statements_exprs other) blocks };
+        };
+        ends = inr (
+          other,
+          refl,
+          refl,
+          record
+              { blocks = omega (arith, deep); limited = all_right (statements_exprs body) (statements_exprs other) blocks },
+        );
       }
   chosen (repeats c body) behind rest h = let k = h.spelled in absurd cc
   chosen (puts text) behind rest h = let k = h.spelled in absurd cc
   chosen (exits e) behind rest h = let k = h.spelled in absurd cc
 
   pub if_no_test : (behind left end : List Token) → IsTestRead None behind left → IsStatementRead n None (token.If ∷ behind) end
-  if_no_test behind left end r = record { sound = tt; whole = λ s rest h stop. let p = chosen s behind rest h in r.whole p.test (block_tokens p.body ++ p.tail) p.tests tt }
+  if_no_test behind left end r = record {
+    sound = tt;
+    whole = λ s rest h stop. let p = chosen s behind rest h in r.whole p.test
+        (block_tokens p.body ++ p.tail) p.tests tt;
+  }
 
   module _ (c : Condition) (behind mid : List Token) (r : IsTestRead (Some c) behind mid) where
     -- the test that was read, and what stands behind it
@@ -91,14 +115,24 @@ module _ (n : ℕ) where
         (k.0, subst (λ l. ReadsBlock p.body l p.tail) (sym k.1) p.blocks)
 
     pub if_no_body : (left end : List Token) → IsBlockRead None mid left → IsStatementRead n None (token.If ∷ behind) end
-    if_no_body left end q = record { sound = tt; whole = λ s rest h stop. let p = chosen s behind rest h in q.whole p.body p.tail (tested s rest p).1 tt }
+    if_no_body left end q = record {
+      sound = tt;
+      whole = λ s rest h stop. let p = chosen s behind rest h in q.whole p.body p.tail
+          (tested s rest p).1 tt;
+    }
 
     module _ (body : Statements) (last : List Token) (q : IsBlockRead (Some body) mid last) where
-      pub if_read : (end : List Token) → ((more : List Token) → last ≢ token.Else ∷ more) → end ≡ last → IsStatementRead n (Some (chooses c body)) (token.If ∷ behind) end
+      pub if_read : (end : List Token) → ((more : List Token) → last ≢ token.Else ∷ more) → end ≡ last →
+          IsStatementRead n (Some (chooses c body)) (token.If ∷ behind) end
       if_read end alone same = record {
         sound = record {
-          spelled = ap (λ t. token.If ∷ t) (r.sound.spelled ∙ rw (q.sound.spelled, same) (sym (append_assoc (test_tokens c) (block_tokens body) last)));
-          fits = record { blocks = q.sound.fits.blocks; limited = all_both (condition_exprs c) (statements_exprs body) r.sound.fits q.sound.fits.limited };
+          spelled = ap (λ t. token.If ∷ t) (r.sound.spelled ∙ rw (q.sound.spelled, same)
+              (sym (append_assoc (test_tokens c) (block_tokens body) last)));
+          fits = record {
+            blocks = q.sound.fits.blocks;
+            limited = all_both (condition_exprs c) (statements_exprs body) r.sound.fits
+                q.sound.fits.limited;
+          };
         };
         whole = λ s rest h stop.
             let p = chosen s behind rest h in
@@ -107,34 +141,52 @@ module _ (n : ℕ) where
             by s rest p (ap (λ x. chooses x body) t.0 ∙ ap (chooses p.test) k.0) k.1 p.ends;
       }
         where
-          by : (s : Statement) (rest : List Token) (p : Chosen s behind rest) → chooses c body ≡ chooses p.test p.body → last ≡ p.tail → ((s ≡ chooses p.test p.body) × (p.tail ≡ rest)) ⊎ ((other : Statements) × (s ≡ chooses_one p.test p.body other) × (p.tail ≡ token.Else ∷ (block_tokens other ++ rest)) × BlockFits n other) → (chooses c body ≡ s) × (end ≡ rest)
+          by : (s : Statement) (rest : List Token) (p : Chosen s behind rest) → chooses c body ≡ chooses p.test p.body → last ≡ p.tail →
+              ((s ≡ chooses p.test p.body) × (p.tail ≡ rest)) ⊎
+              ((other : Statements) × (s ≡ chooses_one p.test p.body other) × (p.tail ≡ token.Else ∷ (block_tokens other ++ rest)) ×
+              BlockFits n other) → (chooses c body ≡ s) × (end ≡ rest)
           by s rest p e l (inl m) = (e ∙ sym m.0, same ∙ l ∙ m.1)
           by s rest p e l (inr m) = absurd (alone (block_tokens m.0 ++ rest) (l ∙ m.2))
 
       -- behind `else` stands the other block
-      other_behind : (s : Statement) (back rest : List Token) → last ≡ token.Else ∷ back → IsEnded rest → ReadsStatement n s (token.If ∷ behind) rest → (other : Statements) × (s ≡ chooses_one c body other) × ReadsBlock other back rest
+      other_behind : (s : Statement) (back rest : List Token) → last ≡ token.Else ∷ back → IsEnded rest →
+          ReadsStatement n s (token.If ∷ behind) rest → (other : Statements) × (s ≡ chooses_one c body other) × ReadsBlock other back rest
       other_behind s back rest f stop h =
           let p = chosen s behind rest h in
           let t = tested s rest p in
           let k = q.whole p.body p.tail t.1 tt in
           by p t.0 k.0 (sym f ∙ k.1) p.ends
         where
-          by : (p : Chosen s behind rest) → c ≡ p.test → body ≡ p.body → token.Else ∷ back ≡ p.tail → ((s ≡ chooses p.test p.body) × (p.tail ≡ rest)) ⊎ ((other : Statements) × (s ≡ chooses_one p.test p.body other) × (p.tail ≡ token.Else ∷ (block_tokens other ++ rest)) × BlockFits n other) → (other : Statements) × (s ≡ chooses_one c body other) × ReadsBlock other back rest
+          by : (p : Chosen s behind rest) → c ≡ p.test → body ≡ p.body → token.Else ∷ back ≡ p.tail →
+              ((s ≡ chooses p.test p.body) × (p.tail ≡ rest)) ⊎
+              ((other : Statements) × (s ≡ chooses_one p.test p.body other) × (p.tail ≡ token.Else ∷ (block_tokens other ++ rest)) ×
+              BlockFits n other) → (other : Statements) × (s ≡ chooses_one c body other) × ReadsBlock other back rest
           by p a b l (inl m) = absurd (no_else rest back stop (sym (l ∙ m.1)))
           by p a b l (inr m) =
-              let e = l ∙ m.2 in
-              (m.0, m.1 ∙ ap (λ x. chooses_one x p.body m.0) (sym a) ∙ ap (λ x. chooses_one c x m.0) (sym b), record { spelled = cc; fits = m.3 })
+              let e = l ∙ m.2 in (
+                m.0,
+                m.1 ∙ ap (λ x. chooses_one x p.body m.0) (sym a) ∙ ap (λ x. chooses_one c x m.0) (sym b),
+                record { spelled = cc; fits = m.3 },
+              )
 
-      pub if_no_other : (back left end : List Token) → last ≡ token.Else ∷ back → IsBlockRead None back left → IsStatementRead n None (token.If ∷ behind) end
-      if_no_other back left end f o = record { sound = tt; whole = λ s rest h stop. let p = other_behind s back rest f stop h in o.whole p.0 rest p.2 tt }
+      pub if_no_other : (back left end : List Token) → last ≡ token.Else ∷ back → IsBlockRead None back left →
+          IsStatementRead n None (token.If ∷ behind) end
+      if_no_other back left end f o = record
+          { sound = tt; whole = λ s rest h stop. let p = other_behind s back rest f stop h in o.whole p.0 rest p.2 tt }
 
-      pub if_else_read : (other : Statements) (back end : List Token) → last ≡ token.Else ∷ back → IsBlockRead (Some other) back end → IsStatementRead n (Some (chooses_one c body other)) (token.If ∷ behind) end
+      pub if_else_read : (other : Statements) (back end : List Token) → last ≡ token.Else ∷ back → IsBlockRead (Some other) back end →
+          IsStatementRead n (Some (chooses_one c body other)) (token.If ∷ behind) end
       if_else_read other back end f o = record {
         sound = record {
-          spelled = ap (λ t. token.If ∷ t) (r.sound.spelled ∙ rw (q.sound.spelled, f, o.sound.spelled) (sym (append_assoc (test_tokens c) (block_tokens body ++ (token.Else ∷ block_tokens other)) end ∙ ap (λ y. test_tokens c ++ y) (append_assoc (block_tokens body) (token.Else ∷ block_tokens other) end))));
+          spelled = ap (λ t. token.If ∷ t) (r.sound.spelled ∙ rw (q.sound.spelled, f, o.sound.spelled)
+              (sym (append_assoc (test_tokens c) (block_tokens body ++ (token.Else ∷ block_tokens other)) end ∙ ap (λ y. test_tokens c ++ y)
+              (append_assoc (block_tokens body) (token.Else ∷ block_tokens other) end))));
           fits = record {
-            blocks = let a : 1 + statements_blocks body ≤ n = q.sound.fits.blocks in let b : 1 + statements_blocks other ≤ n = o.sound.fits.blocks in omega (arith, a, b);
-            limited = all_both (condition_exprs c) (statements_exprs body ++ statements_exprs other) r.sound.fits (all_both (statements_exprs body) (statements_exprs other) q.sound.fits.limited o.sound.fits.limited);
+            blocks =
+                let a : 1 + statements_blocks body ≤ n = q.sound.fits.blocks in let b : 1 + statements_blocks other ≤ n =
+                o.sound.fits.blocks in omega (arith, a, b);
+            limited = all_both (condition_exprs c) (statements_exprs body ++ statements_exprs other) r.sound.fits
+                (all_both (statements_exprs body) (statements_exprs other) q.sound.fits.limited o.sound.fits.limited);
           };
         };
         whole = λ s rest h stop.
@@ -162,18 +214,29 @@ module _ (n : ℕ) where
     body = body;
     is = refl;
     tests = record {
-      spelled = let k = h.spelled in let l : behind ≡ (test_tokens c ++ block_tokens body) ++ rest = cc in l ∙ append_assoc (test_tokens c) (block_tokens body) rest;
+      spelled =
+          let k = h.spelled in let l : behind ≡ (test_tokens c ++ block_tokens body) ++ rest =
+          cc in l ∙ append_assoc (test_tokens c) (block_tokens body) rest;
       fits = all_left (condition_exprs c) (statements_exprs body) h.fits.limited;
     };
-    blocks = record { spelled = refl; fits = record { blocks = h.fits.blocks; limited = all_right (condition_exprs c) (statements_exprs body) h.fits.limited } };
+    blocks = record {
+      spelled = refl;
+      fits =
+          record { blocks = h.fits.blocks; limited = all_right (condition_exprs c) (statements_exprs body) h.fits.limited };
+    };
   }
   repeated (puts text) behind rest h = let k = h.spelled in absurd cc
   repeated (exits e) behind rest h = let k = h.spelled in absurd cc
 
   pub for_no_test : (behind left end : List Token) → IsTestRead None behind left → IsStatementRead n None (token.For ∷ behind) end
-  for_no_test behind left end r = record { sound = tt; whole = λ s rest h stop. let p = repeated s behind rest h in r.whole p.test (block_tokens p.body ++ rest) p.tests tt }
+  for_no_test behind left end r = record {
+    sound = tt;
+    whole = λ s rest h stop. let p = repeated s behind rest h in r.whole p.test
+        (block_tokens p.body ++ rest) p.tests tt;
+  }
 
-  pub for_no_body : (c : Condition) (behind mid left end : List Token) → IsTestRead (Some c) behind mid → IsBlockRead None mid left → IsStatementRead n None (token.For ∷ behind) end
+  pub for_no_body : (c : Condition) (behind mid left end : List Token) → IsTestRead (Some c) behind mid → IsBlockRead None mid left →
+      IsStatementRead n None (token.For ∷ behind) end
   for_no_body c behind mid left end r q = record {
     sound = tt;
     whole = λ s rest h stop.
@@ -182,11 +245,16 @@ module _ (n : ℕ) where
         q.whole p.body rest (subst (λ l. ReadsBlock p.body l rest) (sym k.1) p.blocks) tt;
   }
 
-  pub for_read : (c : Condition) (body : Statements) (behind mid end : List Token) → IsTestRead (Some c) behind mid → IsBlockRead (Some body) mid end → IsStatementRead n (Some (repeats c body)) (token.For ∷ behind) end
+  pub for_read : (c : Condition) (body : Statements) (behind mid end : List Token) → IsTestRead (Some c) behind mid →
+      IsBlockRead (Some body) mid end → IsStatementRead n (Some (repeats c body)) (token.For ∷ behind) end
   for_read c body behind mid end r q = record {
     sound = record {
       spelled = ap (λ t. token.For ∷ t) (r.sound.spelled ∙ rw q.sound.spelled (sym (append_assoc (test_tokens c) (block_tokens body) end)));
-      fits = record { blocks = q.sound.fits.blocks; limited = all_both (condition_exprs c) (statements_exprs body) r.sound.fits q.sound.fits.limited };
+      fits = record {
+        blocks = q.sound.fits.blocks;
+        limited = all_both (condition_exprs c) (statements_exprs body) r.sound.fits
+            q.sound.fits.limited;
+      };
     };
     whole = λ s rest h stop.
         let p = repeated s behind rest h in
@@ -198,7 +266,8 @@ module _ (n : ℕ) where
   -- ---- statements
 
   -- what a statement begins with
-  pub other_statement : (t : Token) (tokens behind end : List Token) → tokens ≡ t ∷ behind → t ≢ token.Let → t ≢ token.If → t ≢ token.For → ((x : List ℕ) → t ≢ token.Name x) → IsStatementRead n None tokens end
+  pub other_statement : (t : Token) (tokens behind end : List Token) → tokens ≡ t ∷ behind → t ≢ token.Let → t ≢ token.If → t ≢ token.For →
+      ((x : List ℕ) → t ≢ token.Name x) → IsStatementRead n None tokens end
   other_statement t tokens behind end f a b d e = record { sound = tt; whole = λ s rest h stop. by s rest (sym f ∙ h.spelled) }
     where
       by : (s : Statement) (rest : List Token) → t ∷ behind ≡ statement_tokens s ++ rest → ⊥

@@ -20,22 +20,28 @@ pub has_number : (x : List ℕ) (bs : List (List ℕ × ℕ)) → is_some (numbe
 has_number x [] = refl
 has_number x (b ∷ bs) = by (has_number x bs) (bytes_eq b.0 x)
   where
-    by : is_some (number_of x bs) ≡ names.has_name (names_of bs) x → (c : Bool) → is_some (cond c (Some b.1) (number_of x bs)) ≡ (c || names.has_name (names_of bs) x)
+    by : is_some (number_of x bs) ≡ names.has_name (names_of bs) x → (c : Bool) →
+        is_some (cond c (Some b.1) (number_of x bs)) ≡ (c || names.has_name (names_of bs) x)
     by rest true = refl
     by rest false = rest
 
 -- ---- further terms and factors
 
 module _ (declared : List (List ℕ)) where
-  signed_holds : (s : Sign) (t : Term) (ts : Terms) → names.terms_hold declared (signed s t ts) ≡ (names.term_holds declared t && names.terms_hold declared ts)
+  signed_holds : (s : Sign) (t : Term) (ts : Terms) →
+      names.terms_hold declared (signed s t ts) ≡ (names.term_holds declared t && names.terms_hold declared ts)
   signed_holds sign.Plus t ts = refl
   signed_holds sign.Minus t ts = refl
 
   -- the terms that are left, where the next one holds or does not
-  pub next_term : (ts : List SignedTerm) (i : ℕ) (d : SignedTerm) → i < length ts → names.terms_hold declared (terms_of (drop i ts)) ≡ (names.term_holds declared (get_or ts i d).term && names.terms_hold declared (terms_of (drop (i + 1) ts)))
+  pub next_term : (ts : List SignedTerm) (i : ℕ) (d : SignedTerm) → i < length ts →
+      names.terms_hold declared (terms_of (drop i ts)) ≡
+      (names.term_holds declared (get_or ts i d).term && names.terms_hold declared (terms_of (drop (i + 1) ts)))
   next_term ts i d h = rw (add-one, drop-cons ts i d) (signed_holds (get_or ts i d).sign (get_or ts i d).term (terms_of (drop (suc i) ts)))
 
-  pub next_factor : (fs : List read_factor.Factor) (i : ℕ) (d : read_factor.Factor) → i < length fs → names.factors_hold declared (factors_of (drop i fs)) ≡ (names.factor_holds declared (factor_of (get_or fs i d)) && names.factors_hold declared (factors_of (drop (i + 1) fs)))
+  pub next_factor : (fs : List read_factor.Factor) (i : ℕ) (d : read_factor.Factor) → i < length fs →
+      names.factors_hold declared (factors_of (drop i fs)) ≡
+      (names.factor_holds declared (factor_of (get_or fs i d)) && names.factors_hold declared (factors_of (drop (i + 1) fs)))
   next_factor fs i d h = rw (add-one, drop-cons fs i d) refl
 
   -- none are left
@@ -54,5 +60,7 @@ module _ (declared : List (List ℕ)) where
 -- ---- statements
 
 -- the statements that are left, behind one that holds
-pub next_statement : (declared behind : List (List ℕ)) (ss : List Statement) (i : ℕ) (s : Statement) → slice_get ss i ≡ Some s → names.statement_holds declared s ≡ true → behind ≡ declared_behind s declared → names.statements_hold behind (list_of_statements (drop (i + 1) ss)) ≡ names.statements_hold declared (list_of_statements (drop i ss))
+pub next_statement : (declared behind : List (List ℕ)) (ss : List Statement) (i : ℕ) (s : Statement) → slice_get ss i ≡ Some s →
+    names.statement_holds declared s ≡ true → behind ≡ declared_behind s declared →
+    names.statements_hold behind (list_of_statements (drop (i + 1) ss)) ≡ names.statements_hold declared (list_of_statements (drop i ss))
 next_statement declared behind ss i s at holds is = rw (drop_statement ss i s at, holds, is, add-one) refl

@@ -28,7 +28,9 @@ below a b = compares (one a) less (one b)
 
 -- let i = 0z; for (i < rt::nargs()) { rt::puts("ab"); i = i + 1z; }; rt::exit((i * 2z): u8);
 abbrev puts_each : Program
-puts_each = block_of (first (declares (codes "i") (one (number 0))) (first (repeats (below i arg_count) (first (puts (codes "ab")) (first counts nothing))) (first (exits (multiplied i (number 2))) nothing)))
+puts_each = block_of (first (declares (codes "i") (one (number 0)))
+    (first (repeats (below i arg_count) (first (puts (codes "ab")) (first counts nothing)))
+    (first (exits (multiplied i (number 2))) nothing)))
 
 -- three arguments: it needs four turns, one of which only tests
 row_puts_each : run 3 puts_each 4 ≡ (Exit 6, codes "ababab")
@@ -55,32 +57,43 @@ row_empty : run 0 (block_of nothing) 0 ≡ (Exit 0, [])
 row_empty = refl
 
 -- let i = 1z; if (true) { let i = 2z; i = 3z; }; rt::exit((i): u8);
-row_shadowed : run 0 (block_of (first (declares (codes "i") (one (number 1))) (first (chooses always (first (declares (codes "i") (one (number 2))) (first (assigns (codes "i") (one (number 3))) nothing))) (first (exits (one i)) nothing)))) 0 ≡ (Exit 1, [])
+row_shadowed : run 0 (block_of (first (declares (codes "i") (one (number 1)))
+    (first (chooses always (first (declares (codes "i") (one (number 2))) (first (assigns (codes "i") (one (number 3))) nothing)))
+    (first (exits (one i)) nothing)))) 0 ≡ (Exit 1, [])
 row_shadowed = refl
 
 -- let i = 1z; if (true) { i = 3z; }; rt::exit((i): u8);
-row_outer : run 0 (block_of (first (declares (codes "i") (one (number 1))) (first (chooses always (first (assigns (codes "i") (one (number 3))) nothing)) (first (exits (one i)) nothing)))) 0 ≡ (Exit 3, [])
+row_outer : run 0 (block_of (first (declares (codes "i") (one (number 1)))
+    (first (chooses always (first (assigns (codes "i") (one (number 3))) nothing)) (first (exits (one i)) nothing)))) 0 ≡ (Exit 3, [])
 row_outer = refl
 
 -- let i = 5z; let i = i + 1z; rt::exit((i): u8);
-row_declared_again : run 0 (block_of (first (declares (codes "i") (one (number 5))) (first (declares (codes "i") (added i (number 1))) (first (exits (one i)) nothing)))) 0 ≡ (Exit 6, [])
+row_declared_again : run 0 (block_of (first (declares (codes "i") (one (number 5)))
+    (first (declares (codes "i") (added i (number 1))) (first (exits (one i)) nothing)))) 0 ≡ (Exit 6, [])
 row_declared_again = refl
 
 -- if (1z < 0z) { rt::puts("then"); } else { rt::puts("else"); };
-row_else : run 0 (block_of (first (chooses_one (below (number 1) (number 0)) (first (puts (codes "then")) nothing) (first (puts (codes "else")) nothing)) nothing)) 0 ≡ (Exit 0, codes "else")
+row_else : run 0 (block_of (first (chooses_one (below (number 1) (number 0)) (first (puts (codes "then")) nothing)
+    (first (puts (codes "else")) nothing)) nothing)) 0 ≡ (Exit 0, codes "else")
 row_else = refl
 
 -- if (0z < 1z) { rt::puts("then"); } else { rt::puts("else"); };
-row_then : run 0 (block_of (first (chooses_one (below (number 0) (number 1)) (first (puts (codes "then")) nothing) (first (puts (codes "else")) nothing)) nothing)) 0 ≡ (Exit 0, codes "then")
+row_then : run 0 (block_of (first (chooses_one (below (number 0) (number 1)) (first (puts (codes "then")) nothing)
+    (first (puts (codes "else")) nothing)) nothing)) 0 ≡ (Exit 0, codes "then")
 row_then = refl
 
 -- if (0z - 1z > 1z) { rt::exit((255z + 2z): u8); };
-row_wraps : run 0 (block_of (first (chooses (compares (sum_of (product_of (number 0) no_factor) (minus (product_of (number 1) no_factor) no_term)) greater (one (number 1))) (first (exits (added (number 255) (number 2))) nothing)) nothing)) 0 ≡ (Exit 1, [])
+row_wraps : run 0 (block_of (first (chooses (compares
+    (sum_of (product_of (number 0) no_factor) (minus (product_of (number 1) no_factor) no_term)) greater (one (number 1)))
+    (first (exits (added (number 255) (number 2))) nothing)) nothing)) 0 ≡ (Exit 1, [])
 row_wraps = refl
 
 -- let i = 0z; for (i < 2z) { let j = 0z; for (j < 2z) { rt::puts("*"); j = j + 1z; }; rt::puts("|"); i = i + 1z; };
 abbrev rows_of_stars : Program
-rows_of_stars = block_of (first (declares (codes "i") (one (number 0))) (first (repeats (below i (number 2)) (first (declares (codes "j") (one (number 0))) (first (repeats (below j (number 2)) (first (puts (codes "*")) (first (assigns (codes "j") (added j (number 1))) nothing))) (first (puts (codes "|")) (first counts nothing))))) nothing))
+rows_of_stars = block_of (first (declares (codes "i") (one (number 0)))
+    (first (repeats (below i (number 2)) (first (declares (codes "j") (one (number 0)))
+    (first (repeats (below j (number 2)) (first (puts (codes "*")) (first (assigns (codes "j") (added j (number 1))) nothing)))
+    (first (puts (codes "|")) (first counts nothing))))) nothing))
 
 -- the second turn of the outer loop and the turns within it stand in the first one's place: five turns are enough
 row_nested : run 0 rows_of_stars 5 ≡ (Exit 0, codes "**|**|")

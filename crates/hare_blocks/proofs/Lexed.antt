@@ -20,7 +20,8 @@ use Rattle.hare_blocks.specs.Lexing.{Begins, number_of, number_at, behind_byte, 
 -- ---- a choice that answers
 
 -- a choice answers by its first arm or by its second
-choice : {A P : Type 0} (b : Bool) (x y : Option A) (r : A) → (b ≡ true → x ≡ Some r → P) → (b ≡ false → y ≡ Some r → P) → cond b x y ≡ Some r → P
+choice : {A P : Type 0} (b : Bool) (x y : Option A) (r : A) → (b ≡ true → x ≡ Some r → P) → (b ≡ false → y ≡ Some r → P) →
+    cond b x y ≡ Some r → P
 choice true x y r f g h = f refl h
 choice false x y r f g h = g refl h
 
@@ -50,12 +51,22 @@ unfolding number_at
 numeral_at s m h = option_and_then_some _ _ m h (λ n e k.
     let parts = number_of_parts _ n e in
     let same = same_Some _ m k in
-    subst (λ (x : ℕ × List ℕ). IsNumeral s x.0 x.1) same (record { digits = take (prefix_len is_ascii_digit s) s; joined = sym (take-append-drop _ s); all = digits_in_front s; some = parts.0; is = parts.1; fits = parts.2 }))
+    subst (λ (x : ℕ × List ℕ). IsNumeral s x.0 x.1) same
+    (record {
+      digits = take (prefix_len is_ascii_digit s) s;
+      joined = sym (take-append-drop _ s);
+      all = digits_in_front s;
+      some =
+          parts.0;
+      is = parts.1;
+      fits = parts.2;
+    }))
 
 -- the byte that is asked for stands in front
 behind_byte_is : (b : ℕ) (s rest : List ℕ) → behind_byte b s ≡ Some rest → s ≡ b ∷ rest
 behind_byte_is b [] rest h = absurd (cc)
-behind_byte_is b (c ∷ s) rest h = choice (eqb c b) (Some s) None rest (λ e k. rw ((Decides-eqb c b).0 e, same_Some s rest k) refl) (λ e k. absurd (cc)) h
+behind_byte_is b (c ∷ s) rest h = choice (eqb c b) (Some s) None rest (λ e k. rw ((Decides-eqb c b).0 e, same_Some s rest k) refl)
+    (λ e k. absurd (cc)) h
 
 -- the text begins with a number that is found
 number_found : (s : List ℕ) (m : Token × List ℕ) → number_token_at s ≡ Some m → Begins s m.0 m.1
@@ -64,14 +75,22 @@ number_found s m h = option_and_then_some _ _ m h (λ n e k. option_and_then_som
     let numeral = numeral_at s n e in
     let suffix = behind_byte_is 122 n.1 rest f in
     let joined = numeral.joined ∙ ap (λ x. numeral.digits ++ x) suffix ∙ sym (append_assoc numeral.digits (122 ∷ []) rest) in
-    subst (λ (x : Token × List ℕ). Begins s x.0 x.1) (same_Some _ m g) (record { spelling = numeral.digits ++ 122 ∷ []; spelled = (numeral.digits, refl, numeral.all, numeral.some, numeral.is, numeral.fits); longest = refl; joined = joined })))
+    subst (λ (x : Token × List ℕ). Begins s x.0 x.1) (same_Some _ m g)
+    (record {
+      spelling = numeral.digits ++ 122 ∷ [];
+      spelled =
+          (numeral.digits, refl, numeral.all, numeral.some, numeral.is, numeral.fits);
+      longest = refl;
+      joined = joined;
+    })))
 
 -- ---- words: what is found
 
 -- behind the elements that pass stands one that does not, or the end
 stops : (p : ℕ → Bool) (s : List ℕ) → p 0 ≡ false → p (get_or (drop (prefix_len p s) s) 0 0) ≡ false
 stops p [] h = h
-stops p (c ∷ s) h = elim (p c) as (λ b. p c ≡ b → p (get_or (drop (cond b (1 + prefix_len p s) 0) (c ∷ s)) 0 0) ≡ false) [ true ↦ λ e. rw one-add (stops p s h) | false ↦ λ e. e ] refl
+stops p (c ∷ s) h = elim (p c) as (λ b. p c ≡ b → p (get_or (drop (cond b (1 + prefix_len p s) 0) (c ∷ s)) 0 0) ≡ false)
+    [ true ↦ λ e. rw one-add (stops p s h) | false ↦ λ e. e ] refl
 
 -- the word is the token's spelling, and the token goes on where a word does
 record IsWord (t : Token) (word : List ℕ) : Type 0 where
@@ -80,8 +99,10 @@ record IsWord (t : Token) (word : List ℕ) : Type 0 where
   listed : is_listed keywords word ≡ true
 
 -- the word is this one, or one of the others
-word_case : (w word : List ℕ) (t u : Token) (others : Option Token) → IsWord t word → (others ≡ Some u → IsWord u w) → cond (bytes_eq w word) (Some t) others ≡ Some u → IsWord u w
-word_case w word t u others is rest h = choice (bytes_eq w word) (Some t) others u (λ e k. rw ((bytes_eq-Decides w word).0 e, ← same_Some t u k) is) (λ e k. rest k) h
+word_case : (w word : List ℕ) (t u : Token) (others : Option Token) → IsWord t word → (others ≡ Some u → IsWord u w) →
+    cond (bytes_eq w word) (Some t) others ≡ Some u → IsWord u w
+word_case w word t u others is rest h = choice (bytes_eq w word) (Some t) others u
+    (λ e k. rw ((bytes_eq-Decides w word).0 e, ← same_Some t u k) is) (λ e k. rest k) h
 
 -- each keyword
 keyword_is : (w : List ℕ) (u : Token) → keyword w ≡ Some u → IsWord u w
@@ -106,7 +127,8 @@ record IsWordToken (t : Token) (word : List ℕ) : Type 0 where
 -- a name
 name_is : (w : List ℕ) (u : Token) → name w ≡ Some u → IsWordToken u w
 unfolding name
-name_is w u h = choice (is_name w) (Some (Name w)) None u (λ e k. subst (λ t. IsWordToken t w) (same_Some (Name w) u k) (record { spelled = (refl, e); goes = λ c. refl })) (λ e k. absurd (cc)) h
+name_is w u h = choice (is_name w) (Some (Name w)) None u
+    (λ e k. subst (λ t. IsWordToken t w) (same_Some (Name w) u k) (record { spelled = (refl, e); goes = λ c. refl })) (λ e k. absurd (cc)) h
 
 -- a keyword or a name
 word_is : (w : List ℕ) (u : Token) → word_token w ≡ Some u → IsWordToken u w
@@ -122,7 +144,13 @@ word_found : (s : List ℕ) (m : Token × List ℕ) → word_token_at s ≡ Some
 unfolding word_token_at
 word_found s m h = option_and_then_some _ _ m h (λ t e k.
     let word = word_is _ t e in
-    subst (λ (x : Token × List ℕ). Begins s x.0 x.1) (same_Some _ m k) (record { spelling = take (prefix_len is_word_byte s) s; spelled = word.spelled; longest = word.goes _ ∙ stops is_word_byte s refl; joined = sym (take-append-drop _ s) }))
+    subst (λ (x : Token × List ℕ). Begins s x.0 x.1) (same_Some _ m k)
+    (record {
+      spelling = take (prefix_len is_word_byte s) s;
+      spelled = word.spelled;
+      longest = word.goes _ ∙ stops is_word_byte s refl;
+      joined = sym (take-append-drop _ s);
+    }))
 
 -- ---- strings: what is found
 
@@ -131,7 +159,8 @@ front_passes : (p : ℕ → Bool) (s : List ℕ) → list_all p (take (prefix_le
 front_passes p [] = refl
 front_passes p (c ∷ s) = by (p c) refl (front_passes p s)
   where
-    by : (b : Bool) → p c ≡ b → list_all p (take (prefix_len p s) s) ≡ true → list_all p (take (cond b (1 + prefix_len p s) 0) (c ∷ s)) ≡ true
+    by : (b : Bool) → p c ≡ b → list_all p (take (prefix_len p s) s) ≡ true →
+        list_all p (take (cond b (1 + prefix_len p s) 0) (c ∷ s)) ≡ true
     by true e h = rw one-add (rw e h)
     by false e h = refl
 
@@ -141,14 +170,18 @@ unfolding text_token_at
 text_found s m h = option_and_then_some _ _ m h (λ rest e k.
     let n = prefix_len is_plain s in
     let quote = behind_byte_is 34 (drop n s) rest e in
-    let joined : 34 ∷ s ≡ (34 ∷ (take n s ++ 34 ∷ [])) ++ rest = ap (λ x. 34 ∷ x) (sym (take-append-drop n s) ∙ ap (λ x. take n s ++ x) quote ∙ sym (append_assoc (take n s) (34 ∷ []) rest)) in
-    subst (λ (x : Token × List ℕ). Begins (34 ∷ s) x.0 x.1) (same_Some _ m k) (record { spelling = 34 ∷ (take n s ++ 34 ∷ []); spelled = (refl, front_passes is_plain s); longest = refl; joined = joined }))
+    let joined : 34 ∷ s ≡ (34 ∷ (take n s ++ 34 ∷ [])) ++ rest =
+    ap (λ x. 34 ∷ x) (sym (take-append-drop n s) ∙ ap (λ x. take n s ++ x) quote ∙ sym (append_assoc (take n s) (34 ∷ []) rest)) in
+    subst (λ (x : Token × List ℕ). Begins (34 ∷ s) x.0 x.1) (same_Some _ m k)
+    (record { spelling = 34 ∷ (take n s ++ 34 ∷ []); spelled = (refl, front_passes is_plain s); longest = refl; joined = joined }))
 
 -- ---- marks: what is found
 
 -- the byte is this mark, or one of the others
-mark_case : (c d : ℕ) (t u : Token) (others : Option Token) → IsSpelling t (d ∷ []) → (others ≡ Some u → IsSpelling u (c ∷ [])) → cond (eqb c d) (Some t) others ≡ Some u → IsSpelling u (c ∷ [])
-mark_case c d t u others is rest h = choice (eqb c d) (Some t) others u (λ e k. rw ((Decides-eqb c d).0 e, ← same_Some t u k) is) (λ e k. rest k) h
+mark_case : (c d : ℕ) (t u : Token) (others : Option Token) → IsSpelling t (d ∷ []) → (others ≡ Some u → IsSpelling u (c ∷ [])) →
+    cond (eqb c d) (Some t) others ≡ Some u → IsSpelling u (c ∷ [])
+mark_case c d t u others is rest h = choice (eqb c d) (Some t) others u (λ e k. rw ((Decides-eqb c d).0 e, ← same_Some t u k) is)
+    (λ e k. rest k) h
 
 -- each mark of one byte
 mark_is : (c : ℕ) (u : Token) → mark c ≡ Some u → IsSpelling u (c ∷ [])
@@ -173,8 +206,15 @@ record IsLong (t : Token) (s : List ℕ) : Type 0 where
   ends : (x : ℕ) → goes_on t x ≡ false
 
 -- the bytes are this mark, or one of the others
-long_case : (c d x y : ℕ) (t u : Token) (others : Option Token) → IsLong t (x ∷ y ∷ []) → (others ≡ Some u → IsLong u (c ∷ d ∷ [])) → cond (eqb c x && eqb d y) (Some t) others ≡ Some u → IsLong u (c ∷ d ∷ [])
-long_case c d x y t u others is rest h = choice (eqb c x && eqb d y) (Some t) others u (λ e k. rw ((Decides-eqb c x).0 (and_left (eqb c x) (eqb d y) e), (Decides-eqb d y).0 (and_right (eqb c x) (eqb d y) e), ← same_Some t u k) is) (λ e k. rest k) h
+long_case : (c d x y : ℕ) (t u : Token) (others : Option Token) → IsLong t (x ∷ y ∷ []) → (others ≡ Some u → IsLong u (c ∷ d ∷ [])) →
+    cond (eqb c x && eqb d y) (Some t) others ≡ Some u → IsLong u (c ∷ d ∷ [])
+long_case c d x y t u others is rest h = choice (eqb c x && eqb d y) (Some t) others u
+    (λ e k. rw (
+      (Decides-eqb c x).0 (and_left (eqb c x) (eqb d y) e),
+      (Decides-eqb d y).0 (and_right (eqb c x) (eqb d y) e),
+      ← same_Some t u
+          k,
+    ) is) (λ e k. rest k) h
 
 -- each mark of two bytes
 long_mark_is : (c d : ℕ) (u : Token) → long_mark c d ≡ Some u → IsLong u (c ∷ d ∷ [])
@@ -189,7 +229,10 @@ long_mark_is c d u h =
 -- the text begins with a mark of one byte that is found
 short_found : (c : ℕ) (rest : List ℕ) (m : Token × List ℕ) → short_mark_at c rest ≡ Some m → Begins (c ∷ rest) m.0 m.1
 unfolding short_mark_at
-short_found c rest m h = option_and_then_some _ _ m h (λ t e g. choice (goes_on t (get_or rest 0 0)) None (Some (t, rest)) m (λ f k. absurd (cc)) (λ f k. subst (λ (x : Token × List ℕ). Begins (c ∷ rest) x.0 x.1) (same_Some _ m k) (record { spelling = c ∷ []; spelled = mark_is c t e; longest = f; joined = refl })) g)
+short_found c rest m h = option_and_then_some _ _ m h
+    (λ t e g. choice (goes_on t (get_or rest 0 0)) None (Some (t, rest)) m (λ f k. absurd (cc))
+    (λ f k. subst (λ (x : Token × List ℕ). Begins (c ∷ rest) x.0 x.1) (same_Some _ m k)
+    (record { spelling = c ∷ []; spelled = mark_is c t e; longest = f; joined = refl })) g)
 
 -- the text begins with a mark that is found
 mark_found : (c : ℕ) (rest : List ℕ) (m : Token × List ℕ) → mark_at c rest ≡ Some m → Begins (c ∷ rest) m.0 m.1
@@ -201,7 +244,8 @@ mark_found c (d ∷ rest) m h = by (long_mark c d) refl h
     by None e k = short_found c (d ∷ rest) m k
     by (Some t) e k =
         let is = long_mark_is c d t e in
-        subst (λ (x : Token × List ℕ). Begins (c ∷ d ∷ rest) x.0 x.1) (same_Some _ m k) (record { spelling = c ∷ d ∷ []; spelled = is.spelled; longest = is.ends (get_or rest 0 0); joined = refl })
+        subst (λ (x : Token × List ℕ). Begins (c ∷ d ∷ rest) x.0 x.1) (same_Some _ m k)
+        (record { spelling = c ∷ d ∷ []; spelled = is.spelled; longest = is.ends (get_or rest 0 0); joined = refl })
 
 -- the text begins with the token that is found
 pub token_found : (s : List ℕ) (m : Token × List ℕ) → token_at s ≡ Some m → Begins s m.0 m.1
@@ -210,7 +254,8 @@ token_found [] m h = absurd (cc)
 token_found (c ∷ s) m h =
     choice (is_ascii_digit c) (number_token_at (c ∷ s)) _ m (λ e k. number_found (c ∷ s) m k) (λ e k.
     choice (is_letter c) (word_token_at (c ∷ s)) _ m (λ f g. word_found (c ∷ s) m g) (λ f g.
-    choice (eqb c 34) (text_token_at s) (mark_at c s) m (λ q l. rw ((Decides-eqb c 34).0 q) (text_found s m l)) (λ q l. mark_found c s m l) g) k) h
+    choice (eqb c 34) (text_token_at s) (mark_at c s) m (λ q l. rw ((Decides-eqb c 34).0 q) (text_found s m l)) (λ q l. mark_found c s m l)
+    g) k) h
 
 -- ---- the token with which a text begins is found
 
@@ -220,9 +265,11 @@ word_stops [] h = refl
 word_stops (c ∷ rest) h = rw h refl
 
 -- a word in front is found
-word_first : (w rest : List ℕ) (t : Token) → prefix_len is_word_byte w ≡ length w → is_word_byte (get_or rest 0 0) ≡ false → word_token w ≡ Some t → word_token_at (w ++ rest) ≡ Some (t, rest)
+word_first : (w rest : List ℕ) (t : Token) → prefix_len is_word_byte w ≡ length w → is_word_byte (get_or rest 0 0) ≡ false →
+    word_token w ≡ Some t → word_token_at (w ++ rest) ≡ Some (t, rest)
 unfolding word_token_at
-word_first w rest t all stop e = ap (λ k. word_behind k (w ++ rest)) (run_len is_word_byte w rest all (word_stops rest stop)) ∙ rw (take-append_seam w rest, drop-append_seam w rest, e) refl
+word_first w rest t all stop e = ap (λ k. word_behind k (w ++ rest)) (run_len is_word_byte w rest all (word_stops rest stop)) ∙ rw
+    (take-append_seam w rest, drop-append_seam w rest, e) refl
 
 -- all of the elements pass
 pub all_pass : (p : ℕ → Bool) (s : List ℕ) → list_all p s ≡ true → prefix_len p s ≡ length s
@@ -262,19 +309,23 @@ name_first : (w rest : List ℕ) → is_name w ≡ true → is_word_byte (get_or
 unfolding token_at
 name_first [] rest h stop = absurd (cc)
 name_first (c ∷ w) rest h stop =
-    let word : (is_letter c && list_all is_word_byte w) ≡ true = and_left (is_word (c ∷ w)) (not (is_listed keywords (c ∷ w)) && not (is_left_out false (c ∷ w))) h in
+    let word : (is_letter c && list_all is_word_byte w) ≡ true =
+    and_left (is_word (c ∷ w)) (not (is_listed keywords (c ∷ w)) && not (is_left_out false (c ∷ w))) h in
     let letter : is_letter c ≡ true = and_left (is_letter c) (list_all is_word_byte w) word in
     let others : list_all is_word_byte w ≡ true = and_right (is_letter c) (list_all is_word_byte w) word in
     let all : list_all is_word_byte (c ∷ w) ≡ true = rw (letter_in_word c letter, others) refl in
-    rw (letter_no_digit c letter, letter) (word_first (c ∷ w) rest (Name (c ∷ w)) (all_pass is_word_byte (c ∷ w) all) stop (name_token (c ∷ w) h))
+    rw (letter_no_digit c letter, letter) (word_first (c ∷ w) rest (Name (c ∷ w)) (all_pass is_word_byte (c ∷ w) all) stop
+    (name_token (c ∷ w) h))
 
 -- a string behind its quote is found
 text_first : (text rest : List ℕ) → list_all is_plain text ≡ true → text_token_at (text ++ 34 ∷ rest) ≡ Some (Text text, rest)
 unfolding text_token_at
-text_first text rest h = ap (λ k. text_behind k (text ++ 34 ∷ rest)) (run_len is_plain text (34 ∷ rest) (all_pass is_plain text h) refl) ∙ rw (take-append_seam text (34 ∷ rest), drop-append_seam text (34 ∷ rest)) refl
+text_first text rest h = ap (λ k. text_behind k (text ++ 34 ∷ rest)) (run_len is_plain text (34 ∷ rest) (all_pass is_plain text h) refl) ∙
+    rw (take-append_seam text (34 ∷ rest), drop-append_seam text (34 ∷ rest)) refl
 
 -- a number in front is found
-number_first : (ds rest : List ℕ) → all_ascii_digits ds ≡ true → 0 < length ds → digits_value 10 ds < 2 ^ 64 → token_at (ds ++ 122 ∷ rest) ≡ Some (Number (digits_value 10 ds), rest)
+number_first : (ds rest : List ℕ) → all_ascii_digits ds ≡ true → 0 < length ds → digits_value 10 ds < 2 ^ 64 →
+    token_at (ds ++ 122 ∷ rest) ≡ Some (Number (digits_value 10 ds), rest)
 unfolding token_at number_token_at
 number_first [] rest h n v = absurd (omega arith)
 number_first (d ∷ ds) rest h n v =
@@ -283,7 +334,8 @@ number_first (d ∷ ds) rest h n v =
     rw (digit, number) refl
 
 -- a mark of one byte is found, where no mark of two begins with it there
-short_first : (t : Token) (c : ℕ) (rest : List ℕ) → mark c ≡ Some t → goes_on t (get_or rest 0 0) ≡ false → ((d : ℕ) → goes_on t d ≡ false → long_mark c d ≡ None) → mark_at c rest ≡ Some (t, rest)
+short_first : (t : Token) (c : ℕ) (rest : List ℕ) → mark c ≡ Some t → goes_on t (get_or rest 0 0) ≡ false →
+    ((d : ℕ) → goes_on t d ≡ false → long_mark c d ≡ None) → mark_at c rest ≡ Some (t, rest)
 unfolding mark_at short_mark_at
 short_first t c [] e l alone = rw (e, l) refl
 short_first t c (d ∷ rest) e l alone = rw (alone d l, e, l) refl

@@ -26,7 +26,8 @@ and_right false b h = absurd (cc)
 -- ---- the digits in front
 
 -- one byte more in front, whether it is a digit or not
-first_digit : (c : ℕ) (s : List ℕ) (n : ℕ) (b : Bool) → is_ascii_digit c ≡ b → all_ascii_digits (take n s) ≡ true → all_ascii_digits (take (cond b (1 + n) 0) (c ∷ s)) ≡ true
+first_digit : (c : ℕ) (s : List ℕ) (n : ℕ) (b : Bool) → is_ascii_digit c ≡ b → all_ascii_digits (take n s) ≡ true →
+    all_ascii_digits (take (cond b (1 + n) 0) (c ∷ s)) ≡ true
 first_digit c s n false e h = refl
 first_digit c s n true e h = rw one-add (rw e h)
 
@@ -42,7 +43,8 @@ pub own : IsNumeralModel (λ ds. all_ascii_digits ds ≡ true) (digits_value 10)
 own = numerals_by_value _ tells_all_ascii_digits
 
 -- what std's `parse` answers is the number
-pub number_is : {E : Type 0} (ds : List ℕ) (r : Result ℕ E) → OkIff r ((0 < length ds) × (digits_value 10 ds < 2 ^ 64)) (digits_value 10 ds) → result_ok r ≡ number_of ds
+pub number_is : {E : Type 0} (ds : List ℕ) (r : Result ℕ E) →
+    OkIff r ((0 < length ds) × (digits_value 10 ds < 2 ^ 64)) (digits_value 10 ds) → result_ok r ≡ number_of ds
 number_is ds (Ok x) h = grind (arith, nat_tests)
 number_is ds (Err e) h = grind (arith, nat_tests)
 
@@ -75,6 +77,8 @@ all_digits_len (d ∷ ds) h =
     rw (digit, more) (one-add (length ds))
 
 -- the number of digits in front of something else is found
-pub number_at-append : (ds rest : List ℕ) (n : ℕ) → all_ascii_digits ds ≡ true → prefix_len is_ascii_digit rest ≡ 0 → number_of ds ≡ Some n → number_at (ds ++ rest) ≡ Some (n, rest)
+pub number_at-append : (ds rest : List ℕ) (n : ℕ) → all_ascii_digits ds ≡ true → prefix_len is_ascii_digit rest ≡ 0 →
+    number_of ds ≡ Some n → number_at (ds ++ rest) ≡ Some (n, rest)
 unfolding number_at
-number_at-append ds rest n h stop e = ap (λ k. number_behind k (ds ++ rest)) (run_len is_ascii_digit ds rest (all_digits_len ds h) stop) ∙ rw (take-append_seam ds rest, drop-append_seam ds rest, e) refl
+number_at-append ds rest n h stop e = ap (λ k. number_behind k (ds ++ rest)) (run_len is_ascii_digit ds rest (all_digits_len ds h) stop) ∙
+    rw (take-append_seam ds rest, drop-append_seam ds rest, e) refl

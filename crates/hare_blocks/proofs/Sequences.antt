@@ -15,7 +15,8 @@ abbrev pub joined_statements : List Statement → Statements → Statements
 joined_statements [] us = us
 joined_statements (x ∷ xs) us = first x (joined_statements xs us)
 
-joined_statements-push : (xs : List Statement) (x : Statement) (us : Statements) → joined_statements (xs ++ x ∷ []) us ≡ joined_statements xs (first x us)
+joined_statements-push : (xs : List Statement) (x : Statement) (us : Statements) →
+    joined_statements (xs ++ x ∷ []) us ≡ joined_statements xs (first x us)
 joined_statements-push [] x us = refl
 joined_statements-push (y ∷ xs) x us = ap (first y) (joined_statements-push xs x us)
 
@@ -41,8 +42,10 @@ module _ (n : ℕ) where
   IsClosedRead = IsRead closed_tokens (StatementsFit n) Anything
 
   -- the tokens of a statement in front of others
-  spread : (s : Statement) (ss : Statements) (rest : List Token) → closed_tokens (first s ss) ++ rest ≡ statement_tokens s ++ (token.Semicolon ∷ (closed_tokens ss ++ rest))
-  spread s ss rest = ap (λ t. t ++ rest) (append_assoc (statement_tokens s) (token.Semicolon ∷ statements_tokens ss) (token.CloseBrace ∷ [])) ∙ append_assoc (statement_tokens s) (token.Semicolon ∷ closed_tokens ss) rest
+  spread : (s : Statement) (ss : Statements) (rest : List Token) →
+      closed_tokens (first s ss) ++ rest ≡ statement_tokens s ++ (token.Semicolon ∷ (closed_tokens ss ++ rest))
+  spread s ss rest = ap (λ t. t ++ rest) (append_assoc (statement_tokens s) (token.Semicolon ∷ statements_tokens ss)
+      (token.CloseBrace ∷ [])) ∙ append_assoc (statement_tokens s) (token.Semicolon ∷ closed_tokens ss) rest
 
   record Preceded (us : Statements) (tokens rest : List Token) : Type 0 where
     statement : Statement
@@ -52,7 +55,8 @@ module _ (n : ℕ) where
     more : ReadsClosed others (closed_tokens others ++ rest) rest
 
   -- where no brace closes, a statement stands in front of others
-  preceded : (us : Statements) (tokens rest : List Token) → ReadsClosed us tokens rest → ((behind : List Token) → tokens ≢ token.CloseBrace ∷ behind) → Preceded us tokens rest
+  preceded : (us : Statements) (tokens rest : List Token) → ReadsClosed us tokens rest →
+      ((behind : List Token) → tokens ≢ token.CloseBrace ∷ behind) → Preceded us tokens rest
   preceded nothing tokens rest h other = absurd (other rest h.spelled)
   preceded (first s ss) tokens rest h other =
       let deep : max (statement_blocks s) (statements_blocks ss) ≤ n = h.fits.blocks in
@@ -60,31 +64,49 @@ module _ (n : ℕ) where
         statement = s;
         others = ss;
         is = refl;
-        reads = record { spelled = h.spelled ∙ spread s ss rest; fits = record { blocks = omega (arith, deep); limited = all_left (statement_exprs s) (statements_exprs ss) h.fits.limited } };
-        more = record { spelled = refl; fits = record { blocks = omega (arith, deep); limited = all_right (statement_exprs s) (statements_exprs ss) h.fits.limited } };
+        reads = record {
+          spelled = h.spelled ∙ spread s ss rest;
+          fits =
+              record { blocks = omega (arith, deep); limited = all_left (statement_exprs s) (statements_exprs ss) h.fits.limited };
+        };
+        more = record {
+          spelled = refl;
+          fits =
+              record { blocks = omega (arith, deep); limited = all_right (statement_exprs s) (statements_exprs ss) h.fits.limited };
+        };
       }
 
-  first_read : (s : Statement) (ss : Statements) (tokens mid behind rest : List Token) → ReadsStatement n s tokens mid → mid ≡ token.Semicolon ∷ behind → ReadsClosed ss behind rest → ReadsClosed (first s ss) tokens rest
+  first_read : (s : Statement) (ss : Statements) (tokens mid behind rest : List Token) → ReadsStatement n s tokens mid →
+      mid ≡ token.Semicolon ∷ behind → ReadsClosed ss behind rest → ReadsClosed (first s ss) tokens rest
   first_read s ss tokens mid behind rest r f q = record {
     spelled = r.spelled ∙ rw (f, q.spelled) (sym (spread s ss rest));
-    fits = record { blocks = omega (arith, r.fits.blocks, q.fits.blocks); limited = all_both (statement_exprs s) (statements_exprs ss) r.fits.limited q.fits.limited };
+    fits = record {
+      blocks = omega (arith, r.fits.blocks, q.fits.blocks);
+      limited = all_both (statement_exprs s) (statements_exprs ss)
+          r.fits.limited q.fits.limited;
+    };
   }
 
   -- where a brace closes there are no statements
-  no_statements : (us : Statements) (behind rest : List Token) → token.CloseBrace ∷ behind ≡ closed_tokens us ++ rest → (us ≡ nothing) × (behind ≡ rest)
+  no_statements : (us : Statements) (behind rest : List Token) → token.CloseBrace ∷ behind ≡ closed_tokens us ++ rest → (us ≡ nothing) ×
+      (behind ≡ rest)
   no_statements nothing behind rest h = (refl, cc)
-  no_statements (first s ss) behind rest h = absurd (not_brace s behind (token.Semicolon ∷ (closed_tokens ss ++ rest)) (h ∙ spread s ss rest))
+  no_statements (first s ss) behind rest h =
+      absurd (not_brace s behind (token.Semicolon ∷ (closed_tokens ss ++ rest)) (h ∙ spread s ss rest))
 
   -- statements so far: what is still to read makes them whole
   pub record StatementsSoFar (xs : List Statement) (tokens left : List Token) : Type 0 where
     pub sound : (us : Statements) (rest : List Token) → ReadsClosed us left rest → ReadsClosed (joined_statements xs us) tokens rest
-    pub whole : (ss : Statements) (rest : List Token) → ReadsClosed ss tokens rest → (us : Statements) × (ss ≡ joined_statements xs us) × ReadsClosed us left rest
+    pub whole : (ss : Statements) (rest : List Token) → ReadsClosed ss tokens rest → (us : Statements) × (ss ≡ joined_statements xs us) ×
+        ReadsClosed us left rest
 
   pub statements_begin : (tokens : List Token) → StatementsSoFar [] tokens tokens
   statements_begin tokens = record { sound = λ us rest q. q; whole = λ ss rest h. (ss, refl, h) }
 
-  module _ (xs : List Statement) (tokens left : List Token) (so : StatementsSoFar xs tokens left) (open_brace : (behind : List Token) → left ≢ token.CloseBrace ∷ behind) where
-    pub statements_more : (s : Statement) (mid end : List Token) → IsStatementRead n (Some s) left mid → mid ≡ token.Semicolon ∷ end → StatementsSoFar (xs ++ s ∷ []) tokens end
+  module _ (xs : List Statement) (tokens left : List Token) (so : StatementsSoFar xs tokens left)
+      (open_brace : (behind : List Token) → left ≢ token.CloseBrace ∷ behind) where
+    pub statements_more : (s : Statement) (mid end : List Token) → IsStatementRead n (Some s) left mid → mid ≡ token.Semicolon ∷ end →
+        StatementsSoFar (xs ++ s ∷ []) tokens end
     statements_more s mid end r f = record {
       sound = λ us rest q. rw (joined_statements-push xs s us) (so.sound (first s us) rest (first_read s us left mid end rest r.sound f q));
       whole = λ ss rest h.
@@ -92,8 +114,12 @@ module _ (n : ℕ) where
           let p = preceded k.0 left rest k.2 open_brace in
           let m = r.whole p.statement (token.Semicolon ∷ (closed_tokens p.others ++ rest)) p.reads refl in
           let same = sym f ∙ m.1 in
-          let behind : end ≡ closed_tokens p.others ++ rest = cc in
-          (p.others, k.1 ∙ ap (joined_statements xs) (p.is ∙ ap (λ x. first x p.others) (sym m.0)) ∙ sym (joined_statements-push xs s p.others), subst (λ l. ReadsClosed p.others l rest) (sym behind) p.more);
+          let behind : end ≡ closed_tokens p.others ++ rest = cc in (
+            p.others,
+            k.1 ∙ ap (joined_statements xs) (p.is ∙ ap (λ x. first x p.others) (sym m.0)) ∙ sym
+                (joined_statements-push xs s p.others),
+            subst (λ l. ReadsClosed p.others l rest) (sym behind) p.more,
+          );
     }
 
     pub statements_break : (mid end : List Token) → IsStatementRead n None left mid → IsClosedRead None tokens end
@@ -105,7 +131,8 @@ module _ (n : ℕ) where
           r.whole p.statement (token.Semicolon ∷ (closed_tokens p.others ++ rest)) p.reads refl;
     }
 
-    pub statements_unended : (s : Statement) (mid end : List Token) → IsStatementRead n (Some s) left mid → ((behind : List Token) → mid ≢ token.Semicolon ∷ behind) → IsClosedRead None tokens end
+    pub statements_unended : (s : Statement) (mid end : List Token) → IsStatementRead n (Some s) left mid →
+        ((behind : List Token) → mid ≢ token.Semicolon ∷ behind) → IsClosedRead None tokens end
     statements_unended s mid end r other = record {
       sound = tt;
       whole = λ ss rest h stop.
@@ -114,9 +141,11 @@ module _ (n : ℕ) where
           other (closed_tokens p.others ++ rest) (r.whole p.statement (token.Semicolon ∷ (closed_tokens p.others ++ rest)) p.reads refl).1;
     }
 
-  pub statements_end : (xs : List Statement) (tokens left end : List Token) → StatementsSoFar xs tokens left → left ≡ token.CloseBrace ∷ end → IsClosedRead (Some (list_of_statements xs)) tokens end
+  pub statements_end : (xs : List Statement) (tokens left end : List Token) → StatementsSoFar xs tokens left →
+      left ≡ token.CloseBrace ∷ end → IsClosedRead (Some (list_of_statements xs)) tokens end
   statements_end xs tokens left end so f = record {
-    sound = rw (← joined_statements-end xs) (so.sound nothing end (record { spelled = f; fits = record { blocks = omega arith; limited = tt } }));
+    sound = rw (← joined_statements-end xs) (so.sound nothing end
+        (record { spelled = f; fits = record { blocks = omega arith; limited = tt } }));
     whole = λ ss rest h stop.
         let k = so.whole ss rest h in
         let none = no_statements k.0 end rest (sym f ∙ k.2.spelled) in
@@ -126,16 +155,22 @@ module _ (n : ℕ) where
 -- ---- blocks
 
 pub block_too_deep : (n : ℕ) (tokens end : List Token) → n ≡ 0 → IsBlockRead n None tokens end
-block_too_deep n tokens end none = record { sound = tt; whole = λ ss rest h stop. let k : 1 + statements_blocks ss ≤ n = h.fits.blocks in omega (arith, k, none) }
+block_too_deep n tokens end none = record {
+  sound = tt;
+  whole = λ ss rest h stop. let k : 1 + statements_blocks ss ≤ n =
+      h.fits.blocks in omega (arith, k, none);
+}
 
-pub block_unopened : (n : ℕ) (tokens end : List Token) → ((behind : List Token) → tokens ≢ token.OpenBrace ∷ behind) → IsBlockRead n None tokens end
+pub block_unopened : (n : ℕ) (tokens end : List Token) → ((behind : List Token) → tokens ≢ token.OpenBrace ∷ behind) →
+    IsBlockRead n None tokens end
 block_unopened n tokens end other = record {
   sound = tt;
   whole = λ ss rest h stop. other (closed_tokens ss ++ rest) h.spelled;
 }
 
 -- a block is what closes behind the brace that opens it
-pub block_opened : (n : ℕ) (o : Option Statements) (tokens behind end : List Token) → 0 < n → tokens ≡ token.OpenBrace ∷ behind → IsClosedRead (n - 1) o behind end → IsBlockRead n o tokens end
+pub block_opened : (n : ℕ) (o : Option Statements) (tokens behind end : List Token) → 0 < n → tokens ≡ token.OpenBrace ∷ behind →
+    IsClosedRead (n - 1) o behind end → IsBlockRead n o tokens end
 block_opened n None tokens behind end some f r = record {
   sound = tt;
   whole = λ ss rest h stop.
@@ -144,7 +179,11 @@ block_opened n None tokens behind end some f r = record {
       r.whole ss rest (record { spelled = cc; fits = record { blocks = omega (arith, k); limited = h.fits.limited } }) tt;
 }
 block_opened n (Some x) tokens behind end some f r = record {
-  sound = record { spelled = f ∙ ap (λ t. token.OpenBrace ∷ t) r.sound.spelled; fits = record { blocks = (let k = r.sound.fits.blocks in omega (arith, k, some)); limited = r.sound.fits.limited } };
+  sound = record {
+    spelled = f ∙ ap (λ t. token.OpenBrace ∷ t) r.sound.spelled;
+    fits =
+        record { blocks = (let k = r.sound.fits.blocks in omega (arith, k, some)); limited = r.sound.fits.limited };
+  };
   whole = λ ss rest h stop.
       let k : 1 + statements_blocks ss ≤ n = h.fits.blocks in
       let e = sym f ∙ h.spelled in

@@ -22,11 +22,16 @@ back = token.CloseParen ∷ token.Colon ∷ token.U8 ∷ token.CloseParen ∷ to
 -- the limits of a file whose body is an exit alone are those of its expression too
 exit_fits : (e : Expr) → AreLimited (file_tokens (exit_of e)) → AreLimited (expr_tokens e)
 exit_fits e l =
-    let spread : file_tokens (exit_of e) ≡ front ++ (expr_tokens e ++ back) = ap (λ t. front ++ t) (append_assoc (expr_tokens e) (token.CloseParen ∷ token.Colon ∷ token.U8 ∷ token.CloseParen ∷ []) (token.Semicolon ∷ [])) in
+    let spread : file_tokens (exit_of e) ≡ front ++ (expr_tokens e ++ back) =
+    ap (λ t. front ++ t) (append_assoc (expr_tokens e) (token.CloseParen ∷ token.Colon ∷ token.U8 ∷ token.CloseParen ∷ [])
+    (token.Semicolon ∷ [])) in
     let limit : AreLimited (front ++ (expr_tokens e ++ back)) = subst AreLimited spread l in
     let deep : most_open 2 (expr_tokens e ++ back) ≤ 64 = omega (arith, limit.nested) in
     let alone : most_open 0 (expr_tokens e) ≡ max (0 + expr_depth e) 0 = rw append-nil at (open_expr e 0 []) in
-    let count : count_by is_operator (front ++ (expr_tokens e ++ back)) ≡ count_by is_operator front + (count_by is_operator (expr_tokens e) + count_by is_operator back) = sum_by-append (λ t. cond (is_operator t) 1 0) front (expr_tokens e ++ back) ∙ ap (λ n. count_by is_operator front + n) (sum_by-append (λ t. cond (is_operator t) 1 0) (expr_tokens e) back) in
+    let count : count_by is_operator (front ++ (expr_tokens e ++ back)) ≡
+    count_by is_operator front + (count_by is_operator (expr_tokens e) + count_by is_operator back) =
+    sum_by-append (λ t. cond (is_operator t) 1 0) front (expr_tokens e ++ back) ∙ ap (λ n. count_by is_operator front + n)
+    (sum_by-append (λ t. cond (is_operator t) 1 0) (expr_tokens e) back) in
     record {
       nested = omega (arith, deep, alone, open_expr e 2 back);
       operators = omega (arith, limit.operators, count);

@@ -26,7 +26,8 @@ nothing (c ∷ s) n = absurd (omega arith)
 -- the bytes up to the first that is no blank are blanks
 blank_front : (s : List ℕ) → AllBlank (take (prefix_len is_blank s) s)
 blank_front [] = tt
-blank_front (c ∷ s) = elim (is_blank c) as (λ b. is_blank c ≡ b → AllBlank (take (cond b (1 + prefix_len is_blank s) 0) (c ∷ s))) [ true ↦ λ e. rw one-add (e, blank_front s) | false ↦ λ e. tt ] refl
+blank_front (c ∷ s) = elim (is_blank c) as (λ b. is_blank c ≡ b → AllBlank (take (cond b (1 + prefix_len is_blank s) 0) (c ∷ s)))
+    [ true ↦ λ e. rw one-add (e, blank_front s) | false ↦ λ e. tt ] refl
 
 -- all blanks pass
 blank_len : (s : List ℕ) → AllBlank s → prefix_len is_blank s ≡ length s
@@ -42,7 +43,8 @@ all_blank s h = rw (blank_len s h) (drop-length s)
 -- where nothing stands behind the blanks, all are blanks
 no_blank : (s : List ℕ) → unblanked s ≡ [] → AllBlank s
 no_blank s h =
-    let whole : take (prefix_len is_blank s) s ≡ s = sym (append-nil _) ∙ ap (λ x. take (prefix_len is_blank s) s ++ x) (sym h) ∙ take-append-drop _ s in
+    let whole : take (prefix_len is_blank s) s ≡ s =
+    sym (append-nil _) ∙ ap (λ x. take (prefix_len is_blank s) s ++ x) (sym h) ∙ take-append-drop _ s in
     subst AllBlank whole (blank_front s)
 
 -- what begins with no blank stands behind blanks
@@ -75,7 +77,8 @@ letter_shown c h = grind (arith, nat_tests, common_steps)
 name_shown : (w : List ℕ) → is_name w ≡ true → IsShown w
 name_shown [] h = absurd (cc)
 name_shown (c ∷ w) h =
-    let word : (is_letter c && list_all is_word_byte w) ≡ true = and_left (is_word (c ∷ w)) (not (is_listed keywords (c ∷ w)) && not (is_left_out false (c ∷ w))) h in
+    let word : (is_letter c && list_all is_word_byte w) ≡ true =
+    and_left (is_word (c ∷ w)) (not (is_listed keywords (c ∷ w)) && not (is_left_out false (c ∷ w))) h in
     record { first = c; others = w; is = refl; shown = letter_shown c (and_left (is_letter c) (list_all is_word_byte w) word) }
 
 -- each token's spelling
@@ -122,9 +125,11 @@ shown_length s h = rw h.is (omega arith)
 -- ---- the first token of a text
 
 -- what stands behind the blanks begins with the first token
-begins : (t : Token) (ts : List Token) (text : List ℕ) → Spells (t ∷ ts) text → (rest : List ℕ) × (token_at (unblanked text) ≡ Some (t, rest)) × Spells ts rest
+begins : (t : Token) (ts : List Token) (text : List ℕ) → Spells (t ∷ ts) text → (rest : List ℕ) ×
+    (token_at (unblanked text) ≡ Some (t, rest)) × Spells ts rest
 begins t ts text h =
-    let front : unblanked text ≡ h.1 ++ h.2 = ap unblanked h.6 ∙ behind_blanks h.0 (h.1 ++ h.2) h.3 (shows h.1 h.2 (token_shown t h.1 h.4)) in
+    let front : unblanked text ≡ h.1 ++ h.2 =
+    ap unblanked h.6 ∙ behind_blanks h.0 (h.1 ++ h.2) h.3 (shows h.1 h.2 (token_shown t h.1 h.4)) in
     (h.2, token_only (unblanked text) t h.2 (record { spelling = h.1; spelled = h.4; longest = h.5; joined = front }), h.7)
 
 -- blanks are spelled by no token alone
@@ -147,7 +152,8 @@ spells_none [] text h n e =
 spells_none (t ∷ ts) text h n e = let b = begins t ts text h in let k = sym e ∙ b.1 in cc
 
 -- the token that is found is the first
-pub spells_more : (us : List Token) (text : List ℕ) (t : Token) (rest : List ℕ) → Spells us text → 0 < length (unblanked text) → token_at (unblanked text) ≡ Some (t, rest) → (ts : List Token) × (us ≡ t ∷ ts) × Spells ts rest
+pub spells_more : (us : List Token) (text : List ℕ) (t : Token) (rest : List ℕ) → Spells us text → 0 < length (unblanked text) →
+    token_at (unblanked text) ≡ Some (t, rest) → (ts : List Token) × (us ≡ t ∷ ts) × Spells ts rest
 spells_more [] text t rest h n e =
     let k = ap length (all_blank text h) in
     absurd (omega arith)
@@ -157,7 +163,8 @@ spells_more (u ∷ us) text t rest h n e =
     (us, rw parts.0 refl, rw parts.1 b.2)
 
 -- the token that is found stands in front of those that spell the rest
-pub spells_first : (ts : List Token) (text : List ℕ) (t : Token) (rest : List ℕ) → token_at (unblanked text) ≡ Some (t, rest) → Spells ts rest → Spells (t ∷ ts) text
+pub spells_first : (ts : List Token) (text : List ℕ) (t : Token) (rest : List ℕ) → token_at (unblanked text) ≡ Some (t, rest) →
+    Spells ts rest → Spells (t ∷ ts) text
 spells_first ts text t rest e h =
     let b = token_found (unblanked text) (t, rest) e in
     let n = prefix_len is_blank text in
@@ -173,5 +180,6 @@ spells_shorter text t rest e =
     omega (arith, joined, some, length-append b.spelling rest, length-drop (prefix_len is_blank text) text)
 
 -- all tokens are those so far, with the next one pushed, and the others
-pub all_pushed : (ts items us pushed others : List Token) (t : Token) → ts ≡ items ++ us → us ≡ t ∷ others → pushed ≡ items ++ t ∷ [] → ts ≡ pushed ++ others
+pub all_pushed : (ts items us pushed others : List Token) (t : Token) → ts ≡ items ++ us → us ≡ t ∷ others → pushed ≡ items ++ t ∷ [] →
+    ts ≡ pushed ++ others
 all_pushed ts items us pushed others t h more push = rw (h, more, push, append_assoc) refl

@@ -28,13 +28,18 @@ tell_name : (declared : List (List ℕ)) (x : List ℕ) → Tells (has_name decl
 tell_name [] x = record { told = λ h. absurd cc; tells = λ h. absurd (omega (arith, h.1)) }
 tell_name (y ∷ ys) x = by (bytes_eq y x) refl (tell_name ys x)
   where
-    later : (b : Bool) → Tells b (Contains ys x) → (bytes_eq y x ≡ false) → (k : ℕ) → k < length (y ∷ ys) → get_or (y ∷ ys) k x ≡ x → b ≡ true
+    later : (b : Bool) → Tells b (Contains ys x) → (bytes_eq y x ≡ false) → (k : ℕ) → k < length (y ∷ ys) → get_or (y ∷ ys) k x ≡ x →
+        b ≡ true
     later b t apart zero h e = absurd (let k = (bytes_eq-Decides y x).1 e in cc)
     later b t apart (suc k) h e = t.tells (k, omega arith, e)
 
     by : (b : Bool) → bytes_eq y x ≡ b → Tells (has_name ys x) (Contains ys x) → Tells (b || has_name ys x) (Contains (y ∷ ys) x)
     by true e t = record { told = λ h. (zero, omega arith, (bytes_eq-Decides y x).0 e); tells = λ h. refl }
-    by false e t = record { told = λ h. let k = t.told h in (suc k.0, omega (arith, k.1), k.2); tells = λ h. later (has_name ys x) t e h.0 h.1 h.2 }
+    by false e t = record {
+      told = λ h. let k = t.told h in (suc k.0, omega (arith, k.1), k.2);
+      tells = λ h. later (has_name ys x) t e h.0
+          h.1 h.2;
+    }
 
 module _ (declared : List (List ℕ)) where
   split_declared : (a b : List (List ℕ)) → AreDeclared (a ++ b) declared → AreDeclared a declared × AreDeclared b declared
@@ -45,7 +50,8 @@ module _ (declared : List (List ℕ)) where
   join_declared [] b h k = k
   join_declared (x ∷ a) b h k = (h.0, join_declared a b h.1 k)
 
-  tell_both : (a b : List (List ℕ)) (x y : Bool) → Tells x (AreDeclared a declared) → Tells y (AreDeclared b declared) → Tells (x && y) (AreDeclared (a ++ b) declared)
+  tell_both : (a b : List (List ℕ)) (x y : Bool) → Tells x (AreDeclared a declared) → Tells y (AreDeclared b declared) →
+      Tells (x && y) (AreDeclared (a ++ b) declared)
   tell_both a b x y p q =
       let t = both_told x y p q in
       record {
@@ -55,19 +61,24 @@ module _ (declared : List (List ℕ)) where
 
   mutual
     pub tell_expr : (e : Expr) → Tells (expr_holds declared e) (AreDeclared (expr_names e) declared)
-    tell_expr (sum_of t ts) = tell_both (term_names t) (terms_names ts) (term_holds declared t) (terms_hold declared ts) (tell_term t) (tell_terms ts)
+    tell_expr (sum_of t ts) = tell_both (term_names t) (terms_names ts) (term_holds declared t) (terms_hold declared ts) (tell_term t)
+        (tell_terms ts)
 
     tell_terms : (ts : Terms) → Tells (terms_hold declared ts) (AreDeclared (terms_names ts) declared)
     tell_terms no_term = always_told
-    tell_terms (plus t ts) = tell_both (term_names t) (terms_names ts) (term_holds declared t) (terms_hold declared ts) (tell_term t) (tell_terms ts)
-    tell_terms (minus t ts) = tell_both (term_names t) (terms_names ts) (term_holds declared t) (terms_hold declared ts) (tell_term t) (tell_terms ts)
+    tell_terms (plus t ts) = tell_both (term_names t) (terms_names ts) (term_holds declared t) (terms_hold declared ts) (tell_term t)
+        (tell_terms ts)
+    tell_terms (minus t ts) = tell_both (term_names t) (terms_names ts) (term_holds declared t) (terms_hold declared ts) (tell_term t)
+        (tell_terms ts)
 
     tell_term : (t : Term) → Tells (term_holds declared t) (AreDeclared (term_names t) declared)
-    tell_term (product_of f fs) = tell_both (factor_names f) (factors_names fs) (factor_holds declared f) (factors_hold declared fs) (tell_factor f) (tell_factors fs)
+    tell_term (product_of f fs) = tell_both (factor_names f) (factors_names fs) (factor_holds declared f) (factors_hold declared fs)
+        (tell_factor f) (tell_factors fs)
 
     tell_factors : (fs : Factors) → Tells (factors_hold declared fs) (AreDeclared (factors_names fs) declared)
     tell_factors no_factor = always_told
-    tell_factors (times f fs) = tell_both (factor_names f) (factors_names fs) (factor_holds declared f) (factors_hold declared fs) (tell_factor f) (tell_factors fs)
+    tell_factors (times f fs) = tell_both (factor_names f) (factors_names fs) (factor_holds declared f) (factors_hold declared fs)
+        (tell_factor f) (tell_factors fs)
 
     tell_factor : (f : Factor) → Tells (factor_holds declared f) (AreDeclared (factor_names f) declared)
     tell_factor (number n) = always_told
@@ -77,7 +88,8 @@ module _ (declared : List (List ℕ)) where
 
   pub tell_condition : (c : Condition) → Tells (condition_holds declared c) (AreDeclared (condition_names c) declared)
   tell_condition always = always_told
-  tell_condition (compares a r b) = tell_both (expr_names a) (expr_names b) (expr_holds declared a) (expr_holds declared b) (tell_expr a) (tell_expr b)
+  tell_condition (compares a r b) = tell_both (expr_names a) (expr_names b) (expr_holds declared a) (expr_holds declared b) (tell_expr a)
+      (tell_expr b)
 
 -- the name is another
 tell_other : (x : List ℕ) → Tells (not (bytes_eq x (codes "rt"))) (¬ (x ≡ codes "rt"))
@@ -89,17 +101,24 @@ tell_other x = by (bytes_eq x (codes "rt")) refl
 
 mutual
   tell_statement : (s : Statement) (declared : List (List ℕ)) → Tells (statement_holds declared s) (NamesHold declared s)
-  tell_statement (declares x e) declared = both_told (not (bytes_eq x (codes "rt"))) (expr_holds declared e) (tell_other x) (tell_expr declared e)
-  tell_statement (assigns x e) declared = both_told (has_name declared x) (expr_holds declared e) (tell_name declared x) (tell_expr declared e)
-  tell_statement (chooses c body) declared = both_told (condition_holds declared c) (statements_hold declared body) (tell_condition declared c) (tell_statements body declared)
-  tell_statement (chooses_one c body other) declared = three_told (condition_holds declared c) (statements_hold declared body) (statements_hold declared other) (tell_condition declared c) (tell_statements body declared) (tell_statements other declared)
-  tell_statement (repeats c body) declared = both_told (condition_holds declared c) (statements_hold declared body) (tell_condition declared c) (tell_statements body declared)
+  tell_statement (declares x e) declared = both_told (not (bytes_eq x (codes "rt"))) (expr_holds declared e) (tell_other x)
+      (tell_expr declared e)
+  tell_statement (assigns x e) declared = both_told (has_name declared x) (expr_holds declared e) (tell_name declared x)
+      (tell_expr declared e)
+  tell_statement (chooses c body) declared =
+      both_told (condition_holds declared c) (statements_hold declared body) (tell_condition declared c) (tell_statements body declared)
+  tell_statement (chooses_one c body other) declared =
+      three_told (condition_holds declared c) (statements_hold declared body) (statements_hold declared other) (tell_condition declared c)
+      (tell_statements body declared) (tell_statements other declared)
+  tell_statement (repeats c body) declared =
+      both_told (condition_holds declared c) (statements_hold declared body) (tell_condition declared c) (tell_statements body declared)
   tell_statement (puts text) declared = always_told
   tell_statement (exits e) declared = tell_expr declared e
 
   pub tell_statements : (ss : Statements) (declared : List (List ℕ)) → Tells (statements_hold declared ss) (AllNamesHold declared ss)
   tell_statements nothing declared = always_told
-  tell_statements (first s ss) declared = both_told (statement_holds declared s) (statements_hold (declared_behind s declared) ss) (tell_statement s declared) (tell_statements ss (declared_behind s declared))
+  tell_statements (first s ss) declared = both_told (statement_holds declared s) (statements_hold (declared_behind s declared) ss)
+      (tell_statement s declared) (tell_statements ss (declared_behind s declared))
 
 -- where no name is declared, none is used
 no_names : (xs : List (List ℕ)) → AreDeclared xs [] → xs ≡ []

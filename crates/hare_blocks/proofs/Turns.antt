@@ -38,9 +38,16 @@ module _ (args n : ℕ) (less : Less) (less_grows : (ss : Statements) (s : State
     statement_grows : (t : Statement) (s : State) → Grows s.output (statement_in args n less t s)
     statement_grows (declares x e) s = prefix_self s.output
     statement_grows (assigns x e) s = prefix_self s.output
-    statement_grows (chooses c body) s = either_grows (holds args s.variables c) s.output _ _ (closed_grows s.output s (statements_in args n less body s) (statements_grow body s)) (prefix_self s.output)
-    statement_grows (chooses_one c body other) s = either_grows (holds args s.variables c) s.output _ _ (closed_grows s.output s (statements_in args n less body s) (statements_grow body s)) (closed_grows s.output s (statements_in args n less other s) (statements_grow other s))
-    statement_grows (repeats c body) s = spends_grows n s.output (Ends Spent, s) _ (prefix_self s.output) (either_grows (holds args s.variables c) s.output _ _ (then_grows s.output (closed s (less body s)) _ (closed_grows s.output s (less body s) (less_grows body s)) (less_grows (first (repeats c body) nothing))) (prefix_self s.output))
+    statement_grows (chooses c body) s = either_grows (holds args s.variables c) s.output _ _
+        (closed_grows s.output s (statements_in args n less body s) (statements_grow body s)) (prefix_self s.output)
+    statement_grows (chooses_one c body other) s =
+        either_grows (holds args s.variables c) s.output _ _
+        (closed_grows s.output s (statements_in args n less body s) (statements_grow body s))
+        (closed_grows s.output s (statements_in args n less other s) (statements_grow other s))
+    statement_grows (repeats c body) s = spends_grows n s.output (Ends Spent, s) _ (prefix_self s.output)
+        (either_grows (holds args s.variables c) s.output _ _
+        (then_grows s.output (closed s (less body s)) _ (closed_grows s.output s (less body s) (less_grows body s))
+        (less_grows (first (repeats c body) nothing))) (prefix_self s.output))
     statement_grows (puts text) s = (text, refl)
     statement_grows (exits e) s = prefix_self s.output
 
@@ -66,7 +73,8 @@ then_same : (r : Result) (go go' : State → Result) → ((s : State) → Below 
 then_same (Next, s) go go' h = h s
 then_same (Ends e, s) go go' h = same refl
 
-then_below : (r r' : Result) (go go' : State → Result) → Below r r' → ((s : State) → Below (go s) (go' s)) → ((s : State) → Grows s.output (go' s)) → Below (then_go r go) (then_go r' go')
+then_below : (r r' : Result) (go go' : State → Result) → Below r r' → ((s : State) → Below (go s) (go' s)) →
+    ((s : State) → Grows s.output (go' s)) → Below (then_go r go) (then_go r' go')
 then_below r r' go go' (same e) h g = subst (λ x. Below (then_go r go) (then_go x go')) e (then_same r go go' h)
 then_below r r' go go' (cut e p) h g =
     let x = then_spent r go e in
@@ -82,7 +90,8 @@ closed_below : (before : State) (r r' : Result) → Below r r' → Below (closed
 closed_below before r r' (same e) = same (ap (closed before) e)
 closed_below before r r' (cut e p) = cut (closed_flow before r ∙ e) (rw (closed_output before r, closed_output before r') p)
 
-spends_below : (k k' : ℕ) (s : State) (r r' : Result) → k ≤ k' → Below r r' → Grows s.output r' → Below (spends k (Ends Spent, s) r) (spends k' (Ends Spent, s) r')
+spends_below : (k k' : ℕ) (s : State) (r r' : Result) → k ≤ k' → Below r r' → Grows s.output r' →
+    Below (spends k (Ends Spent, s) r) (spends k' (Ends Spent, s) r')
 spends_below zero zero s r r' l b p = same refl
 spends_below zero (suc k') s r r' l b p = cut refl p
 spends_below (suc k) zero s r r' l b p = absurd (omega arith)
@@ -92,19 +101,27 @@ either_below : (b : Bool) (x x' y y' : Result) → Below x x' → Below y y' →
 either_below true x x' y y' p q = p
 either_below false x x' y y' p q = q
 
-module _ (args n n' : ℕ) (less less' : Less) (le : n ≤ n') (less_below : (ss : Statements) (s : State) → Below (less ss s) (less' ss s)) (less_grows : (ss : Statements) (s : State) → Grows s.output (less' ss s)) where
-  turn_below : (again body : Statements) (s : State) → Below (then_go (closed s (less body s)) (less again)) (then_go (closed s (less' body s)) (less' again))
-  turn_below again body s = then_below (closed s (less body s)) (closed s (less' body s)) (less again) (less' again) (closed_below s (less body s) (less' body s) (less_below body s)) (less_below again) (less_grows again)
+module _ (args n n' : ℕ) (less less' : Less) (le : n ≤ n') (less_below : (ss : Statements) (s : State) → Below (less ss s) (less' ss s))
+    (less_grows : (ss : Statements) (s : State) → Grows s.output (less' ss s)) where
+  turn_below : (again body : Statements) (s : State) →
+      Below (then_go (closed s (less body s)) (less again)) (then_go (closed s (less' body s)) (less' again))
+  turn_below again body s = then_below (closed s (less body s)) (closed s (less' body s)) (less again) (less' again)
+      (closed_below s (less body s) (less' body s) (less_below body s)) (less_below again) (less_grows again)
 
   turn_grows : (again body : Statements) (s : State) → Grows s.output (then_go (closed s (less' body s)) (less' again))
-  turn_grows again body s = then_grows s.output (closed s (less' body s)) (less' again) (closed_grows s.output s (less' body s) (less_grows body s)) (less_grows again)
+  turn_grows again body s = then_grows s.output (closed s (less' body s)) (less' again)
+      (closed_grows s.output s (less' body s) (less_grows body s)) (less_grows again)
 
   mutual
     statement_below : (t : Statement) (s : State) → Below (statement_in args n less t s) (statement_in args n' less' t s)
     statement_below (declares x e) s = same refl
     statement_below (assigns x e) s = same refl
-    statement_below (chooses c body) s = either_below (holds args s.variables c) _ _ _ _ (closed_below s (statements_in args n less body s) (statements_in args n' less' body s) (statements_below body s)) (same refl)
-    statement_below (chooses_one c body other) s = either_below (holds args s.variables c) _ _ _ _ (closed_below s (statements_in args n less body s) (statements_in args n' less' body s) (statements_below body s)) (closed_below s (statements_in args n less other s) (statements_in args n' less' other s) (statements_below other s))
+    statement_below (chooses c body) s = either_below (holds args s.variables c) _ _ _ _
+        (closed_below s (statements_in args n less body s) (statements_in args n' less' body s) (statements_below body s)) (same refl)
+    statement_below (chooses_one c body other) s =
+        either_below (holds args s.variables c) _ _ _ _
+        (closed_below s (statements_in args n less body s) (statements_in args n' less' body s) (statements_below body s))
+        (closed_below s (statements_in args n less other s) (statements_in args n' less' other s) (statements_below other s))
     statement_below (repeats c body) s = spends_below n n' s _ _ le
         (either_below (holds args s.variables c) _ _ _ _ (turn_below (first (repeats c body) nothing) body s) (same refl))
         (either_grows (holds args s.variables c) s.output _ _ (turn_grows (first (repeats c body) nothing) body s) (prefix_self s.output))
@@ -113,7 +130,8 @@ module _ (args n n' : ℕ) (less less' : Less) (le : n ≤ n') (less_below : (ss
 
     statements_below : (ts : Statements) (s : State) → Below (statements_in args n less ts s) (statements_in args n' less' ts s)
     statements_below nothing s = same refl
-    statements_below (first t ts) s = then_below (statement_in args n less t s) (statement_in args n' less' t s) _ _ (statement_below t s) (statements_below ts) (statements_grow args n' less' less_grows ts)
+    statements_below (first t ts) s = then_below (statement_in args n less t s) (statement_in args n' less' t s) _ _ (statement_below t s)
+        (statements_below ts) (statements_grow args n' less' less_grows ts)
 
 turns_below : (args n n' : ℕ) → n ≤ n' → (ss : Statements) (s : State) → Below (below args n ss s) (below args n' ss s)
 turns_below args zero n' le ss s = cut refl (below_grows args n' ss s)
@@ -123,7 +141,8 @@ turns_below args (suc n) (suc n') le ss s =
     statements_below args n n' (below args n) (below args n') le' (turns_below args n n' le') (below_grows args n') ss s
 
 does_below : (args n n' : ℕ) → n ≤ n' → (ss : Statements) (s : State) → Below (does args n ss s) (does args n' ss s)
-does_below args n n' le ss s = statements_below args n n' (below args n) (below args n') le (turns_below args n n' le) (below_grows args n') ss s
+does_below args n n' le ss s = statements_below args n n' (below args n) (below args n') le (turns_below args n n' le) (below_grows args n')
+    ss s
 
 -- ---- programs
 

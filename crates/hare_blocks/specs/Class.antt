@@ -58,7 +58,8 @@ abbrev mutual
   NamesHold declared (declares x e) = ¬ (x ≡ codes "rt") × AreDeclared (expr_names e) declared
   NamesHold declared (assigns x e) = Contains declared x × AreDeclared (expr_names e) declared
   NamesHold declared (chooses c body) = AreDeclared (condition_names c) declared × AllNamesHold declared body
-  NamesHold declared (chooses_one c body other) = AreDeclared (condition_names c) declared × AllNamesHold declared body × AllNamesHold declared other
+  NamesHold declared (chooses_one c body other) = AreDeclared (condition_names c) declared × AllNamesHold declared body ×
+      AllNamesHold declared other
   NamesHold declared (repeats c body) = AreDeclared (condition_names c) declared × AllNamesHold declared body
   NamesHold declared (puts text) = Unit {0}
   NamesHold declared (exits e) = AreDeclared (expr_names e) declared

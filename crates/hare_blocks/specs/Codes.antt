@@ -135,7 +135,8 @@ abbrev mutual
   statement_code (declares x e) = gcons (gnum 0) (gcons (coded_text.code x) (expr_code e))
   statement_code (assigns x e) = gcons (gnum 1) (gcons (coded_text.code x) (expr_code e))
   statement_code (chooses c body) = gcons (gnum 2) (gcons (condition_code c) (statements_code body))
-  statement_code (chooses_one c body other) = gcons (gnum 3) (gcons (condition_code c) (gcons (statements_code body) (statements_code other)))
+  statement_code (chooses_one c body other) =
+      gcons (gnum 3) (gcons (condition_code c) (gcons (statements_code body) (statements_code other)))
   statement_code (repeats c body) = gcons (gnum 4) (gcons (condition_code c) (statements_code body))
   statement_code (puts text) = gcons (gnum 5) (coded_text.code text)
   statement_code (exits e) = gcons (gnum 6) (expr_code e)

@@ -1,6 +1,7 @@
 -- What a program of the class does within a number of turns.
 --
--- A `for` begins a turn before it tests its condition, and hands one turn less to its body and to the turns behind it. Where a turn begins and
+-- A `for` begins a turn before it tests its condition, and hands one turn less to its body and to the turns behind it. Where a turn begins
+-- and
 -- none is left, the end is Spent. Nothing else uses turns. A program that falls off its end exits with 0.
 --
 -- Numbers are those of Hare's `size` type: sums, differences and products wrap at 2 ^ 64, and comparisons are unsigned.
@@ -105,8 +106,11 @@ module _ (args : ℕ) where
     statement_in n below (declares x e) s = (Next, record s { variables = (x, value args s.variables e) ∷ s.variables })
     statement_in n below (assigns x e) s = (Next, record s { variables = assigned x (value args s.variables e) s.variables })
     statement_in n below (chooses c body) s = if holds args s.variables c then closed s (statements_in n below body s) else (Next, s)
-    statement_in n below (chooses_one c body other) s = if holds args s.variables c then closed s (statements_in n below body s) else closed s (statements_in n below other s)
-    statement_in n below (repeats c body) s = spends n (Ends Spent, s) (if holds args s.variables c then then_go (closed s (below body s)) (below (first (repeats c body) nothing)) else (Next, s))
+    statement_in n below (chooses_one c body other) s =
+        if holds args s.variables c then closed s (statements_in n below body s) else closed s (statements_in n below other s)
+    statement_in n below (repeats c body) s =
+        spends n (Ends Spent, s) (if holds args s.variables c then then_go (closed s (below body s))
+        (below (first (repeats c body) nothing)) else (Next, s))
     statement_in n below (puts text) s = (Next, record s { output = s.output ++ text })
     statement_in n below (exits e) s = (Ends (Exit (value args s.variables e % 256)), s)
 

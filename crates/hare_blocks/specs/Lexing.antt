@@ -24,7 +24,8 @@ o >>= f = option_and_then f o
 
 -- the number that decimal digits spell, where it is below 2 ^ 64
 abbrev pub number_of : List ℕ → Option ℕ
-number_of digits = if length digits == 0 then None else if nat_lt (digits_value 10 digits) (2 ^ 64) then Some (digits_value 10 digits) else None
+number_of digits = if length digits == 0 then None else if nat_lt (digits_value 10 digits) (2 ^ 64) then Some (digits_value 10 digits) else
+    None
 
 abbrev pub number_behind : ℕ → List ℕ → Option (ℕ × List ℕ)
 number_behind n s = do

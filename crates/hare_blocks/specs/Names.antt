@@ -44,7 +44,8 @@ abbrev mutual
   statement_holds declared (declares x e) = not (bytes_eq x (codes "rt")) && expr_holds declared e
   statement_holds declared (assigns x e) = has_name declared x && expr_holds declared e
   statement_holds declared (chooses c body) = condition_holds declared c && statements_hold declared body
-  statement_holds declared (chooses_one c body other) = condition_holds declared c && (statements_hold declared body && statements_hold declared other)
+  statement_holds declared (chooses_one c body other) =
+      condition_holds declared c && (statements_hold declared body && statements_hold declared other)
   statement_holds declared (repeats c body) = condition_holds declared c && statements_hold declared body
   statement_holds declared (puts text) = true
   statement_holds declared (exits e) = expr_holds declared e

@@ -40,7 +40,8 @@ sign_token sign.Minus = token.Minus
 
 -- ---- where a part ends
 
--- What follows goes on with no path, with no factor, or with no term. So what a part of an expression ends with is settled by the next token.
+-- What follows goes on with no path, with no factor, or with no term. So what a part of an expression ends with is settled by the next
+-- token.
 abbrev pub IsNoPath : List Token → Type 0
 IsNoPath [] = Unit {0}
 IsNoPath (t ∷ ts) = t ≢ token.PathSeparator
@@ -70,9 +71,11 @@ abbrev pub Finds : {A : Type 0} → Option A → A → List Token → List Token
 Finds None part left rest = ⊥
 Finds (Some x) part left rest = (x ≡ part) × (left ≡ rest)
 
--- What a reader of a part that ends so finds at the front of the tokens, and which tokens it leaves: a part that stands there, and every part
+-- What a reader of a part that ends so finds at the front of the tokens, and which tokens it leaves: a part that stands there, and every
+-- part
 -- that stands there. Where it finds none, none stands there, and the tokens that it leaves say nothing.
-pub record IsRead {A : Type 0} (spell : A → List Token) (Fits : A → Type 0) (Ends : List Token → Type 0) (found : Option A) (tokens left : List Token) : Type 0 where
+pub record IsRead {A : Type 0} (spell : A → List Token) (Fits : A → Type 0) (Ends : List Token → Type 0) (found : Option A)
+    (tokens left : List Token) : Type 0 where
   pub sound : IfSome found (λ x. Reads spell Fits x tokens left)
   pub whole : (x : A) (rest : List Token) → Reads spell Fits x tokens rest → Ends rest → Finds found x left rest
 

@@ -45,7 +45,8 @@ IsSpelling Greater s = s ≡ codes ">"
 IsSpelling GreaterEqual s = s ≡ codes ">="
 IsSpelling Equal s = s ≡ codes "=="
 IsSpelling Differ s = s ≡ codes "!="
-IsSpelling (Number n) s = (digits : List ℕ) × (s ≡ digits ++ codes "z") × (all_ascii_digits digits ≡ true) × (0 < length digits) × (digits_value 10 digits ≡ n) × (n < 2 ^ 64)
+IsSpelling (Number n) s = (digits : List ℕ) × (s ≡ digits ++ codes "z") × (all_ascii_digits digits ≡ true) × (0 < length digits) ×
+    (digits_value 10 digits ≡ n) × (n < 2 ^ 64)
 IsSpelling (Name name) s = (s ≡ name) × (is_name name ≡ true)
 IsSpelling (Text text) s = (s ≡ 34 ∷ (text ++ 34 ∷ [])) × (list_all is_plain text ≡ true)
 
@@ -93,4 +94,5 @@ IsLongest t rest = IsFalse (goes_on t (slice_index rest 0))
 -- a text is blanks and these tokens, each the longest that fits
 abbrev pub Spells : List Token → List ℕ → Type 0
 Spells [] text = AllBlank text
-Spells (t ∷ ts) text = (blanks s rest : List ℕ) × AllBlank blanks × IsSpelling t s × IsLongest t rest × (text ≡ blanks ++ (s ++ rest)) × Spells ts rest
+Spells (t ∷ ts) text = (blanks s rest : List ℕ) × AllBlank blanks × IsSpelling t s × IsLongest t rest × (text ≡ blanks ++ (s ++ rest)) ×
+    Spells ts rest

@@ -107,7 +107,8 @@ condition_tokens (compares a r b) = expr_tokens a ++ (relation_token r ∷ expr_
 
 -- rt::exit((e): u8)
 abbrev pub exit_tokens : Expr → List Token
-exit_tokens e = runtime_tokens ++ (token.Name (codes "exit") ∷ token.OpenParen ∷ token.OpenParen ∷ (expr_tokens e ++ (token.CloseParen ∷ token.Colon ∷ token.U8 ∷ token.CloseParen ∷ [])))
+exit_tokens e = runtime_tokens ++ (token.Name (codes "exit") ∷ token.OpenParen ∷ token.OpenParen ∷
+    (expr_tokens e ++ (token.CloseParen ∷ token.Colon ∷ token.U8 ∷ token.CloseParen ∷ [])))
 
 -- a condition in parentheses, behind the keyword that it belongs to
 abbrev pub head_tokens : Token → Condition → List Token
@@ -122,7 +123,8 @@ abbrev mutual
   statement_tokens (declares x e) = token.Let ∷ token.Name x ∷ token.Assign ∷ expr_tokens e
   statement_tokens (assigns x e) = token.Name x ∷ token.Assign ∷ expr_tokens e
   statement_tokens (chooses c body) = head_tokens token.If c ++ in_braces (statements_tokens body)
-  statement_tokens (chooses_one c body other) = head_tokens token.If c ++ (in_braces (statements_tokens body) ++ (token.Else ∷ in_braces (statements_tokens other)))
+  statement_tokens (chooses_one c body other) =
+      head_tokens token.If c ++ (in_braces (statements_tokens body) ++ (token.Else ∷ in_braces (statements_tokens other)))
   statement_tokens (repeats c body) = head_tokens token.For c ++ in_braces (statements_tokens body)
   statement_tokens (puts text) = runtime_tokens ++ (token.Name (codes "puts") ∷ token.OpenParen ∷ token.Text text ∷ token.CloseParen ∷ [])
   statement_tokens (exits e) = exit_tokens e
@@ -139,7 +141,8 @@ body_tokens (block_of ss) = in_braces (statements_tokens ss)
 
 -- use rt; export fn main() void =
 abbrev pub front_tokens : List Token
-front_tokens = token.Use ∷ token.Name (codes "rt") ∷ token.Semicolon ∷ token.Export ∷ token.Function ∷ token.Name (codes "main") ∷ token.OpenParen ∷ token.CloseParen ∷ token.Void ∷ token.Assign ∷ []
+front_tokens = token.Use ∷ token.Name (codes "rt") ∷ token.Semicolon ∷ token.Export ∷ token.Function ∷ token.Name (codes "main") ∷
+    token.OpenParen ∷ token.CloseParen ∷ token.Void ∷ token.Assign ∷ []
 
 abbrev pub file_tokens : Program → List Token
 file_tokens p = front_tokens ++ (body_tokens p ++ token.Semicolon ∷ [])

@@ -40,7 +40,8 @@ first-kid : (n : ℕ) (s : Sort) (ps : List Piece) (t : Node) (ts : Nodes) → a
 unfolding are_kids
 first-kid n s ps t ts k = and_parts (is_shaped (sort_in n s) t) (are_kids n ps ts) k
 
-behind-first : (n : ℕ) (s : Sort) (ps : List Piece) (t : Node) (ts : Nodes) → are_kids n (pi.Optional s ∷ ps) (more t ts) ≡ true → are_kids n ps ts ≡ true
+behind-first : (n : ℕ) (s : Sort) (ps : List Piece) (t : Node) (ts : Nodes) → are_kids n (pi.Optional s ∷ ps) (more t ts) ≡ true →
+    are_kids n ps ts ≡ true
 unfolding are_kids
 behind-first n s ps t ts k = (and_parts (is_absent t || is_shaped s t) (are_kids n ps ts) k).1
 
@@ -64,7 +65,8 @@ fifth-shaped n (more t (more u (more v (more w (more x ts))))) b k g =
     subst (λ y. is_shaped expression y ≡ true) i (first-kid n expression [] x ts four.1).0
 
 -- the body of a function that is shaped is an expression
-pub body-shaped : (h : Head) (ts : List Node) (t b : Node) → branch h (nodes_of ts) ≡ t → (head t).kind ≡ ki.Fn → is_shaped sorts.Decl t ≡ true →
+pub body-shaped : (h : Head) (ts : List Node) (t b : Node) → branch h (nodes_of ts) ≡ t → (head t).kind ≡ ki.Fn →
+    is_shaped sorts.Decl t ≡ true →
     slice_get ts 4 ≡ Some b → is_shaped expression b ≡ true
 body-shaped h ts t b e k s g =
     let kind : h.kind ≡ ki.Fn = ap (λ u. (head u).kind) e ∙ k in
@@ -89,8 +91,10 @@ module _ (names : List (Place × Meaning)) (ds : List DeclType) (s : Store) (n :
   tree-of v x h = λ p m. record {
     erases = (h s (later_here s v)).erases ∙ e;
     well = λ f l.
-        subst (λ k. IsWell (record { store = f; decls = ds; means = p.means }) (over_body n result (length params)) (before_body params k) x) e
-        (subst (λ q. IsWell (record { store = f; decls = ds; means = q }) (over_body n result (length params)) (before_body params b) x) (sym m)
+        subst (λ k. IsWell (record { store = f; decls = ds; means = p.means }) (over_body n result (length params)) (before_body params k)
+        x) e
+        (subst (λ q. IsWell (record { store = f; decls = ds; means = q }) (over_body n result (length params)) (before_body params b) x)
+        (sym m)
         (h f l).well);
   }
 
@@ -102,18 +106,22 @@ module _ (names : List (Place × Meaning)) (ds : List DeclType) (s : Store) (n :
       let w = h r l in (
         w.row,
         w.at,
-        subst (λ k. FailsIn (record { store = r; decls = ds; means = p.means }) (over_body n result (length params)) k (before_body params k) w.row w.at) e
-            (subst (λ q. FailsIn (record { store = r; decls = ds; means = q }) (over_body n result (length params)) b (before_body params b) w.row w.at) (sym m)
+        subst (λ k. FailsIn (record { store = r; decls = ds; means = p.means }) (over_body n result (length params)) k
+            (before_body params k) w.row w.at) e
+            (subst (λ q. FailsIn (record { store = r; decls = ds; means = q }) (over_body n result (length params)) b (before_body params b)
+            w.row w.at) (sym m)
             w.fails),
         w.is,
       )
 
   pub trees-of : IsStore s → (r : Result TypedNode (Stop Fault))
-      → IfOk r (IsTheTreeLater (program_over names ds) s (over_body n result (length params)) (before_body params b) b) → IfOk r (IsTreeOf names ds s n t)
+      → IfOk r (IsTheTreeLater (program_over names ds) s (over_body n result (length params)) (before_body params b) b) →
+      IfOk r (IsTreeOf names ds s n t)
   trees-of v (Ok x) h = tree-of v x h
   trees-of v (Err q) h = tt
 
   pub stops-of : (r : Result TypedNode (Stop Fault))
-      → IfErr r (IsAnswerLater (program_over names ds) s (over_body n result (length params)) (before_body params b) b) → IfErr r (IsStopOf names ds s n t)
+      → IfErr r (IsAnswerLater (program_over names ds) s (over_body n result (length params)) (before_body params b) b) →
+      IfErr r (IsStopOf names ds s n t)
   stops-of (Ok x) h = tt
   stops-of (Err q) h = stop-of q h

@@ -69,7 +69,8 @@ module _ (p : Listing) (ds : List DeclType) where
   body-later s r l n t x b = record { erases = b.erases; well = λ f k. b.well f (later_trans s r f l k) }
 
   -- so have all
-  pub bodies-later : (s r : Store) → IsLater s r → {n : ℕ} {ts : List Node} {xs : List TypedNode} → AreBodies p ds s n ts xs → AreBodies p ds r n ts xs
+  pub bodies-later : (s r : Store) → IsLater s r → {n : ℕ} {ts : List Node} {xs : List TypedNode} → AreBodies p ds s n ts xs →
+      AreBodies p ds r n ts xs
   bodies-later s r l (AreBodies.none n) = AreBodies.none n
   bodies-later s r l (AreBodies.function n t x ts xs f b rest) =
       AreBodies.function n t x ts xs f (body-later s r l n t x b) (bodies-later s r l rest)
@@ -77,7 +78,8 @@ module _ (p : Listing) (ds : List DeclType) where
 
   module _ (s : Store) where
     -- one function more, with its body
-    pub one-function : {n : ℕ} {ts : List Node} {xs : List TypedNode} (t : Node) (x : TypedNode) → AreBodies p ds s n ts xs → sort_of t ≡ so.Function →
+    pub one-function : {n : ℕ} {ts : List Node} {xs : List TypedNode} (t : Node) (x : TypedNode) → AreBodies p ds s n ts xs →
+        sort_of t ≡ so.Function →
         IsBodyOf p ds s (n + length ts) t x → AreBodies p ds s n (ts ++ t ∷ []) (xs ++ x ∷ [])
     one-function t x (AreBodies.none n) f b =
         let e : n + 0 ≡ n = omega arith in
@@ -100,7 +102,8 @@ module _ (p : Listing) (ds : List DeclType) where
     one-other t (AreBodies.other n u ts xs g rest) f = AreBodies.other n u (ts ++ t ∷ []) xs g (one-other t rest f)
 
     -- each function among them has its body
-    pub has-body : {n : ℕ} {ts : List Node} {xs : List TypedNode} → AreBodies p ds s n ts xs → (i : ℕ) (t : Node) → slice_get ts i ≡ Some t →
+    pub has-body : {n : ℕ} {ts : List Node} {xs : List TypedNode} → AreBodies p ds s n ts xs → (i : ℕ) (t : Node) →
+        slice_get ts i ≡ Some t →
         sort_of t ≡ so.Function → (x : TypedNode) × IsBodyOf p ds s (n + i) t x
     has-body (AreBodies.none n) i t g f = absurd cc
     has-body (AreBodies.function n u y ts xs k a rest) zero t g f =
@@ -121,7 +124,8 @@ module _ (p : Listing) (ds : List DeclType) where
 
   -- ---- from one declaration to the next
 
-  module _ (names : List (Place × Meaning)) (means : p.means ≡ meaning_in names) (s r : Store) (l : IsLater s r) (ts : List Node) (i : ℕ) (t : Node)
+  module _ (names : List (Place × Meaning)) (means : p.means ≡ meaning_in names) (s r : Store) (l : IsLater s r) (ts : List Node) (i : ℕ)
+      (t : Node)
       (there : slice_get ts i ≡ Some t) (xs : List TypedNode) (h : AreBodies p ds s 0 (take i ts) xs) where
     -- the next is a function, and has this body
     pub next-function : (x : TypedNode) (ys : List TypedNode) → (head t).kind ≡ ki.Fn → IsTreeOf names ds r i t x → ys ≡ xs ++ x ∷ [] →
@@ -149,6 +153,8 @@ module _ (p : Listing) (ds : List DeclType) where
     }
 
   -- the next is no function
-  pub next-other : (s : Store) (ts : List Node) (i : ℕ) (t : Node) → slice_get ts i ≡ Some t → (xs : List TypedNode) → AreBodies p ds s 0 (take i ts) xs →
+  pub next-other : (s : Store) (ts : List Node) (i : ℕ) (t : Node) → slice_get ts i ≡ Some t → (xs : List TypedNode) →
+      AreBodies p ds s 0 (take i ts) xs →
       ¬ ((head t).kind ≡ ki.Fn) → AreBodies p ds s 0 (take (i + 1) ts) xs
-  next-other s ts i t there xs h k = subst (λ us. AreBodies p ds s 0 us xs) (sym (take-next ts i t there)) (one-other s t h (no-function t k))
+  next-other s ts i t there xs h k = subst (λ us. AreBodies p ds s 0 us xs) (sym (take-next ts i t there))
+      (one-other s t h (no-function t k))

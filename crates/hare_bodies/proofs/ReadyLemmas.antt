@@ -36,7 +36,8 @@ can-judge s ds n h = record {
       subst (λ k. IsKnownKind s k d d.kind) (eqb-true d.decl m f.1) (h d f.0).own;
 }
 
-pub can-judge-ok : {E : Type 0} (s : Store) (ds : List DeclType) (r : Result Bool E) → IsDefinedName s nomem → IfOk r (λ b. b ≡ true → AreReady s ds) →
+pub can-judge-ok : {E : Type 0} (s : Store) (ds : List DeclType) (r : Result Bool E) → IsDefinedName s nomem →
+    IfOk r (λ b. b ≡ true → AreReady s ds) →
     IfOk r (λ b. b ≡ true → CanJudge s ds)
 can-judge-ok s ds (Ok b) n h = λ e. can-judge s ds n (h e)
 can-judge-ok s ds (Err q) n h = tt

@@ -30,4 +30,5 @@ IsTreeOf names ds s n t x = (p : Listing) → p.means ≡ meaning_in names → I
 -- The fault that is told is the first of its body, in each later store; of want of memory nothing is said.
 abbrev pub IsStopOf : List (Place × Meaning) → List DeclType → Store → ℕ → Node → Stop Fault → Type 0
 IsStopOf names ds s n t Memory = Unit {0}
-IsStopOf names ds s n t (Refused f) = (p : Listing) → p.means ≡ meaning_in names → (r : Store) → IsLater s r → IsFaultOfBody (over p ds r) n t f
+IsStopOf names ds s n t (Refused f) = (p : Listing) → p.means ≡ meaning_in names → (r : Store) → IsLater s r →
+    IsFaultOfBody (over p ds r) n t f

@@ -80,7 +80,8 @@ closing-kept s r w n xs x g m ys q u h =
     let types : IsDefinedTree s (marked (head n) m (typed_nodes (kids_behind xs x))) =
     (rw q.ty d.ty, rw q.own d.own, coated_defined s xs (map option_in x.kids) (trees-defined s xs q.node.kept) d.kids) in
     let kept = q.found.kept m q.ty q.own types in
-    let all = kept-grown s u q.sound (grown-trans s r u (grown-types s r q.grown) h) (marked (head n) m (typed_nodes (kids_behind xs x))) kept in
+    let all = kept-grown s u q.sound (grown-trans s r u (grown-types s r q.grown) h) (marked (head n) m (typed_nodes (kids_behind xs x)))
+    kept in
     subst (λ zs. IsKeptTree u (marked (head n) m (typed_nodes zs))) (sym q.kids) all
 
 -- ---- the walk

@@ -29,7 +29,8 @@ use Rattle.hare_check.specs.Turned.{context_at}
 use Rattle.hare_check.proofs.FoundLemmas.{IsFoundOf, type-found, own-found}
 use Rattle.hare_check.proofs.KeepJudged.{kept-judged}
 
--- The turn of the node at hand has come, in a store in which its kids are kept; what it hands on is taken, where it means a block or a case.
+-- The turn of the node at hand has come, in a store in which its kids are kept; what it hands on is taken, where it means a block or a
+-- case.
 pub record IsJudgedAt (r : Store) (w : Walker) (t : Turn) (gs : List Given) : Type 0 where
   pub sound : IsStore r
   pub kind : is_judged_kind (kind_in t) ≡ true

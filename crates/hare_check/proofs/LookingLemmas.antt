@@ -61,13 +61,15 @@ looked-at s w n xs l a d path value = record {
   path = path;
   value = value;
   taken = λ t h i.
-      spotted-taken s (program_of w l) (head n).kind (length xs) a.walks.0 (above_of w) w.standing.outer _ (head n) (map bare xs) w.seen refl d
+      spotted-taken s (program_of w l) (head n).kind (length xs) a.walks.0 (above_of w) w.standing.outer _ (head n) (map bare xs) w.seen
+      refl d
       a.walks.1.spots t h i;
 }
 
 -- ---- a refusal
 
-pub stop-refused : (v : Setting) (a : Above) (h : Head) (xs : List TypedNode) (f : Flow) (e : Stop Fault) → IsRefusedBy (context v a h xs f) e →
+pub stop-refused : (v : Setting) (a : Above) (h : Head) (xs : List TypedNode) (f : Flow) (e : Stop Fault) →
+    IsRefusedBy (context v a h xs f) e →
     IsStop e (with_kids v a h (Ok (found_kids xs f)))
 stop-refused v a h xs f Memory k = tt
 stop-refused v a h xs f (Refused e) k =
@@ -125,11 +127,13 @@ pub record IsToldYieldOf (w : Walker) (n : Node) (q : Case) (i : Hint) : Type 0 
   pub role : has_judge (above_of w).inside.role ≡ true
   pub hint : i ≡ hint_of_open (block_meant (head n).text (above_of w).inside.labels)
 
-pub yield-told : (w : Walker) (n : Node) (xs : List TypedNode) (l : Store) (q : Case) (i : Hint) → AreInHand w.seen xs → IsToldYieldOf w n q i →
+pub yield-told : (w : Walker) (n : Node) (xs : List TypedNode) (l : Store) (q : Case) (i : Hint) → AreInHand w.seen xs →
+    IsToldYieldOf w n q i →
     IsYield (context_at (program_of w) (above_of w) n xs w.seen l) q (head n) xs i
 yield-told w n xs l q i h k = yield-context (program_of w l) (above_of w) (head n) xs w.seen q i k.kind h k.labels k.deferred k.role k.hint
 
-pub looked-yield : (s : Store) (w : Walker) (n : Node) (xs : List TypedNode) (l : Store) (q : Case) (i : Hint) → IsAtNode s w n xs → IsLater s l →
+pub looked-yield : (s : Store) (w : Walker) (n : Node) (xs : List TypedNode) (l : Store) (q : Case) (i : Hint) → IsAtNode s w n xs →
+    IsLater s l →
     IsToldYieldOf w n q i →
     ((c : Context) → store_of c ≡ l → IsYield c q (head n) xs i → MeansInside c → holds asked.YieldNoValue c ≡ true) →
     IsLookedAt (context_at (program_of w) (above_of w) n xs w.seen l)

@@ -17,7 +17,8 @@ is_case ki.Case = true
 is_case ki.SwitchCase = true
 is_case _ = false
 
--- Each type that stands in it is in the store, and mentions no name that is not defined; what can be a place has a type, before and behind its
+-- Each type that stands in it is in the store, and mentions no name that is not defined; what can be a place has a type, before and behind
+-- its
 -- coercion, and so has a case; and of what a written type writes it is known whether it has a size.
 pub record IsKeptTree (s : Store) (x : TypedNode) : Type 0 where
   pub types : IsDefinedTree s x

@@ -35,7 +35,8 @@ above_of w = w.standing.above
 abbrev pub Walks : Store → List Spot → Walker → Type 0
 Walks s ps w = IsWalking s ps w.decls.now w.standing w.seen w.told w.begun
 
--- The node is a part of a body, all of whose kids have been judged: they are what is inferred of them, they carry what is settled by now, and
+-- The node is a part of a body, all of whose kids have been judged: they are what is inferred of them, they carry what is settled by now,
+-- and
 -- what is relied on of judged trees holds of each.
 pub record IsAtNode (s : Store) (w : Walker) (n : Node) (xs : List TypedNode) : Type 0 where
   pub walks : (ps : List Spot) × Walks s (spot (head n).kind (length xs) ∷ ps) w
@@ -45,7 +46,8 @@ pub record IsAtNode (s : Store) (w : Walker) (n : Node) (xs : List TypedNode) : 
   pub hand : AreInHand w.seen xs
   pub kept : AreKeptTrees s xs
 
--- where a walker has looked at a node, and closed nothing: it knows the same of the program, of what stands over trees, and of what has been seen
+-- where a walker has looked at a node, and closed nothing: it knows the same of the program, of what stands over trees, and of what has
+-- been seen
 pub record IsSame (w v : Walker) : Type 0 where
   pub names : v.names.now ≡ w.names.now
   pub decls : v.decls.now ≡ w.decls.now
@@ -74,7 +76,8 @@ abbrev pub IsTakenAt : Store → Walker → Node → List TypedNode → Type 0
 IsTakenAt s w n xs =
     IsVoidTaken s (hint_of_open (block_meant (head n).text (above_of w).inside.labels)) (yielded (head n) (tree_from_front 0 (map bare xs)))
 
--- This is found of it in each later store; and the tree with this, if no type of it mentions a name that is not defined, is one that is relied on.
+-- This is found of it in each later store; and the tree with this, if no type of it mentions a name that is not defined, is one that is
+-- relied on.
 pub record IsFindingOf (s : Store) (w : Walker) (n : Node) (xs : List TypedNode) (x : Finding) : Type 0 where
   pub found : IsFound (program_of w) s (above_of w) (head n) xs w.seen x
   pub many : length x.kids ≡ length xs

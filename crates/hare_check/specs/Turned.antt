@@ -19,7 +19,8 @@ use Rattle.hare_find.specs.Settling.{option_in}
 abbrev pub context_at : (Store → Setting) → Above → Node → List TypedNode → Flow → Store → Context
 context_at w a n xs f l = context (w l) a (head n) (map bare xs) f
 
--- This has been found of a node with these kids, where this has been seen; behind its turn that has been, and its mark and its kids are these.
+-- This has been found of a node with these kids, where this has been seen; behind its turn that has been, and its mark and its kids are
+-- these.
 pub record IsClosed (w : Store → Setting) (s : Store) (a : Above) (n : Node) (xs : List TypedNode) (f g : Flow) (x : Finding) (m : Mark)
     (ys : List TypedNode) : Type 0 where
   pub inferred : AreInferred w s a (head n) (kids_of n) xs f

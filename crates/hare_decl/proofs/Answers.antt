@@ -12,7 +12,15 @@ use Rattle.hare_decl.specs.Answers.{HasFault}
 
 -- a file goes on with each front of its tokens
 file_viable : (file : ℕ) (ts : List Token) (tree : FileTree) → IsFileTree file ts tree → IsViable files ts
-file_viable file ts tree t = (tree, record { shaped = (fits_file_parts tree t.fits).0; behind = []; spelled = subst (λ y. Spells (spell_file tree) y) (sym (append-nil ts)) t.spelled })
+file_viable file ts tree t = (
+  tree,
+  record {
+    shaped = (fits_file_parts tree t.fits).0;
+    behind = [];
+    spelled = subst
+        (λ y. Spells (spell_file tree) y) (sym (append-nil ts)) t.spelled;
+  },
+)
 
 -- the tokens behind a front
 front_behind : (ts : List Token) (n : ℕ) → take n ts ++ drop n ts ≡ ts
@@ -21,10 +29,17 @@ front_behind ts n = take-append-drop n ts
 -- where the tree keeps the limits, nothing that is read forces that one is passed
 file_shallow : (file : ℕ) (ts : List Token) (tree : FileTree) → IsFileTree file ts tree → (m : ℕ) → IsDepthFault files ts m → ⊥
 file_shallow file ts tree t m d =
-    let on : IsOn d.at (files.deep_of tree) = d.forced tree (record { shaped = (fits_file_parts tree t.fits).0; behind = drop d.read ts; spelled = subst (λ y. Spells (spell_file tree) y) (sym (front_behind ts d.read)) t.spelled }) in
+    let on : IsOn d.at (files.deep_of tree) =
+    d.forced tree (record {
+      shaped = (fits_file_parts tree t.fits).0;
+      behind = drop d.read ts;
+      spelled = subst
+          (λ y. Spells (spell_file tree) y) (sym (front_behind ts d.read)) t.spelled;
+    }) in
     subst (λ y. IsOn d.at y) (fits_file_parts tree t.fits).1 on
 
-pub file_no_first : (file : ℕ) (ts : List Token) (tree : FileTree) (number n : ℕ) → IsFileTree file ts tree → IsFirstFault files ts number n → ⊥
+pub file_no_first : (file : ℕ) (ts : List Token) (tree : FileTree) (number n : ℕ) → IsFileTree file ts tree →
+    IsFirstFault files ts number n → ⊥
 file_no_first file ts tree number n t f = viable_no_first files ts number n (file_viable file ts tree t) (file_shallow file ts tree t) f
 
 -- tokens of a file have no fault

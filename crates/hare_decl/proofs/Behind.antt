@@ -13,17 +13,20 @@ use Rattle.hare_decl.specs.Answers.{IsEnd, IsOver, IsFile}
 use Rattle.hare_decl.proofs.Over.{over_no_end, over_behind_end, over_whole}
 
 -- a token that is not End
-pub over_at_other : (file : ℕ) (ts : List Token) (uses decls : List Node) (n : ℕ) (t : Token) → IsOver file ts uses decls n → Some t ≡ slice_get ts n → (IsEnd t → ⊥) → IsFirstFault files ts 8 n
+pub over_at_other : (file : ℕ) (ts : List Token) (uses decls : List Node) (n : ℕ) (t : Token) → IsOver file ts uses decls n →
+    Some t ≡ slice_get ts n → (IsEnd t → ⊥) → IsFirstFault files ts 8 n
 over_at_other file ts uses decls n t o e k = over_no_end file ts uses decls n t (drop (n + 1) ts) o (read_drop ts n t e) k
 
 -- End, with a token behind it
-pub over_at_end : (file : ℕ) (ts : List Token) (uses decls : List Node) (n : ℕ) (t : Token) → IsOver file ts uses decls n → Some t ≡ slice_get ts n → IsEnd t → n + 1 < length ts → IsFirstFault files ts 8 (n + 1)
+pub over_at_end : (file : ℕ) (ts : List Token) (uses decls : List Node) (n : ℕ) (t : Token) → IsOver file ts uses decls n →
+    Some t ≡ slice_get ts n → IsEnd t → n + 1 < length ts → IsFirstFault files ts 8 (n + 1)
 over_at_end file ts uses decls n t o e k h =
     let i : suc n ≡ n + 1 = omega arith in
     subst (IsFirstFault files ts 8) i (over_behind_end file ts uses decls n t (drop (n + 1) ts) o (read_drop ts n t e) k (omega (arith, h)))
 
 -- End, and nothing behind it
-pub over_at_last : (file : ℕ) (ts : List Token) (uses decls : List Node) (n : ℕ) (t : Token) → IsOver file ts uses decls n → Some t ≡ slice_get ts n → IsEnd t → length ts ≤ n + 1 → IsFile file ts (record { file = file; uses = uses; decls = decls })
+pub over_at_last : (file : ℕ) (ts : List Token) (uses decls : List Node) (n : ℕ) (t : Token) → IsOver file ts uses decls n →
+    Some t ≡ slice_get ts n → IsEnd t → length ts ≤ n + 1 → IsFile file ts (record { file = file; uses = uses; decls = decls })
 over_at_last file ts uses decls n t o e k h =
     over_whole file ts uses decls n t o (read_drop ts n t e ∙ ap (λ l. t ∷ l) (drop_all (n + 1) ts h)) k
 

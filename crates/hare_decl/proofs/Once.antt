@@ -15,12 +15,14 @@ use Rattle.hare_decl.proofs.Answers.{file_no_fault, one_fault}
 
 -- ---- tokens
 
-pub only_tree : (file : ℕ) (ts : List Token) (result : Result FileTree (Stop fault.Fault)) → IfOk result (λ t. IsFile file ts t) → IfErr result (λ e. Stops (HasFault file ts) e) → (tree : FileTree) → IsFile file ts tree → GivesTree tree result
+pub only_tree : (file : ℕ) (ts : List Token) (result : Result FileTree (Stop fault.Fault)) → IfOk result (λ t. IsFile file ts t) →
+    IfErr result (λ e. Stops (HasFault file ts) e) → (tree : FileTree) → IsFile file ts tree → GivesTree tree result
 only_tree file ts (Ok t) h g tree k = k.only t h.read
 only_tree file ts (Err stop.Memory) h g tree k = refl
 only_tree file ts (Err (stop.Fault f)) h g tree k = absurd (file_no_fault file ts tree f k.read g)
 
-pub only_fault : (file : ℕ) (ts : List Token) (result : Result FileTree (Stop fault.Fault)) → IfOk result (λ t. IsFile file ts t) → IfErr result (λ e. Stops (HasFault file ts) e) → (f : fault.Fault) → HasFault file ts f → GivesFault f result
+pub only_fault : (file : ℕ) (ts : List Token) (result : Result FileTree (Stop fault.Fault)) → IfOk result (λ t. IsFile file ts t) →
+    IfErr result (λ e. Stops (HasFault file ts) e) → (f : fault.Fault) → HasFault file ts f → GivesFault f result
 only_fault file ts (Ok t) h g f k = file_no_fault file ts t f h.read k
 only_fault file ts (Err stop.Memory) h g f k = inl refl
 only_fault file ts (Err (stop.Fault x)) h g f k = inr (ap stop.Fault (one_fault file ts x f g k))
@@ -32,7 +34,8 @@ tokens_once : (file : ℕ) (text : List ℕ) (ts us : List Token) → IsTokens f
 tokens_once file text ts us h g = only_tokens file text (Ok ts) h tt us g
 
 -- or a first break
-tokens_or_break : (file : ℕ) (text : List ℕ) (ts kept : List Token) (lexical : fault.Fault) → IsTokens file text ts → IsFirstBreak file text lexical kept → ⊥
+tokens_or_break : (file : ℕ) (text : List ℕ) (ts kept : List Token) (lexical : fault.Fault) → IsTokens file text ts →
+    IsFirstBreak file text lexical kept → ⊥
 tokens_or_break file text ts kept lexical h g = only_break file text (Ok ts) h tt lexical kept g
 
 -- which is one, with one list of kept tokens
@@ -40,7 +43,8 @@ record OneBreak (f g : fault.Fault) (kept other : List Token) : Type 0 where
   fault : f ≡ g
   tokens : kept ≡ other
 
-break_once : (file : ℕ) (text : List ℕ) (f g : fault.Fault) (kept other : List Token) → IsFirstBreak file text f kept → IsFirstBreak file text g other → OneBreak f g kept other
+break_once : (file : ℕ) (text : List ℕ) (f g : fault.Fault) (kept other : List Token) → IsFirstBreak file text f kept →
+    IsFirstBreak file text g other → OneBreak f g kept other
 break_once file text f g kept other h k = by (only_break file text (Err (lex.Fault f kept)) tt h g other k)
   where
     by : (lex.Fault f kept ≡ lex.Memory) ⊎ (lex.Fault f kept ≡ lex.Fault g other) → OneBreak f g kept other
@@ -83,17 +87,20 @@ source_fault_once file text f g (inr a) (inr b) =
     let e = break_once file text a.0 b.0 a.1 b.1 a.2 b.2 in
     least_once b.1 b.0 f g (subst (λ ts. IsLeastFault ts b.0 f) e.tokens (subst (λ x. IsLeastFault a.1 x f) e.fault a.3)) b.3
 
-pub only_source : (file : ℕ) (text : List ℕ) (result : Result FileTree (Stop fault.Fault)) → IfOk result (λ t. IsSource file text t) → IfErr result (λ e. Stops (HasSourceFault file text) e) → (tree : FileTree) → IsSource file text tree → GivesTree tree result
+pub only_source : (file : ℕ) (text : List ℕ) (result : Result FileTree (Stop fault.Fault)) → IfOk result (λ t. IsSource file text t) →
+    IfErr result (λ e. Stops (HasSourceFault file text) e) → (tree : FileTree) → IsSource file text tree → GivesTree tree result
 only_source file text (Ok t) h g tree k = source_once file text t tree h k
 only_source file text (Err stop.Memory) h g tree k = refl
 only_source file text (Err (stop.Fault f)) h g tree k = absurd (source_no_fault file text tree f k g)
 
-pub only_source_fault : (file : ℕ) (text : List ℕ) (result : Result FileTree (Stop fault.Fault)) → IfOk result (λ t. IsSource file text t) → IfErr result (λ e. Stops (HasSourceFault file text) e) → (f : fault.Fault) → HasSourceFault file text f → GivesFault f result
+pub only_source_fault : (file : ℕ) (text : List ℕ) (result : Result FileTree (Stop fault.Fault)) → IfOk result (λ t. IsSource file text t) →
+    IfErr result (λ e. Stops (HasSourceFault file text) e) → (f : fault.Fault) → HasSourceFault file text f → GivesFault f result
 only_source_fault file text (Ok t) h g f k = source_no_fault file text t f h k
 only_source_fault file text (Err stop.Memory) h g f k = inl refl
 only_source_fault file text (Err (stop.Fault x)) h g f k = inr (ap stop.Fault (source_fault_once file text x f g k))
 
 -- a stop at the least fault of the break and of the tokens before it is one at the first fault of the bytes
-pub least_stops : (file : ℕ) (text : List ℕ) (lexical : fault.Fault) (kept : List Token) (s : Stop fault.Fault) → IsFirstBreak file text lexical kept → Stops (IsLeastFault kept lexical) s → Stops (HasSourceFault file text) s
+pub least_stops : (file : ℕ) (text : List ℕ) (lexical : fault.Fault) (kept : List Token) (s : Stop fault.Fault) →
+    IsFirstBreak file text lexical kept → Stops (IsLeastFault kept lexical) s → Stops (HasSourceFault file text) s
 least_stops file text lexical kept stop.Memory b h = tt
 least_stops file text lexical kept (stop.Fault f) b h = inr (lexical, kept, b, h)

@@ -29,24 +29,31 @@ end_joined t behind h e = subst IsEnd (sym (h.same (end_proper t e))) e
 joined_end : (t : Token) (behind : List Token) (h : Head t behind) → IsEnd h.first → IsEnd t
 joined_end t behind h e = subst IsEnd (h.same (sym h.proper ∙ end_proper h.first e)) e
 
-pub over_no_end : (file : ℕ) (ts : List Token) (uses decls : List Node) (n : ℕ) (t : Token) (behind : List Token) → IsOver file ts uses decls n → drop n ts ≡ t ∷ behind → (IsEnd t → ⊥) → IsFirstFault files ts 8 n
+pub over_no_end : (file : ℕ) (ts : List Token) (uses decls : List Node) (n : ℕ) (t : Token) (behind : List Token) →
+    IsOver file ts uses decls n → drop n ts ≡ t ∷ behind → (IsEnd t → ⊥) → IsFirstFault files ts 8 n
 over_no_end file ts uses decls n t behind o d e =
     let h = head t behind in
     let us : joined (drop n ts) ≡ h.first ∷ h.rest = ap joined d ∙ h.is in
-    no_end_first file ts n h.first h.rest (file_made uses decls) o.shallow (o.run_is ∙ ap (λ y. Done y (file_made uses decls)) us) (subst (StandsAt ts n) us o.stands) (λ i. e (joined_end t behind h i))
+    no_end_first file ts n h.first h.rest (file_made uses decls) o.shallow (o.run_is ∙ ap (λ y. Done y (file_made uses decls)) us)
+    (subst (StandsAt ts n) us o.stands) (λ i. e (joined_end t behind h i))
 
-pub over_behind_end : (file : ℕ) (ts : List Token) (uses decls : List Node) (n : ℕ) (t : Token) (behind : List Token) → IsOver file ts uses decls n → drop n ts ≡ t ∷ behind → IsEnd t → suc n < length ts → IsFirstFault files ts 8 (suc n)
+pub over_behind_end : (file : ℕ) (ts : List Token) (uses decls : List Node) (n : ℕ) (t : Token) (behind : List Token) →
+    IsOver file ts uses decls n → drop n ts ≡ t ∷ behind → IsEnd t → suc n < length ts → IsFirstFault files ts 8 (suc n)
 over_behind_end file ts uses decls n t behind o d e l =
     let h = head t behind in
     let us : joined (drop n ts) ≡ h.first ∷ h.rest = ap joined d ∙ h.is in
-    behind_end_first file ts n h.first h.rest (file_made uses decls) o.shallow (o.run_is ∙ ap (λ y. Done y (file_made uses decls)) us) (subst (StandsAt ts n) us o.stands) (end_joined t behind h e) l
+    behind_end_first file ts n h.first h.rest (file_made uses decls) o.shallow (o.run_is ∙ ap (λ y. Done y (file_made uses decls)) us)
+    (subst (StandsAt ts n) us o.stands) (end_joined t behind h e) l
 
 -- ---- whole files
 
 file_sorts : (t : FileTree) → is_shaped_file t ≡ true → HaveSorts t.uses t.decls
-file_sorts t e = let p = split (list_all (is_shaped so.Use) t.uses) (list_all (is_shaped so.Decl) t.decls) e in record { uses_shaped = p.0; decls_shaped = p.1 }
+file_sorts t e =
+    let p = split (list_all (is_shaped so.Use) t.uses) (list_all (is_shaped so.Decl) t.decls)
+    e in record { uses_shaped = p.0; decls_shaped = p.1 }
 
-file_same : (x : FileTree) (f : ℕ) (us ds : List Node) → x.file ≡ f → us ≡ x.uses → ds ≡ x.decls → x ≡ record { file = f; uses = us; decls = ds }
+file_same : (x : FileTree) (f : ℕ) (us ds : List Node) → x.file ≡ f → us ≡ x.uses → ds ≡ x.decls →
+    x ≡ record { file = f; uses = us; decls = ds }
 file_same x f us ds a b c = rw (sym a, b, c) refl
 
 abbrev kids_of : List Group → List Node
@@ -54,7 +61,8 @@ kids_of [] = []
 kids_of (g ∷ gs) = g.kids
 
 -- the file that is read in front of End alone
-pub over_whole : (file : ℕ) (ts : List Token) (uses decls : List Node) (n : ℕ) (t : Token) → IsOver file ts uses decls n → drop n ts ≡ t ∷ [] → IsEnd t → IsFile file ts (record { file = file; uses = uses; decls = decls })
+pub over_whole : (file : ℕ) (ts : List Token) (uses decls : List Node) (n : ℕ) (t : Token) → IsOver file ts uses decls n →
+    drop n ts ≡ t ∷ [] → IsEnd t → IsFile file ts (record { file = file; uses = uses; decls = decls })
 over_whole file ts uses decls n t o d e =
     let us : joined (drop n ts) ≡ t ∷ [] = ap joined d in
     let made = file_made uses decls in

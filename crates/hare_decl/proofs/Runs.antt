@@ -19,15 +19,19 @@ IsShallow ts = (m : ℕ) → IsDepthFault files ts m → ⊥
 -- ---- tokens that are no file
 
 -- where the run fails at a token
-pub stuck_first : (file : ℕ) (ts : List Token) (n : ℕ) (t : Token) (rest : List Token) → IsShallow ts → run file (joined ts) file_symbols bottom ≡ Fails (t ∷ rest) → StandsAt ts n (t ∷ rest) → IsFirstFault files ts 8 n
+pub stuck_first : (file : ℕ) (ts : List Token) (n : ℕ) (t : Token) (rest : List Token) → IsShallow ts →
+    run file (joined ts) file_symbols bottom ≡ Fails (t ∷ rest) → StandsAt ts n (t ∷ rest) → IsFirstFault files ts 8 n
 stuck_first file ts n t rest d e s = first_syntax files ts n (file_runs_fault file ts n t rest e s) d
 
 -- where it is done at a token that is not End
-pub no_end_first : (file : ℕ) (ts : List Token) (n : ℕ) (t : Token) (rest : List Token) (made : List Group) → IsShallow ts → run file (joined ts) file_symbols bottom ≡ Done (t ∷ rest) made → StandsAt ts n (t ∷ rest) → (IsEnd t → ⊥) → IsFirstFault files ts 8 n
+pub no_end_first : (file : ℕ) (ts : List Token) (n : ℕ) (t : Token) (rest : List Token) (made : List Group) → IsShallow ts →
+    run file (joined ts) file_symbols bottom ≡ Done (t ∷ rest) made → StandsAt ts n (t ∷ rest) → (IsEnd t → ⊥) → IsFirstFault files ts 8 n
 no_end_first file ts n t rest made d e s i = first_syntax files ts n ((file_runs_are_over file ts n t rest made e s).no_end i) d
 
 -- where a token stands behind End
-pub behind_end_first : (file : ℕ) (ts : List Token) (n : ℕ) (t : Token) (rest : List Token) (made : List Group) → IsShallow ts → run file (joined ts) file_symbols bottom ≡ Done (t ∷ rest) made → StandsAt ts n (t ∷ rest) → IsEnd t → suc n < length ts → IsFirstFault files ts 8 (suc n)
+pub behind_end_first : (file : ℕ) (ts : List Token) (n : ℕ) (t : Token) (rest : List Token) (made : List Group) → IsShallow ts →
+    run file (joined ts) file_symbols bottom ≡ Done (t ∷ rest) made → StandsAt ts n (t ∷ rest) → IsEnd t → suc n < length ts →
+    IsFirstFault files ts 8 (suc n)
 behind_end_first file ts n t rest made d e s i h = first_syntax files ts (suc n) ((file_runs_are_over file ts n t rest made e s).more i h) d
 
 -- a run has one outcome
@@ -39,17 +43,21 @@ pub used_up_cut : (file : ℕ) (ts : List Token) → IsShallow ts → run file (
 used_up_cut file ts d e =
     record {
       no_fault = λ number n. viable_no_first files ts number n (file_runs_use_all file ts e) d;
-      no_file = λ tree t. let w = files_have_whole_runs file ts tree (fits_file_parts tree t.fits).0 t.spelled in done_not_fails _ _ _ _ w.whole.done e;
+      no_file = λ tree t. let w = files_have_whole_runs file ts tree (fits_file_parts tree t.fits).0 t.spelled in done_not_fails _ _ _ _
+          w.whole.done e;
     }
 
 -- ---- whole files
 
 -- what a run makes that is done in front of End alone
-pub whole_made : (file : ℕ) (ts : List Token) (t : Token) (made : List Group) → run file (joined ts) file_symbols bottom ≡ Done (t ∷ []) made → IsEnd t → MakesFile file ts made
+pub whole_made : (file : ℕ) (ts : List Token) (t : Token) (made : List Group) →
+    run file (joined ts) file_symbols bottom ≡ Done (t ∷ []) made → IsEnd t → MakesFile file ts made
 whole_made file ts t made e i = whole_runs_make_files file ts made (record { end = t; done = e; is_end = i })
 
 -- it is the one file with these tokens, where it keeps the limits
-pub whole_is_file : (file : ℕ) (ts : List Token) (made : List Group) (m : MakesFile file ts made) → files.deep_of m.tree ≡ [] → IsFile file ts m.tree
+pub whole_is_file : (file : ℕ) (ts : List Token) (made : List Group) (m : MakesFile file ts made) → files.deep_of m.tree ≡ [] →
+    IsFile file ts m.tree
 whole_is_file file ts made m d =
-    let t : IsFileTree file ts m.tree = record { file_is = m.spells.file_is; fits = file_fits m.tree m.spells.shaped d; spelled = m.spells.spelled; placed = m.spells.placed } in
+    let t : IsFileTree file ts m.tree = record
+    { file_is = m.spells.file_is; fits = file_fits m.tree m.spells.shaped d; spelled = m.spells.spelled; placed = m.spells.placed } in
     record { read = t; only = λ other o. tokens_have_one_file file ts other m.tree o t }

@@ -30,7 +30,8 @@ joined_to_length : (t : Token) (us : List Token) → length (joined_to t us) ≤
 joined_to_length t [] = omega arith
 joined_to_length t (u ∷ us) = by (is_proper_string t) (is_proper_string u)
   where
-    by : (p q : Bool) → length (if p then (if q then string_at t.place (t.text ++ u.text) ∷ us else t ∷ u ∷ us) else t ∷ u ∷ us) ≤ 1 + length (u ∷ us)
+    by : (p q : Bool) → length (if p then (if q then string_at t.place (t.text ++ u.text) ∷ us else t ∷ u ∷ us) else t ∷ u ∷ us) ≤ 1 +
+        length (u ∷ us)
     by true true = omega arith
     by true false = omega arith
     by false q = omega arith
@@ -47,7 +48,12 @@ pub sources_have_few_nodes : SourcesHaveFewNodes
 sources_have_few_nodes file text tree s =
     let read = s.file_is.read in
     let shaped = (fits_file_parts tree read.fits).0 in
-    omega (arith, shaped_files_are_small tree shaped, spelled_length (spell_file tree) s.tokens read.spelled, (tokens_are_few file text s.tokens s.are).tokens)
+    omega (
+      arith,
+      shaped_files_are_small tree shaped,
+      spelled_length (spell_file tree) s.tokens read.spelled,
+      (tokens_are_few file text s.tokens s.are).tokens,
+    )
 
 -- ---- how many bytes their strings have
 
@@ -63,9 +69,19 @@ joined_to_bytes : (t : Token) (us : List Token) → string_bytes_in (joined_to t
 joined_to_bytes t [] = omega (arith, sum_by-cons bytes t [])
 joined_to_bytes t (u ∷ us) = by (is_proper_string t) refl (is_proper_string u) refl
   where
-    by : (p : Bool) → is_proper_string t ≡ p → (q : Bool) → is_proper_string u ≡ q → string_bytes_in (if p then (if q then string_at t.place (t.text ++ u.text) ∷ us else t ∷ u ∷ us) else t ∷ u ∷ us) ≤ bytes t + string_bytes_in (u ∷ us)
+    by : (p : Bool) → is_proper_string t ≡ p → (q : Bool) → is_proper_string u ≡ q →
+        string_bytes_in (if p then (if q then string_at t.place (t.text ++ u.text) ∷ us else t ∷ u ∷ us) else t ∷ u ∷ us) ≤ bytes t +
+        string_bytes_in (u ∷ us)
     by true a true b =
-        omega (arith, bytes_of t a, bytes_of u b, length-append t.text u.text, sum_by-cons bytes u us, sum_by-cons bytes (string_at t.place (t.text ++ u.text)) us)
+        omega (
+          arith,
+          bytes_of t a,
+          bytes_of u b,
+          length-append t.text u.text,
+          sum_by-cons bytes u us,
+          sum_by-cons bytes
+              (string_at t.place (t.text ++ u.text)) us,
+        )
     by true a false b = omega (arith, sum_by-cons bytes t (u ∷ us))
     by false a q b = omega (arith, sum_by-cons bytes t (u ∷ us))
 
@@ -86,4 +102,9 @@ pub sources_have_few_texts : SourcesHaveFewTexts
 sources_have_few_texts file text tree s =
     let read = s.file_is.read in
     let shaped = (fits_file_parts tree read.fits).0 in
-    omega (arith, texts_are_spelled tree shaped, spelled_bytes (spell_file tree) s.tokens read.spelled, (tokens_are_few file text s.tokens s.are).strings)
+    omega (
+      arith,
+      texts_are_spelled tree shaped,
+      spelled_bytes (spell_file tree) s.tokens read.spelled,
+      (tokens_are_few file text s.tokens s.are).strings,
+    )

@@ -32,7 +32,9 @@ no_depth ts (Some m) h e = cc
 -- ---- the machine cannot go on
 
 -- at a token
-pub stuck_at_token : (file : ℕ) (ts : List Token) (n : ℕ) → IsShallow ts → run file (joined ts) file_symbols bottom ≡ Fails (joined (drop n ts)) → StandsAt ts n (joined (drop n ts)) → n < length ts → IsFirstFault files ts 8 n
+pub stuck_at_token : (file : ℕ) (ts : List Token) (n : ℕ) → IsShallow ts →
+    run file (joined ts) file_symbols bottom ≡ Fails (joined (drop n ts)) → StandsAt ts n (joined (drop n ts)) → n < length ts →
+    IsFirstFault files ts 8 n
 stuck_at_token file ts n d e s h =
     let c = cut ts n h in
     let x = head c.first c.behind in
@@ -40,14 +42,17 @@ stuck_at_token file ts n d e s h =
     stuck_first file ts n x.first x.rest d (e ∙ ap Fails us) (subst (StandsAt ts n) us s)
 
 -- behind all tokens nothing is left
-used_up : (file : ℕ) (ts : List Token) (n : ℕ) → run file (joined ts) file_symbols bottom ≡ Fails (joined (drop n ts)) → length ts ≤ n → run file (joined ts) file_symbols bottom ≡ Fails []
+used_up : (file : ℕ) (ts : List Token) (n : ℕ) → run file (joined ts) file_symbols bottom ≡ Fails (joined (drop n ts)) → length ts ≤ n →
+    run file (joined ts) file_symbols bottom ≡ Fails []
 used_up file ts n e h = e ∙ ap (λ l. Fails (joined l)) (drop_all n ts h)
 
 -- the tokens are used up
-pub stuck_at_end : (file : ℕ) (ts : List Token) (n : ℕ) → IsShallow ts → run file (joined ts) file_symbols bottom ≡ Fails (joined (drop n ts)) → length ts ≤ n → IsCut file ts
+pub stuck_at_end : (file : ℕ) (ts : List Token) (n : ℕ) → IsShallow ts →
+    run file (joined ts) file_symbols bottom ≡ Fails (joined (drop n ts)) → length ts ≤ n → IsCut file ts
 stuck_at_end file ts n d e h = used_up_cut file ts d (used_up file ts n e h)
 
 -- no tokens are used up of which the last is End
-pub end_not_used : (file : ℕ) (ts : List Token) (n : ℕ) → run file (joined ts) file_symbols bottom ≡ Fails (joined (drop n ts)) → length ts ≤ n → HasEnd ts → ⊥
+pub end_not_used : (file : ℕ) (ts : List Token) (n : ℕ) → run file (joined ts) file_symbols bottom ≡ Fails (joined (drop n ts)) →
+    length ts ≤ n → HasEnd ts → ⊥
 end_not_used file ts n e h k =
     file_runs_use_no_end file k.0 (end_at k.1) [] refl (ap (λ l. run file (joined l) file_symbols bottom) (sym k.2) ∙ used_up file ts n e h)

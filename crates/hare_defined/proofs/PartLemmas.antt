@@ -35,7 +35,8 @@ named_below : (n : ℕ) (o : Option ℕ) (i : ℕ) → ((j : ℕ) → o ≡ Some
 named_below n None i h c = absurd (omega (arith, c.1))
 named_below n (Some j) i h c = one_below n j i (h j refl) c
 
-parts_below : (s : Store) → IsStore s → (t : ℕ) (r : Row) → IsWithin t r → t < length s.rows → (i : ℕ) → Contains (made_of s r) i → i < length s.rows
+parts_below : (s : Store) → IsStore s → (t : ℕ) (r : Row) → IsWithin t r → t < length s.rows → (i : ℕ) → Contains (made_of s r) i →
+    i < length s.rows
 parts_below s v t (row.Scalar k) w h i c = absurd (omega (arith, c.1))
 parts_below s v t (row.Pointer j) w h i c = one_below (length s.rows) j i (omega arith) c
 parts_below s v t (row.Nullable j) w h i c = one_below (length s.rows) j i (omega arith) c
@@ -47,7 +48,8 @@ parts_below s v t (row.Union is) w h i c = let k = below_among t is i w c in ome
 parts_below s v t (row.Error j) w h i c = one_below (length s.rows) j i (omega arith) c
 parts_below s v t (row.Named d) w h i c = named_below (length s.rows) (definition_of s d) i (v.defined_within d) c
 
-pub made_within : (s : Store) → IsStore s → (t : ℕ) (r : Row) → row_at s t ≡ Some r → t < length s.rows → (i : ℕ) → Contains (made_of s r) i → i < length s.rows
+pub made_within : (s : Store) → IsStore s → (t : ℕ) (r : Row) → row_at s t ≡ Some r → t < length s.rows → (i : ℕ) →
+    Contains (made_of s r) i → i < length s.rows
 made_within s v t r e h = parts_below s v t r (v.rows_sound.within t r e) h
 
 -- ---- lists that go on

@@ -37,9 +37,14 @@ own_definition s t u (row.Error i) h m e = tt
 -- ---- places
 
 Contains-slice_get : (xs : List ℕ) (k u : ℕ) → slice_get xs k ≡ Some u → Contains xs u
-Contains-slice_get xs k u e = (k, slice_get_within xs k u e, (let same : Some (slice_index_or xs k u) ≡ Some u = sym (slice_get-get_or xs k u (slice_get_within xs k u e)) ∙ e in cc))
+Contains-slice_get xs k u e = (
+  k,
+  slice_get_within xs k u e,
+  (let same : Some (slice_index_or xs k u) ≡ Some u = sym (slice_get-get_or xs k u (slice_get_within xs k u e)) ∙ e in cc),
+)
 
-slice_get-Continues : (old new : List ℕ) (k u : ℕ) → Continues old new → k < length old → slice_get new k ≡ Some u → slice_get old k ≡ Some u
+slice_get-Continues : (old new : List ℕ) (k u : ℕ) → Continues old new → k < length old → slice_get new k ≡ Some u →
+    slice_get old k ≡ Some u
 slice_get-Continues old new k u g h e = sym (slice_get_front old g.0 k h) ∙ ap (λ l. slice_get l k) (sym g.1) ∙ e
 
 -- what a look at the next place gives
@@ -76,7 +81,8 @@ module _ (s : Store) (t : ℕ) (known : List ℕ) where
   pub next_within : (met : List ℕ) (n u : ℕ) → IsSearch s t known met n → slice_get met n ≡ Some u → u < length s.rows
   next_within met n u h here = h.within u (Contains-slice_get met n u here)
 
-  module _ (v : IsStore s) (met : List ℕ) (n u : ℕ) (r : Row) (h : IsSearch s t known met n) (here : slice_get met n ≡ Some u) (is : row_at s u ≡ Some r) where
+  module _ (v : IsStore s) (met : List ℕ) (n u : ℕ) (r : Row) (h : IsSearch s t known met n) (here : slice_get met n ≡ Some u)
+      (is : row_at s u ≡ Some r) where
     is_met : Contains met u
     is_met = Contains-slice_get met n u here
 
@@ -88,7 +94,8 @@ module _ (s : Store) (t : ℕ) (known : List ℕ) where
       begins = Contains-Continues met new t g.grows h.begins;
       within = λ w k. within w (g.only w k);
       mentioned = λ w k d. mentioned w d (g.only w k);
-      done = λ k w l e. done k w (cases_lt k n) l (slice_get-Continues met new k w g.grows (omega (arith, l, slice_get_within met n u here)) e);
+      done = λ k w l e. done k w (cases_lt k n) l
+          (slice_get-Continues met new k w g.grows (omega (arith, l, slice_get_within met n u here)) e);
     }
       where
         within : (w : ℕ) → Contains met w ⊎ Contains (made_of s r) w → w < length s.rows
@@ -138,6 +145,7 @@ module _ (s : Store) (t : ℕ) (known : List ℕ) where
     search_ends u c = record { within = h.within u c; names = λ w d m e. names c m d e }
 
 -- no more are met than the store has types
-pub few_met : (s : Store) (t : ℕ) (known met : List ℕ) (n : ℕ) → IsDistinct nat_eq met → IsSearch s t known met n → length met ≤ length s.rows
+pub few_met : (s : Store) (t : ℕ) (known met : List ℕ) (n : ℕ) → IsDistinct nat_eq met → IsSearch s t known met n →
+    length met ≤ length s.rows
 few_met s t known met n once h =
     length-le_from_distinct_below met (length s.rows) once (λ u e. h.within u (Contains-from_any (λ x y. (unsigned_Decides x y).0) u met e))

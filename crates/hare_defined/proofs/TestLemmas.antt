@@ -13,7 +13,8 @@ use Rattle.hare_types.specs.Trees.{Tree, Struct, Nullable, more, none}
 abbrev pub IsNode : Store → ℕ → Type 0
 IsNode s t = (ns : List ℕ) × (u : Tree) × (tree_at s t ≡ Some (Struct ns (more (Nullable u) none)))
 
-pub node_is : (s : Store) (t : ℕ) (ts : List Tree) (fs : List Field) (f : Field) (u : Tree) → tree_at s t ≡ Some (tree_of ts (row.Struct fs)) → fs ≡ f ∷ []
+pub node_is : (s : Store) (t : ℕ) (ts : List Tree) (fs : List Field) (f : Field) (u : Tree) →
+    tree_at s t ≡ Some (tree_of ts (row.Struct fs)) → fs ≡ f ∷ []
     → tree_in ts f.ty ≡ Nullable u → IsNode s t
 node_is s t ts fs f u e one there =
     (f.name ∷ [], u, e ∙ ap (λ gs. Some (tree_of ts (row.Struct gs))) one ∙ ap (λ v. Some (Struct (f.name ∷ []) (more v none))) there)

@@ -170,10 +170,12 @@ module _ (ds : List Said) (w : AllWithin ds) where
 
   -- ---- what a declaration depends on is a declaration
 
-  said-within : (f : Said → List ℕ) (d e : ℕ) → ((s : Said) → AreWithin n s → Contains (f s) e → e < n) → Contains (numbers_at f ds d) e → e < n
+  said-within : (f : Said → List ℕ) (d e : ℕ) → ((s : Said) → AreWithin n s → Contains (f s) e → e < n) → Contains (numbers_at f ds d) e →
+      e < n
   said-within f d e h c = let x = number-said ds f d e c in h x.0 (w x.0 (Contains-there ds d x.0 x.1)) x.2
 
-  through-within : (g e : ℕ) → g < n → ((is_at is_global ds g ≡ true) × Contains (numbers_at (λ s. s.written) ds g) e) ⊎ ((is_at is_global ds g ≡ false) × (g ≡ e)) → e < n
+  through-within : (g e : ℕ) → g < n → ((is_at is_global ds g ≡ true) × Contains (numbers_at (λ s. s.written) ds g) e) ⊎
+      ((is_at is_global ds g ≡ false) × (g ≡ e)) → e < n
   through-within g e l (inl c) = said-within (λ s. s.written) g e (λ s h k. h.written e k) c.1
   through-within g e l (inr q) = subst (λ x. x < n) q.1 l
 
@@ -184,7 +186,8 @@ module _ (ds : List Said) (w : AllWithin ds) where
       by s l so.Type c = l.needed e c
       by s l so.Function c = l.needed e c
       by s l so.Constant c = l.named e c
-      by s l so.Global c = let x = flat_map-from (through ds) s.named e c in through-within x.0 e (l.named x.0 x.1) (through-from ds x.0 e x.2)
+      by s l so.Global c =
+          let x = flat_map-from (through ds) s.named e c in through-within x.0 e (l.named x.0 x.1) (through-from ds x.0 e x.2)
 
   named-within : (d t : ℕ) → Contains (types_named ds d) t → t < n
   named-within d t c =
@@ -214,5 +217,6 @@ module _ (ds : List Said) (w : AllWithin ds) where
       ends : (a b : ℕ) → a < n → Begun a b → ⊥
       ends a b l x = let h = begun-other a b (omega (arith, l)) x in omega (arith, l, h.0)
 
-pub dependence-is : (ds : List Said) (es : List Edge) (g : Graph) → AllWithin ds → es ≡ edges_of ds → g ≡ at_once (length ds) es → IsDependence ds g
+pub dependence-is : (ds : List Said) (es : List Edge) (g : Graph) → AllWithin ds → es ≡ edges_of ds → g ≡ at_once (length ds) es →
+    IsDependence ds g
 dependence-is ds es g w e q = subst (IsDependence ds) (sym (q ∙ ap (at_once (length ds)) e)) (is-dependence ds w)

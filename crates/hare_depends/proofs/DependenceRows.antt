@@ -31,7 +31,8 @@ two_defs_fault = record {
   place = refl;
 }
 
--- ---- `def n: size = size(t); type t = struct { p: *u }; type u = [n]int;`: what is mentioned behind a pointer counts for a value, so E23 at the `n`
+-- ---- `def n: size = size(t); type t = struct { p: *u }; type u = [n]int;`: what is mentioned behind a pointer counts for a value, so E23
+-- at the `n`
 
 abbrev behind_pointer : List Said
 behind_pointer = says so.Constant 5 [] (1 ∷ []) [] ∷ says so.Type 30 [] (2 ∷ []) [] ∷ says so.Type 60 (0 ∷ []) (0 ∷ []) [] ∷ []
@@ -61,7 +62,8 @@ two_globals_need = (refl, refl)
 -- ---- a global with a type needs what the type of one that it names names, and not that global
 
 abbrev looked_through : List Said
-looked_through = says so.Global 5 [] (1 ∷ 3 ∷ []) [] ∷ says so.Global 25 [] (2 ∷ 3 ∷ []) (2 ∷ []) ∷ says so.Type 40 [] [] [] ∷ says so.Constant 60 [] [] [] ∷ []
+looked_through = says so.Global 5 [] (1 ∷ 3 ∷ []) [] ∷ says so.Global 25 [] (2 ∷ 3 ∷ []) (2 ∷ []) ∷ says so.Type 40 [] [] [] ∷ says
+    so.Constant 60 [] [] [] ∷ []
 
 looked_through_needs : needs looked_through 0 ≡ 2 ∷ 3 ∷ []
 looked_through_needs = refl

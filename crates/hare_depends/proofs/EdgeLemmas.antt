@@ -38,7 +38,8 @@ held-grows a = record {
 
 value-grows : (n a : ℕ) → Grows (with_value n a) (AddsValue n a)
 value-grows n a = record {
-  keeps = λ es e x c. Contains-append_left (es ++ edge a e ∷ []) (edge a (mention n e) ∷ []) x (Contains-append_left es (edge a e ∷ []) x c);
+  keeps = λ es e x c. Contains-append_left (es ++ edge a e ∷ []) (edge a (mention n e) ∷ []) x
+      (Contains-append_left es (edge a e ∷ []) x c);
   adds = λ es e x h. add es e x h;
   only = λ es e x c. from es e x (Contains-push_cases (es ++ edge a e ∷ []) (edge a (mention n e)) x c);
 }
@@ -87,7 +88,8 @@ through-grows ds n a = record {
     from : (es : List Edge) (e : ℕ) (x : Edge) (b : Bool) → is_at is_global ds e ≡ b → Contains (with_through ds n a es e) x →
         Contains es x ⊎ AddsThrough ds n a e x
     from es e x true h c =
-        let d : Contains (es ++ edge a (written n e) ∷ []) x = rw h at c in looked es e x h (Contains-push_cases es (edge a (written n e)) x d)
+        let d : Contains (es ++ edge a (written n e) ∷ []) x =
+        rw h at c in looked es e x h (Contains-push_cases es (edge a (written n e)) x d)
     from es e x false h c = let d : Contains (with_value n a es e) x = rw h at c in plain es e x h ((value-grows n a).only es e x d)
 
 mention-grows : (ds : List Said) (n a : ℕ) → Grows (with_mention ds n a) (AddsMention ds n a)
@@ -152,24 +154,29 @@ module _ (ds : List Said) (n d : ℕ) (s : Said) where
 
   said-keeps : (es : List Edge) (x : Edge) → Contains es x → Contains (with_said ds n d (Some s) es) x
   said-keeps es x c =
-      fold-keeps (with_mention ds n (mention n d)) (AddsMention ds n (mention n d)) (mention-grows ds n (mention n d)) s.named (after_written es) x
+      fold-keeps (with_mention ds n (mention n d)) (AddsMention ds n (mention n d)) (mention-grows ds n (mention n d)) s.named
+      (after_written es) x
       (fold-keeps (with_value n (written n d)) (AddsValue n (written n d)) (value-grows n (written n d)) s.written (after_needs es) x
       (needs-keeps s.sort es x c))
 
   said-adds : (es : List Edge) (x : Edge) → SaidAdds ds n d s x → Contains (with_said ds n d (Some s) es) x
   said-adds es x (of_needs h) =
-      fold-keeps (with_mention ds n (mention n d)) (AddsMention ds n (mention n d)) (mention-grows ds n (mention n d)) s.named (after_written es) x
+      fold-keeps (with_mention ds n (mention n d)) (AddsMention ds n (mention n d)) (mention-grows ds n (mention n d)) s.named
+      (after_written es) x
       (fold-keeps (with_value n (written n d)) (AddsValue n (written n d)) (value-grows n (written n d)) s.written (after_needs es) x
       (needs-adds s.sort es x h))
   said-adds es x (of_written h) =
-      fold-keeps (with_mention ds n (mention n d)) (AddsMention ds n (mention n d)) (mention-grows ds n (mention n d)) s.named (after_written es) x
+      fold-keeps (with_mention ds n (mention n d)) (AddsMention ds n (mention n d)) (mention-grows ds n (mention n d)) s.named
+      (after_written es) x
       (fold-adds (with_value n (written n d)) (AddsValue n (written n d)) (value-grows n (written n d)) s.written (after_needs es) x h)
   said-adds es x (of_mentions h) =
-      fold-adds (with_mention ds n (mention n d)) (AddsMention ds n (mention n d)) (mention-grows ds n (mention n d)) s.named (after_written es) x h
+      fold-adds (with_mention ds n (mention n d)) (AddsMention ds n (mention n d)) (mention-grows ds n (mention n d)) s.named
+      (after_written es) x h
 
   said-only : (es : List Edge) (x : Edge) → Contains (with_said ds n d (Some s) es) x → Contains es x ⊎ SaidAdds ds n d s x
   said-only es x c =
-      by (fold-only (with_mention ds n (mention n d)) (AddsMention ds n (mention n d)) (mention-grows ds n (mention n d)) s.named (after_written es) x c)
+      by (fold-only (with_mention ds n (mention n d)) (AddsMention ds n (mention n d)) (mention-grows ds n (mention n d)) s.named
+      (after_written es) x c)
     where
       third : Contains es x ⊎ NeedAdds ds n d s.sort s x → Contains es x ⊎ SaidAdds ds n d s x
       third (inl k) = inl k
@@ -180,7 +187,8 @@ module _ (ds : List Said) (n d : ℕ) (s : Said) where
       second (inr h) = inr (of_written h)
 
       by : Contains (after_written es) x ⊎ SomeOf (λ e. AddsMention ds n (mention n d) e x) s.named → Contains es x ⊎ SaidAdds ds n d s x
-      by (inl k) = second (fold-only (with_value n (written n d)) (AddsValue n (written n d)) (value-grows n (written n d)) s.written (after_needs es) x k)
+      by (inl k) = second (fold-only (with_value n (written n d)) (AddsValue n (written n d)) (value-grows n (written n d)) s.written
+          (after_needs es) x k)
       by (inr h) = inr (of_mentions h)
 
 -- ---- the edges of all declarations
@@ -257,15 +265,19 @@ module _ (ds : List Said) (w : AllWithin ds) where
       below = there-within ds h.decl h.said h.is_there
 
       need : (k : Sort) → NeedAdds ds (length ds) h.decl k h.said x → LiesWithin (nodes ds) x
-      need so.Type s = let l : s.0 < length ds = within.needed s.0 s.1 in subst (LiesWithin (nodes ds)) s.2 (omega (arith, below), omega arith)
-      need so.Function s = let l : s.0 < length ds = within.needed s.0 s.1 in subst (LiesWithin (nodes ds)) s.2 (omega (arith, below), omega arith)
+      need so.Type s =
+          let l : s.0 < length ds = within.needed s.0 s.1 in subst (LiesWithin (nodes ds)) s.2 (omega (arith, below), omega arith)
+      need so.Function s =
+          let l : s.0 < length ds = within.needed s.0 s.1 in subst (LiesWithin (nodes ds)) s.2 (omega (arith, below), omega arith)
       need so.Constant s = value-within (length ds) (nodes ds) h.decl s.0 x refl (omega (arith, below)) (within.named s.0 s.1) s.2
       need so.Global s = through-within (length ds) ds (nodes ds) h.decl s.0 x refl (omega (arith, below)) (within.named s.0 s.1) s.2
 
       by : SaidAdds ds (length ds) h.decl h.said x → LiesWithin (nodes ds) x
       by (of_needs a) = need h.said.sort a
-      by (of_written s) = value-within (length ds) (nodes ds) (written (length ds) h.decl) s.0 x refl (omega (arith, below)) (within.written s.0 s.1) s.2
-      by (of_mentions s) = value-within (length ds) (nodes ds) (mention (length ds) h.decl) s.0 x refl (omega (arith, below)) (within.named s.0 s.1) s.2.1
+      by (of_written s) = value-within (length ds) (nodes ds) (written (length ds) h.decl) s.0 x refl (omega (arith, below))
+          (within.written s.0 s.1) s.2
+      by (of_mentions s) = value-within (length ds) (nodes ds) (mention (length ds) h.decl) s.0 x refl (omega (arith, below))
+          (within.named s.0 s.1) s.2.1
 
 -- ---- graphs of edges
 

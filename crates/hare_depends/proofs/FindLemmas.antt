@@ -62,7 +62,8 @@ some-label (Some l) e = (l, refl)
 pub tells-reached : (g : Graph) (start k : ℕ) (old new : List (Option ℕ)) → old ≡ replicate (length g) None → StaysWithin g →
     start < length g → Spreads g start k old new → TellsReached g start new
 tells-reached g start k old new free stays there s b =
-    let r : IsTrue (is_some (label_of new b)) ↔ Reached g start b = reached-by-labels g start k old new free stays there s b (label_of new b) (is_some (label_of new b)) refl refl in
+    let r : IsTrue (is_some (label_of new b)) ↔ Reached g start b =
+    reached-by-labels g start k old new free stays there s b (label_of new b) (is_some (label_of new b)) refl refl in
     (λ l. r.0 (ap is_some l.1), λ q. some-label (label_of new b) (r.1 q))
 
 pub constants-common : (ds : List Said) (g h : Graph) (d : ℕ) (ls ks : List (Option ℕ)) (r : Bool) → TellsReached g d ls →

@@ -103,7 +103,8 @@ module _ (ds : List Said) where
 
 -- ---- from edges to dependence
 
--- What holds of a node that a declaration's node reaches: to a declaration it leads, and to all that others mention or that their types name.
+-- What holds of a node that a declaration's node reaches: to a declaration it leads, and to all that others mention or that their types
+-- name.
 pub record Holds (ds : List Said) (R : ℕ → Type 0) (x : ℕ) : Type 0 where
   pub itself : x < length ds → R x
   pub mentions : (t : ℕ) → x ≡ mention (length ds) t → t < length ds → (u : ℕ) → Mentions ds t u → R u
@@ -160,7 +161,8 @@ module _ (ds : List Said) (w : AllWithin ds) (R : ℕ → Type 0) where
   value-step : (a e y : ℕ) → e < length ds → R e → ((u : ℕ) → Mentions ds e u → R u) →
       AddsValue (length ds) a e (edge a y) → Holds ds R y
   value-step a e y l k m (inl h) = let q : e ≡ y = ap (λ (x : Edge). x.to) h in subst (Holds ds R) q (holds-decl e l k)
-  value-step a e y l k m (inr h) = let q : mention (length ds) e ≡ y = ap (λ (x : Edge). x.to) h in subst (Holds ds R) q (holds-mention e l m)
+  value-step a e y l k m (inr h) =
+      let q : mention (length ds) e ≡ y = ap (λ (x : Edge). x.to) h in subst (Holds ds R) q (holds-mention e l m)
 
   -- an edge of what a declaration needs
   need-step : (e y : ℕ) (s : Said) → slice_get ds e ≡ Some s → ((f : ℕ) → DependsOn ds e f → R f) →
@@ -188,7 +190,8 @@ module _ (ds : List Said) (w : AllWithin ds) (R : ℕ → Type 0) where
       looked : s.sort ≡ so.Global → (g : ℕ) → Contains s.named g → is_at is_global ds g ≡ true → (f : ℕ) →
           Contains (numbers_at (λ z. z.written) ds g) f → R f × ((u : ℕ) → Mentions ds f u → R u)
       looked h g c b f k =
-          let n : Contains (needs ds e) f = needs-it so.Global h f (Contains-flat_map (through ds) s.named g f c (through-global ds g f b k)) in
+          let n : Contains (needs ds e) f = needs-it so.Global h f
+          (Contains-flat_map (through ds) s.named g f c (through-global ds g f b k)) in
           (lead f (needed f n), λ u m. lead u (mentioned f u (valued so.Global h refl) n m))
 
       global : s.sort ≡ so.Global → (g : ℕ) → Contains s.named g → AddsThrough ds (length ds) e g (edge e y) → Holds ds R y
@@ -196,7 +199,8 @@ module _ (ds : List Said) (w : AllWithin ds) (R : ℕ → Type 0) where
           let r : written (length ds) g ≡ y = ap (λ (x : Edge). x.to) k.1 in
           subst (Holds ds R) r (holds-written g (w-in.named g c) (looked h g c k.0))
       global h g c (inr k) =
-          let n : Contains (needs ds e) g = needs-it so.Global h g (Contains-flat_map (through ds) s.named g g c (through-other ds g k.0)) in
+          let n : Contains (needs ds e) g = needs-it so.Global h g
+          (Contains-flat_map (through ds) s.named g g c (through-other ds g k.0)) in
           value-step e g y (w-in.named g c) (lead g (needed g n)) (λ u m. lead u (mentioned g u (valued so.Global h refl) n m)) k.1
 
       by : (k : Sort) → s.sort ≡ k → NeedAdds ds (length ds) e s.sort s (edge e y) → Holds ds R y
@@ -205,9 +209,11 @@ module _ (ds : List Said) (w : AllWithin ds) (R : ℕ → Type 0) where
       by so.Constant h a =
           let b : SomeOf (λ f. AddsValue (length ds) e f (edge e y)) s.named = subst (λ z. NeedAdds ds (length ds) e z s (edge e y)) h a in
           let n : Contains (needs ds e) b.0 = needs-it so.Constant h b.0 b.1 in
-          value-step e b.0 y (w-in.named b.0 b.1) (lead b.0 (needed b.0 n)) (λ u m. lead u (mentioned b.0 u (valued so.Constant h refl) n m)) b.2
+          value-step e b.0 y (w-in.named b.0 b.1) (lead b.0 (needed b.0 n))
+          (λ u m. lead u (mentioned b.0 u (valued so.Constant h refl) n m)) b.2
       by so.Global h a =
-          let b : SomeOf (λ f. AddsThrough ds (length ds) e f (edge e y)) s.named = subst (λ z. NeedAdds ds (length ds) e z s (edge e y)) h a in
+          let b : SomeOf (λ f. AddsThrough ds (length ds) e f (edge e y)) s.named =
+          subst (λ z. NeedAdds ds (length ds) e z s (edge e y)) h a in
           global h b.0 b.1 b.2
 
   -- the first edge from a declaration
@@ -222,8 +228,12 @@ module _ (ds : List Said) (w : AllWithin ds) (R : ℕ → Type 0) where
           let q : d ≡ h.decl = need-begins ds h.said.sort (length ds) h.decl h.said (edge d y) a in
           need-step h.decl y h.said h.is_there (λ f k. lead f (subst (λ z. DependsOn ds z f) (sym q) k))
           (subst (λ z. NeedAdds ds (length ds) h.decl h.said.sort h.said (edge z y)) q a)
-      by (of_written s) = let q : d ≡ written (length ds) h.decl = value-from (length ds) (written (length ds) h.decl) s.0 (edge d y) s.2 in absurd (omega (arith, below))
-      by (of_mentions s) = let q : d ≡ mention (length ds) h.decl = value-from (length ds) (mention (length ds) h.decl) s.0 (edge d y) s.2.1 in absurd (omega (arith, below))
+      by (of_written s) =
+          let q : d ≡ written (length ds) h.decl =
+          value-from (length ds) (written (length ds) h.decl) s.0 (edge d y) s.2 in absurd (omega (arith, below))
+      by (of_mentions s) =
+          let q : d ≡ mention (length ds) h.decl =
+          value-from (length ds) (mention (length ds) h.decl) s.0 (edge d y) s.2.1 in absurd (omega (arith, below))
 
   -- a further edge, which is one from a declaration only where that leads on
   pub next-step : (x y : ℕ) → (x < length ds → (f : ℕ) → DependsOn ds x f → R f) → Holds ds R x → IsEdge ds (edge x y) → Holds ds R y
@@ -242,7 +252,8 @@ module _ (ds : List Said) (w : AllWithin ds) (R : ℕ → Type 0) where
           first-step x y l (lead l) h
       by (of_written s) =
           let q : x ≡ written (length ds) h.decl = value-from (length ds) (written (length ds) h.decl) s.0 (edge x y) s.2 in
-          let n = k.names h.decl q below s.0 (subst (λ xs. Contains xs s.0) (sym (numbers-said ds (λ z. z.written) h.decl h.said h.is_there)) s.1) in
+          let n = k.names h.decl q below s.0
+          (subst (λ xs. Contains xs s.0) (sym (numbers-said ds (λ z. z.written) h.decl h.said h.is_there)) s.1) in
           value-step x s.0 y (w-in.written s.0 s.1) n.0 n.1 (subst (λ z. AddsValue (length ds) z s.0 (edge x y)) (sym q) s.2)
       by (of_mentions s) =
           let q : x ≡ mention (length ds) h.decl = value-from (length ds) (mention (length ds) h.decl) s.0 (edge x y) s.2.1 in
@@ -291,7 +302,8 @@ module _ (ds : List Said) (g : Graph) (at : ℕ → ℕ) (a : Begins ds g at) wh
           Onward g (mention (length ds) d) t × Onward g (mention (length ds) d) (mention (length ds) t)
       edges s e n k = (
         onward-edge g (mention (length ds) d) t (mention-edge d t s e (of_mentions (t, n, (k, inl refl)))),
-        onward-edge g (mention (length ds) d) (mention (length ds) t) (mention-edge d (mention (length ds) t) s e (of_mentions (t, n, (k, inr refl)))),
+        onward-edge g (mention (length ds) d) (mention (length ds) t)
+            (mention-edge d (mention (length ds) t) s e (of_mentions (t, n, (k, inr refl)))),
       )
 
       by : Contains (numbers_at (λ z. z.named) ds d) t × (is_at is_type ds t ≡ true) →

@@ -97,7 +97,8 @@ module _ (ds : List Said) (xs ys : List ℕ) (a : IsOrder ds xs) (b : IsOrder ds
   -- where one has ended, the other has not gone on
   none-left : (us vs : List ℕ) (n d : ℕ) → IsOrder ds vs → take n us ≡ take n vs → slice_get vs n ≡ None → IsNext ds (take n us) d → ⊥
   none-left us vs n d o e q i =
-      (next-taken ds (take n us) d i).is_left (subst (λ zs. Contains zs d) (sym (e ∙ front-none vs n q)) (o.all d (next-taken ds (take n us) d i).is_there))
+      (next-taken ds (take n us) d i).is_left
+      (subst (λ zs. Contains zs d) (sym (e ∙ front-none vs n q)) (o.all d (next-taken ds (take n us) d i).is_there))
 
   fronts-agree : (n : ℕ) → take n xs ≡ take n ys
   fronts-agree zero = refl
@@ -164,7 +165,8 @@ circle_faults_are_one ds f g a b = by (cases_lt a.decl b.decl) (cases_lt b.decl 
 
     equal : a.decl ≡ b.decl → f ≡ g
     equal e =
-        let n : f.number ≡ g.number = number-once ds b.decl f.number g.number (subst (λ d. CircleNumber ds d f.number) e a.number) b.number in
+        let n : f.number ≡ g.number = number-once ds b.decl f.number g.number (subst (λ d. CircleNumber ds d f.number) e a.number)
+        b.number in
         let s : Some a.said ≡ Some b.said = sym a.is_there ∙ ap (slice_get ds) e ∙ b.is_there in
         let p : f.place ≡ g.place = a.place ∙ same-said a.said b.said s ∙ sym b.place in
         ap (λ z. fault_of z f.place) n ∙ ap (λ z. fault_of g.number z) p

@@ -1,4 +1,5 @@
--- The order of three types, of which the first holds the third: `type a = struct { f: c }; type b = int; type c = int;` are judged as c, a, b.
+-- The order of three types, of which the first holds the third: `type a = struct { f: c }; type b = int; type c = int;` are judged as c, a,
+-- b.
 use Rattle.std.proofs.Common.{◌≡◌, ℕ, ◌<◌, List, [], ◌∷◌, ◌⊎◌, inl, inr, length, take, slice_get, Some, refl, sym, subst, zero, suc, arith}
 use Rattle.std.specs.Prelude.{Contains}
 use Rattle.hare_graph.proofs.Elements.{Contains-none, Contains-cases, Contains-here, Contains-behind}
@@ -58,7 +59,13 @@ first_turn = record {
 second_turn : IsNext three (2 ∷ []) 0
 second_turn = record {
   from = 0;
-  first = record { is_there = omega arith; is_left = not_the_only 2 0 (λ e. omega (arith, e)); holds = tt; first = λ c l. absurd (omega arith) };
+  first = record {
+    is_there = omega arith;
+    is_left = not_the_only 2 0 (λ e. omega (arith, e));
+    holds = tt;
+    first = λ c l. absurd
+        (omega arith);
+  };
   descends = arrives 0 (λ e h. subst (Contains (2 ∷ [])) (sym (first_needs e h)) (Contains-here 2 []));
 }
 

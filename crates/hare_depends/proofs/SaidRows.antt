@@ -26,7 +26,8 @@ spread_behind : said (type_decl (slice (union_with (spread (type_path 2) ∷ typ
 spread_behind = refl
 
 -- a pointer below a spread is a pointer again
-pointer_inside : said (type_decl (array (path 4) (pointer (array (path 5) (type_path 2))))) ≡ says so.Type 9 (4 ∷ 5 ∷ []) (4 ∷ 5 ∷ 2 ∷ []) []
+pointer_inside : said (type_decl (array (path 4) (pointer (array (path 5) (type_path 2))))) ≡
+    says so.Type 9 (4 ∷ 5 ∷ []) (4 ∷ 5 ∷ 2 ∷ []) []
 pointer_inside = refl
 
 -- `def n = x;`, and `def n: t = x;`: all that is named

@@ -121,7 +121,8 @@ all-cleared : (ns : List ℕ) (ls : List (Option ℕ)) (a : ℕ) → Contains ns
 all-cleared [] ls a c = absurd (Contains-none a c)
 all-cleared (n ∷ ns) ls a c = by (all-cleared ns (cleared ls n) a) (Contains-cases n a ns c)
   where
-    by : (Contains ns a → label_of (fold cleared (cleared ls n) ns) a ≡ None) → (n ≡ a) ⊎ Contains ns a → label_of (fold cleared (cleared ls n) ns) a ≡ None
+    by : (Contains ns a → label_of (fold cleared (cleared ls n) ns) a ≡ None) → (n ≡ a) ⊎ Contains ns a →
+        label_of (fold cleared (cleared ls n) ns) a ≡ None
     by r (inl q) = stays-clear ns (cleared ls n) a (subst (λ x. label_of (cleared ls n) x ≡ None) q (cleared-itself ls n))
     by r (inr d) = r d
 
@@ -134,7 +135,8 @@ others-kept (n ∷ ns) ls a h =
 -- ---- what is left of what a declaration depends on
 
 -- what was found is given back, so labels are as before
-module _ (g : Graph) (start k : ℕ) (old mid : List (Option ℕ)) (found : List ℕ) (stays : StaysWithin g) (size : length old ≡ length g) (there : start < length g)
+module _ (g : Graph) (start k : ℕ) (old mid : List (Option ℕ)) (found : List ℕ) (stays : StaysWithin g) (size : length old ≡ length g)
+    (there : start < length g)
     (closed : IsClosed g old) (s : Spreads g start k old mid) (t : AreNew g start old mid found) where
   -- what is reached and has no label is found
   reaches : {b : ℕ} → Reached g start b → label_of old b ≡ None → IsLabelled mid b
@@ -162,13 +164,16 @@ module _ (g : Graph) (start k : ℕ) (old mid : List (Option ℕ)) (found : List
   kept-label : (a : ℕ) → IsLabelled old a → IsLabelled new a
   kept-label a l = (l.0, others-kept found mid a (λ c. not-both old a l (t.only a c).0) ∙ s.kept a l.0 l.1)
 
-  pub left-are : (n : ℕ) (now : List (Option ℕ)) (fs bs xs : List ℕ) → now ≡ fold cleared mid fs → fs ≡ found → bs ≡ filter (is_below n) found → IsPermutation bs xs → IsNonDecreasing xs → AreLeft g n start old now xs
+  pub left-are : (n : ℕ) (now : List (Option ℕ)) (fs bs xs : List ℕ) → now ≡ fold cleared mid fs → fs ≡ found →
+      bs ≡ filter (is_below n) found → IsPermutation bs xs → IsNonDecreasing xs → AreLeft g n start old now xs
   left-are n now fs bs xs q qf qb p up = record {
     size = ap length q ∙ all-cleared-size fs mid ∙ s.size;
     same = λ a. (λ l. given-back a (subst (λ ls. IsLabelled ls a) e l), λ l. subst (λ ls. IsLabelled ls a) (sym e) (kept-label a l));
     sorted = up;
-    only = λ x c. from x (filter-from (is_below n) found x (subst (λ ys. Contains ys x) qb (Contains-permutation xs bs x (IsPermutation-sym bs xs p) c)));
-    all = λ x l r h. Contains-permutation bs xs x p (subst (λ ys. Contains ys x) (sym qb) (Contains-filter (is_below n) found x (t.all x h (reaches r h)) (lt-ltb x n l)));
+    only = λ x c. from x (filter-from (is_below n) found x
+        (subst (λ ys. Contains ys x) qb (Contains-permutation xs bs x (IsPermutation-sym bs xs p) c)));
+    all = λ x l r h. Contains-permutation bs xs x p
+        (subst (λ ys. Contains ys x) (sym qb) (Contains-filter (is_below n) found x (t.all x h (reaches r h)) (lt-ltb x n l)));
   }
     where
       e : now ≡ new
@@ -228,9 +233,11 @@ module _ (ds : List Said) (g : Graph) (dep : IsDependence ds g) (done : List ℕ
       under e (inr q) = inr q
 
 pub enters : (ds : List Said) (g : Graph) (s t : Search) (d : ℕ) (f : Frame) → IsDependence ds g →
-    Stands ds g s.done.items s.spent.items s.entered.items s.way.items → IsNextOn ds s.done.items s.way.items d → label_of s.entered.items d ≡ None →
+    Stands ds g s.done.items s.spent.items s.entered.items s.way.items → IsNextOn ds s.done.items s.way.items d →
+    label_of s.entered.items d ≡ None →
     AreLeft g (length ds) (source (length ds) d) s.spent.items t.spent.items f.left.items → f.decl ≡ d → f.next ≡ 0 →
-    t.done.items ≡ s.done.items → t.entered.items ≡ set s.entered.items d (Some 0) → t.way.items ≡ s.way.items ++ f ∷ [] → Continues ds g s d (work s) t
+    t.done.items ≡ s.done.items → t.entered.items ≡ set s.entered.items d (Some 0) → t.way.items ≡ s.way.items ++ f ∷ [] →
+    Continues ds g s d (work s) t
 enters ds g s t d f dep st h fresh l fd fn qd qe qw = record {
   stands =
       subst (λ ns. Stands ds g ns t.spent.items t.entered.items t.way.items) (sym qd)
@@ -253,7 +260,8 @@ enters ds g s t d f dep st h fresh l fd fn qd qe qw = record {
 
 -- ---- a declaration is put out
 
-module _ (ds : List Said) (g : Graph) (dep : IsDependence ds g) (acyclic : TellsCircle ds None) (done : List ℕ) (spent entered : List (Option ℕ)) (way : List Frame)
+module _ (ds : List Said) (g : Graph) (dep : IsDependence ds g) (acyclic : TellsCircle ds None) (done : List ℕ)
+    (spent entered : List (Option ℕ)) (way : List Frame)
     (f : Frame) (st : Stands ds g done spent entered (way ++ f ∷ [])) (ready : IsReady ds done f.decl) (k : ℕ) (spent' : List (Option ℕ))
     (sp : Spreads g (source (length ds) f.decl) k spent spent') where
   next : IsNextOn ds done way f.decl
@@ -272,7 +280,8 @@ module _ (ds : List Said) (g : Graph) (dep : IsDependence ds g) (acyclic : Tells
   spent-only : (e : ℕ) → e < length ds → IsLabelled spent' e → Contains done e
   spent-only e l x = by (sp.fresh e x.0 x.1)
     where
-      by : (label_of spent e ≡ Some x.0) ⊎ ((label_of spent e ≡ None) × (x.0 ≡ k) × Reached g (source (length ds) f.decl) e) → Contains done e
+      by : (label_of spent e ≡ Some x.0) ⊎ ((label_of spent e ≡ None) × (x.0 ≡ k) × Reached g (source (length ds) f.decl) e) →
+          Contains done e
       by (inl q) = (st.spent.tells e l).0 (x.0, q)
       by (inr q) = ready e (dep.depends f.decl e next.is_there l q.2)
 
@@ -326,9 +335,11 @@ module _ (ds : List Said) (g : Graph) (dep : IsDependence ds g) (acyclic : Tells
           by (inl x) = inl (inr x)
           by (inr q) = inr q
 
-pub puts-out : (ds : List Said) (g : Graph) (s t : Search) (f : Frame) (k : ℕ) (mid : List (Option ℕ)) → IsDependence ds g → TellsCircle ds None →
+pub puts-out : (ds : List Said) (g : Graph) (s t : Search) (f : Frame) (k : ℕ) (mid : List (Option ℕ)) → IsDependence ds g →
+    TellsCircle ds None →
     Stands ds g s.done.items s.spent.items s.entered.items (s.way.items ++ f ∷ []) → IsReady ds s.done.items f.decl →
-    Spreads g (source (length ds) f.decl) k s.spent.items mid → t.done.items ≡ s.done.items ++ f.decl ∷ [] → t.spent.items ≡ set mid f.decl (Some 0) →
+    Spreads g (source (length ds) f.decl) k s.spent.items mid → t.done.items ≡ s.done.items ++ f.decl ∷ [] →
+    t.spent.items ≡ set mid f.decl (Some 0) →
     t.entered.items ≡ s.entered.items → t.way.items ≡ s.way.items → Continues ds g s f.decl (work s + 1) t
 puts-out ds g s t f k mid dep acyclic st ready sp qd qs qe qw = record {
   stands =
@@ -341,7 +352,9 @@ puts-out ds g s t f k mid dep acyclic st ready sp qd qs qe qw = record {
       subst (λ ns. IsUnder ns t.way.items e) (sym qd)
       (subst (λ ws. IsUnder (s.done.items ++ f.decl ∷ []) ws e) (sym qw)
       (under-put ds g dep acyclic s.done.items s.spent.items s.entered.items s.way.items f st ready k mid sp e u));
-  less = let e : count_free t.entered.items ≡ count_free s.entered.items = ap count_free qe in let w : length t.way.items ≡ length s.way.items = ap length qw in omega (arith, e, w);
+  less =
+      let e : count_free t.entered.items ≡ count_free s.entered.items =
+      ap count_free qe in let w : length t.way.items ≡ length s.way.items = ap length qw in omega (arith, e, w);
 }
 
 -- the last on the way is a declaration
@@ -423,10 +436,13 @@ module _ (ds : List Said) (g : Graph) (done : List ℕ) (spent entered : List (O
 
         by : (x.0 < h.next) ⊎ (h.next ≤ x.0) → ⊥
         by (inl y) = n (subst (Contains done) value (passed x.0 y x.1))
-        by (inr y) = let u : get_or f.left.items h.next 0 ≤ get_or f.left.items x.0 0 = old-frame.sorted h.next x.0 0 y x.1 in omega (arith, u, value, is)
+        by (inr y) =
+            let u : get_or f.left.items h.next 0 ≤ get_or f.left.items x.0 0 =
+            old-frame.sorted h.next x.0 0 y x.1 in omega (arith, u, value, is)
 
     pub next-on : IsNextOn ds done (way ++ h ∷ []) next
-    next-on = subst (λ o. IsFirstLeft ds done (wants ds o) next) (sym (last-push None way h)) (subst (λ d. IsFirstLeft ds done (DependsOn ds d) next) (sym sk.decl) first)
+    next-on = subst (λ o. IsFirstLeft ds done (wants ds o) next) (sym (last-push None way h))
+        (subst (λ d. IsFirstLeft ds done (DependsOn ds d) next) (sym sk.decl) first)
       where
         first : IsFirstLeft ds done (DependsOn ds f.decl) next
         first = record {
@@ -440,7 +456,8 @@ module _ (ds : List Said) (g : Graph) (done : List ℕ) (spent entered : List (O
     next-unentered acyclic = by (told entered next)
       where
         by : IsLabelled entered next ⊎ (label_of entered next ≡ None) → label_of entered next ≡ None
-        by (inl x) = absurd (next-fresh ds done next acyclic (way ++ h ∷ []) skipped-stands.way next-on (under-skipped next (st.entered.under next x)))
+        by (inl x) = absurd (next-fresh ds done next acyclic (way ++ h ∷ []) skipped-stands.way next-on
+            (under-skipped next (st.entered.under next x)))
         by (inr n) = n
 
   -- where it is at the end, all is done
@@ -453,7 +470,8 @@ module _ (ds : List Said) (g : Graph) (done : List ℕ) (spent entered : List (O
 
 -- what is read of a frame
 pub got : (xs ys : List ℕ) (i x : ℕ) → ys ≡ xs → slice_get ys i ≡ Some x → (i < length xs) × (get_or xs i 0 ≡ x)
-got xs ys i x q e = let f : slice_get xs i ≡ Some x = subst (λ zs. slice_get zs i ≡ Some x) q e in (there-within xs i x f, get_or-there xs i x 0 f)
+got xs ys i x q e =
+    let f : slice_get xs i ≡ Some x = subst (λ zs. slice_get zs i ≡ Some x) q e in (there-within xs i x f, get_or-there xs i x 0 f)
 
 none-past : (xs : List ℕ) (i : ℕ) → slice_get xs i ≡ None → length xs ≤ i
 none-past [] i e = omega arith
@@ -464,11 +482,13 @@ pub got-none : (xs ys : List ℕ) (i : ℕ) → ys ≡ xs → slice_get ys i ≡
 got-none xs ys i q e = none-past xs i (subst (λ zs. slice_get zs i ≡ None) q e)
 
 -- the next is entered behind a frame
-pub goes-to : (ds : List Said) (g : Graph) (s u t : Search) (f h : Frame) (next : ℕ) → f.decl ≡ h.decl → u.done.items ≡ s.done.items → u.entered.items ≡ s.entered.items →
+pub goes-to : (ds : List Said) (g : Graph) (s u t : Search) (f h : Frame) (next : ℕ) → f.decl ≡ h.decl → u.done.items ≡ s.done.items →
+    u.entered.items ≡ s.entered.items →
     u.way.items ≡ s.way.items ++ h ∷ [] → Continues ds g u next (work u) t → Continues ds g s f.decl (work s + 1) t
 goes-to ds g s u t f h next fh qd qe qw k = record {
   stands = k.stands;
-  under = λ e x. k.under e (inl (subst (λ ns. IsUnder ns u.way.items e) (sym qd) (subst (λ ws. IsUnder s.done.items ws e) (sym qw) (from e x))));
+  under = λ e x. k.under e (inl (subst (λ ns. IsUnder ns u.way.items e) (sym qd)
+      (subst (λ ws. IsUnder s.done.items ws e) (sym qw) (from e x))));
   less =
       let c : count_free u.entered.items ≡ count_free s.entered.items = ap count_free qe in
       let w : length u.way.items ≡ length s.way.items + 1 = ap length qw ∙ length-append s.way.items (h ∷ []) in
@@ -489,7 +509,11 @@ at-start ds g s z qd qw qs qe = record {
     in_turn = λ k d e. absurd (nothing k d (subst (λ xs. slice_get xs k ≡ Some d) qd e));
     spent = record {
       size = z;
-      tells = λ e l. (λ x. absurd (unlabelled (length g) s.spent.items qs e x), λ c. absurd (Contains-none e (subst (λ xs. Contains xs e) qd c)));
+      tells = λ e l. (
+        λ x. absurd (unlabelled (length g) s.spent.items qs e x),
+        λ c. absurd
+            (Contains-none e (subst (λ xs. Contains xs e) qd c)),
+      );
       closed = λ a b x. absurd (unlabelled (length g) s.spent.items qs a x);
     };
     entered = record {
@@ -546,7 +570,8 @@ pub record Finishing (ds : List Said) (g : Graph) (k : ℕ) (s : Search) : Type 
   pub stands : Stands ds g s.done.items s.spent.items s.entered.items s.way.items
   pub under : (e : ℕ) → e < k + 1 → IsUnder s.done.items s.way.items e
 
-pub finishing-start : (ds : List Said) (g : Graph) (k : ℕ) (s t : Search) → IsAt ds g k s → Continues ds g s k (work s) t → Finishing ds g k t
+pub finishing-start : (ds : List Said) (g : Graph) (k : ℕ) (s t : Search) → IsAt ds g k s → Continues ds g s k (work s) t →
+    Finishing ds g k t
 finishing-start ds g k s t a c = record { stands = c.stands; under = λ e l. c.under e (by e l (other e k)) }
   where
     by : (e : ℕ) → e < k + 1 → Other e k → IsUnder s.done.items s.way.items e ⊎ (k ≡ e)
@@ -581,7 +606,8 @@ finished ds g k s t qd qs qe h q r = record {
     by e (inl c) = c
     by e (inr w) = absurd w
 
-pub goes-less : (s u t : Search) (f : Frame) → u.entered.items ≡ s.entered.items → s.way.items ≡ u.way.items ++ f ∷ [] → work t < work u + 1 → work t < work s
+pub goes-less : (s u t : Search) (f : Frame) → u.entered.items ≡ s.entered.items → s.way.items ≡ u.way.items ++ f ∷ [] →
+    work t < work u + 1 → work t < work s
 goes-less s u t f qe qw l =
     let e : count_free u.entered.items ≡ count_free s.entered.items = ap count_free qe in
     let w : length s.way.items ≡ length u.way.items + 1 = ap length qw ∙ length-append u.way.items (f ∷ []) in
@@ -601,15 +627,18 @@ none-told : (o : Option ℕ) → is_some o ≡ false → o ≡ None
 none-told None e = refl
 none-told (Some l) e = absurd cc
 
-pub tested-true : (ls ms : List (Option ℕ)) (n : ℕ) (o : Option ℕ) (b : Bool) → ms ≡ ls → o ≡ label_of ms n → b ≡ is_some o → b ≡ true → IsLabelled ls n
+pub tested-true : (ls ms : List (Option ℕ)) (n : ℕ) (o : Option ℕ) (b : Bool) → ms ≡ ls → o ≡ label_of ms n → b ≡ is_some o → b ≡ true →
+    IsLabelled ls n
 tested-true ls ms n o b q e f t = some-told (label_of ls n) (ap is_some (sym (e ∙ ap (λ xs. label_of xs n) q)) ∙ sym f ∙ t)
 
-pub tested-false : (ls ms : List (Option ℕ)) (n : ℕ) (o : Option ℕ) (b : Bool) → ms ≡ ls → o ≡ label_of ms n → b ≡ is_some o → b ≡ false → label_of ls n ≡ None
+pub tested-false : (ls ms : List (Option ℕ)) (n : ℕ) (o : Option ℕ) (b : Bool) → ms ≡ ls → o ≡ label_of ms n → b ≡ is_some o → b ≡ false →
+    label_of ls n ≡ None
 tested-false ls ms n o b q e f t = none-told (label_of ls n) (ap is_some (sym (e ∙ ap (λ xs. label_of xs n) q)) ∙ sym f ∙ t)
 
 -- one more of a frame has a label
 pub passed-more : (ls : List (Option ℕ)) (xs ys : List ℕ) (from n : ℕ) → ys ≡ xs → is_passed ls ys n ≡ true →
-    ((j : ℕ) → j < n → j < length xs → (j < from) ⊎ IsLabelled ls (get_or xs j 0)) → (j : ℕ) → j < n + 1 → j < length xs → (j < from) ⊎ IsLabelled ls (get_or xs j 0)
+    ((j : ℕ) → j < n → j < length xs → (j < from) ⊎ IsLabelled ls (get_or xs j 0)) → (j : ℕ) → j < n + 1 → j < length xs →
+    (j < from) ⊎ IsLabelled ls (get_or xs j 0)
 passed-more ls xs ys from n q t inv j l m = by (other j n)
   where
     here : IsLabelled ls (get_or xs n 0)

@@ -43,7 +43,8 @@ module _ (ds : List Said) (done : List ℕ) where
   way-front o [] f w = tt
   way-front o (g ∷ fs) f w = (w.0, w.1, way-front (Some g.decl) fs f w.2)
 
-  pub way-first : (o : Option ℕ) (fs : List Frame) (f : Frame) → IsWay ds done o (fs ++ f ∷ []) → IsFirstLeft ds done (wants ds (last_of o fs)) f.decl
+  pub way-first : (o : Option ℕ) (fs : List Frame) (f : Frame) → IsWay ds done o (fs ++ f ∷ []) →
+      IsFirstLeft ds done (wants ds (last_of o fs)) f.decl
   way-first o [] f w = w.0
   way-first o (g ∷ fs) f w = way-first (Some g.decl) fs f w.2
 
@@ -68,12 +69,14 @@ leads-before ds c e d h (at_once f k) = further e d (at_once e h) k
 leads-before ds c e d h (further f u l k) = further f d (leads-before ds c e f h l) k
 
 module _ (ds : List Said) (done : List ℕ) (d : ℕ) where
-  way-leads : (c : ℕ) (fs : List Frame) → IsWay ds done (Some c) fs → IsFirstLeft ds done (wants ds (last_of (Some c) fs)) d → LeadsTo ds c d
+  way-leads : (c : ℕ) (fs : List Frame) → IsWay ds done (Some c) fs → IsFirstLeft ds done (wants ds (last_of (Some c) fs)) d →
+      LeadsTo ds c d
   way-leads c [] w h = at_once d h.holds
   way-leads c (f ∷ fs) w h = leads-before ds c f.decl d w.0.holds (way-leads f.decl fs w.2 h)
 
   -- what is on the way leads to the next on it
-  on-way-leads : (o : Option ℕ) (fs : List Frame) (e : ℕ) → IsWay ds done o fs → IsFirstLeft ds done (wants ds (last_of o fs)) d → IsOnWay fs e → LeadsTo ds e d
+  on-way-leads : (o : Option ℕ) (fs : List Frame) (e : ℕ) → IsWay ds done o fs → IsFirstLeft ds done (wants ds (last_of o fs)) d →
+      IsOnWay fs e → LeadsTo ds e d
   on-way-leads o [] e w h x = absurd x
   on-way-leads o (f ∷ fs) e w h (inl q) = subst (λ c. LeadsTo ds c d) q (way-leads f.decl fs w.2 h)
   on-way-leads o (f ∷ fs) e w h (inr x) = on-way-leads (Some f.decl) fs e w.2 h x
@@ -141,7 +144,8 @@ module _ (ds : List Said) (done : List ℕ) (d : ℕ) where
           behind (inl h) = inl (h.0, ap (λ zs. y ∷ zs) h.1)
           behind (inr h) = inr (h.0, ap (λ zs. y ∷ zs) h.1)
 
-      by : (k e : ℕ) → slice_get more k ≡ Some e → ((slice_get done k ≡ Some e) × (take k more ≡ take k done)) ⊎ ((d ≡ e) × (take k more ≡ done)) →
+      by : (k e : ℕ) → slice_get more k ≡ Some e →
+          ((slice_get done k ≡ Some e) × (take k more ≡ take k done)) ⊎ ((d ≡ e) × (take k more ≡ done)) →
           IsNext ds (take k more) e
       by k e q (inl h) = subst (λ zs. IsNext ds zs e) (sym h.1) (t k e h.0)
       by k e q (inr h) = subst (λ zs. IsNext ds zs e) (sym h.1) (subst (IsNext ds done) h.0 i)

@@ -45,8 +45,12 @@ led_within l n [] ms = tt
 led_within l n (u ∷ us) ms =
     let a = lead_within l u in
     let b = length-append (with_lead 0 l u) (all_led 0 l us) in
-    let m = n + length (with_lead 0 l u) in
-    (omega arith, omega (arith, a, b), wider m (m + length (all_led 0 l us)) n _ _ us (omega arith) (omega (arith, b)) (led_within l m us ms))
+    let m = n + length (with_lead 0 l u) in (
+      omega arith,
+      omega (arith, a, b),
+      wider m (m + length (all_led 0 l us)) n _ _ us (omega arith) (omega (arith, b))
+          (led_within l m us ms),
+    )
 
 -- trees side by side
 pub side_within : (n : ℕ) (us : List Spelled) → Within n (n + length (all_led 0 le.Nothing us)) (begins_led le.Nothing n us) us
@@ -60,55 +64,72 @@ listed_within n (u ∷ us) ms =
     let c = le.Before si.Comma in
     let a = length-append u.1 [] in
     let b = length-append (u.1 ++ []) (all_led 0 c us) in
-    let m = n + length u.1 in
-    (omega arith, omega (arith, a, b), wider m (m + length (all_led 0 c us)) n _ _ us (omega arith) (omega (arith, a, b)) (led_within c m us ms))
+    let m = n + length u.1 in (
+      omega arith,
+      omega (arith, a, b),
+      wider m (m + length (all_led 0 c us)) n _ _ us (omega arith) (omega (arith, a, b))
+          (led_within c m us ms),
+    )
 
 -- ---- the pieces of a form
 
 -- a piece with no kid in it, of the tokens `v`, in front of the tokens `w`
-behind_tokens : (n : ℕ) (v w : List Token) (ns : List ℕ) (us : List Spelled) → Within (n + length v) ((n + length v) + length w) ns us → Within n (n + length (v ++ w)) ns us
+behind_tokens : (n : ℕ) (v w : List Token) (ns : List ℕ) (us : List Spelled) → Within (n + length v) ((n + length v) + length w) ns us →
+    Within n (n + length (v ++ w)) ns us
 behind_tokens n v w ns us k = wider (n + length v) ((n + length v) + length w) n _ ns us (omega arith) (omega (arith, length-append v w)) k
 
 -- a piece with one kid
-behind_kid : (l : Lead) (n : ℕ) (u : Spelled) (w : List Token) (ns : List ℕ) (us : List Spelled) → Within (n + length (with_lead 0 l u ++ [])) ((n + length (with_lead 0 l u ++ [])) + length w) ns us → Within n (n + length ((with_lead 0 l u ++ []) ++ w)) ((n + lead_length l u) ∷ ns) (u ∷ us)
+behind_kid : (l : Lead) (n : ℕ) (u : Spelled) (w : List Token) (ns : List ℕ) (us : List Spelled) →
+    Within (n + length (with_lead 0 l u ++ [])) ((n + length (with_lead 0 l u ++ [])) + length w) ns us →
+    Within n (n + length ((with_lead 0 l u ++ []) ++ w)) ((n + lead_length l u) ∷ ns) (u ∷ us)
 behind_kid l n u w ns us k =
     let a = length-append (with_lead 0 l u) [] in
     let b = length-append (with_lead 0 l u ++ []) w in
     (omega arith, omega (arith, lead_within l u, a, b), behind_tokens n (with_lead 0 l u ++ []) w ns us k)
 
 -- a piece with all kids
-led_in_front : (h : Head) (ps : List Piece) (l : Lead) (n : ℕ) (us : List Spelled) → Within n (n + length (all_led 0 l us ++ pieces_tokens 0 h ps [])) (begins_led l n us ++ begins h ps (n + length (all_led 0 l us)) []) us
+led_in_front : (h : Head) (ps : List Piece) (l : Lead) (n : ℕ) (us : List Spelled) →
+    Within n (n + length (all_led 0 l us ++ pieces_tokens 0 h ps [])) (begins_led l n us ++ begins h ps (n + length (all_led 0 l us)) []) us
 led_in_front h ps l n us =
     let v = all_led 0 l us in
     let w = pieces_tokens 0 h ps [] in
     let ms = begins h ps (n + length v) [] in
     wider n (n + length v) n _ (begins_led l n us ++ ms) us (omega arith) (omega (arith, length-append v w)) (led_within l n us ms)
 
-listed_in_front : (h : Head) (ps : List Piece) (n : ℕ) (us : List Spelled) → Within n (n + length (listed 0 us ++ pieces_tokens 0 h ps [])) (begins_listed n us ++ begins h ps (n + length (listed 0 us)) []) us
+listed_in_front : (h : Head) (ps : List Piece) (n : ℕ) (us : List Spelled) →
+    Within n (n + length (listed 0 us ++ pieces_tokens 0 h ps [])) (begins_listed n us ++ begins h ps (n + length (listed 0 us)) []) us
 listed_in_front h ps n us =
     let v = listed 0 us in
     let w = pieces_tokens 0 h ps [] in
     let ms = begins h ps (n + length v) [] in
     wider n (n + length v) n _ (begins_listed n us ++ ms) us (omega arith) (omega (arith, length-append v w)) (listed_within n us ms)
 
-pub pieces_within : (h : Head) (m : ℕ) (ps : List Piece) (n : ℕ) (ts : Nodes) → are_kids m (kid_pieces ps) ts ≡ true → Within n (n + length (pieces_tokens 0 h ps (spells 0 ts))) (begins h ps n (spells 0 ts)) (spells 0 ts)
+pub pieces_within : (h : Head) (m : ℕ) (ps : List Piece) (n : ℕ) (ts : Nodes) → are_kids m (kid_pieces ps) ts ≡ true →
+    Within n (n + length (pieces_tokens 0 h ps (spells 0 ts))) (begins h ps n (spells 0 ts)) (spells 0 ts)
 unfolding is_shaped spell
 pieces_within h m [] n none k = tt
 pieces_within h m [] n (more t ts) k = cc
-pieces_within h m (pi.Fixed s ∷ ps) n ts k = behind_tokens n (sign_token 0 s ∷ []) (pieces_tokens 0 h ps (spells 0 ts)) _ (spells 0 ts) (pieces_within h m ps (n + 1) ts k)
+pieces_within h m (pi.Fixed s ∷ ps) n ts k =
+    behind_tokens n (sign_token 0 s ∷ []) (pieces_tokens 0 h ps (spells 0 ts)) _ (spells 0 ts) (pieces_within h m ps (n + 1) ts k)
 pieces_within h m (pi.Own o ∷ ps) n ts k =
-    let v = own_tokens 0 h o in behind_tokens n v (pieces_tokens 0 h ps (spells 0 ts)) _ (spells 0 ts) (pieces_within h m ps (n + length v) ts k)
+    let v = own_tokens 0 h o in behind_tokens n v (pieces_tokens 0 h ps (spells 0 ts)) _ (spells 0 ts)
+    (pieces_within h m ps (n + length v) ts k)
 pieces_within h m (p ∷ ps) n none k = tt
 pieces_within h m (pi.Kid s ∷ ps) n (more t ts) k =
-    behind_kid le.Nothing n (spelled_kid 0 t) (pieces_tokens 0 h ps (spells 0 ts)) _ (spells 0 ts) (pieces_within h m ps _ ts (split (is_shaped (sort_in m s) t) (are_kids m (kid_pieces ps) ts) k).1)
+    behind_kid le.Nothing n (spelled_kid 0 t) (pieces_tokens 0 h ps (spells 0 ts)) _ (spells 0 ts)
+    (pieces_within h m ps _ ts (split (is_shaped (sort_in m s) t) (are_kids m (kid_pieces ps) ts) k).1)
 pieces_within h m (pi.Optional s ∷ ps) n (more t ts) k =
-    behind_kid le.Nothing n (spelled_kid 0 t) (pieces_tokens 0 h ps (spells 0 ts)) _ (spells 0 ts) (pieces_within h m ps _ ts (split (is_absent t || is_shaped s t) (are_kids m (kid_pieces ps) ts) k).1)
+    behind_kid le.Nothing n (spelled_kid 0 t) (pieces_tokens 0 h ps (spells 0 ts)) _ (spells 0 ts)
+    (pieces_within h m ps _ ts (split (is_absent t || is_shaped s t) (are_kids m (kid_pieces ps) ts) k).1)
 pieces_within h m (pi.Led a s ∷ ps) n (more t ts) k =
-    behind_kid (le.Before a) n (spelled_kid 0 t) _ _ (spells 0 ts) (pieces_within h m ps _ ts (split (is_absent t || is_shaped s t) (are_kids m (kid_pieces ps) ts) k).1)
+    behind_kid (le.Before a) n (spelled_kid 0 t) _ _ (spells 0 ts)
+    (pieces_within h m ps _ ts (split (is_absent t || is_shaped s t) (are_kids m (kid_pieces ps) ts) k).1)
 pieces_within h m (pi.Followed s a ∷ ps) n (more t ts) k =
-    behind_kid (le.Behind a) n (spelled_kid 0 t) _ _ (spells 0 ts) (pieces_within h m ps _ ts (split (is_absent t || is_shaped s t) (are_kids m (kid_pieces ps) ts) k).1)
+    behind_kid (le.Behind a) n (spelled_kid 0 t) _ _ (spells 0 ts)
+    (pieces_within h m ps _ ts (split (is_absent t || is_shaped s t) (are_kids m (kid_pieces ps) ts) k).1)
 pieces_within h m (pi.Value s ∷ ps) n (more t ts) k =
-    behind_kid (value_lead h.text) n (spelled_kid 0 t) _ _ (spells 0 ts) (pieces_within h m ps _ ts (split (is_absent t || is_shaped s t) (are_kids m (kid_pieces ps) ts) k).1)
+    behind_kid (value_lead h.text) n (spelled_kid 0 t) _ _ (spells 0 ts)
+    (pieces_within h m ps _ ts (split (is_absent t || is_shaped s t) (are_kids m (kid_pieces ps) ts) k).1)
 pieces_within h m (pi.Each s ∷ ps) n (more t ts) k = led_in_front h ps le.Nothing n (spells 0 (more t ts))
 pieces_within h m (pi.EachLed a s ∷ ps) n (more t ts) k = led_in_front h ps (le.Before a) n (spells 0 (more t ts))
 pieces_within h m (pi.EachFollowed s a ∷ ps) n (more t ts) k = led_in_front h ps (le.Behind a) n (spells 0 (more t ts))

@@ -68,9 +68,11 @@ top n f g fs e =
     let b = split (nat_le (f.at + 1) n) (kids_below n f.kids) a.0 in
     record { at = b.0; kids = b.1; rest = a.1 }
 
-on_top : (n : ℕ) (f g : Frame) (fs : List Frame) → nat_le (f.at + 1) n ≡ true → kids_below n f.kids ≡ true → all_below n (g ∷ fs) ≡ true → all_below n (f ∷ g ∷ fs) ≡ true
+on_top : (n : ℕ) (f g : Frame) (fs : List Frame) → nat_le (f.at + 1) n ≡ true → kids_below n f.kids ≡ true → all_below n (g ∷ fs) ≡ true →
+    all_below n (f ∷ g ∷ fs) ≡ true
 unfolding all_below
-on_top n f g fs a b c = both (nat_le (f.at + 1) n && kids_below n f.kids) (all_below n (g ∷ fs)) (both (nat_le (f.at + 1) n) (kids_below n f.kids) a b) c
+on_top n f g fs a b c = both (nat_le (f.at + 1) n && kids_below n f.kids) (all_below n (g ∷ fs))
+    (both (nat_le (f.at + 1) n) (kids_below n f.kids) a b) c
 
 pub top_below : (n : ℕ) (f : Frame) (fs : List Frame) → all_below n (f ∷ fs) ≡ true → frame_below n f ≡ true
 unfolding all_below
@@ -94,14 +96,16 @@ below_later n k (f ∷ g ∷ fs) i e =
 -- ---- the changes
 
 -- the innermost tree with other kids
-other_kids : (n : ℕ) (f : Frame) (ms : List Mark) (fs : List Frame) → all_below n (f ∷ fs) ≡ true → kids_below n ms ≡ true → all_below n (record { at = f.at; kids = ms } ∷ fs) ≡ true
+other_kids : (n : ℕ) (f : Frame) (ms : List Mark) (fs : List Frame) → all_below n (f ∷ fs) ≡ true → kids_below n ms ≡ true →
+    all_below n (record { at = f.at; kids = ms } ∷ fs) ≡ true
 unfolding all_below
 other_kids n f ms [] e i = both (nat_le f.at n) (kids_below n ms) (split (nat_le f.at n) (kids_below n f.kids) e).0 i
 other_kids n f ms (g ∷ fs) e i = let t = top n f g fs e in on_top n (record { at = f.at; kids = ms }) g fs t.at i t.rest
 
 pub put_below : (n : ℕ) (m : Mark) (fs : List Frame) → kid_below n m ≡ true → all_below n fs ≡ true → all_below n (put m fs) ≡ true
 put_below n m [] i e = e
-put_below n m (f ∷ fs) i e = other_kids n f (f.kids ++ m ∷ []) fs e (kids_more n f.kids (m ∷ []) (top_kids_below n f fs e) (both (kid_below n m) true i refl))
+put_below n m (f ∷ fs) i e = other_kids n f (f.kids ++ m ∷ []) fs e
+    (kids_more n f.kids (m ∷ []) (top_kids_below n f fs e) (both (kid_below n m) true i refl))
 
 pub absent_below : (n k : ℕ) (fs : List Frame) → all_below k fs ≡ true → all_below k (changed n ch.Absent fs) ≡ true
 absent_below n k fs e = put_below k (leaf_mark ki.None 1) fs refl e
@@ -123,7 +127,8 @@ pub over_below : (n k : ℕ) (fs : List Frame) → n < k → all_below k fs ≡ 
 over_below n k [] i e = e
 over_below n k (f ∷ fs) i e =
     let a = top_kids_below k f fs e in
-    on_top k (record { at = n; kids = last_mark f.kids }) (record { at = f.at; kids = but_last_mark f.kids }) fs (le_true (n + 1) k (omega (arith, i))) (kids_last k f.kids a) (other_kids k f (but_last_mark f.kids) fs e (kids_others k f.kids a))
+    on_top k (record { at = n; kids = last_mark f.kids }) (record { at = f.at; kids = but_last_mark f.kids }) fs
+    (le_true (n + 1) k (omega (arith, i))) (kids_last k f.kids a) (other_kids k f (but_last_mark f.kids) fs e (kids_others k f.kids a))
 
 -- a tree begins no later than at its place
 pub begins_early : (n : ℕ) (ms : List Mark) → first_in n ms ≤ n
@@ -141,7 +146,8 @@ close_below l n [] e = refl
 close_below l n (f ∷ []) e = refl
 close_below l n (f ∷ g ∷ fs) e =
     let t = top n f g fs e in
-    put_below n (mark_as l f.at f.kids) (g ∷ fs) (by (mark_as l f.at f.kids).node (true_le (f.at + 1) n t.at) (begins_early f.at f.kids)) t.rest
+    put_below n (mark_as l f.at f.kids) (g ∷ fs) (by (mark_as l f.at f.kids).node (true_le (f.at + 1) n t.at) (begins_early f.at f.kids))
+    t.rest
   where
     by : (b : Bool) → f.at + 1 ≤ n → first_in f.at f.kids ≤ f.at → (if b then nat_le (first_in f.at f.kids + 1) n else true) ≡ true
     by true x y = le_true (first_in f.at f.kids + 1) n (omega (arith, x, y))

@@ -51,7 +51,9 @@ unfoldable pub calms : List Class → List Symbol → Bool
 calms [] st = true
 calms (c ∷ w) st = calm_step c st && leaves c st (λ st'. calms w st')
 
-leaves_after : (f : ℕ) (t : Token) (c : Class) (p : List Symbol → Bool) (P : List Symbol → List Group → Type 0) → ((st : List Symbol) (gs : List Group) → p st ≡ true → P st gs) → (st : List Symbol) (gs : List Group) → leaves c st p ≡ true → calm_after (step f t c st gs) P
+leaves_after : (f : ℕ) (t : Token) (c : Class) (p : List Symbol → Bool) (P : List Symbol → List Group → Type 0) →
+    ((st : List Symbol) (gs : List Group) → p st ≡ true → P st gs) → (st : List Symbol) (gs : List Group) → leaves c st p ≡ true →
+    calm_after (step f t c st gs) P
 unfolding leaves step
 leaves_after f t c p P k [] gs e = tt
 leaves_after f t c p P k (sy.Close d ∷ st) gs e = leaves_after f t c p P k st (close d gs) e
@@ -62,7 +64,9 @@ leaves_after f t c p P k (sy.Want s ∷ st) gs e = by (has_sign s c) e
     by false i = tt
 leaves_after f t c p P k (sy.Part n ∷ st) gs e = by (row n c) e (λ hs i. leaves_after f t c p P k st hs i)
   where
-    by : (r : Row) → row_leaves r st p (leaves c st p) ≡ true → ((hs : List Group) → leaves c st p ≡ true → calm_after (step f t c st hs) P) → calm_after (acted r f t st gs (λ hs. step f t c st hs)) P
+    by : (r : Row) → row_leaves r st p (leaves c st p) ≡ true →
+        ((hs : List Group) → leaves c st p ≡ true → calm_after (step f t c st hs) P) →
+        calm_after (acted r f t st gs (λ hs. step f t c st hs)) P
     by Fault i z = tt
     by (Skips cs) i z = z _ i
     by (Uses cs ss) i z = k (ss ++ st) _ i
@@ -71,8 +75,11 @@ calm_from : (f : ℕ) (u : List Token) (st : List Symbol) (gs : List Group) → 
 unfolding calms Calm
 calm_from f [] st gs e = tt
 calm_from f (t ∷ u) st gs e =
-    let p = split (calm_step (class_of t) st) (leaves (class_of t) st (λ st'. calms (classes u) st')) e in
-    (p.0, leaves_after f t (class_of t) (λ st'. calms (classes u) st') (λ st' gs'. Calm f u st' gs') (λ st' gs' i. calm_from f u st' gs' i) st gs p.1)
+    let p = split (calm_step (class_of t) st) (leaves (class_of t) st (λ st'. calms (classes u) st')) e in (
+      p.0,
+      leaves_after f t (class_of t) (λ st'. calms (classes u) st') (λ st' gs'. Calm f u st' gs') (λ st' gs' i. calm_from f u st' gs' i)
+          st gs p.1,
+    )
 
 -- ---- rules that are over in front of a token
 
@@ -87,12 +94,14 @@ uses_none (Skips cs) = true
 uses_none (Uses cs ss) = false
 
 -- a rule that is over hands on to what is waited for behind it
-over_calms : (e : Class) (w : List Class) (st : List Symbol) (n : Rule) → uses_none (row n (first e w)) ≡ true → calms w st ≡ true → calms w (part n ∷ st) ≡ true
+over_calms : (e : Class) (w : List Class) (st : List Symbol) (n : Rule) → uses_none (row n (first e w)) ≡ true → calms w st ≡ true →
+    calms w (part n ∷ st) ≡ true
 unfolding calms leaves calm_step
 over_calms e [] st n u h = refl
 over_calms e (c ∷ w) st n u h = by (row n c) u
   where
-    by : (r : Row) → uses_none r ≡ true → (calm_row r (is_calm n c) (calm_step c st) && row_leaves r st (λ st'. calms w st') (leaves c st (λ st'. calms w st'))) ≡ true
+    by : (r : Row) → uses_none r ≡ true → (calm_row r (is_calm n c) (calm_step c st) && row_leaves r st (λ st'. calms w st')
+        (leaves c st (λ st'. calms w st'))) ≡ true
     by Fault i = refl
     by (Skips cs) i = h
     by (Uses cs ss) i = cc
@@ -162,12 +171,15 @@ module _ (e : Class) (w : List Class) (st : List Symbol) (h : calms w st ≡ tru
   operand_closed : (k : Kind) → quiet (first e w) ≡ true → calms w (part (ru.Climb 1 16) ∷ sy.Close k ∷ st) ≡ true
   operand_closed k q = over_calms e w (sy.Close k ∷ st) (ru.Climb 1 16) (climb_over 1 16 (first e w) refl q) (closed k)
 
-  statements_closed : (k : Kind) → ender (first e w) ≡ true → calms w (part (ru.EachFollowed so.Statement si.Semicolon) ∷ sy.Close k ∷ st) ≡ true
-  statements_closed k q = over_calms e w (sy.Close k ∷ st) (ru.EachFollowed so.Statement si.Semicolon) (each_over so.Statement (sy.Want si.Semicolon ∷ part (ru.EachFollowed so.Statement si.Semicolon) ∷ []) (first e w) q) (closed k)
+  statements_closed : (k : Kind) → ender (first e w) ≡ true →
+      calms w (part (ru.EachFollowed so.Statement si.Semicolon) ∷ sy.Close k ∷ st) ≡ true
+  statements_closed k q = over_calms e w (sy.Close k ∷ st) (ru.EachFollowed so.Statement si.Semicolon)
+      (each_over so.Statement (sy.Want si.Semicolon ∷ part (ru.EachFollowed so.Statement si.Semicolon) ∷ []) (first e w) q) (closed k)
 
   values_closed : ender (first e w) ≡ true → calms w (part (ru.Climb 1 16) ∷ part (ru.More (so.Level 1)) ∷ sy.Close ki.Values ∷ st) ≡ true
   values_closed q =
-      over_calms e w (part (ru.More (so.Level 1)) ∷ sy.Close ki.Values ∷ st) (ru.Climb 1 16) (climb_over 1 16 (first e w) refl (ender_quiet (first e w) q))
+      over_calms e w (part (ru.More (so.Level 1)) ∷ sy.Close ki.Values ∷ st) (ru.Climb 1 16)
+      (climb_over 1 16 (first e w) refl (ender_quiet (first e w) q))
       (over_calms e w (sy.Close ki.Values ∷ st) (ru.More (so.Level 1)) (more_over (so.Level 1) (first e w) q) (closed ki.Values))
 
   over_now : (n : Rule) → uses_none (row n (first e w)) ≡ true → calms w (part n ∷ st) ≡ true
@@ -189,7 +201,8 @@ module _ (e : Class) (w : List Class) (st : List Symbol) (h : calms w st ≡ tru
   sort_calms so.Values g = values_closed g
   sort_calms so.Name g = h
   sort_calms so.PathName g = h
-  sort_calms so.ImportPath g = over_calms e w (sy.Close ki.ImportPath ∷ st) (ru.EachLed si.PathMark so.PathName) (each_led_over si.PathMark so.PathName (first e w) (not_true _ g)) (closed ki.ImportPath)
+  sort_calms so.ImportPath g = over_calms e w (sy.Close ki.ImportPath ∷ st) (ru.EachLed si.PathMark so.PathName)
+      (each_led_over si.PathMark so.PathName (first e w) (not_true _ g)) (closed ki.ImportPath)
   sort_calms so.Export g = h
   sort_calms so.Dots g = h
   sort_calms so.ByRef g = h
@@ -208,7 +221,8 @@ module _ (e : Class) (w : List Class) (st : List Symbol) (h : calms w st ≡ tru
   sort_calms so.Right g = cc
 
   -- a sign and a tree behind it
-  led_calms : (a : Sign) (s : Sort) → sort_ok s (first e w) ≡ true → calms (class_of (sign a) ∷ classes (ending_of s) ++ w) (part (ru.Led a s) ∷ st) ≡ true
+  led_calms : (a : Sign) (s : Sort) → sort_ok s (first e w) ≡ true →
+      calms (class_of (sign a) ∷ classes (ending_of s) ++ w) (part (ru.Led a s) ∷ st) ≡ true
   unfolding calms leaves calm_step
   led_calms a s g = rw (class_sign 0 a, true_same the_type a a refl) (sort_calms s g)
 
@@ -222,15 +236,24 @@ module _ (e : Class) (w : List Class) (st : List Symbol) (h : calms w st ≡ tru
   rule_calms (ru.Optional s) g = over_now (ru.Optional s) (optional_over (of_row s (first e w)) (sort_ok s (first e w)) g)
   rule_calms (ru.Led a so.Message) g = over_now (ru.Led a so.Message) (rw (not_true (has_sign a (first e w)) g) refl)
   rule_calms (ru.Led a s) g = led_calms a s g
-  rule_calms (ru.Each s) g = over_now (ru.Each s) (each_over s (part (ru.Each s) ∷ []) (first e w) (split (ender (first e w)) (sort_ok s (first e w)) g).0)
-  rule_calms (ru.EachLed a s) g = over_now (ru.EachLed a s) (each_led_over a s (first e w) (not_true _ (split (not (has_sign a (first e w))) (sort_ok s (first e w)) g).0))
-  rule_calms (ru.EachFollowed s a) g = over_now (ru.EachFollowed s a) (each_over s (sy.Want a ∷ part (ru.EachFollowed s a) ∷ []) (first e w) (split (ender (first e w)) (sort_ok s (cl.Sign a)) g).0)
+  rule_calms (ru.Each s) g = over_now (ru.Each s)
+      (each_over s (part (ru.Each s) ∷ []) (first e w) (split (ender (first e w)) (sort_ok s (first e w)) g).0)
+  rule_calms (ru.EachLed a s) g = over_now (ru.EachLed a s)
+      (each_led_over a s (first e w) (not_true _ (split (not (has_sign a (first e w))) (sort_ok s (first e w)) g).0))
+  rule_calms (ru.EachFollowed s a) g = over_now (ru.EachFollowed s a)
+      (each_over s (sy.Want a ∷ part (ru.EachFollowed s a) ∷ []) (first e w) (split (ender (first e w)) (sort_ok s (cl.Sign a)) g).0)
   rule_calms (ru.List s) g = over_now (ru.List s) (list_over s (first e w) (split (ender (first e w)) (sort_ok s (first e w)) g).0)
   rule_calms (ru.More s) g = over_now (ru.More s) (more_over s (first e w) (split (ender (first e w)) (sort_ok s (first e w)) g).0)
-  rule_calms (ru.BehindComma s) g = over_now (ru.BehindComma s) (ap (λ r. uses_none (or_skips (led_by (ch.Drop ∷ []) (before r (part (ru.More s) ∷ []))) (ch.Close ki.TrailingComma ∷ []))) (ender_fault s (first e w) (split (ender (first e w)) (sort_ok s (first e w)) g).0))
-  rule_calms ru.Elements g = over_now ru.Elements (ap (λ r. uses_none (or_skips (before r (part ru.MoreElements ∷ [])) (ch.Absent ∷ ch.Absent ∷ []))) (ender_fault (so.Level 1) (first e w) g))
+  rule_calms (ru.BehindComma s) g = over_now (ru.BehindComma s)
+      (ap (λ r. uses_none (or_skips (led_by (ch.Drop ∷ []) (before r (part (ru.More s) ∷ []))) (ch.Close ki.TrailingComma ∷ [])))
+      (ender_fault s (first e w) (split (ender (first e w)) (sort_ok s (first e w)) g).0))
+  rule_calms ru.Elements g = over_now ru.Elements
+      (ap (λ r. uses_none (or_skips (before r (part ru.MoreElements ∷ [])) (ch.Absent ∷ ch.Absent ∷ [])))
+      (ender_fault (so.Level 1) (first e w) g))
   rule_calms ru.MoreElements g = over_now ru.MoreElements (more_elements_over (first e w) g)
-  rule_calms ru.BehindElementComma g = over_now ru.BehindElementComma (ap (λ r. uses_none (or_skips (led_by (ch.Drop ∷ ch.Drop ∷ []) (before r (part ru.MoreElements ∷ []))) (ch.Close ki.TrailingComma ∷ ch.Lift ∷ []))) (ender_fault (so.Level 1) (first e w) g))
+  rule_calms ru.BehindElementComma g = over_now ru.BehindElementComma
+      (ap (λ r. uses_none (or_skips (led_by (ch.Drop ∷ ch.Drop ∷ []) (before r (part ru.MoreElements ∷ [])))
+      (ch.Close ki.TrailingComma ∷ ch.Lift ∷ []))) (ender_fault (so.Level 1) (first e w) g))
   rule_calms ru.LastComma g = over_now ru.LastComma (last_comma_over (first e w) g)
   rule_calms (ru.PathRest k) g = over_now (ru.PathRest k) (path_over k (first e w) g)
   rule_calms ru.PathOrStruct g = over_now ru.PathOrStruct (expression_path_over (first e w) g)
@@ -265,7 +288,8 @@ next_first : (e : Class) (st : List Symbol) → first e (classes (closing st)) �
 next_first e [] = refl
 next_first e (sy.Close k ∷ st) = next_first e st
 next_first e (sy.Want d ∷ st) = class_sign 0 d
-next_first e (sy.Part n ∷ st) = ap (first e) (map-append class_of (ending n) (closing st)) ∙ first_behind (ending n) e (classes (closing st)) ∙ ap (first_class (ending n)) (next_first e st)
+next_first e (sy.Part n ∷ st) = ap (first e) (map-append class_of (ending n) (closing st)) ∙ first_behind (ending n) e
+    (classes (closing st)) ∙ ap (first_class (ending n)) (next_first e st)
 
 closing_calms : (e : Class) (st : List Symbol) → good st e ≡ true → calms (classes (closing st)) st ≡ true
 unfolding calms leaves calm_step

@@ -30,12 +30,14 @@ use Rattle.hare_depth.proofs.Piles.{frames, faults_of, pile_faults, Gains, Held}
 
 -- the numbers of tokens rise, and none is 0
 abbrev pub Rises : List Token → Type 0
-Rises ts = ((k : ℕ) → k < length ts → 0 < (place_of ts k).line) × ((j k : ℕ) → j < k → k < length ts → (place_of ts j).line < (place_of ts k).line)
+Rises ts = ((k : ℕ) → k < length ts → 0 < (place_of ts k).line) ×
+    ((j k : ℕ) → j < k → k < length ts → (place_of ts j).line < (place_of ts k).line)
 
 -- A shaped tree of tokens whose places are numbers passes the limits at the same tokens by the letter as it does as it is read.
 abbrev pub FaultsAgree : Type 0
 FaultsAgree =
-    (s : Sort) → has_trees s ≡ true → (f : ℕ) (ts : List Token) (t : Node) → Rises ts → is_shaped s t ≡ true → length (spell 0 t) ≤ length ts → HasPlaces f ts 0 t → Gains (map (λ k. (place_of ts k).line) (deep_root t)) (faults_of 0 t) []
+    (s : Sort) → has_trees s ≡ true → (f : ℕ) (ts : List Token) (t : Node) → Rises ts → is_shaped s t ≡ true →
+    length (spell 0 t) ≤ length ts → HasPlaces f ts 0 t → Gains (map (λ k. (place_of ts k).line) (deep_root t)) (faults_of 0 t) []
 
 -- ---- the gauge is the machine without trees
 
@@ -47,11 +49,13 @@ seen_step Stuck = gauges.Stuck
 
 abbrev pub StepsAreSeen : Type 0
 StepsAreSeen =
-    (f : ℕ) (t : Token) (c : Class) (st : List Symbol) (gs : List Group) → gauges.step t.place.line c st (frames gs) ≡ seen_step (step f t c st gs)
+    (f : ℕ) (t : Token) (c : Class) (st : List Symbol) (gs : List Group) →
+    gauges.step t.place.line c st (frames gs) ≡ seen_step (step f t c st gs)
 
 -- ---- steps
 
--- the row makes nothing begin earlier than at its token: no operator is put over an operand, and no tree that was begun turns out to be a node
+-- the row makes nothing begin earlier than at its token: no operator is put over an operand, and no tree that was begun turns out to be a
+-- node
 abbrev pub is_calm : Rule → Class → Bool
 is_calm ru.PathOrStruct (cl.Sign si.LeftBrace) = false
 is_calm ru.AfterForName (cl.Sign si.Colon) = false
@@ -83,12 +87,14 @@ pub record Stepped (n : ℕ) (c : Class) (st : List Symbol) (gs : List Group) (s
 
 abbrev pub StepsGain : Type 0
 StepsGain =
-    (f : ℕ) (t : Token) (st st' : List Symbol) (gs gs' : List Group) → Held t.place.line st (frames gs) → step f t (class_of t) st gs ≡ Goes st' gs' → Stepped t.place.line (class_of t) st gs st' gs'
+    (f : ℕ) (t : Token) (st st' : List Symbol) (gs gs' : List Group) → Held t.place.line st (frames gs) →
+    step f t (class_of t) st gs ≡ Goes st' gs' → Stepped t.place.line (class_of t) st gs st' gs'
 
 -- where nothing more is waited for, the last trees are closed
 abbrev pub StepsEnd : Type 0
 StepsEnd =
-    (f : ℕ) (t : Token) (st : List Symbol) (gs made : List Group) → Held t.place.line st (frames gs) → step f t (class_of t) st gs ≡ Ends made → Gains (pile_faults (nodes_in st) gs) (pile_faults [] made) []
+    (f : ℕ) (t : Token) (st : List Symbol) (gs made : List Group) → Held t.place.line st (frames gs) →
+    step f t (class_of t) st gs ≡ Ends made → Gains (pile_faults (nodes_in st) gs) (pile_faults [] made) []
 
 -- ---- the tokens that bring a stack to its end
 
@@ -104,4 +110,5 @@ Calm f (t ∷ u) st gs = (calm_step (class_of t) st ≡ true) × calm_after (ste
 
 abbrev pub ClosingsAreCalm : Type 0
 ClosingsAreCalm =
-    (f : ℕ) (e : Class) (st : List Symbol) (gs : List Group) (u : List Token) → good st e ≡ true → classes u ≡ classes (closing st) → Calm f u st gs
+    (f : ℕ) (e : Class) (st : List Symbol) (gs : List Group) (u : List Token) → good st e ≡ true → classes u ≡ classes (closing st) →
+    Calm f u st gs

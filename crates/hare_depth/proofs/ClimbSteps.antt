@@ -45,7 +45,8 @@ abbrev climb_ok : Row → Bool
 climb_ok Fault = true
 climb_ok (Skips []) = true
 climb_ok (Skips (c ∷ cs)) = false
-climb_ok (Uses (ch.Over ∷ cs) ss) = (list_all is_still cs && same_bools (nodes_in ss) (true ∷ [])) && (follows ss && (prepared [] ss && ends_stack [] ss))
+climb_ok (Uses (ch.Over ∷ cs) ss) = (list_all is_still cs && same_bools (nodes_in ss) (true ∷ [])) &&
+    (follows ss && (prepared [] ss && ends_stack [] ss))
 climb_ok (Uses _ ss) = false
 
 climbs_ok : (l h m : ℕ) (r : Row) → climb_ok (before r (part (ru.Climb l m) ∷ [])) ≡ true → climb_ok (climbs l h m r) ≡ true
@@ -65,7 +66,8 @@ assigns_ok l h r e = by (nat_le l 1 && nat_le 14 h)
 binary_node : (m : ℕ) → is_node (binary_kind m) ≡ true
 binary_node m = by (nat_le m 4) (nat_le m 5) (nat_le m 6) (nat_le 10 m && nat_le m 10)
   where
-    by : (a b c d : Bool) → is_node (if a then ki.Logic else if b then ki.Equal else if c then ki.Less else if d then ki.Shift else ki.Arith) ≡ true
+    by : (a b c d : Bool) → is_node (if a then ki.Logic else if b then ki.Equal else if c then ki.Less else if d then ki.Shift else
+        ki.Arith) ≡ true
     by true b c d = refl
     by false true c d = refl
     by false false true d = refl
@@ -98,7 +100,8 @@ row_climbs l h _ = refl
 
 -- ---- trees under way with an operator over the last kid
 
-over_stands : (n : ℕ) (bs : List Bool) (f : Frame) (fs : List Frame) → ends_in_operand f.at f.kids ≡ true → Stands n n bs (f ∷ fs) → Stands n (suc n) (true ∷ bs) (seen.over n (f ∷ fs))
+over_stands : (n : ℕ) (bs : List Bool) (f : Frame) (fs : List Frame) → ends_in_operand f.at f.kids ≡ true → Stands n n bs (f ∷ fs) →
+    Stands n (suc n) (true ∷ bs) (seen.over n (f ∷ fs))
 over_stands n bs f fs e s =
     record {
       fitting = ap suc s.fitting;
@@ -110,7 +113,9 @@ over_stands n bs f fs e s =
 -- ---- the step
 
 -- a rule for operators is over without a change
-pub climb_skipped : (f : ℕ) (t : Token) (c : Class) (l h : ℕ) (cs : List Change) (st : List Symbol) (gs : List Group) → row (ru.Climb l h) c ≡ Skips cs → Held t.place.line (part (ru.Climb l h) ∷ st) (frames gs) → Skipped t.place.line (part (ru.Climb l h) ∷ st) gs st (all_changed f t cs gs)
+pub climb_skipped : (f : ℕ) (t : Token) (c : Class) (l h : ℕ) (cs : List Change) (st : List Symbol) (gs : List Group) →
+    row (ru.Climb l h) c ≡ Skips cs → Held t.place.line (part (ru.Climb l h) ∷ st) (frames gs) →
+    Skipped t.place.line (part (ru.Climb l h) ∷ st) gs st (all_changed f t cs gs)
 unfolding nodes_in
 climb_skipped f t c l h cs st gs i e = by cs (subst (λ y. climb_ok y ≡ true) i (row_climbs l h c))
   where
@@ -121,15 +126,26 @@ climb_skipped f t c l h cs st gs i e = by cs (subst (λ y. climb_ok y ≡ true) 
     by : (cs : List Change) → climb_ok (Skips cs) ≡ true → Skipped t.place.line (part (ru.Climb l h) ∷ st) gs st (all_changed f t cs gs)
     by (c ∷ cs) o = cc
     by [] o = record {
-      held = record { fitting = e.fitting; ordered = e.ordered; below = e.below; following = follows_tail (part (ru.Climb l h)) st e.following; readied = ready_next (part (ru.Climb l h)) st (frames gs) refl e.following (λ j. on_top gs e) };
+      held = record {
+        fitting = e.fitting;
+        ordered = e.ordered;
+        below = e.below;
+        following = follows_tail (part (ru.Climb l h)) st
+            e.following;
+        readied = ready_next (part (ru.Climb l h)) st (frames gs) refl e.following (λ j. on_top gs e);
+      };
       gains = gains_refl (pile_faults (nodes_in st) gs);
     }
 
-not_calm : (l h : ℕ) (c : Class) (cs : List Change) (ss st : List Symbol) → row (ru.Climb l h) c ≡ Uses cs ss → calm_step c (part (ru.Climb l h) ∷ st) ≡ true → ⊥
+not_calm : (l h : ℕ) (c : Class) (cs : List Change) (ss st : List Symbol) → row (ru.Climb l h) c ≡ Uses cs ss →
+    calm_step c (part (ru.Climb l h) ∷ st) ≡ true → ⊥
 unfolding calm_step
 not_calm l h c cs ss st i e = let a = rw i at e in cc
 
-operator_stepped : (f : ℕ) (t : Token) (c : Class) (l h : ℕ) (cs : List Change) (ss st : List Symbol) (gs : List Group) → climb_ok (Uses (ch.Over ∷ cs) ss) ≡ true → (calm_step c (part (ru.Climb l h) ∷ st) ≡ true → ⊥) → Held t.place.line (part (ru.Climb l h) ∷ st) (frames gs) → Stepped t.place.line c (part (ru.Climb l h) ∷ st) gs (ss ++ st) (all_changed f t (ch.Over ∷ cs) gs)
+operator_stepped : (f : ℕ) (t : Token) (c : Class) (l h : ℕ) (cs : List Change) (ss st : List Symbol) (gs : List Group) →
+    climb_ok (Uses (ch.Over ∷ cs) ss) ≡ true → (calm_step c (part (ru.Climb l h) ∷ st) ≡ true → ⊥) →
+    Held t.place.line (part (ru.Climb l h) ∷ st) (frames gs) →
+    Stepped t.place.line c (part (ru.Climb l h) ∷ st) gs (ss ++ st) (all_changed f t (ch.Over ∷ cs) gs)
 unfolding nodes_in
 operator_stepped f t c l h cs ss st [] o b e = absurd (omega (arith, e.fitting))
 operator_stepped f t c l h cs ss st (g ∷ hs) o b e =
@@ -144,17 +160,24 @@ operator_stepped f t c l h cs ss st (g ∷ hs) o b e =
     let y = still_same f t cs (true ∷ bs) made q.0 in
     let all = all_changed f t cs made in
     let nodes : nodes_in (ss ++ st) ≡ true ∷ bs = nodes_append ss st ∙ ap (λ l. l ++ bs) (same_equal (nodes_in ss) (true ∷ []) q.1) in
-    let z : Stands n (suc n) (true ∷ bs) (frames all) = rw (y.1, frames_over t.place (g ∷ hs)) (over_stands n bs (frame_of g) (frames hs) e.readied (held_stands n (s ∷ st) (g ∷ hs) e)) in
-    let told : Gains (pile_faults bs (g ∷ hs)) (pile_faults (true ∷ bs) all) (found (true ∷ bs) (frames all)) = rw (y.0, y.1) (over_gains bs t.place g hs e.fitting e.readied e.below) in
-    told_stepped n c (s ∷ st) (ss ++ st) (g ∷ hs) all (rw nodes told) (rw nodes z) (follows_next s [] ss st refl e.following r.0 (λ j. u.1)) (readied ss q.1 u.0 (frames all)) b
+    let z : Stands n (suc n) (true ∷ bs) (frames all) =
+    rw (y.1, frames_over t.place (g ∷ hs)) (over_stands n bs (frame_of g) (frames hs) e.readied (held_stands n (s ∷ st) (g ∷ hs) e)) in
+    let told : Gains (pile_faults bs (g ∷ hs)) (pile_faults (true ∷ bs) all) (found (true ∷ bs) (frames all)) =
+    rw (y.0, y.1) (over_gains bs t.place g hs e.fitting e.readied e.below) in
+    told_stepped n c (s ∷ st) (ss ++ st) (g ∷ hs) all (rw nodes told) (rw nodes z) (follows_next s [] ss st refl e.following r.0 (λ j. u.1))
+    (readied ss q.1 u.0 (frames all)) b
   where
-    readied : (ss : List Symbol) → same_bools (nodes_in ss) (true ∷ []) ≡ true → prepared [] ss ≡ true → (fs : List Frame) → ready (ss ++ st) fs ≡ true
+    readied : (ss : List Symbol) → same_bools (nodes_in ss) (true ∷ []) ≡ true → prepared [] ss ≡ true → (fs : List Frame) →
+        ready (ss ++ st) fs ≡ true
     readied [] a i fs = cc
     readied (d ∷ ss) a i fs = needless_ready d ss st fs i
 
-pub climb_stepped : (f : ℕ) (t : Token) (c : Class) (l h : ℕ) (cs : List Change) (ss st : List Symbol) (gs : List Group) → row (ru.Climb l h) c ≡ Uses cs ss → Held t.place.line (part (ru.Climb l h) ∷ st) (frames gs) → Stepped t.place.line c (part (ru.Climb l h) ∷ st) gs (ss ++ st) (all_changed f t cs gs)
+pub climb_stepped : (f : ℕ) (t : Token) (c : Class) (l h : ℕ) (cs : List Change) (ss st : List Symbol) (gs : List Group) →
+    row (ru.Climb l h) c ≡ Uses cs ss → Held t.place.line (part (ru.Climb l h) ∷ st) (frames gs) →
+    Stepped t.place.line c (part (ru.Climb l h) ∷ st) gs (ss ++ st) (all_changed f t cs gs)
 climb_stepped f t c l h cs ss st gs i e = by cs (subst (λ y. climb_ok y ≡ true) i (row_climbs l h c)) (not_calm l h c cs ss st i)
   where
-    by : (cs : List Change) → climb_ok (Uses cs ss) ≡ true → (calm_step c (part (ru.Climb l h) ∷ st) ≡ true → ⊥) → Stepped t.place.line c (part (ru.Climb l h) ∷ st) gs (ss ++ st) (all_changed f t cs gs)
+    by : (cs : List Change) → climb_ok (Uses cs ss) ≡ true → (calm_step c (part (ru.Climb l h) ∷ st) ≡ true → ⊥) →
+        Stepped t.place.line c (part (ru.Climb l h) ∷ st) gs (ss ++ st) (all_changed f t cs gs)
     by (ch.Over ∷ cs) o b = operator_stepped f t c l h cs ss st gs o b e
     by _ o b = cc

@@ -38,13 +38,16 @@ closers_end : (n : ℕ) (st : List Symbol) → numbered n (closing st ++ end ∷
 closers_end n st = numbered_append n (closing st) (end ∷ [])
 
 closers_ascend : (n : ℕ) (st : List Symbol) → Ascends n (closers n st ++ closed_end n st ∷ []) (n + length (closing st ++ end ∷ []))
-closers_ascend n st = subst (λ l. Ascends n l (n + length (closing st ++ end ∷ []))) (closers_end n st) (numbered_ascends n (closing st ++ end ∷ []))
+closers_ascend n st = subst (λ l. Ascends n l (n + length (closing st ++ end ∷ []))) (closers_end n st)
+    (numbered_ascends n (closing st ++ end ∷ []))
 
-close_done : (n : ℕ) (st : List Symbol) (gs : List Group) → good st cl.Junk ≡ true → (made : List Group) × (run 0 (closers n st ++ closed_end n st ∷ []) st gs ≡ Done (closed_end n st ∷ []) made)
+close_done : (n : ℕ) (st : List Symbol) (gs : List Group) → good st cl.Junk ≡ true → (made : List Group) ×
+    (run 0 (closers n st ++ closed_end n st ∷ []) st gs ≡ Done (closed_end n st ∷ []) made)
 close_done n st gs g =
     let c = closes 0 st (end ∷ []) gs g in
     let d : run 0 (closing st ++ end ∷ []) st gs ≡ Done (end ∷ []) c.trees = c.is ∙ run_done 0 end [] c.trees in
-    let k : classes (closers n st ++ closed_end n st ∷ []) ≡ classes (closing st ++ end ∷ []) = ap classes (sym (closers_end n st)) ∙ plain_classes _ _ (unplaced_numbered n (closing st ++ end ∷ [])) in
+    let k : classes (closers n st ++ closed_end n st ∷ []) ≡ classes (closing st ++ end ∷ []) =
+    ap classes (sym (closers_end n st)) ∙ plain_classes _ _ (unplaced_numbered n (closing st ++ end ∷ [])) in
     done_like 0 0 (closers n st) (closing st ++ end ∷ []) (closed_end n st) end st gs gs c.trees k d
 
 -- a token of a list with such a number
@@ -55,7 +58,9 @@ lines_from n (t ∷ w) m x a (inl e) = omega (arith, a.0, e)
 lines_from n (t ∷ w) m x a (inr i) = let r = lines_from (suc t.place.line) w m x a.1 i in omega (arith, a.0, r)
 
 -- what is made passes no limits but those that are passed in the pile, and at the tokens that close it
-close_adds : StepsGain → StepsEnd → (n : ℕ) (st : List Symbol) (gs made : List Group) → good st cl.Junk ≡ true → Held n st (frames gs) → run 0 (closers n st ++ closed_end n st ∷ []) st gs ≡ Done (closed_end n st ∷ []) made → (x : ℕ) → IsOn x (pile_faults [] made) → IsOn x (pile_faults (nodes_in st) gs) ⊎ (n ≤ x)
+close_adds : StepsGain → StepsEnd → (n : ℕ) (st : List Symbol) (gs made : List Group) → good st cl.Junk ≡ true → Held n st (frames gs) →
+    run 0 (closers n st ++ closed_end n st ∷ []) st gs ≡ Done (closed_end n st ∷ []) made → (x : ℕ) → IsOn x (pile_faults [] made) →
+    IsOn x (pile_faults (nodes_in st) gs) ⊎ (n ≤ x)
 close_adds sg se n st gs made g h d x i =
     let c = closers n st in
     let z = closed_end n st in
@@ -69,13 +74,15 @@ close_adds sg se n st gs made g h d x i =
     let calm = closings_are_calm 0 cl.Junk st gs c g (plain_classes c (closing st) (unplaced_numbered n (closing st))) in
     by a (reaches_calm sg 0 c st s.next gs s.trees s.told n z.place.line a h r calm x (q.kept x i))
   where
-    by : Ascends n (closers n st) (closed_end n st).place.line → IsOn x (pile_faults (nodes_in st) gs) ⊎ IsOn x (lines (closers n st)) → IsOn x (pile_faults (nodes_in st) gs) ⊎ (n ≤ x)
+    by : Ascends n (closers n st) (closed_end n st).place.line → IsOn x (pile_faults (nodes_in st) gs) ⊎ IsOn x (lines (closers n st)) →
+        IsOn x (pile_faults (nodes_in st) gs) ⊎ (n ≤ x)
     by a (inl j) = inl j
     by a (inr j) = inr (lines_from n (closers n st) _ x a j)
 
 -- ---- what is read, closed
 
--- A tree goes on with the tokens `u`, behind which the gauge has told these numbers; the tokens that it goes on with have numbers from `high` on.
+-- A tree goes on with the tokens `u`, behind which the gauge has told these numbers; the tokens that it goes on with have numbers from
+-- `high` on.
 pub record Closed {T : Type 0} (l : Language T) (u : List Token) (told : List ℕ) (high : ℕ) : Type 0 where
   pub tree : T
   pub shaped : l.is_of tree ≡ true
@@ -88,7 +95,9 @@ pub record Closed {T : Type 0} (l : Language T) (u : List Token) (told : List �
   pub only : (x : ℕ) → IsOn x (map (line_of (u ++ after)) (l.deep_of tree)) → IsOn x told ⊎ (high ≤ x)
   pub within : (k : ℕ) → IsOn k (l.deep_of tree) → k < length (u ++ after)
 
-pub closed : {T : Type 0} → StepsGain → StepsEnd → (l : Language T) (st : List Symbol) → Reads l st → (u : List Token) (next : List Symbol) (trees : List Group) (told : List ℕ) (high : ℕ) → Ascends 1 u high → Reaches 0 u st bottom next trees told → Closed l u told high
+pub closed : {T : Type 0} → StepsGain → StepsEnd → (l : Language T) (st : List Symbol) → Reads l st →
+    (u : List Token) (next : List Symbol) (trees : List Group) (told : List ℕ) (high : ℕ) → Ascends 1 u high →
+    Reaches 0 u st bottom next trees told → Closed l u told high
 closed sg se l st s u next trees told high a r =
     let c = closers high next in
     let z = closed_end high next in
@@ -96,13 +105,16 @@ closed sg se l st s u next trees told high a r =
     let d = close_done high next trees g in
     let made = d.0 in
     let e : (u ++ c) ++ z ∷ [] ≡ u ++ (c ++ z ∷ []) = append_assoc u c (z ∷ []) in
-    let run_all : run 0 ((u ++ c) ++ z ∷ []) st bottom ≡ Done (z ∷ []) made = ap (λ v. run 0 v st bottom) e ∙ run_reaches 0 u st next bottom trees told r (c ++ z ∷ []) ∙ d.1 in
+    let run_all : run 0 ((u ++ c) ++ z ∷ []) st bottom ≡ Done (z ∷ []) made =
+    ap (λ v. run 0 v st bottom) e ∙ run_reaches 0 u st next bottom trees told r (c ++ z ∷ []) ∙ d.1 in
     let top = high + length (closing next ++ end ∷ []) in
-    let asc : Ascends 1 ((u ++ c) ++ z ∷ []) top = subst (λ v. Ascends 1 v top) (sym e) (ascends_append 1 u high (c ++ z ∷ []) top a (closers_ascend high next)) in
+    let asc : Ascends 1 ((u ++ c) ++ z ∷ []) top =
+    subst (λ v. Ascends 1 v top) (sym e) (ascends_append 1 u high (c ++ z ∷ []) top a (closers_ascend high next)) in
     let t = s.reads (u ++ c) z top made asc refl run_all in
     let w = whole sg se st s.held s.none (u ++ c) z top made asc run_all in
     let b : IsFront u (u ++ c) = record { more = map seen_in c; is = map-append seen_in u c } in
-    let f : Gains (map (line_of (u ++ (c ++ z ∷ []))) (l.deep_of t.tree)) (pile_faults [] made) [] = subst (λ v. Gains (map (line_of v) (l.deep_of t.tree)) (pile_faults [] made) []) e t.faulty.faults in
+    let f : Gains (map (line_of (u ++ (c ++ z ∷ []))) (l.deep_of t.tree)) (pile_faults [] made) [] =
+    subst (λ v. Gains (map (line_of v) (l.deep_of t.tree)) (pile_faults [] made) []) e t.faulty.faults in
     let q = reaches_gained sg 0 u st next bottom trees told 1 high a s.held r in
     record {
       tree = t.tree;
@@ -112,12 +124,14 @@ closed sg se l st s u next trees told high a r =
       after = c ++ z ∷ [];
       top = top;
       ascends = closers_ascend high next;
-      forced = λ x i. (gains_back _ (pile_faults [] made) f).kept x (w.gains.gained x (told_in_front st next w.next u (u ++ c) trees w.trees told w.told r w.reaches b x i));
+      forced = λ x i. (gains_back _ (pile_faults [] made) f).kept x
+          (w.gains.gained x (told_in_front st next w.next u (u ++ c) trees w.trees told w.told r w.reaches b x i));
       only = λ x i. told_or x (q.gains.only x) (close_adds sg se high next trees made g q.held d.1 x (f.kept x i));
       within = λ k i. let y = t.faulty.within k i in omega (arith, y, ap length e, length-append (u ++ c) (z ∷ []));
     }
   where
-    told_or : (x : ℕ) → (IsOn x (pile_faults (nodes_in next) trees) → IsOn x (pile_faults (nodes_in st) bottom) ⊎ IsOn x told) → IsOn x (pile_faults (nodes_in next) trees) ⊎ (high ≤ x) → IsOn x told ⊎ (high ≤ x)
+    told_or : (x : ℕ) → (IsOn x (pile_faults (nodes_in next) trees) → IsOn x (pile_faults (nodes_in st) bottom) ⊎ IsOn x told) →
+        IsOn x (pile_faults (nodes_in next) trees) ⊎ (high ≤ x) → IsOn x told ⊎ (high ≤ x)
     told_or x k (inr h) = inr h
     told_or x k (inl i) = by (k i)
       where

@@ -46,15 +46,24 @@ pub record MadeFile (u : List Token) (z : Token) (made : List Group) : Type 0 wh
   pub spelled : spell_all 0 uses ++ spell_all 0 decls ≡ map unplaced u
   pub faulty : Faulty files u z (file_of 0 uses decls) made
 
-pub made_file : (u : List Token) (z : Token) (top : ℕ) (made : List Group) → Ascends 1 (u ++ z ∷ []) top → run 0 (u ++ z ∷ []) file_symbols bottom ≡ Done (z ∷ []) made → MadeFile u z made
+pub made_file : (u : List Token) (z : Token) (top : ℕ) (made : List Group) → Ascends 1 (u ++ z ∷ []) top →
+    run 0 (u ++ z ∷ []) file_symbols bottom ≡ Done (z ∷ []) made → MadeFile u z made
 made_file u z top made a d =
     let w = u ++ z ∷ [] in
     let r = runs_read_files 0 w (z ∷ []) made d in
     let i : r.used ≡ u = append_cancel_right r.used u (z ∷ []) (sym r.split) in
     let e : spell_all 0 r.uses ++ spell_all 0 r.decls ≡ map unplaced u = r.spelled ∙ ap (map unplaced) i in
     let n : length (spell_all 0 r.uses ++ spell_all 0 r.decls) ≡ length u = ap length e ∙ length-map u unplaced in
-    let p : Placed 0 w r.uses r.decls = record { uses_shaped = r.uses_shaped; decls_shaped = r.decls_shaped; within = omega (arith, n, length-append u (z ∷ [])); uses_placed = r.uses_placed; decls_placed = r.decls_placed } in
-    let g = subst (λ hs. Gains (map (line_of w) (deep_file r.uses r.decls)) (pile_faults [] hs) []) (sym r.is_made) (file_piles_agree 0 w r.uses r.decls (rises w top a) p) in
+    let p : Placed 0 w r.uses r.decls = record {
+      uses_shaped = r.uses_shaped;
+      decls_shaped = r.decls_shaped;
+      within = omega (arith, n, length-append u (z ∷ []));
+      uses_placed =
+          r.uses_placed;
+      decls_placed = r.decls_placed;
+    } in
+    let g = subst (λ hs. Gains (map (line_of w) (deep_file r.uses r.decls)) (pile_faults [] hs) []) (sym r.is_made)
+    (file_piles_agree 0 w r.uses r.decls (rises w top a) p) in
     record {
       uses = r.uses;
       decls = r.decls;
@@ -69,13 +78,17 @@ made_file u z top made a d =
 -- ---- files are read, and read again
 
 -- imports and declarations that are spelled alike pass the limits alike
-pub same_files : (us ds us' ds' : List Node) → is_shaped_file (file_of 0 us ds) ≡ true → is_shaped_file (file_of 0 us' ds') ≡ true → spell_all 0 us ++ spell_all 0 ds ≡ spell_all 0 us' ++ spell_all 0 ds' → deep_file us ds ≡ deep_file us' ds'
+pub same_files : (us ds us' ds' : List Node) → is_shaped_file (file_of 0 us ds) ≡ true → is_shaped_file (file_of 0 us' ds') ≡ true →
+    spell_all 0 us ++ spell_all 0 ds ≡ spell_all 0 us' ++ spell_all 0 ds' → deep_file us ds ≡ deep_file us' ds'
 same_files us ds us' ds' h h' e =
-    let w : spell_file (file_of 0 us ds) ≡ spell_file (file_of 0 us' ds') = sym (append_assoc (spell_all 0 us) (spell_all 0 ds) (end ∷ [])) ∙ ap (λ l. l ++ end ∷ []) e ∙ append_assoc (spell_all 0 us') (spell_all 0 ds') (end ∷ []) in
+    let w : spell_file (file_of 0 us ds) ≡ spell_file (file_of 0 us' ds') =
+    sym (append_assoc (spell_all 0 us) (spell_all 0 ds) (end ∷ [])) ∙ ap (λ l. l ++ end ∷ []) e ∙ append_assoc (spell_all 0 us')
+    (spell_all 0 ds') (end ∷ []) in
     files_pass_alike (file_of 0 us ds) (file_of 0 us' ds') (files_have_one_tree (file_of 0 us ds) (file_of 0 us' ds') refl h h' w)
 
 -- what is made from the tokens of a file passes its limits
-pub made_passes : (u : List Token) (z : Token) (made : List Group) (m : MadeFile u z made) (t : FileTree) → is_shaped_file t ≡ true → map unplaced u ≡ spell_all 0 t.uses ++ spell_all 0 t.decls → deep_file m.uses m.decls ≡ files.deep_of t
+pub made_passes : (u : List Token) (z : Token) (made : List Group) (m : MadeFile u z made) (t : FileTree) → is_shaped_file t ≡ true →
+    map unplaced u ≡ spell_all 0 t.uses ++ spell_all 0 t.decls → deep_file m.uses m.decls ≡ files.deep_of t
 made_passes u z made m t h e = same_files m.uses m.decls t.uses t.decls m.shaped h (m.spelled ∙ e) ∙ sym (file_limits t)
 
 -- the tokens of a file, at the start of file 0
@@ -83,8 +96,10 @@ file_tokens : (t : FileTree) → map unplaced (spell_file t) ≡ (spell_all 0 t.
 file_tokens t =
     let x = spell_all t.file t.uses in
     let y = spell_all t.file t.decls in
-    ap (map unplaced) (sym (append_assoc x y (word_token t.file tk.End [] ∷ []))) ∙ map-append unplaced (x ++ y) (word_token t.file tk.End [] ∷ [])
-    ∙ ap (λ l. l ++ end ∷ []) (map-append unplaced x y ∙ ap (λ l. l ++ map unplaced y) (side_moved t.file (nodes_of t.uses)) ∙ ap (λ l. spell_all 0 t.uses ++ l) (side_moved t.file (nodes_of t.decls)))
+    ap (map unplaced) (sym (append_assoc x y (word_token t.file tk.End [] ∷ []))) ∙ map-append unplaced (x ++ y)
+    (word_token t.file tk.End [] ∷ [])
+    ∙ ap (λ l. l ++ end ∷ []) (map-append unplaced x y ∙ ap (λ l. l ++ map unplaced y) (side_moved t.file (nodes_of t.uses)) ∙ ap
+    (λ l. spell_all 0 t.uses ++ l) (side_moved t.file (nodes_of t.decls)))
 
 -- a list of tokens that has End last, but for places
 record Ended (w front : List Token) : Type 0 where
@@ -103,14 +118,18 @@ ended : (w front : List Token) → map unplaced w ≡ front ++ end ∷ [] → En
 ended [] front e = absurd (not_nil front end [] e)
 ended (t ∷ w) front e =
     let r = with_last t w in
-    let i = last_same (map unplaced r.0) front (unplaced r.1) end (sym (map-append unplaced r.0 (r.1 ∷ [])) ∙ sym (ap (map unplaced) r.2) ∙ e) in
+    let i = last_same (map unplaced r.0) front (unplaced r.1) end
+    (sym (map-append unplaced r.0 (r.1 ∷ [])) ∙ sym (ap (map unplaced) r.2) ∙ e) in
     record { before = r.0; last = r.1; is = r.2; same = i.0; is_end = i.1 }
 
-reread_from : (ts : List Token) (t : FileTree) → is_shaped_file t ≡ true → map unplaced (joined (numbered 1 ts)) ≡ map unplaced (spell_file t) → Ended (joined (numbered 1 ts)) (spell_all 0 t.uses ++ spell_all 0 t.decls) → Reread files file_symbols ts t
+reread_from : (ts : List Token) (t : FileTree) → is_shaped_file t ≡ true →
+    map unplaced (joined (numbered 1 ts)) ≡ map unplaced (spell_file t) →
+    Ended (joined (numbered 1 ts)) (spell_all 0 t.uses ++ spell_all 0 t.decls) → Reread files file_symbols ts t
 reread_from ts t h e x =
     let w = x.before ++ x.last ∷ [] in
     let c : classes w ≡ classes (spell_file t) = plain_classes w (spell_file t) (ap (map unplaced) (sym x.is) ∙ e) in
-    let d = done_like 0 t.file x.before (spell_file t) x.last (word_token t.file tk.End []) file_symbols bottom bottom _ c (read_file t h) in
+    let d = done_like 0 t.file x.before (spell_file t) x.last (word_token t.file tk.End []) file_symbols bottom bottom _ c
+    (read_file t h) in
     let a : Ascends 1 w (1 + length ts) = subst (λ l. Ascends 1 l (1 + length ts)) x.is (joined_ascends 1 ts) in
     let m = made_file x.before x.last (1 + length ts) d.0 a d.1 in
     let p = made_passes x.before x.last d.0 m t h x.same in

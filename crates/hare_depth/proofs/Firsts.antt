@@ -19,7 +19,8 @@ pub viable_front : {T : Type 0} (l : Language T) (ts : List Token) (m n : ℕ) �
 viable_front l ts m n h v =
     let g = v.1 in
     let x = take (n - m) (drop m ts) in
-    let e : take n ts ++ g.behind ≡ take m ts ++ (x ++ g.behind) = ap (λ y. y ++ g.behind) (front_split ts m n h) ∙ append_assoc (take m ts) x g.behind in
+    let e : take n ts ++ g.behind ≡ take m ts ++ (x ++ g.behind) =
+    ap (λ y. y ++ g.behind) (front_split ts m n h) ∙ append_assoc (take m ts) x g.behind in
     (v.0, record { shaped = g.shaped; behind = x ++ g.behind; spelled = subst (λ y. Spells (l.tokens_of v.0) y) e g.spelled })
 
 -- no syntax fault stands in what is viable
@@ -28,11 +29,13 @@ viable_no_syntax l ts n m v h f = f.ends (viable_front l ts (suc m) n (omega (ar
 
 -- ---- the first fault
 
-pub first_syntax : {T : Type 0} (l : Language T) (ts : List Token) (n : ℕ) → IsSyntaxFault l ts n → ((m : ℕ) → IsDepthFault l ts m → ⊥) → IsFirstFault l ts 8 n
+pub first_syntax : {T : Type 0} (l : Language T) (ts : List Token) (n : ℕ) → IsSyntaxFault l ts n → ((m : ℕ) → IsDepthFault l ts m → ⊥) →
+    IsFirstFault l ts 8 n
 first_syntax l ts n f d =
     record { fault = inl (refl, f); no_syntax = λ m h. viable_no_syntax l ts n m f.before h; no_depth = λ m h. d m }
 
-pub first_depth : {T : Type 0} (l : Language T) (ts : List Token) (n : ℕ) → IsDepthFault l ts n → ((m : ℕ) → m < n → IsDepthFault l ts m → ⊥) → IsFirstFault l ts 9 n
+pub first_depth : {T : Type 0} (l : Language T) (ts : List Token) (n : ℕ) → IsDepthFault l ts n →
+    ((m : ℕ) → m < n → IsDepthFault l ts m → ⊥) → IsFirstFault l ts 9 n
 first_depth l ts n f d =
     record {
       fault = inr (refl, f, λ s. viable_no_syntax l ts f.read n f.viable f.holds s);
@@ -41,11 +44,13 @@ first_depth l ts n f d =
     }
 
 -- where all tokens begin a tree and no limit is passed, there is no fault
-pub viable_no_first : {T : Type 0} (l : Language T) (ts : List Token) (number n : ℕ) → IsViable l ts → ((m : ℕ) → IsDepthFault l ts m → ⊥) → IsFirstFault l ts number n → ⊥
+pub viable_no_first : {T : Type 0} (l : Language T) (ts : List Token) (number n : ℕ) → IsViable l ts → ((m : ℕ) → IsDepthFault l ts m → ⊥) →
+    IsFirstFault l ts number n → ⊥
 viable_no_first l ts number n v d f = by f.fault
   where
     by : ((number ≡ 8) × IsSyntaxFault l ts n) ⊎ ((number ≡ 9) × IsDepthFault l ts n × (IsSyntaxFault l ts n → ⊥)) → ⊥
-    by (inl s) = s.1.ends (viable_front l ts (suc n) (length ts) (omega (arith, s.1.within)) (subst (λ y. IsViable l y) (sym (take_all (length ts) ts (omega arith))) v))
+    by (inl s) = s.1.ends (viable_front l ts (suc n) (length ts) (omega (arith, s.1.within))
+        (subst (λ y. IsViable l y) (sym (take_all (length ts) ts (omega arith))) v))
     by (inr s) = d n s.1
 
 -- of two places of which neither is the lesser
@@ -62,10 +67,12 @@ pub apart_places : {T : Type 0} (l : Language T) (ts : List Token) (n m : ℕ) �
 apart_places l ts n m s r e = r (subst (λ k. IsSyntaxFault l ts k) e s)
 
 -- one list has one first fault
-pub one_first : {T : Type 0} (l : Language T) (ts : List Token) (a n b m : ℕ) → IsFirstFault l ts a n → IsFirstFault l ts b m → (a ≡ b) × (n ≡ m)
+pub one_first : {T : Type 0} (l : Language T) (ts : List Token) (a n b m : ℕ) → IsFirstFault l ts a n → IsFirstFault l ts b m → (a ≡ b) ×
+    (n ≡ m)
 one_first l ts a n b m f g = by f.fault g.fault
   where
-    by : ((a ≡ 8) × IsSyntaxFault l ts n) ⊎ ((a ≡ 9) × IsDepthFault l ts n × (IsSyntaxFault l ts n → ⊥)) → ((b ≡ 8) × IsSyntaxFault l ts m) ⊎ ((b ≡ 9) × IsDepthFault l ts m × (IsSyntaxFault l ts m → ⊥)) → (a ≡ b) × (n ≡ m)
+    by : ((a ≡ 8) × IsSyntaxFault l ts n) ⊎ ((a ≡ 9) × IsDepthFault l ts n × (IsSyntaxFault l ts n → ⊥)) →
+        ((b ≡ 8) × IsSyntaxFault l ts m) ⊎ ((b ≡ 9) × IsDepthFault l ts m × (IsSyntaxFault l ts m → ⊥)) → (a ≡ b) × (n ≡ m)
     by (inl s) (inl r) = (s.0 ∙ sym r.0, same_place n m (λ h. g.no_syntax n h s.1) (λ h. f.no_syntax m h r.1))
     by (inl s) (inr r) = absurd (apart_places l ts n m s.1 r.2 (same_place n m (λ h. g.no_syntax n h s.1) (λ h. f.no_depth m h r.1)))
     by (inr s) (inl r) = absurd (apart_places l ts m n r.1 s.2 (same_place m n (λ h. f.no_syntax m h r.1) (λ h. g.no_depth n h s.1)))

@@ -51,7 +51,8 @@ plain_ready d st fs e = ready_first d st fs (plain_hands d e) ∙ by d e
     by _ e = refl
 
 -- what stands behind is ready where the symbol has left an operand, if it ends one
-pub ready_next : (s : Symbol) (st : List Symbol) (fs : List Frame) → hands_on s ≡ false → follows (s ∷ st) ≡ true → (ends_operand s ≡ true → operand_on_top fs ≡ true) → ready st fs ≡ true
+pub ready_next : (s : Symbol) (st : List Symbol) (fs : List Frame) → hands_on s ≡ false → follows (s ∷ st) ≡ true →
+    (ends_operand s ≡ true → operand_on_top fs ≡ true) → ready st fs ≡ true
 unfolding follows
 ready_next s [] fs p e o = refl
 ready_next s (d ∷ st) fs p e o = by (next_plain s d p (split (may_follow s d) (follows (d ∷ st)) e).0)
@@ -66,7 +67,8 @@ follows_tail s [] e = refl
 follows_tail s (d ∷ st) e = (split (may_follow s d) (follows (d ∷ st)) e).1
 
 -- the symbols of a row stand in front of what stands behind its rule
-pub follows_next : (s : Symbol) (cs : List Change) (ss st : List Symbol) → hands_on s ≡ false → follows (s ∷ st) ≡ true → follows ss ≡ true → (ends_operand s ≡ true → ends_stack cs ss ≡ true) → follows (ss ++ st) ≡ true
+pub follows_next : (s : Symbol) (cs : List Change) (ss st : List Symbol) → hands_on s ≡ false → follows (s ∷ st) ≡ true →
+    follows ss ≡ true → (ends_operand s ≡ true → ends_stack cs ss ≡ true) → follows (ss ++ st) ≡ true
 unfolding follows
 follows_next s cs ss [] p e f o = ap follows (append-nil ss) ∙ f
 follows_next s cs ss (d ∷ st) p e f o =
@@ -85,7 +87,9 @@ hands_nothing s (sy.Part (ru.Own o)) e = cc
 hands_nothing s _ e = refl
 
 -- what it hands on is there where it is over
-pub ready_handed : (s : Symbol) (st : List Symbol) (fs : List Frame) → hands_on s ≡ true → follows (s ∷ st) ≡ true → ready (s ∷ st) fs ≡ true → ready st fs ≡ true
+pub ready_handed : (s : Symbol) (st : List Symbol) (fs : List Frame) → hands_on s ≡ true → follows (s ∷ st) ≡ true →
+    ready (s ∷ st) fs ≡ true → ready st fs ≡ true
 unfolding follows
 ready_handed s [] fs p e r = refl
-ready_handed s (d ∷ st) fs p e r = ready_first d st fs (hands_nothing s d (split (may_follow s d) (follows (d ∷ st)) e).0) ∙ sym (ready_second s d st fs p) ∙ r
+ready_handed s (d ∷ st) fs p e r = ready_first d st fs (hands_nothing s d (split (may_follow s d) (follows (d ∷ st)) e).0) ∙ sym
+    (ready_second s d st fs p) ∙ r

@@ -1,4 +1,5 @@
--- What shaped trees and the leaves beside them have in common: their kids are those of their forms. And what forms say of tokens: a node has at
+-- What shaped trees and the leaves beside them have in common: their kids are those of their forms. And what forms say of tokens: a node
+-- has at
 -- least one, and an operator one behind its left operand.
 use Rattle.std.proofs.Common.{◌≡◌, ℕ, ◌≤◌, List, [], ◌∷◌, ◌++◌, Bool, true, false, ◌&&◌, length, refl, arith, rules, if◌then◌else◌}
 use Rattle.std.specs.Prelude.{◌||◌, ◌==◌, nat_le, slice_index}
@@ -39,7 +40,8 @@ both : (a b : Bool) → a ≡ true → b ≡ true → (a && b) ≡ true
 both a b p q = rw (p, q) refl
 
 -- a leaf of a kind that has no kids
-leaf_has_form : (p : Kind → Bool) → ((k : Kind) → p k ≡ true → kid_pieces (form_of k) ≡ []) → (t : Node) → is_leaf p t ≡ true → has_form t ≡ true
+leaf_has_form : (p : Kind → Bool) → ((k : Kind) → p k ≡ true → kid_pieces (form_of k) ≡ []) → (t : Node) → is_leaf p t ≡ true →
+    has_form t ≡ true
 unfolding is_shaped
 leaf_has_form p q (branch h none) e = rw (q h.kind (split (p h.kind) (is_own ow.Nothing h) e).0) refl
 leaf_has_form p q (branch h (more t ts)) e = cc
@@ -77,7 +79,8 @@ pub kids_have_forms : (m : ℕ) (ps : List Piece) (ts : Nodes) → are_kids m ps
 unfolding is_shaped
 kids_have_forms m ps none e = refl
 kids_have_forms m (pi.Kid s ∷ ps) (more t ts) e =
-    let p = split (is_shaped (sort_in m s) t) (are_kids m ps ts) e in both _ _ (shaped_has_form (sort_in m s) t p.0) (kids_have_forms m ps ts p.1)
+    let p = split (is_shaped (sort_in m s) t) (are_kids m ps ts) e in both _ _ (shaped_has_form (sort_in m s) t p.0)
+    (kids_have_forms m ps ts p.1)
 kids_have_forms m (pi.Optional s ∷ ps) (more t ts) e =
     let p = split (is_absent t || is_shaped s t) (are_kids m ps ts) e in both _ _ (maybe_has_form s t p.0) (kids_have_forms m ps ts p.1)
 kids_have_forms m (pi.Led a s ∷ ps) (more t ts) e =
@@ -87,17 +90,22 @@ kids_have_forms m (pi.Followed s a ∷ ps) (more t ts) e =
 kids_have_forms m (pi.Value s ∷ ps) (more t ts) e =
     let p = split (is_absent t || is_shaped s t) (are_kids m ps ts) e in both _ _ (maybe_has_form s t p.0) (kids_have_forms m ps ts p.1)
 kids_have_forms m (pi.Each s ∷ ps) (more t ts) e =
-    let p = split (is_shaped s t) (are_kids m (pi.Each s ∷ ps) ts) e in both _ _ (shaped_has_form s t p.0) (kids_have_forms m (pi.Each s ∷ ps) ts p.1)
+    let p = split (is_shaped s t) (are_kids m (pi.Each s ∷ ps) ts) e in both _ _ (shaped_has_form s t p.0)
+    (kids_have_forms m (pi.Each s ∷ ps) ts p.1)
 kids_have_forms m (pi.EachLed a s ∷ ps) (more t ts) e =
-    let p = split (is_shaped s t) (are_kids m (pi.EachLed a s ∷ ps) ts) e in both _ _ (shaped_has_form s t p.0) (kids_have_forms m (pi.EachLed a s ∷ ps) ts p.1)
+    let p = split (is_shaped s t) (are_kids m (pi.EachLed a s ∷ ps) ts) e in both _ _ (shaped_has_form s t p.0)
+    (kids_have_forms m (pi.EachLed a s ∷ ps) ts p.1)
 kids_have_forms m (pi.EachFollowed s a ∷ ps) (more t ts) e =
-    let p = split (is_shaped s t) (are_kids m (pi.EachFollowed s a ∷ ps) ts) e in both _ _ (shaped_has_form s t p.0) (kids_have_forms m (pi.EachFollowed s a ∷ ps) ts p.1)
+    let p = split (is_shaped s t) (are_kids m (pi.EachFollowed s a ∷ ps) ts) e in both _ _ (shaped_has_form s t p.0)
+    (kids_have_forms m (pi.EachFollowed s a ∷ ps) ts p.1)
 kids_have_forms m (pi.More s ∷ ps) (more t none) e = both _ _ (leaf_has_form is_none_or_comma comma_has_no_kids t e) refl
 kids_have_forms m (pi.More s ∷ ps) (more t (more u ts)) e =
-    let p = split (is_shaped s t) (are_kids m (pi.More s ∷ ps) (more u ts)) e in both _ _ (shaped_has_form s t p.0) (kids_have_forms m (pi.More s ∷ ps) (more u ts) p.1)
+    let p = split (is_shaped s t) (are_kids m (pi.More s ∷ ps) (more u ts)) e in both _ _ (shaped_has_form s t p.0)
+    (kids_have_forms m (pi.More s ∷ ps) (more u ts) p.1)
 kids_have_forms m (pi.List s ∷ ps) (more t none) e = both _ _ (absent_has_form t e) refl
 kids_have_forms m (pi.List s ∷ ps) (more t (more u ts)) e =
-    let p = split (is_shaped s t) (are_kids m (pi.More s ∷ ps) (more u ts)) e in both _ _ (shaped_has_form s t p.0) (kids_have_forms m (pi.More s ∷ ps) (more u ts) p.1)
+    let p = split (is_shaped s t) (are_kids m (pi.More s ∷ ps) (more u ts)) e in both _ _ (shaped_has_form s t p.0)
+    (kids_have_forms m (pi.More s ∷ ps) (more u ts) p.1)
 kids_have_forms m (pi.Elements s ∷ ps) (more t (more u none)) e =
     let p = split (is_absent t) (is_absent u) e in both _ _ (absent_has_form t p.0) (both _ _ (absent_has_form u p.1) refl)
 kids_have_forms m (pi.Elements s ∷ ps) (more t (more u (more v ts))) e =
@@ -105,7 +113,8 @@ kids_have_forms m (pi.Elements s ∷ ps) (more t (more u (more v ts))) e =
     both _ _ (shaped_has_form s t p.0) (kids_have_forms m (pi.MoreElements s ∷ ps) (more u (more v ts)) p.1)
 kids_have_forms m (pi.MoreElements s ∷ ps) (more t (more u none)) e =
     let p = split (is_leaf is_none_or_dots t) (is_leaf is_none_or_comma u) e in
-    both _ _ (leaf_has_form is_none_or_dots dots_have_no_kids t p.0) (both _ _ (leaf_has_form is_none_or_comma comma_has_no_kids u p.1) refl)
+    both _ _ (leaf_has_form is_none_or_dots dots_have_no_kids t p.0)
+    (both _ _ (leaf_has_form is_none_or_comma comma_has_no_kids u p.1) refl)
 kids_have_forms m (pi.MoreElements s ∷ ps) (more t (more u (more v ts))) e =
     let p = split (is_shaped s t) (are_kids m (pi.MoreElements s ∷ ps) (more u (more v ts))) e in
     both _ _ (shaped_has_form s t p.0) (kids_have_forms m (pi.MoreElements s ∷ ps) (more u (more v ts)) p.1)
@@ -143,7 +152,8 @@ parts_some f b part [] = omega arith
 parts_some f true part (c ∷ s) = parts_some f false part s
 parts_some f false part (c ∷ s) = by (c == 58 && slice_index s 0 == 58) (parts_some f false (part ++ c ∷ []) s)
   where
-    by : (b : Bool) → 1 ≤ length (path_tokens f (parts_from false (part ++ c ∷ []) s)) → 1 ≤ length (path_tokens f (if b then part ∷ parts_from true [] s else parts_from false (part ++ c ∷ []) s))
+    by : (b : Bool) → 1 ≤ length (path_tokens f (parts_from false (part ++ c ∷ []) s)) →
+        1 ≤ length (path_tokens f (if b then part ∷ parts_from true [] s else parts_from false (part ++ c ∷ []) s))
     by true k = path_some f part (parts_from true [] s)
     by false k = k
 
@@ -158,10 +168,16 @@ pieces_some h [] us e = cc
 pieces_some h (pi.Fixed s ∷ ps) us e = omega arith
 pieces_some h (pi.Own o ∷ ps) us e = by (is_some o) refl e (λ i. pieces_some h ps us i)
   where
-    by : (b : Bool) → is_some o ≡ b → (b || has_token ps) ≡ true → (has_token ps ≡ true → 1 ≤ length (pieces_tokens 0 h ps us)) → 1 ≤ length (own_tokens 0 h o ++ pieces_tokens 0 h ps us)
+    by : (b : Bool) → is_some o ≡ b → (b || has_token ps) ≡ true → (has_token ps ≡ true → 1 ≤ length (pieces_tokens 0 h ps us)) →
+        1 ≤ length (own_tokens 0 h o ++ pieces_tokens 0 h ps us)
     by true i e k = omega (arith, own_some h o i, length-append (own_tokens 0 h o) (pieces_tokens 0 h ps us))
     by false i e k = omega (arith, k e, length-append (own_tokens 0 h o) (pieces_tokens 0 h ps us))
-pieces_some h (p ∷ ps) us e = omega (arith, pieces_some h ps (left_behind p us) e, length-append (piece_tokens 0 h p us) (pieces_tokens 0 h ps (left_behind p us)))
+pieces_some h (p ∷ ps) us e = omega (
+  arith,
+  pieces_some h ps (left_behind p us) e,
+  length-append (piece_tokens 0 h p us)
+      (pieces_tokens 0 h ps (left_behind p us)),
+)
 
 node_token : (k : Kind) → is_node k ≡ true → has_token (form_of k) ≡ true
 node_token ki.None e = cc
@@ -195,11 +211,13 @@ operator_binds : (x : List ℕ) → nat_le 1 (operator_level x) ≡ true
 operator_binds x = search (rules, either_binds)
 
 -- an operator between operands, of one of the levels of its kind
-between : (k : Kind) → (rest : List Piece) → form_of k ≡ pi.Kid so.Left ∷ rest → has_token rest ≡ true → ((x : List ℕ) → nat_le 1 (level k x) ≡ true) → Operated k
+between : (k : Kind) → (rest : List Piece) → form_of k ≡ pi.Kid so.Left ∷ rest → has_token rest ≡ true →
+    ((x : List ℕ) → nat_le 1 (level k x) ≡ true) → Operated k
 between k rest i t b = record { left = so.Left; rest = rest; is = i; token = t; bound = level k; sort = λ x. refl; binds = b }
 
 -- a form behind an operand that binds at least so tightly
-behind : (k : Kind) (m : ℕ) → (rest : List Piece) → form_of k ≡ pi.Kid (so.Level m) ∷ rest → has_token rest ≡ true → nat_le 1 m ≡ true → Operated k
+behind : (k : Kind) (m : ℕ) → (rest : List Piece) → form_of k ≡ pi.Kid (so.Level m) ∷ rest → has_token rest ≡ true → nat_le 1 m ≡ true →
+    Operated k
 behind k m rest i t b = record { left = so.Level m; rest = rest; is = i; token = t; bound = λ x. m; sort = λ x. refl; binds = λ x. b }
 
 pub operated : (k : Kind) → is_operator k ≡ true → Operated k
@@ -249,7 +267,14 @@ operand h t ts e k =
     let m = level h.kind h.text in
     let s = o.sort h.text in
     let p = split (is_shaped (sort_in m o.left) t) (are_kids m (kid_pieces o.rest) ts) (rw o.is at k) in
-    record { node = operand_is_node (o.bound h.text) t (o.binds h.text) (rw s at p.0); left = o.left; rest = o.rest; form = o.is; token = o.token }
+    record {
+      node = operand_is_node (o.bound h.text) t (o.binds h.text) (rw s at p.0);
+      left = o.left;
+      rest = o.rest;
+      form = o.is;
+      token =
+          o.token;
+    }
 
 pub no_operand : (h : Head) → is_operator h.kind ≡ true → has_form (branch h none) ≡ true → ⊥
 unfolding is_shaped

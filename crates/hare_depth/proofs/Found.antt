@@ -34,39 +34,48 @@ left_deep x b o m i = by m.node (nat_le 256 (around b o)) refl i
     less true e = grind (arith, e)
     less false e = grind (arith, e)
 
-    by : (a c : Bool) → nat_le 256 (around b o) ≡ c → IsOn x (if a && c then m.first ∷ [] else []) → IsOn x (if nat_le 255 o then m.first ∷ [] else [])
+    by : (a c : Bool) → nat_le 256 (around b o) ≡ c → IsOn x (if a && c then m.first ∷ [] else []) →
+        IsOn x (if nat_le 255 o then m.first ∷ [] else [])
     by true true e i = rw (less b e) i
     by true false e i = absurd i
     by false c e i = absurd i
 
-only_deep : (x : ℕ) (b : Bool) (o n : ℕ) (t : Node) → IsOn x (deep_at (around b o) (mark t)) → IsOn x (left_faults o n (mark t ∷ []) ++ (faults_of (if lies_before (mark t) n then o else around b o) t ++ []))
+only_deep : (x : ℕ) (b : Bool) (o n : ℕ) (t : Node) → IsOn x (deep_at (around b o) (mark t)) →
+    IsOn x (left_faults o n (mark t ∷ []) ++ (faults_of (if lies_before (mark t) n then o else around b o) t ++ []))
 only_deep x b o n t i = by (lies_before (mark t) n)
   where
     high : List ℕ
     high = if nat_le 256 (mark t).height then n ∷ [] else []
 
-    by : (a : Bool) → IsOn x ((if a then (if nat_le 255 o then (mark t).first ∷ [] else []) ++ high else []) ++ (faults_of (if a then o else around b o) t ++ []))
-    by true = on_left x ((if nat_le 255 o then (mark t).first ∷ [] else []) ++ high) (faults_of o t ++ []) (on_left x (if nat_le 255 o then (mark t).first ∷ [] else []) high (left_deep x b o (mark t) i))
+    by : (a : Bool) → IsOn x ((if a then (if nat_le 255 o then (mark t).first ∷ [] else []) ++ high else []) ++
+        (faults_of (if a then o else around b o) t ++ []))
+    by true = on_left x ((if nat_le 255 o then (mark t).first ∷ [] else []) ++ high) (faults_of o t ++ [])
+        (on_left x (if nat_le 255 o then (mark t).first ∷ [] else []) high (left_deep x b o (mark t) i))
     by false = on_left x (faults_of (around b o) t) [] (node_deep x (around b o) t i)
 
-kid_deep : (x : ℕ) (b : Bool) (o n : ℕ) (ts : List Node) → IsOn x (deep_last (around b o) (map mark ts)) → IsOn x (left_faults o n (map mark ts) ++ first_faults n o b (nodes_of ts))
+kid_deep : (x : ℕ) (b : Bool) (o n : ℕ) (ts : List Node) → IsOn x (deep_last (around b o) (map mark ts)) →
+    IsOn x (left_faults o n (map mark ts) ++ first_faults n o b (nodes_of ts))
 unfolding faults_of deep_last
 kid_deep x b o n [] i = absurd i
 kid_deep x b o n (t ∷ []) i = only_deep x b o n t i
 kid_deep x b o n (t ∷ u ∷ ts) i =
     let l = left_faults o n (map mark (t ∷ u ∷ ts)) in
-    on_right x l (first_faults n o b (nodes_of (t ∷ u ∷ ts))) (on_right x (faults_of (if lies_before (mark t) n then o else around b o) t) (kid_faults (around b o) (nodes_of (u ∷ ts))) (last_deep x (around b o) u ts i))
+    on_right x l (first_faults n o b (nodes_of (t ∷ u ∷ ts)))
+    (on_right x (faults_of (if lies_before (mark t) n then o else around b o) t) (kid_faults (around b o) (nodes_of (u ∷ ts)))
+    (last_deep x (around b o) u ts i))
 
 high_on : (x o n : ℕ) (ms : List Mark) → IsOn x (high_operand n ms) → IsOn x (left_faults o n ms)
 high_on x o n [] i = absurd i
 high_on x o n (m ∷ []) i = by (lies_before m n) i
   where
-    by : (a : Bool) → IsOn x (if a && nat_le 256 m.height then n ∷ [] else []) → IsOn x (if a then (if nat_le 255 o then m.first ∷ [] else []) ++ (if nat_le 256 m.height then n ∷ [] else []) else [])
+    by : (a : Bool) → IsOn x (if a && nat_le 256 m.height then n ∷ [] else []) →
+        IsOn x (if a then (if nat_le 255 o then m.first ∷ [] else []) ++ (if nat_le 256 m.height then n ∷ [] else []) else [])
     by true i = on_right x (if nat_le 255 o then m.first ∷ [] else []) (if nat_le 256 m.height then n ∷ [] else []) i
     by false i = absurd i
 high_on x o n (m ∷ p ∷ ms) i = absurd i
 
-three : (x : ℕ) (deep low high left first : List ℕ) → (IsOn x low → IsOn x (left ++ first)) → (IsOn x high → IsOn x left) → IsOn x (deep ++ (low ++ high)) → IsOn x ((deep ++ left) ++ first)
+three : (x : ℕ) (deep low high left first : List ℕ) → (IsOn x low → IsOn x (left ++ first)) → (IsOn x high → IsOn x left) →
+    IsOn x (deep ++ (low ++ high)) → IsOn x ((deep ++ left) ++ first)
 three x deep low high left first f g i = by (on_either x deep (low ++ high) i)
   where
     kid : IsOn x left ⊎ IsOn x first → IsOn x ((deep ++ left) ++ first)
@@ -82,15 +91,21 @@ three x deep low high left first f g i = by (on_either x deep (low ++ high) i)
     by (inr j) = behind (on_either x low high j)
 
 -- what is found at a tree under way, which is a node or not
-group_found : (x : ℕ) (b : Bool) (o : ℕ) (g : Group) → IsOn x ((if b && nat_le 256 o then first_in g.place.line (map mark g.kids) ∷ [] else []) ++ (deep_last (around b o) (map mark g.kids) ++ high_operand g.place.line (map mark g.kids))) → IsOn x (group_faults b o g)
+group_found : (x : ℕ) (b : Bool) (o : ℕ) (g : Group) →
+    IsOn x ((if b && nat_le 256 o then first_in g.place.line (map mark g.kids) ∷ [] else []) ++
+    (deep_last (around b o) (map mark g.kids) ++ high_operand g.place.line (map mark g.kids))) → IsOn x (group_faults b o g)
 group_found x b o g i =
     let n = g.place.line in
     let ms = map mark g.kids in
-    three x (if b && nat_le 256 o then first_in n ms ∷ [] else []) (deep_last (around b o) ms) (high_operand n ms) (left_faults o n ms) (first_faults n o b (nodes_of g.kids)) (kid_deep x b o n g.kids) (high_on x o n ms) i
+    three x (if b && nat_le 256 o then first_in n ms ∷ [] else []) (deep_last (around b o) ms) (high_operand n ms) (left_faults o n ms)
+    (first_faults n o b (nodes_of g.kids)) (kid_deep x b o n g.kids) (high_on x o n ms) i
 
-pub found_holds : (bs : List Bool) (gs : List Group) → fits bs (frames gs) → (x : ℕ) → IsOn x (found bs (frames gs)) → IsOn x (pile_faults bs gs)
+pub found_holds : (bs : List Bool) (gs : List Group) → fits bs (frames gs) → (x : ℕ) → IsOn x (found bs (frames gs)) →
+    IsOn x (pile_faults bs gs)
 unfolding pile_faults opened
 found_holds bs [] e x i = absurd i
 found_holds [] (g ∷ gs) e x i = group_found x false 0 g i
-found_holds (true ∷ bs) (g ∷ gs) e x i = on_left x (group_faults true (opened bs) g) (pile_faults bs gs) (group_found x true (opened bs) g i)
-found_holds (false ∷ bs) (g ∷ gs) e x i = on_left x (group_faults false (opened bs) g) (pile_faults bs gs) (group_found x false (opened bs) g i)
+found_holds (true ∷ bs) (g ∷ gs) e x i = on_left x (group_faults true (opened bs) g) (pile_faults bs gs)
+    (group_found x true (opened bs) g i)
+found_holds (false ∷ bs) (g ∷ gs) e x i = on_left x (group_faults false (opened bs) g) (pile_faults bs gs)
+    (group_found x false (opened bs) g i)

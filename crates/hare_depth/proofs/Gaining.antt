@@ -48,12 +48,23 @@ below_more n m l (f ∷ g ∷ fs) e =
     both (nat_le (f.at + 1) m && kids_below m f.kids) (all_below m (g ∷ fs)) r (below_more n m l (g ∷ fs) p.1)
 
 pub held_more : (n m : ℕ) (st : List Symbol) (fs : List Frame) → n ≤ m → Held n st fs → Held m st fs
-held_more n m st fs l h = record { fitting = h.fitting; ordered = h.ordered; below = below_more n m l fs h.below; following = h.following; readied = h.readied }
+held_more n m st fs l h = record {
+  fitting = h.fitting;
+  ordered = h.ordered;
+  below = below_more n m l fs h.below;
+  following = h.following;
+  readied = h.readied;
+}
 
 -- ---- over the tokens
 
 gains_in_turn : (a b c x y : List ℕ) → Gains a b x → Gains b c y → Gains a c (x ++ y)
-gains_in_turn a b c x y g h = record { kept = λ n i. h.kept n (g.kept n i); gained = λ n i. gained n (on_either n x y i); only = λ n i. only n (h.only n i) }
+gains_in_turn a b c x y g h = record {
+  kept = λ n i. h.kept n (g.kept n i);
+  gained = λ n i. gained n (on_either n x y i);
+  only = λ n i. only
+      n (h.only n i);
+}
   where
     gained : (n : ℕ) → IsOn n x ⊎ IsOn n y → IsOn n c
     gained n (inl i) = h.kept n (g.gained n i)
@@ -72,18 +83,22 @@ pub record Gained (m : ℕ) (st : List Symbol) (gs : List Group) (st' : List Sym
   pub held : Held m st' (frames gs')
   pub gains : Gains (pile_faults (nodes_in st) gs) (pile_faults (nodes_in st') gs') ns
 
-pub reaches_gained : StepsGain → (f : ℕ) (w : List Token) (st st' : List Symbol) (gs gs' : List Group) (ns : List ℕ) (n m : ℕ) → Ascends n w m → Held n st (frames gs) → Reaches f w st gs st' gs' ns → Gained m st gs st' gs' ns
+pub reaches_gained : StepsGain → (f : ℕ) (w : List Token) (st st' : List Symbol) (gs gs' : List Group) (ns : List ℕ) (n m : ℕ) →
+    Ascends n w m → Held n st (frames gs) → Reaches f w st gs st' gs' ns → Gained m st gs st' gs' ns
 unfolding Ascends
 reaches_gained g f [] st st' gs gs' ns n m a h r =
     let s = stays f st st' gs gs' ns r in
-    rw (sym s.symbols, sym s.trees, s.tells) (record { held = held_more n m st (frames gs) a h; gains = gains_refl (pile_faults (nodes_in st) gs) })
+    rw (sym s.symbols, sym s.trees, s.tells)
+    (record { held = held_more n m st (frames gs) a h; gains = gains_refl (pile_faults (nodes_in st) gs) })
 reaches_gained g f (t ∷ w) st st' gs gs' ns n m a h r =
     let o = goes_onward f t w st st' gs gs' ns r in
     let s = g f t st o.next gs o.trees (held_more n t.place.line st (frames gs) a.0 h) o.steps in
     let q = reaches_gained g f w o.next st' o.trees gs' o.later (suc t.place.line) m a.1 s.held o.goes in
     record {
       held = q.held;
-      gains = subst (Gains (pile_faults (nodes_in st) gs) (pile_faults (nodes_in st') gs')) (sym o.tells) (gains_in_turn (pile_faults (nodes_in st) gs) (pile_faults (nodes_in o.next) o.trees) (pile_faults (nodes_in st') gs') (found (nodes_in o.next) (frames o.trees)) o.later s.gains q.gains);
+      gains = subst (Gains (pile_faults (nodes_in st) gs) (pile_faults (nodes_in st') gs')) (sym o.tells)
+          (gains_in_turn (pile_faults (nodes_in st) gs) (pile_faults (nodes_in o.next) o.trees) (pile_faults (nodes_in st') gs')
+          (found (nodes_in o.next) (frames o.trees)) o.later s.gains q.gains);
     }
 
 -- the numbers of tokens
@@ -91,19 +106,23 @@ abbrev pub lines : List Token → List ℕ
 lines w = map (λ t. t.place.line) w
 
 -- over calm rows no limit is passed but at the tokens themselves
-pub reaches_calm : StepsGain → (f : ℕ) (w : List Token) (st st' : List Symbol) (gs gs' : List Group) (ns : List ℕ) (n m : ℕ) → Ascends n w m → Held n st (frames gs) → Reaches f w st gs st' gs' ns → Calm f w st gs → (x : ℕ) → IsOn x (pile_faults (nodes_in st') gs') → IsOn x (pile_faults (nodes_in st) gs) ⊎ IsOn x (lines w)
+pub reaches_calm : StepsGain → (f : ℕ) (w : List Token) (st st' : List Symbol) (gs gs' : List Group) (ns : List ℕ) (n m : ℕ) →
+    Ascends n w m → Held n st (frames gs) → Reaches f w st gs st' gs' ns → Calm f w st gs → (x : ℕ) →
+    IsOn x (pile_faults (nodes_in st') gs') → IsOn x (pile_faults (nodes_in st) gs) ⊎ IsOn x (lines w)
 unfolding Ascends Calm
 reaches_calm g f [] st st' gs gs' ns n m a h r c x i = let s = stays f st st' gs gs' ns r in inl (rw (s.symbols, s.trees) i)
 reaches_calm g f (t ∷ w) st st' gs gs' ns n m a h r c x i =
     let o = goes_onward f t w st st' gs gs' ns r in
     let s = g f t st o.next gs o.trees (held_more n t.place.line st (frames gs) a.0 h) o.steps in
     let d : Calm f w o.next o.trees = subst (λ z. calm_after z (λ st1 gs1. Calm f w st1 gs1)) o.steps c.1 in
-    by (pile_faults (nodes_in o.next) o.trees) (s.calm c.0 x) (reaches_calm g f w o.next st' o.trees gs' o.later (suc t.place.line) m a.1 s.held o.goes d x i)
+    by (pile_faults (nodes_in o.next) o.trees) (s.calm c.0 x)
+    (reaches_calm g f w o.next st' o.trees gs' o.later (suc t.place.line) m a.1 s.held o.goes d x i)
   where
     here : IsOn x (pile_faults (nodes_in st) gs) ⊎ (x ≡ t.place.line) → IsOn x (pile_faults (nodes_in st) gs) ⊎ IsOn x (lines (t ∷ w))
     here (inl j) = inl j
     here (inr e) = inr (inl e)
 
-    by : (ms : List ℕ) → (IsOn x ms → IsOn x (pile_faults (nodes_in st) gs) ⊎ (x ≡ t.place.line)) → IsOn x ms ⊎ IsOn x (lines w) → IsOn x (pile_faults (nodes_in st) gs) ⊎ IsOn x (lines (t ∷ w))
+    by : (ms : List ℕ) → (IsOn x ms → IsOn x (pile_faults (nodes_in st) gs) ⊎ (x ≡ t.place.line)) → IsOn x ms ⊎ IsOn x (lines w) →
+        IsOn x (pile_faults (nodes_in st) gs) ⊎ IsOn x (lines (t ∷ w))
     by ms k (inl j) = here (k j)
     by ms k (inr j) = inr (inr j)

@@ -40,26 +40,32 @@ first_stays n [] m e = ap (λ b. if b then m.first else n) (not_before n m e)
 first_stays n (p ∷ ms) m e = refl
 
 left_stays : (o n : ℕ) (ms : List Mark) (m : Mark) → is_behind n ms m ≡ true → left_faults o n (ms ++ m ∷ []) ≡ left_faults o n ms
-left_stays o n [] m e = ap (λ b. if b then (if nat_le 255 o then m.first ∷ [] else []) ++ (if nat_le 256 m.height then n ∷ [] else []) else []) (not_before n m e)
+left_stays o n [] m e = ap (λ b. if b then (if nat_le 255 o then m.first ∷ [] else []) ++ (if nat_le 256 m.height then n ∷ [] else []) else
+    []) (not_before n m e)
 left_stays o n (p ∷ ms) m e = refl
 
-own_stays : (b : Bool) (o n : ℕ) (ms : List Mark) (m : Mark) → is_behind n ms m ≡ true → own_faults b o n (ms ++ m ∷ []) ≡ own_faults b o n ms
+own_stays : (b : Bool) (o n : ℕ) (ms : List Mark) (m : Mark) → is_behind n ms m ≡ true →
+    own_faults b o n (ms ++ m ∷ []) ≡ own_faults b o n ms
 own_stays b o n ms m e = rw (first_stays n ms m e, left_stays o n ms m e) refl
 
 kids_grown : (o : ℕ) (ts : List Node) (t : Node) → kid_faults o (nodes_of (ts ++ t ∷ [])) ≡ kid_faults o (nodes_of ts) ++ faults_of o t
 unfolding faults_of
 kids_grown o [] t = append-nil (faults_of o t)
-kids_grown o (u ∷ ts) t = ap (λ l. faults_of o u ++ l) (kids_grown o ts t) ∙ sym (append_assoc (faults_of o u) (kid_faults o (nodes_of ts)) (faults_of o t))
+kids_grown o (u ∷ ts) t = ap (λ l. faults_of o u ++ l) (kids_grown o ts t) ∙ sym
+    (append_assoc (faults_of o u) (kid_faults o (nodes_of ts)) (faults_of o t))
 
-first_grown : (n o : ℕ) (b : Bool) (ts : List Node) (t : Node) → is_behind n (map mark ts) (mark t) ≡ true → first_faults n o b (nodes_of (ts ++ t ∷ [])) ≡ first_faults n o b (nodes_of ts) ++ faults_of (around b o) t
+first_grown : (n o : ℕ) (b : Bool) (ts : List Node) (t : Node) → is_behind n (map mark ts) (mark t) ≡ true →
+    first_faults n o b (nodes_of (ts ++ t ∷ [])) ≡ first_faults n o b (nodes_of ts) ++ faults_of (around b o) t
 unfolding faults_of
 first_grown n o b [] t e = append-nil _ ∙ ap (λ z. faults_of (if z then o else around b o) t) (not_before n (mark t) e)
 first_grown n o b (u ∷ ts) t e =
     let front = faults_of (if lies_before (mark u) n then o else around b o) u in
-    ap (λ l. front ++ l) (kids_grown (around b o) ts t) ∙ sym (append_assoc front (kid_faults (around b o) (nodes_of ts)) (faults_of (around b o) t))
+    ap (λ l. front ++ l) (kids_grown (around b o) ts t) ∙ sym
+    (append_assoc front (kid_faults (around b o) (nodes_of ts)) (faults_of (around b o) t))
 
 -- a tree under way with one kid more
-pub grown : (b : Bool) (o : ℕ) (g : Group) (t : Node) → is_behind g.place.line (map mark g.kids) (mark t) ≡ true → group_faults b o (with_kids g (g.kids ++ t ∷ [])) ≡ group_faults b o g ++ faults_of (around b o) t
+pub grown : (b : Bool) (o : ℕ) (g : Group) (t : Node) → is_behind g.place.line (map mark g.kids) (mark t) ≡ true →
+    group_faults b o (with_kids g (g.kids ++ t ∷ [])) ≡ group_faults b o g ++ faults_of (around b o) t
 grown b o g t e =
     let own = own_faults b o g.place.line (map mark g.kids) in
     ap (λ l. own_faults b o g.place.line l ++ first_faults g.place.line o b (nodes_of (g.kids ++ t ∷ []))) (map-append mark g.kids (t ∷ []))
@@ -73,10 +79,12 @@ unfolding opened
 opened_around true bs = refl
 opened_around false bs = refl
 
-pub top_grown : (bs : List Bool) (g : Group) (gs : List Group) (t : Node) → is_behind g.place.line (map mark g.kids) (mark t) ≡ true → Gains (pile_faults bs (g ∷ gs)) (pile_faults bs (add t (g ∷ gs))) (faults_of (opened bs) t)
+pub top_grown : (bs : List Bool) (g : Group) (gs : List Group) (t : Node) → is_behind g.place.line (map mark g.kids) (mark t) ≡ true →
+    Gains (pile_faults bs (g ∷ gs)) (pile_faults bs (add t (g ∷ gs))) (faults_of (opened bs) t)
 unfolding pile_faults opened
 top_grown [] g gs t e = rw (grown false 0 g t e) (by (group_faults false 0 g) (faults_of 0 t))
   where
     by : (a e : List ℕ) → Gains a (a ++ e) e
     by a e = subst (λ l. Gains l (a ++ e) e) (append-nil a) (subst (λ l. Gains (a ++ []) l e) (append-nil (a ++ e)) (gains_within a e []))
-top_grown (b ∷ bs) g gs t e = rw (grown b (opened bs) g t e, ← (opened_around b bs)) (gains_within (group_faults b (opened bs) g) (faults_of (around b (opened bs)) t) (pile_faults bs gs))
+top_grown (b ∷ bs) g gs t e = rw (grown b (opened bs) g t e, ← (opened_around b bs))
+    (gains_within (group_faults b (opened bs) g) (faults_of (around b (opened bs)) t) (pile_faults bs gs))

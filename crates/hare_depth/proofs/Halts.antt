@@ -36,13 +36,24 @@ pub record Halting (f : ℕ) (w : List Token) (st : List Symbol) (gs : List Grou
   pub halts : Halts f rest next trees
 
 pub halting : (f : ℕ) (w : List Token) (st : List Symbol) (gs : List Group) → Halting f w st gs
-halting f [] st gs = record { used = []; rest = []; next = st; trees = gs; told = []; split = refl; reaches = reaches_none f st gs; halts = tt }
+halting f [] st gs = record {
+  used = [];
+  rest = [];
+  next = st;
+  trees = gs;
+  told = [];
+  split = refl;
+  reaches = reaches_none f st gs;
+  halts =
+      tt;
+}
 halting f (t ∷ w) st gs = by (step f t (class_of t) st gs) refl (λ st1 gs1. halting f w st1 gs1)
   where
     here : is_halt (step f t (class_of t) st gs) ≡ true → Halting f (t ∷ w) st gs
     here e = record { used = []; rest = t ∷ w; next = st; trees = gs; told = []; split = refl; reaches = reaches_none f st gs; halts = e }
 
-    by : (z : Step) → step f t (class_of t) st gs ≡ z → ((st1 : List Symbol) (gs1 : List Group) → Halting f w st1 gs1) → Halting f (t ∷ w) st gs
+    by : (z : Step) → step f t (class_of t) st gs ≡ z → ((st1 : List Symbol) (gs1 : List Group) → Halting f w st1 gs1) →
+        Halting f (t ∷ w) st gs
     by (Goes st1 gs1) i k =
         let h = k st1 gs1 in
         record {
@@ -59,17 +70,21 @@ halting f (t ∷ w) st gs = by (step f t (class_of t) st gs) refl (λ st1 gs1. h
     by Stuck i k = here (ap is_halt i)
 
 -- the gauge tells nothing at a token that is not used
-halts_faults : (f : ℕ) (v : List Token) (st : List Symbol) (gs : List Group) → Halts f v st gs → (gauge (map seen_in v) st (frames gs)).faults ≡ []
+halts_faults : (f : ℕ) (v : List Token) (st : List Symbol) (gs : List Group) → Halts f v st gs →
+    (gauge (map seen_in v) st (frames gs)).faults ≡ []
 unfolding gauge
 halts_faults f [] st gs h = refl
-halts_faults f (t ∷ v) st gs h = ap (λ z. (gauges.after z (seen_in t) (map seen_in v) (λ st2 fs2. gauge (map seen_in v) st2 fs2)).faults) (steps_are_seen f t (class_of t) st gs) ∙ by (step f t (class_of t) st gs) h
+halts_faults f (t ∷ v) st gs h = ap (λ z. (gauges.after z (seen_in t) (map seen_in v) (λ st2 fs2. gauge (map seen_in v) st2 fs2)).faults)
+    (steps_are_seen f t (class_of t) st gs) ∙ by (step f t (class_of t) st gs) h
   where
-    by : (z : Step) → is_halt z ≡ true → (gauges.after (seen_step z) (seen_in t) (map seen_in v) (λ st2 fs2. gauge (map seen_in v) st2 fs2)).faults ≡ []
+    by : (z : Step) → is_halt z ≡ true → (gauges.after (seen_step z) (seen_in t) (map seen_in v)
+        (λ st2 fs2. gauge (map seen_in v) st2 fs2)).faults ≡ []
     by (Goes st1 gs1) e = cc
     by (Ends made) e = refl
     by Stuck e = refl
 
-pub gauge_faults : (f : ℕ) (u v : List Token) (st st' : List Symbol) (gs gs' : List Group) (ns : List ℕ) → Reaches f u st gs st' gs' ns → Halts f v st' gs' → (gauge (map seen_in (u ++ v)) st (frames gs)).faults ≡ ns
+pub gauge_faults : (f : ℕ) (u v : List Token) (st st' : List Symbol) (gs gs' : List Group) (ns : List ℕ) → Reaches f u st gs st' gs' ns →
+    Halts f v st' gs' → (gauge (map seen_in (u ++ v)) st (frames gs)).faults ≡ ns
 gauge_faults f u v st st' gs gs' ns r h =
     ap (λ l. (gauge l st (frames gs)).faults) (map-append seen_in u v)
     ∙ ap (λ g. g.faults) (gauge_reaches f u st st' gs gs' ns r (map seen_in v))
@@ -77,8 +92,10 @@ gauge_faults f u v st st' gs gs' ns r h =
     ∙ append-nil ns
 
 -- what is told are the faults of the gauge
-pub halting_faults : (f : ℕ) (w : List Token) (st : List Symbol) (gs : List Group) → (h : Halting f w st gs) → (gauge (map seen_in w) st (frames gs)).faults ≡ h.told
-halting_faults f w st gs h = ap (λ l. (gauge (map seen_in l) st (frames gs)).faults) h.split ∙ gauge_faults f h.used h.rest st h.next gs h.trees h.told h.reaches h.halts
+pub halting_faults : (f : ℕ) (w : List Token) (st : List Symbol) (gs : List Group) → (h : Halting f w st gs) →
+    (gauge (map seen_in w) st (frames gs)).faults ≡ h.told
+halting_faults f w st gs h = ap (λ l. (gauge (map seen_in l) st (frames gs)).faults) h.split ∙ gauge_faults f h.used h.rest st h.next gs
+    h.trees h.told h.reaches h.halts
 
 -- ---- what a run came to
 
@@ -92,11 +109,22 @@ pub record StopsAt (f : ℕ) (w : List Token) (st : List Symbol) (gs : List Grou
   pub reaches : Reaches f used st gs next trees told
   pub stops : step f t (class_of t) next trees ≡ z
 
-stops_here : (f : ℕ) (w : List Token) (st : List Symbol) (gs : List Group) (y t : Token) (v : List Token) (z : Step) → y ≡ t → w ≡ v → step f y (class_of y) st gs ≡ z → StopsAt f (y ∷ w) st gs t v z
+stops_here : (f : ℕ) (w : List Token) (st : List Symbol) (gs : List Group) (y t : Token) (v : List Token) (z : Step) → y ≡ t → w ≡ v →
+    step f y (class_of y) st gs ≡ z → StopsAt f (y ∷ w) st gs t v z
 stops_here f w st gs y t v z a b i =
-    record { used = []; next = st; trees = gs; told = []; split = (rw (a, b) refl); reaches = reaches_none f st gs; stops = subst (λ x. step f x (class_of x) st gs ≡ z) a i }
+    record {
+      used = [];
+      next = st;
+      trees = gs;
+      told = [];
+      split = (rw (a, b) refl);
+      reaches = reaches_none f st gs;
+      stops = subst
+          (λ x. step f x (class_of x) st gs ≡ z) a i;
+    }
 
-stops_behind : (f : ℕ) (y : Token) (w : List Token) (st st1 : List Symbol) (gs gs1 : List Group) (t : Token) (v : List Token) (z : Step) → step f y (class_of y) st gs ≡ Goes st1 gs1 → StopsAt f w st1 gs1 t v z → StopsAt f (y ∷ w) st gs t v z
+stops_behind : (f : ℕ) (y : Token) (w : List Token) (st st1 : List Symbol) (gs gs1 : List Group) (t : Token) (v : List Token) (z : Step) →
+    step f y (class_of y) st gs ≡ Goes st1 gs1 → StopsAt f w st1 gs1 t v z → StopsAt f (y ∷ w) st gs t v z
 stops_behind f y w st st1 gs gs1 t v z i s =
     record {
       used = y ∷ s.used;
@@ -108,12 +136,15 @@ stops_behind f y w st st1 gs gs1 t v z i s =
       stops = s.stops;
     }
 
-pub stops_done : (f : ℕ) (w : List Token) (st : List Symbol) (gs : List Group) (t : Token) (v : List Token) (made : List Group) → run f w st gs ≡ Done (t ∷ v) made → StopsAt f w st gs t v (Ends made)
+pub stops_done : (f : ℕ) (w : List Token) (st : List Symbol) (gs : List Group) (t : Token) (v : List Token) (made : List Group) →
+    run f w st gs ≡ Done (t ∷ v) made → StopsAt f w st gs t v (Ends made)
 unfolding run
 stops_done f [] st gs t v made e = cc
 stops_done f (y ∷ w) st gs t v made e = by (step f y (class_of y) st gs) refl e (λ st1 gs1 q. stops_done f w st1 gs1 t v made q)
   where
-    by : (z : Step) → step f y (class_of y) st gs ≡ z → after z y w (λ st1 gs1. run f w st1 gs1) ≡ Done (t ∷ v) made → ((st1 : List Symbol) (gs1 : List Group) → run f w st1 gs1 ≡ Done (t ∷ v) made → StopsAt f w st1 gs1 t v (Ends made)) → StopsAt f (y ∷ w) st gs t v (Ends made)
+    by : (z : Step) → step f y (class_of y) st gs ≡ z → after z y w (λ st1 gs1. run f w st1 gs1) ≡ Done (t ∷ v) made →
+        ((st1 : List Symbol) (gs1 : List Group) → run f w st1 gs1 ≡ Done (t ∷ v) made → StopsAt f w st1 gs1 t v (Ends made)) →
+        StopsAt f (y ∷ w) st gs t v (Ends made)
     by (Goes st1 gs1) i e k = stops_behind f y w st st1 gs gs1 t v (Ends made) i (k st1 gs1 e)
     by (Ends gs1) i e k =
         let a : gs1 ≡ made = cc in

@@ -1,4 +1,5 @@
--- Trees in which no node is: no limit is passed in them, so they may be let go or lifted, and a tree that has no others may turn out to be a node.
+-- Trees in which no node is: no limit is passed in them, so they may be let go or lifted, and a tree that has no others may turn out to be
+-- a node.
 use Rattle.std.proofs.Common.{◌≡◌, ℕ, ◌+◌, List, [], ◌∷◌, ◌++◌, Bool, true, false, ◌&&◌, not, map, refl, ap, sym, ◌∙◌, subst, arith, append_assoc, ◌==◌}
 use Rattle.std.proofs.lemmas.List.{append-nil}
 use Rattle.std.specs.Prelude.{nat_le, if◌then◌else◌}
@@ -53,7 +54,8 @@ plains (more t ts) e =
     both (not (mark t).node) (has_no_node (marks ts)) (ap not (plain_mark t (grind (arith, p.0)))) (plains ts p.1)
 
 pub idle_plain : (ts : List Node) → idle (map mark ts) ≡ true → has_no_node (map mark ts) ≡ true
-idle_plain ts e = subst (λ l. has_no_node l ≡ true) (marks_listed ts) (plains (nodes_of ts) (subst (λ l. idle l ≡ true) (sym (marks_listed ts)) e))
+idle_plain ts e = subst (λ l. has_no_node l ≡ true) (marks_listed ts)
+    (plains (nodes_of ts) (subst (λ l. idle l ≡ true) (sym (marks_listed ts)) e))
 
 -- ---- no limit is passed
 
@@ -61,7 +63,8 @@ left_none : (o n : ℕ) (ms : List Mark) → has_no_node ms ≡ true → left_fa
 left_none o n [] e = refl
 left_none o n (m ∷ ms) e = by m.node (split (not m.node) (has_no_node ms) e).0
   where
-    by : (b : Bool) → not b ≡ true → (if b && nat_le (m.first + 1) n then (if nat_le 255 o then m.first ∷ [] else []) ++ (if nat_le 256 m.height then n ∷ [] else []) else []) ≡ []
+    by : (b : Bool) → not b ≡ true → (if b && nat_le (m.first + 1) n then (if nat_le 255 o then m.first ∷ [] else []) ++
+        (if nat_le 256 m.height then n ∷ [] else []) else []) ≡ []
     by true i = cc
     by false i = refl
 
@@ -87,27 +90,38 @@ mutual
 
 -- ---- trees under way
 
-idle_group : (b : Bool) (o : ℕ) (g : Group) → idle (map mark g.kids) ≡ true → group_faults b o g ≡ (if b && nat_le 256 o then first_in g.place.line (map mark g.kids) ∷ [] else [])
+idle_group : (b : Bool) (o : ℕ) (g : Group) → idle (map mark g.kids) ≡ true →
+    group_faults b o g ≡ (if b && nat_le 256 o then first_in g.place.line (map mark g.kids) ∷ [] else [])
 idle_group b o g e =
-    rw (left_none o g.place.line (map mark g.kids) (idle_plain g.kids e), idle_first g.place.line o b (nodes_of g.kids) (rw (marks_listed g.kids) e)) (append-nil _ ∙ append-nil _)
+    rw (
+      left_none o g.place.line (map mark g.kids) (idle_plain g.kids e),
+      idle_first g.place.line o b (nodes_of g.kids)
+          (rw (marks_listed g.kids) e),
+    ) (append-nil _ ∙ append-nil _)
 
-pub drop_gains : (bs : List Bool) (g h : Group) (hs : List Group) → fits (false ∷ bs) (frames (g ∷ h ∷ hs)) → idle (map mark g.kids) ≡ true → Gains (pile_faults (false ∷ bs) (g ∷ h ∷ hs)) (pile_faults bs (h ∷ hs)) []
+pub drop_gains : (bs : List Bool) (g h : Group) (hs : List Group) → fits (false ∷ bs) (frames (g ∷ h ∷ hs)) →
+    idle (map mark g.kids) ≡ true → Gains (pile_faults (false ∷ bs) (g ∷ h ∷ hs)) (pile_faults bs (h ∷ hs)) []
 unfolding pile_faults
 drop_gains bs g h hs i e = rw (idle_group false (opened bs) g e) (gains_refl (pile_faults bs (h ∷ hs)))
 
 -- idle trees as further kids
-pub top_filled : (bs : List Bool) (h : Group) (hs : List Group) (ts : List Node) → idle (map mark ts) ≡ true → Gains (pile_faults bs (h ∷ hs)) (pile_faults bs (with_kids h (h.kids ++ ts) ∷ hs)) []
-top_filled bs h hs [] e = gains_none (pile_faults bs (h ∷ hs)) (pile_faults bs (with_kids h (h.kids ++ []) ∷ hs)) (ap (λ l. pile_faults bs (with_kids h l ∷ hs)) (sym (append-nil h.kids)))
+pub top_filled : (bs : List Bool) (h : Group) (hs : List Group) (ts : List Node) → idle (map mark ts) ≡ true →
+    Gains (pile_faults bs (h ∷ hs)) (pile_faults bs (with_kids h (h.kids ++ ts) ∷ hs)) []
+top_filled bs h hs [] e = gains_none (pile_faults bs (h ∷ hs)) (pile_faults bs (with_kids h (h.kids ++ []) ∷ hs))
+    (ap (λ l. pile_faults bs (with_kids h l ∷ hs)) (sym (append-nil h.kids)))
 top_filled bs h hs (t ∷ ts) e =
     let p = split ((mark t).height == 0) (idle (map mark ts)) e in
     let low : (mark t).height ≡ 0 = grind (arith, p.0) in
     let old = pile_faults bs (h ∷ hs) in
     let middle = pile_faults bs (with_kids h (h.kids ++ t ∷ []) ∷ hs) in
-    let one : Gains old middle [] = subst (λ l. Gains old middle l) (idle_faults (opened bs) t low) (top_grown bs h hs t (behind_plain h.place.line (map mark h.kids) (mark t) (plain_mark t low))) in
+    let one : Gains old middle [] = subst (λ l. Gains old middle l) (idle_faults (opened bs) t low)
+    (top_grown bs h hs t (behind_plain h.place.line (map mark h.kids) (mark t) (plain_mark t low))) in
     let rest = top_filled bs (with_kids h (h.kids ++ t ∷ [])) hs ts p.1 in
-    gains_then old middle _ [] one (subst (λ l. Gains middle (pile_faults bs (with_kids h l ∷ hs)) []) (append_assoc h.kids (t ∷ []) ts) rest)
+    gains_then old middle _ [] one (subst (λ l. Gains middle (pile_faults bs (with_kids h l ∷ hs)) []) (append_assoc h.kids (t ∷ []) ts)
+    rest)
 
-pub lift_gains : (bs : List Bool) (g h : Group) (hs : List Group) → fits (false ∷ bs) (frames (g ∷ h ∷ hs)) → idle (map mark g.kids) ≡ true → Gains (pile_faults (false ∷ bs) (g ∷ h ∷ hs)) (pile_faults bs (lift (g ∷ h ∷ hs))) []
+pub lift_gains : (bs : List Bool) (g h : Group) (hs : List Group) → fits (false ∷ bs) (frames (g ∷ h ∷ hs)) →
+    idle (map mark g.kids) ≡ true → Gains (pile_faults (false ∷ bs) (g ∷ h ∷ hs)) (pile_faults bs (lift (g ∷ h ∷ hs))) []
 lift_gains bs g h hs i e = gains_then _ (pile_faults bs (h ∷ hs)) _ [] (drop_gains bs g h hs i e) (top_filled bs h hs g.kids e)
 
 -- ---- a tree that turns out to be a node
@@ -131,10 +145,12 @@ operand_plain n (m ∷ []) e = by m.node (split (not m.node) true e).0
     by false i = refl
 operand_plain n (m ∷ p ∷ ms) e = refl
 
-pub turn_gains : (bs : List Bool) (g : Group) (hs : List Group) → idle (map mark g.kids) ≡ true → fits (false ∷ bs) (frames (g ∷ hs)) → Gains (pile_faults (false ∷ bs) (g ∷ hs)) (pile_faults (true ∷ bs) (g ∷ hs)) (found (true ∷ bs) (frames (g ∷ hs)))
+pub turn_gains : (bs : List Bool) (g : Group) (hs : List Group) → idle (map mark g.kids) ≡ true → fits (false ∷ bs) (frames (g ∷ hs)) →
+    Gains (pile_faults (false ∷ bs) (g ∷ hs)) (pile_faults (true ∷ bs) (g ∷ hs)) (found (true ∷ bs) (frames (g ∷ hs)))
 unfolding pile_faults
 turn_gains bs g hs e i =
     let p = idle_plain g.kids e in
     let deep = if nat_le 256 (opened bs) then first_in g.place.line (map mark g.kids) ∷ [] else [] in
-    let told : found (true ∷ bs) (frames (g ∷ hs)) ≡ deep = rw (last_plain (opened (true ∷ bs)) (map mark g.kids) p, operand_plain g.place.line (map mark g.kids) p) (append-nil deep) in
+    let told : found (true ∷ bs) (frames (g ∷ hs)) ≡ deep =
+    rw (last_plain (opened (true ∷ bs)) (map mark g.kids) p, operand_plain g.place.line (map mark g.kids) p) (append-nil deep) in
     rw (idle_group false (opened bs) g e, idle_group true (opened bs) g e, told) (gains_in_front deep (pile_faults bs hs))

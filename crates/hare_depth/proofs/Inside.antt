@@ -25,14 +25,18 @@ either (inl a) f g = f a
 either (inr b) f g = g b
 
 -- at the node itself
-own_inside : (n o k : ℕ) (h : Head) (us : Nodes) → has_form (branch h us) ≡ true → IsOn k (node_faults n o h us) → k < n + length (spell 0 (branch h us))
+own_inside : (n o k : ℕ) (h : Head) (us : Nodes) → has_form (branch h us) ≡ true → IsOn k (node_faults n o h us) →
+    k < n + length (spell 0 (branch h us))
 own_inside n o k h us e i = by (on_either k (if is_node h.kind && nat_le 256 o then n ∷ [] else []) _ i)
   where
-    at_operator : (us : Nodes) → has_form (branch h us) ≡ true → is_operator h.kind ≡ true → n + place_in h us < n + length (spell 0 (branch h us))
+    at_operator : (us : Nodes) → has_form (branch h us) ≡ true → is_operator h.kind ≡ true →
+        n + place_in h us < n + length (spell 0 (branch h us))
     at_operator none e d = absurd (no_operand h d e)
     at_operator (more u us) e d = let l = left_ends h u us (operand h u us d e) in rw d (omega (arith, l))
 
-    by : IsOn k (if is_node h.kind && nat_le 256 o then n ∷ [] else []) ⊎ IsOn k (if is_operator h.kind && nat_le 256 (left_height us) then (n + place_in h us) ∷ [] else []) → k < n + length (spell 0 (branch h us))
+    by : IsOn k (if is_node h.kind && nat_le 256 o then n ∷ [] else []) ⊎ IsOn k
+        (if is_operator h.kind && nat_le 256 (left_height us) then (n + place_in h us) ∷ [] else []) →
+        k < n + length (spell 0 (branch h us))
     by (inl j) =
         let p = on_one k n (is_node h.kind && nat_le 256 o) j in
         let s = node_some (branch h us) (split (is_node h.kind) (nat_le 256 o) p.0).0 in
@@ -51,13 +55,17 @@ mutual
       let f = kids_have_forms (level h.kind h.text) (kid_pieces (form_of h.kind)) us e in
       let ns = begins h (form_of h.kind) n (spells 0 us) in
       let d = open_within o l h.kind in
-      either (on_either k (node_faults n o h us) (deep_each ns d (is_operator h.kind) us) i) (λ j. own_inside n o k h us e j) (λ j. each_inside n (n + length (spell 0 (branch h us))) ns d k (is_operator h.kind) us f w j)
+      either (on_either k (node_faults n o h us) (deep_each ns d (is_operator h.kind) us) i) (λ j. own_inside n o k h us e j)
+      (λ j. each_inside n (n + length (spell 0 (branch h us))) ns d k (is_operator h.kind) us f w j)
 
-  pub each_inside : (low high : ℕ) (ns : List ℕ) (o k : ℕ) (l : Bool) (us : Nodes) → have_forms us ≡ true → Within low high ns (spells 0 us) → IsOn k (deep_each ns o l us) → k < high
+  pub each_inside : (low high : ℕ) (ns : List ℕ) (o k : ℕ) (l : Bool) (us : Nodes) → have_forms us ≡ true →
+      Within low high ns (spells 0 us) → IsOn k (deep_each ns o l us) → k < high
   each_inside low high ns o k l none e w i = absurd i
   each_inside low high ns o k l (more u us) e w i =
       let p = split (has_form u) (have_forms us) e in
-      either (on_either k (deep (first_number ns) o l u) (deep_each (numbers_behind ns) o false us) i) (λ j. let r = deep_inside (first_number ns) o k l u p.0 j in omega (arith, r, w.1)) (λ j. each_inside low high (numbers_behind ns) o k false us p.1 w.2 j)
+      either (on_either k (deep (first_number ns) o l u) (deep_each (numbers_behind ns) o false us) i)
+      (λ j. let r = deep_inside (first_number ns) o k l u p.0 j in omega (arith, r, w.1))
+      (λ j. each_inside low high (numbers_behind ns) o k false us p.1 w.2 j)
 
 pub root_inside : (s : Sort) (t : Node) → is_shaped s t ≡ true → (k : ℕ) → IsOn k (deep_root t) → k < length (spell 0 t)
 root_inside s t e k i = let r = deep_inside 0 0 k false t (shaped_has_form s t e) i in omega (arith, r)

@@ -17,12 +17,15 @@ use Rattle.hare_depth.proofs.LetterFiles.{deep_file}
 use Rattle.hare_depth.proofs.Inside.{each_inside}
 
 -- trees side by side
-all_inside : (s : Sort) (n : ℕ) (us : List Node) → list_all (is_shaped s) us ≡ true → (k : ℕ) → IsOn k (deep_all n us) → k < n + length (spell_all 0 us)
+all_inside : (s : Sort) (n : ℕ) (us : List Node) → list_all (is_shaped s) us ≡ true → (k : ℕ) → IsOn k (deep_all n us) →
+    k < n + length (spell_all 0 us)
 all_inside s n us e k i =
     let ss = spells 0 (nodes_of us) in
-    each_inside n (n + length (spell_all 0 us)) (begins_led le.Nothing n ss) 0 k false (nodes_of us) (all_have_forms s us e) (side_within n ss) i
+    each_inside n (n + length (spell_all 0 us)) (begins_led le.Nothing n ss) 0 k false (nodes_of us) (all_have_forms s us e)
+    (side_within n ss) i
 
-pub file_inside : (uses decls : List Node) → list_all (is_shaped so.Use) uses ≡ true → list_all (is_shaped so.Decl) decls ≡ true → (k : ℕ) → IsOn k (deep_file uses decls) → k < length (spell_all 0 uses ++ spell_all 0 decls)
+pub file_inside : (uses decls : List Node) → list_all (is_shaped so.Use) uses ≡ true → list_all (is_shaped so.Decl) decls ≡ true → (k : ℕ) →
+    IsOn k (deep_file uses decls) → k < length (spell_all 0 uses ++ spell_all 0 decls)
 file_inside uses decls e f k i =
     let n = length (spell_all 0 uses) in
     let a = length-append (spell_all 0 uses) (spell_all 0 decls) in

@@ -1,4 +1,5 @@
--- What the proof of the gauge's law asks of a language: its trees are read by the grammar's machine from one stack on, and the tree that is read has
+-- What the proof of the gauge's law asks of a language: its trees are read by the grammar's machine from one stack on, and the tree that is
+-- read has
 -- the faults of what the machine makes.
 use Rattle.std.proofs.Common.{◌≡◌, ℕ, ◌<◌, List, [], ◌∷◌, ◌++◌, true, false, map, length, sym, subst}
 use Rattle.hare_tree.specs.declared.token.Token.{Token}
@@ -20,8 +21,13 @@ pub record Faulty {T : Type 0} (l : Language T) (u : List Token) (z : Token) (tr
   pub within : (k : ℕ) → IsOn k (l.deep_of tree) → k < length u
 
 -- another tree that passes limits at the same tokens
-pub faulty_alike : {T : Type 0} (l : Language T) (u : List Token) (z : Token) (t t' : T) (made : List Group) → l.deep_of t ≡ l.deep_of t' → Faulty l u z t made → Faulty l u z t' made
-faulty_alike l u z t t' made e f = record { faults = subst (λ ks. Gains (map (line_of (u ++ z ∷ [])) ks) (pile_faults [] made) []) e f.faults; within = λ k x. f.within k (subst (IsOn k) (sym e) x) }
+pub faulty_alike : {T : Type 0} (l : Language T) (u : List Token) (z : Token) (t t' : T) (made : List Group) → l.deep_of t ≡ l.deep_of t' →
+    Faulty l u z t made → Faulty l u z t' made
+faulty_alike l u z t t' made e f = record {
+  faults = subst (λ ks. Gains (map (line_of (u ++ z ∷ [])) ks) (pile_faults [] made) []) e
+      f.faults;
+  within = λ k x. f.within k (subst (IsOn k) (sym e) x);
+}
 
 -- the tree that is read from these tokens, which are all of its own or all but those of the tail
 pub record Read {T : Type 0} (l : Language T) (u : List Token) (z : Token) (made : List Group) : Type 0 where
@@ -31,7 +37,8 @@ pub record Read {T : Type 0} (l : Language T) (u : List Token) (z : Token) (made
   pub spelled : map unplaced (l.tokens_of tree) ≡ map unplaced (u ++ tail)
   pub faulty : Faulty l u z tree made
 
--- The tree is read again from its tokens in a file, by their numbers. The run is done in front of a token, which is the last of the tree's, as the
+-- The tree is read again from its tokens in a file, by their numbers. The run is done in front of a token, which is the last of the tree's,
+-- as the
 -- End of a file is, or stands behind them.
 pub record Reread {T : Type 0} (l : Language T) (st : List Symbol) (ts : List Token) (tree : T) : Type 0 where
   pub used : List Token
@@ -44,12 +51,14 @@ pub record Reread {T : Type 0} (l : Language T) (st : List Symbol) (ts : List To
   pub done : run 0 (used ++ last ∷ []) st bottom ≡ Done (last ∷ []) made
   pub faulty : Faulty l used last tree made
 
--- The machine reads the trees of the language from these symbols on. Nothing is under way there and no limit passed; and in the tokens of a tree no
+-- The machine reads the trees of the language from these symbols on. Nothing is under way there and no limit passed; and in the tokens of a
+-- tree no
 -- strings stand side by side.
 pub record Reads {T : Type 0} (l : Language T) (st : List Symbol) : Type 0 where
   pub held : Held 1 st (frames bottom)
   pub none : pile_faults (nodes_in st) bottom ≡ []
   pub is_good : good st cl.Junk ≡ true
   pub is_loose : (tree : T) → l.is_of tree ≡ true → loose false (l.tokens_of tree) ≡ true
-  pub reads : (u : List Token) (z : Token) (top : ℕ) (made : List Group) → Ascends 1 (u ++ z ∷ []) top → unplaced z ≡ end → run 0 (u ++ z ∷ []) st bottom ≡ Done (z ∷ []) made → Read l u z made
+  pub reads : (u : List Token) (z : Token) (top : ℕ) (made : List Group) → Ascends 1 (u ++ z ∷ []) top → unplaced z ≡ end →
+      run 0 (u ++ z ∷ []) st bottom ≡ Done (z ∷ []) made → Read l u z made
   pub rereads : (ts : List Token) (tree : T) → l.is_of tree ≡ true → Spells (l.tokens_of tree) ts → Reread l st ts tree

@@ -42,7 +42,8 @@ typed = of so.Type ∷ sy.Want si.Equals ∷ valued
 turned : (n m : ℕ) (bs : List Bool) (gs : List Group) → Stands n m (false ∷ bs) (frames gs) → Stands n m (true ∷ bs) (frames gs)
 turned n m bs gs s = record { fitting = s.fitting; ordered = s.ordered; below = s.below; placed = s.placed }
 
-typed_stepped : (f : ℕ) (t : Token) (st : List Symbol) (gs : List Group) → Held t.place.line (part ru.AfterForName ∷ st) (frames gs) → Stepped t.place.line (cl.Sign si.Colon) (part ru.AfterForName ∷ st) gs (typed ++ st) gs
+typed_stepped : (f : ℕ) (t : Token) (st : List Symbol) (gs : List Group) → Held t.place.line (part ru.AfterForName ∷ st) (frames gs) →
+    Stepped t.place.line (cl.Sign si.Colon) (part ru.AfterForName ∷ st) gs (typed ++ st) gs
 unfolding nodes_in follows calm_step
 typed_stepped f t st [] e = absurd (omega (arith, e.fitting))
 typed_stepped f t st (g ∷ hs) e =
@@ -50,9 +51,12 @@ typed_stepped f t st (g ∷ hs) e =
     let s = part ru.AfterForName in
     let bs = true ∷ nodes_in st in
     let z = stands_next n (false ∷ bs) (frames (g ∷ hs)) (held_stands n (s ∷ st) (g ∷ hs) e) in
-    told_stepped n (cl.Sign si.Colon) (s ∷ st) (typed ++ st) (g ∷ hs) (g ∷ hs) (turn_gains bs g hs (empty_idle (map mark g.kids) e.readied) e.fitting) (turned n (suc n) bs (g ∷ hs) z) (follows_next s [] typed st refl e.following refl (λ j. refl)) refl (λ j. cc)
+    told_stepped n (cl.Sign si.Colon) (s ∷ st) (typed ++ st) (g ∷ hs) (g ∷ hs)
+    (turn_gains bs g hs (empty_idle (map mark g.kids) e.readied) e.fitting) (turned n (suc n) bs (g ∷ hs) z)
+    (follows_next s [] typed st refl e.following refl (λ j. refl)) refl (λ j. cc)
 
-valued_stepped : (f : ℕ) (t : Token) (st : List Symbol) (gs : List Group) → Held t.place.line (part ru.AfterForName ∷ st) (frames gs) → Stepped t.place.line (cl.Sign si.Equals) (part ru.AfterForName ∷ st) gs (valued ++ st) (add (bare_leaf ki.None (start_of f)) gs)
+valued_stepped : (f : ℕ) (t : Token) (st : List Symbol) (gs : List Group) → Held t.place.line (part ru.AfterForName ∷ st) (frames gs) →
+    Stepped t.place.line (cl.Sign si.Equals) (part ru.AfterForName ∷ st) gs (valued ++ st) (add (bare_leaf ki.None (start_of f)) gs)
 unfolding nodes_in follows calm_step
 valued_stepped f t st [] e = absurd (omega (arith, e.fitting))
 valued_stepped f t st (g ∷ hs) e =
@@ -63,10 +67,14 @@ valued_stepped f t st (g ∷ hs) e =
     let none_typed = bare_leaf ki.None (start_of f) in
     let made = with_kids g (g.kids ++ none_typed ∷ []) in
     let z = stands_next n (false ∷ bs) (frames gs) (held_stands n (s ∷ st) gs e) in
-    let y : Stands n (suc n) (false ∷ bs) (frames (made ∷ hs)) = rw (frames_add none_typed gs) (absent_stands n (suc n) (false ∷ bs) (frames gs) z) in
+    let y : Stands n (suc n) (false ∷ bs) (frames (made ∷ hs)) =
+    rw (frames_add none_typed gs) (absent_stands n (suc n) (false ∷ bs) (frames gs) z) in
     let a = absent_gains (false ∷ bs) f gs e.fitting in
     let b = turn_gains bs made hs (idle_put g.kids none_typed (empty_idle (map mark g.kids) e.readied) refl) y.fitting in
-    told_stepped n (cl.Sign si.Equals) (s ∷ st) (valued ++ st) gs (made ∷ hs) (gains_then (pile_faults (false ∷ bs) gs) (pile_faults (false ∷ bs) (made ∷ hs)) (pile_faults (true ∷ bs) (made ∷ hs)) (found (true ∷ bs) (frames (made ∷ hs))) a b) (turned n (suc n) bs (made ∷ hs) y) (follows_next s [] valued st refl e.following refl (λ j. refl)) refl (λ j. cc)
+    told_stepped n (cl.Sign si.Equals) (s ∷ st) (valued ++ st) gs (made ∷ hs)
+    (gains_then (pile_faults (false ∷ bs) gs) (pile_faults (false ∷ bs) (made ∷ hs)) (pile_faults (true ∷ bs) (made ∷ hs))
+    (found (true ∷ bs) (frames (made ∷ hs))) a b) (turned n (suc n) bs (made ∷ hs) y)
+    (follows_next s [] valued st refl e.following refl (λ j. refl)) refl (λ j. cc)
 
 data NameUse (c : Class) (cs : List Change) (ss : List Symbol) : Type 0 where
   with_type : c ≡ cl.Sign si.Colon → cs ≡ [] → ss ≡ typed → NameUse c cs ss
@@ -90,7 +98,9 @@ for_name_never_over (cl.Sign si.Ampersand) cs e = cc
 for_name_never_over (cl.Sign _) cs e = cc
 for_name_never_over _ cs e = cc
 
-pub for_name_stepped : (f : ℕ) (t : Token) (c : Class) (cs : List Change) (ss st : List Symbol) (gs : List Group) → row ru.AfterForName c ≡ Uses cs ss → Held t.place.line (part ru.AfterForName ∷ st) (frames gs) → Stepped t.place.line c (part ru.AfterForName ∷ st) gs (ss ++ st) (all_changed f t cs gs)
+pub for_name_stepped : (f : ℕ) (t : Token) (c : Class) (cs : List Change) (ss st : List Symbol) (gs : List Group) →
+    row ru.AfterForName c ≡ Uses cs ss → Held t.place.line (part ru.AfterForName ∷ st) (frames gs) →
+    Stepped t.place.line c (part ru.AfterForName ∷ st) gs (ss ++ st) (all_changed f t cs gs)
 unfolding nodes_in
 for_name_stepped f t c cs ss st gs i e = by (name_use c cs ss i)
   where
@@ -101,12 +111,15 @@ for_name_stepped f t c cs ss st gs i e = by (name_use c cs ss i)
         let n = t.place.line in
         let s = part ru.AfterForName in
         let bs = nodes_in (s ∷ st) in
-        used_stepped f t c s (false ∷ true ∷ []) cs ss st gs gs refl e.following o (λ j. ends) (gains_refl (pile_faults bs gs)) (stands_next n bs (frames gs) (held_stands n (s ∷ st) gs e))
+        used_stepped f t c s (false ∷ true ∷ []) cs ss st gs gs refl e.following o (λ j. ends) (gains_refl (pile_faults bs gs))
+        (stands_next n bs (frames gs) (held_stands n (s ∷ st) gs e))
 
 -- ---- imports
 
 -- `=` makes the name an alias, of which the path is yet to come
-alias_stepped : (f : ℕ) (t : Token) (c : Class) (st : List Symbol) (gs : List Group) → Held t.place.line (part ru.AfterUseName ∷ st) (frames gs) → Stepped t.place.line c (part ru.AfterUseName ∷ st) gs (rest_of 3 ki.UseAlias ++ st) (lift gs)
+alias_stepped : (f : ℕ) (t : Token) (c : Class) (st : List Symbol) (gs : List Group) →
+    Held t.place.line (part ru.AfterUseName ∷ st) (frames gs) →
+    Stepped t.place.line c (part ru.AfterUseName ∷ st) gs (rest_of 3 ki.UseAlias ++ st) (lift gs)
 unfolding nodes_in follows
 alias_stepped f t c st [] e = absurd (omega (arith, e.fitting))
 alias_stepped f t c st (g ∷ []) e = absurd (omega (arith, e.fitting))
@@ -116,7 +129,10 @@ alias_stepped f t c st (g ∷ h ∷ hs) e =
     let bs = false ∷ nodes_in st in
     let gs = g ∷ h ∷ hs in
     let z = stands_next n (false ∷ bs) (frames gs) (held_stands n (s ∷ st) gs e) in
-    grown_stepped n c (s ∷ st) (rest_of 3 ki.UseAlias ++ st) gs (lift gs) (grows_none n (pile_faults (false ∷ bs) gs) (pile_faults bs (lift gs)) (found bs (frames (lift gs))) (lift_gains bs g h hs e.fitting e.readied)) (lift_stands n (suc n) bs g h hs e.readied z) (follows_next s [] (rest_of 3 ki.UseAlias) st refl e.following refl (λ j. cc)) refl
+    grown_stepped n c (s ∷ st) (rest_of 3 ki.UseAlias ++ st) gs (lift gs)
+    (grows_none n (pile_faults (false ∷ bs) gs) (pile_faults bs (lift gs)) (found bs (frames (lift gs)))
+    (lift_gains bs g h hs e.fitting e.readied)) (lift_stands n (suc n) bs g h hs e.readied z)
+    (follows_next s [] (rest_of 3 ki.UseAlias) st refl e.following refl (λ j. cc)) refl
 
 data ImportUse (cs : List Change) (ss : List Symbol) : Type 0 where
   alias : cs ≡ ch.Lift ∷ [] → ss ≡ rest_of 3 ki.UseAlias → ImportUse cs ss
@@ -137,7 +153,9 @@ import_never_over (cl.Sign si.Semicolon) cs e = cc
 import_never_over (cl.Sign _) cs e = cc
 import_never_over _ cs e = cc
 
-pub import_stepped : (f : ℕ) (t : Token) (c : Class) (cs : List Change) (ss st : List Symbol) (gs : List Group) → row ru.AfterUseName c ≡ Uses cs ss → Held t.place.line (part ru.AfterUseName ∷ st) (frames gs) → Stepped t.place.line c (part ru.AfterUseName ∷ st) gs (ss ++ st) (all_changed f t cs gs)
+pub import_stepped : (f : ℕ) (t : Token) (c : Class) (cs : List Change) (ss st : List Symbol) (gs : List Group) →
+    row ru.AfterUseName c ≡ Uses cs ss → Held t.place.line (part ru.AfterUseName ∷ st) (frames gs) →
+    Stepped t.place.line c (part ru.AfterUseName ∷ st) gs (ss ++ st) (all_changed f t cs gs)
 unfolding nodes_in
 import_stepped f t c cs ss st gs i e = by (import_use c cs ss i)
   where
@@ -147,4 +165,5 @@ import_stepped f t c cs ss st gs i e = by (import_use c cs ss i)
         let n = t.place.line in
         let s = part ru.AfterUseName in
         let bs = nodes_in (s ∷ st) in
-        used_stepped f t c s (false ∷ false ∷ []) cs ss st gs gs refl e.following o (λ j. cc) (gains_refl (pile_faults bs gs)) (stands_next n bs (frames gs) (held_stands n (s ∷ st) gs e))
+        used_stepped f t c s (false ∷ false ∷ []) cs ss st gs gs refl e.following o (λ j. cc) (gains_refl (pile_faults bs gs))
+        (stands_next n bs (frames gs) (held_stands n (s ∷ st) gs e))

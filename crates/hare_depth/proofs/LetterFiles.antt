@@ -40,23 +40,28 @@ deep_file uses decls = deep_all 0 uses ++ deep_all (length (spell_all 0 uses)) d
 
 abbrev pub FileFaultsAgree : Type 0
 FileFaultsAgree =
-    (f : ℕ) (ts : List Token) (uses decls : List Node) → Rises ts → Placed f ts uses decls → Gains (map (λ k. (place_of ts k).line) (deep_file uses decls)) (first_faults 1 0 false (nodes_of (uses ++ decls))) []
+    (f : ℕ) (ts : List Token) (uses decls : List Node) → Rises ts → Placed f ts uses decls →
+    Gains (map (λ k. (place_of ts k).line) (deep_file uses decls)) (first_faults 1 0 false (nodes_of (uses ++ decls))) []
 
 -- as the pile of a whole file has them
 abbrev pub FilePilesAgree : Type 0
 FilePilesAgree =
-    (f : ℕ) (ts : List Token) (uses decls : List Node) → Rises ts → Placed f ts uses decls → Gains (map (λ k. (place_of ts k).line) (deep_file uses decls)) (pile_faults [] (begun (start_of 0) (uses ++ decls) ∷ [])) []
+    (f : ℕ) (ts : List Token) (uses decls : List Node) → Rises ts → Placed f ts uses decls →
+    Gains (map (λ k. (place_of ts k).line) (deep_file uses decls)) (pile_faults [] (begun (start_of 0) (uses ++ decls) ∷ [])) []
 
 -- ---- trees side by side
 
-side_by_side : (f : ℕ) (ts : List Token) (s : Sort) (n : ℕ) (us : List Node) → Rises ts → list_all (is_shaped s) us ≡ true → n + length (spell_all 0 us) ≤ length ts → HavePlaces f ts (begins_led le.Nothing n (spells 0 (nodes_of us))) (nodes_of us) → (x : ℕ) → on x (map (line ts) (deep_all n us)) ≡ on x (kid_faults 0 (nodes_of us))
+side_by_side : (f : ℕ) (ts : List Token) (s : Sort) (n : ℕ) (us : List Node) → Rises ts → list_all (is_shaped s) us ≡ true →
+    n + length (spell_all 0 us) ≤ length ts → HavePlaces f ts (begins_led le.Nothing n (spells 0 (nodes_of us))) (nodes_of us) → (x : ℕ) →
+    on x (map (line ts) (deep_all n us)) ≡ on x (kid_faults 0 (nodes_of us))
 side_by_side f ts s n us r e l p x =
     let ss = spells 0 (nodes_of us) in
     let ns = begins_led le.Nothing n ss in
     let high = n + length (spell_all 0 us) in
     kids_agree ts ns (nodes_of us) (all_agree f ts n high ns (nodes_of us) r (all_have_forms s us e) (side_within n ss) l p) 0 x
 
-on_both : (o x : ℕ) (us vs : List Node) → on x (kid_faults o (nodes_of (us ++ vs))) ≡ (on x (kid_faults o (nodes_of us)) || on x (kid_faults o (nodes_of vs)))
+on_both : (o x : ℕ) (us vs : List Node) → on x (kid_faults o (nodes_of (us ++ vs))) ≡
+    (on x (kid_faults o (nodes_of us)) || on x (kid_faults o (nodes_of vs)))
 unfolding faults_of
 on_both o x [] vs = refl
 on_both o x (u ∷ us) vs =
@@ -89,12 +94,14 @@ file_faults_agree f ts uses decls r p =
     let a = length-append (spell_all 0 uses) (spell_all 0 decls) in
     same_numbers _ _ (λ x.
     on_map (line ts) x (deep_all 0 uses) (deep_all n decls)
-    ∙ same_or _ _ _ _ (side_by_side f ts so.Use 0 uses r p.uses_shaped (omega (arith, l, a)) p.uses_placed x) (side_by_side f ts so.Decl n decls r p.decls_shaped (omega (arith, l, a)) p.decls_placed x)
+    ∙ same_or _ _ _ _ (side_by_side f ts so.Use 0 uses r p.uses_shaped (omega (arith, l, a)) p.uses_placed x)
+    (side_by_side f ts so.Decl n decls r p.decls_shaped (omega (arith, l, a)) p.decls_placed x)
     ∙ sym (ap (on x) (first_of_all (uses ++ decls)) ∙ on_both 0 x uses decls))
 
 -- ---- the pile of a whole file
 
-no_node : (s : Sort) (t : Node) → is_shaped s t ≡ true → ((k : Kind) (x : List ℕ) → admits s k x ≡ true → is_node k ≡ false) → (mark t).node ≡ false
+no_node : (s : Sort) (t : Node) → is_shaped s t ≡ true → ((k : Kind) (x : List ℕ) → admits s k x ≡ true → is_node k ≡ false) →
+    (mark t).node ≡ false
 no_node s (branch h ts) e k = k h.kind h.text (shape s h ts e).admitted
 
 use_is_no_node : (k : Kind) (x : List ℕ) → admits so.Use k x ≡ true → is_node k ≡ false
@@ -105,7 +112,8 @@ decl_is_no_node : (k : Kind) (x : List ℕ) → admits so.Decl k x ≡ true → 
 decl_is_no_node ki.Fn x e = refl
 decl_is_no_node _ x e = cc
 
-no_left : (uses decls : List Node) → list_all (is_shaped so.Use) uses ≡ true → list_all (is_shaped so.Decl) decls ≡ true → left_faults 0 1 (map mark (uses ++ decls)) ≡ []
+no_left : (uses decls : List Node) → list_all (is_shaped so.Use) uses ≡ true → list_all (is_shaped so.Decl) decls ≡ true →
+    left_faults 0 1 (map mark (uses ++ decls)) ≡ []
 no_left [] [] e f = refl
 no_left [] (t ∷ ts) e f = rw (no_node so.Decl t (split (is_shaped so.Decl t) (list_all (is_shaped so.Decl) ts) f).0 decl_is_no_node) refl
 no_left (t ∷ ts) decls e f = rw (no_node so.Use t (split (is_shaped so.Use t) (list_all (is_shaped so.Use) ts) e).0 use_is_no_node) refl
@@ -113,4 +121,5 @@ no_left (t ∷ ts) decls e f = rw (no_node so.Use t (split (is_shaped so.Use t) 
 pub file_piles_agree : FilePilesAgree
 unfolding pile_faults
 file_piles_agree f ts uses decls r p =
-    subst (λ z. Gains (map (line ts) (deep_file uses decls)) (z ++ first_faults 1 0 false (nodes_of (uses ++ decls))) []) (sym (no_left uses decls p.uses_shaped p.decls_shaped)) (file_faults_agree f ts uses decls r p)
+    subst (λ z. Gains (map (line ts) (deep_file uses decls)) (z ++ first_faults 1 0 false (nodes_of (uses ++ decls))) [])
+    (sym (no_left uses decls p.uses_shaped p.decls_shaped)) (file_faults_agree f ts uses decls r p)

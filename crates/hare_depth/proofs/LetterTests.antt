@@ -18,7 +18,9 @@ pub more_holds : (o : ℕ) → nat_le 256 o ≡ true → nat_le 255 o ≡ true
 more_holds o e = let h : 256 ≤ o = true_le 256 o e in le_true 255 o (omega arith)
 
 -- the tree by itself: `ds` are told in its kids by the letter, and `ks` as they are read
-pub plain_agrees : (f : ℕ → ℕ) (b : Bool) (n p o x : ℕ) (ds ks : List ℕ) → (b ≡ true → p ≡ f n) → on x (map f ds) ≡ on x ks → on x (map f (((if b && nat_le 256 o then n ∷ [] else []) ++ []) ++ ds)) ≡ on x (((if b && nat_le 256 o then p ∷ [] else []) ++ []) ++ ks)
+pub plain_agrees : (f : ℕ → ℕ) (b : Bool) (n p o x : ℕ) (ds ks : List ℕ) → (b ≡ true → p ≡ f n) → on x (map f ds) ≡ on x ks →
+    on x (map f (((if b && nat_le 256 o then n ∷ [] else []) ++ []) ++ ds)) ≡
+    on x (((if b && nat_le 256 o then p ∷ [] else []) ++ []) ++ ks)
 plain_agrees f false n p o x ds ks e k = k
 plain_agrees f true n p o x ds ks e k = by (nat_le 256 o)
   where
@@ -40,19 +42,24 @@ left_test true false false true e = refl
 left_test true false false false e = refl
 
 -- the tree as a left operand
-pub plain_left : (f : ℕ → ℕ) (n p o x : ℕ) (ds ks : List ℕ) → p ≡ f n → on x (map f ds) ≡ on x ks → on x (map f (((if nat_le 256 (suc o) then n ∷ [] else []) ++ []) ++ ds)) ≡ (on x (((if nat_le 256 o then p ∷ [] else []) ++ []) ++ ks) || (nat_le 255 o && x == f n))
+pub plain_left : (f : ℕ → ℕ) (n p o x : ℕ) (ds ks : List ℕ) → p ≡ f n → on x (map f ds) ≡ on x ks →
+    on x (map f (((if nat_le 256 (suc o) then n ∷ [] else []) ++ []) ++ ds)) ≡
+    (on x (((if nat_le 256 o then p ∷ [] else []) ++ []) ++ ks) || (nat_le 255 o && x == f n))
 plain_left f n p o x ds ks e k =
     let c = nat_le 255 o in
     let d = nat_le 256 o in
     let l : on x (map f (((if nat_le 256 (suc o) then n ∷ [] else []) ++ []) ++ ds)) ≡ ((c && x == f n) || on x ks) =
-    ap (λ b. on x (map f (((if b then n ∷ [] else []) ++ []) ++ ds))) (one_more o) ∙ on_map f x ((if c then n ∷ [] else []) ++ []) ds ∙ same_or _ _ _ _ (map_alone f x n c) k in
+    ap (λ b. on x (map f (((if b then n ∷ [] else []) ++ []) ++ ds))) (one_more o) ∙ on_map f x ((if c then n ∷ [] else []) ++ []) ds ∙
+    same_or _ _ _ _ (map_alone f x n c) k in
     let r : on x (((if d then p ∷ [] else []) ++ []) ++ ks) ≡ ((d && x == f n) || on x ks) =
-    on_append x ((if d then p ∷ [] else []) ++ []) ks ∙ ap (λ b. b || on x ks) (ap (λ z. on x ((if d then z ∷ [] else []) ++ [])) e ∙ alone x (f n) d) in
+    on_append x ((if d then p ∷ [] else []) ++ []) ks ∙ ap (λ b. b || on x ks)
+    (ap (λ z. on x ((if d then z ∷ [] else []) ++ [])) e ∙ alone x (f n) d) in
     l ∙ left_test c d (x == f n) (on x ks) (more_holds o) ∙ ap (λ b. b || (c && x == f n)) (sym r)
 
 -- ---- an operator
 
--- `a` tells the operator's first token, `b` the left operand's, which is the same, `c` the operator; `d` and `k` tell what is in the left operand and
+-- `a` tells the operator's first token, `b` the left operand's, which is the same, `c` the operator; `d` and `k` tell what is in the left
+-- operand and
 -- in the other kids
 pub rejoin : (a b c d k : Bool) → ((a || c) || ((d || b) || k)) ≡ ((a || (b || c)) || (d || k))
 rejoin true b c d k = refl
@@ -78,12 +85,19 @@ further true g q e i = rw (e refl) i
 further false g q e i = cc
 
 -- what is said of an operator: by the letter, and as it is read
-pub operator_letter : (f : ℕ → ℕ) (x n m : ℕ) (a c : Bool) (ds es : List ℕ) → on x (map f (((if a then n ∷ [] else []) ++ (if c then m ∷ [] else [])) ++ (ds ++ es))) ≡ (((a && x == f n) || (c && x == f m)) || (on x (map f ds) || on x (map f es)))
+pub operator_letter : (f : ℕ → ℕ) (x n m : ℕ) (a c : Bool) (ds es : List ℕ) →
+    on x (map f (((if a then n ∷ [] else []) ++ (if c then m ∷ [] else [])) ++ (ds ++ es))) ≡
+    (((a && x == f n) || (c && x == f m)) || (on x (map f ds) || on x (map f es)))
 operator_letter f x n m a c ds es =
     on_map f x ((if a then n ∷ [] else []) ++ (if c then m ∷ [] else [])) (ds ++ es)
-    ∙ same_or _ _ _ _ (on_map f x (if a then n ∷ [] else []) (if c then m ∷ [] else []) ∙ same_or _ _ _ _ (map_one f x n a) (map_one f x m c)) (on_map f x ds es)
+    ∙ same_or _ _ _ _ (on_map f x (if a then n ∷ [] else []) (if c then m ∷ [] else []) ∙ same_or _ _ _ _ (map_one f x n a)
+    (map_one f x m c)) (on_map f x ds es)
 
-pub operator_read : (x n p : ℕ) (a b c : Bool) (ds es : List ℕ) → on x (((if a then n ∷ [] else []) ++ ((if b then n ∷ [] else []) ++ (if c then p ∷ [] else []))) ++ (ds ++ es)) ≡ (((a && x == n) || ((b && x == n) || (c && x == p))) || (on x ds || on x es))
+pub operator_read : (x n p : ℕ) (a b c : Bool) (ds es : List ℕ) →
+    on x (((if a then n ∷ [] else []) ++ ((if b then n ∷ [] else []) ++ (if c then p ∷ [] else []))) ++ (ds ++ es)) ≡
+    (((a && x == n) || ((b && x == n) || (c && x == p))) || (on x ds || on x es))
 operator_read x n p a b c ds es =
     on_append x ((if a then n ∷ [] else []) ++ ((if b then n ∷ [] else []) ++ (if c then p ∷ [] else []))) (ds ++ es)
-    ∙ same_or _ _ _ _ (on_append x (if a then n ∷ [] else []) ((if b then n ∷ [] else []) ++ (if c then p ∷ [] else [])) ∙ same_or _ _ _ _ (on_one x n a) (on_append x (if b then n ∷ [] else []) (if c then p ∷ [] else []) ∙ same_or _ _ _ _ (on_one x n b) (on_one x p c))) (on_append x ds es)
+    ∙ same_or _ _ _ _ (on_append x (if a then n ∷ [] else []) ((if b then n ∷ [] else []) ++ (if c then p ∷ [] else [])) ∙ same_or _ _ _ _
+    (on_one x n a) (on_append x (if b then n ∷ [] else []) (if c then p ∷ [] else []) ∙ same_or _ _ _ _ (on_one x n b) (on_one x p c)))
+    (on_append x ds es)

@@ -31,7 +31,8 @@ pub record Agrees (ts : List Token) (n : ℕ) (t : Node) : Type 0 where
   pub tall : (mark t).height ≡ height t
   pub by_itself : (o x : ℕ) → on x (map (line ts) (deep n o false t)) ≡ on x (faults_of o t)
   -- as a left operand, which has one more node open round it by the letter
-  pub as_left : is_node (head t).kind ≡ true → (o x : ℕ) → on x (map (line ts) (deep n (suc o) true t)) ≡ (on x (faults_of o t) || (nat_le 255 o && x == line ts n))
+  pub as_left : is_node (head t).kind ≡ true → (o x : ℕ) →
+      on x (map (line ts) (deep n (suc o) true t)) ≡ (on x (faults_of o t) || (nat_le 255 o && x == line ts n))
 
 abbrev pub AllAgree : List Token → List ℕ → Nodes → Type 0
 AllAgree ts ns none = Unit {0}
@@ -40,7 +41,8 @@ AllAgree ts ns (more u us) = Agrees ts (first_number ns) u × AllAgree ts (numbe
 -- ---- kids
 
 -- all but a left operand
-pub kids_agree : (ts : List Token) (ns : List ℕ) (us : Nodes) → AllAgree ts ns us → (o x : ℕ) → on x (map (line ts) (deep_each ns o false us)) ≡ on x (kid_faults o us)
+pub kids_agree : (ts : List Token) (ns : List ℕ) (us : Nodes) → AllAgree ts ns us → (o x : ℕ) →
+    on x (map (line ts) (deep_each ns o false us)) ≡ on x (kid_faults o us)
 unfolding deep faults_of
 kids_agree ts ns none a o x = refl
 kids_agree ts ns (more u us) a o x =
@@ -84,7 +86,8 @@ node_not_none ki.None e = cc
 node_not_none _ e = refl
 
 -- a kid that begins no earlier than a token does not lie in front of it
-pub not_before : (ts : List Token) (n k : ℕ) (t : Node) → Rises ts → n ≤ k → k + length (spell 0 t) ≤ length ts → Agrees ts k t → lies_before (mark t) (line ts n) ≡ false
+pub not_before : (ts : List Token) (n k : ℕ) (t : Node) → Rises ts → n ≤ k → k + length (spell 0 t) ≤ length ts → Agrees ts k t →
+    lies_before (mark t) (line ts n) ≡ false
 not_before ts n k t r e w a = by (is_node (head t).kind) refl
   where
     by : (b : Bool) → is_node (head t).kind ≡ b → lies_before (mark t) (line ts n) ≡ false
@@ -96,7 +99,8 @@ not_before ts n k t r e w a = by (is_node (head t).kind) refl
     by false i = rw (node_of_mark t, i) refl
 
 -- the left operand of an operator does
-is_before : (ts : List Token) (n k : ℕ) (t : Node) → Rises ts → is_node (head t).kind ≡ true → n < k → k < length ts → Agrees ts n t → lies_before (mark t) (line ts k) ≡ true
+is_before : (ts : List Token) (n k : ℕ) (t : Node) → Rises ts → is_node (head t).kind ≡ true → n < k → k < length ts → Agrees ts n t →
+    lies_before (mark t) (line ts k) ≡ true
 is_before ts n k t r i e w a =
     let q = r.1 n k e w in
     let g = le_true ((mark t).first + 1) (line ts k) (omega (arith, q, a.first i)) in
@@ -108,15 +112,21 @@ opened_round : (b : Bool) (o : ℕ) → (if b && not false then o + 1 else o) �
 opened_round true o = add-one o
 opened_round false o = refl
 
-plain_letter : (n o : ℕ) (l : Bool) (h : Head) (us : Nodes) → is_operator h.kind ≡ false → deep n o l (branch h us) ≡ ((if is_node h.kind && nat_le 256 o then n ∷ [] else []) ++ []) ++ deep_each (begins h (form_of h.kind) n (spells 0 us)) (open_within o l h.kind) false us
+plain_letter : (n o : ℕ) (l : Bool) (h : Head) (us : Nodes) → is_operator h.kind ≡ false →
+    deep n o l (branch h us) ≡ ((if is_node h.kind && nat_le 256 o then n ∷ [] else []) ++ []) ++ deep_each
+    (begins h (form_of h.kind) n (spells 0 us)) (open_within o l h.kind) false us
 unfolding deep
 plain_letter n o l h us e = rw e refl
 
-plain_read : (o : ℕ) (h : Head) (us : Nodes) → Behind h.place.line us → faults_of o (branch h us) ≡ ((if is_node h.kind && nat_le 256 o then h.place.line ∷ [] else []) ++ []) ++ kid_faults (around (is_node h.kind) o) us
+plain_read : (o : ℕ) (h : Head) (us : Nodes) → Behind h.place.line us →
+    faults_of o (branch h us) ≡ ((if is_node h.kind && nat_le 256 o then h.place.line ∷ [] else []) ++ []) ++ kid_faults
+    (around (is_node h.kind) o) us
 unfolding faults_of
 plain_read o h us b = rw (b.first, b.no_left o, b.kids o (is_node h.kind)) refl
 
-pub plain_tree : (ts : List Token) (n : ℕ) (h : Head) (us : Nodes) → is_operator h.kind ≡ false → (is_node h.kind ≡ true → h.place.line ≡ line ts n) → Behind h.place.line us → AllAgree ts (begins h (form_of h.kind) n (spells 0 us)) us → Agrees ts n (branch h us)
+pub plain_tree : (ts : List Token) (n : ℕ) (h : Head) (us : Nodes) → is_operator h.kind ≡ false →
+    (is_node h.kind ≡ true → h.place.line ≡ line ts n) → Behind h.place.line us →
+    AllAgree ts (begins h (form_of h.kind) n (spells 0 us)) us → Agrees ts n (branch h us)
 unfolding height
 plain_tree ts n h us e p b a =
     let ns = begins h (form_of h.kind) n (spells 0 us) in
@@ -125,12 +135,15 @@ plain_tree ts n h us e p b a =
       tall = ap (λ z. counted h.kind + z) (tall_kids ts ns us a);
       by_itself = λ o x.
           let k = is_node h.kind in
-          ap (λ l. on x (map (line ts) l)) (plain_letter n o false h us e ∙ ap (λ z. ((if k && nat_le 256 o then n ∷ [] else []) ++ []) ++ deep_each ns z false us) (opened_round k o))
+          ap (λ l. on x (map (line ts) l)) (plain_letter n o false h us e ∙ ap
+          (λ z. ((if k && nat_le 256 o then n ∷ [] else []) ++ []) ++ deep_each ns z false us) (opened_round k o))
           ∙ plain_agrees (line ts) k n h.place.line o x _ _ p (kids_agree ts ns us a (around k o) x)
           ∙ sym (ap (on x) (plain_read o h us b));
       as_left = λ i o x.
-          let l : deep n (suc o) true (branch h us) ≡ ((if nat_le 256 (suc o) then n ∷ [] else []) ++ []) ++ deep_each ns (suc o) false us = rw i at (plain_letter n (suc o) true h us e) in
-          let r : faults_of o (branch h us) ≡ ((if nat_le 256 o then h.place.line ∷ [] else []) ++ []) ++ kid_faults (suc o) us = rw i at (plain_read o h us b) in
+          let l : deep n (suc o) true (branch h us) ≡ ((if nat_le 256 (suc o) then n ∷ [] else []) ++ []) ++ deep_each ns (suc o) false us =
+          rw i at (plain_letter n (suc o) true h us e) in
+          let r : faults_of o (branch h us) ≡ ((if nat_le 256 o then h.place.line ∷ [] else []) ++ []) ++ kid_faults (suc o) us =
+          rw i at (plain_read o h us b) in
           ap (λ l. on x (map (line ts) l)) l
           ∙ plain_left (line ts) n h.place.line o x _ _ (p i) (kids_agree ts ns us a (suc o) x)
           ∙ sym (ap (λ l. on x l || (nat_le 255 o && x == line ts n)) r);
@@ -143,7 +156,8 @@ operator_is_node ki.Arith e = refl
 operator_is_node _ e = cc
 
 -- the left operand begins with the operator's tree, and a token stands behind it
-left_begins : (h : Head) (u : Node) (us : Nodes) (n : ℕ) → Operand h u → first_number (begins h (form_of h.kind) n (spells 0 (more u us))) ≡ n
+left_begins : (h : Head) (u : Node) (us : Nodes) (n : ℕ) → Operand h u →
+    first_number (begins h (form_of h.kind) n (spells 0 (more u us))) ≡ n
 unfolding spell
 left_begins h u us n o = rw o.form (omega arith)
 
@@ -153,15 +167,25 @@ left_ends h u us o =
     let s = pieces_some h o.rest (spells 0 us) o.token in
     rw o.form (omega (arith, s, length-append (spell 0 u) [], length-append (spell 0 u ++ []) (pieces_tokens 0 h o.rest (spells 0 us))))
 
-operator_deep : (n o : ℕ) (l : Bool) (h : Head) (u : Node) (us : Nodes) → is_operator h.kind ≡ true → Operand h u → deep n o l (branch h (more u us)) ≡ ((if nat_le 256 o then n ∷ [] else []) ++ (if nat_le 256 (height u) then (n + length (spell 0 u)) ∷ [] else [])) ++ (deep n (if not l then o + 1 else o) true u ++ deep_each (numbers_behind (begins h (form_of h.kind) n (spells 0 (more u us)))) (if not l then o + 1 else o) false us)
+operator_deep : (n o : ℕ) (l : Bool) (h : Head) (u : Node) (us : Nodes) → is_operator h.kind ≡ true → Operand h u →
+    deep n o l (branch h (more u us)) ≡ ((if nat_le 256 o then n ∷ [] else []) ++
+    (if nat_le 256 (height u) then (n + length (spell 0 u)) ∷ [] else [])) ++
+    (deep n (if not l then o + 1 else o) true u ++ deep_each (numbers_behind (begins h (form_of h.kind) n (spells 0 (more u us))))
+    (if not l then o + 1 else o) false us)
 unfolding deep
 operator_deep n o l h u us e q = rw (e, operator_is_node h.kind e, left_begins h u us n q) refl
 
-operator_faults : (ts : List Token) (n m o : ℕ) (h : Head) (u : Node) (us : Nodes) → is_operator h.kind ≡ true → lies_before (mark u) h.place.line ≡ true → h.place.line ≡ line ts m → (mark u).first ≡ line ts n → (mark u).height ≡ height u → faults_of o (branch h (more u us)) ≡ ((if nat_le 256 o then line ts n ∷ [] else []) ++ ((if nat_le 255 o then line ts n ∷ [] else []) ++ (if nat_le 256 (height u) then line ts m ∷ [] else []))) ++ (faults_of o u ++ kid_faults (suc o) us)
+operator_faults : (ts : List Token) (n m o : ℕ) (h : Head) (u : Node) (us : Nodes) → is_operator h.kind ≡ true →
+    lies_before (mark u) h.place.line ≡ true → h.place.line ≡ line ts m → (mark u).first ≡ line ts n → (mark u).height ≡ height u →
+    faults_of o (branch h (more u us)) ≡ ((if nat_le 256 o then line ts n ∷ [] else []) ++
+    ((if nat_le 255 o then line ts n ∷ [] else []) ++ (if nat_le 256 (height u) then line ts m ∷ [] else []))) ++
+    (faults_of o u ++ kid_faults (suc o) us)
 unfolding faults_of
 operator_faults ts n m o h u us e b p f t = rw (operator_is_node h.kind e, b, p, f, t) refl
 
-pub operator_tree : (ts : List Token) (n : ℕ) (h : Head) (u : Node) (us : Nodes) → Rises ts → is_operator h.kind ≡ true → Operand h u → n + length (spell 0 (branch h (more u us))) ≤ length ts → h.place.line ≡ line ts (n + length (spell 0 u)) → AllAgree ts (begins h (form_of h.kind) n (spells 0 (more u us))) (more u us) → Agrees ts n (branch h (more u us))
+pub operator_tree : (ts : List Token) (n : ℕ) (h : Head) (u : Node) (us : Nodes) → Rises ts → is_operator h.kind ≡ true → Operand h u →
+    n + length (spell 0 (branch h (more u us))) ≤ length ts → h.place.line ≡ line ts (n + length (spell 0 u)) →
+    AllAgree ts (begins h (form_of h.kind) n (spells 0 (more u us))) (more u us) → Agrees ts n (branch h (more u us))
 unfolding height
 operator_tree ts n h u us r e q w p a =
     let ns = begins h (form_of h.kind) n (spells 0 (more u us)) in
@@ -170,7 +194,8 @@ operator_tree ts n h u us r e q w p a =
     let d : Agrees ts n u = subst (λ z. Agrees ts z u) (left_begins h u us n q) a.0 in
     let some = node_some u q.node in
     let ends = left_ends h u us q in
-    let b : lies_before (mark u) h.place.line ≡ true = rw p (is_before ts n m u r q.node (omega (arith, some)) (omega (arith, ends, w)) d) in
+    let b : lies_before (mark u) h.place.line ≡ true =
+    rw p (is_before ts n m u r q.node (omega (arith, some)) (omega (arith, ends, w)) d) in
     let right = numbers_behind ns in
     record {
       first = λ i. rw b (d.first q.node);
@@ -178,17 +203,25 @@ operator_tree ts n h u us r e q w p a =
       by_itself = λ o x.
           let f = nat_le 256 o in
           let g = nat_le 255 o in
-          ap (λ l. on x (map (line ts) l)) (operator_deep n o false h u us e q ∙ ap (λ z. ((if f then n ∷ [] else []) ++ (if c then m ∷ [] else [])) ++ (deep n z true u ++ deep_each right z false us)) (add-one o))
+          ap (λ l. on x (map (line ts) l)) (operator_deep n o false h u us e q ∙ ap
+          (λ z. ((if f then n ∷ [] else []) ++ (if c then m ∷ [] else [])) ++ (deep n z true u ++ deep_each right z false us))
+          (add-one o))
           ∙ operator_letter (line ts) x n m f c (deep n (suc o) true u) (deep_each right (suc o) false us)
-          ∙ same_or ((f && x == line ts n) || (c && x == line ts m)) _ _ _ refl (same_or _ _ _ _ (d.as_left q.node o x) (kids_agree ts right us a.1 (suc o) x))
+          ∙ same_or ((f && x == line ts n) || (c && x == line ts m)) _ _ _ refl
+          (same_or _ _ _ _ (d.as_left q.node o x) (kids_agree ts right us a.1 (suc o) x))
           ∙ rejoin (f && x == line ts n) (g && x == line ts n) (c && x == line ts m) (on x (faults_of o u)) (on x (kid_faults (suc o) us))
-          ∙ sym (ap (on x) (operator_faults ts n m o h u us e b p (d.first q.node) d.tall) ∙ operator_read x (line ts n) (line ts m) f g c (faults_of o u) (kid_faults (suc o) us));
+          ∙ sym (ap (on x) (operator_faults ts n m o h u us e b p (d.first q.node) d.tall) ∙ operator_read x (line ts n) (line ts m) f g c
+          (faults_of o u) (kid_faults (suc o) us));
       as_left = λ i o x.
           let f = nat_le 256 o in
           let g = nat_le 255 o in
           ap (λ l. on x (map (line ts) l)) (operator_deep n (suc o) true h u us e q)
           ∙ operator_letter (line ts) x n m (nat_le 256 (suc o)) c (deep n (suc o) true u) (deep_each right (suc o) false us)
-          ∙ same_or _ _ _ _ (ap (λ z. (z && x == line ts n) || (c && x == line ts m)) (one_more o)) (same_or _ _ _ _ (d.as_left q.node o x) (kids_agree ts right us a.1 (suc o) x))
-          ∙ rejoin_left (f && x == line ts n) (g && x == line ts n) (c && x == line ts m) (on x (faults_of o u)) (on x (kid_faults (suc o) us)) (further f g (x == line ts n) (more_holds o))
-          ∙ sym (ap (λ z. z || (g && x == line ts n)) (ap (on x) (operator_faults ts n m o h u us e b p (d.first q.node) d.tall) ∙ operator_read x (line ts n) (line ts m) f g c (faults_of o u) (kid_faults (suc o) us)));
+          ∙ same_or _ _ _ _ (ap (λ z. (z && x == line ts n) || (c && x == line ts m)) (one_more o))
+          (same_or _ _ _ _ (d.as_left q.node o x) (kids_agree ts right us a.1 (suc o) x))
+          ∙ rejoin_left (f && x == line ts n) (g && x == line ts n) (c && x == line ts m) (on x (faults_of o u))
+          (on x (kid_faults (suc o) us)) (further f g (x == line ts n) (more_holds o))
+          ∙ sym (ap (λ z. z || (g && x == line ts n))
+          (ap (on x) (operator_faults ts n m o h u us e b p (d.first q.node) d.tall) ∙ operator_read x (line ts n) (line ts m) f g c
+          (faults_of o u) (kid_faults (suc o) us)));
     }

@@ -18,13 +18,22 @@ empty_idle [] e = refl
 empty_idle (m ∷ ms) e = cc
 
 -- a tree without nodes more
-pub idle_put : (ts : List Node) (t : Node) → idle (map mark ts) ≡ true → ((mark t).height == 0) ≡ true → idle (map mark (ts ++ t ∷ [])) ≡ true
-idle_put ts t i e = ap idle (map-append mark ts (t ∷ [])) ∙ list_all-append (λ m. m.height == 0) (map mark ts) (mark t ∷ []) ∙ (rw (i, e) refl)
+pub idle_put : (ts : List Node) (t : Node) → idle (map mark ts) ≡ true → ((mark t).height == 0) ≡ true →
+    idle (map mark (ts ++ t ∷ [])) ≡ true
+idle_put ts t i e = ap idle (map-append mark ts (t ∷ [])) ∙ list_all-append (λ m. m.height == 0) (map mark ts) (mark t ∷ []) ∙
+    (rw (i, e) refl)
 
 pub drop_stands : (n m : ℕ) (bs : List Bool) (f : Frame) (fs : List Frame) → Stands n m (false ∷ bs) (f ∷ fs) → Stands n m bs fs
-drop_stands n m bs f fs s = record { fitting = omega (arith, s.fitting); ordered = drop_ordered (f ∷ fs) s.ordered; below = drop_below m (f ∷ fs) s.below; placed = (split (nat_le f.at n) (at_most n fs) s.placed).1 }
+drop_stands n m bs f fs s = record {
+  fitting = omega (arith, s.fitting);
+  ordered = drop_ordered (f ∷ fs) s.ordered;
+  below = drop_below m
+      (f ∷ fs) s.below;
+  placed = (split (nat_le f.at n) (at_most n fs) s.placed).1;
+}
 
-pub lift_stands : (n m : ℕ) (bs : List Bool) (g h : Group) (hs : List Group) → idle (map mark g.kids) ≡ true → Stands n m (false ∷ bs) (frames (g ∷ h ∷ hs)) → Stands n m bs (frames (lift (g ∷ h ∷ hs)))
+pub lift_stands : (n m : ℕ) (bs : List Bool) (g h : Group) (hs : List Group) → idle (map mark g.kids) ≡ true →
+    Stands n m (false ∷ bs) (frames (g ∷ h ∷ hs)) → Stands n m bs (frames (lift (g ∷ h ∷ hs)))
 lift_stands n m bs g h hs i s =
     let e = frames_lift (g ∷ h ∷ hs) in
     record {

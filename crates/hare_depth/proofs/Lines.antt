@@ -92,15 +92,21 @@ pub front_line : (a b : List Token) → IsFront a b → (k : ℕ) → k < length
 front_line [] b f k e = absurd (omega (arith, e))
 front_line (t ∷ a) [] f k e = let i = f.is in cc
 front_line (t ∷ a) (u ∷ b) f zero e = let h = cons_same _ _ _ _ f.is in ap (λ s. s.number) h.0
-front_line (t ∷ a) (u ∷ b) f (suc k) e = let h = cons_same _ _ _ _ f.is in front_line a b (record { more = f.more; is = h.1 }) k (omega (arith, e))
+front_line (t ∷ a) (u ∷ b) f (suc k) e =
+    let h = cons_same _ _ _ _ f.is in front_line a b (record { more = f.more; is = h.1 }) k (omega (arith, e))
 
 pub front_shorter : (a b : List Token) → IsFront a b → length a ≤ length b
 front_shorter [] b f = omega arith
 front_shorter (t ∷ a) [] f = let i = f.is in cc
-front_shorter (t ∷ a) (u ∷ b) f = let h = cons_same _ _ _ _ f.is in let r = front_shorter a b (record { more = f.more; is = h.1 }) in omega (arith, r)
+front_shorter (t ∷ a) (u ∷ b) f =
+    let h = cons_same _ _ _ _ f.is in let r = front_shorter a b (record { more = f.more; is = h.1 }) in omega (arith, r)
 
 pub front_then : (a b c : List Token) → IsFront a b → IsFront b c → IsFront a c
-front_then a b c f g = record { more = f.more ++ g.more; is = g.is ∙ ap (λ l. l ++ g.more) f.is ∙ append_assoc (map seen_in a) f.more g.more }
+front_then a b c f g = record {
+  more = f.more ++ g.more;
+  is = g.is ∙ ap (λ l. l ++ g.more) f.is ∙ append_assoc (map seen_in a) f.more
+      g.more;
+}
 
 pub front_append : (a b c : List Token) → IsFront a b → IsFront a (b ++ c)
 front_append [] b c f = record { more = map seen_in (b ++ c); is = refl }
@@ -140,4 +146,10 @@ front (t ∷ a) [] f = let i = f.is in cc
 front (t ∷ a) (u ∷ b) f =
     let h = cons_same _ _ _ _ f.is in
     let r = front a b (record { more = f.more; is = h.1 }) in
-    record { first = u ∷ r.first; behind = r.behind; is = ap (λ l. u ∷ l) r.is; same = ap (λ x. x ∷ map seen_in r.first) h.0 ∙ ap (λ l. seen_in t ∷ l) r.same }
+    record {
+      first = u ∷ r.first;
+      behind = r.behind;
+      is = ap (λ l. u ∷ l) r.is;
+      same = ap (λ x. x ∷ map seen_in r.first) h.0 ∙ ap
+          (λ l. seen_in t ∷ l) r.same;
+    }

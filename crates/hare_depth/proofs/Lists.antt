@@ -33,7 +33,12 @@ gains_none a b e = subst (λ l. Gains a l []) e (gains_refl a)
 
 -- one after the other
 pub gains_both : (a b c x y : List ℕ) → Gains a b x → Gains b c y → Gains a c (y ++ x)
-gains_both a b c x y g h = record { kept = λ n i. h.kept n (g.kept n i); gained = λ n i. gained n (on_either n y x i); only = λ n i. only n (h.only n i) }
+gains_both a b c x y g h = record {
+  kept = λ n i. h.kept n (g.kept n i);
+  gained = λ n i. gained n (on_either n y x i);
+  only = λ n i. only n
+      (h.only n i);
+}
   where
     gained : (n : ℕ) → IsOn n y ⊎ IsOn n x → IsOn n c
     gained n (inl i) = h.gained n i
@@ -91,7 +96,12 @@ gains_in_front e a = record { kept = λ n i. on_right n e a i; gained = λ n i. 
     only n (inr i) = inl i
 
 pub gains_within : (a e r : List ℕ) → Gains (a ++ r) ((a ++ e) ++ r) e
-gains_within a e r = record { kept = λ n i. kept n (on_either n a r i); gained = λ n i. on_left n (a ++ e) r (on_right n a e i); only = λ n i. only n (on_either n (a ++ e) r i) }
+gains_within a e r = record {
+  kept = λ n i. kept n (on_either n a r i);
+  gained = λ n i. on_left n (a ++ e) r (on_right n a e i);
+  only = λ n
+      i. only n (on_either n (a ++ e) r i);
+}
   where
     kept : (n : ℕ) → IsOn n a ⊎ IsOn n r → IsOn n ((a ++ e) ++ r)
     kept n (inl i) = on_left n (a ++ e) r (on_left n a e i)
@@ -119,7 +129,12 @@ gains_moved a b e g = record { kept = λ n i. kept n (on_either n e a i); gained
 
 -- what a list has gained stands in front, with others that are new
 pub gains_new : (a b d e : List ℕ) → Gains a b e → Gains b ((d ++ e) ++ a) d
-gains_new a b d e g = record { kept = λ n i. kept n (g.only n i); gained = λ n i. on_left n (d ++ e) a (on_left n d e i); only = λ n i. only n (on_either n (d ++ e) a i) }
+gains_new a b d e g = record {
+  kept = λ n i. kept n (g.only n i);
+  gained = λ n i. on_left n (d ++ e) a (on_left n d e i);
+  only = λ n i. only
+      n (on_either n (d ++ e) a i);
+}
   where
     kept : (n : ℕ) → IsOn n a ⊎ IsOn n e → IsOn n ((d ++ e) ++ a)
     kept n (inl i) = on_right n (d ++ e) a i

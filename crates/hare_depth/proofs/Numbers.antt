@@ -16,7 +16,14 @@ use Rattle.hare_depth.proofs.Gaining.{Ascends}
 
 -- the token with a number in place of its line
 abbrev pub with_number : ℕ → Token → Token
-with_number n t = record { kind = t.kind; place = record { file = 0; line = n; column = 1 }; text = t.text; number = t.number; suffix = t.suffix }
+with_number n t = record {
+  kind = t.kind;
+  place = record { file = 0; line = n; column = 1 };
+  text = t.text;
+  number = t.number;
+  suffix =
+      t.suffix;
+}
 
 pub numbered_append : (n : ℕ) (a b : List Token) → numbered n (a ++ b) ≡ numbered n a ++ numbered (n + length a) b
 numbered_append n [] b = ap (λ k. numbered k b) (let i : n ≡ n + 0 = omega arith in i)
@@ -83,7 +90,8 @@ unfolding Ascends
 ascends_append n [] m b k x y = ascends_from n m b k x y
 ascends_append n (t ∷ a) m b k x y = (x.0, ascends_append (suc t.place.line) a m b k x.1 y)
 
-ascends_joined_to : (n : ℕ) (t : Token) (us : List Token) (m : ℕ) → n ≤ t.place.line → Ascends (suc t.place.line) us m → Ascends n (joined_to t us) m
+ascends_joined_to : (n : ℕ) (t : Token) (us : List Token) (m : ℕ) → n ≤ t.place.line → Ascends (suc t.place.line) us m →
+    Ascends n (joined_to t us) m
 unfolding Ascends
 ascends_joined_to n t [] m e a = (e, a)
 ascends_joined_to n t (u ∷ us) m e a = by (is_proper_string t) (is_proper_string u)
@@ -98,7 +106,8 @@ unfolding Ascends
 joined_ascends n [] = omega arith
 joined_ascends n (t ∷ ts) =
     let e : suc n + length ts ≡ n + length (t ∷ ts) = omega arith in
-    ascends_joined_to n _ (joined (numbered (suc n) ts)) (n + length (t ∷ ts)) (omega arith) (subst (λ k. Ascends (suc n) (joined (numbered (suc n) ts)) k) e (joined_ascends (suc n) ts))
+    ascends_joined_to n _ (joined (numbered (suc n) ts)) (n + length (t ∷ ts)) (omega arith)
+    (subst (λ k. Ascends (suc n) (joined (numbered (suc n) ts)) k) e (joined_ascends (suc n) ts))
 
 pub numbered_ascends : (n : ℕ) (ts : List Token) → Ascends n (numbered n ts) (n + length ts)
 unfolding Ascends
@@ -124,8 +133,11 @@ is_numbered ts a y rest e =
     let w : s.at < length ts = omega (arith, p.within, length_numbered 1 ts) in
     let b : a ≡ joined (take s.at (numbered 1 ts)) = before_spot (numbered 1 ts) s.at y rest a p e in
     let x = p.cut.first in
-    let c : joined (take (suc s.at) (numbered 1 ts)) ≡ a ++ x ∷ [] = ap joined p.cut.next ∙ joined_append (take s.at (numbered 1 ts)) (x ∷ []) p.apart ∙ ap (λ l. l ++ x ∷ []) (sym b) in
-    let d : length (joined (take (suc s.at) ts)) ≡ length (a ++ x ∷ []) = plain_lengths _ _ (sym (unplaced_both 1 (take (suc s.at) ts))) ∙ ap (λ l. length (joined l)) (sym (numbered_take 1 (suc s.at) ts)) ∙ ap length c in
+    let c : joined (take (suc s.at) (numbered 1 ts)) ≡ a ++ x ∷ [] =
+    ap joined p.cut.next ∙ joined_append (take s.at (numbered 1 ts)) (x ∷ []) p.apart ∙ ap (λ l. l ++ x ∷ []) (sym b) in
+    let d : length (joined (take (suc s.at) ts)) ≡ length (a ++ x ∷ []) =
+    plain_lengths _ _ (sym (unplaced_both 1 (take (suc s.at) ts))) ∙ ap (λ l. length (joined l)) (sym (numbered_take 1 (suc s.at) ts)) ∙
+    ap length c in
     record {
       at = s.at;
       line = ap (λ q. q.line) (sym (places_stand (numbered 1 ts) s.at y rest s.stands)) ∙ line_numbered 1 s.at ts w ∙ omega arith;

@@ -12,5 +12,6 @@ use Rattle.hare_depth.proofs.Orders.{close_behind}
 pub put_operand : (m : Mark) (f : Frame) → m.node ≡ true → is_behind f.at f.kids m ≡ true → ends_in_operand f.at (f.kids ++ m ∷ []) ≡ true
 put_operand m f e i = operand_last f.at f.kids m ∙ both m.node (is_behind f.at f.kids m) e i
 
-pub close_operand : (k : Kind) (f g : Frame) (fs : List Frame) → is_node k ≡ true → is_ordered (f ∷ g ∷ fs) ≡ true → ends_in_operand g.at (g.kids ++ mark_as k f.at f.kids ∷ []) ≡ true
+pub close_operand : (k : Kind) (f g : Frame) (fs : List Frame) → is_node k ≡ true → is_ordered (f ∷ g ∷ fs) ≡ true →
+    ends_in_operand g.at (g.kids ++ mark_as k f.at f.kids ∷ []) ≡ true
 close_operand k f g fs e i = put_operand (mark_as k f.at f.kids) g e (close_behind k f g fs i)

@@ -1,4 +1,5 @@
--- Where the limits are passed in trees whose places are numbers of tokens, and in piles of trees under way. Here a left operand has as many nodes
+-- Where the limits are passed in trees whose places are numbers of tokens, and in piles of trees under way. Here a left operand has as many
+-- nodes
 -- open round it as its operator, as it has while it is read; that one more is open once its operator is there is told at the operator.
 use Rattle.std.proofs.Common.{◌≡◌, ℕ, suc, ◌+◌, List, [], ◌∷◌, ◌++◌, Bool, true, false, ◌&&◌, ◌⊎◌, not, map, length}
 use Rattle.std.specs.Prelude.{nat_le, ◌==◌, if◌then◌else◌}
@@ -35,7 +36,8 @@ frames gs = map frame_of gs
 -- at an operator that has its place at `n`, with its left operand first among its kids, where `o` nodes are open round it
 abbrev pub left_faults : ℕ → ℕ → List Mark → List ℕ
 left_faults o n [] = []
-left_faults o n (m ∷ ms) = if lies_before m n then (if nat_le 255 o then m.first ∷ [] else []) ++ (if nat_le 256 m.height then n ∷ [] else []) else []
+left_faults o n (m ∷ ms) = if lies_before m n then (if nat_le 255 o then m.first ∷ [] else []) ++
+    (if nat_le 256 m.height then n ∷ [] else []) else []
 
 -- at a tree by itself, which is a node or not
 abbrev pub own_faults : Bool → ℕ → ℕ → List Mark → List ℕ
@@ -104,7 +106,8 @@ kids_below n ms = list_all (λ m. if m.node then nat_le (m.first + 1) n else tru
 abbrev pub frame_below : ℕ → Frame → Bool
 frame_below n f = nat_le f.at n && kids_below n f.kids
 
--- All trees under way begin in front of the token `n`, and the nodes among their kids. The last tree, which holds what is read and is never closed,
+-- All trees under way begin in front of the token `n`, and the nodes among their kids. The last tree, which holds what is read and is never
+-- closed,
 -- has its place at the first token, even where that is not yet read.
 unfoldable pub all_below : ℕ → List Frame → Bool
 all_below n [] = true
@@ -152,7 +155,8 @@ ends_operand (sy.Part ru.AfterForName) = true
 ends_operand (sy.Part ru.PathOrStruct) = true
 ends_operand _ = false
 
--- The second symbol may stand behind the first. A rule that needs something of the trees under way stands on top, or behind one that sees to it.
+-- The second symbol may stand behind the first. A rule that needs something of the trees under way stands on top, or behind one that sees
+-- to it.
 -- The rules that hand on what the next one needs stand on top alone.
 abbrev pub may_follow : Symbol → Symbol → Bool
 may_follow s (sy.Part (ru.Climb l h)) = ends_operand s

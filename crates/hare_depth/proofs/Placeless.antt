@@ -33,7 +33,12 @@ mutual
   unfolding deep
 
   deep_plain : (g n o : ℕ) (l : Bool) (t : Node) → deep n o l (plain g t) ≡ deep n o l t
-  deep_plain g n o l (branch h ts) = rw (node_plain g n o h ts, spells_plain 0 g ts, each_plain g (begins h (form_of h.kind) n (spells 0 ts)) (open_within o l h.kind) (is_operator h.kind) ts) refl
+  deep_plain g n o l (branch h ts) = rw (
+    node_plain g n o h ts,
+    spells_plain 0 g ts,
+    each_plain g
+        (begins h (form_of h.kind) n (spells 0 ts)) (open_within o l h.kind) (is_operator h.kind) ts,
+  ) refl
 
   each_plain : (g : ℕ) (ns : List ℕ) (o : ℕ) (l : Bool) (ts : Nodes) → deep_each ns o l (plains g ts) ≡ deep_each ns o l ts
   each_plain g ns o l none = refl
@@ -60,7 +65,8 @@ all_plain g n ts =
 
 file_plain : (t : FileTree) → files.deep_of (plain_file t) ≡ files.deep_of t
 file_plain t =
-    ap (λ us. deep_all 0 (map (plain t.file) t.uses) ++ deep_all (length (all_led t.file le.Nothing us)) (map (plain t.file) t.decls)) (spelled_plain t.file t.file t.uses)
+    ap (λ us. deep_all 0 (map (plain t.file) t.uses) ++ deep_all (length (all_led t.file le.Nothing us)) (map (plain t.file) t.decls))
+    (spelled_plain t.file t.file t.uses)
     ∙ ap (λ ns. ns ++ deep_all (length (spell_all t.file t.uses)) (map (plain t.file) t.decls)) (all_plain t.file 0 t.uses)
     ∙ ap (λ ns. deep_all 0 t.uses ++ ns) (all_plain t.file (length (spell_all t.file t.uses)) t.decls)
 

@@ -33,7 +33,8 @@ way f [] st gs = Comes st gs []
 way f (t ∷ w) st gs = onward (step f t (class_of t) st gs) (λ st' gs'. way f w st' gs')
 
 -- The machine uses all tokens `w` and comes from `st` and `gs` to `st'` and `gs'`; the gauge tells `ns` behind the tokens, in their order.
-pub record Reaches (f : ℕ) (w : List Token) (st : List Symbol) (gs : List Group) (st' : List Symbol) (gs' : List Group) (ns : List ℕ) : Type 0 where
+pub record Reaches (f : ℕ) (w : List Token) (st : List Symbol) (gs : List Group) (st' : List Symbol) (gs' : List Group) (ns : List ℕ) : Type
+    0 where
   pub is : way f w st gs ≡ Comes st' gs' ns
 
 -- ---- token by token
@@ -42,7 +43,9 @@ pub reaches_none : (f : ℕ) (st : List Symbol) (gs : List Group) → Reaches f 
 unfolding way
 reaches_none f st gs = record { is = refl }
 
-pub reaches_more : (f : ℕ) (t : Token) (w : List Token) (st st1 st' : List Symbol) (gs gs1 gs' : List Group) (ns : List ℕ) → step f t (class_of t) st gs ≡ Goes st1 gs1 → Reaches f w st1 gs1 st' gs' ns → Reaches f (t ∷ w) st gs st' gs' (found (nodes_in st1) (frames gs1) ++ ns)
+pub reaches_more : (f : ℕ) (t : Token) (w : List Token) (st st1 st' : List Symbol) (gs gs1 gs' : List Group) (ns : List ℕ) →
+    step f t (class_of t) st gs ≡ Goes st1 gs1 → Reaches f w st1 gs1 st' gs' ns →
+    Reaches f (t ∷ w) st gs st' gs' (found (nodes_in st1) (frames gs1) ++ ns)
 unfolding way
 reaches_more f t w st st1 st' gs gs1 gs' ns i r =
     record { is = ap (λ z. onward z (λ st2 gs2. way f w st2 gs2)) i ∙ ap (telling (found (nodes_in st1) (frames gs1))) r.is }
@@ -60,7 +63,8 @@ stays f st st' gs gs' ns r =
     record { symbols = cc; trees = cc; tells = cc }
 
 -- over a first token and the others
-pub record Onward (f : ℕ) (t : Token) (w : List Token) (st : List Symbol) (gs : List Group) (st' : List Symbol) (gs' : List Group) (ns : List ℕ) : Type 0 where
+pub record Onward (f : ℕ) (t : Token) (w : List Token) (st : List Symbol) (gs : List Group) (st' : List Symbol) (gs' : List Group)
+    (ns : List ℕ) : Type 0 where
   pub next : List Symbol
   pub trees : List Group
   pub later : List ℕ
@@ -68,19 +72,30 @@ pub record Onward (f : ℕ) (t : Token) (w : List Token) (st : List Symbol) (gs 
   pub tells : ns ≡ found (nodes_in next) (frames trees) ++ later
   pub goes : Reaches f w next trees st' gs' later
 
-pub goes_onward : (f : ℕ) (t : Token) (w : List Token) (st st' : List Symbol) (gs gs' : List Group) (ns : List ℕ) → Reaches f (t ∷ w) st gs st' gs' ns → Onward f t w st gs st' gs' ns
+pub goes_onward : (f : ℕ) (t : Token) (w : List Token) (st st' : List Symbol) (gs gs' : List Group) (ns : List ℕ) →
+    Reaches f (t ∷ w) st gs st' gs' ns → Onward f t w st gs st' gs' ns
 unfolding way
 goes_onward f t w st st' gs gs' ns r = by (step f t (class_of t) st gs) refl r.is
   where
-    later : (st1 : List Symbol) (gs1 : List Group) (y : Way) → step f t (class_of t) st gs ≡ Goes st1 gs1 → way f w st1 gs1 ≡ y → telling (found (nodes_in st1) (frames gs1)) y ≡ Comes st' gs' ns → Onward f t w st gs st' gs' ns
+    later : (st1 : List Symbol) (gs1 : List Group) (y : Way) → step f t (class_of t) st gs ≡ Goes st1 gs1 → way f w st1 gs1 ≡ y →
+        telling (found (nodes_in st1) (frames gs1)) y ≡ Comes st' gs' ns → Onward f t w st gs st' gs' ns
     later st1 gs1 (Comes st2 gs2 ms) i j e =
         let a : st2 ≡ st' = cc in
         let b : gs2 ≡ gs' = cc in
         let d : found (nodes_in st1) (frames gs1) ++ ms ≡ ns = cc in
-        record { next = st1; trees = gs1; later = ms; steps = i; tells = sym d; goes = record { is = j ∙ ap (λ x. Comes x gs2 ms) a ∙ ap (λ x. Comes st' x ms) b } }
+        record {
+          next = st1;
+          trees = gs1;
+          later = ms;
+          steps = i;
+          tells = sym d;
+          goes =
+              record { is = j ∙ ap (λ x. Comes x gs2 ms) a ∙ ap (λ x. Comes st' x ms) b };
+        }
     later st1 gs1 Breaks i j e = cc
 
-    by : (z : Step) → step f t (class_of t) st gs ≡ z → onward z (λ st1 gs1. way f w st1 gs1) ≡ Comes st' gs' ns → Onward f t w st gs st' gs' ns
+    by : (z : Step) → step f t (class_of t) st gs ≡ z → onward z (λ st1 gs1. way f w st1 gs1) ≡ Comes st' gs' ns →
+        Onward f t w st gs st' gs' ns
     by (Goes st1 gs1) i e = later st1 gs1 (way f w st1 gs1) i refl e
     by (Ends gs1) i e = cc
     by Stuck i e = cc
@@ -88,7 +103,8 @@ goes_onward f t w st st' gs gs' ns r = by (step f t (class_of t) st gs) refl r.i
 -- ---- side by side
 
 -- over the first tokens, and over the others
-pub record Parts (f : ℕ) (w v : List Token) (st : List Symbol) (gs : List Group) (st' : List Symbol) (gs' : List Group) (ns : List ℕ) : Type 0 where
+pub record Parts (f : ℕ) (w v : List Token) (st : List Symbol) (gs : List Group) (st' : List Symbol) (gs' : List Group) (ns : List ℕ) : Type
+    0 where
   pub next : List Symbol
   pub trees : List Group
   pub sooner : List ℕ
@@ -97,8 +113,17 @@ pub record Parts (f : ℕ) (w v : List Token) (st : List Symbol) (gs : List Grou
   pub before : Reaches f w st gs next trees sooner
   pub behind : Reaches f v next trees st' gs' later
 
-pub parts : (f : ℕ) (w v : List Token) (st st' : List Symbol) (gs gs' : List Group) (ns : List ℕ) → Reaches f (w ++ v) st gs st' gs' ns → Parts f w v st gs st' gs' ns
-parts f [] v st st' gs gs' ns r = record { next = st; trees = gs; sooner = []; later = ns; tells = refl; before = reaches_none f st gs; behind = r }
+pub parts : (f : ℕ) (w v : List Token) (st st' : List Symbol) (gs gs' : List Group) (ns : List ℕ) → Reaches f (w ++ v) st gs st' gs' ns →
+    Parts f w v st gs st' gs' ns
+parts f [] v st st' gs gs' ns r = record {
+  next = st;
+  trees = gs;
+  sooner = [];
+  later = ns;
+  tells = refl;
+  before = reaches_none f st gs;
+  behind = r;
+}
 parts f (t ∷ w) v st st' gs gs' ns r =
     let o = goes_onward f t (w ++ v) st st' gs gs' ns r in
     let p = parts f w v o.next st' o.trees gs' o.later o.goes in
@@ -113,14 +138,16 @@ parts f (t ∷ w) v st st' gs gs' ns r =
     }
 
 -- there is one way over the tokens
-pub reaches_once : (f : ℕ) (w : List Token) (st st1 st2 : List Symbol) (gs gs1 gs2 : List Group) (ns ms : List ℕ) → Reaches f w st gs st1 gs1 ns → Reaches f w st gs st2 gs2 ms → (st1 ≡ st2) × (gs1 ≡ gs2) × (ns ≡ ms)
+pub reaches_once : (f : ℕ) (w : List Token) (st st1 st2 : List Symbol) (gs gs1 gs2 : List Group) (ns ms : List ℕ) →
+    Reaches f w st gs st1 gs1 ns → Reaches f w st gs st2 gs2 ms → (st1 ≡ st2) × (gs1 ≡ gs2) × (ns ≡ ms)
 reaches_once f w st st1 st2 gs gs1 gs2 ns ms r q =
     let e : Comes st1 gs1 ns ≡ Comes st2 gs2 ms = sym r.is ∙ q.is in
     (cc, cc, cc)
 
 -- ---- what a run and the gauge do behind the tokens
 
-pub run_reaches : (f : ℕ) (w : List Token) (st st' : List Symbol) (gs gs' : List Group) (ns : List ℕ) → Reaches f w st gs st' gs' ns → (v : List Token) → run f (w ++ v) st gs ≡ run f v st' gs'
+pub run_reaches : (f : ℕ) (w : List Token) (st st' : List Symbol) (gs gs' : List Group) (ns : List ℕ) → Reaches f w st gs st' gs' ns →
+    (v : List Token) → run f (w ++ v) st gs ≡ run f v st' gs'
 unfolding run
 run_reaches f [] st st' gs gs' ns r v = let s = stays f st st' gs gs' ns r in rw (s.symbols, s.trees) refl
 run_reaches f (t ∷ w) st st' gs gs' ns r v =
@@ -130,12 +157,14 @@ run_reaches f (t ∷ w) st st' gs gs' ns r v =
 with_both : (ns ms : List ℕ) (g : Gauged) → with_faults ns (with_faults ms g) ≡ with_faults (ns ++ ms) g
 with_both ns ms g = ap (λ l. record { faults = l; rest = g.rest; over = g.over }) (sym (append_assoc ns ms g.faults))
 
-pub gauge_reaches : (f : ℕ) (w : List Token) (st st' : List Symbol) (gs gs' : List Group) (ns : List ℕ) → Reaches f w st gs st' gs' ns → (v : List Seen) → gauge (map seen_in w ++ v) st (frames gs) ≡ with_faults ns (gauge v st' (frames gs'))
+pub gauge_reaches : (f : ℕ) (w : List Token) (st st' : List Symbol) (gs gs' : List Group) (ns : List ℕ) → Reaches f w st gs st' gs' ns →
+    (v : List Seen) → gauge (map seen_in w ++ v) st (frames gs) ≡ with_faults ns (gauge v st' (frames gs'))
 unfolding gauge
 gauge_reaches f [] st st' gs gs' ns r v = let s = stays f st st' gs gs' ns r in rw (s.symbols, s.trees, s.tells) refl
 gauge_reaches f (t ∷ w) st st' gs gs' ns r v =
     let o = goes_onward f t w st st' gs gs' ns r in
-    let i : gauges.step t.place.line (class_of t) st (frames gs) ≡ gauges.Goes o.next (frames o.trees) = steps_are_seen f t (class_of t) st gs ∙ ap seen_step o.steps in
+    let i : gauges.step t.place.line (class_of t) st (frames gs) ≡ gauges.Goes o.next (frames o.trees) =
+    steps_are_seen f t (class_of t) st gs ∙ ap seen_step o.steps in
     ap (λ z. gauges.after z (seen_in t) (map seen_in w ++ v) (λ st2 fs2. gauge (map seen_in w ++ v) st2 fs2)) i
     ∙ ap (with_faults (found (nodes_in o.next) (frames o.trees))) (gauge_reaches f w o.next st' o.trees gs' o.later o.goes v)
     ∙ with_both (found (nodes_in o.next) (frames o.trees)) o.later (gauge v st' (frames gs'))
@@ -143,8 +172,10 @@ gauge_reaches f (t ∷ w) st st' gs gs' ns r v =
 
 -- ---- what can be closed
 
-pub reaches_good : (f : ℕ) (w : List Token) (st st' : List Symbol) (gs gs' : List Group) (ns : List ℕ) → good st cl.Junk ≡ true → Reaches f w st gs st' gs' ns → good st' cl.Junk ≡ true
+pub reaches_good : (f : ℕ) (w : List Token) (st st' : List Symbol) (gs gs' : List Group) (ns : List ℕ) → good st cl.Junk ≡ true →
+    Reaches f w st gs st' gs' ns → good st' cl.Junk ≡ true
 reaches_good f [] st st' gs gs' ns g r = let s = stays f st st' gs gs' ns r in subst (λ x. good x cl.Junk ≡ true) s.symbols g
 reaches_good f (t ∷ w) st st' gs gs' ns g r =
     let o = goes_onward f t w st st' gs gs' ns r in
-    reaches_good f w o.next st' o.trees gs' o.later (step_good f t (class_of t) st o.next gs o.trees cl.Junk g (class_proper t) o.steps) o.goes
+    reaches_good f w o.next st' o.trees gs' o.later (step_good f t (class_of t) st o.next gs o.trees cl.Junk g (class_proper t) o.steps)
+    o.goes

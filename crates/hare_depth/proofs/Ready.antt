@@ -27,7 +27,8 @@ operand_on_top (f ∷ fs) = ends_in_operand f.at f.kids
 
 leaf_on_top : (n : ℕ) (k : Kind) (fs : List Frame) → is_node k ≡ true → at_most n fs ≡ true → operand_on_top (put (leaf_mark k n) fs) ≡ true
 leaf_on_top n k [] a p = refl
-leaf_on_top n k (f ∷ fs) a p = put_operand (leaf_mark k n) f a (behind_later f.at f.kids (leaf_mark k n) (true_le f.at n (split (nat_le f.at n) (at_most n fs) p).0))
+leaf_on_top n k (f ∷ fs) a p = put_operand (leaf_mark k n) f a
+    (behind_later f.at f.kids (leaf_mark k n) (true_le f.at n (split (nat_le f.at n) (at_most n fs) p).0))
 
 pub close_on_top : (k : Kind) (fs : List Frame) → is_node k ≡ true → is_ordered fs ≡ true → operand_on_top (close k fs) ≡ true
 close_on_top k [] a o = refl
@@ -50,28 +51,36 @@ still_tame (ch.Join ∷ cs) bs e = still_tame cs bs e
 still_tame (c ∷ cs) bs e = cc
 
 -- what holds behind a tame change
-tame_stands : (n : ℕ) (c : Change) (cs : List Change) (bs : List Bool) (fs : List Frame) → tame (c ∷ cs) bs ≡ true → Stands n (suc n) (all_undone (c ∷ cs) bs) fs → (tame cs bs ≡ true) × Stands n (suc n) (all_undone cs bs) (changed n c fs)
+tame_stands : (n : ℕ) (c : Change) (cs : List Change) (bs : List Bool) (fs : List Frame) → tame (c ∷ cs) bs ≡ true →
+    Stands n (suc n) (all_undone (c ∷ cs) bs) fs → (tame cs bs ≡ true) × Stands n (suc n) (all_undone cs bs) (changed n c fs)
 tame_stands n c cs bs fs e s = by (is_quiet c (all_undone cs bs)) refl e
   where
-    by : (b : Bool) → is_quiet c (all_undone cs bs) ≡ b → (if b then tame cs bs else is_loud c (all_undone cs bs) && list_all is_still cs) ≡ true → (tame cs bs ≡ true) × Stands n (suc n) (all_undone cs bs) (changed n c fs)
+    by : (b : Bool) → is_quiet c (all_undone cs bs) ≡ b →
+        (if b then tame cs bs else is_loud c (all_undone cs bs) && list_all is_still cs) ≡ true → (tame cs bs ≡ true) ×
+        Stands n (suc n) (all_undone cs bs) (changed n c fs)
     by true q i = (i, quiet_stands n c (all_undone cs bs) fs q s)
     by false q i =
         let p = split (is_loud c (all_undone cs bs)) (list_all is_still cs) i in
         (still_tame cs bs p.1, loud_stands n c (all_undone cs bs) fs p.0 s)
 
 -- what the last changes make is there behind all
-ends_make : (test : List Change → Bool) (made : List Frame → Bool) (n : ℕ) (bs : List Bool) → ((cs : List Change) (fs : List Frame) → test cs ≡ true → Stands n (suc n) (all_undone cs bs) fs → made (all_changed n cs fs) ≡ true) → (cs : List Change) (fs : List Frame) → tame cs bs ≡ true → ends_in test cs ≡ true → Stands n (suc n) (all_undone cs bs) fs → made (all_changed n cs fs) ≡ true
+ends_make : (test : List Change → Bool) (made : List Frame → Bool) (n : ℕ) (bs : List Bool) →
+    ((cs : List Change) (fs : List Frame) → test cs ≡ true → Stands n (suc n) (all_undone cs bs) fs → made (all_changed n cs fs) ≡ true) →
+    (cs : List Change) (fs : List Frame) → tame cs bs ≡ true → ends_in test cs ≡ true → Stands n (suc n) (all_undone cs bs) fs →
+    made (all_changed n cs fs) ≡ true
 unfolding all_changed
 ends_make test made n bs h [] fs e i s = h [] fs i s
 ends_make test made n bs h (c ∷ cs) fs e i s =
     let p = tame_stands n c cs bs fs e s in
     by (test (c ∷ cs)) refl i (λ j. ends_make test made n bs h cs (changed n c fs) p.0 j p.1)
   where
-    by : (b : Bool) → test (c ∷ cs) ≡ b → (b || ends_in test cs) ≡ true → (ends_in test cs ≡ true → made (all_changed n cs (changed n c fs)) ≡ true) → made (all_changed n (c ∷ cs) fs) ≡ true
+    by : (b : Bool) → test (c ∷ cs) ≡ b → (b || ends_in test cs) ≡ true →
+        (ends_in test cs ≡ true → made (all_changed n cs (changed n c fs)) ≡ true) → made (all_changed n (c ∷ cs) fs) ≡ true
     by true q i k = h (c ∷ cs) fs q s
     by false q i k = k i
 
-put_made : (n : ℕ) (bs : List Bool) (cs : List Change) (fs : List Frame) → is_put cs ≡ true → Stands n (suc n) (all_undone cs bs) fs → operand_on_top (all_changed n cs fs) ≡ true
+put_made : (n : ℕ) (bs : List Bool) (cs : List Change) (fs : List Frame) → is_put cs ≡ true → Stands n (suc n) (all_undone cs bs) fs →
+    operand_on_top (all_changed n cs fs) ≡ true
 unfolding all_changed
 put_made n bs [] fs e s = cc
 put_made n bs (c ∷ cs) fs e s =
@@ -84,7 +93,8 @@ put_made n bs (c ∷ cs) fs e s =
     by (ch.Close k) i s = close_on_top k fs i s.ordered
     by _ i s = cc
 
-pub operand_made : (n : ℕ) (bs : List Bool) (cs : List Change) (fs : List Frame) → tame cs bs ≡ true → ends_in is_put cs ≡ true → Stands n (suc n) (all_undone cs bs) fs → operand_on_top (all_changed n cs fs) ≡ true
+pub operand_made : (n : ℕ) (bs : List Bool) (cs : List Change) (fs : List Frame) → tame cs bs ≡ true → ends_in is_put cs ≡ true →
+    Stands n (suc n) (all_undone cs bs) fs → operand_on_top (all_changed n cs fs) ≡ true
 operand_made n bs cs fs e i s = ends_make is_put operand_on_top n bs (put_made n bs) cs fs e i s
 
 -- ---- what symbols need
@@ -92,9 +102,12 @@ operand_made n bs cs fs e i s = ends_make is_put operand_on_top n bs (put_made n
 same_number : (n : ℕ) → (n == n) ≡ true
 same_number n = grind arith
 
-twice_made : (n : ℕ) (cs : List Change) (fs : List Frame) → is_twice cs ≡ true → ready_frames (sy.Part ru.PathOrStruct) (all_changed n cs fs) ≡ true
+twice_made : (n : ℕ) (cs : List Change) (fs : List Frame) → is_twice cs ≡ true →
+    ready_frames (sy.Part ru.PathOrStruct) (all_changed n cs fs) ≡ true
 unfolding all_changed
-twice_made n (ch.Open ∷ ch.Open ∷ cs) fs e = ap (ready_frames (sy.Part ru.PathOrStruct)) (still_frames n cs (record { at = n; kids = [] } ∷ record { at = n; kids = [] } ∷ fs) e) ∙ same_number n
+twice_made n (ch.Open ∷ ch.Open ∷ cs) fs e =
+    ap (ready_frames (sy.Part ru.PathOrStruct)) (still_frames n cs (record { at = n; kids = [] } ∷ record { at = n; kids = [] } ∷ fs) e) ∙
+    same_number n
 twice_made n (ch.Open ∷ _) fs e = cc
 twice_made n _ fs e = cc
 
@@ -104,7 +117,8 @@ begun_made n (ch.Open ∷ []) fs e = refl
 begun_made n (ch.Open ∷ c ∷ cs) fs e = cc
 begun_made n _ fs e = cc
 
-behind_made : (n : ℕ) (cs : List Change) (fs : List Frame) → is_begun_behind cs ≡ true → ready_frames (sy.Part ru.BehindElementComma) (all_changed n cs fs) ≡ true
+behind_made : (n : ℕ) (cs : List Change) (fs : List Frame) → is_begun_behind cs ≡ true →
+    ready_frames (sy.Part ru.BehindElementComma) (all_changed n cs fs) ≡ true
 unfolding all_changed
 behind_made n (ch.Open ∷ ch.Absent ∷ ch.Open ∷ []) fs e = refl
 behind_made n (ch.Open ∷ ch.Absent ∷ ch.Open ∷ c ∷ cs) fs e = cc
@@ -112,7 +126,8 @@ behind_made n (ch.Open ∷ ch.Absent ∷ _) fs e = cc
 behind_made n (ch.Open ∷ _) fs e = cc
 behind_made n _ fs e = cc
 
-named_made : (n : ℕ) (cs : List Change) (fs : List Frame) → is_named cs ≡ true → ready_frames (sy.Part ru.AfterUseName) (all_changed n cs fs) ≡ true
+named_made : (n : ℕ) (cs : List Change) (fs : List Frame) → is_named cs ≡ true →
+    ready_frames (sy.Part ru.AfterUseName) (all_changed n cs fs) ≡ true
 unfolding all_changed
 named_made n (ch.Open ∷ ch.Leaf ki.Name ∷ []) fs e = refl
 named_made n (ch.Open ∷ ch.Leaf ki.Name ∷ c ∷ cs) fs e = cc
@@ -124,13 +139,21 @@ pub operand_ready : (l h : ℕ) (fs : List Frame) → operand_on_top fs ≡ true
 operand_ready l h [] e = refl
 operand_ready l h (f ∷ fs) e = e
 
-pub made_ready : (n : ℕ) (bs : List Bool) (cs : List Change) (fs : List Frame) (s : Symbol) → tame cs bs ≡ true → made_for cs s ≡ true → Stands n (suc n) (all_undone cs bs) fs → ready_frames s (all_changed n cs fs) ≡ true
+pub made_ready : (n : ℕ) (bs : List Bool) (cs : List Change) (fs : List Frame) (s : Symbol) → tame cs bs ≡ true → made_for cs s ≡ true →
+    Stands n (suc n) (all_undone cs bs) fs → ready_frames s (all_changed n cs fs) ≡ true
 made_ready n bs cs fs (sy.Part (ru.Climb l h)) e i s = operand_ready l h (all_changed n cs fs) (operand_made n bs cs fs e i s)
-made_ready n bs cs fs (sy.Part ru.PathOrStruct) e i s = ends_make is_twice (ready_frames (sy.Part ru.PathOrStruct)) n bs (λ ds gs j z. twice_made n ds gs j) cs fs e i s
-made_ready n bs cs fs (sy.Part (ru.BehindComma r)) e i s = ends_make is_begun (ready_frames (sy.Part (ru.BehindComma r))) n bs (λ ds gs j z. ap (ready_frames (sy.Part (ru.BehindComma r))) (begun_made n ds gs j)) cs fs e i s
-made_ready n bs cs fs (sy.Part ru.BehindElementComma) e i s = ends_make is_begun_behind (ready_frames (sy.Part ru.BehindElementComma)) n bs (λ ds gs j z. behind_made n ds gs j) cs fs e i s
-made_ready n bs cs fs (sy.Part ru.AfterForName) e i s = ends_make is_begun (ready_frames (sy.Part ru.AfterForName)) n bs (λ ds gs j z. ap (ready_frames (sy.Part ru.AfterForName)) (begun_made n ds gs j)) cs fs e i s
-made_ready n bs cs fs (sy.Part ru.AfterUseName) e i s = ends_make is_named (ready_frames (sy.Part ru.AfterUseName)) n bs (λ ds gs j z. named_made n ds gs j) cs fs e i s
+made_ready n bs cs fs (sy.Part ru.PathOrStruct) e i s =
+    ends_make is_twice (ready_frames (sy.Part ru.PathOrStruct)) n bs (λ ds gs j z. twice_made n ds gs j) cs fs e i s
+made_ready n bs cs fs (sy.Part (ru.BehindComma r)) e i s =
+    ends_make is_begun (ready_frames (sy.Part (ru.BehindComma r))) n bs
+    (λ ds gs j z. ap (ready_frames (sy.Part (ru.BehindComma r))) (begun_made n ds gs j)) cs fs e i s
+made_ready n bs cs fs (sy.Part ru.BehindElementComma) e i s =
+    ends_make is_begun_behind (ready_frames (sy.Part ru.BehindElementComma)) n bs (λ ds gs j z. behind_made n ds gs j) cs fs e i s
+made_ready n bs cs fs (sy.Part ru.AfterForName) e i s =
+    ends_make is_begun (ready_frames (sy.Part ru.AfterForName)) n bs
+    (λ ds gs j z. ap (ready_frames (sy.Part ru.AfterForName)) (begun_made n ds gs j)) cs fs e i s
+made_ready n bs cs fs (sy.Part ru.AfterUseName) e i s =
+    ends_make is_named (ready_frames (sy.Part ru.AfterUseName)) n bs (λ ds gs j z. named_made n ds gs j) cs fs e i s
 made_ready n bs cs fs _ e i s = refl
 
 -- ---- what stands on top
@@ -146,7 +169,8 @@ ready_second (sy.Part (ru.Own o)) d st fs e = refl
 ready_second s d st fs e = cc
 
 -- where the changes make what the symbols need, they are ready
-pub prepared_ready : (cs : List Change) (s : Symbol) (rs st : List Symbol) (fs : List Frame) → prepared cs (s ∷ rs) ≡ true → ((d : Symbol) → made_for cs d ≡ true → ready_frames d fs ≡ true) → ready (s ∷ (rs ++ st)) fs ≡ true
+pub prepared_ready : (cs : List Change) (s : Symbol) (rs st : List Symbol) (fs : List Frame) → prepared cs (s ∷ rs) ≡ true →
+    ((d : Symbol) → made_for cs d ≡ true → ready_frames d fs ≡ true) → ready (s ∷ (rs ++ st)) fs ≡ true
 prepared_ready cs s [] st fs e h = by (hands_on s) refl e
   where
     by : (b : Bool) → hands_on s ≡ b → (if b then false else made_for cs s) ≡ true → ready (s ∷ st) fs ≡ true

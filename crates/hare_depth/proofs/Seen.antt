@@ -41,7 +41,9 @@ frames_close k (g ∷ gs) = frames_add (branch (head_in k g) (nodes_of g.kids)) 
 
 pub frames_over : (p : Place) (gs : List Group) → frames (engine.over p gs) ≡ seen.over p.line (frames gs)
 frames_over p [] = refl
-frames_over p (g ∷ gs) = ap (λ l. record { at = p.line; kids = l } ∷ record { at = g.place.line; kids = map mark (but_last g.kids) } ∷ frames gs) (last_seen g.kids) ∙ ap (λ l. record { at = p.line; kids = last_mark (map mark g.kids) } ∷ record { at = g.place.line; kids = l } ∷ frames gs) (others_seen g.kids)
+frames_over p (g ∷ gs) = ap (λ l. record { at = p.line; kids = l } ∷ record { at = g.place.line; kids = map mark (but_last g.kids) } ∷
+    frames gs) (last_seen g.kids) ∙ ap (λ l. record { at = p.line; kids = last_mark (map mark g.kids) } ∷
+    record { at = g.place.line; kids = l } ∷ frames gs) (others_seen g.kids)
 
 pub frames_lift : (gs : List Group) → frames (engine.lift gs) ≡ seen.lift (frames gs)
 frames_lift [] = refl
@@ -60,7 +62,8 @@ pub frames_join : (t : Token) (gs : List Group) → frames (engine.join_text t g
 frames_join t [] = refl
 frames_join t (g ∷ gs) = refl
 
-pub frames_changed : (f : ℕ) (t : Token) (d : Change) (gs : List Group) → frames (engine.changed f t d gs) ≡ seen.changed t.place.line d (frames gs)
+pub frames_changed : (f : ℕ) (t : Token) (d : Change) (gs : List Group) →
+    frames (engine.changed f t d gs) ≡ seen.changed t.place.line d (frames gs)
 frames_changed f t ch.Absent gs = frames_add _ gs
 frames_changed f t (ch.Mark k) gs = frames_add _ gs
 frames_changed f t (ch.Leaf k) gs = frames_add _ gs
@@ -72,7 +75,9 @@ frames_changed f t (ch.Close k) gs = frames_close k gs
 frames_changed f t ch.Lift gs = frames_lift gs
 frames_changed f t ch.Drop gs = frames_drop gs
 
-pub frames_all_changed : (f : ℕ) (t : Token) (ds : List Change) (gs : List Group) → frames (engine.all_changed f t ds gs) ≡ seen.all_changed t.place.line ds (frames gs)
+pub frames_all_changed : (f : ℕ) (t : Token) (ds : List Change) (gs : List Group) →
+    frames (engine.all_changed f t ds gs) ≡ seen.all_changed t.place.line ds (frames gs)
 unfolding seen.all_changed
 frames_all_changed f t [] gs = refl
-frames_all_changed f t (d ∷ ds) gs = frames_all_changed f t ds (engine.changed f t d gs) ∙ ap (λ l. seen.all_changed t.place.line ds l) (frames_changed f t d gs)
+frames_all_changed f t (d ∷ ds) gs = frames_all_changed f t ds (engine.changed f t d gs) ∙ ap (λ l. seen.all_changed t.place.line ds l)
+    (frames_changed f t d gs)

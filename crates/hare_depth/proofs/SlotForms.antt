@@ -37,7 +37,8 @@ same_refl (false ∷ bs) = same_refl bs
 pub nodes_append : (rs ss : List Symbol) → nodes_in (rs ++ ss) ≡ nodes_in rs ++ nodes_in ss
 unfolding nodes_in
 nodes_append [] ss = refl
-nodes_append (s ∷ rs) ss = ap (λ l. nodes_of_symbol s ++ l) (nodes_append rs ss) ∙ sym (append_assoc (nodes_of_symbol s) (nodes_in rs) (nodes_in ss))
+nodes_append (s ∷ rs) ss = ap (λ l. nodes_of_symbol s ++ l) (nodes_append rs ss) ∙ sym
+    (append_assoc (nodes_of_symbol s) (nodes_in rs) (nodes_in ss))
 
 -- a plain symbol stands behind any
 pub plain_follows : (s d : Symbol) → is_plain d ≡ true → may_follow s d ≡ true
@@ -67,7 +68,8 @@ joins_climb cs [] l h e = refl
 joins_climb cs (s ∷ []) l h e = e
 joins_climb cs (s ∷ r ∷ rs) l h e = joins_climb cs (r ∷ rs) l h e
 
-pub follows_append : (rs : List Symbol) (d : Symbol) (ss : List Symbol) → follows rs ≡ true → joins rs d ≡ true → follows (d ∷ ss) ≡ true → follows (rs ++ d ∷ ss) ≡ true
+pub follows_append : (rs : List Symbol) (d : Symbol) (ss : List Symbol) → follows rs ≡ true → joins rs d ≡ true → follows (d ∷ ss) ≡ true →
+    follows (rs ++ d ∷ ss) ≡ true
 unfolding follows
 follows_append [] d ss a j b = b
 follows_append (s ∷ []) d ss a j b = both (may_follow s d) (follows (d ∷ ss)) j b
@@ -112,7 +114,8 @@ still_undone (ch.Take ∷ cs) bs e = still_undone cs bs e
 still_undone (ch.Join ∷ cs) bs e = still_undone cs bs e
 still_undone (c ∷ cs) bs e = cc
 
-quiet_append : (c : Change) (bs os : List Bool) → is_quiet c bs ≡ true → (is_quiet c (bs ++ os) ≡ true) × (undone c (bs ++ os) ≡ undone c bs ++ os)
+quiet_append : (c : Change) (bs os : List Bool) → is_quiet c bs ≡ true → (is_quiet c (bs ++ os) ≡ true) ×
+    (undone c (bs ++ os) ≡ undone c bs ++ os)
 quiet_append ch.Absent bs os e = (refl, refl)
 quiet_append (ch.Mark k) bs os e = (e, refl)
 quiet_append (ch.Leaf k) bs os e = (e, refl)
@@ -123,7 +126,8 @@ quiet_append ch.Join bs os e = (refl, refl)
 quiet_append (ch.Close k) bs os e = (refl, refl)
 quiet_append _ bs os e = cc
 
-loud_append : (c : Change) (bs os : List Bool) → is_loud c bs ≡ true → (is_loud c (bs ++ os) ≡ true) × (is_quiet c (bs ++ os) ≡ is_quiet c bs) × (undone c (bs ++ os) ≡ undone c bs ++ os)
+loud_append : (c : Change) (bs os : List Bool) → is_loud c bs ≡ true → (is_loud c (bs ++ os) ≡ true) ×
+    (is_quiet c (bs ++ os) ≡ is_quiet c bs) × (undone c (bs ++ os) ≡ undone c bs ++ os)
 loud_append (ch.Mark k) bs os e = (refl, refl, refl)
 loud_append (ch.Leaf k) bs os e = (refl, refl, refl)
 loud_append ch.Open [] os e = cc
@@ -131,11 +135,15 @@ loud_append ch.Open (b ∷ bs) os e = (refl, refl, refl)
 loud_append _ bs os e = cc
 
 -- tame changes look at no trees but those that they make, and leave the others
-pub tame_append : (cs : List Change) (bs os : List Bool) → tame cs bs ≡ true → (tame cs (bs ++ os) ≡ true) × (all_undone cs (bs ++ os) ≡ all_undone cs bs ++ os)
+pub tame_append : (cs : List Change) (bs os : List Bool) → tame cs bs ≡ true → (tame cs (bs ++ os) ≡ true) ×
+    (all_undone cs (bs ++ os) ≡ all_undone cs bs ++ os)
 tame_append [] bs os e = (refl, refl)
 tame_append (c ∷ cs) bs os e = by (is_quiet c (all_undone cs bs)) refl e (λ i. tame_append cs bs os i)
   where
-    by : (b : Bool) → is_quiet c (all_undone cs bs) ≡ b → (if b then tame cs bs else is_loud c (all_undone cs bs) && list_all is_still cs) ≡ true → (tame cs bs ≡ true → (tame cs (bs ++ os) ≡ true) × (all_undone cs (bs ++ os) ≡ all_undone cs bs ++ os)) → (tame (c ∷ cs) (bs ++ os) ≡ true) × (all_undone (c ∷ cs) (bs ++ os) ≡ all_undone (c ∷ cs) bs ++ os)
+    by : (b : Bool) → is_quiet c (all_undone cs bs) ≡ b →
+        (if b then tame cs bs else is_loud c (all_undone cs bs) && list_all is_still cs) ≡ true →
+        (tame cs bs ≡ true → (tame cs (bs ++ os) ≡ true) × (all_undone cs (bs ++ os) ≡ all_undone cs bs ++ os)) →
+        (tame (c ∷ cs) (bs ++ os) ≡ true) × (all_undone (c ∷ cs) (bs ++ os) ≡ all_undone (c ∷ cs) bs ++ os)
     by true q i k =
         let r = k i in
         let p = quiet_append c (all_undone cs bs) os q in
@@ -150,7 +158,8 @@ tame_append (c ∷ cs) bs os e = by (is_quiet c (all_undone cs bs)) refl e (λ i
 
 -- ---- rows
 
-pub uses_before : (r : Row) (d : Symbol) (ss : List Symbol) → uses_ok [] r ≡ true → is_plain d ≡ true → follows (d ∷ ss) ≡ true → uses_ok (nodes_in (d ∷ ss)) (before r (d ∷ ss)) ≡ true
+pub uses_before : (r : Row) (d : Symbol) (ss : List Symbol) → uses_ok [] r ≡ true → is_plain d ≡ true → follows (d ∷ ss) ≡ true →
+    uses_ok (nodes_in (d ∷ ss)) (before r (d ∷ ss)) ≡ true
 uses_before Fault d ss a b c = refl
 uses_before (Skips cs) d ss a b c = cc
 uses_before (Uses cs rs) d ss a b c =
@@ -158,14 +167,24 @@ uses_before (Uses cs rs) d ss a b c =
     let q = split (tame cs (nodes_in rs)) (same_bools (all_undone cs (nodes_in rs)) []) p.0 in
     let r = split (follows rs) (prepared cs rs) p.1 in
     let t = tame_append cs (nodes_in rs) (nodes_in (d ∷ ss)) q.0 in
-    rw (nodes_append rs (d ∷ ss), t.0, t.1, same_equal (all_undone cs (nodes_in rs)) [] q.1, same_refl (nodes_in (d ∷ ss)), follows_append rs d ss r.0 (joins_plain rs d b) c, head rs r.1) refl
+    rw (
+      nodes_append rs (d ∷ ss),
+      t.0,
+      t.1,
+      same_equal (all_undone cs (nodes_in rs)) [] q.1,
+      same_refl (nodes_in (d ∷ ss)),
+      follows_append
+          rs d ss r.0 (joins_plain rs d b) c,
+      head rs r.1,
+    ) refl
   where
     head : (rs : List Symbol) → prepared cs rs ≡ true → prepared cs (rs ++ d ∷ ss) ≡ true
     head [] e = prepared_plain cs (d ∷ ss) b
     head (s ∷ rs) e = prepared_append cs s rs (d ∷ ss) e
 
 -- the same of symbols of which the first is plain
-pub uses_behind : (r : Row) (ss : List Symbol) → uses_ok [] r ≡ true → is_plain_first ss ≡ true → follows ss ≡ true → uses_ok (nodes_in ss) (before r ss) ≡ true
+pub uses_behind : (r : Row) (ss : List Symbol) → uses_ok [] r ≡ true → is_plain_first ss ≡ true → follows ss ≡ true →
+    uses_ok (nodes_in ss) (before r ss) ≡ true
 uses_behind r [] a b c = cc
 uses_behind r (d ∷ ss) a b c = uses_before r d ss a b c
 
@@ -197,7 +216,8 @@ prepared_led d cs (s ∷ r ∷ ss) e = by (hands_on s) e
     by true i = made_led d cs r i
     by false i = made_led d cs s i
 
-pub uses_led : (d : Change) (os bs : List Bool) (r : Row) → undone d os ≡ bs → is_quiet d os ≡ true → uses_ok os r ≡ true → uses_ok bs (led_by (d ∷ []) r) ≡ true
+pub uses_led : (d : Change) (os bs : List Bool) (r : Row) → undone d os ≡ bs → is_quiet d os ≡ true → uses_ok os r ≡ true →
+    uses_ok bs (led_by (d ∷ []) r) ≡ true
 uses_led d os bs Fault u q a = refl
 uses_led d os bs (Skips cs) u q a = cc
 uses_led d os bs (Uses cs ss) u q a =
@@ -213,12 +233,14 @@ uses_row os Fault a = refl
 uses_row os (Skips cs) a = cc
 uses_row os (Uses cs ss) a = a
 
-pub or_ok : (os : List Bool) (r : Row) (ds : List Change) → uses_ok os r ≡ true → row_ok os (Skips ds) ≡ true → row_ok os (or_skips r ds) ≡ true
+pub or_ok : (os : List Bool) (r : Row) (ds : List Change) → uses_ok os r ≡ true → row_ok os (Skips ds) ≡ true →
+    row_ok os (or_skips r ds) ≡ true
 or_ok os Fault ds a b = b
 or_ok os (Skips cs) ds a b = b
 or_ok os (Uses cs ss) ds a b = a
 
-pub at_ok : (os : List Bool) (a : Sign) (c : Class) (cs ds : List Change) (ss : List Symbol) → uses_ok os (Uses cs ss) ≡ true → row_ok os (Skips ds) ≡ true → row_ok os (at_sign a c (Uses cs ss) (Skips ds)) ≡ true
+pub at_ok : (os : List Bool) (a : Sign) (c : Class) (cs ds : List Change) (ss : List Symbol) → uses_ok os (Uses cs ss) ≡ true →
+    row_ok os (Skips ds) ≡ true → row_ok os (at_sign a c (Uses cs ss) (Skips ds)) ≡ true
 at_ok os a c cs ds ss u s = by (has_sign a c)
   where
     by : (b : Bool) → row_ok os (if b then Uses cs ss else Skips ds) ≡ true
@@ -238,13 +260,22 @@ uses_climb (Uses cs rs) l h a e =
     let q = split (tame cs (nodes_in rs)) (same_bools (all_undone cs (nodes_in rs)) []) p.0 in
     let r = split (follows rs) (prepared cs rs) p.1 in
     let t = tame_append cs (nodes_in rs) [] q.0 in
-    rw (nodes_append rs (d ∷ []), t.0, t.1, same_equal (all_undone cs (nodes_in rs)) [] q.1, follows_append rs d [] r.0 (joins_climb cs rs l h e) refl, head rs r.1 e) refl
+    rw (
+      nodes_append rs (d ∷ []),
+      t.0,
+      t.1,
+      same_equal (all_undone cs (nodes_in rs)) [] q.1,
+      follows_append rs d [] r.0
+          (joins_climb cs rs l h e) refl,
+      head rs r.1 e,
+    ) refl
   where
     head : (rs : List Symbol) → prepared cs rs ≡ true → ends_stack cs rs ≡ true → prepared cs (rs ++ sy.Part (ru.Climb l h) ∷ []) ≡ true
     head [] i j = j
     head (s ∷ rs) i j = prepared_append cs s rs (sy.Part (ru.Climb l h) ∷ []) i
 
-pub ends_append : (cs : List Change) (rs : List Symbol) (d : Symbol) (ss : List Symbol) → ends_stack cs (rs ++ d ∷ ss) ≡ ends_stack cs (d ∷ ss)
+pub ends_append : (cs : List Change) (rs : List Symbol) (d : Symbol) (ss : List Symbol) →
+    ends_stack cs (rs ++ d ∷ ss) ≡ ends_stack cs (d ∷ ss)
 ends_append cs [] d ss = refl
 ends_append cs (s ∷ []) d ss = refl
 ends_append cs (s ∷ r ∷ rs) d ss = ends_append cs (r ∷ rs) d ss
@@ -253,7 +284,8 @@ ends_any : (cs ds : List Change) (d : Symbol) (ss : List Symbol) → ends_stack 
 ends_any cs ds d [] = refl
 ends_any cs ds d (s ∷ ss) = ends_any cs ds s ss
 
-pub ends_before : (os : List Bool) (r : Row) (d : Symbol) (ss : List Symbol) → uses_ok os r ≡ true → ends_stack [] (d ∷ ss) ≡ true → ends_row (before r (d ∷ ss)) ≡ true
+pub ends_before : (os : List Bool) (r : Row) (d : Symbol) (ss : List Symbol) → uses_ok os r ≡ true → ends_stack [] (d ∷ ss) ≡ true →
+    ends_row (before r (d ∷ ss)) ≡ true
 ends_before os Fault d ss a e = refl
 ends_before os (Skips cs) d ss a e = cc
 ends_before os (Uses cs rs) d ss a e = ends_append cs rs d ss ∙ ends_any cs [] d ss ∙ e

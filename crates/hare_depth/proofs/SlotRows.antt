@@ -38,7 +38,8 @@ use_part_ok _ = refl
 for_ok : (c : Class) → uses_ok (true ∷ []) (row ru.ForHead c) ≡ true
 unfolding nodes_in follows
 for_ok (cl.Sign si.Let) = refl
-for_ok c = uses_led ch.Absent (true ∷ []) (true ∷ []) (before (level_row 1 c) (rest_of 5 ki.For)) refl refl (uses_behind (level_row 1 c) (rest_of 5 ki.For) (level_ok 1 c) refl refl)
+for_ok c = uses_led ch.Absent (true ∷ []) (true ∷ []) (before (level_row 1 c) (rest_of 5 ki.For)) refl refl
+    (uses_behind (level_row 1 c) (rest_of 5 ki.For) (level_ok 1 c) refl refl)
 
 index_ok : (c : Class) → uses_ok (true ∷ []) (row ru.InIndex c) ≡ true
 unfolding nodes_in follows
@@ -51,13 +52,17 @@ rule_ok (ru.Of s) c e = uses_row [] (of_row s c) (of_ok s c)
 rule_ok (ru.Own o) c e = cc
 rule_ok (ru.Optional s) c e = or_ok [] (of_row s c) (ch.Absent ∷ []) (of_ok s c) refl
 rule_ok (ru.Led a s) c e = at_ok [] a c [] (ch.Absent ∷ []) (of s ∷ []) refl refl
-rule_ok (ru.Each s) c e = or_ok [] (before (of_row s c) (part (ru.Each s) ∷ [])) [] (uses_before (of_row s c) (part (ru.Each s)) [] (of_ok s c) refl refl) refl
+rule_ok (ru.Each s) c e = or_ok [] (before (of_row s c) (part (ru.Each s) ∷ [])) []
+    (uses_before (of_row s c) (part (ru.Each s)) [] (of_ok s c) refl refl) refl
 rule_ok (ru.EachLed a s) c e = at_ok [] a c [] [] (of s ∷ part (ru.EachLed a s) ∷ []) refl refl
-rule_ok (ru.EachFollowed s a) c e = or_ok [] (before (of_row s c) (sy.Want a ∷ part (ru.EachFollowed s a) ∷ [])) [] (uses_before (of_row s c) (sy.Want a) (part (ru.EachFollowed s a) ∷ []) (of_ok s c) refl refl) refl
-rule_ok (ru.List s) c e = or_ok [] (before (of_row s c) (part (ru.More s) ∷ [])) (ch.Absent ∷ []) (uses_before (of_row s c) (part (ru.More s)) [] (of_ok s c) refl refl) refl
+rule_ok (ru.EachFollowed s a) c e = or_ok [] (before (of_row s c) (sy.Want a ∷ part (ru.EachFollowed s a) ∷ [])) []
+    (uses_before (of_row s c) (sy.Want a) (part (ru.EachFollowed s a) ∷ []) (of_ok s c) refl refl) refl
+rule_ok (ru.List s) c e = or_ok [] (before (of_row s c) (part (ru.More s) ∷ [])) (ch.Absent ∷ [])
+    (uses_before (of_row s c) (part (ru.More s)) [] (of_ok s c) refl refl) refl
 rule_ok (ru.More s) c e = at_ok [] si.Comma c (ch.Open ∷ []) (ch.Absent ∷ []) (part (ru.BehindComma s) ∷ []) refl refl
 rule_ok (ru.BehindComma s) c e = cc
-rule_ok ru.Elements c e = or_ok [] (before (level_row 1 c) (part ru.MoreElements ∷ [])) (ch.Absent ∷ ch.Absent ∷ []) (uses_before (level_row 1 c) (part ru.MoreElements) [] (level_ok 1 c) refl refl) refl
+rule_ok ru.Elements c e = or_ok [] (before (level_row 1 c) (part ru.MoreElements ∷ [])) (ch.Absent ∷ ch.Absent ∷ [])
+    (uses_before (level_row 1 c) (part ru.MoreElements) [] (level_ok 1 c) refl refl) refl
 rule_ok ru.MoreElements (cl.Sign si.Comma) e = refl
 rule_ok ru.MoreElements (cl.Sign si.Dots) e = refl
 rule_ok ru.MoreElements (cl.Sign _) e = refl
@@ -70,9 +75,11 @@ rule_ok (ru.PathRest k) c e = path_ok k c
 rule_ok ru.PathOrStruct c e = cc
 rule_ok ru.PathName c e = cc
 rule_ok ru.InBracket (cl.Sign si.RightBracket) e = refl
-rule_ok ru.InBracket c e = uses_row (true ∷ []) (before (length_row c) (rest_of 2 ki.TypeArray)) (uses_behind (length_row c) (rest_of 2 ki.TypeArray) (length_ok c) refl refl)
+rule_ok ru.InBracket c e = uses_row (true ∷ []) (before (length_row c) (rest_of 2 ki.TypeArray))
+    (uses_behind (length_row c) (rest_of 2 ki.TypeArray) (length_ok c) refl refl)
 rule_ok ru.FirstMember (cl.Sign si.Dots) e = refl
-rule_ok ru.FirstMember c e = uses_row (true ∷ []) (before (type_row c) (part ru.AfterType ∷ [])) (uses_before (type_row c) (part ru.AfterType) [] (type_ok c) refl refl)
+rule_ok ru.FirstMember c e = uses_row (true ∷ []) (before (type_row c) (part ru.AfterType ∷ []))
+    (uses_before (type_row c) (part ru.AfterType) [] (type_ok c) refl refl)
 rule_ok ru.AfterType (cl.Sign si.Comma) e = refl
 rule_ok ru.AfterType (cl.Sign si.Bar) e = refl
 rule_ok ru.AfterType (cl.Sign _) e = refl
@@ -91,7 +98,8 @@ rule_ok ru.AfterIndex (cl.Sign si.DotDot) e = refl
 rule_ok ru.AfterIndex (cl.Sign _) e = refl
 rule_ok ru.AfterIndex _ e = refl
 rule_ok ru.AfterYield (cl.Sign si.Colon) e = refl
-rule_ok ru.AfterYield c e = or_ok (true ∷ []) (before (level_row 1 c) (sy.Close ki.Yield ∷ [])) (ch.Absent ∷ ch.Close ki.Yield ∷ []) (uses_before (level_row 1 c) (sy.Close ki.Yield) [] (level_ok 1 c) refl refl) refl
+rule_ok ru.AfterYield c e = or_ok (true ∷ []) (before (level_row 1 c) (sy.Close ki.Yield ∷ [])) (ch.Absent ∷ ch.Close ki.Yield ∷ [])
+    (uses_before (level_row 1 c) (sy.Close ki.Yield) [] (level_ok 1 c) refl refl) refl
 rule_ok ru.ForHead c e = uses_row (true ∷ []) (row ru.ForHead c) (for_ok c)
 rule_ok ru.AfterForName c e = cc
 rule_ok ru.DeclWord c e = uses_row (false ∷ []) (decl_word_row c) (word_ok c)
@@ -111,7 +119,8 @@ yield_ends : (c : Class) → ends_row (row ru.AfterYield c) ≡ true
 yield_ends (cl.Sign si.Colon) = refl
 yield_ends c = by (level_row 1 c) (level_ok 1 c)
   where
-    by : (r : Row) → uses_ok [] r ≡ true → ends_row (or_skips (before r (sy.Close ki.Yield ∷ [])) (ch.Absent ∷ ch.Close ki.Yield ∷ [])) ≡ true
+    by : (r : Row) → uses_ok [] r ≡ true → ends_row (or_skips (before r (sy.Close ki.Yield ∷ [])) (ch.Absent ∷ ch.Close ki.Yield ∷ [])) ≡
+        true
     by Fault a = refl
     by (Skips cs) a = cc
     by (Uses cs ss) a = ends_before [] (Uses cs ss) (sy.Close ki.Yield) [] a refl

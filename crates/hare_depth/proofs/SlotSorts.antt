@@ -76,7 +76,8 @@ word_ok _ = refl
 
 values_ok : (c : Class) → uses_ok [] (of_row so.Values c) ≡ true
 unfolding nodes_in follows
-values_ok c = uses_led ch.Open (false ∷ []) [] (before (level_row 1 c) (rest_of 1 ki.Values)) refl refl (uses_behind (level_row 1 c) (rest_of 1 ki.Values) (level_ok 1 c) refl refl)
+values_ok c = uses_led ch.Open (false ∷ []) [] (before (level_row 1 c) (rest_of 1 ki.Values)) refl refl
+    (uses_behind (level_row 1 c) (rest_of 1 ki.Values) (level_ok 1 c) refl refl)
 
 pub of_ok : (s : Sort) (c : Class) → uses_ok [] (of_row s c) ≡ true
 unfolding nodes_in follows

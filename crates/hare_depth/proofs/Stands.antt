@@ -39,7 +39,13 @@ below_placed n (f ∷ g ∷ fs) e =
 
 -- where the token is used, the next one comes
 pub stands_next : (n : ℕ) (bs : List Bool) (fs : List Frame) → Stands n n bs fs → Stands n (suc n) bs fs
-stands_next n bs fs s = record { fitting = s.fitting; ordered = s.ordered; below = below_later n (suc n) fs (omega arith) s.below; placed = s.placed }
+stands_next n bs fs s = record {
+  fitting = s.fitting;
+  ordered = s.ordered;
+  below = below_later n (suc n) fs (omega arith) s.below;
+  placed =
+      s.placed;
+}
 
 -- ---- kids that are put
 
@@ -52,9 +58,15 @@ put_placed n m [] e = e
 put_placed n m (f ∷ fs) e = e
 
 pub absent_stands : (n m : ℕ) (bs : List Bool) (fs : List Frame) → Stands n m bs fs → Stands n m bs (put (leaf_mark ki.None 1) fs)
-absent_stands n m bs fs s = record { fitting = put_fits (leaf_mark ki.None 1) bs fs s.fitting; ordered = absent_ordered n fs s.ordered; below = absent_below n m fs s.below; placed = put_placed n (leaf_mark ki.None 1) fs s.placed }
+absent_stands n m bs fs s = record {
+  fitting = put_fits (leaf_mark ki.None 1) bs fs s.fitting;
+  ordered = absent_ordered n fs s.ordered;
+  below = absent_below n m fs s.below;
+  placed = put_placed n (leaf_mark ki.None 1) fs s.placed;
+}
 
-pub leaf_stands : (n : ℕ) (k : Kind) (bs : List Bool) (fs : List Frame) → Stands n (suc n) bs fs → Stands n (suc n) bs (put (leaf_mark k n) fs)
+pub leaf_stands : (n : ℕ) (k : Kind) (bs : List Bool) (fs : List Frame) → Stands n (suc n) bs fs →
+    Stands n (suc n) bs (put (leaf_mark k n) fs)
 leaf_stands n k bs [] s = s
 leaf_stands n k bs (f ∷ fs) s =
     let at = split (nat_le f.at n) (at_most n fs) s.placed in
@@ -67,7 +79,8 @@ leaf_stands n k bs (f ∷ fs) s =
 
 -- ---- trees that are begun and closed
 
-pub open_stands : (n : ℕ) (b : Bool) (bs : List Bool) (fs : List Frame) → Stands n (suc n) bs fs → Stands n (suc n) (b ∷ bs) (record { at = n; kids = [] } ∷ fs)
+pub open_stands : (n : ℕ) (b : Bool) (bs : List Bool) (fs : List Frame) → Stands n (suc n) bs fs →
+    Stands n (suc n) (b ∷ bs) (record { at = n; kids = [] } ∷ fs)
 unfolding is_ordered
 open_stands n b bs [] s = absurd (omega (arith, s.fitting))
 open_stands n b bs (f ∷ fs) s =
@@ -95,7 +108,8 @@ close_stands n m k bs (f ∷ fs) s =
 
 -- ---- the changes of rows that pass the check
 
-pub quiet_stands : (n : ℕ) (c : Change) (bs : List Bool) (fs : List Frame) → is_quiet c bs ≡ true → Stands n (suc n) (undone c bs) fs → Stands n (suc n) bs (changed n c fs)
+pub quiet_stands : (n : ℕ) (c : Change) (bs : List Bool) (fs : List Frame) → is_quiet c bs ≡ true → Stands n (suc n) (undone c bs) fs →
+    Stands n (suc n) bs (changed n c fs)
 quiet_stands n ch.Absent bs fs q s = absent_stands n (suc n) bs fs s
 quiet_stands n (ch.Mark k) bs fs q s = leaf_stands n k bs fs s
 quiet_stands n (ch.Leaf k) bs fs q s = leaf_stands n k bs fs s
@@ -106,7 +120,8 @@ quiet_stands n ch.Join bs fs q s = s
 quiet_stands n (ch.Close k) bs fs q s = close_stands n (suc n) k bs fs s
 quiet_stands n _ bs fs q s = cc
 
-pub loud_stands : (n : ℕ) (c : Change) (bs : List Bool) (fs : List Frame) → is_loud c bs ≡ true → Stands n (suc n) (undone c bs) fs → Stands n (suc n) bs (changed n c fs)
+pub loud_stands : (n : ℕ) (c : Change) (bs : List Bool) (fs : List Frame) → is_loud c bs ≡ true → Stands n (suc n) (undone c bs) fs →
+    Stands n (suc n) bs (changed n c fs)
 loud_stands n (ch.Mark k) bs fs q s = leaf_stands n k bs fs s
 loud_stands n (ch.Leaf k) bs fs q s = leaf_stands n k bs fs s
 loud_stands n ch.Open [] fs q s = cc

@@ -1,4 +1,5 @@
--- Each token that is used adds to the limits that are passed what the gauge finds then, and where nothing more is waited for nothing is added.
+-- Each token that is used adds to the limits that are passed what the gauge finds then, and where nothing more is waited for nothing is
+-- added.
 use Rattle.std.proofs.Common.{◌≡◌, ℕ, List, [], ◌∷◌, ◌++◌, Bool, true, false, ◌⊎◌, inl, inr, refl, subst}
 use Rattle.hare_tree.specs.declared.token.Token.{Token}
 use Rattle.hare_tree.specs.declared.form.Sign.{Sign}
@@ -29,7 +30,8 @@ use Rattle.hare_depth.proofs.LateSteps.{for_name_never_over, for_name_stepped, i
 
 -- ---- all rules
 
-row_skipped : (f : ℕ) (t : Token) (c : Class) (r : Rule) (cs : List Change) (st : List Symbol) (gs : List Group) → row r c ≡ Skips cs → Held t.place.line (part r ∷ st) (frames gs) → Skipped t.place.line (part r ∷ st) gs st (all_changed f t cs gs)
+row_skipped : (f : ℕ) (t : Token) (c : Class) (r : Rule) (cs : List Change) (st : List Symbol) (gs : List Group) → row r c ≡ Skips cs →
+    Held t.place.line (part r ∷ st) (frames gs) → Skipped t.place.line (part r ∷ st) gs st (all_changed f t cs gs)
 row_skipped f t c (ru.Own o) cs st gs i h = own_skipped f t c o cs st gs i h
 row_skipped f t c ru.PathName cs st gs i h = absurd (name_never_over c cs i)
 row_skipped f t c (ru.Climb l k) cs st gs i h = climb_skipped f t c l k cs st gs i h
@@ -40,7 +42,8 @@ row_skipped f t c ru.AfterForName cs st gs i h = absurd (for_name_never_over c c
 row_skipped f t c ru.AfterUseName cs st gs i h = absurd (import_never_over c cs i)
 row_skipped f t c r cs st gs i h = rule_skipped f t c r cs st gs refl i h
 
-row_stepped : (f : ℕ) (t : Token) (c : Class) (r : Rule) (cs : List Change) (ss st : List Symbol) (gs : List Group) → row r c ≡ Uses cs ss → Held t.place.line (part r ∷ st) (frames gs) → Stepped t.place.line c (part r ∷ st) gs (ss ++ st) (all_changed f t cs gs)
+row_stepped : (f : ℕ) (t : Token) (c : Class) (r : Rule) (cs : List Change) (ss st : List Symbol) (gs : List Group) → row r c ≡ Uses cs ss →
+    Held t.place.line (part r ∷ st) (frames gs) → Stepped t.place.line c (part r ∷ st) gs (ss ++ st) (all_changed f t cs gs)
 row_stepped f t c (ru.Own o) cs ss st gs i h = own_stepped f t c o cs ss st gs i h
 row_stepped f t c ru.PathName cs ss st gs i h = name_stepped f t c cs ss st gs i h
 row_stepped f t c (ru.Climb l k) cs ss st gs i h = climb_stepped f t c l k cs ss st gs i h
@@ -52,21 +55,27 @@ row_stepped f t c ru.AfterUseName cs ss st gs i h = import_stepped f t c cs ss s
 row_stepped f t c r cs ss st gs i h = rule_stepped f t c r cs ss st gs refl i h
 
 -- a sign that is waited for
-want_stepped : (t : Token) (c : Class) (d : Sign) (st : List Symbol) (gs : List Group) → Held t.place.line (sy.Want d ∷ st) (frames gs) → Stepped t.place.line c (sy.Want d ∷ st) gs st gs
+want_stepped : (t : Token) (c : Class) (d : Sign) (st : List Symbol) (gs : List Group) → Held t.place.line (sy.Want d ∷ st) (frames gs) →
+    Stepped t.place.line c (sy.Want d ∷ st) gs st gs
 unfolding nodes_in
 want_stepped t c d st gs h =
     let n = t.place.line in
     let bs = nodes_in st in
-    grown_stepped n c (sy.Want d ∷ st) st gs gs (grows_none n (pile_faults bs gs) (pile_faults bs gs) (found bs (frames gs)) (gains_refl (pile_faults bs gs))) (stands_next n bs (frames gs) (held_stands n (sy.Want d ∷ st) gs h)) (follows_tail (sy.Want d) st h.following) (ready_next (sy.Want d) st (frames gs) refl h.following (λ j. cc))
+    grown_stepped n c (sy.Want d ∷ st) st gs gs
+    (grows_none n (pile_faults bs gs) (pile_faults bs gs) (found bs (frames gs)) (gains_refl (pile_faults bs gs)))
+    (stands_next n bs (frames gs) (held_stands n (sy.Want d ∷ st) gs h)) (follows_tail (sy.Want d) st h.following)
+    (ready_next (sy.Want d) st (frames gs) refl h.following (λ j. cc))
 
 -- ---- steps
 
 -- a token that is used behind a rule that is over
-stepped_behind : (n : ℕ) (c : Class) (st u st' : List Symbol) (gs hs gs' : List Group) → Skipped n st gs u hs → (calm_step c st ≡ true → calm_step c u ≡ true) → Stepped n c u hs st' gs' → Stepped n c st gs st' gs'
+stepped_behind : (n : ℕ) (c : Class) (st u st' : List Symbol) (gs hs gs' : List Group) → Skipped n st gs u hs →
+    (calm_step c st ≡ true → calm_step c u ≡ true) → Stepped n c u hs st' gs' → Stepped n c st gs st' gs'
 stepped_behind n c st u st' gs hs gs' k q s =
     record {
       held = s.held;
-      gains = gains_then (pile_faults (nodes_in st) gs) (pile_faults (nodes_in u) hs) (pile_faults (nodes_in st') gs') (found (nodes_in st') (frames gs')) k.gains s.gains;
+      gains = gains_then (pile_faults (nodes_in st) gs) (pile_faults (nodes_in u) hs) (pile_faults (nodes_in st') gs')
+          (found (nodes_in st') (frames gs')) k.gains s.gains;
       calm = λ e x i. by x (s.calm (q e) x i);
     }
   where
@@ -79,18 +88,21 @@ stepped_behind n c st u st' gs hs gs' k q s =
     by x (inr e) = inr e
 
 -- what has come of a step
-gone : (n : ℕ) (c : Class) (st u st' : List Symbol) (gs hs gs' : List Group) → Goes u hs ≡ Goes st' gs' → Stepped n c st gs u hs → Stepped n c st gs st' gs'
+gone : (n : ℕ) (c : Class) (st u st' : List Symbol) (gs hs gs' : List Group) → Goes u hs ≡ Goes st' gs' → Stepped n c st gs u hs →
+    Stepped n c st gs st' gs'
 gone n c st u st' gs hs gs' e s =
     let a : u ≡ st' = cc in
     let b : hs ≡ gs' = cc in
     subst (λ y. Stepped n c st gs y gs') a (subst (λ y. Stepped n c st gs u y) b s)
 
-step_gains : (f : ℕ) (t : Token) (c : Class) (st st' : List Symbol) (gs gs' : List Group) → Held t.place.line st (frames gs) → step f t c st gs ≡ Goes st' gs' → Stepped t.place.line c st gs st' gs'
+step_gains : (f : ℕ) (t : Token) (c : Class) (st st' : List Symbol) (gs gs' : List Group) → Held t.place.line st (frames gs) →
+    step f t c st gs ≡ Goes st' gs' → Stepped t.place.line c st gs st' gs'
 unfolding step calm_step
 step_gains f t c [] st' gs gs' h e = cc
 step_gains f t c (sy.Close k ∷ st) st' gs gs' h e =
     let s = close_skipped t.place.line k st gs h in
-    stepped_behind t.place.line c (sy.Close k ∷ st) st st' gs (close k gs) gs' s (λ i. i) (step_gains f t c st st' (close k gs) gs' s.held e)
+    stepped_behind t.place.line c (sy.Close k ∷ st) st st' gs (close k gs) gs' s (λ i. i)
+    (step_gains f t c st st' (close k gs) gs' s.held e)
 step_gains f t c (sy.Want d ∷ st) st' gs gs' h e = by (has_sign d c) e
   where
     by : (b : Bool) → wanted b (Goes st gs) ≡ Goes st' gs' → Stepped t.place.line c (sy.Want d ∷ st) gs st' gs'
@@ -98,24 +110,31 @@ step_gains f t c (sy.Want d ∷ st) st' gs gs' h e = by (has_sign d c) e
     by false e = cc
 step_gains f t c (sy.Part r ∷ st) st' gs gs' h e = by (row r c) refl e (λ hs i j. step_gains f t c st st' hs gs' i j)
   where
-    by : (y : Row) → row r c ≡ y → acted y f t st gs (λ hs. step f t c st hs) ≡ Goes st' gs' → ((hs : List Group) → Held t.place.line st (frames hs) → step f t c st hs ≡ Goes st' gs' → Stepped t.place.line c st hs st' gs') → Stepped t.place.line c (part r ∷ st) gs st' gs'
+    by : (y : Row) → row r c ≡ y → acted y f t st gs (λ hs. step f t c st hs) ≡ Goes st' gs' →
+        ((hs : List Group) → Held t.place.line st (frames hs) → step f t c st hs ≡ Goes st' gs' → Stepped t.place.line c st hs st' gs') →
+        Stepped t.place.line c (part r ∷ st) gs st' gs'
     by Fault i e k = cc
     by (Skips cs) i e k =
         let s = row_skipped f t c r cs st gs i h in
-        stepped_behind t.place.line c (part r ∷ st) st st' gs (all_changed f t cs gs) gs' s (λ j. subst (λ y. calm_row y (is_calm r c) (calm_step c st) ≡ true) i j) (k (all_changed f t cs gs) s.held e)
-    by (Uses cs ss) i e k = gone t.place.line c (part r ∷ st) (ss ++ st) st' gs (all_changed f t cs gs) gs' e (row_stepped f t c r cs ss st gs i h)
+        stepped_behind t.place.line c (part r ∷ st) st st' gs (all_changed f t cs gs) gs' s
+        (λ j. subst (λ y. calm_row y (is_calm r c) (calm_step c st) ≡ true) i j) (k (all_changed f t cs gs) s.held e)
+    by (Uses cs ss) i e k = gone t.place.line c (part r ∷ st) (ss ++ st) st' gs (all_changed f t cs gs) gs' e
+        (row_stepped f t c r cs ss st gs i h)
 
 pub steps_gain : StepsGain
 steps_gain f t st st' gs gs' h e = step_gains f t (class_of t) st st' gs gs' h e
 
 -- ---- where nothing more is waited for
 
-step_ends : (f : ℕ) (t : Token) (c : Class) (st : List Symbol) (gs made : List Group) → Held t.place.line st (frames gs) → step f t c st gs ≡ Ends made → Gains (pile_faults (nodes_in st) gs) (pile_faults [] made) []
+step_ends : (f : ℕ) (t : Token) (c : Class) (st : List Symbol) (gs made : List Group) → Held t.place.line st (frames gs) →
+    step f t c st gs ≡ Ends made → Gains (pile_faults (nodes_in st) gs) (pile_faults [] made) []
 unfolding step nodes_in
-step_ends f t c [] gs made h e = let a : gs ≡ made = cc in subst (λ y. Gains (pile_faults [] gs) (pile_faults [] y) []) a (gains_refl (pile_faults [] gs))
+step_ends f t c [] gs made h e =
+    let a : gs ≡ made = cc in subst (λ y. Gains (pile_faults [] gs) (pile_faults [] y) []) a (gains_refl (pile_faults [] gs))
 step_ends f t c (sy.Close k ∷ st) gs made h e =
     let s = close_skipped t.place.line k st gs h in
-    gains_then (pile_faults (nodes_in (sy.Close k ∷ st)) gs) (pile_faults (nodes_in st) (close k gs)) (pile_faults [] made) [] s.gains (step_ends f t c st (close k gs) made s.held e)
+    gains_then (pile_faults (nodes_in (sy.Close k ∷ st)) gs) (pile_faults (nodes_in st) (close k gs)) (pile_faults [] made) [] s.gains
+    (step_ends f t c st (close k gs) made s.held e)
 step_ends f t c (sy.Want d ∷ st) gs made h e = by (has_sign d c) e
   where
     by : (b : Bool) → wanted b (Goes st gs) ≡ Ends made → Gains (pile_faults (nodes_in st) gs) (pile_faults [] made) []
@@ -123,11 +142,15 @@ step_ends f t c (sy.Want d ∷ st) gs made h e = by (has_sign d c) e
     by false e = cc
 step_ends f t c (sy.Part r ∷ st) gs made h e = by (row r c) refl e (λ hs i j. step_ends f t c st hs made i j)
   where
-    by : (y : Row) → row r c ≡ y → acted y f t st gs (λ hs. step f t c st hs) ≡ Ends made → ((hs : List Group) → Held t.place.line st (frames hs) → step f t c st hs ≡ Ends made → Gains (pile_faults (nodes_in st) hs) (pile_faults [] made) []) → Gains (pile_faults (nodes_in (part r ∷ st)) gs) (pile_faults [] made) []
+    by : (y : Row) → row r c ≡ y → acted y f t st gs (λ hs. step f t c st hs) ≡ Ends made →
+        ((hs : List Group) → Held t.place.line st (frames hs) → step f t c st hs ≡ Ends made →
+        Gains (pile_faults (nodes_in st) hs) (pile_faults [] made) []) →
+        Gains (pile_faults (nodes_in (part r ∷ st)) gs) (pile_faults [] made) []
     by Fault i e k = cc
     by (Skips cs) i e k =
         let s = row_skipped f t c r cs st gs i h in
-        gains_then (pile_faults (nodes_in (part r ∷ st)) gs) (pile_faults (nodes_in st) (all_changed f t cs gs)) (pile_faults [] made) [] s.gains (k (all_changed f t cs gs) s.held e)
+        gains_then (pile_faults (nodes_in (part r ∷ st)) gs) (pile_faults (nodes_in st) (all_changed f t cs gs)) (pile_faults [] made) []
+        s.gains (k (all_changed f t cs gs) s.held e)
     by (Uses cs ss) i e k = cc
 
 pub steps_end : StepsEnd

@@ -24,24 +24,30 @@ use Rattle.hare_depth.proofs.Closings.{Closed, closed}
 -- ---- a tree that goes on is read again
 
 -- what is told behind a front is a fault of each tree that goes on with it
-pub told_again : {T : Type 0} → StepsGain → StepsEnd → (l : Language T) (st : List Symbol) → Reads l st → (u : List Token) (next : List Symbol) (trees : List Group) (told : List ℕ) (k : ℕ) → Reaches 0 u st bottom next trees told → k < length u → IsOn (line_of u k) told → (ts : List Token) (tree : T) → (r : Reread l st ts tree) → IsFront u (r.used ++ r.last ∷ []) → IsOn k (l.deep_of tree)
+pub told_again : {T : Type 0} → StepsGain → StepsEnd → (l : Language T) (st : List Symbol) → Reads l st →
+    (u : List Token) (next : List Symbol) (trees : List Group) (told : List ℕ) (k : ℕ) → Reaches 0 u st bottom next trees told →
+    k < length u → IsOn (line_of u k) told → (ts : List Token) (tree : T) → (r : Reread l st ts tree) → IsFront u (r.used ++ r.last ∷ []) →
+    IsOn k (l.deep_of tree)
 told_again sg se l st s u next trees told k r e i ts tree q f = by (cases_lt (length q.used) (length u))
   where
     w : Whole st q.used q.made
     w = whole sg se st s.held s.none q.used q.last q.top q.made q.ascends q.done
 
     -- the fault stands at the same index
-    same : (j : ℕ) → IsOn j (l.deep_of tree) → line_of u k ≡ line_of (q.used ++ q.last ∷ []) j → length u ≤ length q.used → IsOn k (l.deep_of tree)
+    same : (j : ℕ) → IsOn j (l.deep_of tree) → line_of u k ≡ line_of (q.used ++ q.last ∷ []) j → length u ≤ length q.used →
+        IsOn k (l.deep_of tree)
     same j y d m =
         let b = q.faulty.within j y in
         let c = length-append q.used (q.last ∷ []) in
-        let n : j ≡ k = line_once 1 (q.used ++ q.last ∷ []) q.top j k q.ascends (omega (arith, b, c)) (omega (arith, e, m, c)) (sym d ∙ sym (front_line u (q.used ++ q.last ∷ []) f k e)) in
+        let n : j ≡ k = line_once 1 (q.used ++ q.last ∷ []) q.top j k q.ascends (omega (arith, b, c)) (omega (arith, e, m, c))
+        (sym d ∙ sym (front_line u (q.used ++ q.last ∷ []) f k e)) in
         subst (λ x. IsOn x (l.deep_of tree)) n y
 
     by : (length q.used < length u) ⊎ (length u ≤ length q.used) → IsOn k (l.deep_of tree)
     by (inl m) = absurd (not_all_used st next u q.used q.last trees q.made told r f m q.done)
     by (inr m) =
-        let x = told_in_front st next w.next u q.used trees w.trees told w.told r w.reaches (front_short u q.used (q.last ∷ []) f m) (line_of u k) i in
+        let x = told_in_front st next w.next u q.used trees w.trees told w.told r w.reaches (front_short u q.used (q.last ∷ []) f m)
+        (line_of u k) i in
         let y = (gains_back _ (pile_faults [] q.made) q.faulty.faults).kept (line_of u k) (w.gains.gained (line_of u k) x) in
         let j = on_map (line_of (q.used ++ q.last ∷ [])) (line_of u k) (l.deep_of tree) y in
         same j.0 j.1 j.2 m
@@ -70,7 +76,8 @@ first_at q u n k e d i =
     }
 
 -- what is told stands among the tokens that are used
-told_first : {T : Type 0} (l : Language T) (q u : List Token) (told : List ℕ) (high n : ℕ) → u ≡ joined (numbered 1 q) → Closed l u told high → suc n < high → IsOn (suc n) told → First q u n
+told_first : {T : Type 0} (l : Language T) (q u : List Token) (told : List ℕ) (high n : ℕ) → u ≡ joined (numbered 1 q) →
+    Closed l u told high → suc n < high → IsOn (suc n) told → First q u n
 told_first l q u told high n e c d i = by (on_map (line_of (u ++ c.after)) (suc n) (l.deep_of c.tree) (c.forced (suc n) i))
   where
     by : (k : ℕ) × IsOn k (l.deep_of c.tree) × (suc n ≡ line_of (u ++ c.after) k) → First q u n
@@ -81,12 +88,15 @@ told_first l q u told high n e c d i = by (on_map (line_of (u ++ c.after)) (suc 
         test (inr x) = let y = line_behind u c.after high c.top m.0 c.ascends x (c.within m.0 m.1) in absurd (omega (arith, y, m.2, d))
 
 -- all that is told behind tokens that are used
-told_there : {T : Type 0} → StepsGain → StepsEnd → (l : Language T) (st : List Symbol) → Reads l st → (ts u : List Token) (next : List Symbol) (trees : List Group) (told : List ℕ) (n : ℕ) → Reaches 0 u st bottom next trees told → IsOn (suc n) told → FrontAt ts u → IsDepthFault l ts n
+told_there : {T : Type 0} → StepsGain → StepsEnd → (l : Language T) (st : List Symbol) → Reads l st →
+    (ts u : List Token) (next : List Symbol) (trees : List Group) (told : List ℕ) (n : ℕ) → Reaches 0 u st bottom next trees told →
+    IsOn (suc n) told → FrontAt ts u → IsDepthFault l ts n
 told_there sg se l st s ts u next trees told n r i f =
     let q = take f.read ts in
     let size : length q ≡ f.read = length-take-le f.read ts f.within in
     let high = suc (suc n) + f.read in
-    let asc : Ascends 1 u high = subst (λ v. Ascends 1 v high) (sym f.is) (ascends_to 1 (joined (numbered 1 q)) (1 + length q) high (omega (arith, size)) (joined_ascends 1 q)) in
+    let asc : Ascends 1 u high = subst (λ v. Ascends 1 v high) (sym f.is)
+    (ascends_to 1 (joined (numbered 1 q)) (1 + length q) high (omega (arith, size)) (joined_ascends 1 q)) in
     let c = closed sg se l st s u next trees told high asc r in
     let a = told_first l q u told high n f.is c (omega arith) i in
     let g = goes_on_with l st s q u c.behind c.tree c.shaped f.is c.spelled in
@@ -101,12 +111,17 @@ told_there sg se l st s ts u next trees told n r i f =
       forced = λ tree h. again q a tree h (s.rereads (q ++ h.behind) tree h.shaped h.spelled) f.is;
     }
   where
-    again : (q : List Token) (a : First q u n) (tree : _) (h : GoesOn l q tree) → Reread l st (q ++ h.behind) tree → u ≡ joined (numbered 1 q) → IsOn a.at (l.deep_of tree)
+    again : (q : List Token) (a : First q u n) (tree : _) (h : GoesOn l q tree) → Reread l st (q ++ h.behind) tree →
+        u ≡ joined (numbered 1 q) → IsOn a.at (l.deep_of tree)
     again q a tree h k e =
-        let x : IsFront u (joined (numbered 1 (q ++ h.behind))) = subst (λ v. IsFront v (joined (numbered 1 (q ++ h.behind)))) (sym e) (front_numbered q h.behind) in
-        told_again sg se l st s u next trees told a.at r a.within (subst (λ y. IsOn y told) (sym a.line) i) (q ++ h.behind) tree k (front_of_reread l st u (q ++ h.behind) tree k x)
+        let x : IsFront u (joined (numbered 1 (q ++ h.behind))) =
+        subst (λ v. IsFront v (joined (numbered 1 (q ++ h.behind)))) (sym e) (front_numbered q h.behind) in
+        told_again sg se l st s u next trees told a.at r a.within (subst (λ y. IsOn y told) (sym a.line) i) (q ++ h.behind) tree k
+        (front_of_reread l st u (q ++ h.behind) tree k x)
 
-pub told_faults : {T : Type 0} → StepsGain → StepsEnd → (l : Language T) (st : List Symbol) → Reads l st → (ts : List Token) (n : ℕ) → IsOn (suc n) (gauge (seen ts) st start).faults → IsDepthFault l ts n
+pub told_faults : {T : Type 0} → StepsGain → StepsEnd → (l : Language T) (st : List Symbol) → Reads l st → (ts : List Token) (n : ℕ) →
+    IsOn (suc n) (gauge (seen ts) st start).faults → IsDepthFault l ts n
 told_faults sg se l st s ts n i =
     let h = halting 0 (joined (numbered 1 ts)) st bottom in
-    told_there sg se l st s ts h.used h.next h.trees h.told n h.reaches (subst (IsOn (suc n)) (halting_faults 0 (joined (numbered 1 ts)) st bottom h) i) (front_at ts h.used h.rest h.split)
+    told_there sg se l st s ts h.used h.next h.trees h.told n h.reaches
+    (subst (IsOn (suc n)) (halting_faults 0 (joined (numbered 1 ts)) st bottom h) i) (front_at ts h.used h.rest h.split)

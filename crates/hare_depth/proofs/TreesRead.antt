@@ -52,7 +52,8 @@ pub record MadeTree (s : Sort) (u : List Token) (z : Token) (made : List Group) 
   pub spelled : spell 0 tree ≡ map unplaced u
   pub faulty : Faulty (trees_of s) u z tree made
 
-pub made_tree : (s : Sort) → has_trees s ≡ true → (u : List Token) (z : Token) (top : ℕ) (made : List Group) → Ascends 1 (u ++ z ∷ []) top → run 0 (u ++ z ∷ []) (of s ∷ []) bottom ≡ Done (z ∷ []) made → MadeTree s u z made
+pub made_tree : (s : Sort) → has_trees s ≡ true → (u : List Token) (z : Token) (top : ℕ) (made : List Group) → Ascends 1 (u ++ z ∷ []) top →
+    run 0 (u ++ z ∷ []) (of s ∷ []) bottom ≡ Done (z ∷ []) made → MadeTree s u z made
 made_tree s c u z top made a d =
     let w = u ++ z ∷ [] in
     let r = runs_read_trees s 0 w (z ∷ []) made d in
@@ -62,14 +63,17 @@ made_tree s c u z top made a d =
     let within : length (spell 0 r.tree) ≤ length w = omega (arith, n, length-append u (z ∷ [])) in
     let rise = rises w top a in
     let g = agrees 0 w 0 r.tree rise (shaped_has_form s r.tree r.shaped) (omega (arith, within)) r.placed in
-    let first : (mark r.tree).node ≡ true → 0 < (mark r.tree).first = λ b. (let q = sym (node_mark r.tree) ∙ b in let x = node_some r.tree q in let y = rise.0 0 (omega (arith, x, within)) in subst (λ k. 0 < k) (sym (g.first q)) y) in
+    let first : (mark r.tree).node ≡ true → 0 < (mark r.tree).first =
+    λ b. (let q = sym (node_mark r.tree) ∙ b in let x = node_some r.tree q in let y = rise.0 0 (omega (arith, x, within)) in subst
+    (λ k. 0 < k) (sym (g.first q)) y) in
     let p : pile_faults [] made ≡ faults_of 0 r.tree = ap (pile_faults []) r.is_made ∙ pile_of_tree r.tree first in
     record {
       tree = r.tree;
       shaped = r.shaped;
       spelled = e;
       faulty = record {
-        faults = subst (λ l. Gains (map (line_of w) (deep_root r.tree)) l []) (sym p) (faults_agree s c 0 w r.tree rise r.shaped within r.placed);
+        faults = subst (λ l. Gains (map (line_of w) (deep_root r.tree)) l []) (sym p)
+            (faults_agree s c 0 w r.tree rise r.shaped within r.placed);
         within = λ k x. let y = root_inside s r.tree r.shaped k x in omega (arith, y, n);
       };
     }
@@ -81,24 +85,30 @@ reread_end s ts = with_number (1 + length ts) (sign_token 0 (closer s))
 
 reread_ascends : (s : Sort) (ts : List Token) → Ascends 1 (joined (numbered 1 ts) ++ reread_end s ts ∷ []) (2 + length ts)
 unfolding Ascends
-reread_ascends s ts = ascends_append 1 (joined (numbered 1 ts)) (1 + length ts) (reread_end s ts ∷ []) (2 + length ts) (joined_ascends 1 ts) (omega arith, omega arith)
+reread_ascends s ts = ascends_append 1 (joined (numbered 1 ts)) (1 + length ts) (reread_end s ts ∷ []) (2 + length ts) (joined_ascends 1 ts)
+    (omega arith, omega arith)
 
 -- the tokens of the tree, but for places
-reread_tokens : (s : Sort) → has_trees s ≡ true → (ts : List Token) (t : Node) → is_shaped s t ≡ true → Spells (spell 0 t) ts → map unplaced (joined (numbered 1 ts)) ≡ spell 0 t
+reread_tokens : (s : Sort) → has_trees s ≡ true → (ts : List Token) (t : Node) → is_shaped s t ≡ true → Spells (spell 0 t) ts →
+    map unplaced (joined (numbered 1 ts)) ≡ spell 0 t
 reread_tokens s c ts t h e = unplaced_both 1 ts ∙ sym e ∙ spell_moved 0 t
 
-reread_classes : (s : Sort) (ts : List Token) (t : Node) → map unplaced (joined (numbered 1 ts)) ≡ spell 0 t → classes (joined (numbered 1 ts) ++ reread_end s ts ∷ []) ≡ classes (spell 0 t ++ sign_token 0 (closer s) ∷ [])
+reread_classes : (s : Sort) (ts : List Token) (t : Node) → map unplaced (joined (numbered 1 ts)) ≡ spell 0 t →
+    classes (joined (numbered 1 ts) ++ reread_end s ts ∷ []) ≡ classes (spell 0 t ++ sign_token 0 (closer s) ∷ [])
 reread_classes s ts t e =
     let z = sign_token 0 (closer s) in
-    plain_classes _ _ (map-append unplaced (joined (numbered 1 ts)) (reread_end s ts ∷ []) ∙ ap (λ l. l ++ z ∷ []) (e ∙ sym (spell_moved 0 t)) ∙ sym (map-append unplaced (spell 0 t) (z ∷ [])))
+    plain_classes _ _ (map-append unplaced (joined (numbered 1 ts)) (reread_end s ts ∷ []) ∙ ap (λ l. l ++ z ∷ [])
+    (e ∙ sym (spell_moved 0 t)) ∙ sym (map-append unplaced (spell 0 t) (z ∷ [])))
 
-pub reread_tree : (s : Sort) → has_trees s ≡ true → (ts : List Token) (t : Node) → is_shaped s t ≡ true → Spells (spell 0 t) ts → Reread (trees_of s) (of s ∷ []) ts t
+pub reread_tree : (s : Sort) → has_trees s ≡ true → (ts : List Token) (t : Node) → is_shaped s t ≡ true → Spells (spell 0 t) ts →
+    Reread (trees_of s) (of s ∷ []) ts t
 reread_tree s c ts t h e =
     let o = trees_sort s c in
     let u = joined (numbered 1 ts) in
     let z = reread_end s ts in
     let i = reread_tokens s c ts t h e in
-    let d = done_like 0 0 u (spell 0 t ++ sign_token 0 (closer s) ∷ []) z (sign_token 0 (closer s)) (of s ∷ []) bottom bottom _ (reread_classes s ts t i) (read_whole 0 s t o h) in
+    let d = done_like 0 0 u (spell 0 t ++ sign_token 0 (closer s) ∷ []) z (sign_token 0 (closer s)) (of s ∷ []) bottom bottom _
+    (reread_classes s ts t i) (read_whole 0 s t o h) in
     let a = reread_ascends s ts in
     let m = made_tree s c u z (2 + length ts) d.0 a d.1 in
     let p = roots_pass_alike m.tree t (sorts_have_one_tree 0 s o m.tree t m.shaped h (m.spelled ∙ i)) in
@@ -129,4 +139,11 @@ reads_trees s c = record {
 }
   where
     read_tree : (u : List Token) (z : Token) (made : List Group) → MadeTree s u z made → Read (trees_of s) u z made
-    read_tree u z made m = record { tree = m.tree; tail = []; shaped = m.shaped; spelled = spell_moved 0 m.tree ∙ m.spelled ∙ ap (map unplaced) (sym (append-nil u)); faulty = m.faulty }
+    read_tree u z made m = record {
+      tree = m.tree;
+      tail = [];
+      shaped = m.shaped;
+      spelled = spell_moved 0 m.tree ∙ m.spelled ∙ ap
+          (map unplaced) (sym (append-nil u));
+      faulty = m.faulty;
+    }

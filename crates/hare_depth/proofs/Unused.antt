@@ -47,13 +47,15 @@ step_unused n (sy.Close k ∷ st) st' fs fs' e = step_unused n st st' (close k f
 step_unused n (sy.Want s ∷ st) st' fs fs' e = cc
 step_unused n (sy.Part r ∷ st) st' fs fs' e = by (row r cl.Junk) (unused r) e (λ gs q. step_unused n st st' gs fs' q)
   where
-    by : (z : Row) → uses z ≡ false → acted z n st fs (λ gs. step n cl.Junk st gs) ≡ Goes st' fs' → ((gs : List Frame) → step n cl.Junk st gs ≡ Goes st' fs' → ⊥) → ⊥
+    by : (z : Row) → uses z ≡ false → acted z n st fs (λ gs. step n cl.Junk st gs) ≡ Goes st' fs' →
+        ((gs : List Frame) → step n cl.Junk st gs ≡ Goes st' fs' → ⊥) → ⊥
     by Fault u e k = cc
     by (Skips cs) u e k = k _ e
     by (Uses cs ss) u e k = cc
 
 -- the gauge tells the same with such a token behind all others
-pub gauge_unused : (w : List Seen) (x : Seen) (st : List Symbol) (fs : List Frame) → x.class ≡ cl.Junk → (gauge (w ++ x ∷ []) st fs).faults ≡ (gauge w st fs).faults
+pub gauge_unused : (w : List Seen) (x : Seen) (st : List Symbol) (fs : List Frame) → x.class ≡ cl.Junk →
+    (gauge (w ++ x ∷ []) st fs).faults ≡ (gauge w st fs).faults
 unfolding gauge
 gauge_unused [] x st fs c = by (step x.number x.class st fs) refl
   where
@@ -63,7 +65,8 @@ gauge_unused [] x st fs c = by (step x.number x.class st fs) refl
     by Stuck e = refl
 gauge_unused (t ∷ w) x st fs c = by (step t.number t.class st fs) (λ st' fs'. gauge_unused w x st' fs' c)
   where
-    by : (s : Step) → ((st' : List Symbol) (fs' : List Frame) → (gauge (w ++ x ∷ []) st' fs').faults ≡ (gauge w st' fs').faults) → (after s t (w ++ x ∷ []) (λ st' fs'. gauge (w ++ x ∷ []) st' fs')).faults ≡ (after s t w (λ st' fs'. gauge w st' fs')).faults
+    by : (s : Step) → ((st' : List Symbol) (fs' : List Frame) → (gauge (w ++ x ∷ []) st' fs').faults ≡ (gauge w st' fs').faults) →
+        (after s t (w ++ x ∷ []) (λ st' fs'. gauge (w ++ x ∷ []) st' fs')).faults ≡ (after s t w (λ st' fs'. gauge w st' fs')).faults
     by (Goes st' fs') k = ap (λ y. found (nodes_in st') fs' ++ y) (k st' fs')
     by (Ends fs') k = refl
     by Stuck k = refl
@@ -73,15 +76,19 @@ gauge_unused (t ∷ w) x st fs c = by (step t.number t.class st fs) (λ st' fs'.
 seen_closed : (ts : List Token) → (x : Seen) × ((seen (closed ts) ≡ seen ts ++ x ∷ []) × (x.class ≡ cl.Junk))
 seen_closed ts =
     let a : numbered 1 (closed ts) ≡ numbered 1 ts ++ numbered (1 + length ts) (end ∷ []) = numbered_append 1 ts (end ∷ []) in
-    let b : joined (numbered 1 (closed ts)) ≡ joined (numbered 1 ts) ++ numbered (1 + length ts) (end ∷ []) = ap joined a ∙ joined_append (numbered 1 ts) (numbered (1 + length ts) (end ∷ [])) (apart (ends_in_string (numbered 1 ts))) in
-    (record { class = cl.Junk; number = 1 + length ts }, (ap (map seen_in) b ∙ map-append seen_in (joined (numbered 1 ts)) (numbered (1 + length ts) (end ∷ [])), refl))
+    let b : joined (numbered 1 (closed ts)) ≡ joined (numbered 1 ts) ++ numbered (1 + length ts) (end ∷ []) =
+    ap joined a ∙ joined_append (numbered 1 ts) (numbered (1 + length ts) (end ∷ [])) (apart (ends_in_string (numbered 1 ts))) in (
+      record { class = cl.Junk; number = 1 + length ts },
+      (ap (map seen_in) b ∙ map-append seen_in (joined (numbered 1 ts)) (numbered (1 + length ts) (end ∷ [])), refl),
+    )
   where
     apart : (b : Bool) → (b && false) ≡ false
     apart true = refl
     apart false = refl
 
 -- the gauge tells the same with End behind the tokens
-pub gauge_closed : (ts : List Token) (st : List Symbol) (fs : List Frame) → (gauge (seen (closed ts)) st fs).faults ≡ (gauge (seen ts) st fs).faults
+pub gauge_closed : (ts : List Token) (st : List Symbol) (fs : List Frame) →
+    (gauge (seen (closed ts)) st fs).faults ≡ (gauge (seen ts) st fs).faults
 gauge_closed ts st fs =
     let q = seen_closed ts in
     ap (λ w. (gauge w st fs).faults) q.1.0 ∙ gauge_unused (seen ts) q.0 st fs q.1.1

@@ -17,7 +17,8 @@ use Rattle.hare_depth.specs.Gauge.{Gauged, gauge, seen, start}
 abbrev pub closed : List Token → List Token
 closed ts = ts ++ word_token 0 tk.End [] ∷ []
 
--- Each token that is told is one at which a limit is passed, and the least such token of the list is told. Tokens are told by numbers from 1.
+-- Each token that is told is one at which a limit is passed, and the least such token of the list is told. Tokens are told by numbers from
+-- 1.
 pub record TellsDepth {T : Type 0} (l : Language T) (ts : List Token) (g : Gauged) : Type 0 where
   pub told : (n : ℕ) → IsOn (suc n) g.faults → IsDepthFault l ts n
   pub least : (n : ℕ) → IsDepthFault l ts n → (m : ℕ) × (m ≤ n) × IsOn (suc m) g.faults
@@ -37,8 +38,11 @@ FileGaugesTell = (ts : List Token) → TellsDepth files ts (gauged_file ts)
 -- a tree that was read while nothing was told keeps the limits
 abbrev pub GaugedTreesFit : Type 0
 GaugedTreesFit =
-    (s : Sort) → has_trees s ≡ true → (file : ℕ) (ts rest : List Token) (tree : Node) → run file (joined ts) (of s ∷ []) bottom ≡ Done rest (add tree bottom) → (gauged s ts).faults ≡ [] → deep_root tree ≡ []
+    (s : Sort) → has_trees s ≡ true → (file : ℕ) (ts rest : List Token) (tree : Node) →
+    run file (joined ts) (of s ∷ []) bottom ≡ Done rest (add tree bottom) → (gauged s ts).faults ≡ [] → deep_root tree ≡ []
 
 abbrev pub GaugedFilesFit : Type 0
 GaugedFilesFit =
-    (file : ℕ) (ts rest : List Token) (uses decls : List Node) → run file (joined ts) file_symbols bottom ≡ Done rest (begun (start_of 0) (uses ++ decls) ∷ []) → (gauged_file ts).faults ≡ [] → files.deep_of (record { file = file; uses = uses; decls = decls }) ≡ []
+    (file : ℕ) (ts rest : List Token) (uses decls : List Node) →
+    run file (joined ts) file_symbols bottom ≡ Done rest (begun (start_of 0) (uses ++ decls) ∷ []) → (gauged_file ts).faults ≡ [] →
+    files.deep_of (record { file = file; uses = uses; decls = decls }) ≡ []

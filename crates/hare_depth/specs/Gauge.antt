@@ -1,4 +1,5 @@
--- The gauge of depth: the grammar's machine over the classes and numbers of tokens, which keeps marks in place of trees and tells the tokens
+-- The gauge of depth: the grammar's machine over the classes and numbers of tokens, which keeps marks in place of trees and tells the
+-- tokens
 -- at which a limit on depth is passed.
 use Rattle.std.specs.Prelude.{ℕ, suc, List, [], ◌∷◌, ◌++◌, map, Bool, true, false, ◌&&◌, nat_le, if◌then◌else◌}
 use Rattle.hare_tree.specs.declared.token.Token.{Token}
@@ -16,7 +17,8 @@ use Rattle.hare_depth.specs.Marks.{Mark, Frame, lies_before, first_in, close, al
 
 -- ---- which of the trees under way are nodes
 
--- For the trees under way that a rule brings to their end, the innermost first, whether each is a node. The `let` of a `for` may yet be a binding,
+-- For the trees under way that a rule brings to their end, the innermost first, whether each is a node. The `let` of a `for` may yet be a
+-- binding,
 -- and the tree round a path may yet be none: they count from the token on that decides it.
 abbrev pub nodes_of_rule : Rule → List Bool
 nodes_of_rule (ru.BehindComma s) = false ∷ []
@@ -142,7 +144,8 @@ start = record { at = 1; kids = [] } ∷ []
 abbrev pub numbered : ℕ → List Token → List Token
 numbered n [] = []
 numbered n (t ∷ ts) =
-    record { kind = t.kind; place = record { file = 0; line = n; column = 1 }; text = t.text; number = t.number; suffix = t.suffix } ∷ numbered (suc n) ts
+    record { kind = t.kind; place = record { file = 0; line = n; column = 1 }; text = t.text; number = t.number; suffix = t.suffix } ∷
+    numbered (suc n) ts
 
 abbrev pub seen_in : Token → Seen
 seen_in t = record { class = class_of t; number = t.place.line }

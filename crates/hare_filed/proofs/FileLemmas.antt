@@ -93,7 +93,8 @@ first-root-file k f t h c =
 -- ---- one behind another
 
 earlier-file : (p q : Place) → p.file < q.file → is_before p q ≡ true
-earlier-file p q l = first (nat_lt p.file q.file) (p.file == q.file && (nat_lt p.line q.line || (p.line == q.line && nat_lt p.column q.column))) (lt-ltb p.file q.file l)
+earlier-file p q l = first (nat_lt p.file q.file)
+    (p.file == q.file && (nat_lt p.line q.line || (p.line == q.line && nat_lt p.column q.column))) (lt-ltb p.file q.file l)
   where
     first : (a b : Bool) → a ≡ true → (a || b) ≡ true
     first true b e = refl
@@ -129,7 +130,8 @@ decls-ascend k (f ∷ fs) t u h p =
     by go (inr (inr q)) = go q
 
 pub stands_before : (p q : Place) → is_before p q ≡ true → StandsBefore p q
-stands_before p q e = ap (λ b. nat_lt p.file q.file || (p.file == q.file && (nat_lt p.line q.line || (p.line == q.line && b)))) (last (nat_lt p.column q.column) (p.column == q.column)) ∙ e
+stands_before p q e = ap (λ b. nat_lt p.file q.file || (p.file == q.file && (nat_lt p.line q.line || (p.line == q.line && b))))
+    (last (nat_lt p.column q.column) (p.column == q.column)) ∙ e
   where
     last : (a b : Bool) → (a || (b && false)) ≡ a
     last true b = refl

@@ -51,7 +51,8 @@ module _ (paths srcs : List (List ℕ)) (trees : List FileTree) (means : Place �
   differ : (i j : ℕ) (t u : Node) → i < j → slice_get (decls_from trees) i ≡ Some t → slice_get (decls_from trees) j ≡ Some u →
       home_in paths t ≡ home_in paths u → text_of (name_in t) ≡ text_of (name_in u) → ⊥
   differ i j t u l e f h n =
-      let v = names-clash (home_of paths) paths trees t u (homes-are paths) from-first files.paired (precedes-at (decls_from trees) i j t u l e f) h n in
+      let v = names-clash (home_of paths) paths trees t u (homes-are paths) from-first files.paired
+      (precedes-at (decls_from trees) i j t u l e f) h n in
       named.sound v.0 v.1
 
   one : (i j : ℕ) (t u : Node) → slice_get (decls_from trees) i ≡ Some t → slice_get (decls_from trees) j ≡ Some u →

@@ -97,7 +97,8 @@ mutual
 
       within : first_number ns + length (spell 0 t) < length ws
       within =
-          let a : first_number ns + length (spell 0 t) ≤ high = least (first_number ns + length (spell 0 t)) high (numbers_behind ns) ts w.1 in
+          let a : first_number ns + length (spell 0 t) ≤ high =
+          least (first_number ns + length (spell 0 t)) high (numbers_behind ns) ts w.1 in
           let b : high < length ws = l in omega arith
 
       by : (Contains (heads t) h → h.place.file ≡ f) → (Contains (heads_each ts) h → h.place.file ≡ f) →
@@ -156,13 +157,23 @@ head_as k h = record { kind = k; place = h.place; text = h.text; number = h.numb
 decl-kind : (k : Kind) (h : Head) (us : Nodes) → is_shaped so.Decl (branch (head_as k h) us) ≡ true → IsDeclKind k
 unfolding is_shaped
 decl-kind ki.Def h us e = record { present = refl; leads = refl; some = λ g vs. pieces_some g (form_of ki.Def) (spells 0 vs) refl }
-decl-kind ki.GlobalLet h us e = record { present = refl; leads = refl; some = λ g vs. pieces_some g (form_of ki.GlobalLet) (spells 0 vs) refl }
+decl-kind ki.GlobalLet h us e = record {
+  present = refl;
+  leads = refl;
+  some = λ g vs. pieces_some g (form_of ki.GlobalLet) (spells 0 vs)
+      refl;
+}
 decl-kind ki.GlobalConst h us e = record {
   present = refl;
   leads = refl;
   some = λ g vs. pieces_some g (form_of ki.GlobalConst) (spells 0 vs) refl;
 }
-decl-kind ki.TypeDecl h us e = record { present = refl; leads = refl; some = λ g vs. pieces_some g (form_of ki.TypeDecl) (spells 0 vs) refl }
+decl-kind ki.TypeDecl h us e = record {
+  present = refl;
+  leads = refl;
+  some = λ g vs. pieces_some g (form_of ki.TypeDecl) (spells 0 vs)
+      refl;
+}
 decl-kind ki.Fn h us e = record { present = refl; leads = refl; some = λ g vs. pieces_some g (form_of ki.Fn) (spells 0 vs) refl }
 decl-kind _ h us e = absurd cc
 
@@ -245,5 +256,6 @@ roots-ascend f ws low high (z ∷ ts) t u up l r (inl c) =
     let a : suc r.0 ≤ m.number = m.from in
     let b : m.number < high = m.below in
     subst (λ x. is_before x (place_of_node u) ≡ true) (sym (ap place_of_node (sym c.0) ∙ r.2))
-    (subst (λ x. is_before (place_of ws r.0) x ≡ true) (sym m.place_is) (is_before-place_of f ws r.0 m.number up (omega arith) (omega arith)))
+    (subst (λ x. is_before (place_of ws r.0) x ≡ true) (sym m.place_is)
+    (is_before-place_of f ws r.0 m.number up (omega arith) (omega arith)))
 roots-ascend f ws low high (z ∷ ts) t u up l r (inr c) = roots-ascend f ws (suc r.0) high ts t u up l r.3 c

@@ -11,7 +11,8 @@ abbrev pub Precedes : {A : Type 0} → List A → A → A → Type 0
 Precedes [] x y = ⊥
 Precedes (z ∷ zs) x y = ((z ≡ x) × Contains zs y) ⊎ Precedes zs x y
 
-pub precedes-at : {A : Type 0} (xs : List A) (i j : ℕ) (x y : A) → i < j → slice_get xs i ≡ Some x → slice_get xs j ≡ Some y → Precedes xs x y
+pub precedes-at : {A : Type 0} (xs : List A) (i j : ℕ) (x y : A) → i < j → slice_get xs i ≡ Some x → slice_get xs j ≡ Some y →
+    Precedes xs x y
 precedes-at [] i j x y l e f = absurd cc
 precedes-at (z ∷ zs) i zero x y l e f = absurd (omega (arith, l))
 precedes-at (z ∷ zs) zero (suc j) x y l e f = let q : z ≡ x = cc in inl (q, Contains-there zs j y f)

@@ -84,7 +84,8 @@ claimed homes k (p ∷ ps) (f ∷ fs) t h c =
     s : Source
     s = source_of p f
 
-    by : (Contains (decls_from fs) t → Claimed homes ps fs t) → Contains f.decls t ⊎ Contains (decls_from fs) t → Claimed homes (p ∷ ps) (f ∷ fs) t
+    by : (Contains (decls_from fs) t → Claimed homes ps fs t) → Contains f.decls t ⊎ Contains (decls_from fs) t →
+        Claimed homes (p ∷ ps) (f ∷ fs) t
     by go (inl d) =
         record {
           claim = claim_of s t;
@@ -94,7 +95,12 @@ claimed homes k (p ∷ ps) (f ∷ fs) t h c =
           claims = claims-first homes k p ps f fs t h d;
         }
     by go (inr d) =
-        let m = go d in record { claim = m.claim; there = Contains-right m.claim (claims_of s) (AllClaims ps fs) m.there; claims = m.claims }
+        let m = go d in record {
+          claim = m.claim;
+          there = Contains-right m.claim (claims_of s) (AllClaims ps fs) m.there;
+          claims =
+              m.claims;
+        }
 
 record TwoClaim (homes : ℕ → Module) (ps : List (List ℕ)) (fs : List FileTree) (t u : Node) : Type 0 where
   first : Claim
@@ -123,7 +129,8 @@ two-claim homes k (p ∷ ps) (f ∷ fs) t u h q =
           second = claim_of s u;
           precede =
               precedes-left (claims_of s) rest (claim_of s t) (claim_of s u)
-              (precedes-right (imported_in s) (map (claim_of s) f.decls) (claim_of s t) (claim_of s u) (precedes-map (claim_of s) f.decls t u r));
+              (precedes-right (imported_in s) (map (claim_of s) f.decls) (claim_of s t) (claim_of s u)
+              (precedes-map (claim_of s) f.decls t u r));
           first_claims = claims-first homes k p ps f fs t h c;
           second_claims = claims-first homes k p ps f fs u h d;
         }

@@ -100,7 +100,8 @@ found_written w s a f t u n x v k i g z q l d =
     let c = context_at w a f t l in
     let same : IsSameType c (told c t.bound) = types_are_told c t.bound k q.role in
     let here = told_type w s a f t l q d in
-    let failing : first_failing c ≡ None = sym same.failing ∙ ap first_failing here ∙ i.rows l d (fits_stays s l v d (kind_in t) u g i.fits) in
+    let failing : first_failing c ≡ None = sym same.failing ∙ ap first_failing here ∙ i.rows l d
+    (fits_stays s l v d (kind_in t) u g i.fits) in
     let type : type_of c ≡ Some (ty.Of u) = sym same.type ∙ ap type_of here ∙ i.type l d in
     found_unsettled c t.kids.now f.coercions (ty.Of u) n x z (type_silent c t.bound k q.role) failing type (sym q.hand)
 

@@ -31,7 +31,8 @@ lists ki.Yield = false
 lists ki.SwitchCase = false
 lists _ = true
 
--- The turn of a node has come. Its kids have been judged and are in hand; its judge is told of what stands over it, of the bindings that have been
+-- The turn of a node has come. Its kids have been judged and are in hand; its judge is told of what stands over it, of the bindings that
+-- have been
 -- seen, and of what was yielded to it; and the walk has looked at the rest.
 pub record IsAtTurn (w : Store → Setting) (s : Store) (a : Above) (f : Flow) (t : Turn) (gs : List Given) : Type 0 where
   pub store : (l : Store) → (w l).store ≡ l
@@ -56,7 +57,8 @@ pub record IsFoundAt (c : Context) (xs : List TypedNode) (cs : List Coercion) (x
   pub failing : first_failing c ≡ None
   pub type : type_of c ≡ Some x.ty
   pub own : own_settled c x.ty ≡ x.own
-  pub kids : (r : Coercion) → write_each (settles_kids c) (cs ++ r ∷ []) ≡ write_each (written_each xs (map option_in x.kids)) (cs ++ r ∷ [])
+  pub kids : (r : Coercion) → write_each (settles_kids c) (cs ++ r ∷ []) ≡
+      write_each (written_each xs (map option_in x.kids)) (cs ++ r ∷ [])
   pub coated : settled_kids c ≡ coated_each xs (map option_in x.kids)
   pub late : settles_late c c.head.kind ≡ map settled_in x.late
 

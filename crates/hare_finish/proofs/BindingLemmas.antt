@@ -121,7 +121,8 @@ module _ (s : Store) (v : ℕ) (t : Node) (k : Kind) (z : IsVoid s v) (i : IsBin
     module _ (r : Coercion) where
       -- its type is written
       finished-written : (y : TypedNode) → has_type t ≡ true → IsTyped w n (BindingType, kid t 2) y → IsValued w n t (y ∷ []) (Some x) →
-          IsDeclaredCoercion s (y ∷ []) x r → IsDeclaration v t (unnumbered y ∷ with_coercion r x ∷ []) d → IsFinishedIn w n t (y ∷ []) (Some x) d
+          IsDeclaredCoercion s (y ∷ []) x r → IsDeclaration v t (unnumbered y ∷ with_coercion r x ∷ []) d →
+          IsFinishedIn w n t (y ∷ []) (Some x) d
       finished-written y a h p c m =
           let void = z w.store l in
           let there : is_there y ≡ true = written-there t y h.erases a in
@@ -161,7 +162,8 @@ module _ (s : Store) (v : ℕ) (t : Node) (k : Kind) (z : IsVoid s v) (i : IsBin
                 (inl (a, plain_as-IsPlain w v (kid t 2) void))
                 (subst (λ q. IsWell w (over_value w n q) (before_value (kid t 3)) x) (sym hint) p.0.well)
                 (c w.store l ∙ ap (λ q. declared_coercion w.store q (own_type x)) (sym hint))
-                (ap (λ u. first_failing (own_context w n (head t) (plain_of w (kid t 0) ∷ plain_of w (kid t 1) ∷ u ∷ x ∷ []))) same ∙ p.1)));
+                (ap (λ u. first_failing (own_context w n (head t) (plain_of w (kid t 0) ∷ plain_of w (kid t 1) ∷ u ∷ x ∷ []))) same ∙
+                p.1)));
             known =
                 said-by-kind [] y (sym same) j
                 (subst (λ u. Contains (known_by_types w.store n k (sort_by k t) [] ++ known_by_value w.store n k (sort_by k t) y x)

@@ -51,7 +51,8 @@ marked-map_unnumbered h m x c ts us t v k q e =
     ∙ ap unnumbered v
 
 -- one more kid is copied
-pub map_unnumbered-push : (ts us vs : List TypedNode) (i : ℕ) (t x : TypedNode) → slice_get ts i ≡ Some t → us ≡ map unnumbered (take i ts) →
+pub map_unnumbered-push : (ts us vs : List TypedNode) (i : ℕ) (t x : TypedNode) → slice_get ts i ≡ Some t →
+    us ≡ map unnumbered (take i ts) →
     x ≡ unnumbered t → vs ≡ us ++ x ∷ [] → vs ≡ map unnumbered (take (i + 1) ts)
 map_unnumbered-push ts us vs i t x e h k l =
     let a : us ++ x ∷ [] ≡ map unnumbered (take i ts) ++ unnumbered t ∷ [] = cc in

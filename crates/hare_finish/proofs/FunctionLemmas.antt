@@ -78,7 +78,8 @@ module _ (w : Setting) (n v : ℕ) (t : Node) (void : word_id w.store keyword.Vo
         well_body =
             subst (λ i. IsWell w (over_body n i (length ids)) (before_body ids (erase b)) b) (sym (written_id-unnumbered x))
             (subst (λ is. IsWell w (over_body n (written_id x) (length is)) (before_body is (erase b)) b) (sym parts.ids)
-            (subst (λ u. IsWell w (over_body n (written_id x) (length (map written_id us))) (before_body (map written_id us) u) b) (sym body.0)
+            (subst (λ u. IsWell w (over_body n (written_id x) (length (map written_id us))) (before_body (map written_id us) u) b)
+            (sym body.0)
             body.1));
       })
 

@@ -117,7 +117,8 @@ module _ (s : Store) (n : ℕ) (k : Kind) (t : Node) (x v : TypedNode) (r : Coer
   -- what the parts of a global say, by whether its type is written
   abbrev SaysGlobal : (types : List TypedNode) → TypedNode → Bool → Type 0
   SaysGlobal ts y b =
-      Contains (known_by_types s n k (sort_of_global b) ts ++ known_by_value s n k (sort_of_global b) x v) (global_known s n k y (with_coercion r v))
+      Contains (known_by_types s n k (sort_of_global b) ts ++ known_by_value s n k (sort_of_global b) x v)
+      (global_known s n k y (with_coercion r v))
 
   global-written : has_type t ≡ true → is_there x ≡ true → SaysGlobal (x ∷ []) (unnumbered x) (has_type t)
   global-written e g =

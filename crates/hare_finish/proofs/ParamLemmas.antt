@@ -45,8 +45,12 @@ module _ (w : Setting) (n v : ℕ) (void : word_id w.store keyword.Void ≡ Some
       ap (λ m. marked (head t) m (typed_nodes (unnumbered u ∷ []))) (sym (void_plain w v k void)) in
       record {
         well =
-            inl
-            (e, (unnumbered u, shape, unnumbered-well w n BindingType (kid t 0) u h), subst (λ i. AreWellParams w n i ps) (add-one k) rest.well);
+            inl (
+              e,
+              (unnumbered u, shape, unnumbered-well w n BindingType (kid t 0) u h),
+              subst (λ i. AreWellParams w n i ps) (add-one k)
+                  rest.well,
+            );
         ids =
             ap (λ b. map (λ q. written_id (type_of_param q)) (cond b (p ∷ []) [] ++ params_among (typed_nodes ps))) e
             ∙ ap (λ i. i ∷ map (λ q. written_id (type_of_param q)) (params_among (typed_nodes ps))) (written_id-unnumbered u)

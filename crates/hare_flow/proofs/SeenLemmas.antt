@@ -8,10 +8,12 @@ use Rattle.hare_flow.specs.declared.yields.Yield.{Yield}
 use Rattle.hare_flow.specs.declared.coercions.Settled.{Settled}
 use Rattle.hare_flow.specs.Seen.{yielded_of, flow_of}
 
-pub with_yields : (bs : List Binding) (ys new : List Yield) (cs : List Coercion) (ss : List Settled) (f : Flow) (vs : List Yielded) → flow_of bs ys cs ss ≡ f → map yielded_of new ≡ vs
+pub with_yields : (bs : List Binding) (ys new : List Yield) (cs : List Coercion) (ss : List Settled) (f : Flow) (vs : List Yielded) →
+    flow_of bs ys cs ss ≡ f → map yielded_of new ≡ vs
     → flow_of bs new cs ss ≡ record f { yields = vs }
 with_yields bs ys new cs ss f vs e h =
-    ap (λ us. let g : Flow = record (flow_of bs ys cs ss) { yields = us } in g) h ∙ ap (λ (g : Flow). let k : Flow = record g { yields = vs } in k) e
+    ap (λ us. let g : Flow = record (flow_of bs ys cs ss) { yields = us } in g) h ∙ ap
+    (λ (g : Flow). let k : Flow = record g { yields = vs } in k) e
 
 pub map_set : {A B : Type 0} (f : A → B) (xs : List A) (i : ℕ) (a : A) → map f (slice_set xs i a) ≡ slice_set (map f xs) i (f a)
 map_set f [] zero a = refl

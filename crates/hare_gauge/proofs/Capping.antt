@@ -11,7 +11,8 @@ use Rattle.hare_gauge.specs.Capped.{cap_mark, cap_marks, cap_frame, capped}
 -- ---- marks
 
 cap_twice : (m : Mark) → cap_mark (cap_mark m) ≡ cap_mark m
-cap_twice m = let e : min (min m.height 256) 256 ≡ min m.height 256 = omega arith in ap (λ h. record { node = m.node; first = m.first; height = h }) e
+cap_twice m =
+    let e : min (min m.height 256) 256 ≡ min m.height 256 = omega arith in ap (λ h. record { node = m.node; first = m.first; height = h }) e
 
 marks_twice : (ms : List Mark) → cap_marks (cap_marks ms) ≡ cap_marks ms
 marks_twice [] = refl
@@ -34,7 +35,8 @@ as_capped k n ms = same_mark (first_capped n ms) (capped_sum (counted k) (highes
   capped_sum : (a b c : ℕ) → min b 256 ≡ min c 256 → min (a + b) 256 ≡ min (a + c) 256
   capped_sum a b c e = omega arith
 
-  same_mark : {b : Bool} {m n g h : ℕ} → m ≡ n → g ≡ h → (let x : Mark = record { node = b; first = m; height = g } in x ≡ record { node = b; first = n; height = h })
+  same_mark : {b : Bool} {m n g h : ℕ} → m ≡ n → g ≡ h →
+      (let x : Mark = record { node = b; first = m; height = g } in x ≡ record { node = b; first = n; height = h })
   same_mark e d = cc
 
 last_capped : (ms : List Mark) → last_mark (cap_marks ms) ≡ cap_marks (last_mark ms)
@@ -64,18 +66,21 @@ same_frame n ms ns fs gs e h = cc
 pub put_same : (m n : Mark) (fs : List Frame) → cap_mark m ≡ cap_mark n → capped (put m fs) ≡ capped (put n fs)
 put_same m n [] e = refl
 put_same m n (f ∷ fs) e =
-    same_frame f.at (f.kids ++ m ∷ []) (f.kids ++ n ∷ []) fs fs (marks_append f.kids (m ∷ []) ∙ ap (λ x. cap_marks f.kids ++ x ∷ []) e ∙ sym (marks_append f.kids (n ∷ []))) refl
+    same_frame f.at (f.kids ++ m ∷ []) (f.kids ++ n ∷ []) fs fs
+    (marks_append f.kids (m ∷ []) ∙ ap (λ x. cap_marks f.kids ++ x ∷ []) e ∙ sym (marks_append f.kids (n ∷ []))) refl
 
 put_capped : (m : Mark) (fs : List Frame) → capped (put m (capped fs)) ≡ capped (put m fs)
 put_capped m [] = refl
 put_capped m (f ∷ fs) =
     same_frame f.at (cap_marks f.kids ++ m ∷ []) (f.kids ++ m ∷ []) (capped fs) fs
-    (marks_append (cap_marks f.kids) (m ∷ []) ∙ ap (λ l. l ++ cap_mark m ∷ []) (marks_twice f.kids) ∙ sym (marks_append f.kids (m ∷ []))) (capped_twice fs)
+    (marks_append (cap_marks f.kids) (m ∷ []) ∙ ap (λ l. l ++ cap_mark m ∷ []) (marks_twice f.kids) ∙ sym (marks_append f.kids (m ∷ [])))
+    (capped_twice fs)
 
 close_capped : (k : Kind) (fs : List Frame) → capped (close k (capped fs)) ≡ capped (close k fs)
 close_capped k [] = refl
 close_capped k (f ∷ fs) =
-    put_capped (mark_as k f.at (cap_marks f.kids)) fs ∙ put_same (mark_as k f.at (cap_marks f.kids)) (mark_as k f.at f.kids) fs (as_capped k f.at f.kids)
+    put_capped (mark_as k f.at (cap_marks f.kids)) fs ∙ put_same (mark_as k f.at (cap_marks f.kids)) (mark_as k f.at f.kids) fs
+    (as_capped k f.at f.kids)
 
 over_capped : (n : ℕ) (fs : List Frame) → capped (over n (capped fs)) ≡ capped (over n fs)
 over_capped n [] = refl
@@ -90,7 +95,8 @@ lift_capped : (fs : List Frame) → capped (lift (capped fs)) ≡ capped (lift f
 lift_capped [] = refl
 lift_capped (f ∷ []) = refl
 lift_capped (f ∷ (g ∷ fs)) =
-    let kids = marks_append (cap_marks g.kids) (cap_marks f.kids) ∙ ap (λ l. l ++ cap_marks (cap_marks f.kids)) (marks_twice g.kids) ∙ ap (λ l. cap_marks g.kids ++ l) (marks_twice f.kids) ∙ sym (marks_append g.kids f.kids) in
+    let kids = marks_append (cap_marks g.kids) (cap_marks f.kids) ∙ ap (λ l. l ++ cap_marks (cap_marks f.kids)) (marks_twice g.kids) ∙ ap
+    (λ l. cap_marks g.kids ++ l) (marks_twice f.kids) ∙ sym (marks_append g.kids f.kids) in
     same_frame g.at (cap_marks g.kids ++ cap_marks f.kids) (g.kids ++ f.kids) (capped fs) fs kids (capped_twice fs)
 
 changed_capped : (n : ℕ) (c : Change) (fs : List Frame) → capped (changed n c (capped fs)) ≡ capped (changed n c fs)
@@ -114,14 +120,17 @@ close_alike k fs gs e = sym (close_capped k fs) ∙ ap (λ hs. capped (close k h
 changed_alike : (n : ℕ) (c : Change) (fs gs : List Frame) → capped fs ≡ capped gs → capped (changed n c fs) ≡ capped (changed n c gs)
 changed_alike n c fs gs e = sym (changed_capped n c fs) ∙ ap (λ hs. capped (changed n c hs)) e ∙ changed_capped n c gs
 
-pub all_changed_alike : (n : ℕ) (cs : List Change) (fs gs : List Frame) → capped fs ≡ capped gs → capped (all_changed n cs fs) ≡ capped (all_changed n cs gs)
+pub all_changed_alike : (n : ℕ) (cs : List Change) (fs gs : List Frame) → capped fs ≡ capped gs →
+    capped (all_changed n cs fs) ≡ capped (all_changed n cs gs)
 unfolding all_changed
 all_changed_alike n [] fs gs e = e
 all_changed_alike n (c ∷ cs) fs gs e = all_changed_alike n cs (changed n c fs) (changed n c gs) (changed_alike n c fs gs e)
 
 -- one more change of a list
-pub next_changed : (n i : ℕ) (cs : List Change) (d : Change) (fs gs : List Frame) → i < length cs → capped gs ≡ capped (changed n (get_or cs i d) fs) →
+pub next_changed : (n i : ℕ) (cs : List Change) (d : Change) (fs gs : List Frame) → i < length cs →
+    capped gs ≡ capped (changed n (get_or cs i d) fs) →
     capped (all_changed n (drop i cs) fs) ≡ capped (all_changed n (drop (i + 1) cs) gs)
 unfolding all_changed
 next_changed n i cs d fs gs h e =
-    ap (λ l. capped (all_changed n l fs)) (drop_more cs i d h) ∙ sym (all_changed_alike n (drop (i + 1) cs) gs (changed n (get_or cs i d) fs) e)
+    ap (λ l. capped (all_changed n l fs)) (drop_more cs i d h) ∙ sym
+    (all_changed_alike n (drop (i + 1) cs) gs (changed n (get_or cs i d) fs) e)

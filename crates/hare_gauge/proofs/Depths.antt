@@ -13,13 +13,15 @@ use Rattle.hare_depth.specs.Depth.{closed}
 use Rattle.hare_gauge.specs.Gauged.{IsLeastOf}
 use Rattle.hare_gauge.specs.Limits.{IsFirstDepth, TreesFit, FilesFit}
 
-pub first_told : {T : Type 0} (l : Language T) (ts : List Token) (g : Gauged) → TellsDepth l ts g → (at : ℕ) (d : Option ℕ) → IsLeastOf g.faults at d → IsFirstDepth l ts at d
+pub first_told : {T : Type 0} (l : Language T) (ts : List Token) (g : Gauged) → TellsDepth l ts g → (at : ℕ) (d : Option ℕ) →
+    IsLeastOf g.faults at d → IsFirstDepth l ts at d
 first_told l ts g t at None h = λ m f. let q = t.least m f in subst (λ y. IsOn (suc q.0) y) h q.2
 first_told l ts g t at (Some n) h =
     (h.0, t.told (n - at) h.1, λ m i f. let q = t.least m f in absurd (omega (arith, i, q.1, h.2 (suc q.0) q.2)))
 
 -- where nothing is told, trees and files that are read keep the limits
-pub trees_fit : (s : Sort) → has_trees s ≡ true → (ts : List Token) (at : ℕ) (d : Option ℕ) → IsLeastOf (gauged s ts).faults at d → d ≡ None → TreesFit s ts
+pub trees_fit : (s : Sort) → has_trees s ≡ true → (ts : List Token) (at : ℕ) (d : Option ℕ) → IsLeastOf (gauged s ts).faults at d →
+    d ≡ None → TreesFit s ts
 trees_fit s c ts at d h e =
     let g = subst (IsLeastOf (gauged s ts).faults at) e h in
     λ file rest tree i. gauged_trees_fit s c file (closed ts) rest tree i (gauge_closed ts (of s ∷ []) start ∙ g)

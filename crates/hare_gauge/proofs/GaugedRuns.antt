@@ -46,7 +46,8 @@ found_alike bs fs gs e = sym (found_capped bs fs) ∙ ap (found bs) e ∙ found_
 
 -- ---- nor does what comes of the tokens
 
-after_alike : (x y : Step) (t : Seen) (w : List Seen) (go : List Symbol → List Frame → Gauged) → ((st : List Symbol) (fs gs : List Frame) → capped fs ≡ capped gs → go st fs ≡ go st gs) →
+after_alike : (x y : Step) (t : Seen) (w : List Seen) (go : List Symbol → List Frame → Gauged) →
+    ((st : List Symbol) (fs gs : List Frame) → capped fs ≡ capped gs → go st fs ≡ go st gs) →
     capped_step x ≡ capped_step y → after x t w go ≡ after y t w go
 after_alike (Goes st fs) (Goes st' gs) t w go h e =
     let a : st ≡ st' = cc in
@@ -67,7 +68,8 @@ gauge_alike : (w : List Seen) (st : List Symbol) (fs gs : List Frame) → capped
 unfolding gauge
 gauge_alike [] st fs gs e = refl
 gauge_alike (t ∷ w) st fs gs e =
-    after_alike (step t.number t.class st fs) (step t.number t.class st gs) t w (λ st' hs. gauge w st' hs) (λ st' xs ys h. gauge_alike w st' xs ys h) (step_alike t.number t.class st fs gs e)
+    after_alike (step t.number t.class st fs) (step t.number t.class st gs) t w (λ st' hs. gauge w st' hs)
+    (λ st' xs ys h. gauge_alike w st' xs ys h) (step_alike t.number t.class st fs gs e)
 
 -- ---- a run so far as it is made
 
@@ -80,21 +82,25 @@ pub record Continues (whole : Gauged) (told : Option ℕ) (left : Gauged) : Type
 after_goes : (x : Step) (t : Seen) (w : List Seen) (st : List Symbol) (fs : List Frame) → Answers (capped_step x) an.Goes st (capped fs) →
     after x t w (λ st' hs. gauge w st' hs) ≡ with_faults (found (nodes_in st) fs) (gauge w st fs)
 after_goes (Goes st' gs) t w st fs a =
-    after_alike (Goes st' gs) (Goes st fs) t w (λ st' hs. gauge w st' hs) (λ st' xs ys h. gauge_alike w st' xs ys h) (same_step st' st (capped gs) (capped fs) (sym a.1) (sym a.2))
+    after_alike (Goes st' gs) (Goes st fs) t w (λ st' hs. gauge w st' hs) (λ st' xs ys h. gauge_alike w st' xs ys h)
+    (same_step st' st (capped gs) (capped fs) (sym a.1) (sym a.2))
   where
     same_step : (ss rs : List Symbol) (hs ks : List Frame) → ss ≡ rs → hs ≡ ks → Goes ss hs ≡ Goes rs ks
     same_step ss rs hs ks e h = cc
 after_goes (Ends gs) t w st fs a = cc
 after_goes Stuck t w st fs a = cc
 
-pub goes_on : (whole : Gauged) (told : Option ℕ) (t : Seen) (w : List Seen) (st st' : List Symbol) (fs fs' : List Frame) → Continues whole told (gauge (t ∷ w) st fs) →
-    Answers (capped_step (step t.number t.class st fs)) an.Goes st' (capped fs') → Continues whole (lesser told (least (found (nodes_in st') fs'))) (gauge w st' fs')
+pub goes_on : (whole : Gauged) (told : Option ℕ) (t : Seen) (w : List Seen) (st st' : List Symbol) (fs fs' : List Frame) →
+    Continues whole told (gauge (t ∷ w) st fs) →
+    Answers (capped_step (step t.number t.class st fs)) an.Goes st' (capped fs') →
+    Continues whole (lesser told (least (found (nodes_in st') fs'))) (gauge w st' fs')
 unfolding gauge
 goes_on whole told t w st st' fs fs' r a =
     let e = after_goes (step t.number t.class st fs) t w st' fs' a in
     let n = found (nodes_in st') fs' in
     record {
-      faults = r.faults ∙ ap (λ g. lesser told (least g.faults)) e ∙ ap (lesser told) (least_append n (gauge w st' fs').faults) ∙ sym (lesser_assoc told (least n) (least (gauge w st' fs').faults));
+      faults = r.faults ∙ ap (λ g. lesser told (least g.faults)) e ∙ ap (lesser told) (least_append n (gauge w st' fs').faults) ∙ sym
+          (lesser_assoc told (least n) (least (gauge w st' fs').faults));
       rest = r.rest ∙ ap (λ g. g.rest) e;
       over = r.over ∙ ap (λ g. g.over) e;
     }
@@ -111,7 +117,8 @@ lesser_none : (a : Option ℕ) → a ≡ lesser a None
 lesser_none None = refl
 lesser_none (Some m) = refl
 
-halts : (whole : Gauged) (told : Option ℕ) (rest : List Seen) (over : Bool) (left : Gauged) → Continues whole told left → left ≡ record { faults = []; rest = rest; over = over } →
+halts : (whole : Gauged) (told : Option ℕ) (rest : List Seen) (over : Bool) (left : Gauged) → Continues whole told left →
+    left ≡ record { faults = []; rest = rest; over = over } →
     Halts whole told rest over
 halts whole told rest over left r e =
     record {
@@ -120,28 +127,35 @@ halts whole told rest over left r e =
       over = r.over ∙ ap (λ g. g.over) e;
     }
 
-after_ends : (x : Step) (t : Seen) (w : List Seen) (go : List Symbol → List Frame → Gauged) (st : List Symbol) (fs : List Frame) → Answers (capped_step x) an.Ends st fs →
+after_ends : (x : Step) (t : Seen) (w : List Seen) (go : List Symbol → List Frame → Gauged) (st : List Symbol) (fs : List Frame) →
+    Answers (capped_step x) an.Ends st fs →
     after x t w go ≡ record { faults = []; rest = t ∷ w; over = true }
 after_ends (Goes st' gs) t w go st fs a = cc
 after_ends (Ends gs) t w go st fs a = refl
 after_ends Stuck t w go st fs a = cc
 
-after_stuck : (x : Step) (t : Seen) (w : List Seen) (go : List Symbol → List Frame → Gauged) (st : List Symbol) (fs : List Frame) → Answers (capped_step x) an.Stuck st fs →
+after_stuck : (x : Step) (t : Seen) (w : List Seen) (go : List Symbol → List Frame → Gauged) (st : List Symbol) (fs : List Frame) →
+    Answers (capped_step x) an.Stuck st fs →
     after x t w go ≡ record { faults = []; rest = t ∷ w; over = false }
 after_stuck (Goes st' gs) t w go st fs a = cc
 after_stuck (Ends gs) t w go st fs a = cc
 after_stuck Stuck t w go st fs a = refl
 
-pub over_at : (whole : Gauged) (told : Option ℕ) (t : Seen) (w : List Seen) (st st' : List Symbol) (fs fs' : List Frame) → Continues whole told (gauge (t ∷ w) st fs) →
+pub over_at : (whole : Gauged) (told : Option ℕ) (t : Seen) (w : List Seen) (st st' : List Symbol) (fs fs' : List Frame) →
+    Continues whole told (gauge (t ∷ w) st fs) →
     Answers (capped_step (step t.number t.class st fs)) an.Ends st' fs' → Halts whole told (t ∷ w) true
 unfolding gauge
-over_at whole told t w st st' fs fs' r a = halts whole told (t ∷ w) true _ r (after_ends (step t.number t.class st fs) t w (λ ss hs. gauge w ss hs) st' fs' a)
+over_at whole told t w st st' fs fs' r a = halts whole told (t ∷ w) true _ r
+    (after_ends (step t.number t.class st fs) t w (λ ss hs. gauge w ss hs) st' fs' a)
 
-pub stuck_at : (whole : Gauged) (told : Option ℕ) (t : Seen) (w : List Seen) (st st' : List Symbol) (fs fs' : List Frame) → Continues whole told (gauge (t ∷ w) st fs) →
+pub stuck_at : (whole : Gauged) (told : Option ℕ) (t : Seen) (w : List Seen) (st st' : List Symbol) (fs fs' : List Frame) →
+    Continues whole told (gauge (t ∷ w) st fs) →
     Answers (capped_step (step t.number t.class st fs)) an.Stuck st' fs' → Halts whole told (t ∷ w) false
 unfolding gauge
-stuck_at whole told t w st st' fs fs' r a = halts whole told (t ∷ w) false _ r (after_stuck (step t.number t.class st fs) t w (λ ss hs. gauge w ss hs) st' fs' a)
+stuck_at whole told t w st st' fs fs' r a = halts whole told (t ∷ w) false _ r
+    (after_stuck (step t.number t.class st fs) t w (λ ss hs. gauge w ss hs) st' fs' a)
 
-pub used_up : (whole : Gauged) (told : Option ℕ) (st : List Symbol) (fs : List Frame) → Continues whole told (gauge [] st fs) → Halts whole told [] false
+pub used_up : (whole : Gauged) (told : Option ℕ) (st : List Symbol) (fs : List Frame) → Continues whole told (gauge [] st fs) →
+    Halts whole told [] false
 unfolding gauge
 used_up whole told st fs r = halts whole told [] false _ r refl

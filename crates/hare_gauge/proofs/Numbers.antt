@@ -20,10 +20,18 @@ use Rattle.hare_gauge.proofs.Widths.{front}
 
 -- the token with this number in place of its line
 abbrev renumbered : ℕ → Token → Token
-renumbered n t = record { kind = t.kind; place = record { file = 0; line = n; column = 1 }; text = t.text; number = t.number; suffix = t.suffix }
+renumbered n t = record {
+  kind = t.kind;
+  place = record { file = 0; line = n; column = 1 };
+  text = t.text;
+  number = t.number;
+  suffix =
+      t.suffix;
+}
 
 class_placed : (k : TokenKind) (p q : Place) (x : List ℕ) (n : ℕ) (s : Suffix) →
-    (let h : Head = record { kind = ki.None; place = p; text = x; number = n; suffix = s } in class_in k h ≡ class_in k (record { kind = ki.None; place = q; text = x; number = n; suffix = s }))
+    (let h : Head = record { kind = ki.None; place = p; text = x; number = n; suffix = s } in class_in k h ≡
+    class_in k (record { kind = ki.None; place = q; text = x; number = n; suffix = s }))
 class_placed tk.Name p q x n s = refl
 class_placed tk.Keyword p q x n s = refl
 class_placed tk.Number p q x n s = refl
@@ -38,7 +46,8 @@ class_numbered n t = class_placed t.kind _ t.place t.text t.number t.suffix
 numbered_drop : (m n : ℕ) (ts : List Token) → drop m (numbered n ts) ≡ numbered (n + m) (drop m ts)
 numbered_drop zero n ts = let e : n ≡ n + 0 = omega arith in ap (λ i. numbered i ts) e
 numbered_drop (suc m) n [] = refl
-numbered_drop (suc m) n (t ∷ ts) = let e : suc n + m ≡ n + suc m = omega arith in numbered_drop m (suc n) ts ∙ ap (λ i. numbered i (drop m ts)) e
+numbered_drop (suc m) n (t ∷ ts) =
+    let e : suc n + m ≡ n + suc m = omega arith in numbered_drop m (suc n) ts ∙ ap (λ i. numbered i (drop m ts)) e
 
 strings_numbered : (n : ℕ) (ts : List Token) → strings_in_front (numbered n ts) ≡ strings_in_front ts
 strings_numbered n [] = refl
@@ -53,7 +62,8 @@ seen_token t c n e h = cc
 
 -- the first of them
 seen_next : (n : ℕ) (t : Token) (ts : List Token) →
-    (let s : Seen = record { class = class_of t; number = n } in seen_from n (t ∷ ts) ≡ s ∷ seen_from (n + width (t ∷ ts)) (drop (width (t ∷ ts)) (t ∷ ts)))
+    (let s : Seen = record { class = class_of t; number = n } in seen_from n (t ∷ ts) ≡
+    s ∷ seen_from (n + width (t ∷ ts)) (drop (width (t ∷ ts)) (t ∷ ts)))
 seen_next n t ts =
     let f = front (renumbered n t) (numbered (suc n) ts) in
     let d = ap (λ m. drop m (numbered n (t ∷ ts))) (width_numbered n (t ∷ ts)) ∙ numbered_drop (width (t ∷ ts)) n (t ∷ ts) in
@@ -64,7 +74,8 @@ seen_next n t ts =
 -- ---- at a place of the list
 
 pub seen_at : (ts : List Token) (from at next : ℕ) (t : Token) → slice_get ts at ≡ Some t → next ≡ at + width (drop at ts) → from ≤ at →
-    (let s : Seen = record { class = class_of t; number = at - from + 1 } in seen_from (at - from + 1) (drop at ts) ≡ s ∷ seen_from (next - from + 1) (drop next ts))
+    (let s : Seen = record { class = class_of t; number = at - from + 1 } in seen_from (at - from + 1) (drop at ts) ≡
+    s ∷ seen_from (next - from + 1) (drop next ts))
 seen_at ts from at next t h n l =
     let vs : List Token = drop (at + 1) ts in
     let s : Seen = record { class = class_of t; number = at - from + 1 } in
@@ -73,7 +84,8 @@ seen_at ts from at next t h n l =
     let m : next ≡ at + w = n ∙ ap (λ us. at + width us) e in
     let d : drop w (t ∷ vs) ≡ drop next ts = ap (drop w) (sym e) ∙ drop-drop w at ts ∙ ap (λ i. drop i ts) (sym m) in
     let k : at - from + 1 + w ≡ next - from + 1 = omega arith in
-    ap (seen_from (at - from + 1)) e ∙ seen_next (at - from + 1) t vs ∙ ap (λ us. s ∷ seen_from (at - from + 1 + w) us) d ∙ ap (λ i. s ∷ seen_from i (drop next ts)) k
+    ap (seen_from (at - from + 1)) e ∙ seen_next (at - from + 1) t vs ∙ ap (λ us. s ∷ seen_from (at - from + 1 + w) us) d ∙ ap
+    (λ i. s ∷ seen_from i (drop next ts)) k
 
 pub seen_past : (ts : List Token) (at n : ℕ) → slice_get ts at ≡ None → seen_from n (drop at ts) ≡ []
 seen_past ts at n h = ap (seen_from n) (drop_past ts at (sym h))

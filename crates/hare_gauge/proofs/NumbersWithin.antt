@@ -100,7 +100,8 @@ module _ (P : ℕ → Type 0) where
   wanted_in true st fs h = h
   wanted_in false st fs h = tt
 
-  acted_in : (r : Row) (n : ℕ) (st : List Symbol) (fs : List Frame) (again : List Frame → Step) → ((gs : List Frame) → FramesIn gs → StepIn (again gs)) → P 1 → P n → FramesIn fs →
+  acted_in : (r : Row) (n : ℕ) (st : List Symbol) (fs : List Frame) (again : List Frame → Step) →
+      ((gs : List Frame) → FramesIn gs → StepIn (again gs)) → P 1 → P n → FramesIn fs →
       StepIn (acted r n st fs again)
   acted_in Fault n st fs again h o p k = tt
   acted_in (Skips cs) n st fs again h o p k = h (all_changed n cs fs) (all_changed_in n cs fs o p k)
@@ -139,19 +140,23 @@ module _ (P : ℕ → Type 0) where
   found_in bs [] h = tt
   found_in bs (f ∷ fs) h =
       each_append P (deep_frame bs f) (deep_last (opened bs) f.kids ++ high_operand f.at f.kids) (deep_frame_in bs f h.0)
-      (each_append P (deep_last (opened bs) f.kids) (high_operand f.at f.kids) (deep_last_in (opened bs) f.kids h.0.1) (high_operand_in f.at f.kids h.0.0))
+      (each_append P (deep_last (opened bs) f.kids) (high_operand f.at f.kids) (deep_last_in (opened bs) f.kids h.0.1)
+      (high_operand_in f.at f.kids h.0.0))
 
-  after_in : (x : Step) (t : Seen) (w : List Seen) (go : List Symbol → List Frame → Gauged) → ((st : List Symbol) (fs : List Frame) → FramesIn fs → AllByRecursion P (go st fs).faults) → StepIn x →
+  after_in : (x : Step) (t : Seen) (w : List Seen) (go : List Symbol → List Frame → Gauged) →
+      ((st : List Symbol) (fs : List Frame) → FramesIn fs → AllByRecursion P (go st fs).faults) → StepIn x →
       AllByRecursion P (after x t w go).faults
   after_in (Goes st fs) t w go h k = each_append P (found (nodes_in st) fs) (go st fs).faults (found_in (nodes_in st) fs k) (h st fs k)
   after_in (Ends fs) t w go h k = tt
   after_in Stuck t w go h k = tt
 
-  gauge_in : (w : List Seen) (st : List Symbol) (fs : List Frame) → P 1 → AllByRecursion (λ s. P s.number) w → FramesIn fs → AllByRecursion P (gauge w st fs).faults
+  gauge_in : (w : List Seen) (st : List Symbol) (fs : List Frame) → P 1 → AllByRecursion (λ s. P s.number) w → FramesIn fs →
+      AllByRecursion P (gauge w st fs).faults
   unfolding gauge
   gauge_in [] st fs o h k = tt
   gauge_in (t ∷ w) st fs o h k =
-      after_in (step t.number t.class st fs) t w (λ ss hs. gauge w ss hs) (λ ss hs m. gauge_in w ss hs o h.1 m) (step_in t.number t.class st fs o h.0 k)
+      after_in (step t.number t.class st fs) t w (λ ss hs. gauge w ss hs) (λ ss hs m. gauge_in w ss hs o h.1 m)
+      (step_in t.number t.class st fs o h.0 k)
 
   -- ---- the numbers of tokens
 
@@ -186,16 +191,19 @@ faults_within (t ∷ ts) st =
     let P : ℕ → Type 0 = λ n. (0 < n) × (n ≤ length (t ∷ ts)) in
     let o : P 1 = (omega arith, omega arith) in
     let l = numbered_in P 1 (t ∷ ts) (λ m a b. (omega arith, omega arith)) in
-    gauge_in P (seen (t ∷ ts)) st start o (seen_in_each P (joined (numbered 1 (t ∷ ts))) (joined_in P (numbered 1 (t ∷ ts)) l)) ((o, tt), tt)
+    gauge_in P (seen (t ∷ ts)) st start o (seen_in_each P (joined (numbered 1 (t ∷ ts))) (joined_in P (numbered 1 (t ∷ ts)) l))
+    ((o, tt), tt)
 
-pub told_within : (ts : List Token) (from : ℕ) (st : List Symbol) (n : ℕ) → least (gauged_from ts from st).faults ≡ Some n → (0 < n) × (from + n ≤ length ts)
+pub told_within : (ts : List Token) (from : ℕ) (st : List Symbol) (n : ℕ) → least (gauged_from ts from st).faults ≡ Some n → (0 < n) ×
+    (from + n ≤ length ts)
 told_within ts from st n e =
     let w = least_within (gauged_from ts from st).faults (length (drop from ts)) n (faults_within (drop from ts) st) e in
     let l = length-drop from ts in
     (w.0, omega (arith, w.0, w.1, l))
 
 -- what a run from the start tells
-pub told_from_start : (ts : List Token) (from : ℕ) (st st' : List Symbol) (fs : List Frame) (told o : Option ℕ) → told ≡ least (gauge (seen_from 1 (drop from ts)) st' fs).faults → st' ≡ st → fs ≡ start →
+pub told_from_start : (ts : List Token) (from : ℕ) (st st' : List Symbol) (fs : List Frame) (told o : Option ℕ) →
+    told ≡ least (gauge (seen_from 1 (drop from ts)) st' fs).faults → st' ≡ st → fs ≡ start →
     told ≡ o → least (gauged_from ts from st).faults ≡ o
 told_from_start ts from st st' fs told o e h k g =
     let us = seen_from 1 (drop from ts) in

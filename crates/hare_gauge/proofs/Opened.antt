@@ -23,7 +23,8 @@ opened_le (false ∷ bs) = let h = opened_le bs in omega arith
 pub nodes_in_append : (ss rs : List Symbol) → nodes_in (ss ++ rs) ≡ nodes_in ss ++ nodes_in rs
 unfolding nodes_in
 nodes_in_append [] rs = refl
-nodes_in_append (s ∷ ss) rs = ap (λ l. nodes_of_symbol s ++ l) (nodes_in_append ss rs) ∙ sym (append_assoc (nodes_of_symbol s) (nodes_in ss) (nodes_in rs))
+nodes_in_append (s ∷ ss) rs = ap (λ l. nodes_of_symbol s ++ l) (nodes_in_append ss rs) ∙ sym
+    (append_assoc (nodes_of_symbol s) (nodes_in ss) (nodes_in rs))
 
 pub nodes_in_one : (s : Symbol) → nodes_in (s ∷ []) ≡ nodes_of_symbol s
 unfolding nodes_in
@@ -62,8 +63,10 @@ nodes_in_none ws = ap (λ l. nodes_in (waited l)) (drop-length ws)
 nodes_in_more : (ws : List Wait) (n : ℕ) (d : Wait) → 0 < n → n ≤ length ws →
     nodes_in (waited (drop (n - 1) ws)) ≡ nodes_in (symbols_in (get_or ws (n - 1) d)) ++ nodes_in (waited (drop n ws))
 nodes_in_more ws n d h w = more_of (n - 1) (omega arith) (omega arith) where
-  more_of : (m : ℕ) → m < length ws → n ≡ m + 1 → nodes_in (waited (drop m ws)) ≡ nodes_in (symbols_in (get_or ws m d)) ++ nodes_in (waited (drop n ws))
-  more_of m v e = rw e (ap (λ l. nodes_in (waited l)) (drop_more ws m d v) ∙ nodes_in_append (symbols_in (get_or ws m d)) (waited (drop (m + 1) ws)))
+  more_of : (m : ℕ) → m < length ws → n ≡ m + 1 →
+      nodes_in (waited (drop m ws)) ≡ nodes_in (symbols_in (get_or ws m d)) ++ nodes_in (waited (drop n ws))
+  more_of m v e = rw e (ap (λ l. nodes_in (waited l)) (drop_more ws m d v) ∙ nodes_in_append (symbols_in (get_or ws m d))
+      (waited (drop (m + 1) ws)))
 
 -- behind the first symbol
 pub nodes_in_next : (s : Symbol) (st : List Symbol) → drop (length (nodes_of_symbol s)) (nodes_in (s ∷ st)) ≡ nodes_in st
@@ -74,7 +77,9 @@ nodes_in_next s st = drop_front (nodes_of_symbol s) (nodes_in st) where
   drop_front (b ∷ bs) cs = drop_front bs cs
 
 -- one more wait on a pile
-pub nodes_pushed : (ws : List Wait) (n : ℕ) (d : Wait) (new one old first : List Bool) → 0 < n → n ≤ length ws → new ≡ one ++ old → one ≡ nodes_in (symbols_in (get_or ws (n - 1) d)) →
+pub nodes_pushed : (ws : List Wait) (n : ℕ) (d : Wait) (new one old first : List Bool) → 0 < n → n ≤ length ws → new ≡ one ++ old →
+    one ≡ nodes_in (symbols_in (get_or ws (n - 1) d)) →
     old ≡ nodes_in (waited (drop n ws)) ++ first → new ≡ nodes_in (waited (drop (n - 1) ws)) ++ first
 nodes_pushed ws n d new one old first h w e f g =
-    rw (e, f, g, nodes_in_more ws n d h w) (sym (append_assoc (nodes_in (symbols_in (get_or ws (n - 1) d))) (nodes_in (waited (drop n ws))) first))
+    rw (e, f, g, nodes_in_more ws n d h w) (sym
+    (append_assoc (nodes_in (symbols_in (get_or ws (n - 1) d))) (nodes_in (waited (drop n ws))) first))

@@ -20,8 +20,10 @@ least_append (n ∷ ns) ms = ap (lesser (Some n)) (least_append ns ms) ∙ sym (
 lesser_some : (m : ℕ) (o : Option ℕ) (n : ℕ) → lesser (Some m) o ≡ Some n → ((n ≡ m) ⊎ (o ≡ Some n)) × (n ≤ m)
 lesser_some m None n e = let h : m ≡ n = cc in (inl (sym h), omega arith)
 lesser_some m (Some k) n e =
-    let h : min m k ≡ n = cc in
-    (elim (cases_lt m k) [ inl l ↦ (let a : n ≡ m = omega arith in inl a) | inr l ↦ (let a : k ≡ n = omega arith in inr (ap Some a)) ], omega arith)
+    let h : min m k ≡ n = cc in (
+      elim (cases_lt m k) [ inl l ↦ (let a : n ≡ m = omega arith in inl a) | inr l ↦ (let a : k ≡ n = omega arith in inr (ap Some a)) ],
+      omega arith,
+    )
 
 least_is_on : (ns : List ℕ) (n : ℕ) → least ns ≡ Some n → IsOn n ns
 least_is_on [] n e = cc

@@ -11,18 +11,21 @@ use Rattle.hare_table.specs.Joined.{BeginsWith}
 use Rattle.hare_gauge.specs.Width.{strings_in_front, width}
 use Rattle.hare_table.proofs.Joining.{read_drop, drop_past, join_no, string_is, merged}
 
-pub strings_at_more : (ts : List Token) (n : ℕ) (t : Token) → slice_get ts n ≡ Some t → is_proper_string t ≡ true → strings_in_front (drop n ts) ≡ 1 + strings_in_front (drop (n + 1) ts)
+pub strings_at_more : (ts : List Token) (n : ℕ) (t : Token) → slice_get ts n ≡ Some t → is_proper_string t ≡ true →
+    strings_in_front (drop n ts) ≡ 1 + strings_in_front (drop (n + 1) ts)
 strings_at_more ts n t h p = ap strings_in_front (read_drop ts n t (sym h)) ∙ rw p (one_more (strings_in_front (drop (n + 1) ts))) where
   one_more : (m : ℕ) → suc m ≡ 1 + m
   one_more m = omega arith
 
-pub strings_at_other : (ts : List Token) (n : ℕ) (t : Token) → slice_get ts n ≡ Some t → is_proper_string t ≡ false → strings_in_front (drop n ts) ≡ 0
+pub strings_at_other : (ts : List Token) (n : ℕ) (t : Token) → slice_get ts n ≡ Some t → is_proper_string t ≡ false →
+    strings_in_front (drop n ts) ≡ 0
 strings_at_other ts n t h p = ap strings_in_front (read_drop ts n t (sym h)) ∙ rw p refl
 
 pub strings_past : (ts : List Token) (n : ℕ) → slice_get ts n ≡ None → strings_in_front (drop n ts) ≡ 0
 strings_past ts n h = ap strings_in_front (drop_past ts n (sym h))
 
-pub width_strings : (ts : List Token) (n : ℕ) (t : Token) → slice_get ts n ≡ Some t → is_proper_string t ≡ true → width (drop n ts) ≡ 1 + strings_in_front (drop (n + 1) ts)
+pub width_strings : (ts : List Token) (n : ℕ) (t : Token) → slice_get ts n ≡ Some t → is_proper_string t ≡ true →
+    width (drop n ts) ≡ 1 + strings_in_front (drop (n + 1) ts)
 width_strings ts n t h p = ap width (read_drop ts n t (sym h)) ∙ rw p (one_more (strings_in_front (drop (n + 1) ts))) where
   one_more : (m : ℕ) → suc m ≡ 1 + m
   one_more m = omega arith
@@ -44,7 +47,14 @@ text_class : (t : Token) → is_proper_string t ≡ true → class_of t ≡ cl.T
 text_class t e = ap class_of (string_is t e)
 
 front_alone : (t : Token) (ts : List Token) → width (t ∷ ts) ≡ 1 → joined (t ∷ ts) ≡ t ∷ joined ts → Front t ts
-front_alone t ts w e = record { token = t; joins = e ∙ ap (λ n. t ∷ joined (drop n (t ∷ ts))) (sym w); place = refl; proper = refl; class = refl }
+front_alone t ts w e = record {
+  token = t;
+  joins = e ∙ ap (λ n. t ∷ joined (drop n (t ∷ ts))) (sym w);
+  place = refl;
+  proper = refl;
+  class =
+      refl;
+}
 
 front_other : (t : Token) (ts : List Token) → is_proper_string t ≡ false → Front t ts
 front_other t ts e = front_alone t ts (rw e refl) (join_no t (joined ts) e)
@@ -68,7 +78,8 @@ front_string t [] a = front_alone t [] (rw a refl) refl
 front_string t (u ∷ us) a = by (is_proper_string u) refl (λ b. front_string u us b) where
   by : (p : Bool) → is_proper_string u ≡ p → (is_proper_string u ≡ true → Front u us) → Front t (u ∷ us)
   by true b f = front_more t u us a b (f b)
-  by false b f = front_alone t (u ∷ us) (rw (a, b) refl) (ap (joined_to t) (join_no u (joined us) b) ∙ rw (a, b) refl ∙ ap (λ js. t ∷ js) (sym (join_no u (joined us) b)))
+  by false b f = front_alone t (u ∷ us) (rw (a, b) refl)
+      (ap (joined_to t) (join_no u (joined us) b) ∙ rw (a, b) refl ∙ ap (λ js. t ∷ js) (sym (join_no u (joined us) b)))
 
 pub front : (t : Token) (ts : List Token) → Front t ts
 front t ts = by (is_proper_string t) refl where
@@ -94,7 +105,8 @@ width_within t ts = by (is_proper_string t) refl (strings_within ts) where
 strings_end : (ts : List Token) → begins_with_string (drop (strings_in_front ts) ts) ≡ false
 strings_end [] = refl
 strings_end (t ∷ ts) = by (is_proper_string t) refl (strings_end ts) where
-  by : (p : Bool) → is_proper_string t ≡ p → begins_with_string (drop (strings_in_front ts) ts) ≡ false → begins_with_string (drop (strings_in_front (t ∷ ts)) (t ∷ ts)) ≡ false
+  by : (p : Bool) → is_proper_string t ≡ p → begins_with_string (drop (strings_in_front ts) ts) ≡ false →
+      begins_with_string (drop (strings_in_front (t ∷ ts)) (t ∷ ts)) ≡ false
   by true a h = rw a h
   by false a h = rw a a
 
@@ -102,9 +114,11 @@ and_false : (b : Bool) → (b && false) ≡ false
 and_false true = refl
 and_false false = refl
 
-front_apart : (t : Token) (ts : List Token) → (ends_in_string (take (width (t ∷ ts)) (t ∷ ts)) && begins_with_string (drop (width (t ∷ ts)) (t ∷ ts))) ≡ false
+front_apart : (t : Token) (ts : List Token) →
+    (ends_in_string (take (width (t ∷ ts)) (t ∷ ts)) && begins_with_string (drop (width (t ∷ ts)) (t ∷ ts))) ≡ false
 front_apart t ts = by (is_proper_string t) refl where
-  by : (p : Bool) → is_proper_string t ≡ p → (ends_in_string (take (width (t ∷ ts)) (t ∷ ts)) && begins_with_string (drop (width (t ∷ ts)) (t ∷ ts))) ≡ false
+  by : (p : Bool) → is_proper_string t ≡ p →
+      (ends_in_string (take (width (t ∷ ts)) (t ∷ ts)) && begins_with_string (drop (width (t ∷ ts)) (t ∷ ts))) ≡ false
   by true a = rw (a, strings_end ts) (and_false (ends_in_string (take (suc (strings_in_front ts)) (t ∷ ts))))
   by false a = rw (a, a) refl
 

@@ -19,9 +19,12 @@ IsFirstDepth l ts at (Some n) = (at ≤ n) × IsDepthFault l ts (n - at) × ((m 
 -- a tree that the machine has read, with End behind the tokens, keeps the limits
 abbrev pub TreesFit : Sort → List Token → Type 0
 TreesFit s ts =
-    (file : ℕ) (rest : List Token) (tree : Node) → run file (joined (closed ts)) (of s ∷ []) bottom ≡ Done rest (add tree bottom) → deep_root tree ≡ []
+    (file : ℕ) (rest : List Token) (tree : Node) → run file (joined (closed ts)) (of s ∷ []) bottom ≡ Done rest (add tree bottom) →
+    deep_root tree ≡ []
 
 -- and so does a file
 abbrev pub FilesFit : List Token → Type 0
 FilesFit ts =
-    (file : ℕ) (rest : List Token) (uses decls : List Node) → run file (joined ts) file_symbols bottom ≡ Done rest (begun (start_of 0) (uses ++ decls) ∷ []) → files.deep_of (record { file = file; uses = uses; decls = decls }) ≡ []
+    (file : ℕ) (rest : List Token) (uses decls : List Node) →
+    run file (joined ts) file_symbols bottom ≡ Done rest (begun (start_of 0) (uses ++ decls) ∷ []) →
+    files.deep_of (record { file = file; uses = uses; decls = decls }) ≡ []

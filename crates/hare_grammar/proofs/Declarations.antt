@@ -64,7 +64,10 @@ exported f (branch h ts) e =
 -- ---- what stands behind the word of a declaration
 
 abbrev Word : Kind → Sign → List Piece → Type 0
-Word k d ps = (f n : ℕ) → ReadsTo f n → (h : Head) (m : ℕ) (ts : Nodes) → sizes_of ts ≤ n → are_kids m (kid_pieces ps) ts ≡ true → kids_end ps (edges ts) ≡ true → (w : List Token) (st : List Symbol) (ks : List Node) (gs : List Group) → run f (pieces_tokens f h ps (spells f ts) ++ w) (symbols ps ++ st) (begun (start_of f) ks ∷ gs) ≡ run f w st (begun (start_of f) (ks ++ plain_list f ts) ∷ gs)
+Word k d ps = (f n : ℕ) → ReadsTo f n → (h : Head) (m : ℕ) (ts : Nodes) → sizes_of ts ≤ n → are_kids m (kid_pieces ps) ts ≡ true →
+    kids_end ps (edges ts) ≡ true → (w : List Token) (st : List Symbol) (ks : List Node) (gs : List Group) →
+    run f (pieces_tokens f h ps (spells f ts) ++ w) (symbols ps ++ st) (begun (start_of f) ks ∷ gs) ≡
+    run f w st (begun (start_of f) (ks ++ plain_list f ts) ∷ gs)
 
 -- name [":" type] "=" expr ";"
 abbrev value_pieces : List Piece
@@ -72,7 +75,9 @@ value_pieces = pi.Kid so.Name ∷ pi.Led si.Colon so.Type ∷ pi.Fixed si.Equals
 
 value_word : (k : Kind) (d : Sign) → Word k d value_pieces
 unfolding stops
-value_word k d f n ih h m ts z e q w st ks gs = read_pieces f n ih h m value_pieces false ts z e q tt refl w st (start_of f) ks gs (λ y. true) (stopped ts) (refl, (refl, refl), (refl, tt, refl, refl, (refl, refl, tt)))
+value_word k d f n ih h m ts z e q w st ks gs =
+    read_pieces f n ih h m value_pieces false ts z e q tt refl w st (start_of f) ks gs (λ y. true) (stopped ts)
+    (refl, (refl, refl), (refl, tt, refl, refl, (refl, refl, tt)))
   where
     stopped : (ts : Nodes) (y : Sign) → front w ≡ cl.Sign y → form_stops y h true value_pieces (stops_each y ts) ≡ true
     stopped none y j = refl
@@ -86,7 +91,8 @@ type_pieces = pi.Kid so.Name ∷ pi.Fixed si.Equals ∷ pi.Kid so.Type ∷ pi.Fi
 
 type_word : Word ki.TypeDecl si.Type type_pieces
 unfolding stops
-type_word f n ih h m ts z e q w st ks gs = read_pieces f n ih h m type_pieces false ts z e q tt refl w st (start_of f) ks gs (λ y. true) (stopped ts) (refl, refl, (refl, refl, tt))
+type_word f n ih h m ts z e q w st ks gs = read_pieces f n ih h m type_pieces false ts z e q tt refl w st (start_of f) ks gs (λ y. true)
+    (stopped ts) (refl, refl, (refl, refl, tt))
   where
     stopped : (ts : Nodes) (y : Sign) → front w ≡ cl.Sign y → form_stops y h true type_pieces (stops_each y ts) ≡ true
     stopped none y j = refl
@@ -104,7 +110,9 @@ function_pieces = pi.Kid so.Name ∷ pi.Kid so.Params ∷ result_pieces
 
 result_word : Word ki.Fn si.Fn result_pieces
 unfolding stops
-result_word f n ih h m ts z e q w st ks gs = read_pieces f n ih h m result_pieces false ts z e q tt refl w st (start_of f) ks gs (λ y. true) (stopped ts) (refl, refl, (refl, refl, tt))
+result_word f n ih h m ts z e q w st ks gs =
+    read_pieces f n ih h m result_pieces false ts z e q tt refl w st (start_of f) ks gs (λ y. true) (stopped ts)
+    (refl, refl, (refl, refl, tt))
   where
     stopped : (ts : Nodes) (y : Sign) → front w ≡ cl.Sign y → form_stops y h true result_pieces (stops_each y ts) ≡ true
     stopped none y j = refl
@@ -131,10 +139,23 @@ params_kind ki.Params x a = refl
 params_kind _ x a = cc
 
 params_close : Closer so.Param si.RightParen
-params_close = record { sort = refl; items = refl; anywhere = λ c. refl; faults = refl; pulls = refl; comma = refl; no_else = refl; no_comma = refl }
+params_close = record {
+  sort = refl;
+  items = refl;
+  anywhere = λ c. refl;
+  faults = refl;
+  pulls = refl;
+  comma = refl;
+  no_else = refl;
+  no_comma = refl;
+}
 
-pub params_reads : (f n : ℕ) → ReadsTo f n → (h : Head) (ts : Nodes) → sizes_of ts ≤ n → h.kind ≡ ki.Params → Whole so.Params h ts → (w : List Token) (st : List Symbol) (g : Group) (gs : List Group) → Edge so.Params (front w) (branch h ts) → Claim f so.Params h ts w st g gs
-params_reads f n ih h ts z i p w st g gs x = sort_reads f n ih so.Params ki.Params si.LeftParen (pi.List so.Param ∷ pi.Fixed si.RightParen ∷ []) h ts z i refl refl (λ h e. tt) (λ e. refl) p w st g gs x (λ q c. params_close)
+pub params_reads : (f n : ℕ) → ReadsTo f n → (h : Head) (ts : Nodes) → sizes_of ts ≤ n → h.kind ≡ ki.Params → Whole so.Params h ts →
+    (w : List Token) (st : List Symbol) (g : Group) (gs : List Group) → Edge so.Params (front w) (branch h ts) →
+    Claim f so.Params h ts w st g gs
+params_reads f n ih h ts z i p w st g gs x =
+    sort_reads f n ih so.Params ki.Params si.LeftParen (pi.List so.Param ∷ pi.Fixed si.RightParen ∷ []) h ts z i refl refl (λ h e. tt)
+    (λ e. refl) p w st g gs x (λ q c. params_close)
 
 -- parameters begin with `(` and end with `)`
 record Bracketed (f : ℕ) (t : Node) : Type 0 where
@@ -162,9 +183,12 @@ function_word f n ih h m (more a (more b none)) z e q w st ks gs =
     let k' = split (is_shaped so.Params b) false k.1 in
     cc
 function_word f n ih h m (more a (more b (more c cs))) z e q w st ks gs =
-    let k = split (is_shaped so.Name a) (is_shaped so.Params b && (is_shaped so.Type c && are_kids m (kid_pieces (pi.Fixed si.Equals ∷ pi.Kid expr ∷ pi.Fixed si.Semicolon ∷ [])) cs)) e in
-    let k' = split (is_shaped so.Params b) (is_shaped so.Type c && are_kids m (kid_pieces (pi.Fixed si.Equals ∷ pi.Kid expr ∷ pi.Fixed si.Semicolon ∷ [])) cs) k.1 in
-    let k'' = split (is_shaped so.Type c) (are_kids m (kid_pieces (pi.Fixed si.Equals ∷ pi.Kid expr ∷ pi.Fixed si.Semicolon ∷ [])) cs) k'.1 in
+    let k = split (is_shaped so.Name a) (is_shaped so.Params b &&
+    (is_shaped so.Type c && are_kids m (kid_pieces (pi.Fixed si.Equals ∷ pi.Kid expr ∷ pi.Fixed si.Semicolon ∷ [])) cs)) e in
+    let k' = split (is_shaped so.Params b) (is_shaped so.Type c && are_kids m
+    (kid_pieces (pi.Fixed si.Equals ∷ pi.Kid expr ∷ pi.Fixed si.Semicolon ∷ [])) cs) k.1 in
+    let k'' = split (is_shaped so.Type c) (are_kids m (kid_pieces (pi.Fixed si.Equals ∷ pi.Kid expr ∷ pi.Fixed si.Semicolon ∷ [])) cs)
+    k'.1 in
     let za : size_of a ≤ n = omega arith in
     let zb : size_of b ≤ n = omega arith in
     let zc : size_of c ≤ n = omega arith in
@@ -173,13 +197,19 @@ function_word f n ih h m (more a (more b (more c cs))) z e q w st ks gs =
     let v = pieces_tokens f h result_pieces (spells f (more c cs)) in
     let y = begins f n ih so.Type c zc refl k''.0 in
     let fits : pull (front (v ++ w)) ≤ 18 = rw (append-nil (spell f c), y.is) (type_pull (class_of y.head) y.changes y.symbols y.uses) in
-    let name : run f (spell f a ++ (spell f b ++ (v ++ w))) (of so.Name ∷ of so.Params ∷ (symbols result_pieces ++ st)) (begun (start_of f) ks ∷ gs) ≡ run f (spell f b ++ (v ++ w)) (of so.Params ∷ (symbols result_pieces ++ st)) (begun (start_of f) (ks ++ plain f a ∷ []) ∷ gs) =
-    rw x.spelled (before_sign f n ih so.Name si.LeftParen a za refl k.0 refl (stops_calm si.LeftParen refl refl a) (x.behind ++ (v ++ w)) (of so.Params ∷ (symbols result_pieces ++ st)) (begun (start_of f) ks) gs) in
+    let name : run f (spell f a ++ (spell f b ++ (v ++ w))) (of so.Name ∷ of so.Params ∷ (symbols result_pieces ++ st))
+    (begun (start_of f) ks ∷ gs) ≡ run f (spell f b ++ (v ++ w)) (of so.Params ∷ (symbols result_pieces ++ st))
+    (begun (start_of f) (ks ++ plain f a ∷ []) ∷ gs) =
+    rw x.spelled (before_sign f n ih so.Name si.LeftParen a za refl k.0 refl (stops_calm si.LeftParen refl refl a) (x.behind ++ (v ++ w))
+    (of so.Params ∷ (symbols result_pieces ++ st)) (begun (start_of f) ks) gs) in
     rw (append-nil (spell f a), append-nil (spell f b), append_assoc (spell f a) (spell f b ++ v) w, append_assoc (spell f b) v w)
     (name
-    ∙ read_kid f n ih so.Params b zb refl k'.0 (v ++ w) (symbols result_pieces ++ st) (begun (start_of f) (ks ++ plain f a ∷ [])) gs fits (λ d j. x.closed_off d) refl
+    ∙ read_kid f n ih so.Params b zb refl k'.0 (v ++ w) (symbols result_pieces ++ st) (begun (start_of f) (ks ++ plain f a ∷ [])) gs fits
+    (λ d j. x.closed_off d) refl
     ∙ result_word f n ih h m (more c cs) zs k'.1 q w st ((ks ++ plain f a ∷ []) ++ plain f b ∷ []) gs
-    ∙ ap (λ l. run f w st (begun (start_of f) l ∷ gs)) (append_assoc (ks ++ plain f a ∷ []) (plain f b ∷ []) (plain_list f (more c cs)) ∙ append_assoc ks (plain f a ∷ []) (plain f b ∷ plain_list f (more c cs))))
+    ∙ ap (λ l. run f w st (begun (start_of f) l ∷ gs))
+    (append_assoc (ks ++ plain f a ∷ []) (plain f b ∷ []) (plain_list f (more c cs)) ∙ append_assoc ks (plain f a ∷ [])
+    (plain f b ∷ plain_list f (more c cs))))
 
 -- ---- a declaration
 
@@ -192,15 +222,19 @@ record Declared (k : Kind) (d : Sign) (ps : List Piece) : Type 0 where
   ends : (h : Head) (t : Node) (ts : Nodes) → kids_end (form_of k) (edges (more t ts)) ≡ true → kids_end ps (edges ts) ≡ true
   word : Word k d ps
 
-declared_reads : (f n : ℕ) → ReadsTo f n → (k : Kind) (d : Sign) (ps : List Piece) → Declared k d ps → (h : Head) (ts : Nodes) → sizes_of ts ≤ n → h.kind ≡ k → Whole so.Decl h ts → (w : List Token) (st : List Symbol) (g : Group) (gs : List Group) → Claim f so.Decl h ts w st g gs
+declared_reads : (f n : ℕ) → ReadsTo f n → (k : Kind) (d : Sign) (ps : List Piece) → Declared k d ps → (h : Head) (ts : Nodes) →
+    sizes_of ts ≤ n → h.kind ≡ k → Whole so.Decl h ts → (w : List Token) (st : List Symbol) (g : Group) (gs : List Group) →
+    Claim f so.Decl h ts w st g gs
 unfolding spell is_shaped
 declared_reads f n ih k d ps o h none z i p w st g gs =
     let a : form_of h.kind ≡ pi.Optional so.Export ∷ pi.Fixed d ∷ ps = ap form_of i ∙ o.form in
-    let kids : are_kids (level h.kind h.text) (pi.Optional so.Export ∷ kid_pieces ps) none ≡ true = subst (λ y. are_kids (level h.kind h.text) (kid_pieces y) none ≡ true) a p.kids in
+    let kids : are_kids (level h.kind h.text) (pi.Optional so.Export ∷ kid_pieces ps) none ≡ true =
+    subst (λ y. are_kids (level h.kind h.text) (kid_pieces y) none ≡ true) a p.kids in
     cc
 declared_reads f n ih k d ps o h (more t ts) z i p w st g gs =
     let a : form_of h.kind ≡ pi.Optional so.Export ∷ pi.Fixed d ∷ ps = ap form_of i ∙ o.form in
-    let kids : are_kids (level h.kind h.text) (pi.Optional so.Export ∷ kid_pieces ps) (more t ts) ≡ true = subst (λ y. are_kids (level h.kind h.text) (kid_pieces y) (more t ts) ≡ true) a p.kids in
+    let kids : are_kids (level h.kind h.text) (pi.Optional so.Export ∷ kid_pieces ps) (more t ts) ≡ true =
+    subst (λ y. are_kids (level h.kind h.text) (kid_pieces y) (more t ts) ≡ true) a p.kids in
     let c = split (is_absent t || is_shaped so.Export t) (are_kids (level h.kind h.text) (kid_pieces ps) ts) kids in
     let zs : sizes_of ts ≤ n = omega arith in
     let own : is_own ow.Nothing h ≡ true = subst (λ y. is_own y h ≡ true) (ap (λ y. own_of (form_of y)) i ∙ o.own) p.own in
@@ -212,13 +246,18 @@ declared_reads f n ih k d ps o h (more t ts) z i p w st g gs =
     ∙ rest (plain f t ∷ []) (g ∷ gs)
     ∙ closed f h k false (more t ts) i (λ y. own) w st g gs)
   where
-    run_symbols : (u : List Token) (hs : List Group) → run f u ((symbols ps ++ sy.Close k ∷ []) ++ st) hs ≡ run f u (symbols ps ++ sy.Close k ∷ st) hs
+    run_symbols : (u : List Token) (hs : List Group) →
+        run f u ((symbols ps ++ sy.Close k ∷ []) ++ st) hs ≡ run f u (symbols ps ++ sy.Close k ∷ st) hs
     run_symbols u hs = ap (λ y. run f u y hs) (append_assoc (symbols ps) (sy.Close k ∷ []) st)
 
-    by : Maybe so.Export t → run f (spell f t ++ (sign_token f d ∷ (pieces_tokens f h ps (spells f ts) ++ w))) (of so.Decl ∷ st) (g ∷ gs) ≡ run f (pieces_tokens f h ps (spells f ts) ++ w) ((symbols ps ++ sy.Close k ∷ []) ++ st) (begun (start_of f) (plain f t ∷ []) ∷ g ∷ gs)
+    by : Maybe so.Export t → run f (spell f t ++ (sign_token f d ∷ (pieces_tokens f h ps (spells f ts) ++ w))) (of so.Decl ∷ st) (g ∷ gs) ≡
+        run f (pieces_tokens f h ps (spells f ts) ++ w) ((symbols ps ++ sy.Close k ∷ []) ++ st)
+        (begun (start_of f) (plain f t ∷ []) ∷ g ∷ gs)
     by (lacks e) =
-        let r : row (ru.Of so.Decl) (class_of (sign_token f d)) ≡ Uses (ch.Open ∷ ch.Absent ∷ []) (symbols ps ++ sy.Close k ∷ []) = rw (class_sign f d) o.first in
-        rw (absent_spell f t e, absent_plain f t e) (run_uses f (sign_token f d) _ (ru.Of so.Decl) st (g ∷ gs) (ch.Open ∷ ch.Absent ∷ []) (symbols ps ++ sy.Close k ∷ []) r)
+        let r : row (ru.Of so.Decl) (class_of (sign_token f d)) ≡ Uses (ch.Open ∷ ch.Absent ∷ []) (symbols ps ++ sy.Close k ∷ []) =
+        rw (class_sign f d) o.first in
+        rw (absent_spell f t e, absent_plain f t e)
+        (run_uses f (sign_token f d) _ (ru.Of so.Decl) st (g ∷ gs) (ch.Open ∷ ch.Absent ∷ []) (symbols ps ++ sy.Close k ∷ []) r)
     by (has e) =
         let x = exported f t e in
         let r : row ru.DeclWord (class_of (sign_token f d)) ≡ Uses [] (symbols ps ++ sy.Close k ∷ []) = rw (class_sign f d) o.word_row in
@@ -230,10 +269,26 @@ declared_def : Declared ki.Def si.Def value_pieces
 declared_def = record { form = refl; own = refl; word_row = refl; first = refl; ends = λ h t ts e. e; word = value_word ki.Def si.Def }
 
 declared_let : Declared ki.GlobalLet si.Let value_pieces
-declared_let = record { form = refl; own = refl; word_row = refl; first = refl; ends = λ h t ts e. e; word = value_word ki.GlobalLet si.Let }
+declared_let = record {
+  form = refl;
+  own = refl;
+  word_row = refl;
+  first = refl;
+  ends = λ h t ts e. e;
+  word = value_word ki.GlobalLet
+      si.Let;
+}
 
 declared_const : Declared ki.GlobalConst si.Const value_pieces
-declared_const = record { form = refl; own = refl; word_row = refl; first = refl; ends = λ h t ts e. e; word = value_word ki.GlobalConst si.Const }
+declared_const = record {
+  form = refl;
+  own = refl;
+  word_row = refl;
+  first = refl;
+  ends = λ h t ts e. e;
+  word = value_word ki.GlobalConst
+      si.Const;
+}
 
 declared_type : Declared ki.TypeDecl si.Type type_pieces
 declared_type = record { form = refl; own = refl; word_row = refl; first = refl; ends = λ h t ts e. e; word = type_word }
@@ -241,10 +296,15 @@ declared_type = record { form = refl; own = refl; word_row = refl; first = refl;
 declared_fn : Declared ki.Fn si.Fn function_pieces
 declared_fn = record { form = refl; own = refl; word_row = refl; first = refl; ends = λ h t ts e. e; word = function_word }
 
-pub decl_reads : (f n : ℕ) → ReadsTo f n → (k : Kind) (h : Head) (ts : Nodes) → sizes_of ts ≤ n → h.kind ≡ k → admits so.Decl k h.text ≡ true → Whole so.Decl h ts → (w : List Token) (st : List Symbol) (g : Group) (gs : List Group) → Claim f so.Decl h ts w st g gs
+pub decl_reads : (f n : ℕ) → ReadsTo f n → (k : Kind) (h : Head) (ts : Nodes) → sizes_of ts ≤ n → h.kind ≡ k →
+    admits so.Decl k h.text ≡ true → Whole so.Decl h ts → (w : List Token) (st : List Symbol) (g : Group) (gs : List Group) →
+    Claim f so.Decl h ts w st g gs
 decl_reads f n ih ki.Def h ts z i a p w st g gs = declared_reads f n ih ki.Def si.Def value_pieces declared_def h ts z i p w st g gs
-decl_reads f n ih ki.GlobalLet h ts z i a p w st g gs = declared_reads f n ih ki.GlobalLet si.Let value_pieces declared_let h ts z i p w st g gs
-decl_reads f n ih ki.GlobalConst h ts z i a p w st g gs = declared_reads f n ih ki.GlobalConst si.Const value_pieces declared_const h ts z i p w st g gs
-decl_reads f n ih ki.TypeDecl h ts z i a p w st g gs = declared_reads f n ih ki.TypeDecl si.Type type_pieces declared_type h ts z i p w st g gs
+decl_reads f n ih ki.GlobalLet h ts z i a p w st g gs =
+    declared_reads f n ih ki.GlobalLet si.Let value_pieces declared_let h ts z i p w st g gs
+decl_reads f n ih ki.GlobalConst h ts z i a p w st g gs =
+    declared_reads f n ih ki.GlobalConst si.Const value_pieces declared_const h ts z i p w st g gs
+decl_reads f n ih ki.TypeDecl h ts z i a p w st g gs =
+    declared_reads f n ih ki.TypeDecl si.Type type_pieces declared_type h ts z i p w st g gs
 decl_reads f n ih ki.Fn h ts z i a p w st g gs = declared_reads f n ih ki.Fn si.Fn function_pieces declared_fn h ts z i p w st g gs
 decl_reads f n ih _ h ts z i a p w st g gs = cc

@@ -30,7 +30,8 @@ use Rattle.hare_grammar.specs.OneTree.{plain, is_sort as covered}
 use Rattle.hare_grammar.proofs.Steps.{front, run_skip}
 use Rattle.hare_grammar.proofs.Paths.{split}
 
--- How tightly a token takes an operand that stands before it. `{` and `::` go on with a path; what begins an expression goes on with a `return`; 0 is for
+-- How tightly a token takes an operand that stands before it. `{` and `::` go on with a path; what begins an expression goes on with a
+-- `return`; 0 is for
 -- all that takes nothing.
 abbrev pub pull : Class → ℕ
 pull (cl.Binary m) = m
@@ -178,7 +179,8 @@ kid_ends b e p q = by (is_none e.0)
     by true = p
     by false = q
 
-form_calm : (c : Sign) (h : Head) (b : Bool) (ps : List Piece) (es : List Ending) → (b || resets ps) ≡ true → calm c ps ≡ true → all_end es ≡ true → form_stops c h b ps es ≡ true
+form_calm : (c : Sign) (h : Head) (b : Bool) (ps : List Piece) (es : List Ending) → (b || resets ps) ≡ true → calm c ps ≡ true →
+    all_end es ≡ true → form_stops c h b ps es ≡ true
 form_calm c h b [] es r k a = or_false b r
 form_calm c h b (pi.Fixed s ∷ ps) es r k a = form_calm c h true ps es refl k a
 form_calm c h b (pi.Own o ∷ ps) es r k a = form_calm c h true ps es refl k a
@@ -203,7 +205,9 @@ form_calm c h b (pi.Followed s x ∷ ps) (e ∷ es) r k a =
 form_calm c h b (pi.Value s ∷ ps) (e ∷ es) r k a =
     let p = split e.1 (all_end es) a in
     let q = split (not (is_sign si.Comma c)) (calm c ps) k in
-    form_calm c h (kid_or (is_empty h.text || not (is_sign si.Comma c)) e) ps es (rw (kid_ends (is_empty h.text || not (is_sign si.Comma c)) e (or_true (is_empty h.text) (not (is_sign si.Comma c)) q.0) p.0) refl) q.1 p.1
+    form_calm c h (kid_or (is_empty h.text || not (is_sign si.Comma c)) e) ps es
+    (rw (kid_ends (is_empty h.text || not (is_sign si.Comma c)) e (or_true (is_empty h.text) (not (is_sign si.Comma c)) q.0) p.0) refl)
+    q.1 p.1
 form_calm c h b (pi.Kid s ∷ ps) [] r k a = refl
 form_calm c h b (pi.Optional s ∷ ps) [] r k a = refl
 form_calm c h b (pi.Led x s ∷ ps) [] r k a = refl
@@ -291,13 +295,17 @@ left _ j = []
 -- ---- trees up to a size
 
 abbrev pub ReadsTo : ℕ → ℕ → Type 0
-ReadsTo f n = (s : Sort) (t : Node) → size_of t ≤ n → covered s ≡ true → is_shaped s t ≡ true → (w : List Token) (st : List Symbol) (g : Group) (gs : List Group) → Edge s (front w) t → run f (spell f t ++ w) (of s ∷ st) (g ∷ gs) ≡ run f w (left s (level (head t).kind (head t).text) ++ st) (add (plain f t) (g ∷ gs))
+ReadsTo f n = (s : Sort) (t : Node) → size_of t ≤ n → covered s ≡ true → is_shaped s t ≡ true →
+    (w : List Token) (st : List Symbol) (g : Group) (gs : List Group) → Edge s (front w) t →
+    run f (spell f t ++ w) (of s ∷ st) (g ∷ gs) ≡ run f w (left s (level (head t).kind (head t).text) ++ st) (add (plain f t) (g ∷ gs))
 
 -- a rule of operators that is over
-over_left : (f : ℕ) (l j : ℕ) (w : List Token) (st : List Symbol) (gs : List Group) → 1 ≤ l → pull (front w) < l → run f w (part (ru.Climb l j) ∷ st) gs ≡ run f w st gs
+over_left : (f : ℕ) (l j : ℕ) (w : List Token) (st : List Symbol) (gs : List Group) → 1 ≤ l → pull (front w) < l →
+    run f w (part (ru.Climb l j) ∷ st) gs ≡ run f w st gs
 over_left f l j w st gs o e = run_skip f w (ru.Climb l j) st gs (climb_skips l j (front w) o e)
 
-pub left_over : (f : ℕ) (s : Sort) (j : ℕ) (w : List Token) (st : List Symbol) (gs : List Group) → covered s ≡ true → pull (front w) ≤ bound s → run f w (left s j ++ st) gs ≡ run f w st gs
+pub left_over : (f : ℕ) (s : Sort) (j : ℕ) (w : List Token) (st : List Symbol) (gs : List Group) → covered s ≡ true →
+    pull (front w) ≤ bound s → run f w (left s j ++ st) gs ≡ run f w st gs
 left_over f (so.Level l) j w st gs c e =
     let o : 1 ≤ l = true_le 1 l c in
     over_left f l j w st gs o (omega arith)
@@ -321,8 +329,10 @@ pub in_reach : (s : Sort) (t : Node) → covered s ≡ true → is_shaped s t �
 unfolding is_shaped
 in_reach (so.Level l) (branch h ts) c e =
     let a = admits (so.Level l) h.kind h.text in
-    let p = split (a && is_own (own_of (form_of h.kind)) h && are_kids (level h.kind h.text) (kid_pieces (form_of h.kind)) ts && kids_end (form_of h.kind) (edges ts)) (yields_label h ts) e in
-    let q = split (a && is_own (own_of (form_of h.kind)) h && are_kids (level h.kind h.text) (kid_pieces (form_of h.kind)) ts) (kids_end (form_of h.kind) (edges ts)) p.0 in
+    let p = split (a && is_own (own_of (form_of h.kind)) h && are_kids (level h.kind h.text) (kid_pieces (form_of h.kind)) ts && kids_end
+    (form_of h.kind) (edges ts)) (yields_label h ts) e in
+    let q = split (a && is_own (own_of (form_of h.kind)) h && are_kids (level h.kind h.text) (kid_pieces (form_of h.kind)) ts)
+    (kids_end (form_of h.kind) (edges ts)) p.0 in
     let r = split (a && is_own (own_of (form_of h.kind)) h) (are_kids (level h.kind h.text) (kid_pieces (form_of h.kind)) ts) q.0 in
     let v = split a (is_own (own_of (form_of h.kind)) h) r.0 in
     tight_bound l (level h.kind h.text) (true_le 1 l c) (true_le l (level h.kind h.text) v.0)
@@ -331,7 +341,11 @@ in_reach so.Type t c e = omega arith
 in_reach _ t c e = omega arith
 
 -- a kid that ends where it stands
-pub read_kid : (f n : ℕ) → ReadsTo f n → (s : Sort) (t : Node) → size_of t ≤ n → covered s ≡ true → is_shaped s t ≡ true → (w : List Token) (st : List Symbol) (g : Group) (gs : List Group) → pull (front w) ≤ bound s → ((d : Sign) → front w ≡ cl.Sign d → stops d t ≡ true) → closed_by s (front w) ≡ true → run f (spell f t ++ w) (of s ∷ st) (g ∷ gs) ≡ run f w st (add (plain f t) (g ∷ gs))
+pub read_kid : (f n : ℕ) → ReadsTo f n → (s : Sort) (t : Node) → size_of t ≤ n → covered s ≡ true → is_shaped s t ≡ true →
+    (w : List Token) (st : List Symbol) (g : Group) (gs : List Group) → pull (front w) ≤ bound s →
+    ((d : Sign) → front w ≡ cl.Sign d → stops d t ≡ true) → closed_by s (front w) ≡ true →
+    run f (spell f t ++ w) (of s ∷ st) (g ∷ gs) ≡ run f w st (add (plain f t) (g ∷ gs))
 read_kid f n ih s t z c h w st g gs p q r =
     let b = in_reach s t c h in
-    ih s t z c h w st g gs (record { reaches = omega (arith, b, p); stops_at = q; closed = r }) ∙ left_over f s (level (head t).kind (head t).text) w st _ c p
+    ih s t z c h w st g gs (record { reaches = omega (arith, b, p); stops_at = q; closed = r }) ∙ left_over f s
+    (level (head t).kind (head t).text) w st _ c p

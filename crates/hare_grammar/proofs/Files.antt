@@ -113,11 +113,14 @@ decls_top : Tops so.Decl begins_decl
 decls_top = record { sort = refl; wide = refl; anywhere = λ c. refl; first = decl_first; any = decl_any }
 
 -- trees that are read, and what stands in front of them
-record Side (f : ℕ) (s : Sort) (may : Class → Bool) (w : List Token) (ts : List Node) (st : List Symbol) (g : Group) (gs : List Group) : Type 0 where
+record Side (f : ℕ) (s : Sort) (may : Class → Bool) (w : List Token) (ts : List Node) (st : List Symbol) (g : Group)
+    (gs : List Group) : Type 0 where
   next : may (front (spell_all f ts ++ w)) ≡ true
   runs : run f (spell_all f ts ++ w) (part (ru.Each s) ∷ st) (g ∷ gs) ≡ run f w st (filled f g (nodes_of ts) ∷ gs)
 
-read_each : (f : ℕ) (s : Sort) (may : Class → Bool) → Tops s may → (ts : List Node) → list_all (is_shaped s) ts ≡ true → (w : List Token) (st : List Symbol) (g : Group) (gs : List Group) → may (front w) ≡ true → of_row s (front w) ≡ Fault → Side f s may w ts st g gs
+read_each : (f : ℕ) (s : Sort) (may : Class → Bool) → Tops s may → (ts : List Node) → list_all (is_shaped s) ts ≡ true →
+    (w : List Token) (st : List Symbol) (g : Group) (gs : List Group) → may (front w) ≡ true → of_row s (front w) ≡ Fault →
+    Side f s may w ts st g gs
 unfolding spell
 read_each f s may q [] h w st g gs m o =
     let r : row (ru.Each s) (front w) ≡ Skips [] = ap (λ y. or_skips (before y (part (ru.Each s) ∷ [])) []) o in
@@ -129,12 +132,14 @@ read_each f s may q (t ∷ ts) h w st g gs m o =
     let b = begins f (size_of t) (reads f (size_of t)) s t (omega arith) q.sort p.0 in
     let y = q.any (front (v ++ w)) r.next in
     let fits : pull (front (v ++ w)) ≤ bound s = rw (any_pull (front (v ++ w)) y, q.wide) (omega arith) in
-    let calm : (d : Sign) → front (v ++ w) ≡ cl.Sign d → stops d t ≡ true = λ d i. let c = any_calm d (subst (λ z. begins_any z ≡ true) i y) in stops_calm d c.0 c.1 t in
+    let calm : (d : Sign) → front (v ++ w) ≡ cl.Sign d → stops d t ≡ true = λ d i. let c =
+    any_calm d (subst (λ z. begins_any z ≡ true) i y) in stops_calm d c.0 c.1 t in
     record {
       next = rw (append_assoc (spell f t) v w, b.is) (q.first (class_of b.head) b.changes b.symbols b.uses);
       runs = rw (append_assoc (spell f t) v w)
           (run_or f s (ru.Each s) [] (part (ru.Each s) ∷ []) (spell f t) (v ++ w) st (g ∷ gs) (λ c. refl) b
-          ∙ read_kid f (size_of t) (reads f (size_of t)) s t (omega arith) q.sort p.0 (v ++ w) _ g gs fits calm (q.anywhere (front (v ++ w)))
+          ∙ read_kid f (size_of t) (reads f (size_of t)) s t (omega arith) q.sort p.0 (v ++ w) _ g gs fits calm
+          (q.anywhere (front (v ++ w)))
           ∙ r.runs
           ∙ run_group f w st gs _ _ (fill_more f g t (nodes_of ts)));
     }
@@ -150,13 +155,16 @@ decl_is_no_use _ e = refl
 abbrev end : ℕ → Token
 end f = word_token f tk.End []
 
-pub read_file : (t : FileTree) → is_shaped_file t ≡ true → run t.file (spell_file t) file_symbols bottom ≡ Done (end t.file ∷ []) (begun (start_of 0) (plain_list t.file (nodes_of t.uses) ++ plain_list t.file (nodes_of t.decls)) ∷ [])
+pub read_file : (t : FileTree) → is_shaped_file t ≡ true →
+    run t.file (spell_file t) file_symbols bottom ≡
+    Done (end t.file ∷ []) (begun (start_of 0) (plain_list t.file (nodes_of t.uses) ++ plain_list t.file (nodes_of t.decls)) ∷ [])
 read_file t h =
     let f = t.file in
     let p = split (list_all (is_shaped so.Use) t.uses) (list_all (is_shaped so.Decl) t.decls) h in
     let g = begun (start_of 0) [] in
     let d = read_each f so.Decl begins_decl decls_top t.decls p.1 (end f ∷ []) [] (filled f g (nodes_of t.uses)) [] refl refl in
-    let u = read_each f so.Use begins_any uses_top t.uses p.0 (spell_all f t.decls ++ end f ∷ []) (part (ru.Each so.Decl) ∷ []) g [] (decl_any (front (spell_all f t.decls ++ end f ∷ [])) d.next) (decl_is_no_use (front (spell_all f t.decls ++ end f ∷ [])) d.next) in
+    let u = read_each f so.Use begins_any uses_top t.uses p.0 (spell_all f t.decls ++ end f ∷ []) (part (ru.Each so.Decl) ∷ []) g []
+    (decl_any (front (spell_all f t.decls ++ end f ∷ [])) d.next) (decl_is_no_use (front (spell_all f t.decls ++ end f ∷ [])) d.next) in
     u.runs ∙ d.runs ∙ run_done f (end f) [] _
 
 -- ---- imports and declarations side by side can be told apart
@@ -193,7 +201,9 @@ shaped_decl (branch h ts) e = by h.kind h.text (shape so.Decl h ts e).admitted
 plain_kind : (f : ℕ) (t : Node) → is_use (plain f t) ≡ is_use t
 plain_kind f (branch h ts) = refl
 
-told_apart : (f : ℕ) (us ds : List Node) → list_all (is_shaped so.Use) us ≡ true → list_all (is_shaped so.Decl) ds ≡ true → (imports_in (plain_list f (nodes_of us) ++ plain_list f (nodes_of ds)) ≡ plain_list f (nodes_of us)) × (others_in (plain_list f (nodes_of us) ++ plain_list f (nodes_of ds)) ≡ plain_list f (nodes_of ds))
+told_apart : (f : ℕ) (us ds : List Node) → list_all (is_shaped so.Use) us ≡ true → list_all (is_shaped so.Decl) ds ≡ true →
+    (imports_in (plain_list f (nodes_of us) ++ plain_list f (nodes_of ds)) ≡ plain_list f (nodes_of us)) ×
+    (others_in (plain_list f (nodes_of us) ++ plain_list f (nodes_of ds)) ≡ plain_list f (nodes_of ds))
 told_apart f [] [] a b = (refl, refl)
 told_apart f [] (d ∷ ds) a b =
     let p = split (is_shaped so.Decl d) (list_all (is_shaped so.Decl) ds) b in
@@ -226,12 +236,16 @@ files_have_one_tree t t' i h h' e =
     let b = read_file t' h' in
     let p = split (list_all (is_shaped so.Use) t.uses) (list_all (is_shaped so.Decl) t.decls) h in
     let p' = split (list_all (is_shaped so.Use) t'.uses) (list_all (is_shaped so.Decl) t'.decls) h' in
-    let d : run f (spell_file t) file_symbols bottom ≡ run t'.file (spell_file t') file_symbols bottom = ap (λ u. run f u file_symbols bottom) e ∙ ap (λ y. run y (spell_file t') file_symbols bottom) i in
-    let k : plain_list f (nodes_of t.uses) ++ plain_list f (nodes_of t.decls) ≡ plain_list t'.file (nodes_of t'.uses) ++ plain_list t'.file (nodes_of t'.decls) = ap kids_in (sym a ∙ d ∙ b) in
+    let d : run f (spell_file t) file_symbols bottom ≡ run t'.file (spell_file t') file_symbols bottom =
+    ap (λ u. run f u file_symbols bottom) e ∙ ap (λ y. run y (spell_file t') file_symbols bottom) i in
+    let k : plain_list f (nodes_of t.uses) ++ plain_list f (nodes_of t.decls) ≡
+    plain_list t'.file (nodes_of t'.uses) ++ plain_list t'.file (nodes_of t'.decls) = ap kids_in (sym a ∙ d ∙ b) in
     let x = told_apart f t.uses t.decls p.0 p.1 in
     let x' = told_apart t'.file t'.uses t'.decls p'.0 p'.1 in
-    let us : map (plain f) t.uses ≡ map (plain t'.file) t'.uses = sym (plain_map f t.uses) ∙ sym x.0 ∙ ap imports_in k ∙ x'.0 ∙ plain_map t'.file t'.uses in
-    let ds : map (plain f) t.decls ≡ map (plain t'.file) t'.decls = sym (plain_map f t.decls) ∙ sym x.1 ∙ ap others_in k ∙ x'.1 ∙ plain_map t'.file t'.decls in
+    let us : map (plain f) t.uses ≡ map (plain t'.file) t'.uses =
+    sym (plain_map f t.uses) ∙ sym x.0 ∙ ap imports_in k ∙ x'.0 ∙ plain_map t'.file t'.uses in
+    let ds : map (plain f) t.decls ≡ map (plain t'.file) t'.decls =
+    sym (plain_map f t.decls) ∙ sym x.1 ∙ ap others_in k ∙ x'.1 ∙ plain_map t'.file t'.decls in
     same_file (plain_file t) (plain_file t') i us ds
 
 -- ---- the same with places
@@ -257,21 +271,28 @@ nodes_plain f [] = refl
 nodes_plain f (t ∷ ts) = ap (more (plain f t)) (nodes_plain f ts)
 
 -- trees side by side are equal where they are so but for places and have their places
-side_by_side : (f : ℕ) (ts : List Token) (n n' : ℕ) (us us' : List Node) → n ≡ n' → map (plain f) us ≡ map (plain f) us' → HavePlaces f ts (begins_led le.Nothing n (spells 0 (nodes_of us))) (nodes_of us) → HavePlaces f ts (begins_led le.Nothing n' (spells 0 (nodes_of us'))) (nodes_of us') → us ≡ us'
+side_by_side : (f : ℕ) (ts : List Token) (n n' : ℕ) (us us' : List Node) → n ≡ n' → map (plain f) us ≡ map (plain f) us' →
+    HavePlaces f ts (begins_led le.Nothing n (spells 0 (nodes_of us))) (nodes_of us) →
+    HavePlaces f ts (begins_led le.Nothing n' (spells 0 (nodes_of us'))) (nodes_of us') → us ≡ us'
 side_by_side f ts n n' us us' i e p p' =
     let a : plains f (nodes_of us) ≡ plains f (nodes_of us') = sym (nodes_plain f us) ∙ ap nodes_of e ∙ nodes_plain f us' in
-    let b : plains 0 (nodes_of us) ≡ plains 0 (nodes_of us') = sym (plains_plains f (nodes_of us)) ∙ ap (plains 0) a ∙ plains_plains f (nodes_of us') in
-    let c : spells 0 (nodes_of us') ≡ spells 0 (nodes_of us) = sym (spells_plain 0 0 (nodes_of us')) ∙ ap (spells 0) (sym b) ∙ spells_plain 0 0 (nodes_of us) in
+    let b : plains 0 (nodes_of us) ≡ plains 0 (nodes_of us') =
+    sym (plains_plains f (nodes_of us)) ∙ ap (plains 0) a ∙ plains_plains f (nodes_of us') in
+    let c : spells 0 (nodes_of us') ≡ spells 0 (nodes_of us) =
+    sym (spells_plain 0 0 (nodes_of us')) ∙ ap (spells 0) (sym b) ∙ spells_plain 0 0 (nodes_of us) in
     let q = subst (λ y. HavePlaces f ts (begins_led le.Nothing y (spells 0 (nodes_of us'))) (nodes_of us')) (sym i) p' in
     let q' = subst (λ y. HavePlaces f ts (begins_led le.Nothing n y) (nodes_of us')) c q in
-    sym (list_back us) ∙ ap list_in (have_places_decide f ts (begins_led le.Nothing n (spells 0 (nodes_of us))) (nodes_of us) (nodes_of us') b p q') ∙ list_back us'
+    sym (list_back us) ∙ ap list_in (have_places_decide f ts (begins_led le.Nothing n (spells 0 (nodes_of us))) (nodes_of us) (nodes_of us')
+    b p q') ∙ list_back us'
 
 -- a list of tokens says what it says but for places
 still_file : (t : FileTree) → Still t.file (spell_file t)
 still_file t =
     let f = t.file in
-    still_append f (spell_all f t.uses) (spell_all f t.decls ++ end f ∷ []) (still_led f le.Nothing (spells f (nodes_of t.uses)) (still_spells f (nodes_of t.uses)))
-    (still_append f (spell_all f t.decls) (end f ∷ []) (still_led f le.Nothing (spells f (nodes_of t.decls)) (still_spells f (nodes_of t.decls))) refl)
+    still_append f (spell_all f t.uses) (spell_all f t.decls ++ end f ∷ [])
+    (still_led f le.Nothing (spells f (nodes_of t.uses)) (still_spells f (nodes_of t.uses)))
+    (still_append f (spell_all f t.decls) (end f ∷ [])
+    (still_led f le.Nothing (spells f (nodes_of t.decls)) (still_spells f (nodes_of t.decls))) refl)
 
 put_unplaced : (f : ℕ) (u : List Token) → map (put_at f) (map unplaced u) ≡ map (put_at f) u
 put_unplaced f [] = refl
@@ -281,16 +302,25 @@ pub tokens_have_one_file : TokensHaveOneFile
 tokens_have_one_file file ts t t' p p' =
     let i : t.file ≡ t'.file = p.file_is ∙ sym p'.file_is in
     let e : spell_file t ≡ spell_file t' =
-    sym (still_file t) ∙ sym (put_unplaced t.file (spell_file t)) ∙ ap (λ u. map (put_at t.file) u) (p.spelled ∙ sym p'.spelled) ∙ put_unplaced t.file (spell_file t') ∙ ap (λ y. map (put_at y) (spell_file t')) i ∙ still_file t' in
+    sym (still_file t) ∙ sym (put_unplaced t.file (spell_file t)) ∙ ap (λ u. map (put_at t.file) u) (p.spelled ∙ sym p'.spelled) ∙
+    put_unplaced t.file (spell_file t') ∙ ap (λ y. map (put_at y) (spell_file t')) i ∙ still_file t' in
     let q = files_have_one_tree t t' i (fits_file_parts t p.fits).0 (fits_file_parts t' p'.fits).0 e in
-    let us : map (plain file) t.uses ≡ map (plain file) t'.uses = subst (λ y. map (plain y) t.uses ≡ map (plain file) t'.uses) p.file_is (subst (λ y. map (plain t.file) t.uses ≡ map (plain y) t'.uses) p'.file_is (ap (λ y. y.uses) q)) in
-    let ds : map (plain file) t.decls ≡ map (plain file) t'.decls = subst (λ y. map (plain y) t.decls ≡ map (plain file) t'.decls) p.file_is (subst (λ y. map (plain t.file) t.decls ≡ map (plain y) t'.decls) p'.file_is (ap (λ y. y.decls) q)) in
-    let pu = subst (λ y. HavePlaces y (joined ts) (begins_led le.Nothing 0 (spells 0 (nodes_of t.uses))) (nodes_of t.uses)) p.file_is p.placed.uses in
-    let pu' = subst (λ y. HavePlaces y (joined ts) (begins_led le.Nothing 0 (spells 0 (nodes_of t'.uses))) (nodes_of t'.uses)) p'.file_is p'.placed.uses in
+    let us : map (plain file) t.uses ≡ map (plain file) t'.uses =
+    subst (λ y. map (plain y) t.uses ≡ map (plain file) t'.uses) p.file_is
+    (subst (λ y. map (plain t.file) t.uses ≡ map (plain y) t'.uses) p'.file_is (ap (λ y. y.uses) q)) in
+    let ds : map (plain file) t.decls ≡ map (plain file) t'.decls =
+    subst (λ y. map (plain y) t.decls ≡ map (plain file) t'.decls) p.file_is
+    (subst (λ y. map (plain t.file) t.decls ≡ map (plain y) t'.decls) p'.file_is (ap (λ y. y.decls) q)) in
+    let pu = subst (λ y. HavePlaces y (joined ts) (begins_led le.Nothing 0 (spells 0 (nodes_of t.uses))) (nodes_of t.uses)) p.file_is
+    p.placed.uses in
+    let pu' = subst (λ y. HavePlaces y (joined ts) (begins_led le.Nothing 0 (spells 0 (nodes_of t'.uses))) (nodes_of t'.uses)) p'.file_is
+    p'.placed.uses in
     let n = length (spell_all 0 t.uses) in
     let n' = length (spell_all 0 t'.uses) in
-    let pd = subst (λ y. HavePlaces y (joined ts) (begins_led le.Nothing n (spells 0 (nodes_of t.decls))) (nodes_of t.decls)) p.file_is p.placed.decls in
-    let pd' = subst (λ y. HavePlaces y (joined ts) (begins_led le.Nothing n' (spells 0 (nodes_of t'.decls))) (nodes_of t'.decls)) p'.file_is p'.placed.decls in
+    let pd = subst (λ y. HavePlaces y (joined ts) (begins_led le.Nothing n (spells 0 (nodes_of t.decls))) (nodes_of t.decls)) p.file_is
+    p.placed.decls in
+    let pd' = subst (λ y. HavePlaces y (joined ts) (begins_led le.Nothing n' (spells 0 (nodes_of t'.decls))) (nodes_of t'.decls)) p'.file_is
+    p'.placed.decls in
     let a = side_by_side file (joined ts) 0 0 t.uses t'.uses refl us pu pu' in
     let b = side_by_side file (joined ts) n n' t.decls t'.decls (ap (λ y. length (spell_all 0 y)) a) ds pd pd' in
     same_file t t' i a b

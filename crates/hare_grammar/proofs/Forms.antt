@@ -109,7 +109,8 @@ Clear (pi.List s ∷ pi.Fixed d ∷ []) c = Closer s d
 Clear (pi.Elements s ∷ pi.Fixed si.RightBracket ∷ []) c = s ≡ expr
 Clear _ c = ⊥
 
-pub next_is : (f : ℕ) (h : Head) (ps : List Piece) (us : List Spelled) (w : List Token) → Plainly ps → front (pieces_tokens f h ps us ++ w) ≡ next_class ps (front w)
+pub next_is : (f : ℕ) (h : Head) (ps : List Piece) (us : List Spelled) (w : List Token) → Plainly ps →
+    front (pieces_tokens f h ps us ++ w) ≡ next_class ps (front w)
 next_is f h [] us w p = refl
 next_is f h (pi.Fixed d ∷ ps) us w p = class_sign f d
 next_is f h (pi.Own o ∷ ps) us w p = absurd p
@@ -120,7 +121,8 @@ pub record Standing (s : Sort) (t : Node) (v : List Token) : Type 0 where
   pub stops_at : (d : Sign) → front v ≡ cl.Sign d → stops d t ≡ true
   pub closed : closed_by s (front v) ≡ true
 
-pub ends_from : (s : Sort) (t : Node) (v : List Token) (c : Class) → front v ≡ c → at s c ≡ true → ((d : Sign) → c ≡ cl.Sign d → stops d t ≡ true) → Standing s t v
+pub ends_from : (s : Sort) (t : Node) (v : List Token) (c : Class) → front v ≡ c → at s c ≡ true →
+    ((d : Sign) → c ≡ cl.Sign d → stops d t ≡ true) → Standing s t v
 ends_from s t v c e a k =
     let p = split (nat_le (pull c) (bound s)) (closed_by s c) a in
     record { pulls = rw e (true_le (pull c) (bound s) p.0); stops_at = λ d i. k d (sym e ∙ i); closed = rw e p.1 }
@@ -157,10 +159,14 @@ dots_spell f (branch h ts) e = rw (by_kind h.kind h.text (shape so.Dots h ts e).
     by_kind ki.Dots x a = refl
     by_kind _ x a = cc
 
-pub kid_ends : (f : ℕ) (h : Head) (m : ℕ) (s : Sort) (t : Node) (ps : List Piece) (ts : Nodes) (w : List Token) → are_kids m (kid_pieces ps) ts ≡ true → ends_before (behind_kid ps (edges ts)) (edge t) ≡ true → ((d : Sign) → front w ≡ cl.Sign d → form_stops d h (stops d t) ps (stops_each d ts) ≡ true) → Follows s ps (front w) → Standing s t (pieces_tokens f h ps (spells f ts) ++ w)
+pub kid_ends : (f : ℕ) (h : Head) (m : ℕ) (s : Sort) (t : Node) (ps : List Piece) (ts : Nodes) (w : List Token) →
+    are_kids m (kid_pieces ps) ts ≡ true → ends_before (behind_kid ps (edges ts)) (edge t) ≡ true →
+    ((d : Sign) → front w ≡ cl.Sign d → form_stops d h (stops d t) ps (stops_each d ts) ≡ true) → Follows s ps (front w) →
+    Standing s t (pieces_tokens f h ps (spells f ts) ++ w)
 unfolding is_shaped spell stops
 kid_ends f h m s t [] ts w k e x q = ends_from s t w (front w) refl q x
-kid_ends f h m s t (pi.Fixed d ∷ ps) ts w k e x q = ends_from s t _ (cl.Sign d) (class_sign f d) q (λ y i. rw (← same_sign d y i) (ends_sign d t e))
+kid_ends f h m s t (pi.Fixed d ∷ ps) ts w k e x q =
+    ends_from s t _ (cl.Sign d) (class_sign f d) q (λ y i. rw (← same_sign d y i) (ends_sign d t e))
 kid_ends f h m s t (pi.Led a r ∷ []) none w k e x q = cc
 kid_ends f h m s t (pi.Led a r ∷ []) (more u us) w k e x q =
     by (maybe r u (split (is_absent u || is_shaped r u) (are_kids m [] us) k).0)
@@ -200,30 +206,38 @@ kid_ends f h m s t _ ts w k e x q = absurd q
 
 -- ---- a tree's own text
 
-alone_state : (b : Bool) (p : Place) (h : Head) (ks : List Node) → h.text ≡ [] → has_text_alone h ≡ true → state false p h ks ≡ state true p h ks
+alone_state : (b : Bool) (p : Place) (h : Head) (ks : List Node) → h.text ≡ [] → has_text_alone h ≡ true →
+    state false p h ks ≡ state true p h ks
 alone_state b p h ks i e = let q = alone h e in rw (i, q.number, q.suffix) refl
 
-pub taken : (f : ℕ) (b : Bool) (p : Place) (h : Head) (ks : List Node) (gs : List Group) → has_text_alone h ≡ true → (k : TokenKind) → take_text (word_token f k h.text) (state b p h ks ∷ gs) ≡ state true p h ks ∷ gs
+pub taken : (f : ℕ) (b : Bool) (p : Place) (h : Head) (ks : List Node) (gs : List Group) → has_text_alone h ≡ true → (k : TokenKind) →
+    take_text (word_token f k h.text) (state b p h ks ∷ gs) ≡ state true p h ks ∷ gs
 taken f true p h ks gs e k = let q = alone h e in rw (q.number, q.suffix) refl
 taken f false p h ks gs e k = let q = alone h e in rw (q.number, q.suffix) refl
 
-pub read_name : (f : ℕ) (b : Bool) (p : Place) (h : Head) (ks : List Node) (w : List Token) (st : List Symbol) (gs : List Group) → is_own ow.Name h ≡ true → run f (word_token f tk.Name h.text ∷ w) (part (ru.Own ow.Name) ∷ st) (state b p h ks ∷ gs) ≡ run f w st (state true p h ks ∷ gs)
+pub read_name : (f : ℕ) (b : Bool) (p : Place) (h : Head) (ks : List Node) (w : List Token) (st : List Symbol) (gs : List Group) →
+    is_own ow.Name h ≡ true → run f (word_token f tk.Name h.text ∷ w) (part (ru.Own ow.Name) ∷ st) (state b p h ks ∷ gs) ≡
+    run f w st (state true p h ks ∷ gs)
 read_name f b p h ks w st gs e =
     let q = split (is_name false h.text) (has_text_alone h) e in
     let r : row (ru.Own ow.Name) (class_of (word_token f tk.Name h.text)) ≡ Uses (ch.Take ∷ []) [] = rw (class_name f h.text q.0) refl in
-    run_uses f (word_token f tk.Name h.text) w (ru.Own ow.Name) st (state b p h ks ∷ gs) (ch.Take ∷ []) [] r ∙ run_groups f w st _ _ (taken f b p h ks gs q.1 tk.Name)
+    run_uses f (word_token f tk.Name h.text) w (ru.Own ow.Name) st (state b p h ks ∷ gs) (ch.Take ∷ []) [] r ∙ run_groups f w st _ _
+    (taken f b p h ks gs q.1 tk.Name)
 
 no_colon : (c : Class) → has_sign si.Colon c ≡ false → row (ru.Own ow.Label) c ≡ Skips []
 no_colon (cl.Sign si.Colon) e = cc
 no_colon (cl.Sign _) e = refl
 no_colon _ e = refl
 
-pub read_label : (f : ℕ) (p : Place) (h : Head) (ks : List Node) (w : List Token) (st : List Symbol) (gs : List Group) → is_own ow.Label h ≡ true → has_sign si.Colon (front w) ≡ false → run f (label_tokens f h.text ++ w) (part (ru.Own ow.Label) ∷ st) (state false p h ks ∷ gs) ≡ run f w st (state true p h ks ∷ gs)
+pub read_label : (f : ℕ) (p : Place) (h : Head) (ks : List Node) (w : List Token) (st : List Symbol) (gs : List Group) →
+    is_own ow.Label h ≡ true → has_sign si.Colon (front w) ≡ false →
+    run f (label_tokens f h.text ++ w) (part (ru.Own ow.Label) ∷ st) (state false p h ks ∷ gs) ≡ run f w st (state true p h ks ∷ gs)
 read_label f p h ks w st gs e c =
     let q = split (is_empty h.text || is_name false h.text) (has_text_alone h) e in
     by h.text refl q.0 q.1
   where
-    by : (x : List ℕ) → h.text ≡ x → (is_empty x || is_name false x) ≡ true → has_text_alone h ≡ true → run f (label_tokens f x ++ w) (part (ru.Own ow.Label) ∷ st) (state false p h ks ∷ gs) ≡ run f w st (state true p h ks ∷ gs)
+    by : (x : List ℕ) → h.text ≡ x → (is_empty x || is_name false x) ≡ true → has_text_alone h ≡ true →
+        run f (label_tokens f x ++ w) (part (ru.Own ow.Label) ∷ st) (state false p h ks ∷ gs) ≡ run f w st (state true p h ks ∷ gs)
     by [] i n a = run_skip f w (ru.Own ow.Label) st _ (no_colon (front w) c) ∙ run_group f w st gs _ _ (alone_state false p h ks i a)
     by (y ∷ ys) i n a =
         let o : is_own ow.Name h ≡ true = rw (i, n, a) refl in

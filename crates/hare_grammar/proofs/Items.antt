@@ -54,7 +54,8 @@ pub record Closer (s : Sort) (d : Sign) : Type 0 where
   pub no_comma : is_sign si.Comma d ≡ false
 
 -- what stands in front of the items that are left: a comma, or the sign that closes the list
-pub record Items (f : ℕ) (n : Rule) (d : Sign) (u w : List Token) (ts : Nodes) (st : List Symbol) (g : Group) (gs : List Group) : Type 0 where
+pub record Items (f : ℕ) (n : Rule) (d : Sign) (u w : List Token) (ts : Nodes) (st : List Symbol) (g : Group) (gs : List Group) : Type
+    0 where
   pub next : ((front (u ++ w) ≡ cl.Sign si.Comma) × (behind_item (edges ts) ≡ Some si.Comma)) ⊎ (front (u ++ w) ≡ cl.Sign d)
   pub runs : run f (u ++ w) (part n ∷ st) (g ∷ gs) ≡ run f w st (filled f g ts ∷ gs)
 
@@ -62,17 +63,22 @@ pub same_sign : (a b : Sign) → cl.Sign a ≡ cl.Sign b → a ≡ b
 same_sign a b e = cc
 
 -- the item before ends there
-pub item_pull : (d : Sign) (v : List Token) (es : List EdgeOf) → pull (cl.Sign d) ≡ 0 → ((front v ≡ cl.Sign si.Comma) × (behind_item es ≡ Some si.Comma)) ⊎ (front v ≡ cl.Sign d) → pull (front v) ≡ 0
+pub item_pull : (d : Sign) (v : List Token) (es : List EdgeOf) → pull (cl.Sign d) ≡ 0 →
+    ((front v ≡ cl.Sign si.Comma) × (behind_item es ≡ Some si.Comma)) ⊎ (front v ≡ cl.Sign d) → pull (front v) ≡ 0
 item_pull d v es p (inl e) = rw (e.0) refl
 item_pull d v es p (inr e) = rw e p
 
-pub item_stops : (d : Sign) (v : List Token) (es : List EdgeOf) (t : Node) → is_sign si.Else d ≡ false → is_sign si.Comma d ≡ false → ends_before (behind_item es) (edge t) ≡ true → ((front v ≡ cl.Sign si.Comma) × (behind_item es ≡ Some si.Comma)) ⊎ (front v ≡ cl.Sign d) → (x : Sign) → front v ≡ cl.Sign x → stops x t ≡ true
+pub item_stops : (d : Sign) (v : List Token) (es : List EdgeOf) (t : Node) → is_sign si.Else d ≡ false → is_sign si.Comma d ≡ false →
+    ends_before (behind_item es) (edge t) ≡ true →
+    ((front v ≡ cl.Sign si.Comma) × (behind_item es ≡ Some si.Comma)) ⊎ (front v ≡ cl.Sign d) → (x : Sign) → front v ≡ cl.Sign x →
+    stops x t ≡ true
 item_stops d v es t p q k (inl e) x i =
     let c : ends_before (Some si.Comma) (edge t) ≡ true = subst (λ b. ends_before b (edge t) ≡ true) e.1 k in
     rw (← same_sign si.Comma x (sym e.0 ∙ i)) c
 item_stops d v es t p q k (inr e) x i = rw (← same_sign d x (sym e ∙ i)) (stops_calm d p q t)
 
-pub item_behind : (k : Kind) (o : Option Sign) → stands_alone k ≡ false → (if is_none k then o else if is_dots k then None else Some si.Comma) ≡ Some si.Comma
+pub item_behind : (k : Kind) (o : Option Sign) → stands_alone k ≡ false →
+    (if is_none k then o else if is_dots k then None else Some si.Comma) ≡ Some si.Comma
 item_behind ki.None o e = cc
 item_behind ki.Dots o e = cc
 item_behind _ o e = refl
@@ -80,27 +86,43 @@ item_behind _ o e = refl
 comma_ends : (s : Sort) (d : Sign) (c : Class) → Closer s d → c ≡ cl.Sign d → row (ru.More s) c ≡ Skips (ch.Absent ∷ [])
 comma_ends s d c q e = rw (e, q.comma) refl
 
-last_comma : (s : Sort) (d : Sign) (c : Class) → Closer s d → c ≡ cl.Sign d → row (ru.BehindComma s) c ≡ Skips (ch.Close ki.TrailingComma ∷ [])
+last_comma : (s : Sort) (d : Sign) (c : Class) → Closer s d → c ≡ cl.Sign d →
+    row (ru.BehindComma s) c ≡ Skips (ch.Close ki.TrailingComma ∷ [])
 last_comma s d c q e = rw (e, q.faults) refl
 
-more_last : (f : ℕ) (s : Sort) (d : Sign) (h : Head) (w : List Token) (st : List Symbol) (g : Group) (gs : List Group) → Closer s d → front w ≡ cl.Sign d → is_leaf is_none_or_comma (branch h none) ≡ true → Items f (ru.More s) d (all_led f (le.Before si.Comma) (spells f (more (branch h none) none))) w (more (branch h none) none) st g gs
+more_last : (f : ℕ) (s : Sort) (d : Sign) (h : Head) (w : List Token) (st : List Symbol) (g : Group) (gs : List Group) → Closer s d →
+    front w ≡ cl.Sign d → is_leaf is_none_or_comma (branch h none) ≡ true →
+    Items f (ru.More s) d (all_led f (le.Before si.Comma) (spells f (more (branch h none) none))) w (more (branch h none) none) st g gs
 unfolding spell
 more_last f s d h w st g gs q e l =
     let p = split (is_none_or_comma h.kind) (is_own ow.Nothing h) l in
     by h.kind refl p.0 p.1
   where
-    by : (k : Kind) → h.kind ≡ k → is_none_or_comma k ≡ true → is_own ow.Nothing h ≡ true → Items f (ru.More s) d (all_led f (le.Before si.Comma) (spells f (more (branch h none) none))) w (more (branch h none) none) st g gs
+    by : (k : Kind) → h.kind ≡ k → is_none_or_comma k ≡ true → is_own ow.Nothing h ≡ true →
+        Items f (ru.More s) d (all_led f (le.Before si.Comma) (spells f (more (branch h none) none))) w (more (branch h none) none) st g gs
     by ki.None i a b =
         let r = run_absent f w (ru.More s) st (g ∷ gs) (comma_ends s d (front w) q e) in
         let x : all_led f (le.Before si.Comma) (spells f (more (branch h none) none)) ≡ [] = rw i refl in
-        record { next = inr (rw x e); runs = rw x (r ∙ ap (λ y. run f w st (add (branch y none) (g ∷ gs))) (sym (nothing_head f h ki.None i b))) }
+        record {
+          next = inr (rw x e);
+          runs = rw x
+              (r ∙ ap (λ y. run f w st (add (branch y none) (g ∷ gs))) (sym (nothing_head f h ki.None i b)));
+        }
     by ki.TrailingComma i a b =
-        let r = run_uses f (sign_token f si.Comma) w (ru.More s) st (g ∷ gs) (ch.Open ∷ []) (part (ru.BehindComma s) ∷ []) refl ∙ run_ends f w (ru.BehindComma s) ki.TrailingComma st _ (last_comma s d (front w) q e) in
+        let r = run_uses f (sign_token f si.Comma) w (ru.More s) st (g ∷ gs) (ch.Open ∷ []) (part (ru.BehindComma s) ∷ []) refl ∙ run_ends f
+        w (ru.BehindComma s) ki.TrailingComma st _ (last_comma s d (front w) q e) in
         let x : all_led f (le.Before si.Comma) (spells f (more (branch h none) none)) ≡ sign_token f si.Comma ∷ [] = rw i refl in
-        record { next = inl (rw x refl, rw i refl); runs = rw x (r ∙ ap (λ y. run f w st (add (branch y none) (g ∷ gs))) (sym (nothing_head f h ki.TrailingComma i b))) }
+        record {
+          next = inl (rw x refl, rw i refl);
+          runs = rw x
+              (r ∙ ap (λ y. run f w st (add (branch y none) (g ∷ gs))) (sym (nothing_head f h ki.TrailingComma i b)));
+        }
     by _ i a b = cc
 
-pub read_more : (f n : ℕ) → ReadsTo f n → (s : Sort) (d : Sign) (m : ℕ) → Closer s d → (ts : Nodes) → sizes_of ts ≤ n → are_kids m (pi.More s ∷ []) ts ≡ true → items_end (edges ts) ≡ true → (w : List Token) (st : List Symbol) (g : Group) (gs : List Group) → front w ≡ cl.Sign d → Items f (ru.More s) d (all_led f (le.Before si.Comma) (spells f ts)) w ts st g gs
+pub read_more : (f n : ℕ) → ReadsTo f n → (s : Sort) (d : Sign) (m : ℕ) → Closer s d → (ts : Nodes) → sizes_of ts ≤ n →
+    are_kids m (pi.More s ∷ []) ts ≡ true → items_end (edges ts) ≡ true →
+    (w : List Token) (st : List Symbol) (g : Group) (gs : List Group) → front w ≡ cl.Sign d →
+    Items f (ru.More s) d (all_led f (le.Before si.Comma) (spells f ts)) w ts st g gs
 unfolding is_shaped spell
 read_more f n ih s d m q none z h k w st g gs e = cc
 read_more f n ih s d m q (more (branch h' none) none) z h k w st g gs e = more_last f s d h' w st g gs q e h
@@ -113,21 +135,28 @@ read_more f n ih s d m q (more (branch ht tt') (more u ts)) z h k w st g gs e =
     let zs : sizes_of (more u ts) ≤ n = omega arith in
     let r = read_more f n ih s d m q (more u ts) zs p.1 k'.1 w st (with_kids g (g.kids ++ plain f t ∷ [])) gs e in
     let v = all_led f (le.Before si.Comma) (spells f (more u ts)) in
-    let x : all_led f (le.Before si.Comma) (spells f (more t (more u ts))) ≡ sign_token f si.Comma ∷ (spell f t ++ v) = led_kid f si.Comma s t (spells f (more u ts)) q.items p.0 in
+    let x : all_led f (le.Before si.Comma) (spells f (more t (more u ts))) ≡ sign_token f si.Comma ∷ (spell f t ++ v) =
+    led_kid f si.Comma s t (spells f (more u ts)) q.items p.0 in
     let b = begins f n ih s t z' q.sort p.0 in
     let a : pull (front (v ++ w)) ≡ 0 = item_pull d (v ++ w) (edges (more u ts)) q.pulls r.next in
     record {
       next = inl (rw x refl, item_behind ht.kind _ (stands_not_alone s ht tt' q.items p.0));
       runs = rw (x, append_assoc (spell f t) v w)
-          (run_uses f (sign_token f si.Comma) (spell f t ++ (v ++ w)) (ru.More s) st (g ∷ gs) (ch.Open ∷ []) (part (ru.BehindComma s) ∷ []) refl
-          ∙ run_optional f s (ru.BehindComma s) (ch.Drop ∷ []) (ch.Close ki.TrailingComma ∷ []) (part (ru.More s) ∷ []) (spell f t) (v ++ w) st (begun (start_of f) [] ∷ g ∷ gs) (λ c. refl) b
-          ∙ read_kid f n ih s t z' q.sort p.0 (v ++ w) _ g gs (rw a (omega arith)) (item_stops d (v ++ w) (edges (more u ts)) t q.no_else q.no_comma k'.0 r.next) (q.anywhere (front (v ++ w)))
+          (run_uses f (sign_token f si.Comma) (spell f t ++ (v ++ w)) (ru.More s) st (g ∷ gs) (ch.Open ∷ []) (part (ru.BehindComma s) ∷ [])
+          refl
+          ∙ run_optional f s (ru.BehindComma s) (ch.Drop ∷ []) (ch.Close ki.TrailingComma ∷ []) (part (ru.More s) ∷ []) (spell f t) (v ++ w)
+          st (begun (start_of f) [] ∷ g ∷ gs) (λ c. refl) b
+          ∙ read_kid f n ih s t z' q.sort p.0 (v ++ w) _ g gs (rw a (omega arith))
+          (item_stops d (v ++ w) (edges (more u ts)) t q.no_else q.no_comma k'.0 r.next) (q.anywhere (front (v ++ w)))
           ∙ r.runs
           ∙ run_group f w st gs _ _ (fill_more f g t (more u ts)));
     }
 
 -- `[kid {"," kid} [","]]`
-pub read_list : (f n : ℕ) → ReadsTo f n → (s : Sort) (d : Sign) (m : ℕ) → Closer s d → (ts : Nodes) → sizes_of ts ≤ n → are_kids m (pi.List s ∷ []) ts ≡ true → items_end (edges ts) ≡ true → (w : List Token) (st : List Symbol) (g : Group) (gs : List Group) → front w ≡ cl.Sign d → run f (listed f (spells f ts) ++ w) (part (ru.List s) ∷ st) (g ∷ gs) ≡ run f w st (filled f g ts ∷ gs)
+pub read_list : (f n : ℕ) → ReadsTo f n → (s : Sort) (d : Sign) (m : ℕ) → Closer s d → (ts : Nodes) → sizes_of ts ≤ n →
+    are_kids m (pi.List s ∷ []) ts ≡ true → items_end (edges ts) ≡ true →
+    (w : List Token) (st : List Symbol) (g : Group) (gs : List Group) → front w ≡ cl.Sign d →
+    run f (listed f (spells f ts) ++ w) (part (ru.List s) ∷ st) (g ∷ gs) ≡ run f w st (filled f g ts ∷ gs)
 unfolding is_shaped spell
 read_list f n ih s d m q none z h k w st g gs e = cc
 read_list f n ih s d m q (more t none) z h k w st g gs e =
@@ -145,7 +174,8 @@ read_list f n ih s d m q (more (branch ht tt') (more u ts)) z h k w st g gs e =
     let a : pull (front (v ++ w)) ≡ 0 = item_pull d (v ++ w) (edges (more u ts)) q.pulls r.next in
     rw (append-nil (spell f t), append_assoc (spell f t) v w)
     (run_or f s (ru.List s) (ch.Absent ∷ []) (part (ru.More s) ∷ []) (spell f t) (v ++ w) st (g ∷ gs) (λ c. refl) b
-    ∙ read_kid f n ih s t z' q.sort p.0 (v ++ w) _ g gs (rw a (omega arith)) (item_stops d (v ++ w) (edges (more u ts)) t q.no_else q.no_comma k'.0 r.next) (q.anywhere (front (v ++ w)))
+    ∙ read_kid f n ih s t z' q.sort p.0 (v ++ w) _ g gs (rw a (omega arith))
+    (item_stops d (v ++ w) (edges (more u ts)) t q.no_else q.no_comma k'.0 r.next) (q.anywhere (front (v ++ w)))
     ∙ r.runs
     ∙ run_group f w st gs _ _ (fill_more f g t (more u ts)))
 
@@ -160,10 +190,15 @@ statement_stands h ts e = by_kind h.kind h.text (shape so.Statement h ts e).admi
     by_kind ki.Dots x e = cc
     by_kind _ x e = refl
 
-pub read_statements : (f n : ℕ) → ReadsTo f n → (m : ℕ) (ts : Nodes) → sizes_of ts ≤ n → are_kids m (pi.EachFollowed so.Statement si.Semicolon ∷ []) ts ≡ true → (w : List Token) (st : List Symbol) (g : Group) (gs : List Group) → of_row so.Statement (front w) ≡ Fault → run f (all_led f (le.Behind si.Semicolon) (spells f ts) ++ w) (part (ru.EachFollowed so.Statement si.Semicolon) ∷ st) (g ∷ gs) ≡ run f w st (filled f g ts ∷ gs)
+pub read_statements : (f n : ℕ) → ReadsTo f n → (m : ℕ) (ts : Nodes) → sizes_of ts ≤ n →
+    are_kids m (pi.EachFollowed so.Statement si.Semicolon ∷ []) ts ≡ true →
+    (w : List Token) (st : List Symbol) (g : Group) (gs : List Group) → of_row so.Statement (front w) ≡ Fault →
+    run f (all_led f (le.Behind si.Semicolon) (spells f ts) ++ w) (part (ru.EachFollowed so.Statement si.Semicolon) ∷ st) (g ∷ gs) ≡
+    run f w st (filled f g ts ∷ gs)
 unfolding is_shaped spell
 read_statements f n ih m none z h w st g gs e =
-    let o : row (ru.EachFollowed so.Statement si.Semicolon) (front w) ≡ Skips [] = ap (λ r. or_skips (before r (sy.Want si.Semicolon ∷ part (ru.EachFollowed so.Statement si.Semicolon) ∷ [])) []) e in
+    let o : row (ru.EachFollowed so.Statement si.Semicolon) (front w) ≡ Skips [] =
+    ap (λ r. or_skips (before r (sy.Want si.Semicolon ∷ part (ru.EachFollowed so.Statement si.Semicolon) ∷ [])) []) e in
     run_skip f w (ru.EachFollowed so.Statement si.Semicolon) st (g ∷ gs) o ∙ run_group f w st gs _ _ (sym (fill_none f g))
 read_statements f n ih m (more (branch ht tt') ts) z h w st g gs e =
     let t = branch ht tt' in
@@ -172,10 +207,19 @@ read_statements f n ih m (more (branch ht tt') ts) z h w st g gs e =
     let zs : sizes_of ts ≤ n = omega arith in
     let v = all_led f (le.Behind si.Semicolon) (spells f ts) in
     let b = begins f n ih so.Statement t z' refl p.0 in
-    let x : all_led f (le.Behind si.Semicolon) (spells f (more t ts)) ≡ (spell f t ++ sign_token f si.Semicolon ∷ []) ++ v = rw (statement_stands ht tt' p.0) refl in
-    rw (x, append_assoc (spell f t ++ sign_token f si.Semicolon ∷ []) v w, append_assoc (spell f t) (sign_token f si.Semicolon ∷ []) (v ++ w))
-    (run_or f so.Statement (ru.EachFollowed so.Statement si.Semicolon) [] (sy.Want si.Semicolon ∷ part (ru.EachFollowed so.Statement si.Semicolon) ∷ []) (spell f t) (sign_token f si.Semicolon ∷ (v ++ w)) st (g ∷ gs) (λ c. refl) b
-    ∙ read_kid f n ih so.Statement t z' refl p.0 (sign_token f si.Semicolon ∷ (v ++ w)) _ g gs (omega arith) (λ y i. rw (← same_sign si.Semicolon y i) (stops_calm si.Semicolon refl refl t)) refl
+    let x : all_led f (le.Behind si.Semicolon) (spells f (more t ts)) ≡ (spell f t ++ sign_token f si.Semicolon ∷ []) ++ v =
+    rw (statement_stands ht tt' p.0) refl in
+    rw (
+      x,
+      append_assoc (spell f t ++ sign_token f si.Semicolon ∷ []) v w,
+      append_assoc (spell f t) (sign_token f si.Semicolon ∷ [])
+          (v ++ w),
+    )
+    (run_or f so.Statement (ru.EachFollowed so.Statement si.Semicolon) []
+    (sy.Want si.Semicolon ∷ part (ru.EachFollowed so.Statement si.Semicolon) ∷ []) (spell f t) (sign_token f si.Semicolon ∷ (v ++ w)) st
+    (g ∷ gs) (λ c. refl) b
+    ∙ read_kid f n ih so.Statement t z' refl p.0 (sign_token f si.Semicolon ∷ (v ++ w)) _ g gs (omega arith)
+    (λ y i. rw (← same_sign si.Semicolon y i) (stops_calm si.Semicolon refl refl t)) refl
     ∙ run_want f (sign_token f si.Semicolon) (v ++ w) si.Semicolon _ _ refl
     ∙ read_statements f n ih m ts zs p.1 w st (with_kids g (g.kids ++ plain f t ∷ [])) gs e
     ∙ run_group f w st gs _ _ (fill_more f g t ts))
@@ -187,7 +231,8 @@ is_case_sort so.Case = true
 is_case_sort so.SwitchCase = true
 is_case_sort _ = false
 
-case_first : (s : Sort) (c : Class) (cs : List Change) (ss : List Symbol) → is_case_sort s ≡ true → of_row s c ≡ Uses cs ss → c ≡ cl.Sign si.Case
+case_first : (s : Sort) (c : Class) (cs : List Change) (ss : List Symbol) → is_case_sort s ≡ true → of_row s c ≡ Uses cs ss →
+    c ≡ cl.Sign si.Case
 case_first so.Case (cl.Sign si.Case) cs ss l e = refl
 case_first so.Case (cl.Sign _) cs ss l e = cc
 case_first so.Case _ cs ss l e = cc
@@ -225,7 +270,9 @@ case_stops : (c : Class) (t : Node) → (c ≡ cl.Sign si.Case) ⊎ (c ≡ cl.Si
 case_stops c t (inl e) x i = rw (← same_sign si.Case x (sym e ∙ i)) (stops_calm si.Case refl refl t)
 case_stops c t (inr e) x i = rw (← same_sign si.RightBrace x (sym e ∙ i)) (stops_calm si.RightBrace refl refl t)
 
-pub read_cases : (f n : ℕ) → ReadsTo f n → (s : Sort) (m : ℕ) → is_case_sort s ≡ true → (ts : Nodes) → sizes_of ts ≤ n → are_kids m (pi.Each s ∷ []) ts ≡ true → (w : List Token) (st : List Symbol) (g : Group) (gs : List Group) → front w ≡ cl.Sign si.RightBrace → Cases f s (all_led f le.Nothing (spells f ts)) w ts st g gs
+pub read_cases : (f n : ℕ) → ReadsTo f n → (s : Sort) (m : ℕ) → is_case_sort s ≡ true → (ts : Nodes) → sizes_of ts ≤ n →
+    are_kids m (pi.Each s ∷ []) ts ≡ true → (w : List Token) (st : List Symbol) (g : Group) (gs : List Group) →
+    front w ≡ cl.Sign si.RightBrace → Cases f s (all_led f le.Nothing (spells f ts)) w ts st g gs
 unfolding is_shaped spell
 read_cases f n ih s m l none z h w st g gs e =
     let o : row (ru.Each s) (front w) ≡ Skips [] = rw (e, case_over s l) refl in
@@ -245,7 +292,8 @@ read_cases f n ih s m l (more t ts) z h w st g gs e =
       next = inl (rw (append_assoc (spell f t) v w, b.is) (case_first s (class_of b.head) b.changes b.symbols l b.uses));
       runs = rw (append_assoc (spell f t) v w)
           (run_or f s (ru.Each s) [] (part (ru.Each s) ∷ []) (spell f t) (v ++ w) st (g ∷ gs) (λ c. refl) b
-          ∙ read_kid f n ih s t z' (case_covered s l) p.0 (v ++ w) _ g gs (rw a (omega arith)) (case_stops (front (v ++ w)) t r.next) (case_closed s (front (v ++ w)) l r.next)
+          ∙ read_kid f n ih s t z' (case_covered s l) p.0 (v ++ w) _ g gs (rw a (omega arith)) (case_stops (front (v ++ w)) t r.next)
+          (case_closed s (front (v ++ w)) l r.next)
           ∙ r.runs
           ∙ run_group f w st gs _ _ (fill_more f g t ts));
     }

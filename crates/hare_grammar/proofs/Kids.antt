@@ -195,7 +195,8 @@ never so.Let c e = let_never c
 never so.Binding c e = binding_never c
 never so.Case c e = case_never c
 never so.SwitchCase c e = switch_case_never c
-never so.Values c e = led_never (before (level_row 1 c) (rest_of 1 ki.Values)) (ch.Open ∷ []) (before_never (level_row 1 c) _ (level_never 1 c))
+never so.Values c e = led_never (before (level_row 1 c) (rest_of 1 ki.Values)) (ch.Open ∷ [])
+    (before_never (level_row 1 c) _ (level_never 1 c))
 never so.Use c e = use_never c
 never so.Decl c e = decl_never c
 never so.ImportPath c e = import_path_never c
@@ -209,34 +210,44 @@ never s c e = types_never s c e
 pub same_sign : (a b : Sign) → cl.Sign a ≡ cl.Sign b → a ≡ b
 same_sign a b e = cc
 
-pub begins : (f n : ℕ) → ReadsTo f n → (s : Sort) (t : Node) → size_of t ≤ n → covered s ≡ true → is_shaped s t ≡ true → Begins s (spell f t)
+pub begins : (f n : ℕ) → ReadsTo f n → (s : Sort) (t : Node) → size_of t ≤ n → covered s ≡ true → is_shaped s t ≡ true →
+    Begins s (spell f t)
 begins f n ih s t z l h =
     let d = closer s in
     let e = class_sign f d in
     let q = closer_calm s in
     first (spell f t)
-    (read_kid f n ih s t z l h (sign_token f d ∷ []) [] (begun (start_of 0) []) [] (rw (e, closer_pull s) (omega arith)) (λ r i. rw (← same_sign d r (sym e ∙ i)) (stops_calm d q.0 q.1 t)) (rw e (closer_closes s))
+    (read_kid f n ih s t z l h (sign_token f d ∷ []) [] (begun (start_of 0) []) [] (rw (e, closer_pull s) (omega arith))
+    (λ r i. rw (← same_sign d r (sym e ∙ i)) (stops_calm d q.0 q.1 t)) (rw e (closer_closes s))
     ∙ run_done f (sign_token f d) [] (add (plain f t) bottom))
   where
-    by_row : (t0 : Token) (u : List Token) (hs : List Group) (r : Row) → of_row s (class_of t0) ≡ r → is_skips r ≡ false → run f (t0 ∷ (u ++ sign_token f (closer s) ∷ [])) (of s ∷ []) bottom ≡ Done (sign_token f (closer s) ∷ []) hs → Begins s (t0 ∷ u)
+    by_row : (t0 : Token) (u : List Token) (hs : List Group) (r : Row) → of_row s (class_of t0) ≡ r → is_skips r ≡ false →
+        run f (t0 ∷ (u ++ sign_token f (closer s) ∷ [])) (of s ∷ []) bottom ≡ Done (sign_token f (closer s) ∷ []) hs → Begins s (t0 ∷ u)
     by_row t0 u hs Fault e q d = absurd (done_not_fails _ _ _ _ d (run_faults f t0 _ (ru.Of s) [] bottom e))
     by_row t0 u hs (Skips cs) e q d = cc
     by_row t0 u hs (Uses cs ss) e q d = record { head = t0; tail = u; changes = cs; symbols = ss; is = refl; uses = e }
 
-    first : (u : List Token) → run f (u ++ sign_token f (closer s) ∷ []) (of s ∷ []) bottom ≡ Done (sign_token f (closer s) ∷ []) (add (plain f t) bottom) → Begins s u
-    first [] d = absurd (done_not_fails _ _ _ _ d (run_faults f (sign_token f (closer s)) [] (ru.Of s) [] bottom (rw (class_sign f (closer s)) (closer_faults s l))))
+    first : (u : List Token) → run f (u ++ sign_token f (closer s) ∷ []) (of s ∷ []) bottom ≡
+        Done (sign_token f (closer s) ∷ []) (add (plain f t) bottom) → Begins s u
+    first [] d = absurd (done_not_fails _ _ _ _ d
+        (run_faults f (sign_token f (closer s)) [] (ru.Of s) [] bottom (rw (class_sign f (closer s)) (closer_faults s l))))
     first (t0 ∷ u) d = by_row t0 u _ (of_row s (class_of t0)) refl (never s (class_of t0) l) d
 
 -- where a tree begins, an optional one is a wanted one
-pub run_or : (f : ℕ) (s : Sort) (n : Rule) (other : List Change) (ss : List Symbol) (u v : List Token) (st : List Symbol) (gs : List Group) → ((c : Class) → row n c ≡ or_skips (before (of_row s c) ss) other) → (b : Begins s u) → run f (u ++ v) (part n ∷ st) gs ≡ run f (u ++ v) (of s ∷ (ss ++ st)) gs
+pub run_or : (f : ℕ) (s : Sort) (n : Rule) (other : List Change) (ss : List Symbol) (u v : List Token) (st : List Symbol)
+    (gs : List Group) → ((c : Class) → row n c ≡ or_skips (before (of_row s c) ss) other) → (b : Begins s u) →
+    run f (u ++ v) (part n ∷ st) gs ≡ run f (u ++ v) (of s ∷ (ss ++ st)) gs
 run_or f s n other ss u v st gs is b =
     rw b.is
-    (run_uses f b.head (b.tail ++ v) n st gs b.changes (b.symbols ++ ss) (is (class_of b.head) ∙ ap (λ r. or_skips (before r ss) other) b.uses)
+    (run_uses f b.head (b.tail ++ v) n st gs b.changes (b.symbols ++ ss)
+    (is (class_of b.head) ∙ ap (λ r. or_skips (before r ss) other) b.uses)
     ∙ (rw (append_assoc b.symbols ss st) refl)
     ∙ sym (run_uses f b.head (b.tail ++ v) (ru.Of s) (ss ++ st) gs b.changes b.symbols b.uses))
 
 -- the same of a rule with nothing else
-pub run_or_none : (f : ℕ) (s : Sort) (n : Rule) (other : List Change) (u v : List Token) (st : List Symbol) (gs : List Group) → ((c : Class) → row n c ≡ or_skips (of_row s c) other) → (b : Begins s u) → run f (u ++ v) (part n ∷ st) gs ≡ run f (u ++ v) (of s ∷ st) gs
+pub run_or_none : (f : ℕ) (s : Sort) (n : Rule) (other : List Change) (u v : List Token) (st : List Symbol) (gs : List Group) →
+    ((c : Class) → row n c ≡ or_skips (of_row s c) other) → (b : Begins s u) →
+    run f (u ++ v) (part n ∷ st) gs ≡ run f (u ++ v) (of s ∷ st) gs
 run_or_none f s n other u v st gs is b =
     rw b.is
     (run_uses f b.head (b.tail ++ v) n st gs b.changes b.symbols (is (class_of b.head) ∙ ap (λ r. or_skips r other) b.uses)
@@ -258,7 +269,8 @@ absent_spell f (branch h ts) e = rw (absent_kind (branch h ts) e) refl
 
 pub absent_plain : (f : ℕ) (t : Node) → is_absent t ≡ true → plain f t ≡ bare_leaf ki.None (start_of f)
 absent_plain f (branch h (more t ts)) e = cc
-absent_plain f (branch h none) e = ap (λ y. branch y none) (nothing_head f h ki.None (absent_kind (branch h none) e) (split (is_none h.kind) (is_own ow.Nothing h) e).1)
+absent_plain f (branch h none) e = ap (λ y. branch y none)
+    (nothing_head f h ki.None (absent_kind (branch h none) e) (split (is_none h.kind) (is_own ow.Nothing h) e).1)
 
 -- the sorts of which no tree is nothing, a comma or `...`
 abbrev pub stands : Sort → Bool
@@ -296,10 +308,12 @@ stands_not_alone s h ts l e = by_kind s h.kind h.text l (shape s h ts e).admitte
     by_kind _ _ x c e = refl
 
 -- a kid with a sign before it
-pub led_kid : (f : ℕ) (a : Sign) (s : Sort) (t : Node) (us : List Spelled) → stands s ≡ true → is_shaped s t ≡ true → all_led f (le.Before a) (((head t).kind, spell f t) ∷ us) ≡ sign_token f a ∷ (spell f t ++ all_led f (le.Before a) us)
+pub led_kid : (f : ℕ) (a : Sign) (s : Sort) (t : Node) (us : List Spelled) → stands s ≡ true → is_shaped s t ≡ true →
+    all_led f (le.Before a) (((head t).kind, spell f t) ∷ us) ≡ sign_token f a ∷ (spell f t ++ all_led f (le.Before a) us)
 led_kid f a s (branch h ts) us l e = rw (stands_not_alone s h ts l e) refl
 
-pub led_absent : (f : ℕ) (a : Sign) (t : Node) (us : List Spelled) → is_absent t ≡ true → all_led f (le.Before a) (((head t).kind, spell f t) ∷ us) ≡ all_led f (le.Before a) us
+pub led_absent : (f : ℕ) (a : Sign) (t : Node) (us : List Spelled) → is_absent t ≡ true →
+    all_led f (le.Before a) (((head t).kind, spell f t) ∷ us) ≡ all_led f (le.Before a) us
 led_absent f a t us e = rw (absent_kind t e, absent_spell f t e) refl
 
 pub is_none_stands : (k : Kind) → stands_alone k ≡ false → is_none k ≡ false

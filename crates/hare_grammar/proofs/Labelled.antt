@@ -50,9 +50,13 @@ starts m (pi.Kid s ∷ ps) = starts_sort (sort_in m s)
 starts m _ = false
 
 operator_one : (x : List ℕ) → nat_le 1 (operator_level x) ≡ true
-operator_one x = by (is_listed (codes "*" ∷ codes "/" ∷ codes "%" ∷ []) x) (is_listed (codes "+" ∷ codes "-" ∷ []) x) (is_listed (operators ki.Shift) x) (is_listed (codes "&" ∷ []) x) (is_listed (codes "^" ∷ []) x) (is_listed (codes "|" ∷ []) x) (is_listed (operators ki.Less) x) (is_listed (operators ki.Equal) x) (is_listed (codes "&&" ∷ []) x) (is_listed (codes "^^" ∷ []) x)
+operator_one x = by (is_listed (codes "*" ∷ codes "/" ∷ codes "%" ∷ []) x) (is_listed (codes "+" ∷ codes "-" ∷ []) x)
+    (is_listed (operators ki.Shift) x) (is_listed (codes "&" ∷ []) x) (is_listed (codes "^" ∷ []) x) (is_listed (codes "|" ∷ []) x)
+    (is_listed (operators ki.Less) x) (is_listed (operators ki.Equal) x) (is_listed (codes "&&" ∷ []) x) (is_listed (codes "^^" ∷ []) x)
   where
-    by : (a b c d e f g h i j : Bool) → nat_le 1 (if a then 12 else if b then 11 else if c then 10 else if d then 9 else if e then 8 else if f then 7 else if g then 6 else if h then 5 else if i then 4 else if j then 3 else 2) ≡ true
+    by : (a b c d e f g h i j : Bool) → nat_le 1
+        (if a then 12 else if b then 11 else if c then 10 else if d then 9 else if e then 8 else if f then 7 else if g then 6 else if h then
+        5 else if i then 4 else if j then 3 else 2) ≡ true
     by true b c d e f g h i j = refl
     by false true c d e f g h i j = refl
     by false false true d e f g h i j = refl
@@ -90,7 +94,8 @@ path_class _ cs ss e = cc
 
 -- a tree whose first token is a `:` begins with a label, up to a size
 abbrev pub Labels : ℕ → ℕ → ℕ → Type 0
-Labels f n m = (l : ℕ) (t : Node) → size_of t ≤ m → size_of t ≤ n → nat_le 1 l ≡ true → is_shaped (so.Level l) t ≡ true → (x : Token) (u : List Token) → spell f t ≡ x ∷ u → class_of x ≡ cl.Sign si.Colon → begins_labelled t ≡ true
+Labels f n m = (l : ℕ) (t : Node) → size_of t ≤ m → size_of t ≤ n → nat_le 1 l ≡ true → is_shaped (so.Level l) t ≡ true →
+    (x : Token) (u : List Token) → spell f t ≡ x ∷ u → class_of x ≡ cl.Sign si.Colon → begins_labelled t ≡ true
 
 pub first_colon : (f n : ℕ) → ReadsTo f n → (m : ℕ) → Labels f n m
 unfolding spell is_shaped begins_labelled
@@ -102,7 +107,8 @@ first_colon f n ih (suc m) l (branch h ts) z z' c e x u i o =
     up : (l j : ℕ) → nat_le 1 l ≡ true → nat_le l j ≡ true → nat_le 1 j ≡ true
     up l j a b = let x = true_le 1 l a in let y = true_le l j b in le_true 1 j (omega (arith, x, y))
 
-    other : (c : Class) (ps : List Piece) → class_of x ≡ c → has_sign si.Colon c ≡ false → form_begins_labelled h ps (first_labelled ts) ≡ true
+    other : (c : Class) (ps : List Piece) → class_of x ≡ c → has_sign si.Colon c ≡ false →
+        form_begins_labelled h ps (first_labelled ts) ≡ true
     other c ps a b =
         let d : c ≡ cl.Sign si.Colon = sym a ∙ o in
         let v : has_sign si.Colon (cl.Sign si.Colon) ≡ false = subst (λ y. has_sign si.Colon y ≡ false) d b in
@@ -117,7 +123,8 @@ first_colon f n ih (suc m) l (branch h ts) z z' c e x u i o =
         cc
     label (c ∷ y) v e = refl
 
-    kid : Labels f n m → (r : Sort) (t : Node) → size_of t ≤ m → size_of t ≤ n → starts_sort r ≡ true → is_shaped r t ≡ true → (v : List Token) → (spell f t ++ []) ++ v ≡ x ∷ u → begins_labelled t ≡ true
+    kid : Labels f n m → (r : Sort) (t : Node) → size_of t ≤ m → size_of t ≤ n → starts_sort r ≡ true → is_shaped r t ≡ true →
+        (v : List Token) → (spell f t ++ []) ++ v ≡ x ∷ u → begins_labelled t ≡ true
     kid again (so.Level a) t y y' q e' v j =
         let b = begins f n ih (so.Level a) t y' q e' in
         let w : class_of x ≡ class_of b.head = token b.head ((b.tail ++ []) ++ v) (ap (λ k. (k ++ []) ++ v) (sym b.is) ∙ j) in
@@ -129,28 +136,43 @@ first_colon f n ih (suc m) l (branch h ts) z z' c e x u i o =
         cc
     kid again _ t y y' q e' v j = cc
 
-    by : Labels f n m → (ps : List Piece) → starts (level h.kind h.text) ps ≡ true → is_own (own_of ps) h ≡ true → are_kids (level h.kind h.text) (kid_pieces ps) ts ≡ true → pieces_tokens f h ps (spells f ts) ≡ x ∷ u → form_begins_labelled h ps (first_labelled ts) ≡ true
+    by : Labels f n m → (ps : List Piece) → starts (level h.kind h.text) ps ≡ true → is_own (own_of ps) h ≡ true →
+        are_kids (level h.kind h.text) (kid_pieces ps) ts ≡ true → pieces_tokens f h ps (spells f ts) ≡ x ∷ u →
+        form_begins_labelled h ps (first_labelled ts) ≡ true
     by again [] a q k j = cc
-    by again (pi.Fixed d ∷ ps) a q k j = other (cl.Sign d) (pi.Fixed d ∷ ps) (token (sign_token f d) (pieces_tokens f h ps (spells f ts)) j ∙ class_sign f d) (not_false (has_sign si.Colon (cl.Sign d)) a)
+    by again (pi.Fixed d ∷ ps) a q k j = other (cl.Sign d) (pi.Fixed d ∷ ps)
+        (token (sign_token f d) (pieces_tokens f h ps (spells f ts)) j ∙ class_sign f d) (not_false (has_sign si.Colon (cl.Sign d)) a)
     by again (pi.Own ow.Label ∷ pi.Fixed si.LeftBrace ∷ ps) a q k j = label h.text (pieces_tokens f h ps (spells f ts)) j
     by again (pi.Own ow.Path ∷ ps) a q k j =
         let v = parts_some h.text in
         let own = split (are_names false (parts h.text)) (has_text_alone h) q in
         let names : are_names false (v.first ∷ v.others) ≡ true = subst (λ y. are_names false y ≡ true) v.is own.0 in
         let p = split (is_name false v.first) (are_names true v.others) names in
-        let j' : (word_token f tk.Name v.first ∷ further_tokens f v.others) ++ pieces_tokens f h ps (spells f ts) ≡ x ∷ u = ap (λ y. y ++ pieces_tokens f h ps (spells f ts)) (sym (ap (path_tokens f) v.is ∙ path_split f v.first v.others)) ∙ j in
-        other cl.Name (pi.Own ow.Path ∷ ps) (token (word_token f tk.Name v.first) (further_tokens f v.others ++ pieces_tokens f h ps (spells f ts)) j' ∙ class_name f v.first p.0) refl
+        let j' : (word_token f tk.Name v.first ∷ further_tokens f v.others) ++ pieces_tokens f h ps (spells f ts) ≡ x ∷ u =
+        ap (λ y. y ++ pieces_tokens f h ps (spells f ts)) (sym (ap (path_tokens f) v.is ∙ path_split f v.first v.others)) ∙ j in
+        other cl.Name (pi.Own ow.Path ∷ ps) (token (word_token f tk.Name v.first)
+        (further_tokens f v.others ++ pieces_tokens f h ps (spells f ts)) j' ∙ class_name f v.first p.0) refl
     by again (pi.Own ow.Bool ∷ ps) a q k j =
         let own = split (is_listed (codes "true" ∷ codes "false" ∷ []) h.text) (has_text_alone h) q in
-        other cl.Bool (pi.Own ow.Bool ∷ ps) (token (word_token f tk.Keyword h.text) (pieces_tokens f h ps (spells f ts)) j ∙ class_bool h.text own.0) refl
-    by again (pi.Own ow.Number ∷ ps) a q k j = other cl.Number (pi.Own ow.Number ∷ ps) (token (full_token f tk.Number h) (pieces_tokens f h ps (spells f ts)) j ∙ class_number f h q) refl
-    by again (pi.Own ow.Rune ∷ ps) a q k j = other cl.Rune (pi.Own ow.Rune ∷ ps) (token (full_token f tk.RuneLit h) (pieces_tokens f h ps (spells f ts)) j ∙ class_rune f h q) refl
-    by again (pi.Own ow.Text ∷ ps) a q k j = other cl.Text (pi.Own ow.Text ∷ ps) (token (word_token f tk.Str h.text) (pieces_tokens f h ps (spells f ts)) j ∙ class_text f h.text) refl
+        other cl.Bool (pi.Own ow.Bool ∷ ps) (token (word_token f tk.Keyword h.text) (pieces_tokens f h ps (spells f ts)) j ∙ class_bool
+        h.text own.0) refl
+    by again (pi.Own ow.Number ∷ ps) a q k j =
+        other cl.Number (pi.Own ow.Number ∷ ps)
+        (token (full_token f tk.Number h) (pieces_tokens f h ps (spells f ts)) j ∙ class_number f h q) refl
+    by again (pi.Own ow.Rune ∷ ps) a q k j =
+        other cl.Rune (pi.Own ow.Rune ∷ ps) (token (full_token f tk.RuneLit h) (pieces_tokens f h ps (spells f ts)) j ∙ class_rune f h q)
+        refl
+    by again (pi.Own ow.Text ∷ ps) a q k j =
+        other cl.Text (pi.Own ow.Text ∷ ps) (token (word_token f tk.Str h.text) (pieces_tokens f h ps (spells f ts)) j ∙ class_text f
+        h.text) refl
     by again (pi.Kid s ∷ ps) a q k j = first again ts z z' k j
       where
-        first : Labels f n m → (us : Nodes) → suc (sizes_of us) ≤ suc m → suc (sizes_of us) ≤ n → are_kids (level h.kind h.text) (pi.Kid s ∷ kid_pieces ps) us ≡ true → pieces_tokens f h (pi.Kid s ∷ ps) (spells f us) ≡ x ∷ u → first_labelled us ≡ true
+        first : Labels f n m → (us : Nodes) → suc (sizes_of us) ≤ suc m → suc (sizes_of us) ≤ n →
+            are_kids (level h.kind h.text) (pi.Kid s ∷ kid_pieces ps) us ≡ true → pieces_tokens f h (pi.Kid s ∷ ps) (spells f us) ≡ x ∷ u →
+            first_labelled us ≡ true
         first again none y y' k j = cc
         first again (more t us) y y' k j =
             let g = split (is_shaped (sort_in (level h.kind h.text) s) t) (are_kids (level h.kind h.text) (kid_pieces ps) us) k in
-            kid again (sort_in (level h.kind h.text) s) t (omega (arith, y)) (omega (arith, y')) a g.0 (pieces_tokens f h ps (spells f us)) j
+            kid again (sort_in (level h.kind h.text) s) t (omega (arith, y)) (omega (arith, y')) a g.0 (pieces_tokens f h ps (spells f us))
+            j
     by again _ a q k j = cc

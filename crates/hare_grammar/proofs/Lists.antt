@@ -39,7 +39,9 @@ use Rattle.hare_grammar.proofs.Paths.{split}
 -- ---- trees up to a size
 
 abbrev pub ReadsTo : ℕ → ℕ → Type 0
-ReadsTo f n = (s : Sort) (t : Node) → size_of t ≤ n → typed s ≡ true → is_shaped s t ≡ true → (w : List Token) (st : List Symbol) (g : Group) (gs : List Group) → has_sign si.PathMark (front w) ≡ false → run f (spell f t ++ w) (of s ∷ st) (g ∷ gs) ≡ run f w st (add (plain f t) (g ∷ gs))
+ReadsTo f n = (s : Sort) (t : Node) → size_of t ≤ n → typed s ≡ true → is_shaped s t ≡ true →
+    (w : List Token) (st : List Symbol) (g : Group) (gs : List Group) → has_sign si.PathMark (front w) ≡ false →
+    run f (spell f t ++ w) (of s ∷ st) (g ∷ gs) ≡ run f w st (add (plain f t) (g ∷ gs))
 
 -- the kids as a list
 abbrev pub plain_list : ℕ → Nodes → List Node
@@ -60,7 +62,8 @@ fill_more f g t ts = ap (with_kids g) (append_assoc g.kids (plain f t ∷ []) (p
 pub fill_none : (f : ℕ) (g : Group) → filled f g none ≡ g
 fill_none f g = ap (with_kids g) (append-nil g.kids)
 
-pub run_group : (f : ℕ) (w : List Token) (st : List Symbol) (gs : List Group) (g g' : Group) → g ≡ g' → run f w st (g ∷ gs) ≡ run f w st (g' ∷ gs)
+pub run_group : (f : ℕ) (w : List Token) (st : List Symbol) (gs : List Group) (g g' : Group) → g ≡ g' →
+    run f w st (g ∷ gs) ≡ run f w st (g' ∷ gs)
 run_group f w st gs g g' e = ap (λ x. run f w st (x ∷ gs)) e
 
 -- ---- leaves that say nothing
@@ -83,14 +86,16 @@ alone h e =
     record { number = grind (arith, p.0); suffix = no_suffix h.suffix p.1 }
 
 -- the head of a tree with nothing of its own
-pub nothing_head : (f : ℕ) (h : Head) (k : Kind) → h.kind ≡ k → is_own ow.Nothing h ≡ true → plain_head f h ≡ head_in k (begun (start_of f) [])
+pub nothing_head : (f : ℕ) (h : Head) (k : Kind) → h.kind ≡ k → is_own ow.Nothing h ≡ true →
+    plain_head f h ≡ head_in k (begun (start_of f) [])
 nothing_head f h k i e =
     let p = split (is_empty h.text) (has_text_alone h) e in
     let q = alone h p.1 in
     rw (i, no_text h.text p.0, q.number, q.suffix) refl
 
 -- the head of a tree with a text alone
-pub text_head : (f : ℕ) (h : Head) (k : Kind) → h.kind ≡ k → has_text_alone h ≡ true → plain_head f h ≡ record { kind = k; place = start_of f; text = h.text; number = 0; suffix = suffix.None }
+pub text_head : (f : ℕ) (h : Head) (k : Kind) → h.kind ≡ k → has_text_alone h ≡ true →
+    plain_head f h ≡ record { kind = k; place = start_of f; text = h.text; number = 0; suffix = suffix.None }
 text_head f h k i e =
     let q = alone h e in
     rw (i, q.number, q.suffix) refl
@@ -168,7 +173,8 @@ pub begins : (f n : ℕ) → ReadsTo f n → (s : Sort) (t : Node) → size_of t
 begins f n ih s t z l h =
     first (spell f t) (ih s t z l h (stop f ∷ []) [] (begun (start_of 0) []) [] refl ∙ run_done f (stop f) [] (add (plain f t) bottom))
   where
-    by_row : (t0 : Token) (u : List Token) (hs : List Group) (r : Row) → of_row s (class_of t0) ≡ r → is_skips r ≡ false → run f (t0 ∷ (u ++ stop f ∷ [])) (of s ∷ []) bottom ≡ Done (stop f ∷ []) hs → Begins s (t0 ∷ u)
+    by_row : (t0 : Token) (u : List Token) (hs : List Group) (r : Row) → of_row s (class_of t0) ≡ r → is_skips r ≡ false →
+        run f (t0 ∷ (u ++ stop f ∷ [])) (of s ∷ []) bottom ≡ Done (stop f ∷ []) hs → Begins s (t0 ∷ u)
     by_row t0 u hs Fault e q d = absurd (done_not_fails _ _ _ _ d (run_faults f t0 _ (ru.Of s) [] bottom e))
     by_row t0 u hs (Skips cs) e q d = cc
     by_row t0 u hs (Uses cs ss) e q d = record { head = t0; tail = u; changes = cs; symbols = ss; is = refl; uses = e }
@@ -178,15 +184,20 @@ begins f n ih s t z l h =
     first (t0 ∷ u) d = by_row t0 u _ (of_row s (class_of t0)) refl (never_skips s (class_of t0) l) d
 
 -- where a tree begins, a rule that reads one and more is the tree and more, after some changes
-pub run_optional : (f : ℕ) (s : Sort) (n : Rule) (ds other : List Change) (ss : List Symbol) (u v : List Token) (st : List Symbol) (gs : List Group) → ((c : Class) → row n c ≡ or_skips (led_by ds (before (of_row s c) ss)) other) → (b : Begins s u) → run f (u ++ v) (part n ∷ st) gs ≡ run f (u ++ v) (of s ∷ (ss ++ st)) (all_changed f b.head ds gs)
+pub run_optional : (f : ℕ) (s : Sort) (n : Rule) (ds other : List Change) (ss : List Symbol) (u v : List Token) (st : List Symbol)
+    (gs : List Group) → ((c : Class) → row n c ≡ or_skips (led_by ds (before (of_row s c) ss)) other) → (b : Begins s u) →
+    run f (u ++ v) (part n ∷ st) gs ≡ run f (u ++ v) (of s ∷ (ss ++ st)) (all_changed f b.head ds gs)
 run_optional f s n ds other ss u v st gs is b =
     rw b.is
-    (run_uses f b.head (b.tail ++ v) n st gs (ds ++ b.changes) (b.symbols ++ ss) (is (class_of b.head) ∙ ap (λ r. or_skips (led_by ds (before r ss)) other) b.uses)
+    (run_uses f b.head (b.tail ++ v) n st gs (ds ++ b.changes) (b.symbols ++ ss)
+    (is (class_of b.head) ∙ ap (λ r. or_skips (led_by ds (before r ss)) other) b.uses)
     ∙ (rw (append_assoc b.symbols ss st, all_changed-append f b.head ds b.changes gs) refl)
     ∙ sym (run_uses f b.head (b.tail ++ v) (ru.Of s) (ss ++ st) (all_changed f b.head ds gs) b.changes b.symbols b.uses))
 
 -- the same where nothing else may stand there
-pub run_before : (f : ℕ) (s : Sort) (n : Rule) (ss : List Symbol) (u v : List Token) (st : List Symbol) (gs : List Group) → (b : Begins s u) → row n (class_of b.head) ≡ before (of_row s (class_of b.head)) ss → run f (u ++ v) (part n ∷ st) gs ≡ run f (u ++ v) (of s ∷ (ss ++ st)) gs
+pub run_before : (f : ℕ) (s : Sort) (n : Rule) (ss : List Symbol) (u v : List Token) (st : List Symbol) (gs : List Group) →
+    (b : Begins s u) → row n (class_of b.head) ≡ before (of_row s (class_of b.head)) ss →
+    run f (u ++ v) (part n ∷ st) gs ≡ run f (u ++ v) (of s ∷ (ss ++ st)) gs
 run_before f s n ss u v st gs b is =
     rw b.is
     (run_uses f b.head (b.tail ++ v) n st gs b.changes (b.symbols ++ ss) (is ∙ ap (λ r. before r ss) b.uses)
@@ -244,7 +255,8 @@ not_alone s h ts l e = by_kind s h.kind h.text l (shape s h ts e).admitted
     by_kind _ _ x l e = refl
 
 -- a kid with a sign before it
-pub led_kid : (f : ℕ) (a : Sign) (s : Sort) (t : Node) (us : List Spelled) → typed s ≡ true → is_shaped s t ≡ true → all_led f (le.Before a) (((head t).kind, spell f t) ∷ us) ≡ sign_token f a ∷ (spell f t ++ all_led f (le.Before a) us)
+pub led_kid : (f : ℕ) (a : Sign) (s : Sort) (t : Node) (us : List Spelled) → typed s ≡ true → is_shaped s t ≡ true →
+    all_led f (le.Before a) (((head t).kind, spell f t) ∷ us) ≡ sign_token f a ∷ (spell f t ++ all_led f (le.Before a) us)
 led_kid f a s (branch h ts) us l e = rw (not_alone s h ts l e) refl
 
 -- the sign that closes a list of a sort
@@ -260,7 +272,8 @@ pub record Closes (s : Sort) (d : Sign) : Type 0 where
 comma_ends : (s : Sort) (d : Sign) (c : Class) → Closes s d → c ≡ cl.Sign d → row (ru.More s) c ≡ Skips (ch.Absent ∷ [])
 comma_ends s d c q e = rw (e, q.comma) refl
 
-last_comma : (s : Sort) (d : Sign) (c : Class) → Closes s d → c ≡ cl.Sign d → row (ru.BehindComma s) c ≡ Skips (ch.Close ki.TrailingComma ∷ [])
+last_comma : (s : Sort) (d : Sign) (c : Class) → Closes s d → c ≡ cl.Sign d →
+    row (ru.BehindComma s) c ≡ Skips (ch.Close ki.TrailingComma ∷ [])
 last_comma s d c q e = rw (e, q.faults) refl
 
 -- a list that ends: the next class is no `::`, and the kids are read
@@ -269,25 +282,35 @@ pub record Read (f : ℕ) (n : Rule) (u w : List Token) (ts : Nodes) (st : List 
   pub runs : run f (u ++ w) (part n ∷ st) (g ∷ gs) ≡ run f w st (filled f g ts ∷ gs)
 
 -- the last kid: a comma, or nothing
-more_last : (f : ℕ) (s : Sort) (d : Sign) (h : Head) (w : List Token) (st : List Symbol) (g : Group) (gs : List Group) → Closes s d → front w ≡ cl.Sign d → is_leaf is_none_or_comma (branch h none) ≡ true → Read f (ru.More s) (all_led f (le.Before si.Comma) (spells f (more (branch h none) none))) w (more (branch h none) none) st g gs
+more_last : (f : ℕ) (s : Sort) (d : Sign) (h : Head) (w : List Token) (st : List Symbol) (g : Group) (gs : List Group) → Closes s d →
+    front w ≡ cl.Sign d → is_leaf is_none_or_comma (branch h none) ≡ true →
+    Read f (ru.More s) (all_led f (le.Before si.Comma) (spells f (more (branch h none) none))) w (more (branch h none) none) st g gs
 unfolding spell
 more_last f s d h w st g gs q e l =
     let p = split (is_none_or_comma h.kind) (is_own ow.Nothing h) l in
     by h.kind refl p.0 p.1
   where
-    by : (k : Kind) → h.kind ≡ k → is_none_or_comma k ≡ true → is_own ow.Nothing h ≡ true → Read f (ru.More s) (all_led f (le.Before si.Comma) (spells f (more (branch h none) none))) w (more (branch h none) none) st g gs
+    by : (k : Kind) → h.kind ≡ k → is_none_or_comma k ≡ true → is_own ow.Nothing h ≡ true →
+        Read f (ru.More s) (all_led f (le.Before si.Comma) (spells f (more (branch h none) none))) w (more (branch h none) none) st g gs
     by ki.None i a b =
         let m : has_sign si.PathMark (front w) ≡ false = rw e q.mark in
         let r = run_absent f w (ru.More s) st (g ∷ gs) (comma_ends s d (front w) q e) in
         let x : all_led f (le.Before si.Comma) (spells f (more (branch h none) none)) ≡ [] = rw i refl in
         record { next = rw x m; runs = rw x (r ∙ ap (λ y. run f w st (add (branch y none) (g ∷ gs))) (sym (nothing_head f h ki.None i b))) }
     by ki.TrailingComma i a b =
-        let r = run_uses f (sign_token f si.Comma) w (ru.More s) st (g ∷ gs) (ch.Open ∷ []) (part (ru.BehindComma s) ∷ []) refl ∙ run_ends f w (ru.BehindComma s) ki.TrailingComma st _ (last_comma s d (front w) q e) in
+        let r = run_uses f (sign_token f si.Comma) w (ru.More s) st (g ∷ gs) (ch.Open ∷ []) (part (ru.BehindComma s) ∷ []) refl ∙ run_ends f
+        w (ru.BehindComma s) ki.TrailingComma st _ (last_comma s d (front w) q e) in
         let x : all_led f (le.Before si.Comma) (spells f (more (branch h none) none)) ≡ sign_token f si.Comma ∷ [] = rw i refl in
-        record { next = rw x refl; runs = rw x (r ∙ ap (λ y. run f w st (add (branch y none) (g ∷ gs))) (sym (nothing_head f h ki.TrailingComma i b))) }
+        record {
+          next = rw x refl;
+          runs = rw x
+              (r ∙ ap (λ y. run f w st (add (branch y none) (g ∷ gs))) (sym (nothing_head f h ki.TrailingComma i b)));
+        }
     by _ i a b = cc
 
-pub read_more : (f n : ℕ) → ReadsTo f n → (s : Sort) (d : Sign) (m : ℕ) → Closes s d → (ts : Nodes) → sizes_of ts ≤ n → are_kids m (pi.More s ∷ []) ts ≡ true → (w : List Token) (st : List Symbol) (g : Group) (gs : List Group) → front w ≡ cl.Sign d → Read f (ru.More s) (all_led f (le.Before si.Comma) (spells f ts)) w ts st g gs
+pub read_more : (f n : ℕ) → ReadsTo f n → (s : Sort) (d : Sign) (m : ℕ) → Closes s d → (ts : Nodes) → sizes_of ts ≤ n →
+    are_kids m (pi.More s ∷ []) ts ≡ true → (w : List Token) (st : List Symbol) (g : Group) (gs : List Group) → front w ≡ cl.Sign d →
+    Read f (ru.More s) (all_led f (le.Before si.Comma) (spells f ts)) w ts st g gs
 unfolding is_shaped spell
 read_more f n ih s d m q none z h w st g gs e = cc
 read_more f n ih s d m q (more (branch h' none) none) z h w st g gs e = more_last f s d h' w st g gs q e h
@@ -298,13 +321,16 @@ read_more f n ih s d m q (more t (more u ts)) z h w st g gs e =
     let zs : sizes_of (more u ts) ≤ n = omega arith in
     let r = read_more f n ih s d m q (more u ts) zs p.1 w st (with_kids g (g.kids ++ plain f t ∷ [])) gs e in
     let v = all_led f (le.Before si.Comma) (spells f (more u ts)) in
-    let x : all_led f (le.Before si.Comma) (spells f (more t (more u ts))) ≡ sign_token f si.Comma ∷ (spell f t ++ v) = led_kid f si.Comma s t (spells f (more u ts)) q.sort p.0 in
+    let x : all_led f (le.Before si.Comma) (spells f (more t (more u ts))) ≡ sign_token f si.Comma ∷ (spell f t ++ v) =
+    led_kid f si.Comma s t (spells f (more u ts)) q.sort p.0 in
     let b = begins f n ih s t z' q.sort p.0 in
     record {
       next = rw x refl;
       runs = rw (x, append_assoc (spell f t) v w)
-          (run_uses f (sign_token f si.Comma) (spell f t ++ (v ++ w)) (ru.More s) st (g ∷ gs) (ch.Open ∷ []) (part (ru.BehindComma s) ∷ []) refl
-          ∙ run_optional f s (ru.BehindComma s) (ch.Drop ∷ []) (ch.Close ki.TrailingComma ∷ []) (part (ru.More s) ∷ []) (spell f t) (v ++ w) st (begun (start_of f) [] ∷ g ∷ gs) (λ c. refl) b
+          (run_uses f (sign_token f si.Comma) (spell f t ++ (v ++ w)) (ru.More s) st (g ∷ gs) (ch.Open ∷ []) (part (ru.BehindComma s) ∷ [])
+          refl
+          ∙ run_optional f s (ru.BehindComma s) (ch.Drop ∷ []) (ch.Close ki.TrailingComma ∷ []) (part (ru.More s) ∷ []) (spell f t) (v ++ w)
+          st (begun (start_of f) [] ∷ g ∷ gs) (λ c. refl) b
           ∙ ih s t z' q.sort p.0 (v ++ w) _ g gs r.next
           ∙ r.runs
           ∙ run_group f w st gs _ _ (fill_more f g t (more u ts)));
@@ -312,7 +338,9 @@ read_more f n ih s d m q (more t (more u ts)) z h w st g gs e =
 
 -- ---- `{"|" kid}`, before the sign that closes it
 
-pub read_each_led : (f n : ℕ) → ReadsTo f n → (s : Sort) (d : Sign) (m : ℕ) → Closes s d → (ts : Nodes) → sizes_of ts ≤ n → are_kids m (pi.EachLed si.Bar s ∷ []) ts ≡ true → (w : List Token) (st : List Symbol) (g : Group) (gs : List Group) → front w ≡ cl.Sign d → Read f (ru.EachLed si.Bar s) (all_led f (le.Before si.Bar) (spells f ts)) w ts st g gs
+pub read_each_led : (f n : ℕ) → ReadsTo f n → (s : Sort) (d : Sign) (m : ℕ) → Closes s d → (ts : Nodes) → sizes_of ts ≤ n →
+    are_kids m (pi.EachLed si.Bar s ∷ []) ts ≡ true → (w : List Token) (st : List Symbol) (g : Group) (gs : List Group) →
+    front w ≡ cl.Sign d → Read f (ru.EachLed si.Bar s) (all_led f (le.Before si.Bar) (spells f ts)) w ts st g gs
 unfolding is_shaped spell
 read_each_led f n ih s d m q none z h w st g gs e =
     let ends : row (ru.EachLed si.Bar s) (front w) ≡ Skips [] = rw (e, q.bar) refl in
@@ -326,11 +354,13 @@ read_each_led f n ih s d m q (more t ts) z h w st g gs e =
     let zs : sizes_of ts ≤ n = omega arith in
     let r = read_each_led f n ih s d m q ts zs p.1 w st (with_kids g (g.kids ++ plain f t ∷ [])) gs e in
     let v = all_led f (le.Before si.Bar) (spells f ts) in
-    let x : all_led f (le.Before si.Bar) (spells f (more t ts)) ≡ sign_token f si.Bar ∷ (spell f t ++ v) = led_kid f si.Bar s t (spells f ts) q.sort p.0 in
+    let x : all_led f (le.Before si.Bar) (spells f (more t ts)) ≡ sign_token f si.Bar ∷ (spell f t ++ v) =
+    led_kid f si.Bar s t (spells f ts) q.sort p.0 in
     record {
       next = rw x refl;
       runs = rw (x, append_assoc (spell f t) v w)
-          (run_uses f (sign_token f si.Bar) (spell f t ++ (v ++ w)) (ru.EachLed si.Bar s) st (g ∷ gs) [] (of s ∷ part (ru.EachLed si.Bar s) ∷ []) refl
+          (run_uses f (sign_token f si.Bar) (spell f t ++ (v ++ w)) (ru.EachLed si.Bar s) st (g ∷ gs) []
+          (of s ∷ part (ru.EachLed si.Bar s) ∷ []) refl
           ∙ ih s t z' q.sort p.0 (v ++ w) _ g gs r.next
           ∙ r.runs
           ∙ run_group f w st gs _ _ (fill_more f g t ts));

@@ -57,13 +57,17 @@ whole s h ts e =
     record { admitted = v.0; own = v.1; kids = r.1; ends = q.1; label = p.1 }
 
 abbrev pub Claim : ℕ → Sort → Head → Nodes → List Token → List Symbol → Group → List Group → Type 0
-Claim f s h ts w st g gs = run f (spell f (branch h ts) ++ w) (of s ∷ st) (g ∷ gs) ≡ run f w (left s (level h.kind h.text) ++ st) (add (plain f (branch h ts)) (g ∷ gs))
+Claim f s h ts w st g gs = run f (spell f (branch h ts) ++ w) (of s ∷ st) (g ∷ gs) ≡
+    run f w (left s (level h.kind h.text) ++ st) (add (plain f (branch h ts)) (g ∷ gs))
 
 -- the tree under way is whole
-pub closed : (f : ℕ) (h : Head) (k : Kind) (b : Bool) (ts : Nodes) → h.kind ≡ k → (b ≡ false → is_own ow.Nothing h ≡ true) → (w : List Token) (st : List Symbol) (g : Group) (gs : List Group) → run f w (sy.Close k ∷ st) (state b (start_of f) h (plain_list f ts) ∷ g ∷ gs) ≡ run f w st (add (plain f (branch h ts)) (g ∷ gs))
+pub closed : (f : ℕ) (h : Head) (k : Kind) (b : Bool) (ts : Nodes) → h.kind ≡ k → (b ≡ false → is_own ow.Nothing h ≡ true) →
+    (w : List Token) (st : List Symbol) (g : Group) (gs : List Group) →
+    run f w (sy.Close k ∷ st) (state b (start_of f) h (plain_list f ts) ∷ g ∷ gs) ≡ run f w st (add (plain f (branch h ts)) (g ∷ gs))
 closed f h k true ts i e w st g gs =
     run_close f w k st _
-    ∙ ap (λ y. run f w st (add (branch (record { kind = y; place = start_of f; text = h.text; number = h.number; suffix = h.suffix }) (nodes_of (plain_list f ts))) (g ∷ gs))) (sym i)
+    ∙ ap (λ y. run f w st (add (branch (record { kind = y; place = start_of f; text = h.text; number = h.number; suffix = h.suffix })
+    (nodes_of (plain_list f ts))) (g ∷ gs))) (sym i)
     ∙ ap (λ y. run f w st (add (branch (plain_head f h) y) (g ∷ gs))) (back f ts)
 closed f h k false ts i e w st g gs =
     run_close f w k st _
@@ -73,16 +77,23 @@ closed f h k false ts i e w st g gs =
 pub stack : (ss ls st : List Symbol) (k : Kind) → ((ss ++ sy.Close k ∷ []) ++ ls) ++ st ≡ ss ++ sy.Close k ∷ (ls ++ st)
 stack ss ls st k = append_assoc (ss ++ sy.Close k ∷ []) ls st ∙ append_assoc ss (sy.Close k ∷ []) (ls ++ st)
 
-pub opens_reads : (f n : ℕ) → ReadsTo f n → (s : Sort) (k : Kind) (d : Sign) (ps : List Piece) (h : Head) (ts : Nodes) → sizes_of ts ≤ n → h.kind ≡ k → form_of k ≡ pi.Fixed d ∷ ps → row (ru.Of s) (cl.Sign d) ≡ before (opens k) (left s (level h.kind h.text)) → Whole s h ts → Owns h ps → (has_own ps ≡ false → is_own ow.Nothing h ≡ true) → (w : List Token) (st : List Symbol) (g : Group) (gs : List Group) → Edge s (front w) (branch h ts) → Clear ps (front w) → Claim f s h ts w st g gs
+pub opens_reads : (f n : ℕ) → ReadsTo f n → (s : Sort) (k : Kind) (d : Sign) (ps : List Piece) (h : Head) (ts : Nodes) → sizes_of ts ≤ n →
+    h.kind ≡ k → form_of k ≡ pi.Fixed d ∷ ps → row (ru.Of s) (cl.Sign d) ≡ before (opens k) (left s (level h.kind h.text)) → Whole s h ts →
+    Owns h ps → (has_own ps ≡ false → is_own ow.Nothing h ≡ true) → (w : List Token) (st : List Symbol) (g : Group) (gs : List Group) →
+    Edge s (front w) (branch h ts) → Clear ps (front w) → Claim f s h ts w st g gs
 unfolding spell stops
 opens_reads f n ih s k d ps h ts z i q r p o e w st g gs x c =
     let a : form_of h.kind ≡ pi.Fixed d ∷ ps = ap form_of i ∙ q in
     let ls = left s (level h.kind h.text) in
-    let kids : are_kids (level h.kind h.text) (kid_pieces ps) ts ≡ true = subst (λ y. are_kids (level h.kind h.text) (kid_pieces y) ts ≡ true) a p.kids in
+    let kids : are_kids (level h.kind h.text) (kid_pieces ps) ts ≡ true =
+    subst (λ y. are_kids (level h.kind h.text) (kid_pieces y) ts ≡ true) a p.kids in
     let ends : kids_end ps (edges ts) ≡ true = subst (λ y. kids_end y (edges ts) ≡ true) a p.ends in
-    let x' : (y : Sign) → front w ≡ cl.Sign y → form_stops y h true ps (stops_each y ts) ≡ true = λ y j. subst (λ b. form_stops y h true b (stops_each y ts) ≡ true) a (x.stops_at y j) in
-    let r' : row (ru.Of s) (class_of (sign_token f d)) ≡ Uses (ch.Open ∷ []) ((symbols ps ++ sy.Close k ∷ []) ++ ls) = rw (class_sign f d) (r ∙ (rw q refl)) in
-    rw a (run_uses f (sign_token f d) (pieces_tokens f h ps (spells f ts) ++ w) (ru.Of s) st (g ∷ gs) (ch.Open ∷ []) ((symbols ps ++ sy.Close k ∷ []) ++ ls) r'
+    let x' : (y : Sign) → front w ≡ cl.Sign y → form_stops y h true ps (stops_each y ts) ≡ true =
+    λ y j. subst (λ b. form_stops y h true b (stops_each y ts) ≡ true) a (x.stops_at y j) in
+    let r' : row (ru.Of s) (class_of (sign_token f d)) ≡ Uses (ch.Open ∷ []) ((symbols ps ++ sy.Close k ∷ []) ++ ls) =
+    rw (class_sign f d) (r ∙ (rw q refl)) in
+    rw a (run_uses f (sign_token f d) (pieces_tokens f h ps (spells f ts) ++ w) (ru.Of s) st (g ∷ gs) (ch.Open ∷ [])
+    ((symbols ps ++ sy.Close k ∷ []) ++ ls) r'
     ∙ ap (λ y. run f (pieces_tokens f h ps (spells f ts) ++ w) y (begun (start_of f) [] ∷ g ∷ gs)) (stack (symbols ps) ls st k)
     ∙ read_pieces f n ih h _ ps false ts z kids ends o refl w (sy.Close k ∷ (ls ++ st)) (start_of f) [] (g ∷ gs) (λ y. true) x' c
     ∙ closed f h k (has_own ps) ts i e w (ls ++ st) g gs)
@@ -95,7 +106,8 @@ tops (so.Level l) j = nat_le l j
 tops so.Statement j = nat_le 1 j
 tops _ j = false
 
-pub expr_row : (s : Sort) (c : Class) (j : ℕ) → start_level c ≡ j → of_row so.Statement c ≡ level_row 1 c → tops s j ≡ true → row (ru.Of s) c ≡ before (start_row c) (left s j)
+pub expr_row : (s : Sort) (c : Class) (j : ℕ) → start_level c ≡ j → of_row so.Statement c ≡ level_row 1 c → tops s j ≡ true →
+    row (ru.Of s) c ≡ before (start_row c) (left s j)
 expr_row (so.Level l) c j e m a = rw (e, a) refl
 expr_row so.Statement c j e m a = rw (m, e, a) refl
 expr_row _ c j e m a = cc

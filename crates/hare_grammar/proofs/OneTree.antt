@@ -14,12 +14,14 @@ use Rattle.hare_grammar.proofs.Kids.{closer, closer_pull, closer_closes, closer_
 use Rattle.hare_grammar.proofs.Expressions.{reads}
 
 -- a tree is read up to a sign that ends it
-pub read_whole : (f : ℕ) (s : Sort) (t : Node) → is_sort s ≡ true → is_shaped s t ≡ true → run f (spell f t ++ sign_token f (closer s) ∷ []) (of s ∷ []) bottom ≡ Done (sign_token f (closer s) ∷ []) (add (plain f t) bottom)
+pub read_whole : (f : ℕ) (s : Sort) (t : Node) → is_sort s ≡ true → is_shaped s t ≡ true →
+    run f (spell f t ++ sign_token f (closer s) ∷ []) (of s ∷ []) bottom ≡ Done (sign_token f (closer s) ∷ []) (add (plain f t) bottom)
 read_whole f s t l h =
     let d = closer s in
     let e = class_sign f d in
     let q = closer_calm s in
-    read_kid f (size_of t) (reads f (size_of t)) s t (omega arith) l h (sign_token f d ∷ []) [] (begun (start_of 0) []) [] (rw (e, closer_pull s) (omega arith)) (λ r i. rw (← same_sign d r (sym e ∙ i)) (stops_calm d q.0 q.1 t)) (rw e (closer_closes s))
+    read_kid f (size_of t) (reads f (size_of t)) s t (omega arith) l h (sign_token f d ∷ []) [] (begun (start_of 0) []) []
+    (rw (e, closer_pull s) (omega arith)) (λ r i. rw (← same_sign d r (sym e ∙ i)) (stops_calm d q.0 q.1 t)) (rw e (closer_closes s))
     ∙ run_done f (sign_token f d) [] (add (plain f t) bottom)
 
 abbrev kids_in : Outcome → List Node
@@ -31,6 +33,7 @@ sorts_have_one_tree f s l t t' h h' e =
     let a = read_whole f s t l h in
     let b = read_whole f s t' l h' in
     let x = sign_token f (closer s) in
-    let d : run f (spell f t ++ x ∷ []) (of s ∷ []) bottom ≡ run f (spell f t' ++ x ∷ []) (of s ∷ []) bottom = ap (λ u. run f (u ++ x ∷ []) (of s ∷ []) bottom) e in
+    let d : run f (spell f t ++ x ∷ []) (of s ∷ []) bottom ≡ run f (spell f t' ++ x ∷ []) (of s ∷ []) bottom =
+    ap (λ u. run f (u ++ x ∷ []) (of s ∷ []) bottom) e in
     let k : plain f t ∷ [] ≡ plain f t' ∷ [] = ap kids_in (sym a ∙ d ∙ b) in
     cc

@@ -45,7 +45,9 @@ further_glued taken part [] = refl
 further_glued true part (c ∷ s) = further_glued false part s
 further_glued false part (c ∷ s) = by (c == 58 && slice_index s 0 == 58) (further_glued false (part ++ c ∷ []) s)
   where
-    by : (b : Bool) → further (parts_from false (part ++ c ∷ []) s) ≡ 58 ∷ 58 ∷ glued (parts_from false (part ++ c ∷ []) s) → further (if b then part ∷ parts_from true [] s else parts_from false (part ++ c ∷ []) s) ≡ 58 ∷ 58 ∷ glued (if b then part ∷ parts_from true [] s else parts_from false (part ++ c ∷ []) s)
+    by : (b : Bool) → further (parts_from false (part ++ c ∷ []) s) ≡ 58 ∷ 58 ∷ glued (parts_from false (part ++ c ∷ []) s) →
+        further (if b then part ∷ parts_from true [] s else parts_from false (part ++ c ∷ []) s) ≡
+        58 ∷ 58 ∷ glued (if b then part ∷ parts_from true [] s else parts_from false (part ++ c ∷ []) s)
     by true e = refl
     by false e = e
 
@@ -64,7 +66,9 @@ parts_glued false part [] = refl
 parts_glued true part (c ∷ s) = parts_glued false part s
 parts_glued false part (c ∷ s) = by (c == 58 && slice_index s 0 == 58) refl (parts_glued true [] s) (parts_glued false (part ++ c ∷ []) s)
   where
-    by : (b : Bool) → (c == 58 && slice_index s 0 == 58) ≡ b → glued (parts_from true [] s) ≡ drop 1 s → glued (parts_from false (part ++ c ∷ []) s) ≡ (part ++ c ∷ []) ++ s → glued (if b then part ∷ parts_from true [] s else parts_from false (part ++ c ∷ []) s) ≡ part ++ c ∷ s
+    by : (b : Bool) → (c == 58 && slice_index s 0 == 58) ≡ b → glued (parts_from true [] s) ≡ drop 1 s →
+        glued (parts_from false (part ++ c ∷ []) s) ≡ (part ++ c ∷ []) ++ s →
+        glued (if b then part ∷ parts_from true [] s else parts_from false (part ++ c ∷ []) s) ≡ part ++ c ∷ s
     by true e p q = ap (λ l. part ++ l) (further_glued true [] s ∙ ap (λ l. 58 ∷ 58 ∷ l) p ∙ sym (colons c s e))
     by false e p q = q ∙ append_assoc part (c ∷ []) s
 
@@ -104,11 +108,15 @@ joined_nothing : (g : Group) → joined_by [] g ≡ g
 joined_nothing g = ap (λ x. record { place = g.place; text = x; number = g.number; suffix = g.suffix; kids = g.kids }) (append-nil g.text)
 
 joined_more : (g : Group) (x y z : List ℕ) → joined_by z (joined_by y (joined_by x g)) ≡ joined_by (x ++ (y ++ z)) g
-joined_more g x y z = ap (λ l. record { place = g.place; text = l; number = g.number; suffix = g.suffix; kids = g.kids }) (append_assoc (g.text ++ x) y z ∙ append_assoc g.text x (y ++ z))
+joined_more g x y z = ap (λ l. record { place = g.place; text = l; number = g.number; suffix = g.suffix; kids = g.kids })
+    (append_assoc (g.text ++ x) y z ∙ append_assoc g.text x (y ++ z))
 
-pub read_further : (f : ℕ) (k : Kind) (qs : List (List ℕ)) → are_names true qs ≡ true → (w : List Token) (st : List Symbol) (g : Group) (gs : List Group) → has_sign si.PathMark (front w) ≡ false → run f (further_tokens f qs ++ w) (part (ru.PathRest k) ∷ st) (g ∷ gs) ≡ run f w st (close k (joined_by (further qs) g ∷ gs))
+pub read_further : (f : ℕ) (k : Kind) (qs : List (List ℕ)) → are_names true qs ≡ true →
+    (w : List Token) (st : List Symbol) (g : Group) (gs : List Group) → has_sign si.PathMark (front w) ≡ false →
+    run f (further_tokens f qs ++ w) (part (ru.PathRest k) ∷ st) (g ∷ gs) ≡ run f w st (close k (joined_by (further qs) g ∷ gs))
 read_further f k [] h w st g gs e =
-    run_ends f w (ru.PathRest k) k st (g ∷ gs) (no_mark_skips k (front w) e) ∙ ap (λ x. run f w st (close k (x ∷ gs))) (sym (joined_nothing g))
+    run_ends f w (ru.PathRest k) k st (g ∷ gs) (no_mark_skips k (front w) e) ∙ ap (λ x. run f w st (close k (x ∷ gs)))
+    (sym (joined_nothing g))
 read_further f k (q ∷ qs) h w st g gs e =
     let p = split (is_name true q) (are_names true qs) h in
     run_uses f (sign_token f si.PathMark) _ (ru.PathRest k) st (g ∷ gs) (ch.Join ∷ []) (part ru.PathName ∷ part (ru.PathRest k) ∷ []) refl
@@ -116,7 +124,8 @@ read_further f k (q ∷ qs) h w st g gs e =
     ∙ read_further f k qs p.1 w st _ gs e
     ∙ ap (λ x. run f w st (close k (x ∷ gs))) (joined_more g (codes "::") q (further qs))
   where
-    takes : (class_of (word_token f tk.Name q) ≡ cl.Name) ⊎ (class_of (word_token f tk.Name q) ≡ cl.PathWord) → row ru.PathName (class_of (word_token f tk.Name q)) ≡ Uses (ch.Join ∷ []) []
+    takes : (class_of (word_token f tk.Name q) ≡ cl.Name) ⊎ (class_of (word_token f tk.Name q) ≡ cl.PathWord) →
+        row ru.PathName (class_of (word_token f tk.Name q)) ≡ Uses (ch.Join ∷ []) []
     takes (inl i) = rw i refl
     takes (inr i) = rw i refl
 
@@ -125,12 +134,16 @@ abbrev pub texted : ℕ → List ℕ → Group
 texted f x = record { place = start_of f; text = x; number = 0; suffix = suffix.None; kids = [] }
 
 -- a rule that begins a path at a name
-pub read_path : (f : ℕ) (n : Rule) (k : Kind) (ss : List Symbol) (x : List ℕ) → are_names false (parts x) ≡ true → row n cl.Name ≡ Uses (ch.Open ∷ ch.Take ∷ []) (part (ru.PathRest k) ∷ ss) → (w : List Token) (st : List Symbol) (gs : List Group) → has_sign si.PathMark (front w) ≡ false → run f (path_tokens f (parts x) ++ w) (part n ∷ st) gs ≡ run f w (ss ++ st) (close k (texted f x ∷ gs))
+pub read_path : (f : ℕ) (n : Rule) (k : Kind) (ss : List Symbol) (x : List ℕ) → are_names false (parts x) ≡ true →
+    row n cl.Name ≡ Uses (ch.Open ∷ ch.Take ∷ []) (part (ru.PathRest k) ∷ ss) → (w : List Token) (st : List Symbol) (gs : List Group) →
+    has_sign si.PathMark (front w) ≡ false →
+    run f (path_tokens f (parts x) ++ w) (part n ∷ st) gs ≡ run f w (ss ++ st) (close k (texted f x ∷ gs))
 read_path f n k ss x h r w st gs e =
     let v = parts_some x in
     let names : are_names false (v.first ∷ v.others) ≡ true = subst (λ ps. are_names false ps ≡ true) v.is h in
     let p = split (is_name false v.first) (are_names true v.others) names in
-    let r' : row n (class_of (word_token f tk.Name v.first)) ≡ Uses (ch.Open ∷ ch.Take ∷ []) (part (ru.PathRest k) ∷ ss) = rw (class_name f v.first p.0) r in
+    let r' : row n (class_of (word_token f tk.Name v.first)) ≡ Uses (ch.Open ∷ ch.Take ∷ []) (part (ru.PathRest k) ∷ ss) =
+    rw (class_name f v.first p.0) r in
     rw (v.is, path_split f v.first v.others)
     (run_uses f (word_token f tk.Name v.first) _ n st gs _ _ r'
     ∙ read_further f k v.others p.1 w (ss ++ st) (texted f v.first) gs e

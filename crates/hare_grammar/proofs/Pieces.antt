@@ -46,7 +46,9 @@ sort_kept m so.Left e = cc
 sort_kept m so.Right e = cc
 sort_kept m _ e = refl
 
-pub next_of : (f n : ℕ) → ReadsTo f n → (h : Head) (m : ℕ) (ps : List Piece) (ts : Nodes) → sizes_of ts ≤ n → are_kids m (kid_pieces ps) ts ≡ true → (w : List Token) → Leads ps (front w) → Clear ps (front w) → has_sign si.PathMark (front (pieces_tokens f h ps (spells f ts) ++ w)) ≡ false
+pub next_of : (f n : ℕ) → ReadsTo f n → (h : Head) (m : ℕ) (ps : List Piece) (ts : Nodes) → sizes_of ts ≤ n →
+    are_kids m (kid_pieces ps) ts ≡ true → (w : List Token) → Leads ps (front w) → Clear ps (front w) →
+    has_sign si.PathMark (front (pieces_tokens f h ps (spells f ts) ++ w)) ≡ false
 next_of f n ih h m [] ts z k w l c = l
 next_of f n ih h m (pi.Fixed d ∷ ps) ts z k w l c = rw (class_sign f d) l
 next_of f n ih h m (pi.More s ∷ pi.Fixed d ∷ []) ts z k w l c =
@@ -59,12 +61,15 @@ next_of f n ih h m (pi.Kid s ∷ ps) ts z k w l c = absurd l
 next_of f n ih h m _ ts z k w l c = absurd c
 
 -- what is spelled is read
-pub read_pieces : (f n : ℕ) → ReadsTo f n → (h : Head) (m : ℕ) (ps : List Piece) (ts : Nodes) → sizes_of ts ≤ n → are_kids m (kid_pieces ps) ts ≡ true → (w : List Token) (st : List Symbol) (g : Group) (gs : List Group) → Clear ps (front w) → run f (pieces_tokens f h ps (spells f ts) ++ w) (symbols ps ++ st) (g ∷ gs) ≡ run f w st (filled f g ts ∷ gs)
+pub read_pieces : (f n : ℕ) → ReadsTo f n → (h : Head) (m : ℕ) (ps : List Piece) (ts : Nodes) → sizes_of ts ≤ n →
+    are_kids m (kid_pieces ps) ts ≡ true → (w : List Token) (st : List Symbol) (g : Group) (gs : List Group) → Clear ps (front w) →
+    run f (pieces_tokens f h ps (spells f ts) ++ w) (symbols ps ++ st) (g ∷ gs) ≡ run f w st (filled f g ts ∷ gs)
 unfolding is_shaped spell
 read_pieces f n ih h m [] none z k w st g gs c = run_group f w st gs _ _ (sym (fill_none f g))
 read_pieces f n ih h m [] (more t ts) z k w st g gs c = cc
 read_pieces f n ih h m (pi.Fixed d ∷ ps) ts z k w st g gs c =
-    run_want f (sign_token f d) (pieces_tokens f h ps (spells f ts) ++ w) d (symbols ps ++ st) (g ∷ gs) (class_sign f d) ∙ read_pieces f n ih h m ps ts z k w st g gs c
+    run_want f (sign_token f d) (pieces_tokens f h ps (spells f ts) ++ w) d (symbols ps ++ st) (g ∷ gs) (class_sign f d) ∙ read_pieces f n
+    ih h m ps ts z k w st g gs c
 read_pieces f n ih h m (pi.Kid s ∷ ps) none z k w st g gs c = cc
 read_pieces f n ih h m (pi.Kid s ∷ ps) (more t ts) z k w st g gs c =
     let p = split (is_shaped (sort_in m s) t) (are_kids m (kid_pieces ps) ts) k in

@@ -70,7 +70,8 @@ module _ (f : ℕ) where
   still_own h _ = refl
 
   still_listed : (us : List Spelled) → AllStill us → Still (listed f us)
-  still_listed us a = still_append (one_led f le.Nothing us) (all_led f (le.Before si.Comma) (drop 1 us)) (still_one le.Nothing us a) (still_led (le.Before si.Comma) (drop 1 us) (still_drop us a))
+  still_listed us a = still_append (one_led f le.Nothing us) (all_led f (le.Before si.Comma) (drop 1 us)) (still_one le.Nothing us a)
+      (still_led (le.Before si.Comma) (drop 1 us) (still_drop us a))
 
   still_piece : (h : Head) (p : Piece) (us : List Spelled) → AllStill us → Still (piece_tokens f h p us)
   still_piece h (pi.Fixed s) us a = refl
@@ -100,7 +101,8 @@ module _ (f : ℕ) where
 
   still_pieces : (h : Head) (ps : List Piece) (us : List Spelled) → AllStill us → Still (pieces_tokens f h ps us)
   still_pieces h [] us a = refl
-  still_pieces h (p ∷ ps) us a = still_append (piece_tokens f h p us) (pieces_tokens f h ps (left_behind p us)) (still_piece h p us a) (still_pieces h ps (left_behind p us) (still_left p us a))
+  still_pieces h (p ∷ ps) us a = still_append (piece_tokens f h p us) (pieces_tokens f h ps (left_behind p us)) (still_piece h p us a)
+      (still_pieces h ps (left_behind p us) (still_left p us a))
 
   mutual
     unfolding spell

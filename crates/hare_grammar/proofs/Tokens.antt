@@ -25,10 +25,12 @@ pub class_name : (f : ℕ) (x : List ℕ) → is_name false x ≡ true → class
 class_name f x e = rw e refl
 
 -- a name behind `::` is a name, or `nomem`
-pub class_path_name : (f : ℕ) (x : List ℕ) → is_name true x ≡ true → (class_of (word_token f tk.Name x) ≡ cl.Name) ⊎ (class_of (word_token f tk.Name x) ≡ cl.PathWord)
+pub class_path_name : (f : ℕ) (x : List ℕ) → is_name true x ≡ true →
+    (class_of (word_token f tk.Name x) ≡ cl.Name) ⊎ (class_of (word_token f tk.Name x) ≡ cl.PathWord)
 class_path_name f x e = by (is_name false x) refl
   where
-    by : (b : Bool) → is_name false x ≡ b → (class_of (word_token f tk.Name x) ≡ cl.Name) ⊎ (class_of (word_token f tk.Name x) ≡ cl.PathWord)
+    by : (b : Bool) → is_name false x ≡ b → (class_of (word_token f tk.Name x) ≡ cl.Name) ⊎
+        (class_of (word_token f tk.Name x) ≡ cl.PathWord)
     by true d = inl (class_name f x d)
     by false d = inr (rw (d, e) refl)
 
@@ -51,9 +53,46 @@ of_listed P (w ∷ ws) x e a = by (bytes_eq w x) refl e (λ e'. of_listed P ws x
 
 -- a word that is a type is read as one wherever types stand
 abbrev pub ScalarRows : List ℕ → Type 0
-ScalarRows x = (bare_row (class_of (word_token 0 tk.Keyword x)) ≡ leaf ki.TypeScalar) × (type_row (class_of (word_token 0 tk.Keyword x)) ≡ leaf ki.TypeScalar) × (member_row (class_of (word_token 0 tk.Keyword x)) ≡ leaf ki.TypeScalar)
+ScalarRows x = (bare_row (class_of (word_token 0 tk.Keyword x)) ≡ leaf ki.TypeScalar) ×
+    (type_row (class_of (word_token 0 tk.Keyword x)) ≡ leaf ki.TypeScalar) ×
+    (member_row (class_of (word_token 0 tk.Keyword x)) ≡ leaf ki.TypeScalar)
 
 pub scalar_rows : (x : List ℕ) → is_listed scalars x ≡ true → ScalarRows x
 scalar_rows x e =
-    of_listed ScalarRows scalars x e
-    ((refl, refl, refl), ((refl, refl, refl), ((refl, refl, refl), ((refl, refl, refl), ((refl, refl, refl), ((refl, refl, refl), ((refl, refl, refl), ((refl, refl, refl), ((refl, refl, refl), ((refl, refl, refl), ((refl, refl, refl), ((refl, refl, refl), ((refl, refl, refl), ((refl, refl, refl), ((refl, refl, refl), ((refl, refl, refl), ((refl, refl, refl), tt)))))))))))))))))
+    of_listed ScalarRows scalars x e (
+      (refl, refl, refl),
+      (
+        (refl, refl, refl),
+        (
+          (refl, refl, refl),
+          (
+            (refl, refl, refl),
+            (
+              (refl, refl, refl),
+              (
+                (refl, refl, refl),
+                (
+                  (refl, refl, refl),
+                  (
+                    (refl, refl, refl),
+                    (
+                      (refl, refl, refl),
+                      (
+                        (refl, refl, refl),
+                        (
+                          (refl, refl, refl),
+                          (
+                            (refl, refl, refl),
+                            ((refl, refl, refl), ((refl, refl, refl), ((refl, refl, refl), ((refl, refl, refl), ((refl, refl, refl), tt))))),
+                          ),
+                        ),
+                      ),
+                    ),
+                  ),
+                ),
+              ),
+            ),
+          ),
+        ),
+      ),
+    )

@@ -47,7 +47,8 @@ unfolding is_shaped
 no_kids m none e = refl
 no_kids m (more t ts) e = cc
 
-kids_as : (s : Sort) (h : Head) (ts : Nodes) (ps : List Piece) → form_of h.kind ≡ ps → Shape s h ts → are_kids (level h.kind h.text) (kid_pieces ps) ts ≡ true
+kids_as : (s : Sort) (h : Head) (ts : Nodes) (ps : List Piece) → form_of h.kind ≡ ps → Shape s h ts →
+    are_kids (level h.kind h.text) (kid_pieces ps) ts ≡ true
 kids_as s h ts ps e p = subst (λ x. are_kids (level h.kind h.text) (kid_pieces x) ts ≡ true) e p.kids
 
 own_as : (s : Sort) (h : Head) (ts : Nodes) (ps : List Piece) → form_of h.kind ≡ ps → Shape s h ts → is_own (own_of ps) h ≡ true
@@ -57,10 +58,12 @@ admits_as : (s : Sort) (h : Head) (ts : Nodes) (k : Kind) → h.kind ≡ k → S
 admits_as s h ts k e p = subst (λ x. admits s x h.text ≡ true) e p.admitted
 
 -- the tree is added
-put : (f : ℕ) (h : Head) (ts : Nodes) (y : Head) (w : List Token) (st : List Symbol) (g : Group) (gs : List Group) → plain_head f h ≡ y → ts ≡ none → run f w st (add (branch y none) (g ∷ gs)) ≡ run f w st (add (plain f (branch h ts)) (g ∷ gs))
+put : (f : ℕ) (h : Head) (ts : Nodes) (y : Head) (w : List Token) (st : List Symbol) (g : Group) (gs : List Group) → plain_head f h ≡ y →
+    ts ≡ none → run f w st (add (branch y none) (g ∷ gs)) ≡ run f w st (add (plain f (branch h ts)) (g ∷ gs))
 put f h ts y w st g gs e i = rw (i, ← e) refl
 
-scalar_row : (s : Sort) (x : List ℕ) → typed s ≡ true → admits s ki.TypeScalar x ≡ true → is_listed scalars x ≡ true → row (ru.Of s) (class_of (word_token 0 tk.Keyword x)) ≡ leaf ki.TypeScalar
+scalar_row : (s : Sort) (x : List ℕ) → typed s ≡ true → admits s ki.TypeScalar x ≡ true → is_listed scalars x ≡ true →
+    row (ru.Of s) (class_of (word_token 0 tk.Keyword x)) ≡ leaf ki.TypeScalar
 scalar_row so.BareType x l a e = (scalar_rows x e).0
 scalar_row so.Type x l a e = (scalar_rows x e).1
 scalar_row so.Member x l a e = (scalar_rows x e).2
@@ -69,7 +72,8 @@ scalar_row so.Length x l a e = cc
 scalar_row so.StructField x l a e = cc
 scalar_row _ x l a e = cc
 
-scalar_reads : (f : ℕ) (s : Sort) (h : Head) (ts : Nodes) → h.kind ≡ ki.TypeScalar → typed s ≡ true → Shape s h ts → (w : List Token) (st : List Symbol) (g : Group) (gs : List Group) → Claim f s h ts w st g gs
+scalar_reads : (f : ℕ) (s : Sort) (h : Head) (ts : Nodes) → h.kind ≡ ki.TypeScalar → typed s ≡ true → Shape s h ts →
+    (w : List Token) (st : List Symbol) (g : Group) (gs : List Group) → Claim f s h ts w st g gs
 unfolding spell
 scalar_reads f s h ts i l p w st g gs =
     let e : form_of h.kind ≡ form_of ki.TypeScalar = ap form_of i in
@@ -78,17 +82,21 @@ scalar_reads f s h ts i l p w st g gs =
     rw e (run_uses f (word_token f tk.Keyword h.text) w (ru.Of s) st (g ∷ gs) (ch.Leaf ki.TypeScalar ∷ []) [] r
     ∙ put f h ts _ w st g gs (text_head f h ki.TypeScalar i own.1) (no_kids _ ts (kids_as s h ts _ e p)))
 
-number_reads : (f : ℕ) (s : Sort) (h : Head) (ts : Nodes) → h.kind ≡ ki.Number → row (ru.Of s) cl.Number ≡ leaf ki.Number → Shape s h ts → (w : List Token) (st : List Symbol) (g : Group) (gs : List Group) → Claim f s h ts w st g gs
+number_reads : (f : ℕ) (s : Sort) (h : Head) (ts : Nodes) → h.kind ≡ ki.Number → row (ru.Of s) cl.Number ≡ leaf ki.Number → Shape s h ts →
+    (w : List Token) (st : List Symbol) (g : Group) (gs : List Group) → Claim f s h ts w st g gs
 unfolding spell
 number_reads f s h ts i l p w st g gs =
     let e : form_of h.kind ≡ form_of ki.Number = ap form_of i in
     let r : row (ru.Of s) (class_of (full_token f tk.Number h)) ≡ leaf ki.Number = rw (class_number f h (own_as s h ts _ e p)) l in
-    let y : plain_head f h ≡ record { kind = ki.Number; place = start_of f; text = h.text; number = h.number; suffix = h.suffix } = rw i refl in
+    let y : plain_head f h ≡ record { kind = ki.Number; place = start_of f; text = h.text; number = h.number; suffix = h.suffix } =
+    rw i refl in
     rw e (run_uses f (full_token f tk.Number h) w (ru.Of s) st (g ∷ gs) (ch.Leaf ki.Number ∷ []) [] r
     ∙ put f h ts _ w st g gs y (no_kids _ ts (kids_as s h ts _ e p)))
 
 -- a path
-path_reads : (f : ℕ) (s : Sort) (k : Kind) (h : Head) (ts : Nodes) → h.kind ≡ k → form_of k ≡ pi.Own ow.Path ∷ [] → row (ru.Of s) cl.Name ≡ path k → Shape s h ts → (w : List Token) (st : List Symbol) (g : Group) (gs : List Group) → has_sign si.PathMark (front w) ≡ false → Claim f s h ts w st g gs
+path_reads : (f : ℕ) (s : Sort) (k : Kind) (h : Head) (ts : Nodes) → h.kind ≡ k → form_of k ≡ pi.Own ow.Path ∷ [] →
+    row (ru.Of s) cl.Name ≡ path k → Shape s h ts → (w : List Token) (st : List Symbol) (g : Group) (gs : List Group) →
+    has_sign si.PathMark (front w) ≡ false → Claim f s h ts w st g gs
 unfolding spell
 path_reads f s k h ts i q r p w st g gs m =
     let e : form_of h.kind ≡ pi.Own ow.Path ∷ [] = ap form_of i ∙ q in
@@ -100,28 +108,40 @@ path_reads f s k h ts i q r p w st g gs m =
 -- ---- forms that begin with a sign
 
 -- the tree under way is whole
-closed : (f : ℕ) (h : Head) (k : Kind) (ts : Nodes) → h.kind ≡ k → is_own ow.Nothing h ≡ true → (w : List Token) (st : List Symbol) (g : Group) (gs : List Group) → run f w (sy.Close k ∷ st) (filled f (begun (start_of f) []) ts ∷ g ∷ gs) ≡ run f w st (add (plain f (branch h ts)) (g ∷ gs))
+closed : (f : ℕ) (h : Head) (k : Kind) (ts : Nodes) → h.kind ≡ k → is_own ow.Nothing h ≡ true →
+    (w : List Token) (st : List Symbol) (g : Group) (gs : List Group) →
+    run f w (sy.Close k ∷ st) (filled f (begun (start_of f) []) ts ∷ g ∷ gs) ≡ run f w st (add (plain f (branch h ts)) (g ∷ gs))
 closed f h k ts i e w st g gs =
-    run_close f w k st _ ∙ ap (λ y. run f w st (add (branch y (nodes_of (plain_list f ts))) (g ∷ gs))) (sym (nothing_head f h k i e)) ∙ ap (λ y. run f w st (add (branch (plain_head f h) y) (g ∷ gs))) (back f ts)
+    run_close f w k st _ ∙ ap (λ y. run f w st (add (branch y (nodes_of (plain_list f ts))) (g ∷ gs))) (sym (nothing_head f h k i e)) ∙ ap
+    (λ y. run f w st (add (branch (plain_head f h) y) (g ∷ gs))) (back f ts)
 
 -- pieces, and the end of their form
-rest_reads : (f n : ℕ) → ReadsTo f n → (h : Head) (m : ℕ) (ps : List Piece) (k : Kind) (ts : Nodes) → sizes_of ts ≤ n → are_kids m (kid_pieces ps) ts ≡ true → (w : List Token) (st : List Symbol) (g : Group) (gs : List Group) → Clear ps (front w) → run f (pieces_tokens f h ps (spells f ts) ++ w) ((symbols ps ++ sy.Close k ∷ []) ++ st) (g ∷ gs) ≡ run f w (sy.Close k ∷ st) (filled f g ts ∷ gs)
+rest_reads : (f n : ℕ) → ReadsTo f n → (h : Head) (m : ℕ) (ps : List Piece) (k : Kind) (ts : Nodes) → sizes_of ts ≤ n →
+    are_kids m (kid_pieces ps) ts ≡ true → (w : List Token) (st : List Symbol) (g : Group) (gs : List Group) → Clear ps (front w) →
+    run f (pieces_tokens f h ps (spells f ts) ++ w) ((symbols ps ++ sy.Close k ∷ []) ++ st) (g ∷ gs) ≡
+    run f w (sy.Close k ∷ st) (filled f g ts ∷ gs)
 rest_reads f n ih h m ps k ts z a w st g gs c =
-    ap (λ x. run f (pieces_tokens f h ps (spells f ts) ++ w) x (g ∷ gs)) (append_assoc (symbols ps) (sy.Close k ∷ []) st) ∙ read_pieces f n ih h m ps ts z a w (sy.Close k ∷ st) g gs c
+    ap (λ x. run f (pieces_tokens f h ps (spells f ts) ++ w) x (g ∷ gs)) (append_assoc (symbols ps) (sy.Close k ∷ []) st) ∙ read_pieces f n
+    ih h m ps ts z a w (sy.Close k ∷ st) g gs c
 
-opens_reads : (f n : ℕ) → ReadsTo f n → (s : Sort) (k : Kind) (d : Sign) (ps : List Piece) (h : Head) (ts : Nodes) → sizes_of ts ≤ n → h.kind ≡ k → form_of k ≡ pi.Fixed d ∷ ps → own_of ps ≡ ow.Nothing → row (ru.Of s) (cl.Sign d) ≡ opens k → Shape s h ts → (w : List Token) (st : List Symbol) (g : Group) (gs : List Group) → Clear ps (front w) → Claim f s h ts w st g gs
+opens_reads : (f n : ℕ) → ReadsTo f n → (s : Sort) (k : Kind) (d : Sign) (ps : List Piece) (h : Head) (ts : Nodes) → sizes_of ts ≤ n →
+    h.kind ≡ k → form_of k ≡ pi.Fixed d ∷ ps → own_of ps ≡ ow.Nothing → row (ru.Of s) (cl.Sign d) ≡ opens k → Shape s h ts →
+    (w : List Token) (st : List Symbol) (g : Group) (gs : List Group) → Clear ps (front w) → Claim f s h ts w st g gs
 unfolding spell
 opens_reads f n ih s k d ps h ts z i q o r p w st g gs c =
     let e : form_of h.kind ≡ pi.Fixed d ∷ ps = ap form_of i ∙ q in
     let own : is_own ow.Nothing h ≡ true = subst (λ x. is_own x h ≡ true) o (own_as s h ts _ e p) in
-    let r' : row (ru.Of s) (class_of (sign_token f d)) ≡ Uses (ch.Open ∷ []) (symbols ps ++ sy.Close k ∷ []) = rw (class_sign f d) (r ∙ (rw q refl)) in
-    rw e (run_uses f (sign_token f d) (pieces_tokens f h ps (spells f ts) ++ w) (ru.Of s) st (g ∷ gs) (ch.Open ∷ []) (symbols ps ++ sy.Close k ∷ []) r'
+    let r' : row (ru.Of s) (class_of (sign_token f d)) ≡ Uses (ch.Open ∷ []) (symbols ps ++ sy.Close k ∷ []) =
+    rw (class_sign f d) (r ∙ (rw q refl)) in
+    rw e (run_uses f (sign_token f d) (pieces_tokens f h ps (spells f ts) ++ w) (ru.Of s) st (g ∷ gs) (ch.Open ∷ [])
+    (symbols ps ++ sy.Close k ∷ []) r'
     ∙ rest_reads f n ih h _ ps k ts z (kids_as s h ts _ e p) w st (begun (start_of f) []) (g ∷ gs) c
     ∙ closed f h k ts i own w st g gs)
 
 -- ---- rows of types
 
-row_pointer : (s : Sort) (x : List ℕ) → typed s ≡ true → admits s ki.TypePointer x ≡ true → row (ru.Of s) (cl.Sign si.Star) ≡ opens ki.TypePointer
+row_pointer : (s : Sort) (x : List ℕ) → typed s ≡ true → admits s ki.TypePointer x ≡ true →
+    row (ru.Of s) (cl.Sign si.Star) ≡ opens ki.TypePointer
 row_pointer so.Type x l a = refl
 row_pointer so.BareType x l a = refl
 row_pointer so.Member x l a = refl
@@ -130,7 +150,8 @@ row_pointer so.Length x l a = cc
 row_pointer so.StructField x l a = cc
 row_pointer _ x l a = cc
 
-row_nullable : (s : Sort) (x : List ℕ) → typed s ≡ true → admits s ki.TypeNullable x ≡ true → row (ru.Of s) (cl.Sign si.Nullable) ≡ opens ki.TypeNullable
+row_nullable : (s : Sort) (x : List ℕ) → typed s ≡ true → admits s ki.TypeNullable x ≡ true →
+    row (ru.Of s) (cl.Sign si.Nullable) ≡ opens ki.TypeNullable
 row_nullable so.Type x l a = refl
 row_nullable so.BareType x l a = refl
 row_nullable so.Member x l a = refl
@@ -139,7 +160,8 @@ row_nullable so.Length x l a = cc
 row_nullable so.StructField x l a = cc
 row_nullable _ x l a = cc
 
-row_struct : (s : Sort) (x : List ℕ) → typed s ≡ true → admits s ki.TypeStruct x ≡ true → row (ru.Of s) (cl.Sign si.Struct) ≡ opens ki.TypeStruct
+row_struct : (s : Sort) (x : List ℕ) → typed s ≡ true → admits s ki.TypeStruct x ≡ true →
+    row (ru.Of s) (cl.Sign si.Struct) ≡ opens ki.TypeStruct
 row_struct so.Type x l a = refl
 row_struct so.BareType x l a = refl
 row_struct so.Member x l a = refl
@@ -166,7 +188,8 @@ row_spread so.Length x l a = cc
 row_spread so.StructField x l a = cc
 row_spread _ x l a = cc
 
-row_bracket : (s : Sort) (k : Kind) (x : List ℕ) → (k ≡ ki.TypeSlice) ⊎ (k ≡ ki.TypeArray) → typed s ≡ true → admits s k x ≡ true → row (ru.Of s) (cl.Sign si.LeftBracket) ≡ Uses (ch.Open ∷ []) (part ru.InBracket ∷ [])
+row_bracket : (s : Sort) (k : Kind) (x : List ℕ) → (k ≡ ki.TypeSlice) ⊎ (k ≡ ki.TypeArray) → typed s ≡ true → admits s k x ≡ true →
+    row (ru.Of s) (cl.Sign si.LeftBracket) ≡ Uses (ch.Open ∷ []) (part ru.InBracket ∷ [])
 row_bracket so.Type k x o l a = refl
 row_bracket so.BareType k x o l a = refl
 row_bracket so.Member k x o l a = refl
@@ -178,7 +201,8 @@ row_bracket so.StructField k x (inl o) l a = cc
 row_bracket so.StructField k x (inr o) l a = cc
 row_bracket _ k x o l a = cc
 
-row_paren : (s : Sort) (k : Kind) (x : List ℕ) → (k ≡ ki.TypeTuple) ⊎ (k ≡ ki.TypeUnion) → typed s ≡ true → admits s k x ≡ true → row (ru.Of s) (cl.Sign si.LeftParen) ≡ Uses (ch.Open ∷ []) (part ru.FirstMember ∷ [])
+row_paren : (s : Sort) (k : Kind) (x : List ℕ) → (k ≡ ki.TypeTuple) ⊎ (k ≡ ki.TypeUnion) → typed s ≡ true → admits s k x ≡ true →
+    row (ru.Of s) (cl.Sign si.LeftParen) ≡ Uses (ch.Open ∷ []) (part ru.FirstMember ∷ [])
 row_paren so.Type k x o l a = refl
 row_paren so.BareType k x o l a = refl
 row_paren so.Member k x o l a = refl
@@ -237,7 +261,9 @@ types_close = record { sort = refl; faults = refl; mark = refl; comma = refl; ba
 members_close : Closes so.Member si.RightParen
 members_close = record { sort = refl; faults = refl; mark = refl; comma = refl; bar = refl }
 
-slice_reads : (f n : ℕ) → ReadsTo f n → (s : Sort) (h : Head) (ts : Nodes) → sizes_of ts ≤ n → h.kind ≡ ki.TypeSlice → typed s ≡ true → Shape s h ts → (w : List Token) (st : List Symbol) (g : Group) (gs : List Group) → has_sign si.PathMark (front w) ≡ false → Claim f s h ts w st g gs
+slice_reads : (f n : ℕ) → ReadsTo f n → (s : Sort) (h : Head) (ts : Nodes) → sizes_of ts ≤ n → h.kind ≡ ki.TypeSlice → typed s ≡ true →
+    Shape s h ts → (w : List Token) (st : List Symbol) (g : Group) (gs : List Group) → has_sign si.PathMark (front w) ≡ false →
+    Claim f s h ts w st g gs
 unfolding spell
 slice_reads f n ih s h ts z i l p w st g gs m =
     let ps : List Piece = pi.Kid so.Type ∷ [] in
@@ -249,22 +275,27 @@ slice_reads f n ih s h ts z i l p w st g gs m =
     ∙ rest_reads f n ih h _ ps ki.TypeSlice ts z (kids_as s h ts _ e p) w st (begun (start_of f) []) (g ∷ gs) (refl, m, tt)
     ∙ closed f h ki.TypeSlice ts i own w st g gs)
 
-in_bracket : (c : Class) (cs : List Change) (ss : List Symbol) → of_row so.Length c ≡ Uses cs ss → row ru.InBracket c ≡ before (of_row so.Length c) (rest_of 2 ki.TypeArray)
+in_bracket : (c : Class) (cs : List Change) (ss : List Symbol) → of_row so.Length c ≡ Uses cs ss →
+    row ru.InBracket c ≡ before (of_row so.Length c) (rest_of 2 ki.TypeArray)
 in_bracket (cl.Sign si.RightBracket) cs ss e = cc
 in_bracket (cl.Sign _) cs ss e = refl
 in_bracket _ cs ss e = refl
 
-first_type : (c : Class) (cs : List Change) (ss : List Symbol) → of_row so.Type c ≡ Uses cs ss → row ru.FirstMember c ≡ before (of_row so.Type c) (part ru.AfterType ∷ [])
+first_type : (c : Class) (cs : List Change) (ss : List Symbol) → of_row so.Type c ≡ Uses cs ss →
+    row ru.FirstMember c ≡ before (of_row so.Type c) (part ru.AfterType ∷ [])
 first_type (cl.Sign si.Dots) cs ss e = cc
 first_type (cl.Sign _) cs ss e = refl
 first_type _ cs ss e = refl
 
-first_member : (c : Class) → (row ru.FirstMember c ≡ before (of_row so.Member c) (part ru.AfterSpread ∷ [])) ⊎ (row ru.FirstMember c ≡ before (of_row so.Member c) (part ru.AfterType ∷ []))
+first_member : (c : Class) → (row ru.FirstMember c ≡ before (of_row so.Member c) (part ru.AfterSpread ∷ [])) ⊎
+    (row ru.FirstMember c ≡ before (of_row so.Member c) (part ru.AfterType ∷ []))
 first_member (cl.Sign si.Dots) = inl refl
 first_member (cl.Sign _) = inr refl
 first_member _ = inr refl
 
-array_reads : (f n : ℕ) → ReadsTo f n → (s : Sort) (h : Head) (ts : Nodes) → sizes_of ts ≤ n → h.kind ≡ ki.TypeArray → typed s ≡ true → Shape s h ts → (w : List Token) (st : List Symbol) (g : Group) (gs : List Group) → has_sign si.PathMark (front w) ≡ false → Claim f s h ts w st g gs
+array_reads : (f n : ℕ) → ReadsTo f n → (s : Sort) (h : Head) (ts : Nodes) → sizes_of ts ≤ n → h.kind ≡ ki.TypeArray → typed s ≡ true →
+    Shape s h ts → (w : List Token) (st : List Symbol) (g : Group) (gs : List Group) → has_sign si.PathMark (front w) ≡ false →
+    Claim f s h ts w st g gs
 unfolding spell is_shaped
 array_reads f n ih s h none z i l p w st g gs m = let a = kids_as s h none _ (ap form_of i) p in cc
 array_reads f n ih s h (more t ts) z i l p w st g gs m =
@@ -279,12 +310,14 @@ array_reads f n ih s h (more t ts) z i l p w st g gs m =
     let u = pieces_tokens f h ps (spells f ts) in
     rw (e, append-nil (spell f t), append_assoc (spell f t) u w)
     (run_uses f (sign_token f si.LeftBracket) _ (ru.Of s) st (g ∷ gs) (ch.Open ∷ []) (part ru.InBracket ∷ []) a
-    ∙ run_before f so.Length ru.InBracket (rest_of 2 ki.TypeArray) (spell f t) (u ++ w) st (begun (start_of f) [] ∷ g ∷ gs) b (in_bracket (class_of b.head) b.changes b.symbols b.uses)
+    ∙ run_before f so.Length ru.InBracket (rest_of 2 ki.TypeArray) (spell f t) (u ++ w) st (begun (start_of f) [] ∷ g ∷ gs) b
+    (in_bracket (class_of b.head) b.changes b.symbols b.uses)
     ∙ ih so.Length t z' refl k.0 (u ++ w) _ (begun (start_of f) []) (g ∷ gs) refl
     ∙ rest_reads f n ih h _ ps ki.TypeArray ts zs k.1 w st (begun (start_of f) (plain f t ∷ [])) (g ∷ gs) (refl, m, tt)
     ∙ closed f h ki.TypeArray (more t ts) i own w st g gs)
 
-tuple_reads : (f n : ℕ) → ReadsTo f n → (s : Sort) (h : Head) (ts : Nodes) → sizes_of ts ≤ n → h.kind ≡ ki.TypeTuple → typed s ≡ true → Shape s h ts → (w : List Token) (st : List Symbol) (g : Group) (gs : List Group) → Claim f s h ts w st g gs
+tuple_reads : (f n : ℕ) → ReadsTo f n → (s : Sort) (h : Head) (ts : Nodes) → sizes_of ts ≤ n → h.kind ≡ ki.TypeTuple → typed s ≡ true →
+    Shape s h ts → (w : List Token) (st : List Symbol) (g : Group) (gs : List Group) → Claim f s h ts w st g gs
 unfolding spell is_shaped
 tuple_reads f n ih s h none z i l p w st g gs = let a = kids_as s h none _ (ap form_of i) p in cc
 tuple_reads f n ih s h (more t ts) z i l p w st g gs =
@@ -299,48 +332,71 @@ tuple_reads f n ih s h (more t ts) z i l p w st g gs =
     let u = sign_token f si.Comma ∷ pieces_tokens f h ps (spells f ts) in
     rw (e, append-nil (spell f t), append_assoc (spell f t) u w)
     (run_uses f (sign_token f si.LeftParen) _ (ru.Of s) st (g ∷ gs) (ch.Open ∷ []) (part ru.FirstMember ∷ []) a
-    ∙ run_before f so.Type ru.FirstMember (part ru.AfterType ∷ []) (spell f t) (u ++ w) st (begun (start_of f) [] ∷ g ∷ gs) b (first_type (class_of b.head) b.changes b.symbols b.uses)
+    ∙ run_before f so.Type ru.FirstMember (part ru.AfterType ∷ []) (spell f t) (u ++ w) st (begun (start_of f) [] ∷ g ∷ gs) b
+    (first_type (class_of b.head) b.changes b.symbols b.uses)
     ∙ ih so.Type t z' refl k.0 (u ++ w) _ (begun (start_of f) []) (g ∷ gs) refl
     ∙ run_uses f (sign_token f si.Comma) _ ru.AfterType st (begun (start_of f) (plain f t ∷ []) ∷ g ∷ gs) [] (rest_of 3 ki.TypeTuple) refl
     ∙ rest_reads f n ih h _ ps ki.TypeTuple ts zs k.1 w st (begun (start_of f) (plain f t ∷ [])) (g ∷ gs) (refl, tt, types_close)
     ∙ closed f h ki.TypeTuple (more t ts) i own w st g gs)
 
-union_reads : (f n : ℕ) → ReadsTo f n → (s : Sort) (h : Head) (ts : Nodes) → sizes_of ts ≤ n → h.kind ≡ ki.TypeUnion → typed s ≡ true → Shape s h ts → (w : List Token) (st : List Symbol) (g : Group) (gs : List Group) → Claim f s h ts w st g gs
+union_reads : (f n : ℕ) → ReadsTo f n → (s : Sort) (h : Head) (ts : Nodes) → sizes_of ts ≤ n → h.kind ≡ ki.TypeUnion → typed s ≡ true →
+    Shape s h ts → (w : List Token) (st : List Symbol) (g : Group) (gs : List Group) → Claim f s h ts w st g gs
 unfolding spell is_shaped
 union_reads f n ih s h none z i l p w st g gs = let a = kids_as s h none _ (ap form_of i) p in cc
 union_reads f n ih s h (more t ts) z i l p w st g gs =
     let e : form_of h.kind ≡ form_of ki.TypeUnion = ap form_of i in
     let own = own_as s h (more t ts) _ e p in
     let a = row_paren s ki.TypeUnion h.text (inr refl) l (admits_as s h (more t ts) ki.TypeUnion i p) in
-    let k = split (is_shaped so.Member t) (are_kids (level h.kind h.text) (kid_pieces (pi.Kid so.Member ∷ pi.EachLed si.Bar so.Member ∷ pi.Fixed si.RightParen ∷ [])) ts) (kids_as s h (more t ts) _ e p) in
+    let k = split (is_shaped so.Member t) (are_kids (level h.kind h.text)
+    (kid_pieces (pi.Kid so.Member ∷ pi.EachLed si.Bar so.Member ∷ pi.Fixed si.RightParen ∷ [])) ts) (kids_as s h (more t ts) _ e p) in
     let zs : sizes_of ts ≤ n = omega arith in
-    rw (e, append-nil (spell f t), append_assoc (spell f t) (sign_token f si.Bar ∷ pieces_tokens f h (pi.Kid so.Member ∷ pi.EachLed si.Bar so.Member ∷ pi.Fixed si.RightParen ∷ []) (spells f ts)) w)
+    rw (
+      e,
+      append-nil (spell f t),
+      append_assoc (spell f t)
+          (sign_token f si.Bar ∷ pieces_tokens f h (pi.Kid so.Member ∷ pi.EachLed si.Bar so.Member ∷ pi.Fixed si.RightParen ∷ [])
+          (spells f ts)) w,
+    )
     (run_uses f (sign_token f si.LeftParen) _ (ru.Of s) st (g ∷ gs) (ch.Open ∷ []) (part ru.FirstMember ∷ []) a
     ∙ first k.0 (first_member (class_of (begins f n ih so.Member t (omega arith) refl k.0).head))
-    ∙ rest_reads f n ih h _ (pi.Kid so.Member ∷ pi.EachLed si.Bar so.Member ∷ pi.Fixed si.RightParen ∷ []) ki.TypeUnion ts zs k.1 w st (begun (start_of f) (plain f t ∷ [])) (g ∷ gs) (refl, tt, members_close)
+    ∙ rest_reads f n ih h _ (pi.Kid so.Member ∷ pi.EachLed si.Bar so.Member ∷ pi.Fixed si.RightParen ∷ []) ki.TypeUnion ts zs k.1 w st
+    (begun (start_of f) (plain f t ∷ [])) (g ∷ gs) (refl, tt, members_close)
     ∙ closed f h ki.TypeUnion (more t ts) i own w st g gs)
   where
     rest : List Token
     rest = pieces_tokens f h (pi.Kid so.Member ∷ pi.EachLed si.Bar so.Member ∷ pi.Fixed si.RightParen ∷ []) (spells f ts) ++ w
 
-    first : (k : is_shaped so.Member t ≡ true) → (row ru.FirstMember (class_of (begins f n ih so.Member t (omega arith) refl k).head) ≡ before (of_row so.Member (class_of (begins f n ih so.Member t (omega arith) refl k).head)) (part ru.AfterSpread ∷ [])) ⊎ (row ru.FirstMember (class_of (begins f n ih so.Member t (omega arith) refl k).head) ≡ before (of_row so.Member (class_of (begins f n ih so.Member t (omega arith) refl k).head)) (part ru.AfterType ∷ [])) → run f (spell f t ++ sign_token f si.Bar ∷ rest) (part ru.FirstMember ∷ st) (begun (start_of f) [] ∷ g ∷ gs) ≡ run f rest (rest_of 3 ki.TypeUnion ++ st) (begun (start_of f) (plain f t ∷ []) ∷ g ∷ gs)
+    first : (k : is_shaped so.Member t ≡ true) →
+        (row ru.FirstMember (class_of (begins f n ih so.Member t (omega arith) refl k).head) ≡
+        before (of_row so.Member (class_of (begins f n ih so.Member t (omega arith) refl k).head)) (part ru.AfterSpread ∷ [])) ⊎
+        (row ru.FirstMember (class_of (begins f n ih so.Member t (omega arith) refl k).head) ≡
+        before (of_row so.Member (class_of (begins f n ih so.Member t (omega arith) refl k).head)) (part ru.AfterType ∷ [])) →
+        run f (spell f t ++ sign_token f si.Bar ∷ rest) (part ru.FirstMember ∷ st) (begun (start_of f) [] ∷ g ∷ gs) ≡
+        run f rest (rest_of 3 ki.TypeUnion ++ st) (begun (start_of f) (plain f t ∷ []) ∷ g ∷ gs)
     first k (inl o) =
-        run_before f so.Member ru.FirstMember (part ru.AfterSpread ∷ []) (spell f t) (sign_token f si.Bar ∷ rest) st (begun (start_of f) [] ∷ g ∷ gs) (begins f n ih so.Member t (omega arith) refl k) o
+        run_before f so.Member ru.FirstMember (part ru.AfterSpread ∷ []) (spell f t) (sign_token f si.Bar ∷ rest) st
+        (begun (start_of f) [] ∷ g ∷ gs) (begins f n ih so.Member t (omega arith) refl k) o
         ∙ ih so.Member t (omega arith) refl k (sign_token f si.Bar ∷ rest) _ (begun (start_of f) []) (g ∷ gs) refl
-        ∙ run_uses f (sign_token f si.Bar) rest ru.AfterSpread st (begun (start_of f) (plain f t ∷ []) ∷ g ∷ gs) [] (rest_of 3 ki.TypeUnion) refl
+        ∙ run_uses f (sign_token f si.Bar) rest ru.AfterSpread st (begun (start_of f) (plain f t ∷ []) ∷ g ∷ gs) [] (rest_of 3 ki.TypeUnion)
+        refl
     first k (inr o) =
-        run_before f so.Member ru.FirstMember (part ru.AfterType ∷ []) (spell f t) (sign_token f si.Bar ∷ rest) st (begun (start_of f) [] ∷ g ∷ gs) (begins f n ih so.Member t (omega arith) refl k) o
+        run_before f so.Member ru.FirstMember (part ru.AfterType ∷ []) (spell f t) (sign_token f si.Bar ∷ rest) st
+        (begun (start_of f) [] ∷ g ∷ gs) (begins f n ih so.Member t (omega arith) refl k) o
         ∙ ih so.Member t (omega arith) refl k (sign_token f si.Bar ∷ rest) _ (begun (start_of f) []) (g ∷ gs) refl
-        ∙ run_uses f (sign_token f si.Bar) rest ru.AfterType st (begun (start_of f) (plain f t ∷ []) ∷ g ∷ gs) [] (rest_of 3 ki.TypeUnion) refl
+        ∙ run_uses f (sign_token f si.Bar) rest ru.AfterType st (begun (start_of f) (plain f t ∷ []) ∷ g ∷ gs) [] (rest_of 3 ki.TypeUnion)
+        refl
 
 -- a field: its name is its text
-field_reads : (f n : ℕ) → ReadsTo f n → (s : Sort) (h : Head) (ts : Nodes) → sizes_of ts ≤ n → h.kind ≡ ki.StructField → typed s ≡ true → Shape s h ts → (w : List Token) (st : List Symbol) (g : Group) (gs : List Group) → has_sign si.PathMark (front w) ≡ false → Claim f s h ts w st g gs
+field_reads : (f n : ℕ) → ReadsTo f n → (s : Sort) (h : Head) (ts : Nodes) → sizes_of ts ≤ n → h.kind ≡ ki.StructField → typed s ≡ true →
+    Shape s h ts → (w : List Token) (st : List Symbol) (g : Group) (gs : List Group) → has_sign si.PathMark (front w) ≡ false →
+    Claim f s h ts w st g gs
 unfolding spell
 field_reads f n ih s h ts z i l p w st g gs m =
     let ps : List Piece = pi.Fixed si.Colon ∷ pi.Kid so.Type ∷ [] in
     let e : form_of h.kind ≡ form_of ki.StructField = ap form_of i in
     let own = split (is_name false h.text) (has_text_alone h) (own_as s h ts _ e p) in
-    let a : row (ru.Of s) (class_of (word_token f tk.Name h.text)) ≡ names ki.StructField = rw (class_name f h.text own.0) (row_field s h.text l (admits_as s h ts ki.StructField i p)) in
+    let a : row (ru.Of s) (class_of (word_token f tk.Name h.text)) ≡ names ki.StructField =
+    rw (class_name f h.text own.0) (row_field s h.text l (admits_as s h ts ki.StructField i p)) in
     rw e (run_uses f (word_token f tk.Name h.text) _ (ru.Of s) st (g ∷ gs) (ch.Open ∷ ch.Take ∷ []) (rest_of 1 ki.StructField) a
     ∙ rest_reads f n ih h _ ps ki.StructField ts z (kids_as s h ts _ e p) w st (texted f h.text) (g ∷ gs) (refl, m, tt)
     ∙ run_close f w ki.StructField st _
@@ -395,16 +451,24 @@ kind_in so.Length k x l a = length_kind k x a
 kind_in so.StructField k x l a = field_kind k x a
 kind_in _ k x l a = cc
 
-kind_reads : (f n : ℕ) → ReadsTo f n → (s : Sort) (k : Kind) (h : Head) (ts : Nodes) → sizes_of ts ≤ n → h.kind ≡ k → typed s ≡ true → Shape s h ts → is_kind_of_types k ≡ true → admits s k h.text ≡ true → (w : List Token) (st : List Symbol) (g : Group) (gs : List Group) → has_sign si.PathMark (front w) ≡ false → Claim f s h ts w st g gs
+kind_reads : (f n : ℕ) → ReadsTo f n → (s : Sort) (k : Kind) (h : Head) (ts : Nodes) → sizes_of ts ≤ n → h.kind ≡ k → typed s ≡ true →
+    Shape s h ts → is_kind_of_types k ≡ true → admits s k h.text ≡ true →
+    (w : List Token) (st : List Symbol) (g : Group) (gs : List Group) → has_sign si.PathMark (front w) ≡ false → Claim f s h ts w st g gs
 kind_reads f n ih s ki.TypeScalar h ts z i l p q a w st g gs m = scalar_reads f s h ts i l p w st g gs
 kind_reads f n ih s ki.Number h ts z i l p q a w st g gs m = number_reads f s h ts i (row_length s h.text l a) p w st g gs
 kind_reads f n ih s ki.Path h ts z i l p q a w st g gs m = path_reads f s ki.Path h ts i refl (row_length_path s h.text l a) p w st g gs m
-kind_reads f n ih s ki.TypePath h ts z i l p q a w st g gs m = path_reads f s ki.TypePath h ts i refl (row_type_path s h.text l a) p w st g gs m
-kind_reads f n ih s ki.TypePointer h ts z i l p q a w st g gs m = opens_reads f n ih s ki.TypePointer si.Star _ h ts z i refl refl (row_pointer s h.text l a) p w st g gs (refl, m, tt)
-kind_reads f n ih s ki.TypeNullable h ts z i l p q a w st g gs m = opens_reads f n ih s ki.TypeNullable si.Nullable _ h ts z i refl refl (row_nullable s h.text l a) p w st g gs (refl, m, tt)
-kind_reads f n ih s ki.TypeError h ts z i l p q a w st g gs m = opens_reads f n ih s ki.TypeError si.Bang _ h ts z i refl refl (row_error s h.text l a) p w st g gs (refl, m, tt)
-kind_reads f n ih s ki.Spread h ts z i l p q a w st g gs m = opens_reads f n ih s ki.Spread si.Dots _ h ts z i refl refl (row_spread s h.text l a) p w st g gs (refl, m, tt)
-kind_reads f n ih s ki.TypeStruct h ts z i l p q a w st g gs m = opens_reads f n ih s ki.TypeStruct si.Struct _ h ts z i refl refl (row_struct s h.text l a) p w st g gs (refl, tt, fields_close)
+kind_reads f n ih s ki.TypePath h ts z i l p q a w st g gs m =
+    path_reads f s ki.TypePath h ts i refl (row_type_path s h.text l a) p w st g gs m
+kind_reads f n ih s ki.TypePointer h ts z i l p q a w st g gs m =
+    opens_reads f n ih s ki.TypePointer si.Star _ h ts z i refl refl (row_pointer s h.text l a) p w st g gs (refl, m, tt)
+kind_reads f n ih s ki.TypeNullable h ts z i l p q a w st g gs m =
+    opens_reads f n ih s ki.TypeNullable si.Nullable _ h ts z i refl refl (row_nullable s h.text l a) p w st g gs (refl, m, tt)
+kind_reads f n ih s ki.TypeError h ts z i l p q a w st g gs m =
+    opens_reads f n ih s ki.TypeError si.Bang _ h ts z i refl refl (row_error s h.text l a) p w st g gs (refl, m, tt)
+kind_reads f n ih s ki.Spread h ts z i l p q a w st g gs m =
+    opens_reads f n ih s ki.Spread si.Dots _ h ts z i refl refl (row_spread s h.text l a) p w st g gs (refl, m, tt)
+kind_reads f n ih s ki.TypeStruct h ts z i l p q a w st g gs m =
+    opens_reads f n ih s ki.TypeStruct si.Struct _ h ts z i refl refl (row_struct s h.text l a) p w st g gs (refl, tt, fields_close)
 kind_reads f n ih s ki.TypeSlice h ts z i l p q a w st g gs m = slice_reads f n ih s h ts z i l p w st g gs m
 kind_reads f n ih s ki.TypeArray h ts z i l p q a w st g gs m = array_reads f n ih s h ts z i l p w st g gs m
 kind_reads f n ih s ki.TypeTuple h ts z i l p q a w st g gs m = tuple_reads f n ih s h ts z i l p w st g gs

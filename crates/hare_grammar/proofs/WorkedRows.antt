@@ -72,7 +72,8 @@ unfolding is_shaped stops begins_labelled spell run step
 scalar_type = record { shaped = refl; read = refl }
 
 -- *[]!a::b
-pointer_type : ReadsBack so.Type (tree ki.TypePointer [] (tree ki.TypeSlice [] (tree ki.TypeError [] (tree ki.TypePath (codes "a::b") [] ∷ []) ∷ []) ∷ []))
+pointer_type : ReadsBack so.Type (tree ki.TypePointer []
+    (tree ki.TypeSlice [] (tree ki.TypeError [] (tree ki.TypePath (codes "a::b") [] ∷ []) ∷ []) ∷ []))
 unfolding is_shaped stops begins_labelled spell run step
 pointer_type = record { shaped = refl; read = refl }
 
@@ -87,7 +88,8 @@ unfolding is_shaped stops begins_labelled spell run step
 array_of_path = record { shaped = refl; read = refl }
 
 -- struct { a: int, b: void, }
-struct_type : ReadsBack so.Type (tree ki.TypeStruct [] (tree ki.StructField (codes "a") (int ∷ []) ∷ tree ki.StructField (codes "b") (void ∷ []) ∷ comma ∷ []))
+struct_type : ReadsBack so.Type (tree ki.TypeStruct []
+    (tree ki.StructField (codes "a") (int ∷ []) ∷ tree ki.StructField (codes "b") (void ∷ []) ∷ comma ∷ []))
 unfolding is_shaped stops begins_labelled spell run step
 struct_type = record { shaped = refl; read = refl }
 
@@ -97,7 +99,8 @@ unfolding is_shaped stops begins_labelled spell run step
 tuple_type = record { shaped = refl; read = refl }
 
 -- (...a::b | int | !void)
-union_type : ReadsBack so.Type (tree ki.TypeUnion [] (tree ki.Spread [] (tree ki.TypePath (codes "a::b") [] ∷ []) ∷ int ∷ tree ki.TypeError [] (void ∷ []) ∷ []))
+union_type : ReadsBack so.Type (tree ki.TypeUnion []
+    (tree ki.Spread [] (tree ki.TypePath (codes "a::b") [] ∷ []) ∷ int ∷ tree ki.TypeError [] (void ∷ []) ∷ []))
 unfolding is_shaped stops begins_labelled spell run step
 union_type = record { shaped = refl; read = refl }
 
@@ -114,17 +117,22 @@ nomem_in_front = refl
 -- ---- expressions
 
 -- a + b * 5 - a
-precedence : ReadsBack expr (tree ki.Arith (codes "-") (tree ki.Arith (codes "+") (a ∷ tree ki.Arith (codes "*") (b ∷ five ∷ []) ∷ []) ∷ a ∷ []))
+precedence : ReadsBack expr (tree ki.Arith (codes "-")
+    (tree ki.Arith (codes "+") (a ∷ tree ki.Arith (codes "*") (b ∷ five ∷ []) ∷ []) ∷ a ∷ []))
 unfolding is_shaped stops begins_labelled spell run step
 precedence = record { shaped = refl; read = refl }
 
 -- a || b && a == b < 5 << a
-levels : ReadsBack expr (tree ki.Logic (codes "||") (a ∷ tree ki.Logic (codes "&&") (b ∷ tree ki.Equal (codes "==") (a ∷ tree ki.Less (codes "<") (b ∷ tree ki.Shift (codes "<<") (five ∷ a ∷ []) ∷ []) ∷ []) ∷ []) ∷ []))
+levels : ReadsBack expr (tree ki.Logic (codes "||")
+    (a ∷ tree ki.Logic (codes "&&") (b ∷ tree ki.Equal (codes "==")
+    (a ∷ tree ki.Less (codes "<") (b ∷ tree ki.Shift (codes "<<") (five ∷ a ∷ []) ∷ []) ∷ []) ∷ []) ∷ []))
 unfolding is_shaped stops begins_labelled spell run step
 levels = record { shaped = refl; read = refl }
 
 -- -a.b(a, b,)[5]! : int as void
-postfixes : ReadsBack expr (tree ki.As [] (tree ki.Cast [] (tree ki.Neg [] (tree ki.Force [] (tree ki.Index [] (tree ki.Call [] (tree ki.Field (codes "b") (a ∷ []) ∷ a ∷ b ∷ comma ∷ []) ∷ five ∷ []) ∷ []) ∷ []) ∷ int ∷ []) ∷ void ∷ []))
+postfixes : ReadsBack expr (tree ki.As [] (tree ki.Cast []
+    (tree ki.Neg [] (tree ki.Force [] (tree ki.Index []
+    (tree ki.Call [] (tree ki.Field (codes "b") (a ∷ []) ∷ a ∷ b ∷ comma ∷ []) ∷ five ∷ []) ∷ []) ∷ []) ∷ int ∷ []) ∷ void ∷ []))
 unfolding is_shaped stops begins_labelled spell run step
 postfixes = record { shaped = refl; read = refl }
 
@@ -149,7 +157,9 @@ unfolding is_shaped stops begins_labelled spell run step
 assignments = record { shaped = refl; read = refl }
 
 -- a::b { a = (5), b = (a, b) }
-struct_value : ReadsBack expr (tree ki.StructLit [] (tree ki.TypePath (codes "a::b") [] ∷ tree ki.FieldValue (codes "a") (tree ki.Paren [] (five ∷ []) ∷ []) ∷ tree ki.FieldValue (codes "b") (tree ki.Tuple [] (a ∷ b ∷ no ∷ []) ∷ []) ∷ no ∷ []))
+struct_value : ReadsBack expr (tree ki.StructLit []
+    (tree ki.TypePath (codes "a::b") [] ∷ tree ki.FieldValue (codes "a") (tree ki.Paren [] (five ∷ []) ∷ []) ∷ tree ki.FieldValue
+    (codes "b") (tree ki.Tuple [] (a ∷ b ∷ no ∷ []) ∷ []) ∷ no ∷ []))
 unfolding is_shaped stops begins_labelled spell run step
 struct_value = record { shaped = refl; read = refl }
 
@@ -159,7 +169,9 @@ unfolding is_shaped stops begins_labelled spell run step
 nearest_if = record { shaped = refl; read = refl }
 
 -- for :b (let a: int = 5; a < b; a += 5) { }
-loop : ReadsBack expr (tree ki.For (codes "b") (tree ki.Let (codes "a") (int ∷ five ∷ []) ∷ tree ki.Less (codes "<") (a ∷ b ∷ []) ∷ tree ki.OpAssign (codes "+=") (a ∷ five ∷ []) ∷ tree ki.Block [] [] ∷ []))
+loop : ReadsBack expr (tree ki.For (codes "b")
+    (tree ki.Let (codes "a") (int ∷ five ∷ []) ∷ tree ki.Less (codes "<") (a ∷ b ∷ []) ∷ tree ki.OpAssign (codes "+=") (a ∷ five ∷ []) ∷
+    tree ki.Block [] [] ∷ []))
 unfolding is_shaped stops begins_labelled spell run step
 loop = record { shaped = refl; read = refl }
 
@@ -174,12 +186,15 @@ unfolding is_shaped stops begins_labelled spell run step
 loop_over = record { shaped = refl; read = refl }
 
 -- :a { let b = 5; yield :a, return; }
-block : ReadsBack expr (tree ki.Block (codes "a") (tree ki.Let (codes "b") (no ∷ five ∷ []) ∷ tree ki.Yield (codes "a") (tree ki.Return [] (no ∷ []) ∷ []) ∷ []))
+block : ReadsBack expr (tree ki.Block (codes "a")
+    (tree ki.Let (codes "b") (no ∷ five ∷ []) ∷ tree ki.Yield (codes "a") (tree ki.Return [] (no ∷ []) ∷ []) ∷ []))
 unfolding is_shaped stops begins_labelled spell run step
 block = record { shaped = refl; read = refl }
 
 -- match (a) { case let b: int => b; case null => case => a; }
-match_value : ReadsBack expr (tree ki.Match [] (a ∷ tree ki.Case [] (tree ki.PatternLet (codes "b") (int ∷ []) ∷ b ∷ []) ∷ tree ki.Case [] (tree ki.PatternNull [] [] ∷ []) ∷ tree ki.Case [] (no ∷ a ∷ []) ∷ []))
+match_value : ReadsBack expr (tree ki.Match []
+    (a ∷ tree ki.Case [] (tree ki.PatternLet (codes "b") (int ∷ []) ∷ b ∷ []) ∷ tree ki.Case [] (tree ki.PatternNull [] [] ∷ []) ∷ tree
+    ki.Case [] (no ∷ a ∷ []) ∷ []))
 unfolding is_shaped stops begins_labelled spell run step
 match_value = record { shaped = refl; read = refl }
 
@@ -209,17 +224,21 @@ unfolding is_shaped stops begins_labelled spell run step
 abort_alone = record { shaped = refl; read = refl }
 
 -- free(&a) is *int
-builtin_and_type_test : ReadsBack expr (tree ki.Is [] (tree ki.Free [] (tree ki.Addr [] (a ∷ []) ∷ []) ∷ tree ki.TypePointer [] (int ∷ []) ∷ []))
+builtin_and_type_test : ReadsBack expr (tree ki.Is []
+    (tree ki.Free [] (tree ki.Addr [] (a ∷ []) ∷ []) ∷ tree ki.TypePointer [] (int ∷ []) ∷ []))
 unfolding is_shaped stops begins_labelled spell run step
 builtin_and_type_test = record { shaped = refl; read = refl }
 
 -- size(int) ^ align((int, void)) | 5
-levels_of_bits : ReadsBack expr (tree ki.Arith (codes "|") (tree ki.Arith (codes "^") (tree ki.Size [] (int ∷ []) ∷ tree ki.Align [] (tree ki.TypeTuple [] (int ∷ void ∷ no ∷ []) ∷ []) ∷ []) ∷ five ∷ []))
+levels_of_bits : ReadsBack expr (tree ki.Arith (codes "|")
+    (tree ki.Arith (codes "^") (tree ki.Size [] (int ∷ []) ∷ tree ki.Align [] (tree ki.TypeTuple [] (int ∷ void ∷ no ∷ []) ∷ []) ∷ []) ∷
+    five ∷ []))
 unfolding is_shaped stops begins_labelled spell run step
 levels_of_bits = record { shaped = refl; read = refl }
 
 -- { defer a; const b: int = 5; yield a; }
-statements : ReadsBack expr (tree ki.Block [] (tree ki.Defer [] (a ∷ []) ∷ tree ki.Const (codes "b") (int ∷ five ∷ []) ∷ tree ki.Yield [] (a ∷ []) ∷ []))
+statements : ReadsBack expr (tree ki.Block []
+    (tree ki.Defer [] (a ∷ []) ∷ tree ki.Const (codes "b") (int ∷ five ∷ []) ∷ tree ki.Yield [] (a ∷ []) ∷ []))
 unfolding is_shaped stops begins_labelled spell run step
 statements = record { shaped = refl; read = refl }
 
@@ -229,24 +248,28 @@ unfolding is_shaped stops begins_labelled spell run step
 prefixes = record { shaped = refl; read = refl }
 
 -- a + b = 5: no assignment to a sum
-assignment_to_sum : fails (so.Statement) (word (codes "a") ∷ word_token 0 tk.Mark (codes "+") ∷ word (codes "b") ∷ sign_token 0 si.Equals ∷ word (codes "a") ∷ []) ≡ 1000
+assignment_to_sum : fails (so.Statement) (word (codes "a") ∷ word_token 0 tk.Mark (codes "+") ∷ word (codes "b") ∷ sign_token 0 si.Equals ∷
+    word (codes "a") ∷ []) ≡ 1000
 unfolding run step
 assignment_to_sum = refl
 
 -- (a +): no operand
-operand_lacks : fails expr (sign_token 0 si.LeftParen ∷ word (codes "a") ∷ word_token 0 tk.Mark (codes "+") ∷ sign_token 0 si.RightParen ∷ []) ≡ 2
+operand_lacks : fails expr (sign_token 0 si.LeftParen ∷ word (codes "a") ∷ word_token 0 tk.Mark (codes "+") ∷ sign_token 0 si.RightParen ∷
+    []) ≡ 2
 unfolding run step
 operand_lacks = refl
 
 -- ---- declarations
 
 -- use a::b::{a, b};
-import_names : ReadsBack so.Use (tree ki.UseNames [] (tree ki.ImportPath [] (named (codes "a") ∷ named (codes "b") ∷ []) ∷ named (codes "a") ∷ named (codes "b") ∷ no ∷ []))
+import_names : ReadsBack so.Use (tree ki.UseNames []
+    (tree ki.ImportPath [] (named (codes "a") ∷ named (codes "b") ∷ []) ∷ named (codes "a") ∷ named (codes "b") ∷ no ∷ []))
 unfolding is_shaped stops begins_labelled spell run step
 import_names = record { shaped = refl; read = refl }
 
 -- use b = a::nomem;
-import_alias : ReadsBack so.Use (tree ki.UseAlias [] (named (codes "b") ∷ tree ki.ImportPath [] (named (codes "a") ∷ named (codes "nomem") ∷ []) ∷ []))
+import_alias : ReadsBack so.Use (tree ki.UseAlias []
+    (named (codes "b") ∷ tree ki.ImportPath [] (named (codes "a") ∷ named (codes "nomem") ∷ []) ∷ []))
 unfolding is_shaped stops begins_labelled spell run step
 import_alias = record { shaped = refl; read = refl }
 
@@ -256,7 +279,8 @@ unfolding is_shaped stops begins_labelled spell run step
 import_module = record { shaped = refl; read = refl }
 
 -- export fn a(b: int, a: int) void = { };
-function : ReadsBack so.Decl (tree ki.Fn [] (tree ki.Export [] [] ∷ named (codes "a") ∷ tree ki.Params [] (tree ki.Param (codes "b") (int ∷ []) ∷ tree ki.Param (codes "a") (int ∷ []) ∷ no ∷ []) ∷ void ∷ tree ki.Block [] [] ∷ []))
+function : ReadsBack so.Decl (tree ki.Fn [] (tree ki.Export [] [] ∷ named (codes "a") ∷ tree ki.Params []
+    (tree ki.Param (codes "b") (int ∷ []) ∷ tree ki.Param (codes "a") (int ∷ []) ∷ no ∷ []) ∷ void ∷ tree ki.Block [] [] ∷ []))
 unfolding is_shaped stops begins_labelled spell run step
 function = record { shaped = refl; read = refl }
 
@@ -266,7 +290,8 @@ unfolding is_shaped stops begins_labelled spell run step
 constant = record { shaped = refl; read = refl }
 
 -- type a = *b;
-type_declaration : ReadsBack so.Decl (tree ki.TypeDecl [] (no ∷ named (codes "a") ∷ tree ki.TypePointer [] (tree ki.TypePath (codes "b") [] ∷ []) ∷ []))
+type_declaration : ReadsBack so.Decl (tree ki.TypeDecl []
+    (no ∷ named (codes "a") ∷ tree ki.TypePointer [] (tree ki.TypePath (codes "b") [] ∷ []) ∷ []))
 unfolding is_shaped stops begins_labelled spell run step
 type_declaration = record { shaped = refl; read = refl }
 
@@ -275,14 +300,17 @@ type_declaration = record { shaped = refl; read = refl }
 -- the file is shaped, and its imports and then its declarations come back from its tokens
 record FileReadsBack (t : FileTree) : Type 0 where
   shaped : is_shaped_file t ≡ true
-  read : run 0 (spell_file t) (part (ru.Each so.Use) ∷ part (ru.Each so.Decl) ∷ []) bottom ≡ Done (end ∷ []) (begun (start_of 0) (t.uses ++ t.decls) ∷ [])
+  read : run 0 (spell_file t) (part (ru.Each so.Use) ∷ part (ru.Each so.Decl) ∷ []) bottom ≡
+      Done (end ∷ []) (begun (start_of 0) (t.uses ++ t.decls) ∷ [])
 
 -- use a; use b = a::b; def a: int = 5; export type b = *int;
 abbrev small_file : FileTree
 small_file = record {
   file = 0;
-  uses = tree ki.Use [] (tree ki.ImportPath [] (named (codes "a") ∷ []) ∷ []) ∷ tree ki.UseAlias [] (named (codes "b") ∷ tree ki.ImportPath [] (named (codes "a") ∷ named (codes "b") ∷ []) ∷ []) ∷ [];
-  decls = tree ki.Def [] (no ∷ named (codes "a") ∷ int ∷ five ∷ []) ∷ tree ki.TypeDecl [] (tree ki.Export [] [] ∷ named (codes "b") ∷ tree ki.TypePointer [] (int ∷ []) ∷ []) ∷ [];
+  uses = tree ki.Use [] (tree ki.ImportPath [] (named (codes "a") ∷ []) ∷ []) ∷ tree ki.UseAlias []
+      (named (codes "b") ∷ tree ki.ImportPath [] (named (codes "a") ∷ named (codes "b") ∷ []) ∷ []) ∷ [];
+  decls = tree ki.Def [] (no ∷ named (codes "a") ∷ int ∷ five ∷ []) ∷ tree ki.TypeDecl []
+      (tree ki.Export [] [] ∷ named (codes "b") ∷ tree ki.TypePointer [] (int ∷ []) ∷ []) ∷ [];
 }
 
 file : FileReadsBack small_file

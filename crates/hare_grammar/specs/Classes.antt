@@ -19,15 +19,18 @@ use Rattle.hare_grammar.specs.declared.class.Class.TheVariants as cl
 -- the keywords that forms have
 abbrev pub keyword_signs : List Sign
 keyword_signs =
-    si.Abort ∷ si.Align ∷ si.Alloc ∷ si.Append ∷ si.As ∷ si.Assert ∷ si.Break ∷ si.Case ∷ si.Const ∷ si.Continue ∷ si.Def ∷ si.Defer ∷ si.Delete
+    si.Abort ∷ si.Align ∷ si.Alloc ∷ si.Append ∷ si.As ∷ si.Assert ∷ si.Break ∷ si.Case ∷ si.Const ∷ si.Continue ∷ si.Def ∷ si.Defer ∷
+    si.Delete
     ∷ si.Else ∷ si.Export ∷ si.Fn ∷ si.For ∷ si.Free ∷ si.If ∷ si.Is ∷ si.Len ∷ si.Let ∷ si.Match ∷ si.Null ∷ si.Nullable ∷ si.Offset
     ∷ si.Return ∷ si.Size ∷ si.Struct ∷ si.Switch ∷ si.Type ∷ si.Use ∷ si.Void ∷ si.Yield ∷ []
 
 -- the marks that forms have
 abbrev pub mark_signs : List Sign
 mark_signs =
-    si.Bang ∷ si.Ampersand ∷ si.LeftParen ∷ si.RightParen ∷ si.Star ∷ si.Comma ∷ si.Minus ∷ si.Dot ∷ si.DotDot ∷ si.Dots ∷ si.Colon ∷ si.PathMark
-    ∷ si.Semicolon ∷ si.Equals ∷ si.Arrow ∷ si.Question ∷ si.LeftBracket ∷ si.RightBracket ∷ si.LeftBrace ∷ si.Bar ∷ si.RightBrace ∷ si.Tilde ∷ []
+    si.Bang ∷ si.Ampersand ∷ si.LeftParen ∷ si.RightParen ∷ si.Star ∷ si.Comma ∷ si.Minus ∷ si.Dot ∷ si.DotDot ∷ si.Dots ∷ si.Colon ∷
+    si.PathMark
+    ∷ si.Semicolon ∷ si.Equals ∷ si.Arrow ∷ si.Question ∷ si.LeftBracket ∷ si.RightBracket ∷ si.LeftBrace ∷ si.Bar ∷ si.RightBrace ∷
+    si.Tilde ∷ []
 
 -- the sign of the list with this spelling, or else another class
 abbrev pub sign_or : Class → List Sign → List ℕ → Class
@@ -49,7 +52,8 @@ word_class x = if is_listed scalars x then cl.Scalar else if is_listed (codes "t
 
 -- a mark that is no sign
 abbrev pub operator_class : List ℕ → Class
-operator_class x = if is_binary x then cl.Binary (operator_level x) else if is_listed (operators ki.OpAssign) x then cl.OpAssign else cl.Junk
+operator_class x = if is_binary x then cl.Binary (operator_level x) else if is_listed (operators ki.OpAssign) x then cl.OpAssign else
+    cl.Junk
 
 abbrev pub name_class : List ℕ → Class
 name_class x = if is_name false x then cl.Name else if is_name true x then cl.PathWord else cl.Junk

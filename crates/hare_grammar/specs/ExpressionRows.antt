@@ -1,4 +1,5 @@
--- Rows of expressions. An operand that binds at a level is read first, and then `Climb l h` takes the operators of the levels from `l` up to `h`,
+-- Rows of expressions. An operand that binds at a level is read first, and then `Climb l h` takes the operators of the levels from `l` up
+-- to `h`,
 -- of which each makes the tree so far its left operand; behind an operator only those of its level and below are left.
 use Rattle.std.specs.Prelude.{ℕ, ◌+◌, [], ◌∷◌, nat_le, ◌&&◌, if◌then◌else◌}
 use Rattle.hare_tree.specs.declared.kind.Kind.{Kind}
@@ -89,7 +90,8 @@ behind_operand k = Uses (ch.Over ∷ []) (rest_of 2 k)
 
 -- the kind of the binary operators of a level
 abbrev pub binary_kind : ℕ → Kind
-binary_kind m = if nat_le m 4 then ki.Logic else if nat_le m 5 then ki.Equal else if nat_le m 6 then ki.Less else if nat_le 10 m && nat_le m 10 then ki.Shift else ki.Arith
+binary_kind m = if nat_le m 4 then ki.Logic else if nat_le m 5 then ki.Equal else if nat_le m 6 then ki.Less else if nat_le 10 m && nat_le m
+    10 then ki.Shift else ki.Arith
 
 abbrev pub binary_at : ℕ → Row
 binary_at m = Uses (ch.Over ∷ ch.Take ∷ []) (of (so.Level (m + 1)) ∷ sy.Close (binary_kind m) ∷ [])
@@ -150,7 +152,8 @@ for_head_row c = led_by (ch.Absent ∷ []) (before (level_row 1 c) (rest_of 5 ki
 abbrev pub after_for_name_row : Class → Row
 after_for_name_row (cl.Sign si.Colon) =
     Uses [] (of so.Type ∷ sy.Want si.Equals ∷ of expr ∷ sy.Close ki.Let ∷ sy.Want si.Semicolon ∷ of expr ∷ rest_of 5 ki.For)
-after_for_name_row (cl.Sign si.Equals) = Uses (ch.Absent ∷ []) (of expr ∷ sy.Close ki.Let ∷ sy.Want si.Semicolon ∷ of expr ∷ rest_of 5 ki.For)
+after_for_name_row (cl.Sign si.Equals) = Uses (ch.Absent ∷ [])
+    (of expr ∷ sy.Close ki.Let ∷ sy.Want si.Semicolon ∷ of expr ∷ rest_of 5 ki.For)
 after_for_name_row (cl.Sign si.DotDot) = Uses (ch.Absent ∷ ch.Close ki.Binding ∷ []) (rest_of 4 ki.ForEach)
 after_for_name_row (cl.Sign si.Ampersand) = Uses (ch.Mark ki.ByRef ∷ []) (sy.Want si.DotDot ∷ sy.Close ki.Binding ∷ rest_of 4 ki.ForEach)
 after_for_name_row _ = Fault

@@ -12,7 +12,8 @@ use Rattle.hare_grammar.specs.declared.rule.Rule.TheVariants as ru
 use Rattle.hare_grammar.specs.declared.rule.Symbol.{Symbol}
 use Rattle.hare_grammar.specs.Rows.{part}
 
--- The tree with all its places at the start of a file: what its tokens say of it. Two trees are equal but for places where this makes them one.
+-- The tree with all its places at the start of a file: what its tokens say of it. Two trees are equal but for places where this makes them
+-- one.
 abbrev pub plain_head : ℕ → Head → Head
 plain_head f h = record { kind = h.kind; place = start_of f; text = h.text; number = h.number; suffix = h.suffix }
 
@@ -44,7 +45,8 @@ is_sort _ = true
 -- two shaped trees of such a sort with the same tokens are equal but for places
 abbrev pub SortsHaveOneTree : Type 0
 SortsHaveOneTree =
-    (f : ℕ) (s : Sort) → is_sort s ≡ true → (t t' : Node) → is_shaped s t ≡ true → is_shaped s t' ≡ true → spell f t ≡ spell f t' → plain f t ≡ plain f t'
+    (f : ℕ) (s : Sort) → is_sort s ≡ true → (t t' : Node) → is_shaped s t ≡ true → is_shaped s t' ≡ true → spell f t ≡ spell f t' →
+    plain f t ≡ plain f t'
 
 -- Trees that are equal but for places are equal where both have the places of the same tokens.
 abbrev pub PlacesDecideTrees : Type 0
@@ -69,7 +71,8 @@ plain_file t = record { file = t.file; uses = map (plain t.file) t.uses; decls =
 -- two shaped files with the same number and the same tokens are equal but for places
 abbrev pub FilesHaveOneTree : Type 0
 FilesHaveOneTree =
-    (t t' : FileTree) → t.file ≡ t'.file → is_shaped_file t ≡ true → is_shaped_file t' ≡ true → spell_file t ≡ spell_file t' → plain_file t ≡ plain_file t'
+    (t t' : FileTree) → t.file ≡ t'.file → is_shaped_file t ≡ true → is_shaped_file t' ≡ true → spell_file t ≡ spell_file t' →
+    plain_file t ≡ plain_file t'
 
 -- the tokens of a file are those of at most one tree of a file, places and all
 abbrev pub TokensHaveOneFile : Type 0

@@ -48,7 +48,8 @@ more_elements_row _ = Skips (ch.Absent ∷ ch.Absent ∷ [])
 
 abbrev pub behind_element_comma_row : Class → Row
 behind_element_comma_row c =
-    or_skips (led_by (ch.Drop ∷ ch.Drop ∷ []) (before (level_row 1 c) (part ru.MoreElements ∷ []))) (ch.Close ki.TrailingComma ∷ ch.Lift ∷ [])
+    or_skips (led_by (ch.Drop ∷ ch.Drop ∷ []) (before (level_row 1 c) (part ru.MoreElements ∷ [])))
+    (ch.Close ki.TrailingComma ∷ ch.Lift ∷ [])
 
 abbrev pub last_comma_row : Class → Row
 last_comma_row (cl.Sign si.Comma) = Uses (ch.Mark ki.TrailingComma ∷ []) []

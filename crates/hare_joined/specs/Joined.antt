@@ -18,12 +18,14 @@ use Rattle.hare_declarations.specs.Judged.{IsJudgedAs}
 -- These declarations have been finished, each with its parts; the bodies are those of the functions among them, in their order.
 pub data AreFinished (s : Store) : List Node → List Parts → List TypedNode → List TypedNode → Type 0 where
   none : AreFinished s [] [] [] []
-  function : (t : Node) (q : Parts) (b d : TypedNode) (ts : List Node) (qs : List Parts) (bs ds : List TypedNode) → sort_of t ≡ so.Function →
+  function : (t : Node) (q : Parts) (b d : TypedNode) (ts : List Node) (qs : List Parts) (bs ds : List TypedNode) →
+      sort_of t ≡ so.Function →
       IsFinished s t q.types q.value (Some b) d → AreFinished s ts qs bs ds → AreFinished s (t ∷ ts) (q ∷ qs) (b ∷ bs) (d ∷ ds)
   other : (t : Node) (q : Parts) (d : TypedNode) (ts : List Node) (qs : List Parts) (bs ds : List TypedNode) → sort_of t ≢ so.Function →
       IsFinished s t q.types q.value None d → AreFinished s ts qs bs ds → AreFinished s (t ∷ ts) (q ∷ qs) bs (d ∷ ds)
 
--- Declarations were judged with the first store, bodies with the second, and trees finished with the third; with the last the checking ends.
+-- Declarations were judged with the first store, bodies with the second, and trees finished with the third; with the last the checking
+-- ends.
 abbrev pub FinishedAreTyped : Type 0
 FinishedAreTyped =
     (p : Listing) (s r f l : Store) (j : Judged) (bs ds : List TypedNode)

@@ -20,7 +20,8 @@ pub record ReadAs (s : List ℕ) (v n : ℕ) : Type 0 where
   pub within : n ≤ length s
 
 -- a value that was taken for a scalar value is one
-scalar_some : (o : Option ℕ) (v : ℕ) → elim o as (λ _. Option ℕ) [ None ↦ None | Some w ↦ scalar_of w ] ≡ Some v → (o ≡ Some v) × (scalar v ≡ true)
+scalar_some : (o : Option ℕ) (v : ℕ) → elim o as (λ _. Option ℕ) [ None ↦ None | Some w ↦ scalar_of w ] ≡ Some v → (o ≡ Some v) ×
+    (scalar v ≡ true)
 scalar_some None v h = absurd (cc)
 scalar_some (Some w) v h = of_test (scalar w) refl h
   where
@@ -52,7 +53,8 @@ hex_end_some c k (Some w) v n h = of_test (eqb c 120 && leb 128 w) refl h
     small : (c v : ℕ) → (eqb c 120 && leb 128 v) ≡ false → c ≡ 120 → v < 128
     small c v e k = grind (arith, nat_tests)
 
-    of_test : (b : Bool) → (eqb c 120 && leb 128 w) ≡ b → cond {A = Option (ℕ × ℕ)} b None (Some (w, 1 + k)) ≡ Some (v, n) → (Some w ≡ Some v) × (c ≡ 120 → v < 128) × (n ≡ 1 + k)
+    of_test : (b : Bool) → (eqb c 120 && leb 128 w) ≡ b → cond {A = Option (ℕ × ℕ)} b None (Some (w, 1 + k)) ≡ Some (v, n) →
+        (Some w ≡ Some v) × (c ≡ 120 → v < 128) × (n ≡ 1 + k)
     of_test true e h = absurd (cc)
     of_test false e h =
         let parts = some_pair_parts w v (1 + k) n h in
@@ -67,7 +69,9 @@ hex_some c k ds v n h = of_tests (eqb (length ds) k) (is_hex ds) refl refl h
     len_is : (a b : ℕ) → eqb a b ≡ true → a ≡ b
     len_is a b h = grind (arith, nat_tests)
 
-    of_tests : (a b : Bool) → eqb (length ds) k ≡ a → is_hex ds ≡ b → cond (not a || not b) None (hex_end c k (elim (value_of 16 ds) as (λ _. Option ℕ) [ None ↦ None | Some w ↦ scalar_of w ])) ≡ Some (v, n) → HexRead c k ds v n
+    of_tests : (a b : Bool) → eqb (length ds) k ≡ a → is_hex ds ≡ b →
+        cond (not a || not b) None (hex_end c k (elim (value_of 16 ds) as (λ _. Option ℕ) [ None ↦ None | Some w ↦ scalar_of w ])) ≡
+        Some (v, n) → HexRead c k ds v n
     of_tests false b e f h = absurd (cc)
     of_tests true false e f h = absurd (cc)
     of_tests true true e f h =
@@ -83,7 +87,8 @@ take_len (suc n) (c ∷ s) zero h = omega arith
 take_len (suc n) (c ∷ s) (suc k) h = omega (arith, take_len n s k (omega arith))
 
 -- a hexadecimal escape that is read is one
-hex_read : (c : ℕ) (s : List ℕ) (o : Option ℕ) (v n : ℕ) → hex_len c ≡ o → elim o as (λ _. Option (ℕ × ℕ)) [ None ↦ None | Some k ↦ hex_value_of c k (take k s) ] ≡ Some (v, n) → ReadAs (c ∷ s) v n
+hex_read : (c : ℕ) (s : List ℕ) (o : Option ℕ) (v n : ℕ) → hex_len c ≡ o →
+    elim o as (λ _. Option (ℕ × ℕ)) [ None ↦ None | Some k ↦ hex_value_of c k (take k s) ] ≡ Some (v, n) → ReadAs (c ∷ s) v n
 hex_read c s None v n e h = absurd (cc)
 hex_read c s (Some k) v n e h =
     let r = hex_some c k (take k s) v n h in
@@ -99,7 +104,8 @@ pub escape_read : (s : List ℕ) (v n : ℕ) → escape s ≡ Some (v, n) → Re
 escape_read [] v n h = absurd (cc)
 escape_read (c ∷ s) v n h = of_simple (escaped c) refl h
   where
-    of_simple : (o : Option ℕ) → escaped c ≡ o → elim o as (λ _. Option (ℕ × ℕ)) [ None ↦ hex_escape c s | Some w ↦ Some (w, 1) ] ≡ Some (v, n) → ReadAs (c ∷ s) v n
+    of_simple : (o : Option ℕ) → escaped c ≡ o →
+        elim o as (λ _. Option (ℕ × ℕ)) [ None ↦ hex_escape c s | Some w ↦ Some (w, 1) ] ≡ Some (v, n) → ReadAs (c ∷ s) v n
     of_simple None e h = hex_read c s (hex_len c) v n refl h
     of_simple (Some w) e h =
         let pair = some_pair_parts w v 1 n h in
@@ -132,7 +138,8 @@ hex_holds q (d ∷ ds) t z h =
 pub escape_holds : (q : ℕ) (e t : List ℕ) (v : ℕ) → (q ≡ 34) ⊎ (q ≡ 39) → IsEscape e v → holds q false (e ++ t) ≡ holds q false t
 escape_holds q e t v k h = ⊎_elim (λ a. at 34 a refl refl refl h) (λ a. at 39 a refl refl refl h) k
   where
-    at : (p : ℕ) → q ≡ p → is_digit p 16 ≡ false → eqb 92 p ≡ false → eqb p 96 ≡ false → IsEscape e v → holds q false (e ++ t) ≡ holds q false t
+    at : (p : ℕ) → q ≡ p → is_digit p 16 ≡ false → eqb 92 p ≡ false → eqb p 96 ≡ false → IsEscape e v →
+        holds q false (e ++ t) ≡ holds q false t
     at p same z n m h = rw same (⊎_elim
         (λ a. rw (a.1, n, m) refl)
         (λ a. rw (a.2, n, m) (hex_holds p a.1 t z a.4))
@@ -151,7 +158,8 @@ hex_not_simple c n h = of_tests (eqb c 120) (eqb c 117) (eqb c 85) refl refl ref
     same : (k : ℕ) → eqb c k ≡ true → escaped k ≡ None → escaped c ≡ None
     same k e f = ap escaped (eq_of c k e) ∙ f
 
-    of_tests : (a b d : Bool) → eqb c 120 ≡ a → eqb c 117 ≡ b → eqb c 85 ≡ d → cond a (Some 2) (cond b (Some 4) (cond d (Some 8) None)) ≡ Some n → escaped c ≡ None
+    of_tests : (a b d : Bool) → eqb c 120 ≡ a → eqb c 117 ≡ b → eqb c 85 ≡ d →
+        cond a (Some 2) (cond b (Some 4) (cond d (Some 8) None)) ≡ Some n → escaped c ≡ None
     of_tests true b d e f g h = same 120 e refl
     of_tests false true d e f g h = same 117 f refl
     of_tests false false true e f g h = same 85 g refl
@@ -169,7 +177,8 @@ value_read ds v e h = in_range (digits_value 16 ds) e (subst (λ q. q < 2 ^ 127)
     in_range w e h = grind (arith, nat_tests)
 
 -- a hexadecimal escape is read whole
-hex_whole : (c : ℕ) (ds : List ℕ) (v : ℕ) → is_hex ds ≡ true → v ≡ digits_value 16 ds → MayStand c v → hex_value_of c (length ds) ds ≡ Some (v, 1 + length ds)
+hex_whole : (c : ℕ) (ds : List ℕ) (v : ℕ) → is_hex ds ≡ true → v ≡ digits_value 16 ds → MayStand c v →
+    hex_value_of c (length ds) ds ≡ Some (v, 1 + length ds)
 hex_whole c ds v h e m = rw (eq-eqb (length ds) (length ds) refl, h, value_read ds v e m.0, m.0, low c v m.1) refl
   where
     low : (c v : ℕ) → (c ≡ 120 → v < 128) → (eqb c 120 && leb 128 v) ≡ false
@@ -180,7 +189,8 @@ simple_stands : (c : ℕ) (more : List ℕ) (v : ℕ) → escaped c ≡ Some v �
 simple_stands c more v h = rw (escape, h) refl
 
 -- an escape of hexadecimal digits is read
-hex_stands : (c : ℕ) (ds more : List ℕ) (v : ℕ) → escaped c ≡ None → hex_len c ≡ Some (length ds) → hex_value_of c (length ds) ds ≡ Some (v, 1 + length ds) → escape (c ∷ (ds ++ more)) ≡ Some (v, 1 + length ds)
+hex_stands : (c : ℕ) (ds more : List ℕ) (v : ℕ) → escaped c ≡ None → hex_len c ≡ Some (length ds) →
+    hex_value_of c (length ds) ds ≡ Some (v, 1 + length ds) → escape (c ∷ (ds ++ more)) ≡ Some (v, 1 + length ds)
 hex_stands c ds more v none len whole = rw (escape, none) (hex_only ∙ whole)
   where
     hex_only : hex_escape c (ds ++ more) ≡ hex_value_of c (length ds) ds
@@ -193,7 +203,8 @@ escape_stands w more v h = ⊎_elim simple hex h
     simple : ((c : ℕ) × (92 ∷ w ≡ 92 ∷ c ∷ []) × (escaped c ≡ Some v)) → escape (w ++ more) ≡ Some (v, length w)
     simple a = let k : w ≡ a.0 ∷ [] = cc in rw k (simple_stands a.0 more v a.2)
 
-    hex : ((c : ℕ) × (ds : List ℕ) × (92 ∷ w ≡ 92 ∷ c ∷ ds) × (hex_len c ≡ Some (length ds)) × (is_hex ds ≡ true) × (v ≡ digits_value 16 ds) × MayStand c v) → escape (w ++ more) ≡ Some (v, length w)
+    hex : ((c : ℕ) × (ds : List ℕ) × (92 ∷ w ≡ 92 ∷ c ∷ ds) × (hex_len c ≡ Some (length ds)) × (is_hex ds ≡ true) ×
+        (v ≡ digits_value 16 ds) × MayStand c v) → escape (w ++ more) ≡ Some (v, length w)
     hex a =
         let c = a.0 in
         let ds = a.1 in

@@ -57,7 +57,8 @@ mark_begins w h = listed_case (λ k. mark_first k ≡ true) marks w (all_listed 
 decimal_of : (c r : ℕ) → r ≤ 10 → is_digit c r ≡ true → is_ascii_digit c ≡ true
 decimal_of c r m h = grind (arith, nat_tests, common_steps)
 
-number_first : (b : Base) (ds more : List ℕ) → 0 < length ds → list_all (λ c. is_digit c (radix b)) ds ≡ true → Begins is_ascii_digit (base_mark b ++ (ds ++ more))
+number_first : (b : Base) (ds more : List ℕ) → 0 < length ds → list_all (λ c. is_digit c (radix b)) ds ≡ true →
+    Begins is_ascii_digit (base_mark b ++ (ds ++ more))
 number_first Decimal [] more n h = absurd (omega arith)
 number_first Decimal (d ∷ ds) more n h = (omega arith, decimal_of d 10 (omega arith) (and_left _ _ h))
 number_first Hexadecimal ds more n h = (omega arith, refl)
@@ -67,8 +68,10 @@ number_first Binary ds more n h = (omega arith, refl)
 pub first_of_kind : (k : TokenKind) (text : List ℕ) (n : ℕ) (x : Suffix) (w : List ℕ) → IsSpellingOf k text n x w → Begins (is_first k) w
 first_of_kind Name text n x w h = word_begins w h.3
 first_of_kind Keyword text n x w h = word_begins w (keyword_is_word w h.3)
-first_of_kind Number text n x w h = let k = h.1 in subst (Begins is_ascii_digit) (sym k.spelled) (number_first k.base k.digits _ k.some k.each)
-first_of_kind Str text n x w h = ⊎_elim (λ q. subst (Begins (is_first Str)) (sym q.spelled_by) (omega arith, refl)) (λ q. subst (Begins (is_first Str)) (sym q.spelled_by) (omega arith, refl)) h.2
+first_of_kind Number text n x w h =
+    let k = h.1 in subst (Begins is_ascii_digit) (sym k.spelled) (number_first k.base k.digits _ k.some k.each)
+first_of_kind Str text n x w h = ⊎_elim (λ q. subst (Begins (is_first Str)) (sym q.spelled_by) (omega arith, refl))
+    (λ q. subst (Begins (is_first Str)) (sym q.spelled_by) (omega arith, refl)) h.2
 first_of_kind RuneLit text n x w h = let q = h.2 in subst (Begins (is_first RuneLit)) (sym q.spelled_by) (omega arith, refl)
 first_of_kind Mark text n x w h = mark_first_is w (mark_begins w h.3)
 first_of_kind End text n x w h = absurd h

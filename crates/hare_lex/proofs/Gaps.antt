@@ -35,10 +35,13 @@ not_true : (b : Bool) → not b ≡ true → b ≡ false
 not_true false h = refl
 not_true true h = absurd (cc)
 
-past_body : (body rest : List ℕ) → list_all is_not_feed body ≡ true → ends_line rest ≡ true → skipped true (body ++ rest) ≡ skipped false rest
+past_body : (body rest : List ℕ) → list_all is_not_feed body ≡ true → ends_line rest ≡ true →
+    skipped true (body ++ rest) ≡ skipped false rest
 past_body [] [] h z = refl
 past_body [] (c ∷ rest) h z = rw (same_byte c 10 z) refl
-past_body (c ∷ body) rest h z = let a : eqb c 10 ≡ false = not_true (eqb c 10) (and_left _ _ h) in ap (λ b. skipped (not b) (body ++ rest)) a ∙ past_body body rest (and_right _ _ h) z
+past_body (c ∷ body) rest h z =
+    let a : eqb c 10 ≡ false = not_true (eqb c 10) (and_left _ _ h) in ap (λ b. skipped (not b) (body ++ rest)) a ∙ past_body body rest
+    (and_right _ _ h) z
 
 -- what is skipped is the gap
 pub gap_is : (parts : List (List ℕ)) (text left : List ℕ) → Gap parts text left → skipped false text ≡ left

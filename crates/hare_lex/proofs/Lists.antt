@@ -17,7 +17,8 @@ and_right false b h = absurd (cc)
 pub and_both : (a b : Bool) → a ≡ true → b ≡ true → (a && b) ≡ true
 and_both a b h k = rw h k
 
-passes_step : (p : ℕ → Bool) (c : ℕ) (s : List ℕ) (n : ℕ) (b : Bool) → p c ≡ b → list_all p (take n s) ≡ true → list_all p (take (cond b (1 + n) 0) (c ∷ s)) ≡ true
+passes_step : (p : ℕ → Bool) (c : ℕ) (s : List ℕ) (n : ℕ) (b : Bool) → p c ≡ b → list_all p (take n s) ≡ true →
+    list_all p (take (cond b (1 + n) 0) (c ∷ s)) ≡ true
 passes_step p c s n false e h = refl
 passes_step p c s n true e h = rw one-add (rw e h)
 

@@ -10,7 +10,8 @@ use Rattle.hare_lex.specs.Lexing.{longest, suffixes, suffix_named}
 use Rattle.hare_lex.proofs.Lists.{and_left, and_right, listed_case, take_take}
 
 -- a length that is picked by three tests
-pick : (words : List (List ℕ)) (s : List ℕ) (b3 b2 b1 : Bool) → is_listed words (take 3 s) ≡ b3 → is_listed words (take 2 s) ≡ b2 → is_listed words (take 1 s) ≡ b1
+pick : (words : List (List ℕ)) (s : List ℕ) (b3 b2 b1 : Bool) → is_listed words (take 3 s) ≡ b3 → is_listed words (take 2 s) ≡ b2 →
+    is_listed words (take 1 s) ≡ b1
     → 0 < cond b3 (length (take 3 s)) (cond b2 (length (take 2 s)) (cond b1 (length (take 1 s)) 0))
     → is_listed words (take (cond b3 (length (take 3 s)) (cond b2 (length (take 2 s)) (cond b1 (length (take 1 s)) 0))) s) ≡ true
 pick words s true b2 b1 e3 e2 e1 h = rw take_take e3
@@ -23,7 +24,8 @@ pub longest_listed : (words : List (List ℕ)) (s : List ℕ) → 0 < longest wo
 unfolding longest
 longest_listed words s h = pick words s _ _ _ refl refl refl h
 
-pick_one : (b3 b2 : Bool) (n3 n2 : ℕ) → cond b3 (suc n3) (cond b2 (suc n2) 1) ≡ cond b3 (suc n3) (cond b2 (suc n2) (cond true 1 0)) → 1 ≤ cond b3 (suc n3) (cond b2 (suc n2) 1)
+pick_one : (b3 b2 : Bool) (n3 n2 : ℕ) → cond b3 (suc n3) (cond b2 (suc n2) 1) ≡ cond b3 (suc n3) (cond b2 (suc n2) (cond true 1 0)) →
+    1 ≤ cond b3 (suc n3) (cond b2 (suc n2) 1)
 pick_one true b2 n3 n2 e = omega arith
 pick_one false true n3 n2 e = omega arith
 pick_one false false n3 n2 e = omega arith
@@ -33,10 +35,12 @@ pick_two true n3 = omega arith
 pick_two false n3 = omega arith
 
 -- no listed word at the front is longer
-pub longest_most : (words : List (List ℕ)) (w more : List ℕ) → length w ≤ 3 → is_listed words w ≡ true → length w ≤ longest words (w ++ more)
+pub longest_most : (words : List (List ℕ)) (w more : List ℕ) → length w ≤ 3 → is_listed words w ≡ true →
+    length w ≤ longest words (w ++ more)
 unfolding longest
 longest_most words [] more n h = omega arith
-longest_most words (a ∷ []) more n h = rw h (pick_one (is_listed words (a ∷ take 2 more)) (is_listed words (a ∷ take 1 more)) (length (take 2 more)) (length (take 1 more)) refl)
+longest_most words (a ∷ []) more n h = rw h (pick_one (is_listed words (a ∷ take 2 more)) (is_listed words (a ∷ take 1 more))
+    (length (take 2 more)) (length (take 1 more)) refl)
 longest_most words (a ∷ b ∷ []) more n h = rw h (pick_two (is_listed words (a ∷ b ∷ take 1 more)) (length (take 1 more)))
 longest_most words (a ∷ b ∷ c ∷ []) more n h = rw h (omega arith)
 longest_most words (a ∷ b ∷ c ∷ d ∷ w) more n h = absurd (omega arith)
@@ -46,7 +50,8 @@ take_within zero s = omega arith
 take_within (suc n) [] = omega arith
 take_within (suc n) (c ∷ s) = omega (arith, take_within n s)
 
-pick_within : (s : List ℕ) (a b c : Bool) → cond a (length (take 3 s)) (cond b (length (take 2 s)) (cond c (length (take 1 s)) 0)) ≤ length s
+pick_within : (s : List ℕ) (a b c : Bool) → cond a (length (take 3 s)) (cond b (length (take 2 s)) (cond c (length (take 1 s)) 0)) ≤ length
+    s
 pick_within s true b c = take_within 3 s
 pick_within s false true c = take_within 2 s
 pick_within s false false true = take_within 1 s
@@ -73,7 +78,8 @@ mark_short w h = short marks w (short_words marks refl) h
 begins_with_mark : List ℕ → Bool
 begins_with_mark w = is_listed marks (take 1 w)
 
-each_begins : (words : List (List ℕ)) → list_all begins_with_mark words ≡ true → AllByRecursion (λ w. is_listed marks (take 1 w) ≡ true) words
+each_begins : (words : List (List ℕ)) → list_all begins_with_mark words ≡ true →
+    AllByRecursion (λ w. is_listed marks (take 1 w) ≡ true) words
 unfolding begins_with_mark
 each_begins [] h = tt
 each_begins (w ∷ words) h = (and_left _ _ h, each_begins words (and_right _ _ h))
@@ -102,7 +108,8 @@ named_suffix Z = refl
 
 named_word : (w : List ℕ) → is_listed suffixes w ≡ true → suffix_word (suffix_named w) ≡ w
 unfolding suffix_named
-named_word w h = listed_case (λ k. suffix_word (suffix_named k) ≡ k) suffixes w (refl, (refl, (refl, (refl, (refl, (refl, (refl, (refl, (refl, (refl, (refl, tt))))))))))) h
+named_word w h = listed_case (λ k. suffix_word (suffix_named k) ≡ k) suffixes w
+    (refl, (refl, (refl, (refl, (refl, (refl, (refl, (refl, (refl, (refl, (refl, tt))))))))))) h
 
 named_front : (s : List ℕ) (n : ℕ) → (0 < n → is_listed suffixes (take n s) ≡ true) → suffix_word (suffix_named (take n s)) ≡ take n s
 unfolding suffix_named
@@ -153,6 +160,7 @@ suffix_no_digit Z r h = ap not (not_digit 122 r (omega arith) h)
 -- ---- words by their first byte
 
 -- lists that agree on the words that begin with a byte agree on the longest in front of a text that begins with it
-pub longest_like : (some all : List (List ℕ)) (c : ℕ) (s : List ℕ) → ((rest : List ℕ) → is_listed some (c ∷ rest) ≡ is_listed all (c ∷ rest)) → longest some (c ∷ s) ≡ longest all (c ∷ s)
+pub longest_like : (some all : List (List ℕ)) (c : ℕ) (s : List ℕ) →
+    ((rest : List ℕ) → is_listed some (c ∷ rest) ≡ is_listed all (c ∷ rest)) → longest some (c ∷ s) ≡ longest all (c ∷ s)
 unfolding longest
 longest_like some all c s h = rw (h (take 2 s), h (take 1 s), h []) refl

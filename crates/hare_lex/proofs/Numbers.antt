@@ -39,7 +39,8 @@ suffix_only r x more h = by_len (length (suffix_word x)) refl
         omega (arith, none, suffix_most x more)
 
 -- digits and a suffix at the front are no longer than what is read
-pub tail_most : (r : ℕ) (ds : List ℕ) (x : Suffix) (more : List ℕ) → r ≤ 16 → list_all (λ c. is_digit c r) ds ≡ true → length ds + length (suffix_word x) ≤ tail_len r (ds ++ (suffix_word x ++ more))
+pub tail_most : (r : ℕ) (ds : List ℕ) (x : Suffix) (more : List ℕ) → r ≤ 16 → list_all (λ c. is_digit c r) ds ≡ true →
+    length ds + length (suffix_word x) ≤ tail_len r (ds ++ (suffix_word x ++ more))
 tail_most r [] x more h each = omega (arith, suffix_only r x more h)
 tail_most r (d ∷ ds) x more h each =
     let first : is_digit d r ≡ true = and_left _ _ each in
@@ -62,7 +63,8 @@ pub record HasBase (s : List ℕ) (r : ℕ) : Type 0 where
 byte_is : (c k : ℕ) → eqb c k ≡ true → c ≡ k
 byte_is c k h = grind (arith, nat_tests)
 
-marked : (b : Base) (m r : ℕ) (s : List ℕ) → r ≡ radix b → base_mark b ≡ 48 ∷ m ∷ [] → eqb 0 m ≡ false → mark_len_of r ≡ 2 → (eqb (get_or s 0 0) 48 && eqb (get_or s 1 0) m && is_digit (get_or s 2 0) r) ≡ true → HasBase s r
+marked : (b : Base) (m r : ℕ) (s : List ℕ) → r ≡ radix b → base_mark b ≡ 48 ∷ m ∷ [] → eqb 0 m ≡ false → mark_len_of r ≡ 2 →
+    (eqb (get_or s 0 0) 48 && eqb (get_or s 1 0) m && is_digit (get_or s 2 0) r) ≡ true → HasBase s r
 marked b m r [] e k z l h = absurd (cc)
 marked b m r (c ∷ []) e k z l h = let q : eqb 0 m ≡ true = and_right _ _ (and_left _ _ h) in absurd (cc)
 marked b m r (c ∷ d ∷ s) e k z l h =
@@ -73,11 +75,15 @@ marked b m r (c ∷ d ∷ s) e k z l h =
 pub decimal : (c : ℕ) → is_ascii_digit c ≡ true → is_digit c 10 ≡ true
 decimal c h = grind (arith, nat_tests, common_steps)
 
-radix_step : (s : List ℕ) (a b c : Bool) → (eqb (get_or s 0 0) 48 && eqb (get_or s 1 0) 120 && is_digit (get_or s 2 0) 16) ≡ a → (eqb (get_or s 0 0) 48 && eqb (get_or s 1 0) 111 && is_digit (get_or s 2 0) 8) ≡ b → (eqb (get_or s 0 0) 48 && eqb (get_or s 1 0) 98 && is_digit (get_or s 2 0) 2) ≡ c → is_ascii_digit (get_or s 0 0) ≡ true → HasBase s (cond a 16 (cond b 8 (cond c 2 10)))
+radix_step : (s : List ℕ) (a b c : Bool) → (eqb (get_or s 0 0) 48 && eqb (get_or s 1 0) 120 && is_digit (get_or s 2 0) 16) ≡ a →
+    (eqb (get_or s 0 0) 48 && eqb (get_or s 1 0) 111 && is_digit (get_or s 2 0) 8) ≡ b →
+    (eqb (get_or s 0 0) 48 && eqb (get_or s 1 0) 98 && is_digit (get_or s 2 0) 2) ≡ c → is_ascii_digit (get_or s 0 0) ≡ true →
+    HasBase s (cond a 16 (cond b 8 (cond c 2 10)))
 radix_step s true b c e f g h = marked Hexadecimal 120 16 s refl refl refl refl e
 radix_step s false true c e f g h = marked Octal 111 8 s refl refl refl refl f
 radix_step s false false true e f g h = marked Binary 98 2 s refl refl refl refl g
-radix_step s false false false e f g h = record { base = Decimal; radix_is = refl; mark_is = refl; split = refl; first = decimal (get_or s 0 0) h }
+radix_step s false false false e f g h = record
+    { base = Decimal; radix_is = refl; mark_is = refl; split = refl; first = decimal (get_or s 0 0) h }
 
 pub radix_has : (s : List ℕ) → is_ascii_digit (get_or s 0 0) ≡ true → HasBase s (radix_of s)
 radix_has s h = radix_step s _ _ _ refl refl refl h
@@ -95,7 +101,8 @@ take_add (suc n) e (c ∷ d) = let k : suc n + e ≡ suc (n + e) = omega arith i
 
 take_behind : (mark : List ℕ) (n : ℕ) (d : List ℕ) → take (length mark + n) (mark ++ d) ≡ mark ++ take n d
 take_behind [] n d = let k : 0 + n ≡ n = omega arith in rw k refl
-take_behind (c ∷ mark) n d = let k : suc (length mark) + n ≡ suc (length mark + n) = omega arith in rw k (ap (λ l. c ∷ l) (take_behind mark n d))
+take_behind (c ∷ mark) n d =
+    let k : suc (length mark) + n ≡ suc (length mark + n) = omega arith in rw k (ap (λ l. c ∷ l) (take_behind mark n d))
 
 -- the digits of the number at the front
 abbrev pub digits_at : List ℕ → List ℕ
@@ -105,7 +112,10 @@ pub len_at : (s : List ℕ) (r : ℕ) → radix_of s ≡ r → (number_at s).len
 unfolding number_in
 len_at s r e = ap (λ q. (number_in q (mark_len_of q) (drop (mark_len_of q) s)).len) e ∙ omega arith
 
-spelled_in : (s : List ℕ) (r : ℕ) (b : Base) (d : List ℕ) → mark_len_of r ≡ length (base_mark b) → s ≡ base_mark b ++ d → take (mark_len_of r + tail_len r d) s ≡ base_mark b ++ (take (prefix_len (λ c. is_digit c r) d) d ++ suffix_word (suffix_named (take (longest suffixes (drop (prefix_len (λ c. is_digit c r) d) d)) (drop (prefix_len (λ c. is_digit c r) d) d))))
+spelled_in : (s : List ℕ) (r : ℕ) (b : Base) (d : List ℕ) → mark_len_of r ≡ length (base_mark b) → s ≡ base_mark b ++ d →
+    take (mark_len_of r + tail_len r d) s ≡ base_mark b ++
+    (take (prefix_len (λ c. is_digit c r) d) d ++ suffix_word
+    (suffix_named (take (longest suffixes (drop (prefix_len (λ c. is_digit c r) d) d)) (drop (prefix_len (λ c. is_digit c r) d) d))))
 spelled_in s r b d m e =
     let n = prefix_len (λ c. is_digit c r) d in
     let k = longest suffixes (drop n d) in
@@ -124,7 +134,8 @@ radix_most Hexadecimal = omega arith
 radix_most Octal = omega arith
 radix_most Binary = omega arith
 
-pub number_sound : (s : List ℕ) → is_ascii_digit (get_or s 0 0) ≡ true → IsNumber (digits_value (radix_of s) (digits_at s)) (number_at s).suffix (take (number_at s).len s)
+pub number_sound : (s : List ℕ) → is_ascii_digit (get_or s 0 0) ≡ true →
+    IsNumber (digits_value (radix_of s) (digits_at s)) (number_at s).suffix (take (number_at s).len s)
 unfolding number_in
 number_sound s h =
     let r = radix_of s in
@@ -151,24 +162,38 @@ abbrev suffix_first : ℕ → Bool
 suffix_first m = eqb m 105 || eqb m 117 || eqb m 122
 
 -- a decimal number before the mark of another base is one digit
-pub one_zero : (m : ℕ) (d : ℕ) (ds : List ℕ) (x : Suffix) (more z : List ℕ) → (d ∷ ds) ++ (suffix_word x ++ more) ≡ 48 ∷ m ∷ z → list_all (λ c. is_digit c 10) ds ≡ true → is_digit m 10 ≡ false → suffix_first m ≡ false → length ds + length (suffix_word x) ≡ 0
+pub one_zero : (m : ℕ) (d : ℕ) (ds : List ℕ) (x : Suffix) (more z : List ℕ) → (d ∷ ds) ++ (suffix_word x ++ more) ≡ 48 ∷ m ∷ z →
+    list_all (λ c. is_digit c 10) ds ≡ true → is_digit m 10 ≡ false → suffix_first m ≡ false → length ds + length (suffix_word x) ≡ 0
 one_zero m d (c ∷ ds) x more z e h n f =
     let same : c ≡ m = cc in
     let k : is_digit m 10 ≡ true = subst (λ q. is_digit q 10 ≡ true) same (and_left _ _ h) in absurd (cc)
 one_zero m d [] suffix.None more z e h n f = refl
-one_zero m d [] suffix.I8 more z e h n f = let same : 105 ≡ m = cc in let k : suffix_first 105 ≡ false = subst (λ q. suffix_first q ≡ false) (sym same) f in absurd (cc)
-one_zero m d [] suffix.I16 more z e h n f = let same : 105 ≡ m = cc in let k : suffix_first 105 ≡ false = subst (λ q. suffix_first q ≡ false) (sym same) f in absurd (cc)
-one_zero m d [] suffix.I32 more z e h n f = let same : 105 ≡ m = cc in let k : suffix_first 105 ≡ false = subst (λ q. suffix_first q ≡ false) (sym same) f in absurd (cc)
-one_zero m d [] suffix.I64 more z e h n f = let same : 105 ≡ m = cc in let k : suffix_first 105 ≡ false = subst (λ q. suffix_first q ≡ false) (sym same) f in absurd (cc)
-one_zero m d [] suffix.U8 more z e h n f = let same : 117 ≡ m = cc in let k : suffix_first 117 ≡ false = subst (λ q. suffix_first q ≡ false) (sym same) f in absurd (cc)
-one_zero m d [] suffix.U16 more z e h n f = let same : 117 ≡ m = cc in let k : suffix_first 117 ≡ false = subst (λ q. suffix_first q ≡ false) (sym same) f in absurd (cc)
-one_zero m d [] suffix.U32 more z e h n f = let same : 117 ≡ m = cc in let k : suffix_first 117 ≡ false = subst (λ q. suffix_first q ≡ false) (sym same) f in absurd (cc)
-one_zero m d [] suffix.U64 more z e h n f = let same : 117 ≡ m = cc in let k : suffix_first 117 ≡ false = subst (λ q. suffix_first q ≡ false) (sym same) f in absurd (cc)
-one_zero m d [] suffix.I more z e h n f = let same : 105 ≡ m = cc in let k : suffix_first 105 ≡ false = subst (λ q. suffix_first q ≡ false) (sym same) f in absurd (cc)
-one_zero m d [] suffix.U more z e h n f = let same : 117 ≡ m = cc in let k : suffix_first 117 ≡ false = subst (λ q. suffix_first q ≡ false) (sym same) f in absurd (cc)
-one_zero m d [] suffix.Z more z e h n f = let same : 122 ≡ m = cc in let k : suffix_first 122 ≡ false = subst (λ q. suffix_first q ≡ false) (sym same) f in absurd (cc)
+one_zero m d [] suffix.I8 more z e h n f =
+    let same : 105 ≡ m = cc in let k : suffix_first 105 ≡ false = subst (λ q. suffix_first q ≡ false) (sym same) f in absurd (cc)
+one_zero m d [] suffix.I16 more z e h n f =
+    let same : 105 ≡ m = cc in let k : suffix_first 105 ≡ false = subst (λ q. suffix_first q ≡ false) (sym same) f in absurd (cc)
+one_zero m d [] suffix.I32 more z e h n f =
+    let same : 105 ≡ m = cc in let k : suffix_first 105 ≡ false = subst (λ q. suffix_first q ≡ false) (sym same) f in absurd (cc)
+one_zero m d [] suffix.I64 more z e h n f =
+    let same : 105 ≡ m = cc in let k : suffix_first 105 ≡ false = subst (λ q. suffix_first q ≡ false) (sym same) f in absurd (cc)
+one_zero m d [] suffix.U8 more z e h n f =
+    let same : 117 ≡ m = cc in let k : suffix_first 117 ≡ false = subst (λ q. suffix_first q ≡ false) (sym same) f in absurd (cc)
+one_zero m d [] suffix.U16 more z e h n f =
+    let same : 117 ≡ m = cc in let k : suffix_first 117 ≡ false = subst (λ q. suffix_first q ≡ false) (sym same) f in absurd (cc)
+one_zero m d [] suffix.U32 more z e h n f =
+    let same : 117 ≡ m = cc in let k : suffix_first 117 ≡ false = subst (λ q. suffix_first q ≡ false) (sym same) f in absurd (cc)
+one_zero m d [] suffix.U64 more z e h n f =
+    let same : 117 ≡ m = cc in let k : suffix_first 117 ≡ false = subst (λ q. suffix_first q ≡ false) (sym same) f in absurd (cc)
+one_zero m d [] suffix.I more z e h n f =
+    let same : 105 ≡ m = cc in let k : suffix_first 105 ≡ false = subst (λ q. suffix_first q ≡ false) (sym same) f in absurd (cc)
+one_zero m d [] suffix.U more z e h n f =
+    let same : 117 ≡ m = cc in let k : suffix_first 117 ≡ false = subst (λ q. suffix_first q ≡ false) (sym same) f in absurd (cc)
+one_zero m d [] suffix.Z more z e h n f =
+    let same : 122 ≡ m = cc in let k : suffix_first 122 ≡ false = subst (λ q. suffix_first q ≡ false) (sym same) f in absurd (cc)
 
-decimal_most : (s : List ℕ) (r : ℕ) (b : Base) (d : ℕ) (ds : List ℕ) (x : Suffix) (more rest : List ℕ) → radix_of s ≡ r → r ≡ radix b → mark_len_of r ≡ length (base_mark b) → s ≡ base_mark b ++ rest → s ≡ (d ∷ ds) ++ (suffix_word x ++ more) → list_all (λ c. is_digit c 10) (d ∷ ds) ≡ true → suc (length ds) + length (suffix_word x) ≤ (number_at s).len
+decimal_most : (s : List ℕ) (r : ℕ) (b : Base) (d : ℕ) (ds : List ℕ) (x : Suffix) (more rest : List ℕ) → radix_of s ≡ r → r ≡ radix b →
+    mark_len_of r ≡ length (base_mark b) → s ≡ base_mark b ++ rest → s ≡ (d ∷ ds) ++ (suffix_word x ++ more) →
+    list_all (λ c. is_digit c 10) (d ∷ ds) ≡ true → suc (length ds) + length (suffix_word x) ≤ (number_at s).len
 decimal_most s r Decimal d ds x more rest q e m k j h =
     let n = len_at s 10 (q ∙ e) in
     let most = tail_most 10 (d ∷ ds) x more (omega arith) h in
@@ -181,7 +206,9 @@ decimal_most s r Octal d ds x more rest q e m k j h =
 decimal_most s r Binary d ds x more rest q e m k j h =
     let n = len_at s 2 (q ∙ e) in omega (arith, n, one_zero 98 d ds x more rest (sym j ∙ k) (and_right _ _ h) refl refl)
 
-marked_most : (s : List ℕ) (b : Base) (m : ℕ) (ds : List ℕ) (x : Suffix) (more : List ℕ) → base_mark b ≡ 48 ∷ m ∷ [] → mark_len_of (radix b) ≡ 2 → s ≡ 48 ∷ m ∷ (ds ++ (suffix_word x ++ more)) → radix_of s ≡ radix b → list_all (λ c. is_digit c (radix b)) ds ≡ true → 2 + (length ds + length (suffix_word x)) ≤ (number_at s).len
+marked_most : (s : List ℕ) (b : Base) (m : ℕ) (ds : List ℕ) (x : Suffix) (more : List ℕ) → base_mark b ≡ 48 ∷ m ∷ [] →
+    mark_len_of (radix b) ≡ 2 → s ≡ 48 ∷ m ∷ (ds ++ (suffix_word x ++ more)) → radix_of s ≡ radix b →
+    list_all (λ c. is_digit c (radix b)) ds ≡ true → 2 + (length ds + length (suffix_word x)) ≤ (number_at s).len
 marked_most s b m ds x more k l e q h =
     let n = len_at s (radix b) q in
     let most = tail_most (radix b) ds x more (radix_most b) h in
@@ -189,7 +216,9 @@ marked_most s b m ds x more k l e q h =
     let lens = ap (tail_len (radix b)) same in
     omega (arith, n, most, lens, l)
 
-base_most : (s : List ℕ) (b : Base) (ds : List ℕ) (x : Suffix) (more : List ℕ) → s ≡ base_mark b ++ (ds ++ (suffix_word x ++ more)) → 0 < length ds → list_all (λ c. is_digit c (radix b)) ds ≡ true → length (base_mark b) + (length ds + length (suffix_word x)) ≤ (number_at s).len
+base_most : (s : List ℕ) (b : Base) (ds : List ℕ) (x : Suffix) (more : List ℕ) → s ≡ base_mark b ++ (ds ++ (suffix_word x ++ more)) →
+    0 < length ds → list_all (λ c. is_digit c (radix b)) ds ≡ true →
+    length (base_mark b) + (length ds + length (suffix_word x)) ≤ (number_at s).len
 base_most s b [] x more e n h = absurd (omega arith)
 base_most s Decimal (d ∷ ds) x more e n h =
     let c = radix_has s (rw e (ascii d (and_left _ _ h))) in
@@ -211,7 +240,9 @@ pub number_most : (s : List ℕ) (v : ℕ) (x : Suffix) (w more : List ℕ) → 
 number_most s v x w more e h =
     let b = h.base in
     let tail = h.digits ++ suffix_word x in
-    let joined : s ≡ base_mark b ++ (h.digits ++ (suffix_word x ++ more)) = e ∙ ap (λ l. l ++ more) h.spelled ∙ append_assoc (base_mark b) tail more ∙ ap (λ l. base_mark b ++ l) (append_assoc h.digits (suffix_word x) more) in
+    let joined : s ≡ base_mark b ++ (h.digits ++ (suffix_word x ++ more)) =
+    e ∙ ap (λ l. l ++ more) h.spelled ∙ append_assoc (base_mark b) tail more ∙ ap (λ l. base_mark b ++ l)
+    (append_assoc h.digits (suffix_word x) more) in
     let most = base_most s b h.digits x more joined h.some h.each in
     let len = ap length h.spelled ∙ length-append (base_mark b) tail in
     let len_tail = length-append h.digits (suffix_word x) in

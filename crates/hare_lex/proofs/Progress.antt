@@ -20,14 +20,16 @@ pub record Reached (file : ℕ) (src : List ℕ) (tokens : List Token) (place : 
   pub before : List ℕ
   pub split : src ≡ before ++ rest
   pub place_is : place ≡ place_at file before
-  pub goes_on : (ts : List Token) (left : List ℕ) (at_path : Bool) → Reads file before behind_path ts rest left at_path → Reads file [] false (tokens ++ ts) src left at_path
+  pub goes_on : (ts : List Token) (left : List ℕ) (at_path : Bool) → Reads file before behind_path ts rest left at_path →
+      Reads file [] false (tokens ++ ts) src left at_path
 
 -- ---- places
 
 abbrev place : ℕ → ℕ → ℕ → Place
 place f l c = record { file = f; line = l; column = c }
 
-feeds_more : (before : List ℕ) (c n : ℕ) (t : Bool) → eqb c 10 ≡ t → n ≡ count_by (λ q. eqb q 10) before + cond t 1 0 → count_by (λ q. eqb q 10) (before ++ c ∷ []) ≡ n
+feeds_more : (before : List ℕ) (c n : ℕ) (t : Bool) → eqb c 10 ≡ t → n ≡ count_by (λ q. eqb q 10) before + cond t 1 0 →
+    count_by (λ q. eqb q 10) (before ++ c ∷ []) ≡ n
 feeds_more before c n t e h = sum_by-append (λ q. cond (eqb q 10) 1 0) before (c ∷ []) ∙ rw e (omega (arith, h))
 
 step_is : (file : ℕ) (before : List ℕ) (c : ℕ) (t : Bool) → eqb c 10 ≡ t → place_at file (before ++ c ∷ []) ≡ step (place_at file before) c
@@ -44,7 +46,8 @@ step_is file before c false e =
 pub place_more : (file : ℕ) (before s : List ℕ) → place_at file (before ++ s) ≡ advanced (place_at file before) s
 place_more file before [] = ap (place_at file) (append-nil before)
 place_more file before (c ∷ s) =
-    ap (place_at file) (sym (append_assoc before (c ∷ []) s)) ∙ place_more file (before ++ c ∷ []) s ∙ ap (λ p. advanced p s) (step_is file before c _ refl)
+    ap (place_at file) (sym (append_assoc before (c ∷ []) s)) ∙ place_more file (before ++ c ∷ []) s ∙ ap (λ p. advanced p s)
+    (step_is file before c _ refl)
 
 -- a place of the file and what stands behind it
 pub record At (file : ℕ) (src : List ℕ) (p : Place) (rest : List ℕ) : Type 0 where
@@ -52,10 +55,12 @@ pub record At (file : ℕ) (src : List ℕ) (p : Place) (rest : List ℕ) : Type
   pub split : src ≡ before ++ rest
   pub place_is : p ≡ place_at file before
 
-pub reached_at : (file : ℕ) (src : List ℕ) (tokens : List Token) (p : Place) (b : Bool) (rest : List ℕ) → Reached file src tokens p b rest → At file src p rest
+pub reached_at : (file : ℕ) (src : List ℕ) (tokens : List Token) (p : Place) (b : Bool) (rest : List ℕ) → Reached file src tokens p b rest →
+    At file src p rest
 reached_at file src tokens p b rest r = record { before = r.before; split = r.split; place_is = r.place_is }
 
-pub at_more : (file : ℕ) (src : List ℕ) (p q : Place) (a rest s : List ℕ) → At file src p s → s ≡ a ++ rest → q ≡ advanced p a → At file src q rest
+pub at_more : (file : ℕ) (src : List ℕ) (p q : Place) (a rest s : List ℕ) → At file src p s → s ≡ a ++ rest → q ≡ advanced p a →
+    At file src q rest
 at_more file src p q a rest s r e k = record {
   before = r.before ++ a;
   split = r.split ∙ ap (λ l. r.before ++ l) e ∙ sym (append_assoc r.before a rest);
@@ -65,8 +70,13 @@ at_more file src p q a rest s r e k = record {
 length-back : (s : List ℕ) → length (reverse s) ≡ length s
 length-back s = length-reverse s
 
-place_within : (file : ℕ) (before : List ℕ) → ((place_at file before).line ≤ 1 + length before) × ((place_at file before).column ≤ 1 + length before)
-place_within file before = (omega (arith, count_by-le-length (λ q. eqb q 10) before), omega (arith, run_within is_not_feed (reverse before), length-back before))
+place_within : (file : ℕ) (before : List ℕ) → ((place_at file before).line ≤ 1 + length before) ×
+    ((place_at file before).column ≤ 1 + length before)
+place_within file before = (
+  omega (arith, count_by-le-length (λ q. eqb q 10) before),
+  omega
+      (arith, run_within is_not_feed (reverse before), length-back before),
+)
 
 -- a place is within the file
 pub at_lines : (file : ℕ) (src : List ℕ) (p : Place) (rest : List ℕ) → At file src p rest → p.line + length rest ≤ 1 + length src
@@ -103,11 +113,31 @@ same_byte c k h = grind (arith, nat_tests)
 comment_step : (c : ℕ) (s : List ℕ) (t : Bool) → eqb c 10 ≡ t → GapOf false s → InComment s → InComment (c ∷ s)
 comment_step c s true e g r =
     let blank : is_blank c ≡ true = ap is_blank (same_byte c 10 e) in
-    record { body = []; rest = c ∷ s; split = refl; each = refl; ends = e; parts = (c ∷ []) ∷ g.0; gap = (s, refl, inl (c, refl, blank), rw e g.1) }
+    record {
+      body = [];
+      rest = c ∷ s;
+      split = refl;
+      each = refl;
+      ends = e;
+      parts = (c ∷ []) ∷ g.0;
+      gap =
+          (s, refl, inl (c, refl, blank), rw e g.1);
+    }
 comment_step c s false e g r =
-    record { body = c ∷ r.body; rest = r.rest; split = ap (λ l. c ∷ l) r.split; each = rw e r.each; ends = r.ends; parts = r.parts; gap = rw e r.gap }
+    record {
+      body = c ∷ r.body;
+      rest = r.rest;
+      split = ap (λ l. c ∷ l) r.split;
+      each = rw e r.each;
+      ends = r.ends;
+      parts = r.parts;
+      gap = rw
+          e r.gap;
+    }
 
-comment_open : (c : ℕ) (s : List ℕ) (body rest : List ℕ) (parts : List (List ℕ)) (left : List ℕ) → (eqb c 47 && eqb (get_or s 0 0) 47) ≡ true → s ≡ body ++ rest → list_all is_not_feed body ≡ true → ends_line rest ≡ true → Gap parts rest left → Gap ((c ∷ body) ∷ parts) (c ∷ s) left
+comment_open : (c : ℕ) (s : List ℕ) (body rest : List ℕ) (parts : List (List ℕ)) (left : List ℕ) →
+    (eqb c 47 && eqb (get_or s 0 0) 47) ≡ true → s ≡ body ++ rest → list_all is_not_feed body ≡ true → ends_line rest ≡ true →
+    Gap parts rest left → Gap ((c ∷ body) ∷ parts) (c ∷ s) left
 comment_open c s [] [] parts left e k h z g =
     let none : eqb 0 47 ≡ true = subst (λ (l : List ℕ). eqb (get_or l 0 0) 47 ≡ true) k (and_right _ _ e) in absurd (cc)
 comment_open c s [] (d ∷ rest) parts left e k h z g =
@@ -119,8 +149,13 @@ comment_open c s (d ∷ body) rest parts left e k h z g =
     let two = same_byte d 47 slash in
     (rest, ap (λ l. c ∷ l) k, inr (body, ap (λ q. q ∷ d ∷ body) one ∙ ap (λ q. 47 ∷ q ∷ body) two, and_right _ _ h, z), g)
 
-gap_step : (c : ℕ) (s : List ℕ) (t b : Bool) → (eqb c 47 && eqb (get_or s 0 0) 47) ≡ t → is_blank c ≡ b → GapOf false s → InComment s → (parts : List (List ℕ)) × Gap parts (c ∷ s) (cond t (skipped true s) (cond b (skipped false s) (c ∷ s)))
-gap_step c s true b e f g r = ((c ∷ r.body) ∷ r.parts, comment_open c s r.body r.rest r.parts (skipped true s) e r.split r.each r.ends r.gap)
+gap_step : (c : ℕ) (s : List ℕ) (t b : Bool) → (eqb c 47 && eqb (get_or s 0 0) 47) ≡ t → is_blank c ≡ b → GapOf false s → InComment s →
+    (parts : List (List ℕ)) × Gap parts (c ∷ s) (cond t (skipped true s) (cond b (skipped false s) (c ∷ s)))
+gap_step c s true b e f g r = (
+  (c ∷ r.body) ∷ r.parts,
+  comment_open c s r.body r.rest r.parts (skipped true s) e r.split r.each r.ends
+      r.gap,
+)
 gap_step c s false true e f g r = ((c ∷ []) ∷ g.0, (s, refl, inl (c, refl, f), g.1))
 gap_step c s false false e f g r = ([], (refl, rw (f, e) refl))
 
@@ -137,25 +172,34 @@ gap_skipped s = gap_of false s
 -- ---- one more token
 
 -- behind a gap and a token that stands
-pub reached_more : (file : ℕ) (src : List ℕ) (tokens : List Token) (p at q : Place) (b : Bool) (rest blank text word more : List ℕ) (parts : List (List ℕ)) (t : Token) → Reached file src tokens p b rest → Gap parts rest text → rest ≡ blank ++ text → at ≡ advanced p blank → t.place ≡ at → text ≡ word ++ more → Stands b t word more → q ≡ advanced at word → Reached file src (tokens ++ t ∷ []) q (is_path_mark t.kind t.text) more
+pub reached_more : (file : ℕ) (src : List ℕ) (tokens : List Token) (p at q : Place) (b : Bool) (rest blank text word more : List ℕ)
+    (parts : List (List ℕ)) (t : Token) → Reached file src tokens p b rest → Gap parts rest text → rest ≡ blank ++ text →
+    at ≡ advanced p blank → t.place ≡ at → text ≡ word ++ more → Stands b t word more → q ≡ advanced at word →
+    Reached file src (tokens ++ t ∷ []) q (is_path_mark t.kind t.text) more
 reached_more file src tokens p at q b rest blank text word more parts t r g e a k w st z =
-    let here : t.place ≡ place_at file (r.before ++ blank) = k ∙ a ∙ ap (λ y. advanced y blank) r.place_is ∙ sym (place_more file r.before blank) in
+    let here : t.place ≡ place_at file (r.before ++ blank) =
+    k ∙ a ∙ ap (λ y. advanced y blank) r.place_is ∙ sym (place_more file r.before blank) in
     let gap : Gap parts rest (word ++ more) = subst (Gap parts rest) w g in
     let joined : rest ≡ blank ++ (word ++ more) = e ∙ ap (λ l. blank ++ l) w in
     record {
       before = r.before ++ (blank ++ word);
-      split = r.split ∙ ap (λ l. r.before ++ l) (joined ∙ sym (append_assoc blank word more)) ∙ sym (append_assoc r.before (blank ++ word) more);
-      place_is = z ∙ ap (λ y. advanced y word) (sym k ∙ here) ∙ sym (place_more file (r.before ++ blank) word) ∙ ap (place_at file) (append_assoc r.before blank word);
+      split = r.split ∙ ap (λ l. r.before ++ l) (joined ∙ sym (append_assoc blank word more)) ∙ sym
+          (append_assoc r.before (blank ++ word) more);
+      place_is = z ∙ ap (λ y. advanced y word) (sym k ∙ here) ∙ sym (place_more file (r.before ++ blank) word) ∙ ap (place_at file)
+          (append_assoc r.before blank word);
       goes_on = λ ts left at_path h.
           subst (λ l. Reads file [] false l src left at_path) (sym (append_assoc tokens (t ∷ []) ts))
           (r.goes_on (t ∷ ts) left at_path (parts, word, more, blank, gap, joined, here, st, h));
     }
 
 -- the end of the file
-pub all_read : (file : ℕ) (src : List ℕ) (tokens new : List Token) (p at : Place) (b : Bool) (rest blank text : List ℕ) (parts : List (List ℕ)) → Reached file src tokens p b rest → Gap parts rest text → rest ≡ blank ++ text → length text ≡ 0 → at ≡ advanced p blank → IsUtf8 src → new ≡ tokens ++ end_at at ∷ [] → IsTokens file src new
+pub all_read : (file : ℕ) (src : List ℕ) (tokens new : List Token) (p at : Place) (b : Bool) (rest blank text : List ℕ)
+    (parts : List (List ℕ)) → Reached file src tokens p b rest → Gap parts rest text → rest ≡ blank ++ text → length text ≡ 0 →
+    at ≡ advanced p blank → IsUtf8 src → new ≡ tokens ++ end_at at ∷ [] → IsTokens file src new
 all_read file src tokens new p at b rest blank [] parts r g e l a u k =
     let whole : src ≡ r.before ++ blank = r.split ∙ ap (λ w. r.before ++ w) (e ∙ append-nil blank) in
-    let here : at ≡ place_at file src = a ∙ ap (λ y. advanced y blank) r.place_is ∙ sym (place_more file r.before blank) ∙ ap (place_at file) (sym whole) in
+    let here : at ≡ place_at file src = a ∙ ap (λ y. advanced y blank) r.place_is ∙ sym (place_more file r.before blank) ∙ ap
+    (place_at file) (sym whole) in
     record {
       utf8 = u;
       spelled_by = tokens;
@@ -166,12 +210,16 @@ all_read file src tokens new p at b rest blank [] parts r g e l a u k =
 all_read file src tokens new p at b rest blank (c ∷ text) parts r g e l a u k = absurd (omega arith)
 
 -- the first break
-pub broken_at : (file : ℕ) (src : List ℕ) (tokens : List Token) (p at q : Place) (b : Bool) (rest blank text : List ℕ) (parts : List (List ℕ)) (number offset : ℕ) (stop : LexStop) → Reached file src tokens p b rest → Gap parts rest text → rest ≡ blank ++ text → at ≡ advanced p blank → IsUtf8 src → Break b text number offset → q ≡ advanced at (take offset text) → Stopped tokens number q stop → Stops file src stop
+pub broken_at : (file : ℕ) (src : List ℕ) (tokens : List Token) (p at q : Place) (b : Bool) (rest blank text : List ℕ)
+    (parts : List (List ℕ)) (number offset : ℕ) (stop : LexStop) → Reached file src tokens p b rest → Gap parts rest text →
+    rest ≡ blank ++ text → at ≡ advanced p blank → IsUtf8 src → Break b text number offset → q ≡ advanced at (take offset text) →
+    Stopped tokens number q stop → Stops file src stop
 broken_at file src tokens p at q b rest blank text parts number offset stop.Memory r g e a u h z s = tt
 broken_at file src tokens p at q b rest blank text parts number offset (stop.Fault fault kept) r g e a u h z s =
     let whole : src ≡ (r.before ++ blank) ++ text = r.split ∙ ap (λ w. r.before ++ w) e ∙ sym (append_assoc r.before blank text) in
     let here : at ≡ place_at file (r.before ++ blank) = a ∙ ap (λ y. advanced y blank) r.place_is ∙ sym (place_more file r.before blank) in
-    let there : q ≡ place_at file ((r.before ++ blank) ++ take offset text) = z ∙ ap (λ y. advanced y (take offset text)) here ∙ sym (place_more file (r.before ++ blank) (take offset text)) in
+    let there : q ≡ place_at file ((r.before ++ blank) ++ take offset text) =
+    z ∙ ap (λ y. advanced y (take offset text)) here ∙ sym (place_more file (r.before ++ blank) (take offset text)) in
     inr (record {
       utf8 = u;
       spelled_by = tokens;

@@ -28,7 +28,8 @@ first_got (c ∷ l) v h e = ap Some (sym e)
 character_some : (s : List ℕ) (v : ℕ) → character s ≡ Some v → IsChar s v
 character_some s v h = of_tests (is_utf8 s) (eqb (length (chars s)) 1) refl refl h
   where
-    of_tests : (a b : Bool) → is_utf8 s ≡ a → eqb (length (chars s)) 1 ≡ b → cond a (cond b (slice_get (chars s) 0) None) None ≡ Some v → IsChar s v
+    of_tests : (a b : Bool) → is_utf8 s ≡ a → eqb (length (chars s)) 1 ≡ b → cond a (cond b (slice_get (chars s) 0) None) None ≡ Some v →
+        IsChar s v
     of_tests true true e f h = record { is = and_both _ _ e f; value = first_is (chars s) v h }
     of_tests true false e f h = absurd (cc)
     of_tests false b e f h = absurd (cc)
@@ -75,17 +76,24 @@ encode_holds : (v : ℕ) → eqb v 39 ≡ false → eqb v 92 ≡ false → holds
 unfolding encode
 encode_holds v e f = of_tests (ltb v 128) (ltb v 2048) (ltb v 65536)
   where
-    of_tests : (a b c : Bool) → holds 39 false (cond a (v ∷ []) (cond b ((192 + v / 64) ∷ next v ∷ []) (cond c ((224 + v / 4096) ∷ next (v / 64) ∷ next v ∷ []) ((240 + v / 262144) ∷ next (v / 4096) ∷ next (v / 64) ∷ next v ∷ [])))) ≡ true
+    of_tests : (a b c : Bool) → holds 39 false
+        (cond a (v ∷ []) (cond b ((192 + v / 64) ∷ next v ∷ [])
+        (cond c ((224 + v / 4096) ∷ next (v / 64) ∷ next v ∷ []) ((240 + v / 262144) ∷ next (v / 4096) ∷ next (v / 64) ∷ next v ∷ [])))) ≡
+        true
     of_tests true b c = step v [] e f refl
     of_tests false true c = high_step (192 + v / 64) (next v ∷ []) (omega arith) (last v)
     of_tests false false true = high_step (224 + v / 4096) (next (v / 64) ∷ next v ∷ []) (omega arith) (two v)
-    of_tests false false false = high_step (240 + v / 262144) (next (v / 4096) ∷ next (v / 64) ∷ next v ∷ []) (omega arith) (high_step (next (v / 4096)) (next (v / 64) ∷ next v ∷ []) (omega arith) (two v))
+    of_tests false false false = high_step (240 + v / 262144) (next (v / 4096) ∷ next (v / 64) ∷ next v ∷ []) (omega arith)
+        (high_step (next (v / 4096)) (next (v / 64) ∷ next v ∷ []) (omega arith) (two v))
 
 encode_first : (v : ℕ) → eqb v 92 ≡ false → eqb (get_or (encode v) 0 0) 92 ≡ false
 unfolding encode
 encode_first v f = of_tests (ltb v 128) (ltb v 2048) (ltb v 65536)
   where
-    of_tests : (a b c : Bool) → eqb (get_or (cond a (v ∷ []) (cond b ((192 + v / 64) ∷ next v ∷ []) (cond c ((224 + v / 4096) ∷ next (v / 64) ∷ next v ∷ []) ((240 + v / 262144) ∷ next (v / 4096) ∷ next (v / 64) ∷ next v ∷ [])))) 0 0) 92 ≡ false
+    of_tests : (a b c : Bool) → eqb (get_or (cond a (v ∷ [])
+        (cond b ((192 + v / 64) ∷ next v ∷ [])
+        (cond c ((224 + v / 4096) ∷ next (v / 64) ∷ next v ∷ []) ((240 + v / 262144) ∷ next (v / 4096) ∷ next (v / 64) ∷ next v ∷ [])))) 0
+        0) 92 ≡ false
     of_tests true b c = f
     of_tests false true c = high (192 + v / 64) 92 (omega arith) (omega arith)
     of_tests false false true = high (224 + v / 4096) 92 (omega arith) (omega arith)
@@ -98,7 +106,10 @@ encode_ascii v h = of_test (ltb v 128) (small v h)
     small : (v : ℕ) → v < 128 → ltb v 128 ≡ true
     small v h = grind (arith, nat_tests)
 
-    of_test : (a : Bool) → a ≡ true → cond a (v ∷ []) (cond (ltb v 2048) ((192 + v / 64) ∷ next v ∷ []) (cond (ltb v 65536) ((224 + v / 4096) ∷ next (v / 64) ∷ next v ∷ []) ((240 + v / 262144) ∷ next (v / 4096) ∷ next (v / 64) ∷ next v ∷ []))) ≡ v ∷ []
+    of_test : (a : Bool) → a ≡ true → cond a (v ∷ [])
+        (cond (ltb v 2048) ((192 + v / 64) ∷ next v ∷ [])
+        (cond (ltb v 65536) ((224 + v / 4096) ∷ next (v / 64) ∷ next v ∷ [])
+        ((240 + v / 262144) ∷ next (v / 4096) ∷ next (v / 64) ∷ next v ∷ []))) ≡ v ∷ []
     of_test true h = refl
     of_test false h = absurd (cc)
 
@@ -122,7 +133,8 @@ escape_one w v h = ap (whole_escape (suc (length w))) (ap escape (sym (append-ni
 pub one_stands : (content : List ℕ) (v : ℕ) → IsOne content v → one content ≡ Some v
 one_stands content v h = ⊎_elim char (λ e. esc e) h
   where
-    char : ((is_character content ≡ true) × (v ≡ get_or (chars content) 0 0) × (eqb v 39 ≡ false) × (eqb v 92 ≡ false)) → one content ≡ Some v
+    char : ((is_character content ≡ true) × (v ≡ get_or (chars content) 0 0) × (eqb v 39 ≡ false) × (eqb v 92 ≡ false)) →
+        one content ≡ Some v
     char a =
         let c : IsChar content v = record { is = a.0; value = a.1 } in
         let first : eqb (get_or content 0 0) 92 ≡ false = ap (λ l. eqb (get_or l 0 0) 92) (char_bytes content v c) ∙ encode_first v a.3 in
@@ -154,7 +166,9 @@ whole_some n (Some r) v h = of_test (eqb (r.1 + 1) n) refl h
 byte_is : (c k : ℕ) → eqb c k ≡ true → c ≡ k
 byte_is c k h = grind (arith, nat_tests)
 
-one_at : (content : List ℕ) (v : ℕ) (b : Bool) → eqb (get_or content 0 0) 92 ≡ b → cond b (whole_escape (length content) (escape (drop 1 content))) (character content) ≡ Some v → holds 39 false content ≡ true → IsOne content v
+one_at : (content : List ℕ) (v : ℕ) (b : Bool) → eqb (get_or content 0 0) 92 ≡ b →
+    cond b (whole_escape (length content) (escape (drop 1 content))) (character content) ≡ Some v → holds 39 false content ≡ true →
+    IsOne content v
 one_at [] v true e h k = absurd (cc)
 one_at (c ∷ w) v true e h k =
     let p = whole_some (suc (length w)) (escape w) v h in
@@ -172,14 +186,18 @@ one_at content v false e h k =
       where
         of_test : (t : Bool) → eqb v 39 ≡ t → t ≡ false
         of_test false q = refl
-        of_test true q = let i = byte_is v 39 q in let s : content ≡ 39 ∷ [] = b ∙ ap encode i ∙ encode_ascii 39 (omega arith) in let z : false ≡ true = sym (ap (holds 39 false) s) ∙ k in absurd (cc)
+        of_test true q =
+            let i = byte_is v 39 q in let s : content ≡ 39 ∷ [] = b ∙ ap encode i ∙ encode_ascii 39 (omega arith) in let z : false ≡ true =
+            sym (ap (holds 39 false) s) ∙ k in absurd (cc)
 
     not_92 : content ≡ encode v → eqb v 92 ≡ false
     not_92 b = of_test (eqb v 92) refl
       where
         of_test : (t : Bool) → eqb v 92 ≡ t → t ≡ false
         of_test false q = refl
-        of_test true q = let i = byte_is v 92 q in let s : content ≡ 92 ∷ [] = b ∙ ap encode i ∙ encode_ascii 92 (omega arith) in let z : true ≡ false = sym (ap (λ l. eqb (get_or l 0 0) 92) s) ∙ e in absurd (cc)
+        of_test true q =
+            let i = byte_is v 92 q in let s : content ≡ 92 ∷ [] = b ∙ ap encode i ∙ encode_ascii 92 (omega arith) in let z : true ≡ false =
+            sym (ap (λ l. eqb (get_or l 0 0) 92) s) ∙ e in absurd (cc)
 
 -- what is read between quotes is one character or escape
 pub one_some : (content : List ℕ) (v : ℕ) → one content ≡ Some v → holds 39 false content ≡ true → IsOne content v
@@ -200,9 +218,12 @@ cond_some false w v o h s more = more h
 
 pub simple_below : (c v : ℕ) → escaped c ≡ Some v → v < 128
 simple_below c v h =
-    cond_some (eqb c 48) 0 v _ h (omega arith) (λ h. cond_some (eqb c 97) 7 v _ h (omega arith) (λ h. cond_some (eqb c 98) 8 v _ h (omega arith)
-    (λ h. cond_some (eqb c 102) 12 v _ h (omega arith) (λ h. cond_some (eqb c 110) 10 v _ h (omega arith) (λ h. cond_some (eqb c 114) 13 v _ h (omega arith)
-    (λ h. cond_some (eqb c 116) 9 v _ h (omega arith) (λ h. cond_some (eqb c 118) 11 v _ h (omega arith) (λ h. cond_some (eqb c 92) 92 v _ h (omega arith)
+    cond_some (eqb c 48) 0 v _ h (omega arith)
+    (λ h. cond_some (eqb c 97) 7 v _ h (omega arith) (λ h. cond_some (eqb c 98) 8 v _ h (omega arith)
+    (λ h. cond_some (eqb c 102) 12 v _ h (omega arith)
+    (λ h. cond_some (eqb c 110) 10 v _ h (omega arith) (λ h. cond_some (eqb c 114) 13 v _ h (omega arith)
+    (λ h. cond_some (eqb c 116) 9 v _ h (omega arith)
+    (λ h. cond_some (eqb c 118) 11 v _ h (omega arith) (λ h. cond_some (eqb c 92) 92 v _ h (omega arith)
     (λ h. cond_some (eqb c 39) 39 v _ h (omega arith) (λ h. cond_some (eqb c 34) 34 v None h (omega arith) (λ h. absurd (cc))))))))))))
 
 simple_small : (c v : ℕ) → escaped c ≡ Some v → v < 2 ^ 127
@@ -218,4 +239,5 @@ one_small content v h = ⊎_elim
     char a =
         let u = IsUtf8-from_is_utf8 content (and_left (is_utf8 content) (eqb (length (chars content)) 1) a.0) in
         let same : u.0 ≡ chars content = chars_from_encodes u.0 content u u.1.1 in
-        encode_small v [] (first_scalar (chars content) v (subst (λ l. scalars l ≡ true) same u.1.0) (and_right (is_utf8 content) (eqb (length (chars content)) 1) a.0) a.1)
+        encode_small v [] (first_scalar (chars content) v (subst (λ l. scalars l ≡ true) same u.1.0)
+        (and_right (is_utf8 content) (eqb (length (chars content)) 1) a.0) a.1)

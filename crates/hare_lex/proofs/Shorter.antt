@@ -19,7 +19,8 @@ some_len v = omega (arith, length-encode v, (len_utf8_bounds v).1)
 byte_is : (c k : ℕ) → eqb c k ≡ true → c ≡ k
 byte_is c k h = grind (arith, nat_tests)
 
-hex_len_of : (c n v : ℕ) (a b d : Bool) → eqb c 120 ≡ a → cond a (Some 2) (cond b (Some 4) (cond d (Some 8) None)) ≡ Some n → (c ≡ 120 → v < 128) → length (encode_utf8 v) ≤ n + 2
+hex_len_of : (c n v : ℕ) (a b d : Bool) → eqb c 120 ≡ a → cond a (Some 2) (cond b (Some 4) (cond d (Some 8) None)) ≡ Some n →
+    (c ≡ 120 → v < 128) → length (encode_utf8 v) ≤ n + 2
 hex_len_of c n v true b d e h k = omega (arith, ascii_len v (k (byte_is c 120 e)))
 hex_len_of c n v false true d e h k = let m : 4 ≡ n = cc in omega (arith, m, some_len v)
 hex_len_of c n v false false true e h k = let m : 8 ≡ n = cc in omega (arith, m, some_len v)
@@ -39,11 +40,25 @@ part_shorter p h = ⊎_elim
 
 parts_shorter : (ps : List (List ℕ × List ℕ)) → AllByRecursion IsPart ps → length (decoded ps) ≤ length (spelled ps)
 parts_shorter [] h = omega arith
-parts_shorter (p ∷ ps) h = omega (arith, part_shorter p h.0, parts_shorter ps h.1, length-append p.0 (spelled ps), length-append p.1 (decoded ps))
+parts_shorter (p ∷ ps) h = omega (
+  arith,
+  part_shorter p h.0,
+  parts_shorter ps h.1,
+  length-append p.0 (spelled ps),
+  length-append p.1
+      (decoded ps),
+)
 
 string_shorter : (text s : List ℕ) → IsQuoted text s ⊎ IsRaw text s → length text ≤ length s
 string_shorter text s h = ⊎_elim
-    (λ a. omega (arith, ap length a.spelled_by, ap length a.decoded_is, parts_shorter a.parts a.each, length-append (spelled a.parts) (34 ∷ [])))
+    (λ a. omega (
+      arith,
+      ap length a.spelled_by,
+      ap length a.decoded_is,
+      parts_shorter a.parts a.each,
+      length-append (spelled a.parts)
+          (34 ∷ []),
+    ))
     (λ a. omega (arith, ap length a.spelled_by, length-append text (96 ∷ [])))
     h
 

@@ -36,7 +36,8 @@ lit_len : (q : ℕ) (content : List ℕ) → length (q ∷ (content ++ q ∷ [])
 lit_len q content = omega (arith, length-append content (q ∷ []))
 
 -- a literal of this quote at the front ends at the quote that is found
-pub lit_longest : (q : ℕ) (s c v more : List ℕ) (n : ℕ) → closing q false 0 s ≡ Some n → q ∷ s ≡ v ++ more → v ≡ q ∷ (c ++ q ∷ []) → holds q false c ≡ true → length v ≡ n + 2
+pub lit_longest : (q : ℕ) (s c v more : List ℕ) (n : ℕ) → closing q false 0 s ≡ Some n → q ∷ s ≡ v ++ more → v ≡ q ∷ (c ++ q ∷ []) →
+    holds q false c ≡ true → length v ≡ n + 2
 lit_longest q s c v more n f e k h =
     let whole : q ∷ s ≡ q ∷ ((c ++ q ∷ []) ++ more) = e ∙ ap (λ l. l ++ more) k in
     let tail : s ≡ c ++ q ∷ more = lit_tail s ((c ++ q ∷ []) ++ more) q whole ∙ append_assoc c (q ∷ []) more in
@@ -61,15 +62,24 @@ abbrev pub lit : ℕ → List ℕ → List ℕ
 lit q content = q ∷ (content ++ q ∷ [])
 
 -- a literal stands at the front where each token that begins so is as long
-lit_stands : (b : Bool) (q : ℕ) (k : TokenKind) (s content rest : List ℕ) (n m : ℕ) (x : Suffix) → is_letter q ≡ false → is_ascii_digit q ≡ false → s ≡ content ++ q ∷ rest → n ≡ length content → m < 2 ^ 127 → IsSpellingOf k (text_of k (lit q content)) m x (lit q content) → ((j : TokenKind) (text : List ℕ) (i : ℕ) (y : Suffix) (v more : List ℕ) → q ∷ s ≡ v ++ more → IsSpellingOf j text i y v → is_first j q ≡ true → length v ≡ n + 2) → Standing b (q ∷ s) k (n + 2) m x
+lit_stands : (b : Bool) (q : ℕ) (k : TokenKind) (s content rest : List ℕ) (n m : ℕ) (x : Suffix) → is_letter q ≡ false →
+    is_ascii_digit q ≡ false → s ≡ content ++ q ∷ rest → n ≡ length content → m < 2 ^ 127 →
+    IsSpellingOf k (text_of k (lit q content)) m x (lit q content) →
+    ((j : TokenKind) (text : List ℕ) (i : ℕ) (y : Suffix) (v more : List ℕ) → q ∷ s ≡ v ++ more → IsSpellingOf j text i y v →
+    is_first j q ≡ true → length v ≡ n + 2) → Standing b (q ∷ s) k (n + 2) m x
 lit_stands b q k s content rest n m x l d e len small spells longest =
     standing b k (q ∷ s) (lit q content) rest m x (n + 2) (lit_split q s content rest e) (omega (arith, lit_len q content, len))
-    (λ p. fits_by k p (q ∷ s) (lit q content) rest m x (lit_split q s content rest e) spells (λ j text i y v more g h f. let same = longest j text i y v more g h f in omega (arith, same, lit_len q content, len)))
+    (λ p. fits_by k p (q ∷ s) (lit q content) rest m x (lit_split q s content rest e) spells
+    (λ j text i y v more g h f. let same = longest j text i y v more g h f in omega (arith, same, lit_len q content, len)))
     (not_left_out b (lit q content) l) small (no_fraction (q ∷ s) d)
 
 -- a quote without its closing one is a fault
 unclosed : (b : Bool) (q : ℕ) (s : List ℕ) → is_quote q ≡ true → closing q false 0 s ≡ None → Break b (q ∷ s) 6 0
-unclosed b q s h f = inr (inr (inl (refl, refl, record { quote = q; behind = s; text_is = refl; quotes = h; open_on = λ content rest e k. closing_none q s content rest f e k })))
+unclosed b q s h f = inr (inr (inl (
+  refl,
+  refl,
+  record { quote = q; behind = s; text_is = refl; quotes = h; open_on = λ content rest e k. closing_none q s content rest f e k },
+)))
 
 -- ---- strings
 
@@ -94,7 +104,8 @@ raw_kind Mark f = absurd (cc)
 raw_kind End f = absurd (cc)
 
 -- the spelling of a string is quoted or raw
-pub str_is : (j : TokenKind) (text : List ℕ) (m : ℕ) (y : Suffix) (v : List ℕ) → j ≡ Str → IsSpellingOf j text m y v → IsQuoted text v ⊎ IsRaw text v
+pub str_is : (j : TokenKind) (text : List ℕ) (m : ℕ) (y : Suffix) (v : List ℕ) → j ≡ Str → IsSpellingOf j text m y v →
+    IsQuoted text v ⊎ IsRaw text v
 str_is Str text m y v j h = h.2
 str_is Name text m y v j h = absurd (cc)
 str_is Keyword text m y v j h = absurd (cc)
@@ -112,14 +123,16 @@ pub quoted_holds : (ps : List (List ℕ × List ℕ)) → AllByRecursion IsPart 
 quoted_holds ps h = ap (holds 34 false) (sym (append-nil (spelled ps))) ∙ parts_hold ps [] h
 
 -- a string at a double quote ends at the quote that is found
-string_longest : (s text v more : List ℕ) (n : ℕ) → closing 34 false 0 s ≡ Some n → 34 ∷ s ≡ v ++ more → IsQuoted text v ⊎ IsRaw text v → length v ≡ n + 2
+string_longest : (s text v more : List ℕ) (n : ℕ) → closing 34 false 0 s ≡ Some n → 34 ∷ s ≡ v ++ more → IsQuoted text v ⊎ IsRaw text v →
+    length v ≡ n + 2
 string_longest s text v more n f e h = ⊎_elim
     (λ a. lit_longest 34 s (spelled a.parts) v more n f e a.spelled_by (quoted_holds a.parts a.each))
     (λ a. let no : 34 ≡ 96 = other_first 34 96 s v more (text ++ 96 ∷ []) e a.spelled_by in absurd (omega (arith, no)))
     h
 
 -- a string at a backtick ends at the backtick that is found
-raw_longest : (s text v more : List ℕ) (n : ℕ) → closing 96 false 0 s ≡ Some n → 96 ∷ s ≡ v ++ more → IsQuoted text v ⊎ IsRaw text v → length v ≡ n + 2
+raw_longest : (s text v more : List ℕ) (n : ℕ) → closing 96 false 0 s ≡ Some n → 96 ∷ s ≡ v ++ more → IsQuoted text v ⊎ IsRaw text v →
+    length v ≡ n + 2
 raw_longest s text v more n f e h = ⊎_elim
     (λ a. let no : 96 ≡ 34 = other_first 96 34 s v more (spelled a.parts ++ 34 ∷ []) e a.spelled_by in absurd (omega (arith, no)))
     (λ a. lit_longest 96 s text v more n f e a.spelled_by (raw_holds text a.each))
@@ -134,7 +147,8 @@ pub raw_text_is : (content : List ℕ) → string_text (lit 96 content) ≡ cont
 raw_text_is content = inner_is 96 content
 
 -- a closed string stands at the front, or its first wrong escape is a fault
-string_at : (b : Bool) (s content rest : List ℕ) (n : ℕ) (o : Option ℕ) → closing 34 false 0 s ≡ Some n → s ≡ content ++ 34 ∷ rest → n ≡ length content → holds 34 false content ≡ true → bad_escape 0 content ≡ o → Sound b (34 ∷ s) (string_end n o)
+string_at : (b : Bool) (s content rest : List ℕ) (n : ℕ) (o : Option ℕ) → closing 34 false 0 s ≡ Some n → s ≡ content ++ 34 ∷ rest →
+    n ≡ length content → holds 34 false content ≡ true → bad_escape 0 content ≡ o → Sound b (34 ∷ s) (string_end n o)
 string_at b s content rest n None f e len inside bad =
     let parts = good_parts 0 content bad inside in
     lit_stands b 34 Str s content rest n 0 suffix.None refl refl e len nothing_small (
@@ -169,23 +183,33 @@ string_at b s content rest n (Some left) f e len inside bad =
     ))
 
 -- what is found at a double quote is right
-pub string_sound : (b : Bool) (s : List ℕ) (o : Option ℕ) → closing 34 false 0 s ≡ o → Sound b (34 ∷ s) (elim o as (λ _. Found) [ None ↦ found.Fault 6 0 | Some len ↦ string_end len (bad_escape 0 (take len s)) ])
+pub string_sound : (b : Bool) (s : List ℕ) (o : Option ℕ) → closing 34 false 0 s ≡ o →
+    Sound b (34 ∷ s) (elim o as (λ _. Found) [ None ↦ found.Fault 6 0 | Some len ↦ string_end len (bad_escape 0 (take len s)) ])
 string_sound b s None f = unclosed b 34 s refl f
 string_sound b s (Some n) f =
     let c = closing_found 34 false 0 s n f in
     let len : n ≡ length c.content = omega (arith, c.len) in
     let same : take n s ≡ c.content = ap (λ k. take k s) len ∙ lit_take 34 c.content c.rest s c.split in
-    subst (λ (l : List ℕ). Sound b (34 ∷ s) (string_end n (bad_escape 0 l))) (sym same) (string_at b s c.content c.rest n _ f c.split len c.inside refl)
+    subst (λ (l : List ℕ). Sound b (34 ∷ s) (string_end n (bad_escape 0 l))) (sym same)
+    (string_at b s c.content c.rest n _ f c.split len c.inside refl)
 
 -- what is found at a backtick is right
-pub raw_sound : (b : Bool) (s : List ℕ) (o : Option ℕ) → closing 96 false 0 s ≡ o → Sound b (96 ∷ s) (elim o as (λ _. Found) [ None ↦ found.Fault 6 0 | Some len ↦ found.Token Str (len + 2) 0 suffix.None ])
+pub raw_sound : (b : Bool) (s : List ℕ) (o : Option ℕ) → closing 96 false 0 s ≡ o →
+    Sound b (96 ∷ s) (elim o as (λ _. Found) [ None ↦ found.Fault 6 0 | Some len ↦ found.Token Str (len + 2) 0 suffix.None ])
 raw_sound b s None f = unclosed b 96 s refl f
 raw_sound b s (Some n) f =
     let c = closing_found 96 false 0 s n f in
     let len : n ≡ length c.content = omega (arith, c.len) in
     let text = raw_text_is c.content in
-    lit_stands b 96 Str s c.content c.rest n 0 suffix.None refl refl c.split len nothing_small
-    (refl, refl, inr (record { spelled_by = ap (λ l. 96 ∷ (l ++ 96 ∷ [])) (sym text); each = ap (list_all (λ q. not (eqb q 96))) text ∙ holds_raw c.content c.inside }))
+    lit_stands b 96 Str s c.content c.rest n 0 suffix.None refl refl c.split len nothing_small (
+      refl,
+      refl,
+      inr (record {
+        spelled_by = ap (λ l. 96 ∷ (l ++ 96 ∷ [])) (sym text);
+        each = ap (list_all (λ q. not (eqb q 96))) text ∙
+            holds_raw c.content c.inside;
+      }),
+    )
     (λ j text i y v more g h k. raw_longest s text v more n f g (str_is j text i y v (raw_kind j k) h))
 
 -- ---- runes
@@ -211,7 +235,8 @@ rune_is Mark text m y v j h = absurd (cc)
 rune_is End text m y v j h = absurd h
 
 -- a closed rune stands at the front, or is a fault
-rune_at : (b : Bool) (s content rest : List ℕ) (n : ℕ) (o : Option ℕ) → closing 39 false 0 s ≡ Some n → s ≡ content ++ 39 ∷ rest → n ≡ length content → holds 39 false content ≡ true → one content ≡ o → Sound b (39 ∷ s) (rune_end n content o)
+rune_at : (b : Bool) (s content rest : List ℕ) (n : ℕ) (o : Option ℕ) → closing 39 false 0 s ≡ Some n → s ≡ content ++ 39 ∷ rest →
+    n ≡ length content → holds 39 false content ≡ true → one content ≡ o → Sound b (39 ∷ s) (rune_end n content o)
 rune_at b s content rest n None f e len inside unread =
     inr (inl (
       refl,
@@ -231,13 +256,16 @@ rune_at b s content rest n (Some v) f e len inside read =
     let is = one_some content v read inside in
     lit_stands b 39 RuneLit s content rest n v suffix.None refl refl e len (one_small content v is)
     (refl, refl, record { content = content; one = is; spelled_by = refl })
-    (λ j text i y w more g h k. let r = rune_is j text i y w (rune_kind j k) h in lit_longest 39 s r.content w more n f g r.spelled_by (one_holds r.content i r.one))
+    (λ j text i y w more g h k. let r = rune_is j text i y w (rune_kind j k) h in lit_longest 39 s r.content w more n f g r.spelled_by
+    (one_holds r.content i r.one))
 
 -- what is found at a single quote is right
-pub rune_sound : (b : Bool) (s : List ℕ) (o : Option ℕ) → closing 39 false 0 s ≡ o → Sound b (39 ∷ s) (elim o as (λ _. Found) [ None ↦ found.Fault 6 0 | Some len ↦ rune_end len (take len s) (one (take len s)) ])
+pub rune_sound : (b : Bool) (s : List ℕ) (o : Option ℕ) → closing 39 false 0 s ≡ o →
+    Sound b (39 ∷ s) (elim o as (λ _. Found) [ None ↦ found.Fault 6 0 | Some len ↦ rune_end len (take len s) (one (take len s)) ])
 rune_sound b s None f = unclosed b 39 s refl f
 rune_sound b s (Some n) f =
     let c = closing_found 39 false 0 s n f in
     let len : n ≡ length c.content = omega (arith, c.len) in
     let same : take n s ≡ c.content = ap (λ k. take k s) len ∙ lit_take 39 c.content c.rest s c.split in
-    subst (λ (l : List ℕ). Sound b (39 ∷ s) (rune_end n l (one l))) (sym same) (rune_at b s c.content c.rest n _ f c.split len c.inside refl)
+    subst (λ (l : List ℕ). Sound b (39 ∷ s) (rune_end n l (one l))) (sym same)
+    (rune_at b s c.content c.rest n _ f c.split len c.inside refl)

@@ -16,7 +16,8 @@ use Rattle.hare_lex.proofs.Standing.{Sound, first_same, kind_first, not_left_out
 
 -- the byte begins no word, number, literal, and is not `@`
 abbrev pub NoOther : ℕ → Type 0
-NoOther c = (is_letter c ≡ false) × (is_ascii_digit c ≡ false) × (eqb c 34 ≡ false) × (eqb c 96 ≡ false) × (eqb c 39 ≡ false) × (eqb c 64 ≡ false)
+NoOther c = (is_letter c ≡ false) × (is_ascii_digit c ≡ false) × (eqb c 34 ≡ false) × (eqb c 96 ≡ false) × (eqb c 39 ≡ false) ×
+    (eqb c 64 ≡ false)
 
 -- a byte that begins no other kind of token begins a mark
 pub no_other_kind : (k : TokenKind) (c : ℕ) → NoOther c → is_first k c ≡ true → k ≡ Mark
@@ -29,8 +30,10 @@ no_other_kind Mark c h f = refl
 no_other_kind End c h f = absurd (cc)
 
 -- no mark at the front is longer than the longest that is found
-pub mark_longest : (j : TokenKind) (text : List ℕ) (m : ℕ) (y : Suffix) (s v more : List ℕ) → j ≡ Mark → s ≡ v ++ more → IsSpellingOf j text m y v → length v ≤ longest marks s
-mark_longest Mark text m y s v more j e h = subst (λ q. length v ≤ longest marks q) (sym e) (longest_most marks v more (mark_short v h.3) h.3)
+pub mark_longest : (j : TokenKind) (text : List ℕ) (m : ℕ) (y : Suffix) (s v more : List ℕ) → j ≡ Mark → s ≡ v ++ more →
+    IsSpellingOf j text m y v → length v ≤ longest marks s
+mark_longest Mark text m y s v more j e h = subst (λ q. length v ≤ longest marks q) (sym e)
+    (longest_most marks v more (mark_short v h.3) h.3)
 mark_longest Name text m y s v more j e h = absurd (cc)
 mark_longest Keyword text m y s v more j e h = absurd (cc)
 mark_longest Number text m y s v more j e h = absurd (cc)
@@ -39,7 +42,8 @@ mark_longest RuneLit text m y s v more j e h = absurd (cc)
 mark_longest End text m y s v more j e h = absurd h
 
 -- the spelling of a mark stands in the list
-pub mark_listed : (j : TokenKind) (text : List ℕ) (m : ℕ) (y : Suffix) (v : List ℕ) → j ≡ Mark → IsSpellingOf j text m y v → is_listed marks v ≡ true
+pub mark_listed : (j : TokenKind) (text : List ℕ) (m : ℕ) (y : Suffix) (v : List ℕ) → j ≡ Mark → IsSpellingOf j text m y v →
+    is_listed marks v ≡ true
 mark_listed Mark text m y v j h = h.3
 mark_listed Name text m y v j h = absurd (cc)
 mark_listed Keyword text m y v j h = absurd (cc)
@@ -57,7 +61,8 @@ pub is_some : (n : ℕ) → eqb n 0 ≡ false → 0 < n
 is_some n h = grind (arith, nat_tests)
 
 -- the longest mark stands at the front, and where there is none the byte begins no token
-mark_at : (b : Bool) (s : List ℕ) (n : ℕ) (q : Bool) → eqb n 0 ≡ q → longest marks s ≡ n → 0 < length s → NoOther (get_or s 0 0) → n ≤ length s → Sound b s (cond q (found.Fault 4 0) (found.Token Mark n 0 suffix.None))
+mark_at : (b : Bool) (s : List ℕ) (n : ℕ) (q : Bool) → eqb n 0 ≡ q → longest marks s ≡ n → 0 < length s → NoOther (get_or s 0 0) →
+    n ≤ length s → Sound b s (cond q (found.Fault 4 0) (found.Token Mark n 0 suffix.None))
 mark_at b [] n q j e z h w = absurd (omega arith)
 mark_at b (c ∷ s) n true j e z h w =
     inl (
@@ -68,8 +73,10 @@ mark_at b (c ∷ s) n true j e z h w =
         rest = s;
         text_is = refl;
         none = λ t v k.
-            let first : is_first t.kind c ≡ true = kind_first t.kind t.text t.number t.suffix (c ∷ v) (c ∷ v) [] (sym (append-nil (c ∷ v))) k in
-            let listed : is_listed marks (c ∷ []) ≡ true = mark_of_first (c ∷ v) (mark_listed t.kind t.text t.number t.suffix (c ∷ v) (no_other_kind t.kind c h first) k) in
+            let first : is_first t.kind c ≡ true =
+            kind_first t.kind t.text t.number t.suffix (c ∷ v) (c ∷ v) [] (sym (append-nil (c ∷ v))) k in
+            let listed : is_listed marks (c ∷ []) ≡ true =
+            mark_of_first (c ∷ v) (mark_listed t.kind t.text t.number t.suffix (c ∷ v) (no_other_kind t.kind c h first) k) in
             let most : 1 ≤ longest marks (c ∷ s) = longest_most marks (c ∷ []) s (omega arith) listed in
             omega (arith, most, e, is_zero n j);
         not_at = h.5;
@@ -80,7 +87,9 @@ mark_at b (c ∷ s) n false j e z h w =
     let l : 0 < longest marks t = omega (arith, e, is_some n j) in
     let len = len_front n t w in
     let listed : is_listed marks (take n t) ≡ true = subst (λ q. is_listed marks (take q t) ≡ true) e (longest_listed marks t l) in
-    let letter : is_letter (get_or (take n t) 0 0) ≡ false = subst (λ q. is_letter q ≡ false) (sym (first_same t (take n t) (drop n t) (sym (take-append-drop n t)) (omega (arith, len, l, e)))) h.0 in
+    let letter : is_letter (get_or (take n t) 0 0) ≡ false =
+    subst (λ q. is_letter q ≡ false) (sym (first_same t (take n t) (drop n t) (sym (take-append-drop n t)) (omega (arith, len, l, e))))
+    h.0 in
     standing b Mark t (take n t) (drop n t) 0 suffix.None n (sym (take-append-drop n t)) len
     (λ p. fits_by Mark p t (take n t) (drop n t) 0 suffix.None (sym (take-append-drop n t)) (refl, refl, refl, listed)
     (λ j text m y v more i k f. let most = mark_longest j text m y t v more (no_other_kind j c h f) i k in omega (arith, most, e, len)))

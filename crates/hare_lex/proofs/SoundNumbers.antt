@@ -28,7 +28,8 @@ digit_kind Mark c h f = let a = (digit_not c h).3 in absurd (cc)
 digit_kind End c h f = absurd (cc)
 
 -- no number at the front is longer than the one that is found
-pub number_longest : (j : TokenKind) (text : List ℕ) (m : ℕ) (y : Suffix) (s v more : List ℕ) → j ≡ Number → s ≡ v ++ more → IsSpellingOf j text m y v → length v ≤ (number_at s).len
+pub number_longest : (j : TokenKind) (text : List ℕ) (m : ℕ) (y : Suffix) (s v more : List ℕ) → j ≡ Number → s ≡ v ++ more →
+    IsSpellingOf j text m y v → length v ≤ (number_at s).len
 number_longest Number text m y s v more j e h = number_most s m y v more e h.1
 number_longest Name text m y s v more j e h = absurd (cc)
 number_longest Keyword text m y s v more j e h = absurd (cc)
@@ -46,12 +47,14 @@ abbrev pub number_of : List ℕ → ℕ
 number_of s = digits_value (radix_of s) (digits_at s)
 
 -- the number at the front fits
-number_fits : (p : Place) (s : List ℕ) → is_ascii_digit (get_or s 0 0) ≡ true → (number_at s).len ≤ length s → Fits (token_at Number p (number_word s) (number_of s) (number_at s).suffix) (number_word s) (drop (number_at s).len s)
+number_fits : (p : Place) (s : List ℕ) → is_ascii_digit (get_or s 0 0) ≡ true → (number_at s).len ≤ length s →
+    Fits (token_at Number p (number_word s) (number_of s) (number_at s).suffix) (number_word s) (drop (number_at s).len s)
 number_fits p s h w =
     let n = (number_at s).len in
     let len = len_front n s w in
     fits_by Number p s (number_word s) (drop n s) (number_of s) (number_at s).suffix (sym (take-append-drop n s)) (refl, number_sound s h)
-    (λ j text m y v more e k f. let most = number_longest j text m y s v more (digit_kind j (get_or s 0 0) h f) e k in omega (arith, most, len))
+    (λ j text m y v more e k f. let most = number_longest j text m y s v more (digit_kind j (get_or s 0 0) h f) e k in omega
+    (arith, most, len))
 
 -- the number at a digit has at least one byte
 pub number_some : (s : List ℕ) → is_ascii_digit (get_or s 0 0) ≡ true → 0 < (number_at s).len
@@ -73,7 +76,13 @@ pub value_great : (w : ℕ) → cond (ltb w (2 ^ 127)) (Some w) None ≡ None �
 value_great w h = grind (arith, nat_tests)
 
 -- the number is too great, begins a fraction, or stands at the front
-number_front_at : (b : Bool) (s : List ℕ) (o : Option ℕ) (t : Bool) → (number_at s).value ≡ o → begins_fraction s ≡ t → is_ascii_digit (get_or s 0 0) ≡ true → (number_at s).len ≤ length s → Sound b s (elim o as (λ _. Found) [ None ↦ found.Fault 7 0 | Some v ↦ cond t (found.Fault 10 0) (found.Token Number (number_at s).len v (number_at s).suffix) ])
+number_front_at : (b : Bool) (s : List ℕ) (o : Option ℕ) (t : Bool) → (number_at s).value ≡ o → begins_fraction s ≡ t →
+    is_ascii_digit (get_or s 0 0) ≡ true → (number_at s).len ≤ length s →
+    Sound b s (elim o as (λ _. Found) [
+      | None ↦ found.Fault 7 0
+      | Some v ↦ cond t (found.Fault 10 0)
+          (found.Token Number (number_at s).len v (number_at s).suffix)
+    ])
 number_front_at b s None t e f h w =
     let n = (number_at s).len in
     let great = value_great (number_of s) (sym (number_value s) ∙ e) in
@@ -108,11 +117,16 @@ number_front_at b s (Some v) true e f h w =
 number_front_at b s (Some v) false e f h w =
     let n = (number_at s).len in
     let value = value_is (number_of s) v (sym (number_value s) ∙ e) in
-    let letter : is_letter (get_or (number_word s) 0 0) ≡ false = subst (λ q. is_letter q ≡ false) (sym (first_same s (number_word s) (drop n s) (sym (take-append-drop n s)) (omega (arith, len_front n s w, number_some s h)))) (digit_not (get_or s 0 0) h).0 in
+    let letter : is_letter (get_or (number_word s) 0 0) ≡ false =
+    subst (λ q. is_letter q ≡ false) (sym
+    (first_same s (number_word s) (drop n s) (sym (take-append-drop n s)) (omega (arith, len_front n s w, number_some s h))))
+    (digit_not (get_or s 0 0) h).0 in
     standing b Number s (number_word s) (drop n s) v (number_at s).suffix n (sym (take-append-drop n s)) (len_front n s w)
-    (λ p. subst (λ q. Fits (token_at Number p (number_word s) q (number_at s).suffix) (number_word s) (drop n s)) value.0 (number_fits p s h w))
+    (λ p. subst (λ q. Fits (token_at Number p (number_word s) q (number_at s).suffix) (number_word s) (drop n s)) value.0
+    (number_fits p s h w))
     (not_left_out b (number_word s) letter) (omega (arith, value.0, value.1)) f
 
 -- what is found at a digit is right
-pub number_sounds : (b : Bool) (s : List ℕ) → is_ascii_digit (get_or s 0 0) ≡ true → (number_at s).len ≤ length s → Sound b s (number_front s)
+pub number_sounds : (b : Bool) (s : List ℕ) → is_ascii_digit (get_or s 0 0) ≡ true → (number_at s).len ≤ length s →
+    Sound b s (number_front s)
 number_sounds b s h w = number_front_at b s _ _ refl refl h w

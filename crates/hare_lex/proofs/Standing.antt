@@ -40,18 +40,31 @@ first_same s [] more e h = absurd (omega arith)
 first_same s (c ∷ w) more e h = sym (ap (λ (l : List ℕ). get_or l 0 0) e)
 
 -- what begins the text begins whatever token fits there
-pub kind_first : (k : TokenKind) (text : List ℕ) (n : ℕ) (x : Suffix) (s w more : List ℕ) → s ≡ w ++ more → IsSpellingOf k text n x w → is_first k (get_or s 0 0) ≡ true
+pub kind_first : (k : TokenKind) (text : List ℕ) (n : ℕ) (x : Suffix) (s w more : List ℕ) → s ≡ w ++ more → IsSpellingOf k text n x w →
+    is_first k (get_or s 0 0) ≡ true
 kind_first k text n x s w more e h =
     let f = first_of_kind k text n x w h in
     subst (λ c. is_first k c ≡ true) (first_same s w more e f.0) f.1
 
 -- a letter begins no number, literal or mark
-pub letter_not : (c : ℕ) → is_letter c ≡ true → (is_ascii_digit c ≡ false) × ((eqb c 34 || eqb c 96) ≡ false) × (eqb c 39 ≡ false) × (is_other c ≡ false)
-letter_not c h = (grind (arith, nat_tests, common_steps), (grind (arith, nat_tests, common_steps)), (grind (arith, nat_tests, common_steps)), (grind (arith, nat_tests, common_steps)))
+pub letter_not : (c : ℕ) → is_letter c ≡ true → (is_ascii_digit c ≡ false) × ((eqb c 34 || eqb c 96) ≡ false) × (eqb c 39 ≡ false) ×
+    (is_other c ≡ false)
+letter_not c h = (
+  grind (arith, nat_tests, common_steps),
+  (grind (arith, nat_tests, common_steps)),
+  (grind (arith, nat_tests, common_steps)),
+  (grind (arith, nat_tests, common_steps)),
+)
 
 -- a digit begins no word, literal or mark
-pub digit_not : (c : ℕ) → is_ascii_digit c ≡ true → (is_letter c ≡ false) × ((eqb c 34 || eqb c 96) ≡ false) × (eqb c 39 ≡ false) × (is_other c ≡ false)
-digit_not c h = (grind (arith, nat_tests, common_steps), (grind (arith, nat_tests, common_steps)), (grind (arith, nat_tests, common_steps)), (grind (arith, nat_tests, common_steps)))
+pub digit_not : (c : ℕ) → is_ascii_digit c ≡ true → (is_letter c ≡ false) × ((eqb c 34 || eqb c 96) ≡ false) × (eqb c 39 ≡ false) ×
+    (is_other c ≡ false)
+digit_not c h = (
+  grind (arith, nat_tests, common_steps),
+  (grind (arith, nat_tests, common_steps)),
+  (grind (arith, nat_tests, common_steps)),
+  (grind (arith, nat_tests, common_steps)),
+)
 
 -- a left-out word is a word
 pub left_out_is_word : (w : List ℕ) → is_listed left_out w ≡ true → is_word w ≡ true
@@ -75,7 +88,9 @@ pub no_fraction : (s : List ℕ) → is_ascii_digit (get_or s 0 0) ≡ false →
 no_fraction s h = rw h refl
 
 -- a token that fits and has no fault of its own stands at the front
-pub standing : (b : Bool) (k : TokenKind) (s w rest : List ℕ) (n : ℕ) (x : Suffix) (len : ℕ) → s ≡ w ++ rest → length w ≡ len → ((p : Place) → Fits (token_at k p w n x) w rest) → is_left_out b w ≡ false → n < 2 ^ 127 → begins_fraction s ≡ false → Standing b s k len n x
+pub standing : (b : Bool) (k : TokenKind) (s w rest : List ℕ) (n : ℕ) (x : Suffix) (len : ℕ) → s ≡ w ++ rest → length w ≡ len →
+    ((p : Place) → Fits (token_at k p w n x) w rest) → is_left_out b w ≡ false → n < 2 ^ 127 → begins_fraction s ≡ false →
+    Standing b s k len n x
 standing b k s w rest n x len e l fits kept small whole = record {
   word = w;
   rest = rest;
@@ -85,7 +100,9 @@ standing b k s w rest n x len e l fits kept small whole = record {
 }
 
 -- a spelling fits where all that begins with the same byte is no longer
-pub fits_by : (k : TokenKind) (p : Place) (s w rest : List ℕ) (n : ℕ) (x : Suffix) → s ≡ w ++ rest → IsSpellingOf k (text_of k w) n x w → ((j : TokenKind) (text : List ℕ) (m : ℕ) (y : Suffix) (v more : List ℕ) → s ≡ v ++ more → IsSpellingOf j text m y v → is_first j (get_or s 0 0) ≡ true → length v ≤ length w) → Fits (token_at k p w n x) w rest
+pub fits_by : (k : TokenKind) (p : Place) (s w rest : List ℕ) (n : ℕ) (x : Suffix) → s ≡ w ++ rest → IsSpellingOf k (text_of k w) n x w →
+    ((j : TokenKind) (text : List ℕ) (m : ℕ) (y : Suffix) (v more : List ℕ) → s ≡ v ++ more → IsSpellingOf j text m y v →
+    is_first j (get_or s 0 0) ≡ true → length v ≤ length w) → Fits (token_at k p w n x) w rest
 fits_by k p s w rest n x e spells longest = record {
   spells = spells;
   longest = λ u v more j h.

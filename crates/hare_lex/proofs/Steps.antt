@@ -16,18 +16,23 @@ if_none : (x : ℕ) → None ≡ cond (ltb x (2 ^ 127)) (Some x) None → 2 ^ 12
 if_none x h = grind (arith, nat_tests)
 
 -- one more digit
-pub value_step : (r : ℕ) (ds : List ℕ) (i v w : ℕ) → i < length ds → v ≡ digits_value r (take i ds) → Some w ≡ cond (ltb (v * r + digit_value (get_or ds i 0)) (2 ^ 127)) (Some (v * r + digit_value (get_or ds i 0))) None → (w ≡ digits_value r (take (i + 1) ds)) × (w < 2 ^ 127)
+pub value_step : (r : ℕ) (ds : List ℕ) (i v w : ℕ) → i < length ds → v ≡ digits_value r (take i ds) →
+    Some w ≡ cond (ltb (v * r + digit_value (get_or ds i 0)) (2 ^ 127)) (Some (v * r + digit_value (get_or ds i 0))) None →
+    (w ≡ digits_value r (take (i + 1) ds)) × (w < 2 ^ 127)
 value_step r ds i v w h e k =
     let p = if_some _ w k in
     let more = digits_value_more r ds i h in
     (p.0 ∙ ap (λ x. x * r + digit_value (get_or ds i 0)) e ∙ sym more, omega (arith, p.0, p.1))
 
 -- a front of the digits is too great
-pub value_stop : (r : ℕ) (ds : List ℕ) (i v : ℕ) → 1 ≤ r → i < length ds → v ≡ digits_value r (take i ds) → None ≡ cond (ltb (v * r + digit_value (get_or ds i 0)) (2 ^ 127)) (Some (v * r + digit_value (get_or ds i 0))) None → None ≡ value_of r ds
+pub value_stop : (r : ℕ) (ds : List ℕ) (i v : ℕ) → 1 ≤ r → i < length ds → v ≡ digits_value r (take i ds) →
+    None ≡ cond (ltb (v * r + digit_value (get_or ds i 0)) (2 ^ 127)) (Some (v * r + digit_value (get_or ds i 0))) None →
+    None ≡ value_of r ds
 value_stop r ds i v one h e k =
     let p = if_none _ k in
     let more = digits_value_more r ds i h in
-    let same : v * r + digit_value (get_or ds i 0) ≡ digits_value r (take (i + 1) ds) = ap (λ x. x * r + digit_value (get_or ds i 0)) e ∙ sym more in
+    let same : v * r + digit_value (get_or ds i 0) ≡ digits_value r (take (i + 1) ds) =
+    ap (λ x. x * r + digit_value (get_or ds i 0)) e ∙ sym more in
     let upto = digits_value-take-le r ds (i + 1) one in
     let great : 2 ^ 127 ≤ digits_value r ds = omega (arith, p, same, upto) in
     none_of (digits_value r ds) great
@@ -49,10 +54,12 @@ unescaped_skip (suc n) (c ∷ s) = unescaped_skip n s
 pub bad_escape_at : (c : ℕ) (s : List ℕ) (v n : ℕ) → c ≡ 92 → escape s ≡ Some (v, n) → bad_escape 0 (c ∷ s) ≡ bad_escape 0 (drop n s)
 bad_escape_at c s v n e h = rw (e, h) (bad_escape_skip n s)
 
-pub unescaped_at : (c : ℕ) (s : List ℕ) (v n : ℕ) → escape_at c s ≡ Some (v, n) → unescaped 0 (c ∷ s) ≡ encode_utf8 v ++ unescaped 0 (drop n s)
+pub unescaped_at : (c : ℕ) (s : List ℕ) (v n : ℕ) → escape_at c s ≡ Some (v, n) →
+    unescaped 0 (c ∷ s) ≡ encode_utf8 v ++ unescaped 0 (drop n s)
 unescaped_at c s v n h = rw (unescaped, h) (ap (λ l. encode_utf8 v ++ l) (unescaped_skip n s))
 
-pub unescaped_more : (w w' t : List ℕ) (c : ℕ) (s : List ℕ) (v n : ℕ) → escape_at c s ≡ Some (v, n) → w' ≡ w ++ encode_utf8 v → w ++ unescaped 0 (c ∷ s) ≡ t → w' ++ unescaped 0 (drop n s) ≡ t
+pub unescaped_more : (w w' t : List ℕ) (c : ℕ) (s : List ℕ) (v n : ℕ) → escape_at c s ≡ Some (v, n) → w' ≡ w ++ encode_utf8 v →
+    w ++ unescaped 0 (c ∷ s) ≡ t → w' ++ unescaped 0 (drop n s) ≡ t
 unescaped_more w w' t c s v n h e k = rw (e, append_assoc w (encode_utf8 v) (unescaped 0 (drop n s)), ← unescaped_at c s v n h) k
 
 -- bytes that are not UTF-8 fail the test

@@ -43,7 +43,8 @@ pub unescaped_plain : (c : ℕ) (s : List ℕ) → eqb c 92 ≡ false → unesca
 unescaped_plain c s h = rw (unescaped, h) refl
 
 -- an escape is replaced by its character
-pub unescaped_escape : (c : ℕ) (s : List ℕ) (v n : ℕ) → eqb c 92 ≡ true → escape s ≡ Some (v, n) → unescaped 0 (c ∷ s) ≡ encode_utf8 v ++ unescaped n s
+pub unescaped_escape : (c : ℕ) (s : List ℕ) (v n : ℕ) → eqb c 92 ≡ true → escape s ≡ Some (v, n) →
+    unescaped 0 (c ∷ s) ≡ encode_utf8 v ++ unescaped n s
 unescaped_escape c s v n h e = rw (unescaped, h) (rw e refl)
 
 -- an escape at the front is a part
@@ -59,7 +60,12 @@ escape_part c s v n e h =
     let same : 92 ≡ c = sym (eq_of c 92 e) in
     let is : IsEscape (c ∷ take n s) v = subst (λ q. IsEscape (q ∷ take n s) v) same r.is in
     let split : c ∷ s ≡ (c ∷ take n s) ++ drop n s = ap (λ l. c ∷ l) (sym (take-append-drop n s)) in
-    record { part = inr (v, is, refl); split = split; closed = ap (holds 34 false) split ∙ escape_holds 34 (c ∷ take n s) (drop n s) v (inl refl) is }
+    record {
+      part = inr (v, is, refl);
+      split = split;
+      closed = ap (holds 34 false) split ∙ escape_holds 34 (c ∷ take n s) (drop n s) v
+          (inl refl) is;
+    }
 
 -- no wrong escape begins at a byte other than the backslash
 pub bad_plain : (c : ℕ) (s : List ℕ) → eqb c 92 ≡ false → bad_escape 0 (c ∷ s) ≡ bad_escape 0 s
@@ -89,14 +95,18 @@ plain_part c s e k =
     (inl (c, refl, refl, not_true (eqb c 34) (and_left _ _ k2), e), and_right _ _ k2)
 
 -- by the first byte: where no escape is wrong the text is all parts
-good_at : (c : ℕ) (s : List ℕ) (b : Bool) (o : Option (ℕ × ℕ)) → eqb c 92 ≡ b → escape s ≡ o → bad_escape 0 (c ∷ s) ≡ None → holds 34 false (c ∷ s) ≡ true → ((n : ℕ) → bad_escape n s ≡ None → holds 34 false (drop n s) ≡ true → Parts (drop n s) (unescaped n s)) → Parts (c ∷ s) (unescaped 0 (c ∷ s))
+good_at : (c : ℕ) (s : List ℕ) (b : Bool) (o : Option (ℕ × ℕ)) → eqb c 92 ≡ b → escape s ≡ o → bad_escape 0 (c ∷ s) ≡ None →
+    holds 34 false (c ∷ s) ≡ true → ((n : ℕ) → bad_escape n s ≡ None → holds 34 false (drop n s) ≡ true →
+    Parts (drop n s) (unescaped n s)) → Parts (c ∷ s) (unescaped 0 (c ∷ s))
 good_at c s false o e f h k more =
     let p = plain_part c s e k in
-    one_more (c ∷ [], c ∷ []) (c ∷ s) s (unescaped 0 (c ∷ s)) (unescaped 0 s) p.0 refl (unescaped_plain c s e) (more 0 (sym (bad_plain c s e) ∙ h) p.1)
+    one_more (c ∷ [], c ∷ []) (c ∷ s) s (unescaped 0 (c ∷ s)) (unescaped 0 s) p.0 refl (unescaped_plain c s e)
+    (more 0 (sym (bad_plain c s e) ∙ h) p.1)
 good_at c s true None e f h k more = let both : None ≡ Some (suc (length s)) = sym h ∙ bad_here c s e f in absurd (cc)
 good_at c s true (Some r) e f h k more =
     let p = escape_part c s r.0 r.1 e f in
-    one_more (c ∷ take r.1 s, encode_utf8 r.0) (c ∷ s) (drop r.1 s) (unescaped 0 (c ∷ s)) (unescaped r.1 s) p.part p.split (unescaped_escape c s r.0 r.1 e f) (more r.1 (sym (bad_behind c s r.0 r.1 e f) ∙ h) (sym p.closed ∙ k))
+    one_more (c ∷ take r.1 s, encode_utf8 r.0) (c ∷ s) (drop r.1 s) (unescaped 0 (c ∷ s)) (unescaped r.1 s) p.part p.split
+    (unescaped_escape c s r.0 r.1 e f) (more r.1 (sym (bad_behind c s r.0 r.1 e f) ∙ h) (sym p.closed ∙ k))
 
 -- where no escape is bad the text is all parts
 pub good_parts : (n : ℕ) (s : List ℕ) → bad_escape n s ≡ None → holds 34 false (drop n s) ≡ true → Parts (drop n s) (unescaped n s)
@@ -128,7 +138,9 @@ one_before p s t left h e r = record {
 }
 
 -- by the first byte: the text is parts up to its wrong escape
-bad_at : (c : ℕ) (s : List ℕ) (left : ℕ) (b : Bool) (o : Option (ℕ × ℕ)) → eqb c 92 ≡ b → escape s ≡ o → bad_escape 0 (c ∷ s) ≡ Some left → holds 34 false (c ∷ s) ≡ true → ((n : ℕ) → bad_escape n s ≡ Some left → holds 34 false (drop n s) ≡ true → BadParts (drop n s) left) → BadParts (c ∷ s) left
+bad_at : (c : ℕ) (s : List ℕ) (left : ℕ) (b : Bool) (o : Option (ℕ × ℕ)) → eqb c 92 ≡ b → escape s ≡ o → bad_escape 0 (c ∷ s) ≡ Some left →
+    holds 34 false (c ∷ s) ≡ true → ((n : ℕ) → bad_escape n s ≡ Some left → holds 34 false (drop n s) ≡ true → BadParts (drop n s) left) →
+    BadParts (c ∷ s) left
 bad_at c s left false o e f h k more =
     let p = plain_part c s e k in
     one_before (c ∷ [], c ∷ []) (c ∷ s) s left p.0 refl (more 0 (sym (bad_plain c s e) ∙ h) p.1)
@@ -138,7 +150,8 @@ bad_at c s left true None e f h k more =
     record { parts = []; each = tt; bad = s; split = ap (λ q. q ∷ s) (eq_of c 92 e); left_is = sym same; none = f }
 bad_at c s left true (Some r) e f h k more =
     let p = escape_part c s r.0 r.1 e f in
-    one_before (c ∷ take r.1 s, encode_utf8 r.0) (c ∷ s) (drop r.1 s) left p.part p.split (more r.1 (sym (bad_behind c s r.0 r.1 e f) ∙ h) (sym p.closed ∙ k))
+    one_before (c ∷ take r.1 s, encode_utf8 r.0) (c ∷ s) (drop r.1 s) left p.part p.split
+    (more r.1 (sym (bad_behind c s r.0 r.1 e f) ∙ h) (sym p.closed ∙ k))
 
 -- where an escape is wrong the text is parts up to it
 pub bad_parts : (n : ℕ) (s : List ℕ) (left : ℕ) → bad_escape n s ≡ Some left → holds 34 false (drop n s) ≡ true → BadParts (drop n s) left

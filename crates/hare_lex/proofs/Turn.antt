@@ -20,9 +20,12 @@ path_mark_text RuneLit s = refl
 path_mark_text Mark s = refl
 path_mark_text End s = refl
 
-pub token_read : (file : ℕ) (src : List ℕ) (tokens : List Token) (p at : Place) (b : Bool) (rest blank text : List ℕ) (parts : List (List ℕ)) (k : TokenKind) (len n : ℕ) (x : Suffix) (spelling behind : List ℕ) (token : Token) (new : List Token) (q : Place) (m : Bool)
+pub token_read : (file : ℕ) (src : List ℕ) (tokens : List Token) (p at : Place) (b : Bool) (rest blank text : List ℕ)
+    (parts : List (List ℕ)) (k : TokenKind) (len n : ℕ) (x : Suffix) (spelling behind : List ℕ) (token : Token) (new : List Token)
+    (q : Place) (m : Bool)
     → Reached file src tokens p b rest → Gap parts rest text → rest ≡ blank ++ text → at ≡ advanced p blank → Standing b text k len n x
-    → spelling ≡ take len text → behind ≡ drop len text → token ≡ token_at k at spelling n x → new ≡ tokens ++ token ∷ [] → q ≡ advanced at spelling → m ≡ is_path_mark k spelling
+    → spelling ≡ take len text → behind ≡ drop len text → token ≡ token_at k at spelling n x → new ≡ tokens ++ token ∷ [] →
+    q ≡ advanced at spelling → m ≡ is_path_mark k spelling
     → Reached file src new q m behind
 token_read file src tokens p at b rest blank text parts k len n x spelling behind token new q m r g e a st s d t w z i =
     let word : spelling ≡ st.word = s ∙ ap (λ y. take y text) (sym st.len_is) ∙ front_is text st.word st.rest st.split in
@@ -31,7 +34,8 @@ token_read file src tokens p at b rest blank text parts k len n x spelling behin
     let same : token ≡ one = t ∙ ap (λ y. token_at k at y n x) word in
     let path : m ≡ is_path_mark k (text_of k st.word) = i ∙ ap (is_path_mark k) word ∙ sym (path_mark_text k st.word) in
     let reached : Reached file src (tokens ++ one ∷ []) q (is_path_mark k (text_of k st.word)) st.rest =
-    reached_more file src tokens p at q b rest blank text st.word st.rest parts one r g e a refl st.split (st.stands at) (z ∙ ap (advanced at) word) in
+    reached_more file src tokens p at q b rest blank text st.word st.rest parts one r g e a refl st.split (st.stands at)
+    (z ∙ ap (advanced at) word) in
     subst (λ l. Reached file src l q m behind) (sym (w ∙ ap (λ y. tokens ++ y ∷ []) same))
     (subst (λ c. Reached file src (tokens ++ one ∷ []) q c behind) (sym path)
     (subst (λ y. Reached file src (tokens ++ one ∷ []) q (is_path_mark k (text_of k st.word)) y) (sym more) reached))

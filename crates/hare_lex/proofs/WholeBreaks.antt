@@ -37,7 +37,9 @@ escape_unread bad h = by_read (escape bad) refl
   where
     by_read : (o : Option (ℕ × ℕ)) → escape bad ≡ o → o ≡ None
     by_read None e = refl
-    by_read (Some r) e = let is = escape_read bad r.0 r.1 e in absurd (h (92 ∷ take r.1 bad) (drop r.1 bad) r.0 (ap (λ l. 92 ∷ l) (sym (take-append-drop r.1 bad))) is.is)
+    by_read (Some r) e =
+        let is = escape_read bad r.0 r.1 e in absurd
+        (h (92 ∷ take r.1 bad) (drop r.1 bad) r.0 (ap (λ l. 92 ∷ l) (sym (take-append-drop r.1 bad))) is.is)
 
 -- the first wrong escape of a string is found
 bad_escape_front : (b : Bool) (text : List ℕ) (o : ℕ) → BadEscape text o → at_front b text ≡ found.Fault 5 o
@@ -45,10 +47,12 @@ bad_escape_front b text o h =
     let ps = spelled h.parts in
     let behind = h.content ++ 34 ∷ h.rest in
     let unread = escape_unread h.bad h.none in
-    let bad : bad_escape 0 h.content ≡ Some (suc (length h.bad)) = ap (bad_escape 0) h.content_is ∙ parts_bad h.parts (92 ∷ h.bad) h.good ∙ bad_here 92 h.bad refl unread in
+    let bad : bad_escape 0 h.content ≡ Some (suc (length h.bad)) =
+    ap (bad_escape 0) h.content_is ∙ parts_bad h.parts (92 ∷ h.bad) h.good ∙ bad_here 92 h.bad refl unread in
     let total = ap length h.content_is ∙ length-append ps (92 ∷ h.bad) in
     let offset : 1 + (length h.content - suc (length h.bad)) ≡ o = omega (arith, total, h.offset_is) in
-    ap (at_front b) h.text_is ∙ front_string b behind ∙ string_found behind h.content h.rest refl h.closes ∙ ap (string_end (length h.content)) bad ∙ ap (found.Fault 5) offset
+    ap (at_front b) h.text_is ∙ front_string b behind ∙ string_found behind h.content h.rest refl h.closes ∙ ap
+    (string_end (length h.content)) bad ∙ ap (found.Fault 5) offset
 
 -- where neither one character nor one escape stands none is read
 one_unread : (content : List ℕ) → holds 39 false content ≡ true → ((v : ℕ) → IsOne content v → ⊥) → one content ≡ None
@@ -63,26 +67,31 @@ bad_rune_front : (b : Bool) (text : List ℕ) (o : ℕ) → BadRune text o → a
 bad_rune_front b text o h =
     let behind = h.content ++ 39 ∷ h.rest in
     let unread = one_unread h.content h.closes h.not_one in
-    ap (at_front b) h.text_is ∙ front_rune b behind ∙ rune_found behind h.content h.rest refl h.closes ∙ ap (rune_end (length h.content) h.content) unread ∙ ap (found.Fault 5) (sym h.offset_is)
+    ap (at_front b) h.text_is ∙ front_rune b behind ∙ rune_found behind h.content h.rest refl h.closes ∙ ap
+    (rune_end (length h.content) h.content) unread ∙ ap (found.Fault 5) (sym h.offset_is)
 
 -- a byte that tests as another is that byte
 byte_is : (c k : ℕ) → eqb c k ≡ true → c ≡ k
 byte_is c k h = grind (arith, nat_tests)
 
 -- by its quote: an open literal is found to be a fault
-unclosed_at : (b : Bool) (q : ℕ) (s : List ℕ) (a d : Bool) → eqb q 34 ≡ a → eqb q 39 ≡ d → is_quote q ≡ true → closing q false 0 s ≡ None → at_front b (q ∷ s) ≡ found.Fault 6 0
+unclosed_at : (b : Bool) (q : ℕ) (s : List ℕ) (a d : Bool) → eqb q 34 ≡ a → eqb q 39 ≡ d → is_quote q ≡ true → closing q false 0 s ≡ None →
+    at_front b (q ∷ s) ≡ found.Fault 6 0
 unclosed_at b q s true d e f h k =
     let same = byte_is q 34 e in
     let none : closing 34 false 0 s ≡ None = subst (λ y. closing y false 0 s ≡ None) same k in
-    ap (λ y. at_front b (y ∷ s)) same ∙ front_string b s ∙ ap (λ o. elim o as (λ _. Found) [ None ↦ found.Fault 6 0 | Some n ↦ string_end n (bad_escape 0 (take n s)) ]) none
+    ap (λ y. at_front b (y ∷ s)) same ∙ front_string b s ∙ ap
+    (λ o. elim o as (λ _. Found) [ None ↦ found.Fault 6 0 | Some n ↦ string_end n (bad_escape 0 (take n s)) ]) none
 unclosed_at b q s false true e f h k =
     let same = byte_is q 39 f in
     let none : closing 39 false 0 s ≡ None = subst (λ y. closing y false 0 s ≡ None) same k in
-    ap (λ y. at_front b (y ∷ s)) same ∙ front_rune b s ∙ ap (λ o. elim o as (λ _. Found) [ None ↦ found.Fault 6 0 | Some n ↦ rune_end n (take n s) (one (take n s)) ]) none
+    ap (λ y. at_front b (y ∷ s)) same ∙ front_rune b s ∙ ap
+    (λ o. elim o as (λ _. Found) [ None ↦ found.Fault 6 0 | Some n ↦ rune_end n (take n s) (one (take n s)) ]) none
 unclosed_at b q s false false e f h k =
     let same = byte_is q 96 (third (eqb q 34) (eqb q 39) (eqb q 96) e f h) in
     let none : closing 96 false 0 s ≡ None = subst (λ y. closing y false 0 s ≡ None) same k in
-    ap (λ y. at_front b (y ∷ s)) same ∙ front_raw b s ∙ ap (λ o. elim o as (λ _. Found) [ None ↦ found.Fault 6 0 | Some n ↦ found.Token Str (n + 2) 0 suffix.None ]) none
+    ap (λ y. at_front b (y ∷ s)) same ∙ front_raw b s ∙ ap
+    (λ o. elim o as (λ _. Found) [ None ↦ found.Fault 6 0 | Some n ↦ found.Token Str (n + 2) 0 suffix.None ]) none
   where
     third : (a b c : Bool) → a ≡ false → b ≡ false → (a || b || c) ≡ true → c ≡ true
     third true b c e f h = absurd (cc)
@@ -91,7 +100,8 @@ unclosed_at b q s false false e f h k =
 
 -- a quote without its closing one is found to be a fault
 unclosed_front : (b : Bool) (text : List ℕ) → Unclosed text → at_front b text ≡ found.Fault 6 0
-unclosed_front b text h = ap (at_front b) h.text_is ∙ unclosed_at b h.quote h.behind _ _ refl refl h.quotes (open_none h.quote h.behind h.open_on)
+unclosed_front b text h = ap (at_front b) h.text_is ∙ unclosed_at b h.quote h.behind _ _ refl refl h.quotes
+    (open_none h.quote h.behind h.open_on)
 
 -- ---- words and numbers
 
@@ -99,11 +109,14 @@ unclosed_front b text h = ap (at_front b) h.text_is ∙ unclosed_at b h.quote h.
 left_out_front : (b : Bool) (text : List ℕ) → LeftOutWord b text → at_front b text ≡ found.Fault 10 0
 left_out_front b text h =
     let word = left_out_is_word h.word (and_left _ _ h.is_out) in
-    let first = first_same text h.word h.rest h.text_is (first_of_kind h.token.kind h.token.text h.token.number h.token.suffix h.word h.fits.spells).0 in
+    let first = first_same text h.word h.rest h.text_is
+    (first_of_kind h.token.kind h.token.text h.token.number h.token.suffix h.word h.fits.spells).0 in
     let letter : is_letter (get_or text 0 0) ≡ true = subst (λ c. is_letter c ≡ true) first (word_letter h.word word) in
     let same = word_same h.token h.word h.rest text h.text_is h.fits letter in
     let out : is_left_out b (word_of text) ≡ true = ap (is_left_out b) same ∙ h.is_out in
-    front_letter b text letter ∙ ap (λ q. cond q (found.Fault 10 0) (cond (is_listed keywords (word_of text)) (found.Token Keyword (prefix_len is_word_byte text) 0 suffix.None) (found.Token Name (prefix_len is_word_byte text) 0 suffix.None))) out
+    front_letter b text letter ∙ ap (λ q. cond q (found.Fault 10 0)
+    (cond (is_listed keywords (word_of text)) (found.Token Keyword (prefix_len is_word_byte text) 0 suffix.None)
+    (found.Token Name (prefix_len is_word_byte text) 0 suffix.None))) out
 
 -- a token with a great number is a Number
 great_kind : (k : TokenKind) (text : List ℕ) (n : ℕ) (x : Suffix) (w : List ℕ) → IsSpellingOf k text n x w → 2 ^ 127 ≤ n → k ≡ Number
@@ -154,11 +167,31 @@ of_kind k text n = record { kind = k; place = nowhere; text = text; number = n; 
 
 -- a digit alone spells a token
 lone_digit : (c : ℕ) → is_ascii_digit c ≡ true → IsSpelling (of_kind Number (c ∷ []) (digits_value 10 (c ∷ []))) (c ∷ [])
-lone_digit c h = (refl, record { base = Decimal; digits = c ∷ []; spelled = refl; some = omega arith; each = and_both _ _ (decimal c h) refl; value_is = refl })
+lone_digit c h = (
+  refl,
+  record {
+    base = Decimal;
+    digits = c ∷ [];
+    spelled = refl;
+    some = omega arith;
+    each = and_both _ _ (decimal c h)
+        refl;
+    value_is = refl;
+  },
+)
 
 -- a double quote begins a token
 empty_string : (c : ℕ) → eqb c 34 ≡ true → IsSpelling (of_kind Str [] 0) (c ∷ 34 ∷ [])
-empty_string c h = (refl, refl, inl (record { parts = []; each = tt; spelled_by = ap (λ q. q ∷ 34 ∷ []) (byte_is c 34 h); decoded_is = refl }))
+empty_string c h = (
+  refl,
+  refl,
+  inl (record {
+    parts = [];
+    each = tt;
+    spelled_by = ap (λ q. q ∷ 34 ∷ []) (byte_is c 34 h);
+    decoded_is = refl;
+  }),
+)
 
 -- a backtick begins a token
 empty_raw : (c : ℕ) → eqb c 96 ≡ true → IsSpelling (of_kind Str [] 0) (c ∷ 96 ∷ [])
@@ -166,14 +199,24 @@ empty_raw c h = (refl, refl, inr (record { spelled_by = ap (λ q. q ∷ 96 ∷ [
 
 -- a single quote begins a token
 feed_rune : (c : ℕ) → eqb c 39 ≡ true → IsSpelling (of_kind RuneLit (c ∷ 92 ∷ 110 ∷ 39 ∷ []) 10) (c ∷ 92 ∷ 110 ∷ 39 ∷ [])
-feed_rune c h = (refl, refl, record { content = 92 ∷ 110 ∷ []; one = inr (inl (110, refl, refl)); spelled_by = ap (λ q. q ∷ 92 ∷ 110 ∷ 39 ∷ []) (byte_is c 39 h) })
+feed_rune c h = (
+  refl,
+  refl,
+  record {
+    content = 92 ∷ 110 ∷ [];
+    one = inr (inl (110, refl, refl));
+    spelled_by = ap
+        (λ q. q ∷ 92 ∷ 110 ∷ 39 ∷ []) (byte_is c 39 h);
+  },
+)
 
 -- where no token begins no mark is found
 no_mark : (c : ℕ) (rest : List ℕ) (n : ℕ) → ((t : Token) (s : List ℕ) → IsSpelling t (c ∷ s) → ⊥) → longest marks (c ∷ rest) ≡ n → n ≡ 0
 no_mark c rest zero h e = refl
 no_mark c rest (suc n) h e =
     let some : 0 < longest marks (c ∷ rest) = omega (arith, e) in
-    let listed : is_listed marks (take (suc n) (c ∷ rest)) ≡ true = subst (λ q. is_listed marks (take q (c ∷ rest)) ≡ true) e (longest_listed marks (c ∷ rest) some) in
+    let listed : is_listed marks (take (suc n) (c ∷ rest)) ≡ true =
+    subst (λ q. is_listed marks (take q (c ∷ rest)) ≡ true) e (longest_listed marks (c ∷ rest) some) in
     absurd (h (of_kind Mark (c ∷ take n rest) 0) (take n rest) (refl, refl, refl, listed))
 
 -- where no mark is found the byte is a fault
@@ -189,7 +232,8 @@ bad_byte_front b text h =
     let quote = false_of (eqb c 34) (λ l. h.none (of_kind Str [] 0) (34 ∷ []) (empty_string c l)) in
     let tick = false_of (eqb c 96) (λ l. h.none (of_kind Str [] 0) (96 ∷ []) (empty_raw c l)) in
     let rune = false_of (eqb c 39) (λ l. h.none (of_kind RuneLit (c ∷ 92 ∷ 110 ∷ 39 ∷ []) 10) (92 ∷ 110 ∷ 39 ∷ []) (feed_rune c l)) in
-    ap (at_front b) h.text_is ∙ front_other b c h.rest (letter, digit, quote, tick, rune, h.not_at) ∙ mark_none (c ∷ h.rest) _ refl (no_mark c h.rest _ h.none refl)
+    ap (at_front b) h.text_is ∙ front_other b c h.rest (letter, digit, quote, tick, rune, h.not_at) ∙ mark_none (c ∷ h.rest) _ refl
+    (no_mark c h.rest _ h.none refl)
 
 -- ---- every fault
 
@@ -203,7 +247,8 @@ break_front b text n o h = ⊎_elim
     (λ a. unclosed_front b text a.2 ∙ fault a.0 a.1)
     (⊎_elim
     (λ a. great_number_front b text a.2 ∙ fault a.0 a.1)
-    (λ a. ⊎_elim (λ w. left_out_front b text w) (⊎_elim (λ w. left_out_number_front b text w) (λ w. ap (at_front b) w.1 ∙ front_at_sign b w.0)) a.2 ∙ fault a.0 a.1))))
+    (λ a. ⊎_elim (λ w. left_out_front b text w)
+    (⊎_elim (λ w. left_out_number_front b text w) (λ w. ap (at_front b) w.1 ∙ front_at_sign b w.0)) a.2 ∙ fault a.0 a.1))))
     h
   where
     fault : {k : ℕ} → n ≡ k → o ≡ 0 → found.Fault k 0 ≡ found.Fault n o

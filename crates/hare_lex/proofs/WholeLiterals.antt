@@ -13,23 +13,40 @@ use Rattle.hare_lex.proofs.SoundLiterals.{lit_take}
 -- ---- literals
 
 -- what holds before the closing quote
-pub closed : (q : ℕ) (s content rest : List ℕ) → s ≡ content ++ q ∷ rest → holds q false content ≡ true → (closing q false 0 s ≡ Some (length content)) × (take (length content) s ≡ content)
-closed q s content rest e h = (ap (closing q false 0) e ∙ closing_holds q false 0 content rest h ∙ ap Some (omega arith), lit_take q content rest s e)
+pub closed : (q : ℕ) (s content rest : List ℕ) → s ≡ content ++ q ∷ rest → holds q false content ≡ true →
+    (closing q false 0 s ≡ Some (length content)) × (take (length content) s ≡ content)
+closed q s content rest e h = (
+  ap (closing q false 0) e ∙ closing_holds q false 0 content rest h ∙ ap Some (omega arith),
+  lit_take q content
+      rest s e,
+)
 
 -- a closed string is found, with its first wrong escape
-pub string_found : (s content rest : List ℕ) → s ≡ content ++ 34 ∷ rest → holds 34 false content ≡ true → string_front s ≡ string_end (length content) (bad_escape 0 content)
-string_found s content rest e h = let c = closed 34 s content rest e h in ap (λ o. elim o as (λ _. Found) [ None ↦ found.Fault 6 0 | Some n ↦ string_end n (bad_escape 0 (take n s)) ]) c.0 ∙ ap (λ l. string_end (length content) (bad_escape 0 l)) c.1
+pub string_found : (s content rest : List ℕ) → s ≡ content ++ 34 ∷ rest → holds 34 false content ≡ true →
+    string_front s ≡ string_end (length content) (bad_escape 0 content)
+string_found s content rest e h =
+    let c = closed 34 s content rest e h in ap
+    (λ o. elim o as (λ _. Found) [ None ↦ found.Fault 6 0 | Some n ↦ string_end n (bad_escape 0 (take n s)) ]) c.0 ∙ ap
+    (λ l. string_end (length content) (bad_escape 0 l)) c.1
 
 -- a closed raw string is found
-pub raw_found : (s content rest : List ℕ) → s ≡ content ++ 96 ∷ rest → holds 96 false content ≡ true → raw_front s ≡ found.Token Str (length content + 2) 0 suffix.None
-raw_found s content rest e h = let c = closed 96 s content rest e h in ap (λ o. elim o as (λ _. Found) [ None ↦ found.Fault 6 0 | Some n ↦ found.Token Str (n + 2) 0 suffix.None ]) c.0
+pub raw_found : (s content rest : List ℕ) → s ≡ content ++ 96 ∷ rest → holds 96 false content ≡ true →
+    raw_front s ≡ found.Token Str (length content + 2) 0 suffix.None
+raw_found s content rest e h =
+    let c = closed 96 s content rest e h in ap
+    (λ o. elim o as (λ _. Found) [ None ↦ found.Fault 6 0 | Some n ↦ found.Token Str (n + 2) 0 suffix.None ]) c.0
 
 -- a closed rune is found
-pub rune_found : (s content rest : List ℕ) → s ≡ content ++ 39 ∷ rest → holds 39 false content ≡ true → rune_front s ≡ rune_end (length content) content (one content)
-rune_found s content rest e h = let c = closed 39 s content rest e h in ap (λ o. elim o as (λ _. Found) [ None ↦ found.Fault 6 0 | Some n ↦ rune_end n (take n s) (one (take n s)) ]) c.0 ∙ ap (λ l. rune_end (length content) l (one l)) c.1
+pub rune_found : (s content rest : List ℕ) → s ≡ content ++ 39 ∷ rest → holds 39 false content ≡ true →
+    rune_front s ≡ rune_end (length content) content (one content)
+rune_found s content rest e h =
+    let c = closed 39 s content rest e h in ap
+    (λ o. elim o as (λ _. Found) [ None ↦ found.Fault 6 0 | Some n ↦ rune_end n (take n s) (one (take n s)) ]) c.0 ∙ ap
+    (λ l. rune_end (length content) l (one l)) c.1
 
 -- where no quote closes, none is found
-pub open_none : (q : ℕ) (s : List ℕ) → ((content rest : List ℕ) → s ≡ content ++ q ∷ rest → holds q false content ≡ true → ⊥) → closing q false 0 s ≡ None
+pub open_none : (q : ℕ) (s : List ℕ) → ((content rest : List ℕ) → s ≡ content ++ q ∷ rest → holds q false content ≡ true → ⊥) →
+    closing q false 0 s ≡ None
 open_none q s h = by_found (closing q false 0 s) refl
   where
     by_found : (o : Option ℕ) → closing q false 0 s ≡ o → o ≡ None
@@ -61,4 +78,5 @@ front_at_sign b s = refl
 -- at any other byte a mark is looked for
 pub front_other : (b : Bool) (c : ℕ) (s : List ℕ) → NoOther c → at_front b (c ∷ s) ≡ mark_front (c ∷ s)
 unfolding at_front
-front_other b c s h = let x0 = h.0 in let x1 = h.1 in let x2 = h.2 in let x3 = h.3 in let x4 = h.4 in let x5 = h.5 in rw (x0, x1, x2, x3, x4, x5) refl
+front_other b c s h =
+    let x0 = h.0 in let x1 = h.1 in let x2 = h.2 in let x3 = h.3 in let x4 = h.4 in let x5 = h.5 in rw (x0, x1, x2, x3, x4, x5) refl

@@ -22,12 +22,14 @@ use Rattle.hare_lex.proofs.SoundNumbers.{number_word, number_of, number_longest,
 -- ---- words
 
 -- the run of letters and digits spells a keyword or a name
-word_spells : (s : List ℕ) (b : Bool) → is_letter (get_or s 0 0) ≡ true → is_listed keywords (word_of s) ≡ b → (t : Token) × IsSpelling t (word_of s)
+word_spells : (s : List ℕ) (b : Bool) → is_letter (get_or s 0 0) ≡ true → is_listed keywords (word_of s) ≡ b → (t : Token) ×
+    IsSpelling t (word_of s)
 word_spells s true l e = (token_at Keyword nowhere (word_of s) 0 suffix.None, (refl, refl, refl, e))
 word_spells s false l e = (token_at Name nowhere (word_of s) 0 suffix.None, (refl, refl, refl, front_word s l, e))
 
 -- the token at a letter is the run of letters and digits
-pub word_same : (t : Token) (s rest text : List ℕ) → text ≡ s ++ rest → Fits t s rest → is_letter (get_or text 0 0) ≡ true → word_of text ≡ s
+pub word_same : (t : Token) (s rest text : List ℕ) → text ≡ s ++ rest → Fits t s rest → is_letter (get_or text 0 0) ≡ true →
+    word_of text ≡ s
 word_same t s rest text e f l =
     let n = prefix_len is_word_byte text in
     let w = word_spells text _ l refl in
@@ -46,7 +48,8 @@ front_letter b s l = rw l refl
 -- ---- numbers
 
 -- the token at a digit has the value of the number at the front
-pub number_same : (t : Token) (s rest text : List ℕ) → text ≡ s ++ rest → Fits t s rest → is_ascii_digit (get_or text 0 0) ≡ true → t.number ≡ number_of text
+pub number_same : (t : Token) (s rest text : List ℕ) → text ≡ s ++ rest → Fits t s rest → is_ascii_digit (get_or text 0 0) ≡ true →
+    t.number ≡ number_of text
 number_same t s rest text e f h =
     let n = (number_at text).len in
     let u = token_at Number nowhere (number_word text) (number_of text) (number_at text).suffix in
@@ -57,7 +60,8 @@ number_same t s rest text e f h =
     let b = number_longest t.kind t.text t.number t.suffix text s rest k e f.spells in
     let len = len_front n text (number_within text h) in
     let same : s ≡ number_word text = same_front s (number_word text) rest (drop n text) whole (omega (arith, a, b, len)) in
-    (alike t.kind Number t.text (number_word text) t.number (number_of text) t.suffix (number_at text).suffix (number_word text) (subst (λ l. IsSpelling t l) same f.spells) spells).number
+    (alike t.kind Number t.text (number_word text) t.number (number_of text) t.suffix (number_at text).suffix (number_word text)
+    (subst (λ l. IsSpelling t l) same f.spells) spells).number
 
 -- at a digit a number is looked for
 pub front_digit : (b : Bool) (s : List ℕ) → is_ascii_digit (get_or s 0 0) ≡ true → at_front b s ≡ number_front s
@@ -73,13 +77,24 @@ value_none : (n : ℕ) → 2 ^ 127 ≤ n → cond (ltb n (2 ^ 127)) (Some n) Non
 value_none n h = grind (arith, nat_tests)
 
 -- what is found at a digit, by the value that was kept
-number_step : (s : List ℕ) (o : Option ℕ) → (number_at s).value ≡ o → number_front s ≡ elim o as (λ _. Found) [ None ↦ found.Fault 7 0 | Some v ↦ cond (begins_fraction s) (found.Fault 10 0) (found.Token Number (number_at s).len v (number_at s).suffix) ]
-number_step s o e = ap (λ q. elim q as (λ _. Found) [ None ↦ found.Fault 7 0 | Some v ↦ cond (begins_fraction s) (found.Fault 10 0) (found.Token Number (number_at s).len v (number_at s).suffix) ]) e
+number_step : (s : List ℕ) (o : Option ℕ) → (number_at s).value ≡ o →
+    number_front s ≡ elim o as (λ _. Found) [
+      | None ↦ found.Fault 7 0
+      | Some v ↦ cond (begins_fraction s) (found.Fault 10 0)
+          (found.Token Number (number_at s).len v (number_at s).suffix)
+    ]
+number_step s o e = ap (λ q. elim q as (λ _. Found) [
+  | None ↦ found.Fault 7 0
+  | Some v ↦ cond (begins_fraction s) (found.Fault 10 0)
+      (found.Token Number (number_at s).len v (number_at s).suffix)
+]) e
 
 -- a great number is found to be a fault
 pub great_front : (s : List ℕ) → 2 ^ 127 ≤ number_of s → number_front s ≡ found.Fault 7 0
 great_front s h = number_step s None (number_value s ∙ value_none (number_of s) h)
 
 -- a small number is found to be a fraction or a token
-pub small_front : (s : List ℕ) (b : Bool) → number_of s < 2 ^ 127 → begins_fraction s ≡ b → number_front s ≡ cond b (found.Fault 10 0) (found.Token Number (number_at s).len (number_of s) (number_at s).suffix)
-small_front s b h f = number_step s (Some (number_of s)) (number_value s ∙ value_small (number_of s) h) ∙ ap (λ q. cond q (found.Fault 10 0) (found.Token Number (number_at s).len (number_of s) (number_at s).suffix)) f
+pub small_front : (s : List ℕ) (b : Bool) → number_of s < 2 ^ 127 → begins_fraction s ≡ b →
+    number_front s ≡ cond b (found.Fault 10 0) (found.Token Number (number_at s).len (number_of s) (number_at s).suffix)
+small_front s b h f = number_step s (Some (number_of s)) (number_value s ∙ value_small (number_of s) h) ∙ ap
+    (λ q. cond q (found.Fault 10 0) (found.Token Number (number_at s).len (number_of s) (number_at s).suffix)) f

@@ -61,7 +61,8 @@ skipped false (c ∷ s) =
 
 -- the place behind one more byte
 abbrev pub step : Place → ℕ → Place
-step p c = if c == 10 then record { file = p.file; line = p.line + 1; column = 1 } else record { file = p.file; line = p.line; column = p.column + 1 }
+step p c = if c == 10 then record { file = p.file; line = p.line + 1; column = 1 } else
+    record { file = p.file; line = p.line; column = p.column + 1 }
 
 abbrev pub advanced : Place → List ℕ → Place
 advanced p [] = p
@@ -204,7 +205,8 @@ rune_end len content (Some v) = found.Token RuneLit (len + 2) v suffix.None
 
 abbrev pub rune_front : List ℕ → Found
 rune_front behind =
-    elim (closing 39 false 0 behind) as (λ _. Found) [ None ↦ found.Fault 6 0 | Some len ↦ rune_end len (take len behind) (one (take len behind)) ]
+    elim (closing 39 false 0 behind) as (λ _. Found)
+    [ None ↦ found.Fault 6 0 | Some len ↦ rune_end len (take len behind) (one (take len behind)) ]
 
 abbrev pub mark_front : List ℕ → Found
 mark_front s = if longest marks s == 0 then found.Fault 4 0 else plain Mark (longest marks s)

@@ -298,7 +298,8 @@ elements_before_where_they_go : ends (bind (part bytes text_bytes absent (num si
     ∷ bind (at 7 (append_all (local 0 bytes) (part bytes (freed_slice 2) absent (num size 1)))) ∷ []) 0 ≡ Undefined 1 (place 7)
 elements_before_where_they_go = refl
 
-elements_before_words : outcome (main (bind (at 7 (append (global 1 bytes) (n8 9))) ∷ []) ∷ constant (words_over_four 4 9) ∷ constant slice_of_four ∷ []) 0
+elements_before_words : outcome (main (bind (at 7 (append (global 1 bytes) (n8 9))) ∷ []) ∷ constant (words_over_four 4 9) ∷ constant
+    slice_of_four ∷ []) 0
     ≡ Undefined 1 (place 7)
 elements_before_words = refl
 
@@ -344,7 +345,8 @@ reading_before_over = refl
 abbrev appended_to_an_empty_constant : (taken : ℕ) → Result
 appended_to_an_empty_constant n =
     begun
-    (program (main (bind (at 7 (append (global 1 bytes) (n8 9))) ∷ []) ∷ constant (words_over_four 0 0) ∷ constant slice_of_four ∷ [])) 0 n 0
+    (program (main (bind (at 7 (append (global 1 bytes) (n8 9))) ∷ []) ∷ constant (words_over_four 0 0) ∷ constant slice_of_four ∷ [])) 0 n
+    0
 
 over_before_words : (appended_to_an_empty_constant (2 ^ 62)).0 ≡ Over
 over_before_words = refl

@@ -36,7 +36,8 @@ a_text = search rules
 a_comparison : Settles u8 bool (giving bool (hand (less (codes "<") (local 0 u8) (n8 7)) ∷ []))
 a_comparison = search rules
 
-an_equality : Settles nullable bool (giving bool (hand (equal (local 0 nullable) (to 6 nullable (of_type kind.Null [] 0 kept.Null []))) ∷ []))
+an_equality : Settles nullable bool (giving bool
+    (hand (equal (local 0 nullable) (to 6 nullable (of_type kind.Null [] 0 kept.Null []))) ∷ []))
 an_equality = search rules
 
 a_cast : Settles u8 int (giving int (hand (node kind.Cast [] 0 int (local 0 u8 ∷ type_node int ∷ [])) ∷ []))
@@ -110,7 +111,8 @@ and_given_back = search rules
 branches : Settles bool u8 (giving u8 (hand (either u8 (local 0 bool) (n8 1) (n8 2)) ∷ when (local 0 bool) (block []) absent ∷ []))
 branches = search rules
 
-a_loop : Settles bool void (block (loop (bind (n8 1)) (less (codes "<") (local 1 u8) (n8 9)) (set (local 1 u8) (n8 9)) (block (leave ∷ again ∷ []))
+a_loop : Settles bool void (block (loop (bind (n8 1)) (less (codes "<") (local 1 u8) (n8 9)) (set (local 1 u8) (n8 9))
+    (block (leave ∷ again ∷ []))
     ∷ []))
 a_loop = search rules
 

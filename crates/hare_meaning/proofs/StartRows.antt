@@ -134,7 +134,22 @@ text_cells = (
 )
   where
     numbers : Match (map At addresses) (byte_cells (le_bytes 8 2) ++ byte_cells (le_bytes 8 2)) (bytes_at memory 4112 16)
-    numbers = (refl, (refl, (refl, (refl, (refl, (refl, (refl, (refl, (refl, (refl, (refl, (refl, (refl, (refl, (refl, (refl, tt))))))))))))))))
+    numbers = (
+      refl,
+      (
+        refl,
+        (
+          refl,
+          (
+            refl,
+            (
+              refl,
+              (refl, (refl, (refl, (refl, (refl, (refl, (refl, (refl, (refl, (refl, (refl, tt))))))))))),
+            ),
+          ),
+        ),
+      ),
+    )
 
 laid : AreLaid (map At addresses) memory 1 addresses objects
 laid = (

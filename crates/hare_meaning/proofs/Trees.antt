@@ -240,7 +240,8 @@ shows ts n = output (main ts ∷ []) n
 abbrev pub begun : Code → (live taken turns : ℕ) → Result
 begun c live taken n =
     let s = start c [] [] in
-    ending (evaluate (forms (world_of c 0)) n (entry_of c) AsValue (entry_scope c) (record s { memory = record s.memory { live = live; taken = taken } }))
+    ending (evaluate (forms (world_of c 0)) n (entry_of c) AsValue (entry_scope c)
+    (record s { memory = record s.memory { live = live; taken = taken } }))
 
 -- ---- allocations
 

@@ -72,14 +72,21 @@ abbrev pub objects_of_constant : Const → List (ℕ × Object)
 objects_of_constant constant.Absent = []
 objects_of_constant (constant.Known cs os) = listed_objects os
 
--- The constant of a global, a declaration with its number: what its value comes to with the tags of the finished program. The one that its tree carries
+-- The constant of a global, a declaration with its number: what its value comes to with the tags of the finished program. The one that its
+-- tree carries
 -- has the tags by id.
 abbrev pub constant_of : Store → ℕ × TypedNode → Const
 constant_of s d = folded_from (constant_result s d.0 (value_of d.1))
 
 -- an object of a global: the cells of its constant
 abbrev pub global_object : Store → ObjectKind → ℕ × TypedNode → Object
-global_object s k d = record { cells = cells_of_constant (constant_of s d); kind = k; align = align_in s (given (value_of d.1)); alive = true }
+global_object s k d = record {
+  cells = cells_of_constant (constant_of s d);
+  kind = k;
+  align = align_in s (given (value_of d.1));
+  alive =
+      true;
+}
 
 abbrev pub global_with : Store → ℕ × TypedNode → Kind → List (ℕ × Object)
 global_with s d kind.GlobalLet = (d.0, global_object s Global d) ∷ []
@@ -98,7 +105,8 @@ number_of_static d t = (d + 1) * 2 ^ 32 + (mark_of t).node
 abbrev pub text_object : TypedNode → Object
 text_object t = record { cells = byte_cells (head_of t).text; kind = Constant; align = 1; alive = true }
 
--- The array of a global's value that becomes a slice may be stored to, also where the global may not. It is aligned as its elements are, also
+-- The array of a global's value that becomes a slice may be stored to, also where the global may not. It is aligned as its elements are,
+-- also
 -- where it is empty, and its cells are those that the global's constant leads to.
 abbrev pub array_over : Store → TypedNode → List Cell → Object
 array_over s t cs =

@@ -109,7 +109,8 @@ pub record IsGlobal (c : Code) (d : ℕ) (f : Ty) : Type 0 where
   pub ty : f ≡ given (value_of (declaration c.declarations d))
   pub stands : Stands c.types f (lookup (nat_eq d) c.statics)
 
--- a path to a def has its constant, one to a type of base void has nothing, and any other to a declaration means a global; one to a local has none
+-- a path to a def has its constant, one to a type of base void has nothing, and any other to a declaration means a global; one to a local
+-- has none
 abbrev pub IsDeclared : Code → ℕ → Mark → Bool → Const → Type 0
 IsDeclared c d m true v = IsGlobal c d m.ty
 IsDeclared c d m false constant.Absent = names_void c.types m.meaning m.ty ≡ true
@@ -263,7 +264,8 @@ are_bytes s f = is_byte s (slice s f)
     is_byte s None = false
     is_byte s (Some x) = is_word keyword.U8 s (kept.Of x)
 
--- A call of the runtime, by the number of its function: how many arguments it takes, of what type the first, and what it gives. These are `puts`,
+-- A call of the runtime, by the number of its function: how many arguments it takes, of what type the first, and what it gives. These are
+-- `puts`,
 -- `write`, `read`, `bytes`, `nargs`, `arg` and `exit`.
 abbrev pub IsRuntimeCall : Store → ℕ → (arguments : ℕ) → (first result : Ty) → Type 0
 IsRuntimeCall s zero n f r = (n ≡ 1) × (is_str s f ≡ true) × (is_void s r ≡ true)

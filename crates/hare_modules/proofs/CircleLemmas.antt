@@ -17,23 +17,27 @@ use Rattle.hare_modules.proofs.OrderLemmas.{before-between, not-before-itself, f
 
 -- ---- graphs of imports
 
-import-on : (modules : ℕ) (g h : Graph) (u : Using) → IsUsingWithin modules u → Both modules g h → Both modules (with_import g u) (with_import_back h u)
+import-on : (modules : ℕ) (g h : Graph) (u : Using) → IsUsingWithin modules u → Both modules g h →
+    Both modules (with_import g u) (with_import_back h u)
 import-on modules g h u w t = by u.to refl
   where
     by : (o : Option ℕ) → u.to ≡ o → Both modules (with_target g u.home o) (with_source h u.home o)
     by None e = t
     by (Some b) e = both-on modules g h u.home b w.home (w.to b e) t
 
-imports-both : (modules : ℕ) (us : List Using) (g h : Graph) → AreUsingsWithin modules us → Both modules g h → Both modules (fold with_import g us) (fold with_import_back h us)
+imports-both : (modules : ℕ) (us : List Using) (g h : Graph) → AreUsingsWithin modules us → Both modules g h →
+    Both modules (fold with_import g us) (fold with_import_back h us)
 imports-both modules [] g h w t = t
 imports-both modules (u ∷ us) g h w t =
     imports-both modules us (with_import g u) (with_import_back h u) (λ v c. w v (Contains-behind u v us c))
     (import-on modules g h u (w u (Contains-here u us)) t)
 
-whole-both : (modules : ℕ) (us : List Using) → AreUsingsWithin modules us → Both modules (imports_graph modules us) (imports_graph_back modules us)
+whole-both : (modules : ℕ) (us : List Using) → AreUsingsWithin modules us →
+    Both modules (imports_graph modules us) (imports_graph_back modules us)
 whole-both modules us w = imports-both modules us (edgeless modules) (edgeless modules) w (start-both modules)
 
-pub imports-reverse : (modules : ℕ) (us : List Using) → AreUsingsWithin modules us → IsReverse (imports_graph modules us) (imports_graph_back modules us)
+pub imports-reverse : (modules : ℕ) (us : List Using) → AreUsingsWithin modules us →
+    IsReverse (imports_graph modules us) (imports_graph_back modules us)
 imports-reverse modules us w = let t = whole-both modules us w in t.reverse
 
 pub imports-stay : (modules : ℕ) (us : List Using) → AreUsingsWithin modules us → StaysWithin (imports_graph modules us)
@@ -76,7 +80,8 @@ pub no-target : (g : Graph) (u : Using) → u.to ≡ None → (f : Fault) → Is
 no-target g u e f c = let k : None ≡ Some c.to = sym e ∙ c.known in cc
 
 -- nor does one that counts later
-pub follows-later : (g : Graph) (u : Using) (found : Option Fault) (o : Fault) → o ≡ fault 16 (place_of u.tree) → is_later found o ≡ true → Follows g u found found
+pub follows-later : (g : Graph) (u : Using) (found : Option Fault) (o : Fault) → o ≡ fault 16 (place_of u.tree) → is_later found o ≡ true →
+    Follows g u found found
 follows-later g u None o e h = absurd cc
 follows-later g u (Some k) o e h = record {
   first = λ f q. record { stands = inl q; none_before = λ i r. by f i (the-some q) r };
@@ -92,7 +97,8 @@ follows-later g u (Some k) o e h = record {
     by f i q (inr c) = let y : i ≡ o = c.fault_is ∙ sym e in rw (y, ← q) (later (counts_before o k) h)
 
 -- an import on a circle is a fault more
-pub follows-circle : (g : Graph) (u : Using) (found : Option Fault) (o : Fault) (to : ℕ) → o ≡ fault 16 (place_of u.tree) → u.to ≡ Some to → Reached g to u.home → Follows g u found (earlier found o)
+pub follows-circle : (g : Graph) (u : Using) (found : Option Fault) (o : Fault) (to : ℕ) → o ≡ fault 16 (place_of u.tree) → u.to ≡ Some to →
+    Reached g to u.home → Follows g u found (earlier found o)
 follows-circle g u found o to e k r = by found
   where
     circle : IsCircleAt g u o
@@ -108,8 +114,10 @@ follows-circle g u found o to e k r = by found
         at f i q c = let y : i ≡ o = c.fault_is ∙ sym e in rw (y, ← q) (not-before-itself o)
 
     by : (p : Option Fault) → Follows g u p (earlier p o)
-    by None = first-of-both (λ f. None ≡ Some f) (IsCircleAt g u) (λ f. (None ≡ Some f) ⊎ IsCircleAt g u f) (λ f r. r) (λ f x. inl x) (λ f x. inr x) None (Some o) (found-first None) one
-    by (Some h) = first-of-both (λ f. Some h ≡ Some f) (IsCircleAt g u) (λ f. (Some h ≡ Some f) ⊎ IsCircleAt g u f) (λ f r. r) (λ f x. inl x) (λ f x. inr x) (Some h) (Some o) (found-first (Some h)) one
+    by None = first-of-both (λ f. None ≡ Some f) (IsCircleAt g u) (λ f. (None ≡ Some f) ⊎ IsCircleAt g u f) (λ f r. r) (λ f x. inl x)
+        (λ f x. inr x) None (Some o) (found-first None) one
+    by (Some h) = first-of-both (λ f. Some h ≡ Some f) (IsCircleAt g u) (λ f. (Some h ≡ Some f) ⊎ IsCircleAt g u f) (λ f r. r)
+        (λ f x. inl x) (λ f x. inr x) (Some h) (Some o) (found-first (Some h)) one
 
 -- ---- all imports
 
@@ -153,9 +161,11 @@ pub circles-none : (g : Graph) → TellsFirst (IsCircleIn g []) None
 circles-none g = first-of-none (IsCircleIn g []) (λ f c. Contains-none c.0 c.1)
 
 -- one import more was followed
-pub circles-on : (g : Graph) (us : List Using) (u : Using) (found new : Option Fault) → TellsFirst (IsCircleIn g us) found → Follows g u found new → TellsFirst (IsCircleIn g (us ++ u ∷ [])) new
+pub circles-on : (g : Graph) (us : List Using) (u : Using) (found new : Option Fault) → TellsFirst (IsCircleIn g us) found →
+    Follows g u found new → TellsFirst (IsCircleIn g (us ++ u ∷ [])) new
 circles-on g us u found new t f =
-    first-of-same (λ f. IsCircleIn g us f ⊎ IsCircleAt g u f) (IsCircleIn g (us ++ u ∷ [])) (λ f r. to f r) (λ f c. from f c.0 (Contains-push_cases us u c.0 c.1) c.2) new (carried (IsCircleIn g us) (IsCircleAt g u) found new t f)
+    first-of-same (λ f. IsCircleIn g us f ⊎ IsCircleAt g u f) (IsCircleIn g (us ++ u ∷ [])) (λ f r. to f r)
+    (λ f c. from f c.0 (Contains-push_cases us u c.0 c.1) c.2) new (carried (IsCircleIn g us) (IsCircleAt g u) found new t f)
   where
     to : (f : Fault) → IsCircleIn g us f ⊎ IsCircleAt g u f → IsCircleIn g (us ++ u ∷ []) f
     to f (inl c) = (c.0, Contains-append_left us (u ∷ []) c.0 c.1, c.2)

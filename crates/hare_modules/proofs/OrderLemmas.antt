@@ -33,7 +33,8 @@ decides-next : (a b : ℕ) (n : Bool) → a ≡ b → n ≡ true → decides a b
 decides-next a b n e h = or-right (nat_lt a b) (a == b && n) (rw (eq-eqb a b e, h) refl)
 
 -- what decides in turn, decides over one between
-decides-through : (a b c : ℕ) (n m r : Bool) → (n ≡ true → m ≡ true → r ≡ true) → decides a b n ≡ true → decides b c m ≡ true → decides a c r ≡ true
+decides-through : (a b c : ℕ) (n m r : Bool) → (n ≡ true → m ≡ true → r ≡ true) → decides a b n ≡ true → decides b c m ≡ true →
+    decides a c r ≡ true
 decides-through a b c n m r f x y = by (decided a b n x) (decided b c m y)
   where
     by : (a < b) ⊎ ((a ≡ b) × (n ≡ true)) → (b < c) ⊎ ((b ≡ c) × (m ≡ true)) → decides a c r ≡ true
@@ -52,7 +53,8 @@ before-through f g h =
     (decides-through f.place.column g.place.column h.place.column _ _ _ (less-through f.number g.number h.number)))
 
 -- what comes before another comes before any third one, or the third one before the other
-decides-between : (a b c : ℕ) (n m r : Bool) → (r ≡ true → (n ≡ true) ⊎ (m ≡ true)) → decides a c r ≡ true → (decides a b n ≡ true) ⊎ (decides b c m ≡ true)
+decides-between : (a b c : ℕ) (n m r : Bool) → (r ≡ true → (n ≡ true) ⊎ (m ≡ true)) → decides a c r ≡ true →
+    (decides a b n ≡ true) ⊎ (decides b c m ≡ true)
 decides-between a b c n m r f x = by (decided a c r x) (cases_lt a b) (cases_lt b a)
   where
     equal : a ≡ b → a ≡ c → (n ≡ true) ⊎ (m ≡ true) → (decides a b n ≡ true) ⊎ (decides b c m ≡ true)
@@ -112,7 +114,8 @@ not-true false h = refl
 pub sooner : (f g h : Fault) → counts_before f g ≡ true → counts_before h g ≡ false → counts_before h f ≡ false
 sooner f g h e n = not-true (counts_before h f) (λ x. let y : counts_before h g ≡ true = before-through h f g x e in absurd cc)
 
-module _ (P Q R : Fault → Type 0) (split : (f : Fault) → R f → P f ⊎ Q f) (left : (f : Fault) → P f → R f) (right : (f : Fault) → Q f → R f) where
+module _ (P Q R : Fault → Type 0) (split : (f : Fault) → R f → P f ⊎ Q f) (left : (f : Fault) → P f → R f)
+    (right : (f : Fault) → Q f → R f) where
   none_both : (found other : Option Fault) → TellsFirst P found → TellsFirst Q other → found ≡ None → other ≡ None → (f : Fault) → R f → ⊥
   none_both found other t u e d f r = by (split f r)
     where
@@ -178,7 +181,8 @@ first-of-one g = record {
     by f h e k = rw (k, ← e) (not-before-itself g)
 
 -- the same sort of faults, said otherwise
-pub first-of-same : (P Q : Fault → Type 0) → ((f : Fault) → P f → Q f) → ((f : Fault) → Q f → P f) → (found : Option Fault) → TellsFirst P found → TellsFirst Q found
+pub first-of-same : (P Q : Fault → Type 0) → ((f : Fault) → P f → Q f) → ((f : Fault) → Q f → P f) → (found : Option Fault) →
+    TellsFirst P found → TellsFirst Q found
 first-of-same P Q to from found t = record {
   first = λ f e. record { stands = to f (t.first f e).stands; none_before = λ g q. (t.first f e).none_before g (from g q) };
   none = λ e f q. t.none e f (from f q);
@@ -208,7 +212,8 @@ without : (P : Fault → Type 0) (f : Fault) → Either P [] f → P f
 without P f (inl p) = p
 without P f (inr c) = absurd (Contains-none f c)
 
-pub first-of-list : (P : Fault → Type 0) (found : Option Fault) (fs : List Fault) → TellsFirst P found → TellsFirst (Either P fs) (fold earlier found fs)
+pub first-of-list : (P : Fault → Type 0) (found : Option Fault) (fs : List Fault) → TellsFirst P found →
+    TellsFirst (Either P fs) (fold earlier found fs)
 first-of-list P found [] t = first-of-same P (Either P []) (λ f p. inl p) (without P) found t
 first-of-list P found (g ∷ fs) t =
     first-of-same (Either (Also P g) fs) (Either P (g ∷ fs)) (moved P g fs) (moved-back P g fs) (fold earlier (earlier found g) fs)

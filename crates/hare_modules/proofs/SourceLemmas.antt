@@ -55,22 +55,32 @@ Contains-to-map f (y ∷ ys) x c = by (λ d. Contains-to-map f ys x d) (Contains
     by more (inr d) = Contains-behind (f y) (f x) (map f ys) (more d)
 
 behind-source : (known : List Module) (s : Source) (ss : List Source) (u : Using) → IsUseOf known ss u → IsUseOf known (s ∷ ss) u
-behind-source known s ss u t = record { source = t.source; is_source = Contains-behind s t.source ss t.is_source; is_use = t.is_use; home_is = t.home_is; to_is = t.to_is }
+behind-source known s ss u t = record {
+  source = t.source;
+  is_source = Contains-behind s t.source ss t.is_source;
+  is_use = t.is_use;
+  home_is = t.home_is;
+  to_is = t.to_is;
+}
 
-here-source : (known : List Module) (s : Source) (ss : List Source) (h : ℕ) (u : Using) → slice_get known h ≡ Some s.home → Seen (using_of known h) s.tree.uses u → IsUseOf known (s ∷ ss) u
+here-source : (known : List Module) (s : Source) (ss : List Source) (h : ℕ) (u : Using) → slice_get known h ≡ Some s.home →
+    Seen (using_of known h) s.tree.uses u → IsUseOf known (s ∷ ss) u
 here-source known s ss h u e t =
     subst (IsUseOf known (s ∷ ss)) t.seen record { source = s; is_source = Contains-here s ss; is_use = t.among; home_is = e; to_is = refl }
 
 -- each import by numbers is one of the program
-pub using-is : (known : List Module) (ps : List (List ℕ)) (hs : List ℕ) (ts : List FileTree) → AreHomes known (map module_of ps) hs → (u : Using) → Contains (usings known hs ts) u → IsUseOf known (sources ps ts) u
+pub using-is : (known : List Module) (ps : List (List ℕ)) (hs : List ℕ) (ts : List FileTree) → AreHomes known (map module_of ps) hs →
+    (u : Using) → Contains (usings known hs ts) u → IsUseOf known (sources ps ts) u
 using-is known ps [] ts h u c = absurd (Contains-none u c)
 using-is known ps (x ∷ hs) [] h u c = absurd (Contains-none u c)
 using-is known [] (x ∷ hs) (t ∷ ts) h u c = absurd h
 using-is known (p ∷ ps) (x ∷ hs) (t ∷ ts) h u c =
     by (λ d. using-is known ps hs ts h.1 u d) (Contains-append_cases (map (using_of known x) t.uses) (usings known hs ts) u c)
   where
-    by : (Contains (usings known hs ts) u → IsUseOf known (sources ps ts) u) → Contains (map (using_of known x) t.uses) u ⊎ Contains (usings known hs ts) u → IsUseOf known (sources (p ∷ ps) (t ∷ ts)) u
-    by more (inl d) = here-source known (record { home = module_of p; tree = t }) (sources ps ts) x u h.0 (Contains-map (using_of known x) t.uses u d)
+    by : (Contains (usings known hs ts) u → IsUseOf known (sources ps ts) u) →
+        Contains (map (using_of known x) t.uses) u ⊎ Contains (usings known hs ts) u → IsUseOf known (sources (p ∷ ps) (t ∷ ts)) u
+    by more (inl d) = here-source known (record { home = module_of p; tree = t }) (sources ps ts) x u h.0
+        (Contains-map (using_of known x) t.uses u d)
     by more (inr d) = behind-source known (record { home = module_of p; tree = t }) (sources ps ts) u (more d)
 
 -- and each import of the program has numbers
@@ -79,7 +89,8 @@ pub record HasUsing (known : List Module) (us : List Using) (s : Source) (t : No
   pub is_using : Contains us (using_of known home t)
   pub home_is : slice_get known home ≡ Some s.home
 
-pub has-using : (known : List Module) (ps : List (List ℕ)) (hs : List ℕ) (ts : List FileTree) → AreHomes known (map module_of ps) hs → (s : Source) (t : Node) → Contains (sources ps ts) s → Contains s.tree.uses t → HasUsing known (usings known hs ts) s t
+pub has-using : (known : List Module) (ps : List (List ℕ)) (hs : List ℕ) (ts : List FileTree) → AreHomes known (map module_of ps) hs →
+    (s : Source) (t : Node) → Contains (sources ps ts) s → Contains s.tree.uses t → HasUsing known (usings known hs ts) s t
 has-using known [] hs ts h s t c d = absurd (Contains-none s c)
 has-using known (p ∷ ps) hs [] h s t c d = absurd (Contains-none s c)
 has-using known (p ∷ ps) [] (f ∷ ts) h s t c d = absurd h
@@ -91,14 +102,27 @@ has-using known (p ∷ ps) (x ∷ hs) (f ∷ ts) h s t c d =
 
     first : (r : Source) → here ≡ r → Contains r.tree.uses t → HasUsing known (usings known (x ∷ hs) (f ∷ ts)) r t
     first r e k = subst (λ q. Contains q.tree.uses t → HasUsing known (usings known (x ∷ hs) (f ∷ ts)) q t) e
-        (λ i. record { home = x; is_using = Contains-append_left (map (using_of known x) f.uses) (usings known hs ts) (using_of known x t) (Contains-to-map (using_of known x) f.uses t i); home_is = h.0 }) k
+        (λ i. record {
+          home = x;
+          is_using = Contains-append_left (map (using_of known x) f.uses) (usings known hs ts) (using_of known x t)
+              (Contains-to-map (using_of known x) f.uses t i);
+          home_is = h.0;
+        }) k
 
-    by : (Contains (sources ps ts) s → HasUsing known (usings known hs ts) s t) → (record { home = module_of p; tree = f } ≡ s) ⊎ Contains (sources ps ts) s → HasUsing known (usings known (x ∷ hs) (f ∷ ts)) s t
+    by : (Contains (sources ps ts) s → HasUsing known (usings known hs ts) s t) →
+        (record { home = module_of p; tree = f } ≡ s) ⊎ Contains (sources ps ts) s → HasUsing known (usings known (x ∷ hs) (f ∷ ts)) s t
     by more (inl e) = first s e d
-    by more (inr e) = let k = more e in record { home = k.home; is_using = Contains-append_right (map (using_of known x) f.uses) (usings known hs ts) (using_of known k.home t) k.is_using; home_is = k.home_is }
+    by more (inr e) =
+        let k = more e in record {
+          home = k.home;
+          is_using = Contains-append_right (map (using_of known x) f.uses) (usings known hs ts)
+              (using_of known k.home t) k.is_using;
+          home_is = k.home_is;
+        }
 
 -- the numbers are those of known modules
-pub usings-within : (ms known : List Module) (homes : List ℕ) (ps : List (List ℕ)) (hs : List ℕ) (ts : List FileTree) → IsNumbering ms known homes → AreHomes known (map module_of ps) hs → AreUsingsWithin (length known) (usings known hs ts)
+pub usings-within : (ms known : List Module) (homes : List ℕ) (ps : List (List ℕ)) (hs : List ℕ) (ts : List FileTree) →
+    IsNumbering ms known homes → AreHomes known (map module_of ps) hs → AreUsingsWithin (length known) (usings known hs ts)
 usings-within ms known homes ps hs ts n h u c =
     let k = using-is known ps hs ts h u c in
     record {
@@ -135,13 +159,17 @@ length-import g u = by u.to
 edge-of-import : (g : Graph) (u : Using) (b : ℕ) → u.home < length g → u.to ≡ Some b → HasEdge (with_import g u) u.home b
 edge-of-import g u b l e = subst (λ o. HasEdge (with_target g u.home o) u.home b) (sym e) (edge-new g u.home b l)
 
-edge-of : (us : List Using) (g : Graph) (u : Using) (b : ℕ) → Contains us u → u.home < length g → u.to ≡ Some b → HasEdge (fold with_import g us) u.home b
+edge-of : (us : List Using) (g : Graph) (u : Using) (b : ℕ) → Contains us u → u.home < length g → u.to ≡ Some b →
+    HasEdge (fold with_import g us) u.home b
 edge-of [] g u b c l e = absurd (Contains-none u c)
-edge-of (v ∷ us) g u b c l e = by (λ d. edge-of us (with_import g v) u b d (subst (λ n. u.home < n) (sym (length-import g v)) l) e) (Contains-cases v u us c)
+edge-of (v ∷ us) g u b c l e = by (λ d. edge-of us (with_import g v) u b d (subst (λ n. u.home < n) (sym (length-import g v)) l) e)
+    (Contains-cases v u us c)
   where
-    by : (Contains us u → HasEdge (fold with_import (with_import g v) us) u.home b) → (v ≡ u) ⊎ Contains us u → HasEdge (fold with_import (with_import g v) us) u.home b
+    by : (Contains us u → HasEdge (fold with_import (with_import g v) us) u.home b) → (v ≡ u) ⊎ Contains us u →
+        HasEdge (fold with_import (with_import g v) us) u.home b
     by more (inr d) = more d
-    by more (inl q) = subst (λ w. HasEdge (fold with_import (with_import g w) us) u.home b) (sym q) (edge-kept-all us (with_import g u) u.home b (edge-of-import g u b l e))
+    by more (inl q) = subst (λ w. HasEdge (fold with_import (with_import g w) us) u.home b) (sym q)
+        (edge-kept-all us (with_import g u) u.home b (edge-of-import g u b l e))
 
 edge-back : (us : List Using) (g : Graph) (a b : ℕ) → HasEdge (fold with_import g us) a b → HasEdge g a b ⊎ EdgeOf us a b
 edge-back [] g a b e = inl e
@@ -180,7 +208,8 @@ length-edgeless n = length-replicate n []
 
 -- ---- the two ways of leading back
 
-module _ (ms known : List Module) (homes : List ℕ) (ps : List (List ℕ)) (hs : List ℕ) (ts : List FileTree) (n : IsNumbering ms known homes) (h : AreHomes known (map module_of ps) hs) where
+module _ (ms known : List Module) (homes : List ℕ) (ps : List (List ℕ)) (hs : List ℕ) (ts : List FileTree) (n : IsNumbering ms known homes)
+    (h : AreHomes known (map module_of ps) hs) where
   abbrev us : List Using
   us = usings known hs ts
 
@@ -199,8 +228,12 @@ module _ (ms known : List Module) (homes : List ℕ) (ps : List (List ℕ)) (hs 
       let k = edge-is (length known) us a b e in
       let u = k.by_use in
       let i = using-is known ps hs ts h u k.among in
-      let to = position-is known (module_used u.tree) b (sym i.to_is ∙ k.to_is) in
-      (i.source, i.is_source, same-there a i.source.home x (subst (λ c. slice_get known c ≡ Some i.source.home) k.from_is i.home_is) ex, (u.tree, i.is_use, same-there b (module_used u.tree) y to ey))
+      let to = position-is known (module_used u.tree) b (sym i.to_is ∙ k.to_is) in (
+        i.source,
+        i.is_source,
+        same-there a i.source.home x (subst (λ c. slice_get known c ≡ Some i.source.home) k.from_is i.home_is) ex,
+        (u.tree, i.is_use, same-there b (module_used u.tree) y to ey),
+      )
 
   -- what is reached is known
   reached-known : (a : ℕ) (x : Module) → slice_get known a ≡ Some x → {b : ℕ} → Reached g a b → (y : Module) × (slice_get known b ≡ Some y)
@@ -211,7 +244,8 @@ module _ (ms known : List Module) (homes : List ℕ) (ps : List (List ℕ)) (hs 
       (module_used k.by_use.tree, position-is known (module_used k.by_use.tree) b (sym i.to_is ∙ k.to_is))
 
   -- from what is reached, the start leads there
-  reached-leads : (a : ℕ) (x : Module) → slice_get known a ≡ Some x → {b : ℕ} → Reached g a b → (y : Module) → slice_get known b ≡ Some y → LeadsTo ss y x
+  reached-leads : (a : ℕ) (x : Module) → slice_get known a ≡ Some x → {b : ℕ} → Reached g a b → (y : Module) → slice_get known b ≡ Some y →
+      LeadsTo ss y x
   reached-leads a x e at_start y f = subst (λ z. LeadsTo ss z x) (same-there a x y e f) there
   reached-leads a x e (along c b r k) y f =
       let m = reached-known a x e r in
@@ -224,16 +258,19 @@ module _ (ms known : List Module) (homes : List ℕ) (ps : List (List ℕ)) (hs 
       let at : k.home ≡ a = n.once k.home a x (k.home_is ∙ ap Some i.2) ex in
       let to : number_used known i.3.0 ≡ Some b = ap (λ z. position (bytes_eq z) known) i.3.2 ∙ position-of ms known homes y b n ey in
       let w = usings-within ms known homes ps hs ts n h (using_of known k.home i.3.0) k.is_using in
-      subst (λ c. HasEdge g c b) at (edge-of us (edgeless (length known)) (using_of known k.home i.3.0) b k.is_using (subst (λ l. k.home < l) (sym (length-edgeless (length known))) w.home) to)
+      subst (λ c. HasEdge g c b) at (edge-of us (edgeless (length known)) (using_of known k.home i.3.0) b k.is_using
+      (subst (λ l. k.home < l) (sym (length-edgeless (length known))) w.home) to)
 
-  leads-known : (goal : Module) (j : ℕ) → slice_get known j ≡ Some goal → {m : Module} → LeadsTo ss goal m → (i : ℕ) × (slice_get known i ≡ Some m)
+  leads-known : (goal : Module) (j : ℕ) → slice_get known j ≡ Some goal → {m : Module} → LeadsTo ss goal m → (i : ℕ) ×
+      (slice_get known i ≡ Some m)
   leads-known goal j e there = (j, e)
   leads-known goal j e (onward a b i r) =
       let k = has-using known ps hs ts h i.0 i.3.0 i.1 i.3.1 in
       (k.home, k.home_is ∙ ap Some i.2)
 
   -- what leads to a module reaches it
-  leads-reached : (goal : Module) (j : ℕ) → slice_get known j ≡ Some goal → {m : Module} → LeadsTo ss goal m → (i : ℕ) → slice_get known i ≡ Some m → Reached g i j
+  leads-reached : (goal : Module) (j : ℕ) → slice_get known j ≡ Some goal → {m : Module} → LeadsTo ss goal m → (i : ℕ) →
+      slice_get known i ≡ Some m → Reached g i j
   leads-reached goal j e there i f = subst (λ c. Reached g i c) (n.once i j goal f e) at_start
   leads-reached goal j e (onward a b k r) i f =
       let l = leads-known goal j e r in
@@ -253,8 +290,12 @@ module _ (ms known : List Module) (homes : List ℕ) (ps : List (List ℕ)) (hs 
       let t = c.2.0 in
       let k = has-using known ps hs ts h s t c.1 c.2.1 in
       let l = leads-known s.home k.home k.home_is c.2.2 in
-      let to : number_used known t ≡ Some l.0 = position-of ms known homes (module_used t) l.0 n l.1 in
-      (using_of known k.home t, k.is_using, record { to = l.0; known = to; back = leads-reached s.home k.home k.home_is c.2.2 l.0 l.1; fault_is = c.2.3 })
+      let to : number_used known t ≡ Some l.0 = position-of ms known homes (module_used t) l.0 n l.1 in (
+        using_of known k.home t,
+        k.is_using,
+        record
+            { to = l.0; known = to; back = leads-reached s.home k.home k.home_is c.2.2 l.0 l.1; fault_is = c.2.3 },
+      )
 
 -- ---- known modules
 
@@ -275,26 +316,34 @@ is-same x y e = (bytes_eq-Decides x y).1 e
 same-is : (x y : List ℕ) → bytes_eq x y ≡ true → x ≡ y
 same-is x y e = (bytes_eq-Decides x y).0 e
 
-home-known : (ps : List (List ℕ)) (ts : List FileTree) (m : Module) → length ts ≡ length ps → Contains (map module_of ps) m → list_any (λ s. same_module s.home m) (sources ps ts) ≡ true
+home-known : (ps : List (List ℕ)) (ts : List FileTree) (m : Module) → length ts ≡ length ps → Contains (map module_of ps) m →
+    list_any (λ s. same_module s.home m) (sources ps ts) ≡ true
 home-known [] ts m l c = absurd (Contains-none m c)
 home-known (p ∷ ps) [] m l c = absurd (omega (arith, l))
 home-known (p ∷ ps) (t ∷ ts) m l c = by (λ d. home-known ps ts m (omega (arith, l)) d) (Contains-cases (module_of p) m (map module_of ps) c)
   where
-    by : (Contains (map module_of ps) m → list_any (λ s. same_module s.home m) (sources ps ts) ≡ true) → (module_of p ≡ m) ⊎ Contains (map module_of ps) m → (bytes_eq (module_of p) m || list_any (λ s. same_module s.home m) (sources ps ts)) ≡ true
+    by : (Contains (map module_of ps) m → list_any (λ s. same_module s.home m) (sources ps ts) ≡ true) →
+        (module_of p ≡ m) ⊎ Contains (map module_of ps) m →
+        (bytes_eq (module_of p) m || list_any (λ s. same_module s.home m) (sources ps ts)) ≡ true
     by more (inl e) = or-left _ _ (is-same (module_of p) m e)
     by more (inr d) = or-right (bytes_eq (module_of p) m) _ (more d)
 
-known-home : (known : List Module) (ps : List (List ℕ)) (hs : List ℕ) (ts : List FileTree) (m : Module) → AreHomes known (map module_of ps) hs → list_any (λ s. same_module s.home m) (sources ps ts) ≡ true → (i : ℕ) × (slice_get known i ≡ Some m)
+known-home : (known : List Module) (ps : List (List ℕ)) (hs : List ℕ) (ts : List FileTree) (m : Module) →
+    AreHomes known (map module_of ps) hs → list_any (λ s. same_module s.home m) (sources ps ts) ≡ true → (i : ℕ) ×
+    (slice_get known i ≡ Some m)
 known-home known [] hs ts m h e = absurd cc
 known-home known (p ∷ ps) hs [] m h e = absurd cc
 known-home known (p ∷ ps) [] (t ∷ ts) m h e = absurd h
 known-home known (p ∷ ps) (x ∷ hs) (t ∷ ts) m h e = by (λ d. known-home known ps hs ts m h.1 d) (or-cases (bytes_eq (module_of p) m) _ e)
   where
-    by : (list_any (λ s. same_module s.home m) (sources ps ts) ≡ true → (i : ℕ) × (slice_get known i ≡ Some m)) → (bytes_eq (module_of p) m ≡ true) ⊎ (list_any (λ s. same_module s.home m) (sources ps ts) ≡ true) → (i : ℕ) × (slice_get known i ≡ Some m)
+    by : (list_any (λ s. same_module s.home m) (sources ps ts) ≡ true → (i : ℕ) × (slice_get known i ≡ Some m)) →
+        (bytes_eq (module_of p) m ≡ true) ⊎ (list_any (λ s. same_module s.home m) (sources ps ts) ≡ true) → (i : ℕ) ×
+        (slice_get known i ≡ Some m)
     by more (inl d) = (x, h.0 ∙ ap Some (same-is (module_of p) m d))
     by more (inr d) = more d
 
-module _ (known : List Module) (ps : List (List ℕ)) (hs : List ℕ) (ts : List FileTree) (paired : length ts ≡ length ps) (n : IsNumbering (map module_of ps) known hs) where
+module _ (known : List Module) (ps : List (List ℕ)) (hs : List ℕ) (ts : List FileTree) (paired : length ts ≡ length ps)
+    (n : IsNumbering (map module_of ps) known hs) where
   known-true : (i : ℕ) (m : Module) → slice_get known i ≡ Some m → is_known (sources ps ts) m ≡ true
   known-true i m e = by (n.only i m e)
     where
@@ -305,7 +354,8 @@ module _ (known : List Module) (ps : List (List ℕ)) (hs : List ℕ) (ts : List
   known-there : (m : Module) → is_known (sources ps ts) m ≡ true → (i : ℕ) × (slice_get known i ≡ Some m)
   known-there m e = by (or-cases (bytes_eq m runtime) _ e)
     where
-      by : (bytes_eq m runtime ≡ true) ⊎ (list_any (λ s. same_module s.home m) (sources ps ts) ≡ true) → (i : ℕ) × (slice_get known i ≡ Some m)
+      by : (bytes_eq m runtime ≡ true) ⊎ (list_any (λ s. same_module s.home m) (sources ps ts) ≡ true) → (i : ℕ) ×
+          (slice_get known i ≡ Some m)
       by (inl r) = (0, n.first ∙ ap Some (sym (same-is m runtime r)))
       by (inr c) = known-home known ps hs ts m n.homes_are c
 
@@ -316,7 +366,9 @@ module _ (known : List Module) (ps : List (List ℕ)) (hs : List ℕ) (ts : List
       by : (b : Bool) → is_known (sources ps ts) m ≡ b → (o : Option ℕ) → position (bytes_eq m) known ≡ o → is_some o ≡ b
       by true e (Some i) p = refl
       by false e None p = refl
-      by true e None p = let k = known-there m e in let q : position (bytes_eq m) known ≡ Some k.0 = position-of (map module_of ps) known hs m k.0 n k.1 in absurd cc
+      by true e None p =
+          let k = known-there m e in let q : position (bytes_eq m) known ≡ Some k.0 =
+          position-of (map module_of ps) known hs m k.0 n k.1 in absurd cc
       by false e (Some i) p = let k : is_known (sources ps ts) m ≡ true = known-true i m (position-is known m i p) in absurd cc
 
 -- ---- imports of no known module
@@ -325,7 +377,8 @@ filter_map-append : {A B : Type 0} (f : A → Option B) (xs ys : List A) → fil
 filter_map-append f [] ys = refl
 filter_map-append {A} {B} f (x ∷ xs) ys = by (f x) (filter_map-append f xs ys)
   where
-    by : (o : Option B) → filter_map f (xs ++ ys) ≡ filter_map f xs ++ filter_map f ys → cons_option o (filter_map f (xs ++ ys)) ≡ cons_option o (filter_map f xs) ++ filter_map f ys
+    by : (o : Option B) → filter_map f (xs ++ ys) ≡ filter_map f xs ++ filter_map f ys →
+        cons_option o (filter_map f (xs ++ ys)) ≡ cons_option o (filter_map f xs) ++ filter_map f ys
     by None h = h
     by (Some b) h = ap (λ zs. b ∷ zs) h
 
@@ -336,7 +389,8 @@ filter-append : {A : Type 0} (p : A → Bool) (xs ys : List A) → filter p (xs 
 filter-append p [] ys = refl
 filter-append {A} p (x ∷ xs) ys = by (p x) (filter-append p xs ys)
   where
-    by : (b : Bool) → filter p (xs ++ ys) ≡ filter p xs ++ filter p ys → cond b (x ∷ filter p (xs ++ ys)) (filter p (xs ++ ys)) ≡ cond b (x ∷ filter p xs) (filter p xs) ++ filter p ys
+    by : (b : Bool) → filter p (xs ++ ys) ≡ filter p xs ++ filter p ys →
+        cond b (x ∷ filter p (xs ++ ys)) (filter p (xs ++ ys)) ≡ cond b (x ∷ filter p xs) (filter p xs) ++ filter p ys
     by true h = ap (λ zs. x ∷ zs) h
     by false h = h
 
@@ -354,15 +408,19 @@ module _ (all : List Source) (known : List Module) (k : (m : Module) → is_some
 
   unknown-uses : (h : ℕ) (us : List Node) → filter_map unknown_module (map (using_of known h) us) ≡ map fault_of_use (filter not_known us)
   unknown-uses h [] = refl
-  unknown-uses h (u ∷ us) = by (is_none (number_used known u)) (not_known u) (is_none-not (number_used known u) ∙ ap not (k (module_used u))) (unknown-uses h us)
+  unknown-uses h (u ∷ us) = by (is_none (number_used known u)) (not_known u)
+      (is_none-not (number_used known u) ∙ ap not (k (module_used u))) (unknown-uses h us)
     where
-      by : (a b : Bool) → a ≡ b → filter_map unknown_module (map (using_of known h) us) ≡ map fault_of_use (filter not_known us) → cons_option (cond a (Some (fault_of_use u)) None) (filter_map unknown_module (map (using_of known h) us)) ≡ map fault_of_use (cond b (u ∷ filter not_known us) (filter not_known us))
+      by : (a b : Bool) → a ≡ b → filter_map unknown_module (map (using_of known h) us) ≡ map fault_of_use (filter not_known us) →
+          cons_option (cond a (Some (fault_of_use u)) None) (filter_map unknown_module (map (using_of known h) us)) ≡
+          map fault_of_use (cond b (u ∷ filter not_known us) (filter not_known us))
       by true true e r = ap (λ fs. fault_of_use u ∷ fs) r
       by false false e r = r
       by true false e r = absurd (true≢false e)
       by false true e r = absurd (true≢false (sym e))
 
-  pub unknown-all : (ps : List (List ℕ)) (hs : List ℕ) (ts : List FileTree) → AreHomes known (map module_of ps) hs → filter_map unknown_module (usings known hs ts) ≡ map fault_of_use (filter not_known (flat_map (λ s. s.tree.uses) (sources ps ts)))
+  pub unknown-all : (ps : List (List ℕ)) (hs : List ℕ) (ts : List FileTree) → AreHomes known (map module_of ps) hs →
+      filter_map unknown_module (usings known hs ts) ≡ map fault_of_use (filter not_known (flat_map (λ s. s.tree.uses) (sources ps ts)))
   unknown-all [] [] ts h = refl
   unknown-all [] (x ∷ hs) ts h = absurd h
   unknown-all (p ∷ ps) [] ts h = absurd h
@@ -380,7 +438,8 @@ abbrev fault_of_file : Source → Fault
 fault_of_file s = fault 12 (start_of s.tree.file)
 
 -- the module `rt`, and no other, has the number 0
-first-number : (ms known : List Module) (homes : List ℕ) → IsNumbering ms known homes → (x : ℕ) (m : Module) → slice_get known x ≡ Some m → (x == 0) ≡ bytes_eq m runtime
+first-number : (ms known : List Module) (homes : List ℕ) → IsNumbering ms known homes → (x : ℕ) (m : Module) → slice_get known x ≡ Some m →
+    (x == 0) ≡ bytes_eq m runtime
 first-number ms known homes n x m e = by (x == 0) refl (bytes_eq m runtime) refl
   where
     by : (a : Bool) → (x == 0) ≡ a → (b : Bool) → bytes_eq m runtime ≡ b → a ≡ b
@@ -396,15 +455,21 @@ first-number ms known homes n x m e = by (x == 0) refl (bytes_eq m runtime) refl
         let z : x ≡ 0 = n.once x 0 m e (n.first ∙ ap Some (sym same)) in
         absurd (true≢false (sym (eq-eqb x 0 z) ∙ p))
 
-pub runtime-all : (ms known : List Module) (homes : List ℕ) → IsNumbering ms known homes → (ps : List (List ℕ)) (hs : List ℕ) (ts : List FileTree) → AreHomes known (map module_of ps) hs → runtime_files hs ts ≡ map fault_of_file (filter (λ s. same_module s.home runtime) (sources ps ts))
+pub runtime-all : (ms known : List Module) (homes : List ℕ) → IsNumbering ms known homes →
+    (ps : List (List ℕ)) (hs : List ℕ) (ts : List FileTree) → AreHomes known (map module_of ps) hs →
+    runtime_files hs ts ≡ map fault_of_file (filter (λ s. same_module s.home runtime) (sources ps ts))
 runtime-all ms known homes n [] [] ts h = refl
 runtime-all ms known homes n [] (x ∷ hs) ts h = absurd h
 runtime-all ms known homes n (p ∷ ps) [] ts h = absurd h
 runtime-all ms known homes n (p ∷ ps) (x ∷ hs) [] h = refl
 runtime-all ms known homes n (p ∷ ps) (x ∷ hs) (t ∷ ts) h =
-    by (x == 0) (bytes_eq (module_of p) runtime) (first-number ms known homes n x (module_of p) h.0) (runtime-all ms known homes n ps hs ts h.1)
+    by (x == 0) (bytes_eq (module_of p) runtime) (first-number ms known homes n x (module_of p) h.0)
+    (runtime-all ms known homes n ps hs ts h.1)
   where
-    by : (a b : Bool) → a ≡ b → runtime_files hs ts ≡ map fault_of_file (filter (λ s. same_module s.home runtime) (sources ps ts)) → cons_option (cond a (Some (fault 12 (start_of t.file))) None) (runtime_files hs ts) ≡ map fault_of_file (cond b (record { home = module_of p; tree = t } ∷ filter (λ s. same_module s.home runtime) (sources ps ts)) (filter (λ s. same_module s.home runtime) (sources ps ts)))
+    by : (a b : Bool) → a ≡ b → runtime_files hs ts ≡ map fault_of_file (filter (λ s. same_module s.home runtime) (sources ps ts)) →
+        cons_option (cond a (Some (fault 12 (start_of t.file))) None) (runtime_files hs ts) ≡
+        map fault_of_file (cond b (record { home = module_of p; tree = t } ∷ filter (λ s. same_module s.home runtime) (sources ps ts))
+        (filter (λ s. same_module s.home runtime) (sources ps ts)))
     by true true e r = ap (λ fs. fault 12 (start_of t.file) ∷ fs) r
     by false false e r = r
     by true false e r = absurd (true≢false e)

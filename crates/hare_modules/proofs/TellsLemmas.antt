@@ -36,15 +36,18 @@ is_some-or_else (Some a) p = refl
 
 -- ---- tables
 
-lookup-push : {T : Type 0} (x y : List ℕ) (v : T) (es : List (List ℕ × T)) → value_of x (es ++ (y, v) ∷ []) ≡ or_else (value_of x es) (cond (bytes_eq x y) (Some v) None)
+lookup-push : {T : Type 0} (x y : List ℕ) (v : T) (es : List (List ℕ × T)) →
+    value_of x (es ++ (y, v) ∷ []) ≡ or_else (value_of x es) (cond (bytes_eq x y) (Some v) None)
 lookup-push x y v [] = refl
 lookup-push x y v (e ∷ es) = by (bytes_eq x e.0) (lookup-push x y v es)
   where
-    by : (b : Bool) → value_of x (es ++ (y, v) ∷ []) ≡ or_else (value_of x es) (cond (bytes_eq x y) (Some v) None) → cond b (Some e.1) (value_of x (es ++ (y, v) ∷ [])) ≡ or_else (cond b (Some e.1) (value_of x es)) (cond (bytes_eq x y) (Some v) None)
+    by : (b : Bool) → value_of x (es ++ (y, v) ∷ []) ≡ or_else (value_of x es) (cond (bytes_eq x y) (Some v) None) →
+        cond b (Some e.1) (value_of x (es ++ (y, v) ∷ [])) ≡ or_else (cond b (Some e.1) (value_of x es)) (cond (bytes_eq x y) (Some v) None)
     by true h = refl
     by false h = h
 
-kept-value : {T : Type 0} (x y : List ℕ) (v : T) (es : List (List ℕ × T)) → has y es ≡ true → value_of x es ≡ or_else (value_of x es) (cond (bytes_eq x y) (Some v) None)
+kept-value : {T : Type 0} (x y : List ℕ) (v : T) (es : List (List ℕ × T)) → has y es ≡ true →
+    value_of x es ≡ or_else (value_of x es) (cond (bytes_eq x y) (Some v) None)
 kept-value x y v es h = by (bytes_eq x y) refl (value_of x es) refl
   where
     by : (b : Bool) → bytes_eq x y ≡ b → (o : Option _) → value_of x es ≡ o → o ≡ or_else o (cond b (Some v) None)
@@ -55,15 +58,18 @@ kept-value x y v es h = by (bytes_eq x y) refl (value_of x es) refl
         let none : has y es ≡ false = ap (λ z. has z es) (sym same) ∙ ap is_some p in
         absurd (true≢false (sym h ∙ none))
 
-value-put : {T : Type 0} (x y : List ℕ) (v : T) (es : List (List ℕ × T)) → value_of x (put es y v) ≡ or_else (value_of x es) (cond (bytes_eq x y) (Some v) None)
+value-put : {T : Type 0} (x y : List ℕ) (v : T) (es : List (List ℕ × T)) →
+    value_of x (put es y v) ≡ or_else (value_of x es) (cond (bytes_eq x y) (Some v) None)
 value-put x y v es = by (has y es) refl
   where
-    by : (b : Bool) → has y es ≡ b → value_of x (cond b es (es ++ (y, v) ∷ [])) ≡ or_else (value_of x es) (cond (bytes_eq x y) (Some v) None)
+    by : (b : Bool) → has y es ≡ b → value_of x (cond b es (es ++ (y, v) ∷ [])) ≡
+        or_else (value_of x es) (cond (bytes_eq x y) (Some v) None)
     by true e = kept-value x y v es e
     by false e = lookup-push x y v es
 
 -- what a table tells once a value was put into one
-value-put_at : {T : Type 0} (ts : List (List (List ℕ × T))) (n m : ℕ) (x y : List ℕ) (v : T) → n < length ts → value_of x (table_at (put_at ts n y v) m) ≡ or_else (value_of x (table_at ts m)) (cond (n == m && bytes_eq x y) (Some v) None)
+value-put_at : {T : Type 0} (ts : List (List (List ℕ × T))) (n m : ℕ) (x y : List ℕ) (v : T) → n < length ts →
+    value_of x (table_at (put_at ts n y v) m) ≡ or_else (value_of x (table_at ts m)) (cond (n == m && bytes_eq x y) (Some v) None)
 value-put_at {T} ts n m x y v l = ap (λ us. value_of x (table_at us m)) inside ∙ by (other m n)
   where
     new : List (List ℕ × T)
@@ -79,11 +85,15 @@ value-put_at {T} ts n m x y v l = ap (λ us. value_of x (table_at us m)) inside 
         by-test false e = refl
         by-test true e = absurd (h (sym (eqb-true n m e)))
 
-    by : Other m n → value_of x (table_at (set ts n new) m) ≡ or_else (value_of x (table_at ts m)) (cond (n == m && bytes_eq x y) (Some v) None)
-    by (inr h) = ap (value_of x) (get_or-set_other ts n m new [] h) ∙ sym (or_else-none (value_of x (table_at ts m))) ∙ ap (λ b. or_else (value_of x (table_at ts m)) (cond (b && bytes_eq x y) (Some v) None)) (sym (apart h))
+    by : Other m n → value_of x (table_at (set ts n new) m) ≡
+        or_else (value_of x (table_at ts m)) (cond (n == m && bytes_eq x y) (Some v) None)
+    by (inr h) = ap (value_of x) (get_or-set_other ts n m new [] h) ∙ sym (or_else-none (value_of x (table_at ts m))) ∙ ap
+        (λ b. or_else (value_of x (table_at ts m)) (cond (b && bytes_eq x y) (Some v) None)) (sym (apart h))
     by (inl h) =
-        subst (λ i. value_of x (table_at (set ts n new) i) ≡ or_else (value_of x (table_at ts i)) (cond (n == i && bytes_eq x y) (Some v) None)) (sym h)
-        (ap (value_of x) (get_or-set_same ts n new [] l) ∙ value-put x y v (table_at ts n) ∙ ap (λ b. or_else (value_of x (table_at ts n)) (cond (b && bytes_eq x y) (Some v) None)) (sym (eq-eqb n n refl)))
+        subst (λ i. value_of x (table_at (set ts n new) i) ≡
+        or_else (value_of x (table_at ts i)) (cond (n == i && bytes_eq x y) (Some v) None)) (sym h)
+        (ap (value_of x) (get_or-set_same ts n new [] l) ∙ value-put x y v (table_at ts n) ∙ ap
+        (λ b. or_else (value_of x (table_at ts n)) (cond (b && bytes_eq x y) (Some v) None)) (sym (eq-eqb n n refl)))
 
 -- ---- what was taken
 
@@ -108,7 +118,9 @@ module _ {B : Type 0} (p : Taking → Bool) (f : Taking → Option B) (gives : (
       by false = refl
   found-push (a ∷ ks) k = by (p a) refl (found-push ks k)
     where
-      by : (b : Bool) → p a ≡ b → found (ks ++ k ∷ []) ≡ or_else (found ks) (cond (p k) (f k) None) → option_and_then f (cond b (Some a) (find p (ks ++ k ∷ []))) ≡ or_else (option_and_then f (cond b (Some a) (find p ks))) (cond (p k) (f k) None)
+      by : (b : Bool) → p a ≡ b → found (ks ++ k ∷ []) ≡ or_else (found ks) (cond (p k) (f k) None) →
+          option_and_then f (cond b (Some a) (find p (ks ++ k ∷ []))) ≡
+          or_else (option_and_then f (cond b (Some a) (find p ks))) (cond (p k) (f k) None)
       by false e h = h
       by true e h = let g = gives a e in g.1 ∙ ap (λ o. or_else o (cond (p k) (f k) None)) (sym g.1)
 
@@ -116,7 +128,8 @@ module _ {B : Type 0} (p : Taking → Bool) (f : Taking → Option B) (gives : (
   some-found [] = refl
   some-found (a ∷ ks) = by (p a) refl (some-found ks)
     where
-      by : (b : Bool) → p a ≡ b → is_some (found ks) ≡ list_any p ks → is_some (option_and_then f (cond b (Some a) (find p ks))) ≡ (b || list_any p ks)
+      by : (b : Bool) → p a ≡ b → is_some (found ks) ≡ list_any p ks →
+          is_some (option_and_then f (cond b (Some a) (find p ks))) ≡ (b || list_any p ks)
       by false e h = h
       by true e h = let g = gives a e in ap is_some g.1
 
@@ -143,20 +156,26 @@ imports-gives : (f : ℕ) (x : List ℕ) (k : Taking) → imports_at f x k ≡ t
 imports-gives f x k h = the-imported k.taker (and-left (is_import k.taker) (k.file == f) (bytes_eq x k.name) h)
 
 -- the tables with a name more
-module _ (ks : List Taking) (t : Tables) (h : Tells ks t.items t.imported t.imports) (home file : ℕ) (name : List ℕ) (place : Place) (lh : home < length t.items) (lm : home < length t.imported) (lf : file < length t.imports) where
+module _ (ks : List Taking) (t : Tables) (h : Tells ks t.items t.imported t.imports) (home file : ℕ) (name : List ℕ) (place : Place)
+    (lh : home < length t.items) (lm : home < length t.imported) (lf : file < length t.imports) where
   abbrev with_taker : Taker → Taking
   with_taker r = record { home = home; file = file; name = name; place = place; taker = r }
 
-  items-on : (r : Taker) (m : ℕ) (x : List ℕ) → value_of x (table_at (items_with t.items (with_taker r)) m) ≡ declared_among (ks ++ with_taker r ∷ []) m x
-  items-on (ta.Import i) m x = h.items_told m x ∙ sym (or_else-none (declared_among ks m x)) ∙ sym (found-push (declares m x) (λ k. declared k.taker) (declares-gives m x) ks (with_taker (ta.Import i)))
+  items-on : (r : Taker) (m : ℕ) (x : List ℕ) →
+      value_of x (table_at (items_with t.items (with_taker r)) m) ≡ declared_among (ks ++ with_taker r ∷ []) m x
+  items-on (ta.Import i) m x = h.items_told m x ∙ sym (or_else-none (declared_among ks m x)) ∙ sym
+      (found-push (declares m x) (λ k. declared k.taker) (declares-gives m x) ks (with_taker (ta.Import i)))
   items-on (ta.Declaration e) m x =
       value-put_at t.items home m x name e lh ∙ ap (λ o. or_else o (cond (home == m && bytes_eq x name) (Some e) None)) (h.items_told m x)
       ∙ sym (found-push (declares m x) (λ k. declared k.taker) (declares-gives m x) ks (with_taker (ta.Declaration e)))
 
-  imports-on : (r : Taker) (f : ℕ) (x : List ℕ) → value_of x (table_at (imports_with t.imports (with_taker r)) f) ≡ imported_among (ks ++ with_taker r ∷ []) f x
-  imports-on (ta.Declaration e) f x = h.imports_told f x ∙ sym (or_else-none (imported_among ks f x)) ∙ sym (found-push (imports_at f x) (λ k. imported k.taker) (imports-gives f x) ks (with_taker (ta.Declaration e)))
+  imports-on : (r : Taker) (f : ℕ) (x : List ℕ) →
+      value_of x (table_at (imports_with t.imports (with_taker r)) f) ≡ imported_among (ks ++ with_taker r ∷ []) f x
+  imports-on (ta.Declaration e) f x = h.imports_told f x ∙ sym (or_else-none (imported_among ks f x)) ∙ sym
+      (found-push (imports_at f x) (λ k. imported k.taker) (imports-gives f x) ks (with_taker (ta.Declaration e)))
   imports-on (ta.Import i) f x =
-      value-put_at t.imports file f x name i lf ∙ ap (λ o. or_else o (cond (file == f && bytes_eq x name) (Some i) None)) (h.imports_told f x)
+      value-put_at t.imports file f x name i lf ∙ ap (λ o. or_else o (cond (file == f && bytes_eq x name) (Some i) None))
+      (h.imports_told f x)
       ∙ sym (found-push (imports_at f x) (λ k. imported k.taker) (imports-gives f x) ks (with_taker (ta.Import i)))
 
   some-if : (b : Bool) → is_some (cond b (Some (tt {0})) None) ≡ b
@@ -167,8 +186,10 @@ module _ (ks : List Taking) (t : Tables) (h : Tells ks t.items t.imported t.impo
   or-false true = refl
   or-false false = refl
 
-  imported-on : (r : Taker) (m : ℕ) (x : List ℕ) → has x (table_at (imported_with t.imported (with_taker r)) m) ≡ is_imported_among (ks ++ with_taker r ∷ []) m x
-  imported-on (ta.Declaration e) m x = h.imported_told m x ∙ or-false (is_imported_among ks m x) ∙ sym (list_any-push (imports_in m x) ks (with_taker (ta.Declaration e)))
+  imported-on : (r : Taker) (m : ℕ) (x : List ℕ) →
+      has x (table_at (imported_with t.imported (with_taker r)) m) ≡ is_imported_among (ks ++ with_taker r ∷ []) m x
+  imported-on (ta.Declaration e) m x = h.imported_told m x ∙ or-false (is_imported_among ks m x) ∙ sym
+      (list_any-push (imports_in m x) ks (with_taker (ta.Declaration e)))
   imported-on (ta.Import i) m x =
       ap is_some (value-put_at t.imported home m x name tt lm)
       ∙ is_some-or_else (value_of x (table_at t.imported m)) (cond (home == m && bytes_eq x name) (Some tt) None)
@@ -176,11 +197,14 @@ module _ (ks : List Taking) (t : Tables) (h : Tells ks t.items t.imported t.impo
       ∙ ap (λ b. b || (home == m && bytes_eq x name)) (h.imported_told m x)
       ∙ sym (list_any-push (imports_in m x) ks (with_taker (ta.Import i)))
 
-  tells-with : (r : Taker) → Tells (ks ++ with_taker r ∷ []) (items_with t.items (with_taker r)) (imported_with t.imported (with_taker r)) (imports_with t.imports (with_taker r))
+  tells-with : (r : Taker) → Tells (ks ++ with_taker r ∷ []) (items_with t.items (with_taker r)) (imported_with t.imported (with_taker r))
+      (imports_with t.imports (with_taker r))
   tells-with r = record { items_told = items-on r; imported_told = imported-on r; imports_told = imports-on r }
 
 -- the tables tell of one name more
-pub tells-on : (ks : List Taking) (t : Tables) (k : Taking) → Tells ks t.items t.imported t.imports → k.home < length t.items → k.home < length t.imported → k.file < length t.imports → Tells (ks ++ k ∷ []) (tables_with t k).items (tables_with t k).imported (tables_with t k).imports
+pub tells-on : (ks : List Taking) (t : Tables) (k : Taking) → Tells ks t.items t.imported t.imports → k.home < length t.items →
+    k.home < length t.imported → k.file < length t.imports →
+    Tells (ks ++ k ∷ []) (tables_with t k).items (tables_with t k).imported (tables_with t k).imports
 tells-on ks t k h lh lm lf = tells-with ks t h k.home k.file k.name k.place lh lm lf k.taker
 
 -- ---- equal names
@@ -189,7 +213,8 @@ tells-on ks t k h lh lm lf = tells-with ks t h k.home k.file k.name k.place lh l
 abbrev pub AreFiled : (ℕ → ℕ) → List Taking → Type 0
 AreFiled at ks = (k : Taking) → Contains ks k → is_import k.taker ≡ true → k.home ≡ at k.file
 
-clash-is : (i j h f b : Bool) → (i ≡ true → j ≡ true → f ≡ true → h ≡ true) → ((not i && h && b) || cond j (i && f && b) (i && h && b)) ≡ (h && b && (not (i && j) || f))
+clash-is : (i j h f b : Bool) → (i ≡ true → j ≡ true → f ≡ true → h ≡ true) →
+    ((not i && h && b) || cond j (i && f && b) (i && h && b)) ≡ (h && b && (not (i && j) || f))
 clash-is false j h f b p = by (h && b) j
   where
     by : (c j : Bool) → (c || cond j false false) ≡ (c && true)
@@ -216,8 +241,10 @@ names-symmetric x y = by (bytes_eq x y) refl (bytes_eq y x) refl
     by : (a : Bool) → bytes_eq x y ≡ a → (b : Bool) → bytes_eq y x ≡ b → a ≡ b
     by true e true f = refl
     by false e false f = refl
-    by true e false f = let s : bytes_eq y x ≡ true = (bytes_eq-Decides y x).1 (sym ((bytes_eq-Decides x y).0 e)) in absurd (true≢false (sym s ∙ f))
-    by false e true f = let s : bytes_eq x y ≡ true = (bytes_eq-Decides x y).1 (sym ((bytes_eq-Decides y x).0 f)) in absurd (true≢false (sym s ∙ e))
+    by true e false f =
+        let s : bytes_eq y x ≡ true = (bytes_eq-Decides y x).1 (sym ((bytes_eq-Decides x y).0 e)) in absurd (true≢false (sym s ∙ f))
+    by false e true f =
+        let s : bytes_eq x y ≡ true = (bytes_eq-Decides x y).1 (sym ((bytes_eq-Decides y x).0 f)) in absurd (true≢false (sym s ∙ e))
 
 list_any-or : {A : Type 0} (p q : A → Bool) (xs : List A) → (list_any p xs || list_any q xs) ≡ list_any (λ x. p x || q x) xs
 list_any-or p q [] = refl
@@ -235,30 +262,38 @@ list_any-or p q (x ∷ xs) = by (p x) (q x) (list_any p xs) (list_any q xs) (lis
 list_any-same : {A : Type 0} (p q : A → Bool) (xs : List A) → ((x : A) → Contains xs x → p x ≡ q x) → list_any p xs ≡ list_any q xs
 list_any-same p q [] h = refl
 list_any-same p q (x ∷ xs) h =
-    ap (λ b. b || list_any p xs) (h x (Contains-here x xs)) ∙ ap (λ b. q x || b) (list_any-same p q xs (λ y c. h y (Contains-behind x y xs c)))
+    ap (λ b. b || list_any p xs) (h x (Contains-here x xs)) ∙ ap (λ b. q x || b)
+    (list_any-same p q xs (λ y c. h y (Contains-behind x y xs c)))
 
-cond-any : {A : Type 0} (b : Bool) (p q : A → Bool) (xs : List A) → cond b (list_any p xs) (list_any q xs) ≡ list_any (λ x. cond b (p x) (q x)) xs
+cond-any : {A : Type 0} (b : Bool) (p q : A → Bool) (xs : List A) →
+    cond b (list_any p xs) (list_any q xs) ≡ list_any (λ x. cond b (p x) (q x)) xs
 cond-any true p q xs = refl
 cond-any false p q xs = refl
 
-module _ (at : ℕ → ℕ) (ks : List Taking) (t : Tables) (h : Tells ks t.items t.imported t.imports) (filed : AreFiled at ks) (k : Taking) (own : is_import k.taker ≡ true → k.home ≡ at k.file) where
+module _ (at : ℕ → ℕ) (ks : List Taking) (t : Tables) (h : Tells ks t.items t.imported t.imports) (filed : AreFiled at ks) (k : Taking)
+    (own : is_import k.taker ≡ true → k.home ≡ at k.file) where
   abbrev earlier_one : Taking → Bool
   earlier_one a = declares k.home k.name a || cond (is_import k.taker) (imports_at k.file k.name a) (imports_in k.home k.name a)
 
   one-clash : (a : Taking) → Contains ks a → earlier_one a ≡ clashes a k
   one-clash a c =
-      ap (λ b. (not (is_import a.taker) && a.home == k.home && b) || cond (is_import k.taker) (is_import a.taker && a.file == k.file && b) (is_import a.taker && a.home == k.home && b)) (names-symmetric k.name a.name)
+      ap (λ b. (not (is_import a.taker) && a.home == k.home && b) || cond (is_import k.taker) (is_import a.taker && a.file == k.file && b)
+      (is_import a.taker && a.home == k.home && b)) (names-symmetric k.name a.name)
       ∙ clash-is (is_import a.taker) (is_import k.taker) (a.home == k.home) (a.file == k.file) (bytes_eq a.name k.name)
       (λ i j f. let same : a.file ≡ k.file = eqb-true a.file k.file f in eq-eqb a.home k.home (filed a c i ∙ ap at same ∙ sym (own j)))
 
   pub taken-is : is_taken t k ≡ list_any (λ a. clashes a k) ks
   taken-is =
       ap (λ b. b || cond (is_import k.taker) (has k.name (table_at t.imports k.file)) (has k.name (table_at t.imported k.home)))
-      (ap is_some (h.items_told k.home k.name) ∙ some-found (declares k.home k.name) (λ a. declared a.taker) (declares-gives k.home k.name) ks)
+      (ap is_some (h.items_told k.home k.name) ∙ some-found (declares k.home k.name) (λ a. declared a.taker) (declares-gives k.home k.name)
+      ks)
       ∙ ap (λ b. list_any (declares k.home k.name) ks || cond (is_import k.taker) b (has k.name (table_at t.imported k.home)))
-      (ap is_some (h.imports_told k.file k.name) ∙ some-found (imports_at k.file k.name) (λ a. imported a.taker) (imports-gives k.file k.name) ks)
-      ∙ ap (λ b. list_any (declares k.home k.name) ks || cond (is_import k.taker) (list_any (imports_at k.file k.name) ks) b) (h.imported_told k.home k.name)
-      ∙ ap (λ b. list_any (declares k.home k.name) ks || b) (cond-any (is_import k.taker) (imports_at k.file k.name) (imports_in k.home k.name) ks)
+      (ap is_some (h.imports_told k.file k.name) ∙ some-found (imports_at k.file k.name) (λ a. imported a.taker)
+      (imports-gives k.file k.name) ks)
+      ∙ ap (λ b. list_any (declares k.home k.name) ks || cond (is_import k.taker) (list_any (imports_at k.file k.name) ks) b)
+      (h.imported_told k.home k.name)
+      ∙ ap (λ b. list_any (declares k.home k.name) ks || b)
+      (cond-any (is_import k.taker) (imports_at k.file k.name) (imports_in k.home k.name) ks)
       ∙ list_any-or (declares k.home k.name) (λ a. cond (is_import k.taker) (imports_at k.file k.name a) (imports_in k.home k.name a)) ks
       ∙ list_any-same earlier_one (λ a. clashes a k) ks one-clash
 
@@ -275,7 +310,8 @@ length-put_at {T} ts n x v = by (nat_lt n (length ts))
     by true = length-set ts n (put (table_at ts n) x v)
     by false = refl
 
-sized-with : (modules files : ℕ) (t : Tables) (home file : ℕ) (name : List ℕ) (place : Place) (r : Taker) → AreSized modules files t → AreSized modules files (tables_with t (record { home = home; file = file; name = name; place = place; taker = r }))
+sized-with : (modules files : ℕ) (t : Tables) (home file : ℕ) (name : List ℕ) (place : Place) (r : Taker) → AreSized modules files t →
+    AreSized modules files (tables_with t (record { home = home; file = file; name = name; place = place; taker = r }))
 sized-with modules files t home file name place (ta.Declaration e) s = record {
   items_sized = length-put_at t.items home name e ∙ s.items_sized;
   imported_sized = s.imported_sized;
@@ -299,11 +335,15 @@ pub record IsPlaced (at : ℕ → ℕ) (modules files : ℕ) (k : Taking) : Type
 abbrev pub ArePlaced : (ℕ → ℕ) → ℕ → ℕ → List Taking → Type 0
 ArePlaced at modules files ks = (k : Taking) → Contains ks k → IsPlaced at modules files k
 
-tells-next : (modules files : ℕ) (ks : List Taking) (t : Tables) (k : Taking) (at : ℕ → ℕ) → AreSized modules files t → IsPlaced at modules files k → Tells ks t.items t.imported t.imports → Tells (ks ++ k ∷ []) (tables_with t k).items (tables_with t k).imported (tables_with t k).imports
+tells-next : (modules files : ℕ) (ks : List Taking) (t : Tables) (k : Taking) (at : ℕ → ℕ) → AreSized modules files t →
+    IsPlaced at modules files k → Tells ks t.items t.imported t.imports →
+    Tells (ks ++ k ∷ []) (tables_with t k).items (tables_with t k).imported (tables_with t k).imports
 tells-next modules files ks t k at s p h =
-    tells-on ks t k h (subst (λ n. k.home < n) (sym s.items_sized) p.home_within) (subst (λ n. k.home < n) (sym s.imported_sized) p.home_within) (subst (λ n. k.file < n) (sym s.imports_sized) p.file_within)
+    tells-on ks t k h (subst (λ n. k.home < n) (sym s.items_sized) p.home_within)
+    (subst (λ n. k.home < n) (sym s.imported_sized) p.home_within) (subst (λ n. k.file < n) (sym s.imports_sized) p.file_within)
 
-filed-on : (at : ℕ → ℕ) (modules files : ℕ) (ks : List Taking) (k : Taking) → AreFiled at ks → IsPlaced at modules files k → AreFiled at (ks ++ k ∷ [])
+filed-on : (at : ℕ → ℕ) (modules files : ℕ) (ks : List Taking) (k : Taking) → AreFiled at ks → IsPlaced at modules files k →
+    AreFiled at (ks ++ k ∷ [])
 filed-on at modules files ks k f p a c = by (Contains-push_cases ks k a c)
   where
     by : Contains ks a ⊎ (k ≡ a) → is_import a.taker ≡ true → a.home ≡ at a.file
@@ -311,27 +351,37 @@ filed-on at modules files ks k f p a c = by (Contains-push_cases ks k a c)
     by (inr e) = subst (λ b. is_import b.taker ≡ true → b.home ≡ at b.file) e p.filed
 
 -- the faults at names that are taken are those at the later of two equal names
-pub repeated-is : (at : ℕ → ℕ) (modules files : ℕ) (ks before : List Taking) (t : Tables) → AreSized modules files t → ArePlaced at modules files ks → AreFiled at before → Tells before t.items t.imported t.imports → repeated_faults t ks ≡ map (λ k. fault 12 k.place) (repeated_behind clashes before ks)
+pub repeated-is : (at : ℕ → ℕ) (modules files : ℕ) (ks before : List Taking) (t : Tables) → AreSized modules files t →
+    ArePlaced at modules files ks → AreFiled at before → Tells before t.items t.imported t.imports →
+    repeated_faults t ks ≡ map (λ k. fault 12 k.place) (repeated_behind clashes before ks)
 repeated-is at modules files [] before t s p f h = refl
 repeated-is at modules files (k ∷ ks) before t s p f h =
     by (is_taken t k) (list_any (λ a. clashes a k) before) (taken-is at before t h f k own.filed)
-    (repeated-is at modules files ks (before ++ k ∷ []) (tables_with t k) (sized-on modules files t k s) (λ a c. p a (Contains-behind k a ks c)) (filed-on at modules files before k f own) (tells-next modules files before t k at s own h))
+    (repeated-is at modules files ks (before ++ k ∷ []) (tables_with t k) (sized-on modules files t k s)
+    (λ a c. p a (Contains-behind k a ks c)) (filed-on at modules files before k f own) (tells-next modules files before t k at s own h))
   where
     own : IsPlaced at modules files k
     own = p k (Contains-here k ks)
 
-    by : (b c : Bool) → b ≡ c → repeated_faults (tables_with t k) ks ≡ map (λ a. fault 12 a.place) (repeated_behind clashes (before ++ k ∷ []) ks) → cons_option (cond b (Some (fault 12 k.place)) None) (repeated_faults (tables_with t k) ks) ≡ map (λ a. fault 12 a.place) (cond c (k ∷ []) [] ++ repeated_behind clashes (before ++ k ∷ []) ks)
+    by : (b c : Bool) → b ≡ c → repeated_faults (tables_with t k) ks ≡
+        map (λ a. fault 12 a.place) (repeated_behind clashes (before ++ k ∷ []) ks) →
+        cons_option (cond b (Some (fault 12 k.place)) None) (repeated_faults (tables_with t k) ks) ≡
+        map (λ a. fault 12 a.place) (cond c (k ∷ []) [] ++ repeated_behind clashes (before ++ k ∷ []) ks)
     by true true e r = ap (λ fs. fault 12 k.place ∷ fs) r
     by false false e r = r
     by true false e r = absurd (true≢false e)
     by false true e r = absurd (true≢false (sym e))
 
 -- the tables tell of all names in the end
-pub tells-all : (at : ℕ → ℕ) (modules files : ℕ) (ks before : List Taking) (t : Tables) → AreSized modules files t → ArePlaced at modules files ks → Tells before t.items t.imported t.imports → Tells (before ++ ks) (fold tables_with t ks).items (fold tables_with t ks).imported (fold tables_with t ks).imports
+pub tells-all : (at : ℕ → ℕ) (modules files : ℕ) (ks before : List Taking) (t : Tables) → AreSized modules files t →
+    ArePlaced at modules files ks → Tells before t.items t.imported t.imports →
+    Tells (before ++ ks) (fold tables_with t ks).items (fold tables_with t ks).imported (fold tables_with t ks).imports
 tells-all at modules files [] before t s p h = subst (λ bs. Tells bs t.items t.imported t.imports) (sym (append-nil before)) h
 tells-all at modules files (k ∷ ks) before t s p h =
-    subst (λ bs. Tells bs (fold tables_with (tables_with t k) ks).items (fold tables_with (tables_with t k) ks).imported (fold tables_with (tables_with t k) ks).imports) (append_assoc before (k ∷ []) ks)
-    (tells-all at modules files ks (before ++ k ∷ []) (tables_with t k) (sized-on modules files t k s) (λ a c. p a (Contains-behind k a ks c)) (tells-next modules files before t k at s (p k (Contains-here k ks)) h))
+    subst (λ bs. Tells bs (fold tables_with (tables_with t k) ks).items (fold tables_with (tables_with t k) ks).imported
+    (fold tables_with (tables_with t k) ks).imports) (append_assoc before (k ∷ []) ks)
+    (tells-all at modules files ks (before ++ k ∷ []) (tables_with t k) (sized-on modules files t k s)
+    (λ a c. p a (Contains-behind k a ks c)) (tells-next modules files before t k at s (p k (Contains-here k ks)) h))
 
 -- ---- what is built in
 
@@ -339,7 +389,9 @@ built-value : (es : List (List ℕ × Entry)) (x : List ℕ) → value_of x es �
 built-value [] x = refl
 built-value (e ∷ es) x = by (bytes_eq x e.0) (built-value es x)
   where
-    by : (b : Bool) → value_of x es ≡ declared_among (map built_in_taking es) 0 x → cond b (Some e.1) (value_of x es) ≡ option_and_then (λ k. declared k.taker) (cond b (Some (built_in_taking e)) (find (declares 0 x) (map built_in_taking es)))
+    by : (b : Bool) → value_of x es ≡ declared_among (map built_in_taking es) 0 x →
+        cond b (Some e.1) (value_of x es) ≡ option_and_then (λ k. declared k.taker)
+        (cond b (Some (built_in_taking e)) (find (declares 0 x) (map built_in_taking es)))
     by true h = refl
     by false h = h
 
@@ -347,7 +399,9 @@ built-elsewhere : (es : List (List ℕ × Entry)) (m : ℕ) (x : List ℕ) → d
 built-elsewhere [] m x = refl
 built-elsewhere (e ∷ es) m x = by (0 == suc m) (eqb-zero-suc m) (built-elsewhere es m x)
   where
-    by : (b : Bool) → b ≡ false → declared_among (map built_in_taking es) (suc m) x ≡ None → option_and_then (λ k. declared k.taker) (cond (b && bytes_eq x e.0) (Some (built_in_taking e)) (find (declares (suc m) x) (map built_in_taking es))) ≡ None
+    by : (b : Bool) → b ≡ false → declared_among (map built_in_taking es) (suc m) x ≡ None →
+        option_and_then (λ k. declared k.taker)
+        (cond (b && bytes_eq x e.0) (Some (built_in_taking e)) (find (declares (suc m) x) (map built_in_taking es))) ≡ None
     by true e h = absurd (true≢false e)
     by false e h = h
 
@@ -364,13 +418,15 @@ empty-at zero m = refl
 empty-at (suc n) zero = refl
 empty-at (suc n) (suc m) = empty-at n m
 
-first-items : (modules : ℕ) → 0 < modules → (m : ℕ) (x : List ℕ) → value_of x (table_at (set (empty_tables modules) 0 built_in) m) ≡ declared_among built_in_takings m x
+first-items : (modules : ℕ) → 0 < modules → (m : ℕ) (x : List ℕ) →
+    value_of x (table_at (set (empty_tables modules) 0 built_in) m) ≡ declared_among built_in_takings m x
 first-items zero l m x = absurd (omega arith)
 first-items (suc n) l zero x = built-value built_in x
 first-items (suc n) l (suc m) x = ap (value_of x) (empty-at n m) ∙ sym (built-elsewhere built_in m x)
 
 -- at the start the tables tell of what is built in
-pub tells-first : (modules files : ℕ) → 0 < modules → Tells built_in_takings (first_tables modules files).items (first_tables modules files).imported (first_tables modules files).imports
+pub tells-first : (modules files : ℕ) → 0 < modules →
+    Tells built_in_takings (first_tables modules files).items (first_tables modules files).imported (first_tables modules files).imports
 tells-first modules files l = record {
   items_told = λ m x. first-items modules l m x;
   imported_told = λ m x. ap (has x) (empty-at modules m) ∙ sym (built-imports-in built_in m x);
@@ -392,6 +448,7 @@ filed-first at = none built_in
     none [] k c = absurd (Contains-none k c)
     none (e ∷ es) k c = by (none es k) (Contains-cases (built_in_taking e) k (map built_in_taking es) c)
       where
-        by : (Contains (map built_in_taking es) k → is_import k.taker ≡ true → k.home ≡ at k.file) → (built_in_taking e ≡ k) ⊎ Contains (map built_in_taking es) k → is_import k.taker ≡ true → k.home ≡ at k.file
+        by : (Contains (map built_in_taking es) k → is_import k.taker ≡ true → k.home ≡ at k.file) →
+            (built_in_taking e ≡ k) ⊎ Contains (map built_in_taking es) k → is_import k.taker ≡ true → k.home ≡ at k.file
         by more (inr d) = more d
         by more (inl q) = subst (λ j. is_import j.taker ≡ true → j.home ≡ at j.file) q (λ i. absurd (true≢false (sym i)))

@@ -36,9 +36,11 @@ imported known i = record { number = position (bytes_eq i.from) known; whole = i
 pub record IsDirectoryOf (ss : List Source) (d : Directory) : Type 0 where
   pub known : List Module
   pub all_known : (m : Module) → is_some (position (bytes_eq m) known) ≡ is_known ss m
-  pub items : (m : Module) (n : ℕ) (x : List ℕ) → position (bytes_eq m) known ≡ Some n → item_at d n x ≡ option_map entry (item_named ss m x)
+  pub items : (m : Module) (n : ℕ) (x : List ℕ) → position (bytes_eq m) known ≡ Some n →
+      item_at d n x ≡ option_map entry (item_named ss m x)
   pub own : (f : ℕ) (s : Source) (x : List ℕ) → slice_get ss f ≡ Some s → own_at d f x ≡ option_map entry (item_named ss s.home x)
-  pub imports_are : (f : ℕ) (s : Source) (x : List ℕ) → slice_get ss f ≡ Some s → import_at d f x ≡ option_map (imported known) (find (λ i. bytes_eq i.name x) (imports s.tree))
+  pub imports_are : (f : ℕ) (s : Source) (x : List ℕ) → slice_get ss f ≡ Some s →
+      import_at d f x ≡ option_map (imported known) (find (λ i. bytes_eq i.name x) (imports s.tree))
 
 -- one tree for each path, each with the number of its file, and numbers enough for the declarations
 pub record AreNumbered (paths : List (List ℕ)) (ts : List FileTree) : Type 0 where

@@ -31,7 +31,14 @@ abbrev import_claim : Source → Import → Claim
 import_claim s i = record { home = s.home; file = s.tree.file; imported = true; name = i.name; place = i.place }
 
 abbrev declaration_claim : Source → Node → Claim
-declaration_claim s t = record { home = s.home; file = s.tree.file; imported = false; name = text_of (name_in t); place = place_of (name_in t) }
+declaration_claim s t = record {
+  home = s.home;
+  file = s.tree.file;
+  imported = false;
+  name = text_of (name_in t);
+  place = place_of
+      (name_in t);
+}
 
 -- the names that a file takes, in the order of the source
 abbrev pub claims_of : Source → List Claim

@@ -57,7 +57,8 @@ abbrev pub imported_among : List Taking → ℕ → List ℕ → Option Imported
 imported_among ks f x = option_and_then (λ k. imported k.taker) (find (imports_at f x) ks)
 
 -- tables that tell of names what was taken
-pub record Tells (ks : List Taking) (items : List (List (List ℕ × Entry))) (imports_of : List (List (List ℕ × Unit {0}))) (imports : List (List (List ℕ × Imported))) : Type 0 where
+pub record Tells (ks : List Taking) (items : List (List (List ℕ × Entry))) (imports_of : List (List (List ℕ × Unit {0})))
+    (imports : List (List (List ℕ × Imported))) : Type 0 where
   pub items_told : (m : ℕ) (x : List ℕ) → value_of x (table_at items m) ≡ declared_among ks m x
   pub imported_told : (m : ℕ) (x : List ℕ) → has x (table_at imports_of m) ≡ is_imported_among ks m x
   pub imports_told : (f : ℕ) (x : List ℕ) → value_of x (table_at imports f) ≡ imported_among ks f x
@@ -128,7 +129,8 @@ tables_with t k = record { items = items_with t.items k; imported = imported_wit
 
 -- an earlier name clashes with this one
 abbrev pub is_taken : Tables → Taking → Bool
-is_taken t k = has k.name (table_at t.items k.home) || (if is_import k.taker then has k.name (table_at t.imports k.file) else has k.name (table_at t.imported k.home))
+is_taken t k = has k.name (table_at t.items k.home) ||
+    (if is_import k.taker then has k.name (table_at t.imports k.file) else has k.name (table_at t.imported k.home))
 
 abbrev pub repeated_fault : Tables → Taking → Option Fault
 repeated_fault t k = if is_taken t k then Some (fault 12 k.place) else None

@@ -49,7 +49,9 @@ same_added a b e = let k : a ∷ [] ≡ b ∷ [] = ap top_kids e in cc
 
 -- ---- trees
 
-pub done_is_read : (s : Sort) → has_trees s ≡ true → (file : ℕ) (ts us : List Token) (tree : Node) (n : ℕ) → run file (joined (closed ts)) (of s ∷ []) bottom ≡ Done us (add tree bottom) → StandsAt (closed ts) n us → n ≤ length ts → ((m : ℕ) → IsDepthFault (trees_of s) ts m → ⊥) → TreesFit s ts → IsRead s file ts tree n
+pub done_is_read : (s : Sort) → has_trees s ≡ true → (file : ℕ) (ts us : List Token) (tree : Node) (n : ℕ) →
+    run file (joined (closed ts)) (of s ∷ []) bottom ≡ Done us (add tree bottom) → StandsAt (closed ts) n us → n ≤ length ts →
+    ((m : ℕ) → IsDepthFault (trees_of s) ts m → ⊥) → TreesFit s ts → IsRead s file ts tree n
 done_is_read s c file ts us tree n e q h d fit =
     let b = done_behind file (joined (closed ts)) us (of s ∷ []) bottom (add tree bottom) e in
     let q' : StandsAt (closed ts) n (b.0 ∷ b.1) = subst (λ y. StandsAt (closed ts) n y) b.2 q in
@@ -57,28 +59,41 @@ done_is_read s c file ts us tree n e q h d fit =
     let i : r.tree ≡ tree = same_added r.tree tree (sym r.is_made) in
     let front = front_closed ts n h in
     let shaped : is_shaped s tree ≡ true = subst (λ t. is_shaped s t ≡ true) i r.shaped in
-    let spelled : Spells (spell 0 tree) (take n ts) = subst (λ t. Spells (spell 0 t) (take n ts)) i (subst (λ y. Spells (spell 0 r.tree) y) front r.spelled) in
-    let placed : HasPlaces file (joined (take n ts)) 0 tree = subst (λ t. HasPlaces file (joined (take n ts)) 0 t) i (subst (λ y. HasPlaces file (joined y) 0 r.tree) front r.placed) in
-    let t : IsTreeOf s file (take n ts) tree = record { fits = fits_tree s tree shaped (fit file us tree e); spelled = spelled; placed = placed } in
-    record { run = run_closed s ts n h r.ends; read = t; only = λ other o. tokens_have_one_tree s (trees_sort s c) file (take n ts) other tree o t; shallow = d }
+    let spelled : Spells (spell 0 tree) (take n ts) =
+    subst (λ t. Spells (spell 0 t) (take n ts)) i (subst (λ y. Spells (spell 0 r.tree) y) front r.spelled) in
+    let placed : HasPlaces file (joined (take n ts)) 0 tree =
+    subst (λ t. HasPlaces file (joined (take n ts)) 0 t) i (subst (λ y. HasPlaces file (joined y) 0 r.tree) front r.placed) in
+    let t : IsTreeOf s file (take n ts) tree =
+    record { fits = fits_tree s tree shaped (fit file us tree e); spelled = spelled; placed = placed } in
+    record {
+      run = run_closed s ts n h r.ends;
+      read = t;
+      only = λ other o. tokens_have_one_tree s (trees_sort s c) file (take n ts) other
+          tree o t;
+      shallow = d;
+    }
 
 -- ---- faults
 
 -- the joined tokens from a place in front of the last End on are at least one
-pub some_behind : (ts us : List Token) (n : ℕ) → StandsAt (closed ts) n us → n ≤ length ts → (t : Token) × (rest : List Token) × (us ≡ t ∷ rest)
+pub some_behind : (ts us : List Token) (n : ℕ) → StandsAt (closed ts) n us → n ≤ length ts → (t : Token) × (rest : List Token) ×
+    (us ≡ t ∷ rest)
 some_behind ts us n q h =
     let c = cut (closed ts) n (omega (arith, h, length-append ts (end ∷ []))) in
     let k = head c.first c.behind in
     (k.first, k.rest, q.behind ∙ ap joined c.rest ∙ k.is)
 
-pub stuck_is_broken : (s : Sort) → has_trees s ≡ true → (file : ℕ) (ts us : List Token) (n : ℕ) → run file (joined (closed ts)) (of s ∷ []) bottom ≡ Fails us → StandsAt (closed ts) n us → n ≤ length ts → ((m : ℕ) → IsDepthFault (trees_of s) ts m → ⊥) → IsBroken s ts n
+pub stuck_is_broken : (s : Sort) → has_trees s ≡ true → (file : ℕ) (ts us : List Token) (n : ℕ) →
+    run file (joined (closed ts)) (of s ∷ []) bottom ≡ Fails us → StandsAt (closed ts) n us → n ≤ length ts →
+    ((m : ℕ) → IsDepthFault (trees_of s) ts m → ⊥) → IsBroken s ts n
 stuck_is_broken s c file ts us n e q h d =
     let b = some_behind ts us n q h in
     let q' : StandsAt (closed ts) n (b.0 ∷ b.1) = subst (λ y. StandsAt (closed ts) n y) b.2 q in
     let e' : run file (joined (closed ts)) (of s ∷ []) bottom ≡ Fails (b.0 ∷ b.1) = e ∙ ap Fails b.2 in
     record {
       run = run_closed s ts n h (runs_fault s c file (closed ts) n b.0 b.1 e' q');
-      no_tree = λ tree a i. runs_fault_in_trees s c file (closed ts) n b.0 b.1 e' q' tree a (subst (λ y. Spells (spell 0 tree) y) (sym (front_closed ts n h)) i);
+      no_tree = λ tree a i. runs_fault_in_trees s c file (closed ts) n b.0 b.1 e' q' tree a
+          (subst (λ y. Spells (spell 0 tree) y) (sym (front_closed ts n h)) i);
       shallow = d;
     }
 
@@ -89,7 +104,8 @@ same_begin : (a : Bool) (us : List Token) → (a && begins_with_string us) ≡ f
 same_begin a [] e = and_false a
 same_begin a (t ∷ us) e = e
 
-stands_closed : (xs ys : List Token) (k : ℕ) → k ≤ length xs → ys ≡ drop k xs → StandsAt xs k (joined ys) → StandsAt (closed xs) k (joined (closed ys))
+stands_closed : (xs ys : List Token) (k : ℕ) → k ≤ length xs → ys ≡ drop k xs → StandsAt xs k (joined ys) →
+    StandsAt (closed xs) k (joined (closed ys))
 stands_closed xs ys k h e s =
     let d : drop k (closed xs) ≡ closed (drop k xs) = drop-append-le k xs (end ∷ []) h in
     record {
@@ -98,7 +114,8 @@ stands_closed xs ys k h e s =
     }
 
 -- a place of a list stands there too
-pub place_closed : (ts : List Token) (at n : ℕ) → at < length ts → IsPlace ts at n → StandsAt (closed (drop at ts)) (n - at) (joined (closed (drop n ts))) × (n - at ≤ length (drop at ts))
+pub place_closed : (ts : List Token) (at n : ℕ) → at < length ts → IsPlace ts at n →
+    StandsAt (closed (drop at ts)) (n - at) (joined (closed (drop n ts))) × (n - at ≤ length (drop at ts))
 place_closed ts at n h p =
     let w : n ≤ length ts = by p.within in
     let l : n - at ≤ length (drop at ts) = rw (length-drop at ts) (omega (arith, w)) in
@@ -111,18 +128,30 @@ place_closed ts at n h p =
 -- ---- answers
 
 -- the fault with a number at a place of the list, as the list from `at` on has it
-fault_dropped : (ts : List Token) (at number n : ℕ) → at < length ts → at ≤ n → fault_up_to ts number n ≡ fault_up_to (drop at ts) number (n - at)
+fault_dropped : (ts : List Token) (at number n : ℕ) → at < length ts → at ≤ n →
+    fault_up_to ts number n ≡ fault_up_to (drop at ts) number (n - at)
 fault_dropped ts at number n h i = ap (λ p. record { number = number; place = p }) (sym (place_dropped ts at n h i))
 
-pub told_is_fault : (s : Sort) (ts : List Token) (at n : ℕ) (f : fault.Fault) → at < length ts → IsFirstDepth (trees_of s) (drop at ts) at (Some n) → f ≡ fault_up_to ts 9 n → HasFault s (drop at ts) f
+pub told_is_fault : (s : Sort) (ts : List Token) (at n : ℕ) (f : fault.Fault) → at < length ts →
+    IsFirstDepth (trees_of s) (drop at ts) at (Some n) → f ≡ fault_up_to ts 9 n → HasFault s (drop at ts) f
 told_is_fault s ts at n f h d e = (n - at, inl (e ∙ fault_dropped ts at 9 n h d.0, record { passed = d.1; first = d.2 }))
 
-pub stuck_is_fault : (s : Sort) → has_trees s ≡ true → (file : ℕ) (ts : List Token) (at n : ℕ) (f : fault.Fault) → at < length ts → run file (joined (closed (drop at ts))) (of s ∷ []) bottom ≡ Fails (joined (closed (drop n ts))) → IsPlace ts at n → ((m : ℕ) → IsDepthFault (trees_of s) (drop at ts) m → ⊥) → f ≡ fault_up_to ts 8 n → HasFault s (drop at ts) f
+pub stuck_is_fault : (s : Sort) → has_trees s ≡ true → (file : ℕ) (ts : List Token) (at n : ℕ) (f : fault.Fault) → at < length ts →
+    run file (joined (closed (drop at ts))) (of s ∷ []) bottom ≡ Fails (joined (closed (drop n ts))) → IsPlace ts at n →
+    ((m : ℕ) → IsDepthFault (trees_of s) (drop at ts) m → ⊥) → f ≡ fault_up_to ts 8 n → HasFault s (drop at ts) f
 stuck_is_fault s c file ts at n f h e p d i =
-    let q = place_closed ts at n h p in
-    (n - at, inr (i ∙ fault_dropped ts at 8 n h p.behind, stuck_is_broken s c file (drop at ts) (joined (closed (drop n ts))) (n - at) e q.0 q.1 d))
+    let q = place_closed ts at n h p in (
+      n - at,
+      inr (
+        i ∙ fault_dropped ts at 8 n h p.behind,
+        stuck_is_broken s c file (drop at ts) (joined (closed (drop n ts))) (n - at) e q.0
+            q.1 d,
+      ),
+    )
 
-pub done_is_parsed : (s : Sort) → has_trees s ≡ true → (file : ℕ) (ts : List Token) (at n : ℕ) (tree : Node) → at < length ts → run file (joined (closed (drop at ts))) (of s ∷ []) bottom ≡ Done (joined (closed (drop n ts))) (add tree bottom) → IsPlace ts at n → ((m : ℕ) → IsDepthFault (trees_of s) (drop at ts) m → ⊥) → TreesFit s (drop at ts) → (at ≤ n) × IsRead s file (drop at ts) tree (n - at)
+pub done_is_parsed : (s : Sort) → has_trees s ≡ true → (file : ℕ) (ts : List Token) (at n : ℕ) (tree : Node) → at < length ts →
+    run file (joined (closed (drop at ts))) (of s ∷ []) bottom ≡ Done (joined (closed (drop n ts))) (add tree bottom) → IsPlace ts at n →
+    ((m : ℕ) → IsDepthFault (trees_of s) (drop at ts) m → ⊥) → TreesFit s (drop at ts) → (at ≤ n) × IsRead s file (drop at ts) tree (n - at)
 done_is_parsed s c file ts at n tree h e p d fit =
     let q = place_closed ts at n h p in
     (p.behind, done_is_read s c file (drop at ts) (joined (closed (drop n ts))) tree (n - at) e q.0 q.1 d fit)

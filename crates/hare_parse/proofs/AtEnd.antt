@@ -39,24 +39,28 @@ joined_closed ts = joined_append ts (end ∷ []) (no_string (ends_in_string ts))
 
 -- no step uses End
 end_unused : (f : ℕ) (st st' : List Symbol) (gs gs' : List Group) → step f end cl.Junk st gs ≡ Goes st' gs' → ⊥
-end_unused f st st' gs gs' e = step_unused end.place.line st st' (frames gs) (frames gs') (steps_are_seen f end cl.Junk st gs ∙ ap seen_step e)
+end_unused f st st' gs gs' e = step_unused end.place.line st st' (frames gs) (frames gs')
+    (steps_are_seen f end cl.Junk st gs ∙ ap seen_step e)
 
 -- whether the answer is that nothing is waited for
 abbrev pub is_ends : Answer → Bool
 is_ends an.Ends = true
 is_ends _ = false
 
-pub at_end : (f : ℕ) (st : List Symbol) (gs : List Group) (a : Answer) (st' : List Symbol) (gs' : List Group) → Says (step f end (class_of end) st gs) a st' gs' → run f (closed []) st gs ≡ outcome_at_end (is_ends a) gs'
+pub at_end : (f : ℕ) (st : List Symbol) (gs : List Group) (a : Answer) (st' : List Symbol) (gs' : List Group) →
+    Says (step f end (class_of end) st gs) a st' gs' → run f (closed []) st gs ≡ outcome_at_end (is_ends a) gs'
 unfolding run
 at_end f st gs a st' gs' s = by (step f end (class_of end) st gs) refl s
   where
-    by : (z : Step) → step f end (class_of end) st gs ≡ z → Says z a st' gs' → after z end [] (λ b c. run f [] b c) ≡ outcome_at_end (is_ends a) gs'
+    by : (z : Step) → step f end (class_of end) st gs ≡ z → Says z a st' gs' →
+        after z end [] (λ b c. run f [] b c) ≡ outcome_at_end (is_ends a) gs'
     by (Goes b c) e i = absurd (end_unused f st b gs c e)
     by (Ends c) e i = rw (i.0, i.1) refl
     by Stuck e i = rw i refl
 
 -- what a step at End says, where the token, its class and the answer are told by equations
-pub says_at : (f : ℕ) (t : Token) (c : Class) (st : List Symbol) (gs : List Group) (a b : Answer) (st' : List Symbol) (gs' : List Group) → t ≡ end → c ≡ class_of t → a ≡ b → Says (step f t c st gs) a st' gs' → Says (step f end (class_of end) st gs) b st' gs'
+pub says_at : (f : ℕ) (t : Token) (c : Class) (st : List Symbol) (gs : List Group) (a b : Answer) (st' : List Symbol) (gs' : List Group) →
+    t ≡ end → c ≡ class_of t → a ≡ b → Says (step f t c st gs) a st' gs' → Says (step f end (class_of end) st gs) b st' gs'
 says_at f t c st gs a b st' gs' e k i s =
     let x : Says (step f t c st gs) b st' gs' = subst (λ y. Says (step f t c st gs) y st' gs') i s in
     let y : Says (step f t (class_of t) st gs) b st' gs' = subst (λ z. Says (step f t z st gs) b st' gs') k x in
@@ -76,21 +80,28 @@ some_left ts n h =
     (k.first, k.rest, ap joined c.rest ∙ k.is)
 
 -- a run that is done at a token of the list
-pub done_closed : (f : ℕ) (ts : List Token) (n : ℕ) (us : List Token) (st : List Symbol) (made : List Group) → run f (joined us) st bottom ≡ Done (joined (drop n ts)) made → run f (joined (closed us)) st bottom ≡ Done (joined (closed (drop n ts))) made
+pub done_closed : (f : ℕ) (ts : List Token) (n : ℕ) (us : List Token) (st : List Symbol) (made : List Group) →
+    run f (joined us) st bottom ≡ Done (joined (drop n ts)) made →
+    run f (joined (closed us)) st bottom ≡ Done (joined (closed (drop n ts))) made
 done_closed f ts n us st made e =
     let b = done_behind f (joined us) (joined (drop n ts)) st bottom made e in
     let d = done_more f (joined us) (closed []) st bottom b.0 b.1 made (e ∙ ap (λ y. Done y made) b.2) in
-    ap (λ y. run f y st bottom) (joined_closed us) ∙ d ∙ ap (λ y. Done (y ++ closed []) made) (sym b.2) ∙ ap (λ y. Done y made) (sym (joined_closed (drop n ts)))
+    ap (λ y. run f y st bottom) (joined_closed us) ∙ d ∙ ap (λ y. Done (y ++ closed []) made) (sym b.2) ∙ ap (λ y. Done y made)
+    (sym (joined_closed (drop n ts)))
 
 -- a run that fails at a token of the list
-pub fails_closed : (f : ℕ) (ts : List Token) (n : ℕ) (us : List Token) (st : List Symbol) → n < length ts → run f (joined us) st bottom ≡ Fails (joined (drop n ts)) → run f (joined (closed us)) st bottom ≡ Fails (joined (closed (drop n ts)))
+pub fails_closed : (f : ℕ) (ts : List Token) (n : ℕ) (us : List Token) (st : List Symbol) → n < length ts →
+    run f (joined us) st bottom ≡ Fails (joined (drop n ts)) → run f (joined (closed us)) st bottom ≡ Fails (joined (closed (drop n ts)))
 fails_closed f ts n us st h e =
     let b = some_left ts n h in
     let d = fails_more f (joined us) (closed []) st bottom b.0 b.1 (e ∙ ap Fails b.2) in
-    ap (λ y. run f y st bottom) (joined_closed us) ∙ d ∙ ap (λ y. Fails (y ++ closed [])) (sym b.2) ∙ ap Fails (sym (joined_closed (drop n ts)))
+    ap (λ y. run f y st bottom) (joined_closed us) ∙ d ∙ ap (λ y. Fails (y ++ closed [])) (sym b.2) ∙ ap Fails
+    (sym (joined_closed (drop n ts)))
 
 -- a run that has used up the list
-pub used_closed : (f : ℕ) (ts : List Token) (n : ℕ) (us : List Token) (st st' : List Symbol) (gs : List Group) (ends : Bool) (made : List Group) → length ts ≤ n → run f (joined us ++ closed []) st bottom ≡ run f (closed []) st' gs → run f (closed []) st' gs ≡ outcome_at_end ends made → run f (joined (closed us)) st bottom ≡ outcome_at ends (closed (drop n ts)) made
+pub used_closed : (f : ℕ) (ts : List Token) (n : ℕ) (us : List Token) (st st' : List Symbol) (gs : List Group) (ends : Bool)
+    (made : List Group) → length ts ≤ n → run f (joined us ++ closed []) st bottom ≡ run f (closed []) st' gs →
+    run f (closed []) st' gs ≡ outcome_at_end ends made → run f (joined (closed us)) st bottom ≡ outcome_at ends (closed (drop n ts)) made
 used_closed f ts n us st st' gs ends made h e a =
     ap (λ y. run f y st bottom) (joined_closed us) ∙ e ∙ a ∙ by ends ∙ ap (λ y. outcome_at ends (closed y) made) (sym (past ts n h))
   where

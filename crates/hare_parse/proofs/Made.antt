@@ -12,7 +12,8 @@ use Rattle.hare_parse.specs.Runs.{HoldsTree}
 use Rattle.hare_parse.specs.Files.{imports, others, HaveSorts, HoldsFile, file_made}
 use Rattle.hare_parse.proofs.FileParts.{imports_in, others_in}
 
-pub holds_tree : (s : Sort) (file : ℕ) (ts rest : List Token) (gs : List Group) → run file ts (of s ∷ []) bottom ≡ Done rest gs → HoldsTree gs
+pub holds_tree : (s : Sort) (file : ℕ) (ts rest : List Token) (gs : List Group) → run file ts (of s ∷ []) bottom ≡ Done rest gs →
+    HoldsTree gs
 holds_tree s file ts rest gs e = let r = runs_read_trees s file ts rest gs e in record { tree = r.tree; is = r.is_made }
 
 pub holds_file : (file : ℕ) (ts rest : List Token) (gs : List Group) → run file ts file_symbols bottom ≡ Done rest gs → HoldsFile gs
@@ -35,8 +36,10 @@ file_is gs ts us ds h e a b =
     let d : ds ≡ h.decls = b ∙ ap others k ∙ others_in h.uses h.decls h.sorts in
     rw (u, d) (h.is, h.sorts)
 
-pub file_read : (file : ℕ) (ts rest : List Token) (gs : List Group) (us ds trees : List Node) → run file ts file_symbols bottom ≡ Done rest gs →
-    gs ≡ begun (start_of 0) trees ∷ [] → us ≡ imports trees → ds ≡ others trees → (run file ts file_symbols bottom ≡ Done rest (file_made us ds)) × HaveSorts us ds
+pub file_read : (file : ℕ) (ts rest : List Token) (gs : List Group) (us ds trees : List Node) →
+    run file ts file_symbols bottom ≡ Done rest gs →
+    gs ≡ begun (start_of 0) trees ∷ [] → us ≡ imports trees → ds ≡ others trees →
+    (run file ts file_symbols bottom ≡ Done rest (file_made us ds)) × HaveSorts us ds
 file_read file ts rest gs us ds trees e m a b =
     let i = file_is gs trees us ds (holds_file file ts rest gs e) m a b in
     (e ∙ ap (Done rest) i.0, i.1)

@@ -19,12 +19,14 @@ run_no_less l ts n m a b h = a.longest (omega (arith, h, b.within)) (viable_fron
 pub run_once : {T : Type 0} (l : Language T) (ts : List Token) (n m : ℕ) → IsRun l ts n → IsRun l ts m → n ≡ m
 run_once l ts n m a b = same_place n m (run_no_less l ts n m a b) (run_no_less l ts m n b a)
 
-pub read_once : (s : Sort) (file : ℕ) (ts : List Token) (a b : Node) (n m : ℕ) → IsRead s file ts a n → IsRead s file ts b m → (b ≡ a) × (m ≡ n)
+pub read_once : (s : Sort) (file : ℕ) (ts : List Token) (a b : Node) (n m : ℕ) → IsRead s file ts a n → IsRead s file ts b m → (b ≡ a) ×
+    (m ≡ n)
 read_once s file ts a b n m x y =
     let e = run_once _ ts m n y.run x.run in
     (x.only b (subst (λ k. IsTreeOf s file (take k ts) b) e y.read), e)
 
-pub read_no_fault : (s : Sort) (file : ℕ) (ts : List Token) (a : Node) (n : ℕ) (f : fault.Fault) → IsRead s file ts a n → HasFault s ts f → ⊥
+pub read_no_fault : (s : Sort) (file : ℕ) (ts : List Token) (a : Node) (n : ℕ) (f : fault.Fault) → IsRead s file ts a n → HasFault s ts f →
+    ⊥
 read_no_fault s file ts a n f x (m, inl d) = x.shallow m d.1.passed
 read_no_fault s file ts a n f x (m, inr d) =
     let e = run_once _ ts n m x.run d.1.run in
@@ -42,7 +44,8 @@ fault_once s ts f g (n, inr a) (m, inr b) = a.0 ∙ ap (fault_up_to ts 8) (run_o
 -- ---- what a call gives
 
 -- the one tree, where there is one
-pub only_tree : (s : Sort) (ts : List Token) (at : ℕ) (result : Result Parsed (Stop fault.Fault)) → IfOk result (λ p. IsParsed s ts at p) → IfErr result (λ e. Stops s ts at e) → (tree : Node) (n : ℕ) → IsRead s (file_in ts at) (drop at ts) tree n → GivesTree at tree n result
+pub only_tree : (s : Sort) (ts : List Token) (at : ℕ) (result : Result Parsed (Stop fault.Fault)) → IfOk result (λ p. IsParsed s ts at p) →
+    IfErr result (λ e. Stops s ts at e) → (tree : Node) (n : ℕ) → IsRead s (file_in ts at) (drop at ts) tree n → GivesTree at tree n result
 only_tree s ts at (Ok p) ok err tree n r =
     let e = read_once s (file_in ts at) (drop at ts) tree p.tree n (p.next - at) r ok.1 in
     (e.0, omega (arith, e.1, ok.0))
@@ -50,7 +53,8 @@ only_tree s ts at (Err (Fault f)) ok err tree n r = absurd (read_no_fault s (fil
 only_tree s ts at (Err Memory) ok err tree n r = refl
 
 -- the one fault, where there is one
-pub only_fault : (s : Sort) (ts : List Token) (at : ℕ) (result : Result Parsed (Stop fault.Fault)) → IfOk result (λ p. IsParsed s ts at p) → IfErr result (λ e. Stops s ts at e) → (f : fault.Fault) → HasFault s (drop at ts) f → GivesFault f result
+pub only_fault : (s : Sort) (ts : List Token) (at : ℕ) (result : Result Parsed (Stop fault.Fault)) → IfOk result (λ p. IsParsed s ts at p) →
+    IfErr result (λ e. Stops s ts at e) → (f : fault.Fault) → HasFault s (drop at ts) f → GivesFault f result
 only_fault s ts at (Ok p) ok err f h = read_no_fault s (file_in ts at) (drop at ts) p.tree (p.next - at) f ok.1 h
 only_fault s ts at (Err (Fault g)) ok err f h = inr (ap Fault (fault_once s (drop at ts) g f err h))
 only_fault s ts at (Err Memory) ok err f h = inl refl

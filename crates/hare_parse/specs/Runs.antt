@@ -16,7 +16,8 @@ use Rattle.hare_depth.specs.Depth.{closed}
 use Rattle.hare_parse.specs.Steps.{Says}
 
 -- What came of the first of the joined tokens from a place on: the answer, and the place of the next.
-pub record Reads (f : ℕ) (ts : List Token) (at : ℕ) (st : List Symbol) (gs : List Group) (r : Read) (st' : List Symbol) (gs' : List Group) : Type 0 where
+pub record Reads (f : ℕ) (ts : List Token) (at : ℕ) (st : List Symbol) (gs : List Group) (r : Read) (st' : List Symbol)
+    (gs' : List Group) : Type 0 where
   pub token : Token
   pub begins : BeginsWith ts at token r.next
   pub says : Says (step f token (class_of token) st gs) r.answer st' gs'
@@ -38,7 +39,8 @@ pub record HoldsTree (gs : List Group) : Type 0 where
   pub tree : Node
   pub is : gs ≡ add tree bottom
 
--- The outcome of the machine's run that this answer says. Its tokens are the joined tokens from the place on that is answered, with End behind them.
+-- The outcome of the machine's run that this answer says. Its tokens are the joined tokens from the place on that is answered, with End
+-- behind them.
 abbrev pub outcome_of : Answered → List Token → Outcome
 outcome_of (ou.Done tree n) ts = Done (joined (closed (drop n ts))) (add tree bottom)
 outcome_of (ou.Stuck n) ts = Fails (joined (closed (drop n ts)))

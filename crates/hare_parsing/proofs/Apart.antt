@@ -122,7 +122,8 @@ or_refuses Fault ds a = refl
 or_refuses (Skips cs) ds a = refl
 or_refuses (Uses cs rs) ds a = a
 
-pub at_apt : (a : Sign) (c : Class) (cs ds : List Change) (ss : List Symbol) → apt ss ≡ true → row_apt (at_sign a c (Uses cs ss) (Skips ds)) ≡ true
+pub at_apt : (a : Sign) (c : Class) (cs ds : List Change) (ss : List Symbol) → apt ss ≡ true →
+    row_apt (at_sign a c (Uses cs ss) (Skips ds)) ≡ true
 at_apt a c cs ds ss g = by (has_sign a c)
   where
     by : (b : Bool) → row_apt (if b then Uses cs ss else Skips ds) ≡ true
@@ -231,7 +232,8 @@ of_apt so.Statement c = level_apt 1 c
 of_apt so.Pattern (cl.Sign si.Let) = refl
 of_apt so.Pattern (cl.Sign si.Null) = refl
 of_apt so.Pattern c = type_apt c
-of_apt so.Values c = led_apt (ch.Open ∷ []) (before (level_row 1 c) (rest_of 1 ki.Values)) (before_apt (level_row 1 c) (rest_of 1 ki.Values) (level_apt 1 c) refl refl)
+of_apt so.Values c = led_apt (ch.Open ∷ []) (before (level_row 1 c) (rest_of 1 ki.Values))
+    (before_apt (level_row 1 c) (rest_of 1 ki.Values) (level_apt 1 c) refl refl)
 of_apt so.Decl (cl.Sign si.Export) = refl
 of_apt so.Decl c = led_apt (ch.Open ∷ ch.Absent ∷ []) (decl_word_row c) (word_apt c)
 of_apt so.Left c = refl

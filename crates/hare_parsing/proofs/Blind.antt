@@ -43,7 +43,8 @@ blind_change f t t' ch.Lift gs e = refl
 blind_change f t t' ch.Drop gs e = refl
 blind_change f t t' _ gs e = cc
 
-blind_changes : (f : ℕ) (t t' : Token) (ds : List Change) (gs : List Group) → list_all is_blind ds ≡ true → all_changed f t ds gs ≡ all_changed f t' ds gs
+blind_changes : (f : ℕ) (t t' : Token) (ds : List Change) (gs : List Group) → list_all is_blind ds ≡ true →
+    all_changed f t ds gs ≡ all_changed f t' ds gs
 blind_changes f t t' [] gs e = refl
 blind_changes f t t' (d ∷ ds) gs e =
     let p = split (is_blind d) (list_all is_blind ds) e in
@@ -62,7 +63,8 @@ before_blind (Uses cs rs) ss a = refl
 
 all_append : (ds cs : List Change) → list_all is_blind ds ≡ true → list_all is_blind cs ≡ true → list_all is_blind (ds ++ cs) ≡ true
 all_append [] cs a b = b
-all_append (d ∷ ds) cs a b = let p = split (is_blind d) (list_all is_blind ds) a in both (is_blind d) (list_all is_blind (ds ++ cs)) p.0 (all_append ds cs p.1 b)
+all_append (d ∷ ds) cs a b =
+    let p = split (is_blind d) (list_all is_blind ds) a in both (is_blind d) (list_all is_blind (ds ++ cs)) p.0 (all_append ds cs p.1 b)
 
 led_blind : (ds : List Change) (r : Row) → list_all is_blind ds ≡ true → row_blind r ≡ true → row_blind (led_by ds r) ≡ true
 led_blind ds Fault a b = refl
@@ -74,7 +76,8 @@ or_blind Fault ds a = a
 or_blind (Skips cs) ds a = a
 or_blind (Uses cs rs) ds a = refl
 
-at_blind : (a : Sign) (c : Class) (cs ds : List Change) (ss : List Symbol) → list_all is_blind ds ≡ true → row_blind (at_sign a c (Uses cs ss) (Skips ds)) ≡ true
+at_blind : (a : Sign) (c : Class) (cs ds : List Change) (ss : List Symbol) → list_all is_blind ds ≡ true →
+    row_blind (at_sign a c (Uses cs ss) (Skips ds)) ≡ true
 at_blind a c cs ds ss g = by (has_sign a c)
   where
     by : (b : Bool) → row_blind (if b then Uses cs ss else Skips ds) ≡ true
@@ -190,7 +193,8 @@ of_sure so.Statement c = level_sure 1 c
 of_sure so.Pattern (cl.Sign si.Let) = refl
 of_sure so.Pattern (cl.Sign si.Null) = refl
 of_sure so.Pattern c = type_sure c
-of_sure so.Values c = led_sure (ch.Open ∷ []) (before (level_row 1 c) (rest_of 1 ki.Values)) (before_sure (level_row 1 c) (rest_of 1 ki.Values) (level_sure 1 c))
+of_sure so.Values c = led_sure (ch.Open ∷ []) (before (level_row 1 c) (rest_of 1 ki.Values))
+    (before_sure (level_row 1 c) (rest_of 1 ki.Values) (level_sure 1 c))
 of_sure so.Decl (cl.Sign si.Export) = refl
 of_sure so.Decl c = led_sure (ch.Open ∷ ch.Absent ∷ []) (decl_word_row c) (word_sure c)
 of_sure so.Left c = refl
@@ -227,12 +231,14 @@ row_is_blind (ru.EachLed a s) c = at_blind a c [] [] (of s ∷ part (ru.EachLed 
 row_is_blind (ru.EachFollowed s a) c = or_blind (before (of_row s c) (sy.Want a ∷ part (ru.EachFollowed s a) ∷ [])) [] refl
 row_is_blind (ru.List s) c = or_blind (before (of_row s c) (part (ru.More s) ∷ [])) (ch.Absent ∷ []) refl
 row_is_blind (ru.More s) c = at_blind si.Comma c (ch.Open ∷ []) (ch.Absent ∷ []) (part (ru.BehindComma s) ∷ []) refl
-row_is_blind (ru.BehindComma s) c = or_blind (led_by (ch.Drop ∷ []) (before (of_row s c) (part (ru.More s) ∷ []))) (ch.Close ki.TrailingComma ∷ []) refl
+row_is_blind (ru.BehindComma s) c = or_blind (led_by (ch.Drop ∷ []) (before (of_row s c) (part (ru.More s) ∷ [])))
+    (ch.Close ki.TrailingComma ∷ []) refl
 row_is_blind ru.Elements c = or_blind (before (level_row 1 c) (part ru.MoreElements ∷ [])) (ch.Absent ∷ ch.Absent ∷ []) refl
 row_is_blind ru.MoreElements (cl.Sign si.Comma) = refl
 row_is_blind ru.MoreElements (cl.Sign _) = refl
 row_is_blind ru.MoreElements _ = refl
-row_is_blind ru.BehindElementComma c = or_blind (led_by (ch.Drop ∷ ch.Drop ∷ []) (before (level_row 1 c) (part ru.MoreElements ∷ []))) (ch.Close ki.TrailingComma ∷ ch.Lift ∷ []) refl
+row_is_blind ru.BehindElementComma c = or_blind (led_by (ch.Drop ∷ ch.Drop ∷ []) (before (level_row 1 c) (part ru.MoreElements ∷ [])))
+    (ch.Close ki.TrailingComma ∷ ch.Lift ∷ []) refl
 row_is_blind ru.LastComma (cl.Sign si.Comma) = refl
 row_is_blind ru.LastComma (cl.Sign _) = refl
 row_is_blind ru.LastComma _ = refl
@@ -266,7 +272,8 @@ row_is_blind ru.AfterIndex _ = refl
 row_is_blind ru.AfterYield (cl.Sign si.Colon) = refl
 row_is_blind ru.AfterYield c = or_blind (before (level_row 1 c) (sy.Close ki.Yield ∷ [])) (ch.Absent ∷ ch.Close ki.Yield ∷ []) refl
 row_is_blind ru.ForHead (cl.Sign si.Let) = refl
-row_is_blind ru.ForHead c = led_blind (ch.Absent ∷ []) (before (level_row 1 c) (rest_of 5 ki.For)) refl (before_blind (level_row 1 c) (rest_of 5 ki.For) (sure_blind (level_row 1 c) (level_sure 1 c)))
+row_is_blind ru.ForHead c = led_blind (ch.Absent ∷ []) (before (level_row 1 c) (rest_of 5 ki.For)) refl
+    (before_blind (level_row 1 c) (rest_of 5 ki.For) (sure_blind (level_row 1 c) (level_sure 1 c)))
 row_is_blind ru.AfterForName (cl.Sign si.Colon) = refl
 row_is_blind ru.AfterForName (cl.Sign _) = refl
 row_is_blind ru.AfterForName _ = refl
@@ -284,7 +291,8 @@ row_is_blind ru.AfterUsePart c = use_part_blind c
 -- ---- steps
 
 -- where nothing is waited for, the trees are the same whatever the token
-pub same_end : (f : ℕ) (t t' : Token) (c : Class) (st : List Symbol) (gs made : List Group) → step f t c st gs ≡ Ends made → step f t' c st gs ≡ Ends made
+pub same_end : (f : ℕ) (t t' : Token) (c : Class) (st : List Symbol) (gs made : List Group) → step f t c st gs ≡ Ends made →
+    step f t' c st gs ≡ Ends made
 unfolding step
 same_end f t t' c [] gs made e = e
 same_end f t t' c (sy.Close k ∷ st) gs made e = same_end f t t' c st (close k gs) made e
@@ -294,7 +302,9 @@ same_end f t t' c (sy.Want d ∷ st) gs made e = by (has_sign d c) e
     by b i = i
 same_end f t t' c (sy.Part n ∷ st) gs made e = by (row n c) (row_is_blind n c) e (λ hs j. same_end f t t' c st hs made j)
   where
-    by : (r : Row) → row_blind r ≡ true → acted r f t st gs (λ hs. step f t c st hs) ≡ Ends made → ((hs : List Group) → step f t c st hs ≡ Ends made → step f t' c st hs ≡ Ends made) → acted r f t' st gs (λ hs. step f t' c st hs) ≡ Ends made
+    by : (r : Row) → row_blind r ≡ true → acted r f t st gs (λ hs. step f t c st hs) ≡ Ends made →
+        ((hs : List Group) → step f t c st hs ≡ Ends made → step f t' c st hs ≡ Ends made) →
+        acted r f t' st gs (λ hs. step f t' c st hs) ≡ Ends made
     by Fault b i k = cc
     by (Skips cs) b i k = ap (λ hs. step f t' c st hs) (sym (blind_changes f t t' cs gs b)) ∙ k _ i
     by (Uses cs ss) b i k = cc

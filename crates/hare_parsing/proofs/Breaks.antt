@@ -61,33 +61,46 @@ pub both : (a b : Bool) → a ≡ true → b ≡ true → (a && b) ≡ true
 both a b p q = rw (p, q) refl
 
 -- a file of these imports and declarations
-file_begins : (f : ℕ) (u more : List Token) (made : List Group) → run f (u ++ (more ++ end ∷ [])) file_symbols bottom ≡ Done (end ∷ []) made → (tree : FileTree) × (is_shaped_file tree ≡ true) × (map unplaced (spell_file tree) ≡ map unplaced (u ++ more) ++ end ∷ [])
+file_begins : (f : ℕ) (u more : List Token) (made : List Group) →
+    run f (u ++ (more ++ end ∷ [])) file_symbols bottom ≡ Done (end ∷ []) made → (tree : FileTree) × (is_shaped_file tree ≡ true) ×
+    (map unplaced (spell_file tree) ≡ map unplaced (u ++ more) ++ end ∷ [])
 file_begins f u more made e =
     let r = runs_read_files f (u ++ (more ++ end ∷ [])) (end ∷ []) made e in
     let i : r.used ≡ u ++ more = sym (append_cancel_right (u ++ more) r.used (end ∷ []) (append_assoc u more (end ∷ []) ∙ r.split)) in
     let x = spell_all 0 r.uses in
     let y = spell_all 0 r.decls in
     let w : map unplaced (x ++ (y ++ end ∷ [])) ≡ map unplaced (u ++ more) ++ end ∷ [] =
-    ap (map unplaced) (sym (append_assoc x y (end ∷ []))) ∙ map-append unplaced (x ++ y) (end ∷ []) ∙ ap (λ l. map unplaced l ++ end ∷ []) r.spelled ∙ ap (λ l. l ++ end ∷ []) (twice r.used) ∙ ap (λ l. map unplaced l ++ end ∷ []) i in
-    (record { file = 0; uses = r.uses; decls = r.decls }, both (list_all (is_shaped so.Use) r.uses) (list_all (is_shaped so.Decl) r.decls) r.uses_shaped r.decls_shaped, w)
+    ap (map unplaced) (sym (append_assoc x y (end ∷ []))) ∙ map-append unplaced (x ++ y) (end ∷ []) ∙ ap (λ l. map unplaced l ++ end ∷ [])
+    r.spelled ∙ ap (λ l. l ++ end ∷ []) (twice r.used) ∙ ap (λ l. map unplaced l ++ end ∷ []) i in (
+      record { file = 0; uses = r.uses; decls = r.decls },
+      both (list_all (is_shaped so.Use) r.uses) (list_all (is_shaped so.Decl) r.decls)
+          r.uses_shaped r.decls_shaped,
+      w,
+    )
 
 pub file_viable : (f : ℕ) (u : List Token) → Stopped f u file_symbols bottom → BeginsFile u
 file_viable f u p =
     let g = goes_on f u file_symbols bottom p in
     let r = file_begins f u g.0 g.1 g.2 in
-    let w : map unplaced (u ++ g.0) ++ end ∷ [] ≡ map unplaced (u ++ (g.0 ++ end ∷ [])) = sym (map-append unplaced (u ++ g.0) (end ∷ [])) ∙ ap (map unplaced) (append_assoc u g.0 (end ∷ [])) in
+    let w : map unplaced (u ++ g.0) ++ end ∷ [] ≡ map unplaced (u ++ (g.0 ++ end ∷ [])) =
+    sym (map-append unplaced (u ++ g.0) (end ∷ [])) ∙ ap (map unplaced) (append_assoc u g.0 (end ∷ [])) in
     record { tree = r.0; behind = g.0 ++ end ∷ []; shaped = r.1; spelled = r.2 ∙ w }
 
 -- the run over a file's tokens, in front of which these stand
-file_alike : (f : ℕ) (u : List Token) (q : BeginsFile u) → Alike (run f (u ++ q.behind) file_symbols bottom) (run q.tree.file (spell_file q.tree) file_symbols bottom)
+file_alike : (f : ℕ) (u : List Token) (q : BeginsFile u) →
+    Alike (run f (u ++ q.behind) file_symbols bottom) (run q.tree.file (spell_file q.tree) file_symbols bottom)
 file_alike f u q =
-    let e : classes (u ++ q.behind) ≡ classes (spell_file q.tree) = sym (same_classes (u ++ q.behind)) ∙ ap classes (sym q.spelled) ∙ same_classes (spell_file q.tree) in
+    let e : classes (u ++ q.behind) ≡ classes (spell_file q.tree) =
+    sym (same_classes (u ++ q.behind)) ∙ ap classes (sym q.spelled) ∙ same_classes (spell_file q.tree) in
     alike f q.tree.file (u ++ q.behind) (spell_file q.tree) file_symbols bottom bottom e
 
-pub file_not_viable : (f : ℕ) (w : List Token) (t : Token) (v : List Token) → (p : StuckAt f w file_symbols bottom t v) → BeginsFile (p.u ++ t ∷ []) → ⊥
+pub file_not_viable : (f : ℕ) (w : List Token) (t : Token) (v : List Token) → (p : StuckAt f w file_symbols bottom t v) →
+    BeginsFile (p.u ++ t ∷ []) → ⊥
 file_not_viable f w t v p q =
     let x = q.behind in
-    let a : run f ((p.u ++ t ∷ []) ++ x) file_symbols bottom ≡ Fails (t ∷ x) = ap (λ l. run f l file_symbols bottom) (append_assoc p.u (t ∷ []) x) ∙ p.stop.same (t ∷ x) ∙ fails_there f t x p.stop.rest p.stop.trees p.stuck in
+    let a : run f ((p.u ++ t ∷ []) ++ x) file_symbols bottom ≡ Fails (t ∷ x) =
+    ap (λ l. run f l file_symbols bottom) (append_assoc p.u (t ∷ []) x) ∙ p.stop.same (t ∷ x) ∙ fails_there f t x p.stop.rest
+    p.stop.trees p.stuck in
     not_done _ _ _ _ _ a (read_file q.tree q.shaped) (file_alike f (p.u ++ t ∷ []) q)
 
 pub file_runs_break : FileRunsBreak
@@ -96,11 +109,16 @@ file_runs_break file ts t rest e =
     record { before = p.u; split = p.is; begins = file_viable file p.u p.stop; ends = file_not_viable file ts t rest p }
 
 -- what stands behind the token at which imports and declarations are over
-pub nothing_more : (f : ℕ) (w : List Token) (t : Token) (v : List Token) (p : EndsAt f w file_symbols bottom t v) (y : List Token) (q : BeginsFile (p.u ++ t ∷ y)) → y ++ q.behind ≡ []
+pub nothing_more : (f : ℕ) (w : List Token) (t : Token) (v : List Token) (p : EndsAt f w file_symbols bottom t v) (y : List Token)
+    (q : BeginsFile (p.u ++ t ∷ y)) → y ++ q.behind ≡ []
 nothing_more f w t v p y q =
     let x = y ++ q.behind in
-    let a : run f ((p.u ++ t ∷ y) ++ q.behind) file_symbols bottom ≡ Done (t ∷ x) p.made = ap (λ l. run f l file_symbols bottom) (append_assoc p.u (t ∷ y) q.behind) ∙ p.stop.same (t ∷ x) ∙ done_there f t x p.stop.rest p.stop.trees p.made p.over in
-    let n : length (t ∷ x) ≡ length (end ∷ []) = done_lengths _ _ (t ∷ x) (word_token q.tree.file tk.End [] ∷ []) _ _ a (read_file q.tree q.shaped) (file_alike f (p.u ++ t ∷ y) q) in
+    let a : run f ((p.u ++ t ∷ y) ++ q.behind) file_symbols bottom ≡ Done (t ∷ x) p.made =
+    ap (λ l. run f l file_symbols bottom) (append_assoc p.u (t ∷ y) q.behind) ∙ p.stop.same (t ∷ x) ∙ done_there f t x p.stop.rest
+    p.stop.trees p.made p.over in
+    let n : length (t ∷ x) ≡ length (end ∷ []) =
+    done_lengths _ _ (t ∷ x) (word_token q.tree.file tk.End [] ∷ []) _ _ a (read_file q.tree q.shaped)
+    (file_alike f (p.u ++ t ∷ y) q) in
     empty x n
   where
     empty : (x : List Token) → length (t ∷ x) ≡ length (end ∷ []) → x ≡ []
@@ -121,24 +139,37 @@ file_last z tree =
     let x = spell_all tree.file tree.uses in
     let y = spell_all tree.file tree.decls in
     let k = word_token tree.file tk.End [] in
-    ap (λ l. last_of z (map unplaced l)) (sym (append_assoc x y (k ∷ []))) ∙ ap (last_of z) (map-append unplaced (x ++ y) (k ∷ [])) ∙ last_behind z (map unplaced (x ++ y)) end
+    ap (λ l. last_of z (map unplaced l)) (sym (append_assoc x y (k ∷ []))) ∙ ap (last_of z) (map-append unplaced (x ++ y) (k ∷ [])) ∙
+    last_behind z (map unplaced (x ++ y)) end
 
-pub is_the_end : (f : ℕ) (w : List Token) (t : Token) (v : List Token) (p : EndsAt f w file_symbols bottom t v) → BeginsFile (p.u ++ t ∷ []) → unplaced t ≡ end
+pub is_the_end : (f : ℕ) (w : List Token) (t : Token) (v : List Token) (p : EndsAt f w file_symbols bottom t v) →
+    BeginsFile (p.u ++ t ∷ []) → unplaced t ≡ end
 is_the_end f w t v p q =
     let no : q.behind ≡ [] = nothing_more f w t v p [] q in
-    let e : map unplaced (spell_file q.tree) ≡ map unplaced p.u ++ unplaced t ∷ [] = q.spelled ∙ ap (λ l. map unplaced ((p.u ++ t ∷ []) ++ l)) no ∙ ap (map unplaced) (append-nil (p.u ++ t ∷ [])) ∙ map-append unplaced p.u (t ∷ []) in
+    let e : map unplaced (spell_file q.tree) ≡ map unplaced p.u ++ unplaced t ∷ [] =
+    q.spelled ∙ ap (λ l. map unplaced ((p.u ++ t ∷ []) ++ l)) no ∙ ap (map unplaced) (append-nil (p.u ++ t ∷ [])) ∙ map-append unplaced
+    p.u (t ∷ []) in
     sym (last_behind t (map unplaced p.u) (unplaced t)) ∙ ap (last_of t) (sym e) ∙ file_last t q.tree
 
 -- End makes the file whole
-pub whole_file : (f : ℕ) (ts : List Token) (t : Token) (v : List Token) (made : List Group) (p : EndsAt f ts file_symbols bottom t v) → run f ts file_symbols bottom ≡ Done (t ∷ v) made → unplaced t ≡ end → BeginsFile (p.u ++ t ∷ [])
+pub whole_file : (f : ℕ) (ts : List Token) (t : Token) (v : List Token) (made : List Group) (p : EndsAt f ts file_symbols bottom t v) →
+    run f ts file_symbols bottom ≡ Done (t ∷ v) made → unplaced t ≡ end → BeginsFile (p.u ++ t ∷ [])
 whole_file f ts t v made p e i =
     let r = runs_read_files f ts (t ∷ v) made e in
     let j : r.used ≡ p.u = append_cancel_right r.used p.u (t ∷ v) (sym r.split ∙ p.is) in
     let x = spell_all 0 r.uses in
     let y = spell_all 0 r.decls in
     let w : map unplaced (x ++ (y ++ end ∷ [])) ≡ map unplaced ((p.u ++ t ∷ []) ++ []) =
-    ap (map unplaced) (sym (append_assoc x y (end ∷ []))) ∙ map-append unplaced (x ++ y) (end ∷ []) ∙ ap (λ l. map unplaced l ++ end ∷ []) r.spelled ∙ ap (λ l. l ++ end ∷ []) (twice r.used) ∙ ap (λ l. map unplaced l ++ end ∷ []) j ∙ ap (λ z. map unplaced p.u ++ z ∷ []) (sym i) ∙ sym (map-append unplaced p.u (t ∷ [])) ∙ ap (map unplaced) (sym (append-nil (p.u ++ t ∷ []))) in
-    record { tree = record { file = 0; uses = r.uses; decls = r.decls }; behind = []; shaped = both (list_all (is_shaped so.Use) r.uses) (list_all (is_shaped so.Decl) r.decls) r.uses_shaped r.decls_shaped; spelled = w }
+    ap (map unplaced) (sym (append_assoc x y (end ∷ []))) ∙ map-append unplaced (x ++ y) (end ∷ []) ∙ ap (λ l. map unplaced l ++ end ∷ [])
+    r.spelled ∙ ap (λ l. l ++ end ∷ []) (twice r.used) ∙ ap (λ l. map unplaced l ++ end ∷ []) j ∙ ap (λ z. map unplaced p.u ++ z ∷ [])
+    (sym i) ∙ sym (map-append unplaced p.u (t ∷ [])) ∙ ap (map unplaced) (sym (append-nil (p.u ++ t ∷ []))) in
+    record {
+      tree = record { file = 0; uses = r.uses; decls = r.decls };
+      behind = [];
+      shaped = both (list_all (is_shaped so.Use) r.uses)
+          (list_all (is_shaped so.Decl) r.decls) r.uses_shaped r.decls_shaped;
+      spelled = w;
+    }
 
 pub file_runs_end : FileRunsEnd
 file_runs_end file ts t rest made e =

@@ -42,7 +42,8 @@ tree_loose s t c h =
 -- behind tokens in which none stand side by side, one that is no string
 pub loose_behind : (b : Bool) (u : List Token) (t : Token) → is_proper_string t ≡ false → loose b u ≡ true → loose b (u ++ t ∷ []) ≡ true
 loose_behind b [] t n e = rw n refl
-loose_behind b (y ∷ u) t n e = tail _ (loose (is_proper_string y) u) (loose (is_proper_string y) (u ++ t ∷ [])) e (λ x. loose_behind (is_proper_string y) u t n x)
+loose_behind b (y ∷ u) t n e = tail _ (loose (is_proper_string y) u) (loose (is_proper_string y) (u ++ t ∷ [])) e
+    (λ x. loose_behind (is_proper_string y) u t n x)
   where
     tail : (a p q : Bool) → (a && p) ≡ true → (p ≡ true → q ≡ true) → (a && q) ≡ true
     tail true p q e f = f e
@@ -57,18 +58,24 @@ file_loose t h =
 -- ---- fronts of joined tokens, and fronts of the file's tokens
 
 -- where tokens of a tree begin with a front's joined tokens, they go on with the front
-pub goes_back : (spelled front behind : List Token) → loose false spelled ≡ true → map unplaced spelled ≡ map unplaced (joined front ++ behind) → Spells spelled (front ++ behind)
+pub goes_back : (spelled front behind : List Token) → loose false spelled ≡ true →
+    map unplaced spelled ≡ map unplaced (joined front ++ behind) → Spells spelled (front ++ behind)
 goes_back spelled front behind l e =
-    let a : loose false (joined front ++ behind) ≡ true = sym (loose_unplaced false (joined front ++ behind)) ∙ ap (loose false) (sym e) ∙ loose_unplaced false spelled ∙ l in
+    let a : loose false (joined front ++ behind) ≡ true =
+    sym (loose_unplaced false (joined front ++ behind)) ∙ ap (loose false) (sym e) ∙ loose_unplaced false spelled ∙ l in
     let k : joined (front ++ behind) ≡ joined front ++ behind = joined_front front behind ∙ loose_joined false (joined front ++ behind) a in
     e ∙ ap (map unplaced) (sym k)
 
 -- where they begin with a front and a token at which no strings are joined, they begin with the joined tokens of both
-pub comes_back : (spelled front : List Token) (first : Token) (behind : List Token) → (ends_in_string front && is_proper_string first) ≡ false → Spells spelled ((front ++ first ∷ []) ++ behind) → map unplaced spelled ≡ map unplaced ((joined front ++ (head first behind).first ∷ []) ++ (head first behind).rest)
+pub comes_back : (spelled front : List Token) (first : Token) (behind : List Token) →
+    (ends_in_string front && is_proper_string first) ≡ false → Spells spelled ((front ++ first ∷ []) ++ behind) →
+    map unplaced spelled ≡ map unplaced ((joined front ++ (head first behind).first ∷ []) ++ (head first behind).rest)
 comes_back spelled front first behind p e =
     let h = head first behind in
     let x = (front ++ first ∷ []) ++ behind in
-    let k : joined x ≡ (joined front ++ h.first ∷ []) ++ h.rest = ap joined (append_assoc front (first ∷ []) behind) ∙ joined_append front (first ∷ behind) p ∙ ap (λ l. joined front ++ l) h.is ∙ sym (append_assoc (joined front) (h.first ∷ []) h.rest) in
+    let k : joined x ≡ (joined front ++ h.first ∷ []) ++ h.rest =
+    ap joined (append_assoc front (first ∷ []) behind) ∙ joined_append front (first ∷ behind) p ∙ ap (λ l. joined front ++ l) h.is ∙ sym
+    (append_assoc (joined front) (h.first ∷ []) h.rest) in
     e ∙ ap (map unplaced) k
 
 -- joined tokens that stand at one token have one class
@@ -91,36 +98,62 @@ same_ends Stuck y made i e = let x : SameStep Stuck (Ends made) = subst (λ k. S
 same_ends (Goes st gs) y made i e = let x : SameStep (Goes st gs) (Ends made) = subst (λ k. SameStep (Goes st gs) k) e i in absurd x
 same_ends (Ends gs) y made i e = (gs, refl)
 
-pub same_at : (f : ℕ) (t t' : Token) (st : List Symbol) (gs : List Group) → class_of t' ≡ class_of t → SameStep (step f t' (class_of t') st gs) (step f t (class_of t) st gs)
-same_at f t t' st gs e = subst (λ c. SameStep (step f t' c st gs) (step f t (class_of t) st gs)) (sym e) (same_step f f t' t (class_of t) st gs gs)
+pub same_at : (f : ℕ) (t t' : Token) (st : List Symbol) (gs : List Group) → class_of t' ≡ class_of t →
+    SameStep (step f t' (class_of t') st gs) (step f t (class_of t) st gs)
+same_at f t t' st gs e = subst (λ c. SameStep (step f t' c st gs) (step f t (class_of t) st gs)) (sym e)
+    (same_step f f t' t (class_of t) st gs gs)
 
-abbrev pub stuck_like : (f : ℕ) (w : List Token) (st : List Symbol) (gs : List Group) (t t' : Token) (v : List Token) (p : StuckAt f w st gs t v) → class_of t' ≡ class_of t → StuckAt f (p.u ++ t' ∷ []) st gs t' []
-stuck_like f w st gs t t' v p e = record { u = p.u; is = refl; stop = p.stop; stuck = same_stuck _ _ (same_at f t t' p.stop.rest p.stop.trees e) p.stuck }
+abbrev pub stuck_like : (f : ℕ) (w : List Token) (st : List Symbol) (gs : List Group) (t t' : Token) (v : List Token)
+    (p : StuckAt f w st gs t v) → class_of t' ≡ class_of t → StuckAt f (p.u ++ t' ∷ []) st gs t' []
+stuck_like f w st gs t t' v p e = record {
+  u = p.u;
+  is = refl;
+  stop = p.stop;
+  stuck = same_stuck _ _
+      (same_at f t t' p.stop.rest p.stop.trees e) p.stuck;
+}
 
-abbrev pub ends_like : (f : ℕ) (w : List Token) (st : List Symbol) (gs : List Group) (t t' : Token) (v : List Token) (p : EndsAt f w st gs t v) → class_of t' ≡ class_of t → EndsAt f (p.u ++ t' ∷ []) st gs t' []
-ends_like f w st gs t t' v p e = let x = same_ends _ _ p.made (same_at f t t' p.stop.rest p.stop.trees e) p.over in record { u = p.u; is = refl; stop = p.stop; made = x.0; over = x.1 }
+abbrev pub ends_like : (f : ℕ) (w : List Token) (st : List Symbol) (gs : List Group) (t t' : Token) (v : List Token)
+    (p : EndsAt f w st gs t v) → class_of t' ≡ class_of t → EndsAt f (p.u ++ t' ∷ []) st gs t' []
+ends_like f w st gs t t' v p e =
+    let x = same_ends _ _ p.made (same_at f t t' p.stop.rest p.stop.trees e)
+    p.over in record { u = p.u; is = refl; stop = p.stop; made = x.0; over = x.1 }
 
 -- ---- sorts
 
 tree_viable : (s : Sort) (front : List Token) → is_sort s ≡ true → BeginsTree s (joined front) → IsViable (trees_of s) front
 tree_viable s front c q =
-    let e : map unplaced (spell 0 q.tree) ≡ map unplaced (joined front ++ q.behind) = ap (map unplaced) q.spelled ∙ twice (joined front ++ q.behind) in
-    (q.tree, record { shaped = q.shaped; behind = q.behind; spelled = goes_back (spell 0 q.tree) front q.behind (tree_loose s q.tree c q.shaped) e })
+    let e : map unplaced (spell 0 q.tree) ≡ map unplaced (joined front ++ q.behind) =
+    ap (map unplaced) q.spelled ∙ twice (joined front ++ q.behind) in (
+      q.tree,
+      record {
+        shaped = q.shaped;
+        behind = q.behind;
+        spelled = goes_back (spell 0 q.tree) front q.behind
+            (tree_loose s q.tree c q.shaped) e;
+      },
+    )
 
 -- a tree goes on with the front and the first token at which a joined token stands only where some token of its class goes on with the
 -- joined tokens before it
-tree_none : (s : Sort) (ts : List Token) (n : ℕ) (t : Token) (rest u : List Token) → is_sort s ≡ true → (p : Spot ts n t rest) → u ≡ joined (take n ts) → ((z : Token) → class_of z ≡ class_of t → BeginsTree s (u ++ z ∷ []) → ⊥) → IsViable (trees_of s) (take (suc n) ts) → ⊥
+tree_none : (s : Sort) (ts : List Token) (n : ℕ) (t : Token) (rest u : List Token) → is_sort s ≡ true → (p : Spot ts n t rest) →
+    u ≡ joined (take n ts) → ((z : Token) → class_of z ≡ class_of t → BeginsTree s (u ++ z ∷ []) → ⊥) →
+    IsViable (trees_of s) (take (suc n) ts) → ⊥
 tree_none s ts n t rest u c p e k v =
     let g = v.1 in
     let x = p.cut.first in
     let h = head x g.behind in
-    let i : Spells (spell 0 v.0) ((take n ts ++ x ∷ []) ++ g.behind) = subst (λ l. Spells (spell 0 v.0) (l ++ g.behind)) p.cut.next g.spelled in
+    let i : Spells (spell 0 v.0) ((take n ts ++ x ∷ []) ++ g.behind) =
+    subst (λ l. Spells (spell 0 v.0) (l ++ g.behind)) p.cut.next g.spelled in
     let j = comes_back (spell 0 v.0) (take n ts) x g.behind p.apart i in
-    let b : BeginsTree s (joined (take n ts) ++ h.first ∷ []) = record { tree = v.0; behind = h.rest; shaped = g.shaped; spelled = sym (spell_moved 0 v.0) ∙ j } in
-    k h.first (same_class x g.behind p.cut.behind h p.head ∙ ap class_of (sym p.is)) (subst (λ l. BeginsTree s (l ++ h.first ∷ [])) (sym e) b)
+    let b : BeginsTree s (joined (take n ts) ++ h.first ∷ []) =
+    record { tree = v.0; behind = h.rest; shaped = g.shaped; spelled = sym (spell_moved 0 v.0) ∙ j } in
+    k h.first (same_class x g.behind p.cut.behind h p.head ∙ ap class_of (sym p.is))
+    (subst (λ l. BeginsTree s (l ++ h.first ∷ [])) (sym e) b)
 
 -- the tokens before a place at which the joined tokens are split
-pub before_spot : (ts : List Token) (n : ℕ) (t : Token) (rest u : List Token) → Spot ts n t rest → joined ts ≡ u ++ t ∷ rest → u ≡ joined (take n ts)
+pub before_spot : (ts : List Token) (n : ℕ) (t : Token) (rest u : List Token) → Spot ts n t rest → joined ts ≡ u ++ t ∷ rest →
+    u ≡ joined (take n ts)
 before_spot ts n t rest u p e = append_cancel_right u (joined (take n ts)) (t ∷ rest) (sym e ∙ p.whole)
 
 pub runs_fault : RunsFault
@@ -132,10 +165,12 @@ runs_fault s c file ts n t rest e q =
     record {
       within = o.within;
       before = tree_viable s (take n ts) d (subst (λ l. BeginsTree s l) b (viable s file p.u p.stop));
-      ends = tree_none s ts n t rest p.u d o b (λ z i. not_viable s file (p.u ++ z ∷ []) z [] d (stuck_like file (joined ts) (of s ∷ []) bottom t z rest p i));
+      ends = tree_none s ts n t rest p.u d o b
+          (λ z i. not_viable s file (p.u ++ z ∷ []) z [] d (stuck_like file (joined ts) (of s ∷ []) bottom t z rest p i));
     }
 
-runs_end : (s : Sort) → has_trees s ≡ true → (file : ℕ) (ts : List Token) (n : ℕ) (t : Token) (rest : List Token) (made : List Group) → run file (joined ts) (of s ∷ []) bottom ≡ Done (t ∷ rest) made → StandsAt ts n (t ∷ rest) → IsSyntaxFault (trees_of s) ts n
+runs_end : (s : Sort) → has_trees s ≡ true → (file : ℕ) (ts : List Token) (n : ℕ) (t : Token) (rest : List Token) (made : List Group) →
+    run file (joined ts) (of s ∷ []) bottom ≡ Done (t ∷ rest) made → StandsAt ts n (t ∷ rest) → IsSyntaxFault (trees_of s) ts n
 runs_end s c file ts n t rest made e q =
     let p = ends_at file (joined ts) (of s ∷ []) bottom t rest made (trees_end s c) e in
     let o = spot ts n t rest q in
@@ -144,14 +179,16 @@ runs_end s c file ts n t rest made e q =
     record {
       within = o.within;
       before = tree_viable s (take n ts) d (subst (λ l. BeginsTree s l) b (viable s file p.u p.stop));
-      ends = tree_none s ts n t rest p.u d o b (λ z i. ends_whole s file (p.u ++ z ∷ []) z [] d (ends_like file (joined ts) (of s ∷ []) bottom t z rest p i));
+      ends = tree_none s ts n t rest p.u d o b
+          (λ z i. ends_whole s file (p.u ++ z ∷ []) z [] d (ends_like file (joined ts) (of s ∷ []) bottom t z rest p i));
     }
 
 pub runs_read_fronts : RunsReadFronts
 runs_read_fronts s c file ts n t rest made e q =
     let r = reads_used s file (joined ts) t rest made (trees_end s c) e in
     let b = before_spot ts n t rest r.used (spot ts n t rest q) r.split in
-    let i : map unplaced (spell 0 r.tree) ≡ map unplaced (joined (take n ts)) = ap (map unplaced) r.spelled ∙ twice r.used ∙ ap (map unplaced) b in
+    let i : map unplaced (spell 0 r.tree) ≡ map unplaced (joined (take n ts)) =
+    ap (map unplaced) r.spelled ∙ twice r.used ∙ ap (map unplaced) b in
     record {
       tree = r.tree;
       shaped = r.shaped;
@@ -162,24 +199,30 @@ runs_read_fronts s c file ts n t rest made e q =
     }
 
 -- a run over one token that is done is over there
-over_there : (f : ℕ) (d : Token) (st : List Symbol) (gs : List Group) (v : List Token) (made : List Group) → run f (d ∷ []) st gs ≡ Done v made → step f d (class_of d) st gs ≡ Ends made
+over_there : (f : ℕ) (d : Token) (st : List Symbol) (gs : List Group) (v : List Token) (made : List Group) →
+    run f (d ∷ []) st gs ≡ Done v made → step f d (class_of d) st gs ≡ Ends made
 unfolding run
 over_there f d st gs v made e = by (step f d (class_of d) st gs) refl e
   where
-    by : (z : Step) → step f d (class_of d) st gs ≡ z → after z d [] (λ st' gs'. run f [] st' gs') ≡ Done v made → step f d (class_of d) st gs ≡ Ends made
+    by : (z : Step) → step f d (class_of d) st gs ≡ z → after z d [] (λ st' gs'. run f [] st' gs') ≡ Done v made →
+        step f d (class_of d) st gs ≡ Ends made
     by (Goes st' gs') i k = cc
     by (Ends gs') i k = let x : gs' ≡ made = cc in i ∙ ap Ends x
     by Stuck i k = cc
 
-like_done : (o y : Outcome) (v : List Token) (made : List Group) → y ≡ Done v made → Alike o y → (w : List Token) × (hs : List Group) × (o ≡ Done w hs)
+like_done : (o y : Outcome) (v : List Token) (made : List Group) → y ≡ Done v made → Alike o y → (w : List Token) × (hs : List Group) ×
+    (o ≡ Done w hs)
 like_done (Done w hs) y v made e a = (w, hs, refl)
 like_done (Fails w) y v made e a = let b : Alike (Fails w) (Done v made) = subst (λ k. Alike (Fails w) k) e a in absurd b
 
 -- where the run is stuck, the tokens that it has used are those of no tree
-pub stuck_in_tree : (s : Sort) (f : ℕ) (w : List Token) (t : Token) (v : List Token) (tree : Node) → is_sort s ≡ true → is_shaped s tree ≡ true → (p : StuckAt f w (of s ∷ []) bottom t v) → spell 0 tree ≡ map unplaced p.u → ⊥
+pub stuck_in_tree : (s : Sort) (f : ℕ) (w : List Token) (t : Token) (v : List Token) (tree : Node) → is_sort s ≡ true →
+    is_shaped s tree ≡ true → (p : StuckAt f w (of s ∷ []) bottom t v) → spell 0 tree ≡ map unplaced p.u → ⊥
 stuck_in_tree s f w t v tree c h p e =
     let d = sign_token 0 (closer s) in
-    let k : classes (p.u ++ d ∷ []) ≡ classes (spell 0 tree ++ d ∷ []) = map-append class_of p.u (d ∷ []) ∙ ap (λ l. l ++ class_of d ∷ []) (sym (same_classes p.u) ∙ ap classes (sym e)) ∙ sym (map-append class_of (spell 0 tree) (d ∷ [])) in
+    let k : classes (p.u ++ d ∷ []) ≡ classes (spell 0 tree ++ d ∷ []) =
+    map-append class_of p.u (d ∷ []) ∙ ap (λ l. l ++ class_of d ∷ []) (sym (same_classes p.u) ∙ ap classes (sym e)) ∙ sym
+    (map-append class_of (spell 0 tree) (d ∷ [])) in
     let x = like_done _ _ _ _ (read_whole 0 s tree c h) (alike f 0 (p.u ++ d ∷ []) (spell 0 tree ++ d ∷ []) (of s ∷ []) bottom bottom k) in
     let o = over_there f d p.stop.rest p.stop.trees x.0 x.1 (sym (p.stop.same (d ∷ [])) ∙ x.2) in
     end_not_stuck f d t (class_of d) (class_of t) p.stop.rest p.stop.trees p.stop.trees x.1 o p.stuck
@@ -192,7 +235,8 @@ runs_fault_in_trees s c file ts n t rest e q tree h i =
     stuck_in_tree s file (joined ts) t rest tree d h p (sym (spell_moved 0 tree) ∙ i ∙ ap (map unplaced) (sym b))
 
 pub runs_use_all : RunsUseAll
-runs_use_all s c file ts e = tree_viable s ts (trees_sort s c) (viable s file (joined ts) (used_up file (joined ts) (of s ∷ []) bottom (trees_end s c) e))
+runs_use_all s c file ts e = tree_viable s ts (trees_sort s c)
+    (viable s file (joined ts) (used_up file (joined ts) (of s ∷ []) bottom (trees_end s c) e))
 
 pub faults_end_runs : FaultsEndRuns
 faults_end_runs s ts n f = record { within = omega (arith, f.within); viable = f.before; longest = λ x v. f.ends v }

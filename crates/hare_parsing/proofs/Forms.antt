@@ -55,7 +55,8 @@ no_label h ts k i e = by (is_yield h.kind) (ap is_yield i ∙ e)
     by false e = refl
 
 -- a tree's own text, where the group had none
-pub own_from : (ps : List Piece) (h : Head) (g : Group) (k : Kind) → Bare g → Owns h ps → (has_own ps ≡ false → h ≡ head_in k g) → is_own (own_of ps) h ≡ true
+pub own_from : (ps : List Piece) (h : Head) (g : Group) (k : Kind) → Bare g → Owns h ps → (has_own ps ≡ false → h ≡ head_in k g) →
+    is_own (own_of ps) h ≡ true
 own_from [] h g k b o f = subst (λ y. is_own ow.Nothing y ≡ true) (sym (f refl)) (rw (b.text, b.number, b.suffix) refl)
 own_from (pi.Own w ∷ ps) h g k b o f = o.0
 own_from (pi.Fixed d ∷ ps) h g k b o f = own_from ps h g k b o f
@@ -80,16 +81,24 @@ pub record Form (x : Source) (k : Kind) (gs : List Group) (m : ℕ) (u w : List 
   pub made : Made x k m u w h ts
   pub adds : gs' ≡ add (branch h ts) gs
 
-pub form_tree : (x : Source) (s : Sort) (k : Kind) (gs : List Group) (m : ℕ) (u w : List Token) (gs' : List Group) → is_none k ≡ false → ((y : List ℕ) → admits s k y ≡ true) → Form x k gs m u w gs' → Tree x s gs m u w gs'
-form_tree x s k gs m u w gs' n a q = record { t = branch q.h q.ts; is = made_tree x s k m u w q.h q.ts n (a q.h.text) q.made; adds = q.adds }
+pub form_tree : (x : Source) (s : Sort) (k : Kind) (gs : List Group) (m : ℕ) (u w : List Token) (gs' : List Group) → is_none k ≡ false →
+    ((y : List ℕ) → admits s k y ≡ true) → Form x k gs m u w gs' → Tree x s gs m u w gs'
+form_tree x s k gs m u w gs' n a q = record {
+  t = branch q.h q.ts;
+  is = made_tree x s k m u w q.h q.ts n (a q.h.text) q.made;
+  adds =
+      q.adds;
+}
 
 all_two : (a b : Bool) → a ≡ true → b ≡ true → (a && b) ≡ true
 all_two a b p q = rw (p, q) refl
 
 -- a form that is no operator, all of whose pieces were read
-pub ended_form : (x : Source) (k : Kind) (g : Group) (hs : List Group) (n : ℕ) (u w : List Token) (gs' : List Group) → Ordinary k → Bare g → g.kids ≡ [] → place_of x.tokens n ≡ g.place → Ended x k (form_of k) g hs n u w gs' → Form x k hs n u w gs'
+pub ended_form : (x : Source) (k : Kind) (g : Group) (hs : List Group) (n : ℕ) (u w : List Token) (gs' : List Group) → Ordinary k → Bare g →
+    g.kids ≡ [] → place_of x.tokens n ≡ g.place → Ended x k (form_of k) g hs n u w gs' → Form x k hs n u w gs'
 ended_form x k g hs n u w gs' y b ks p e =
-    let at : place_of x.tokens n ≡ place_of x.tokens (n + place_in e.h e.ts) = ap (place_of x.tokens) (omega (arith, place_zero e.h e.ts k e.kind_is y.operator)) in
+    let at : place_of x.tokens n ≡ place_of x.tokens (n + place_in e.h e.ts) =
+    ap (place_of x.tokens) (omega (arith, place_zero e.h e.ts k e.kind_is y.operator)) in
     record {
       h = e.h;
       ts = e.ts;
@@ -108,7 +117,9 @@ ended_form x k g hs n u w gs' y b ks p e =
     }
 
 -- a form that begins with a sign
-pub opened : (x : Source) (k : Kind) (d : Sign) (ps : List Piece) (hs : List Group) (t : Token) (n m : ℕ) (u w : List Token) (gs' : List Group) → form_of k ≡ pi.Fixed d ∷ ps → Ordinary k → Simple ps → Begun x d t n m → Reads x (symbols ps ++ sy.Close k ∷ []) (begun t.place [] ∷ hs) m u w gs' → Form x k hs n (t ∷ u) w gs'
+pub opened : (x : Source) (k : Kind) (d : Sign) (ps : List Piece) (hs : List Group) (t : Token) (n m : ℕ) (u w : List Token)
+    (gs' : List Group) → form_of k ≡ pi.Fixed d ∷ ps → Ordinary k → Simple ps → Begun x d t n m →
+    Reads x (symbols ps ++ sy.Close k ∷ []) (begun t.place [] ∷ hs) m u w gs' → Form x k hs n (t ∷ u) w gs'
 opened x k d ps hs t n m u w gs' f y c b r =
     let g = begun t.place [] in
     let bare : Bare g = record { text = refl; number = refl; suffix = refl } in
@@ -116,11 +127,15 @@ opened x k d ps hs t n m u w gs' f y c b r =
     ended_form x k g hs n (t ∷ u) w gs' y bare refl b.place (subst (λ z. Ended x k z g hs n (t ∷ u) w gs') (sym f) e)
 
 -- a form that begins with its own text, which the group has
-pub named : (x : Source) (k : Kind) (o : Own) (ps : List Piece) (g : Group) (hs : List Group) (n m : ℕ) (v u w : List Token) (gs' : List Group) → form_of k ≡ pi.Own o ∷ ps → Ordinary k → Simple ps → has_own ps ≡ false → g.kids ≡ [] → is_own o (head_in k g) ≡ true → own_tokens 0 (head_in k g) o ≡ map unplaced v → place_of x.tokens n ≡ g.place → m ≡ n + length v → Reads x (symbols ps ++ sy.Close k ∷ []) (g ∷ hs) m u w gs' → Form x k hs n (v ++ u) w gs'
+pub named : (x : Source) (k : Kind) (o : Own) (ps : List Piece) (g : Group) (hs : List Group) (n m : ℕ) (v u w : List Token)
+    (gs' : List Group) → form_of k ≡ pi.Own o ∷ ps → Ordinary k → Simple ps → has_own ps ≡ false → g.kids ≡ [] →
+    is_own o (head_in k g) ≡ true → own_tokens 0 (head_in k g) o ≡ map unplaced v → place_of x.tokens n ≡ g.place → m ≡ n + length v →
+    Reads x (symbols ps ++ sy.Close k ∷ []) (g ∷ hs) m u w gs' → Form x k hs n (v ++ u) w gs'
 named x k o ps g hs n m v u w gs' f y c l ks own text place at r =
     let e = whole_form x k ps g hs m u w gs' c (λ z. let q : true ≡ false = sym z ∙ l in cc) r in
     let is_h : e.h ≡ head_in k g = e.kept l in
-    let at' : place_of x.tokens n ≡ place_of x.tokens (n + place_in e.h e.ts) = ap (place_of x.tokens) (omega (arith, place_zero e.h e.ts k e.kind_is y.operator)) in
+    let at' : place_of x.tokens n ≡ place_of x.tokens (n + place_in e.h e.ts) =
+    ap (place_of x.tokens) (omega (arith, place_zero e.h e.ts k e.kind_is y.operator)) in
     let text' : own_tokens 0 e.h o ≡ map unplaced v = ap (λ z. own_tokens 0 z o) is_h ∙ text in
     let ln : m ≡ n + length (own_tokens 0 e.h o) = at ∙ ap (λ z. n + z) (sym (ap length text' ∙ length-map v unplaced)) in
     record {
@@ -133,9 +148,12 @@ named x k o ps g hs n m v u w gs' f y c l ks own text place at r =
         kids = subst (λ z. are_kids (level k e.h.text) (kid_pieces z) e.ts ≡ true) (sym f) (e.kids (level k e.h.text));
         ends = subst (λ z. kids_end z (edges e.ts) ≡ true) (sym f) e.ends;
         label = no_label e.h e.ts k e.kind_is y.yield;
-        spelled = ap (λ z. pieces_tokens 0 e.h z (spells 0 e.ts)) f ∙ ap (λ z. z ++ pieces_tokens 0 e.h ps (spells 0 e.ts)) text' ∙ ap (λ z. map unplaced v ++ z) e.spelled ∙ sym (map-append unplaced v u);
-        placed = subst (λ z. HavePlaces x.file x.tokens (begins e.h z n (spells 0 e.ts)) e.ts) (sym f) (subst (λ z. HavePlaces x.file x.tokens (begins e.h ps z (spells 0 e.ts)) e.ts) ln e.placed);
-        stops_at = λ z i. subst (λ q. form_stops z e.h true q (stops_each z e.ts) ≡ true) (sym f) (e.stops_at (λ q. true) (λ q j. refl) z i);
+        spelled = ap (λ z. pieces_tokens 0 e.h z (spells 0 e.ts)) f ∙ ap (λ z. z ++ pieces_tokens 0 e.h ps (spells 0 e.ts)) text' ∙ ap
+            (λ z. map unplaced v ++ z) e.spelled ∙ sym (map-append unplaced v u);
+        placed = subst (λ z. HavePlaces x.file x.tokens (begins e.h z n (spells 0 e.ts)) e.ts) (sym f)
+            (subst (λ z. HavePlaces x.file x.tokens (begins e.h ps z (spells 0 e.ts)) e.ts) ln e.placed);
+        stops_at = λ z i. subst (λ q. form_stops z e.h true q (stops_each z e.ts) ≡ true) (sym f)
+            (e.stops_at (λ q. true) (λ q j. refl) z i);
       };
       adds = e.adds ∙ ap (λ z. add (branch e.h (nodes_of (z ++ list_of e.ts))) hs) ks ∙ ap (λ z. add (branch e.h z) hs) (back e.ts);
     }
@@ -149,7 +167,9 @@ first_kid t [] = t
 first_kid t (g ∷ gs) = first_in t g.kids
 
 -- the tree that a form was put as
-pub form_kid : (x : Source) (s : Sort) (k : Kind) (p : Place) (m : ℕ) (u w : List Token) (t : Node) → is_none k ≡ false → ((h : Head) (ts : Nodes) → t ≡ branch h ts → admits s k h.text ≡ true) → Form x k (begun p [] ∷ []) m u w (add t (begun p [] ∷ [])) → IsTree x s m u w t
+pub form_kid : (x : Source) (s : Sort) (k : Kind) (p : Place) (m : ℕ) (u w : List Token) (t : Node) → is_none k ≡ false →
+    ((h : Head) (ts : Nodes) → t ≡ branch h ts → admits s k h.text ≡ true) → Form x k (begun p [] ∷ []) m u w (add t (begun p [] ∷ [])) →
+    IsTree x s m u w t
 form_kid x s k p m u w t n a f =
     let i : t ≡ branch f.h f.ts = ap (first_kid t) f.adds in
     subst (λ y. IsTree x s m u w y) (sym i) (made_tree x s k m u w f.h f.ts n (a f.h f.ts i) f.made)
@@ -162,7 +182,10 @@ pub record Operand (x : Source) (s : Sort) (a : Node) (n m : ℕ) (v rest : List
   pub at : m ≡ n + length v
 
 -- a form whose first piece is the operand `a` and whose second is the sign `t`
-pub behind_operand : (x : Source) (k : Kind) (s r : Sort) (d : Sign) (ps : List Piece) (hs : List Group) (a : Node) (t : Token) (n n1 m : ℕ) (v u w : List Token) (gs' : List Group) → form_of k ≡ pi.Kid r ∷ pi.Fixed d ∷ ps → ((y : List ℕ) → sort_in (level k y) r ≡ s) → is_operator k ≡ true → is_yield k ≡ false → Simple ps → Operand x s a n n1 v (t ∷ (u ++ w)) → Begun x d t n1 m → Reads x (symbols ps ++ sy.Close k ∷ []) (begun t.place (a ∷ []) ∷ hs) m u w gs' → Form x k hs n (v ++ (t ∷ u)) w gs'
+pub behind_operand : (x : Source) (k : Kind) (s r : Sort) (d : Sign) (ps : List Piece) (hs : List Group) (a : Node) (t : Token) (n n1 m : ℕ)
+    (v u w : List Token) (gs' : List Group) → form_of k ≡ pi.Kid r ∷ pi.Fixed d ∷ ps → ((y : List ℕ) → sort_in (level k y) r ≡ s) →
+    is_operator k ≡ true → is_yield k ≡ false → Simple ps → Operand x s a n n1 v (t ∷ (u ++ w)) → Begun x d t n1 m →
+    Reads x (symbols ps ++ sy.Close k ∷ []) (begun t.place (a ∷ []) ∷ hs) m u w gs' → Form x k hs n (v ++ (t ∷ u)) w gs'
 unfolding is_shaped spell stops HasPlaces
 behind_operand x k s r d ps hs a t n n1 m v u w gs' f sr op y c q b rd =
     let g = begun t.place (a ∷ []) in
@@ -170,7 +193,8 @@ behind_operand x k s r d ps hs a t n n1 m v u w gs' f sr op y c q b rd =
     let e = whole_form x k ps g hs m u w gs' c (λ z. bare) rd in
     let ln : length (spell 0 a) ≡ length v = ap length q.is.spelled ∙ length-map v unplaced in
     let op' : is_operator e.h.kind ≡ true = ap is_operator e.kind_is ∙ op in
-    let at : place_of x.tokens n1 ≡ place_of x.tokens (n + place_in e.h (more a e.ts)) = ap (place_of x.tokens) (q.at ∙ ap (λ z. n + z) (sym (ap (λ z. if z then length (spell 0 a) else 0) op' ∙ ln))) in
+    let at : place_of x.tokens n1 ≡ place_of x.tokens (n + place_in e.h (more a e.ts)) =
+    ap (place_of x.tokens) (q.at ∙ ap (λ z. n + z) (sym (ap (λ z. if z then length (spell 0 a) else 0) op' ∙ ln))) in
     let far : n + length (spell 0 a ++ []) ≡ n1 = omega (arith, ap length (append-nil (spell 0 a)), ln, q.at) in
     record {
       h = e.h;
@@ -179,12 +203,24 @@ behind_operand x k s r d ps hs a t n n1 m v u w gs' f sr op y c q b rd =
         kind_is = e.kind_is;
         place_is = e.place_is ∙ sym b.place ∙ at;
         own = subst (λ z. is_own (own_of z) e.h ≡ true) (sym f) (own_from ps e.h g k bare e.owns e.kept);
-        kids = subst (λ z. are_kids (level k e.h.text) (kid_pieces z) (more a e.ts) ≡ true) (sym f) (all_two (is_shaped (sort_in (level k e.h.text) r) a) _ (subst (λ z. is_shaped z a ≡ true) (sym (sr e.h.text)) q.is.shaped) (e.kids (level k e.h.text)));
-        ends = subst (λ z. kids_end z (edges (more a e.ts)) ≡ true) (sym f) (all_two (ends_before (Some d) (edge a)) (kids_end ps (edges e.ts)) (edge_ends (Some d) a (λ z i. q.is.ends z (b.class ∙ ap cl.Sign (some_same d z i)))) e.ends);
+        kids = subst (λ z. are_kids (level k e.h.text) (kid_pieces z) (more a e.ts) ≡ true) (sym f)
+            (all_two (is_shaped (sort_in (level k e.h.text) r) a) _ (subst (λ z. is_shaped z a ≡ true) (sym (sr e.h.text)) q.is.shaped)
+            (e.kids (level k e.h.text)));
+        ends = subst (λ z. kids_end z (edges (more a e.ts)) ≡ true) (sym f)
+            (all_two (ends_before (Some d) (edge a)) (kids_end ps (edges e.ts))
+            (edge_ends (Some d) a (λ z i. q.is.ends z (b.class ∙ ap cl.Sign (some_same d z i)))) e.ends);
         label = no_label e.h (more a e.ts) k e.kind_is y;
-        spelled = ap (λ z. pieces_tokens 0 e.h z (spells 0 (more a e.ts))) f ∙ ap (λ z. z ++ (sign_token 0 d ∷ pieces_tokens 0 e.h ps (spells 0 e.ts))) (append-nil (spell 0 a) ∙ q.is.spelled) ∙ ap (λ z. map unplaced v ++ (sign_token 0 d ∷ z)) e.spelled ∙ ap (λ z. map unplaced v ++ (z ∷ map unplaced u)) (sym (sign_is t d b.class)) ∙ sym (map-append unplaced v (t ∷ u));
-        placed = subst (λ z. HavePlaces x.file x.tokens (begins e.h z n (spells 0 (more a e.ts))) (more a e.ts)) (sym f) (subst (λ z. HasPlaces x.file x.tokens z a) (omega arith) q.is.placed, subst (λ z. HavePlaces x.file x.tokens (begins e.h ps z (spells 0 e.ts)) e.ts) (b.next ∙ ap (λ z. z + 1) (sym far)) e.placed);
-        stops_at = λ z i. subst (λ p. form_stops z e.h true p (stops_each z (more a e.ts)) ≡ true) (sym f) (e.stops_at (λ p. true) (λ p j. refl) z i);
+        spelled = ap (λ z. pieces_tokens 0 e.h z (spells 0 (more a e.ts))) f ∙ ap
+            (λ z. z ++ (sign_token 0 d ∷ pieces_tokens 0 e.h ps (spells 0 e.ts))) (append-nil (spell 0 a) ∙ q.is.spelled) ∙ ap
+            (λ z. map unplaced v ++ (sign_token 0 d ∷ z)) e.spelled ∙ ap (λ z. map unplaced v ++ (z ∷ map unplaced u))
+            (sym (sign_is t d b.class)) ∙ sym (map-append unplaced v (t ∷ u));
+        placed = subst (λ z. HavePlaces x.file x.tokens (begins e.h z n (spells 0 (more a e.ts))) (more a e.ts)) (sym f) (
+          subst (λ z. HasPlaces x.file x.tokens z a) (omega arith) q.is.placed,
+          subst
+              (λ z. HavePlaces x.file x.tokens (begins e.h ps z (spells 0 e.ts)) e.ts) (b.next ∙ ap (λ z. z + 1) (sym far)) e.placed,
+        );
+        stops_at = λ z i. subst (λ p. form_stops z e.h true p (stops_each z (more a e.ts)) ≡ true) (sym f)
+            (e.stops_at (λ p. true) (λ p j. refl) z i);
       };
       adds = e.adds ∙ ap (λ z. add (branch e.h (more a z)) hs) (back e.ts);
     }
@@ -192,7 +228,11 @@ behind_operand x k s r d ps hs a t n n1 m v u w gs' f sr op y c q b rd =
 -- ---- leaves
 
 -- a token that is a tree
-pub leaf_form : (x : Source) (k : Kind) (o : Own) (t : Token) (gs : List Group) (m : ℕ) (w : List Token) → form_of k ≡ pi.Own o ∷ [] → Ordinary k → place_of x.tokens m ≡ t.place → is_own o (head_of t) ≡ is_own o (record { kind = k; place = t.place; text = t.text; number = t.number; suffix = t.suffix }) → is_own o (head_of t) ≡ true → own_tokens 0 (record { kind = k; place = t.place; text = t.text; number = t.number; suffix = t.suffix }) o ≡ unplaced t ∷ [] → Form x k gs m (t ∷ []) w (add (full_leaf k t) gs)
+pub leaf_form : (x : Source) (k : Kind) (o : Own) (t : Token) (gs : List Group) (m : ℕ) (w : List Token) → form_of k ≡ pi.Own o ∷ [] →
+    Ordinary k → place_of x.tokens m ≡ t.place →
+    is_own o (head_of t) ≡ is_own o (record { kind = k; place = t.place; text = t.text; number = t.number; suffix = t.suffix }) →
+    is_own o (head_of t) ≡ true → own_tokens 0 (record { kind = k; place = t.place; text = t.text; number = t.number; suffix = t.suffix }) o
+    ≡ unplaced t ∷ [] → Form x k gs m (t ∷ []) w (add (full_leaf k t) gs)
 unfolding is_shaped spell stops HasPlaces
 leaf_form x k o t gs m w f y p same own text =
     let h : Head = record { kind = k; place = t.place; text = t.text; number = t.number; suffix = t.suffix } in
@@ -214,7 +254,8 @@ leaf_form x k o t gs m w f y p same own text =
     }
 
 -- a sign that is a tree
-pub mark_form : (x : Source) (k : Kind) (d : Sign) (t : Token) (gs : List Group) (m : ℕ) (w : List Token) → form_of k ≡ pi.Fixed d ∷ [] → Ordinary k → place_of x.tokens m ≡ t.place → class_of t ≡ cl.Sign d → Form x k gs m (t ∷ []) w (add (bare_leaf k t.place) gs)
+pub mark_form : (x : Source) (k : Kind) (d : Sign) (t : Token) (gs : List Group) (m : ℕ) (w : List Token) → form_of k ≡ pi.Fixed d ∷ [] →
+    Ordinary k → place_of x.tokens m ≡ t.place → class_of t ≡ cl.Sign d → Form x k gs m (t ∷ []) w (add (bare_leaf k t.place) gs)
 unfolding is_shaped spell stops HasPlaces
 mark_form x k d t gs m w f y p e =
     let h : Head = head_in k (begun t.place []) in

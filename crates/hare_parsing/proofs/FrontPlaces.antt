@@ -28,9 +28,14 @@ mutual
   unfolding HasPlaces
 
   same_placed : (f : ℕ) (ts us : List Token) (n : ℕ) (t : Node) → SamePlaces ts us → HasPlaces f ts n t → HasPlaces f us n t
-  same_placed f ts us n (branch h vs) e p = (p.0 ∙ by (is_none h.kind), same_all f ts us (begins h (form_of h.kind) n (spells 0 vs)) vs e p.1)
+  same_placed f ts us n (branch h vs) e p = (
+    p.0 ∙ by (is_none h.kind),
+    same_all f ts us (begins h (form_of h.kind) n (spells 0 vs)) vs e
+        p.1,
+  )
     where
-      by : (b : Bool) → (if b then start_of f else place_of ts (n + place_in h vs)) ≡ (if b then start_of f else place_of us (n + place_in h vs))
+      by : (b : Bool) → (if b then start_of f else place_of ts (n + place_in h vs)) ≡
+          (if b then start_of f else place_of us (n + place_in h vs))
       by true = refl
       by false = e (n + place_in h vs)
 
@@ -60,14 +65,19 @@ pub record ReadsUsed (s : Sort) (file : ℕ) (ts rest : List Token) (made : List
 done_made : (t y : Token) (v w : List Token) (gs hs : List Group) → Done (t ∷ v) gs ≡ Done (y ∷ w) hs → gs ≡ hs
 done_made t y v w gs hs e = cc
 
-pub reads_used : (s : Sort) (file : ℕ) (ts : List Token) (t : Token) (rest : List Token) (made : List Group) → good (of s ∷ []) cl.Junk ≡ true → run file ts (of s ∷ []) bottom ≡ Done (t ∷ rest) made → ReadsUsed s file ts (t ∷ rest) made
+pub reads_used : (s : Sort) (file : ℕ) (ts : List Token) (t : Token) (rest : List Token) (made : List Group) →
+    good (of s ∷ []) cl.Junk ≡ true → run file ts (of s ∷ []) bottom ≡ Done (t ∷ rest) made → ReadsUsed s file ts (t ∷ rest) made
 reads_used s file ts t rest made g e =
     let p = ends_at file ts (of s ∷ []) bottom t rest made g e in
     let z = unplaced t in
     let over : step file z (class_of z) p.stop.rest p.stop.trees ≡ Ends p.made =
-    subst (λ c. step file z c p.stop.rest p.stop.trees ≡ Ends p.made) (sym (class_unplaced t)) (same_end file t z (class_of t) p.stop.rest p.stop.trees p.made p.over) in
-    let there : run file (p.u ++ z ∷ []) (of s ∷ []) bottom ≡ Done (z ∷ []) p.made = p.stop.same (z ∷ []) ∙ done_there file z [] p.stop.rest p.stop.trees p.made over in
-    let here : run file ts (of s ∷ []) bottom ≡ Done (t ∷ rest) p.made = ap (λ l. run file l (of s ∷ []) bottom) p.is ∙ p.stop.same (t ∷ rest) ∙ done_there file t rest p.stop.rest p.stop.trees p.made p.over in
+    subst (λ c. step file z c p.stop.rest p.stop.trees ≡ Ends p.made) (sym (class_unplaced t))
+    (same_end file t z (class_of t) p.stop.rest p.stop.trees p.made p.over) in
+    let there : run file (p.u ++ z ∷ []) (of s ∷ []) bottom ≡ Done (z ∷ []) p.made =
+    p.stop.same (z ∷ []) ∙ done_there file z [] p.stop.rest p.stop.trees p.made over in
+    let here : run file ts (of s ∷ []) bottom ≡ Done (t ∷ rest) p.made =
+    ap (λ l. run file l (of s ∷ []) bottom) p.is ∙ p.stop.same (t ∷ rest) ∙ done_there file t rest p.stop.rest p.stop.trees p.made
+    p.over in
     let r = runs_read_trees s file (p.u ++ z ∷ []) (z ∷ []) p.made there in
     let i : r.used ≡ p.u = append_cancel_right r.used p.u (z ∷ []) (sym r.split) in
     record {

@@ -58,7 +58,8 @@ or_ok Fault ds e a = refl
 or_ok (Skips cs) ds e a = refl
 or_ok (Uses cs rs) ds e a = a
 
-pub at_ok : (a : Sign) (c : Class) (cs ds : List Change) (ss : List Symbol) (e : Class) → good ss e ≡ true → row_ok (at_sign a c (Uses cs ss) (Skips ds)) e ≡ true
+pub at_ok : (a : Sign) (c : Class) (cs ds : List Change) (ss : List Symbol) (e : Class) → good ss e ≡ true →
+    row_ok (at_sign a c (Uses cs ss) (Skips ds)) e ≡ true
 at_ok a c cs ds ss e g = by (has_sign a c)
   where
     by : (b : Bool) → row_ok (if b then Uses cs ss else Skips ds) e ≡ true
@@ -126,14 +127,16 @@ abbrev pub proper : Class → Bool
 proper (cl.Binary m) = nat_le m 15
 proper _ = true
 
-climbs_ok : (l h m : ℕ) (r : Row) (e : Class) → nat_le 1 l ≡ true → nat_le l 16 ≡ true → quiet e ≡ true → row_ok r e ≡ true → row_ok (climbs l h m r) e ≡ true
+climbs_ok : (l h m : ℕ) (r : Row) (e : Class) → nat_le 1 l ≡ true → nat_le l 16 ≡ true → quiet e ≡ true → row_ok r e ≡ true →
+    row_ok (climbs l h m r) e ≡ true
 climbs_ok l h m r e a b q g = by (nat_le l m && nat_le m h)
   where
     by : (z : Bool) → row_ok (if z then before r (part (ru.Climb l m) ∷ []) else Skips []) e ≡ true
     by true = before_ok r (part (ru.Climb l m) ∷ []) e g (rw (a, b, q) refl)
     by false = refl
 
-assigns_ok : (l h : ℕ) (r : Row) (e : Class) → nat_le 1 l ≡ true → nat_le l 16 ≡ true → quiet e ≡ true → row_ok r e ≡ true → row_ok (assigns l h r) e ≡ true
+assigns_ok : (l h : ℕ) (r : Row) (e : Class) → nat_le 1 l ≡ true → nat_le l 16 ≡ true → quiet e ≡ true → row_ok r e ≡ true →
+    row_ok (assigns l h r) e ≡ true
 assigns_ok l h r e a b q g = by (nat_le l 1 && nat_le 14 h)
   where
     by : (z : Bool) → row_ok (if z then before r (part (ru.Climb l 1) ∷ []) else Skips []) e ≡ true
@@ -147,9 +150,11 @@ binary_ok m e p q =
     let b : nat_le (m + 1) 16 ≡ true = le_true (m + 1) 16 (omega (arith, x)) in
     rw (a, b, q) refl
 
-pub climb_ok : (l h : ℕ) (c e : Class) → nat_le 1 l ≡ true → nat_le l 16 ≡ true → quiet e ≡ true → proper c ≡ true → row_ok (climb_row l h c) e ≡ true
+pub climb_ok : (l h : ℕ) (c e : Class) → nat_le 1 l ≡ true → nat_le l 16 ≡ true → quiet e ≡ true → proper c ≡ true →
+    row_ok (climb_row l h c) e ≡ true
 climb_ok l h (cl.Binary m) e a b q p = climbs_ok l h m (binary_at m) e a b q (binary_ok m e p q)
-climb_ok l h cl.OpAssign e a b q p = assigns_ok l h (Uses (ch.Over ∷ ch.Take ∷ []) (of (so.Level 1) ∷ sy.Close ki.OpAssign ∷ [])) e a b q (rw q refl)
+climb_ok l h cl.OpAssign e a b q p = assigns_ok l h (Uses (ch.Over ∷ ch.Take ∷ []) (of (so.Level 1) ∷ sy.Close ki.OpAssign ∷ [])) e a b q
+    (rw q refl)
 climb_ok l h (cl.Sign si.Equals) e a b q p = assigns_ok l h (behind_operand ki.Assign) e a b q (rw q refl)
 climb_ok l h (cl.Sign si.Star) e a b q p = climbs_ok l h 12 (binary_at 12) e a b q (rw q refl)
 climb_ok l h (cl.Sign si.Minus) e a b q p = climbs_ok l h 11 (binary_at 11) e a b q (rw q refl)
@@ -284,12 +289,14 @@ of_ok so.Type c e h = type_ok c e h
 of_ok so.BareType c e h = bare_ok c e h
 of_ok so.Member c e h = member_ok c e h
 of_ok so.Length c e h = length_ok c e h
-of_ok (so.Level l) c e h = let p = split (nat_le 1 l && nat_le l 16) (quiet e) h in let q = split (nat_le 1 l) (nat_le l 16) p.0 in level_ok l c e q.0 q.1 p.1
+of_ok (so.Level l) c e h =
+    let p = split (nat_le 1 l && nat_le l 16) (quiet e) h in let q = split (nat_le 1 l) (nat_le l 16) p.0 in level_ok l c e q.0 q.1 p.1
 of_ok so.Left c e h = refl
 of_ok so.Right c e h = refl
 of_ok so.Statement c e h = statement_ok c e h
 of_ok so.Pattern c e h = pattern_ok c e h
-of_ok so.Values c e h = led_row_ok (ch.Open ∷ []) (before (level_row 1 c) (rest_of 1 ki.Values)) e (before_ok (level_row 1 c) (rest_of 1 ki.Values) e (level_ok 1 c e refl refl (ender_quiet e h)) (rw (h, ender_quiet e h) refl))
+of_ok so.Values c e h = led_row_ok (ch.Open ∷ []) (before (level_row 1 c) (rest_of 1 ki.Values)) e
+    (before_ok (level_row 1 c) (rest_of 1 ki.Values) e (level_ok 1 c e refl refl (ender_quiet e h)) (rw (h, ender_quiet e h) refl))
 of_ok so.Decl c e h = decl_ok c e
 of_ok so.Use c e h = by_sign so.Use c e refl h
 of_ok so.Export c e h = by_sign so.Export c e refl h

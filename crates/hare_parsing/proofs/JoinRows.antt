@@ -19,7 +19,8 @@ numbered = record { kind = tk.Str; place = start_of 0; text = codes "c"; number 
 two_strings : joined (first_text ∷ second_text ∷ []) ≡ word_token 0 tk.Str (codes "ab") ∷ []
 two_strings = refl
 
-beside_numbered : joined (first_text ∷ second_text ∷ numbered ∷ first_text ∷ []) ≡ word_token 0 tk.Str (codes "ab") ∷ numbered ∷ first_text ∷ []
+beside_numbered : joined (first_text ∷ second_text ∷ numbered ∷ first_text ∷ []) ≡
+    word_token 0 tk.Str (codes "ab") ∷ numbered ∷ first_text ∷ []
 beside_numbered = refl
 
 -- within joined strings nothing stands, and at the numbered one something does

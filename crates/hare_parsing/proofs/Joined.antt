@@ -26,7 +26,14 @@ head y z = by (joined z) refl
         stays k = record { first = y; rest = u ∷ us; is = ap (joined_to y) i ∙ k; place = refl; proper = refl; same = λ e. refl }
 
         test : (p : Bool) → is_proper_string y ≡ p → (q : Bool) → is_proper_string u ≡ q → Head y z
-        test true a true b = record { first = merged y u; rest = us; is = ap (joined_to y) i ∙ rw (a, b) refl; place = refl; proper = sym a; same = λ e. cc }
+        test true a true b = record {
+          first = merged y u;
+          rest = us;
+          is = ap (joined_to y) i ∙ rw (a, b) refl;
+          place = refl;
+          proper = sym a;
+          same = λ e. cc;
+        }
         test true a false b = stays (rw (a, b) refl)
         test false a q b = stays (rw a refl)
 
@@ -40,15 +47,18 @@ joined_append (t ∷ []) (y ∷ z) e =
     let h = head y z in
     ap (joined_to t) h.is ∙ by (is_proper_string t) refl (is_proper_string h.first) refl ∙ ap (λ l. t ∷ l) (sym h.is)
   where
-    by : (p : Bool) → is_proper_string t ≡ p → (q : Bool) → is_proper_string (head y z).first ≡ q → joined_to t ((head y z).first ∷ (head y z).rest) ≡ t ∷ (head y z).first ∷ (head y z).rest
+    by : (p : Bool) → is_proper_string t ≡ p → (q : Bool) → is_proper_string (head y z).first ≡ q →
+        joined_to t ((head y z).first ∷ (head y z).rest) ≡ t ∷ (head y z).first ∷ (head y z).rest
     by true a true b = let d : (is_proper_string t && is_proper_string y) ≡ true = rw (a, sym (head y z).proper ∙ b) refl in cc
     by true a false b = rw (a, b) refl
     by false a q b = rw a refl
 joined_append (t ∷ u ∷ x) z e =
     let h = head u x in
-    ap (joined_to t) (joined_append (u ∷ x) z e ∙ ap (λ l. l ++ joined z) h.is) ∙ by (is_proper_string t) (is_proper_string h.first) ∙ ap (λ l. joined_to t l ++ joined z) (sym h.is)
+    ap (joined_to t) (joined_append (u ∷ x) z e ∙ ap (λ l. l ++ joined z) h.is) ∙ by (is_proper_string t) (is_proper_string h.first) ∙ ap
+    (λ l. joined_to t l ++ joined z) (sym h.is)
   where
-    by : (p q : Bool) → chosen p q t (head u x).first ((head u x).rest ++ joined z) ≡ chosen p q t (head u x).first (head u x).rest ++ joined z
+    by : (p q : Bool) → chosen p q t (head u x).first ((head u x).rest ++ joined z) ≡
+        chosen p q t (head u x).first (head u x).rest ++ joined z
     by true true = refl
     by true false = refl
     by false q = refl
@@ -58,7 +68,8 @@ merged_twice : (t u v : Token) → merged (merged t u) v ≡ merged t (merged u 
 merged_twice t u v = ap (string_at t.place) (append_assoc t.text u.text v.text)
 
 -- what joins in front of tokens joins in front of what they are joined to
-joined_to_two : (t u : Token) (z : List Token) → is_proper_string t ≡ true → is_proper_string u ≡ true → joined_to t (joined_to u z) ≡ joined_to (merged t u) z
+joined_to_two : (t u : Token) (z : List Token) → is_proper_string t ≡ true → is_proper_string u ≡ true →
+    joined_to t (joined_to u z) ≡ joined_to (merged t u) z
 joined_to_two t u [] a b = rw (a, b) refl
 joined_to_two t u (v ∷ vs) a b = by (is_proper_string v) refl
   where
@@ -78,7 +89,8 @@ joined_to_front : (t : Token) (x z : List Token) → joined_to t (joined (x ++ z
 joined_to_front t [] z = refl
 joined_to_front t (u ∷ us) z = by (is_proper_string t) refl (is_proper_string u) refl
   where
-    by : (p : Bool) → is_proper_string t ≡ p → (q : Bool) → is_proper_string u ≡ q → joined_to t (joined_to u (joined (us ++ z))) ≡ joined (chosen p q t u us ++ z)
+    by : (p : Bool) → is_proper_string t ≡ p → (q : Bool) → is_proper_string u ≡ q →
+        joined_to t (joined_to u (joined (us ++ z))) ≡ joined (chosen p q t u us ++ z)
     by true a true b = joined_to_two t u (joined (us ++ z)) a b
     by true a false b = refl
     by false a q b = refl

@@ -84,7 +84,8 @@ sort_kept n _ e = refl
 
 -- ---- a form that is read from a piece on
 
-pub record Pieced (x : Source) (k : Kind) (ps : List Piece) (st : List Symbol) (g : Group) (hs : List Group) (m : ℕ) (u w : List Token) (gs' : List Group) : Type 0 where
+pub record Pieced (x : Source) (k : Kind) (ps : List Piece) (st : List Symbol) (g : Group) (hs : List Group) (m : ℕ) (u w : List Token)
+    (gs' : List Group) : Type 0 where
   pub v : List Token
   pub v' : List Token
   pub n : ℕ
@@ -106,17 +107,26 @@ edge_ends (Some _) t f = refl
 -- What the kid `t` of the piece `p` says, in front of the pieces `ps`: its tokens are `v`, and `rest` stands behind it.
 pub record Kidly (x : Source) (p : Piece) (ps : List Piece) (m : ℕ) (v rest : List Token) (t : Node) : Type 0 where
   pub kids : (n : ℕ) (ts : Nodes) → are_kids n (kid_pieces ps) ts ≡ true → are_kids n (kid_pieces (p ∷ ps)) (more t ts) ≡ true
-  pub ends : (es : List EdgeOf) → ((d : Sign) → behind_kid ps es ≡ Some d → front rest ≡ cl.Sign d) → kids_end ps es ≡ true → kids_end (p ∷ ps) (edge t ∷ es) ≡ true
-  pub behind : (es : List EdgeOf) (d : Sign) → behind_kid (p ∷ ps) (edge t ∷ es) ≡ Some d → ((behind_kid ps es ≡ Some d) × (v ≡ [])) ⊎ (front (v ++ rest) ≡ cl.Sign d)
-  pub spelled : (h : Head) (us : List Spelled) → pieces_tokens 0 h (p ∷ ps) (((head t).kind, spell 0 t) ∷ us) ≡ map unplaced v ++ pieces_tokens 0 h ps us
+  pub ends : (es : List EdgeOf) → ((d : Sign) → behind_kid ps es ≡ Some d → front rest ≡ cl.Sign d) → kids_end ps es ≡ true →
+      kids_end (p ∷ ps) (edge t ∷ es) ≡ true
+  pub behind : (es : List EdgeOf) (d : Sign) → behind_kid (p ∷ ps) (edge t ∷ es) ≡ Some d →
+      ((behind_kid ps es ≡ Some d) × (v ≡ [])) ⊎ (front (v ++ rest) ≡ cl.Sign d)
+  pub spelled : (h : Head) (us : List Spelled) →
+      pieces_tokens 0 h (p ∷ ps) (((head t).kind, spell 0 t) ∷ us) ≡ map unplaced v ++ pieces_tokens 0 h ps us
   pub number : ℕ
   pub placed : HasPlaces x.file x.tokens number t
-  pub numbers : (h : Head) (us : List Spelled) → begins h (p ∷ ps) m (((head t).kind, spell 0 t) ∷ us) ≡ number ∷ begins h ps (m + length v) us
-  pub goes : (e : Sign → Bool) → ((d : Sign) → front (v ++ rest) ≡ cl.Sign d → e d ≡ true) → (e' : Sign → Bool) × ((d : Sign) → front rest ≡ cl.Sign d → e' d ≡ true) × ((h : Head) (d : Sign) (es : List Ending) → form_stops d h (e' d) ps es ≡ true → form_stops d h (e d) (p ∷ ps) (((head t).kind, stops d t) ∷ es) ≡ true)
+  pub numbers : (h : Head) (us : List Spelled) →
+      begins h (p ∷ ps) m (((head t).kind, spell 0 t) ∷ us) ≡ number ∷ begins h ps (m + length v) us
+  pub goes : (e : Sign → Bool) → ((d : Sign) → front (v ++ rest) ≡ cl.Sign d → e d ≡ true) → (e' : Sign → Bool) ×
+      ((d : Sign) → front rest ≡ cl.Sign d → e' d ≡ true) ×
+      ((h : Head) (d : Sign) (es : List Ending) → form_stops d h (e' d) ps es ≡ true →
+      form_stops d h (e d) (p ∷ ps) (((head t).kind, stops d t) ∷ es) ≡ true)
   pub own : has_own (p ∷ ps) ≡ has_own ps
   pub owns : (h : Head) → Owns h ps → Owns h (p ∷ ps)
 
-pub kid_more : (x : Source) (k : Kind) (p : Piece) (ps : List Piece) (st : List Symbol) (g : Group) (hs : List Group) (m n : ℕ) (u v v1 w : List Token) (gs' : List Group) (t : Node) → Kidly x p ps m v (v1 ++ w) t → u ≡ v ++ v1 → n ≡ m + length v → Pieced x k ps st (with_kid g t) hs n v1 w gs' → Pieced x k (p ∷ ps) st g hs m u w gs'
+pub kid_more : (x : Source) (k : Kind) (p : Piece) (ps : List Piece) (st : List Symbol) (g : Group) (hs : List Group) (m n : ℕ)
+    (u v v1 w : List Token) (gs' : List Group) (t : Node) → Kidly x p ps m v (v1 ++ w) t → u ≡ v ++ v1 → n ≡ m + length v →
+    Pieced x k ps st (with_kid g t) hs n v1 w gs' → Pieced x k (p ∷ ps) st g hs m u w gs'
 unfolding is_shaped spell stops HasPlaces
 kid_more x k p ps st g hs m n u v v1 w gs' t q i a r =
     let e = r.ended in
@@ -140,19 +150,24 @@ kid_more x k p ps st g hs m n u v v1 w gs' t q i a r =
         ends = q.ends (edges e.ts) (λ d y. ap front fr ∙ e.behind d y) e.ends;
         behind = λ d y. by all e (q.behind (edges e.ts) d y);
         spelled = q.spelled e.h (spells 0 e.ts) ∙ ap (λ l. map unplaced v ++ l) e.spelled ∙ sym (map-append unplaced v r.v);
-        placed = subst (λ ns. HavePlaces x.file x.tokens ns (more t e.ts)) (sym (q.numbers e.h (spells 0 e.ts))) (q.placed, subst (λ y. HavePlaces x.file x.tokens (begins e.h ps y (spells 0 e.ts)) e.ts) a e.placed);
-        stops_at = λ f y d j. let z = q.goes f (λ d' j'. y d' (ap front all ∙ j')) in z.2 e.h d (stops_each d e.ts) (e.stops_at z.0 (λ d' j'. z.1 d' (ap front fr ∙ j')) d j);
+        placed = subst (λ ns. HavePlaces x.file x.tokens ns (more t e.ts)) (sym (q.numbers e.h (spells 0 e.ts)))
+            (q.placed, subst (λ y. HavePlaces x.file x.tokens (begins e.h ps y (spells 0 e.ts)) e.ts) a e.placed);
+        stops_at = λ f y d j. let z = q.goes f (λ d' j'. y d' (ap front all ∙ j')) in z.2 e.h d (stops_each d e.ts)
+            (e.stops_at z.0 (λ d' j'. z.1 d' (ap front fr ∙ j')) d j);
         adds = e.adds ∙ ap (λ l. add (branch e.h (nodes_of l)) hs) (append_assoc g.kids (t ∷ []) (list_of e.ts));
       };
       rest = r.rest;
     }
   where
-    by : (v ++ r.v) ++ (r.v' ++ w) ≡ v ++ (v1 ++ w) → (e : Ended x k ps (with_kid g t) hs n r.v (r.v' ++ w) r.made) {d : Sign} → ((behind_kid ps (edges e.ts) ≡ Some d) × (v ≡ [])) ⊎ (front (v ++ (v1 ++ w)) ≡ cl.Sign d) → front ((v ++ r.v) ++ (r.v' ++ w)) ≡ cl.Sign d
+    by : (v ++ r.v) ++ (r.v' ++ w) ≡ v ++ (v1 ++ w) → (e : Ended x k ps (with_kid g t) hs n r.v (r.v' ++ w) r.made) {d : Sign} →
+        ((behind_kid ps (edges e.ts) ≡ Some d) × (v ≡ [])) ⊎ (front (v ++ (v1 ++ w)) ≡ cl.Sign d) →
+        front ((v ++ r.v) ++ (r.v' ++ w)) ≡ cl.Sign d
     by all e (inl y) = ap (λ l. front ((l ++ r.v) ++ (r.v' ++ w))) y.1 ∙ e.behind _ y.0
     by all e (inr y) = ap front all ∙ y
 
 -- a kid that is there
-pub wanted_kid : (x : Source) (s : Sort) (ps : List Piece) (m : ℕ) (v rest : List Token) (t : Node) → is_sort s ≡ true → IsTree x s m v rest t → Kidly x (pi.Kid s) ps m v rest t
+pub wanted_kid : (x : Source) (s : Sort) (ps : List Piece) (m : ℕ) (v rest : List Token) (t : Node) → is_sort s ≡ true →
+    IsTree x s m v rest t → Kidly x (pi.Kid s) ps m v rest t
 unfolding is_shaped spell stops HasPlaces
 wanted_kid x s ps m v rest t c q =
     let ln : length (spell 0 t) ≡ length v = ap length q.spelled ∙ length-map v unplaced in
@@ -212,12 +227,14 @@ pub items_comma : (es : List EdgeOf) (d : Sign) → behind_item es ≡ Some d �
 items_comma [] d e = cc
 items_comma (y ∷ es) d e = by (is_none y.kind) (is_dots y.kind) e (items_comma es d)
   where
-    by : (a b : Bool) → (if a then behind_item es else if b then None else Some si.Comma) ≡ Some d → (behind_item es ≡ Some d → si.Comma ≡ d) → si.Comma ≡ d
+    by : (a b : Bool) → (if a then behind_item es else if b then None else Some si.Comma) ≡ Some d →
+        (behind_item es ≡ Some d → si.Comma ≡ d) → si.Comma ≡ d
     by true b e f = f e
     by false true e f = cc
     by false false e f = cc
 
-pub present_kid : (x : Source) (s : Sort) (ps : List Piece) (m : ℕ) (v rest : List Token) (t : Node) → is_sort s ≡ true → IsTree x s m v rest t → Kidly x (pi.Optional s) ps m v rest t
+pub present_kid : (x : Source) (s : Sort) (ps : List Piece) (m : ℕ) (v rest : List Token) (t : Node) → is_sort s ≡ true →
+    IsTree x s m v rest t → Kidly x (pi.Optional s) ps m v rest t
 unfolding is_shaped spell stops HasPlaces
 present_kid x s ps m v rest t c q =
     let ln : length (spell 0 t) ≡ length v = ap length q.spelled ∙ length-map v unplaced in
@@ -230,12 +247,18 @@ present_kid x s ps m v rest t c q =
       number = m + 0;
       placed = subst (λ n. HasPlaces x.file x.tokens n t) (omega arith) q.placed;
       numbers = λ h us. ap (λ n. (m + 0) ∷ begins h ps n us) (ap (λ l. m + length l) (append-nil (spell 0 t)) ∙ ap (λ n. m + n) ln);
-      goes = λ e f. (λ d. stops d t, q.ends, λ h d es y. subst (λ b. form_stops d h b ps es ≡ true) (sym (there_goes (e d) (stops d t) (head t).kind n)) y);
+      goes = λ e f. (
+        λ d. stops d t,
+        q.ends,
+        λ h d es y. subst (λ b. form_stops d h b ps es ≡ true)
+            (sym (there_goes (e d) (stops d t) (head t).kind n)) y,
+      );
       own = refl;
       owns = λ h y. y;
     }
 
-pub lacking_kid : (x : Source) (a : Sign) (s : Sort) (ps : List Piece) (m : ℕ) (rest : List Token) → is_led a ≡ true → has_sign a (front rest) ≡ false → Kidly x (pi.Led a s) ps m [] rest (nothing x)
+pub lacking_kid : (x : Source) (a : Sign) (s : Sort) (ps : List Piece) (m : ℕ) (rest : List Token) → is_led a ≡ true →
+    has_sign a (front rest) ≡ false → Kidly x (pi.Led a s) ps m [] rest (nothing x)
 unfolding is_shaped spell stops HasPlaces
 lacking_kid x a s ps m rest l n = record {
   kids = λ n ts k. k;
@@ -245,12 +268,18 @@ lacking_kid x a s ps m rest l n = record {
   number = m + 0;
   placed = (refl, tt);
   numbers = λ h us. refl;
-  goes = λ e f. (λ d. e d && not (is_sign a d), λ d i. both (e d) (is_sign a d) (f d i) (led_sign a l d (subst (λ c. has_sign a c ≡ false) i n)), λ h d es y. y);
+  goes = λ e f. (
+    λ d. e d && not (is_sign a d),
+    λ d i. both (e d) (is_sign a d) (f d i)
+        (led_sign a l d (subst (λ c. has_sign a c ≡ false) i n)),
+    λ h d es y. y,
+  );
   own = refl;
   owns = λ h y. y;
 }
 
-pub leading_kid : (x : Source) (a : Sign) (s : Sort) (ps : List Piece) (m n : ℕ) (t0 : Token) (v rest : List Token) (t : Node) → is_sort s ≡ true → stands s ≡ true → Begun x a t0 m n → IsTree x s n v rest t → Kidly x (pi.Led a s) ps m (t0 ∷ v) rest t
+pub leading_kid : (x : Source) (a : Sign) (s : Sort) (ps : List Piece) (m n : ℕ) (t0 : Token) (v rest : List Token) (t : Node) →
+    is_sort s ≡ true → stands s ≡ true → Begun x a t0 m n → IsTree x s n v rest t → Kidly x (pi.Led a s) ps m (t0 ∷ v) rest t
 unfolding is_shaped spell stops HasPlaces
 leading_kid x a s ps m n t0 v rest (branch th tt') c l b q =
     let t = branch th tt' in
@@ -261,11 +290,19 @@ leading_kid x a s ps m n t0 v rest (branch th tt') c l b q =
       kids = λ n ts k. allowed (is_absent t) (is_shaped s t) (are_kids n (kid_pieces ps) ts) q.shaped k;
       ends = λ es f b. rw (edge_ends (behind_kid ps es) t (λ d e. q.ends d (f d e)), b) refl;
       behind = λ es d e. inr (b.class ∙ ap cl.Sign (some_same a d (sym (if_false (is_none th.kind) (behind_kid ps es) (Some a) no) ∙ e)));
-      spelled = λ h us. ap (λ l. (l ++ []) ++ pieces_tokens 0 h ps us) (if_false (stands_alone th.kind) (spell 0 t) (sign_token 0 a ∷ spell 0 t) al) ∙ ap (λ l. sign_token 0 a ∷ (l ++ pieces_tokens 0 h ps us)) (append-nil (spell 0 t) ∙ q.spelled) ∙ ap (λ y. y ∷ (map unplaced v ++ pieces_tokens 0 h ps us)) (sym (sign_is t0 a b.class));
+      spelled = λ h us. ap (λ l. (l ++ []) ++ pieces_tokens 0 h ps us)
+          (if_false (stands_alone th.kind) (spell 0 t) (sign_token 0 a ∷ spell 0 t) al) ∙ ap
+          (λ l. sign_token 0 a ∷ (l ++ pieces_tokens 0 h ps us)) (append-nil (spell 0 t) ∙ q.spelled) ∙ ap
+          (λ y. y ∷ (map unplaced v ++ pieces_tokens 0 h ps us)) (sym (sign_is t0 a b.class));
       number = m + 1;
       placed = subst (λ n. HasPlaces x.file x.tokens n t) b.next q.placed;
       numbers = λ h us. rw al (ap (λ y. (m + 1) ∷ begins h ps y us) (counted (spell 0 t) v ln));
-      goes = λ e f. (λ d. stops d t, q.ends, λ h d es y. subst (λ b. form_stops d h b ps es ≡ true) (sym (there_goes (e d && not (is_sign a d)) (stops d t) th.kind no)) y);
+      goes = λ e f. (
+        λ d. stops d t,
+        q.ends,
+        λ h d es y. subst (λ b. form_stops d h b ps es ≡ true)
+            (sym (there_goes (e d && not (is_sign a d)) (stops d t) th.kind no)) y,
+      );
       own = refl;
       owns = λ h y. y;
     }
@@ -275,7 +312,8 @@ leading_kid x a s ps m n t0 v rest (branch th tt') c l b q =
 
 -- a kid with a sign behind it
 
-pub no_followed_kid : (x : Source) (a : Sign) (s : Sort) (ps : List Piece) (m : ℕ) (rest : List Token) → Kidly x (pi.Followed s a) ps m [] rest (nothing x)
+pub no_followed_kid : (x : Source) (a : Sign) (s : Sort) (ps : List Piece) (m : ℕ) (rest : List Token) →
+    Kidly x (pi.Followed s a) ps m [] rest (nothing x)
 unfolding is_shaped spell stops HasPlaces
 no_followed_kid x a s ps m rest = record {
   kids = λ n ts k. k;
@@ -290,12 +328,16 @@ no_followed_kid x a s ps m rest = record {
   owns = λ h y. y;
 }
 
-pub followed_kid : (x : Source) (a : Sign) (s : Sort) (ps : List Piece) (m n n' : ℕ) (t0 : Token) (v rest : List Token) (t : Node) → stands_alone (head t).kind ≡ false → n ≡ m + length v → Begun x a t0 n n' → IsTree x s m v (t0 ∷ rest) t → Kidly x (pi.Followed s a) ps m (v ++ t0 ∷ []) rest t
+pub followed_kid : (x : Source) (a : Sign) (s : Sort) (ps : List Piece) (m n n' : ℕ) (t0 : Token) (v rest : List Token) (t : Node) →
+    stands_alone (head t).kind ≡ false → n ≡ m + length v → Begun x a t0 n n' → IsTree x s m v (t0 ∷ rest) t →
+    Kidly x (pi.Followed s a) ps m (v ++ t0 ∷ []) rest t
 unfolding is_shaped spell stops HasPlaces
 followed_kid x a s ps m n n' t0 v rest t al at b q =
     let ln : length (spell 0 t) ≡ length v = ap length q.spelled ∙ length-map v unplaced in
     let led = if_false (stands_alone (head t).kind) (spell 0 t) (spell 0 t ++ sign_token 0 a ∷ []) al in
-    let words : (spell 0 t ++ sign_token 0 a ∷ []) ++ [] ≡ map unplaced (v ++ t0 ∷ []) = append-nil (spell 0 t ++ sign_token 0 a ∷ []) ∙ ap (λ l. l ++ sign_token 0 a ∷ []) q.spelled ∙ ap (λ y. map unplaced v ++ y ∷ []) (sym (sign_is t0 a b.class)) ∙ sym (map-append unplaced v (t0 ∷ [])) in
+    let words : (spell 0 t ++ sign_token 0 a ∷ []) ++ [] ≡ map unplaced (v ++ t0 ∷ []) =
+    append-nil (spell 0 t ++ sign_token 0 a ∷ []) ∙ ap (λ l. l ++ sign_token 0 a ∷ []) q.spelled ∙ ap (λ y. map unplaced v ++ y ∷ [])
+    (sym (sign_is t0 a b.class)) ∙ sym (map-append unplaced v (t0 ∷ [])) in
     let no : is_none (head t).kind ≡ false = is_none_stands (head t).kind al in
     let all : with_lead 0 (le.Behind a) ((head t).kind, spell 0 t) ++ [] ≡ map unplaced (v ++ t0 ∷ []) = ap (λ l. l ++ []) led ∙ words in
     record {
@@ -306,7 +348,12 @@ followed_kid x a s ps m n n' t0 v rest t al at b q =
       number = m + 0;
       placed = subst (λ n. HasPlaces x.file x.tokens n t) (omega arith) q.placed;
       numbers = λ h us. ap (λ n. (m + 0) ∷ begins h ps n us) (ap (λ n. m + n) (ap length all ∙ length-map (v ++ t0 ∷ []) unplaced));
-      goes = λ e f. (λ d. true, λ d i. refl, λ h d es y. subst (λ b. form_stops d h b ps es ≡ true) (sym (there_goes (e d) true (head t).kind no)) y);
+      goes = λ e f. (
+        λ d. true,
+        λ d i. refl,
+        λ h d es y. subst (λ b. form_stops d h b ps es ≡ true)
+            (sym (there_goes (e d) true (head t).kind no)) y,
+      );
       own = refl;
       owns = λ h y. y;
     }

@@ -52,10 +52,13 @@ record Prefix (k : Kind) (o : Own) (ps : List Piece) (h : Head) (n m : ℕ) (v :
   numbers : (us : List Spelled) → begins h (form_of k) n us ≡ begins h ps m us
   goes : (d : Sign) (es : List Ending) → form_stops d h true (form_of k) es ≡ form_stops d h true ps es
 
-prefixed_form : (x : Source) (k : Kind) (o : Own) (ps : List Piece) (g : Group) (hs : List Group) (n m : ℕ) (v u w : List Token) (gs' : List Group) → Ordinary k → has_own ps ≡ false → g.kids ≡ [] → is_own o (head_in k g) ≡ true → place_of x.tokens n ≡ g.place → Prefix k o ps (head_in k g) n m v → Ended x k ps g hs m u w gs' → Form x k hs n (v ++ u) w gs'
+prefixed_form : (x : Source) (k : Kind) (o : Own) (ps : List Piece) (g : Group) (hs : List Group) (n m : ℕ) (v u w : List Token)
+    (gs' : List Group) → Ordinary k → has_own ps ≡ false → g.kids ≡ [] → is_own o (head_in k g) ≡ true → place_of x.tokens n ≡ g.place →
+    Prefix k o ps (head_in k g) n m v → Ended x k ps g hs m u w gs' → Form x k hs n (v ++ u) w gs'
 prefixed_form x k o ps g hs n m v u w gs' y l ks own place q e =
     let i : e.h ≡ head_in k g = e.kept l in
-    let at : place_of x.tokens n ≡ place_of x.tokens (n + place_in e.h e.ts) = ap (place_of x.tokens) (omega (arith, place_zero e.h e.ts k e.kind_is y.operator)) in
+    let at : place_of x.tokens n ≡ place_of x.tokens (n + place_in e.h e.ts) =
+    ap (place_of x.tokens) (omega (arith, place_zero e.h e.ts k e.kind_is y.operator)) in
     let p : Prefix k o ps e.h n m v = subst (λ z. Prefix k o ps z n m v) (sym i) q in
     record {
       h = e.h;
@@ -77,29 +80,66 @@ prefixed_form x k o ps g hs n m v u w gs' y l ks own place q e =
 -- ---- the head of a loop
 
 loop_count : (x : Source) (g : Group) (n m : ℕ) (v : List Token) → LoopBegun x g n m v → m ≡ ((n + 1) + length (label_tokens 0 g.text)) + 1
-loop_count x g n m v b = omega (arith, b.at, length-map v unplaced, ap length b.spelled, length-append (label_tokens 0 g.text) (sign_token 0 si.LeftParen ∷ []))
+loop_count x g n m v b = omega (
+  arith,
+  b.at,
+  length-map v unplaced,
+  ap length b.spelled,
+  length-append (label_tokens 0 g.text)
+      (sign_token 0 si.LeftParen ∷ []),
+)
 
-loop_words : (x : Source) (g : Group) (n m : ℕ) (v z : List Token) → LoopBegun x g n m v → sign_token 0 si.For ∷ (label_tokens 0 g.text ++ (sign_token 0 si.LeftParen ∷ z)) ≡ map unplaced v ++ z
-loop_words x g n m v z b = ap (λ l. sign_token 0 si.For ∷ l) (sym (append_assoc (label_tokens 0 g.text) (sign_token 0 si.LeftParen ∷ []) z)) ∙ ap (λ l. l ++ z) (sym b.spelled)
+loop_words : (x : Source) (g : Group) (n m : ℕ) (v z : List Token) → LoopBegun x g n m v →
+    sign_token 0 si.For ∷ (label_tokens 0 g.text ++ (sign_token 0 si.LeftParen ∷ z)) ≡ map unplaced v ++ z
+loop_words x g n m v z b = ap (λ l. sign_token 0 si.For ∷ l) (sym (append_assoc (label_tokens 0 g.text) (sign_token 0 si.LeftParen ∷ []) z))
+    ∙ ap (λ l. l ++ z) (sym b.spelled)
 
 abbrev for_pieces : List Piece
 for_pieces = pi.Kid expr ∷ pi.Led si.Semicolon expr ∷ pi.Fixed si.RightParen ∷ pi.Kid expr ∷ []
 
 -- a loop with a condition
-for_tree : (x : Source) (g : Group) (hs : List Group) (n m : ℕ) (v u w : List Token) (gs' : List Group) → LoopBegun x g n m v → Ended x ki.For (pi.Followed so.Let si.Semicolon ∷ for_pieces) g hs m u w gs' → Tree x expr hs n (v ++ u) w gs'
+for_tree : (x : Source) (g : Group) (hs : List Group) (n m : ℕ) (v u w : List Token) (gs' : List Group) → LoopBegun x g n m v →
+    Ended x ki.For (pi.Followed so.Let si.Semicolon ∷ for_pieces) g hs m u w gs' → Tree x expr hs n (v ++ u) w gs'
 for_tree x g hs n m v u w gs' b e =
-    form_tree x expr ki.For hs n (v ++ u) w gs' refl (λ y. refl) (prefixed_form x ki.For ow.Label (pi.Followed so.Let si.Semicolon ∷ for_pieces) g hs n m v u w gs' (record { none = refl; operator = refl; yield = refl }) refl b.kids b.own b.place (record { own = refl; kids = refl; ends = λ es. refl; spelled = λ us. loop_words x g n m v _ b; numbers = λ us. ap (λ y. begins (head_in ki.For g) (pi.Followed so.Let si.Semicolon ∷ for_pieces) y us) (sym (loop_count x g n m v b)); goes = λ d es. refl }) e)
+    form_tree x expr ki.For hs n (v ++ u) w gs' refl (λ y. refl)
+    (prefixed_form x ki.For ow.Label (pi.Followed so.Let si.Semicolon ∷ for_pieces) g hs n m v u w gs'
+    (record { none = refl; operator = refl; yield = refl }) refl b.kids b.own b.place
+    (record {
+      own = refl;
+      kids = refl;
+      ends = λ es. refl;
+      spelled = λ us. loop_words x g n m v _ b;
+      numbers = λ us. ap
+          (λ y. begins (head_in ki.For g) (pi.Followed so.Let si.Semicolon ∷ for_pieces) y us) (sym (loop_count x g n m v b));
+      goes =
+          λ d es. refl;
+    }) e)
 
 abbrev each_pieces : List Piece
 each_pieces = pi.Kid expr ∷ pi.Fixed si.RightParen ∷ pi.Kid expr ∷ []
 
 -- a loop over the items of a value
-each_tree : (x : Source) (g : Group) (hs : List Group) (n m : ℕ) (v u w : List Token) (gs' : List Group) → LoopBegun x g n m v → Ended x ki.ForEach (pi.Kid so.Binding ∷ each_pieces) g hs m u w gs' → Tree x expr hs n (v ++ u) w gs'
+each_tree : (x : Source) (g : Group) (hs : List Group) (n m : ℕ) (v u w : List Token) (gs' : List Group) → LoopBegun x g n m v →
+    Ended x ki.ForEach (pi.Kid so.Binding ∷ each_pieces) g hs m u w gs' → Tree x expr hs n (v ++ u) w gs'
 each_tree x g hs n m v u w gs' b e =
-    form_tree x expr ki.ForEach hs n (v ++ u) w gs' refl (λ y. refl) (prefixed_form x ki.ForEach ow.Label (pi.Kid so.Binding ∷ each_pieces) g hs n m v u w gs' (record { none = refl; operator = refl; yield = refl }) refl b.kids b.own b.place (record { own = refl; kids = refl; ends = λ es. refl; spelled = λ us. loop_words x g n m v _ b; numbers = λ us. ap (λ y. begins (head_in ki.ForEach g) (pi.Kid so.Binding ∷ each_pieces) y us) (sym (loop_count x g n m v b)); goes = λ d es. refl }) e)
+    form_tree x expr ki.ForEach hs n (v ++ u) w gs' refl (λ y. refl)
+    (prefixed_form x ki.ForEach ow.Label (pi.Kid so.Binding ∷ each_pieces) g hs n m v u w gs'
+    (record { none = refl; operator = refl; yield = refl }) refl b.kids b.own b.place
+    (record {
+      own = refl;
+      kids = refl;
+      ends = λ es. refl;
+      spelled = λ us. loop_words x g n m v _ b;
+      numbers = λ us. ap
+          (λ y. begins (head_in ki.ForEach g) (pi.Kid so.Binding ∷ each_pieces) y us) (sym (loop_count x g n m v b));
+      goes = λ d es. refl;
+    })
+    e)
 
 -- `let` and a name in front of a form
-let_tree : (x : Source) (s : Sort) (k : Kind) (ps : List Piece) (g : Group) (hs : List Group) (n m : ℕ) (v u w : List Token) (gs' : List Group) → form_of k ≡ pi.Fixed si.Let ∷ pi.Own ow.Name ∷ ps → Ordinary k → has_own ps ≡ false → ((y : List ℕ) → admits s k y ≡ true) → LetBegun x g n m v → Ended x k ps g hs m u w gs' → Tree x s hs n (v ++ u) w gs'
+let_tree : (x : Source) (s : Sort) (k : Kind) (ps : List Piece) (g : Group) (hs : List Group) (n m : ℕ) (v u w : List Token)
+    (gs' : List Group) → form_of k ≡ pi.Fixed si.Let ∷ pi.Own ow.Name ∷ ps → Ordinary k → has_own ps ≡ false →
+    ((y : List ℕ) → admits s k y ≡ true) → LetBegun x g n m v → Ended x k ps g hs m u w gs' → Tree x s hs n (v ++ u) w gs'
 let_tree x s k ps g hs n m v u w gs' f y l a b e =
     let count : m ≡ (n + 1) + 1 = omega (arith, b.at, length-map v unplaced, ap length b.spelled) in
     form_tree x s k hs n (v ++ u) w gs' y.none a (prefixed_form x k ow.Name ps g hs n m v u w gs' y l b.kids b.own b.place (record {
@@ -113,7 +153,8 @@ let_tree x s k ps g hs n m v u w gs' f y l a b e =
 
 -- ---- behind `(`
 
-pub for_head_means : (x : Source) (c : Class) (t1 : Token) (gs : List Group) (m : ℕ) (u w : List Token) (gs' : List Group) → class_of t1 ≡ c → Used x (for_head_row c) t1 gs m u w gs' → Means x ru.ForHead gs m (t1 ∷ u) w gs'
+pub for_head_means : (x : Source) (c : Class) (t1 : Token) (gs : List Group) (m : ℕ) (u w : List Token) (gs' : List Group) →
+    class_of t1 ≡ c → Used x (for_head_row c) t1 gs m u w gs' → Means x ru.ForHead gs m (t1 ∷ u) w gs'
 for_head_means x (cl.Sign si.Let) t1 gs m u w gs' e h g hs n v i b =
     let r = h.reads in
     let l = begun t1.place [] in
@@ -129,10 +170,12 @@ for_head_means x (cl.Sign si.Let) t1 gs m u w gs' e h g hs n v i b =
     subst (λ y. Tree x expr hs n (v ++ (t1 ∷ y)) w gs') (sym r.is) a
 for_head_means x c t1 gs m u w gs' e h g hs n v i b =
     let r0 = before (level_row 1 c) (rest_of 5 ki.For) in
-    let p = unit x (level_row 1) expr (level_means x 1) (rest_of 5 ki.For) c t1 (add (nothing x) gs) m u w gs' e (used_led x (ch.Absent ∷ []) r0 t1 gs m u w gs' h) in
+    let p = unit x (level_row 1) expr (level_means x 1) (rest_of 5 ki.For) c t1 (add (nothing x) gs) m u w gs' e
+    (used_led x (ch.Absent ∷ []) r0 t1 gs m u w gs' h) in
     let p' = subst (λ y. Reads x (of expr ∷ rest_of 5 ki.For) y m (t1 ∷ u) w gs') (ap (add (nothing x)) i) p in
     let a = whole_form x ki.For for_pieces (with_kid g (nothing x)) hs m (t1 ∷ u) w gs' (refl, (refl, refl, (refl, tt))) (λ y. cc) p' in
-    for_tree x g hs n m v (t1 ∷ u) w gs' b (ended_kid x ki.For (pi.Followed so.Let si.Semicolon) for_pieces g hs m m [] (t1 ∷ u) w gs' (nothing x) (no_followed_kid x si.Semicolon so.Let for_pieces m ((t1 ∷ u) ++ w)) (omega arith) a)
+    for_tree x g hs n m v (t1 ∷ u) w gs' b (ended_kid x ki.For (pi.Followed so.Let si.Semicolon) for_pieces g hs m m [] (t1 ∷ u) w gs'
+    (nothing x) (no_followed_kid x si.Semicolon so.Let for_pieces m ((t1 ∷ u) ++ w)) (omega arith) a)
 
 -- ---- behind `let` and a name
 
@@ -140,56 +183,80 @@ abbrev let_pieces : List Piece
 let_pieces = pi.Led si.Colon so.Type ∷ pi.Fixed si.Equals ∷ pi.Kid expr ∷ []
 
 -- a binding of the loop's own, and its condition
-bound_loop : (x : Source) (g o : Group) (hs : List Group) (n n1 m : ℕ) (v v' u w : List Token) (gs' : List Group) → LoopBegun x o n n1 v → LetBegun x g n1 m v' → Reads x (symbols let_pieces ++ sy.Close ki.Let ∷ (sy.Want si.Semicolon ∷ of expr ∷ rest_of 5 ki.For)) (g ∷ o ∷ hs) m u w gs' → Tree x expr hs n (v ++ (v' ++ u)) w gs'
+bound_loop : (x : Source) (g o : Group) (hs : List Group) (n n1 m : ℕ) (v v' u w : List Token) (gs' : List Group) → LoopBegun x o n n1 v →
+    LetBegun x g n1 m v' → Reads x (symbols let_pieces ++ sy.Close ki.Let ∷ (sy.Want si.Semicolon ∷ of expr ∷ rest_of 5 ki.For))
+    (g ∷ o ∷ hs) m u w gs' → Tree x expr hs n (v ++ (v' ++ u)) w gs'
 bound_loop x g o hs n n1 m v v' u w gs' lo le r =
-    let p = pieces x ki.Let let_pieces (sy.Want si.Semicolon ∷ of expr ∷ rest_of 5 ki.For) g (o ∷ hs) m u w gs' (refl, refl, (refl, tt)) (λ y. cc) r in
-    let q = let_tree x so.Let ki.Let let_pieces g (o ∷ hs) n1 m v' p.v (p.v' ++ w) p.made refl (record { none = refl; operator = refl; yield = refl }) refl (λ y. refl) le p.ended in
+    let p = pieces x ki.Let let_pieces (sy.Want si.Semicolon ∷ of expr ∷ rest_of 5 ki.For) g (o ∷ hs) m u w gs' (refl, refl, (refl, tt))
+    (λ y. cc) r in
+    let q = let_tree x so.Let ki.Let let_pieces g (o ∷ hs) n1 m v' p.v (p.v' ++ w) p.made refl
+    (record { none = refl; operator = refl; yield = refl }) refl (λ y. refl) le p.ended in
     let k = p.rest in
     let z = v' ++ p.v in
     let t_is : IsTree x so.Let n1 z (k.t ∷ (k.v ++ w)) q.t = subst (λ y. IsTree x so.Let n1 z (y ++ w) q.t) k.is q.is in
     let rest = subst (λ y. Reads x (of expr ∷ rest_of 5 ki.For) y k.n k.v w gs') q.adds k.rest in
     let a = whole_form x ki.For for_pieces (with_kid o q.t) hs k.n k.v w gs' (refl, (refl, refl, (refl, tt))) (λ y. cc) rest in
     let far : p.n ≡ n1 + length z = omega (arith, p.at, le.at, length-append v' p.v) in
-    let b = ended_kid x ki.For (pi.Followed so.Let si.Semicolon) for_pieces o hs n1 k.n (z ++ k.t ∷ []) k.v w gs' q.t (followed_kid x si.Semicolon so.Let for_pieces n1 p.n k.n k.t z (k.v ++ w) q.t (apart_alone so.Let q.t refl t_is.shaped) far k.begun t_is) (omega (arith, far, k.begun.next, length-append z (k.t ∷ []))) a in
+    let b = ended_kid x ki.For (pi.Followed so.Let si.Semicolon) for_pieces o hs n1 k.n (z ++ k.t ∷ []) k.v w gs' q.t
+    (followed_kid x si.Semicolon so.Let for_pieces n1 p.n k.n k.t z (k.v ++ w) q.t (apart_alone so.Let q.t refl t_is.shaped) far k.begun
+    t_is) (omega (arith, far, k.begun.next, length-append z (k.t ∷ []))) a in
     let c = for_tree x o hs n n1 v ((z ++ k.t ∷ []) ++ k.v) w gs' lo b in
-    let is : (z ++ k.t ∷ []) ++ k.v ≡ v' ++ u = append_assoc z (k.t ∷ []) k.v ∙ append_assoc v' p.v (k.t ∷ k.v) ∙ ap (λ y. v' ++ y) (ap (λ y. p.v ++ y) (sym k.is) ∙ sym p.is) in
+    let is : (z ++ k.t ∷ []) ++ k.v ≡ v' ++ u =
+    append_assoc z (k.t ∷ []) k.v ∙ append_assoc v' p.v (k.t ∷ k.v) ∙ ap (λ y. v' ++ y) (ap (λ y. p.v ++ y) (sym k.is) ∙ sym p.is) in
     subst (λ y. Tree x expr hs n (v ++ y) w gs') is c
 
 abbrev binding_pieces : List Piece
 binding_pieces = pi.Optional so.ByRef ∷ pi.Fixed si.DotDot ∷ []
 
 -- the items of a value
-item_loop : (x : Source) (g o : Group) (hs : List Group) (n n1 m : ℕ) (v v' u w : List Token) (gs' : List Group) → LoopBegun x o n n1 v → LetBegun x g n1 m v' → Reads x (symbols binding_pieces ++ sy.Close ki.Binding ∷ rest_of 4 ki.ForEach) (g ∷ o ∷ hs) m u w gs' → Tree x expr hs n (v ++ (v' ++ u)) w gs'
+item_loop : (x : Source) (g o : Group) (hs : List Group) (n n1 m : ℕ) (v v' u w : List Token) (gs' : List Group) → LoopBegun x o n n1 v →
+    LetBegun x g n1 m v' → Reads x (symbols binding_pieces ++ sy.Close ki.Binding ∷ rest_of 4 ki.ForEach) (g ∷ o ∷ hs) m u w gs' →
+    Tree x expr hs n (v ++ (v' ++ u)) w gs'
 item_loop x g o hs n n1 m v v' u w gs' lo le r =
     let p = pieces x ki.Binding binding_pieces (rest_of 4 ki.ForEach) g (o ∷ hs) m u w gs' (refl, tt) (λ y. cc) r in
-    let q = let_tree x so.Binding ki.Binding binding_pieces g (o ∷ hs) n1 m v' p.v (p.v' ++ w) p.made refl (record { none = refl; operator = refl; yield = refl }) refl (λ y. refl) le p.ended in
+    let q = let_tree x so.Binding ki.Binding binding_pieces g (o ∷ hs) n1 m v' p.v (p.v' ++ w) p.made refl
+    (record { none = refl; operator = refl; yield = refl }) refl (λ y. refl) le p.ended in
     let z = v' ++ p.v in
     let rest = subst (λ y. Reads x (rest_of 4 ki.ForEach) y p.n p.v' w gs') q.adds p.rest in
     let a = whole_form x ki.ForEach each_pieces (with_kid o q.t) hs p.n p.v' w gs' (refl, (refl, tt)) (λ y. cc) rest in
     let far : p.n ≡ n1 + length z = omega (arith, p.at, le.at, length-append v' p.v) in
-    let b = ended_kid x ki.ForEach (pi.Kid so.Binding) each_pieces o hs n1 p.n z p.v' w gs' q.t (wanted_kid x so.Binding each_pieces n1 z (p.v' ++ w) q.t refl q.is) far a in
+    let b = ended_kid x ki.ForEach (pi.Kid so.Binding) each_pieces o hs n1 p.n z p.v' w gs' q.t
+    (wanted_kid x so.Binding each_pieces n1 z (p.v' ++ w) q.t refl q.is) far a in
     let c = each_tree x o hs n n1 v (z ++ p.v') w gs' lo b in
     let is : z ++ p.v' ≡ v' ++ u = append_assoc v' p.v p.v' ∙ ap (λ y. v' ++ y) (sym p.is) in
     subst (λ y. Tree x expr hs n (v ++ y) w gs') is c
 
-pub after_for_name_means : (x : Source) (c : Class) (t1 : Token) (gs : List Group) (m : ℕ) (u w : List Token) (gs' : List Group) → class_of t1 ≡ c → Used x (after_for_name_row c) t1 gs m u w gs' → Means x ru.AfterForName gs m (t1 ∷ u) w gs'
+pub after_for_name_means : (x : Source) (c : Class) (t1 : Token) (gs : List Group) (m : ℕ) (u w : List Token) (gs' : List Group) →
+    class_of t1 ≡ c → Used x (after_for_name_row c) t1 gs m u w gs' → Means x ru.AfterForName gs m (t1 ∷ u) w gs'
 after_for_name_means x (cl.Sign si.Colon) t1 gs m u w gs' e h g o hs n n1 v v' i lo le =
     let p = h.reads in
     let q = p.part (record { g = g; hs = o ∷ hs; is = i }) in
-    let r : Reads x (symbols let_pieces ++ sy.Close ki.Let ∷ (sy.Want si.Semicolon ∷ of expr ∷ rest_of 5 ki.For)) gs m (t1 ∷ u) w gs' = record {
+    let r : Reads x (symbols let_pieces ++ sy.Close ki.Let ∷ (sy.Want si.Semicolon ∷ of expr ∷ rest_of 5 ki.For)) gs m (t1 ∷ u) w gs' =
+    record {
       v = t1 ∷ p.v;
       v' = p.v';
       n = p.n;
       hs = p.hs;
       is = ap (λ y. t1 ∷ y) p.is;
       at = omega (arith, p.at, h.at);
-      part = λ z. leads (record { sign = t1; v = p.v; n = h.n; is = refl; begun = record { class = e; place = h.place; next = h.at }; tree = q });
+      part = λ z. leads (record {
+        sign = t1;
+        v = p.v;
+        n = h.n;
+        is = refl;
+        begun = record { class = e; place = h.place; next = h.at };
+        tree =
+            q;
+      });
       rest = p.rest;
     } in
-    bound_loop x g o hs n n1 m v v' (t1 ∷ u) w gs' lo le (subst (λ y. Reads x (symbols let_pieces ++ sy.Close ki.Let ∷ (sy.Want si.Semicolon ∷ of expr ∷ rest_of 5 ki.For)) y m (t1 ∷ u) w gs') i r)
+    bound_loop x g o hs n n1 m v v' (t1 ∷ u) w gs' lo le
+    (subst (λ y. Reads x (symbols let_pieces ++ sy.Close ki.Let ∷ (sy.Want si.Semicolon ∷ of expr ∷ rest_of 5 ki.For)) y m (t1 ∷ u) w
+    gs') i r)
 after_for_name_means x (cl.Sign si.Equals) t1 gs m u w gs' e h g o hs n n1 v v' i lo le =
     let st : List Symbol = of expr ∷ sy.Close ki.Let ∷ sy.Want si.Semicolon ∷ of expr ∷ rest_of 5 ki.For in
-    let r : Reads x (symbols let_pieces ++ sy.Close ki.Let ∷ (sy.Want si.Semicolon ∷ of expr ∷ rest_of 5 ki.For)) gs m (t1 ∷ u) w gs' = record {
+    let r : Reads x (symbols let_pieces ++ sy.Close ki.Let ∷ (sy.Want si.Semicolon ∷ of expr ∷ rest_of 5 ki.For)) gs m (t1 ∷ u) w gs' =
+    record {
       v = [];
       v' = t1 ∷ u;
       n = m;
@@ -199,9 +266,12 @@ after_for_name_means x (cl.Sign si.Equals) t1 gs m u w gs' e h g o hs n n1 v v' 
       part = λ z. lacks refl (ap (λ y. has_sign si.Colon y) e) refl;
       rest = wants x si.Equals st t1 (add (nothing x) gs) m u w gs' e h;
     } in
-    bound_loop x g o hs n n1 m v v' (t1 ∷ u) w gs' lo le (subst (λ y. Reads x (symbols let_pieces ++ sy.Close ki.Let ∷ (sy.Want si.Semicolon ∷ of expr ∷ rest_of 5 ki.For)) y m (t1 ∷ u) w gs') i r)
+    bound_loop x g o hs n n1 m v v' (t1 ∷ u) w gs' lo le
+    (subst (λ y. Reads x (symbols let_pieces ++ sy.Close ki.Let ∷ (sy.Want si.Semicolon ∷ of expr ∷ rest_of 5 ki.For)) y m (t1 ∷ u) w
+    gs') i r)
 after_for_name_means x (cl.Sign si.DotDot) t1 gs m u w gs' e h g o hs n n1 v v' i lo le =
-    let h' : Goes x (sy.Close ki.Binding ∷ rest_of 4 ki.ForEach) (add (nothing x) gs) t1 m u w gs' = record { n = h.n; place = h.place; at = h.at; reads = h.reads } in
+    let h' : Goes x (sy.Close ki.Binding ∷ rest_of 4 ki.ForEach) (add (nothing x) gs) t1 m u w gs' =
+    record { n = h.n; place = h.place; at = h.at; reads = h.reads } in
     let r : Reads x (symbols binding_pieces ++ sy.Close ki.Binding ∷ rest_of 4 ki.ForEach) gs m (t1 ∷ u) w gs' = record {
       v = [];
       v' = t1 ∷ u;
@@ -212,10 +282,12 @@ after_for_name_means x (cl.Sign si.DotDot) t1 gs m u w gs' e h g o hs n n1 v v' 
       part = λ z. absent refl refl;
       rest = wants x si.DotDot (sy.Close ki.Binding ∷ rest_of 4 ki.ForEach) t1 (add (nothing x) gs) m u w gs' e h';
     } in
-    item_loop x g o hs n n1 m v v' (t1 ∷ u) w gs' lo le (subst (λ y. Reads x (symbols binding_pieces ++ sy.Close ki.Binding ∷ rest_of 4 ki.ForEach) y m (t1 ∷ u) w gs') i r)
+    item_loop x g o hs n n1 m v v' (t1 ∷ u) w gs' lo le
+    (subst (λ y. Reads x (symbols binding_pieces ++ sy.Close ki.Binding ∷ rest_of 4 ki.ForEach) y m (t1 ∷ u) w gs') i r)
 after_for_name_means x (cl.Sign si.Ampersand) t1 gs m u w gs' e h g o hs n n1 v v' i lo le =
     let leaf = bare_leaf ki.ByRef t1.place in
-    let q = form_tree x so.ByRef ki.ByRef gs m (t1 ∷ []) (u ++ w) (add leaf gs) refl (λ y. refl) (mark_form x ki.ByRef si.Ampersand t1 gs m (u ++ w) refl (record { none = refl; operator = refl; yield = refl }) h.place e) in
+    let q = form_tree x so.ByRef ki.ByRef gs m (t1 ∷ []) (u ++ w) (add leaf gs) refl (λ y. refl)
+    (mark_form x ki.ByRef si.Ampersand t1 gs m (u ++ w) refl (record { none = refl; operator = refl; yield = refl }) h.place e) in
     let r : Reads x (symbols binding_pieces ++ sy.Close ki.Binding ∷ rest_of 4 ki.ForEach) gs m (t1 ∷ u) w gs' = record {
       v = t1 ∷ [];
       v' = u;
@@ -226,6 +298,7 @@ after_for_name_means x (cl.Sign si.Ampersand) t1 gs m u w gs' e h g o hs n n1 v 
       part = λ z. present q;
       rest = h.reads;
     } in
-    item_loop x g o hs n n1 m v v' (t1 ∷ u) w gs' lo le (subst (λ y. Reads x (symbols binding_pieces ++ sy.Close ki.Binding ∷ rest_of 4 ki.ForEach) y m (t1 ∷ u) w gs') i r)
+    item_loop x g o hs n n1 m v v' (t1 ∷ u) w gs' lo le
+    (subst (λ y. Reads x (symbols binding_pieces ++ sy.Close ki.Binding ∷ rest_of 4 ki.ForEach) y m (t1 ∷ u) w gs') i r)
 after_for_name_means x (cl.Sign _) t1 gs m u w gs' e h g o hs n n1 v v' i lo le = absurd h
 after_for_name_means x _ t1 gs m u w gs' e h g o hs n n1 v v' i lo le = absurd h

@@ -73,4 +73,6 @@ apart_loose b d (t ∷ u) i e =
     none false y f = refl
 
     fit : d ≡ true → is_proper_string t ≡ true → not (b && is_text (class_of t)) ≡ true → not true ≡ true
-    fit x a n = let z : (b && is_text (class_of t)) ≡ true = both b (is_text (class_of t)) (i x) (ap is_text (proper_class t a)) in ap not (sym z) ∙ n
+    fit x a n =
+        let z : (b && is_text (class_of t)) ≡ true =
+        both b (is_text (class_of t)) (i x) (ap is_text (proper_class t a)) in ap not (sym z) ∙ n

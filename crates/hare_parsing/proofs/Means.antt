@@ -105,7 +105,8 @@ pub data PathEnd (x : Source) (g o : Group) (hs : List Group) (m : ℕ) (u w : L
 
 -- what stands behind `(` and a tree
 abbrev pub Inside : Source → Sort → Sort → List Group → ℕ → List Token → List Token → List Group → Type 0
-Inside x s r gs m u w gs' = (t : Token) (n n' : ℕ) (hs : List Group) (a : Node) (v : List Token) → gs ≡ begun t.place (a ∷ []) ∷ hs → Begun x si.LeftParen t n n' → IsTree x s n' v (u ++ w) a → m ≡ n' + length v → Tree x r hs n (t ∷ (v ++ u)) w gs'
+Inside x s r gs m u w gs' = (t : Token) (n n' : ℕ) (hs : List Group) (a : Node) (v : List Token) → gs ≡ begun t.place (a ∷ []) ∷ hs →
+    Begun x si.LeftParen t n n' → IsTree x s n' v (u ++ w) a → m ≡ n' + length v → Tree x r hs n (t ∷ (v ++ u)) w gs'
 
 -- the head of a loop up to its `(`, as the group `g` says it
 pub record LoopBegun (x : Source) (g : Group) (n m : ℕ) (v : List Token) : Type 0 where
@@ -133,8 +134,11 @@ longer g ts = with_kids g (g.kids ++ list_of ts)
 
 -- the end of an import whose path is whole
 pub data ImportEnd (x : Source) (g o : Group) (hs : List Group) (m : ℕ) (u w : List Token) (gs' : List Group) : Type 0 where
-  whole : (t : Token) (n : ℕ) → u ≡ t ∷ [] → Begun x si.Semicolon t m n → gs' ≡ close ki.Use (close ki.ImportPath (g ∷ o ∷ hs)) → ImportEnd x g o hs m u w gs'
-  braces : (mark brace : Token) (v : List Token) (n n' : ℕ) → u ≡ mark ∷ brace ∷ v → Begun x si.PathMark mark m n → Begun x si.LeftBrace brace n n' → Ended x ki.UseNames imported (with_kid o (closed_as ki.ImportPath g)) hs n' v w gs' → ImportEnd x g o hs m u w gs'
+  whole : (t : Token) (n : ℕ) → u ≡ t ∷ [] → Begun x si.Semicolon t m n → gs' ≡ close ki.Use (close ki.ImportPath (g ∷ o ∷ hs)) →
+      ImportEnd x g o hs m u w gs'
+  braces : (mark brace : Token) (v : List Token) (n n' : ℕ) → u ≡ mark ∷ brace ∷ v → Begun x si.PathMark mark m n →
+      Begun x si.LeftBrace brace n n' → Ended x ki.UseNames imported (with_kid o (closed_as ki.ImportPath g)) hs n' v w gs' →
+      ImportEnd x g o hs m u w gs'
 
 -- an import behind a name of its path: further names, and its end
 pub record Import (x : Source) (g o : Group) (hs : List Group) (m : ℕ) (u w : List Token) (gs' : List Group) : Type 0 where
@@ -155,7 +159,8 @@ aliased = pi.Kid so.ImportPath ∷ pi.Fixed si.Semicolon ∷ []
 
 pub data AfterName (x : Source) (g o : Group) (hs : List Group) (m : ℕ) (u w : List Token) (gs' : List Group) : Type 0 where
   import : Import x g o hs m u w gs' → AfterName x g o hs m u w gs'
-  alias : (t : Token) (v : List Token) (n : ℕ) → u ≡ t ∷ v → Begun x si.Equals t m n → Ended x ki.UseAlias aliased (with_kids o (o.kids ++ g.kids)) hs n v w gs' → AfterName x g o hs m u w gs'
+  alias : (t : Token) (v : List Token) (n : ℕ) → u ≡ t ∷ v → Begun x si.Equals t m n →
+      Ended x ki.UseAlias aliased (with_kids o (o.kids ++ g.kids)) hs n v w gs' → AfterName x g o hs m u w gs'
 
 -- some tree is under way
 pub record HasGroup (gs : List Group) : Type 0 where
@@ -181,29 +186,45 @@ Means x (ru.EachLed a s) gs m u w gs' = apart s ≡ true → HasGroup gs → Lis
 Means x (ru.EachFollowed s a) gs m u w gs' = apart s ≡ true → HasGroup gs → Listed x (pi.EachFollowed s a) gs m u w gs'
 Means x (ru.List s) gs m u w gs' = apart s ≡ true → HasGroup gs → Listed x (pi.List s) gs m u w gs'
 Means x (ru.More s) gs m u w gs' = apart s ≡ true → HasGroup gs → Items x (pi.More s) gs m u w gs'
-Means x (ru.BehindComma s) gs m u w gs' = apart s ≡ true → (t : Token) (n : ℕ) (hs : List Group) → HasGroup hs → gs ≡ begun t.place [] ∷ hs → Begun x si.Comma t n m → Items x (pi.More s) hs n (t ∷ u) w gs'
+Means x (ru.BehindComma s) gs m u w gs' = apart s ≡ true → (t : Token) (n : ℕ) (hs : List Group) → HasGroup hs →
+    gs ≡ begun t.place [] ∷ hs → Begun x si.Comma t n m → Items x (pi.More s) hs n (t ∷ u) w gs'
 Means x ru.Elements gs m u w gs' = HasGroup gs → Listed x (pi.Elements expr) gs m u w gs'
 Means x ru.MoreElements gs m u w gs' = HasGroup gs → Items x (pi.MoreElements expr) gs m u w gs'
-Means x ru.BehindElementComma gs m u w gs' = (t : Token) (n : ℕ) (hs : List Group) → HasGroup hs → gs ≡ begun t.place [] ∷ begun t.place (bare_leaf ki.None (start_of x.file) ∷ []) ∷ hs → Begun x si.Comma t n m → Items x (pi.MoreElements expr) hs n (t ∷ u) w gs'
+Means x ru.BehindElementComma gs m u w gs' = (t : Token) (n : ℕ) (hs : List Group) → HasGroup hs →
+    gs ≡ begun t.place [] ∷ begun t.place (bare_leaf ki.None (start_of x.file) ∷ []) ∷ hs → Begun x si.Comma t n m →
+    Items x (pi.MoreElements expr) hs n (t ∷ u) w gs'
 Means x ru.LastComma gs m u w gs' = LastComma x gs m u w gs'
-Means x (ru.PathRest k) gs m u w gs' = (g : Group) (hs : List Group) → gs ≡ g ∷ hs → (q : Names u) × (gs' ≡ close k (joined_by (further q.names) g ∷ hs))
+Means x (ru.PathRest k) gs m u w gs' = (g : Group) (hs : List Group) → gs ≡ g ∷ hs → (q : Names u) ×
+    (gs' ≡ close k (joined_by (further q.names) g ∷ hs))
 Means x ru.PathOrStruct gs m u w gs' = (g o : Group) (hs : List Group) → gs ≡ g ∷ o ∷ hs → PathEnd x g o hs m u w gs'
 Means x ru.PathName gs m u w gs' = OneName u gs gs'
-Means x ru.InBracket gs m u w gs' = (t : Token) (n : ℕ) (hs : List Group) → gs ≡ begun t.place [] ∷ hs → Begun x si.LeftBracket t n m → Tree x so.BareType hs n (t ∷ u) w gs'
-Means x ru.FirstMember gs m u w gs' = (t : Token) (n : ℕ) (hs : List Group) → gs ≡ begun t.place [] ∷ hs → Begun x si.LeftParen t n m → Tree x so.BareType hs n (t ∷ u) w gs'
+Means x ru.InBracket gs m u w gs' = (t : Token) (n : ℕ) (hs : List Group) → gs ≡ begun t.place [] ∷ hs → Begun x si.LeftBracket t n m →
+    Tree x so.BareType hs n (t ∷ u) w gs'
+Means x ru.FirstMember gs m u w gs' = (t : Token) (n : ℕ) (hs : List Group) → gs ≡ begun t.place [] ∷ hs → Begun x si.LeftParen t n m →
+    Tree x so.BareType hs n (t ∷ u) w gs'
 Means x ru.AfterType gs m u w gs' = Inside x so.Type so.BareType gs m u w gs'
 Means x ru.AfterSpread gs m u w gs' = Inside x so.Member so.BareType gs m u w gs'
-Means x (ru.Climb l j) gs m u w gs' = (a : Node) (hs : List Group) (n : ℕ) (v : List Token) → HasGroup hs → nat_le l j ≡ true → gs ≡ add a hs → IsTree x (so.Level j) n v (u ++ w) a → m ≡ n + length v → Tree x (so.Level l) hs n (v ++ u) w gs'
+Means x (ru.Climb l j) gs m u w gs' = (a : Node) (hs : List Group) (n : ℕ) (v : List Token) → HasGroup hs → nat_le l j ≡ true →
+    gs ≡ add a hs → IsTree x (so.Level j) n v (u ++ w) a → m ≡ n + length v → Tree x (so.Level l) hs n (v ++ u) w gs'
 Means x ru.AfterValue gs m u w gs' = Inside x expr (so.Level 16) gs m u w gs'
-Means x ru.InIndex gs m u w gs' = (a : Node) (hs : List Group) (n n1 : ℕ) (v : List Token) (t : Token) → gs ≡ begun t.place (a ∷ []) ∷ hs → IsTree x postfix n v (t ∷ (u ++ w)) a → n1 ≡ n + length v → Begun x si.LeftBracket t n1 m → Tree x postfix hs n (v ++ (t ∷ u)) w gs'
-Means x ru.AfterIndex gs m u w gs' = (a : Node) (hs : List Group) (n n1 n2 : ℕ) (v : List Token) (t : Token) (b : Node) (v' : List Token) → gs ≡ begun t.place (a ∷ b ∷ []) ∷ hs → IsTree x postfix n v (t ∷ (v' ++ (u ++ w))) a → n1 ≡ n + length v → Begun x si.LeftBracket t n1 n2 → IsTree x expr n2 v' (u ++ w) b → m ≡ n2 + length v' → Tree x postfix hs n (v ++ (t ∷ (v' ++ u))) w gs'
-Means x ru.AfterYield gs m u w gs' = (t : Token) (n : ℕ) (hs : List Group) → gs ≡ begun t.place [] ∷ hs → Begun x si.Yield t n m → Tree x expr hs n (t ∷ u) w gs'
-Means x ru.ForHead gs m u w gs' = (g : Group) (hs : List Group) (n : ℕ) (v : List Token) → gs ≡ g ∷ hs → LoopBegun x g n m v → Tree x expr hs n (v ++ u) w gs'
-Means x ru.AfterForName gs m u w gs' = (g o : Group) (hs : List Group) (n n1 : ℕ) (v v' : List Token) → gs ≡ g ∷ o ∷ hs → LoopBegun x o n n1 v → LetBegun x g n1 m v' → Tree x expr hs n (v ++ (v' ++ u)) w gs'
-Means x ru.DeclWord gs m u w gs' = (t : Token) (n : ℕ) (hs : List Group) → gs ≡ begun t.place (bare_leaf ki.Export t.place ∷ []) ∷ hs → Begun x si.Export t n m → Tree x so.Decl hs n (t ∷ u) w gs'
-Means x ru.UseStart gs m u w gs' = (t : Token) (n : ℕ) (hs : List Group) → gs ≡ begun t.place [] ∷ hs → Begun x si.Use t n m → Tree x so.Use hs n (t ∷ u) w gs'
+Means x ru.InIndex gs m u w gs' = (a : Node) (hs : List Group) (n n1 : ℕ) (v : List Token) (t : Token) → gs ≡ begun t.place (a ∷ []) ∷ hs →
+    IsTree x postfix n v (t ∷ (u ++ w)) a → n1 ≡ n + length v → Begun x si.LeftBracket t n1 m → Tree x postfix hs n (v ++ (t ∷ u)) w gs'
+Means x ru.AfterIndex gs m u w gs' = (a : Node) (hs : List Group) (n n1 n2 : ℕ) (v : List Token) (t : Token) (b : Node) (v' : List Token) →
+    gs ≡ begun t.place (a ∷ b ∷ []) ∷ hs → IsTree x postfix n v (t ∷ (v' ++ (u ++ w))) a → n1 ≡ n + length v →
+    Begun x si.LeftBracket t n1 n2 → IsTree x expr n2 v' (u ++ w) b → m ≡ n2 + length v' → Tree x postfix hs n (v ++ (t ∷ (v' ++ u))) w gs'
+Means x ru.AfterYield gs m u w gs' = (t : Token) (n : ℕ) (hs : List Group) → gs ≡ begun t.place [] ∷ hs → Begun x si.Yield t n m →
+    Tree x expr hs n (t ∷ u) w gs'
+Means x ru.ForHead gs m u w gs' = (g : Group) (hs : List Group) (n : ℕ) (v : List Token) → gs ≡ g ∷ hs → LoopBegun x g n m v →
+    Tree x expr hs n (v ++ u) w gs'
+Means x ru.AfterForName gs m u w gs' = (g o : Group) (hs : List Group) (n n1 : ℕ) (v v' : List Token) → gs ≡ g ∷ o ∷ hs →
+    LoopBegun x o n n1 v → LetBegun x g n1 m v' → Tree x expr hs n (v ++ (v' ++ u)) w gs'
+Means x ru.DeclWord gs m u w gs' = (t : Token) (n : ℕ) (hs : List Group) → gs ≡ begun t.place (bare_leaf ki.Export t.place ∷ []) ∷ hs →
+    Begun x si.Export t n m → Tree x so.Decl hs n (t ∷ u) w gs'
+Means x ru.UseStart gs m u w gs' = (t : Token) (n : ℕ) (hs : List Group) → gs ≡ begun t.place [] ∷ hs → Begun x si.Use t n m →
+    Tree x so.Use hs n (t ∷ u) w gs'
 Means x ru.AfterUseName gs m u w gs' = (g o : Group) (hs : List Group) → gs ≡ g ∷ o ∷ hs → AfterName x g o hs m u w gs'
-Means x ru.AfterUseMark gs m u w gs' = (t : Token) (n : ℕ) (g o : Group) (hs : List Group) → gs ≡ g ∷ o ∷ hs → Begun x si.PathMark t n m → Import x g o hs n (t ∷ u) w gs'
+Means x ru.AfterUseMark gs m u w gs' = (t : Token) (n : ℕ) (g o : Group) (hs : List Group) → gs ≡ g ∷ o ∷ hs → Begun x si.PathMark t n m →
+    Import x g o hs n (t ∷ u) w gs'
 Means x ru.AfterUsePart gs m u w gs' = (g o : Group) (hs : List Group) → gs ≡ g ∷ o ∷ hs → Import x g o hs m u w gs'
 
 -- with one kid more there still is one

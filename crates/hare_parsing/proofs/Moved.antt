@@ -30,12 +30,14 @@ lead_moved : (f : ℕ) (l : Lead) (u : Spelled) → map unplaced (with_lead f l 
 lead_moved f le.Nothing u = refl
 lead_moved f (le.Before s) u = by (stands_alone u.0)
   where
-    by : (b : Bool) → map unplaced (if b then u.1 else sign_token f s ∷ u.1) ≡ (if b then map unplaced u.1 else sign_token 0 s ∷ map unplaced u.1)
+    by : (b : Bool) → map unplaced (if b then u.1 else sign_token f s ∷ u.1) ≡
+        (if b then map unplaced u.1 else sign_token 0 s ∷ map unplaced u.1)
     by true = refl
     by false = refl
 lead_moved f (le.Behind s) u = by (stands_alone u.0)
   where
-    by : (b : Bool) → map unplaced (if b then u.1 else u.1 ++ sign_token f s ∷ []) ≡ (if b then map unplaced u.1 else map unplaced u.1 ++ sign_token 0 s ∷ [])
+    by : (b : Bool) → map unplaced (if b then u.1 else u.1 ++ sign_token f s ∷ []) ≡
+        (if b then map unplaced u.1 else map unplaced u.1 ++ sign_token 0 s ∷ [])
     by true = refl
     by false = map-append unplaced u.1 (sign_token f s ∷ [])
 
@@ -66,7 +68,8 @@ own_moved f h ow.Label = label_moved f h.text
 own_moved f h _ = refl
 
 listed_moved : (f : ℕ) (us : List Spelled) → map unplaced (listed f us) ≡ listed 0 (moved us)
-listed_moved f us = put (one_led f le.Nothing us) (all_led f (le.Before si.Comma) (drop 1 us)) _ _ (one_moved f le.Nothing us) (led_moved f (le.Before si.Comma) (drop 1 us) ∙ ap (all_led 0 (le.Before si.Comma)) (drop_moved us))
+listed_moved f us = put (one_led f le.Nothing us) (all_led f (le.Before si.Comma) (drop 1 us)) _ _ (one_moved f le.Nothing us)
+    (led_moved f (le.Before si.Comma) (drop 1 us) ∙ ap (all_led 0 (le.Before si.Comma)) (drop_moved us))
 
 piece_moved : (f : ℕ) (h : Head) (p : Piece) (us : List Spelled) → map unplaced (piece_tokens f h p us) ≡ piece_tokens 0 h p (moved us)
 piece_moved f h (pi.Fixed s) us = refl
@@ -94,15 +97,18 @@ left_moved (pi.Followed s c) us = drop_moved us
 left_moved (pi.Value s) us = drop_moved us
 left_moved _ us = refl
 
-pieces_moved : (f : ℕ) (h : Head) (ps : List Piece) (us : List Spelled) → map unplaced (pieces_tokens f h ps us) ≡ pieces_tokens 0 h ps (moved us)
+pieces_moved : (f : ℕ) (h : Head) (ps : List Piece) (us : List Spelled) →
+    map unplaced (pieces_tokens f h ps us) ≡ pieces_tokens 0 h ps (moved us)
 pieces_moved f h [] us = refl
-pieces_moved f h (p ∷ ps) us = put (piece_tokens f h p us) (pieces_tokens f h ps (left_behind p us)) _ _ (piece_moved f h p us) (pieces_moved f h ps (left_behind p us) ∙ ap (pieces_tokens 0 h ps) (left_moved p us))
+pieces_moved f h (p ∷ ps) us = put (piece_tokens f h p us) (pieces_tokens f h ps (left_behind p us)) _ _ (piece_moved f h p us)
+    (pieces_moved f h ps (left_behind p us) ∙ ap (pieces_tokens 0 h ps) (left_moved p us))
 
 mutual
   unfolding spell
 
   pub spell_moved : (f : ℕ) (t : Node) → map unplaced (spell f t) ≡ spell 0 t
-  spell_moved f (branch h ts) = pieces_moved f h (form_of h.kind) (spells f ts) ∙ ap (pieces_tokens 0 h (form_of h.kind)) (spells_moved f ts)
+  spell_moved f (branch h ts) = pieces_moved f h (form_of h.kind) (spells f ts) ∙ ap (pieces_tokens 0 h (form_of h.kind))
+      (spells_moved f ts)
 
   pub spells_moved : (f : ℕ) (ts : Nodes) → moved (spells f ts) ≡ spells 0 ts
   spells_moved f none = refl

@@ -34,8 +34,14 @@ texted t g = record { place = g.place; text = t.text; number = t.number; suffix 
 abbrev Text : Own → Token → List Token → List Group → List Group → Type 0
 Text o t u gs gs' = (g : Group) (hs : List Group) → gs ≡ g ∷ hs → Bare g → (g' : Group) × (gs' ≡ g' ∷ hs) × Owned o g (t ∷ u) g'
 
-taken : (x : Source) (o : Own) (t : Token) (gs : List Group) (m : ℕ) (u w : List Token) (gs' : List Group) → ((g : Group) → Owned o g (t ∷ []) (texted t g)) → Goes x [] (take_text t gs) t m u w gs' → Text o t u gs gs'
-taken x o t gs m u w gs' f h g hs i b = (texted t g, h.reads.1 ∙ ap (take_text t) i, subst (λ y. Owned o g (t ∷ y) (texted t g)) (sym h.reads.0) (f g))
+taken : (x : Source) (o : Own) (t : Token) (gs : List Group) (m : ℕ) (u w : List Token) (gs' : List Group) →
+    ((g : Group) → Owned o g (t ∷ []) (texted t g)) → Goes x [] (take_text t gs) t m u w gs' → Text o t u gs gs'
+taken x o t gs m u w gs' f h g hs i b = (
+  texted t g,
+  h.reads.1 ∙ ap (take_text t) i,
+  subst (λ y. Owned o g (t ∷ y) (texted t g))
+      (sym h.reads.0) (f g),
+)
 
 named_text : (t : Token) → class_of t ≡ cl.Name → (g : Group) → Owned ow.Name g (t ∷ []) (texted t g)
 named_text t e g =
@@ -48,7 +54,8 @@ member_name t e g =
     let d : member_kind t.text ≡ tk.Name = ap (λ b. if b then tk.Number else tk.Name) (no_digit t.text n.name) in
     record {
       own = λ k. right (is_number (head_in k (texted t g))) (is_name false t.text) (has_text_alone (head_of t)) n.name n.plain.alone;
-      spelled = λ k. ap (λ y. full_token 0 y (head_in k (texted t g)) ∷ []) d ∙ ap (λ y. full_token 0 y (head_in k (texted t g)) ∷ []) (sym (ap (λ y. y.kind) n.plain.is));
+      spelled = λ k. ap (λ y. full_token 0 y (head_in k (texted t g)) ∷ []) d ∙ ap (λ y. full_token 0 y (head_in k (texted t g)) ∷ [])
+          (sym (ap (λ y. y.kind) n.plain.is));
       kids = refl;
       place = refl;
     }
@@ -70,10 +77,13 @@ member_number t e g =
     }
 
 -- `:` and a name
-label_text : (t : Token) (g g' : Group) (v : List Token) → class_of t ≡ cl.Sign si.Colon → Owned ow.Name g v g' → Owned ow.Label g (t ∷ v) g'
+label_text : (t : Token) (g g' : Group) (v : List Token) → class_of t ≡ cl.Sign si.Colon → Owned ow.Name g v g' →
+    Owned ow.Label g (t ∷ v) g'
 label_text t g g' v e q = record {
-  own = λ k. let p = split (is_name false g'.text) (has_text_alone (head_in k g')) (q.own k) in labelled (is_empty g'.text) (is_name false g'.text) (has_text_alone (head_in k g')) p.0 p.1;
-  spelled = λ k. let p = split (is_name false g'.text) (has_text_alone (head_in k g')) (q.own k) in spelled g'.text p.0 ∙ ap (λ y. sign_token 0 si.Colon ∷ y) (q.spelled k) ∙ ap (λ y. y ∷ map unplaced v) (sym (sign_is t si.Colon e));
+  own = λ k. let p = split (is_name false g'.text) (has_text_alone (head_in k g')) (q.own k) in labelled (is_empty g'.text)
+      (is_name false g'.text) (has_text_alone (head_in k g')) p.0 p.1;
+  spelled = λ k. let p = split (is_name false g'.text) (has_text_alone (head_in k g')) (q.own k) in spelled g'.text p.0 ∙ ap
+      (λ y. sign_token 0 si.Colon ∷ y) (q.spelled k) ∙ ap (λ y. y ∷ map unplaced v) (sym (sign_is t si.Colon e));
   kids = q.kids;
   place = q.place;
 }
@@ -86,7 +96,8 @@ label_text t g g' v e q = record {
     spelled [] p = cc
     spelled (c ∷ y) p = refl
 
-pub own_means : (x : Source) (o : Own) (c : Class) (t : Token) (gs : List Group) (m : ℕ) (u w : List Token) (gs' : List Group) → class_of t ≡ c → Used x (own_row o c) t gs m u w gs' → Means x (ru.Own o) gs m (t ∷ u) w gs'
+pub own_means : (x : Source) (o : Own) (c : Class) (t : Token) (gs : List Group) (m : ℕ) (u w : List Token) (gs' : List Group) →
+    class_of t ≡ c → Used x (own_row o c) t gs m u w gs' → Means x (ru.Own o) gs m (t ∷ u) w gs'
 own_means x ow.Name cl.Name t gs m u w gs' e h = taken x ow.Name t gs m u w gs' (named_text t e) h
 own_means x ow.Member cl.Name t gs m u w gs' e h = taken x ow.Member t gs m u w gs' (member_name t e) h
 own_means x ow.Member cl.Number t gs m u w gs' e h = taken x ow.Member t gs m u w gs' (member_number t e) h
@@ -104,10 +115,15 @@ label_skips (cl.Sign si.Colon) cs e = cc
 label_skips (cl.Sign _) cs e = skips_nothing cs e
 label_skips _ cs e = skips_nothing cs e
 
-pub own_skips : (x : Source) (o : Own) (c : Class) (t : Token) (gs : List Group) (m : ℕ) (w : List Token) (cs : List Change) → own_row o c ≡ Skips cs → Means x (ru.Own o) gs m [] w (all_changed x.file t cs gs)
+pub own_skips : (x : Source) (o : Own) (c : Class) (t : Token) (gs : List Group) (m : ℕ) (w : List Token) (cs : List Change) →
+    own_row o c ≡ Skips cs → Means x (ru.Own o) gs m [] w (all_changed x.file t cs gs)
 own_skips x ow.Name cl.Name t gs m w cs i = cc
 own_skips x ow.Member cl.Name t gs m w cs i = cc
 own_skips x ow.Member cl.Number t gs m w cs i = cc
 own_skips x ow.Label c t gs m w cs i =
-    λ g hs j b. (g, ap (λ y. all_changed x.file t y gs) (label_skips c cs i) ∙ j, record { own = λ k. rw (b.text, b.number, b.suffix) refl; spelled = λ k. ap (label_tokens 0) b.text; kids = refl; place = refl })
+    λ g hs j b. (
+      g,
+      ap (λ y. all_changed x.file t y gs) (label_skips c cs i) ∙ j,
+      record { own = λ k. rw (b.text, b.number, b.suffix) refl; spelled = λ k. ap (label_tokens 0) b.text; kids = refl; place = refl },
+    )
 own_skips x _ c t gs m w cs i = cc

@@ -62,8 +62,10 @@ runs_read_files file ts rest made e =
       split = r.is;
       uses_shaped = all_of so.Use u.ts (u.kids 0);
       decls_shaped = all_of so.Decl d.ts (d.kids 0);
-      spelled = rw (back u.ts, back d.ts) (ap (λ y. y ++ all_led 0 le.Nothing (spells 0 d.ts)) words ∙ ap (λ y. map unplaced p.v ++ y) words' ∙ sym (map-append unplaced p.v p.v') ∙ ap (map unplaced) (sym p.is));
+      spelled = rw (back u.ts, back d.ts) (ap (λ y. y ++ all_led 0 le.Nothing (spells 0 d.ts)) words ∙ ap (λ y. map unplaced p.v ++ y)
+          words' ∙ sym (map-append unplaced p.v p.v') ∙ ap (map unplaced) (sym p.is));
       uses_placed = rw (back u.ts) (u.placed any_head);
-      decls_placed = rw (back u.ts, back d.ts) (subst (λ y. HavePlaces file ts (begins_led le.Nothing y (spells 0 d.ts)) d.ts) at (d.placed any_head));
+      decls_placed = rw (back u.ts, back d.ts)
+          (subst (λ y. HavePlaces file ts (begins_led le.Nothing y (spells 0 d.ts)) d.ts) at (d.placed any_head));
       is_made = all;
     }

@@ -50,10 +50,12 @@ use Rattle.hare_parsing.proofs.SortRows.{no_names, path_or_struct_means, path_or
 
 -- ---- each row that uses a token
 
-pub row_means : (x : Source) (n : Rule) (c : Class) (t : Token) (gs : List Group) (m : ℕ) (u w : List Token) (gs' : List Group) → class_of t ≡ c → Used x (row n c) t gs m u w gs' → Means x n gs m (t ∷ u) w gs'
+pub row_means : (x : Source) (n : Rule) (c : Class) (t : Token) (gs : List Group) (m : ℕ) (u w : List Token) (gs' : List Group) →
+    class_of t ≡ c → Used x (row n c) t gs m u w gs' → Means x n gs m (t ∷ u) w gs'
 row_means x (ru.Of s) c t gs m u w gs' e h = λ o. of_means x s c t gs m u w gs' o e h
 row_means x (ru.Own o) c t gs m u w gs' e h = own_means x o c t gs m u w gs' e h
-row_means x (ru.Optional s) c t gs m u w gs' e h = λ o. present (of_means x s c t gs m u w gs' o e (used_or x (of_row s c) (ch.Absent ∷ []) t gs m u w gs' h))
+row_means x (ru.Optional s) c t gs m u w gs' e h =
+    λ o. present (of_means x s c t gs m u w gs' o e (used_or x (of_row s c) (ch.Absent ∷ []) t gs m u w gs' h))
 row_means x (ru.Led a s) c t gs m u w gs' e h = led_means x s a c t gs m u w gs' e h
 row_means x (ru.Each s) c t gs m u w gs' e h = each_means x s (of_means x s) c t gs m u w gs' e h
 row_means x (ru.EachLed a s) c t gs m u w gs' e h = each_led_means x s a c t gs m u w gs' e h
@@ -102,7 +104,8 @@ or_is Fault ds cs n e = cc
 or_is (Skips bs) ds cs n e = cc
 or_is (Uses bs rs) ds cs n e = cc
 
-at_is : (a : Sign) (c : Class) (bs : List Change) (ss : List Symbol) (ds cs : List Change) → at_sign a c (Uses bs ss) (Skips ds) ≡ Skips cs → (has_sign a c ≡ false) × (cs ≡ ds)
+at_is : (a : Sign) (c : Class) (bs : List Change) (ss : List Symbol) (ds cs : List Change) →
+    at_sign a c (Uses bs ss) (Skips ds) ≡ Skips cs → (has_sign a c ≡ false) × (cs ≡ ds)
 at_is a c bs ss ds cs e = by (has_sign a c) refl e
   where
     by : (b : Bool) → has_sign a c ≡ b → (if b then Uses bs ss else Skips ds) ≡ Skips cs → (has_sign a c ≡ false) × (cs ≡ ds)
@@ -146,7 +149,8 @@ climb_over l j (cl.Sign _) cs e = skips_same [] cs e
 climb_over l j _ cs e = skips_same [] cs e
 
 -- the operand stays as it is
-climb_skips : (x : Source) (l j : ℕ) (gs : List Group) (m : ℕ) (w : List Token) (gs' : List Group) → gs' ≡ gs → Means x (ru.Climb l j) gs m [] w gs'
+climb_skips : (x : Source) (l j : ℕ) (gs : List Group) (m : ℕ) (w : List Token) (gs' : List Group) → gs' ≡ gs →
+    Means x (ru.Climb l j) gs m [] w gs'
 climb_skips x l j gs m w gs' i a hs n v o p g q at = record {
   t = a;
   is = subst (λ y. IsTree x (so.Level l) n y w a) (sym (append-nil v)) (as_sort x (so.Level j) (so.Level l) n v w a (level_down l j p) q);
@@ -171,7 +175,8 @@ in_index_never c = before_never (level_row 1 c) (part ru.AfterIndex ∷ []) (lev
 
 for_head_never : (c : Class) → is_skips (for_head_row c) ≡ false
 for_head_never (cl.Sign si.Let) = refl
-for_head_never c = led_never (before (level_row 1 c) (rest_of 5 ki.For)) (ch.Absent ∷ []) (before_never (level_row 1 c) (rest_of 5 ki.For) (level_never 1 c))
+for_head_never c = led_never (before (level_row 1 c) (rest_of 5 ki.For)) (ch.Absent ∷ [])
+    (before_never (level_row 1 c) (rest_of 5 ki.For) (level_never 1 c))
 
 -- the changes of the rules that end lists and paths
 more_elements_over : (c : Class) (cs : List Change) → row ru.MoreElements c ≡ Skips cs → cs ≡ ch.Absent ∷ ch.Absent ∷ []
@@ -198,7 +203,8 @@ path_or_struct_over _ cs e = skips_same (ch.Close ki.Path ∷ ch.Lift ∷ []) cs
 
 after_yield_over : (c : Class) (cs : List Change) → row ru.AfterYield c ≡ Skips cs → cs ≡ ch.Absent ∷ ch.Close ki.Yield ∷ []
 after_yield_over (cl.Sign si.Colon) cs e = cc
-after_yield_over c cs e = or_is (before (level_row 1 c) (sy.Close ki.Yield ∷ [])) (ch.Absent ∷ ch.Close ki.Yield ∷ []) cs (before_never (level_row 1 c) (sy.Close ki.Yield ∷ []) (level_never 1 c)) e
+after_yield_over c cs e = or_is (before (level_row 1 c) (sy.Close ki.Yield ∷ [])) (ch.Absent ∷ ch.Close ki.Yield ∷ []) cs
+    (before_never (level_row 1 c) (sy.Close ki.Yield ∷ []) (level_never 1 c)) e
 
 -- the rules that are never over: what begins a form was read, and more must come
 abbrev stays : Rule → Bool
@@ -277,28 +283,64 @@ stays_never ru.AfterUsePart c i = after_use_never c
 stays_never _ c i = cc
 
 -- the same trees by the changes that they were made by
-by_changes : (x : Source) (n : Rule) (t : Token) (gs : List Group) (m : ℕ) (w : List Token) (cs ds : List Change) → cs ≡ ds → Means x n gs m [] w (all_changed x.file t ds gs) → Means x n gs m [] w (all_changed x.file t cs gs)
+by_changes : (x : Source) (n : Rule) (t : Token) (gs : List Group) (m : ℕ) (w : List Token) (cs ds : List Change) → cs ≡ ds →
+    Means x n gs m [] w (all_changed x.file t ds gs) → Means x n gs m [] w (all_changed x.file t cs gs)
 by_changes x n t gs m w cs ds i q = subst (λ y. Means x n gs m [] w (all_changed x.file t y gs)) (sym i) q
 
-pub skip_means : (x : Source) (n : Rule) (c : Class) (t : Token) (gs : List Group) (m : ℕ) (w : List Token) (cs : List Change) → front w ≡ c → row n c ≡ Skips cs → Means x n gs m [] w (all_changed x.file t cs gs)
+pub skip_means : (x : Source) (n : Rule) (c : Class) (t : Token) (gs : List Group) (m : ℕ) (w : List Token) (cs : List Change) →
+    front w ≡ c → row n c ≡ Skips cs → Means x n gs m [] w (all_changed x.file t cs gs)
 unfolding is_shaped spell HasPlaces
 skip_means x (ru.Own o) c t gs m w cs f e = own_skips x o c t gs m w cs e
-skip_means x (ru.Optional s) c t gs m w cs f e = by_changes x (ru.Optional s) t gs m w cs (ch.Absent ∷ []) (or_is (of_row s c) (ch.Absent ∷ []) cs (of_never s c) e) (λ o. absent refl refl)
+skip_means x (ru.Optional s) c t gs m w cs f e =
+    by_changes x (ru.Optional s) t gs m w cs (ch.Absent ∷ []) (or_is (of_row s c) (ch.Absent ∷ []) cs (of_never s c) e)
+    (λ o. absent refl refl)
 skip_means x (ru.Led a s) c t gs m w cs f e =
     let p = at_is a c [] (of s ∷ []) (ch.Absent ∷ []) cs e in
     by_changes x (ru.Led a s) t gs m w cs (ch.Absent ∷ []) p.1 (λ o. lacks refl (ap (has_sign a) f ∙ p.0) refl)
-skip_means x (ru.Each s) c t gs m w cs f e = by_changes x (ru.Each s) t gs m w cs [] (or_is (before (of_row s c) (part (ru.Each s) ∷ [])) [] cs (before_never (of_row s c) (part (ru.Each s) ∷ []) (of_never s c)) e) (λ o. record { ts = none; kids = λ k. refl; ends = refl; spelled = λ h. refl; placed = λ h. tt; adds = refl })
-skip_means x (ru.EachLed a s) c t gs m w cs f e = by_changes x (ru.EachLed a s) t gs m w cs [] (at_is a c [] (of s ∷ part (ru.EachLed a s) ∷ []) [] cs e).1 (λ y o. record { ts = none; kids = λ k. refl; ends = refl; spelled = λ h. refl; placed = λ h. tt; adds = refl })
-skip_means x (ru.EachFollowed s a) c t gs m w cs f e = by_changes x (ru.EachFollowed s a) t gs m w cs [] (or_is (before (of_row s c) (sy.Want a ∷ part (ru.EachFollowed s a) ∷ [])) [] cs (before_never (of_row s c) (sy.Want a ∷ part (ru.EachFollowed s a) ∷ []) (of_never s c)) e) (λ y o. record { ts = none; kids = λ k. refl; ends = refl; spelled = λ h. refl; placed = λ h. tt; adds = refl })
-skip_means x (ru.List s) c t gs m w cs f e = by_changes x (ru.List s) t gs m w cs (ch.Absent ∷ []) (or_is (before (of_row s c) (part (ru.More s) ∷ [])) (ch.Absent ∷ []) cs (before_never (of_row s c) (part (ru.More s) ∷ []) (of_never s c)) e) (list_skips x s gs m w)
-skip_means x (ru.More s) c t gs m w cs f e = by_changes x (ru.More s) t gs m w cs (ch.Absent ∷ []) (at_is si.Comma c (ch.Open ∷ []) (part (ru.BehindComma s) ∷ []) (ch.Absent ∷ []) cs e).1 (more_skips x s gs m w)
-skip_means x (ru.BehindComma s) c t gs m w cs f e = by_changes x (ru.BehindComma s) t gs m w cs (ch.Close ki.TrailingComma ∷ []) (or_is (led_by (ch.Drop ∷ []) (before (of_row s c) (part (ru.More s) ∷ []))) (ch.Close ki.TrailingComma ∷ []) cs (led_never (before (of_row s c) (part (ru.More s) ∷ [])) (ch.Drop ∷ []) (before_never (of_row s c) (part (ru.More s) ∷ []) (of_never s c))) e) (behind_comma_skips x s gs m w)
-skip_means x ru.Elements c t gs m w cs f e = by_changes x ru.Elements t gs m w cs (ch.Absent ∷ ch.Absent ∷ []) (or_is (before (level_row 1 c) (part ru.MoreElements ∷ [])) (ch.Absent ∷ ch.Absent ∷ []) cs (before_never (level_row 1 c) (part ru.MoreElements ∷ []) (level_never 1 c)) e) (elements_skips x gs m w)
-skip_means x ru.MoreElements c t gs m w cs f e = by_changes x ru.MoreElements t gs m w cs (ch.Absent ∷ ch.Absent ∷ []) (more_elements_over c cs e) (more_elements_skips x gs m w)
-skip_means x ru.BehindElementComma c t gs m w cs f e = by_changes x ru.BehindElementComma t gs m w cs (ch.Close ki.TrailingComma ∷ ch.Lift ∷ []) (or_is (led_by (ch.Drop ∷ ch.Drop ∷ []) (before (level_row 1 c) (part ru.MoreElements ∷ []))) (ch.Close ki.TrailingComma ∷ ch.Lift ∷ []) cs (led_never (before (level_row 1 c) (part ru.MoreElements ∷ [])) (ch.Drop ∷ ch.Drop ∷ []) (before_never (level_row 1 c) (part ru.MoreElements ∷ []) (level_never 1 c))) e) (behind_element_comma_skips x gs m w)
-skip_means x ru.LastComma c t gs m w cs f e = by_changes x ru.LastComma t gs m w cs (ch.Absent ∷ []) (last_comma_over c cs e) (last_comma_skips x gs m w)
-skip_means x (ru.PathRest k) c t gs m w cs f e = by_changes x (ru.PathRest k) t gs m w cs (ch.Close k ∷ []) (path_rest_over k c cs e) (λ g hs i. (no_names, ap (close k) (i ∙ ap (λ y. y ∷ hs) (sym (joined_nothing g)))))
-skip_means x ru.PathOrStruct c t gs m w cs f e = by_changes x ru.PathOrStruct t gs m w cs (ch.Close ki.Path ∷ ch.Lift ∷ []) (path_or_struct_over c cs e) (path_or_struct_skips x gs m w)
-skip_means x (ru.Climb l j) c t gs m w cs f e = by_changes x (ru.Climb l j) t gs m w cs [] (climb_over l j c cs e) (climb_skips x l j gs m w gs refl)
-skip_means x ru.AfterYield c t gs m w cs f e = by_changes x ru.AfterYield t gs m w cs (ch.Absent ∷ ch.Close ki.Yield ∷ []) (after_yield_over c cs e) (after_yield_skips x gs m w)
+skip_means x (ru.Each s) c t gs m w cs f e =
+    by_changes x (ru.Each s) t gs m w cs [] (or_is (before (of_row s c) (part (ru.Each s) ∷ [])) [] cs
+    (before_never (of_row s c) (part (ru.Each s) ∷ []) (of_never s c)) e)
+    (λ o. record { ts = none; kids = λ k. refl; ends = refl; spelled = λ h. refl; placed = λ h. tt; adds = refl })
+skip_means x (ru.EachLed a s) c t gs m w cs f e =
+    by_changes x (ru.EachLed a s) t gs m w cs [] (at_is a c [] (of s ∷ part (ru.EachLed a s) ∷ []) [] cs e).1
+    (λ y o. record { ts = none; kids = λ k. refl; ends = refl; spelled = λ h. refl; placed = λ h. tt; adds = refl })
+skip_means x (ru.EachFollowed s a) c t gs m w cs f e =
+    by_changes x (ru.EachFollowed s a) t gs m w cs []
+    (or_is (before (of_row s c) (sy.Want a ∷ part (ru.EachFollowed s a) ∷ [])) [] cs
+    (before_never (of_row s c) (sy.Want a ∷ part (ru.EachFollowed s a) ∷ []) (of_never s c)) e)
+    (λ y o. record { ts = none; kids = λ k. refl; ends = refl; spelled = λ h. refl; placed = λ h. tt; adds = refl })
+skip_means x (ru.List s) c t gs m w cs f e =
+    by_changes x (ru.List s) t gs m w cs (ch.Absent ∷ [])
+    (or_is (before (of_row s c) (part (ru.More s) ∷ [])) (ch.Absent ∷ []) cs
+    (before_never (of_row s c) (part (ru.More s) ∷ []) (of_never s c)) e) (list_skips x s gs m w)
+skip_means x (ru.More s) c t gs m w cs f e =
+    by_changes x (ru.More s) t gs m w cs (ch.Absent ∷ [])
+    (at_is si.Comma c (ch.Open ∷ []) (part (ru.BehindComma s) ∷ []) (ch.Absent ∷ []) cs e).1 (more_skips x s gs m w)
+skip_means x (ru.BehindComma s) c t gs m w cs f e =
+    by_changes x (ru.BehindComma s) t gs m w cs (ch.Close ki.TrailingComma ∷ [])
+    (or_is (led_by (ch.Drop ∷ []) (before (of_row s c) (part (ru.More s) ∷ []))) (ch.Close ki.TrailingComma ∷ []) cs
+    (led_never (before (of_row s c) (part (ru.More s) ∷ [])) (ch.Drop ∷ [])
+    (before_never (of_row s c) (part (ru.More s) ∷ []) (of_never s c))) e) (behind_comma_skips x s gs m w)
+skip_means x ru.Elements c t gs m w cs f e =
+    by_changes x ru.Elements t gs m w cs (ch.Absent ∷ ch.Absent ∷ [])
+    (or_is (before (level_row 1 c) (part ru.MoreElements ∷ [])) (ch.Absent ∷ ch.Absent ∷ []) cs
+    (before_never (level_row 1 c) (part ru.MoreElements ∷ []) (level_never 1 c)) e) (elements_skips x gs m w)
+skip_means x ru.MoreElements c t gs m w cs f e =
+    by_changes x ru.MoreElements t gs m w cs (ch.Absent ∷ ch.Absent ∷ []) (more_elements_over c cs e) (more_elements_skips x gs m w)
+skip_means x ru.BehindElementComma c t gs m w cs f e =
+    by_changes x ru.BehindElementComma t gs m w cs (ch.Close ki.TrailingComma ∷ ch.Lift ∷ [])
+    (or_is (led_by (ch.Drop ∷ ch.Drop ∷ []) (before (level_row 1 c) (part ru.MoreElements ∷ []))) (ch.Close ki.TrailingComma ∷ ch.Lift ∷ [])
+    cs (led_never (before (level_row 1 c) (part ru.MoreElements ∷ [])) (ch.Drop ∷ ch.Drop ∷ [])
+    (before_never (level_row 1 c) (part ru.MoreElements ∷ []) (level_never 1 c))) e) (behind_element_comma_skips x gs m w)
+skip_means x ru.LastComma c t gs m w cs f e =
+    by_changes x ru.LastComma t gs m w cs (ch.Absent ∷ []) (last_comma_over c cs e) (last_comma_skips x gs m w)
+skip_means x (ru.PathRest k) c t gs m w cs f e =
+    by_changes x (ru.PathRest k) t gs m w cs (ch.Close k ∷ []) (path_rest_over k c cs e)
+    (λ g hs i. (no_names, ap (close k) (i ∙ ap (λ y. y ∷ hs) (sym (joined_nothing g)))))
+skip_means x ru.PathOrStruct c t gs m w cs f e =
+    by_changes x ru.PathOrStruct t gs m w cs (ch.Close ki.Path ∷ ch.Lift ∷ []) (path_or_struct_over c cs e) (path_or_struct_skips x gs m w)
+skip_means x (ru.Climb l j) c t gs m w cs f e =
+    by_changes x (ru.Climb l j) t gs m w cs [] (climb_over l j c cs e) (climb_skips x l j gs m w gs refl)
+skip_means x ru.AfterYield c t gs m w cs f e =
+    by_changes x ru.AfterYield t gs m w cs (ch.Absent ∷ ch.Close ki.Yield ∷ []) (after_yield_over c cs e) (after_yield_skips x gs m w)
 skip_means x n c t gs m w cs f e = never_over (row n c) cs (stays_never n c refl) e

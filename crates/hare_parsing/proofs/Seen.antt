@@ -66,19 +66,22 @@ operator_no_sign x = by (is_binary x) (is_listed (operators ki.OpAssign) x)
 pub sign_is : (t : Token) (s : Sign) → class_of t ≡ cl.Sign s → unplaced t ≡ sign_token 0 s
 sign_is t s e = by t.kind refl
   where
-    sign_from : (k : TokenKind) → t.kind ≡ k → has_text_alone (head_of t) ≡ true → sign_kind s ≡ k → sign_word s ≡ t.text → unplaced t ≡ sign_token 0 s
+    sign_from : (k : TokenKind) → t.kind ≡ k → has_text_alone (head_of t) ≡ true → sign_kind s ≡ k → sign_word s ≡ t.text →
+        unplaced t ≡ sign_token 0 s
     sign_from k i a j x = let p = plain_token k t i a in p.is ∙ (rw (j, x) refl)
 
     by : (k : TokenKind) → t.kind ≡ k → unplaced t ≡ sign_token 0 s
     by tk.Keyword i =
         let c : class_in tk.Keyword (head_of t) ≡ cl.Sign s = ap (λ y. class_in y (head_of t)) (sym i) ∙ e in
         let w = when_is (has_text_alone (head_of t)) (sign_or (word_class t.text) keyword_signs t.text) (cl.Sign s) refl c in
-        let p = sign_or_sign (λ r. is_keyword_kind (sign_kind r)) (word_class t.text) keyword_signs t.text s refl (word_no_sign t.text) w.1 in
+        let p = sign_or_sign (λ r. is_keyword_kind (sign_kind r)) (word_class t.text) keyword_signs t.text s refl (word_no_sign t.text)
+        w.1 in
         sign_from tk.Keyword i w.0 (keyword_kind (sign_kind s) p.0) p.1
     by tk.Mark i =
         let c : class_in tk.Mark (head_of t) ≡ cl.Sign s = ap (λ y. class_in y (head_of t)) (sym i) ∙ e in
         let w = when_is (has_text_alone (head_of t)) (sign_or (operator_class t.text) mark_signs t.text) (cl.Sign s) refl c in
-        let p = sign_or_sign (λ r. is_mark_kind (sign_kind r)) (operator_class t.text) mark_signs t.text s refl (operator_no_sign t.text) w.1 in
+        let p = sign_or_sign (λ r. is_mark_kind (sign_kind r)) (operator_class t.text) mark_signs t.text s refl (operator_no_sign t.text)
+        w.1 in
         sign_from tk.Mark i w.0 (mark_kind (sign_kind s) p.0) p.1
     by k i = let m = seen_may t k (cl.Sign s) i e in cc
 
@@ -90,7 +93,8 @@ pub record Named (b : Bool) (t : Token) : Type 0 where
 pub name_is : (t : Token) → class_of t ≡ cl.Name → Named false t
 name_is t e = by t.kind refl
   where
-    named : (b : Bool) → is_name false t.text ≡ b → (d : Bool) → (if b then cl.Name else if d then cl.PathWord else cl.Junk) ≡ cl.Name → is_name false t.text ≡ true
+    named : (b : Bool) → is_name false t.text ≡ b → (d : Bool) → (if b then cl.Name else if d then cl.PathWord else cl.Junk) ≡ cl.Name →
+        is_name false t.text ≡ true
     named true i d e = i
     named false i true e = cc
     named false i false e = cc
@@ -106,7 +110,8 @@ name_is t e = by t.kind refl
 pub path_word_is : (t : Token) → class_of t ≡ cl.PathWord → Named true t
 path_word_is t e = by t.kind refl
   where
-    named : (b d : Bool) → is_name true t.text ≡ d → (if b then cl.Name else if d then cl.PathWord else cl.Junk) ≡ cl.PathWord → is_name true t.text ≡ true
+    named : (b d : Bool) → is_name true t.text ≡ d → (if b then cl.Name else if d then cl.PathWord else cl.Junk) ≡ cl.PathWord →
+        is_name true t.text ≡ true
     named true d i e = cc
     named false true i e = i
     named false false i e = cc
@@ -119,7 +124,8 @@ path_word_is t e = by t.kind refl
     by k i = let m = seen_may t k cl.PathWord i e in cc
 
 -- a number, a rune, a string
-pub number_is : (t : Token) → class_of t ≡ cl.Number → (unplaced t ≡ full_token 0 tk.Number (head_of t)) × (is_own ow.Number (head_of t) ≡ true)
+pub number_is : (t : Token) → class_of t ≡ cl.Number → (unplaced t ≡ full_token 0 tk.Number (head_of t)) ×
+    (is_own ow.Number (head_of t) ≡ true)
 number_is t e = by t.kind refl
   where
     by : (k : TokenKind) → t.kind ≡ k → (unplaced t ≡ full_token 0 tk.Number (head_of t)) × (is_own ow.Number (head_of t) ≡ true)
@@ -152,7 +158,8 @@ pub record Listed (k : TokenKind) (ws : List (List ℕ)) (t : Token) : Type 0 wh
   pub listed : is_listed ws t.text ≡ true
 
 -- what a keyword that is no sign is
-word_is : (t : Token) (c : Class) → is_sign_class c ≡ false → is_junk c ≡ false → t.kind ≡ tk.Keyword → class_of t ≡ c → (has_text_alone (head_of t) ≡ true) × (word_class t.text ≡ c)
+word_is : (t : Token) (c : Class) → is_sign_class c ≡ false → is_junk c ≡ false → t.kind ≡ tk.Keyword → class_of t ≡ c →
+    (has_text_alone (head_of t) ≡ true) × (word_class t.text ≡ c)
 word_is t c n j i e =
     let d : class_in tk.Keyword (head_of t) ≡ c = ap (λ y. class_in y (head_of t)) (sym i) ∙ e in
     let w = when_is (has_text_alone (head_of t)) (sign_or (word_class t.text) keyword_signs t.text) c j d in
@@ -161,7 +168,8 @@ word_is t c n j i e =
 pub scalar_is : (t : Token) → class_of t ≡ cl.Scalar → Listed tk.Keyword scalars t
 scalar_is t e = by t.kind refl
   where
-    which : (b : Bool) → is_listed scalars t.text ≡ b → (d : Bool) → (if b then cl.Scalar else if d then cl.Bool else cl.Junk) ≡ cl.Scalar → is_listed scalars t.text ≡ true
+    which : (b : Bool) → is_listed scalars t.text ≡ b → (d : Bool) → (if b then cl.Scalar else if d then cl.Bool else cl.Junk) ≡ cl.Scalar →
+        is_listed scalars t.text ≡ true
     which true i d e = i
     which false i true e = cc
     which false i false e = cc
@@ -169,13 +177,18 @@ scalar_is t e = by t.kind refl
     by : (k : TokenKind) → t.kind ≡ k → Listed tk.Keyword scalars t
     by tk.Keyword i =
         let w = word_is t cl.Scalar refl refl i e in
-        record { plain = plain_token tk.Keyword t i w.0; listed = which (is_listed scalars t.text) refl (is_listed (codes "true" ∷ codes "false" ∷ []) t.text) w.1 }
+        record {
+          plain = plain_token tk.Keyword t i w.0;
+          listed = which (is_listed scalars t.text) refl
+              (is_listed (codes "true" ∷ codes "false" ∷ []) t.text) w.1;
+        }
     by k i = let m = seen_may t k cl.Scalar i e in cc
 
 pub bool_is : (t : Token) → class_of t ≡ cl.Bool → Listed tk.Keyword (codes "true" ∷ codes "false" ∷ []) t
 bool_is t e = by t.kind refl
   where
-    which : (b d : Bool) → is_listed (codes "true" ∷ codes "false" ∷ []) t.text ≡ d → (if b then cl.Scalar else if d then cl.Bool else cl.Junk) ≡ cl.Bool → is_listed (codes "true" ∷ codes "false" ∷ []) t.text ≡ true
+    which : (b d : Bool) → is_listed (codes "true" ∷ codes "false" ∷ []) t.text ≡ d →
+        (if b then cl.Scalar else if d then cl.Bool else cl.Junk) ≡ cl.Bool → is_listed (codes "true" ∷ codes "false" ∷ []) t.text ≡ true
     which true d i e = cc
     which false true i e = i
     which false false i e = cc
@@ -183,11 +196,16 @@ bool_is t e = by t.kind refl
     by : (k : TokenKind) → t.kind ≡ k → Listed tk.Keyword (codes "true" ∷ codes "false" ∷ []) t
     by tk.Keyword i =
         let w = word_is t cl.Bool refl refl i e in
-        record { plain = plain_token tk.Keyword t i w.0; listed = which (is_listed scalars t.text) (is_listed (codes "true" ∷ codes "false" ∷ []) t.text) refl w.1 }
+        record {
+          plain = plain_token tk.Keyword t i w.0;
+          listed = which (is_listed scalars t.text)
+              (is_listed (codes "true" ∷ codes "false" ∷ []) t.text) refl w.1;
+        }
     by k i = let m = seen_may t k cl.Bool i e in cc
 
 -- what a mark that is no sign is
-mark_is : (t : Token) (c : Class) → is_sign_class c ≡ false → is_junk c ≡ false → t.kind ≡ tk.Mark → class_of t ≡ c → (has_text_alone (head_of t) ≡ true) × (operator_class t.text ≡ c)
+mark_is : (t : Token) (c : Class) → is_sign_class c ≡ false → is_junk c ≡ false → t.kind ≡ tk.Mark → class_of t ≡ c →
+    (has_text_alone (head_of t) ≡ true) × (operator_class t.text ≡ c)
 mark_is t c n j i e =
     let d : class_in tk.Mark (head_of t) ≡ c = ap (λ y. class_in y (head_of t)) (sym i) ∙ e in
     let w = when_is (has_text_alone (head_of t)) (sign_or (operator_class t.text) mark_signs t.text) c j d in
@@ -196,7 +214,9 @@ mark_is t c n j i e =
 pub assign_is : (t : Token) → class_of t ≡ cl.OpAssign → Listed tk.Mark (operators ki.OpAssign) t
 assign_is t e = by t.kind refl
   where
-    which : (b d : Bool) → is_listed (operators ki.OpAssign) t.text ≡ d → (if b then cl.Binary (operator_level t.text) else if d then cl.OpAssign else cl.Junk) ≡ cl.OpAssign → is_listed (operators ki.OpAssign) t.text ≡ true
+    which : (b d : Bool) → is_listed (operators ki.OpAssign) t.text ≡ d →
+        (if b then cl.Binary (operator_level t.text) else if d then cl.OpAssign else cl.Junk) ≡ cl.OpAssign →
+        is_listed (operators ki.OpAssign) t.text ≡ true
     which true d i e = cc
     which false true i e = i
     which false false i e = cc
@@ -204,7 +224,11 @@ assign_is t e = by t.kind refl
     by : (k : TokenKind) → t.kind ≡ k → Listed tk.Mark (operators ki.OpAssign) t
     by tk.Mark i =
         let w = mark_is t cl.OpAssign refl refl i e in
-        record { plain = plain_token tk.Mark t i w.0; listed = which (is_binary t.text) (is_listed (operators ki.OpAssign) t.text) refl w.1 }
+        record {
+          plain = plain_token tk.Mark t i w.0;
+          listed = which (is_binary t.text) (is_listed (operators ki.OpAssign) t.text) refl
+              w.1;
+        }
     by k i = let m = seen_may t k cl.OpAssign i e in cc
 
 -- ---- binary operators
@@ -214,9 +238,12 @@ abbrev InKind : List ℕ → Type 0
 InKind x = is_listed (operators (binary_kind (operator_level x))) x ≡ true
 
 in_kind : (x : List ℕ) → is_binary x ≡ true → InKind x
-in_kind x e = by (is_listed (operators ki.Arith) x) refl (is_listed (operators ki.Shift) x) refl (is_listed (operators ki.Less) x) refl (is_listed (operators ki.Equal) x) refl e
+in_kind x e = by (is_listed (operators ki.Arith) x) refl (is_listed (operators ki.Shift) x) refl (is_listed (operators ki.Less) x) refl
+    (is_listed (operators ki.Equal) x) refl e
   where
-    by : (a : Bool) → is_listed (operators ki.Arith) x ≡ a → (b : Bool) → is_listed (operators ki.Shift) x ≡ b → (c : Bool) → is_listed (operators ki.Less) x ≡ c → (d : Bool) → is_listed (operators ki.Equal) x ≡ d → (if a then true else if b then true else if c then true else if d then true else is_listed (operators ki.Logic) x) ≡ true → InKind x
+    by : (a : Bool) → is_listed (operators ki.Arith) x ≡ a → (b : Bool) → is_listed (operators ki.Shift) x ≡ b → (c : Bool) →
+        is_listed (operators ki.Less) x ≡ c → (d : Bool) → is_listed (operators ki.Equal) x ≡ d →
+        (if a then true else if b then true else if c then true else if d then true else is_listed (operators ki.Logic) x) ≡ true → InKind x
     by true i b j c k d l e = of_listed InKind (operators ki.Arith) x i (refl, (refl, (refl, (refl, (refl, (refl, (refl, (refl, tt))))))))
     by false i true j c k d l e = of_listed InKind (operators ki.Shift) x j (refl, (refl, tt))
     by false i false j true k d l e = of_listed InKind (operators ki.Less) x k (refl, (refl, (refl, (refl, tt))))
@@ -232,7 +259,9 @@ pub record Operator (m : ℕ) (t : Token) : Type 0 where
 pub binary_is : (t : Token) (m : ℕ) → class_of t ≡ cl.Binary m → Operator m t
 binary_is t m e = by t.kind refl
   where
-    which : (b : Bool) → is_binary t.text ≡ b → (d : Bool) → (if b then cl.Binary (operator_level t.text) else if d then cl.OpAssign else cl.Junk) ≡ cl.Binary m → (is_binary t.text ≡ true) × (operator_level t.text ≡ m)
+    which : (b : Bool) → is_binary t.text ≡ b → (d : Bool) →
+        (if b then cl.Binary (operator_level t.text) else if d then cl.OpAssign else cl.Junk) ≡ cl.Binary m → (is_binary t.text ≡ true) ×
+        (operator_level t.text ≡ m)
     which true i d e = (i, cc)
     which false i true e = cc
     which false i false e = cc
@@ -241,5 +270,10 @@ binary_is t m e = by t.kind refl
     by tk.Mark i =
         let w = mark_is t (cl.Binary m) refl refl i e in
         let v = which (is_binary t.text) refl (is_listed (operators ki.OpAssign) t.text) w.1 in
-        record { plain = plain_token tk.Mark t i w.0; level = v.1; listed = subst (λ y. is_listed (operators (binary_kind y)) t.text ≡ true) v.1 (in_kind t.text v.0) }
+        record {
+          plain = plain_token tk.Mark t i w.0;
+          level = v.1;
+          listed = subst (λ y. is_listed (operators (binary_kind y)) t.text ≡ true)
+              v.1 (in_kind t.text v.0);
+        }
     by k i = let n = seen_may t k (cl.Binary m) i e in cc

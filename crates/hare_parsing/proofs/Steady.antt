@@ -136,12 +136,14 @@ row_steady (ru.EachLed a s) c = at_ends a c [] [] (of s ∷ part (ru.EachLed a s
 row_steady (ru.EachFollowed s a) c = or_ends (before (of_row s c) (sy.Want a ∷ part (ru.EachFollowed s a) ∷ [])) []
 row_steady (ru.List s) c = or_ends (before (of_row s c) (part (ru.More s) ∷ [])) (ch.Absent ∷ [])
 row_steady (ru.More s) c = at_ends si.Comma c (ch.Open ∷ []) (ch.Absent ∷ []) (part (ru.BehindComma s) ∷ [])
-row_steady (ru.BehindComma s) c = or_ends (led_by (ch.Drop ∷ []) (before (of_row s c) (part (ru.More s) ∷ []))) (ch.Close ki.TrailingComma ∷ [])
+row_steady (ru.BehindComma s) c = or_ends (led_by (ch.Drop ∷ []) (before (of_row s c) (part (ru.More s) ∷ [])))
+    (ch.Close ki.TrailingComma ∷ [])
 row_steady ru.Elements c = or_ends (before (level_row 1 c) (part ru.MoreElements ∷ [])) (ch.Absent ∷ ch.Absent ∷ [])
 row_steady ru.MoreElements (cl.Sign si.Comma) = refl
 row_steady ru.MoreElements (cl.Sign _) = refl
 row_steady ru.MoreElements _ = refl
-row_steady ru.BehindElementComma c = or_ends (led_by (ch.Drop ∷ ch.Drop ∷ []) (before (level_row 1 c) (part ru.MoreElements ∷ []))) (ch.Close ki.TrailingComma ∷ ch.Lift ∷ [])
+row_steady ru.BehindElementComma c = or_ends (led_by (ch.Drop ∷ ch.Drop ∷ []) (before (level_row 1 c) (part ru.MoreElements ∷ [])))
+    (ch.Close ki.TrailingComma ∷ ch.Lift ∷ [])
 row_steady ru.LastComma (cl.Sign si.Comma) = refl
 row_steady ru.LastComma (cl.Sign _) = refl
 row_steady ru.LastComma _ = refl
@@ -154,9 +156,11 @@ row_steady ru.PathOrStruct _ = refl
 row_steady ru.PathName cl.Name = refl
 row_steady ru.PathName _ = refl
 row_steady ru.InBracket (cl.Sign si.RightBracket) = refl
-row_steady ru.InBracket c = sure_stays (before (length_row c) (rest_of 2 ki.TypeArray)) (before_sure (length_row c) (rest_of 2 ki.TypeArray) (length_sure c))
+row_steady ru.InBracket c = sure_stays (before (length_row c) (rest_of 2 ki.TypeArray))
+    (before_sure (length_row c) (rest_of 2 ki.TypeArray) (length_sure c))
 row_steady ru.FirstMember (cl.Sign si.Dots) = refl
-row_steady ru.FirstMember c = sure_stays (before (type_row c) (part ru.AfterType ∷ [])) (before_sure (type_row c) (part ru.AfterType ∷ []) (type_sure c))
+row_steady ru.FirstMember c = sure_stays (before (type_row c) (part ru.AfterType ∷ []))
+    (before_sure (type_row c) (part ru.AfterType ∷ []) (type_sure c))
 row_steady ru.AfterType (cl.Sign si.Comma) = refl
 row_steady ru.AfterType (cl.Sign _) = refl
 row_steady ru.AfterType _ = refl
@@ -168,14 +172,17 @@ row_steady ru.AfterValue (cl.Sign si.Comma) = refl
 row_steady ru.AfterValue (cl.Sign _) = refl
 row_steady ru.AfterValue _ = refl
 row_steady ru.InIndex (cl.Sign si.DotDot) = refl
-row_steady ru.InIndex c = sure_stays (before (level_row 1 c) (part ru.AfterIndex ∷ [])) (before_sure (level_row 1 c) (part ru.AfterIndex ∷ []) (level_sure 1 c))
+row_steady ru.InIndex c = sure_stays (before (level_row 1 c) (part ru.AfterIndex ∷ []))
+    (before_sure (level_row 1 c) (part ru.AfterIndex ∷ []) (level_sure 1 c))
 row_steady ru.AfterIndex (cl.Sign si.DotDot) = refl
 row_steady ru.AfterIndex (cl.Sign _) = refl
 row_steady ru.AfterIndex _ = refl
 row_steady ru.AfterYield (cl.Sign si.Colon) = refl
 row_steady ru.AfterYield c = or_ends (before (level_row 1 c) (sy.Close ki.Yield ∷ [])) (ch.Absent ∷ ch.Close ki.Yield ∷ [])
 row_steady ru.ForHead (cl.Sign si.Let) = refl
-row_steady ru.ForHead c = sure_stays (led_by (ch.Absent ∷ []) (before (level_row 1 c) (rest_of 5 ki.For))) (led_sure (ch.Absent ∷ []) (before (level_row 1 c) (rest_of 5 ki.For)) (before_sure (level_row 1 c) (rest_of 5 ki.For) (level_sure 1 c)))
+row_steady ru.ForHead c = sure_stays (led_by (ch.Absent ∷ []) (before (level_row 1 c) (rest_of 5 ki.For)))
+    (led_sure (ch.Absent ∷ []) (before (level_row 1 c) (rest_of 5 ki.For))
+    (before_sure (level_row 1 c) (rest_of 5 ki.For) (level_sure 1 c)))
 row_steady ru.AfterForName (cl.Sign si.Colon) = refl
 row_steady ru.AfterForName (cl.Sign _) = refl
 row_steady ru.AfterForName _ = refl
@@ -193,7 +200,8 @@ row_steady ru.AfterUsePart c = use_part_steady c
 -- ---- steps
 
 -- where the run is over in front of a token, it is stuck at no other
-pub end_not_stuck : (f : ℕ) (t t' : Token) (c c' : Class) (st : List Symbol) (gs gs' made : List Group) → step f t c st gs ≡ Ends made → step f t' c' st gs' ≡ Stuck → ⊥
+pub end_not_stuck : (f : ℕ) (t t' : Token) (c c' : Class) (st : List Symbol) (gs gs' made : List Group) → step f t c st gs ≡ Ends made →
+    step f t' c' st gs' ≡ Stuck → ⊥
 unfolding step
 end_not_stuck f t t' c c' [] gs gs' made e i = cc
 end_not_stuck f t t' c c' (sy.Close k ∷ st) gs gs' made e i = end_not_stuck f t t' c c' st (close k gs) (close k gs') made e i
@@ -202,9 +210,12 @@ end_not_stuck f t t' c c' (sy.Want d ∷ st) gs gs' made e i = by (has_sign d c)
     by : (b : Bool) → wanted b (Goes st gs) ≡ Ends made → ⊥
     by true j = cc
     by false j = cc
-end_not_stuck f t t' c c' (sy.Part n ∷ st) gs gs' made e i = by (may_end n) (row n c) (row n c') (row_steady n c) (row_steady n c') e i (λ hs hs' j k. end_not_stuck f t t' c c' st hs hs' made j k)
+end_not_stuck f t t' c c' (sy.Part n ∷ st) gs gs' made e i =
+    by (may_end n) (row n c) (row n c') (row_steady n c) (row_steady n c') e i (λ hs hs' j k. end_not_stuck f t t' c c' st hs hs' made j k)
   where
-    by : (b : Bool) (r r' : Row) → is_steady b r ≡ true → is_steady b r' ≡ true → acted r f t st gs (λ hs. step f t c st hs) ≡ Ends made → acted r' f t' st gs' (λ hs. step f t' c' st hs) ≡ Stuck → ((hs hs' : List Group) → step f t c st hs ≡ Ends made → step f t' c' st hs' ≡ Stuck → ⊥) → ⊥
+    by : (b : Bool) (r r' : Row) → is_steady b r ≡ true → is_steady b r' ≡ true → acted r f t st gs (λ hs. step f t c st hs) ≡ Ends made →
+        acted r' f t' st gs' (λ hs. step f t' c' st hs) ≡ Stuck →
+        ((hs hs' : List Group) → step f t c st hs ≡ Ends made → step f t' c' st hs' ≡ Stuck → ⊥) → ⊥
     by b Fault r' x y j k l = cc
     by b (Uses cs ss) r' x y j k l = cc
     by true (Skips cs) Fault x y j k l = cc

@@ -44,7 +44,8 @@ when_may : (k : TokenKind) (b : Bool) (c : Class) → may_be k c ≡ true → ma
 when_may k true c e = e
 when_may k false c e = junk_may k
 
-sign_or_may : (k : TokenKind) (other : Class) (ss : List Sign) (x : List ℕ) → ((s : Sign) → may_be k (cl.Sign s) ≡ true) → may_be k other ≡ true → may_be k (sign_or other ss x) ≡ true
+sign_or_may : (k : TokenKind) (other : Class) (ss : List Sign) (x : List ℕ) → ((s : Sign) → may_be k (cl.Sign s) ≡ true) →
+    may_be k other ≡ true → may_be k (sign_or other ss x) ≡ true
 sign_or_may k other [] x f e = e
 sign_or_may k other (s ∷ ss) x f e = by (bytes_eq (sign_word s) x) (sign_or_may k other ss x f e)
   where
@@ -78,11 +79,13 @@ operator_may x = by (is_binary x) (is_listed (operators ki.OpAssign) x)
 
 may : (k : TokenKind) (h : Head) → may_be k (class_in k h) ≡ true
 may tk.Name h = when_may tk.Name (has_text_alone h) (name_class h.text) (name_may h.text)
-may tk.Keyword h = when_may tk.Keyword (has_text_alone h) (sign_or (word_class h.text) keyword_signs h.text) (sign_or_may tk.Keyword (word_class h.text) keyword_signs h.text (λ s. refl) (word_may h.text))
+may tk.Keyword h = when_may tk.Keyword (has_text_alone h) (sign_or (word_class h.text) keyword_signs h.text)
+    (sign_or_may tk.Keyword (word_class h.text) keyword_signs h.text (λ s. refl) (word_may h.text))
 may tk.Number h = when_may tk.Number (is_own ow.Number h) cl.Number refl
 may tk.Str h = when_may tk.Str (is_own ow.Text h) cl.Text refl
 may tk.RuneLit h = when_may tk.RuneLit (is_own ow.Rune h) cl.Rune refl
-may tk.Mark h = when_may tk.Mark (has_text_alone h) (sign_or (operator_class h.text) mark_signs h.text) (sign_or_may tk.Mark (operator_class h.text) mark_signs h.text (λ s. refl) (operator_may h.text))
+may tk.Mark h = when_may tk.Mark (has_text_alone h) (sign_or (operator_class h.text) mark_signs h.text)
+    (sign_or_may tk.Mark (operator_class h.text) mark_signs h.text (λ s. refl) (operator_may h.text))
 may tk.End h = refl
 
 -- the kind of a token with this class
@@ -121,11 +124,14 @@ sign_or_other other (s ∷ ss) x c n e = by (bytes_eq (sign_word s) x) e (λ q. 
     by false e f = f e
 
 -- a sign is one of the list, and is spelled so
-pub sign_or_sign : (p : Sign → Bool) (other : Class) (ss : List Sign) (x : List ℕ) (s : Sign) → list_all p ss ≡ true → is_sign_class other ≡ false → sign_or other ss x ≡ cl.Sign s → (p s ≡ true) × (sign_word s ≡ x)
+pub sign_or_sign : (p : Sign → Bool) (other : Class) (ss : List Sign) (x : List ℕ) (s : Sign) → list_all p ss ≡ true →
+    is_sign_class other ≡ false → sign_or other ss x ≡ cl.Sign s → (p s ≡ true) × (sign_word s ≡ x)
 sign_or_sign p other [] x s a n e = let y : is_sign_class other ≡ true = ap is_sign_class e in cc
 sign_or_sign p other (r ∷ ss) x s a n e = by (bytes_eq (sign_word r) x) refl (p r) refl a e (λ b q. sign_or_sign p other ss x s b n q)
   where
-    by : (b : Bool) → bytes_eq (sign_word r) x ≡ b → (d : Bool) → p r ≡ d → (d && list_all p ss) ≡ true → (if b then cl.Sign r else sign_or other ss x) ≡ cl.Sign s → (list_all p ss ≡ true → sign_or other ss x ≡ cl.Sign s → (p s ≡ true) × (sign_word s ≡ x)) → (p s ≡ true) × (sign_word s ≡ x)
+    by : (b : Bool) → bytes_eq (sign_word r) x ≡ b → (d : Bool) → p r ≡ d → (d && list_all p ss) ≡ true →
+        (if b then cl.Sign r else sign_or other ss x) ≡ cl.Sign s →
+        (list_all p ss ≡ true → sign_or other ss x ≡ cl.Sign s → (p s ≡ true) × (sign_word s ≡ x)) → (p s ≡ true) × (sign_word s ≡ x)
     by b i false j a e f = cc
     by true i true j a e f =
         let y : r ≡ s = cc in

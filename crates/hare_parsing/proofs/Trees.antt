@@ -58,28 +58,42 @@ pub record Made (x : Source) (k : Kind) (m : ℕ) (u w : List Token) (h : Head) 
 all_five : (a b c d e : Bool) → a ≡ true → b ≡ true → c ≡ true → d ≡ true → e ≡ true → (a && b && c && d && e) ≡ true
 all_five a b c d e p q r s t = rw (p, q, r, s, t) refl
 
-pub made_tree : (x : Source) (s : Sort) (k : Kind) (m : ℕ) (u w : List Token) (h : Head) (ts : Nodes) → is_none k ≡ false → admits s k h.text ≡ true → Made x k m u w h ts → IsTree x s m u w (branch h ts)
+pub made_tree : (x : Source) (s : Sort) (k : Kind) (m : ℕ) (u w : List Token) (h : Head) (ts : Nodes) → is_none k ≡ false →
+    admits s k h.text ≡ true → Made x k m u w h ts → IsTree x s m u w (branch h ts)
 unfolding is_shaped spell stops HasPlaces
 made_tree x s k m u w h ts n a q =
     let i : k ≡ h.kind = sym q.kind_is in
     let there : is_none h.kind ≡ false = subst (λ y. is_none y ≡ false) i n in
     record {
-      shaped = all_five _ _ _ _ _ (subst (λ y. admits s y h.text ≡ true) i a) (subst (λ y. is_own (own_of (form_of y)) h ≡ true) i q.own) (subst (λ y. are_kids (level y h.text) (kid_pieces (form_of y)) ts ≡ true) i q.kids) (subst (λ y. kids_end (form_of y) (edges ts) ≡ true) i q.ends) q.label;
+      shaped = all_five _ _ _ _ _ (subst (λ y. admits s y h.text ≡ true) i a) (subst (λ y. is_own (own_of (form_of y)) h ≡ true) i q.own)
+          (subst (λ y. are_kids (level y h.text) (kid_pieces (form_of y)) ts ≡ true) i q.kids)
+          (subst (λ y. kids_end (form_of y) (edges ts) ≡ true) i q.ends) q.label;
       spelled = subst (λ y. pieces_tokens 0 h (form_of y) (spells 0 ts) ≡ map unplaced u) i q.spelled;
-      placed = (q.place_is ∙ ap (λ b. if b then start_of x.file else place_of x.tokens (m + place_in h ts)) (sym there), subst (λ y. HavePlaces x.file x.tokens (begins h (form_of y) m (spells 0 ts)) ts) i q.placed);
+      placed = (
+        q.place_is ∙ ap (λ b. if b then start_of x.file else place_of x.tokens (m + place_in h ts)) (sym there),
+        subst
+            (λ y. HavePlaces x.file x.tokens (begins h (form_of y) m (spells 0 ts)) ts) i q.placed,
+      );
       ends = λ d j. subst (λ y. form_stops d h true (form_of y) (stops_each d ts) ≡ true) i (q.stops_at d j);
     }
 
 -- a tree of one sort is of another that admits its kind
-pub as_sort : (x : Source) (s r : Sort) (m : ℕ) (u w : List Token) (t : Node) → ((k : Kind) (y : List ℕ) → admits s k y ≡ true → admits r k y ≡ true) → IsTree x s m u w t → IsTree x r m u w t
+pub as_sort : (x : Source) (s r : Sort) (m : ℕ) (u w : List Token) (t : Node) →
+    ((k : Kind) (y : List ℕ) → admits s k y ≡ true → admits r k y ≡ true) → IsTree x s m u w t → IsTree x r m u w t
 unfolding is_shaped
-as_sort x s r m u w (branch h ts) f q = record { shaped = by (admits s h.kind h.text) (f h.kind h.text) q.shaped; spelled = q.spelled; placed = q.placed; ends = q.ends }
+as_sort x s r m u w (branch h ts) f q = record
+    { shaped = by (admits s h.kind h.text) (f h.kind h.text) q.shaped; spelled = q.spelled; placed = q.placed; ends = q.ends }
   where
-    by : (a : Bool) → (a ≡ true → admits r h.kind h.text ≡ true) → (a && is_own (own_of (form_of h.kind)) h && are_kids (level h.kind h.text) (kid_pieces (form_of h.kind)) ts && kids_end (form_of h.kind) (edges ts) && yields_label h ts) ≡ true → (admits r h.kind h.text && is_own (own_of (form_of h.kind)) h && are_kids (level h.kind h.text) (kid_pieces (form_of h.kind)) ts && kids_end (form_of h.kind) (edges ts) && yields_label h ts) ≡ true
+    by : (a : Bool) → (a ≡ true → admits r h.kind h.text ≡ true) →
+        (a && is_own (own_of (form_of h.kind)) h && are_kids (level h.kind h.text) (kid_pieces (form_of h.kind)) ts && kids_end
+        (form_of h.kind) (edges ts) && yields_label h ts) ≡ true →
+        (admits r h.kind h.text && is_own (own_of (form_of h.kind)) h && are_kids (level h.kind h.text) (kid_pieces (form_of h.kind)) ts &&
+        kids_end (form_of h.kind) (edges ts) && yields_label h ts) ≡ true
     by true g e = rw (g refl) e
     by false g e = cc
 
-pub tree_as : (x : Source) (s r : Sort) (gs : List Group) (m : ℕ) (u w : List Token) (gs' : List Group) → ((k : Kind) (y : List ℕ) → admits s k y ≡ true → admits r k y ≡ true) → Tree x s gs m u w gs' → Tree x r gs m u w gs'
+pub tree_as : (x : Source) (s r : Sort) (gs : List Group) (m : ℕ) (u w : List Token) (gs' : List Group) →
+    ((k : Kind) (y : List ℕ) → admits s k y ≡ true → admits r k y ≡ true) → Tree x s gs m u w gs' → Tree x r gs m u w gs'
 tree_as x s r gs m u w gs' f q = record { t = q.t; is = as_sort x s r m u w q.t f q.is; adds = q.adds }
 
 -- ---- kids side by side
@@ -98,7 +112,8 @@ back (more t ts) = ap (more t) (back ts)
 
 pub all_kids : (ts : Nodes) (g : Group) (gs : List Group) → add_all ts (g ∷ gs) ≡ with_kids g (g.kids ++ list_of ts) ∷ gs
 all_kids none g gs = ap (λ l. with_kids g l ∷ gs) (sym (append-nil g.kids))
-all_kids (more t ts) g gs = all_kids ts (with_kids g (g.kids ++ t ∷ [])) gs ∙ ap (λ l. with_kids g l ∷ gs) (append_assoc g.kids (t ∷ []) (list_of ts))
+all_kids (more t ts) g gs = all_kids ts (with_kids g (g.kids ++ t ∷ [])) gs ∙ ap (λ l. with_kids g l ∷ gs)
+    (append_assoc g.kids (t ∷ []) (list_of ts))
 
 -- the kids of a piece were read
 pub record Listed (x : Source) (p : Piece) (gs : List Group) (m : ℕ) (u w : List Token) (gs' : List Group) : Type 0 where
@@ -140,7 +155,8 @@ pub record Owned (o : Own) (g : Group) (u : List Token) (g' : Group) : Type 0 wh
 -- ---- a tree whose form was read to its end
 
 -- The pieces `ps` were read behind what the group `g` says, and the tree of the kind is whole.
-pub record Ended (x : Source) (k : Kind) (ps : List Piece) (g : Group) (hs : List Group) (m : ℕ) (u w : List Token) (gs' : List Group) : Type 0 where
+pub record Ended (x : Source) (k : Kind) (ps : List Piece) (g : Group) (hs : List Group) (m : ℕ) (u w : List Token)
+    (gs' : List Group) : Type 0 where
   pub h : Head
   pub ts : Nodes
   pub kind_is : h.kind ≡ k
@@ -152,5 +168,6 @@ pub record Ended (x : Source) (k : Kind) (ps : List Piece) (g : Group) (hs : Lis
   pub behind : (d : Sign) → behind_kid ps (edges ts) ≡ Some d → front (u ++ w) ≡ cl.Sign d
   pub spelled : pieces_tokens 0 h ps (spells 0 ts) ≡ map unplaced u
   pub placed : HavePlaces x.file x.tokens (begins h ps m (spells 0 ts)) ts
-  pub stops_at : (e : Sign → Bool) → ((d : Sign) → front (u ++ w) ≡ cl.Sign d → e d ≡ true) → (d : Sign) → front w ≡ cl.Sign d → form_stops d h (e d) ps (stops_each d ts) ≡ true
+  pub stops_at : (e : Sign → Bool) → ((d : Sign) → front (u ++ w) ≡ cl.Sign d → e d ≡ true) → (d : Sign) → front w ≡ cl.Sign d →
+      form_stops d h (e d) ps (stops_each d ts) ≡ true
   pub adds : gs' ≡ add (branch h (nodes_of (g.kids ++ list_of ts))) hs

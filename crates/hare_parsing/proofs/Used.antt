@@ -42,30 +42,58 @@ head_place y (u ∷ us) t rest e = by (is_proper_string y) (is_proper_string u) 
 
 raw_at : (ts before : List Token) (t : Token) (rest : List Token) → joined ts ≡ before ++ t ∷ rest → RawAt ts before t
 raw_at [] before t rest e = absurd (not_nil before t rest e)
-raw_at (y ∷ ys) [] t rest e = record { front = []; first = y; behind = ys; is = refl; joins = refl; place = head_place y (joined ys) t rest e }
+raw_at (y ∷ ys) [] t rest e = record {
+  front = [];
+  first = y;
+  behind = ys;
+  is = refl;
+  joins = refl;
+  place = head_place y (joined ys) t rest
+      e;
+}
 raw_at (y ∷ ys) (b ∷ before) t rest e = by (joined ys) refl e (λ bf i. raw_at ys bf t rest i)
   where
     -- the token stays by itself
-    single : (u : Token) (us : List Token) → joined ys ≡ u ∷ us → ((us' : List Token) → joined_to y (u ∷ us') ≡ y ∷ u ∷ us') → y ∷ u ∷ us ≡ b ∷ (before ++ t ∷ rest) → ((bf : List Token) → joined ys ≡ bf ++ t ∷ rest → RawAt ys bf t) → RawAt (y ∷ ys) (b ∷ before) t
+    single : (u : Token) (us : List Token) → joined ys ≡ u ∷ us → ((us' : List Token) → joined_to y (u ∷ us') ≡ y ∷ u ∷ us') →
+        y ∷ u ∷ us ≡ b ∷ (before ++ t ∷ rest) → ((bf : List Token) → joined ys ≡ bf ++ t ∷ rest → RawAt ys bf t) →
+        RawAt (y ∷ ys) (b ∷ before) t
     single u us i k e f =
         let h = heads y b (u ∷ us) (before ++ t ∷ rest) e in
         let r = f before (i ∙ h.1) in
-        record { front = y ∷ r.front; first = r.first; behind = r.behind; is = ap (λ l. y ∷ l) r.is; joins = ap (joined_to y) r.joins ∙ stays before h.1 ∙ ap (λ z. z ∷ before) h.0; place = r.place }
+        record {
+          front = y ∷ r.front;
+          first = r.first;
+          behind = r.behind;
+          is = ap (λ l. y ∷ l) r.is;
+          joins = ap (joined_to y) r.joins ∙
+              stays before h.1 ∙ ap (λ z. z ∷ before) h.0;
+          place = r.place;
+        }
       where
         stays : (bf : List Token) → u ∷ us ≡ bf ++ t ∷ rest → joined_to y bf ≡ y ∷ bf
         stays [] j = refl
         stays (c ∷ bf) j = let g = heads u c us (bf ++ t ∷ rest) j in subst (λ z. joined_to y (z ∷ bf) ≡ y ∷ z ∷ bf) g.0 (k bf)
 
-    by : (js : List Token) → joined ys ≡ js → joined_to y js ≡ b ∷ (before ++ t ∷ rest) → ((bf : List Token) → joined ys ≡ bf ++ t ∷ rest → RawAt ys bf t) → RawAt (y ∷ ys) (b ∷ before) t
+    by : (js : List Token) → joined ys ≡ js → joined_to y js ≡ b ∷ (before ++ t ∷ rest) →
+        ((bf : List Token) → joined ys ≡ bf ++ t ∷ rest → RawAt ys bf t) → RawAt (y ∷ ys) (b ∷ before) t
     by [] i e f = absurd (not_nil before t rest (heads y b [] (before ++ t ∷ rest) e).1)
     by (u ∷ us) i e f = test (is_proper_string y) refl (is_proper_string u) refl e
       where
-        test : (p : Bool) → is_proper_string y ≡ p → (q : Bool) → is_proper_string u ≡ q → chosen p q y u us ≡ b ∷ (before ++ t ∷ rest) → RawAt (y ∷ ys) (b ∷ before) t
+        test : (p : Bool) → is_proper_string y ≡ p → (q : Bool) → is_proper_string u ≡ q → chosen p q y u us ≡ b ∷ (before ++ t ∷ rest) →
+            RawAt (y ∷ ys) (b ∷ before) t
         test true c true d e =
             let h = heads (merged y u) b us (before ++ t ∷ rest) e in
             let r = f (u ∷ before) (i ∙ ap (λ l. u ∷ l) h.1) in
             let m : joined_to y (u ∷ before) ≡ merged y u ∷ before = rw (c, d) refl in
-            record { front = y ∷ r.front; first = r.first; behind = r.behind; is = ap (λ l. y ∷ l) r.is; joins = ap (joined_to y) r.joins ∙ m ∙ ap (λ z. z ∷ before) h.0; place = r.place }
+            record {
+              front = y ∷ r.front;
+              first = r.first;
+              behind = r.behind;
+              is = ap (λ l. y ∷ l) r.is;
+              joins = ap (joined_to y) r.joins ∙
+                  m ∙ ap (λ z. z ∷ before) h.0;
+              place = r.place;
+            }
         test true c false d e = single u us i (λ us'. rw (c, d) refl) e f
         test false c q d e = single u us i (λ us'. rw c refl) e f
 

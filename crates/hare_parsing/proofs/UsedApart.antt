@@ -52,7 +52,8 @@ each_refuses s h = by (of_row s cl.Text) h
     by (Skips cs) e = cc
     by (Uses cs ss) e = cc
 
-each_fault : (s : Sort) (ss : List Symbol) → is_fault (of_row s cl.Text) ≡ true → row_refuses (or_skips (before (of_row s cl.Text) ss) []) ≡ true
+each_fault : (s : Sort) (ss : List Symbol) → is_fault (of_row s cl.Text) ≡ true →
+    row_refuses (or_skips (before (of_row s cl.Text) ss) []) ≡ true
 each_fault s ss h = by (of_row s cl.Text) h
   where
     by : (r : Row) → is_fault r ≡ true → row_refuses (or_skips (before r ss) []) ≡ true
@@ -68,17 +69,26 @@ row_is_apt (ru.Of s) c h = of_apt s c
 row_is_apt (ru.Own o) c h = own_apt o c
 row_is_apt (ru.Optional s) c h = or_apt (of_row s c) (ch.Absent ∷ []) (of_apt s c)
 row_is_apt (ru.Led a s) c h = at_apt a c [] (ch.Absent ∷ []) (of s ∷ []) refl
-row_is_apt (ru.Each s) c h = or_apt (before (of_row s c) (part (ru.Each s) ∷ [])) [] (before_apt (of_row s c) (part (ru.Each s) ∷ []) (of_apt s c) (rw h refl) (each_refuses s h))
+row_is_apt (ru.Each s) c h = or_apt (before (of_row s c) (part (ru.Each s) ∷ [])) []
+    (before_apt (of_row s c) (part (ru.Each s) ∷ []) (of_apt s c) (rw h refl) (each_refuses s h))
 row_is_apt (ru.EachLed a s) c h = at_apt a c [] [] (of s ∷ part (ru.EachLed a s) ∷ []) refl
-row_is_apt (ru.EachFollowed s a) c h = or_apt (before (of_row s c) (sy.Want a ∷ part (ru.EachFollowed s a) ∷ [])) [] (before_apt (of_row s c) (sy.Want a ∷ part (ru.EachFollowed s a) ∷ []) (of_apt s c) refl refl)
-row_is_apt (ru.List s) c h = or_apt (before (of_row s c) (part (ru.More s) ∷ [])) (ch.Absent ∷ []) (before_apt (of_row s c) (part (ru.More s) ∷ []) (of_apt s c) refl refl)
+row_is_apt (ru.EachFollowed s a) c h = or_apt (before (of_row s c) (sy.Want a ∷ part (ru.EachFollowed s a) ∷ [])) []
+    (before_apt (of_row s c) (sy.Want a ∷ part (ru.EachFollowed s a) ∷ []) (of_apt s c) refl refl)
+row_is_apt (ru.List s) c h = or_apt (before (of_row s c) (part (ru.More s) ∷ [])) (ch.Absent ∷ [])
+    (before_apt (of_row s c) (part (ru.More s) ∷ []) (of_apt s c) refl refl)
 row_is_apt (ru.More s) c h = at_apt si.Comma c (ch.Open ∷ []) (ch.Absent ∷ []) (part (ru.BehindComma s) ∷ []) refl
-row_is_apt (ru.BehindComma s) c h = or_apt (led_by (ch.Drop ∷ []) (before (of_row s c) (part (ru.More s) ∷ []))) (ch.Close ki.TrailingComma ∷ []) (led_apt (ch.Drop ∷ []) (before (of_row s c) (part (ru.More s) ∷ [])) (before_apt (of_row s c) (part (ru.More s) ∷ []) (of_apt s c) refl refl))
-row_is_apt ru.Elements c h = or_apt (before (level_row 1 c) (part ru.MoreElements ∷ [])) (ch.Absent ∷ ch.Absent ∷ []) (before_apt (level_row 1 c) (part ru.MoreElements ∷ []) (level_apt 1 c) refl refl)
+row_is_apt (ru.BehindComma s) c h = or_apt (led_by (ch.Drop ∷ []) (before (of_row s c) (part (ru.More s) ∷ [])))
+    (ch.Close ki.TrailingComma ∷ []) (led_apt (ch.Drop ∷ []) (before (of_row s c) (part (ru.More s) ∷ []))
+    (before_apt (of_row s c) (part (ru.More s) ∷ []) (of_apt s c) refl refl))
+row_is_apt ru.Elements c h = or_apt (before (level_row 1 c) (part ru.MoreElements ∷ [])) (ch.Absent ∷ ch.Absent ∷ [])
+    (before_apt (level_row 1 c) (part ru.MoreElements ∷ []) (level_apt 1 c) refl refl)
 row_is_apt ru.MoreElements (cl.Sign si.Comma) h = refl
 row_is_apt ru.MoreElements (cl.Sign _) h = refl
 row_is_apt ru.MoreElements _ h = refl
-row_is_apt ru.BehindElementComma c h = or_apt (led_by (ch.Drop ∷ ch.Drop ∷ []) (before (level_row 1 c) (part ru.MoreElements ∷ []))) (ch.Close ki.TrailingComma ∷ ch.Lift ∷ []) (led_apt (ch.Drop ∷ ch.Drop ∷ []) (before (level_row 1 c) (part ru.MoreElements ∷ [])) (before_apt (level_row 1 c) (part ru.MoreElements ∷ []) (level_apt 1 c) refl refl))
+row_is_apt ru.BehindElementComma c h = or_apt (led_by (ch.Drop ∷ ch.Drop ∷ []) (before (level_row 1 c) (part ru.MoreElements ∷ [])))
+    (ch.Close ki.TrailingComma ∷ ch.Lift ∷ [])
+    (led_apt (ch.Drop ∷ ch.Drop ∷ []) (before (level_row 1 c) (part ru.MoreElements ∷ []))
+    (before_apt (level_row 1 c) (part ru.MoreElements ∷ []) (level_apt 1 c) refl refl))
 row_is_apt ru.LastComma (cl.Sign si.Comma) h = refl
 row_is_apt ru.LastComma (cl.Sign _) h = refl
 row_is_apt ru.LastComma _ h = refl
@@ -110,9 +120,11 @@ row_is_apt ru.AfterIndex (cl.Sign si.DotDot) h = refl
 row_is_apt ru.AfterIndex (cl.Sign _) h = refl
 row_is_apt ru.AfterIndex _ h = refl
 row_is_apt ru.AfterYield (cl.Sign si.Colon) h = refl
-row_is_apt ru.AfterYield c h = or_apt (before (level_row 1 c) (sy.Close ki.Yield ∷ [])) (ch.Absent ∷ ch.Close ki.Yield ∷ []) (before_apt (level_row 1 c) (sy.Close ki.Yield ∷ []) (level_apt 1 c) refl refl)
+row_is_apt ru.AfterYield c h = or_apt (before (level_row 1 c) (sy.Close ki.Yield ∷ [])) (ch.Absent ∷ ch.Close ki.Yield ∷ [])
+    (before_apt (level_row 1 c) (sy.Close ki.Yield ∷ []) (level_apt 1 c) refl refl)
 row_is_apt ru.ForHead (cl.Sign si.Let) h = refl
-row_is_apt ru.ForHead c h = led_apt (ch.Absent ∷ []) (before (level_row 1 c) (rest_of 5 ki.For)) (before_apt (level_row 1 c) (rest_of 5 ki.For) (level_apt 1 c) refl refl)
+row_is_apt ru.ForHead c h = led_apt (ch.Absent ∷ []) (before (level_row 1 c) (rest_of 5 ki.For))
+    (before_apt (level_row 1 c) (rest_of 5 ki.For) (level_apt 1 c) refl refl)
 row_is_apt ru.AfterForName (cl.Sign si.Colon) h = refl
 row_is_apt ru.AfterForName (cl.Sign _) h = refl
 row_is_apt ru.AfterForName _ h = refl
@@ -134,9 +146,13 @@ row_then_refuses (ru.Own ow.Label) h = refl
 row_then_refuses (ru.Own _) h = refl
 row_then_refuses (ru.Optional s) h = or_refuses (of_row s cl.Text) (ch.Absent ∷ []) (of_refuses s)
 row_then_refuses (ru.Each s) h = each_fault s (part (ru.Each s) ∷ []) h
-row_then_refuses (ru.EachFollowed s a) h = or_refuses (before (of_row s cl.Text) (sy.Want a ∷ part (ru.EachFollowed s a) ∷ [])) [] (before_refuses (of_row s cl.Text) (sy.Want a ∷ part (ru.EachFollowed s a) ∷ []) (of_refuses s) refl)
-row_then_refuses (ru.List s) h = or_refuses (before (of_row s cl.Text) (part (ru.More s) ∷ [])) (ch.Absent ∷ []) (before_refuses (of_row s cl.Text) (part (ru.More s) ∷ []) (of_refuses s) refl)
-row_then_refuses (ru.BehindComma s) h = or_refuses (led_by (ch.Drop ∷ []) (before (of_row s cl.Text) (part (ru.More s) ∷ []))) (ch.Close ki.TrailingComma ∷ []) (led_refuses (ch.Drop ∷ []) (before (of_row s cl.Text) (part (ru.More s) ∷ [])) (before_refuses (of_row s cl.Text) (part (ru.More s) ∷ []) (of_refuses s) refl))
+row_then_refuses (ru.EachFollowed s a) h = or_refuses (before (of_row s cl.Text) (sy.Want a ∷ part (ru.EachFollowed s a) ∷ [])) []
+    (before_refuses (of_row s cl.Text) (sy.Want a ∷ part (ru.EachFollowed s a) ∷ []) (of_refuses s) refl)
+row_then_refuses (ru.List s) h = or_refuses (before (of_row s cl.Text) (part (ru.More s) ∷ [])) (ch.Absent ∷ [])
+    (before_refuses (of_row s cl.Text) (part (ru.More s) ∷ []) (of_refuses s) refl)
+row_then_refuses (ru.BehindComma s) h = or_refuses (led_by (ch.Drop ∷ []) (before (of_row s cl.Text) (part (ru.More s) ∷ [])))
+    (ch.Close ki.TrailingComma ∷ []) (led_refuses (ch.Drop ∷ []) (before (of_row s cl.Text) (part (ru.More s) ∷ []))
+    (before_refuses (of_row s cl.Text) (part (ru.More s) ∷ []) (of_refuses s) refl))
 row_then_refuses _ h = refl
 
 row_junk : (n : Rule) → no_use (row n cl.Junk) ≡ true
@@ -147,7 +163,8 @@ row_junk (ru.Optional s) = ap (λ r. no_use (or_skips r (ch.Absent ∷ []))) (of
 row_junk (ru.Each s) = ap (λ r. no_use (or_skips (before r (part (ru.Each s) ∷ [])) [])) (of_junk s)
 row_junk (ru.EachFollowed s a) = ap (λ r. no_use (or_skips (before r (sy.Want a ∷ part (ru.EachFollowed s a) ∷ [])) [])) (of_junk s)
 row_junk (ru.List s) = ap (λ r. no_use (or_skips (before r (part (ru.More s) ∷ [])) (ch.Absent ∷ []))) (of_junk s)
-row_junk (ru.BehindComma s) = ap (λ r. no_use (or_skips (led_by (ch.Drop ∷ []) (before r (part (ru.More s) ∷ []))) (ch.Close ki.TrailingComma ∷ []))) (of_junk s)
+row_junk (ru.BehindComma s) = ap (λ r. no_use
+    (or_skips (led_by (ch.Drop ∷ []) (before r (part (ru.More s) ∷ []))) (ch.Close ki.TrailingComma ∷ []))) (of_junk s)
 row_junk _ = refl
 
 -- ---- steps
@@ -155,7 +172,8 @@ row_junk _ = refl
 went : (p : List Symbol → Bool) (st st' : List Symbol) (gs gs' : List Group) → Goes st gs ≡ Goes st' gs' → p st ≡ true → p st' ≡ true
 went p st st' gs gs' i g = let x : st ≡ st' = cc in subst (λ y. p y ≡ true) x g
 
-step_apt : (f : ℕ) (t : Token) (c : Class) (st st' : List Symbol) (gs gs' : List Group) → apt st ≡ true → step f t c st gs ≡ Goes st' gs' → apt st' ≡ true
+step_apt : (f : ℕ) (t : Token) (c : Class) (st st' : List Symbol) (gs gs' : List Group) → apt st ≡ true → step f t c st gs ≡ Goes st' gs' →
+    apt st' ≡ true
 unfolding step
 step_apt f t c [] st' gs gs' a i = cc
 step_apt f t c (sy.Close k ∷ st) st' gs gs' a i = step_apt f t c st st' (close k gs) gs' a i
@@ -169,13 +187,15 @@ step_apt f t c (sy.Part n ∷ st) st' gs gs' a i =
     let q = split (refuses st) (apt st) p.1 in
     by (row n c) (row_is_apt n c p.0) i (λ hs j. step_apt f t c st st' hs gs' q.1 j) q.0 q.1
   where
-    by : (r : Row) → row_apt r ≡ true → acted r f t st gs (λ hs. step f t c st hs) ≡ Goes st' gs' → ((hs : List Group) → step f t c st hs ≡ Goes st' gs' → apt st' ≡ true) → refuses st ≡ true → apt st ≡ true → apt st' ≡ true
+    by : (r : Row) → row_apt r ≡ true → acted r f t st gs (λ hs. step f t c st hs) ≡ Goes st' gs' →
+        ((hs : List Group) → step f t c st hs ≡ Goes st' gs' → apt st' ≡ true) → refuses st ≡ true → apt st ≡ true → apt st' ≡ true
     by Fault g i k b d = cc
     by (Skips cs) g i k b d = k _ i
     by (Uses cs ss) g i k b d = went apt (ss ++ st) st' _ gs' i (apt_append ss st g d b)
 
 -- behind a string that is used no other can stand
-step_refuses : (f : ℕ) (t : Token) (st st' : List Symbol) (gs gs' : List Group) → apt st ≡ true → step f t cl.Text st gs ≡ Goes st' gs' → refuses st' ≡ true
+step_refuses : (f : ℕ) (t : Token) (st st' : List Symbol) (gs gs' : List Group) → apt st ≡ true → step f t cl.Text st gs ≡ Goes st' gs' →
+    refuses st' ≡ true
 unfolding step
 step_refuses f t [] st' gs gs' a i = cc
 step_refuses f t (sy.Close k ∷ st) st' gs gs' a i = step_refuses f t st st' (close k gs) gs' a i
@@ -185,20 +205,23 @@ step_refuses f t (sy.Part n ∷ st) st' gs gs' a i =
     let q = split (refuses st) (apt st) p.1 in
     by (row n cl.Text) (row_then_refuses n p.0) i (λ hs j. step_refuses f t st st' hs gs' q.1 j) q.0
   where
-    by : (r : Row) → row_refuses r ≡ true → acted r f t st gs (λ hs. step f t cl.Text st hs) ≡ Goes st' gs' → ((hs : List Group) → step f t cl.Text st hs ≡ Goes st' gs' → refuses st' ≡ true) → refuses st ≡ true → refuses st' ≡ true
+    by : (r : Row) → row_refuses r ≡ true → acted r f t st gs (λ hs. step f t cl.Text st hs) ≡ Goes st' gs' →
+        ((hs : List Group) → step f t cl.Text st hs ≡ Goes st' gs' → refuses st' ≡ true) → refuses st ≡ true → refuses st' ≡ true
     by Fault g i k b = cc
     by (Skips cs) g i k b = k _ i
     by (Uses cs ss) g i k b = went refuses (ss ++ st) st' _ gs' i (refuses_append ss st g b)
 
 -- where no string can stand, none is used
-step_refused : (f : ℕ) (t : Token) (st st' : List Symbol) (gs gs' : List Group) → refuses st ≡ true → step f t cl.Text st gs ≡ Goes st' gs' → ⊥
+step_refused : (f : ℕ) (t : Token) (st st' : List Symbol) (gs gs' : List Group) → refuses st ≡ true →
+    step f t cl.Text st gs ≡ Goes st' gs' → ⊥
 unfolding step
 step_refused f t [] st' gs gs' a i = cc
 step_refused f t (sy.Close k ∷ st) st' gs gs' a i = step_refused f t st st' (close k gs) gs' a i
 step_refused f t (sy.Want d ∷ st) st' gs gs' a i = cc
 step_refused f t (sy.Part n ∷ st) st' gs gs' a i = by (row n cl.Text) a i (λ hs b j. step_refused f t st st' hs gs' b j)
   where
-    by : (r : Row) → passes r (refuses st) ≡ true → acted r f t st gs (λ hs. step f t cl.Text st hs) ≡ Goes st' gs' → ((hs : List Group) → refuses st ≡ true → step f t cl.Text st hs ≡ Goes st' gs' → ⊥) → ⊥
+    by : (r : Row) → passes r (refuses st) ≡ true → acted r f t st gs (λ hs. step f t cl.Text st hs) ≡ Goes st' gs' →
+        ((hs : List Group) → refuses st ≡ true → step f t cl.Text st hs ≡ Goes st' gs' → ⊥) → ⊥
     by Fault b i k = cc
     by (Skips cs) b i k = k _ b i
     by (Uses cs ss) b i k = cc
@@ -210,7 +233,8 @@ step_junk f t (sy.Close k ∷ st) st' gs gs' i = step_junk f t st st' (close k g
 step_junk f t (sy.Want d ∷ st) st' gs gs' i = cc
 step_junk f t (sy.Part n ∷ st) st' gs gs' i = by (row n cl.Junk) (row_junk n) i (λ hs j. step_junk f t st st' hs gs' j)
   where
-    by : (r : Row) → no_use r ≡ true → acted r f t st gs (λ hs. step f t cl.Junk st hs) ≡ Goes st' gs' → ((hs : List Group) → step f t cl.Junk st hs ≡ Goes st' gs' → ⊥) → ⊥
+    by : (r : Row) → no_use r ≡ true → acted r f t st gs (λ hs. step f t cl.Junk st hs) ≡ Goes st' gs' →
+        ((hs : List Group) → step f t cl.Junk st hs ≡ Goes st' gs' → ⊥) → ⊥
     by Fault b i k = cc
     by (Skips cs) b i k = k _ i
     by (Uses cs ss) b i k = cc
@@ -232,45 +256,58 @@ pub record UsesApart (b : Bool) (w v : List Token) : Type 0 where
   pub is : w ≡ used ++ v
   pub apart : apart b used ≡ true
 
-step_usable : (f : ℕ) (t : Token) (c : Class) (b : Bool) (st st' : List Symbol) (gs gs' : List Group) → (b ≡ true → refuses st ≡ true) → step f t c st gs ≡ Goes st' gs' → usable b c ≡ true
+step_usable : (f : ℕ) (t : Token) (c : Class) (b : Bool) (st st' : List Symbol) (gs gs' : List Group) → (b ≡ true → refuses st ≡ true) →
+    step f t c st gs ≡ Goes st' gs' → usable b c ≡ true
 step_usable f t cl.Junk b st st' gs gs' r i = absurd (step_junk f t st st' gs gs' i)
 step_usable f t cl.Text true st st' gs gs' r i = absurd (step_refused f t st st' gs gs' (r refl) i)
 step_usable f t cl.Text false st st' gs gs' r i = refl
 step_usable f t _ true st st' gs gs' r i = refl
 step_usable f t _ false st st' gs gs' r i = refl
 
-step_next : (f : ℕ) (t : Token) (c : Class) (st st' : List Symbol) (gs gs' : List Group) → apt st ≡ true → step f t c st gs ≡ Goes st' gs' → is_text c ≡ true → refuses st' ≡ true
+step_next : (f : ℕ) (t : Token) (c : Class) (st st' : List Symbol) (gs gs' : List Group) → apt st ≡ true → step f t c st gs ≡ Goes st' gs' →
+    is_text c ≡ true → refuses st' ≡ true
 step_next f t cl.Text st st' gs gs' a i e = step_refuses f t st st' gs gs' a i
 step_next f t _ st st' gs gs' a i e = cc
 
-pub run_apart : (f : ℕ) (w v : List Token) (b : Bool) (st : List Symbol) (gs made : List Group) → apt st ≡ true → (b ≡ true → refuses st ≡ true) → run f w st gs ≡ Done v made → UsesApart b w v
+pub run_apart : (f : ℕ) (w v : List Token) (b : Bool) (st : List Symbol) (gs made : List Group) → apt st ≡ true →
+    (b ≡ true → refuses st ≡ true) → run f w st gs ≡ Done v made → UsesApart b w v
 unfolding run
 run_apart f [] v b st gs made a r e = cc
-run_apart f (t ∷ w) v b st gs made a r e = by (step f t (class_of t) st gs) refl e (λ b' st' gs' a' r' q. run_apart f w v b' st' gs' made a' r' q)
+run_apart f (t ∷ w) v b st gs made a r e = by (step f t (class_of t) st gs) refl e
+    (λ b' st' gs' a' r' q. run_apart f w v b' st' gs' made a' r' q)
   where
-    by : (z : Step) → step f t (class_of t) st gs ≡ z → after z t w (λ st' gs'. run f w st' gs') ≡ Done v made → ((b' : Bool) (st' : List Symbol) (gs' : List Group) → apt st' ≡ true → (b' ≡ true → refuses st' ≡ true) → run f w st' gs' ≡ Done v made → UsesApart b' w v) → UsesApart b (t ∷ w) v
+    by : (z : Step) → step f t (class_of t) st gs ≡ z → after z t w (λ st' gs'. run f w st' gs') ≡ Done v made →
+        ((b' : Bool) (st' : List Symbol) (gs' : List Group) → apt st' ≡ true → (b' ≡ true → refuses st' ≡ true) →
+        run f w st' gs' ≡ Done v made → UsesApart b' w v) → UsesApart b (t ∷ w) v
     by (Goes st' gs') i e k =
-        let q = k (is_text (class_of t)) st' gs' (step_apt f t (class_of t) st st' gs gs' a i) (λ x. step_next f t (class_of t) st st' gs gs' a i x) e in
+        let q = k (is_text (class_of t)) st' gs' (step_apt f t (class_of t) st st' gs gs' a i)
+        (λ x. step_next f t (class_of t) st st' gs gs' a i x) e in
         record { used = t ∷ q.used; is = ap (λ l. t ∷ l) q.is; apart = rw (step_usable f t (class_of t) b st st' gs gs' r i, q.apart) refl }
     by (Ends gs') i e k = let x : t ∷ w ≡ v = cc in record { used = []; is = x; apart = refl }
     by Stuck i e k = cc
 
 -- the same where all tokens are used
-pub used_up_apart : (f : ℕ) (w : List Token) (b : Bool) (st : List Symbol) (gs : List Group) → apt st ≡ true → (b ≡ true → refuses st ≡ true) → run f w st gs ≡ Fails [] → apart b w ≡ true
+pub used_up_apart : (f : ℕ) (w : List Token) (b : Bool) (st : List Symbol) (gs : List Group) → apt st ≡ true →
+    (b ≡ true → refuses st ≡ true) → run f w st gs ≡ Fails [] → apart b w ≡ true
 unfolding run
 used_up_apart f [] b st gs a r e = refl
 used_up_apart f (t ∷ w) b st gs a r e = by (step f t (class_of t) st gs) refl e (λ b' st' gs' a' r' q. used_up_apart f w b' st' gs' a' r' q)
   where
-    by : (z : Step) → step f t (class_of t) st gs ≡ z → after z t w (λ st' gs'. run f w st' gs') ≡ Fails [] → ((b' : Bool) (st' : List Symbol) (gs' : List Group) → apt st' ≡ true → (b' ≡ true → refuses st' ≡ true) → run f w st' gs' ≡ Fails [] → apart b' w ≡ true) → apart b (t ∷ w) ≡ true
+    by : (z : Step) → step f t (class_of t) st gs ≡ z → after z t w (λ st' gs'. run f w st' gs') ≡ Fails [] →
+        ((b' : Bool) (st' : List Symbol) (gs' : List Group) → apt st' ≡ true → (b' ≡ true → refuses st' ≡ true) →
+        run f w st' gs' ≡ Fails [] → apart b' w ≡ true) → apart b (t ∷ w) ≡ true
     by (Goes st' gs') i e k =
-        let q = k (is_text (class_of t)) st' gs' (step_apt f t (class_of t) st st' gs gs' a i) (λ x. step_next f t (class_of t) st st' gs gs' a i x) e in
+        let q = k (is_text (class_of t)) st' gs' (step_apt f t (class_of t) st st' gs gs' a i)
+        (λ x. step_next f t (class_of t) st st' gs gs' a i x) e in
         rw (step_usable f t (class_of t) b st st' gs gs' r i, q) refl
     by (Ends gs') i e k = cc
     by Stuck i e k = cc
 
 -- each of such tokens is one that some tree is spelled by
-pub apart_proper : (b : Bool) (u : List Token) (t : Token) (v : List Token) → apart b (u ++ t ∷ v) ≡ true → not (is_junk (class_of t)) ≡ true
+pub apart_proper : (b : Bool) (u : List Token) (t : Token) (v : List Token) → apart b (u ++ t ∷ v) ≡ true →
+    not (is_junk (class_of t)) ≡ true
 apart_proper b [] t v e =
     let p = split (usable b (class_of t)) (apart (is_text (class_of t)) v) e in
     (split (not (is_junk (class_of t))) (not (b && is_text (class_of t))) p.0).0
-apart_proper b (y ∷ u) t v e = apart_proper (is_text (class_of y)) u t v (split (usable b (class_of y)) (apart (is_text (class_of y)) (u ++ t ∷ v)) e).1
+apart_proper b (y ∷ u) t v e = apart_proper (is_text (class_of y)) u t v
+    (split (usable b (class_of y)) (apart (is_text (class_of y)) (u ++ t ∷ v)) e).1

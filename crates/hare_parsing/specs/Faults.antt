@@ -31,12 +31,15 @@ PlacesStand = (ts : List Token) (n : ℕ) (t : Token) (rest : List Token) → St
 -- where the run fails at a token, the first syntax fault of the file's tokens is there
 abbrev pub RunsFault : Type 0
 RunsFault =
-    (s : Sort) → has_trees s ≡ true → (file : ℕ) (ts : List Token) (n : ℕ) (t : Token) (rest : List Token) → run file (joined ts) (of s ∷ []) bottom ≡ Fails (t ∷ rest) → StandsAt ts n (t ∷ rest) → IsSyntaxFault (trees_of s) ts n
+    (s : Sort) → has_trees s ≡ true → (file : ℕ) (ts : List Token) (n : ℕ) (t : Token) (rest : List Token) →
+    run file (joined ts) (of s ∷ []) bottom ≡ Fails (t ∷ rest) → StandsAt ts n (t ∷ rest) → IsSyntaxFault (trees_of s) ts n
 
 -- and the tokens before it are those of no tree
 abbrev pub RunsFaultInTrees : Type 0
 RunsFaultInTrees =
-    (s : Sort) → has_trees s ≡ true → (file : ℕ) (ts : List Token) (n : ℕ) (t : Token) (rest : List Token) → run file (joined ts) (of s ∷ []) bottom ≡ Fails (t ∷ rest) → StandsAt ts n (t ∷ rest) → (tree : Node) → is_shaped s tree ≡ true → Spells (spell 0 tree) (take n ts) → ⊥
+    (s : Sort) → has_trees s ≡ true → (file : ℕ) (ts : List Token) (n : ℕ) (t : Token) (rest : List Token) →
+    run file (joined ts) (of s ∷ []) bottom ≡ Fails (t ∷ rest) → StandsAt ts n (t ∷ rest) → (tree : Node) → is_shaped s tree ≡ true →
+    Spells (spell 0 tree) (take n ts) → ⊥
 
 -- a shaped tree of the sort spells the first `n` tokens of the file and has their places, and with the next they begin none
 pub record ReadsFront (s : Sort) (file : ℕ) (ts : List Token) (n : ℕ) (made : List Group) : Type 0 where
@@ -50,12 +53,14 @@ pub record ReadsFront (s : Sort) (file : ℕ) (ts : List Token) (n : ℕ) (made 
 -- where the run is done in front of a token, it has read the tokens before it, which are the longest front that begins a tree
 abbrev pub RunsReadFronts : Type 0
 RunsReadFronts =
-    (s : Sort) → has_trees s ≡ true → (file : ℕ) (ts : List Token) (n : ℕ) (t : Token) (rest : List Token) (made : List Group) → run file (joined ts) (of s ∷ []) bottom ≡ Done (t ∷ rest) made → StandsAt ts n (t ∷ rest) → ReadsFront s file ts n made
+    (s : Sort) → has_trees s ≡ true → (file : ℕ) (ts : List Token) (n : ℕ) (t : Token) (rest : List Token) (made : List Group) →
+    run file (joined ts) (of s ∷ []) bottom ≡ Done (t ∷ rest) made → StandsAt ts n (t ∷ rest) → ReadsFront s file ts n made
 
 -- where the tokens are used up, they begin a tree
 abbrev pub RunsUseAll : Type 0
 RunsUseAll =
-    (s : Sort) → has_trees s ≡ true → (file : ℕ) (ts : List Token) → run file (joined ts) (of s ∷ []) bottom ≡ Fails [] → IsViable (trees_of s) ts
+    (s : Sort) → has_trees s ≡ true → (file : ℕ) (ts : List Token) → run file (joined ts) (of s ∷ []) bottom ≡ Fails [] →
+    IsViable (trees_of s) ts
 
 -- the first syntax fault ends the longest front that begins a tree
 abbrev pub FaultsEndRuns : Type 0
@@ -65,9 +70,11 @@ FaultsEndRuns = (s : Sort) (ts : List Token) (n : ℕ) → IsSyntaxFault (trees_
 
 abbrev pub FileRunsFault : Type 0
 FileRunsFault =
-    (file : ℕ) (ts : List Token) (n : ℕ) (t : Token) (rest : List Token) → run file (joined ts) file_symbols bottom ≡ Fails (t ∷ rest) → StandsAt ts n (t ∷ rest) → IsSyntaxFault files ts n
+    (file : ℕ) (ts : List Token) (n : ℕ) (t : Token) (rest : List Token) → run file (joined ts) file_symbols bottom ≡ Fails (t ∷ rest) →
+    StandsAt ts n (t ∷ rest) → IsSyntaxFault files ts n
 
--- Imports and declarations are over at the token `t`. If it is not End, the fault is there; if it is, it makes the file whole, and the fault is at
+-- Imports and declarations are over at the token `t`. If it is not End, the fault is there; if it is, it makes the file whole, and the
+-- fault is at
 -- the next token, where there is one.
 pub record FileIsOver (ts : List Token) (n : ℕ) (t : Token) : Type 0 where
   pub no_end : (unplaced t ≡ word_token 0 tk.End [] → ⊥) → IsSyntaxFault files ts n
@@ -76,7 +83,8 @@ pub record FileIsOver (ts : List Token) (n : ℕ) (t : Token) : Type 0 where
 
 abbrev pub FileRunsAreOver : Type 0
 FileRunsAreOver =
-    (file : ℕ) (ts : List Token) (n : ℕ) (t : Token) (rest : List Token) (made : List Group) → run file (joined ts) file_symbols bottom ≡ Done (t ∷ rest) made → StandsAt ts n (t ∷ rest) → FileIsOver ts n t
+    (file : ℕ) (ts : List Token) (n : ℕ) (t : Token) (rest : List Token) (made : List Group) →
+    run file (joined ts) file_symbols bottom ≡ Done (t ∷ rest) made → StandsAt ts n (t ∷ rest) → FileIsOver ts n t
 
 abbrev pub FileRunsUseAll : Type 0
 FileRunsUseAll = (file : ℕ) (ts : List Token) → run file (joined ts) file_symbols bottom ≡ Fails [] → IsViable files ts
@@ -84,4 +92,5 @@ FileRunsUseAll = (file : ℕ) (ts : List Token) → run file (joined ts) file_sy
 -- End is never used: a run over tokens that have one stops at a token
 abbrev pub FileRunsUseNoEnd : Type 0
 FileRunsUseNoEnd =
-    (file : ℕ) (before : List Token) (t : Token) (rest : List Token) → unplaced t ≡ word_token 0 tk.End [] → run file (joined (before ++ t ∷ rest)) file_symbols bottom ≡ Fails [] → ⊥
+    (file : ℕ) (before : List Token) (t : Token) (rest : List Token) → unplaced t ≡ word_token 0 tk.End [] →
+    run file (joined (before ++ t ∷ rest)) file_symbols bottom ≡ Fails [] → ⊥

@@ -40,7 +40,8 @@ pub record ReadsFile (file : ℕ) (ts rest : List Token) (made : List Group) : T
 -- where a run for a sort is done, it has read a tree of the sort
 abbrev pub RunsReadTrees : Type 0
 RunsReadTrees =
-    (s : Sort) (file : ℕ) (ts rest : List Token) (made : List Group) → run file ts (of s ∷ []) bottom ≡ Done rest made → ReadsTree s file ts rest made
+    (s : Sort) (file : ℕ) (ts rest : List Token) (made : List Group) → run file ts (of s ∷ []) bottom ≡ Done rest made →
+    ReadsTree s file ts rest made
 
 -- where a run for a file is done, it has read imports and declarations
 abbrev pub RunsReadFiles : Type 0

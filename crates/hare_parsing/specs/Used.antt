@@ -22,4 +22,5 @@ pub record UsesTokens (s : Sort) (file : ℕ) (ts : List Token) (t : Token) (mad
 
 abbrev pub RunsUseTokens : Type 0
 RunsUseTokens =
-    (s : Sort) (file : ℕ) (ts : List Token) (t : Token) (rest : List Token) (made : List Group) → run file (joined ts) (of s ∷ []) bottom ≡ Done (t ∷ rest) made → UsesTokens s file ts t made
+    (s : Sort) (file : ℕ) (ts : List Token) (t : Token) (rest : List Token) (made : List Group) →
+    run file (joined ts) (of s ∷ []) bottom ≡ Done (t ∷ rest) made → UsesTokens s file ts t made

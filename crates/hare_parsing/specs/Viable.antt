@@ -37,13 +37,15 @@ has_trees _ = true
 -- where a run fails at a token, the tokens before it begin a tree, and with it they begin none
 abbrev pub RunsBreak : Type 0
 RunsBreak =
-    (s : Sort) → has_trees s ≡ true → (file : ℕ) (ts : List Token) (t : Token) (rest : List Token) → run file ts (of s ∷ []) bottom ≡ Fails (t ∷ rest) → BreaksAt s ts t rest
+    (s : Sort) → has_trees s ≡ true → (file : ℕ) (ts : List Token) (t : Token) (rest : List Token) →
+    run file ts (of s ∷ []) bottom ≡ Fails (t ∷ rest) → BreaksAt s ts t rest
 
 -- Where a run is done in front of a token, the tokens with it begin no tree: those of the tree are the longest front of the tokens that
 -- begins one.
 abbrev pub RunsAreLongest : Type 0
 RunsAreLongest =
-    (s : Sort) → has_trees s ≡ true → (file : ℕ) (ts : List Token) (t : Token) (rest : List Token) (made : List Group) → run file ts (of s ∷ []) bottom ≡ Done (t ∷ rest) made → BreaksAt s ts t rest
+    (s : Sort) → has_trees s ≡ true → (file : ℕ) (ts : List Token) (t : Token) (rest : List Token) (made : List Group) →
+    run file ts (of s ∷ []) bottom ≡ Done (t ∷ rest) made → BreaksAt s ts t rest
 
 -- where the tokens are used up, they begin a tree
 abbrev pub RunsGoOn : Type 0
@@ -77,11 +79,13 @@ pub record FileEndsAt (ts : List Token) (t : Token) (rest : List Token) : Type 0
 
 abbrev pub FileRunsBreak : Type 0
 FileRunsBreak =
-    (file : ℕ) (ts : List Token) (t : Token) (rest : List Token) → run file ts file_symbols bottom ≡ Fails (t ∷ rest) → FileBreaksAt ts t rest
+    (file : ℕ) (ts : List Token) (t : Token) (rest : List Token) → run file ts file_symbols bottom ≡ Fails (t ∷ rest) →
+    FileBreaksAt ts t rest
 
 abbrev pub FileRunsEnd : Type 0
 FileRunsEnd =
-    (file : ℕ) (ts : List Token) (t : Token) (rest : List Token) (made : List Group) → run file ts file_symbols bottom ≡ Done (t ∷ rest) made → FileEndsAt ts t rest
+    (file : ℕ) (ts : List Token) (t : Token) (rest : List Token) (made : List Group) →
+    run file ts file_symbols bottom ≡ Done (t ∷ rest) made → FileEndsAt ts t rest
 
 abbrev pub FileRunsGoOn : Type 0
 FileRunsGoOn =

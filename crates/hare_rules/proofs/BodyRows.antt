@@ -1,4 +1,5 @@
--- Small bodies: the typed tree that each has, and the first fault of those that have none. Above each stands its source; bindings count from 0.
+-- Small bodies: the typed tree that each has, and the first fault of those that have none. Above each stands its source; bindings count
+-- from 0.
 use Rattle.std.specs.Prelude.{◌≡◌, refl, ℕ, pos, Bool, true, false, cond, not, ◌&&◌, nat_eq, List, [], ◌∷◌, codes}
 use Rattle.std.proofs.Common.{inl, inr}
 use Rattle.hare_tree.specs.declared.kind.Kind.{Kind}
@@ -43,7 +44,8 @@ is_none_meaning _ = false
 -- what the names say of the paths of a tree: just what it carries
 abbrev meaning_at : List TypedNode → ℕ → Meaning
 meaning_at [] c = means.None
-meaning_at (t ∷ ts) c = cond (nat_eq (head_of t).place.column c && not (is_none_meaning (mark_of t).meaning)) (mark_of t).meaning (meaning_at ts c)
+meaning_at (t ∷ ts) c = cond (nat_eq (head_of t).place.column c && not (is_none_meaning (mark_of t).meaning)) (mark_of t).meaning
+    (meaning_at ts c)
 
 abbrev in_names_of : TypedNode → Setting
 in_names_of t = record { store = store; decls = decls; means = λ p. meaning_at (check_order t) p.column }
@@ -62,7 +64,8 @@ body_of t n =
 -- the first fault of the body has this number, and stands in this column
 abbrev FailsAt : Above → List Entry → TypedNode → RowId → (number column : ℕ) → Type 0
 FailsAt a ls t r n c =
-    (at_node : Context) × FailsIn (in_names_of t) a (erase t) (flow_at ls) r at_node × (fault_of r at_node ≡ record { number = n; place = at c })
+    (at_node : Context) × FailsIn (in_names_of t) a (erase t) (flow_at ls) r at_node ×
+    (fault_of r at_node ≡ record { number = n; place = at c })
 
 -- ---- well-typed bodies
 
@@ -295,7 +298,8 @@ two_yields =
     (tree ki.Number 35 (codes "7") 7 (mark 6 (ty.Iconst (pos 7)) (to 3 (ty.Of int_t)) means.None (constant.Absent)) ([]) ∷ []) ∷ []) ∷
     []) ∷ [])
 
-two_yields_is_well : IsWell (in_names_of two_yields) (body_of void_t 1) (flow_at (Known (record { ty = bool_t; mutable = true }) ∷ Later ∷ [])) two_yields
+two_yields_is_well : IsWell (in_names_of two_yields) (body_of void_t 1)
+    (flow_at (Known (record { ty = bool_t; mutable = true }) ∷ Later ∷ [])) two_yields
 unfolding shape.is_shaped shape.stops shape.begins_labelled
 two_yields_is_well =
     record {
@@ -393,7 +397,8 @@ yield_from_deep_inside =
     ki.Number 38 (codes "6") 6 (mark 4 (ty.Iconst (pos 6)) (to 3 (ty.Of int_t)) means.None (constant.Absent)) ([]) ∷ []) ∷ []) ∷ []) ∷
     []) ∷ []) ∷ [])
 
-yield_from_deep_inside_is_well : IsWell (in_names_of yield_from_deep_inside) (body_of void_t 0) (flow_at (Later ∷ [])) yield_from_deep_inside
+yield_from_deep_inside_is_well : IsWell (in_names_of yield_from_deep_inside) (body_of void_t 0) (flow_at (Later ∷ []))
+    yield_from_deep_inside
 unfolding shape.is_shaped shape.stops shape.begins_labelled
 yield_from_deep_inside_is_well =
     record {
@@ -559,7 +564,8 @@ loop_over_elements =
     (constant.Absent)) (tree ki.Path 18 (codes "x") 0 (mark 3 (ty.Of int_t) (to 1 (ty.Of int_t)) (means.Local 1) (constant.Absent)) ([])
     ∷ tree ki.Number 23 (codes "1") 1 (mark 4 (ty.Iconst (pos 1)) (to 3 (ty.Of int_t)) means.None (constant.Absent)) ([]) ∷ []) ∷ [])
 
-loop_over_elements_is_well : IsWell (in_names_of loop_over_elements) (body_of void_t 1) (flow_at (Known (record { ty = ints_t; mutable = true }) ∷ Later ∷ [])) loop_over_elements
+loop_over_elements_is_well : IsWell (in_names_of loop_over_elements) (body_of void_t 1)
+    (flow_at (Known (record { ty = ints_t; mutable = true }) ∷ Later ∷ [])) loop_over_elements
 unfolding shape.is_shaped shape.stops shape.begins_labelled
 loop_over_elements_is_well =
     record {
@@ -623,7 +629,8 @@ loop_over_pointers =
     (codes "x") 0 (mark 3 (ty.Of pointer_t) (to 1 (ty.Of pointer_t)) (means.Local 1) (constant.Absent)) ([]) ∷ []) ∷ tree ki.Number 24
     (codes "1") 1 (mark 5 (ty.Iconst (pos 1)) (to 3 (ty.Of int_t)) means.None (constant.Absent)) ([]) ∷ []) ∷ [])
 
-loop_over_pointers_is_well : IsWell (in_names_of loop_over_pointers) (body_of void_t 1) (flow_at (Known (record { ty = ints_t; mutable = true }) ∷ Later ∷ [])) loop_over_pointers
+loop_over_pointers_is_well : IsWell (in_names_of loop_over_pointers) (body_of void_t 1)
+    (flow_at (Known (record { ty = ints_t; mutable = true }) ∷ Later ∷ [])) loop_over_pointers
 unfolding shape.is_shaped shape.stops shape.begins_labelled
 loop_over_pointers_is_well =
     record {
@@ -989,7 +996,8 @@ match_with_let =
     never_t)) means.None (constant.Absent)) (tree ki.Number 59 (codes "0") 0 (mark 7 (ty.Iconst (pos 0)) (to 3 (ty.Of int_t)) means.None
     (constant.Absent)) ([]) ∷ []) ∷ []) ∷ [])
 
-match_with_let_is_well : IsWell (in_names_of match_with_let) (body_of int_t 1) (flow_at (Known (record { ty = either_t; mutable = true }) ∷ Later ∷ [])) match_with_let
+match_with_let_is_well : IsWell (in_names_of match_with_let) (body_of int_t 1)
+    (flow_at (Known (record { ty = either_t; mutable = true }) ∷ Later ∷ [])) match_with_let
 unfolding shape.is_shaped shape.stops shape.begins_labelled
 match_with_let_is_well =
     record {
@@ -1086,7 +1094,8 @@ switch_of_bool =
     (tree ki.Number 56 (codes "2") 2 (mark 10 (ty.Iconst (pos 2)) (to 3 (ty.Of int_t)) means.None (constant.Absent)) ([]) ∷ []) ∷ []) ∷
     [])
 
-switch_of_bool_is_well : IsWell (in_names_of switch_of_bool) (body_of int_t 1) (flow_at (Known (record { ty = bool_t; mutable = true }) ∷ [])) switch_of_bool
+switch_of_bool_is_well : IsWell (in_names_of switch_of_bool) (body_of int_t 1)
+    (flow_at (Known (record { ty = bool_t; mutable = true }) ∷ [])) switch_of_bool
 unfolding shape.is_shaped shape.stops shape.begins_labelled
 switch_of_bool_is_well =
     record {
@@ -1211,7 +1220,8 @@ joined_with_never =
     (ty.Of void_t)) means.None (constant.Absent)) ([]) ∷ []) ∷ tree ki.Number 30 (codes "6") 6 (mark 4 (ty.Iconst (pos 6)) (to 3 (ty.Of
     int_t)) means.None (constant.Absent)) ([]) ∷ []) ∷ []) ∷ [])
 
-joined_with_never_is_well : IsWell (in_names_of joined_with_never) (body_of void_t 1) (flow_at (Known (record { ty = bool_t; mutable = true }) ∷ Later ∷ [])) joined_with_never
+joined_with_never_is_well : IsWell (in_names_of joined_with_never) (body_of void_t 1)
+    (flow_at (Known (record { ty = bool_t; mutable = true }) ∷ Later ∷ [])) joined_with_never
 unfolding shape.is_shaped shape.stops shape.begins_labelled
 joined_with_never_is_well =
     record {
@@ -1284,7 +1294,8 @@ branches_for_a_hint =
     (pos 1)) (to 9 (ty.Of either_t)) means.None (constant.Absent)) ([]) ∷ tree ki.Str 15 (codes "a") 0 (mark 2 (ty.Of str_t) (to 9 (ty.Of
     either_t)) means.None (constant.Absent)) ([]) ∷ [])
 
-branches_for_a_hint_is_well : IsWell (in_names_of branches_for_a_hint) (body_of either_t 1) (flow_at (Known (record { ty = bool_t; mutable = true }) ∷ [])) branches_for_a_hint
+branches_for_a_hint_is_well : IsWell (in_names_of branches_for_a_hint) (body_of either_t 1)
+    (flow_at (Known (record { ty = bool_t; mutable = true }) ∷ [])) branches_for_a_hint
 unfolding shape.is_shaped shape.stops shape.begins_labelled
 branches_for_a_hint_is_well =
     record {
@@ -1414,7 +1425,8 @@ tuple_of_defaults =
     ([]) ∷ tree ki.Path 15 (codes "u") 0 (mark 2 (ty.Of u8_t) (to 1 (ty.Of u8_t)) (means.Local 0) (constant.Absent)) ([]) ∷ tree ki.None
     1 [] 0 (mark 3 (ty.Of void_t) (to 1 (ty.Of void_t)) means.None (constant.Absent)) ([]) ∷ []) ∷ []) ∷ [])
 
-tuple_of_defaults_is_well : IsWell (in_names_of tuple_of_defaults) (body_of void_t 1) (flow_at (Known (record { ty = u8_t; mutable = true }) ∷ Later ∷ [])) tuple_of_defaults
+tuple_of_defaults_is_well : IsWell (in_names_of tuple_of_defaults) (body_of void_t 1)
+    (flow_at (Known (record { ty = u8_t; mutable = true }) ∷ Later ∷ [])) tuple_of_defaults
 unfolding shape.is_shaped shape.stops shape.begins_labelled
 tuple_of_defaults_is_well =
     record {
@@ -1554,7 +1566,8 @@ append_forced =
     u8_t)) means.None (constant.Absent)) ([]) ∷ tree ki.None 1 [] 0 (mark 2 (ty.Of void_t) (to 1 (ty.Of void_t)) means.None
     (constant.Absent)) ([]) ∷ []) ∷ [])
 
-append_forced_is_well : IsWell (in_names_of append_forced) (body_of void_t 1) (flow_at (Known (record { ty = bytes_t; mutable = true }) ∷ [])) append_forced
+append_forced_is_well : IsWell (in_names_of append_forced) (body_of void_t 1)
+    (flow_at (Known (record { ty = bytes_t; mutable = true }) ∷ [])) append_forced
 unfolding shape.is_shaped shape.stops shape.begins_labelled
 append_forced_is_well =
     record {
@@ -1644,7 +1657,8 @@ null_compared =
     0 (mark 0 (ty.Of nullable_t) (to 1 (ty.Of nullable_t)) (means.Local 0) (constant.Absent)) ([]) ∷ tree ki.Null 6 [] 0 (mark 1
     (ty.Null) (to 6 (ty.Of nullable_t)) means.None (constant.Absent)) ([]) ∷ [])
 
-null_compared_is_well : IsWell (in_names_of null_compared) (body_of bool_t 1) (flow_at (Known (record { ty = nullable_t; mutable = true }) ∷ [])) null_compared
+null_compared_is_well : IsWell (in_names_of null_compared) (body_of bool_t 1)
+    (flow_at (Known (record { ty = nullable_t; mutable = true }) ∷ [])) null_compared
 unfolding shape.is_shaped shape.stops shape.begins_labelled
 null_compared_is_well =
     record {
@@ -1756,7 +1770,8 @@ sum_of_int_and_text_fails = (
   _,
   inr (
     typed_nodes (tree ki.Number 1 (codes "5") 5 (mark 0 (ty.Iconst (pos 5)) (to 1 (ty.Iconst (pos 5))) means.None
-        (constant.Absent)) ([]) ∷ tree ki.Str 5 (codes "a") 0 (mark 1 (ty.Of str_t) (to 1 (ty.Of str_t)) means.None (constant.Absent)) ([]) ∷
+        (constant.Absent)) ([]) ∷ tree ki.Str 5 (codes "a") 0 (mark 1 (ty.Of str_t) (to 1 (ty.Of str_t)) means.None (constant.Absent)) ([])
+        ∷
         []),
     refl,
     (
@@ -1821,7 +1836,8 @@ argument_before_callee_fails = (
     (tt, record { rows = refl; type = refl; node = refl; meaning = refl; value = refl }),
     inl (inr (
       typed_nodes (tree ki.Number 3 (codes
-          "5") 5 (mark 1 (ty.Iconst (pos 5)) (to 1 (ty.Iconst (pos 5))) means.None (constant.Absent)) ([]) ∷ tree ki.Str 7 (codes "a") 0 (mark
+          "5") 5 (mark 1 (ty.Iconst (pos 5)) (to 1 (ty.Iconst (pos 5))) means.None (constant.Absent)) ([]) ∷ tree ki.Str 7 (codes "a") 0
+          (mark
           2 (ty.Of str_t) (to 1 (ty.Of str_t)) means.None (constant.Absent)) ([]) ∷ []),
       refl,
       (
@@ -1910,7 +1926,8 @@ odd_loop_fails = (
   _,
   inr (
     typed_nodes (tree ki.Binding 6 (codes "x") 0 (mark 1 (ty.Of void_t) (to 1 (ty.Of void_t)) means.None (constant.Absent))
-        (tree ki.None 1 [] 0 (mark 0 (ty.Of void_t) (to 1 (ty.Of void_t)) means.None (constant.Absent)) ([]) ∷ []) ∷ tree ki.Number 15 (codes
+        (tree ki.None 1 [] 0 (mark 0 (ty.Of void_t) (to 1 (ty.Of void_t)) means.None (constant.Absent)) ([]) ∷ []) ∷ tree ki.Number 15
+        (codes
         "5") 5 (mark 2 (ty.Iconst (pos 5)) (to 1 (ty.Iconst (pos 5))) means.None (constant.Absent)) ([]) ∷ tree ki.Block 18 [] 0 (mark 3
         (ty.Of void_t) (to 1 (ty.Of void_t)) means.None (constant.Absent)) ([]) ∷ []),
     refl,
@@ -2096,7 +2113,8 @@ second_yield_misfits =
     (constant.Absent)) ([]) ∷ []) ∷ tree ki.Yield 29 [] 0 (mark 7 (ty.Of never_t) (to 1 (ty.Of never_t)) means.None (constant.Absent))
     (tree ki.Str 35 (codes "a") 0 (mark 6 (ty.Of str_t) (to 1 (ty.Of str_t)) means.None (constant.Absent)) ([]) ∷ []) ∷ []) ∷ []) ∷ [])
 
-second_yield_misfits_fails : FailsAt (body_of void_t 1) (Known (record { ty = bool_t; mutable = true }) ∷ Later ∷ []) second_yield_misfits row.BlockRestFits 39 35
+second_yield_misfits_fails : FailsAt (body_of void_t 1) (Known (record { ty = bool_t; mutable = true }) ∷ Later ∷ []) second_yield_misfits
+    row.BlockRestFits 39 35
 second_yield_misfits_fails = (
   _,
   inl (inl (inl (inr (
@@ -2108,8 +2126,10 @@ second_yield_misfits_fails = (
           5 (ty.Of void_t) (to 1 (ty.Of void_t)) means.None (constant.Absent)) (tree ki.Path 17 (codes "b") 0 (mark 1 (ty.Of bool_t) (to 1
           (ty.Of bool_t)) (means.Local 0) (constant.Absent)) ([]) ∷ tree ki.Yield 20 [] 0 (mark 3 (ty.Of never_t) (to 1 (ty.Of never_t))
           means.None (constant.Absent)) (tree ki.Number 26 (codes "6") 6 (mark 2 (ty.Iconst (pos 6)) (to 1 (ty.Iconst (pos 6))) means.None
-          (constant.Absent)) ([]) ∷ []) ∷ tree ki.None 1 [] 0 (mark 4 (ty.Of void_t) (to 1 (ty.Of void_t)) means.None (constant.Absent)) ([]) ∷
-          []) ∷ tree ki.Yield 29 [] 0 (mark 7 (ty.Of never_t) (to 1 (ty.Of never_t)) means.None (constant.Absent)) (tree ki.Str 35 (codes "a")
+          (constant.Absent)) ([]) ∷ []) ∷ tree ki.None 1 [] 0 (mark 4 (ty.Of void_t) (to 1 (ty.Of void_t)) means.None (constant.Absent))
+          ([]) ∷
+          []) ∷ tree ki.Yield 29 [] 0 (mark 7 (ty.Of never_t) (to 1 (ty.Of never_t)) means.None (constant.Absent))
+          (tree ki.Str 35 (codes "a")
           0 (mark 6 (ty.Of str_t) (to 1 (ty.Of str_t)) means.None (constant.Absent)) ([]) ∷ []) ∷ []),
       refl,
       (
@@ -2201,7 +2221,8 @@ member_without_case =
     (constant.Absent)) (tree ki.Number 31 (codes "1") 1 (mark 2 (ty.Iconst (pos 1)) (to 3 (ty.Of int_t)) means.None (constant.Absent))
     ([]) ∷ []) ∷ []) ∷ [])
 
-member_without_case_fails : FailsAt (body_of int_t 1) (Known (record { ty = either_t; mutable = true }) ∷ []) member_without_case row.MatchCovered 37 1
+member_without_case_fails : FailsAt (body_of int_t 1) (Known (record { ty = either_t; mutable = true }) ∷ []) member_without_case
+    row.MatchCovered 37 1
 member_without_case_fails = (
   _,
   inr (

@@ -112,12 +112,14 @@ value_by_default :
 value_by_default = refl
 
 value_of_sum_of_exacts :
-    value_of (as_role CaseValue (asked_for u8_t (over ki.Arith (codes "+") (number_at 1 3 suffix.None ∷ number_at 5 4 suffix.None ∷ [])))) ≡ byte_of 7
+    value_of (as_role CaseValue (asked_for u8_t (over ki.Arith (codes "+") (number_at 1 3 suffix.None ∷ number_at 5 4 suffix.None ∷ [])))) ≡
+    byte_of 7
 value_of_sum_of_exacts = refl
 
 -- the 4 becomes a u8 at the turn of the sum itself
 value_of_sum_with_def :
-    value_of (as_role CaseValue (asked_for u8_t (over ki.Arith (codes "+") (names_def 1 5 u8_t (byte_of 3) ∷ number_at 5 4 suffix.None ∷ []))))
+    value_of (as_role CaseValue (asked_for u8_t
+    (over ki.Arith (codes "+") (names_def 1 5 u8_t (byte_of 3) ∷ number_at 5 4 suffix.None ∷ []))))
     ≡ byte_of 7
 value_of_sum_with_def = refl
 
@@ -133,7 +135,8 @@ value_of_local : value_of (meaning_ (means.Local 0) (over ki.Path (codes "x") []
 value_of_local = refl
 
 value_of_division_by_zero :
-    value_of (as_role CaseValue (asked_for u8_t (over ki.Arith (codes "/") (names_def 1 5 u8_t (byte_of 3) ∷ number_at 5 0 suffix.None ∷ []))))
+    value_of (as_role CaseValue (asked_for u8_t
+    (over ki.Arith (codes "/") (names_def 1 5 u8_t (byte_of 3) ∷ number_at 5 0 suffix.None ∷ []))))
     ≡ constant.Absent
 value_of_division_by_zero = refl
 

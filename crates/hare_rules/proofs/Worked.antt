@@ -203,12 +203,17 @@ abbrev pub store : Store
 store = record {
   names = codes "x" ∷ codes "y" ∷ [];
   rows =
-      row.Scalar keyword.Void ∷ row.Scalar keyword.Never ∷ row.Scalar keyword.Opaque ∷ row.Scalar keyword.Bool ∷ row.Scalar keyword.Rune ∷ row.Scalar keyword.Str
+      row.Scalar keyword.Void ∷ row.Scalar keyword.Never ∷ row.Scalar keyword.Opaque ∷ row.Scalar keyword.Bool ∷ row.Scalar keyword.Rune ∷
+      row.Scalar keyword.Str
       ∷ row.Scalar keyword.Int ∷ row.Scalar keyword.U8 ∷ row.Scalar keyword.U64 ∷ row.Scalar keyword.Size ∷ row.Scalar keyword.I32
-      ∷ row.Pointer int_t ∷ row.Nullable int_t ∷ row.Slice u8_t ∷ row.Array 3 int_t ∷ row.Error void_t ∷ row.Named 4294967295 ∷ row.Union (str_t ∷ int_t ∷ [])
-      ∷ row.Union (int_t ∷ error_t ∷ []) ∷ row.Tuple (int_t ∷ u8_t ∷ []) ∷ row.Struct (record { name = 0; ty = int_t } ∷ record { name = 1; ty = bytes_t } ∷ []) ∷ row.Pointer struct_t
-      ∷ row.Pointer opaque_t ∷ row.Union (pointer_t ∷ named_t ∷ []) ∷ row.Union (bytes_t ∷ named_t ∷ []) ∷ row.Union (void_t ∷ named_t ∷ []) ∷ row.Pointer bytes_t ∷ row.Slice int_t ∷ row.Array 0 int_t
-      ∷ row.Array 67108864 u8_t ∷ row.Array 67108865 u8_t ∷ row.Named 7 ∷ row.Named 8 ∷ row.Named 9 ∷ row.Named 10 ∷ row.Named 11 ∷ row.Named 12
+      ∷ row.Pointer int_t ∷ row.Nullable int_t ∷ row.Slice u8_t ∷ row.Array 3 int_t ∷ row.Error void_t ∷ row.Named 4294967295 ∷ row.Union
+      (str_t ∷ int_t ∷ [])
+      ∷ row.Union (int_t ∷ error_t ∷ []) ∷ row.Tuple (int_t ∷ u8_t ∷ []) ∷ row.Struct
+      (record { name = 0; ty = int_t } ∷ record { name = 1; ty = bytes_t } ∷ []) ∷ row.Pointer struct_t
+      ∷ row.Pointer opaque_t ∷ row.Union (pointer_t ∷ named_t ∷ []) ∷ row.Union (bytes_t ∷ named_t ∷ []) ∷ row.Union (void_t ∷ named_t ∷ [])
+      ∷ row.Pointer bytes_t ∷ row.Slice int_t ∷ row.Array 0 int_t
+      ∷ row.Array 67108864 u8_t ∷ row.Array 67108865 u8_t ∷ row.Named 7 ∷ row.Named 8 ∷ row.Named 9 ∷ row.Named 10 ∷ row.Named 11 ∷
+      row.Named 12
       ∷ row.Scalar keyword.I64 ∷ row.Named 13 ∷ row.Pointer pointer_t ∷ row.Array 3 u8_t ∷ row.Scalar keyword.I8
       ∷ row.Union (str_t ∷ int_t ∷ u8_t ∷ []) ∷ row.Named 14 ∷ row.Union (int_t ∷ pointer_t ∷ nullable_t ∷ []) ∷ row.Array 2 int_t ∷ [];
   declared =
@@ -247,7 +252,8 @@ head_as k n text = record { kind = k; place = at n; text = text; number = 0; suf
 
 -- a node at a column, with its text, type and kids; its value stays as it is
 abbrev pub node : Kind → ℕ → List ℕ → Ty → List TypedNode → TypedNode
-node k n text a xs = marked (head_as k n text) (record { node = 0; ty = a; coerce = same a; meaning = means.None; value = constant.Absent }) (typed_nodes xs)
+node k n text a xs = marked (head_as k n text) (record { node = 0; ty = a; coerce = same a; meaning = means.None; value = constant.Absent })
+    (typed_nodes xs)
 
 -- a value of a type, at a column
 abbrev pub value : ℕ → Ty → TypedNode
@@ -262,7 +268,8 @@ written_type n t = node ki.TypePath n [] (ty.Of t) []
 
 -- a path to a local or a global
 abbrev pub path_to : ℕ → Meaning → ℕ → TypedNode
-path_to n m t = marked (head_as ki.Path n []) (record { node = 0; ty = ty.Of t; coerce = same (ty.Of t); meaning = m; value = constant.Absent }) (typed_nodes [])
+path_to n m t = marked (head_as ki.Path n [])
+    (record { node = 0; ty = ty.Of t; coerce = same (ty.Of t); meaning = m; value = constant.Absent }) (typed_nodes [])
 
 -- a part that is left out
 abbrev pub absent : TypedNode
@@ -272,11 +279,13 @@ absent = node ki.None 1 [] (ty.Of void_t) []
 abbrev pub number_at : ℕ → ℕ → Suffix → TypedNode
 number_at n v x =
     marked (record (head_as ki.Number n []) { number = v; suffix = x })
-    (record { node = 0; ty = ty.Iconst (pos v); coerce = same (ty.Iconst (pos v)); meaning = means.None; value = constant.Absent }) (typed_nodes [])
+    (record { node = 0; ty = ty.Iconst (pos v); coerce = same (ty.Iconst (pos v)); meaning = means.None; value = constant.Absent })
+    (typed_nodes [])
 
 -- a value of a type with its constant
 abbrev pub known : ℕ → ℕ → Const → TypedNode
-known n t v = marked (head_as ki.Paren n []) (record { node = 0; ty = ty.Of t; coerce = same (ty.Of t); meaning = means.None; value = v }) (typed_nodes [])
+known n t v = marked (head_as ki.Paren n []) (record { node = 0; ty = ty.Of t; coerce = same (ty.Of t); meaning = means.None; value = v })
+    (typed_nodes [])
 
 abbrev pub byte_of : ℕ → Const
 byte_of b = constant.Known (cell.Byte b ∷ []) []
@@ -284,12 +293,14 @@ byte_of b = constant.Known (cell.Byte b ∷ []) []
 -- a text of type str, in an object of its own
 abbrev pub text_as : List ℕ → Const
 text_as bs =
-    constant.Known (three (record { data_at = Address 4294967296 0; length = length bs; capacity = length bs })) (record { object = 4294967296; cells = byte_cells bs } ∷ [])
+    constant.Known (three (record { data_at = Address 4294967296 0; length = length bs; capacity = length bs }))
+    (record { object = 4294967296; cells = byte_cells bs } ∷ [])
 
 -- a path to a def with its constant
 abbrev pub names_def : ℕ → ℕ → ℕ → Const → TypedNode
 names_def n d t v =
-    marked (head_as ki.Path n (codes "d")) (record { node = 0; ty = ty.Of t; coerce = same (ty.Of t); meaning = means.Decl d; value = v }) (typed_nodes [])
+    marked (head_as ki.Path n (codes "d")) (record { node = 0; ty = ty.Of t; coerce = same (ty.Of t); meaning = means.Decl d; value = v })
+    (typed_nodes [])
 
 -- a case with these values that gives a type, and one for all others
 abbrev pub case_of : ℕ → ℕ → List TypedNode → TypedNode
@@ -311,12 +322,23 @@ inside = record { own = 0; result = fallible_t; labels = []; deferred = false; b
 
 -- local 0 is a mutable int, local 1 a constant one, and local 2 the odd one of a for-each at column 3
 abbrev pub locals : List Entry
-locals = Known (record { ty = int_t; mutable = true }) ∷ Known (record { ty = int_t; mutable = false }) ∷ Odd (at 3) ∷ Known (record { ty = three_t; mutable = true }) ∷ []
+locals = Known (record { ty = int_t; mutable = true }) ∷ Known (record { ty = int_t; mutable = false }) ∷ Odd (at 3) ∷ Known
+    (record { ty = three_t; mutable = true }) ∷ []
 
 -- the context of a node with these kids, at column 9
 abbrev pub over : Kind → List ℕ → List TypedNode → Context
 over k text xs =
-    record { setting = setting; locals = locals; head = head_as k 9 text; node = 0; meaning = means.None; hint = hint.None; inside = inside; kids = xs; yields = [] }
+    record {
+      setting = setting;
+      locals = locals;
+      head = head_as k 9 text;
+      node = 0;
+      meaning = means.None;
+      hint = hint.None;
+      inside = inside;
+      kids = xs;
+      yields = [];
+    }
 
 abbrev pub asked_for : ℕ → Context → Context
 asked_for t c = record c { hint = hint.Of t }

@@ -72,9 +72,12 @@ bytes_slice s = option_and_then (λ t. id_of s (row.Slice t)) (word_id s keyword
 -- The functions of the module `rt`, by number: puts, write, read, bytes, nargs, arg and exit.
 abbrev pub runtime_signatures : Store → List Signature
 runtime_signatures s =
-    record { params = word_id s keyword.Str ∷ []; result = word_id s keyword.Void } ∷ record { params = bytes_slice s ∷ []; result = word_id s keyword.Void }
-    ∷ record { params = bytes_slice s ∷ []; result = word_id s keyword.Size } ∷ record { params = word_id s keyword.Str ∷ []; result = bytes_slice s }
-    ∷ record { params = []; result = word_id s keyword.Size } ∷ record { params = word_id s keyword.Size ∷ []; result = word_id s keyword.Str }
+    record { params = word_id s keyword.Str ∷ []; result = word_id s keyword.Void } ∷
+    record { params = bytes_slice s ∷ []; result = word_id s keyword.Void }
+    ∷ record { params = bytes_slice s ∷ []; result = word_id s keyword.Size } ∷
+    record { params = word_id s keyword.Str ∷ []; result = bytes_slice s }
+    ∷ record { params = []; result = word_id s keyword.Size } ∷
+    record { params = word_id s keyword.Size ∷ []; result = word_id s keyword.Str }
     ∷ record { params = word_id s keyword.U8 ∷ []; result = word_id s keyword.Never } ∷ []
 
 abbrev pub called : Setting → Meaning → Option Signature
@@ -306,7 +309,8 @@ is_empty_array c = is_none (hinted_element (store_of c) c.hint) && (length (arra
 
 abbrev pub array_type : Context → Option Ty
 array_type c =
-    cond (is_empty_array c) (Some ty.Empty) (typed_as (option_and_then (λ t. id_of (store_of c) (row.Array (array_count c) t)) (item_type c)))
+    cond (is_empty_array c) (Some ty.Empty) (typed_as
+    (option_and_then (λ t. id_of (store_of c) (row.Array (array_count c) t)) (item_type c)))
 
 -- ---- allocation
 

@@ -98,7 +98,8 @@ number_of_type s _ v = None
 -- the value of a def with an integer base
 abbrev pub length_of_def : Setting → TypedNode → Option ℕ
 length_of_def w x =
-    cond (means_def w (mark_of x).meaning && has_integer_base w.store (own_type x)) (option_and_then natural (number_of_type w.store (own_type x) (mark_of x).value)) None
+    cond (means_def w (mark_of x).meaning && has_integer_base w.store (own_type x))
+    (option_and_then natural (number_of_type w.store (own_type x) (mark_of x).value)) None
 
 abbrev pub length_by : Setting → Kind → TypedNode → Option ℕ
 length_by w ki.Number x = cond (length_suffix (head_of x).suffix) (Some (head_of x).number) None
@@ -154,7 +155,8 @@ labelled s o x = record { place = place_of x; label = label_of s o (mark_of x).v
 
 -- a case, with what it is for: its values, or, without any, all others
 abbrev pub labels_of : Store → Option ℕ → TypedNode → List Labelled
-labels_of s o x = cond (is_there (kid_from_front 0 x)) (map (labelled s o) (values_of x)) (record { place = place_of x; label = Default } ∷ [])
+labels_of s o x = cond (is_there (kid_from_front 0 x)) (map (labelled s o) (values_of x))
+    (record { place = place_of x; label = Default } ∷ [])
 
 abbrev pub each_label : Store → Option ℕ → List TypedNode → List Labelled
 each_label s o [] = []

@@ -161,7 +161,8 @@ abbrev mutual
   -- the same of kids; `is_hidden` where a loop of the same name stands between
   pub breaks_in : List ℕ → Bool → Bool → TypedNodes → Bool
   breaks_in name is_nearest is_hidden typed_none = false
-  breaks_in name is_nearest is_hidden (typed_more t ts) = (not is_hidden && breaks name is_nearest t) || breaks_in name is_nearest is_hidden ts
+  breaks_in name is_nearest is_hidden (typed_more t ts) =
+      (not is_hidden && breaks name is_nearest t) || breaks_in name is_nearest is_hidden ts
 
 abbrev pub some_breaks : List ℕ → List TypedNode → Bool
 some_breaks name ts = list_any (breaks name true) ts
@@ -316,4 +317,9 @@ members_listed (Lacking ∷ ps) = members_listed ps
 abbrev pub is_matched : Context → Bool
 is_matched c =
     match_covers (store_of c) (seen (kid c 0))
-    (record { has_default = stands_among (patterns c) Default; has_null = stands_among (patterns c) NullPointer; types = members_listed (patterns c) })
+    (record {
+      has_default = stands_among (patterns c) Default;
+      has_null = stands_among (patterns c) NullPointer;
+      types = members_listed
+          (patterns c);
+    })

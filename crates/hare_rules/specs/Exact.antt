@@ -40,7 +40,8 @@ chosen sign (c ∷ cs) = cond (bytes_eq sign c.0) c.1 (chosen sign cs)
 abbrev pub arithmetic : List ℕ → ℤ → ℤ → Option ℤ
 arithmetic sign a b =
     chosen sign
-    ((codes "+", ranged (a +ℤ b)) ∷ (codes "-", ranged (a -ℤ b)) ∷ (codes "*", ranged (a *ℤ b)) ∷ (codes "/", unless_zero b (ranged (int_div a b)))
+    ((codes "+", ranged (a +ℤ b)) ∷ (codes "-", ranged (a -ℤ b)) ∷ (codes "*", ranged (a *ℤ b)) ∷
+    (codes "/", unless_zero b (ranged (int_div a b)))
     ∷ (codes "%", unless_zero b (Some (int_rem a b))) ∷ (codes "&", Some (int_bit_and w128 a b)) ∷ (codes "|", Some (int_bit_or w128 a b))
     ∷ (codes "^", Some (int_bit_xor w128 a b)) ∷ [])
 

@@ -78,7 +78,8 @@ abbrev mutual
   pub FailsIn : Setting → Above → Node → Flow → RowId → Context → Type 0
   FailsIn w a (branch h ts) f r c =
       EachFails w a h [] ts f r c
-      ⊎ ((xs : TypedNodes) × (erase_each xs ≡ ts) × EachCarries w a h [] xs f × (c ≡ context w a h (bare_each xs) (behind_each w a h [] xs f)) × (first_failing c ≡ Some r))
+      ⊎ ((xs : TypedNodes) × (erase_each xs ≡ ts) × EachCarries w a h [] xs f ×
+      (c ≡ context w a h (bare_each xs) (behind_each w a h [] xs f)) × (first_failing c ≡ Some r))
 
   pub EachFails : Setting → Above → Head → List TypedNode → Nodes → Flow → RowId → Context → Type 0
   EachFails w a h xs none f r c = ⊥

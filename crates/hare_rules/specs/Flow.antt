@@ -57,7 +57,8 @@ yields_to k n ys = cond (takes_yields k) (map (λ y. y.given) (filter (is_at n) 
 
 -- The value that a `yield` hands on; without one, the void that its absent part has, at the `yield`.
 abbrev pub yielded : Head → TypedNode → Given
-yielded h x = cond (is_there x) (record { place = place_of x; ty = Some (own_type x); node = Some (mark_of x).node }) (record { place = h.place; ty = None; node = None })
+yielded h x = cond (is_there x) (record { place = place_of x; ty = Some (own_type x); node = Some (mark_of x).node })
+    (record { place = h.place; ty = None; node = None })
 
 abbrev pub add_yield : Head → List TypedNode → Option ℕ → List Yielded → List Yielded
 add_yield h xs None ys = ys
@@ -95,7 +96,8 @@ each_entry_of p (Some t) (Some u) = Known (record { ty = u; mutable = true })
 
 -- the binding of a for-each is known behind the operand; over what is no array and no slice it is odd
 abbrev pub each_entry : Setting → Head → List TypedNode → Entry
-each_entry w h (x ∷ y ∷ []) = each_entry_of h.place (element_in (base_row w.store (seen y))) (bound_element w x (element_in (base_row w.store (seen y))))
+each_entry w h (x ∷ y ∷ []) = each_entry_of h.place (element_in (base_row w.store (seen y)))
+    (bound_element w x (element_in (base_row w.store (seen y))))
 each_entry w h xs = Later
 
 abbrev pub is_behind_operand : Kind → ℕ → Bool

@@ -34,7 +34,15 @@ abbrev pub open_of : Label → Open
 open_of l = record { target = l.target; name = l.name; node = l.node; deferred = l.deferred; hint = hint.None }
 
 abbrev pub inside_of : Told → Inside
-inside_of i = record { own = i.own; result = i.result; labels = map open_of i.labels; deferred = i.deferred; body = i.body; role = Ordinary }
+inside_of i = record {
+  own = i.own;
+  result = i.result;
+  labels = map open_of i.labels;
+  deferred = i.deferred;
+  body = i.body;
+  role =
+      Ordinary;
+}
 
 -- a yielded value, with its place among them as its number
 abbrev pub givens_from : ℕ → List Yielded → List Given
@@ -61,7 +69,8 @@ context_of s decls locals c h xs =
 abbrev pub kid_hint : Context → ℕ → Hint
 kid_hint c i =
     unless_bare (kind_of (kid c i))
-    (hint_of c.setting c.head c.hint hint.None c.inside.labels c.inside.result (take i c.kids) (erase (kid c i)) (erase_each (typed_nodes (drop (suc i) c.kids))) c.head.kind)
+    (hint_of c.setting c.head c.hint hint.None c.inside.labels c.inside.result (take i c.kids) (erase (kid c i))
+    (erase_each (typed_nodes (drop (suc i) c.kids))) c.head.kind)
 
 abbrev pub is_type_hint : Hint → Bool
 is_type_hint (hint.Of t) = true
@@ -100,7 +109,8 @@ pub record IsVerdict (c : Context) (ys : List Yielded) (v : Verdict) : Type 0 wh
   pub rows : first_failing c ≡ None
   pub type : type_of c ≡ Some v.ty
   pub own : v.own ≡ own_coercion (store_of c) c.hint v.ty
-  pub coerce : v.coerce ≡ coercions_from c 0 c.kids ++ yield_coercions (store_of c) c.hint (joined_target (store_of c) c.hint (block_values c)) ys
+  pub coerce : v.coerce ≡ coercions_from c 0 c.kids ++ yield_coercions (store_of c) c.hint
+      (joined_target (store_of c) c.hint (block_values c)) ys
 
 -- This is the fault of the first row that the node fails.
 pub record IsRefusal (c : Context) (e : Fault) : Type 0 where

@@ -98,7 +98,8 @@ has_void_base s (Some t) = is_word keyword.Void (base_row s (ty.Of t))
 -- A local, a global or a def; or a type whose base is void, whose one value is written by its name.
 abbrev pub names_value : Setting → Meaning → Bool
 names_value w (means.Local n) = true
-names_value w (means.Decl n) = declares_value (declaration w n) || (declares_type (declaration w n) n && has_void_base w.store (named_id w n))
+names_value w (means.Decl n) = declares_value (declaration w n) ||
+    (declares_type (declaration w n) n && has_void_base w.store (named_id w n))
 names_value w _ = false
 
 abbrev pub type_of_declaration : Setting → Option DeclType → ℕ → Option Ty
@@ -149,7 +150,8 @@ operands_common c = common (store_of c) (first_seen c) (second_seen c)
 
 -- where both are whole numbers without a suffix, the operator gives one
 abbrev pub in_range : Context → Bool
-in_range c = cond (are_iconsts (first_seen c) (second_seen c)) (is_some (exact_of c.head.kind c.head.text (first_seen c) (second_seen c))) true
+in_range c = cond (are_iconsts (first_seen c) (second_seen c)) (is_some (exact_of c.head.kind c.head.text (first_seen c) (second_seen c)))
+    true
 
 abbrev pub exact_type : Context → Option Ty
 exact_type c = option_map ty.Iconst (exact_of c.head.kind c.head.text (first_seen c) (second_seen c))

@@ -69,7 +69,8 @@ abbrev pub tuple_target : Context → ℕ → Option ℕ
 tuple_target c i = only_where (not (is_hinted_tuple c) && nat_lt i (length (tuple_items c))) (default_at c i)
 
 abbrev pub array_target : Context → ℕ → Option ℕ
-array_target c i = only_where (nat_eq i 0 && nat_lt 0 (length (array_items c)) && is_none (hinted_element (store_of c) c.hint)) (default_at c i)
+array_target c i = only_where (nat_eq i 0 && nat_lt 0 (length (array_items c)) && is_none (hinted_element (store_of c) c.hint))
+    (default_at c i)
 
 -- the operand of `alloc` goes to its default, where no hint says what the object is
 abbrev pub alloc_target : Context → ℕ → Option ℕ

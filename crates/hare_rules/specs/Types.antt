@@ -30,8 +30,10 @@ word_in (w ∷ ws) text = cond (bytes_eq w.0 text) (Some w.1) (word_in ws text)
 abbrev pub written_words : List (List ℕ × Keyword)
 written_words =
     (codes "void", keyword.Void) ∷ (codes "never", keyword.Never) ∷ (codes "opaque", keyword.Opaque) ∷ (codes "bool", keyword.Bool)
-    ∷ (codes "rune", keyword.Rune) ∷ (codes "str", keyword.Str) ∷ (codes "i8", keyword.I8) ∷ (codes "i16", keyword.I16) ∷ (codes "i32", keyword.I32)
-    ∷ (codes "i64", keyword.I64) ∷ (codes "u8", keyword.U8) ∷ (codes "u16", keyword.U16) ∷ (codes "u32", keyword.U32) ∷ (codes "u64", keyword.U64)
+    ∷ (codes "rune", keyword.Rune) ∷ (codes "str", keyword.Str) ∷ (codes "i8", keyword.I8) ∷ (codes "i16", keyword.I16) ∷
+    (codes "i32", keyword.I32)
+    ∷ (codes "i64", keyword.I64) ∷ (codes "u8", keyword.U8) ∷ (codes "u16", keyword.U16) ∷ (codes "u32", keyword.U32) ∷
+    (codes "u64", keyword.U64)
     ∷ (codes "int", keyword.Int) ∷ (codes "uint", keyword.Uint) ∷ (codes "size", keyword.Size) ∷ []
 
 abbrev pub scalar_type : Context → Option Ty

@@ -54,7 +54,8 @@ declared_coercion s h a = own_coercion s h a
 
 -- the node as it will be, with this type and coercion: the kids have those that it settles
 abbrev pub finished : Context → Ty → Coercion → TypedNode
-finished c a r = marked c.head (record { node = c.node; ty = a; coerce = r; meaning = c.meaning; value = value_named c }) (typed_nodes (settled_kids c))
+finished c a r = marked c.head (record { node = c.node; ty = a; coerce = r; meaning = c.meaning; value = value_named c })
+    (typed_nodes (settled_kids c))
 
 abbrev pub value_as : Context → Role → Ty → Const
 value_as c CaseValue a = folded (store_of c) c.inside.own (finished c a (own_coercion (store_of c) c.hint a))
@@ -75,7 +76,8 @@ value_of c = value_by_type c (type_of c)
 
 -- the value of a declaration, with the coercion that it has in the end
 abbrev pub declared_value : Context → TypedNode
-declared_value c = if_written (has_written_type c) (value_kid c) (with_coercion (to_default (store_of c) (own_type (value_kid c))) (value_kid c))
+declared_value c = if_written (has_written_type c) (value_kid c)
+    (with_coercion (to_default (store_of c) (own_type (value_kid c))) (value_kid c))
   where
     if_written : Bool → TypedNode → TypedNode → TypedNode
     if_written true x y = x

@@ -41,7 +41,8 @@ module _ (mean : IdsMeanTrees) (stay : TypesStay) (s f : Store) (v : IsStore s) 
       back x e =
           let lies = ((mean f l.sound).extent u x).0 e in
           let here : tree_at s u ≡ Some lies.0 = sym (tree_stays u h) ∙ lies.1 in
-          let spans : following extent_with (meaning_of s) lies.2.0 lies.0 ≡ Some x = subst (λ m. following extent_with m lies.2.0 lies.0 ≡ Some x) names lies.2.1 in
+          let spans : following extent_with (meaning_of s) lies.2.0 lies.0 ≡ Some x =
+          subst (λ m. following extent_with m lies.2.0 lies.0 ≡ Some x) names lies.2.1 in
           ((mean s v).extent u x).1 (lies.0, here, (lies.2.0, spans))
 
       by : (a : Option Extent) → extent_at f u ≡ a → (b : Option Extent) → extent_at s u ≡ b → extent_at f u ≡ extent_at s u

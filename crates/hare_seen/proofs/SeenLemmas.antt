@@ -29,7 +29,8 @@ lookup-masked chosen d (e ∷ es) = by (nat_eq d e.0) refl (lookup-masked chosen
     by true h rest = rw h (ap (λ k. Some (masked (chosen k) e.1)) (sym (eqb-true d e.0 h)))
     by false h rest = rw h rest
 
-definition-masked : (b : Bool) (o : Option Declared) → option_and_then (λ x. x.definition) (option_map (masked b) o) ≡ cond b (option_and_then (λ x. x.definition) o) None
+definition-masked : (b : Bool) (o : Option Declared) →
+    option_and_then (λ x. x.definition) (option_map (masked b) o) ≡ cond b (option_and_then (λ x. x.definition) o) None
 definition-masked true None = refl
 definition-masked false None = refl
 definition-masked true (Some x) = refl
@@ -53,7 +54,8 @@ Leads-more old new more t (e ∷ way) d h = (h.0, (h.1.0, more e h.1.0 h.1.1, Le
 
 module _ (chosen : ℕ → Bool) (l : Store) (v : IsStore l) where
   definition-seen : (d : ℕ) → definition_of (seen_by chosen l) d ≡ cond (chosen d) (definition_of l d) None
-  definition-seen d = ap (option_and_then (λ x. x.definition)) (lookup-masked chosen d l.declared) ∙ definition-masked (chosen d) (lookup (nat_eq d) l.declared)
+  definition-seen d = ap (option_and_then (λ x. x.definition)) (lookup-masked chosen d l.declared) ∙ definition-masked (chosen d)
+      (lookup (nat_eq d) l.declared)
 
   sized-seen : (d : ℕ) → sized_of (seen_by chosen l) d ≡ sized_of l d
   sized-seen d = ap (option_map (λ x. x.sized)) (lookup-masked chosen d l.declared) ∙ sized-masked (chosen d) (lookup (nat_eq d) l.declared)

@@ -23,7 +23,8 @@ use Rattle.hare_rules.specs.Context.{own_type}
 abbrev pub is_small_at : Store → ℕ → Bool
 is_small_at s u = is_small (option_map (λ x. x.size) (extent_at s u))
 
--- The row that asks whether a written type of this kind is small, where it stands in the store as this row. What is left of a union may be one member
+-- The row that asks whether a written type of this kind is small, where it stands in the store as this row. What is left of a union may be
+-- one member
 -- alone: that has been looked at where it is written.
 abbrev pub size_row_by : Kind → Option Row → Option RowId
 size_row_by ki.TypeArray r = Some rows.ArrayTypeSmall

@@ -26,9 +26,11 @@ module _ (l : Trees) (k : Pair) (n : ℕ) (d e : TypedNode) (erased : erase d �
     (j : IsWellFunction (two k) n e) where
   kids-erased :
       branch (head_of d)
-      (kids_of_function (erase h.export_is) (erase h.name) h.params_head (erase_each (typed_nodes h.params)) (erase h.result) (erase h.body))
+      (kids_of_function (erase h.export_is) (erase h.name) h.params_head (erase_each (typed_nodes h.params)) (erase h.result)
+      (erase h.body))
       ≡ branch (head_of e)
-      (kids_of_function (erase j.export_is) (erase j.name) j.params_head (erase_each (typed_nodes j.params)) (erase j.result) (erase j.body))
+      (kids_of_function (erase j.export_is) (erase j.name) j.params_head (erase_each (typed_nodes j.params)) (erase j.result)
+      (erase j.body))
   kids-erased = sym (ap erase h.shape) ∙ erased ∙ ap erase j.shape
 
   bodies-erased : erase h.body ≡ erase j.body

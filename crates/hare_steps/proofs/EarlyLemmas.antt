@@ -21,7 +21,8 @@ insert_key-put (x ∷ xs) k = by (nat_lt k x) (k == x) (insert_key-put xs k)
 module _ (p : ℕ → Bool) (ns : List ℕ) (i n : ℕ) (here : slice_get ns i ≡ Some n) (ks all : List ℕ)
     (w : put_all (filter p (drop i ns)) ks ≡ all) where
   left : (b : Bool) → p n ≡ b → put_all (cond b (n ∷ filter p (drop (i + 1) ns)) (filter p (drop (i + 1) ns))) ks ≡ all
-  left b e = sym (ap (λ xs. put_all (filter p xs) ks) (drop-there ns i n here) ∙ ap (λ c. put_all (cond c (n ∷ filter p (drop (i + 1) ns)) (filter p (drop (i + 1) ns))) ks) e) ∙ w
+  left b e = sym (ap (λ xs. put_all (filter p xs) ks) (drop-there ns i n here) ∙ ap
+      (λ c. put_all (cond c (n ∷ filter p (drop (i + 1) ns)) (filter p (drop (i + 1) ns))) ks) e) ∙ w
 
   pub put_all-next : (new : List ℕ) → p n ≡ true → new ≡ insert_key nat_cmp ks n → put_all (filter p (drop (i + 1) ns)) new ≡ all
   put_all-next new e k = ap (put_all (filter p (drop (i + 1) ns))) (k ∙ insert_key-put ks n) ∙ left true e

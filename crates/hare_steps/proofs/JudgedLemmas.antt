@@ -36,8 +36,10 @@ among-middle g n (x ∷ gs) ns = by (nat_eq g x) refl (nat_eq g n) refl (among-m
     by : (b : Bool) → nat_eq g x ≡ b → (c : Bool) → nat_eq g n ≡ c → is_among g (gs ++ n ∷ ns) ≡ is_among g (n ∷ gs ++ ns)
         → is_among g (x ∷ gs ++ n ∷ ns) ≡ is_among g (n ∷ x ∷ gs ++ ns)
     by true e true k h = among-more g x (gs ++ n ∷ ns) true e ∙ sym (among-more g n (x ∷ gs ++ ns) true k)
-    by true e false k h = among-more g x (gs ++ n ∷ ns) true e ∙ sym (among-more g n (x ∷ gs ++ ns) false k ∙ among-more g x (gs ++ ns) true e)
-    by false e true k h = among-more g x (gs ++ n ∷ ns) false e ∙ h ∙ among-more g n (gs ++ ns) true k ∙ sym (among-more g n (x ∷ gs ++ ns) true k)
+    by true e false k h = among-more g x (gs ++ n ∷ ns) true e ∙ sym
+        (among-more g n (x ∷ gs ++ ns) false k ∙ among-more g x (gs ++ ns) true e)
+    by false e true k h = among-more g x (gs ++ n ∷ ns) false e ∙ h ∙ among-more g n (gs ++ ns) true k ∙ sym
+        (among-more g n (x ∷ gs ++ ns) true k)
     by false e false k h =
         among-more g x (gs ++ n ∷ ns) false e ∙ h ∙ among-more g n (gs ++ ns) false k
         ∙ sym (among-more g n (x ∷ gs ++ ns) false k ∙ among-more g x (gs ++ ns) false e)
@@ -49,7 +51,8 @@ pub length-with_all : (js : List Bool) (gs : List ℕ) → length (with_all_judg
 length-with_all js [] = refl
 length-with_all js (g ∷ gs) = length-with_all (with_judged js g) gs ∙ length-set js g true
 
-pub tells-with_all : (js : List Bool) (ns gs : List ℕ) → Tells js ns → ((g : ℕ) → Contains gs g → g < length js) → Tells (with_all_judged js gs) (gs ++ ns)
+pub tells-with_all : (js : List Bool) (ns gs : List ℕ) → Tells js ns → ((g : ℕ) → Contains gs g → g < length js) →
+    Tells (with_all_judged js gs) (gs ++ ns)
 tells-with_all js ns [] t h = t
 tells-with_all js ns (n ∷ gs) t h =
     tells-middle (with_all_judged (with_judged js n) gs) gs ns n

@@ -15,16 +15,19 @@ use Rattle.hare_steps.specs.Plans.{decl_at, ArePlaces}
 -- ---- one place more
 
 -- the place of one declaration more of a file is put behind others
-pub places-next : (fs : List FileTree) (f : FileTree) (p : DeclPlace) (i : ℕ) (x : Node) (old new : List DeclPlace) (all : List (Option Node))
+pub places-next : (fs : List FileTree) (f : FileTree) (p : DeclPlace) (i : ℕ) (x : Node) (old new : List DeclPlace)
+    (all : List (Option Node))
     → slice_get fs p.file ≡ Some f → slice_get f.decls p.decl ≡ Some x → p.decl ≡ i → new ≡ old ++ p ∷ []
     → map (decl_at fs) old ++ map Some (drop i f.decls) ≡ all → map (decl_at fs) new ++ map Some (drop (i + 1) f.decls) ≡ all
 places-next fs f p i x old new all file there at e w =
     let here : decl_at fs p ≡ Some x = ap (option_and_then (λ f. slice_get f.decls p.decl)) file ∙ there in
-    mapped-more Some (map (decl_at fs) old) (map (decl_at fs) new) all f.decls i x (decl_at fs p) (subst (λ k. slice_get f.decls k ≡ Some x) at there) here
+    mapped-more Some (map (decl_at fs) old) (map (decl_at fs) new) all f.decls i x (decl_at fs p)
+    (subst (λ k. slice_get f.decls k ≡ Some x) at there) here
     (ap (map (decl_at fs)) e ∙ map-push (decl_at fs) old p) w
 
 -- the places of one file more
-pub files-next : (fs : List FileTree) (f : FileTree) (i : ℕ) (now new all : List (Option Node)) → slice_get fs i ≡ Some f → new ≡ now ++ map Some f.decls
+pub files-next : (fs : List FileTree) (f : FileTree) (i : ℕ) (now new all : List (Option Node)) → slice_get fs i ≡ Some f →
+    new ≡ now ++ map Some f.decls
     → now ++ map Some (decls (drop i fs)) ≡ all → new ++ map Some (decls (drop (i + 1) fs)) ≡ all
 files-next fs f i now new all here e w =
     ap (λ xs. xs ++ map Some (decls (drop (i + 1) fs))) e

@@ -33,7 +33,8 @@ module _ (count : ℕ) (means : Place → Meaning) where
   numbers-append : (ps qs : List Place) → numbers_at count means (ps ++ qs) ≡ numbers_at count means ps ++ numbers_at count means qs
   numbers-append ps qs = flat_map-append (λ p. number_in count (means p)) ps qs
 
-  behind : (ps qs : List Place) → drop (length (numbers_at count means (ps ++ []))) (numbers_at count means (ps ++ (qs ++ []))) ≡ numbers_at count means qs
+  behind : (ps qs : List Place) → drop (length (numbers_at count means (ps ++ []))) (numbers_at count means (ps ++ (qs ++ []))) ≡
+      numbers_at count means qs
   behind ps qs =
       ap (λ l. drop (length (numbers_at count means l)) (numbers_at count means (ps ++ (qs ++ [])))) (append-nil ps)
       ∙ ap (λ l. drop (length (numbers_at count means ps)) (numbers_at count means (ps ++ l))) (append-nil qs)
@@ -41,7 +42,8 @@ module _ (count : ℕ) (means : Place → Meaning) where
       ∙ drop-append_seam (numbers_at count means ps) (numbers_at count means qs)
 
   behind-written : (t : Node) (s : Sort) → has_value s ≡ true
-      → drop (length (numbers_at count means (flat_map paths_in (written_by s t)))) (numbers_at count means (flat_map paths_in (parts_by s t)))
+      → drop (length (numbers_at count means (flat_map paths_in (written_by s t))))
+      (numbers_at count means (flat_map paths_in (parts_by s t)))
       ≡ numbers_at count means (paths_in (kid t 3))
   behind-written t so.Type e = absurd cc
   behind-written t so.Function e = absurd cc
@@ -90,7 +92,8 @@ module _ (p : Listing) (t : Node) where
       ap (λ xs. xs ++ map Types (early_of (saids p) (with_judged js n) said) ++ rest_of (has_value (sort_of t)) n) own
       ∙ ap (λ xs. cond (is_among n ns) [] (Types n ∷ []) ++ xs ++ rest_of (has_value (sort_of t)) n) types
       ∙ ap (λ xs. cond (is_among n ns) [] (Types n ∷ []) ++ map Types (early p (n ∷ ns) t) ++ xs) (rest-is (sort_of t) n)
-      ∙ sym (append_assoc (cond (is_among n ns) [] (Types n ∷ []) ++ map Types (early p (n ∷ ns) t)) (value_steps (sort_of t) n) (Done n ∷ []))
+      ∙ sym (append_assoc (cond (is_among n ns) [] (Types n ∷ []) ++ map Types (early p (n ∷ ns) t)) (value_steps (sort_of t) n)
+      (Done n ∷ []))
 
 -- ---- what is judged early is there
 
@@ -136,12 +139,17 @@ module _ (p : Listing) (all : List ℕ) (i : ℕ) (js : List Bool) (before : Lis
       record {
         judged = n ∷ early p (n ∷ g.judged) t ++ g.judged;
         told = subst (λ bs. Tells bs (n ∷ early p (n ∷ g.judged) t ++ g.judged)) (sym (h.judged (said p t) there))
-            (tells-middle (with_all_judged (with_judged js n) (early_of (saids p) (with_judged js n) (said p t))) (early p (n ∷ g.judged) t) g.judged n
-            (subst (λ gs. Tells (with_all_judged (with_judged js n) (early_of (saids p) (with_judged js n) (said p t))) (gs ++ n ∷ g.judged)) types all-told));
+            (tells-middle (with_all_judged (with_judged js n) (early_of (saids p) (with_judged js n) (said p t))) (early p (n ∷ g.judged) t)
+            g.judged n
+            (subst (λ gs. Tells (with_all_judged (with_judged js n) (early_of (saids p) (with_judged js n) (said p t)))
+            (gs ++ n ∷ g.judged)) types all-told));
         rest = λ xs k.
-            let from = subst (λ ns. AreSteps p g.judged ns (turn p g.judged n t ++ xs)) (sym (drop-there all i n e)) (next g.judged n t (drop (i + 1) all) xs d.1 k) in
-            let steps = h.steps (said p t) there ∙ ap (λ ys. before ++ ys) (turn-is p t js g.judged n g.told (subst (λ k. n < k) (sym few) l)) in
-            subst (AreSteps p [] all) (sym (ap (λ ys. ys ++ xs) steps ∙ append_assoc before (turn p g.judged n t) xs)) (g.rest (turn p g.judged n t ++ xs) from);
+            let from = subst (λ ns. AreSteps p g.judged ns (turn p g.judged n t ++ xs)) (sym (drop-there all i n e))
+            (next g.judged n t (drop (i + 1) all) xs d.1 k) in
+            let steps = h.steps (said p t) there ∙ ap (λ ys. before ++ ys)
+            (turn-is p t js g.judged n g.told (subst (λ k. n < k) (sym few) l)) in
+            subst (AreSteps p [] all) (sym (ap (λ ys. ys ++ xs) steps ∙ append_assoc before (turn p g.judged n t) xs))
+            (g.rest (turn p g.judged n t ++ xs) from);
       }
 
 pub turn-sized : (ds : List Said) (n : ℕ) (js : List Bool) (before : List Step) (new : List Bool) (behind : List Step) → n < length ds
@@ -159,7 +167,8 @@ turn-joined a own types rest b c d e f g =
     g ∙ ap (λ xs. xs ++ rest) (f ∙ ap (λ xs. xs ++ types) e ∙ append_assoc a own types) ∙ append_assoc a (own ++ types) rest
 
 pub goes-next : (p : Listing) (all : List ℕ) (i : ℕ) (js : List Bool) (before : List Step) (ds : List Said) → saids p ≡ ds
-    → GoesOn p all (drop i all) js before → (n : ℕ) → slice_get all i ≡ Some n → n < length ds → length js ≡ length ds → (new : List Bool) (behind : List Step)
+    → GoesOn p all (drop i all) js before → (n : ℕ) → slice_get all i ≡ Some n → n < length ds → length js ≡ length ds →
+    (new : List Bool) (behind : List Step)
     → TakesTurn ds n js before new behind → GoesOn p all (drop (i + 1) all) new behind
 goes-next p all i js before ds same g n e l few new behind h =
     on p all i js before g n e (subst (λ d. n < length d) (sym same) l) (few ∙ ap length (sym same)) new behind

@@ -65,4 +65,5 @@ pub record GoesOn (p : Listing) (all left : List ℕ) (js : List Bool) (before :
 -- the places of the declarations of a file that has so many have been put behind others
 abbrev pub PutsPlaces : (file count : ℕ) → (old new : List DeclPlace) → Type 0
 PutsPlaces file count old new =
-    (fs : List FileTree) (f : FileTree) → slice_get fs file ≡ Some f → length f.decls ≡ count → map (decl_at fs) new ≡ map (decl_at fs) old ++ map Some f.decls
+    (fs : List FileTree) (f : FileTree) → slice_get fs file ≡ Some f → length f.decls ≡ count →
+    map (decl_at fs) new ≡ map (decl_at fs) old ++ map Some f.decls

@@ -49,7 +49,9 @@ join_two : (t u : Token) (js : List Token) → is_proper_string t ≡ true → i
 join_two t u js e h = rw (e, h) refl
 
 join_other : (t u : Token) (js : List Token) → is_proper_string u ≡ false → joined_to t (u ∷ js) ≡ t ∷ u ∷ js
-join_other t u js h = elim (is_proper_string t) as (λ b. (if b then (if is_proper_string u then merged t u ∷ js else t ∷ u ∷ js) else t ∷ u ∷ js) ≡ t ∷ u ∷ js) [ true ↦ rw h refl | false ↦ refl ]
+join_other t u js h = elim (is_proper_string t) as
+    (λ b. (if b then (if is_proper_string u then merged t u ∷ js else t ∷ u ∷ js) else t ∷ u ∷ js) ≡ t ∷ u ∷ js)
+    [ true ↦ rw h refl | false ↦ refl ]
 
 pub join_no : (t : Token) (js : List Token) → is_proper_string t ≡ false → joined_to t js ≡ t ∷ js
 join_no t [] e = refl
@@ -60,9 +62,15 @@ join_more : (p : Place) (x : List ℕ) (t : Token) (js : List Token) → is_prop
     joined_to (string_at p x) (joined_to t js) ≡ joined_to (string_at p (x ++ t.text)) js
 join_more p x t [] e = rw e refl
 join_more p x t (v ∷ vs) e = more_of (is_proper_string v) refl where
-  more_of : (b : Bool) → is_proper_string v ≡ b → joined_to (string_at p x) (joined_to t (v ∷ vs)) ≡ joined_to (string_at p (x ++ t.text)) (v ∷ vs)
+  more_of : (b : Bool) → is_proper_string v ≡ b →
+      joined_to (string_at p x) (joined_to t (v ∷ vs)) ≡ joined_to (string_at p (x ++ t.text)) (v ∷ vs)
   more_of true h =
-      rw (join_two t v vs e h, join_two (string_at p x) (merged t v) vs refl refl, join_two (string_at p (x ++ t.text)) v vs refl h, append_assoc x t.text v.text)
+      rw (
+        join_two t v vs e h,
+        join_two (string_at p x) (merged t v) vs refl refl,
+        join_two (string_at p (x ++ t.text)) v vs refl h,
+        append_assoc x t.text v.text,
+      )
       refl
   more_of false h = rw (join_other t v vs h, join_two (string_at p x) t (v ∷ vs) refl e, join_other (string_at p (x ++ t.text)) v vs h) refl
 
@@ -83,7 +91,8 @@ drop_past ts n e = elim (slice_get_cases ts n).1 [ inl h ↦ absurd (none_some (
   none_some g = cc
 
 -- the joined tokens from a place on
-pub joined_at : (ts : List Token) (n : ℕ) (t : Token) → Some t ≡ slice_get ts n → joined (drop n ts) ≡ joined_to t (joined (drop (n + 1) ts))
+pub joined_at : (ts : List Token) (n : ℕ) (t : Token) → Some t ≡ slice_get ts n →
+    joined (drop n ts) ≡ joined_to t (joined (drop (n + 1) ts))
 joined_at ts n t e = ap joined (read_drop ts n t e)
 
 pub joined_past : (ts : List Token) (n : ℕ) → None ≡ slice_get ts n → joined (drop n ts) ≡ []
@@ -91,29 +100,34 @@ joined_past ts n e = ap joined (drop_past ts n e)
 
 -- ---- a run of strings, so far as it is read
 
-pub first_so_far : (ts : List Token) (at next : ℕ) (t : Token) (x : List ℕ) → Some t ≡ slice_get ts at → is_proper_string t ≡ true → next ≡ at + 1 →
+pub first_so_far : (ts : List Token) (at next : ℕ) (t : Token) (x : List ℕ) → Some t ≡ slice_get ts at → is_proper_string t ≡ true →
+    next ≡ at + 1 →
     x ≡ t.text → joined (drop at ts) ≡ joined_to (string_at t.place x) (joined (drop next ts))
 first_so_far ts at next t x h p n e =
     let g = λ (u : Token). joined_to u (joined (drop (at + 1) ts)) in
     rw (n, e) (joined_at ts at t h ∙ ap g (string_is t p))
 
-one_more : (ts : List Token) (at next : ℕ) (s t : Token) → joined (drop at ts) ≡ joined_to s (joined (drop next ts)) → Some t ≡ slice_get ts next →
+one_more : (ts : List Token) (at next : ℕ) (s t : Token) → joined (drop at ts) ≡ joined_to s (joined (drop next ts)) →
+    Some t ≡ slice_get ts next →
     joined (drop at ts) ≡ joined_to s (joined_to t (joined (drop (next + 1) ts)))
 one_more ts at next s t e h = let g = joined_to s in e ∙ ap g (joined_at ts next t h)
 
-pub more_so_far : (ts : List Token) (at next behind : ℕ) (p : Place) (x y : List ℕ) (t : Token) → joined (drop at ts) ≡ joined_to (string_at p x) (joined (drop next ts)) →
+pub more_so_far : (ts : List Token) (at next behind : ℕ) (p : Place) (x y : List ℕ) (t : Token) →
+    joined (drop at ts) ≡ joined_to (string_at p x) (joined (drop next ts)) →
     Some t ≡ slice_get ts next → is_proper_string t ≡ true → behind ≡ next + 1 → y ≡ x ++ t.text →
     joined (drop at ts) ≡ joined_to (string_at p y) (joined (drop behind ts))
 more_so_far ts at next behind p x y t e h q n a =
     rw (n, a) (one_more ts at next (string_at p x) t e h ∙ join_more p x t (joined (drop (next + 1) ts)) q)
 
-pub ends_at : (ts : List Token) (at next : ℕ) (s t : Token) → joined (drop at ts) ≡ joined_to s (joined (drop next ts)) → Some t ≡ slice_get ts next →
+pub ends_at : (ts : List Token) (at next : ℕ) (s t : Token) → joined (drop at ts) ≡ joined_to s (joined (drop next ts)) →
+    Some t ≡ slice_get ts next →
     is_proper_string t ≡ false → joined (drop at ts) ≡ s ∷ joined (drop next ts)
 ends_at ts at next s t e h q =
     let j = joined_at ts next t h in
     let g = λ (us : List Token). s ∷ us in
     one_more ts at next s t e h ∙ join_end s t (joined (drop (next + 1) ts)) q ∙ ap g (sym j)
 
-pub ends_past : (ts : List Token) (at next : ℕ) (s : Token) → joined (drop at ts) ≡ joined_to s (joined (drop next ts)) → None ≡ slice_get ts next →
+pub ends_past : (ts : List Token) (at next : ℕ) (s : Token) → joined (drop at ts) ≡ joined_to s (joined (drop next ts)) →
+    None ≡ slice_get ts next →
     joined (drop at ts) ≡ s ∷ joined (drop next ts)
 ends_past ts at next s e h = e ∙ rw (joined_past ts next h) refl

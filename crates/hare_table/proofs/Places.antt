@@ -18,7 +18,8 @@ pub drop_to : (ts : List Token) (a b : ℕ) → a ≤ b → drop (b - a) (drop a
 drop_to ts a b h = let e : a + (b - a) ≡ b = omega arith in drop-drop (b - a) a ts ∙ ap (λ i. drop i ts) e
 
 -- in front of a token that is no such string
-stands_before : (ts : List Token) (at next : ℕ) → at < next → begins_with_string (drop next ts) ≡ false → StandsAt (drop at ts) (next - at) (joined (drop next ts))
+stands_before : (ts : List Token) (at next : ℕ) → at < next → begins_with_string (drop next ts) ≡ false →
+    StandsAt (drop at ts) (next - at) (joined (drop next ts))
 stands_before ts at next h e =
     let d = drop_to ts at next (omega arith) in
     record { behind = ap joined (sym d); apart = rw (d, e) (and_false (ends_in_string (take (next - at) (drop at ts)))) }
@@ -29,19 +30,22 @@ stands_behind us vs n t e k p = rw (e, k) (record { behind = refl; apart = rw p 
 
 -- ---- the first of the joined tokens from a place on
 
-pub strings_end_at : (ts : List Token) (at next : ℕ) (s t : Token) → joined (drop at ts) ≡ s ∷ joined (drop next ts) → Some t ≡ slice_get ts next → is_proper_string t ≡ false →
+pub strings_end_at : (ts : List Token) (at next : ℕ) (s t : Token) → joined (drop at ts) ≡ s ∷ joined (drop next ts) →
+    Some t ≡ slice_get ts next → is_proper_string t ≡ false →
     at < next → next ≤ length ts → BeginsWith ts at s next
 strings_end_at ts at next s t e h p a b =
     let f : begins_with_string (drop next ts) ≡ false = ap begins_with_string (read_drop ts next t h) ∙ p in
     record { joins = e; further = a; within = b; stands = stands_before ts at next a f }
 
-pub strings_end_past : (ts : List Token) (at next : ℕ) (s : Token) → joined (drop at ts) ≡ s ∷ joined (drop next ts) → None ≡ slice_get ts next → at < next → next ≤ length ts →
+pub strings_end_past : (ts : List Token) (at next : ℕ) (s : Token) → joined (drop at ts) ≡ s ∷ joined (drop next ts) →
+    None ≡ slice_get ts next → at < next → next ≤ length ts →
     BeginsWith ts at s next
 strings_end_past ts at next s e h a b =
     let f : begins_with_string (drop next ts) ≡ false = ap begins_with_string (drop_past ts next h) in
     record { joins = e; further = a; within = b; stands = stands_before ts at next a f }
 
-pub begins_with_other : (ts : List Token) (at next : ℕ) (t : Token) → Some t ≡ slice_get ts at → is_proper_string t ≡ false → next ≡ at + 1 → BeginsWith ts at t next
+pub begins_with_other : (ts : List Token) (at next : ℕ) (t : Token) → Some t ≡ slice_get ts at → is_proper_string t ≡ false →
+    next ≡ at + 1 → BeginsWith ts at t next
 begins_with_other ts at next t h p n =
     let w : at < length ts = slice_get_within ts at t (sym h) in
     let one : at + 1 - at ≡ 1 = omega arith in
@@ -56,7 +60,8 @@ begins_with_other ts at next t h p n =
 -- ---- places
 
 -- a front ends as the tokens behind the first of it do
-ends_behind : (n m : ℕ) (ts : List Token) → n + m < length ts → ends_in_string (take (suc (n + m)) ts) ≡ ends_in_string (take (suc m) (drop n ts))
+ends_behind : (n m : ℕ) (ts : List Token) → n + m < length ts →
+    ends_in_string (take (suc (n + m)) ts) ≡ ends_in_string (take (suc m) (drop n ts))
 ends_behind zero m ts h = rw (zero-add m) refl
 ends_behind (suc n) m [] h = absurd (omega arith)
 ends_behind (suc n) m (t ∷ []) h = absurd (omega arith)
@@ -66,7 +71,8 @@ ends_between : (ts : List Token) (from at next : ℕ) → from ≤ at → at < n
     ends_in_string (take (next - from) (drop from ts)) ≡ ends_in_string (take (next - at) (drop at ts))
 ends_between ts from at next a b c = by (at - from) (next - at - 1) (omega arith) (omega arith) (omega arith)
   where
-    by : (n m : ℕ) → at - from ≡ n → next - from ≡ suc (n + m) → next - at ≡ suc m → ends_in_string (take (next - from) (drop from ts)) ≡ ends_in_string (take (next - at) (drop at ts))
+    by : (n m : ℕ) → at - from ≡ n → next - from ≡ suc (n + m) → next - at ≡ suc m →
+        ends_in_string (take (next - from) (drop from ts)) ≡ ends_in_string (take (next - at) (drop at ts))
     by n m d p q =
         let l : n + m < length (drop from ts) = rw (length-drop from ts) (omega arith) in
         let e : drop n (drop from ts) ≡ drop at ts = ap (λ i. drop i (drop from ts)) (sym d) ∙ drop_to ts from at a in
@@ -81,11 +87,16 @@ pub place_further : (ts : List Token) (from at next : ℕ) (t : Token) → IsPla
 place_further ts from at next t p b =
     let a = p.behind in
     let c = b.further in
-    let d : drop (next - from) (drop from ts) ≡ drop (next - at) (drop at ts) = drop_to ts from next (omega arith) ∙ sym (drop_to ts at next (omega arith)) in
+    let d : drop (next - from) (drop from ts) ≡ drop (next - at) (drop at ts) =
+    drop_to ts from next (omega arith) ∙ sym (drop_to ts at next (omega arith)) in
     record {
       behind = omega arith;
       within = inr b.within;
-      stands = record { behind = b.stands.behind ∙ ap joined (sym d); apart = rw (ends_between ts from at next a c b.within, d) b.stands.apart };
+      stands = record {
+        behind = b.stands.behind ∙ ap joined (sym d);
+        apart = rw (ends_between ts from at next a c b.within, d)
+            b.stands.apart;
+      };
     }
 
 pub place_from_start : (ts : List Token) (n : ℕ) → IsPlace ts 0 n → StandsAt ts n (joined (drop n ts))

@@ -3,7 +3,8 @@ use Rattle.std.proofs.Common.{◌≡◌, suc, ◌-◌, List, [], ◌∷◌, ◌+
 use Rattle.std.proofs.lemmas.List.{reverse-append}
 use Rattle.std.specs.Prelude.{Some, None, slice_get}
 
-last_further : {A : Type 0} (x y : A) (xs : List A) → slice_get (x ∷ y ∷ xs) (length (x ∷ y ∷ xs) - 1) ≡ slice_get (y ∷ xs) (length (y ∷ xs) - 1)
+last_further : {A : Type 0} (x y : A) (xs : List A) →
+    slice_get (x ∷ y ∷ xs) (length (x ∷ y ∷ xs) - 1) ≡ slice_get (y ∷ xs) (length (y ∷ xs) - 1)
 last_further x y xs = let e : length (x ∷ y ∷ xs) - 1 ≡ suc (length (y ∷ xs) - 1) = omega arith in ap (slice_get (x ∷ y ∷ xs)) e
 
 pub split_last : {A : Type 0} (xs : List A) (z : A) → slice_get xs (length xs - 1) ≡ Some z → (front : List A) × (xs ≡ front ++ z ∷ [])

@@ -133,7 +133,8 @@ one_in_the_kid_before : outcome 0 (node kind.Block [] (node kind.Const [] (puts 
 one_in_the_kid_before = refl
 
 -- also where it stands deeper
-two_in_the_kid_before : outcome 0 (node kind.Block [] (node kind.Const [] (node kind.Const [] (puts (codes "a") ∷ []) ∷ []) ∷ yield ∷ [])) ≡ Exit 4
+two_in_the_kid_before : outcome 0 (node kind.Block [] (node kind.Const [] (node kind.Const [] (puts (codes "a") ∷ []) ∷ []) ∷ yield ∷ [])) ≡
+    Exit 4
 two_in_the_kid_before = refl
 
 -- a binding begins before its own kids

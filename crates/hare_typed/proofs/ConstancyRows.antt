@@ -65,7 +65,8 @@ size_of_type = refl
 len_of_text : first (tree kind.Len int (tree kind.Str str [] ∷ [])) ≡ None
 len_of_text = refl
 
-struct : first (tree kind.StructLit pair (tree kind.TypePath pair [] ∷ tree kind.FieldValue void (number ∷ []) ∷ tree kind.TrailingComma void [] ∷ [])) ≡ None
+struct : first (tree kind.StructLit pair (tree kind.TypePath pair [] ∷ tree kind.FieldValue void (number ∷ []) ∷ tree kind.TrailingComma
+    void [] ∷ [])) ≡ None
 struct = refl
 
 -- ---- not constant

@@ -25,7 +25,8 @@ if-scaled : (b : Bool) (a m n : ℕ) → (if b then a * m else a * n) ≡ a * (i
 if-scaled true a m n = refl
 if-scaled false a m n = refl
 
-deferred-scaled : (b : Bool) (a own : ℕ) (ts : TypedNodes) → (if b then deferred_copies (a * own) ts else a * own) ≡ a * (if b then deferred_copies own ts else own)
+deferred-scaled : (b : Bool) (a own : ℕ) (ts : TypedNodes) →
+    (if b then deferred_copies (a * own) ts else a * own) ≡ a * (if b then deferred_copies own ts else own)
 deferred-scaled true a own ts = mul_assoc a own (suc (length (exits_each ts)))
 deferred-scaled false a own ts = refl
 
@@ -48,13 +49,15 @@ mutual
 
 -- ---- what is found
 
-choice-scaled : (b : Bool) (a : ℕ) (x : Copied) (o : Option Copied) → cond b (Some (scaled a x)) (option_map (scaled a) o) ≡ option_map (scaled a) (cond b (Some x) o)
+choice-scaled : (b : Bool) (a : ℕ) (x : Copied) (o : Option Copied) →
+    cond b (Some (scaled a x)) (option_map (scaled a) o) ≡ option_map (scaled a) (cond b (Some x) o)
 choice-scaled true a x o = refl
 choice-scaled false a x o = refl
 
 find-scaled : (n a : ℕ) (xs : List Copied) → find (has_number n) (map (scaled a) xs) ≡ option_map (scaled a) (find (has_number n) xs)
 find-scaled n a [] = refl
-find-scaled n a (x ∷ xs) = ap (cond (has_number n x) (Some (scaled a x))) (find-scaled n a xs) ∙ choice-scaled (has_number n x) a x (find (has_number n) xs)
+find-scaled n a (x ∷ xs) = ap (cond (has_number n x) (Some (scaled a x))) (find-scaled n a xs) ∙ choice-scaled (has_number n x) a x
+    (find (has_number n) xs)
 
 -- the node by itself
 abbrev pub itself : Bool → TypedNode → ℕ → Option Copied
@@ -62,8 +65,10 @@ itself b t own = cond b (Some (record { tree = t; times = own })) None
 
 -- a node is found among its kids, or is itself the one
 pub find-copied : (n own deferred : ℕ) (h : Head) (m : Mark) (ts : TypedNodes) → find (has_number n) (copied own deferred (marked h m ts))
-    ≡ option_or (find (has_number n) (copied_each (has_defers h.kind) (inner_copies h.kind own deferred) ts)) (itself (m.node == n) (marked h m ts) own)
-find-copied n own deferred h m ts = find-append (has_number n) (copied_each (has_defers h.kind) (inner_copies h.kind own deferred) ts) (record { tree = marked h m ts; times = own } ∷ [])
+    ≡ option_or (find (has_number n) (copied_each (has_defers h.kind) (inner_copies h.kind own deferred) ts))
+    (itself (m.node == n) (marked h m ts) own)
+find-copied n own deferred h m ts = find-append (has_number n) (copied_each (has_defers h.kind) (inner_copies h.kind own deferred) ts)
+    (record { tree = marked h m ts; times = own } ∷ [])
 
 -- ---- caps
 
@@ -116,16 +121,19 @@ inner-same false own = refl
 
 -- what is found in a node, from what is found among its kids
 node-found : (n : ℕ) (h : Head) (m : Mark) (ts : TypedNodes) (t : TypedNode) → marked h m ts ≡ t
-    → capped (option_or (find (has_number n) (copied_each (has_defers h.kind) 1 ts)) (itself (m.node == n) (marked h m ts) 1)) ≡ capped (find (has_number n) (copied 1 1 t))
+    → capped (option_or (find (has_number n) (copied_each (has_defers h.kind) 1 ts)) (itself (m.node == n) (marked h m ts) 1)) ≡
+    capped (find (has_number n) (copied 1 1 t))
 node-found n h m ts t v =
-    ap (λ i. capped (option_or (find (has_number n) (copied_each (has_defers h.kind) i ts)) (itself (m.node == n) (marked h m ts) 1))) (sym (inner-same (is_defer h.kind) 1))
+    ap (λ i. capped (option_or (find (has_number n) (copied_each (has_defers h.kind) i ts)) (itself (m.node == n) (marked h m ts) 1)))
+    (sym (inner-same (is_defer h.kind) 1))
     ∙ ap capped (sym (find-copied n 1 1 h m ts)) ∙ ap (λ u. capped (find (has_number n) (copied 1 1 u))) v
 
 pub found-among : (n k : ℕ) (b : Bool) (h : Head) (m : Mark) (ts : TypedNodes) (t : TypedNode) → marked h m ts ≡ t → b ≡ has_defers h.kind
     → Some k ≡ capped (find (has_number n) (copied_each b 1 ts)) → Some k ≡ capped (find (has_number n) (copied 1 1 t))
 found-among n k b h m ts t v g f =
     let e = f ∙ ap (λ d. capped (find (has_number n) (copied_each d 1 ts))) g in
-    capped-left (find (has_number n) (copied_each (has_defers h.kind) 1 ts)) (itself (m.node == n) (marked h m ts) 1) k e ∙ node-found n h m ts t v
+    capped-left (find (has_number n) (copied_each (has_defers h.kind) 1 ts)) (itself (m.node == n) (marked h m ts) 1) k e ∙ node-found n h m
+    ts t v
 
 -- the answer of a node that is not among the kids
 abbrev pub answer : Bool → Option ℕ
@@ -140,7 +148,8 @@ pub found-itself : (n : ℕ) (b g : Bool) (h : Head) (m : Mark) (ts : TypedNodes
 found-itself n b g h m ts t v i f d =
     let e = f ∙ ap (λ j. capped (find (has_number n) (copied_each j 1 ts))) i in
     ap answer (sym d) ∙ answer-itself (m.node == n) (marked h m ts)
-    ∙ capped-right (find (has_number n) (copied_each (has_defers h.kind) 1 ts)) (itself (m.node == n) (marked h m ts) 1) e ∙ node-found n h m ts t v
+    ∙ capped-right (find (has_number n) (copied_each (has_defers h.kind) 1 ts)) (itself (m.node == n) (marked h m ts) 1) e ∙ node-found n h
+    m ts t v
 
 -- ---- defers
 
@@ -152,7 +161,8 @@ is_defer-block _ e = refl
 
 -- what is found in a defer, from what is found in its expression for each copy of that
 defer-found : (n d : ℕ) (h : Head) (m : Mark) (ts : TypedNodes) (t : TypedNode) → marked h m ts ≡ t → is_defer h.kind ≡ true
-    → capped (option_or (option_map (scaled d) (find (has_number n) (copied_each false 1 ts))) (itself (m.node == n) (marked h m ts) 1)) ≡ capped (find (has_number n) (copied 1 d t))
+    → capped (option_or (option_map (scaled d) (find (has_number n) (copied_each false 1 ts))) (itself (m.node == n) (marked h m ts) 1)) ≡
+    capped (find (has_number n) (copied 1 d t))
 defer-found n d h m ts t v e =
     let own = itself (m.node == n) (marked h m ts) 1 in
     ap (λ o. capped (option_or o own)) (sym (find-scaled n d (copied_each false 1 ts)))
@@ -163,7 +173,8 @@ defer-found n d h m ts t v e =
     ∙ ap capped (sym (find-copied n 1 d h m ts)) ∙ ap (λ u. capped (find (has_number n) (copied 1 d u))) v
 
 -- the copies of what was found, so many times
-capped-times : (k l : ℕ) (o : Option Copied) → Some k ≡ capped o → Some (min (k * min (min l most + 1) most) most) ≡ capped (option_map (scaled (1 * suc l)) o)
+capped-times : (k l : ℕ) (o : Option Copied) → Some k ≡ capped o →
+    Some (min (k * min (min l most + 1) most) most) ≡ capped (option_map (scaled (1 * suc l)) o)
 capped-times k l None e = cc
 capped-times k l (Some x) e =
     let h : k ≡ min x.times most = cc in
@@ -178,18 +189,26 @@ leaving-nothing : (es : List Exit) → leaving [] es ≡ es
 leaving-nothing [] = refl
 leaving-nothing (e ∷ es) = ap (λ xs. e ∷ xs) (leaving-nothing es)
 
-pub found-deferred : (n k l runs r : ℕ) (b : Bool) (fs : List Frame) (h : Head) (m : Mark) (ts behind : TypedNodes) (t : TypedNode) → marked h m ts ≡ t → is_defer h.kind ≡ true
-    → Some k ≡ capped (find (has_number n) (copied_each false 1 ts)) → fs ≡ [] → l ≡ min (length (leaving fs (exits_each behind))) most → runs ≡ min (l + 1) most → r ≡ min (k * runs) most
+pub found-deferred : (n k l runs r : ℕ) (b : Bool) (fs : List Frame) (h : Head) (m : Mark) (ts behind : TypedNodes) (t : TypedNode) →
+    marked h m ts ≡ t → is_defer h.kind ≡ true
+    → Some k ≡ capped (find (has_number n) (copied_each false 1 ts)) → fs ≡ [] → l ≡ min (length (leaving fs (exits_each behind))) most →
+    runs ≡ min (l + 1) most → r ≡ min (k * runs) most
     → b ≡ true → Some r ≡ capped (find (has_number n) (copied 1 (if b then deferred_copies 1 behind else 1) t))
 found-deferred n k l runs r b fs h m ts behind t v e f i a d c g =
-    let count : l ≡ min (length (exits_each behind)) most = a ∙ ap (λ gs. min (length (leaving gs (exits_each behind))) most) i ∙ ap (λ es. min (length es) most) (leaving-nothing (exits_each behind)) in
-    let all : r ≡ min (k * min (min (length (exits_each behind)) most + 1) most) most = c ∙ ap (λ i. min (k * i) most) d ∙ ap (λ i. min (k * min (i + 1) most) most) count in
+    let count : l ≡ min (length (exits_each behind)) most =
+    a ∙ ap (λ gs. min (length (leaving gs (exits_each behind))) most) i ∙ ap (λ es. min (length es) most)
+    (leaving-nothing (exits_each behind)) in
+    let all : r ≡ min (k * min (min (length (exits_each behind)) most + 1) most) most =
+    c ∙ ap (λ i. min (k * i) most) d ∙ ap (λ i. min (k * min (i + 1) most) most) count in
     let found = find (has_number n) (copied_each false 1 ts) in
-    capped-left (option_map (scaled (deferred_copies 1 behind)) found) (itself (m.node == n) (marked h m ts) 1) r (ap Some all ∙ capped-times k (length (exits_each behind)) found f)
-    ∙ defer-found n (deferred_copies 1 behind) h m ts t v e ∙ ap (λ j. capped (find (has_number n) (copied 1 (if j then deferred_copies 1 behind else 1) t))) (sym g)
+    capped-left (option_map (scaled (deferred_copies 1 behind)) found) (itself (m.node == n) (marked h m ts) 1) r
+    (ap Some all ∙ capped-times k (length (exits_each behind)) found f)
+    ∙ defer-found n (deferred_copies 1 behind) h m ts t v e ∙ ap
+    (λ j. capped (find (has_number n) (copied 1 (if j then deferred_copies 1 behind else 1) t))) (sym g)
 
 pub found-defer : (n d : ℕ) (b : Bool) (h : Head) (m : Mark) (ts : TypedNodes) (t : TypedNode) → marked h m ts ≡ t → is_defer h.kind ≡ true
-    → None ≡ capped (find (has_number n) (copied_each false 1 ts)) → (m.node == n) ≡ b → answer b ≡ capped (find (has_number n) (copied 1 d t))
+    → None ≡ capped (find (has_number n) (copied_each false 1 ts)) → (m.node == n) ≡ b →
+    answer b ≡ capped (find (has_number n) (copied 1 d t))
 found-defer n d b h m ts t v e f g =
     let found = find (has_number n) (copied_each false 1 ts) in
     ap answer (sym g) ∙ answer-itself (m.node == n) (marked h m ts)
@@ -206,20 +225,26 @@ abbrev pub kids_times : Bool → ℕ → List TypedNode → Option ℕ
 kids_times b n ks = capped (find (has_number n) (copied_each b 1 (typed_nodes ks)))
 
 kids-found : (b : Bool) (n : ℕ) (ks : List TypedNode) (i : ℕ) (t : TypedNode) → slice_get ks i ≡ Some t
-    → kids_times b n (drop i ks) ≡ capped (option_or (find (has_number n) (copied 1 (if b then deferred_copies 1 (typed_nodes (drop (i + 1) ks)) else 1) t)) (find (has_number n) (copied_each b 1 (typed_nodes (drop (i + 1) ks)))))
+    → kids_times b n (drop i ks) ≡ capped (option_or
+    (find (has_number n) (copied 1 (if b then deferred_copies 1 (typed_nodes (drop (i + 1) ks)) else 1) t))
+    (find (has_number n) (copied_each b 1 (typed_nodes (drop (i + 1) ks)))))
 kids-found b n ks i t e =
     let rest = drop (i + 1) ks in
     ap (λ us. kids_times b n us) (drop-get ks i t e)
-    ∙ ap capped (find-append (has_number n) (copied 1 (if b then deferred_copies 1 (typed_nodes rest) else 1) t) (copied_each b 1 (typed_nodes rest)))
+    ∙ ap capped (find-append (has_number n) (copied 1 (if b then deferred_copies 1 (typed_nodes rest) else 1) t)
+    (copied_each b 1 (typed_nodes rest)))
 
-pub found-here : (b : Bool) (n k : ℕ) (ks : List TypedNode) (i : ℕ) (t : TypedNode) → slice_get ks i ≡ Some t → Some k ≡ kid_times b n ks i t
+pub found-here : (b : Bool) (n k : ℕ) (ks : List TypedNode) (i : ℕ) (t : TypedNode) → slice_get ks i ≡ Some t →
+    Some k ≡ kid_times b n ks i t
     → kids_times b n (drop i ks) ≡ kids_times b n ks → Some k ≡ kids_times b n ks
 found-here b n k ks i t e h w =
-    capped-left (find (has_number n) (copied 1 (if b then deferred_copies 1 (typed_nodes (drop (i + 1) ks)) else 1) t)) (find (has_number n) (copied_each b 1 (typed_nodes (drop (i + 1) ks)))) k h
+    capped-left (find (has_number n) (copied 1 (if b then deferred_copies 1 (typed_nodes (drop (i + 1) ks)) else 1) t))
+    (find (has_number n) (copied_each b 1 (typed_nodes (drop (i + 1) ks)))) k h
     ∙ sym (kids-found b n ks i t e) ∙ w
 
 pub found-later : (b : Bool) (n : ℕ) (ks : List TypedNode) (i : ℕ) (t : TypedNode) → slice_get ks i ≡ Some t → None ≡ kid_times b n ks i t
     → kids_times b n (drop i ks) ≡ kids_times b n ks → kids_times b n (drop (i + 1) ks) ≡ kids_times b n ks
 found-later b n ks i t e h w =
-    capped-right (find (has_number n) (copied 1 (if b then deferred_copies 1 (typed_nodes (drop (i + 1) ks)) else 1) t)) (find (has_number n) (copied_each b 1 (typed_nodes (drop (i + 1) ks)))) h
+    capped-right (find (has_number n) (copied 1 (if b then deferred_copies 1 (typed_nodes (drop (i + 1) ks)) else 1) t))
+    (find (has_number n) (copied_each b 1 (typed_nodes (drop (i + 1) ks)))) h
     ∙ sym (kids-found b n ks i t e) ∙ w

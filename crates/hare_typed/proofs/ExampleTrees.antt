@@ -89,7 +89,8 @@ types = record {
   names = codes "a" ∷ codes "b" ∷ [];
   rows = row.Scalar word.Void ∷ row.Scalar word.Int ∷ row.Scalar word.Str ∷ row.Scalar word.U8 ∷ row.Scalar word.Size ∷ row.Scalar word.Bool
       ∷ row.Error 0 ∷ row.Union (0 ∷ 1 ∷ []) ∷ row.Union (1 ∷ 2 ∷ 6 ∷ []) ∷ row.Slice 3 ∷ row.Pointer 9 ∷ row.Pointer 10 ∷ row.Nullable 3
-      ∷ row.Array 3 1 ∷ row.Struct (record { name = 0; ty = 1 } ∷ record { name = 1; ty = 3 } ∷ []) ∷ row.Named 7 ∷ row.Pointer 15 ∷ row.Named 8
+      ∷ row.Array 3 1 ∷ row.Struct (record { name = 0; ty = 1 } ∷ record { name = 1; ty = 3 } ∷ []) ∷ row.Named 7 ∷ row.Pointer 15 ∷
+      row.Named 8
       ∷ row.Scalar word.Never ∷ row.Named 9 ∷ [];
   declared = (7, record { sized = true; definition = Some 16 }) ∷ (8, record { sized = true; definition = Some 8 })
       ∷ (9, record { sized = true; definition = Some 0 }) ∷ [];

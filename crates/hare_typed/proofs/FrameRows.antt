@@ -1,4 +1,5 @@
--- Frame bounds and copied weights of small functions, worked out by hand. A node of weight 1 whose size is at most 16 bytes adds 256 and twice
+-- Frame bounds and copied weights of small functions, worked out by hand. A node of weight 1 whose size is at most 16 bytes adds 256 and
+-- twice
 -- 16, so 288; one of 17 to 32 bytes 320.
 use Rattle.std.proofs.Common.{◌≡◌, ℕ, ◌+◌, ◌*◌, [], ◌∷◌, codes, refl}
 use Rattle.hare_tree.specs.declared.kind.Kind.TheVariants as kind
@@ -37,7 +38,8 @@ parameters_frame = refl
 parameters_weight : weight with_parameters ≡ 3
 parameters_weight = refl
 
--- ---- `fn f() void = { defer f(); return; };`: the call with its two kids has two copies; beside it stand the defer, the return with its kid, and
+-- ---- `fn f() void = { defer f(); return; };`: the call with its two kids has two copies; beside it stand the defer, the return with its
+-- kid, and
 -- the block
 
 abbrev with_defer : TypedNode
@@ -60,7 +62,8 @@ let_frame = refl
 let_weight : weight with_let ≡ 4
 let_weight = refl
 
--- ---- `fn f(x: (int | str | !void)) void = match (x) { case let i: int => void; case => void; };`: the operand and the parameter have 32 bytes; the
+-- ---- `fn f(x: (int | str | !void)) void = match (x) { case let i: int => void; case => void; };`: the operand and the parameter have 32
+-- bytes; the
 -- match has a weight of 4; seven nodes stand in its cases
 
 abbrev with_match : TypedNode
@@ -74,7 +77,8 @@ match_frame = refl
 match_weight : weight with_match ≡ 1 + 7 + 4 + 1
 match_weight = refl
 
--- ---- `fn f(s: []u8) void = for (let e & .. s) void;`: the binding with its kid, the slice of 24 bytes, the body, the loop, and the parameter
+-- ---- `fn f(s: []u8) void = for (let e & .. s) void;`: the binding with its kid, the slice of 24 bytes, the body, the loop, and the
+-- parameter
 
 abbrev with_loop : TypedNode → TypedNode
 with_loop by_reference = function (param bytes ∷ [])
@@ -120,12 +124,14 @@ size_of_reference = refl
 without_size : node_size types (path never) ≡ 0
 without_size = refl
 
--- ---- `fn f(a: bool) void = { defer rt::puts("x"); if (a) return; };`: the call, its callee and the place of a comma twice, the text of 24 bytes twice, and
+-- ---- `fn f(a: bool) void = { defer rt::puts("x"); if (a) return; };`: the call, its callee and the place of a comma twice, the text of 24
+-- bytes twice, and
 -- eight nodes once
 
 abbrev with_text : TypedNode
 with_text = function (param bool ∷ [])
-    (block (defer (tree kind.Call void (path void ∷ tree kind.Str str [] ∷ none ∷ [])) ∷ tree kind.If void (path bool ∷ returning ∷ none ∷ []) ∷ []))
+    (block (defer (tree kind.Call void (path void ∷ tree kind.Str str [] ∷ none ∷ [])) ∷ tree kind.If void
+    (path bool ∷ returning ∷ none ∷ []) ∷ []))
 
 text_frame : frame with_text ≡ 64 + 14 * 288 + 2 * 320
 text_frame = refl

@@ -32,14 +32,17 @@ base_within s t b is = let row = row_of_tree s b is.1 is.3 in slice_get_within s
 
 -- ---- pointers
 
-pub followed-step : (n m : ℕ) (s : Store) (t : Ty) (i : ℕ) → n ≡ suc m → pointee s t ≡ Some i → followed_within n s t ≡ 1 + followed_within m s (ty.Of i)
+pub followed-step : (n m : ℕ) (s : Store) (t : Ty) (i : ℕ) → n ≡ suc m → pointee s t ≡ Some i →
+    followed_within n s t ≡ 1 + followed_within m s (ty.Of i)
 followed-step n m s t i h e = ap (λ k. followed_within k s t) h ∙ ap (one_more (followed_within m s)) e ∙ omega arith
 
 -- one pointer more has been followed
-pub followed-more : (p : ℕ) (s : Store) (t : Ty) (i all : ℕ) → p < 16 → pointee s t ≡ Some i → p + followed_within (16 - p) s t ≡ all → p + 1 + followed_within (16 - (p + 1)) s (ty.Of i) ≡ all
+pub followed-more : (p : ℕ) (s : Store) (t : Ty) (i all : ℕ) → p < 16 → pointee s t ≡ Some i → p + followed_within (16 - p) s t ≡ all →
+    p + 1 + followed_within (16 - (p + 1)) s (ty.Of i) ≡ all
 followed-more p s t i all h e k =
     let left : 16 - p ≡ suc (16 - (p + 1)) = omega arith in
-    let step : followed_within (16 - p) s t ≡ 1 + followed_within (16 - (p + 1)) s (ty.Of i) = followed-step (16 - p) (16 - (p + 1)) s t i left e in
+    let step : followed_within (16 - p) s t ≡ 1 + followed_within (16 - (p + 1)) s (ty.Of i) =
+    followed-step (16 - p) (16 - (p + 1)) s t i left e in
     omega arith
 
 -- ---- items

@@ -29,12 +29,15 @@ nodes_of-map_erase [] = refl
 nodes_of-map_erase (t ∷ ts) = ap (λ us. more (erase t) us) (nodes_of-map_erase ts)
 
 -- a tree is erased once its text is copied and its kids are erased
-pub branch-map_erase : (h : Head) (m : Mark) (x : List ℕ) (ts : List TypedNode) (t : TypedNode) (us : List Node) → marked h m (typed_nodes ts) ≡ t → x ≡ h.text → us ≡ map erase ts → branch (record h { text = x }) (nodes_of us) ≡ erase t
+pub branch-map_erase : (h : Head) (m : Mark) (x : List ℕ) (ts : List TypedNode) (t : TypedNode) (us : List Node) →
+    marked h m (typed_nodes ts) ≡ t → x ≡ h.text → us ≡ map erase ts → branch (record h { text = x }) (nodes_of us) ≡ erase t
 branch-map_erase h m x ts t us v k e =
-    ap (λ y. branch (record h { text = y }) (nodes_of us)) k ∙ ap (λ xs. branch h (nodes_of xs)) e ∙ ap (branch h) (nodes_of-map_erase ts) ∙ ap erase v
+    ap (λ y. branch (record h { text = y }) (nodes_of us)) k ∙ ap (λ xs. branch h (nodes_of xs)) e ∙ ap (branch h) (nodes_of-map_erase ts) ∙
+    ap erase v
 
 -- one more kid is erased
-pub map_erase-push : (ts : List TypedNode) (us vs : List Node) (i : ℕ) (x : TypedNode) (u : Node) → slice_get ts i ≡ Some x → us ≡ map erase (take i ts) → u ≡ erase x → vs ≡ us ++ u ∷ [] → vs ≡ map erase (take (i + 1) ts)
+pub map_erase-push : (ts : List TypedNode) (us vs : List Node) (i : ℕ) (x : TypedNode) (u : Node) → slice_get ts i ≡ Some x →
+    us ≡ map erase (take i ts) → u ≡ erase x → vs ≡ us ++ u ∷ [] → vs ≡ map erase (take (i + 1) ts)
 map_erase-push ts us vs i x u e h k l =
     let a : us ++ u ∷ [] ≡ map erase (take i ts) ++ erase x ∷ [] = cc in
     l ∙ a ∙ sym (map_push erase (take i ts) x) ∙ sym (ap (map erase) (take-get ts i x e))

@@ -72,7 +72,8 @@ module _ (now later : Store) (v : IsStore now) (l : IsLater now later) (bases : 
       let b = based t h in
       ap (λ o. count_of (option_and_then (λ c. option_and_then members_of (row_at later c)) o)) (keeps.base t b.base b.is_base)
       ∙ ap (λ o. count_of (option_and_then members_of o)) (keeps.row b.base b.row_of b.is_row)
-      ∙ sym (ap (λ o. count_of (option_and_then (λ c. option_and_then members_of (row_at now c)) o)) b.is_base ∙ ap (λ o. count_of (option_and_then members_of o)) b.is_row)
+      ∙ sym (ap (λ o. count_of (option_and_then (λ c. option_and_then members_of (row_at now c)) o)) b.is_base ∙ ap
+      (λ o. count_of (option_and_then members_of o)) b.is_row)
   members-stay (ty.Iconst n) h = refl
   members-stay ty.Null h = refl
   members-stay ty.Empty h = refl
@@ -82,7 +83,8 @@ module _ (now later : Store) (v : IsStore now) (l : IsLater now later) (bases : 
   pointee-in : (t : Ty) (i : ℕ) → IsIn now t → pointee now t ≡ Some i → i < length now.rows
   pointee-in (ty.Of t) i h e =
       let b = based t h in
-      let r : b.row_of ≡ row.Pointer i = pointer-row b.row_of i (sym (ap pointee_in (ap (option_and_then (row_at now)) b.is_base ∙ b.is_row)) ∙ e) in
+      let r : b.row_of ≡ row.Pointer i = pointer-row b.row_of i
+      (sym (ap pointee_in (ap (option_and_then (row_at now)) b.is_base ∙ b.is_row)) ∙ e) in
       let at : row_at now b.base ≡ Some (row.Pointer i) = b.is_row ∙ ap Some r in
       let below : i < b.base = v.rows_sound.within b.base (row.Pointer i) at in
       let within : b.base < length now.rows = slice_get_within now.rows b.base (row.Pointer i) at in
@@ -93,9 +95,12 @@ module _ (now later : Store) (v : IsStore now) (l : IsLater now later) (bases : 
 
   followed-stays : (n : ℕ) (t : Ty) → IsIn now t → followed_within n later t ≡ followed_within n now t
   followed-stays zero t h = refl
-  followed-stays (suc n) t h = ap (one_more (followed_within n later)) (ap pointee_in (row-stays t h)) ∙ more (pointee now t) refl (λ i e. followed-stays n (ty.Of i) (pointee-in t i h e))
+  followed-stays (suc n) t h = ap (one_more (followed_within n later)) (ap pointee_in (row-stays t h)) ∙ more (pointee now t) refl
+      (λ i e. followed-stays n (ty.Of i) (pointee-in t i h e))
     where
-      more : (o : Option ℕ) → pointee now t ≡ o → ((i : ℕ) → pointee now t ≡ Some i → followed_within n later (ty.Of i) ≡ followed_within n now (ty.Of i)) → one_more (followed_within n later) o ≡ one_more (followed_within n now) o
+      more : (o : Option ℕ) → pointee now t ≡ o →
+          ((i : ℕ) → pointee now t ≡ Some i → followed_within n later (ty.Of i) ≡ followed_within n now (ty.Of i)) →
+          one_more (followed_within n later) o ≡ one_more (followed_within n now) o
       more None e f = refl
       more (Some i) e f = ap suc (f i e)
 
@@ -141,7 +146,8 @@ module _ (now later : Store) (v : IsStore now) (l : IsLater now later) (bases : 
       let d = passed-stays h.kind ts from in
       sums a b c (items_of h.kind ts) d
     where
-      sums : {a1 a2 b1 b2 c1 c2 : ℕ} → a1 ≡ a2 → b1 ≡ b2 → c1 ≡ c2 → (i : ℕ) → {d1 d2 : ℕ} → d1 ≡ d2 → a1 + b1 + c1 + i + d1 ≡ a2 + b2 + c2 + i + d2
+      sums : {a1 a2 b1 b2 c1 c2 : ℕ} → a1 ≡ a2 → b1 ≡ b2 → c1 ≡ c2 → (i : ℕ) → {d1 d2 : ℕ} → d1 ≡ d2 →
+          a1 + b1 + c1 + i + d1 ≡ a2 + b2 + c2 + i + d2
       sums a b c i d = omega arith
 
 pub weights_stay : WeightsStay

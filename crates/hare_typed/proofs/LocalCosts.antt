@@ -72,7 +72,8 @@ passed-same s kind.Index ts us e = ap (followed s) e
 passed-same s kind.Slice ts us e = ap (followed s) e
 passed-same s _ ts us e = refl
 
-sums : {a1 a2 b1 b2 c1 c2 d1 d2 e1 e2 : ℕ} → a1 ≡ a2 → b1 ≡ b2 → c1 ≡ c2 → d1 ≡ d2 → e1 ≡ e2 → a1 + b1 + c1 + d1 + e1 ≡ a2 + b2 + c2 + d2 + e2
+sums : {a1 a2 b1 b2 c1 c2 d1 d2 e1 e2 : ℕ} → a1 ≡ a2 → b1 ≡ b2 → c1 ≡ c2 → d1 ≡ d2 → e1 ≡ e2 →
+    a1 + b1 + c1 + d1 + e1 ≡ a2 + b2 + c2 + d2 + e2
 sums a b c d e = omega arith
 
 weights-same : (s : Store) (t u : TypedNode) → SameAbove t u → weight_of s t ≡ weight_of s u
@@ -81,7 +82,8 @@ weights-same s (marked h m ts) (marked g n us) e =
     let k : h ≡ g = cc in
     let first = first-same ts us e.kids_give in
     ap (λ x. weight_of s (marked x m ts)) k
-    ∙ sums (begins-same s g.kind ts us first) (ap (coerced s) e.coercions) (handled-same s g.kind ts us first) (items-same g.kind ts us (count-same ts us e.kids_give)) (passed-same s g.kind ts us first)
+    ∙ sums (begins-same s g.kind ts us first) (ap (coerced s) e.coercions) (handled-same s g.kind ts us first)
+    (items-same g.kind ts us (count-same ts us e.kids_give)) (passed-same s g.kind ts us first)
 
 -- ---- sizes
 
@@ -104,7 +106,8 @@ turn-same : (s : Store) (k : Kind) (ts us : TypedNodes) → second_given ts ≡ 
 turn-same s kind.ByRef ts us e = refl
 turn-same s _ ts us e = ap (λ t. size_of_element s (element s t)) e
 
-bound-same : (s : Store) (k : Kind) (ts us : TypedNodes) → erase_each ts ≡ erase_each us → givens ts ≡ givens us → bound_size s k ts ≡ bound_size s k us
+bound-same : (s : Store) (k : Kind) (ts us : TypedNodes) → erase_each ts ≡ erase_each us → givens ts ≡ givens us →
+    bound_size s k ts ≡ bound_size s k us
 bound-same s kind.Let ts us e f = ap (size_in s) (second-same ts us f)
 bound-same s kind.Const ts us e f = ap (size_in s) (second-same ts us f)
 bound-same s kind.Param ts us e f = ap (size_in s) (first-same ts us f)
@@ -147,16 +150,20 @@ abbrev times_at : Copied → ℕ
 times_at x = x.times
 
 mutual
-  times-same : (own deferred : ℕ) (t u : TypedNode) → erase t ≡ erase u → map times_at (copied own deferred t) ≡ map times_at (copied own deferred u)
+  times-same : (own deferred : ℕ) (t u : TypedNode) → erase t ≡ erase u →
+      map times_at (copied own deferred t) ≡ map times_at (copied own deferred u)
   times-same own deferred (marked h m ts) (marked g n us) e =
       let k : h ≡ g = cc in
       let r : erase_each ts ≡ erase_each us = cc in
       ap (λ x. map times_at (copied own deferred (marked x m ts))) k
-      ∙ map-append times_at (copied_each (has_defers g.kind) (inner_copies g.kind own deferred) ts) (record { tree = marked g m ts; times = own } ∷ [])
+      ∙ map-append times_at (copied_each (has_defers g.kind) (inner_copies g.kind own deferred) ts)
+      (record { tree = marked g m ts; times = own } ∷ [])
       ∙ ap (λ x. x ++ own ∷ []) (times_each-same (has_defers g.kind) (inner_copies g.kind own deferred) ts us r)
-      ∙ sym (map-append times_at (copied_each (has_defers g.kind) (inner_copies g.kind own deferred) us) (record { tree = marked g n us; times = own } ∷ []))
+      ∙ sym (map-append times_at (copied_each (has_defers g.kind) (inner_copies g.kind own deferred) us)
+      (record { tree = marked g n us; times = own } ∷ []))
 
-  times_each-same : (b : Bool) (own : ℕ) (ts us : TypedNodes) → erase_each ts ≡ erase_each us → map times_at (copied_each b own ts) ≡ map times_at (copied_each b own us)
+  times_each-same : (b : Bool) (own : ℕ) (ts us : TypedNodes) → erase_each ts ≡ erase_each us →
+      map times_at (copied_each b own ts) ≡ map times_at (copied_each b own us)
   times_each-same b own typed_none typed_none e = refl
   times_each-same b own typed_none (typed_more u us) e = cc
   times_each-same b own (typed_more t ts) typed_none e = cc
@@ -189,7 +196,8 @@ kids-same (marked h m ts) (marked g n us) e =
     let k : branch h (erase_each ts) ≡ branch g (erase_each us) = e in
     cc
 
-last-same : (ts us : List TypedNode) → erased ts ≡ erased us → map times_at (flat_map (copied 1 1) (last_of ts)) ≡ map times_at (flat_map (copied 1 1) (last_of us))
+last-same : (ts us : List TypedNode) → erased ts ≡ erased us →
+    map times_at (flat_map (copied 1 1) (last_of ts)) ≡ map times_at (flat_map (copied 1 1) (last_of us))
 last-same [] [] e = refl
 last-same [] (u ∷ us) e = cc
 last-same (t ∷ ts) [] e = cc
@@ -207,11 +215,13 @@ third-same n (t ∷ ts) [] e = cc
 third-same zero (t ∷ ts) (u ∷ us) e = cc
 third-same (suc n) (t ∷ ts) (u ∷ us) e = let r : erased ts ≡ erased us = cc in third-same n ts us r
 
-one-more : (b : Bool) (t : TypedNode) (ts : List TypedNode) → map times_at (map once (cond b (t ∷ []) [] ++ ts)) ≡ cond b (1 ∷ []) [] ++ map times_at (map once ts)
+one-more : (b : Bool) (t : TypedNode) (ts : List TypedNode) →
+    map times_at (map once (cond b (t ∷ []) [] ++ ts)) ≡ cond b (1 ∷ []) [] ++ map times_at (map once ts)
 one-more true t ts = refl
 one-more false t ts = refl
 
-parameters-same : (ts us : TypedNodes) → erase_each ts ≡ erase_each us → map times_at (map once (params_among ts)) ≡ map times_at (map once (params_among us))
+parameters-same : (ts us : TypedNodes) → erase_each ts ≡ erase_each us →
+    map times_at (map once (params_among ts)) ≡ map times_at (map once (params_among us))
 parameters-same typed_none typed_none e = refl
 parameters-same typed_none (typed_more u us) e = cc
 parameters-same (typed_more t ts) typed_none e = cc
@@ -222,15 +232,18 @@ parameters-same (typed_more t ts) (typed_more u us) e =
     ∙ ap₂ (λ x y. cond (is_param x) (1 ∷ []) [] ++ y) (kind-same t u k) (parameters-same ts us r)
     ∙ sym (one-more (is_param (kind_of u)) u (params_among us))
 
-bodies-same : (t u : TypedNode) → erase t ≡ erase u → map times_at (flat_map (copied 1 1) (body_of t)) ≡ map times_at (flat_map (copied 1 1) (body_of u))
+bodies-same : (t u : TypedNode) → erase t ≡ erase u →
+    map times_at (flat_map (copied 1 1) (body_of t)) ≡ map times_at (flat_map (copied 1 1) (body_of u))
 bodies-same t u e = last-same (listed_nodes (kids_of t)) (listed_nodes (kids_of u)) (listed-same (kids_of t) (kids_of u) (kids-same t u e))
 
 counted-same : (k : Kind) (t u : TypedNode) → erase t ≡ erase u → map times_at (counted_by k t) ≡ map times_at (counted_by k u)
 counted-same kind.Fn t u e =
-    let params = third-same 2 (listed_nodes (kids_of t)) (listed_nodes (kids_of u)) (listed-same (kids_of t) (kids_of u) (kids-same t u e)) in
+    let params = third-same 2 (listed_nodes (kids_of t)) (listed_nodes (kids_of u))
+    (listed-same (kids_of t) (kids_of u) (kids-same t u e)) in
     let third = λ (x : TypedNode). tree_from_front 2 (listed_nodes (kids_of x)) in
     map-append times_at (flat_map (copied 1 1) (body_of t)) (map once (parameters_of t))
-    ∙ ap₂ (λ x y. x ++ y) (bodies-same t u e) (parameters-same (kids_of (third t)) (kids_of (third u)) (kids-same (third t) (third u) params))
+    ∙ ap₂ (λ x y. x ++ y) (bodies-same t u e)
+    (parameters-same (kids_of (third t)) (kids_of (third u)) (kids-same (third t) (third u) params))
     ∙ sym (map-append times_at (flat_map (copied 1 1) (body_of u)) (map once (parameters_of u)))
 counted-same kind.Def t u e = bodies-same t u e
 counted-same kind.GlobalLet t u e = bodies-same t u e

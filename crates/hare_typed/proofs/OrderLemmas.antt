@@ -31,7 +31,8 @@ tree_of x = x.tree
 mutual
   map-tree_of : (own deferred : ℕ) (t : TypedNode) → map tree_of (copied own deferred t) ≡ check_order t
   map-tree_of own deferred (marked h m ts) =
-      map-append tree_of (copied_each (has_defers h.kind) (inner_copies h.kind own deferred) ts) (record { tree = marked h m ts; times = own } ∷ [])
+      map-append tree_of (copied_each (has_defers h.kind) (inner_copies h.kind own deferred) ts)
+      (record { tree = marked h m ts; times = own } ∷ [])
       ∙ ap (λ us. us ++ marked h m ts ∷ []) (map-tree_of_each (has_defers h.kind) (inner_copies h.kind own deferred) ts)
 
   map-tree_of_each : (b : Bool) (own : ℕ) (ts : TypedNodes) → map tree_of (copied_each b own ts) ≡ check_order_each ts
@@ -42,7 +43,8 @@ mutual
 
 bodies-counted : (ts : List TypedNode) → map tree_of (flat_map (copied 1 1) ts) ≡ flat_map check_order ts
 bodies-counted [] = refl
-bodies-counted (t ∷ ts) = map-append tree_of (copied 1 1 t) (flat_map (copied 1 1) ts) ∙ ap₂ (λ a b. a ++ b) (map-tree_of 1 1 t) (bodies-counted ts)
+bodies-counted (t ∷ ts) = map-append tree_of (copied 1 1 t) (flat_map (copied 1 1) ts) ∙ ap₂ (λ a b. a ++ b) (map-tree_of 1 1 t)
+    (bodies-counted ts)
 
 map-once : (ts : List TypedNode) → map tree_of (map once ts) ≡ ts
 map-once [] = refl
@@ -59,7 +61,8 @@ counted-trees _ t = refl
 
 -- ---- numbers
 
-place-from : (n : ℕ) (ts : List TypedNode) (i : ℕ) (u : TypedNode) → map number_of ts ≡ numbers_from n ts → slice_get ts i ≡ Some u → number_of u ≡ n + i
+place-from : (n : ℕ) (ts : List TypedNode) (i : ℕ) (u : TypedNode) → map number_of ts ≡ numbers_from n ts → slice_get ts i ≡ Some u →
+    number_of u ≡ n + i
 place-from n [] i u e h = cc
 place-from n (t ∷ ts) zero u e h = let k : number_of t ≡ n = cc in let l : t ≡ u = cc in ap number_of (sym l) ∙ k ∙ omega arith
 place-from n (t ∷ ts) (suc i) u e h = let k : map number_of ts ≡ numbers_from (suc n) ts = cc in place-from (suc n) ts i u k h ∙ omega arith

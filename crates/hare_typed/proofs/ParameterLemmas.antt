@@ -26,12 +26,15 @@ first-parameter n t ts true true e f =
 first-parameter n t ts true false e f =
     ap (λ b. times_of (find (has_number n) (map once (cond b (t ∷ []) [] ++ params_among (typed_nodes ts))))) e
     ∙ ap (λ d. times_of (cond d (Some (once t)) (find (has_number n) (map once (params_among (typed_nodes ts)))))) f
-first-parameter n t ts false d e f = ap (λ b. times_of (find (has_number n) (map once (cond b (t ∷ []) [] ++ params_among (typed_nodes ts))))) e
+first-parameter n t ts false d e f = ap (λ b. times_of
+    (find (has_number n) (map once (cond b (t ∷ []) [] ++ params_among (typed_nodes ts))))) e
 
-pub parameter-here : (n : ℕ) (ts : List TypedNode) (i : ℕ) (t x : TypedNode) → slice_get ts i ≡ Some t → x ≡ t → is_param (kind_of x) ≡ true → (number_of x == n) ≡ true
+pub parameter-here : (n : ℕ) (ts : List TypedNode) (i : ℕ) (t x : TypedNode) → slice_get ts i ≡ Some t → x ≡ t →
+    is_param (kind_of x) ≡ true → (number_of x == n) ≡ true
     → parameter_times n (drop i ts) ≡ parameter_times n ts → 1 ≡ parameter_times n ts
 parameter-here n ts i t x e v p q w =
-    sym (first-parameter n t (drop (i + 1) ts) true true (ap (λ u. is_param (kind_of u)) (sym v) ∙ p) (ap (λ u. number_of u == n) (sym v) ∙ q))
+    sym (first-parameter n t (drop (i + 1) ts) true true (ap (λ u. is_param (kind_of u)) (sym v) ∙ p)
+    (ap (λ u. number_of u == n) (sym v) ∙ q))
     ∙ sym (ap (parameter_times n) (drop-get ts i t e)) ∙ w
 
 choice-same : (b d : Bool) (a : ℕ) → (b ≡ false) ⊎ (d ≡ false) → cond b (cond d 1 a) a ≡ a
@@ -39,11 +42,13 @@ choice-same b d a (inl e) = ap (λ c. cond c (cond d 1 a) a) e
 choice-same true d a (inr e) = ap (λ c. cond c 1 a) e
 choice-same false d a (inr e) = refl
 
-pub parameter-later : (n : ℕ) (ts : List TypedNode) (i : ℕ) (t x : TypedNode) → slice_get ts i ≡ Some t → x ≡ t → (is_param (kind_of x) ≡ false) ⊎ ((number_of x == n) ≡ false)
+pub parameter-later : (n : ℕ) (ts : List TypedNode) (i : ℕ) (t x : TypedNode) → slice_get ts i ≡ Some t → x ≡ t →
+    (is_param (kind_of x) ≡ false) ⊎ ((number_of x == n) ≡ false)
     → parameter_times n (drop i ts) ≡ parameter_times n ts → parameter_times n (drop (i + 1) ts) ≡ parameter_times n ts
 parameter-later n ts i t x e v p w =
     sym (choice-same (is_param (kind_of x)) (number_of x == n) (parameter_times n (drop (i + 1) ts)) p)
-    ∙ sym (first-parameter n t (drop (i + 1) ts) (is_param (kind_of x)) (number_of x == n) (ap (λ u. is_param (kind_of u)) (sym v)) (ap (λ u. number_of u == n) (sym v)))
+    ∙ sym (first-parameter n t (drop (i + 1) ts) (is_param (kind_of x)) (number_of x == n) (ap (λ u. is_param (kind_of u)) (sym v))
+    (ap (λ u. number_of u == n) (sym v)))
     ∙ sym (ap (parameter_times n) (drop-get ts i t e)) ∙ w
 
 -- ---- the third kid of a function
@@ -65,18 +70,21 @@ front-past [] i e = refl
 front-past (u ∷ us) zero e = absurd (omega arith)
 front-past (u ∷ us) (suc i) e = front-past us i (omega arith)
 
-third-of : (n : ℕ) (h : Head) (m : Mark) (ks : List TypedNode) (f t : TypedNode) → marked h m (typed_nodes ks) ≡ f → tree_from_front 2 ks ≡ t
+third-of : (n : ℕ) (h : Head) (m : Mark) (ks : List TypedNode) (f t : TypedNode) → marked h m (typed_nodes ks) ≡ f →
+    tree_from_front 2 ks ≡ t
     → times_of (find (has_number n) (map once (params_among (kids_of t)))) ≡ third_times n f
 third-of n h m ks f t v e =
     ap (λ u. times_of (find (has_number n) (map once (params_among (kids_of u))))) (sym e ∙ sym (ap (tree_from_front 2) (listed-typed ks)))
     ∙ ap (third_times n) v
 
-pub third-get : (n : ℕ) (h : Head) (m : Mark) (ks : List TypedNode) (f : TypedNode) (x : Head) (y : Mark) (us : List TypedNode) (t : TypedNode) → marked h m (typed_nodes ks) ≡ f
+pub third-get : (n : ℕ) (h : Head) (m : Mark) (ks : List TypedNode) (f : TypedNode) (x : Head) (y : Mark) (us : List TypedNode)
+    (t : TypedNode) → marked h m (typed_nodes ks) ≡ f
     → slice_get ks 2 ≡ Some t → marked x y (typed_nodes us) ≡ t → parameter_times n us ≡ third_times n f
 third-get n h m ks f x y us t v e w =
     ap (λ u. times_of (find (has_number n) (map once (params_among (kids_of u))))) w ∙ third-of n h m ks f t v (front-get ks 2 t e)
 
-pub third-past : (n : ℕ) (h : Head) (m : Mark) (ks : List TypedNode) (f : TypedNode) → marked h m (typed_nodes ks) ≡ f → length ks ≤ 2 → 0 ≡ third_times n f
+pub third-past : (n : ℕ) (h : Head) (m : Mark) (ks : List TypedNode) (f : TypedNode) → marked h m (typed_nodes ks) ≡ f → length ks ≤ 2 →
+    0 ≡ third_times n f
 third-past n h m ks f v e = third-of n h m ks f missing v (front-past ks 2 e)
 
 -- ---- bodies
@@ -92,7 +100,8 @@ abbrev pub body_times : ℕ → TypedNode → Option ℕ
 body_times n f = capped (find (has_number n) (flat_map (copied 1 1) (body_of f)))
 
 -- what is found in the last kid is found in the body
-pub body-last : (n : ℕ) (h : Head) (m : Mark) (ks : List TypedNode) (f : TypedNode) (i : ℕ) (t : TypedNode) → marked h m (typed_nodes ks) ≡ f → i + 1 ≡ length ks → slice_get ks i ≡ Some t
+pub body-last : (n : ℕ) (h : Head) (m : Mark) (ks : List TypedNode) (f : TypedNode) (i : ℕ) (t : TypedNode) →
+    marked h m (typed_nodes ks) ≡ f → i + 1 ≡ length ks → slice_get ks i ≡ Some t
     → capped (find (has_number n) (copied 1 1 t)) ≡ body_times n f
 body-last n h m ks f i t v w e =
     ap (λ xs. capped (find (has_number n) xs)) (sym (append-nil (copied 1 1 t)))
@@ -119,8 +128,10 @@ or-other (Some x) b e = cc
 
 -- a function's body comes before its parameters
 function-found : (n : ℕ) (f : TypedNode) → kind_of f ≡ kind.Fn
-    → find (has_number n) (counted f) ≡ option_or (find (has_number n) (flat_map (copied 1 1) (body_of f))) (find (has_number n) (map once (parameters_of f)))
-function-found n f e = ap (λ k. find (has_number n) (counted_by k f)) e ∙ find-append (has_number n) (flat_map (copied 1 1) (body_of f)) (map once (parameters_of f))
+    → find (has_number n) (counted f) ≡ option_or (find (has_number n) (flat_map (copied 1 1) (body_of f)))
+    (find (has_number n) (map once (parameters_of f)))
+function-found n f e = ap (λ k. find (has_number n) (counted_by k f)) e ∙ find-append (has_number n) (flat_map (copied 1 1) (body_of f))
+    (map once (parameters_of f))
 
 pub copies-body : (n k : ℕ) (f : TypedNode) → kind_of f ≡ kind.Fn → Some k ≡ body_times n f → k ≡ min (copies_of f n) most
 copies-body n k f e g =
@@ -136,7 +147,8 @@ one-at-most : (n : ℕ) (ts : List TypedNode) → times_of (find (has_number n) 
 one-at-most n [] = omega arith
 one-at-most n (t ∷ ts) = one-or-other (number_of t == n) t (find (has_number n) (map once ts)) (one-at-most n ts)
 
-pub copies-parameter : (n k : ℕ) (f : TypedNode) → kind_of f ≡ kind.Fn → None ≡ body_times n f → k ≡ third_times n f → k ≡ min (copies_of f n) most
+pub copies-parameter : (n k : ℕ) (f : TypedNode) → kind_of f ≡ kind.Fn → None ≡ body_times n f → k ≡ third_times n f →
+    k ≡ min (copies_of f n) most
 copies-parameter n k f e g p =
     let body = find (has_number n) (flat_map (copied 1 1) (body_of f)) in
     let others = find (has_number n) (map once (parameters_of f)) in

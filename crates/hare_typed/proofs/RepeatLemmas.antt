@@ -54,7 +54,8 @@ drop-behind (x ∷ xs) cs (suc n) k e =
     ap (λ i. drop i ((x ∷ xs) ++ cs)) l ∙ drop-behind xs cs n k (omega arith)
 
 -- the same behind other cells
-pub with_repeat-moved : (n : ℕ) (r : Repeat) (xs cs : List Cell) → length xs ≡ n → with_repeat (moved n r) (xs ++ cs) ≡ xs ++ with_repeat r cs
+pub with_repeat-moved : (n : ℕ) (r : Repeat) (xs cs : List Cell) → length xs ≡ n →
+    with_repeat (moved n r) (xs ++ cs) ≡ xs ++ with_repeat r cs
 with_repeat-moved n r xs cs e =
     let a : take (n + r.to) (xs ++ cs) ≡ xs ++ take r.to cs = take-behind xs cs n r.to e in
     let b : drop (n + r.to) (xs ++ cs) ≡ drop r.to cs = drop-behind xs cs n r.to e in
@@ -97,7 +98,8 @@ get_before r cs at l h =
     let b = slice_get_front (take r.to cs) (drop r.to cs) at (omega arith) in
     a ∙ sym b ∙ ap (λ xs. slice_get xs at) (take-append-drop r.to cs)
 
-pub get_within : (r : Repeat) (cs : List Cell) (at q k : ℕ) → r.from < r.to → r.to ≤ length cs → q < r.more → k < r.to - r.from → at ≡ r.to + (q * (r.to - r.from) + k) → slice_get (with_repeat r cs) at ≡ slice_get cs (r.from + k)
+pub get_within : (r : Repeat) (cs : List Cell) (at q k : ℕ) → r.from < r.to → r.to ≤ length cs → q < r.more → k < r.to - r.from →
+    at ≡ r.to + (q * (r.to - r.from) + k) → slice_get (with_repeat r cs) at ≡ slice_get cs (r.from + k)
 get_within r cs at q k f h l m e =
     let front = take r.to cs in
     let part = drop r.from front in
@@ -113,7 +115,8 @@ get_within r cs at q k f h l m e =
     let v = slice_get_front front (drop r.to cs) (r.from + k) (omega arith) in
     a ∙ b ∙ sym u ∙ sym v ∙ ap (λ xs. slice_get xs (r.from + k)) (take-append-drop r.to cs)
 
-pub get_beyond : (r : Repeat) (cs : List Cell) (at k : ℕ) → r.from < r.to → r.to ≤ length cs → at ≡ r.to + (r.more * (r.to - r.from) + k) → slice_get (with_repeat r cs) at ≡ slice_get cs (r.to + k)
+pub get_beyond : (r : Repeat) (cs : List Cell) (at k : ℕ) → r.from < r.to → r.to ≤ length cs → at ≡ r.to + (r.more * (r.to - r.from) + k) →
+    slice_get (with_repeat r cs) at ≡ slice_get cs (r.to + k)
 get_beyond r cs at k f h e =
     let front = take r.to cs in
     let part = drop r.from front in
@@ -147,7 +150,8 @@ pub fit-both : (rs ss : List Repeat) (cs : List Cell) → FitIn rs cs → FitIn 
 fit-both [] ss cs h k = k
 fit-both (r ∷ rs) ss cs h k = (h.0, h.1, fit-both rs ss (with_repeat r cs) h.2 k)
 
-pub repeated-moved : (n : ℕ) (rs : List Repeat) (xs cs : List Cell) → length xs ≡ n → repeated (map (moved n) rs) (xs ++ cs) ≡ xs ++ repeated rs cs
+pub repeated-moved : (n : ℕ) (rs : List Repeat) (xs cs : List Cell) → length xs ≡ n →
+    repeated (map (moved n) rs) (xs ++ cs) ≡ xs ++ repeated rs cs
 repeated-moved n [] xs cs e = refl
 repeated-moved n (r ∷ rs) xs cs e =
     ap (repeated (map (moved n) rs)) (with_repeat-moved n r xs cs e) ∙ repeated-moved n rs xs (with_repeat r cs) e
@@ -223,16 +227,19 @@ in-repeated (r ∷ rs) cs c h = in-repeated rs (with_repeat r cs) c (in-with_rep
 -- ---- what the calls do
 
 -- the cells of another list come behind
-pub joined-both : (n : ℕ) (rs ss : List Repeat) (cs ds : List Cell) → FitIn rs cs → length (repeated rs cs) ≡ n → repeated (rs ++ map (moved n) ss) (cs ++ ds) ≡ repeated rs cs ++ repeated ss ds
+pub joined-both : (n : ℕ) (rs ss : List Repeat) (cs ds : List Cell) → FitIn rs cs → length (repeated rs cs) ≡ n →
+    repeated (rs ++ map (moved n) ss) (cs ++ ds) ≡ repeated rs cs ++ repeated ss ds
 joined-both n rs ss cs ds h e =
     repeated-both rs (map (moved n) ss) (cs ++ ds)
     ∙ ap (repeated (map (moved n) ss)) (repeated-append rs cs ds h)
     ∙ repeated-moved n ss (repeated rs cs) ds e
 
-pub fit-joined : (n : ℕ) (rs ss : List Repeat) (cs ds : List Cell) → FitIn rs cs → FitIn ss ds → length (repeated rs cs) ≡ n → FitIn (rs ++ map (moved n) ss) (cs ++ ds)
+pub fit-joined : (n : ℕ) (rs ss : List Repeat) (cs ds : List Cell) → FitIn rs cs → FitIn ss ds → length (repeated rs cs) ≡ n →
+    FitIn (rs ++ map (moved n) ss) (cs ++ ds)
 fit-joined n rs ss cs ds h k e =
     let moved_fit = fit-moved n ss (repeated rs cs) ds e k in
-    fit-both rs (map (moved n) ss) (cs ++ ds) (fit-append rs cs ds h) (subst (FitIn (map (moved n) ss)) (sym (repeated-append rs cs ds h)) moved_fit)
+    fit-both rs (map (moved n) ss) (cs ++ ds) (fit-append rs cs ds h)
+    (subst (FitIn (map (moved n) ss)) (sym (repeated-append rs cs ds h)) moved_fit)
 
 -- the last cells stand some times more
 pub with_last : (r : Repeat) (cs : List Cell) → r.to ≡ length cs → with_repeat r cs ≡ cs ++ again r.more (drop r.from cs)
@@ -245,7 +252,8 @@ with_last r cs e =
 -- ---- places
 
 -- a place behind a repetition within the copies that it made
-pub get_copy : (r : Repeat) (cs : List Cell) (at : ℕ) → r.from < r.to → r.to ≤ at → r.to ≤ length cs → (at - r.to) / (r.to - r.from) < r.more → slice_get (with_repeat r cs) at ≡ slice_get cs (r.from + (at - r.to) % (r.to - r.from))
+pub get_copy : (r : Repeat) (cs : List Cell) (at : ℕ) → r.from < r.to → r.to ≤ at → r.to ≤ length cs →
+    (at - r.to) / (r.to - r.from) < r.more → slice_get (with_repeat r cs) at ≡ slice_get cs (r.from + (at - r.to) % (r.to - r.from))
 get_copy r cs at f b h l =
     let part = r.to - r.from in
     let n = at - r.to in
@@ -256,7 +264,8 @@ get_copy r cs at f b h l =
     get_within r cs at (n / part) (n % part) f h l small (omega arith)
 
 -- and one behind all of them
-pub get_past_copies : (r : Repeat) (cs : List Cell) (at : ℕ) → r.from < r.to → r.to ≤ at → r.to ≤ length cs → r.more ≤ (at - r.to) / (r.to - r.from) → slice_get (with_repeat r cs) at ≡ slice_get cs (at - r.more * (r.to - r.from))
+pub get_past_copies : (r : Repeat) (cs : List Cell) (at : ℕ) → r.from < r.to → r.to ≤ at → r.to ≤ length cs →
+    r.more ≤ (at - r.to) / (r.to - r.from) → slice_get (with_repeat r cs) at ≡ slice_get cs (at - r.more * (r.to - r.from))
 get_past_copies r cs at f b h l =
     let part = r.to - r.from in
     let n = at - r.to in
@@ -269,25 +278,29 @@ get_past_copies r cs at f b h l =
 first_more : (rs : List Repeat) (i : ℕ) (r : Repeat) → i < length rs → r ≡ get_or rs i r → take (i + 1) rs ≡ take i rs ++ r ∷ []
 first_more rs i r h e = take_more rs i r h ∙ ap (λ x. take i rs ++ x ∷ []) (sym e)
 
-pub fit_at : (rs : List Repeat) (i : ℕ) (r : Repeat) (cs : List Cell) → i < length rs → r ≡ get_or rs i r → FitIn rs cs → (r.from < r.to) × (r.to ≤ length (repeated (take i rs) cs))
+pub fit_at : (rs : List Repeat) (i : ℕ) (r : Repeat) (cs : List Cell) → i < length rs → r ≡ get_or rs i r → FitIn rs cs → (r.from < r.to) ×
+    (r.to ≤ length (repeated (take i rs) cs))
 fit_at rs i r cs h e f =
     let whole = subst (λ xs. FitIn xs cs) (sym (take-append-drop (i + 1) rs)) f in
     let front = fit-front (take (i + 1) rs) (drop (i + 1) rs) cs whole in
     let last = fit-behind (take i rs) (r ∷ []) cs (subst (λ xs. FitIn xs cs) (first_more rs i r h e) front) in
     (last.0, last.1)
 
-pub repeated_at : (rs : List Repeat) (i : ℕ) (r : Repeat) (cs : List Cell) → i < length rs → r ≡ get_or rs i r → repeated (take (i + 1) rs) cs ≡ with_repeat r (repeated (take i rs) cs)
+pub repeated_at : (rs : List Repeat) (i : ℕ) (r : Repeat) (cs : List Cell) → i < length rs → r ≡ get_or rs i r →
+    repeated (take (i + 1) rs) cs ≡ with_repeat r (repeated (take i rs) cs)
 repeated_at rs i r cs h e = ap (λ xs. repeated xs cs) (first_more rs i r h e) ∙ repeated-both (take i rs) (r ∷ []) cs
 
 -- ---- what the calls leave
 
-pub pushed : (rs : List Repeat) (cs ws : List Cell) (c : Cell) (n m : ℕ) → ws ≡ cs ++ c ∷ [] → m ≡ n + 1 → FitIn rs cs → n ≡ length (repeated rs cs) → FitIn rs ws × (m ≡ length (repeated rs ws))
+pub pushed : (rs : List Repeat) (cs ws : List Cell) (c : Cell) (n m : ℕ) → ws ≡ cs ++ c ∷ [] → m ≡ n + 1 → FitIn rs cs →
+    n ≡ length (repeated rs cs) → FitIn rs ws × (m ≡ length (repeated rs ws))
 pushed rs cs ws c n m e l f k =
     let a : repeated rs ws ≡ repeated rs cs ++ c ∷ [] = ap (repeated rs) e ∙ repeated-append rs cs (c ∷ []) f in
     let b = ap length a ∙ length-append (repeated rs cs) (c ∷ []) in
     (subst (FitIn rs) (sym e) (fit-append rs cs (c ∷ []) f), omega arith)
 
-pub fit-pushed : (rs ss : List Repeat) (r : Repeat) (cs : List Cell) (n m : ℕ) → ss ≡ rs ++ r ∷ [] → r.from < r.to → r.to ≡ n → m ≡ n + (r.to - r.from) * r.more → FitIn rs cs → n ≡ length (repeated rs cs) → FitIn ss cs × (m ≡ length (repeated ss cs))
+pub fit-pushed : (rs ss : List Repeat) (r : Repeat) (cs : List Cell) (n m : ℕ) → ss ≡ rs ++ r ∷ [] → r.from < r.to → r.to ≡ n →
+    m ≡ n + (r.to - r.from) * r.more → FitIn rs cs → n ≡ length (repeated rs cs) → FitIn ss cs × (m ≡ length (repeated ss cs))
 fit-pushed rs ss r cs n m e l t h f k =
     let b : r.to ≤ length (repeated rs cs) = omega arith in
     let a : repeated ss cs ≡ with_repeat r (repeated rs cs) = ap (λ xs. repeated xs cs) e ∙ repeated-both rs (r ∷ []) cs in
@@ -295,18 +308,22 @@ fit-pushed rs ss r cs n m e l t h f k =
     let turned : (r.to - r.from) * r.more ≡ r.more * (r.to - r.from) = mul_comm (r.to - r.from) r.more in
     (subst (λ xs. FitIn xs cs) (sym e) (fit-both rs (r ∷ []) cs f (l, b, tt)), omega arith)
 
-pub repeated-pushed : (rs ss : List Repeat) (r : Repeat) (cs : List Cell) → ss ≡ rs ++ r ∷ [] → r.to ≡ length (repeated rs cs) → repeated ss cs ≡ repeated rs cs ++ again r.more (drop r.from (repeated rs cs))
+pub repeated-pushed : (rs ss : List Repeat) (r : Repeat) (cs : List Cell) → ss ≡ rs ++ r ∷ [] → r.to ≡ length (repeated rs cs) →
+    repeated ss cs ≡ repeated rs cs ++ again r.more (drop r.from (repeated rs cs))
 repeated-pushed rs ss r cs e t =
     ap (λ xs. repeated xs cs) e ∙ repeated-both rs (r ∷ []) cs ∙ with_last r (repeated rs cs) t
 
-pub fit-appended : (rs ss ts : List Repeat) (cs ds ws : List Cell) (n k m : ℕ) → ts ≡ rs ++ map (moved n) ss → ws ≡ cs ++ ds → m ≡ n + k → FitIn rs cs → n ≡ length (repeated rs cs) → FitIn ss ds → k ≡ length (repeated ss ds) → FitIn ts ws × (m ≡ length (repeated ts ws))
+pub fit-appended : (rs ss ts : List Repeat) (cs ds ws : List Cell) (n k m : ℕ) → ts ≡ rs ++ map (moved n) ss → ws ≡ cs ++ ds → m ≡ n + k →
+    FitIn rs cs → n ≡ length (repeated rs cs) → FitIn ss ds → k ≡ length (repeated ss ds) → FitIn ts ws × (m ≡ length (repeated ts ws))
 fit-appended rs ss ts cs ds ws n k m e w l f a g b =
     let same : FitIn (rs ++ map (moved n) ss) (cs ++ ds) = fit-joined n rs ss cs ds f g (sym a) in
-    let cells : repeated ts ws ≡ repeated rs cs ++ repeated ss ds = ap (λ xs. repeated xs ws) e ∙ ap (repeated (rs ++ map (moved n) ss)) w ∙ joined-both n rs ss cs ds f (sym a) in
+    let cells : repeated ts ws ≡ repeated rs cs ++ repeated ss ds =
+    ap (λ xs. repeated xs ws) e ∙ ap (repeated (rs ++ map (moved n) ss)) w ∙ joined-both n rs ss cs ds f (sym a) in
     let long = ap length cells ∙ length-append (repeated rs cs) (repeated ss ds) in
     (subst (λ xs. FitIn xs ws) (sym e) (subst (FitIn (rs ++ map (moved n) ss)) (sym w) same), omega arith)
 
-pub repeated-appended : (rs ss ts : List Repeat) (cs ds ws : List Cell) (n : ℕ) → ts ≡ rs ++ map (moved n) ss → ws ≡ cs ++ ds → FitIn rs cs → n ≡ length (repeated rs cs) → repeated ts ws ≡ repeated rs cs ++ repeated ss ds
+pub repeated-appended : (rs ss ts : List Repeat) (cs ds ws : List Cell) (n : ℕ) → ts ≡ rs ++ map (moved n) ss → ws ≡ cs ++ ds →
+    FitIn rs cs → n ≡ length (repeated rs cs) → repeated ts ws ≡ repeated rs cs ++ repeated ss ds
 repeated-appended rs ss ts cs ds ws n e w f a =
     ap (λ xs. repeated xs ws) e ∙ ap (repeated (rs ++ map (moved n) ss)) w ∙ joined-both n rs ss cs ds f (sym a)
 
@@ -320,7 +337,8 @@ again-nothing n from cs h = sym (ap (λ x. cs ++ again n x) (drop_all from cs h)
 
 -- ---- back from one repetition to those before it
 
-pub proper_at : (rs : List Repeat) (i : ℕ) (d : Repeat) (cs : List Cell) → i < length rs → FitIn rs cs → (get_or rs i d).from < (get_or rs i d).to
+pub proper_at : (rs : List Repeat) (i : ℕ) (d : Repeat) (cs : List Cell) → i < length rs → FitIn rs cs →
+    (get_or rs i d).from < (get_or rs i d).to
 proper_at rs i d cs h f = (fit_at rs i (get_or rs i d) cs h (get_or_default rs i d (get_or rs i d) h) f).0
 
 pub step_back : (rs : List Repeat) (n : ℕ) (d : Repeat) (cs : List Cell) (at to : ℕ) → 0 < n → n ≤ length rs → FitIn rs cs →
@@ -354,7 +372,8 @@ slice_get-drop (suc n) (c ∷ cs) i =
     slice_get-drop n cs i ∙ sym (ap (slice_get (c ∷ cs)) e)
 
 -- one more cell is copied
-pub copied-more : (cs out : List Cell) (at i : ℕ) (c : Cell) → i < length out → take i out ≡ take i (drop at cs) → slice_get cs (at + i) ≡ Some c →
+pub copied-more : (cs out : List Cell) (at i : ℕ) (c : Cell) → i < length out → take i out ≡ take i (drop at cs) →
+    slice_get cs (at + i) ≡ Some c →
     take (i + 1) (set out i c) ≡ take (i + 1) (drop at cs)
 copied-more cs out at i c h e f =
     take_more_set out i c h ∙ ap (λ xs. xs ++ c ∷ []) e ∙ sym (take-get (drop at cs) i c (slice_get-drop at cs i ∙ f))

@@ -43,7 +43,8 @@ operators_in_union = refl
 
 abbrev statements : List Kind
 statements =
-    kind.Call ∷ kind.Abort ∷ kind.Assert ∷ kind.Let ∷ kind.Const ∷ kind.Defer ∷ kind.If ∷ kind.For ∷ kind.Break ∷ kind.Continue ∷ kind.Return
+    kind.Call ∷ kind.Abort ∷ kind.Assert ∷ kind.Let ∷ kind.Const ∷ kind.Defer ∷ kind.If ∷ kind.For ∷ kind.Break ∷ kind.Continue ∷
+    kind.Return
     ∷ kind.Yield ∷ kind.Block ∷ kind.Switch ∷ kind.Case ∷ kind.SwitchCase ∷ []
 
 statement_weights : weights int statements ≡ 1 ∷ 1 ∷ 1 ∷ 1 ∷ 1 ∷ 1 ∷ 1 ∷ 1 ∷ 1 ∷ 1 ∷ 1 ∷ 1 ∷ 1 ∷ 1 ∷ 1 ∷ 1 ∷ []
@@ -54,7 +55,8 @@ statements_in_union = refl
 
 -- parts that are left out, commas, types and parameters are nodes too
 abbrev parts : List Kind
-parts = kind.None ∷ kind.TrailingComma ∷ kind.Dots ∷ kind.ByRef ∷ kind.Binding ∷ kind.FieldValue ∷ kind.Values ∷ kind.Param ∷ kind.TypeScalar ∷ kind.PatternLet ∷ []
+parts = kind.None ∷ kind.TrailingComma ∷ kind.Dots ∷ kind.ByRef ∷ kind.Binding ∷ kind.FieldValue ∷ kind.Values ∷ kind.Param ∷
+    kind.TypeScalar ∷ kind.PatternLet ∷ []
 
 part_weights : weights int parts ≡ 1 ∷ 1 ∷ 1 ∷ 1 ∷ 1 ∷ 1 ∷ 1 ∷ 1 ∷ 1 ∷ 1 ∷ []
 part_weights = refl

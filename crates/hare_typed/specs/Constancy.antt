@@ -118,7 +118,8 @@ abbrev pub or_else : Option TypedNode → Option TypedNode → Option TypedNode
 or_else None b = b
 or_else (Some t) b = Some t
 
--- The first node of a value, in check order, that is not constant or whose evaluation would abort; which ones abort is said by `aborts`. Types
+-- The first node of a value, in check order, that is not constant or whose evaluation would abort; which ones abort is said by `aborts`.
+-- Types
 -- are passed over, with all that stands in them.
 abbrev mutual
   pub first_inconstant : Store → (TypedNode → Bool) → TypedNode → Option TypedNode

@@ -35,11 +35,13 @@ HasBases s = (i : ℕ) → i < length s.rows → IsSome (base_at s i)
 -- whatever a store takes in later, a node whose types it has keeps its weight
 abbrev pub WeightsStay : Type 0
 WeightsStay =
-    (now later : Store) → IsStore now → IsLater now later → HasBases now → (t : TypedNode) → TypesIn now t → weight_of later t ≡ weight_of now t
+    (now later : Store) → IsStore now → IsLater now later → HasBases now → (t : TypedNode) → TypesIn now t →
+    weight_of later t ≡ weight_of now t
 
 -- ---- marks
 
--- Two trees are one but for their marks, and at the top they have the same types and coercions, and their kids give the same types. Numbers,
+-- Two trees are one but for their marks, and at the top they have the same types and coercions, and their kids give the same types.
+-- Numbers,
 -- meanings and constants are not looked at, nor any mark further below.
 pub record SameAbove (t u : TypedNode) : Type 0 where
   pub trees : erase t ≡ erase u

@@ -39,7 +39,8 @@ abbrev pub ListsAll : Option Range → List ℤ → Type 0
 ListsAll None vs = ⊥
 ListsAll (Some r) vs = (v : ℤ) → r.least ≤ℤ v → v ≤ℤ r.greatest → Contains vs v
 
--- The values that the cases of a `switch` list, and whether it has a default, cover the base of a type. Of texts there is no end, so that they
+-- The values that the cases of a `switch` list, and whether it has a default, cover the base of a type. Of texts there is no end, so that
+-- they
 -- want a default.
 abbrev pub SwitchCovers : Store → Ty → (has_default : Bool) → List ℤ → Type 0
 SwitchCovers s t has_default vs = IsTrue has_default ⊎ ListsAll (range_of (base_row s t)) vs
@@ -61,6 +62,7 @@ covers_row s (Some (row.Union is)) ps = list_all (λ i. list_any (nat_eq i) ps.t
 covers_row s (Some (row.Nullable i)) ps = ps.has_null && list_any (λ t. is_pointer_to i (row_at s t)) ps.types
 covers_row s _ ps = false
 
--- Whether the patterns cover the base of a type: of a union each member, of a nullable pointer both `null` and the pointer that is not null.
+-- Whether the patterns cover the base of a type: of a union each member, of a nullable pointer both `null` and the pointer that is not
+-- null.
 abbrev pub match_covers : Store → Ty → Patterns → Bool
 match_covers s t ps = ps.has_default || covers_row s (base_row s t) ps

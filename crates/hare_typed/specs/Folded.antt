@@ -17,8 +17,10 @@ use Rattle.hare_typed.specs.ConstantValues.{constant_result}
 
 -- ---- tags
 
--- Which types have tags, and in which order, is known when all bodies are checked. Until then the tag of a type is one more than its id: in the
--- constants that trees carry it is always so, and no later store says otherwise. The objects of globals have the tags of the finished program.
+-- Which types have tags, and in which order, is known when all bodies are checked. Until then the tag of a type is one more than its id: in
+-- the
+-- constants that trees carry it is always so, and no later store says otherwise. The objects of globals have the tags of the finished
+-- program.
 abbrev pub tagged_by_id : Store → Store
 tagged_by_id s = record s { listed = counted_from 0 (length s.rows) }
 
@@ -32,7 +34,8 @@ is_abort _ = false
 abbrev pub aborts : Store → (own : ℕ) → TypedNode → Bool
 aborts s own t = is_abort (constant_result (tagged_by_id s) own t).0
 
--- The first node of the value of a declaration, in check order, that is not constant or would abort. It is looked at also where it would not run.
+-- The first node of the value of a declaration, in check order, that is not constant or would abort. It is looked at also where it would
+-- not run.
 abbrev pub inconstant : Store → (own : ℕ) → TypedNode → Option TypedNode
 inconstant s own t = first_inconstant s (aborts s own) t
 

@@ -42,7 +42,8 @@ bound_size s _ ts = 0
 abbrev pub node_size : Store → TypedNode → ℕ
 node_size s (marked h m ts) = max (size_in s m.ty) (max (size_in s m.coerce.to) (bound_size s h.kind ts))
 
--- the bytes that one node adds to a frame: 256 for each unit of its weight, and twice its size, which takes at least one byte and is rounded up
+-- the bytes that one node adds to a frame: 256 for each unit of its weight, and twice its size, which takes at least one byte and is
+-- rounded up
 abbrev pub node_frame : Store → TypedNode → ℕ
 node_frame s t = 256 * weight_of s t + 2 * round_up (max 1 (node_size s t)) 16
 

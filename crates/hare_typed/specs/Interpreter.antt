@@ -86,7 +86,11 @@ module _ (fs : Forms) where
   abbrev mutual
     pub node_act : Tasks → TypedNode → Evaluation
     node_act less (marked h m ts) mode sc s =
-        act (record { kid = λ i. behind (own_bindings h.kind) (kid_act less ts i); part = λ i j. behind (own_bindings h.kind) (part_act less ts i j) })
+        act (record {
+          kid = λ i. behind (own_bindings h.kind) (kid_act less ts i);
+          part = λ i j. behind (own_bindings h.kind)
+              (part_act less ts i j);
+        })
         less (fs.node (marked h m ts) mode sc) s
 
     pub kid_act : Tasks → TypedNodes → ℕ → Evaluation

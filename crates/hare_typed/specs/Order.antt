@@ -18,7 +18,8 @@ abbrev mutual
 
 -- ---- kids by number
 
--- What stands for a kid whose number is past the last: a part that is left out, at no place. No tree of a file has it, since lines begin at 1.
+-- What stands for a kid whose number is past the last: a part that is left out, at no place. No tree of a file has it, since lines begin at
+-- 1.
 abbrev pub missing : TypedNode
 missing =
     marked record { kind = kind.None; place = record { file = 0; line = 0; column = 0 }; text = []; number = 0; suffix = suffix.None }

@@ -45,7 +45,8 @@ finished-later : (s r : Store) (t : Node) (q : Parts) (b : Option TypedNode) (d 
     IsFinished s t q.types q.value b d → IsFinished r t q.types q.value b d
 finished-later s r t q b d l h w n m p = h w n (later_trans s r w.store l m) p
 
-pub are-finished-later : (s r : Store) (ts : List Node) (qs : List Parts) (bs ds : List TypedNode) → IsLater s r → AreFinished s ts qs bs ds →
+pub are-finished-later : (s r : Store) (ts : List Node) (qs : List Parts) (bs ds : List TypedNode) → IsLater s r →
+    AreFinished s ts qs bs ds →
     AreFinished r ts qs bs ds
 are-finished-later s r ts qs bs ds l AreFinished.none = AreFinished.none
 are-finished-later s r ts qs bs ds l (AreFinished.function t q b d us ps cs es f h rest) =
@@ -59,7 +60,8 @@ push-function : (s : Store) (ts : List Node) (qs : List Parts) (bs ds : List Typ
     AreFinished s (ts ++ t ∷ []) (qs ++ q ∷ []) (bs ++ b ∷ []) (ds ++ d ∷ [])
 push-function s ts qs bs ds t q b d AreFinished.none f h = AreFinished.function t q b d [] [] [] [] f h AreFinished.none
 push-function s ts qs bs ds t q b d (AreFinished.function u p c e us ps cs es g k rest) f h =
-    AreFinished.function u p c e (us ++ t ∷ []) (ps ++ q ∷ []) (cs ++ b ∷ []) (es ++ d ∷ []) g k (push-function s us ps cs es t q b d rest f h)
+    AreFinished.function u p c e (us ++ t ∷ []) (ps ++ q ∷ []) (cs ++ b ∷ []) (es ++ d ∷ []) g k
+    (push-function s us ps cs es t q b d rest f h)
 push-function s ts qs bs ds t q b d (AreFinished.other u p e us ps cs es g k rest) f h =
     AreFinished.other u p e (us ++ t ∷ []) (ps ++ q ∷ []) (cs ++ b ∷ []) (es ++ d ∷ []) g k (push-function s us ps cs es t q b d rest f h)
 
@@ -84,7 +86,8 @@ turned done left rest x all e f =
 take-more : {A : Type 0} (xs : List A) (i : ℕ) (x : A) → slice_get xs i ≡ Some x → take (i + 1) xs ≡ take i xs ++ x ∷ []
 take-more [] i x e = absurd cc
 take-more (y ∷ ys) zero x e = let q : y ≡ x = cc in ap (λ z. z ∷ []) q
-take-more (y ∷ ys) (suc i) x e = let p : suc i + 1 ≡ suc (i + 1) = omega arith in ap (λ n. take n (y ∷ ys)) p ∙ ap (λ zs. y ∷ zs) (take-more ys i x e)
+take-more (y ∷ ys) (suc i) x e =
+    let p : suc i + 1 ≡ suc (i + 1) = omega arith in ap (λ n. take n (y ∷ ys)) p ∙ ap (λ zs. y ∷ zs) (take-more ys i x e)
 
 -- ---- one turn
 
@@ -95,7 +98,8 @@ is-function so.Constant = inr (λ e. absurd cc)
 is-function so.Global = inr (λ e. absurd cc)
 
 -- what is known at the turn of a declaration
-pub record Turn (s r : Store) (ts : List Node) (qs : List Parts) (bs : List TypedNode) (n : ℕ) (t : Node) (q : Parts) (b : Option TypedNode) (d : TypedNode)
+pub record Turn (s r : Store) (ts : List Node) (qs : List Parts) (bs : List TypedNode) (n : ℕ) (t : Node) (q : Parts) (b : Option TypedNode)
+    (d : TypedNode)
     (parts rest : List Parts) (bodies left ds : List TypedNode) : Type 0 where
   pub before : AreFinishedTo s ts qs bs n parts bodies ds
   pub there : slice_get ts n ≡ Some t
@@ -104,7 +108,8 @@ pub record Turn (s r : Store) (ts : List Node) (qs : List Parts) (bs : List Type
   pub later : IsLater s r
   pub finished : IsFinished r t q.types q.value b d
 
-pub finished-more : (s r : Store) (ts : List Node) (qs : List Parts) (bs : List TypedNode) (n : ℕ) (t : Node) (q : Parts) (b : Option TypedNode) (d : TypedNode)
+pub finished-more : (s r : Store) (ts : List Node) (qs : List Parts) (bs : List TypedNode) (n : ℕ) (t : Node) (q : Parts)
+    (b : Option TypedNode) (d : TypedNode)
     (parts rest : List Parts) (bodies left ds : List TypedNode) → Turn s r ts qs bs n t q b d parts rest bodies left ds →
     AreFinishedTo r ts qs bs (n + 1) rest left (ds ++ d ∷ [])
 finished-more s r ts qs bs n t q b d parts rest bodies left ds k = by (is-function (sort_of t)) b k.takes k.finished
@@ -133,7 +138,8 @@ finished-more s r ts qs bs n t q b d parts rest bodies left ds k = by (is-functi
       bodies_left = turned was.taken bodies left c bs was.bodies_left e;
     }
 
-    other : sort_of t ≢ so.Function → bodies ≡ left → IsFinished r t q.types q.value None d → AreFinishedTo r ts qs bs (n + 1) rest left (ds ++ d ∷ [])
+    other : sort_of t ≢ so.Function → bodies ≡ left → IsFinished r t q.types q.value None d →
+        AreFinishedTo r ts qs bs (n + 1) rest left (ds ++ d ∷ [])
     other f e h = record {
       used = was.used ++ q ∷ [];
       taken = was.taken;
@@ -153,7 +159,8 @@ finished-more s r ts qs bs n t q b d parts rest bodies left ds k = by (is-functi
 
 -- ---- before the first and behind the last
 
-pub none-finished : (s : Store) (ts : List Node) (qs : List Parts) (bs : List TypedNode) (parts : List Parts) (bodies ds : List TypedNode) → qs ≡ reverse parts →
+pub none-finished : (s : Store) (ts : List Node) (qs : List Parts) (bs : List TypedNode) (parts : List Parts) (bodies ds : List TypedNode) →
+    qs ≡ reverse parts →
     bs ≡ reverse bodies → ds ≡ [] → AreFinishedTo s ts qs bs 0 parts bodies ds
 none-finished s ts qs bs parts bodies ds e f g =
     subst (λ xs. AreFinishedTo s ts qs bs 0 parts bodies xs) (sym g)
@@ -165,7 +172,8 @@ take-all [] (suc n) l = refl
 take-all (x ∷ xs) zero l = absurd (omega (arith, l))
 take-all (x ∷ xs) (suc n) l = ap (λ ys. x ∷ ys) (take-all xs n (omega (arith, l)))
 
-pub all-finished : (s : Store) (ts : List Node) (qs : List Parts) (bs : List TypedNode) (n : ℕ) (parts : List Parts) (bodies ds : List TypedNode) →
+pub all-finished : (s : Store) (ts : List Node) (qs : List Parts) (bs : List TypedNode) (n : ℕ) (parts : List Parts)
+    (bodies ds : List TypedNode) →
     AreFinishedTo s ts qs bs n parts bodies ds → length ts ≤ n → length parts ≡ 0 → length bodies ≡ 0 → AreFinished s ts qs bs ds
 all-finished s ts qs bs n parts bodies ds k l e f =
     let a : qs ≡ k.used = k.parts_left ∙ ap (λ ys. k.used ++ reverse ys) (no-elements parts e) ∙ append-nil k.used in

@@ -35,7 +35,8 @@ pub circle-stops : (n : Named) (e : Stop Fault) → StopsAtCircle (saids (listin
 circle-stops n Memory h = tt
 circle-stops n (Refused f) h = λ paths. (no-types, IsFaultOfPhases.of_circles h)
 
-pub declaration-stops : (n : Named) (s : Store) (e : Stop Fault) → IsFinal (listing_of n) s → IsDeclarationStop (listing_of n) s e → IsPhaseStop n e
+pub declaration-stops : (n : Named) (s : Store) (e : Stop Fault) → IsFinal (listing_of n) s → IsDeclarationStop (listing_of n) s e →
+    IsPhaseStop n e
 declaration-stops n s Memory f h = tt
 declaration-stops n s (Refused e) f h = λ paths. (s, IsFaultOfPhases.of_declarations f (h s (end-here (listing_of n) s f.declared.sound f)))
 
@@ -59,7 +60,8 @@ body-stops law n s r j (Refused f) k h =
     λ paths. (
       r,
       IsFaultOfPhases.of_bodies final
-          (law p s r r k.judged.stage k.judged.values f k.judged.judged g (subst (λ ds. IsBodyStop p ds r (Refused f)) (sym k.judged.same) h)
+          (law p s r r k.judged.stage k.judged.values f k.judged.judged g
+          (subst (λ ds. IsBodyStop p ds r (Refused f)) (sym k.judged.same) h)
           (end-here p r k.sound_behind final)),
     )
 
@@ -77,10 +79,12 @@ final-finished p s r f j bs ds k =
     let h = grown-to r f k.sound k.grown in
     final-grown p r f k.judged.sound_behind h (final-grown p s r k.judged.sound g (final-judged p s j k.judged.judged))
 
-pub typed-finished : FinishedAreTyped → (p : Listing) (s r f : Store) (j : Judged) (bs ds : List TypedNode) → AreFinishedWith p s r f j bs ds →
+pub typed-finished : FinishedAreTyped → (p : Listing) (s r f : Store) (j : Judged) (bs ds : List TypedNode) →
+    AreFinishedWith p s r f j bs ds →
     (l : Store) → IsLater f l → IsFinal p l → AreTyped p l ds
 typed-finished law p s r f j bs ds k l later final =
-    law p s r f l j bs ds k.judged.judged (grown-to s r k.judged.sound_behind k.judged.grown) k.bodies (grown-to r f k.sound k.grown) k.finished
+    law p s r f l j bs ds k.judged.judged (grown-to s r k.judged.sound_behind k.judged.grown) k.bodies (grown-to r f k.sound k.grown)
+    k.finished
     (record { later = later; final = final })
 
 -- ---- that no phase up to bodies finds a fault

@@ -28,7 +28,8 @@ pub early-stops : (paths srcs : List (List ℕ)) (e : Stop Fault) → Stops (IsE
 early-stops paths srcs Memory h = tt
 early-stops paths srcs (Refused f) h = IsFaultOfProgram.early h
 
-pub phase-stops : (paths srcs : List (List ℕ)) (n : Named) (e : Stop Fault) → AreNamed paths srcs n.files (meaning_in n.names) → IsPhaseStop n e →
+pub phase-stops : (paths srcs : List (List ℕ)) (n : Named) (e : Stop Fault) → AreNamed paths srcs n.files (meaning_in n.names) →
+    IsPhaseStop n e →
     IsProgramStop paths srcs e
 phase-stops paths srcs n Memory m h = tt
 phase-stops paths srcs n (Refused f) m h = let k = h paths in IsFaultOfProgram.late n.files (meaning_in n.names) k.0 m k.1
@@ -54,7 +55,8 @@ faultless-listed n t r k =
     let v : IsStore t.types = k.typed.final.declared.sound in
     k.typed.faultless r (listed-later t.types r (tag_list t.types t.decls) v k.sound k.listed) (final-listed n t r k)
 
-pub limit-stops : (paths : List (List ℕ)) (n : Named) (t : Typing) (r : Store) (e : Stop Fault) → IsListed n t r → StopsAtLimit paths r t.decls e →
+pub limit-stops : (paths : List (List ℕ)) (n : Named) (t : Typing) (r : Store) (e : Stop Fault) → IsListed n t r →
+    StopsAtLimit paths r t.decls e →
     IsLimitStop paths n e
 limit-stops paths n t r Memory k h = tt
 limit-stops paths n t r (Refused f) k h =
@@ -69,7 +71,8 @@ ended-stops paths srcs n (Refused f) m h = IsFaultOfProgram.late n.files (meanin
 tags-listed : (s r : Store) (ds : List TypedNode) → r ≡ record s { listed = tag_list s ds } → r.listed ≡ tag_list r ds
 tags-listed s r ds e = ap (λ x. x.listed) e ∙ sym (ap (λ x. tag_list x ds) e ∙ tag_list-relisted s (tag_list s ds) ds)
 
-pub is-ended : (paths : List (List ℕ)) (n : Named) (t : Typing) (r : Store) (entry : ℕ) → IsListed n t r → AreWithinLimits paths r t.decls entry →
+pub is-ended : (paths : List (List ℕ)) (n : Named) (t : Typing) (r : Store) (entry : ℕ) → IsListed n t r →
+    AreWithinLimits paths r t.decls entry →
     IsEnded paths n (record { types = r; decls = t.decls }) entry
 is-ended paths n t r entry k l = record {
   sound = k.sound;

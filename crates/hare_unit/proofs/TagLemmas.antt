@@ -44,5 +44,6 @@ module _ (s : Store) (is : List ℕ) where
       ap (λ xs. once (xs ++ flat_map (λ d. flat_map (allocated_in relisted) (bodies_by (kind_of d) d)) ds))
       (flat_map-same (written_in relisted false) (written_in s false) (written_in-relisted false) ds)
       ∙ ap (λ xs. once (flat_map (written_in s false) ds ++ xs))
-      (flat_map-same (λ d. flat_map (allocated_in relisted) (bodies_by (kind_of d) d)) (λ d. flat_map (allocated_in s) (bodies_by (kind_of d) d))
+      (flat_map-same (λ d. flat_map (allocated_in relisted) (bodies_by (kind_of d) d))
+      (λ d. flat_map (allocated_in s) (bodies_by (kind_of d) d))
       (λ d. flat_map-same (allocated_in relisted) (allocated_in s) allocated_in-relisted (bodies_by (kind_of d) d)) ds)

@@ -16,7 +16,8 @@ pub record TakesBody (t : Node) (old new : List TypedNode) (b : Option TypedNode
   pub other : sort_of t ≢ so.Function → b ≡ None
 
 -- The first of these declarations, so many, have been finished; parts and bodies of the others are left, the next at the end.
-pub record AreFinishedTo (s : Store) (ts : List Node) (qs : List Parts) (bs : List TypedNode) (n : ℕ) (parts : List Parts) (bodies ds : List TypedNode) :
+pub record AreFinishedTo (s : Store) (ts : List Node) (qs : List Parts) (bs : List TypedNode) (n : ℕ) (parts : List Parts)
+    (bodies ds : List TypedNode) :
     Type 0 where
   pub used : List Parts
   pub taken : List TypedNode

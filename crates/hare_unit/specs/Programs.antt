@@ -28,7 +28,8 @@ use Rattle.hare_unit.specs.declared.checked.Checked.{Checked}
 
 -- ---- a checked program
 
--- The program is whole, it has these paths, its trees erase to the declarations of the files, in their order, and each path means what the names of these files say.
+-- The program is whole, it has these paths, its trees erase to the declarations of the files, in their order, and each path means what the
+-- names of these files say.
 pub record IsChecked (paths srcs : List (List ℕ)) (c : Checked) : Type 0 where
   pub trees : List FileTree
   pub named : AreNamed paths srcs trees (meaning_in c.names)
@@ -38,7 +39,8 @@ pub record IsChecked (paths srcs : List (List ℕ)) (c : Checked) : Type 0 where
 
 -- ---- its first fault
 
--- It is the first of files and names; or where they have none the first of the phases behind them, over a store with which the checking ends.
+-- It is the first of files and names; or where they have none the first of the phases behind them, over a store with which the checking
+-- ends.
 pub data IsFaultOfProgram (paths srcs : List (List ℕ)) (f : Fault) : Type 0 where
   early : IsEarlyFault paths srcs f → IsFaultOfProgram paths srcs f
   late : (trees : List FileTree) (means : Place → Meaning) (s : Store) → AreNamed paths srcs trees means →
@@ -78,7 +80,8 @@ abbrev pub IsOnlyProgramStop : List (List ℕ) → List (List ℕ) → Stop Faul
 IsOnlyProgramStop paths srcs Memory = Unit {0}
 IsOnlyProgramStop paths srcs (Refused f) = IsOnlyFaultOfProgram paths srcs f
 
--- A program that is checked has no fault of files and names, and over the store with which its checking ended none of the phases behind them.
+-- A program that is checked has no fault of files and names, and over the store with which its checking ended none of the phases behind
+-- them.
 pub record IsFaultless (paths srcs : List (List ℕ)) (c : Checked) : Type 0 where
   pub trees : List FileTree
   pub named : AreNamed paths srcs trees (meaning_in c.names)

@@ -23,12 +23,14 @@ module _ (s : Store) (old mid : List (ℕ × Waiting)) (ws : List Waiting) (w : 
       by v e (inl a) = h.awaited v a e
       by v e (inr p) = absurd (known (ap (λ x. extent_at s x.ty) p ∙ e))
 
-      more : (n : ℕ) (v : Waiting) → Contains old (n, v) ⊎ (Contains ws v × WaitsFor s v.ty n) → Contains old (n, v) ⊎ (Contains (ws ++ w ∷ []) v × WaitsFor s v.ty n)
+      more : (n : ℕ) (v : Waiting) → Contains old (n, v) ⊎ (Contains ws v × WaitsFor s v.ty n) →
+          Contains old (n, v) ⊎ (Contains (ws ++ w ∷ []) v × WaitsFor s v.ty n)
       more n v (inl a) = inl a
       more n v (inr b) = inr (Contains-append_left ws (w ∷ []) v b.0, b.1)
 
   -- it waits for this name
-  pub awaits-more : (name : ℕ) → WaitsFor s w.ty name → (new : List (ℕ × Waiting)) → Adds mid new (name, w) → Awaits s old new (ws ++ w ∷ [])
+  pub awaits-more : (name : ℕ) → WaitsFor s w.ty name → (new : List (ℕ × Waiting)) → Adds mid new (name, w) →
+      Awaits s old new (ws ++ w ∷ [])
   awaits-more name waits new adds = record {
     kept = λ x c. adds.kept x (h.kept x c);
     awaited = λ v c e. by v e (Contains-last ws w v c);
@@ -42,7 +44,8 @@ module _ (s : Store) (old mid : List (ℕ × Waiting)) (ws : List Waiting) (w : 
       by v e (inl a) = let k = h.awaited v a e in record { name = k.name; entered = adds.kept (k.name, v) k.entered; waits = k.waits }
       by v e (inr p) = subst (IsAwaited s new) p here
 
-      before : (n : ℕ) (v : Waiting) → Contains old (n, v) ⊎ (Contains ws v × WaitsFor s v.ty n) → Contains old (n, v) ⊎ (Contains (ws ++ w ∷ []) v × WaitsFor s v.ty n)
+      before : (n : ℕ) (v : Waiting) → Contains old (n, v) ⊎ (Contains ws v × WaitsFor s v.ty n) →
+          Contains old (n, v) ⊎ (Contains (ws ++ w ∷ []) v × WaitsFor s v.ty n)
       before n v (inl a) = inl a
       before n v (inr b) = inr (Contains-append_left ws (w ∷ []) v b.0, b.1)
 
@@ -52,7 +55,11 @@ module _ (s : Store) (old mid : List (ℕ × Waiting)) (ws : List Waiting) (w : 
       more n v (inr e) =
           let node : v ≡ w = ap (λ p. p.1) e in
           let under : n ≡ name = ap (λ p. p.0) e in
-          inr (subst (Contains (ws ++ w ∷ [])) (sym node) (Contains-push ws w), subst (λ k. WaitsFor s v.ty k) (sym under) (subst (λ x. WaitsFor s x.ty name) (sym node) waits))
+          inr (
+            subst (Contains (ws ++ w ∷ [])) (sym node) (Contains-push ws w),
+            subst (λ k. WaitsFor s v.ty k) (sym under)
+                (subst (λ x. WaitsFor s x.ty name) (sym node) waits),
+          )
 
 -- what is told of an extent is there where the extent is
 pub known_some : (o : Option Extent) → is_some (option_map told o) ≡ true → o ≡ None → ⊥

@@ -27,7 +27,8 @@ module _ (s f : Store) (n : ℕ) (d : DefinesAlso s f n) (q rest : List (ℕ × 
       w : IsAwaited s q (kept_of m o y u)
       w = a.awaited m o u y k h
 
-      by : ((eqb w.name n ≡ true) × (w.name ≡ n)) ⊎ ((eqb w.name n ≡ false) × (w.name ≢ n)) → IsAwaited f rest (kept_of m o y u) ⊎ Contains ws (kept_of m o y u)
+      by : ((eqb w.name n ≡ true) × (w.name ≡ n)) ⊎ ((eqb w.name n ≡ false) × (w.name ≢ n)) →
+          IsAwaited f rest (kept_of m o y u) ⊎ Contains ws (kept_of m o y u)
       by (inl e) = inr (takes.found (kept_of m o y u) (subst (λ x. Contains q (x, kept_of m o y u)) e.1 w.entered))
       by (inr e) = inl record {
         name = w.name;
@@ -37,7 +38,8 @@ module _ (s f : Store) (n : ℕ) (d : DefinesAlso s f n) (q rest : List (ℕ × 
 
   -- ---- where none of those is too large
 
-  module _ (new : List (ℕ × Waiting)) (each : Awaits f rest new ws) (small : (w : Waiting) → Contains ws w → is_small_at f w.ty ≡ true) where
+  module _ (new : List (ℕ × Waiting)) (each : Awaits f rest new ws)
+      (small : (w : Waiting) → Contains ws w → is_small_at f w.ty ≡ true) where
     awaited_again : (m o u : ℕ) (y : TypedNode) → IsNode js m o y → IsUnmeasured f y u → IsAwaited f new (kept_of m o y u)
     unfolding Still
     awaited_again m o u y k h = by (looked_at m o u y k (unmeasured-before s f d.later q js a m o u y k h))
@@ -66,7 +68,8 @@ module _ (s f : Store) (n : ℕ) (d : DefinesAlso s f n) (q rest : List (ℕ × 
             record {
               node = h.node;
               stands = h.stands;
-              unmeasured = unmeasured-later s f d.later q js a w.decl w.order w.ty h.node h.stands h.unmeasured (extent-WaitsFor f w.ty k r.1);
+              unmeasured = unmeasured-later s f d.later q js a w.decl w.order w.ty h.node h.stands h.unmeasured
+                  (extent-WaitsFor f w.ty k r.1);
               place = h.place;
               waits = r.1;
             }

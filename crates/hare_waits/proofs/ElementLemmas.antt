@@ -69,7 +69,8 @@ length-before_at (y ∷ xs) zero x e = refl
 length-before_at (y ∷ xs) (suc k) x e = ap suc (length-before_at xs k x e)
 
 -- what stands before a place stands at an earlier one
-pub Contains-before_at : {X : Type 0} (xs : List X) (k : ℕ) (y : X) → Contains (before_at xs k) y → (i : ℕ) × (i < k) × (slice_get xs i ≡ Some y)
+pub Contains-before_at : {X : Type 0} (xs : List X) (k : ℕ) (y : X) → Contains (before_at xs k) y → (i : ℕ) × (i < k) ×
+    (slice_get xs i ≡ Some y)
 unfolding before_at
 Contains-before_at [] k y h = absurd (Contains-none y h)
 Contains-before_at (x ∷ xs) zero y h = absurd (Contains-none y h)

@@ -69,7 +69,12 @@ module _ (s : Store) (m : ℕ) (ts : List TypedNode) (stands : StandIn s ts) (fi
           let h = a.no_other n w r in
           record {
             node = h.node;
-            stands = record { types = h.stands.types; judged = Contains-rest (m, ts) (w.decl, h.stands.types) js h.stands.judged; stands = h.stands.stands };
+            stands = record {
+              types = h.stands.types;
+              judged = Contains-rest (m, ts) (w.decl, h.stands.types) js h.stands.judged;
+              stands =
+                  h.stands.stands;
+            };
             unmeasured = h.unmeasured;
             place = h.place;
             waits = h.waits;

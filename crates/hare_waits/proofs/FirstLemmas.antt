@@ -56,10 +56,12 @@ module _ (s : Store) (ws : List Waiting) (w : Waiting) where
       by v (inl a) g = h.2 v a g
       by v (inr p) g = subst (λ x. ¬ ComesBefore x f) p b
 
-  pub first-before : (o : Option Waiting) → IsFirstOf s ws o → is_small_at s w.ty ≡ false → IfSome o (ComesBefore w) → IsFirstOf s (ws ++ w ∷ []) (Some w)
+  pub first-before : (o : Option Waiting) → IsFirstOf s ws o → is_small_at s w.ty ≡ false → IfSome o (ComesBefore w) →
+      IsFirstOf s (ws ++ w ∷ []) (Some w)
   first-before o h e b = (Contains-push ws w, e, λ v c g. by v (Contains-last ws w v c) g)
     where
-      earlier : (v : Waiting) → (p : Option Waiting) → IsFirstOf s ws p → IfSome p (ComesBefore w) → Contains ws v → is_small_at s v.ty ≡ false → ¬ ComesBefore v w
+      earlier : (v : Waiting) → (p : Option Waiting) → IsFirstOf s ws p → IfSome p (ComesBefore w) → Contains ws v →
+          is_small_at s v.ty ≡ false → ¬ ComesBefore v w
       earlier v None k j a g z = let small = k v a in absurd cc
       earlier v (Some f) k j a g z = k.2 v a g (ComesBefore-trans v w f z j)
 

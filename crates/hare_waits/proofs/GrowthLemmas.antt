@@ -14,7 +14,8 @@ use Rattle.hare_types.specs.Later.{IsLater}
 abbrev Knows : {A : Type 0} → (ℕ → Option A) → (ℕ → Option A) → Type 0
 Knows {A} old new = (i : ℕ) (a : A) → old i ≡ Some a → new i ≡ Some a
 
-mapped-more : {A B : Type 0} (f : A → B) (o p : Option A) → ((a : A) → o ≡ Some a → p ≡ Some a) → (b : B) → option_map f o ≡ Some b → option_map f p ≡ Some b
+mapped-more : {A B : Type 0} (f : A → B) (o p : Option A) → ((a : A) → o ≡ Some a → p ≡ Some a) → (b : B) → option_map f o ≡ Some b →
+    option_map f p ≡ Some b
 mapped-more f None p h b e = absurd cc
 mapped-more f (Some a) p h b e = ap (option_map f) (h a refl) ∙ e
 
@@ -23,7 +24,8 @@ chained-more : {A B : Type 0} (f g : A → Option B) → ((a : A) (b : B) → f 
 chained-more f g k None p h b e = absurd cc
 chained-more f g k (Some a) p h b e = ap (option_and_then g) (h a refl) ∙ k a b e
 
-all_known-more : (old new : ℕ → Option Extent) → Knows old new → (is : List ℕ) (xs : List Extent) → all_known old is ≡ Some xs → all_known new is ≡ Some xs
+all_known-more : (old new : ℕ → Option Extent) → Knows old new → (is : List ℕ) (xs : List Extent) → all_known old is ≡ Some xs →
+    all_known new is ≡ Some xs
 all_known-more old new k [] xs e = e
 all_known-more old new k (i ∷ is) xs e =
     chained-more (λ x. option_map (λ ys. x ∷ ys) (all_known old is)) (λ x. option_map (λ ys. x ∷ ys) (all_known new is))
@@ -36,7 +38,8 @@ module _ (was is : ℕ → Option ℕ) (defines : Knows was is) (old new : ℕ �
   bytes_over-more t (row.Nullable i) x e = e
   bytes_over-more t (row.Slice i) x e = e
   bytes_over-more t (row.Array n i) x e = mapped-more _ (old i) (new i) (k i) x e
-  bytes_over-more t (row.Struct fs) x e = mapped-more _ (all_known old (map (λ f. f.ty) fs)) (all_known new (map (λ f. f.ty) fs)) (all_known-more old new k (map (λ f. f.ty) fs)) x e
+  bytes_over-more t (row.Struct fs) x e = mapped-more _ (all_known old (map (λ f. f.ty) fs)) (all_known new (map (λ f. f.ty) fs))
+      (all_known-more old new k (map (λ f. f.ty) fs)) x e
   bytes_over-more t (row.Tuple is) x e = mapped-more _ (all_known old is) (all_known new is) (all_known-more old new k is) x e
   bytes_over-more t (row.Union is) x e = mapped-more _ (all_known old is) (all_known new is) (all_known-more old new k is) x e
   bytes_over-more t (row.Error i) x e = k i x e
@@ -64,8 +67,10 @@ module _ (s f : Store) (l : IsLater s f) where
   found-more zero n h t x e = absurd cc
   found-more (suc m) zero h t x e = absurd (omega arith)
   found-more (suc m) (suc n) h t x e =
-      chained-more (bytes_over (definition_of s) (found_within s (bytes_over (definition_of s)) m) t) (bytes_over (definition_of f) (found_within f (bytes_over (definition_of f)) n) t)
-      (bytes_over-more (definition_of s) (definition_of f) l.grows.defined (found_within s (bytes_over (definition_of s)) m) (found_within f (bytes_over (definition_of f)) n)
+      chained-more (bytes_over (definition_of s) (found_within s (bytes_over (definition_of s)) m) t)
+      (bytes_over (definition_of f) (found_within f (bytes_over (definition_of f)) n) t)
+      (bytes_over-more (definition_of s) (definition_of f) l.grows.defined (found_within s (bytes_over (definition_of s)) m)
+      (found_within f (bytes_over (definition_of f)) n)
       (found-more m n (omega arith)) t) (row_at s t) (row_at f t) (row_stays t) x e
 
   -- extents stay

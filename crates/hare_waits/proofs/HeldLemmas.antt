@@ -46,7 +46,8 @@ bytes_over-none definition ks t i (row.Scalar k) c e = absurd (Contains-none i c
 bytes_over-none definition ks t i (row.Pointer j) c e = absurd (Contains-none i c)
 bytes_over-none definition ks t i (row.Nullable j) c e = absurd (Contains-none i c)
 bytes_over-none definition ks t i (row.Slice j) c e = absurd (Contains-none i c)
-bytes_over-none definition ks t i (row.Array n j) c e = ap (option_map (λ x. record { size = n * x.size; align = x.align })) (ap ks (single j i c) ∙ e)
+bytes_over-none definition ks t i (row.Array n j) c e =
+    ap (option_map (λ x. record { size = n * x.size; align = x.align })) (ap ks (single j i c) ∙ e)
 bytes_over-none definition ks t i (row.Struct fs) c e = ap (option_map _) (all_known-none ks (map (λ f. f.ty) fs) i c e)
 bytes_over-none definition ks t i (row.Tuple js) c e = ap (option_map _) (all_known-none ks js i c e)
 bytes_over-none definition ks t i (row.Union js) c e = ap (option_map _) (all_known-none ks js i c e)
@@ -57,7 +58,8 @@ module _ (s : Store) where
   found-none : (t d : ℕ) → WaitsFor s t d → (n : ℕ) → found_within s (bytes_over (definition_of s)) n t ≡ None
   found-none t d w zero = refl
   found-none t d (undefined t' d' e g) (suc n) =
-      ap (option_and_then (bytes_over (definition_of s) (found_within s (bytes_over (definition_of s)) n) t)) e ∙ ap (option_and_then (found_within s (bytes_over (definition_of s)) n)) g
+      ap (option_and_then (bytes_over (definition_of s) (found_within s (bytes_over (definition_of s)) n) t)) e ∙ ap
+      (option_and_then (found_within s (bytes_over (definition_of s)) n)) g
   found-none t d (holding t' i d' h w) (suc n) =
       ap (option_and_then (bytes_over (definition_of s) (found_within s (bytes_over (definition_of s)) n) t)) h.stands
       ∙ bytes_over-none (definition_of s) (found_within s (bytes_over (definition_of s)) n) t i h.row h.held (found-none i d w n)
@@ -73,7 +75,8 @@ module _ (s : Store) where
 
 -- ---- later stores
 
-held_by-more : (was is : ℕ → Option ℕ) → ((d t : ℕ) → was d ≡ Some t → is d ≡ Some t) → (r : Row) (i : ℕ) → Contains (held_by was r) i → Contains (held_by is r) i
+held_by-more : (was is : ℕ → Option ℕ) → ((d t : ℕ) → was d ≡ Some t → is d ≡ Some t) → (r : Row) (i : ℕ) → Contains (held_by was r) i →
+    Contains (held_by is r) i
 held_by-more was is more (row.Scalar k) i c = c
 held_by-more was is more (row.Pointer j) i c = c
 held_by-more was is more (row.Nullable j) i c = c
@@ -83,11 +86,17 @@ held_by-more was is more (row.Struct fs) i c = c
 held_by-more was is more (row.Tuple js) i c = c
 held_by-more was is more (row.Union js) i c = c
 held_by-more was is more (row.Error j) i c = c
-held_by-more was is more (row.Named d) i c = subst (λ o. Contains (option_to_list o) i) (sym (more d i (in_option (was d) i c))) (Contains-head i [])
+held_by-more was is more (row.Named d) i c =
+    subst (λ o. Contains (option_to_list o) i) (sym (more d i (in_option (was d) i c))) (Contains-head i [])
 
 module _ (s f : Store) (l : IsLater s f) where
   Holds-later : (t i : ℕ) → Holds s t i → Holds f t i
-  Holds-later t i h = record { row = h.row; stands = row_stays s f l t h.row h.stands; held = held_by-more (definition_of s) (definition_of f) l.grows.defined h.row i h.held }
+  Holds-later t i h = record {
+    row = h.row;
+    stands = row_stays s f l t h.row h.stands;
+    held = held_by-more (definition_of s)
+        (definition_of f) l.grows.defined h.row i h.held;
+  }
 
   -- it waits as long as the name is not defined
   pub WaitsFor-later : (t d : ℕ) → definition_of f d ≡ None → WaitsFor s t d → WaitsFor f t d

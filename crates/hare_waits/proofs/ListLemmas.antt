@@ -19,7 +19,8 @@ Contains-paired : (m : ℕ) (ws : List Waiting) (x : ℕ × Waiting) → Contain
 Contains-paired m [] x c = absurd (Contains-none x c)
 Contains-paired m (w ∷ ws) x c = by (Contains-paired m ws x) (Contains-cons (m, w) x (map (λ v. (m, v)) ws) c)
   where
-    by : (Contains (map (λ v. (m, v)) ws) x → (m ≡ x.0) × Contains ws x.1) → (◌≡◌ {A = ℕ × Waiting} (m, w) x) ⊎ Contains (map (λ v. (m, v)) ws) x
+    by : (Contains (map (λ v. (m, v)) ws) x → (m ≡ x.0) × Contains ws x.1) →
+        (◌≡◌ {A = ℕ × Waiting} (m, w) x) ⊎ Contains (map (λ v. (m, v)) ws) x
         → (m ≡ x.0) × Contains (w ∷ ws) x.1
     by ih (inl e) = (ap (λ p. p.0) e, subst (Contains (w ∷ ws)) (ap (λ p. p.1) e) (Contains-head w ws))
     by ih (inr r) = let h = ih r in (h.0, Contains-rest w x.1 ws h.1)
@@ -30,7 +31,8 @@ paired-Contains m (v ∷ ws) w c = by (paired-Contains m ws w) (Contains-cons v 
   where
     by : (Contains ws w → Contains {X = ℕ × Waiting} (map (λ u. (m, u)) ws) (m, w)) → (v ≡ w) ⊎ Contains ws w
         → Contains {X = ℕ × Waiting} ((m, v) ∷ map (λ u. (m, u)) ws) (m, w)
-    by ih (inl e) = subst (λ u. Contains {X = ℕ × Waiting} ((m, v) ∷ map (λ z. (m, z)) ws) (m, u)) e (Contains-head (m, v) (map (λ z. (m, z)) ws))
+    by ih (inl e) = subst (λ u. Contains {X = ℕ × Waiting} ((m, v) ∷ map (λ z. (m, z)) ws) (m, u)) e
+        (Contains-head (m, v) (map (λ z. (m, z)) ws))
     by ih (inr r) = Contains-rest (m, v) (m, w) (map (λ u. (m, u)) ws) (ih r)
 
 module _ (under : ℕ → List Waiting) where
@@ -41,7 +43,8 @@ module _ (under : ℕ → List Waiting) where
   all_pairs-sound [] x c = absurd (Contains-none x c)
   all_pairs-sound (e ∷ es) x c = by (all_pairs-sound es x) (Contains-append_cases (map (λ w. (e.0, w)) (under e.0)) (all_pairs es) x c)
     where
-      by : (Contains (all_pairs es) x → Contains (under x.0) x.1) → Contains (map (λ w. (e.0, w)) (under e.0)) x ⊎ Contains (all_pairs es) x → Contains (under x.0) x.1
+      by : (Contains (all_pairs es) x → Contains (under x.0) x.1) →
+          Contains (map (λ w. (e.0, w)) (under e.0)) x ⊎ Contains (all_pairs es) x → Contains (under x.0) x.1
       by ih (inl a) = let h = Contains-paired e.0 (under e.0) x a in subst (λ m. Contains (under m) x.1) h.0 h.1
       by ih (inr b) = ih b
 
@@ -53,7 +56,8 @@ module _ (under : ℕ → List Waiting) where
   all_pairs-whole [] x k c = absurd (Contains-none (x.0, k.0) k.1)
   all_pairs-whole (e ∷ es) x k c = by (all_pairs-whole es x) (Contains-cons e (x.0, k.0) es k.1)
     where
-      by : (IsKey es x.0 → Contains (under x.0) x.1 → Contains (all_pairs es) x) → (e ≡ (x.0, k.0)) ⊎ Contains es (x.0, k.0) → Contains (all_pairs (e ∷ es)) x
+      by : (IsKey es x.0 → Contains (under x.0) x.1 → Contains (all_pairs es) x) → (e ≡ (x.0, k.0)) ⊎ Contains es (x.0, k.0) →
+          Contains (all_pairs (e ∷ es)) x
       by ih (inl p) =
           let key : x.0 ≡ e.0 = sym (ap (λ z. z.0) p) in
           subst (λ m. Contains (map (λ w. (m, w)) (under m) ++ all_pairs es) x) key
@@ -90,7 +94,8 @@ module _ (es fs : Listing) (name : ℕ) (under : (q : ℕ) → listed_under fs q
   only : (n : ℕ) (w : Waiting) → Contains (pairs_of fs) (n, w) → Contains (pairs_of es) (n, w) × (n ≢ name)
   only n w c = by (nat_eq name n) refl (subst (λ l. Contains l w) (under n) (pairs-sound fs n w c))
     where
-      by : (b : Bool) → nat_eq name n ≡ b → Contains (cond (nat_eq name n) [] (listed_under es n)) w → Contains (pairs_of es) (n, w) × (n ≢ name)
+      by : (b : Bool) → nat_eq name n ≡ b → Contains (cond (nat_eq name n) [] (listed_under es n)) w → Contains (pairs_of es) (n, w) ×
+          (n ≢ name)
       by true e d = absurd (Contains-none w (subst (λ b. Contains (cond b [] (listed_under es n)) w) e d))
       by false e d = (pairs-whole es n w (subst (λ b. Contains (cond b [] (listed_under es n)) w) e d), λ p. eqb-false name n e (sym p))
 
@@ -107,7 +112,8 @@ module _ (es fs : Listing) (name : ℕ) (under : (q : ℕ) → listed_under fs q
 module _ (old : List (ℕ × Waiting)) (es fs : Listing) (name : ℕ) (ws : List Waiting) (w : Waiting) (takes : Takes old (pairs_of es) name ws)
     (under : (q : ℕ) → listed_under fs q ≡ cond (nat_eq name q) (ws ++ w ∷ []) (listed_under es q)) where
   here : (v : Waiting) → Contains (ws ++ w ∷ []) v → Contains (pairs_of fs) (name, v)
-  here v c = pairs-whole fs name v (subst (λ l. Contains l v) (sym (under name ∙ ap (λ b. cond b (ws ++ w ∷ []) (listed_under es name)) (eq-eqb name name refl))) c)
+  here v c = pairs-whole fs name v (subst (λ l. Contains l v)
+      (sym (under name ∙ ap (λ b. cond b (ws ++ w ∷ []) (listed_under es name)) (eq-eqb name name refl))) c)
 
   there : (n : ℕ) (v : Waiting) → Contains (pairs_of es) (n, v) → n ≢ name → Contains (pairs_of fs) (n, v)
   there n v c ne = pairs-whole fs n v (by (nat_eq name n) refl)
@@ -137,9 +143,11 @@ module _ (old : List (ℕ × Waiting)) (es fs : Listing) (name : ℕ) (ws : List
   added_only : (x : ℕ × Waiting) → Contains (pairs_of fs) x → Contains old x ⊎ (x ≡ (name, w))
   added_only x c = by (nat_eq name x.0) refl (subst (λ l. Contains l x.1) (under x.0) (pairs-sound fs x.0 x.1 c))
     where
-      by : (b : Bool) → nat_eq name x.0 ≡ b → Contains (cond (nat_eq name x.0) (ws ++ w ∷ []) (listed_under es x.0)) x.1 → Contains old x ⊎ (x ≡ (name, w))
+      by : (b : Bool) → nat_eq name x.0 ≡ b → Contains (cond (nat_eq name x.0) (ws ++ w ∷ []) (listed_under es x.0)) x.1 →
+          Contains old x ⊎ (x ≡ (name, w))
       by true e d = at_name x.0 x.1 (eqb-true name x.0 e) (subst (λ b. Contains (cond b (ws ++ w ∷ []) (listed_under es x.0)) x.1) e d)
-      by false e d = inl (takes.only x.0 x.1 (pairs-whole es x.0 x.1 (subst (λ b. Contains (cond b (ws ++ w ∷ []) (listed_under es x.0)) x.1) e d))).0
+      by false e d = inl (takes.only x.0 x.1
+          (pairs-whole es x.0 x.1 (subst (λ b. Contains (cond b (ws ++ w ∷ []) (listed_under es x.0)) x.1) e d))).0
 
   pub Adds-listed : Adds old (pairs_of fs) (name, w)
   Adds-listed = record { added = here w (Contains-push ws w); kept = still; only = added_only }
@@ -153,22 +161,27 @@ module _ {V : Type 0} (items : V → List Waiting) where
   listed-listing : (es : List (ℕ × V)) (n : ℕ) → listed_under (listing es) n ≡ unwrap_or (option_map items (lookup (nat_eq n) es)) []
   listed-listing es n = ap (λ o. unwrap_or o []) (lookup-map_values items (nat_eq n) es)
 
-  listed-cond : (b : Bool) (o p : Option V) → unwrap_or (option_map items (cond b o p)) [] ≡ cond b (unwrap_or (option_map items o) []) (unwrap_or (option_map items p) [])
+  listed-cond : (b : Bool) (o p : Option V) →
+      unwrap_or (option_map items (cond b o p)) [] ≡ cond b (unwrap_or (option_map items o) []) (unwrap_or (option_map items p) [])
   listed-cond true o p = refl
   listed-cond false o p = refl
 
   -- another look-up is another listing
-  listed-updated : (es fs : List (ℕ × V)) (name : ℕ) (o : Option V) → ((q : ℕ) → lookup (nat_eq q) fs ≡ cond (nat_eq name q) o (lookup (nat_eq q) es))
+  listed-updated : (es fs : List (ℕ × V)) (name : ℕ) (o : Option V) →
+      ((q : ℕ) → lookup (nat_eq q) fs ≡ cond (nat_eq name q) o (lookup (nat_eq q) es))
       → (q : ℕ) → listed_under (listing fs) q ≡ cond (nat_eq name q) (unwrap_or (option_map items o) []) (listed_under (listing es) q)
   listed-updated es fs name o put q =
       listed-listing fs q ∙ ap (λ p. unwrap_or (option_map items p) []) (put q) ∙ listed-cond (nat_eq name q) o (lookup (nat_eq q) es)
       ∙ ap (cond (nat_eq name q) (unwrap_or (option_map items o) [])) (sym (listed-listing es q))
 
   pub taken_out : (es fs : List (ℕ × V)) (name : ℕ) → ((q : ℕ) → lookup (nat_eq q) fs ≡ cond (nat_eq name q) None (lookup (nat_eq q) es))
-      → (ws : List Waiting) → ws ≡ unwrap_or (option_map items (lookup (nat_eq name) es)) [] → Takes (pairs_of (listing es)) (pairs_of (listing fs)) name ws
-  taken_out es fs name put ws e = Takes-listed (listing es) (listing fs) name (listed-updated es fs name None put) ws (e ∙ sym (listed-listing es name))
+      → (ws : List Waiting) → ws ≡ unwrap_or (option_map items (lookup (nat_eq name) es)) [] →
+      Takes (pairs_of (listing es)) (pairs_of (listing fs)) name ws
+  taken_out es fs name put ws e = Takes-listed (listing es) (listing fs) name (listed-updated es fs name None put) ws
+      (e ∙ sym (listed-listing es name))
 
-  pub put_back : (old : List (ℕ × Waiting)) (es fs : List (ℕ × V)) (name : ℕ) (ws : List Waiting) (w : Waiting) (v : V) → items v ≡ ws ++ w ∷ []
+  pub put_back : (old : List (ℕ × Waiting)) (es fs : List (ℕ × V)) (name : ℕ) (ws : List Waiting) (w : Waiting) (v : V) →
+      items v ≡ ws ++ w ∷ []
       → Takes old (pairs_of (listing es)) name ws → ((q : ℕ) → lookup (nat_eq q) fs ≡ cond (nat_eq name q) (Some v) (lookup (nat_eq q) es))
       → Adds old (pairs_of (listing fs)) (name, w)
   put_back old es fs name ws w v e takes put =

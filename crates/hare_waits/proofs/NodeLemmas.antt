@@ -25,7 +25,8 @@ unmeasured_as-sound : (s : Store) (k : Kind) (a : Ty) (u : ℕ) → unmeasured_a
     → (a ≡ ty.Of u) × (is_some (size_row s k u) ≡ true) × (extent_at s u ≡ None)
 unmeasured_as-sound s k (ty.Of v) u e = by (size_row s k v) refl (extent_at s v) refl e
   where
-    by : (o : Option RowId) → size_row s k v ≡ o → (x : Option Extent) → extent_at s v ≡ x → cond (is_some o && is_none x) (Some v) None ≡ Some u
+    by : (o : Option RowId) → size_row s k v ≡ o → (x : Option Extent) → extent_at s v ≡ x →
+        cond (is_some o && is_none x) (Some v) None ≡ Some u
         → (ty.Of v ≡ ty.Of u) × (is_some (size_row s k u) ≡ true) × (extent_at s u ≡ None)
     by None g x h e = absurd cc
     by (Some r) g (Some x) h e = absurd cc
@@ -48,7 +49,8 @@ unmeasured_type-sound s y u e = by (size_row s (kind_of y) u) refl h.1
 
 pub unmeasured_type-whole : (s : Store) (y : TypedNode) (u : ℕ) → IsUnmeasured s y u → unmeasured_type s y ≡ Some u
 unmeasured_type-whole s y u h =
-    ap (unmeasured_as s (kind_of y)) h.type ∙ ap (λ o. cond (is_some o && is_none (extent_at s u)) (Some u) None) h.asks ∙ ap (λ x. cond (is_none x) (Some u) None) h.unknown
+    ap (unmeasured_as s (kind_of y)) h.type ∙ ap (λ o. cond (is_some o && is_none (extent_at s u)) (Some u) None) h.asks ∙ ap
+    (λ x. cond (is_none x) (Some u) None) h.unknown
 
 -- ---- some nodes
 
@@ -57,7 +59,8 @@ cons_option-append None xs ys = refl
 cons_option-append (Some x) xs ys = refl
 
 module _ (s : Store) (m : ℕ) where
-  pub unmeasured-append : (o p : ℕ) (xs ys : List TypedNode) → o + length xs ≡ p → unmeasured s m o (xs ++ ys) ≡ unmeasured s m o xs ++ unmeasured s m p ys
+  pub unmeasured-append : (o p : ℕ) (xs ys : List TypedNode) → o + length xs ≡ p →
+      unmeasured s m o (xs ++ ys) ≡ unmeasured s m o xs ++ unmeasured s m p ys
   unmeasured-append o p [] ys e = let same : o ≡ p = omega arith in ap (λ k. unmeasured s m k ys) same
   unmeasured-append o p (x ∷ xs) ys e =
       ap (cons_option (option_map (kept_of m o x) (unmeasured_type s x))) (unmeasured-append (o + 1) p xs ys (omega arith))
@@ -73,7 +76,8 @@ module _ (s : Store) (m : ℕ) where
       (suc f.0, f.1, f.2, f.3, f.4, f.5 ∙ ap (λ k. kept_of m k f.1 f.2) same)
 
   KeptAmong-here : (o u : ℕ) (y : TypedNode) (ys : List TypedNode) → unmeasured_type s y ≡ Some u → KeptAmong o (y ∷ ys) (kept_of m o y u)
-  KeptAmong-here o u y ys e = let same : o ≡ o + 0 = omega arith in (0, y, u, refl, unmeasured_type-sound s y u e, ap (λ k. kept_of m k y u) same)
+  KeptAmong-here o u y ys e =
+      let same : o ≡ o + 0 = omega arith in (0, y, u, refl, unmeasured_type-sound s y u e, ap (λ k. kept_of m k y u) same)
 
   -- each that is kept is a node that is not measured
   pub unmeasured-sound : (o : ℕ) (ys : List TypedNode) (w : Waiting) → Contains (unmeasured s m o ys) w → KeptAmong o ys w
@@ -91,17 +95,23 @@ module _ (s : Store) (m : ℕ) where
       by ih (Some u) e d = on u e ih (Contains-cons (kept_of m o y u) w (unmeasured s m (o + 1) ys) d)
 
   -- each node that is not measured is kept
-  pub unmeasured-whole : (o p : ℕ) (ys : List TypedNode) (i : ℕ) (y : TypedNode) (u : ℕ) → o + i ≡ p → slice_get ys i ≡ Some y → IsUnmeasured s y u
+  pub unmeasured-whole : (o p : ℕ) (ys : List TypedNode) (i : ℕ) (y : TypedNode) (u : ℕ) → o + i ≡ p → slice_get ys i ≡ Some y →
+      IsUnmeasured s y u
       → Contains (unmeasured s m o ys) (kept_of m p y u)
   unmeasured-whole o p [] i y u l e h = absurd cc
   unmeasured-whole o p (x ∷ ys) zero y u l e h =
       let same : x ≡ y = cc in
       let here : o ≡ p = omega arith in
-      subst (λ z. Contains (cons_option (option_map (kept_of m o z) (unmeasured_type s z)) (unmeasured s m (o + 1) ys)) (kept_of m p y u)) (sym same)
-      (subst (λ a. Contains (cons_option (option_map (kept_of m o y) a) (unmeasured s m (o + 1) ys)) (kept_of m p y u)) (sym (unmeasured_type-whole s y u h))
-      (subst (λ k. Contains (kept_of m o y u ∷ unmeasured s m (o + 1) ys) (kept_of m k y u)) here (Contains-head (kept_of m o y u) (unmeasured s m (o + 1) ys))))
-  unmeasured-whole o p (x ∷ ys) (suc i) y u l e h = by (option_map (kept_of m o x) (unmeasured_type s x)) (unmeasured-whole (o + 1) p ys i y u (omega arith) e h)
+      subst (λ z. Contains (cons_option (option_map (kept_of m o z) (unmeasured_type s z)) (unmeasured s m (o + 1) ys)) (kept_of m p y u))
+      (sym same)
+      (subst (λ a. Contains (cons_option (option_map (kept_of m o y) a) (unmeasured s m (o + 1) ys)) (kept_of m p y u))
+      (sym (unmeasured_type-whole s y u h))
+      (subst (λ k. Contains (kept_of m o y u ∷ unmeasured s m (o + 1) ys) (kept_of m k y u)) here
+      (Contains-head (kept_of m o y u) (unmeasured s m (o + 1) ys))))
+  unmeasured-whole o p (x ∷ ys) (suc i) y u l e h =
+      by (option_map (kept_of m o x) (unmeasured_type s x)) (unmeasured-whole (o + 1) p ys i y u (omega arith) e h)
     where
-      by : (a : Option Waiting) → Contains (unmeasured s m (o + 1) ys) (kept_of m p y u) → Contains (cons_option a (unmeasured s m (o + 1) ys)) (kept_of m p y u)
+      by : (a : Option Waiting) → Contains (unmeasured s m (o + 1) ys) (kept_of m p y u) →
+          Contains (cons_option a (unmeasured s m (o + 1) ys)) (kept_of m p y u)
       by None c = c
       by (Some w) c = Contains-rest w (kept_of m p y u) (unmeasured s m (o + 1) ys) c

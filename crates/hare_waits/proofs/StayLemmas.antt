@@ -108,4 +108,9 @@ module _ (s f : Store) (l : IsLater s f) (q : List (ℕ × Waiting)) (js : List 
       still : (m o u : ℕ) (y : TypedNode) → IsNode js m o y → IsUnmeasured s y u → IsAwaited f q (kept_of m o y u)
       still m o u y n h =
           let w = a.awaited m o u y n h in
-          record { name = w.name; entered = w.entered; waits = WaitsFor-later s f l u w.name (same w.name ∙ undefined-WaitsFor s u w.name w.waits) w.waits }
+          record {
+            name = w.name;
+            entered = w.entered;
+            waits = WaitsFor-later s f l u w.name
+                (same w.name ∙ undefined-WaitsFor s u w.name w.waits) w.waits;
+          }

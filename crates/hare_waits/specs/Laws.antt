@@ -9,4 +9,5 @@ use Rattle.hare_waits.specs.Waits.{AreAwaited}
 
 -- where no other name is defined, the same nodes wait, and for the same names
 abbrev pub WaitsStay : Type 0
-WaitsStay = (s f : Store) (q : List (ℕ × Waiting)) (js : List (ℕ × List TypedNode)) → AreAwaited s q js → IsLater s f → DefinesTheSame s f → AreAwaited f q js
+WaitsStay = (s f : Store) (q : List (ℕ × Waiting)) (js : List (ℕ × List TypedNode)) → AreAwaited s q js → IsLater s f → DefinesTheSame s f →
+    AreAwaited f q js

@@ -53,4 +53,5 @@ ComesBefore v w = (v.decl < w.decl) ⊎ ((v.decl ≡ w.decl) × (v.order < w.ord
 -- the first of these that is too large, where there is one
 abbrev pub IsFirstOf : Store → List Waiting → Option Waiting → Type 0
 IsFirstOf s ws None = (w : Waiting) → Contains ws w → is_small_at s w.ty ≡ true
-IsFirstOf s ws (Some f) = Contains ws f × (is_small_at s f.ty ≡ false) × ((w : Waiting) → Contains ws w → is_small_at s w.ty ≡ false → ¬ ComesBefore w f)
+IsFirstOf s ws (Some f) = Contains ws f × (is_small_at s f.ty ≡ false) ×
+    ((w : Waiting) → Contains ws w → is_small_at s w.ty ≡ false → ¬ ComesBefore w f)

@@ -29,7 +29,8 @@ pub record IsWaiting (s : Store) (js : List (ℕ × List TypedNode)) (n : ℕ) (
   pub place : place_of node ≡ w.place
   pub waits : WaitsFor s w.ty n
 
--- Of the written types of declarations that were judged, each with these: all are in the store, and each node fits as far as its bytes are known. A node
+-- Of the written types of declarations that were judged, each with these: all are in the store, and each node fits as far as its bytes are
+-- known. A node
 -- whose bytes are not known is entered under a name for which it waits, and nothing else is entered.
 pub record AreAwaited (s : Store) (q : List (ℕ × Waiting)) (js : List (ℕ × List TypedNode)) : Type 0 where
   pub stand : (m : ℕ) (ts : List TypedNode) → Contains js (m, ts) → StandIn s ts
@@ -44,7 +45,8 @@ pub record DefinesAlso (s0 s : Store) (n : ℕ) : Type 0 where
   pub later : IsLater s0 s
   pub others : (d : ℕ) → d ≢ n → definition_of s d ≡ definition_of s0 d
 
--- Of the declarations that were judged this is the first, by number, that has a type that is too large; its first such node in check order has this place.
+-- Of the declarations that were judged this is the first, by number, that has a type that is too large; its first such node in check order
+-- has this place.
 pub record IsLate (s : Store) (js : List (ℕ × List TypedNode)) (m : ℕ) (p : Place) : Type 0 where
   pub types : List TypedNode
   pub judged : Contains js (m, types)

@@ -41,7 +41,8 @@ trees-none [] (suc i) h = refl
 trees-none (t ∷ ts) zero h = absurd (omega arith)
 trees-none (t ∷ ts) (suc i) h = trees-none ts i (omega arith)
 
-trees-split : (ts : List Node) (i : ℕ) → trees_in_each (nodes_of (take i ts)) + trees_in_each (nodes_of (drop i ts)) ≡ trees_in_each (nodes_of ts)
+trees-split : (ts : List Node) (i : ℕ) → trees_in_each (nodes_of (take i ts)) + trees_in_each (nodes_of (drop i ts)) ≡
+    trees_in_each (nodes_of ts)
 trees-split [] zero = refl
 trees-split [] (suc i) = refl
 trees-split (t ∷ ts) zero = zero-add (trees_in_each (nodes_of (t ∷ ts)))
@@ -59,7 +60,8 @@ number-at a xs ts i t n e g =
     let p = trees-erased xs ∙ ap (λ us. trees_in_each (nodes_of us)) e in
     let q = trees-split ts i in
     let r = trees-next ts i t g in
-    let s : trees_in_each (nodes_of (drop (length xs + 1) ts)) ≡ trees_in_each (nodes_of (drop (i + 1) ts)) = ap (λ k. trees_in_each (nodes_of (drop (k + 1) ts))) n in
+    let s : trees_in_each (nodes_of (drop (length xs + 1) ts)) ≡ trees_in_each (nodes_of (drop (i + 1) ts)) =
+    ap (λ k. trees_in_each (nodes_of (drop (k + 1) ts))) n in
     omega (arith, p, q, r, s)
 
 -- ---- kids
@@ -69,7 +71,8 @@ pub at-kid : (a b : Above) (h : Head) (k : Kind) (xs : List TypedNode) (ts : Lis
     (is_labelled k ≡ true → n ≡ d.nodes + trees_in_each (nodes_of ts)) →
     IsAt b h (map bare xs) t (nodes_of (drop (length xs + 1) ts)) (record { begins = c.nodes; first = c.bindings; number = n })
 at-kid a b h k xs ts i t c d n m j l e g y z o =
-    subst (λ (x : Above). IsAt x h (map bare xs) t (nodes_of (drop (length xs + 1) ts)) (record { begins = c.nodes; first = c.bindings; number = n }))
+    subst (λ (x : Above). IsAt x h (map bare xs) t (nodes_of (drop (length xs + 1) ts))
+    (record { begins = c.nodes; first = c.bindings; number = n }))
     (sym m)
     (record {
       begins = z.nodes;
@@ -81,13 +84,15 @@ at-kid a b h k xs ts i t c d n m j l e g y z o =
           omega (arith, u, v, w);
     })
 
-pub begun-kid : (w v : Store → Setting) (s : Store) (a b o : Above) (h : Head) (xs : List TypedNode) (t : Node) (rest : Nodes) (c : Counts) → b ≡ a →
+pub begun-kid : (w v : Store → Setting) (s : Store) (a b o : Above) (h : Head) (xs : List TypedNode) (t : Node) (rest : Nodes)
+    (c : Counts) → b ≡ a →
     IsStore s → IsOver w s b h xs t rest o → IsAmong a h (map bare xs) c → IsBegun o c
 begun-kid w v s a b o h xs t rest c m i over k =
     let e = over s (later_here s i) in
     record {
       nodes = k.nodes ∙ ap (λ (x : Above). x.begins + trees_of (map bare xs)) (sym m) ∙ sym (ap (λ (x : Above). x.begins) e);
-      bindings = k.bindings ∙ ap (λ (x : Above). x.first + own_bindings h.kind + bindings_of (map bare xs)) (sym m) ∙ sym (ap (λ (x : Above). x.first) e);
+      bindings = k.bindings ∙ ap (λ (x : Above). x.first + own_bindings h.kind + bindings_of (map bare xs)) (sym m) ∙ sym
+          (ap (λ (x : Above). x.first) e);
     }
 
 trees-append : (xs : List TypedNode) (x : TypedNode) → trees_of (xs ++ x ∷ []) ≡ trees_of xs + trees_in (erase x)
@@ -98,7 +103,8 @@ bindings-append : (xs : List TypedNode) (x : TypedNode) → bindings_of (xs ++ x
 bindings-append [] x = omega arith
 bindings-append (y ∷ ys) x = omega (arith, bindings-append ys x)
 
-pub among-more : (a : Above) (h : Head) (xs ys : List TypedNode) (x : TypedNode) (c d : Counts) → IsAmong a h (map bare xs) c → IsBehind c (bare x) d →
+pub among-more : (a : Above) (h : Head) (xs ys : List TypedNode) (x : TypedNode) (c d : Counts) → IsAmong a h (map bare xs) c →
+    IsBehind c (bare x) d →
     ys ≡ xs ++ x ∷ [] → IsAmong a h (map bare ys) d
 among-more a h xs ys x c d k b e =
     let p : map bare ys ≡ map bare xs ++ bare x ∷ [] = ap (map bare) e ∙ map-append bare xs (x ∷ []) in
@@ -124,15 +130,18 @@ turned-tree w a h xs f g (Ok t) y e =
     let same : found (marked h m (typed_nodes xs)) (flow_after w a h xs f) ≡ found y g = cc in
     (m, ap (λ (x : Found). x.tree) same)
 
-behind-tree : (a : Above) (h : Head) (m : Mark) (xs : List TypedNode) (b c d : Counts) → IsBegun a b → IsAmong a h xs c → d.nodes ≡ c.nodes + 1 →
+behind-tree : (a : Above) (h : Head) (m : Mark) (xs : List TypedNode) (b c d : Counts) → IsBegun a b → IsAmong a h xs c →
+    d.nodes ≡ c.nodes + 1 →
     d.bindings ≡ c.bindings → IsBehind b (marked h m (typed_nodes xs)) d
 behind-tree a h m xs b c d i k n e =
     let t = trees-listed xs in
     let u = bindings-listed xs in
     record { nodes = omega (arith, i.nodes, k.nodes, n, t); bindings = omega (arith, i.bindings, k.bindings, e, u) }
 
-pub behind-turn : (v : Store → Setting) (r : Store) (a o : Above) (h : Head) (xs : List TypedNode) (f g : Flow) (q : Result TypedNode (Stop Fault))
-    (b c d : Counts) → o ≡ a → IfOk q (λ x. IsTurned v r o h xs f x g) → IsStore r → IsBegun a b → IsAmong a h (map bare xs) c → d.nodes ≡ c.nodes + 1 →
+pub behind-turn : (v : Store → Setting) (r : Store) (a o : Above) (h : Head) (xs : List TypedNode) (f g : Flow)
+    (q : Result TypedNode (Stop Fault))
+    (b c d : Counts) → o ≡ a → IfOk q (λ x. IsTurned v r o h xs f x g) → IsStore r → IsBegun a b → IsAmong a h (map bare xs) c →
+    d.nodes ≡ c.nodes + 1 →
     d.bindings ≡ c.bindings → IfOk q (λ x. IsBehind b (bare x) d)
 behind-turn v r a o h xs f g (Err e) b c d m t s i k n p = tt
 behind-turn v r a o h xs f g (Ok x) b c d m t s i k n p =

@@ -50,7 +50,8 @@ global_main : main_of paths (named ki.GlobalLet absent (codes "main") (absent �
 global_main = refl
 
 -- with a parameter, unexported, or with another result: E46 at its name
-with_param : IsEntryFault paths (function export_word (codes "main") (param (type_path 1) ∷ []) (codes "void") ∷ []) (record { number = 46; place = at 11 })
+with_param : IsEntryFault paths (function export_word (codes "main") (param (type_path 1) ∷ []) (codes "void") ∷ [])
+    (record { number = 46; place = at 11 })
 with_param = odd_main 0 (function export_word (codes "main") (param (type_path 1) ∷ []) (codes "void")) refl refl refl refl
 
 unexported : is_entry_shaped (function absent (codes "main") [] (codes "void")) ≡ false
@@ -105,5 +106,6 @@ past_full = record {
 }
 
 -- a def has no bytes there
-def_bytes : global_bytes arrays (typed ki.Def 0 (typed ki.None 0 [] ∷ typed ki.Name 0 [] ∷ typed ki.TypeArray 1 [] ∷ typed ki.Array 1 [] ∷ [])) ≡ 0
+def_bytes : global_bytes arrays (typed ki.Def 0
+    (typed ki.None 0 [] ∷ typed ki.Name 0 [] ∷ typed ki.TypeArray 1 [] ∷ typed ki.Array 1 [] ∷ [])) ≡ 0
 def_bytes = refl

@@ -40,7 +40,8 @@ def_turn = refl
 def_written : written_types a_def ≡ []
 def_written = refl
 
--- ---- globals with types that point at each other: the type of the other is judged right before the value that names it, and not again at its turn
+-- ---- globals with types that point at each other: the type of the other is judged right before the value that names it, and not again at
+-- its turn
 
 abbrev first_global : Node
 first_global = global (pointer (type_path 9)) (path 1)
@@ -69,7 +70,8 @@ own_turn = refl
 
 abbrev three_globals : Listing
 three_globals =
-    listing (global (type_path 9) (array (path 2) (array (path 1) (path 2))) ∷ global (type_path 9) (path 9) ∷ global (type_path 9) (path 9) ∷ [])
+    listing (global (type_path 9) (array (path 2) (array (path 1) (path 2))) ∷ global (type_path 9) (path 9) ∷ global (type_path 9) (path 9)
+    ∷ [])
 
 several : early three_globals (0 ∷ []) (global (type_path 9) (array (path 2) (array (path 1) (path 2)))) ≡ 1 ∷ 2 ∷ []
 several = refl

@@ -33,7 +33,8 @@ at = record { file = 0; line = 1; column = 1 }
 abbrev pub tree : Kind → ℕ → List TypedNode → TypedNode
 tree k t ts =
     marked (record { kind = k; place = at; text = []; number = 0; suffix = suffix.None })
-    (record { node = 0; ty = ty.Of t; coerce = record { row = 1; to = ty.Of t }; meaning = me.None; value = constant.Absent }) (typed_nodes ts)
+    (record { node = 0; ty = ty.Of t; coerce = record { row = 1; to = ty.Of t }; meaning = me.None; value = constant.Absent })
+    (typed_nodes ts)
 
 abbrev absent : TypedNode
 absent = tree ki.None 0 []
@@ -64,7 +65,8 @@ nested_tags : tag_list types (type_decl nested ∷ []) ≡ 6 ∷ 1 ∷ 2 ∷ 3 �
 nested_tags = refl
 
 -- `((i8 | u8) | str)`: a union in parentheses lists its own members; never lists nothing, and no type is listed twice
-inner_tags : tag_list types (type_decl (tree ki.TypeUnion 7 (tree ki.TypeUnion 5 (i8 ∷ u8 ∷ []) ∷ never ∷ str ∷ i8 ∷ [])) ∷ []) ≡ 1 ∷ 2 ∷ 3 ∷ []
+inner_tags : tag_list types (type_decl (tree ki.TypeUnion 7 (tree ki.TypeUnion 5 (i8 ∷ u8 ∷ []) ∷ never ∷ str ∷ i8 ∷ [])) ∷ []) ≡
+    1 ∷ 2 ∷ 3 ∷ []
 inner_tags = refl
 
 -- `(...p | str)`: a spread lists nothing

@@ -1,4 +1,5 @@
--- What a well-typed declaration is. Its parts are judged by the rules each for itself: written types, a value, a body; and then the declaration.
+-- What a well-typed declaration is. Its parts are judged by the rules each for itself: written types, a value, a body; and then the
+-- declaration.
 use Rattle.std.specs.Prelude.{◌≡◌, ◌⊎◌, ℕ, suc, List, [], ◌∷◌, ◌++◌, Bool, true, false, length, map, replicate, Option, None}
 use Rattle.std.specs.Option.{unwrap_or}
 use Rattle.hare_tree.specs.declared.kind.Kind.{Kind}
@@ -42,7 +43,13 @@ over_value w n h = record { hint = h; values = hint.None; inside = inside n (nev
 
 -- a body has the result as its hint, and the parameters as its first bindings
 abbrev pub over_body : ℕ → (result params : ℕ) → Above
-over_body n result params = record { hint = hint.Of result; values = hint.None; inside = inside n result true Ordinary; first = params; begins = 0 }
+over_body n result params = record {
+  hint = hint.Of result;
+  values = hint.None;
+  inside = inside n result true Ordinary;
+  first = params;
+  begins = 0;
+}
 
 -- ---- what is known before it
 

@@ -1,4 +1,5 @@
--- The first fault of a program whose files and names have none: of circles, then of declarations, then of bodies, then of limits. A later phase is looked at
+-- The first fault of a program whose files and names have none: of circles, then of declarations, then of bodies, then of limits. A later
+-- phase is looked at
 -- where all earlier ones found nothing.
 use Rattle.std.specs.Prelude.{◌≡◌, ℕ, List, map}
 use Rattle.hare_tree.specs.declared.place.Fault.{Fault}
@@ -36,4 +37,5 @@ pub data IsFaultOfPhases (paths : List (List ℕ)) (p : Listing) (s : Store) (f 
   of_circles : IsCircleFault (saids p) f → IsFaultOfPhases paths p s f
   of_declarations : IsFinal p s → IsDeclarationFault p s f → IsFaultOfPhases paths p s f
   of_bodies : IsFinal p s → IsBodyFault p s f → IsFaultOfPhases paths p s f
-  of_limits : (ds : List TypedNode) → IsFinal p s → AreFaultless p s → AreTyped p s ds → IsLimitFault paths s ds f → IsFaultOfPhases paths p s f
+  of_limits : (ds : List TypedNode) → IsFinal p s → AreFaultless p s → AreTyped p s ds → IsLimitFault paths s ds f →
+      IsFaultOfPhases paths p s f

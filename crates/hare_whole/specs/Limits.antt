@@ -1,4 +1,5 @@
--- What is looked at when all declarations and bodies have been judged: the function `main`, the frames of functions, and the size of the whole.
+-- What is looked at when all declarations and bodies have been judged: the function `main`, the frames of functions, and the size of the
+-- whole.
 use Rattle.std.specs.Prelude.{◌≡◌, ℕ, suc, ◌+◌, ◌<◌, List, [], Bool, true, false, not, ◌&&◌, cond, codes, bytes_eq, length, map, take, filter, position, slice_get, sum_by, Option, Some, None, Contains}
 use Rattle.std.specs.List.{list_any}
 use Rattle.hare_tree.specs.declared.kind.Kind.{Kind}

@@ -75,7 +75,8 @@ is_path _ = false
 pub data IsUnsized (p : Listing) : Node → Type 0 where
   word : (t : Node) → names_no_size (head t).kind (text_of t) → IsUnsized p t
   error : (t : Node) → is_error (head t).kind ≡ true → IsUnsized p (kid t 0) → IsUnsized p t
-  name : (t : Node) (n : ℕ) (d : Node) → is_path (head t).kind ≡ true → p.means (place_of t) ≡ me.Decl n → IsDecl p n d → IsUnsized p (kid d 2) →
+  name : (t : Node) (n : ℕ) (d : Node) → is_path (head t).kind ≡ true → p.means (place_of t) ≡ me.Decl n → IsDecl p n d →
+      IsUnsized p (kid d 2) →
       IsUnsized p t
 
 -- The store has each type of the program as declared, with what is seen of its size; and beside them `rt::nomem`, which is `!void`.

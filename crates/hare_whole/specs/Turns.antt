@@ -1,6 +1,7 @@
 -- The third and the fourth phase: declarations in their order, and then bodies in that of the source; and the first fault of each.
 --
--- One store is spoken of throughout, that with which the checking ends. At each turn no more of it is seen than the definitions of the types that are done.
+-- One store is spoken of throughout, that with which the checking ends. At each turn no more of it is seen than the definitions of the
+-- types that are done.
 use Rattle.std.specs.Prelude.{◌≡◌, ◌⊎◌, ℕ, ◌<◌, List, [], ◌∷◌, ◌++◌, Bool, true, false, not, ◌||◌, cond, filter, length, map, nat_eq, Option, Some, None, Contains}
 use Rattle.std.specs.Option.{unwrap_or}
 use Rattle.std.specs.Map.{lookup}
@@ -113,7 +114,8 @@ abbrev pub IsTypesFault : Setting → ℕ → List Written → Fault → Type 0
 IsTypesFault w n [] f = ⊥
 IsTypesFault w n (r ∷ rs) f = IsTypeFault w n r f ⊎ ((t : TypedNode) × IsTyped w n r t × IsTypesFault w n rs f)
 
--- What is known by its written types: of a type and of a function all, of a global its type. A def is known by its value, as is a global without a type.
+-- What is known by its written types: of a type and of a function all, of a global its type. A def is known by its value, as is a global
+-- without a type.
 abbrev pub known_by_types : Store → ℕ → Kind → Sort → List TypedNode → List DeclType
 known_by_types s n k so.Type ts = type_known s n ∷ []
 known_by_types s n k so.Function ts = function_known n (but_last ts) (tree_from_front 0 (backwards ts)) ∷ []
@@ -150,7 +152,8 @@ pub record IsTypedValue (w : Setting) (n : ℕ) (t : Node) (ts : List TypedNode)
 pub data IsValueFault (w : Setting) (n : ℕ) (t : Node) (ts : List TypedNode) (f : Fault) : Type 0 where
   inside : (q : RowId) (c : Context) → FailsIn w (over_value w n (hint_by ts)) (kid t 3) (before_value (kid t 3)) q c → f ≡ fault_of q c →
       IsValueFault w n t ts f
-  itself : (v : TypedNode) (q : RowId) → IsTypedValue w n t ts v → first_failing (context_of w n t ts v) ≡ Some q → f ≡ fault_of q (context_of w n t ts v) →
+  itself : (v : TypedNode) (q : RowId) → IsTypedValue w n t ts v → first_failing (context_of w n t ts v) ≡ Some q →
+      f ≡ fault_of q (context_of w n t ts v) →
       IsValueFault w n t ts f
 
 abbrev pub is_def : Kind → Bool
@@ -200,7 +203,8 @@ pub data Passes (p : Listing) (s : Store) (g : Stage) : Step → Stage → Type 
   types : (n : ℕ) (t : Node) (ts : List TypedNode) → IsDecl p n t → AreTyped (setting_at p s g) n (written_types t) ts →
       Passes p s g (Types n) (with_types s g n t ts)
   value : (n : ℕ) (t : Node) (v : TypedNode) → IsDecl p n t → IsTypedValue (setting_at p s g) n t (typed_at g n) v →
-      first_failing (context_of (setting_at p s g) n t (typed_at g n) v) ≡ None → Passes p s g (Value n) (with_value (setting_at p s g) s g n t v)
+      first_failing (context_of (setting_at p s g) n t (typed_at g n) v) ≡ None →
+      Passes p s g (Value n) (with_value (setting_at p s g) s g n t v)
   done : (n : ℕ) (t : Node) → IsDecl p n t → IsDefinedAs s n (sort_of t) (typed_at g n) → StaysTyped p s (with_done g n) →
       Passes p s g (Done n) (with_done g n)
 
@@ -253,7 +257,8 @@ pub record HasWellBody (w : Setting) (n : ℕ) (t : Node) : Type 0 where
   pub tree : TypedNode
   pub erases : erase tree ≡ kid t 4
   pub well :
-      IsWell w (over_body n (result_in (declaration w n)) (length (params_in (declaration w n)))) (before_body (params_in (declaration w n)) (kid t 4)) tree
+      IsWell w (over_body n (result_in (declaration w n)) (length (params_in (declaration w n))))
+      (before_body (params_in (declaration w n)) (kid t 4)) tree
 
 -- the fault of the first row that fails at the first node of a body that fails
 abbrev pub IsFaultOfBody : Setting → ℕ → Node → Fault → Type 0

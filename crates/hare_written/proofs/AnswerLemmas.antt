@@ -23,7 +23,8 @@ stop-fault : (w : Store → Setting) (f : Store) (n : ℕ) (role : Role) (t : No
     IsStop (Refused e) (infer (w f) (over_type (w f) n role) t before_type) → HasFault w f n role t e
 stop-fault w f n role t e (q, c, i, j) = (q, c, ((exact (w f) (over_type (w f) n role) before_type).fails t q c).1 i, j)
 
-pub written-tree : (w : Store → Setting) (s : Store) (n : ℕ) (role : Role) (t : Node) (x : TypedNode) → IsJudged w s role t 0 x → IsWrittenTree w s n role t x
+pub written-tree : (w : Store → Setting) (s : Store) (n : ℕ) (role : Role) (t : Node) (x : TypedNode) → IsJudged w s role t 0 x →
+    IsWrittenTree w s n role t x
 written-tree w s n role t x i = record {
   erases = i.erases;
   plain = i.plain;
@@ -31,10 +32,12 @@ written-tree w s n role t x i = record {
   fits = fit-all s x i.fits;
   carries = λ f l k.
       let a = over_type (w f) n role in
-      (finds (w f) a t before_type (found x (seen_of (coercions_of (check_order x)))) (i.infers f l (all-fit f x k) a [] refl refl)).carries;
+      (finds (w f) a t before_type (found x (seen_of (coercions_of (check_order x))))
+      (i.infers f l (all-fit f x k) a [] refl refl)).carries;
   large = λ f k y l h. stop-fault w f n role t _ (i.large f y l (first-large f x k y h) (over_type (w f) n role) [] refl refl);
 }
 
-pub written-stop : (w : Store → Setting) (s : Store) (n : ℕ) (role : Role) (t : Node) (e : Stop Fault) → IsStopped w s role t 0 e → IsWrittenStop w s n role t e
+pub written-stop : (w : Store → Setting) (s : Store) (n : ℕ) (role : Role) (t : Node) (e : Stop Fault) → IsStopped w s role t 0 e →
+    IsWrittenStop w s n role t e
 written-stop w s n role t Memory i = tt
 written-stop w s n role t (Refused e) i = λ f l m. stop-fault w f n role t e (i f l m (over_type (w f) n role) [] refl refl)

@@ -35,7 +35,8 @@ grown-later s r g v = later-grown s r r g (later_here r v)
 -- a store that grows knows no more of the bytes of types
 pub grown-measures : BytesFollowDefinitions → (s r : Store) → IsGrown s r → IsStore s → IsStore r → MeasuresTheSame s r
 grown-measures b s r g v w =
-    b s r v (grown-later s r g w) (λ d. ap (λ (ds : List (ℕ × Declared)). option_and_then (λ e. e.definition) (lookup (nat_eq d) ds)) g.declared)
+    b s r v (grown-later s r g w) (λ d. ap (λ (ds : List (ℕ × Declared)). option_and_then (λ e. e.definition) (lookup (nat_eq d) ds))
+    g.declared)
 
 pub measures-trans : (s r f : Store) → IsStore s → IsLater s r → MeasuresTheSame s r → MeasuresTheSame r f → MeasuresTheSame s f
 measures-trans s r f v l a b u h = b u (within_stays s r v l u h) ∙ a u h
@@ -52,7 +53,8 @@ module _ (s f : Store) (v : IsStore s) (l : IsLater s f) where
   module _ (m : MeasuresTheSame s f) where
     pub as-stays : (k : Kind) (u : ℕ) → u < length s.rows → FitsAs s k u → FitsAs f k u
     as-stays k u w h r q =
-        ap (λ (o : Option Extent). is_small (option_map (λ x. x.size) o)) (m u w) ∙ h r (ap (size_row_by k) (sym (row_stays s f v l u w)) ∙ q)
+        ap (λ (o : Option Extent). is_small (option_map (λ x. x.size) o)) (m u w) ∙ h r
+        (ap (size_row_by k) (sym (row_stays s f v l u w)) ∙ q)
 
     pub fit-stays : (y : TypedNode) → StandsIn s y → FitsNode s y → FitsNode f y
     fit-stays y w h u e = as-stays (kind_of y) u (w u e) (h u e)
@@ -76,4 +78,5 @@ stand-all s x h y u c e = each-of (StandsIn s) (check_order x) h y (subst (λ (y
 
 pub first-large : (f : Store) (x : TypedNode) (i : ℕ) (y : TypedNode) → IsFirstLarge f (x ∷ []) i y → IsFirst f (check_order x) y
 first-large f x i y h =
-    subst (λ (ys : List TypedNode). IsFirst f ys y) (sym h.nodes ∙ one_tree x) (first-at f h.before h.behind y (each-from (FitsNode f) h.before h.fit) h.large)
+    subst (λ (ys : List TypedNode). IsFirst f ys y) (sym h.nodes ∙ one_tree x)
+    (first-at f h.before h.behind y (each-from (FitsNode f) h.before h.fit) h.large)

@@ -100,7 +100,8 @@ module _ (ns : List (Place × Meaning)) (s : Store) (t : Written) (kind : is_typ
     type = λ f l a cs at. type-is f a cs at ∙ i.type f l;
     large = λ f v q l e asks big a cs at.
         let same : v ≡ u = cc in
-        failing-is f a cs at ∙ i.large f q l (subst (λ j. size_row f (kind_in t) j ≡ Some q) same asks) (subst (λ j. is_small_at f j ≡ false) same big);
+        failing-is f a cs at ∙ i.large f q l (subst (λ j. size_row f (kind_in t) j ≡ Some q) same asks)
+        (subst (λ j. is_small_at f j ≡ false) same big);
   }
 
   pub type-back : (e : Stop Fault) → IsStoppedType s t e → IsTurnedBack w s (role_of t.bound) (head_in t) t.kids.now e
@@ -120,8 +121,10 @@ module _ (ns : List (Place × Meaning)) (ds : List DeclType) (s : Store) (h : He
 
   module _ (x : Finding) (defined : IsDefinedFinding s x) where
     -- what is found of the part is its type
-    by-finding : (r : Role) → is_written h.kind ≡ true → list_any is_site (rows_in_role r h.kind) ≡ false → ((o : Option Row) → size_row_by h.kind o ≡ None) →
-        ((f : Store) → IsLater s f → (a : Above) (cs : List Coercion) → IsAt a r xs cs → IsFoundAt (context (v f) a h (map bare xs) (seen_of cs)) xs cs x) →
+    by-finding : (r : Role) → is_written h.kind ≡ true → list_any is_site (rows_in_role r h.kind) ≡ false →
+        ((o : Option Row) → size_row_by h.kind o ≡ None) →
+        ((f : Store) → IsLater s f → (a : Above) (cs : List Coercion) → IsAt a r xs cs →
+        IsFoundAt (context (v f) a h (map bare xs) (seen_of cs)) xs cs x) →
         IsTypeFound v s r h xs x.ty
     by-finding r kind unasked none found = record {
       kind = kind;
@@ -133,7 +136,8 @@ module _ (ns : List (Place × Meaning)) (ds : List DeclType) (s : Store) (h : He
       large = λ f u q l e asks big. let n = none (row_at f u) in absurd cc;
     }
       where
-        here : (f : Store) → IsLater s f → (a : Above) (cs : List Coercion) → IsAt a r xs cs → IsFoundAt (context (v f) a h xs (seen_of cs)) xs cs x
+        here : (f : Store) → IsLater s f → (a : Above) (cs : List Coercion) → IsAt a r xs cs →
+            IsFoundAt (context (v f) a h xs (seen_of cs)) xs cs x
         here f l a cs at = subst (λ (ys : List TypedNode). IsFoundAt (context (v f) a h ys (seen_of cs)) xs cs x) plain (found f l a cs at)
 
     -- what stands round types
@@ -141,11 +145,13 @@ module _ (ns : List (Place × Meaning)) (ds : List DeclType) (s : Store) (h : He
         ((u : Store → Setting) (a : Above) (f : Flow) → IsAtPlain u a f xs → IsFound u s a h xs f x) → IsTypeFound v s Ordinary h xs x.ty
     around-found kind found =
         by-finding Ordinary (around-written h.kind kind) (around-unasked h.kind kind) (around-small h.kind kind)
-        (λ f l a cs at. found v a (seen_of cs) (record { store = λ l. refl; hand = hand a Ordinary cs at; role = ap goes_by_kind at.role }) f l)
+        (λ f l a cs at. found v a (seen_of cs) (record { store = λ l. refl; hand = hand a Ordinary cs at; role = ap goes_by_kind at.role })
+        f l)
 
     -- a length
     pub length-found : (m : Meaning) → is_length h.kind ≡ true → ((f : Store) → m ≡ meaning_of (v f) h) →
-        ((u : Store → Setting) (a : Above) (f : Flow) → IsAtLength u s a f ds m h xs → IsFound u s a h xs f x) → IsTypeFound v s Length h xs x.ty
+        ((u : Store → Setting) (a : Above) (f : Flow) → IsAtLength u s a f ds m h xs → IsFound u s a h xs f x) →
+        IsTypeFound v s Length h xs x.ty
     length-found m kind means found =
         by-finding Length (length-written h.kind kind) refl (length-small h.kind kind)
         (λ f l a cs at.
@@ -159,7 +165,8 @@ module _ (ns : List (Place × Meaning)) (ds : List DeclType) (s : Store) (h : He
         }) f l)
 
   -- the path of a length that means no def
-  pub other-found : (m : Meaning) (u : ℕ) → h.kind ≡ ki.Path → ((f : Store) → m ≡ meaning_of (v f) h) → ((f : Store) → means_def (v f) m ≡ false) →
+  pub other-found : (m : Meaning) (u : ℕ) → h.kind ≡ ki.Path → ((f : Store) → m ≡ meaning_of (v f) h) →
+      ((f : Store) → means_def (v f) m ≡ false) →
       IsDefined s u → ((f : Store) → IsLater s f → word_id f keyword.Void ≡ Some u) → IsTypeFound v s Length h xs (ty.Of u)
   other-found m u kind means other defined void =
       let length : is_length h.kind ≡ true = ap is_length kind in
@@ -173,6 +180,7 @@ module _ (ns : List (Place × Meaning)) (ds : List DeclType) (s : Store) (h : He
             let c = context (v f) a h xs (seen_of cs) in
             let meant : c.meaning ≡ m = written-meaning h.kind (length-written h.kind length) (v f) h xs ∙ sym (means f) in
             ap (type_in_role c) at.role ∙ ap (length_type c) kind
-            ∙ ap (λ b. cond b (path_type c c.meaning) (word c keyword.Void)) (ap (means_def (v f)) meant ∙ other f) ∙ ap typed_as (void f l);
+            ∙ ap (λ b. cond b (path_type c c.meaning) (word c keyword.Void)) (ap (means_def (v f)) meant ∙ other f) ∙ ap typed_as
+            (void f l);
         large = λ f i q l e asks big. let n = length-small h.kind length (row_at f i) in absurd cc;
       }

@@ -57,9 +57,11 @@ count-behind n cs ys e = length-append cs (coercions_of ys) ∙ ap₂ (λ i j. i
 
 -- no binding is bound before a kid
 before-kid : (w : Setting) (a : Above) (h : Head) (xs : List TypedNode) (f : Flow) → is_written h.kind ≡ true → flow_before w a h xs f ≡ f
-before-kid w a h xs f e = ap (λ b. cond b (record f { locals = slice_set f.locals a.first (each_entry w h xs) }) f) (written-operand h.kind e (length xs))
+before-kid w a h xs f e = ap (λ b. cond b (record f { locals = slice_set f.locals a.first (each_entry w h xs) }) f)
+    (written-operand h.kind e (length xs))
 
-module _ (w : Store → Setting) (h : Head) (kind : is_written h.kind ≡ true) (ts : List Node) (n : ℕ) (xs : List TypedNode) (t : Node) (next : slice_get ts (length xs) ≡ Some t) where
+module _ (w : Store → Setting) (h : Head) (kind : is_written h.kind ≡ true) (ts : List Node) (n : ℕ) (xs : List TypedNode) (t : Node)
+    (next : slice_get ts (length xs) ≡ Some t) where
   abbrev rest : Nodes
   rest = nodes_of (drop (length xs + 1) ts)
 
@@ -73,14 +75,16 @@ module _ (w : Store → Setting) (h : Head) (kind : is_written h.kind ≡ true) 
   between cs = cs ++ coercions_of (nodes_in xs)
 
   -- inference goes on with the kid
-  to-kid : (s f : Store) → IsLater s f → AreJudged w s h ts n xs → Each (FitsNode f) (nodes_in xs) → (a : Above) (cs : List Coercion) → length cs ≡ n →
+  to-kid : (s f : Store) → IsLater s f → AreJudged w s h ts n xs → Each (FitsNode f) (nodes_in xs) → (a : Above) (cs : List Coercion) →
+      length cs ≡ n →
       infer_each (w f) a h [] (nodes_of ts) (seen_of cs) ≡ then_kids (infer (w f) (over f a) t (seen_of (between cs))) (go f a)
   to-kid s f l j k a cs e =
       j.infers f l k a cs e ∙ each_next (w f) a h xs ts (length xs) t (seen_of (between cs)) next
       ∙ ap (λ g. then_kids (infer (w f) (over f a) t g) (go f a)) (before-kid (w f) a h xs (seen_of (between cs)) kind)
 
   -- which is the first with a fault
-  pub kid-stopped : (s r : Store) → BytesFollowDefinitions → IsGrown s r → IsStore s → IsStore r → AreJudged w s h ts n xs → (q : Stop Fault) →
+  pub kid-stopped : (s r : Store) → BytesFollowDefinitions → IsGrown s r → IsStore s → IsStore r → AreJudged w s h ts n xs →
+      (q : Stop Fault) →
       IsStopped w r (role_of h.kind (length xs) (head t).kind) t (n + length (nodes_in xs)) q →
       (f : Store) → IsLater r f → MeasuresTheSame r f → (a : Above) (cs : List Coercion) → length cs ≡ n →
       IsStop q (infer_each (w f) a h [] (nodes_of ts) (seen_of cs))
@@ -91,7 +95,8 @@ module _ (w : Store → Setting) (h : Head) (kind : is_written h.kind ≡ true) 
       let here = stopped f l m (over f a) (between cs) refl (count-behind n cs (nodes_in xs) e) in
       stop-same q _ _ (sym (to-kid s f d j fit a cs e)) (stop_then (infer (w f) (over f a) t (seen_of (between cs))) (go f a) q here)
 
-  module _ (s r : Store) (b : BytesFollowDefinitions) (g : IsGrown s r) (v : IsStore s) (u : IsStore r) (j : AreJudged w s h ts n xs) (x : TypedNode)
+  module _ (s r : Store) (b : BytesFollowDefinitions) (g : IsGrown s r) (v : IsStore s) (u : IsStore r) (j : AreJudged w s h ts n xs)
+      (x : TypedNode)
       (i : IsJudged w r (role_of h.kind (length xs) (head t).kind) t (n + length (nodes_in xs)) x) where
     abbrev more : List TypedNode
     more = xs ++ x ∷ []
@@ -127,7 +132,8 @@ module _ (w : Store → Setting) (h : Head) (kind : is_written h.kind ≡ true) 
     first-kid [] e k =
         let none : zero ≡ length xs = ap length e in
         i.counted (ap (λ o. role_of o (length xs) (head t).kind) k ∙ ap (λ m. role_of ki.TypeArray m (head t).kind) (sym none))
-    first-kid (y ∷ ys) e k = ty_stays s r v later (own_type y) (subst (λ (zs : List TypedNode). IsDefinedTy s (own_type (tree_from_front 0 zs))) (sym e) (j.counted k))
+    first-kid (y ∷ ys) e k = ty_stays s r v later (own_type y)
+        (subst (λ (zs : List TypedNode). IsDefinedTy s (own_type (tree_from_front 0 zs))) (sym e) (j.counted k))
 
     go-on : (f : Store) → IsLater r f → Each (FitsNode f) (nodes_in more) → (a : Above) (cs : List Coercion) → length cs ≡ n →
         infer_each (w f) a h [] (nodes_of ts) (seen_of cs)
@@ -140,7 +146,8 @@ module _ (w : Store → Setting) (h : Head) (kind : is_written h.kind ≡ true) 
         (i.infers f l (each-right (FitsNode f) (nodes_in xs) (check_order x) k') (over f a) (between cs) refl (count cs e))
         ∙ ap₂ (λ m (ds : List Coercion). infer_each (w f) a h more (nodes_of (drop m ts)) (seen_of ds)) (sym many) (all cs)
 
-    too-large : (f : Store) (y : TypedNode) → IsLater r f → IsFirst f (nodes_in xs ++ check_order x) y → (a : Above) (cs : List Coercion) → length cs ≡ n →
+    too-large : (f : Store) (y : TypedNode) → IsLater r f → IsFirst f (nodes_in xs ++ check_order x) y → (a : Above) (cs : List Coercion) →
+        length cs ≡ n →
         IsStop (large_stop y) (infer_each (w f) a h [] (nodes_of ts) (seen_of cs))
     too-large f y l k a cs e = by (first-split f (nodes_in xs) (check_order x) y k)
       where
@@ -152,7 +159,8 @@ module _ (w : Store → Setting) (h : Head) (kind : is_written h.kind ≡ true) 
         by (inl m) = j.large f y d m a cs e
         by (inr m) =
             stop-same (large_stop y) _ _ (sym (to-kid s f d j m.0 a cs e))
-            (stop_then (infer (w f) (over f a) t (seen_of (between cs))) (go f a) (large_stop y) (i.large f y l m.1 (over f a) (between cs) refl (count cs e)))
+            (stop_then (infer (w f) (over f a) t (seen_of (between cs))) (go f a) (large_stop y)
+            (i.large f y l m.1 (over f a) (between cs) refl (count cs e)))
 
     pub judged-more : AreJudged w r h ts n (xs ++ x ∷ [])
     judged-more = record {

@@ -120,7 +120,8 @@ not-def ki.Def h = absurd (h refl)
 not-def _ h = refl
 
 -- a length that means a declaration is a path
-pub counted-path : (w : Setting) (h : Head) (k : Kind) (n : ℕ) → h.kind ≡ k → is_length k ≡ true → meaning_of w h ≡ means.Decl n → h.kind ≡ ki.Path
+pub counted-path : (w : Setting) (h : Head) (k : Kind) (n : ℕ) → h.kind ≡ k → is_length k ≡ true → meaning_of w h ≡ means.Decl n →
+    h.kind ≡ ki.Path
 counted-path w h ki.Path n e l m = e
 counted-path w h ki.Number n e l m =
     let none : means.None ≡ means.Decl n = sym (ap (λ k. cond (is_path_kind k) (w.means h.place) means.None) e) ∙ m in
@@ -128,6 +129,7 @@ counted-path w h ki.Number n e l m =
 counted-path w h _ n e l m = cc
 
 -- what the names say of a part they say of it alone
-pub written-meaning : (k : Kind) → is_written k ≡ true → (w : Setting) (h : Head) (xs : List TypedNode) → path_meaning w h k xs ≡ meaning_of w h
+pub written-meaning : (k : Kind) → is_written k ≡ true → (w : Setting) (h : Head) (xs : List TypedNode) →
+    path_meaning w h k xs ≡ meaning_of w h
 written-meaning ki.None e w h xs = refl
 written-meaning _ e w h xs = cc

@@ -122,20 +122,23 @@ listed [] = refl
 listed (x ∷ xs) = ap (λ ys. x ∷ ys) (listed xs)
 
 -- what the field and the spread over it are
-pub field-known : (s : Store) (h : Head) (m : Mark) (xs : List TypedNode) → h.kind ≡ ki.StructField → IsKnownTy s (own_type (tree_from_front 0 xs)) →
+pub field-known : (s : Store) (h : Head) (m : Mark) (xs : List TypedNode) → h.kind ≡ ki.StructField →
+    IsKnownTy s (own_type (tree_from_front 0 xs)) →
     IsKnownPart s (marked h m (typed_nodes xs))
 field-known s h m xs e k =
     subst (λ q. IsKnownBy s q (marked h m (typed_nodes xs))) (sym e)
     (subst (λ (ys : List TypedNode). IsKnownTy s (own_type (tree_from_front 0 ys))) (sym (listed xs)) k)
 
-pub spread-known : (s : Store) (h : Head) (m : Mark) (xs : List TypedNode) → h.kind ≡ ki.Spread → IsBasedTy s (own_type (tree_from_front 0 xs)) →
+pub spread-known : (s : Store) (h : Head) (m : Mark) (xs : List TypedNode) → h.kind ≡ ki.Spread →
+    IsBasedTy s (own_type (tree_from_front 0 xs)) →
     IsKnownPart s (marked h m (typed_nodes xs))
 spread-known s h m xs e k =
     subst (λ q. IsKnownBy s q (marked h m (typed_nodes xs))) (sym e)
     (subst (λ (ys : List TypedNode). IsBasedTy s (own_type (tree_from_front 0 ys))) (sym (listed xs)) k)
 
 -- it stands in the store
-pub first-stands : (s : Store) (xs : List TypedNode) (u : ℕ) → Each (StandsIn s) (nodes_in xs) → own_type (tree_from_front 0 xs) ≡ ty.Of u → u < length s.rows
+pub first-stands : (s : Store) (xs : List TypedNode) (u : ℕ) → Each (StandsIn s) (nodes_in xs) → own_type (tree_from_front 0 xs) ≡ ty.Of u →
+    u < length s.rows
 first-stands s [] u h e = cc
 first-stands s (x ∷ xs) u h e = each-head (StandsIn s) x xs h u e
 

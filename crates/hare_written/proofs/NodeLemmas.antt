@@ -58,7 +58,8 @@ each-head P (marked h m ts) xs a =
 
 -- ---- the first that is too large
 
-pub first-split : (f : Store) (xs ys : List TypedNode) (y : TypedNode) → IsFirst f (xs ++ ys) y → IsFirst f xs y ⊎ (Each (FitsNode f) xs × IsFirst f ys y)
+pub first-split : (f : Store) (xs ys : List TypedNode) (y : TypedNode) → IsFirst f (xs ++ ys) y →
+    IsFirst f xs y ⊎ (Each (FitsNode f) xs × IsFirst f ys y)
 first-split f [] ys y h = inr (tt, h)
 first-split f (x ∷ xs) ys y (inl h) = inl (inl h)
 first-split f (x ∷ xs) ys y (inr h) = by (first-split f xs ys y h.1)
@@ -73,9 +74,11 @@ first-at f (x ∷ xs) ys y a h = inr (a.0, first-at f xs ys y a.1 h)
 
 -- ---- coercions
 
-pub coercions-join : (cs : List Coercion) (xs ys : List TypedNode) → (cs ++ coercions_of xs) ++ coercions_of ys ≡ cs ++ coercions_of (xs ++ ys)
+pub coercions-join : (cs : List Coercion) (xs ys : List TypedNode) →
+    (cs ++ coercions_of xs) ++ coercions_of ys ≡ cs ++ coercions_of (xs ++ ys)
 coercions-join cs xs ys =
-    append_assoc cs (coercions_of xs) (coercions_of ys) ∙ ap (λ ds. cs ++ ds) (sym (map-append (λ (y : TypedNode). (mark_of y).coerce) xs ys))
+    append_assoc cs (coercions_of xs) (coercions_of ys) ∙ ap (λ ds. cs ++ ds)
+    (sym (map-append (λ (y : TypedNode). (mark_of y).coerce) xs ys))
 
 pub coerced : (ys : List TypedNode) → length (coercions_of ys) ≡ length ys
 coerced [] = refl
@@ -92,7 +95,8 @@ mutual
   owns-front cs ds typed_none k = tt
   owns-front cs ds (typed_more t ts) k = (own-front cs ds t k.0, owns-front cs ds ts k.1)
 
-pub owns-more : (cs : List Coercion) (xs : List TypedNode) (x : TypedNode) → HaveOwn cs (typed_nodes xs) → HasOwn cs x → HaveOwn cs (typed_nodes (xs ++ x ∷ []))
+pub owns-more : (cs : List Coercion) (xs : List TypedNode) (x : TypedNode) → HaveOwn cs (typed_nodes xs) → HasOwn cs x →
+    HaveOwn cs (typed_nodes (xs ++ x ∷ []))
 owns-more cs [] x a h = (h, tt)
 owns-more cs (y ∷ ys) x a h = (a.0, owns-more cs ys x a.1 h)
 

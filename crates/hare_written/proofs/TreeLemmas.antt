@@ -39,15 +39,18 @@ bare-kids [] = refl
 bare-kids (x ∷ xs) = ap (λ ys. bare x ∷ ys) (bare-kids xs)
 
 -- all kids stand in the tree
-pub all-erased : (w : Store → Setting) (s : Store) (t : Node) (n : ℕ) (xs : List TypedNode) → AreAllJudged w s t n xs → erase_each (typed_nodes xs) ≡ kids_of t
+pub all-erased : (w : Store → Setting) (s : Store) (t : Node) (n : ℕ) (xs : List TypedNode) → AreAllJudged w s t n xs →
+    erase_each (typed_nodes xs) ≡ kids_of t
 all-erased w s t n xs a = erased-all xs a.trees (length xs) a.judged.erases (take_all a.trees (length xs) a.many) ∙ sym a.kids
 
 -- inference stops in a kid
-pub kids-stopped : (w : Store → Setting) (s : Store) (r : Role) (t : Node) (n : ℕ) (q : Stop Fault) → AreStopped w s t n q → IsStopped w s r t n q
+pub kids-stopped : (w : Store → Setting) (s : Store) (r : Role) (t : Node) (n : ℕ) (q : Stop Fault) → AreStopped w s t n q →
+    IsStopped w s r t n q
 kids-stopped w s r t n q k f l m a cs i e =
     stop-same q _ _ (sym (infer_at (w f) a t (seen_of cs) (kids_of t) refl)) (stop_kids (w f) a (head t) _ q (k f l m a cs e))
 
-module _ (w : Store → Setting) (s r : Store) (b : BytesFollowDefinitions) (g : IsGrown s r) (v : IsStore s) (u : IsStore r) (t : Node) (n : ℕ) (xs : List TypedNode)
+module _ (w : Store → Setting) (s r : Store) (b : BytesFollowDefinitions) (g : IsGrown s r) (v : IsStore s) (u : IsStore r) (t : Node)
+    (n : ℕ) (xs : List TypedNode)
     (a : AreAllJudged w s t n xs) where
   abbrev h : Head
   h = head t
@@ -95,16 +98,19 @@ module _ (w : Store → Setting) (s r : Store) (b : BytesFollowDefinitions) (g :
 
     owned : (cs : List Coercion) → length cs ≡ n → HasOwn (cs ++ coercions_of (nodes_in xs ++ x ∷ [])) x
     owned cs e =
-        subst (λ (ds : List Coercion). HasOwn ds x) (all cs) (numbered cs e, owns-front (behind cs) (m.coerce ∷ []) (typed_nodes xs) (a.judged.own cs e))
+        subst (λ (ds : List Coercion). HasOwn ds x) (all cs)
+        (numbered cs e, owns-front (behind cs) (m.coerce ∷ []) (typed_nodes xs) (a.judged.own cs e))
 
-    too-large : (f : Store) (y : TypedNode) → IsLater r f → IsFirst f (nodes_in xs ++ x ∷ []) y → (o : Above) (cs : List Coercion) → o.inside.role ≡ role →
+    too-large : (f : Store) (y : TypedNode) → IsLater r f → IsFirst f (nodes_in xs ++ x ∷ []) y → (o : Above) (cs : List Coercion) →
+        o.inside.role ≡ role →
         length cs ≡ n → IsStop (large_stop y) (infer (w f) o t (seen_of cs))
     too-large f y l k o cs j e = by (first-split f (nodes_in xs) (x ∷ []) y k)
       where
         d : IsLater s f
         d = later-grown s r f g l
 
-        by : IsFirst f (nodes_in xs) y ⊎ (Each (FitsNode f) (nodes_in xs) × IsFirst f (x ∷ []) y) → IsStop (large_stop y) (infer (w f) o t (seen_of cs))
+        by : IsFirst f (nodes_in xs) y ⊎ (Each (FitsNode f) (nodes_in xs) × IsFirst f (x ∷ []) y) →
+            IsStop (large_stop y) (infer (w f) o t (seen_of cs))
         by (inl p) =
             let kids = a.judged.large f y d p o cs e in
             let there = ap (λ ts. infer_each (w f) o h [] ts (seen_of cs)) (sym a.kids) in
@@ -123,7 +129,8 @@ module _ (w : Store → Setting) (s r : Store) (b : BytesFollowDefinitions) (g :
       own = owned;
       stands = each-join (StandsIn r) (nodes_in xs) (x ∷ []) (stands-stay s r v later (nodes_in xs) a.judged.stand) (i.stands, tt);
       fits =
-          each-join (FitsNode r) (nodes_in xs) (x ∷ []) (fits-stay s r v later (grown-measures b s r g v u) (nodes_in xs) a.judged.stand a.judged.fit) (i.fits, tt);
+          each-join (FitsNode r) (nodes_in xs) (x ∷ [])
+          (fits-stay s r v later (grown-measures b s r g v u) (nodes_in xs) a.judged.stand a.judged.fit) (i.fits, tt);
       known = i.known;
       counted = i.counted;
       infers = λ f l k o cs j e.

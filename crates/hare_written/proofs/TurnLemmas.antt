@@ -42,7 +42,8 @@ use Rattle.hare_written.proofs.KindLemmas.{written-target, written-late, written
 
 -- ---- what has been seen behind it
 
-same-flow : (cs : List Coercion) (b : Ty) (ls : List Entry) (ys : List Yielded) (ss late : List Settled) (r : Coercion) → ls ≡ [] → ys ≡ [] → ss ≡ [] → late ≡ [] →
+same-flow : (cs : List Coercion) (b : Ty) (ls : List Entry) (ys : List Yielded) (ss late : List Settled) (r : Coercion) → ls ≡ [] →
+    ys ≡ [] → ss ≡ [] → late ≡ [] →
     r ≡ same b → record { locals = ls; yields = ys; coercions = write_each ss (cs ++ r ∷ []); late = late } ≡ seen_of (cs ++ same b ∷ [])
 same-flow cs b ls ys ss late r e f g h k = rw (e, f, g, h, k) refl
 
@@ -60,10 +61,12 @@ module _ (w : Setting) (a : Above) (h : Head) (xs : List TypedNode) (cs : List C
   failed r e = ap (λ o. with_type w a h xs (seen_of cs) (judged_by c o)) e
 
   -- a refusal of the node
-  pub refused : (r : RowId) (e : Fault) → first_failing c ≡ Some r → e ≡ fault_of r c → IsStop (Refused e) (with_kids w a h (Ok (found_kids xs (seen_of cs))))
+  pub refused : (r : RowId) (e : Fault) → first_failing c ≡ Some r → e ≡ fault_of r c →
+      IsStop (Refused e) (with_kids w a h (Ok (found_kids xs (seen_of cs))))
   refused r e k g = (r, c, failed r k, g)
 
-  module _ (b : Ty) (kind : is_written h.kind ≡ true) (role : Role) (is : a.inside.role ≡ role) (unasked : list_any is_site (rows_in_role role h.kind) ≡ false)
+  module _ (b : Ty) (kind : is_written h.kind ≡ true) (role : Role) (is : a.inside.role ≡ role)
+      (unasked : list_any is_site (rows_in_role role h.kind) ≡ false)
       (meets : first_failing c ≡ None) (type : type_of c ≡ Some b) where
     settled : settled_type c (type_of c) ≡ same b
     settled =
@@ -73,7 +76,8 @@ module _ (w : Setting) (a : Above) (h : Head) (xs : List TypedNode) (cs : List C
     behind : flow_after w a h xs (seen_of cs) ≡ seen_of (cs ++ same b ∷ [])
     behind =
         same-flow cs b _ _ (settles_kids c) _ (settled_type c (type_of c)) (written-locals h.kind kind c a.first)
-        (written-yields h.kind kind a.inside.labels h xs) (none_settled c 0 c.kids (written-target h.kind kind)) (written-late h.kind kind c) settled
+        (written-yields h.kind kind a.inside.labels h xs) (none_settled c 0 c.kids (written-target h.kind kind))
+        (written-late h.kind kind c) settled
 
     pub passed : (m : Mark) → mark_found c b ≡ m →
         with_kids w a h (Ok (found_kids xs (seen_of cs))) ≡ Ok (found (marked h m (typed_nodes xs)) (seen_of (cs ++ same b ∷ [])))
@@ -94,7 +98,8 @@ large-fault _ _ q e c = cc
 -- ---- the turn
 
 same-mark : (n k : ℕ) (b : Ty) (m l : Meaning) (u v : Const) → n ≡ k → m ≡ l → u ≡ v →
-    ◌≡◌ {A = Mark} (record { node = n; ty = b; coerce = same b; meaning = m; value = u }) (record { node = k; ty = b; coerce = same b; meaning = l; value = v })
+    ◌≡◌ {A = Mark} (record { node = n; ty = b; coerce = same b; meaning = m; value = u })
+    (record { node = k; ty = b; coerce = same b; meaning = l; value = v })
 same-mark n k b m l u v e f g = rw (e, f, g) refl
 
 -- the tree of a part with this type, number and meaning, and the constant that it names
@@ -120,5 +125,6 @@ turned w s q h xs n b l v i means value known counted =
           (same-mark _ n b (meaning_of (w f) h) l (value_of c) v e (sym (means f)) constant);
       large = λ f k x a cs at e.
           let c = context (w f) a h xs (seen_of cs) in
-          refused (w f) a h xs cs x.row (too_large h.place) (i.large f x.id x.row k x.type x.asks x.large a cs at) (large-fault h.kind _ x.row x.asks c);
+          refused (w f) a h xs cs x.row (too_large h.place) (i.large f x.id x.row k x.type x.asks x.large a cs at)
+          (large-fault h.kind _ x.row x.asks c);
     }

@@ -27,7 +27,8 @@ use Rattle.hare_written.specs.Nodes.{nodes_in, StandsIn, IsFirst, coercions_of, 
 abbrev pub large_stop : TypedNode → Stop Fault
 large_stop y = Refused (too_large (place_of (erase y)))
 
--- The tree of a node with this role. In each later store in which each of its nodes fits, it is what is inferred; in each other one inference stops at the
+-- The tree of a node with this role. In each later store in which each of its nodes fits, it is what is inferred; in each other one
+-- inference stops at the
 -- first that is too large.
 pub record IsJudged (w : Store → Setting) (s : Store) (r : Role) (t : Node) (n : ℕ) (x : TypedNode) : Type 0 where
   pub erases : erase x ≡ t
@@ -41,7 +42,8 @@ pub record IsJudged (w : Store → Setting) (s : Store) (r : Role) (t : Node) (n
       (f : Store) → IsLater s f → Each (FitsNode f) (check_order x) → (a : Above) (cs : List Coercion) → a.inside.role ≡ r → length cs ≡ n →
       infer (w f) a t (seen_of cs) ≡ Ok (found x (seen_of (cs ++ coercions_of (check_order x))))
   pub large :
-      (f : Store) (y : TypedNode) → IsLater s f → IsFirst f (check_order x) y → (a : Above) (cs : List Coercion) → a.inside.role ≡ r → length cs ≡ n →
+      (f : Store) (y : TypedNode) → IsLater s f → IsFirst f (check_order x) y → (a : Above) (cs : List Coercion) → a.inside.role ≡ r →
+      length cs ≡ n →
       IsStop (large_stop y) (infer (w f) a t (seen_of cs))
 
 -- Where inference stops there in each later store that knows no more of the bytes of types.

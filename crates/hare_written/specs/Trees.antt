@@ -21,14 +21,16 @@ use Rattle.hare_whole.specs.Declared.{over_type, before_type}
 abbrev pub HasFault : (Store → Setting) → Store → ℕ → Role → Node → Fault → Type 0
 HasFault w f n role t e = (q : RowId) × (c : Context) × FailsIn (w f) (over_type (w f) n role) t before_type q c × (e ≡ fault_of q c)
 
--- In each later store in which no type of it has turned out to be too large, the tree is well typed; in each other one the first that has is its fault.
+-- In each later store in which no type of it has turned out to be too large, the tree is well typed; in each other one the first that has
+-- is its fault.
 pub record IsWrittenTree (w : Store → Setting) (s : Store) (n : ℕ) (role : Role) (t : Node) (x : TypedNode) : Type 0 where
   pub erases : erase x ≡ t
   pub plain : bare x ≡ x
   pub stands : StandIn s (x ∷ [])
   pub fits : AllFit s (x ∷ [])
   pub carries : (f : Store) → IsLater s f → AllFit f (x ∷ []) → AllCarry (w f) (over_type (w f) n role) x before_type
-  pub large : (f : Store) (i : ℕ) (y : TypedNode) → IsLater s f → IsFirstLarge f (x ∷ []) i y → HasFault w f n role t (too_large (place_of (erase y)))
+  pub large : (f : Store) (i : ℕ) (y : TypedNode) → IsLater s f → IsFirstLarge f (x ∷ []) i y →
+      HasFault w f n role t (too_large (place_of (erase y)))
 
 -- a fault that is told is so in each later store that knows no more of the bytes of types
 abbrev pub IsWrittenStop : (Store → Setting) → Store → ℕ → Role → Node → Stop Fault → Type 0

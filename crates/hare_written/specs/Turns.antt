@@ -53,7 +53,8 @@ pub record IsTypeFound (w : Store → Setting) (s : Store) (r : Role) (h : Head)
 -- where a fault is told, it is that of the first row that the node fails, in each later store
 abbrev pub IsTurnedBack : (Store → Setting) → Store → Role → Head → List TypedNode → Stop Fault → Type 0
 IsTurnedBack w s r h xs e =
-    (f : Store) → IsLater s f → (a : Above) (cs : List Coercion) → IsAt a r xs cs → IsStop e (with_kids (w f) a h (Ok (found_kids xs (seen_of cs))))
+    (f : Store) → IsLater s f → (a : Above) (cs : List Coercion) → IsAt a r xs cs →
+    IsStop e (with_kids (w f) a h (Ok (found_kids xs (seen_of cs))))
 
 -- The node with this mark, over its kids. In each later store in which it fits its turn comes to it; in each other one that stops there.
 pub record IsTurned (w : Store → Setting) (s : Store) (r : Role) (h : Head) (xs : List TypedNode) (n : ℕ) (m : Mark) : Type 0 where
@@ -67,7 +68,8 @@ pub record IsTurned (w : Store → Setting) (s : Store) (r : Role) (h : Head) (x
       (f : Store) → IsLater s f → FitsTy f h m.ty → (a : Above) (cs : List Coercion) → IsAt a r xs cs → length cs ≡ n →
       with_kids (w f) a h (Ok (found_kids xs (seen_of cs))) ≡ Ok (found (marked h m (typed_nodes xs)) (seen_of (cs ++ m.coerce ∷ [])))
   pub large :
-      (f : Store) → IsLater s f → IsLargeNode f (marked h m (typed_nodes xs)) → (a : Above) (cs : List Coercion) → IsAt a r xs cs → length cs ≡ n →
+      (f : Store) → IsLater s f → IsLargeNode f (marked h m (typed_nodes xs)) → (a : Above) (cs : List Coercion) → IsAt a r xs cs →
+      length cs ≡ n →
       IsStop (large_stop (marked h m (typed_nodes xs))) (with_kids (w f) a h (Ok (found_kids xs (seen_of cs))))
 
 abbrev pub IsTurn : (Store → Setting) → Store → Role → Head → List TypedNode → ℕ → TypedNode → Type 0

@@ -296,7 +296,8 @@ answered_is l log a r x d (told s) = (λ e. (e, s.stands), λ h. h.0)
 answered_is l log a r x d (failed f) = (λ e. absurd (d (sym e)), λ h. absurd (apart log.faults h.1 f.risen))
 
 -- a write fault is answered where it was found, or the log failed
-answered_write_fault : (l : List ℕ) (log : Sent) (a r : Answer) → Logs l log a r → (r ≡ WriteFault) ↔ ((a ≡ WriteFault) ⊎ HasRisen log.faults)
+answered_write_fault : (l : List ℕ) (log : Sent) (a r : Answer) → Logs l log a r →
+    (r ≡ WriteFault) ↔ ((a ≡ WriteFault) ⊎ HasRisen log.faults)
 answered_write_fault l log a r (told s) = (λ e. inl e, back)
   where
     back : (a ≡ WriteFault) ⊎ HasRisen log.faults → a ≡ WriteFault

@@ -44,7 +44,8 @@ none_begun m args input fill = pick (function_named m.items (codes "main"))
 
 module _ (m : Module) (args : List (List ℕ)) (input : List ℕ) (fill : ℕ) where
   -- an end stays at every greater budget
-  later_same : (n k : ℕ) (e : machine.End) → n ≤ k → (machine m args input fill n).ended ≡ Some e → machine m args input fill k ≡ machine m args input fill n
+  later_same : (n k : ℕ) (e : machine.End) → n ≤ k → (machine m args input fill n).ended ≡ Some e →
+      machine m args input fill k ≡ machine m args input fill n
   later_same n k e l h =
       let more : n + (k - n) ≡ k = omega arith in
       rw (← more) (ends_stay m (start m args input fill) n (k - n) e h)
@@ -77,51 +78,92 @@ module _ (m : Module) (args : List (List ℕ)) (input : List ℕ) (fill : ℕ) w
   -- a run with a budget, against one with another that has come to where the program ends, or has done as many jumps and calls
   module _ (budget reached : ℕ) (expected : List ℕ) (output : machine_output m args input fill reached ≡ expected) where
     -- the program has ended
-    back_ended : (status : ℕ) → (machine m args input fill reached).ended ≡ Some (machine.Exit status) → Backs (machine_end m args input fill budget) (machine_output m args input fill budget) (outcome_of (Exit status)) expected
+    back_ended : (status : ℕ) → (machine m args input fill reached).ended ≡ Some (machine.Exit status) →
+        Backs (machine_end m args input fill budget) (machine_output m args input fill budget) (outcome_of (Exit status)) expected
     back_ended status h = pick (order_of m budget reached)
       where
-        pick : Order m budget reached → Backs (machine_end m args input fill budget) (machine_output m args input fill budget) (outcome_of (Exit status)) expected
+        pick : Order m budget reached → Backs (machine_end m args input fill budget) (machine_output m args input fill budget)
+            (outcome_of (Exit status)) expected
         pick (most l) =
             let same = later_same reached budget (machine.Exit status) l h in
-            inr (inr (ap end_of same ∙ ended_in (machine m args input fill reached) (machine.Exit status) h, ap (λ (r : Run). r.state.world.output) same ∙ output))
+            inr (inr (
+              ap end_of same ∙ ended_in (machine m args input fill reached) (machine.Exit status) h,
+              ap
+                  (λ (r : Run). r.state.world.output) same ∙ output,
+            ))
         pick (less l) = before (stands (machine m args input fill budget))
           where
-            before : Stands (machine m args input fill budget) → Backs (machine_end m args input fill budget) (machine_output m args input fill budget) (outcome_of (Exit status)) expected
+            before : Stands (machine m args input fill budget) →
+                Backs (machine_end m args input fill budget) (machine_output m args input fill budget) (outcome_of (Exit status)) expected
             before (over e k) =
                 let same = later_same budget reached e (omega arith) k in
-                inr (inr (sym (ap end_of same) ∙ ended_in (machine m args input fill reached) (machine.Exit status) h, sym (ap (λ (r : Run). r.state.world.output) same) ∙ output))
-            before (open_run k) = inr (inl (goes_on (machine m args input fill budget) k, rw output at (later_output budget reached (omega arith))))
+                inr (inr (
+                  sym (ap end_of same) ∙ ended_in (machine m args input fill reached) (machine.Exit status) h,
+                  sym
+                      (ap (λ (r : Run). r.state.world.output) same) ∙ output,
+                ))
+            before (open_run k) = inr (inl (
+              goes_on (machine m args input fill budget) k,
+              rw output at
+                  (later_output budget reached (omega arith)),
+            ))
 
     -- turns ran out, one more than the run with the budget has done jumps and calls
-    back_going : (machine m args input fill reached).ended ≡ None → jumps_and_calls (machine m args input fill budget) + 1 ≤ jumps_and_calls (machine m args input fill reached) → Backs (machine_end m args input fill budget) (machine_output m args input fill budget) (outcome_of Spent) expected
+    back_going : (machine m args input fill reached).ended ≡ None →
+        jumps_and_calls (machine m args input fill budget) + 1 ≤ jumps_and_calls (machine m args input fill reached) →
+        Backs (machine_end m args input fill budget) (machine_output m args input fill budget) (outcome_of Spent) expected
     back_going h j = pick (order_of m budget reached)
       where
-        pick : Order m budget reached → Backs (machine_end m args input fill budget) (machine_output m args input fill budget) (outcome_of Spent) expected
+        pick : Order m budget reached → Backs (machine_end m args input fill budget) (machine_output m args input fill budget)
+            (outcome_of Spent) expected
         pick (most l) = absurd (omega (arith, j, later_counts reached budget l))
         pick (less l) = before (stands (machine m args input fill budget))
           where
-            before : Stands (machine m args input fill budget) → Backs (machine_end m args input fill budget) (machine_output m args input fill budget) (outcome_of Spent) expected
+            before : Stands (machine m args input fill budget) →
+                Backs (machine_end m args input fill budget) (machine_output m args input fill budget) (outcome_of Spent) expected
             before (over e k) = absurd (none_some e (sym h ∙ ap (λ (r : Run). r.ended) (later_same budget reached e (omega arith) k) ∙ k))
-            before (open_run k) = inr (inl (goes_on (machine m args input fill budget) k, rw output at (later_output budget reached (omega arith))))
+            before (open_run k) = inr (inl (
+              goes_on (machine m args input fill budget) k,
+              rw output at
+                  (later_output budget reached (omega arith)),
+            ))
 
 -- what a run has come to, by how the program ends within as many turns
-backs : (m : Module) (args : List (List ℕ)) (input : List ℕ) (fill budget reached n : ℕ) (end : End) (expected : List ℕ) (way : Flow) → way ≡ flat_end end → (machine m args input fill reached).ended ≡ end_for way → machine_output m args input fill reached ≡ expected → (way ≡ flow.Spent → n ≤ jumps_and_calls (machine m args input fill reached)) → n ≡ jumps_and_calls (machine m args input fill budget) + 1 → Backs (machine_end m args input fill budget) (machine_output m args input fill budget) (outcome_of end) expected
-backs m args input fill budget reached n (Exit status) expected way f e o j more = back_ended m args input fill budget reached expected o status (e ∙ ap end_for f)
+backs : (m : Module) (args : List (List ℕ)) (input : List ℕ) (fill budget reached n : ℕ) (end : End) (expected : List ℕ) (way : Flow) →
+    way ≡ flat_end end → (machine m args input fill reached).ended ≡ end_for way → machine_output m args input fill reached ≡ expected →
+    (way ≡ flow.Spent → n ≤ jumps_and_calls (machine m args input fill reached)) →
+    n ≡ jumps_and_calls (machine m args input fill budget) + 1 →
+    Backs (machine_end m args input fill budget) (machine_output m args input fill budget) (outcome_of end) expected
+backs m args input fill budget reached n (Exit status) expected way f e o j more =
+    back_ended m args input fill budget reached expected o status (e ∙ ap end_for f)
 backs m args input fill budget reached n Spent expected way f e o j more =
     let some = j f in
     back_going m args input fill budget reached expected o (e ∙ ap end_for f) (omega (arith, some, more))
 
 -- The module of a lowered program does nothing that the program does not do.
-pub does_back : (source : List ℕ) (p : Program) (m : Module) → IsSource source p → DoesTheSame p (lowered p) → Reaches (lowered p) m → Back m (evaluation_of p)
+pub does_back : (source : List ℕ) (p : Program) (m : Module) → IsSource source p → DoesTheSame p (lowered p) → Reaches (lowered p) m →
+    Back m (evaluation_of p)
 does_back source p m s does reaches args input fill budget few byte = record {
   few = omega (arith, done_is_kept.few m (start m args input fill) budget, none_begun m args input fill);
   backs = pick (reaches args input fill (jumps_and_calls (machine m args input fill budget) + 1));
 }
   where
-    pick : Arrives m args input fill (jumps_and_calls (machine m args input fill budget) + 1) (flat.run il_meaning (lowered p) args input fill (jumps_and_calls (machine m args input fill budget) + 1)) ⊎ Overflows m args input fill (jumps_and_calls (machine m args input fill budget) + 1) (flat.run il_meaning (lowered p) args input fill (jumps_and_calls (machine m args input fill budget) + 1))
-        → Backs (machine_end m args input fill budget) (machine_output m args input fill budget) (outcome_of (run (length args) p (jumps_and_calls (machine m args input fill budget) + 1)).0) (run (length args) p (jumps_and_calls (machine m args input fill budget) + 1)).1
+    pick : Arrives m args input fill (jumps_and_calls (machine m args input fill budget) + 1)
+        (flat.run il_meaning (lowered p) args input fill (jumps_and_calls (machine m args input fill budget) + 1)) ⊎ Overflows m args input
+        fill (jumps_and_calls (machine m args input fill budget) + 1)
+        (flat.run il_meaning (lowered p) args input fill (jumps_and_calls (machine m args input fill budget) + 1))
+        → Backs (machine_end m args input fill budget) (machine_output m args input fill budget)
+        (outcome_of (run (length args) p (jumps_and_calls (machine m args input fill budget) + 1)).0)
+        (run (length args) p (jumps_and_calls (machine m args input fill budget) + 1)).1
     pick (inl a) =
         let n = jumps_and_calls (machine m args input fill budget) + 1 in
-        backs m args input fill budget a.budget n (run (length args) p n).0 (run (length args) p n).1 (flat.run il_meaning (lowered p) args input fill n).0
+        backs m args input fill budget a.budget n (run (length args) p n).0 (run (length args) p n).1
+        (flat.run il_meaning (lowered p) args input fill n).0
         (does.ends args input fill n) a.ended (sym a.world.output ∙ does.outputs args input fill n) a.jumps refl
-    pick (inr o) = absurd (omega (arith, o.cost, main_fits source p s, run_cost il_meaning p args input fill (jumps_and_calls (machine m args input fill budget) + 1)))
+    pick (inr o) = absurd (omega (
+      arith,
+      o.cost,
+      main_fits source p s,
+      run_cost il_meaning p args input fill
+          (jumps_and_calls (machine m args input fill budget) + 1),
+    ))

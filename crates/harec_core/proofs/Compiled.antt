@@ -17,7 +17,9 @@ use Rattle.harec_core.proofs.PlainModule.{lowered_plain}
 use Rattle.harec_core.proofs.Shaped.{lowered_shape}
 
 -- of the module of the lowered program
-lowered_module : (source : List ℕ) (p : Program) → IsSource source p → ((q : Program) → IsSource source q → q ≡ p) → IsValid (module_of (lowered p)) → DoesTheSame p (lowered p) → HasItsLoops p (lowered p) → Reaches (lowered p) (module_of (lowered p)) → emit.HasShape (lowered p) (module_of (lowered p)) → IsModuleOf source (module_of (lowered p))
+lowered_module : (source : List ℕ) (p : Program) → IsSource source p → ((q : Program) → IsSource source q → q ≡ p) →
+    IsValid (module_of (lowered p)) → DoesTheSame p (lowered p) → HasItsLoops p (lowered p) → Reaches (lowered p) (module_of (lowered p)) →
+    emit.HasShape (lowered p) (module_of (lowered p)) → IsModuleOf source (module_of (lowered p))
 lowered_module source p s only valid does loops reaches shape = record {
   program = p;
   file = s;
@@ -34,6 +36,9 @@ lowered_module source p s only valid does loops reaches shape = record {
 }
 
 -- the module of a file's program, whose text carries the program
-pub module_of_file : (source : List ℕ) (p : Program) (f : FlatProgram) (m : Module) → f ≡ lowered p → m ≡ module_of f → IsSource source p → ((q : Program) → IsSource source q → q ≡ p) → IsValid m → DoesTheSame p f → HasItsLoops p f → Reaches f m → emit.HasShape f m → IsModuleOf source m
+pub module_of_file : (source : List ℕ) (p : Program) (f : FlatProgram) (m : Module) → f ≡ lowered p → m ≡ module_of f → IsSource source p →
+    ((q : Program) → IsSource source q → q ≡ p) → IsValid m → DoesTheSame p f → HasItsLoops p f → Reaches f m → emit.HasShape f m →
+    IsModuleOf source m
 module_of_file source p f m e k s only valid does loops reaches shape =
-    rw (k, e) (lowered_module source p s only (rw (k, e) at valid) (rw e at does) (rw e at loops) (rw (k, e) at reaches) (rw (k, e) at shape))
+    rw (k, e) (lowered_module source p s only (rw (k, e) at valid) (rw e at does) (rw e at loops) (rw (k, e) at reaches)
+    (rw (k, e) at shape))

@@ -95,32 +95,41 @@ runtime_keeps : (s : State) (t : Option ℕ) (f : Option RuntimeFunction) (vs : 
 runtime_keeps s t None vs = refl
 runtime_keeps s t (Some f) vs = acted_keeps s t (runtime_result f) (act f (cut_each (runtime_params f) vs) s.world)
 
-module _ (meaning : Meaning) (p : FlatProgram) (none_named : (temp : Option ℕ) (name : List ℕ) (args : List Value) → IsFitCall Any temp name args → function_named p.functions name ≡ None) where
+module _ (meaning : Meaning) (p : FlatProgram)
+    (none_named : (temp : Option ℕ) (name : List ℕ) (args : List Value) → IsFitCall Any temp name args →
+    function_named p.functions name ≡ None) where
   abbrev LessKeeps : Less → Type 0
   LessKeeps less = (c : Code) (s : State) (k : ℕ) → IsFit Any c → s.most ≡ k → Keeps k (less c s)
 
   mutual
-    begun_keeps : (n : ℕ) (less : Less) → LessKeeps less → (c : Code) (s : State) (k : ℕ) → IsFit Any c → s.most ≡ k → Keeps k (flat_begun meaning p n less c s)
+    begun_keeps : (n : ℕ) (less : Less) → LessKeeps less → (c : Code) (s : State) (k : ℕ) → IsFit Any c → s.most ≡ k →
+        Keeps k (flat_begun meaning p n less c s)
     begun_keeps n less below (Seq cs) s k h e = caught_keeps k _ (each_keeps n less below cs s k h e)
     begun_keeps n less below (Set t class o a b) s k h e = computed_keeps s t class _ ∙ e
     begun_keeps n less below (Load t how at) s k h e = absurd h
     begun_keeps n less below (Store width value at) s k h e = absurd h
     begun_keeps n less below (Move to from bytes) s k h e = absurd h
     begun_keeps n less below (If v a b) s k h e =
-        pick (cut W (value_of p s v) == 0) (begun_keeps n less below a (stepped 1 s) k h.1 e) (begun_keeps n less below b (stepped 1 s) k h.2 e)
+        pick (cut W (value_of p s v) == 0) (begun_keeps n less below a (stepped 1 s) k h.1 e)
+        (begun_keeps n less below b (stepped 1 s) k h.2 e)
       where
-        pick : (t : Bool) → Keeps k (flat_begun meaning p n less a (stepped 1 s)) → Keeps k (flat_begun meaning p n less b (stepped 1 s)) → Keeps k (if t then flat_begun meaning p n less b (stepped 1 s) else flat_begun meaning p n less a (stepped 1 s))
+        pick : (t : Bool) → Keeps k (flat_begun meaning p n less a (stepped 1 s)) → Keeps k (flat_begun meaning p n less b (stepped 1 s)) →
+            Keeps k (if t then flat_begun meaning p n less b (stepped 1 s) else flat_begun meaning p n less a (stepped 1 s))
         pick true x y = y
         pick false x y = x
-    begun_keeps n less below (Loop c) s k h e = spends_keeps k n (Spent, s) _ e (turn_keeps k (less c s) (less (Loop c)) (below c s k h e) (λ s' e'. below (Loop c) s' k h e'))
+    begun_keeps n less below (Loop c) s k h e =
+        spends_keeps k n (Spent, s) _ e (turn_keeps k (less c s) (less (Loop c)) (below c s k h e) (λ s' e'. below (Loop c) s' k h e'))
     begun_keeps n less below (Leave j) s k h e = e
-    begun_keeps n less below (Call t name args) s k h e = rw (none_named t name args h) (runtime_keeps (stepped (length args) s) t (runtime_function name) (map (value_of p s) args) ∙ e)
+    begun_keeps n less below (Call t name args) s k h e =
+        rw (none_named t name args h) (runtime_keeps (stepped (length args) s) t (runtime_function name) (map (value_of p s) args) ∙ e)
     begun_keeps n less below (Ret value) s k h e = absurd h
 
-    each_keeps : (n : ℕ) (less : Less) → LessKeeps less → (cs : Codes) (s : State) (k : ℕ) → AreFit Any cs → s.most ≡ k → Keeps k (flats_in meaning p n less cs s)
+    each_keeps : (n : ℕ) (less : Less) → LessKeeps less → (cs : Codes) (s : State) (k : ℕ) → AreFit Any cs → s.most ≡ k →
+        Keeps k (flats_in meaning p n less cs s)
     each_keeps n less below none s k h e = e
     each_keeps n less below (more c cs) s k h e =
-        then_keeps k _ (flats_in meaning p n less cs) (begun_keeps n less below c (stepped 1 s) k h.0 e) (λ s' e'. each_keeps n less below cs s' k h.1 e')
+        then_keeps k _ (flats_in meaning p n less cs) (begun_keeps n less below c (stepped 1 s) k h.0 e)
+        (λ s' e'. each_keeps n less below cs s' k h.1 e')
 
   below_keeps : (n : ℕ) → LessKeeps (flat_below meaning p n)
   below_keeps zero c s k h e = e
@@ -131,18 +140,21 @@ module _ (meaning : Meaning) (p : FlatProgram) (none_named : (temp : Option ℕ)
 
 -- ---- whole programs
 
-runtime_alone : (p : Program) (temp : Option ℕ) (name : List ℕ) (args : List Value) → IsFitCall Any temp name args → function_named (lowered p).functions name ≡ None
+runtime_alone : (p : Program) (temp : Option ℕ) (name : List ℕ) (args : List Value) → IsFitCall Any temp name args →
+    function_named (lowered p).functions name ≡ None
 runtime_alone p temp name args (fit.counts t) = refl
 runtime_alone p temp name args (fit.leaves v h) = refl
 runtime_alone p temp name args (fit.puts i text h) = refl
 
 -- the cost of a run is that of a call of `main`
-pub run_cost : (meaning : Meaning) (p : Program) (args : List (List ℕ)) (input : List ℕ) (fill n : ℕ) → (run meaning (lowered p) args input fill n).1.most ≡ call_cost (lowered_main (body_code p))
+pub run_cost : (meaning : Meaning) (p : Program) (args : List (List ℕ)) (input : List ℕ) (fill n : ℕ) →
+    (run meaning (lowered p) args input fill n).1.most ≡ call_cost (lowered_main (body_code p))
 run_cost meaning p args input fill n =
     let cost = call_cost (lowered_main (body_code p)) in
     let begun = entered (before_calls (start_world (lowered p) args input fill)) (lowered_main (body_code p)) [] in
     let first : max 0 (0 + cost) ≡ cost = omega arith in
-    ended_keeps _ _ (flat_keeps meaning (lowered p) (runtime_alone p) n (Seq (codes_of (body_code p).code)) begun (statements_fit Any start (body_of p) (any_held 0 _))) ∙ first
+    ended_keeps _ _ (flat_keeps meaning (lowered p) (runtime_alone p) n (Seq (codes_of (body_code p).code)) begun
+    (statements_fit Any start (body_of p) (any_held 0 _))) ∙ first
 
 -- ---- addresses
 

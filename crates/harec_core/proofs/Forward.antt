@@ -24,17 +24,22 @@ pub ended_in : (r : Run) (e : machine.End) → r.ended ≡ Some e → end_of r �
 ended_in r e h = rw h refl
 
 -- the run follows the program to its end, or as far as it goes
-follows : (end : End) (expected : List ℕ) (flow : Flow) (r : Run) → flow ≡ flat_end end → r.ended ≡ end_for flow → r.state.world.output ≡ expected → Follows (end_of r) r.state.world.output (outcome_of end) expected
+follows : (end : End) (expected : List ℕ) (flow : Flow) (r : Run) → flow ≡ flat_end end → r.ended ≡ end_for flow →
+    r.state.world.output ≡ expected → Follows (end_of r) r.state.world.output (outcome_of end) expected
 follows (Exit status) expected flow r f e o = (ended_in r (machine.Exit status) (e ∙ ap end_for f), o)
 follows Spent expected flow r f e o = ([], append-nil expected ∙ sym o)
 
 -- The module of a lowered program does what the program does: its stack never fills up.
-pub does_forward : (source : List ℕ) (p : Program) (m : Module) → IsSource source p → DoesTheSame p (lowered p) → Reaches (lowered p) m → Forward m (evaluation_of p)
+pub does_forward : (source : List ℕ) (p : Program) (m : Module) → IsSource source p → DoesTheSame p (lowered p) → Reaches (lowered p) m →
+    Forward m (evaluation_of p)
 does_forward source p m s does reaches args input fill turns few byte = pick (reaches args input fill turns)
   where
-    pick : Arrives m args input fill turns (flat.run il_meaning (lowered p) args input fill turns) ⊎ Overflows m args input fill turns (flat.run il_meaning (lowered p) args input fill turns) → carries.Reaches m (evaluation_of p) args input fill turns
+    pick : Arrives m args input fill turns (flat.run il_meaning (lowered p) args input fill turns) ⊎ Overflows m args input fill turns
+        (flat.run il_meaning (lowered p) args input fill turns) → carries.Reaches m (evaluation_of p) args input fill turns
     pick (inl a) = record {
       budget = a.budget;
-      follows = follows (run (length args) p turns).0 (run (length args) p turns).1 (flat.run il_meaning (lowered p) args input fill turns).0 (machine m args input fill a.budget) (does.ends args input fill turns) a.ended (sym a.world.output ∙ does.outputs args input fill turns);
+      follows = follows (run (length args) p turns).0 (run (length args) p turns).1
+          (flat.run il_meaning (lowered p) args input fill turns).0 (machine m args input fill a.budget) (does.ends args input fill turns)
+          a.ended (sym a.world.output ∙ does.outputs args input fill turns);
     }
     pick (inr o) = absurd (omega (arith, o.cost, main_fits source p s, run_cost il_meaning p args input fill turns))

@@ -119,15 +119,19 @@ computing flat.Cugtl = refl
 
 -- ---- lines
 
-module _ (globals : List Data) (items : List IlItem) (Holds : ℕ → List ℕ → Type 0) (named : (i : ℕ) (text : List ℕ) → Holds i text → has_length (length text) (text_named items (name_at globals i)) ≡ true) where
-  call_plain : (temp : Option ℕ) (name : List ℕ) (args : List Value) (n k : ℕ) (exits : List ℕ) → IsFitCall Holds temp name args → list_all (is_plain_line items) (code_lines globals (Call temp name args) n k exits) ≡ true
+module _ (globals : List Data) (items : List IlItem) (Holds : ℕ → List ℕ → Type 0)
+    (named : (i : ℕ) (text : List ℕ) → Holds i text → has_length (length text) (text_named items (name_at globals i)) ≡ true) where
+  call_plain : (temp : Option ℕ) (name : List ℕ) (args : List Value) (n k : ℕ) (exits : List ℕ) → IsFitCall Holds temp name args →
+      list_all (is_plain_line items) (code_lines globals (Call temp name args) n k exits) ≡ true
   call_plain temp name args n k exits (counts t) = refl
   call_plain temp name args n k exits (leaves v h) = rw (address_none globals v k h, operand_plain globals v k h) refl
   call_plain temp name args n k exits (puts i text h) = let e = named i text h in rw e refl
 
   mutual
-    pub code_plain : (c : Code) (n k : ℕ) (exits : List ℕ) → IsFit Holds c → list_all (is_plain_line items) (code_lines globals c n k exits) ≡ true
-    code_plain (Seq cs) n k exits h = all_append (is_plain_line items) (each_lines globals cs (suc n) k (exits ++ n ∷ [])) (Label n ∷ []) (each_plain cs (suc n) k (exits ++ n ∷ []) h) refl
+    pub code_plain : (c : Code) (n k : ℕ) (exits : List ℕ) → IsFit Holds c →
+        list_all (is_plain_line items) (code_lines globals c n k exits) ≡ true
+    code_plain (Seq cs) n k exits h = all_append (is_plain_line items) (each_lines globals cs (suc n) k (exits ++ n ∷ [])) (Label n ∷ [])
+        (each_plain cs (suc n) k (exits ++ n ∷ []) h) refl
     code_plain (Set t class o a b) n k exits h =
         let one = computing o in
         let first = operand_plain globals a k h.0 in
@@ -142,15 +146,20 @@ module _ (globals : List Data) (items : List IlItem) (Holds : ℕ → List ℕ �
         let test = operand_plain globals cond k h.0 in
         let lines = code_lines globals b (n + 3 + labels_in a) (k + addressed cond + addresses_in a) exits in
         rw (address_none globals cond k h.0, test)
-        (all_append (is_plain_line items) (code_lines globals a (n + 3) (k + addressed cond) exits) (End (jump.Jmp (label_name (n + 2))) ∷ Label (n + 1) ∷ (lines ++ Label (n + 2) ∷ []))
+        (all_append (is_plain_line items) (code_lines globals a (n + 3) (k + addressed cond) exits)
+        (End (jump.Jmp (label_name (n + 2))) ∷ Label (n + 1) ∷ (lines ++ Label (n + 2) ∷ []))
         does (all_append (is_plain_line items) lines (Label (n + 2) ∷ []) other refl))
     code_plain (Loop c) n k exits h =
-        all_append (is_plain_line items) (code_lines globals c (n + 2) k (exits ++ (n + 1) ∷ [])) (End (jump.Jmp (label_name n)) ∷ Label (n + 1) ∷ []) (code_plain c (n + 2) k (exits ++ (n + 1) ∷ []) h) refl
+        all_append (is_plain_line items) (code_lines globals c (n + 2) k (exits ++ (n + 1) ∷ []))
+        (End (jump.Jmp (label_name n)) ∷ Label (n + 1) ∷ []) (code_plain c (n + 2) k (exits ++ (n + 1) ∷ []) h) refl
     code_plain (Leave j) n k exits h = refl
     code_plain (Call temp name args) n k exits h = call_plain temp name args n k exits h
     code_plain (Ret value) n k exits h = absurd h
 
-    pub each_plain : (cs : Codes) (n k : ℕ) (exits : List ℕ) → AreFit Holds cs → list_all (is_plain_line items) (each_lines globals cs n k exits) ≡ true
+    pub each_plain : (cs : Codes) (n k : ℕ) (exits : List ℕ) → AreFit Holds cs →
+        list_all (is_plain_line items) (each_lines globals cs n k exits) ≡ true
     each_plain none n k exits h = refl
     each_plain (more c cs) n k exits h =
-        all_append (is_plain_line items) (code_lines globals c n k exits) (each_lines globals cs (n + labels_in c) (k + addresses_in c) exits) (code_plain c n k exits h.0) (each_plain cs (n + labels_in c) (k + addresses_in c) exits h.1)
+        all_append (is_plain_line items) (code_lines globals c n k exits)
+        (each_lines globals cs (n + labels_in c) (k + addresses_in c) exits) (code_plain c n k exits h.0)
+        (each_plain cs (n + labels_in c) (k + addresses_in c) exits h.1)

@@ -22,11 +22,15 @@ module _ (items : List IlItem) where
     pub blocks : list_all (is_plain_block items) d.blocks ≡ true
     pub insts : list_all (is_plain_inst items) d.insts ≡ true
 
-  plain_finished : (d : Draft) (j : Jump) → IsPlainDraft d → is_plain_jump j ≡ true → list_all (is_plain_block items) (finished d j ∷ []) ≡ true
+  plain_finished : (d : Draft) (j : Jump) → IsPlainDraft d → is_plain_jump j ≡ true →
+      list_all (is_plain_block items) (finished d j ∷ []) ≡ true
   plain_finished d j h k = both_true _ true (both_true (list_all (is_plain_inst items) d.insts) (is_plain_jump j) h.insts k) refl
 
   plain_ended : (d : Draft) (j : Jump) → IsPlainDraft d → is_plain_jump j ≡ true → IsPlainDraft (ended d j)
-  plain_ended d j h k = record { blocks = all_append (is_plain_block items) d.blocks (finished d j ∷ []) h.blocks (plain_finished d j h k); insts = refl }
+  plain_ended d j h k = record {
+    blocks = all_append (is_plain_block items) d.blocks (finished d j ∷ []) h.blocks (plain_finished d j h k);
+    insts = refl;
+  }
 
   plain_fallen : (d : Draft) (b : Bool) → IsPlainDraft d → IsPlainDraft (fallen d b)
   plain_fallen d true h = plain_ended d jump.Fall h refl
@@ -34,7 +38,11 @@ module _ (items : List IlItem) where
 
   plain_add : (d : Draft) (l : Line) → IsPlainDraft d → is_plain_line l ≡ true → IsPlainDraft (add d l)
   plain_add d (Label n) h k = record { blocks = (plain_fallen d d.is_open h).blocks; insts = refl }
-  plain_add d (Do i) h k = record { blocks = h.blocks; insts = all_append (is_plain_inst items) d.insts (i ∷ []) h.insts (both_true _ true k refl) }
+  plain_add d (Do i) h k = record {
+    blocks = h.blocks;
+    insts = all_append (is_plain_inst items) d.insts (i ∷ []) h.insts
+        (both_true _ true k refl);
+  }
   plain_add d (End j) h k = plain_ended d j h k
 
   pub plain_added : (d : Draft) (lines : List Line) → IsPlainDraft d → list_all is_plain_line lines ≡ true → IsPlainDraft (add_all d lines)

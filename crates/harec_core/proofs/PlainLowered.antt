@@ -37,15 +37,18 @@ module _ (Holds : ℕ → List ℕ → Type 0) where
 
     terms_fit : (scope : Scope) (left : Piece) (ts : Terms) → IsFitPiece left → IsFitPiece (terms_piece scope left ts)
     terms_fit scope left no_term h = h
-    terms_fit scope left (plus a ts) h = terms_fit scope _ ts (operated_fit Add left (term_piece scope left.next a) h (term_fit scope left.next a))
-    terms_fit scope left (minus a ts) h = terms_fit scope _ ts (operated_fit Sub left (term_piece scope left.next a) h (term_fit scope left.next a))
+    terms_fit scope left (plus a ts) h = terms_fit scope _ ts
+        (operated_fit Add left (term_piece scope left.next a) h (term_fit scope left.next a))
+    terms_fit scope left (minus a ts) h = terms_fit scope _ ts
+        (operated_fit Sub left (term_piece scope left.next a) h (term_fit scope left.next a))
 
     term_fit : (scope : Scope) (t : ℕ) (a : Term) → IsFitPiece (term_piece scope t a)
     term_fit scope t (product_of f fs) = factors_fit scope (factor_piece scope t f) fs (factor_fit scope t f)
 
     factors_fit : (scope : Scope) (left : Piece) (fs : Factors) → IsFitPiece left → IsFitPiece (factors_piece scope left fs)
     factors_fit scope left no_factor h = h
-    factors_fit scope left (times f fs) h = factors_fit scope _ fs (operated_fit Mul left (factor_piece scope left.next f) h (factor_fit scope left.next f))
+    factors_fit scope left (times f fs) h = factors_fit scope _ fs
+        (operated_fit Mul left (factor_piece scope left.next f) h (factor_fit scope left.next f))
 
     factor_fit : (scope : Scope) (t : ℕ) (f : Factor) → IsFitPiece (factor_piece scope t f)
     factor_fit scope t (number n) = record { code = tt; value = tt }
@@ -70,7 +73,10 @@ module _ (Holds : ℕ → List ℕ → Type 0) where
       let y = expr_piece scope x.next b in
       let h = expr_fit scope t a in
       let k = expr_fit scope x.next b in
-      record { code = fit_append x.code _ h.code (fit_append y.code _ k.code (comparison_fit r x.value y.value h.value k.value, tt)); value = tt }
+      record {
+        code = fit_append x.code _ h.code (fit_append y.code _ k.code (comparison_fit r x.value y.value h.value k.value, tt));
+        value = tt;
+      }
 
   -- ---- strings
 
@@ -95,7 +101,13 @@ module _ (Holds : ℕ → List ℕ → Type 0) where
     texts_behind site (chooses_one c body other) =
         let test = condition_piece site.scope site.next c in
         let b = statements_code (past site test.next) body in
-        omega (arith, all_texts_behind (past site test.next) body, all_texts_behind (outside site b.behind) other, length-append (statements_texts body) (statements_texts other))
+        omega (
+          arith,
+          all_texts_behind (past site test.next) body,
+          all_texts_behind (outside site b.behind) other,
+          length-append
+              (statements_texts body) (statements_texts other),
+        )
     texts_behind site (repeats c body) = all_texts_behind _ body
     texts_behind site (puts text) = omega arith
     texts_behind site (exits e) = omega arith
@@ -112,15 +124,18 @@ module _ (Holds : ℕ → List ℕ → Type 0) where
   copied_fit None v h = tt
   copied_fit (Some t) v h = ((h, tt), tt)
 
-  branch_fit : (c : Piece) (does other : List Code) → IsFitPiece c → AreFit Holds (codes_of does) → AreFit Holds (codes_of other) → AreFit Holds (codes_of (branch c does other))
+  branch_fit : (c : Piece) (does other : List Code) → IsFitPiece c → AreFit Holds (codes_of does) → AreFit Holds (codes_of other) →
+      AreFit Holds (codes_of (branch c does other))
   branch_fit c does other h a b = fit_append c.code _ h.code ((h.value, a, b), tt)
 
-  turn_fit : (c : Condition) (test : Piece) (body : List Code) → IsFitPiece test → AreFit Holds (codes_of body) → IsFit Holds (turn c test body)
+  turn_fit : (c : Condition) (test : Piece) (body : List Code) → IsFitPiece test → AreFit Holds (codes_of body) →
+      IsFit Holds (turn c test body)
   turn_fit always test body h b = b
   turn_fit (compares a r e) test body h b = fit_append test.code _ h.code ((h.value, b, tt), tt)
 
   mutual
-    pub statement_fit : (site : Site) (s : Statement) → AreHeld site.texts (statement_texts s) → AreFit Holds (codes_of (statement_code site s).code)
+    pub statement_fit : (site : Site) (s : Statement) → AreHeld site.texts (statement_texts s) →
+        AreFit Holds (codes_of (statement_code site s).code)
     statement_fit site (declares x e) ts =
         let v = expr_piece site.scope site.next e in
         let h = expr_fit site.scope site.next e in
@@ -137,7 +152,9 @@ module _ (Holds : ℕ → List ℕ → Type 0) where
         let b = statements_code (past site test.next) body in
         branch_fit test _ _ (condition_fit site.scope site.next c)
         (statements_fit (past site test.next) body (held_front site.texts (statements_texts body) (statements_texts other) ts))
-        (statements_fit (outside site b.behind) other (held_back site.texts b.behind.texts (statements_texts body) (statements_texts other) (all_texts_behind (past site test.next) body) ts))
+        (statements_fit (outside site b.behind) other
+        (held_back site.texts b.behind.texts (statements_texts body) (statements_texts other)
+        (all_texts_behind (past site test.next) body) ts))
     statement_fit site (repeats c body) ts =
         let test = condition_piece site.scope site.next c in
         (turn_fit c test _ (condition_fit site.scope site.next c) (statements_fit (past site test.next) body ts), tt)
@@ -147,9 +164,11 @@ module _ (Holds : ℕ → List ℕ → Type 0) where
         let h = expr_fit site.scope site.next e in
         fit_append v.code _ h.code (fit.leaves v.value h.value, tt)
 
-    pub statements_fit : (site : Site) (ss : Statements) → AreHeld site.texts (statements_texts ss) → AreFit Holds (codes_of (statements_code site ss).code)
+    pub statements_fit : (site : Site) (ss : Statements) → AreHeld site.texts (statements_texts ss) →
+        AreFit Holds (codes_of (statements_code site ss).code)
     statements_fit site nothing ts = tt
     statements_fit site (first s ss) ts =
         let a = statement_code site s in
         fit_append a.code _ (statement_fit site s (held_front site.texts (statement_texts s) (statements_texts ss) ts))
-        (statements_fit a.behind ss (held_back site.texts a.behind.texts (statement_texts s) (statements_texts ss) (texts_behind site s) ts))
+        (statements_fit a.behind ss (held_back site.texts a.behind.texts (statement_texts s) (statements_texts ss) (texts_behind site s)
+        ts))

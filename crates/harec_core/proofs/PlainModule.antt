@@ -48,7 +48,8 @@ clean_parts (c ∷ s) h = rw (clean_values [] (c ∷ s) h) refl
 
 -- ---- globals by their numbers
 
-globals_at : (j : ℕ) (ts : List (List ℕ)) (i : ℕ) (text : List ℕ) → slice_get ts i ≡ Some text → slice_get (text_globals j ts) i ≡ Some (text_global (j + i) text)
+globals_at : (j : ℕ) (ts : List (List ℕ)) (i : ℕ) (text : List ℕ) → slice_get ts i ≡ Some text →
+    slice_get (text_globals j ts) i ≡ Some (text_global (j + i) text)
 globals_at j [] i text h = absurd (cc)
 globals_at j (t ∷ ts) zero text h =
     let same : t ≡ text = cc in
@@ -85,7 +86,15 @@ room_size (il.Data export name align (Zero n ∷ more)) = omega arith
 rooms_size : (items : List IlItem) → sum_by item_room items ≤ sum_by item_size items + count_by (λ i. not (is_function i)) items
 rooms_size [] = omega arith
 rooms_size (i ∷ items) =
-    omega (arith, sum_cons item_room i items, sum_cons item_size i items, sum_cons (λ x. cond (not (is_function x)) 1 0) i items, room_size i, rooms_size items)
+    omega (
+      arith,
+      sum_cons item_room i items,
+      sum_cons item_size i items,
+      sum_cons (λ x. cond (not (is_function x)) 1 0) i items,
+      room_size
+          i,
+      rooms_size items,
+    )
 
 -- small modules end below the arguments
 rooms_fit : (items : List IlItem) → is_small items ≡ true → nat_le (sum_by item_room items) data_room ≡ true
@@ -120,7 +129,8 @@ module _ (p : Program) (clean : list_all is_clean (program_texts p) ≡ true) (v
   named i text h =
       let zero_on : 0 + i ≡ i = omega arith in
       let global : slice_get globals i ≡ Some (text_global i text) = rw zero_on at (globals_at 0 (program_texts p) i text h.at) in
-      let mapped : slice_get (map data_item globals) i ≡ Some (data_item (text_global i text)) = slice_get-map data_item globals i ∙ ap (option_map data_item) global in
+      let mapped : slice_get (map data_item globals) i ≡ Some (data_item (text_global i text)) =
+      slice_get-map data_item globals i ∙ ap (option_map data_item) global in
       let item = get_front (map data_item globals) (main ∷ []) i (data_item (text_global i text)) mapped in
       let found = text_named_at items i (data_item (text_global i text)) (apart_distinct item_name items valid.lawful.once) item in
       let name : name_at globals i ≡ text_name i = ap name_of global in
@@ -132,7 +142,8 @@ module _ (p : Program) (clean : list_all is_clean (program_texts p) ≡ true) (v
 
   -- ---- code
 
-  held_from : (i : ℕ) (ts : List (List ℕ)) → ((k : ℕ) → slice_get (program_texts p) (i + k) ≡ slice_get ts k) → list_all is_clean ts ≡ true → AreHeld Holds i ts
+  held_from : (i : ℕ) (ts : List (List ℕ)) → ((k : ℕ) → slice_get (program_texts p) (i + k) ≡ slice_get ts k) →
+      list_all is_clean ts ≡ true → AreHeld Holds i ts
   held_from i [] at h = tt
   held_from i (t ∷ ts) at h =
       let parts = and_parts (is_clean t) (list_all is_clean ts) h in
@@ -147,14 +158,17 @@ module _ (p : Program) (clean : list_all is_clean (program_texts p) ≡ true) (v
   lines_plain : list_all (is_plain_line items) (function_lines globals (lowered_main (body_code p))) ≡ true
   lines_plain =
       let code = statements_fit Holds start (body_of p) held in
-      all_append (is_plain_line items) (code_lines globals (Seq (codes_of (body_code p).code)) 1 0 []) _ (code_plain globals items Holds named (Seq (codes_of (body_code p).code)) 1 0 [] code) refl
+      all_append (is_plain_line items) (code_lines globals (Seq (codes_of (body_code p).code)) 1 0 []) _
+      (code_plain globals items Holds named (Seq (codes_of (body_code p).code)) 1 0 [] code) refl
 
   blocks_plain : list_all (is_plain_block items) (blocks_of globals (lowered_main (body_code p))) ≡ true
-  blocks_plain = (plain_added items empty_draft (function_lines globals (lowered_main (body_code p))) (record { blocks = refl; insts = refl }) lines_plain).blocks
+  blocks_plain = (plain_added items empty_draft (function_lines globals (lowered_main (body_code p)))
+      (record { blocks = refl; insts = refl }) lines_plain).blocks
 
   -- ---- items
 
-  data_plain : (i : ℕ) (ts : List (List ℕ)) → list_all is_clean ts ≡ true → list_all (is_plain_item items) (map data_item (text_globals i ts)) ≡ true
+  data_plain : (i : ℕ) (ts : List (List ℕ)) → list_all is_clean ts ≡ true →
+      list_all (is_plain_item items) (map data_item (text_globals i ts)) ≡ true
   data_plain i [] h = refl
   data_plain i (t ∷ ts) h =
       let parts = and_parts (is_clean t) (list_all is_clean ts) h in
@@ -163,7 +177,8 @@ module _ (p : Program) (clean : list_all is_clean (program_texts p) ≡ true) (v
   labels_apart : are_apart (map (λ (b : Block). b.label) (blocks_of globals (lowered_main (body_code p)))) ≡ true
   labels_apart =
       let split = list_all-append has_own_names (map data_item globals) (main ∷ []) in
-      let last = (and_parts (list_all has_own_names (map data_item globals)) (list_all has_own_names (main ∷ [])) (sym split ∙ valid.lawful.names)).1 in
+      let last = (and_parts (list_all has_own_names (map data_item globals)) (list_all has_own_names (main ∷ []))
+      (sym split ∙ valid.lawful.names)).1 in
       let own = (and_parts (has_own_names main) true last).0 in
       let blocks = blocks_of globals (lowered_main (body_code p)) in
       let labels = are_distinct (λ (b : Block). b.label) blocks in
@@ -179,8 +194,10 @@ module _ (p : Program) (clean : list_all is_clean (program_texts p) ≡ true) (v
       both_true _ _ (apart_distinct item_name items valid.lawful.once)
       (both_true _ _ valid.lawful.main
       (both_true _ _ (rooms_fit items valid.lawful.small)
-      (all_append (is_plain_item items) (map data_item globals) (main ∷ []) (data_plain 0 (program_texts p) clean) (both_true _ true main_plain refl))))
+      (all_append (is_plain_item items) (map data_item globals) (main ∷ []) (data_plain 0 (program_texts p) clean)
+      (both_true _ true main_plain refl))))
 
 -- the module of a file's program is plain
-pub lowered_plain : (source : List ℕ) (p : Program) → IsSource source p → IsValid (module_of (lowered p)) → IsTrue (is_plain (module_of (lowered p)))
+pub lowered_plain : (source : List ℕ) (p : Program) → IsSource source p → IsValid (module_of (lowered p)) →
+    IsTrue (is_plain (module_of (lowered p)))
 lowered_plain source p s valid = module_plain p (program_clean p source s.spelled) valid

@@ -32,7 +32,8 @@ clean_spelling t s h = refl
 
 clean_tokens : (ts : List Token) (text : List ℕ) → Spells ts text → list_all clean_token ts ≡ true
 clean_tokens [] text h = refl
-clean_tokens (t ∷ ts) text (blanks, s, rest, b, spelled, l, e, on) = both_true (clean_token t) _ (clean_spelling t s spelled) (clean_tokens ts rest on)
+clean_tokens (t ∷ ts) text (blanks, s, rest, b, spelled, l, e, on) =
+    both_true (clean_token t) _ (clean_spelling t s spelled) (clean_tokens ts rest on)
 
 -- ---- the tokens of statements hold their strings
 
@@ -51,13 +52,17 @@ mutual
   statement_clean : (s : Statement) → list_all clean_token (statement_tokens s) ≡ true → list_all is_clean (statement_texts s) ≡ true
   statement_clean (declares x e) h = refl
   statement_clean (assigns x e) h = refl
-  statement_clean (chooses c body) h = statements_clean body (inside (statements_tokens body) (all_back (head_tokens token.If c) (in_braces (statements_tokens body)) h))
+  statement_clean (chooses c body) h = statements_clean body
+      (inside (statements_tokens body) (all_back (head_tokens token.If c) (in_braces (statements_tokens body)) h))
   statement_clean (chooses_one c body other) h =
-      let both = all_back (head_tokens token.If c) (in_braces (statements_tokens body) ++ (token.Else ∷ in_braces (statements_tokens other))) h in
+      let both = all_back (head_tokens token.If c)
+      (in_braces (statements_tokens body) ++ (token.Else ∷ in_braces (statements_tokens other))) h in
       let one = all_front (in_braces (statements_tokens body)) (token.Else ∷ in_braces (statements_tokens other)) both in
       let two = all_back (in_braces (statements_tokens body)) (token.Else ∷ in_braces (statements_tokens other)) both in
-      all_append is_clean (statements_texts body) (statements_texts other) (statements_clean body (inside (statements_tokens body) one)) (statements_clean other (inside (statements_tokens other) two))
-  statement_clean (repeats c body) h = statements_clean body (inside (statements_tokens body) (all_back (head_tokens token.For c) (in_braces (statements_tokens body)) h))
+      all_append is_clean (statements_texts body) (statements_texts other) (statements_clean body (inside (statements_tokens body) one))
+      (statements_clean other (inside (statements_tokens other) two))
+  statement_clean (repeats c body) h = statements_clean body
+      (inside (statements_tokens body) (all_back (head_tokens token.For c) (in_braces (statements_tokens body)) h))
   statement_clean (puts text) h = both_true (is_clean text) true (and_parts (is_clean text) true h).0 refl
   statement_clean (exits e) h = refl
 
@@ -72,5 +77,6 @@ mutual
 pub program_clean : (p : Program) (text : List ℕ) → Spells (file_tokens p) text → list_all is_clean (program_texts p) ≡ true
 program_clean (exit_of e) text h = refl
 program_clean (block_of ss) text h =
-    let body = all_back front_tokens (in_braces (statements_tokens ss) ++ token.Semicolon ∷ []) (clean_tokens (file_tokens (block_of ss)) text h) in
+    let body = all_back front_tokens (in_braces (statements_tokens ss) ++ token.Semicolon ∷ [])
+    (clean_tokens (file_tokens (block_of ss)) text h) in
     statements_clean ss (inside (statements_tokens ss) (all_front (in_braces (statements_tokens ss)) (token.Semicolon ∷ []) body))

@@ -27,7 +27,12 @@ module _ (p : Program) where
   blocks_at ts i = map data_item (text_globals i ts) ++ function_item (text_globals 0 (program_texts p)) (lowered_main (body_code p)) ∷ []
 
   abbrev main_body : Body
-  main_body = record { name = codes "main"; params = []; blocks = blocks_of (text_globals 0 (program_texts p)) (lowered_main (body_code p)) }
+  main_body = record {
+    name = codes "main";
+    params = [];
+    blocks = blocks_of (text_globals 0 (program_texts p))
+        (lowered_main (body_code p));
+  }
 
   one_function : (ts : List (List ℕ)) (i : ℕ) → functions_of (blocks_at ts i) ≡ main_body ∷ []
   one_function [] i = refl
@@ -37,7 +42,9 @@ module _ (p : Program) where
   each_string [] i = refl
   each_string (t ∷ ts) i = omega (arith, each_string ts (suc i))
 
-  main_named : (ts : List (List ℕ)) (i : ℕ) → il.function_named (blocks_at ts i) (codes "main") ≡ Some (record { name = codes "main"; class = None; params = []; blocks = main_body.blocks })
+  main_named : (ts : List (List ℕ)) (i : ℕ) →
+      il.function_named (blocks_at ts i) (codes "main") ≡
+      Some (record { name = codes "main"; class = None; params = []; blocks = main_body.blocks })
   main_named [] i = refl
   main_named (t ∷ ts) i = main_named ts (suc i)
 
@@ -71,7 +78,8 @@ pub any_held : (i : ℕ) (ts : List (List ℕ)) → AreHeld Any i ts
 any_held i [] = tt
 any_held i (t ∷ ts) = (tt, any_held (suc i) ts)
 
-call_is_none : (temp : Option ℕ) (name : List ℕ) (args : List Value) → IsFitCall Any temp name args → calls_in (codes "main") (Call temp name args) ≡ 0
+call_is_none : (temp : Option ℕ) (name : List ℕ) (args : List Value) → IsFitCall Any temp name args →
+    calls_in (codes "main") (Call temp name args) ≡ 0
 call_is_none temp name args (fit.counts t) = refl
 call_is_none temp name args (fit.leaves v h) = refl
 call_is_none temp name args (fit.puts i text h) = refl
@@ -96,12 +104,14 @@ mutual
 -- ---- the shape
 
 -- the module of a lowered program has the shape that the program asks for
-pub lowered_shape : (p : Program) → emit.HasShape (lowered p) (module_of (lowered p)) → HasItsLoops p (lowered p) → HasShape (outline_of p) (module_of (lowered p))
+pub lowered_shape : (p : Program) → emit.HasShape (lowered p) (module_of (lowered p)) → HasItsLoops p (lowered p) →
+    HasShape (outline_of p) (module_of (lowered p))
 lowered_shape p shaped loops =
     let items = blocks_at p (program_texts p) 0 in
     let body = lowered_main (body_code p) in
     let code = Seq (codes_of (body_code p).code) in
-    let alike : IsShapedAs body (record { name = codes "main"; class = None; params = []; blocks = (main_body p).blocks }) = subst (λ (c : Option il.Code). emit.AreAlike (Some body) c) (main_named p (program_texts p) 0) (shaped (codes "main")) in
+    let alike : IsShapedAs body (record { name = codes "main"; class = None; params = []; blocks = (main_body p).blocks }) =
+    subst (λ (c : Option il.Code). emit.AreAlike (Some body) c) (main_named p (program_texts p) 0) (shaped (codes "main")) in
     let one = sum_cons (λ (g : FlatFn). code_loops (code_of g.body)) body [] in
     let quiet = no_calls code (statements_fit Any start (body_of p) (any_held 0 (program_texts p))) in
     let all = one_function p (program_texts p) 0 in

@@ -21,19 +21,44 @@ use Rattle.harec_core.proofs.Shaped.{Any, any_held}
 
 mutual
   expr_next : (scope : Scope) (t : ℕ) (e : Expr) → (expr_piece scope t e).next ≤ t + length (expr_tokens e)
-  expr_next scope t (sum_of a ts) = omega (arith, terms_next scope (term_piece scope t a) ts, term_next scope t a, length-append (term_tokens a) (terms_tokens ts))
+  expr_next scope t (sum_of a ts) = omega (
+    arith,
+    terms_next scope (term_piece scope t a) ts,
+    term_next scope t a,
+    length-append
+        (term_tokens a) (terms_tokens ts),
+  )
 
   terms_next : (scope : Scope) (left : Piece) (ts : Terms) → (terms_piece scope left ts).next ≤ left.next + length (terms_tokens ts)
   terms_next scope left no_term = omega arith
-  terms_next scope left (plus a ts) = omega (arith, terms_next scope (operated Add left (term_piece scope left.next a)) ts, term_next scope left.next a, length-append (term_tokens a) (terms_tokens ts))
-  terms_next scope left (minus a ts) = omega (arith, terms_next scope (operated Sub left (term_piece scope left.next a)) ts, term_next scope left.next a, length-append (term_tokens a) (terms_tokens ts))
+  terms_next scope left (plus a ts) = omega (
+    arith,
+    terms_next scope (operated Add left (term_piece scope left.next a)) ts,
+    term_next scope
+        left.next a,
+    length-append (term_tokens a) (terms_tokens ts),
+  )
+  terms_next scope left (minus a ts) = omega (
+    arith,
+    terms_next scope (operated Sub left (term_piece scope left.next a)) ts,
+    term_next scope left.next a,
+    length-append
+        (term_tokens a) (terms_tokens ts),
+  )
 
   term_next : (scope : Scope) (t : ℕ) (a : Term) → (term_piece scope t a).next ≤ t + length (term_tokens a)
-  term_next scope t (product_of f fs) = omega (arith, factors_next scope (factor_piece scope t f) fs, factor_next scope t f, length-append (factor_tokens f) (factors_tokens fs))
+  term_next scope t (product_of f fs) = omega
+      (arith, factors_next scope (factor_piece scope t f) fs, factor_next scope t f, length-append (factor_tokens f) (factors_tokens fs))
 
   factors_next : (scope : Scope) (left : Piece) (fs : Factors) → (factors_piece scope left fs).next ≤ left.next + length (factors_tokens fs)
   factors_next scope left no_factor = omega arith
-  factors_next scope left (times f fs) = omega (arith, factors_next scope (operated Mul left (factor_piece scope left.next f)) fs, factor_next scope left.next f, length-append (factor_tokens f) (factors_tokens fs))
+  factors_next scope left (times f fs) = omega (
+    arith,
+    factors_next scope (operated Mul left (factor_piece scope left.next f)) fs,
+    factor_next scope left.next f,
+    length-append
+        (factor_tokens f) (factors_tokens fs),
+  )
 
   factor_next : (scope : Scope) (t : ℕ) (f : Factor) → (factor_piece scope t f).next ≤ t + length (factor_tokens f)
   factor_next scope t (number n) = omega arith
@@ -44,7 +69,13 @@ mutual
 condition_next : (scope : Scope) (t : ℕ) (c : Condition) → (condition_piece scope t c).next ≤ t + length (condition_tokens c)
 condition_next scope t always = omega arith
 condition_next scope t (compares a r b) =
-    omega (arith, expr_next scope t a, expr_next scope (expr_piece scope t a).next b, length-append (expr_tokens a) (relation_token r ∷ expr_tokens b))
+    omega (
+      arith,
+      expr_next scope t a,
+      expr_next scope (expr_piece scope t a).next b,
+      length-append (expr_tokens a)
+          (relation_token r ∷ expr_tokens b),
+    )
 
 -- ---- temporaries of statements
 
@@ -63,7 +94,15 @@ mutual
   statement_next site (assigns x e) = omega (arith, expr_next site.scope site.next e)
   statement_next site (chooses c body) =
       let test = condition_piece site.scope site.next c in
-      omega (arith, condition_next site.scope site.next c, statements_next (past site test.next) body, head_length token.If c, braces_length (statements_tokens body), length-append (head_tokens token.If c) (in_braces (statements_tokens body)))
+      omega (
+        arith,
+        condition_next site.scope site.next c,
+        statements_next (past site test.next) body,
+        head_length token.If c,
+        braces_length
+            (statements_tokens body),
+        length-append (head_tokens token.If c) (in_braces (statements_tokens body)),
+      )
   statement_next site (chooses_one c body other) =
       let test = condition_piece site.scope site.next c in
       let b = statements_code (past site test.next) body in
@@ -81,14 +120,27 @@ mutual
       )
   statement_next site (repeats c body) =
       let test = condition_piece site.scope site.next c in
-      omega (arith, condition_next site.scope site.next c, statements_next (past site test.next) body, head_length token.For c, braces_length (statements_tokens body), length-append (head_tokens token.For c) (in_braces (statements_tokens body)))
+      omega (
+        arith,
+        condition_next site.scope site.next c,
+        statements_next (past site test.next) body,
+        head_length token.For c,
+        braces_length (statements_tokens body),
+        length-append (head_tokens token.For c) (in_braces (statements_tokens body)),
+      )
   statement_next site (puts text) = omega arith
   statement_next site (exits e) = omega (arith, expr_next site.scope site.next e, exit_length e)
 
   statements_next : (site : Site) (ss : Statements) → (statements_code site ss).behind.next ≤ site.next + length (statements_tokens ss)
   statements_next site nothing = omega arith
   statements_next site (first s ss) =
-      omega (arith, statement_next site s, statements_next (statement_code site s).behind ss, length-append (statement_tokens s) (token.Semicolon ∷ statements_tokens ss))
+      omega (
+        arith,
+        statement_next site s,
+        statements_next (statement_code site s).behind ss,
+        length-append (statement_tokens s)
+            (token.Semicolon ∷ statements_tokens ss),
+      )
 
 -- ---- tokens and bytes
 
@@ -136,7 +188,12 @@ tokens_bytes (t ∷ ts) text (blanks, s, rest, b, spelled, l, e, on) =
 
 body_length : (p : Program) → length (statements_tokens (body_of p)) ≤ length (file_tokens p)
 body_length (exit_of e) = omega (arith, length-append (exit_tokens e) (token.Semicolon ∷ []))
-body_length (block_of ss) = omega (arith, braces_length (statements_tokens ss), length-append (in_braces (statements_tokens ss)) (token.Semicolon ∷ []))
+body_length (block_of ss) = omega (
+  arith,
+  braces_length (statements_tokens ss),
+  length-append (in_braces (statements_tokens ss))
+      (token.Semicolon ∷ []),
+)
 
 file_length : (text : List ℕ) (p : Program) → IsOfClass (length text) p → length text ≤ 65536
 file_length text (exit_of e) h = omega (arith, h.small)
@@ -149,6 +206,13 @@ pub main_fits : (text : List ℕ) (p : Program) → IsSource text p → call_cos
 main_fits text p s =
     let code = Seq (codes_of (body_code p).code) in
     let temps : (body_code p).behind.next ≤ 65537 =
-    omega (arith, statements_next start (body_of p), body_length p, tokens_bytes (file_tokens p) text s.spelled, file_length text p s.of_class) in
+    omega (
+      arith,
+      statements_next start (body_of p),
+      body_length p,
+      tokens_bytes (file_tokens p) text s.spelled,
+      file_length text p
+          s.of_class,
+    ) in
     let none = none_addressed code (statements_fit Any start (body_of p) (any_held 0 _)) in
     omega (arith, temps, none)

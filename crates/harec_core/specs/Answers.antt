@@ -1,7 +1,9 @@
 -- The causes of the answers to a command.
 --
--- Each answer has one cause, which says besides what the text, the output and the files are then. A file that was not read and a write that failed
--- have one answer each. Want of memory comes at will. Behind these a file is laid out by its bytes alone; or the program of the files is checked:
+-- Each answer has one cause, which says besides what the text, the output and the files are then. A file that was not read and a write that
+-- failed
+-- have one answer each. Want of memory comes at will. Behind these a file is laid out by its bytes alone; or the program of the files is
+-- checked:
 -- where it has a fault, this is the answer; and what is compiled, written out or run has been checked.
 use Rattle.std.specs.Prelude.{◌≡◌, ℕ, ◌≤◌, ◌⊎◌, List, [], ◌∷◌, length}
 use Rattle.il_code.specs.declared.types.Module.{Module}
@@ -151,7 +153,8 @@ pub record LaidOut (c : Call) : Type 0 where
   pub laid : HasLayout source layout
   pub sent : IsSent layout c.out
 
--- The run ended so: that of the machine over the module that the text spells, with the arguments, the units and the fill byte of the call, whatever
+-- The run ended so: that of the machine over the module that the text spells, with the arguments, the units and the fill byte of the call,
+-- whatever
 -- the input is. All of its output was written.
 pub record EndedIn (c : Call) (end : End) : Type 0 where
   pub units : ℕ
@@ -215,7 +218,8 @@ answer_to (machine.Fault fault) = Undefined (Il fault)
 answer_to machine.StackFull = StackFull
 answer_to machine.Spent = Spent
 
--- The answer is this one, or memory ran out, or the program has a fault. That a file of the class has no fault of the language is not proved; where
+-- The answer is this one, or memory ran out, or the program has a fault. That a file of the class has no fault of the language is not
+-- proved; where
 -- it had one, that would be the answer.
 pub data Gives (c : Call) (answer this : Answer) : Type 0 where
   gives : answer ≡ this → Gives c answer this

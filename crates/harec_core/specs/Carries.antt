@@ -1,5 +1,6 @@
 -- A text of the intermediate language carries a program: it is the text of a valid module, which has the program's shape and does what the
--- program does, within bounds on the stack and the units. `Carries` says so whole. `CarriesBothWays` is what is proved of the texts of today:
+-- program does, within bounds on the stack and the units. `Carries` says so whole. `CarriesBothWays` is what is proved of the texts of
+-- today:
 -- the shape, and that the machine does what the program does and nothing else.
 use Rattle.std.specs.Prelude.{◌≡◌, ℕ, ◌+◌, ◌*◌, ◌<◌, ◌≤◌, ◌⊎◌, List}
 use Rattle.il_code.specs.declared.types.Module.{Module}
@@ -20,7 +21,8 @@ EndAlike Goes end = ⊥
 
 -- ---- forward
 
--- The run of a module with a budget follows a program that stands so, with this output: where the program has ended, the run ends alike with
+-- The run of a module with a budget follows a program that stands so, with this output: where the program has ended, the run ends alike
+-- with
 -- the same output; where it goes on, its output is a front of the run's. Nothing is asked behind what has no meaning.
 abbrev pub Follows : (end : End) (output : List ℕ) → Outcome → List ℕ → Type 0
 Follows end output (Exits status) expected = EndAlike (Exits status) end × (output ≡ expected)
@@ -32,7 +34,8 @@ module _ (m : Module) (e : Evaluation) (args : List (List ℕ)) (input : List �
   -- with some budget the run follows the program to where it stands after so many turns
   pub record Reaches (turns : ℕ) : Type 0 where
     pub budget : ℕ
-    pub follows : Follows (machine_end m args input fill budget) (machine_output m args input fill budget) (e.outcome args input turns) (e.output args input turns)
+    pub follows : Follows (machine_end m args input fill budget) (machine_output m args input fill budget) (e.outcome args input turns)
+        (e.output args input turns)
 
 -- the run follows the program at every number of turns, for all arguments, every input and each of the 256 fill bytes
 abbrev pub Forward : Module → Evaluation → Type 0
@@ -40,7 +43,8 @@ Forward m e = (args : List (List ℕ)) (input : List ℕ) (fill turns : ℕ) →
 
 -- ---- back
 
--- The program stands by what a run has done, after one turn more than the run has done jumps and calls: it did what has no meaning, or the run
+-- The program stands by what a run has done, after one turn more than the run has done jumps and calls: it did what has no meaning, or the
+-- run
 -- goes on and its output is a front of the program's, or both have ended alike with the same output.
 abbrev pub Backs : (end : End) (output : List ℕ) → Outcome → List ℕ → Type 0
 Backs end output outcome told = (outcome ≡ Breaks) ⊎ ((end ≡ Spent) × IsFront output told) ⊎ (EndAlike outcome end × (output ≡ told))
@@ -50,7 +54,8 @@ module _ (m : Module) (e : Evaluation) (args : List (List ℕ)) (input : List �
     pub few : jumps_and_calls (machine m args input fill budget) ≤ budget
     pub backs :
         let turns = jumps_and_calls (machine m args input fill budget) + 1 in
-        Backs (machine_end m args input fill budget) (machine_output m args input fill budget) (e.outcome args input turns) (e.output args input turns)
+        Backs (machine_end m args input fill budget) (machine_output m args input fill budget) (e.outcome args input turns)
+        (e.output args input turns)
 
 -- what a run does is what the program does
 abbrev pub Back : Module → Evaluation → Type 0

@@ -19,7 +19,8 @@ evaluation_of p = record {
   output = λ args input turns. (run (length args) p turns).1;
 }
 
--- One function `main`, with as many loops as the program has `for`. It calls no function of the module. There is no global, and at most one further data
+-- One function `main`, with as many loops as the program has `for`. It calls no function of the module. There is no global, and at most one
+-- further data
 -- item for each string that is put out.
 abbrev pub outline_of : Program → Outline
 outline_of p = record {

@@ -47,7 +47,8 @@ pub record IsUnreadLine (paths : List (List ℕ)) (line : List ℕ) : Type 0 whe
   pub word : slice_get paths number ≡ Some path
   pub text : line ≡ unread_line path
 
--- The line of an answer to a command on the files of these paths, which runs with so many units if it runs. A program's own exit has none, and
+-- The line of an answer to a command on the files of these paths, which runs with so many units if it runs. A program's own exit has none,
+-- and
 -- nor has an accepted program; and no program of today aborts.
 abbrev pub IsLine : (paths : List (List ℕ)) (units : ℕ) → Answer → List ℕ → Type 0
 IsLine paths units Accepted line = line ≡ []

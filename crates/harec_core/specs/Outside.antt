@@ -23,7 +23,8 @@ pub record Sent : Type 0 where
 
 -- the same, from its parts
 abbrev pub sent : ℕ → ℕ → Option (List ℕ) → Option (List ℕ) → Sent
-sent faults_before faults_now before now = record { faults = record { before = faults_before; now = faults_now }; before = before; now = now }
+sent faults_before faults_now before now = record
+    { faults = record { before = faults_before; now = faults_now }; before = before; now = now }
 
 -- just these bytes were written, and no write failed
 pub record IsSent (bytes : List ℕ) (s : Sent) : Type 0 where

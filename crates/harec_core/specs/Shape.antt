@@ -21,7 +21,8 @@ pub record Body : Type 0 where
 abbrev pub functions_of : List IlItem → List Body
 functions_of [] = []
 functions_of (Data export name align parts ∷ items) = functions_of items
-functions_of (Function export class name params blocks ∷ items) = record { name = name; params = params; blocks = blocks } ∷ functions_of items
+functions_of (Function export class name params blocks ∷ items) =
+    record { name = name; params = params; blocks = blocks } ∷ functions_of items
 
 -- how many data items a module has
 abbrev pub data_count : List IlItem → ℕ
@@ -44,7 +45,8 @@ HaveOutlines all [] (b ∷ bs) = ⊥
 HaveOutlines all (f ∷ fs) [] = ⊥
 HaveOutlines all (f ∷ fs) (b ∷ bs) = HasOutline all f b × HaveOutlines all fs bs
 
--- The shape of a program's module: its functions, one for each of the program; a data item for each global, and no more further ones than the
+-- The shape of a program's module: its functions, one for each of the program; a data item for each global, and no more further ones than
+-- the
 -- program asks for.
 pub record HasShape (o : Outline) (m : Module) : Type 0 where
   pub functions : HaveOutlines (functions_of m.items) o.functions (functions_of m.items)
@@ -53,7 +55,8 @@ pub record HasShape (o : Outline) (m : Module) : Type 0 where
 
 -- ---- what a call costs the stack
 
--- Bytes of the stack are taken in the first block alone, each time as many as a number says, and a call costs the stack no more than this, with all
+-- Bytes of the stack are taken in the first block alone, each time as many as a number says, and a call costs the stack no more than this,
+-- with all
 -- that it takes there.
 pub record IsWithinFrame (frame : ℕ) (b : Body) : Type 0 where
   pub placed : IsTrue (allocs_are_placed b.blocks)

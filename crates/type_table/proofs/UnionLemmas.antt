@@ -27,4 +27,5 @@ goes-to s from m c e = by (first_row s (value_at s from) (type_at s m)) e
 pub chosen-in : (s : Store) → IsStore s → (from : Ty) (to : ℕ) (c : Coercion) → IsChosen s from to c → IsIn s c.to
 chosen-in s v from to c h =
     let all = members_below s v to h.members h.union in
-    subst (λ x. IsIn s x) (sym (goes-to s from h.member c h.goes)) (below (length s.rows) h.members h.among.0 h.member all h.among.1 (sym h.among.2))
+    subst (λ x. IsIn s x) (sym (goes-to s from h.member c h.goes))
+    (below (length s.rows) h.members h.among.0 h.member all h.among.1 (sym h.among.2))

@@ -133,7 +133,8 @@ module _ (ground : Ground) where
 
   -- ---- temporaries and calls
 
-  -- other values of temporaries and another number of calls, where each temporary that holds an object has its value and its call is under way
+  -- other values of temporaries and another number of calls, where each temporary that holds an object has its value and its call is under
+  -- way
   pub values_keep : (ps : Places) (s : State) (w : World) (calls calls' : ℕ) (value value' : Values) → Related ground ps s w calls value →
       ((o c t : ℕ) → Held ps (objects_in s) o c t → (value' c t ≡ value c t) × (c ≤ calls')) →
       Keeps ground ps (objects_in s) w w calls calls' value value'

@@ -48,7 +48,8 @@ module _ (ground : Ground) where
     held_cells = λ p c t n signed y l g. r.held_cells p c t n signed y (was p y l) g;
     held_apart = λ p q c t f g. r.held_apart p q c t (held p c t f) (held q c t g);
     heap_next = r.heap_next;
-    heap_above = λ q e. r.heap_above q (is_mapped-unmap_range_before w.memory a (extent_of x) q (sym (is_mapped-clear_range (unmap_range w.memory a (extent_of x)) a (extent_of x) q) ∙ e));
+    heap_above = λ q e. r.heap_above q (is_mapped-unmap_range_before w.memory a (extent_of x) q
+        (sym (is_mapped-clear_range (unmap_range w.memory a (extent_of x)) a (extent_of x) q) ∙ e));
     heap_blocks = λ p q y l e g. block p q y l e g;
     heap_places = λ p y l e. r.heap_places p y (was p y l) e;
     heap_objects = λ q n e. object q n e (is_same a q);
@@ -136,7 +137,9 @@ module _ (ground : Ground) where
 
       object : (q n : ℕ) → block_size (without_block w.heap.blocks a) q ≡ Some n → Same a q → BlockOf ps objs' q n
       object q n e (same f) =
-          absurd (let none : block_size (without_block w.heap.blocks a) q ≡ None = subst (λ z. block_size (without_block w.heap.blocks a) z ≡ None) f (block_size-without_same w.heap.blocks a r.heap_apart) in cc)
+          absurd (let none : block_size (without_block w.heap.blocks a) q ≡
+          None = subst (λ z. block_size (without_block w.heap.blocks a) z ≡ None) f
+          (block_size-without_same w.heap.blocks a r.heap_apart) in cc)
       object q n e (other f) =
           let b = r.heap_objects q n (sym (block_size-without_other w.heap.blocks a q f) ∙ e) in
           let apart : b.o ≢ o = λ g.

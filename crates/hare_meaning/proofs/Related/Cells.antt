@@ -124,7 +124,8 @@ cells_within-at [] d (suc n) k l b = absurd (omega arith)
 cells_within-at (x ∷ xs) zero (suc n) zero l b = refl
 cells_within-at (x ∷ xs) zero (suc n) (suc k) l b =
     let e : 0 + suc k ≡ suc (0 + k) = omega arith in
-    let f : slice_get (cells_within zero n xs) k ≡ slice_get (x ∷ xs) (suc (0 + k)) = cells_within-at xs zero n k (omega arith) (omega arith) in
+    let f : slice_get (cells_within zero n xs) k ≡ slice_get (x ∷ xs) (suc (0 + k)) =
+    cells_within-at xs zero n k (omega arith) (omega arith) in
     rw e f
 cells_within-at (x ∷ xs) (suc d) (suc n) k l b =
     let e : suc d + k ≡ suc (d + k) = omega arith in

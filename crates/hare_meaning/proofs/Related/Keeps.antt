@@ -37,7 +37,8 @@ module _ (ground : Ground) where
     mapped = h.mapped;
     apart = r.apart;
     placed = r.placed;
-    cells = λ o a i x c l at g. rw (h.bytes o (a + i) (live_covers ps (objects_in s) o a i x l at (slice_get_within x.cells i c g))) (r.cells o a i x c l at g);
+    cells = λ o a i x c l at g. rw (h.bytes o (a + i) (live_covers ps (objects_in s) o a i x l at (slice_get_within x.cells i c g)))
+        (r.cells o a i x c l at g);
     held_cells = λ o c t n signed x l at.
         let v = h.values o c t (record { x = x; width = n; signed = signed; live = l; at = at }) in
         let m = r.held_cells o c t n signed x l at in

@@ -31,7 +31,8 @@ module _ (ground : Ground) where
     placed = λ p a y e g. placed_at p a y g (found_set (objects_in s) o x x' p y live.0 e);
     cells = λ p a i y d l g e. r.cells p a i y d (mem p a y g (after_set (objects_in s) o x x' p y live.0 l)) g e;
     held_cells = λ p d u z zs y l g. held p d u z zs y g (after_set (objects_in s) o x x' p y live.0 l);
-    held_apart = λ p q d u f g. r.held_apart p q d u (held_back ps (objects_in s) o x x' live p d u f) (held_back ps (objects_in s) o x x' live q d u g);
+    held_apart = λ p q d u f g. r.held_apart p q d u (held_back ps (objects_in s) o x x' live p d u f)
+        (held_back ps (objects_in s) o x x' live q d u g);
     heap_next = r.heap_next;
     heap_above = r.heap_above;
     heap_blocks = λ p a y l e g. r.heap_blocks p a y (mem p a y g (after_set (objects_in s) o x x' p y live.0 l)) e g;
@@ -60,7 +61,16 @@ module _ (ground : Ground) where
       placed_at p a y g (found_before m e) = r.placed p a y e g
 
       back : (p a : ℕ) → Covered ps (slice_set (objects_in s) o x') p a → Covered ps (objects_in s) p a
-      back p a g = record { x = g.x; from = g.from; k = g.k; live = mem p g.from g.x g.at (after_set (objects_in s) o x x' p g.x live.0 g.live); at = g.at; within = g.within; is = g.is }
+      back p a g = record {
+        x = g.x;
+        from = g.from;
+        k = g.k;
+        live = mem p g.from g.x g.at
+            (after_set (objects_in s) o x x' p g.x live.0 g.live);
+        at = g.at;
+        within = g.within;
+        is = g.is;
+      }
 
       -- a live heap object stands in memory, and so is another one
       stands : (p : ℕ) (y : Object) → y.kind ≡ Heap → Now (objects_in s) o x' p y → (a : ℕ) × (slice_get ps p ≡ Some (At a))
@@ -72,7 +82,14 @@ module _ (ground : Ground) where
       objects : (a z : ℕ) → BlockOf ps (objects_in s) a z → BlockOf ps (slice_set (objects_in s) o x') a z
       objects a z b =
           let m : b.o ≢ o = λ e. let h : slice_get ps o ≡ Some (At a) = ap (slice_get ps) (sym e) ∙ b.at in cc in
-          record { o = b.o; x = b.x; live = (get_set_other (objects_in s) o b.o x' (λ e. m (sym e)) ∙ b.live.0, b.live.1); kind = b.kind; at = b.at; is = b.is }
+          record {
+            o = b.o;
+            x = b.x;
+            live = (get_set_other (objects_in s) o b.o x' (λ e. m (sym e)) ∙ b.live.0, b.live.1);
+            kind = b.kind;
+            at = b.at;
+            is = b.is;
+          }
 
       held : (p d u z : ℕ) (zs : Bool) (y : Object) → slice_get ps p ≡ Some (Temp d u z zs) → Now (objects_in s) o x' p y →
           Match ps y.cells (le_bytes z (value' d u)) × IsNormal z zs (value' d u) × (d ≤ calls)
@@ -91,7 +108,8 @@ module _ (ground : Ground) where
           rw (rest d u far) h
         where
           differs : Same d c → Differ c t d u
-          differs (same e) = inr (λ f. m (r.held_apart p o d u (record { x = y; width = z; signed = zs; live = l; at = g }) (record { x = x; width = n; signed = sign; live = live; at = rw (e, f) at })))
+          differs (same e) = inr (λ f. m (r.held_apart p o d u (record { x = y; width = z; signed = zs; live = l; at = g })
+              (record { x = x; width = n; signed = sign; live = live; at = rw (e, f) at })))
           differs (other e) = inl e
 
   -- a kept binding is made: the value stands in the temporary already
@@ -106,13 +124,24 @@ module _ (ground : Ground) where
     mapped = λ o a h. r.mapped o a (back o a h);
     apart = λ o p a g h. r.apart o p a (back o a g) (back p a h);
     placed = λ o a y e at. placed_at o a y (get_more (objects_in s) x o y e) at;
-    cells = λ o a i y d l at g. let l' = mem o a y at (after_more (objects_in s) x o y l) in agrees_on ps ps' d (byte_at w.memory (a + i)) (front_more ps new) (r.cells o a i y d l' (place_old o (At a) y l'.0 at) g);
+    cells = λ o a i y d l at g. let l' = mem o a y at (after_more (objects_in s) x o y l) in agrees_on ps ps' d (byte_at w.memory (a + i))
+        (front_more ps new) (r.cells o a i y d l' (place_old o (At a) y l'.0 at) g);
     held_cells = λ o d u z zs y l at. held o d u z zs y (after_more (objects_in s) x o y l) at;
     held_apart = λ o p d u f g. apart o p d u f g (after_more (objects_in s) x o f.x f.live) (after_more (objects_in s) x p g.x g.live);
     heap_next = r.heap_next;
     heap_above = r.heap_above;
-    heap_blocks = λ o a y l e at. let l' = mem o a y at (after_more (objects_in s) x o y l) in r.heap_blocks o a y l' e (place_old o (At a) y l'.0 at);
-    heap_objects = λ a z e. let g = r.heap_objects a z e in record { o = g.o; x = g.x; live = (get_front (objects_in s) (x ∷ []) g.o g.x g.live.0, g.live.1); kind = g.kind; at = front_more ps new g.o (At a) g.at; is = g.is };
+    heap_blocks = λ o a y l e at. let l' = mem o a y at (after_more (objects_in s) x o y l) in r.heap_blocks o a y l' e
+        (place_old o (At a) y l'.0 at);
+    heap_objects = λ a z e. let g = r.heap_objects a z
+        e in record {
+          o = g.o;
+          x = g.x;
+          live = (get_front (objects_in s) (x ∷ []) g.o g.x g.live.0, g.live.1);
+          kind = g.kind;
+          at =
+              front_more ps new g.o (At a) g.at;
+          is = g.is;
+        };
     heap_places = λ o y l e. heap_at o y e (after_more (objects_in s) x o y l);
     heap_apart = r.heap_apart;
     live = r.live;
@@ -130,7 +159,8 @@ module _ (ground : Ground) where
       ps' : List Standing
       ps' = ps ++ new ∷ []
 
-      place_old : (o : ℕ) (p : Standing) (y : Object) → slice_get (objects_in s) o ≡ Some y → slice_get ps' o ≡ Some p → slice_get ps o ≡ Some p
+      place_old : (o : ℕ) (p : Standing) (y : Object) → slice_get (objects_in s) o ≡ Some y → slice_get ps' o ≡ Some p →
+          slice_get ps o ≡ Some p
       place_old o p y live e = pick (get_more ps new o p e)
         where
           pick : (slice_get ps o ≡ Some p) ⊎ ((o ≡ length ps) × (p ≡ new)) → slice_get ps o ≡ Some p
@@ -150,7 +180,9 @@ module _ (ground : Ground) where
       placed_at o a y (inr e) at = absurd (let h = place_new o (At a) e.0 at in cc)
 
       back : (o a : ℕ) → Covered ps' (objects_in s ++ x ∷ []) o a → Covered ps (objects_in s) o a
-      back o a g = let l = mem o g.from g.x g.at (after_more (objects_in s) x o g.x g.live) in record { x = g.x; from = g.from; k = g.k; live = l; at = place_old o (At g.from) g.x l.0 g.at; within = g.within; is = g.is }
+      back o a g =
+          let l = mem o g.from g.x g.at (after_more (objects_in s) x o g.x g.live) in record
+          { x = g.x; from = g.from; k = g.k; live = l; at = place_old o (At g.from) g.x l.0 g.at; within = g.within; is = g.is }
 
       held : (o d u z : ℕ) (zs : Bool) (y : Object) → Newer (objects_in s) x o y → slice_get ps' o ≡ Some (Temp d u z zs) →
           Match ps' y.cells (le_bytes z (value d u)) × IsNormal z zs (value d u) × (d ≤ calls)
@@ -179,7 +211,8 @@ module _ (ground : Ground) where
           let g = place_new o (Temp d u z zs) e at in
           let ed : d ≡ c = cc in
           let eu : u ≡ t = cc in
-          let h' : Held ps (objects_in s) p c t = subst (λ q. Held ps (objects_in s) p q t) ed (subst (λ q. Held ps (objects_in s) p d q) eu h) in
+          let h' : Held ps (objects_in s) p c t =
+          subst (λ q. Held ps (objects_in s) p q t) ed (subst (λ q. Held ps (objects_in s) p d q) eu h) in
           free p h'
 
       apart : (o p d u : ℕ) (f : Held ps' (objects_in s ++ x ∷ []) o d u) (g : Held ps' (objects_in s ++ x ∷ []) p d u) →
@@ -187,4 +220,5 @@ module _ (ground : Ground) where
       apart o p d u f g (newest e a) (newest h b) = e ∙ sym h
       apart o p d u f g (newest e a) (older l) = absurd (newly o p d u f.width f.signed e f.at (was p d u g g.x l g.width g.signed g.at))
       apart o p d u f g (older l) (newest h b) = absurd (newly p o d u g.width g.signed h g.at (was o d u f f.x l f.width f.signed f.at))
-      apart o p d u f g (older l) (older k) = r.held_apart o p d u (was o d u f f.x l f.width f.signed f.at) (was p d u g g.x k g.width g.signed g.at)
+      apart o p d u f g (older l) (older k) =
+          r.held_apart o p d u (was o d u f f.x l f.width f.signed f.at) (was p d u g g.x k g.width g.signed g.at)

@@ -59,7 +59,8 @@ module _ (ground : Ground) where
     mapped = λ o a c. mapped_at o a (which o a c);
     apart = λ o p a c d. apart_at o p a (which o a c) (which p a d);
     placed = λ o a y e at. placed_at o a y (get_more (objects_in s) x o y e) at;
-    cells = λ o a i y c l at g. agrees_on ps ps' c (byte_at w.memory (a + i)) (front_more ps (At b)) (cells_at o a i y c (after_more (objects_in s) x o y l) at g);
+    cells = λ o a i y c l at g. agrees_on ps ps' c (byte_at w.memory (a + i)) (front_more ps (At b))
+        (cells_at o a i y c (after_more (objects_in s) x o y l) at g);
     held_cells = λ o c t n signed y l at. held_at o c t n signed y (after_more (objects_in s) x o y l) at;
     held_apart = λ o p c t f g. r.held_apart o p c t (held_old o c t f) (held_old p c t g);
     heap_next = let e = r.heap_next in omega (arith, e);
@@ -89,7 +90,8 @@ module _ (ground : Ground) where
       up : n ≤ round_up n 16
       up = round_up-reaches n
 
-      place_old : (o : ℕ) (p : Standing) (y : Object) → slice_get (objects_in s) o ≡ Some y → slice_get ps' o ≡ Some p → slice_get ps o ≡ Some p
+      place_old : (o : ℕ) (p : Standing) (y : Object) → slice_get (objects_in s) o ≡ Some y → slice_get ps' o ≡ Some p →
+          slice_get ps o ≡ Some p
       place_old o p y live e = pick (get_more ps (At b) o p e)
         where
           pick : (slice_get ps o ≡ Some p) ⊎ ((o ≡ length ps) × (p ≡ At b)) → slice_get ps o ≡ Some p
@@ -106,7 +108,16 @@ module _ (ground : Ground) where
           pick (newest e f) =
               let z : c.from ≡ b = let g = place_new o (At c.from) e c.at in cc in
               new_one e c.k (subst (λ y. c.k < extent_of y) f c.within) (c.is ∙ ap (λ y. y + c.k) z)
-          pick (older l) = old_one record { x = c.x; from = c.from; k = c.k; live = l; at = place_old o (At c.from) c.x l.0 c.at; within = c.within; is = c.is }
+          pick (older l) = old_one record {
+            x = c.x;
+            from = c.from;
+            k = c.k;
+            live = l;
+            at = place_old o (At c.from) c.x l.0 c.at;
+            within =
+                c.within;
+            is = c.is;
+          }
 
       -- what was covered lies below the block
       below : (o a : ℕ) → Covered ps (objects_in s) o a → a < b
@@ -152,7 +163,14 @@ module _ (ground : Ground) where
         where
           pick : Newer (objects_in s) x o g.x → Held ps (objects_in s) o c t
           pick (newest e f) = absurd (let z = place_new o (Temp c t g.width g.signed) e g.at in cc)
-          pick (older l) = record { x = g.x; width = g.width; signed = g.signed; live = l; at = place_old o (Temp c t g.width g.signed) g.x l.0 g.at }
+          pick (older l) = record {
+            x = g.x;
+            width = g.width;
+            signed = g.signed;
+            live = l;
+            at = place_old o (Temp c t g.width g.signed) g.x
+                l.0 g.at;
+          }
 
       above : (a : ℕ) → Inside b n a → is_mapped (map_range w.memory b n) a ≡ true → a < b + round_up n 16
       above a (inside k l f) e = omega (arith, up)
@@ -164,7 +182,8 @@ module _ (ground : Ground) where
 
       blocks : (o a : ℕ) (y : Object) → y.kind ≡ Heap → Newer (objects_in s) x o y → slice_get ps' o ≡ Some (At a) →
           block_size ((b, n) ∷ w.heap.blocks) a ≡ Some (extent_of y)
-      blocks o a y e (newest g f) at = let z : a ≡ b = let q = place_new o (At a) g at in cc in rw (z, f) (block_size-first b n w.heap.blocks)
+      blocks o a y e (newest g f) at =
+          let z : a ≡ b = let q = place_new o (At a) g at in cc in rw (z, f) (block_size-first b n w.heap.blocks)
       blocks o a y e (older l) at =
           let was = place_old o (At a) y l.0 at in
           let low = first o a y l was in

@@ -52,13 +52,23 @@ module _ (ground : Ground) where
     mapped = λ o a c. mapped_at o a (which o a c);
     apart = λ o p a c d. apart_at o p a (which o a c) (which p a d);
     placed = λ o a y e at. placed_at o a y (get_more (objects_in s) x o y e) at;
-    cells = λ o a i y c l at g. agrees_on ps ps' c (byte_at w.memory (a + i)) (front_more ps (At b)) (cells_at o a i y c (after_more (objects_in s) x o y l) at g);
+    cells = λ o a i y c l at g. agrees_on ps ps' c (byte_at w.memory (a + i)) (front_more ps (At b))
+        (cells_at o a i y c (after_more (objects_in s) x o y l) at g);
     held_cells = λ o c t n signed y l at. held_at o c t n signed y (after_more (objects_in s) x o y l) at;
     held_apart = λ o p c t f g. r.held_apart o p c t (held_old o c t f) (held_old p c t g);
     heap_next = r.heap_next;
     heap_above = r.heap_above;
     heap_blocks = λ o a y l e at. blocks o a y e (after_more (objects_in s) x o y l) at;
-    heap_objects = λ a n e. let g = r.heap_objects a n e in record { o = g.o; x = g.x; live = (get_front (objects_in s) (x ∷ []) g.o g.x g.live.0, g.live.1); kind = g.kind; at = front_more ps (At b) g.o (At a) g.at; is = g.is };
+    heap_objects = λ a n e. let g = r.heap_objects a n
+        e in record {
+          o = g.o;
+          x = g.x;
+          live = (get_front (objects_in s) (x ∷ []) g.o g.x g.live.0, g.live.1);
+          kind = g.kind;
+          at =
+              front_more ps (At b) g.o (At a) g.at;
+          is = g.is;
+        };
     heap_places = λ o y l e. heap_at o y e (after_more (objects_in s) x o y l);
     heap_apart = r.heap_apart;
     live = r.live;
@@ -73,7 +83,8 @@ module _ (ground : Ground) where
       ps' : List Standing
       ps' = ps ++ At b ∷ []
 
-      place_old : (o : ℕ) (p : Standing) (y : Object) → slice_get (objects_in s) o ≡ Some y → slice_get ps' o ≡ Some p → slice_get ps o ≡ Some p
+      place_old : (o : ℕ) (p : Standing) (y : Object) → slice_get (objects_in s) o ≡ Some y → slice_get ps' o ≡ Some p →
+          slice_get ps o ≡ Some p
       place_old o p y live e = pick (get_more ps (At b) o p e)
         where
           pick : (slice_get ps o ≡ Some p) ⊎ ((o ≡ length ps) × (p ≡ At b)) → slice_get ps o ≡ Some p
@@ -90,7 +101,16 @@ module _ (ground : Ground) where
           pick (newest e f) =
               let z : c.from ≡ b = let g = place_new o (At c.from) e c.at in cc in
               new_one e c.k (subst (λ y. c.k < extent_of y) f c.within) (c.is ∙ ap (λ y. y + c.k) z)
-          pick (older l) = old_one record { x = c.x; from = c.from; k = c.k; live = l; at = place_old o (At c.from) c.x l.0 c.at; within = c.within; is = c.is }
+          pick (older l) = old_one record {
+            x = c.x;
+            from = c.from;
+            k = c.k;
+            live = l;
+            at = place_old o (At c.from) c.x l.0 c.at;
+            within =
+                c.within;
+            is = c.is;
+          }
 
       mapped_at : (o a : ℕ) → WhichOf ps (objects_in s) x b o a → is_mapped w.memory a ≡ true
       mapped_at o a (old_one c) = r.mapped o a c
@@ -126,7 +146,14 @@ module _ (ground : Ground) where
         where
           pick : Newer (objects_in s) x o g.x → Held ps (objects_in s) o c t
           pick (newest e f) = absurd (let z = place_new o (Temp c t g.width g.signed) e g.at in cc)
-          pick (older l) = record { x = g.x; width = g.width; signed = g.signed; live = l; at = place_old o (Temp c t g.width g.signed) g.x l.0 g.at }
+          pick (older l) = record {
+            x = g.x;
+            width = g.width;
+            signed = g.signed;
+            live = l;
+            at = place_old o (Temp c t g.width g.signed) g.x
+                l.0 g.at;
+          }
 
       blocks : (o a : ℕ) (y : Object) → y.kind ≡ Heap → Newer (objects_in s) x o y → slice_get ps' o ≡ Some (At a) →
           block_size w.heap.blocks a ≡ Some (extent_of y)

@@ -168,7 +168,8 @@ module _ (ground : Ground) where
     heap_above = λ a e. subst (λ z. a < z) (sym h.next) (mapped_below heap_start w.memory.mappings a h.below e);
     heap_blocks = λ o a x l e at. absurd (no_block o a x l e (at_map ats o (At a) at));
     heap_places = λ o x l e. absurd (no_heap o x l e);
-    heap_objects = λ a n e. absurd (let none : block_size [] a ≡ Some n = subst (λ z. block_size z a ≡ Some n) h.blocks e in let never : None ≡ Some n = none in cc);
+    heap_objects = λ a n e. absurd (let none : block_size [] a ≡
+        Some n = subst (λ z. block_size z a ≡ Some n) h.blocks e in let never : None ≡ Some n = none in cc);
     heap_apart = rw h.blocks tt;
     live = h.none_live ∙ ap live_bytes (sym h.blocks);
     fixed_hold = λ i f e. (h.fixed i f e).0;

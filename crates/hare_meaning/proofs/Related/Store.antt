@@ -32,7 +32,8 @@ module _ (ground : Ground) where
     placed = placed_set ps (objects_in s) o x x' live.0 (with_cells-length x.cells d cs) refl r.placed;
     cells = λ p q i y c l g e. cells p q i y c g e (after_set (objects_in s) o x x' p y live.0 l);
     held_cells = λ p c t n signed y l g. held p c t n signed y g (after_set (objects_in s) o x x' p y live.0 l);
-    held_apart = λ p q c t f g. r.held_apart p q c t (held_back ps (objects_in s) o x x' live p c t f) (held_back ps (objects_in s) o x x' live q c t g);
+    held_apart = λ p q c t f g. r.held_apart p q c t (held_back ps (objects_in s) o x x' live p c t f)
+        (held_back ps (objects_in s) o x x' live q c t g);
     heap_next = r.heap_next;
     heap_above = r.heap_above;
     heap_blocks = λ p q y l e g. blocks p q y e g (after_set (objects_in s) o x x' p y live.0 l);
@@ -61,7 +62,8 @@ module _ (ground : Ground) where
       back p q c = covered_back ps (objects_in s) o x x' live same_extent p q c
 
       written : (i : ℕ) → i < length bs → Covered ps (objects_in s) o (a + d + i)
-      written i l = subst (λ z. Covered ps (objects_in s) o z) (omega arith) (live_covers ps (objects_in s) o a (d + i) x live at (omega (arith, len)))
+      written i l = subst (λ z. Covered ps (objects_in s) o z) (omega arith)
+          (live_covers ps (objects_in s) o a (d + i) x live at (omega (arith, len)))
 
       -- an address of another object, or of fixed bytes, is not written
       untouched : (z : ℕ) → ¬ (Covered ps (objects_in s) o z) → byte_at (write w.memory (a + d) bs) z ≡ byte_at w.memory z
@@ -75,13 +77,17 @@ module _ (ground : Ground) where
       own : (i : ℕ) (c : Cell) → slice_get (with_cells d cs x.cells) i ≡ Some c → Inside d (length cs) i →
           Agrees ps c (byte_at (write w.memory (a + d) bs) (a + i))
       own i c e (inside l h f) =
-          let g : slice_get cs l ≡ Some c = sym (with_cells-at x.cells d cs l h bound) ∙ ap (slice_get (with_cells d cs x.cells)) (sym f) ∙ e in
+          let g : slice_get cs l ≡ Some c = sym (with_cells-at x.cells d cs l h bound) ∙ ap (slice_get (with_cells d cs x.cells)) (sym f) ∙
+          e in
           let b = match_get ps cs bs l c ma g in
           let z : a + i ≡ a + d + l = omega arith in
-          let v : byte_at (write w.memory (a + d) bs) (a + i) ≡ b.0 = ap (byte_at (write w.memory (a + d) bs)) z ∙ byte_at-write_inside w.memory (a + d) bs l b.0 b.1 in
+          let v : byte_at (write w.memory (a + d) bs) (a + i) ≡ b.0 =
+          ap (byte_at (write w.memory (a + d) bs)) z ∙ byte_at-write_inside w.memory (a + d) bs l b.0 b.1 in
           rw v b.2
-      own i c e (before h) = rw (byte_at-write_outside w.memory (a + d) bs (a + i) (inl (omega arith))) (r.cells o a i x c live at (sym (with_cells-before x.cells d cs i h) ∙ e))
-      own i c e (behind h) = rw (byte_at-write_outside w.memory (a + d) bs (a + i) (inr (omega (arith, len)))) (r.cells o a i x c live at (sym (with_cells-behind x.cells d cs i h) ∙ e))
+      own i c e (before h) = rw (byte_at-write_outside w.memory (a + d) bs (a + i) (inl (omega arith)))
+          (r.cells o a i x c live at (sym (with_cells-before x.cells d cs i h) ∙ e))
+      own i c e (behind h) = rw (byte_at-write_outside w.memory (a + d) bs (a + i) (inr (omega (arith, len))))
+          (r.cells o a i x c live at (sym (with_cells-behind x.cells d cs i h) ∙ e))
 
       cells : (p q i : ℕ) (y : Object) (c : Cell) → slice_get ps p ≡ Some (At q) → slice_get y.cells i ≡ Some c →
           Now (objects_in s) o x' p y → Agrees ps c (byte_at (write w.memory (a + d) bs) (q + i))
@@ -95,7 +101,8 @@ module _ (ground : Ground) where
 
       held : (p c t n : ℕ) (signed : Bool) (y : Object) → slice_get ps p ≡ Some (Temp c t n signed) → Now (objects_in s) o x' p y →
           Match ps y.cells (le_bytes n (value c t)) × IsNormal n signed (value c t) × (c ≤ calls)
-      held p c t n signed y g (changed f h) = absurd (let z : slice_get ps o ≡ Some (Temp c t n signed) = ap (slice_get ps) (sym f) ∙ g in cc)
+      held p c t n signed y g (changed f h) =
+          absurd (let z : slice_get ps o ≡ Some (Temp c t n signed) = ap (slice_get ps) (sym f) ∙ g in cc)
       held p c t n signed y g (as_before m l) = r.held_cells p c t n signed y l g
 
       blocks : (p q : ℕ) (y : Object) → y.kind ≡ Heap → slice_get ps p ≡ Some (At q) → Now (objects_in s) o x' p y →
@@ -117,8 +124,23 @@ module _ (ground : Ground) where
           pick (same e) =
               let g : slice_get (objects_in s) o ≡ Some b.x = subst (λ z. slice_get (objects_in s) z ≡ Some b.x) e b.live.0 in
               let f : x ≡ b.x = let y = live.0 in cc in
-              record { o = o; x = x'; live = (get_set (objects_in s) o x' x live.0, live.1); kind = ap (λ v. v.kind) f ∙ b.kind; at = subst (λ z. slice_get ps z ≡ Some (At q)) e b.at; is = b.is ∙ sym (ap extent_of f) ∙ sym same_extent }
-          pick (other m) = record { o = b.o; x = b.x; live = (get_set_other (objects_in s) o b.o x' (λ e. m (sym e)) ∙ b.live.0, b.live.1); kind = b.kind; at = b.at; is = b.is }
+              record {
+                o = o;
+                x = x';
+                live = (get_set (objects_in s) o x' x live.0, live.1);
+                kind = ap (λ v. v.kind) f ∙ b.kind;
+                at = subst
+                    (λ z. slice_get ps z ≡ Some (At q)) e b.at;
+                is = b.is ∙ sym (ap extent_of f) ∙ sym same_extent;
+              }
+          pick (other m) = record {
+            o = b.o;
+            x = b.x;
+            live = (get_set_other (objects_in s) o b.o x' (λ e. m (sym e)) ∙ b.live.0, b.live.1);
+            kind = b.kind;
+            at = b.at;
+            is = b.is;
+          }
 
       text : (i : ℕ) (f : ℕ × List ℕ) → slice_get ground.fixed i ≡ Some f → BytesAre w.memory f.0 f.1 →
           BytesAre (write w.memory (a + d) bs) f.0 f.1
@@ -140,7 +162,8 @@ module _ (ground : Ground) where
   load_matches ps s w calls value o d a n x r live at bound =
       let got : (k : ℕ) (c : Cell) → slice_get (cells_within d n x.cells) k ≡ Some c → Agrees ps c (byte_at w.memory (a + d + k)) = λ k c e.
       let l : k < n = subst (λ z. k < z) (length-cells_within x.cells d n bound) (slice_get_within (cells_within d n x.cells) k c e) in
-      subst (λ z. Agrees ps c (byte_at w.memory z)) (omega arith) (r.cells o a (d + k) x c live at (sym (cells_within-at x.cells d n k l bound) ∙ e))
+      subst (λ z. Agrees ps c (byte_at w.memory z)) (omega arith)
+      (r.cells o a (d + k) x c live at (sym (cells_within-at x.cells d n k l bound) ∙ e))
       in
       let ma = match_bytes ps w.memory (cells_within d n x.cells) (a + d) got in (
         subst (λ z. Match ps (cells_within d n x.cells) (bytes_at w.memory (a + d) z)) (length-cells_within x.cells d n bound) ma,

@@ -16,19 +16,22 @@ types_of-loop-i-preserved t c =
             grows = omega (arith, same, c.loop-i.invariant.grows, w.in_ok-t.ensures.grows);
             below = subst (λ is. AllBelow n is) (sym (w.types-is ∙ w.in_ok-push.ensures.ok))
                 (AllBelow-push n c.loop-i.types w.in_ok-t.t
-                (AllBelow-le (length c.loop-i.s.rows) n (omega (arith, same, w.in_ok-t.ensures.grows)) c.loop-i.types c.loop-i.invariant.below)
+                (AllBelow-le (length c.loop-i.s.rows) n (omega (arith, same, w.in_ok-t.ensures.grows)) c.loop-i.types
+                c.loop-i.invariant.below)
                 (omega (arith, same, w.in_ok-t.ensures.within)));
           }
       | types_of-in-Some+else-is_type w ↦
           let same : n ≡ length c.loop-i.s.rows = ap (λ a. length a.rows) w.s-is in
           record {
             grows = omega (arith, same, c.loop-i.invariant.grows);
-            below = subst (λ is. AllBelow n is) (sym w.types-is) (subst (λ m. AllBelow m c.loop-i.types) (sym same) c.loop-i.invariant.below);
+            below = subst (λ is. AllBelow n is) (sym w.types-is)
+                (subst (λ m. AllBelow m c.loop-i.types) (sym same) c.loop-i.invariant.below);
           }
       | types_of-in_default w ↦
           let same : n ≡ length c.loop-i.s.rows = ap (λ a. length a.rows) w.s-is in
           record {
             grows = omega (arith, same, c.loop-i.invariant.grows);
-            below = subst (λ is. AllBelow n is) (sym w.types-is) (subst (λ m. AllBelow m c.loop-i.types) (sym same) c.loop-i.invariant.below);
+            below = subst (λ is. AllBelow n is) (sym w.types-is)
+                (subst (λ m. AllBelow m c.loop-i.types) (sym same) c.loop-i.invariant.below);
           }
     ]

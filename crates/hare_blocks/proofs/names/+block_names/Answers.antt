@@ -16,8 +16,13 @@ block_holds-loop-i-preserved t c =
           let behind = ap names_of w.scope-is ∙ k.behind w.if-not-branch.false in
           let more = k.grows w.if-not-branch.false in
           record {
-            left = next_statement (names_of c.loop-i.scope) (names_of c.match-get.scope) c.args.body.now c.loop-i.i s w.in-Some.ensures.found holds behind ∙ c.loop-i.invariant.left;
-            grown = (more.0 ++ c.loop-i.invariant.grown.0, w.scope-is ∙ more.1 ∙ ap (λ x. more.0 ++ x) c.loop-i.invariant.grown.1 ∙ sym (append_assoc more.0 c.loop-i.invariant.grown.0 c.args.scope.now));
+            left = next_statement (names_of c.loop-i.scope) (names_of c.match-get.scope) c.args.body.now c.loop-i.i s
+                w.in-Some.ensures.found holds behind ∙ c.loop-i.invariant.left;
+            grown = (
+              more.0 ++ c.loop-i.invariant.grown.0,
+              w.scope-is ∙ more.1 ∙ ap (λ x. more.0 ++ x) c.loop-i.invariant.grown.1 ∙ sym
+                  (append_assoc more.0 c.loop-i.invariant.grown.0 c.args.scope.now),
+            );
           }
       | block_holds-in_default w ↦
           let within : c.loop-i.i < length c.args.body.now = omega (arith, c.loop-i-test.true, c.len-i-end.ensures) in
@@ -25,4 +30,5 @@ block_holds-loop-i-preserved t c =
     ]
 
 pub statement_holds-returns-in-Declare-clause-grows : goal.statement_holds-returns-in-Declare-clause-grows
-statement_holds-returns-in-Declare-clause-grows t c = IfOk-weaker c.declare.result _ _ (λ b k h. ((c.in-Declare.name, 0) ∷ [], k h)) c.declare.ensures.behind
+statement_holds-returns-in-Declare-clause-grows t c =
+    IfOk-weaker c.declare.result _ _ (λ b k h. ((c.in-Declare.name, 0) ∷ [], k h)) c.declare.ensures.behind

@@ -14,14 +14,19 @@ returns-in_default c =
 pub returns-in_default-takes_relation : goal.returns-in_default-takes_relation
 returns-in_default-takes_relation c =
     let left = rw (c.if-takes.ensures.kept refl) at (rw c.in-Some.is at c.in_ok-left.ensures) in
-    no_relation c.args.tokens.now c.takes_relation.new.self (c.if-takes.ensures.absent refl) c.in-Some.left c.outer_expr.new.tokens left c.in_default-takes_relation.ensures.none
+    no_relation c.args.tokens.now c.takes_relation.new.self (c.if-takes.ensures.absent refl) c.in-Some.left c.outer_expr.new.tokens left
+    c.in_default-takes_relation.ensures.none
 
 pub returns-in_default-2 : goal.returns-in_default-2
 returns-in_default-2 c =
     let left = rw (c.if-takes.ensures.kept refl) at (rw c.in-Some.is at c.in_ok-left.ensures) in
-    no_right c.args.tokens.now c.outer_expr-2.new.tokens (c.if-takes.ensures.absent refl) c.in-Some.left (relation_of c.in-Some-takes_relation.relation) c.outer_expr.new.tokens c.takes_relation.new.self c.outer_expr-2.new.tokens left c.in-Some-takes_relation.ensures.some (rw c.in_default-2.is at c.in_ok-right.ensures)
+    no_right c.args.tokens.now c.outer_expr-2.new.tokens (c.if-takes.ensures.absent refl) c.in-Some.left
+    (relation_of c.in-Some-takes_relation.relation) c.outer_expr.new.tokens c.takes_relation.new.self c.outer_expr-2.new.tokens left
+    c.in-Some-takes_relation.ensures.some (rw c.in_default-2.is at c.in_ok-right.ensures)
 
 pub returns : goal.returns
 returns c =
     let left = rw (c.if-takes.ensures.kept refl) at (rw c.in-Some.is at c.in_ok-left.ensures) in
-    compares_read c.args.tokens.now c.outer_expr-2.new.tokens (c.if-takes.ensures.absent refl) c.in-Some.left (relation_of c.in-Some-takes_relation.relation) c.in-Some-2.right c.outer_expr.new.tokens c.takes_relation.new.self left c.in-Some-takes_relation.ensures.some (rw c.in-Some-2.is at c.in_ok-right.ensures)
+    compares_read c.args.tokens.now c.outer_expr-2.new.tokens (c.if-takes.ensures.absent refl) c.in-Some.left
+    (relation_of c.in-Some-takes_relation.relation) c.in-Some-2.right c.outer_expr.new.tokens c.takes_relation.new.self left
+    c.in-Some-takes_relation.ensures.some (rw c.in-Some-2.is at c.in_ok-right.ensures)

@@ -12,7 +12,8 @@ returns-then-not-is_limited c =
     let r = rw c.in-Some.is at c.in_ok-found.ensures in
     let span = taken c.in-Some.found c.args.tokens.now c.expr.new.tokens r.sound.spelled in
     let front : c.split_at.result.0.now ≡ expr_tokens c.in-Some.found = cc (c.split_at.ensures.front, span) in
-    outer_unlimited c.in-Some.found c.args.tokens.now c.expr.new.tokens c.expr.new.tokens r (λ l. let k = c.if-not-is_limited.ensures.1 (subst AreLimited (sym front) l) in cc)
+    outer_unlimited c.in-Some.found c.args.tokens.now c.expr.new.tokens c.expr.new.tokens r
+    (λ l. let k = c.if-not-is_limited.ensures.1 (subst AreLimited (sym front) l) in cc)
 
 pub returns : goal.returns
 returns c =

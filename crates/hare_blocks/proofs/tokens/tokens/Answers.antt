@@ -26,7 +26,8 @@ returns-in_default-clause-whole c = λ ts h.
     spells_none k.0 c.rest.rest.now k.2 n (ap token_at (sym c.unblanked-front.ensures) ∙ sym c.in_default.ensures)
 
 pub rest-smaller : goal.rest-smaller
-rest-smaller c = spells_shorter c.rest.rest.now (found_token c.in-Some.found) c.in-Some.behind.now (ap token_at (sym c.unblanked-front.ensures) ∙ sym c.in-Some.ensures)
+rest-smaller c = spells_shorter c.rest.rest.now (found_token c.in-Some.found) c.in-Some.behind.now
+    (ap token_at (sym c.unblanked-front.ensures) ∙ sym c.in-Some.ensures)
 
 pub rest-preserved : goal.rest-preserved
 rest-preserved c =
@@ -36,9 +37,11 @@ rest-preserved c =
     let behind = c.in-Some.behind.now in
     let n : 0 < length (unblanked rest) = grind (arith, nat_tests) in
     let first : token_at (unblanked rest) ≡ Some (token, behind) = ap token_at (sym c.unblanked-front.ensures) ∙ sym c.in-Some.ensures in
-    let all = λ (ts us others : List Token) (h : ts ≡ items ++ us) (more : us ≡ token ∷ others). all_pushed ts items us c.push.new.self.items others token h more (rw c.in_ok-token.ensures at c.in_ok-push.ensures.items) in
+    let all = λ (ts us others : List Token) (h : ts ≡ items ++ us) (more : us ≡ token ∷ others). all_pushed ts items us
+    c.push.new.self.items others token h more (rw c.in_ok-token.ensures at c.in_ok-push.ensures.items) in
     record {
-      sound = λ us h. subst (λ ts. Spells ts c.args.text.now) (all _ (token ∷ us) us refl refl) (c.rest.invariant.sound (token ∷ us) (spells_first us rest token behind first h));
+      sound = λ us h. subst (λ ts. Spells ts c.args.text.now) (all _ (token ∷ us) us refl refl)
+          (c.rest.invariant.sound (token ∷ us) (spells_first us rest token behind first h));
       whole = λ ts h.
           let k = c.rest.invariant.whole ts h in
           let m = spells_more k.0 rest token behind k.2 n first in

@@ -72,13 +72,15 @@ loop-i-preserved c =
           let later = grown-later c.loop-i.s r w.judge_function.ensures.sound w.judge_function.ensures.grown in
           record {
             can =
-                subst (λ z. CanJudge z ds) (sym w.s-is) (can-judge-later c.loop-i.s r ds c.loop-i.invariant.sound later c.loop-i.invariant.can);
+                subst (λ z. CanJudge z ds) (sym w.s-is)
+                (can-judge-later c.loop-i.s r ds c.loop-i.invariant.sound later c.loop-i.invariant.can);
             bodies =
                 subst (λ z. AreBodies p ds z 0 (take (i + 1) all) c.if-eq.bodies) (sym w.s-is)
                 (next-function p ds names refl c.loop-i.s r later all i t here c.loop-i.bodies c.loop-i.invariant.bodies w.in_ok-body.body
                 c.if-eq.bodies kind (subst (λ n. IsTreeOf names ds r n t w.in_ok-body.body) same w.in_ok-body.ensures.ok)
                 (w.bodies-is ∙ w.in_ok-push.ensures.ok));
-            grown = subst (λ z. IsGrown c.args.s.now z) (sym w.s-is) (grown-trans _ _ _ c.loop-i.invariant.grown w.judge_function.ensures.grown);
+            grown = subst (λ z. IsGrown c.args.s.now z) (sym w.s-is)
+                (grown-trans _ _ _ c.loop-i.invariant.grown w.judge_function.ensures.grown);
             sound = subst IsStore (sym w.s-is) w.judge_function.ensures.sound;
           }
       | else-eq w ↦

@@ -13,7 +13,8 @@ returns-clause-ok c =
     let t = c.args.decl.now in
     let b = c.in-Some.body.now in
     let is : b ≡ kid t 4 = kid-there _ _ t b 4 c.decl.view_is c.in-Some.ensures.found in
-    trees-of c.args.names.now c.args.known.now c.check_body.new.s c.args.number t b is c.check_body.ensures.sound c.check_body.result c.check_body.ensures.ok
+    trees-of c.args.names.now c.args.known.now c.check_body.new.s c.args.number t b is c.check_body.ensures.sound c.check_body.result
+    c.check_body.ensures.ok
 
 pub returns-clause-err : goal.returns-clause-err
 returns-clause-err c =

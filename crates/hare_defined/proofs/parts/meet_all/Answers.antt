@@ -13,5 +13,6 @@ loop-t-preserved c =
     let here = slice_get-get_or c.args.types.now c.loop-t.t-index c.t-item.result c.loop-t-test.true ∙ ap Some (sym c.t-item.is) in
     record {
       takes = TakesIn-next _ _ _ c.args.types.now c.loop-t.t-index c.t-item.result here c.in_ok-meet.ensures.takes c.loop-t.invariant.takes;
-      holds = HoldsAll-next c.args.met.now.keys _ _ c.args.types.now c.loop-t.t-index c.t-item.result here c.in_ok-meet.ensures.takes c.in_ok-meet.ensures.ok c.loop-t.invariant.holds;
+      holds = HoldsAll-next c.args.met.now.keys _ _ c.args.types.now c.loop-t.t-index c.t-item.result here c.in_ok-meet.ensures.takes
+          c.in_ok-meet.ensures.ok c.loop-t.invariant.holds;
     }

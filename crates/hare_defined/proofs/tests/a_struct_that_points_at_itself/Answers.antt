@@ -7,5 +7,6 @@ define-requires-clause-finite g c = node_finite c.node_in.new.store c.in_ok-node
 
 pub is_defined-requires-2 : goal.is_defined-requires-2
 is_defined-requires-2 g c = record {
-  known = defined_types_stay c.node_in.new.store c.define.new.self c.is_defined.new.self c.in_ok-node.ensures.sound c.define.ensures.later c.in_ok-before.ensures.known;
+  known = defined_types_stay c.node_in.new.store c.define.new.self c.is_defined.new.self c.in_ok-node.ensures.sound c.define.ensures.later
+      c.in_ok-before.ensures.known;
 }

@@ -7,7 +7,8 @@ use Rattle.hare_depends.proofs.circles.first_circle.Goals as goal
 
 pub ranks-requires : goal.ranks-requires
 ranks-requires c =
-    (graphs-at c.args.saids.now c.as_slice.result.now c.as_slice-2.result.now c.in_ok-forward.forward c.in_ok-backward.backward c.requires.within
+    (graphs-at c.args.saids.now c.as_slice.result.now c.as_slice-2.result.now c.in_ok-forward.forward c.in_ok-backward.backward
+    c.requires.within
     c.in_ok-forward.ensures c.in_ok-backward.ensures (c.as_slice.ensures.value ∙ c.in_ok-edges.ensures)
     (c.as_slice-2.ensures.value ∙ c.in_ok-edges.ensures)).forward.reverse
 
@@ -16,13 +17,15 @@ first_returning-requires-clause-ranks c = subst (AreRanks c.in_ok-forward.forwar
 
 pub first_returning-requires-clause-stays : goal.first_returning-requires-clause-stays
 first_returning-requires-clause-stays c =
-    (graphs-at c.args.saids.now c.as_slice.result.now c.as_slice-2.result.now c.in_ok-forward.forward c.in_ok-backward.backward c.requires.within
+    (graphs-at c.args.saids.now c.as_slice.result.now c.as_slice-2.result.now c.in_ok-forward.forward c.in_ok-backward.backward
+    c.requires.within
     c.in_ok-forward.ensures c.in_ok-backward.ensures (c.as_slice.ensures.value ∙ c.in_ok-edges.ensures)
     (c.as_slice-2.ensures.value ∙ c.in_ok-edges.ensures)).forward.stays
 
 pub returns-in_default : goal.returns-in_default
 returns-in_default c =
-    let a = graphs-at c.args.saids.now c.as_slice.result.now c.as_slice-2.result.now c.in_ok-forward.forward c.in_ok-backward.backward c.requires.within
+    let a = graphs-at c.args.saids.now c.as_slice.result.now c.as_slice-2.result.now c.in_ok-forward.forward c.in_ok-backward.backward
+    c.requires.within
     c.in_ok-forward.ensures c.in_ok-backward.ensures (c.as_slice.ensures.value ∙ c.in_ok-edges.ensures)
     (c.as_slice-2.ensures.value ∙ c.in_ok-edges.ensures) in
     circular-none c.args.saids.now c.requires.within c.in_ok-forward.forward c.in_ok-backward.backward a
@@ -30,31 +33,36 @@ returns-in_default c =
 
 pub has_constant-requires-clause-reverse : goal.has_constant-requires-clause-reverse
 has_constant-requires-clause-reverse c =
-    (graphs-at c.args.saids.now c.as_slice.result.now c.as_slice-2.result.now c.in_ok-forward.forward c.in_ok-backward.backward c.requires.within
+    (graphs-at c.args.saids.now c.as_slice.result.now c.as_slice-2.result.now c.in_ok-forward.forward c.in_ok-backward.backward
+    c.requires.within
     c.in_ok-forward.ensures c.in_ok-backward.ensures (c.as_slice.ensures.value ∙ c.in_ok-edges.ensures)
     (c.as_slice-2.ensures.value ∙ c.in_ok-edges.ensures)).forward.reverse
 
 pub has_constant-requires-clause-back : goal.has_constant-requires-clause-back
 has_constant-requires-clause-back c =
-    (graphs-at c.args.saids.now c.as_slice.result.now c.as_slice-2.result.now c.in_ok-forward.forward c.in_ok-backward.backward c.requires.within
+    (graphs-at c.args.saids.now c.as_slice.result.now c.as_slice-2.result.now c.in_ok-forward.forward c.in_ok-backward.backward
+    c.requires.within
     c.in_ok-forward.ensures c.in_ok-backward.ensures (c.as_slice.ensures.value ∙ c.in_ok-edges.ensures)
     (c.as_slice-2.ensures.value ∙ c.in_ok-edges.ensures)).backward.reverse
 
 pub has_constant-requires-clause-stays : goal.has_constant-requires-clause-stays
 has_constant-requires-clause-stays c =
-    (graphs-at c.args.saids.now c.as_slice.result.now c.as_slice-2.result.now c.in_ok-forward.forward c.in_ok-backward.backward c.requires.within
+    (graphs-at c.args.saids.now c.as_slice.result.now c.as_slice-2.result.now c.in_ok-forward.forward c.in_ok-backward.backward
+    c.requires.within
     c.in_ok-forward.ensures c.in_ok-backward.ensures (c.as_slice.ensures.value ∙ c.in_ok-edges.ensures)
     (c.as_slice-2.ensures.value ∙ c.in_ok-edges.ensures)).forward.stays
 
 pub has_constant-requires-clause-stays_back : goal.has_constant-requires-clause-stays_back
 has_constant-requires-clause-stays_back c =
-    (graphs-at c.args.saids.now c.as_slice.result.now c.as_slice-2.result.now c.in_ok-forward.forward c.in_ok-backward.backward c.requires.within
+    (graphs-at c.args.saids.now c.as_slice.result.now c.as_slice-2.result.now c.in_ok-forward.forward c.in_ok-backward.backward
+    c.requires.within
     c.in_ok-forward.ensures c.in_ok-backward.ensures (c.as_slice.ensures.value ∙ c.in_ok-edges.ensures)
     (c.as_slice-2.ensures.value ∙ c.in_ok-edges.ensures)).backward.stays
 
 pub has_constant-requires-clause-there : goal.has_constant-requires-clause-there
 has_constant-requires-clause-there c =
-    let a = graphs-at c.args.saids.now c.as_slice.result.now c.as_slice-2.result.now c.in_ok-forward.forward c.in_ok-backward.backward c.requires.within
+    let a = graphs-at c.args.saids.now c.as_slice.result.now c.as_slice-2.result.now c.in_ok-forward.forward c.in_ok-backward.backward
+    c.requires.within
     c.in_ok-forward.ensures c.in_ok-backward.ensures (c.as_slice.ensures.value ∙ c.in_ok-edges.ensures)
     (c.as_slice-2.ensures.value ∙ c.in_ok-edges.ensures) in
     let t = subst (TellsReturn c.in_ok-forward.forward (length c.args.saids.now)) c.in-Some.is c.in_ok-decl.ensures in
@@ -66,9 +74,11 @@ circle_fault-requires c =
 
 pub returns : goal.returns
 returns c =
-    let a = graphs-at c.args.saids.now c.as_slice.result.now c.as_slice-2.result.now c.in_ok-forward.forward c.in_ok-backward.backward c.requires.within
+    let a = graphs-at c.args.saids.now c.as_slice.result.now c.as_slice-2.result.now c.in_ok-forward.forward c.in_ok-backward.backward
+    c.requires.within
     c.in_ok-forward.ensures c.in_ok-backward.ensures (c.as_slice.ensures.value ∙ c.in_ok-edges.ensures)
     (c.as_slice-2.ensures.value ∙ c.in_ok-edges.ensures) in
     let t = subst (TellsReturn c.in_ok-forward.forward (length c.args.saids.now)) c.in-Some.is c.in_ok-decl.ensures in
     subst (λ f. TellsCircle c.args.saids.now (Some f)) (sym c.circle_fault.ensures)
-    (circular-first c.args.saids.now c.requires.within c.in_ok-forward.forward c.in_ok-backward.backward a c.in-Some.decl t c.in_ok-constant.constant c.in_ok-constant.ensures)
+    (circular-first c.args.saids.now c.requires.within c.in_ok-forward.forward c.in_ok-backward.backward a c.in-Some.decl t
+    c.in_ok-constant.constant c.in_ok-constant.ensures)

@@ -4,4 +4,5 @@ use Rattle.hare_depends.proofs.edges.push_mentions.Given as goal
 
 -- what is left is put behind the edges so far
 abbrev pub invariant-loop-to : goal.invariant-loop-to
-invariant-loop-to l = fold (with_mention l.saids (length l.saids) l.from) l.edges.items (drop l.to-index l.targets) ≡ fold (with_mention l.saids (length l.saids) l.from) l.fn.edges.items l.targets
+invariant-loop-to l = fold (with_mention l.saids (length l.saids) l.from) l.edges.items (drop l.to-index l.targets) ≡
+    fold (with_mention l.saids (length l.saids) l.from) l.fn.edges.items l.targets

@@ -16,5 +16,6 @@ returns c =
     (subst (λ n. Spreads g n 0 old mid) c.source.ensures c.in_ok-found.ensures.spreads)
     (subst (λ n. AreNew g n old mid found) c.source.ensures c.in_ok-found.ensures.nodes)
     c.args.count c.clear.new.labels.items c.deref.result.now c.in_ok-left.left.items c.sort_unstable.new.self.items
-    c.clear.ensures c.deref.ensures.value (c.in_ok-left.ensures ∙ ap (filter (is_below c.args.count)) c.deref-2.ensures.value) c.sort_unstable.ensures.permutation
+    c.clear.ensures c.deref.ensures.value (c.in_ok-left.ensures ∙ ap (filter (is_below c.args.count)) c.deref-2.ensures.value)
+    c.sort_unstable.ensures.permutation
     (IsNonDecreasingBy-from_sort (λ x. x) c.sort_unstable.new.self.items c.sort_unstable.ensures.sorted)

@@ -8,5 +8,6 @@ loop-frame-preserved c = record {
   left = c.loop-frame.invariant.left;
   passed =
       passed-more c.args.spent.now c.args.frame.left.items c.deref.result.now c.args.frame.next c.loop-frame.frame.next
-      (c.deref.ensures.value ∙ c.loop-frame.invariant.left) (sym c.is_passed.ensures ∙ c.loop-frame-test.true) c.loop-frame.invariant.passed;
+      (c.deref.ensures.value ∙ c.loop-frame.invariant.left) (sym c.is_passed.ensures ∙ c.loop-frame-test.true)
+      c.loop-frame.invariant.passed;
 }

@@ -13,7 +13,15 @@ use Rattle.hare_gauge.proofs.depth.depth_fault_of_file.Goals as goal
 
 pub returns-clause-value : goal.returns-clause-value
 returns-clause-value c =
-    first_told files c.args.tokens.now (gauged_file c.args.tokens.now) (file_gauges_tell c.args.tokens.now) 0 c.in_ok-gauged.gauged.fault (subst (λ w. IsLeastOf (gauged_from c.args.tokens.now 0 (waited (w ∷ wa.One (part (ru.Each so.Decl)) ∷ []))).faults 0 c.in_ok-gauged.gauged.fault) c.part.ensures (subst (λ w. IsLeastOf (gauged_from c.args.tokens.now 0 (waited (c.part.result ∷ w ∷ []))).faults 0 c.in_ok-gauged.gauged.fault) c.part-2.ensures c.in_ok-gauged.ensures.fault))
+    first_told files c.args.tokens.now (gauged_file c.args.tokens.now) (file_gauges_tell c.args.tokens.now) 0 c.in_ok-gauged.gauged.fault
+    (subst (λ w. IsLeastOf (gauged_from c.args.tokens.now 0 (waited (w ∷ wa.One (part (ru.Each so.Decl)) ∷ []))).faults 0
+    c.in_ok-gauged.gauged.fault) c.part.ensures
+    (subst (λ w. IsLeastOf (gauged_from c.args.tokens.now 0 (waited (c.part.result ∷ w ∷ []))).faults 0 c.in_ok-gauged.gauged.fault)
+    c.part-2.ensures c.in_ok-gauged.ensures.fault))
 
 pub returns-clause-shallow : goal.returns-clause-shallow
-returns-clause-shallow c = files_fit c.args.tokens.now 0 c.in_ok-gauged.gauged.fault (subst (λ w. IsLeastOf (gauged_from c.args.tokens.now 0 (waited (w ∷ wa.One (part (ru.Each so.Decl)) ∷ []))).faults 0 c.in_ok-gauged.gauged.fault) c.part.ensures (subst (λ w. IsLeastOf (gauged_from c.args.tokens.now 0 (waited (c.part.result ∷ w ∷ []))).faults 0 c.in_ok-gauged.gauged.fault) c.part-2.ensures c.in_ok-gauged.ensures.fault))
+returns-clause-shallow c = files_fit c.args.tokens.now 0 c.in_ok-gauged.gauged.fault
+    (subst (λ w. IsLeastOf (gauged_from c.args.tokens.now 0 (waited (w ∷ wa.One (part (ru.Each so.Decl)) ∷ []))).faults 0
+    c.in_ok-gauged.gauged.fault) c.part.ensures
+    (subst (λ w. IsLeastOf (gauged_from c.args.tokens.now 0 (waited (c.part.result ∷ w ∷ []))).faults 0 c.in_ok-gauged.gauged.fault)
+    c.part-2.ensures c.in_ok-gauged.ensures.fault))

@@ -13,7 +13,8 @@ pub loop-token-smaller : goal.loop-token-smaller
 loop-token-smaller c =
     let ts = c.args.tokens.now in
     let h = slice_get_within ts c.loop-token.at c.in-Some.token.now (sym c.in-Some.ensures) in
-    let b = begins_with_front ts c.loop-token.at c.place_behind_joined-at.result c.in-Some.token.now (sym c.in-Some.ensures) c.place_behind_joined-at.ensures in
+    let b = begins_with_front ts c.loop-token.at c.place_behind_joined-at.result c.in-Some.token.now (sym c.in-Some.ensures)
+    c.place_behind_joined-at.ensures in
     omega (arith, h, b.further)
 
 pub loop-token-preserved : goal.loop-token-preserved
@@ -22,7 +23,8 @@ loop-token-preserved c =
     let i = c.loop-token.invariant in
     let a = c.in_ok-step.ensures in
     let n = c.place_behind_joined-at.ensures in
-    let r : ReadsAt ts c.args.from c.loop-token.at c.place_behind_joined-at.result c.in_ok-step.field-0 _ c.loop-token.frames _ c.step.new.frames =
+    let r : ReadsAt ts c.args.from c.loop-token.at c.place_behind_joined-at.result c.in_ok-step.field-0 _ c.loop-token.frames _
+    c.step.new.frames =
     record {
       token = c.in-Some.token.now;
       number = c.number_of-number.result;
@@ -35,9 +37,12 @@ loop-token-preserved c =
       answers = a.value;
     } in
     record {
-      run = goes_at ts c.args.from c.loop-token.at c.place_behind_joined-at.result c.in_ok-step.field-0 _ c.loop-token.told c.found.result c.lesser-told.result c.step.new.agenda.nodes _ _ c.loop-token.frames c.step.new.frames r c.in-Goes.is a.paired c.found.ensures c.lesser-told.ensures i.run;
+      run = goes_at ts c.args.from c.loop-token.at c.place_behind_joined-at.result c.in_ok-step.field-0 _ c.loop-token.told c.found.result
+          c.lesser-told.result c.step.new.agenda.nodes _ _ c.loop-token.frames c.step.new.frames r c.in-Goes.is a.paired c.found.ensures
+          c.lesser-told.ensures i.run;
       paired = a.paired;
-      place = place_further ts c.args.from c.loop-token.at c.place_behind_joined-at.result _ i.place (begins_with_front ts c.loop-token.at c.place_behind_joined-at.result c.in-Some.token.now (sym c.in-Some.ensures) n);
+      place = place_further ts c.args.from c.loop-token.at c.place_behind_joined-at.result _ i.place
+          (begins_with_front ts c.loop-token.at c.place_behind_joined-at.result c.in-Some.token.now (sym c.in-Some.ensures) n);
     }
 
 pub returns-in-Ends : goal.returns-in-Ends
@@ -56,10 +61,12 @@ returns-in-Ends c =
       class_is = c.class_of.ensures.value;
       answers = c.in_ok-step.ensures.value;
     } in
-    let h = ends_here ts c.args.from c.loop-token.at _ c.in_ok-step.field-0 _ c.loop-token.told _ _ c.loop-token.frames c.step.new.frames r c.in-Ends.is i.run in
+    let h = ends_here ts c.args.from c.loop-token.at _ c.in_ok-step.field-0 _ c.loop-token.told _ _ c.loop-token.frames c.step.new.frames r
+    c.in-Ends.is i.run in
     record {
       told = c.stopped.ensures.told ∙ h.least_is;
-      stops = rw c.stopped.ensures.stop (stops_at ts c.args.from c.loop-token.at _ c.loop-token.told (so.Over c.loop-token.at) h i.place refl);
+      stops = rw c.stopped.ensures.stop (stops_at ts c.args.from c.loop-token.at _ c.loop-token.told (so.Over c.loop-token.at) h i.place
+          refl);
     }
 
 pub returns-in-Stuck : goal.returns-in-Stuck
@@ -78,10 +85,12 @@ returns-in-Stuck c =
       class_is = c.class_of.ensures.value;
       answers = c.in_ok-step.ensures.value;
     } in
-    let h = stuck_here ts c.args.from c.loop-token.at _ c.in_ok-step.field-0 _ c.loop-token.told _ _ c.loop-token.frames c.step.new.frames r c.in-Stuck.is i.run in
+    let h = stuck_here ts c.args.from c.loop-token.at _ c.in_ok-step.field-0 _ c.loop-token.told _ _ c.loop-token.frames c.step.new.frames r
+    c.in-Stuck.is i.run in
     record {
       told = c.stopped-in-Stuck.ensures.told ∙ h.least_is;
-      stops = rw c.stopped-in-Stuck.ensures.stop (stops_at ts c.args.from c.loop-token.at _ c.loop-token.told (so.Stuck c.loop-token.at) h i.place refl);
+      stops = rw c.stopped-in-Stuck.ensures.stop
+          (stops_at ts c.args.from c.loop-token.at _ c.loop-token.told (so.Stuck c.loop-token.at) h i.place refl);
     }
 
 pub returns : goal.returns
@@ -91,5 +100,6 @@ returns c =
     let h = used_up_here ts c.loop-token.at _ _ c.loop-token.told _ c.loop-token.frames (sym c.in_default.ensures) i.run in
     record {
       told = c.stopped-2.ensures.told ∙ h.least_is;
-      stops = rw c.stopped-2.ensures.stop (stops_at ts c.args.from c.loop-token.at _ c.loop-token.told (so.Stuck c.loop-token.at) h i.place refl);
+      stops = rw c.stopped-2.ensures.stop (stops_at ts c.args.from c.loop-token.at _ c.loop-token.told (so.Stuck c.loop-token.at) h i.place
+          refl);
     }

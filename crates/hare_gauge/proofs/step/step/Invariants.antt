@@ -8,7 +8,8 @@ use Rattle.hare_gauge.proofs.step.step.Given as goal
 abbrev pub invariant-loop-symbol : goal.invariant-loop-symbol
 invariant-loop-symbol l =
     record {
-      same : capped_step (step l.number l.class (waited l.fn.agenda.waits) l.fn.frames) ≡ capped_step (step l.number l.class (waited l.agenda.waits) l.frames);
+      same : capped_step (step l.number l.class (waited l.fn.agenda.waits) l.fn.frames) ≡
+          capped_step (step l.number l.class (waited l.agenda.waits) l.frames);
       paired : IsPaired l.agenda;
     }
 

@@ -19,20 +19,26 @@ returns-then-is_empty-clause-found c =
     let text = c.split_at.result.1.now in
     let gap = gap_to rest text (c.split_at.ensures.back ∙ c.gap_len.ensures.value) in
     let none : length text ≡ 0 = grind (arith, nat_tests) in
-    all_read c.args.file c.args.src.now c.loop-text.tokens c.push.new.self c.loop-text.place c.advanced-at.result c.loop-text.behind_path rest blank text gap.0
-    c.loop-text.invariant gap.1 (joined c.gap_len.result rest blank text c.split_at.ensures.front c.split_at.ensures.back) none c.advanced-at.ensures c.requires.utf8
+    all_read c.args.file c.args.src.now c.loop-text.tokens c.push.new.self c.loop-text.place c.advanced-at.result c.loop-text.behind_path
+    rest blank text gap.0
+    c.loop-text.invariant gap.1 (joined c.gap_len.result rest blank text c.split_at.ensures.front c.split_at.ensures.back) none
+    c.advanced-at.ensures c.requires.utf8
     (c.in_ok-push.ensures.ok ∙ ap (λ t. c.loop-text.tokens ++ t ∷ []) c.end_at.ensures)
 
 pub advanced-fault-requires-clause-lines : goal.advanced-fault-requires-clause-lines
 advanced-fault-requires-clause-lines c =
     let rest = c.loop-text.rest.now in
-    let at = at_more c.args.file c.args.src.now c.loop-text.place c.advanced-at.result c.split_at.result.0.now c.split_at.result.1.now rest (reached_at _ _ _ _ _ _ c.loop-text.invariant) (joined c.gap_len.result rest _ _ c.split_at.ensures.front c.split_at.ensures.back) c.advanced-at.ensures in
+    let at = at_more c.args.file c.args.src.now c.loop-text.place c.advanced-at.result c.split_at.result.0.now c.split_at.result.1.now rest
+    (reached_at _ _ _ _ _ _ c.loop-text.invariant) (joined c.gap_len.result rest _ _ c.split_at.ensures.front c.split_at.ensures.back)
+    c.advanced-at.ensures in
     omega (arith, at_lines _ _ _ _ at, c.split_at-in-Fault.ensures.front_len, c.in-Fault.ensures.within)
 
 pub advanced-fault-requires-clause-columns : goal.advanced-fault-requires-clause-columns
 advanced-fault-requires-clause-columns c =
     let rest = c.loop-text.rest.now in
-    let at = at_more c.args.file c.args.src.now c.loop-text.place c.advanced-at.result c.split_at.result.0.now c.split_at.result.1.now rest (reached_at _ _ _ _ _ _ c.loop-text.invariant) (joined c.gap_len.result rest _ _ c.split_at.ensures.front c.split_at.ensures.back) c.advanced-at.ensures in
+    let at = at_more c.args.file c.args.src.now c.loop-text.place c.advanced-at.result c.split_at.result.0.now c.split_at.result.1.now rest
+    (reached_at _ _ _ _ _ _ c.loop-text.invariant) (joined c.gap_len.result rest _ _ c.split_at.ensures.front c.split_at.ensures.back)
+    c.advanced-at.ensures in
     omega (arith, at_columns _ _ _ _ at, c.split_at-in-Fault.ensures.front_len, c.in-Fault.ensures.within)
 
 pub returns-in-Fault-clause-cause : goal.returns-in-Fault-clause-cause
@@ -45,19 +51,25 @@ returns-in-Fault-clause-cause c =
     let some : 0 < length text = grind (arith, nat_tests) in
     let break = subst (Sound b text) (sym c.in-Fault.ensures.value) (front_sound b text some) in
     let fault = c.advanced-fault.ensures ∙ ap (λ s. advanced c.advanced-at.result s) c.split_at-in-Fault.ensures.front in
-    broken_at c.args.file c.args.src.now c.loop-text.tokens c.loop-text.place c.advanced-at.result c.advanced-fault.result b rest blank text gap.0 c.in-Fault.number c.in-Fault.offset c.broken.result
-    c.loop-text.invariant gap.1 (joined c.gap_len.result rest blank text c.split_at.ensures.front c.split_at.ensures.back) c.advanced-at.ensures c.requires.utf8 break fault c.broken.ensures
+    broken_at c.args.file c.args.src.now c.loop-text.tokens c.loop-text.place c.advanced-at.result c.advanced-fault.result b rest blank text
+    gap.0 c.in-Fault.number c.in-Fault.offset c.broken.result
+    c.loop-text.invariant gap.1 (joined c.gap_len.result rest blank text c.split_at.ensures.front c.split_at.ensures.back)
+    c.advanced-at.ensures c.requires.utf8 break fault c.broken.ensures
 
 pub advanced-place-requires-clause-lines : goal.advanced-place-requires-clause-lines
 advanced-place-requires-clause-lines c =
     let rest = c.loop-text.rest.now in
-    let at = at_more c.args.file c.args.src.now c.loop-text.place c.advanced-at.result c.split_at.result.0.now c.split_at.result.1.now rest (reached_at _ _ _ _ _ _ c.loop-text.invariant) (joined c.gap_len.result rest _ _ c.split_at.ensures.front c.split_at.ensures.back) c.advanced-at.ensures in
+    let at = at_more c.args.file c.args.src.now c.loop-text.place c.advanced-at.result c.split_at.result.0.now c.split_at.result.1.now rest
+    (reached_at _ _ _ _ _ _ c.loop-text.invariant) (joined c.gap_len.result rest _ _ c.split_at.ensures.front c.split_at.ensures.back)
+    c.advanced-at.ensures in
     omega (arith, at_lines _ _ _ _ at, c.split_at-in-Token.ensures.front_len, c.in-Token.ensures.within.1)
 
 pub advanced-place-requires-clause-columns : goal.advanced-place-requires-clause-columns
 advanced-place-requires-clause-columns c =
     let rest = c.loop-text.rest.now in
-    let at = at_more c.args.file c.args.src.now c.loop-text.place c.advanced-at.result c.split_at.result.0.now c.split_at.result.1.now rest (reached_at _ _ _ _ _ _ c.loop-text.invariant) (joined c.gap_len.result rest _ _ c.split_at.ensures.front c.split_at.ensures.back) c.advanced-at.ensures in
+    let at = at_more c.args.file c.args.src.now c.loop-text.place c.advanced-at.result c.split_at.result.0.now c.split_at.result.1.now rest
+    (reached_at _ _ _ _ _ _ c.loop-text.invariant) (joined c.gap_len.result rest _ _ c.split_at.ensures.front c.split_at.ensures.back)
+    c.advanced-at.ensures in
     omega (arith, at_columns _ _ _ _ at, c.split_at-in-Token.ensures.front_len, c.in-Token.ensures.within.1)
 
 pub loop-text-preserved : goal.loop-text-preserved
@@ -72,5 +84,7 @@ loop-text-preserved c =
     token_read c.args.file c.args.src.now c.loop-text.tokens c.loop-text.place c.advanced-at.result b rest blank text gap.0
     c.in-Token.kind c.in-Token.len c.in-Token.number c.in-Token.suffix c.split_at-in-Token.result.0.now c.split_at-in-Token.result.1.now
     c.in_ok-token-in-Token.token c.push-in-Token.new.self c.advanced-place.result c.is_path_mark-behind_path.result
-    c.loop-text.invariant gap.1 (joined c.gap_len.result rest blank text c.split_at.ensures.front c.split_at.ensures.back) c.advanced-at.ensures stands
-    c.split_at-in-Token.ensures.front c.split_at-in-Token.ensures.back c.in_ok-token-in-Token.ensures c.in_ok-push-in-Token.ensures.ok c.advanced-place.ensures c.is_path_mark-behind_path.ensures
+    c.loop-text.invariant gap.1 (joined c.gap_len.result rest blank text c.split_at.ensures.front c.split_at.ensures.back)
+    c.advanced-at.ensures stands
+    c.split_at-in-Token.ensures.front c.split_at-in-Token.ensures.back c.in_ok-token-in-Token.ensures c.in_ok-push-in-Token.ensures.ok
+    c.advanced-place.ensures c.is_path_mark-behind_path.ensures

@@ -5,4 +5,5 @@ use Rattle.hare_modules.proofs.circles.backward.Given as goal
 
 -- what is left is put into the graph so far
 abbrev pub invariant-loop-used : goal.invariant-loop-used
-invariant-loop-used l = fold with_import_back l.graph (map using (drop l.used-index l.uses)) ≡ imports_graph_back l.modules (map using l.uses)
+invariant-loop-used l = fold with_import_back l.graph (map using (drop l.used-index l.uses)) ≡
+    imports_graph_back l.modules (map using l.uses)

@@ -11,7 +11,8 @@ returns-in_default c =
 
 pub returns-then-is_later : goal.returns-then-is_later
 returns-then-is_later c =
-    follows-later c.args.forward.now (using c.args.used) c.args.found c.circle-fault.result c.circle-fault.ensures (sym c.is_later.ensures ∙ c.if-is_later.true)
+    follows-later c.args.forward.now (using c.args.used) c.args.found c.circle-fault.result c.circle-fault.ensures
+    (sym c.is_later.ensures ∙ c.if-is_later.true)
 
 pub returns-then-leads_up : goal.returns-then-leads_up
 returns-then-leads_up c =
@@ -23,7 +24,8 @@ returns-then-leads_up c =
 pub returns-then-branch : goal.returns-then-branch
 returns-then-branch c =
     subst (Follows c.args.forward.now (using c.args.used) c.args.found) (sym c.earlier.ensures)
-    (follows-circle c.args.forward.now (using c.args.used) c.args.found c.circle-fault.result c.in-Some.to c.circle-fault.ensures c.in-Some.is (c.in_ok-leads_to.ensures.0 c.if-branch.true))
+    (follows-circle c.args.forward.now (using c.args.used) c.args.found c.circle-fault.result c.in-Some.to c.circle-fault.ensures
+    c.in-Some.is (c.in_ok-leads_to.ensures.0 c.if-branch.true))
 
 pub returns : goal.returns
 returns c =

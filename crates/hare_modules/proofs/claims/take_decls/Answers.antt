@@ -12,7 +12,9 @@ loop-i-preserved c =
     let h = c.args.spot.home in
     record {
       counted = omega (arith, c.loop-i.invariant.counted);
-      taken = decls-on f h c.loop-i.next c.args.decls.now c.loop-i.i c.in-Some.tree.now done (map taking c.take.new.claims.items) _ c.in-Some.ensures.found
-          (c.in_ok-take.ensures ∙ ap (λ e. done ++ named f h (ta.Declaration e) c.name_in.result.now ∷ []) c.entry_of.ensures ∙ ap (λ t. done ++ named f h (ta.Declaration (entry_of c.in-Some.tree.now c.loop-i.next)) t ∷ []) c.name_in.ensures)
+      taken = decls-on f h c.loop-i.next c.args.decls.now c.loop-i.i c.in-Some.tree.now done (map taking c.take.new.claims.items) _
+          c.in-Some.ensures.found
+          (c.in_ok-take.ensures ∙ ap (λ e. done ++ named f h (ta.Declaration e) c.name_in.result.now ∷ []) c.entry_of.ensures ∙ ap
+          (λ t. done ++ named f h (ta.Declaration (entry_of c.in-Some.tree.now c.loop-i.next)) t ∷ []) c.name_in.ensures)
           c.loop-i.invariant.taken;
     }

@@ -14,4 +14,5 @@ returns-in_default c =
 
 pub loop-i-preserved : goal.loop-i-preserved
 loop-i-preserved c =
-    rw c.earlier_of-first.ensures (runtime_files-on c.args.homes.now c.args.files.now c.loop-i.i c.in-Some.tree.now c.loop-i.first _ c.runtime_fault.result c.loop-i-test.true (sym c.in-Some.ensures) c.runtime_fault.ensures c.loop-i.invariant)
+    rw c.earlier_of-first.ensures (runtime_files-on c.args.homes.now c.args.files.now c.loop-i.i c.in-Some.tree.now c.loop-i.first _
+    c.runtime_fault.result c.loop-i-test.true (sym c.in-Some.ensures) c.runtime_fault.ensures c.loop-i.invariant)

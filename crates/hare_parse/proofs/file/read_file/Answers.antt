@@ -20,7 +20,8 @@ returns-in-End-clause-run c =
     let rest = joined (drop c.in-End.next c.args.tokens.now) in
     let p = c.in_ok-uses-in-End in
     let e : run c.args.file ts file_symbols bottom ≡ Done rest c.run.new.groups = first_of (search rules, grind (arith, common_steps)) in
-    (file_read c.args.file ts rest c.run.new.groups p.field-0.uses p.field-0.decls c.trees_in.result.items e c.trees_in.ensures p.ensures.uses p.ensures.decls).0
+    (file_read c.args.file ts rest c.run.new.groups p.field-0.uses p.field-0.decls c.trees_in.result.items e c.trees_in.ensures
+    p.ensures.uses p.ensures.decls).0
 
 pub returns-in-End-clause-sorts : goal.returns-in-End-clause-sorts
 returns-in-End-clause-sorts c =
@@ -28,7 +29,8 @@ returns-in-End-clause-sorts c =
     let rest = joined (drop c.in-End.next c.args.tokens.now) in
     let p = c.in_ok-uses-in-End in
     let e : run c.args.file ts file_symbols bottom ≡ Done rest c.run.new.groups = first_of (search rules, grind (arith, common_steps)) in
-    (file_read c.args.file ts rest c.run.new.groups p.field-0.uses p.field-0.decls c.trees_in.result.items e c.trees_in.ensures p.ensures.uses p.ensures.decls).1
+    (file_read c.args.file ts rest c.run.new.groups p.field-0.uses p.field-0.decls c.trees_in.result.items e c.trees_in.ensures
+    p.ensures.uses p.ensures.decls).1
 
 pub returns-in-End-clause-place : goal.returns-in-End-clause-place
 returns-in-End-clause-place c = place_from_start c.args.tokens.now c.in-End.next (rw c.in-End.is at c.in_ok-next.ensures.place)

@@ -7,5 +7,7 @@ use Rattle.hare_parse.proofs.parse.fault_up_to.Goals as goal
 pub returns : goal.returns
 returns c =
     let ts = c.args.t.now in
-    let e : c.place_at.result ≡ place_up_to ts c.args.n = c.place_at.ensures ∙ ap (place_of ts) (c.min.ensures ∙ ap (λ k. min c.args.n (k - 1)) c.len-last.ensures) ∙ sym (place_last ts c.args.n) in
+    let e : c.place_at.result ≡ place_up_to ts c.args.n =
+    c.place_at.ensures ∙ ap (place_of ts) (c.min.ensures ∙ ap (λ k. min c.args.n (k - 1)) c.len-last.ensures) ∙ sym
+    (place_last ts c.args.n) in
     ap (λ p. record { number = c.args.number; place = p }) e

@@ -20,6 +20,10 @@ loop-token-preserved c =
     let r = c.in_ok-read.ensures in
     record {
       same = first_of (search rules, grind (arith, common_steps));
-      place = place_further c.args.tokens.now c.args.from c.loop-token.at c.in_ok-read.read.next r.token c.loop-token.invariant.place r.begins;
-      onward = λ us. c.loop-token.invariant.onward us ∙ ap (λ y. run c.args.file (y ++ us) (waited c.loop-token.stack) c.loop-token.groups) r.begins.joins ∙ run_on c.args.file r.token (joined (drop c.in_ok-read.read.next c.args.tokens.now) ++ us) (waited c.loop-token.stack) (waited c.read_at.new.stack) c.loop-token.groups c.read_at.new.groups (first_of (search rules, grind (arith, common_steps)));
+      place = place_further c.args.tokens.now c.args.from c.loop-token.at c.in_ok-read.read.next r.token c.loop-token.invariant.place
+          r.begins;
+      onward = λ us. c.loop-token.invariant.onward us ∙ ap (λ y. run c.args.file (y ++ us) (waited c.loop-token.stack) c.loop-token.groups)
+          r.begins.joins ∙ run_on c.args.file r.token (joined (drop c.in_ok-read.read.next c.args.tokens.now) ++ us)
+          (waited c.loop-token.stack) (waited c.read_at.new.stack) c.loop-token.groups c.read_at.new.groups
+          (first_of (search rules, grind (arith, common_steps)));
     }

@@ -13,7 +13,8 @@ invariant-loop-token l =
           run l.file (joined (drop l.from l.tokens)) (waited l.fn.stack) l.fn.groups
           ≡ run l.file (joined (drop l.at l.tokens)) (waited l.stack) l.groups;
       place : IsPlace l.tokens l.from l.at;
-      onward : (us : List Token) → run l.file (joined (drop l.from l.tokens) ++ us) (waited l.fn.stack) l.fn.groups ≡ run l.file (joined (drop l.at l.tokens) ++ us) (waited l.stack) l.groups;
+      onward : (us : List Token) → run l.file (joined (drop l.from l.tokens) ++ us) (waited l.fn.stack) l.fn.groups ≡
+          run l.file (joined (drop l.at l.tokens) ++ us) (waited l.stack) l.groups;
     }
 
 abbrev pub decreases-loop-token : goal.decreases-loop-token

@@ -62,7 +62,8 @@ loop-i-preserved c =
       types =
           subst (AreTypesSoFar p ds r n (take (i + 1) (written_types t))) (sym c.in_ok-push.ensures.ok)
           (types-more c.law_types_are_judged.ensures p ds n t c.loop-i.s c.loop-i.invariant.sound i xs c.loop-i.invariant.types
-          (written_of w) there r c.judge_type.ensures.grown c.judge_type.ensures.sound x c.in_ok-typed.ensures.ok c.in_ok-typed.ensures.fits);
+          (written_of w) there r c.judge_type.ensures.grown c.judge_type.ensures.sound x c.in_ok-typed.ensures.ok
+          c.in_ok-typed.ensures.fits);
       grown = grown-trans c.args.s.now c.loop-i.s r c.loop-i.invariant.grown c.judge_type.ensures.grown;
       sound = c.judge_type.ensures.sound;
     }

@@ -14,10 +14,13 @@ loop-i-preserved c =
     let here = slice_get-get_or named c.loop-i.i 0 c.loop-i-test.true in
     elim c.if-is_global_at.branch [
       | then-is_global_at+in_ok-insert w ↦
-          put_all-next (is_at is_global c.args.saids.now) named c.loop-i.i (get_or named c.loop-i.i 0) here c.loop-i.globals.keys _ c.loop-i.invariant
-          c.if-is_global_at.globals.keys (sym c.is_global_at.ensures ∙ w.if-is_global_at.true) (ap keys w.globals-is ∙ w.in_ok-insert.ensures.keys)
+          put_all-next (is_at is_global c.args.saids.now) named c.loop-i.i (get_or named c.loop-i.i 0) here c.loop-i.globals.keys _
+          c.loop-i.invariant
+          c.if-is_global_at.globals.keys (sym c.is_global_at.ensures ∙ w.if-is_global_at.true)
+          (ap keys w.globals-is ∙ w.in_ok-insert.ensures.keys)
       | else-is_global_at w ↦
           ap (λ gs. put_all (filter (is_at is_global c.args.saids.now) (drop (c.loop-i.i + 1) named)) (keys gs)) w.globals-is
-          ∙ put_all-over (is_at is_global c.args.saids.now) named c.loop-i.i (get_or named c.loop-i.i 0) here c.loop-i.globals.keys _ c.loop-i.invariant
+          ∙ put_all-over (is_at is_global c.args.saids.now) named c.loop-i.i (get_or named c.loop-i.i 0) here c.loop-i.globals.keys _
+          c.loop-i.invariant
           (sym c.is_global_at.ensures ∙ w.if-is_global_at.false)
     ]

@@ -8,7 +8,8 @@ use Rattle.hare_typed.proofs.cells.written_place.Goals as goal
 pub loop-left-init : goal.loop-left-init
 loop-left-init c = record {
   within = omega arith;
-  same = λ cs h. ap (λ rs. slice_get (repeated rs cs) c.args.place) (sym (take_all (length c.args.repeats.now) c.args.repeats.now (omega arith)));
+  same = λ cs h. ap (λ rs. slice_get (repeated rs cs) c.args.place)
+      (sym (take_all (length c.args.repeats.now) c.args.repeats.now (omega arith)));
 }
 
 pub source-at-requires : goal.source-at-requires
@@ -17,7 +18,8 @@ source-at-requires c = proper_at c.args.repeats.now (c.loop-left.left - 1) _ c.r
 pub loop-left-preserved : goal.loop-left-preserved
 loop-left-preserved c = record {
   within = omega arith;
-  same = λ cs h. c.loop-left.invariant.same cs h ∙ step_back c.args.repeats.now c.loop-left.left _ cs _ _ (omega arith) (omega arith) h c.source-at.ensures;
+  same = λ cs h. c.loop-left.invariant.same cs h ∙ step_back c.args.repeats.now c.loop-left.left _ cs _ _ (omega arith) (omega arith) h
+      c.source-at.ensures;
 }
 
 pub returns : goal.returns

@@ -8,7 +8,8 @@ use Rattle.hare_typed.proofs.cells.written_place.Given as goal
 abbrev pub invariant-loop-left : goal.invariant-loop-left
 invariant-loop-left l = record {
   within : l.left ≤ length l.repeats;
-  same : (cs : List Cell) → FitIn l.repeats cs → slice_get (repeated l.repeats cs) l.fn.place ≡ slice_get (repeated (take l.left l.repeats) cs) l.at;
+  same : (cs : List Cell) → FitIn l.repeats cs →
+      slice_get (repeated l.repeats cs) l.fn.place ≡ slice_get (repeated (take l.left l.repeats) cs) l.at;
 }
 
 abbrev pub decreases-loop-left : goal.decreases-loop-left

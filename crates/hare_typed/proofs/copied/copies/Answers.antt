@@ -8,4 +8,5 @@ returns-in-Some c = copies-body c.args.node c.in-Some.times c.args.f.now (sym (a
 
 pub returns-in-None : goal.returns-in-None
 returns-in-None c =
-    copies-parameter c.args.node c.times_as_parameter.result c.args.f.now (sym (ap kind_of c.f.view_is) ∙ c.in-Fn.is) c.in-None.ensures c.times_as_parameter.ensures
+    copies-parameter c.args.node c.times_as_parameter.result c.args.f.now (sym (ap kind_of c.f.view_is) ∙ c.in-Fn.is) c.in-None.ensures
+    c.times_as_parameter.ensures

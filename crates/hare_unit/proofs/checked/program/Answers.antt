@@ -56,7 +56,8 @@ returns-in_err-typing-clause-only_fault c =
     let named : AreNamed paths srcs n.files (meaning_in n.names) =
     subst (λ ps. AreNamed ps srcs n.files (meaning_in n.names)) c.as_slice.ensures c.in_ok-named.ensures.ok in
     err_same c.from_residual-in_err-typing.result e (IsOnlyProgramStop paths srcs) c.from_residual-in_err-typing.ensures.1
-    (only-phase c.law_one_fault_of_phases.ensures.one c.law_one_fault_of_phases.ensures.none paths srcs n named e c.in_err-typing.ensures.err)
+    (only-phase c.law_one_fault_of_phases.ensures.one c.law_one_fault_of_phases.ensures.none paths srcs n named e
+    c.in_err-typing.ensures.err)
 
 pub returns-in_err-entry-clause-err : goal.returns-in_err-entry-clause-err
 returns-in_err-entry-clause-err c =
@@ -91,7 +92,8 @@ returns-clause-ok c =
     let entry = c.in_ok-entry.entry in
     let named : AreNamed paths srcs n.files (meaning_in n.names) =
     subst (λ ps. AreNamed ps srcs n.files (meaning_in n.names)) c.as_slice.ensures c.in_ok-named.ensures.ok in
-    let filed : AreFiled paths (decls n.files) = c.law_programs_are_filed.ensures paths srcs n.files (meaning_in n.names) c.requires named in
+    let filed : AreFiled paths (decls n.files) =
+    c.law_programs_are_filed.ensures paths srcs n.files (meaning_in n.names) c.requires named in
     let ended : IsEnded paths n t entry = subst (λ ps. IsEnded ps n t entry) c.as_slice-2.ensures c.in_ok-entry.ensures.ok in
     record {
       trees = n.files;

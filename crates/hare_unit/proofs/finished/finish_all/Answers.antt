@@ -60,7 +60,8 @@ loop-i-preserved c =
       later = later-grown s r r c.finish_declaration.ensures.grown (later_here r c.finish_declaration.ensures.sound);
       finished = c.in_ok-tree.ensures.ok;
     } in
-    let more = finished-more s r all c.args.parts c.args.bodies c.loop-i.i t q c.in_ok-body.body d c.loop-i.parts c.pop.new.self c.loop-i.bodies
+    let more = finished-more s r all c.args.parts c.args.bodies c.loop-i.i t q c.in_ok-body.body d c.loop-i.parts c.pop.new.self
+    c.loop-i.bodies
     c.body_of.new.bodies c.loop-i.finished turn in
     record {
       finished =
@@ -75,6 +76,7 @@ pub returns-clause-ok : goal.returns-clause-ok
 returns-clause-ok c =
     let all = decls c.args.files.now in
     let count = length-decls c.args.files.now c.args.places.now c.requires.places in
-    all-finished c.loop-i.s all c.args.parts c.args.bodies c.loop-i.i c.loop-i.parts c.loop-i.bodies c.loop-i.finished c.loop-i.invariant.finished
+    all-finished c.loop-i.s all c.args.parts c.args.bodies c.loop-i.i c.loop-i.parts c.loop-i.bodies c.loop-i.finished
+    c.loop-i.invariant.finished
     (omega (arith, count, c.loop-i-test.false)) (search (rules, c.is_empty.ensures, c.if-not-is_empty.false))
     (search (rules, c.is_empty-else-not-is_empty.ensures, c.if-not-is_empty-2.false))

@@ -62,7 +62,8 @@ returns-clause-ok c =
     } in
     record {
       faultless = λ l later final.
-          faultless-judged c.law_stages_stay.ensures c.law_ends_are_seen.ensures p s r c.in_ok-judged.judged c.in_ok-bodies.bodies with.judged
+          faultless-judged c.law_stages_stay.ensures c.law_ends_are_seen.ensures p s r c.in_ok-judged.judged c.in_ok-bodies.bodies
+          with.judged
           with.bodies l (later_trans r f l (grown-to r f with.sound with.grown).later later) final;
       final = final-finished p s r f c.in_ok-judged.judged c.in_ok-bodies.bodies c.in_ok-decls.decls with;
       typed = typed-finished c.law_finished_are_typed.ensures p s r f c.in_ok-judged.judged c.in_ok-bodies.bodies c.in_ok-decls.decls with;

@@ -18,7 +18,8 @@ loop-node-preserved c =
     (elim c.if-is_large.branch [
       | then-is_large+then-is_earlier b ↦
           subst (IsFirstOf s (ws ++ w ∷ [])) (sym b.first-is)
-          (first-before s ws w c.loop-node.first c.loop-node.invariant (not_true (is_small_at s w.ty) (sym c.is_large.ensures ∙ b.if-is_large.true))
+          (first-before s ws w c.loop-node.first c.loop-node.invariant
+          (not_true (is_small_at s w.ty) (sym c.is_large.ensures ∙ b.if-is_large.true))
           (b.is_earlier.ensures.before b.if-is_earlier.true))
       | else-is_large b ↦
           subst (IsFirstOf s (ws ++ w ∷ [])) (sym b.first-is)
@@ -26,7 +27,8 @@ loop-node-preserved c =
             | else-is_large-via-then-is_large+else-is_earlier d ↦
                 first-behind s ws w c.loop-node.first c.loop-node.invariant (d.is_earlier.ensures.behind d.if-is_earlier.false)
             | else-is_large-via-else-is_large d ↦
-                first-small s ws w c.loop-node.first c.loop-node.invariant (not_false (is_small_at s w.ty) (sym c.is_large.ensures ∙ d.if-is_large.false))
+                first-small s ws w c.loop-node.first c.loop-node.invariant
+                (not_false (is_small_at s w.ty) (sym c.is_large.ensures ∙ d.if-is_large.false))
           ])
     ])
 

@@ -18,7 +18,8 @@ loop-node-preserved c =
     (elim c.if-is_none.branch [
       | then-is_none+in_ok-name+in_ok-put b ↦
           subst (λ q. Awaits s c.args.lists.now q (ws ++ w ∷ [])) (sym b.lists-is)
-          (awaits-more s c.args.lists.now c.loop-node.lists ws w c.loop-node.invariant b.in_ok-name.name b.in_ok-name.ensures b.put.new.self b.in_ok-put.ensures.ok)
+          (awaits-more s c.args.lists.now c.loop-node.lists ws w c.loop-node.invariant b.in_ok-name.name b.in_ok-name.ensures b.put.new.self
+          b.in_ok-put.ensures.ok)
       | else-is_none b ↦
           subst (λ q. Awaits s c.args.lists.now q (ws ++ w ∷ [])) (sym b.lists-is)
           (awaits-known s c.args.lists.now c.loop-node.lists ws w c.loop-node.invariant

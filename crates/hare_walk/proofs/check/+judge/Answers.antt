@@ -162,8 +162,10 @@ pub judge_kids-judge_tree-requires : goal.judge_kids-judge_tree-requires
 judge_kids-judge_tree-requires g t c =
     let found = c.in-Some.ensures.found in
     let part = part-kid c.args.node.now c.in-Some.kid.now c.args.kids.now c.loop-i.i c.requires.part c.requires.whole found in
-    let begun = begun-kid (g.W.Walk.setting c.loop-i.w) (g.W.Walk.setting c.loop-i.w) c.enter.new.s (g.W.Walk.above c.args.w.now) (g.W.Walk.above c.loop-i.w)
-    (g.W.Walk.above c.enter.new.self) (head c.args.node.now) c.loop-i.done c.in-Some.kid.now (nodes_of (drop (length c.loop-i.done + 1) c.args.kids.now))
+    let begun = begun-kid (g.W.Walk.setting c.loop-i.w) (g.W.Walk.setting c.loop-i.w) c.enter.new.s (g.W.Walk.above c.args.w.now)
+    (g.W.Walk.above c.loop-i.w)
+    (g.W.Walk.above c.enter.new.self) (head c.args.node.now) c.loop-i.done c.in-Some.kid.now
+    (nodes_of (drop (length c.loop-i.done + 1) c.args.kids.now))
     c.loop-i.counts c.loop-i.invariant.above c.enter.ensures.sound c.in_ok-enter.ensures.over c.loop-i.invariant.counts in
     let at = spot (head c.args.node.now).kind (length c.loop-i.done) in
     let ps = c.requires.ready.0 in
@@ -173,8 +175,10 @@ judge_kids-judge_tree-requires g t c =
 pub judge_kids-enter-requires-clause-at : goal.judge_kids-enter-requires-clause-at
 judge_kids-enter-requires-clause-at g t c =
     let i = c.loop-i.invariant in
-    at-kid (g.W.Walk.above c.args.w.now) (g.W.Walk.above c.loop-i.w) (head c.args.node.now) c.node.inside.kind c.loop-i.done c.args.kids.now c.loop-i.i
-    c.in-Some.kid.now c.loop-i.counts c.args.counts.now c.in_ok-number.number i.above (sym (ap (λ n. (head n).kind) c.node.view_is)) i.many i.erased
+    at-kid (g.W.Walk.above c.args.w.now) (g.W.Walk.above c.loop-i.w) (head c.args.node.now) c.node.inside.kind c.loop-i.done c.args.kids.now
+    c.loop-i.i
+    c.in-Some.kid.now c.loop-i.counts c.args.counts.now c.in_ok-number.number i.above (sym (ap (λ n. (head n).kind) c.node.view_is)) i.many
+    i.erased
     c.in-Some.ensures.found c.requires.counts i.counts c.in_ok-number.ensures
 
 pub judge_kids-returns-clause-counts : goal.judge_kids-returns-clause-counts
@@ -185,7 +189,8 @@ judge_tree-returns-clause-counts g t c =
     let v = c.judge_kids.new.w in
     behind-turn (g.W.Walk.setting v) c.turn.new.s (g.W.Walk.above c.args.w.now) (g.W.Walk.above v) (head c.args.t.now) c.in_ok-kids.kids
     (g.W.Walk.flow v) (g.W.Walk.flow c.turn.new.self) c.turn.result c.args.counts.now c.judge_kids.new.counts c.finish.new.self
-    c.in_ok-kids.ensures.above c.turn.ensures.ok c.turn.ensures.sound c.requires.counts c.in_ok-kids.ensures.counts (ap (λ x. x.nodes) c.in_ok-finish.ensures)
+    c.in_ok-kids.ensures.above c.turn.ensures.ok c.turn.ensures.sound c.requires.counts c.in_ok-kids.ensures.counts
+    (ap (λ x. x.nodes) c.in_ok-finish.ensures)
     (ap (λ x. x.bindings) c.in_ok-finish.ensures)
 
 pub judge_kids-returns-clause-erases : goal.judge_kids-returns-clause-erases

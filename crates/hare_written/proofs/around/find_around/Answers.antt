@@ -7,7 +7,8 @@ use Rattle.hare_written.proofs.around.find_around.Goals as goal
 pub returns-clause-ok : goal.returns-clause-ok
 returns-clause-ok c =
     let env = c.args.env.now in
-    around-found env.names.now env.decls.now c.find_plain.new.s (head c.args.node.now) c.args.kids.now c.requires.kids.1.judged.plain c.in_ok-found.found
+    around-found env.names.now env.decls.now c.find_plain.new.s (head c.args.node.now) c.args.kids.now c.requires.kids.1.judged.plain
+    c.in_ok-found.found
     c.in_ok-found.ensures.defined c.requires.kind c.in_ok-found.ensures.ok
 
 pub returns-clause-known : goal.returns-clause-known

@@ -10,4 +10,8 @@ returns-in-Of c e =
     let there = c.kid.view_is ∙ front_found c.args.kids.now 0 c.in-Some.kid.now c.in-Some.ensures.found in
     let type = ap own_type (sym there) ∙ c.in-Of.is in
     subst (IsBasedTy c.args.s.now) (sym type)
-    (record { within = first-stands c.args.s.now c.args.kids.now c.in-Of.u c.requires type; based = subst IsSome c.base.ensures.value (sym c.is_some.ensures ∙ e) })
+    (record {
+      within = first-stands c.args.s.now c.args.kids.now c.in-Of.u c.requires type;
+      based = subst IsSome c.base.ensures.value
+          (sym c.is_some.ensures ∙ e);
+    })

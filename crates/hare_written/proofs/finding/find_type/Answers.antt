@@ -24,15 +24,32 @@ judge-requires-clause-told c =
 pub returns-in_err-u-clause-err : goal.returns-in_err-u-clause-err
 returns-in_err-u-clause-err c =
     let env = c.args.env.now in
-    let t : Written = record { decls = env.decls; meaning = c.own_meaning-meaning.result; bound = c.args.bound; node = c.args.node; kids = c.args.kids } in
+    let t : Written = record {
+      decls = env.decls;
+      meaning = c.own_meaning-meaning.result;
+      bound = c.args.bound;
+      node = c.args.node;
+      kids =
+          c.args.kids;
+    } in
     let e = c.in_err-u.field-0.0 in
-    err_same c.from_residual.result e (IsTurnedBack (program_of env) c.judge.new.s (role_of c.args.bound) (head c.args.node.now) c.args.kids.now)
+    err_same c.from_residual.result e (IsTurnedBack (program_of env) c.judge.new.s (role_of c.args.bound) (head c.args.node.now)
+    c.args.kids.now)
     c.from_residual.ensures.1
-    (type-back env.names.now c.judge.new.s t c.requires.kind (λ f. c.own_meaning-meaning.ensures (program_of env f) refl) e c.in_err-u.ensures.err)
+    (type-back env.names.now c.judge.new.s t c.requires.kind (λ f. c.own_meaning-meaning.ensures (program_of env f) refl) e
+    c.in_err-u.ensures.err)
 
 pub returns-clause-ok : goal.returns-clause-ok
 returns-clause-ok c =
     let env = c.args.env.now in
-    let t : Written = record { decls = env.decls; meaning = c.own_meaning-meaning.result; bound = c.args.bound; node = c.args.node; kids = c.args.kids } in
-    type-found env.names.now c.judge.new.s t c.requires.kind (λ f. c.own_meaning-meaning.ensures (program_of env f) refl) c.in_ok-u.u c.in_ok-u.ensures.known
+    let t : Written = record {
+      decls = env.decls;
+      meaning = c.own_meaning-meaning.result;
+      bound = c.args.bound;
+      node = c.args.node;
+      kids =
+          c.args.kids;
+    } in
+    type-found env.names.now c.judge.new.s t c.requires.kind (λ f. c.own_meaning-meaning.ensures (program_of env f) refl) c.in_ok-u.u
+    c.in_ok-u.ensures.known
     c.in_ok-u.ensures.ok

@@ -8,7 +8,8 @@ use Rattle.hare_written.proofs.lengths.means_other.Goals.{in-Def, in_default}
 pub returns-after-matches-clause-other : goal.returns-after-matches-clause-other
 returns-after-matches-clause-other c e w k =
     let d = c.in-Some.d.now in
-    let known = meant-def w c.args.decls.now c.args.meaning c.in-Decl.n (Some d) k c.in-Decl.is (sym c.find.ensures ∙ ap option_copied c.in-Some.is) in
+    let known = meant-def w c.args.decls.now c.args.meaning c.in-Decl.n (Some d) k c.in-Decl.is
+    (sym c.find.ensures ∙ ap option_copied c.in-Some.is) in
     elim c.match-matches.branch [
       | in-Def a ↦ let both = ap not (sym a.matches-is) ∙ e in cc
       | in_default a ↦ known ∙ not-def d.kind a.in_default.not-Def

@@ -22,7 +22,8 @@ use Rattle.hare_written.proofs.walk.+judge.Goals as goal
 pub judge_kids-judge_tree-judged-requires : goal.judge_kids-judge_tree-judged-requires
 judge_kids-judge_tree-judged-requires t c =
     let s = c.loop-i.s in
-    let part = part-kid c.args.node.now c.in-Some.kid.now c.args.kids.now c.loop-i.i c.requires.part c.requires.whole c.in-Some.ensures.found in
+    let part = part-kid c.args.node.now c.in-Some.kid.now c.args.kids.now c.loop-i.i c.requires.part c.requires.whole
+    c.in-Some.ensures.found in
     let later = grown-later c.args.s.now s c.loop-i.invariant.grown c.declarations-sound.ensures.sound in
     let defs = defs-stay c.args.s.now s c.declarations-law.ensures.sound later c.args.env.now.decls.now c.requires.defs in
     (search rules, (part, defs))
@@ -91,7 +92,8 @@ pub judge_tree-returns-in_err-kids-clause-err : goal.judge_tree-returns-in_err-k
 judge_tree-returns-in_err-kids-clause-err t c =
     let w = program_of c.args.env.now in
     let e = c.in_err-kids.field-0.0 in
-    err_same c.from_residual.result e (IsStopped w c.judge_kids.new.s (role_in c.args.role) c.args.t.now c.args.count.now) c.from_residual.ensures.1
+    err_same c.from_residual.result e (IsStopped w c.judge_kids.new.s (role_in c.args.role) c.args.t.now c.args.count.now)
+    c.from_residual.ensures.1
     (kids-stopped w c.judge_kids.new.s (role_in c.args.role) c.args.t.now c.args.count.now e c.in_err-kids.ensures.err)
 
 pub judge_tree-turn-judged-requires-clause-defs : goal.judge_tree-turn-judged-requires-clause-defs
@@ -105,9 +107,12 @@ judge_tree-returns-in_err-tree-clause-err t c =
     let w = program_of c.args.env.now in
     let role = role_in c.args.role in
     let e = c.in_err-tree.field-0.0 in
-    err_same c.from_residual-in_err-tree.result e (IsStopped w c.turn-judged.new.s role c.args.t.now c.args.count.now) c.from_residual-in_err-tree.ensures.1
-    (turn-stopped w c.judge_kids.new.s c.turn-judged.new.s c.law_bytes_follow_definitions.ensures c.turn-judged.ensures.grown c.declarations-sound.ensures.sound
-    c.declarations-still.ensures.sound c.args.t.now c.args.count.now c.in_ok-kids.kids c.in_ok-kids.ensures.ok role e c.in_err-tree.ensures.err)
+    err_same c.from_residual-in_err-tree.result e (IsStopped w c.turn-judged.new.s role c.args.t.now c.args.count.now)
+    c.from_residual-in_err-tree.ensures.1
+    (turn-stopped w c.judge_kids.new.s c.turn-judged.new.s c.law_bytes_follow_definitions.ensures c.turn-judged.ensures.grown
+    c.declarations-sound.ensures.sound
+    c.declarations-still.ensures.sound c.args.t.now c.args.count.now c.in_ok-kids.kids c.in_ok-kids.ensures.ok role e
+    c.in_err-tree.ensures.err)
 
 pub judge_tree-returns-clause-ok : goal.judge_tree-returns-clause-ok
 judge_tree-returns-clause-ok t c =

@@ -4,12 +4,14 @@ use Rattle.type_table.proofs.definable.is_definable.Goals as goal
 
 pub returns-then-is_some-2-clause-sized : goal.returns-then-is_some-2-clause-sized
 returns-then-is_some-2-clause-sized c =
-    λ _. known-sized c.args.store.now c.extent.ensures.sound c.args.t c.args.decl c.extent.result c.extent.ensures.some (sym c.is_some-in-Some-true.ensures ∙ c.if-is_some-2.true)
+    λ _. known-sized c.args.store.now c.extent.ensures.sound c.args.t c.args.decl c.extent.result c.extent.ensures.some
+    (sym c.is_some-in-Some-true.ensures ∙ c.if-is_some-2.true)
     (sym c.in-Some-true.ensures ∙ ap Some c.in-Some-true.field-0-test)
 
 pub returns-then-is_some-2-clause-finite : goal.returns-then-is_some-2-clause-finite
 returns-then-is_some-2-clause-finite c =
-    λ _. known-finite c.args.store.now c.args.t c.args.decl c.extent.result c.extent.ensures.some (sym c.is_some-in-Some-true.ensures ∙ c.if-is_some-2.true) (search rules)
+    λ _. known-finite c.args.store.now c.args.t c.args.decl c.extent.result c.extent.ensures.some
+    (sym c.is_some-in-Some-true.ensures ∙ c.if-is_some-2.true) (search rules)
 
 pub returns-else-is_some-2-clause-finite : goal.returns-else-is_some-2-clause-finite
 returns-else-is_some-2-clause-finite c =

@@ -21,4 +21,5 @@ abbrev pub invariant-are_small-loop-inner : goal.invariant-are_small-loop-inner
 invariant-are_small-loop-inner l = (k p : ℕ) → k < l.inner-index → slice_get l.types k ≡ Some p → IsKnown l.store l.names p
 
 abbrev pub invariant-are_small_fields-loop-field : goal.invariant-are_small_fields-loop-field
-invariant-are_small_fields-loop-field l = (k : ℕ) (f : Field) → k < l.field-index → slice_get l.fields k ≡ Some f → IsKnown l.store l.names f.ty
+invariant-are_small_fields-loop-field l = (k : ℕ) (f : Field) → k < l.field-index → slice_get l.fields k ≡ Some f →
+    IsKnown l.store l.names f.ty

@@ -8,8 +8,10 @@ row-requires c = (id-tree_at c.args.store.now c.in-Some.base c.in-Some.ensures.s
 
 pub returns-in-Struct : goal.returns-in-Struct
 returns-in-Struct c = λ k less.
-    struct-field c.args.store.now c.row.ensures.sound c.args.t c.in-Some.base c.in-Struct.fields (c.row.ensures.row ∙ ap Some c.in-Struct.is) c.in-Some.ensures.some k (omega (arith, less, c.narrowed.ensures, c.len.ensures))
+    struct-field c.args.store.now c.row.ensures.sound c.args.t c.in-Some.base c.in-Struct.fields
+    (c.row.ensures.row ∙ ap Some c.in-Struct.is) c.in-Some.ensures.some k (omega (arith, less, c.narrowed.ensures, c.len.ensures))
 
 pub returns-in-Tuple : goal.returns-in-Tuple
 returns-in-Tuple c = λ k less.
-    tuple-field c.args.store.now c.row.ensures.sound c.args.t c.in-Some.base c.in-Tuple.types (c.row.ensures.row ∙ ap Some c.in-Tuple.is) c.in-Some.ensures.some k (omega (arith, less, c.narrowed-in-Tuple.ensures, c.len-in-Tuple.ensures))
+    tuple-field c.args.store.now c.row.ensures.sound c.args.t c.in-Some.base c.in-Tuple.types (c.row.ensures.row ∙ ap Some c.in-Tuple.is)
+    c.in-Some.ensures.some k (omega (arith, less, c.narrowed-in-Tuple.ensures, c.len-in-Tuple.ensures))

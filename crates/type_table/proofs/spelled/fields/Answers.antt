@@ -11,7 +11,8 @@ loop-i-preserved c =
       | in-Some+in-Some-get+in_ok-text+in_ok-name+in_ok-push w ↦ record {
         rows = ap (λ t. t.store.rows) w.table-is ∙ w.number.ensures ∙ c.loop-i.invariant.rows;
         below = subst (λ fs. FieldsBelow n fs) (sym (w.fields-is ∙ w.in_ok-push.ensures.ok))
-            (FieldsBelow-push n c.loop-i.fields _ c.loop-i.invariant.below (AllBelow-get n c.args.types.now c.requires c.loop-i.i _ (sym w.in-Some-get.ensures)));
+            (FieldsBelow-push n c.loop-i.fields _ c.loop-i.invariant.below
+            (AllBelow-get n c.args.types.now c.requires c.loop-i.i _ (sym w.in-Some-get.ensures)));
       }
       | in-Some+in_default-get w ↦ record {
         rows = ap (λ t. t.store.rows) w.table-is ∙ c.loop-i.invariant.rows;

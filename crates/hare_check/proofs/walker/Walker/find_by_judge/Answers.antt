@@ -15,7 +15,8 @@ pub told_yields-requires : goal.told_yields-requires
 told_yields-requires c =
     let w = c.args.self.now in
     let s = c.look.new.s in
-    let a = node-grown c.args.s.now s w c.args.node.now c.args.kids.now c.declarations-law.ensures.sound c.in_ok-look.ensures.grown c.requires.node in
+    let a = node-grown c.args.s.now s w c.args.node.now c.args.kids.now c.declarations-law.ensures.sound c.in_ok-look.ensures.grown
+    c.requires.node in
     let e = ap (map given_of) c.as_slice.ensures ∙ c.in_ok-gs.ensures in
     subst (AreDefinedGivens s) (sym e)
     (givens_defined s (head c.args.node.now).kind (length (above_of w).inside.labels) w.seen.yields a.walks.1.yields)

@@ -10,7 +10,8 @@ returns-clause-ok c =
     let w = c.args.self.now in
     let r = c.find_length.new.s in
     let f = c.in_ok-found.ensures in
-    let at : IsAtLength (program_of w) r (above_of w) w.seen w.decls.now c.path_meaning-meaning.result (head c.args.node.now) c.args.kids.now =
+    let at : IsAtLength (program_of w) r (above_of w) w.seen w.decls.now c.path_meaning-meaning.result (head c.args.node.now)
+    c.args.kids.now =
     record {
       store = λ l. refl;
       decls = λ l. refl;

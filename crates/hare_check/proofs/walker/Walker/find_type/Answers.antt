@@ -38,7 +38,14 @@ returns-clause-ok c =
     let w = c.args.self.now in
     let r = c.find_written.new.s in
     let t : Written =
-    record { decls = c.args.self.now.decls; meaning = c.path_meaning-meaning.result; bound = c.args.bound; node = c.args.node; kids = c.args.kids } in
+    record {
+      decls = c.args.self.now.decls;
+      meaning = c.path_meaning-meaning.result;
+      bound = c.args.bound;
+      node = c.args.node;
+      kids =
+          c.args.kids;
+    } in
     let at : IsAtType (program_of w) r (above_of w) w.seen t =
     record {
       store = λ l. refl;
@@ -59,7 +66,14 @@ returns-clause-err c =
     let w = c.args.self.now in
     let r = c.find_written.new.s in
     let t : Written =
-    record { decls = c.args.self.now.decls; meaning = c.path_meaning-meaning.result; bound = c.args.bound; node = c.args.node; kids = c.args.kids } in
+    record {
+      decls = c.args.self.now.decls;
+      meaning = c.path_meaning-meaning.result;
+      bound = c.args.bound;
+      node = c.args.node;
+      kids =
+          c.args.kids;
+    } in
     let at : IsAtType (program_of w) r (above_of w) w.seen t =
     record {
       store = λ l. refl;
@@ -68,6 +82,7 @@ returns-clause-err c =
       role = c.requires.role;
       meaning = λ l d. c.path_meaning-meaning.ensures (program_of w l) refl;
     } in
-    err-map (λ (e : Stop Fault). (v : Store → Setting) (a : Above) (f : Flow) → IsAtType v r a f t → IsTurnedBack v r a (head_in t) t.kids.now f e)
+    err-map (λ (e : Stop Fault). (v : Store → Setting) (a : Above) (f : Flow) → IsAtType v r a f t →
+    IsTurnedBack v r a (head_in t) t.kids.now f e)
     (λ (e : Stop Fault). IsStopOf r w c.args.node.now c.args.kids.now e) c.find_written.result c.find_written.ensures.err
     (λ e f. f (program_of w) (above_of w) w.seen at)

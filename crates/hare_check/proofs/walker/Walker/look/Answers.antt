@@ -117,7 +117,8 @@ returns-in-Yield-clause-void c =
     } in
     let given = yielded (head n) (tree_from_front 0 (map bare xs)) in
     on-map ((d : Context) → IsYield d q (head n) xs i → MeansInside d → IsVoidTaken s i given)
-    ((head n).kind ≡ ki.Yield → (l : Store) → IsLater s l → MeansInside (context_at (program_of w) (above_of w) n xs w.seen l) → IsTakenAt s w n xs)
+    ((head n).kind ≡ ki.Yield → (l : Store) → IsLater s l → MeansInside (context_at (program_of w) (above_of w) n xs w.seen l) →
+    IsTakenAt s w n xs)
     c.look_at_yield.result c.look_at_yield.ensures.taken
     (λ k e l d m. subst (λ (z : Hint). IsVoidTaken s z given) t.hint
     (k (context_at (program_of w) (above_of w) n xs w.seen l) (yield-told w n xs l q i c.requires.node.hand t) m))

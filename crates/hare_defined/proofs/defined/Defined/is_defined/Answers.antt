@@ -14,7 +14,8 @@ pub meet_mentioned-answer-requires-clause-within : goal.meet_mentioned-answer-re
 meet_mentioned-answer-requires-clause-within c = based_within c.args.s.now c.args.t c.base.result c.base.ensures.some c.if-is_none.ensures
 
 pub meet_mentioned-answer-requires-clause-known : goal.meet_mentioned-answer-requires-clause-known
-meet_mentioned-answer-requires-clause-known c = subst (λ ks. (t : ℕ) → Contains ks t → IsDefined c.args.s.now t) (sym c.self.view_is) c.requires.known
+meet_mentioned-answer-requires-clause-known c =
+    subst (λ ks. (t : ℕ) → Contains ks t → IsDefined c.args.s.now t) (sym c.self.view_is) c.requires.known
 
 pub returns-then-not-matches-clause-known : goal.returns-then-not-matches-clause-known
 returns-then-not-matches-clause-known c =

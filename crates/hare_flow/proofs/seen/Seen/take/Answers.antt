@@ -6,5 +6,7 @@ use Rattle.hare_flow.proofs.seen.Seen.take.Goals as goal
 
 pub returns : goal.returns
 returns c =
-    with_yields c.self.inside.bindings.items c.self.inside.yields.items c.drop_at.new.yields.items c.self.inside.coercions.items c.self.inside.late.items c.args.self.now _ c.self.view_is
-    (taken_from c.args.level c.self.inside.yields.items c.drop_at.new.yields.items c.args.from c.args.self.now.yields (ap (λ (f : Flow). f.yields) c.self.view_is) c.requires c.in_ok-drop_at.ensures)
+    with_yields c.self.inside.bindings.items c.self.inside.yields.items c.drop_at.new.yields.items c.self.inside.coercions.items
+    c.self.inside.late.items c.args.self.now _ c.self.view_is
+    (taken_from c.args.level c.self.inside.yields.items c.drop_at.new.yields.items c.args.from c.args.self.now.yields
+    (ap (λ (f : Flow). f.yields) c.self.view_is) c.requires c.in_ok-drop_at.ensures)

@@ -11,5 +11,6 @@ loop-left-preserved c =
     let i = c.loop-left.invariant in
     record {
       within = omega arith;
-      so_far = nodes_pushed c.args.waits.now c.loop-left.left _ c.push_all.new.self c.nodes_of_wait.result.now c.loop-left.self c.args.self.now h i.within c.in_ok-push_all.ensures c.nodes_of_wait.ensures i.so_far;
+      so_far = nodes_pushed c.args.waits.now c.loop-left.left _ c.push_all.new.self c.nodes_of_wait.result.now c.loop-left.self
+          c.args.self.now h i.within c.in_ok-push_all.ensures c.nodes_of_wait.ensures i.so_far;
     }

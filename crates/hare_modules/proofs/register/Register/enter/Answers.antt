@@ -11,4 +11,5 @@ returns-clause-number c =
 
 pub returns-clause-ok : goal.returns-clause-ok
 returns-clause-ok c =
-    entered-seen (λ k. k.items) c.args.name c.args.name.items c.self.inside.names.keys c.insert_full.new.self.keys c.args.self.now c.self.view_is c.in_ok-number.ensures.keys refl
+    entered-seen (λ k. k.items) c.args.name c.args.name.items c.self.inside.names.keys c.insert_full.new.self.keys c.args.self.now
+    c.self.view_is c.in_ok-number.ensures.keys refl
