@@ -32,7 +32,8 @@ first_from-front n (false ∷ xs) ys zs (suc k) e = first_from-front (suc n) xs 
 
 -- the rows but the last
 abbrev front : Store → Value → Tree → List Bool
-front s f t = is_same f t ∷ is_never f ∷ is_const s f t ∷ is_wider f t ∷ is_pointer f t ∷ is_null s f t ∷ is_slice s f t ∷ is_name s f t ∷ []
+front s f t = is_same f t ∷ is_never f ∷ is_const s f t ∷ is_wider f t ∷ is_pointer f t ∷ is_null s f t ∷ is_slice s f t ∷ is_name s f t ∷
+    []
 
 front_get : (s : Store) (f : Value) (t : Tree) (k : ℕ) → k < 8 → slice_get (table s f t) k ≡ Some true
     → slice_get (front s f t) k ≡ Some true
@@ -76,7 +77,8 @@ module _ (now later : Store) (v : IsStore now) (l : IsLater now later) where
       by (Some b) g =
           let base = (base_tells now v t b).0 g in
           let here = (ids_mean_trees now v).there b base.1 base.3 in
-          ap (option_and_then (λ i. option_and_then members_of (row_at later i))) (keeps.base t b g) ∙ ap (option_and_then members_of) (keeps.row b here.0 here.1)
+          ap (option_and_then (λ i. option_and_then members_of (row_at later i))) (keeps.base t b g) ∙ ap (option_and_then members_of)
+          (keeps.row b here.0 here.1)
           ∙ sym (ap (option_and_then (λ i. option_and_then members_of (row_at now i))) g ∙ ap (option_and_then members_of) here.1)
 
   module _ (f : Value) (known : IsKnown now f) where
@@ -85,7 +87,8 @@ module _ (now later : Store) (v : IsStore now) (l : IsLater now later) where
         → first_of later p is ≡ first_of now q is
     first_stays p q same [] below h = refl
     first_stays p q same (i ∷ is) below h =
-        ap₂ (λ b o. cond b (Some i) o) (ap p (growth.type_stays now later l.sound l.grows i below.0) ∙ same (type_at now i) h.0) (first_stays p q same is below.1 h.1)
+        ap₂ (λ b o. cond b (Some i) o) (ap p (growth.type_stays now later l.sound l.grows i below.0) ∙ same (type_at now i) h.0)
+        (first_stays p q same is below.1 h.1)
 
     types_stay : (is : List ℕ) → AllBelow (length now.rows) is → types_at later is ≡ types_at now is
     types_stay [] below = refl
@@ -95,7 +98,8 @@ module _ (now later : Store) (v : IsStore now) (l : IsLater now later) where
         → EachTree (HasBase now) (types_at now is)
         → only_of later p is ≡ only_of now q is
     only_stays p q same is below h =
-        ap₂ (λ n o. if (n == 1) then o else None) (ap (how_many p) (types_stay is below) ∙ growth.count_stays now later l.sound l.grows p q same (types_at now is) h)
+        ap₂ (λ n o. if (n == 1) then o else None)
+        (ap (how_many p) (types_stay is below) ∙ growth.count_stays now later l.sound l.grows p q same (types_at now is) h)
         (first_stays p q (λ t b. same t (growth.base_stays now later l.sound l.grows t b)) is below h)
 
     member_stays : (is : List ℕ) → AllBelow (length now.rows) is → EachTree (HasBase now) (types_at now is)
@@ -133,7 +137,8 @@ module _ (now later : Store) (v : IsStore now) (l : IsLater now later) where
       → chosen later from to ≡ chosen now from to
   choice from to here w known =
       ap (λ f. option_and_then (coercion later from) (option_and_then (member_for later f) (members_at later to))) value
-      ∙ ap (λ o. option_and_then (coercion later from) (option_and_then (member_for later f) o)) (members_stay to w known.type) ∙ by (members_at now to) refl
+      ∙ ap (λ o. option_and_then (coercion later from) (option_and_then (member_for later f) o)) (members_stay to w known.type) ∙ by
+      (members_at now to) refl
     where
       f : Value
       f = value_at now from
@@ -152,12 +157,14 @@ module _ (now later : Store) (v : IsStore now) (l : IsLater now later) where
           (ap₂ (first_row later) value type ∙ row_stays f (type_at now m) known.value (based is m h k.among) k.goes)
 
       by : (o : Option (List ℕ)) → members_at now to ≡ o
-          → option_and_then (coercion later from) (option_and_then (member_for later f) o) ≡ option_and_then (coercion now from) (option_and_then (member_for now f) o)
+          → option_and_then (coercion later from) (option_and_then (member_for later f) o) ≡
+          option_and_then (coercion now from) (option_and_then (member_for now f) o)
       by None e = refl
       by (Some is) e =
           let bases = known.members (types_at now is) (union_base now v to w is e) in
           let below = members_below now v to is e in
-          ap (option_and_then (coercion later from)) (member_stays f known.value is below bases) ∙ to_member is bases below (member_for now f is) refl
+          ap (option_and_then (coercion later from)) (member_stays f known.value is below bases) ∙ to_member is bases below
+          (member_for now f is) refl
 
   -- ---- the first member
 

@@ -20,11 +20,10 @@ use Rattle.hare_types.specs.KeyLaws.{scalar_eq-Decides}
 use Rattle.hare_types.proofs.IdLemmas.{base_tells, none_map}
 use Rattle.hare_types.proofs.MeaningsLemmas.{ids_mean_trees}
 use Rattle.hare_layout.proofs.AscendingLemmas.{In, In-to}
-use Rattle.hare_layout.proofs.BaseLemmas.{base_by-following}
-use Rattle.hare_layout.proofs.BaseOfLemmas.{base-value}
 use Rattle.hare_assign.specs.Shapes.{types_at}
 use Rattle.hare_assign.specs.Chosen.{is_its_default, first_of, only_of, member_for, first_member, IsChosen, KeepsMember}
 use Rattle.hare_assign.proofs.FirstLemmas.{first_from-none}
+use Rattle.hare_assign.proofs.NamesLemmas.{base-of-id}
 use Rattle.hare_assign.proofs.TypeLemmas.{type_at_row, row_within}
 
 -- ---- the members of the base
@@ -58,7 +57,7 @@ module _ (s : Store) (v : IsStore s) (t : ℕ) where
 
   -- what is left of the type
   pub base_is : t < length s.rows → (b : ℕ) → IsBaseOf s t b → base s (type_at s t) ≡ Some (type_at s b)
-  base_is l b h = sym (base-value s v t l (Some b) h tt ∙ base_by-following s (length s.declared) (type_at s t))
+  base_is l b h = sym (base-of-id s v t l (Some b) h tt)
 
   pub union_base : t < length s.rows → (is : List ℕ) → members_at s t ≡ Some is → base s (type_at s t) ≡ Some (Union (types_at s is))
   union_base l is e =
@@ -85,9 +84,7 @@ module _ (s : Store) (v : IsStore s) (t : ℕ) where
   -- nothing is left of a type that comes to a name that is not defined
   pub base_none : t < length s.rows → base_at s t ≡ None → base s (type_at s t) ≡ None
   base_none l g =
-      sym
-      (base-value s v t l None tt (λ b h. let both = sym g ∙ (base_tells s v t b).1 h in absurd cc)
-      ∙ base_by-following s (length s.declared) (type_at s t))
+      sym (base-of-id s v t l None tt (λ b h. let both = sym g ∙ (base_tells s v t b).1 h in absurd cc))
 
   -- the type has members where its base is a union
   pub base_union : t < length s.rows → (ts : Trees) → base s (type_at s t) ≡ Some (Union ts)
@@ -217,7 +214,8 @@ same_word k (Named d) e = absurd cc
 default_const : (s : Store) (f : Value) (t : Tree) → is_its_default f t ≡ true → is_const s f t ≡ true
 default_const s (Iconst v) t e =
     let h = holds-none (λ k. same (Scalar k) t) (default_word v) e in
-    ap (λ u. holds_of (λ w. tree_holds w v) (base s u)) (same_word h.0 t h.2) ∙ ap (holds_of (λ w. tree_holds w v)) (base_word s h.0) ∙ default_holds v h.0 h.1
+    ap (λ u. holds_of (λ w. tree_holds w v) (base s u)) (same_word h.0 t h.2) ∙ ap (holds_of (λ w. tree_holds w v)) (base_word s h.0) ∙
+    default_holds v h.0 h.1
 default_const s (Of g) t e = absurd cc
 default_const s Null t e = absurd cc
 default_const s Empty t e = absurd cc
@@ -292,9 +290,11 @@ module _ (s : Store) (f : Value) (is : List ℕ) where
   ms = types_at s is
 
   pub is_for : (m : ℕ) → member_for s f is ≡ Some m → IsFor m
-  is_for m e = by (first_of s (is_same f) is) refl (first_of s (is_its_default f) is) refl (only_of s (is_const s f) is) refl (only_of s (is_lone s f) is) refl e
+  is_for m e = by (first_of s (is_same f) is) refl (first_of s (is_its_default f) is) refl (only_of s (is_const s f) is) refl
+      (only_of s (is_lone s f) is) refl e
     where
-      joined : (is_member f ms ≡ true) ⊎ ((is_default f ms ≡ true) ⊎ ((only_one (is_const s f) ms ≡ true) ⊎ (only_one (is_lone s f) ms ≡ true))) → joins s f (Union ms) ≡ true
+      joined : (is_member f ms ≡ true) ⊎ ((is_default f ms ≡ true) ⊎
+          ((only_one (is_const s f) ms ≡ true) ⊎ (only_one (is_lone s f) ms ≡ true))) → joins s f (Union ms) ≡ true
       joined h = five (is_member f ms) (is_part s f ms) (is_default f ms) (only_one (is_const s f) ms) (only_one (is_lone s f) ms) h
 
       by : (a : Option ℕ) → first_of s (is_same f) is ≡ a → (b : Option ℕ) → first_of s (is_its_default f) is ≡ b → (c : Option ℕ)
@@ -303,11 +303,21 @@ module _ (s : Store) (f : Value) (is : List ℕ) where
       by (Some i) g b h c k d l e =
           let same : i ≡ m = cc in
           let here = found_in s (is_same f) is m (g ∙ ap Some same) in
-          record { among = here.0; joins = joined (inl (some_among s (is_same f) is m here.0 here.1)); goes = goes_own s f (type_at s m) here.1 }
+          record {
+            among = here.0;
+            joins = joined (inl (some_among s (is_same f) is m here.0 here.1));
+            goes = goes_own s f (type_at s m)
+                here.1;
+          }
       by None g (Some i) h c k d l e =
           let same : i ≡ m = cc in
           let here = found_in s (is_its_default f) is m (h ∙ ap Some same) in
-          record { among = here.0; joins = joined (inr (inl (default_among s f is m here.0 here.1))); goes = goes_const s f (type_at s m) (default_const s f (type_at s m) here.1) }
+          record {
+            among = here.0;
+            joins = joined (inr (inl (default_among s f is m here.0 here.1)));
+            goes = goes_const s f (type_at s m)
+                (default_const s f (type_at s m) here.1);
+          }
       by None g None h (Some i) k d l e =
           let same : i ≡ m = cc in
           let only = only_in s (is_const s f) is m (k ∙ ap Some same) in
@@ -345,8 +355,11 @@ pub by_number : (s : Store) (f : Value) (is : List ℕ) (r : Option ℕ) → Non
     → None ≡ first_of s (is_its_default f) is → how_many (is_const s f) (types_at s is) ≡ 1
     → r ≡ first_of s (is_const s f) is → r ≡ member_for s f is
 by_number s f is r own default one e =
-    e ∙ by (first_of s (is_const s f) is) refl ∙ ap (λ o. option_or o (only_of s (is_lone s f) is)) (sym (ap (λ b. cond b (first_of s (is_const s f) is) None) only))
-    ∙ ap (λ o. option_or o (option_or (only_of s (is_const s f) is) (only_of s (is_lone s f) is))) default ∙ ap (λ o. option_or o (option_or (first_of s (is_its_default f) is) (option_or (only_of s (is_const s f) is) (only_of s (is_lone s f) is)))) own
+    e ∙ by (first_of s (is_const s f) is) refl ∙ ap (λ o. option_or o (only_of s (is_lone s f) is))
+    (sym (ap (λ b. cond b (first_of s (is_const s f) is) None) only))
+    ∙ ap (λ o. option_or o (option_or (only_of s (is_const s f) is) (only_of s (is_lone s f) is))) default ∙ ap
+    (λ o. option_or o (option_or (first_of s (is_its_default f) is)
+    (option_or (only_of s (is_const s f) is) (only_of s (is_lone s f) is)))) own
   where
     only : only_one (is_const s f) (types_at s is) ≡ true
     only = ap (λ n. n == 1) one
@@ -378,7 +391,8 @@ pub first_for : (s : Store) (f : Value) (is : List ℕ) (m : ℕ) → first_memb
 first_for s f is m e = by (first_of s (is_same f) is) refl (first_of s (is_its_default f) is) refl (first_of s (is_const s f) is) refl e
   where
     by : (a : Option ℕ) → first_of s (is_same f) is ≡ a → (b : Option ℕ) → first_of s (is_its_default f) is ≡ b → (c : Option ℕ)
-        → first_of s (is_const s f) is ≡ c → option_or a (option_or b (option_or c (first_of s (is_lone s f) is))) ≡ Some m → IsFirstFor s f is m
+        → first_of s (is_const s f) is ≡ c → option_or a (option_or b (option_or c (first_of s (is_lone s f) is))) ≡ Some m →
+        IsFirstFor s f is m
     by (Some i) g b h c k e =
         let same : i ≡ m = cc in
         let here = found_in s (is_same f) is m (g ∙ ap Some same) in
@@ -396,7 +410,8 @@ first_for s f is m e = by (first_of s (is_same f) is) refl (first_of s (is_its_d
         record { among = here.0; goes = goes_lone s f (type_at s m) here.1 }
 
 -- it is in the store
-pub first_within : (s : Store) (from : Ty) (is : List ℕ) (o : Option ℕ) → AllBelow (length s.rows) is → o ≡ first_member s (value_at s from) is
+pub first_within : (s : Store) (from : Ty) (is : List ℕ) (o : Option ℕ) → AllBelow (length s.rows) is →
+    o ≡ first_member s (value_at s from) is
     → IfSome o (λ m. m < length s.rows)
 first_within s from is None h e = tt
 first_within s from is (Some m) h e = below_in is h (first_for s (value_at s from) is m (sym e)).among
@@ -426,7 +441,8 @@ module _ (s : Store) (v : IsStore s) (from : Ty) (to : ℕ) (l : to < length s.r
   pub goes_there : (is : List ℕ) (m : ℕ) → member_for s (value_at s from) is ≡ Some m → ¬ (coercion s from m ≡ None)
   goes_there is m g missing =
       let k = is_for s (value_at s from) is m g in
-      first_from-none 1 (table s (value_at s from) (type_at s m)) (none_map _ (first_row s (value_at s from) (type_at s m)) missing) k.goes.0 k.goes.2
+      first_from-none 1 (table s (value_at s from) (type_at s m)) (none_map _ (first_row s (value_at s from) (type_at s m)) missing)
+      k.goes.0 k.goes.2
 
   pub keeps_none : members_at s to ≡ None → KeepsMember s from to
   keeps_none e ts b j =
@@ -438,4 +454,5 @@ module _ (s : Store) (v : IsStore s) (from : Ty) (to : ℕ) (l : to < length s.r
   keeps_own is e g ts b j =
       let both = sym (union_base s v to l is e) ∙ b in
       let same : types_at s is ≡ ts = cc in
-      subst (λ us. is_part s (value_at s from) us ≡ true) same (none_for s (value_at s from) is g (subst (λ us. joins s (value_at s from) (Union us) ≡ true) (sym same) j))
+      subst (λ us. is_part s (value_at s from) us ≡ true) same
+      (none_for s (value_at s from) is g (subst (λ us. joins s (value_at s from) (Union us) ≡ true) (sym same) j))

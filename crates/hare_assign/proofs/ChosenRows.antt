@@ -72,8 +72,10 @@ abbrev s : Store
 s = record {
   names = [];
   rows =
-      row.Scalar keyword.U8 ∷ row.Scalar keyword.Str ∷ row.Scalar keyword.Int ∷ row.Scalar keyword.U16 ∷ row.Nullable u8 ∷ row.Slice u8 ∷ row.Pointer u8 ∷ row.Array 3 u8
-      ∷ row.Union (u8 ∷ str ∷ []) ∷ row.Union (u8 ∷ int ∷ []) ∷ row.Union (u8 ∷ u16 ∷ []) ∷ row.Union (nullable_u8 ∷ slice_u8 ∷ []) ∷ row.Union (u8 ∷ str ∷ int ∷ [])
+      row.Scalar keyword.U8 ∷ row.Scalar keyword.Str ∷ row.Scalar keyword.Int ∷ row.Scalar keyword.U16 ∷ row.Nullable u8 ∷ row.Slice u8 ∷
+      row.Pointer u8 ∷ row.Array 3 u8
+      ∷ row.Union (u8 ∷ str ∷ []) ∷ row.Union (u8 ∷ int ∷ []) ∷ row.Union (u8 ∷ u16 ∷ []) ∷ row.Union (nullable_u8 ∷ slice_u8 ∷ []) ∷
+      row.Union (u8 ∷ str ∷ int ∷ [])
       ∷ row.Error u8_or_str ∷ row.Named 0 ∷ row.Union (u8 ∷ str ∷ n ∷ []) ∷ [];
   declared = (0, record { sized = true; definition = Some u8_or_str }) ∷ [];
   listed = [];

@@ -10,10 +10,9 @@ use Rattle.hare_types.specs.Layout.{base_with}
 use Rattle.hare_types.specs.Assign.{Value, Of, Iconst, Null, Empty, IsIn, type_at, value_at, base, holds_of, how_many, tree_holds, is_const, is_nullable, is_null, items_fit, is_slice, is_name, is_pointer, members_among, is_part, is_member, is_default, is_lone, joins, is_union, same, table, first_from, is_number, is_numeric, recasts, is_castable}
 use Rattle.hare_types.proofs.CallerLemmas.{tree_at-Extends, meaning_of-Extends}
 use Rattle.hare_types.proofs.GrowthLemmas.{following-more, base_with-more}
-use Rattle.hare_layout.proofs.NamesLemmas.{names_enough}
-use Rattle.hare_layout.proofs.OffsetLemmas.{base_with-near}
 use Rattle.hare_layout.proofs.SpreadLemmas.{tree_at-id, id-tree_at}
 use Rattle.hare_assign.specs.Growth.{HasBase, IsKnown, AreKnown, IsOneVerdict, VerdictsStay}
+use Rattle.hare_assign.proofs.NamesLemmas.{base_only}
 
 module _ (old new : Store) (v : IsStore new) (grows : Extends (record old { listed = [] }) new) where
   -- the store without its list of types that have tags
@@ -24,8 +23,8 @@ module _ (old new : Store) (v : IsStore new) (grows : Extends (record old { list
 
   base_found : (t b : Tree) → base old t ≡ Some b → base new t ≡ Some b
   base_found t b e =
-      names_enough base_with base_with-near new v (length old.declared) t b
-      (following-more base_with base_with-more (meaning_of old) (meaning_of new) (meaning_of-Extends before new grows) (length old.declared) t b e)
+      let more = following-more base_with base_with-more (meaning_of old) (meaning_of new) (meaning_of-Extends before new grows) in
+      base_only new v t b (length old.declared, more (length old.declared) t b e)
 
   pub base_stays : (t : Tree) → HasBase old t → base new t ≡ base old t
   base_stays t h = by (base old t) refl h
@@ -77,7 +76,8 @@ module _ (old new : Store) (v : IsStore new) (grows : Extends (record old { list
 
   -- ---- the members of a union
 
-  pub count_stays : (p q : Tree → Bool) → ((t : Tree) → base new t ≡ base old t → p t ≡ q t) → (ms : Trees) → EachTree (HasBase old) ms → how_many p ms ≡ how_many q ms
+  pub count_stays : (p q : Tree → Bool) → ((t : Tree) → base new t ≡ base old t → p t ≡ q t) → (ms : Trees) → EachTree (HasBase old) ms →
+      how_many p ms ≡ how_many q ms
   count_stays p q h none k = refl
   count_stays p q h (more m ms) k =
       let first = h m (base_stays m k.0) in
@@ -91,7 +91,8 @@ module _ (old new : Store) (v : IsStore new) (grows : Extends (record old { list
       let lones = count_stays (is_lone new f) (is_lone old f) (lone_stays f) ms h in
       ap₂ (λ a n. a || (n == 1)) (ap₂ (λ a n. is_member f ms || a || is_default f ms || (n == 1)) part consts) lones
 
-  joins_stays : (f : Value) (b : Tree) → IsKnown old f → ((ms : Trees) → b ≡ Union ms → EachTree (HasBase old) ms) → joins new f b ≡ joins old f b
+  joins_stays : (f : Value) (b : Tree) → IsKnown old f → ((ms : Trees) → b ≡ Union ms → EachTree (HasBase old) ms) →
+      joins new f b ≡ joins old f b
   joins_stays f (Union ms) k h = joins_union f ms k (h ms refl)
   joins_stays f (Scalar w) k h = refl
   joins_stays f (Pointer t) k h = refl
@@ -135,7 +136,8 @@ module _ (old new : Store) (v : IsStore new) (grows : Extends (record old { list
       let to = numeric_stays (Of t) k.type in
       ap₂ (λ a b. a || b || recasts f t) rows (ap₂ (λ a b. a && b) from to)
 
-  one_verdict : (from : Ty) (to : ℕ) → IsIn old from → to < length old.rows → AreKnown old (value_at old from) (type_at old to) → IsOneVerdict old new from to
+  one_verdict : (from : Ty) (to : ℕ) → IsIn old from → to < length old.rows → AreKnown old (value_at old from) (type_at old to) →
+      IsOneVerdict old new from to
   one_verdict from to in_old within k =
       let value = value_stays from in_old in
       let type = type_stays to within in

@@ -29,7 +29,8 @@ below n is k i h l e = subst (λ m. m < n) (sym e) (AllBelow-at n is k i h l)
 pub IsUnion-type : (s : Store) (t : ℕ) (ts : Trees) → t < length s.rows → type_at s t ≡ Union ts → IsUnion s t
 IsUnion-type s t ts h e = (ts, tree_at-type s t h ∙ ap Some e)
 
-all_among-subset : (s : Store) (a b : ℕ) (r : Bool) (ts us : Trees) → a < length s.rows → b < length s.rows → type_at s a ≡ Union ts → type_at s b ≡ Union us
+all_among-subset : (s : Store) (a b : ℕ) (r : Bool) (ts us : Trees) → a < length s.rows → b < length s.rows → type_at s a ≡ Union ts →
+    type_at s b ≡ Union us
     → IsTrue r ↔ HoldsMembers s a b → r ≡ all_among ts us
 all_among-subset s a b r ts us l m e g h = by r refl (all_among ts us) refl
   where
@@ -57,7 +58,8 @@ all_among-subset s a b r ts us l m e g h = by r refl (all_among ts us) refl
         absurd cc
     by false f false k = refl
 
-pub is_part-subset : (s : Store) (from : Ty) (f b u : ℕ) (ts : Trees) (r : Bool) → from ≡ ty.Of f → Some (type_at s b) ≡ base s (type_at s f) → type_at s b ≡ Union ts → b < length s.rows
+pub is_part-subset : (s : Store) (from : Ty) (f b u : ℕ) (ts : Trees) (r : Bool) → from ≡ ty.Of f →
+    Some (type_at s b) ≡ base s (type_at s f) → type_at s b ≡ Union ts → b < length s.rows
     → IsUnion s u → IsTrue r ↔ HoldsMembers s b u → r ≡ is_part s (value_at s from) (members_of (type_at s u))
 is_part-subset s from f b u ts r e g h l union subset =
     let there : type_at s u ≡ Union union.0 = get_or_from_slice_get (trees s.rows) u (Union union.0) (Scalar keyword.Void) union.1 in

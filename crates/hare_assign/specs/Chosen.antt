@@ -24,15 +24,17 @@ first_of s p is = find (λ i. p (type_at s i)) is
 abbrev pub only_of : Store → (Tree → Bool) → List ℕ → Option ℕ
 only_of s p is = if only_one p (types_at s is) then first_of s p is else None
 
--- The member that a value becomes: its own type; or the default type of a number; or else the only member with an integer type as its base that
--- holds the number; or the only one to which the value goes as a pointer, as null or as a slice.
+-- The member that a value becomes: its own type; or the default type of a number; or else the only member with an integer type as its base
+-- that holds the number; or the only one to which the value goes as a pointer, as null or as a slice.
 abbrev pub member_for : Store → Value → List ℕ → Option ℕ
-member_for s f is = option_or (first_of s (is_same f) is) (option_or (first_of s (is_its_default f) is) (option_or (only_of s (is_const s f) is) (only_of s (is_lone s f) is)))
+member_for s f is = option_or (first_of s (is_same f) is)
+    (option_or (first_of s (is_its_default f) is) (option_or (only_of s (is_const s f) is) (only_of s (is_lone s f) is)))
 
--- The first member to which the value goes: as its own type; or as the default type of a number; or as an integer type that holds the number; or as
--- a pointer, as null or as a slice. Where the union admits the value, this is the member that it becomes.
+-- The first member to which the value goes: as its own type; or as the default type of a number; or as an integer type that holds the
+-- number; or as a pointer, as null or as a slice. Where the union admits the value, this is the member that it becomes.
 abbrev pub first_member : Store → Value → List ℕ → Option ℕ
-first_member s f is = option_or (first_of s (is_same f) is) (option_or (first_of s (is_its_default f) is) (option_or (first_of s (is_const s f) is) (first_of s (is_lone s f) is)))
+first_member s f is = option_or (first_of s (is_same f) is)
+    (option_or (first_of s (is_its_default f) is) (option_or (first_of s (is_const s f) is) (first_of s (is_lone s f) is)))
 
 -- that of the members of the union that the type comes to
 abbrev pub first_choice : Store → Ty → ℕ → Option ℕ
@@ -51,7 +53,8 @@ pub record IsChosen (s : Store) (from : Ty) (to : ℕ) (c : Coercion) : Type 0 w
   pub goes : coercion s from member ≡ Some c
   pub admits : is_union s (value_at s from) (type_at s to) ≡ true
 
--- No member is chosen: where the type comes to a union that admits the value, the value is of a union itself whose members all are members, and
--- keeps the member that it has.
+-- No member is chosen: where the type comes to a union that admits the value, the value is of a union itself whose members all are members,
+-- and keeps the member that it has.
 abbrev pub KeepsMember : Store → Ty → ℕ → Type 0
-KeepsMember s from to = (ts : Trees) → base s (type_at s to) ≡ Some (Union ts) → joins s (value_at s from) (Union ts) ≡ true → is_part s (value_at s from) ts ≡ true
+KeepsMember s from to = (ts : Trees) → base s (type_at s to) ≡ Some (Union ts) → joins s (value_at s from) (Union ts) ≡ true →
+    is_part s (value_at s from) ts ≡ true

@@ -1,5 +1,5 @@
 -- A type of which the bytes are known has a size, and holds by value no name that is not defined.
-use Rattle.std.proofs.Common.{◌≡◌, ℕ, true, List, ◌∷◌, Option, Some, None, refl, ap, subst, ◌⊎◌, inl, inr}
+use Rattle.std.proofs.Common.{◌≡◌, ℕ, ◌*◌, true, List, ◌∷◌, Option, Some, None, refl, ap, subst, ◌⊎◌, inl, inr}
 use Rattle.std.specs.Prelude.{Contains, option_map, option_and_then, is_some, IfSome}
 use Rattle.std.proofs.lemmas.List.Elements.{Contains-append_cases}
 use Rattle.hare_types.specs.declared.extent.Extent.{Extent}
@@ -11,7 +11,6 @@ use Rattle.hare_types.specs.Store.{Store, tree_at, definition_of, meaning_of}
 use Rattle.hare_types.specs.Sound.{IsStore}
 use Rattle.hare_types.specs.Kept.{LiesIn, told}
 use Rattle.hare_types.specs.Layout.{scalar_extent, fields_extent, union_extent, extent_with, extents_with, HasExtent}
-use Rattle.hare_layout.specs.Small.{array_extent}
 use Rattle.hare_known.proofs.FollowLemmas.{mapped, chained, one_held, none_held, Sizes, no_way, sized_names, here}
 
 abbrev IsAny : Extent → Type 0
@@ -28,7 +27,9 @@ mutual
   bytes_spread named (Pointer t) x e d h = absurd (none_held d h)
   bytes_spread named (Nullable t) x e d h = absurd (none_held d h)
   bytes_spread named (Slice t) x e d h = absurd (none_held d h)
-  bytes_spread named (Array n t) x e d h = let k = mapped (array_extent n) (extent_with named t) x e in bytes_spread named t k.0 k.1 d h
+  bytes_spread named (Array n t) x e d h =
+      let k = mapped (λ y. record { size = n * y.size; align = y.align }) (extent_with named t) x e in
+      bytes_spread named t k.0 k.1 d h
   bytes_spread named (Struct ns ts) x e d h = let k = mapped fields_extent (extents_with named ts) x e in all_spread named ts k.0 k.1 d h
   bytes_spread named (Tuple ts) x e d h = let k = mapped fields_extent (extents_with named ts) x e in all_spread named ts k.0 k.1 d h
   bytes_spread named (Union ts) x e d h = let k = mapped union_extent (extents_with named ts) x e in all_spread named ts k.0 k.1 d h

@@ -15,16 +15,19 @@ use Rattle.hare_types.specs.Store.{Store, tree_at, definition_of, meaning_of, Ex
 use Rattle.hare_types.specs.Sound.{IsStore}
 use Rattle.hare_types.specs.Kept.{LiesIn, IsToldOf}
 use Rattle.hare_types.specs.Layout.{extent_with, HasExtent}
+use Rattle.hare_types.specs.ByIds.{extent_at}
 use Rattle.hare_types.proofs.CallerLemmas.{tree_at-Extends}
 use Rattle.hare_types.proofs.DefinitionLemmas.{meaning_kept}
 use Rattle.hare_types.proofs.GrowthLemmas.{extent_with-more, following-more}
+use Rattle.hare_types.proofs.IdLemmas.{extent_tells}
 use Rattle.hare_layout.specs.declared.spelled.Spelled.{Spelled}
 use Rattle.hare_layout.specs.declared.reduce.Reduced.{Reduced}
 use Rattle.hare_layout.specs.declared.reduce.Reduced.TheVariants.{Known, Fresh}
+use Rattle.hare_layout.specs.Small.{IsSmall}
 use Rattle.hare_layout.specs.Reduction.{written, place_of, AreLeft, type_of, IsReducedTo}
 use Rattle.hare_layout.specs.Admission.{Check, Spreading, Sized, Inhabited, Narrow, Small, PassesAll, IsFirstOf, IsTooLarge, IsFault, IsAdmitted, StopsAt, TellsFault, Fails, checks}
 use Rattle.hare_layout.specs.Reduced.{IsReduction, StopsEarly, IsHere, tree_of_reduced, IsLarge}
-use Rattle.hare_layout.proofs.CallerLemmas.{one_extent}
+use Rattle.hare_layout.proofs.GrowthLemmas.{one_extent}
 use Rattle.hare_layout.proofs.ReduceLemmas.{one_left}
 use Rattle.hare_layout.proofs.SpreadLemmas.{tree_at-id, id-tree_at}
 
@@ -119,7 +122,8 @@ module _ (old new : Store) (v : IsStore old) (rest : new ≡ record old { rows =
   meaning_back : (d : ℕ) (u : Tree) → meaning_of new d ≡ Some u → meaning_of old d ≡ Some u
   meaning_back d u e =
       let definitions : definition_of new d ≡ definition_of old d = ap (λ s. definition_of s d) rest in
-      sym (ap (option_and_then (tree_at new)) definitions ∙ meaning_kept old.rows new.rows (tree_at-Extends old new grows) (definition_of old d) (v.defined_within d)) ∙ e
+      sym (ap (option_and_then (tree_at new)) definitions ∙ meaning_kept old.rows new.rows (tree_at-Extends old new grows)
+      (definition_of old d) (v.defined_within d)) ∙ e
 
   pub small_fresh : (q : Reduced) (r : Row) (t : ℕ) → q ≡ Fresh r → tree_at new t ≡ Some (tree_of (trees old.rows) r)
       → ¬ IsLarge old (tree_of_reduced old q) → (x : Extent) → LiesIn new t x → x.size ≤ 67108864
@@ -129,6 +133,11 @@ module _ (old new : Store) (v : IsStore old) (rest : new ≡ record old { rows =
       let tree : h.0 ≡ tree_of_reduced old q = same ∙ ap (tree_of_reduced old) (sym e) in
       let back = following-more extent_with extent_with-more (meaning_of new) (meaning_of old) meaning_back h.2.0 h.0 x h.2.1 in
       not_large old (tree_of_reduced old q) x small (subst (λ u. HasExtent old u x) tree (h.2.0, back))
+
+-- such a type is small where its extent is known
+pub fits : (s : Store) → IsStore s → (t : ℕ) → ((x : Extent) → LiesIn s t x → x.size ≤ 67108864) → (x : Extent) → extent_at s t ≡ Some x
+    → IsSmall s t
+fits s v t low x e = record { extent = x; at = e; few = low x ((extent_tells s v t x).0 e) }
 
 -- ---- the checks
 

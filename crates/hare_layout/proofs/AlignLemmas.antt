@@ -76,7 +76,11 @@ fields_aligned : (xs : List Extent) → AreAligned xs → IsAligned (fields_exte
 fields_aligned xs h = record { align = greatest_align-alignment xs h; size = rounded _ (greatest_align xs) }
 
 union_aligned : (xs : List Extent) → AreAligned xs → IsAligned (union_extent xs)
-union_aligned xs h = record { align = greater 4 (greatest_align xs) four (greatest_align-alignment xs h); size = rounded _ (max 4 (greatest_align xs)) }
+union_aligned xs h = record {
+  align = greater 4 (greatest_align xs) four (greatest_align-alignment xs h);
+  size = rounded _
+      (max 4 (greatest_align xs));
+}
 
 items_aligned : (n : ℕ) (x : Extent) → IsAligned x → IsAligned (record { size = n * x.size; align = x.align })
 items_aligned n x h = record { align = h.align; size = through (n * x.size) x.align x.size (n, refl) h.size }

@@ -1,15 +1,10 @@
 pub mod AdmitLemmas
 pub mod AlignLemmas
 pub mod AscendingLemmas
-pub mod BaseLemmas
-pub mod BaseOfLemmas
-pub mod CallerLemmas
-pub mod ExtentLemmas
 pub mod GrowthLemmas
 pub mod LeftLemmas
 pub mod MeansLemmas
 pub mod MemberLemmas
-pub mod NamesLemmas
 pub mod OffsetLemmas
 pub mod OrderLemmas
 pub mod PartsLemmas
@@ -19,4 +14,3 @@ pub mod SizedLemmas
 pub mod SmallLemmas
 pub mod SpreadLemmas
 pub mod StableLemmas
-pub mod StoreLemmas

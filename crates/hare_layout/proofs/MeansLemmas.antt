@@ -19,8 +19,7 @@ use Rattle.hare_types.proofs.TreeLemmas.{IsWithin-le}
 use Rattle.hare_layout.specs.Offsets.{HoldsFields, StartsAt, PayloadStartsAt, OffsetsMean}
 use Rattle.hare_layout.proofs.AlignLemmas.{mapped}
 use Rattle.hare_layout.proofs.PlacesLemmas.{then}
-use Rattle.hare_layout.proofs.SpreadLemmas.{tree_at-id, id-tree_at}
-use Rattle.hare_layout.proofs.StableLemmas as stable
+use Rattle.hare_layout.proofs.SpreadLemmas.{tree_at-id, id-tree_at, base_stands}
 
 module _ (s : Store) (v : IsStore s) where
   -- the trees of these ids
@@ -55,7 +54,7 @@ module _ (s : Store) (v : IsStore s) where
 
   -- ---- rows
 
-  row_within : (j : ℕ) (r : Row) → row_at s j ≡ Some r → IsWithin (length s.rows) r
+  pub row_within : (j : ℕ) (r : Row) → row_at s j ≡ Some r → IsWithin (length s.rows) r
   row_within j r e = IsWithin-le j (length s.rows) r (omega (arith, slice_get_within s.rows j r e)) (v.rows_sound.within j r e)
 
   -- the fields of a row, and of its tree
@@ -76,7 +75,7 @@ module _ (s : Store) (v : IsStore s) where
   holds_fields (row.Error i) is w e = absurd cc
   holds_fields (row.Named d) is w e = absurd cc
 
-  fields_held : (r : Row) (ts : Trees) → IsWithin (length s.rows) r → HoldsFields (tree_of (trees s.rows) r) ts
+  pub fields_held : (r : Row) (ts : Trees) → IsWithin (length s.rows) r → HoldsFields (tree_of (trees s.rows) r) ts
       → (is : List ℕ) × (fields_of r ≡ Some is) × (Parts is ≡ ts) × AllBelow (length s.rows) is
   fields_held (row.Struct fs) ts w h =
       let same = sym (parts_of_struct (trees s.rows) fs) ∙ h in
@@ -133,10 +132,10 @@ module _ (s : Store) (v : IsStore s) where
       let same : h.1 ≡ tree_of (trees s.rows) r = cc in
       (h.0, h.2, subst (IsBase s h.0) same h.4)
 
-  row_base : (t : ℕ) (u b : Tree) → tree_at s t ≡ Some u → IsBase s u b
+  pub row_base : (t : ℕ) (u b : Tree) → tree_at s t ≡ Some u → IsBase s u b
       → (j : ℕ) × (r : Row) × (base_at s t ≡ Some j) × (row_at s j ≡ Some r) × (tree_of (trees s.rows) r ≡ b)
   row_base t u b e h =
-      let j = stable.base_at s v h.0 u b t e h.1 in
+      let j = base_stands s v h.0 u b t e h.1 in
       let r = row_of_tree s j.0 b j.1 in
       let both = sym (tree_at_row s v j.0 r.0 r.1) ∙ j.1 in
       (j.0, r.0, (base_tells s v t j.0).1 (u, b, e, j.1, h), r.1, cc)
@@ -160,7 +159,8 @@ module _ (s : Store) (v : IsStore s) where
       let fields : fields_at s t ≡ Some is.0 = ap (option_and_then (λ i. option_and_then fields_of (row_at s i))) j.2
       ∙ ap (option_and_then fields_of) j.3 ∙ is.1 in
       let known = have_known is.0 xs is.3 (subst (λ ws. HaveExtents s ws xs) (sym is.2) extents) in
-      ap (λ p. option_and_then (λ ys. field_start 0 ys k) (option_and_then (all_known (extent_at s)) p)) fields ∙ ap (option_and_then (λ ys. field_start 0 ys k)) known ∙ start
+      ap (λ p. option_and_then (λ ys. field_start 0 ys k) (option_and_then (all_known (extent_at s)) p)) fields ∙ ap
+      (option_and_then (λ ys. field_start 0 ys k)) known ∙ start
 
   -- ---- payloads
 
@@ -181,7 +181,12 @@ module _ (s : Store) (v : IsStore s) where
       let members : members_at s t ≡ Some is.0 = ap (option_and_then (λ i. option_and_then members_of (row_at s i))) j.2
       ∙ ap (option_and_then members_of) j.3 ∙ is.1 in
       let known = have_known is.0 xs is.3 (subst (λ ws. HaveExtents s ws xs) (sym is.2) extents) in
-      ap (λ p. option_map payload_start (option_and_then (all_known (extent_at s)) p)) members ∙ ap (option_map payload_start) known ∙ ap Some start
+      ap (λ p. option_map payload_start (option_and_then (all_known (extent_at s)) p)) members ∙ ap (option_map payload_start) known ∙ ap
+      Some start
 
   pub offsets_mean : OffsetsMean s
-  offsets_mean = record { field = λ t k o. (field_starts t k o, start_field t k o); payload = λ t o. (payload_starts t o, start_payload t o) }
+  offsets_mean = record {
+    field = λ t k o. (field_starts t k o, start_field t k o);
+    payload = λ t o.
+        (payload_starts t o, start_payload t o);
+  }

@@ -48,16 +48,22 @@ module _ (s : Store) (v : IsStore s) where
       let count = length-trees s.rows in
       slice_get-get_or (trees s.rows) i (Scalar keyword.Void) (omega arith)
 
-  one_to_tree : (i : ℕ) (js : List ℕ) → list_any (λ j. j == i) js ≡ true → SomeTree (λ u. Same (tree_in (trees s.rows) i) u) (trees_of (map (tree_in (trees s.rows)) js))
+  one_to_tree : (i : ℕ) (js : List ℕ) → list_any (λ j. j == i) js ≡ true →
+      SomeTree (λ u. Same (tree_in (trees s.rows) i) u) (trees_of (map (tree_in (trees s.rows)) js))
   one_to_tree i [] e = absurd cc
   one_to_tree i (j ∷ js) e = by (one_to_tree i js) (nat_eq j i) refl e
     where
-      by : (list_any (λ j. j == i) js ≡ true → SomeTree (λ u. Same (tree_in (trees s.rows) i) u) (trees_of (map (tree_in (trees s.rows)) js))) → (b : Bool) → nat_eq j i ≡ b → (b || list_any (λ j. j == i) js) ≡ true
-          → Same (tree_in (trees s.rows) i) (tree_in (trees s.rows) j) ⊎ SomeTree (λ u. Same (tree_in (trees s.rows) i) u) (trees_of (map (tree_in (trees s.rows)) js))
-      by ih true g h = inl (subst (λ n. Same (tree_in (trees s.rows) i) (tree_in (trees s.rows) n)) (sym ((unsigned_Decides j i).0 g)) (Same-refl (tree_in (trees s.rows) i)))
+      by : (list_any (λ j. j == i) js ≡ true →
+          SomeTree (λ u. Same (tree_in (trees s.rows) i) u) (trees_of (map (tree_in (trees s.rows)) js))) → (b : Bool) → nat_eq j i ≡ b →
+          (b || list_any (λ j. j == i) js) ≡ true
+          → Same (tree_in (trees s.rows) i) (tree_in (trees s.rows) j) ⊎ SomeTree (λ u. Same (tree_in (trees s.rows) i) u)
+          (trees_of (map (tree_in (trees s.rows)) js))
+      by ih true g h = inl (subst (λ n. Same (tree_in (trees s.rows) i) (tree_in (trees s.rows) n)) (sym ((unsigned_Decides j i).0 g))
+          (Same-refl (tree_in (trees s.rows) i)))
       by ih false g h = inr (ih h)
 
-  one_to_id : (i : ℕ) → i < length s.rows → (js : List ℕ) → AllBelow (length s.rows) js → SomeTree (λ u. Same (tree_in (trees s.rows) i) u) (trees_of (map (tree_in (trees s.rows)) js)) → list_any (λ j. j == i) js ≡ true
+  one_to_id : (i : ℕ) → i < length s.rows → (js : List ℕ) → AllBelow (length s.rows) js →
+      SomeTree (λ u. Same (tree_in (trees s.rows) i) u) (trees_of (map (tree_in (trees s.rows)) js)) → list_any (λ j. j == i) js ≡ true
   one_to_id i l [] below h = absurd h
   one_to_id i l (j ∷ js) below (inl h) =
       let same : i ≡ j = one_id s v i j (tree_in (trees s.rows) i) (tree_in (trees s.rows) j) (tree_at-in i l) (tree_at-in j below.0) h in
@@ -68,16 +74,20 @@ module _ (s : Store) (v : IsStore s) where
       later true e = refl
       later false e = e
 
-  all_to_trees : (is js : List ℕ) → all_among is js ≡ true → AllAmong (trees_of (map (tree_in (trees s.rows)) is)) (trees_of (map (tree_in (trees s.rows)) js))
+  all_to_trees : (is js : List ℕ) → all_among is js ≡ true →
+      AllAmong (trees_of (map (tree_in (trees s.rows)) is)) (trees_of (map (tree_in (trees s.rows)) js))
   all_to_trees [] js e = tt
   all_to_trees (i ∷ is) js e = by (all_to_trees is js) (list_any (λ j. j == i) js) refl e
     where
-      by : (all_among is js ≡ true → AllAmong (trees_of (map (tree_in (trees s.rows)) is)) (trees_of (map (tree_in (trees s.rows)) js))) → (b : Bool) → list_any (λ j. j == i) js ≡ b → (b && all_among is js) ≡ true
-          → SomeTree (λ u. Same (tree_in (trees s.rows) i) u) (trees_of (map (tree_in (trees s.rows)) js)) × AllAmong (trees_of (map (tree_in (trees s.rows)) is)) (trees_of (map (tree_in (trees s.rows)) js))
+      by : (all_among is js ≡ true → AllAmong (trees_of (map (tree_in (trees s.rows)) is)) (trees_of (map (tree_in (trees s.rows)) js))) →
+          (b : Bool) → list_any (λ j. j == i) js ≡ b → (b && all_among is js) ≡ true
+          → SomeTree (λ u. Same (tree_in (trees s.rows) i) u) (trees_of (map (tree_in (trees s.rows)) js)) ×
+          AllAmong (trees_of (map (tree_in (trees s.rows)) is)) (trees_of (map (tree_in (trees s.rows)) js))
       by ih true g h = (one_to_tree i js g, ih h)
       by ih false g h = absurd cc
 
-  all_to_ids : (is js : List ℕ) → AllBelow (length s.rows) is → AllBelow (length s.rows) js → AllAmong (trees_of (map (tree_in (trees s.rows)) is)) (trees_of (map (tree_in (trees s.rows)) js)) → all_among is js ≡ true
+  all_to_ids : (is js : List ℕ) → AllBelow (length s.rows) is → AllBelow (length s.rows) js →
+      AllAmong (trees_of (map (tree_in (trees s.rows)) is)) (trees_of (map (tree_in (trees s.rows)) js)) → all_among is js ≡ true
   all_to_ids [] js a b h = refl
   all_to_ids (i ∷ is) js a b h =
       let first = one_to_id i a.0 js b h.0 in
@@ -116,16 +126,21 @@ union_below s v t is e =
     let far = slice_get_within s.rows t (row.Union is) e in
     AllBelow-le t (length s.rows) (omega arith) is (v.rows_sound.within t (row.Union is) e)
 
-pub members-decide : (s : Store) → IsStore s → (a b : ℕ) (is js : List ℕ) → slice_get s.rows a ≡ Some (row.Union is) → slice_get s.rows b ≡ Some (row.Union js) → (all_among is js ≡ true) ↔ HoldsMembers s a b
+pub members-decide : (s : Store) → IsStore s → (a b : ℕ) (is js : List ℕ) → slice_get s.rows a ≡ Some (row.Union is) →
+    slice_get s.rows b ≡ Some (row.Union js) → (all_among is js ≡ true) ↔ HoldsMembers s a b
 members-decide s v a b is js e g =
     let first = tree_at_row s v a (row.Union is) e in
-    let second = tree_at_row s v b (row.Union js) g in
-    (λ h. (trees_of (map (tree_in (trees s.rows)) is), trees_of (map (tree_in (trees s.rows)) js), first, second, all_to_trees s v is js h), λ h. back h first second)
+    let second = tree_at_row s v b (row.Union js) g in (
+      λ h. (trees_of (map (tree_in (trees s.rows)) is), trees_of (map (tree_in (trees s.rows)) js), first, second, all_to_trees s v is js h),
+      λ h. back h first second,
+    )
   where
-    back : (h : HoldsMembers s a b) → tree_at s a ≡ Some (tree_of (trees s.rows) (row.Union is)) → tree_at s b ≡ Some (tree_of (trees s.rows) (row.Union js)) → all_among is js ≡ true
+    back : (h : HoldsMembers s a b) → tree_at s a ≡ Some (tree_of (trees s.rows) (row.Union is)) →
+        tree_at s b ≡ Some (tree_of (trees s.rows) (row.Union js)) → all_among is js ≡ true
     back h first second =
         let one = sym h.2 ∙ first in
         let two = sym h.3 ∙ second in
         let ts : h.0 ≡ trees_of (map (tree_in (trees s.rows)) is) = cc in
         let us : h.1 ≡ trees_of (map (tree_in (trees s.rows)) js) = cc in
-        all_to_ids s v is js (union_below s v a is e) (union_below s v b js g) (subst (λ x. AllAmong x (trees_of (map (tree_in (trees s.rows)) js))) ts (subst (λ x. AllAmong h.0 x) us h.4))
+        all_to_ids s v is js (union_below s v a is e) (union_below s v b js g)
+        (subst (λ x. AllAmong x (trees_of (map (tree_in (trees s.rows)) js))) ts (subst (λ x. AllAmong h.0 x) us h.4))

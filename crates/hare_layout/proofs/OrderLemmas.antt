@@ -27,21 +27,25 @@ none_equal i (j ∷ js) h = ap (λ b. b || list_any (λ j. j == i) js) (differ i
 not_sought : (u : ℕ) (is js : List ℕ) → AllAbove u is → all_among is (u ∷ js) ≡ all_among is js
 not_sought u [] js h = refl
 not_sought u (i ∷ is) js h =
-    ap (λ b. (b || list_any (λ j. j == i) js) && all_among is (u ∷ js)) (differ i u (λ e. omega (arith, e, h.0))) ∙ ap (λ b. list_any (λ j. j == i) js && b) (not_sought u is js h.1)
+    ap (λ b. (b || list_any (λ j. j == i) js) && all_among is (u ∷ js)) (differ i u (λ e. omega (arith, e, h.0))) ∙ ap
+    (λ b. list_any (λ j. j == i) js && b) (not_sought u is js h.1)
 
 -- the next of the others is the next that is looked for
 among-next : (i : ℕ) (is js : List ℕ) → Ascends (i ∷ is) → all_among (i ∷ is) (i ∷ js) ≡ all_among is js
-among-next i is js h = ap (λ b. (b || list_any (λ j. j == i) js) && all_among is (i ∷ js)) ((unsigned_Decides i i).1 refl) ∙ not_sought i is js h.0
+among-next i is js h = ap (λ b. (b || list_any (λ j. j == i) js) && all_among is (i ∷ js)) ((unsigned_Decides i i).1 refl) ∙ not_sought i is
+    js h.0
 
 -- it is another one
-among-other : (i u : ℕ) (is js : List ℕ) → Ascends (i ∷ is) → Ascends (u ∷ js) → ¬ (i ≡ u) → all_among (i ∷ is) (u ∷ js) ≡ all_among (i ∷ is) js
+among-other : (i u : ℕ) (is js : List ℕ) → Ascends (i ∷ is) → Ascends (u ∷ js) → ¬ (i ≡ u) →
+    all_among (i ∷ is) (u ∷ js) ≡ all_among (i ∷ is) js
 among-other i u is js h k other = by (cases_order i u)
   where
     by : (i ≡ u) ⊎ ((i < u) ⊎ (u < i)) → all_among (i ∷ is) (u ∷ js) ≡ all_among (i ∷ is) js
     by (inl e) = absurd (other e)
     by (inr (inl l)) =
         let far = none_equal i js (AllAbove-less i u js l k.0) in
-        ap (λ b. (b || list_any (λ j. j == i) js) && all_among is (u ∷ js)) (differ i u other) ∙ ap (λ b. b && all_among is (u ∷ js)) far ∙ sym (ap (λ b. b && all_among is js) far)
+        ap (λ b. (b || list_any (λ j. j == i) js) && all_among is (u ∷ js)) (differ i u other) ∙ ap (λ b. b && all_among is (u ∷ js)) far ∙
+        sym (ap (λ b. b && all_among is js) far)
     by (inr (inr l)) = not_sought u (i ∷ is) js (l, AllAbove-less u i is l h.0)
 
 pub Ascends-drop : (n : ℕ) (is : List ℕ) → Ascends is → Ascends (drop n is)
@@ -59,11 +63,13 @@ module _ (is : List ℕ) (found i u : ℕ) (first : Ascends is) (within : found 
   ascend = subst Ascends here (Ascends-drop found is first)
 
   pub pass-next : nat_eq i u ≡ true → (js : List ℕ) → all_among (drop found is) (u ∷ js) ≡ all_among (drop (found + 1) is) js
-  pass-next e js = ap (λ l. all_among l (u ∷ js)) here ∙ ap (λ n. all_among (i ∷ drop (found + 1) is) (n ∷ js)) (sym ((unsigned_Decides i u).0 e)) ∙ among-next i (drop (found + 1) is) js ascend
+  pass-next e js = ap (λ l. all_among l (u ∷ js)) here ∙ ap (λ n. all_among (i ∷ drop (found + 1) is) (n ∷ js))
+      (sym ((unsigned_Decides i u).0 e)) ∙ among-next i (drop (found + 1) is) js ascend
 
   pub pass-other : nat_eq i u ≡ false → (js : List ℕ) → Ascends (u ∷ js) → all_among (drop found is) (u ∷ js) ≡ all_among (drop found is) js
   pass-other e js second =
-      ap (λ l. all_among l (u ∷ js)) here ∙ among-other i u (drop (found + 1) is) js ascend second other ∙ sym (ap (λ l. all_among l js) here)
+      ap (λ l. all_among l (u ∷ js)) here ∙ among-other i u (drop (found + 1) is) js ascend second other ∙ sym
+      (ap (λ l. all_among l js) here)
     where
       other : ¬ (i ≡ u)
       other s = true≢false (sym ((unsigned_Decides i u).1 s) ∙ e)

@@ -1,104 +1,84 @@
--- A type that is not too large is small where its parts are.
-use Rattle.std.proofs.Common.{◌≡◌, ℕ, suc, ◌≤◌, Bool, true, false, ltb, cond, List, [], ◌∷◌, length, map, Option, Some, None, refl, ap, ap₂, sym, ◌∙◌, arith}
+-- A type is small where it is not too large, and its parts are small too.
+use Rattle.std.proofs.Common.{◌≡◌, ℕ, zero, suc, ◌+◌, ◌*◌, ◌≤◌, max, List, map, Some, refl, ap, sym, ◌∙◌, subst, arith, ◌⊎◌, inl, inr}
 use Rattle.std.specs.Prelude.{slice_get, option_map, option_and_then}
+use Rattle.std.proofs.lemmas.Option.{slice_get_within}
 use Rattle.hare_types.specs.declared.extent.Extent.{Extent}
 use Rattle.hare_types.specs.declared.row.Row.{Row}
 use Rattle.hare_types.specs.declared.row.Row.TheVariants as row
-use Rattle.hare_types.specs.Trees.{Named}
-use Rattle.hare_types.specs.Rows.{tree_of, trees}
-use Rattle.hare_types.specs.Store.{Store, tree_at, definition_of, meaning_of}
+use Rattle.hare_types.specs.Store.{Store, definition_of}
 use Rattle.hare_types.specs.Sound.{IsStore}
 use Rattle.hare_types.specs.Kept.{all_known}
-use Rattle.hare_types.specs.Layout.{following, fields_extent, union_extent}
+use Rattle.hare_types.specs.Layout.{greatest_size, greatest_align, fields_end, payload_start, fields_extent, union_extent}
 use Rattle.hare_types.specs.Waiting.{NeedsRow}
 use Rattle.hare_types.specs.ByIds.{row_at, bytes_over, extent_at}
-use Rattle.hare_types.proofs.CallerLemmas.{tree_at_row}
-use Rattle.hare_types.proofs.IdLemmas.{extent-row, extent_tells, row_of_tree}
-use Rattle.hare_layout.specs.Small.{fitting, array_extent, small_with, smalls_with, IsSmall, name_extents, extent_by, extents_by}
-use Rattle.hare_layout.specs.Whole.{IsPart}
-use Rattle.hare_layout.proofs.ExtentLemmas.{extent_by-following, struct-parts}
-use Rattle.hare_layout.proofs.AlignLemmas.{mapped}
-use Rattle.hare_layout.proofs.StoreLemmas.{small_within, extent_by-small, extent_by_lies}
+use Rattle.hare_types.proofs.IdLemmas.{extent-row, extent_tells}
+use Rattle.hare_layout.specs.Small.{IsSmall}
+use Rattle.hare_layout.specs.Whole.{IsSmallWith}
+use Rattle.hare_layout.proofs.AlignLemmas.{mapped, AreAligned, low, four, greater, greatest_align-alignment, all_aligned, types_are_aligned}
+use Rattle.hare_layout.proofs.PlacesLemmas.{round_up-le, start-within, some_start, size-le, known-get}
 
-fits : (x : Extent) → x.size ≤ 67108864 → fitting x ≡ Some x
-fits x h = by (ltb 67108864 x.size) refl
-  where
-    by : (b : Bool) → ltb 67108864 x.size ≡ b → cond b None (Some x) ≡ Some x
-    by true e = absurd (grind (arith, e))
-    by false e = refl
+-- ---- wholes are no smaller than their parts
 
-module _ (s : Store) (v : IsStore s) where
-  abbrev names : ℕ
-  names = length s.declared
+pub field-le : (xs : List Extent) (k : ℕ) (x : Extent) → AreAligned xs → slice_get xs k ≡ Some x → x.size ≤ (fields_extent xs).size
+field-le xs k x h e =
+    let start = some_start 0 xs k (slice_get_within xs k x e) in
+    let end = start-within 0 xs k start.0 x h start.1 e in
+    let round = round_up-le (fields_end 0 xs) (greatest_align xs) (low (greatest_align xs) (greatest_align-alignment xs h)) in
+    omega arith
 
-  -- a small type has one extent
-  small_extent : (p : ℕ) → IsSmall s p → (y : Extent) × (extent_by s names p ≡ Some y) × (extent_at s p ≡ Some y)
-  small_extent p h =
-      let e = extent_by-small s v p h in
-      (h.1, e, (extent_tells s v p h.1).1 (extent_by_lies s names p h.1 (small_within s p h) e))
+member-le : (xs : List Extent) (k : ℕ) (x : Extent) → AreAligned xs → slice_get xs k ≡ Some x → x.size ≤ (union_extent xs).size
+member-le xs k x h e =
+    let align = greater 4 (greatest_align xs) four (greatest_align-alignment xs h) in
+    let round = round_up-le (payload_start xs + greatest_size xs) (max 4 (greatest_align xs)) (low (max 4 (greatest_align xs)) align) in
+    omega (arith, size-le xs k x e)
 
-  same_extent : (p : ℕ) → IsSmall s p → (x : Extent) → extent_at s p ≡ Some x → extent_by s names p ≡ Some x
-  same_extent p h x e =
-      let k = small_extent p h in
-      k.1 ∙ sym k.2 ∙ e
+item-le : (n m : ℕ) → m ≤ suc n * m
+item-le n m = omega arith
 
-  same_extents : (is : List ℕ) → ((k p : ℕ) → slice_get is k ≡ Some p → IsSmall s p) → (xs : List Extent)
-      → all_known (extent_at s) is ≡ Some xs → extents_by s names is ≡ Some xs
-  same_extents [] small xs e = e
-  same_extents (i ∷ is) small xs e = by (same_extents is (λ k p g. small (suc k) p g)) (extent_at s i) refl (all_known (extent_at s) is) refl e
-    where
-      by : ((ys : List Extent) → all_known (extent_at s) is ≡ Some ys → extents_by s names is ≡ Some ys) → (o : Option Extent)
-          → extent_at s i ≡ o
-          → (q : Option (List Extent)) → all_known (extent_at s) is ≡ q → option_and_then (λ x. option_map (λ ys. x ∷ ys) q) o ≡ Some xs
-          → extents_by s names (i ∷ is) ≡ Some xs
-      by ih None f q g h = absurd cc
-      by ih (Some x) f None g h = absurd cc
-      by ih (Some x) f (Some ys) g h =
-          ap₂ (λ o q. option_and_then (λ z. option_map (λ zs. z ∷ zs) q) o) (same_extent i (small 0 i refl) x f) (ih ys g) ∙ h
+-- ---- parts
 
-  module _ (t : ℕ) (x : Extent) (few : x.size ≤ 67108864) where
-    -- as many names are followed as are declared
-    by_names : (r : Row) → row_at s t ≡ Some r → small_with (name_extents s names) (tree_of (trees s.rows) r) ≡ Some x → IsSmall s t
-    by_names r here e = (tree_of (trees s.rows) r, x, names, tree_at_row s v t r here, sym (extent_by-following s names (tree_of (trees s.rows) r)) ∙ e)
+module _ (s : Store) (t : ℕ) (h : IsSmall s t) where
+  no_larger : (p : ℕ) (x : Extent) → extent_at s p ≡ Some x → x.size ≤ h.extent.size → IsSmall s p
+  no_larger p x e l = record { extent = x; at = e; few = omega (arith, l, h.few) }
 
-    fits_as : (y : Extent) → y ≡ x → fitting y ≡ Some x
-    fits_as y e = ap fitting e ∙ fits x few
+  part_of : (f : List Extent → Extent) → ((xs : List Extent) (k : ℕ) (x : Extent) → AreAligned xs → slice_get xs k ≡ Some x →
+      x.size ≤ (f xs).size)
+      → (is : List ℕ) (k p : ℕ) → slice_get is k ≡ Some p → option_map f (all_known (extent_at s) is) ≡ Some h.extent → IsSmall s p
+  part_of f less is k p g e =
+      let all = mapped f (all_known (extent_at s) is) h.extent e in
+      let here = known-get (extent_at s) is all.0 k p all.1 g in
+      let fits = less all.0 k here.0 (all_aligned (extent_at s) (types_are_aligned s) is all.0 all.1) here.2 in
+      no_larger p here.0 here.1 (subst (λ y. here.0.size ≤ y.size) all.2 fits)
 
-    from_parts : (f : List Extent → Extent) (is : List ℕ) → ((k p : ℕ) → slice_get is k ≡ Some p → IsSmall s p)
-        → option_map f (all_known (extent_at s) is) ≡ Some x
-        → option_and_then (λ xs. fitting (f xs)) (extents_by s names is) ≡ Some x
-    from_parts f is small e =
-        let h = mapped f (all_known (extent_at s) is) x e in
-        ap (option_and_then (λ xs. fitting (f xs))) (same_extents is small h.0 h.1) ∙ fits_as (f h.0) h.2
+  item : (n i : ℕ) → option_map (λ x. record { size = n * x.size; align = x.align }) (extent_at s i) ≡ Some h.extent
+      → row_at s t ≡ Some (row.Array n i) → IsSmall s i ⊎ (row_at s t ≡ Some (row.Array 0 i))
+  item zero i e here = inr here
+  item (suc n) i e here =
+      let y = mapped (λ x. record { size = suc n * x.size; align = x.align }) (extent_at s i) h.extent e in
+      inl (no_larger i y.0 y.1 (subst (λ z. y.0.size ≤ z.size) y.2 (item-le n y.0.size)))
 
-    small_row : (r : Row) → row_at s t ≡ Some r → bytes_over (definition_of s) (extent_at s) t r ≡ Some x
-        → ((p : ℕ) → NeedsRow s.declared r p → IsSmall s p) → IsSmall s t
-    small_row (row.Scalar k) here e small = by_names (row.Scalar k) here e
-    small_row (row.Pointer i) here e small = by_names (row.Pointer i) here e
-    small_row (row.Nullable i) here e small = by_names (row.Nullable i) here e
-    small_row (row.Slice i) here e small = by_names (row.Slice i) here e
-    small_row (row.Array n i) here e small =
-        let h = mapped (array_extent n) (extent_at s i) x e in
-        by_names (row.Array n i) here (ap (option_and_then (λ y. fitting (array_extent n y))) (same_extent i (small i refl) h.0 h.1) ∙ fits_as (array_extent n h.0) h.2)
-    small_row (row.Struct fs) here e small =
-        by_names (row.Struct fs) here
-        (ap (λ ts. option_and_then (λ xs. fitting (fields_extent xs)) (smalls_with (name_extents s names) ts)) (struct-parts (trees s.rows) fs)
-        ∙ from_parts fields_extent (map (λ f. f.ty) fs) (λ k p g. small p (k, g)) e)
-    small_row (row.Tuple is) here e small = by_names (row.Tuple is) here (from_parts fields_extent is (λ k p g. small p (k, g)) e)
-    small_row (row.Union is) here e small = by_names (row.Union is) here (from_parts union_extent is (λ k p g. small p (k, g)) e)
-    small_row (row.Error i) here e small = by_names (row.Error i) here (same_extent i (small i refl) x e)
-    small_row (row.Named d) here e small = by (definition_of s d) refl e
-      where
-        by : (o : Option ℕ) → definition_of s d ≡ o → option_and_then (extent_at s) o ≡ Some x → IsSmall s t
-        by None f g = absurd cc
-        by (Some p) f g =
-            let h = small p f in
-            let meaning : meaning_of s d ≡ Some h.0 = ap (option_and_then (tree_at s)) f ∙ h.3 in
-            (Named d, h.1, suc h.2, tree_at_row s v t (row.Named d) here, ap (option_and_then (following small_with (meaning_of s) h.2)) meaning ∙ h.4)
+  same : (i p : ℕ) → i ≡ p → extent_at s i ≡ Some h.extent → IsSmall s p
+  same i p e g = no_larger p h.extent (subst (λ n. extent_at s n ≡ Some h.extent) e g) (omega arith)
 
-pub small_from_parts : (s : Store) → IsStore s → (t : ℕ) (x : Extent) → extent_at s t ≡ Some x → x.size ≤ 67108864
-    → ((p : ℕ) → IsPart s t p → IsSmall s p) → IsSmall s t
-small_from_parts s v t x e few small =
-    let lies = (extent_tells s v t x).0 e in
-    let r = row_of_tree s t lies.0 lies.1 in
-    small_row s v t x few r.0 r.1 (sym (extent-row s t r.0 r.1) ∙ e) (λ p needs. small p (r.0, r.1, needs))
+  part : (r : Row) → row_at s t ≡ Some r → (p : ℕ) → NeedsRow s.declared r p →
+      bytes_over (definition_of s) (extent_at s) t r ≡ Some h.extent
+      → IsSmall s p ⊎ (row_at s t ≡ Some (row.Array 0 p))
+  part (row.Array n i) here p g e = subst (λ j. IsSmall s j ⊎ (row_at s t ≡ Some (row.Array 0 j))) g (item n i e here)
+  part (row.Struct fs) here p g e = inl (part_of fields_extent field-le (map (λ f. f.ty) fs) g.0 p g.1 e)
+  part (row.Tuple is) here p g e = inl (part_of fields_extent field-le is g.0 p g.1 e)
+  part (row.Union is) here p g e = inl (part_of union_extent member-le is g.0 p g.1 e)
+  part (row.Error i) here p g e = inl (same i p g e)
+  part (row.Named d) here p g e = inl (same p p refl (sym (ap (option_and_then (extent_at s)) g) ∙ e))
+  part (row.Scalar k) here p g e = absurd g
+  part (row.Pointer i) here p g e = absurd g
+  part (row.Nullable i) here p g e = absurd g
+  part (row.Slice i) here p g e = absurd g
+
+pub small_types : (s : Store) → IsStore s → (t : ℕ) → IsSmallWith s t
+small_types s v t = record {
+  size = (
+    λ h. (h.extent, (extent_tells s v t h.extent).0 h.at, h.few),
+    λ h. record { extent = h.0; at = (extent_tells s v t h.0).1 h.1; few = h.2 },
+  );
+  parts = λ h p g. part s t h g.0 g.1 p g.2 (sym (extent-row s t g.0 g.1) ∙ h.at);
+}

@@ -34,9 +34,15 @@ start-le at [] k o h e = absurd cc
 start-le at (x ∷ xs) zero o h e =
     let same : round_up at x.align ≡ o = cc in
     omega (arith, round_up-le at x.align (low x.align h.0.align), same)
-start-le at (x ∷ xs) (suc k) o h e = omega (arith, round_up-le at x.align (low x.align h.0.align), start-le (round_up at x.align + x.size) xs k o h.1 e)
+start-le at (x ∷ xs) (suc k) o h e = omega (
+  arith,
+  round_up-le at x.align (low x.align h.0.align),
+  start-le (round_up at x.align + x.size)
+      xs k o h.1 e,
+)
 
-start-within : (at : ℕ) (xs : List Extent) (k o : ℕ) (x : Extent) → AreAligned xs → field_start at xs k ≡ Some o → slice_get xs k ≡ Some x
+pub start-within : (at : ℕ) (xs : List Extent) (k o : ℕ) (x : Extent) → AreAligned xs → field_start at xs k ≡ Some o →
+    slice_get xs k ≡ Some x
     → o + x.size ≤ fields_end at xs
 start-within at [] k o x h e g = absurd cc
 start-within at (y ∷ ys) zero o x h e g =
@@ -65,14 +71,15 @@ starts-ordered at (y ∷ ys) zero (suc k) a b x h l e g f =
     let size = ap (λ z. z.size) same in
     omega (arith, start-le (round_up at y.align + y.size) ys k b h.1 f, start, size)
 starts-ordered at (y ∷ ys) (suc j) zero a b x h l e g f = absurd (omega arith)
-starts-ordered at (y ∷ ys) (suc j) (suc k) a b x h l e g f = starts-ordered (round_up at y.align + y.size) ys j k a b x h.1 (omega arith) e g f
+starts-ordered at (y ∷ ys) (suc j) (suc k) a b x h l e g f =
+    starts-ordered (round_up at y.align + y.size) ys j k a b x h.1 (omega arith) e g f
 
-some_start : (at : ℕ) (xs : List Extent) (k : ℕ) → k < length xs → (o : ℕ) × (field_start at xs k ≡ Some o)
+pub some_start : (at : ℕ) (xs : List Extent) (k : ℕ) → k < length xs → (o : ℕ) × (field_start at xs k ≡ Some o)
 some_start at [] k l = absurd (omega arith)
 some_start at (x ∷ xs) zero l = (round_up at x.align, refl)
 some_start at (x ∷ xs) (suc k) l = some_start (round_up at x.align + x.size) xs k (omega arith)
 
-size-le : (xs : List Extent) (k : ℕ) (x : Extent) → slice_get xs k ≡ Some x → x.size ≤ greatest_size xs
+pub size-le : (xs : List Extent) (k : ℕ) (x : Extent) → slice_get xs k ≡ Some x → x.size ≤ greatest_size xs
 size-le [] k x e = absurd cc
 size-le (y ∷ ys) zero x e =
     let same : y ≡ x = cc in
@@ -98,20 +105,22 @@ aligned-get (y ∷ ys) (suc k) x h e = aligned-get ys k x h.1 e
 -- the greatest alignment is a multiple of each
 greatest-multiple : (xs : List Extent) (k : ℕ) (x : Extent) → AreAligned xs → slice_get xs k ≡ Some x
     → IsMultiple (greatest_align xs) x.align
-greatest-multiple xs k x h e = divides x.align (greatest_align xs) (aligned-get xs k x h e).align (greatest_align-alignment xs h) (align-le xs k x e)
+greatest-multiple xs k x h e = divides x.align (greatest_align xs) (aligned-get xs k x h e).align (greatest_align-alignment xs h)
+    (align-le xs k x e)
 
 -- ---- parts
 
 module _ (ks : ℕ → Option Extent) where
   -- of as many types, each has its extent
-  known-get : (is : List ℕ) (xs : List Extent) (k i : ℕ) → all_known ks is ≡ Some xs → slice_get is k ≡ Some i
+  pub known-get : (is : List ℕ) (xs : List Extent) (k i : ℕ) → all_known ks is ≡ Some xs → slice_get is k ≡ Some i
       → (x : Extent) × (ks i ≡ Some x) × (slice_get xs k ≡ Some x)
   known-get [] xs k i e g = absurd cc
   known-get (j ∷ js) xs k i e g = by k g (ks j) refl (all_known ks js) refl e (known-get js)
     where
       by : (k : ℕ) → slice_get (j ∷ js) k ≡ Some i → (o : Option Extent) → ks j ≡ o → (p : Option (List Extent)) → all_known ks js ≡ p
           → option_and_then (λ x. option_map (λ ys. x ∷ ys) p) o ≡ Some xs
-          → ((ys : List Extent) (k i : ℕ) → all_known ks js ≡ Some ys → slice_get js k ≡ Some i → (x : Extent) × (ks i ≡ Some x) × (slice_get ys k ≡ Some x))
+          → ((ys : List Extent) (k i : ℕ) → all_known ks js ≡ Some ys → slice_get js k ≡ Some i → (x : Extent) × (ks i ≡ Some x) ×
+          (slice_get ys k ≡ Some x))
           → (x : Extent) × (ks i ≡ Some x) × (slice_get xs k ≡ Some x)
       by k g None f p q h ih = absurd cc
       by k g (Some x) f None q h ih = absurd cc
@@ -124,7 +133,7 @@ module _ (ks : ℕ → Option Extent) where
           let later = ih ys k i q g in
           (later.0, later.1, ap (λ l. slice_get l (suc k)) (sym same) ∙ later.2)
 
-  known-length : (is : List ℕ) (xs : List Extent) → all_known ks is ≡ Some xs → length xs ≡ length is
+  pub known-length : (is : List ℕ) (xs : List Extent) → all_known ks is ≡ Some xs → length xs ≡ length is
   known-length [] xs e =
       let same : [] ≡ xs = cc in
       ap length (sym same)
@@ -200,7 +209,8 @@ module _ (s : Store) where
     where
       of_parts : (js : List ℕ) → js ≡ is → option_map fields_extent (all_known (extent_at s) js) ≡ Some whole
           → (xs : List Extent) × (all_known (extent_at s) is ≡ Some xs) × (fields_extent xs ≡ whole)
-      of_parts js same h = subst (λ ks. (xs : List Extent) × (all_known (extent_at s) ks ≡ Some xs) × (fields_extent xs ≡ whole)) same (mapped fields_extent (all_known (extent_at s) js) whole h)
+      of_parts js same h = subst (λ ks. (xs : List Extent) × (all_known (extent_at s) ks ≡ Some xs) × (fields_extent xs ≡ whole)) same
+          (mapped fields_extent (all_known (extent_at s) js) whole h)
 
       by : (b : ℕ) (r : Row) → fields_of r ≡ Some is → bytes_over (definition_of s) (extent_at s) b r ≡ Some whole
           → (xs : List Extent) × (all_known (extent_at s) is ≡ Some xs) × (fields_extent xs ≡ whole)
@@ -216,7 +226,7 @@ module _ (s : Store) where
       by b (row.Named d) g h = absurd cc
 
   -- and their offsets are where fields of these extents begin
-  fields-start : (t k : ℕ) (is : List ℕ) (xs : List Extent) → fields_at s t ≡ Some is → all_known (extent_at s) is ≡ Some xs
+  pub fields-start : (t k : ℕ) (is : List ℕ) (xs : List Extent) → fields_at s t ≡ Some is → all_known (extent_at s) is ≡ Some xs
       → offset_at s t k ≡ field_start 0 xs k
   fields-start t k is xs f g = ap (λ o. option_and_then (λ ys. field_start 0 ys k) (option_and_then (all_known (extent_at s)) o)) f
       ∙ ap (option_and_then (λ ys. field_start 0 ys k)) g
@@ -264,18 +274,23 @@ module _ (s : Store) where
         let p = placed k start x h in
         let size = ap (λ y. y.size) p.makes in
         let end = start-within 0 p.extents k start x p.aligned p.begins p.field in
-        let round = round_up-le (fields_end 0 p.extents) (greatest_align p.extents) (low (greatest_align p.extents) (greatest_align-alignment p.extents p.aligned)) in
+        let round = round_up-le (fields_end 0 p.extents) (greatest_align p.extents)
+        (low (greatest_align p.extents) (greatest_align-alignment p.extents p.aligned)) in
         omega arith
 
     field_aligned : (k start : ℕ) (x : Extent) → HasField s t k start x → IsMultiple start x.align × IsMultiple whole.align x.align
     field_aligned k start x h =
-        let p = placed k start x h in
-        (start-multiple 0 p.extents k start x p.begins p.field, subst (λ y. IsMultiple y.align x.align) p.makes (greatest-multiple p.extents k x p.aligned p.field))
+        let p = placed k start x h in (
+          start-multiple 0 p.extents k start x p.begins p.field,
+          subst (λ y. IsMultiple y.align x.align) p.makes
+              (greatest-multiple p.extents k x p.aligned p.field),
+        )
 
     fields_ordered : (j k first later : ℕ) (x y : Extent) → j < k → HasField s t j first x → HasField s t k later y → first + x.size ≤ later
     fields_ordered j k first later x y l h g =
         let p = placed j first x h in
-        starts-ordered 0 p.extents j k first later x p.aligned l p.begins p.field (sym (fields-start t k p.types p.extents p.fields p.known) ∙ g.begins)
+        starts-ordered 0 p.extents j k first later x p.aligned l p.begins p.field
+        (sym (fields-start t k p.types p.extents p.fields p.known) ∙ g.begins)
 
     pub fields_lie_in : FieldsLieIn s t whole
     fields_lie_in = record { placed = each_placed; within = field_within; aligned = field_aligned; ordered = fields_ordered }
@@ -292,7 +307,8 @@ module _ (s : Store) where
     where
       of_parts : (js : List ℕ) → js ≡ is → option_map union_extent (all_known (extent_at s) js) ≡ Some whole
           → (xs : List Extent) × (all_known (extent_at s) is ≡ Some xs) × (union_extent xs ≡ whole)
-      of_parts js same h = subst (λ ks. (xs : List Extent) × (all_known (extent_at s) ks ≡ Some xs) × (union_extent xs ≡ whole)) same (mapped union_extent (all_known (extent_at s) js) whole h)
+      of_parts js same h = subst (λ ks. (xs : List Extent) × (all_known (extent_at s) ks ≡ Some xs) × (union_extent xs ≡ whole)) same
+          (mapped union_extent (all_known (extent_at s) js) whole h)
 
       by : (b : ℕ) (r : Row) → members_of r ≡ Some is → bytes_over (definition_of s) (extent_at s) b r ≡ Some whole
           → (xs : List Extent) × (all_known (extent_at s) is ≡ Some xs) × (union_extent xs ≡ whole)
@@ -339,18 +355,21 @@ module _ (s : Store) where
       room = round_up-le (payload_start xs + greatest_size xs) (max 4 (greatest_align xs)) (low (max 4 (greatest_align xs)) alignment)
 
       member : (i : ℕ) → Contains is i
-          → (x : Extent) × (extent_at s i ≡ Some x) × (payload_start xs + x.size ≤ whole.size) × IsMultiple (payload_start xs) x.align × IsMultiple whole.align x.align
+          → (x : Extent) × (extent_at s i ≡ Some x) × (payload_start xs + x.size ≤ whole.size) × IsMultiple (payload_start xs) x.align ×
+          IsMultiple whole.align x.align
       member i h =
           let k = in-get i is (In-from i is h) in
           let here = known-get (extent_at s) is xs k.0 i known k.1 in
           let greatest = greatest-multiple xs k.0 here.0 aligned here.2 in
-          let whole_align = divides (greatest_align xs) (max 4 (greatest_align xs)) (greatest_align-alignment xs aligned) alignment (omega arith) in
+          let whole_align = divides (greatest_align xs) (max 4 (greatest_align xs)) (greatest_align-alignment xs aligned) alignment
+          (omega arith) in
           let align = ap (λ y. y.align) parts.2 in (
             here.0,
             here.1,
             omega (arith, room, size, size-le xs k.0 here.0 here.2),
             through (payload_start xs) here.0.align (greatest_align xs) (rounded 4 (greatest_align xs)) greatest,
-            subst (λ n. IsMultiple n here.0.align) align (through (max 4 (greatest_align xs)) here.0.align (greatest_align xs) whole_align greatest),
+            subst (λ n. IsMultiple n here.0.align) align
+                (through (max 4 (greatest_align xs)) here.0.align (greatest_align xs) whole_align greatest),
           )
 
 -- ---- where payloads begin

@@ -33,7 +33,8 @@ unsized-in : (s : Store) (is : List ℕ) → list_any (unsized_at s) is ≡ true
 unsized-in s [] e = absurd cc
 unsized-in s (i ∷ is) e = by (unsized_at s i) refl (unsized-in s is) e
   where
-    by : (b : Bool) → unsized_at s i ≡ b → (list_any (unsized_at s) is ≡ true → (j : ℕ) × In j is × (unsized_at s j ≡ true)) → (b || list_any (unsized_at s) is) ≡ true → (j : ℕ) × In j (i ∷ is) × (unsized_at s j ≡ true)
+    by : (b : Bool) → unsized_at s i ≡ b → (list_any (unsized_at s) is ≡ true → (j : ℕ) × In j is × (unsized_at s j ≡ true)) →
+        (b || list_any (unsized_at s) is) ≡ true → (j : ℕ) × In j (i ∷ is) × (unsized_at s j ≡ true)
     by true g ih h = (i, inl refl, g)
     by false g ih h = let k = ih h in (k.0, inr k.1, k.2)
 
@@ -41,7 +42,8 @@ unsized-out : (s : Store) (is : List ℕ) (i : ℕ) → list_any (unsized_at s) 
 unsized-out s [] i e m = absurd m
 unsized-out s (j ∷ is) i e m = by (unsized_at s j) refl (unsized-out s is i) e m
   where
-    by : (b : Bool) → unsized_at s j ≡ b → (list_any (unsized_at s) is ≡ false → In i is → unsized_at s i ≡ false) → (b || list_any (unsized_at s) is) ≡ false → (j ≡ i) ⊎ In i is → unsized_at s i ≡ false
+    by : (b : Bool) → unsized_at s j ≡ b → (list_any (unsized_at s) is ≡ false → In i is → unsized_at s i ≡ false) →
+        (b || list_any (unsized_at s) is) ≡ false → (j ≡ i) ⊎ In i is → unsized_at s i ≡ false
     by true g ih h m = absurd cc
     by false g ih h (inl k) = subst (λ x. unsized_at s x ≡ false) k g
     by false g ih h (inr k) = ih h k
@@ -99,7 +101,8 @@ module _ (s : Store) (r : Spelled) (is left : List ℕ) (e : written r.row ≡ S
 
 -- the ids of what is left are one list
 pub one_left : (s : Store) → IsStore s → (r : Spelled) (is js : List ℕ) → AreLeft s r is → AreLeft s r js → is ≡ js
-one_left s v r is js a b = one_ascending is js a.ascend b.ascend (λ x m. over is js a b x (In-to x is m)) (λ x m. over js is b a x (In-to x js m))
+one_left s v r is js a b = one_ascending is js a.ascend b.ascend (λ x m. over is js a b x (In-to x is m))
+    (λ x m. over js is b a x (In-to x js m))
   where
     over : (ps qs : List ℕ) → AreLeft s r ps → AreLeft s r qs → (x : ℕ) → Contains ps x → In x qs
     over ps qs p q x m =
@@ -124,14 +127,17 @@ type_of-several s [] h = absurd (omega arith)
 type_of-several s (i ∷ []) h = absurd (omega arith)
 type_of-several s (i ∷ j ∷ is) h = refl
 
-reduces_union : (s : Store) (r : Spelled) (ws is : List ℕ) (u : Tree) → written r.row ≡ Some ws → AreLeft s r is → type_of s is ≡ Some u → IsReducedTo s r u
-reduces_union s r ws is u e a g = subst (λ o. MatchOption o (tree_of (trees s.rows) r.row ≡ u) (λ _. (js : List ℕ) × AreLeft s r js × (type_of s js ≡ Some u))) (sym e) (is, a, g)
+reduces_union : (s : Store) (r : Spelled) (ws is : List ℕ) (u : Tree) → written r.row ≡ Some ws → AreLeft s r is → type_of s is ≡ Some u →
+    IsReducedTo s r u
+reduces_union s r ws is u e a g = subst (λ o. MatchOption o (tree_of (trees s.rows) r.row ≡ u)
+    (λ _. (js : List ℕ) × AreLeft s r js × (type_of s js ≡ Some u))) (sym e) (is, a, g)
 
 AllBelow-In : (n : ℕ) (is : List ℕ) → ((j : ℕ) → In j is → j < n) → AllBelow n is
 AllBelow-In n [] f = tt
 AllBelow-In n (i ∷ is) f = (f i (inl refl), AllBelow-In n is (λ j m. f j (inr m)))
 
-pub union-reduction : (s : Store) → IsStore s → (r : Spelled) (ws left is : List ℕ) → written r.row ≡ Some ws → AreLeftBelow s r (length ws) left → is ≡ put_all left [] → (q : Reduced) → IsOfMembers is q → IsReduction s r q
+pub union-reduction : (s : Store) → IsStore s → (r : Spelled) (ws left is : List ℕ) → written r.row ≡ Some ws →
+    AreLeftBelow s r (length ws) left → is ≡ put_all left [] → (q : Reduced) → IsOfMembers is q → IsReduction s r q
 union-reduction s v r ws left is e below all (Known t) h =
     let a : AreLeft s r is = subst (λ js. AreLeft s r js) (sym all) (AreLeft-all s r ws left e below) in
     let one : AreLeft s r (t ∷ []) = subst (λ js. AreLeft s r js) h a in
@@ -139,37 +145,57 @@ union-reduction s v r ws left is e below all (Known t) h =
     (g.0, g.1, reduces_union s r ws (t ∷ []) g.0 e one g.1)
 union-reduction s v r ws left is e below all (Fresh q) h =
     let a : AreLeft s r is = subst (λ js. AreLeft s r js) (sym all) (AreLeft-all s r ws left e below) in (
-      subst (λ x. IsWithin (length s.rows) x) (sym h.1) (AllBelow-In (length s.rows) is (λ j m. (id-tree_at s j (a.sound j (In-to j is m)).0 (a.sound j (In-to j is m)).1).0)),
+      subst (λ x. IsWithin (length s.rows) x) (sym h.1)
+          (AllBelow-In (length s.rows) is (λ j m. (id-tree_at s j (a.sound j (In-to j is m)).0 (a.sound j (In-to j is m)).1).0)),
       subst (λ x. IsReduced s.rows x) (sym h.1) (record {
         several = omega (arith, h.0);
         ascend = a.ascend;
-        not_never = λ i m g. let k = a.sound i m in let both : Some (Scalar keyword.Never) ≡ Some k.0 = sym (tree_at_row s v i (row.Scalar keyword.Never) g) ∙ k.1 in k.2.4 (cc);
+        not_never = λ i m g. let k = a.sound i m in let both : Some (Scalar keyword.Never) ≡ Some k.0 =
+            sym (tree_at_row s v i (row.Scalar keyword.Never) g) ∙ k.1 in k.2.4 (cc);
         not_union = λ i js m. below.flat i js (ascending-sound left i (subst (λ x. Contains x i) all m));
       }),
-      subst (λ x. IsReducedTo s r (tree_of (trees s.rows) x)) (sym h.1) (reduces_union s r ws is (tree_of (trees s.rows) (row.Union is)) e a (type_of-several s is h.0)),
+      subst (λ x. IsReducedTo s r (tree_of (trees s.rows) x)) (sym h.1)
+          (reduces_union s r ws is (tree_of (trees s.rows) (row.Union is)) e a (type_of-several s is h.0)),
     )
 
 -- what is wrong, and what is not, where these are left in ascending order
-module _ (s : Store) (v : IsStore s) (r : Spelled) (place : Place) (ws left is : List ℕ) (e : written r.row ≡ Some ws) (below : AreLeftBelow s r (length ws) left)
+module _ (s : Store) (v : IsStore s) (r : Spelled) (place : Place) (ws left is : List ℕ) (e : written r.row ≡ Some ws)
+    (below : AreLeftBelow s r (length ws) left)
     (spreads : Passes s r place Spreading) (sized : ¬ LacksSize s r) where
   ids : is ≡ put_all left [] → AreLeft s r is
   ids all = subst (λ js. AreLeft s r js) (sym all) (AreLeft-all s r ws left e below)
 
-  pub union-empty : is ≡ put_all left [] → length is ≡ 0 → IsFirstOf s r place (Spreading ∷ Sized ∷ Inhabited ∷ Narrow ∷ []) (record { number = 19; place = place })
+  pub union-empty : is ≡ put_all left [] → length is ≡ 0 →
+      IsFirstOf s r place (Spreading ∷ Sized ∷ Inhabited ∷ Narrow ∷ []) (record { number = 19; place = place })
   union-empty all none = inr (spreads, inr (λ p h. sized h.0, inl (refl, (empty is none (ids all), refl))))
     where
       empty : (js : List ℕ) → length js ≡ 0 → AreLeft s r js → AreLeft s r []
       empty [] n a = a
       empty (j ∷ js) n a = absurd (omega arith)
 
-  pub union-wide : 64 < length (put_all left []) → IsFirstOf s r place (Spreading ∷ Sized ∷ Inhabited ∷ Narrow ∷ []) (record { number = 20; place = place })
+  pub union-wide : 64 < length (put_all left []) →
+      IsFirstOf s r place (Spreading ∷ Sized ∷ Inhabited ∷ Narrow ∷ []) (record { number = 20; place = place })
   union-wide more =
       let a = AreLeft-all s r ws left e below in
       let first : ¬ (length (put_all left []) ≡ 0) = omega arith in
-      inr (spreads, inr (λ p h. sized h.0, inr ((λ p h. none_empty s r (put_all left []) a first h.0), inl (refl, ((put_all left [], a, more), refl)))))
+      inr (
+        spreads,
+        inr (
+          λ p h. sized h.0,
+          inr
+              ((λ p h. none_empty s r (put_all left []) a first h.0), inl (refl, ((put_all left [], a, more), refl))),
+        ),
+      )
 
-  pub union-passes : is ≡ put_all left [] → ¬ (length is ≡ 0) → length is ≤ 64 → PassesAll s r place (Spreading ∷ Sized ∷ Inhabited ∷ Narrow ∷ [])
-  union-passes all some few = (spreads, ((λ p h. sized h.0), ((λ p h. none_empty s r is (ids all) some h.0), ((λ p h. none_wide s v r is (ids all) few h.0), tt))))
+  pub union-passes : is ≡ put_all left [] → ¬ (length is ≡ 0) → length is ≤ 64 →
+      PassesAll s r place (Spreading ∷ Sized ∷ Inhabited ∷ Narrow ∷ [])
+  union-passes all some few = (
+    spreads,
+    (
+      (λ p h. sized h.0),
+      ((λ p h. none_empty s r is (ids all) some h.0), ((λ p h. none_wide s v r is (ids all) few h.0), tt)),
+    ),
+  )
 
 -- ---- of any other type
 
@@ -217,7 +243,8 @@ module _ (s : Store) (r : Spelled) (e : written r.row ≡ None) where
       subst (λ x. IsReduction s r (Fresh x)) (sym same) (
         within,
         reduced_row r.row e,
-        subst (λ o. MatchOption o (tree_of (trees s.rows) r.row ≡ tree_of (trees s.rows) r.row) (λ _. (js : List ℕ) × AreLeft s r js × (type_of s js ≡ Some (tree_of (trees s.rows) r.row)))) (sym e) refl,
+        subst (λ o. MatchOption o (tree_of (trees s.rows) r.row ≡ tree_of (trees s.rows) r.row)
+            (λ _. (js : List ℕ) × AreLeft s r js × (type_of s js ≡ Some (tree_of (trees s.rows) r.row)))) (sym e) refl,
       )
 
 -- ---- ids of rows

@@ -1,33 +1,27 @@
 -- What names and error marks leave of a type, and what members bring into a union.
-use Rattle.std.proofs.Common.{◌≡◌, ℕ, zero, suc, ◌<◌, Bool, true, false, List, [], ◌∷◌, length, map, Some, None, refl, ap, sym, ◌∙◌, subst, arith, inl, inr}
-use Rattle.std.specs.Prelude.{slice_get, Contains}
+use Rattle.std.proofs.Common.{◌≡◌, ℕ, zero, suc, ◌<◌, Bool, true, false, List, [], ◌∷◌, length, map, Option, Some, None, refl, ap, sym, ◌∙◌, subst, arith, inl, inr}
+use Rattle.std.specs.Prelude.{slice_get, slice_index_or, Contains, option_and_then}
 use Rattle.std.proofs.lemmas.Bool.{false≢true}
 use Rattle.std.proofs.lemmas.List.Elements.{All-cons, All-nil}
-use Rattle.std.proofs.lemmas.Option.{slice_get-get_or, slice_get_within}
+use Rattle.std.proofs.lemmas.Option.{get_or_from_slice_get, slice_get-get_or, slice_get_within}
 use Rattle.hare_types.specs.declared.row.Row.{Row}
 use Rattle.hare_types.specs.declared.row.Row.TheVariants as row
 use Rattle.hare_types.specs.declared.row.Scalar.{Scalar as Keyword}
 use Rattle.hare_types.specs.declared.row.Scalar.TheVariants as keyword
-use Rattle.hare_types.specs.Trees.{Tree, Trees, Scalar, Union, trees_of, SomeTree}
+use Rattle.hare_types.specs.Trees.{Tree, Trees, Scalar, Pointer, Nullable, Slice, Array, Struct, Tuple, Union, Error, Named, trees_of, SomeTree}
 use Rattle.hare_types.specs.Rows.{tree_in, tree_of, trees, AllBelow}
-use Rattle.hare_types.specs.Store.{Store, tree_at, meaning_of}
+use Rattle.hare_types.specs.Store.{Store, tree_at, definition_of, meaning_of}
 use Rattle.hare_types.specs.Sound.{IsStore}
 use Rattle.hare_types.specs.Layout.{following, base_with, IsBase}
+use Rattle.hare_types.specs.Bases.{IsBaseOf}
 use Rattle.hare_types.proofs.CallerLemmas.{tree_at_row}
 use Rattle.hare_types.proofs.TreeLemmas.{length-trees}
-use Rattle.hare_layout.specs.Offsets.{name_bases, base_by}
 use Rattle.hare_layout.specs.Ids.{AreBrought, AreIds, IsNoUnion, never}
 use Rattle.hare_layout.specs.Reduction.{Brings}
 use Rattle.hare_layout.proofs.AscendingLemmas.{In, In-from, In-to}
-use Rattle.hare_layout.proofs.ExtentLemmas.{tree_in-row}
-use Rattle.hare_layout.proofs.NamesLemmas.{names_enough}
-use Rattle.hare_layout.proofs.OffsetLemmas.{base_with-near}
+use Rattle.hare_layout.proofs.GrowthLemmas.{one_base}
 
--- ---- following names and error marks
-
-following_base : (s : Store) (n : ℕ) (u : Tree) → base_with (name_bases s n) u ≡ following base_with (meaning_of s) n u
-following_base s zero u = refl
-following_base s (suc n) u = refl
+-- ---- ids and trees
 
 -- an id of the store stands for a tree
 pub tree_at-id : (s : Store) (i : ℕ) → i < length s.rows → tree_at s i ≡ Some (tree_in (trees s.rows) i)
@@ -43,13 +37,89 @@ id-tree_at s i u e =
     let both = sym (tree_at-id s i far) ∙ e in
     (far, cc)
 
--- ---- the base
+-- the tree of an id is that of its row
+pub tree_in-row : (s : Store) → IsStore s → (t : ℕ) (r : Row) → slice_get s.rows t ≡ Some r →
+    tree_in (trees s.rows) t ≡ tree_of (trees s.rows) r
+tree_in-row s v t r e = get_or_from_slice_get (trees s.rows) t (tree_of (trees s.rows) r) (Scalar keyword.Void) (tree_at_row s v t r e)
 
-pub base_found : (s : Store) (t : ℕ) (u : Tree) → Some u ≡ base_by s (length s.declared) t → IsBase s (tree_in (trees s.rows) t) u
-base_found s t u e = (length s.declared, sym (following_base s (length s.declared) (tree_in (trees s.rows) t)) ∙ sym e)
+-- ---- what a type comes to is in the store
 
-pub base_only : (s : Store) → IsStore s → (t : ℕ) (u : Tree) → IsBase s (tree_in (trees s.rows) t) u → base_by s (length s.declared) t ≡ Some u
-base_only s v t u h = following_base s (length s.declared) (tree_in (trees s.rows) t) ∙ names_enough base_with base_with-near s v h.0 (tree_in (trees s.rows) t) u h.1
+module _ (s : Store) (v : IsStore s) where
+  -- the row of a type
+  pub row_stands : (i : ℕ) (t : Tree) → tree_at s i ≡ Some t → (q : Row) × (slice_get s.rows i ≡ Some q) × (tree_of (trees s.rows) q ≡ t)
+  row_stands i t e =
+      let far = (id-tree_at s i t e).0 in
+      let q = slice_index_or s.rows i (row.Scalar keyword.Void) in
+      let here : slice_get s.rows i ≡ Some q = slice_get-get_or s.rows i (row.Scalar keyword.Void) far in
+      let both = sym (tree_at_row s v i q here) ∙ e in
+      (q, here, cc)
+
+  -- the type behind an error mark
+  inner_at : (i : ℕ) (t : Tree) → tree_at s i ≡ Some (Error t) → (j : ℕ) × (tree_at s j ≡ Some t)
+  inner_at i t e = by (row_stands i (Error t) e).0 (row_stands i (Error t) e).1 (row_stands i (Error t) e).2
+    where
+      by : (q : Row) → slice_get s.rows i ≡ Some q → tree_of (trees s.rows) q ≡ Error t → (j : ℕ) × (tree_at s j ≡ Some t)
+      by (row.Error j) h g =
+          let below : j < i = v.rows_sound.within i (row.Error j) h in
+          let far = slice_get_within s.rows i (row.Error j) h in
+          let same : tree_in (trees s.rows) j ≡ t = cc in
+          (j, tree_at-id s j (omega arith) ∙ ap Some same)
+      by (row.Scalar k) h g = absurd cc
+      by (row.Pointer j) h g = absurd cc
+      by (row.Nullable j) h g = absurd cc
+      by (row.Slice j) h g = absurd cc
+      by (row.Array n j) h g = absurd cc
+      by (row.Struct fs) h g = absurd cc
+      by (row.Tuple js) h g = absurd cc
+      by (row.Union js) h g = absurd cc
+      by (row.Named d) h g = absurd cc
+
+  -- what is left of a type, where what becomes of names is in the store
+  base_under : (named : ℕ → Option Tree) → ((d : ℕ) (b : Tree) → named d ≡ Some b → (j : ℕ) × (tree_at s j ≡ Some b)) →
+      (t b : Tree) (i : ℕ) → tree_at s i ≡ Some t → base_with named t ≡ Some b
+      → (j : ℕ) × (tree_at s j ≡ Some b)
+  base_under named h (Error t) b i e g =
+      let inner = inner_at i t e in
+      base_under named h t b inner.0 inner.1 g
+  base_under named h (Named d) b i e g = h d b g
+  base_under named h (Scalar k) b i e g = (i, e ∙ g)
+  base_under named h (Pointer t) b i e g = (i, e ∙ g)
+  base_under named h (Nullable t) b i e g = (i, e ∙ g)
+  base_under named h (Slice t) b i e g = (i, e ∙ g)
+  base_under named h (Array n t) b i e g = (i, e ∙ g)
+  base_under named h (Struct ns ts) b i e g = (i, e ∙ g)
+  base_under named h (Tuple ts) b i e g = (i, e ∙ g)
+  base_under named h (Union ts) b i e g = (i, e ∙ g)
+
+  pub base_stands : (n : ℕ) (t b : Tree) (i : ℕ) → tree_at s i ≡ Some t → following base_with (meaning_of s) n t ≡ Some b → (j : ℕ) ×
+      (tree_at s j ≡ Some b)
+  base_stands zero t b i e g = base_under (λ d. None) (λ d c k. absurd cc) t b i e g
+  base_stands (suc n) t b i e g = base_under (λ d. option_and_then (following base_with (meaning_of s) n) (meaning_of s d))
+      (λ d c k. name d c k (base_stands n)) t b i e g
+    where
+      name : (d : ℕ) (c : Tree) → option_and_then (following base_with (meaning_of s) n) (meaning_of s d) ≡ Some c
+          → ((t b : Tree) (i : ℕ) → tree_at s i ≡ Some t → following base_with (meaning_of s) n t ≡ Some b → (j : ℕ) ×
+          (tree_at s j ≡ Some b)) → (j : ℕ) × (tree_at s j ≡ Some c)
+      name d c k ih = by (definition_of s d) k
+        where
+          by : (o : Option ℕ) → option_and_then (following base_with (meaning_of s) n) (option_and_then (tree_at s) o) ≡ Some c → (j : ℕ) ×
+              (tree_at s j ≡ Some c)
+          by None g = absurd cc
+          by (Some q) g = next (tree_at s q) refl g
+            where
+              next : (o : Option Tree) → tree_at s q ≡ o → option_and_then (following base_with (meaning_of s) n) o ≡ Some c → (j : ℕ) ×
+                  (tree_at s j ≡ Some c)
+              next None f g = absurd cc
+              next (Some u) f g = ih u c q f g
+
+  -- the tree of a base
+  base_tree : (t b : ℕ) (r : Row) → IsBaseOf s t b → slice_get s.rows b ≡ Some r →
+      IsBase s (tree_in (trees s.rows) t) (tree_of (trees s.rows) r)
+  base_tree t b r h e =
+      let here = (id-tree_at s t h.0 h.2).1 in
+      let both = sym h.3 ∙ tree_at_row s v b r e in
+      let same : h.1 ≡ tree_of (trees s.rows) r = cc in
+      subst (λ u. IsBase s u (tree_of (trees s.rows) r)) (sym here) (subst (IsBase s h.0) same h.4)
 
 -- a row whose tree is a union is one
 union_row : (ts : List Tree) (r : Row) (us : Trees) → tree_of ts r ≡ Union us → (is : List ℕ) × (r ≡ row.Union is)
@@ -64,18 +134,20 @@ union_row ts (row.Tuple is) us e = absurd cc
 union_row ts (row.Error i) us e = absurd cc
 union_row ts (row.Named d) us e = absurd cc
 
-pub no_union-other : (s : Store) → IsStore s → (t b : ℕ) (r : Row) → Some (tree_in (trees s.rows) b) ≡ base_by s (length s.declared) t → slice_get s.rows b ≡ Some r → ((is : List ℕ) → ¬ (r ≡ row.Union is))
-    → IsNoUnion s (tree_in (trees s.rows) t)
-no_union-other s v t b r e g other us h =
-    let both = e ∙ base_only s v t (Union us) h in
-    let tree : tree_of (trees s.rows) r ≡ Union us = sym (tree_in-row s v b r g) ∙ (cc) in
-    let k = union_row (trees s.rows) r us tree in
+pub no_union-other : (s : Store) → IsStore s → (t b : ℕ) (r : Row) → IsBaseOf s t b → slice_get s.rows b ≡ Some r
+    → ((is : List ℕ) → ¬ (r ≡ row.Union is)) → IsNoUnion s (tree_in (trees s.rows) t)
+no_union-other s v t b r base g other us h =
+    let k = union_row (trees s.rows) r us (one_base s (tree_in (trees s.rows) t) (tree_of (trees s.rows) r) (Union us)
+    (base_tree s v t b r base g) h) in
     other k.0 k.1
 
-pub no_union-open : (s : Store) → IsStore s → (t : ℕ) → None ≡ base_by s (length s.declared) t → IsNoUnion s (tree_in (trees s.rows) t)
-no_union-open s v t e us h =
-    let both = e ∙ base_only s v t (Union us) h in
-    absurd cc
+-- what comes to a name that is not defined comes to no union
+pub no_union-open : (s : Store) → IsStore s → (t : ℕ) → t < length s.rows → ((b : ℕ) → ¬ IsBaseOf s t b) →
+    IsNoUnion s (tree_in (trees s.rows) t)
+no_union-open s v t l none us h =
+    let here = tree_at-id s t l in
+    let b = base_stands s v h.0 (tree_in (trees s.rows) t) (Union us) t here h.1 in
+    none b.0 (tree_in (trees s.rows) t, Union us, here, b.1, h)
 
 -- ---- members of unions
 
@@ -99,39 +171,49 @@ AreIds-AllBelow s [] h = All-nil (λ i. i < length s.rows)
 AreIds-AllBelow s (i ∷ is) h = All-cons (λ i. i < length s.rows) i is h.0 (AreIds-AllBelow s is h.1)
 
 -- the members of a union of the store are ids of it
-union_ids : (s : Store) → IsStore s → (b : ℕ) (js : List ℕ) → slice_get s.rows b ≡ Some (row.Union js) → (j : ℕ) → In j js → j < length s.rows
+union_ids : (s : Store) → IsStore s → (b : ℕ) (js : List ℕ) → slice_get s.rows b ≡ Some (row.Union js) → (j : ℕ) → In j js →
+    j < length s.rows
 union_ids s v b js e j m =
     let far = slice_get_within s.rows b (row.Union js) e in
     let below = In-AllBelow b js (v.rows_sound.within b (row.Union js) e) j m in
     omega arith
 
 -- a spread brings the members of its base
-pub brought-spread : (s : Store) → IsStore s → (t b : ℕ) (js : List ℕ) → Some (tree_in (trees s.rows) b) ≡ base_by s (length s.declared) t → slice_get s.rows b ≡ Some (row.Union js)
+pub brought-spread : (s : Store) → IsStore s → (t b : ℕ) (js : List ℕ) → IsBaseOf s t b → slice_get s.rows b ≡ Some (row.Union js)
     → AreBrought s true (tree_in (trees s.rows) t) js
-brought-spread s v t b js e g = record {
-  sound = λ j m. (f j, tree_at-id s j (union_ids s v b js g j (In-from j js m)), (trees_of (map f js), base_found s t (Union (trees_of (map f js))) (ap Some (sym tree) ∙ e), SomeTree-in f js j (In-from j js m)));
-  whole = λ u h. one u h (e ∙ base_only s v t (Union h.0) h.1);
-  union = λ _. (trees_of (map f js), base_found s t (Union (trees_of (map f js))) (ap Some (sym tree) ∙ e));
+brought-spread s v t b js h g = record {
+  sound = λ j m. let k = In-from j js m in (f j, tree_at-id s j (union_ids s v b js g j k), (ts, base, SomeTree-in f js j k));
+  whole = λ u h. one u h (one_base s (tree_in (trees s.rows) t) (Union ts) (Union h.0) base h.1);
+  union = λ _. (ts, base);
   flat = λ j is m. (v.rows_sound.reduced b (row.Union js) g).not_union j is m;
 }
   where
     f : ℕ → Tree
     f = tree_in (trees s.rows)
 
-    tree : tree_in (trees s.rows) b ≡ Union (trees_of (map f js))
-    tree = tree_in-row s v b (row.Union js) g
+    ts : Trees
+    ts = trees_of (map f js)
 
-    one : (u : Tree) (h : (ts : Trees) × IsBase s (tree_in (trees s.rows) t) (Union ts) × SomeTree (λ m. m ≡ u) ts) → Some (tree_in (trees s.rows) b) ≡ Some (Union h.0) → (j : ℕ) × Contains js j × (tree_at s j ≡ Some u)
+    base : IsBase s (tree_in (trees s.rows) t) (Union ts)
+    base = base_tree s v t b (row.Union js) h g
+
+    one : (u : Tree) (h : (us : Trees) × IsBase s (tree_in (trees s.rows) t) (Union us) × SomeTree (λ m. m ≡ u) us) → Union ts ≡ Union h.0
+        → (j : ℕ) × Contains js j × (tree_at s j ≡ Some u)
     one u h same =
-        let both : Some (Union (trees_of (map f js))) ≡ Some (Union h.0) = ap Some (sym tree) ∙ same in
-        let ts : trees_of (map f js) ≡ h.0 = cc in
-        let k = SomeTree-out f js u (subst (λ x. SomeTree (λ m. m ≡ u) x) (sym ts) h.2) in
+        let members : ts ≡ h.0 = cc in
+        let k = SomeTree-out f js u (subst (λ x. SomeTree (λ m. m ≡ u) x) (sym members) h.2) in
         (k.0, In-to k.0 js k.1, tree_at-id s k.0 (union_ids s v b js g k.0 k.1) ∙ ap Some k.2)
 
 -- an unnamed union brings its members
-pub brought-union : (s : Store) → IsStore s → (t : ℕ) (js : List ℕ) → slice_get s.rows t ≡ Some (row.Union js) → AreBrought s false (tree_in (trees s.rows) t) js
+pub brought-union : (s : Store) → IsStore s → (t : ℕ) (js : List ℕ) → slice_get s.rows t ≡ Some (row.Union js) →
+    AreBrought s false (tree_in (trees s.rows) t) js
 brought-union s v t js g = record {
-  sound = λ j m. (f j, tree_at-id s j (union_ids s v t js g j (In-from j js m)), subst (λ x. Brings x (f j)) (sym tree) (SomeTree-in f js j (In-from j js m)));
+  sound = λ j m. (
+    f j,
+    tree_at-id s j (union_ids s v t js g j (In-from j js m)),
+    subst (λ x. Brings x (f j)) (sym tree)
+        (SomeTree-in f js j (In-from j js m)),
+  );
   whole = λ u h. one u (SomeTree-out f js u (subst (λ x. Brings x u) tree h));
   union = λ e. absurd (false≢true e);
   flat = λ j is m. (v.rows_sound.reduced t (row.Union js) g).not_union j is m;
@@ -147,7 +229,8 @@ brought-union s v t js g = record {
     one u k = (k.0, In-to k.0 js k.1, tree_at-id s k.0 (union_ids s v t js g k.0 k.1) ∙ ap Some k.2)
 
 -- any other type brings itself
-brings_itself : (ts : List Tree) (r : Row) → ((is : List ℕ) → ¬ (r ≡ row.Union is)) → (u : Tree) → Brings (tree_of ts r) u ≡ (tree_of ts r ≡ u)
+brings_itself : (ts : List Tree) (r : Row) → ((is : List ℕ) → ¬ (r ≡ row.Union is)) → (u : Tree) →
+    Brings (tree_of ts r) u ≡ (tree_of ts r ≡ u)
 brings_itself ts (row.Union is) other u = absurd (other is refl)
 brings_itself ts (row.Scalar k) other u = refl
 brings_itself ts (row.Pointer i) other u = refl
@@ -159,10 +242,16 @@ brings_itself ts (row.Tuple is) other u = refl
 brings_itself ts (row.Error i) other u = refl
 brings_itself ts (row.Named d) other u = refl
 
-pub brought-alone : (s : Store) → IsStore s → (t : ℕ) (r : Row) → t < length s.rows → slice_get s.rows t ≡ Some r → ((is : List ℕ) → ¬ (r ≡ row.Union is)) → AreBrought s false (tree_in (trees s.rows) t) (t ∷ [])
+pub brought-alone : (s : Store) → IsStore s → (t : ℕ) (r : Row) → t < length s.rows → slice_get s.rows t ≡ Some r →
+    ((is : List ℕ) → ¬ (r ≡ row.Union is)) → AreBrought s false (tree_in (trees s.rows) t) (t ∷ [])
 brought-alone s v t r within g other = record {
   sound = λ j m. one j (In-from j (t ∷ []) m);
-  whole = λ u h. (t, (0, omega arith, refl), tree_at-id s t within ∙ ap Some (tree ∙ subst (λ x. x) (brings_itself (trees s.rows) r other u) (subst (λ x. Brings x u) tree h)));
+  whole = λ u h. (
+    t,
+    (0, omega arith, refl),
+    tree_at-id s t within ∙ ap Some
+        (tree ∙ subst (λ x. x) (brings_itself (trees s.rows) r other u) (subst (λ x. Brings x u) tree h)),
+  );
   union = λ e. absurd (false≢true e);
   flat = λ j is m h. flat is (In-from j (t ∷ []) m) h;
 }
@@ -171,7 +260,8 @@ brought-alone s v t r within g other = record {
     tree = tree_in-row s v t r g
 
     itself : Brings (tree_in (trees s.rows) t) (tree_in (trees s.rows) t)
-    itself = subst (λ x. Brings x (tree_in (trees s.rows) t)) (sym tree) (subst (λ x. x) (sym (brings_itself (trees s.rows) r other (tree_in (trees s.rows) t))) (sym tree))
+    itself = subst (λ x. Brings x (tree_in (trees s.rows) t)) (sym tree)
+        (subst (λ x. x) (sym (brings_itself (trees s.rows) r other (tree_in (trees s.rows) t))) (sym tree))
 
     flat : {j : ℕ} (is : List ℕ) → In j (t ∷ []) → ¬ (slice_get s.rows j ≡ Some (row.Union is))
     flat is (inl e) h =
@@ -196,7 +286,8 @@ AreIds-brought s b t js h = by js (λ j m. (id-tree_at s j (h.sound j (In-to j j
 pub never-is : (s : Store) → IsStore s → (t : ℕ) → slice_get s.rows t ≡ Some (row.Scalar keyword.Never) → tree_at s t ≡ Some never
 never-is s v t e = tree_at_row s v t (row.Scalar keyword.Never) e
 
-pub never-word : (s : Store) → IsStore s → (t : ℕ) (k : Keyword) → slice_get s.rows t ≡ Some (row.Scalar k) → ¬ (k ≡ keyword.Never) → ¬ (tree_at s t ≡ Some never)
+pub never-word : (s : Store) → IsStore s → (t : ℕ) (k : Keyword) → slice_get s.rows t ≡ Some (row.Scalar k) → ¬ (k ≡ keyword.Never) →
+    ¬ (tree_at s t ≡ Some never)
 never-word s v t k e other h =
     let both : Some (Scalar k) ≡ Some never = sym (tree_at_row s v t (row.Scalar k) e) ∙ h in
     other (cc)
@@ -213,7 +304,8 @@ other_tree ts (row.Union is) other e = absurd cc
 other_tree ts (row.Error i) other e = absurd cc
 other_tree ts (row.Named d) other e = absurd cc
 
-pub never-other : (s : Store) → IsStore s → (t : ℕ) (r : Row) → slice_get s.rows t ≡ Some r → ((k : Keyword) → ¬ (r ≡ row.Scalar k)) → ¬ (tree_at s t ≡ Some never)
+pub never-other : (s : Store) → IsStore s → (t : ℕ) (r : Row) → slice_get s.rows t ≡ Some r → ((k : Keyword) → ¬ (r ≡ row.Scalar k)) →
+    ¬ (tree_at s t ≡ Some never)
 never-other s v t r e other h =
     let both : Some (tree_of (trees s.rows) r) ≡ Some never = sym (tree_at_row s v t r e) ∙ h in
     other_tree (trees s.rows) r other (cc)

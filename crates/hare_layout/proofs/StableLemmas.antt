@@ -1,43 +1,31 @@
 -- What spelled types are reduced to, and what is wrong with them, stays in later stores.
-use Rattle.std.proofs.Common.{◌≡◌, ℕ, zero, suc, ◌+◌, ◌<◌, Bool, true, false, List, [], ◌∷◌, length, map, Option, Some, None, IsSome, refl, ap, sym, ◌∙◌, subst, arith, inl, inr}
-use Rattle.std.specs.Prelude.{slice_get, slice_index_or, Contains, MatchOption, option_and_then}
-use Rattle.std.proofs.lemmas.Option.{slice_get_within, slice_get-get_or}
+use Rattle.std.proofs.Common.{◌≡◌, ℕ, zero, suc, ◌<◌, Bool, true, false, List, [], ◌∷◌, length, map, Option, Some, None, IsSome, refl, ap, sym, ◌∙◌, subst, arith, inl, inr}
+use Rattle.std.specs.Prelude.{slice_get, Contains, MatchOption, option_map, option_and_then}
+use Rattle.std.proofs.lemmas.List.Elements.{Contains-append_left, Contains-append_right}
+use Rattle.std.proofs.lemmas.Option.{slice_get_within}
 use Rattle.hare_tree.specs.declared.place.Place.{Place}
 use Rattle.hare_tree.specs.declared.place.Fault.{Fault}
 use Rattle.hare_types.specs.declared.extent.Extent.{Extent}
 use Rattle.hare_types.specs.declared.lists.Field.{Field}
 use Rattle.hare_types.specs.declared.row.Row.{Row}
 use Rattle.hare_types.specs.declared.row.Row.TheVariants as row
-use Rattle.hare_types.specs.declared.row.Scalar.TheVariants as keyword
-use Rattle.hare_types.specs.Trees.{Tree, Trees, Scalar, Pointer, Nullable, Slice, Array, Struct, Tuple, Union, Error, Named, trees_of, SomeTree}
+use Rattle.hare_types.specs.Trees.{Tree, Trees, Scalar, Pointer, Nullable, Slice, Array, Struct, Tuple, Union, Error, Named, none, more, trees_of, SomeTree}
 use Rattle.hare_types.specs.Rows.{tree_in, tree_of, trees, AllBelow, FieldsBelow, IsWithin}
-use Rattle.hare_types.specs.Store.{Store, tree_at, definition_of, meaning_of, Extends}
+use Rattle.hare_types.specs.Store.{Store, tree_at, meaning_of, Extends}
 use Rattle.hare_types.specs.Sound.{IsStore}
-use Rattle.hare_types.specs.ByValue.{held, has_size, Leads}
-use Rattle.hare_types.specs.Layout.{following, base_with, IsBase, extent_with}
-use Rattle.hare_types.proofs.CallerLemmas.{tree_at_row, one_id, tree_at-Extends, meaning_of-Extends, has_size-Extends}
+use Rattle.hare_types.specs.ByValue.{held, held_in, has_size, Leads}
+use Rattle.hare_types.specs.Layout.{following, IsBase, extent_with, extents_with}
+use Rattle.hare_types.proofs.CallerLemmas.{one_id, tree_at-Extends, meaning_of-Extends, has_size-Extends}
+use Rattle.hare_types.proofs.GrowthLemmas.{option_map-more, option_and_then-more, IsBase-Extends, HasExtent-Extends}
 use Rattle.hare_types.proofs.TreeLemmas.{length-trees, trees-append, further, tree_of-append}
 use Rattle.hare_layout.specs.declared.spelled.Spelled.{Spelled}
 use Rattle.hare_layout.specs.Reduction.{written, IsMember, is_spread, Brings, Adds, IsLeft, AreLeft, type_of, IsReducedTo}
 use Rattle.hare_layout.specs.Admission.{IsBadSpread, measured, IsMeasured, LacksSize, IsTooLarge, Check, Spreading, Sized, Inhabited, Narrow, Small, checks, Fails, IsFirstOf, PassesAll}
-use Rattle.hare_layout.specs.Growth.{LayoutStays, IsDecided, IsOneJudgement, JudgementsStay}
+use Rattle.hare_layout.specs.Growth.{IsDecided, IsOneJudgement, JudgementsStay}
 use Rattle.hare_layout.proofs.AscendingLemmas.{In, In-from, In-to}
-use Rattle.hare_layout.proofs.CallerLemmas.{extent_with-near, IsSmall-Extends, LiesIn-Extends, HasField-Extends, StartsAt-Extends, IsUnion-Extends, HoldsMembers-Extends}
-use Rattle.hare_layout.proofs.GrowthLemmas.{IsBase-Extends, HasExtent-Extends}
+use Rattle.hare_layout.proofs.GrowthLemmas.{one_base}
 use Rattle.hare_layout.proofs.MemberLemmas.{Same-refl}
-use Rattle.hare_layout.proofs.NamesLemmas.{names-more}
-use Rattle.hare_layout.proofs.OffsetLemmas.{base_with-near}
-use Rattle.hare_layout.proofs.SpreadLemmas.{tree_at-id, id-tree_at, SomeTree-out}
-
-pub layout_stays : LayoutStays
-layout_stays now later l = record {
-  small = IsSmall-Extends (record now { listed = [] }) later l.grows;
-  extent = LiesIn-Extends (record now { listed = [] }) later l.grows;
-  field = HasField-Extends (record now { listed = [] }) later l.grows;
-  start = StartsAt-Extends (record now { listed = [] }) later l.grows;
-  union = IsUnion-Extends (record now { listed = [] }) later l.grows;
-  members = HoldsMembers-Extends (record now { listed = [] }) later l.grows;
-}
+use Rattle.hare_layout.proofs.SpreadLemmas.{tree_at-id, id-tree_at, row_stands, base_stands, SomeTree-out}
 
 -- ---- ids in rows
 
@@ -92,38 +80,9 @@ measured_below n (row.Named d) h = tt
 -- ---- what a type comes to is in the store
 
 module _ (s : Store) (v : IsStore s) where
-  -- the row of a type
-  row_at : (i : ℕ) (t : Tree) → tree_at s i ≡ Some t → (q : Row) × (slice_get s.rows i ≡ Some q) × (tree_of (trees s.rows) q ≡ t)
-  row_at i t e =
-      let far = (id-tree_at s i t e).0 in
-      let q = slice_index_or s.rows i (row.Scalar keyword.Void) in
-      let here : slice_get s.rows i ≡ Some q = slice_get-get_or s.rows i (row.Scalar keyword.Void) far in
-      let both = sym (tree_at_row s v i q here) ∙ e in
-      (q, here, cc)
-
-  -- the type behind an error mark
-  inner_at : (i : ℕ) (t : Tree) → tree_at s i ≡ Some (Error t) → (j : ℕ) × (tree_at s j ≡ Some t)
-  inner_at i t e = by (row_at i (Error t) e).0 (row_at i (Error t) e).1 (row_at i (Error t) e).2
-    where
-      by : (q : Row) → slice_get s.rows i ≡ Some q → tree_of (trees s.rows) q ≡ Error t → (j : ℕ) × (tree_at s j ≡ Some t)
-      by (row.Error j) h g =
-          let below : j < i = v.rows_sound.within i (row.Error j) h in
-          let far = slice_get_within s.rows i (row.Error j) h in
-          let same : tree_in (trees s.rows) j ≡ t = cc in
-          (j, tree_at-id s j (omega arith) ∙ ap Some same)
-      by (row.Scalar k) h g = absurd cc
-      by (row.Pointer j) h g = absurd cc
-      by (row.Nullable j) h g = absurd cc
-      by (row.Slice j) h g = absurd cc
-      by (row.Array n j) h g = absurd cc
-      by (row.Struct fs) h g = absurd cc
-      by (row.Tuple js) h g = absurd cc
-      by (row.Union js) h g = absurd cc
-      by (row.Named d) h g = absurd cc
-
   -- a member of a union
   member_at : (i : ℕ) (ts : Trees) (u : Tree) → tree_at s i ≡ Some (Union ts) → SomeTree (λ m. m ≡ u) ts → (j : ℕ) × (tree_at s j ≡ Some u)
-  member_at i ts u e m = by (row_at i (Union ts) e).0 (row_at i (Union ts) e).1 (row_at i (Union ts) e).2
+  member_at i ts u e m = by (row_stands s v i (Union ts) e).0 (row_stands s v i (Union ts) e).1 (row_stands s v i (Union ts) e).2
     where
       by : (q : Row) → slice_get s.rows i ≡ Some q → tree_of (trees s.rows) q ≡ Union ts → (j : ℕ) × (tree_at s j ≡ Some u)
       by (row.Union js) h g =
@@ -142,47 +101,6 @@ module _ (s : Store) (v : IsStore s) where
       by (row.Error j) h g = absurd cc
       by (row.Named d) h g = absurd cc
 
-  -- what is left of a type, where what becomes of names is in the store
-  base_under : (named : ℕ → Option Tree) → ((d : ℕ) (b : Tree) → named d ≡ Some b → (j : ℕ) × (tree_at s j ≡ Some b)) → (t b : Tree) (i : ℕ) → tree_at s i ≡ Some t → base_with named t ≡ Some b
-      → (j : ℕ) × (tree_at s j ≡ Some b)
-  base_under named h (Error t) b i e g =
-      let inner = inner_at i t e in
-      base_under named h t b inner.0 inner.1 g
-  base_under named h (Named d) b i e g = h d b g
-  base_under named h (Scalar k) b i e g = (i, e ∙ g)
-  base_under named h (Pointer t) b i e g = (i, e ∙ g)
-  base_under named h (Nullable t) b i e g = (i, e ∙ g)
-  base_under named h (Slice t) b i e g = (i, e ∙ g)
-  base_under named h (Array n t) b i e g = (i, e ∙ g)
-  base_under named h (Struct ns ts) b i e g = (i, e ∙ g)
-  base_under named h (Tuple ts) b i e g = (i, e ∙ g)
-  base_under named h (Union ts) b i e g = (i, e ∙ g)
-
-  pub base_at : (n : ℕ) (t b : Tree) (i : ℕ) → tree_at s i ≡ Some t → following base_with (meaning_of s) n t ≡ Some b → (j : ℕ) × (tree_at s j ≡ Some b)
-  base_at zero t b i e g = base_under (λ d. None) (λ d c k. absurd cc) t b i e g
-  base_at (suc n) t b i e g = base_under (λ d. option_and_then (following base_with (meaning_of s) n) (meaning_of s d)) (λ d c k. name d c k (base_at n)) t b i e g
-    where
-      name : (d : ℕ) (c : Tree) → option_and_then (following base_with (meaning_of s) n) (meaning_of s d) ≡ Some c
-          → ((t b : Tree) (i : ℕ) → tree_at s i ≡ Some t → following base_with (meaning_of s) n t ≡ Some b → (j : ℕ) × (tree_at s j ≡ Some b)) → (j : ℕ) × (tree_at s j ≡ Some c)
-      name d c k ih = by (definition_of s d) k
-        where
-          by : (o : Option ℕ) → option_and_then (following base_with (meaning_of s) n) (option_and_then (tree_at s) o) ≡ Some c → (j : ℕ) × (tree_at s j ≡ Some c)
-          by None g = absurd cc
-          by (Some q) g = next (tree_at s q) refl g
-            where
-              next : (o : Option Tree) → tree_at s q ≡ o → option_and_then (following base_with (meaning_of s) n) o ≡ Some c → (j : ℕ) × (tree_at s j ≡ Some c)
-              next None f g = absurd cc
-              next (Some u) f g = ih u c q f g
-
-  -- a type has one base
-  one_base : (t a b : Tree) → IsBase s t a → IsBase s t b → a ≡ b
-  one_base t a b h k =
-      let swap : k.0 + h.0 ≡ h.0 + k.0 = omega arith in
-      let first = names-more base_with base_with-near (meaning_of s) h.0 k.0 t a h.1 in
-      let second = subst (λ n. following base_with (meaning_of s) n t ≡ Some b) swap (names-more base_with base_with-near (meaning_of s) k.0 h.0 t b k.1) in
-      let both = sym first ∙ second in
-      cc
-
   -- what a member brings is in the store
   alone_at : (t u : Tree) (i : ℕ) → tree_at s i ≡ Some t → Brings t u → (j : ℕ) × (tree_at s j ≡ Some u)
   alone_at (Union ts) u i e h = member_at i ts u e h
@@ -198,7 +116,7 @@ module _ (s : Store) (v : IsStore s) where
 
   added_at : (b : Bool) (t u : Tree) (i : ℕ) → tree_at s i ≡ Some t → Adds s b t u → (j : ℕ) × (tree_at s j ≡ Some u)
   added_at true t u i e h =
-      let base = base_at h.1.0 t (Union h.0) i e h.1.1 in
+      let base = base_stands s v h.1.0 t (Union h.0) i e h.1.1 in
       member_at base.0 h.0 u base.1 h.2
   added_at false t u i e h = alone_at t u i e h
 
@@ -207,16 +125,48 @@ module _ (s : Store) (v : IsStore s) where
 
 -- ---- extents
 
+-- an extent rests on those of the names that the type holds by value
+mutual
+  extent_near : (old new : ℕ → Option Extent) (t : Tree) → ((q : ℕ) (x : Extent) → Contains (held t) q → old q ≡ Some x → new q ≡ Some x)
+      → (x : Extent) → extent_with old t ≡ Some x → extent_with new t ≡ Some x
+  extent_near old new (Scalar k) known x e = e
+  extent_near old new (Pointer t) known x e = e
+  extent_near old new (Nullable t) known x e = e
+  extent_near old new (Slice t) known x e = e
+  extent_near old new (Array n t) known x e = option_map-more _ (extent_with old t) (extent_with new t) (extent_near old new t known) x e
+  extent_near old new (Struct ns ts) known x e =
+      option_map-more _ (extents_with old ts) (extents_with new ts) (extents_near old new ts known) x e
+  extent_near old new (Tuple ts) known x e =
+      option_map-more _ (extents_with old ts) (extents_with new ts) (extents_near old new ts known) x e
+  extent_near old new (Union ts) known x e =
+      option_map-more _ (extents_with old ts) (extents_with new ts) (extents_near old new ts known) x e
+  extent_near old new (Error t) known x e = extent_near old new t known x e
+  extent_near old new (Named d) known x e = known d x (0, omega arith, refl) e
+
+  extents_near : (old new : ℕ → Option Extent) (ts : Trees)
+      → ((q : ℕ) (x : Extent) → Contains (held_in ts) q → old q ≡ Some x → new q ≡ Some x)
+      → (xs : List Extent) → extents_with old ts ≡ Some xs → extents_with new ts ≡ Some xs
+  extents_near old new none known xs e = e
+  extents_near old new (more t ts) known xs e =
+      option_and_then-more (λ x. option_map (λ xs. x ∷ xs) (extents_with old ts)) (λ x. option_map (λ xs. x ∷ xs) (extents_with new ts))
+      (λ x. option_map-more (λ xs. x ∷ xs) (extents_with old ts) (extents_with new ts)
+      (extents_near old new ts (λ q y h. known q y (Contains-append_right (held t) (held_in ts) q h))))
+      (extent_with old t) (extent_with new t)
+      (extent_near old new t (λ q y h. known q y (Contains-append_left (held t) (held_in ts) q h))) xs e
+
 -- where each name that is held by value has a meaning, no more is known of an extent over more meanings
-extent_back : (old new : ℕ → Option Tree) → ((d : ℕ) (u : Tree) → old d ≡ Some u → new d ≡ Some u) → (n : ℕ) (u : Tree) → ((d : ℕ) → (way : List ℕ) × Leads old u way d → IsSome (old d)) → (x : Extent)
+extent_back : (old new : ℕ → Option Tree) → ((d : ℕ) (u : Tree) → old d ≡ Some u → new d ≡ Some u) → (n : ℕ) (u : Tree) →
+    ((d : ℕ) → (way : List ℕ) × Leads old u way d → IsSome (old d)) → (x : Extent)
     → following extent_with new n u ≡ Some x → following extent_with old n u ≡ Some x
 extent_back old new knows zero u whole x e = e
 extent_back old new knows (suc n) u whole x e =
-    extent_with-near (λ d. option_and_then (following extent_with new n) (new d)) (λ d. option_and_then (following extent_with old n) (old d)) u
+    extent_near (λ d. option_and_then (following extent_with new n) (new d)) (λ d. option_and_then (following extent_with old n) (old d)) u
     (λ q y h g. name q y h g (old q) refl (whole q ([], h)) (extent_back old new knows n)) x e
   where
-    name : (q : ℕ) (y : Extent) → Contains (held u) q → option_and_then (following extent_with new n) (new q) ≡ Some y → (o : Option Tree) → old q ≡ o → IsSome o
-        → ((w : Tree) → ((d : ℕ) → (way : List ℕ) × Leads old w way d → IsSome (old d)) → (x : Extent) → following extent_with new n w ≡ Some x → following extent_with old n w ≡ Some x)
+    name : (q : ℕ) (y : Extent) → Contains (held u) q → option_and_then (following extent_with new n) (new q) ≡ Some y → (o : Option Tree) →
+        old q ≡ o → IsSome o
+        → ((w : Tree) → ((d : ℕ) → (way : List ℕ) × Leads old w way d → IsSome (old d)) → (x : Extent) →
+        following extent_with new n w ≡ Some x → following extent_with old n w ≡ Some x)
         → option_and_then (following extent_with old n) (old q) ≡ Some y
     name q y h g None f k ih = absurd cc
     name q y h g (Some w) f k ih =
@@ -225,7 +175,8 @@ extent_back old new knows (suc n) u whole x e =
 
 -- ---- a spelled type
 
-module _ (old new : Store) (v : IsStore old) (w : IsStore new) (grows : Extends (record old { listed = [] }) new) (r : Spelled) (within : IsWithin (length old.rows) r.row) (decided : IsDecided old r) where
+module _ (old new : Store) (v : IsStore old) (w : IsStore new) (grows : Extends (record old { listed = [] }) new) (r : Spelled)
+    (within : IsWithin (length old.rows) r.row) (decided : IsDecided old r) where
   -- the store without its list of types that have tags
   abbrev before : Store
   before = record old { listed = [] }
@@ -242,7 +193,8 @@ module _ (old new : Store) (v : IsStore old) (w : IsStore new) (grows : Extends 
   tree_of_stays : (q : Row) → IsWithin (length old.rows) q → tree_of (trees new.rows) q ≡ tree_of (trees old.rows) q
   tree_of_stays q h =
       ap (λ ts. tree_of ts q) (ap trees grows.rows.1 ∙ trees-append old.rows grows.rows.0)
-      ∙ tree_of-append (trees old.rows) (further (trees old.rows) grows.rows.0) q (subst (λ n. IsWithin n q) (sym (length-trees old.rows)) h)
+      ∙ tree_of-append (trees old.rows) (further (trees old.rows) grows.rows.0) q
+      (subst (λ n. IsWithin n q) (sym (length-trees old.rows)) h)
 
   -- ---- members
 
@@ -250,12 +202,20 @@ module _ (old new : Store) (v : IsStore old) (w : IsStore new) (grows : Extends 
   member_there k t h = (h.0, h.1, h.2, h.3, there h.1 t h.4)
 
   member_back : (k : ℕ) (t : Tree) → IsMember new r k t → IsMember old r k t
-  member_back k t h = (h.0, h.1, h.2, h.3, back h.1 t (below_at (length old.rows) h.0 k h.1 (written_below (length old.rows) r.row h.0 within h.2) h.3) h.4)
+  member_back k t h = (
+    h.0,
+    h.1,
+    h.2,
+    h.3,
+    back h.1 t
+        (below_at (length old.rows) h.0 k h.1 (written_below (length old.rows) r.row h.0 within h.2) h.3) h.4,
+  )
 
-  union_back : (k : ℕ) (t : Tree) (ts : Trees) → IsMember old r k t → is_spread r k ≡ true → IsBase new t (Union ts) → IsBase old t (Union ts)
+  union_back : (k : ℕ) (t : Tree) (ts : Trees) → IsMember old r k t → is_spread r k ≡ true → IsBase new t (Union ts) →
+      IsBase old t (Union ts)
   union_back k t ts m e h =
       let known = decided.spreads k t m e in
-      let same = one_base new w t known.0 (Union ts) (IsBase-Extends before new grows t known.0 known.1) h in
+      let same = one_base new t known.0 (Union ts) (IsBase-Extends before new grows t known.0 known.1) h in
       subst (λ b. IsBase old t b) same known.1
 
   adds_there : (b : Bool) (t u : Tree) → Adds old b t u → Adds new b t u
@@ -316,12 +276,14 @@ module _ (old new : Store) (v : IsStore old) (w : IsStore new) (grows : Extends 
 
   reduced_there : (u : Tree) → IsReducedTo old r u → IsReducedTo new r u
   reduced_there u =
-      either (written r.row) (tree_of (trees old.rows) r.row ≡ u) (tree_of (trees new.rows) r.row ≡ u) ((is : List ℕ) × AreLeft old r is × (type_of old is ≡ Some u)) ((is : List ℕ) × AreLeft new r is × (type_of new is ≡ Some u))
+      either (written r.row) (tree_of (trees old.rows) r.row ≡ u) (tree_of (trees new.rows) r.row ≡ u)
+      ((is : List ℕ) × AreLeft old r is × (type_of old is ≡ Some u)) ((is : List ℕ) × AreLeft new r is × (type_of new is ≡ Some u))
       (λ e. tree_of_stays r.row within ∙ e) (λ h. (h.0, all_there h.0 h.1, type_stays h.0 h.1 ∙ h.2))
 
   reduced_back : (u : Tree) → IsReducedTo new r u → IsReducedTo old r u
   reduced_back u =
-      either (written r.row) (tree_of (trees new.rows) r.row ≡ u) (tree_of (trees old.rows) r.row ≡ u) ((is : List ℕ) × AreLeft new r is × (type_of new is ≡ Some u)) ((is : List ℕ) × AreLeft old r is × (type_of old is ≡ Some u))
+      either (written r.row) (tree_of (trees new.rows) r.row ≡ u) (tree_of (trees old.rows) r.row ≡ u)
+      ((is : List ℕ) × AreLeft new r is × (type_of new is ≡ Some u)) ((is : List ℕ) × AreLeft old r is × (type_of old is ≡ Some u))
       (λ e. sym (tree_of_stays r.row within) ∙ e) (λ h. let l = all_back h.0 h.1 in (h.0, l, sym (type_stays h.0 l) ∙ h.2))
 
   -- ---- the checks
@@ -347,7 +309,13 @@ module _ (old new : Store) (v : IsStore old) (w : IsStore new) (grows : Extends 
   value_there u (inr h) = inr (left_there u h)
 
   value_back : (u : Tree) → IsMeasured new r u → IsMeasured old r u
-  value_back u (inl h) = inl (h.0, h.1, back h.0 u (below_in (length old.rows) (measured r.row) (measured_below (length old.rows) r.row within) h.0 (In-from h.0 (measured r.row) h.1)) h.2)
+  value_back u (inl h) = inl (
+    h.0,
+    h.1,
+    back h.0 u
+        (below_in (length old.rows) (measured r.row) (measured_below (length old.rows) r.row within) h.0 (In-from h.0 (measured r.row) h.1))
+        h.2,
+  )
   value_back u (inr h) = inr (left_back u h)
 
   unsized_back : LacksSize new r → LacksSize old r
@@ -361,15 +329,27 @@ module _ (old new : Store) (v : IsStore old) (w : IsStore new) (grows : Extends 
 
   large_back : IsTooLarge new r → IsTooLarge old r
   large_back h =
-      let reduced = reduced_back h.0 h.2 in
-      (h.0, h.1, reduced, (h.3.0, extent_back (meaning_of old) (meaning_of new) (meaning_of-Extends before new grows) h.3.0 h.0 (λ d l. decided.whole h.0 d reduced l) h.1 h.3.1), h.4)
+      let reduced = reduced_back h.0 h.2 in (
+        h.0,
+        h.1,
+        reduced,
+        (
+          h.3.0,
+          extent_back (meaning_of old) (meaning_of new) (meaning_of-Extends before new grows) h.3.0 h.0
+              (λ d l. decided.whole h.0 d reduced l) h.1 h.3.1,
+        ),
+        h.4,
+      )
 
   fails_there : (place : Place) (c : Check) (p : Place) → Fails old r place c p → Fails new r place c p
   fails_there place Spreading p h = (h.0, bad_there h.0 h.1, (λ j l b. h.2 j l (bad_back j b)), h.3)
   fails_there place Sized p h = ((h.0.0, value_there h.0.0 h.0.1, has_size-Extends before new grows h.0.0 false h.0.2), h.1)
   fails_there place Inhabited p h = (all_there [] h.0, h.1)
   fails_there place Narrow p h = ((h.0.0, all_there h.0.0 h.0.1, h.0.2), h.1)
-  fails_there place Small p h = ((h.0.0, h.0.1, reduced_there h.0.0 h.0.2, HasExtent-Extends before new grows h.0.0 h.0.1 h.0.3, h.0.4), h.1)
+  fails_there place Small p h = (
+    (h.0.0, h.0.1, reduced_there h.0.0 h.0.2, HasExtent-Extends before new grows h.0.0 h.0.1 h.0.3, h.0.4),
+    h.1,
+  )
 
   fails_back : (place : Place) (c : Check) (p : Place) → Fails new r place c p → Fails old r place c p
   fails_back place Spreading p h = (h.0, bad_back h.0 h.1, (λ j l b. h.2 j l (bad_there j b)), h.3)

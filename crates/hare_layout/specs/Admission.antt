@@ -27,8 +27,8 @@ pub record IsBadSpread (s : Store) (r : Spelled) (k : ℕ) : Type 0 where
 abbrev pub SpreadsNoUnion : Store → Spelled → Place → Place → Type 0
 SpreadsNoUnion s r place p = (k : ℕ) × IsBadSpread s r k × ((j : ℕ) → j < k → ¬ IsBadSpread s r j) × (p ≡ place_of r place k)
 
--- the types that have to have a size: that of an array's or a slice's elements, of a struct's fields, of a tuple's components. Of a union's members
--- it is asked once it is reduced.
+-- the types that have to have a size: that of an array's or a slice's elements, of a struct's fields, of a tuple's components. Of a union's
+-- members it is asked once it is reduced.
 abbrev pub measured : Row → List ℕ
 measured (row.Array n i) = i ∷ []
 measured (row.Slice i) = i ∷ []

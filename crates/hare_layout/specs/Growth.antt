@@ -9,9 +9,10 @@ use Rattle.hare_types.specs.Store.{Store, meaning_of}
 use Rattle.hare_types.specs.Sound.{IsStore}
 use Rattle.hare_types.specs.Later.{IsLater}
 use Rattle.hare_types.specs.ByValue.{has_size, HoldsByValue}
+use Rattle.hare_types.specs.Kept.{LiesIn}
 use Rattle.hare_types.specs.Layout.{IsBase}
 use Rattle.hare_layout.specs.declared.spelled.Spelled.{Spelled}
-use Rattle.hare_layout.specs.Small.{IsSmall, LiesIn}
+use Rattle.hare_layout.specs.Small.{IsSmall}
 use Rattle.hare_layout.specs.Offsets.{HasField, StartsAt}
 use Rattle.hare_layout.specs.Members.{IsUnion, HoldsMembers}
 use Rattle.hare_layout.specs.Reduction.{IsMember, is_spread, IsReducedTo}
@@ -33,8 +34,8 @@ LayoutStays = (now later : Store) → IsLater now later → KeepsLayout now late
 
 -- ---- spelled types
 
--- What is asked of a spelled type is known: what the members that are spread come to, whether what has to have a size has one, and what each name
--- that the reduced type holds by value is defined to be.
+-- What is asked of a spelled type is known: what the members that are spread come to, whether what has to have a size has one, and what
+-- each name that the reduced type holds by value is defined to be.
 pub record IsDecided (s : Store) (r : Spelled) : Type 0 where
   pub spreads : (k : ℕ) (t : Tree) → IsMember s r k t → is_spread r k ≡ true → (b : Tree) × IsBase s t b
   pub sized : (u : Tree) → IsMeasured s r u → IsSome (has_size s u)
@@ -49,4 +50,5 @@ pub record IsOneJudgement (now later : Store) (r : Spelled) (place : Place) : Ty
 -- a judgement that is given over a store is that over every later one
 abbrev pub JudgementsStay : Type 0
 JudgementsStay =
-    (now later : Store) → IsStore now → IsLater now later → (r : Spelled) (place : Place) → IsWithin (length now.rows) r.row → IsDecided now r → IsOneJudgement now later r place
+    (now later : Store) → IsStore now → IsLater now later → (r : Spelled) (place : Place) → IsWithin (length now.rows) r.row →
+    IsDecided now r → IsOneJudgement now later r place

@@ -82,4 +82,5 @@ type_of s (i ∷ j ∷ is) = Some (tree_of (trees s.rows) (row.Union (i ∷ j �
 
 -- The spelled type is reduced to u: a union to what is left in it, and any other type is so already.
 abbrev pub IsReducedTo : Store → Spelled → Tree → Type 0
-IsReducedTo s r u = MatchOption (written r.row) (tree_of (trees s.rows) r.row ≡ u) (λ _. (is : List ℕ) × AreLeft s r is × (type_of s is ≡ Some u))
+IsReducedTo s r u = MatchOption (written r.row) (tree_of (trees s.rows) r.row ≡ u)
+    (λ _. (is : List ℕ) × AreLeft s r is × (type_of s is ≡ Some u))

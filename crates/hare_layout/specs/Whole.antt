@@ -1,9 +1,11 @@
 -- How the bytes of types lie: what alignments there are, and that parts lie within their wholes.
-use Rattle.std.specs.Prelude.{◌≡◌, ℕ, ◌+◌, ◌*◌, ◌<◌, ◌≤◌, List, length, slice_get, Contains, Some, ◌⊎◌}
+use Rattle.std.specs.Prelude.{◌≡◌, ◌↔◌, ℕ, ◌+◌, ◌*◌, ◌<◌, ◌≤◌, List, length, slice_get, Contains, Some, ◌⊎◌}
 use Rattle.hare_types.specs.declared.extent.Extent.{Extent}
 use Rattle.hare_types.specs.declared.row.Row.{Row}
+use Rattle.hare_types.specs.declared.row.Row.TheVariants as row
 use Rattle.hare_types.specs.Store.{Store}
 use Rattle.hare_types.specs.Sound.{IsStore}
+use Rattle.hare_types.specs.Kept.{LiesIn}
 use Rattle.hare_types.specs.Waiting.{NeedsRow}
 use Rattle.hare_types.specs.ByIds.{row_at, extent_at, fields_at, members_at, offset_at, payload_at}
 use Rattle.hare_layout.specs.Small.{IsSmall}
@@ -64,7 +66,8 @@ pub record PayloadLiesIn (s : Store) (t : ℕ) (whole : Extent) (members : List 
       → (x : Extent) × (extent_at s i ≡ Some x) × (start + x.size ≤ whole.size) × IsMultiple start x.align × IsMultiple whole.align x.align
 
 abbrev pub PayloadsLieWithin : Type 0
-PayloadsLieWithin = (s : Store) (t : ℕ) (whole : Extent) (members : List ℕ) → extent_at s t ≡ Some whole → members_at s t ≡ Some members → PayloadLiesIn s t whole members
+PayloadsLieWithin = (s : Store) (t : ℕ) (whole : Extent) (members : List ℕ) → extent_at s t ≡ Some whole → members_at s t ≡ Some members →
+    PayloadLiesIn s t whole members
 
 -- ---- small types
 
@@ -73,8 +76,12 @@ PayloadsLieWithin = (s : Store) (t : ℕ) (whole : Extent) (members : List ℕ) 
 abbrev pub IsPart : Store → ℕ → ℕ → Type 0
 IsPart s t p = (r : Row) × (row_at s t ≡ Some r) × NeedsRow s.declared r p
 
--- a type of at most 67,108,864 bytes is small where its parts are
-abbrev pub SmallFromParts : Type 0
-SmallFromParts =
-    (s : Store) → IsStore s → (t : ℕ) (x : Extent) → extent_at s t ≡ Some x → x.size ≤ 67108864 → ((p : ℕ) → IsPart s t p → IsSmall s p)
-    → IsSmall s t
+-- where a type is small, and what then is too
+pub record IsSmallWith (s : Store) (t : ℕ) : Type 0 where
+  -- it has an extent of at most 67,108,864 bytes
+  pub size : IsSmall s t ↔ ((x : Extent) × LiesIn s t x × (x.size ≤ 67108864))
+  -- each part of it, but for the items of an array that has none
+  pub parts : IsSmall s t → (p : ℕ) → IsPart s t p → IsSmall s p ⊎ (row_at s t ≡ Some (row.Array 0 p))
+
+abbrev pub SmallTypes : Type 0
+SmallTypes = (s : Store) → IsStore s → (t : ℕ) → IsSmallWith s t

@@ -3,23 +3,23 @@
 ghost use Rattle.std.specs.Prelude.{◌≡◌, ◌↔◌, ◌≤◌, length, IsTrue, Some, IfSome, IfNone, IfOk, IfErr, OnOk, OnErr};
 ghost use Rattle.hare_tree.specs.declared.place.Fault.{Fault as FaultOf};
 ghost use Rattle.hare_types.specs.declared.extent.Extent.{Extent as ExtentOf};
+ghost use Rattle.hare_types.specs.ByIds.{extent_at};
 ghost use Rattle.hare_types.specs.Kept.{LiesIn, IsToldOf};
 ghost use Rattle.hare_types.specs.Layout.{HasExtent};
 ghost use Rattle.hare_types.specs.Rows.{IsWithin};
 ghost use Rattle.hare_types.specs.Store.{tree_at, Extends};
 ghost use Rattle.hare_types.specs.Trees.{Tree};
+ghost use Rattle.hare_layout.specs.Small.{IsSmall};
 ghost use Rattle.hare_layout.specs.Reduction.{IsReducedTo};
 ghost use Rattle.hare_layout.specs.Admission.{IsAdmitted, IsFault, StopsAt, TellsFault};
 ghost use Rattle.hare_layout.specs.Reduced.{IsHere, tree_of_reduced, IsLarge};
 
 use crate::reduce::{Reduced, reduce};
+use crate::size::MOST_BYTES;
 use crate::spelled::Spelled;
 use hare_tree::{Fault, Place, Stop};
 use hare_types::{Extent, TypeId, TypeStore};
 use std::alloc::Global;
-
-/// The greatest size of a type, in bytes.
-const MOST_BYTES: u64 = 67_108_864;
 
 /// The extent of a type, as its store tells it.
 fn extent_of(s: &TypeStore, t: &Reduced) -> Option<Extent>
@@ -57,7 +57,7 @@ fn is_too_large(s: &TypeStore, t: &Reduced) -> bool
 /// - E20, where more than 64 members are left;
 /// - E18, where the type has more than 67,108,864 bytes. It is looked at only where each name that the type holds by value is defined.
 ///
-/// So the type that is given has at most 67,108,864 bytes, wherever its extent is known. After a fault, and where there is not enough memory,
+/// So the type that is given has at most 67,108,864 bytes, and is small enough for `size_of`, wherever its extent is known. After a fault, and where there is not enough memory,
 /// the store is as it was.
 pub fn admit(
     alloc: Global,
@@ -68,6 +68,7 @@ pub fn admit(
     requires { IsWithin (length s.old.rows) r.now.row }
     ensures ok { IfOk result (λ t. (u : Tree) × IsReducedTo s.old r.now u × (tree_at s.new t ≡ Some u)) }
     ensures small { IfOk result (λ t. (x : ExtentOf) → LiesIn s.new t x → x.size ≤ 67108864) }
+    ensures fits { IfOk result (λ t. (x : ExtentOf) → extent_at s.new t ≡ Some x → IsSmall s.new t) }
     ensures admitted { OnOk result (IsAdmitted s.old r.now place) }
     ensures err { IfErr result (StopsAt s.old r.now place) }
     ensures only { (f : FaultOf) → IsFault s.old r.now place f → TellsFault result f }

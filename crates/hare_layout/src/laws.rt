@@ -2,10 +2,10 @@
 
 ghost use Rattle.hare_layout.specs.Growth.{LayoutStays, JudgementsStay};
 ghost use Rattle.hare_layout.specs.Offsets.{OffsetsMeanTrees};
-ghost use Rattle.hare_layout.specs.Whole.{TypesAreAligned, FieldsLieWithin, PayloadsLieWithin, SmallFromParts};
+ghost use Rattle.hare_layout.specs.Whole.{TypesAreAligned, FieldsLieWithin, PayloadsLieWithin, SmallTypes};
 
 /// Where bytes lie, which fields there are, and which unions hold which, stays in later stores.
-#[tactic(auto, using(crate::proofs::StableLemmas::layout_stays))]
+#[tactic(auto, using(crate::proofs::GrowthLemmas::layout_stays))]
 pub fn law_layout_stays()
     ensures { LayoutStays }
 {}
@@ -36,11 +36,10 @@ pub fn law_payloads_lie_within()
     ensures { PayloadsLieWithin }
 {}
 
-/// A type of at most 67,108,864 bytes is small enough for `size_of`, `align_of` and `offset_of` where its parts are: the types that it holds by
-/// value, what bears its error mark, what its name is defined to be. `admit` gives such a type wherever the extent of the type is known.
-#[tactic(auto, using(crate::proofs::PartsLemmas::small_from_parts))]
-pub fn law_small_from_parts()
-    ensures { SmallFromParts }
+/// A type of at most 67,108,864 bytes is small enough for `size_of`, `align_of`, `offset_of` and `payload_of`. So are then its parts, but for
+/// the items of an array that has none: the types that it holds by value, what bears its error mark, what its name is defined to be.
+pub fn law_small_types()
+    ensures { SmallTypes }
 {}
 
 /// Where a field or a payload begins by the id of its type is where it begins in the tree for which the id stands.

@@ -3,10 +3,8 @@
 
 mod admitted;
 mod ascending;
-mod base;
 mod bytes;
 mod copy;
-mod extent;
 mod laws;
 mod members;
 mod members_left;
@@ -23,12 +21,12 @@ mod tag;
 pub use admitted::admit;
 pub use laws::{
     law_fields_lie_within, law_judgements_stay, law_layout_stays, law_offsets_mean_trees,
-    law_payloads_lie_within, law_small_from_parts, law_types_are_aligned,
+    law_payloads_lie_within, law_small_types, law_types_are_aligned,
 };
 pub use members::subset;
 pub use offset::offset_of;
 pub use payload::payload_of;
-pub use size::{align_of, size_of};
+pub use size::{align_of, is_small, size_of};
 pub use spelled::{Bools, Places, Spelled};
 pub use tag::tag_of;
 

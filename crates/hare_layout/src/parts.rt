@@ -1,7 +1,7 @@
 //! The types that structs, tuples and unions hold.
 
 ghost use Rattle.std.specs.Prelude.{◌≡◌, ◌<◌, length, slice_get, Some};
-ghost use Rattle.hare_layout.specs.Small.{parts_of};
+ghost use Rattle.hare_types.specs.Kept.{parts_of};
 
 use hare_types::{Row, TypeId};
 

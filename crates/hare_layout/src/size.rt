@@ -1,11 +1,25 @@
 //! The size and the alignment of a type.
 
-ghost use Rattle.std.specs.Prelude.{◌≡◌, ℕ, ◌≤◌, Some};
+ghost use Rattle.std.specs.Prelude.{◌≡◌, ◌↔◌, ℕ, ◌≤◌, IsTrue, Some};
 ghost use Rattle.hare_types.specs.ByIds.{extent_at, size_at, align_at};
-ghost use Rattle.hare_layout.specs.Small.{IsSmall, LiesIn, IsModest};
+ghost use Rattle.hare_types.specs.Kept.{LiesIn};
+ghost use Rattle.hare_layout.specs.Small.{IsSmall, IsModest};
 
-use crate::extent::extent;
 use hare_types::{Extent, TypeId, TypeStore};
+
+/// The greatest size of a type, in bytes.
+pub(crate) const MOST_BYTES: u64 = 67_108_864;
+
+/// Whether `size_of`, `align_of`, `offset_of` and `payload_of` may be asked of a type: its extent is known, and has at most 67,108,864 bytes. The
+/// time is constant.
+pub fn is_small(s: &TypeStore, t: TypeId) -> bool
+    ensures { IsTrue result ↔ IsSmall s.now t }
+{
+    match s.extent(t) {
+        Some(x) => x.size <= MOST_BYTES,
+        None => false,
+    }
+}
 
 /// The extent of an admitted and sized type.
 pub(crate) fn extent_of(s: &TypeStore, t: TypeId) -> Extent
@@ -14,7 +28,7 @@ pub(crate) fn extent_of(s: &TypeStore, t: TypeId) -> Extent
     ensures at { extent_at s.now t ≡ Some result }
     ensures within { IsModest result }
 {
-    match extent(s, t) {
+    match s.extent(t) {
         Some(x) => x,
         None => unreachable!(),
     }
@@ -22,8 +36,7 @@ pub(crate) fn extent_of(s: &TypeStore, t: TypeId) -> Extent
 
 /// How many bytes a value of the type takes.
 ///
-/// The type is admitted and has a size, and each name that it is or holds by value is defined: neither it nor a type that it holds by
-/// value has more than 67,108,864 bytes.
+/// The type is admitted and has a size, and each name that it is or holds by value is defined: it has at most 67,108,864 bytes.
 ///
 /// The time is constant.
 pub fn size_of(s: &TypeStore, t: TypeId) -> u64

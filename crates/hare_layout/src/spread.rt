@@ -5,7 +5,6 @@ ghost use Rattle.hare_types.specs.Rows.{tree_in, trees};
 ghost use Rattle.hare_types.specs.Sound.{IsStore};
 ghost use Rattle.hare_layout.specs.Ids.{AreBrought, IsNoUnion};
 
-use crate::base::base_of;
 use hare_types::{Row, TypeId, TypeStore};
 
 /// The members of the union that is the base of a type, `None` where its base is no union.
@@ -15,7 +14,7 @@ fn spread(s: &TypeStore, t: TypeId) -> Option<&[TypeId]>
     ensures some { IfSome result (λ js. AreBrought s.now true (tree_in (trees s.now.rows) t) js.now) }
     ensures none { IfNone result (IsNoUnion s.now (tree_in (trees s.now.rows) t)) }
 {
-    match base_of(s, t) {
+    match s.base(t) {
         Some(base) => match s.row(base) {
             Row::Union(types) => Some(types.as_slice()),
             _ => None,

@@ -18,7 +18,8 @@ undefined s d = by (lookup (nat_eq d) s.declared)
     by (Some x) e = absurd cc
 
 -- what is put last is found where nothing before it is
-lookup-push : (es : List (ℕ × Declared)) (d : ℕ) (x : Declared) (q : ℕ) → (lookup (nat_eq q) (es ++ (d, x) ∷ []) ≡ lookup (nat_eq q) es) ⊎ ((q ≡ d) × (lookup (nat_eq q) (es ++ (d, x) ∷ []) ≡ Some x))
+lookup-push : (es : List (ℕ × Declared)) (d : ℕ) (x : Declared) (q : ℕ) →
+    (lookup (nat_eq q) (es ++ (d, x) ∷ []) ≡ lookup (nat_eq q) es) ⊎ ((q ≡ d) × (lookup (nat_eq q) (es ++ (d, x) ∷ []) ≡ Some x))
 lookup-push [] d x q = by (nat_eq q d) refl
   where
     by : (b : Bool) → nat_eq q d ≡ b → (cond b (Some x) None ≡ None) ⊎ ((q ≡ d) × (cond b (Some x) None ≡ Some x))
@@ -26,7 +27,8 @@ lookup-push [] d x q = by (nat_eq q d) refl
     by false e = inl refl
 lookup-push (y ∷ es) d x q = by (nat_eq q y.0) (lookup-push es d x q)
   where
-    by : (b : Bool) → (lookup (nat_eq q) (es ++ (d, x) ∷ []) ≡ lookup (nat_eq q) es) ⊎ ((q ≡ d) × (lookup (nat_eq q) (es ++ (d, x) ∷ []) ≡ Some x))
+    by : (b : Bool) → (lookup (nat_eq q) (es ++ (d, x) ∷ []) ≡ lookup (nat_eq q) es) ⊎
+        ((q ≡ d) × (lookup (nat_eq q) (es ++ (d, x) ∷ []) ≡ Some x))
         → (cond b (Some y.1) (lookup (nat_eq q) (es ++ (d, x) ∷ [])) ≡ cond b (Some y.1) (lookup (nat_eq q) es))
         ⊎ ((q ≡ d) × (cond b (Some y.1) (lookup (nat_eq q) (es ++ (d, x) ∷ [])) ≡ Some x))
     by true h = inl refl
@@ -69,7 +71,8 @@ none_held : (d : ℕ) → Contains [] d → ⊥
 none_held d (k, l, e) = omega (arith, l)
 
 -- an array of a name that is not defined holds no other name
-pub array_finite : (s : Store) (t n other d : ℕ) → tree_at s t ≡ Some (Array n (Named other)) → definition_of s other ≡ None → d ≢ other → IfSome (tree_at s t) (λ u. ¬ HoldsByValue s u d)
+pub array_finite : (s : Store) (t n other d : ℕ) → tree_at s t ≡ Some (Array n (Named other)) → definition_of s other ≡ None → d ≢ other →
+    IfSome (tree_at s t) (λ u. ¬ HoldsByValue s u d)
 array_finite s t n other d tree unknown apart = rw tree (λ h. by h.0 h.1)
   where
     by : (way : List ℕ) → Leads (meaning_of s) (Array n (Named other)) way d → ⊥

@@ -1,5 +1,5 @@
 -- A type of which the extent is known has a size, and holds no name by value that is not defined.
-use Rattle.std.proofs.Common.{◌≡◌, ◌≢◌, ℕ, zero, suc, true, false, List, [], ◌∷◌, Option, Some, None, refl, ap, sym, ◌∙◌, subst, arith, ◌⊎◌, inl, inr}
+use Rattle.std.proofs.Common.{◌≡◌, ◌≢◌, ℕ, zero, suc, ◌*◌, true, false, List, [], ◌∷◌, Option, Some, None, refl, ap, sym, ◌∙◌, subst, arith, ◌⊎◌, inl, inr}
 use Rattle.std.specs.Prelude.{Contains, option_map, option_and_then, is_some, IfSome}
 use Rattle.std.proofs.lemmas.List.Elements.{Contains-append_cases}
 use Rattle.hare_types.specs.declared.extent.Extent.{Extent}
@@ -12,7 +12,6 @@ use Rattle.hare_types.specs.Sound.{IsStore}
 use Rattle.hare_types.specs.Kept.{LiesIn, told}
 use Rattle.hare_types.specs.Layout.{following, scalar_extent, fields_extent, union_extent, extent_with, extents_with, HasExtent}
 use Rattle.hare_layout.specs.Ids.{never}
-use Rattle.hare_layout.specs.Small.{array_extent}
 
 pub mapped : {A B : Type 0} (f : A → B) (o : Option A) (b : B) → option_map f o ≡ Some b → (a : A) × (o ≡ Some a)
 mapped f None b e = absurd cc
@@ -40,7 +39,9 @@ mutual
   held_known named (Pointer t) x e d h = absurd (none_held d h)
   held_known named (Nullable t) x e d h = absurd (none_held d h)
   held_known named (Slice t) x e d h = absurd (none_held d h)
-  held_known named (Array n t) x e d h = let k = mapped (array_extent n) (extent_with named t) x e in held_known named t k.0 k.1 d h
+  held_known named (Array n t) x e d h =
+      let k = mapped (λ y. record { size = n * y.size; align = y.align }) (extent_with named t) x e in
+      held_known named t k.0 k.1 d h
   held_known named (Struct ns ts) x e d h = let k = mapped fields_extent (extents_with named ts) x e in helds_known named ts k.0 k.1 d h
   held_known named (Tuple ts) x e d h = let k = mapped fields_extent (extents_with named ts) x e in helds_known named ts k.0 k.1 d h
   held_known named (Union ts) x e d h = let k = mapped union_extent (extents_with named ts) x e in helds_known named ts k.0 k.1 d h

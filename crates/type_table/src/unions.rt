@@ -5,12 +5,11 @@ ghost use Rattle.hare_types.specs.Assign.{IsIn};
 ghost use Rattle.hare_types.specs.ByIds.{members_at};
 ghost use Rattle.hare_types.specs.Sound.{IsStore};
 
-use crate::layout::is_known_small;
 use crate::spelled::type_in;
 use crate::table::Table;
 use anyhow::{Result, bail, ensure};
 use hare_assign::chosen_member;
-use hare_layout::payload_of;
+use hare_layout::{is_small, payload_of};
 use hare_types::{Coercion, Row, Ty, TypeId, TypeStore};
 
 /// Whether the type is a union, once names and error marks are followed.
@@ -44,7 +43,7 @@ pub(crate) fn becomes_member(store: &TypeStore, to: TypeId, from: Ty) -> Option<
 pub(crate) fn payload(table: &mut Table, skipped: usize, spelling: &str) -> Result<String> {
     let t = type_in(table, skipped, spelling)?;
     ensure!(is_union_type(&table.store, t), "no union");
-    if !is_known_small(&table.store, t) {
+    if !is_small(&table.store, t) {
         bail!("too large");
     }
     let payload = payload_of(&table.store, t);

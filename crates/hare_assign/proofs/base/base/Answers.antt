@@ -1,17 +1,13 @@
-use Rattle.std.proofs.Common.{◌<◌, ℕ, length, Option, Some, None, ◌∙◌}
+use Rattle.std.proofs.Common.{◌<◌, ℕ, length, Option, Some, None}
 use Rattle.std.specs.Prelude.{IfSome}
-use Rattle.hare_types.specs.Assign.{type_at}
 use Rattle.hare_types.specs.Bases.{IsBaseOf}
-use Rattle.hare_layout.proofs.BaseLemmas.{base_by-following}
-use Rattle.hare_layout.proofs.BaseOfLemmas.{base-value}
 use Rattle.hare_layout.proofs.SpreadLemmas.{id-tree_at}
+use Rattle.hare_assign.proofs.NamesLemmas.{base-of-id}
 use Rattle.hare_assign.proofs.base.base.Goals as goal
 
 pub returns : goal.returns
 returns c = record {
-  value =
-      base-value c.args.s.now c.base.ensures.sound c.args.t c.requires c.base.result c.base.ensures.some c.base.ensures.none
-      ∙ base_by-following c.args.s.now (length c.args.s.now.declared) (type_at c.args.s.now c.args.t);
+  value = base-of-id c.args.s.now c.base.ensures.sound c.args.t c.requires c.base.result c.base.ensures.some c.base.ensures.none;
   within = within c.base.result c.base.ensures.some;
 }
   where

@@ -5,4 +5,5 @@ use Rattle.hare_assign.specs.Ways.{passes}
 use Rattle.hare_assign.proofs.chosen.first_of.Given as goal
 
 abbrev pub invariant-loop-m : goal.invariant-loop-m
-invariant-loop-m l = first_of l.s (passes l.s l.way (value_at l.s l.from)) (drop l.m-index l.members) ≡ first_of l.s (passes l.s l.way (value_at l.s l.from)) l.members
+invariant-loop-m l = first_of l.s (passes l.s l.way (value_at l.s l.from)) (drop l.m-index l.members) ≡
+    first_of l.s (passes l.s l.way (value_at l.s l.from)) l.members

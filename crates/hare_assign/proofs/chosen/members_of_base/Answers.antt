@@ -9,12 +9,14 @@ row_of-requires c = (id-tree_at c.args.s.now c.in-Some.b c.in-Some.ensures.some.
 
 pub returns-in-Union-clause-some : goal.returns-in-Union-clause-some
 returns-in-Union-clause-some c =
-    ((ids_mean_trees c.args.s.now c.base.ensures.sound).members c.args.t c.in-Union.members).1 (c.in-Some.b, c.in-Some.ensures.some, c.row_of.ensures.row ∙ ap Some c.in-Union.is) ∙ ap Some (sym c.as_slice.ensures)
+    ((ids_mean_trees c.args.s.now c.base.ensures.sound).members c.args.t c.in-Union.members).1
+    (c.in-Some.b, c.in-Some.ensures.some, c.row_of.ensures.row ∙ ap Some c.in-Union.is) ∙ ap Some (sym c.as_slice.ensures)
 
 pub returns-in_default : goal.returns-in_default
 returns-in_default c = record {
   some = tt;
-  none = no_union c.args.s.now c.base.ensures.sound c.args.t c.in-Some.b c.row_of.result.now c.in-Some.ensures.some c.row_of.ensures.row c.in_default.not-Union;
+  none = no_union c.args.s.now c.base.ensures.sound c.args.t c.in-Some.b c.row_of.result.now c.in-Some.ensures.some c.row_of.ensures.row
+      c.in_default.not-Union;
   within = tt;
   sound = c.base.ensures.sound;
 }

@@ -7,5 +7,6 @@ abbrev pub invariant-loop-m : goal.invariant-loop-m
 invariant-loop-m l =
     record {
       few : l.found ≤ l.m-index;
-      value : l.found + how_many (is_const l.s (value_at l.s l.from)) (types_at l.s (drop l.m-index l.members)) ≡ how_many (is_const l.s (value_at l.s l.from)) (types_at l.s l.members);
+      value : l.found + how_many (is_const l.s (value_at l.s l.from)) (types_at l.s (drop l.m-index l.members)) ≡
+          how_many (is_const l.s (value_at l.s l.from)) (types_at l.s l.members);
     }

@@ -4,4 +4,5 @@ use Rattle.hare_assign.proofs.MemberLemmas.{IsUnion-type}
 use Rattle.hare_assign.proofs.unions.is_union.Goals as goal
 
 pub joins-requires-clause-union : goal.joins-requires-clause-union
-joins-requires-clause-union c = IsUnion-type c.args.s.now c.in-Some.b _ c.in-Some.ensures.within (c.row_of.ensures.tree ∙ ap (tree_of (trees c.args.s.now.rows)) c.in-Union.is)
+joins-requires-clause-union c = IsUnion-type c.args.s.now c.in-Some.b _ c.in-Some.ensures.within
+    (c.row_of.ensures.tree ∙ ap (tree_of (trees c.args.s.now.rows)) c.in-Union.is)

@@ -10,10 +10,12 @@ loop-u-preserved c =
     let ascend = subst Ascends next (Ascends-drop c.loop-u.u-index c.args.others.now c.requires.others) in
     record {
       within = c.met_with-met.ensures.within;
-      value = sym (c.met_with-met.ensures.value (drop (c.loop-u.u-index + 1) c.args.others.now) ascend) ∙ sym (ap (all_among (drop c.loop-u.met c.args.types.now)) next) ∙ c.loop-u.invariant.value;
+      value = sym (c.met_with-met.ensures.value (drop (c.loop-u.u-index + 1) c.args.others.now) ascend) ∙ sym
+          (ap (all_among (drop c.loop-u.met c.args.types.now)) next) ∙ c.loop-u.invariant.value;
     }
 
 pub returns : goal.returns
 returns c =
     let none : drop c.loop-u.u-index c.args.others.now ≡ [] = drop-past c.loop-u.u-index c.args.others.now (omega arith) in
-    pass-end c.args.types.now c.loop-u.met c.loop-u.invariant.within ∙ sym (ap (all_among (drop c.loop-u.met c.args.types.now)) none) ∙ c.loop-u.invariant.value
+    pass-end c.args.types.now c.loop-u.met c.loop-u.invariant.within ∙ sym (ap (all_among (drop c.loop-u.met c.args.types.now)) none) ∙
+    c.loop-u.invariant.value

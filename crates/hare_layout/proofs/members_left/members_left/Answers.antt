@@ -13,7 +13,8 @@ returns-in-None-clause-err c =
       refl,
       (
         c.loop-k.k,
-        left-stop c.args.s.now c.args.r.now c.args.members.now c.loop-k.k c.index-types-k.result c.is_spread.result c.requires.union c.requires.within within
+        left-stop c.args.s.now c.args.r.now c.args.members.now c.loop-k.k c.index-types-k.result c.is_spread.result c.requires.union
+            c.requires.within within
             (rw c.as_slice-types.ensures at c.index-types-k.is) c.is_spread.ensures c.in-None.ensures.none.0 c.in-None.ensures.none.1,
         c.loop-k.invariant.1,
         c.place_of.ensures,
@@ -23,8 +24,10 @@ returns-in-None-clause-err c =
 pub loop-k-preserved : goal.loop-k-preserved
 loop-k-preserved c =
     let within : c.loop-k.k < length c.args.members.now = omega (arith, ap length c.as_slice-types.ensures, c.loop-k-test.true) in
-    left-step c.args.s.now c.args.r.now c.args.members.now c.loop-k.k c.index-types-k.result c.is_spread.result c.requires.union c.requires.within within
-    (rw c.as_slice-types.ensures at c.index-types-k.is) c.is_spread.ensures c.loop-k.left.items c.push_members.new.left.items c.in-Some.more.now c.in-Some.ensures.some
+    left-step c.args.s.now c.args.r.now c.args.members.now c.loop-k.k c.index-types-k.result c.is_spread.result c.requires.union
+    c.requires.within within
+    (rw c.as_slice-types.ensures at c.index-types-k.is) c.is_spread.ensures c.loop-k.left.items c.push_members.new.left.items
+    c.in-Some.more.now c.in-Some.ensures.some
     c.in_ok-push_members-in-Some.ensures c.loop-k.invariant.0 c.loop-k.invariant.1
 
 pub returns-clause-ok : goal.returns-clause-ok

@@ -7,6 +7,7 @@ use Rattle.hare_layout.proofs.payload.payload_of.Goals as goal
 pub returns-clause-value : goal.returns-clause-value
 returns-clause-value c = by (members_at c.args.s.now c.args.t) refl c.requires.union
   where
-    by : (o : Option (List ℕ)) → members_at c.args.s.now c.args.t ≡ o → IsSome o → payload_at c.args.s.now c.args.t ≡ Some c.extent_of.result.align
+    by : (o : Option (List ℕ)) → members_at c.args.s.now c.args.t ≡ o → IsSome o →
+        payload_at c.args.s.now c.args.t ≡ Some c.extent_of.result.align
     by None e h = absurd cc
     by (Some is) e h = payload-align c.args.s.now c.args.t c.extent_of.result is c.extent_of.ensures.at e

@@ -9,7 +9,14 @@ pub returns-then-lacks_size-clause-err : goal.returns-then-lacks_size-clause-err
 returns-then-lacks_size-clause-err c =
     inr (
       other-spreads c.args.s.now c.args.r.now c.requires.other c.args.place,
-      inl (refl, (other-unsized c.args.s.now c.args.r.now c.requires.other (measured-ids c.args.s.now c.args.r.now.row c.requires.within) (sym c.lacks_size.ensures ∙ c.if-lacks_size.true), refl)),
+      inl (
+        refl,
+        (
+          other-unsized c.args.s.now c.args.r.now c.requires.other (measured-ids c.args.s.now c.args.r.now.row c.requires.within)
+              (sym c.lacks_size.ensures ∙ c.if-lacks_size.true),
+          refl,
+        ),
+      ),
     )
 
 pub returns-clause-passes : goal.returns-clause-passes

@@ -2,7 +2,7 @@ use Rattle.std.proofs.Common.{◌<◌, Some, ap, sym, ◌∙◌, arith}
 use Rattle.hare_types.specs.declared.row.Row.TheVariants as row
 use Rattle.hare_types.specs.Trees.{Array}
 use Rattle.hare_types.proofs.CallerLemmas.{tree_at_row}
-use Rattle.hare_layout.proofs.ExtentLemmas.{tree_in-row}
+use Rattle.hare_layout.proofs.SpreadLemmas.{tree_in-row}
 use Rattle.type_table.proofs.definable.is_of_undefined.Goals as goal
 
 pub row-requires-in-Array : goal.row-requires-in-Array
