@@ -15,8 +15,7 @@ use Rattle.hare_judge.specs.declared.kinds.Judge.{Judge}
 use Rattle.hare_judge.specs.declared.kinds.Judge.TheVariants as by
 
 -- An expression or a statement: a hint asks something of it, since its rows end in those that all expressions, statements and declarations
--- of
--- values share, and it is no declaration. A declaration is judged by itself, with the place in its value that is not constant.
+-- of values share, and it is no declaration. A declaration is judged by itself, with the place in its value that is not constant.
 abbrev pub is_judged_kind : Kind → Bool
 is_judged_kind k = list_any is_site (rows_of k) && not (declares k)
 

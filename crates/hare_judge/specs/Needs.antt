@@ -18,8 +18,7 @@ use Rattle.rule_mem.specs.Needs.{has_place_form}
 use Rattle.hare_judge.specs.Kinds.{has_cases}
 
 -- The refusal of memory is defined; what a path means is known; the result of the function mentions no name that is not defined; where the
--- first
--- kid can be a place, it has a type; and each case of a `match` or a `switch` has one.
+-- first kid can be a place, it has a type; and each case of a `match` or a `switch` has one.
 pub record IsReadyNode (s : Store) (decls : List DeclType) (locals : List Local) (c : Case) (k : Kind) (xs : List TypedNode) : Type 0 where
   pub nomem : IsDefinedName s nomem
   pub meant : IsMeant s decls locals c.meaning

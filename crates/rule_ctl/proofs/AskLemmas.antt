@@ -22,12 +22,16 @@ first_take (x ∷ xs) (suc i) n e = refl
 -- ---- the value of a binding
 
 value_asked : (xs : List TypedNode) (i : ℕ) → length (take i xs) ≡ 1
-    → is_type_hint (written_hint (tree_from_front 0 xs)) ≡ is_type_hint (by_place (length (take i xs)) (hint.None ∷ written_hint (first (take i xs)) ∷ []) hint.None)
+    → is_type_hint (written_hint (tree_from_front 0 xs)) ≡
+    is_type_hint (by_place (length (take i xs)) (hint.None ∷ written_hint (first (take i xs)) ∷ []) hint.None)
 value_asked xs i e =
-    sym (ap (λ n. is_type_hint (by_place n (hint.None ∷ written_hint (first (take i xs)) ∷ []) hint.None)) e ∙ ap (λ (x : TypedNode). is_type_hint (written_hint x)) (first_take xs i 0 e))
+    sym (ap (λ n. is_type_hint (by_place n (hint.None ∷ written_hint (first (take i xs)) ∷ []) hint.None)) e ∙ ap
+    (λ (x : TypedNode). is_type_hint (written_hint x)) (first_take xs i 0 e))
 
 -- of the value the type that is written, where one is
 pub value_written : (xs : List TypedNode) (i : ℕ) → length (take i xs) ≡ 1 → is_there (tree_from_front 0 xs) ≡ true
-    → is_some (id_in (own_type (tree_from_front 0 xs))) ≡ is_type_hint (by_place (length (take i xs)) (hint.None ∷ written_hint (first (take i xs)) ∷ []) hint.None)
+    → is_some (id_in (own_type (tree_from_front 0 xs))) ≡
+    is_type_hint (by_place (length (take i xs)) (hint.None ∷ written_hint (first (take i xs)) ∷ []) hint.None)
 value_written xs i e k =
-    sym (hint_to-asks (id_in (own_type (tree_from_front 0 xs)))) ∙ sym (ap (λ b. is_type_hint (cond b (hint_to (id_in (own_type (tree_from_front 0 xs)))) hint.None)) k) ∙ value_asked xs i e
+    sym (hint_to-asks (id_in (own_type (tree_from_front 0 xs)))) ∙ sym
+    (ap (λ b. is_type_hint (cond b (hint_to (id_in (own_type (tree_from_front 0 xs)))) hint.None)) k) ∙ value_asked xs i e

@@ -28,7 +28,8 @@ arguments_counted (x ∷ xs) = by xs
 pub argument_asked : (w : Setting) (xs : List TypedNode) (i n : ℕ) → length (take i xs) ≡ suc n
     → is_some (param_at (callee w (tree_from_front 0 xs)) n) ≡ is_type_hint (argument_hint w (take i xs) (length (take i xs)))
 argument_asked w xs i n e =
-    ap (λ (x : TypedNode). is_some (param_at (callee w x) n)) (sym (first_take xs i n e)) ∙ sym (hint_to-asks (param_at (callee w (tree_from_front 0 (take i xs))) n))
+    ap (λ (x : TypedNode). is_some (param_at (callee w x) n)) (sym (first_take xs i n e)) ∙ sym
+    (hint_to-asks (param_at (callee w (tree_from_front 0 (take i xs))) n))
     ∙ sym (ap (λ k. is_type_hint (argument_hint w (take i xs) k)) e)
 
 -- ---- callees

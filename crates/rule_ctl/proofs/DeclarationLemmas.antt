@@ -52,15 +52,18 @@ third_written (x ∷ y ∷ []) (suc (suc (suc i))) h = absurd (omega (arith, h))
 third_written (x ∷ y ∷ z ∷ xs) (suc (suc zero)) h = absurd (omega (arith, h))
 third_written (x ∷ y ∷ z ∷ xs) (suc (suc (suc i))) h = refl
 
-pub unwritten_asked : (xs : List TypedNode) (i : ℕ) → 3 ≤ length (take i xs) → is_there (tree_from_front 2 xs) ≡ false → false ≡ is_type_hint (declared_hint (take i xs))
+pub unwritten_asked : (xs : List TypedNode) (i : ℕ) → 3 ≤ length (take i xs) → is_there (tree_from_front 2 xs) ≡ false →
+    false ≡ is_type_hint (declared_hint (take i xs))
 unwritten_asked xs i h e =
-    sym (ap is_type_hint (third_written xs i h) ∙ ap (λ b. is_type_hint (cond b (hint_to (id_in (own_type (tree_from_front 2 xs)))) hint.None)) e)
+    sym (ap is_type_hint (third_written xs i h) ∙ ap
+    (λ b. is_type_hint (cond b (hint_to (id_in (own_type (tree_from_front 2 xs)))) hint.None)) e)
 
 pub written_asked : (xs : List TypedNode) (i : ℕ) → 3 ≤ length (take i xs) → is_there (tree_from_front 2 xs) ≡ true
     → is_some (id_in (own_type (tree_from_front 2 xs))) ≡ is_type_hint (declared_hint (take i xs))
 written_asked xs i h e =
     sym (hint_to-asks (id_in (own_type (tree_from_front 2 xs))))
-    ∙ sym (ap is_type_hint (third_written xs i h) ∙ ap (λ b. is_type_hint (cond b (hint_to (id_in (own_type (tree_from_front 2 xs)))) hint.None)) e)
+    ∙ sym (ap is_type_hint (third_written xs i h) ∙ ap
+    (λ b. is_type_hint (cond b (hint_to (id_in (own_type (tree_from_front 2 xs)))) hint.None)) e)
 
 pub declared_asked : (c : Context) (i : ℕ) (k : Kind) → declares k ≡ true → asks_as c i ki.Def ≡ asks_as c i k
 declared_asked c i ki.Def e = refl
@@ -95,20 +98,23 @@ module _ (c : Context) where
   abbrev fails : RowId → Bool
   fails r = not (holds r c)
 
-  by_default : (rest : List RowId) → holds row.BindingDefault c ≡ false → find (λ r. not (holds r c)) (row.BindingDefault ∷ rest) ≡ Some row.BindingDefault
+  by_default : (rest : List RowId) → holds row.BindingDefault c ≡ false →
+      find (λ r. not (holds r c)) (row.BindingDefault ∷ rest) ≡ Some row.BindingDefault
   by_default rest h = found fails row.BindingDefault rest (ap not h)
 
   by_size : (rest : List RowId) → holds row.BindingDefault c ≡ true → holds row.BindingHasSize c ≡ false
       → find (λ r. not (holds r c)) (row.BindingDefault ∷ row.BindingHasSize ∷ rest) ≡ Some row.BindingHasSize
   by_size rest g h = passed fails row.BindingDefault (row.BindingHasSize ∷ rest) (ap not g) ∙ found fails row.BindingHasSize rest (ap not h)
 
-  by_constant : (rest : List RowId) → holds row.BindingDefault c ≡ true → holds row.BindingHasSize c ≡ true → holds row.BindingConstant c ≡ false
+  by_constant : (rest : List RowId) → holds row.BindingDefault c ≡ true → holds row.BindingHasSize c ≡ true →
+      holds row.BindingConstant c ≡ false
       → find (λ r. not (holds r c)) (row.BindingDefault ∷ row.BindingHasSize ∷ row.BindingConstant ∷ rest) ≡ Some row.BindingConstant
   by_constant rest g h n =
       passed fails row.BindingDefault (row.BindingHasSize ∷ row.BindingConstant ∷ rest) (ap not g)
       ∙ passed fails row.BindingHasSize (row.BindingConstant ∷ rest) (ap not h) ∙ found fails row.BindingConstant rest (ap not n)
 
-  pub default_fails : (k : Kind) → declares k ≡ true → holds row.BindingDefault c ≡ false → find (λ r. not (holds r c)) (rows_of k) ≡ Some row.BindingDefault
+  pub default_fails : (k : Kind) → declares k ≡ true → holds row.BindingDefault c ≡ false →
+      find (λ r. not (holds r c)) (rows_of k) ≡ Some row.BindingDefault
   default_fails ki.Def d h = by_default (row.BindingHasSize ∷ row.BindingConstant ∷ row.DefScalar ∷ asked) h
   default_fails ki.GlobalLet d h = by_default (row.BindingHasSize ∷ row.BindingConstant ∷ asked) h
   default_fails ki.GlobalConst d h = by_default (row.BindingHasSize ∷ row.BindingConstant ∷ asked) h
@@ -121,7 +127,8 @@ module _ (c : Context) where
   size_fails ki.GlobalConst d g h = by_size (row.BindingConstant ∷ asked) g h
   size_fails _ d g h = absurd cc
 
-  pub constant_fails : (k : Kind) → declares k ≡ true → holds row.BindingDefault c ≡ true → holds row.BindingHasSize c ≡ true → holds row.BindingConstant c ≡ false
+  pub constant_fails : (k : Kind) → declares k ≡ true → holds row.BindingDefault c ≡ true → holds row.BindingHasSize c ≡ true →
+      holds row.BindingConstant c ≡ false
       → find (λ r. not (holds r c)) (rows_of k) ≡ Some row.BindingConstant
   constant_fails ki.Def d g h n = by_constant (row.DefScalar ∷ asked) g h n
   constant_fails ki.GlobalLet d g h n = by_constant asked g h n
@@ -129,7 +136,8 @@ module _ (c : Context) where
   constant_fails _ d g h n = absurd cc
 
   -- its fault is the node's
-  pub refused : (r : RowId) (p : Place) (e : Fault) → first_failing c ≡ Some r → p ≡ stands r c → e ≡ record { number = number_of r; place = p } → IsRefusal c e
+  pub refused : (r : RowId) (p : Place) (e : Fault) → first_failing c ≡ Some r → p ≡ stands r c →
+      e ≡ record { number = number_of r; place = p } → IsRefusal c e
   refused r p e f s h = record {
     row = r;
     first = f;
@@ -155,7 +163,9 @@ module _ (c : Context) where
 
 pub constant_is : (xs : List TypedNode) (n m : ℕ) (x : TypedNode) (v : Const) → n ≡ m → slice_get xs n ≡ Some x → v ≡ (mark_of x).value
     → not (is_absent_value v) ≡ not (is_absent_value (mark_of (tree_from_front m xs)).value)
-constant_is xs n m x v e g h = ap (λ w. not (is_absent_value w)) (h ∙ ap (λ y. (mark_of y).value) (front_found xs n x g ∙ ap (λ k. tree_from_front k xs) e))
+constant_is xs n m x v e g h = ap (λ w. not (is_absent_value w))
+    (h ∙ ap (λ y. (mark_of y).value) (front_found xs n x g ∙ ap (λ k. tree_from_front k xs) e))
 
-pub constant_none : (xs : List TypedNode) (n m : ℕ) → n ≡ m → length xs ≤ n → false ≡ not (is_absent_value (mark_of (tree_from_front m xs)).value)
+pub constant_none : (xs : List TypedNode) (n m : ℕ) → n ≡ m → length xs ≤ n →
+    false ≡ not (is_absent_value (mark_of (tree_from_front m xs)).value)
 constant_none xs n m e h = ap (λ y. not (is_absent_value (mark_of y).value)) (front_past xs n h ∙ ap (λ k. tree_from_front k xs) e)

@@ -15,7 +15,8 @@ nearest_last p ls l = ap (find p) (reverse-append ls (l ∷ []))
 
 module _ (p : Open → Bool) (ls : List Label) (i : ℕ) (l : Label) (e : slice_get ls i ≡ Some l) where
   last_of : nearest p (map open_of (take (i + 1) ls)) ≡ cond (p (open_of l)) (Some (open_of l)) (nearest p (map open_of (take i ls)))
-  last_of = ap (λ ks. nearest p (map open_of ks)) (take-get ls i l e) ∙ ap (nearest p) (map_push open_of (take i ls) l) ∙ nearest_last p (map open_of (take i ls)) (open_of l)
+  last_of = ap (λ ks. nearest p (map open_of ks)) (take-get ls i l e) ∙ ap (nearest p) (map_push open_of (take i ls) l) ∙ nearest_last p
+      (map open_of (take i ls)) (open_of l)
 
   -- it is the nearest of those that are left
   pub found : p (open_of l) ≡ true → nearest p (map open_of (take (i + 1) ls)) ≡ Some (open_of l)
@@ -36,7 +37,8 @@ find_behind p [] y e h = by (p y)
     by false = refl
 find_behind p (x ∷ xs) y e h = by (find_behind p xs y e) (p x) h
   where
-    by : (hint_of_open (find p xs) ≡ hint.None → hint_of_open (find p (xs ++ y ∷ [])) ≡ hint.None) → (b : Bool) → hint_of_open (cond b (Some x) (find p xs)) ≡ hint.None
+    by : (hint_of_open (find p xs) ≡ hint.None → hint_of_open (find p (xs ++ y ∷ [])) ≡ hint.None) → (b : Bool) →
+        hint_of_open (cond b (Some x) (find p xs)) ≡ hint.None
         → hint_of_open (cond b (Some x) (find p (xs ++ y ∷ []))) ≡ hint.None
     by ih true k = k
     by ih false k = ih k
@@ -49,7 +51,8 @@ nearest_bare p (l ∷ ls) =
     ∙ find_behind p (reverse (map open_of ls)) (open_of l) refl (nearest_bare p ls)
 
 -- so nothing is known to ask for the value that a `yield` lacks
-pub yield_passes : (f : Store) (there : Bool) (p : Open → Bool) (ls : List Label) → (there || void_fits_hint f (hint_of_open (nearest p (map open_of ls)))) ≡ true
+pub yield_passes : (f : Store) (there : Bool) (p : Open → Bool) (ls : List Label) →
+    (there || void_fits_hint f (hint_of_open (nearest p (map open_of ls)))) ≡ true
 yield_passes f there p ls = ap (λ h. there || void_fits_hint f h) (nearest_bare p ls) ∙ by there
   where
     by : (b : Bool) → (b || true) ≡ true

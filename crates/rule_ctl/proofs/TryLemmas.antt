@@ -22,25 +22,30 @@ use Rattle.rule_ctl.proofs.AskLemmas.{hint_to-asks}
 -- ---- allocations
 
 refusable_asked : (w : Setting) (o : Option ℕ)
-    → is_type_hint (refusable_hint w o) ≡ is_some (option_and_then (λ t. option_and_then (with_refusal w.store) (made_by w (base_row w.store (ty.Of t)))) o)
+    → is_type_hint (refusable_hint w o) ≡ is_some
+    (option_and_then (λ t. option_and_then (with_refusal w.store) (made_by w (base_row w.store (ty.Of t)))) o)
 refusable_asked w None = refl
 refusable_asked w (Some t) = hint_to-asks (option_and_then (with_refusal w.store) (made_by w (base_row w.store (ty.Of t))))
 
 -- an allocation is asked for what the hint asks for
 pub allocation_asked : (w : Setting) (h : Hint) (t : Node) → allocates t ≡ true → asks_refusable w.store h ≡ is_type_hint (tried_hint w h t)
-allocation_asked w h t e = sym (refusable_asked w (asked w h)) ∙ sym (ap (λ b. is_type_hint (cond b (refusable_hint w (asked w h)) hint.None)) e)
+allocation_asked w h t e = sym (refusable_asked w (asked w h)) ∙ sym
+    (ap (λ b. is_type_hint (cond b (refusable_hint w (asked w h)) hint.None)) e)
 
 -- and nothing else is
 pub other_unasked : (w : Setting) (h : Hint) (t : Node) → allocates t ≡ false → false ≡ is_type_hint (tried_hint w h t)
 other_unasked w h t e = sym (ap (λ b. is_type_hint (cond b (refusable_hint w (asked w h)) hint.None)) e)
 
 -- what is made is a pointer
-pub made_pointer : (f : Store) (t u p : ℕ) → Some u ≡ leads_to (base_row f (ty.Of t)) → id_of f (row.Pointer u) ≡ Some p → Some p ≡ made_of f t
+pub made_pointer : (f : Store) (t u p : ℕ) → Some u ≡ leads_to (base_row f (ty.Of t)) → id_of f (row.Pointer u) ≡ Some p →
+    Some p ≡ made_of f t
 made_pointer f t u p e h =
-    sym (ap (λ o. option_or (pointer_to f o) (slice_of f (element_of (base_row f (ty.Of t))))) (sym e) ∙ ap (λ o. option_or o (slice_of f (element_of (base_row f (ty.Of t))))) h)
+    sym (ap (λ o. option_or (pointer_to f o) (slice_of f (element_of (base_row f (ty.Of t))))) (sym e) ∙ ap
+    (λ o. option_or o (slice_of f (element_of (base_row f (ty.Of t))))) h)
 
 -- or a slice
-pub made_slice : (f : Store) (t u p : ℕ) → None ≡ leads_to (base_row f (ty.Of t)) → Some u ≡ element_of (base_row f (ty.Of t)) → id_of f (row.Slice u) ≡ Some p → Some p ≡ made_of f t
+pub made_slice : (f : Store) (t u p : ℕ) → None ≡ leads_to (base_row f (ty.Of t)) → Some u ≡ element_of (base_row f (ty.Of t)) →
+    id_of f (row.Slice u) ≡ Some p → Some p ≡ made_of f t
 made_slice f t u p e g h =
     sym (ap (λ o. option_or (pointer_to f o) (slice_of f (element_of (base_row f (ty.Of t))))) (sym e) ∙ ap (slice_of f) (sym g) ∙ h)
 
@@ -63,7 +68,8 @@ module _ (f : Store) (h : Hint) (t : ℕ) (e : Some t ≡ option_and_then (alloc
 -- ---- errors, one by one
 
 module _ (f : Store) (ts : List ℕ) (i u d to : ℕ) (h : i < length ts) (e : u ≡ get_or ts i d) where
-  here : filter (is_error_at f) (drop i ts) ≡ cond (is_error_at f u) (u ∷ filter (is_error_at f) (drop (i + 1) ts)) (filter (is_error_at f) (drop (i + 1) ts))
+  here : filter (is_error_at f) (drop i ts) ≡
+      cond (is_error_at f u) (u ∷ filter (is_error_at f) (drop (i + 1) ts)) (filter (is_error_at f) (drop (i + 1) ts))
   here = rw add-one (ap (filter (is_error_at f)) (drop-cons ts i d h ∙ ap (λ v. v ∷ drop (suc i) ts) (sym e)))
 
   by : (a b : Bool) (us : List ℕ) → fits f (ty.Of u) to ≡ b → all_fit f (cond a (u ∷ us) us) to ≡ cond (a && not b) false (all_fit f us to)
@@ -76,7 +82,8 @@ module _ (f : Store) (ts : List ℕ) (i u d to : ℕ) (h : i < length ts) (e : u
       sym (ap (λ us. all_fit f us to) here ∙ by (is_error_at f u) (fits f (ty.Of u) to) (filter (is_error_at f) (drop (i + 1) ts)) refl
       ∙ ap (λ c. cond c false (all_fit f (filter (is_error_at f) (drop (i + 1) ts)) to)) (sym k))
 
-  pub rejected_none : false ≡ rejected f u to → all_fit f (filter (is_error_at f) (drop i ts)) to ≡ all_fit f (filter (is_error_at f) (drop (i + 1) ts)) to
+  pub rejected_none : false ≡ rejected f u to →
+      all_fit f (filter (is_error_at f) (drop i ts)) to ≡ all_fit f (filter (is_error_at f) (drop (i + 1) ts)) to
   rejected_none k =
       ap (λ us. all_fit f us to) here ∙ by (is_error_at f u) (fits f (ty.Of u) to) (filter (is_error_at f) (drop (i + 1) ts)) refl
       ∙ ap (λ c. cond c false (all_fit f (filter (is_error_at f) (drop (i + 1) ts)) to)) (sym k)

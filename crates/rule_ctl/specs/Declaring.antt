@@ -45,7 +45,8 @@ place_found c = option_map place_of (inconstant (store_of c) c.inside.own (decla
 -- This is that place in each later store, where the value has no constant.
 abbrev pub IsInconstantNode : Store → List DeclType → List Local → Case → Head → List TypedNode → Option Place → Type 0
 IsInconstantNode s decls locals c h xs o =
-    (f : Store) → IsLater s f → holds row.BindingConstant (context_of f decls locals c h xs) ≡ false → o ≡ place_found (context_of f decls locals c h xs)
+    (f : Store) → IsLater s f → holds row.BindingConstant (context_of f decls locals c h xs) ≡ false →
+    o ≡ place_found (context_of f decls locals c h xs)
 
 abbrev pub IsInconstantAt : Store → Turn → Option Place → Type 0
 IsInconstantAt s t = IsInconstantNode s t.decls.now t.locals.now t.case.now (head_in t) t.kids.now

@@ -26,4 +26,5 @@ made_of s t = option_or (pointer_to s (leads_to (base_row s (ty.Of t)))) (slice_
 
 -- whether the hint asks for the union of that with the refusal of memory
 abbrev pub asks_refusable : Store → Hint → Bool
-asks_refusable s h = is_some (option_and_then (λ t. option_and_then (with_refusal s) (made_of s t)) (option_and_then (allocation s) (hint_id h)))
+asks_refusable s h = is_some (option_and_then (λ t. option_and_then (with_refusal s) (made_of s t))
+    (option_and_then (allocation s) (hint_id h)))

@@ -57,6 +57,7 @@ impl Rules for Control {
         _alloc: Global,
         s: &mut TypeStore,
         t: &Turn<'_>,
+        _ty: &Ty,
         i: usize,
     ) -> Result<Option<TypeId>, AllocError> {
         hinted::target(s, t, i)

@@ -69,6 +69,7 @@ impl Rules for Declaring {
         _alloc: Global,
         s: &mut TypeStore,
         t: &Turn<'_>,
+        _ty: &Ty,
         i: usize,
     ) -> Result<Option<TypeId>, AllocError> {
         target(s, t, i)

@@ -1,14 +1,22 @@
 -- What nodes ask of their kids.
-use Rattle.std.proofs.Common.{◌≡◌, ℕ, zero, suc, Bool, true, false, not, ◌&&◌, cond, List, [], ◌∷◌, length, take, drop, Option, None, refl, ap, ap₂, sym, ◌∙◌, arith}
+use Rattle.std.proofs.Common.{◌≡◌, ℕ, zero, suc, Bool, true, false, not, ◌&&◌, cond, List, [], ◌∷◌, length, take, drop, Option, Some, None, refl, ap, ap₂, sym, ◌∙◌, arith}
+use Rattle.hare_tree.specs.declared.kind.Kind.{Kind}
+use Rattle.hare_tree.specs.declared.kind.Kind.TheVariants as ki
 use Rattle.hare_tree.specs.Node.{head}
 use Rattle.hare_tree.specs.Shape.{is_none as is_left_out}
+use Rattle.hare_types.specs.declared.coercion.Ty.{Ty}
+use Rattle.hare_types.specs.declared.row.Scalar.TheVariants as keyword
 use Rattle.hare_typed.specs.Typed.{TypedNode, marked, typed_nodes}
 use Rattle.hare_typed.specs.Erased.{erase, erase_each}
 use Rattle.hare_typed.specs.Numbers.{kind_of}
 use Rattle.hare_typed.specs.Order.{tree_from_front}
 use Rattle.hare_rules.specs.declared.hint.Hint.{Hint}
 use Rattle.hare_rules.specs.declared.hint.Hint.TheVariants as hint
-use Rattle.hare_rules.specs.Context.{is_there}
+use Rattle.hare_rules.specs.Context.{Context, store_of, is_there}
+use Rattle.hare_rules.specs.Control.{has_else, branches, if_type}
+use Rattle.hare_rules.specs.Joined.{joined}
+use Rattle.hare_rules.specs.Types.{type_by}
+use Rattle.hare_rules.specs.Words.{word_id, typed_as}
 use Rattle.hare_rules.specs.Above.{by_place, next_kind, then_hint}
 use Rattle.hare_rules.specs.Judged.{is_type_hint}
 use Rattle.hare_rules.specs.Settles.{only_where}
@@ -18,7 +26,8 @@ erased_kind : (x : TypedNode) → (head (erase x)).kind ≡ kind_of x
 erased_kind (marked h m ts) = refl
 
 -- what stands behind the second kid
-next_is : (xs : List TypedNode) (i : ℕ) → length (take i xs) ≡ 1 → next_kind (erase_each (typed_nodes (drop (suc i) xs))) ≡ kind_of (tree_from_front 2 xs)
+next_is : (xs : List TypedNode) (i : ℕ) → length (take i xs) ≡ 1 →
+    next_kind (erase_each (typed_nodes (drop (suc i) xs))) ≡ kind_of (tree_from_front 2 xs)
 next_is [] zero e = absurd (omega (arith, e))
 next_is [] (suc i) e = absurd (omega (arith, e))
 next_is (x ∷ xs) zero e = absurd (omega (arith, e))
@@ -54,3 +63,11 @@ target_without false d o e = refl
 
 pub target_with : (b d : Bool) (o q : Option ℕ) → b ≡ true → true ≡ d → q ≡ o → q ≡ only_where (b && d) o
 target_with b d o q e h k = k ∙ ap₂ (λ x y. only_where (x && y) o) (sym e) h
+
+pub branches_typed : (c : Context) (a : Ty) → true ≡ has_else c → if_type c ≡ Some a
+    → typed_as (joined (store_of c) c.hint (branches c)) ≡ Some a
+branches_typed c a h e =
+    ap (λ b. typed_as (cond b (joined (store_of c) c.hint (branches c)) (word_id (store_of c) keyword.Void))) h ∙ e
+
+pub if_typed : (c : Context) (k : Kind) (a : Ty) → k ≡ ki.If → type_by c k ≡ Some a → if_type c ≡ Some a
+if_typed c k a e g = ap (type_by c) (sym e) ∙ g

@@ -29,7 +29,8 @@ out_quiet _ text = refl
 
 mutual
   quiet : (t : TypedNode) → breaks [] false t ≡ false
-  quiet (marked h m ts) = ap₂ (λ a b. a || b) (out_quiet h.kind h.text) (quiet_each (is_loop_kind h.kind && bytes_eq h.text [] && not (is_nameless [])) ts)
+  quiet (marked h m ts) = ap₂ (λ a b. a || b) (out_quiet h.kind h.text)
+      (quiet_each (is_loop_kind h.kind && bytes_eq h.text [] && not (is_nameless [])) ts)
 
   quiet_each : (hidden : Bool) (ts : TypedNodes) → breaks_in [] false hidden ts ≡ false
   quiet_each hidden typed_none = refl
@@ -41,7 +42,8 @@ and_false true = refl
 and_false false = refl
 
 -- a loop inside one without a name
-pub loop_quiet : (name : List ℕ) (near : Bool) (h : Head) (m : Mark) (ts : TypedNodes) (t : TypedNode) → marked h m ts ≡ t → false ≡ is_break name near h.kind h.text
+pub loop_quiet : (name : List ℕ) (near : Bool) (h : Head) (m : Mark) (ts : TypedNodes) (t : TypedNode) → marked h m ts ≡ t →
+    false ≡ is_break name near h.kind h.text
     → true ≡ is_loop_kind h.kind → name ≡ [] → false ≡ breaks name near t
 loop_quiet name near h m ts t v e l n =
     sym (sym (ap (breaks name near) v) ∙ ap₂ (λ a b. a || b) (sym e)
@@ -60,7 +62,8 @@ pub empty_is : (name : List ℕ) → true ≡ (length name == 0) → name ≡ []
 empty_is [] e = refl
 empty_is (b ∷ bs) e = absurd (omega (arith, (unsigned_Decides (suc (length bs)) 0).0 (sym e)))
 
-pub loop_hidden : (name : List ℕ) (near : Bool) (h : Head) (m : Mark) (ts : TypedNodes) (t : TypedNode) → marked h m ts ≡ t → false ≡ is_break name near h.kind h.text
+pub loop_hidden : (name : List ℕ) (near : Bool) (h : Head) (m : Mark) (ts : TypedNodes) (t : TypedNode) → marked h m ts ≡ t →
+    false ≡ is_break name near h.kind h.text
     → true ≡ is_loop_kind h.kind → false ≡ (length name == 0) → true ≡ bytes_eq h.text name → false ≡ breaks name near t
 loop_hidden name near h m ts t v e l n q =
     sym (sym (ap (breaks name near) v) ∙ ap₂ (λ a b. a || b) (sym e)
@@ -73,11 +76,14 @@ loop_hidden name near h m ts t v e l n q =
 module _ (name : List ℕ) (near : Bool) (xs : List TypedNode) (i : ℕ) (x : TypedNode) (e : slice_get xs i ≡ Some x) where
   pub breaks_here : true ≡ breaks name near x → true ≡ breaks_in name near false (typed_nodes (drop i xs))
   breaks_here h =
-      sym (ap (λ ys. breaks_in name near false (typed_nodes ys)) (drop_get xs i x e) ∙ ap (λ b. b || breaks_in name near false (typed_nodes (drop (i + 1) xs))) (sym h))
+      sym (ap (λ ys. breaks_in name near false (typed_nodes ys)) (drop_get xs i x e) ∙ ap
+      (λ b. b || breaks_in name near false (typed_nodes (drop (i + 1) xs))) (sym h))
 
-  pub breaks_next : false ≡ breaks name near x → breaks_in name near false (typed_nodes (drop i xs)) ≡ breaks_in name near false (typed_nodes (drop (i + 1) xs))
+  pub breaks_next : false ≡ breaks name near x →
+      breaks_in name near false (typed_nodes (drop i xs)) ≡ breaks_in name near false (typed_nodes (drop (i + 1) xs))
   breaks_next h =
-      ap (λ ys. breaks_in name near false (typed_nodes ys)) (drop_get xs i x e) ∙ ap (λ b. b || breaks_in name near false (typed_nodes (drop (i + 1) xs))) (sym h)
+      ap (λ ys. breaks_in name near false (typed_nodes ys)) (drop_get xs i x e) ∙ ap
+      (λ b. b || breaks_in name near false (typed_nodes (drop (i + 1) xs))) (sym h)
 
 -- the kids of a loop are looked at from the first on
 pub some_break : (name : List ℕ) (xs : List TypedNode) → breaks_in name true false (typed_nodes xs) ≡ list_any (breaks name true) xs

@@ -26,13 +26,15 @@ none_is (Some a) e = cc
 pub branches_default : (c : Context) → c.head.kind ≡ ki.If → own_failing c ≡ None → first_lacking (store_of c) c.hint (branches c) ≡ None
 branches_default c e n = none_is (first_lacking (store_of c) c.hint (branches c)) (row_met c ki.If 0 row.IfFirstDefault e refl n)
 
-pub yields_default : (c : Context) → true ≡ is_block c.head.kind → own_failing c ≡ None → first_lacking (store_of c) c.hint (block_values c) ≡ None
+pub yields_default : (c : Context) → true ≡ is_block c.head.kind → own_failing c ≡ None →
+    first_lacking (store_of c) c.hint (block_values c) ≡ None
 yields_default c h n = by c.head.kind refl h
   where
     by : (k : Kind) → c.head.kind ≡ k → true ≡ is_block k → first_lacking (store_of c) c.hint (block_values c) ≡ None
     by ki.Block e g = none_is (first_lacking (store_of c) c.hint (block_values c)) (row_met c ki.Block 1 row.BlockFirstDefault e refl n)
     by ki.Case e g = none_is (first_lacking (store_of c) c.hint (block_values c)) (row_met c ki.Case 0 row.CaseFirstDefault e refl n)
-    by ki.SwitchCase e g = none_is (first_lacking (store_of c) c.hint (block_values c)) (row_met c ki.SwitchCase 0 row.CaseFirstDefault e refl n)
+    by ki.SwitchCase e g = none_is (first_lacking (store_of c) c.hint (block_values c))
+        (row_met c ki.SwitchCase 0 row.CaseFirstDefault e refl n)
     by _ e g = cc
 
 -- ---- blocks
@@ -53,7 +55,8 @@ module _ (c : Context) where
   some_given (y ∷ ys) e h = let no : true ≡ false = cc in absurd cc
 
   -- where anything was yielded
-  pub block_joined : (ys : List Yielded) → c.yields ≡ givens_from 0 ys → false ≡ (length ys == 0) → block_type c ≡ typed_as (joined (store_of c) c.hint (block_values c))
+  pub block_joined : (ys : List Yielded) → c.yields ≡ givens_from 0 ys → false ≡ (length ys == 0) →
+      block_type c ≡ typed_as (joined (store_of c) c.hint (block_values c))
   block_joined ys e h = ap typed_as (joined_by c.yields (end_behind c c.yields) (λ n. some_given ys h (sym e ∙ n)))
 
   no_values : (ys : List Yielded) → c.yields ≡ givens_from 0 ys → true ≡ (length ys == 0) → block_values c ≡ []

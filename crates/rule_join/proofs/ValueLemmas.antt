@@ -17,7 +17,8 @@ use Rattle.rule_join.specs.declared.values.Source.TheVariants as source
 use Rattle.rule_join.specs.Together.{handed, listed_in, two_branches, ends}
 use Rattle.rule_join.proofs.BreakLemmas.{drop_get}
 
-branch_at : (b : Bool) (xs : List TypedNode) (i : ℕ) → i < length (two_branches b xs) → slice_get (two_branches b xs) i ≡ Some (handed (tree_from_front (suc i) xs))
+branch_at : (b : Bool) (xs : List TypedNode) (i : ℕ) → i < length (two_branches b xs) →
+    slice_get (two_branches b xs) i ≡ Some (handed (tree_from_front (suc i) xs))
 branch_at true xs zero h = refl
 branch_at true xs (suc zero) h = refl
 branch_at true xs (suc (suc i)) h = absurd (omega (arith, h))
@@ -29,7 +30,8 @@ branch_few false xs i h = absurd (omega (arith, h))
 
 -- ---- by their source
 
-pub at_branch : (v : Source) (t : Turn) (i : ℕ) (y : Yielded) → v ≡ source.Branches → i < length (listed_in v t) → y ≡ handed (tree_from_front (i + 1) t.kids.now)
+pub at_branch : (v : Source) (t : Turn) (i : ℕ) (y : Yielded) → v ≡ source.Branches → i < length (listed_in v t) →
+    y ≡ handed (tree_from_front (i + 1) t.kids.now)
     → slice_get (listed_in v t) i ≡ Some y
 at_branch source.Branches t i y e h k =
     let next : i + 1 ≡ suc i = add-one i in
@@ -48,7 +50,8 @@ yields_are v t e = ap (λ w. listed_in w t) e
 pub yield_within : (v : Source) (t : Turn) (i : ℕ) → v ≡ source.Yields → i < length (listed_in v t) → i < length (yields_in t)
 yield_within v t i e h = subst (λ zs. i < length zs) (yields_are v t e) h
 
-pub at_yield : (v : Source) (t : Turn) (i : ℕ) (y : Yielded) (zs : List Yielded) → v ≡ source.Yields → i < length (listed_in v t) → zs ≡ yields_in t → y ≡ get_or zs i y
+pub at_yield : (v : Source) (t : Turn) (i : ℕ) (y : Yielded) (zs : List Yielded) → v ≡ source.Yields → i < length (listed_in v t) →
+    zs ≡ yields_in t → y ≡ get_or zs i y
     → slice_get (listed_in v t) i ≡ Some y
 at_yield v t i y zs e h z g =
     ap (λ us. slice_get us i) (yields_are v t e) ∙ slice_get-get_or (yields_in t) i y (yield_within v t i e h)
@@ -76,11 +79,13 @@ handed_at [] i h = absurd (omega arith)
 handed_at (x ∷ xs) zero h = refl
 handed_at (x ∷ xs) (suc i) h = handed_at xs i (omega arith)
 
-case_at : (xs : List TypedNode) (i : ℕ) → i < length (map handed (drop 1 xs)) → slice_get (map handed (drop 1 xs)) i ≡ Some (handed (tree_from_front (i + 1) xs))
+case_at : (xs : List TypedNode) (i : ℕ) → i < length (map handed (drop 1 xs)) →
+    slice_get (map handed (drop 1 xs)) i ≡ Some (handed (tree_from_front (i + 1) xs))
 case_at [] i h = absurd (omega arith)
 case_at (x ∷ xs) i h = rw add-one (handed_at xs i h)
 
-pub at_case : (v : Source) (t : Turn) (i : ℕ) (y : Yielded) → v ≡ source.Cases → i < length (listed_in v t) → y ≡ handed (tree_from_front (i + 1) t.kids.now)
+pub at_case : (v : Source) (t : Turn) (i : ℕ) (y : Yielded) → v ≡ source.Cases → i < length (listed_in v t) →
+    y ≡ handed (tree_from_front (i + 1) t.kids.now)
     → slice_get (listed_in v t) i ≡ Some y
 at_case v t i y e h k =
     ap (λ ys. slice_get ys i) (cases_are v t e) ∙ case_at t.kids.now i (subst (λ ys. i < length ys) (cases_are v t e) h) ∙ ap Some (sym k)

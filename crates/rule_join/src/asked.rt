@@ -1,20 +1,21 @@
 //! What a node asks of its kids, and where they go that were asked for no type.
 
-ghost use Rattle.std.specs.Prelude.{◌≡◌, true, IfOk, IfSome};
+ghost use Rattle.std.specs.Prelude.{◌≡◌, true, Some, IfOk, IfSome};
 ghost use Rattle.hare_tree.specs.declared.kind.Kind.TheVariants as ki;
 ghost use Rattle.hare_types.specs.Store.{Store};
 ghost use Rattle.hare_types.specs.Later.{IsLater};
+ghost use Rattle.hare_rules.specs.Control.{if_type};
 ghost use Rattle.hare_rules.specs.Settles.{target_of};
+ghost use Rattle.hare_rules.specs.Types.{type_of};
 ghost use Rattle.rule_judge.specs.Asked.{asks_as, asks_type};
-ghost use Rattle.rule_judge.specs.Defined.{IsDefined};
+ghost use Rattle.rule_judge.specs.Defined.{IsDefined, IsDefinedTy};
 ghost use Rattle.rule_judge.specs.Grown.{IsGrown};
-ghost use Rattle.rule_judge.specs.Turns.{context_in, kind_in, IsTurn};
+ghost use Rattle.rule_judge.specs.Turns.{context_in, kind_in};
 ghost use Rattle.rule_join.specs.Kinds.{judges};
 
 use crate::joins::joined_target;
-use crate::values::Source;
 use hare_tree::Kind;
-use hare_types::{Scalar, TypeId, TypeStore};
+use hare_types::{Scalar, Ty, TypeId, TypeStore};
 use rule_judge::{Turn, is_there, is_type_hint, kids_before, word};
 use std::alloc::AllocError;
 
@@ -68,44 +69,30 @@ pub fn asks_type(s: &mut TypeStore, t: &Turn<'_>, i: usize) -> Result<bool, Allo
     }
 }
 
-/// The type to which kid number `i` of an `if` goes, a branch.
-fn branch_target(s: &mut TypeStore, t: &Turn<'_>, i: usize) -> Result<Option<TypeId>, AllocError>
-    requires { IsTurn s.old t.now }
-    ensures value { IfOk result (λ o. (f : Store) → IsLater s.new f → o ≡ target_of (context_in f t.now) ki.If i) }
-    ensures defined { IfOk result (λ o. IfSome o (IsDefined s.new)) }
-    ensures grown { IsGrown s.old s.new }
+/// The type to which kid number `i` of an `if` goes: a branch to the type `ty` of the node, where there are two and none is asked of it.
+fn branch_target(t: &Turn<'_>, ty: &Ty, i: usize) -> Option<TypeId>
+    ensures value { (f : Store) → if_type (context_in f t.now) ≡ Some ty.now → result ≡ target_of (context_in f t.now) ki.If i }
+    ensures defined { (s : Store) → IsDefinedTy s ty.now → IfSome result (IsDefined s) }
 {
-    let _law = s.declarations();
     if i == 0 {
-        return Ok(None);
+        return None;
     }
     if is_there(t.kids, 2) {
-        let o = joined_target(s, Source::Branches, t)?;
-        return Ok(o);
+        return joined_target(t, ty);
     }
-    Ok(None)
+    None
 }
 
-/// The type to which kid number `i` goes that was asked for none; none where it stays as it is.
-pub(crate) fn target(
-    s: &mut TypeStore,
-    t: &Turn<'_>,
-    i: usize,
-) -> Result<Option<TypeId>, AllocError>
+/// The type to which kid number `i` goes that was asked for none; none where it stays as it is. What the node gives has the type `ty`.
+pub(crate) fn target(t: &Turn<'_>, ty: &Ty, i: usize) -> Option<TypeId>
     requires kind { judges (kind_in t.now) ≡ true }
-    requires turn { IsTurn s.old t.now }
-    ensures value { IfOk result (λ o. (f : Store) → IsLater s.new f → o ≡ target_of (context_in f t.now) (kind_in t.now) i) }
-    ensures defined { IfOk result (λ o. IfSome o (IsDefined s.new)) }
-    ensures grown { IsGrown s.old s.new }
+    ensures value { (f : Store) → type_of (context_in f t.now) ≡ Some ty.now → result ≡ target_of (context_in f t.now) (kind_in t.now) i }
+    ensures defined { (s : Store) → IsDefinedTy s ty.now → IfSome result (IsDefined s) }
 {
-    let _law = s.declarations();
     let node = t.node;
     match node.kind {
-        Kind::If => {
-            let o = branch_target(s, t, i)?;
-            Ok(o)
-        }
-        Kind::For | Kind::ForEach | Kind::Block | Kind::Case | Kind::SwitchCase => Ok(None),
+        Kind::If => branch_target(t, ty, i),
+        Kind::For | Kind::ForEach | Kind::Block | Kind::Case | Kind::SwitchCase => None,
         _ => unreachable!(),
     }
 }

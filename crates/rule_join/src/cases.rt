@@ -54,17 +54,14 @@ pub fn asks_case(t: &Turn<'_>, i: usize) -> bool
     is_type_hint(&case.hint)
 }
 
-/// The type to which kid number `i` of a `match` goes, or of a `switch` where it is a case: that of all cases, where the node is asked for none.
-/// None where it stays as it is.
-pub fn case_target(s: &mut TypeStore, t: &Turn<'_>, i: usize) -> Result<Option<TypeId>, AllocError>
-    requires { IsTurn s.old t.now }
-    ensures value { IfOk result (λ o. (f : Store) → IsLater s.new f → o ≡ settles.case_target (context_in f t.now) i) }
-    ensures defined { IfOk result (λ o. IfSome o (IsDefined s.new)) }
-    ensures grown { IsGrown s.old s.new }
+/// The type to which kid number `i` of a `match` goes, or of a `switch` where it is a case: that of all cases, which is the type `ty` of the node, where
+/// the node is asked for none. None where it stays as it is. The time does not go with the cases.
+pub fn case_target(t: &Turn<'_>, ty: &Ty, i: usize) -> Option<TypeId>
+    ensures value { (f : Store) → control.cases_type (context_in f t.now) ≡ Some ty.now → result ≡ settles.case_target (context_in f t.now) i }
+    ensures defined { (s : Store) → IsDefinedTy s ty.now → IfSome result (IsDefined s) }
 {
-    let _law = s.declarations();
     if i == 0 {
-        return Ok(None);
+        return None;
     }
-    joined_target(s, Source::Cases, t)
+    joined_target(t, ty)
 }

@@ -1,13 +1,14 @@
 //! How values come together in one type.
 
-ghost use Rattle.std.specs.Prelude.{◌≡◌, ℕ, None, Option, IfOk, IfSome, IsSome, cond, find, is_none, is_some, not, option_map};
+ghost use Rattle.std.specs.Prelude.{◌≡◌, ℕ, List, None, Some, Option, IfOk, IfSome, IsSome, cond, find, is_none, is_some, not, option_map};
 ghost use Rattle.hare_types.specs.Store.{Store};
 ghost use Rattle.hare_types.specs.Later.{IsLater};
+ghost use Rattle.hare_rules.specs.Context.{Given};
 ghost use Rattle.hare_rules.specs.Joined as joined;
 ghost use Rattle.hare_rules.specs.Settles as settles;
 ghost use Rattle.hare_rules.specs.Words as words;
 ghost use Rattle.hare_rules.specs.declared.hint.Hint.TheVariants as hint;
-ghost use Rattle.rule_judge.specs.Defined.{IsDefined};
+ghost use Rattle.rule_judge.specs.Defined.{IsDefined, IsDefinedTy};
 ghost use Rattle.rule_judge.specs.Grown.{IsGrown};
 ghost use Rattle.rule_judge.specs.Turns.{context_in, IsTurn};
 ghost use Rattle.rule_join.specs.Together as spec;
@@ -15,9 +16,21 @@ ghost use Rattle.rule_join.specs.Together as spec;
 use crate::values::{Source, count, end_word, ends, first_going, value_at};
 use hare_rules::{Hint, Yielded};
 use hare_tree::Place;
-use hare_types::{Scalar, TypeId, TypeStore};
+use hare_types::{Scalar, Ty, TypeId, TypeStore};
 use rule_judge::{Turn, coerced, default_in, has_default, void_fits, word};
 use std::alloc::AllocError;
+
+/// The id of a type.
+fn id_in(ty: &Ty) -> Option<TypeId>
+    ensures { result ≡ words.id_in ty.now }
+{
+    match ty {
+        Ty::Of(id) => Some(*id),
+        Ty::Iconst(_) => None,
+        Ty::Null => None,
+        Ty::Empty => None,
+    }
+}
 
 /// The default of the first value that goes on, in the order of the source; else void of an end, and `never` without one. None where that value
 /// has no default.
@@ -74,26 +87,16 @@ pub(crate) fn joined_type(
     }
 }
 
-/// The type to which the values go that were asked for none; none where they stay as they are.
-pub(crate) fn joined_target(
-    s: &mut TypeStore,
-    v: Source,
-    t: &Turn<'_>,
-) -> Result<Option<TypeId>, AllocError>
-    requires { IsTurn s.old t.now }
-    ensures value { IfOk result (λ o. (f : Store) → IsLater s.new f → o ≡ settles.joined_target f t.now.case.now.hint (spec.together v (context_in f t.now))) }
-    ensures defined { IfOk result (λ o. IfSome o (IsDefined s.new)) }
-    ensures grown { IsGrown s.old s.new }
+/// The type to which the values go that were asked for none: that of what comes together, `ty`. None where they stay as they are.
+pub(crate) fn joined_target(t: &Turn<'_>, ty: &Ty) -> Option<TypeId>
+    ensures value { (f : Store) (vs : List Given) → words.typed_as (joined.joined f t.now.case.now.hint vs) ≡ Some ty.now → result ≡ settles.joined_target f t.now.case.now.hint vs }
+    ensures defined { (s : Store) → IsDefinedTy s ty.now → IfSome result (IsDefined s) }
 {
-    let _law = s.declarations();
     let case = t.case;
     match case.hint {
-        Hint::Of(_) => Ok(None),
-        Hint::Drop => Ok(None),
-        Hint::None => {
-            let o = joined_default(s, v, t)?;
-            Ok(o)
-        }
+        Hint::Of(_) => None,
+        Hint::Drop => None,
+        Hint::None => id_in(ty),
     }
 }
 

@@ -57,9 +57,11 @@ impl Rules for Joining {
         _alloc: Global,
         s: &mut TypeStore,
         t: &Turn<'_>,
+        ty: &Ty,
         i: usize,
     ) -> Result<Option<TypeId>, AllocError> {
-        asked::target(s, t, i)
+        let _law = s.declarations();
+        Ok(asked::target(t, ty, i))
     }
 
     ghost rows = { rows_asked };

@@ -17,13 +17,12 @@ use Rattle.hare_types.specs.Assign.{type_at, value_at, base, coercion, is_castab
 use Rattle.hare_types.specs.Later.{IsLater}
 use Rattle.hare_types.proofs.LaterLemmas.{types_stay}
 use Rattle.hare_types.proofs.IdLemmas.{base_tells}
-use Rattle.hare_layout.proofs.NamesLemmas.{names_enough}
-use Rattle.hare_layout.proofs.OffsetLemmas.{base_with-near}
 use Rattle.hare_layout.proofs.SpreadLemmas.{id-tree_at}
 use Rattle.hare_assign.specs.Growth.{HasBase, IsKnown, AreKnown}
 use Rattle.hare_assign.specs.Shapes.{types_at}
 use Rattle.hare_assign.proofs.TypeLemmas.{type_at_row, tree_at-type}
 use Rattle.hare_assign.proofs.GrowthLemmas as growth
+use Rattle.hare_assign.proofs.NamesLemmas.{base_only}
 use Rattle.hare_typed.specs.Given.{base_row}
 use Rattle.rule_judge.specs.Defined.{made_of, Mentions, itself, through, IsDefined, IsDefinedTy, HoldsDefined}
 use Rattle.rule_judge.proofs.DefinedLemmas.{row_of, defined_part, defined_mentioned, in_store}
@@ -47,7 +46,8 @@ base_found s (suc n) t b e = by (base_found s n) (row_at s t) refl e
     by ih (Some (row.Error j)) g k = through (row.Error j) g (0, omega arith, refl) (ih j b k)
     by ih (Some (row.Named d)) g k = named (definition_of s d) refl k
       where
-        named : (o : Option ℕ) → definition_of s d ≡ o → option_and_then (found_within s (base_over (definition_of s)) n) o ≡ Some b → Mentions s t b
+        named : (o : Option ℕ) → definition_of s d ≡ o → option_and_then (found_within s (base_over (definition_of s)) n) o ≡ Some b →
+            Mentions s t b
         named None f h = absurd cc
         named (Some j) f h = through (row.Named d) g (named_part s d j f) (ih j b h)
     by ih (Some (row.Scalar w)) g k = let same : t ≡ b = cc in subst (Mentions s t) same itself
@@ -65,7 +65,8 @@ base_defined s v t b h e = defined_mentioned s v t b h (base_found s (length s.r
 
 -- ---- rows of bases
 
-pub base_row_is : (s f : Store) → IsStore s → IsLater s f → (a : Ty) (t b : ℕ) (r : Row) → a ≡ ty.Of t → base_at s t ≡ Some b → row_at s b ≡ Some r
+pub base_row_is : (s f : Store) → IsStore s → IsLater s f → (a : Ty) (t b : ℕ) (r : Row) → a ≡ ty.Of t → base_at s t ≡ Some b →
+    row_at s b ≡ Some r
     → base_row f a ≡ Some r
 base_row_is s f v l a t b r e g h =
     let keeps = types_stay s f v l in
@@ -77,7 +78,8 @@ base_there s v a t e h g =
     let both = sym g ∙ k.1 in
     cc
 
-pub base_held : (s : Store) → IsStore s → (a : Ty) (t b : ℕ) (r : Row) → a ≡ ty.Of t → IsDefinedTy s a → base_at s t ≡ Some b → row_at s b ≡ Some r
+pub base_held : (s : Store) → IsStore s → (a : Ty) (t b : ℕ) (r : Row) → a ≡ ty.Of t → IsDefinedTy s a → base_at s t ≡ Some b →
+    row_at s b ≡ Some r
     → HoldsDefined s r
 base_held s v a t b r e h g k = defined_part s v b r (base_defined s v t b (subst (IsDefinedTy s) e h) g) k
 
@@ -127,7 +129,8 @@ sized_found s v (suc n) t b e = by (sized_found s v n) (row_at s t) e
     by ih (Some (row.Error j)) k = ih j b k
     by ih (Some (row.Named d)) k = named (definition_of s d) refl k
       where
-        named : (o : Option ℕ) → definition_of s d ≡ o → option_and_then (found_within s (base_over (definition_of s)) n) o ≡ Some b → IsSome (sized_of s d)
+        named : (o : Option ℕ) → definition_of s d ≡ o → option_and_then (found_within s (base_over (definition_of s)) n) o ≡ Some b →
+            IsSome (sized_of s d)
         named None f h = absurd cc
         named (Some j) f h = named_sized s v d j f
     by ih (Some (row.Scalar w)) k = refl
@@ -148,19 +151,29 @@ size_stays s f v l t h = let k = base_known s v t h in (types_stay s f v l).has_
 -- ---- what may be assigned
 
 -- the base of a type as a tree
-base_tree : (s : Store) → IsStore s → (t b : ℕ) (r : Row) → base_at s t ≡ Some b → row_at s b ≡ Some r → base s (type_at s t) ≡ Some (tree_of (trees s.rows) r)
+base_tree : (s : Store) → IsStore s → (t b : ℕ) (r : Row) → base_at s t ≡ Some b → row_at s b ≡ Some r →
+    base s (type_at s t) ≡ Some (tree_of (trees s.rows) r)
 base_tree s v t b r e g =
     let h = (base_tells s v t b).0 e in
     let from = id-tree_at s t h.0 h.2 in
     let to = id-tree_at s b h.1 h.3 in
-    names_enough base_with base_with-near s v h.4.0 (type_at s t) (tree_of (trees s.rows) r)
-    (subst (λ u. following base_with (meaning_of s) h.4.0 u ≡ Some (tree_of (trees s.rows) r)) (sym from.1) (h.4.1 ∙ ap Some (sym to.1 ∙ type_at_row s v b r g)))
+    let tree = sym to.1 ∙ type_at_row s v b r g in
+    base_only s v (type_at s t) (tree_of (trees s.rows) r) (
+      h.4.0,
+      subst (λ u. following base_with (meaning_of s) h.4.0 u ≡ Some (tree_of (trees s.rows) r)) (sym from.1)
+          (h.4.1 ∙ ap Some tree),
+    )
 
 each_known : (s : Store) → IsStore s → (is : List ℕ) → ((i : ℕ) → Contains is i → IsDefined s i) → EachTree (HasBase s) (types_at s is)
 each_known s v [] h = tt
-each_known s v (i ∷ is) h = (tree_known s v i (h i (0, omega arith, refl)), each_known s v is (λ j c. h j (suc c.0, omega (arith, c.1), c.2)))
+each_known s v (i ∷ is) h = (
+  tree_known s v i (h i (0, omega arith, refl)),
+  each_known s v is
+      (λ j c. h j (suc c.0, omega (arith, c.1), c.2)),
+)
 
-members_known : (s : Store) → IsStore s → (r : Row) → HoldsDefined s r → (ts : Trees) → tree_of (trees s.rows) r ≡ Union ts → EachTree (HasBase s) ts
+members_known : (s : Store) → IsStore s → (r : Row) → HoldsDefined s r → (ts : Trees) → tree_of (trees s.rows) r ≡ Union ts →
+    EachTree (HasBase s) ts
 members_known s v (row.Union is) h ts e = let same : types_at s is ≡ ts = cc in subst (EachTree (HasBase s)) same (each_known s v is h)
 members_known s v (row.Scalar k) h ts e = absurd cc
 members_known s v (row.Pointer i) h ts e = absurd cc
@@ -190,7 +203,8 @@ are_known s v a t h k = record {
       members_known s v r.0 (defined_part s v b.0 r.0 there r.1) ts (let inner : tree_of (trees s.rows) r.0 ≡ Union ts = cc in inner);
 }
 
-pub coercion_stays : (s f : Store) → IsStore s → IsLater s f → (a : Ty) (t : ℕ) → IsDefinedTy s a → IsDefined s t → coercion f a t ≡ coercion s a t
+pub coercion_stays : (s f : Store) → IsStore s → IsLater s f → (a : Ty) (t : ℕ) → IsDefinedTy s a → IsDefined s t →
+    coercion f a t ≡ coercion s a t
 coercion_stays s f v l a t h k = (growth.verdicts_stay s f l a t (in_store s a h) k.within (are_known s v a t h k)).coercion
 
 pub cast_stays : (s f : Store) → IsStore s → IsLater s f → (a : Ty) (t : ℕ) → IsDefinedTy s a → IsDefined s t

@@ -46,7 +46,8 @@ named_below n None i h c = absurd (omega (arith, c.1))
 named_below n (Some j) i h c = lone n j i (h j refl) c
 
 -- the types of which a row is made are in the store
-made_below : (s : Store) → IsStore s → (t : ℕ) (r : Row) → t < length s.rows → IsWithin t r → (i : ℕ) → Contains (made_of s r) i → i < length s.rows
+made_below : (s : Store) → IsStore s → (t : ℕ) (r : Row) → t < length s.rows → IsWithin t r → (i : ℕ) → Contains (made_of s r) i →
+    i < length s.rows
 made_below s v t (row.Scalar k) w h i c = absurd (omega (arith, c.1))
 made_below s v t (row.Pointer j) w h i c = lone (length s.rows) j i (omega arith) c
 made_below s v t (row.Nullable j) w h i c = lone (length s.rows) j i (omega arith) c
@@ -210,6 +211,7 @@ made_defined now new v l r t e held unnamed =
     (λ i c. defined_stays now new v l i (held i (subst (λ is. Contains is i) (unnamed_made now new r unnamed) c)))
     (λ d h. absurd (unnamed d h))
 
-pub coercions_stay : (now later : Store) → IsStore now → IsLater now later → (rs : List Coercion) → AreDefinedCoercions now rs → AreDefinedCoercions later rs
+pub coercions_stay : (now later : Store) → IsStore now → IsLater now later → (rs : List Coercion) → AreDefinedCoercions now rs →
+    AreDefinedCoercions later rs
 coercions_stay now later v l [] h = tt
 coercions_stay now later v l (r ∷ rs) h = (ty_stays now later v l r.to h.0, coercions_stay now later v l rs h.1)

@@ -30,7 +30,8 @@ held_slice s r t h e = held s r (row.Slice t) t h e (first_of t [])
 pub held_array : (s : Store) (r : Row) (n t : ℕ) → HoldsDefined s r → r ≡ row.Array n t → IsDefined s t
 held_array s r n t h e = held s r (row.Array n t) t h e (first_of t [])
 
-pub held_component : (s : Store) (r : Row) (ts : List ℕ) (i t : ℕ) → HoldsDefined s r → r ≡ row.Tuple ts → slice_get ts i ≡ Some t → IsDefined s t
+pub held_component : (s : Store) (r : Row) (ts : List ℕ) (i t : ℕ) → HoldsDefined s r → r ≡ row.Tuple ts → slice_get ts i ≡ Some t →
+    IsDefined s t
 held_component s r ts i t h e k = held s r (row.Tuple ts) t h e (one_of ts i t k)
 
 pub only_of : (t i : ℕ) → Contains (t ∷ []) i → t ≡ i

@@ -17,12 +17,14 @@ one_with-first : (t : ℕ) (ts : List ℕ) → only_one (t ∷ ts) ≡ one_with 
 one_with-first t [] = refl
 one_with-first t (u ∷ us) = refl
 
-filter-drop : (p : ℕ → Bool) (ts : List ℕ) (i t : ℕ) → i < length ts → t ≡ get_or ts i t → filter p (drop i ts) ≡ cond (p t) (t ∷ filter p (drop (i + 1) ts)) (filter p (drop (i + 1) ts))
+filter-drop : (p : ℕ → Bool) (ts : List ℕ) (i t : ℕ) → i < length ts → t ≡ get_or ts i t →
+    filter p (drop i ts) ≡ cond (p t) (t ∷ filter p (drop (i + 1) ts)) (filter p (drop (i + 1) ts))
 filter-drop p ts i t h e =
     rw add-one (ap (filter p) (drop-cons ts i t h ∙ ap (λ u. u ∷ drop (suc i) ts) (sym e)))
 
 -- the first that is found
-pub one_with-found : (p : ℕ → Bool) (ts : List ℕ) (i t : ℕ) (o q all : Option ℕ) → i < length ts → t ≡ get_or ts i t → true ≡ p t → o ≡ None → q ≡ Some t
+pub one_with-found : (p : ℕ → Bool) (ts : List ℕ) (i t : ℕ) (o q all : Option ℕ) → i < length ts → t ≡ get_or ts i t → true ≡ p t →
+    o ≡ None → q ≡ Some t
     → all ≡ one_with o (filter p (drop i ts)) → all ≡ one_with q (filter p (drop (i + 1) ts))
 one_with-found p ts i t o q all h e k m n g =
     g ∙ ap (λ x. one_with x (filter p (drop i ts))) m
@@ -30,11 +32,13 @@ one_with-found p ts i t o q all h e k m n g =
     ∙ one_with-first t (filter p (drop (i + 1) ts)) ∙ sym (ap (λ x. one_with x (filter p (drop (i + 1) ts))) n)
 
 -- a second one
-pub one_with-second : (p : ℕ → Bool) (ts : List ℕ) (i t u : ℕ) (o all : Option ℕ) → i < length ts → t ≡ get_or ts i t → true ≡ p t → o ≡ Some u
+pub one_with-second : (p : ℕ → Bool) (ts : List ℕ) (i t u : ℕ) (o all : Option ℕ) → i < length ts → t ≡ get_or ts i t → true ≡ p t →
+    o ≡ Some u
     → all ≡ one_with o (filter p (drop i ts)) → None ≡ all
 one_with-second p ts i t u o all h e k m g =
     sym (g ∙ ap (λ x. one_with x (filter p (drop i ts))) m
-    ∙ ap (one_with (Some u)) (filter-drop p ts i t h e ∙ ap (λ b. cond b (t ∷ filter p (drop (i + 1) ts)) (filter p (drop (i + 1) ts))) (sym k)))
+    ∙ ap (one_with (Some u)) (filter-drop p ts i t h e ∙ ap (λ b. cond b (t ∷ filter p (drop (i + 1) ts)) (filter p (drop (i + 1) ts)))
+    (sym k)))
 
 -- one that is passed over
 pub one_with-other : (p : ℕ → Bool) (ts : List ℕ) (i t : ℕ) (o q all : Option ℕ) → i < length ts → t ≡ get_or ts i t → false ≡ p t → q ≡ o
@@ -44,9 +48,11 @@ one_with-other p ts i t o q all h e k n g =
     ∙ sym (ap (λ x. one_with x (filter p (drop (i + 1) ts))) n)
 
 -- the types in a tuple
-pub held_each : (s : Store) (r : Row) (ts us : List ℕ) → HoldsDefined s r → r ≡ row.Tuple ts → us ≡ ts → (i : ℕ) → Contains us i → IsDefined s i
+pub held_each : (s : Store) (r : Row) (ts us : List ℕ) → HoldsDefined s r → r ≡ row.Tuple ts → us ≡ ts → (i : ℕ) → Contains us i →
+    IsDefined s i
 held_each s r ts us h e k i c = (subst (HoldsDefined s) e h) i (subst (λ xs. Contains xs i) k c)
 
 -- the members of a union
-pub held_members : (s : Store) (r : Row) (ts us : List ℕ) → HoldsDefined s r → r ≡ row.Union ts → us ≡ ts → (i : ℕ) → Contains us i → IsDefined s i
+pub held_members : (s : Store) (r : Row) (ts us : List ℕ) → HoldsDefined s r → r ≡ row.Union ts → us ≡ ts → (i : ℕ) → Contains us i →
+    IsDefined s i
 held_members s r ts us h e k i c = (subst (HoldsDefined s) e h) i (subst (λ xs. Contains xs i) k c)

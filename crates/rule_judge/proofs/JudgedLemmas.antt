@@ -34,7 +34,8 @@ and_right true b e = e
 and_right false b e = absurd cc
 
 -- the own rows come first
-split : (p : RowId → Bool) (c : Context) (rs : List RowId) → are_asked p rs ≡ true → first_of c rs ≡ option_or (failing c rs) (first_of c last_two)
+split : (p : RowId → Bool) (c : Context) (rs : List RowId) → are_asked p rs ≡ true →
+    first_of c rs ≡ option_or (failing c rs) (first_of c last_two)
 split p c [] e = absurd cc
 split p c (r ∷ rs) e = by (split p c rs) (is_site r) refl e
   where
@@ -49,7 +50,8 @@ split p c (r ∷ rs) e = by (split p c rs) (is_site r) refl e
     by ih true s k = ap₂ (λ q qs. first_of c (q ∷ qs)) (site_only r s) (kept_only rs k)
     by ih false s k = own (holds r c) (ih (and_right (p r) (are_asked p rs) k))
 
-module _ (p : RowId → Bool) (c : Context) (asked : are_asked p (rows_of c.head.kind) ≡ true) (all : first_failing c ≡ first_of c (rows_of c.head.kind)) where
+module _ (p : RowId → Bool) (c : Context) (asked : are_asked p (rows_of c.head.kind) ≡ true)
+    (all : first_failing c ≡ first_of c (rows_of c.head.kind)) where
   whole : first_failing c ≡ option_or (own_failing c) (first_of c last_two)
   whole = all ∙ split p c (rows_of c.head.kind) asked
 
@@ -63,7 +65,8 @@ module _ (p : RowId → Bool) (c : Context) (asked : are_asked p (rows_of c.head
           let same : fault_of r c ≡ e = cc in
           record { row = r; first = whole ∙ ap (λ o. option_or o (first_of c last_two)) g; is = same }
 
-  both : (a b : Bool) → cond (not a) (Some row.Site) (cond (not b) (Some row.Kept) None) ≡ cond a (cond b None (Some row.Kept)) (Some row.Site)
+  both : (a b : Bool) → cond (not a) (Some row.Site) (cond (not b) (Some row.Kept) None) ≡
+      cond a (cond b None (Some row.Kept)) (Some row.Site)
   both true true = refl
   both true false = refl
   both false b = refl
@@ -83,12 +86,14 @@ module _ (p : RowId → Bool) (c : Context) (asked : are_asked p (rows_of c.head
   at_node true false r e = let same : r ≡ row.Kept = cc in ap (λ q. stands q c) same
   at_node false b r e = let same : r ≡ row.Site = cc in ap (λ q. stands q c) same
 
-  pub refused_last : (a : Ty) (r : RowId) (n : ℕ) → own_failing c ≡ None → type_of c ≡ Some a → Some r ≡ last_failing (store_of c) c.hint a → n ≡ number_of r
+  pub refused_last : (a : Ty) (r : RowId) (n : ℕ) → own_failing c ≡ None → type_of c ≡ Some a →
+      Some r ≡ last_failing (store_of c) c.hint a → n ≡ number_of r
       → IsRefusal c (record { number = n; place = c.head.place })
   refused_last a r n own t h k = record {
     row = r;
     first = last a own t ∙ sym h;
-    is = ap₂ (λ m q. record { number = m; place = q }) (sym k) (at_node (fits_hint (store_of c) c.hint (Some a)) (may_drop (store_of c) c.hint (Some a)) r h);
+    is = ap₂ (λ m q. record { number = m; place = q }) (sym k)
+        (at_node (fits_hint (store_of c) c.hint (Some a)) (may_drop (store_of c) c.hint (Some a)) r h);
   }
 
 -- where no fault is told no own row fails

@@ -25,7 +25,8 @@ front_past [] i h = refl
 front_past (y ∷ xs) zero h = absurd (omega arith)
 front_past (y ∷ xs) (suc i) h = front_past xs i (omega arith)
 
-pub kid_defined : (s : Store) (xs : List TypedNode) (i : ℕ) (x : TypedNode) → AreDefinedTrees s (typed_nodes xs) → slice_get xs i ≡ Some x → IsDefinedTree s x
+pub kid_defined : (s : Store) (xs : List TypedNode) (i : ℕ) (x : TypedNode) → AreDefinedTrees s (typed_nodes xs) → slice_get xs i ≡ Some x →
+    IsDefinedTree s x
 kid_defined s [] i x h e = absurd cc
 kid_defined s (y ∷ xs) zero x h e = let same : y ≡ x = cc in subst (IsDefinedTree s) same h.0
 kid_defined s (y ∷ xs) (suc i) x h e = kid_defined s xs i x h.1 e
@@ -47,12 +48,14 @@ own_of s (marked h m ts) d = d.0
 seen_of : (s : Store) (x : TypedNode) → IsDefinedTree s x → IsDefinedTy s (given x)
 seen_of s (marked h m ts) d = d.1
 
-pub own_defined : (s : Store) (xs : List TypedNode) (i : ℕ) → AreDefinedTrees s (typed_nodes xs) → IsDefinedTy s (own_type (tree_from_front i xs))
+pub own_defined : (s : Store) (xs : List TypedNode) (i : ℕ) → AreDefinedTrees s (typed_nodes xs) →
+    IsDefinedTy s (own_type (tree_from_front i xs))
 own_defined s [] i h = tt
 own_defined s (x ∷ xs) zero h = own_of s x h.0
 own_defined s (x ∷ xs) (suc i) h = own_defined s xs i h.1
 
-pub seen_defined : (s : Store) (xs : List TypedNode) (i : ℕ) → AreDefinedTrees s (typed_nodes xs) → IsDefinedTy s (given (tree_from_front i xs))
+pub seen_defined : (s : Store) (xs : List TypedNode) (i : ℕ) → AreDefinedTrees s (typed_nodes xs) →
+    IsDefinedTy s (given (tree_from_front i xs))
 seen_defined s [] i h = tt
 seen_defined s (x ∷ xs) zero h = seen_of s x h.0
 seen_defined s (x ∷ xs) (suc i) h = seen_defined s xs i h.1
@@ -77,7 +80,8 @@ drop_past (x ∷ xs) (suc i) h = drop_past xs i (omega arith)
 
 -- ---- coercions
 
-pub listed_is : (c : Context) (i : ℕ) (a : Ty) (o : Option ℕ) (r : Coercion) → was_hinted c i ≡ false → r ≡ to_type (store_of c) a o → a ≡ own_type (kid c i)
+pub listed_is : (c : Context) (i : ℕ) (a : Ty) (o : Option ℕ) (r : Coercion) → was_hinted c i ≡ false → r ≡ to_type (store_of c) a o →
+    a ≡ own_type (kid c i)
     → o ≡ target_of c c.head.kind i → Some r ≡ listed c i
 listed_is c i a o r h e own to =
     ap Some (e ∙ ap₂ (to_type (store_of c)) own to) ∙ sym (ap (λ b. cond b None (Some (kid_coercion c i))) h)
@@ -97,17 +101,20 @@ module _ (c : Context) (i : ℕ) (h : i < length c.kids) where
       by true g = refl
       by false g = absurd cc
 
-  pub listed_next : (r : Coercion) → Some r ≡ listed c i → coercions_from c i (drop i c.kids) ≡ r ∷ coercions_from c (i + 1) (drop (i + 1) c.kids)
+  pub listed_next : (r : Coercion) → Some r ≡ listed c i →
+      coercions_from c i (drop i c.kids) ≡ r ∷ coercions_from c (i + 1) (drop (i + 1) c.kids)
   listed_next r e =
       let next : suc i ≡ i + 1 = omega arith in
       rest ∙ by (was_hinted c i) e ∙ ap (λ n. r ∷ coercions_from c n (drop (i + 1) c.kids)) next
     where
       by : (b : Bool) → Some r ≡ cond b None (Some (kid_coercion c i))
-          → unless b (kid_coercion c i) ++ coercions_from c (suc i) (drop (i + 1) c.kids) ≡ r ∷ coercions_from c (suc i) (drop (i + 1) c.kids)
+          → unless b (kid_coercion c i) ++ coercions_from c (suc i) (drop (i + 1) c.kids) ≡
+          r ∷ coercions_from c (suc i) (drop (i + 1) c.kids)
       by true g = absurd cc
       by false g = let same : kid_coercion c i ≡ r = cc in ap (λ q. q ∷ coercions_from c (suc i) (drop (i + 1) c.kids)) same
 
-pub put_listed : (done new : List Coercion) (r : Coercion) (all rest next : List Coercion) → all ≡ done ++ rest → rest ≡ r ∷ next → new ≡ done ++ r ∷ [] → all ≡ new ++ next
+pub put_listed : (done new : List Coercion) (r : Coercion) (all rest next : List Coercion) → all ≡ done ++ rest → rest ≡ r ∷ next →
+    new ≡ done ++ r ∷ [] → all ≡ new ++ next
 put_listed done new r all left next e g k =
     e ∙ ap (λ xs. done ++ xs) g ∙ sym (append_assoc done (r ∷ []) next) ∙ sym (ap (λ xs. xs ++ next) k)
 

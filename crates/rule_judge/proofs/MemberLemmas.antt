@@ -15,7 +15,8 @@ use Rattle.hare_rules.specs.Words.{id_in, members_in}
 use Rattle.rule_judge.specs.Defined.{IsDefined}
 
 -- members by the row of the base
-by_base : (s : Store) (t : ℕ) (o : Option ℕ) → option_and_then (λ b. option_and_then members_of (row_at s b)) o ≡ option_and_then members_of (option_and_then (row_at s) o)
+by_base : (s : Store) (t : ℕ) (o : Option ℕ) →
+    option_and_then (λ b. option_and_then members_of (row_at s b)) o ≡ option_and_then members_of (option_and_then (row_at s) o)
 by_base s t None = refl
 by_base s t (Some b) = refl
 
@@ -25,7 +26,8 @@ members_row s (ty.Iconst n) = refl
 members_row s ty.Null = refl
 members_row s ty.Empty = refl
 
-pub held_member : (s : Store) (is : List ℕ) (i m d : ℕ) → ((j : ℕ) → Contains is j → IsDefined s j) → i < length is → m ≡ get_or is i d → IsDefined s m
+pub held_member : (s : Store) (is : List ℕ) (i m d : ℕ) → ((j : ℕ) → Contains is j → IsDefined s j) → i < length is → m ≡ get_or is i d →
+    IsDefined s m
 held_member s [] i m d h l e = absurd (omega arith)
 held_member s (j ∷ is) zero m d h l e = subst (IsDefined s) (sym e) (h j (0, omega arith, refl))
 held_member s (j ∷ is) (suc i) m d h l e = held_member s is i m d (λ k c. h k (suc c.0, omega (arith, c.1), c.2)) (omega arith) e
@@ -72,7 +74,8 @@ filter-ascends p (j ∷ is) h = by (filter-ascends p is h.1) (p j)
     by ih false = ih
 
 -- several of the members of a union are members of another
-pub filter-members : (p : ℕ → Bool) (rows : List Row) (is : List ℕ) → AreMembers rows is → 2 ≤ length (filter p is) → AreMembers rows (filter p is)
+pub filter-members : (p : ℕ → Bool) (rows : List Row) (is : List ℕ) → AreMembers rows is → 2 ≤ length (filter p is) →
+    AreMembers rows (filter p is)
 filter-members p rows is h several = record {
   several = several;
   ascend = filter-ascends p is h.ascend;
@@ -80,13 +83,16 @@ filter-members p rows is h several = record {
   not_union = λ i js c. h.not_union i js (filter-contains p is i c);
 }
 
-pub filter-held : (s : Store) (p : ℕ → Bool) (is : List ℕ) → ((i : ℕ) → Contains is i → IsDefined s i) → (i : ℕ) → Contains (filter p is) i → IsDefined s i
+pub filter-held : (s : Store) (p : ℕ → Bool) (is : List ℕ) → ((i : ℕ) → Contains is i → IsDefined s i) → (i : ℕ) →
+    Contains (filter p is) i → IsDefined s i
 filter-held s p is h i c = h i (filter-contains p is i c)
 
 -- the type of what is left
-pub left_over : (f : Store) (a : Ty) (is left : List ℕ) (t : ℕ) → Some is ≡ members_in f a → left ≡ filter (λ i. not (is_error_at f i)) is → joined_or_never f left ≡ Some t
+pub left_over : (f : Store) (a : Ty) (is left : List ℕ) (t : ℕ) → Some is ≡ members_in f a → left ≡ filter (λ i. not (is_error_at f i)) is →
+    joined_or_never f left ≡ Some t
     → option_and_then (without_errors f) (id_in a) ≡ Some t
-left_over f (ty.Of u) is left t e g h = ap (λ o. option_and_then (joined_or_never f) (option_map (filter (λ i. not (is_error_at f i))) o)) (sym e) ∙ ap (joined_or_never f) (sym g) ∙ h
+left_over f (ty.Of u) is left t e g h = ap (λ o. option_and_then (joined_or_never f) (option_map (filter (λ i. not (is_error_at f i))) o))
+    (sym e) ∙ ap (joined_or_never f) (sym g) ∙ h
 left_over f (ty.Iconst v) is left t e g h = cc
 left_over f ty.Null is left t e g h = cc
 left_over f ty.Empty is left t e g h = cc

@@ -84,7 +84,8 @@ length-rest_of : (d : ℕ) (ds : List ℕ) → Among ds d → length ds ≡ suc 
 length-rest_of d [] h = absurd h
 length-rest_of d (e ∷ es) h = by (length-rest_of d es) (nat_eq d e) refl h
   where
-    by : (Among es d → length es ≡ suc (length (rest_of d es))) → (b : Bool) → nat_eq d e ≡ b → (e ≡ d) ⊎ Among es d → suc (length es) ≡ suc (length (rest_of d (e ∷ es)))
+    by : (Among es d → length es ≡ suc (length (rest_of d es))) → (b : Bool) → nat_eq d e ≡ b → (e ≡ d) ⊎ Among es d →
+        suc (length es) ≡ suc (length (rest_of d (e ∷ es)))
     by ih true g k = ap (λ b. suc (length (cond b es (e ∷ rest_of d es)))) (sym g)
     by ih false g (inl k) = absurd (true≢false (sym ((unsigned_Decides d e).1 (sym k)) ∙ g))
     by ih false g (inr k) = ap suc (ih k) ∙ ap (λ b. suc (length (cond b es (e ∷ rest_of d es)))) (sym g)
@@ -109,15 +110,18 @@ module _ (m : ℕ → Option Tree) (finite : (d : ℕ) (u : Tree) → m d ≡ So
   followed : (k : ℕ) (ds : List ℕ) → length ds ≡ k → (t : Tree) → Meets ds t → IsSome (following base_with m k t)
   followed zero [] l t h = base-top (λ d. None) t (λ d e. absurd (h [] d e).0)
   followed zero (d ∷ ds) l t h = absurd (omega arith)
-  followed (suc k) ds l t h = base-top (λ d. option_and_then (following base_with m k) (m d)) t (λ d e. step (followed k) d e (m d) refl (h [] d e))
+  followed (suc k) ds l t h = base-top (λ d. option_and_then (following base_with m k) (m d)) t
+      (λ d e. step (followed k) d e (m d) refl (h [] d e))
     where
       step : ((es : List ℕ) → length es ≡ k → (u : Tree) → Meets es u → IsSome (following base_with m k u)) → (d : ℕ) → top t ≡ Some d
           → (o : Option Tree) → m d ≡ o → Among ds d × IsSome o → IsSome (option_and_then (following base_with m k) o)
       step ih d e None g a = absurd (let none = a.1 in cc)
       step ih d e (Some v) g a =
           ih (rest_of d ds) (omega (arith, l, length-rest_of d ds a.0)) v
-          (λ way q w. let there = h (d ∷ way) q (e, (v, g, w)) in
-          (Among-rest_of d ds q there.0 (λ same. finite d v g (way, Tops-lead m v way d (subst (λ n. Tops m v way n) (sym same) w))), there.1))
+          (λ way q w. let there = h (d ∷ way) q (e, (v, g, w)) in (
+            Among-rest_of d ds q there.0 (λ same. finite d v g (way, Tops-lead m v way d (subst (λ n. Tops m v way n) (sym same) w))),
+            there.1,
+          ))
 
 -- ---- a store
 
@@ -125,7 +129,8 @@ Among-keys : (q : ℕ) (es : List (ℕ × Declared)) → IsSome (lookup (nat_eq 
 Among-keys q [] h = absurd cc
 Among-keys q ((d, x) ∷ es) h = by (Among-keys q es) (nat_eq q d) refl h
   where
-    by : (IsSome (lookup (nat_eq q) es) → Among (map (λ e. e.0) es) q) → (b : Bool) → nat_eq q d ≡ b → IsSome (cond b (Some x) (lookup (nat_eq q) es))
+    by : (IsSome (lookup (nat_eq q) es) → Among (map (λ e. e.0) es) q) → (b : Bool) → nat_eq q d ≡ b →
+        IsSome (cond b (Some x) (lookup (nat_eq q) es))
         → (d ≡ q) ⊎ Among (map (λ e. e.0) es) q
     by ih true g k = inl (sym ((unsigned_Decides q d).0 g))
     by ih false g k = inr (ih k)
@@ -144,7 +149,8 @@ module _ (s : Store) (v : IsStore s) where
   top-mentioned zero t l w d e = absurd (omega arith)
   top-mentioned (suc n) t l w d e = let r = row_of s t w in by (top-mentioned n) r.0 r.1
     where
-      by : ((j : ℕ) → j < n → j < length s.rows → (q : ℕ) → top (type_at s j) ≡ Some q → (u : ℕ) × Mentions s j u × (row_at s u ≡ Some (row.Named q)))
+      by : ((j : ℕ) → j < n → j < length s.rows → (q : ℕ) → top (type_at s j) ≡ Some q → (u : ℕ) × Mentions s j u ×
+          (row_at s u ≡ Some (row.Named q)))
           → (r : Row) → row_at s t ≡ Some r → (u : ℕ) × Mentions s t u × (row_at s u ≡ Some (row.Named d))
       by ih (row.Error j) g =
           let below : j < t = v.rows_sound.within t (row.Error j) g in
@@ -172,8 +178,13 @@ module _ (s : Store) (v : IsStore s) where
       by None e k = absurd cc
       by (Some j) e k =
           let there : IsDefined s u = defined_mentioned s v t u h m in
-          let among : Contains (cons_option (definition_of s d) []) j = subst (λ o. Contains (cons_option o []) j) (sym e) (0, omega arith, refl) in
-          (j, ap (option_and_then (tree_at s)) e ∙ tree_at-type s j (v.defined_within d j e), defined_part s v u (row.Named d) there g j among)
+          let among : Contains (cons_option (definition_of s d) []) j =
+          subst (λ o. Contains (cons_option o []) j) (sym e) (0, omega arith, refl) in (
+            j,
+            ap (option_and_then (tree_at s)) e ∙ tree_at-type s j (v.defined_within d j e),
+            defined_part s v u (row.Named d) there g j
+                among,
+          )
 
   meets : (way : List ℕ) (t : ℕ) → IsDefined s t → (q : ℕ) → Tops (meaning_of s) (type_at s t) way q → IsSome (meaning_of s q)
   meets [] t h q e =
@@ -190,7 +201,8 @@ module _ (s : Store) (v : IsStore s) where
   -- the base of a type of which each name is defined is known
   pub tree_known : (t : ℕ) → IsDefined s t → IsSome (base s (type_at s t))
   tree_known t h =
-      followed (meaning_of s) v.defined_finite (length s.declared) (map (λ e. e.0) s.declared) (length-map s.declared (λ e. e.0)) (type_at s t)
+      followed (meaning_of s) v.defined_finite (length s.declared) (map (λ e. e.0) s.declared) (length-map s.declared (λ e. e.0))
+      (type_at s t)
       (λ way q w. let known = meets way t h q w in (declared_among s q known, known))
 
   pub base_known : (t : ℕ) → IsDefined s t → (b : ℕ) × (base_at s t ≡ Some b)

@@ -22,14 +22,16 @@ listed-typed (t ∷ ts) = ap (λ us. t ∷ us) (listed-typed ts)
 
 -- ---- the parts but the last
 
-but_last-suc : {A : Type 0} (xs : List A) (i : ℕ) (x : A) → slice_get xs i ≡ Some x → suc i < length xs → but_last (drop i xs) ≡ x ∷ but_last (drop (suc i) xs)
+but_last-suc : {A : Type 0} (xs : List A) (i : ℕ) (x : A) → slice_get xs i ≡ Some x → suc i < length xs →
+    but_last (drop i xs) ≡ x ∷ but_last (drop (suc i) xs)
 but_last-suc [] i x e h = absurd (omega arith)
 but_last-suc (y ∷ []) zero x e h = absurd (omega arith)
 but_last-suc (y ∷ z ∷ zs) zero x e h = let same : y ≡ x = cc in ap (λ w. w ∷ but_last (z ∷ zs)) same
 but_last-suc (y ∷ ys) (suc i) x e h = but_last-suc ys i x e (omega arith)
 
 -- the first of those that are left, where it is not the last
-pub but_last-drop : {A : Type 0} (xs : List A) (i : ℕ) (x : A) → slice_get xs i ≡ Some x → i < length xs - 1 → but_last (drop i xs) ≡ x ∷ but_last (drop (i + 1) xs)
+pub but_last-drop : {A : Type 0} (xs : List A) (i : ℕ) (x : A) → slice_get xs i ≡ Some x → i < length xs - 1 →
+    but_last (drop i xs) ≡ x ∷ but_last (drop (i + 1) xs)
 but_last-drop xs i x e h = rw add-one (but_last-suc xs i x e (omega arith))
 
 but_last-few : {A : Type 0} (xs : List A) → length xs ≤ 1 → but_last xs ≡ []

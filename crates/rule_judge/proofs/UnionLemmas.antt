@@ -22,7 +22,8 @@ name_held s j (Some k) e h (i) (zero, l, g) = let same : j ≡ i = cc in subst (
 name_held s j (Some k) e h (i) (suc n, l, g) = absurd (omega (arith, l))
 
 -- a name is as well defined as what it is defined to be
-pub name_defined : (now new : Store) → IsStore now → IsLater now new → (t d : ℕ) → row_at new t ≡ Some (row.Named d) → IsDefinedName now d → IsDefined new t
+pub name_defined : (now new : Store) → IsStore now → IsLater now new → (t d : ℕ) → row_at new t ≡ Some (row.Named d) → IsDefinedName now d →
+    IsDefined new t
 name_defined now new v l t d e h =
     let there = l.grows.defined d h.0 h.1 in
     defined_by_row new t (row.Named d) e (name_held new h.0 (definition_of new d) there (defined_stays now new v l h.0 h.2))
@@ -85,5 +86,6 @@ refusable_stays now new v l t h =
       not_nomem = λ e. h.not_nomem (sym same ∙ e);
     }
 
-pub refusal_is : (f : Store) (t n u : ℕ) (is : List ℕ) → id_of f (row.Named nomem) ≡ Some n → is ≡ ascending (t ∷ n ∷ []) → id_of f (row.Union is) ≡ Some u → with_refusal f t ≡ Some u
+pub refusal_is : (f : Store) (t n u : ℕ) (is : List ℕ) → id_of f (row.Named nomem) ≡ Some n → is ≡ ascending (t ∷ n ∷ []) →
+    id_of f (row.Union is) ≡ Some u → with_refusal f t ≡ Some u
 refusal_is f t n u is e g h = ap (option_and_then (λ m. union_of f (t ∷ m ∷ []))) e ∙ sym (ap (λ js. id_of f (row.Union js)) g) ∙ h

@@ -21,4 +21,5 @@ mapped g (Some a) = refl
 pub void_goes : (f : Store) → IsStore f → (v t : ℕ) → word_id f keyword.Void ≡ Some v → is_some (coercion f (ty.Of v) t) ≡ void_fits f t
 void_goes f s v t e =
     let here = type_at_row f s v (row.Scalar keyword.Void) ((id_tells f s (row.Scalar keyword.Void) v).0 e) in
-    mapped (λ n. record { row = n; to = ty.Of t }) (first_row f (Of (type_at f v)) (type_at f t)) ∙ ap (λ (u : Tree). is_some (first_row f (Of u) (type_at f t))) here
+    mapped (λ n. record { row = n; to = ty.Of t }) (first_row f (Of (type_at f v)) (type_at f t)) ∙ ap
+    (λ (u : Tree). is_some (first_row f (Of u) (type_at f t))) here

@@ -34,14 +34,17 @@ and_true : (a b : Bool) → (a && b) ≡ true → (a ≡ true) × (b ≡ true)
 and_true true b e = (refl, e)
 and_true false b e = absurd cc
 
-asked_cons : (p : RowId → Bool) (r : RowId) (rs qs : List RowId) → qs ≡ r ∷ rs → is_site r ≡ false → are_asked p qs ≡ true → (p r ≡ true) × (are_asked p rs ≡ true)
+asked_cons : (p : RowId → Bool) (r : RowId) (rs qs : List RowId) → qs ≡ r ∷ rs → is_site r ≡ false → are_asked p qs ≡ true → (p r ≡ true) ×
+    (are_asked p rs ≡ true)
 asked_cons p r rs qs e s h =
     and_true (p r) (are_asked p rs) (sym (ap (are_asked p) e ∙ ap (λ b. cond b (is_kept_alone rs) (p r && are_asked p rs)) s) ∙ h)
 
-pub asked_here : (p : RowId → Bool) (rs : List RowId) (i : ℕ) (r : RowId) → drop i rs ≡ r ∷ drop (i + 1) rs → is_site r ≡ false → are_asked p (drop i rs) ≡ true → p r ≡ true
+pub asked_here : (p : RowId → Bool) (rs : List RowId) (i : ℕ) (r : RowId) → drop i rs ≡ r ∷ drop (i + 1) rs → is_site r ≡ false →
+    are_asked p (drop i rs) ≡ true → p r ≡ true
 asked_here p rs i r e s h = (asked_cons p r (drop (i + 1) rs) (drop i rs) e s h).0
 
-pub asked_next : (p : RowId → Bool) (rs : List RowId) (i : ℕ) (r : RowId) → drop i rs ≡ r ∷ drop (i + 1) rs → is_site r ≡ false → are_asked p (drop i rs) ≡ true
+pub asked_next : (p : RowId → Bool) (rs : List RowId) (i : ℕ) (r : RowId) → drop i rs ≡ r ∷ drop (i + 1) rs → is_site r ≡ false →
+    are_asked p (drop i rs) ≡ true
     → are_asked p (drop (i + 1) rs) ≡ true
 asked_next p rs i r e s h = (asked_cons p r (drop (i + 1) rs) (drop i rs) e s h).1
 

@@ -58,7 +58,8 @@ last_failing s h a = cond (fits_hint s h (Some a)) (cond (may_drop s h (Some a))
 abbrev pub asks_as : Context → ℕ → Kind → Bool
 asks_as c i k =
     is_type_hint
-    (hint_of c.setting c.head c.hint hint.None c.inside.labels c.inside.result (take i c.kids) (erase (kid c i)) (erase_each (typed_nodes (drop (suc i) c.kids))) k)
+    (hint_of c.setting c.head c.hint hint.None c.inside.labels c.inside.result (take i c.kids) (erase (kid c i))
+    (erase_each (typed_nodes (drop (suc i) c.kids))) k)
 
 -- the node itself asks it for a type
 abbrev pub asks_type : Context → ℕ → Bool

@@ -47,7 +47,7 @@ pub fn judge_by<R: Rules>(
         }));
     }
     let own = own_coercion(s, &case.hint, &ty);
-    let mut coerce = kid_coercions::<R>(alloc, s, t)?;
+    let mut coerce = kid_coercions::<R>(alloc, s, t, &ty)?;
     add_yields(s, t, &mut coerce)?;
     Ok(Verdict { ty, own, coerce })
 }

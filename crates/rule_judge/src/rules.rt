@@ -71,17 +71,21 @@ pub trait Rules {
         ensures value { IfOk result (λ b. (f : Store) → IsLater s.new f → b ≡ asks_type (context_in f t.now) i) }
         ensures grown { IsGrown s.old s.new };
 
-    /// The type to which kid number `i` goes that was asked for none; none where it stays as it is. The node meets its rows.
+    /// The type to which kid number `i` goes that was asked for none; none where it stays as it is. The node meets its rows, and what it gives has the
+    /// type `ty`: kids that come together in that type are not looked through again for each of them.
     fn target(
         alloc: Global,
         s: &mut TypeStore,
         t: &Turn<'_>,
+        ty: &Ty,
         i: usize,
     ) -> Result<Option<TypeId>, AllocError>
         requires kind { judges (kind_in t.now) ≡ true }
         requires turn { IsTurn s.old t.now }
         requires needs { Needs s.old t.now }
         requires rows { (f : Store) → IsLater s.old f → own_failing (context_in f t.now) ≡ None }
+        requires gives { (f : Store) → IsLater s.old f → type_of (context_in f t.now) ≡ Some ty.now }
+        requires defined { IsDefinedTy s.old ty.now }
         ensures value { IfOk result (λ o. (f : Store) → IsLater s.new f → o ≡ target_of (context_in f t.now) (kind_in t.now) i) }
         ensures defined { IfOk result (λ o. IfSome o (IsDefined s.new)) }
         ensures grown { IsGrown s.old s.new };

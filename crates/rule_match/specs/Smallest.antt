@@ -23,4 +23,5 @@ match_of_null = branch (head_of ki.Match) (nodes_of (null_tree ∷ []))
 -- `null`, once it has been judged
 abbrev pub null_operand : TypedNode
 null_operand =
-    marked (head_of ki.Null) record { node = 0; ty = ty.Null; coerce = same ty.Null; meaning = means.None; value = constant.Absent } typed_none
+    marked (head_of ki.Null) record { node = 0; ty = ty.Null; coerce = same ty.Null; meaning = means.None; value = constant.Absent }
+    typed_none

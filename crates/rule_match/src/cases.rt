@@ -38,18 +38,11 @@ pub(crate) fn asks_type(t: &Turn<'_>, i: usize) -> bool
     asks_case(t, i)
 }
 
-/// The type to which kid number `i` of a `match` goes that was asked for none; none where it stays as it is.
-pub(crate) fn target(
-    s: &mut TypeStore,
-    t: &Turn<'_>,
-    i: usize,
-) -> Result<Option<TypeId>, AllocError>
+/// The type to which kid number `i` of a `match` goes that was asked for none; none where it stays as it is. What the node gives has the type `ty`.
+pub(crate) fn target(t: &Turn<'_>, ty: &Ty, i: usize) -> Option<TypeId>
     requires kind { judges (kind_in t.now) ≡ true }
-    requires turn { IsTurn s.old t.now }
-    ensures value { IfOk result (λ o. (f : Store) → IsLater s.new f → o ≡ target_of (context_in f t.now) (kind_in t.now) i) }
-    ensures defined { IfOk result (λ o. IfSome o (IsDefined s.new)) }
-    ensures grown { IsGrown s.old s.new }
+    ensures value { (f : Store) → type_of (context_in f t.now) ≡ Some ty.now → result ≡ target_of (context_in f t.now) (kind_in t.now) i }
+    ensures defined { (s : Store) → IsDefinedTy s ty.now → IfSome result (IsDefined s) }
 {
-    let o = case_target(s, t, i)?;
-    Ok(o)
+    case_target(t, ty, i)
 }

@@ -58,9 +58,11 @@ impl Rules for Matching {
         _alloc: Global,
         s: &mut TypeStore,
         t: &Turn<'_>,
+        ty: &Ty,
         i: usize,
     ) -> Result<Option<TypeId>, AllocError> {
-        cases::target(s, t, i)
+        let _law = s.declarations();
+        Ok(cases::target(t, ty, i))
     }
 
     ghost rows = { rows_asked };

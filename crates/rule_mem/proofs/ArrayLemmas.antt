@@ -30,7 +30,8 @@ none-last (x ∷ []) h = refl
 none-last (x ∷ y ∷ ys) h = absurd (omega arith)
 
 -- the first item
-pub first_item : (xs : List TypedNode) → 0 < length (but_last (but_last xs)) → slice_get (but_last (but_last xs)) 0 ≡ Some (tree_from_front 0 xs)
+pub first_item : (xs : List TypedNode) → 0 < length (but_last (but_last xs)) →
+    slice_get (but_last (but_last xs)) 0 ≡ Some (tree_from_front 0 xs)
 first_item [] h = absurd (omega arith)
 first_item (x ∷ []) h = absurd (omega arith)
 first_item (x ∷ y ∷ []) h = absurd (omega arith)
@@ -47,18 +48,22 @@ no_item xs h = by (but_last (but_last xs)) h
     by (u ∷ us) e = absurd (omega (arith, e))
 
 -- the first item has a default, or it lacks one
-pub first_default : (h : Bool) (xs : List TypedNode) (b : Bool) → h ≡ false → 0 < length (but_last (but_last xs)) → b ≡ has_default (own_type (tree_from_front 0 xs))
+pub first_default : (h : Bool) (xs : List TypedNode) (b : Bool) → h ≡ false → 0 < length (but_last (but_last xs)) →
+    b ≡ has_default (own_type (tree_from_front 0 xs))
     → b ≡ is_none (cond h None (unless_default (slice_get (but_last (but_last xs)) 0)))
 first_default h xs b e k g =
     g ∙ by (tree_from_front 0 xs) (has_default (own_type (tree_from_front 0 xs)))
-    ∙ sym (ap (λ o. is_none (unless_default o)) (first_item xs k)) ∙ sym (ap (λ c. is_none (cond c None (unless_default (slice_get (but_last (but_last xs)) 0)))) e)
+    ∙ sym (ap (λ o. is_none (unless_default o)) (first_item xs k)) ∙ sym
+    (ap (λ c. is_none (cond c None (unless_default (slice_get (but_last (but_last xs)) 0)))) e)
   where
     by : (x : TypedNode) (c : Bool) → c ≡ is_none (cond (not c) (Some x) None)
     by x true = refl
     by x false = refl
 
 -- the element by the first item
-pub own_item : (f : Store) (h o : Option ℕ) (xs : List TypedNode) (a : Ty) → None ≡ h → 0 < length (but_last (but_last xs)) → a ≡ own_type (tree_from_front 0 xs) → o ≡ default_in f a
+pub own_item : (f : Store) (h o : Option ℕ) (xs : List TypedNode) (a : Ty) → None ≡ h → 0 < length (but_last (but_last xs)) →
+    a ≡ own_type (tree_from_front 0 xs) → o ≡ default_in f a
     → o ≡ option_or h (default_of f (slice_get (but_last (but_last xs)) 0))
 own_item f h o xs a e k g m =
-    m ∙ ap (default_in f) g ∙ sym (ap (default_of f) (first_item xs k)) ∙ ap (λ p. option_or p (default_of f (slice_get (but_last (but_last xs)) 0))) e
+    m ∙ ap (default_in f) g ∙ sym (ap (default_of f) (first_item xs k)) ∙ ap
+    (λ p. option_or p (default_of f (slice_get (but_last (but_last xs)) 0))) e

@@ -11,8 +11,10 @@ listed-typed : (ts : List TypedNode) → listed_nodes (typed_nodes ts) ≡ ts
 listed-typed [] = refl
 listed-typed (t ∷ ts) = ap (λ us. t ∷ us) (listed-typed ts)
 
-pub kid-front : (n : ℕ) (h : Head) (m : Mark) (ts : List TypedNode) (t : TypedNode) → marked h m (typed_nodes ts) ≡ t → tree_from_front n ts ≡ kid_from_front n t
+pub kid-front : (n : ℕ) (h : Head) (m : Mark) (ts : List TypedNode) (t : TypedNode) → marked h m (typed_nodes ts) ≡ t →
+    tree_from_front n ts ≡ kid_from_front n t
 kid-front n h m ts t v = ap (tree_from_front n) (sym (listed-typed ts)) ∙ ap (kid_from_front n) v
 
-pub kids_defined : (s : Store) (h : Head) (m : Mark) (ts : List TypedNode) (t : TypedNode) → marked h m (typed_nodes ts) ≡ t → IsDefinedTree s t → AreDefinedTrees s (typed_nodes ts)
+pub kids_defined : (s : Store) (h : Head) (m : Mark) (ts : List TypedNode) (t : TypedNode) → marked h m (typed_nodes ts) ≡ t →
+    IsDefinedTree s t → AreDefinedTrees s (typed_nodes ts)
 kids_defined s h m ts t v d = (subst (IsDefinedTree s) (sym v) d).2

@@ -77,15 +77,19 @@ module _ (now later : Store) (v : IsStore now) (l : IsLater now later) where
   abbrev WasKnown : ℕ → ℕ → Type 0
   WasKnown n t = (x : Extent) → found_within later rule n t ≡ Some x → extent_at now t ≡ Some x
 
-  all_known-back : (n : ℕ) (is : List ℕ) → ((i : ℕ) → Contains is i → WasKnown n i) → (xs : List Extent) → all_known (found_within later rule n) is ≡ Some xs
+  all_known-back : (n : ℕ) (is : List ℕ) → ((i : ℕ) → Contains is i → WasKnown n i) → (xs : List Extent) →
+      all_known (found_within later rule n) is ≡ Some xs
       → all_known (extent_at now) is ≡ Some xs
   all_known-back n [] h xs e = e
   all_known-back n (i ∷ is) h xs e =
-      option_and_then-more (λ x. option_map (λ ys. x ∷ ys) (all_known (found_within later rule n) is)) (λ x. option_map (λ ys. x ∷ ys) (all_known (extent_at now) is))
-      (λ x. option_map-more (λ ys. x ∷ ys) (all_known (found_within later rule n) is) (all_known (extent_at now) is) (all_known-back n is (λ j c. h j (suc c.0, omega (arith, c.1), c.2))))
+      option_and_then-more (λ x. option_map (λ ys. x ∷ ys) (all_known (found_within later rule n) is))
+      (λ x. option_map (λ ys. x ∷ ys) (all_known (extent_at now) is))
+      (λ x. option_map-more (λ ys. x ∷ ys) (all_known (found_within later rule n) is) (all_known (extent_at now) is)
+      (all_known-back n is (λ j c. h j (suc c.0, omega (arith, c.1), c.2))))
       (found_within later rule n i) (extent_at now i) (h i (first_of i is)) xs e
 
-  by_row : (n t : ℕ) (r : Row) → IsDefined now t → row_at now t ≡ Some r → ((i : ℕ) → Contains (made_of now r) i → WasKnown n i) → (x : Extent)
+  by_row : (n t : ℕ) (r : Row) → IsDefined now t → row_at now t ≡ Some r → ((i : ℕ) → Contains (made_of now r) i → WasKnown n i) →
+      (x : Extent)
       → bytes_over (definition_of later) (found_within later rule n) t r ≡ Some x
       → bytes_over (definition_of now) (extent_at now) t r ≡ Some x
   by_row n t (row.Scalar k) d e h x k' = k'
@@ -94,14 +98,19 @@ module _ (now later : Store) (v : IsStore now) (l : IsLater now later) where
   by_row n t (row.Slice j) d e h x k = k
   by_row n t (row.Array m j) d e h x k = option_map-more _ (found_within later rule n j) (extent_at now j) (h j (first_of j [])) x k
   by_row n t (row.Struct fs) d e h x k =
-      option_map-more _ (all_known (found_within later rule n) (map (λ f. f.ty) fs)) (all_known (extent_at now) (map (λ f. f.ty) fs)) (all_known-back n (map (λ f. f.ty) fs) h) x k
-  by_row n t (row.Tuple js) d e h x k = option_map-more _ (all_known (found_within later rule n) js) (all_known (extent_at now) js) (all_known-back n js h) x k
-  by_row n t (row.Union js) d e h x k = option_map-more _ (all_known (found_within later rule n) js) (all_known (extent_at now) js) (all_known-back n js h) x k
+      option_map-more _ (all_known (found_within later rule n) (map (λ f. f.ty) fs)) (all_known (extent_at now) (map (λ f. f.ty) fs))
+      (all_known-back n (map (λ f. f.ty) fs) h) x k
+  by_row n t (row.Tuple js) d e h x k = option_map-more _ (all_known (found_within later rule n) js) (all_known (extent_at now) js)
+      (all_known-back n js h) x k
+  by_row n t (row.Union js) d e h x k = option_map-more _ (all_known (found_within later rule n) js) (all_known (extent_at now) js)
+      (all_known-back n js h) x k
   by_row n t (row.Error j) d e h x k = h j (first_of j []) x k
   by_row n t (row.Named q) d e h x k =
       let u = some_of (definition_of now q) (d.names t q itself e) in
-      let there : Contains (cons_option (definition_of now q) []) u.0 = subst (λ o. Contains (cons_option o []) u.0) (sym u.1) (first_of u.0 []) in
-      let found_then : found_within later rule n u.0 ≡ Some x = sym (ap (option_and_then (found_within later rule n)) (l.grows.defined q u.0 u.1)) ∙ k in
+      let there : Contains (cons_option (definition_of now q) []) u.0 =
+      subst (λ o. Contains (cons_option o []) u.0) (sym u.1) (first_of u.0 []) in
+      let found_then : found_within later rule n u.0 ≡ Some x =
+      sym (ap (option_and_then (found_within later rule n)) (l.grows.defined q u.0 u.1)) ∙ k in
       ap (option_and_then (extent_at now)) u.1 ∙ h u.0 there x found_then
 
   was_known : (n t : ℕ) → IsDefined now t → WasKnown n t
@@ -110,7 +119,8 @@ module _ (now later : Store) (v : IsStore now) (l : IsLater now later) where
       let r = slice_index_or now.rows t (row.Scalar keyword.Void) in
       let here : row_at now t ≡ Some r = slice_get-get_or now.rows t (row.Scalar keyword.Void) d.within in
       let there : row_at later t ≡ Some r = (types_stay now later v l).row t r here in
-      let k : bytes_over (definition_of later) (found_within later rule n) t r ≡ Some x = sym (ap (option_and_then (rule (found_within later rule n) t)) there) ∙ e in
+      let k : bytes_over (definition_of later) (found_within later rule n) t r ≡ Some x =
+      sym (ap (option_and_then (rule (found_within later rule n) t)) there) ∙ e in
       extent-row now t r here ∙ by_row n t r d here (λ i c. was_known n i (part_defined now v t r i d here c)) x k
 
   pub extent_stays : (t : ℕ) → IsDefined now t → extent_at later t ≡ extent_at now t

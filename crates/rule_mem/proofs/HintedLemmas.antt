@@ -46,7 +46,8 @@ second_asked (y ∷ z ∷ zs) h c k = by (nat_eq (length (y ∷ z ∷ zs)) 1) re
     by false e = refl
 
 -- each but the first is asked
-pub later_asked : (ys : List TypedNode) (h : Hint) (b : Bool) → (b ≡ true → length ys ≡ 0 → ⊥) → (b ≡ false → length ys ≡ 0) → is_type_hint h ≡ true
+pub later_asked : (ys : List TypedNode) (h : Hint) (b : Bool) → (b ≡ true → length ys ≡ 0 → ⊥) → (b ≡ false → length ys ≡ 0) →
+    is_type_hint h ≡ true
     → b ≡ is_type_hint (by_place (length ys) (hint.None ∷ []) h)
 later_asked [] h true a c k = absurd (a refl refl)
 later_asked [] h false a c k = refl
@@ -55,7 +56,8 @@ later_asked (y ∷ ys) h false a c k = absurd (omega (arith, c refl))
 
 -- what is put behind a slice
 pub appended : (s : Store) (a : Ty) (b : Bool)
-    → is_type_hint (cond (is_some (element_of_slice (base_row s a))) (cond b (hint_to (element_of_slice (base_row s a))) (hint_to (id_in a))) hint.None)
+    → is_type_hint (cond (is_some (element_of_slice (base_row s a)))
+    (cond b (hint_to (element_of_slice (base_row s a))) (hint_to (id_in a))) hint.None)
     ≡ is_some (element_of_slice (base_row s a))
 appended s (ty.Iconst v) b = refl
 appended s ty.Null b = refl
@@ -80,13 +82,15 @@ erased_text : (x : TypedNode) → (head (erase x)).text ≡ text_of x
 erased_text (marked h m ts) = refl
 
 -- nothing is asked of the first kid
-pub literal_first : (w : Setting) (ys : List TypedNode) (x : TypedNode) → length ys ≡ 0 → false ≡ is_type_hint (field_hint w ys (head (erase x)))
+pub literal_first : (w : Setting) (ys : List TypedNode) (x : TypedNode) → length ys ≡ 0 →
+    false ≡ is_type_hint (field_hint w ys (head (erase x)))
 literal_first w [] x e = refl
 literal_first w (y ∷ ys) x e = absurd (omega (arith, e))
 
 -- of each other one the type of the field of its name
 pub literal_later : (w : Setting) (xs : List TypedNode) (i : ℕ) (x : TypedNode) → (length (take i xs) ≡ 0 → ⊥)
-    → is_some (field_type w.store (base_row w.store (own_type (tree_from_front 0 xs))) (text_of x)) ≡ is_type_hint (field_hint w (take i xs) (head (erase x)))
+    → is_some (field_type w.store (base_row w.store (own_type (tree_from_front 0 xs))) (text_of x)) ≡
+    is_type_hint (field_hint w (take i xs) (head (erase x)))
 literal_later w [] zero x k = absurd (k refl)
 literal_later w [] (suc i) x k = absurd (k refl)
 literal_later w (y ∷ ys) zero x k = absurd (k refl)
@@ -100,18 +104,22 @@ erased_kind : (x : TypedNode) → (head (erase x)).kind ≡ kind_of x
 erased_kind (marked h m ts) = refl
 
 -- what stands behind the first kid
-next_is : (xs : List TypedNode) (i : ℕ) → length (take i xs) ≡ 0 → next_kind (erase_each (typed_nodes (drop (suc i) xs))) ≡ kind_of (tree_from_front 1 xs)
+next_is : (xs : List TypedNode) (i : ℕ) → length (take i xs) ≡ 0 →
+    next_kind (erase_each (typed_nodes (drop (suc i) xs))) ≡ kind_of (tree_from_front 1 xs)
 next_is [] i e = ap (λ ys. next_kind (erase_each (typed_nodes ys))) (drop_past [] (suc i) (omega arith))
 next_is (x ∷ []) zero e = refl
 next_is (x ∷ y ∷ ys) zero e = erased_kind y
 next_is (x ∷ xs) (suc i) e = absurd (omega (arith, e))
 
-pub allocation_first : (w : Setting) (own hw : Hint) (xs : List TypedNode) (i : ℕ) (b : Bool) → length (take i xs) ≡ 0 → b ≡ is_there (tree_from_front 1 xs)
+pub allocation_first : (w : Setting) (own hw : Hint) (xs : List TypedNode) (i : ℕ) (b : Bool) → length (take i xs) ≡ 0 →
+    b ≡ is_there (tree_from_front 1 xs)
     → is_type_hint (allocated_hint w own b)
-    ≡ is_type_hint (by_place (length (take i xs)) (allocated_hint w own (not (is_left_out (next_kind (erase_each (typed_nodes (drop (suc i) xs)))))) ∷ []) hw)
+    ≡ is_type_hint (by_place (length (take i xs))
+    (allocated_hint w own (not (is_left_out (next_kind (erase_each (typed_nodes (drop (suc i) xs)))))) ∷ []) hw)
 allocation_first w own hw xs i b e k =
     ap (λ c. is_type_hint (allocated_hint w own c)) (k ∙ sym (ap (λ j. not (is_left_out j)) (next_is xs i e)))
-    ∙ sym (ap (λ n. is_type_hint (by_place n (allocated_hint w own (not (is_left_out (next_kind (erase_each (typed_nodes (drop (suc i) xs)))))) ∷ []) hw)) e)
+    ∙ sym (ap (λ n. is_type_hint (by_place n
+    (allocated_hint w own (not (is_left_out (next_kind (erase_each (typed_nodes (drop (suc i) xs)))))) ∷ []) hw)) e)
 
 -- with a capacity the operand stays
 pub not_full : (n h k : Bool) (o : Option ℕ) → h ≡ true → None ≡ only_where ((n && not h) && k) o

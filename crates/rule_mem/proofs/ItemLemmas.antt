@@ -26,21 +26,26 @@ use Rattle.rule_mem.proofs.TupleLemmas.{slice_get-front}
 -- ---- items of a tuple that have no default
 
 -- the first of those that are left
-pub lacking-here : (xs : List TypedNode) (i : ℕ) (a : Ty) (b : Bool) (all : Option TypedNode) → i < length xs - 1 → a ≡ own_type (tree_from_front i xs)
+pub lacking-here : (xs : List TypedNode) (i : ℕ) (a : Ty) (b : Bool) (all : Option TypedNode) → i < length xs - 1 →
+    a ≡ own_type (tree_from_front i xs)
     → b ≡ has_default a → b ≡ false → find lacks_default (but_last (drop i xs)) ≡ all → b ≡ is_none all
 lacking-here xs i a b all h e k m g =
     m
     ∙ ap is_none
-    (find-here lacks_default xs i (tree_from_front i xs) all (slice_get-front xs i (omega arith)) h (ap not (ap has_default (sym e) ∙ sym k ∙ m)) g)
+    (find-here lacks_default xs i (tree_from_front i xs) all (slice_get-front xs i (omega arith)) h
+    (ap not (ap has_default (sym e) ∙ sym k ∙ m)) g)
 
 -- it has one
-pub lacking-passed : (xs : List TypedNode) (i : ℕ) (a : Ty) (b : Bool) (all : Option TypedNode) → i < length xs - 1 → a ≡ own_type (tree_from_front i xs)
+pub lacking-passed : (xs : List TypedNode) (i : ℕ) (a : Ty) (b : Bool) (all : Option TypedNode) → i < length xs - 1 →
+    a ≡ own_type (tree_from_front i xs)
     → b ≡ has_default a → b ≡ true → find lacks_default (but_last (drop i xs)) ≡ all → find lacks_default (but_last (drop (i + 1) xs)) ≡ all
 lacking-passed xs i a b all h e k m g =
-    find-passed lacks_default xs i (tree_from_front i xs) all (slice_get-front xs i (omega arith)) h (ap not (ap has_default (sym e) ∙ sym k ∙ m)) g
+    find-passed lacks_default xs i (tree_from_front i xs) all (slice_get-front xs i (omega arith)) h
+    (ap not (ap has_default (sym e) ∙ sym k ∙ m)) g
 
 -- all have one
-pub lacking-end : (xs : List TypedNode) (i : ℕ) (all : Option TypedNode) → length xs - 1 ≤ i → find lacks_default (but_last (drop i xs)) ≡ all → true ≡ is_none all
+pub lacking-end : (xs : List TypedNode) (i : ℕ) (all : Option TypedNode) → length xs - 1 ≤ i →
+    find lacks_default (but_last (drop i xs)) ≡ all → true ≡ is_none all
 lacking-end xs i all h g = ap is_none (find-end lacks_default xs i all h g)
 
 -- a hint gives all types
@@ -95,19 +100,22 @@ component_past (Some ts) n i h = by (length ts == n) refl
 -- an item is asked where a hint gives the components
 pub component_asked : (w : Setting) (own : Hint) (xs : List TypedNode) (i : ℕ) → i < length (but_last xs)
     → is_some (hinted_components w.store own (length (but_last xs)))
-    ≡ is_type_hint (component_hint w own (length (take i xs) + suc (count_of (erase_each (typed_nodes (drop (suc i) xs))))) (length (take i xs)))
+    ≡ is_type_hint (component_hint w own (length (take i xs) + suc (count_of (erase_each (typed_nodes (drop (suc i) xs)))))
+    (length (take i xs)))
 component_asked w own xs i h =
     let all = length-but_last xs in
     let before = length-take i xs in
     let behind = length-behind xs i in
     let place : i ≡ length (take i xs) = omega arith in
-    let count : length (but_last xs) ≡ (length (take i xs) + suc (count_of (erase_each (typed_nodes (drop (suc i) xs))))) - 1 = omega arith in
+    let count : length (but_last xs) ≡ (length (take i xs) + suc (count_of (erase_each (typed_nodes (drop (suc i) xs))))) - 1 =
+    omega arith in
     sym (component_there _ (length (but_last xs)) i h)
     ∙ ap₂ (λ (n j : ℕ). is_some (component_at (hinted_components w.store own n) j)) count place ∙ sym (hint_to-asks _)
 
 -- nothing is asked of what stands behind the items
 pub component_unasked : (w : Setting) (own : Hint) (xs : List TypedNode) (i : ℕ) → length (but_last xs) ≤ i
-    → false ≡ is_type_hint (component_hint w own (length (take i xs) + suc (count_of (erase_each (typed_nodes (drop (suc i) xs))))) (length (take i xs)))
+    → false ≡ is_type_hint (component_hint w own (length (take i xs) + suc (count_of (erase_each (typed_nodes (drop (suc i) xs)))))
+    (length (take i xs)))
 component_unasked w own xs i h =
     let all = length-but_last xs in
     let before = length-take i xs in
@@ -122,7 +130,8 @@ element_asked w None xs e = absurd cc
 element_asked w (Some t) xs e = refl
 
 -- nothing is asked of the first item where no hint gives the element
-pub first_unasked : (w : Setting) (o : Option ℕ) (xs : List TypedNode) → is_some o ≡ false → length xs ≡ 0 → false ≡ is_type_hint (item_hint_by w o xs)
+pub first_unasked : (w : Setting) (o : Option ℕ) (xs : List TypedNode) → is_some o ≡ false → length xs ≡ 0 →
+    false ≡ is_type_hint (item_hint_by w o xs)
 first_unasked w (Some t) xs e h = cc
 first_unasked w None [] e h = refl
 first_unasked w None (x ∷ xs) e h = absurd (omega (arith, h))
@@ -176,9 +185,11 @@ element_stays false c o d e = refl
 element_stays true false o d e = refl
 
 -- it goes to its default
-pub first_goes : (i n : ℕ) (o : Option ℕ) (d g : Option ℕ) → i ≡ 0 → 0 < n → is_some o ≡ false → g ≡ d → g ≡ only_where ((nat_eq i 0 && nat_lt 0 n) && is_none o) d
+pub first_goes : (i n : ℕ) (o : Option ℕ) (d g : Option ℕ) → i ≡ 0 → 0 < n → is_some o ≡ false → g ≡ d →
+    g ≡ only_where ((nat_eq i 0 && nat_lt 0 n) && is_none o) d
 first_goes i n (Some t) d g e l h k = cc
-first_goes i n None d g e l h k = k ∙ ap₂ (λ (a b : Bool). only_where ((a && b) && true) d) (sym ((unsigned_Decides i 0).1 e)) (sym (lt-ltb 0 n l))
+first_goes i n None d g e l h k = k ∙ ap₂ (λ (a b : Bool). only_where ((a && b) && true) d) (sym ((unsigned_Decides i 0).1 e))
+    (sym (lt-ltb 0 n l))
 
 -- ---- the element of an array
 

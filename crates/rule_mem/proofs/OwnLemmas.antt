@@ -19,13 +19,15 @@ met true r o e = refl
 met false r o e = cc
 
 -- the first of a node's own rows
-pub first_met : (c : Context) (k : Kind) (r : RowId) (rs : List RowId) → c.head.kind ≡ k → own_rows (rows_of k) ≡ r ∷ rs → own_failing c ≡ None → holds r c ≡ true
+pub first_met : (c : Context) (k : Kind) (r : RowId) (rs : List RowId) → c.head.kind ≡ k → own_rows (rows_of k) ≡ r ∷ rs →
+    own_failing c ≡ None → holds r c ≡ true
 first_met c k r rs e h n =
     met (holds r c) r (find (λ q. not (holds q c)) rs)
     (sym (ap (find (λ q. not (holds q c))) (ap (λ j. own_rows (rows_of j)) e ∙ h)) ∙ n)
 
 -- what is a place can be one
-by_form : (s : Store) (k : Kind) (named : Bool) (ts : TypedNodes) (inner outer : Bool) → (inner ≡ true → outer ≡ true) → place_by s k named ts inner ≡ true → leads_by k outer ≡ true
+by_form : (s : Store) (k : Kind) (named : Bool) (ts : TypedNodes) (inner outer : Bool) → (inner ≡ true → outer ≡ true) →
+    place_by s k named ts inner ≡ true → leads_by k outer ≡ true
 by_form s ki.Path named ts inner outer h e = refl
 by_form s ki.Deref named ts inner outer h e = refl
 by_form s ki.Index named ts inner outer h e = refl
@@ -42,7 +44,8 @@ mutual
   first_form w (typed_more t ts) e = place_form w t e
 
 -- the third of a node's own rows
-pub third_met : (c : Context) (k : Kind) (p q r : RowId) (rs : List RowId) → c.head.kind ≡ k → own_rows (rows_of k) ≡ p ∷ q ∷ r ∷ rs → own_failing c ≡ None → holds r c ≡ true
+pub third_met : (c : Context) (k : Kind) (p q r : RowId) (rs : List RowId) → c.head.kind ≡ k → own_rows (rows_of k) ≡ p ∷ q ∷ r ∷ rs →
+    own_failing c ≡ None → holds r c ≡ true
 third_met c k p q r rs e h n =
     let all = sym (ap (find (λ x. not (holds x c))) (ap (λ j. own_rows (rows_of j)) e ∙ h)) ∙ n in
     met (holds r c) r (find (λ x. not (holds x c)) rs) (behind (holds q c) q _ (behind (holds p c) p _ all))

@@ -12,7 +12,8 @@ use Rattle.rule_judge.proofs.HeldLemmas.{only_of}
 use Rattle.rule_judge.proofs.DefinedLemmas.{defined_by_row, defined_stays}
 
 -- the type of a name that is defined
-pub named_defined : (now later : Store) → IsStore now → IsLater now later → (d u : ℕ) → row_at later u ≡ Some (row.Named d) → IsDefinedName now d → IsDefined later u
+pub named_defined : (now later : Store) → IsStore now → IsLater now later → (d u : ℕ) → row_at later u ≡ Some (row.Named d) →
+    IsDefinedName now d → IsDefined later u
 named_defined now later v l d u e (t, g, h) =
     let there : definition_of later d ≡ Some t = l.grows.defined d t g in
     defined_by_row later u (row.Named d) e

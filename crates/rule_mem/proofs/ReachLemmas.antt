@@ -15,7 +15,8 @@ reached_within-suc : (n : ℕ) (s : Store) (a : Ty) (t : ℕ) → pointee s a �
 reached_within-suc n s a t e = ap (λ o. reached_within n s (pointee_or a o)) e
 
 -- one pointer more is followed
-pub reached_within-more : (most p : ℕ) (s : Store) (a end : Ty) (t : ℕ) → p < most → pointee s a ≡ Some t → reached_within (most - p) s a ≡ end
+pub reached_within-more : (most p : ℕ) (s : Store) (a end : Ty) (t : ℕ) → p < most → pointee s a ≡ Some t →
+    reached_within (most - p) s a ≡ end
     → reached_within (most - (p + 1)) s (ty.Of t) ≡ end
 reached_within-more most p s a end t h e k =
     let left : most - p ≡ suc (most - (p + 1)) = omega arith in

@@ -43,7 +43,8 @@ module _ (now later : Store) (l : IsLater now later) where
   name_stays text n e = (name_tells later l.sound text n).1 (name_kept n (slice_get_within now.names n text e) ∙ e)
 
   -- a name that comes later has a number behind those that were
-  pub name_new : (text : List ℕ) → ((n : ℕ) → slice_get now.names n ≢ Some text) → (m : ℕ) → name_number later text ≡ Some m → length now.names ≤ m
+  pub name_new : (text : List ℕ) → ((n : ℕ) → slice_get now.names n ≢ Some text) → (m : ℕ) → name_number later text ≡ Some m →
+      length now.names ≤ m
   name_new text h m e = by (cases_lt m (length now.names))
     where
       by : (m < length now.names) ⊎ (length now.names ≤ m) → length now.names ≤ m
@@ -56,7 +57,8 @@ module _ (now later : Store) (l : IsLater now later) where
 pub find-position : {A : Type 0} (p : A → Bool) (xs : List A) → find p xs ≡ option_and_then (slice_get xs) (position p xs)
 find-position p xs = by (nat_lt (position_or_len p xs) (length xs)) refl
   where
-    by : (b : Bool) → nat_lt (position_or_len p xs) (length xs) ≡ b → find p xs ≡ option_and_then (slice_get xs) (cond b (Some (position_or_len p xs)) None)
+    by : (b : Bool) → nat_lt (position_or_len p xs) (length xs) ≡ b →
+        find p xs ≡ option_and_then (slice_get xs) (cond b (Some (position_or_len p xs)) None)
     by true e = find_at p xs
     by false e = find_at p xs ∙ slice_get_past xs (position_or_len p xs) (past (cases_lt (position_or_len p xs) (length xs)))
       where
@@ -67,12 +69,14 @@ find-position p xs = by (nat_lt (position_or_len p xs) (length xs)) refl
 -- no field has a name whose number is behind those of all names
 pub field_named-absent : (fs : List Field) (n m : ℕ) → ((f : Field) → Contains fs f → f.name < n) → n ≤ m → field_named fs m ≡ None
 field_named-absent [] n m h k = refl
-field_named-absent (f ∷ fs) n m h k = by (field_named-absent fs n m (λ g c. h g (suc c.0, omega (arith, c.1), c.2)) k) (nat_eq f.name m) refl
+field_named-absent (f ∷ fs) n m h k = by (field_named-absent fs n m (λ g c. h g (suc c.0, omega (arith, c.1), c.2)) k) (nat_eq f.name m)
+    refl
   where
     here : f.name < n
     here = h f (0, omega arith, refl)
 
-    by : field_named fs m ≡ None → (b : Bool) → nat_eq f.name m ≡ b → option_map (λ g. g.ty) (cond b (Some f) (find (λ g. nat_eq g.name m) fs)) ≡ None
+    by : field_named fs m ≡ None → (b : Bool) → nat_eq f.name m ≡ b →
+        option_map (λ g. g.ty) (cond b (Some f) (find (λ g. nat_eq g.name m) fs)) ≡ None
     by rest true e = let same : f.name ≡ m = (unsigned_Decides f.name m).0 e in absurd (omega (arith, here))
     by rest false e = rest
 
@@ -83,16 +87,21 @@ module _ (now later : Store) (l : IsLater now later) (fs : List Field) (names : 
     where
       by : (o : Option ℕ) → name_number later text ≡ o → option_and_then (field_named fs) (name_number later text) ≡ None
       by None e = ap (option_and_then (field_named fs)) e
-      by (Some m) e = ap (option_and_then (field_named fs)) e ∙ field_named-absent fs (length now.names) m names (name_new now later l text h m e)
+      by (Some m) e = ap (option_and_then (field_named fs)) e ∙ field_named-absent fs (length now.names) m names
+          (name_new now later l text h m e)
 
   -- the field that stands where the name is found
   pub field_type-name : (n : ℕ) → slice_get now.names n ≡ Some text
-      → field_type later (Some (row.Struct fs)) text ≡ option_map (λ f. f.ty) (option_and_then (slice_get fs) (position (λ f. nat_eq f.name n) fs))
+      → field_type later (Some (row.Struct fs)) text ≡
+      option_map (λ f. f.ty) (option_and_then (slice_get fs) (position (λ f. nat_eq f.name n) fs))
   field_type-name n e =
-      ap (option_and_then (field_named fs)) (name_stays now later l text n e) ∙ ap (option_map (λ f. f.ty)) (find-position (λ f. nat_eq f.name n) fs)
+      ap (option_and_then (field_named fs)) (name_stays now later l text n e) ∙ ap (option_map (λ f. f.ty))
+      (find-position (λ f. nat_eq f.name n) fs)
 
   -- the same by the place that the store tells
-  pub field_type-at : (t n : ℕ) (p : Option ℕ) → row_at now t ≡ Some (row.Struct fs) → slice_get now.names n ≡ Some text → p ≡ field_at now t n
+  pub field_type-at : (t n : ℕ) (p : Option ℕ) → row_at now t ≡ Some (row.Struct fs) → slice_get now.names n ≡ Some text →
+      p ≡ field_at now t n
       → field_type later (Some (row.Struct fs)) text ≡ option_map (λ f. f.ty) (option_and_then (slice_get fs) p)
   field_type-at t n p here e k =
-      field_type-name n e ∙ ap (λ q. option_map (λ f. f.ty) (option_and_then (slice_get fs) q)) (sym (k ∙ ap (option_and_then (field_in n)) here))
+      field_type-name n e ∙ ap (λ q. option_map (λ f. f.ty) (option_and_then (slice_get fs) q))
+      (sym (k ∙ ap (option_and_then (field_in n)) here))

@@ -23,11 +23,13 @@ if_some : {A : Type 0} (P : A → Type 0) (o : Option A) → ((a : A) → o ≡ 
 if_some P None h = tt
 if_some P (Some a) h = h a refl
 
-field_held : (P : ℕ → Type 0) (fs : List Field) (n t : ℕ) → ((i : ℕ) → Contains (map (λ f. f.ty) fs) i → P i) → field_named fs n ≡ Some t → P t
+field_held : (P : ℕ → Type 0) (fs : List Field) (n t : ℕ) → ((i : ℕ) → Contains (map (λ f. f.ty) fs) i → P i) → field_named fs n ≡ Some t →
+    P t
 field_held P [] n t h e = absurd cc
 field_held P (f ∷ fs) n t h e = by (λ k. field_held P fs n t (λ i c. h i (suc c.0, omega (arith, c.1), c.2)) k) (nat_eq f.name n) e
   where
-    by : (field_named fs n ≡ Some t → P t) → (b : Bool) → option_map (λ g. g.ty) (cond b (Some f) (find (λ g. nat_eq g.name n) fs)) ≡ Some t → P t
+    by : (field_named fs n ≡ Some t → P t) → (b : Bool) →
+        option_map (λ g. g.ty) (cond b (Some f) (find (λ g. nat_eq g.name n) fs)) ≡ Some t → P t
     by rest true k = let same : f.ty ≡ t = cc in subst P same (h f.ty (first_of f.ty (map (λ g. g.ty) fs)))
     by rest false k = rest k
 

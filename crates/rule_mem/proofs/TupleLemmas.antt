@@ -25,7 +25,8 @@ slice_get-front [] i h = absurd (omega arith)
 slice_get-front (x ∷ xs) zero h = refl
 slice_get-front (x ∷ xs) (suc i) h = slice_get-front xs i (omega arith)
 
-joined-id : (ts : List ℕ) (d : ℕ) (o : Option (List ℕ)) → option_map (λ us. ts ++ us) (with_id (Some d) o) ≡ option_map (λ us. (ts ++ d ∷ []) ++ us) o
+joined-id : (ts : List ℕ) (d : ℕ) (o : Option (List ℕ)) →
+    option_map (λ us. ts ++ us) (with_id (Some d) o) ≡ option_map (λ us. (ts ++ d ∷ []) ++ us) o
 joined-id ts d None = refl
 joined-id ts d (Some us) = ap Some (sym (append_assoc ts (d ∷ []) us))
 
@@ -55,7 +56,8 @@ pub defaults-none : (f : Store) (xs : List TypedNode) (ts : List ℕ) (i : ℕ) 
     → a ≡ own_type (tree_from_front i xs) → None ≡ default_in f a
     → option_map (λ vs. ts ++ vs) (defaults f (but_last (drop i xs))) ≡ all → None ≡ all
 defaults-none f xs ts i a all h e k g =
-    ap (option_map (λ vs. ts ++ vs)) (sym (no_id (defaults f (but_last (drop (i + 1) xs)))) ∙ ap (λ o. with_id o (defaults f (but_last (drop (i + 1) xs)))) k ∙ sym (defaults-left f xs i a h e)) ∙ g
+    ap (option_map (λ vs. ts ++ vs)) (sym (no_id (defaults f (but_last (drop (i + 1) xs)))) ∙ ap
+    (λ o. with_id o (defaults f (but_last (drop (i + 1) xs)))) k ∙ sym (defaults-left f xs i a h e)) ∙ g
 
 -- all have one
 pub defaults-end : (f : Store) (xs : List TypedNode) (ts : List ℕ) (i : ℕ) (all : Option (List ℕ)) → length xs - 1 ≤ i
@@ -64,7 +66,8 @@ defaults-end f xs ts i all h g =
     ap Some (sym (append-nil ts)) ∙ sym (ap (λ ys. option_map (λ vs. ts ++ vs) (defaults f ys)) (but_last-end xs i h)) ∙ g
 
 -- each of some and one more
-pub each-more : (P : ℕ → Type 0) (ts us : List ℕ) (d : ℕ) → us ≡ ts ++ d ∷ [] → ((i : ℕ) → Contains ts i → P i) → P d → (i : ℕ) → Contains us i → P i
+pub each-more : (P : ℕ → Type 0) (ts us : List ℕ) (d : ℕ) → us ≡ ts ++ d ∷ [] → ((i : ℕ) → Contains ts i → P i) → P d → (i : ℕ) →
+    Contains us i → P i
 each-more P ts us d e h k i c = by ts h (subst (λ xs. Contains xs i) e c)
   where
     none : (i : ℕ) → Contains (d ∷ []) i → P i
@@ -78,12 +81,14 @@ each-more P ts us d e h k i c = by ts h (subst (λ xs. Contains xs i) e c)
 
 -- ---- by a hint or by the items
 
-pub components-hinted : (f : Store) (h : Hint) (xs : List TypedNode) (n : ℕ) (ts us : List ℕ) → Some ts ≡ hinted_components f h n → n ≡ length xs → us ≡ ts
+pub components-hinted : (f : Store) (h : Hint) (xs : List TypedNode) (n : ℕ) (ts us : List ℕ) → Some ts ≡ hinted_components f h n →
+    n ≡ length xs → us ≡ ts
     → Some us ≡ or_defaults f xs (hinted_components f h (length xs))
 components-hinted f h xs n ts us e k m =
     ap Some m ∙ ap (or_defaults f xs) (e ∙ ap (hinted_components f h) k)
 
-pub components-own : (f : Store) (h : Hint) (xs : List TypedNode) (n : ℕ) (o : Option (List ℕ)) → None ≡ hinted_components f h n → n ≡ length xs → o ≡ defaults f xs
+pub components-own : (f : Store) (h : Hint) (xs : List TypedNode) (n : ℕ) (o : Option (List ℕ)) → None ≡ hinted_components f h n →
+    n ≡ length xs → o ≡ defaults f xs
     → o ≡ or_defaults f xs (hinted_components f h (length xs))
 components-own f h xs n o e k m = m ∙ ap (or_defaults f xs) (e ∙ ap (hinted_components f h) k)
 
@@ -91,9 +96,11 @@ components-own f h xs n o e k m = m ∙ ap (or_defaults f xs) (e ∙ ap (hinted_
 pub tuple_small : (f : Store) → IsStore f → (ts : List ℕ) (u : ℕ) → id_of f (row.Tuple ts) ≡ Some u
     → is_small (option_map (λ x. x.size) (extent_at f u)) ≡ fields_small f ts
 tuple_small f v ts u e =
-    ap (λ o. is_small (option_map (λ x. x.size) o)) (extent-row f u (row.Tuple ts) ((id_tells f v (row.Tuple ts) u).0 e)) ∙ by (all_known (extent_at f) ts)
+    ap (λ o. is_small (option_map (λ x. x.size) o)) (extent-row f u (row.Tuple ts) ((id_tells f v (row.Tuple ts) u).0 e)) ∙ by
+    (all_known (extent_at f) ts)
   where
-    by : (o : Option (List Extent)) → is_small (option_map (λ x. x.size) (option_map fields_extent o)) ≡ is_small (option_map (λ xs. (fields_extent xs).size) o)
+    by : (o : Option (List Extent)) → is_small (option_map (λ x. x.size) (option_map fields_extent o)) ≡
+        is_small (option_map (λ xs. (fields_extent xs).size) o)
     by None = refl
     by (Some xs) = refl
 
@@ -101,8 +108,11 @@ tuple_small f v ts u e =
 pub array_fits : (f : Store) → IsStore f → (n t u : ℕ) → id_of f (row.Array n t) ≡ Some u
     → is_small (option_map (λ x. x.size) (extent_at f u)) ≡ array_small f n t
 array_fits f v n t u e =
-    ap (λ o. is_small (option_map (λ x. x.size) o)) (extent-row f u (row.Array n t) ((id_tells f v (row.Array n t) u).0 e)) ∙ by (extent_at f t)
+    ap (λ o. is_small (option_map (λ x. x.size) o)) (extent-row f u (row.Array n t) ((id_tells f v (row.Array n t) u).0 e)) ∙ by
+    (extent_at f t)
   where
-    by : (o : Option Extent) → is_small (option_map (λ x. x.size) (option_map (λ x. let y : Extent = record { size = n * x.size; align = x.align } in y) o)) ≡ is_small (option_map (λ x. n * x.size) o)
+    by : (o : Option Extent) → is_small (option_map (λ x. x.size)
+        (option_map (λ x. let y : Extent = record { size = n * x.size; align = x.align } in y) o)) ≡
+        is_small (option_map (λ x. n * x.size) o)
     by None = refl
     by (Some x) = refl

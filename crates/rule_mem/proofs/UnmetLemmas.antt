@@ -16,13 +16,15 @@ told_place (Some x) p = refl
 -- at the first item of an array
 pub item_place : (h : Bool) (xs : List TypedNode) (p : Place)
     → cond (is_none (cond h None (unless_default (slice_get (but_last (but_last xs)) 0)))) None (Some (place_of (tree_from_front 0 xs)))
-    ≡ cond (is_none (cond h None (unless_default (slice_get (but_last (but_last xs)) 0)))) None (Some (place_or p (cond h None (unless_default (slice_get (but_last (but_last xs)) 0)))))
+    ≡ cond (is_none (cond h None (unless_default (slice_get (but_last (but_last xs)) 0)))) None
+    (Some (place_or p (cond h None (unless_default (slice_get (but_last (but_last xs)) 0)))))
 item_place true xs p = refl
 item_place false [] p = refl
 item_place false (x ∷ []) p = refl
 item_place false (x ∷ y ∷ []) p = refl
 item_place false (x ∷ y ∷ z ∷ zs) p = by (has_default (own_type x))
   where
-    by : (b : Bool) → cond (is_none (cond (not b) (Some x) None)) None (Some (place_of x)) ≡ cond (is_none (cond (not b) (Some x) None)) None (Some (place_or p (cond (not b) (Some x) None)))
+    by : (b : Bool) → cond (is_none (cond (not b) (Some x) None)) None (Some (place_of x)) ≡
+        cond (is_none (cond (not b) (Some x) None)) None (Some (place_or p (cond (not b) (Some x) None)))
     by true = refl
     by false = refl

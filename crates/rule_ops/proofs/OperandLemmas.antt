@@ -8,7 +8,8 @@ use Rattle.hare_typed.specs.Typed.{TypedNode}
 use Rattle.hare_typed.specs.Order.{tree_from_front}
 use Rattle.hare_rules.specs.Words.{are_iconsts, has_integer_base, widens, holds_in, integer_word, Common, Typed, common, common_type}
 
-typed_some : (b : Bool) (t : ℕ) (o : Option Common) → is_some (common_type o) ≡ is_some o → is_some (common_type (cond b (Some (Typed t)) o)) ≡ is_some (cond b (Some (Typed t)) o)
+typed_some : (b : Bool) (t : ℕ) (o : Option Common) → is_some (common_type o) ≡ is_some o →
+    is_some (common_type (cond b (Some (Typed t)) o)) ≡ is_some (cond b (Some (Typed t)) o)
 typed_some true t o e = refl
 typed_some false t o e = e
 

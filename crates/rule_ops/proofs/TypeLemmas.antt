@@ -45,7 +45,8 @@ number_small s (branch h ts) e k = ltb-true h.number (2 ^ 127) (number_own h k (
 
 -- ---- rows that hold
 
-first_holds : (c : Context) (r : RowId) (rs : List RowId) → find (λ q. not (holds q c)) (r ∷ rs) ≡ None → (holds r c ≡ true) × (find (λ q. not (holds q c)) rs ≡ None)
+first_holds : (c : Context) (r : RowId) (rs : List RowId) → find (λ q. not (holds q c)) (r ∷ rs) ≡ None → (holds r c ≡ true) ×
+    (find (λ q. not (holds q c)) rs ≡ None)
 first_holds c r rs e = by (holds r c) e
   where
     by : (b : Bool) → cond (not b) (Some r) (find (λ q. not (holds q c)) rs) ≡ None → (b ≡ true) × (find (λ q. not (holds q c)) rs ≡ None)
@@ -91,7 +92,8 @@ module _ (c : Context) where
   some_typed (Some t) e = refl
 
   -- where both rows hold there is one
-  pub arith_there : c.head.kind ≡ ki.Arith → own_failing c ≡ None → IsSome (arith_type_of (store_of c) c.head.kind c.head.text (first_seen c) (second_seen c))
+  pub arith_there : c.head.kind ≡ ki.Arith → own_failing c ≡ None →
+      IsSome (arith_type_of (store_of c) c.head.kind c.head.text (first_seen c) (second_seen c))
   arith_there e h =
       let one = first_holds c row.ArithCommon (row.ArithRange ∷ []) (rows_at c ki.Arith e h) in
       let two = first_holds c row.ArithRange [] one.1 in
@@ -99,20 +101,23 @@ module _ (c : Context) where
     where
       by : (b : Bool) → are_iconsts (first_seen c) (second_seen c) ≡ b → is_some (operands_common c) ≡ true
           → cond b (is_some (exact_of c.head.kind c.head.text (first_seen c) (second_seen c))) true ≡ true
-          → IsSome (cond b (exact_type_of c.head.kind c.head.text (first_seen c) (second_seen c)) (typed_as (common_type (operands_common c))))
+          → IsSome (cond b (exact_type_of c.head.kind c.head.text (first_seen c) (second_seen c))
+          (typed_as (common_type (operands_common c))))
       by true g x y = some_exact (exact_of c.head.kind c.head.text (first_seen c) (second_seen c)) y
       by false g x y = some_typed (common_type (operands_common c)) (common_typed (store_of c) (first_seen c) (second_seen c) g ∙ x)
 
   -- ---- shifts
 
-  pub shift_there : c.head.kind ≡ ki.Shift → own_failing c ≡ None → has_shift_type c.head.kind c.head.text (first_seen c) (second_seen c) ≡ true
+  pub shift_there : c.head.kind ≡ ki.Shift → own_failing c ≡ None →
+      has_shift_type c.head.kind c.head.text (first_seen c) (second_seen c) ≡ true
   shift_there e h =
       let one = first_holds c row.ShiftIntegers (row.ShiftRange ∷ row.ShiftLeftDefault ∷ []) (rows_at c ki.Shift e h) in
       let two = first_holds c row.ShiftRange (row.ShiftLeftDefault ∷ []) one.1 in
       let three = first_holds c row.ShiftLeftDefault [] two.1 in
       by (are_iconsts (first_seen c) (second_seen c)) two.0 three.0
     where
-      by : (b : Bool) → cond b (is_some (exact_of c.head.kind c.head.text (first_seen c) (second_seen c))) true ≡ true → (b || has_default (first_seen c)) ≡ true
+      by : (b : Bool) → cond b (is_some (exact_of c.head.kind c.head.text (first_seen c) (second_seen c))) true ≡ true →
+          (b || has_default (first_seen c)) ≡ true
           → cond b (is_some (exact_of c.head.kind c.head.text (first_seen c) (second_seen c))) (has_default (first_seen c)) ≡ true
       by true x y = x
       by false x y = y
@@ -121,8 +126,10 @@ pub some_of : {A : Type 0} (o : Option A) → is_some o ≡ true → IsSome o
 some_of None e = absurd cc
 some_of (Some a) e = refl
 
-pub exact_there : (k : Kind) (sign : List ℕ) (a b : Ty) (o : Option Ty) → true ≡ are_iconsts a b → o ≡ exact_type_of k sign a b → is_some o ≡ has_shift_type k sign a b
-exact_there k sign a b o e g = ap is_some g ∙ mapped (exact_of k sign a b) ∙ ap (λ x. cond x (is_some (exact_of k sign a b)) (has_default a)) e
+pub exact_there : (k : Kind) (sign : List ℕ) (a b : Ty) (o : Option Ty) → true ≡ are_iconsts a b → o ≡ exact_type_of k sign a b →
+    is_some o ≡ has_shift_type k sign a b
+exact_there k sign a b o e g = ap is_some g ∙ mapped (exact_of k sign a b) ∙ ap
+    (λ x. cond x (is_some (exact_of k sign a b)) (has_default a)) e
   where
     mapped : (p : Option ℤ) → is_some (option_map ty.Iconst p) ≡ is_some p
     mapped None = refl

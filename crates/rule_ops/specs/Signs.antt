@@ -20,7 +20,8 @@ applied op.Right a b = shift_right a (amount b)
 
 abbrev pub arithmetic_signs : List (List ℕ × Operator)
 arithmetic_signs =
-    (codes "+", op.Sum) ∷ (codes "-", op.Difference) ∷ (codes "*", op.Product) ∷ (codes "/", op.Quotient) ∷ (codes "%", op.Remainder) ∷ (codes "&", op.And)
+    (codes "+", op.Sum) ∷ (codes "-", op.Difference) ∷ (codes "*", op.Product) ∷ (codes "/", op.Quotient) ∷ (codes "%", op.Remainder) ∷
+    (codes "&", op.And)
     ∷ (codes "|", op.Or) ∷ (codes "^", op.Xor) ∷ []
 
 abbrev pub shift_signs : List (List ℕ × Operator)

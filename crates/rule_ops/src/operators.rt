@@ -53,6 +53,7 @@ impl Rules for Operators {
         _alloc: Global,
         s: &mut TypeStore,
         t: &Turn<'_>,
+        _ty: &Ty,
         i: usize,
     ) -> Result<Option<TypeId>, AllocError> {
         targets::target(s, t, i)

@@ -19,6 +19,9 @@ is_switch _ e = absurd cc
 pub switch_typed : (c : Context) (k : Kind) (a : Ty) → judges k ≡ true → cases_type c ≡ Some a → type_by c k ≡ Some a
 switch_typed c k a j e = ap (type_by c) (is_switch k j) ∙ e
 
+pub cases_typed : (c : Context) (k : Kind) (a : Ty) → judges k ≡ true → type_by c k ≡ Some a → cases_type c ≡ Some a
+cases_typed c k a j e = sym (ap (type_by c) (is_switch k j)) ∙ e
+
 -- ---- what is asked
 
 pub cases_asked : (c : Context) (i : ℕ) (k : Kind) (b : Bool) → judges k ≡ true → b ≡ asks_as c i ki.Match → b ≡ asks_as c i k

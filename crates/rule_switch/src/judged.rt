@@ -58,9 +58,10 @@ impl Rules for Switching {
         _alloc: Global,
         s: &mut TypeStore,
         t: &Turn<'_>,
+        ty: &Ty,
         i: usize,
     ) -> Result<Option<TypeId>, AllocError> {
-        asked::target(s, t, i)
+        asked::target(s, t, ty, i)
     }
 
     ghost rows = { rows_asked };

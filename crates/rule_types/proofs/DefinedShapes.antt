@@ -23,7 +23,8 @@ pub first_defined : (s : Store) (xs : List TypedNode) → AreDefinedTrees s (typ
 first_defined s [] d = tt
 first_defined s (x ∷ xs) d = own_defined s x d.0
 
-pub second_defined : (s : Store) (xs : List TypedNode) → AreDefinedTrees s (typed_nodes xs) → IsDefinedTy s (own_type (tree_from_front 1 xs))
+pub second_defined : (s : Store) (xs : List TypedNode) → AreDefinedTrees s (typed_nodes xs) →
+    IsDefinedTy s (own_type (tree_from_front 1 xs))
 second_defined s [] d = tt
 second_defined s (x ∷ []) d = tt
 second_defined s (x ∷ y ∷ ys) d = own_defined s y d.1.0

@@ -28,7 +28,8 @@ find-none : {A : Type 0} (p : A → Bool) (xs ys : List A) → find p xs ≡ Non
 find-none p [] ys e = refl
 find-none p (x ∷ xs) ys e = by (find-none p xs ys) (p x) e
   where
-    by : (find p xs ≡ None → find p (xs ++ ys) ≡ find p ys) → (b : Bool) → cond b (Some x) (find p xs) ≡ None → cond b (Some x) (find p (xs ++ ys)) ≡ find p ys
+    by : (find p xs ≡ None → find p (xs ++ ys) ≡ find p ys) → (b : Bool) → cond b (Some x) (find p xs) ≡ None →
+        cond b (Some x) (find p (xs ++ ys)) ≡ find p ys
     by ih true e = absurd cc
     by ih false e = ih e
 
@@ -36,7 +37,8 @@ find-some : {A : Type 0} (p : A → Bool) (xs ys : List A) (y : A) → find p xs
 find-some p [] ys y e = absurd cc
 find-some p (x ∷ xs) ys y e = by (find-some p xs ys y) (p x) e
   where
-    by : (find p xs ≡ Some y → find p (xs ++ ys) ≡ Some y) → (b : Bool) → cond b (Some x) (find p xs) ≡ Some y → cond b (Some x) (find p (xs ++ ys)) ≡ Some y
+    by : (find p xs ≡ Some y → find p (xs ++ ys) ≡ Some y) → (b : Bool) → cond b (Some x) (find p xs) ≡ Some y →
+        cond b (Some x) (find p (xs ++ ys)) ≡ Some y
     by ih true e = e
     by ih false e = ih e
 
@@ -94,13 +96,16 @@ module _ (s : Store) (t : Written) (kind : is_type (kind_in t) ≡ true) where
   stopped (Refused e) h = refused e h
   stopped Memory h = tt
 
-  last : (f : Store) (b : Bool) → own_failing k (context_in f t) ≡ None → holds row.Bound (context_in f t) ≡ b → first_failing (context_in f t) ≡ cond (not b) (Some row.Bound) None
+  last : (f : Store) (b : Bool) → own_failing k (context_in f t) ≡ None → holds row.Bound (context_in f t) ≡ b →
+      first_failing (context_in f t) ≡ cond (not b) (Some row.Bound) None
   last f b e h =
       all_rows f ∙ find-none (λ r. not (holds r (context_in f t))) (own_rows k) (row.Bound ∷ []) e
       ∙ ap (λ x. cond (not x) (Some row.Bound) None) h
 
-  bound_by : (f : Store) (u : ℕ) (b : Bool) → type_of (context_in f t) ≡ Some (ty.Of u) → b ≡ has_size_at f u → holds row.Bound (context_in f t) ≡ (not (is_bound (role_of t.bound)) || b)
-  bound_by f u b e h = ap (λ o. not (is_bound (role_of t.bound)) || type_sized f o) e ∙ ap (λ x. not (is_bound (role_of t.bound)) || x) (sym h)
+  bound_by : (f : Store) (u : ℕ) (b : Bool) → type_of (context_in f t) ≡ Some (ty.Of u) → b ≡ has_size_at f u →
+      holds row.Bound (context_in f t) ≡ (not (is_bound (role_of t.bound)) || b)
+  bound_by f u b e h = ap (λ o. not (is_bound (role_of t.bound)) || type_sized f o) e ∙ ap (λ x. not (is_bound (role_of t.bound)) || x)
+      (sym h)
 
   module _ (u : ℕ) (own : IsOwnType s t k u) where
     type_is : (f : Store) → IsLater s f → type_of (context_in f t) ≡ Some (ty.Of u)
@@ -108,10 +113,12 @@ module _ (s : Store) (t : Written) (kind : is_type (kind_in t) ≡ true) where
 
     -- the last row fails
     pub unsized : t.bound ≡ true → ((f : Store) → IsLater s f → false ≡ has_size_at f u) → false ≡ has_size_at s u → (p : Place) (e : Fault)
-        → e ≡ record { number = number_of row.Bound; place = p } → ((f : Store) → stands row.Bound (context_in f t) ≡ p) → IsStoppedType s t (Refused e)
+        → e ≡ record { number = number_of row.Bound; place = p } → ((f : Store) → stands row.Bound (context_in f t) ≡ p) →
+        IsStoppedType s t (Refused e)
     unsized b z here p e h at f l = record {
       row = row.Bound;
-      first = last f false (own.unsized (sym here) f l) (bound_by f u false (type_is f l) (z f l) ∙ ap (λ x. not (is_bound (role_of x)) || false) b);
+      first = last f false (own.unsized (sym here) f l)
+          (bound_by f u false (type_is f l) (z f l) ∙ ap (λ x. not (is_bound (role_of x)) || false) b);
       is = ap (λ (q : Place). let x : Fault = record { number = number_of row.Bound; place = q } in x) (at f) ∙ sym h;
     }
 

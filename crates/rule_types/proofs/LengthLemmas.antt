@@ -65,7 +65,8 @@ integer_same (Some (row.Union is)) = refl
 integer_same (Some (row.Error i)) = refl
 integer_same (Some (row.Named d)) = refl
 
-number_same : (o : Option Shape) (cs : List Cell) → numbers.number_by o cs ≡ option_and_then (λ shape. number_of_scalar (spelled shape cs)) o
+number_same : (o : Option Shape) (cs : List Cell) →
+    numbers.number_by o cs ≡ option_and_then (λ shape. number_of_scalar (spelled shape cs)) o
 number_same None cs = refl
 number_same (Some z) cs = refl
 
@@ -74,7 +75,8 @@ module _ (s f : Store) (v : IsStore s) (l : IsLater s f) where
   value_same (ty.Of t) constant.Absent d = refl
   value_same (ty.Of t) (constant.Known cs os) d =
       number_same (option_and_then shape_of_row (base_row s (ty.Of t))) cs
-      ∙ ap (λ (o : Option Row). option_and_then (λ shape. number_of_scalar (spelled shape cs)) (option_and_then shape_of_row o)) (base_stays s f v l (ty.Of t) d)
+      ∙ ap (λ (o : Option Row). option_and_then (λ shape. number_of_scalar (spelled shape cs)) (option_and_then shape_of_row o))
+      (base_stays s f v l (ty.Of t) d)
   value_same (ty.Iconst n) c d = refl
   value_same ty.Null c d = refl
   value_same ty.Empty c d = refl
@@ -83,12 +85,15 @@ module _ (s f : Store) (v : IsStore s) (l : IsLater s f) where
     abbrev w : Setting
     w = setting_of f decls
 
-    def_same : (x : TypedNode) → IsDefinedTy s (own_type x) → means_def w (mark_of x).meaning ≡ true → lengths.constant_length s x ≡ length_of_def w x
+    def_same : (x : TypedNode) → IsDefinedTy s (own_type x) → means_def w (mark_of x).meaning ≡ true →
+        lengths.constant_length s x ≡ length_of_def w x
     def_same x d m =
         ap₂ (λ (b : Bool) (o : Option ℤ). cond b (option_and_then natural o) None)
-        (integer_same (base_row s (own_type x)) ∙ ap (λ (o : Option Row). is_some (integer_word_of (word_of o))) (base_stays s f v l (own_type x) d))
+        (integer_same (base_row s (own_type x)) ∙ ap (λ (o : Option Row). is_some (integer_word_of (word_of o)))
+        (base_stays s f v l (own_type x) d))
         (value_same (own_type x) (mark_of x).value d)
-        ∙ sym (ap (λ b. cond (b && has_integer_base f (own_type x)) (option_and_then natural (number_of_type f (own_type x) (mark_of x).value)) None) m)
+        ∙ sym (ap (λ b. cond (b && has_integer_base f (own_type x))
+        (option_and_then natural (number_of_type f (own_type x) (mark_of x).value)) None) m)
 
     by_kind : (k : Kind) (x : TypedNode) → IsDefinedTy s (own_type x) → counts w k x ≡ true → lengths.length_by s k x ≡ length_by w k x
     by_kind ki.Number x d c = refl
@@ -99,7 +104,8 @@ module _ (s f : Store) (v : IsStore s) (l : IsLater s f) where
     length_stays (marked h m ts) d c = ap (option_and_then unless_long) (by_kind h.kind (marked h m ts) d c)
 
     uncounted : (k : Kind) (x : TypedNode) → counts w k x ≡ false → length_by w k x ≡ None
-    uncounted ki.Path x c = ap (λ b. cond (b && has_integer_base f (own_type x)) (option_and_then natural (number_of_type f (own_type x) (mark_of x).value)) None) c
+    uncounted ki.Path x c = ap (λ b. cond (b && has_integer_base f (own_type x))
+        (option_and_then natural (number_of_type f (own_type x) (mark_of x).value)) None) c
     uncounted _ x c = absurd cc
 
     pub length_none : (x : TypedNode) → counts w (kind_of x) x ≡ false → length_of w x ≡ None
@@ -107,7 +113,8 @@ module _ (s f : Store) (v : IsStore s) (l : IsLater s f) where
 
 -- ---- the first kid
 
-pub counted_path : (w : Setting) (x : TypedNode) (h : Head) (m : Mark) (ts : TypedNodes) → marked h m ts ≡ x → h.kind ≡ ki.Path → means_def w m.meaning ≡ counts w (kind_of x) x
+pub counted_path : (w : Setting) (x : TypedNode) (h : Head) (m : Mark) (ts : TypedNodes) → marked h m ts ≡ x → h.kind ≡ ki.Path →
+    means_def w m.meaning ≡ counts w (kind_of x) x
 counted_path w x h m ts e k = ap (λ y. means_def w (mark_of y).meaning) e ∙ sym (ap (λ j. counts w j x) (sym (ap kind_of e) ∙ k))
 
 pub first_is : (xs : List TypedNode) (x : TypedNode) → slice_get xs 0 ≡ Some x → x ≡ tree_from_front 0 xs

@@ -34,7 +34,8 @@ module _ (now later : Store) (v : IsStore now) (l : IsLater now later) (t b : �
   members_by : base_at now t ≡ Some b → row_at now b ≡ Some r → members_at later t ≡ members_of r
   members_by e h =
       let keeps = types_stay now later v l in
-      ap (option_and_then (λ (j : ℕ). option_and_then members_of (row_at later j))) (keeps.base t b e) ∙ ap (option_and_then members_of) (keeps.row b r h)
+      ap (option_and_then (λ (j : ℕ). option_and_then members_of (row_at later j))) (keeps.base t b e) ∙ ap (option_and_then members_of)
+      (keeps.row b r h)
 
   pub no_members : base_at now t ≡ Some b → row_at now b ≡ Some r → ((is : List ℕ) → ¬ (r ≡ row.Union is)) → None ≡ members_at later t
   no_members e h k = sym (members_by e h ∙ not_union r k)
@@ -60,7 +61,8 @@ drop_none (x ∷ xs) zero h = absurd (omega arith)
 drop_none (x ∷ xs) (suc i) h = drop_none xs i (omega arith)
 
 module _ {A : Type 0} (p : A → Bool) (xs : List A) (i : ℕ) where
-  pub find_passed : (x : A) (all : Option A) → slice_get xs i ≡ Some x → p x ≡ false → find p (drop i xs) ≡ all → find p (drop (i + 1) xs) ≡ all
+  pub find_passed : (x : A) (all : Option A) → slice_get xs i ≡ Some x → p x ≡ false → find p (drop i xs) ≡ all →
+      find p (drop (i + 1) xs) ≡ all
   find_passed x all e h g = sym (ap (find p) (drop_get xs i x e) ∙ ap (λ b. cond b (Some x) (find p (drop (i + 1) xs))) h) ∙ g
 
   pub find_here : (x : A) (all : Option A) → slice_get xs i ≡ Some x → p x ≡ true → find p (drop i xs) ≡ all → Some x ≡ all
@@ -69,7 +71,8 @@ module _ {A : Type 0} (p : A → Bool) (xs : List A) (i : ℕ) where
   pub find_end : (all : Option A) → length xs ≤ i → find p (drop i xs) ≡ all → None ≡ all
   find_end all h g = sym (ap (find p) (drop_none xs i h)) ∙ g
 
-  pub any_passed : (x : A) (all : Bool) → slice_get xs i ≡ Some x → p x ≡ false → list_any p (drop i xs) ≡ all → list_any p (drop (i + 1) xs) ≡ all
+  pub any_passed : (x : A) (all : Bool) → slice_get xs i ≡ Some x → p x ≡ false → list_any p (drop i xs) ≡ all →
+      list_any p (drop (i + 1) xs) ≡ all
   any_passed x all e h g = sym (ap (list_any p) (drop_get xs i x e) ∙ ap (λ b. b || list_any p (drop (i + 1) xs)) h) ∙ g
 
   pub any_here : (x : A) (all : Bool) → slice_get xs i ≡ Some x → p x ≡ true → list_any p (drop i xs) ≡ all → true ≡ all
@@ -80,16 +83,19 @@ module _ {A : Type 0} (p : A → Bool) (xs : List A) (i : ℕ) where
 
 -- ---- members
 
-pub member_at : (s : Store) (xs : List TypedNode) (i : ℕ) (x : TypedNode) → AreMembersKnown s xs → slice_get xs i ≡ Some x → IsMemberKnown s x
+pub member_at : (s : Store) (xs : List TypedNode) (i : ℕ) (x : TypedNode) → AreMembersKnown s xs → slice_get xs i ≡ Some x →
+    IsMemberKnown s x
 member_at s [] i x k e = cc
 member_at s (y ∷ ys) zero x k e = let same : y ≡ x = cc in subst (IsMemberKnown s) same k.0
 member_at s (y ∷ ys) (suc i) x k e = member_at s ys i x k.1 e
 
-pub brought_next : (f : Store) (xs : List TypedNode) (i : ℕ) (x : TypedNode) (ids new all : List ℕ) → slice_get xs i ≡ Some x → new ≡ ids ++ brought f x
+pub brought_next : (f : Store) (xs : List TypedNode) (i : ℕ) (x : TypedNode) (ids new all : List ℕ) → slice_get xs i ≡ Some x →
+    new ≡ ids ++ brought f x
     → ids ++ all_brought f (drop i xs) ≡ all → new ++ all_brought f (drop (i + 1) xs) ≡ all
 brought_next f xs i x ids new all e h g =
     ap (λ (js : List ℕ). js ++ all_brought f (drop (i + 1) xs)) h
     ∙ append_assoc ids (brought f x) (all_brought f (drop (i + 1) xs)) ∙ sym (ap (λ ys. ids ++ all_brought f ys) (drop_get xs i x e)) ∙ g
 
-pub brought_end : (f : Store) (xs : List TypedNode) (i : ℕ) (ids all : List ℕ) → length xs ≤ i → ids ++ all_brought f (drop i xs) ≡ all → ids ≡ all
+pub brought_end : (f : Store) (xs : List TypedNode) (i : ℕ) (ids all : List ℕ) → length xs ≤ i → ids ++ all_brought f (drop i xs) ≡ all →
+    ids ≡ all
 brought_end f xs i ids all h g = sym (append-nil ids) ∙ sym (ap (λ ys. ids ++ all_brought f ys) (drop_none xs i h)) ∙ g

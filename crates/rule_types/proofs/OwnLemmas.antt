@@ -43,7 +43,8 @@ failed c r rs e = ap (λ b. cond (not b) (Some r) (failing c rs)) e
 
 -- the fault of a row
 pub own_fault : (s : Store) (t : Written) (k : Kind) (r : RowId) (p : Place) (e : Fault) → e ≡ record { number = number_of r; place = p }
-    → ((f : Store) → IsLater s f → own_failing k (context_in f t) ≡ Some r) → ((f : Store) → IsLater s f → stands r (context_in f t) ≡ p) → IsOwnFault s t k e
+    → ((f : Store) → IsLater s f → own_failing k (context_in f t) ≡ Some r) → ((f : Store) → IsLater s f → stands r (context_in f t) ≡ p) →
+    IsOwnFault s t k e
 own_fault s t k r p e h first at = record {
   row = r;
   first = first;
@@ -52,9 +53,11 @@ own_fault s t k r p e h first at = record {
 
 -- ---- types, by whether a row asks for their bytes
 
-module _ (s : Store) (t : Written) (k : Kind) (u : ℕ) (type : (f : Store) → IsLater s f → type_by (context_in f t) k ≡ Some (ty.Of u)) (known : IsKnown s u) where
+module _ (s : Store) (t : Written) (k : Kind) (u : ℕ) (type : (f : Store) → IsLater s f → type_by (context_in f t) k ≡ Some (ty.Of u))
+    (known : IsKnown s u) where
   -- none does
-  pub unasked : size_row s k u ≡ None → ((f : Store) → IsLater s f → size_row f k u ≡ None) → ((f : Store) → IsLater s f → own_failing k (context_in f t) ≡ None) → IsOwnType s t k u
+  pub unasked : size_row s k u ≡ None → ((f : Store) → IsLater s f → size_row f k u ≡ None) →
+      ((f : Store) → IsLater s f → own_failing k (context_in f t) ≡ None) → IsOwnType s t k u
   unasked here later all = record {
     type = type;
     rows = λ f l g. all f l;
@@ -68,7 +71,8 @@ module _ (s : Store) (t : Written) (k : Kind) (u : ℕ) (type : (f : Store) → 
   pub asked : (q : RowId) → size_row s k u ≡ Some q → ((f : Store) → IsLater s f → size_row f k u ≡ Some q)
       → ((f : Store) → IsLater s f → is_small_at f u ≡ true → own_failing k (context_in f t) ≡ None)
       → ((f : Store) → IsLater s f → is_small_at f u ≡ false → own_failing k (context_in f t) ≡ Some q)
-      → (has_size_at s u ≡ false → (f : Store) → IsLater s f → own_failing k (context_in f t) ≡ None) → is_small_at s u ≡ true → IsOwnType s t k u
+      → (has_size_at s u ≡ false → (f : Store) → IsLater s f → own_failing k (context_in f t) ≡ None) → is_small_at s u ≡ true →
+      IsOwnType s t k u
   asked q here later small large unsized fits = record {
     type = type;
     rows = λ f l g. small f l (g q (later f l));
@@ -83,36 +87,48 @@ fault_at n p = record { number = n; place = p }
 
 -- ---- one inner type
 
-inner_is : (f : Store) (a : Ty) (i u : ℕ) (r : ℕ → Row) → a ≡ ty.Of i → id_of f (r i) ≡ Some u → typed_as (option_and_then (λ t. id_of f (r t)) (id_in a)) ≡ Some (ty.Of u)
+inner_is : (f : Store) (a : Ty) (i u : ℕ) (r : ℕ → Row) → a ≡ ty.Of i → id_of f (r i) ≡ Some u →
+    typed_as (option_and_then (λ t. id_of f (r t)) (id_in a)) ≡ Some (ty.Of u)
 inner_is f a i u r e h = ap (λ b. typed_as (option_and_then (λ t. id_of f (r t)) (id_in b))) e ∙ ap typed_as h
 
 sized_item : (p : ℕ → Bool) (a : Ty) (i : ℕ) (b : Bool) → a ≡ ty.Of i → b ≡ p i → each_of p (id_in a) ≡ b
 sized_item p a i b e h = ap (λ x. each_of p (id_in x)) e ∙ sym h
 
 -- what has a row of a sized type has a size
-sized_by_row : (s : Store) (u : ℕ) (r : Row) → row_at s u ≡ Some r → sized_over (sized_of s) (sized_at s) u r ≡ Some true → has_size_at s u ≡ true
+sized_by_row : (s : Store) (u : ℕ) (r : Row) → row_at s u ≡ Some r → sized_over (sized_of s) (sized_at s) u r ≡ Some true →
+    has_size_at s u ≡ true
 sized_by_row s u r e h = ap (λ o. unwrap_or o false) (sized-row s u r e ∙ h)
 
-pub never_unsized : {A : Type 0} (s : Store) (u : ℕ) (r : Row) → row_at s u ≡ Some r → sized_over (sized_of s) (sized_at s) u r ≡ Some true → has_size_at s u ≡ false → A
+pub never_unsized : {A : Type 0} (s : Store) (u : ℕ) (r : Row) → row_at s u ≡ Some r →
+    sized_over (sized_of s) (sized_at s) u r ≡ Some true → has_size_at s u ≡ false → A
 never_unsized s u r e h n = let both : true ≡ false = sym (sized_by_row s u r e h) ∙ n in absurd cc
 
 module _ (s : Store) (t : Written) (u i : ℕ) (e : own_type (tree_from_front 0 t.kids.now) ≡ ty.Of i) (known : IsKnown s u) where
   pub pointer_is : ((f : Store) → IsLater s f → id_of f (ro.Pointer i) ≡ Some u) → IsOwnType s t ki.TypePointer u
-  pointer_is h = unasked s t ki.TypePointer u (λ f l. inner_is f (own_type (tree_from_front 0 t.kids.now)) i u ro.Pointer e (h f l)) known refl (λ f l. refl) (λ f l. refl)
+  pointer_is h = unasked s t ki.TypePointer u (λ f l. inner_is f (own_type (tree_from_front 0 t.kids.now)) i u ro.Pointer e (h f l)) known
+      refl (λ f l. refl) (λ f l. refl)
 
   pub nullable_is : ((f : Store) → IsLater s f → id_of f (ro.Nullable i) ≡ Some u) → IsOwnType s t ki.TypeNullable u
-  nullable_is h = unasked s t ki.TypeNullable u (λ f l. inner_is f (own_type (tree_from_front 0 t.kids.now)) i u ro.Nullable e (h f l)) known refl (λ f l. refl) (λ f l. refl)
+  nullable_is h = unasked s t ki.TypeNullable u (λ f l. inner_is f (own_type (tree_from_front 0 t.kids.now)) i u ro.Nullable e (h f l))
+      known refl (λ f l. refl) (λ f l. refl)
 
   pub error_is : ((f : Store) → IsLater s f → id_of f (ro.Error i) ≡ Some u) → IsOwnType s t ki.TypeError u
-  error_is h = unasked s t ki.TypeError u (λ f l. inner_is f (own_type (tree_from_front 0 t.kids.now)) i u ro.Error e (h f l)) known refl (λ f l. refl) (λ f l. refl)
+  error_is h = unasked s t ki.TypeError u (λ f l. inner_is f (own_type (tree_from_front 0 t.kids.now)) i u ro.Error e (h f l)) known refl
+      (λ f l. refl) (λ f l. refl)
 
-  pub slice_is : ((f : Store) → IsLater s f → true ≡ has_size_at f i) → ((f : Store) → IsLater s f → id_of f (ro.Slice i) ≡ Some u) → IsOwnType s t ki.TypeSlice u
+  pub slice_is : ((f : Store) → IsLater s f → true ≡ has_size_at f i) → ((f : Store) → IsLater s f → id_of f (ro.Slice i) ≡ Some u) →
+      IsOwnType s t ki.TypeSlice u
   slice_is z h =
-      unasked s t ki.TypeSlice u (λ f l. inner_is f (own_type (tree_from_front 0 t.kids.now)) i u ro.Slice e (h f l)) known refl (λ f l. refl)
-      (λ f l. met (context_in f t) row.SliceElementSized [] (sized_item (has_size_at f) (own_type (tree_from_front 0 t.kids.now)) i true e (z f l)))
+      unasked s t ki.TypeSlice u (λ f l. inner_is f (own_type (tree_from_front 0 t.kids.now)) i u ro.Slice e (h f l)) known refl
+      (λ f l. refl)
+      (λ f l. met (context_in f t) row.SliceElementSized []
+      (sized_item (has_size_at f) (own_type (tree_from_front 0 t.kids.now)) i true e (z f l)))
 
-pub slice_unsized : (s : Store) (t : Written) (i : ℕ) (e : Fault) (p : Place) → own_type (tree_from_front 0 t.kids.now) ≡ ty.Of i → ((f : Store) → IsLater s f → false ≡ has_size_at f i)
-    → e ≡ record { number = number_of row.SliceElementSized; place = p } → ((f : Store) → stands row.SliceElementSized (context_in f t) ≡ p) → IsOwnFault s t ki.TypeSlice e
+pub slice_unsized : (s : Store) (t : Written) (i : ℕ) (e : Fault) (p : Place) → own_type (tree_from_front 0 t.kids.now) ≡ ty.Of i →
+    ((f : Store) → IsLater s f → false ≡ has_size_at f i)
+    → e ≡ record { number = number_of row.SliceElementSized; place = p } →
+    ((f : Store) → stands row.SliceElementSized (context_in f t) ≡ p) → IsOwnFault s t ki.TypeSlice e
 slice_unsized s t i e p k z h at =
     own_fault s t ki.TypeSlice row.SliceElementSized p e h
-    (λ f l. failed (context_in f t) row.SliceElementSized [] (sized_item (has_size_at f) (own_type (tree_from_front 0 t.kids.now)) i false k (z f l))) (λ f l. at f)
+    (λ f l. failed (context_in f t) row.SliceElementSized []
+    (sized_item (has_size_at f) (own_type (tree_from_front 0 t.kids.now)) i false k (z f l))) (λ f l. at f)

@@ -38,7 +38,8 @@ shaped_own : (s : Sort) (h : Head) (ts : Nodes) → is_shaped s (branch h ts) �
 unfolding is_shaped
 shaped_own s h ts e = and_right _ _ (and_left _ _ (and_left _ _ (and_left _ _ e)))
 
-shaped_kids : (s : Sort) (h : Head) (ts : Nodes) → is_shaped s (branch h ts) ≡ true → are_kids (level h.kind h.text) (kid_pieces (form_of h.kind)) ts ≡ true
+shaped_kids : (s : Sort) (h : Head) (ts : Nodes) → is_shaped s (branch h ts) ≡ true →
+    are_kids (level h.kind h.text) (kid_pieces (form_of h.kind)) ts ≡ true
 unfolding is_shaped
 shaped_kids s h ts e = and_right _ _ (and_left _ _ (and_left _ _ e))
 
@@ -76,11 +77,13 @@ known_component s ki.TypeTuple x e h = h
 known_component s ki.TypeUnion x e h = h
 known_component s _ x e h = absurd cc
 
-known_field : (s : Store) (k : Kind) (x : TypedNode) (text : List ℕ) → admits so.StructField k text ≡ true → IsKnownBy s k x → IsKnownTy s (part_type_by k x)
+known_field : (s : Store) (k : Kind) (x : TypedNode) (text : List ℕ) → admits so.StructField k text ≡ true → IsKnownBy s k x →
+    IsKnownTy s (part_type_by k x)
 known_field s ki.StructField x text e h = h
 known_field s _ x text e h = absurd cc
 
-known_member : (s : Store) (k : Kind) (x : TypedNode) (text : List ℕ) → admits so.Member k text ≡ true → IsKnownBy s k x → IsMemberKnownBy s (is_spread_kind k) x
+known_member : (s : Store) (k : Kind) (x : TypedNode) (text : List ℕ) → admits so.Member k text ≡ true → IsKnownBy s k x →
+    IsMemberKnownBy s (is_spread_kind k) x
 known_member s ki.Spread x text e h = h
 known_member s ki.TypeScalar x text e h = h
 known_member s ki.TypePath x text e h = h
@@ -106,10 +109,12 @@ bare_shaped s (marked h m ts) e k = known_type s h.kind (marked h m ts) (bare_ty
     bare_type ki.TypeError e = refl
     bare_type _ e = e
 
-component_shaped : (s : Store) (x : TypedNode) → is_shaped so.Type (erase x) ≡ true → IsKnownPart s x → IsKnownTy s (part_type_by (kind_of x) x)
+component_shaped : (s : Store) (x : TypedNode) → is_shaped so.Type (erase x) ≡ true → IsKnownPart s x →
+    IsKnownTy s (part_type_by (kind_of x) x)
 component_shaped s (marked h m ts) e k = known_component s h.kind (marked h m ts) (shaped_admits so.Type h (erase_each ts) e) k
 
-field_shaped : (s : Store) (x : TypedNode) → is_shaped so.StructField (erase x) ≡ true → IsKnownPart s x → IsKnownTy s (part_type_by (kind_of x) x)
+field_shaped : (s : Store) (x : TypedNode) → is_shaped so.StructField (erase x) ≡ true → IsKnownPart s x →
+    IsKnownTy s (part_type_by (kind_of x) x)
 field_shaped s (marked h m ts) e k = known_field s h.kind (marked h m ts) h.text (shaped_admits so.StructField h (erase_each ts) e) k
 
 member_shaped : (s : Store) (x : TypedNode) → is_shaped so.Member (erase x) ≡ true → IsKnownPart s x → IsMemberKnown s x
@@ -117,43 +122,50 @@ member_shaped s (marked h m ts) e k = known_member s h.kind (marked h m ts) h.te
 
 -- ---- lists of parts
 
-one_type : (s : Store) (n : ℕ) (xs : List TypedNode) → are_kids n (pi.Kid so.Type ∷ []) (erase_each (typed_nodes xs)) ≡ true → AreKnownParts s xs → IsKnownTy s (own_type (tree_from_front 0 xs))
+one_type : (s : Store) (n : ℕ) (xs : List TypedNode) → are_kids n (pi.Kid so.Type ∷ []) (erase_each (typed_nodes xs)) ≡ true →
+    AreKnownParts s xs → IsKnownTy s (own_type (tree_from_front 0 xs))
 unfolding is_shaped
 one_type s n [] e k = absurd cc
 one_type s n (x ∷ xs) e k = type_shaped s x (and_left _ _ e) k.0
 
-one_bare : (s : Store) (n : ℕ) (xs : List TypedNode) → are_kids n (pi.Kid so.BareType ∷ []) (erase_each (typed_nodes xs)) ≡ true → AreKnownParts s xs → IsKnownTy s (own_type (tree_from_front 0 xs))
+one_bare : (s : Store) (n : ℕ) (xs : List TypedNode) → are_kids n (pi.Kid so.BareType ∷ []) (erase_each (typed_nodes xs)) ≡ true →
+    AreKnownParts s xs → IsKnownTy s (own_type (tree_from_front 0 xs))
 unfolding is_shaped
 one_bare s n [] e k = absurd cc
 one_bare s n (x ∷ xs) e k = bare_shaped s x (and_left _ _ e) k.0
 
-second_type : (s : Store) (n : ℕ) (xs : List TypedNode) → are_kids n (pi.Kid so.Length ∷ pi.Kid so.Type ∷ []) (erase_each (typed_nodes xs)) ≡ true → AreKnownParts s xs
+second_type : (s : Store) (n : ℕ) (xs : List TypedNode) →
+    are_kids n (pi.Kid so.Length ∷ pi.Kid so.Type ∷ []) (erase_each (typed_nodes xs)) ≡ true → AreKnownParts s xs
     → IsKnownTy s (own_type (tree_from_front 1 xs))
 unfolding is_shaped
 second_type s n [] e k = absurd cc
 second_type s n (x ∷ []) e k = let f : false ≡ true = and_right _ _ e in absurd cc
 second_type s n (x ∷ y ∷ ys) e k = type_shaped s y (and_left _ _ (and_right _ _ e)) k.1.0
 
-more_fields : (s : Store) (n : ℕ) (xs : List TypedNode) → are_kids n (pi.More so.StructField ∷ []) (erase_each (typed_nodes xs)) ≡ true → AreKnownParts s xs → EachKnown s (but_last xs)
+more_fields : (s : Store) (n : ℕ) (xs : List TypedNode) → are_kids n (pi.More so.StructField ∷ []) (erase_each (typed_nodes xs)) ≡ true →
+    AreKnownParts s xs → EachKnown s (but_last xs)
 unfolding is_shaped
 more_fields s n [] e k = tt
 more_fields s n (x ∷ []) e k = tt
 more_fields s n (x ∷ y ∷ ys) e k = (field_shaped s x (and_left _ _ e) k.0, more_fields s n (y ∷ ys) (and_right _ _ e) k.1)
 
-more_types : (s : Store) (n : ℕ) (xs : List TypedNode) → are_kids n (pi.More so.Type ∷ []) (erase_each (typed_nodes xs)) ≡ true → AreKnownParts s xs → EachKnown s (but_last xs)
+more_types : (s : Store) (n : ℕ) (xs : List TypedNode) → are_kids n (pi.More so.Type ∷ []) (erase_each (typed_nodes xs)) ≡ true →
+    AreKnownParts s xs → EachKnown s (but_last xs)
 unfolding is_shaped
 more_types s n [] e k = tt
 more_types s n (x ∷ []) e k = tt
 more_types s n (x ∷ y ∷ ys) e k = (component_shaped s x (and_left _ _ e) k.0, more_types s n (y ∷ ys) (and_right _ _ e) k.1)
 
-fields_known : (s : Store) (n : ℕ) (xs : List TypedNode) → are_kids n (pi.Kid so.StructField ∷ pi.More so.StructField ∷ []) (erase_each (typed_nodes xs)) ≡ true → AreKnownParts s xs
+fields_known : (s : Store) (n : ℕ) (xs : List TypedNode) →
+    are_kids n (pi.Kid so.StructField ∷ pi.More so.StructField ∷ []) (erase_each (typed_nodes xs)) ≡ true → AreKnownParts s xs
     → ArePartsKnown s xs
 unfolding is_shaped
 fields_known s n [] e k = tt
 fields_known s n (x ∷ []) e k = tt
 fields_known s n (x ∷ y ∷ ys) e k = (field_shaped s x (and_left _ _ e) k.0, more_fields s n (y ∷ ys) (and_right _ _ e) k.1)
 
-components_known : (s : Store) (n : ℕ) (xs : List TypedNode) → are_kids n (pi.Kid so.Type ∷ pi.Kid so.Type ∷ pi.More so.Type ∷ []) (erase_each (typed_nodes xs)) ≡ true
+components_known : (s : Store) (n : ℕ) (xs : List TypedNode) →
+    are_kids n (pi.Kid so.Type ∷ pi.Kid so.Type ∷ pi.More so.Type ∷ []) (erase_each (typed_nodes xs)) ≡ true
     → AreKnownParts s xs → ArePartsKnown s xs
 unfolding is_shaped
 components_known s n [] e k = tt
@@ -164,23 +176,29 @@ components_known s n (x ∷ y ∷ z ∷ zs) e k = (
   (component_shaped s y (and_left _ _ (and_right _ _ e)) k.1.0, more_types s n (z ∷ zs) (and_right _ _ (and_right _ _ e)) k.1.1),
 )
 
-more_members : (s : Store) (n : ℕ) (xs : List TypedNode) → are_kids n (pi.EachLed si.Bar so.Member ∷ []) (erase_each (typed_nodes xs)) ≡ true → AreKnownParts s xs → AreMembersKnown s xs
+more_members : (s : Store) (n : ℕ) (xs : List TypedNode) →
+    are_kids n (pi.EachLed si.Bar so.Member ∷ []) (erase_each (typed_nodes xs)) ≡ true → AreKnownParts s xs → AreMembersKnown s xs
 unfolding is_shaped
 more_members s n [] e k = tt
 more_members s n (x ∷ xs) e k = (member_shaped s x (and_left _ _ e) k.0, more_members s n xs (and_right _ _ e) k.1)
 
-members_known : (s : Store) (n : ℕ) (xs : List TypedNode) → are_kids n (pi.Kid so.Member ∷ pi.Kid so.Member ∷ pi.EachLed si.Bar so.Member ∷ []) (erase_each (typed_nodes xs)) ≡ true
+members_known : (s : Store) (n : ℕ) (xs : List TypedNode) →
+    are_kids n (pi.Kid so.Member ∷ pi.Kid so.Member ∷ pi.EachLed si.Bar so.Member ∷ []) (erase_each (typed_nodes xs)) ≡ true
     → AreKnownParts s xs → AreMembersKnown s xs
 unfolding is_shaped
 members_known s n [] e k = tt
 members_known s n (x ∷ []) e k = let f : false ≡ true = and_right _ _ e in absurd cc
-members_known s n (x ∷ y ∷ ys) e k =
-    (member_shaped s x (and_left _ _ e) k.0, (member_shaped s y (and_left _ _ (and_right _ _ e)) k.1.0, more_members s n ys (and_right _ _ (and_right _ _ e)) k.1.1))
+members_known s n (x ∷ y ∷ ys) e k = (
+  member_shaped s x (and_left _ _ e) k.0,
+  (member_shaped s y (and_left _ _ (and_right _ _ e)) k.1.0, more_members s n ys (and_right _ _ (and_right _ _ e)) k.1.1),
+)
 
 -- ---- a node by its kind
 
-module _ (s : Store) (so : Sort) (n : Node) (xs : List TypedNode) (e : is_shaped so n ≡ true) (k : erase_each (typed_nodes xs) ≡ kids_of n) (p : AreKnownParts s xs) where
-  kids_at : (m : Node) → n ≡ m → (j : Kind) → (head n).kind ≡ j → (l : ℕ) × (are_kids l (kid_pieces (form_of j)) (erase_each (typed_nodes xs)) ≡ true)
+module _ (s : Store) (so : Sort) (n : Node) (xs : List TypedNode) (e : is_shaped so n ≡ true) (k : erase_each (typed_nodes xs) ≡ kids_of n)
+    (p : AreKnownParts s xs) where
+  kids_at : (m : Node) → n ≡ m → (j : Kind) → (head n).kind ≡ j → (l : ℕ) ×
+      (are_kids l (kid_pieces (form_of j)) (erase_each (typed_nodes xs)) ≡ true)
   kids_at (branch h ts) f j g =
       let w : is_shaped so (branch h ts) ≡ true = subst (λ (m : Node). is_shaped so m ≡ true) f e in
       let here : h.kind ≡ j = sym (ap (λ (m : Node). (head m).kind) f) ∙ g in

@@ -11,12 +11,14 @@ drop-more ts i t h e = rw add-one (drop-cons ts i t h ∙ ap (λ u. u ∷ drop (
 -- one has no size
 pub sized-not : (f : Store) (ts : List ℕ) (i t : ℕ) (b all : Bool) → i < length ts → t ≡ get_or ts i t → b ≡ false → b ≡ has_size_at f t
     → all_sized f (drop i ts) ≡ all → false ≡ all
-sized-not f ts i t b all h e n k g = sym (ap (λ x. x && all_sized f (drop (i + 1) ts)) (sym k ∙ n)) ∙ sym (ap (all_sized f) (drop-more ts i t h e)) ∙ g
+sized-not f ts i t b all h e n k g = sym (ap (λ x. x && all_sized f (drop (i + 1) ts)) (sym k ∙ n)) ∙ sym
+    (ap (all_sized f) (drop-more ts i t h e)) ∙ g
 
 -- it has one
 pub sized-next : (f : Store) (ts : List ℕ) (i t : ℕ) (b all : Bool) → i < length ts → t ≡ get_or ts i t → b ≡ true → b ≡ has_size_at f t
     → all_sized f (drop i ts) ≡ all → all_sized f (drop (i + 1) ts) ≡ all
-sized-next f ts i t b all h e n k g = sym (ap (λ x. x && all_sized f (drop (i + 1) ts)) (sym k ∙ n)) ∙ sym (ap (all_sized f) (drop-more ts i t h e)) ∙ g
+sized-next f ts i t b all h e n k g = sym (ap (λ x. x && all_sized f (drop (i + 1) ts)) (sym k ∙ n)) ∙ sym
+    (ap (all_sized f) (drop-more ts i t h e)) ∙ g
 
 -- none is left
 pub sized-end : (f : Store) (ts : List ℕ) (i : ℕ) (all : Bool) → length ts ≤ i → all_sized f (drop i ts) ≡ all → true ≡ all

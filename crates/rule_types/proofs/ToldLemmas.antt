@@ -22,13 +22,16 @@ AllSame c j (r ∷ rs) = Same c j r × AllSame c j rs
 
 find-same : (c j : Context) (rs : List RowId) → AllSame c j rs → find (λ r. not (holds r j)) rs ≡ find (λ r. not (holds r c)) rs
 find-same c j [] h = refl
-find-same c j (r ∷ rs) h = ap (λ b. cond (not b) (Some r) (find (λ q. not (holds q j)) rs)) h.0.0 ∙ ap (λ o. cond (not (holds r c)) (Some r) o) (find-same c j rs h.1)
+find-same c j (r ∷ rs) h = ap (λ b. cond (not b) (Some r) (find (λ q. not (holds q j)) rs)) h.0.0 ∙ ap
+    (λ o. cond (not (holds r c)) (Some r) o) (find-same c j rs h.1)
 
-fault-same : (c j : Context) (rs : List RowId) → AllSame c j rs → (r : RowId) → find (λ q. not (holds q c)) rs ≡ Some r → fault_of r j ≡ fault_of r c
+fault-same : (c j : Context) (rs : List RowId) → AllSame c j rs → (r : RowId) → find (λ q. not (holds q c)) rs ≡ Some r →
+    fault_of r j ≡ fault_of r c
 fault-same c j [] h r e = absurd cc
 fault-same c j (q ∷ qs) h r e = by (fault-same c j qs h.1 r) (holds q c) e
   where
-    by : (find (λ x. not (holds x c)) qs ≡ Some r → fault_of r j ≡ fault_of r c) → (b : Bool) → cond (not b) (Some q) (find (λ x. not (holds x c)) qs) ≡ Some r → fault_of r j ≡ fault_of r c
+    by : (find (λ x. not (holds x c)) qs ≡ Some r → fault_of r j ≡ fault_of r c) → (b : Bool) →
+        cond (not b) (Some q) (find (λ x. not (holds x c)) qs) ≡ Some r → fault_of r j ≡ fault_of r c
     by ih true g = ih g
     by ih false g = let same : q ≡ r = cc in ap (λ x. fault_of x j) (sym same) ∙ h.0.1 ∙ ap (λ x. fault_of x c) same
 
@@ -48,7 +51,11 @@ module _ (c : Context) (b : Bool) (role : c.inside.role ≡ role_of b) where
   SameAt k = (type_by j k ≡ type_by c k) × (type_by j k ≡ type_by c k → type_of j ≡ type_of c → AllSame c j (rows_of k))
 
   bound : type_of j ≡ type_of c → Same c j row.Bound
-  bound e = (ap (λ o. not (is_bound (role_of b)) || type_sized (store_of c) o) e ∙ sym (ap (λ x. not (is_bound x) || type_sized (store_of c) (type_of c)) role), refl)
+  bound e = (
+    ap (λ o. not (is_bound (role_of b)) || type_sized (store_of c) o) e ∙ sym
+        (ap (λ x. not (is_bound x) || type_sized (store_of c) (type_of c)) role),
+    refl,
+  )
 
   same_at : (k : Kind) → is_type k ≡ true → SameAt k
   same_at ki.TypeScalar h = (refl, λ e g. (bound g, tt))
@@ -67,12 +74,14 @@ module _ (c : Context) (b : Bool) (role : c.inside.role ≡ role_of b) where
   same_type h = type_by_role j b ∙ (same_at c.head.kind h).0 ∙ sym (type_by_role c b) ∙ sym (ap (type_in_role c) role)
 
   rows_same : (d : Context) → d.inside.role ≡ role_of b → first_failing d ≡ find (λ r. not (holds r d)) (rows_of d.head.kind)
-  rows_same d e = ap (λ x. find (λ r. not (holds r d)) (rows_in_role x d.head.kind)) e ∙ ap (find (λ r. not (holds r d))) (rows_by b d.head.kind)
+  rows_same d e = ap (λ x. find (λ r. not (holds r d)) (rows_in_role x d.head.kind)) e ∙ ap (find (λ r. not (holds r d)))
+      (rows_by b d.head.kind)
 
   pub same : is_type c.head.kind ≡ true → IsSameType c j
   same h =
       let all = (same_at c.head.kind h).1 (same_at c.head.kind h).0 (same_type h) in
-      let failing : first_failing j ≡ first_failing c = rows_same j refl ∙ find-same c j (rows_of c.head.kind) all ∙ sym (rows_same c role) in
+      let failing : first_failing j ≡ first_failing c =
+      rows_same j refl ∙ find-same c j (rows_of c.head.kind) all ∙ sym (rows_same c role) in
       record {
         failing = failing;
         refusal = λ e k. record {

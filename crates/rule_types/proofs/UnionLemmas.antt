@@ -56,10 +56,24 @@ pub record HasTwo (is : List ℕ) : Type 0 where
   pub differ : one < other
 
 two_left : (is js : List ℕ) → HasTwo is → HasTwo (is ++ js)
-two_left is js h = record { one = h.one; other = h.other; has_one = In-left h.one is js h.has_one; has_other = In-left h.other is js h.has_other; differ = h.differ }
+two_left is js h = record {
+  one = h.one;
+  other = h.other;
+  has_one = In-left h.one is js h.has_one;
+  has_other = In-left h.other is js
+      h.has_other;
+  differ = h.differ;
+}
 
 two_right : (is js : List ℕ) → HasTwo js → HasTwo (is ++ js)
-two_right is js h = record { one = h.one; other = h.other; has_one = In-right h.one is js h.has_one; has_other = In-right h.other is js h.has_other; differ = h.differ }
+two_right is js h = record {
+  one = h.one;
+  other = h.other;
+  has_one = In-right h.one is js h.has_one;
+  has_other = In-right h.other is js
+      h.has_other;
+  differ = h.differ;
+}
 
 several_two : (is : List ℕ) → 2 ≤ length is → Ascends is → HasTwo is
 several_two [] h a = absurd (omega arith)
@@ -105,7 +119,8 @@ module _ (s : Store) (v : IsStore s) where
       row_is b None g h = absurd cc
       row_is b (Some r) g h = at b r g h
 
-      by : (o : Option ℕ) → base_at s t ≡ o → option_and_then (λ b. option_and_then members_of (row_at s b)) o ≡ Some is → (b : ℕ) × (base_at s t ≡ Some b) × (row_at s b ≡ Some (row.Union is))
+      by : (o : Option ℕ) → base_at s t ≡ o → option_and_then (λ b. option_and_then members_of (row_at s b)) o ≡ Some is → (b : ℕ) ×
+          (base_at s t ≡ Some b) × (row_at s b ≡ Some (row.Union is))
       by None g h = absurd cc
       by (Some b) g h = (b, g, row_is b (row_at s b) refl h)
 
@@ -122,7 +137,8 @@ module _ (s : Store) (v : IsStore s) where
   spread_brings t i None e m = absurd m
   spread_brings t i (Some is) e m = let b = based_union t is e in of_union b.0 is i b.2 m
 
-  alone : (t i : ℕ) (r : Row) → row_at s t ≡ Some r → ((js : List ℕ) → r ≢ row.Union js) → r ≢ row.Scalar keyword.Never → IsKnown s t → In i (t ∷ []) → Brings (t ∷ []) i
+  alone : (t i : ℕ) (r : Row) → row_at s t ≡ Some r → ((js : List ℕ) → r ≢ row.Union js) → r ≢ row.Scalar keyword.Never → IsKnown s t →
+      In i (t ∷ []) → Brings (t ∷ []) i
   alone t i r e not_union not_never k (inl same) = (
     subst (IsMember s) same (record {
       within = k.within;
@@ -133,7 +149,8 @@ module _ (s : Store) (v : IsStore s) where
   )
   alone t i r e not_union not_never k (inr m) = absurd m
 
-  word_brings : (t i : ℕ) (k : Keyword) → row_at s t ≡ Some (row.Scalar k) → IsKnown s t → In i (brought_by_word k t) → Brings (brought_by_word k t) i
+  word_brings : (t i : ℕ) (k : Keyword) → row_at s t ≡ Some (row.Scalar k) → IsKnown s t → In i (brought_by_word k t) →
+      Brings (brought_by_word k t) i
   word_brings t i keyword.Never e k m = absurd m
   word_brings t i keyword.Void e k m = alone t i _ e (λ js h. cc) (λ h. cc) k m
   word_brings t i keyword.Opaque e k m = alone t i _ e (λ js h. cc) (λ h. cc) k m
@@ -164,7 +181,8 @@ module _ (s : Store) (v : IsStore s) where
   row_brings t i (row.Error j) e k m = alone t i _ e (λ js h. cc) (λ h. cc) k m
   row_brings t i (row.Named d) e k m = alone t i _ e (λ js h. cc) (λ h. cc) k m
 
-  written_brings : (t i : ℕ) (o : Option Row) → row_at s t ≡ o → IsKnown s t → In i (unwrap_or (option_map (brought_by t) o) []) → Brings (unwrap_or (option_map (brought_by t) o) []) i
+  written_brings : (t i : ℕ) (o : Option Row) → row_at s t ≡ o → IsKnown s t → In i (unwrap_or (option_map (brought_by t) o) []) →
+      Brings (unwrap_or (option_map (brought_by t) o) []) i
   written_brings t i None e k m = absurd m
   written_brings t i (Some r) e k m = row_brings t i r e k m
 
@@ -180,7 +198,8 @@ module _ (s : Store) (v : IsStore s) where
   written_ty ty.Null i k m = absurd k
   written_ty ty.Empty i k m = absurd k
 
-  one_brings : (b : Bool) (x : TypedNode) (i : ℕ) → IsMemberKnownBy s b x → In i (brought_by_id s b (id_in (own_type (cond b (kid_from_front 0 x) x))))
+  one_brings : (b : Bool) (x : TypedNode) (i : ℕ) → IsMemberKnownBy s b x →
+      In i (brought_by_id s b (id_in (own_type (cond b (kid_from_front 0 x) x))))
       → Brings (brought_by_id s b (id_in (own_type (cond b (kid_from_front 0 x) x)))) i
   one_brings true x i k m = spread_ty (own_type (kid_from_front 0 x)) i k m
   one_brings false x i k m = written_ty (own_type x) i k m
@@ -199,7 +218,8 @@ module _ (s : Store) (v : IsStore s) where
   all_bring [] k i m = absurd m
   all_bring (x ∷ xs) k i m = by (all_bring xs k.1 i) (In-append i (brought s x) (all_brought s xs) m)
     where
-      by : (In i (all_brought s xs) → Brings (all_brought s xs) i) → In i (brought s x) ⊎ In i (all_brought s xs) → Brings (all_brought s (x ∷ xs)) i
+      by : (In i (all_brought s xs) → Brings (all_brought s xs) i) → In i (brought s x) ⊎ In i (all_brought s xs) →
+          Brings (all_brought s (x ∷ xs)) i
       by ih (inl h) = more_left (brought s x) (all_brought s xs) i (one_brings (is_spread x) x i k.0 h)
       by ih (inr h) = more_right (brought s x) (all_brought s xs) i (ih h)
 
@@ -222,7 +242,9 @@ module _ (s : Store) (v : IsStore s) where
         one : (m : ℕ) → ascending (all_brought s xs) ≡ m ∷ [] → IsKnown s m ⊎ HasTwo (all_brought s xs) → IsKnown s m
         one m e (inl h) = h
         one m e (inr h) =
-            let there = λ (i : ℕ) (g : In i (all_brought s xs)). only m i (subst (In i) e (In-from i (ascending (all_brought s xs)) (ascending-whole (all_brought s xs) i (In-to i (all_brought s xs) g)))) in
+            let there = λ (i : ℕ) (g : In i (all_brought s xs)). only m i
+            (subst (In i) e (In-from i (ascending (all_brought s xs))
+            (ascending-whole (all_brought s xs) i (In-to i (all_brought s xs) g)))) in
             let a = there h.one h.has_one in
             let b = there h.other h.has_other in
             absurd (omega (arith, h.differ))
@@ -266,7 +288,8 @@ module _ (s : Store) (v : IsStore s) where
   word_defined t i keyword.Uint d m = itself_defined t i d m
   word_defined t i keyword.Size d m = itself_defined t i d m
 
-  written_defined : (t i : ℕ) (o : Option Row) → row_at s t ≡ o → IsDefined s t → In i (unwrap_or (option_map (brought_by t) o) []) → IsDefined s i
+  written_defined : (t i : ℕ) (o : Option Row) → row_at s t ≡ o → IsDefined s t → In i (unwrap_or (option_map (brought_by t) o) []) →
+      IsDefined s i
   written_defined t i None e d m = absurd m
   written_defined t i (Some (row.Scalar k)) e d m = word_defined t i k d m
   written_defined t i (Some (row.Union is)) e d m = held_defined t is i d e m
@@ -291,7 +314,8 @@ module _ (s : Store) (v : IsStore s) where
   written_ty_defined ty.Null i d m = absurd m
   written_ty_defined ty.Empty i d m = absurd m
 
-  one_defined : (b : Bool) (x : TypedNode) (i : ℕ) → IsMemberDefinedBy s b x → In i (brought_by_id s b (id_in (own_type (cond b (kid_from_front 0 x) x)))) → IsDefined s i
+  one_defined : (b : Bool) (x : TypedNode) (i : ℕ) → IsMemberDefinedBy s b x →
+      In i (brought_by_id s b (id_in (own_type (cond b (kid_from_front 0 x) x)))) → IsDefined s i
   one_defined true x i d m = spread_ty_defined (own_type (kid_from_front 0 x)) i d m
   one_defined false x i d m = written_ty_defined (own_type x) i d m
 

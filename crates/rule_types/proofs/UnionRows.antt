@@ -80,7 +80,8 @@ module _ (s : Store) (t : Written) where
   abbrev kids : List TypedNode
   kids = t.kids.now
 
-  pub odd_member : (x : Fault) (p : Place) → x ≡ record { number = number_of row.UnionSpreads; place = p } → ((f : Store) → IsLater s f → Some p ≡ option_map place_of (odd_spread f kids))
+  pub odd_member : (x : Fault) (p : Place) → x ≡ record { number = number_of row.UnionSpreads; place = p } →
+      ((f : Store) → IsLater s f → Some p ≡ option_map place_of (odd_spread f kids))
       → IsOwnFault s t ki.TypeUnion x
   odd_member x p h z =
       own_fault s t ki.TypeUnion row.UnionSpreads p x h
@@ -91,42 +92,51 @@ module _ (s : Store) (t : Written) where
     behind_spreads : (f : Store) → IsLater s f → own_failing ki.TypeUnion (context_in f t) ≡ failing (context_in f t) size_rows
     behind_spreads f l = met (context_in f t) row.UnionSpreads size_rows (spread_none (odd_spread f kids) (spreads f l))
 
-    pub member_unsized : (x : Fault) (p : Place) → x ≡ record { number = number_of row.UnionMembersSized; place = p } → ((f : Store) → stands row.UnionMembersSized (context_in f t) ≡ p)
+    pub member_unsized : (x : Fault) (p : Place) → x ≡ record { number = number_of row.UnionMembersSized; place = p } →
+        ((f : Store) → stands row.UnionMembersSized (context_in f t) ≡ p)
         → ((f : Store) → IsLater s f → false ≡ members_sized f kids) → IsOwnFault s t ki.TypeUnion x
     member_unsized x p h at z =
-        own_fault s t ki.TypeUnion row.UnionMembersSized p x h (λ f l. behind_spreads f l ∙ failed (context_in f t) row.UnionMembersSized left_rows (sym (z f l))) (λ f l. at f)
+        own_fault s t ki.TypeUnion row.UnionMembersSized p x h
+        (λ f l. behind_spreads f l ∙ failed (context_in f t) row.UnionMembersSized left_rows (sym (z f l))) (λ f l. at f)
 
-    module _ (sized : (f : Store) → IsLater s f → true ≡ members_sized f kids) (brought : List ℕ) (same : (f : Store) → IsLater s f → brought ≡ all_brought f kids) where
+    module _ (sized : (f : Store) → IsLater s f → true ≡ members_sized f kids) (brought : List ℕ)
+        (same : (f : Store) → IsLater s f → brought ≡ all_brought f kids) where
       behind_sized : (f : Store) → IsLater s f → own_failing ki.TypeUnion (context_in f t) ≡ failing (context_in f t) left_rows
       behind_sized f l = behind_spreads f l ∙ met (context_in f t) row.UnionMembersSized left_rows (sym (sized f l))
 
       left_is : (f : Store) → IsLater s f → ascending (all_brought f kids) ≡ ascending brought
       left_is f l = ap ascending (sym (same f l))
 
-      pub none_left : (x : Fault) (p : Place) → x ≡ record { number = number_of row.UnionLeft; place = p } → ((f : Store) → stands row.UnionLeft (context_in f t) ≡ p)
+      pub none_left : (x : Fault) (p : Place) → x ≡ record { number = number_of row.UnionLeft; place = p } →
+          ((f : Store) → stands row.UnionLeft (context_in f t) ≡ p)
           → length (ascending brought) ≡ 0 → IsOwnFault s t ki.TypeUnion x
       none_left x p h at z =
           own_fault s t ki.TypeUnion row.UnionLeft p x h
-          (λ f l. behind_sized f l ∙ failed (context_in f t) row.UnionLeft narrow (ap (λ (js : List ℕ). nat_lt 0 (length js)) (left_is f l) ∙ ap (nat_lt 0) z)) (λ f l. at f)
+          (λ f l. behind_sized f l ∙ failed (context_in f t) row.UnionLeft narrow
+          (ap (λ (js : List ℕ). nat_lt 0 (length js)) (left_is f l) ∙ ap (nat_lt 0) z)) (λ f l. at f)
 
       module _ (some : 0 < length (ascending brought)) where
         behind_left : (f : Store) → IsLater s f → own_failing ki.TypeUnion (context_in f t) ≡ failing (context_in f t) narrow
         behind_left f l =
-            behind_sized f l ∙ met (context_in f t) row.UnionLeft narrow (ap (λ (js : List ℕ). nat_lt 0 (length js)) (left_is f l) ∙ lt-ltb 0 (length (ascending brought)) some)
+            behind_sized f l ∙ met (context_in f t) row.UnionLeft narrow
+            (ap (λ (js : List ℕ). nat_lt 0 (length js)) (left_is f l) ∙ lt-ltb 0 (length (ascending brought)) some)
 
-        pub too_wide : (x : Fault) (p : Place) → x ≡ record { number = number_of row.UnionNarrow; place = p } → ((f : Store) → stands row.UnionNarrow (context_in f t) ≡ p)
+        pub too_wide : (x : Fault) (p : Place) → x ≡ record { number = number_of row.UnionNarrow; place = p } →
+            ((f : Store) → stands row.UnionNarrow (context_in f t) ≡ p)
             → 64 < length (ascending brought) → IsOwnFault s t ki.TypeUnion x
         too_wide x p h at z =
             own_fault s t ki.TypeUnion row.UnionNarrow p x h
             (λ f l. behind_left f l
-            ∙ failed (context_in f t) row.UnionNarrow (row.UnionSmall ∷ []) (ap (λ (js : List ℕ). nat_le (length js) 64) (left_is f l) ∙ lt-leb (length (ascending brought)) 64 z))
+            ∙ failed (context_in f t) row.UnionNarrow (row.UnionSmall ∷ [])
+            (ap (λ (js : List ℕ). nat_le (length js) 64) (left_is f l) ∙ lt-leb (length (ascending brought)) 64 z))
             (λ f l. at f)
 
         module _ (few : length (ascending brought) ≤ 64) where
           last : (f : Store) → IsLater s f → own_failing ki.TypeUnion (context_in f t) ≡ failing (context_in f t) (row.UnionSmall ∷ [])
           last f l =
               behind_left f l
-              ∙ met (context_in f t) row.UnionNarrow (row.UnionSmall ∷ []) (ap (λ (js : List ℕ). nat_le (length js) 64) (left_is f l) ∙ le-leb (length (ascending brought)) 64 few)
+              ∙ met (context_in f t) row.UnionNarrow (row.UnionSmall ∷ [])
+              (ap (λ (js : List ℕ). nat_le (length js) 64) (left_is f l) ∙ le-leb (length (ascending brought)) 64 few)
 
           module _ (u : ℕ) (id : (f : Store) → IsLater s f → joined f (ascending brought) ≡ Some u) where
             one_small : (f : Store) (js : List ℕ) → length js ≤ 1 → left_small f js ≡ true
@@ -134,22 +144,26 @@ module _ (s : Store) (t : Written) where
             one_small f (j ∷ []) h = refl
             one_small f (j ∷ k ∷ js) h = absurd (omega arith)
 
-            several : (f : Store) → IsLater s f → (js : List ℕ) (b : Bool) → joined f js ≡ Some u → 1 < length js → is_small_at f u ≡ b → left_small f js ≡ b
+            several : (f : Store) → IsLater s f → (js : List ℕ) (b : Bool) → joined f js ≡ Some u → 1 < length js → is_small_at f u ≡ b →
+                left_small f js ≡ b
             several f l [] b g h k = absurd (omega arith)
             several f l (i ∷ []) b g h k = absurd (omega arith)
             several f l (i ∷ j ∷ js) b g h k = sym (union_fits f l.sound u (i ∷ j ∷ js) g) ∙ k
 
-            small_row : (f : Store) → IsLater s f → (b : Bool) → left_small f (ascending brought) ≡ b → holds row.UnionSmall (context_in f t) ≡ b
+            small_row : (f : Store) → IsLater s f → (b : Bool) → left_small f (ascending brought) ≡ b →
+                holds row.UnionSmall (context_in f t) ≡ b
             small_row f l b h = ap (left_small f) (left_is f l) ∙ h
 
             type_is : (f : Store) → IsLater s f → typed_as (joined f (ascending (all_brought f kids))) ≡ typed_as (Some u)
             type_is f l = ap (λ (js : List ℕ). typed_as (joined f js)) (left_is f l) ∙ ap typed_as (id f l)
 
-            pub union_large : (x : Fault) (p : Place) → x ≡ record { number = number_of row.UnionSmall; place = p } → ((f : Store) → stands row.UnionSmall (context_in f t) ≡ p)
+            pub union_large : (x : Fault) (p : Place) → x ≡ record { number = number_of row.UnionSmall; place = p } →
+                ((f : Store) → stands row.UnionSmall (context_in f t) ≡ p)
                 → 1 < length (ascending brought) → ((f : Store) → IsLater s f → is_small_at f u ≡ false) → IsOwnFault s t ki.TypeUnion x
             union_large x p h at many large =
                 own_fault s t ki.TypeUnion row.UnionSmall p x h
-                (λ f l. last f l ∙ failed (context_in f t) row.UnionSmall [] (small_row f l false (several f l (ascending brought) false (id f l) many (large f l)))) (λ f l. at f)
+                (λ f l. last f l ∙ failed (context_in f t) row.UnionSmall []
+                (small_row f l false (several f l (ascending brought) false (id f l) many (large f l)))) (λ f l. at f)
 
             -- one that is left alone is itself the type, and no union
             pub lone_is : length (ascending brought) ≤ 1 → IsStore s → IsKnown s u → IsMember s u → IsOwnType s t ki.TypeUnion u
@@ -163,6 +177,8 @@ module _ (s : Store) (t : Written) where
             union_is many known here small =
                 asked s t ki.TypeUnion u type_is known row.UnionSmall (ap (size_row_by ki.TypeUnion) here)
                 (λ f l. ap (size_row_by ki.TypeUnion) (row-continued s f l.grows.rows u (ro.Union (ascending brought)) here))
-                (λ f l h. last f l ∙ met (context_in f t) row.UnionSmall [] (small_row f l true (several f l (ascending brought) true (id f l) many h)))
-                (λ f l h. last f l ∙ failed (context_in f t) row.UnionSmall [] (small_row f l false (several f l (ascending brought) false (id f l) many h)))
+                (λ f l h. last f l ∙ met (context_in f t) row.UnionSmall []
+                (small_row f l true (several f l (ascending brought) true (id f l) many h)))
+                (λ f l h. last f l ∙ failed (context_in f t) row.UnionSmall []
+                (small_row f l false (several f l (ascending brought) false (id f l) many h)))
                 (λ n. never_unsized s u (ro.Union (ascending brought)) here refl n) small

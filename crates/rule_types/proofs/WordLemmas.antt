@@ -14,7 +14,8 @@ none_of : (text : List ℕ) (ws : List (List ℕ × Keyword)) → word_in ws tex
 none_of text [] e = tt
 none_of text (w ∷ ws) e = by (none_of text ws) (bytes_eq w.0 text) refl e
   where
-    by : (word_in ws text ≡ None → NoneOf text ws) → (b : Bool) → bytes_eq w.0 text ≡ b → cond b (Some w.1) (word_in ws text) ≡ None → (bytes_eq w.0 text ≡ false) × NoneOf text ws
+    by : (word_in ws text ≡ None → NoneOf text ws) → (b : Bool) → bytes_eq w.0 text ≡ b → cond b (Some w.1) (word_in ws text) ≡ None →
+        (bytes_eq w.0 text ≡ false) × NoneOf text ws
     by ih true g h = absurd cc
     by ih false g h = (g, ih h)
 
@@ -28,8 +29,40 @@ not_listed text (w ∷ ws) n = ap (λ b. b || is_listed ws text) n.0 ∙ not_lis
 
 unlisted : (text : List ℕ) → NoneOf text written_words → is_listed scalars text ≡ false
 unlisted text n =
-    not_listed text scalars
-    (n.1.1.1.1.1.1.0, (n.1.1.1.1.1.1.1.0, (n.1.1.1.1.1.1.1.1.0, (n.1.1.1.1.1.1.1.1.1.0, (n.1.1.1.1.1.1.1.1.1.1.0, (n.1.1.1.1.1.1.1.1.1.1.1.0, (n.1.1.1.1.1.1.1.1.1.1.1.1.0, (n.1.1.1.1.1.1.1.1.1.1.1.1.1.0, (n.1.1.1.1.1.1.1.1.1.1.1.1.1.1.0, (n.1.1.1.1.1.1.1.1.1.1.1.1.1.1.1.0, (n.1.1.1.1.1.1.1.1.1.1.1.1.1.1.1.1.0, (n.1.1.1.0, (n.1.1.1.1.0, (n.1.1.1.1.1.0, (n.0, (n.1.0, (n.1.1.0, tt)))))))))))))))))
+    not_listed text scalars (
+      n.1.1.1.1.1.1.0,
+      (
+        n.1.1.1.1.1.1.1.0,
+        (
+          n.1.1.1.1.1.1.1.1.0,
+          (
+            n.1.1.1.1.1.1.1.1.1.0,
+            (
+              n.1.1.1.1.1.1.1.1.1.1.0,
+              (
+                n.1.1.1.1.1.1.1.1.1.1.1.0,
+                (
+                  n.1.1.1.1.1.1.1.1.1.1.1.1.0,
+                  (
+                    n.1.1.1.1.1.1.1.1.1.1.1.1.1.0,
+                    (
+                      n.1.1.1.1.1.1.1.1.1.1.1.1.1.1.0,
+                      (
+                        n.1.1.1.1.1.1.1.1.1.1.1.1.1.1.1.0,
+                        (
+                          n.1.1.1.1.1.1.1.1.1.1.1.1.1.1.1.1.0,
+                          (n.1.1.1.0, (n.1.1.1.1.0, (n.1.1.1.1.1.0, (n.0, (n.1.0, (n.1.1.0, tt)))))),
+                        ),
+                      ),
+                    ),
+                  ),
+                ),
+              ),
+            ),
+          ),
+        ),
+      ),
+    )
 
 pub listed_word : (text : List ℕ) → is_listed scalars text ≡ true → word_in written_words text ≡ None → ⊥
 listed_word text e h = let both : true ≡ false = sym e ∙ unlisted text (none_of text written_words h) in cc

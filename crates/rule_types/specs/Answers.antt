@@ -17,12 +17,13 @@ use Rattle.rule_types.specs.declared.written.Written.{Written}
 use Rattle.rule_types.specs.Contexts.{context_in, kind_in, own_failing}
 use Rattle.rule_types.specs.Known.{IsKnown}
 
--- In each later store this is the type that the node writes. It meets its rows in each of them in which it is small, as far as its bytes are known. A type
--- may turn out to be too large by a name that is defined later: then the row that asks for it is the first that fails.
+-- In each later store this is the type that the node writes. It meets its rows in each of them in which it is small, as far as its bytes
+-- are known. A type may turn out to be too large by a name that is defined later: then the row that asks for it is the first that fails.
 pub record IsWrittenType (s : Store) (t : Written) (u : ℕ) : Type 0 where
   pub type : (f : Store) → IsLater s f → type_of (context_in f t) ≡ Some (ty.Of u)
   pub rows : (f : Store) → IsLater s f → FitsAs f (kind_in t) u → first_failing (context_in f t) ≡ None
-  pub large : (f : Store) (r : RowId) → IsLater s f → size_row f (kind_in t) u ≡ Some r → is_small_at f u ≡ false → first_failing (context_in f t) ≡ Some r
+  pub large : (f : Store) (r : RowId) → IsLater s f → size_row f (kind_in t) u ≡ Some r → is_small_at f u ≡ false →
+      first_failing (context_in f t) ≡ Some r
   pub fits : FitsAs s (kind_in t) u
 
 -- Where a fault is told, it is in each later store that of the first row that the node fails.
@@ -44,7 +45,8 @@ IsOwnStop s t k Memory = Unit {0}
 pub record IsOwnType (s : Store) (t : Written) (k : Kind) (u : ℕ) : Type 0 where
   pub type : (f : Store) → IsLater s f → type_by (context_in f t) k ≡ Some (ty.Of u)
   pub rows : (f : Store) → IsLater s f → FitsAs f k u → own_failing k (context_in f t) ≡ None
-  pub large : (f : Store) (r : RowId) → IsLater s f → size_row f k u ≡ Some r → is_small_at f u ≡ false → own_failing k (context_in f t) ≡ Some r
+  pub large : (f : Store) (r : RowId) → IsLater s f → size_row f k u ≡ Some r → is_small_at f u ≡ false →
+      own_failing k (context_in f t) ≡ Some r
   pub fits : FitsAs s k u
   pub unsized : has_size_at s u ≡ false → (f : Store) → IsLater s f → own_failing k (context_in f t) ≡ None  -- then its bytes are not looked at
   pub known : IsKnown s u

@@ -8,11 +8,13 @@ plain_words = (codes "int", keyword.Int) ∷ (codes "uint", keyword.Uint) ∷ (c
 
 -- those without a sign, and those
 abbrev pub unsigned_words : List (List ℕ × Keyword)
-unsigned_words = (codes "u8", keyword.U8) ∷ (codes "u16", keyword.U16) ∷ (codes "u32", keyword.U32) ∷ (codes "u64", keyword.U64) ∷ plain_words
+unsigned_words = (codes "u8", keyword.U8) ∷ (codes "u16", keyword.U16) ∷ (codes "u32", keyword.U32) ∷ (codes "u64", keyword.U64) ∷
+    plain_words
 
 -- those with a sign, and those
 abbrev pub integer_words : List (List ℕ × Keyword)
-integer_words = (codes "i8", keyword.I8) ∷ (codes "i16", keyword.I16) ∷ (codes "i32", keyword.I32) ∷ (codes "i64", keyword.I64) ∷ unsigned_words
+integer_words = (codes "i8", keyword.I8) ∷ (codes "i16", keyword.I16) ∷ (codes "i32", keyword.I32) ∷ (codes "i64", keyword.I64) ∷
+    unsigned_words
 
 -- bool, rune, str, and all of those
 abbrev pub scalar_words : List (List ℕ × Keyword)

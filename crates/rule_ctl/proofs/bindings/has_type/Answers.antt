@@ -10,10 +10,13 @@ use Rattle.rule_ctl.proofs.bindings.has_type.Goals as goal
 pub returns-then-has_written_type : goal.returns-then-has_written_type
 returns-then-has_written_type c f =
     let x = context_in f c.args.t.now in
-    or_first c.has_written_type.result (has_written_type x) (has_default (own_type (value_kid x))) c.if-has_written_type.true (c.has_written_type.ensures f)
+    or_first c.has_written_type.result (has_written_type x) (has_default (own_type (value_kid x))) c.if-has_written_type.true
+    (c.has_written_type.ensures f)
 
 pub returns : goal.returns
 returns c f =
     let x = context_in f c.args.t.now in
-    or_second c.has_written_type.result (has_written_type x) c.has_default.result (has_default (own_type (value_kid x))) c.if-has_written_type.false (c.has_written_type.ensures f)
-    (c.has_default.ensures ∙ ap has_default (c.own.ensures.value ∙ ap (λ n. own_type (tree_from_front n c.args.t.now.kids.now)) c.value_kid.ensures))
+    or_second c.has_written_type.result (has_written_type x) c.has_default.result (has_default (own_type (value_kid x)))
+    c.if-has_written_type.false (c.has_written_type.ensures f)
+    (c.has_default.ensures ∙ ap has_default (c.own.ensures.value ∙ ap (λ n. own_type (tree_from_front n c.args.t.now.kids.now))
+    c.value_kid.ensures))

@@ -4,4 +4,5 @@ use Rattle.rule_ctl.proofs.DeclarationLemmas.{declared_goes}
 use Rattle.rule_ctl.proofs.declarations.target.Goals as goal
 
 pub returns-clause-value : goal.returns-clause-value
-returns-clause-value c f l = c.in_ok-to.ensures.value f l ∙ declared_goes (context_in f c.args.t.now) c.args.i (kind_in c.args.t.now) c.requires.kind
+returns-clause-value c f l = c.in_ok-to.ensures.value f l ∙ declared_goes (context_in f c.args.t.now) c.args.i (kind_in c.args.t.now)
+    c.requires.kind

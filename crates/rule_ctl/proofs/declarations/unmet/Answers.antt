@@ -22,7 +22,8 @@ returns-in_ok-met-in-BindingHasSize-clause-value c f l =
 pub returns-in-BindingConstant-clause-value : goal.returns-in-BindingConstant-clause-value
 returns-in-BindingConstant-clause-value c f l =
     let x = context_in f c.args.t.now in
-    sym (ap (λ (r : RowId). unmet r x) c.in-BindingConstant.is ∙ ap (λ (b : Bool). cond b None (Some (stands row.BindingConstant x))) (c.requires.needs f))
+    sym (ap (λ (r : RowId). unmet r x) c.in-BindingConstant.is ∙ ap (λ (b : Bool). cond b None (Some (stands row.BindingConstant x)))
+    (c.requires.needs f))
 
 pub returns-in-DefScalar-clause-value : goal.returns-in-DefScalar-clause-value
 returns-in-DefScalar-clause-value c f l =

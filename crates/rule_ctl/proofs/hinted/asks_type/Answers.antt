@@ -9,11 +9,13 @@ use Rattle.rule_ctl.proofs.hinted.asks_type.Goals as goal
 
 pub returns-in-Let-clause-value : goal.returns-in-Let-clause-value
 returns-in-Let-clause-value c f l =
-    c.binding_asks.ensures.variable f ∙ ap (asks_as (context_in f c.args.t.now) c.args.i) (sym (sym (ap (λ n. (head n).kind) c.node.view_is) ∙ c.in-Let.is))
+    c.binding_asks.ensures.variable f ∙ ap (asks_as (context_in f c.args.t.now) c.args.i)
+    (sym (sym (ap (λ n. (head n).kind) c.node.view_is) ∙ c.in-Let.is))
 
 pub returns-in-Const-clause-value : goal.returns-in-Const-clause-value
 returns-in-Const-clause-value c f l =
-    c.binding_asks-in-Const.ensures.constant f ∙ ap (asks_as (context_in f c.args.t.now) c.args.i) (sym (sym (ap (λ n. (head n).kind) c.node.view_is) ∙ c.in-Const.is))
+    c.binding_asks-in-Const.ensures.constant f ∙ ap (asks_as (context_in f c.args.t.now) c.args.i)
+    (sym (sym (ap (λ n. (head n).kind) c.node.view_is) ∙ c.in-Const.is))
 
 pub returns-in-Yield-clause-value : goal.returns-in-Yield-clause-value
 returns-in-Yield-clause-value c f l =

@@ -29,5 +29,6 @@ loop-left-preserved-else-may_mean c =
 
 pub loop-left-preserved : goal.loop-left-preserved
 loop-left-preserved c =
-    let past : length c.args.labels.now ≤ c.loop-left.left - 1 = slice_get_none c.args.labels.now (c.loop-left.left - 1) (sym c.in_default.ensures) in
+    let past : length c.args.labels.now ≤ c.loop-left.left - 1 =
+    slice_get_none c.args.labels.now (c.loop-left.left - 1) (sym c.in_default.ensures) in
     absurd (omega arith)

@@ -8,7 +8,8 @@ use Rattle.rule_ctl.proofs.jumps.meant.Given as goal
 abbrev pub invariant-loop-left : goal.invariant-loop-left
 invariant-loop-left l = record {
   within : l.left ≤ length l.labels;
-  rest : nearest (may_mean l.wanted l.name) (map open_of l.labels) ≡ nearest (may_mean l.wanted l.name) (map open_of (take l.left l.labels));
+  rest : nearest (may_mean l.wanted l.name) (map open_of l.labels) ≡
+      nearest (may_mean l.wanted l.name) (map open_of (take l.left l.labels));
 }
 
 abbrev pub decreases-loop-left : goal.decreases-loop-left

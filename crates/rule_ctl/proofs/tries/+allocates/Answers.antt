@@ -8,9 +8,11 @@ use Rattle.rule_ctl.proofs.tries.+allocates.Goals as goal
 
 pub first_allocates-allocates-requires : goal.first_allocates-allocates-requires
 first_allocates-allocates-requires t c =
-    let h : size_of c.in-Some.tree.now < sizes_of (typed_nodes c.args.trees.now) = kid_size c.args.trees.now 0 c.in-Some.tree.now c.in-Some.ensures.found in
+    let h : size_of c.in-Some.tree.now < sizes_of (typed_nodes c.args.trees.now) =
+    kid_size c.args.trees.now 0 c.in-Some.tree.now c.in-Some.ensures.found in
     omega arith
 
 pub first_allocates-returns-in-Some : goal.first_allocates-returns-in-Some
 first_allocates-returns-in-Some t c =
-    c.allocates.ensures ∙ sym (ap (λ xs. first_allocates (erase_each (typed_nodes xs))) (first_is c.args.trees.now c.in-Some.tree.now c.in-Some.ensures.found).1)
+    c.allocates.ensures ∙ sym (ap (λ xs. first_allocates (erase_each (typed_nodes xs)))
+    (first_is c.args.trees.now c.in-Some.tree.now c.in-Some.ensures.found).1)

@@ -7,4 +7,5 @@ returns-in-Some-Slice-clause-defined c =
 
 pub returns-in-Some-Array-clause-defined : goal.returns-in-Some-Array-clause-defined
 returns-in-Some-Array-clause-defined c =
-    held_array c.args.s.now c.in-Some-Array.field-0.now c.in-Some-Array.field-0-0 c.in-Some-Array.u c.in-Some-Array.ensures.defined c.in-Some-Array.field-0-is
+    held_array c.args.s.now c.in-Some-Array.field-0.now c.in-Some-Array.field-0-0 c.in-Some-Array.u c.in-Some-Array.ensures.defined
+    c.in-Some-Array.field-0-is

@@ -17,17 +17,21 @@ returns-in-As-clause-value c f l =
     let xs = c.args.t.now.kids.now in
     let kind = sym (ap (λ n. (head n).kind) c.node.view_is) ∙ c.in-As.is in
     ap (type_by x) kind
-    ∙ member_typed f (given (tree_from_front 0 xs)) (own_type (tree_from_front 1 xs)) (row_met x ki.As 1 row.TestMember kind refl (c.requires.rows f l))
+    ∙ member_typed f (given (tree_from_front 0 xs)) (own_type (tree_from_front 1 xs))
+    (row_met x ki.As 1 row.TestMember kind refl (c.requires.rows f l))
     ∙ ap Some (sym c.own.ensures.value)
 
 pub call_type-requires-clause-met : goal.call_type-requires-clause-met
 call_type-requires-clause-met c f l =
-    row_met (context_in f c.args.t.now) ki.Call 0 row.CallCallable (sym (ap (λ n. (head n).kind) c.node.view_is) ∙ c.in-Call.is) refl (c.requires.rows f l)
+    row_met (context_in f c.args.t.now) ki.Call 0 row.CallCallable (sym (ap (λ n. (head n).kind) c.node.view_is) ∙ c.in-Call.is) refl
+    (c.requires.rows f l)
 
 pub rest_type-requires-clause-met : goal.rest_type-requires-clause-met
 rest_type-requires-clause-met c f l =
-    row_met (context_in f c.args.t.now) ki.Try 0 row.TryErrors (sym (ap (λ n. (head n).kind) c.node.view_is) ∙ c.in-Try.is) refl (c.requires.rows f l)
+    row_met (context_in f c.args.t.now) ki.Try 0 row.TryErrors (sym (ap (λ n. (head n).kind) c.node.view_is) ∙ c.in-Try.is) refl
+    (c.requires.rows f l)
 
 pub rest_type-requires-in-Force-clause-met : goal.rest_type-requires-in-Force-clause-met
 rest_type-requires-in-Force-clause-met c f l =
-    row_met (context_in f c.args.t.now) ki.Force 0 row.ForceErrors (sym (ap (λ n. (head n).kind) c.node.view_is) ∙ c.in-Force.is) refl (c.requires.rows f l)
+    row_met (context_in f c.args.t.now) ki.Force 0 row.ForceErrors (sym (ap (λ n. (head n).kind) c.node.view_is) ∙ c.in-Force.is) refl
+    (c.requires.rows f l)

@@ -39,7 +39,8 @@ returns-in-JumpInside-clause-value c f l =
 pub returns-in-ReturnUndeferred-clause-value : goal.returns-in-ReturnUndeferred-clause-value
 returns-in-ReturnUndeferred-clause-value c f l =
     c.unless-in-ReturnUndeferred.ensures
-    ∙ ap₂ (λ (b : Bool) (p : Place). cond b None (Some p)) (c.is_undeferred-in-ReturnUndeferred.ensures.returned f) (ap (λ n. (head n).place) c.node.view_is)
+    ∙ ap₂ (λ (b : Bool) (p : Place). cond b None (Some p)) (c.is_undeferred-in-ReturnUndeferred.ensures.returned f)
+    (ap (λ n. (head n).place) c.node.view_is)
     ∙ sym (ap (λ (r : RowId). unmet r (context_in f c.args.t.now)) c.in-ReturnUndeferred.is)
 
 pub returns-in-YieldTarget-clause-value : goal.returns-in-YieldTarget-clause-value

@@ -9,5 +9,6 @@ returns-clause-value c =
     let body : c.args.t.now.case.now.inside.body ≡ true = cc in
     IfOk-weaker c.void_fits.result _ _
     (λ b h f l.
-    returns_by c.args.t.now.case.now.inside.body _ _ b body (c.if-not-is_open.ensures f (later_trans c.args.s.now c.void_fits.new.s f c.void_fits.ensures.grown.later l)) (h f l))
+    returns_by c.args.t.now.case.now.inside.body _ _ b body
+    (c.if-not-is_open.ensures f (later_trans c.args.s.now c.void_fits.new.s f c.void_fits.ensures.grown.later l)) (h f l))
     c.void_fits.ensures.value

@@ -7,12 +7,14 @@ use Rattle.rule_join.proofs.joins.joined_default.Goals as goal
 pub returns-in_ok-d-in-Some-clause-value : goal.returns-in_ok-d-in-Some-clause-value
 returns-in_ok-d-in-Some-clause-value c f l =
     joined_some f c.args.v c.args.t.now c.in-Some.y c.in_ok-d-in-Some.d
-    (c.in-Some.ensures.value f (later_trans c.args.s.now c.default_in.new.s f c.default_in.ensures.grown.later l)) (c.in_ok-d-in-Some.ensures.value f l)
+    (c.in-Some.ensures.value f (later_trans c.args.s.now c.default_in.new.s f c.default_in.ensures.grown.later l))
+    (c.in_ok-d-in-Some.ensures.value f l)
 
 pub returns-in_ok-d-in-Some-clause-there : goal.returns-in_ok-d-in-Some-clause-there
 returns-in_ok-d-in-Some-clause-there c f l =
     there_some f c.args.v c.args.t.now c.in-Some.y (is_some c.in_ok-d-in-Some.d)
-    (c.in-Some.ensures.value f (later_trans c.args.s.now c.default_in.new.s f c.default_in.ensures.grown.later l)) c.in_ok-d-in-Some.ensures.there
+    (c.in-Some.ensures.value f (later_trans c.args.s.now c.default_in.new.s f c.default_in.ensures.grown.later l))
+    c.in_ok-d-in-Some.ensures.there
 
 pub returns-in_ok-made-in-None-clause-value : goal.returns-in_ok-made-in-None-clause-value
 returns-in_ok-made-in-None-clause-value c f l =

@@ -25,4 +25,5 @@ returns-in_ok-o-in-None-clause-value c f l =
 
 pub returns-in_ok-o-in-None-clause-there : goal.returns-in_ok-o-in-None-clause-there
 returns-in_ok-o-in-None-clause-there c f l =
-    c.in_ok-o-in-None.ensures.there f l ∙ sym (ap (λ h. is_none (first_lacking f h (together c.args.v (context_in f c.args.t.now)))) c.in-None.is)
+    c.in_ok-o-in-None.ensures.there f l ∙ sym
+    (ap (λ h. is_none (first_lacking f h (together c.args.v (context_in f c.args.t.now)))) c.in-None.is)

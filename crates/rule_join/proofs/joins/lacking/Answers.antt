@@ -14,4 +14,5 @@ returns-in-Drop c f l = sym (ap (λ h. option_map place_in (first_lacking f h (t
 
 pub returns-in-None : goal.returns-in-None
 returns-in-None c f l =
-    lacking_free f c.args.v c.args.t.now c.first_going-first.result c.lacking_of.result c.in-None.is (c.first_going-first.ensures.value f l) c.lacking_of.ensures
+    lacking_free f c.args.v c.args.t.now c.first_going-first.result c.lacking_of.result c.in-None.is (c.first_going-first.ensures.value f l)
+    c.lacking_of.ensures

@@ -9,11 +9,13 @@ use Rattle.rule_join.proofs.joins.listed_misfit.Goals as goal
 pub returns-then-is_none : goal.returns-then-is_none
 returns-then-is_none c f l =
     sym (ap (option_map place_told) (c.loop-i.invariant f l
-    ∙ find_here (λ (y : Yielded). not (fits f y.ty c.args.to)) (listed_in c.args.v c.args.t.now) c.loop-i.i c.value_at-y.result c.value_at-y.ensures.value
+    ∙ find_here (λ (y : Yielded). not (fits f y.ty c.args.to)) (listed_in c.args.v c.args.t.now) c.loop-i.i c.value_at-y.result
+    c.value_at-y.ensures.value
     (ap not (ap is_some (sym (c.coerced.ensures.value f l)) ∙ c.if-is_none.ensures))))
 
 pub loop-i-preserved : goal.loop-i-preserved
 loop-i-preserved c f l =
     c.loop-i.invariant f l
-    ∙ find_next (λ (y : Yielded). not (fits f y.ty c.args.to)) (listed_in c.args.v c.args.t.now) c.loop-i.i c.value_at-y.result c.value_at-y.ensures.value
+    ∙ find_next (λ (y : Yielded). not (fits f y.ty c.args.to)) (listed_in c.args.v c.args.t.now) c.loop-i.i c.value_at-y.result
+    c.value_at-y.ensures.value
     (ap not (ap is_some (sym (c.coerced.ensures.value f l)) ∙ c.if-is_none.ensures))

@@ -8,4 +8,5 @@ use Rattle.rule_join.proofs.joins.listed_misfit.Given as goal
 
 abbrev pub invariant-loop-i : goal.invariant-loop-i
 invariant-loop-i l =
-    (f : Store) → IsLater l.s f → find (λ y. not (fits f y.ty l.to)) (listed_in l.v l.t) ≡ find (λ y. not (fits f y.ty l.to)) (drop l.i (listed_in l.v l.t))
+    (f : Store) → IsLater l.s f → find (λ y. not (fits f y.ty l.to)) (listed_in l.v l.t) ≡
+    find (λ y. not (fits f y.ty l.to)) (drop l.i (listed_in l.v l.t))

@@ -10,4 +10,5 @@ abbrev pub decreases-breaks_in : goal.decreases-breaks_in
 decreases-breaks_in l = goal.size-breaks_in l
 
 abbrev pub invariant-breaks_in-loop-i : goal.invariant-breaks_in-loop-i
-invariant-breaks_in-loop-i l = breaks_in l.name l.is_nearest false (typed_nodes l.trees) ≡ breaks_in l.name l.is_nearest false (typed_nodes (drop l.i l.trees))
+invariant-breaks_in-loop-i l = breaks_in l.name l.is_nearest false (typed_nodes l.trees) ≡
+    breaks_in l.name l.is_nearest false (typed_nodes (drop l.i l.trees))

@@ -5,8 +5,10 @@ use Rattle.rule_join.proofs.types.for_type.Goals as goal
 
 pub returns-then-is_endless-clause-value : goal.returns-then-is_endless-clause-value
 returns-then-is_endless-clause-value c f l =
-    ap (λ (b : Bool). typed_as (word_id f (cond b keyword.Never keyword.Void))) (sym (c.if-is_endless.ensures f)) ∙ c.in_ok-never.ensures.value f l
+    ap (λ (b : Bool). typed_as (word_id f (cond b keyword.Never keyword.Void))) (sym (c.if-is_endless.ensures f)) ∙
+    c.in_ok-never.ensures.value f l
 
 pub returns-clause-value : goal.returns-clause-value
 returns-clause-value c f l =
-    ap (λ (b : Bool). typed_as (word_id f (cond b keyword.Never keyword.Void))) (sym (c.if-is_endless.ensures f)) ∙ c.in_ok-void.ensures.value f l
+    ap (λ (b : Bool). typed_as (word_id f (cond b keyword.Never keyword.Void))) (sym (c.if-is_endless.ensures f)) ∙
+    c.in_ok-void.ensures.value f l

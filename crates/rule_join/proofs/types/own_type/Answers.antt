@@ -7,7 +7,8 @@ use Rattle.rule_join.proofs.types.own_type.Goals as goal
 
 pub block_type-requires-clause-defaults : goal.block_type-requires-clause-defaults
 block_type-requires-clause-defaults c f l =
-    yields_default (context_in f c.args.t.now) (c.if-is_block.ensures ∙ ap (λ n. is_block (head n).kind) c.node.view_is) (c.requires.rows f l)
+    yields_default (context_in f c.args.t.now) (c.if-is_block.ensures ∙ ap (λ n. is_block (head n).kind) c.node.view_is)
+    (c.requires.rows f l)
 
 pub returns-then-is_block-clause-value : goal.returns-then-is_block-clause-value
 returns-then-is_block-clause-value c f l =

@@ -8,15 +8,18 @@ use Rattle.rule_join.proofs.unmet.unmet.Goals as goal
 
 pub returns-in-IfFirstDefault-clause-value : goal.returns-in-IfFirstDefault-clause-value
 returns-in-IfFirstDefault-clause-value c f l =
-    c.lacking.ensures f l ∙ told_given _ (head c.args.t.now.node.now).place ∙ sym (ap (λ (r : RowId). unmet r (context_in f c.args.t.now)) c.in-IfFirstDefault.is)
+    c.lacking.ensures f l ∙ told_given _ (head c.args.t.now.node.now).place ∙ sym
+    (ap (λ (r : RowId). unmet r (context_in f c.args.t.now)) c.in-IfFirstDefault.is)
 
 pub returns-in-BlockFirstDefault-clause-value : goal.returns-in-BlockFirstDefault-clause-value
 returns-in-BlockFirstDefault-clause-value c f l =
-    c.lacking-in-BlockFirstDefault.ensures f l ∙ told_given _ (head c.args.t.now.node.now).place ∙ sym (ap (λ (r : RowId). unmet r (context_in f c.args.t.now)) c.in-BlockFirstDefault.is)
+    c.lacking-in-BlockFirstDefault.ensures f l ∙ told_given _ (head c.args.t.now.node.now).place ∙ sym
+    (ap (λ (r : RowId). unmet r (context_in f c.args.t.now)) c.in-BlockFirstDefault.is)
 
 pub returns-in-CaseFirstDefault-clause-value : goal.returns-in-CaseFirstDefault-clause-value
 returns-in-CaseFirstDefault-clause-value c f l =
-    c.lacking-in-CaseFirstDefault.ensures f l ∙ told_given _ (head c.args.t.now.node.now).place ∙ sym (ap (λ (r : RowId). unmet r (context_in f c.args.t.now)) c.in-CaseFirstDefault.is)
+    c.lacking-in-CaseFirstDefault.ensures f l ∙ told_given _ (head c.args.t.now.node.now).place ∙ sym
+    (ap (λ (r : RowId). unmet r (context_in f c.args.t.now)) c.in-CaseFirstDefault.is)
 
 pub returns-in_ok-at-in-IfRestFits-clause-value : goal.returns-in_ok-at-in-IfRestFits-clause-value
 returns-in_ok-at-in-IfRestFits-clause-value c f l =

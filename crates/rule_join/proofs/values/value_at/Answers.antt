@@ -14,16 +14,19 @@ pub returns-in-Branches : goal.returns-in-Branches
 returns-in-Branches c = record {
   value = at_branch c.args.v c.args.t.now c.args.i c.handed.result c.in-Branches.is c.requires c.handed.ensures;
   defined = λ s d.
-      subst (IsDefinedTy s) (sym (ap (λ (y : Yielded). y.ty) c.handed.ensures)) (own_defined s c.args.t.now.kids.now (c.args.i + 1) d.types);
+      subst (IsDefinedTy s) (sym (ap (λ (y : Yielded). y.ty) c.handed.ensures))
+      (own_defined s c.args.t.now.kids.now (c.args.i + 1) d.types);
 }
 
 pub returns-in-Yields-clause-value : goal.returns-in-Yields-clause-value
 returns-in-Yields-clause-value c =
-    at_yield c.args.v c.args.t.now c.args.i c.index-as_slice-i.result c.as_slice.result.now c.in-Yields.is c.requires c.as_slice.ensures c.index-as_slice-i.is
+    at_yield c.args.v c.args.t.now c.args.i c.index-as_slice-i.result c.as_slice.result.now c.in-Yields.is c.requires c.as_slice.ensures
+    c.index-as_slice-i.is
 
 pub returns-in-Yields-clause-defined : goal.returns-in-Yields-clause-defined
 returns-in-Yields-clause-defined c s d =
-    yield_defined s (yields_in c.args.t.now) c.args.i c.index-as_slice-i.result d.yields (yield_within c.args.v c.args.t.now c.args.i c.in-Yields.is c.requires)
+    yield_defined s (yields_in c.args.t.now) c.args.i c.index-as_slice-i.result d.yields
+    (yield_within c.args.v c.args.t.now c.args.i c.in-Yields.is c.requires)
     (c.index-as_slice-i.is ∙ ap (λ us. get_or us c.args.i c.index-as_slice-i.result) c.as_slice.ensures)
 
 pub prove-unreachable-requires : goal.prove-unreachable-requires
@@ -33,5 +36,6 @@ pub returns-in-Cases : goal.returns-in-Cases
 returns-in-Cases c = record {
   value = at_case c.args.v c.args.t.now c.args.i c.handed-in-Cases.result c.in-Cases.is c.requires c.handed-in-Cases.ensures;
   defined = λ s d.
-      subst (IsDefinedTy s) (sym (ap (λ (y : Yielded). y.ty) c.handed-in-Cases.ensures)) (own_defined s c.args.t.now.kids.now (c.args.i + 1) d.types);
+      subst (IsDefinedTy s) (sym (ap (λ (y : Yielded). y.ty) c.handed-in-Cases.ensures))
+      (own_defined s c.args.t.now.kids.now (c.args.i + 1) d.types);
 }

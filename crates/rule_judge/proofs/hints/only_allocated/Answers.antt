@@ -13,13 +13,16 @@ pub loop-t-preserved : goal.loop-t-preserved
 loop-t-preserved c =
     elim c.if-is_allocated.branch [
       | then-is_allocated+in-None w ↦ record {
-        defined = subst (λ (o : Option ℕ). IfSome o (IsDefined c.args.s.now)) (sym w.found-is) (c.requires c.t-item.result (c.loop-t.t-index, c.loop-t-test.true, sym c.t-item.is));
+        defined = subst (λ (o : Option ℕ). IfSome o (IsDefined c.args.s.now)) (sym w.found-is)
+            (c.requires c.t-item.result (c.loop-t.t-index, c.loop-t-test.true, sym c.t-item.is));
         rest = λ f l.
-            one_with-found (is_allocated f) c.args.types.now c.loop-t.t-index c.t-item.result c.loop-t.found _ _ c.loop-t-test.true c.t-item.is (sym w.if-is_allocated.true ∙ c.is_allocated.ensures f l) w.in-None.is w.found-is (c.loop-t.invariant.rest f l);
+            one_with-found (is_allocated f) c.args.types.now c.loop-t.t-index c.t-item.result c.loop-t.found _ _ c.loop-t-test.true
+            c.t-item.is (sym w.if-is_allocated.true ∙ c.is_allocated.ensures f l) w.in-None.is w.found-is (c.loop-t.invariant.rest f l);
       }
       | else-is_allocated w ↦ record {
         defined = subst (λ (o : Option ℕ). IfSome o (IsDefined c.args.s.now)) (sym w.found-is) c.loop-t.invariant.defined;
         rest = λ f l.
-            one_with-other (is_allocated f) c.args.types.now c.loop-t.t-index c.t-item.result c.loop-t.found _ _ c.loop-t-test.true c.t-item.is (sym w.if-is_allocated.false ∙ c.is_allocated.ensures f l) w.found-is (c.loop-t.invariant.rest f l);
+            one_with-other (is_allocated f) c.args.types.now c.loop-t.t-index c.t-item.result c.loop-t.found _ _ c.loop-t-test.true
+            c.t-item.is (sym w.if-is_allocated.false ∙ c.is_allocated.ensures f l) w.found-is (c.loop-t.invariant.rest f l);
       }
     ]

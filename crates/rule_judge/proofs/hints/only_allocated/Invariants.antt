@@ -11,5 +11,6 @@ use Rattle.rule_judge.proofs.hints.only_allocated.Given as goal
 abbrev pub invariant-loop-t : goal.invariant-loop-t
 invariant-loop-t l = record {
   defined : IfSome l.found (λ t. IsDefined l.s t);
-  rest : (f : Store) → IsLater l.s f → only_one (filter (is_allocated f) l.types) ≡ one_with l.found (filter (is_allocated f) (drop l.t-index l.types));
+  rest : (f : Store) → IsLater l.s f → only_one (filter (is_allocated f) l.types) ≡
+      one_with l.found (filter (is_allocated f) (drop l.t-index l.types));
 }

@@ -11,5 +11,6 @@ abbrev pub invariant-loop-i : goal.invariant-loop-i
 invariant-loop-i g l = record {
   grown : IsGrown l.initial.s l.s;
   defined : AreDefinedCoercions l.s l.coercions;
-  rest : (f : Store) → IsLater l.s f → coercions_from (context_in f l.t) 0 l.t.kids.now ≡ l.coercions ++ coercions_from (context_in f l.t) l.i (drop l.i l.t.kids.now);
+  rest : (f : Store) → IsLater l.s f → coercions_from (context_in f l.t) 0 l.t.kids.now ≡
+      l.coercions ++ coercions_from (context_in f l.t) l.i (drop l.i l.t.kids.now);
 }

@@ -8,5 +8,6 @@ intern-requires-clause-within c = held_within c.args.s.now c.args.r c.requires.h
 pub returns-clause-defined : goal.returns-clause-defined
 returns-clause-defined c =
     IfOk-weaker c.intern.result _ _
-    (λ t n. made_defined c.args.s.now c.intern.new.self c.declarations-law.ensures.sound c.intern.ensures.later c.args.r t n.stands c.requires.held c.requires.named)
+    (λ t n. made_defined c.args.s.now c.intern.new.self c.declarations-law.ensures.sound c.intern.ensures.later c.args.r t n.stands
+    c.requires.held c.requires.named)
     c.intern.ensures.numbered

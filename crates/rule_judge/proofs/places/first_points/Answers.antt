@@ -6,7 +6,8 @@ use Rattle.rule_judge.proofs.KidLemmas.{kid_defined, first_is, seen_given}
 use Rattle.rule_judge.proofs.places.first_points.Goals as goal
 
 pub is_pointer-requires : goal.is_pointer-requires
-is_pointer-requires c = seen_given c.args.s.now c.in-Some.tree.now _ c.tree.view_is (kid_defined c.args.s.now c.args.trees.now 0 c.in-Some.tree.now c.requires c.in-Some.ensures.found)
+is_pointer-requires c = seen_given c.args.s.now c.in-Some.tree.now _ c.tree.view_is
+    (kid_defined c.args.s.now c.args.trees.now 0 c.in-Some.tree.now c.requires c.in-Some.ensures.found)
 
 pub returns-in-Some : goal.returns-in-Some
 returns-in-Some c f l =

@@ -8,10 +8,12 @@ use Rattle.rule_judge.proofs.YieldLemmas.{unhinted}
 use Rattle.rule_judge.proofs.yields.add_yields.Goals as goal
 
 pub put_yields-requires-clause-yields : goal.put_yields-requires-clause-yields
-put_yields-requires-clause-yields c = yields_stay c.args.s.now c.yield_target.new.s c.declarations-law.ensures.sound c.yield_target.ensures.grown.later c.args.t.now.case.now.yields c.requires.turn.yields
+put_yields-requires-clause-yields c = yields_stay c.args.s.now c.yield_target.new.s c.declarations-law.ensures.sound
+    c.yield_target.ensures.grown.later c.args.t.now.case.now.yields c.requires.turn.yields
 
 pub put_yields-requires-clause-defined : goal.put_yields-requires-clause-defined
-put_yields-requires-clause-defined c = coercions_stay c.args.s.now c.yield_target.new.s c.declarations-law.ensures.sound c.yield_target.ensures.grown.later c.args.coercions.now c.requires.defined
+put_yields-requires-clause-defined c = coercions_stay c.args.s.now c.yield_target.new.s c.declarations-law.ensures.sound
+    c.yield_target.ensures.grown.later c.args.coercions.now c.requires.defined
 
 pub returns-clause-value : goal.returns-clause-value
 returns-clause-value c =

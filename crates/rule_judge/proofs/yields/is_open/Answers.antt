@@ -6,7 +6,8 @@ use Rattle.rule_judge.proofs.KidLemmas.{own_defined, never_here, never_next}
 use Rattle.rule_judge.proofs.yields.is_open.Goals as goal
 
 pub is_never-requires : goal.is_never-requires
-is_never-requires c = subst (IsIn c.args.s.now) (sym c.type_at.ensures) (in_store c.args.s.now _ (own_defined c.args.s.now c.args.t.now.kids.now c.loop-i.i c.requires.types))
+is_never-requires c = subst (IsIn c.args.s.now) (sym c.type_at.ensures)
+    (in_store c.args.s.now _ (own_defined c.args.s.now c.args.t.now.kids.now c.loop-i.i c.requires.types))
 
 pub returns-then-is_never : goal.returns-then-is_never
 returns-then-is_never c f l =

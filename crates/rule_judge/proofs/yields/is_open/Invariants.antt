@@ -9,4 +9,6 @@ use Rattle.rule_judge.specs.Turns.{context_in}
 use Rattle.rule_judge.proofs.yields.is_open.Given as goal
 
 abbrev pub invariant-loop-i : goal.invariant-loop-i
-invariant-loop-i l = (f : Store) → IsLater l.s f → list_any (λ x. is_never f (own_type x)) (statements (context_in f l.t)) ≡ list_any (λ x. is_never f (own_type x)) (drop l.i l.t.kids.now)
+invariant-loop-i l = (f : Store) → IsLater l.s f →
+    list_any (λ x. is_never f (own_type x)) (statements (context_in f l.t)) ≡
+    list_any (λ x. is_never f (own_type x)) (drop l.i l.t.kids.now)

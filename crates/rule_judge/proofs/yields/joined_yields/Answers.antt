@@ -17,5 +17,6 @@ returns-in-Some-clause-value c =
 pub returns-in_ok-word-in-None-clause-value : goal.returns-in_ok-word-in-None-clause-value
 returns-in_ok-word-in-None-clause-value c f l =
     let before = later_trans c.args.s.now c.word.new.s f c.word.ensures.grown.later l in
-    joined_none f (context_in f c.args.t.now) c.args.t.now.case.now.yields refl c.in_ok-word-in-None.field-0 (c.in-None.ensures.value f before)
+    joined_none f (context_in f c.args.t.now) c.args.t.now.case.now.yields refl c.in_ok-word-in-None.field-0
+    (c.in-None.ensures.value f before)
     (ap (word_id f) (sym (c.end_word-k.ensures f before)) ∙ c.in_ok-word-in-None.ensures.id f l)

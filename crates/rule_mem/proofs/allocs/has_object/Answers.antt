@@ -7,4 +7,5 @@ pub returns-then-has_capacity : goal.returns-then-has_capacity
 returns-then-has_capacity c f = or_first _ _ _ c.if-has_capacity.true (c.has_capacity.ensures f)
 
 pub returns-else-has_capacity : goal.returns-else-has_capacity
-returns-else-has_capacity c f = or_second _ _ _ _ c.if-has_capacity.false (c.has_capacity.ensures f) (c.has_default.ensures ∙ ap has_default c.seen.ensures.value)
+returns-else-has_capacity c f = or_second _ _ _ _ c.if-has_capacity.false (c.has_capacity.ensures f)
+    (c.has_default.ensures ∙ ap has_default c.seen.ensures.value)

@@ -18,5 +18,6 @@ pub returns-clause-value : goal.returns-clause-value
 returns-clause-value c f l =
     let typed = later_trans c.item_type.new.s c.array_of.new.s f c.array_of.ensures.grown.later l in
     let counted = later_trans c.args.s.now c.item_type.new.s f c.item_type.ensures.grown.later typed in
-    array_typed f _ _ c.element_count-count.result _ c.in-Some.u c.in_ok-made-in-Some.made (sym (c.is_empty.ensures f counted) ∙ c.if-is_empty.false) (c.element_count-count.ensures f counted)
+    array_typed f _ _ c.element_count-count.result _ c.in-Some.u c.in_ok-made-in-Some.made
+    (sym (c.is_empty.ensures f counted) ∙ c.if-is_empty.false) (c.element_count-count.ensures f counted)
     (sym (c.in_ok-u.ensures.value f typed) ∙ c.in-Some.is) (c.in_ok-made-in-Some.ensures.id f l)

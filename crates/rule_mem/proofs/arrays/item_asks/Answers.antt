@@ -11,11 +11,13 @@ returns-then-is_hinted-clause-value c f l =
 
 pub returns-then-kids_before-eq0-clause-value : goal.returns-then-kids_before-eq0-clause-value
 returns-then-kids_before-eq0-clause-value c f l =
-    first_unasked (setting_of f c.args.t.now.decls.now) _ _ (sym (c.is_hinted.ensures f l) ∙ c.if-is_hinted.false) (omega (arith, c.kids_before.ensures))
+    first_unasked (setting_of f c.args.t.now.decls.now) _ _ (sym (c.is_hinted.ensures f l) ∙ c.if-is_hinted.false)
+    (omega (arith, c.kids_before.ensures))
 
 pub returns-clause-value : goal.returns-clause-value
 returns-clause-value c f l =
     let before = later_trans c.args.s.now c.default_in.new.s f c.default_in.ensures.grown.later l in
     c.is_some.ensures ∙ ap is_some (c.in_ok-d.ensures.value f l ∙ ap (default_in f) c.own-first.ensures.value)
-    ∙ later_item_asked (setting_of f c.args.t.now.decls.now) _ c.args.t.now.kids.now c.args.i (sym (c.is_hinted.ensures f before) ∙ c.if-is_hinted.false)
+    ∙ later_item_asked (setting_of f c.args.t.now.decls.now) _ c.args.t.now.kids.now c.args.i
+    (sym (c.is_hinted.ensures f before) ∙ c.if-is_hinted.false)
     (λ e. omega (arith, e, c.kids_before.ensures))

@@ -17,7 +17,8 @@ returns-then-item_count-eq0-clause-value c f l =
 
 pub returns-then-is_hinted-clause-value : goal.returns-then-is_hinted-clause-value
 returns-then-is_hinted-clause-value c f l =
-    element_stays (nat_eq c.args.i 0) (nat_lt 0 (length (but_last (but_last c.args.t.now.kids.now)))) _ (default_at (context_in f c.args.t.now) c.args.i) (sym (c.is_hinted.ensures f l) ∙ c.if-is_hinted.true)
+    element_stays (nat_eq c.args.i 0) (nat_lt 0 (length (but_last (but_last c.args.t.now.kids.now)))) _
+    (default_at (context_in f c.args.t.now) c.args.i) (sym (c.is_hinted.ensures f l) ∙ c.if-is_hinted.true)
 
 pub returns-clause-value : goal.returns-clause-value
 returns-clause-value c f l =

@@ -10,13 +10,16 @@ use Rattle.rule_mem.proofs.deletes.deletes_at_mutable.Goals as goal
 
 pub returns-then-is_some : goal.returns-then-is_some
 returns-then-is_some c f l =
-    or_first _ _ _ refl (sym c.if-is_some.true ∙ c.is_some.ensures ∙ ap is_some (c.pointee.ensures.value f l ∙ ap (pointee f) (c.deleted_seen.ensures.value f)))
+    or_first _ _ _ refl (sym c.if-is_some.true ∙ c.is_some.ensures ∙ ap is_some
+    (c.pointee.ensures.value f l ∙ ap (pointee f) (c.deleted_seen.ensures.value f)))
 
 pub is_operand_mutable-requires : goal.is_operand_mutable-requires
 is_operand_mutable-requires c = kid_defined c.args.s.now c.args.t.now.kids.now 0 c.in-Some.tree.now c.requires.types c.in-Some.ensures.found
 
 pub returns-in-Some : goal.returns-in-Some
 returns-in-Some c f l =
-    or_second c.is_some.result _ _ _ c.if-is_some.false (c.is_some.ensures ∙ ap is_some (c.pointee.ensures.value f l ∙ ap (pointee f) (c.deleted_seen.ensures.value f)))
+    or_second c.is_some.result _ _ _ c.if-is_some.false
+    (c.is_some.ensures ∙ ap is_some (c.pointee.ensures.value f l ∙ ap (pointee f) (c.deleted_seen.ensures.value f)))
     (c.is_operand_mutable.ensures f l
-    ∙ ap (λ (x : TypedNode). is_mutable (setting_of f c.args.t.now.decls.now) (entries c.args.t.now.locals.now) (kid_from_front 0 x)) (front_found c.args.t.now.kids.now 0 c.in-Some.tree.now c.in-Some.ensures.found))
+    ∙ ap (λ (x : TypedNode). is_mutable (setting_of f c.args.t.now.decls.now) (entries c.args.t.now.locals.now) (kid_from_front 0 x))
+    (front_found c.args.t.now.kids.now 0 c.in-Some.tree.now c.in-Some.ensures.found))

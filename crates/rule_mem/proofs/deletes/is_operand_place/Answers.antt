@@ -7,9 +7,12 @@ use Rattle.rule_mem.proofs.deletes.is_operand_place.Goals as goal
 
 pub is_place-requires : goal.is_place-requires
 is_place-requires c =
-    kid_defined c.args.s.now c.tree.inside.kids 0 c.in-Some.operand.now (kids_defined c.args.s.now _ _ c.tree.inside.kids c.args.tree.now c.tree.view_is c.requires) c.in-Some.ensures.found
+    kid_defined c.args.s.now c.tree.inside.kids 0 c.in-Some.operand.now
+    (kids_defined c.args.s.now _ _ c.tree.inside.kids c.args.tree.now c.tree.view_is c.requires) c.in-Some.ensures.found
 
 pub returns-in-Some : goal.returns-in-Some
 returns-in-Some c f l =
     c.is_place.ensures f l
-    ∙ ap (is_place (setting_of f c.args.t.now.decls.now)) (front_found c.tree.inside.kids 0 c.in-Some.operand.now c.in-Some.ensures.found ∙ kid-front 0 _ _ c.tree.inside.kids c.args.tree.now c.tree.view_is)
+    ∙ ap (is_place (setting_of f c.args.t.now.decls.now))
+    (front_found c.tree.inside.kids 0 c.in-Some.operand.now c.in-Some.ensures.found ∙ kid-front 0 _ _ c.tree.inside.kids c.args.tree.now
+    c.tree.view_is)

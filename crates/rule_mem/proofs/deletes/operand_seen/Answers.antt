@@ -10,4 +10,5 @@ returns-clause-value c = c.seen_at.ensures ∙ ap given (kid-front 0 _ _ c.tree.
 
 pub returns-clause-defined : goal.returns-clause-defined
 returns-clause-defined c s d =
-    subst (IsDefinedTy s) (sym c.seen_at.ensures) (seen_defined s c.tree.inside.kids 0 (kids_defined s _ _ c.tree.inside.kids c.args.tree.now c.tree.view_is d))
+    subst (IsDefinedTy s) (sym c.seen_at.ensures)
+    (seen_defined s c.tree.inside.kids 0 (kids_defined s _ _ c.tree.inside.kids c.args.tree.now c.tree.view_is d))

@@ -8,6 +8,7 @@ use Rattle.rule_mem.proofs.fill.names_counted.Given as goal
 -- what is counted, and what is left to be counted
 abbrev pub invariant-loop-i : goal.invariant-loop-i
 invariant-loop-i l = record {
-  counted : (n : ℕ) → unwrap_or (get nat_eq l.named n) 0 + times_named l.s n (but_last (drop l.i l.kids)) ≡ times_named l.s n (values_of l.kids);
+  counted : (n : ℕ) → unwrap_or (get nat_eq l.named n) 0 + times_named l.s n (but_last (drop l.i l.kids)) ≡
+      times_named l.s n (values_of l.kids);
   few : (n : ℕ) → unwrap_or (get nat_eq l.named n) 0 < l.i;
 }

@@ -14,7 +14,8 @@ returns-then-has_capacity-clause-value c f l =
     let own = c.args.t.now.case.now.hint in
     let none : length (take c.args.i c.args.t.now.kids.now) ≡ 0 = omega arith in
     c.is_some.ensures ∙ ap is_some (c.asked.ensures.value f l) ∙ sym (hint_to-asks (option_and_then (allocation f) (hint_id own)))
-    ∙ allocation_first w own (hint_word w keyword.Size) c.args.t.now.kids.now c.args.i true none (sym c.if-has_capacity.true ∙ c.has_capacity.ensures f)
+    ∙ allocation_first w own (hint_word w keyword.Size) c.args.t.now.kids.now c.args.i true none
+    (sym c.if-has_capacity.true ∙ c.has_capacity.ensures f)
 
 pub returns-clause-value : goal.returns-clause-value
 returns-clause-value c f l =
@@ -22,4 +23,5 @@ returns-clause-value c f l =
     let own = c.args.t.now.case.now.hint in
     let none : length (take c.args.i c.args.t.now.kids.now) ≡ 0 = omega arith in
     c.is_some-2.ensures ∙ ap is_some (c.object_asked.ensures.value f l) ∙ sym (hint_to-asks (object_of f own))
-    ∙ allocation_first w own (hint_word w keyword.Size) c.args.t.now.kids.now c.args.i false none (sym c.if-has_capacity.false ∙ c.has_capacity.ensures f)
+    ∙ allocation_first w own (hint_word w keyword.Size) c.args.t.now.kids.now c.args.i false none
+    (sym c.if-has_capacity.false ∙ c.has_capacity.ensures f)

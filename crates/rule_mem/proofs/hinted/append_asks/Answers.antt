@@ -17,9 +17,12 @@ returns-then-is_second c f l =
     let ys = take c.args.i xs in
     let rest = erase_each (typed_nodes (drop (suc c.args.i) xs)) in
     and_both c.is_second.result c.is_some.result _ _ _ c.if-is_second.true c.is_second.ensures
-    (c.is_some.ensures ∙ ap is_some (c.slice_element.ensures.value f l ∙ ap (λ (a : Ty). element_of_slice (base_row f a)) c.seen.ensures.value))
-    (second_asked ys (appended_hint (setting_of f c.args.t.now.decls.now) (first ys) rest) (is_some (element_of_slice (base_row f (given (tree_from_front 0 xs)))))
-    (λ e. appended f (given (first ys)) (is_left_out (next_kind rest)) ∙ ap (λ (x : TypedNode). is_some (element_of_slice (base_row f (given x)))) (first_take xs c.args.i e)))
+    (c.is_some.ensures ∙ ap is_some (c.slice_element.ensures.value f l ∙ ap (λ (a : Ty). element_of_slice (base_row f a))
+    c.seen.ensures.value))
+    (second_asked ys (appended_hint (setting_of f c.args.t.now.decls.now) (first ys) rest)
+    (is_some (element_of_slice (base_row f (given (tree_from_front 0 xs)))))
+    (λ e. appended f (given (first ys)) (is_left_out (next_kind rest)) ∙ ap
+    (λ (x : TypedNode). is_some (element_of_slice (base_row f (given x)))) (first_take xs c.args.i e)))
 
 pub returns-else-is_second : goal.returns-else-is_second
 returns-else-is_second c f l =
@@ -27,5 +30,7 @@ returns-else-is_second c f l =
     let ys = take c.args.i xs in
     let rest = erase_each (typed_nodes (drop (suc c.args.i) xs)) in
     and_not c.is_second.result _ _ _ c.if-is_second.false c.is_second.ensures
-    (second_asked ys (appended_hint (setting_of f c.args.t.now.decls.now) (first ys) rest) (is_some (element_of_slice (base_row f (given (tree_from_front 0 xs)))))
-    (λ e. appended f (given (first ys)) (is_left_out (next_kind rest)) ∙ ap (λ (x : TypedNode). is_some (element_of_slice (base_row f (given x)))) (first_take xs c.args.i e)))
+    (second_asked ys (appended_hint (setting_of f c.args.t.now.decls.now) (first ys) rest)
+    (is_some (element_of_slice (base_row f (given (tree_from_front 0 xs)))))
+    (λ e. appended f (given (first ys)) (is_left_out (next_kind rest)) ∙ ap
+    (λ (x : TypedNode). is_some (element_of_slice (base_row f (given x)))) (first_take xs c.args.i e)))

@@ -6,4 +6,5 @@ use Rattle.rule_mem.proofs.hinted.asks_type.Goals as goal
 
 pub returns-in-Assign-clause-value : goal.returns-in-Assign-clause-value
 returns-in-Assign-clause-value c f l =
-    c.assignment_asks.ensures f ∙ ap (asks_as (context_in f c.args.t.now) c.args.i) (sym (sym (ap (λ n. (head n).kind) c.node.view_is) ∙ c.in-Assign.is))
+    c.assignment_asks.ensures f ∙ ap (asks_as (context_in f c.args.t.now) c.args.i)
+    (sym (sym (ap (λ n. (head n).kind) c.node.view_is) ∙ c.in-Assign.is))

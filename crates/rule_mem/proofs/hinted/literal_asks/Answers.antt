@@ -10,5 +10,7 @@ use Rattle.rule_mem.proofs.hinted.literal_asks.Goals as goal
 pub returns : goal.returns
 returns c f l =
     c.is_some.ensures
-    ∙ ap is_some (c.field_of.ensures f l ∙ ap₂ (λ (a : Ty) (x : List ℕ). field_type f (base_row f a) x) c.own.ensures.value c.text_at.ensures)
-    ∙ literal_later (setting_of f c.args.t.now.decls.now) c.args.t.now.kids.now c.args.i (tree_from_front c.args.i c.args.t.now.kids.now) (λ e. omega (arith, e))
+    ∙ ap is_some (c.field_of.ensures f l ∙ ap₂ (λ (a : Ty) (x : List ℕ). field_type f (base_row f a) x) c.own.ensures.value
+    c.text_at.ensures)
+    ∙ literal_later (setting_of f c.args.t.now.decls.now) c.args.t.now.kids.now c.args.i (tree_from_front c.args.i c.args.t.now.kids.now)
+    (λ e. omega (arith, e))

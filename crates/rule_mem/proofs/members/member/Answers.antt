@@ -11,9 +11,11 @@ returns-in-Tuple-clause-value c f l =
 
 pub returns-in-Tuple-clause-defined : goal.returns-in-Tuple-clause-defined
 returns-in-Tuple-clause-defined c =
-    component_defined c.args.s.now c.in-Some.row.now c.in-Tuple.types _ _ c.component.result c.in-Some.ensures.defined c.in-Tuple.is (c.component.ensures c.args.s.now)
+    component_defined c.args.s.now c.in-Some.row.now c.in-Tuple.types _ _ c.component.result c.in-Some.ensures.defined c.in-Tuple.is
+    (c.component.ensures c.args.s.now)
 
 pub returns-in-Struct-clause-defined : goal.returns-in-Struct-clause-defined
 returns-in-Struct-clause-defined c =
     let here = later_here c.args.s.now c.in-Some-base.ensures.sound in
-    field_defined c.args.s.now c.in-Some.row.now c.in-Struct.fields c.bytes.result.now c.field.result c.in-Some.ensures.defined c.in-Struct.is (c.field.ensures c.args.s.now here)
+    field_defined c.args.s.now c.in-Some.row.now c.in-Struct.fields c.bytes.result.now c.field.result c.in-Some.ensures.defined
+    c.in-Struct.is (c.field.ensures c.args.s.now here)

@@ -13,5 +13,6 @@ use Rattle.rule_mem.proofs.reached.member_reached.Goals as goal
 pub returns-clause-value : goal.returns-clause-value
 returns-clause-value c f l =
     c.member.ensures.value f l
-    ∙ ap (λ (a : Ty). member_of f (head c.args.t.now.node.now) (base_row f a)) (c.reached.ensures.value f l ∙ ap (reached_type f) c.seen.ensures.value)
+    ∙ ap (λ (a : Ty). member_of f (head c.args.t.now.node.now) (base_row f a))
+    (c.reached.ensures.value f l ∙ ap (reached_type f) c.seen.ensures.value)
     ∙ member_type-of (context_in f c.args.t.now) (reached f (tree_from_front 0 c.args.t.now.kids.now))

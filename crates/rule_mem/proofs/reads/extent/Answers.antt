@@ -5,4 +5,5 @@ use Rattle.rule_mem.proofs.ExtentLemmas.{extent_stays}
 use Rattle.rule_mem.proofs.reads.extent.Goals as goal
 
 pub returns : goal.returns
-returns c f l = c.extent.ensures.value ∙ ap (option_map told) (sym (extent_stays c.args.s.now f c.extent.ensures.sound l c.args.t c.requires))
+returns c f l = c.extent.ensures.value ∙ ap (option_map told)
+    (sym (extent_stays c.args.s.now f c.extent.ensures.sound l c.args.t c.requires))

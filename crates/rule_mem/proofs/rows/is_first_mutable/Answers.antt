@@ -8,4 +8,5 @@ pub is_mutable-requires : goal.is_mutable-requires
 is_mutable-requires c = kid_defined c.args.s.now c.args.t.now.kids.now 0 c.in-Some.kid.now c.requires.types c.in-Some.ensures.found
 
 pub returns-in-Some : goal.returns-in-Some
-returns-in-Some c f l = c.is_mutable.ensures f l ∙ ap (is_mutable (setting_of f c.args.t.now.decls.now) (entries c.args.t.now.locals.now)) (front_found c.args.t.now.kids.now 0 c.in-Some.kid.now c.in-Some.ensures.found)
+returns-in-Some c f l = c.is_mutable.ensures f l ∙ ap (is_mutable (setting_of f c.args.t.now.decls.now) (entries c.args.t.now.locals.now))
+    (front_found c.args.t.now.kids.now 0 c.in-Some.kid.now c.in-Some.ensures.found)

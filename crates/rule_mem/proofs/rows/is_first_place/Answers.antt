@@ -8,4 +8,5 @@ pub is_place-requires : goal.is_place-requires
 is_place-requires c = kid_defined c.args.s.now c.args.t.now.kids.now 0 c.in-Some.kid.now c.requires.types c.in-Some.ensures.found
 
 pub returns-in-Some : goal.returns-in-Some
-returns-in-Some c f l = c.is_place.ensures f l ∙ ap (is_place (setting_of f c.args.t.now.decls.now)) (front_found c.args.t.now.kids.now 0 c.in-Some.kid.now c.in-Some.ensures.found)
+returns-in-Some c f l = c.is_place.ensures f l ∙ ap (is_place (setting_of f c.args.t.now.decls.now))
+    (front_found c.args.t.now.kids.now 0 c.in-Some.kid.now c.in-Some.ensures.found)

@@ -13,7 +13,8 @@ returns-in_ok-copy-in-Some-clause-defined c i h =
 pub returns-in_ok-own-in-None-clause-value : goal.returns-in_ok-own-in-None-clause-value
 returns-in_ok-own-in-None-clause-value c f l =
     components-own f c.args.t.now.case.now.hint (but_last c.args.t.now.kids.now) c.item_count.result c.in_ok-own-in-None.own
-    (c.in-None.ensures.value f (later_trans c.args.s.now c.defaults.new.s f c.defaults.ensures.grown.later l)) c.item_count.ensures (c.in_ok-own-in-None.ensures.value f l)
+    (c.in-None.ensures.value f (later_trans c.args.s.now c.defaults.new.s f c.defaults.ensures.grown.later l)) c.item_count.ensures
+    (c.in_ok-own-in-None.ensures.value f l)
 
 pub returns-in_ok-copy-in-Some-clause-there : goal.returns-in_ok-copy-in-Some-clause-there
 returns-in_ok-copy-in-Some-clause-there c f l =
@@ -21,4 +22,5 @@ returns-in_ok-copy-in-Some-clause-there c f l =
 
 pub returns-in_ok-own-in-None-clause-there : goal.returns-in_ok-own-in-None-clause-there
 returns-in_ok-own-in-None-clause-there c f l =
-    met-own f c.args.t.now.case.now.hint c.item_count.result _ _ _ (c.in-None.ensures.value f l) c.item_count.ensures c.in_ok-own-in-None.ensures.there
+    met-own f c.args.t.now.case.now.hint c.item_count.result _ _ _ (c.in-None.ensures.value f l) c.item_count.ensures
+    c.in_ok-own-in-None.ensures.there

@@ -12,6 +12,7 @@ abbrev pub invariant-loop-i : goal.invariant-loop-i
 invariant-loop-i l = record {
   grown : IsGrown l.fn.s l.s;
   defined : (k : ℕ) → Contains l.types k → IsDefined l.s k;
-  rest : (f : Store) → IsLater l.s f → option_map (λ us. l.types ++ us) (defaults f (but_last (drop l.i l.t.kids.now))) ≡ defaults f (but_last l.t.kids.now);
+  rest : (f : Store) → IsLater l.s f → option_map (λ us. l.types ++ us) (defaults f (but_last (drop l.i l.t.kids.now))) ≡
+      defaults f (but_last l.t.kids.now);
   lacking : find lacks_default (but_last (drop l.i l.t.kids.now)) ≡ find lacks_default (but_last l.t.kids.now);
 }

@@ -5,9 +5,11 @@ use Rattle.rule_mem.proofs.tuples.item_asks.Goals as goal
 
 pub returns-then-item_count-i : goal.returns-then-item_count-i
 returns-then-item_count-i c f l =
-    component_unasked (setting_of f c.args.t.now.decls.now) c.args.t.now.case.now.hint c.args.t.now.kids.now c.args.i (omega (arith, c.item_count.ensures))
+    component_unasked (setting_of f c.args.t.now.decls.now) c.args.t.now.case.now.hint c.args.t.now.kids.now c.args.i
+    (omega (arith, c.item_count.ensures))
 
 pub returns : goal.returns
 returns c f l =
     c.is_hinted.ensures f l
-    ∙ component_asked (setting_of f c.args.t.now.decls.now) c.args.t.now.case.now.hint c.args.t.now.kids.now c.args.i (omega (arith, c.item_count.ensures))
+    ∙ component_asked (setting_of f c.args.t.now.decls.now) c.args.t.now.case.now.hint c.args.t.now.kids.now c.args.i
+    (omega (arith, c.item_count.ensures))

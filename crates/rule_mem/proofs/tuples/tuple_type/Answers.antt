@@ -12,4 +12,5 @@ unreachable-requires c =
 pub returns-clause-value : goal.returns-clause-value
 returns-clause-value c f l =
     tuple_typed f _ c.in-Some.types c.in_ok-made-in-Some.made
-    (sym (c.in_ok-types.ensures.value f (later_trans c.components.new.s c.tuple_of.new.s f c.tuple_of.ensures.grown.later l)) ∙ c.in-Some.is) (c.in_ok-made-in-Some.ensures.id f l)
+    (sym (c.in_ok-types.ensures.value f (later_trans c.components.new.s c.tuple_of.new.s f c.tuple_of.ensures.grown.later l)) ∙
+    c.in-Some.is) (c.in_ok-made-in-Some.ensures.id f l)

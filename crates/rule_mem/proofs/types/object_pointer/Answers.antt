@@ -10,11 +10,14 @@ use Rattle.rule_mem.proofs.types.object_pointer.Goals as goal
 pub refusable-requires-clause-kept : goal.refusable-requires-clause-kept
 refusable-requires-clause-kept c =
     let sound = c.pointer_to.ensures.grown.later.sound in
-    refusable_pointer c.pointer_to.new.s sound c.in_ok-u.u c.in_ok-made.made c.in_ok-made.ensures.defined (c.in_ok-made.ensures.id c.pointer_to.new.s (later_here c.pointer_to.new.s sound))
+    refusable_pointer c.pointer_to.new.s sound c.in_ok-u.u c.in_ok-made.made c.in_ok-made.ensures.defined
+    (c.in_ok-made.ensures.id c.pointer_to.new.s (later_here c.pointer_to.new.s sound))
 
 pub refusable-requires-clause-nomem : goal.refusable-requires-clause-nomem
 refusable-requires-clause-nomem c =
-    name_stays c.args.s.now c.pointer_to.new.s c.declarations-law.ensures.sound (later_trans c.args.s.now c.default_of.new.s c.pointer_to.new.s c.default_of.ensures.grown.later c.pointer_to.ensures.grown.later) nomem
+    name_stays c.args.s.now c.pointer_to.new.s c.declarations-law.ensures.sound
+    (later_trans c.args.s.now c.default_of.new.s c.pointer_to.new.s c.default_of.ensures.grown.later c.pointer_to.ensures.grown.later)
+    nomem
     c.requires.nomem
 
 pub returns-clause-value : goal.returns-clause-value

@@ -13,4 +13,5 @@ unreachable-requires c =
 pub returns-clause-value : goal.returns-clause-value
 returns-clause-value c f l =
     ap typed_as
-    (ap (slice_of f) (sym (c.in-Some.ensures.value f (later_trans c.args.s.now c.slice_of.new.s f c.slice_of.ensures.grown.later l))) ∙ c.in_ok-made-in-Some.ensures.id f l)
+    (ap (slice_of f) (sym (c.in-Some.ensures.value f (later_trans c.args.s.now c.slice_of.new.s f c.slice_of.ensures.grown.later l))) ∙
+    c.in_ok-made-in-Some.ensures.id f l)

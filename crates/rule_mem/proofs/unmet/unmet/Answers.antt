@@ -20,12 +20,14 @@ returns-in-IndexIndexable-clause-value c f l =
 pub returns-in-SliceIndexable-clause-value : goal.returns-in-SliceIndexable-clause-value
 returns-in-SliceIndexable-clause-value c f l =
     c.unless-in-SliceIndexable.ensures
-    ∙ ap₂ (λ (b : Bool) (p : Place). cond b None (Some p)) (c.is_indexable-in-SliceIndexable.ensures.slice f l) (ap (λ n. (head n).place) c.node.view_is)
+    ∙ ap₂ (λ (b : Bool) (p : Place). cond b None (Some p)) (c.is_indexable-in-SliceIndexable.ensures.slice f l)
+    (ap (λ n. (head n).place) c.node.view_is)
     ∙ sym (ap (λ (r : RowId). unmet r (context_in f c.args.t.now)) c.in-SliceIndexable.is)
 
 pub returns-in-TupleDefaults-clause-value : goal.returns-in-TupleDefaults-clause-value
 returns-in-TupleDefaults-clause-value c f l =
-    c.lacking.ensures f l ∙ told_place _ (head c.args.t.now.node.now).place ∙ sym (ap (λ (r : RowId). unmet r (context_in f c.args.t.now)) c.in-TupleDefaults.is)
+    c.lacking.ensures f l ∙ told_place _ (head c.args.t.now.node.now).place ∙ sym
+    (ap (λ (r : RowId). unmet r (context_in f c.args.t.now)) c.in-TupleDefaults.is)
 
 pub returns-in-ArrayFirstDefault-clause-value : goal.returns-in-ArrayFirstDefault-clause-value
 returns-in-ArrayFirstDefault-clause-value c f l =

@@ -5,4 +5,5 @@ use Rattle.rule_ops.proofs.common.has_common.Goals as goal
 
 pub returns-else-are_iconsts : goal.returns-else-are_iconsts
 returns-else-are_iconsts c f l =
-    c.is_some.ensures ∙ ap is_some (c.common_type.ensures.value f l) ∙ common_typed f c.args.a.now c.args.b.now (sym c.if-are_iconsts.ensures)
+    c.is_some.ensures ∙ ap is_some (c.common_type.ensures.value f l) ∙ common_typed f c.args.a.now c.args.b.now
+    (sym c.if-are_iconsts.ensures)

@@ -8,5 +8,6 @@ use Rattle.rule_ops.proofs.met.castable_to.Goals as goal
 pub returns-in-Of : goal.returns-in-Of
 returns-in-Of c f l =
     c.castable.ensures
-    ∙ sym (cast_stays c.args.s.now f c.declarations-law.ensures.sound l c.args.a.now c.in-Of.t c.requires.value (subst (IsDefinedTy c.args.s.now) c.in-Of.is c.requires.to))
+    ∙ sym (cast_stays c.args.s.now f c.declarations-law.ensures.sound l c.args.a.now c.in-Of.t c.requires.value
+    (subst (IsDefinedTy c.args.s.now) c.in-Of.is c.requires.to))
     ∙ sym (ap (λ a. castable_to f c.args.a.now (id_in a)) c.in-Of.is)

@@ -10,4 +10,5 @@ is_mutable-requires c = kid_defined c.args.s.now c.args.t.now.kids.now 0 c.in-So
 
 pub returns-in-Some : goal.returns-in-Some
 returns-in-Some c f l =
-    c.is_mutable.ensures f l ∙ ap (is_mutable (setting_of f c.args.t.now.decls.now) (entries c.args.t.now.locals.now)) (first_kid c.args.t.now.kids.now c.in-Some.kid.now c.in-Some.ensures.found)
+    c.is_mutable.ensures f l ∙ ap (is_mutable (setting_of f c.args.t.now.decls.now) (entries c.args.t.now.locals.now))
+    (first_kid c.args.t.now.kids.now c.in-Some.kid.now c.in-Some.ensures.found)

@@ -4,4 +4,5 @@ use Rattle.rule_judge.proofs.KidLemmas.{own_defined}
 use Rattle.rule_ops.proofs.operands.written.Goals as goal
 
 pub returns-clause-defined : goal.returns-clause-defined
-returns-clause-defined c = subst (IsDefinedTy c.args.s.now) (sym c.type_at.ensures) (own_defined c.args.s.now c.args.t.now.kids.now c.args.i c.requires.types)
+returns-clause-defined c = subst (IsDefinedTy c.args.s.now) (sym c.type_at.ensures)
+    (own_defined c.args.s.now c.args.t.now.kids.now c.args.i c.requires.types)

@@ -18,7 +18,8 @@ unwrap-requires-in-Arith c =
     let s = c.args.s.now in
     let x = context_in s c.args.t.now in
     let here = later_here s c.declarations-law.ensures.sound in
-    let is = c.arith_type.ensures.value s here ∙ ap₂ (arith_type_of s x.head.kind x.head.text) c.operand-a.ensures.value c.operand-b.ensures.value in
+    let is = c.arith_type.ensures.value s here ∙ ap₂ (arith_type_of s x.head.kind x.head.text) c.operand-a.ensures.value
+    c.operand-b.ensures.value in
     subst IsSome (sym is) (arith_there x (sym (ap (λ n. (head n).kind) c.node.view_is) ∙ c.in-Arith.is) (c.requires.rows s here))
 
 pub unwrap-requires-in-Shift : goal.unwrap-requires-in-Shift
@@ -27,11 +28,13 @@ unwrap-requires-in-Shift c =
     let x = context_in s c.args.t.now in
     let here = later_here s c.declarations-law.ensures.sound in
     some_of c.in_ok-shifted-in-Shift.shifted
-    (c.in_ok-shifted-in-Shift.ensures.there ∙ ap₂ (has_shift_type x.head.kind x.head.text) c.operand-a.ensures.value c.operand-b.ensures.value
+    (c.in_ok-shifted-in-Shift.ensures.there ∙ ap₂ (has_shift_type x.head.kind x.head.text) c.operand-a.ensures.value
+    c.operand-b.ensures.value
     ∙ shift_there x (sym (ap (λ n. (head n).kind) c.node.view_is) ∙ c.in-Shift.is) (c.requires.rows s here))
 
 pub returns-in-Arith-clause-value : goal.returns-in-Arith-clause-value
 returns-in-Arith-clause-value c f l =
     let x = context_in f c.args.t.now in
     ap (type_by x) (sym (ap (λ n. (head n).kind) c.node.view_is) ∙ c.in-Arith.is) ∙ arith_is x
-    ∙ sym (c.arith_type.ensures.value f l ∙ ap₂ (arith_type_of f x.head.kind x.head.text) c.operand-a.ensures.value c.operand-b.ensures.value) ∙ c.unwrap-in-Arith.ensures
+    ∙ sym (c.arith_type.ensures.value f l ∙ ap₂ (arith_type_of f x.head.kind x.head.text) c.operand-a.ensures.value
+    c.operand-b.ensures.value) ∙ c.unwrap-in-Arith.ensures

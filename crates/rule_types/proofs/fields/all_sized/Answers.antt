@@ -7,11 +7,13 @@ has_size-requires c = c.requires c.t-item.result (c.loop-t.t-index, c.loop-t-tes
 
 pub returns-then-not-has_size : goal.returns-then-not-has_size
 returns-then-not-has_size c f l =
-    sized-not f c.args.types.now c.loop-t.t-index c.t-item.result c.has_size.result _ c.loop-t-test.true c.t-item.is c.if-not-has_size.true (c.has_size.ensures f l) (c.loop-t.invariant f l)
+    sized-not f c.args.types.now c.loop-t.t-index c.t-item.result c.has_size.result _ c.loop-t-test.true c.t-item.is c.if-not-has_size.true
+    (c.has_size.ensures f l) (c.loop-t.invariant f l)
 
 pub loop-t-preserved : goal.loop-t-preserved
 loop-t-preserved c f l =
-    sized-next f c.args.types.now c.loop-t.t-index c.t-item.result c.has_size.result _ c.loop-t-test.true c.t-item.is c.if-not-has_size.false (c.has_size.ensures f l) (c.loop-t.invariant f l)
+    sized-next f c.args.types.now c.loop-t.t-index c.t-item.result c.has_size.result _ c.loop-t-test.true c.t-item.is
+    c.if-not-has_size.false (c.has_size.ensures f l) (c.loop-t.invariant f l)
 
 pub returns : goal.returns
 returns c f l = sized-end f c.args.types.now c.loop-t.t-index _ c.loop-t-test.false (c.loop-t.invariant f l)

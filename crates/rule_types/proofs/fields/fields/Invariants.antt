@@ -12,5 +12,6 @@ abbrev pub invariant-loop-i : goal.invariant-loop-i
 invariant-loop-i l = record {
   grown : IsGrown l.fn.s l.s;
   types : option_map (λ us. field_types l.fields ++ us) (part_ids (but_last (drop l.i l.kids))) ≡ part_ids (but_last l.kids);
-  rest : (f : Store) → IsLater l.s f → option_map (λ us. l.fields ++ us) (fields f (but_last (drop l.i l.kids))) ≡ fields f (but_last l.kids);
+  rest : (f : Store) → IsLater l.s f → option_map (λ us. l.fields ++ us) (fields f (but_last (drop l.i l.kids))) ≡
+      fields f (but_last l.kids);
 }

@@ -12,33 +12,40 @@ use Rattle.rule_types.proofs.fields.tuple.Goals as goal
 
 pub all_sized-requires : goal.all_sized-requires
 all_sized-requires c i h =
-    ids_known c.args.s.now (but_last c.args.t.now.kids.now) c.in_ok-types.types c.requires c.in_ok-types.ensures i (subst (λ (ts : List ℕ). Contains ts i) c.as_slice.ensures h)
+    ids_known c.args.s.now (but_last c.args.t.now.kids.now) c.in_ok-types.types c.requires c.in_ok-types.ensures i
+    (subst (λ (ts : List ℕ). Contains ts i) c.as_slice.ensures h)
 
 pub returns-then-not-all_sized-clause-err : goal.returns-then-not-all_sized-clause-err
 returns-then-not-all_sized-clause-err c =
     let p = c.node.inside.place in
     subst (IsOwnStop c.args.s.now c.args.t.now ki.TypeTuple) (sym c.stop.ensures)
-    (tuple_unsized c.args.s.now c.args.t.now c.in_ok-types.types c.in_ok-types.ensures (fault_at 17 p) p (λ f. sym (ap (λ n. (head n).place) c.node.view_is)) refl
+    (tuple_unsized c.args.s.now c.args.t.now c.in_ok-types.types c.in_ok-types.ensures (fault_at 17 p) p
+    (λ f. sym (ap (λ n. (head n).place) c.node.view_is)) refl
     (λ f l. sym c.if-not-all_sized.true ∙ c.all_sized.ensures f l ∙ ap (all_sized f) c.as_slice.ensures))
 
 pub entered-requires-clause-within : goal.entered-requires-clause-within
 entered-requires-clause-within c =
-    ids_below c.args.s.now c.in_ok-types.types (ids_known c.args.s.now (but_last c.args.t.now.kids.now) c.in_ok-types.types c.requires c.in_ok-types.ensures)
+    ids_below c.args.s.now c.in_ok-types.types
+    (ids_known c.args.s.now (but_last c.args.t.now.kids.now) c.in_ok-types.types c.requires c.in_ok-types.ensures)
 
 pub returns-then-not-is_small-clause-err : goal.returns-then-not-is_small-clause-err
 returns-then-not-is_small-clause-err c =
     let p = c.node.inside.place in
     subst (IsOwnStop c.entered.new.s c.args.t.now ki.TypeTuple) (sym c.stop-then-not-is_small.ensures)
     (tuple_large c.entered.new.s c.args.t.now c.in_ok-made.made c.in_ok-types.types c.in_ok-types.ensures c.in_ok-made.ensures.id
-    (λ f l. sym c.if-not-all_sized.false ∙ c.all_sized.ensures f (later_trans c.args.s.now c.entered.new.s f c.entered.ensures.grown.later l) ∙ ap (all_sized f) c.as_slice.ensures)
-    (fault_at 18 p) p refl (λ f. sym (ap (λ n. (head n).place) c.node.view_is)) (λ f l. c.is_small.ensures.large c.if-not-is_small.true f l))
+    (λ f l. sym c.if-not-all_sized.false ∙ c.all_sized.ensures f
+    (later_trans c.args.s.now c.entered.new.s f c.entered.ensures.grown.later l) ∙ ap (all_sized f) c.as_slice.ensures)
+    (fault_at 18 p) p refl (λ f. sym (ap (λ n. (head n).place) c.node.view_is))
+    (λ f l. c.is_small.ensures.large c.if-not-is_small.true f l))
 
 pub returns-clause-ok : goal.returns-clause-ok
 returns-clause-ok c =
     tuple_is c.entered.new.s c.args.t.now c.in_ok-made.made c.in_ok-types.types c.in_ok-types.ensures c.in_ok-made.ensures.id
-    (λ f l. sym c.if-not-all_sized.false ∙ c.all_sized.ensures f (later_trans c.args.s.now c.entered.new.s f c.entered.ensures.grown.later l) ∙ ap (all_sized f) c.as_slice.ensures)
+    (λ f l. sym c.if-not-all_sized.false ∙ c.all_sized.ensures f
+    (later_trans c.args.s.now c.entered.new.s f c.entered.ensures.grown.later l) ∙ ap (all_sized f) c.as_slice.ensures)
     (c.in_ok-made.ensures.known refl) c.in_ok-made.ensures.row (c.is_small.ensures.small c.if-not-is_small.false)
 
 pub returns-clause-defined : goal.returns-clause-defined
 returns-clause-defined c d =
-    c.in_ok-made.ensures.defined (λ n e. cc) (ids_defined c.args.s.now (but_last c.args.t.now.kids.now) c.in_ok-types.types d c.in_ok-types.ensures)
+    c.in_ok-made.ensures.defined (λ n e. cc)
+    (ids_defined c.args.s.now (but_last c.args.t.now.kids.now) c.in_ok-types.types d c.in_ok-types.ensures)

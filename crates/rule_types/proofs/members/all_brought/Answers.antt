@@ -7,7 +7,8 @@ push_brought-requires c = member_at c.args.s.now c.args.kids.now c.loop-i.i c.in
 
 pub loop-i-preserved : goal.loop-i-preserved
 loop-i-preserved c f l =
-    brought_next f c.args.kids.now c.loop-i.i c.in-Some.kid.now c.loop-i.ids.items c.push_brought.new.ids.items _ c.in-Some.ensures.found (c.in_ok-push_brought.ensures f l) (c.loop-i.invariant f l)
+    brought_next f c.args.kids.now c.loop-i.i c.in-Some.kid.now c.loop-i.ids.items c.push_brought.new.ids.items _ c.in-Some.ensures.found
+    (c.in_ok-push_brought.ensures f l) (c.loop-i.invariant f l)
 
 pub returns : goal.returns
 returns c f l = brought_end f c.args.kids.now c.loop-i.i c.loop-i.ids.items _ (omega arith) (c.loop-i.invariant f l)

@@ -9,11 +9,13 @@ is_sized-requires c = member_at c.args.s.now c.args.kids.now c.loop-i.i c.in-Som
 pub returns-then-not-is_sized : goal.returns-then-not-is_sized
 returns-then-not-is_sized c f l =
     ap not
-    (any_here (λ x. not (is_member_sized f x)) c.args.kids.now c.loop-i.i c.in-Some.kid.now _ c.in-Some.ensures.found (ap not (sym (c.is_sized.ensures f l) ∙ c.if-not-is_sized.true)) (c.loop-i.invariant f l))
+    (any_here (λ x. not (is_member_sized f x)) c.args.kids.now c.loop-i.i c.in-Some.kid.now _ c.in-Some.ensures.found
+    (ap not (sym (c.is_sized.ensures f l) ∙ c.if-not-is_sized.true)) (c.loop-i.invariant f l))
 
 pub loop-i-preserved : goal.loop-i-preserved
 loop-i-preserved c f l =
-    any_passed (λ x. not (is_member_sized f x)) c.args.kids.now c.loop-i.i c.in-Some.kid.now _ c.in-Some.ensures.found (ap not (sym (c.is_sized.ensures f l) ∙ c.if-not-is_sized.false)) (c.loop-i.invariant f l)
+    any_passed (λ x. not (is_member_sized f x)) c.args.kids.now c.loop-i.i c.in-Some.kid.now _ c.in-Some.ensures.found
+    (ap not (sym (c.is_sized.ensures f l) ∙ c.if-not-is_sized.false)) (c.loop-i.invariant f l)
 
 pub returns : goal.returns
 returns c f l = ap not (any_end (λ x. not (is_member_sized f x)) c.args.kids.now c.loop-i.i _ (omega arith) (c.loop-i.invariant f l))

@@ -7,4 +7,5 @@ use Rattle.rule_types.proofs.members.are_sized.Given as goal
 
 -- those so far are sized
 abbrev pub invariant-loop-i : goal.invariant-loop-i
-invariant-loop-i l = (f : Store) → IsLater l.s f → list_any (λ x. not (is_member_sized f x)) (drop l.i l.kids) ≡ list_any (λ x. not (is_member_sized f x)) l.kids
+invariant-loop-i l = (f : Store) → IsLater l.s f →
+    list_any (λ x. not (is_member_sized f x)) (drop l.i l.kids) ≡ list_any (λ x. not (is_member_sized f x)) l.kids

@@ -13,11 +13,14 @@ pub returns-then-is_odd : goal.returns-then-is_odd
 returns-then-is_odd c f l =
     ap (λ p. Some p) (ap place_of c.kid.view_is)
     ∙ ap (option_map place_of)
-    (find_here (is_odd_spread f) c.args.kids.now c.loop-i.i c.in-Some.kid.now (odd_spread f c.args.kids.now) c.in-Some.ensures.found (sym (c.is_odd.ensures f l) ∙ c.if-is_odd.true) (c.loop-i.invariant f l))
+    (find_here (is_odd_spread f) c.args.kids.now c.loop-i.i c.in-Some.kid.now (odd_spread f c.args.kids.now) c.in-Some.ensures.found
+    (sym (c.is_odd.ensures f l) ∙ c.if-is_odd.true) (c.loop-i.invariant f l))
 
 pub loop-i-preserved : goal.loop-i-preserved
 loop-i-preserved c f l =
-    find_passed (is_odd_spread f) c.args.kids.now c.loop-i.i c.in-Some.kid.now (odd_spread f c.args.kids.now) c.in-Some.ensures.found (sym (c.is_odd.ensures f l) ∙ c.if-is_odd.false) (c.loop-i.invariant f l)
+    find_passed (is_odd_spread f) c.args.kids.now c.loop-i.i c.in-Some.kid.now (odd_spread f c.args.kids.now) c.in-Some.ensures.found
+    (sym (c.is_odd.ensures f l) ∙ c.if-is_odd.false) (c.loop-i.invariant f l)
 
 pub returns : goal.returns
-returns c f l = ap (option_map place_of) (find_end (is_odd_spread f) c.args.kids.now c.loop-i.i (odd_spread f c.args.kids.now) (omega arith) (c.loop-i.invariant f l))
+returns c f l = ap (option_map place_of) (find_end (is_odd_spread f) c.args.kids.now c.loop-i.i (odd_spread f c.args.kids.now) (omega arith)
+    (c.loop-i.invariant f l))

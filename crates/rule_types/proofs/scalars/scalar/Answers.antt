@@ -7,4 +7,5 @@ use Rattle.rule_types.proofs.scalars.scalar.Goals as goal
 
 pub unreachable-requires : goal.unreachable-requires
 unreachable-requires c =
-    listed_word c.bytes.result.now (ap (is_listed scalars) (c.bytes.ensures ∙ ap (λ n. (head n).text) c.node.view_is) ∙ c.requires) (sym c.word_written.ensures ∙ c.in-None.is)
+    listed_word c.bytes.result.now (ap (is_listed scalars) (c.bytes.ensures ∙ ap (λ n. (head n).text) c.node.view_is) ∙ c.requires)
+    (sym c.word_written.ensures ∙ c.in-None.is)

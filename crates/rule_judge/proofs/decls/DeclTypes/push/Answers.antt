@@ -9,10 +9,12 @@ invariant_of-self-in-Ok c =
     subst (λ l. AreFirst l c.insert.new.self.entries) (sym c.in_ok-push.ensures.ok)
     (first-new c.self.inside.list c.args.d c.reserve.new.self.entries c.insert.new.self.entries
     (subst (AreFirst c.self.inside.list) (sym c.reserve.ensures.entries) c.self.invariant) (none_there _ c.if-not-contains_key.ensures)
-    (λ q. c.in-Ok.ensures.updates.0 q ∙ ap (λ n. cond (nat_eq c.args.d.decl q) (Some n) (lookup (nat_eq q) c.reserve.new.self.entries)) c.len-place.ensures))
+    (λ q. c.in-Ok.ensures.updates.0 q ∙ ap (λ n. cond (nat_eq c.args.d.decl q) (Some n) (lookup (nat_eq q) c.reserve.new.self.entries))
+    c.len-place.ensures))
 
 pub invariant_of-self-else-not-contains_key : goal.invariant_of-self-else-not-contains_key
 invariant_of-self-else-not-contains_key c =
     subst (λ l. AreFirst l c.reserve.new.self.entries) (sym c.in_ok-push.ensures.ok)
-    (first-there c.self.inside.list c.args.d c.reserve.new.self.entries (subst (AreFirst c.self.inside.list) (sym c.reserve.ensures.entries) c.self.invariant)
+    (first-there c.self.inside.list c.args.d c.reserve.new.self.entries
+    (subst (AreFirst c.self.inside.list) (sym c.reserve.ensures.entries) c.self.invariant)
     (sym c.if-not-contains_key.ensures))
