@@ -1,5 +1,5 @@
 -- Equal names of parameters and fields, kid by kid.
-use Rattle.std.proofs.Common.{◌≡◌, ℕ, ◌+◌, ◌≤◌, List, [], ◌∷◌, ◌++◌, Bool, true, false, cond, ◌||◌, fold, map, filter, drop, length, bytes_eq, slice_get, Option, Some, None, is_some, refl, sym, ap, ◌∙◌, if◌then◌else◌}
+use Rattle.std.proofs.Common.{◌≡◌, ℕ, ◌+◌, ◌<◌, ◌≤◌, List, [], ◌∷◌, ◌++◌, Bool, true, false, cond, ◌||◌, fold, map, filter, drop, length, bytes_eq, slice_get, Option, Some, None, is_some, refl, sym, ap, ◌∙◌, if◌then◌else◌, arith}
 use Rattle.std.specs.List.{list_any}
 use Rattle.std.proofs.lemmas.List.Sums.{fold-append}
 use Rattle.std.proofs.lemmas.Slice.Eq.{bytes_eq-Decides}
@@ -162,3 +162,13 @@ pub doubling-done : (ts : List Node) (found first : Option Fault) (i : ℕ) (nam
 doubling-done ts found first i names l w =
     ap (λ us. fold earlier first (map doubled_fault (repeated_behind same_text w.before (filter named us)))) (sym (drop-past ts i l))
     ∙ w.left
+
+-- one name is equal to no other
+pub doubled-short : (ts : List Node) (found : Option Fault) → length ts < 2 → found ≡ fold earlier found (doubled_kids (nodes_of ts))
+doubled-short [] found l = refl
+doubled-short (t ∷ []) found l = by (named t)
+  where
+    by : (b : Bool) → found ≡ fold earlier found (map doubled_fault (repeated_behind same_text [] (cond b (t ∷ []) [])))
+    by true = refl
+    by false = refl
+doubled-short (t ∷ u ∷ ts) found l = absurd (omega arith)

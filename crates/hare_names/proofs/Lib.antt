@@ -1,4 +1,5 @@
 pub mod PlaceLemmas
+mod LocalLemmas
 pub mod VerdictLemmas
 pub mod WalkLemmas
 pub mod DoubledLemmas

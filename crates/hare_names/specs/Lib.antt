@@ -6,6 +6,7 @@ pub mod Violations
 pub mod Tables
 pub mod Spots
 pub mod Keys
+pub mod LocalParts
 pub mod Doubling
 pub mod Noted
 pub mod Answers

@@ -54,6 +54,9 @@ fn doubled_kids(
 ) -> Result<Option<Fault>, AllocError>
     ensures { IfOk result (λ f. f ≡ fold earlier found (spec.doubled_kids (nodes_of kids.now))) }
 {
+    if kids.len() < 2 {
+        return Ok(found);
+    }
     let mut names: Table<()> = Table::new(alloc);
     let mut first = found;
     for i in 0..kids.len() {

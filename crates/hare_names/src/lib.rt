@@ -4,6 +4,7 @@
 mod doubled;
 mod kinds;
 mod laws;
+mod locals;
 mod names;
 mod notes;
 mod places;

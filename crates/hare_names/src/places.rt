@@ -58,10 +58,10 @@ impl Places {
         ensures ok { OnOk result (self.new ≡ spec.put self.old place meaning) }
         ensures err { OnErr result (self.new ≡ self.old) }
     {
-        if self.get(place).is_some() {
-            return Ok(());
+        let key = key_of(place);
+        if let Some(first) = self.meanings.insert(key, meaning)? {
+            self.meanings.insert(key, first)?;
         }
-        self.meanings.insert(key_of(place), meaning)?;
         Ok(())
     }
 }

@@ -11,11 +11,11 @@ ghost use Rattle.hare_names.specs.Noted as noted;
 ghost use Rattle.hare_names.specs.Answers.{AreFiles, StopsAtFirst, meaning_in};
 
 use crate::doubled::first_doubled;
+use crate::locals::Locals;
 use crate::names::Names;
 use crate::notes::Notes;
 use crate::places::Places;
 use crate::walk::{Setting, walk};
-use hare_blocks::Scope;
 use hare_directory::{Directory, look};
 use hare_tree::{Fault, FileTree, Kids, Stop, Tree};
 use hx_base::{Items, Text};
@@ -101,7 +101,7 @@ fn note_decl(
     ensures { OnOk result (notes.new ≡ noted.decl_noted (tables_of setting.entry.directory.now) setting.entry.file notes.old decl.now) }
 {
     notes.first = first_doubled(alloc, decl, notes.first)?;
-    let mut locals = Scope::new(alloc);
+    let mut locals = Locals::new(alloc);
     walk(setting, &mut locals, notes, decl, 0)?;
     Ok(())
 }

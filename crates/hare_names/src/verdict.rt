@@ -7,7 +7,7 @@ ghost use Rattle.hare_modules.specs.Directory as tables;
 ghost use Rattle.hare_blocks.specs.Scopes.{number_of};
 ghost use Rattle.hare_names.specs.Tables as spec;
 
-use hare_blocks::Scope;
+use crate::locals::Locals;
 use hare_directory::Directory;
 use hare_modules::{Entry, Imported};
 use hare_tree::Meaning;
@@ -26,7 +26,7 @@ pub fn judge(
     directory: &Directory,
     file: usize,
     is_type: bool,
-    locals: &Scope,
+    locals: &Locals<'_>,
     text: &[u8],
 ) -> Verdict
     ensures { result ≡ spec.verdict (tables_of directory.now) file is_type locals.now (parts text.now) }
@@ -67,7 +67,7 @@ fn name_verdict(
     directory: &Directory,
     file: usize,
     is_type: bool,
-    locals: &Scope,
+    locals: &Locals<'_>,
     name: &[u8],
 ) -> Verdict
     ensures { result ≡ spec.name_verdict (tables_of directory.now) file is_type name.now (number_of name.now locals.now) }

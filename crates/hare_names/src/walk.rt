@@ -10,9 +10,9 @@ ghost use Rattle.hare_names.specs.Scopes as scopes;
 ghost use Rattle.hare_names.specs.Spots as spec;
 
 use crate::kinds::{is_binding, is_for_each, is_params, is_type_path, is_value_path};
+use crate::locals::Locals;
 use crate::notes::Notes;
 use crate::verdict::{Verdict, judge};
-use hare_blocks::Scope;
 use hare_directory::Directory;
 use hare_modules::earlier;
 use hare_tree::{Fault, Kids, Place, Tree};
@@ -28,11 +28,11 @@ pub struct Setting<'a> {
 /// Notes the paths of a tree, before which so many bindings of its declaration stand. The answer is how many stand behind it; then what it binds is
 /// visible.
 #[cycle(walk)]
-pub fn walk(
+pub fn walk<'a>(
     setting: Setting<'_>,
-    locals: &mut Scope,
+    locals: &mut Locals<'a>,
     notes: &mut Notes,
-    t: &Tree,
+    t: &'a Tree,
     before: u32,
 ) -> Result<u32, AllocError>
     requires { before + scopes.bindings_in t.now < 2 ^ 32 }
@@ -63,11 +63,11 @@ pub fn walk(
 
 /// Notes the paths of kids from one on, before which so many bindings stand. What they bind stays visible.
 #[cycle(walk)]
-fn walk_kids(
+fn walk_kids<'a>(
     setting: Setting<'_>,
-    locals: &mut Scope,
+    locals: &mut Locals<'a>,
     notes: &mut Notes,
-    kids: &Kids,
+    kids: &'a Kids,
     from: usize,
     before: u32,
 ) -> Result<u32, AllocError>
@@ -88,11 +88,11 @@ fn walk_kids(
 
 /// Notes the paths of the kids of a `for` over items: a binding, what is gone over, where the binding is not visible, and the body.
 #[cycle(walk)]
-fn walk_loop(
+fn walk_loop<'a>(
     setting: Setting<'_>,
-    locals: &mut Scope,
+    locals: &mut Locals<'a>,
     notes: &mut Notes,
-    kids: &Kids,
+    kids: &'a Kids,
     before: u32,
 ) -> Result<u32, AllocError>
     requires { before + scopes.bindings_among (nodes_of kids.now) < 2 ^ 32 }
@@ -118,7 +118,7 @@ fn walk_loop(
 }
 
 /// Makes the local visible that a tree itself binds, if it does.
-fn bind_itself(locals: &mut Scope, t: &Tree, before: u32) -> Result<(), AllocError>
+fn bind_itself<'a>(locals: &mut Locals<'a>, t: &'a Tree, before: u32) -> Result<(), AllocError>
     ensures { OnOk result (locals.new ≡ scopes.bound_itself before t.now ++ locals.old) }
 {
     if is_binding(t.kind) {
@@ -128,7 +128,12 @@ fn bind_itself(locals: &mut Scope, t: &Tree, before: u32) -> Result<(), AllocErr
 }
 
 /// Notes a tree, if it is a path.
-fn note(setting: Setting<'_>, locals: &Scope, notes: &mut Notes, t: &Tree) -> Result<(), AllocError>
+fn note(
+    setting: Setting<'_>,
+    locals: &Locals<'_>,
+    notes: &mut Notes,
+    t: &Tree,
+) -> Result<(), AllocError>
     ensures { OnOk result (notes.new ≡ fold (spec.noted (tables_of setting.entry.directory.now) setting.entry.file) notes.old (spec.spot_of t.now locals.now)) }
 {
     let is_type = is_type_path(t.kind);

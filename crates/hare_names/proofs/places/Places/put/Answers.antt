@@ -1,19 +1,29 @@
-use Rattle.std.proofs.Common.{◌≡◌, false, is_some, sym, ap, ◌∙◌}
+use Rattle.std.proofs.Common.{is_some, sym, ap, ◌∙◌}
 use Rattle.indexmap.proofs.CallerLemmas.{insert_entry-new}
 use Rattle.hare_names.specs.Keys.{place_of}
 use Rattle.hare_names.specs.Tables.{meaning_at}
-use Rattle.hare_modules.proofs.TableLemmas.{none-of}
-use Rattle.hare_names.proofs.PlaceLemmas.{lookup-seen, keyed, put-new}
+use Rattle.hare_names.proofs.PlaceLemmas.{lookup-seen, keyed, put-new, put-there, restored}
 use Rattle.hare_names.proofs.places.Places.put.Goals as goal
 
-pub returns-clause-ok : goal.returns-clause-ok
-returns-clause-ok c =
+-- the place keeps its first meaning
+pub returns-in_ok-insert-clause-ok : goal.returns-in_ok-insert-clause-ok
+returns-in_ok-insert-clause-ok c =
     let es = c.self.inside.meanings.entries in
-    let absent : is_some (meaning_at c.args.place c.args.self.now) ≡ false = sym (ap is_some c.get.ensures) ∙ sym c.is_some.ensures
-    ∙ c.if-is_some.false in
-    let nowhere = none-of _ (ap is_some (ap (meaning_at c.args.place) c.self.view_is) ∙ absent) in
-    let none = lookup-seen place_of c.args.place _ (λ k. keyed (place_of c.key_of.result) (place_of k) c.args.place c.key_of.ensures) es
-    ∙ nowhere in
-    put-new place_of c.key_of.result c.args.meaning c.args.place es c.insert.new.self.entries c.args.self.now c.self.view_is
-    (c.in_ok-insert.ensures.entries
-    ∙ insert_entry-new _ c.self.inside.meanings c.key_of.result c.args.meaning none) c.key_of.ensures absent
+    let there = sym c.in_ok-first.ensures.old ∙ c.in-Some.is in
+    let seen = sym (lookup-seen place_of c.args.place _
+    (λ k. keyed (place_of c.key_of-key.result) (place_of k) c.args.place c.key_of-key.ensures) es) ∙ there in
+    put-there place_of c.args.meaning c.in-Some.first c.args.place es c.insert-in-Some.new.self.entries c.args.self.now c.self.view_is
+    (restored _ c.key_of-key.result c.args.meaning c.in-Some.first es c.insert.new.self.entries c.insert-in-Some.new.self.entries
+    c.in_ok-first.ensures.entries c.in_ok-insert.ensures.entries there)
+    (sym (ap (meaning_at c.args.place) c.self.view_is) ∙ seen)
+
+-- a place that had none
+pub returns-in_default-clause-ok : goal.returns-in_default-clause-ok
+returns-in_default-clause-ok c =
+    let es = c.self.inside.meanings.entries in
+    let nowhere = sym c.in_ok-first.ensures.old ∙ c.in_default.is in
+    let seen = sym (lookup-seen place_of c.args.place _
+    (λ k. keyed (place_of c.key_of-key.result) (place_of k) c.args.place c.key_of-key.ensures) es) ∙ nowhere in
+    put-new place_of c.key_of-key.result c.args.meaning c.args.place es c.insert.new.self.entries c.args.self.now c.self.view_is
+    (c.in_ok-first.ensures.entries ∙ insert_entry-new _ c.self.inside.meanings c.key_of-key.result c.args.meaning nowhere)
+    c.key_of-key.ensures (ap is_some (sym (ap (meaning_at c.args.place) c.self.view_is) ∙ seen))
