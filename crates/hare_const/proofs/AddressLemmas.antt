@@ -34,7 +34,8 @@ word_cells n h = let e : n % 2 ^ 64 ≡ n = mod-eq_of_lt h in ap (λ k. byte_cel
 
 -- an address, and two words behind it
 pub slice_given : (o n : ℕ) (first word one two : List Cell) → n < 2 ^ 64 → first ≡ cells Nullable (Pointing (Address o 0)) →
-    word ≡ byte_cells (le_bytes 8 n) → one ≡ first ++ word → two ≡ one ++ word → two ≡ three (record { data_at = Address o 0; length = n; capacity = n })
+    word ≡ byte_cells (le_bytes 8 n) → one ≡ first ++ word → two ≡ one ++ word →
+    two ≡ three (record { data_at = Address o 0; length = n; capacity = n })
 slice_given o n first word one two h a b e f =
     let w : word ≡ size_cells n = b ∙ sym (word_cells n h) in
     f ∙ ap (λ xs. xs ++ word) (e ∙ ap (λ xs. xs ++ word) a)

@@ -97,7 +97,8 @@ pub laid-all : (s : Store) (t : TypedNode) (os : List Outcome) (i n last k : ℕ
 laid-all s t os i n last k whole new l h m e w =
     let g : n - i ≡ 0 = omega arith in
     let r : ℕ = repeats (without_run s) t (items_of kind.Array (kids_of t)) in
-    ap Known (w ∙ ap (λ x. whole ++ again k x) l.repeated ∙ ap (λ x. x ++ again k (last_of l.done)) l.cells ∙ ap (λ m. joined l.done ++ again m (last_of l.done)) e
+    ap Known (w ∙ ap (λ x. whole ++ again k x) l.repeated ∙ ap (λ x. x ++ again k (last_of l.done)) l.cells ∙ ap
+    (λ m. joined l.done ++ again m (last_of l.done)) e
     ∙ ap (λ xs. joined xs ++ again r (last_of xs)) (sym (append-nil l.done)))
     ∙ sym (l.rest ∙ ap (λ j. Rest s t os i j l.done) g)
     ∙ ap (λ j. kids_at 0 j os (λ cs. Known (array_value s t cs))) m

@@ -58,7 +58,8 @@ module _ (s : Store) (v : IsStore s) (own : ℕ) (t : TypedNode) (cs : List Cell
   abbrev valued : Store → ℕ → Ty → Outcome
   valued x r to = on_answer (coerced_into x f r to (sliced_or x own t cs (sliced_by x f r to))) Known
 
-  pub plain_value : (r u : ℕ) → (mark_of t).coerce.row ≡ r → (mark_of t).coerce.to ≡ ty.Of u → nat_eq r 9 ≡ false → HasBase s f → HasBase s (ty.Of u) →
+  pub plain_value : (r u : ℕ) → (mark_of t).coerce.row ≡ r → (mark_of t).coerce.to ≡ ty.Of u → nat_eq r 9 ≡ false → HasBase s f →
+      HasBase s (ty.Of u) →
       Known (value_by_row s own t r u cs) ≡ coerced_value there own t cs
   plain_value r u e g n h k =
       ap Known (sym (by_row_there r u h k))
@@ -87,10 +88,12 @@ module _ (s : Store) (v : IsStore s) (own : ℕ) (t : TypedNode) (cs : List Cell
 
   -- ---- the row to unions
 
-  pub union_value : (u : ℕ) → (mark_of t).coerce.row ≡ 9 → (mark_of t).coerce.to ≡ ty.Of u → joined_value there own t u cs ≡ coerced_value there own t cs
+  pub union_value : (u : ℕ) → (mark_of t).coerce.row ≡ 9 → (mark_of t).coerce.to ≡ ty.Of u →
+      joined_value there own t u cs ≡ coerced_value there own t cs
   union_value u e g = sym (ap₂ (valued there) e g)
 
-  pub union_object : (u : ℕ) → (mark_of t).coerce.row ≡ 9 → (mark_of t).coerce.to ≡ ty.Of u → joined_object there own t u cs ≡ own_object there own t cs
+  pub union_object : (u : ℕ) → (mark_of t).coerce.row ≡ 9 → (mark_of t).coerce.to ≡ ty.Of u →
+      joined_object there own t u cs ≡ own_object there own t cs
   union_object u e g = sym (ap₂ (λ x y. object_or own t cs (sliced_by there f x y)) e g)
 
   module _ (u : ℕ) (h : HasBase s f) (k : HasBase s (ty.Of u)) (j : IsJoined s f u) where
@@ -124,15 +127,19 @@ module _ (s : Store) (v : IsStore s) (own : ℕ) (t : TypedNode) (cs : List Cell
       wider_object = sym (ap (λ o. object_or own t cs (sliced_as there t u o)) (member_there None e))
 
 -- what a call gave that made the cells of a union
-pub member_result : (s : Store) (v : IsStore s) (own : ℕ) (t : TypedNode) (cs : List Cell) (u : ℕ) → HasBase s (mark_of t).ty → HasBase s (ty.Of u) →
-    IsJoined s (mark_of t).ty u → (m : ℕ) → chosen_member s (mark_of t).ty (union_members s u) ≡ Some m → (c : Coercion) → coercion s (mark_of t).ty m ≡ Some c →
-    (r : Result (List Cell) AllocError) (ds : List Cell) → ds ≡ value_by_row s own t c.row m cs → IfOk r (λ w. w ≡ union_cells (tagged_by_id s) u m ds) →
+pub member_result : (s : Store) (v : IsStore s) (own : ℕ) (t : TypedNode) (cs : List Cell) (u : ℕ) → HasBase s (mark_of t).ty →
+    HasBase s (ty.Of u) →
+    IsJoined s (mark_of t).ty u → (m : ℕ) → chosen_member s (mark_of t).ty (union_members s u) ≡ Some m → (c : Coercion) →
+    coercion s (mark_of t).ty m ≡ Some c →
+    (r : Result (List Cell) AllocError) (ds : List Cell) → ds ≡ value_by_row s own t c.row m cs →
+    IfOk r (λ w. w ≡ union_cells (tagged_by_id s) u m ds) →
     IfOk r (λ w. Known w ≡ joined_value (tagged_by_id s) own t u cs)
 member_result s v own t cs u h k j m e c g (Err x) ds d i = tt
 member_result s v own t cs u h k j m e c g (Ok w) ds d i =
     ap Known (i ∙ ap (union_cells (tagged_by_id s) u m) d) ∙ member_value s v own t cs u h k j m e c g
 
-pub wider_result : (s : Store) (v : IsStore s) (own : ℕ) (t : TypedNode) (cs : List Cell) (u : ℕ) → HasBase s (mark_of t).ty → HasBase s (ty.Of u) →
+pub wider_result : (s : Store) (v : IsStore s) (own : ℕ) (t : TypedNode) (cs : List Cell) (u : ℕ) → HasBase s (mark_of t).ty →
+    HasBase s (ty.Of u) →
     IsJoined s (mark_of t).ty u → chosen_member s (mark_of t).ty (union_members s u) ≡ None →
     (r : Result (List Cell) AllocError) (g : Ty) (ds : List Cell) → g ≡ (mark_of t).ty → ds ≡ cs →
     IfOk r (λ w. Gives w ≡ union_to_union (tagged_by_id s) g u ds) →
@@ -141,15 +148,18 @@ wider_result s v own t cs u h k j e (Err x) g ds a b i = tt
 wider_result s v own t cs u h k j e (Ok w) g ds a b i =
     wider_value s v own t cs u h k j e w (i ∙ ap₂ (λ x y. union_to_union (tagged_by_id s) x u y) a b)
 
-pub wider_made : (s : Store) (v : IsStore s) (own : ℕ) (t : TypedNode) (cs : List Cell) (u : ℕ) → HasBase s (mark_of t).ty → HasBase s (ty.Of u) →
+pub wider_made : (s : Store) (v : IsStore s) (own : ℕ) (t : TypedNode) (cs : List Cell) (u : ℕ) → HasBase s (mark_of t).ty →
+    HasBase s (ty.Of u) →
     IsJoined s (mark_of t).ty u → chosen_member s (mark_of t).ty (union_members s u) ≡ None →
     (r : Result (List Cell) AllocError) (made : List ConstObject) → OnOk r (made ≡ made ++ joined_object (tagged_by_id s) own t u cs)
 wider_made s v own t cs u h k j e (Err x) made = tt
 wider_made s v own t cs u h k j e (Ok w) made = sym (append-nil made) ∙ ap (λ l. made ++ l) (wider_object s v own t cs u h k j e)
 
-pub row_result : (s : Store) (v : IsStore s) (own : ℕ) (t : TypedNode) (cs : List Cell) (r u : ℕ) → (mark_of t).coerce.row ≡ r → (mark_of t).coerce.to ≡ ty.Of u →
+pub row_result : (s : Store) (v : IsStore s) (own : ℕ) (t : TypedNode) (cs : List Cell) (r u : ℕ) → (mark_of t).coerce.row ≡ r →
+    (mark_of t).coerce.to ≡ ty.Of u →
     nat_eq r 9 ≡ false → HasBase s (mark_of t).ty → HasBase s (ty.Of u) →
-    (x : Result (List Cell) AllocError) → IfOk x (λ w. w ≡ value_by_row s own t r u cs) → IfOk x (λ w. Known w ≡ coerced_value (tagged_by_id s) own t cs)
+    (x : Result (List Cell) AllocError) → IfOk x (λ w. w ≡ value_by_row s own t r u cs) →
+    IfOk x (λ w. Known w ≡ coerced_value (tagged_by_id s) own t cs)
 row_result s v own t cs r u e g n h k (Err y) i = tt
 row_result s v own t cs r u e g n h k (Ok w) i = ap Known i ∙ plain_value s v own t cs r u e g n h k
 

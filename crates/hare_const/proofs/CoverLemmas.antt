@@ -88,7 +88,8 @@ step_of P x o same other = go (int_eq x o) refl
 pub first_le-open_after : (o : ℤ) (xs : List ℤ) → o ≤ℤ open_after o xs
 first_le-open_after o [] = omega (arith, ints)
 first_le-open_after o (x ∷ xs) =
-    step_of (λ p. o ≤ℤ open_after p xs) x o (λ e. let h = first_le-open_after (o +ℤ pos 1) xs in omega (arith, ints)) (λ n. first_le-open_after o xs)
+    step_of (λ p. o ≤ℤ open_after p xs) x o (λ e. let h = first_le-open_after (o +ℤ pos 1) xs in omega (arith, ints))
+    (λ n. first_le-open_after o xs)
 
 at_or_above : (o v : ℤ) → o ≤ℤ v → (v ≡ o) ⊎ ((o +ℤ pos 1) ≤ℤ v)
 at_or_above o v l = go (int_eq v o) refl
@@ -102,7 +103,11 @@ pub met : (o v : ℤ) (xs : List ℤ) → o ≤ℤ v → v <ℤ open_after o xs 
 met o v [] l h = absurd (omega (arith, ints))
 met o v (x ∷ xs) l h =
     step_of (λ p. v <ℤ open_after p xs → Contains (x ∷ xs) v) x o
-    (λ e h'. elim (at_or_above o v l) [ inl s ↦ contains_first v x xs (s ∙ sym e) | inr m ↦ contains_later v x xs (met (o +ℤ pos 1) v xs m h') ])
+    (λ e h'. elim (at_or_above o v l) [
+      | inl s ↦ contains_first v x xs (s ∙ sym e)
+      | inr m ↦ contains_later v x xs
+          (met (o +ℤ pos 1) v xs m h')
+    ])
     (λ n h'. contains_later v x xs (met o v xs l h'))
     h
 
@@ -136,7 +141,8 @@ not_met o (x ∷ xs) h c =
     (λ n. past x o xs h (apart x o n) (not_met o xs (sorted_tail x xs h)))
     c
   where
-    past : (x p : ℤ) (xs : List ℤ) → IsSorted int_cmp (x ∷ xs) → (x <ℤ p) ⊎ (p <ℤ x) → (Contains xs (open_after p xs) → ⊥) → Contains (x ∷ xs) (open_after p xs) → ⊥
+    past : (x p : ℤ) (xs : List ℤ) → IsSorted int_cmp (x ∷ xs) → (x <ℤ p) ⊎ (p <ℤ x) → (Contains xs (open_after p xs) → ⊥) →
+        Contains (x ∷ xs) (open_after p xs) → ⊥
     past x p xs h d others c =
         elim (contains_some (open_after p xs) x xs c) [ inl s ↦ differs x p xs (none_below_first x xs h) d (sym s) | inr m ↦ others m ]
 
@@ -149,7 +155,8 @@ pass_covers least greatest vs sorted = (all_met, beyond)
     all_met : greatest <ℤ open_after least vs → (v : ℤ) → least ≤ℤ v → v ≤ℤ greatest → Contains vs v
     all_met h v l m = met least v vs l (omega (arith, ints))
 
-    past : (b : Bool) → int_lt greatest (open_after least vs) ≡ b → ((v : ℤ) → least ≤ℤ v → v ≤ℤ greatest → Contains vs v) → greatest <ℤ open_after least vs
+    past : (b : Bool) → int_lt greatest (open_after least vs) ≡ b → ((v : ℤ) → least ≤ℤ v → v ≤ℤ greatest → Contains vs v) →
+        greatest <ℤ open_after least vs
     past true e all = grind (arith, ints)
     past false e all =
         absurd (not_met least vs sorted
@@ -196,5 +203,6 @@ pass_tells f xs ys i r least greatest left is sorted l e =
     let both = pass_covers least greatest (filter_map f xs) sorted in
     let P : Option Range → Type 0 = λ x. IsTrue (int_lt greatest left) ↔ ListsAll x (filter_map f xs) in
     let beyond : IsTrue (int_lt greatest left) → greatest <ℤ open_after least (filter_map f xs) = λ h. rw met_to (grind (arith, ints)) in
-    let back : greatest <ℤ open_after least (filter_map f xs) → IsTrue (int_lt greatest left) = λ h. let h' : greatest <ℤ left = rw (← met_to) h in grind (arith, ints) in
+    let back : greatest <ℤ open_after least (filter_map f xs) → IsTrue (int_lt greatest left) = λ h. let h' : greatest <ℤ left =
+    rw (← met_to) h in grind (arith, ints) in
     subst P (sym is) ((λ h. both.0 (beyond h)), (λ h. back (both.1 h)))

@@ -17,7 +17,8 @@ abbrev pub types : Store
 types =
     record {
       names = [];
-      rows = row.Scalar word.U8 ∷ row.Scalar word.Bool ∷ row.Scalar word.Str ∷ row.Scalar word.I16 ∷ row.Named 7 ∷ row.Scalar word.Rune ∷ [];
+      rows = row.Scalar word.U8 ∷ row.Scalar word.Bool ∷ row.Scalar word.Str ∷ row.Scalar word.I16 ∷ row.Named 7 ∷ row.Scalar word.Rune ∷
+          [];
       declared = (7, record { sized = true; definition = Some 3 }) ∷ [];
       listed = [];
     }

@@ -38,7 +38,8 @@ folded_absent s own t u e = by (inconstant s own t) (constant_result (tagged_by_
 
 -- the answers to a settled tree, by what is known of its constant over the first store
 module _ (s : Store) (own : ℕ) (t : TypedNode) (v : IsStore s) (p : IsSettled s t) where
-  pub known_later : (cs : List Cell) → cells_in (folded s own t) ≡ Some cs → (os : List ConstObject) → os ≡ objects_led_to (objects_in (tagged_by_id s) own t) cs →
+  pub known_later : (cs : List Cell) → cells_in (folded s own t) ≡ Some cs → (os : List ConstObject) →
+      os ≡ objects_led_to (objects_in (tagged_by_id s) own t) cs →
       (l : Store) → IsLater s l → constant.Known cs os ≡ folded l own t
   known_later cs e os f l later =
       let stay = constants_stay s l v later own t p in

@@ -68,7 +68,8 @@ pub told_found : (s : Store) (p : ℕ → Bool) (ms : List ℕ) (m : ℕ) → Ar
 told_found s p [] m h e = absurd cc
 told_found s p (k ∷ ms) m h e = by (p k) e (told_found s p ms m h.2)
   where
-    by : (b : Bool) → cond b (Some k) (find p ms) ≡ Some m → (find p ms ≡ Some m → IsSome (base_at s m) × Fits s m) → IsSome (base_at s m) × Fits s m
+    by : (b : Bool) → cond b (Some k) (find p ms) ≡ Some m → (find p ms ≡ Some m → IsSome (base_at s m) × Fits s m) → IsSome (base_at s m) ×
+        Fits s m
     by true g ih =
         let same : k ≡ m = cc in
         (subst (λ j. IsSome (base_at s j)) same h.0, subst (Fits s) same h.1)
@@ -78,7 +79,8 @@ or_either : (P : ℕ → Type 0) (a b : Option ℕ) (m : ℕ) → (a ≡ Some m 
 or_either P None b m f g e = g e
 or_either P (Some k) b m f g e = f e
 
-pub told_chosen : (s : Store) (f : Ty) (u m : ℕ) → IsToldUnion s u → chosen_member s f (union_members s u) ≡ Some m → IsSome (base_at s m) × Fits s m
+pub told_chosen : (s : Store) (f : Ty) (u m : ℕ) → IsToldUnion s u → chosen_member s f (union_members s u) ≡ Some m → IsSome (base_at s m) ×
+    Fits s m
 told_chosen s f u m k e =
     let v = value_at s f in
     let ms = k.members in
@@ -117,5 +119,6 @@ module _ (s : Store) (v : IsStore s) where
     members = λ ts e.
         let is = base_union s v u (in_store s (ty.Of u) k) ts e in
         let same : t.members ≡ is.0 = let both = sym t.union ∙ is.1 in cc in
-        subst (EachTree (TreeHasBase s)) (sym is.2) (subst (λ ms. EachTree (TreeHasBase s) (types_at s ms)) same (each_known t.members t.told));
+        subst (EachTree (TreeHasBase s)) (sym is.2)
+        (subst (λ ms. EachTree (TreeHasBase s) (types_at s ms)) same (each_known t.members t.told));
   }

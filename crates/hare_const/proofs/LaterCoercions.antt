@@ -24,7 +24,8 @@ same-nine : (r : ℕ) → nat_eq r 9 ≡ true → r ≡ 9
 same-nine r e = grind (arith, nat_tests, e)
 
 -- by another row than the one to unions
-pub into-plain : (x : Store) (f : Ty) (r u : ℕ) (cs : List Cell) → nat_eq r 9 ≡ false → coerced_into x f r (ty.Of u) cs ≡ Gives (coerced_by x f r u cs)
+pub into-plain : (x : Store) (f : Ty) (r u : ℕ) (cs : List Cell) → nat_eq r 9 ≡ false →
+    coerced_into x f r (ty.Of u) cs ≡ Gives (coerced_by x f r u cs)
 into-plain x f r u cs e = ap (λ b. if b then coerced_to_union x f u cs else Gives (coerced_by x f r u cs)) e
 
 -- what a coercion by a row makes a slice of

@@ -143,7 +143,8 @@ module _ (s l : Store) (v : IsStore s) (later : IsLater s l) where
 
     cells_of_union : (u m : ℕ) (cs : List Cell) → IsToldUnion s u → IsSome (base_at s m) → union_cells l u m cs ≡ union_cells s u m cs
     cells_of_union u m cs k h =
-        ap (λ o. with_cells 0 (cells tag_shape (Number (pos (unwrap_or o 0)))) (with_cells (payload_of l u) cs (undefined_cells (size_at l u))))
+        ap (λ o. with_cells 0 (cells tag_shape (Number (pos (unwrap_or o 0))))
+        (with_cells (payload_of l u) cs (undefined_cells (size_at l u))))
         (tag_same m h)
         ∙ ap₂ (λ p n. with_cells 0 (cells tag_shape (Number (pos (tag_of s m)))) (with_cells p cs (undefined_cells n)))
         (payload_same u k) (size_same u k.fits)

@@ -25,12 +25,15 @@ use Rattle.hare_const.proofs.WalkLemmas.{Valued, hidden-own}
 
 -- ---- nodes that take nothing of their kids
 
-pub type-made : (s : Store) (own : ℕ) (t : TypedNode) (made : List ConstObject) → true ≡ is_type (own_kind t) → made ≡ made ++ made_by (tagged_by_id s) own t
+pub type-made : (s : Store) (own : ℕ) (t : TypedNode) (made : List ConstObject) → true ≡ is_type (own_kind t) →
+    made ≡ made ++ made_by (tagged_by_id s) own t
 type-made s own (marked h m ts) made e =
     let idle = type-idle h.kind (sym e) in
     sym (ap₂ (λ x o. made ++ (made_by_kids (marked h m ts) o (kid_values (tagged_by_id s) own ts) (made_by_each (tagged_by_id s) own ts)
-    ++ (if x then made_of_value (tagged_by_id s) own (marked h m ts) (own_value (tagged_by_id s) own (marked h m ts) (kid_values (tagged_by_id s) own ts)) else []))) idle (idle_operands h.kind idle)
-    ∙ ap (λ l. made ++ (l ++ [])) (taken_none (marked h m ts) (kid_at 0 (kid_values (tagged_by_id s) own ts)) (made_by_each (tagged_by_id s) own ts))
+    ++ (if x then made_of_value (tagged_by_id s) own (marked h m ts)
+    (own_value (tagged_by_id s) own (marked h m ts) (kid_values (tagged_by_id s) own ts)) else []))) idle (idle_operands h.kind idle)
+    ∙ ap (λ l. made ++ (l ++ [])) (taken_none (marked h m ts) (kid_at 0 (kid_values (tagged_by_id s) own ts))
+    (made_by_each (tagged_by_id s) own ts))
     ∙ append-nil made)
 
 hidden-operands : (k : Kind) (ts : TypedNodes) → hides_kids k ts ≡ true → operands_of k ≡ NoKid
@@ -48,14 +51,17 @@ hidden-made s own (marked h m ts) e =
     ∙ ap (λ o. if is_evaluated h.kind then made_of_value (tagged_by_id s) own (marked h m ts) o else [])
     (sym (hidden-own s own (marked h m ts) h.kind ts (kid_values (tagged_by_id s) own ts) (sym e))))
 
-pub seen-made : (s : Store) (own : ℕ) (t : TypedNode) (os : List Outcome) (first made new : List ConstObject) → os ≡ kid_values (tagged_by_id s) own (kids_of t) →
+pub seen-made : (s : Store) (own : ℕ) (t : TypedNode) (os : List Outcome) (first made new : List ConstObject) →
+    os ≡ kid_values (tagged_by_id s) own (kids_of t) →
     made ≡ first ++ made_by_kids t (operands_of (own_kind t)) os (made_by_each (tagged_by_id s) own (kids_of t)) →
     new ≡ made ++ made_of_node (tagged_by_id s) own t (own_kind t) os → new ≡ first ++ made_by (tagged_by_id s) own t
 seen-made s own (marked h m ts) os first made new e f g =
     let t = marked h m ts in
     g ∙ ap (λ l. l ++ made_of_node (tagged_by_id s) own t h.kind os) f
-    ∙ append_assoc first (made_by_kids t (operands_of h.kind) os (made_by_each (tagged_by_id s) own ts)) (made_of_node (tagged_by_id s) own t h.kind os)
-    ∙ ap (λ xs. first ++ (made_by_kids t (operands_of h.kind) xs (made_by_each (tagged_by_id s) own ts) ++ made_of_node (tagged_by_id s) own t h.kind xs)) e
+    ∙ append_assoc first (made_by_kids t (operands_of h.kind) os (made_by_each (tagged_by_id s) own ts))
+    (made_of_node (tagged_by_id s) own t h.kind os)
+    ∙ ap (λ xs. first ++ (made_by_kids t (operands_of h.kind) xs (made_by_each (tagged_by_id s) own ts) ++ made_of_node (tagged_by_id s) own
+    t h.kind xs)) e
 
 -- ---- kids one behind another
 
@@ -66,11 +72,13 @@ taken_push i takes [] m =
     append-nil (if takes i then m else []) ∙ ap (λ k. if takes k then m else []) here
 taken_push i takes (n ∷ ms) m =
     let next : suc i + length ms ≡ i + suc (length ms) = omega arith in
-    ap (λ l. (if takes i then n else []) ++ l) (taken_push (suc i) takes ms m ∙ ap (λ k. taken_from (suc i) takes ms ++ (if takes k then m else [])) next)
+    ap (λ l. (if takes i then n else []) ++ l)
+    (taken_push (suc i) takes ms m ∙ ap (λ k. taken_from (suc i) takes ms ++ (if takes k then m else [])) next)
     ∙ sym (append_assoc (if takes i then n else []) (taken_from (suc i) takes ms) (if takes (i + suc (length ms)) then m else []))
 
 each-push : (s : Store) (own : ℕ) (us : List TypedNode) (x : TypedNode) →
-    made_by_each (tagged_by_id s) own (typed_nodes (us ++ x ∷ [])) ≡ made_by_each (tagged_by_id s) own (typed_nodes us) ++ made_by (tagged_by_id s) own x ∷ []
+    made_by_each (tagged_by_id s) own (typed_nodes (us ++ x ∷ [])) ≡
+    made_by_each (tagged_by_id s) own (typed_nodes us) ++ made_by (tagged_by_id s) own x ∷ []
 each-push s own [] x = refl
 each-push s own (u ∷ us) x = ap (λ l. made_by (tagged_by_id s) own u ∷ l) (each-push s own us x)
 
@@ -94,7 +102,8 @@ kept_if true made m = refl
 kept_if false made m = take_at made m (length made) refl ∙ sym (append-nil made)
 
 -- as many values as kids were looked at
-pub length-valued : (s : Store) (own : ℕ) (ts : List TypedNode) (i : ℕ) (os : List Outcome) → Valued s own ts i os → length os ≡ length (take i ts)
+pub length-valued : (s : Store) (own : ℕ) (ts : List TypedNode) (i : ℕ) (os : List Outcome) → Valued s own ts i os →
+    length os ≡ length (take i ts)
 length-valued s own ts i os v = ap length v.values ∙ length-values s own (take i ts)
 
 module _ (s : Store) (own : ℕ) (node : TypedNode) (ts : List TypedNode) (i : ℕ) (x : TypedNode) (first made behind new : List ConstObject)
@@ -103,7 +112,8 @@ module _ (s : Store) (own : ℕ) (node : TypedNode) (ts : List TypedNode) (i : �
       made ≡ first ++ made_by_kids node (operands_of (own_kind node)) os (made_by_each (tagged_by_id s) own (typed_nodes (take i ts))) →
       behind ≡ made ++ made_by (tagged_by_id s) own x → taken ≡ is_taken node (operands_of (own_kind node)) (kid_at 0 more) i →
       new ≡ (if taken then behind else take (length made) behind) →
-      new ≡ first ++ made_by_kids node (operands_of (own_kind node)) more (made_by_each (tagged_by_id s) own (typed_nodes (take (i + 1) ts)))
+      new ≡ first ++ made_by_kids node (operands_of (own_kind node)) more
+      (made_by_each (tagged_by_id s) own (typed_nodes (take (i + 1) ts)))
   made_more v e n f g h b q =
       let k = operands_of (own_kind node) in
       let ms = made_by_each (tagged_by_id s) own (typed_nodes (take i ts)) in
@@ -119,8 +129,10 @@ module _ (s : Store) (own : ℕ) (node : TypedNode) (ts : List TypedNode) (i : �
       ∙ ap (taken_from 0 (is_taken node k (kid_at 0 more)))
       (sym (ap (λ l. made_by_each (tagged_by_id s) own (typed_nodes l)) (take-get ts i x e) ∙ each-push s own (take i ts) x)))
 
-pub made_all : (s : Store) (own : ℕ) (node : TypedNode) (ts : List TypedNode) (i : ℕ) (first all : List ConstObject) (os : List Outcome) → length ts ≤ i →
+pub made_all : (s : Store) (own : ℕ) (node : TypedNode) (ts : List TypedNode) (i : ℕ) (first all : List ConstObject) (os : List Outcome) →
+    length ts ≤ i →
     all ≡ first ++ made_by_kids node (operands_of (own_kind node)) os (made_by_each (tagged_by_id s) own (typed_nodes (take i ts))) →
     all ≡ first ++ made_by_kids node (operands_of (own_kind node)) os (made_by_each (tagged_by_id s) own (typed_nodes ts))
 made_all s own node ts i first all os h e =
-    e ∙ ap (λ l. first ++ made_by_kids node (operands_of (own_kind node)) os (made_by_each (tagged_by_id s) own (typed_nodes l))) (take_all i ts h)
+    e ∙ ap (λ l. first ++ made_by_kids node (operands_of (own_kind node)) os (made_by_each (tagged_by_id s) own (typed_nodes l)))
+    (take_all i ts h)

@@ -43,12 +43,14 @@ pub meaning-found : (t x : TypedNode) (h hx : Head) (m mx : Mark) (ts : List Typ
     marked h m (typed_nodes ts) ≡ t →
     marked hx mx us ≡ x → slice_get ts i ≡ Some x → mx.meaning ≡ (mark_of (kid_from_front i t)).meaning
 meaning-found t x h hx m mx ts us i e f g =
-    ap (λ y. (mark_of y).meaning) f ∙ sym (ap (λ y. (mark_of y).meaning) (kid-found ts i x g)) ∙ ap (λ y. (mark_of (kid_from_front i y)).meaning) e
+    ap (λ y. (mark_of y).meaning) f ∙ sym (ap (λ y. (mark_of y).meaning) (kid-found ts i x g)) ∙ ap
+    (λ y. (mark_of (kid_from_front i y)).meaning) e
 
 pub meaning-missing : (t : TypedNode) (h : Head) (m : Mark) (ts : List TypedNode) (i : ℕ) → marked h m (typed_nodes ts) ≡ t →
     length ts ≤ i →
     (mark_of missing).meaning ≡ (mark_of (kid_from_front i t)).meaning
-meaning-missing t h m ts i e l = sym (ap (λ y. (mark_of y).meaning) (kid-missing ts i l)) ∙ ap (λ y. (mark_of (kid_from_front i y)).meaning) e
+meaning-missing t h m ts i e l = sym (ap (λ y. (mark_of y).meaning) (kid-missing ts i l)) ∙ ap (λ y. (mark_of (kid_from_front i y)).meaning)
+    e
 
 -- ---- kids from the end
 

@@ -57,19 +57,22 @@ le_number-cons c b cs all r e h g =
     ∙ fused (bytes_of cs)
     ∙ ap (option_map (λ n. b + 256 * n)) (sym g)
   where
-    fused : (x : Option (List ℕ)) → option_map le_number (option_map (λ bs. b ∷ bs) x) ≡ option_map (λ n. b + 256 * n) (option_map le_number x)
+    fused : (x : Option (List ℕ)) → option_map le_number (option_map (λ bs. b ∷ bs) x) ≡
+        option_map (λ n. b + 256 * n) (option_map le_number x)
     fused None = refl
     fused (Some bs) = refl
 
 -- ---- the cells of a number
 
 -- one more byte is written
-pub one_byte_more : (cs new : List Cell) (n k v b : ℕ) → k < n → n ≤ 8 → cs ≡ byte_cells (take k (le_bytes n v)) → slice_get (le_bytes 8 v) k ≡ Some b →
+pub one_byte_more : (cs new : List Cell) (n k v b : ℕ) → k < n → n ≤ 8 → cs ≡ byte_cells (take k (le_bytes n v)) →
+    slice_get (le_bytes 8 v) k ≡ Some b →
     new ≡ cs ++ cell.Byte b ∷ [] → new ≡ byte_cells (take (k + 1) (le_bytes n v))
 one_byte_more cs new n k v b h few e f g =
     let eight : slice_get (le_bytes 8 v) k ≡ Some (v / 256 ^ k % 256) = slice_get-le_bytes 8 v k (omega arith) in
     let found : slice_get (le_bytes n v) k ≡ Some b = slice_get-le_bytes n v k h ∙ sym eight ∙ f in
-    g ∙ ap (λ xs. xs ++ cell.Byte b ∷ []) e ∙ sym (map_push cell.Byte (take k (le_bytes n v)) b) ∙ sym (ap byte_cells (take-get (le_bytes n v) k b found))
+    g ∙ ap (λ xs. xs ++ cell.Byte b ∷ []) e ∙ sym (map_push cell.Byte (take k (le_bytes n v)) b) ∙ sym
+    (ap byte_cells (take-get (le_bytes n v) k b found))
 
 pub all_bytes : (cs : List Cell) (n k v : ℕ) → n ≤ k → cs ≡ byte_cells (take k (le_bytes n v)) → cs ≡ byte_cells (le_bytes n v)
 all_bytes cs n k v h e =
@@ -77,10 +80,12 @@ all_bytes cs n k v h e =
     e ∙ ap byte_cells (take_all k (le_bytes n v) (omega arith))
 
 -- the bytes of the host's number are those of the number
-pub host_number : (w v host : ℤ) (m : ℕ) → mag w < 2 ^ 127 → w ≡ pos (residue m host) → host ≡ v → nat_abs (to_z w128 (of_z w128 w)) ≡ residue m v
+pub host_number : (w v host : ℤ) (m : ℕ) → mag w < 2 ^ 127 → w ≡ pos (residue m host) → host ≡ v →
+    nat_abs (to_z w128 (of_z w128 w)) ≡ residue m v
 host_number w v host m h e f = ap nat_abs (kept w h ∙ e) ∙ ap (residue m) f
 
-pub given_cells : (s : Store) (f : Ty) (t : ℕ) (v : ℤ) (shape : Shape) (bytes n : ℕ) (cs : List Cell) → f ≡ ty.Of t → Some (shape_of shape) ≡ shape_at s t →
+pub given_cells : (s : Store) (f : Ty) (t : ℕ) (v : ℤ) (shape : Shape) (bytes n : ℕ) (cs : List Cell) → f ≡ ty.Of t →
+    Some (shape_of shape) ≡ shape_at s t →
     bytes ≡ width (shape_of shape) → n ≡ residue (2 ^ (8 * bytes)) v → cs ≡ byte_cells (le_bytes bytes n) → cs ≡ number_cells s f v
 given_cells s f t v shape bytes n cs e g w r h =
     h

@@ -89,7 +89,8 @@ remainder_fits x y h = let l = mag_rem x y in omega (arith, whole_fits x h)
 -- ---- what the host computes
 
 -- the low bits of a product of two numbers that are not negative
-pub product_cut : (t : IntType) (a b : ℕ) → IsWidth t.bits → spec.cut (int_of t) (to_z w128 (a * b % (1 * 2 ^ t.bits % 2 ^ 128))) ≡ spec.cut (int_of t) (pos (a * b))
+pub product_cut : (t : IntType) (a b : ℕ) → IsWidth t.bits →
+    spec.cut (int_of t) (to_z w128 (a * b % (1 * 2 ^ t.bits % 2 ^ 128))) ≡ spec.cut (int_of t) (pos (a * b))
 product_cut t a b w =
     let power : 2 ^ t.bits ≤ 2 ^ 64 = pow-le-pow_right (omega arith) w.few in
     let some : 1 ≤ 2 ^ t.bits = one-le-pow t.bits 2 (omega arith) in
@@ -119,7 +120,8 @@ abbrev cut_of : IntType → Answer ℤ → Answer ℤ
 cut_of t a = a then λ v. Gives (spec.cut (int_of t) v)
 
 pub quotient_given : (t : IntType) (x y : ℤ) → (of_z w128 y ≡ 0 → ⊥) → IsWhole x → IsWhole y →
-    Gives (spec.cut (int_of t) (to_z w128 (of_z w128 (int_div (to_z w128 (of_z w128 x)) (to_z w128 (of_z w128 y)))))) ≡ spec.arithmetic spec.Divide (int_of t) x y
+    Gives (spec.cut (int_of t) (to_z w128 (of_z w128 (int_div (to_z w128 (of_z w128 x)) (to_z w128 (of_z w128 y)))))) ≡
+    spec.arithmetic spec.Divide (int_of t) x y
 quotient_given t x y z h k =
     let host : to_z w128 (of_z w128 (int_div (to_z w128 (of_z w128 x)) (to_z w128 (of_z w128 y)))) ≡ int_div x y =
     ap (λ v. to_z w128 (of_z w128 (int_div v (to_z w128 (of_z w128 y))))) (whole-kept x h)
@@ -128,7 +130,8 @@ quotient_given t x y z h k =
     ap (λ v. Gives (spec.cut (int_of t) v)) host ∙ ap (λ b. cut_of t (divided_if b (int_div x y))) (sym (not_zero y z))
 
 pub remainder_given : (t : IntType) (x y : ℤ) → (of_z w128 y ≡ 0 → ⊥) → IsWhole x → IsWhole y →
-    Gives (spec.cut (int_of t) (to_z w128 (of_z w128 (int_rem (to_z w128 (of_z w128 x)) (to_z w128 (of_z w128 y)))))) ≡ spec.arithmetic spec.Remainder (int_of t) x y
+    Gives (spec.cut (int_of t) (to_z w128 (of_z w128 (int_rem (to_z w128 (of_z w128 x)) (to_z w128 (of_z w128 y)))))) ≡
+    spec.arithmetic spec.Remainder (int_of t) x y
 remainder_given t x y z h k =
     let host : to_z w128 (of_z w128 (int_rem (to_z w128 (of_z w128 x)) (to_z w128 (of_z w128 y)))) ≡ int_rem x y =
     ap (λ v. to_z w128 (of_z w128 (int_rem v (to_z w128 (of_z w128 y))))) (whole-kept x h)
@@ -139,4 +142,5 @@ remainder_given t x y z h k =
 pub left_given : (t : IntType) (w : Shift) (x amount host : ℤ) (n : ℕ) → w ≡ way.Left → host ≡ amount → n ≡ residue t.bits host →
     spec.cut (int_of t) (x *ℤ pos (2 ^ n)) ≡ spec.shifted (shift_of w) (int_of t) x amount
 left_given t w x amount host n e f d =
-    ap (λ k. spec.cut (int_of t) (x *ℤ pos (2 ^ k))) (d ∙ ap (residue t.bits) f) ∙ ap (λ v. spec.shifted (shift_of v) (int_of t) x amount) (sym e)
+    ap (λ k. spec.cut (int_of t) (x *ℤ pos (2 ^ k))) (d ∙ ap (residue t.bits) f) ∙ ap (λ v. spec.shifted (shift_of v) (int_of t) x amount)
+    (sym e)

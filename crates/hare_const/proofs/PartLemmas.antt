@@ -59,7 +59,8 @@ fields_more s f t i n p done more all h e g w =
     ∙ ap (λ k. done ++ fields_from s f (suc i) k t) left
     ∙ e
 
-pub fields_all : (s : Store) (f : Ty) (t : TypedNode) (i n : ℕ) (done all : List ℕ) → n ≤ i → done ++ fields_from s f (suc i) (n - i) t ≡ all →
+pub fields_all : (s : Store) (f : Ty) (t : TypedNode) (i n : ℕ) (done all : List ℕ) → n ≤ i →
+    done ++ fields_from s f (suc i) (n - i) t ≡ all →
     done ≡ all
 fields_all s f t i n done all h e =
     let left : 0 ≡ n - i = omega arith in
@@ -76,7 +77,8 @@ length_fields s f t i (suc n) = omega (arith, length_fields s f t (suc i) n)
 -- ---- names
 
 -- the number of a name is where it stands
-pub name_at : (s : Store) → IsStore s → (text : List ℕ) (n : ℕ) → slice_get s.names n ≡ Some text → position (bytes_eq text) s.names ≡ Some n
+pub name_at : (s : Store) → IsStore s → (text : List ℕ) (n : ℕ) → slice_get s.names n ≡ Some text →
+    position (bytes_eq text) s.names ≡ Some n
 name_at s v text n h = by (position (bytes_eq text) s.names) refl
   where
     by : (o : Option ℕ) → position (bytes_eq text) s.names ≡ o → position (bytes_eq text) s.names ≡ Some n
@@ -85,7 +87,8 @@ name_at s v text n h = by (position (bytes_eq text) s.names) refl
         absurd (nowhere (ap (λ l. slice_get l n) (map-id s.names) ∙ h))
     by (Some i) e =
         let found : slice_get s.names i ≡ Some text =
-        ap (λ l. slice_get l i) (sym (map-id s.names)) ∙ position_found (λ q. q) text (bytes_eq text) (bytes_eq-Decides text) s.names i (sym e) in
+        ap (λ l. slice_get l i) (sym (map-id s.names)) ∙ position_found (λ q. q) text (bytes_eq text) (bytes_eq-Decides text) s.names i
+        (sym e) in
         e ∙ ap Some (v.names_once.once i n text found h)
 
 pub name_nowhere : (s : Store) (text : List ℕ) → ((n : ℕ) → slice_get s.names n ≢ Some text) → position (bytes_eq text) s.names ≡ None
@@ -94,11 +97,13 @@ name_nowhere s text h = by (position (bytes_eq text) s.names) refl
     by : (o : Option ℕ) → position (bytes_eq text) s.names ≡ o → position (bytes_eq text) s.names ≡ None
     by None e = e
     by (Some i) e =
-        absurd (h i (ap (λ l. slice_get l i) (sym (map-id s.names)) ∙ position_found (λ q. q) text (bytes_eq text) (bytes_eq-Decides text) s.names i (sym e)))
+        absurd (h i (ap (λ l. slice_get l i) (sym (map-id s.names)) ∙ position_found (λ q. q) text (bytes_eq text) (bytes_eq-Decides text)
+        s.names i (sym e)))
 
 -- ---- the node within an offset
 
-pub kid_there : (t x : TypedNode) (h : Head) (m : Mark) (ts : List TypedNode) (i : ℕ) → marked h m (typed_nodes ts) ≡ t → slice_get ts i ≡ Some x →
+pub kid_there : (t x : TypedNode) (h : Head) (m : Mark) (ts : List TypedNode) (i : ℕ) → marked h m (typed_nodes ts) ≡ t →
+    slice_get ts i ≡ Some x →
     x ≡ kid_from_front i t
 kid_there t x h m ts i e g = sym (kid-found ts i x g) ∙ ap (kid_from_front i) e
 
@@ -173,14 +178,16 @@ placed_more s f size ns from os i start whole new c l h e o w v =
           l.rest
           ∙ ap (λ j. kids_at (from + i) j os (λ cs. Known (with_parts s f (drop i ns) cs (filled size whole)))) left
           ∙ ap (λ ms. kids_at (from + i) (suc k) os (λ cs. Known (with_parts s f ms cs (filled size whole)))) front
-          ∙ ap (λ x. on_cells x (λ d. kids_at (suc (from + i)) k os λ cs. Known (with_parts s f tail cs (with_cells (offset_in s f p) d (filled size whole))))) e
+          ∙ ap (λ x. on_cells x (λ d. kids_at (suc (from + i)) k os λ cs. Known
+          (with_parts s f tail cs (with_cells (offset_in s f p) d (filled size whole))))) e
           ∙ ap (λ x. kids_at (suc (from + i)) k os λ cs. Known (with_parts s f tail cs x)) put
           ∙ ap (λ j. kids_at j k os λ cs. Known (with_parts s f tail cs (filled size new))) next
           ∙ ap (λ j. kids_at (from + (i + 1)) k os λ cs. Known (with_parts s f (drop j ns) cs (filled size new))) same;
     }
 
 -- a part that has no value
-pub placed_stopped : (s : Store) (f : Ty) (size : ℕ) (ns : List ℕ) (from : ℕ) (os : List Outcome) (i : ℕ) (whole : List Cell) (o : Outcome) →
+pub placed_stopped : (s : Store) (f : Ty) (size : ℕ) (ns : List ℕ) (from : ℕ) (os : List Outcome) (i : ℕ) (whole : List Cell)
+    (o : Outcome) →
     Placed s f size ns from os i whole → i < length ns → kid_at (from + i) os ≡ o → ((g : List Cell → Outcome) → on_cells o g ≡ o) →
     o ≡ WithParts s f ns from os
 placed_stopped s f size ns from os i whole o l h e stop =

@@ -52,6 +52,15 @@ pub is_value : (s : Store) (t : ℕ) (cs : List Cell) (n : Option ℤ) → n ≡
 is_value s t cs None e h = absurd cc
 is_value s t cs (Some v) e h = value-known (shape_at s t) cs v (sym e)
 
+-- cells that spell a scalar of the type's shape are a value of it
+pub spelled_value : (s : Store) (t : ℕ) (cs : List Cell) (shape : Shape) → shape_at s t ≡ Some shape → IsSome (spelled shape cs) →
+    Gives cs ≡ checked s t cs
+spelled_value s t cs shape e h = by (spelled shape cs) refl h
+  where
+    by : (o : Option Scalar) → spelled shape cs ≡ o → IsSome o → Gives cs ≡ checked s t cs
+    by None f k = absurd cc
+    by (Some x) f k = sym (ap (λ o. checked_by o cs) e ∙ ap (λ o. or_undefined 3 o then λ y. Gives cs) f)
+
 pub no_scalar : (s : Store) (t : ℕ) (cs : List Cell) → shape_at s t ≡ None → Gives cs ≡ checked s t cs
 no_scalar s t cs e = sym (ap (λ o. checked_by o cs) e)
 
@@ -105,7 +114,8 @@ next_of (c ∷ cs) zero x e = let same : c ≡ x = cc in ap (λ y. y ∷ cs) sam
 next_of (c ∷ cs) (suc i) x e = next_of cs i x e
 
 pub part_more : (cs part more : List Cell) (at i n : ℕ) (x : Cell) → i < n → slice_get cs (at + i) ≡ Some x → more ≡ part ++ x ∷ [] →
-    part ++ take (n - i) (drop i (drop at cs)) ≡ take n (drop at cs) → more ++ take (n - (i + 1)) (drop (i + 1) (drop at cs)) ≡ take n (drop at cs)
+    part ++ take (n - i) (drop i (drop at cs)) ≡ take n (drop at cs) →
+    more ++ take (n - (i + 1)) (drop (i + 1) (drop at cs)) ≡ take n (drop at cs)
 part_more cs part more at i n x h e f g =
     let ds = drop at cs in
     let here : slice_get ds i ≡ Some x = sym (cell_at cs at i (at + i) refl) ∙ e in
@@ -133,7 +143,8 @@ part_whole cs part at i n count left h e f g =
 
 -- ---- members by their tags
 
-module _ (s : Store) (v : IsStore s) (n : ℕ) (ms : List ℕ) (k m : ℕ) (h : k < length ms) (e : m ≡ get_or ms k m) (w : m < length s.rows) where
+module _ (s : Store) (v : IsStore s) (n : ℕ) (ms : List ℕ) (k m : ℕ) (h : k < length ms) (e : m ≡ get_or ms k m)
+    (w : m < length s.rows) where
   abbrev has : ℕ → Bool
   has = has_tag (tagged_by_id s) n
 

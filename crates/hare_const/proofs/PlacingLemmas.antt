@@ -30,7 +30,8 @@ past_first (suc k) (n ∷ ns) (c ∷ cs) e = past_first k ns cs e
 
 pub within_part : (at place : ℕ) (x : Cell) (ns cs : List Cell) → at ≤ place → slice_get ns (place - at) ≡ Some x → place < length cs →
     slice_get (with_cells at ns cs) place ≡ Some x
-within_part zero place x ns cs l e h = let same : place - 0 ≡ place = omega arith in first_part place x ns cs (ap (slice_get ns) (sym same) ∙ e) h
+within_part zero place x ns cs l e h =
+    let same : place - 0 ≡ place = omega arith in first_part place x ns cs (ap (slice_get ns) (sym same) ∙ e) h
 within_part (suc at) zero x ns cs l e h = absurd (omega arith)
 within_part (suc at) (suc place) x ns [] l e h = absurd (omega arith)
 within_part (suc at) (suc place) x ns (c ∷ cs) l e h =
@@ -79,7 +80,8 @@ copied_past cs out i e f =
     let next : suc i ≡ i + 1 = omega arith in
     e ∙ sym (take_past cs i f) ∙ ap (λ k. take k cs) next
 
-pub copied_all : (at n i : ℕ) (ns cs out : List Cell) → out ≡ take i (with_cells at ns cs) → n ≡ length cs → n ≤ i → out ≡ with_cells at ns cs
+pub copied_all : (at n i : ℕ) (ns cs out : List Cell) → out ≡ take i (with_cells at ns cs) → n ≡ length cs → n ≤ i →
+    out ≡ with_cells at ns cs
 copied_all at n i ns cs out e f h = e ∙ take_all i (with_cells at ns cs) (omega (arith, parts_keep_length at ns cs))
 
 -- ---- behind what is known
@@ -102,7 +104,8 @@ filled_whole n cs e =
     append-nil [] = refl
     append-nil (x ∷ xs) = ap (λ ys. x ∷ ys) (append-nil xs)
 
-pub replaced_within : (at n : ℕ) (ns cs whole more : List Cell) → length cs ≤ n → whole ≡ filled n cs → more ≡ with_cells at ns whole → length more ≡ n
+pub replaced_within : (at n : ℕ) (ns cs whole more : List Cell) → length cs ≤ n → whole ≡ filled n cs → more ≡ with_cells at ns whole →
+    length more ≡ n
 replaced_within at n ns cs whole more h e f =
     ap length f ∙ parts_keep_length at ns whole ∙ ap length e ∙ length_filled n cs h
 
@@ -127,13 +130,15 @@ pub behind_filled : (at n : ℕ) (ns cs more : List Cell) → length cs ≤ at �
 behind_filled at n ns cs more h l e =
     let rest : ℕ = n - (at + length ns) in
     let long : length more ≡ at + length ns = ap length e ∙ length_behind at ns cs h in
-    let split : undefined_cells (n - length cs) ≡ undefined_cells (at - length cs) ++ (undefined_cells (length ns) ++ undefined_cells rest) =
+    let split : undefined_cells (n - length cs) ≡
+    undefined_cells (at - length cs) ++ (undefined_cells (length ns) ++ undefined_cells rest) =
     apart (at - length cs) (length ns + rest) (n - length cs) (omega arith)
     ∙ ap (λ xs. undefined_cells (at - length cs) ++ xs) (apart (length ns) rest (length ns + rest) refl) in
     let before : List Cell = cs ++ undefined_cells (at - length cs) in
     ap (λ k. more ++ undefined_cells (n - k)) long
     ∙ ap (λ xs. xs ++ undefined_cells rest) e
     ∙ append_assoc before ns (undefined_cells rest)
-    ∙ sym (with_later at ns before (undefined_cells (length ns)) (undefined_cells rest) (length_filled at cs h) (length-replicate (length ns) cell.Undef))
+    ∙ sym (with_later at ns before (undefined_cells (length ns)) (undefined_cells rest) (length_filled at cs h)
+    (length-replicate (length ns) cell.Undef))
     ∙ ap (with_cells at ns) (append_assoc cs (undefined_cells (at - length cs)) (undefined_cells (length ns) ++ undefined_cells rest))
     ∙ ap (λ xs. with_cells at ns (cs ++ xs)) (sym split)

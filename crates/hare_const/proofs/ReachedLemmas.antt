@@ -63,9 +63,11 @@ insert_put n (m ∷ ms) = by (insert_put n ms) (cases_order n m)
   where
     by : insert_key nat_cmp ms n ≡ put n ms → (n ≡ m) ⊎ ((n < m) ⊎ (m < n)) → insert_key nat_cmp (m ∷ ms) n ≡ put n (m ∷ ms)
     by ih (inl e) =
-        ap (λ r. match_ordering r (n ∷ m ∷ ms) (m ∷ ms) (m ∷ insert_key nat_cmp ms n)) (sym (nat_cmp_is n m Equal e)) ∙ sym (put-at n m ms (sym e))
+        ap (λ r. match_ordering r (n ∷ m ∷ ms) (m ∷ ms) (m ∷ insert_key nat_cmp ms n)) (sym (nat_cmp_is n m Equal e)) ∙ sym
+        (put-at n m ms (sym e))
     by ih (inr (inl l)) =
-        ap (λ r. match_ordering r (n ∷ m ∷ ms) (m ∷ ms) (m ∷ insert_key nat_cmp ms n)) (sym (nat_cmp_is n m Less l)) ∙ sym (put-before n m ms l)
+        ap (λ r. match_ordering r (n ∷ m ∷ ms) (m ∷ ms) (m ∷ insert_key nat_cmp ms n)) (sym (nat_cmp_is n m Less l)) ∙ sym
+        (put-before n m ms l)
     by ih (inr (inr l)) =
         ap (λ r. match_ordering r (n ∷ m ∷ ms) (m ∷ ms) (m ∷ insert_key nat_cmp ms n)) (sym (nat_cmp_is n m Greater l))
         ∙ ap (λ xs. m ∷ xs) ih ∙ sym (put-behind n m ms l)
@@ -75,7 +77,8 @@ put_each [] ys v = refl
 put_each (x ∷ xs) ys v = put_each xs ys _
 
 -- a number that is new
-pub met_numbers : (keys order new more : List ℕ) (n : ℕ) → keys ≡ ascending order → new ≡ insert_key nat_cmp keys n → more ≡ order ++ n ∷ [] →
+pub met_numbers : (keys order new more : List ℕ) (n : ℕ) → keys ≡ ascending order → new ≡ insert_key nat_cmp keys n →
+    more ≡ order ++ n ∷ [] →
     new ≡ ascending more
 met_numbers keys order new more n e f g =
     f ∙ insert_put n keys ∙ ap (put n) e ∙ sym (put_each order (n ∷ []) []) ∙ sym (ap ascending g)
@@ -94,7 +97,8 @@ pub adds_nothing : (order : List ℕ) → Adds [] order order
 adds_nothing order = adds_none [] order (λ n h. absurd (none_in n h))
 
 -- one that was met before
-pub adds_again : (s : BTreeSet ℕ) (order : List ℕ) (n : ℕ) → s.keys ≡ ascending order → contains nat_cmp s n ≡ true → Adds (n ∷ []) order order
+pub adds_again : (s : BTreeSet ℕ) (order : List ℕ) (n : ℕ) → s.keys ≡ ascending order → contains nat_cmp s n ≡ true →
+    Adds (n ∷ []) order order
 adds_again s order n e h = adds_none (n ∷ []) order (λ m k. subst (λ x. Contains order x) (same_in n m k) here)
   where
     here : Contains order n
@@ -284,7 +288,8 @@ module _ (find : ℕ → Option (List Cell)) where
     none_more : slice_get order i ≡ None → Adds [] order new → Reaches cs (i + 1) new
     none_more e p = record {
       start = λ n h. kept [] p n (r.start n h);
-      closed = λ n h m k. kept [] p m (r.closed n (subst (λ l. Contains l n) (sym (take_all i order (past order i e))) (old n (taken_in (i + 1) new n h))) m k);
+      closed = λ n h m k. kept [] p m (r.closed n
+          (subst (λ l. Contains l n) (sym (take_all i order (past order i e))) (old n (taken_in (i + 1) new n h))) m k);
       reach = λ n h. still n (old n h);
     }
       where
@@ -311,7 +316,8 @@ module _ (find : ℕ → Option (List Cell)) where
         closed_by n m (inl g) k = kept (leads (cells_by find x)) p m (r.closed n g m k)
         closed_by n m (inr g) k = p.all m (subst (λ y. Contains (leads (cells_by find y)) m) (sym (same_in x n g)) k)
 
-        reach_by : (n : ℕ) → Contains order n ⊎ Contains (leads (cells_by find x)) n → Contains (reached_by find (i + 1) (ascending (leads cs))) n
+        reach_by : (n : ℕ) → Contains order n ⊎ Contains (leads (cells_by find x)) n →
+            Contains (reached_by find (i + 1) (ascending (leads cs))) n
         reach_by n (inl g) = still n g
         reach_by n (inr g) =
             later n (put_new (led all) all n (Ascends-reached i (ascending (leads cs)) (sorted_start cs))

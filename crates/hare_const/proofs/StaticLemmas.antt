@@ -68,7 +68,8 @@ held_found (o ∷ os) n = by (nat_eq n o.0) (held_found os n)
   where
     by : (b : Bool) → cells_of_named os n ≡ cells_by (cells_found (held os)) n →
         cells_named (cond b (Some o.1) (lookup (nat_eq n) os))
-        ≡ unwrap_or (option_map (λ x. x.cells) (cond b (Some (constant_object o.1.cells)) (lookup (nat_eq n) (listed_objects (held os))))) []
+        ≡ unwrap_or (option_map (λ x. x.cells) (cond b (Some (constant_object o.1.cells)) (lookup (nat_eq n) (listed_objects (held os)))))
+        []
     by true rest = refl
     by false rest = rest
 
@@ -94,7 +95,8 @@ held_listed [] = refl
 held_listed (o ∷ os) = ap (λ l. o ∷ l) (held_listed os)
 
 pub statics_parts : (own : ℕ) (t : TypedNode) →
-    (held (text_object (scope_in own) t (own_kind t)) ++ held (objects_of (mark_of t).value)) ++ statics_in_each own (kids_of t) ≡ statics_in own t
+    (held (text_object (scope_in own) t (own_kind t)) ++ held (objects_of (mark_of t).value)) ++ statics_in_each own (kids_of t) ≡
+    statics_in own t
 statics_parts own (marked h m ts) =
     let text = text_object (scope_in own) (marked h m ts) h.kind in
     sym (held-append (text ++ objects_of m.value) (statics_of_each (scope_in own) ts)
@@ -170,7 +172,8 @@ at_same n q = by (cases_order n q)
     by (inr (inr l)) = ap is_eq (sym (nat_cmp_is n q Greater l)) ∙ sym (grind (arith, nat_tests))
 
 pub tables_more : (whole os rest : List ConstObject) (o : ConstObject) (m new : BTreeMap ℕ (List Cell)) → os ≡ rest ++ o ∷ [] →
-    ((q : ℕ) → get nat_cmp new q ≡ cond (is_at (nat_cmp o.object) q) (Some o.cells) (get nat_cmp m q)) → Tables whole os m → Tables whole rest new
+    ((q : ℕ) → get nat_cmp new q ≡ cond (is_at (nat_cmp o.object) q) (Some o.cells) (get nat_cmp m q)) → Tables whole os m →
+    Tables whole rest new
 tables_more whole os rest o m new e f h n =
     ap (found_or rest n) (f n ∙ ap (λ b. cond b (Some o.cells) (get nat_cmp m n)) (at_same o.object n))
     ∙ sym (or_last rest o n (get nat_cmp m n)) ∙ ap (λ l. found_or l n (get nat_cmp m n)) (sym e) ∙ h n
@@ -179,7 +182,8 @@ none_left : (os : List ConstObject) → (0 < length os → IsSome {T = ConstObje
 none_left [] h = refl
 none_left (o ∷ os) h = let none : IsSome {T = ConstObject} None = h (omega arith) in absurd cc
 
-pub tables_all : (whole os : List ConstObject) (m : BTreeMap ℕ (List Cell)) → (0 < length os → IsSome {T = ConstObject} None) → Tables whole os m →
+pub tables_all : (whole os : List ConstObject) (m : BTreeMap ℕ (List Cell)) → (0 < length os → IsSome {T = ConstObject} None) →
+    Tables whole os m →
     (n : ℕ) → get nat_cmp m n ≡ cells_found whole n
 tables_all whole os m e h n = ap (λ l. found_or l n (get nat_cmp m n)) (sym (none_left os e)) ∙ h n
 
@@ -204,7 +208,8 @@ from_objects os (Value ds, st) cs m e =
 from_objects os (_, st) cs m e = absurd cc
 
 -- the constant with these cells
-pub folded_known : (s : Store) → IsStore s → (own : ℕ) (t : TypedNode) (cs : List Cell) → IsSettled s t → cells_in (folded s own t) ≡ Some cs →
+pub folded_known : (s : Store) → IsStore s → (own : ℕ) (t : TypedNode) (cs : List Cell) → IsSettled s t →
+    cells_in (folded s own t) ≡ Some cs →
     folded s own t ≡ constant.Known cs (objects_led_to (objects_in (tagged_by_id s) own t) cs)
 folded_known s v own t cs p e = by (inconstant s own t) refl e
   where

@@ -57,7 +57,13 @@ pub tagged_later : (s : Store) → IsStore s → IsLater s (tagged_by_id s)
 tagged_later s v =
     let e : Extends s s = Extends-refl s in
     record {
-      grows = record { names = e.names; rows = e.rows; listed = (counted_from 0 (length s.rows), refl); sized = e.sized; defined = e.defined };
+      grows = record {
+        names = e.names;
+        rows = e.rows;
+        listed = (counted_from 0 (length s.rows), refl);
+        sized = e.sized;
+        defined = e.defined;
+      };
       sound = tagged_store s v;
     }
 
@@ -151,7 +157,8 @@ module _ (s : Store) (v : IsStore s) (own : ℕ) (t : TypedNode) (p : IsSettled 
   refused_same =
       sym (first_same s there v (tagged_later s v) (aborts s own) (aborts s own) t p.bases (λ u q k. refl) p.simple)
       ∙ inconstant_same there own t (plain_from there t tagged_settled.simple)
-      ∙ first_same s there v (tagged_later s v) (λ u. is_aborted (tree_value there own u)) (λ u. is_aborted (tree_value there own u)) t p.bases
+      ∙ first_same s there v (tagged_later s v) (λ u. is_aborted (tree_value there own u)) (λ u. is_aborted (tree_value there own u)) t
+      p.bases
       (λ u q k. refl) p.simple
 
   -- where no node is refused, each is constant
@@ -161,7 +168,8 @@ module _ (s : Store) (v : IsStore s) (own : ℕ) (t : TypedNode) (p : IsSettled 
       (first_same s there v (tagged_later s v) (aborts s own) (aborts s own) t p.bases (λ u q k. refl) p.simple ∙ e)
 
   -- and the constant has the cells of the tree's value
-  pub folded_cells : first_refused s own t ≡ None → (inconstant s own t ≡ None) × (cells_in (folded s own t) ≡ cells_of (tree_value there own t))
+  pub folded_cells : first_refused s own t ≡ None → (inconstant s own t ≡ None) ×
+      (cells_in (folded s own t) ≡ cells_of (tree_value there own t))
   folded_cells e =
       let none : inconstant s own t ≡ None = refused_same ∙ e in (
         none,

@@ -24,7 +24,8 @@ again-one zero = refl
 again-one (suc n) = ap (λ cs. cell.Undef ∷ cs) (again-one n)
 
 -- one that is put behind cells and repeated
-pub more_undefined : (cs one : List Cell) (n : ℕ) → 0 < n → one ≡ cs ++ cell.Undef ∷ [] → one ++ again (n - 1) (drop (length cs) one) ≡ cs ++ undefined_cells n
+pub more_undefined : (cs one : List Cell) (n : ℕ) → 0 < n → one ≡ cs ++ cell.Undef ∷ [] →
+    one ++ again (n - 1) (drop (length cs) one) ≡ cs ++ undefined_cells n
 more_undefined cs one n h e =
     let part : drop (length cs) one ≡ cell.Undef ∷ [] = ap (drop (length cs)) e ∙ drop_at cs (cell.Undef ∷ []) (length cs) refl in
     let count : suc (n - 1) ≡ n = omega arith in
@@ -42,7 +43,8 @@ with_first [] (y ∷ ys) zs e = absurd (omega arith)
 with_first (n ∷ ns) [] zs e = absurd (omega arith)
 with_first (n ∷ ns) (y ∷ ys) zs e = ap (λ xs. n ∷ xs) (with_first ns ys zs (omega arith))
 
-pub with_later : (at : ℕ) (ns xs ys zs : List Cell) → length xs ≡ at → length ys ≡ length ns → with_cells at ns (xs ++ (ys ++ zs)) ≡ xs ++ (ns ++ zs)
+pub with_later : (at : ℕ) (ns xs ys zs : List Cell) → length xs ≡ at → length ys ≡ length ns →
+    with_cells at ns (xs ++ (ys ++ zs)) ≡ xs ++ (ns ++ zs)
 with_later zero ns [] ys zs e f = with_first ns ys zs f
 with_later zero ns (x ∷ xs) ys zs e f = absurd (omega arith)
 with_later (suc at) ns [] ys zs e f = absurd (omega arith)
@@ -52,13 +54,15 @@ with_later (suc at) ns (x ∷ xs) ys zs e f = ap (λ cs. x ∷ cs) (with_later a
 pub apart : (m k n : ℕ) → m + k ≡ n → undefined_cells n ≡ undefined_cells m ++ undefined_cells k
 apart m k n e = ap undefined_cells (sym e) ∙ sym (replicate-append-replicate m k cell.Undef)
 
-payload_put : (cs : List Cell) (p n : ℕ) → p + length cs ≤ n → with_cells p cs (undefined_cells n) ≡ undefined_cells p ++ (cs ++ undefined_cells (n - p - length cs))
+payload_put : (cs : List Cell) (p n : ℕ) → p + length cs ≤ n →
+    with_cells p cs (undefined_cells n) ≡ undefined_cells p ++ (cs ++ undefined_cells (n - p - length cs))
 payload_put cs p n h =
     let rest : ℕ = n - p - length cs in
     let whole : undefined_cells n ≡ undefined_cells p ++ (undefined_cells (length cs) ++ undefined_cells rest) =
     apart p (length cs + rest) n (omega arith) ∙ ap (λ xs. undefined_cells p ++ xs) (apart (length cs) rest (length cs + rest) refl) in
     ap (with_cells p cs) whole
-    ∙ with_later p cs (undefined_cells p) (undefined_cells (length cs)) (undefined_cells rest) (length-replicate p cell.Undef) (length-replicate (length cs) cell.Undef)
+    ∙ with_later p cs (undefined_cells p) (undefined_cells (length cs)) (undefined_cells rest) (length-replicate p cell.Undef)
+    (length-replicate (length cs) cell.Undef)
 
 -- a tag, and a payload behind it
 pub tag_and_payload : (tag cs : List Cell) (p n : ℕ) → length tag ≡ 4 → 4 ≤ p → p + length cs ≤ n →
@@ -95,7 +99,8 @@ pub record UnionBuilt (s : Store) (u m : ℕ) (cs tagged padded joined : List Ce
   pub last : joined ≡ padded ++ cs
   pub long : l ≡ length cs
 
-pub union_given : (s : Store) (u m : ℕ) (cs tagged padded joined : List Cell) (tag p n l : ℕ) → UnionBuilt s u m cs tagged padded joined tag p n l →
+pub union_given : (s : Store) (u m : ℕ) (cs tagged padded joined : List Cell) (tag p n l : ℕ) →
+    UnionBuilt s u m cs tagged padded joined tag p n l →
     joined ++ undefined_cells (n - p - l) ≡ union_cells s u m cs
 union_given s u m cs tagged padded joined tag p n l b =
     let bytes : List Cell = byte_cells (le_bytes 4 tag) in
@@ -104,7 +109,8 @@ union_given s u m cs tagged padded joined tag p n l b =
     let room : p + length cs ≤ n = subst (λ k. p + length cs ≤ k) b.size (subst (λ k. k + length cs ≤ size_at s u) start b.within) in
     let cells_are : joined ≡ (bytes ++ undefined_cells (p - 4)) ++ cs =
     b.last ∙ ap (λ xs. xs ++ cs) b.next ∙ ap (λ xs. (xs ++ undefined_cells (p - 4)) ++ cs) b.first in
-    let tag_is : cells tag_shape (Number (pos (tag_of s m))) ≡ bytes = ap (λ k. cells tag_shape (Number (pos k))) b.named ∙ tag_cells tag b.short in
+    let tag_is : cells tag_shape (Number (pos (tag_of s m))) ≡ bytes =
+    ap (λ k. cells tag_shape (Number (pos k))) b.named ∙ tag_cells tag b.short in
     ap (λ k. joined ++ undefined_cells (n - p - k)) b.long
     ∙ ap (λ xs. xs ++ undefined_cells (n - p - length cs)) cells_are
     ∙ sym (tag_and_payload bytes cs p n (length_tag tag) behind room)

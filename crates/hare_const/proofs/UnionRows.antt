@@ -19,14 +19,16 @@ use Rattle.hare_const.specs.declared.outcome.Outcome.TheVariants.{Known}
 use Rattle.hare_const.specs.NodeValues.{tree_value}
 use Rattle.hare_const.specs.Made.{made_by}
 
--- 0 is int, 1 str, 2 void, 3 (int | str), 4 nullable *int, 5 (void | nullable *int), 6 [2]int, 7 []int, 8 (void | []int), 9 (int | str | void), and
+-- 0 is int, 1 str, 2 void, 3 (int | str), 4 nullable *int, 5 (void | nullable *int), 6 [2]int, 7 []int, 8 (void | []int), 9 (int | str |
+-- void), and
 -- 10 struct { x: (int | str), y: int }
 abbrev types : Store
 types =
     record {
       names = (120 ∷ []) ∷ (121 ∷ []) ∷ [];
       rows =
-          row.Scalar word.Int ∷ row.Scalar word.Str ∷ row.Scalar word.Void ∷ row.Union (0 ∷ 1 ∷ []) ∷ row.Nullable 0 ∷ row.Union (2 ∷ 4 ∷ []) ∷ row.Array 2 0
+          row.Scalar word.Int ∷ row.Scalar word.Str ∷ row.Scalar word.Void ∷ row.Union (0 ∷ 1 ∷ []) ∷ row.Nullable 0 ∷ row.Union
+          (2 ∷ 4 ∷ []) ∷ row.Array 2 0
           ∷ row.Slice 0 ∷ row.Union (2 ∷ 7 ∷ []) ∷ row.Union (0 ∷ 1 ∷ 2 ∷ [])
           ∷ row.Struct (record { name = 0; ty = 3 } ∷ record { name = 1; ty = 0 } ∷ []) ∷ [];
       declared = [];
@@ -56,12 +58,14 @@ a_number = refl
 
 -- a string leads to its object
 a_string : tree_value (tagged_by_id types) 0 (node kind.Str (97 ∷ []) 0 (ty.Of 1) 9 (ty.Of 3) constant.Absent typed_none)
-    ≡ Known (byte_cells (2 ∷ 0 ∷ 0 ∷ 0 ∷ []) ++ undefined_cells 4 ++ fragments (2 ^ 32 + 3) 0 0 8 ++ byte_cells (1 ∷ 0 ∷ 0 ∷ 0 ∷ 0 ∷ 0 ∷ 0 ∷ 0 ∷ [])
+    ≡ Known (byte_cells (2 ∷ 0 ∷ 0 ∷ 0 ∷ []) ++ undefined_cells 4 ++ fragments (2 ^ 32 + 3) 0 0 8 ++ byte_cells
+    (1 ∷ 0 ∷ 0 ∷ 0 ∷ 0 ∷ 0 ∷ 0 ∷ 0 ∷ [])
     ++ byte_cells (1 ∷ 0 ∷ 0 ∷ 0 ∷ 0 ∷ 0 ∷ 0 ∷ 0 ∷ []))
 a_string = refl
 
 -- of `void` there is the tag alone
-a_void : tree_value (tagged_by_id types) 0 (node kind.Cast [] 0 (ty.Of 2) 9 (ty.Of 5) constant.Absent (typed_more (node kind.Void [] 0 (ty.Of 2) 1 (ty.Of 2) constant.Absent typed_none) typed_none))
+a_void : tree_value (tagged_by_id types) 0 (node kind.Cast [] 0 (ty.Of 2) 9 (ty.Of 5) constant.Absent
+    (typed_more (node kind.Void [] 0 (ty.Of 2) 1 (ty.Of 2) constant.Absent typed_none) typed_none))
     ≡ Known (byte_cells (3 ∷ 0 ∷ 0 ∷ 0 ∷ []) ++ undefined_cells 12)
 a_void = refl
 
@@ -71,18 +75,23 @@ a_null = refl
 
 -- an array that becomes a slice has its object also where the slice is a member
 abbrev items : TypedNode
-items = node kind.Array [] 0 (ty.Of 6) 9 (ty.Of 8) constant.Absent (typed_more (number 7 3 0) (typed_more (number 9 3 0) (typed_more (node kind.Void [] 0 (ty.Of 2) 1 (ty.Of 2) constant.Absent typed_none) last)))
+items = node kind.Array [] 0 (ty.Of 6) 9 (ty.Of 8) constant.Absent
+    (typed_more (number 7 3 0) (typed_more (number 9 3 0)
+    (typed_more (node kind.Void [] 0 (ty.Of 2) 1 (ty.Of 2) constant.Absent typed_none) last)))
 
 an_array : tree_value (tagged_by_id types) 0 items
-    ≡ Known (byte_cells (8 ∷ 0 ∷ 0 ∷ 0 ∷ []) ++ undefined_cells 4 ++ fragments (2 ^ 32 + 3) 0 0 8 ++ byte_cells (2 ∷ 0 ∷ 0 ∷ 0 ∷ 0 ∷ 0 ∷ 0 ∷ 0 ∷ [])
+    ≡ Known (byte_cells (8 ∷ 0 ∷ 0 ∷ 0 ∷ []) ++ undefined_cells 4 ++ fragments (2 ^ 32 + 3) 0 0 8 ++ byte_cells
+    (2 ∷ 0 ∷ 0 ∷ 0 ∷ 0 ∷ 0 ∷ 0 ∷ 0 ∷ [])
     ++ byte_cells (2 ∷ 0 ∷ 0 ∷ 0 ∷ 0 ∷ 0 ∷ 0 ∷ 0 ∷ []))
 an_array = refl
 
-its_object : made_by (tagged_by_id types) 0 items ≡ record { object = 2 ^ 32 + 3; cells = byte_cells (7 ∷ 0 ∷ 0 ∷ 0 ∷ 9 ∷ 0 ∷ 0 ∷ 0 ∷ []) } ∷ []
+its_object : made_by (tagged_by_id types) 0 items ≡
+    record { object = 2 ^ 32 + 3; cells = byte_cells (7 ∷ 0 ∷ 0 ∷ 0 ∷ 9 ∷ 0 ∷ 0 ∷ 0 ∷ []) } ∷ []
 its_object = refl
 
 -- a value of a union keeps its member in a wider one
-a_wider_union : tree_value (tagged_by_id types) 0 (node kind.Path [] 0 (ty.Of 3) 9 (ty.Of 9) (constant.Known five []) typed_none) ≡ Known five
+a_wider_union : tree_value (tagged_by_id types) 0 (node kind.Path [] 0 (ty.Of 3) 9 (ty.Of 9) (constant.Known five []) typed_none) ≡
+    Known five
 a_wider_union = refl
 
 -- a field of a union stands among the others

@@ -43,7 +43,8 @@ negative = refl
 below : cells (between kind.Less 2 (codes "<") 1 (number 1 2 0) (number 3 3 0)) ≡ Some (byte_cells (1 ∷ []))
 below = refl
 
-left_alone : cells (between kind.Logic 2 (codes "&&") 1 (plain kind.Bool 1 (codes "false") 0 1 []) (plain kind.Bool 3 (codes "true") 0 1 []))
+left_alone : cells (between kind.Logic 2 (codes "&&") 1 (plain kind.Bool 1 (codes "false") 0 1 [])
+    (plain kind.Bool 3 (codes "true") 0 1 []))
     ≡ Some (byte_cells (0 ∷ []))
 left_alone = refl
 
@@ -69,7 +70,8 @@ null_is_zero = refl
 
 -- that of a string has the number of its node in declaration 6
 of_a_string : cells (plain kind.Str 5 (codes "ab") 0 2 [])
-    ≡ Some (fragments (7 * 2 ^ 32 + 5) 0 0 8 ++ byte_cells (2 ∷ 0 ∷ 0 ∷ 0 ∷ 0 ∷ 0 ∷ 0 ∷ 0 ∷ []) ++ byte_cells (2 ∷ 0 ∷ 0 ∷ 0 ∷ 0 ∷ 0 ∷ 0 ∷ 0 ∷ []))
+    ≡ Some (fragments (7 * 2 ^ 32 + 5) 0 0 8 ++ byte_cells (2 ∷ 0 ∷ 0 ∷ 0 ∷ 0 ∷ 0 ∷ 0 ∷ 0 ∷ []) ++ byte_cells
+    (2 ∷ 0 ∷ 0 ∷ 0 ∷ 0 ∷ 0 ∷ 0 ∷ 0 ∷ []))
 of_a_string = refl
 
 -- the length of a text is among its cells
@@ -90,7 +92,8 @@ length_of_a_text_def : cells (plain kind.Len 1 [] 0 4 (path_to 2 3 2 text ∷ []
 length_of_a_text_def = refl
 
 -- a def of such a length is the length of an array
-counts_items : length_of types (path_to 1 3 4 (folded types 6 (plain kind.Len 1 [] 0 4 (plain kind.Str 5 (codes "abc") 0 2 [] ∷ [])))) ≡ Some 3
+counts_items : length_of types (path_to 1 3 4 (folded types 6 (plain kind.Len 1 [] 0 4 (plain kind.Str 5 (codes "abc") 0 2 [] ∷ [])))) ≡
+    Some 3
 counts_items = refl
 
 -- ---- no constants
@@ -99,7 +102,8 @@ by_zero : refused_at (between kind.Arith 2 (codes "/") 0 (number 1 1 0) (number 
 by_zero = refl
 
 -- a node within is told before the one round it
-within_first : refused_at (between kind.Arith 4 (codes "/") 0 (between kind.Arith 2 (codes "%") 0 (number 1 1 0) (number 3 0 0)) (number 5 0 0)) ≡ Some 2
+within_first : refused_at (between kind.Arith 4 (codes "/") 0 (between kind.Arith 2 (codes "%") 0 (number 1 1 0) (number 3 0 0))
+    (number 5 0 0)) ≡ Some 2
 within_first = refl
 
 -- also where it would not run

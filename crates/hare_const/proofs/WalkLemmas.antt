@@ -49,7 +49,8 @@ unless_evaluated false o e = refl
 
 pub type-empty : (s : Store) (own : ℕ) (t : TypedNode) → true ≡ is_type (own_kind t) → Known [] ≡ tree_value (tagged_by_id s) own t
 type-empty s own (marked h m ts) e =
-    unless_evaluated (is_evaluated h.kind) (on_cells (own_value (tagged_by_id s) own (marked h m ts) (kid_values (tagged_by_id s) own ts)) (coerced_value (tagged_by_id s) own (marked h m ts)))
+    unless_evaluated (is_evaluated h.kind) (on_cells (own_value (tagged_by_id s) own (marked h m ts) (kid_values (tagged_by_id s) own ts))
+    (coerced_value (tagged_by_id s) own (marked h m ts)))
     (type-idle h.kind (sym e))
 
 -- the root is asked last
@@ -77,7 +78,8 @@ pub node-passed : (s : Store) (own : ℕ) (t : TypedNode) → false ≡ is_type 
     is_constant_node s t ≡ true → is_aborted (tree_value (tagged_by_id s) own t) ≡ false → first_refused s own t ≡ None
 node-passed s own (marked h m ts) e k c a =
     unless_type (is_type h.kind) (Asked s own h m ts) None (sym e)
-    (both-none _ _ k (ask-last (is_constant s h.kind m ts) (is_aborted (tree_value (tagged_by_id s) own (marked h m ts))) (marked h m ts) c a))
+    (both-none _ _ k (ask-last (is_constant s h.kind m ts) (is_aborted (tree_value (tagged_by_id s) own (marked h m ts))) (marked h m ts) c
+    a))
 
 pub node-refused : (s : Store) (own : ℕ) (t : TypedNode) → false ≡ is_type (own_kind t) → kids_asked s own t ≡ None →
     (is_constant_node s t && not (is_aborted (tree_value (tagged_by_id s) own t))) ≡ false → first_refused s own t ≡ Some t
@@ -120,7 +122,8 @@ seen-value s own (marked h m ts) os e = ap (node_value (tagged_by_id s) own (mar
 -- ---- refusals
 
 pub refuse-node : (s : Store) (own : ℕ) (t : TypedNode) (os : List Outcome) (e : Stop Fault) → false ≡ is_type (own_kind t) →
-    kids_asked s own t ≡ None → node_value (tagged_by_id s) own t os ≡ tree_value (tagged_by_id s) own t → RefusesNode s own t os e → Refuses (first_refused s own t) e
+    kids_asked s own t ≡ None → node_value (tagged_by_id s) own t os ≡ tree_value (tagged_by_id s) own t → RefusesNode s own t os e →
+    Refuses (first_refused s own t) e
 refuse-node s own t os (stop.Fault f) g k v r = (
   t,
   node-refused s own t g k (subst (λ o. (is_constant_node s t && not (is_aborted o)) ≡ false) v r.1),
@@ -137,7 +140,8 @@ refuse-kids s own t stop.Memory g h r = tt
 
 -- those up to one that is refused
 kid-first : (s : Store) (own : ℕ) (ts : List TypedNode) (i : ℕ) (x u : TypedNode) → slice_get ts i ≡ Some x →
-    first_refused_of s own (typed_nodes (take i ts)) ≡ None → first_refused s own x ≡ Some u → first_refused_of s own (typed_nodes ts) ≡ Some u
+    first_refused_of s own (typed_nodes (take i ts)) ≡ None → first_refused s own x ≡ Some u →
+    first_refused_of s own (typed_nodes ts) ≡ Some u
 kid-first s own [] i x u e p r = absurd cc
 kid-first s own (t ∷ ts) zero x u e p r =
     let f : t ≡ x = cc in
@@ -147,7 +151,8 @@ kid-first s own (t ∷ ts) (suc i) x u e p r =
     subst (λ o. or_else o (first_refused_of s own (typed_nodes ts)) ≡ Some u) (sym q.0) (kid-first s own ts i x u e q.1 r)
 
 pub refuse-kid : (s : Store) (own : ℕ) (ts : List TypedNode) (i : ℕ) (x : TypedNode) (e : Stop Fault) → slice_get ts i ≡ Some x →
-    first_refused_of s own (typed_nodes (take i ts)) ≡ None → Refuses (first_refused s own x) e → Refuses (first_refused_of s own (typed_nodes ts)) e
+    first_refused_of s own (typed_nodes (take i ts)) ≡ None → Refuses (first_refused s own x) e →
+    Refuses (first_refused_of s own (typed_nodes ts)) e
 refuse-kid s own ts i x (stop.Fault f) g p r = (r.0, kid-first s own ts i x r.0 g p r.1, r.2)
 refuse-kid s own ts i x stop.Memory g p r = tt
 
@@ -159,7 +164,8 @@ none-push s own (u ∷ us) x p r =
     both-none _ _ q.0 (none-push s own us x q.1 r)
 
 values-push : (s : Store) (own : ℕ) (us : List TypedNode) (x : TypedNode) →
-    kid_values (tagged_by_id s) own (typed_nodes (us ++ x ∷ [])) ≡ kid_values (tagged_by_id s) own (typed_nodes us) ++ tree_value (tagged_by_id s) own x ∷ []
+    kid_values (tagged_by_id s) own (typed_nodes (us ++ x ∷ [])) ≡
+    kid_values (tagged_by_id s) own (typed_nodes us) ++ tree_value (tagged_by_id s) own x ∷ []
 values-push s own [] x = refl
 values-push s own (u ∷ us) x = ap (λ os. tree_value (tagged_by_id s) own u ∷ os) (values-push s own us x)
 
@@ -169,7 +175,8 @@ pub record Valued (s : Store) (own : ℕ) (ts : List TypedNode) (i : ℕ) (os : 
   pub passed : first_refused_of s own (typed_nodes (take i ts)) ≡ None
 
 pub valued-more : (s : Store) (own : ℕ) (ts : List TypedNode) (i : ℕ) (x : TypedNode) (os new : List Outcome) (o : Outcome) →
-    Valued s own ts i os → slice_get ts i ≡ Some x → o ≡ tree_value (tagged_by_id s) own x → first_refused s own x ≡ None → new ≡ os ++ o ∷ [] →
+    Valued s own ts i os → slice_get ts i ≡ Some x → o ≡ tree_value (tagged_by_id s) own x → first_refused s own x ≡ None →
+    new ≡ os ++ o ∷ [] →
     Valued s own ts (i + 1) new
 valued-more s own ts i x os new o v e f p w =
     let g = take-get ts i x e in
@@ -183,8 +190,11 @@ valued-more s own ts i x os new o v e f p w =
 pub valued-all : (s : Store) (own : ℕ) (ts : List TypedNode) (i : ℕ) (os : List Outcome) → Valued s own ts i os → length ts ≤ i →
     (os ≡ kid_values (tagged_by_id s) own (typed_nodes ts)) × (first_refused_of s own (typed_nodes ts) ≡ None)
 valued-all s own ts i os v l =
-    let g = take_all i ts l in
-    (v.values ∙ ap (λ x. kid_values (tagged_by_id s) own (typed_nodes x)) g, sym (ap (λ x. first_refused_of s own (typed_nodes x)) g) ∙ v.passed)
+    let g = take_all i ts l in (
+      v.values ∙ ap (λ x. kid_values (tagged_by_id s) own (typed_nodes x)) g,
+      sym (ap (λ x. first_refused_of s own (typed_nodes x)) g) ∙
+          v.passed,
+    )
 
 -- ---- conditions
 
@@ -202,7 +212,8 @@ settled-each : (s : Store) (ts : TypedNodes) → AreSimple s ts → HaveBases s 
 settled-each s typed_none p b = tt
 settled-each s (typed_more t ts) p b = (record { simple = p.0; bases = b.0 }, settled-each s ts p.1 b.1)
 
-pub settled-kids : (s : Store) (t : TypedNode) (h : Head) (m : Mark) (ts : List TypedNode) → marked h m (typed_nodes ts) ≡ t → IsSettled s t →
+pub settled-kids : (s : Store) (t : TypedNode) (h : Head) (m : Mark) (ts : List TypedNode) → marked h m (typed_nodes ts) ≡ t →
+    IsSettled s t →
     AreSettled s (typed_nodes ts)
 settled-kids s t h m ts e p =
     let q = subst (IsSettled s) (sym e) p in

@@ -1,5 +1,5 @@
--- When constants cover a type: each value of the type is one of them. A type whose values have no least and no greatest, as `str`, is covered by
--- none.
+-- When constants cover a type: each value of the type is one of them. A type whose values have no least and no greatest, as `str`, is
+-- covered by none.
 use Rattle.std.specs.Prelude.{ℕ, List}
 use Rattle.std.specs.List.Sorted.{IsSorted}
 use Rattle.std.specs.Ordering.{int_cmp}

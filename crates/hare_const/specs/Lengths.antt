@@ -45,7 +45,8 @@ length_by s kind.Number t = if is_length_suffix (head_of t).suffix then Some (he
 length_by s kind.Path t = constant_length s t
 length_by s _ t = None
 
--- The length that the node is: a literal without a suffix or with that of size, or the name of a def of integer base, with a value from 0 to
+-- The length that the node is: a literal without a suffix or with that of size, or the name of a def of integer base, with a value from 0
+-- to
 -- 67,108,864.
 abbrev pub length_of : Store → TypedNode → Option ℕ
 length_of s t = option_and_then unless_long (length_by s (own_kind t) t)

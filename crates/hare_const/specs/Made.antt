@@ -1,4 +1,5 @@
--- The objects that the evaluation of a tree makes where it comes to cells: one for each array that becomes a slice, in the order of evaluation.
+-- The objects that the evaluation of a tree makes where it comes to cells: one for each array that becomes a slice, in the order of
+-- evaluation.
 use Rattle.std.specs.Prelude.{ℕ, suc, Bool, false, nat_lt, nat_le, ◌==◌, ◌&&◌, ◌||◌, List, [], ◌∷◌, ◌++◌, if◌then◌else◌}
 use Rattle.hare_tree.specs.declared.kind.Kind.{Kind}
 use Rattle.hare_tree.specs.declared.kind.Kind.TheVariants as kind

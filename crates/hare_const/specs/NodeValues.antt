@@ -1,5 +1,5 @@
--- The value of a typed tree, where no program runs and no object is looked at: each kind of which constants are made gives it from the values of
--- its kids.
+-- The value of a typed tree, where no program runs and no object is looked at: each kind of which constants are made gives it from the
+-- values of its kids.
 use Rattle.std.specs.List.{All}
 use Rattle.std.specs.Prelude.{◌≡◌, ◌<◌, ℕ, zero, suc, ◌+◌, ◌-◌, ◌*◌, ◌^◌, pos, ℤ, Bool, true, false, not, ◌&&◌, bytes_eq, codes, List, [], ◌∷◌, ◌++◌, length, Option, Some, None, is_some, option_and_then, if◌then◌else◌}
 use Rattle.hare_tree.specs.declared.kind.Kind.{Kind}
@@ -134,7 +134,8 @@ denial a = bool_cells (not (truth a))
 abbrev pub logic_value : TypedNode → List Cell → Outcome → Outcome
 logic_value t a right =
     let op = logic_of (head_of t).text in
-    if leaves_open op (truth a) then (on_cells right λ b. Known (bool_cells (logic op (truth a) (truth b)))) else Known (bool_cells (truth a))
+    if leaves_open op (truth a) then (on_cells right λ b. Known (bool_cells (logic op (truth a) (truth b)))) else Known
+    (bool_cells (truth a))
 
 -- whether the base of a type is an integer type or rune
 abbrev pub is_whole_type : Store → Ty → Bool
@@ -361,7 +362,8 @@ AskedKind s t kind.StructLit = HasParts s (own_type t) (fields_given s t)
 AskedKind s t kind.Offset = HasParts s (type_with_offset s t) (part_with_offset s t ∷ [])
 AskedKind s t _ = Unit {0}
 
--- The tree compares no texts; its types are those of the store, and of the unions to which its values go all is known of which these are made.
+-- The tree compares no texts; its types are those of the store, and of the unions to which its values go all is known of which these are
+-- made.
 abbrev mutual
   pub IsSimple : Store → TypedNode → Type 0
   IsSimple s (marked h m ts) =
@@ -400,7 +402,8 @@ is_constant_node s t = is_constant s (own_kind t) (mark_of t) (kids_of t)
 
 -- the fault is that the node itself is no constant, where its kids have these values
 abbrev pub RefusesNode : Store → (own : ℕ) → TypedNode → List Outcome → Stop Fault → Type 0
-RefusesNode s own t os (stop.Fault f) = (f ≡ not_constant t) × ((is_constant_node s t && not (is_aborted (node_value (tagged_by_id s) own t os))) ≡ false)
+RefusesNode s own t os (stop.Fault f) = (f ≡ not_constant t) ×
+    ((is_constant_node s t && not (is_aborted (node_value (tagged_by_id s) own t os))) ≡ false)
 RefusesNode s own t os stop.Memory = Unit {0}
 
 -- ---- constants

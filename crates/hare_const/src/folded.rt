@@ -51,11 +51,10 @@ fn cells_and_objects(
 /// constant or whose evaluation would abort, also where it would not run. `None` where the evaluation meets an undefined act, which it does in no tree
 /// that was checked.
 ///
-/// The condition is the one that `is_settled` tests: each node has what its rules ask for, no node is an equality of texts, and of the types all is
-/// known of which values are made. In a union the tag of a type is one more than its id. Each node is evaluated once, and the call goes as deep in the
-/// host as the tree is. The parts of a tuple take the memory of their own
-/// cells, and so do the fields of a struct that are written in the order of its type; where a field is written behind a later one, each cell that is
-/// known by then is copied once more.
+/// Nothing is asked of the tree: where it tells too little, which `is_settled` tests, the answer is want of memory, as that of `constant` is. In a union
+/// the tag of a type is one more than its id. Each node is evaluated once, and the call goes as deep in the host as the tree is. The parts of a tuple
+/// take the memory of their own cells, and so do the fields of a struct that are written in the order of its type; where a field is written behind a
+/// later one, each cell that is known by then is copied once more.
 pub fn constant_cells(
     alloc: Global,
     s: &TypeStore,
@@ -63,10 +62,12 @@ pub fn constant_cells(
     t: &Typed,
 ) -> Result<Option<Cells>, Stop<Fault>>
     requires own { own < 2 ^ 32 - 1 }
-    requires settled { IsSettled s.now t.now }
     ensures ok { IfOk result (λ cells. (inconstant s.now own t.now ≡ None) × (spec.cells_in (folded s.now own t.now) ≡ cells)) }
     ensures err { IfErr result (spec.Refuses (inconstant s.now own t.now)) }
 {
+    if !is_settled(s, t) {
+        return Err(Stop::Memory);
+    }
     let mut made = ConstObjects::new(alloc);
     cells_and_objects(alloc, s, own, t, &mut made)
 }

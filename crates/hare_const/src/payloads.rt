@@ -13,9 +13,10 @@ ghost use Rattle.hare_const.specs.Joined.{IsToldUnion, HasToldUnion};
 ghost use Rattle.hare_const.specs.Sizes.{Fits};
 
 use crate::number::{little_endian, number_at};
-use crate::shape::{base_row, shape_at};
+use crate::shape::{Shape, base_row, shape_at};
 use crate::sizes::size_of;
 use crate::unions::{payload_of, union_cells};
+use crate::words::{is_nullable, is_reference};
 use hare_typed::{Cell, Cells};
 use hare_types::{Row, Ty, TypeId, TypeStore};
 use std::alloc::{AllocError, Global};
@@ -63,11 +64,16 @@ fn cells_within(alloc: Global, cells: &Cells, at: usize, count: usize) -> Result
     Ok(part)
 }
 
-/// Whether cells are a value of a type: where this is an integer type, a rune, a bool or void, they spell one. Of pointers it is not told.
+/// Whether cells are a value of a type: where this is scalar, they spell one.
 fn is_value(s: &TypeStore, t: TypeId, cells: &Cells) -> bool
     ensures { result ≡ true → Gives cells.now ≡ unions.checked s.now t cells.now }
 {
-    shape_at(s, t).is_none() || number_at(s, t, cells).is_some()
+    match shape_at(s, t) {
+        Some(Shape::Whole(_, _) | Shape::Truth) => number_at(s, t, cells).is_some(),
+        Some(Shape::Reference) => is_reference(cells),
+        Some(Shape::Nullable) => is_nullable(cells),
+        None => true,
+    }
 }
 
 /// The members of the union to which a type comes.
@@ -115,8 +121,7 @@ fn payload_cells(
     Ok(part)
 }
 
-/// A value of a union as one of a wider union: it keeps its member. Where its cells are none of such a value, the answer is want of memory; so it is
-/// where the member is a pointer.
+/// A value of a union as one of a wider union: it keeps its member. Where its cells are none of such a value, the answer is want of memory.
 pub(crate) fn wider_cells(
     alloc: Global,
     s: &TypeStore,

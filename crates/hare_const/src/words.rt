@@ -1,10 +1,10 @@
-//! What the words of a text say.
+//! What words say: pointers, and the three words of a text.
 
 ghost use Rattle.std.specs.Prelude.{◌≡◌, ◌+◌, ◌≤◌, length, true, is_some, IsSome, IfSome};
 ghost use Rattle.hare_typed.specs.Answers.{Gives, ◌then◌};
 ghost use Rattle.hare_typed.specs.Cells as cells_of;
 ghost use Rattle.hare_typed.specs.Cells.{cells_within};
-ghost use Rattle.hare_typed.specs.Scalars.{Nullable, spelled};
+ghost use Rattle.hare_typed.specs.Scalars.{Nullable, Reference, spelled};
 ghost use Rattle.hare_typed.specs.Words as spec;
 
 use crate::number::little_endian;
@@ -31,6 +31,20 @@ fn are_fragments(object: u64, offset: u64, place: u32, cells: &[Cell]) -> bool
     }
 }
 
+/// Whether the cells of a word are a pointer that is not null.
+fn is_address(word: &[Cell]) -> bool
+    requires { length word.now ≡ 8 }
+    ensures { result ≡ is_some (spelled Reference word.now) }
+{
+    let Some((first, _)) = word.split_first() else {
+        return false;
+    };
+    match *first {
+        Cell::Fragment(object, offset, _) => are_fragments(object, offset, 0, word),
+        Cell::Byte(_) | Cell::Undef => false,
+    }
+}
+
 /// Whether the cells of a word are a pointer, null or not.
 fn is_pointer(word: &[Cell]) -> bool
     requires { length word.now ≡ 8 }
@@ -46,6 +60,22 @@ fn is_pointer(word: &[Cell]) -> bool
             None => false,
         },
     }
+}
+
+/// Whether a value is a pointer that is not null.
+pub(crate) fn is_reference(cells: &Cells) -> bool
+    ensures { result ≡ true → IsSome (spelled Reference cells.now) }
+{
+    let mut word = [Cell::Undef; WORD];
+    cells.len() == WORD && cells.read(0, &mut word) && is_address(&word)
+}
+
+/// Whether a value is a pointer, null or not.
+pub(crate) fn is_nullable(cells: &Cells) -> bool
+    ensures { result ≡ true → IsSome (spelled Nullable cells.now) }
+{
+    let mut word = [Cell::Undef; WORD];
+    cells.len() == WORD && cells.read(0, &mut word) && is_pointer(&word)
 }
 
 /// The number that the cells of a word are.

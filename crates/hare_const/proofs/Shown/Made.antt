@@ -115,12 +115,14 @@ module _ (ks : Kids) (less : Tasks) where
 
   pub makes_values : (own : ℕ) (os : List Outcome) (ms : List (List ConstObject)) (sc : Scope) → sc.own ≡ own →
       ((i : ℕ) → Shows own (ks.kid i AsValue) (kid_at i os)) → ((i : ℕ) → MakesThese own (ks.kid i AsValue) (made_at i ms)) →
-      (i n : ℕ) (k : List (List Cell) → Act) (new : List ConstObject) → ((css : List (List Cell)) → AreKnown i n os css → Makes (k css) new) →
+      (i n : ℕ) (k : List (List Cell) → Act) (new : List ConstObject) →
+      ((css : List (List Cell)) → AreKnown i n os css → Makes (k css) new) →
       Makes (values i n sc k) (made_each i n ms ++ new)
   makes_values own os ms sc e v m i zero k new h = h [] (λ f. refl)
   makes_values own os ms sc e v m i (suc n) k new h =
       makes_as (values i (suc n) sc k) _ _ (sym (append_assoc (made_at i ms) (made_each (suc i) n ms) new))
-      (makes_value own i sc (λ c. values (suc i) n sc λ cs. k (c ∷ cs)) (kid_at i os) (made_at i ms) (made_each (suc i) n ms ++ new) e (v i) (m i)
+      (makes_value own i sc (λ c. values (suc i) n sc λ cs. k (c ∷ cs)) (kid_at i os) (made_at i ms) (made_each (suc i) n ms ++ new) e (v i)
+      (m i)
       (λ c known. makes_values own os ms sc e v m (suc i) n (λ cs. k (c ∷ cs)) new
       (λ css rest. h (c ∷ css) (λ f.
       ap (λ o. on_cells o λ d. kids_at (suc i) n os λ ds. f (d ∷ ds)) known ∙ rest (λ ds. f (c ∷ ds))))))
@@ -251,7 +253,8 @@ module _ (s : Store) (own : ℕ) (ks : Kids) (less : Tasks) where
     pub shown : (i : ℕ) → Shows own (ks.kid i AsValue) (kid_at i os)
     pub made : (i : ℕ) → MakesThese own (ks.kid i AsValue) (made_at i ms)
 
-  module _ (os : List Outcome) (ms : List (List ConstObject)) (v : KidsMake os ms) (sc : Scope) (e : sc.own ≡ own) (new : List ConstObject) where
+  module _ (os : List Outcome) (ms : List (List ConstObject)) (v : KidsMake os ms) (sc : Scope) (e : sc.own ≡ own)
+      (new : List ConstObject) where
     -- behind the value of one kid
     made_one : (k : List Cell → Act) → ((a : List Cell) → kid_at 0 os ≡ Known a → Makes ks less (k a) new) →
         Makes ks less (value 0 sc k) (made_at 0 ms ++ new)
@@ -263,12 +266,14 @@ module _ (s : Store) (own : ℕ) (ks : Kids) (less : Tasks) where
         Makes ks less (value 0 sc λ a. value 1 sc λ b. k a b) ((made_at 0 ms ++ made_at 1 ms) ++ new)
     made_two k h =
         makes_as ks less (value 0 sc λ a. value 1 sc λ b. k a b) _ _ (sym (append_assoc (made_at 0 ms) (made_at 1 ms) new))
-        (makes_value ks less own 0 sc (λ a. value 1 sc λ b. k a b) (kid_at 0 os) (made_at 0 ms) (made_at 1 ms ++ new) e (v.shown 0) (v.made 0)
+        (makes_value ks less own 0 sc (λ a. value 1 sc λ b. k a b) (kid_at 0 os) (made_at 0 ms) (made_at 1 ms ++ new) e (v.shown 0)
+        (v.made 0)
         (λ a f. makes_value ks less own 1 sc (λ b. k a b) (kid_at 1 os) (made_at 1 ms) new e (v.shown 1) (v.made 1)
         (λ b g. h a b f g)))
 
     -- behind those of so many
-    made_many : (i n : ℕ) (k : List (List Cell) → Act) → ((css : List (List Cell)) → AreKnown ks less i n os css → Makes ks less (k css) new) →
+    made_many : (i n : ℕ) (k : List (List Cell) → Act) →
+        ((css : List (List Cell)) → AreKnown ks less i n os css → Makes ks less (k css) new) →
         Makes ks less (values i n sc k) (made_each i n ms ++ new)
     made_many i n k h = makes_values ks less own os ms sc e v.shown v.made i n k new h
 
@@ -278,7 +283,8 @@ module _ (s : Store) (own : ℕ) (ks : Kids) (less : Tasks) where
     one_kid t k h = makes_as ks less (value 0 sc k) _ _ (ap (λ l. l ++ new) (sym (taken_one t (kid_at 0 os) ms))) (made_one k h)
 
     two_kids : (t : TypedNode) (x : Kind) (k : List Cell → List Cell → Act) →
-        ((a b : List Cell) → operator_value s t x TwoKids (kid_at 0 os) (kid_at 1 os) ≡ binary_value s t x a b → Makes ks less (k a b) new) →
+        ((a b : List Cell) → operator_value s t x TwoKids (kid_at 0 os) (kid_at 1 os) ≡ binary_value s t x a b →
+        Makes ks less (k a b) new) →
         Makes ks less (value 0 sc λ a. value 1 sc λ b. k a b) (made_by_kids t TwoKids os ms ++ new)
     two_kids t x k h =
         makes_as ks less (value 0 sc λ a. value 1 sc λ b. k a b) _ _ (ap (λ l. l ++ new) (sym (taken_two t (kid_at 0 os) ms)))
@@ -291,11 +297,13 @@ module _ (s : Store) (own : ℕ) (ks : Kids) (less : Tasks) where
 
     right_made : (t : TypedNode) (k : List Cell → Act) (a : List Cell) (x : Bool) →
         ((cs : List Cell) →
-        (if x then (on_cells (kid_at 1 os) λ b. Known (bool_cells (logic (logic_of (head_of t).text) (truth a) (truth b)))) else Known (bool_cells (truth a)))
+        (if x then (on_cells (kid_at 1 os) λ b. Known (bool_cells (logic (logic_of (head_of t).text) (truth a) (truth b)))) else Known
+        (bool_cells (truth a)))
         ≡ Known cs → Makes ks less (k cs) new) →
         Makes ks less (behind_left t k a x) (second_if x ms ++ new)
     right_made t k a true g =
-        makes_value ks less own 1 sc (λ b. k (bool_cells (logic (logic_of (head_of t).text) (truth a) (truth b)))) (kid_at 1 os) (made_at 1 ms) new e (v.shown 1) (v.made 1)
+        makes_value ks less own 1 sc (λ b. k (bool_cells (logic (logic_of (head_of t).text) (truth a) (truth b)))) (kid_at 1 os)
+        (made_at 1 ms) new e (v.shown 1) (v.made 1)
         (λ b f. g (bool_cells (logic (logic_of (head_of t).text) (truth a) (truth b)))
         (ap (λ o. on_cells o λ c. Known (bool_cells (logic (logic_of (head_of t).text) (truth a) (truth c)))) f))
     right_made t k a false g = g (bool_cells (truth a)) refl
@@ -308,7 +316,8 @@ module _ (s : Store) (own : ℕ) (ks : Kids) (less : Tasks) where
         makes_as ks less (constant_form (without_run s) t sc kind.Logic k) _ _
         (sym (append_assoc (made_at 0 ms) (second_if (is_open t (kid_at 0 os)) ms) new)
         ∙ ap (λ l. l ++ new) (sym (taken_open t (kid_at 0 os) ms)))
-        (makes_value ks less own 0 sc (λ a. behind_left t k a (opens a)) (kid_at 0 os) (made_at 0 ms) (second_if (is_open t (kid_at 0 os)) ms ++ new) e
+        (makes_value ks less own 0 sc (λ a. behind_left t k a (opens a)) (kid_at 0 os) (made_at 0 ms)
+        (second_if (is_open t (kid_at 0 os)) ms ++ new) e
         (v.shown 0) (v.made 0)
         (λ a f. makes_as ks less (behind_left t k a (opens a)) _ _ (ap (λ o. second_if (is_open t o) ms ++ new) (sym f))
         (right_made t k a (opens a) (λ cs g. h cs (ap (λ o. operator_value s t kind.Logic RightIfOpen o (kid_at 1 os)) f ∙ g)))))
@@ -333,7 +342,8 @@ module _ (s : Store) (own : ℕ) (ks : Kids) (less : Tasks) where
   shift_made t false v k new h = h (numbered s t v) refl
 
   length_made : (t : TypedNode) (x : Bool) (n : List Cell) (answer : Answer Words) (k : List Cell → Act) (new : List ConstObject) →
-      ((cs : List Cell) → (if x then Known n else on_answer answer λ v. Known (numbered s t (pos v.length))) ≡ Known cs → Makes ks less (k cs) new) →
+      ((cs : List Cell) → (if x then Known n else on_answer answer λ v. Known (numbered s t (pos v.length))) ≡ Known cs →
+      Makes ks less (k cs) new) →
       Makes ks less (if x then k n else (answered (without_run s) (head_of t) answer λ v. k (numbered s t (pos v.length)))) new
   length_made t true n answer k new h = h n refl
   length_made t false n answer k new h =
@@ -341,7 +351,8 @@ module _ (s : Store) (own : ℕ) (ks : Kids) (less : Tasks) where
       (λ v e. h _ (ap (λ y. on_answer y λ z. Known (numbered s t (pos z.length))) e))
 
   same_made : (t : TypedNode) (q : Equality) (a b : List Cell) (k : Bool → Act) (new : List ConstObject) → q ≡ OfNumbers →
-      Makes ks less (k (same_number (number_of_kid s t 0 a) (number_of_kid s t 1 b))) new → Makes ks less (with_equality (without_run s) t q a b k) new
+      Makes ks less (k (same_number (number_of_kid s t 0 a) (number_of_kid s t 1 b))) new →
+      Makes ks less (with_equality (without_run s) t q a b k) new
   same_made t OfNumbers a b k new e h = h
   same_made t OfPointers a b k new e h = absurd cc
   same_made t OfTexts a b k new e h = absurd cc
@@ -380,8 +391,10 @@ module _ (s : Store) (own : ℕ) (ks : Kids) (less : Tasks) where
       operator_value s t x OneKid (kid_at 0 os) (kid_at 1 os) ≡ unary_value s t x a
   unary os t x a f = ap (λ o. operator_value s t x OneKid o (kid_at 1 os)) f
 
-  module _ (os : List Outcome) (ms : List (List ConstObject)) (t : TypedNode) (sc : Scope) (e : sc.own ≡ own) (k : List Cell → Act) (new : List ConstObject) where
-    pub makes_form : (x : Kind) → ReadyToMake os ms t x → ((cs : List Cell) → kind_value s own t x os ≡ Known cs → Makes ks less (k cs) new) →
+  module _ (os : List Outcome) (ms : List (List ConstObject)) (t : TypedNode) (sc : Scope) (e : sc.own ≡ own) (k : List Cell → Act)
+      (new : List ConstObject) where
+    pub makes_form : (x : Kind) → ReadyToMake os ms t x →
+        ((cs : List Cell) → kind_value s own t x os ≡ Known cs → Makes ks less (k cs) new) →
         Makes ks less (constant_form (without_run s) t sc x k) (made_by_kids t (operands_of x) os ms ++ new)
     makes_form kind.Number v h = no_kid os ms t _ new (h _ refl)
     makes_form kind.RuneLit v h = no_kid os ms t _ new (h _ refl)
@@ -394,7 +407,8 @@ module _ (s : Store) (own : ℕ) (ks : Kids) (less : Tasks) where
     makes_form kind.Bang v h = one_kid os ms v sc e new t _ (λ a f. h _ (unary os t kind.Bang a f))
     makes_form kind.Arith v h =
         two_kids os ms v sc e new t kind.Arith _
-        (λ a b f. numbers_made t (is_iconst (own_type t)) (arith_answer (without_run s) t (number_of_kid s t 0 a) (number_of_kid s t 1 b)) k new
+        (λ a b f. numbers_made t (is_iconst (own_type t)) (arith_answer (without_run s) t (number_of_kid s t 0 a) (number_of_kid s t 1 b)) k
+        new
         (λ cs g. h cs (f ∙ g)))
     makes_form kind.Shift v h =
         two_kids os ms v sc e new t kind.Shift _
@@ -408,16 +422,19 @@ module _ (s : Store) (own : ℕ) (ks : Kids) (less : Tasks) where
     makes_form kind.Logic v h = right_if_open os ms v sc e new t k h
     makes_form kind.Cast v h = one_kid os ms v sc e new t _ (λ a f. h _ (unary os t kind.Cast a f))
     makes_form kind.StructLit v h =
-        makes_as ks less (constant_form (without_run s) t sc kind.StructLit k) _ _ (ap (λ l. l ++ new) (sym (taken_fields t (kid_at 0 os) ms)))
+        makes_as ks less (constant_form (without_run s) t sc kind.StructLit k) _ _
+        (ap (λ l. l ++ new) (sym (taken_fields t (kid_at 0 os) ms)))
         (made_many os ms v sc e new 1 (items_of kind.StructLit (kids_of t)) (λ cs. k (struct_value s t cs))
         (λ css f. h (struct_value s t css) (f (λ cs. Known (struct_value s t cs)))))
     makes_form kind.FieldValue v h = one_kid os ms v sc e new t k (λ a f. h a (unary os t kind.FieldValue a f))
     makes_form kind.Tuple v h =
-        makes_as ks less (constant_form (without_run s) t sc kind.Tuple k) _ _ (ap (λ l. l ++ new) (sym (taken_components t (kid_at 0 os) ms)))
+        makes_as ks less (constant_form (without_run s) t sc kind.Tuple k) _ _
+        (ap (λ l. l ++ new) (sym (taken_components t (kid_at 0 os) ms)))
         (made_many os ms v sc e new 0 (items_of kind.Tuple (kids_of t)) (λ cs. k (tuple_value s t cs))
         (λ css f. h (tuple_value s t css) (f (λ cs. Known (tuple_value s t cs)))))
     makes_form kind.Array v h =
-        makes_as ks less (constant_form (without_run s) t sc kind.Array k) _ _ (ap (λ l. l ++ new) (sym (taken_elements t (kid_at 0 os) ms)))
+        makes_as ks less (constant_form (without_run s) t sc kind.Array k) _ _
+        (ap (λ l. l ++ new) (sym (taken_elements t (kid_at 0 os) ms)))
         (made_many os ms v sc e new 0 (items_of kind.Array (kids_of t)) (λ cs. k (array_value s t cs))
         (λ css f. h (array_value s t css) (f (λ cs. Known (array_value s t cs)))))
     makes_form kind.Size v h = no_kid os ms t _ new (h _ refl)
@@ -425,7 +442,8 @@ module _ (s : Store) (own : ℕ) (ks : Kids) (less : Tasks) where
     makes_form kind.Offset v h = no_kid os ms t _ new (h _ refl)
     makes_form kind.Len v h =
         one_kid os ms v sc e new t _
-        (λ a f. length_made t (is_array_row (base_row s (type_of_kid 0 t))) (array_length_value s t) (words a) k new (λ cs g. h cs (unary os t kind.Len a f ∙ g)))
+        (λ a f. length_made t (is_array_row (base_row s (type_of_kid 0 t))) (array_length_value s t) (words a) k new
+        (λ cs g. h cs (unary os t kind.Len a f ∙ g)))
     makes_form kind.Addr v h =
         no_kid os ms t _ new (place_made sc _ (Address (declared_by (mark_of (kid_from_front 0 t)).meaning) 0) new e v (h _ refl))
     makes_form _ v h = no_kid os ms t _ new (h [] refl)
@@ -445,7 +463,8 @@ module _ (s : Store) (own : ℕ) (ks : Kids) (less : Tasks) where
       (if is_some x then record { object = object_number sc.own t; cells = cs } ∷ [] else [])
   from_made t sc cs None = given_made t cs
   from_made t sc cs (Some y) =
-      makes_make ks less (static_number sc t) (array_object (without_run s) y cs) (λ o. slice_over (without_run s) t (Address o 0) ending) []
+      makes_make ks less (static_number sc t) (array_object (without_run s) y cs) (λ o. slice_over (without_run s) t (Address o 0) ending)
+      []
       (given_made t (slice_of sc.own t (length_of_value s (mark_of t).ty)))
 
   coerced_made : (t : TypedNode) (sc : Scope) (cs : List Cell) → sc.own ≡ own →
@@ -461,4 +480,5 @@ module _ (s : Store) (own : ℕ) (ks : Kids) (less : Tasks) where
   makes_value_of os ms t sc x e v =
       makes_tick ks less (ticks_of_value s t) (constant_form (without_run s) t sc x (λ cs. as_coerced (without_run s) t sc cs ending)) _
       (makes_form os ms t sc e (λ cs. as_coerced (without_run s) t sc cs ending) (made_of_value s own t (kind_value s own t x os)) x v
-      (λ cs f. makes_as ks less (as_coerced (without_run s) t sc cs ending) _ _ (ap (made_of_value s own t) (sym f)) (coerced_made t sc cs e)))
+      (λ cs f. makes_as ks less (as_coerced (without_run s) t sc cs ending) _ _ (ap (made_of_value s own t) (sym f))
+      (coerced_made t sc cs e)))

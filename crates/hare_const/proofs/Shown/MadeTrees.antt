@@ -53,9 +53,11 @@ module _ (s : Store) (own : ℕ) (less : Tasks) where
   path-kept ks t sc st true q = refl
   path-kept ks t sc st false q = absurd cc
 
-  global-kept : (ks : Kids) (t : TypedNode) (sc : Scope) (st : State) (k : Kind) → is_global_path k (mark_of t) ≡ true → is_place s t ≡ true →
+  global-kept : (ks : Kids) (t : TypedNode) (sc : Scope) (st : State) (k : Kind) → is_global_path k (mark_of t) ≡ true →
+      is_place s t ≡ true →
       (act ks less (if not (is_evaluated k) then gives [] else
-      (if is_place s t then place_in_mode (without_run s) t AsPlace sc (constant_form (without_run s) t sc k) (constant_place (without_run s) t sc k)
+      (if is_place s t then place_in_mode (without_run s) t AsPlace sc (constant_form (without_run s) t sc k)
+      (constant_place (without_run s) t sc k)
       else value_in_mode (without_run s) t AsPlace sc (constant_form (without_run s) t sc k))) st).1.memory ≡ st.memory
   global-kept ks t sc st kind.Path e p = path-kept ks t sc st (is_place s t) p
   global-kept ks t sc st _ e p = absurd cc
@@ -105,7 +107,8 @@ module _ (s : Store) (own : ℕ) (less : Tasks) where
     abbrev chosen : (y x : Bool) → Act
     chosen y x =
         if not x then gives [] else
-        (if y then place_in_mode (without_run s) (marked h m ts) AsValue sc (form s own less h m ts sc) (constant_place (without_run s) (marked h m ts) sc h.kind)
+        (if y then place_in_mode (without_run s) (marked h m ts) AsValue sc (form s own less h m ts sc)
+        (constant_place (without_run s) (marked h m ts) sc h.kind)
         else value_in_mode (without_run s) (marked h m ts) AsValue sc (form s own less h m ts sc))
 
     idle-made : (x : Bool) → x ≡ false → is_evaluated h.kind ≡ x → [] ≡ those_of_kids ++ (if x then own_one else [])
@@ -114,12 +117,15 @@ module _ (s : Store) (own : ℕ) (less : Tasks) where
         sym (ap (λ o. made_by_kids (marked h m ts) o (kid_values s own ts) (made_by_each s own ts) ++ []) (idle_operands h.kind e)
         ∙ ap (λ l. l ++ []) (taken_none (marked h m ts) (kid_at 0 (kid_values s own ts)) (made_by_each s own ts)))
 
-    idle : (y x : Bool) → x ≡ false → is_evaluated h.kind ≡ x → Makes (over s own less h ts) less (chosen y x) (those_of_kids ++ (if x then own_one else []))
+    idle : (y x : Bool) → x ≡ false → is_evaluated h.kind ≡ x →
+        Makes (over s own less h ts) less (chosen y x) (those_of_kids ++ (if x then own_one else []))
     idle y true q e = absurd cc
-    idle y false q e = makes_as (over s own less h ts) less (gives []) _ _ (idle-made false q e) (makes_end (over s own less h ts) less (Value []))
+    idle y false q e = makes_as (over s own less h ts) less (gives []) _ _ (idle-made false q e)
+        (makes_end (over s own less h ts) less (Value []))
 
     placed : (y : Bool) → y ≡ false → (x : Bool) → is_evaluated h.kind ≡ x →
-        Makes (over s own less h ts) less (value_in_mode (without_run s) (marked h m ts) AsValue sc (form s own less h m ts sc)) (those_of_kids ++ own_one) →
+        Makes (over s own less h ts) less (value_in_mode (without_run s) (marked h m ts) AsValue sc (form s own less h m ts sc))
+        (those_of_kids ++ own_one) →
         Makes (over s own less h ts) less (chosen y x) (those_of_kids ++ (if x then own_one else []))
     placed true r x e v = absurd cc
     placed false r true e v = v

@@ -130,7 +130,8 @@ mutual
 -- ---- an equality that is constant and compares no texts compares numbers
 
 equality-word : (k : Keyword) → is_str_row (Some (row.Scalar k)) ≡ false →
-    (if is_str_row (Some (row.Scalar k)) then OfTexts else equality_of_shape (option_and_then shape_of_row (Some (row.Scalar k)))) ≡ OfNumbers
+    (if is_str_row (Some (row.Scalar k)) then OfTexts else equality_of_shape (option_and_then shape_of_row (Some (row.Scalar k)))) ≡
+    OfNumbers
 equality-word keyword.Str e = absurd cc
 equality-word _ e = refl
 
@@ -192,7 +193,8 @@ module _ (s : Store) (own : ℕ) (less : Tasks) where
   global-reached : (ks : Kids) (t : TypedNode) (sc : Scope) (st : State) (k : Kind) → is_global_path k (mark_of t) ≡ true →
       is_place s t ≡ true →
       (act ks less (if not (is_evaluated k) then gives [] else
-      (if is_place s t then place_in_mode (without_run s) t AsPlace sc (constant_form (without_run s) t sc k) (constant_place (without_run s) t sc k)
+      (if is_place s t then place_in_mode (without_run s) t AsPlace sc (constant_form (without_run s) t sc k)
+      (constant_place (without_run s) t sc k)
       else value_in_mode (without_run s) t AsPlace sc (constant_form (without_run s) t sc k))) st).0
       ≡ Reached (Address (declared_by (mark_of t).meaning) 0)
   global-reached ks t sc st kind.Path e p = path-reached ks t sc st (is_place s t) p e
@@ -210,7 +212,8 @@ module _ (s : Store) (own : ℕ) (less : Tasks) where
 
   -- a constant node is as its kind asks
   ready : (h : Head) (k : Kind) (m : Mark) (ts : TypedNodes) → is_constant s k m ts ≡ true → PlainKind s k ts →
-      (hides_kids k ts ≡ false → (i : ℕ) → Shows own (kid_act (constant_forms (without_run s)) less ts i AsValue) (kid_at i (kid_values s own ts))) →
+      (hides_kids k ts ≡ false → (i : ℕ) → Shows own (kid_act (constant_forms (without_run s)) less ts i AsValue)
+      (kid_at i (kid_values s own ts))) →
       Ready s own (over h ts) less (kid_values s own ts) (marked h m ts) k
   ready h kind.Addr m ts e p f = λ sc st q.
       let g = and-left (begins_with_global ts) (not (m.coerce.row == 2)) e in
@@ -240,14 +243,16 @@ module _ (s : Store) (own : ℕ) (less : Tasks) where
       placed : (y : Bool) → y ≡ false → (x : Bool) →
           Ends (over h ts) less (value_in_mode (without_run s) (marked h m ts) AsValue sc (form h m ts sc)) (result h m ts) →
           Ends (over h ts) less (if not x then gives [] else
-          (if y then place_in_mode (without_run s) (marked h m ts) AsValue sc (form h m ts sc) (constant_place (without_run s) (marked h m ts) sc h.kind)
+          (if y then place_in_mode (without_run s) (marked h m ts) AsValue sc (form h m ts sc)
+          (constant_place (without_run s) (marked h m ts) sc h.kind)
           else value_in_mode (without_run s) (marked h m ts) AsValue sc (form h m ts sc))) (if x then result h m ts else Known [])
       placed true r x v = absurd cc
       placed false r true v = v
       placed false r false v = λ st. refl
 
       idle : (x : Bool) → x ≡ false → Ends (over h ts) less (if not x then gives [] else
-          (if is_place s (marked h m ts) then place_in_mode (without_run s) (marked h m ts) AsValue sc (form h m ts sc) (constant_place (without_run s) (marked h m ts) sc h.kind)
+          (if is_place s (marked h m ts) then place_in_mode (without_run s) (marked h m ts) AsValue sc (form h m ts sc)
+          (constant_place (without_run s) (marked h m ts) sc h.kind)
           else value_in_mode (without_run s) (marked h m ts) AsValue sc (form h m ts sc))) (if x then result h m ts else Known [])
       idle true r = absurd cc
       idle false r = λ st. refl
@@ -362,7 +367,8 @@ mutual
           (if-none (is_type h.kind) (asked s (λ u. false) h m ts)
           (both-none _ _ (none-hidden (hides_kids h.kind ts) _ (first_inconstant_of s (λ u. false) ts) n (constant-each s (stops s own) ts))
           (constant-itself (is_constant s h.kind m ts) (marked h m ts) c))) p)
-          ∙ ap (λ o. or_else o (if not (is_constant s h.kind m ts) || is_aborted (tree_value s own (marked h m ts)) then Some (marked h m ts) else None))
+          ∙ ap (λ o. or_else o (if not (is_constant s h.kind m ts) || is_aborted (tree_value s own (marked h m ts)) then Some
+          (marked h m ts) else None))
           (same-hidden (hides_kids h.kind ts) _ _ k)
 
   inconstant-each : (s : Store) (own : ℕ) (ts : TypedNodes) → ArePlain s ts →

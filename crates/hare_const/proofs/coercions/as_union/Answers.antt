@@ -25,7 +25,8 @@ returns-in-None-clause-value c =
     let none : chosen_member c.args.s.now (own_type c.args.t.now) (union_members c.args.s.now c.args.of_union) ≡ None =
     chosen_choice c.args.s.now (own_type c.args.t.now) c.args.of_union
     ∙ sym (c.in-None.ensures.value ∙ ap (λ y. first_choice c.args.s.now (own_type y) c.args.of_union) c.t.view_is) in
-    wider_result c.args.s.now c.declarations-law.ensures.sound c.args.own c.args.t.now c.args.cells c.args.of_union c.requires.from c.requires.to
+    wider_result c.args.s.now c.declarations-law.ensures.sound c.args.own c.args.t.now c.args.cells c.args.of_union c.requires.from
+    c.requires.to
     c.requires.joined none c.wider_cells.result _ _ (ap own_type c.t.view_is) refl c.wider_cells.ensures
 
 pub returns-in-None-clause-made : goal.returns-in-None-clause-made
@@ -33,5 +34,6 @@ returns-in-None-clause-made c =
     let none : chosen_member c.args.s.now (own_type c.args.t.now) (union_members c.args.s.now c.args.of_union) ≡ None =
     chosen_choice c.args.s.now (own_type c.args.t.now) c.args.of_union
     ∙ sym (c.in-None.ensures.value ∙ ap (λ y. first_choice c.args.s.now (own_type y) c.args.of_union) c.t.view_is) in
-    wider_made c.args.s.now c.declarations-law.ensures.sound c.args.own c.args.t.now c.args.cells c.args.of_union c.requires.from c.requires.to
+    wider_made c.args.s.now c.declarations-law.ensures.sound c.args.own c.args.t.now c.args.cells c.args.of_union c.requires.from
+    c.requires.to
     c.requires.joined none c.wider_cells.result c.args.made.now

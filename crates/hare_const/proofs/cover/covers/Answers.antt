@@ -10,5 +10,6 @@ pub returns : goal.returns
 returns c =
     let e : to_z w128 (of_z w128 c.in-Some.limits.greatest) ≡ c.in-Some.limits.greatest = omega (arith, ints) in
     rw e (pass_tells (number_of c.args.s.now c.args.t) c.args.cases.now c.as_slice-case-items.result.now c.loop-case.case-index _
-    c.in-Some.limits.least c.in-Some.limits.greatest (to_z w128 c.loop-case.open-bits) c.in-Some.ensures.value c.requires c.loop-case-test.false
+    c.in-Some.limits.least c.in-Some.limits.greatest (to_z w128 c.loop-case.open-bits) c.in-Some.ensures.value c.requires
+    c.loop-case-test.false
     c.loop-case.invariant.passed)

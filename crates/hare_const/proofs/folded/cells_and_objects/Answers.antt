@@ -13,5 +13,6 @@ returns-in_err-outcome-clause-err c =
 
 pub returns-clause-ok : goal.returns-clause-ok
 returns-clause-ok c =
-    let found = folded_cells c.args.s.now c.declarations-law.ensures.sound c.args.own c.args.t.now c.requires.settled c.in_ok-outcome.ensures.ok.1 in
+    let found = folded_cells c.args.s.now c.declarations-law.ensures.sound c.args.own c.args.t.now c.requires.settled
+    c.in_ok-outcome.ensures.ok.1 in
     (found.0, found.1 ∙ ap cells_of (sym c.in_ok-outcome.ensures.ok.0) ∙ sym c.cells_of.ensures)

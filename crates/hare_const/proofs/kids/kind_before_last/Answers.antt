@@ -11,7 +11,8 @@ returns-then-count-lt2 c =
 pub returns-in-Some : goal.returns-in-Some
 returns-in-Some c =
     ap own_kind c.kid.view_is
-    ∙ sym (ap own_kind (kid-from-end c.args.t.now c.in-Some.kid.now _ _ c.t.inside.kids _ 1 c.t.view_is c.in-Some.ensures.found (omega arith)))
+    ∙ sym (ap own_kind (kid-from-end c.args.t.now c.in-Some.kid.now _ _ c.t.inside.kids _ 1 c.t.view_is c.in-Some.ensures.found
+    (omega arith)))
 
 pub returns-in-None : goal.returns-in-None
 returns-in-None c = let none = c.in-None.ensures.none in absurd (omega arith)

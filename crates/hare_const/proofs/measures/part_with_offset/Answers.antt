@@ -15,4 +15,5 @@ returns c =
 
 pub unreachable-requires : goal.unreachable-requires
 unreachable-requires c =
-    no_offset c.args.s.now c.args.t.now c.args.whole (kid_absent c.args.t.now _ _ c.t.inside.kids 0 c.t.view_is c.in-None.ensures.none) c.requires
+    no_offset c.args.s.now c.args.t.now c.args.whole (kid_absent c.args.t.now _ _ c.t.inside.kids 0 c.t.view_is c.in-None.ensures.none)
+    c.requires

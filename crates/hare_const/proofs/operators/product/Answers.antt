@@ -17,7 +17,8 @@ returns-then-y-ge0 c =
     kept c.cut.result c.cut.type_inv
     ∙ c.cut.ensures
     ∙ product_cut t (nat_abs (to_z w128 (of_z w128 c.args.x))) (nat_abs (to_z w128 (of_z w128 c.args.y))) c.requires.width
-    ∙ ap (spec.cut (int_of t)) (product_of (to_z w128 (of_z w128 c.args.x)) (to_z w128 (of_z w128 c.args.y)) c.if-x-ge0.true c.if-y-ge0.true)
+    ∙ ap (spec.cut (int_of t)) (product_of (to_z w128 (of_z w128 c.args.x)) (to_z w128 (of_z w128 c.args.y)) c.if-x-ge0.true
+    c.if-y-ge0.true)
     ∙ ap (λ v. spec.cut (int_of t) (v *ℤ to_z w128 (of_z w128 c.args.y))) x
     ∙ ap (λ v. spec.cut (int_of t) (c.args.x *ℤ v)) y
 

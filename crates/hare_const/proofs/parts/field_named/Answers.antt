@@ -6,7 +6,8 @@ use Rattle.hare_const.proofs.parts.field_named.Goals as goal
 
 pub returns-in_default : goal.returns-in_default
 returns-in_default c =
-    sym (ap (λ o. unwrap_or (option_and_then (field_at c.args.s.now c.args.base) o) 0) (name_nowhere c.args.s.now c.args.text.now c.in_default.ensures.none))
+    sym (ap (λ o. unwrap_or (option_and_then (field_at c.args.s.now c.args.base) o) 0)
+    (name_nowhere c.args.s.now c.args.text.now c.in_default.ensures.none))
 
 pub returns : goal.returns
 returns c =

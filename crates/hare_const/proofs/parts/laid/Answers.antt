@@ -13,7 +13,8 @@ index-start-requires c =
     let of = c.args.of in
     let k = get_or c.args.parts.now c.loop-i.i 0 in
     let part : HasPart s of k = All-get_or (HasPart s of) c.args.parts.now c.loop-i.i 0 c.loop-i-test.true c.requires.parts in
-    let inside : k < length c.in_ok-starts.starts.items = start_within s of k c.in_ok-starts.starts.items part (c.in_ok-starts.ensures k part) in
+    let inside : k < length c.in_ok-starts.starts.items =
+    start_within s of k c.in_ok-starts.starts.items part (c.in_ok-starts.ensures k part) in
     omega (arith, inside)
 
 pub loop-i-preserved : goal.loop-i-preserved
@@ -24,7 +25,8 @@ loop-i-preserved c =
     let ns = c.in_ok-starts.starts.items in
     let part : HasPart s of k = All-get_or (HasPart s of) c.args.parts.now c.loop-i.i 0 c.loop-i-test.true c.requires.parts in
     placed_more s (ty.Of of) c.size_of-size.result c.args.parts.now c.args.from c.args.kids.now c.loop-i.i c.index-start.result.now
-    c.loop-i.whole c.in_ok-whole-in-Known.whole c.in-Known.cells c.loop-i.invariant c.loop-i-test.true (sym c.kid_at.ensures ∙ c.in-Known.is)
+    c.loop-i.whole c.in_ok-whole-in-Known.whole c.in-Known.cells c.loop-i.invariant c.loop-i-test.true
+    (sym c.kid_at.ensures ∙ c.in-Known.is)
     (start_found s of k c.index-start.result.now c.index-start.result.now ns part (c.in_ok-starts.ensures k part) c.index-start.ensures)
     c.in_ok-whole-in-Known.ensures.within c.in_ok-whole-in-Known.ensures.value
 
@@ -32,4 +34,5 @@ pub returns : goal.returns
 returns c =
     placed_all c.args.s.now (ty.Of c.args.of) c.size_of-size.result c.args.parts.now c.args.from c.args.kids.now c.loop-i.i c.loop-i.whole
     c.in_ok-with_undefined.field-0 c.loop-i.invariant c.loop-i-test.false
-    (filled_all c.size_of-size.result c.len.result c.loop-i.whole c.in_ok-with_undefined.field-0 c.len.ensures c.in_ok-with_undefined.ensures)
+    (filled_all c.size_of-size.result c.len.result c.loop-i.whole c.in_ok-with_undefined.field-0 c.len.ensures
+    c.in_ok-with_undefined.ensures)

@@ -23,6 +23,8 @@ pub returns : goal.returns
 returns c =
     let own : ty.Of c.in-Of.of ≡ own_type c.args.t.now = sym c.in-Of.is ∙ ap own_type c.t.view_is in
     let same =
-    with_given c.args.s.now (ty.Of c.in-Of.of) (own_type c.args.t.now) c.as_slice.result.now (fields_given c.args.s.now c.args.t.now) 1 (items_of kind.StructLit (kids_of c.args.t.now))
-    c.args.kids.now (c.as_slice.ensures.value ∙ c.in_ok-parts.ensures) (length_fields c.args.s.now (own_type c.args.t.now) c.args.t.now 1 (items_of kind.StructLit (kids_of c.args.t.now))) own in
+    with_given c.args.s.now (ty.Of c.in-Of.of) (own_type c.args.t.now) c.as_slice.result.now (fields_given c.args.s.now c.args.t.now) 1
+    (items_of kind.StructLit (kids_of c.args.t.now))
+    c.args.kids.now (c.as_slice.ensures.value ∙ c.in_ok-parts.ensures)
+    (length_fields c.args.s.now (own_type c.args.t.now) c.args.t.now 1 (items_of kind.StructLit (kids_of c.args.t.now))) own in
     subst (λ (x : Outcome). IfOk c.laid.result (λ o. o ≡ x)) same c.laid.ensures

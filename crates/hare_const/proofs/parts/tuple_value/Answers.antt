@@ -23,6 +23,8 @@ pub returns : goal.returns
 returns c =
     let own : ty.Of c.in-Of.of ≡ own_type c.args.t.now = sym c.in-Of.is ∙ ap own_type c.t.view_is in
     let same =
-    with_given c.args.s.now (ty.Of c.in-Of.of) (own_type c.args.t.now) c.as_slice.result.now (components_given c.args.t.now) 0 (items_of kind.Tuple (kids_of c.args.t.now))
-    c.args.kids.now (c.as_slice.ensures.value ∙ c.in_ok-parts.ensures) (length_counted 0 (items_of kind.Tuple (kids_of c.args.t.now))) own in
+    with_given c.args.s.now (ty.Of c.in-Of.of) (own_type c.args.t.now) c.as_slice.result.now (components_given c.args.t.now) 0
+    (items_of kind.Tuple (kids_of c.args.t.now))
+    c.args.kids.now (c.as_slice.ensures.value ∙ c.in_ok-parts.ensures) (length_counted 0 (items_of kind.Tuple (kids_of c.args.t.now)))
+    own in
     subst (λ (x : Outcome). IfOk c.laid.result (λ o. o ≡ x)) same c.laid.ensures

@@ -9,5 +9,6 @@ loop-i-preserved c =
 
 pub returns : goal.returns
 returns c =
-    part_whole c.args.cells.now c.loop-i.part c.args.at c.loop-i.i c.min-i-end.result c.args.count c.saturating_sub-left.result c.loop-i-test.false
+    part_whole c.args.cells.now c.loop-i.part c.args.at c.loop-i.i c.min-i-end.result c.args.count c.saturating_sub-left.result
+    c.loop-i-test.false
     c.min-i-end.ensures (omega (arith, c.saturating_sub-left.ensures, c.len.ensures)) c.loop-i.invariant

@@ -8,4 +8,5 @@ member_tagged-requires c =
 
 pub returns-in-Some-clause-told : goal.returns-in-Some-clause-told
 returns-in-Some-clause-told c =
-    told_of_tag c.args.s.now c.args.of_union c.in_ok-tag.tag c.in-Some.members.now c.member_tagged.result c.requires c.in-Some.ensures c.member_tagged.ensures
+    told_of_tag c.args.s.now c.args.of_union c.in_ok-tag.tag c.in-Some.members.now c.member_tagged.result c.requires c.in-Some.ensures
+    c.member_tagged.ensures

@@ -7,8 +7,10 @@ returns-then-place-at c = c.get.ensures ∙ sym (before_part c.args.at c.args.pl
 
 pub returns-in-Some : goal.returns-in-Some
 returns-in-Some c =
-    sym (within_part c.args.at c.args.place c.in-Some.cell c.args.part.now c.args.cells.now c.if-place-at.false (sym c.in-Some.ensures) c.requires)
+    sym (within_part c.args.at c.args.place c.in-Some.cell c.args.part.now c.args.cells.now c.if-place-at.false (sym c.in-Some.ensures)
+    c.requires)
 
 pub returns-in-None : goal.returns-in-None
 returns-in-None c =
-    c.get-in-None.ensures ∙ sym (past_part c.args.at c.args.place c.args.part.now c.args.cells.now c.if-place-at.false (sym c.in-None.ensures))
+    c.get-in-None.ensures ∙ sym (past_part c.args.at c.args.place c.args.part.now c.args.cells.now c.if-place-at.false
+    (sym c.in-None.ensures))

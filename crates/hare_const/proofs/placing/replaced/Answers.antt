@@ -10,7 +10,8 @@ loop-place-preserved c =
     let whole : List Cell = with_cells c.args.at c.args.part.now c.args.cells.now in
     elim c.match-cell_with.branch [
       | in-Some+in_ok-push w ↦
-          copied_next whole c.loop-place.more c.match-cell_with.more c.loop-place.place w.in-Some.cell c.loop-place.invariant (sym w.in-Some.ensures)
+          copied_next whole c.loop-place.more c.match-cell_with.more c.loop-place.place w.in-Some.cell c.loop-place.invariant
+          (sym w.in-Some.ensures)
           (w.more-is ∙ w.in_ok-push.ensures.ok)
       | in_default w ↦ w.more-is ∙ copied_past whole c.loop-place.more c.loop-place.place c.loop-place.invariant (sym w.in_default.ensures)
     ]

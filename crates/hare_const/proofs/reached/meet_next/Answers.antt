@@ -9,7 +9,8 @@ use Rattle.hare_const.proofs.reached.meet_next.Goals as goal
 pub returns-in-Some-clause-order : goal.returns-in-Some-clause-order
 returns-in-Some-clause-order c =
     let met = c.args.met.now.order.items in
-    subst (λ o. OnOk c.meet_behind.result (Adds (led_from (get nat_cmp c.args.table.now) o) met c.meet_behind.new.met.order.items)) c.in-Some.ensures
+    subst (λ o. OnOk c.meet_behind.result (Adds (led_from (get nat_cmp c.args.table.now) o) met c.meet_behind.new.met.order.items))
+    c.in-Some.ensures
     c.meet_behind.ensures.order
 
 pub returns-in-None-clause-order : goal.returns-in-None-clause-order

@@ -31,7 +31,8 @@ put_statics-returns t c =
     c.in_ok-put_listed.ensures
     ∙ ap₂ (λ a b. a ++ held (objects_of b)) c.in_ok-put_text.ensures (ap (λ y. (mark_of y).value) c.t.view_is)
     ∙ append_assoc first text listed in
-    let all : c.put_listed.new.objects ++ statics_in_each c.args.own (typed_nodes c.t.inside.kids) ≡ first ++ statics_in c.args.own c.args.t.now =
+    let all : c.put_listed.new.objects ++ statics_in_each c.args.own (typed_nodes c.t.inside.kids) ≡
+    first ++ statics_in c.args.own c.args.t.now =
     ap₂ (λ a b. a ++ statics_in_each c.args.own b) front (ap kids_of c.t.view_is)
     ∙ append_assoc first (text ++ listed) (statics_in_each c.args.own (kids_of c.args.t.now))
     ∙ ap (λ l. first ++ l) (statics_parts c.args.own c.args.t.now) in

@@ -20,7 +20,8 @@ returns-then-i-ge1 c =
     let items : c.saturating_sub-then-i-ge1.result ≡ count (kids_of c.args.t.now) - 2 = omega arith in
     let behind : 1 ≤ c.args.i = c.if-i-ge1.true in
     let low : true ≡ nat_le 1 c.args.i = grind (arith, nat_tests) in
-    ap₂ (λ x n. x && nat_le c.args.i n) low items ∙ ap (λ x. is_taken c.args.t.now x (kid_at 0 c.args.values.now) c.args.i) (sym c.in-Fields.is)
+    ap₂ (λ x n. x && nat_le c.args.i n) low items ∙ ap (λ x. is_taken c.args.t.now x (kid_at 0 c.args.values.now) c.args.i)
+    (sym c.in-Fields.is)
 
 pub returns-in-Elements : goal.returns-in-Elements
 returns-in-Elements c =

@@ -18,7 +18,8 @@ returns c =
     let l = tagged_by_id s in
     let later = tagged_later s v in
     let next : suc c.args.member ≡ c.args.member + 1 = omega arith in
-    let tag_is : tag_of l c.args.member ≡ c.args.member + 1 = ap (λ o. unwrap_or o 0) (tag_by_id s v c.args.member c.requires.member) ∙ next in
+    let tag_is : tag_of l c.args.member ≡ c.args.member + 1 =
+    ap (λ o. unwrap_or o 0) (tag_by_id s v c.args.member c.requires.member) ∙ next in
     let short : c.args.member + 1 < 2 ^ 32 = omega (arith, c.requires.member, v.rows_few) in
     let payload_is : payload_at l u ≡ Some c.payload_of-payload.result =
     (keeps s l v later).payload u c.payload_of-payload.result c.payload_of-payload.ensures in
@@ -27,7 +28,8 @@ returns c =
     let behind : 4 ≤ payload_of l u = omega (arith, start, c.if-payload-lt-TAG_CELLS.false) in
     let within : payload_of l u + length c.args.cells.now ≤ size_at l u =
     omega (arith, start, size_is, c.if-size-payload.false, c.if-size-payload-2.false, c.len.ensures) in
-    let given = union_given l u c.args.member c.args.cells.now c.in_ok-tagged.tagged c.in_ok-whole.whole c.append.new.self (c.args.member + 1) c.payload_of-payload.result c.size_of-size.result c.len-2.result record {
+    let given = union_given l u c.args.member c.args.cells.now c.in_ok-tagged.tagged c.in_ok-whole.whole c.append.new.self
+    (c.args.member + 1) c.payload_of-payload.result c.size_of-size.result c.len-2.result record {
       named = tag_is;
       short = short;
       payload = payload_is;

@@ -17,8 +17,14 @@ use Rattle.hare_const.proofs.walk.+walk.Goals as goal
 pub kid_values-tree_value-requires : goal.kid_values-tree_value-requires
 kid_values-tree_value-requires t c =
     let h : size_of c.in-Some.kid.now < sizes_of (typed_nodes c.args.kids.now) =
-    kid_size c.args.kids.now c.loop-i.i c.in-Some.kid.now c.in-Some.ensures.found in
-    (omega arith, (c.requires.own, settled-kid c.args.s.now c.args.kids.now c.loop-i.i c.in-Some.kid.now c.in-Some.ensures.found c.requires.settled))
+    kid_size c.args.kids.now c.loop-i.i c.in-Some.kid.now c.in-Some.ensures.found in (
+      omega arith,
+      (
+        c.requires.own,
+        settled-kid c.args.s.now c.args.kids.now c.loop-i.i c.in-Some.kid.now c.in-Some.ensures.found
+            c.requires.settled,
+      ),
+    )
 
 pub kid_values-loop-i-preserved : goal.kid_values-loop-i-preserved
 kid_values-loop-i-preserved t c =
@@ -33,8 +39,10 @@ kid_values-loop-i-preserved t c =
           valued-more s own ts c.loop-i.i c.in-Some.kid.now os c.push.new.self.items o c.loop-i.invariant.valued c.in-Some.ensures.found
           c.in_ok-tree_value.ensures.ok.0 c.in_ok-tree_value.ensures.ok.1 c.in_ok-push.ensures.items;
       made =
-          made_more s own c.args.node.now ts c.loop-i.i c.in-Some.kid.now c.args.made.now c.loop-i.made c.tree_value.new.made c.keep_if.new.made os
-          c.push.new.self.items o c.is_taken-taken.result c.loop-i.invariant.valued c.in-Some.ensures.found inside c.in_ok-push.ensures.items
+          made_more s own c.args.node.now ts c.loop-i.i c.in-Some.kid.now c.args.made.now c.loop-i.made c.tree_value.new.made
+          c.keep_if.new.made os
+          c.push.new.self.items o c.is_taken-taken.result c.loop-i.invariant.valued c.in-Some.ensures.found inside
+          c.in_ok-push.ensures.items
           c.loop-i.invariant.made c.in_ok-tree_value.ensures.made
           (c.is_taken-taken.ensures
           ∙ ap₂ (λ x vs. is_taken c.args.node.now x (kid_at 0 vs) c.loop-i.i)
@@ -46,8 +54,10 @@ kid_values-loop-i-preserved t c =
 pub kid_values-returns-in_err-tree_value-clause-err : goal.kid_values-returns-in_err-tree_value-clause-err
 kid_values-returns-in_err-tree_value-clause-err t c =
     let e = c.in_err-tree_value.field-0.0 in
-    err-same c.from_residual.result e (Refuses (first_refused_of c.args.s.now c.args.own (typed_nodes c.args.kids.now))) c.from_residual.ensures.1
-    (refuse-kid c.args.s.now c.args.own c.args.kids.now c.loop-i.i c.in-Some.kid.now e c.in-Some.ensures.found c.loop-i.invariant.valued.passed
+    err-same c.from_residual.result e (Refuses (first_refused_of c.args.s.now c.args.own (typed_nodes c.args.kids.now)))
+    c.from_residual.ensures.1
+    (refuse-kid c.args.s.now c.args.own c.args.kids.now c.loop-i.i c.in-Some.kid.now e c.in-Some.ensures.found
+    c.loop-i.invariant.valued.passed
     c.in_err-tree_value.ensures.err)
 
 pub tree_value-returns-clause-err : goal.tree_value-returns-clause-err
@@ -61,7 +71,8 @@ tree_value-returns-clause-err t c =
     let passed : kids_asked s own u ≡ None =
     seen-asked s own u seen ∙ sym (ap (λ y. first_refused_of s own (kids_of y)) c.t.view_is) ∙ c.in_ok-kids.ensures.ok.1 in
     let value : node_value (tagged_by_id s) own u os ≡ tree_value (tagged_by_id s) own u =
-    seen-value s own u os (c.as_slice.ensures.value ∙ c.in_ok-kids.ensures.ok.0 ∙ ap (λ y. kid_values (tagged_by_id s) own (kids_of y)) c.t.view_is) in
+    seen-value s own u os (c.as_slice.ensures.value ∙ c.in_ok-kids.ensures.ok.0 ∙ ap (λ y. kid_values (tagged_by_id s) own (kids_of y))
+    c.t.view_is) in
     IfErr-weaker c.own_outcome-2.result (RefusesNode s own u os) (Refuses (first_refused s own u))
     (λ e r. refuse-node s own u os e plain passed value r) c.own_outcome-2.ensures.err
 

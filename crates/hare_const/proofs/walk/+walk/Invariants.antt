@@ -19,5 +19,6 @@ invariant-kid_values-loop-i l =
     record {
       valued : Valued l.s l.own l.kids l.i l.values.items;
       made : l.made ≡ l.initial.made
-          ++ made_by_kids l.node (operands_of (own_kind l.node)) l.values.items (made_by_each (tagged_by_id l.s) l.own (typed_nodes (take l.i l.kids)));
+          ++ made_by_kids l.node (operands_of (own_kind l.node)) l.values.items
+          (made_by_each (tagged_by_id l.s) l.own (typed_nodes (take l.i l.kids)));
     }
