@@ -41,7 +41,8 @@ no_main = refl
 -- ---- temporaries
 
 -- a value is cut to the class: 2 ^ 32 + 5 at w is 5
-cut_to_w : ends (main_of (Set 0 W Copy (Number (2 ^ 32 + 5)) (Number 0) ∷ Set 1 L Sub (Temp 0) (Number 4) ∷ Ret (Some (Temp 1)) ∷ [])) 0 (Exit 1)
+cut_to_w : ends (main_of (Set 0 W Copy (Number (2 ^ 32 + 5)) (Number 0) ∷ Set 1 L Sub (Temp 0) (Number 4) ∷ Ret (Some (Temp 1)) ∷ [])) 0
+    (Exit 1)
 cut_to_w = refl
 
 -- a temporary that was not set has the fill byte in each byte: 2 ^ 56 of the quotient is the highest of eight bytes of 1

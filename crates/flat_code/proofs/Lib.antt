@@ -4,3 +4,5 @@ mod MemoryRows
 pub mod Kids
 pub mod Passes
 pub mod Rights
+pub mod NumberNames
+pub mod GlobalPlaces

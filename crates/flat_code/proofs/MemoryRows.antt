@@ -82,7 +82,8 @@ moved_beyond = refl
 
 -- ---- globals
 
--- "xyz", then at a multiple of 8 the address of its last byte, then a global of no bytes, which takes one, then a number of two bytes and a zero
+-- "xyz", then at a multiple of 8 the address of its last byte, then a global of no bytes, which takes one, then a number of two bytes and a
+-- zero
 abbrev pointing : Code → FlatProgram
 pointing code = program (plain (codes "main") 2 0 (Load 0 how.L (Symbol 1 0) ∷ code ∷ Ret (Some (Temp 1)) ∷ []) ∷ []) (
     global (codes "a") 1 (item.Bytes (codes "xyz") ∷ [])
@@ -90,7 +91,8 @@ pointing code = program (plain (codes "main") 2 0 (Load 0 how.L (Symbol 1 0) ∷
     ∷ global (codes "c") 1 []
     ∷ global (codes "d") 2 (item.Number 2 (65536 + 259) ∷ item.Zero 1 ∷ []) ∷ [])
 
-where_globals_stand : addresses (pointing (Ret None)) ≡ (codes "a", 2 ^ 33) ∷ (codes "b", 2 ^ 33 + 8) ∷ (codes "c", 2 ^ 33 + 16) ∷ (codes "d", 2 ^ 33 + 18) ∷ []
+where_globals_stand : addresses (pointing (Ret None)) ≡
+    (codes "a", 2 ^ 33) ∷ (codes "b", 2 ^ 33 + 8) ∷ (codes "c", 2 ^ 33 + 16) ∷ (codes "d", 2 ^ 33 + 18) ∷ []
 where_globals_stand = refl
 
 pointed_at : ends (pointing (Load 1 how.Ub (Temp 0))) 0 (Exit 122)
@@ -112,7 +114,8 @@ of_no_items = refl
 -- ---- the runtime
 
 -- three bytes are read to the frame, of which the input has two, and the frame is written out: a step more for each argument
-read_and_written : does (main_of (Call (Some 0) (codes "rt.read") (Frame 0 ∷ Number 3 ∷ []) ∷ Call None (codes "rt.write") (Frame 0 ∷ Temp 0 ∷ []) ∷ Ret (Some (Temp 0)) ∷ [])) 0 (Exit 2) (codes "in") 8
+read_and_written : does (main_of (Call (Some 0) (codes "rt.read") (Frame 0 ∷ Number 3 ∷ []) ∷ Call None (codes "rt.write")
+    (Frame 0 ∷ Temp 0 ∷ []) ∷ Ret (Some (Temp 0)) ∷ [])) 0 (Exit 2) (codes "in") 8
 read_and_written = (refl, refl, refl)
 
 -- a block is used, freed, and freed again
@@ -133,5 +136,6 @@ freed_twice = refl
 used_after_free : ends (freeing (Load 1 how.Ub (Temp 0))) 0 (Fault Wild)
 used_after_free = refl
 
-aborted : ends (program (plain (codes "main") 0 0 (Call None (codes "rt.abort") (Symbol 0 1 ∷ Number 2 ∷ []) ∷ []) ∷ []) (global (codes "t") 1 (item.Bytes (codes "no!") ∷ []) ∷ [])) 0 (Abort (codes "o!"))
+aborted : ends (program (plain (codes "main") 0 0 (Call None (codes "rt.abort") (Symbol 0 1 ∷ Number 2 ∷ []) ∷ []) ∷ [])
+    (global (codes "t") 1 (item.Bytes (codes "no!") ∷ []) ∷ [])) 0 (Abort (codes "o!"))
 aborted = refl

@@ -1,28 +1,16 @@
 -- Small programs, of which the rows say what they do.
-use Rattle.std.proofs.Common.{◌≡◌, ℕ, ◌+◌, ◌-◌, ◌/◌, ◌%◌, ◌^◌, List, [], ◌∷◌, Some, None}
-use Rattle.std.specs.Prelude.{nat_lt, ◌==◌, codes, if◌then◌else◌}
+use Rattle.std.proofs.Common.{◌≡◌, ℕ, List, [], ◌∷◌, Some}
+use Rattle.std.specs.Prelude.{codes}
 use Rattle.hx_base.specs.declared.Class.{Class}
-use Rattle.hx_base.specs.declared.Class.TheVariants.{W, L}
-use Rattle.flat_code.specs.declared.op.Op.TheVariants.{Add, Sub, Udiv, Cultl, Extub, Extsb}
+use Rattle.hx_base.specs.declared.Class.TheVariants.{W}
 use Rattle.flat_code.specs.declared.program.Item.{Item}
 use Rattle.flat_code.specs.declared.program.Data.{Data}
 use Rattle.flat_code.specs.declared.program.FlatFn.{FlatFn}
 use Rattle.flat_code.specs.declared.program.FlatProgram.{FlatProgram}
 use Rattle.flat_code.specs.declared.flat.Flat.TheVariants as flat
 use Rattle.flat_code.specs.Code.{Code, Seq, codes_of}
-use Rattle.flat_code.specs.State.{Flow, cut}
-use Rattle.flat_code.specs.Evaluation.{Meaning}
+use Rattle.flat_code.specs.State.{Flow}
 use Rattle.flat_code.specs.Run.{run}
-
--- what the few operations of the rows give
-abbrev pub few : Meaning
-few class Add a b = Some (a + b)
-few class Sub a b = Some (a + 2 ^ 64 - b)
-few class Udiv a b = if cut class b == 0 then None else Some (cut class a / cut class b)
-few class Cultl a b = Some (if nat_lt (cut L a) (cut L b) then 1 else 0)
-few class Extub a b = Some (a % 256)
-few class Extsb a b = Some (if nat_lt (a % 256) 128 then a % 256 else a % 256 + 2 ^ 64 - 256)
-few class op a b = Some a
 
 -- statements within another
 abbrev pub seq : List Code → Code
@@ -34,7 +22,15 @@ plain name temps frame cs = record { name = name; params = []; result = Some W; 
 
 -- a function of one parameter
 abbrev pub of_one : List ℕ → Class → (temps frame : ℕ) → List Code → FlatFn
-of_one name class temps frame cs = record { name = name; params = class ∷ []; result = Some W; temps = temps; frame = frame; body = flat.Seq cs }
+of_one name class temps frame cs = record {
+  name = name;
+  params = class ∷ [];
+  result = Some W;
+  temps = temps;
+  frame = frame;
+  body = flat.Seq
+      cs;
+}
 
 -- a global
 abbrev pub global : List ℕ → ℕ → List Item → Data
@@ -51,13 +47,13 @@ main_of cs = program (plain (codes "main") 8 32 cs ∷ []) []
 -- a run with three arguments, the input "in" and the fill byte 1, by how it ends, its output and its flat steps
 abbrev pub does : FlatProgram → ℕ → Flow → List ℕ → ℕ → Type 0
 does p n end output steps =
-    let r = run few p (codes "a" ∷ codes "b" ∷ codes "c" ∷ []) (codes "in") 1 n in
+    let r = run p (codes "a" ∷ codes "b" ∷ codes "c" ∷ []) (codes "in") 1 n in
     (r.0 ≡ end) × (r.1.world.output ≡ output) × (r.1.steps ≡ steps)
 
 -- the same by how it ends alone
 abbrev pub ends : FlatProgram → ℕ → Flow → Type 0
-ends p n end = (run few p (codes "a" ∷ codes "b" ∷ codes "c" ∷ []) (codes "in") 1 n).0 ≡ end
+ends p n end = (run p (codes "a" ∷ codes "b" ∷ codes "c" ∷ []) (codes "in") 1 n).0 ≡ end
 
 -- the most that a run costs the stack
 abbrev pub costs : FlatProgram → ℕ → ℕ → Type 0
-costs p n most = (run few p [] [] 1 n).1.most ≡ most
+costs p n most = (run p [] [] 1 n).1.most ≡ most

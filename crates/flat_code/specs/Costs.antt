@@ -37,7 +37,8 @@ abbrev mutual
   addressed_in_all none = 0
   addressed_in_all (more c cs) = addressed_in c + addressed_in_all cs
 
--- the cost of a call: 64, 8 for each temporary, each operand whose address has to be computed and the address of the frame, and the frame as a multiple of 16, of at least one byte.
+-- the cost of a call: 64, 8 for each temporary, each operand whose address has to be computed and the address of the frame, and the frame
+-- as a multiple of 16, of at least one byte.
 -- Code that is made of the function costs at most this much.
 abbrev pub call_cost : FlatFn → ℕ
 call_cost f = 64 + 8 * (f.temps + addressed_in (code_of f.body) + 1) + round_up (max 1 f.frame) 16

@@ -1,13 +1,13 @@
 -- What flat code does within a number of turns, and how many flat steps it takes.
 --
--- A Loop's turn hands one turn less to its body and to the turns behind it, and a call of a function of the program hands one less to the function.
+-- A Loop's turn hands one turn less to its body and to the turns behind it, and a call of a function of the program hands one less to the
+-- function.
 -- Nothing else uses a turn. Where a turn or such a call begins and none is left, the end is Spent.
 --
--- Each statement that begins is one flat step, each turn of a Loop being one that begins. A call takes one more for each argument, and a Move and a call of the
+-- Each statement that begins is one flat step, each turn of a Loop being one that begins. A call takes one more for each argument, and a
+-- Move and a call of the
 -- runtime one more for each 64 bytes moved.
---
--- What operations give is a parameter, so that this says it in the words of the language that code is made in.
-use Rattle.std.specs.Prelude.{ℕ, zero, suc, ◌+◌, ◌-◌, ◌/◌, max, Bool, true, false, List, [], ◌∷◌, length, map, Option, None, Some, nat_lt, bytes_eq, ◌==◌, if◌then◌else◌}
+use Rattle.std.specs.Prelude.{ℕ, zero, suc, ◌+◌, ◌-◌, ◌/◌, max, Bool, true, false, List, [], ◌∷◌, length, map, Option, None, Some, bytes_eq, ◌==◌, if◌then◌else◌}
 use Rattle.hx_base.specs.declared.Class.{Class}
 use Rattle.hx_base.specs.declared.Class.TheVariants.{W, L}
 use Rattle.hx_base.specs.Memory.{Memory, round_up, map_range, unmap_range, load, store, move}
@@ -25,13 +25,10 @@ use Rattle.flat_code.specs.Shape.{code_of}
 use Rattle.flat_code.specs.Costs.{call_cost}
 use Rattle.hx_runtime.specs.Functions.{runtime_params, runtime_result}
 pub use Rattle.hx_runtime.specs.Ranges.{overlap}
+use Rattle.flat_code.specs.Operations.{gives}
 use Rattle.flat_code.specs.State.{State, cut, value_of, set_temp, give, with_memory, stepped, FlatFault, Wild, Overlap, BadFree, BadArg, ZeroDivisor, NoFunction, Next, Left, Returned, Exit, Abort, Fault, HeapFull, Spent, Result, then_go, caught, then_turn, spends}
 
 -- ---- operations
-
--- what an operation gives at a class on two operands, before it is cut to the class, or None where its divisor is 0
-abbrev pub Meaning : Type 0
-Meaning = Class → Op → ℕ → ℕ → Option ℕ
 
 -- a temporary is set to what an operation gives
 abbrev pub computed : State → ℕ → Class → Option ℕ → Result
@@ -61,9 +58,9 @@ extension how.Uw = Extuw
 extension how.L = Copy
 
 -- a temporary is set to the number loaded, extended to 64 bits
-abbrev pub loaded : Meaning → State → ℕ → LoadKind → Option ℕ → Result
-loaded meaning s t how None = (Fault Wild, s)
-loaded meaning s t how (Some v) = computed s t L (meaning L (extension how) v 0)
+abbrev pub loaded : State → ℕ → LoadKind → Option ℕ → Result
+loaded s t how None = (Fault Wild, s)
+loaded s t how (Some v) = computed s t L (gives L (extension how) v 0)
 
 -- a store, by the memory behind it, if all bytes are mapped
 abbrev pub stored : State → Option Memory → Result
@@ -120,7 +117,8 @@ abbrev pub framed : Memory → ℕ → ℕ → Memory
 framed m at zero = m
 framed m at (suc n) = map_range m at (suc n)
 
--- the state as a function begins: its arguments stand in the first temporaries, and its frame is mapped and keeps the bytes that stand there. A frame of no bytes takes nothing.
+-- the state as a function begins: its arguments stand in the first temporaries, and its frame is mapped and keeps the bytes that stand
+-- there. A frame of no bytes takes nothing.
 abbrev pub entered : State → FlatFn → List ℕ → State
 entered s f vs = record s {
   world = record s.world { memory = framed s.world.memory s.top f.frame };
@@ -166,22 +164,24 @@ abbrev pub returns : FlatProgram → State → Option Value → Result
 returns p s None = (Returned 0, s)
 returns p s (Some v) = (Returned (value_of p s v), s)
 
-module _ (meaning : Meaning) (p : FlatProgram) where
+module _ (p : FlatProgram) where
   abbrev mutual
     -- what a statement does that has begun, and so has counted one flat step
     pub flat_begun : ℕ → Less → Code → State → Result
     flat_begun n less (Seq cs) s = caught (flats_in n less cs s)
-    flat_begun n less (Set t class op a b) s = computed s t class (meaning class op (value_of p s a) (value_of p s b))
-    flat_begun n less (Load t how at) s = loaded meaning s t how (load s.world.memory (value_of p s at) (load_bytes how))
+    flat_begun n less (Set t class op a b) s = computed s t class (gives class op (value_of p s a) (value_of p s b))
+    flat_begun n less (Load t how at) s = loaded s t how (load s.world.memory (value_of p s at) (load_bytes how))
     flat_begun n less (Store width value at) s = stored s (store s.world.memory (value_of p s at) width (value_of p s value))
     flat_begun n less (Move to from bytes) s =
         let a = value_of p s to in
         let b = value_of p s from in
         moved s bytes (overlap a b bytes) (move s.world.memory a b bytes)
-    flat_begun n less (If cond a b) s = if cut W (value_of p s cond) == 0 then flat_begun n less b (stepped 1 s) else flat_begun n less a (stepped 1 s)
+    flat_begun n less (If cond a b) s = if cut W (value_of p s cond) == 0 then flat_begun n less b (stepped 1 s) else flat_begun n less a
+        (stepped 1 s)
     flat_begun n less (Loop c) s = spends n (Spent, s) (then_turn (less c s) (less (Loop c)))
     flat_begun n less (Leave k) s = (Left k, s)
-    flat_begun n less (Call t name args) s = called n less (stepped (length args) s) t name (function_named p.functions name) (map (value_of p s) args)
+    flat_begun n less (Call t name args) s =
+        called n less (stepped (length args) s) t name (function_named p.functions name) (map (value_of p s) args)
     flat_begun n less (Ret value) s = returns p s value
 
     -- what the statements of a Seq do

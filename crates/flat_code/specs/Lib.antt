@@ -4,6 +4,7 @@ pub mod Falls
 pub mod Costs
 pub mod Addresses
 pub mod State
+pub mod Operations
 pub mod Evaluation
 pub mod Run
 pub mod Kinds

@@ -6,11 +6,17 @@ use Rattle.flat_code.specs.declared.program.FlatProgram.{FlatProgram}
 use Rattle.flat_code.specs.Shape.{code_of}
 use Rattle.flat_code.specs.Addresses.{stack_start, start_memory}
 use Rattle.flat_code.specs.State.{State, Next, Left, Returned, Exit, Abort, Fault, NoFunction, HeapFull, Spent, Result}
-use Rattle.flat_code.specs.Evaluation.{Meaning, flat, entered, function_named}
+use Rattle.flat_code.specs.Evaluation.{flat, entered, function_named}
 
 -- what a program acts on as it begins
 abbrev pub start_world : FlatProgram → List (List ℕ) → List ℕ → ℕ → World
-start_world p args input fill = record { memory = start_memory fill p args; heap = record { next = heap_start; blocks = [] }; input = input; output = []; arguments = length args }
+start_world p args input fill = record {
+  memory = start_memory fill p args;
+  heap = record { next = heap_start; blocks = [] };
+  input = input;
+  output = [];
+  arguments = length args;
+}
 
 -- a state in which no function has been called
 abbrev pub before_calls : World → State
@@ -28,10 +34,10 @@ ended (HeapFull, s) = (HeapFull, s)
 ended (Spent, s) = (Spent, s)
 
 -- a run that begins with this function, if there is one. Its call uses no turn.
-abbrev pub run_from : Meaning → FlatProgram → ℕ → State → Option FlatFn → Result
-run_from meaning p n s None = (Fault NoFunction, s)
-run_from meaning p n s (Some f) = ended (flat meaning p n (code_of f.body) (entered s f []))
+abbrev pub run_from : FlatProgram → ℕ → State → Option FlatFn → Result
+run_from p n s None = (Fault NoFunction, s)
+run_from p n s (Some f) = ended (flat p n (code_of f.body) (entered s f []))
 
 -- the run of a program with these arguments, this input and this fill byte, in which `n` turns are left
-abbrev pub run : Meaning → FlatProgram → List (List ℕ) → List ℕ → ℕ → ℕ → Result
-run meaning p args input fill n = run_from meaning p n (before_calls (start_world p args input fill)) (function_named p.functions (codes "main"))
+abbrev pub run : FlatProgram → List (List ℕ) → List ℕ → ℕ → ℕ → Result
+run p args input fill n = run_from p n (before_calls (start_world p args input fill)) (function_named p.functions (codes "main"))

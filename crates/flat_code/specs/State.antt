@@ -1,8 +1,8 @@
 -- What flat code acts on, how a statement ends, and what operands are worth.
 use Rattle.std.specs.Prelude.{ℕ, zero, suc, ◌+◌, ◌*◌, ◌%◌, ◌^◌, List, [], ◌∷◌, Option, None, Some, nat_eq, if◌then◌else◌}
 use Rattle.hx_base.specs.declared.Class.{Class}
-use Rattle.hx_base.specs.declared.Class.TheVariants.{W, L}
 use Rattle.hx_base.specs.Memory.{Memory}
+pub use Rattle.hx_base.specs.Operations.{cut}
 use Rattle.hx_base.specs.Runtime.{World}
 use Rattle.flat_code.specs.declared.program.FlatProgram.{FlatProgram}
 use Rattle.flat_code.specs.declared.value.Value.{Value}
@@ -20,11 +20,6 @@ pub record State : Type 0 where
   pub steps : ℕ  -- the flat steps so far
   pub cost : ℕ  -- what the calls that are active cost the stack
   pub most : ℕ  -- the most that they cost it so far
-
--- a value at a class: its low bits
-abbrev pub cut : Class → ℕ → ℕ
-cut W v = v % 2 ^ 32
-cut L v = v % 2 ^ 64
 
 -- what a temporary holds. One that was not set has the fill byte in each of its eight bytes: 72340172838076673 is eight bytes of 1.
 abbrev pub temp_value : ℕ → List (ℕ × ℕ) → ℕ → ℕ
@@ -58,11 +53,13 @@ stepped n s = record s { steps = s.steps + n }
 
 -- ---- ends
 
--- what is found wrong. NoFunction, a call of a function that is neither in the program nor in the runtime, never comes of a well formed program.
+-- what is found wrong. NoFunction, a call of a function that is neither in the program nor in the runtime, never comes of a well formed
+-- program.
 pub data FlatFault : Type 0 where
   Wild Overlap BadFree BadArg ZeroDivisor NoFunction : FlatFault
 
--- how a statement ends: it goes on behind itself or behind a Seq or Loop round it, it returns from its function with a value, 0 where it has none, or it ends the program
+-- how a statement ends: it goes on behind itself or behind a Seq or Loop round it, it returns from its function with a value, 0 where it
+-- has none, or it ends the program
 pub data Flow : Type 0 where
   Next : Flow
   Left : (k : ℕ) → Flow

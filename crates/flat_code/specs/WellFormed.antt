@@ -26,8 +26,8 @@ abbrev pub is_runtime : Option RuntimeFunction → Bool
 is_runtime None = false
 is_runtime (Some f) = true
 
--- Code of the forms that are compiled so far: no Load, no Store, no Move and no call of a function of the program. A later stage drops this definition, and
--- with it the condition that a function has no frame.
+-- Code of the forms that are compiled so far: no Load, no Store, no Move and no call of a function of the program. A later stage drops this
+-- definition, and with it the condition that a function has no frame.
 abbrev mutual
   pub is_built : Code → Bool
   is_built (Seq cs) = are_built cs
@@ -103,8 +103,8 @@ abbrev pub is_long : Class → Bool
 is_long W = false
 is_long L = true
 
--- An operand is right at the class at which it is wanted, in a program with so many globals. A temporary is set in the function, and where a long is wanted
--- not as a word; an address is a long, of a global that is there or of a place of the frame.
+-- An operand is right at the class at which it is wanted, in a program with so many globals. A temporary is set in the function, and where
+-- a long is wanted not as a word; an address is a long, of a global that is there or of a place of the frame.
 abbrev pub is_operand : ℕ → FlatFn → Class → Value → Bool
 is_operand globals f class (Number n) = is_bits n
 is_operand globals f W (Temp t) = is_set f t W || is_set f t L
@@ -164,9 +164,12 @@ abbrev mutual
   pub is_right : ℕ → FlatFn → ℕ → Code → Bool
   is_right globals f around (Seq cs) = nat_lt around deepest && are_right globals f (suc around) cs
   is_right globals f around (Set temp class op a b) =
-      is_target f temp class && (may_give (op_kind op) class && (is_operand globals f (first_class (op_kind op) class) a && is_second globals f (second_class (op_kind op) class) (takes_two (op_kind op)) b))
+      is_target f temp class && (may_give (op_kind op) class &&
+      (is_operand globals f (first_class (op_kind op) class) a && is_second globals f (second_class (op_kind op) class)
+      (takes_two (op_kind op)) b))
   is_right globals f around (Load temp how at) = is_target f temp L && is_operand globals f L at
-  is_right globals f around (Store width value at) = is_width width && (is_operand globals f (stored_class width) value && is_operand globals f L at)
+  is_right globals f around (Store width value at) =
+      is_width width && (is_operand globals f (stored_class width) value && is_operand globals f L at)
   is_right globals f around (Move to from bytes) = nat_le bytes most && (is_operand globals f L to && is_operand globals f L from)
   is_right globals f around (If cond a b) = is_operand globals f W cond && (is_right globals f around a && is_right globals f around b)
   is_right globals f around (Loop c) = nat_lt around deepest && is_right globals f (suc around) c
@@ -223,7 +226,8 @@ params_have_one_class f at (c ∷ cs) = has_one_class f at c && params_have_one_
 abbrev pub is_function_right : ℕ → FlatFn → Bool
 is_function_right globals f =
     is_symbol f.name && (is_main_right f && (nat_le (length f.params) f.temps && (has_no_frame f
-    && (nests_within (code_of f.body) deepest && (is_built (code_of f.body) && (params_have_one_class f 0 f.params && is_right globals f 0 (code_of f.body)))))))
+    && (nests_within (code_of f.body) deepest &&
+    (is_built (code_of f.body) && (params_have_one_class f 0 f.params && is_right globals f 0 (code_of f.body)))))))
 
 -- ---- globals
 
@@ -267,4 +271,5 @@ are_few p = nat_le (length p.functions) most_functions && (nat_le (length p.glob
 unfoldable pub passes : FlatProgram → Bool
 passes p =
     list_all (λ (f : FlatFn). how_many p f.name == 1) p.functions && (list_all (λ (d : Data). how_many p d.name == 1) p.globals
-    && (list_any is_main p.functions && (list_all (is_function_right (length p.globals)) p.functions && (list_all (is_global p) p.globals && are_few p))))
+    && (list_any is_main p.functions && (list_all (is_function_right (length p.globals)) p.functions &&
+    (list_all (is_global p) p.globals && are_few p))))

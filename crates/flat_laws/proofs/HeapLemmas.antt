@@ -23,7 +23,7 @@ from_apart (b ∷ bs) h = (h.0, from_apart bs h.1)
 
 -- ---- blocks below where the next one begins
 
-no_blocks : (next : ℕ) → All (IsBlock next) []
+pub no_blocks : (next : ℕ) → All (IsBlock next) []
 no_blocks next k d l = absurd (omega arith)
 
 first : (next : ℕ) (b : ℕ × ℕ) (bs : List (ℕ × ℕ)) → All (IsBlock next) (b ∷ bs) → IsBlock next b

@@ -13,8 +13,9 @@ use Rattle.flat_code.specs.declared.program.FlatProgram.{FlatProgram}
 use Rattle.flat_code.specs.declared.value.Value.{Value}
 use Rattle.flat_code.specs.Code.{Code, Codes, none, more, Seq, Set, Load, Store, Move, If, Loop, Leave, Call, Ret}
 use Rattle.flat_code.specs.Shape.{code_of}
+use Rattle.flat_code.specs.Operations.{gives}
 use Rattle.flat_code.specs.State.{State, cut, value_of, set_temp, give, with_memory, stepped, Flow, Next, Left, Returned, Exit, Abort, Fault, HeapFull, Spent, Result, then_go, caught, then_turn, spends}
-use Rattle.flat_code.specs.Evaluation.{Meaning, Less, computed, loaded, extension, load_bytes, stored, moved, overlap, cut_each, acted, runtime_called, function_named, entered, left, back, called, returns, flat, flat_begun, flat_below, flats_in}
+use Rattle.flat_code.specs.Evaluation.{Less, computed, loaded, extension, load_bytes, stored, moved, overlap, cut_each, acted, runtime_called, function_named, entered, left, back, called, returns, flat, flat_begun, flat_below, flats_in}
 use Rattle.flat_laws.specs.Runs.{GoesOn, OfAllCode}
 
 -- ---- what a function of the runtime does to a world
@@ -196,9 +197,9 @@ module _ (K E : State → State → Type 0) (laws : Steady K E) where
   computing s t class None = ending s
   computing s t class (Some v) = setting s t class v
 
-  loading : (meaning : Meaning) (s : State) (t : ℕ) (how : LoadKind) (o : Option ℕ) → Holds s (loaded meaning s t how o)
-  loading meaning s t how None = ending s
-  loading meaning s t how (Some v) = computing s t L (meaning L (extension how) v 0)
+  loading : (s : State) (t : ℕ) (how : LoadKind) (o : Option ℕ) → Holds s (loaded s t how o)
+  loading s t how None = ending s
+  loading s t how (Some v) = computing s t L (gives L (extension how) v 0)
 
   writing : (s : State) (at : ℕ) (bs : List ℕ) → K s (with_memory s (write s.world.memory at bs))
   writing s at bs = laws.wrote s at bs s.world.input s.world.output
@@ -251,7 +252,7 @@ module _ (K E : State → State → Type 0) (laws : Steady K E) where
   coming_back s t class f vs (HeapFull, u) h = laws.ended s u f vs h
   coming_back s t class f vs (Spent, u) h = laws.ended s u f vs h
 
-  module _ (meaning : Meaning) (p : FlatProgram) where
+  module _ (p : FlatProgram) where
     module _ (n : ℕ) (less : Less) (below : (c : Code) (s : State) → Holds s (less c s)) where
       calling : (s : State) (t : Option ℕ) (name : List ℕ) (f : Option FlatFn) (vs : List ℕ) → Holds s (called n less s t name f vs)
       calling s t name None vs = runtime_calling s t (runtime_function name) vs
@@ -262,10 +263,10 @@ module _ (K E : State → State → Type 0) (laws : Steady K E) where
       counting s k r h = after s (stepped k s) (laws.counted s k) r h
 
       mutual
-        begins : (c : Code) (s : State) → Holds s (flat_begun meaning p n less c s)
-        begins (Seq cs) s = catching s (flats_in meaning p n less cs s) (goes_through cs s)
-        begins (Set t class op a b) s = computing s t class (meaning class op (value_of p s a) (value_of p s b))
-        begins (Load t how at) s = loading meaning s t how (load s.world.memory (value_of p s at) (load_bytes how))
+        begins : (c : Code) (s : State) → Holds s (flat_begun p n less c s)
+        begins (Seq cs) s = catching s (flats_in p n less cs s) (goes_through cs s)
+        begins (Set t class op a b) s = computing s t class (gives class op (value_of p s a) (value_of p s b))
+        begins (Load t how at) s = loading s t how (load s.world.memory (value_of p s at) (load_bytes how))
         begins (Store width value at) s =
             storing (all_mapped s.world.memory (value_of p s at) width) s (value_of p s at) (le_bytes width (value_of p s value))
         begins (Move to from bytes) s =
@@ -275,7 +276,7 @@ module _ (K E : State → State → Type 0) (laws : Steady K E) where
             (bytes_at s.world.memory b bytes)
         begins (If cond a b) s =
             let t : State = stepped 1 s in
-            branching (cut W (value_of p s cond) == 0) s (flat_begun meaning p n less b t) (flat_begun meaning p n less a t)
+            branching (cut W (value_of p s cond) == 0) s (flat_begun p n less b t) (flat_begun p n less a t)
             (counting s 1 _ (begins b t)) (counting s 1 _ (begins a t))
         begins (Loop c) s = spending n s _ (turning s (less c s) (less (Loop c)) (below c s) (below (Loop c)))
         begins (Leave k) s = laws.same s
@@ -284,21 +285,21 @@ module _ (K E : State → State → Type 0) (laws : Steady K E) where
             counting s (length args) _ (calling u t name (function_named p.functions name) (map (value_of p s) args))
         begins (Ret value) s = returning p s value
 
-        goes_through : (cs : Codes) (s : State) → Holds s (flats_in meaning p n less cs s)
+        goes_through : (cs : Codes) (s : State) → Holds s (flats_in p n less cs s)
         goes_through none s = laws.same s
         goes_through (more c cs) s =
             let t : State = stepped 1 s in
-            going s (flat_begun meaning p n less c t) (flats_in meaning p n less cs) (counting s 1 _ (begins c t)) (goes_through cs)
+            going s (flat_begun p n less c t) (flats_in p n less cs) (counting s 1 _ (begins c t)) (goes_through cs)
 
-    bodies : (n : ℕ) (c : Code) (s : State) → Holds s (flat_below meaning p n c s)
+    bodies : (n : ℕ) (c : Code) (s : State) → Holds s (flat_below p n c s)
     bodies zero c s = ending s
-    bodies (suc n) c s = after s (stepped 1 s) (laws.counted s 1) _ (begins n (flat_below meaning p n) (bodies n) c (stepped 1 s))
+    bodies (suc n) c s = after s (stepped 1 s) (laws.counted s 1) _ (begins n (flat_below p n) (bodies n) c (stepped 1 s))
 
   pub steady : OfAllCode Holds
   steady = record {
-    statement = λ meaning p n c s. bodies meaning p (suc n) c s;
-    begun = λ meaning p n c s. begins meaning p n (flat_below meaning p n) (bodies meaning p n) c s;
-    statements = λ meaning p n cs s. goes_through meaning p n (flat_below meaning p n) (bodies meaning p n) cs s;
+    statement = λ p n c s. bodies p (suc n) c s;
+    begun = λ p n c s. begins p n (flat_below p n) (bodies p n) c s;
+    statements = λ p n cs s. goes_through p n (flat_below p n) (bodies p n) cs s;
     body = bodies;
   }
 
@@ -306,10 +307,10 @@ module _ (K E : State → State → Type 0) (laws : Steady K E) where
 pub of_all_code : (Holds Follows : State → Result → Type 0) → ((s : State) (r : Result) → Holds s r → Follows s r) → OfAllCode Holds →
     OfAllCode Follows
 of_all_code Holds Follows on h = record {
-  statement = λ meaning p n c s. on s (flat meaning p n c s) (h.statement meaning p n c s);
-  begun = λ meaning p n c s. on s (flat_begun meaning p n (flat_below meaning p n) c s) (h.begun meaning p n c s);
-  statements = λ meaning p n cs s. on s (flats_in meaning p n (flat_below meaning p n) cs s) (h.statements meaning p n cs s);
-  body = λ meaning p n c s. on s (flat_below meaning p n c s) (h.body meaning p n c s);
+  statement = λ p n c s. on s (flat p n c s) (h.statement p n c s);
+  begun = λ p n c s. on s (flat_begun p n (flat_below p n) c s) (h.begun p n c s);
+  statements = λ p n cs s. on s (flats_in p n (flat_below p n) cs s) (h.statements p n cs s);
+  body = λ p n c s. on s (flat_below p n c s) (h.body p n c s);
 }
 
 -- what is weaker holds however code ends

@@ -7,3 +7,7 @@ pub mod RowStates
 mod CallRows
 mod MapRows
 mod NameRows
+pub mod GlobalLemmas
+pub mod ArgumentLemmas
+pub mod StartLemmas
+mod StartRows

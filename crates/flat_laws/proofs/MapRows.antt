@@ -8,7 +8,7 @@ use Rattle.flat_code.specs.Addresses.{data_start, stack_start}
 use Rattle.flat_code.specs.Code.{Code, Store, Call}
 use Rattle.flat_code.specs.State.{State, Next, Left, Returned, Exit, Abort, Fault, HeapFull, Spent, Wild}
 use Rattle.flat_code.specs.Evaluation.{flat}
-use Rattle.flat_code.proofs.RowPrograms.{few, seq}
+use Rattle.flat_code.proofs.RowPrograms.{seq}
 use Rattle.flat_laws.specs.Runs.{GoesOn}
 use Rattle.flat_laws.proofs.RowStates.{calls_next, sample, begins, world, runs, Maps, Blocks}
 
@@ -77,14 +77,14 @@ below_there = refl
 abbrev dirty : State
 dirty = record begins { world = record world { memory = map_range world.memory (stack_start + 40) 1 } }
 
-not_clear : is_mapped (flat few sample 1 calls dirty).1.world.memory (stack_start + 40) ≡ false
+not_clear : is_mapped (flat sample 1 calls dirty).1.world.memory (stack_start + 40) ≡ false
 not_clear = refl
 
 -- where the heap has a block of the stack, it can be freed
 abbrev low_block : State
 low_block = record begins { world = record world { heap = record { next = heap_start; blocks = (stack_start, 16) ∷ [] } } }
 
-not_a_heap : is_mapped (flat few sample 0 (Call None (codes "rt.free") (Frame 0 ∷ [])) low_block).1.world.memory stack_start ≡ false
+not_a_heap : is_mapped (flat sample 0 (Call None (codes "rt.free") (Frame 0 ∷ [])) low_block).1.world.memory stack_start ≡ false
 not_a_heap = refl
 
 -- ---- the heap

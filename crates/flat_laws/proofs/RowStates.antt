@@ -13,7 +13,7 @@ use Rattle.flat_code.specs.Code.{Code, Set, Store, Call, Ret, Loop}
 use Rattle.flat_code.specs.Addresses.{data_start, stack_start}
 use Rattle.flat_code.specs.State.{State, Flow, Result}
 use Rattle.flat_code.specs.Evaluation.{flat}
-use Rattle.flat_code.proofs.RowPrograms.{few, seq, plain, of_one, global, program}
+use Rattle.flat_code.proofs.RowPrograms.{seq, plain, of_one, global, program}
 
 -- a call of the function that adds 1
 abbrev pub calls_next : Value → Code
@@ -45,7 +45,7 @@ begins = record { world = world; temps = []; frame = stack_start; top = stack_st
 
 -- a run of code with `n` turns left
 abbrev pub runs : ℕ → Code → Result
-runs n c = flat few sample n c begins
+runs n c = flat sample n c begins
 
 -- how it ends, with the frame, the top and the cost as they were
 abbrev pub Stays : ℕ → Code → Flow → (steps most : ℕ) → Type 0

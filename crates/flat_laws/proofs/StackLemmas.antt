@@ -2,9 +2,9 @@
 use Rattle.std.proofs.Common.{◌≡◌, ℕ, zero, suc, ◌+◌, ◌-◌, ◌<◌, ◌≤◌, ◌⊎◌, inl, inr, Bool, true, false, List, Some, refl, sym, ◌∙◌, subst, arith}
 use Rattle.std.specs.Prelude.{nat_lt}
 use Rattle.std.proofs.lemmas.Bool.Decides.{nat_tests}
-use Rattle.hx_base.specs.Memory.{Memory, round_up, byte_at, is_mapped, map_range, unmap_range}
+use Rattle.hx_base.specs.Memory.{Memory, round_up, byte_at, is_mapped}
 use Rattle.hx_base.specs.Runtime.{heap_start, block_size, new_block}
-use Rattle.hx_base.proofs.MemoryLemmas.{in_range-inside, in_range-outside}
+use Rattle.hx_base.proofs.RangeLemmas.{is_mapped-map_range_inside as map_in, is_mapped-map_range_outside as map_out, is_mapped-unmap_range_inside as unmap_in, is_mapped-unmap_range_outside as unmap_out}
 use Rattle.flat_code.specs.declared.program.FlatFn.{FlatFn}
 use Rattle.flat_code.specs.Shape.{code_of}
 use Rattle.flat_code.specs.State.{State, Result}
@@ -17,19 +17,7 @@ use Rattle.flat_laws.proofs.Induction.{Steady, Behind, unmade, steady, of_all_co
 use Rattle.flat_laws.proofs.CountLemmas.{keeps_its_call}
 use Rattle.flat_laws.proofs.HeapLemmas.{heaps_laws, block_found}
 
--- ---- ranges
-
-map_in : (m : Memory) (at n a : ℕ) → at ≤ a → a < at + n → is_mapped (map_range m at n) a ≡ true
-map_in m at n a l u = rw (in_range-inside at n a l u) refl
-
-map_out : (m : Memory) (at n a : ℕ) → (a < at) ⊎ (at + n ≤ a) → is_mapped (map_range m at n) a ≡ is_mapped m a
-map_out m at n a h = rw (in_range-outside at n a h) refl
-
-unmap_in : (m : Memory) (at n a : ℕ) → at ≤ a → a < at + n → is_mapped (unmap_range m at n) a ≡ false
-unmap_in m at n a l u = rw (in_range-inside at n a l u) refl
-
-unmap_out : (m : Memory) (at n a : ℕ) → (a < at) ⊎ (at + n ≤ a) → is_mapped (unmap_range m at n) a ≡ is_mapped m a
-unmap_out m at n a h = rw (in_range-outside at n a h) refl
+-- ---- frames
 
 framed_in : (m : Memory) (at n a : ℕ) → at ≤ a → a < at + n → is_mapped (framed m at n) a ≡ true
 framed_in m at zero a l u = absurd (omega arith)
@@ -174,6 +162,13 @@ enters s f vs = record {
   mapped = λ a l u. framed_in s.world.memory s.top f.frame a l u;
   others = λ a h. framed_out s.world.memory s.top f.frame a h;
   bytes = λ a. framed_byte s.world.memory s.top f.frame a;
+  top = refl;
+  aligned = λ e. omega (arith, e);
+  cost = refl;
+  heap = refl;
+  input = refl;
+  output = refl;
+  steps = refl;
 }
 
 leaves : (s : State) (f : FlatFn) (t : State) → t.top ≡ s.top + round_up f.frame 16 → IsLeft s f t (left s t)
@@ -182,14 +177,21 @@ leaves s f t e = record {
   others = λ a h. unmap_out t.world.memory s.top (t.top - s.top) a (rw size h);
   bytes = λ a. refl;
   within = round_up-most f.frame;
+  heap = refl;
+  input = refl;
+  output = refl;
+  steps = refl;
+  most = refl;
+  call = record { frame = refl; top = refl; cost = refl };
+  temps = refl;
 }
   where
     size : t.top - s.top ≡ round_up f.frame 16
     size = omega (arith, e)
 
 pub calls_stay_apart : CallsStayApart
-calls_stay_apart meaning p n s f vs = record {
+calls_stay_apart p n s f vs = record {
   enters = enters s f vs;
   leaves =
-      λ on. leaves s f _ (keeps_its_call.body meaning p n (code_of f.body) (entered s f vs) on).top;
+      λ on. leaves s f _ (keeps_its_call.body p n (code_of f.body) (entered s f vs) on).top;
 }

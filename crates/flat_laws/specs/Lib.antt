@@ -5,3 +5,4 @@ pub mod Calls
 pub mod Heaps
 pub mod Frames
 pub mod Stacks
+pub mod Starts

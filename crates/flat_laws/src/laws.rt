@@ -7,6 +7,7 @@ ghost use Rattle.flat_laws.specs.Heaps.{KeepsTheHeap};
 ghost use Rattle.flat_laws.specs.Names.{FunctionsAreFound, RuntimeIsNotTaken};
 ghost use Rattle.flat_laws.specs.Runs.{OfAllCode};
 ghost use Rattle.flat_laws.specs.Stacks.{KeepsTheStack};
+ghost use Rattle.flat_laws.specs.Starts.{ArgumentsStand, GlobalsStand, ProgramsAreLaidOut};
 
 /// In a well formed program no function has a name of the runtime, so that a call of one is a call of the runtime.
 pub fn law_runtime_is_not_taken()
@@ -16,6 +17,21 @@ pub fn law_runtime_is_not_taken()
 /// In a well formed program each function is the one that its name calls.
 pub fn law_functions_are_found()
     ensures { FunctionsAreFound }
+{}
+
+/// As a well formed program begins, each global stands at the address of its name, at its alignment, and all of it is mapped.
+pub fn law_globals_stand()
+    ensures { GlobalsStand }
+{}
+
+/// As a program begins, each argument is in memory, and its record has its address and, twice, its length.
+pub fn law_arguments_stand()
+    ensures { ArgumentsStand }
+{}
+
+/// As a well formed program begins whose arguments have room, globals, records and arguments share no address, and nothing else is mapped.
+pub fn law_programs_are_laid_out()
+    ensures { ProgramsAreLaidOut }
 {}
 
 /// However code ends, the fill byte is what it was, steps and the most that calls cost have not become fewer, and what they cost is not above that most.

@@ -33,7 +33,6 @@ use Rattle.il_code.proofs.Budgets.{run_to-after_steps}
 use Rattle.il_emit.specs.Names.{label_name}
 use Rattle.il_emit.specs.Lines.{Line, Label, End, code_lines, end_value, function_lines}
 use Rattle.il_emit.specs.Emitted.{params_of, blocks_of, module_of}
-use Rattle.il_emit.specs.Meaning.{il_meaning}
 use Rattle.il_emit.specs.Numbered.{HasFewNames}
 use Rattle.il_emit.specs.Reaches.{SameWorld, end_for, Arrives, Overflows, Reaches}
 use Rattle.il_emit.proofs.CallCosts.{costs_no_more}
@@ -143,10 +142,10 @@ module _ (p : FlatProgram) (w : IsWellFormed p) (few : AllByRecursion HasFewName
     flat_first = entered (before_calls (flat_run.start_world p args input fill)) f []
 
     abbrev flat_body : Result
-    flat_body = flat_begun il_meaning p n (flat_below il_meaning p n) (code_of f.body) (stepped 1 flat_first)
+    flat_body = flat_begun p n (flat_below p n) (code_of f.body) (stepped 1 flat_first)
 
-    flat_runs : run il_meaning p args input fill n ≡ flat_run.ended flat_body
-    flat_runs = ap (run_from il_meaning p n (before_calls (flat_run.start_world p args input fill))) named
+    flat_runs : run p args input fill n ≡ flat_run.ended flat_body
+    flat_runs = ap (run_from p n (before_calls (flat_run.start_world p args input fill))) named
 
     same_world : flat_first.world ≡ world
     same_world =
@@ -268,12 +267,12 @@ module _ (p : FlatProgram) (w : IsWellFormed p) (few : AllByRecursion HasFewName
             inr (overflows (flat_run.ended flat_body) (starts ∙ ap (λ (b : Bool). begun_with (if b then Some StackFull else None)) e) large h.most)
         pick false e = inl (arrives (flat_run.ended flat_body) (starts ∙ ap (λ (b : Bool). begun_with (if b then Some StackFull else None)) e) (ends flat_body body_meets))
 
-    main_reaches : Arrives (module_of p) args input fill n (run il_meaning p args input fill n) ⊎ Overflows (module_of p) args input fill n (run il_meaning p args input fill n)
+    main_reaches : Arrives (module_of p) args input fill n (run p args input fill n) ⊎ Overflows (module_of p) args input fill n (run p args input fill n)
     main_reaches = subst (λ (r : Result). Arrives (module_of p) args input fill n r ⊎ Overflows (module_of p) args input fill n r) (sym flat_runs) comes
 
   pub reaches : Reaches p (module_of p)
   reaches args input fill n = pick (flat.function_named p.functions (codes "main")) refl
     where
-      pick : (o : Option FlatFn) → flat.function_named p.functions (codes "main") ≡ o → Arrives (module_of p) args input fill n (run il_meaning p args input fill n) ⊎ Overflows (module_of p) args input fill n (run il_meaning p args input fill n)
+      pick : (o : Option FlatFn) → flat.function_named p.functions (codes "main") ≡ o → Arrives (module_of p) args input fill n (run p args input fill n) ⊎ Overflows (module_of p) args input fill n (run p args input fill n)
       pick None e = absurd (main_there p.functions w.main e)
       pick (Some f) e = main_reaches f (found (length p.globals) (codes "main") p.functions f w.functions few e) e args input fill n

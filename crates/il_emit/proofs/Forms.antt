@@ -13,6 +13,7 @@ use Rattle.flat_code.specs.declared.program.FlatProgram.{FlatProgram}
 use Rattle.flat_code.specs.declared.value.Value.{Value}
 use Rattle.flat_code.specs.declared.value.Value.TheVariants as value
 use Rattle.flat_code.specs.Costs.{addressed}
+use Rattle.flat_code.specs.Operations.{gives}
 use Rattle.flat_code.specs.Evaluation as flat
 use Rattle.flat_code.specs.Evaluation.{cut_each}
 use Rattle.flat_code.specs.Kinds.{op_kind, takes_two, first_class, second_class}
@@ -36,12 +37,11 @@ use Rattle.il_code.specs.Step.{Step, Kind, Computes, kind_of, second_value, set_
 use Rattle.il_code.specs.State as il_state
 use Rattle.il_code.specs.Run.{Run, after_step, further, after_steps}
 use Rattle.il_emit.specs.Lines.{Line, Label, Do, End, operand, second, address_lines, arg_lines, args_of, all_addressed, result_param, call_params, return_lines}
-use Rattle.il_emit.specs.Meaning.{il_meaning, given, second_number}
 use Rattle.il_emit.specs.Names.{temp_name, label_name}
-use Rattle.il_emit.specs.Ops.{il_op}
+use Rattle.il_emit.specs.Ops.{il_op, given, second_number, il_outcome}
 use Rattle.il_emit.specs.Reaches.{fault_for}
-use Rattle.il_emit.proofs.Operands.{cut_same, addressed_one, same_set, Setting, behind_address, address_steps, address_used, address_jumps, address_same, address_keeps, operand_ready, stays_ready, behind_args, arg_steps, args_used, args_jumps, args_same, args_ready}
-use Rattle.il_emit.proofs.Outcomes.{Fine, gives, divides, op_fine, op_computes}
+use Rattle.il_emit.proofs.Operands.{addressed_one, same_set, Setting, behind_address, address_steps, address_used, address_jumps, address_same, address_keeps, operand_ready, stays_ready, behind_args, arg_steps, args_used, args_jumps, args_same, args_ready}
+use Rattle.il_emit.proofs.Outcomes.{Fine, has_value, has_no_divisor, op_fine, operations_agree, op_computes}
 use Rattle.il_emit.proofs.Places.{Finds}
 use Rattle.il_emit.proofs.Meeting.{later}
 use Rattle.il_emit.proofs.Running.{Activation, counted, Mark, worth, steps_more, state_at, before, value_is, Same, Holds, Comes, Meets, jumped_to, jump_step}
@@ -74,15 +74,15 @@ module _ (p : FlatProgram) (f : FlatFn) (m : Module) (set : Setting p f m) (call
       → t < 2 ^ 64 → Holds call.floor s c → c.used + 1 + low ≤ high + 4 * s.steps → Fine v
       → further m (run_at here s.world c) ≡ after_step (run_at here s.world c) (step.computed (at rest s.world c) (temp_name t) class v)
       → Meets m call n (counted c) low high out rest (run_at here s.world c) (flat.computed s t class (given v))
-  outcome_meets n low high out t class here rest s c _ lt h u (gives v) e = record {
+  outcome_meets n low high out t class here rest s c _ lt h u (has_value v) e = record {
     to = record c { used = c.used + 1 + 0; temps = (temp_name t, cut class v) ∷ c.temps };
     count = 1;
     by = e;
-    holds = record { same = subst (λ (x : ℕ). Same ((t, state.cut class v) ∷ s.temps) ((temp_name t, x) ∷ c.temps)) (sym (cut_same class v)) (same_set s.temps c.temps t (state.cut class v) lt h.same); most = h.most };
+    holds = record { same = same_set s.temps c.temps t (cut class v) lt h.same; most = h.most };
     jumps = omega arith;
     units = omega arith;
   }
-  outcome_meets n low high out t class here rest s c _ lt h u divides e = record {
+  outcome_meets n low high out t class here rest s c _ lt h u has_no_divisor e = record {
     count = 1;
     ended = ap (λ (r : Run). r.ended) e;
     world = ap (λ (r : Run). r.state.world) e;
@@ -117,7 +117,7 @@ module _ (p : FlatProgram) (f : FlatFn) (m : Module) (set : Setting p f m) (call
       → k + (addressed a + addressed b) < 2 ^ 64 → Holds call.floor s c
       → Meets m call n (counted c) (4 * s.steps) (c.used + 3) out rest
       (run_at ((address_lines p.globals a k ++ (address_lines p.globals b (k + addressed a) ++ (Do (inst.Set (temp_name t) class (il_op o) (operand p.globals a k) (second (takes_two (op_kind o)) (operand p.globals b (k + addressed a)))) ∷ []))) ++ rest) s.world c)
-      (flat.computed s t class (il_meaning class o (value_of p s a) (value_of p s b)))
+      (flat.computed s t class (gives class o (value_of p s a) (value_of p s b)))
   set_meets n out t class o a b k rest s c ht ha hb few h =
       let kb = k + addressed a in
       let ca = behind_address p f m set call a k c in
@@ -142,8 +142,11 @@ module _ (p : FlatProgram) (f : FlatFn) (m : Module) (set : Setting p f m) (call
       let one_a = addressed_one a in
       let one_b = addressed_one b in
       let j : counted cb ≡ counted c = address_jumps p f m set call b kb ca ∙ address_jumps p f m set call a k c in
-      later m call (addressed a + addressed b) _ (run_at (last ++ rest) s.world cb) by (4 * s.steps) (4 * s.steps) (c.used + 3) (c.used + 3) (omega arith) n n (counted c) (counted cb) out rest _ (omega arith) (omega arith)
-      (outcome_meets n (4 * s.steps) (c.used + 3) out t class (last ++ rest) rest s cb _ (target_small t class ht) (record { same = same_b; most = h.most }) (omega arith) (op_fine o class (value_of p s a) (value_of p s b)) goes)
+      let lines : List Line = (address_lines p.globals a k ++ (address_lines p.globals b kb ++ last)) ++ rest in
+      subst (λ (v : Option ℕ). Meets m call n (counted c) (4 * s.steps) (c.used + 3) out rest (run_at lines s.world c) (flat.computed s t class v))
+      (sym (operations_agree class o (value_of p s a) (value_of p s b)))
+      (later m call (addressed a + addressed b) _ (run_at (last ++ rest) s.world cb) by (4 * s.steps) (4 * s.steps) (c.used + 3) (c.used + 3) (omega arith) n n (counted c) (counted cb) out rest _ (omega arith) (omega arith)
+      (outcome_meets n (4 * s.steps) (c.used + 3) out t class (last ++ rest) rest s cb _ (target_small t class ht) (record { same = same_b; most = h.most }) (omega arith) (op_fine o class (value_of p s a) (value_of p s b)) goes))
 
   -- ---- calls of the runtime
 
@@ -176,7 +179,7 @@ module _ (p : FlatProgram) (f : FlatFn) (m : Module) (set : Setting p f m) (call
     to = record c { used = c.used + 1 + moved / 64; temps = (temp_name t, cut class v) ∷ c.temps };
     count = 1;
     by = e;
-    holds = record { same = subst (λ (x : ℕ). Same ((t, state.cut class v) ∷ s.temps) ((temp_name t, x) ∷ c.temps)) (sym (cut_same class v)) (same_set s.temps c.temps t (state.cut class v) (target_small t class r) h.same); most = h.most };
+    holds = record { same = same_set s.temps c.temps t (cut class v) (target_small t class r) h.same; most = h.most };
     jumps = omega arith;
     units = omega arith;
   }

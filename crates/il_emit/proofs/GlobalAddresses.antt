@@ -1,8 +1,7 @@
 -- Globals stand at the same addresses on both sides, and a run begins with the same memory.
-use Rattle.std.proofs.Common.{◌≡◌, ℕ, zero, suc, ◌+◌, ◌-◌, ◌*◌, ◌%◌, ◌^◌, ◌<◌, ◌≤◌, Bool, true, false, ◌||◌, List, [], ◌∷◌, ◌++◌, map, length, Option, None, Some, refl, sym, ap, ◌∙◌, arith, append_assoc, append-nil}
-use Rattle.std.specs.Prelude.{bytes_eq, count_by, sum_by, max, slice_index_or, ◌==◌}
+use Rattle.std.proofs.Common.{◌≡◌, ℕ, zero, suc, ◌+◌, ◌-◌, ◌*◌, ◌%◌, ◌^◌, ◌<◌, ◌≤◌, Bool, true, false, ◌||◌, List, [], ◌∷◌, ◌++◌, map, length, Option, None, Some, refl, sym, ap, ◌∙◌, subst, arith, append_assoc, append-nil}
+use Rattle.std.specs.Prelude.{bytes_eq, count_by, sum_by, max, slice_get, slice_index_or, ◌==◌}
 use Rattle.std.specs.List.{flat_map, list_all, list_any}
-use Rattle.std.proofs.Math.Nat.{div-mul-le_self}
 use Rattle.std.proofs.lemmas.Bool.{and_parts}
 use Rattle.std.proofs.lemmas.Bool.Decides.{nat_tests}
 use Rattle.std.proofs.lemmas.Grind.{common_steps, flat_map-append}
@@ -16,6 +15,7 @@ use Rattle.flat_code.specs.declared.program.Item.{Item}
 use Rattle.flat_code.specs.declared.program.Item.TheVariants as item
 use Rattle.flat_code.specs.Addresses as flat
 use Rattle.flat_code.specs.Addresses.{addresses_from, item_bytes, item_size, with_global, with_globals}
+use Rattle.flat_code.proofs.GlobalPlaces as flat_place
 use Rattle.flat_code.specs.WellFormed.{IsWellFormed, is_alignment, is_bits, is_global, is_item, is_symbol, is_width, has_global, how_many, global_size}
 use Rattle.il_code.specs.declared.types.IlItem.{IlItem}
 use Rattle.il_code.specs.declared.types.Module.{Module}
@@ -25,7 +25,7 @@ use Rattle.il_code.specs.declared.types.PartValue.TheVariants as value
 use Rattle.il_code.specs.Addresses.{width_bytes, value_size, part_size, data_size, symbols_from, function_step, functions_start, data_start, address, value_bytes, part_bytes, with_item, with_data, start_memory}
 use Rattle.il_code.specs.Addresses as il_address
 use Rattle.il_code.specs.Tokens.{is_string_byte}
-use Rattle.il_emit.specs.Lines.{name_at}
+use Rattle.il_emit.specs.Lines.{name_of, name_at}
 use Rattle.il_emit.specs.Emitted.{string_of, byte_values, bytes_part, item_parts, parts_of, data_item, function_item, module_of}
 use Rattle.il_emit.proofs.Counts.{sum_cons, weight, or_true}
 use Rattle.il_emit.proofs.NumberedNames.{bytes_same}
@@ -90,25 +90,15 @@ name_any [] i h = absurd (omega arith)
 name_any (d ∷ ds) zero h = ap (λ (b : Bool). b || list_any (λ (x : Data). bytes_eq x.name d.name) ds) (bytes_same d.name)
 name_any (d ∷ ds) (suc i) h = or_true (bytes_eq d.name (name_at ds i)) _ (name_any ds i (omega arith))
 
-name_counts : (ds : List Data) (i : ℕ) → i < length ds → 1 ≤ count_by (λ (d : Data). bytes_eq d.name (name_at ds i)) ds
-name_counts [] i h = absurd (omega arith)
-name_counts (d ∷ ds) zero h = omega (arith, sum_cons (λ (x : Data). weight (bytes_eq x.name d.name)) d ds, ap weight (bytes_same d.name))
-name_counts (d ∷ ds) (suc i) h = omega (arith, sum_cons (λ (x : Data). weight (bytes_eq x.name (name_at ds i))) d ds, name_counts ds i (omega arith))
+-- a global that is there
+record IsGlobalAt (ds : List Data) (i : ℕ) : Type 0 where
+  global : Data
+  found : slice_get ds i ≡ Some global
 
--- where names differ, a table has the address of a global at its name
-lookup_at : (at : ℕ) (ds : List Data) (i : ℕ) → i < length ds → count_by (λ (d : Data). bytes_eq d.name (name_at ds i)) ds ≤ 1 → lookup (name_at ds i) (addresses_from at ds) ≡ Some (slice_index_or (addresses_from at ds) i ([], 0)).1
-lookup_at at [] i h c = absurd (omega arith)
-lookup_at at (d ∷ ds) zero h c = rw (bytes_same d.name) refl
-lookup_at at (d ∷ ds) (suc i) h c = pick (bytes_eq d.name (name_at ds i)) refl (lookup_at (round_up at d.align + flat.data_size d) ds i (omega arith))
-  where
-    sums : count_by (λ (x : Data). bytes_eq x.name (name_at ds i)) (d ∷ ds) ≡ weight (bytes_eq d.name (name_at ds i)) + count_by (λ (x : Data). bytes_eq x.name (name_at ds i)) ds
-    sums = sum_cons (λ (x : Data). weight (bytes_eq x.name (name_at ds i))) d ds
-
-    pick : (b : Bool) → bytes_eq d.name (name_at ds i) ≡ b
-        → (count_by (λ (x : Data). bytes_eq x.name (name_at ds i)) ds ≤ 1 → lookup (name_at ds i) (addresses_from (round_up at d.align + flat.data_size d) ds) ≡ Some (slice_index_or (addresses_from (round_up at d.align + flat.data_size d) ds) i ([], 0)).1)
-        → lookup (name_at ds i) (addresses_from at (d ∷ ds)) ≡ Some (slice_index_or (addresses_from at (d ∷ ds)) (suc i) ([], 0)).1
-    pick true e on = absurd (omega (arith, c, sums, ap weight e, name_counts ds i (omega arith)))
-    pick false e on = rw e (on (omega (arith, c, sums)))
+global_at : (ds : List Data) (i : ℕ) → i < length ds → IsGlobalAt ds i
+global_at [] i h = absurd (omega arith)
+global_at (d ∷ ds) zero h = record { global = d; found = refl }
+global_at (d ∷ ds) (suc i) h = let on = global_at ds i (omega arith) in record { global = on.global; found = on.found }
 
 -- ---- bytes
 
@@ -176,35 +166,6 @@ module _ (p : FlatProgram) (m : Module) (known : (name : List ℕ) → has_globa
 
 -- ---- a whole program
 
-rounded : (at align : ℕ) → is_alignment align ≡ true → round_up at align ≤ at + 15
-rounded at align h =
-    let below : align ≤ 16 = grind (arith, nat_tests, common_steps) in
-    let d = div-mul-le_self (at + (align - 1)) align in
-    omega (arith, d, below)
-
--- no address is large
-addresses_small : (p : FlatProgram) (at : ℕ) (ds : List Data) (i : ℕ) → list_all (is_global p) ds ≡ true → i < length ds → (slice_index_or (addresses_from at ds) i ([], 0)).1 ≤ at + 16 * length ds + sum_by global_size ds
-addresses_small p at [] i h l = absurd (omega arith)
-addresses_small p at (d ∷ ds) i h l = pick i l (addresses_small p (round_up at d.align + flat.data_size d) ds)
-  where
-    k : (is_global p d ≡ true) × (list_all (is_global p) ds ≡ true)
-    k = and_parts (is_global p d) (list_all (is_global p) ds) h
-
-    near : round_up at d.align ≤ at + 15
-    near = rounded at d.align (and_parts (is_alignment d.align) (list_all (is_item p) d.items) (and_parts (is_symbol d.name) _ k.0).1).0
-
-    sums : sum_by global_size (d ∷ ds) ≡ global_size d + sum_by global_size ds
-    sums = sum_cons global_size d ds
-
-    takes : flat.data_size d ≤ 1 + global_size d
-    takes = omega arith
-
-    pick : (j : ℕ) → j < length (d ∷ ds)
-        → ((j' : ℕ) → list_all (is_global p) ds ≡ true → j' < length ds → (slice_index_or (addresses_from (round_up at d.align + flat.data_size d) ds) j' ([], 0)).1 ≤ round_up at d.align + flat.data_size d + 16 * length ds + sum_by global_size ds)
-        → (slice_index_or (addresses_from at (d ∷ ds)) j ([], 0)).1 ≤ at + 16 * length (d ∷ ds) + sum_by global_size (d ∷ ds)
-    pick zero u on = omega (arith, near)
-    pick (suc j) u on = omega (arith, near, sums, takes, on j k.1 (omega arith))
-
 module _ (p : FlatProgram) (w : IsWellFormed p) where
   differ : (ds : List Data) (i : ℕ) → list_all (λ (d : Data). how_many p d.name == 1) ds ≡ true → i < length ds → how_many p (name_at ds i) ≡ 1
   differ [] i h l = absurd (omega arith)
@@ -227,18 +188,33 @@ module _ (p : FlatProgram) (w : IsWellFormed p) where
       both None = refl
       both (Some n) = refl
 
+  -- where a table is looked up by the name of a global, it has the global's address
+  looked_up_at : (i : ℕ) → i < length p.globals → lookup (name_at p.globals i) (addresses_from data_start p.globals) ≡ Some (flat.address_at p i)
+  looked_up_at i h = subst (λ (name : List ℕ). lookup name (addresses_from data_start p.globals) ≡ Some (flat.address_at p i)) (sym named_so)
+      (flat_place.looked_up data_start p.globals i g.global g.found (omega (arith, one)))
+    where
+      g : IsGlobalAt p.globals i
+      g = global_at p.globals i h
+
+      named_so : name_at p.globals i ≡ g.global.name
+      named_so = ap name_of g.found
+
+      one : how_many p g.global.name ≡ 1
+      one = subst (λ (name : List ℕ). how_many p name ≡ 1) named_so (differ p.globals i w.globals_differ h)
+
   -- a global has the same address on both sides
   pub address_is : (i : ℕ) → i < length p.globals → address (module_of p) (name_at p.globals i) ≡ flat.address_at p i
   address_is i h =
-      let one = differ p.globals i w.globals_differ h in
-      let e = looked_up (name_at p.globals i) (name_any p.globals i h) ∙ lookup_at data_start p.globals i h (omega (arith, one)) in
+      let e = looked_up (name_at p.globals i) (name_any p.globals i h) ∙ looked_up_at i h in
       ap il_address.or_zero e
 
   pub address_small : (i : ℕ) → i < length p.globals → flat.address_at p i < 2 ^ 64
   address_small i h =
       let few : length p.globals ≤ 1073741824 = let z = w.few_globals in grind (arith, nat_tests) in
       let bytes : sum_by global_size p.globals ≤ 1073741824 = let z = w.few_bytes in grind (arith, nat_tests) in
-      omega (arith, few, bytes, addresses_small p data_start p.globals i w.globals h)
+      let g = global_at p.globals i h in
+      let place = flat_place.located p data_start p.globals i g.global w.globals g.found in
+      omega (arith, few, bytes, place.below, (flat_place.ends_within p data_start p.globals w.globals).high)
 
   -- and the memory is the same as the runs begin
   pub start_same : (fill : ℕ) (args : List (List ℕ)) → start_memory fill (module_of p) args ≡ flat.start_memory fill p args

@@ -26,3 +26,4 @@ pub mod BackwardJumps
 pub mod CallCounts
 pub mod Shapes
 mod ReachesRows
+mod OperationRows

@@ -1,5 +1,5 @@
 -- Names that are made of numbers: they are identifiers, and they differ where the numbers do.
-use Rattle.std.proofs.Common.{◌≡◌, ℕ, ◌<◌, ◌^◌, Bool, true, false, List, [], ◌∷◌, refl, ap, arith}
+use Rattle.std.proofs.Common.{◌≡◌, ℕ, ◌<◌, ◌^◌, true, List, [], ◌∷◌, refl, arith}
 use Rattle.std.specs.Prelude.{bytes_eq, nat_eq}
 use Rattle.std.specs.Char.{is_ascii_digit}
 use Rattle.std.specs.Fmt.{decimal}
@@ -8,29 +8,17 @@ use Rattle.std.specs.Str.{all_ascii_digits}
 use Rattle.std.specs.Str.Parse.{digits_value}
 use Rattle.std.proofs.lemmas.Bool.{and_parts}
 use Rattle.std.proofs.lemmas.Bool.Decides.{nat_tests}
-use Rattle.std.proofs.lemmas.Fmt.{decimal_injective, digits_decimal}
+use Rattle.std.proofs.lemmas.Fmt.{digits_decimal}
 use Rattle.std.proofs.lemmas.Grind.{common_steps}
 use Rattle.std.proofs.lemmas.Slice.Eq.{bytes_eq-Decides}
 use Rattle.std.proofs.lemmas.Str.Parse.{IsNumeralModel, numerals_by_value, tells_all_ascii_digits}
+use Rattle.flat_code.proofs.NumberNames.{decimal_eq}
 use Rattle.il_code.specs.Tokens.{is_name_byte, is_identifier}
 use Rattle.il_emit.specs.Names.{temp_name, address_name, label_name}
 use Rattle.il_emit.proofs.Counts.{both_true}
 
 pub bytes_same : (s : List ℕ) → bytes_eq s s ≡ true
 bytes_same s = (bytes_eq-Decides s s).1 refl
-
--- numbers are as equal as their digits
-pub decimal_eq : (m n : ℕ) → m < 2 ^ 64 → n < 2 ^ 64 → bytes_eq (decimal m) (decimal n) ≡ nat_eq m n
-decimal_eq m n hm hn = pick (bytes_eq (decimal m) (decimal n)) (nat_eq m n) refl refl
-  where
-    pick : (a b : Bool) → bytes_eq (decimal m) (decimal n) ≡ a → nat_eq m n ≡ b → a ≡ b
-    pick true true h k = refl
-    pick false false h k = refl
-    pick true false h k = let s : m ≡ n = decimal_injective m n hm hn ((bytes_eq-Decides (decimal m) (decimal n)).0 h) in absurd (grind (arith, nat_tests))
-    pick false true h k =
-        let s : m ≡ n = grind (arith, nat_tests) in
-        let t : bytes_eq (decimal m) (decimal n) ≡ true = (bytes_eq-Decides (decimal m) (decimal n)).1 (ap decimal s) in
-        cc
 
 pub temp_eq : (m n : ℕ) → m < 2 ^ 64 → n < 2 ^ 64 → bytes_eq (temp_name m) (temp_name n) ≡ nat_eq m n
 temp_eq m n hm hn = decimal_eq m n hm hn

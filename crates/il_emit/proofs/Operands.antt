@@ -16,6 +16,7 @@ use Rattle.flat_code.specs.Evaluation.{cut_each, function_named}
 use Rattle.flat_code.specs.State as flat
 use Rattle.flat_code.specs.Temps.{is_set}
 use Rattle.flat_code.specs.WellFormed.{is_operand, are_args, is_long}
+use Rattle.flat_code.proofs.NumberNames.{decimal_eq}
 use Rattle.il_code.specs.declared.types.IlArg.{IlArg}
 use Rattle.il_code.specs.declared.types.IlValue.TheVariants as il
 use Rattle.il_code.specs.declared.types.Module.{Module}
@@ -25,13 +26,8 @@ use Rattle.il_code.specs.State as state
 use Rattle.il_code.specs.Run.{Run, after_steps}
 use Rattle.il_emit.specs.Names.{temp_name, address_name}
 use Rattle.il_emit.specs.Lines.{Line, Do, name_at, operand, address_inst, address_lines, arg_lines, args_of, all_addressed}
-use Rattle.il_emit.proofs.NumberedNames.{bytes_same, decimal_eq, temp_eq}
+use Rattle.il_emit.proofs.NumberedNames.{bytes_same, temp_eq}
 use Rattle.il_emit.proofs.Running.{Activation, counted, Mark, worth, steps_more, before, Same}
-
--- a value is cut alike on both sides
-pub cut_same : (class : Class) (v : ℕ) → cut class v ≡ flat.cut class v
-cut_same W v = refl
-cut_same L v = refl
 
 -- an operand has at most one address
 pub addressed_one : (v : Value) → addressed v ≤ 1
@@ -266,7 +262,7 @@ module _ (p : FlatProgram) (f : FlatFn) (m : Module) (set : Setting p f m) (call
       let same = address_same v k c s.temps h in
       let keeps = args_keep vs (k + addressed v) (behind_address v k c) (omega arith) in
       let ready = stays_ready s d v k (k + addressed v) (behind_address v k c) (behind_args vs (k + addressed v) (behind_address v k c)) q.0 (args_same vs (k + addressed v) (behind_address v k c) s.temps same) (omega arith) keeps (operand_ready s d v k c q.0 h) in
-      let first : cut d (worth m s.world (behind_args vs (k + addressed v) (behind_address v k c)).temps (operand p.globals v k)) ≡ flat.cut d (flat.value_of p s v) = ap (cut d) ready.value ∙ cut_same d (flat.value_of p s v) in
+      let first : cut d (worth m s.world (behind_args vs (k + addressed v) (behind_address v k c)).temps (operand p.globals v k)) ≡ cut d (flat.value_of p s v) = ap (cut d) ready.value in
       let rest = args_ready s cs vs (k + addressed v) (behind_address v k c) q.1 (omega arith) same in
       ap (λ (x : ℕ). x ∷ map (λ (a : IlArg). cut a.class (worth m s.world (behind_args vs (k + addressed v) (behind_address v k c)).temps a.value)) (args_of p.globals cs vs (k + addressed v))) first
-      ∙ ap (λ (xs : List ℕ). flat.cut d (flat.value_of p s v) ∷ xs) rest
+      ∙ ap (λ (xs : List ℕ). cut d (flat.value_of p s v) ∷ xs) rest

@@ -1,67 +1,81 @@
--- Each operation of flat code is one that computes, and gives a value or finds that its divisor is 0.
-use Rattle.std.proofs.Common.{◌≡◌, ℕ, Bool, true, false, Some, refl}
+-- Each operation of flat code is one that computes, and gives a value or finds that its divisor is 0, as it does in flat code.
+use Rattle.std.proofs.Common.{◌≡◌, ℕ, Bool, true, false, Some, None, refl}
 use Rattle.std.specs.Prelude.{Ok, Err, ◌==◌, if◌then◌else◌}
 use Rattle.hx_base.specs.declared.Class.{Class}
+use Rattle.hx_base.specs.Operations.{is_zero, quotient, remainder, unsigned_quotient, unsigned_remainder}
 use Rattle.flat_code.specs.declared.op.Op.{Op}
 use Rattle.flat_code.specs.declared.op.Op.TheVariants as flat
-use Rattle.flat_code.specs.Kinds.{op_kind, takes_two}
 use Rattle.il_code.specs.declared.types.MachineFault.TheVariants.{ZeroDivisor}
-use Rattle.il_code.specs.Operations.{Outcome, cut, op_value}
+use Rattle.il_code.specs.Operations.{Outcome, cut}
 use Rattle.il_code.specs.Step.{Computes, kind_of}
-use Rattle.il_emit.specs.Meaning.{second_number}
-use Rattle.il_emit.specs.Ops.{il_op}
+use Rattle.il_emit.specs.Ops.{il_op, given, il_outcome, OperationsAgree}
 
 -- what an operation of flat code may give
 pub data Fine : Outcome → Type 0 where
-  gives : (v : ℕ) → Fine (Some (Ok v))
-  divides : Fine (Some (Err ZeroDivisor))
+  has_value : (v : ℕ) → Fine (Some (Ok v))
+  has_no_divisor : Fine (Some (Err ZeroDivisor))
 
 tested : (zero : Bool) (v : ℕ) → Fine (if zero then Some (Err ZeroDivisor) else Some (Ok v))
-tested true v = divides
-tested false v = gives v
+tested true v = has_no_divisor
+tested false v = has_value v
 
-pub op_fine : (o : Op) (class : Class) (a b : ℕ) → Fine (op_value class (il_op o) a (second_number (takes_two (op_kind o)) b))
-op_fine flat.Neg class a b = gives _
-op_fine flat.Copy class a b = gives _
-op_fine flat.Extsb class a b = gives _
-op_fine flat.Extub class a b = gives _
-op_fine flat.Extsh class a b = gives _
-op_fine flat.Extuh class a b = gives _
-op_fine flat.Extsw class a b = gives _
-op_fine flat.Extuw class a b = gives _
-op_fine flat.Add class a b = gives _
-op_fine flat.Sub class a b = gives _
-op_fine flat.Mul class a b = gives _
+pub op_fine : (o : Op) (class : Class) (a b : ℕ) → Fine (il_outcome class o a b)
+op_fine flat.Neg class a b = has_value _
+op_fine flat.Copy class a b = has_value _
+op_fine flat.Extsb class a b = has_value _
+op_fine flat.Extub class a b = has_value _
+op_fine flat.Extsh class a b = has_value _
+op_fine flat.Extuh class a b = has_value _
+op_fine flat.Extsw class a b = has_value _
+op_fine flat.Extuw class a b = has_value _
+op_fine flat.Add class a b = has_value _
+op_fine flat.Sub class a b = has_value _
+op_fine flat.Mul class a b = has_value _
 op_fine flat.Div class a b = tested (cut class b == 0) _
 op_fine flat.Rem class a b = tested (cut class b == 0) _
 op_fine flat.Udiv class a b = tested (cut class b == 0) _
 op_fine flat.Urem class a b = tested (cut class b == 0) _
-op_fine flat.And class a b = gives _
-op_fine flat.Or class a b = gives _
-op_fine flat.Xor class a b = gives _
-op_fine flat.Shl class a b = gives _
-op_fine flat.Shr class a b = gives _
-op_fine flat.Sar class a b = gives _
-op_fine flat.Ceqw class a b = gives _
-op_fine flat.Ceql class a b = gives _
-op_fine flat.Cnew class a b = gives _
-op_fine flat.Cnel class a b = gives _
-op_fine flat.Cslew class a b = gives _
-op_fine flat.Cslel class a b = gives _
-op_fine flat.Csltw class a b = gives _
-op_fine flat.Csltl class a b = gives _
-op_fine flat.Csgew class a b = gives _
-op_fine flat.Csgel class a b = gives _
-op_fine flat.Csgtw class a b = gives _
-op_fine flat.Csgtl class a b = gives _
-op_fine flat.Culew class a b = gives _
-op_fine flat.Culel class a b = gives _
-op_fine flat.Cultw class a b = gives _
-op_fine flat.Cultl class a b = gives _
-op_fine flat.Cugew class a b = gives _
-op_fine flat.Cugel class a b = gives _
-op_fine flat.Cugtw class a b = gives _
-op_fine flat.Cugtl class a b = gives _
+op_fine flat.And class a b = has_value _
+op_fine flat.Or class a b = has_value _
+op_fine flat.Xor class a b = has_value _
+op_fine flat.Shl class a b = has_value _
+op_fine flat.Shr class a b = has_value _
+op_fine flat.Sar class a b = has_value _
+op_fine flat.Ceqw class a b = has_value _
+op_fine flat.Ceql class a b = has_value _
+op_fine flat.Cnew class a b = has_value _
+op_fine flat.Cnel class a b = has_value _
+op_fine flat.Cslew class a b = has_value _
+op_fine flat.Cslel class a b = has_value _
+op_fine flat.Csltw class a b = has_value _
+op_fine flat.Csltl class a b = has_value _
+op_fine flat.Csgew class a b = has_value _
+op_fine flat.Csgel class a b = has_value _
+op_fine flat.Csgtw class a b = has_value _
+op_fine flat.Csgtl class a b = has_value _
+op_fine flat.Culew class a b = has_value _
+op_fine flat.Culel class a b = has_value _
+op_fine flat.Cultw class a b = has_value _
+op_fine flat.Cultl class a b = has_value _
+op_fine flat.Cugew class a b = has_value _
+op_fine flat.Cugel class a b = has_value _
+op_fine flat.Cugtw class a b = has_value _
+op_fine flat.Cugtl class a b = has_value _
+
+-- ---- the same in both
+
+divided_alike : (zero : Bool) (v : ℕ) → (if zero then None else Some v) ≡ given (if zero then Some (Err ZeroDivisor) else Some (Ok v))
+divided_alike true v = refl
+divided_alike false v = refl
+
+pub operations_agree : OperationsAgree
+operations_agree class flat.Div a b = divided_alike (is_zero class b) (quotient class a b)
+operations_agree class flat.Rem a b = divided_alike (is_zero class b) (remainder class a b)
+operations_agree class flat.Udiv a b = divided_alike (is_zero class b) (unsigned_quotient class a b)
+operations_agree class flat.Urem a b = divided_alike (is_zero class b) (unsigned_remainder class a b)
+operations_agree class _ a b = refl
+
+-- ---- kinds
 
 pub op_computes : (o : Op) → kind_of (il_op o) ≡ Computes
 op_computes flat.Neg = refl

@@ -24,13 +24,12 @@ use Rattle.il_code.specs.Machine as machine
 use Rattle.il_code.specs.MachineLaws.{jumps_and_calls}
 use Rattle.il_code.specs.Run.{Run, machine}
 use Rattle.il_emit.specs.Emitted.{blocks_of, module_of}
-use Rattle.il_emit.specs.Meaning.{il_meaning}
 use Rattle.il_emit.specs.Shape.{backward_jumps, calls_of, allocs_are_placed, takes, full_cost}
 
 -- three arguments and some input
 abbrev flat_run : FlatProgram → ℕ → Flow → List ℕ → ℕ → Type 0
 flat_run p n end output steps =
-    let r = run il_meaning p (codes "a" ∷ codes "b" ∷ codes "c" ∷ []) (codes "in") 1 n in
+    let r = run p (codes "a" ∷ codes "b" ∷ codes "c" ∷ []) (codes "in") 1 n in
     (r.0 ≡ end) × (r.1.world.output ≡ output) × (r.1.steps ≡ steps)
 
 abbrev machine_run : FlatProgram → ℕ → Run

@@ -22,7 +22,6 @@ use Rattle.il_code.specs.declared.types.Module.{Module}
 use Rattle.il_code.specs.Run.{Run}
 use Rattle.il_code.specs.State.{Waiting}
 use Rattle.il_emit.specs.Lines.{Line, Label, End, operand, address_lines, exit_at, code_lines, each_lines, labels_in, labels_in_all, addresses_in, addresses_in_all, function_lines}
-use Rattle.il_emit.specs.Meaning.{il_meaning}
 use Rattle.il_emit.specs.Names.{label_name}
 use Rattle.il_emit.proofs.Forms.{set_meets, call_meets, branch_comes, return_meets}
 use Rattle.il_emit.proofs.Operands.{addressed_one, Setting, behind_address, address_used, address_jumps, address_same}
@@ -90,7 +89,7 @@ module _ (p : FlatProgram) (f : FlatFn) (m : Module) (set : Setting p f m) (few_
       (around label k : ℕ) (es : List ℕ) (out : ℕ → List Line) (rest : List Line) (s : State) (at : Mark)
       → is_built c ≡ true → is_right (length p.globals) f around c ≡ true → Exits all around es out → Room label (labels_in c) k (addresses_in c)
       → Inside all (code_lines p.globals c label k es ++ rest) → Holds floor s at
-      → Meets m call n (counted at) (4 * s.steps) (at.used + 3) out rest (run_at (code_lines p.globals c label k es ++ rest) s.world at) (flat_begun il_meaning p n (flat_below il_meaning p n) c s)
+      → Meets m call n (counted at) (4 * s.steps) (at.used + 3) out rest (run_at (code_lines p.globals c label k es ++ rest) s.world at) (flat_begun p n (flat_below p n) c s)
 
   -- the same of the statements of a Seq
   abbrev pub ClaimEach : ℕ → Codes → Type 0
@@ -98,7 +97,7 @@ module _ (p : FlatProgram) (f : FlatFn) (m : Module) (set : Setting p f m) (few_
       (around label k : ℕ) (es : List ℕ) (out : ℕ → List Line) (rest : List Line) (s : State) (at : Mark)
       → are_built cs ≡ true → are_right (length p.globals) f around cs ≡ true → Exits all around es out → Room label (labels_in_all cs) k (addresses_in_all cs)
       → Inside all (each_lines p.globals cs label k es ++ rest) → Holds floor s at
-      → Meets m call n (counted at) (4 * s.steps) (at.used + 0) out rest (run_at (each_lines p.globals cs label k es ++ rest) s.world at) (flats_in il_meaning p n (flat_below il_meaning p n) cs s)
+      → Meets m call n (counted at) (4 * s.steps) (at.used + 0) out rest (run_at (each_lines p.globals cs label k es ++ rest) s.world at) (flats_in p n (flat_below p n) cs s)
 
   -- it is claimed of all code at each smaller number of turns
   abbrev pub Below : ℕ → Type 0
@@ -126,7 +125,7 @@ module _ (p : FlatProgram) (f : FlatFn) (m : Module) (set : Setting p f m) (few_
 
     -- a turn begins at a jump to the loop's label, wherever that stands
     pub loop_meets : (n : ℕ) → Below n → (ls : List Line) (s : State) (at : Mark) → Holds floor s at
-        → Meets m call n (counted at) (4 * s.steps) (at.used + 3) out rest (run_at (End (jump.Jmp (label_name label)) ∷ ls) s.world at) (flat_begun il_meaning p n (flat_below il_meaning p n) (Loop c) s)
+        → Meets m call n (counted at) (4 * s.steps) (at.used + 3) out rest (run_at (End (jump.Jmp (label_name label)) ∷ ls) s.world at) (flat_begun p n (flat_below p n) (Loop c) s)
     loop_meets zero below ls s at h = record { count = 0; ended = refl; world = refl; jumps = omega arith; units = omega arith; most = h.most }
     loop_meets (suc n) below ls s at h =
         let inner = jumped_to m call label at in
@@ -134,16 +133,16 @@ module _ (p : FlatProgram) (f : FlatFn) (m : Module) (set : Setting p f m) (few_
         let a = room.addresses in
         let turn = below.0 c (suc around) (label + 2) k (es ++ (label + 1) ∷ []) (out_of rest out) back (stepped 1 s) inner built right (exits_more all around es out (label + 1) rest exits leaves) (record { labels = omega arith; addresses = omega arith }) (inside_next all body (Label label) inside)
         (stepped_holds floor s inner (jumped_holds m call floor label s at h)) in
-        let turns = turn_meets m call n (counted inner) (4 * (s.steps + 1)) (inner.used + 3) 0 out rest back (run_at body s.world inner) (flat_below il_meaning p (suc n) (Loop c))
+        let turns = turn_meets m call n (counted inner) (4 * (s.steps + 1)) (inner.used + 3) 0 out rest back (run_at body s.world inner) (flat_below p (suc n) (Loop c))
         (λ s1 c1 h1. may_use m call n (counted c1) (4 * s1.steps) (4 * (s1.steps + 1)) (c1.used + 0) (c1.used + 3) out rest _ _ (omega arith) (loop_meets n below.1 (Label (label + 1) ∷ rest) (stepped 1 s1) c1 (stepped_holds floor s1 c1 h1)))
-        (flat_below il_meaning p (suc n) c s) turn in
+        (flat_below p (suc n) c s) turn in
         later m call 1 (run_at (End (jump.Jmp (label_name label)) ∷ ls) s.world at) (run_at body s.world inner) (jump_step m call label body ls s.world at enters) (4 * s.steps) (4 * (s.steps + 1)) (at.used + 3) (inner.used + 3 + 0) (omega arith)
         (suc n) n (counted at) (counted inner) out rest _ (omega arith) (omega arith) turns
 
   -- ---- branches
 
   abbrev side_meets : (n : ℕ) (a b : Code) (s : State) → Bool → Result
-  side_meets n a b s z = if z then flat_begun il_meaning p n (flat_below il_meaning p n) b (stepped 1 s) else flat_begun il_meaning p n (flat_below il_meaning p n) a (stepped 1 s)
+  side_meets n a b s z = if z then flat_begun p n (flat_below p n) b (stepped 1 s) else flat_begun p n (flat_below p n) a (stepped 1 s)
 
   module _ (n : ℕ) (v : Value) (a b : Code) (claim_a : Claim n a) (claim_b : Claim n b) (around label k : ℕ) (es : List ℕ) (out : ℕ → List Line) (rest : List Line)
       (built_a : is_built a ≡ true) (built_b : is_built b ≡ true) (operand_right : is_operand (length p.globals) f W v ≡ true) (right_a : is_right (length p.globals) f around a ≡ true) (right_b : is_right (length p.globals) f around b ≡ true)
@@ -179,7 +178,7 @@ module _ (p : FlatProgram) (f : FlatFn) (m : Module) (set : Setting p f m) (few_
       at_end : Inside all (Label (label + 2) ∷ rest)
       at_end = inside_behind all other (Label (label + 2) ∷ rest) (inside_next all _ (Label (label + 1)) at_other)
 
-      one_meets : (s : State) (at : Mark) → Holds floor s at → Meets m call n (counted at) (4 * s.steps) (at.used + 4) out rest (run_at (one ++ over) s.world at) (flat_begun il_meaning p n (flat_below il_meaning p n) a s)
+      one_meets : (s : State) (at : Mark) → Holds floor s at → Meets m call n (counted at) (4 * s.steps) (at.used + 4) out rest (run_at (one ++ over) s.world at) (flat_begun p n (flat_below p n) a s)
       one_meets s at h =
           let r = room.labels in
           let z = room.addresses in
@@ -188,7 +187,7 @@ module _ (p : FlatProgram) (f : FlatFn) (m : Module) (set : Setting p f m) (few_
           may_use m call n (counted at) (4 * s.steps) (4 * s.steps) (at.used + 4) (at.used + 3 + 1) out rest _ _ (omega arith)
           (jump_meets m call n (counted at) (4 * s.steps) (at.used + 3) (label + 2) out (Label (label + 1) ∷ other_side) rest _ _ there does)
 
-      other_meets : (s : State) (at : Mark) → Holds floor s at → Meets m call n (counted at) (4 * s.steps) (at.used + 4) out rest (run_at other_side s.world at) (flat_begun il_meaning p n (flat_below il_meaning p n) b s)
+      other_meets : (s : State) (at : Mark) → Holds floor s at → Meets m call n (counted at) (4 * s.steps) (at.used + 4) out rest (run_at other_side s.world at) (flat_begun p n (flat_below p n) b s)
       other_meets s at h =
           let r = room.labels in
           let z = room.addresses in
@@ -218,13 +217,13 @@ module _ (p : FlatProgram) (f : FlatFn) (m : Module) (set : Setting p f m) (few_
       let w = and_parts (is_right (length p.globals) f around a) (is_right (length p.globals) f around b) q.1 in
       let same = regrouped n v a b ca cb around label k es out rest u.0 u.1 q.0 w.0 w.1 exits room in
       let there = subst (λ (x : List Line). Inside all x) same inside in
-      subst (λ (x : List Line). Meets m call n (counted at) (4 * s.steps) (at.used + 3) out rest (run_at x s.world at) (flat_begun il_meaning p n (flat_below il_meaning p n) (If v a b) s)) (sym same)
+      subst (λ (x : List Line). Meets m call n (counted at) (4 * s.steps) (at.used + 3) out rest (run_at x s.world at) (flat_begun p n (flat_below p n) (If v a b) s)) (sym same)
       (branch_meets n v a b ca cb around label k es out rest u.0 u.1 q.0 w.0 w.1 exits room there s at (cut W (value_of p s v) == 0) h refl)
 
   -- ---- all code
 
   leave_meets : (n j around label k : ℕ) (es : List ℕ) (out : ℕ → List Line) (ls rest : List Line) (s : State) (at : Mark) → nat_lt j around ≡ true → Exits all around es out → Holds floor s at
-      → Meets m call n (counted at) (4 * s.steps) (at.used + 3) out rest (run_at (End (jump.Jmp (label_name (exit_at es j))) ∷ ls) s.world at) (flat_begun il_meaning p n (flat_below il_meaning p n) (Leave j) s)
+      → Meets m call n (counted at) (4 * s.steps) (at.used + 3) out rest (run_at (End (jump.Jmp (label_name (exit_at es j))) ∷ ls) s.world at) (flat_begun p n (flat_below p n) (Leave j) s)
   leave_meets n j around label k es out ls rest s at right exits h =
       let lt : j < around = grind (arith, nat_tests) in
       record {
@@ -247,9 +246,9 @@ module _ (p : FlatProgram) (f : FlatFn) (m : Module) (set : Setting p f m) (few_
           let there = inside_regroup all (each_lines p.globals cs (suc label) k (es ++ label ∷ [])) (Label label ∷ []) rest inside in
           let leaves = found label rest (omega arith) (inside_behind all (each_lines p.globals cs (suc label) k (es ++ label ∷ [])) (Label label ∷ rest) there) in
           let each = each_meets cs (suc around) (suc label) k (es ++ label ∷ []) (out_of rest out) (Label label ∷ rest) s at built q.1 (exits_more all around es out label rest exits leaves) (record { labels = omega arith; addresses = z }) there h in
-          subst (λ (x : List Line). Meets m call n (counted at) (4 * s.steps) (at.used + 3) out rest (run_at x s.world at) (flat_begun il_meaning p n (flat_below il_meaning p n) (Seq cs) s)) (sym same)
+          subst (λ (x : List Line). Meets m call n (counted at) (4 * s.steps) (at.used + 3) out rest (run_at x s.world at) (flat_begun p n (flat_below p n) (Seq cs) s)) (sym same)
           (may_use m call n (counted at) (4 * s.steps) (4 * s.steps) (at.used + 3) (at.used + 0) out rest _ _ (omega arith)
-          (caught_meets m call n (counted at) (4 * s.steps) (at.used + 0) out rest _ (flats_in il_meaning p n (flat_below il_meaning p n) cs s)
+          (caught_meets m call n (counted at) (4 * s.steps) (at.used + 0) out rest _ (flats_in p n (flat_below p n) cs s)
           (label_meets m call n (counted at) (4 * s.steps) (at.used + 0) label (out_of rest out) rest _ _ each)))
       code_meets (Set t class o a b) around label k es out rest s at built right exits room inside h =
           let q = and_parts (is_target f t class) _ right in
@@ -266,7 +265,7 @@ module _ (p : FlatProgram) (f : FlatFn) (m : Module) (set : Setting p f m) (few_
           let there = subst (λ (x : List Line). Inside all (Label label ∷ x)) same (inside_next all _ (End (jump.Jmp (label_name label))) inside) in
           loop_meets c around label k es out rest built q.1 exits room there n below (Label label ∷ ((code_lines p.globals c (label + 2) k (es ++ (label + 1) ∷ []) ++ (End (jump.Jmp (label_name label)) ∷ Label (label + 1) ∷ [])) ++ rest)) s at h
       code_meets (Leave j) around label k es out rest s at built right exits room inside h = leave_meets n j around label k es out (Label label ∷ rest) rest s at right exits h
-      code_meets (Call temp name args) around label k es out rest s at built right exits room inside h = call_meets p f m set call n (flat_below il_meaning p n) out temp name args k rest s at right room.addresses h
+      code_meets (Call temp name args) around label k es out rest s at built right exits room inside h = call_meets p f m set call n (flat_below p n) out temp name args k rest s at right room.addresses h
       code_meets (Ret value) around label k es out rest s at built right exits room inside h = return_meets p f m set call n label out f.result value k rest s at right h
 
       each_meets : (cs : Codes) → ClaimEach n cs
@@ -282,11 +281,11 @@ module _ (p : FlatProgram) (f : FlatFn) (m : Module) (set : Setting p f m) (few_
           let there = inside_regroup all first others rest inside in
           let does = code_meets c around label k es out (others ++ rest) (stepped 1 s) at u.0 q.0 exits (record { labels = omega arith; addresses = omega arith }) there (stepped_holds floor s at h) in
           let does_s = may_use m call n (counted at) (4 * s.steps) (4 * (s.steps + 1)) (at.used + 0) (at.used + 3) out (others ++ rest) _ _ (omega arith) does in
-          subst (λ (x : List Line). Meets m call n (counted at) (4 * s.steps) (at.used + 0) out rest (run_at x s.world at) (flats_in il_meaning p n (flat_below il_meaning p n) (more c cs) s)) (sym same)
+          subst (λ (x : List Line). Meets m call n (counted at) (4 * s.steps) (at.used + 0) out rest (run_at x s.world at) (flats_in p n (flat_below p n) (more c cs) s)) (sym same)
           (may_use m call n (counted at) (4 * s.steps) (4 * s.steps) (at.used + 0) (at.used + 0 + 0) out rest _ _ (omega arith)
-          (then_meets m call n (counted at) (4 * s.steps) (at.used + 0) 0 out rest (others ++ rest) _ (flats_in il_meaning p n (flat_below il_meaning p n) cs)
+          (then_meets m call n (counted at) (4 * s.steps) (at.used + 0) 0 out rest (others ++ rest) _ (flats_in p n (flat_below p n) cs)
           (λ s1 c1 h1. each_meets cs around (label + labels_in c) (k + addresses_in c) es out rest s1 c1 u.1 q.1 exits (record { labels = omega arith; addresses = omega arith }) (inside_behind all first (others ++ rest) there) h1)
-          (flat_begun il_meaning p n (flat_below il_meaning p n) c (stepped 1 s)) does_s))
+          (flat_begun p n (flat_below p n) c (stepped 1 s)) does_s))
 
   every_below : (n : ℕ) → Below n
   every_below zero = tt

@@ -1,6 +1,5 @@
 pub mod Names
 pub mod Ops
-pub mod Meaning
 pub mod Lines
 pub mod Drafts
 pub mod Emitting

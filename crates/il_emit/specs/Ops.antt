@@ -1,8 +1,13 @@
--- The operations of flat code in the intermediate language, which have the same names there.
+-- The operations of flat code in the intermediate language, which have the same names there and give the same.
+use Rattle.std.specs.Prelude.{◌≡◌, ℕ, Bool, true, false, Option, None, Some, Ok, Err}
+use Rattle.hx_base.specs.declared.Class.{Class}
 use Rattle.flat_code.specs.declared.op.Op.{Op}
 use Rattle.flat_code.specs.declared.op.Op.TheVariants as flat
+use Rattle.flat_code.specs.Kinds.{op_kind, takes_two}
+use Rattle.flat_code.specs.Operations.{gives}
 use Rattle.il_code.specs.declared.op.IlOp.{IlOp}
 use Rattle.il_code.specs.declared.op.IlOp.TheVariants as il
+use Rattle.il_code.specs.Operations.{Outcome, op_value}
 
 abbrev pub il_op : Op → IlOp
 il_op flat.Neg = il.Neg
@@ -46,3 +51,24 @@ il_op flat.Cugew = il.Cugew
 il_op flat.Cugel = il.Cugel
 il_op flat.Cugtw = il.Cugtw
 il_op flat.Cugtl = il.Cugtl
+
+-- ---- what they give
+
+-- the second operand of an operation that has one
+abbrev pub second_number : Bool → ℕ → Option ℕ
+second_number true b = Some b
+second_number false b = None
+
+-- what an operation of the intermediate language gives, if it gives anything
+abbrev pub given : Outcome → Option ℕ
+given None = None
+given (Some (Ok v)) = Some v
+given (Some (Err f)) = None
+
+-- an operation of the intermediate language, on as many operands as the one of flat code takes
+abbrev pub il_outcome : Class → Op → ℕ → ℕ → Outcome
+il_outcome class op a b = op_value class (il_op op) a (second_number (takes_two (op_kind op)) b)
+
+-- each operation gives the same in both, at both classes and on all operands
+abbrev pub OperationsAgree : Type 0
+OperationsAgree = (class : Class) (op : Op) (a b : ℕ) → gives class op a b ≡ given (il_outcome class op a b)

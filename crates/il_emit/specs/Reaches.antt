@@ -12,7 +12,6 @@ use Rattle.il_code.specs.declared.types.Module.{Module}
 use Rattle.il_code.specs.Machine.{End, Exit, Abort, Fault, StackFull, stack_size}
 use Rattle.il_code.specs.MachineLaws.{jumps_and_calls}
 use Rattle.il_code.specs.Run.{machine}
-use Rattle.il_emit.specs.Meaning.{il_meaning}
 
 -- ---- what is compared
 
@@ -65,8 +64,8 @@ module _ (m : Module) (args : List (List ℕ)) (input : List ℕ) (fill n : ℕ)
     pub ended : (machine m args input fill budget).ended ≡ Some StackFull
     pub cost : stack_size < r.1.most
 
--- For all arguments, input, fill byte and number of turns: what operations give in flat code is said in the words of the intermediate language.
+-- For all arguments, input, fill byte and number of turns.
 abbrev pub Reaches : FlatProgram → Module → Type 0
 Reaches p m =
     (args : List (List ℕ)) (input : List ℕ) (fill n : ℕ)
-    → Arrives m args input fill n (run il_meaning p args input fill n) ⊎ Overflows m args input fill n (run il_meaning p args input fill n)
+    → Arrives m args input fill n (run p args input fill n) ⊎ Overflows m args input fill n (run p args input fill n)

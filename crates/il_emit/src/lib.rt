@@ -17,3 +17,4 @@ mod statement;
 mod tests;
 
 pub use module::emit;
+pub use op::law_operations_agree;

@@ -1,10 +1,15 @@
 //! The operations of flat code in the intermediate language.
 
 ghost use Rattle.std.specs.Prelude.{◌≡◌};
-ghost use Rattle.il_emit.specs.Ops.{il_op};
+ghost use Rattle.il_emit.specs.Ops.{OperationsAgree, il_op};
 
 use flat_code::Op;
 use il_code::IlOp;
+
+/// Each operation of flat code gives what the operation of the same name gives, and nothing where that faults.
+pub fn law_operations_agree()
+    ensures { OperationsAgree }
+{}
 
 /// The operation of the same name.
 pub fn il_op(op: Op) -> IlOp

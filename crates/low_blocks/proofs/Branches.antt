@@ -9,7 +9,6 @@ use Rattle.flat_code.specs.Code.{Code, If}
 use Rattle.flat_code.specs.State as flat
 use Rattle.flat_code.specs.State.{cut, value_of, stepped, caught, then_turn}
 use Rattle.flat_code.specs.Evaluation.{Less, flat_begun}
-use Rattle.il_emit.specs.Meaning.{il_meaning}
 use Rattle.hare_blocks.specs.Evaluation.{State, Result}
 use Rattle.low_blocks.specs.Expressions.{Scope, Piece}
 use Rattle.low_blocks.proofs.Runs.{Keeps, runs, value_of-stepped}
@@ -33,11 +32,11 @@ caught_meets w scope r r' (spent v s e f h) = spent v s e (ap caught f) h
 
 module _ (p : FlatProgram) (n : ℕ) (less : Less) where
   -- what an If does, by what its condition tells
-  if_runs : (s : flat.State) (c : Value) (does other : Code) (b : Bool) → (cut W (value_of p s c) == 0) ≡ not b → runs p n less (If c does other ∷ []) s ≡ (if b then flat_begun il_meaning p n less does (stepped 1 (stepped 1 s)) else flat_begun il_meaning p n less other (stepped 1 (stepped 1 s)))
+  if_runs : (s : flat.State) (c : Value) (does other : Code) (b : Bool) → (cut W (value_of p s c) == 0) ≡ not b → runs p n less (If c does other ∷ []) s ≡ (if b then flat_begun p n less does (stepped 1 (stepped 1 s)) else flat_begun p n less other (stepped 1 (stepped 1 s)))
   if_runs s c does other true e = then_nothing _ ∙ rw (value_of-stepped p 1 s c, e) refl
   if_runs s c does other false e = then_nothing _ ∙ rw (value_of-stepped p 1 s c, e) refl
 
   -- the same behind the piece of the condition
   pub branch_runs : (s : flat.State) (c : Piece) (does other : Code) (b : Bool) (t : ℕ) → (h : Tells p n less s c b t) →
-      runs p n less (c.code ++ If c.value does other ∷ []) s ≡ (if b then flat_begun il_meaning p n less does (stepped 1 (stepped 1 h.after)) else flat_begun il_meaning p n less other (stepped 1 (stepped 1 h.after)))
+      runs p n less (c.code ++ If c.value does other ∷ []) s ≡ (if b then flat_begun p n less does (stepped 1 (stepped 1 h.after)) else flat_begun p n less other (stepped 1 (stepped 1 h.after)))
   branch_runs s c does other b t h = h.reaches (If c.value does other ∷ []) ∙ if_runs h.after c.value does other b h.test

@@ -2,12 +2,12 @@
 use Rattle.std.proofs.Common.{◌≡◌, ℕ, ◌-◌, ◌^◌, ◌<◌, Bool, true, false, [], ◌∷◌, ◌++◌, None, refl, ◌∙◌, arith}
 use Rattle.std.specs.Prelude.{codes, not, nat_lt, nat_le, nat_eq, ◌==◌}
 use Rattle.hx_base.specs.declared.Class.TheVariants.{W, L}
+use Rattle.hx_base.specs.Operations.{truth}
 use Rattle.flat_code.specs.declared.op.Op.TheVariants.{Cultl, Culel, Ceql, Cnel}
 use Rattle.flat_code.specs.declared.program.FlatProgram.{FlatProgram}
 use Rattle.flat_code.specs.declared.value.Value.{Value}
 use Rattle.flat_code.specs.State.{State, cut, value_of, set_temp, stepped}
 use Rattle.flat_code.specs.Evaluation.{Less, function_named}
-use Rattle.il_code.specs.Operations.{truth}
 use Rattle.hare_blocks.specs.Trees.{Relation, less, less_equal, greater, greater_equal, equal, differ, Condition, always, compares}
 use Rattle.hare_blocks.specs.Evaluation.{Variables, relates, holds}
 use Rattle.low_blocks.specs.Expressions.{Scope, Piece, test_temp, comparison, expr_piece, condition_piece}

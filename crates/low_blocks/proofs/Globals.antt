@@ -16,7 +16,7 @@ use Rattle.hx_base.specs.Runtime.{argument_size}
 use Rattle.flat_code.specs.declared.program.Data.{Data}
 use Rattle.flat_code.specs.declared.program.FlatProgram.{FlatProgram}
 use Rattle.flat_code.specs.WellFormed.{is_name_byte, is_symbol, is_item, is_global, global_size}
-use Rattle.il_emit.proofs.NumberedNames.{decimal_eq}
+use Rattle.flat_code.proofs.NumberNames.{decimal_eq}
 use Rattle.low_blocks.specs.Programs.{text_name, text_items, text_global, text_globals}
 use Rattle.low_blocks.proofs.Plain.{and_both}
 use Rattle.low_blocks.proofs.Start.{text_size, texts_size}

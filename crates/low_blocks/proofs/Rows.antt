@@ -7,7 +7,6 @@ use Rattle.flat_code.specs.Code.{Set, If, Loop, Leave, Call}
 use Rattle.flat_code.specs.State as flow
 use Rattle.flat_code.specs.State.{Flow}
 use Rattle.flat_code.specs.Run as flat
-use Rattle.il_emit.specs.Meaning.{il_meaning}
 use Rattle.hare_blocks.specs.Trees.{Expr, Factor, sum_of, no_term, plus, minus, product_of, no_factor, times, number, arg_count, variable, less, greater, always, compares, declares, assigns, chooses, chooses_one, repeats, puts, exits, nothing, first, Program, exit_of, block_of}
 use Rattle.low_blocks.specs.Statements.{seq}
 use Rattle.low_blocks.specs.Programs.{body_code, lowered}
@@ -45,7 +44,7 @@ row_loops = refl
 -- a run with three arguments ends so, with this output
 abbrev does : Program → ℕ → Flow → List ℕ → Type 0
 does p n end output =
-    let r = flat.run il_meaning (lowered p) (codes "a" ∷ codes "b" ∷ codes "c" ∷ []) [] 1 n in
+    let r = flat.run (lowered p) (codes "a" ∷ codes "b" ∷ codes "c" ∷ []) [] 1 n in
     (r.0 ≡ end) × (r.1.world.output ≡ output)
 
 row_end : does puts_each 4 (flow.Exit 6) (codes "ababab")

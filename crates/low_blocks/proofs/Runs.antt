@@ -8,9 +8,9 @@ use Rattle.flat_code.specs.declared.program.FlatProgram.{FlatProgram}
 use Rattle.flat_code.specs.declared.value.Value.{Value}
 use Rattle.flat_code.specs.declared.value.Value.TheVariants.{Temp, Number, Symbol, Frame}
 use Rattle.flat_code.specs.Code.{Code, Set, codes_of}
+use Rattle.flat_code.specs.Operations.{gives}
 use Rattle.flat_code.specs.State.{State, cut, temp_value, value_of, set_temp, stepped, Next, Result, then_go}
 use Rattle.flat_code.specs.Evaluation.{Less, computed, flat_begun, flats_in}
-use Rattle.il_emit.specs.Meaning.{il_meaning}
 
 -- ---- temporaries
 
@@ -67,7 +67,7 @@ value_of-stepped p k s (Frame offset) = refl
 module _ (p : FlatProgram) (n : ℕ) (less : Less) where
   -- what statements do, one after the other
   abbrev pub runs : List Code → State → Result
-  runs cs s = flats_in il_meaning p n less (codes_of cs) s
+  runs cs s = flats_in p n less (codes_of cs) s
 
   -- behind this code, what stands there goes on from that state
   abbrev pub Reaches : List Code → State → State → Type 0
@@ -79,11 +79,11 @@ module _ (p : FlatProgram) (n : ℕ) (less : Less) where
   pub reaches_on : (a b : List Code) (s s' s'' : State) → Reaches a s s' → Reaches b s' s'' → Reaches (a ++ b) s s''
   reaches_on a b s s' s'' h k rest = ap (λ cs. runs cs s) (append_assoc a b rest) ∙ h (b ++ rest) ∙ k rest
 
-  pub reaches_one : (c : Code) (s s' : State) → flat_begun il_meaning p n less c (stepped 1 s) ≡ (Next, s') → Reaches (c ∷ []) s s'
-  reaches_one c s s' e rest = ap (λ r. then_go r (flats_in il_meaning p n less (codes_of rest))) e
+  pub reaches_one : (c : Code) (s s' : State) → flat_begun p n less c (stepped 1 s) ≡ (Next, s') → Reaches (c ∷ []) s s'
+  reaches_one c s s' e rest = ap (λ r. then_go r (flats_in p n less (codes_of rest))) e
 
   -- a temporary is set to what an operation gives
-  pub reaches_set : (s : State) (t : ℕ) (class : Class) (op : Op) (a b : Value) (v : ℕ) → il_meaning class op (value_of p s a) (value_of p s b) ≡ Some v → Reaches (Set t class op a b ∷ []) s (set_temp (stepped 1 s) t class v)
+  pub reaches_set : (s : State) (t : ℕ) (class : Class) (op : Op) (a b : Value) (v : ℕ) → gives class op (value_of p s a) (value_of p s b) ≡ Some v → Reaches (Set t class op a b ∷ []) s (set_temp (stepped 1 s) t class v)
   reaches_set s t class op a b v e =
-      let k : il_meaning class op (value_of p (stepped 1 s) a) (value_of p (stepped 1 s) b) ≡ Some v = rw (value_of-stepped p 1 s a, value_of-stepped p 1 s b) e in
+      let k : gives class op (value_of p (stepped 1 s) a) (value_of p (stepped 1 s) b) ≡ Some v = rw (value_of-stepped p 1 s a, value_of-stepped p 1 s b) e in
       reaches_one (Set t class op a b) s (set_temp (stepped 1 s) t class v) (ap (computed (stepped 1 s) t class) k)

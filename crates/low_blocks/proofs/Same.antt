@@ -10,10 +10,10 @@ use Rattle.flat_code.specs.declared.program.FlatProgram.{FlatProgram}
 use Rattle.flat_code.specs.declared.value.Value.TheVariants.{Number, Symbol}
 use Rattle.flat_code.specs.Code.{Code, Loop, Leave, Call}
 use Rattle.flat_code.specs.Addresses.{address_at}
+use Rattle.flat_code.specs.Operations.{gives}
 use Rattle.flat_code.specs.State as flat
 use Rattle.flat_code.specs.State.{cut, temp_value, set_temp, stepped, caught, then_turn}
 use Rattle.flat_code.specs.Evaluation.{Less, acted, function_named, flat_begun, flat_below}
-use Rattle.il_emit.specs.Meaning.{il_meaning}
 use Rattle.hare_blocks.specs.Trees.{Expr, Condition, always, compares, Statement, Statements, declares, assigns, chooses, chooses_one, repeats, puts, exits, nothing, first}
 use Rattle.hare_blocks.specs.Evaluation.{assigned, value, holds, Next, State, Result, then_go, closed, statement_in, statements_in, below}
 use Rattle.hare_blocks.specs.Scopes.{number_of}
@@ -43,7 +43,7 @@ module _ (p : FlatProgram) (w : World) (args : ℕ) (arguments : w.arguments ≡
     (no_nargs : function_named p.functions (codes "rt.nargs") ≡ None) (no_puts : function_named p.functions (codes "rt.puts") ≡ None) (no_exit : function_named p.functions (codes "rt.exit") ≡ None) where
   -- what flat code does within so many turns
   abbrev within : ℕ → List Code → flat.State → flat.Result
-  within n = runs p n (flat_below il_meaning p n)
+  within n = runs p n (flat_below p n)
 
   -- statements that stand somewhere, where both programs stand there
   abbrev pub Claim : ℕ → Type 0
@@ -59,18 +59,18 @@ module _ (p : FlatProgram) (w : World) (args : ℕ) (arguments : w.arguments ≡
   ready n less site v s h st = (st.holds, ap (λ (x : World). x.arguments) st.world ∙ arguments)
 
   -- code that runs through to the end
-  ended : (n : ℕ) (cs : List Code) (s s' : flat.State) → Reaches p n (flat_below il_meaning p n) cs s s' → within n cs s ≡ (flat.Next, s')
+  ended : (n : ℕ) (cs : List Code) (s s' : flat.State) → Reaches p n (flat_below p n) cs s s' → within n cs s ≡ (flat.Next, s')
   ended n cs s s' h = subst (λ x. within n x s ≡ (flat.Next, s')) (append-nil cs) (h [])
 
   declares_meets : (n : ℕ) (site : Site) (x : List ℕ) (e : Expr) (v : State) (s : flat.State) → IsSited site → Stands w site.scope v s →
       Meets w (statement_code site (declares x e)).behind.scope (statement_in args n (below args n) (declares x e) v) (within n (statement_code site (declares x e)).code s)
   declares_meets n site x e v s h st =
-      let less = flat_below il_meaning p n in
+      let less = flat_below p n in
       let piece = expr_piece site.scope site.next e in
       let f = expr_from site.scope site.next h.some h.below site.next e (omega arith) in
       let g = expr_gives p n less args no_nargs site.scope v.variables site.next h.some h.below site.next e s (omega arith) (ready n less site v s h st) in
       let z = value args v.variables e in
-      let k : il_meaning L Copy (flat.value_of p g.after piece.value) 0 ≡ Some z = rw g.value refl in
+      let k : gives L Copy (flat.value_of p g.after piece.value) 0 ≡ Some z = rw g.value refl in
       let end = set_temp (stepped 1 g.after) piece.next L z in
       let r = reaches_on p n less piece.code (copied (Some piece.next) piece.value) s g.after end g.reaches (reaches_set p n less g.after piece.next L Copy piece.value (Number 0) z k) in
       let keeps = keeps_on site.next piece.next s g.after end f.grows g.keeps (set_keeps (stepped 1 g.after) piece.next piece.next L z (omega arith)) in
@@ -80,7 +80,7 @@ module _ (p : FlatProgram) (w : World) (args : ℕ) (arguments : w.arguments ≡
       })
 
   -- a variable, if there is one, gets what a piece gives
-  copied_meets : (n : ℕ) (site : Site) (x : List ℕ) (piece : Piece) (z : ℕ) (v : State) (s : flat.State) (o : Option ℕ) → IsSited site → Stands w site.scope v s → Gives p n (flat_below il_meaning p n) s piece z site.next → number_of x site.scope ≡ o →
+  copied_meets : (n : ℕ) (site : Site) (x : List ℕ) (piece : Piece) (z : ℕ) (v : State) (s : flat.State) (o : Option ℕ) → IsSited site → Stands w site.scope v s → Gives p n (flat_below p n) s piece z site.next → number_of x site.scope ≡ o →
       Meets w site.scope (Next, record v { variables = assigned x z v.variables }) (within n (piece.code ++ copied o piece.value) s)
   copied_meets n site x piece z v s None h st g none =
       let same = assigned_nowhere x z site.scope v.variables s st.holds none in
@@ -89,8 +89,8 @@ module _ (p : FlatProgram) (w : World) (args : ℕ) (arguments : w.arguments ≡
         world = g.world ∙ st.world;
       })
   copied_meets n site x piece z v s (Some t) h st g some =
-      let less = flat_below il_meaning p n in
-      let k : il_meaning L Copy (flat.value_of p g.after piece.value) 0 ≡ Some z = rw g.value refl in
+      let less = flat_below p n in
+      let k : gives L Copy (flat.value_of p g.after piece.value) 0 ≡ Some z = rw g.value refl in
       let end = set_temp (stepped 1 g.after) t L z in
       let r = reaches_on p n less piece.code (copied (Some t) piece.value) s g.after end g.reaches (reaches_set p n less g.after t L Copy piece.value (Number 0) z k) in
       let before = holds_kept site.next site.scope v.variables s g.after h.below g.keeps st.holds in
@@ -102,29 +102,29 @@ module _ (p : FlatProgram) (w : World) (args : ℕ) (arguments : w.arguments ≡
   assigns_meets : (n : ℕ) (site : Site) (x : List ℕ) (e : Expr) (v : State) (s : flat.State) → IsSited site → Stands w site.scope v s →
       Meets w site.scope (statement_in args n (below args n) (assigns x e) v) (within n (statement_code site (assigns x e)).code s)
   assigns_meets n site x e v s h st =
-      let less = flat_below il_meaning p n in
+      let less = flat_below p n in
       let g = expr_gives p n less args no_nargs site.scope v.variables site.next h.some h.below site.next e s (omega arith) (ready n less site v s h st) in
       copied_meets n site x (expr_piece site.scope site.next e) (value args v.variables e) v s (number_of x site.scope) h st g refl
 
   puts_meets : (n : ℕ) (site : Site) (text : List ℕ) (v : State) (s : flat.State) → IsSited site → IsText p w.memory site.texts text → Stands w site.scope v s →
       Meets w site.scope (statement_in args n (below args n) (puts text) v) (within n (statement_code site (puts text)).code s)
   puts_meets n site text v s si h st =
-      let less = flat_below il_meaning p n in
+      let less = flat_below p n in
       let c = Call None (codes "rt.puts") (Symbol site.texts 0 ∷ Number (length text) ∷ []) in
       let put : put s.world (((address_at p site.texts + 0) % 2 ^ 64) % 2 ^ 64) (length text % 2 ^ 64) ≡ runtime.Gives 0 (length text) (World_after w (v.output ++ text)) = rw (st.world, offset_fits _ h.address, word_fits _ h.short) (put_text (World_after w v.output) (address_at p site.texts) text h.mapped h.bytes) in
       let end = stepped (length text / 64) (record (stepped 2 (stepped 1 s)) { world = World_after w (v.output ++ text) }) in
-      let e : flat_begun il_meaning p n less c (stepped 1 s) ≡ (flat.Next, end) = rw no_puts (ap (acted (stepped 2 (stepped 1 s)) None None) put) in
+      let e : flat_begun p n less c (stepped 1 s) ≡ (flat.Next, end) = rw no_puts (ap (acted (stepped 2 (stepped 1 s)) None None) put) in
       goes_on _ end refl (then_nothing _ ∙ e) (record { holds = holds_kept site.next site.scope v.variables s end si.below (λ u l m. ap (λ (x : World). temp_value x.memory.fill s.temps u) (sym st.world)) st.holds; world = refl })
 
   exits_meets : (n : ℕ) (site : Site) (e : Expr) (v : State) (s : flat.State) → IsSited site → Stands w site.scope v s →
       Meets w site.scope (statement_in args n (below args n) (exits e) v) (within n (statement_code site (exits e)).code s)
   exits_meets n site e v s h st =
-      let less = flat_below il_meaning p n in
+      let less = flat_below p n in
       let piece = expr_piece site.scope site.next e in
       let g = expr_gives p n less args no_nargs site.scope v.variables site.next h.some h.below site.next e s (omega arith) (ready n less site v s h st) in
       let z = value args v.variables e in
       let c = Call None (codes "rt.exit") (piece.value ∷ []) in
-      let k : flat_begun il_meaning p n less c (stepped 1 g.after) ≡ (flat.Exit (z % 256), stepped 1 (stepped 1 g.after)) = rw (no_exit, value_of-stepped p 1 (stepped 1 g.after) piece.value, value_of-stepped p 1 g.after piece.value, g.value, exit_cut z) refl in
+      let k : flat_begun p n less c (stepped 1 g.after) ≡ (flat.Exit (z % 256), stepped 1 (stepped 1 g.after)) = rw (no_exit, value_of-stepped p 1 (stepped 1 g.after) piece.value, value_of-stepped p 1 g.after piece.value, g.value, exit_cut z) refl in
       ends.exits (z % 256) v _ refl (g.reaches (c ∷ []) ∙ then_nothing _ ∙ k) (g.world ∙ st.world)
 
   -- a branch ends as the statements do that are chosen, each by what it is from where the condition was tested
@@ -132,7 +132,7 @@ module _ (p : FlatProgram) (w : World) (args : ℕ) (arguments : w.arguments ≡
       ((s' : flat.State) → Stands w site.scope v s' → Meets w site.scope x (caught (within n does s'))) → ((s' : flat.State) → Stands w site.scope v s' → Meets w site.scope y (caught (within n other s'))) →
       Meets w site.scope (if holds args v.variables c then x else y) (within n (branch (condition_piece site.scope site.next c) does other) s)
   branch_meets n site c does other x y v s h st mx my =
-      let less = flat_below il_meaning p n in
+      let less = flat_below p n in
       let piece = condition_piece site.scope site.next c in
       let t = condition_tells p n less args no_nargs site.scope v.variables site.next h.some h.below c s (ready n less site v s h st) in
       let e = branch_runs p n less s piece (seq does) (seq other) (holds args v.variables c) site.next t in
@@ -143,10 +143,10 @@ module _ (p : FlatProgram) (w : World) (args : ℕ) (arguments : w.arguments ≡
   -- a turn of a loop, and the turns behind it
   turns_meet : (n : ℕ) (site : Site) (c : Condition) (body : List Code) (x : Result) (again : State → Result) (again' : flat.State → flat.Result) (v : State) (s : flat.State) → IsSited site → Stands w site.scope v s →
       ((s' : flat.State) → Stands w site.scope v s' → Meets w site.scope x (caught (within n body s'))) → ((v' : State) (s' : flat.State) → Stands w site.scope v' s' → Meets w site.scope (again v') (again' s')) →
-      Meets w site.scope (if holds args v.variables c then then_go x again else (Next, v)) (then_turn (flat_begun il_meaning p n (flat_below il_meaning p n) (turn c (condition_piece site.scope site.next c) body) s) again')
+      Meets w site.scope (if holds args v.variables c then then_go x again else (Next, v)) (then_turn (flat_begun p n (flat_below p n) (turn c (condition_piece site.scope site.next c) body) s) again')
   turns_meet n site always body x again again' v s h st mx ma = turn_meets w site.scope site.scope x _ again again' (mx s st) ma
   turns_meet n site (compares a r b) body x again again' v s h st mx ma =
-      let less = flat_below il_meaning p n in
+      let less = flat_below p n in
       let c = compares a r b in
       let piece = condition_piece site.scope site.next c in
       let t = condition_tells p n less args no_nargs site.scope v.variables site.next h.some h.below c s (ready n less site v s h st) in
@@ -168,10 +168,10 @@ module _ (p : FlatProgram) (w : World) (args : ℕ) (arguments : w.arguments ≡
       let low = statements_code (past site piece.next) body in
       let b = statements_behind (past site piece.next) body inner in
       let loop = Loop (turn c piece low.code) in
-      let m = turns_meet n site c low.code (closed v (below args (suc n) body v)) (below args (suc n) (first (repeats c body) nothing)) (flat_below il_meaning p (suc n) loop) v (stepped 1 (stepped 1 s)) h (stands_on w site.scope site.next v s (stepped 1 (stepped 1 s)) h.below (λ u l m. refl) refl st)
+      let m = turns_meet n site c low.code (closed v (below args (suc n) body v)) (below args (suc n) (first (repeats c body) nothing)) (flat_below p (suc n) loop) v (stepped 1 (stepped 1 s)) h (stands_on w site.scope site.next v s (stepped 1 (stepped 1 s)) h.below (λ u l m. refl) refl st)
       (λ s' k. closed_meets w site.scope low.behind.scope v s' _ _ (statements_extend (past site piece.next) body) k.holds (prev (past site piece.next) body v s' inner ts (record { holds = k.holds; world = k.world })))
       (λ v' s' k. subst (λ r. Meets w site.scope (below args (suc n) (first (repeats c body) nothing) v') r) (then_nothing _) (prev site (first (repeats c body) nothing) v' s' h (subst (λ x. AreTexts p w.memory site.texts x) (sym (append-nil (statements_texts body))) ts) k)) in
-      rw (then_nothing (flat_begun il_meaning p (suc n) (flat_below il_meaning p (suc n)) loop (stepped 1 s))) m
+      rw (then_nothing (flat_begun p (suc n) (flat_below p (suc n)) loop (stepped 1 s))) m
 
   module _ (n : ℕ) (prev : Before n) where
     mutual
@@ -211,7 +211,7 @@ module _ (p : FlatProgram) (w : World) (args : ℕ) (arguments : w.arguments ≡
           let low = statement_code site t in
           let b = statement_behind site t h in
           let m = statement_meets site t v s h (texts_front p w.memory site.texts (statement_texts t) (statements_texts ss) ts) st in
-          rw (runs_parts p n (flat_below il_meaning p n) low.code (statements_code low.behind ss).code s)
+          rw (runs_parts p n (flat_below p n) low.code (statements_code low.behind ss).code s)
           (then_meets w low.behind.scope (statements_code low.behind ss).behind.scope _ _ (statements_in args n (below args n) ss) (within n (statements_code low.behind ss).code) m
           (λ v' s' k. statements_meet low.behind ss v' s' b.sited (texts_back p w.memory site.texts low.behind.texts (statement_texts t) (statements_texts ss) b.counts ts) k))
 

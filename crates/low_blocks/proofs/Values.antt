@@ -7,9 +7,9 @@ use Rattle.flat_code.specs.declared.op.Op.{Op}
 use Rattle.flat_code.specs.declared.op.Op.TheVariants.{Add, Sub, Mul}
 use Rattle.flat_code.specs.declared.program.FlatProgram.{FlatProgram}
 use Rattle.flat_code.specs.Code.{Set, Call}
+use Rattle.flat_code.specs.Operations.{gives}
 use Rattle.flat_code.specs.State.{State, cut, value_of, set_temp, stepped}
 use Rattle.flat_code.specs.Evaluation.{Less, function_named}
-use Rattle.il_emit.specs.Meaning.{il_meaning}
 use Rattle.hare_blocks.specs.Trees.{Expr, Terms, Term, Factors, Factor, sum_of, no_term, plus, minus, product_of, no_factor, times, number, arg_count, variable, group}
 use Rattle.hare_blocks.specs.Evaluation.{Variables, value, terms_value, term_value, factors_value, factor_value}
 use Rattle.low_blocks.specs.Expressions.{Scope, Piece, operated, expr_piece, terms_piece, term_piece, factors_piece, factor_piece}
@@ -34,10 +34,10 @@ module _ (p : FlatProgram) (n : ℕ) (less : Less) where
     pub keeps : Keeps t s after
 
   -- an operation on two pieces
-  operated_gives : (s : State) (op : Op) (a b : Piece) (v w r z t : ℕ) → t ≤ a.next → IsBelow a.next a.value → a.next ≤ b.next → (h : Gives s a v t) → (k : Gives h.after b w a.next) → il_meaning L op v w ≡ Some r → r % 2 ^ 64 ≡ z → Gives s (operated op a b) z t
+  operated_gives : (s : State) (op : Op) (a b : Piece) (v w r z t : ℕ) → t ≤ a.next → IsBelow a.next a.value → a.next ≤ b.next → (h : Gives s a v t) → (k : Gives h.after b w a.next) → gives L op v w ≡ Some r → r % 2 ^ 64 ≡ z → Gives s (operated op a b) z t
   operated_gives s op a b v w r z t ta av ab h k e f =
       let left : value_of p k.after a.value ≡ v = operand_kept p a.next h.after k.after a.value av k.keeps ∙ h.value in
-      let m : il_meaning L op (value_of p k.after a.value) (value_of p k.after b.value) ≡ Some r = rw (left, k.value) e in
+      let m : gives L op (value_of p k.after a.value) (value_of p k.after b.value) ≡ Some r = rw (left, k.value) e in
       let end = set_temp (stepped 1 k.after) b.next L r in
       record {
         after = end;

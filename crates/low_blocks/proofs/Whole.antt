@@ -6,7 +6,6 @@ use Rattle.flat_code.specs.State as flat
 use Rattle.flat_code.specs.State.{stepped, caught}
 use Rattle.flat_code.specs.Run as flat_run
 use Rattle.flat_code.specs.Run.{start_world, before_calls}
-use Rattle.il_emit.specs.Meaning.{il_meaning}
 use Rattle.hare_blocks.specs.Trees.{Program, exit_of, block_of}
 use Rattle.hare_blocks.specs.Evaluation.{End, State, Result, does, ended, run}
 use Rattle.low_blocks.specs.Expressions.{Scope}
@@ -42,7 +41,7 @@ module _ (p : Program) (few : HasFewTexts p) (args : List (List ℕ)) (input : L
   abbrev w : World
   w = start_world (lowered p) args input fill
 
-  alike : EndsAlike w (run (length args) p n) (flat_run.run il_meaning (lowered p) args input fill n)
+  alike : EndsAlike w (run (length args) p n) (flat_run.run (lowered p) args input fill n)
   alike =
       let s : flat.State = record (before_calls w) { cost = _; most = _ } in
       rw (run_does (length args) p n) (meets_ends w _ _ _ (all_meet (lowered p) w (length args) refl refl refl refl n start (body_of p) nothing_done (stepped 1 s) (record { some = omega arith; below = tt }) (start_texts (lowered p).functions (program_texts p) fill args few) (record { holds = tt; world = refl })))

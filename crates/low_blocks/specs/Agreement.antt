@@ -7,7 +7,6 @@ use Rattle.flat_code.specs.Shape.{code_of}
 use Rattle.flat_code.specs.State.{Flow}
 use Rattle.flat_code.specs.State as flow
 use Rattle.flat_code.specs.Run as flat
-use Rattle.il_emit.specs.Meaning.{il_meaning}
 use Rattle.hare_blocks.specs.Trees.{Statement, Statements, declares, assigns, chooses, chooses_one, repeats, puts, exits, nothing, first, Program, exit_of, block_of}
 use Rattle.hare_blocks.specs.Evaluation.{End, Exit, Spent, run}
 
@@ -21,9 +20,9 @@ flat_end Spent = flow.Spent
 -- With the same arguments and the same number of turns, whatever the input and the fill byte, flat code ends as the program does and has put out
 -- the same. The input is left as it was.
 pub record DoesTheSame (p : Program) (f : FlatProgram) : Type 0 where
-  pub ends : (args : List (List ℕ)) (input : List ℕ) (fill n : ℕ) → (flat.run il_meaning f args input fill n).0 ≡ flat_end (run (length args) p n).0
-  pub outputs : (args : List (List ℕ)) (input : List ℕ) (fill n : ℕ) → (flat.run il_meaning f args input fill n).1.world.output ≡ (run (length args) p n).1
-  pub inputs : (args : List (List ℕ)) (input : List ℕ) (fill n : ℕ) → (flat.run il_meaning f args input fill n).1.world.input ≡ input
+  pub ends : (args : List (List ℕ)) (input : List ℕ) (fill n : ℕ) → (flat.run f args input fill n).0 ≡ flat_end (run (length args) p n).0
+  pub outputs : (args : List (List ℕ)) (input : List ℕ) (fill n : ℕ) → (flat.run f args input fill n).1.world.output ≡ (run (length args) p n).1
+  pub inputs : (args : List (List ℕ)) (input : List ℕ) (fill n : ℕ) → (flat.run f args input fill n).1.world.input ≡ input
 
 -- ---- loops
 

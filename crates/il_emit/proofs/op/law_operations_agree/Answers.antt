@@ -1,0 +1,5 @@
+use Rattle.il_emit.proofs.Outcomes.{operations_agree}
+use Rattle.il_emit.proofs.op.law_operations_agree.Goals as goal
+
+pub returns : goal.returns
+returns c = operations_agree
