@@ -53,7 +53,10 @@ pub plain : (t : IlToken) → bears t ≡ false → Bears (token t) []
 plain t h = record { count = λ ts f. ap (count_by bears) f ∙ one_token t false h }
 
 pub bears_both : {p q : Pattern} {a b : List Numbers} → Bears p a → Bears q b → Bears (both p q) (a ++ b)
-bears_both {a = a} {b = b} x y = record { count = λ ts f. ap (count_by bears) f.2 ∙ sum_by-append (λ t. cond (bears t) 1 0) f.0 f.1 ∙ rw (x.count f.0 f.3, y.count f.1 f.4) (sym (length-append a b)) }
+bears_both {a = a} {b = b} x y = record {
+  count = λ ts f. ap (count_by bears) f.2 ∙ sum_by-append (λ t. cond (bears t) 1 0) f.0 f.1 ∙ rw
+      (x.count f.0 f.3, y.count f.1 f.4) (sym (length-append a b));
+}
 
 pub bears_either : {p q : Pattern} {ms : List Numbers} → Bears p ms → Bears q ms → Bears (either p q) ms
 bears_either {p = p} {q = q} {ms = ms} x y = record { count = λ ts f. by ts f }
@@ -71,7 +74,8 @@ bears_many {p = p} x = record { count = λ ts f. ap (count_by bears) f.1 ∙ eac
   where
     each : (parts : List (List IlToken)) → AllByRecursion (Fits p) parts → count_by bears (flat_map (λ part. part) parts) ≡ 0
     each [] h = refl
-    each (part ∷ parts) h = sum_by-append (λ t. cond (bears t) 1 0) part (flat_map (λ z. z) parts) ∙ rw (x.count part h.0, each parts h.1) (omega arith)
+    each (part ∷ parts) h = sum_by-append (λ t. cond (bears t) 1 0) part (flat_map (λ z. z) parts) ∙ rw (x.count part h.0, each parts h.1)
+        (omega arith)
 
 pub bears_if : (b : Bool) {p q : Pattern} {ms : List Numbers} → Bears p ms → Bears q ms → Bears (if b then p else q) ms
 bears_if true x y = x
@@ -91,29 +95,38 @@ bears_comma = plain (Mark 44) refl
 
 -- ---- lists
 
-pub bears_row : {A : Type 0} (g : A → Pattern) (f : A → List Numbers) → ((x : A) → Bears (g x) (f x)) → (xs : List A) → Bears (row (map g xs)) (flat_map f xs)
+pub bears_row : {A : Type 0} (g : A → Pattern) (f : A → List Numbers) → ((x : A) → Bears (g x) (f x)) → (xs : List A) →
+    Bears (row (map g xs)) (flat_map f xs)
 bears_row g f h [] = bears_nothing
 bears_row g f h (x ∷ xs) = bears_both (h x) (bears_row g f h xs)
 
-bears_row_behind : {A : Type 0} (g : A → Pattern) (f : List A → A → List Numbers) → ((before : List A) (x : A) → Bears (g x) (f before x)) → (before xs : List A) → Bears (row (map g xs)) (each_behind f before xs)
+bears_row_behind : {A : Type 0} (g : A → Pattern) (f : List A → A → List Numbers) → ((before : List A) (x : A) → Bears (g x) (f before x)) →
+    (before xs : List A) → Bears (row (map g xs)) (each_behind f before xs)
 bears_row_behind g f h before [] = bears_nothing
 bears_row_behind g f h before (x ∷ xs) = bears_both (h before x) (bears_row_behind g f h (before ++ x ∷ []) xs)
 
-bears_behind_comma : {A : Type 0} (g : A → Pattern) (f : A → List Numbers) → ((x : A) → Bears (g x) (f x)) → (xs : List A) → Bears (behind_comma (map g xs)) (flat_map f xs)
+bears_behind_comma : {A : Type 0} (g : A → Pattern) (f : A → List Numbers) → ((x : A) → Bears (g x) (f x)) → (xs : List A) →
+    Bears (behind_comma (map g xs)) (flat_map f xs)
 bears_behind_comma g f h [] = bears_nothing
 bears_behind_comma g f h (x ∷ xs) = bears_both bears_comma (bears_both (h x) (bears_behind_comma g f h xs))
 
-bears_listed : {A : Type 0} (g : A → Pattern) (f : A → List Numbers) → ((x : A) → Bears (g x) (f x)) → (xs : List A) → Bears (listed (map g xs)) (flat_map f xs)
+bears_listed : {A : Type 0} (g : A → Pattern) (f : A → List Numbers) → ((x : A) → Bears (g x) (f x)) → (xs : List A) →
+    Bears (listed (map g xs)) (flat_map f xs)
 bears_listed g f h [] = bears_nothing
 bears_listed g f h (x ∷ xs) = bears_then (bears_both (h x) (bears_behind_comma g f h xs)) (bears_either bears_nothing bears_comma)
 
-bears_behind_comma_behind : {A : Type 0} (g : A → Pattern) (f : List A → A → List Numbers) → ((before : List A) (x : A) → Bears (g x) (f before x)) → (before xs : List A) → Bears (behind_comma (map g xs)) (each_behind f before xs)
+bears_behind_comma_behind : {A : Type 0} (g : A → Pattern) (f : List A → A → List Numbers) →
+    ((before : List A) (x : A) → Bears (g x) (f before x)) → (before xs : List A) →
+    Bears (behind_comma (map g xs)) (each_behind f before xs)
 bears_behind_comma_behind g f h before [] = bears_nothing
-bears_behind_comma_behind g f h before (x ∷ xs) = bears_both bears_comma (bears_both (h before x) (bears_behind_comma_behind g f h (before ++ x ∷ []) xs))
+bears_behind_comma_behind g f h before (x ∷ xs) =
+    bears_both bears_comma (bears_both (h before x) (bears_behind_comma_behind g f h (before ++ x ∷ []) xs))
 
-pub bears_listed_behind : {A : Type 0} (g : A → Pattern) (f : List A → A → List Numbers) → ((before : List A) (x : A) → Bears (g x) (f before x)) → (xs : List A) → Bears (listed (map g xs)) (each_behind f [] xs)
+pub bears_listed_behind : {A : Type 0} (g : A → Pattern) (f : List A → A → List Numbers) →
+    ((before : List A) (x : A) → Bears (g x) (f before x)) → (xs : List A) → Bears (listed (map g xs)) (each_behind f [] xs)
 bears_listed_behind g f h [] = bears_nothing
-bears_listed_behind g f h (x ∷ xs) = bears_then (bears_both (h [] x) (bears_behind_comma_behind g f h (x ∷ []) xs)) (bears_either bears_nothing bears_comma)
+bears_listed_behind g f h (x ∷ xs) = bears_then (bears_both (h [] x) (bears_behind_comma_behind g f h (x ∷ []) xs))
+    (bears_either bears_nothing bears_comma)
 
 -- ---- operands
 
@@ -178,7 +191,10 @@ bears-op m op.Cugtw = bearing _ m refl
 bears-op m op.Cugtl = bearing _ m refl
 
 bears-store : (m : Numbers) (width : ℕ) → Bears (store_pattern width) (m ∷ [])
-bears-store m width = bears_if (width == 1) (bearing (Word (codes "storeb")) m refl) (bears_if (width == 2) (bearing (Word (codes "storeh")) m refl) (bears_if (width == 4) (bearing (Word (codes "storew")) m refl) (bears_if (width == 8) (bearing (Word (codes "storel")) m refl) (bears_never (m ∷ [])))))
+bears-store m width = bears_if (width == 1) (bearing (Word (codes "storeb")) m refl)
+    (bears_if (width == 2) (bearing (Word (codes "storeh")) m refl)
+    (bears_if (width == 4) (bearing (Word (codes "storew")) m refl)
+    (bears_if (width == 8) (bearing (Word (codes "storel")) m refl) (bears_never (m ∷ [])))))
 
 module _ (items : List IlItem) (params : List IlParam) (blocks : List Block) where
   bears-value : (class : Class) (v : IlValue) → Bears (value_pattern v) (value_marks items params blocks class v)
@@ -195,12 +211,17 @@ module _ (items : List IlItem) (params : List IlParam) (blocks : List Block) whe
   bears-arg : (a : IlArg) → Bears (arg_pattern a) (value_marks items params blocks a.class a.value)
   bears-arg a = bears_both (bears-class a.class) (bears-value a.class a.value)
 
-  bears-phi_arg : (class : Class) (a : PhiArg) → Bears (phi_arg_pattern a) (label_marks blocks a.label ∷ value_marks items params blocks class a.value)
+  bears-phi_arg : (class : Class) (a : PhiArg) →
+      Bears (phi_arg_pattern a) (label_marks blocks a.label ∷ value_marks items params blocks class a.value)
   bears-phi_arg class a = bears_both (bearing (LabelName a.label) _ refl) (bears-value class a.value)
 
-  bears-phi_args : (class : Class) (args : List PhiArg) → Bears (phi_args_pattern args) (flat_map (λ (a : PhiArg). label_marks blocks a.label ∷ value_marks items params blocks class a.value) args)
+  bears-phi_args : (class : Class) (args : List PhiArg) →
+      Bears (phi_args_pattern args) (flat_map (λ (a : PhiArg). label_marks blocks a.label ∷ value_marks items params blocks class a.value)
+      args)
   bears-phi_args class [] = bears_never []
-  bears-phi_args class (a ∷ more) = bears_both (bears-phi_arg class a) (bears_behind_comma phi_arg_pattern (λ (x : PhiArg). label_marks blocks x.label ∷ value_marks items params blocks class x.value) (bears-phi_arg class) more)
+  bears-phi_args class (a ∷ more) = bears_both (bears-phi_arg class a)
+      (bears_behind_comma phi_arg_pattern (λ (x : PhiArg). label_marks blocks x.label ∷ value_marks items params blocks class x.value)
+      (bears-phi_arg class) more)
 
   -- ---- lines
 
@@ -210,23 +231,42 @@ module _ (items : List IlItem) (params : List IlParam) (blocks : List Block) whe
     bears-result (Some p) = bears-target p.name p.class _
 
     bears-inst : (i : Inst) → Bears (inst_pattern i) (inst_marks items params blocks sets i)
-    bears-inst (Set temp class o a b) = bears_both (bears-target temp class _) (bears_both (bears-op _ o) (bears_both (bears-value (first_class (op_kind o) class) a) (bears_then (bears-second (second_class (op_kind o) class) (takes_two (op_kind o)) b) bears_nothing)))
-    bears-inst (Store width value at) = bears_both (bears-store _ width) (bears_both (bears-value (stored_class width) value) (bears_both bears_comma (bears_then (bears-value L at) bears_nothing)))
-    bears-inst (Blit from to bytes) = bears_both (bearing (Word (codes "blit")) _ refl) (bears_both (bears-value L from) (bears_both bears_comma (bears_then (bears-value L to) (bears_both bears_comma (bears_then (plain (Numeral bytes) refl) bears_nothing)))))
-    bears-inst (Call result target args) = subst (λ ms. Bears (inst_pattern (Call result target args)) ms) (sym (append_assoc (result_marks sets result) _ _)) (bears_both (bears-result result) (bears_both (bearing (Word (codes "call")) _ refl) (bears_both (bearing (SymbolName target) _ refl) (bears_both (plain (Mark 40) refl) (bears_then (bears_listed arg_pattern (λ (a : IlArg). value_marks items params blocks a.class a.value) bears-arg args) (bears_then (plain (Mark 41) refl) bears_nothing))))))
+    bears-inst (Set temp class o a b) = bears_both (bears-target temp class _)
+        (bears_both (bears-op _ o) (bears_both (bears-value (first_class (op_kind o) class) a)
+        (bears_then (bears-second (second_class (op_kind o) class) (takes_two (op_kind o)) b) bears_nothing)))
+    bears-inst (Store width value at) = bears_both (bears-store _ width)
+        (bears_both (bears-value (stored_class width) value) (bears_both bears_comma (bears_then (bears-value L at) bears_nothing)))
+    bears-inst (Blit from to bytes) = bears_both (bearing (Word (codes "blit")) _ refl)
+        (bears_both (bears-value L from) (bears_both bears_comma
+        (bears_then (bears-value L to) (bears_both bears_comma (bears_then (plain (Numeral bytes) refl) bears_nothing)))))
+    bears-inst (Call result target args) = subst (λ ms. Bears (inst_pattern (Call result target args)) ms)
+        (sym (append_assoc (result_marks sets result) _ _))
+        (bears_both (bears-result result) (bears_both (bearing (Word (codes "call")) _ refl)
+        (bears_both (bearing (SymbolName target) _ refl)
+        (bears_both (plain (Mark 40) refl) (bears_then
+        (bears_listed arg_pattern (λ (a : IlArg). value_marks items params blocks a.class a.value) bears-arg args)
+        (bears_then (plain (Mark 41) refl) bears_nothing))))))
 
     bears-phi : (out : Bool) (label : List ℕ) (p : Phi) → Bears (phi_pattern p) (phi_marks items params blocks sets out label p)
-    bears-phi out label p = bears_both (bears-target p.temp p.class _) (bears_both (bearing (Word (codes "phi")) _ refl) (bears_then (bears-phi_args p.class p.args) bears_nothing))
+    bears-phi out label p = bears_both (bears-target p.temp p.class _)
+        (bears_both (bearing (Word (codes "phi")) _ refl) (bears_then (bears-phi_args p.class p.args) bears_nothing))
 
-    pub bears_phis : (first : Bool) (label : List ℕ) (before : List BlockLine) (phis : List Phi) → Bears (row (map (λ p. on_line (phi_pattern p)) phis)) (each_behind (line_marks items params blocks sets first label) before (map (λ p. PhiLine p) phis))
+    pub bears_phis : (first : Bool) (label : List ℕ) (before : List BlockLine) (phis : List Phi) →
+        Bears (row (map (λ p. on_line (phi_pattern p)) phis))
+        (each_behind (line_marks items params blocks sets first label) before (map (λ p. PhiLine p) phis))
     bears_phis first label before [] = bears_nothing
-    bears_phis first label before (p ∷ phis) = bears_both (bears_then (bears-phi _ label p) bears_lines) (bears_phis first label (before ++ PhiLine p ∷ []) phis)
+    bears_phis first label before (p ∷ phis) =
+        bears_both (bears_then (bears-phi _ label p) bears_lines) (bears_phis first label (before ++ PhiLine p ∷ []) phis)
 
-    pub bears_insts : (first : Bool) (label : List ℕ) (before : List BlockLine) (insts : List Inst) → Bears (row (map (λ i. on_line (inst_pattern i)) insts)) (each_behind (line_marks items params blocks sets first label) before (map (λ i. InstLine i) insts))
+    pub bears_insts : (first : Bool) (label : List ℕ) (before : List BlockLine) (insts : List Inst) →
+        Bears (row (map (λ i. on_line (inst_pattern i)) insts))
+        (each_behind (line_marks items params blocks sets first label) before (map (λ i. InstLine i) insts))
     bears_insts first label before [] = bears_nothing
-    bears_insts first label before (i ∷ insts) = bears_both (bears_then (bears-inst i) bears_lines) (bears_insts first label (before ++ InstLine i ∷ []) insts)
+    bears_insts first label before (i ∷ insts) =
+        bears_both (bears_then (bears-inst i) bears_lines) (bears_insts first label (before ++ InstLine i ∷ []) insts)
 
-  bears-returned : (class : Option Class) (v : Option IlValue) → Bears (row (word (codes "ret") ∷ returned_pattern v ∷ [])) (return_marks items params blocks class v)
+  bears-returned : (class : Option Class) (v : Option IlValue) →
+      Bears (row (word (codes "ret") ∷ returned_pattern v ∷ [])) (return_marks items params blocks class v)
   bears-returned None None = bears_both (bearing (Word (codes "ret")) _ refl) (bears_both bears_nothing bears_nothing)
   bears-returned None (Some v) = bears_both (bearing (Word (codes "ret")) _ refl) (bears_then (bears-value L v) bears_nothing)
   bears-returned (Some c) None = bears_both (bearing (Word (codes "ret")) _ refl) (bears_both bears_nothing bears_nothing)
@@ -235,10 +275,20 @@ module _ (items : List IlItem) (params : List IlParam) (blocks : List Block) whe
   pub bears-jump : (class : Option Class) (last : Bool) (j : Jump) → Bears (jump_pattern last j) (jump_marks items params blocks class j)
   bears-jump class true Fall = bears_never []
   bears-jump class false Fall = bears_nothing
-  bears-jump class true (Jmp l) = bears_then (bears_both (bearing (Word (codes "jmp")) _ refl) (bears_then (bearing (LabelName l) _ refl) bears_nothing)) bears_lines
-  bears-jump class false (Jmp l) = bears_then (bears_both (bearing (Word (codes "jmp")) _ refl) (bears_then (bearing (LabelName l) _ refl) bears_nothing)) bears_lines
-  bears-jump class true (Jnz v a b) = bears_then (bears_both (bearing (Word (codes "jnz")) _ refl) (bears_both (bears-value W v) (bears_both bears_comma (bears_both (bearing (LabelName a) _ refl) (bears_both bears_comma (bears_then (bearing (LabelName b) _ refl) bears_nothing)))))) bears_lines
-  bears-jump class false (Jnz v a b) = bears_then (bears_both (bearing (Word (codes "jnz")) _ refl) (bears_both (bears-value W v) (bears_both bears_comma (bears_both (bearing (LabelName a) _ refl) (bears_both bears_comma (bears_then (bearing (LabelName b) _ refl) bears_nothing)))))) bears_lines
+  bears-jump class true (Jmp l) = bears_then
+      (bears_both (bearing (Word (codes "jmp")) _ refl) (bears_then (bearing (LabelName l) _ refl) bears_nothing)) bears_lines
+  bears-jump class false (Jmp l) = bears_then
+      (bears_both (bearing (Word (codes "jmp")) _ refl) (bears_then (bearing (LabelName l) _ refl) bears_nothing)) bears_lines
+  bears-jump class true (Jnz v a b) = bears_then
+      (bears_both (bearing (Word (codes "jnz")) _ refl)
+      (bears_both (bears-value W v) (bears_both bears_comma
+      (bears_both (bearing (LabelName a) _ refl) (bears_both bears_comma (bears_then (bearing (LabelName b) _ refl) bears_nothing))))))
+      bears_lines
+  bears-jump class false (Jnz v a b) = bears_then
+      (bears_both (bearing (Word (codes "jnz")) _ refl)
+      (bears_both (bears-value W v) (bears_both bears_comma
+      (bears_both (bearing (LabelName a) _ refl) (bears_both bears_comma (bears_then (bearing (LabelName b) _ refl) bears_nothing))))))
+      bears_lines
   bears-jump class true (Ret v) = bears_then (bears-returned class v) bears_lines
   bears-jump class false (Ret v) = bears_then (bears-returned class v) bears_lines
   bears-jump class true Hlt = bears_then (bearing (Word (codes "hlt")) _ refl) bears_lines

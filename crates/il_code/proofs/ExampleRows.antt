@@ -19,18 +19,22 @@ use Rattle.il_code.proofs.RunModules.{block, only_block, param, arg, phi, phi_ar
 abbrev example : Module
 example = module_of (
     data_item (codes "t") 8 (part.Values 1 (value.Str (codes "hi") ∷ []) ∷ [])
-    ∷ Function false (Some W) (codes "next") (param W (codes "n") ∷ []) (only_block (two (codes "m") W Add (temp (codes "n")) (Number 1) ∷ []) (Ret (Some (temp (codes "m")))))
+    ∷ Function false (Some W) (codes "next") (param W (codes "n") ∷ [])
+    (only_block (two (codes "m") W Add (temp (codes "n")) (Number 1) ∷ []) (Ret (Some (temp (codes "m")))))
     ∷ main (Some W) (
     block (codes "start") [] (runs (codes "rt.puts") (Symbol (codes "t") ∷ Number 2 ∷ []) ∷ one (codes "a") L Alloc4 (Number 4) ∷ []) Fall
     ∷ block (codes "loop") (phi (codes "i") W (phi_arg (codes "start") (Number 0) ∷ phi_arg (codes "loop") (temp (codes "j")) ∷ []) ∷ [])
-    (Call (Some (param W (codes "j"))) (codes "next") (arg W (temp (codes "i")) ∷ []) ∷ two (codes "c") W Csltw (temp (codes "j")) (Number 2) ∷ [])
+    (Call (Some (param W (codes "j"))) (codes "next") (arg W (temp (codes "i")) ∷ []) ∷ two (codes "c") W Csltw (temp (codes "j"))
+    (Number 2) ∷ [])
     (Jnz (temp (codes "c")) (codes "loop") (codes "done"))
-    ∷ block (codes "done") [] (Store 4 (temp (codes "j")) (temp (codes "a")) ∷ one (codes "x") W Loadsw (temp (codes "a")) ∷ []) (Ret (Some (temp (codes "x")))) ∷ []) ∷ [])
+    ∷ block (codes "done") [] (Store 4 (temp (codes "j")) (temp (codes "a")) ∷ one (codes "x") W Loadsw (temp (codes "a")) ∷ [])
+    (Ret (Some (temp (codes "x")))) ∷ []) ∷ [])
 
 -- after so many steps: the units used, the cost of the stack, the bytes of the stack that are taken, the jumps and the calls done
 abbrev shows : ℕ → ℕ → ℕ → ℕ → ℕ → ℕ → Type 0
 shows k units cost bytes jumps calls = let r = after_steps example k (start example [] [] 165) in
-    (r.used ≡ units) × (r.state.active.cost ≡ cost) × (r.state.active.pointer - stack_start ≡ bytes) × (jumps_done r ≡ jumps) × (calls_done r ≡ calls)
+    (r.used ≡ units) × (r.state.active.cost ≡ cost) × (r.state.active.pointer - stack_start ≡ bytes) × (jumps_done r ≡ jumps) ×
+    (calls_done r ≡ calls)
 
 at_start : shows 0 0 104 0 0 0
 at_start = (refl, refl, refl, refl, refl)

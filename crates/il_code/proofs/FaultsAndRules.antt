@@ -31,7 +31,8 @@ record Found (text : List ℕ) (k : ℕ) : Type 0 where
 count_by-cons : (t : IlToken) (ts : List IlToken) → count_by bears (t ∷ ts) ≡ cond (bears t) 1 0 + count_by bears ts
 count_by-cons t ts = sum_by-cons (λ x. cond (bears x) 1 0) t ts
 
-further : (text : List ℕ) (t : IlToken) (rest : List ℕ) (j k : ℕ) → Stands (behind_gap text) t rest → cond (bears t) 1 0 + j ≡ k → Found rest j → Found text k
+further : (text : List ℕ) (t : IlToken) (rest : List ℕ) (j k : ℕ) → Stands (behind_gap text) t rest → cond (bears t) 1 0 + j ≡ k →
+    Found rest j → Found text k
 further text t rest j k here e f = record {
   before = t ∷ f.before;
   token = f.token;
@@ -43,15 +44,21 @@ further text t rest j k here e f = record {
   count = count_by-cons t f.before ∙ ap (λ n. cond (bears t) 1 0 + n) f.count ∙ e;
 }
 
-found_in : (text : List ℕ) (t : IlToken) (rest : List ℕ) (ts : List IlToken) → Stands (behind_gap text) t rest → ((j : ℕ) → j < count_by bears ts → Found rest j) → (b : Bool) → bears t ≡ b → (k : ℕ) → k < cond b 1 0 + count_by bears ts → Found text k
-found_in text t rest ts here more true e zero lt = record { before = []; token = t; here = behind_gap text; after = rest; front = refl; stands = here; bearing = e; count = refl }
-found_in text t rest ts here more true e (suc k) lt = further text t rest k (suc k) here (ap (λ b. cond b 1 0 + k) e ∙ omega arith) (more k (omega arith))
-found_in text t rest ts here more false e k lt = further text t rest k k here (ap (λ b. cond b 1 0 + k) e ∙ omega arith) (more k (omega arith))
+found_in : (text : List ℕ) (t : IlToken) (rest : List ℕ) (ts : List IlToken) → Stands (behind_gap text) t rest →
+    ((j : ℕ) → j < count_by bears ts → Found rest j) → (b : Bool) → bears t ≡ b → (k : ℕ) → k < cond b 1 0 + count_by bears ts →
+    Found text k
+found_in text t rest ts here more true e zero lt =
+    record { before = []; token = t; here = behind_gap text; after = rest; front = refl; stands = here; bearing = e; count = refl }
+found_in text t rest ts here more true e (suc k) lt =
+    further text t rest k (suc k) here (ap (λ b. cond b 1 0 + k) e ∙ omega arith) (more k (omega arith))
+found_in text t rest ts here more false e k lt =
+    further text t rest k k here (ap (λ b. cond b 1 0 + k) e ∙ omega arith) (more k (omega arith))
 
 found : (text : List ℕ) (ts : List IlToken) → Tokens text ts → (k : ℕ) → k < count_by bears ts → Found text k
 found text [] r k lt = absurd (omega arith)
 found text (t ∷ ts) r k lt =
-    found_in text t r.1 ts (record { spelling = r.0; splits = r.2; spelled = r.3; longest = r.4 }) (λ j h. found r.1 ts r.5 j h) (bears t) refl k (subst (λ n. k < n) (count_by-cons t ts) lt)
+    found_in text t r.1 ts (record { spelling = r.0; splits = r.2; spelled = r.3; longest = r.4 }) (λ j h. found r.1 ts r.5 j h) (bears t)
+    refl k (subst (λ n. k < n) (count_by-cons t ts) lt)
 
 -- ---- marks
 
@@ -66,7 +73,8 @@ all_clean (m ∷ ms) h = let rest = all_clean ms (λ k ns e. h (suc k) ns e) in 
 
 clean_at : (ms : List Numbers) (k : ℕ) (ns : Numbers) → list_all is_clean ms ≡ true → slice_get ms k ≡ Some ns → is_clean ns ≡ true
 clean_at [] k ns h e = absurd cc
-clean_at (m ∷ ms) zero ns h e = let same : m ≡ ns = cc in subst (λ x. is_clean x ≡ true) same (and_parts (is_clean m) (list_all is_clean ms) h).0
+clean_at (m ∷ ms) zero ns h e =
+    let same : m ≡ ns = cc in subst (λ x. is_clean x ≡ true) same (and_parts (is_clean m) (list_all is_clean ms) h).0
 clean_at (m ∷ ms) (suc k) ns h e = clean_at ms k ns (and_parts (is_clean m) (list_all is_clean ms) h).1 e
 
 none_in_clean : (ns : Numbers) (n : ℕ) → is_clean ns ≡ true → Contains ns n → ⊥
@@ -75,7 +83,8 @@ none_in_clean (m ∷ ns) n h c = false≢true h
 
 -- ---- texts
 
-mark_is_clean : (text : List ℕ) (m : Module) → IsFaultlessText text m → (k : ℕ) (ns : Numbers) → slice_get (marks (loose m.items)) k ≡ Some ns → is_clean ns ≡ true
+mark_is_clean : (text : List ℕ) (m : Module) → IsFaultlessText text m → (k : ℕ) (ns : Numbers) →
+    slice_get (marks (loose m.items)) k ≡ Some ns → is_clean ns ≡ true
 mark_is_clean text m f k [] e = refl
 mark_is_clean text m f k (n ∷ ns) e =
     let many = (bears-module m).count f.spells.tokens f.spells.fits in
@@ -114,7 +123,8 @@ faultless_text text m v =
     let f = (marks_are_the_rules m).1 v.lawful in
     record {
       spells = v.spells;
-      unbroken = λ number here b. none_in_clean b.numbers number (clean_at (marks (loose m.items)) (count_by bears b.tokens) b.numbers f.unmarked b.marked) b.broken;
+      unbroken = λ number here b. none_in_clean b.numbers number
+          (clean_at (marks (loose m.items)) (count_by bears b.tokens) b.numbers f.unmarked b.marked) b.broken;
       main = λ number here l. false≢true (sym l.none ∙ f.main);
       numbers = v.lawful.numbers;
       small = v.lawful.small;

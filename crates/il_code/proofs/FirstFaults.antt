@@ -15,10 +15,12 @@ both_first n here m there (inl x) (inr y) = let e = y.0 in absurd (omega arith)
 both_first n here m there (inr x) (inl y) = let e = x.0 in absurd (omega arith)
 both_first n here m there (inr x) (inr y) = let a = x.1 in let b = y.1 in (sym x.0, omega arith)
 
-one_first : (Fault : ℕ → List ℕ → Type 0) (n : ℕ) (here : List ℕ) (m : ℕ) (there : List ℕ) → IsFirst Fault n here → IsFirst Fault m there → Same n here m there
+one_first : (Fault : ℕ → List ℕ → Type 0) (n : ℕ) (here : List ℕ) (m : ℕ) (there : List ℕ) → IsFirst Fault n here → IsFirst Fault m there →
+    Same n here m there
 one_first Fault n here m there x y = both_first n here m there (x.first m there y.fault) (y.first n here x.fault)
 
-one_first_in : (text : List ℕ) (n : ℕ) (here : List ℕ) (m : ℕ) (there : List ℕ) → IsFirstIn text n here → IsFirstIn text m there → Same n here m there
+one_first_in : (text : List ℕ) (n : ℕ) (here : List ℕ) (m : ℕ) (there : List ℕ) → IsFirstIn text n here → IsFirstIn text m there →
+    Same n here m there
 one_first_in text n here m there (inl x) (inl y) = one_first _ n here m there x y
 one_first_in text n here m there (inl x) (inr y) = absurd (y.0 n here x.fault)
 one_first_in text n here m there (inr x) (inl y) = absurd (x.0 m there y.fault)

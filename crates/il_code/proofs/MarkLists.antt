@@ -38,7 +38,8 @@ module _ {A : Type 0} where
   list_all-and p q [] = refl
   list_all-and p q (x ∷ xs) = rw (list_all-and p q xs) (swap (p x) (q x) (list_all p xs) (list_all q xs))
 
-  pub list_all-flat_map : {B : Type 0} (p : B → Bool) (f : A → List B) (xs : List A) → list_all p (flat_map f xs) ≡ list_all (λ x. list_all p (f x)) xs
+  pub list_all-flat_map : {B : Type 0} (p : B → Bool) (f : A → List B) (xs : List A) →
+      list_all p (flat_map f xs) ≡ list_all (λ x. list_all p (f x)) xs
   list_all-flat_map p f [] = refl
   list_all-flat_map p f (x ∷ xs) = list_all-append p (f x) (flat_map f xs) ∙ ap (λ b. list_all p (f x) && b) (list_all-flat_map p f xs)
 
@@ -60,17 +61,22 @@ module _ {A : Type 0} where
   all_behind p before [] = true
   all_behind p before (x ∷ xs) = p before x && all_behind p (before ++ x ∷ []) xs
 
-  pub all_behind-each : {B : Type 0} (p : B → Bool) (f : List A → A → List B) (before xs : List A) → list_all p (each_behind f before xs) ≡ all_behind (λ b x. list_all p (f b x)) before xs
+  pub all_behind-each : {B : Type 0} (p : B → Bool) (f : List A → A → List B) (before xs : List A) →
+      list_all p (each_behind f before xs) ≡ all_behind (λ b x. list_all p (f b x)) before xs
   all_behind-each p f before [] = refl
-  all_behind-each p f before (x ∷ xs) = list_all-append p (f before x) (each_behind f (before ++ x ∷ []) xs) ∙ ap (λ b. list_all p (f before x) && b) (all_behind-each p f (before ++ x ∷ []) xs)
+  all_behind-each p f before (x ∷ xs) = list_all-append p (f before x) (each_behind f (before ++ x ∷ []) xs) ∙ ap
+      (λ b. list_all p (f before x) && b) (all_behind-each p f (before ++ x ∷ []) xs)
 
-  pub all_behind-same : (p q : List A → A → Bool) → ((b : List A) (x : A) → p b x ≡ q b x) → (before xs : List A) → all_behind p before xs ≡ all_behind q before xs
+  pub all_behind-same : (p q : List A → A → Bool) → ((b : List A) (x : A) → p b x ≡ q b x) → (before xs : List A) →
+      all_behind p before xs ≡ all_behind q before xs
   all_behind-same p q h before [] = refl
   all_behind-same p q h before (x ∷ xs) = rw (h before x, all_behind-same p q h (before ++ x ∷ []) xs) refl
 
-  pub all_behind-and : (p q : List A → A → Bool) (before xs : List A) → all_behind (λ b x. p b x && q b x) before xs ≡ (all_behind p before xs && all_behind q before xs)
+  pub all_behind-and : (p q : List A → A → Bool) (before xs : List A) →
+      all_behind (λ b x. p b x && q b x) before xs ≡ (all_behind p before xs && all_behind q before xs)
   all_behind-and p q before [] = refl
-  all_behind-and p q before (x ∷ xs) = rw (all_behind-and p q (before ++ x ∷ []) xs) (swap (p before x) (q before x) (all_behind p (before ++ x ∷ []) xs) (all_behind q (before ++ x ∷ []) xs))
+  all_behind-and p q before (x ∷ xs) = rw (all_behind-and p q (before ++ x ∷ []) xs)
+      (swap (p before x) (q before x) (all_behind p (before ++ x ∷ []) xs) (all_behind q (before ++ x ∷ []) xs))
 
   -- a test that does not look in front
   pub all_behind-plain : (p : A → Bool) (before xs : List A) → all_behind (λ b x. p x) before xs ≡ list_all p xs
@@ -81,9 +87,11 @@ pub map_push : {A B : Type 0} (f : A → B) (xs : List A) (x : A) → map f xs +
 map_push f [] x = refl
 map_push f (y ∷ xs) x = ap (λ z. f y ∷ z) (map_push f xs x)
 
-pub all_behind-map : {A B : Type 0} (f : A → B) (p : List B → B → Bool) (before xs : List A) → all_behind p (map f before) (map f xs) ≡ all_behind (λ b x. p (map f b) (f x)) before xs
+pub all_behind-map : {A B : Type 0} (f : A → B) (p : List B → B → Bool) (before xs : List A) →
+    all_behind p (map f before) (map f xs) ≡ all_behind (λ b x. p (map f b) (f x)) before xs
 all_behind-map f p before [] = refl
-all_behind-map f p before (x ∷ xs) = rw (map_push f before x) (ap (λ b. p (map f before) (f x) && b) (all_behind-map f p (before ++ x ∷ []) xs))
+all_behind-map f p before (x ∷ xs) = rw (map_push f before x)
+    (ap (λ b. p (map f before) (f x) && b) (all_behind-map f p (before ++ x ∷ []) xs))
 
 -- ---- marks
 

@@ -46,26 +46,35 @@ module _ {A : Type 0} (name : A → List ℕ) where
   list_all-true (x ∷ xs) = list_all-true xs
 
   not_here : (x : A) (xs : List A) → list_all (λ y. not (bytes_eq (name x) (name y))) xs ≡ not (has_named name (name x) xs)
-  not_here x xs = list_all-same (λ y. not (bytes_eq (name x) (name y))) (λ y. not (bytes_eq (name y) (name x))) (λ y. ap not (bytes_eq-turned (name x) (name y))) xs ∙ list_all-not (λ y. bytes_eq (name y) (name x)) xs
+  not_here x xs = list_all-same (λ y. not (bytes_eq (name x) (name y))) (λ y. not (bytes_eq (name y) (name x)))
+      (λ y. ap not (bytes_eq-turned (name x) (name y))) xs ∙ list_all-not (λ y. bytes_eq (name y) (name x)) xs
 
   or-false : (a : Bool) → (a || false) ≡ a
   or-false true = refl
   or-false false = refl
 
-  has_pushed : (x y : A) (before : List A) → not (has_named name (name y) (before ++ x ∷ [])) ≡ (not (has_named name (name y) before) && not (bytes_eq (name x) (name y)))
-  has_pushed x y before = ap not (list_any-append (λ z. bytes_eq (name z) (name y)) before (x ∷ [])) ∙ not-or (has_named name (name y) before) (bytes_eq (name x) (name y) || false) ∙ ap (λ b. not (has_named name (name y) before) && not b) (or-false (bytes_eq (name x) (name y)))
+  has_pushed : (x y : A) (before : List A) →
+      not (has_named name (name y) (before ++ x ∷ [])) ≡ (not (has_named name (name y) before) && not (bytes_eq (name x) (name y)))
+  has_pushed x y before = ap not (list_any-append (λ z. bytes_eq (name z) (name y)) before (x ∷ [])) ∙ not-or
+      (has_named name (name y) before) (bytes_eq (name x) (name y) || false) ∙ ap (λ b. not (has_named name (name y) before) && not b)
+      (or-false (bytes_eq (name x) (name y)))
 
-  seen_pushed : (x : A) (before xs : List A) → list_all (λ y. not (has_named name (name y) (before ++ x ∷ []))) xs ≡ (list_all (λ y. not (has_named name (name y) before)) xs && not (has_named name (name x) xs))
+  seen_pushed : (x : A) (before xs : List A) →
+      list_all (λ y. not (has_named name (name y) (before ++ x ∷ []))) xs ≡
+      (list_all (λ y. not (has_named name (name y) before)) xs && not (has_named name (name x) xs))
   seen_pushed x before xs =
       list_all-same _ (λ y. not (has_named name (name y) before) && not (bytes_eq (name x) (name y))) (λ y. has_pushed x y before) xs
       ∙ list_all-and (λ y. not (has_named name (name y) before)) (λ y. not (bytes_eq (name x) (name y))) xs
       ∙ ap (λ b. list_all (λ y. not (has_named name (name y) before)) xs && b) (not_here x xs)
 
-  seen_before : (before xs : List A) → all_behind (λ b x. not (has_named name (name x) b)) before xs ≡ (list_all (λ x. not (has_named name (name x) before)) xs && once xs)
+  seen_before : (before xs : List A) → all_behind (λ b x. not (has_named name (name x) b)) before xs ≡
+      (list_all (λ x. not (has_named name (name x) before)) xs && once xs)
   seen_before before [] = refl
   seen_before before (x ∷ xs) =
-      ap (λ b. not (has_named name (name x) before) && b) (seen_before (before ++ x ∷ []) xs ∙ ap (λ b. b && once xs) (seen_pushed x before xs))
-      ∙ shuffle (not (has_named name (name x) before)) (list_all (λ y. not (has_named name (name y) before)) xs) (not (has_named name (name x) xs)) (once xs)
+      ap (λ b. not (has_named name (name x) before) && b)
+      (seen_before (before ++ x ∷ []) xs ∙ ap (λ b. b && once xs) (seen_pushed x before xs))
+      ∙ shuffle (not (has_named name (name x) before)) (list_all (λ y. not (has_named name (name y) before)) xs)
+      (not (has_named name (name x) xs)) (once xs)
 
   how_many-cons : (n : List ℕ) (x : A) (xs : List A) → how_many name n (x ∷ xs) ≡ cond (bytes_eq (name x) n) 1 0 + how_many name n xs
   how_many-cons n x xs = sum_by-cons (λ y. cond (bytes_eq (name y) n) 1 0) x xs
@@ -74,7 +83,8 @@ module _ {A : Type 0} (name : A → List ℕ) where
   how_many-none n [] h = refl
   how_many-none n (x ∷ xs) h = how_many-cons n x xs ∙ by (bytes_eq (name x) n) h (λ k. how_many-none n xs k)
     where
-      by : (b : Bool) → (b || has_named name n xs) ≡ false → (has_named name n xs ≡ false → how_many name n xs ≡ 0) → cond b 1 0 + how_many name n xs ≡ 0
+      by : (b : Bool) → (b || has_named name n xs) ≡ false → (has_named name n xs ≡ false → how_many name n xs ≡ 0) →
+          cond b 1 0 + how_many name n xs ≡ 0
       by true k f = absurd (false≢true (sym k))
       by false k f = let e = f k in omega arith
 
@@ -82,7 +92,8 @@ module _ {A : Type 0} (name : A → List ℕ) where
   how_many-some n [] h = absurd (false≢true h)
   how_many-some n (x ∷ xs) h = subst (λ k. 0 < k) (sym (how_many-cons n x xs)) (by (bytes_eq (name x) n) h (λ k. how_many-some n xs k))
     where
-      by : (b : Bool) → (b || has_named name n xs) ≡ true → (has_named name n xs ≡ true → 0 < how_many name n xs) → 0 < cond b 1 0 + how_many name n xs
+      by : (b : Bool) → (b || has_named name n xs) ≡ true → (has_named name n xs ≡ true → 0 < how_many name n xs) →
+          0 < cond b 1 0 + how_many name n xs
       by true k f = omega arith
       by false k f = let e = f k in omega arith
 
@@ -91,27 +102,33 @@ module _ {A : Type 0} (name : A → List ℕ) where
   or_false_parts false b h = (refl, h)
 
   -- an element of another name counts for nothing
-  others : (x : A) (xs zs : List A) → has_named name (name x) zs ≡ false → list_all (λ y. how_many name (name y) (x ∷ xs) == 1) zs ≡ list_all (λ y. how_many name (name y) xs == 1) zs
+  others : (x : A) (xs zs : List A) → has_named name (name x) zs ≡ false →
+      list_all (λ y. how_many name (name y) (x ∷ xs) == 1) zs ≡ list_all (λ y. how_many name (name y) xs == 1) zs
   others x xs [] h = refl
   others x xs (z ∷ zs) h =
       let k = or_false_parts _ _ h in
       let e : bytes_eq (name x) (name z) ≡ false = bytes_eq-turned (name x) (name z) ∙ k.0 in
-      let n : how_many name (name z) (x ∷ xs) ≡ how_many name (name z) xs = how_many-cons (name z) x xs ∙ ap (λ b. cond b 1 0 + how_many name (name z) xs) e ∙ nothing_more (how_many name (name z) xs) in
+      let n : how_many name (name z) (x ∷ xs) ≡ how_many name (name z) xs =
+      how_many-cons (name z) x xs ∙ ap (λ b. cond b 1 0 + how_many name (name z) xs) e ∙ nothing_more (how_many name (name z) xs) in
       rw (n, others x xs zs k.1) refl
 
-  are_distinct-cons : (x : A) (xs : List A) (h : Bool) → has_named name (name x) xs ≡ h → are_distinct name (x ∷ xs) ≡ (not h && are_distinct name xs)
+  are_distinct-cons : (x : A) (xs : List A) (h : Bool) → has_named name (name x) xs ≡ h →
+      are_distinct name (x ∷ xs) ≡ (not h && are_distinct name xs)
   are_distinct-cons x xs true h =
-      let n : how_many name (name x) (x ∷ xs) ≡ 1 + how_many name (name x) xs = how_many-cons (name x) x xs ∙ ap (λ b. cond b 1 0 + how_many name (name x) xs) (bytes_eq-self (name x)) in
+      let n : how_many name (name x) (x ∷ xs) ≡ 1 + how_many name (name x) xs =
+      how_many-cons (name x) x xs ∙ ap (λ b. cond b 1 0 + how_many name (name x) xs) (bytes_eq-self (name x)) in
       let k = one_more (how_many name (name x) xs) (how_many-some (name x) xs h) in
       ap (λ b. b && list_all (λ y. how_many name (name y) (x ∷ xs) == 1) xs) (ap (λ m. m == 1) n ∙ k)
   are_distinct-cons x xs false h =
-      let n : how_many name (name x) (x ∷ xs) ≡ 1 + how_many name (name x) xs = how_many-cons (name x) x xs ∙ ap (λ b. cond b 1 0 + how_many name (name x) xs) (bytes_eq-self (name x)) in
+      let n : how_many name (name x) (x ∷ xs) ≡ 1 + how_many name (name x) xs =
+      how_many-cons (name x) x xs ∙ ap (λ b. cond b 1 0 + how_many name (name x) xs) (bytes_eq-self (name x)) in
       let k : how_many name (name x) (x ∷ xs) ≡ 1 = n ∙ ap (λ m. 1 + m) (how_many-none (name x) xs h) in
       ap (λ b. b && list_all (λ y. how_many name (name y) (x ∷ xs) == 1) xs) (ap (λ m. m == 1) k) ∙ others x xs xs h
 
   are_distinct-once : (xs : List A) → are_distinct name xs ≡ once xs
   are_distinct-once [] = refl
-  are_distinct-once (x ∷ xs) = are_distinct-cons x xs (has_named name (name x) xs) refl ∙ ap (λ b. not (has_named name (name x) xs) && b) (are_distinct-once xs)
+  are_distinct-once (x ∷ xs) = are_distinct-cons x xs (has_named name (name x) xs) refl ∙ ap (λ b. not (has_named name (name x) xs) && b)
+      (are_distinct-once xs)
 
   -- no element has a name that stands in front of it, exactly where the names differ
   pub distinct_before : (xs : List A) → all_behind (λ b x. not (has_named name (name x) b)) [] xs ≡ are_distinct name xs
@@ -142,8 +159,15 @@ module _ {A : Type 0} (t : A → Bool) where
       or_false_right true b k = absurd (false≢true (sym k))
       or_false_right false b k = k
 
-      by : (b : Bool) → t x ≡ b → cond b (Some x) (find t xs) ≡ Some r → (find t xs ≡ Some r → (t r ≡ true) × ((g : A → Bool) → list_any g xs ≡ false → g r ≡ false)) → (t r ≡ true) × ((g : A → Bool) → list_any g (x ∷ xs) ≡ false → g r ≡ false)
-      by true e k f = let same : x ≡ r = cc in (subst (λ y. t y ≡ true) same e, λ g n. subst (λ y. g y ≡ false) same (or_false_left (g x) (list_any g xs) n))
+      by : (b : Bool) → t x ≡ b → cond b (Some x) (find t xs) ≡ Some r →
+          (find t xs ≡ Some r → (t r ≡ true) × ((g : A → Bool) → list_any g xs ≡ false → g r ≡ false)) → (t r ≡ true) ×
+          ((g : A → Bool) → list_any g (x ∷ xs) ≡ false → g r ≡ false)
+      by true e k f =
+          let same : x ≡ r = cc in (
+            subst (λ y. t y ≡ true) same e,
+            λ g n. subst (λ y. g y ≡ false) same
+                (or_false_left (g x) (list_any g xs) n),
+          )
       by false e k f = let m = f k in (m.0, λ g n. m.1 g (or_false_right (g x) (list_any g xs) n))
 
   found_some : (before : List A) (x : A) (xs : List A) → t x ≡ true → is_some (find t (before ++ x ∷ xs)) ≡ true
@@ -171,7 +195,8 @@ two_firsts L W W h k m = false≢true h
 two_firsts L W L h k m = false≢true k
 two_firsts L L e h k m = false≢true m
 
-both_first : (c d : Class) (o : Option IlParam) → is_some o ≡ true → is_first_class c o ≡ true → is_first_class d o ≡ true → same_class d (other_class c) ≡ true → ⊥
+both_first : (c d : Class) (o : Option IlParam) → is_some o ≡ true → is_first_class c o ≡ true → is_first_class d o ≡ true →
+    same_class d (other_class c) ≡ true → ⊥
 both_first c d None s h k m = false≢true s
 both_first c d (Some r) s h k m = two_firsts c d r.class h k m
 
@@ -179,17 +204,21 @@ false_unless : (b : Bool) → (b ≡ true → ⊥) → b ≡ false
 false_unless true h = absurd (h refl)
 false_unless false h = refl
 
-no_clash : (all : List IlParam) (p q : IlParam) → is_some (first_of all p.name) ≡ true → is_as_first all p ≡ true → is_as_first all q ≡ true → differs p q ≡ false
+no_clash : (all : List IlParam) (p q : IlParam) → is_some (first_of all p.name) ≡ true → is_as_first all p ≡ true →
+    is_as_first all q ≡ true → differs p q ≡ false
 no_clash all p q s h k = false_unless (differs p q) λ m.
     let parts = and_parts (bytes_eq q.name p.name) (same_class q.class (other_class p.class)) m in
     let e : first_of all q.name ≡ first_of all p.name = ap (first_of all) (same_names q.name p.name parts.0) in
     both_first p.class q.class (first_of all p.name) s h (subst (λ o. is_first_class q.class o ≡ true) e k) parts.1
 
-alone_from : (all before zs : List IlParam) → all ≡ before ++ zs → list_all (is_as_first all) all ≡ true → list_all (is_as_first all) zs ≡ true → list_all (λ p. not (list_any (differs p) all)) zs ≡ true
+alone_from : (all before zs : List IlParam) → all ≡ before ++ zs → list_all (is_as_first all) all ≡ true →
+    list_all (is_as_first all) zs ≡ true → list_all (λ p. not (list_any (differs p) all)) zs ≡ true
 alone_from all before [] e whole h = refl
 alone_from all before (p ∷ zs) e whole h =
     let parts = and_parts (is_as_first all p) (list_all (is_as_first all) zs) h in
-    let s : is_some (first_of all p.name) ≡ true = subst (λ x. is_some (first_of x p.name) ≡ true) (sym e) (found_some (λ q. bytes_eq q.name p.name) before p zs (bytes_eq-self p.name)) in
+    let s : is_some (first_of all p.name) ≡ true =
+    subst (λ x. is_some (first_of x p.name) ≡ true) (sym e)
+    (found_some (λ q. bytes_eq q.name p.name) before p zs (bytes_eq-self p.name)) in
     let n = none_where_all (is_as_first all) (differs p) (λ q k. no_clash all p q s parts.0 k) all whole in
     let r = alone_from all (before ++ p ∷ []) zs (e ∙ sym (append_assoc before (p ∷ []) zs)) whole parts.1 in
     rw (n, r) refl
@@ -200,7 +229,8 @@ other_or_same W L h = absurd (false≢true (sym h))
 other_or_same L W h = absurd (false≢true (sym h))
 other_or_same L L h = refl
 
-first_from : (all : List IlParam) (p : IlParam) (o : Option IlParam) → first_of all p.name ≡ o → list_any (differs p) all ≡ false → is_first_class p.class o ≡ true
+first_from : (all : List IlParam) (p : IlParam) (o : Option IlParam) → first_of all p.name ≡ o → list_any (differs p) all ≡ false →
+    is_first_class p.class o ≡ true
 first_from all p None e h = refl
 first_from all p (Some r) e h =
     let k = found_passes (λ q. bytes_eq q.name p.name) all r e in
@@ -218,4 +248,5 @@ false_from_not false h = refl
 pub one_class : (all : List IlParam) → list_all (is_as_first all) all ≡ list_all (λ p. not (list_any (differs p) all)) all
 one_class all = same_when _ _
     (λ h. alone_from all [] all refl h h)
-    (λ h. list_all-weaker (λ p. not (list_any (differs p) all)) (is_as_first all) (λ p k. first_from all p (first_of all p.name) refl (false_from_not _ k)) all h)
+    (λ h. list_all-weaker (λ p. not (list_any (differs p) all)) (is_as_first all)
+    (λ p k. first_from all p (first_of all p.name) refl (false_from_not _ k)) all h)

@@ -1,4 +1,5 @@
--- Rows on what the language leaves out, and on numbers out of their ranges. Each text with its first fault, worked out by hand: number, line and column, or none.
+-- Rows on what the language leaves out, and on numbers out of their ranges. Each text with its first fault, worked out by hand: number,
+-- line and column, or none.
 use Rattle.std.proofs.Common.{◌≡◌, Some, refl, codes}
 use Rattle.il_code.specs.Rules.{is_runtime_call}
 use Rattle.il_code.proofs.FirstFault.{first_fault}

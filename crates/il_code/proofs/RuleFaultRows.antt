@@ -1,4 +1,5 @@
--- Rows on the rules that texts break, and on which fault comes first. Each text with its first fault, worked out by hand: number, line and column, or none.
+-- Rows on the rules that texts break, and on which fault comes first. Each text with its first fault, worked out by hand: number, line and
+-- column, or none.
 use Rattle.std.proofs.Common.{◌≡◌, None, Some, refl, codes}
 use Rattle.il_code.specs.Rules.{is_runtime_call}
 use Rattle.il_code.proofs.FirstFault.{first_fault}
@@ -11,7 +12,8 @@ unfolding is_runtime_call
 symbol_twice = refl
 
 -- the second of three
-symbol_thrice : first_fault (codes "data $x = { }\nexport\ndata $x = { } data $x = { }\nexport function $main() {\n@s\n\tret\n}\n") ≡ Some (5, 3, 6)
+symbol_thrice : first_fault (codes "data $x = { }\nexport\ndata $x = { } data $x = { }\nexport function $main() {\n@s\n\tret\n}\n") ≡
+    Some (5, 3, 6)
 unfolding is_runtime_call
 symbol_thrice = refl
 
@@ -26,7 +28,8 @@ unfolding is_runtime_call
 symbol_of_runtime = refl
 
 -- a second equal parameter
-parameter_twice : first_fault (codes "export function $main() {\n@s\n\tret\n}\nfunction $f(w %a, l %b, w %a) {\n@s\n\tret\n}") ≡ Some (5, 5, 27)
+parameter_twice : first_fault (codes "export function $main() {\n@s\n\tret\n}\nfunction $f(w %a, l %b, w %a) {\n@s\n\tret\n}") ≡
+    Some (5, 5, 27)
 unfolding is_runtime_call
 parameter_twice = refl
 
@@ -75,7 +78,8 @@ unfolding is_runtime_call
 argument_unknown = refl
 
 -- a parameter of another function
-temporary_of_another : first_fault (codes "function $f(w %p) {\n@s\n\tret\n}\nexport function $main() {\n@s\n\t%a =w neg %p\n\tret\n}\n") ≡ Some (7, 7, 12)
+temporary_of_another : first_fault (codes "function $f(w %p) {\n@s\n\tret\n}\nexport function $main() {\n@s\n\t%a =w neg %p\n\tret\n}\n") ≡
+    Some (7, 7, 12)
 unfolding is_runtime_call
 temporary_of_another = refl
 
@@ -92,7 +96,8 @@ unfolding is_runtime_call
 two_classes = refl
 
 -- a parameter has its class
-class_of_parameter : first_fault (codes "export function $main() {\n@s\n\tret\n}\nfunction $f(l %a) {\n@s\n\t%a =w copy 1\n\tret\n}") ≡ Some (8, 7, 2)
+class_of_parameter : first_fault (codes "export function $main() {\n@s\n\tret\n}\nfunction $f(l %a) {\n@s\n\t%a =w copy 1\n\tret\n}") ≡
+    Some (8, 7, 2)
 unfolding is_runtime_call
 class_of_parameter = refl
 
@@ -226,12 +231,14 @@ unfolding is_runtime_call
 phi_at_start = refl
 
 -- a phi behind an instruction
-phi_behind_instruction : first_fault (codes "export function $main() {\n@s\n@a\n\t%a =w phi @s 1\n\t%b =w copy 1\n\t%c =w phi @s 1\n\tret\n}") ≡ Some (10, 6, 8)
+phi_behind_instruction : first_fault
+    (codes "export function $main() {\n@s\n@a\n\t%a =w phi @s 1\n\t%b =w copy 1\n\t%c =w phi @s 1\n\tret\n}") ≡ Some (10, 6, 8)
 unfolding is_runtime_call
 phi_behind_instruction = refl
 
 -- a phi without one of the predecessors
-phi_lacks_predecessor : first_fault (codes "export function $main() {\n@s\n\tjnz 1, @a, @b\n@a\n@b\n\t%a =w phi @s 1\n\tret\n}") ≡ Some (10, 6, 8)
+phi_lacks_predecessor : first_fault (codes "export function $main() {\n@s\n\tjnz 1, @a, @b\n@a\n@b\n\t%a =w phi @s 1\n\tret\n}") ≡
+    Some (10, 6, 8)
 unfolding is_runtime_call
 phi_lacks_predecessor = refl
 
@@ -285,7 +292,8 @@ unfolding is_runtime_call
 lesser_number = refl
 
 -- a second equal parameter of another class
-parameter_of_two_classes : first_fault (codes "export function $main() {\n@s\n\tret\n}\nfunction $f(w %a, l %a) {\n@s\n\tret\n}") ≡ Some (5, 5, 21)
+parameter_of_two_classes : first_fault (codes "export function $main() {\n@s\n\tret\n}\nfunction $f(w %a, l %a) {\n@s\n\tret\n}") ≡
+    Some (5, 5, 21)
 unfolding is_runtime_call
 parameter_of_two_classes = refl
 

@@ -1,4 +1,5 @@
--- The rules of docs/IL.md, met and broken by small modules. `valid` tells which modules are valid by its contract; here the definition is computed.
+-- The rules of docs/IL.md, met and broken by small modules. `valid` tells which modules are valid by its contract; here the definition is
+-- computed.
 use Rattle.std.proofs.Common.{◌≡◌, ℕ, Bool, true, false, ◌&&◌, List, [], ◌∷◌, ◌++◌, Option, Some, None, refl, codes}
 use Rattle.std.specs.Prelude.{map}
 use Rattle.std.specs.List.{list_all, list_any}
@@ -86,7 +87,8 @@ unfolding is_shaped is_lawful is_runtime_call call_is_right
 main_right = refl
 
 main_wrong : wrong (
-    (main (Some L) (only_block [] (Ret (Some number))) ∷ []) ∷ (Function true None (codes "main") (param W (codes "p") ∷ []) (only_block [] Hlt) ∷ [])
+    (main (Some L) (only_block [] (Ret (Some number))) ∷ []) ∷
+    (Function true None (codes "main") (param W (codes "p") ∷ []) (only_block [] Hlt) ∷ [])
     ∷ (data_item (codes "main") 8 [] ∷ []) ∷ (data_item (codes "a") 8 [] ∷ []) ∷ [])
 unfolding is_shaped is_lawful is_runtime_call call_is_right
 main_wrong = refl
@@ -101,7 +103,8 @@ abbrev later_jump : Jump → List IlItem
 later_jump j = runs_blocks (block (codes "start") [] [] Fall ∷ block (codes "next") [] [] j ∷ [])
 
 abbrev four_jumps : List ℕ → List (List IlItem)
-four_jumps to = first_jump (Jmp to) ∷ later_jump (Jmp to) ∷ first_jump (Jnz number to (codes "next")) ∷ later_jump (Jnz number (codes "next") to) ∷ []
+four_jumps to = first_jump (Jmp to) ∷ later_jump (Jmp to) ∷ first_jump (Jnz number to (codes "next")) ∷ later_jump
+    (Jnz number (codes "next") to) ∷ []
 
 jumps_right : right (four_jumps (codes "next") ++ later_jump (Ret None) ∷ [])
 unfolding is_shaped is_lawful is_runtime_call call_is_right
@@ -113,7 +116,8 @@ jumps_wrong = refl
 
 -- `start` and `side` go to `join`, which has a phi with an argument for each of these labels
 abbrev joins : List (List ℕ) → List IlItem
-joins ls = runs_blocks (block (codes "start") [] [] (Jnz number (codes "side") (codes "join")) ∷ block (codes "side") [] [] Fall ∷ block (codes "join") (phi x W (map (λ l. phi_arg l number) ls) ∷ []) [] Hlt ∷ [])
+joins ls = runs_blocks (block (codes "start") [] [] (Jnz number (codes "side") (codes "join")) ∷ block (codes "side") [] [] Fall ∷ block
+    (codes "join") (phi x W (map (λ l. phi_arg l number) ls) ∷ []) [] Hlt ∷ [])
 
 phis_right : right (joins (codes "start" ∷ codes "side" ∷ []) ∷ joins (codes "side" ∷ codes "start" ∷ []) ∷ [])
 unfolding is_shaped is_lawful is_runtime_call call_is_right
@@ -121,8 +125,10 @@ phis_right = refl
 
 -- the last has a phi in the first block
 phis_wrong : wrong (
-    joins [] ∷ joins (codes "start" ∷ []) ∷ joins (codes "side" ∷ []) ∷ joins (codes "start" ∷ codes "side" ∷ codes "side" ∷ []) ∷ joins (codes "start" ∷ codes "side" ∷ codes "join" ∷ [])
-    ∷ joins (codes "start" ∷ codes "side" ∷ codes "nowhere" ∷ []) ∷ runs_blocks (block (codes "start") (phi x W (phi_arg (codes "start") number ∷ []) ∷ []) [] Hlt ∷ []) ∷ [])
+    joins [] ∷ joins (codes "start" ∷ []) ∷ joins (codes "side" ∷ []) ∷ joins (codes "start" ∷ codes "side" ∷ codes "side" ∷ []) ∷ joins
+    (codes "start" ∷ codes "side" ∷ codes "join" ∷ [])
+    ∷ joins (codes "start" ∷ codes "side" ∷ codes "nowhere" ∷ []) ∷ runs_blocks
+    (block (codes "start") (phi x W (phi_arg (codes "start") number ∷ []) ∷ []) [] Hlt ∷ []) ∷ [])
 unfolding is_shaped is_lawful is_runtime_call call_is_right
 phis_wrong = refl
 
@@ -138,7 +144,8 @@ six_places v =
     runs_insts (both_set ++ one x L Copy v ∷ [])
     ∷ runs_blocks (block (codes "start") [] both_set Fall ∷ block (codes "next") [] (one x L Copy v ∷ []) Hlt ∷ [])
     ∷ runs_insts (both_set ++ Store 4 number v ∷ [])
-    ∷ runs_blocks (block (codes "start") [] both_set Fall ∷ block (codes "next") (phi x L (phi_arg (codes "start") v ∷ []) ∷ []) [] Hlt ∷ [])
+    ∷ runs_blocks (block (codes "start") [] both_set Fall ∷ block (codes "next") (phi x L (phi_arg (codes "start") v ∷ []) ∷ []) [] Hlt ∷
+    [])
     ∷ runs_insts (both_set ++ Call None (codes "rt.free") (arg L v ∷ []) ∷ [])
     ∷ beside (Function false (Some L) (codes "f") [] (only_block both_set (Ret (Some v)))) ∷ []
 
@@ -178,7 +185,8 @@ classes_wrong = refl
 
 -- a call in `$main`, beside `$f` with one long, which gives a word, and data `$d`
 abbrev calls : Inst → List IlItem
-calls c = Function false (Some W) (codes "f") (param L (codes "p") ∷ []) (only_block [] Hlt) ∷ data_item (codes "d") 8 [] ∷ runs_insts (c ∷ [])
+calls c = Function false (Some W) (codes "f") (param L (codes "p") ∷ []) (only_block [] Hlt) ∷ data_item (codes "d") 8 [] ∷ runs_insts
+    (c ∷ [])
 
 -- a call with these classes of arguments
 abbrev dropped : List ℕ → List Class → List IlItem
@@ -192,7 +200,8 @@ unfolding is_shaped is_lawful is_runtime_call call_is_right
 calls_right = refl
 
 calls_wrong : wrong (
-    dropped (codes "f") (W ∷ []) ∷ taken L ∷ dropped (codes "f") [] ∷ dropped (codes "f") (L ∷ L ∷ []) ∷ dropped (codes "rt.exit") (L ∷ []) ∷ dropped (codes "rt.nargs") (L ∷ [])
+    dropped (codes "f") (W ∷ []) ∷ taken L ∷ dropped (codes "f") [] ∷ dropped (codes "f") (L ∷ L ∷ []) ∷ dropped (codes "rt.exit") (L ∷ [])
+    ∷ dropped (codes "rt.nargs") (L ∷ [])
     ∷ dropped (codes "rt.none") (L ∷ []) ∷ dropped (codes "u") (L ∷ []) ∷ dropped (codes "d") (L ∷ []) ∷ [])
 unfolding is_shaped is_lawful is_runtime_call call_is_right
 calls_wrong = refl
@@ -220,12 +229,14 @@ abbrev aligned : ℕ → List IlItem
 aligned n = beside (data_item (codes "a") n [])
 
 data_right : right (
-    map (λ n. valued n (value.Number 1)) (1 ∷ 2 ∷ 4 ∷ 8 ∷ []) ++ valued 1 (value.Str (codes "a b")) ∷ valued 8 (value.Symbol (codes "main") 8) ∷ map aligned (1 ∷ 2 ∷ 4 ∷ 8 ∷ 16 ∷ []))
+    map (λ n. valued n (value.Number 1)) (1 ∷ 2 ∷ 4 ∷ 8 ∷ []) ++ valued 1 (value.Str (codes "a b")) ∷ valued 8
+    (value.Symbol (codes "main") 8) ∷ map aligned (1 ∷ 2 ∷ 4 ∷ 8 ∷ 16 ∷ []))
 unfolding is_shaped is_lawful is_runtime_call call_is_right
 data_right = refl
 
 data_wrong : wrong (
-    map (λ n. valued n (value.Number 1)) (0 ∷ 3 ∷ []) ++ valued 2 (value.Str (codes "ab")) ∷ valued 1 (value.Str (34 ∷ [])) ∷ valued 4 (value.Symbol (codes "main") 8) ∷ valued 8 (value.Symbol (codes "u") 8)
+    map (λ n. valued n (value.Number 1)) (0 ∷ 3 ∷ []) ++ valued 2 (value.Str (codes "ab")) ∷ valued 1 (value.Str (34 ∷ [])) ∷ valued 4
+    (value.Symbol (codes "main") 8) ∷ valued 8 (value.Symbol (codes "u") 8)
     ∷ map aligned (0 ∷ 3 ∷ 12 ∷ 32 ∷ []))
 unfolding is_shaped is_lawful is_runtime_call call_is_right
 data_wrong = refl

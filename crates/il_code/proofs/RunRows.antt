@@ -46,7 +46,8 @@ phis_begun = refl
 
 -- a block that falls, twice
 abbrev falling : Module
-falling = module_of (main (Some W) (block (codes "a") [] [] Fall ∷ block (codes "b") [] (one (codes "x") W Copy (Number 7) ∷ []) Fall ∷ block (codes "c") [] [] (Ret (Some (temp (codes "x")))) ∷ []) ∷ [])
+falling = module_of (main (Some W) (block (codes "a") [] [] Fall ∷ block (codes "b") [] (one (codes "x") W Copy (Number 7) ∷ []) Fall ∷
+    block (codes "c") [] [] (Ret (Some (temp (codes "x")))) ∷ []) ∷ [])
 
 fallen : ends falling 2 ≡ Exit 7
 fallen = refl
@@ -59,7 +60,8 @@ abbrev fallen_from : Module
 fallen_from = module_of (main (Some W) (
     block (codes "a") [] [] (Jmp (codes "b"))
     ∷ block (codes "b") [] [] Fall
-    ∷ block (codes "c") (phi (codes "x") W (phi_arg (codes "a") (Number 1) ∷ phi_arg (codes "b") (Number 2) ∷ []) ∷ []) [] (Ret (Some (temp (codes "x")))) ∷ []) ∷ [])
+    ∷ block (codes "c") (phi (codes "x") W (phi_arg (codes "a") (Number 1) ∷ phi_arg (codes "b") (Number 2) ∷ []) ∷ []) []
+    (Ret (Some (temp (codes "x")))) ∷ []) ∷ [])
 
 fell_from_b : ends fallen_from 3 ≡ Exit 2
 fell_from_b = refl
@@ -81,7 +83,8 @@ branch_no = refl
 -- `f(n)` is `n` where that is at most 0, else `f(n - 1) + 1`
 abbrev counting : IlItem
 counting = Function false (Some L) (codes "f") (param L (codes "n") ∷ []) (
-    block (codes "start") [] (two (codes "c") W Cslel (temp (codes "n")) (Number 0) ∷ []) (Jnz (temp (codes "c")) (codes "last") (codes "more"))
+    block (codes "start") [] (two (codes "c") W Cslel (temp (codes "n")) (Number 0) ∷ [])
+    (Jnz (temp (codes "c")) (codes "last") (codes "more"))
     ∷ block (codes "last") [] [] (Ret (Some (temp (codes "n"))))
     ∷ block (codes "more") [] (
     two (codes "m") L Sub (temp (codes "n")) (Number 1)
@@ -90,7 +93,8 @@ counting = Function false (Some L) (codes "f") (param L (codes "n") ∷ []) (
     (Ret (Some (temp (codes "r")))) ∷ [])
 
 abbrev recursive : ℕ → Module
-recursive n = module_of (counting ∷ main (Some W) (only_block (gives (codes "x") L (codes "f") (Number n ∷ []) ∷ []) (Ret (Some (temp (codes "x"))))) ∷ [])
+recursive n = module_of (counting ∷ main (Some W)
+    (only_block (gives (codes "x") L (codes "f") (Number n ∷ []) ∷ []) (Ret (Some (temp (codes "x"))))) ∷ [])
 
 recursion : ends (recursive 5) 100 ≡ Exit 5
 recursion = refl
@@ -139,9 +143,11 @@ abbrev main_again : Module
 main_again = module_of (
     data_item (codes "d") 1 (part.Values 1 (value.Number 0 ∷ []) ∷ [])
     ∷ main (Some W) (
-    block (codes "a") [] (one (codes "x") W Loadub (Symbol (codes "d")) ∷ Store 1 (Number 1) (Symbol (codes "d")) ∷ []) (Jnz (temp (codes "x")) (codes "inner") (codes "outer"))
+    block (codes "a") [] (one (codes "x") W Loadub (Symbol (codes "d")) ∷ Store 1 (Number 1) (Symbol (codes "d")) ∷ [])
+    (Jnz (temp (codes "x")) (codes "inner") (codes "outer"))
     ∷ block (codes "inner") [] [] (Ret (Some (Number 5)))
-    ∷ block (codes "outer") [] (Call (Some (param W (codes "y"))) (codes "main") [] ∷ two (codes "y") W Add (temp (codes "y")) (Number 1) ∷ []) (Ret (Some (temp (codes "y")))) ∷ []) ∷ [])
+    ∷ block (codes "outer") [] (Call (Some (param W (codes "y"))) (codes "main") [] ∷ two (codes "y") W Add (temp (codes "y")) (Number 1) ∷
+    []) (Ret (Some (temp (codes "y")))) ∷ []) ∷ [])
 
 inner_main : ends main_again 100 ≡ Exit 6
 inner_main = refl
@@ -165,7 +171,8 @@ stack_first = refl
 -- a recursion without an end: each call costs 64 and 8 for each of 3 temporaries, beside what `$main` took
 abbrev endless : Module
 endless = module_of (
-    Function false None (codes "f") [] (block (codes "start") [] (one (codes "a") L Alloc4 (Number 536870912) ∷ Call None (codes "f") [] ∷ []) (Ret None) ∷ [])
+    Function false None (codes "f") [] (block (codes "start") []
+    (one (codes "a") L Alloc4 (Number 536870912) ∷ Call None (codes "f") [] ∷ []) (Ret None) ∷ [])
     ∷ main None (only_block (Call None (codes "f") [] ∷ []) (Ret None)) ∷ [])
 
 -- call, alloc, call, and the second alloc is too much
@@ -185,7 +192,8 @@ taken_again = refl
 
 -- `%a =w copy 1`, `%b =w add %a, 1`, `ret %b`
 abbrev short : Module
-short = main_of (one (codes "a") W Copy (Number 1) ∷ two (codes "b") W Add (temp (codes "a")) (Number 1) ∷ []) (Ret (Some (temp (codes "b"))))
+short = main_of (one (codes "a") W Copy (Number 1) ∷ two (codes "b") W Add (temp (codes "a")) (Number 1) ∷ [])
+    (Ret (Some (temp (codes "b"))))
 
 spent_0 : ends short 0 ≡ Spent
 spent_0 = refl
@@ -210,7 +218,8 @@ exit_256 : ends (main_of (exits (Number 256) ∷ []) (Ret None)) 1 ≡ Exit 0
 exit_256 = refl
 
 -- the newest value counts
-assigned_twice : ends (main_of (one (codes "a") L Copy (Number 1) ∷ one (codes "a") L Copy (Number 2) ∷ exits (temp (codes "a")) ∷ []) (Ret None)) 9 ≡ Exit 2
+assigned_twice : ends (main_of (one (codes "a") L Copy (Number 1) ∷ one (codes "a") L Copy (Number 2) ∷ exits (temp (codes "a")) ∷ [])
+    (Ret None)) 9 ≡ Exit 2
 assigned_twice = refl
 
 -- a temporary that was not assigned has the fill byte in each of eight bytes
@@ -221,19 +230,23 @@ unassigned_eight : temp_value 170 [] (codes "a") ≡ 12297829382473034410
 unassigned_eight = refl
 
 -- three arguments, whose number is given as a long; the result of a call may be dropped
-three_arguments : end_of (machine (main_of (gives (codes "n") L (codes "rt.nargs") [] ∷ exits (temp (codes "n")) ∷ []) (Ret None)) ([] ∷ [] ∷ [] ∷ []) [] 170 9) ≡ Exit 3
+three_arguments : end_of (machine (main_of (gives (codes "n") L (codes "rt.nargs") [] ∷ exits (temp (codes "n")) ∷ []) (Ret None))
+    ([] ∷ [] ∷ [] ∷ []) [] 170 9) ≡ Exit 3
 three_arguments = refl
 
 arguments_dropped : ends (main_of (runs (codes "rt.nargs") [] ∷ []) (Ret None)) 9 ≡ Exit 0
 arguments_dropped = refl
 
 -- three temporaries: parameters, phis and instructions assign them, one twice
-cost_of_three : call_cost (param L (codes "x") ∷ []) (block (codes "start") (phi (codes "y") L [] ∷ []) (one (codes "x") L Copy (Number 1) ∷ gives (codes "z") L (codes "rt.nargs") [] ∷ []) Hlt ∷ []) ≡ 88
+cost_of_three : call_cost (param L (codes "x") ∷ [])
+    (block (codes "start") (phi (codes "y") L [] ∷ []) (one (codes "x") L Copy (Number 1) ∷ gives (codes "z") L (codes "rt.nargs") [] ∷ [])
+    Hlt ∷ []) ≡ 88
 cost_of_three = refl
 
 -- a step that moves 128 bytes costs 3 units, and is begun with one left: then 4 are used, and the jump is begun only with a fifth
 abbrev blitting : Module
-blitting = main_of (one (codes "a") L Alloc4 (Number 256) ∷ two (codes "b") L Add (temp (codes "a")) (Number 128) ∷ Blit (temp (codes "a")) (temp (codes "b")) 128 ∷ []) (Ret None)
+blitting = main_of (one (codes "a") L Alloc4 (Number 256) ∷ two (codes "b") L Add (temp (codes "a")) (Number 128) ∷ Blit (temp (codes "a"))
+    (temp (codes "b")) 128 ∷ []) (Ret None)
 
 abbrev used : Module → ℕ → ℕ
 used m n = (machine m [] [] 170 n).used
@@ -263,7 +276,8 @@ loaded_past : ends (main_of (one (codes "x") L Loadl (Number 1844674407370955161
 loaded_past = refl
 
 -- of 8 bytes 7 are mapped
-loaded_partly : ends (main_of (one (codes "a") L Alloc4 (Number 7) ∷ one (codes "x") L Loadl (temp (codes "a")) ∷ []) (Ret None)) 9 ≡ Fault fault.Wild
+loaded_partly : ends (main_of (one (codes "a") L Alloc4 (Number 7) ∷ one (codes "x") L Loadl (temp (codes "a")) ∷ []) (Ret None)) 9 ≡
+    Fault fault.Wild
 loaded_partly = refl
 
 freed_nothing : ends (main_of (runs (codes "rt.free") (Number 0 ∷ []) ∷ []) (Ret None)) 1 ≡ Fault fault.BadFree
@@ -273,7 +287,8 @@ no_argument : ends (main_of (gives (codes "x") L (codes "rt.arg") (Number 0 ∷ 
 no_argument = refl
 
 abbrev blit_by : ℕ → Module
-blit_by k = main_of (one (codes "a") L Alloc4 (Number 16) ∷ two (codes "b") L Add (temp (codes "a")) (Number k) ∷ Blit (temp (codes "a")) (temp (codes "b")) 8 ∷ []) (Ret None)
+blit_by k = main_of (one (codes "a") L Alloc4 (Number 16) ∷ two (codes "b") L Add (temp (codes "a")) (Number k) ∷ Blit (temp (codes "a"))
+    (temp (codes "b")) 8 ∷ []) (Ret None)
 
 blit_overlaps : ends (blit_by 4) 9 ≡ Fault fault.Overlap
 blit_overlaps = refl
@@ -285,5 +300,6 @@ blit_same : ends (blit_by 0) 9 ≡ Exit 0
 blit_same = refl
 
 -- a byte that is not mapped comes first
-blit_wild : ends (main_of (one (codes "a") L Alloc4 (Number 8) ∷ two (codes "b") L Add (temp (codes "a")) (Number 4) ∷ Blit (temp (codes "a")) (temp (codes "b")) 8 ∷ []) (Ret None)) 9 ≡ Fault fault.Wild
+blit_wild : ends (main_of (one (codes "a") L Alloc4 (Number 8) ∷ two (codes "b") L Add (temp (codes "a")) (Number 4) ∷ Blit
+    (temp (codes "a")) (temp (codes "b")) 8 ∷ []) (Ret None)) 9 ≡ Fault fault.Wild
 blit_wild = refl

@@ -77,10 +77,12 @@ digits_pass (c ∷ s) h = let k = and_parts (is_digit_byte c) (all_ascii_digits 
 pick_word : (c : ℕ) (s : List ℕ) → is_digit_byte c ≡ false → is_name_byte c ≡ true → scan (c ∷ s) ≡ name_in Word (c ∷ s)
 pick_word c s d n = rw (name_no_mark c n, n, d) refl
 
-pick_number : (c : ℕ) (s : List ℕ) → is_digit_byte c ≡ true → scan (c ∷ s) ≡ Some (Numeral (digits_value 10 (run is_digit_byte (c ∷ s))), past is_digit_byte (c ∷ s))
+pick_number : (c : ℕ) (s : List ℕ) → is_digit_byte c ≡ true →
+    scan (c ∷ s) ≡ Some (Numeral (digits_value 10 (run is_digit_byte (c ∷ s))), past is_digit_byte (c ∷ s))
 pick_number c s d = rw (digit_no_mark c d, d) refl
 
-scan_name : (sigil : List ℕ → IlToken) (t rest : List ℕ) → list_all is_name_byte t ≡ true → is_name_byte (slice_index rest 0) ≡ false → name_in sigil (t ++ rest) ≡ Some (sigil t, rest)
+scan_name : (sigil : List ℕ → IlToken) (t rest : List ℕ) → list_all is_name_byte t ≡ true → is_name_byte (slice_index rest 0) ≡ false →
+    name_in sigil (t ++ rest) ≡ Some (sigil t, rest)
 scan_name sigil t rest h stop = rw (run_all is_name_byte t rest h stop, past_all is_name_byte t rest h stop) refl
 
 named : (t : List ℕ) → is_identifier t ≡ true → list_all is_name_byte t ≡ true
@@ -94,20 +96,31 @@ scan_word (c ∷ w) rest h stop =
     let first = (and_parts (is_name_byte c) _ all).0 in
     pick_word c (w ++ rest) (no_digit _ _ h) first ∙ scan_name Word (c ∷ w) rest all stop
 
-scan_digits : (n : ℕ) (s rest : List ℕ) → IsPlus n s → is_digit_byte (slice_index rest 0) ≡ false → scan (s ++ rest) ≡ Some (Numeral n, rest)
+scan_digits : (n : ℕ) (s rest : List ℕ) → IsPlus n s → is_digit_byte (slice_index rest 0) ≡ false →
+    scan (s ++ rest) ≡ Some (Numeral n, rest)
 scan_digits n [] rest h stop = absurd (omega (arith, h.some))
 scan_digits n (c ∷ s) rest h stop =
     let all = digits_pass (c ∷ s) h.digits in
     let first = (and_parts (is_digit_byte c) _ all).0 in
-    pick_number c (s ++ rest) first ∙ rw (run_all is_digit_byte (c ∷ s) rest all stop, past_all is_digit_byte (c ∷ s) rest all stop, h.value) refl
+    pick_number c (s ++ rest) first ∙ rw (
+      run_all is_digit_byte (c ∷ s) rest all stop,
+      past_all is_digit_byte (c ∷ s) rest all stop,
+      h.value,
+    ) refl
 
-scan_minus : (n : ℕ) (s rest : List ℕ) → IsMinus n s → is_digit_byte (slice_index rest 0) ≡ false → scan (s ++ rest) ≡ Some (Numeral n, rest)
+scan_minus : (n : ℕ) (s rest : List ℕ) → IsMinus n s → is_digit_byte (slice_index rest 0) ≡ false →
+    scan (s ++ rest) ≡ Some (Numeral n, rest)
 scan_minus n s rest h stop =
     let all = digits_pass h.digits h.all in
-    ap (λ x. scan (x ++ rest)) h.is ∙ rw (run_all is_digit_byte h.digits rest all stop, past_all is_digit_byte h.digits rest all stop, h.value) refl
+    ap (λ x. scan (x ++ rest)) h.is ∙ rw (
+      run_all is_digit_byte h.digits rest all stop,
+      past_all is_digit_byte h.digits rest all stop,
+      h.value,
+    ) refl
 
 scan_quoted : (b rest : List ℕ) → list_all is_string_byte b ≡ true → scan ((34 ∷ (b ++ 34 ∷ [])) ++ rest) ≡ Some (Quoted b, rest)
-scan_quoted b rest h = ap (λ x. scan (34 ∷ x)) (append_assoc b (34 ∷ []) rest) ∙ rw (run_all is_string_byte b (34 ∷ rest) h refl, past_all is_string_byte b (34 ∷ rest) h refl) refl
+scan_quoted b rest h = ap (λ x. scan (34 ∷ x)) (append_assoc b (34 ∷ []) rest) ∙ rw
+    (run_all is_string_byte b (34 ∷ rest) h refl, past_all is_string_byte b (34 ∷ rest) h refl) refl
 
 scan_mark : (c : ℕ) (rest : List ℕ) → is_mark c ≡ true → scan (c ∷ rest) ≡ Some (Mark c, rest)
 scan_mark c rest h = rw h refl

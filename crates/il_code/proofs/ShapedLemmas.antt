@@ -38,15 +38,18 @@ can_row : {A : Type 0} (f : A → Pattern) (g : A → Bool) → ((x : A) → can
 can_row f g h [] = refl
 can_row f g h (x ∷ xs) = rw (h x, can_row f g h xs) refl
 
-can_behind_comma : {A : Type 0} (f : A → Pattern) (g : A → Bool) → ((x : A) → can (f x) ≡ g x) → (xs : List A) → can (behind_comma (map f xs)) ≡ list_all g xs
+can_behind_comma : {A : Type 0} (f : A → Pattern) (g : A → Bool) → ((x : A) → can (f x) ≡ g x) → (xs : List A) →
+    can (behind_comma (map f xs)) ≡ list_all g xs
 can_behind_comma f g h [] = refl
 can_behind_comma f g h (x ∷ xs) = rw (h x, can_behind_comma f g h xs) refl
 
-can_parts_behind : {A : Type 0} (f : A → Pattern) (g : A → Bool) → ((x : A) → can (f x) ≡ g x) → (xs : List A) → can (parts_behind (map f xs)) ≡ list_all g xs
+can_parts_behind : {A : Type 0} (f : A → Pattern) (g : A → Bool) → ((x : A) → can (f x) ≡ g x) → (xs : List A) →
+    can (parts_behind (map f xs)) ≡ list_all g xs
 can_parts_behind f g h [] = refl
 can_parts_behind f g h (x ∷ xs) = rw (h x, can_parts_behind f g h xs) refl
 
-can_listed : {A : Type 0} (f : A → Pattern) (g : A → Bool) → ((x : A) → can (f x) ≡ g x) → (xs : List A) → can (listed (map f xs)) ≡ list_all g xs
+can_listed : {A : Type 0} (f : A → Pattern) (g : A → Bool) → ((x : A) → can (f x) ≡ g x) → (xs : List A) →
+    can (listed (map f xs)) ≡ list_all g xs
 can_listed f g h [] = refl
 can_listed f g h (x ∷ xs) = rw (h x, can_behind_comma f g h xs) (and-true _)
 
@@ -133,7 +136,8 @@ can_result None = refl
 can_result (Some p) = rw (can_class p.class) (and-true _)
 
 -- one of four patterns, each of which tokens fit, else none
-can_choice : (a b c d : Bool) (p q r s never : Pattern) → can p ≡ true → can q ≡ true → can r ≡ true → can s ≡ true → can never ≡ false → can (cond a p (cond b q (cond c r (cond d s never)))) ≡ (a || b || c || d)
+can_choice : (a b c d : Bool) (p q r s never : Pattern) → can p ≡ true → can q ≡ true → can r ≡ true → can s ≡ true → can never ≡ false →
+    can (cond a p (cond b q (cond c r (cond d s never)))) ≡ (a || b || c || d)
 can_choice true b c d p q r s n hp hq hr hs hn = hp
 can_choice false true c d p q r s n hp hq hr hs hn = hq
 can_choice false false true d p q r s n hp hq hr hs hn = hr
@@ -195,7 +199,13 @@ can_inst_line : (i : Inst) → can (on_line (inst_pattern i)) ≡ is_inst i
 can_inst_line i = rw (can_inst i) (and-true _)
 
 can_block : (last : Bool) (b : Block) → can (block_pattern last b) ≡ (is_block b && not (last && falls b.jump))
-can_block last b = rw (can_row (λ p. on_line (phi_pattern p)) is_phi can_phi_line b.phis, can_row (λ i. on_line (inst_pattern i)) is_inst can_inst_line b.insts, can_jump last b.jump) (block_parts (is_identifier b.label) (list_all is_phi b.phis) (list_all is_inst b.insts) (is_jump b.jump) (not (last && falls b.jump)))
+can_block last b = rw (
+  can_row (λ p. on_line (phi_pattern p)) is_phi can_phi_line b.phis,
+  can_row (λ i. on_line (inst_pattern i)) is_inst
+      can_inst_line b.insts,
+  can_jump last b.jump,
+)
+    (block_parts (is_identifier b.label) (list_all is_phi b.phis) (list_all is_inst b.insts) (is_jump b.jump) (not (last && falls b.jump)))
 
 last_block : (b f : Bool) → (b && not f) ≡ ((b && true) && not f)
 last_block b f = rw (and-true b) refl
@@ -246,7 +256,8 @@ can_parts (p ∷ ps) = rw (can_part p, can_parts_behind part_pattern is_part can
 eight_is_bits : (n : ℕ) → eqb n 8 ≡ true → is_bits n ≡ true
 eight_is_bits n h = grind (arith, nat_tests)
 
-can_align_by : (b : Bool) (n : ℕ) (p q : Pattern) → can p ≡ is_bits n → can q ≡ true → (b ≡ true → is_bits n ≡ true) → can (cond b (either p q) p) ≡ is_bits n
+can_align_by : (b : Bool) (n : ℕ) (p q : Pattern) → can p ≡ is_bits n → can q ≡ true → (b ≡ true → is_bits n ≡ true) →
+    can (cond b (either p q) p) ≡ is_bits n
 can_align_by true n p q hp hq h = rw (hp, hq, h refl) refl
 can_align_by false n p q hp hq h = hp
 
@@ -257,7 +268,8 @@ can_align n = can_align_by (eqb n 8) n _ _ refl refl (eight_is_bits n)
 
 can_item : (i : IlItem) → can (item_pattern i) ≡ is_item i
 can_item (Data export name align parts) = rw (can_export export, can_align align, can_parts parts) (simp and-true)
-can_item (Function export class name params blocks) = rw (can_export export, can_result_class class, can_listed param_pattern is_param can_param params, can_blocks blocks) (simp and-true)
+can_item (Function export class name params blocks) =
+    rw (can_export export, can_result_class class, can_listed param_pattern is_param can_param params, can_blocks blocks) (simp and-true)
 
 can_item_line : (i : IlItem) → can (both (item_pattern i) usual_lines) ≡ is_item i
 can_item_line i = rw (can_item i) (and-true _)

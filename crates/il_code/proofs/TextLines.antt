@@ -22,9 +22,12 @@ use Rattle.il_code.proofs.TextTokens.{Reader, and_then, ◌>>=◌, done, stuck, 
 
 abbrev pub operations : List IlOp
 operations =
-    op.Neg ∷ op.Copy ∷ op.Alloc4 ∷ op.Alloc8 ∷ op.Alloc16 ∷ op.Extsb ∷ op.Extub ∷ op.Extsh ∷ op.Extuh ∷ op.Extsw ∷ op.Extuw ∷ op.Loadsb ∷ op.Loadub ∷ op.Loadsh ∷ op.Loaduh ∷ op.Loadsw
-    ∷ op.Loaduw ∷ op.Loadl ∷ op.Add ∷ op.Sub ∷ op.Mul ∷ op.Div ∷ op.Rem ∷ op.Udiv ∷ op.Urem ∷ op.And ∷ op.Or ∷ op.Xor ∷ op.Shl ∷ op.Shr ∷ op.Sar ∷ op.Ceqw ∷ op.Ceql ∷ op.Cnew ∷ op.Cnel
-    ∷ op.Cslew ∷ op.Cslel ∷ op.Csltw ∷ op.Csltl ∷ op.Csgew ∷ op.Csgel ∷ op.Csgtw ∷ op.Csgtl ∷ op.Culew ∷ op.Culel ∷ op.Cultw ∷ op.Cultl ∷ op.Cugew ∷ op.Cugel ∷ op.Cugtw ∷ op.Cugtl ∷ []
+    op.Neg ∷ op.Copy ∷ op.Alloc4 ∷ op.Alloc8 ∷ op.Alloc16 ∷ op.Extsb ∷ op.Extub ∷ op.Extsh ∷ op.Extuh ∷ op.Extsw ∷ op.Extuw ∷ op.Loadsb ∷
+    op.Loadub ∷ op.Loadsh ∷ op.Loaduh ∷ op.Loadsw
+    ∷ op.Loaduw ∷ op.Loadl ∷ op.Add ∷ op.Sub ∷ op.Mul ∷ op.Div ∷ op.Rem ∷ op.Udiv ∷ op.Urem ∷ op.And ∷ op.Or ∷ op.Xor ∷ op.Shl ∷ op.Shr ∷
+    op.Sar ∷ op.Ceqw ∷ op.Ceql ∷ op.Cnew ∷ op.Cnel
+    ∷ op.Cslew ∷ op.Cslel ∷ op.Csltw ∷ op.Csltl ∷ op.Csgew ∷ op.Csgel ∷ op.Csgtw ∷ op.Csgtl ∷ op.Culew ∷ op.Culel ∷ op.Cultw ∷ op.Cultl ∷
+    op.Cugew ∷ op.Cugel ∷ op.Cugtw ∷ op.Cugtl ∷ []
 
 -- what an assignment gives its temporary
 pub data Given : Type 0 where
@@ -52,7 +55,8 @@ phi_args zero = stuck Plain
 phi_args (suc n) = do
   l ← a_label
   v ← a_value
-  where_next (is_the_mark 44) (do _ ← mark 44; xs ← phi_args n; done (record { label = l; value = v } ∷ xs)) (done (record { label = l; value = v } ∷ []))
+  where_next (is_the_mark 44) (do _ ← mark 44; xs ← phi_args n; done (record { label = l; value = v } ∷ xs))
+      (done (record { label = l; value = v } ∷ []))
 
 abbrev pub an_arg : Reader IlArg
 an_arg = do
@@ -134,7 +138,8 @@ is_too_many n = nat_lt most n
 -- a number that is refused where the test holds of it
 abbrev pub checked_number : (ℕ → Bool) → Reader ℕ
 checked_number refused [] = stuck Plain []
-checked_number refused (Whole at minus t ∷ ps) = and_then (expect Plain number_of (Whole at minus t ∷ ps)) (λ n s. choose (refused n) (λ _. bad 12 at) (λ _. got n s))
+checked_number refused (Whole at minus t ∷ ps) =
+    and_then (expect Plain number_of (Whole at minus t ∷ ps)) (λ n s. choose (refused n) (λ _. bad 12 at) (λ _. got n s))
 checked_number refused (Far at ∷ ps) = stuck Plain (Far at ∷ ps)
 checked_number refused (Stray at ∷ ps) = stuck Plain (Stray at ∷ ps)
 checked_number refused (End at ∷ ps) = stuck Plain (End at ∷ ps)

@@ -1,5 +1,5 @@
--- A plain program for small texts: the tokens of a text one after the other, up to the first bytes that are none. No public clause cites it; it computes
--- the rows on faults.
+-- A plain program for small texts: the tokens of a text one after the other, up to the first bytes that are none. No public clause cites
+-- it; it computes the rows on faults.
 use Rattle.std.proofs.Common.{ℕ, zero, suc, ◌+◌, ◌-◌, ◌%◌, ◌^◌, List, [], ◌∷◌, Bool, true, false, length, nat_lt, nat_le, ◌==◌, take, drop, slice_index}
 use Rattle.std.specs.List.{prefix_len}
 use Rattle.std.specs.Str.Parse.{digits_value}
@@ -26,7 +26,9 @@ Taken = Piece × ℕ
 
 -- a name behind its sigil
 abbrev named : ℕ → (List ℕ → IlToken) → List ℕ → Taken
-named at make s = let name = take (prefix_len is_name_byte s) s in choose (is_identifier name) (λ _. (Whole at false (make name), suc (length name))) (λ _. (Stray at, 1))
+named at make s =
+    let name = take (prefix_len is_name_byte s) s in choose (is_identifier name) (λ _. (Whole at false (make name), suc (length name)))
+    (λ _. (Stray at, 1))
 
 abbrev a_number : ℕ → List ℕ → Taken
 a_number at s =
@@ -38,10 +40,13 @@ abbrev below_zero : ℕ → List ℕ → Taken
 below_zero at s =
     let k = prefix_len is_digit_byte s in
     let n = digits_value 10 (take k s) in
-    choose (k == 0) (λ _. (Stray at, 1)) (λ _. choose (nat_le n (2 ^ 63)) (λ _. (Whole at true (Numeral ((2 ^ 64 - n) % 2 ^ 64)), suc k)) (λ _. (Far at, 1)))
+    choose (k == 0) (λ _. (Stray at, 1)) (λ _. choose (nat_le n (2 ^ 63)) (λ _. (Whole at true (Numeral ((2 ^ 64 - n) % 2 ^ 64)), suc k))
+    (λ _. (Far at, 1)))
 
 abbrev string : ℕ → List ℕ → Taken
-string at s = let k = prefix_len is_string_byte s in choose (slice_index s k == 34) (λ _. (Whole at false (Quoted (take k s)), k + 2)) (λ _. (Stray at, 1))
+string at s =
+    let k = prefix_len is_string_byte s in choose (slice_index s k == 34) (λ _. (Whole at false (Quoted (take k s)), k + 2))
+    (λ _. (Stray at, 1))
 
 abbrev a_word : ℕ → List ℕ → Taken
 a_word at s = let k = prefix_len is_name_byte s in (Whole at false (Word (take k s)), k)

@@ -1,4 +1,5 @@
--- A plain program for small texts: the module that pieces spell, or the number and the offset of the first fault that is found while they are read.
+-- A plain program for small texts: the module that pieces spell, or the number and the offset of the first fault that is found while they
+-- are read.
 use Rattle.std.proofs.Common.{ℕ, zero, suc, ◌+◌, List, [], ◌∷◌, Option, None, Some, Bool, true, false, not, ◌&&◌, nat_lt, codes, length, bytes_eq}
 use Rattle.std.specs.Prelude.{if◌then◌else◌, is_some}
 use Rattle.hx_base.specs.declared.Class.{Class}
@@ -60,13 +61,15 @@ values at width (suc n) total = do
 
 abbrev zeros : ℕ → ℕ → Reader Part
 zeros at total [] = stuck Plain []
-zeros at total (Whole here minus t ∷ ps) = and_then (expect Plain number_of (Whole here minus t ∷ ps)) λ n s. choose (minus && nat_lt most n) (λ _. bad 12 here) (λ _. within at (total + n) (done (Zero n)) s)
+zeros at total (Whole here minus t ∷ ps) = and_then (expect Plain number_of (Whole here minus t ∷ ps)) λ n s. choose
+    (minus && nat_lt most n) (λ _. bad 12 here) (λ _. within at (total + n) (done (Zero n)) s)
 zeros at total (Far here ∷ ps) = stuck Plain (Far here ∷ ps)
 zeros at total (Stray here ∷ ps) = stuck Plain (Stray here ∷ ps)
 zeros at total (End here ∷ ps) = stuck Plain (End here ∷ ps)
 
 abbrev width_named : List ℕ → Option ℕ
-width_named w = if bytes_eq w (codes "b") then Some 1 else if bytes_eq w (codes "h") then Some 2 else if bytes_eq w (codes "w") then Some 4 else if bytes_eq w (codes "l") then Some 8 else if bytes_eq w (codes "z") then Some 0 else None
+width_named w = if bytes_eq w (codes "b") then Some 1 else if bytes_eq w (codes "h") then Some 2 else if bytes_eq w (codes "w") then Some 4
+    else if bytes_eq w (codes "l") then Some 8 else if bytes_eq w (codes "z") then Some 0 else None
 
 abbrev width_word : Option (List ℕ) → Option ℕ
 width_word None = None
@@ -97,7 +100,8 @@ parts m (suc n) total = where_next (is_the_mark 125) (done []) do
 -- ---- items
 
 abbrev an_align : Reader ℕ
-an_align = where_next (is_the_word (codes "align")) (do _ ← expect Plain (λ t. only (is_the_word (codes "align") t)); checked_number (λ n. not (is_alignment n))) (done 8)
+an_align = where_next (is_the_word (codes "align"))
+    (do _ ← expect Plain (λ t. only (is_the_word (codes "align") t)); checked_number (λ n. not (is_alignment n))) (done 8)
 
 abbrev data_behind : ℕ → ℕ → Bool → Reader LooseItem
 data_behind n total export = do
@@ -136,7 +140,8 @@ function_behind n export = do
 
 abbrev exports : ℕ → Reader Bool
 exports zero = stuck Plain
-exports (suc n) = where_next (is_the_word (codes "export")) (do _ ← expect Plain word_of; _ ← some_lines; _ ← exports n; done true) (done false)
+exports (suc n) = where_next (is_the_word (codes "export")) (do _ ← expect Plain word_of; _ ← some_lines; _ ← exports n; done true)
+    (done false)
 
 abbrev item_named : List ℕ → Option Bool
 item_named w = if bytes_eq w (codes "data") then Some true else if bytes_eq w (codes "function") then Some false else None
@@ -169,9 +174,11 @@ is_end (End at ∷ ps) = true
 
 abbrev items : ℕ → ℕ → ℕ → Reader (List LooseItem)
 items m zero total s = bad 3 0
-items m (suc n) total s = choose (is_end s) (λ _. got [] s) λ _. and_then (an_item m total s) λ i. (do _ ← some_lines; more ← items m n (total + loose_size i); done (i ∷ more))
+items m (suc n) total s = choose (is_end s) (λ _. got [] s) λ _. and_then (an_item m total s) λ i.
+    (do _ ← some_lines; more ← items m n (total + loose_size i); done (i ∷ more))
 
--- the module that the pieces spell, where nothing is found while they are read; more items than the limits of a module are no matter of small texts
+-- the module that the pieces spell, where nothing is found while they are read; more items than the limits of a module are no matter of
+-- small texts
 abbrev pub module_of : ℕ → Reader (List LooseItem)
 module_of n = do
   _ ← some_lines

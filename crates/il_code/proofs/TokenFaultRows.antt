@@ -1,4 +1,5 @@
--- Rows on bytes of no token and on tokens that no module goes on with. Each text with its first fault, worked out by hand: number, line and column, or none.
+-- Rows on bytes of no token and on tokens that no module goes on with. Each text with its first fault, worked out by hand: number, line and
+-- column, or none.
 use Rattle.std.proofs.Common.{◌≡◌, None, Some, refl, codes}
 use Rattle.il_code.specs.Rules.{is_runtime_call}
 use Rattle.il_code.proofs.FirstFault.{first_fault}
@@ -16,7 +17,8 @@ unfolding is_runtime_call
 export_again = refl
 
 -- commas behind the last, and line feeds in the braces of data
-loose_marks : first_fault (codes "data $x = {\n b 1 \"a b\",\n z 2,\n l $x + 0 $x\n+ 8 }\n\nexport function $main ( ) {\n@s\n\tret\n}\n") ≡ None
+loose_marks : first_fault (codes "data $x = {\n b 1 \"a b\",\n z 2,\n l $x + 0 $x\n+ 8 }\n\nexport function $main ( ) {\n@s\n\tret\n}\n") ≡
+    None
 unfolding is_runtime_call
 loose_marks = refl
 

@@ -131,29 +131,43 @@ phis_row z = both (row (map (λ p. on_line (phi_pattern p)) z.0)) (insts_row z.1
 
 jump_leads : (j : Jump) (b r : List IlToken) → Fits (jump_row j) b → behind_block r ≡ true → at_last (b ++ r) ≡ true
 jump_leads Fall b r h k = ap (λ z. at_last (z ++ r)) (h.2 ∙ ap (λ z. z ++ h.1) h.3 ∙ h.4) ∙ behind_block-last r k
-jump_leads (Jmp l) b r h k = front_both at_last true (jump_pattern false (Jmp l)) nothing (front_word at_last true (codes "jmp") (row (token (LabelName l) ∷ [])) (λ s. refl)) b r h
-jump_leads (Jnz v x y) b r h k = front_both at_last true (jump_pattern false (Jnz v x y)) nothing (front_word at_last true (codes "jnz") (row (value_pattern v ∷ comma ∷ token (LabelName x) ∷ comma ∷ token (LabelName y) ∷ [])) (λ s. refl)) b r h
-jump_leads (Ret v) b r h k = front_both at_last true (jump_pattern false (Ret v)) nothing (front_word at_last true (codes "ret") (row (returned_pattern v ∷ [])) (λ s. refl)) b r h
-jump_leads Hlt b r h k = front_both at_last true (jump_pattern false Hlt) nothing (front_both at_last true (word (codes "hlt")) lines (front_token at_last true (Word (codes "hlt")) (λ s. refl))) b r h
+jump_leads (Jmp l) b r h k = front_both at_last true (jump_pattern false (Jmp l)) nothing
+    (front_word at_last true (codes "jmp") (row (token (LabelName l) ∷ [])) (λ s. refl)) b r h
+jump_leads (Jnz v x y) b r h k = front_both at_last true (jump_pattern false (Jnz v x y)) nothing
+    (front_word at_last true (codes "jnz") (row (value_pattern v ∷ comma ∷ token (LabelName x) ∷ comma ∷ token (LabelName y) ∷ []))
+    (λ s. refl)) b r h
+jump_leads (Ret v) b r h k = front_both at_last true (jump_pattern false (Ret v)) nothing
+    (front_word at_last true (codes "ret") (row (returned_pattern v ∷ [])) (λ s. refl)) b r h
+jump_leads Hlt b r h k = front_both at_last true (jump_pattern false Hlt) nothing
+    (front_both at_last true (word (codes "hlt")) lines (front_token at_last true (Word (codes "hlt")) (λ s. refl))) b r h
 
 -- behind a first part, what a second part leads with
-second_leads : (H : List IlToken → Bool) (x y : List IlToken) (b r : List IlToken) → b ≡ x ++ y → H (x ++ (y ++ r)) ≡ true → H (b ++ r) ≡ true
+second_leads : (H : List IlToken → Bool) (x y : List IlToken) (b r : List IlToken) → b ≡ x ++ y → H (x ++ (y ++ r)) ≡ true →
+    H (b ++ r) ≡ true
 second_leads H x y b r e h = ap (λ z. H (z ++ r)) e ∙ ap H (append_assoc x y r) ∙ h
 
 insts_lead : (z : List Inst × Jump) (b r : List IlToken) → Fits (insts_row z) b → behind_block r ≡ true → at_rest (b ++ r) ≡ true
-insts_lead z b r h k = second_leads at_rest h.0 h.1 b r h.2 (row_leads repeats_inst at_rest (λ s l. inst_is_rest (line_of s) l) (λ s l. last_is_rest (line_of s) l) z.0 h.0 (h.1 ++ r) h.3 (jump_leads z.1 h.1 r h.4 k))
+insts_lead z b r h k = second_leads at_rest h.0 h.1 b r h.2
+    (row_leads repeats_inst at_rest (λ s l. inst_is_rest (line_of s) l) (λ s l. last_is_rest (line_of s) l) z.0 h.0 (h.1 ++ r) h.3
+    (jump_leads z.1 h.1 r h.4 k))
 
 phis_lead : (z : List Phi × (List Inst × Jump)) (b r : List IlToken) → Fits (phis_row z) b → behind_block r ≡ true → no_line (b ++ r) ≡ true
-phis_lead z b r h k = second_leads no_line h.0 h.1 b r h.2 (row_leads repeats_phi no_line repeats_phi.inside repeats_phi.over z.0 h.0 (h.1 ++ r) h.3 (insts_lead z.1 h.1 r h.4 k))
+phis_lead z b r h k = second_leads no_line h.0 h.1 b r h.2
+    (row_leads repeats_phi no_line repeats_phi.inside repeats_phi.over z.0 h.0 (h.1 ++ r) h.3 (insts_lead z.1 h.1 r h.4 k))
 
 unique_insts_row : Unique (List Inst × Jump) insts_row behind_block
-unique_insts_row = then (λ _ j. jump_row j) behind_block (unique_row repeats_inst) (λ _. last unique_jump) (λ _ j b r h k. jump_leads j b r h k)
+unique_insts_row = then (λ _ j. jump_row j) behind_block (unique_row repeats_inst) (λ _. last unique_jump)
+    (λ _ j b r h k. jump_leads j b r h k)
 
 unique_phis_row : Unique (List Phi × (List Inst × Jump)) phis_row behind_block
-unique_phis_row = then (λ _ z. insts_row z) behind_block (unique_row repeats_phi) (λ _. unique_insts_row) (λ _ z b r h k. insts_lead z b r h k)
+unique_phis_row = then (λ _ z. insts_row z) behind_block (unique_row repeats_phi) (λ _. unique_insts_row)
+    (λ _ z b r h k. insts_lead z b r h k)
 
 unique_block : Unique Block (block_pattern false) behind_block
-unique_block = seen_as (block_pattern false) (λ b. (b.label, (b.phis, (b.insts, b.jump)))) (λ z. record { label = z.0; phis = z.1.0; insts = z.1.1.0; jump = z.1.1.1 }) (λ y b h. (h, refl)) (then (λ _ z. phis_row z) behind_block (unique_line_of unique_label (λ r. refl)) (λ _. unique_phis_row) (λ _ z b r h k. phis_lead z b r h k))
+unique_block = seen_as (block_pattern false) (λ b. (b.label, (b.phis, (b.insts, b.jump))))
+    (λ z. record { label = z.0; phis = z.1.0; insts = z.1.1.0; jump = z.1.1.1 }) (λ y b h. (h, refl))
+    (then (λ _ z. phis_row z) behind_block (unique_line_of unique_label (λ r. refl)) (λ _. unique_phis_row)
+    (λ _ z b r h k. phis_lead z b r h k))
 
 -- ---- the blocks of a function
 
@@ -179,7 +193,9 @@ closes-no_label (t ∷ r) h = refl
 repeats_block : Repeats Block (block_pattern false) behind_block (begins is_label) closes
 repeats_block = record {
   one = unique_block;
-  opens = λ b. front_both (begins is_label) true (on_line (token (LabelName b.label))) (phis_row (b.phis, (b.insts, b.jump))) (front_both (begins is_label) true (token (LabelName b.label)) lines (front_token (begins is_label) true (LabelName b.label) (λ r. refl)));
+  opens = λ b. front_both (begins is_label) true (on_line (token (LabelName b.label))) (phis_row (b.phis, (b.insts, b.jump)))
+      (front_both (begins is_label) true (token (LabelName b.label)) lines
+      (front_token (begins is_label) true (LabelName b.label) (λ r. refl)));
   apart = closes-no_label;
   inside = label_behind_block;
   over = closes-behind_block;
@@ -198,8 +214,19 @@ last_block_fits : (b : Block) (a : List IlToken) → Fits (block_pattern true b)
 last_block_fits b a h =
     let phis = h.4 in
     let insts = phis.4 in
-    let jump = insts.4 in
-    (h.0, h.1, h.2, h.3, (phis.0, phis.1, phis.2, phis.3, (insts.0, insts.1, insts.2, insts.3, (jump.0, jump.1, jump.2, jump_fits true b.jump jump.0 jump.3, jump.4))))
+    let jump = insts.4 in (
+      h.0,
+      h.1,
+      h.2,
+      h.3,
+      (
+        phis.0,
+        phis.1,
+        phis.2,
+        phis.3,
+        (insts.0, insts.1, insts.2, insts.3, (jump.0, jump.1, jump.2, jump_fits true b.jump jump.0 jump.3, jump.4)),
+      ),
+    )
 
 pub blocks_fits : (bs : List Block) (a : List IlToken) → Fits (blocks_pattern bs) a → Fits (row (map (block_pattern false) bs)) a
 blocks_fits [] a h = absurd h
@@ -211,4 +238,5 @@ unique_blocks = seen_as blocks_pattern (λ bs. bs) (λ bs. bs) (λ bs a h. (bloc
 
 -- no NL stands in front of blocks
 pub blocks_lead : (bs : List Block) (b r : List IlToken) → Fits (blocks_pattern bs) b → closes r ≡ true → no_line (b ++ r) ≡ true
-blocks_lead bs b r h k = row_leads repeats_block no_line (λ s l. behind_block-no_line s (label_behind_block s l)) (λ s l. behind_block-no_line s (closes-behind_block s l)) bs b r (blocks_fits bs b h) k
+blocks_lead bs b r h k = row_leads repeats_block no_line (λ s l. behind_block-no_line s (label_behind_block s l))
+    (λ s l. behind_block-no_line s (closes-behind_block s l)) bs b r (blocks_fits bs b h) k

@@ -29,7 +29,8 @@ abbrev pub store_width : List ℕ → Option ℕ
 store_width = width_in (codes "storeb") (codes "storeh") (codes "storew") (codes "storel")
 
 abbrev pub line_of_word : List ℕ → Line
-line_of_word w = cond (is_some (store_width w)) StoreLine (cond (bytes_eq w (codes "blit")) BlitLine (cond (bytes_eq w (codes "call")) CallLine LastLine))
+line_of_word w = cond (is_some (store_width w)) StoreLine
+    (cond (bytes_eq w (codes "blit")) BlitLine (cond (bytes_eq w (codes "call")) CallLine LastLine))
 
 -- what stands behind a temporary with its class
 abbrev pub line_behind : List ℕ → Line
@@ -45,8 +46,10 @@ line_of ts = NoLine
 
 -- ---- instructions
 
-second_same : (two : Bool) (x y : Option IlValue) (a b r s : List IlToken) → Fits (second_pattern two x) a → Fits (second_pattern two y) b → a ++ r ≡ b ++ s → (x ≡ y) × (r ≡ s)
-second_same true (Some x) (Some y) a b r s fx fy e = let z = (begun (Mark 44) unique_value).same x y a b r s fx fy e refl refl in (ap Some z.0, z.1)
+second_same : (two : Bool) (x y : Option IlValue) (a b r s : List IlToken) → Fits (second_pattern two x) a → Fits (second_pattern two y) b →
+    a ++ r ≡ b ++ s → (x ≡ y) × (r ≡ s)
+second_same true (Some x) (Some y) a b r s fx fy e =
+    let z = (begun (Mark 44) unique_value).same x y a b r s fx fy e refl refl in (ap Some z.0, z.1)
 second_same true (Some x) None a b r s fx fy e = absurd fy
 second_same true None y a b r s fx fy e = absurd fx
 second_same false (Some x) y a b r s fx fy e = absurd fx
@@ -57,7 +60,8 @@ unique_second : (two : Bool) → Unique (Option IlValue) (second_pattern two) an
 unique_second two = record { same = λ x y a b r s fx fy e fr fs. second_same two x y a b r s fx fy e }
 
 unique_set : Unique ((List ℕ × Class) × (IlOp × (IlValue × Option IlValue))) (λ z. inst_pattern (Set z.0.0 z.0.1 z.1.0 z.1.1.0 z.1.1.1)) any
-unique_set = next unique_target (then (λ o y. both (value_pattern y.0) (both (second_pattern (takes_two (op_kind o)) y.1) nothing)) any unique_op (λ o. next unique_value (last (unique_second (takes_two (op_kind o))))) (λ x y b r h k. refl))
+unique_set = next unique_target (then (λ o y. both (value_pattern y.0) (both (second_pattern (takes_two (op_kind o)) y.1) nothing)) any
+    unique_op (λ o. next unique_value (last (unique_second (takes_two (op_kind o))))) (λ x y b r h k. refl))
 
 store_word : (n : ℕ) (a : List IlToken) → Fits (store_pattern n) a → IsWordFor store_width n a
 store_word = by_width_is (codes "storeb") (codes "storeh") (codes "storew") (codes "storel") refl refl refl refl
@@ -77,7 +81,8 @@ is_temp t = false
 abbrev no_temp : List IlToken → Bool
 no_temp = ahead (fails is_temp)
 
-target_opens : (z : List ℕ × Class) (b r : List IlToken) → Fits (target_pattern z.0 z.1) b → no_temp r ≡ true → begins is_temp (b ++ r) ≡ true
+target_opens : (z : List ℕ × Class) (b r : List IlToken) → Fits (target_pattern z.0 z.1) b → no_temp r ≡ true →
+    begins is_temp (b ++ r) ≡ true
 target_opens z b r h k = begins-first is_temp (TempName z.0) (both equals (class_pattern z.1)) b r refl h
 
 abbrev result_view : Option IlParam → Option (List ℕ × Class)
@@ -88,12 +93,14 @@ abbrev result_back : Option (List ℕ × Class) → Option IlParam
 result_back None = None
 result_back (Some z) = Some (record { name = z.0; class = z.1 })
 
-result_fits : (p : Option IlParam) (b : List IlToken) → Fits (result_pattern p) b → Fits (if_there (λ (z : List ℕ × Class). target_pattern z.0 z.1) (result_view p)) b × (result_back (result_view p) ≡ p)
+result_fits : (p : Option IlParam) (b : List IlToken) → Fits (result_pattern p) b →
+    Fits (if_there (λ (z : List ℕ × Class). target_pattern z.0 z.1) (result_view p)) b × (result_back (result_view p) ≡ p)
 result_fits None b h = (h, refl)
 result_fits (Some p) b h = (h, refl)
 
 unique_result : Unique (Option IlParam) result_pattern no_temp
-unique_result = seen_as result_pattern result_view result_back result_fits (maybe (begins is_temp) target_opens (ahead-begins is_temp) (weaker no_temp (λ r h. refl) unique_target))
+unique_result = seen_as result_pattern result_view result_back result_fits
+    (maybe (begins is_temp) target_opens (ahead-begins is_temp) (weaker no_temp (λ r h. refl) unique_target))
 
 -- the target and the arguments of a call
 abbrev callee_pattern : List ℕ × List IlArg → Pattern
@@ -101,9 +108,11 @@ callee_pattern y = row (token (SymbolName y.0) ∷ token (Mark 40) ∷ listed (m
 
 unique_call : Unique (Option IlParam × (List ℕ × List IlArg)) (λ z. inst_pattern (Call z.0 z.1.0 z.1.1)) any
 unique_call =
-    let arguments : Unique (List IlArg) (λ xs. row (listed (map arg_pattern xs) ∷ token (Mark 41) ∷ [])) any = ended (Mark 41) (λ r. refl) (unique_listed args_listed) in
+    let arguments : Unique (List IlArg) (λ xs. row (listed (map arg_pattern xs) ∷ token (Mark 41) ∷ [])) any =
+    ended (Mark 41) (λ r. refl) (unique_listed args_listed) in
     let callee : Unique (List ℕ × List IlArg) callee_pattern any = next unique_symbol (begun (Mark 40) arguments) in
-    then (λ _ y. both (word (codes "call")) (callee_pattern y)) any unique_result (λ _. begun (Word (codes "call")) callee) (λ x y b r h k. ahead-first (fails is_temp) (Word (codes "call")) (callee_pattern y) b r refl h)
+    then (λ _ y. both (word (codes "call")) (callee_pattern y)) any unique_result (λ _. begun (Word (codes "call")) callee)
+    (λ x y b r h k. ahead-first (fails is_temp) (Word (codes "call")) (callee_pattern y) b r refl h)
 
 -- ---- each instruction stands on a line of its kind
 
@@ -120,39 +129,57 @@ class_tokens L a h = (codes "l", h)
 joined_are : (b c d x y : List IlToken) → b ≡ c ++ d → c ≡ x → d ≡ y → b ≡ x ++ y
 joined_are b c d x y e k l = e ∙ ap (λ z. z ++ d) k ∙ ap (λ z. x ++ z) l
 
-target_tokens : (z : List ℕ × Class) (a : List IlToken) → Fits (target_pattern z.0 z.1) a → (v : List ℕ) × (a ≡ TempName z.0 ∷ Mark 61 ∷ Word v ∷ [])
+target_tokens : (z : List ℕ × Class) (a : List IlToken) → Fits (target_pattern z.0 z.1) a → (v : List ℕ) ×
+    (a ≡ TempName z.0 ∷ Mark 61 ∷ Word v ∷ [])
 target_tokens z a h =
     let behind = h.4 in
-    let class = class_tokens z.1 behind.1 behind.4 in
-    (class.0, joined_are a h.0 h.1 (TempName z.0 ∷ []) (Mark 61 ∷ Word class.0 ∷ []) h.2 h.3 (joined_are h.1 behind.0 behind.1 (Mark 61 ∷ []) (Word class.0 ∷ []) behind.2 behind.3 class.1))
+    let class = class_tokens z.1 behind.1 behind.4 in (
+      class.0,
+      joined_are a h.0 h.1 (TempName z.0 ∷ []) (Mark 61 ∷ Word class.0 ∷ []) h.2 h.3
+          (joined_are h.1 behind.0 behind.1 (Mark 61 ∷ []) (Word class.0 ∷ []) behind.2 behind.3 class.1),
+    )
 
 -- a line that begins with a temporary is told by the word behind its class
-pub line_of_target : (z : List ℕ × Class) (p q : Pattern) (b r : List IlToken) (w : List ℕ) (h : Fits (both (target_pattern z.0 z.1) (both p q)) b) → h.4.0 ≡ Word w ∷ [] → line_of (b ++ r) ≡ line_behind w
+pub line_of_target : (z : List ℕ × Class) (p q : Pattern) (b r : List IlToken) (w : List ℕ)
+    (h : Fits (both (target_pattern z.0 z.1) (both p q)) b) → h.4.0 ≡ Word w ∷ [] → line_of (b ++ r) ≡ line_behind w
 line_of_target z p q b r w h k =
     let target = target_tokens z h.0 h.3 in
     let behind = h.4 in
     let front = TempName z.0 ∷ Mark 61 ∷ Word target.0 ∷ [] in
-    ap (λ x. line_of (x ++ r)) (joined_are b h.0 h.1 front (Word w ∷ behind.1) h.2 target.1 (joined_are h.1 behind.0 behind.1 (Word w ∷ []) behind.1 behind.2 k refl))
+    ap (λ x. line_of (x ++ r)) (joined_are b h.0 h.1 front (Word w ∷ behind.1) h.2 target.1
+    (joined_are h.1 behind.0 behind.1 (Word w ∷ []) behind.1 behind.2 k refl))
 
 word_first : (b c d r : List IlToken) (w : List ℕ) → b ≡ c ++ d → c ≡ Word w ∷ [] → line_of (b ++ r) ≡ line_of_word w
 word_first b c d r w e k = ap (λ z. line_of (z ++ r)) (e ∙ ap (λ z. z ++ d) k)
 
 pub inst_line : (i : Inst) (a r : List IlToken) → Fits (inst_pattern i) a → line_of (a ++ r) ≡ line_of_inst i
-inst_line (Set temp class op x y) a r h = let word = op_is op h.4.0 h.4.3 in line_of_target (temp, class) (op_pattern op) (both (value_pattern x) (both (second_pattern (takes_two (op_kind op)) y) nothing)) a r word.0 h word.1 ∙ rw (word.2) refl
+inst_line (Set temp class op x y) a r h =
+    let word = op_is op h.4.0 h.4.3 in line_of_target (temp, class) (op_pattern op)
+    (both (value_pattern x) (both (second_pattern (takes_two (op_kind op)) y) nothing)) a r word.0 h word.1 ∙ rw (word.2) refl
 inst_line (Store width value at) a r h = let word = store_word width h.0 h.3 in word_first a h.0 h.1 r word.0 h.2 word.1 ∙ rw (word.2) refl
 inst_line (Blit from to bytes) a r h = word_first a h.0 h.1 r (codes "blit") h.2 h.3
 inst_line (Call None target args) a r h = word_first a h.4.0 h.4.1 r (codes "call") (h.2 ∙ ap (λ z. z ++ h.1) h.3 ∙ h.4.2) h.4.3
-inst_line (Call (Some p) target args) a r h = line_of_target (p.name, p.class) (word (codes "call")) (callee_pattern (target, args)) a r (codes "call") h h.4.3
+inst_line (Call (Some p) target args) a r h =
+    line_of_target (p.name, p.class) (word (codes "call")) (callee_pattern (target, args)) a r (codes "call") h h.4.3
 
-inst_same : (i j : Inst) (a b r s : List IlToken) → Fits (inst_pattern i) a → Fits (inst_pattern j) b → a ++ r ≡ b ++ s → line_of_inst i ≡ line_of_inst j → (i ≡ j) × (r ≡ s)
-inst_same (Set t c o x y) (Set u d p v w) a b r s fi fj e k = let z = unique_set.same ((t, c), (o, (x, y))) ((u, d), (p, (v, w))) a b r s fi fj e refl refl in (ap (λ i. Set i.0.0 i.0.1 i.1.0 i.1.1.0 i.1.1.1) z.0, z.1)
-inst_same (Store m x y) (Store n v w) a b r s fi fj e k = let z = unique_store.same (m, (x, y)) (n, (v, w)) a b r s fi fj e refl refl in (ap (λ i. Store i.0 i.1.0 i.1.1) z.0, z.1)
-inst_same (Blit x y m) (Blit v w n) a b r s fi fj e k = let z = unique_blit.same (x, (y, m)) (v, (w, n)) a b r s fi fj e refl refl in (ap (λ i. Blit i.0 i.1.0 i.1.1) z.0, z.1)
-inst_same (Call p t xs) (Call q u ys) a b r s fi fj e k = let z = unique_call.same (p, (t, xs)) (q, (u, ys)) a b r s fi fj e refl refl in (ap (λ i. Call i.0 i.1.0 i.1.1) z.0, z.1)
+inst_same : (i j : Inst) (a b r s : List IlToken) → Fits (inst_pattern i) a → Fits (inst_pattern j) b → a ++ r ≡ b ++ s →
+    line_of_inst i ≡ line_of_inst j → (i ≡ j) × (r ≡ s)
+inst_same (Set t c o x y) (Set u d p v w) a b r s fi fj e k =
+    let z = unique_set.same ((t, c), (o, (x, y))) ((u, d), (p, (v, w))) a b r s fi fj e refl
+    refl in (ap (λ i. Set i.0.0 i.0.1 i.1.0 i.1.1.0 i.1.1.1) z.0, z.1)
+inst_same (Store m x y) (Store n v w) a b r s fi fj e k =
+    let z = unique_store.same (m, (x, y)) (n, (v, w)) a b r s fi fj e refl refl in (ap (λ i. Store i.0 i.1.0 i.1.1) z.0, z.1)
+inst_same (Blit x y m) (Blit v w n) a b r s fi fj e k =
+    let z = unique_blit.same (x, (y, m)) (v, (w, n)) a b r s fi fj e refl refl in (ap (λ i. Blit i.0 i.1.0 i.1.1) z.0, z.1)
+inst_same (Call p t xs) (Call q u ys) a b r s fi fj e k =
+    let z = unique_call.same (p, (t, xs)) (q, (u, ys)) a b r s fi fj e refl refl in (ap (λ i. Call i.0 i.1.0 i.1.1) z.0, z.1)
 inst_same i j a b r s fi fj e k = absurd (cc)
 
 pub unique_inst : Unique Inst inst_pattern any
-unique_inst = record { same = λ i j a b r s fi fj e fr fs. inst_same i j a b r s fi fj e (sym (inst_line i a r fi) ∙ ap line_of e ∙ inst_line j b s fj) }
+unique_inst = record {
+  same = λ i j a b r s fi fj e fr fs. inst_same i j a b r s fi fj e
+      (sym (inst_line i a r fi) ∙ ap line_of e ∙ inst_line j b s fj);
+}
 
 -- ---- phis
 
@@ -168,12 +195,16 @@ repeats_phi_args = record {
 abbrev phi_args_parts : PhiArg × List PhiArg → Pattern
 phi_args_parts z = both (phi_arg_pattern z.0) (row (map (λ x. both comma (phi_arg_pattern x)) z.1))
 
-phi_args_fits : (xs : List PhiArg) (b : List IlToken) → Fits (phi_args_pattern xs) b → Fits (choice phi_args_parts (λ (u : Unit {0}). never) (parted xs)) b × (joined (parted xs) ≡ xs)
+phi_args_fits : (xs : List PhiArg) (b : List IlToken) → Fits (phi_args_pattern xs) b →
+    Fits (choice phi_args_parts (λ (u : Unit {0}). never) (parted xs)) b × (joined (parted xs) ≡ xs)
 phi_args_fits [] b h = absurd h
 phi_args_fits (x ∷ xs) b h = ((h.0, h.1, h.2, h.3, behind_comma_fits phi_arg_pattern xs h.1 h.4), refl)
 
 unique_phi_args : Unique (List PhiArg) phi_args_pattern (ahead (fails is_comma))
-unique_phi_args = seen_as phi_args_pattern parted joined phi_args_fits (or_else any (λ x a r h k. refl) (λ y b r h k. absurd h) (next unique_phi_arg (unique_row repeats_phi_args)) (record { same = λ x y a b r s fx fy e fr fs. absurd fx }))
+unique_phi_args = seen_as phi_args_pattern parted joined phi_args_fits
+    (or_else any (λ x a r h k. refl) (λ y b r h k. absurd h) (next unique_phi_arg (unique_row repeats_phi_args))
+    (record { same = λ x y a b r s fx fy e fr fs. absurd fx }))
 
 pub unique_phi : Unique Phi phi_pattern (ahead (fails is_comma))
-unique_phi = seen_as phi_pattern (λ p. ((p.temp, p.class), p.args)) (λ z. record { temp = z.0.0; class = z.0.1; args = z.1 }) (λ y b h. (h, refl)) (next unique_target (begun (Word (codes "phi")) (last unique_phi_args)))
+unique_phi = seen_as phi_pattern (λ p. ((p.temp, p.class), p.args)) (λ z. record { temp = z.0.0; class = z.0.1; args = z.1 })
+    (λ y b h. (h, refl)) (next unique_target (begun (Word (codes "phi")) (last unique_phi_args)))

@@ -110,7 +110,8 @@ goes_on-at_end (t ∷ r) h = let k = and_parts (is_comma t) (begins is_word (ski
 
 -- what stands behind a comma and NLs
 comma_then : (b r : List IlToken) → Fits (spaced (Mark 44)) b → no_line r ≡ true → goes_on (b ++ r) ≡ begins is_word r
-comma_then b r h stop = ap (λ z. goes_on (z ++ r)) (h.2 ∙ ap (λ z. z ++ h.1) h.3) ∙ ap (begins is_word) (skip-append is_line may_lines h.1 r refl h.4 stop)
+comma_then b r h stop = ap (λ z. goes_on (z ++ r)) (h.2 ∙ ap (λ z. z ++ h.1) h.3) ∙ ap (begins is_word)
+    (skip-append is_line may_lines h.1 r refl h.4 stop)
 
 comma_end : (b r : List IlToken) → Fits (spaced (Mark 44)) b → at_end (b ++ r) ≡ true
 comma_end b r h = ap (λ z. at_end (z ++ r)) (h.2 ∙ ap (λ z. z ++ h.1) h.3)
@@ -125,7 +126,8 @@ pub record Listed (A : Type 0) (P : A → Pattern) : Type 0 where
 further_opens : {A : Type 0} {P : A → Pattern} → Listed A P → (x : A) (a r : List IlToken) → Fits (further P x) a → goes_on (a ++ r) ≡ true
 further_opens k x a r h =
     let starts = k.opens x h.1 r h.4 in
-    ap (λ z. goes_on (z ++ r)) h.2 ∙ ap goes_on (append_assoc h.0 h.1 r) ∙ comma_then h.0 (h.1 ++ r) h.3 (word_no_line (h.1 ++ r) starts) ∙ starts
+    ap (λ z. goes_on (z ++ r)) h.2 ∙ ap goes_on (append_assoc h.0 h.1 r) ∙ comma_then h.0 (h.1 ++ r) h.3 (word_no_line (h.1 ++ r) starts) ∙
+    starts
 
 pub repeats_further : {A : Type 0} {P : A → Pattern} → Listed A P → Repeats A (further P) at_end goes_on runs_out
 repeats_further k = record {
@@ -149,7 +151,9 @@ some_listed P z = both (both (P z.0) (row (map (further P) z.1))) (optional (spa
 unique_some : {A : Type 0} {P : A → Pattern} → Listed A P → Unique (A × List A) (some_listed P) closes
 unique_some {P} k =
     let rep = repeats_further k in
-    closed (optional (spaced (Mark 44))) closes (then (λ _ xs. row (map (further P) xs)) runs_out k.one (λ _. unique_row rep) (λ x xs b r h g. row_leads rep at_end rep.inside rep.over xs b r h g)) unique_last_comma last_comma_leads
+    closed (optional (spaced (Mark 44))) closes
+    (then (λ _ xs. row (map (further P) xs)) runs_out k.one (λ _. unique_row rep)
+    (λ x xs b r h g. row_leads rep at_end rep.inside rep.over xs b r h g)) unique_last_comma last_comma_leads
 
 abbrev pub parted : {A : Type 0} → List A → (A × List A) ⊎ Unit {0}
 parted [] = inr tt
@@ -159,39 +163,58 @@ abbrev pub joined : {A : Type 0} → (A × List A) ⊎ Unit {0} → List A
 joined (inl z) = z.0 ∷ z.1
 joined (inr u) = []
 
-fits_parted : {A : Type 0} (P : A → Pattern) (xs : List A) (b : List IlToken) → Fits (separated P xs) b → Fits (choice (some_listed P) (λ (u : Unit {0}). nothing) (parted xs)) b × (joined (parted xs) ≡ xs)
+fits_parted : {A : Type 0} (P : A → Pattern) (xs : List A) (b : List IlToken) → Fits (separated P xs) b →
+    Fits (choice (some_listed P) (λ (u : Unit {0}). nothing) (parted xs)) b × (joined (parted xs) ≡ xs)
 fits_parted P [] b h = (h, refl)
 fits_parted P (x ∷ xs) b h = (h, refl)
 
-some_opens : {A : Type 0} {P : A → Pattern} → Listed A P → (z : A × List A) (a r : List IlToken) → Fits (some_listed P z) a → begins is_word (a ++ r) ≡ true
+some_opens : {A : Type 0} {P : A → Pattern} → Listed A P → (z : A × List A) (a r : List IlToken) → Fits (some_listed P z) a →
+    begins is_word (a ++ r) ≡ true
 some_opens k z a r h =
     let first = h.3 in
-    ap (λ x. begins is_word (x ++ r)) (h.2 ∙ ap (λ x. x ++ h.1) first.2) ∙ ap (begins is_word) (append_assoc (first.0 ++ first.1) h.1 r ∙ append_assoc first.0 first.1 (h.1 ++ r)) ∙ k.opens z.0 first.0 (first.1 ++ (h.1 ++ r)) first.3
+    ap (λ x. begins is_word (x ++ r)) (h.2 ∙ ap (λ x. x ++ h.1) first.2) ∙ ap (begins is_word)
+    (append_assoc (first.0 ++ first.1) h.1 r ∙ append_assoc first.0 first.1 (h.1 ++ r)) ∙ k.opens z.0 first.0 (first.1 ++ (h.1 ++ r))
+    first.3
 
 pub unique_separated : {A : Type 0} {P : A → Pattern} → Listed A P → Unique (List A) (separated P) closes
-unique_separated {P} k = seen_as (separated P) parted joined (fits_parted P) (or_else (begins is_word) (λ z a r h g. some_opens k z a r h) (λ u b r h g. ap (λ z. begins is_word (z ++ r)) h ∙ closes-no_word r g) (unique_some k) (no_token closes))
+unique_separated {P} k = seen_as (separated P) parted joined (fits_parted P)
+    (or_else (begins is_word) (λ z a r h g. some_opens k z a r h) (λ u b r h g. ap (λ z. begins is_word (z ++ r)) h ∙ closes-no_word r g)
+    (unique_some k) (no_token closes))
 
 -- ---- the forms of the grammar
 
 spaced_comma : (b : List IlToken) → Fits comma b → Fits (spaced (Mark 44)) b
 spaced_comma b h = (b, [], sym (append-nil b), h, ([], refl, tt))
 
-pub row_fits : {A : Type 0} (P Q : A → Pattern) → ((x : A) (a : List IlToken) → Fits (P x) a → Fits (Q x) a) → (xs : List A) (b : List IlToken) → Fits (row (map P xs)) b → Fits (row (map Q xs)) b
+pub row_fits : {A : Type 0} (P Q : A → Pattern) → ((x : A) (a : List IlToken) → Fits (P x) a → Fits (Q x) a) →
+    (xs : List A) (b : List IlToken) → Fits (row (map P xs)) b → Fits (row (map Q xs)) b
 row_fits P Q f [] b h = h
 row_fits P Q f (x ∷ xs) b h = (h.0, h.1, h.2, f x h.0 h.3, row_fits P Q f xs h.1 h.4)
 
 -- a row of what stands behind a comma each
-pub behind_comma_fits : {A : Type 0} (P : A → Pattern) (xs : List A) (b : List IlToken) → Fits (behind_comma (map P xs)) b → Fits (row (map (λ x. both comma (P x)) xs)) b
+pub behind_comma_fits : {A : Type 0} (P : A → Pattern) (xs : List A) (b : List IlToken) → Fits (behind_comma (map P xs)) b →
+    Fits (row (map (λ x. both comma (P x)) xs)) b
 behind_comma_fits P [] b h = h
 behind_comma_fits P (x ∷ xs) b h =
-    let next = h.4 in
-    (h.0 ++ next.0, next.1, h.2 ∙ ap (λ z. h.0 ++ z) next.2 ∙ sym (append_assoc h.0 next.0 next.1), (h.0, next.0, refl, h.3, next.3), behind_comma_fits P xs next.1 next.4)
+    let next = h.4 in (
+      h.0 ++ next.0,
+      next.1,
+      h.2 ∙ ap (λ z. h.0 ++ z) next.2 ∙ sym (append_assoc h.0 next.0 next.1),
+      (h.0, next.0, refl, h.3, next.3),
+      behind_comma_fits P xs next.1 next.4,
+    )
 
-parts_behind_fits : {A : Type 0} (P : A → Pattern) (xs : List A) (b : List IlToken) → Fits (parts_behind (map P xs)) b → Fits (row (map (further P) xs)) b
+parts_behind_fits : {A : Type 0} (P : A → Pattern) (xs : List A) (b : List IlToken) → Fits (parts_behind (map P xs)) b →
+    Fits (row (map (further P) xs)) b
 parts_behind_fits P [] b h = h
 parts_behind_fits P (x ∷ xs) b h =
-    let next = h.4 in
-    (h.0 ++ next.0, next.1, h.2 ∙ ap (λ z. h.0 ++ z) next.2 ∙ sym (append_assoc h.0 next.0 next.1), (h.0, next.0, refl, h.3, next.3), parts_behind_fits P xs next.1 next.4)
+    let next = h.4 in (
+      h.0 ++ next.0,
+      next.1,
+      h.2 ∙ ap (λ z. h.0 ++ z) next.2 ∙ sym (append_assoc h.0 next.0 next.1),
+      (h.0, next.0, refl, h.3, next.3),
+      parts_behind_fits P xs next.1 next.4,
+    )
 
 last_comma_fits : (b : List IlToken) → Fits (optional comma) b → Fits (optional (spaced (Mark 44))) b
 last_comma_fits b (inl h) = inl h
@@ -223,6 +246,10 @@ pub unique_parts_of : {A : Type 0} {P : A → Pattern} → Listed A P → Unique
 unique_parts_of {P} k = seen_as (spaced_parts P) (λ xs. xs) (λ xs. xs) (λ xs b h. (parts_fits P xs b h, refl)) (unique_separated k)
 
 -- what holds where a word stands next and behind the list holds in front of it
-pub parts_lead : {A : Type 0} {P : A → Pattern} → Listed A P → (H : List IlToken → Bool) → ((r : List IlToken) → begins is_word r ≡ true → H r ≡ true) → ((r : List IlToken) → closes r ≡ true → H r ≡ true) → (xs : List A) (b r : List IlToken) → Fits (spaced_parts P xs) b → closes r ≡ true → H (b ++ r) ≡ true
+pub parts_lead : {A : Type 0} {P : A → Pattern} → Listed A P → (H : List IlToken → Bool) →
+    ((r : List IlToken) → begins is_word r ≡ true → H r ≡ true) → ((r : List IlToken) → closes r ≡ true → H r ≡ true) →
+    (xs : List A) (b r : List IlToken) → Fits (spaced_parts P xs) b → closes r ≡ true → H (b ++ r) ≡ true
 parts_lead k H w g [] b r h c = ap (λ z. H (z ++ r)) h ∙ g r c
-parts_lead {P} k H w g (x ∷ xs) b r h c = w (b ++ r) (front_both (begins is_word) true (both (P x) (parts_behind (map P xs))) (optional (spaced (Mark 44))) (front_both (begins is_word) true (P x) (parts_behind (map P xs)) (k.opens x)) b r h)
+parts_lead {P} k H w g (x ∷ xs) b r h c = w (b ++ r)
+    (front_both (begins is_word) true (both (P x) (parts_behind (map P xs))) (optional (spaced (Mark 44)))
+    (front_both (begins is_word) true (P x) (parts_behind (map P xs)) (k.opens x)) b r h)

@@ -14,18 +14,24 @@ pub record Repeats (A : Type 0) (P : A → Pattern) (F E G : List IlToken → Bo
   pub inside : (r : List IlToken) → E r ≡ true → F r ≡ true
   pub over : (r : List IlToken) → G r ≡ true → F r ≡ true
 
-opens_row : {A : Type 0} {P : A → Pattern} {F E G : List IlToken → Bool} → Repeats A P F E G → (x : A) (xs : List A) (b r : List IlToken) → Fits (both (P x) (row (map P xs))) b → E (b ++ r) ≡ true
+opens_row : {A : Type 0} {P : A → Pattern} {F E G : List IlToken → Bool} → Repeats A P F E G → (x : A) (xs : List A) (b r : List IlToken) →
+    Fits (both (P x) (row (map P xs))) b → E (b ++ r) ≡ true
 opens_row {E} k x xs b r h = ap (λ z. E (z ++ r)) h.2 ∙ ap E (append_assoc h.0 h.1 r) ∙ k.opens x h.0 (h.1 ++ r) h.3
 
 -- what holds where one more stands next and behind the last holds in front of them all
-pub row_leads : {A : Type 0} {P : A → Pattern} {F E G : List IlToken → Bool} → Repeats A P F E G → (H : List IlToken → Bool) → ((r : List IlToken) → E r ≡ true → H r ≡ true) → ((r : List IlToken) → G r ≡ true → H r ≡ true) → (xs : List A) (b r : List IlToken) → Fits (row (map P xs)) b → G r ≡ true → H (b ++ r) ≡ true
+pub row_leads : {A : Type 0} {P : A → Pattern} {F E G : List IlToken → Bool} → Repeats A P F E G → (H : List IlToken → Bool) →
+    ((r : List IlToken) → E r ≡ true → H r ≡ true) → ((r : List IlToken) → G r ≡ true → H r ≡ true) → (xs : List A) (b r : List IlToken) →
+    Fits (row (map P xs)) b → G r ≡ true → H (b ++ r) ≡ true
 row_leads k H e g [] b r h s = ap (λ z. H (z ++ r)) h ∙ g r s
 row_leads k H e g (x ∷ xs) b r h s = e (b ++ r) (opens_row k x xs b r h)
 
-row_same : {A : Type 0} {P : A → Pattern} {F E G : List IlToken → Bool} → Repeats A P F E G → (xs ys : List A) (a b r s : List IlToken) → Fits (row (map P xs)) a → Fits (row (map P ys)) b → a ++ r ≡ b ++ s → G r ≡ true → G s ≡ true → (xs ≡ ys) × (r ≡ s)
+row_same : {A : Type 0} {P : A → Pattern} {F E G : List IlToken → Bool} → Repeats A P F E G → (xs ys : List A) (a b r s : List IlToken) →
+    Fits (row (map P xs)) a → Fits (row (map P ys)) b → a ++ r ≡ b ++ s → G r ≡ true → G s ≡ true → (xs ≡ ys) × (r ≡ s)
 row_same k [] [] a b r s fx fy e gr gs = (refl, ap (λ z. z ++ r) (sym fx) ∙ e ∙ ap (λ z. z ++ s) fy)
-row_same {E} k [] (y ∷ ys) a b r s fx fy e gr gs = absurd (true_and_false (E r) (ap E (ap (λ z. z ++ r) (sym fx) ∙ e) ∙ opens_row k y ys b s fy) (k.apart r gr))
-row_same {E} k (x ∷ xs) [] a b r s fx fy e gr gs = absurd (true_and_false (E s) (ap E (ap (λ z. z ++ s) (sym fy) ∙ sym e) ∙ opens_row k x xs a r fx) (k.apart s gs))
+row_same {E} k [] (y ∷ ys) a b r s fx fy e gr gs =
+    absurd (true_and_false (E r) (ap E (ap (λ z. z ++ r) (sym fx) ∙ e) ∙ opens_row k y ys b s fy) (k.apart r gr))
+row_same {E} k (x ∷ xs) [] a b r s fx fy e gr gs =
+    absurd (true_and_false (E s) (ap E (ap (λ z. z ++ s) (sym fy) ∙ sym e) ∙ opens_row k x xs a r fx) (k.apart s gs))
 row_same {F} k (x ∷ xs) (y ∷ ys) a b r s fx fy e gr gs =
     let before = row_leads k F k.inside k.over in
     let joint = behind_seam fx.0 fx.1 r fy.0 fy.1 s a b fx.2 fy.2 e in
@@ -53,5 +59,7 @@ pub spaced_any : {A : Type 0} {P : A → Pattern} → Unique A P any → Unique 
 spaced_any u = closed may_lines no_line u (skipped is_line may_lines refl) (λ b r h k. refl)
 
 -- a construct on a line of its own
-pub unique_line_of : {A : Type 0} {P : A → Pattern} {F : List IlToken → Bool} → Unique A P F → ((r : List IlToken) → F (LineEnd ∷ r) ≡ true) → Unique A (λ x. on_line (P x)) no_line
-unique_line_of {F} u f = closed lines no_line u (skipped is_line lines refl) (λ b r h k. let x = first_of_token LineEnd (many line) b r h in ap F x.1 ∙ f x.0)
+pub unique_line_of : {A : Type 0} {P : A → Pattern} {F : List IlToken → Bool} → Unique A P F →
+    ((r : List IlToken) → F (LineEnd ∷ r) ≡ true) → Unique A (λ x. on_line (P x)) no_line
+unique_line_of {F} u f = closed lines no_line u (skipped is_line lines refl)
+    (λ b r h k. let x = first_of_token LineEnd (many line) b r h in ap F x.1 ∙ f x.0)

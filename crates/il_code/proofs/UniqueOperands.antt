@@ -68,8 +68,10 @@ word_in code ts = None
 abbrev pub IsWordFor : {A : Type 0} → (List ℕ → Option A) → A → List IlToken → Type 0
 IsWordFor code x a = (w : List ℕ) × (a ≡ Word w ∷ []) × (code w ≡ Some x)
 
-pub by_word : {A : Type 0} (P : A → Pattern) (code : List ℕ → Option A) → ((x : A) (a : List IlToken) → Fits (P x) a → IsWordFor code x a) → Unique A P any
-by_word P code h = by_reader P any (word_in code) (λ x a r f k. let w = h x a f in ap (λ z. word_in code (z ++ r)) w.1 ∙ ap (λ z. paired z r) w.2)
+pub by_word : {A : Type 0} (P : A → Pattern) (code : List ℕ → Option A) → ((x : A) (a : List IlToken) → Fits (P x) a → IsWordFor code x a) →
+    Unique A P any
+by_word P code h = by_reader P any (word_in code)
+    (λ x a r f k. let w = h x a f in ap (λ z. word_in code (z ++ r)) w.1 ∙ ap (λ z. paired z r) w.2)
 
 abbrev class_of : List ℕ → Option Class
 class_of w = cond (bytes_eq w (codes "w")) (Some W) (cond (bytes_eq w (codes "l")) (Some L) None)
@@ -85,7 +87,10 @@ unique_class = by_word class_pattern class_of class_word
 
 -- `loadw` apart
 abbrev ops : List IlOp
-ops = op.Neg ∷ op.Copy ∷ op.Alloc4 ∷ op.Alloc8 ∷ op.Alloc16 ∷ op.Extsb ∷ op.Extub ∷ op.Extsh ∷ op.Extuh ∷ op.Extsw ∷ op.Extuw ∷ op.Loadsb ∷ op.Loadub ∷ op.Loadsh ∷ op.Loaduh ∷ op.Loadsw ∷ op.Loaduw ∷ op.Loadl ∷ op.Add ∷ op.Sub ∷ op.Mul ∷ op.Div ∷ op.Rem ∷ op.Udiv ∷ op.Urem ∷ op.And ∷ op.Or ∷ op.Xor ∷ op.Shl ∷ op.Shr ∷ op.Sar ∷ op.Ceqw ∷ op.Ceql ∷ op.Cnew ∷ op.Cnel ∷ op.Cslew ∷ op.Cslel ∷ op.Csltw ∷ op.Csltl ∷ op.Csgew ∷ op.Csgel ∷ op.Csgtw ∷ op.Csgtl ∷ op.Culew ∷ op.Culel ∷ op.Cultw ∷ op.Cultl ∷ op.Cugew ∷ op.Cugel ∷ op.Cugtw ∷ op.Cugtl ∷ []
+ops = op.Neg ∷ op.Copy ∷ op.Alloc4 ∷ op.Alloc8 ∷ op.Alloc16 ∷ op.Extsb ∷ op.Extub ∷ op.Extsh ∷ op.Extuh ∷ op.Extsw ∷ op.Extuw ∷ op.Loadsb ∷
+    op.Loadub ∷ op.Loadsh ∷ op.Loaduh ∷ op.Loadsw ∷ op.Loaduw ∷ op.Loadl ∷ op.Add ∷ op.Sub ∷ op.Mul ∷ op.Div ∷ op.Rem ∷ op.Udiv ∷ op.Urem ∷
+    op.And ∷ op.Or ∷ op.Xor ∷ op.Shl ∷ op.Shr ∷ op.Sar ∷ op.Ceqw ∷ op.Ceql ∷ op.Cnew ∷ op.Cnel ∷ op.Cslew ∷ op.Cslel ∷ op.Csltw ∷ op.Csltl ∷
+    op.Csgew ∷ op.Csgel ∷ op.Csgtw ∷ op.Csgtl ∷ op.Culew ∷ op.Culel ∷ op.Cultw ∷ op.Cultl ∷ op.Cugew ∷ op.Cugel ∷ op.Cugtw ∷ op.Cugtl ∷ []
 
 abbrev named_op : List IlOp → List ℕ → Option IlOp
 named_op [] w = None
@@ -171,20 +176,27 @@ pub unique_target : Unique (List ℕ × Class) (λ z. target_pattern z.0 z.1) an
 unique_target = then (λ _ c. both equals (class_pattern c)) any unique_temp (λ _. begun (Mark 61) unique_class) (λ x y b r h k. refl)
 
 pub unique_param : Unique IlParam param_pattern any
-unique_param = seen_as param_pattern (λ p. (p.class, p.name)) (λ z. record { name = z.1; class = z.0 }) (λ y b h. (h, refl)) (then (λ _ t. token (TempName t)) any unique_class (λ _. unique_temp) (λ x y b r h k. refl))
+unique_param = seen_as param_pattern (λ p. (p.class, p.name)) (λ z. record { name = z.1; class = z.0 }) (λ y b h. (h, refl))
+    (then (λ _ t. token (TempName t)) any unique_class (λ _. unique_temp) (λ x y b r h k. refl))
 
 pub unique_arg : Unique IlArg arg_pattern any
-unique_arg = seen_as arg_pattern (λ p. (p.class, p.value)) (λ z. record { class = z.0; value = z.1 }) (λ y b h. (h, refl)) (then (λ _ v. value_pattern v) any unique_class (λ _. unique_value) (λ x y b r h k. refl))
+unique_arg = seen_as arg_pattern (λ p. (p.class, p.value)) (λ z. record { class = z.0; value = z.1 }) (λ y b h. (h, refl))
+    (then (λ _ v. value_pattern v) any unique_class (λ _. unique_value) (λ x y b r h k. refl))
 
 pub unique_phi_arg : Unique PhiArg phi_arg_pattern any
-unique_phi_arg = seen_as phi_arg_pattern (λ p. (p.label, p.value)) (λ z. record { label = z.0; value = z.1 }) (λ y b h. (h, refl)) (then (λ _ v. value_pattern v) any unique_label (λ _. unique_value) (λ x y b r h k. refl))
+unique_phi_arg = seen_as phi_arg_pattern (λ p. (p.label, p.value)) (λ z. record { label = z.0; value = z.1 }) (λ y b h. (h, refl))
+    (then (λ _ v. value_pattern v) any unique_label (λ _. unique_value) (λ x y b r h k. refl))
 
 class_opens : (c : Class) (q : Pattern) (b r : List IlToken) → Fits (both (class_pattern c) q) b → begins is_word (b ++ r) ≡ true
 class_opens W q b r h = begins-first is_word (Word (codes "w")) q b r refl h
 class_opens L q b r h = begins-first is_word (Word (codes "l")) q b r refl h
 
 pub params_listed : Listed IlParam param_pattern
-params_listed = record { one = weaker at_end (λ r h. refl) unique_param; opens = λ p a r h. class_opens p.class (token (TempName p.name)) a r h }
+params_listed = record {
+  one = weaker at_end (λ r h. refl) unique_param;
+  opens = λ p a r h. class_opens p.class (token (TempName p.name)) a
+      r h;
+}
 
 pub args_listed : Listed IlArg arg_pattern
 args_listed = record { one = weaker at_end (λ r h. refl) unique_arg; opens = λ p a r h. class_opens p.class (value_pattern p.value) a r h }
@@ -197,14 +209,19 @@ by_width p q r s n = cond (eqb n 1) (word p) (cond (eqb n 2) (word q) (cond (eqb
 
 -- the width that a word stands for
 abbrev pub width_in : (p q r s : List ℕ) → List ℕ → Option ℕ
-width_in p q r s w = cond (bytes_eq w p) (Some 1) (cond (bytes_eq w q) (Some 2) (cond (bytes_eq w r) (Some 4) (cond (bytes_eq w s) (Some 8) None)))
+width_in p q r s w = cond (bytes_eq w p) (Some 1)
+    (cond (bytes_eq w q) (Some 2) (cond (bytes_eq w r) (Some 4) (cond (bytes_eq w s) (Some 8) None)))
 
-by_width_cases : (code : List ℕ → Option ℕ) (p q r s : List ℕ) → code p ≡ Some 1 → code q ≡ Some 2 → code r ≡ Some 4 → code s ≡ Some 8 → (n : ℕ) (one two four eight : Bool) → eqb n 1 ≡ one → eqb n 2 ≡ two → eqb n 4 ≡ four → eqb n 8 ≡ eight → (a : List IlToken) → Fits (cond one (word p) (cond two (word q) (cond four (word r) (cond eight (word s) never)))) a → IsWordFor code n a
+by_width_cases : (code : List ℕ → Option ℕ) (p q r s : List ℕ) → code p ≡ Some 1 → code q ≡ Some 2 → code r ≡ Some 4 → code s ≡ Some 8 →
+    (n : ℕ) (one two four eight : Bool) → eqb n 1 ≡ one → eqb n 2 ≡ two → eqb n 4 ≡ four → eqb n 8 ≡ eight → (a : List IlToken) →
+    Fits (cond one (word p) (cond two (word q) (cond four (word r) (cond eight (word s) never)))) a → IsWordFor code n a
 by_width_cases code p q r s hp hq hr hs n true two four eight e1 e2 e4 e8 a h = (p, h, hp ∙ ap Some (sym ((Decides-eqb n 1).0 e1)))
 by_width_cases code p q r s hp hq hr hs n false true four eight e1 e2 e4 e8 a h = (q, h, hq ∙ ap Some (sym ((Decides-eqb n 2).0 e2)))
 by_width_cases code p q r s hp hq hr hs n false false true eight e1 e2 e4 e8 a h = (r, h, hr ∙ ap Some (sym ((Decides-eqb n 4).0 e4)))
 by_width_cases code p q r s hp hq hr hs n false false false true e1 e2 e4 e8 a h = (s, h, hs ∙ ap Some (sym ((Decides-eqb n 8).0 e8)))
 by_width_cases code p q r s hp hq hr hs n false false false false e1 e2 e4 e8 a h = absurd h
 
-pub by_width_is : (p q r s : List ℕ) → width_in p q r s p ≡ Some 1 → width_in p q r s q ≡ Some 2 → width_in p q r s r ≡ Some 4 → width_in p q r s s ≡ Some 8 → (n : ℕ) (a : List IlToken) → Fits (by_width p q r s n) a → IsWordFor (width_in p q r s) n a
-by_width_is p q r s hp hq hr hs n a h = by_width_cases (width_in p q r s) p q r s hp hq hr hs n (eqb n 1) (eqb n 2) (eqb n 4) (eqb n 8) refl refl refl refl a h
+pub by_width_is : (p q r s : List ℕ) → width_in p q r s p ≡ Some 1 → width_in p q r s q ≡ Some 2 → width_in p q r s r ≡ Some 4 →
+    width_in p q r s s ≡ Some 8 → (n : ℕ) (a : List IlToken) → Fits (by_width p q r s n) a → IsWordFor (width_in p q r s) n a
+by_width_is p q r s hp hq hr hs n a h = by_width_cases (width_in p q r s) p q r s hp hq hr hs n (eqb n 1) (eqb n 2) (eqb n 4) (eqb n 8) refl
+    refl refl refl a h

@@ -28,11 +28,29 @@ use Rattle.il_code.proofs.Validates.{valid_is}
 
 -- a comment ends before its line does, and blanks stand between tokens
 comment_and_blanks : Tokens (codes "# f\n\t%x =w # g") (LineEnd ∷ TempName (codes "x") ∷ Mark 61 ∷ Word (codes "w") ∷ [])
-comment_and_blanks = (codes "\n", _, refl, (refl, refl), refl, (codes "%x", _, refl, (refl, refl), refl, (codes "=", _, refl, (refl, refl), refl, (codes "w", _, refl, (refl, refl), refl, refl))))
+comment_and_blanks = (
+  codes "\n",
+  _,
+  refl,
+  (refl, refl),
+  refl,
+  (codes "%x", _, refl, (refl, refl), refl, (codes "=", _, refl, (refl, refl), refl, (codes "w", _, refl, (refl, refl), refl, refl))),
+)
 
 -- a number below 0 stands for its 64 bits, and a word may stand right behind a number
 minus_one : Tokens (codes "-1w") (Numeral (2 ^ 64 - 1) ∷ Word (codes "w") ∷ [])
-minus_one = (codes "-1", codes "w", refl, (refl, inr (record { digits = codes "1"; is = refl; all = refl; some = lit< tt; range = lit≤ tt; value = refl })), refl, (codes "w", [], refl, (refl, refl), refl, refl))
+minus_one = (
+  codes "-1",
+  codes "w",
+  refl,
+  (
+    refl,
+    inr
+        (record { digits = codes "1"; is = refl; all = refl; some = lit< tt; range = lit≤ tt; value = refl }),
+  ),
+  refl,
+  (codes "w", [], refl, (refl, refl), refl, refl),
+)
 
 -- ---- modules
 
@@ -75,7 +93,8 @@ arg class value = record { class = class; value = value }
 
 -- three blocks: `s` goes to `b` or to `c`, and `b` falls to `c`, which has one phi with arguments for these labels
 abbrev meets : List PhiArg → Module
-meets args = of (main (block (codes "s") [] (Jnz (Number 0) b (codes "c")) ∷ block b [] Fall ∷ record { label = codes "c"; phis = record { temp = a; class = L; args = args } ∷ []; insts = []; jump = Ret None } ∷ []) ∷ [])
+meets args = of (main (block (codes "s") [] (Jnz (Number 0) b (codes "c")) ∷ block b [] Fall ∷
+    record { label = codes "c"; phis = record { temp = a; class = L; args = args } ∷ []; insts = []; jump = Ret None } ∷ []) ∷ [])
 
 abbrev phi_arg : List ℕ → PhiArg
 phi_arg label = record { label = label; value = Number 1 }
@@ -111,9 +130,11 @@ unfolding is_shaped is_lawful is_runtime_call call_is_right
 label_twice = refuses (of (main (block a [] Fall ∷ block a [] (Ret None) ∷ []) ∷ [])) refl
 
 -- a parameter stands twice (5)
-parameter_twice : ¬ (IsValid (of (done ∷ Function false None (codes "f") (param a W ∷ param a W ∷ []) (block (codes "s") [] (Ret None) ∷ []) ∷ [])))
+parameter_twice : ¬ (IsValid (of (done ∷ Function false None (codes "f") (param a W ∷ param a W ∷ []) (block (codes "s") [] (Ret None) ∷ [])
+    ∷ [])))
 unfolding is_shaped is_lawful is_runtime_call call_is_right
-parameter_twice = refuses (of (done ∷ Function false None (codes "f") (param a W ∷ param a W ∷ []) (block (codes "s") [] (Ret None) ∷ []) ∷ [])) refl
+parameter_twice = refuses (of (done ∷ Function false None (codes "f") (param a W ∷ param a W ∷ []) (block (codes "s") [] (Ret None) ∷ []) ∷
+    [])) refl
 
 -- a jump to a label that the function does not have (6)
 label_unknown : ¬ (IsValid (of (main (block (codes "s") [] (Jmp a) ∷ []) ∷ [])))
@@ -171,9 +192,11 @@ unfolding is_shaped is_lawful is_runtime_call call_is_right
 symbol_behind_w = refuses (of (done ∷ Data false a 8 (Values 4 (part.Symbol a 0 ∷ []) ∷ []) ∷ [])) refl
 
 -- numbers, a string, a symbol with an offset, and zeros
-data_of_all_kinds : IsValid (of (Data true a 16 (Values 1 (part.Str (codes "x y") ∷ part.Number 255 ∷ []) ∷ Values 8 (part.Symbol a 4 ∷ []) ∷ Zero 3 ∷ []) ∷ done ∷ []))
+data_of_all_kinds : IsValid (of (Data true a 16
+    (Values 1 (part.Str (codes "x y") ∷ part.Number 255 ∷ []) ∷ Values 8 (part.Symbol a 4 ∷ []) ∷ Zero 3 ∷ []) ∷ done ∷ []))
 unfolding is_shaped is_lawful is_runtime_call call_is_right
-data_of_all_kinds = (valid_is (of (Data true a 16 (Values 1 (part.Str (codes "x y") ∷ part.Number 255 ∷ []) ∷ Values 8 (part.Symbol a 4 ∷ []) ∷ Zero 3 ∷ []) ∷ done ∷ []))).0 refl
+data_of_all_kinds = (valid_is (of (Data true a 16
+    (Values 1 (part.Str (codes "x y") ∷ part.Number 255 ∷ []) ∷ Values 8 (part.Symbol a 4 ∷ []) ∷ Zero 3 ∷ []) ∷ done ∷ []))).0 refl
 
 -- a call with too few arguments (8)
 argument_too_few : ¬ (IsValid (one (Call None (codes "rt.puts") (arg L (Number 0) ∷ []) ∷ [])))

@@ -14,10 +14,16 @@ both_true : (a b : Bool) → a ≡ true → b ≡ true → (a && b) ≡ true
 both_true a b ha hb = rw (ha, hb) refl
 
 Spells-printed : (m : Module) → is_shaped m ≡ true → Spells (module_text m) m
-Spells-printed m h = record { tokens = printed (module_pattern m) []; read = module_at m h; fits = Fits-printed (module_pattern m) (can_module m ∙ h) }
+Spells-printed m h = record {
+  tokens = printed (module_pattern m) [];
+  read = module_at m h;
+  fits = Fits-printed (module_pattern m)
+      (can_module m ∙ h);
+}
 
 is_shaped-from_Spells : (m : Module) → Spells (module_text m) m → is_shaped m ≡ true
-is_shaped-from_Spells m s = sym (can_module m) ∙ can-from_Fits (module_pattern m) s.tokens s.fits (list_all-from_Tokens (module_text m) s.tokens s.read)
+is_shaped-from_Spells m s = sym (can_module m) ∙ can-from_Fits (module_pattern m) s.tokens s.fits
+    (list_all-from_Tokens (module_text m) s.tokens s.read)
 
 lawful : (m : Module) → is_lawful m.items ≡ true → IsLawful m.items
 unfolding is_lawful
@@ -32,7 +38,8 @@ lawful m h =
 
 is_lawful-from : (m : Module) → IsLawful m.items → is_lawful m.items ≡ true
 unfolding is_lawful
-is_lawful-from m l = both_true _ _ l.once (both_true _ _ l.names (both_true _ _ l.flow (both_true _ _ l.operands (both_true _ _ l.main (both_true _ _ l.numbers l.small)))))
+is_lawful-from m l = both_true _ _ l.once (both_true _ _ l.names
+    (both_true _ _ l.flow (both_true _ _ l.operands (both_true _ _ l.main (both_true _ _ l.numbers l.small)))))
 
 pub valid_is : (m : Module) → IsTrue (is_shaped m && is_lawful m.items) ↔ IsValid m
 valid_is m = (

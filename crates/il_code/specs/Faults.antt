@@ -1,5 +1,5 @@
--- The faults of a text, each with its place, and which of them comes first. A place in a text is given by what stands there: the rest of the text. Where
--- the rest is empty, it is the end of input.
+-- The faults of a text, each with its place, and which of them comes first. A place in a text is given by what stands there: the rest of
+-- the text. Where the rest is empty, it is the end of input.
 use Rattle.std.specs.Prelude.{◌≡◌, ◌≢◌, ℕ, suc, ◌+◌, ◌-◌, ◌^◌, ◌<◌, ◌≤◌, ◌⊎◌, List, [], ◌∷◌, ◌++◌, Some, Bool, true, false, length, ◌==◌, codes, bytes_eq, take, reverse, sum_by, count_by, filter, slice_get, slice_index, Contains, IsTrue, IsFalse, if◌then◌else◌}
 use Rattle.std.specs.List.{list_any, prefix_len}
 use Rattle.std.specs.Str.{all_ascii_digits}
@@ -91,7 +91,8 @@ IsHeadPlace ts = MayFollow ts (Word (codes "data")) ⊎ MayFollow ts (Word (code
 
 -- behind these tokens the token stands for what the language leaves out
 abbrev pub IsLeftOut : List IlToken → IlToken → Type 0
-IsLeftOut ts (Word w) = (IsTrue (is_left_class w) × IsClassPlace ts) ⊎ ((IsTrue (is_left_head w) × IsHeadPlace ts) ⊎ IsTrue (is_left_word w))
+IsLeftOut ts (Word w) = (IsTrue (is_left_class w) × IsClassPlace ts) ⊎
+    ((IsTrue (is_left_head w) × IsHeadPlace ts) ⊎ IsTrue (is_left_word w))
 -- an aggregate type as a class
 IsLeftOut ts (Mark c) = (c ≡ 58) × IsClassPlace ts
 -- a call through a temporary
@@ -136,9 +137,11 @@ is_word w LineEnd = false
 abbrev pub IsBeyond : List ℕ → ℕ → List IlToken → List ℕ → Type 0
 IsBeyond kind limit ts w = (w ≡ kind) × MayFollow ts (Word w) × (limit ≤ count_by (is_word kind) ts)
 
--- a number that is no alignment, a count under 0 or over 2 ^ 30, or a definition with which there are more than 2 ^ 28 functions or 2 ^ 30 data items
+-- a number that is no alignment, a count under 0 or over 2 ^ 30, or a definition with which there are more than 2 ^ 28 functions or 2 ^ 30
+-- data items
 abbrev pub IsOutOfRange : List IlToken → IlToken → Type 0
-IsOutOfRange ts (Numeral n) = (EndsWith ts (Word (codes "align") ∷ []) × IsFalse (is_alignment n)) ⊎ ((IsZeroCount ts ⊎ IsBlitCount ts) × (most < n))
+IsOutOfRange ts (Numeral n) = (EndsWith ts (Word (codes "align") ∷ []) × IsFalse (is_alignment n)) ⊎
+    ((IsZeroCount ts ⊎ IsBlitCount ts) × (most < n))
 IsOutOfRange ts (Word w) = IsBeyond (codes "function") (2 ^ 28) ts w ⊎ IsBeyond (codes "data") most ts w
 IsOutOfRange ts (TempName t) = ⊥
 IsOutOfRange ts (SymbolName s) = ⊥
@@ -154,8 +157,8 @@ part_count (LooseFunction export class name params blocks) = 0
 abbrev pub data_bytes : List LooseItem → ℕ
 data_bytes items = sum_by item_size (settled items)
 
--- The part of data whose letter stands behind these tokens is the one with which the data passes 2^30 bytes: with its values up to one of them. Data is
--- closed by a `}` to be counted.
+-- The part of data whose letter stands behind these tokens is the one with which the data passes 2^30 bytes: with its values up to one of
+-- them. Data is closed by a `}` to be counted.
 pub record PassesData (text : List ℕ) (ts : List IlToken) : Type 0 where
   pub items : List LooseItem
   pub closed : Fits (loose_pattern items) (ts ++ Mark 125 ∷ [])
@@ -183,7 +186,8 @@ pub data FaultBehind (text : List ℕ) (ts : List IlToken) (here : List ℕ) : �
   stray : IsStrayByte here → FaultBehind text ts here 2
   colon : (after : List ℕ) → Stands here (Mark 58) after → ¬ (IsClassPlace ts) → FaultBehind text ts here 2
   -- any other token that no module goes on with, or the end
-  unexpected : (t : IlToken) (after : List ℕ) → Stands here t after → t ≢ Mark 58 → ¬ (MayFollow ts t) → ¬ (IsLeftOut ts t) → FaultBehind text ts here 3
+  unexpected : (t : IlToken) (after : List ℕ) → Stands here t after → t ≢ Mark 58 → ¬ (MayFollow ts t) → ¬ (IsLeftOut ts t) →
+      FaultBehind text ts here 3
   unfinished : here ≡ [] → ¬ (IsWhole ts) → FaultBehind text ts here 3
   -- what the language leaves out
   left_out : (t : IlToken) (after : List ℕ) → Stands here t after → IsLeftOut ts t → FaultBehind text ts here 4

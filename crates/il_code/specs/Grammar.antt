@@ -143,13 +143,18 @@ result_pattern (Some p) = target_pattern p.name p.class
 
 -- a store, by its width in bytes
 abbrev pub store_pattern : ℕ → Pattern
-store_pattern width = if width == 1 then word (codes "storeb") else if width == 2 then word (codes "storeh") else if width == 4 then word (codes "storew") else if width == 8 then word (codes "storel") else never
+store_pattern width = if width == 1 then word (codes "storeb") else if width == 2 then word (codes "storeh") else if width == 4 then word
+    (codes "storew") else if width == 8 then word (codes "storel") else never
 
 abbrev pub inst_pattern : Inst → Pattern
-inst_pattern (Set temp class op a b) = row (target_pattern temp class ∷ op_pattern op ∷ value_pattern a ∷ second_pattern (takes_two (op_kind op)) b ∷ [])
+inst_pattern (Set temp class op a b) = row (target_pattern temp class ∷ op_pattern op ∷ value_pattern a ∷ second_pattern
+    (takes_two (op_kind op)) b ∷ [])
 inst_pattern (Store width value at) = row (store_pattern width ∷ value_pattern value ∷ comma ∷ value_pattern at ∷ [])
-inst_pattern (Blit from to bytes) = row (word (codes "blit") ∷ value_pattern from ∷ comma ∷ value_pattern to ∷ comma ∷ token (Numeral bytes) ∷ [])
-inst_pattern (Call result target args) = row (result_pattern result ∷ word (codes "call") ∷ token (SymbolName target) ∷ token (Mark 40) ∷ listed (map arg_pattern args) ∷ token (Mark 41) ∷ [])
+inst_pattern (Blit from to bytes) = row (word (codes "blit") ∷ value_pattern from ∷ comma ∷ value_pattern to ∷ comma ∷ token (Numeral bytes)
+    ∷ [])
+inst_pattern (Call result target args) = row
+    (result_pattern result ∷ word (codes "call") ∷ token (SymbolName target) ∷ token (Mark 40) ∷ listed (map arg_pattern args) ∷ token
+    (Mark 41) ∷ [])
 
 abbrev pub phi_arg_pattern : PhiArg → Pattern
 phi_arg_pattern a = both (token (LabelName a.label)) (value_pattern a.value)
@@ -175,14 +180,16 @@ abbrev pub jump_pattern : Bool → Jump → Pattern
 jump_pattern true Fall = never
 jump_pattern false Fall = nothing
 jump_pattern last (Jmp l) = on_line (row (word (codes "jmp") ∷ token (LabelName l) ∷ []))
-jump_pattern last (Jnz v a b) = on_line (row (word (codes "jnz") ∷ value_pattern v ∷ comma ∷ token (LabelName a) ∷ comma ∷ token (LabelName b) ∷ []))
+jump_pattern last (Jnz v a b) = on_line (row
+    (word (codes "jnz") ∷ value_pattern v ∷ comma ∷ token (LabelName a) ∷ comma ∷ token (LabelName b) ∷ []))
 jump_pattern last (Ret v) = on_line (row (word (codes "ret") ∷ returned_pattern v ∷ []))
 jump_pattern last Hlt = on_line (word (codes "hlt"))
 
 -- ---- blocks and functions
 
 abbrev pub block_pattern : Bool → Block → Pattern
-block_pattern last b = row (on_line (token (LabelName b.label)) ∷ row (map (λ p. on_line (phi_pattern p)) b.phis) ∷ row (map (λ i. on_line (inst_pattern i)) b.insts) ∷ jump_pattern last b.jump ∷ [])
+block_pattern last b = row (on_line (token (LabelName b.label)) ∷ row (map (λ p. on_line (phi_pattern p)) b.phis) ∷ row
+    (map (λ i. on_line (inst_pattern i)) b.insts) ∷ jump_pattern last b.jump ∷ [])
 
 -- the blocks of a function: at least one
 abbrev pub blocks_pattern : List Block → Pattern
@@ -212,7 +219,8 @@ part_value_pattern (part.Symbol s n) = both (spaced (SymbolName s)) (offset_patt
 
 -- the letter of a part, by the width of its values in bytes
 abbrev pub width_pattern : ℕ → Pattern
-width_pattern width = if width == 1 then spaced (Word (codes "b")) else if width == 2 then spaced (Word (codes "h")) else if width == 4 then spaced (Word (codes "w")) else if width == 8 then spaced (Word (codes "l")) else never
+width_pattern width = if width == 1 then spaced (Word (codes "b")) else if width == 2 then spaced (Word (codes "h")) else if width == 4 then
+    spaced (Word (codes "w")) else if width == 8 then spaced (Word (codes "l")) else never
 
 -- the values of a part: at least one
 abbrev pub values_pattern : List PartValue → Pattern
@@ -235,7 +243,8 @@ parts_pattern (p ∷ ps) = both (both (part_pattern p) (parts_behind (map part_p
 
 -- an alignment: one of 8 need not be written
 abbrev pub align_pattern : ℕ → Pattern
-align_pattern n = if n == 8 then usually (both (word (codes "align")) (token (Numeral n))) else both (word (codes "align")) (token (Numeral n))
+align_pattern n = if n == 8 then usually (both (word (codes "align")) (token (Numeral n))) else both (word (codes "align"))
+    (token (Numeral n))
 
 -- ---- modules
 
@@ -248,8 +257,13 @@ export_pattern true = both export_word (many export_word)
 export_pattern false = nothing
 
 abbrev pub item_pattern : IlItem → Pattern
-item_pattern (Data export name align parts) = row (export_pattern export ∷ word (codes "data") ∷ token (SymbolName name) ∷ equals ∷ align_pattern align ∷ spaced (Mark 123) ∷ parts_pattern parts ∷ token (Mark 125) ∷ [])
-item_pattern (Function export class name params blocks) = row (export_pattern export ∷ word (codes "function") ∷ result_class_pattern class ∷ token (SymbolName name) ∷ token (Mark 40) ∷ listed (map param_pattern params) ∷ token (Mark 41) ∷ may_lines ∷ token (Mark 123) ∷ usual_lines ∷ blocks_pattern blocks ∷ token (Mark 125) ∷ [])
+item_pattern (Data export name align parts) =
+    row (export_pattern export ∷ word (codes "data") ∷ token (SymbolName name) ∷ equals ∷ align_pattern align ∷ spaced (Mark 123) ∷
+    parts_pattern parts ∷ token (Mark 125) ∷ [])
+item_pattern (Function export class name params blocks) =
+    row (export_pattern export ∷ word (codes "function") ∷ result_class_pattern class ∷ token (SymbolName name) ∷ token (Mark 40) ∷ listed
+    (map param_pattern params) ∷ token (Mark 41) ∷ may_lines ∷ token (Mark 123) ∷ usual_lines ∷ blocks_pattern blocks ∷ token (Mark 125) ∷
+    [])
 
 -- the items, with NLs before, between and behind
 abbrev pub module_pattern : Module → Pattern

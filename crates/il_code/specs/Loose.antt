@@ -1,5 +1,5 @@
--- What is read before any rule is looked at: a module whose blocks have phis and instructions in any order, so that a phi behind an instruction is a
--- broken rule and no unreadable text.
+-- What is read before any rule is looked at: a module whose blocks have phis and instructions in any order, so that a phi behind an
+-- instruction is a broken rule and no unreadable text.
 use Rattle.std.specs.Prelude.{ℕ, List, [], ◌∷◌, ◌++◌, Option, None, Some, Bool, true, false, codes, map}
 use Rattle.std.specs.List.{filter_map}
 use Rattle.hx_base.specs.declared.Class.{Class}
@@ -44,7 +44,10 @@ loose_blocks_pattern (b ∷ c ∷ bs) = both (loose_block_pattern false b) (loos
 
 abbrev pub loose_item_pattern : LooseItem → Pattern
 loose_item_pattern (LooseData export name align parts) = item_pattern (Data export name align parts)
-loose_item_pattern (LooseFunction export class name params blocks) = row (export_pattern export ∷ word (codes "function") ∷ result_class_pattern class ∷ token (SymbolName name) ∷ token (Mark 40) ∷ listed (map param_pattern params) ∷ token (Mark 41) ∷ may_lines ∷ token (Mark 123) ∷ usual_lines ∷ loose_blocks_pattern blocks ∷ token (Mark 125) ∷ [])
+loose_item_pattern (LooseFunction export class name params blocks) =
+    row (export_pattern export ∷ word (codes "function") ∷ result_class_pattern class ∷ token (SymbolName name) ∷ token (Mark 40) ∷ listed
+    (map param_pattern params) ∷ token (Mark 41) ∷ may_lines ∷ token (Mark 123) ∷ usual_lines ∷ loose_blocks_pattern blocks ∷ token
+    (Mark 125) ∷ [])
 
 abbrev pub loose_pattern : List LooseItem → Pattern
 loose_pattern items = both may_lines (row (map (λ i. both (loose_item_pattern i) usual_lines) items))

@@ -1,6 +1,6 @@
--- Which rules a module breaks, token by token. A name behind its sigil, a string, and each word other than `export`, `align` and those of one letter
--- bears marks: the numbers of the rules (specs/Rules.antt) that are broken there. The marks of a module are one list for each such token, in the order of
--- its text. All texts of a module have the same bearing tokens, but that `loadw` may stand for `loadsw`.
+-- Which rules a module breaks, token by token. A name behind its sigil, a string, and each word other than `export`, `align` and those of
+-- one letter bears marks: the numbers of the rules (specs/Rules.antt) that are broken there. The marks of a module are one list for each
+-- such token, in the order of its text. All texts of a module have the same bearing tokens, but that `loadw` may stand for `loadsw`.
 use Rattle.std.specs.Prelude.{ℕ, List, [], ◌∷◌, ◌++◌, Option, None, Some, Bool, true, false, not, length, ◌||◌, ◌&&◌, nat_lt, ◌==◌, codes, bytes_eq, map, is_some, find, if◌then◌else◌}
 use Rattle.std.specs.List.{list_any, flat_map}
 use Rattle.hx_base.specs.declared.Class.{Class}
@@ -60,7 +60,8 @@ each_behind f before (x ∷ xs) = f before x ++ each_behind f (before ++ x ∷ [
 
 -- unknown temporary (7); class mismatch (8), at a w temporary where l is wanted
 abbrev pub temp_marks : List IlParam → List Block → Class → List ℕ → Numbers
-temp_marks params blocks class t = when (not (is_set params blocks t W || is_set params blocks t L)) 7 ++ when (is_long class && is_set params blocks t W) 8
+temp_marks params blocks class t = when (not (is_set params blocks t W || is_set params blocks t L)) 7 ++ when
+    (is_long class && is_set params blocks t W) 8
 
 -- class mismatch (8), at a symbol where w is wanted; unknown symbol (9)
 abbrev pub symbol_marks : List IlItem → Bool → List ℕ → Numbers
@@ -110,7 +111,8 @@ is_callable items target = is_some (function_named items target) || is_some (run
 
 -- class mismatch (8), at the word `call`; unknown symbol (9), at the target
 abbrev pub call_marks : List IlItem → Option IlParam → List ℕ → List IlArg → List Numbers
-call_marks items result target args = when (is_callable items target && not (is_call_right items result target args)) 8 ∷ when (not (is_callable items target)) 9 ∷ []
+call_marks items result target args = when (is_callable items target && not (is_call_right items result target args)) 8 ∷ when
+    (not (is_callable items target)) 9 ∷ []
 
 -- ---- lines and jumps
 
@@ -119,21 +121,31 @@ result_marks sets None = []
 result_marks sets (Some p) = set_marks sets p.name p.class ∷ []
 
 abbrev pub inst_marks : List IlItem → List IlParam → List Block → List IlParam → Inst → List Numbers
-inst_marks items params blocks sets (Set temp class op a b) = set_marks sets temp class ∷ when (not (may_give (op_kind op) class)) 8 ∷ value_marks items params blocks (first_class (op_kind op) class) a ++ maybe_marks items params blocks (second_class (op_kind op) class) b
-inst_marks items params blocks sets (Store width value at) = [] ∷ value_marks items params blocks (stored_class width) value ++ value_marks items params blocks L at
-inst_marks items params blocks sets (Blit from to bytes) = [] ∷ value_marks items params blocks L from ++ value_marks items params blocks L to
-inst_marks items params blocks sets (Call result target args) = result_marks sets result ++ call_marks items result target args ++ flat_map (λ (a : IlArg). value_marks items params blocks a.class a.value) args
+inst_marks items params blocks sets (Set temp class op a b) =
+    set_marks sets temp class ∷ when (not (may_give (op_kind op) class)) 8 ∷ value_marks items params blocks
+    (first_class (op_kind op) class) a ++ maybe_marks items params blocks (second_class (op_kind op) class) b
+inst_marks items params blocks sets (Store width value at) =
+    [] ∷ value_marks items params blocks (stored_class width) value ++ value_marks items params blocks L at
+inst_marks items params blocks sets (Blit from to bytes) =
+    [] ∷ value_marks items params blocks L from ++ value_marks items params blocks L to
+inst_marks items params blocks sets (Call result target args) =
+    result_marks sets result ++ call_marks items result target args ++ flat_map
+    (λ (a : IlArg). value_marks items params blocks a.class a.value) args
 
 abbrev pub is_inst_line : BlockLine → Bool
 is_inst_line (PhiLine p) = false
 is_inst_line (InstLine i) = true
 
--- phi place (10), at the word `phi`, where the block is the first or has another line than a phi in front, or where the labels are not the predecessors
+-- phi place (10), at the word `phi`, where the block is the first or has another line than a phi in front, or where the labels are not the
+-- predecessors
 abbrev pub phi_marks : List IlItem → List IlParam → List Block → List IlParam → Bool → List ℕ → Phi → List Numbers
-phi_marks items params blocks sets out_of_place label p = set_marks sets p.temp p.class ∷ when (out_of_place || not (phi_is_placed blocks label p)) 10 ∷ flat_map (λ (a : PhiArg). label_marks blocks a.label ∷ value_marks items params blocks p.class a.value) p.args
+phi_marks items params blocks sets out_of_place label p =
+    set_marks sets p.temp p.class ∷ when (out_of_place || not (phi_is_placed blocks label p)) 10 ∷ flat_map
+    (λ (a : PhiArg). label_marks blocks a.label ∷ value_marks items params blocks p.class a.value) p.args
 
 abbrev pub line_marks : List IlItem → List IlParam → List Block → List IlParam → Bool → List ℕ → List BlockLine → BlockLine → List Numbers
-line_marks items params blocks sets first label before (PhiLine p) = phi_marks items params blocks sets (first || list_any is_inst_line before) label p
+line_marks items params blocks sets first label before (PhiLine p) =
+    phi_marks items params blocks sets (first || list_any is_inst_line before) label p
 line_marks items params blocks sets first label before (InstLine i) = inst_marks items params blocks sets i
 
 -- whether this is the label of the first block
@@ -150,7 +162,9 @@ return_marks items params blocks (Some c) value = when (not (is_some value)) 8 �
 abbrev pub jump_marks : List IlItem → List IlParam → List Block → Option Class → Jump → List Numbers
 jump_marks items params blocks class Fall = []
 jump_marks items params blocks class (Jmp l) = when (is_start blocks l) 11 ∷ label_marks blocks l ∷ []
-jump_marks items params blocks class (Jnz v a b) = when (is_start blocks a || is_start blocks b) 11 ∷ value_marks items params blocks W v ++ label_marks blocks a ∷ label_marks blocks b ∷ []
+jump_marks items params blocks class (Jnz v a b) =
+    when (is_start blocks a || is_start blocks b) 11 ∷ value_marks items params blocks W v ++ label_marks blocks a ∷ label_marks blocks b ∷
+    []
 jump_marks items params blocks class (Ret value) = return_marks items params blocks class value
 jump_marks items params blocks class Hlt = unmarked
 
@@ -158,7 +172,9 @@ jump_marks items params blocks class Hlt = unmarked
 
 -- duplicate (5), at a second equal label
 abbrev pub block_marks : List IlItem → Option Class → List IlParam → List Block → List IlParam → List LooseBlock → LooseBlock → List Numbers
-block_marks items class params blocks sets before b = when (has_named (λ (x : LooseBlock). x.label) b.label before) 5 ∷ each_behind (line_marks items params blocks sets (length before == 0) b.label) [] b.lines ++ jump_marks items params blocks class b.jump
+block_marks items class params blocks sets before b =
+    when (has_named (λ (x : LooseBlock). x.label) b.label before) 5 ∷ each_behind
+    (line_marks items params blocks sets (length before == 0) b.label) [] b.lines ++ jump_marks items params blocks class b.jump
 
 -- duplicate (5), at a second equal parameter
 abbrev pub param_marks : List IlParam → List IlParam → IlParam → List Numbers

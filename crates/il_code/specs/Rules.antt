@@ -47,7 +47,8 @@ has_named name_of name xs = list_any (λ x. bytes_eq (name_of x) name) xs
 -- Duplicate (5): a symbol is defined once and is none of the runtime's, and a function's labels and parameters differ.
 abbrev pub has_own_names : IlItem → Bool
 has_own_names (Data export name align parts) = not (is_reserved name)
-has_own_names (Function export class name params blocks) = not (is_reserved name) && (are_distinct (λ p. p.name) params && are_distinct (λ b. b.label) blocks)
+has_own_names (Function export class name params blocks) =
+    not (is_reserved name) && (are_distinct (λ p. p.name) params && are_distinct (λ b. b.label) blocks)
 
 -- ---- jumps
 
@@ -103,7 +104,8 @@ covers args to (b ∷ bs) = is_covered args to b bs && covers args to bs
 
 -- the labels of a phi are exactly the block's predecessors, each once
 abbrev pub phi_is_placed : List Block → List ℕ → Phi → Bool
-phi_is_placed blocks to p = are_distinct (λ (a : PhiArg). a.label) p.args && (list_all (λ (a : PhiArg). is_edge a.label to blocks) p.args && covers p.args to blocks)
+phi_is_placed blocks to p = are_distinct (λ (a : PhiArg). a.label) p.args &&
+    (list_all (λ (a : PhiArg). is_edge a.label to blocks) p.args && covers p.args to blocks)
 
 -- so it is with all phis, and the first block has none
 abbrev pub phis_are_placed : List Block → Bool
@@ -141,7 +143,8 @@ block_sets name class b = list_any (λ (p : Phi). sets name class p.temp p.class
 
 -- a parameter, a phi or an instruction of the function sets the temporary at the class
 abbrev pub is_set : List IlParam → List Block → List ℕ → Class → Bool
-is_set params blocks name class = list_any (λ (p : IlParam). sets name class p.name p.class) params || list_any (block_sets name class) blocks
+is_set params blocks name class = list_any (λ (p : IlParam). sets name class p.name p.class) params || list_any (block_sets name class)
+    blocks
 
 -- Class mismatch (8): a temporary has one class.
 abbrev pub has_one_class : List IlParam → List Block → List ℕ → Class → Bool
@@ -155,10 +158,12 @@ inst_has_one_class params blocks (Call None target args) = true
 inst_has_one_class params blocks (Call (Some p) target args) = has_one_class params blocks p.name p.class
 
 abbrev pub block_has_one_class : List IlParam → List Block → Block → Bool
-block_has_one_class params blocks b = list_all (λ (p : Phi). has_one_class params blocks p.temp p.class) b.phis && list_all (inst_has_one_class params blocks) b.insts
+block_has_one_class params blocks b = list_all (λ (p : Phi). has_one_class params blocks p.temp p.class) b.phis && list_all
+    (inst_has_one_class params blocks) b.insts
 
 abbrev pub each_has_one_class : List IlParam → List Block → Bool
-each_has_one_class params blocks = list_all (λ (p : IlParam). has_one_class params blocks p.name p.class) params && list_all (block_has_one_class params blocks) blocks
+each_has_one_class params blocks = list_all (λ (p : IlParam). has_one_class params blocks p.name p.class) params && list_all
+    (block_has_one_class params blocks) blocks
 
 -- ---- operands
 
@@ -166,8 +171,8 @@ abbrev pub is_long : Class → Bool
 is_long W = false
 is_long L = true
 
--- An operand is right at the class at which it is wanted. A temporary is set in the function (else unknown temporary, 7), and not at class w where l is
--- wanted (else class mismatch, 8); a symbol is wanted at l (else 8) and defined (else unknown symbol, 9).
+-- An operand is right at the class at which it is wanted. A temporary is set in the function (else unknown temporary, 7), and not at class
+-- w where l is wanted (else class mismatch, 8); a symbol is wanted at l (else 8) and defined (else unknown symbol, 9).
 abbrev pub is_right : List IlItem → List IlParam → List Block → Class → IlValue → Bool
 is_right items params blocks class (Number n) = true
 is_right items params blocks W (Temp t) = is_set params blocks t W || is_set params blocks t L
@@ -211,7 +216,8 @@ abbrev pub is_call_of : Option IlParam → List ℕ → List IlArg → Option Co
 is_call_of result target args None = is_runtime_call result target args
 is_call_of result target args (Some f) = takes_result result f.class && has_classes_of args f.params
 
--- A call is of a function of the module or of the runtime (else unknown symbol, 9), with its number and classes of arguments and its result (else class
+-- A call is of a function of the module or of the runtime (else unknown symbol, 9), with its number and classes of arguments and its result
+-- (else class
 -- mismatch, 8). Which one it is, is decided as the machine does.
 abbrev pub is_call_right : List IlItem → Option IlParam → List ℕ → List IlArg → Bool
 is_call_right items result target args = is_call_of result target args (function_named items target)
@@ -227,11 +233,15 @@ abbrev pub stored_class : ℕ → Class
 stored_class width = if width == 1 || width == 2 || width == 4 then W else L
 
 unfoldable pub call_is_right : List IlItem → List IlParam → List Block → Option IlParam → List ℕ → List IlArg → Bool
-call_is_right items params blocks result target args = is_call_right items result target args && list_all (λ (a : IlArg). is_right items params blocks a.class a.value) args
+call_is_right items params blocks result target args =
+    is_call_right items result target args && list_all (λ (a : IlArg). is_right items params blocks a.class a.value) args
 
 abbrev pub inst_is_right : List IlItem → List IlParam → List Block → Inst → Bool
-inst_is_right items params blocks (Set temp class op a b) = may_give (op_kind op) class && (is_right items params blocks (first_class (op_kind op) class) a && second_is_right items params blocks (second_class (op_kind op) class) b)
-inst_is_right items params blocks (Store width value at) = is_right items params blocks (stored_class width) value && is_right items params blocks L at
+inst_is_right items params blocks (Set temp class op a b) =
+    may_give (op_kind op) class && (is_right items params blocks (first_class (op_kind op) class) a && second_is_right items params blocks
+    (second_class (op_kind op) class) b)
+inst_is_right items params blocks (Store width value at) =
+    is_right items params blocks (stored_class width) value && is_right items params blocks L at
 inst_is_right items params blocks (Blit from to bytes) = is_right items params blocks L from && is_right items params blocks L to
 inst_is_right items params blocks (Call result target args) = call_is_right items params blocks result target args
 
@@ -253,7 +263,9 @@ jump_is_right items params blocks class (Ret v) = return_is_right items params b
 jump_is_right items params blocks class Hlt = true
 
 abbrev pub block_is_right : List IlItem → List IlParam → List Block → Option Class → Block → Bool
-block_is_right items params blocks class b = list_all (phi_is_right items params blocks) b.phis && (list_all (inst_is_right items params blocks) b.insts && jump_is_right items params blocks class b.jump)
+block_is_right items params blocks class b =
+    list_all (phi_is_right items params blocks) b.phis &&
+    (list_all (inst_is_right items params blocks) b.insts && jump_is_right items params blocks class b.jump)
 
 -- ---- data
 
@@ -311,7 +323,8 @@ item_size (Function export class name params blocks) = 0
 
 -- at most 2 ^ 28 functions, 2 ^ 30 data items, and 2 ^ 30 bytes of data
 abbrev pub is_small : List IlItem → Bool
-is_small items = nat_le (count_by is_function items) 268435456 && (nat_le (count_by (λ i. not (is_function i)) items) most && nat_le (sum_by item_size items) most)
+is_small items = nat_le (count_by is_function items) 268435456 &&
+    (nat_le (count_by (λ i. not (is_function i)) items) most && nat_le (sum_by item_size items) most)
 
 -- ---- items
 
@@ -324,11 +337,12 @@ no_long (Some c) = not (is_long c)
 abbrev pub is_main_right : List ℕ → Option Class → List IlParam → Bool
 is_main_right name class params = not (bytes_eq name (codes "main")) || (length params == 0 && no_long class)
 
--- what each item must keep: duplicates apart from symbols (5), labels (6), phis (10), the first block (11), numbers (12), and temporaries, classes and
--- symbols (7, 8, 9)
+-- what each item must keep: duplicates apart from symbols (5), labels (6), phis (10), the first block (11), numbers (12), and temporaries,
+-- classes and symbols (7, 8, 9)
 abbrev pub item_is_right : List IlItem → IlItem → Bool
 item_is_right items (Data export name align parts) = list_all (part_is_right items) parts
-item_is_right items (Function export class name params blocks) = is_main_right name class params && (each_has_one_class params blocks && list_all (block_is_right items params blocks class) blocks)
+item_is_right items (Function export class name params blocks) =
+    is_main_right name class params && (each_has_one_class params blocks && list_all (block_is_right items params blocks class) blocks)
 
 abbrev pub flow_is_right : IlItem → Bool
 flow_is_right (Data export name align parts) = true

@@ -1,5 +1,5 @@
--- Which modules the grammar can write, and which of them break no rule: the test that `valid` makes. Of public clauses only those on reading printed
--- text back cite it: they ask that the grammar can write the module.
+-- Which modules the grammar can write, and which of them break no rule: the test that `valid` makes. Of public clauses only those on
+-- reading printed text back cite it: they ask that the grammar can write the module.
 use Rattle.std.specs.Prelude.{ℕ, ◌^◌, List, [], ◌∷◌, Option, None, Some, Bool, true, false, not, ◌||◌, ◌&&◌, nat_lt, ◌==◌}
 use Rattle.std.specs.List.{list_all, list_any}
 use Rattle.il_code.specs.declared.types.IlItem.{IlItem}
@@ -106,11 +106,14 @@ is_part (Zero n) = is_bits n
 
 abbrev pub is_item : IlItem → Bool
 is_item (Data export name align parts) = is_identifier name && (is_bits align && list_all is_part parts)
-is_item (Function export class name params blocks) = is_identifier name && (list_all is_param params && (list_all is_block blocks && ends blocks))
+is_item (Function export class name params blocks) =
+    is_identifier name && (list_all is_param params && (list_all is_block blocks && ends blocks))
 
 unfoldable pub is_shaped : Module → Bool
 is_shaped m = list_all is_item m.items
 
 -- no rule is broken
 unfoldable pub is_lawful : List IlItem → Bool
-is_lawful items = are_distinct item_name items && (list_all has_own_names items && (list_all flow_is_right items && (list_all (item_is_right items) items && (list_any is_main items && (list_all item_is_small items && is_small items)))))
+is_lawful items = are_distinct item_name items &&
+    (list_all has_own_names items && (list_all flow_is_right items &&
+    (list_all (item_is_right items) items && (list_any is_main items && (list_all item_is_small items && is_small items)))))

@@ -24,7 +24,8 @@ pub record Ends (rest : List ℕ) : Type 0 where
   pub stops : Stops rest
   pub no_offset : behind (codes " + ") rest ≡ None
 
-part_value_again : (v : PartValue) (rest : List ℕ) → is_part_value v ≡ true → Ends rest → part_value_at (part_value_text v ++ rest) ≡ Some (v, rest)
+part_value_again : (v : PartValue) (rest : List ℕ) → is_part_value v ≡ true → Ends rest →
+    part_value_at (part_value_text v ++ rest) ≡ Some (v, rest)
 unfolding part_value_at text_at address_at offset_at amount_at
 part_value_again (part.Number n) rest h e =
     let no_quote = number_is_no n rest 34 h refl in
@@ -42,13 +43,15 @@ part_value_again (part.Symbol s zero) rest h e =
     rw name (rw none refl)
 part_value_again (part.Symbol s (suc n)) rest h e =
     let p = and_parts (is_identifier s) (is_bits (suc n)) h in
-    let text : part_value_text (part.Symbol s (suc n)) ++ rest ≡ codes " $" ++ (s ++ (codes " + " ++ (decimal (suc n) ++ rest))) = simp append_assoc in
+    let text : part_value_text (part.Symbol s (suc n)) ++ rest ≡ codes " $" ++ (s ++ (codes " + " ++ (decimal (suc n) ++ rest))) =
+    simp append_assoc in
     let name = name_again s (codes " + " ++ (decimal (suc n) ++ rest)) p.0 refl in
     let number = number_again (suc n) rest p.1 e.stops in
     ap part_value_at text ∙ rw name (rw number refl)
 
 -- a number is neither the brace nor the plus sign
-number_begins : (n : ℕ) (rest : List ℕ) → is_bits n ≡ true → (begins_value (32 ∷ (decimal n ++ rest)) ≡ true) × (behind (codes " + ") (32 ∷ (decimal n ++ rest)) ≡ None)
+number_begins : (n : ℕ) (rest : List ℕ) → is_bits n ≡ true → (begins_value (32 ∷ (decimal n ++ rest)) ≡ true) ×
+    (behind (codes " + ") (32 ∷ (decimal n ++ rest)) ≡ None)
 number_begins n rest h =
     let k = number_first n h in
     let is : decimal n ≡ k.0 ∷ k.1 = k.2 in
@@ -81,10 +84,12 @@ pub record EndsPart (rest : List ℕ) : Type 0 where
   pub ends : Ends rest
   pub no_value : begins_value rest ≡ false
 
-values_again : (w : ℕ) (vs : List PartValue) (rest : List ℕ) → is_width w ≡ true → list_all is_part_value vs ≡ true → EndsPart rest → part_at (width_text w ++ (flat_map part_value_text vs ++ rest)) ≡ Some (Values w vs, rest)
+values_again : (w : ℕ) (vs : List PartValue) (rest : List ℕ) → is_width w ≡ true → list_all is_part_value vs ≡ true → EndsPart rest →
+    part_at (width_text w ++ (flat_map part_value_text vs ++ rest)) ≡ Some (Values w vs, rest)
 unfolding part_at values_at width_at
 values_again w vs rest hw hv e =
-    let all = each_again part_value_at begins_value part_value_text is_part_value Ends part_value_again value_begins value_ends vs rest (length (flat_map part_value_text vs ++ rest)) hv (length-rest part_value_text some_value vs rest) e.ends e.no_value in
+    let all = each_again part_value_at begins_value part_value_text is_part_value Ends part_value_again value_begins value_ends vs rest
+    (length (flat_map part_value_text vs ++ rest)) hv (length-rest part_value_text some_value vs rest) e.ends e.no_value in
     let P : ℕ → Type 0 = λ n. part_at (width_text n ++ (flat_map part_value_text vs ++ rest)) ≡ Some (Values n vs, rest) in
     by_width P w hw (rw all refl) (rw all refl) (rw all refl) (rw all refl)
 
@@ -92,7 +97,8 @@ part_again : (p : Part) (rest : List ℕ) → is_part p ≡ true → EndsPart re
 unfolding part_at zeros_at
 part_again (Values w vs) rest h e =
     let p = and_parts (is_width w) (some vs && list_all is_part_value vs) h in
-    ap part_at (append_assoc (width_text w) (flat_map part_value_text vs) rest) ∙ values_again w vs rest p.0 (and_parts (some vs) (list_all is_part_value vs) p.1).1 e
+    ap part_at (append_assoc (width_text w) (flat_map part_value_text vs) rest) ∙ values_again w vs rest p.0
+    (and_parts (some vs) (list_all is_part_value vs) p.1).1 e
 part_again (Zero n) rest h e = let number = number_again n rest h e.ends.stops in rw number refl
 
 comma_ends : (r : List ℕ) → EndsPart (codes ", " ++ r)
@@ -115,17 +121,23 @@ parts_again (p ∷ ps) rest h =
     let end = 125 ∷ 10 ∷ rest in
     let inside = with_commas part_text (p ∷ ps) ++ 32 ∷ end in
     let text : parts_text (p ∷ ps) ++ 10 ∷ rest ≡ codes "{ " ++ inside = simp append_assoc in
-    let no_end : behind (codes "{ }") (codes "{ " ++ inside) ≡ None = ap (λ x. behind (codes "{ }") (codes "{ " ++ x)) (append_assoc (part_text p) _ (32 ∷ end)) ∙ part_begins p _ (and_parts (is_part p) (list_all is_part ps) h).0 in
+    let no_end : behind (codes "{ }") (codes "{ " ++ inside) ≡ None =
+    ap (λ x. behind (codes "{ }") (codes "{ " ++ x)) (append_assoc (part_text p) _ (32 ∷ end)) ∙ part_begins p _
+    (and_parts (is_part p) (list_all is_part ps) h).0 in
     let list = listed_again part_at part_text is_part EndsPart part_again comma_ends p ps 32 end h (brace_ends (10 ∷ rest)) refl in
     ap parts_at text ∙ rw no_end (rw list refl)
 
 -- ---- items
 
-align_again : (n : ℕ) (rest : List ℕ) → is_bits n ≡ true → nat_lt n (2 ^ 32) ≡ true → Stops rest → align_at (decimal n ++ rest) ≡ Some (n, rest)
+align_again : (n : ℕ) (rest : List ℕ) → is_bits n ≡ true → nat_lt n (2 ^ 32) ≡ true → Stops rest →
+    align_at (decimal n ++ rest) ≡ Some (n, rest)
 unfolding align_at
 align_again n rest h k stop = let number = number_again n rest h stop in rw number (rw k refl)
 
-pub data_again : (export : Bool) (name : List ℕ) (align : ℕ) (ps : List Part) (rest : List ℕ) → is_identifier name ≡ true → is_bits align ≡ true → nat_lt align (2 ^ 32) ≡ true → list_all is_part ps ≡ true → data_at export (36 ∷ (name ++ (codes " = align " ++ (decimal align ++ 32 ∷ (parts_text ps ++ 10 ∷ rest))))) ≡ Some (Data export name align ps, rest)
+pub data_again : (export : Bool) (name : List ℕ) (align : ℕ) (ps : List Part) (rest : List ℕ) → is_identifier name ≡ true →
+    is_bits align ≡ true → nat_lt align (2 ^ 32) ≡ true → list_all is_part ps ≡ true →
+    data_at export (36 ∷ (name ++ (codes " = align " ++ (decimal align ++ 32 ∷ (parts_text ps ++ 10 ∷ rest))))) ≡
+    Some (Data export name align ps, rest)
 unfolding data_at
 data_again export name align ps rest hn ha short hp =
     let list = parts_text ps ++ 10 ∷ rest in

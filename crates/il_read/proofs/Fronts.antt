@@ -23,7 +23,8 @@ behind_none [] s h = absurd (h s refl)
 behind_none (x ∷ p) [] h = refl
 behind_none (x ∷ p) (y ∷ s) h = first_of (search rules, grind (arith, common_steps, behind_none p s))
 
-pub behind_is : (p s : List ℕ) (r : Option (Bor (List ℕ))) → MatchOption r ((rest : List ℕ) → s ≢ p ++ rest) (λ x. s ≡ p ++ x.now) → option_copied r ≡ behind p s
+pub behind_is : (p s : List ℕ) (r : Option (Bor (List ℕ))) → MatchOption r ((rest : List ℕ) → s ≢ p ++ rest) (λ x. s ≡ p ++ x.now) →
+    option_copied r ≡ behind p s
 behind_is p s None h = sym (behind_none p s h)
 behind_is p s (Some x) h = rw h (sym (behind-append p x.now))
 
@@ -32,7 +33,8 @@ behind_is p s (Some x) h = rw h (sym (behind-append p x.now))
 name_byte_ascii : (c : ℕ) → is_name_byte c ≡ true → c < 128
 name_byte_ascii c h = grind (arith, nat_tests, common_steps)
 
-one_more : (c : ℕ) (s : List ℕ) (n : ℕ) (b : Bool) → is_name_byte c ≡ b → AllByRecursion (λ x. x < 128) (take n s) → AllByRecursion (λ x. x < 128) (take (cond b (1 + n) 0) (c ∷ s))
+one_more : (c : ℕ) (s : List ℕ) (n : ℕ) (b : Bool) → is_name_byte c ≡ b → AllByRecursion (λ x. x < 128) (take n s) →
+    AllByRecursion (λ x. x < 128) (take (cond b (1 + n) 0) (c ∷ s))
 one_more c s n false e h = tt
 one_more c s n true e h = rw one-add (name_byte_ascii c e, h)
 
@@ -40,7 +42,8 @@ ascii_in_front : (s : List ℕ) → AllByRecursion (λ x. x < 128) (take (prefix
 ascii_in_front [] = tt
 ascii_in_front (c ∷ s) = one_more c s (prefix_len is_name_byte s) (is_name_byte c) refl (ascii_in_front s)
 
-no_digit_first : (b : Bool) (n : ℕ) (s : List ℕ) → AllByRecursion (λ x. x < 128) (take n s) → AllByRecursion (λ x. x < 128) (take (cond b 0 n) s)
+no_digit_first : (b : Bool) (n : ℕ) (s : List ℕ) → AllByRecursion (λ x. x < 128) (take n s) →
+    AllByRecursion (λ x. x < 128) (take (cond b 0 n) s)
 no_digit_first true n s h = search rules
 no_digit_first false n s h = h
 
@@ -54,7 +57,8 @@ names_are_ascii s = All-from_recursion _ _ (by_recursion s)
 -- ---- digits
 
 -- one byte more in front, whether it is a digit or not
-first_digit : (c : ℕ) (s : List ℕ) (n : ℕ) (b : Bool) → is_ascii_digit c ≡ b → all_ascii_digits (take n s) ≡ true → all_ascii_digits (take (cond b (1 + n) 0) (c ∷ s)) ≡ true
+first_digit : (c : ℕ) (s : List ℕ) (n : ℕ) (b : Bool) → is_ascii_digit c ≡ b → all_ascii_digits (take n s) ≡ true →
+    all_ascii_digits (take (cond b (1 + n) 0) (c ∷ s)) ≡ true
 first_digit c s n false e h = refl
 first_digit c s n true e h = rw one-add (rw e h)
 
@@ -68,7 +72,8 @@ pub own : IsNumeralModel (λ ds. all_ascii_digits ds ≡ true) (digits_value 10)
 own = numerals_by_value _ tells_all_ascii_digits
 
 -- what std's `parse` answers is the number
-pub number_is : {E : Type 0} (ds : List ℕ) (r : Result ℕ E) → OkIff r ((0 < length ds) × (digits_value 10 ds < 2 ^ 64)) (digits_value 10 ds) → result_ok r ≡ number_of ds
+pub number_is : {E : Type 0} (ds : List ℕ) (r : Result ℕ E) →
+    OkIff r ((0 < length ds) × (digits_value 10 ds < 2 ^ 64)) (digits_value 10 ds) → result_ok r ≡ number_of ds
 number_is ds (Ok x) h = grind (arith, nat_tests)
 number_is ds (Err e) h = grind (arith, nat_tests)
 

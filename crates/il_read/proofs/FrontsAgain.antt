@@ -86,21 +86,25 @@ unfolding number_at
 number_again n rest h stop =
     let ds = decimal n in
     let below = bits_below n h in
-    ap (λ k. number_behind k (ds ++ rest)) (run_len is_ascii_digit ds rest (all_digits_len ds (digits_decimal own n below)) (Stops-digit rest stop)) ∙ rw (take-append_seam ds rest, drop-append_seam ds rest, number_of-decimal n below) refl
+    ap (λ k. number_behind k (ds ++ rest)) (run_len is_ascii_digit ds rest (all_digits_len ds (digits_decimal own n below))
+    (Stops-digit rest stop)) ∙ rw (take-append_seam ds rest, drop-append_seam ds rest, number_of-decimal n below) refl
 
 -- a digit differs from a byte that is no digit
 pub digit_is_no : (d b : ℕ) → is_ascii_digit d ≡ true → is_ascii_digit b ≡ false → eqb d b ≡ false
 digit_is_no d b h k = grind (arith, nat_tests, common_steps)
 
-digits_are_no : (ds rest : List ℕ) (b : ℕ) → all_ascii_digits ds ≡ true → 0 < length ds → is_ascii_digit b ≡ false → behind (b ∷ []) (ds ++ rest) ≡ None
+digits_are_no : (ds rest : List ℕ) (b : ℕ) → all_ascii_digits ds ≡ true → 0 < length ds → is_ascii_digit b ≡ false →
+    behind (b ∷ []) (ds ++ rest) ≡ None
 digits_are_no [] rest b h some other = absurd (omega arith)
 digits_are_no (d ∷ ds) rest b h some k =
     let parts = and_parts (is_ascii_digit d) (all_ascii_digits ds) h in
     let other = digit_is_no d b parts.0 k in
     rw other refl
 
-pub number_is_no : (n : ℕ) (rest : List ℕ) (b : ℕ) → is_bits n ≡ true → is_ascii_digit b ≡ false → behind (b ∷ []) (decimal n ++ rest) ≡ None
-number_is_no n rest b h k = let below = bits_below n h in digits_are_no (decimal n) rest b (digits_decimal own n below) (decimal_nonempty n below) k
+pub number_is_no : (n : ℕ) (rest : List ℕ) (b : ℕ) → is_bits n ≡ true → is_ascii_digit b ≡ false →
+    behind (b ∷ []) (decimal n ++ rest) ≡ None
+number_is_no n rest b h k =
+    let below = bits_below n h in digits_are_no (decimal n) rest b (digits_decimal own n below) (decimal_nonempty n below) k
 
 -- a number begins with a digit
 pub number_first : (n : ℕ) → is_bits n ≡ true → (d : ℕ) × (ds : List ℕ) × (decimal n ≡ d ∷ ds) × (is_ascii_digit d ≡ true)

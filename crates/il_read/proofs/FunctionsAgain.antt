@@ -21,11 +21,13 @@ use Rattle.il_read.proofs.BlocksAgain.{block_again}
 some_block : (b : Block) → 0 < length (block_text b)
 some_block b = omega arith
 
-blocks_again : (bs : List Block) (rest : List ℕ) → list_all is_block bs ≡ true → blocks_at (codes " {\n" ++ (flat_map block_text bs ++ (codes "}\n" ++ rest))) ≡ Some (bs, rest)
+blocks_again : (bs : List Block) (rest : List ℕ) → list_all is_block bs ≡ true →
+    blocks_at (codes " {\n" ++ (flat_map block_text bs ++ (codes "}\n" ++ rest))) ≡ Some (bs, rest)
 unfolding blocks_at
 blocks_again bs rest h =
     let end = codes "}\n" ++ rest in
-    let all = each_again block_at begins_block block_text is_block NoTab block_again (λ b r h. refl) (λ b r h. refl) bs end (length (flat_map block_text bs ++ end)) h (length-rest block_text some_block bs end) refl refl in
+    let all = each_again block_at begins_block block_text is_block NoTab block_again (λ b r h. refl) (λ b r h. refl) bs end
+    (length (flat_map block_text bs ++ end)) h (length-rest block_text some_block bs end) refl refl in
     rw all refl
 
 class_again : (class : Option Class) (rest : List ℕ) → result_class_at (result_class_text class ++ 36 ∷ rest) ≡ Some (class, 36 ∷ rest)
@@ -34,7 +36,11 @@ class_again None rest = refl
 class_again (Some W) rest = refl
 class_again (Some L) rest = refl
 
-pub function_again : (export : Bool) (class : Option Class) (name : List ℕ) (params : List IlParam) (bs : List Block) (rest : List ℕ) → is_identifier name ≡ true → list_all is_param params ≡ true → list_all is_block bs ≡ true → function_at export (result_class_text class ++ 36 ∷ (name ++ 40 ∷ (with_commas param_text params ++ 41 ∷ (codes " {\n" ++ (flat_map block_text bs ++ (codes "}\n" ++ rest)))))) ≡ Some (Function export class name params bs, rest)
+pub function_again : (export : Bool) (class : Option Class) (name : List ℕ) (params : List IlParam) (bs : List Block) (rest : List ℕ) →
+    is_identifier name ≡ true → list_all is_param params ≡ true → list_all is_block bs ≡ true →
+    function_at export (result_class_text class ++ 36 ∷
+    (name ++ 40 ∷ (with_commas param_text params ++ 41 ∷ (codes " {\n" ++ (flat_map block_text bs ++ (codes "}\n" ++ rest)))))) ≡
+    Some (Function export class name params bs, rest)
 unfolding function_at
 function_again export class name params bs rest hn hp hb =
     let body = codes " {\n" ++ (flat_map block_text bs ++ (codes "}\n" ++ rest)) in

@@ -29,10 +29,15 @@ is_readable_item i = is_item i && is_aligned i
 
 -- the text of an item that is not exported, behind its word and in front of a rest
 abbrev definition_text : IlItem → List ℕ → List ℕ
-definition_text (Data export name align ps) rest = codes "data " ++ 36 ∷ (name ++ (codes " = align " ++ (decimal align ++ 32 ∷ (parts_text ps ++ 10 ∷ rest))))
-definition_text (Function export class name params bs) rest = codes "function " ++ (result_class_text class ++ 36 ∷ (name ++ 40 ∷ (with_commas param_text params ++ 41 ∷ (codes " {\n" ++ (flat_map block_text bs ++ (codes "}\n" ++ rest))))))
+definition_text (Data export name align ps) rest =
+    codes "data " ++ 36 ∷ (name ++ (codes " = align " ++ (decimal align ++ 32 ∷ (parts_text ps ++ 10 ∷ rest))))
+definition_text (Function export class name params bs) rest =
+    codes "function " ++ (result_class_text class ++ 36 ∷
+    (name ++ 40 ∷ (with_commas param_text params ++ 41 ∷ (codes " {\n" ++ (flat_map block_text bs ++ (codes "}\n" ++ rest))))))
 
-data_definition : (export : Bool) (name : List ℕ) (align : ℕ) (ps : List Part) (rest : List ℕ) → is_readable_item (Data export name align ps) ≡ true → definition_at export (definition_text (Data export name align ps) rest) ≡ Some (Data export name align ps, rest)
+data_definition : (export : Bool) (name : List ℕ) (align : ℕ) (ps : List Part) (rest : List ℕ) →
+    is_readable_item (Data export name align ps) ≡ true →
+    definition_at export (definition_text (Data export name align ps) rest) ≡ Some (Data export name align ps, rest)
 unfolding definition_at
 data_definition export name align ps rest h =
     let k = and_parts (is_item (Data export name align ps)) (nat_lt align (2 ^ 32)) h in
@@ -40,7 +45,9 @@ data_definition export name align ps rest h =
     let q = and_parts (is_bits align) (list_all is_part ps) p.1 in
     data_again export name align ps rest p.0 q.0 k.1 q.1
 
-function_definition : (export : Bool) (class : Option Class) (name : List ℕ) (params : List IlParam) (bs : List Block) (rest : List ℕ) → is_readable_item (Function export class name params bs) ≡ true → definition_at export (definition_text (Function export class name params bs) rest) ≡ Some (Function export class name params bs, rest)
+function_definition : (export : Bool) (class : Option Class) (name : List ℕ) (params : List IlParam) (bs : List Block) (rest : List ℕ) →
+    is_readable_item (Function export class name params bs) ≡ true →
+    definition_at export (definition_text (Function export class name params bs) rest) ≡ Some (Function export class name params bs, rest)
 unfolding definition_at
 function_definition export class name params bs rest h =
     let k = and_parts (is_item (Function export class name params bs)) true h in
@@ -51,16 +58,19 @@ function_definition export class name params bs rest h =
 item_again : (i : IlItem) (rest : List ℕ) → is_readable_item i ≡ true → Unit {0} → item_at (item_text i ++ rest) ≡ Some (i, rest)
 unfolding item_at
 item_again (Data true name align ps) rest h u =
-    let text : item_text (Data true name align ps) ++ rest ≡ codes "export " ++ definition_text (Data true name align ps) rest = simp append_assoc in
+    let text : item_text (Data true name align ps) ++ rest ≡ codes "export " ++ definition_text (Data true name align ps) rest =
+    simp append_assoc in
     ap item_at text ∙ data_definition true name align ps rest h
 item_again (Data false name align ps) rest h u =
     let text : item_text (Data false name align ps) ++ rest ≡ definition_text (Data false name align ps) rest = simp append_assoc in
     ap item_at text ∙ data_definition false name align ps rest h
 item_again (Function true class name params bs) rest h u =
-    let text : item_text (Function true class name params bs) ++ rest ≡ codes "export " ++ definition_text (Function true class name params bs) rest = simp append_assoc in
+    let text : item_text (Function true class name params bs) ++ rest ≡
+    codes "export " ++ definition_text (Function true class name params bs) rest = simp append_assoc in
     ap item_at text ∙ function_definition true class name params bs rest h
 item_again (Function false class name params bs) rest h u =
-    let text : item_text (Function false class name params bs) ++ rest ≡ definition_text (Function false class name params bs) rest = simp append_assoc in
+    let text : item_text (Function false class name params bs) ++ rest ≡ definition_text (Function false class name params bs) rest =
+    simp append_assoc in
     ap item_at text ∙ function_definition false class name params bs rest h
 
 some_item : (i : IlItem) → 0 < length (item_text i)
@@ -88,8 +98,10 @@ items_again : (is : List IlItem) → list_all is_readable_item is ≡ true → m
 unfolding module_at
 items_again is h =
     let text = flat_map item_text is in
-    let all = each_again item_at begins_item item_text is_readable_item (λ r. Unit {0}) item_again item_begins (λ i r k. tt) is [] (length text) h (length-flat_map item_text some_item is) tt refl in
-    let whole : each item_at begins_item (length text) text ≡ Some (is, []) = ap (each item_at begins_item (length text)) (sym (append-nil text)) ∙ all in
+    let all = each_again item_at begins_item item_text is_readable_item (λ r. Unit {0}) item_again item_begins (λ i r k. tt) is []
+    (length text) h (length-flat_map item_text some_item is) tt refl in
+    let whole : each item_at begins_item (length text) text ≡ Some (is, []) =
+    ap (each item_at begins_item (length text)) (sym (append-nil text)) ∙ all in
     rw whole refl
 
 -- a readable module is read from its text

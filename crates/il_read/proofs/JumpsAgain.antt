@@ -16,7 +16,8 @@ abbrev pub NoTab : List ℕ → Type 0
 NoTab [] = Unit {0}
 NoTab (c ∷ s) = eqb c 9 ≡ false
 
-returned_again : (v : Option IlValue) (rest : List ℕ) → is_returned v ≡ true → returned_at (returned_text v ++ 10 ∷ rest) ≡ Some (v, 10 ∷ rest)
+returned_again : (v : Option IlValue) (rest : List ℕ) → is_returned v ≡ true →
+    returned_at (returned_text v ++ 10 ∷ rest) ≡ Some (v, 10 ∷ rest)
 unfolding returned_at
 returned_again None rest h = refl
 returned_again (Some v) rest h = let value = value_again v (10 ∷ rest) h refl in rw value refl
@@ -32,7 +33,8 @@ jump_again (Jmp l) rest h k =
 jump_again (Jnz v a b) rest h k =
     let p = and_parts (is_value v) (is_identifier a && is_identifier b) h in
     let q = and_parts (is_identifier a) (is_identifier b) p.1 in
-    let text : jump_text (Jnz v a b) ++ rest ≡ codes "\tjnz " ++ (value_text v ++ (codes ", " ++ 64 ∷ (a ++ (codes ", " ++ 64 ∷ (b ++ 10 ∷ rest))))) = simp append_assoc in
+    let text : jump_text (Jnz v a b) ++ rest ≡
+    codes "\tjnz " ++ (value_text v ++ (codes ", " ++ 64 ∷ (a ++ (codes ", " ++ 64 ∷ (b ++ 10 ∷ rest))))) = simp append_assoc in
     let value = value_again v (codes ", " ++ 64 ∷ (a ++ (codes ", " ++ 64 ∷ (b ++ 10 ∷ rest)))) p.0 refl in
     let first = label_again a (codes ", " ++ 64 ∷ (b ++ 10 ∷ rest)) q.0 refl in
     let second = label_again b (10 ∷ rest) q.1 refl in

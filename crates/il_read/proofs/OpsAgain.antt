@@ -61,7 +61,8 @@ op_again Cugtw rest = refl
 op_again Cugtl rest = refl
 
 -- the word of an operation is none of the other two that stand behind what is set
-pub op_is_other : (op : IlOp) (rest : List ℕ) → (behind (codes "phi ") (op_word op ++ 32 ∷ rest) ≡ None) × (behind (codes "call ") (op_word op ++ 32 ∷ rest) ≡ None)
+pub op_is_other : (op : IlOp) (rest : List ℕ) → (behind (codes "phi ") (op_word op ++ 32 ∷ rest) ≡ None) ×
+    (behind (codes "call ") (op_word op ++ 32 ∷ rest) ≡ None)
 op_is_other Neg rest = (refl, refl)
 op_is_other Copy rest = (refl, refl)
 op_is_other Alloc4 rest = (refl, refl)

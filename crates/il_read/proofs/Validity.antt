@@ -27,4 +27,8 @@ all_aligned (i ∷ is) h =
     rw first (all_aligned is p.1)
 
 pub IsReadable-valid : (m : Module) → IsValid m → IsReadable m
-IsReadable-valid m v = record { shaped = (and_parts (is_shaped m) (is_lawful m.items) ((valid_is m).1 v)).0; aligned = all_aligned m.items v.lawful.numbers }
+IsReadable-valid m v = record {
+  shaped = (and_parts (is_shaped m) (is_lawful m.items) ((valid_is m).1 v)).0;
+  aligned = all_aligned m.items
+      v.lawful.numbers;
+}

@@ -42,7 +42,8 @@ value_again (Number n) rest h stop =
 value_again (Temp t) rest h stop = let name = name_again t rest h stop in rw name refl
 value_again (Symbol s) rest h stop = let name = name_again s rest h stop in rw name refl
 
-pub target_again : (t : List ℕ) (c : Class) (rest : List ℕ) → is_identifier t ≡ true → target_at (37 ∷ (t ++ (codes " =" ++ (class_text c ++ 32 ∷ rest)))) ≡ Some (record { name = t; class = c }, rest)
+pub target_again : (t : List ℕ) (c : Class) (rest : List ℕ) → is_identifier t ≡ true →
+    target_at (37 ∷ (t ++ (codes " =" ++ (class_text c ++ 32 ∷ rest)))) ≡ Some (record { name = t; class = c }, rest)
 unfolding target_at
 target_again t c rest h =
     let name = temp_again t (codes " =" ++ (class_text c ++ 32 ∷ rest)) h refl in
@@ -81,7 +82,9 @@ class_is_no W x rest = refl
 class_is_no L x rest = refl
 
 pub param_is_no : (p : IlParam) (rest : List ℕ) → behind (codes ")") (param_text p ++ rest) ≡ None
-param_is_no p rest = ap (λ x. behind (codes ")") (x ++ rest)) (append_assoc (class_text p.class) (codes " %") p.name) ∙ class_is_no p.class (codes " %" ++ p.name) rest
+param_is_no p rest = ap (λ x. behind (codes ")") (x ++ rest)) (append_assoc (class_text p.class) (codes " %") p.name) ∙ class_is_no p.class
+    (codes " %" ++ p.name) rest
 
 pub arg_is_no : (a : IlArg) (rest : List ℕ) → behind (codes ")") (arg_text a ++ rest) ≡ None
-arg_is_no a rest = ap (λ x. behind (codes ")") (x ++ rest)) (append_assoc (class_text a.class) (codes " ") (value_text a.value)) ∙ class_is_no a.class (codes " " ++ value_text a.value) rest
+arg_is_no a rest = ap (λ x. behind (codes ")") (x ++ rest)) (append_assoc (class_text a.class) (codes " ") (value_text a.value)) ∙
+    class_is_no a.class (codes " " ++ value_text a.value) rest

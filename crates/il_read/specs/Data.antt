@@ -30,7 +30,8 @@ amount_at s = number_at s >>= λ number. Some (part.Number number.0, number.1)
 
 -- a value of a part, behind its space
 unfoldable pub part_value_at : List ℕ → Option (PartValue × List ℕ)
-part_value_at s = behind (codes " ") s >>= λ rest. branch (behind (codes "\"") rest) text_at (branch (behind (codes "$") rest) address_at (amount_at rest))
+part_value_at s = behind (codes " ") s >>= λ rest. branch (behind (codes "\"") rest) text_at
+    (branch (behind (codes "$") rest) address_at (amount_at rest))
 
 -- a value of a part begins, and the braces do not end
 abbrev pub begins_value : List ℕ → Bool

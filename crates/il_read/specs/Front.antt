@@ -1,4 +1,5 @@
--- Known bytes, names, numbers and strings at the front of a text. No public clause cites it. Each reading gives what was read and what stands behind it.
+-- Known bytes, names, numbers and strings at the front of a text. No public clause cites it. Each reading gives what was read and what
+-- stands behind it.
 use Rattle.std.specs.Prelude.{ℕ, ◌^◌, List, [], ◌∷◌, Option, Some, None, Bool, not, nat_lt, ◌==◌, if◌then◌else◌, length, take, drop, codes, option_and_then}
 use Rattle.std.specs.List.{prefix_len}
 use Rattle.std.specs.Char.{is_ascii_digit}
@@ -34,7 +35,8 @@ name_at s = name_of (name_len s) s
 
 -- the number that decimal digits spell, where it is below 2 ^ 64
 abbrev pub number_of : List ℕ → Option ℕ
-number_of digits = if length digits == 0 then None else if nat_lt (digits_value 10 digits) (2 ^ 64) then Some (digits_value 10 digits) else None
+number_of digits = if length digits == 0 then None else if nat_lt (digits_value 10 digits) (2 ^ 64) then Some (digits_value 10 digits) else
+    None
 
 abbrev pub number_behind : ℕ → List ℕ → Option (ℕ × List ℕ)
 number_behind n s = number_of (take n s) >>= λ m. Some (m, drop n s)

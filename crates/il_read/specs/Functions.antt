@@ -12,7 +12,8 @@ use Rattle.il_read.specs.Blocks.{begins_block, block_at}
 
 -- the class of a function's result, if it has one
 unfoldable pub result_class_at : List ℕ → Option (Option Class × List ℕ)
-result_class_at s = branch (behind (codes "w ") s) (λ rest. Some (Some W, rest)) (branch (behind (codes "l ") s) (λ rest. Some (Some L, rest)) (Some (None, s)))
+result_class_at s = branch (behind (codes "w ") s) (λ rest. Some (Some W, rest))
+    (branch (behind (codes "l ") s) (λ rest. Some (Some L, rest)) (Some (None, s)))
 
 -- the blocks between their braces
 unfoldable pub blocks_at : List ℕ → Option (List Block × List ℕ)

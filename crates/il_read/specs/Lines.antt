@@ -95,4 +95,5 @@ in_front (line.Inst i) ls = (ls.0, i ∷ ls.1)
 -- up to n lines
 abbrev pub lines : ℕ → List ℕ → Option ((List Phi × List Inst) × List ℕ)
 lines zero s = Some (([], []), s)
-lines (suc n) s = if begins_line s then (line_at s >>= λ l. lines n l.1 >>= λ more. Some (in_front l.0 more.0, more.1)) else Some (([], []), s)
+lines (suc n) s = if begins_line s then (line_at s >>= λ l. lines n l.1 >>= λ more. Some (in_front l.0 more.0, more.1)) else Some
+    (([], []), s)

@@ -84,7 +84,9 @@ long_comparison word =
 
 -- the operation that the word names
 unfoldable pub op_named : List ℕ → Option IlOp
-op_named word = branch (binary_op word) (λ op. Some op) (branch (unary_op word) (λ op. Some op) (branch (memory_op word) (λ op. Some op) (branch (word_comparison word) (λ op. Some op) (long_comparison word))))
+op_named word = branch (binary_op word) (λ op. Some op)
+    (branch (unary_op word) (λ op. Some op) (branch (memory_op word) (λ op. Some op)
+    (branch (word_comparison word) (λ op. Some op) (long_comparison word))))
 
 abbrev pub op_behind : ℕ → List ℕ → Option (IlOp × List ℕ)
 op_behind n s = op_named (take n s) >>= λ op. Some (op, drop n s)

@@ -5,4 +5,5 @@ use Rattle.il_read.proofs.list.each_at.Given as goal
 
 -- what was read and what the rest reads as is all
 abbrev pub invariant-loop-turn : goal.invariant-loop-turn
-invariant-loop-turn g l = also l.items (each g.T.Construct.reads g.T.Repeated.starts (l._turn-end - l._turn) l.rest) ≡ each g.T.Construct.reads g.T.Repeated.starts (length l.fn.s) l.fn.s
+invariant-loop-turn g l = also l.items (each g.T.Construct.reads g.T.Repeated.starts (l._turn-end - l._turn) l.rest) ≡
+    each g.T.Construct.reads g.T.Repeated.starts (length l.fn.s) l.fn.s

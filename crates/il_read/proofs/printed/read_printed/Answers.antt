@@ -12,7 +12,8 @@ use Rattle.il_read.proofs.printed.read_printed.Goals as goal
 
 -- where nothing is read, no readable module was printed so
 other_than_printed : (c : goal.In-Err-Fault) (m : Module) → IsReadable m → c.args.src.now ≡ module_text m → ⊥
-other_than_printed c m h e = module_none c.args.src.now m (c.in-Err-Fault.ensures (no_memory c.in-Err-Fault.field-0 c.in-Err-Fault.field-0-0 c.in-Err-Fault.field-0-is)) h e
+other_than_printed c m h e = module_none c.args.src.now m
+    (c.in-Err-Fault.ensures (no_memory c.in-Err-Fault.field-0 c.in-Err-Fault.field-0-0 c.in-Err-Fault.field-0-is)) h e
 
 pub returns-in-Err-Fault-clause-found : goal.returns-in-Err-Fault-clause-found
 returns-in-Err-Fault-clause-found c = λ m h e. absurd (other_than_printed c m h e)
@@ -21,16 +22,19 @@ pub returns-in-Err-Fault-clause-none : goal.returns-in-Err-Fault-clause-none
 returns-in-Err-Fault-clause-none c = other_than_printed c
 
 -- what is read is not readable, so that no readable module was printed so
-unreadable : (src : List ℕ) (x m : Module) → module_at src ≡ Some x → false ≡ (is_shaped x && list_all is_aligned x.items) → IsReadable m → src ≡ module_text m → ⊥
+unreadable : (src : List ℕ) (x m : Module) → module_at src ≡ Some x → false ≡ (is_shaped x && list_all is_aligned x.items) → IsReadable m →
+    src ≡ module_text m → ⊥
 unreadable src x m at fails h e =
     let passes : (is_shaped m && list_all is_aligned m.items) ≡ true = rw (h.shaped, h.aligned) refl in
     false≢true (fails ∙ ap (λ (z : Module). is_shaped z && list_all is_aligned z.items) (module_some src x m at h e) ∙ passes)
 
 pub returns-then-not-is_readable-clause-found : goal.returns-then-not-is_readable-clause-found
-returns-then-not-is_readable-clause-found c = λ m h e. absurd (unreadable c.args.src.now c.in-Ok.module m c.in-Ok.ensures c.if-not-is_readable.ensures h e)
+returns-then-not-is_readable-clause-found c =
+    λ m h e. absurd (unreadable c.args.src.now c.in-Ok.module m c.in-Ok.ensures c.if-not-is_readable.ensures h e)
 
 pub returns-then-not-is_readable-clause-none : goal.returns-then-not-is_readable-clause-none
-returns-then-not-is_readable-clause-none c = λ m h e. unreadable c.args.src.now c.in-Ok.module m c.in-Ok.ensures c.if-not-is_readable.ensures h e
+returns-then-not-is_readable-clause-none c =
+    λ m h e. unreadable c.args.src.now c.in-Ok.module m c.in-Ok.ensures c.if-not-is_readable.ensures h e
 
 pub returns-then-eq-clause-found : goal.returns-then-eq-clause-found
 returns-then-eq-clause-found c = λ m h e. ap Some (module_some c.args.src.now c.in-Ok.module m c.in-Ok.ensures h e)

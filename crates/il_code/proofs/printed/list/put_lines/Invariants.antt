@@ -5,4 +5,5 @@ use Rattle.il_code.proofs.printed.list.put_lines.Given as goal
 
 -- what is written and what is left to write is all
 abbrev pub invariant-loop-item : goal.invariant-loop-item
-invariant-loop-item g l = l.out ++ flat_map (λ i. on_line (g.T.Printed.text i)) (drop l.item-index l.items) ≡ l.initial.out ++ flat_map (λ i. on_line (g.T.Printed.text i)) l.items
+invariant-loop-item g l = l.out ++ flat_map (λ i. on_line (g.T.Printed.text i)) (drop l.item-index l.items) ≡
+    l.initial.out ++ flat_map (λ i. on_line (g.T.Printed.text i)) l.items

@@ -17,7 +17,8 @@ loop-self-init c =
 pub loop-self-preserved-in-Some : goal.loop-self-preserved-in-Some
 loop-self-preserved-in-Some c =
     let now = c.loop-self.self-inside.numbers in
-    let more = cut_more c.loop-self.self-inside.places c.remove.new.self now.items c.pop.new.self.items c.args.self.now.pages c.in-Some.page c.args.count
+    let more = cut_more c.loop-self.self-inside.places c.remove.new.self now.items c.pop.new.self.items c.args.self.now.pages c.in-Some.page
+    c.args.count
     c.in-Some.ensures.items c.loop-self.invariant.0
     (omega (arith, now.ok.0, c.len.ensures, c.loop-self-test.true)) c.remove.ensures.updates.0 in
     (more, c.loop-self.invariant.1, c.loop-self.invariant.2)
@@ -28,7 +29,8 @@ invariant_of-self c =
     let pages = c.args.self.now.pages in
     let sized = subst (λ (h : Held). length h.bytes ≡ page_size * length h.pages) c.self.view_is c.self.invariant.sized in
     let few : length now.numbers.items ≤ c.args.count = omega (arith, now.numbers.ok.0, c.len.ensures, c.loop-self-test.false) in
-    let done = cut_done now.places now.numbers.items pages c.args.self.now.bytes c.args.count c.loop-self.invariant.0 few c.requires sized in
+    let done = cut_done now.places now.numbers.items pages c.args.self.now.bytes c.args.count c.loop-self.invariant.0 few c.requires
+    sized in
     rw (c.truncate.ensures.items, c.loop-self.invariant.1) done.1
 
 pub returns : goal.returns

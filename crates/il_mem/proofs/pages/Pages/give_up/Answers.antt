@@ -61,7 +61,8 @@ returns-clause-bytes c = λ m holds.
     let new : Held = held old.fill c.take_out.new.numbers.items c.take_bytes_out.new.bytes.items in
     let there = c.self.invariant.entered.there c.args.page c.in-Some.place (sym (c.in-Some.ensures ∙ c.get.ensures.value)) in
     let g = given_up h new c.args.page c.in-Some.place c.len-last.result (sound_from old.places h c.self.invariant) refl there
-    (omega (arith, c.len-last.ensures, c.take_out.new.numbers.ok.0)) c.take_out.ensures.fewer c.take_out.ensures.pages c.take_bytes_out.ensures.bytes in
+    (omega (arith, c.len-last.ensures, c.take_out.new.numbers.ok.0)) c.take_out.ensures.fewer c.take_out.ensures.pages
+    c.take_bytes_out.ensures.bytes in
     g.bytes m (subst (λ (x : Held). HoldsBytes x m) (sym c.self.view_is) holds)
 
 pub returns-clause-pages : goal.returns-clause-pages
@@ -71,5 +72,6 @@ returns-clause-pages c = λ p.
     let new : Held = held old.fill c.take_out.new.numbers.items c.take_bytes_out.new.bytes.items in
     let there = c.self.invariant.entered.there c.args.page c.in-Some.place (sym (c.in-Some.ensures ∙ c.get.ensures.value)) in
     let g = given_up h new c.args.page c.in-Some.place c.len-last.result (sound_from old.places h c.self.invariant) refl there
-    (omega (arith, c.len-last.ensures, c.take_out.new.numbers.ok.0)) c.take_out.ensures.fewer c.take_out.ensures.pages c.take_bytes_out.ensures.bytes in
+    (omega (arith, c.len-last.ensures, c.take_out.new.numbers.ok.0)) c.take_out.ensures.fewer c.take_out.ensures.pages
+    c.take_bytes_out.ensures.bytes in
     subst (λ (x : Held). is_held new p ≡ (is_held x p && not (nat_eq c.args.page p))) c.self.view_is (g.pages p)

@@ -40,5 +40,6 @@ returns-then-start-end-clause-value c =
 
 pub returns-in_default-clause-value : goal.returns-in_default-clause-value
 returns-in_default-clause-value c =
-    done c.args.at c.args.n c.loop-start.self-inside.ends.entries c.self.inside.ends.entries c.args.self.now c.loop-start.invariant.0 c.self.view_is
+    done c.args.at c.args.n c.loop-start.self-inside.ends.entries c.self.inside.ends.entries c.args.self.now c.loop-start.invariant.0
+    c.self.view_is
     (λ k d l m. omega (arith, c.in_default.ensures.none k d l, m))
