@@ -5,6 +5,9 @@ use hare_fmt::format;
 use hare_tree::{Fault, Stop};
 use std::alloc::Global;
 
+/// The most bytes that a file or a layout may have here.
+const MOST: usize = 65536;
+
 /// The line with what is found of its file before the ` ~> `.
 pub(crate) fn answer(alloc: Global, line: &str) -> Result<String> {
     let (_, source) = line.split_once(" ~> ").context("a line without ~>")?;
@@ -16,13 +19,24 @@ pub(crate) fn answer(alloc: Global, line: &str) -> Result<String> {
 fn found(alloc: Global, source: &str) -> Result<String> {
     let src = source.replace(alloc, '$', "\n")?.replace(alloc, '#', "\t")?;
     let bytes = src.as_bytes();
-    if bytes.len() > 65536 {
+    if bytes.len() > MOST {
         bail!("the file is too long");
     }
     match format(alloc, bytes) {
-        Ok(text) => written(alloc, text.bytes()),
+        Ok(text) => laid_out(alloc, text.bytes()),
         Err(Stop::Fault(fault)) => refused(alloc, fault),
         Err(Stop::Memory) => bail!("out of memory"),
+    }
+}
+
+/// A layout on one line, where it is the layout of itself.
+fn laid_out(alloc: Global, text: &[u8]) -> Result<String> {
+    if text.len() > MOST {
+        bail!("the layout is too long");
+    }
+    match format(alloc, text) {
+        Ok(again) if again.bytes() == text => written(alloc, text),
+        _ => bail!("another layout at the second time"),
     }
 }
 

@@ -1,22 +1,23 @@
 -- What stands before a piece, in a layout and in the layout of what is read of it.
-use Rattle.std.proofs.Common.{◌≡◌, ℕ, List, [], ◌∷◌, ◌⊎◌, inl, inr, Bool, true, false, ◌&&◌, codes, get_or, refl, sym, ap, ◌∙◌, subst, if◌then◌else◌}
-use Rattle.std.specs.Prelude.{◌||◌, not, bytes_eq, slice_index}
+use Rattle.std.proofs.Common.{◌≡◌, ℕ, List, [], ◌⊎◌, inl, inr, Bool, true, false, ◌&&◌, codes, refl, sym, ap, ◌∙◌, subst, if◌then◌else◌}
+use Rattle.std.specs.Prelude.{◌||◌, ◌==◌, not, bytes_eq, slice_index}
 use Rattle.std.specs.Char.{is_ascii_digit}
+use Rattle.hare_tree.specs.Words.{is_listed}
 use Rattle.hare_ways.specs.declared.way.Start.{Start}
 use Rattle.hare_ways.specs.declared.way.Start.TheVariants.{Within, Begins, Outdented}
 use Rattle.hare_ways.specs.declared.way.Way.{Way}
-use Rattle.hare_fmt.specs.declared.way.Feeds.{Feeds}
-use Rattle.hare_fmt.specs.declared.way.Before.{Before}
-use Rattle.hare_fmt.specs.declared.way.Before.TheVariants.{Nothing, Opening, Remark, Other}
-use Rattle.hare_fmt.specs.declared.way.Gap.{Gap}
-use Rattle.hare_fmt.specs.declared.way.Gap.TheVariants.{First, Join, Blank, Line}
-use Rattle.hare_fmt.specs.Gaps.{Behind, Placed, line, comment_gap, comment_tabs, are_digits, grows, joins, within_line, start_gap, before_gap, token_gap, tabs_of, extra_tab, gap_of, previous_of, behind_token, behind_comment, behind_piece}
-use Rattle.hare_fmt.specs.Layout.{read_again}
-use Rattle.hare_fmt.proofs.Again.{gaps_stay}
+use Rattle.hare_lines.specs.declared.way.Feeds.{Feeds}
+use Rattle.hare_lines.specs.declared.way.Before.{Before}
+use Rattle.hare_lines.specs.declared.way.Before.TheVariants.{Nothing, Opening, Remark, Other}
+use Rattle.hare_lines.specs.declared.way.Gap.{Gap}
+use Rattle.hare_lines.specs.declared.way.Gap.TheVariants.{First, Join, Blank, Line}
+use Rattle.hare_lines.specs.Gaps.{Behind, Placed, line, comment_gap, comment_tabs, lengthened, are_digits, grows, joins, within_line, start_gap, before_gap, token_gap, tabs_of, gap_of, previous_of, behind_token}
+use Rattle.hare_lines.specs.Layout.{read_again}
+use Rattle.hare_lines.proofs.Again.{gaps_stay}
 
 -- no piece behind this one is kept apart from it
 pub record IsQuiet (s : List ℕ) : Type 0 where
-  pub ampersand : bytes_eq s (codes "&") ≡ false
+  pub mark : (c : ℕ) → is_listed (lengthened c) s ≡ false
   pub dot : bytes_eq s (codes ".") ≡ false
   pub digits : are_digits s ≡ false
 
@@ -35,36 +36,62 @@ pub record IsAlike (b c : Behind) : Type 0 where
 pub alike-same : (b : Behind) → IsAlike b b
 alike-same b = record { before = refl; joins = refl; last = inl (refl, inl refl) }
 
+neither-lists : (b : Bool) (x y : List (List ℕ)) (s : List ℕ) → is_listed x s ≡ false → is_listed y s ≡ false
+    → is_listed (if b then x else y) s ≡ false
+neither-lists true x y s p q = p
+neither-lists false x y s p q = q
+
+-- no byte makes a longer mark of nothing, or of a comma
+abbrev IsKept : List ℕ → Type 0
+IsKept s = (c : ℕ) → is_listed (lengthened c) s ≡ false
+
+nothing-kept : IsKept []
+nothing-kept c =
+    neither-lists (c == 61) _ _ [] refl (neither-lists (c == 46) _ _ [] refl (neither-lists (c == 62) _ _ [] refl
+    (neither-lists (c == 38) _ _ [] refl (neither-lists (c == 58) _ _ [] refl (neither-lists (c == 60) _ _ [] refl
+    (neither-lists (c == 94) _ _ [] refl (neither-lists (c == 124) _ _ [] refl refl)))))))
+
+pub comma-kept : IsKept (codes ",")
+comma-kept c =
+    neither-lists (c == 61) _ _ (codes ",") refl (neither-lists (c == 46) _ _ (codes ",") refl (neither-lists (c == 62) _ _ (codes ",") refl
+    (neither-lists (c == 38) _ _ (codes ",") refl
+    (neither-lists (c == 58) _ _ (codes ",") refl (neither-lists (c == 60) _ _ (codes ",") refl
+    (neither-lists (c == 94) _ _ (codes ",") refl (neither-lists (c == 124) _ _ (codes ",") refl refl)))))))
+
+pub quiet-nothing : IsQuiet []
+quiet-nothing = record { mark = nothing-kept; dot = refl; digits = refl }
+
+pub quiet-comma : IsQuiet (codes ",")
+quiet-comma = record { mark = comma-kept; dot = refl; digits = refl }
+
 -- ---- gaps
 
-never-grows : (a b c d e : Bool) → a ≡ false → d ≡ false → ((a && b) || (c && d && e)) ≡ false
-never-grows true b c d e p q = cc
-never-grows false b true true e p q = cc
-never-grows false b true false e p q = refl
-never-grows false b false d e p q = refl
+never-grows : (a c d e : Bool) → a ≡ false → d ≡ false → (a || (c && d && e)) ≡ false
+never-grows true c d e p q = cc
+never-grows false true true e p q = cc
+never-grows false true false e p q = refl
+never-grows false false d e p q = refl
 
-no-digits : (a b c d e : Bool) → c ≡ false → ((a && b) || (c && d && e)) ≡ (a && b)
-no-digits true true c d e p = refl
-no-digits true false true d e p = cc
-no-digits true false false d e p = refl
-no-digits false b true d e p = cc
-no-digits false b false d e p = refl
+no-digits : (a c d e : Bool) → c ≡ false → (a || (c && d && e)) ≡ a
+no-digits true c d e p = refl
+no-digits false true d e p = cc
+no-digits false false d e p = refl
 
 quiet-grows : (last previous body : List ℕ) → IsQuiet last → grows last previous body ≡ false
 quiet-grows last previous body q =
-    never-grows (bytes_eq last (codes "&")) (bytes_eq body (codes "&")) (are_digits previous) (bytes_eq last (codes "."))
-    (is_ascii_digit (slice_index body 0)) q.ampersand q.dot
+    never-grows (is_listed (lengthened (slice_index body 0)) last) (are_digits previous) (bytes_eq last (codes "."))
+    (is_ascii_digit (slice_index body 0)) (q.mark (slice_index body 0)) q.dot
 
 undotted : (last previous body : List ℕ) → are_digits previous ≡ false
-    → grows last previous body ≡ (bytes_eq last (codes "&") && bytes_eq body (codes "&"))
+    → grows last previous body ≡ is_listed (lengthened (slice_index body 0)) last
 undotted last previous body e =
-    no-digits (bytes_eq last (codes "&")) (bytes_eq body (codes "&")) (are_digits previous) (bytes_eq last (codes "."))
+    no-digits (is_listed (lengthened (slice_index body 0)) last) (are_digits previous) (bytes_eq last (codes "."))
     (is_ascii_digit (slice_index body 0)) e
 
 grows-alike : (b c : Behind) (body : List ℕ) → AreLastAlike b c → grows b.last b.previous body ≡ grows c.last c.previous body
 grows-alike b c body (inl (e, inl f)) = λ i. grows (e i) (f i) body
 grows-alike b c body (inl (e, inr f)) =
-    undotted b.last b.previous body f.0 ∙ ap (λ l. bytes_eq l (codes "&") && bytes_eq body (codes "&")) e
+    undotted b.last b.previous body f.0 ∙ ap (is_listed (lengthened (slice_index body 0))) e
     ∙ sym (undotted c.last c.previous body f.1)
 grows-alike b c body (inr (p, q)) = quiet-grows b.last b.previous body p ∙ sym (quiet-grows c.last c.previous body q)
 

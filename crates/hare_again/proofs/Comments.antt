@@ -1,12 +1,11 @@
 -- The comments that are read of a layout.
 use Rattle.std.proofs.Common.{◌≡◌, ℕ, List, [], ◌∷◌, ◌++◌, Bool, true, false, ◌&&◌, drop, refl, ap, ◌∙◌, if◌then◌else◌}
 use Rattle.hare_ways.specs.declared.way.Way.{Way}
-use Rattle.hare_fmt.specs.declared.way.Feeds.{Feeds}
-use Rattle.hare_fmt.specs.Read.{Seen, is_string}
-use Rattle.hare_fmt.specs.Gaps.{Behind, Placed, placed, next_is_string, without_comma, behind_piece, behind_added, at_start}
-use Rattle.hare_fmt.specs.Layout.{read_again}
+use Rattle.hare_lines.specs.Read.{Seen, is_string}
+use Rattle.hare_lines.specs.Gaps.{Behind, Placed, placed, next_is_string, without_comma, behind_piece, behind_added, at_start}
+use Rattle.hare_lines.specs.Layout.{read_again}
 use Rattle.hare_again.specs.Again.{comma_seen, laid_seen, comment_of, comments_of, CommentsStay}
-use Rattle.hare_again.proofs.PiecesAgain.{seen_as, way_here}
+use Rattle.hare_again.proofs.PiecesAgain.{way_here}
 
 -- a comma is no comment
 behind-comma : (y : Bool) (x : Seen) (rest : List Seen)

@@ -1,14 +1,12 @@
 -- How many comments stand in front of the tokens of a layout, as they are read.
-use Rattle.std.proofs.Common.{◌≡◌, ℕ, suc, ◌+◌, List, [], ◌∷◌, ◌++◌, ◌⊎◌, inl, inr, Bool, true, false, ◌&&◌, length, drop, codes, refl, sym, ap, ◌∙◌, subst, arith, if◌then◌else◌}
-use Rattle.std.specs.Prelude.{not}
+use Rattle.std.proofs.Common.{◌≡◌, ℕ, suc, ◌+◌, List, [], ◌∷◌, ◌++◌, Bool, true, false, ◌&&◌, length, drop, refl, sym, ap, ◌∙◌, subst, arith, if◌then◌else◌}
 use Rattle.hare_ways.specs.declared.way.Start.{Start}
 use Rattle.hare_ways.specs.declared.way.Way.{Way}
-use Rattle.hare_ways.specs.Ways.{end_way}
 use Rattle.hare_commas.specs.Commas.{settled, comma_count, AreSpread}
-use Rattle.hare_fmt.specs.declared.way.Feeds.{Feeds}
-use Rattle.hare_fmt.specs.Read.{Seen, is_quoted, is_string, comments_before}
-use Rattle.hare_fmt.specs.Gaps.{Behind, Placed, placed, next_way, next_is_string, string_way, without_comma, behind_piece, behind_comma, behind_added, at_start}
-use Rattle.hare_fmt.specs.Layout.{read_again}
+use Rattle.hare_lines.specs.declared.way.Feeds.{Feeds}
+use Rattle.hare_lines.specs.Read.{Seen, is_quoted, is_string, comments_before}
+use Rattle.hare_lines.specs.Gaps.{Behind, placed, next_is_string, string_way, behind_piece, behind_comma, at_start}
+use Rattle.hare_lines.specs.Layout.{read_again}
 use Rattle.hare_again.specs.Again.{comma_seen, laid_seen, written_seen}
 use Rattle.hare_again.proofs.PiecesAgain.{seen_as, way_as}
 

@@ -1,5 +1,5 @@
 -- A file is laid out as before.
-use Rattle.std.proofs.Common.{◌≡◌, ℕ, List, [], ◌∷◌, ◌++◌, true, false, length, refl, sym, ap, ◌∙◌, subst, append_assoc}
+use Rattle.std.proofs.Common.{◌≡◌, ℕ, List, [], ◌∷◌, ◌++◌, false, length, refl, sym, ap, ◌∙◌, subst, append_assoc}
 use Rattle.std.proofs.lemmas.Bool.{and_parts}
 use Rattle.hare_tree.specs.declared.tree.FileTree.{FileTree}
 use Rattle.hare_tree.specs.Spell.{spell_all}
@@ -9,9 +9,9 @@ use Rattle.hare_ways.proofs.Counted.{files_have_ways}
 use Rattle.hare_commas.proofs.Flags.{IsPlain}
 use Rattle.hare_commas.proofs.Plain.{file-plain}
 use Rattle.hare_commas.proofs.Files.{commas-stand-in-trees}
-use Rattle.hare_fmt.specs.Read.{Seen, seen, comments_before}
-use Rattle.hare_fmt.specs.Gaps.{at_start, placed, next_way, laid}
-use Rattle.hare_fmt.specs.Layout.{with_end, laid_bytes}
+use Rattle.hare_lines.specs.Read.{seen, comments_before}
+use Rattle.hare_lines.specs.Gaps.{at_start, placed, next_way, laid}
+use Rattle.hare_lines.specs.Layout.{with_end, laid_bytes}
 use Rattle.hare_again.specs.Again.{layout_seen, LayoutsStay, SourcesStay}
 use Rattle.hare_again.proofs.PiecesAgain.{pieces-stay}
 use Rattle.hare_again.proofs.Sources.{sources-count}
@@ -42,6 +42,7 @@ layouts-stay tree xs file shaped many =
     record {
       again = a.again;
       same = a.same;
+      spelled = a.spelled file;
       fits = a.fits;
       stays = ap (λ us. with_end (laid_bytes (laid at_start (placed false 0 us (layout_seen tree xs))))) a.ways_are
           ∙ ap (λ l. with_end (laid_bytes l)) (pieces-stay ws xs (first-way ws (file-plain cs tree)));
@@ -52,4 +53,4 @@ sources-stay src text l =
     let xs = seen src l.pieces in
     let shaped = (and_parts _ _ (and_parts _ _ l.file_is.fits).0).0 in
     let s = layouts-stay l.tree xs l.file_is.file_is shaped (sources-count src l.tokens l.tree l.pieces l.are l.file_is.spelled l.cut) in
-    record { again = s.again; same = s.same; fits = s.fits l.file_is.fits; stays = s.stays ∙ sym l.text_is }
+    record { again = s.again; same = s.same; spelled = s.spelled; fits = s.fits l.file_is.fits; stays = s.stays ∙ sym l.text_is }

@@ -4,11 +4,10 @@ use Rattle.std.specs.Prelude.{◌==◌}
 use Rattle.std.specs.List.{fold}
 use Rattle.hare_tree.specs.Words.{is_blank}
 use Rattle.hare_pieces.specs.Pieces.{are_blank}
-use Rattle.hare_fmt.specs.declared.way.Feeds.{Feeds}
-use Rattle.hare_fmt.specs.declared.way.Gap.{Gap}
-use Rattle.hare_fmt.specs.declared.way.Gap.TheVariants.{First, Join, Blank, Line}
-use Rattle.hare_fmt.specs.Read.{feeds_of, feeds_in, before_blanks, trimmed}
-use Rattle.hare_fmt.specs.Layout.{gap_bytes, read_back}
+use Rattle.hare_lines.specs.declared.way.Gap.{Gap}
+use Rattle.hare_lines.specs.declared.way.Gap.TheVariants.{First, Join, Blank, Line}
+use Rattle.hare_lines.specs.Read.{feeds_of, feeds_in, before_blanks, trimmed}
+use Rattle.hare_lines.specs.Layout.{gap_bytes, read_back}
 use Rattle.hare_again.specs.Again.{GapsAreRead}
 
 plus-zero : (a : ℕ) → a + 0 ≡ a

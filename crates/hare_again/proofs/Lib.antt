@@ -6,4 +6,11 @@ pub mod Gaps
 pub mod Sources
 pub mod Files
 pub mod Reading
+pub mod Standing
+pub mod LaidParts
+pub mod ReadSources
+pub mod TextTokens
+pub mod Utf8
+pub mod Placeless
+pub mod LaidOut
 pub mod Rows

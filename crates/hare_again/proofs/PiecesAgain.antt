@@ -1,22 +1,19 @@
 -- Pieces that are read of a layout are laid out as before.
-use Rattle.std.proofs.Common.{◌≡◌, ℕ, List, [], ◌∷◌, ◌++◌, ◌⊎◌, inl, inr, Bool, true, false, ◌&&◌, codes, drop, refl, sym, ap, ◌∙◌, subst, if◌then◌else◌}
+use Rattle.std.proofs.Common.{◌≡◌, ℕ, List, [], ◌∷◌, ◌++◌, ◌⊎◌, inl, inr, Bool, true, false, ◌&&◌, codes, drop, refl, sym, ap, ◌∙◌, if◌then◌else◌}
 use Rattle.std.specs.Prelude.{◌||◌, not, bytes_eq}
 use Rattle.hare_ways.specs.declared.way.Start.{Start}
-use Rattle.hare_ways.specs.declared.way.Start.TheVariants.{Within}
 use Rattle.hare_ways.specs.declared.way.Way.{Way}
 use Rattle.hare_ways.specs.Ways.{end_way}
-use Rattle.hare_commas.specs.Commas.{comma_way, settled, with_commas}
-use Rattle.hare_fmt.specs.declared.way.Feeds.{Feeds}
-use Rattle.hare_fmt.specs.declared.way.Feeds.TheVariants.{Same}
-use Rattle.hare_fmt.specs.declared.way.Before.{Before}
-use Rattle.hare_fmt.specs.declared.way.Before.TheVariants.{Nothing, Opening, Remark, Other}
-use Rattle.hare_fmt.specs.declared.way.Gap.{Gap}
-use Rattle.hare_fmt.specs.declared.way.Gap.TheVariants.{Join}
-use Rattle.hare_fmt.specs.Read.{Seen, is_quoted, is_string}
-use Rattle.hare_fmt.specs.Gaps.{Behind, Placed, placed, next_way, next_is_string, string_way, without_comma, gap_of, are_digits, grows, joins, within_line, before_gap, behind_piece, behind_token, behind_comment, behind_comma, comma_of, behind_added, laid, at_start, is_opening, previous_of}
-use Rattle.hare_fmt.specs.Layout.{read_again}
-use Rattle.hare_again.specs.Again.{comma_seen, laid_seen, written_seen, PiecesStay}
-use Rattle.hare_again.proofs.Alike.{IsQuiet, IsAlike, alike-same, gap-again, behind-alike}
+use Rattle.hare_commas.specs.Commas.{comma_way, with_commas}
+use Rattle.hare_lines.specs.declared.way.Feeds.{Feeds}
+use Rattle.hare_lines.specs.declared.way.Feeds.TheVariants.{Same}
+use Rattle.hare_lines.specs.declared.way.Before.TheVariants.{Opening, Other}
+use Rattle.hare_lines.specs.declared.way.Gap.TheVariants.{Join}
+use Rattle.hare_lines.specs.Read.{Seen, is_quoted, is_string}
+use Rattle.hare_lines.specs.Gaps.{Behind, Placed, placed, next_way, next_is_string, string_way, without_comma, gap_of, are_digits, within_line, before_gap, behind_piece, behind_token, behind_comment, behind_comma, comma_of, behind_added, laid, at_start, is_opening}
+use Rattle.hare_lines.specs.Layout.{read_again}
+use Rattle.hare_again.specs.Again.{comma_seen, laid_seen, PiecesStay}
+use Rattle.hare_again.proofs.Alike.{quiet-nothing, quiet-comma, IsAlike, alike-same, gap-again, behind-alike}
 
 -- ---- the pieces with their ways
 
@@ -27,7 +24,8 @@ seen_as f o c = record { feeds = f; body = o; comment = c }
 abbrev pub way_as : Start → ℕ → (before behind comma : Bool) → Way
 way_as s d j k c = record { start = s; depth = d; joins_before = j; joins_behind = k; comma = c }
 
-depth-by : (d e : ℕ) (ws : List Way) (x : Seen) (xs : List Seen) (c : Bool) → placed false d (without_comma ws) xs ≡ placed false e (without_comma ws) xs
+depth-by : (d e : ℕ) (ws : List Way) (x : Seen) (xs : List Seen) (c : Bool) →
+    placed false d (without_comma ws) xs ≡ placed false e (without_comma ws) xs
     → record { piece = x; way = next_way ws } ∷ (if c then placed false d (without_comma ws) xs
     else placed (is_string x && next_is_string xs) (next_way ws).depth (drop 1 ws) xs)
     ≡ record { piece = x; way = next_way ws } ∷ (if c then placed false e (without_comma ws) xs
@@ -45,7 +43,8 @@ depth-blind d e ws (x ∷ xs) = depth-by d e ws x xs x.comment (depth-blind d e 
 false-true : {A : Type 0} → false ≡ true → A
 false-true h = cc
 
-seen-by : (y c : Bool) (f : Feeds) (o : List ℕ) (rest xs : List Seen) → (y ≡ true → (if c then next_is_string xs else (not c && is_quoted o)) ≡ false)
+seen-by : (y c : Bool) (f : Feeds) (o : List ℕ) (rest xs : List Seen) →
+    (y ≡ true → (if c then next_is_string xs else (not c && is_quoted o)) ≡ false)
     → (c ≡ true → next_is_string rest ≡ next_is_string xs)
     → next_is_string (comma_seen y ++ seen_as f o c ∷ rest) ≡ (if c then next_is_string xs else (not c && is_quoted o))
 seen-by true c f o rest xs h k = sym (h refl)
@@ -63,7 +62,8 @@ apart : (joined : Bool) (d : ℕ) (ws : List Way) (next : Bool) → (joined ≡ 
 apart joined d ws next (inl j) e = false-true (sym (no-comma joined d ws j) ∙ e)
 apart joined d ws next (inr h) e = h
 
-later : (joined c : Bool) (next q : Bool) → c ≡ true → (joined ≡ true) ⊎ ((if c then next else q) ≡ false) → (joined ≡ true) ⊎ (next ≡ false)
+later : (joined c : Bool) (next q : Bool) → c ≡ true → (joined ≡ true) ⊎ ((if c then next else q) ≡ false) →
+    (joined ≡ true) ⊎ (next ≡ false)
 later joined c next q e (inl j) = inl j
 later joined c next q e (inr h) = inr (ap (λ x. if x then next else q) (sym e) ∙ h)
 
@@ -81,7 +81,8 @@ string-seen b joined d ws (x ∷ xs) h =
     seen-by w.comma x.comment (read_again here p).piece.feeds x.body (laid_seen behind (if x.comment then comment else token)) xs
     (apart joined d ws (next_is_string (x ∷ xs)) h)
     (λ e. ap (λ c. next_is_string (laid_seen behind (if c then comment else token))) e
-    ∙ string-seen behind joined d (if joined then ws else without_comma ws) xs (later joined x.comment (next_is_string xs) (is_string x) e h))
+    ∙ string-seen behind joined d (if joined then ws else without_comma ws) xs
+    (later joined x.comment (next_is_string xs) (is_string x) e h))
 
 true-or-false : (x : Bool) → (x ≡ true) ⊎ (x ≡ false)
 true-or-false true = inl refl
@@ -121,7 +122,8 @@ alike-behind b c f o false w a =
 piece-again : (b c : Behind) (p : Placed) (ps qs : List Placed) → p.way.comma ≡ false → IsAlike b c
     → laid (behind_piece c (read_again b p)) qs ≡ laid (behind_piece b p) ps → laid c (read_again b p ∷ qs) ≡ laid b (p ∷ ps)
 piece-again b c p ps qs e a h =
-    ap (λ y. comma_of y ++ (gap_of (behind_added y c) (read_again b p), p.piece.body) ∷ laid (behind_piece (behind_added y c) (read_again b p)) qs) e
+    ap (λ y. comma_of y ++ (gap_of (behind_added y c) (read_again b p), p.piece.body) ∷ laid
+    (behind_piece (behind_added y c) (read_again b p)) qs) e
     ∙ ap (λ g. (g, p.piece.body) ∷ laid (behind_piece c (read_again b p)) qs) (gap-again b c p a)
     ∙ ap (λ l. (gap_of b p, p.piece.body) ∷ l) h
     ∙ ap (λ y. comma_of y ++ (gap_of (behind_added y b) p, p.piece.body) ∷ laid (behind_piece (behind_added y b) p) ps) (sym e)
@@ -131,14 +133,18 @@ opening-or-other true = inl refl
 opening-or-other false = inr refl
 
 -- behind a comment, whose token is still to come, and behind a token
-rest-again : (f : Feeds) (o : List ℕ) (k : Bool) (b c : Behind) (joined : Bool) (d e : ℕ) (w : Way) (us vs : List Way) (xs : List Seen) → AllStay xs
+rest-again : (f : Feeds) (o : List ℕ) (k : Bool) (b c : Behind) (joined : Bool) (d e : ℕ) (w : Way) (us vs : List Way) (xs : List Seen) →
+    AllStay xs
     → IsAlike b c → (joined ≡ false → (next_way us).comma ≡ true → ⊥)
     → laid (behind_piece c (read_again b (placed_as f o k w))) (if k then placed joined d (with_commas us)
-    (laid_seen (behind_piece b (placed_as f o k w)) (if k then placed joined d us xs else placed ((not k && is_quoted o) && next_is_string xs) e vs xs))
+    (laid_seen (behind_piece b (placed_as f o k w))
+    (if k then placed joined d us xs else placed ((not k && is_quoted o) && next_is_string xs) e vs xs))
     else placed ((not k && is_quoted o) && next_is_string (laid_seen (behind_piece b (placed_as f o k w))
     (if k then placed joined d us xs else placed ((not k && is_quoted o) && next_is_string xs) e vs xs))) e (with_commas vs)
-    (laid_seen (behind_piece b (placed_as f o k w)) (if k then placed joined d us xs else placed ((not k && is_quoted o) && next_is_string xs) e vs xs)))
-    ≡ laid (behind_piece b (placed_as f o k w)) (if k then placed joined d us xs else placed ((not k && is_quoted o) && next_is_string xs) e vs xs)
+    (laid_seen (behind_piece b (placed_as f o k w))
+    (if k then placed joined d us xs else placed ((not k && is_quoted o) && next_is_string xs) e vs xs)))
+    ≡ laid (behind_piece b (placed_as f o k w))
+    (if k then placed joined d us xs else placed ((not k && is_quoted o) && next_is_string xs) e vs xs)
 rest-again f o true b c joined d e w us vs xs all a n =
     all behind_comment behind_comment joined d us (alike-same behind_comment) (λ j y. absurd (n j y))
 rest-again f o false b c joined d e w us vs xs all a n =
@@ -151,32 +157,22 @@ rest-again f o false b c joined d e w us vs xs all a n =
 
 -- ---- a comma
 
-comma-fits : (j x y z : Bool) → ((j || true) && not ((x && false) || (y && z && false))) ≡ true
-comma-fits true true true true = refl
-comma-fits true true true false = refl
-comma-fits true true false z = refl
-comma-fits true false true true = refl
-comma-fits true false true false = refl
-comma-fits true false false z = refl
-comma-fits false true true true = refl
-comma-fits false true true false = refl
-comma-fits false true false z = refl
-comma-fits false false true true = refl
-comma-fits false false true false = refl
-comma-fits false false false z = refl
+comma-fits : (j y z : Bool) → ((j || true) && not (false || (y && z && false))) ≡ true
+comma-fits true true true = refl
+comma-fits true true false = refl
+comma-fits true false z = refl
+comma-fits false true true = refl
+comma-fits false true false = refl
+comma-fits false false z = refl
 
 abbrev comma_placed : ℕ → Placed
 comma_placed d = record { piece = seen_as Same (codes ",") false; way = comma_way d }
 
 comma-joins : (c : Behind) (d : ℕ) → (c.before ≡ Opening) ⊎ (c.before ≡ Other) → gap_of c (comma_placed d) ≡ Join
-comma-joins c d (inl e) = ap (before_gap c (comma_way d) Same (codes ",")) e ∙ ap within_line (comma-fits c.joins (bytes_eq c.last (codes "&")) (are_digits c.previous) (bytes_eq c.last (codes ".")))
-comma-joins c d (inr e) = ap (before_gap c (comma_way d) Same (codes ",")) e ∙ ap within_line (comma-fits c.joins (bytes_eq c.last (codes "&")) (are_digits c.previous) (bytes_eq c.last (codes ".")))
-
-quiet-nothing : IsQuiet []
-quiet-nothing = record { ampersand = refl; dot = refl; digits = refl }
-
-quiet-comma : IsQuiet (codes ",")
-quiet-comma = record { ampersand = refl; dot = refl; digits = refl }
+comma-joins c d (inl e) = ap (before_gap c (comma_way d) Same (codes ",")) e ∙ ap within_line
+    (comma-fits c.joins (are_digits c.previous) (bytes_eq c.last (codes ".")))
+comma-joins c d (inr e) = ap (before_gap c (comma_way d) Same (codes ",")) e ∙ ap within_line
+    (comma-fits c.joins (are_digits c.previous) (bytes_eq c.last (codes ".")))
 
 comma-alike : (c : Behind) (d : ℕ) → IsAlike behind_comma (behind_token Join c (comma_way d) (codes ","))
 comma-alike c d = record { before = refl; joins = refl; last = inr (quiet-nothing, quiet-comma) }

@@ -1,11 +1,11 @@
 -- A text of blanks, comments and tokens is read as these.
-use Rattle.std.proofs.Common.{◌≡◌, ℕ, ◌+◌, List, [], ◌∷◌, ◌++◌, inl, inr, Bool, map, length, refl, sym, ap, ◌∙◌, arith, length-append, append_assoc, if◌then◌else◌}
+use Rattle.std.proofs.Common.{◌≡◌, ℕ, ◌+◌, List, [], ◌∷◌, ◌++◌, inl, inr, Bool, map, length, refl, ap, ◌∙◌, arith, length-append, if◌then◌else◌}
 use Rattle.std.proofs.Math.Logic.{⊎_elim}
 use Rattle.std.specs.Prelude.{slice_range}
 use Rattle.hare_tree.specs.declared.token.Token.{Token}
 use Rattle.hare_tree.specs.Tokens.{is_path_mark}
 use Rattle.hare_pieces.specs.Pieces.{ConsistsOf}
-use Rattle.hare_fmt.specs.Read.{Seen, seen_from, feeds_in, trimmed}
+use Rattle.hare_lines.specs.Read.{Seen, seen_from, feeds_in, trimmed}
 use Rattle.hare_again.specs.Reading.{Part, text_of, AreParts, places, read_of, TextsAreRead}
 use Rattle.hare_again.proofs.Sources.{slice-at, piece-text, rest-text}
 
@@ -38,11 +38,14 @@ parts-seen before (x ∷ xs) end =
     let from = length before + length x.blank in
     let to = from + length x.body in
     let blank : slice_range src (length before) from ≡ x.blank = slice-at before x.blank (x.body ++ rest) in
-    let body : slice_range src from to ≡ x.body = piece-text src before x.blank x.body rest (x.blank ++ (x.body ++ rest)) (length before) from to
+    let body : slice_range src from to ≡ x.body =
+    piece-text src before x.blank x.body rest (x.blank ++ (x.body ++ rest)) (length before) from to
     refl refl refl refl refl in
-    let whole : src ≡ (before ++ (x.blank ++ x.body)) ++ rest = rest-text src before x.blank x.body rest (x.blank ++ (x.body ++ rest)) refl refl in
+    let whole : src ≡ (before ++ (x.blank ++ x.body)) ++ rest =
+    rest-text src before x.blank x.body rest (x.blank ++ (x.body ++ rest)) refl refl in
     let at : to ≡ length (before ++ (x.blank ++ x.body)) = both-lengths before x.blank x.body in
-    let here : List ℕ → List ℕ → Seen = λ f o. record { feeds = feeds_in f; body = if x.comment then trimmed o else o; comment = x.comment } in
+    let here : List ℕ → List ℕ → Seen = λ f o.
+    record { feeds = feeds_in f; body = if x.comment then trimmed o else o; comment = x.comment } in
     let behind : seen_from src to (places to xs) ≡ map read_of xs = (λ i. seen_from (whole i) (at i) (places (at i) xs))
     ∙ parts-seen (before ++ (x.blank ++ x.body)) xs end in
     ap (λ f. here f (slice_range src from to) ∷ seen_from src to (places to xs)) blank

@@ -1,5 +1,5 @@
 -- The pieces of a source are as many tokens as its tree has, strings side by side counted once.
-use Rattle.std.proofs.Common.{◌≡◌, ℕ, zero, suc, ◌+◌, ◌-◌, List, [], ◌∷◌, ◌++◌, ◌⊎◌, inl, inr, Bool, true, false, ◌&&◌, Ok, length, take, drop, get_or, refl, sym, ap, ◌∙◌, subst, arith, append_assoc, length-append, if◌then◌else◌}
+use Rattle.std.proofs.Common.{◌≡◌, ℕ, ◌+◌, ◌-◌, List, [], ◌∷◌, ◌++◌, Bool, true, false, ◌&&◌, Ok, length, take, drop, get_or, refl, sym, ap, ◌∙◌, subst, arith, append_assoc, length-append, if◌then◌else◌}
 use Rattle.std.proofs.Math.Logic.{⊎_elim}
 use Rattle.std.specs.Prelude.{◌||◌, ◌==◌, not, slice_range}
 use Rattle.std.specs.Char.{is_ascii_digit}
@@ -19,11 +19,11 @@ use Rattle.hare_tree.specs.Shape.{has_no_suffix}
 use Rattle.hare_tree.specs.Tokens.{IsTokens, end_at, place_at}
 use Rattle.hare_tree.specs.Grammar as grammar
 use Rattle.hare_tree.specs.Grammar.{is_proper_string, string_at, joined_to, joined, begins_with_string, before_end, unplaced, Spells}
-use Rattle.hare_lex.proofs.Firsts.{is_first, is_other, first_of_kind}
+use Rattle.hare_lex.proofs.Firsts.{is_first, first_of_kind}
 use Rattle.hare_lex.proofs.Unique.{only_tokens}
 use Rattle.hare_pieces.specs.declared.piece.Piece.{Piece}
 use Rattle.hare_pieces.specs.Pieces.{ConsistsOf, ArePieces}
-use Rattle.hare_fmt.specs.Read.{Seen, seen, seen_from, seen_piece, body_of, trimmed, is_quoted, comments_before}
+use Rattle.hare_lines.specs.Read.{Seen, seen, seen_from, seen_piece, body_of, trimmed, is_quoted, comments_before}
 
 -- ---- strings
 
@@ -62,7 +62,7 @@ quoted-by Mark text n x w h f =
     other-is-no-quote (is_letter c) (is_ascii_digit c) (c == 34) (c == 96) (c == 39) (c == 64) f
 quoted-by End text n x w h f = absurd h
 
-string-is-proper : (t : Token) (s : List ℕ) → IsSpelling t s → is_quoted s ≡ is_proper_string t
+pub string-is-proper : (t : Token) (s : List ℕ) → IsSpelling t s → is_quoted s ≡ is_proper_string t
 string-is-proper t s h =
     quoted-by t.kind t.text t.number t.suffix s h (first_of_kind t.kind t.text t.number t.suffix s h).1
 
@@ -82,7 +82,7 @@ joined-to-first : (t : Token) (us : List Token) → begins_with_string (joined_t
 joined-to-first t [] = refl
 joined-to-first t (u ∷ us) = joined-first (is_proper_string t) (is_proper_string u) t u us refl
 
-joined-begins : (ts : List Token) → begins_with_string (joined ts) ≡ begins_with_string ts
+pub joined-begins : (ts : List Token) → begins_with_string (joined ts) ≡ begins_with_string ts
 joined-begins [] = refl
 joined-begins (t ∷ ts) = joined-to-first t (joined ts)
 
@@ -134,7 +134,7 @@ pub rest-text : (src before blank s rest text : List ℕ) → src ≡ before ++ 
 rest-text src before blank s rest text e g =
     e ∙ ap (λ l. before ++ l) (g ∙ sym (append_assoc blank s rest)) ∙ sym (append_assoc before (blank ++ s) rest)
 
-rest-at : (before blank s : List ℕ) (at from to : ℕ) → at ≡ length before → from ≡ at + length blank → to ≡ from + length s
+pub rest-at : (before blank s : List ℕ) (at from to : ℕ) → at ≡ length before → from ≡ at + length blank → to ≡ from + length s
     → to ≡ length (before ++ (blank ++ s))
 rest-at before blank s at from to f h k = omega (arith, f, h, k, length-append before (blank ++ s), length-append blank s)
 
@@ -153,7 +153,7 @@ token-counted : (n : ℕ) (s : Bool) (x : Seen) (xs : List Seen) → x.comment �
     ≡ (if s && is_quoted x.body then comments_before n true xs else n ∷ comments_before n (is_quoted x.body) xs)
 token-counted n s x xs h = rw h refl
 
-end-begins : (ts : List Token) (p : Place) → begins_with_string (ts ++ end_at p ∷ []) ≡ begins_with_string ts
+pub end-begins : (ts : List Token) (p : Place) → begins_with_string (ts ++ end_at p ∷ []) ≡ begins_with_string ts
 end-begins [] p = refl
 end-begins (t ∷ ts) p = refl
 
@@ -203,7 +203,7 @@ pieces-counted src before text at b ts (x ∷ ps) n s p e f c =
 
 -- ---- sources
 
-before-end : (ts : List Token) (p : Place) → before_end (ts ++ end_at p ∷ []) ≡ ts
+pub before-end : (ts : List Token) (p : Place) → before_end (ts ++ end_at p ∷ []) ≡ ts
 before-end [] p = refl
 before-end (t ∷ []) p = refl
 before-end (t ∷ u ∷ ts) p = ap (λ l. t ∷ l) (before-end (u ∷ ts) p)
@@ -220,7 +220,8 @@ sources-count src ts tree ps are spelled cut =
     let before : before_end cut.tokens ≡ parts = ap before_end cut.are.tokens_are ∙ before-end parts p in
     let count = pieces-counted src [] src 0 false parts ps 0 false p refl refl
     (subst (λ l. ConsistsOf 0 false src l ps) before cut.consists) in
-    let tokens : length (joined (parts ++ end_at p ∷ [])) ≡ length (joined ts) = ap (λ l. length (joined l)) (sym (same ∙ cut.are.tokens_are)) in
+    let tokens : length (joined (parts ++ end_at p ∷ [])) ≡ length (joined ts) =
+    ap (λ l. length (joined l)) (sym (same ∙ cut.are.tokens_are)) in
     let tree_is : length (joined ts) ≡ length (spell_file tree) = sym (length-map (joined ts) unplaced) ∙ ap length (sym spelled)
     ∙ length-map (spell_file tree) unplaced in
     zero-more (length (comments_before 0 false (seen src ps))) ∙ count ∙ tokens ∙ tree_is

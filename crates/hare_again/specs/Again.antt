@@ -6,13 +6,13 @@ use Rattle.hare_tree.specs.Spell.{spell_file}
 use Rattle.hare_tree.specs.Depth.{fits_file}
 use Rattle.hare_ways.specs.declared.way.Way.{Way}
 use Rattle.hare_ways.specs.Ways.{file_ways}
-use Rattle.hare_commas.specs.Commas.{with_commas, file_without}
+use Rattle.hare_commas.specs.Commas.{with_commas, tokens_with, file_without}
 use Rattle.hare_pieces.specs.Pieces.{are_blank}
-use Rattle.hare_fmt.specs.declared.way.Feeds.TheVariants.{Same}
-use Rattle.hare_fmt.specs.declared.way.Gap.{Gap}
-use Rattle.hare_fmt.specs.Read.{Seen, seen, feeds_in, trimmed, comments_before}
-use Rattle.hare_fmt.specs.Gaps.{Behind, Placed, at_start, placed, next_way, laid, behind_added, behind_piece}
-use Rattle.hare_fmt.specs.Layout.{IsLaidOut, layout, gap_bytes, read_back, read_again}
+use Rattle.hare_lines.specs.declared.way.Feeds.TheVariants.{Same}
+use Rattle.hare_lines.specs.declared.way.Gap.{Gap}
+use Rattle.hare_lines.specs.Read.{Seen, seen, feeds_in, trimmed, comments_before}
+use Rattle.hare_lines.specs.Gaps.{Behind, Placed, at_start, placed, next_way, laid, behind_added, behind_piece}
+use Rattle.hare_lines.specs.Layout.{IsLaidOut, layout, gap_bytes, read_back, read_again}
 
 -- ---- pieces
 
@@ -45,11 +45,12 @@ PiecesStay =
 abbrev pub layout_seen : FileTree → List Seen → List Seen
 layout_seen tree xs = written_seen (file_ways (comments_before 0 false xs) tree) xs
 
--- A file that is read of the layout of a file: its tree is the same but for commas behind last items, in the language where that is, and it
--- is laid out as before.
+-- A file that is read of the layout of a file: its tree is the same but for commas behind last items, in the language where that is; it has
+-- the same tokens, with the commas that were added among them, and is laid out as before.
 pub record Stays (tree : FileTree) (xs : List Seen) : Type 0 where
   pub again : FileTree
   pub same : file_without again ≡ file_without tree
+  pub spelled : spell_file again ≡ tokens_with (file_ways (comments_before 0 false xs) tree) (spell_file tree)
   pub fits : fits_file tree ≡ true → fits_file again ≡ true
   pub stays : layout again (layout_seen tree xs) ≡ layout tree xs
 
@@ -63,6 +64,7 @@ LayoutsStay =
 pub record StaysLaidOut (src text : List ℕ) (l : IsLaidOut src text) : Type 0 where
   pub again : FileTree
   pub same : file_without again ≡ file_without l.tree
+  pub spelled : spell_file again ≡ tokens_with (file_ways (comments_before 0 false (seen src l.pieces)) l.tree) (spell_file l.tree)
   pub fits : fits_file again ≡ true
   pub stays : layout again (layout_seen l.tree (seen src l.pieces)) ≡ text
 

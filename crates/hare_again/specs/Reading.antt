@@ -1,12 +1,10 @@
 -- Texts made of blanks, comments and tokens, and what is read of them.
-use Rattle.std.specs.Prelude.{◌≡◌, ℕ, ◌+◌, List, [], ◌∷◌, ◌++◌, ◌⊎◌, Bool, true, false, codes, map, length, if◌then◌else◌}
+use Rattle.std.specs.Prelude.{◌≡◌, ℕ, ◌+◌, List, [], ◌∷◌, ◌++◌, ◌⊎◌, Bool, true, false, map, length, if◌then◌else◌}
 use Rattle.hare_tree.specs.declared.token.Token.{Token}
 use Rattle.hare_tree.specs.Tokens.{IsComment, Stands, is_path_mark, no_gap}
 use Rattle.hare_pieces.specs.declared.piece.Piece.{Piece}
 use Rattle.hare_pieces.specs.Pieces.{are_blank, ConsistsOf}
-use Rattle.hare_fmt.specs.Read.{Seen, seen_from, feeds_in, trimmed}
-use Rattle.hare_fmt.specs.Gaps.{Behind, Placed, gap_of, behind_added, behind_piece}
-use Rattle.hare_fmt.specs.Layout.{gap_bytes}
+use Rattle.hare_lines.specs.Read.{Seen, seen_from, feeds_in, trimmed}
 
 -- ---- texts
 

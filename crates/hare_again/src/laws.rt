@@ -2,6 +2,7 @@
 
 ghost use Rattle.hare_again.specs.Again.{PiecesStay, CommentsStay, LayoutsStay, SourcesStay, GapsAreRead};
 ghost use Rattle.hare_again.specs.Reading.{TextsAreRead};
+ghost use Rattle.hare_again.specs.Laid.{LayoutsHaveParts, LayoutsAreLaidOut};
 
 /// Pieces that are read of a layout are laid out as before, with the commas that were added among them.
 pub fn law_pieces_stay()
@@ -28,4 +29,16 @@ pub fn law_gaps_are_read()
 /// are read as they are.
 pub fn law_texts_are_read()
     ensures { TextsAreRead }
+{}
+
+/// A layout consists of blanks, comments and tokens, each of which stands in front of all that is behind it, and they are read as the pieces of
+/// the layout.
+pub fn law_layouts_have_parts()
+    ensures { LayoutsHaveParts }
+{}
+
+/// A layout is the layout of itself. Its tokens are those of its source, with the commas behind last items of lists left out on both sides, and
+/// its comments are those of the source, in order, without the blanks and the CR at their ends.
+pub fn law_layouts_are_laid_out()
+    ensures { LayoutsAreLaidOut }
 {}

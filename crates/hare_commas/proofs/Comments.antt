@@ -155,7 +155,8 @@ own-lines-same cs ds h b n m ts kids x f c t =
     let arrow = f si.Arrow form.arrow in
     let first : slice_index cs n ≡ slice_index ds m = ap (slice_index cs) (sym (form.first h n (spells 0 ts)))
     ∙ sign-same cs ds h b (form_of h.kind) n m ts kids si.Case x begin ∙ ap (slice_index ds) (form.first h m (spells 0 kids)) in
-    let one : is_one (items_of (nodes_from 1 ts)) ≡ true = ap is_one (sym (items-from ts)) ∙ ap is_one (sym (form.items (items_of ts))) ∙ e in
+    let one : is_one (items_of (nodes_from 1 ts)) ≡ true =
+    ap is_one (sym (items-from ts)) ∙ ap is_one (sym (form.items (items_of ts))) ∙ e in
     let behind : arrow.behind ≡ pieces_walk cs h b arrow.inside_behind (pi.EachFollowed so.Statement si.Semicolon ∷ []) arrow.number
     (nodes_from 1 ts) = arrow.behind_is
     ∙ ap (λ ps. pieces_walk cs h b arrow.inside_behind ps arrow.number (nodes_at si.Arrow h.text (form_of h.kind) ts)) form.behind

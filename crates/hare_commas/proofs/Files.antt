@@ -10,14 +10,17 @@ use Rattle.hare_tree.specs.declared.form.Lead.TheVariants as le
 use Rattle.hare_tree.specs.Node.{Node, Nodes, branch, none, more, nodes_of}
 use Rattle.hare_tree.specs.Shape.{is_shaped}
 use Rattle.hare_tree.specs.Depth.{is_shallow}
-use Rattle.hare_tree.specs.Spell.{spell_all}
+use Rattle.hare_tree.specs.declared.tree.FileTree.{FileTree}
+use Rattle.hare_tree.specs.declared.token.TokenKind.TheVariants as tk
+use Rattle.hare_tree.specs.Spell.{word_token, all_led, spells, spell_all, spell_file}
 use Rattle.hare_ways.specs.declared.way.Start.TheVariants.{Begins}
 use Rattle.hare_ways.specs.declared.way.Way.{Way}
 use Rattle.hare_ways.specs.Ways.{end_way, roots_ways, file_ways}
 use Rattle.hare_ways.specs.Walk.{row_ways}
 use Rattle.hare_ways.proofs.Walked.{roots-walk}
-use Rattle.hare_commas.specs.Commas.{with_commas, AreSpread, without_comma, head_without, without_commas, kids_without, CommasStandInTrees}
+use Rattle.hare_commas.specs.Commas.{with_commas, tokens_with, AreSpread, without_comma, head_without, without_commas, kids_without, CommasStandInTrees}
 use Rattle.hare_commas.proofs.Spread.{spread-left, spread-next, with_commas-append}
+use Rattle.hare_commas.proofs.Tokens.{with-append}
 use Rattle.hare_commas.proofs.Kin.{Adds, Kin, IsNothing, comma_for}
 use Rattle.hare_commas.proofs.Kids.{row-again}
 use Rattle.hare_commas.proofs.Parts.{row_length}
@@ -83,7 +86,8 @@ regular-roots s (t ∷ ts) e =
     let a = and_parts _ _ e in
     (shaped-regular s t a.0, regular-roots s ts a.1)
 
-roots-keep : (p : Node → Bool) → ((t u : Node) → Adds t u → p t ≡ true → p u ≡ true) → (ts : List Node) (us : Nodes) → Kin false (nodes_of ts) us
+roots-keep : (p : Node → Bool) → ((t u : Node) → Adds t u → p t ≡ true → p u ≡ true) → (ts : List Node) (us : Nodes) →
+    Kin false (nodes_of ts) us
     → list_all p ts ≡ true → list_all p (list_of us) ≡ true
 roots-keep p f [] none k e = refl
 roots-keep p f [] (more u us) k e = absurd k
@@ -104,6 +108,7 @@ record RootsAgain (cs ds : List ℕ) (n m : ℕ) (ts : List Node) : Type 0 where
   shaped : (s : Sort) → list_all (is_shaped s) ts ≡ true → list_all (is_shaped s) again ≡ true
   shallow : list_all is_shallow ts ≡ true → list_all is_shallow again ≡ true
   ways_are : roots_ways ds m again ≡ with_commas (roots cs n (nodes_of ts))
+  spelled : spell_all 0 again ≡ tokens_with (roots cs n (nodes_of ts)) (spell_all 0 ts)
 
 roots-again : (cs ds : List ℕ) (n m : ℕ) (ts : List Node) (s : Sort) → list_all (is_shaped s) ts ≡ true
     → AreSpread (roots cs n (nodes_of ts)) (drop n cs) (drop m ds) → RootsAgain cs ds n m ts
@@ -116,6 +121,8 @@ roots-again cs ds n m ts s e x =
       shallow = roots-keep is_shallow (λ t u k. deep-kept t u k 0 0 0 false) ts a.kids a.kin;
       ways_are = roots-walk ds m (list_of a.kids) ∙ ap (roots ds m) (nodes-list a.kids) ∙ a.ways_are
           ∙ append-nil (with_commas (roots cs n (nodes_of ts)));
+      spelled = ap (λ us. all_led 0 le.Nothing (spells 0 us)) (nodes-list a.kids) ∙ a.spelled
+          ∙ append-nil (tokens_with (roots cs n (nodes_of ts)) (spell_all 0 ts));
     }
 
 -- how many tokens trees have
@@ -124,6 +131,20 @@ roots-length cs n ts = sym (row_length cs ki.None Begins le.Nothing n (nodes_of 
 
 again-length : (ds : List ℕ) (m : ℕ) (ts : List Node) (ws : List Way) → roots_ways ds m ts ≡ ws → length (spell_all 0 ts) ≡ length ws
 again-length ds m ts ws e = roots-length ds m ts ∙ ap length (sym (roots-walk ds m ts)) ∙ ap length e
+
+file-spelled : (t : FileTree) (uses decls : List Node) (u v : List Way) → t.file ≡ 0 → spell_all 0 uses ≡ tokens_with u (spell_all 0 t.uses)
+    → spell_all 0 decls ≡ tokens_with v (spell_all 0 t.decls) → length u ≡ length (spell_all 0 t.uses)
+    → length v ≡ length (spell_all 0 t.decls)
+    → spell_file (record { file = t.file; uses = uses; decls = decls }) ≡ tokens_with (u ++ (v ++ end_way ∷ [])) (spell_file t)
+file-spelled t uses decls u v e a b l k =
+    let end = word_token 0 tk.End [] ∷ [] in
+    let one = spell_all 0 t.uses in
+    let two = spell_all 0 t.decls in
+    ap (λ f. spell_file (record { file = f; uses = uses; decls = decls })) e
+    ∙ (λ i. a i ++ (b i ++ end))
+    ∙ ap (λ x. tokens_with u one ++ x) (sym (with-append v (end_way ∷ []) two end k))
+    ∙ sym (with-append u (v ++ end_way ∷ []) one (two ++ end) l)
+    ∙ ap (λ f. tokens_with (u ++ (v ++ end_way ∷ [])) (spell_file (record { file = f; uses = t.uses; decls = t.decls }))) (sym e)
 
 zero-plus : (a : ℕ) → 0 + a ≡ a
 zero-plus a = omega arith
@@ -159,4 +180,6 @@ commas-stand-in-trees cs ds t shaped x =
           ∙ ap (λ ws. with_commas uses ++ (ws ++ end_way ∷ [])) b.ways_are
           ∙ ap (λ ws. with_commas uses ++ ws) (sym (with_commas-append decls (end_way ∷ [])))
           ∙ sym (with_commas-append uses (decls ++ end_way ∷ [])) ∙ ap with_commas (sym walk);
+      spelled = λ e. file-spelled t a.again b.again uses decls e a.spelled b.spelled (sym (roots-length cs 0 t.uses))
+          (sym (roots-length cs n t.decls)) ∙ ap (λ ws. tokens_with ws (spell_file t)) (sym walk);
     }

@@ -179,5 +179,7 @@ kids-kept n (pi.List s ∷ ps) (more t none) (more u (more v vs)) (inl k) e = ab
 kids-kept n (pi.List s ∷ ps) (more t (more x ts)) (more u none) (inl k) e = absurd k.1
 kids-kept n (pi.List s ∷ ps) (more t (more x ts)) (more u (more v us)) (inl k) e =
     let a = and_parts _ _ e in both _ _ (k.0.shaped s a.0) (kids-kept n (pi.More s ∷ ps) (more x ts) (more v us) k.1 a.1)
-kids-kept n (pi.Elements s ∷ ps) (more t ts) (more u us) (inl k) e = elements-kept n s ps t u ts us k.0 k.1 e (kids-kept n (pi.MoreElements s ∷ ps) ts us k.1)
-kids-kept n (pi.MoreElements s ∷ ps) (more t ts) (more u us) (inl k) e = elements-more n s ps t u ts us k.0 k.1 e (kids-kept n (pi.MoreElements s ∷ ps) ts us k.1)
+kids-kept n (pi.Elements s ∷ ps) (more t ts) (more u us) (inl k) e =
+    elements-kept n s ps t u ts us k.0 k.1 e (kids-kept n (pi.MoreElements s ∷ ps) ts us k.1)
+kids-kept n (pi.MoreElements s ∷ ps) (more t ts) (more u us) (inl k) e =
+    elements-more n s ps t u ts us k.0 k.1 e (kids-kept n (pi.MoreElements s ∷ ps) ts us k.1)

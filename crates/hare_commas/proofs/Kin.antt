@@ -31,7 +31,8 @@ abbrev mutual
   pub Adds : Node → Node → Type 0
   Adds (branch h ts) (branch k us) =
       (h ≡ k) × (Kin false ts us
-      ⊎ ((is_list h.kind ≡ true) × (wants_comma false (kids_behind (opening h.kind) (form_of h.kind) (items_of ts)) ≡ true) × Kin true ts us))
+      ⊎ ((is_list h.kind ≡ true) × (wants_comma false (kids_behind (opening h.kind) (form_of h.kind) (items_of ts)) ≡ true) ×
+      Kin true ts us))
 
   -- the same of the kids of a form, where a comma is added behind the last of them or not
   pub Kin : Bool → Nodes → Nodes → Type 0
@@ -155,7 +156,8 @@ pub behind-ended : (s : Sign) (ps : List Piece) (ts us : List Item) → Ended ts
 behind-ended s [] ts us h = inl h
 behind-ended s (p ∷ ps) ts us h =
     if-ended (is_fixed s p) ts us (kids_behind s ps (left_behind p ts)) (kids_behind s ps (left_behind p us)) h
-    (behind-left s ps (left_behind p ts) (left_behind p us) (behind-ended s ps (left_behind p ts) (left_behind p us)) (left-ended p ts us h))
+    (behind-left s ps (left_behind p ts) (left_behind p us) (behind-ended s ps (left_behind p ts) (left_behind p us))
+    (left-ended p ts us h))
 
 pub ended-comma : (ts us : List Item) → Ended ts us → ends_in_comma us ≡ true
 ended-comma [] [] h = absurd h

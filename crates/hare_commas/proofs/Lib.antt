@@ -1,5 +1,6 @@
 pub mod Spread
 pub mod Flags
+pub mod Tokens
 pub mod Plain
 pub mod Kin
 pub mod Kids
@@ -8,6 +9,7 @@ pub mod Pieces
 pub mod ListForms
 pub mod Comments
 pub mod Trees
+pub mod Marks
 pub mod Regular
 pub mod Files
 pub mod Keeps

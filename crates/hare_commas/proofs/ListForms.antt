@@ -142,7 +142,12 @@ wants-one (more t ts) e =
 -- behind two
 wants-two : (ts : Nodes) → wants_comma false (items_of ts) ≡ true → Wants false (nodes_from 1 (nodes_from 1 ts))
 wants-two none e = false-true e
-wants-two (more t none) e = record { before = wants_behind (head t).kind false (stops si.Comma t); none_before = λ x. false-true x; wants = e }
+wants-two (more t none) e = record {
+  before = wants_behind (head t).kind false (stops si.Comma t);
+  none_before = λ x. false-true x;
+  wants =
+      e;
+}
 wants-two (more t (more u ts)) e = record {
   before = wants_behind (head u).kind (wants_behind (head t).kind false (stops si.Comma t)) (stops si.Comma u);
   none_before = λ x. false-true x;

@@ -21,8 +21,9 @@ use Rattle.hare_ways.specs.Ways.{plain, sign_way, path_ways, label_ways, own_way
 use Rattle.hare_ways.specs.Parts.{part_tokens, nodes_behind}
 use Rattle.hare_ways.specs.Walk.{kid_ways, first_ways, row_ways, listed_walk, part_ways}
 use Rattle.hare_ways.proofs.Counted.{path_length, kid_length}
-use Rattle.hare_commas.specs.Commas.{settled, comma_ways, with_commas}
+use Rattle.hare_commas.specs.Commas.{settled, comma_ways, with_commas, tokens_with}
 use Rattle.hare_commas.specs.Commas.{AreSpread}
+use Rattle.hare_commas.proofs.Tokens.{with-sign, with-own}
 use Rattle.hare_commas.proofs.Kin.{Kin}
 use Rattle.hare_commas.proofs.Kids.{AreAgain, kid-again, row-again, listed-again}
 
@@ -70,7 +71,8 @@ row_length cs k s l n (more t ts) =
       length-append (with_lead 0 l (spelled_kid 0 t)) (all_led 0 l (spells 0 ts)),
     )
 
-listed_length : (cs : List ℕ) (k : Kind) (s : Start) (n : ℕ) (ts : Nodes) → length (listed_walk cs k s n ts) ≡ length (listed 0 (spells 0 ts))
+listed_length : (cs : List ℕ) (k : Kind) (s : Start) (n : ℕ) (ts : Nodes) →
+    length (listed_walk cs k s n ts) ≡ length (listed 0 (spells 0 ts))
 unfolding spells
 listed_length cs k s n none = refl
 listed_length cs k s n (more t ts) =
@@ -129,7 +131,8 @@ closing-settled b c false e = rw e refl
 pub fixed-settled : (b : Breaks) (inside : Bool) (c : Sign) → settled (fixed_way b inside c) ≡ fixed_way (quiet b) inside c
 fixed-settled b inside c = by (inside && is_sign c (closing b.kind))
   where
-    by : (x : Bool) → settled (if x then closing_way b c else sign_way b.kind c) ≡ (if x then closing_way (quiet b) c else sign_way b.kind c)
+    by : (x : Bool) → settled (if x then closing_way b c else sign_way b.kind c) ≡
+        (if x then closing_way (quiet b) c else sign_way b.kind c)
     by true = closing-settled b c b.brackets refl
     by false = refl
 
@@ -166,6 +169,7 @@ pub record PartAgain (cs ds : List ℕ) (h : Head) (b : Breaks) (inside : Bool) 
     pub behind : nodes_behind q kids ≡ tail
     pub kin : (e : Bool) → Kin e (nodes_behind q ts) tail → Kin e ts kids
     pub ways_are : part_ways ds h (quiet b) inside s q m kids ≡ with_commas (part_ways cs h b inside s q n ts)
+    pub spelled : part_tokens h q (spells 0 kids) ≡ tokens_with (part_ways cs h b inside s q n ts) (part_tokens h q (spells 0 ts))
     pub no_kids : ts ≡ none → kids ≡ none
 
 more-none : {A : Type 0} (t : Node) (ts : Nodes) → more t ts ≡ none → A
@@ -182,12 +186,27 @@ no-row e (more t ts) kids k p = more-none t ts p
 pub part-again : (cs ds : List ℕ) (h : Head) (b : Breaks) (inside : Bool) (s : Start) (q : Part) (n m : ℕ) (ts tail : Nodes)
     → IsCalm b inside q → AreAgain cs ds ts → (nodes_behind q ts ≡ none → tail ≡ none)
     → AreSpread (part_ways cs h b inside s q n ts) (drop n cs) (drop m ds) → PartAgain cs ds h b inside s q n m ts tail
+unfolding spells
 part-again cs ds h b inside s (pa.Sign c) n m ts tail calm f g x =
-    record { kids = tail; behind = refl; kin = λ e k. k; ways_are = fixed-again b inside c calm; no_kids = g }
+    record {
+      kids = tail;
+      behind = refl;
+      kin = λ e k. k;
+      ways_are = fixed-again b inside c calm;
+      spelled = with-sign (fixed_way b inside c) c (fixed-calm b inside c calm);
+      no_kids = g;
+    }
 part-again cs ds h b inside s (pa.Own o) n m ts tail calm f g x =
-    record { kids = tail; behind = refl; kin = λ e k. k; ways_are = own-settled h o; no_kids = g }
+    record { kids = tail; behind = refl; kin = λ e k. k; ways_are = own-settled h o; spelled = with-own h o; no_kids = g }
 part-again cs ds h b inside s (pa.One l) n m none tail calm f g x =
-    record { kids = none; behind = sym (g refl); kin = λ e k. subst (λ us. Kin e none us) (g refl) k; ways_are = refl; no_kids = λ e. refl }
+    record {
+      kids = none;
+      behind = sym (g refl);
+      kin = λ e k. subst (λ us. Kin e none us) (g refl) k;
+      ways_are = refl;
+      spelled = refl;
+      no_kids = λ e. refl;
+    }
 part-again cs ds h b inside s (pa.One l) n m (more t ts) tail calm f g x =
     let a = kid-again cs ds h.kind s l n m t f.0 x in
     record {
@@ -195,6 +214,8 @@ part-again cs ds h b inside s (pa.One l) n m (more t ts) tail calm f g x =
       behind = refl;
       kin = λ e k. inl (a.item, a.adds, k);
       ways_are = a.ways_are;
+      spelled = append-nil (with_lead 0 l (spelled_kid 0 a.tree)) ∙ a.spelled
+          ∙ ap (tokens_with (kid_ways cs h.kind s l n t)) (sym (append-nil (with_lead 0 l (spelled_kid 0 t))));
       no_kids = λ e. more-none t ts e;
     }
 part-again cs ds h b inside s (pa.All l) n m ts tail calm f g x =
@@ -204,6 +225,7 @@ part-again cs ds h b inside s (pa.All l) n m ts tail calm f g x =
       behind = sym (g refl);
       kin = λ e k. all-kin e tail ts a.kids (g refl) a.kin k;
       ways_are = a.ways_are ∙ append-nil (with_commas (row_ways cs h.kind s l n ts));
+      spelled = a.spelled ∙ append-nil (tokens_with (row_ways cs h.kind s l n ts) (all_led 0 l (spells 0 ts)));
       no_kids = no-row false ts a.kids a.kin;
     }
 part-again cs ds h b inside s pa.Listed n m ts tail calm f g x =
@@ -213,5 +235,6 @@ part-again cs ds h b inside s pa.Listed n m ts tail calm f g x =
       behind = sym (g refl);
       kin = λ e k. all-kin e tail ts a.kids (g refl) a.kin k;
       ways_are = a.ways_are ∙ append-nil (with_commas (listed_walk cs h.kind s n ts));
+      spelled = a.spelled ∙ append-nil (tokens_with (listed_walk cs h.kind s n ts) (listed 0 (spells 0 ts)));
       no_kids = no-row false ts a.kids a.kin;
     }

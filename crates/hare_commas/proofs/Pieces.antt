@@ -5,7 +5,7 @@ use Rattle.hare_tree.specs.declared.form.Sign.{Sign}
 use Rattle.hare_tree.specs.declared.form.Piece.{Piece}
 use Rattle.hare_tree.specs.declared.form.Piece.TheVariants as pi
 use Rattle.hare_tree.specs.Node.{Head, Nodes, none, more}
-use Rattle.hare_tree.specs.Spell.{spells, piece_tokens, left_behind}
+use Rattle.hare_tree.specs.Spell.{spells, piece_tokens, pieces_tokens, left_behind}
 use Rattle.hare_ways.specs.declared.way.Start.{Start}
 use Rattle.hare_ways.specs.declared.way.Way.{Way}
 use Rattle.hare_ways.specs.declared.breaks.Breaks.{Breaks}
@@ -13,14 +13,15 @@ use Rattle.hare_ways.specs.declared.part.Part.{Part}
 use Rattle.hare_ways.specs.declared.part.Part.TheVariants as pa
 use Rattle.hare_ways.specs.Breaks.{is_fixed, sign_at}
 use Rattle.hare_ways.specs.Ways.{deeper, fixed_way, within_brackets}
-use Rattle.hare_ways.specs.Parts.{part_of, nodes_behind}
+use Rattle.hare_ways.specs.Parts.{part_of, part_tokens, nodes_behind}
 use Rattle.hare_ways.specs.Walk.{start_of, part_ways, inside_behind_part, pieces_walk}
 use Rattle.hare_ways.proofs.Counted.{within_if}
 use Rattle.hare_ways.proofs.PartLemmas.{tokens-part, spells-behind}
-use Rattle.hare_commas.specs.Commas.{with_commas}
+use Rattle.hare_commas.specs.Commas.{with_commas, tokens_with}
 use Rattle.hare_commas.proofs.Spread.{add-zero, spread-left, spread-next, with_commas-append}
 use Rattle.hare_commas.specs.Commas.{AreSpread}
 use Rattle.hare_commas.proofs.Flags.{with_commas-within, spread-within}
+use Rattle.hare_commas.proofs.Tokens.{with-append, with-within}
 use Rattle.hare_commas.proofs.Kin.{Kin}
 use Rattle.hare_commas.proofs.Kids.{AreAgain}
 use Rattle.hare_commas.proofs.Parts.{quiet, part-length, part_closes, IsCalm, fixed-calm, part-again}
@@ -194,7 +195,8 @@ sign-first cs h b inside p ps n m ts kids s calm e =
       calm = within-calm x w still;
       at = ap (λ y. if y then n else sign_at s h ps (n + length (piece_tokens 0 h p (spells 0 ts))) (left_behind p (spells 0 ts))) e
           ∙ add-zero n;
-      again_at = ap (λ y. if y then m else sign_at s h ps (m + length (piece_tokens 0 h p (spells 0 kids))) (left_behind p (spells 0 kids))) e
+      again_at = ap (λ y. if y then m else sign_at s h ps (m + length (piece_tokens 0 h p (spells 0 kids))) (left_behind p (spells 0 kids)))
+          e
           ∙ add-zero m;
       inside_behind = inside_behind_part b inside (part_of p h.text);
       number = n + length (here_ways cs h b inside p n ts);
@@ -221,7 +223,8 @@ sign-past s h p ps n k ts us e l u =
 add-more : (n a b c d : ℕ) → a ≡ b → d ≡ b + c → n + a + c ≡ n + d
 add-more n a b c d e f = omega (arith, e, f)
 
-sign-later : (cs ds : List ℕ) (h : Head) (b : Breaks) (inside : Bool) (p : Piece) (ps : List Piece) (n m : ℕ) (ts kids rest : Nodes) (s : Sign)
+sign-later : (cs ds : List ℕ) (h : Head) (b : Breaks) (inside : Bool) (p : Piece) (ps : List Piece) (n m : ℕ) (ts kids rest : Nodes)
+    (s : Sign)
     → is_fixed s p ≡ false → nodes_behind (part_of p h.text) kids ≡ rest
     → length (piece_tokens 0 h p (spells 0 kids)) ≡ length (with_commas (here_ways cs h b inside p n ts))
     → SignAgain cs h b (inside_behind_part b inside (part_of p h.text)) ps (n + length (here_ways cs h b inside p n ts))
@@ -236,11 +239,13 @@ sign-later cs ds h b inside p ps n m ts kids rest s e k l a =
       behind = a.behind;
       walk = ap (λ x. v ++ x) a.walk ∙ sym (append_assoc v a.before (a.way ∷ a.behind));
       calm = a.calm;
-      at = sign-past s h p ps n (length u) ts (nodes_behind (part_of p h.text) ts) e (piece-length cs h b inside (start_of b inside p) p n ts) refl
+      at = sign-past s h p ps n (length u) ts (nodes_behind (part_of p h.text) ts) e
+          (piece-length cs h b inside (start_of b inside p) p n ts) refl
           ∙ a.at ∙ add-more n (length u) (length v) (length a.before) (length (v ++ a.before)) (sym (within-length b inside u))
           (length-append v a.before);
       again_at = sign-past s h p ps m (length (with_commas u)) kids rest e l k ∙ a.again_at
-          ∙ add-more m (length (with_commas u)) (length (with_commas v)) (length (with_commas a.before)) (length (with_commas (v ++ a.before)))
+          ∙ add-more m (length (with_commas u)) (length (with_commas v)) (length (with_commas a.before))
+          (length (with_commas (v ++ a.before)))
           (sym (within-commas b inside u))
           (ap length (with_commas-append v a.before) ∙ length-append (with_commas v) (with_commas a.before));
       inside_behind = a.inside_behind;
@@ -256,6 +261,7 @@ pub record PiecesAgain (cs ds : List ℕ) (h : Head) (b : Breaks) (inside : Bool
   pub behind : nodes_after ps h.text kids ≡ tail
   pub kin : (e : Bool) → Kin e (nodes_after ps h.text ts) tail → Kin e ts kids
   pub ways_are : pieces_walk ds h (quiet b) inside ps m kids ≡ with_commas (pieces_walk cs h b inside ps n ts)
+  pub spelled : pieces_tokens 0 h ps (spells 0 kids) ≡ tokens_with (pieces_walk cs h b inside ps n ts) (pieces_tokens 0 h ps (spells 0 ts))
   pub no_kids : ts ≡ none → kids ≡ none
   pub signs : (s : Sign) → has_sign s ps ≡ true → SignAgain cs h b inside ps n m ts kids s
 
@@ -270,7 +276,8 @@ areagain-behind cs ds pa.Listed ts f = tt
 walk-again : (cs ds : List ℕ) (h : Head) (b : Breaks) (inside : Bool) (p : Piece) (ps : List Piece) (n m : ℕ) (ts kids rest : Nodes)
     → part_ways ds h (quiet b) inside (start_of b inside p) (part_of p h.text) m kids ≡ with_commas (here_ways cs h b inside p n ts)
     → nodes_behind (part_of p h.text) kids ≡ rest
-    → pieces_walk ds h (quiet b) (inside_behind_part b inside (part_of p h.text)) ps (m + length (with_commas (here_ways cs h b inside p n ts)))
+    → pieces_walk ds h (quiet b) (inside_behind_part b inside (part_of p h.text)) ps
+    (m + length (with_commas (here_ways cs h b inside p n ts)))
     rest ≡ with_commas (rest_walk cs h b inside p ps n ts)
     → pieces_walk ds h (quiet b) inside (p ∷ ps) m kids ≡ with_commas (pieces_walk cs h b inside (p ∷ ps) n ts)
 walk-again cs ds h b inside p ps n m ts kids rest e k r =
@@ -280,12 +287,42 @@ walk-again cs ds h b inside p ps n m ts kids rest e k r =
     let walk = λ (i : Bool) (x : List Way) (us : Nodes). within_brackets b inside x ++ pieces_walk ds h (quiet b) i ps (m + length x) us in
     let here : part_ways ds h (quiet b) inside (start_of (quiet b) inside p) q m kids ≡ with_commas u =
     ap (λ s. part_ways ds h (quiet b) inside s q m kids) (start-quiet b inside p) ∙ e in
-    ap (λ i. walk i (part_ways ds h (quiet b) inside (start_of (quiet b) inside p) q m kids) (nodes_behind q kids)) (inside-quiet b inside q)
+    ap (λ i. walk i (part_ways ds h (quiet b) inside (start_of (quiet b) inside p) q m kids) (nodes_behind q kids))
+    (inside-quiet b inside q)
     ∙ ap (λ x. walk (inside_behind_part b inside q) x (nodes_behind q kids)) here
     ∙ ap (λ us. walk (inside_behind_part b inside q) (with_commas u) us) k
     ∙ ap (λ x. within_brackets b inside (with_commas u) ++ x) r
     ∙ ap (λ x. x ++ with_commas v) (sym (with_commas-within (b.brackets && inside) u))
     ∙ sym (with_commas-append (within_brackets b inside u) v)
+
+-- the tokens of a piece, and of those behind it
+pub pieces-first : (h : Head) (p : Piece) (ps : List Piece) (ts rest : Nodes) → nodes_behind (part_of p h.text) ts ≡ rest
+    → pieces_tokens 0 h (p ∷ ps) (spells 0 ts) ≡ part_tokens h (part_of p h.text) (spells 0 ts) ++ pieces_tokens 0 h ps (spells 0 rest)
+pieces-first h p ps ts rest e =
+    ap (λ x. x ++ pieces_tokens 0 h ps (left_behind p (spells 0 ts))) (tokens-part h p (spells 0 ts))
+    ∙ ap (λ us. part_tokens h (part_of p h.text) (spells 0 ts) ++ pieces_tokens 0 h ps us) (spells-behind p h.text ts)
+    ∙ ap (λ us. part_tokens h (part_of p h.text) (spells 0 ts) ++ pieces_tokens 0 h ps (spells 0 us)) e
+
+spelled-again : (cs : List ℕ) (h : Head) (b : Breaks) (inside : Bool) (p : Piece) (ps : List Piece) (n : ℕ) (ts kids rest : Nodes)
+    → nodes_behind (part_of p h.text) kids ≡ rest
+    → part_tokens h (part_of p h.text) (spells 0 kids)
+    ≡ tokens_with (here_ways cs h b inside p n ts) (part_tokens h (part_of p h.text) (spells 0 ts))
+    → pieces_tokens 0 h ps (spells 0 rest)
+    ≡ tokens_with (rest_walk cs h b inside p ps n ts) (pieces_tokens 0 h ps (spells 0 (nodes_behind (part_of p h.text) ts)))
+    → pieces_tokens 0 h (p ∷ ps) (spells 0 kids)
+    ≡ tokens_with (pieces_walk cs h b inside (p ∷ ps) n ts) (pieces_tokens 0 h (p ∷ ps) (spells 0 ts))
+spelled-again cs h b inside p ps n ts kids rest k e r =
+    let q = part_of p h.text in
+    let u = here_ways cs h b inside p n ts in
+    let v = rest_walk cs h b inside p ps n ts in
+    let one = part_tokens h q (spells 0 ts) in
+    let others = pieces_tokens 0 h ps (spells 0 (nodes_behind q ts)) in
+    pieces-first h p ps kids rest k
+    ∙ (λ i. e i ++ r i)
+    ∙ ap (λ x. x ++ tokens_with v others) (sym (with-within (b.brackets && inside) u one))
+    ∙ sym (with-append (within_brackets b inside u) v one others
+    (within-length b inside u ∙ part-length cs h b inside (start_of b inside p) q n ts))
+    ∙ ap (tokens_with (within_brackets b inside u ++ v)) (sym (pieces-first h p ps ts (nodes_behind q ts) refl))
 
 or-true : (x y : Bool) → (x || y) ≡ true → ((x ≡ true) ⊎ ((x ≡ false) × (y ≡ true)))
 or-true true y h = inl refl
@@ -310,13 +347,15 @@ pieces-again cs ds h b inside [] n m ts tail calm f g x = record {
   behind = refl;
   kin = λ e k. k;
   ways_are = refl;
+  spelled = refl;
   no_kids = g;
   signs = λ s e. false-true e;
 }
 pieces-again cs ds h b inside (p ∷ ps) n m ts tail calm f g x =
     let q = part_of p h.text in
     let u = here_ways cs h b inside p n ts in
-    let rest = pieces-again cs ds h b (inside_behind_part b inside q) ps (n + length u) (m + length (with_commas u)) (nodes_behind q ts) tail
+    let rest = pieces-again cs ds h b (inside_behind_part b inside q) ps (n + length u) (m + length (with_commas u)) (nodes_behind q ts)
+    tail
     (calm-rest b inside h.text p ps calm) (areagain-behind cs ds q ts f) g (spread-rest cs ds h b inside p ps n m ts x) in
     let one = part-again cs ds h b inside (start_of b inside p) q n m ts rest.kids (calm-first b inside h.text p ps calm) f rest.no_kids
     (spread-piece cs ds h b inside p ps n m ts x) in
@@ -327,6 +366,7 @@ pieces-again cs ds h b inside (p ∷ ps) n m ts tail calm f g x =
       behind = ap (nodes_after ps h.text) one.behind ∙ rest.behind;
       kin = λ e k. one.kin e (rest.kin e k);
       ways_are = walk-again cs ds h b inside p ps n m ts one.kids rest.kids one.ways_are one.behind rest.ways_are;
+      spelled = spelled-again cs h b inside p ps n ts one.kids rest.kids one.behind one.spelled rest.spelled;
       no_kids = one.no_kids;
       signs = λ s e. sign-of cs ds h b inside p ps n m ts one.kids rest.kids s calm one.behind long rest.signs (or-true (is_fixed s p)
           (has_sign s ps) e);

@@ -111,9 +111,12 @@ pieces_plain h b (pi.Fixed s ∷ ps) us a =
     sign_plain (b.brackets && false) (fixed_way b false s) refl (pieces_ways h b (inside_behind b false (pi.Fixed s)) ps us)
 pieces_plain h b (pi.Own o ∷ ps) us a = joined_plain b (own_ways h o) _ (own_plain h o) (pieces_plain h b ps us a)
 pieces_plain h b (pi.Kid s ∷ ps) us a = joined_plain b _ _ (one_plain h.kind _ le.Nothing us a) (pieces_plain h b ps _ (rest_plain us a))
-pieces_plain h b (pi.Optional s ∷ ps) us a = joined_plain b _ _ (one_plain h.kind _ le.Nothing us a) (pieces_plain h b ps _ (rest_plain us a))
-pieces_plain h b (pi.Led c s ∷ ps) us a = joined_plain b _ _ (one_plain h.kind _ (le.Before c) us a) (pieces_plain h b ps _ (rest_plain us a))
-pieces_plain h b (pi.Followed s c ∷ ps) us a = joined_plain b _ _ (one_plain h.kind _ (le.Behind c) us a) (pieces_plain h b ps _ (rest_plain us a))
+pieces_plain h b (pi.Optional s ∷ ps) us a =
+    joined_plain b _ _ (one_plain h.kind _ le.Nothing us a) (pieces_plain h b ps _ (rest_plain us a))
+pieces_plain h b (pi.Led c s ∷ ps) us a = joined_plain b _ _ (one_plain h.kind _ (le.Before c) us a)
+    (pieces_plain h b ps _ (rest_plain us a))
+pieces_plain h b (pi.Followed s c ∷ ps) us a =
+    joined_plain b _ _ (one_plain h.kind _ (le.Behind c) us a) (pieces_plain h b ps _ (rest_plain us a))
 pieces_plain h b (pi.Value s ∷ ps) us a =
     joined_plain b _ _ (one_plain h.kind _ (value_lead h.text) us a) (pieces_plain h b ps _ (rest_plain us a))
 pieces_plain h b (pi.Each s ∷ ps) us a = joined_plain b _ _ (all_plain h.kind _ le.Nothing us a) (pieces_plain h b ps [] tt)
@@ -122,7 +125,8 @@ pieces_plain h b (pi.EachFollowed s c ∷ ps) us a = joined_plain b _ _ (all_pla
 pieces_plain h b (pi.More s ∷ ps) us a = joined_plain b _ _ (all_plain h.kind _ (le.Before si.Comma) us a) (pieces_plain h b ps [] tt)
 pieces_plain h b (pi.List s ∷ ps) us a = joined_plain b _ _ (listed_plain h.kind _ us a) (pieces_plain h b ps [] tt)
 pieces_plain h b (pi.Elements s ∷ ps) us a = joined_plain b _ _ (listed_plain h.kind _ us a) (pieces_plain h b ps [] tt)
-pieces_plain h b (pi.MoreElements s ∷ ps) us a = joined_plain b _ _ (all_plain h.kind _ (le.Before si.Comma) us a) (pieces_plain h b ps [] tt)
+pieces_plain h b (pi.MoreElements s ∷ ps) us a =
+    joined_plain b _ _ (all_plain h.kind _ (le.Before si.Comma) us a) (pieces_plain h b ps [] tt)
 
 mutual
   unfolding ways

@@ -116,7 +116,8 @@ unfolding is_shaped
 behind-optional n s c none e = false-true e
 behind-optional n s c (more t ts) e = statements-sign n c ts (and_parts _ _ e).1
 
-case-signs : (k : Kind) (n : ℕ) (ts : Nodes) → is_case k ≡ true → are_kids n (kid_pieces (form_of k)) ts ≡ true → TakeSigns (nodes_from 1 ts)
+case-signs : (k : Kind) (n : ℕ) (ts : Nodes) → is_case k ≡ true → are_kids n (kid_pieces (form_of k)) ts ≡ true →
+    TakeSigns (nodes_from 1 ts)
 case-signs ki.Case n ts c e = behind-optional n _ _ ts e
 case-signs ki.SwitchCase n ts c e = behind-optional n _ _ ts e
 case-signs _ n ts c e = false-true c

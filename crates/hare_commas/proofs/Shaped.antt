@@ -89,7 +89,8 @@ absent-kind : (t : Node) → is_absent t ≡ true → (head t).kind ≡ ki.None
 absent-kind (branch h none) e = none-kind h.kind (and_parts _ _ e).0
 absent-kind (branch h (more t ts)) e = false-true e
 
-nothing-wants : {A : Type 0} (t : Node) (w : Bool) → is_absent t ≡ true → w ≡ false → wants_behind (head t).kind w (stops si.Comma t) ≡ true → A
+nothing-wants : {A : Type 0} (t : Node) (w : Bool) → is_absent t ≡ true → w ≡ false →
+    wants_behind (head t).kind w (stops si.Comma t) ≡ true → A
 nothing-wants t w e f h = false-true (sym (ap (λ k. wants_behind k w (stops si.Comma t)) (absent-kind t e) ∙ f) ∙ h)
 
 listed-comma-kids : (n : ℕ) (s : Sort) (ts us : Nodes) → wants_comma false (items_of ts) ≡ true → KeepAll true ts us
@@ -136,7 +137,8 @@ dots-stop : (t : Node) (c : Sign) → (head t).kind ≡ ki.Dots → stops c t �
 unfolding stops
 dots-stop (branch h ts) c e = ap (λ k. form_stops c h true (form_of k) (stops_each c ts)) e
 
-wants-ends : (k : Kind) (w ends : Bool) → (k ≡ ki.None → ends ≡ true) → (k ≡ ki.Dots → ends ≡ true) → wants_behind k w ends ≡ true → ends ≡ true
+wants-ends : (k : Kind) (w ends : Bool) → (k ≡ ki.None → ends ≡ true) → (k ≡ ki.Dots → ends ≡ true) → wants_behind k w ends ≡ true →
+    ends ≡ true
 wants-ends ki.None w ends f g e = f refl
 wants-ends ki.TrailingComma w ends f g e = false-true e
 wants-ends ki.Dots w ends f g e = g refl
@@ -184,7 +186,8 @@ behind-again (more t ts) (more u us) (inr k) =
           ∙ none-stays (head t).kind w (stops si.Comma t) (nothing-kind t k.1),
     )
 
-item-by : (t u : Node) (ts us : Nodes) (w : Bool) → Keeps t u → BehindAgain ts us → wants_comma (wants_behind (head t).kind w (stops si.Comma t)) (items_of ts) ≡ true
+item-by : (t u : Node) (ts us : Nodes) (w : Bool) → Keeps t u → BehindAgain ts us →
+    wants_comma (wants_behind (head t).kind w (stops si.Comma t)) (items_of ts) ≡ true
     → ends_before (behind_item (edges ts)) (edge_of t) ≡ true → ends_before (behind_item (edges us)) (edge_of u) ≡ true
 item-by t u ts us w k (inl e) v a = (λ i. ends_before (e i) (edge-kept t u k i)) ∙ a
 item-by t u ts us w k (inr e) v a =
@@ -251,9 +254,14 @@ unfolding is_shaped
 list-struct n none us w k a e = false-true a
 list-struct n (more t ts) none w k a e = absurd k
 list-struct n (more t ts) (more u us) w k a e =
-    record { kids = kid-more n so.StructField so.StructField (more t ts) (more u us) k a; ends = items-end-comma (more t ts) (more u us) false k w e }
+    record {
+      kids = kid-more n so.StructField so.StructField (more t ts) (more u us) k a;
+      ends = items-end-comma (more t ts) (more u us)
+          false k w e;
+    }
 
-list-call : (n : ℕ) (ts us : Nodes) → wants_comma false (kids_behind si.LeftParen (form_of ki.Call) (items_of ts)) ≡ true → KeepAll true ts us
+list-call : (n : ℕ) (ts us : Nodes) → wants_comma false (kids_behind si.LeftParen (form_of ki.Call) (items_of ts)) ≡ true →
+    KeepAll true ts us
     → are_kids n (kid_pieces (form_of ki.Call)) ts ≡ true → kids_end (form_of ki.Call) (edges ts) ≡ true → ListKept ki.Call n us
 unfolding is_shaped
 list-call n none us w k a e = false-true a
@@ -310,7 +318,8 @@ list-tuple n (more t (more x ts)) (more u (more v us)) w (inl k) a e = record {
 }
 
 list-tuple-type : (n : ℕ) (ts us : Nodes) → wants_comma false (items_of ts) ≡ true → KeepAll true ts us
-    → are_kids n (kid_pieces (form_of ki.TypeTuple)) ts ≡ true → kids_end (form_of ki.TypeTuple) (edges ts) ≡ true → ListKept ki.TypeTuple n us
+    → are_kids n (kid_pieces (form_of ki.TypeTuple)) ts ≡ true → kids_end (form_of ki.TypeTuple) (edges ts) ≡ true →
+    ListKept ki.TypeTuple n us
 unfolding is_shaped
 list-tuple-type n none us w k a e = false-true a
 list-tuple-type n (more t ts) none w k a e = absurd k
@@ -341,7 +350,8 @@ list-kept _ n ts us l w k a e = false-true l
 abbrev pub KeptKids : Head → Nodes → Nodes → Type 0
 KeptKids h ts us =
     KeepAll false ts us
-    ⊎ ((is_list h.kind ≡ true) × (wants_comma false (kids_behind (opening h.kind) (form_of h.kind) (items_of ts)) ≡ true) × KeepAll true ts us)
+    ⊎ ((is_list h.kind ≡ true) × (wants_comma false (kids_behind (opening h.kind) (form_of h.kind) (items_of ts)) ≡ true) ×
+    KeepAll true ts us)
 
 kept-either : (e : Bool) (ts us : Nodes) → KeepAll e ts us → (x : Bool) × KeepAll x ts us
 kept-either e ts us k = (e, k)
@@ -370,7 +380,8 @@ leaf-kept h none none e k p l = l
 leaf-kept h none (more u us) e k p l = absurd k
 leaf-kept h (more t ts) us e k p l = false-true l
 
-node-shaped : (h : Head) (ts us : Nodes) → KeptKids h ts us → (s : Sort) → is_shaped s (branch h ts) ≡ true → is_shaped s (branch h us) ≡ true
+node-shaped : (h : Head) (ts us : Nodes) → KeptKids h ts us → (s : Sort) → is_shaped s (branch h ts) ≡ true →
+    is_shaped s (branch h us) ≡ true
 unfolding is_shaped
 node-shaped h ts us k s e =
     let a = and_parts _ _ e in

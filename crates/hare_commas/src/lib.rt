@@ -3,4 +3,4 @@
 
 mod laws;
 
-pub use laws::law_commas_stand_in_trees;
+pub use laws::{law_commas_stand_in_trees, law_ways_ask_at_marks};

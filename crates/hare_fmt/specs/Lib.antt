@@ -1,6 +1,1 @@
-pub mod Read
-pub mod Gaps
-pub mod Layout
-pub mod Behind
-pub mod Write
 pub mod Answer

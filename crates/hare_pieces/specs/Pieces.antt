@@ -1,10 +1,8 @@
 -- The pieces of a text: its tokens and comments, in order, by their bytes.
 --
 -- Blanks stand between pieces. A piece is a comment, from `//` to before the end of its line, or it spells the next token of the text:
--- the longest that
--- fits, at a place where neither a blank nor a comment begins. So there is one piece for each token, also for strings side by side, and
--- one for each
--- comment.
+-- the longest that fits, at a place where neither a blank nor a comment begins. So there is one piece for each token, also for strings side
+-- by side, and one for each comment.
 use Rattle.std.specs.Prelude.{◌≡◌, ℕ, ◌+◌, List, [], ◌∷◌, ◌++◌, Bool, true, false, length, ◌⊎◌}
 use Rattle.std.specs.List.{list_all}
 use Rattle.hare_tree.specs.declared.token.Token.{Token}
@@ -18,8 +16,7 @@ abbrev pub are_blank : List ℕ → Bool
 are_blank s = list_all is_blank s
 
 -- Behind so many bytes of the file stands this text, which consists of these pieces and of blanks around them: those that are no comments
--- spell these
--- tokens, one each, and the token before the first is `::` or not.
+-- spell these tokens, one each, and the token before the first is `::` or not.
 abbrev pub ConsistsOf : ℕ → Bool → List ℕ → List Token → List Piece → Type 0
 ConsistsOf at behind_path text ts [] = (ts ≡ []) × (are_blank text ≡ true)
 ConsistsOf at behind_path text ts (p ∷ ps) =

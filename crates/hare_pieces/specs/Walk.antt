@@ -11,8 +11,7 @@ abbrev pub begins_comment : List ℕ → Bool
 begins_comment s = slice_index s 0 == 47 && slice_index s 1 == 47
 
 -- The pieces found at the front of a text, which begins behind `at` bytes of the file, are put behind the old ones: the first n bytes are
--- these pieces and
--- blanks, and a gap.
+-- these pieces and blanks, and a gap.
 pub record Leads (at : ℕ) (s : List ℕ) (old new : List Piece) (n : ℕ) : Type 0 where
   pub found : List Piece
   pub new_is : new ≡ old ++ found

@@ -15,8 +15,7 @@ use Rattle.hare_ways.specs.declared.breaks.Breaks.{Breaks}
 -- ---- the kinds
 
 -- What has a comma list between brackets: parameters, arguments, fields and their values, elements, and the names of a `use`. The
--- operands of `alloc`,
--- `append` and `assert` and the values of a case are none, nor are the members of a union.
+-- operands of `alloc`, `append` and `assert` and the values of a case are none, nor are the members of a union.
 abbrev pub is_list : Kind → Bool
 is_list ki.Params = true
 is_list ki.Call = true
@@ -119,8 +118,7 @@ wants_behind ki.Dots wants ends = true
 wants_behind _ wants ends = ends
 
 -- A comma may be added behind the last of these: it is `...`, or an item that does not end in a `yield` with a label and no value, which
--- would take the
--- comma for its own.
+-- would take the comma for its own.
 abbrev pub wants_comma : Bool → List Item → Bool
 wants_comma wants [] = wants
 wants_comma wants (u ∷ us) = wants_comma (wants_behind u.kind wants u.ends) us
@@ -143,8 +141,7 @@ has_own_lines statements commented = not (is_one statements && not commented)
 -- ---- what is broken
 
 -- A comma list is broken where it ends in a comma or a comment stands in it, and that of a struct type always. Braces are broken unless
--- they are empty and no
--- comment stands in them.
+-- they are empty and no comment stands in them.
 abbrev pub is_broken : Kind → List Item → Bool → Bool
 is_broken k inside commented =
     if is_braced k then not (is_nil inside) || commented

@@ -1,6 +1,5 @@
 -- Where no blank stands: the signs of the grammar that on one line stand directly behind the piece before them, or directly in front of
--- the piece behind
--- them. Between any other two pieces of a line stands one blank.
+-- the piece behind them. Between any other two pieces of a line stands one blank.
 use Rattle.std.specs.Prelude.{Bool, true, false, not}
 use Rattle.hare_tree.specs.declared.kind.Kind.{Kind}
 use Rattle.hare_tree.specs.declared.kind.Kind.TheVariants as ki
@@ -52,8 +51,8 @@ is_use_names ki.UseNames = true
 is_use_names _ = false
 
 -- In a form of the kind, no blank stands before the sign: `)` `]` `,` `;` `::` `.` `?` and `:` wherever a form has them; `(` of a call,
--- of what is built
--- in and of a function, `[` of an index and a slice, `..` of a slice, `!` behind a value, `...` behind a value, and `}` of a `use`.
+-- of what is built in and of a function, `[` of an index and a slice, `..` of a slice, `!` behind a value, `...` behind a value, and `}` of
+-- a `use`.
 abbrev pub joins_before : Sign → Kind → Bool
 joins_before si.RightParen k = true
 joins_before si.RightBracket k = true
@@ -72,9 +71,8 @@ joins_before si.RightBrace k = is_use_names k
 joins_before _ k = false
 
 -- In a form of the kind, no blank stands behind the sign: `(` `[` `::` `.` and the prefix operators `-` `~` `*` `&` wherever a form has
--- them; `!` but that
--- behind a value, `]` of a type, `..` of a slice, `...` of a spread, and `{` of a `use`. So nothing stands between `&` and `..` of a
--- binding.
+-- them; `!` but that behind a value, `]` of a type, `..` of a slice, `...` of a spread, and `{` of a `use`. So nothing stands between `&`
+-- and `..` of a binding.
 abbrev pub joins_behind : Sign → Kind → Bool
 joins_behind si.LeftParen k = true
 joins_behind si.LeftBracket k = true

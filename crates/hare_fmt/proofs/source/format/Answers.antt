@@ -1,3 +1,4 @@
+use Rattle.hare_again.proofs.LaidOut.{layouts-are-laid-out}
 use Rattle.hare_fmt.specs.Answer.{GivesText, GivesFault}
 use Rattle.hare_fmt.proofs.Answered.{err_gives, laid_out-tree, text-gives}
 use Rattle.hare_fmt.proofs.source.format.Goals as goal
@@ -15,6 +16,9 @@ returns-in_err-tree-clause-only_fault c = λ f h.
     (c.in_err-tree.ensures.only_fault f h)
 
 -- ---- the text
+
+pub returns-clause-kept : goal.returns-clause-kept
+returns-clause-kept c = (c.in_ok-text.ensures, layouts-are-laid-out c.args.src.now c.in_ok-text.text c.in_ok-text.ensures)
 
 pub returns-clause-only_text : goal.returns-clause-only_text
 returns-clause-only_text c = λ text l. text-gives c.args.src.now text c.in_ok-text.text (c.in_ok-text.ensures) l

@@ -1,5 +1,0 @@
-use Rattle.hare_fmt.proofs.Grown.{growing_pieces_are_others}
-use Rattle.hare_fmt.proofs.laws.law_blanks_are_needed.Goals as goal
-
-pub returns : goal.returns
-returns c = growing_pieces_are_others

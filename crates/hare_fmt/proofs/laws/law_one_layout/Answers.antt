@@ -1,5 +1,0 @@
-use Rattle.hare_fmt.proofs.Once.{sources_have_one_layout}
-use Rattle.hare_fmt.proofs.laws.law_one_layout.Goals as goal
-
-pub returns : goal.returns
-returns c = sources_have_one_layout

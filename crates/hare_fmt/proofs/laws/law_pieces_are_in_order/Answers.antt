@@ -1,5 +1,0 @@
-use Rattle.hare_fmt.proofs.Kept.{pieces_are_in_order}
-use Rattle.hare_fmt.proofs.laws.law_pieces_are_in_order.Goals as goal
-
-pub returns : goal.returns
-returns c = pieces_are_in_order

@@ -1,0 +1,12 @@
+pub mod Once
+pub mod Written
+pub mod Trimmed
+pub mod ReadLemmas
+pub mod Kept
+pub mod Again
+pub mod Grown
+pub mod RowWords
+pub mod LineRows
+pub mod BreakRows
+pub mod LayoutRows
+pub mod CommentCounts

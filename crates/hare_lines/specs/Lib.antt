@@ -1,0 +1,5 @@
+pub mod Read
+pub mod Gaps
+pub mod Layout
+pub mod Behind
+pub mod Write
