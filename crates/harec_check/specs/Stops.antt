@@ -1,26 +1,28 @@
 -- What comes of the check of files: their bytes, or why it stopped.
 use Rattle.std.specs.Prelude.{◌≡◌, ℕ, List, Option}
 use Rattle.hare_unit.specs.declared.checked.Checked.{Checked}
-use Rattle.hare_unit.specs.Programs.{IsChecked, IsFaultOfProgram}
+use Rattle.hare_unit.specs.Programs.{IsChecked, IsFaultless, IsFaultOfProgram, IsOnlyFaultOfProgram}
 use Rattle.harec_check.specs.declared.stopped.Refusal.{Refusal}
 use Rattle.harec_check.specs.declared.stopped.Stopped.{Stopped}
 use Rattle.harec_check.specs.declared.stopped.Stopped.TheVariants.{Refused, Unread, Memory}
 use Rattle.harec_check.specs.Files.{AreTold, IsFirstUnread}
 use Rattle.harec_check.specs.Lines.{IsFaultLine}
 
--- the fault is the first of the program of these files, and the line is its own
+-- the fault is the first of the program of these files, and the only one over the store with which its checking ended; the line is its own
 pub record IsFirstFault (paths srcs : List (List ℕ)) (r : Refusal) : Type 0 where
   pub first : IsFaultOfProgram paths srcs r.fault
+  pub only : IsOnlyFaultOfProgram paths srcs r.fault
   pub line : IsFaultLine paths r.fault r.line
 
 -- files, by their paths and what they hold, where that is told, and how often a read had failed before and has failed now
 module _ (content : List ℕ → Option (List ℕ)) (paths : List (List ℕ)) (before now : ℕ) where
-  -- all were read, these are their bytes, and the program of these is checked
+  -- all were read, these are their bytes, and the program of these is checked and has no fault
   pub record AreChecked (srcs : List (List ℕ)) : Type 0 where
     pub stands : now ≡ before
     pub told : AreTold content paths srcs
     pub program : Checked
     pub checked : IsChecked paths srcs program
+    pub faultless : IsFaultless paths srcs program
 
   -- all were read, and the program of their bytes has this first fault
   pub record AreRefused (r : Refusal) : Type 0 where

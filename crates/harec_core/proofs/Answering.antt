@@ -7,7 +7,7 @@ use Rattle.il_code.specs.Run.{machine_end}
 use Rattle.il_code.specs.Rules.{IsValidText}
 use Rattle.il_code.specs.TextLaws.{TextsSpellOne}
 use Rattle.hare_tree.specs.declared.place.Fault.{Fault}
-use Rattle.hare_fmt.specs.Layout.{IsLaidOut}
+use Rattle.hare_lines.specs.Layout.{IsLaidOut}
 use Rattle.hare_sources.specs.Files.{most_of_file}
 use Rattle.hare_blocks.specs.Class.{IsSource}
 use Rattle.hare_blocks.specs.Trees.{Program}

@@ -14,7 +14,6 @@ use Rattle.il_code.specs.State.{Code, function_named}
 use Rattle.il_code.specs.Run.{Run, end_of, start, started, start_world, machine, machine_end, machine_output}
 use Rattle.il_code.proofs.Budgets.{Order, less, most, order_of, ends_stay}
 use Rattle.il_code.proofs.Steps.{output_grows, done_is_kept}
-use Rattle.il_emit.specs.Meaning.{il_meaning}
 use Rattle.il_emit.specs.Reaches.{Reaches, Arrives, Overflows, end_for}
 use Rattle.low_blocks.specs.Agreement.{DoesTheSame, flat_end}
 use Rattle.low_blocks.specs.Programs.{lowered}
@@ -149,21 +148,21 @@ does_back source p m s does reaches args input fill budget few byte = record {
 }
   where
     pick : Arrives m args input fill (jumps_and_calls (machine m args input fill budget) + 1)
-        (flat.run il_meaning (lowered p) args input fill (jumps_and_calls (machine m args input fill budget) + 1)) ⊎ Overflows m args input
+        (flat.run (lowered p) args input fill (jumps_and_calls (machine m args input fill budget) + 1)) ⊎ Overflows m args input
         fill (jumps_and_calls (machine m args input fill budget) + 1)
-        (flat.run il_meaning (lowered p) args input fill (jumps_and_calls (machine m args input fill budget) + 1))
+        (flat.run (lowered p) args input fill (jumps_and_calls (machine m args input fill budget) + 1))
         → Backs (machine_end m args input fill budget) (machine_output m args input fill budget)
         (outcome_of (run (length args) p (jumps_and_calls (machine m args input fill budget) + 1)).0)
         (run (length args) p (jumps_and_calls (machine m args input fill budget) + 1)).1
     pick (inl a) =
         let n = jumps_and_calls (machine m args input fill budget) + 1 in
         backs m args input fill budget a.budget n (run (length args) p n).0 (run (length args) p n).1
-        (flat.run il_meaning (lowered p) args input fill n).0
+        (flat.run (lowered p) args input fill n).0
         (does.ends args input fill n) a.ended (sym a.world.output ∙ does.outputs args input fill n) a.jumps refl
     pick (inr o) = absurd (omega (
       arith,
       o.cost,
       main_fits source p s,
-      run_cost il_meaning p args input fill
+      run_cost p args input fill
           (jumps_and_calls (machine m args input fill budget) + 1),
     ))

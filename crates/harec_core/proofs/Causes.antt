@@ -9,7 +9,7 @@ use Rattle.il_plain.specs.declared.ended.Ended.{Ended}
 use Rattle.il_plain.specs.declared.ended.Ended.TheVariants as ended
 use Rattle.il_plain.specs.Runs.{RunsAs, CountsEnd}
 use Rattle.hare_unit.specs.declared.checked.Checked.{Checked}
-use Rattle.hare_unit.specs.Programs.{IsChecked}
+use Rattle.hare_unit.specs.Programs.{IsChecked, IsFaultless}
 use Rattle.harec_words.specs.Commands.{Command, Check, Emit, Run}
 use Rattle.harec_check.specs.declared.stopped.Stopped.{Stopped}
 use Rattle.harec_check.specs.declared.stopped.Stopped.TheVariants.{Refused, Unread, Memory}
@@ -20,10 +20,10 @@ use Rattle.harec_core.specs.declared.asked.Action.TheVariants as action
 use Rattle.harec_core.specs.declared.asked.Purpose.{Purpose}
 use Rattle.harec_core.specs.declared.asked.Purpose.TheVariants as purpose
 use Rattle.harec_core.specs.declared.carry.Done.{Done}
-use Rattle.harec_core.specs.Answers.{Call, HasCause, Emitted, EndedIn, CutEmit, IsMade, IsCompiled}
+use Rattle.harec_core.specs.Answers.{Call, HasCause, Emitted, EndedIn, CutEmit, IsMade, IsCompiled, IsSound}
 use Rattle.harec_core.specs.Asked.{IsAsked, files_of, Checks, Compiles}
 use Rattle.harec_core.specs.Outside.{Count, HasRisen, Stands, Sent, sent, IsSent}
-use Rattle.harec_core.specs.Stages.{AreFew, IsTextOf, IsBuilt, Emits, answer_of, done_answer, stopped_answer, command_on, command_for}
+use Rattle.harec_core.specs.Stages.{AreFew, IsTextOf, IsBuilt, IsBuildStop, Emits, answer_of, done_answer, stopped_answer, command_on, command_for}
 
 -- ---- counts and bytes
 
@@ -95,8 +95,18 @@ module _ (content : List ℕ → Option (List ℕ)) (paths : List (List ℕ)) (b
         out = out;
         text = text;
       }) (stopped_answer s)
-  stop_cause command fill out text (Refused r) k e quiet empty h =
-      (h.srcs, h.told, inl (record { checks = k; files = h.stands; first = rw e h.refusal.first; silent = quiet; text = empty }))
+  stop_cause command fill out text (Refused r) k e quiet empty h = (
+    h.srcs,
+    h.told,
+    inl (record {
+      checks = k;
+      files = h.stands;
+      first = rw e h.refusal.first;
+      only = rw e h.refusal.only;
+      silent = quiet;
+      text = empty;
+    }),
+  )
   stop_cause command fill out text (Unread number) k e quiet empty h =
       let told = all_told content paths in
       (told.0, told.1, record { files = risen before now few h.risen; silent = quiet; text = empty })
@@ -141,10 +151,32 @@ made_of source text m t = record {
   carries = rw t.printed t.made.carries;
 }
 
+-- a checked program without a fault
+sound_on :
+    (files : List (List ℕ)) (p : Purpose) (srcs : List (List ℕ)) (fill : ℕ) (count : Count) (out : Sent) (text : List ℕ)
+    → Stands count → (c : Checked) × IsChecked files srcs c × IsFaultless files srcs c
+    → IsSound (record { command = command_on files p; sources = srcs; fill = fill; files = count; out = out; text = text })
+sound_on files p srcs fill count out text s c =
+    let same = files_of-command_on files p in
+    record { checks = Checks-command_on files p; files = s; program = c.0; checked = rw same c.1; faultless = rw same c.2 }
+
+-- of a checked program no text was made
+pub unbuilt_cause :
+    (files : List (List ℕ)) (p : Purpose) (srcs : List (List ℕ)) (fill : ℕ) (count : Count) (out : Sent) (text : List ℕ)
+    (why : Stopped) → Compiles (command_on files p) → Stands count
+    → (c : Checked) × IsChecked files srcs c × IsFaultless files srcs c → IsSent [] out → text ≡ [] → IsBuildStop files srcs why
+    → HasCause (record { command = command_on files p; sources = srcs; fill = fill; files = count; out = out; text = text })
+    (stopped_answer why)
+unbuilt_cause files p srcs fill count out text (Refused r) k s c quiet empty h =
+    let sound = sound_on files p srcs fill count out text s c in
+    inr (inl (h.0, record { compiles = k; sound = sound; sources = h.2; silent = quiet; text = empty }))
+unbuilt_cause files p srcs fill count out text (Unread number) k s c quiet empty h = absurd h
+unbuilt_cause files p srcs fill count out text Memory k s c quiet empty h = record { files = s; silent = quiet; text = inl empty }
+
 -- a checked program that is compiled
 pub compiled_on :
     (files : List (List ℕ)) (p : Purpose) (srcs : List (List ℕ)) (fill : ℕ) (count : Count) (out : Sent) (text : List ℕ)
-    (m : Module) → Compiles (command_on files p) → Stands count → (c : Checked) × IsChecked files srcs c
+    (m : Module) → Compiles (command_on files p) → Stands count → (c : Checked) × IsChecked files srcs c × IsFaultless files srcs c
     → length srcs ≡ length files → IsBuilt srcs text m
     → IsCompiled (record { command = command_on files p; sources = srcs; fill = fill; files = count; out = out; text = text }) m
 compiled_on files p srcs fill count out text m k s c paired b =
@@ -153,7 +185,7 @@ compiled_on files p srcs fill count out text m k s c paired b =
     let (path, named) = single files one in
     record {
       compiles = k;
-      sound = record { checks = Checks-command_on files p; files = s; program = c.0; checked = rw same c.1 };
+      sound = sound_on files p srcs fill count out text s c;
       path = path;
       named = same ∙ named;
       source = b.source;

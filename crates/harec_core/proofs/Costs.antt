@@ -9,7 +9,7 @@ use Rattle.flat_code.specs.declared.value.Value.{Value}
 use Rattle.flat_code.specs.declared.value.Value.TheVariants.{Temp, Number, Symbol, Frame}
 use Rattle.flat_code.specs.Code.{Code, Codes, none, more, Seq, Set, Load, Store, Move, If, Loop, Leave, Call, Ret, codes_of}
 use Rattle.flat_code.specs.Costs.{addressed, addressed_in, addressed_in_all, call_cost}
-use Rattle.flat_code.specs.Evaluation.{Meaning, Less, computed, acted, runtime_called, function_named, flat_begun, flats_in, flat_below, flat, cut_each, entered}
+use Rattle.flat_code.specs.Evaluation.{Less, computed, acted, runtime_called, function_named, flat_begun, flats_in, flat_below, flat, cut_each, entered}
 use Rattle.flat_code.specs.Run.{run, ended, start_world, before_calls}
 use Rattle.hx_runtime.specs.Functions.{runtime_params, runtime_result}
 use Rattle.flat_code.specs.State.{State, cut, value_of, give, stepped, Next, Left, Returned, Exit, Abort, Fault, HeapFull, Spent, Result, then_go, caught, then_turn, spends}
@@ -95,7 +95,7 @@ runtime_keeps : (s : State) (t : Option ℕ) (f : Option RuntimeFunction) (vs : 
 runtime_keeps s t None vs = refl
 runtime_keeps s t (Some f) vs = acted_keeps s t (runtime_result f) (act f (cut_each (runtime_params f) vs) s.world)
 
-module _ (meaning : Meaning) (p : FlatProgram)
+module _ (p : FlatProgram)
     (none_named : (temp : Option ℕ) (name : List ℕ) (args : List Value) → IsFitCall Any temp name args →
     function_named p.functions name ≡ None) where
   abbrev LessKeeps : Less → Type 0
@@ -103,7 +103,7 @@ module _ (meaning : Meaning) (p : FlatProgram)
 
   mutual
     begun_keeps : (n : ℕ) (less : Less) → LessKeeps less → (c : Code) (s : State) (k : ℕ) → IsFit Any c → s.most ≡ k →
-        Keeps k (flat_begun meaning p n less c s)
+        Keeps k (flat_begun p n less c s)
     begun_keeps n less below (Seq cs) s k h e = caught_keeps k _ (each_keeps n less below cs s k h e)
     begun_keeps n less below (Set t class o a b) s k h e = computed_keeps s t class _ ∙ e
     begun_keeps n less below (Load t how at) s k h e = absurd h
@@ -113,8 +113,8 @@ module _ (meaning : Meaning) (p : FlatProgram)
         pick (cut W (value_of p s v) == 0) (begun_keeps n less below a (stepped 1 s) k h.1 e)
         (begun_keeps n less below b (stepped 1 s) k h.2 e)
       where
-        pick : (t : Bool) → Keeps k (flat_begun meaning p n less a (stepped 1 s)) → Keeps k (flat_begun meaning p n less b (stepped 1 s)) →
-            Keeps k (if t then flat_begun meaning p n less b (stepped 1 s) else flat_begun meaning p n less a (stepped 1 s))
+        pick : (t : Bool) → Keeps k (flat_begun p n less a (stepped 1 s)) → Keeps k (flat_begun p n less b (stepped 1 s)) →
+            Keeps k (if t then flat_begun p n less b (stepped 1 s) else flat_begun p n less a (stepped 1 s))
         pick true x y = y
         pick false x y = x
     begun_keeps n less below (Loop c) s k h e =
@@ -125,18 +125,18 @@ module _ (meaning : Meaning) (p : FlatProgram)
     begun_keeps n less below (Ret value) s k h e = absurd h
 
     each_keeps : (n : ℕ) (less : Less) → LessKeeps less → (cs : Codes) (s : State) (k : ℕ) → AreFit Any cs → s.most ≡ k →
-        Keeps k (flats_in meaning p n less cs s)
+        Keeps k (flats_in p n less cs s)
     each_keeps n less below none s k h e = e
     each_keeps n less below (more c cs) s k h e =
-        then_keeps k _ (flats_in meaning p n less cs) (begun_keeps n less below c (stepped 1 s) k h.0 e)
+        then_keeps k _ (flats_in p n less cs) (begun_keeps n less below c (stepped 1 s) k h.0 e)
         (λ s' e'. each_keeps n less below cs s' k h.1 e')
 
-  below_keeps : (n : ℕ) → LessKeeps (flat_below meaning p n)
+  below_keeps : (n : ℕ) → LessKeeps (flat_below p n)
   below_keeps zero c s k h e = e
-  below_keeps (suc n) c s k h e = begun_keeps n (flat_below meaning p n) (below_keeps n) c (stepped 1 s) k h e
+  below_keeps (suc n) c s k h e = begun_keeps n (flat_below p n) (below_keeps n) c (stepped 1 s) k h e
 
-  flat_keeps : (n : ℕ) (c : Code) (s : State) → IsFit Any c → Keeps s.most (flat meaning p n c s)
-  flat_keeps n c s h = begun_keeps n (flat_below meaning p n) (below_keeps n) c (stepped 1 s) s.most h refl
+  flat_keeps : (n : ℕ) (c : Code) (s : State) → IsFit Any c → Keeps s.most (flat p n c s)
+  flat_keeps n c s h = begun_keeps n (flat_below p n) (below_keeps n) c (stepped 1 s) s.most h refl
 
 -- ---- whole programs
 
@@ -147,13 +147,13 @@ runtime_alone p temp name args (fit.leaves v h) = refl
 runtime_alone p temp name args (fit.puts i text h) = refl
 
 -- the cost of a run is that of a call of `main`
-pub run_cost : (meaning : Meaning) (p : Program) (args : List (List ℕ)) (input : List ℕ) (fill n : ℕ) →
-    (run meaning (lowered p) args input fill n).1.most ≡ call_cost (lowered_main (body_code p))
-run_cost meaning p args input fill n =
+pub run_cost : (p : Program) (args : List (List ℕ)) (input : List ℕ) (fill n : ℕ) →
+    (run (lowered p) args input fill n).1.most ≡ call_cost (lowered_main (body_code p))
+run_cost p args input fill n =
     let cost = call_cost (lowered_main (body_code p)) in
     let begun = entered (before_calls (start_world (lowered p) args input fill)) (lowered_main (body_code p)) [] in
     let first : max 0 (0 + cost) ≡ cost = omega arith in
-    ended_keeps _ _ (flat_keeps meaning (lowered p) (runtime_alone p) n (Seq (codes_of (body_code p).code)) begun
+    ended_keeps _ _ (flat_keeps (lowered p) (runtime_alone p) n (Seq (codes_of (body_code p).code)) begun
     (statements_fit Any start (body_of p) (any_held 0 _))) ∙ first
 
 -- ---- addresses

@@ -9,7 +9,6 @@ use Rattle.hare_blocks.specs.Trees.{Program}
 use Rattle.il_code.specs.declared.types.Module.{Module}
 use Rattle.il_code.specs.Machine as machine
 use Rattle.il_code.specs.Run.{Run, end_of, machine}
-use Rattle.il_emit.specs.Meaning.{il_meaning}
 use Rattle.il_emit.specs.Reaches.{Reaches, Arrives, Overflows, end_for}
 use Rattle.low_blocks.specs.Agreement.{DoesTheSame, flat_end}
 use Rattle.low_blocks.specs.Programs.{lowered}
@@ -34,12 +33,12 @@ pub does_forward : (source : List ℕ) (p : Program) (m : Module) → IsSource s
     Forward m (evaluation_of p)
 does_forward source p m s does reaches args input fill turns few byte = pick (reaches args input fill turns)
   where
-    pick : Arrives m args input fill turns (flat.run il_meaning (lowered p) args input fill turns) ⊎ Overflows m args input fill turns
-        (flat.run il_meaning (lowered p) args input fill turns) → carries.Reaches m (evaluation_of p) args input fill turns
+    pick : Arrives m args input fill turns (flat.run (lowered p) args input fill turns) ⊎ Overflows m args input fill turns
+        (flat.run (lowered p) args input fill turns) → carries.Reaches m (evaluation_of p) args input fill turns
     pick (inl a) = record {
       budget = a.budget;
       follows = follows (run (length args) p turns).0 (run (length args) p turns).1
-          (flat.run il_meaning (lowered p) args input fill turns).0 (machine m args input fill a.budget) (does.ends args input fill turns)
+          (flat.run (lowered p) args input fill turns).0 (machine m args input fill a.budget) (does.ends args input fill turns)
           a.ended (sym a.world.output ∙ does.outputs args input fill turns);
     }
-    pick (inr o) = absurd (omega (arith, o.cost, main_fits source p s, run_cost il_meaning p args input fill turns))
+    pick (inr o) = absurd (omega (arith, o.cost, main_fits source p s, run_cost p args input fill turns))

@@ -4,7 +4,7 @@ use Rattle.std.specs.Prelude.{slice_get}
 use Rattle.hare_tree.specs.declared.place.Fault as fault
 use Rattle.hare_tree.specs.declared.stop.Stop.TheVariants.{Fault, Memory}
 use Rattle.hare_decl.specs.Answers.{HasSourceFault}
-use Rattle.hare_fmt.specs.Layout.{IsLaidOut}
+use Rattle.hare_lines.specs.Layout.{IsLaidOut}
 use Rattle.hare_fmt.specs.Answer.{GivesText, GivesFault}
 use Rattle.hare_sources.specs.Files.{most_of_file}
 use Rattle.harec_check.specs.declared.stopped.Stopped.{Stopped}

@@ -1,10 +1,8 @@
 -- The causes of the answers to a command.
 --
 -- Each answer has one cause, which says besides what the text, the output and the files are then. A file that was not read and a write that
--- failed
--- have one answer each. Want of memory comes at will. Behind these a file is laid out by its bytes alone; or the program of the files is
--- checked:
--- where it has a fault, this is the answer; and what is compiled, written out or run has been checked.
+-- failed have one answer each. Want of memory comes at will. Behind these a file is laid out by its bytes alone; or the program of the
+-- files is checked: where it has a fault, this is the answer; and what is compiled, written out or run has been checked.
 use Rattle.std.specs.Prelude.{◌≡◌, ℕ, ◌≤◌, ◌⊎◌, List, [], ◌∷◌, length}
 use Rattle.il_code.specs.declared.types.Module.{Module}
 use Rattle.il_code.specs.Machine.{End}
@@ -14,10 +12,10 @@ use Rattle.il_code.specs.Run.{machine_end, machine_output}
 use Rattle.hare_tree.specs.declared.place.Fault.{Fault}
 use Rattle.hare_blocks.specs.Trees.{Program}
 use Rattle.hare_blocks.specs.Class.{IsSource, IsNoSource}
-use Rattle.hare_fmt.specs.Layout.{IsLaidOut}
+use Rattle.hare_lines.specs.Layout.{IsLaidOut}
 use Rattle.hare_sources.specs.Files.{most_of_file}
 use Rattle.hare_unit.specs.declared.checked.Checked.{Checked}
-use Rattle.hare_unit.specs.Programs.{IsChecked, IsFaultOfProgram}
+use Rattle.hare_unit.specs.Programs.{IsChecked, IsFaultless, IsFaultOfProgram, IsOnlyFaultOfProgram}
 use Rattle.harec_words.specs.Commands.{Command, Check, Emit, Run, Exec, Fmt}
 use Rattle.harec_core.specs.declared.answer.Answer.{Answer}
 use Rattle.harec_core.specs.declared.answer.Answer.TheVariants.{Accepted, Exited, Usage, Refused, FileFault, Undefined, Memory, ReadFault, WriteFault, Spent, StackFull, Aborted}
@@ -47,12 +45,13 @@ pub record IsQuiet (c : Call) : Type 0 where
 
 -- ---- what is checked, and what is compiled
 
--- The command is one on a program: all of its files were read, and their program is checked.
+-- The command is one on a program: all of its files were read, and their program is checked and has no fault.
 pub record IsSound (c : Call) : Type 0 where
   pub checks : Checks c.command
   pub files : Stands c.files
   pub program : Checked
   pub checked : IsChecked (files_of c.command) c.sources program
+  pub faultless : IsFaultless (files_of c.command) c.sources program
 
 -- the text is that of a module, which carries the one program of the file with these bytes
 pub record IsMade (source text : List ℕ) (m : Module) : Type 0 where
@@ -100,11 +99,13 @@ pub record NotRead (c : Call) : Type 0 where
   pub silent : IsSilent c
   pub text : c.text ≡ []
 
--- the command is one on a program: all files were read, and their program has this first fault
+-- The command is one on a program: all files were read, and their program has this first fault, and no other over the store with which its
+-- checking ended.
 pub record NotSound (c : Call) (f : Fault) : Type 0 where
   pub checks : Checks c.command
   pub files : Stands c.files
   pub first : IsFaultOfProgram (files_of c.command) c.sources f
+  pub only : IsOnlyFaultOfProgram (files_of c.command) c.sources f
   pub silent : IsSilent c
   pub text : c.text ≡ []
 
@@ -154,8 +155,7 @@ pub record LaidOut (c : Call) : Type 0 where
   pub sent : IsSent layout c.out
 
 -- The run ended so: that of the machine over the module that the text spells, with the arguments, the units and the fill byte of the call,
--- whatever
--- the input is. All of its output was written.
+-- whatever the input is. All of its output was written.
 pub record EndedIn (c : Call) (end : End) : Type 0 where
   pub units : ℕ
   pub paths : List (List ℕ)
@@ -219,8 +219,7 @@ answer_to machine.StackFull = StackFull
 answer_to machine.Spent = Spent
 
 -- The answer is this one, or memory ran out, or the program has a fault. That a file of the class has no fault of the language is not
--- proved; where
--- it had one, that would be the answer.
+-- proved; where it had one, that would be the answer.
 pub data Gives (c : Call) (answer this : Answer) : Type 0 where
   gives : answer ≡ this → Gives c answer this
   exhausted : answer ≡ Memory → Gives c answer this

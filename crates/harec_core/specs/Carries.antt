@@ -22,8 +22,7 @@ EndAlike Goes end = ⊥
 -- ---- forward
 
 -- The run of a module with a budget follows a program that stands so, with this output: where the program has ended, the run ends alike
--- with
--- the same output; where it goes on, its output is a front of the run's. Nothing is asked behind what has no meaning.
+-- with the same output; where it goes on, its output is a front of the run's. Nothing is asked behind what has no meaning.
 abbrev pub Follows : (end : End) (output : List ℕ) → Outcome → List ℕ → Type 0
 Follows end output (Exits status) expected = EndAlike (Exits status) end × (output ≡ expected)
 Follows end output (Aborts text) expected = EndAlike (Aborts text) end × (output ≡ expected)
@@ -44,8 +43,7 @@ Forward m e = (args : List (List ℕ)) (input : List ℕ) (fill turns : ℕ) →
 -- ---- back
 
 -- The program stands by what a run has done, after one turn more than the run has done jumps and calls: it did what has no meaning, or the
--- run
--- goes on and its output is a front of the program's, or both have ended alike with the same output.
+-- run goes on and its output is a front of the program's, or both have ended alike with the same output.
 abbrev pub Backs : (end : End) (output : List ℕ) → Outcome → List ℕ → Type 0
 Backs end output outcome told = (outcome ≡ Breaks) ⊎ ((end ≡ Spent) × IsFront output told) ⊎ (EndAlike outcome end × (output ≡ told))
 

@@ -20,8 +20,7 @@ evaluation_of p = record {
 }
 
 -- One function `main`, with as many loops as the program has `for`. It calls no function of the module. There is no global, and at most one
--- further data
--- item for each string that is put out.
+-- further data item for each string that is put out.
 abbrev pub outline_of : Program → Outline
 outline_of p = record {
   functions = record { name = codes "main"; loops = program_fors p; calls = λ callee. 0 } ∷ [];

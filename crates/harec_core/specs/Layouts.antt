@@ -2,7 +2,7 @@
 use Rattle.std.specs.Prelude.{◌≡◌, ℕ, ◌<◌, ◌≤◌, List, length}
 use Rattle.hare_tree.specs.declared.place.Fault.{Fault}
 use Rattle.hare_decl.specs.Answers.{HasSourceFault}
-use Rattle.hare_fmt.specs.Layout.{IsLaidOut}
+use Rattle.hare_lines.specs.Layout.{IsLaidOut}
 use Rattle.hare_sources.specs.Files.{most_of_file}
 
 -- The text is the layout of these bytes, and the only one; and the bytes have no fault of tokens and syntax. There are not too many.

@@ -48,8 +48,7 @@ pub record IsUnreadLine (paths : List (List ℕ)) (line : List ℕ) : Type 0 whe
   pub text : line ≡ unread_line path
 
 -- The line of an answer to a command on the files of these paths, which runs with so many units if it runs. A program's own exit has none,
--- and
--- nor has an accepted program; and no program of today aborts.
+-- and nor has an accepted program; and no program of today aborts.
 abbrev pub IsLine : (paths : List (List ℕ)) (units : ℕ) → Answer → List ℕ → Type 0
 IsLine paths units Accepted line = line ≡ []
 IsLine paths units (Exited status) line = line ≡ []

@@ -14,8 +14,7 @@ pub record Evaluation : Type 0 where
   pub output : (args : List (List ℕ)) (input : List ℕ) (turns : ℕ) → List ℕ
 
 -- A function of a program: the symbol that its text has, how many loops its text may have, and how many calls of the function with a
--- symbol. Each
--- loop and call counts as often as it is written out.
+-- symbol. Each loop and call counts as often as it is written out.
 pub record FunctionOutline : Type 0 where
   pub name : List ℕ
   pub loops : ℕ

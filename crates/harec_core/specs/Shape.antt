@@ -46,8 +46,7 @@ HaveOutlines all (f ∷ fs) [] = ⊥
 HaveOutlines all (f ∷ fs) (b ∷ bs) = HasOutline all f b × HaveOutlines all fs bs
 
 -- The shape of a program's module: its functions, one for each of the program; a data item for each global, and no more further ones than
--- the
--- program asks for.
+-- the program asks for.
 pub record HasShape (o : Outline) (m : Module) : Type 0 where
   pub functions : HaveOutlines (functions_of m.items) o.functions (functions_of m.items)
   pub globals : o.globals ≤ data_count m.items
@@ -56,8 +55,7 @@ pub record HasShape (o : Outline) (m : Module) : Type 0 where
 -- ---- what a call costs the stack
 
 -- Bytes of the stack are taken in the first block alone, each time as many as a number says, and a call costs the stack no more than this,
--- with all
--- that it takes there.
+-- with all that it takes there.
 pub record IsWithinFrame (frame : ℕ) (b : Body) : Type 0 where
   pub placed : IsTrue (allocs_are_placed b.blocks)
   pub cost : full_cost b.params b.blocks ≤ frame

@@ -30,8 +30,10 @@ use std::alloc::Global;
 /// FILES` does no more. `emit FILES` writes the IL text of the program to the output. `run
 /// [--units N] FILES [-- ARGS]` makes the same text, reads the module back from it and runs that, with the arguments and at most N units, and writes
 /// the program's output as it comes. Programs of several files, and of a file that is not of the class of today, are not compiled yet: E49 at the start
-/// of the first file. Each answer but an accepted program or file and a program's own exit has one line, which the log gets. All memory is taken before
-/// the first byte of output or of the log.
+/// of the first file. Each answer but an accepted program or file, a program's own exit and an abort has one line, which the log gets. Want of memory is
+/// answered only before the first byte of output or of the log.
+///
+/// As the call begins, `text` is empty, and no object's count of faults stands at 2^64 - 1, where it could rise no more.
 ///
 /// `fill` is the byte that new memory and unassigned temporaries of a run hold. `text` becomes the IL text that was made: it is empty where no module
 /// was made, and after want of memory it is the text or empty.
@@ -68,7 +70,8 @@ pub fn harec<F: Files, I: Source, O: Sink, L: Sink>(
         (sent (L.faults log.old) (L.faults log.new) (L.written log.old) (L.written log.new))
         answer.Usage result }
 
-    // The answer to a command is found by the bytes of its files, which are those that the files tell. Then its line goes to the log.
+    // The answer to a command is found by a list of bytes for each of its files: those that the file tells, where it tells any. Then its line goes to
+    // the log.
     ensures command { (c : Command) → IsAsked words.now c
         → (srcs : List (List ℕ)) × AreTold (F.content files.old) (files_of c) srcs
         × (found : Answer)

@@ -2,7 +2,7 @@ use Rattle.std.proofs.Common.{ap, inr, refl, subst, sym}
 use Rattle.std.proofs.lemmas.Result.{err_from_is_err_and}
 use Rattle.harec_core.specs.Asked.{Compiles}
 use Rattle.harec_core.specs.Stages.{IsTextOf, command_on}
-use Rattle.harec_core.proofs.Causes.{compiled_on, emit_cause, run_cause, silent}
+use Rattle.harec_core.proofs.Causes.{compiled_on, emit_cause, run_cause, silent, unbuilt_cause}
 use Rattle.harec_core.proofs.carry.carry_out.Goals as goal
 
 pub returns-in_ok-build-in-Emit-clause-cause : goal.returns-in_ok-build-in-Emit-clause-cause
@@ -32,3 +32,21 @@ returns-in_err-end-in-Run-clause-cause g c = λ files s.
     let compiled = compiled_on c.args.paths.now c.args.purpose _ _ _ _ _ m k s c.requires.checked c.requires.paired built in
     let p = err_from_is_err_and c.from_residual-in_err-end-in-Run.result c.from_residual-in_err-end-in-Run.ensures.1 in
     rw (p.1, p.2) (record { files = s; silent = rw c.in_err-end-in-Run.ensures.err (silent _ _); text = inr (m, compiled) })
+
+pub returns-in_err-build-in-Emit-clause-cause : goal.returns-in_err-build-in-Emit-clause-cause
+returns-in_err-build-in-Emit-clause-cause g c = λ files s.
+    let e = ap (command_on c.args.paths.now) c.in-Emit.is in
+    let k : Compiles (command_on c.args.paths.now c.args.purpose) = subst Compiles (sym e) tt in
+    let p = err_from_is_err_and c.from_residual.result c.from_residual.ensures.1 in
+    let built = c.in_err-build-in-Emit.ensures in
+    rw (p.1, p.2)
+    (unbuilt_cause c.args.paths.now c.args.purpose _ _ _ _ _ _ k s c.requires.checked (silent _ _) built.untouched built.err)
+
+pub returns-in_err-build-in-Run-clause-cause : goal.returns-in_err-build-in-Run-clause-cause
+returns-in_err-build-in-Run-clause-cause g c = λ files s.
+    let e = ap (command_on c.args.paths.now) c.in-Run.is in
+    let k : Compiles (command_on c.args.paths.now c.args.purpose) = subst Compiles (sym e) tt in
+    let p = err_from_is_err_and c.from_residual-in_err-build-in-Run.result c.from_residual-in_err-build-in-Run.ensures.1 in
+    let built = c.in_err-build-in-Run.ensures in
+    rw (p.1, p.2)
+    (unbuilt_cause c.args.paths.now c.args.purpose _ _ _ _ _ _ k s c.requires.checked (silent _ _) built.untouched built.err)
