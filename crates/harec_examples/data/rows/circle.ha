@@ -1,0 +1,1 @@
+def a: int = b; def b: int = a;

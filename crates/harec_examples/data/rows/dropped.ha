@@ -1,0 +1,2 @@
+fn f() (int | !void) = 1;
+export fn main() void = { f(); };

@@ -1,0 +1,1 @@
+let x: u8 = 255; export fn main() void = {};

@@ -1,0 +1,1 @@
+export fn f() void = void;

@@ -1,0 +1,2 @@
+use rows::m;
+export fn main() void = m::f();
