@@ -18,8 +18,7 @@ is_case ki.SwitchCase = true
 is_case _ = false
 
 -- Each type that stands in it is in the store, and mentions no name that is not defined; what can be a place has a type, before and behind
--- its
--- coercion, and so has a case; and of what a written type writes it is known whether it has a size.
+-- its coercion, and so has a case; and of what a written type writes it is known whether it has a size.
 pub record IsKeptTree (s : Store) (x : TypedNode) : Type 0 where
   pub types : IsDefinedTree s x
   pub place : has_place_form x ≡ true → IsSome (id_in (given x))

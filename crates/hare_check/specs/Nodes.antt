@@ -36,8 +36,7 @@ abbrev pub Walks : Store → List Spot → Walker → Type 0
 Walks s ps w = IsWalking s ps w.decls.now w.standing w.seen w.told w.begun
 
 -- The node is a part of a body, all of whose kids have been judged: they are what is inferred of them, they carry what is settled by now,
--- and
--- what is relied on of judged trees holds of each.
+-- and what is relied on of judged trees holds of each.
 pub record IsAtNode (s : Store) (w : Walker) (n : Node) (xs : List TypedNode) : Type 0 where
   pub walks : (ps : List Spot) × Walks s (spot (head n).kind (length xs) ∷ ps) w
   pub part : IsPart n

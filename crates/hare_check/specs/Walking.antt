@@ -25,8 +25,7 @@ abbrev pub AreKnownDecls : Store → List DeclType → Type 0
 AreKnownDecls s ds = (n : ℕ) (d : DeclType) → find (λ e. nat_eq e.decl n) ds ≡ Some d → IsKnownKind s n d d.kind
 
 -- Each type that stands over the tree at hand or was seen before it is in the store, and mentions no name that is not defined; judges are
--- told of
--- what has been seen; and what was yielded may go where the walk stands.
+-- told of what has been seen; and what was yielded may go where the walk stands.
 pub record IsWalking (s : Store) (ps : List Spot) (ds : List DeclType) (st : Stands) (f : Flow) (told : List Local) (begun : List ℕ) :
     Type 0 where
   pub standing : IsReady s st

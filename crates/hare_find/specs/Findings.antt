@@ -32,8 +32,7 @@ lists ki.SwitchCase = false
 lists _ = true
 
 -- The turn of a node has come. Its kids have been judged and are in hand; its judge is told of what stands over it, of the bindings that
--- have been
--- seen, and of what was yielded to it; and the walk has looked at the rest.
+-- have been seen, and of what was yielded to it; and the walk has looked at the rest.
 pub record IsAtTurn (w : Store → Setting) (s : Store) (a : Above) (f : Flow) (t : Turn) (gs : List Given) : Type 0 where
   pub store : (l : Store) → (w l).store ≡ l
   pub decls : (l : Store) → (w l).decls ≡ t.decls.now

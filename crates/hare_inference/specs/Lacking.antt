@@ -1,6 +1,5 @@
 -- Where a store lacks a type: neither is a tree well typed over it, nor has it a first fault. No such store is left by a checker, which
--- puts
--- in each type that it makes.
+-- puts in each type that it makes.
 use Rattle.std.specs.Prelude.{◌≡◌, List, [], ◌∷◌, ◌++◌, None, ◌⊎◌}
 use Rattle.hare_tree.specs.Node.{Head, Node, Nodes, branch, none, more}
 use Rattle.hare_typed.specs.Typed.{TypedNode, TypedNodes}

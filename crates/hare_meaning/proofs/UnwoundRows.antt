@@ -1,6 +1,5 @@
 -- A body with a deferred expression, and one in which it was copied by hand to the two exits that run it. Bindings of both are numbered by
--- place, so
--- that each copy has its own, and its paths have those numbers.
+-- place, so that each copy has its own, and its paths have those numbers.
 use Rattle.std.proofs.Common.{◌≡◌, ℕ, List, [], ◌∷◌, codes, refl, rules}
 use Rattle.hare_tree.specs.declared.kind.Kind.TheVariants as kind
 use Rattle.hare_typed.specs.Cells.{byte_cells}

@@ -73,8 +73,7 @@ objects_of_constant constant.Absent = []
 objects_of_constant (constant.Known cs os) = listed_objects os
 
 -- The constant of a global, a declaration with its number: what its value comes to with the tags of the finished program. The one that its
--- tree carries
--- has the tags by id.
+-- tree carries has the tags by id.
 abbrev pub constant_of : Store → ℕ × TypedNode → Const
 constant_of s d = folded_from (constant_result s d.0 (value_of d.1))
 
@@ -106,8 +105,7 @@ abbrev pub text_object : TypedNode → Object
 text_object t = record { cells = byte_cells (head_of t).text; kind = Constant; align = 1; alive = true }
 
 -- The array of a global's value that becomes a slice may be stored to, also where the global may not. It is aligned as its elements are,
--- also
--- where it is empty, and its cells are those that the global's constant leads to.
+-- also where it is empty, and its cells are those that the global's constant leads to.
 abbrev pub array_over : Store → TypedNode → List Cell → Object
 array_over s t cs =
     record {

@@ -33,8 +33,7 @@ records_of args = records_from 0 (argument_addresses args) args
 -- ---- the ground
 
 -- The static objects of the code stand at these addresses, in their order, and behind them in the list the arguments; the records of the
--- arguments
--- and these texts of aborts are fixed.
+-- arguments and these texts of aborts are fixed.
 pub record IsGroundOf (c : Code) (args : List (List ℕ)) (statics : List ℕ) (texts : List (ℕ × List ℕ)) (g : Ground) : Type 0 where
   pub every : length statics ≡ length c.statics
   pub standing : g.standing ≡ enumerate_from 0 (statics ++ argument_addresses args)

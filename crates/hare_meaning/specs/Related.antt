@@ -1,6 +1,5 @@
 -- How the objects of an evaluation stand in flat memory, and in the temporaries of the calls under way. No flat code is named here: what
--- the
--- temporaries hold is a function of the call and the temporary.
+-- the temporaries hold is a function of the call and the temporary.
 use Rattle.std.specs.Prelude.{◌≡◌, ℕ, ◌+◌, ◌*◌, ◌%◌, ◌^◌, ◌<◌, ◌≤◌, pos, Bool, true, List, [], ◌∷◌, length, slice_get, slice_index, Some, None}
 use Rattle.std.specs.List.{AllZip}
 use Rattle.hx_base.specs.Memory.{Memory as FlatMemory, byte_at, is_mapped, bytes_at, le_bytes}

@@ -1,10 +1,7 @@
 -- What evaluation and lowering use of a typed tree, node by node: the kids that its kind has, how the types of a node and of its kids meet,
--- what
--- is in scope, where a jump goes, and which members of unions have tags. Nothing here asks how types are found: there are no hints, no
--- faults and
--- no rows of typing rules. So a tree that a checker found and one that was made of it by unwinding can both be settled, and whoever
--- evaluates or
--- lowers trees asks for this alone.
+-- what is in scope, where a jump goes, and which members of unions have tags. Nothing here asks how types are found: there are no hints, no
+-- faults and no rows of typing rules. So a tree that a checker found and one that was made of it by unwinding can both be settled, and
+-- whoever evaluates or lowers trees asks for this alone.
 use Rattle.std.specs.Prelude.{◌≡◌, ◌⊎◌, ℕ, suc, Bool, true, false, List, length, map}
 use Rattle.hare_tree.specs.declared.kind.Kind.{Kind}
 use Rattle.hare_tree.specs.declared.kind.Kind.TheVariants as kind
@@ -136,8 +133,7 @@ use_by true = Evaluates
 use_by false = Ignores
 
 -- The path of what is called is not evaluated, nor what stands in `offset`. Of the element or range that is deleted the operand and the
--- bounds
--- are. Of all other kids it is those of kinds that are evaluated.
+-- bounds are. Of all other kids it is those of kinds that are evaluated.
 abbrev pub use_of : (kind own : Kind) → ℕ → Use
 use_of kind.Call k ℕ.zero = Ignores
 use_of kind.Offset k i = Ignores

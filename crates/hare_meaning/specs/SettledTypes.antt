@@ -30,8 +30,7 @@ abbrev pub items_at : Store → ℕ → ℕ
 items_at s t = length_of_row (base_row s (kept.Of t))
 
 -- The type is in the store, and what it is named is followed to an end; where its values have a size it is known, and not too large. Nor
--- has
--- an array too many items, also where they take no bytes.
+-- has an array too many items, also where they take no bytes.
 pub record IsAdmitted (s : Store) (t : ℕ) : Type 0 where
   pub within : t < length s.rows
   pub base : IsSome (base_at s t)

@@ -1,6 +1,5 @@
 -- That a pointer leads into the object that it names, or to its end. Evaluation makes no other, and that addresses are compared in the
--- place of
--- pointers rests on it.
+-- place of pointers rests on it.
 use Rattle.std.specs.Prelude.{ℕ, ◌≤◌, List, slice_get, Option, Some, None}
 use Rattle.hare_typed.specs.declared.cell.Cell.{Cell}
 use Rattle.hare_typed.specs.declared.cell.Cell.TheVariants as cell

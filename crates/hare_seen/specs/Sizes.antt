@@ -24,8 +24,7 @@ abbrev pub is_small_at : Store → ℕ → Bool
 is_small_at s u = is_small (option_map (λ x. x.size) (extent_at s u))
 
 -- The row that asks whether a written type of this kind is small, where it stands in the store as this row. What is left of a union may be
--- one member
--- alone: that has been looked at where it is written.
+-- one member alone: that has been looked at where it is written.
 abbrev pub size_row_by : Kind → Option Row → Option RowId
 size_row_by ki.TypeArray r = Some rows.ArrayTypeSmall
 size_row_by ki.TypeStruct r = Some rows.FieldsSmall

@@ -1,6 +1,5 @@
 -- What a judge is told of a node, of all that is known of it. It is told of no binding that is not known, of no hint that a label has,
--- and not
--- which node it is; a value that is yielded without a type is told as void.
+-- and not which node it is; a value that is yielded without a type is told as void.
 use Rattle.std.specs.Prelude.{◌≡◌, ℕ, Bool, true, false, List, [], ◌∷◌, map, slice_get, find, Option, Some, None, IsSome}
 use Rattle.hare_tree.specs.declared.kind.Kind.TheVariants as ki
 use Rattle.hare_tree.specs.declared.token.Meaning.TheVariants as means

@@ -39,8 +39,7 @@ parameters_weight : weight with_parameters ≡ 3
 parameters_weight = refl
 
 -- ---- `fn f() void = { defer f(); return; };`: the call with its two kids has two copies; beside it stand the defer, the return with its
--- kid, and
--- the block
+-- kid, and the block
 
 abbrev with_defer : TypedNode
 with_defer = function [] (block (defer call ∷ returning ∷ []))
@@ -63,8 +62,7 @@ let_weight : weight with_let ≡ 4
 let_weight = refl
 
 -- ---- `fn f(x: (int | str | !void)) void = match (x) { case let i: int => void; case => void; };`: the operand and the parameter have 32
--- bytes; the
--- match has a weight of 4; seven nodes stand in its cases
+-- bytes; the match has a weight of 4; seven nodes stand in its cases
 
 abbrev with_match : TypedNode
 with_match = function (param three ∷ []) (tree kind.Match void (path three
@@ -125,8 +123,7 @@ without_size : node_size types (path never) ≡ 0
 without_size = refl
 
 -- ---- `fn f(a: bool) void = { defer rt::puts("x"); if (a) return; };`: the call, its callee and the place of a comma twice, the text of 24
--- bytes twice, and
--- eight nodes once
+-- bytes twice, and eight nodes once
 
 abbrev with_text : TypedNode
 with_text = function (param bool ∷ [])

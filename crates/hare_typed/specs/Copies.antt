@@ -1,6 +1,5 @@
 -- How many copies a node has once the deferred expressions stand where they run: one of each where its block ends, and one where the block
--- is
--- left before.
+-- is left before.
 use Rattle.std.specs.Prelude.{ℕ, suc, ◌*◌, ◌==◌, Bool, true, false, not, ◌&&◌, ◌||◌, List, [], ◌∷◌, ◌++◌, length, map, flat_map, filter, find, Option, Some, None, nat_eq, if◌then◌else◌}
 use Rattle.std.specs.Cmp.Lexicographic.{pointwise}
 use Rattle.hare_tree.specs.declared.kind.Kind.{Kind}
@@ -13,8 +12,7 @@ use Rattle.hare_typed.specs.Numbers.{kind_of, number_of, body_of, parameters_of}
 -- ---- what leaves
 
 -- where the node goes that leaves what stands round it: to the end of the function; to a loop, to go on behind it or with its next turn; to
--- the end
--- of a block
+-- the end of a block
 abbrev pub way_of : Kind → Option Way
 way_of kind.Return = Some way.Return
 way_of kind.Try = Some way.Return
@@ -50,8 +48,7 @@ abbrev pub means : (label own : List ℕ) → Bool
 means label own = is_unlabelled label || pointwise nat_eq label own
 
 -- Whether an exit goes no further than a node of this kind and label. Loops are what a break and a continue go to, blocks and cases what a
--- yield
--- goes to. What a deferred expression leaves with is dropped, and the rules admit none that leaves it.
+-- yield goes to. What a deferred expression leaves with is dropped, and the rules admit none that leaves it.
 abbrev pub ends_at : Kind → List ℕ → Exit → Bool
 ends_at kind.For own e = is_break e.way && means e.label own
 ends_at kind.ForEach own e = is_break e.way && means e.label own
@@ -93,8 +90,7 @@ abbrev pub inner_copies : Kind → (own deferred : ℕ) → ℕ
 inner_copies k own deferred = if is_defer k then deferred else own
 
 -- A deferred expression runs at the end of its block, which counts once, also where it is not reached, and at each exit behind it that
--- leaves
--- the block. Each of these stands in no further deferred expression, so that it has as many copies as the block.
+-- leaves the block. Each of these stands in no further deferred expression, so that it has as many copies as the block.
 abbrev pub deferred_copies : (own : ℕ) → TypedNodes → ℕ
 deferred_copies own behind = own * suc (length (exits_each behind))
 

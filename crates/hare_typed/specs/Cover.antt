@@ -40,8 +40,7 @@ ListsAll None vs = ⊥
 ListsAll (Some r) vs = (v : ℤ) → r.least ≤ℤ v → v ≤ℤ r.greatest → Contains vs v
 
 -- The values that the cases of a `switch` list, and whether it has a default, cover the base of a type. Of texts there is no end, so that
--- they
--- want a default.
+-- they want a default.
 abbrev pub SwitchCovers : Store → Ty → (has_default : Bool) → List ℤ → Type 0
 SwitchCovers s t has_default vs = IsTrue has_default ⊎ ListsAll (range_of (base_row s t)) vs
 

@@ -18,8 +18,7 @@ use Rattle.hare_typed.specs.ConstantValues.{constant_result}
 -- ---- tags
 
 -- Which types have tags, and in which order, is known when all bodies are checked. Until then the tag of a type is one more than its id: in
--- the
--- constants that trees carry it is always so, and no later store says otherwise. The objects of globals have the tags of the finished
+-- the constants that trees carry it is always so, and no later store says otherwise. The objects of globals have the tags of the finished
 -- program.
 abbrev pub tagged_by_id : Store → Store
 tagged_by_id s = record s { listed = counted_from 0 (length s.rows) }

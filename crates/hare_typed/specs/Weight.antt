@@ -1,6 +1,5 @@
 -- The weight of a node: what its evaluation may cost, and how much code it may take. It rests on the node's mark and on the marks of its
--- kids
--- alone.
+-- kids alone.
 use Rattle.std.specs.Prelude.{ℕ, ◌+◌, ◌-◌, ◌==◌, if◌then◌else◌}
 use Rattle.hare_tree.specs.declared.kind.Kind.{Kind}
 use Rattle.hare_tree.specs.declared.kind.Kind.TheVariants as kind
@@ -38,8 +37,7 @@ count typed_none = 0
 count (typed_more t ts) = 1 + count ts
 
 -- The items of a literal, as they are written. Beside them a struct literal has its path and a place for a comma, a tuple one for a comma,
--- an
--- array one for `...` and one for a comma.
+-- an array one for `...` and one for a comma.
 abbrev pub items_of : Kind → TypedNodes → ℕ
 items_of kind.StructLit ts = count ts - 2
 items_of kind.Tuple ts = count ts - 1

@@ -48,6 +48,9 @@ pub struct Program<'a> {
 /// rows. Or the first fault of the value, or where it has none that of the declaration. `ready` is that part of what is known of which all types are defined;
 /// what the value names is put there.
 ///
+/// The conditions are that `decl` is a def or a global and shaped as a declaration; that `types` are trees of its written types; that the places are
+/// those of the files; and that all types in `defined`, and all types of what is ready, mention only names that are defined.
+///
 /// A value that names a declaration of the program which is not known, or one of which a type mentions a name that is not defined, is answered as want of memory; so is a written
 /// type that mentions such a name, all where `rt::nomem` is not defined, and what `check_value` and `judge_binding` answer so. The time is that of the value
 /// and of what it names for the first time.

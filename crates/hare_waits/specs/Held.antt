@@ -7,8 +7,7 @@ use Rattle.hare_types.specs.Store.{Store, definition_of}
 use Rattle.hare_types.specs.ByIds.{row_at}
 
 -- What a row holds by value: an array its element, a struct its fields, a tuple its components, a union its members, an error type what it
--- marks, and
--- a name what it stands for, where it is defined.
+-- marks, and a name what it stands for, where it is defined.
 abbrev pub held_by : (ℕ → Option ℕ) → Row → List ℕ
 held_by definition (row.Scalar k) = []
 held_by definition (row.Pointer i) = []

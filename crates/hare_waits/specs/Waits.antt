@@ -30,8 +30,7 @@ pub record IsWaiting (s : Store) (js : List (ℕ × List TypedNode)) (n : ℕ) (
   pub waits : WaitsFor s w.ty n
 
 -- Of the written types of declarations that were judged, each with these: all are in the store, and each node fits as far as its bytes are
--- known. A node
--- whose bytes are not known is entered under a name for which it waits, and nothing else is entered.
+-- known. A node whose bytes are not known is entered under a name for which it waits, and nothing else is entered.
 pub record AreAwaited (s : Store) (q : List (ℕ × Waiting)) (js : List (ℕ × List TypedNode)) : Type 0 where
   pub stand : (m : ℕ) (ts : List TypedNode) → Contains js (m, ts) → StandIn s ts
   pub fit : (m : ℕ) (ts : List TypedNode) → Contains js (m, ts) → AllFit s ts

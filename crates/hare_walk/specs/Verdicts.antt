@@ -31,8 +31,7 @@ flow_of c a h xs f t =
     }
 
 -- Where a judge is told of a node, and the walk has looked at the rest, a verdict is that of the node's turn: its type, and where the
--- hint asks
--- something of it its coercion. A refusal is the node's first fault.
+-- hint asks something of it its coercion. A refusal is the node's first fault.
 pub record IsTurnOf (w : Setting) (a : Above) (h : Head) (xs : List TypedNode) (f : Flow) (ds : List DeclType) (ls : List Local) (q : Case)
     (c : Context) : Type 0 where
   pub accepted : (v : Verdict) → IsVerdict (told c ds ls q) q.yields v →

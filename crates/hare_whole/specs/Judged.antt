@@ -1,6 +1,5 @@
 -- The first fault of a program whose files and names have none: of circles, then of declarations, then of bodies, then of limits. A later
--- phase is looked at
--- where all earlier ones found nothing.
+-- phase is looked at where all earlier ones found nothing.
 use Rattle.std.specs.Prelude.{◌≡◌, ℕ, List, map}
 use Rattle.hare_tree.specs.declared.place.Fault.{Fault}
 use Rattle.hare_types.specs.Store.{Store}

@@ -87,8 +87,7 @@ bytes_of_texts ds = sum_by (λ d. text_bytes (erase d)) ds
 -- ---- programs
 
 -- What a whole program is, but for two things that are said of names elsewhere: that its paths are words that name files, and that each
--- local of a path is
--- a binding in scope there.
+-- local of a path is a binding in scope there.
 pub record IsComplete (s : Store) (paths : List (List ℕ)) (ds : List TypedNode) (means : Place → Meaning) (entry : ℕ) : Type 0 where
   pub sound : IsStore s
   pub shaped : AreShaped ds

@@ -1,6 +1,5 @@
 -- The list of the types that have tags. It begins with the types that are written as members of unions, and goes on with those of the
--- unions that
--- allocations give.
+-- unions that allocations give.
 use Rattle.std.specs.Prelude.{ℕ, List, [], ◌∷◌, ◌++◌, Bool, true, false, not, ◌&&◌, ◌==◌, cond, filter, Option, Some, None}
 use Rattle.std.specs.Option.{unwrap_or}
 use Rattle.std.specs.List.{flat_map}

@@ -28,8 +28,7 @@ abbrev pub large_stop : TypedNode → Stop Fault
 large_stop y = Refused (too_large (place_of (erase y)))
 
 -- The tree of a node with this role. In each later store in which each of its nodes fits, it is what is inferred; in each other one
--- inference stops at the
--- first that is too large.
+-- inference stops at the first that is too large.
 pub record IsJudged (w : Store → Setting) (s : Store) (r : Role) (t : Node) (n : ℕ) (x : TypedNode) : Type 0 where
   pub erases : erase x ≡ t
   pub plain : bare x ≡ x
