@@ -344,8 +344,13 @@ impl Standing {
         self.begins = at.begins;
     }
 
-    /// Goes on to the next kid of the tree at hand, behind those that are done, which stands there. The answer is that of every later store; the store
-    /// may grow in types. Of what stands over any tree nothing is known where memory is short.
+    /// Goes on to the next kid of the tree at hand, behind those that are done, which stands there. The answer is that of every later
+    /// store; the store may grow in types. It fails for want of memory alone; of what stands over any tree nothing is known then.
+    ///
+    /// The conditions are that `kid` is the kid of `kids` behind those that are done; that `at` says where it stands, behind these; that
+    /// each type for which something over the tree at hand asks, the result of the function, and each type that stands in the kids that are
+    /// done is in the store and mentions no name that is not defined; and that so does each parameter in `decls`, and the store defines
+    /// `rt::nomem`.
     ///
     /// Beside the hint it takes constant time, but that of the labels at a deferred expression, and of the labels and its name at a `yield`.
     pub fn enter(

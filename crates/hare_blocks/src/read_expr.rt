@@ -17,8 +17,8 @@ use std::alloc::{AllocError, Global};
 /// How many parentheses may be open at once within an expression.
 const DEEPEST: u32 = 64;
 
-/// Takes the expression at the front of the tokens, where `depth` parentheses of it are open in front of them. None where none stands there,
-/// or where too many parentheses are open in it; some of the tokens may be taken then.
+/// Takes the expression at the front of the tokens, where `depth` parentheses of it are open in front of them. None where none stands
+/// there, or where too many parentheses are open in it; some of the tokens may be taken then. `depth` is at most 64.
 #[cycle(expr)]
 pub fn expr(alloc: Global, tokens: &mut Cursor, depth: u32) -> Result<Option<Expr>, AllocError>
     requires { depth ≤ 64 }

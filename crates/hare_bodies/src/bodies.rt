@@ -42,8 +42,8 @@ fn can_judge(alloc: Global, s: &TypeStore, known: &DeclTypes) -> Result<bool, Al
 /// first function whose body has one, by the typing rules. The store may grow in names and types, also where there is a fault, and the answer holds in each
 /// later store.
 ///
-/// Each declaration is shaped. Where a type that is told mentions a name that is not defined, the answer is want of memory; so it is where
-/// `hare_check::check_body` says so.
+/// Each declaration is shaped, and `places` are those of the declarations of these files. Where a type that is told mentions a name that is
+/// not defined, the answer is want of memory; so it is where `hare_check::check_body` says so.
 pub fn judge_bodies(
     alloc: Global,
     s: &mut TypeStore,

@@ -81,10 +81,11 @@ fn walker_over<'a>(
 /// The one typed tree of the body of a function, by the typing rules, or exactly its first fault: that of the first row that fails at the first node, in
 /// check order, that fails. The store may grow in names and types, also where there is a fault, and the answer holds in each later store.
 ///
-/// The conditions are that each declared type that is known is defined, and that all other types that are told mention no name that is not defined. A path
-/// that means nothing known, a declaration that is not told or is no function, and a body of more than 2^32 - 1 nodes or bindings are answered as want of
-/// memory; so is a value of a case whose constant `hare_const::constant` does not work out, or which stands in declaration 2^32 - 1. The call goes as deep
-/// in the host as the body is.
+/// The conditions are that the body is a shaped expression, that the store defines `rt::nomem`, that each declared type that is known is
+/// defined, and that all other types that are told mention no name that is not defined. A path that means nothing known, a declaration that
+/// is not told or is no function, and a body of more than 2^32 - 1 nodes or bindings are answered as want of memory; so is a value of a
+/// case whose constant `hare_const::constant` does not work out, or which stands in declaration 2^32 - 1. The call goes as deep in the host
+/// as the body is.
 pub fn check_body(
     alloc: Global,
     s: &mut TypeStore,

@@ -63,10 +63,11 @@ fn walker_over_value<'a>(
 /// that fails at the first node, in check order, that fails. What the value goes to stands in its constant; its own coercion is that of its turn. The
 /// store may grow in names and types, also where there is a fault, and the answer holds in each later store.
 ///
-/// The conditions are that the type that is asked for and each declared type that is known are defined, and that all other types that are told mention no
-/// name that is not defined. A path that means nothing known, a value of more than 2^32 - 1 nodes or bindings, a declaration whose number is 2^32 - 1,
-/// and a constant that is not worked out are answered as want of memory; `hare_const::constant` says which those are. The call goes as deep in the host
-/// as the value is.
+/// The conditions are that the value is a shaped expression, that the store defines `rt::nomem`, that the type that is asked for and each
+/// declared type that is known are defined, and that all other types that are told mention no name that is not defined. A path that means
+/// nothing known, a value of more than 2^32 - 1 nodes or bindings, a declaration whose number is 2^32 - 1, and a constant that is not
+/// worked out are answered as want of memory; `hare_const::constant` says which those are. The call goes as deep in the host as the value
+/// is.
 pub fn check_value(
     alloc: Global,
     s: &mut TypeStore,

@@ -41,6 +41,9 @@ impl Defined {
     /// Whether a type is in the store, and each name that it mentions, to any depth, is defined. Where it is so, this is known from then on of the type
     /// and of all that it mentions; where it is not, or memory is wanting, no more is known than before.
     ///
+    /// The condition is that all types that are known before are in the store, and mention no name that is not defined. Fails for want of
+    /// memory alone.
+    ///
     /// Over all calls that answer yes each type is looked at once; in a call that answers no, each at most once.
     pub fn is_defined(&mut self, s: &TypeStore, t: TypeId) -> Result<bool, AllocError>
         requires known { AreDefined s.now self.old }

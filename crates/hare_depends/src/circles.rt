@@ -19,6 +19,8 @@ use std::alloc::{AllocError, Global};
 /// The fault of circles of declarations, of which these are said by their numbers: the first in source order that depends on itself has it at its name, E23
 /// where a def or a global without a type lies on a circle with it, and else E17. None where no declaration depends on itself.
 ///
+/// There are fewer than 2^32 declarations, and each number that one says is that of one of them.
+///
 /// Fails only for want of memory. Takes time in proportion to the declarations and to what they name, and no more of the host's stack for longer circles.
 pub fn first_circle(alloc: Global, saids: &[Said]) -> Result<Option<Fault>, AllocError>
     requires few { length saids.now < 2 ^ 32 }

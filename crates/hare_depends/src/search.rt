@@ -42,6 +42,8 @@ pub struct Search {
 /// The order in which declarations are judged, of which these are said by their numbers: that of the source, each behind those on which it depends, depth
 /// first. No declaration may depend on itself, which `first_circle` tells.
 ///
+/// There are fewer than 2^32 declarations, and each number that one says is that of one of them.
+///
 /// Fails only for want of memory. Uses no more of the host's stack for longer chains. Takes time in proportion to the declarations and to what they name, but
 /// for sorting, and but for values that depend on one another and mention the same types while these are left: those types are gone over for each such value.
 pub fn order(alloc: Global, saids: &[Said]) -> Result<Vec<u32>, AllocError>

@@ -166,6 +166,9 @@ fn is_behind_operand(k: Kind, before: usize) -> bool
 /// Says what is known of the binding of a for-each when its body begins, also to judges: it is an element of the array or slice, or, by reference, a
 /// pointer to one; over anything else it is odd, at the place of the loop. These are the kids before the one that begins; before any other kid of
 /// any node nothing changes. The binding is the one in front of which `first` bindings of the declaration begin. The store may grow in types.
+///
+/// The condition is that each type that stands in the kids that are done is in the store, and mentions no name that is not defined. Fails
+/// for want of memory alone.
 pub fn bind_before(
     s: &mut TypeStore,
     seen: &mut Seen,

@@ -56,6 +56,10 @@ fn settle_all(seen: &mut Seen, kids: &mut TypedKids, found: &Finding) -> Result<
 
 /// Closes a node's turn, of which this is found: what is known of its binding, which values go on, and what is settled. It has `first` bindings of the
 /// declaration before it. The kids get the coercions that are settled of them, judges are told of the binding, and the store may grow in types.
+///
+/// The conditions are that `found` is as long as the kids; that each type that stands in these is in the store, and mentions no name that
+/// is not defined; and that none of the first `levels.from` values was handed to the node, where it is a block or a case. Fails for want of
+/// memory alone.
 pub fn close(
     alloc: Global,
     s: &mut TypeStore,

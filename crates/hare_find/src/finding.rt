@@ -102,6 +102,11 @@ fn settled(
 
 /// Judges a node of which a hint asks something, with what was yielded to it: what is found of it, or its fault, in every later store. The store
 /// may grow in types.
+///
+/// The node is an expression or a statement, and the conditions of `hare_judge::judge` hold: it is shaped and has its kids, which have been
+/// judged; each type that stands in them or is told with it is in the store, and mentions no name that is not defined; the result of the
+/// function is so too; what a path means is known, and the store defines `rt::nomem`; and where the first kid can be a place, it has a
+/// type, and so has each case of a `match` or a `switch`.
 pub fn find_judged(
     alloc: Global,
     s: &mut TypeStore,

@@ -118,6 +118,8 @@ fn length_type(
 
 /// What is found of the length of an array, whose path means this: it has the type of its number or of the def that it names, else void, and it
 /// settles nothing. Whether it is a length is asked at the array. The store may grow in types.
+///
+/// The node is shaped and is a number or a path; a declaration that the path means is known. Fails for want of memory alone.
 pub fn find_length(
     alloc: Global,
     s: &mut TypeStore,

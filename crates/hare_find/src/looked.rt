@@ -114,6 +114,8 @@ fn gives_void(case: &Case, node: &Tree, kids: &TypedKids) -> bool
 
 /// Looks at a `yield`, of which its judge is not told what its block or case is asked for: where it has no value, void is taken there. It is asked for
 /// this, in every later store; where void does not fit it, the fault is E25 at the `yield`. The store may get the type void.
+///
+/// The condition is that a type for which the hint asks is in the store, and mentions no name that is not defined.
 pub fn look_at_yield(
     s: &mut TypeStore,
     case: &Case,

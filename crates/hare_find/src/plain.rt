@@ -27,7 +27,8 @@ pub fn is_plain(k: Kind) -> bool
     rows(k).len() == 0
 }
 
-/// What is found of a node of which nothing is asked: its type is void, and it settles nothing. The store may grow in types.
+/// What is found of a node of which nothing is asked: its type is void, and it settles nothing. The store may grow in types. The node is of
+/// a kind of which the table of rules has no row. Fails for want of memory alone.
 pub fn find_plain(
     alloc: Global,
     s: &mut TypeStore,
@@ -43,7 +44,8 @@ pub fn find_plain(
     find_void(alloc, s, kids.len())
 }
 
-/// What is found of a path that is called: it has no value, so its type is void, and it settles nothing. The store may grow in types.
+/// What is found of a path that is called: it has no value, so its type is void, and it settles nothing. The store may grow in types. The
+/// node is a path. Fails for want of memory alone.
 pub fn find_callee(
     alloc: Global,
     s: &mut TypeStore,

@@ -23,6 +23,9 @@ use std::alloc::Global;
 
 /// Judges a written type whose names are all defined: what is found of it, or its fault, in every later store. It is the type that it writes, and
 /// it settles nothing. The store may grow in names and types.
+///
+/// The node is a written type of which the conditions of `rule_types::judge` hold; each type that stands in its kids is in the store, and
+/// mentions no name that is not defined; and so does what the declaration is defined to be that its path means.
 pub fn find_written(
     alloc: Global,
     s: &mut TypeStore,

@@ -11,8 +11,9 @@ use hare_table::{of, part};
 use hare_tree::{Sort, Tokens};
 use std::alloc::{AllocError, Global};
 
-/// The place in the list of the first token, from a place on, at which a limit on depth is passed in every tree of the sort that goes on with what can be
-/// read; none where the limits are kept. The place is counted in the whole list. The sort is one of which there are trees.
+/// The place in the list of the first token, from a place on, at which a limit on depth is passed in every tree of the sort that goes on
+/// with what can be read; none where the limits are kept. The place is counted in the whole list. The sort is one of which there are trees:
+/// a level is from 1 to 16, and it is neither `Left` nor `Right`.
 ///
 /// The time is linear in the tokens. No tree is built. An error is want of memory.
 pub fn depth_fault(

@@ -7,7 +7,8 @@ use crate::graph::Graph;
 use crate::labels::{flood, no_labels};
 use std::alloc::{AllocError, Global};
 
-/// Ranks of the nodes of a graph, by the graph with the same edges the other way round.
+/// Ranks of the nodes of a graph, by the graph with the same edges the other way round: `backward` has as many nodes as `forward`, and an
+/// edge the other way round for each edge of it. Fails for want of memory alone.
 pub fn ranks(
     alloc: Global,
     forward: &Graph,

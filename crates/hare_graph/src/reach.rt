@@ -8,7 +8,8 @@ use crate::graph::Graph;
 use crate::labels::{flood, label_of, no_labels};
 use std::alloc::{AllocError, Global};
 
-/// Whether a node leads to another, or is it.
+/// Whether a node leads to another, or is it. The conditions are that `from` is a node, and that each edge of the graph leads to a node.
+/// Fails for want of memory alone.
 pub fn leads_to(alloc: Global, graph: &Graph, from: usize, to: usize) -> Result<bool, AllocError>
     requires there { from < length graph.now }
     requires stays { spec.StaysWithin graph.now }

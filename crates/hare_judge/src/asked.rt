@@ -79,6 +79,8 @@ fn asks_type(alloc: Global, s: &mut TypeStore, t: &Turn<'_>, i: usize) -> Result
 }
 
 /// Whether kid number `i` was asked for a type, or hands one on: then the verdict lists no coercion for it. The store may grow in types.
+///
+/// The conditions are those of `judge`. Fails for want of memory alone.
 pub fn was_hinted(
     alloc: Global,
     s: &mut TypeStore,

@@ -18,8 +18,9 @@ use std::alloc::Global;
 /// Judges an expression or a statement. The answer is its type and the coercions that it settles, or the fault of the first row of the table of
 /// typing rules that it fails, in every later store. The store may grow in types, also where there is a fault.
 ///
-/// The node is shaped and has its kids, which have been judged; each type that stands in them or is told with it is in the store, and mentions
-/// no name that is not defined. What a path means is known, the store defines `rt::nomem`, and each case of a `match` or a `switch` has a type.
+/// The node is shaped and has its kids, which have been judged; each type that stands in them or is told with it is in the store, and
+/// mentions no name that is not defined. So it is of the result of the function. What a path means is known, and the store defines
+/// `rt::nomem`; where the first kid can be a place, it has a type; and so has each case of a `match` or a `switch`.
 pub fn judge(alloc: Global, s: &mut TypeStore, t: &Turn<'_>) -> Result<Verdict, Stop<Fault>>
     requires kind { is_judged_kind (kind_in t.now) ≡ true }
     requires ready { IsReadyTurn s.old t.now }

@@ -56,6 +56,8 @@ fn known_by_types(
 /// Puts what is known of declaration `own` by its written types behind what is known of others: of a type its name, of a function the types of its parameters
 /// and its result, of a global its type. Nothing becomes known of a def or of a global without a type.
 ///
+/// The type of each def that is known is in the store, and mentions no name that is not defined.
+///
 /// A type that is not declared, and types other than those of a well-typed declaration, are answered as want of memory.
 pub fn know_types(
     alloc: Global,

@@ -125,7 +125,10 @@ fn constant_known(
 /// Puts what is known of declaration `own` by its value behind what is known of others: of a def its type and its constant, of a global without a type the
 /// type of its value. Nothing more becomes known of any other declaration.
 ///
-/// A type that mentions a name which is not defined, and a declaration that is not well typed, are answered as want of memory.
+/// All types in `defined`, the type of each def that is known, and that of the value are in the store, and mention no name that is not
+/// defined.
+///
+/// Any other type that mentions a name which is not defined, and a declaration that is not well typed, are answered as want of memory.
 pub fn know_value(
     alloc: Global,
     s: &mut TypeStore,

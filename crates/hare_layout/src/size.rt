@@ -36,7 +36,8 @@ pub(crate) fn extent_of(s: &TypeStore, t: TypeId) -> Extent
 
 /// How many bytes a value of the type takes.
 ///
-/// The type is admitted and has a size, and each name that it is or holds by value is defined: it has at most 67,108,864 bytes.
+/// The type is admitted and has a size, and each name that it is or holds by value is defined: it has at most 67,108,864 bytes. Of a type
+/// of the store `is_small` tells whether it is so.
 ///
 /// The time is constant.
 pub fn size_of(s: &TypeStore, t: TypeId) -> u64

@@ -9,7 +9,7 @@ use hare_pieces::Piece;
 use std::alloc::{AllocError, Global};
 
 /// How many comments stand in front of each of the tree's tokens, and in front of the end of the file, where these are the pieces of the
-/// file.
+/// file. They stand in it in their order, none over another. Fails for want of memory alone.
 pub fn comments_before(
     alloc: Global,
     src: &[u8],

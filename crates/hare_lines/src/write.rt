@@ -31,8 +31,7 @@ pub struct State<'a> {
 }
 
 /// The text of the pieces of a source, which stand in it in their order, where the tokens of its tree have these ways: each piece behind
-/// its gap, and the
-/// commas that are added.
+/// its gap, and the commas that are added. No piece stands over another. Fails for want of memory alone.
 ///
 /// The time is linear in the source and the text.
 pub fn write_pieces(

@@ -18,6 +18,8 @@ use hare_tree::Fault;
 use std::alloc::{AllocError, Global};
 
 /// The first of E16 at the imports whose module leads back to that of their file, where there are so many modules.
+///
+/// The module of the file of each import, and that which it means, if it means one, are below `modules`. Fails for want of memory alone.
 pub fn first_circle(
     alloc: Global,
     modules: usize,

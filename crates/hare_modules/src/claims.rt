@@ -97,7 +97,8 @@ fn number_used(alloc: Global, known: &Register, u: &Tree) -> Result<Option<usize
     Ok(known.number(module.as_slice()))
 }
 
-/// The names that are taken in files, whose modules have these numbers.
+/// The names that are taken in files, whose modules have these numbers. The files have fewer than 2^32 declarations. Fails for want of
+/// memory alone.
 pub fn collect_claims<'a>(
     alloc: Global,
     known: &Register,

@@ -25,7 +25,8 @@ pub struct Taken {
     pub imports: Vec<Table<Imported>>,
 }
 
-/// What is built in, where there are so many modules and files.
+/// What is built in, where there are so many modules and files. There is a module at least: `modules` is not 0. Fails for want of memory
+/// alone.
 pub fn built_in(alloc: Global, modules: usize, files: usize) -> Result<Taken, AllocError>
     requires { 0 < modules }
     ensures { IfOk result (λ t. spec.tables_of t ≡ spec.first_tables modules files) }

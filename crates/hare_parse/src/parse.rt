@@ -26,9 +26,10 @@ pub struct Parsed {
 
 /// The type that the tokens of a file are from a place of their list on (Hare specification, "Types").
 ///
-/// The run is the longest list of tokens from there on with which the tokens of a type begin. Where it is all the tokens of one, the answer is its tree;
-/// else the fault is E8 at the token behind the run, or at the last token where none is behind it. E9 stands at the first token at which a limit on
-/// depth is passed, where at most 255 types and expressions may be open round another, and comes before E8.
+/// The place is that of a token of the list: `at` is below its length. The run is the longest list of tokens from there on with which the
+/// tokens of a type begin. Where it is all the tokens of one, the answer is its tree; else the fault is E8 at the token behind the run, or
+/// at the last token where none is behind it. E9 stands at the first token at which a limit on depth is passed, where at most 255 types and
+/// expressions may be open round another, and comes before E8.
 ///
 /// The time is linear in the tokens of the run.
 #[tactic(auto, using(crate::proofs::Once::only_tree, crate::proofs::Once::only_fault))]
@@ -42,7 +43,8 @@ pub fn parse_type(alloc: Global, t: &Tokens, at: usize) -> Result<Parsed, Stop<F
     parse(alloc, t, at, Sort::Type)
 }
 
-/// The expression that the tokens of a file are from a place of their list on (Hare specification, "Expressions"), in the same way.
+/// The expression that the tokens of a file are from a place of their list on (Hare specification, "Expressions"), in the same way, with
+/// the same faults. The place is that of a token of the list.
 #[tactic(auto, using(crate::proofs::Once::only_tree, crate::proofs::Once::only_fault))]
 pub fn parse_expr(alloc: Global, t: &Tokens, at: usize) -> Result<Parsed, Stop<Fault>>
     requires { at < length t.now }

@@ -12,8 +12,9 @@ use hare_tree::{FileTree, Kids, Tree};
 use hx_base::Items;
 use rule_judge::DeclTypes;
 
-/// Whether what the paths of a tree say stays as it is when more becomes known of declarations: of the declarations of the program each path of an expression
-/// means one that is known, if any, and each path of a type one of a type. The call goes as deep in the host as the tree is.
+/// Whether what the paths of a tree say stays as it is when more becomes known of declarations: of the declarations of the program each
+/// path of an expression means one that is known, if any, and each path of a type one of a type. The call goes as deep in the host as the
+/// tree is. `places` are those of the declarations of these files.
 pub fn is_readable(
     names: &Names,
     known: &DeclTypes,

@@ -18,6 +18,9 @@ use std::alloc::{AllocError, Global};
 /// of these are: then values can be judged by what is ready as by all that is known. The answer is no where a type of one of them mentions a name that is
 /// not defined.
 ///
+/// All types in `defined`, and all types of what is ready, are in the store and mention no name that is not defined; and what is ready of a
+/// declaration is what is known of it. Fails for want of memory alone.
+///
 /// Over all calls each declaration is copied at most once; a path is looked at in constant time. The call goes as deep in the host as the tree is.
 pub fn make_ready(
     alloc: Global,

@@ -13,7 +13,8 @@ use hare_types::{TypeId, TypeStore};
 use rule_judge::DeclTypes;
 use std::alloc::AllocError;
 
-/// Whether a declared name is defined, and so is each name that its definition mentions.
+/// Whether a declared name is defined, and so is each name that its definition mentions. The condition is that all types in `defined` are
+/// in the store, and mention no name that is not defined. Fails for want of memory alone.
 pub fn is_named(s: &TypeStore, defined: &mut Defined, name: u32) -> Result<bool, AllocError>
     requires known { AreDefined s.now defined.old }
     ensures value { IfOk result (λ b. IsTrue b → IsDefinedName s.now name) }
@@ -53,6 +54,8 @@ fn are_defined(s: &TypeStore, defined: &mut Defined, types: &[TypeId]) -> Result
 
 /// Whether all types that are told of a declaration mention only names that are defined; of a declared type, whether its name is defined so. Types that
 /// have been found to be so are kept, so that over all calls each type is looked at once, but for those of an answer of no.
+///
+/// The condition is that all types in `defined` are in the store, and mention no name that is not defined. Fails for want of memory alone.
 pub fn is_ready(s: &TypeStore, defined: &mut Defined, d: &DeclType) -> Result<bool, AllocError>
     requires known { AreDefined s.now defined.old }
     ensures value { IfOk result (λ b. IsTrue b → IsReadyDecl s.now d.now) }
@@ -64,7 +67,8 @@ pub fn is_ready(s: &TypeStore, defined: &mut Defined, d: &DeclType) -> Result<bo
     are_defined(s, defined, d.params.as_slice())
 }
 
-/// Whether it is so of each declaration that is known.
+/// Whether it is so of each declaration that is known. The condition is that all types in `defined` are in the store, and mention no name
+/// that is not defined. Fails for want of memory alone.
 pub fn are_ready(
     s: &TypeStore,
     defined: &mut Defined,

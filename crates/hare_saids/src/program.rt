@@ -13,8 +13,8 @@ use hare_tree::{FileTree, Kids};
 use hx_base::Items;
 use std::alloc::{AllocError, Global};
 
-/// What each declaration of these files says of the others, in the order of files and source, where paths mean what `names` says: what it holds by
-/// value, and what it names. A declaration's number is how many stand before it.
+/// What each declaration of these files says of the others, in the order of files and source, where paths mean what `names` says: what it
+/// holds by value, and what it names. A declaration's number is how many stand before it; there are fewer than 2^32 of them.
 ///
 /// Fails only for want of memory. Takes time in proportion to the trees.
 pub fn saids(alloc: Global, files: &Items<FileTree>, names: &Names) -> Result<Vec<Said>, AllocError>

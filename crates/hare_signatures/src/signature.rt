@@ -44,7 +44,8 @@ struct Env<'a> {
 /// The typed trees of the types that are written in declaration `own`, in the order of the source: the type of a type, the types of a function's parameters and
 /// its result, the type of a def or a global where it is written. Or the fault of the first that has one. Names that stand in them need not be defined yet.
 ///
-/// The condition is that the type of each def that is known mentions no name that is not defined. What `judge_written` answers as want of memory is so here,
+/// The conditions are that the declaration is shaped, that `places` are those of the declarations of these files, and that the type of each
+/// def that is known is in the store, and mentions no name that is not defined. What `judge_written` answers as want of memory is so here,
 /// and so are types of which a path means a declaration that is not known, or a type that is none.
 pub fn judge_types(
     alloc: Global,

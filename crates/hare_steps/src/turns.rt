@@ -18,6 +18,8 @@ use std::alloc::{AllocError, Global};
 /// unless they have been judged, of a def and a global its value, and then that it is done. Right before a value come the written types of the globals that
 /// it names, in the order of the source, unless they have been judged.
 ///
+/// `order` is the order of these declarations, as `hare_depends::order` tells it.
+///
 /// Fails only for want of memory. Takes time in proportion to the declarations and to what they name, but for sorting.
 pub fn steps(alloc: Global, saids: &[Said], order: &[u32]) -> Result<Vec<Step>, AllocError>
     requires order { IsOrder saids.now order.now }

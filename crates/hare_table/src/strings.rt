@@ -24,8 +24,8 @@ pub fn is_proper_string(token: &Token) -> bool
     matches!(token.kind, TokenKind::Str) && has_no_suffix(token.suffix) && token.number == 0
 }
 
-/// Joins the string at a place of the list with the strings behind it, up to the next token that is no string which a tree can have. An error is want
-/// of memory.
+/// Joins the string at a place of the list with the strings behind it, up to the next token that is no string which a tree can have. The
+/// token at the place is `first`, and is a string which a tree can have. An error is want of memory.
 pub fn strings_at(
     alloc: Global,
     tokens: &Tokens,
@@ -63,7 +63,7 @@ fn as_one(place: Place, text: Word, next: usize) -> Joined
     Joined { token, next }
 }
 
-/// The place in the list behind that of a token, at most the list's length.
+/// The place in the list behind that of a token, at most the list's length. `at` is the place of a token of the list.
 pub fn place_behind(tokens: &Tokens, at: usize) -> usize
     requires { at < length tokens.now }
     ensures { result ≡ at + 1 }

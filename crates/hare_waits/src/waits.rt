@@ -69,6 +69,9 @@ impl Waits {
     }
 
     /// Enters the written types of a declaration, which were judged: those of their nodes wait that a row asks for their size, and whose bytes are not known.
+    ///
+    /// Each type that stands at one of their nodes is in the store, and none of which a row asks that it is small is known to be too large.
+    /// Fails for want of memory alone. Nothing is said of the waits then.
     pub fn enter(&mut self, s: &TypeStore, decl: u32, types: &TypedKids) -> Result<(), AllocError>
         requires stands { StandIn s.now types.now }
         requires fits { AllFit s.now types.now }

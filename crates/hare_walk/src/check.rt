@@ -22,9 +22,10 @@ use hare_typed::{Typed, TypedKids};
 use hare_types::TypeStore;
 use std::alloc::Global;
 
-/// The one typed tree of a body, or its first fault, by a walk of which nothing has been done: `first` bindings of the declaration begin before it.
-/// The store may grow, also where there is a fault, and the answer holds in each later store. A body of more than 2^32 - 1 nodes or bindings is answered as want of memory. The call goes as
-/// deep in the host as the body is.
+/// The one typed tree of a body, or its first fault, by a walk of which nothing has been done: it stands at the body, and is ready there,
+/// no node is finished and nothing is settled, and `first` bindings of the declaration begin before it. The body is a shaped expression.
+/// The store may grow, also where there is a fault, and the answer holds in each later store. A body of more than 2^32 - 1 nodes or
+/// bindings is answered as want of memory. The call goes as deep in the host as the body is.
 pub fn check_by<W: Walk>(
     alloc: Global,
     s: &mut TypeStore,

@@ -47,6 +47,11 @@ pub trait Walk {
     ghost Keeps: { Store → TypedNode → Type 0 };
 
     /// Goes on to the kid behind those that are done, which stands there: the walk stands in the kid, and behind that in the node as before.
+    ///
+    /// The conditions are that these are the kids of the node, of which those that are done were judged and carry what is settled by now;
+    /// that `kid` is the next, and `at` says where it stands; that the node is shaped, or stands in the place of a part that is left out;
+    /// and that what the walk relies on of itself, at the node, and of each tree that has been judged, holds. It fails for want of memory
+    /// alone.
     fn enter(
         &mut self,
         s: &mut TypeStore,
@@ -80,6 +85,10 @@ pub trait Walk {
         ensures setting { setting self.new ≡ setting self.old };
 
     /// Judges the tree at hand, all of whose kids have been judged. Behind that the walk stands in it as before it began.
+    ///
+    /// The conditions are that these are typed trees of all kids of the node, as they are inferred in order, and carry what is settled by
+    /// now; that the node is shaped, or stands in the place of a part that is left out; and that what the walk relies on of itself, at the
+    /// node, and of each tree that has been judged, holds.
     fn turn(
         &mut self,
         alloc: Global,

@@ -29,9 +29,9 @@ use std::alloc::Global;
 /// typed in each later store in which that has not come, and in each other one its fault is that of the first node that is too large. A fault that is
 /// told here stays the first as long as no more is known of the bytes of types.
 ///
-/// The condition is that the type of each def that is known mentions no name that is not defined. A type whose name is not declared, a type that is
-/// spread and whose base is not known, and a tree of more than 2^32 - 1 nodes are answered as want of memory. The call goes as deep in the host as
-/// the type is.
+/// The conditions are that the tree is a shaped type, and that the type of each def that is known is in the store, and mentions no name
+/// that is not defined. A type whose name is not declared, a type that is spread and whose base is not known, and a tree of more than
+/// 2^32 - 1 nodes are answered as want of memory. The call goes as deep in the host as the type is.
 pub fn judge_written(
     alloc: Global,
     s: &mut TypeStore,

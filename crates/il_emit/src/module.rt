@@ -22,6 +22,8 @@ use std::alloc::{AllocError, Global};
 
 /// The module of a program: a data item for each global, and then a function for each function, in their order. `main` is exported.
 ///
+/// The program is well formed, as `flat_code::well_formed` tells.
+///
 /// The module is valid, and it does what the program does: at every number of turns there is a budget, of at most four units for each flat step and
 /// one more, with which a run of it comes to the same end and the same world, or to the same world where turns ran out. Where calls that are active
 /// at once cost more than the stack holds, its end may be a full stack instead. No function jumps back more often than its code has Loops, calls a

@@ -47,7 +47,8 @@ fn for_asks(s: &mut TypeStore, t: &Turn<'_>, i: usize) -> Result<bool, AllocErro
     Ok(kids_before(t.kids, i) == 1)
 }
 
-/// Whether the node has asked its kid number `i` for a value of a type.
+/// Whether the node has asked its kid number `i` for a value of a type. The node is an `if`, a loop, a block or a case. The store may grow
+/// in types. Fails for want of memory alone.
 pub fn asks_type(s: &mut TypeStore, t: &Turn<'_>, i: usize) -> Result<bool, AllocError>
     requires kind { judges (kind_in t.now) ≡ true }
     ensures value { IfOk result (λ b. (f : Store) → IsLater s.new f → b ≡ asks_type (context_in f t.now) i) }

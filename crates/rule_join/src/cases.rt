@@ -24,6 +24,10 @@ use std::alloc::AllocError;
 
 /// The type of a `match` or a `switch`: under a hint of a type that type, and void where it is dropped; else the type of the first case that goes
 /// on, and `never` where none does.
+///
+/// The node is shaped and has its kids, which have been judged, and each kid behind the first has a type; each type that stands in them or
+/// is told with the node is in the store, and mentions no name that is not defined. The store may grow in types. Fails for want of memory
+/// alone.
 pub fn cases_type(s: &mut TypeStore, t: &Turn<'_>) -> Result<Ty, AllocError>
     requires turn { IsTurn s.old t.now }
     requires typed { AreTyped (drop 1 t.now.kids.now) }
@@ -35,6 +39,9 @@ pub fn cases_type(s: &mut TypeStore, t: &Turn<'_>) -> Result<Ty, AllocError>
 }
 
 /// Where the first case stands whose type does not fit that of all; none where each fits. Under a hint each has been judged by it.
+///
+/// The node is shaped and has its kids, which have been judged; each type that stands in them or is told with it is in the store, and
+/// mentions no name that is not defined. The store may grow in types. Fails for want of memory alone.
 pub fn case_misfit(s: &mut TypeStore, t: &Turn<'_>) -> Result<Option<Place>, AllocError>
     requires { IsTurn s.old t.now }
     ensures value { IfOk result (λ o. (f : Store) → IsLater s.new f → o ≡ option_map place_in (first_misfit f t.now.case.now.hint (control.case_values (context_in f t.now)))) }

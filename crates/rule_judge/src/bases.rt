@@ -10,7 +10,7 @@ ghost use Rattle.rule_judge.specs.Defined.{IsDefinedTy, HoldsDefined};
 
 use hare_types::{Row, Scalar, Ty, TypeStore};
 
-/// The row of a type, names and error marks not followed; none of what has no type.
+/// The row of a type, names and error marks not followed; none of what has no type. The condition is that the type is in the store.
 pub fn row_in<'s>(s: &'s TypeStore, a: &Ty) -> Option<&'s Row>
     requires { IsIn s.now a.now }
     ensures { (f : Store) → IsLater s.now f → option_copied result ≡ words.row_in f a.now }
@@ -21,7 +21,8 @@ pub fn row_in<'s>(s: &'s TypeStore, a: &Ty) -> Option<&'s Row>
     }
 }
 
-/// The row of the base of a type; none of what has no type.
+/// The row of the base of a type; none of what has no type. The condition is that the type is in the store, and mentions no name that is
+/// not defined.
 pub fn base_row<'s>(s: &'s TypeStore, a: &Ty) -> Option<&'s Row>
     requires { IsDefinedTy s.now a.now }
     ensures value { (f : Store) → IsLater s.now f → option_copied result ≡ given.base_row f a.now }
@@ -34,7 +35,7 @@ pub fn base_row<'s>(s: &'s TypeStore, a: &Ty) -> Option<&'s Row>
     Some(s.row(b))
 }
 
-/// Whether the type is `never` itself, and not a name of it.
+/// Whether the type is `never` itself, and not a name of it. The condition is that the type is in the store.
 pub fn is_never(s: &TypeStore, a: &Ty) -> bool
     requires { IsIn s.now a.now }
     ensures { (f : Store) → IsLater s.now f → result ≡ words.is_never f a.now }

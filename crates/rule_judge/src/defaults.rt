@@ -23,6 +23,9 @@ pub fn has_default(a: &Ty) -> bool
 }
 
 /// The default type of a value: `int` or `i64` of a whole number that fits one, its own of any type; none of any other value.
+///
+/// The condition is that the type is in the store, and mentions no name that is not defined. The store may grow in types. Fails for want of
+/// memory alone.
 pub fn default_in(s: &mut TypeStore, a: &Ty) -> Result<Option<TypeId>, AllocError>
     requires { IsDefinedTy s.old a.now }
     ensures value { IfOk result (λ o. (f : Store) → IsLater s.new f → o ≡ words.default_in f a.now) }

@@ -10,7 +10,7 @@ ghost use Rattle.rule_judge.specs.Defined.{IsDefined, IsDefinedTy};
 use crate::bases::base_row;
 use hare_types::{Row, Ty, TypeId, TypeStore};
 
-/// Whether values of the type have a size.
+/// Whether values of the type have a size. The condition is that the type is in the store, and mentions no name that is not defined.
 pub fn has_size(s: &TypeStore, t: TypeId) -> bool
     requires { IsDefined s.now t }
     ensures { (f : Store) → IsLater s.now f → result ≡ has_size_at f t }
@@ -19,7 +19,8 @@ pub fn has_size(s: &TypeStore, t: TypeId) -> bool
     s.has_size(t)
 }
 
-/// Whether the type is an error type: it bears an error mark, or names a type that does.
+/// Whether the type is an error type: it bears an error mark, or names a type that does. The condition is that the type is in the store,
+/// and mentions no name that is not defined.
 pub fn is_error(s: &TypeStore, t: TypeId) -> bool
     requires { IsDefined s.now t }
     ensures { (f : Store) → IsLater s.now f → result ≡ is_error_at f t }
@@ -28,7 +29,8 @@ pub fn is_error(s: &TypeStore, t: TypeId) -> bool
     s.is_error(t)
 }
 
-/// Whether the base of the type is a union with an error member.
+/// Whether the base of the type is a union with an error member. The condition is that the type is in the store, and mentions no name that
+/// is not defined.
 pub fn has_error_member(s: &TypeStore, a: &Ty) -> bool
     requires { IsDefinedTy s.now a.now }
     ensures { (f : Store) → IsLater s.now f → result ≡ words.has_error_member f a.now }
@@ -44,7 +46,8 @@ pub fn has_error_member(s: &TypeStore, a: &Ty) -> bool
     false
 }
 
-/// Whether the type is an error type, or its base a union with an error member: such a value is not dropped.
+/// Whether the type is an error type, or its base a union with an error member: such a value is not dropped. The condition is that the type
+/// is in the store, and mentions no name that is not defined.
 pub fn holds_error(s: &TypeStore, a: &Ty) -> bool
     requires { IsDefinedTy s.now a.now }
     ensures { (f : Store) → IsLater s.now f → result ≡ words.holds_error f a.now }

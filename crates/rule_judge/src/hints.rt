@@ -54,7 +54,8 @@ fn allocation(s: &TypeStore, t: TypeId) -> Option<TypeId>
     }
 }
 
-/// The type of which a hint asks an allocation.
+/// The type of which a hint asks an allocation. The condition is that a type for which it asks is in the store, and mentions no name that
+/// is not defined.
 pub fn asked(s: &TypeStore, hint: &Hint) -> Option<TypeId>
     requires { IsDefinedHint s.now hint.now }
     ensures value { (f : Store) → IsLater s.now f → result ≡ option_and_then (words.allocation f) (above.hint_id hint.now) }

@@ -9,7 +9,8 @@ ghost use Rattle.rule_judge.specs.Defined.{IsDefinedTy};
 use crate::bases::base_row;
 use hare_types::{Row, Scalar, Ty, TypeStore};
 
-/// The word of the integer type that is the base; none where the base is none.
+/// The word of the integer type that is the base; none where the base is none. The condition is that the type is in the store, and mentions
+/// no name that is not defined.
 pub fn integer_word(s: &TypeStore, a: &Ty) -> Option<Scalar>
     requires { IsDefinedTy s.now a.now }
     ensures { (f : Store) → IsLater s.now f → result ≡ words.integer_word f a.now }
@@ -26,7 +27,8 @@ pub fn integer_word(s: &TypeStore, a: &Ty) -> Option<Scalar>
     }
 }
 
-/// Whether it is a whole number without a suffix, or the base of its type is an integer type.
+/// Whether it is a whole number without a suffix, or the base of its type is an integer type. The condition is that the type is in the
+/// store, and mentions no name that is not defined.
 pub fn is_integer(s: &TypeStore, a: &Ty) -> bool
     requires { IsDefinedTy s.now a.now }
     ensures { (f : Store) → IsLater s.now f → result ≡ words.is_integer f a.now }

@@ -35,7 +35,8 @@ pub fn word(s: &mut TypeStore, k: Scalar) -> Result<TypeId, AllocError>
     entered(s, Row::Scalar(k))
 }
 
-/// The type of a pointer to the type that is never null.
+/// The type of a pointer to the type that is never null. The condition is that `t` is in the store, and mentions no name that is not
+/// defined. The store may grow in types. Fails for want of memory alone.
 pub fn pointer_to(s: &mut TypeStore, t: TypeId) -> Result<TypeId, AllocError>
     requires { IsDefined s.old t }
     ensures id { IfOk result (λ p. (f : Store) → IsLater s.new f → id_of f (row.Pointer t) ≡ Some p) }
@@ -45,7 +46,8 @@ pub fn pointer_to(s: &mut TypeStore, t: TypeId) -> Result<TypeId, AllocError>
     entered(s, Row::Pointer(t))
 }
 
-/// The type of a slice of the type.
+/// The type of a slice of the type. The condition is that `t` is in the store, and mentions no name that is not defined. The store may grow
+/// in types. Fails for want of memory alone.
 pub fn slice_of(s: &mut TypeStore, t: TypeId) -> Result<TypeId, AllocError>
     requires { IsDefined s.old t }
     ensures id { IfOk result (λ p. (f : Store) → IsLater s.new f → id_of f (row.Slice t) ≡ Some p) }
@@ -55,7 +57,8 @@ pub fn slice_of(s: &mut TypeStore, t: TypeId) -> Result<TypeId, AllocError>
     entered(s, Row::Slice(t))
 }
 
-/// The type of an array of so many elements of the type.
+/// The type of an array of so many elements of the type. The condition is that `t` is in the store, and mentions no name that is not
+/// defined. The store may grow in types. Fails for want of memory alone.
 pub fn array_of(s: &mut TypeStore, count: u64, t: TypeId) -> Result<TypeId, AllocError>
     requires { IsDefined s.old t }
     ensures id { IfOk result (λ p. (f : Store) → IsLater s.new f → id_of f (row.Array count t) ≡ Some p) }
@@ -65,7 +68,8 @@ pub fn array_of(s: &mut TypeStore, count: u64, t: TypeId) -> Result<TypeId, Allo
     entered(s, Row::Array(count, t))
 }
 
-/// The type of a tuple of these components.
+/// The type of a tuple of these components. The condition is that each of these is in the store, and mentions no name that is not defined.
+/// The store may grow in types. Fails for want of memory alone.
 pub fn tuple_of(s: &mut TypeStore, components: TypeIds) -> Result<TypeId, AllocError>
     requires { (i : ℕ) → Contains components i → IsDefined s.old i }
     ensures id { IfOk result (λ p. (f : Store) → IsLater s.new f → id_of f (row.Tuple components) ≡ Some p) }

@@ -19,7 +19,8 @@ use crate::made::{entered, word};
 use hare_types::{Row, Scalar, Ty, TypeId, TypeIds, TypeStore};
 use std::alloc::{AllocError, Global};
 
-/// The members of the union that is the base of the type; none where the base is no union.
+/// The members of the union that is the base of the type; none where the base is no union. The condition is that the type is in the store,
+/// and mentions no name that is not defined.
 pub fn members_in<'s>(s: &'s TypeStore, a: &Ty) -> Option<&'s [TypeId]>
     requires { IsDefinedTy s.now a.now }
     ensures value { (f : Store) → IsLater s.now f → option_copied result ≡ words.members_in f a.now }
@@ -56,7 +57,8 @@ fn is_pointer_to(s: &TypeStore, t: TypeId, u: TypeId) -> bool
     }
 }
 
-/// Whether the type is a member of the union that is the base of `a`; where that is `nullable *X`, whether it is `*X` itself.
+/// Whether the type is a member of the union that is the base of `a`; where that is `nullable *X`, whether it is `*X` itself. The condition
+/// is that both types are in the store, and mention no name that is not defined.
 pub fn is_member(s: &TypeStore, a: &Ty, t: TypeId) -> bool
     requires value { IsDefinedTy s.now a.now }
     requires member { IsDefined s.now t }
@@ -103,6 +105,9 @@ fn joined_or_never(s: &mut TypeStore, members: TypeIds) -> Result<TypeId, AllocE
 
 /// What is left of the union that is the base of the type without its error members: one member alone is itself that type, and where none is
 /// left it is `never`.
+///
+/// The conditions are that the base of the type is a union, and that the type is in the store, and mentions no name that is not defined.
+/// The store may grow in types. Fails for want of memory alone.
 pub fn without_errors(alloc: Global, s: &mut TypeStore, a: &Ty) -> Result<TypeId, AllocError>
     requires defined { IsDefinedTy s.old a.now }
     requires union { (f : Store) → IsLater s.old f → is_some (words.members_in f a.now) ≡ true }

@@ -62,9 +62,9 @@ fn means_mutable(decls: &DeclTypes, locals: &Locals, meaning: Meaning) -> bool
     }
 }
 
-/// Whether the tree is a place: a path to a local or a global, what a pointer leads to, an element of a place or of what a slice or a pointer
-/// leads to, a member of a place or of what a pointer leads to, and each of these in parentheses. The call goes as deep in the host as the tree
-/// is.
+/// Whether the tree is a place: a path to a local or a global, what a pointer leads to, an element of a place or of what a slice or a
+/// pointer leads to, a member of a place or of what a pointer leads to, and each of these in parentheses. The call goes as deep in the host
+/// as the tree is. The condition is that each type that stands in the tree is in the store, and mentions no name that is not defined.
 #[cycle(place)]
 pub fn is_place(s: &TypeStore, decls: &DeclTypes, tree: &Typed) -> bool
     requires { IsDefinedTree s.now tree.now }
@@ -114,8 +114,9 @@ fn first_points(s: &TypeStore, trees: &TypedKids) -> bool
     }
 }
 
-/// Whether the tree is a place that may be assigned to: no `const` binding is reached without a slice or a pointer between. The call goes as deep
-/// in the host as the tree is.
+/// Whether the tree is a place that may be assigned to: no `const` binding is reached without a slice or a pointer between. The call goes
+/// as deep in the host as the tree is. The condition is that each type that stands in the tree is in the store, and mentions no name that
+/// is not defined.
 #[cycle(mutable)]
 pub fn is_mutable(s: &TypeStore, decls: &DeclTypes, locals: &Locals, tree: &Typed) -> bool
     requires { IsDefinedTree s.now tree.now }

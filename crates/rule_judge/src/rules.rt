@@ -10,6 +10,10 @@ use std::alloc::{AllocError, Global};
 /// the order in which rows are asked, are `judge_by`'s.
 ///
 /// Each call may take types into the store, so that its answer holds in every later one; a call fails for want of memory alone.
+///
+/// A call is told of a node of one of these kinds, which is shaped and has its kids, which have been judged; each type that stands in them
+/// or is told with it is in the store, and mentions no name that is not defined; and what the rules rely on beside that (`Needs`) holds.
+/// These are the conditions of each call.
 pub trait Rules {
     ghost use Rattle.std.specs.Prelude.{◌≡◌, Bool, true, None, Some, IfOk, IfSome};
     ghost use Rattle.hare_tree.specs.declared.kind.Kind.{Kind};
@@ -34,7 +38,8 @@ pub trait Rules {
     /// What they rely on beside what all kinds rely on.
     ghost Needs: { Store → Turn → Type 0 };
 
-    /// The place of the fault, where the node fails the row; none where it meets it.
+    /// The place of the fault, where the node fails the row; none where it meets it. The row is one that these kinds ask; the other
+    /// conditions are those of each call.
     fn unmet(
         alloc: Global,
         s: &mut TypeStore,
@@ -48,7 +53,7 @@ pub trait Rules {
         ensures value { IfOk result (λ o. (f : Store) → IsLater s.new f → o ≡ unmet row (context_in f t.now)) }
         ensures grown { IsGrown s.old s.new };
 
-    /// The type of what the node gives, which meets its own rows.
+    /// The type of what the node gives, which meets its own rows. The other conditions are those of each call.
     fn own_type(alloc: Global, s: &mut TypeStore, t: &Turn<'_>) -> Result<Ty, AllocError>
         requires kind { judges (kind_in t.now) ≡ true }
         requires turn { IsTurn s.old t.now }
@@ -58,7 +63,8 @@ pub trait Rules {
         ensures defined { IfOk result (IsDefinedTy s.new) }
         ensures grown { IsGrown s.old s.new };
 
-    /// Whether the node has asked its kid number `i` for a value of a type, where that is an expression or a statement.
+    /// Whether the node has asked its kid number `i` for a value of a type, where that is an expression or a statement. The conditions are
+    /// those of each call.
     fn asks_type(
         alloc: Global,
         s: &mut TypeStore,
@@ -71,8 +77,9 @@ pub trait Rules {
         ensures value { IfOk result (λ b. (f : Store) → IsLater s.new f → b ≡ asks_type (context_in f t.now) i) }
         ensures grown { IsGrown s.old s.new };
 
-    /// The type to which kid number `i` goes that was asked for none; none where it stays as it is. The node meets its rows, and what it gives has the
-    /// type `ty`: kids that come together in that type are not looked through again for each of them.
+    /// The type to which kid number `i` goes that was asked for none; none where it stays as it is. The node meets its rows, and what it
+    /// gives has the type `ty`: kids that come together in that type are not looked through again for each of them. That type is in the
+    /// store, and mentions no name that is not defined; the other conditions are those of each call.
     fn target(
         alloc: Global,
         s: &mut TypeStore,

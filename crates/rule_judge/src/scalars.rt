@@ -18,6 +18,7 @@ fn is_scalar_word(k: Scalar) -> bool
 }
 
 /// Whether the base of the type is an integer type, `bool`, `rune` or `str`; of a whole number without a suffix, whether it has a default.
+/// The condition is that the type is in the store, and mentions no name that is not defined.
 pub fn is_scalar(s: &TypeStore, a: &Ty) -> bool
     requires { IsDefinedTy s.now a.now }
     ensures { (f : Store) → IsLater s.now f → result ≡ control.is_scalar f a.now }

@@ -16,7 +16,8 @@ use hare_rules::Hint;
 use hare_types::{Coercion, Scalar, Ty, TypeId, TypeStore};
 use std::alloc::AllocError;
 
-/// What becomes of a value of type `a` that is assigned to type `to`; none where it may not be.
+/// What becomes of a value of type `a` that is assigned to type `to`; none where it may not be. The condition is that both types are in the
+/// store, and mention no name that is not defined.
 pub fn coerced(s: &TypeStore, a: &Ty, to: TypeId) -> Option<Coercion>
     requires value { IsDefinedTy s.now a.now }
     requires to { IsDefined s.now to }
@@ -27,7 +28,8 @@ pub fn coerced(s: &TypeStore, a: &Ty, to: TypeId) -> Option<Coercion>
     assignable(s, to, *a)
 }
 
-/// Whether a value of type `void` may be assigned to the type.
+/// Whether a value of type `void` may be assigned to the type. The condition is that `to` is in the store, and mentions no name that is not
+/// defined. The store may grow in types. Fails for want of memory alone.
 pub fn void_fits(s: &mut TypeStore, to: TypeId) -> Result<bool, AllocError>
     requires { IsDefined s.old to }
     ensures value { IfOk result (λ b. (f : Store) → IsLater s.new f → b ≡ joined.void_fits f to) }
@@ -38,7 +40,8 @@ pub fn void_fits(s: &mut TypeStore, to: TypeId) -> Result<bool, AllocError>
     Ok(coerced(s, &Ty::Of(void), to).is_some())
 }
 
-/// A value goes to the type, where there is one and it may be assigned to it; else it stays as it is.
+/// A value goes to the type, where there is one and it may be assigned to it; else it stays as it is. The condition is that both types, as
+/// far as there are two, are in the store, and mention no name that is not defined.
 pub fn to_type(s: &TypeStore, a: &Ty, to: &Option<TypeId>) -> Coercion
     requires value { IsDefinedTy s.now a.now }
     requires to { IfSome to.now (IsDefined s.now) }
@@ -54,7 +57,8 @@ pub fn to_type(s: &TypeStore, a: &Ty, to: &Option<TypeId>) -> Coercion
     }
 }
 
-/// What becomes of a value under this hint.
+/// What becomes of a value under this hint. The condition is that the type, and one for which the hint asks, are in the store, and mention
+/// no name that is not defined.
 pub fn own_coercion(s: &TypeStore, hint: &Hint, a: &Ty) -> Coercion
     requires value { IsDefinedTy s.now a.now }
     requires hint { IsDefinedHint s.now hint.now }

@@ -48,6 +48,10 @@ fn both(alloc: Global, a: TypeId, b: TypeId) -> Result<TypeIds, AllocError>
 }
 
 /// The union of a type with the refusal of memory.
+///
+/// The conditions are that the type is in the store, mentions no name that is not defined, and is itself neither `never` nor a union nor
+/// that refusal; and that the store defines `rt::nomem`, by a type that mentions no name that is not defined. The store may grow in types.
+/// Fails for want of memory alone.
 pub fn refusable(alloc: Global, s: &mut TypeStore, t: TypeId) -> Result<TypeId, AllocError>
     requires kept { IsRefusable s.old t }
     requires nomem { IsDefinedName s.old words.nomem }

@@ -35,6 +35,9 @@ fn first_statement(k: Kind) -> usize
 }
 
 /// Whether the end of the node's statements is reached: none of them has the type `never`.
+///
+/// The node is shaped and has its kids, which have been judged; each type that stands in them or is told with it is in the store, and
+/// mentions no name that is not defined.
 pub fn is_open(s: &TypeStore, t: &Turn<'_>) -> bool
     requires { IsTurn s.now t.now }
     ensures { (f : Store) → IsLater s.now f → result ≡ control.is_open (context_in f t.now) }
@@ -78,6 +81,9 @@ fn end_word(s: &TypeStore, t: &Turn<'_>) -> Scalar
 
 /// The default of the first value that is yielded to the node and goes on; else void where something is yielded and the end is reached, and
 /// `never` where it is not.
+///
+/// The node is shaped and has its kids, which have been judged; each type that stands in them or is told with it is in the store, and
+/// mentions no name that is not defined. The store may grow in types. Fails for want of memory alone.
 pub fn joined_yields(s: &mut TypeStore, t: &Turn<'_>) -> Result<Option<TypeId>, AllocError>
     requires { IsTurn s.old t.now }
     ensures value { IfOk result (λ o. (f : Store) → IsLater s.new f → o ≡ joined.default_of_first f (find (joined.goes_on f) (control.block_values (context_in f t.now)))) }

@@ -64,9 +64,13 @@ fn own_type(alloc: Global, s: &mut TypeStore, t: &Written<'_>) -> Result<TypeId,
 /// Judges a written type: the type that it writes, or the fault of the first row of the table of typing rules that it fails. The answer is that
 /// of every later store. The store may grow in names and types, also where there is a fault.
 ///
-/// The node is a shaped type and has these kids, which have been judged. What is not known yet of the bytes of the type is not looked at, so
-/// that a type may turn out to be too large once a name that it holds by value is defined. It meets its rows in each later store in which it is
-/// small as far as its bytes are known; in each other one the row that asks for it is the first that fails.
+/// The node is a shaped type and has these kids, which have been judged. A path means a declaration, of which it is known whether its
+/// values have a size; so much is known of what the parts write, and the base of a type that is spread as well; and the type of a length
+/// mentions no name that is not defined.
+///
+/// What is not known yet of the bytes of the type is not looked at, so that a type may turn out to be too large once a name that it holds
+/// by value is defined. It meets its rows in each later store in which it is small as far as its bytes are known; in each other one the row
+/// that asks for it is the first that fails.
 pub fn judge(alloc: Global, s: &mut TypeStore, t: &Written<'_>) -> Result<TypeId, Stop<Fault>>
     requires kind { is_type (kind_in t.now) ≡ true }
     requires told { IsToldType s.old t.now }
