@@ -1,8 +1,7 @@
 -- What a program of the class does within a number of turns.
 --
 -- A `for` begins a turn before it tests its condition, and hands one turn less to its body and to the turns behind it. Where a turn begins
--- and
--- none is left, the end is Spent. Nothing else uses turns. A program that falls off its end exits with 0.
+-- and none is left, the end is Spent. Nothing else uses turns. A program that falls off its end exits with 0.
 --
 -- Numbers are those of Hare's `size` type: sums, differences and products wrap at 2 ^ 64, and comparisons are unsigned.
 use Rattle.std.specs.Prelude.{ℕ, zero, suc, ◌+◌, ◌-◌, ◌*◌, ◌%◌, ◌^◌, List, [], ◌∷◌, ◌++◌, Bool, true, not, length, drop, nat_le, nat_lt, nat_eq, bytes_eq, if◌then◌else◌}

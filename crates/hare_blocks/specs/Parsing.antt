@@ -72,8 +72,7 @@ Finds None part left rest = ⊥
 Finds (Some x) part left rest = (x ≡ part) × (left ≡ rest)
 
 -- What a reader of a part that ends so finds at the front of the tokens, and which tokens it leaves: a part that stands there, and every
--- part
--- that stands there. Where it finds none, none stands there, and the tokens that it leaves say nothing.
+-- part that stands there. Where it finds none, none stands there, and the tokens that it leaves say nothing.
 pub record IsRead {A : Type 0} (spell : A → List Token) (Fits : A → Type 0) (Ends : List Token → Type 0) (found : Option A)
     (tokens left : List Token) : Type 0 where
   pub sound : IfSome found (λ x. Reads spell Fits x tokens left)

@@ -127,7 +127,9 @@ fn statement_holds(s: &Statement, scope: &mut Scope) -> Result<bool, AllocError>
 // Whether the names of a condition and of the block behind it hold.
 #[cycle(block_names)]
 fn tested(test: &Condition, body: &Statements, scope: &mut Scope) -> Result<bool, AllocError>
-    ensures told { IfOk result (λ b. b ≡ (names.condition_holds (names_of scope.old) (condition_of test.now) && names.statements_hold (names_of scope.old) (list_of_statements body.now))) }
+    ensures told { IfOk result (λ b. b ≡
+        (names.condition_holds (names_of scope.old) (condition_of test.now) &&
+        names.statements_hold (names_of scope.old) (list_of_statements body.now))) }
     ensures kept { IfOk result (λ b. IsTrue b → scope.new ≡ scope.old) }
 {
     if !condition_holds(test, scope) {

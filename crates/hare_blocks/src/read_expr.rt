@@ -41,7 +41,8 @@ fn further_terms(
     depth: u32,
 ) -> Result<Option<Vec<SignedTerm>>, AllocError>
     requires { depth ≤ 64 }
-    ensures { IfOk result (λ o. IsRead terms_tokens (TermsNest depth) IsNoTerm (option_map (λ v. terms_of v.items) o) tokens.old tokens.new) }
+    ensures { IfOk result (λ o. IsRead terms_tokens (TermsNest depth) IsNoTerm (option_map (λ v. terms_of v.items) o) tokens.old
+        tokens.new) }
 {
     let mut terms = Vec::new(alloc);
     'terms: while let Some(sign) = tokens.takes_sign() {
@@ -76,7 +77,8 @@ fn further_factors(
     depth: u32,
 ) -> Result<Option<Vec<Factor>>, AllocError>
     requires { depth ≤ 64 }
-    ensures { IfOk result (λ o. IsRead factors_tokens (FactorsNest depth) IsNoFactor (option_map (λ v. factors_of v.items) o) tokens.old tokens.new) }
+    ensures { IfOk result (λ o. IsRead factors_tokens (FactorsNest depth) IsNoFactor (option_map (λ v. factors_of v.items) o) tokens.old
+        tokens.new) }
 {
     let mut factors = Vec::new(alloc);
     'factors: while tokens.takes(Fixed::Star) {
@@ -109,7 +111,8 @@ fn factor(alloc: Global, tokens: &mut Cursor, depth: u32) -> Result<Option<Facto
 #[cycle(expr)]
 fn group(alloc: Global, tokens: &mut Cursor, depth: u32) -> Result<Option<Factor>, AllocError>
     requires { depth ≤ 64 }
-    ensures { IfOk result (λ o. IsRead factor_tokens (FactorNests depth) IsNoPath (option_map factor_of o) (token.OpenParen ∷ tokens.old) tokens.new) }
+    ensures { IfOk result (λ o. IsRead factor_tokens (FactorNests depth) IsNoPath (option_map factor_of o) (token.OpenParen ∷ tokens.old)
+        tokens.new) }
 {
     if depth >= DEEPEST {
         return Ok(None);
@@ -135,7 +138,8 @@ fn named(
     depth: u32,
 ) -> Result<Option<Factor>, AllocError>
     requires { depth ≤ 64 }
-    ensures { IfOk result (λ o. IsRead factor_tokens (FactorNests depth) IsNoPath (option_map factor_of o) (token.Name name.now ∷ tokens.old) tokens.new) }
+    ensures { IfOk result (λ o. IsRead factor_tokens (FactorNests depth) IsNoPath (option_map factor_of o)
+        (token.Name name.now ∷ tokens.old) tokens.new) }
 {
     if !tokens.takes(Fixed::PathSeparator) {
         let name = Word::copy(alloc, name.bytes())?;

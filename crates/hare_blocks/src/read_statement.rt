@@ -42,7 +42,8 @@ fn statements(
     tokens: &mut Cursor,
     left: u32,
 ) -> Result<Option<Statements>, AllocError>
-    ensures { IfOk result (λ o. IsRead closed_tokens (StatementsFit left) Anything (option_map list_of_statements o) tokens.old tokens.new) }
+    ensures { IfOk result (λ o. IsRead closed_tokens (StatementsFit left) Anything (option_map list_of_statements o) tokens.old
+        tokens.new) }
 {
     let mut found = Statements::new(alloc);
     'statements: while !tokens.takes(Fixed::CloseBrace) {
@@ -77,7 +78,8 @@ fn statement(alloc: Global, tokens: &mut Cursor, left: u32) -> Result<Option<Sta
 // Takes what stands behind `if`.
 #[cycle(statement)]
 fn choice(alloc: Global, tokens: &mut Cursor, left: u32) -> Result<Option<Statement>, AllocError>
-    ensures { IfOk result (λ o. IsRead statement_tokens (StatementFits left) IsEnded (option_map statement_of o) (token.If ∷ tokens.old) tokens.new) }
+    ensures { IfOk result (λ o. IsRead statement_tokens (StatementFits left) IsEnded (option_map statement_of o) (token.If ∷ tokens.old)
+        tokens.new) }
 {
     let Some(test) = test(alloc, tokens)? else {
         return Ok(None);
@@ -105,7 +107,8 @@ fn repetition(
     tokens: &mut Cursor,
     left: u32,
 ) -> Result<Option<Statement>, AllocError>
-    ensures { IfOk result (λ o. IsRead statement_tokens (StatementFits left) IsEnded (option_map statement_of o) (token.For ∷ tokens.old) tokens.new) }
+    ensures { IfOk result (λ o. IsRead statement_tokens (StatementFits left) IsEnded (option_map statement_of o) (token.For ∷ tokens.old)
+        tokens.new) }
 {
     let Some(test) = test(alloc, tokens)? else {
         return Ok(None);
@@ -122,7 +125,8 @@ fn declaration(
     tokens: &mut Cursor,
     left: u32,
 ) -> Result<Option<Statement>, AllocError>
-    ensures { IfOk result (λ o. IsRead statement_tokens (StatementFits left) IsEnded (option_map statement_of o) (token.Let ∷ tokens.old) tokens.new) }
+    ensures { IfOk result (λ o. IsRead statement_tokens (StatementFits left) IsEnded (option_map statement_of o) (token.Let ∷ tokens.old)
+        tokens.new) }
 {
     let Some(name) = tokens.takes_name() else {
         return Ok(None);
@@ -144,7 +148,8 @@ fn named(
     name: &Word,
     left: u32,
 ) -> Result<Option<Statement>, AllocError>
-    ensures { IfOk result (λ o. IsRead statement_tokens (StatementFits left) IsEnded (option_map statement_of o) (token.Name name.now ∷ tokens.old) tokens.new) }
+    ensures { IfOk result (λ o. IsRead statement_tokens (StatementFits left) IsEnded (option_map statement_of o)
+        (token.Name name.now ∷ tokens.old) tokens.new) }
 {
     if tokens.takes(Fixed::Assign) {
         return assignment(alloc, tokens, name, left);
@@ -165,7 +170,8 @@ fn assignment(
     name: &Word,
     left: u32,
 ) -> Result<Option<Statement>, AllocError>
-    ensures { IfOk result (λ o. IsRead statement_tokens (StatementFits left) IsEnded (option_map statement_of o) (token.Name name.now ∷ token.Assign ∷ tokens.old) tokens.new) }
+    ensures { IfOk result (λ o. IsRead statement_tokens (StatementFits left) IsEnded (option_map statement_of o)
+        (token.Name name.now ∷ token.Assign ∷ tokens.old) tokens.new) }
 {
     let Some(value) = outer_expr(alloc, tokens)? else {
         return Ok(None);
@@ -176,7 +182,8 @@ fn assignment(
 
 // Takes what stands behind `rt::` at the front of a statement.
 fn call(alloc: Global, tokens: &mut Cursor, left: u32) -> Result<Option<Statement>, AllocError>
-    ensures { IfOk result (λ o. IsRead statement_tokens (StatementFits left) IsEnded (option_map statement_of o) (token.Name (codes "rt") ∷ token.PathSeparator ∷ tokens.old) tokens.new) }
+    ensures { IfOk result (λ o. IsRead statement_tokens (StatementFits left) IsEnded (option_map statement_of o)
+        (token.Name (codes "rt") ∷ token.PathSeparator ∷ tokens.old) tokens.new) }
 {
     if tokens.takes(Fixed::Exit) {
         let Some(value) = status(alloc, tokens)? else {

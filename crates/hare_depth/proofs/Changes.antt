@@ -1,6 +1,5 @@
 -- What each change of the grammar's machine does to the limits that are passed in the trees under way: kids that are put, trees that are
--- begun
--- and closed, and texts.
+-- begun and closed, and texts.
 use Rattle.std.proofs.Common.{◌≡◌, ℕ, List, [], ◌∷◌, ◌++◌, Bool, true, ◌&&◌, map, refl, ap, ◌∙◌, subst}
 use Rattle.std.proofs.lemmas.List.{append-nil}
 use Rattle.std.specs.Prelude.{nat_le, if◌then◌else◌}

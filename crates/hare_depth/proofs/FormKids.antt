@@ -1,6 +1,5 @@
 -- What shaped trees and the leaves beside them have in common: their kids are those of their forms. And what forms say of tokens: a node
--- has at
--- least one, and an operator one behind its left operand.
+-- has at least one, and an operator one behind its left operand.
 use Rattle.std.proofs.Common.{◌≡◌, ℕ, ◌≤◌, List, [], ◌∷◌, ◌++◌, Bool, true, false, ◌&&◌, length, refl, arith, rules, if◌then◌else◌}
 use Rattle.std.specs.Prelude.{◌||◌, ◌==◌, nat_le, slice_index}
 use Rattle.std.specs.List.{list_all}

@@ -1,6 +1,5 @@
 -- What the proof of the gauge's law asks of a language: its trees are read by the grammar's machine from one stack on, and the tree that is
--- read has
--- the faults of what the machine makes.
+-- read has the faults of what the machine makes.
 use Rattle.std.proofs.Common.{◌≡◌, ℕ, ◌<◌, List, [], ◌∷◌, ◌++◌, true, false, map, length, sym, subst}
 use Rattle.hare_tree.specs.declared.token.Token.{Token}
 use Rattle.hare_tree.specs.Grammar.{Language, IsOn, Spells, unplaced, joined}
@@ -52,8 +51,7 @@ pub record Reread {T : Type 0} (l : Language T) (st : List Symbol) (ts : List To
   pub faulty : Faulty l used last tree made
 
 -- The machine reads the trees of the language from these symbols on. Nothing is under way there and no limit passed; and in the tokens of a
--- tree no
--- strings stand side by side.
+-- tree no strings stand side by side.
 pub record Reads {T : Type 0} (l : Language T) (st : List Symbol) : Type 0 where
   pub held : Held 1 st (frames bottom)
   pub none : pile_faults (nodes_in st) bottom ≡ []

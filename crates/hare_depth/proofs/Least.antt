@@ -48,8 +48,7 @@ last_of q n k d e =
     record { within = omega (arith, w, h); positive = omega (arith, i, b.0); below = omega (arith, i, b.1, c) }
 
 -- Where the run of a tree uses all tokens of the front, the gauge tells there what each tree that goes on passes: a tree that is closed
--- with tokens
--- of higher numbers passes nothing else so early.
+-- with tokens of higher numbers passes nothing else so early.
 told_short : {T : Type 0} → StepsGain → StepsEnd → (l : Language T) (st : List Symbol) → Reads l st → (ts q : List Token) (n k : ℕ) →
     LastOf q n k → IsFront (joined (numbered 1 q)) (joined (numbered 1 ts)) → (ws : List ℕ) → Through st (joined (numbered 1 q)) ws →
     ((tree : T) → GoesOn l q tree → IsOn k (l.deep_of tree)) → IsOn (line_of (joined (numbered 1 q)) k) (gauge (seen ts) st start).faults

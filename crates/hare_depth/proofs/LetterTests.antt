@@ -59,8 +59,7 @@ plain_left f n p o x ds ks e k =
 -- ---- an operator
 
 -- `a` tells the operator's first token, `b` the left operand's, which is the same, `c` the operator; `d` and `k` tell what is in the left
--- operand and
--- in the other kids
+-- operand and in the other kids
 pub rejoin : (a b c d k : Bool) → ((a || c) || ((d || b) || k)) ≡ ((a || (b || c)) || (d || k))
 rejoin true b c d k = refl
 rejoin false true true d k = refl

@@ -1,6 +1,6 @@
 -- Where the limits are passed in trees whose places are numbers of tokens, and in piles of trees under way. Here a left operand has as many
--- nodes
--- open round it as its operator, as it has while it is read; that one more is open once its operator is there is told at the operator.
+-- nodes open round it as its operator, as it has while it is read; that one more is open once its operator is there is told at the
+-- operator.
 use Rattle.std.proofs.Common.{◌≡◌, ℕ, suc, ◌+◌, List, [], ◌∷◌, ◌++◌, Bool, true, false, ◌&&◌, ◌⊎◌, not, map, length}
 use Rattle.std.specs.Prelude.{nat_le, ◌==◌, if◌then◌else◌}
 use Rattle.std.specs.List.{list_all}
@@ -107,8 +107,7 @@ abbrev pub frame_below : ℕ → Frame → Bool
 frame_below n f = nat_le f.at n && kids_below n f.kids
 
 -- All trees under way begin in front of the token `n`, and the nodes among their kids. The last tree, which holds what is read and is never
--- closed,
--- has its place at the first token, even where that is not yet read.
+-- closed, has its place at the first token, even where that is not yet read.
 unfoldable pub all_below : ℕ → List Frame → Bool
 all_below n [] = true
 all_below n (f ∷ []) = frame_below n f

@@ -1,6 +1,5 @@
 -- The gauge of depth: the grammar's machine over the classes and numbers of tokens, which keeps marks in place of trees and tells the
--- tokens
--- at which a limit on depth is passed.
+-- tokens at which a limit on depth is passed.
 use Rattle.std.specs.Prelude.{ℕ, suc, List, [], ◌∷◌, ◌++◌, map, Bool, true, false, ◌&&◌, nat_le, if◌then◌else◌}
 use Rattle.hare_tree.specs.declared.token.Token.{Token}
 use Rattle.hare_tree.specs.Depth.{is_node}
@@ -18,8 +17,7 @@ use Rattle.hare_depth.specs.Marks.{Mark, Frame, lies_before, first_in, close, al
 -- ---- which of the trees under way are nodes
 
 -- For the trees under way that a rule brings to their end, the innermost first, whether each is a node. The `let` of a `for` may yet be a
--- binding,
--- and the tree round a path may yet be none: they count from the token on that decides it.
+-- binding, and the tree round a path may yet be none: they count from the token on that decides it.
 abbrev pub nodes_of_rule : Rule → List Bool
 nodes_of_rule (ru.BehindComma s) = false ∷ []
 nodes_of_rule ru.BehindElementComma = false ∷ false ∷ []

@@ -2,8 +2,8 @@
 
 ghost use Rattle.hare_depth.specs.Depth.{GaugesTell, FileGaugesTell, GaugedTreesFit, GaugedFilesFit};
 
-/// Each token that the gauge tells, for a sort that has trees, is one at which every tree that goes on with what is read passes a limit on depth,
-/// and the least such token of the file is told.
+/// Each token that the gauge tells, for a sort that has trees, is one at which every tree that goes on with what is read passes a limit on
+/// depth, and the least such token of the file is told.
 #[tactic(auto, using(crate::proofs::Gauges::gauges_tell))]
 pub fn law_depth_faults()
     ensures { GaugesTell }

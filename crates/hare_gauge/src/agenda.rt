@@ -46,7 +46,8 @@ impl Agenda {
     #[tactic(auto, using(crate::proofs::Opened::nodes_in_next))]
     pub fn next(&mut self) -> Result<Option<Symbol>, AllocError>
         requires { IsPaired self.old }
-        ensures waits { IfOk result (λ next. MatchOption next ((waited self.old.waits ≡ []) × (waited self.new.waits ≡ [])) (λ s. waited self.old.waits ≡ s ∷ waited self.new.waits)) }
+        ensures waits { IfOk result (λ next. MatchOption next ((waited self.old.waits ≡ []) × (waited self.new.waits ≡ []))
+            (λ s. waited self.old.waits ≡ s ∷ waited self.new.waits)) }
         ensures paired { OnOk result (IsPaired self.new) }
     {
         match next_symbol(&mut self.waits)? {

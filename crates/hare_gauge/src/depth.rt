@@ -30,8 +30,8 @@ pub fn depth_fault(
     Ok(gauged.fault)
 }
 
-/// The place in the list of the first token of a file at which a limit on depth is passed, E9, in every file that goes on with what can be read; none where the
-/// limits are kept.
+/// The place in the list of the first token of a file at which a limit on depth is passed, E9, in every file that goes on with what can be
+/// read; none where the limits are kept.
 ///
 /// The time is linear in the tokens. No tree is built. An error is want of memory.
 pub fn depth_fault_of_file(alloc: Global, tokens: &Tokens) -> Result<Option<usize>, AllocError>

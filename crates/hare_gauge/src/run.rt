@@ -43,8 +43,10 @@ pub fn run(
     frames: &mut Pile<Frame>,
 ) -> Result<Halted, AllocError>
     requires { IsPaired agenda.old }
-    ensures told { IfOk result (λ r. r.told ≡ least (gauges.gauge (spec.seen_from 1 (drop from tokens.now)) (waited agenda.old.waits) frames.old).faults) }
-    ensures stops { IfOk result (λ r. spec.Stops tokens.now from (gauges.gauge (spec.seen_from 1 (drop from tokens.now)) (waited agenda.old.waits) frames.old) r.stop) }
+    ensures told { IfOk result (λ r. r.told ≡ least
+        (gauges.gauge (spec.seen_from 1 (drop from tokens.now)) (waited agenda.old.waits) frames.old).faults) }
+    ensures stops { IfOk result (λ r. spec.Stops tokens.now from
+        (gauges.gauge (spec.seen_from 1 (drop from tokens.now)) (waited agenda.old.waits) frames.old) r.stop) }
 {
     let mut buffer = RowBuffer::new(alloc);
     let mut spare = Spare::new(alloc);

@@ -14,8 +14,8 @@ use hare_grammar::{Class, Symbol};
 use hare_table::{Answer, Pile, Row, RowBuffer, Spare, has_sign, row_at};
 use std::alloc::AllocError;
 
-/// Reads the token with this number, of which the class is given: the trees under way that are whole in front of it are closed, and it is used by
-/// the first rule that has a place for it. Rows are made in the buffer.
+/// Reads the token with this number, of which the class is given: the trees under way that are whole in front of it are closed, and it is
+/// used by the first rule that has a place for it. Rows are made in the buffer.
 #[tactic(auto, using(crate::proofs::SteppedMarks::step_alike), unfolding(hare_depth::specs::Gauge::step))]
 pub fn step(
     spare: &mut Spare<Mark>,
@@ -27,7 +27,8 @@ pub fn step(
 ) -> Result<Answer, AllocError>
     requires room { has_room class }
     requires paired { IsPaired agenda.old }
-    ensures value { IfOk result (λ a. Answers (capped_step (gauges.step number class (waited agenda.old.waits) frames.old)) a (waited agenda.new.waits) (capped frames.new)) }
+    ensures value { IfOk result (λ a. Answers (capped_step (gauges.step number class (waited agenda.old.waits) frames.old)) a
+        (waited agenda.new.waits) (capped frames.new)) }
     ensures paired { OnOk result (IsPaired agenda.new) }
 {
     while let Some(symbol) = agenda.next()? {

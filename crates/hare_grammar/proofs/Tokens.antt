@@ -83,7 +83,13 @@ scalar_rows x e =
                           (refl, refl, refl),
                           (
                             (refl, refl, refl),
-                            ((refl, refl, refl), ((refl, refl, refl), ((refl, refl, refl), ((refl, refl, refl), ((refl, refl, refl), tt))))),
+                            (
+                              (refl, refl, refl),
+                              (
+                                (refl, refl, refl),
+                                ((refl, refl, refl), ((refl, refl, refl), ((refl, refl, refl), tt))),
+                              ),
+                            ),
                           ),
                         ),
                       ),

@@ -1,6 +1,5 @@
 -- Rows of expressions. An operand that binds at a level is read first, and then `Climb l h` takes the operators of the levels from `l` up
--- to `h`,
--- of which each makes the tree so far its left operand; behind an operator only those of its level and below are left.
+-- to `h`, of which each makes the tree so far its left operand; behind an operator only those of its level and below are left.
 use Rattle.std.specs.Prelude.{ℕ, ◌+◌, [], ◌∷◌, nat_le, ◌&&◌, if◌then◌else◌}
 use Rattle.hare_tree.specs.declared.kind.Kind.{Kind}
 use Rattle.hare_tree.specs.declared.kind.Kind.TheVariants as ki

@@ -57,8 +57,7 @@ has_sign s _ = false
 -- ---- rows from forms
 
 -- What is waited for in order to read these pieces. A kid with a sign behind it, the value of a `yield`, and what follows the first element
--- of
--- an array are read by rules of their own.
+-- of an array are read by rules of their own.
 abbrev pub symbols : List Piece → List Symbol
 symbols [] = []
 symbols (pi.Fixed s ∷ ps) = sy.Want s ∷ symbols ps

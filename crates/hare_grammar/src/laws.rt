@@ -2,8 +2,9 @@
 
 ghost use Rattle.hare_grammar.specs.OneTree.{SortsHaveOneTree, PlacesDecideTrees, TokensHaveOneTree, FilesHaveOneTree, TokensHaveOneFile};
 
-/// No two trees of one sort, but for places, are spelled by the same tokens; and the tokens of a file are those of at most one tree of a sort,
-/// places and all. A sort is what may stand as a kid: an import, a declaration, a statement, an expression, a type, a pattern, or a part of one.
+/// No two trees of one sort, but for places, are spelled by the same tokens; and the tokens of a file are those of at most one tree of a
+/// sort, places and all. A sort is what may stand as a kid: an import, a declaration, a statement, an expression, a type, a pattern, or a
+/// part of one.
 #[tactic(auto, using(crate::proofs::OneTree::sorts_have_one_tree, crate::proofs::Places::tokens_have_one_tree))]
 pub fn law_one_tree()
     ensures but_for_places { SortsHaveOneTree }
@@ -16,8 +17,8 @@ pub fn law_places()
     ensures { PlacesDecideTrees }
 {}
 
-/// No two trees of files with one number, but for places, are spelled by the same tokens; and the tokens of a file are those of at most one tree
-/// of a file, places and all.
+/// No two trees of files with one number, but for places, are spelled by the same tokens; and the tokens of a file are those of at most one
+/// tree of a file, places and all.
 #[tactic(auto, using(crate::proofs::Files::files_have_one_tree, crate::proofs::Files::tokens_have_one_file))]
 pub fn law_one_file()
     ensures but_for_places { FilesHaveOneTree }

@@ -1,6 +1,5 @@
 -- What a parser answers for the tokens from a place of their list on, which are the whole list here: the tree of their longest front that
--- begins
--- a tree of the sort, or their first fault.
+-- begins a tree of the sort, or their first fault.
 use Rattle.std.specs.Prelude.{◌≡◌, ℕ, zero, suc, ◌+◌, ◌-◌, ◌<◌, ◌≤◌, ◌⊎◌, List, [], ◌∷◌, true, take, drop, Result, MatchResult}
 use Rattle.hare_tree.specs.declared.place.Place.{Place}
 use Rattle.hare_tree.specs.declared.place.Fault as fault
@@ -21,8 +20,7 @@ abbrev pub file_in : List Token → ℕ → ℕ
 file_in ts n = (place_of ts n).file
 
 -- The tokens of the longest front that begins a tree are all those of a tree, which has their places and keeps the limits; no other tree
--- does,
--- and no limit is passed.
+-- does, and no limit is passed.
 pub record IsRead (s : Sort) (file : ℕ) (ts : List Token) (tree : Node) (n : ℕ) : Type 0 where
   pub run : IsRun (trees_of s) ts n
   pub read : IsTreeOf s file (take n ts) tree

@@ -17,7 +17,8 @@ use std::alloc::{AllocError, Global};
 /// What the tokens of a file come to.
 #[derive(Drop)]
 pub enum FileOutcome {
-    /// The imports and the declarations, in the order of the source. The number is the place in the list of tokens of the first that is not used.
+    /// The imports and the declarations, in the order of the source. The number is the place in the list of tokens of the first that is not
+    /// used.
     Done(Kids, Kids, usize),
     /// The token at this place of the list cannot stand there, or the tokens are used up.
     Stuck(usize),
@@ -25,8 +26,8 @@ pub enum FileOutcome {
 
 /// Reads imports, and behind them declarations, from the tokens of a file, as many as there are. Strings side by side are one token.
 ///
-/// The call takes time linear in the tokens that it reads. It uses the host's stack only where trees are given up, as deep as they are, so its
-/// caller looks at the depth first.
+/// The call takes time linear in the tokens that it reads. It uses the host's stack only where trees are given up, as deep as they are, so
+/// its caller looks at the depth first.
 pub fn read_file(alloc: Global, file: u32, tokens: &Tokens) -> Result<FileOutcome, AllocError>
     ensures run { IfOk result (λ o. engine.run file (joined tokens.now) file_symbols engine.bottom ≡ spec.outcome_of o tokens.now) }
     ensures sorts { IfOk result (λ o. spec.HasSorts o) }

@@ -30,7 +30,13 @@ impl Model for Group {
 
     ghost Value = { machine.Group };
 
-    ghost coded = { Prim.hlevel (codes, p.the_row.coded, s.the_row.coded, node_code (Prim.hlevel (codes, k.the_row.coded, p.the_row.coded, s.the_row.coded))) };
+    ghost coded = { Prim.hlevel (
+      codes,
+      p.the_row.coded,
+      s.the_row.coded,
+      node_code
+          (Prim.hlevel (codes, k.the_row.coded, p.the_row.coded, s.the_row.coded)),
+    ) };
 
     ghost view = { λ g. record {
       place = g.place;
@@ -117,7 +123,8 @@ impl Group {
 
     /// Takes the token's text, number and suffix.
     pub fn take_text(&mut self, alloc: Global, token: &Token) -> Result<(), AllocError>
-        ensures { OnOk result (self.new ≡ record { place = self.old.place; text = token.now.text; number = token.now.number; suffix = token.now.suffix; kids = self.old.kids }) }
+        ensures { OnOk result (self.new ≡ record
+            { place = self.old.place; text = token.now.text; number = token.now.number; suffix = token.now.suffix; kids = self.old.kids }) }
     {
         self.text = Word::copy(alloc, token.text.bytes())?;
         self.number = token.number;
@@ -127,7 +134,14 @@ impl Group {
 
     /// Puts the token's text behind the text so far.
     pub fn join_text(&mut self, token: &Token) -> Result<(), AllocError>
-        ensures { OnOk result (self.new ≡ record { place = self.old.place; text = self.old.text ++ token.now.text; number = self.old.number; suffix = self.old.suffix; kids = self.old.kids }) }
+        ensures { OnOk result (self.new ≡ record {
+          place = self.old.place;
+          text = self.old.text ++ token.now.text;
+          number = self.old.number;
+          suffix = self.old.suffix;
+          kids =
+              self.old.kids;
+        }) }
     {
         self.text.extend(token.text.bytes())
     }

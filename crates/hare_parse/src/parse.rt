@@ -37,7 +37,8 @@ pub fn parse_type(alloc: Global, t: &Tokens, at: usize) -> Result<Parsed, Stop<F
     requires { at < length t.now }
     ensures ok { IfOk result (λ p. spec.IsParsed so.Type t.now at p) }
     ensures err { IfErr result (λ e. spec.Stops so.Type t.now at e) }
-    ensures only_tree { (tree : Node) (n : ℕ) → spec.IsRead so.Type (spec.file_in t.now at) (drop at t.now) tree n → spec.GivesTree at tree n result }
+    ensures only_tree { (tree : Node) (n : ℕ) → spec.IsRead so.Type (spec.file_in t.now at) (drop at t.now) tree n →
+        spec.GivesTree at tree n result }
     ensures only_fault { (f : Fault) → spec.HasFault so.Type (drop at t.now) f → spec.GivesFault f result }
 {
     parse(alloc, t, at, Sort::Type)
@@ -50,7 +51,8 @@ pub fn parse_expr(alloc: Global, t: &Tokens, at: usize) -> Result<Parsed, Stop<F
     requires { at < length t.now }
     ensures ok { IfOk result (λ p. spec.IsParsed forms.expr t.now at p) }
     ensures err { IfErr result (λ e. spec.Stops forms.expr t.now at e) }
-    ensures only_tree { (tree : Node) (n : ℕ) → spec.IsRead forms.expr (spec.file_in t.now at) (drop at t.now) tree n → spec.GivesTree at tree n result }
+    ensures only_tree { (tree : Node) (n : ℕ) → spec.IsRead forms.expr (spec.file_in t.now at) (drop at t.now) tree n →
+        spec.GivesTree at tree n result }
     ensures only_fault { (f : Fault) → spec.HasFault forms.expr (drop at t.now) f → spec.GivesFault f result }
 {
     parse(alloc, t, at, Sort::Level(1))

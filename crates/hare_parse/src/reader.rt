@@ -28,11 +28,11 @@ pub enum Outcome {
     Stuck(usize),
 }
 
-/// Reads a tree of the sort from the tokens of a file, from a place of their list on. Strings side by side are one token. Behind the last token
-/// stands End, if it is not there itself.
+/// Reads a tree of the sort from the tokens of a file, from a place of their list on. Strings side by side are one token. Behind the last
+/// token stands End, if it is not there itself.
 ///
-/// The call takes time linear in the tokens that it reads. It uses the host's stack only where a tree is given up, as deep as the tree is, so its
-/// caller looks at the depth first.
+/// The call takes time linear in the tokens that it reads. It uses the host's stack only where a tree is given up, as deep as the tree is,
+/// so its caller looks at the depth first.
 pub fn read(
     alloc: Global,
     file: u32,
@@ -40,7 +40,8 @@ pub fn read(
     at: usize,
     sort: Sort,
 ) -> Result<Outcome, AllocError>
-    ensures run { IfOk result (λ o. engine.run file (joined (closed (drop at tokens.now))) (rows.of sort ∷ []) engine.bottom ≡ spec.outcome_of o tokens.now) }
+    ensures run { IfOk result (λ o. engine.run file (joined (closed (drop at tokens.now))) (rows.of sort ∷ []) engine.bottom ≡
+        spec.outcome_of o tokens.now) }
     ensures place { IfOk result (λ o. IsPlace tokens.now at (spec.place_of o)) }
 {
     let mut stack = Pile::new(alloc);

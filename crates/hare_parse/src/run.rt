@@ -53,9 +53,12 @@ pub fn run(
     stack: &mut Pile<Wait>,
     groups: &mut Pile<Group>,
 ) -> Result<Reached, AllocError>
-    ensures value { IfOk result (λ r. engine.run file (joined (drop from tokens.now)) (waited stack.old) groups.old ≡ spec.outcome_in r tokens.now groups.new) }
+    ensures value { IfOk result (λ r. engine.run file (joined (drop from tokens.now)) (waited stack.old) groups.old ≡ spec.outcome_in r
+        tokens.now groups.new) }
     ensures place { IfOk result (λ r. IsPlace tokens.now from (spec.place_in r)) }
-    ensures onward { IfOk result (λ r. spec.IsUsedUp r tokens.now → (us : List Token) → engine.run file (joined (drop from tokens.now) ++ us) (waited stack.old) groups.old ≡ engine.run file us (waited stack.new) groups.new) }
+    ensures onward { IfOk result (λ r. spec.IsUsedUp r tokens.now → (us : List Token) →
+        engine.run file (joined (drop from tokens.now) ++ us) (waited stack.old) groups.old ≡ engine.run file us (waited stack.new)
+        groups.new) }
 {
     let mut buffer = RowBuffer::new(alloc);
     let mut spare = Spare::new(alloc);

@@ -14,8 +14,8 @@ use hare_table::{
 use hare_tree::{Token, Tree};
 use std::alloc::AllocError;
 
-/// Reads one token of the file, of which the class is given: the trees under way that are whole in front of it are closed, and it is used by the
-/// first rule that has a place for it. Rows are made in the buffer.
+/// Reads one token of the file, of which the class is given: the trees under way that are whole in front of it are closed, and it is used
+/// by the first rule that has a place for it. Rows are made in the buffer.
 #[tactic(auto, unfolding(hare_grammar::specs::Engine::step))]
 pub fn step(
     spare: &mut Spare<Tree>,

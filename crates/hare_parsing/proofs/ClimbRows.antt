@@ -156,7 +156,10 @@ operator_makes x k s m j l r r' t le f lv sl sr op nn y li al is a gs hs n n1 v 
                 (sym is) ∙ sym (map-append unplaced v (t ∷ u))));
             placed = subst (λ z. HavePlaces x.file x.tokens (begins hd z n (spells 0 ts)) ts) (sym f) (
               subst (λ z. HasPlaces x.file x.tokens z a) (omega arith) ta.placed,
-              (subst (λ z. HasPlaces x.file x.tokens z b.t) (omega (arith, h.at, at, la, ap length (append-nil (spell 0 a)))) bt.placed, tt),
+              (
+                subst (λ z. HasPlaces x.file x.tokens z b.t) (omega (arith, h.at, at, la, ap length (append-nil (spell 0 a)))) bt.placed,
+                tt,
+              ),
             );
             stops_at = λ z d. subst (λ q. form_stops z hd true q (stops_each z ts) ≡ true) (sym f) (bt.ends z d);
           });

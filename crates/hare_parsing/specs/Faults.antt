@@ -74,8 +74,7 @@ FileRunsFault =
     StandsAt ts n (t ∷ rest) → IsSyntaxFault files ts n
 
 -- Imports and declarations are over at the token `t`. If it is not End, the fault is there; if it is, it makes the file whole, and the
--- fault is at
--- the next token, where there is one.
+-- fault is at the next token, where there is one.
 pub record FileIsOver (ts : List Token) (n : ℕ) (t : Token) : Type 0 where
   pub no_end : (unplaced t ≡ word_token 0 tk.End [] → ⊥) → IsSyntaxFault files ts n
   pub whole : unplaced t ≡ word_token 0 tk.End [] → IsViable files (take (suc n) ts)

@@ -1,6 +1,5 @@
 -- Whole files: the run over a file's tokens, of which strings side by side are one, is done in front of End alone exactly where the tokens
--- are
--- those of a shaped file.
+-- are those of a shaped file.
 use Rattle.std.specs.Prelude.{◌≡◌, ℕ, List, [], ◌∷◌, ◌++◌, true}
 use Rattle.hare_tree.specs.declared.token.TokenKind.TheVariants as tk
 use Rattle.hare_tree.specs.declared.token.Token.{Token}

@@ -4,8 +4,7 @@ use Rattle.hare_tree.specs.declared.token.Token.{Token}
 use Rattle.hare_tree.specs.Grammar.{joined, StandsAt}
 
 -- The first of the joined tokens from a place of the list on is this one. The others are those from the next place on, where no strings are
--- joined
--- across that place.
+-- joined across that place.
 pub record BeginsWith (ts : List Token) (at : ℕ) (t : Token) (next : ℕ) : Type 0 where
   pub joins : joined (drop at ts) ≡ t ∷ joined (drop next ts)
   pub further : at < next

@@ -1,5 +1,5 @@
-//! The table of the grammar of Hare as a program, and what both passes over the tokens of a file share: classes of tokens, what is waited for, and
-//! strings side by side, which are one token.
+//! The table of the grammar of Hare as a program, and what both passes over the tokens of a file share: classes of tokens, what is waited
+//! for, and strings side by side, which are one token.
 #![tactic(auto)]
 
 mod answer;

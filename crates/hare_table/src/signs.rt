@@ -8,7 +8,8 @@ use hare_tree::Sign;
 
 /// The keywords that forms have and that begin with this byte.
 pub fn keywords_like(first: u8) -> &'static [Sign]
-    ensures { (other : Class) (rest : List ℕ) → classes.sign_or other result.now (first ∷ rest) ≡ classes.sign_or other classes.keyword_signs (first ∷ rest) }
+    ensures { (other : Class) (rest : List ℕ) → classes.sign_or other result.now (first ∷ rest) ≡ classes.sign_or other
+        classes.keyword_signs (first ∷ rest) }
 {
     match first {
         b'a' => &[
@@ -41,7 +42,8 @@ pub fn keywords_like(first: u8) -> &'static [Sign]
 
 /// The marks that forms have and that begin with this byte.
 pub fn marks_like(first: u8) -> &'static [Sign]
-    ensures { (other : Class) (rest : List ℕ) → classes.sign_or other result.now (first ∷ rest) ≡ classes.sign_or other classes.mark_signs (first ∷ rest) }
+    ensures { (other : Class) (rest : List ℕ) → classes.sign_or other result.now (first ∷ rest) ≡ classes.sign_or other classes.mark_signs
+        (first ∷ rest) }
 {
     match first {
         b'!' => &[Sign::Bang],

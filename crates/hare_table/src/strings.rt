@@ -17,7 +17,8 @@ pub struct Joined {
     pub next: usize,
 }
 
-/// Whether a token is a string with nothing beside its text, neither a suffix nor a number, as all are that the lexer gives. A tree has no other.
+/// Whether a token is a string with nothing beside its text, neither a suffix nor a number, as all are that the lexer gives. A tree has no
+/// other.
 pub fn is_proper_string(token: &Token) -> bool
     ensures { result ≡ is_proper_string token.now }
 {

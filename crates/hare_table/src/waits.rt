@@ -24,9 +24,11 @@ pub fn push_waits(stack: &mut Pile<Wait>, waits: &[Wait]) -> Result<(), AllocErr
     Ok(())
 }
 
-/// Takes the symbol that is waited for next; none where nothing is. What is left of a form goes on the pile again: an error is want of memory for it.
+/// Takes the symbol that is waited for next; none where nothing is. What is left of a form goes on the pile again: an error is want of
+/// memory for it.
 pub fn next_symbol(stack: &mut Pile<Wait>) -> Result<Option<Symbol>, AllocError>
-    ensures { IfOk result (λ next. MatchOption next ((waited stack.old ≡ []) × (waited stack.new ≡ [])) (λ s. waited stack.old ≡ s ∷ waited stack.new)) }
+    ensures { IfOk result (λ next. MatchOption next ((waited stack.old ≡ []) × (waited stack.new ≡ []))
+        (λ s. waited stack.old ≡ s ∷ waited stack.new)) }
 {
     match stack.pop() {
         None => Ok(None),

@@ -34,25 +34,30 @@ pub item-absent : (xs : Nodes) → first_kind xs ≡ None → behind_item (edges
 item-absent none e = refl
 item-absent (more t ts) e = absurd cc
 
-pub item-skip : (xs : Nodes) (k : Kind) → first_kind xs ≡ Some k → is_none k ≡ true → behind_item (edges xs) ≡ behind_item (edges (tail_of xs))
+pub item-skip : (xs : Nodes) (k : Kind) → first_kind xs ≡ Some k → is_none k ≡ true →
+    behind_item (edges xs) ≡ behind_item (edges (tail_of xs))
 item-skip none k e n = absurd cc
 item-skip (more t ts) k e n = let h : (head t).kind ≡ k = cc in rw (h, n) refl
 
-pub item-there : (xs : Nodes) (k : Kind) → first_kind xs ≡ Some k → is_none k ≡ false → behind_item (edges xs) ≡ (if is_dots k then None else Some si.Comma)
+pub item-there : (xs : Nodes) (k : Kind) → first_kind xs ≡ Some k → is_none k ≡ false →
+    behind_item (edges xs) ≡ (if is_dots k then None else Some si.Comma)
 item-there none k e n = absurd cc
 item-there (more t ts) k e n = let h : (head t).kind ≡ k = cc in rw (h, n) refl
 
 -- ---- pieces with a sign before their kid
 
-pub led-absent : (s : Sign) (a : Sort) (ps : List Piece) (xs : Nodes) → first_kind xs ≡ None → behind_kid (pi.Led s a ∷ ps) (edges xs) ≡ None
+pub led-absent : (s : Sign) (a : Sort) (ps : List Piece) (xs : Nodes) → first_kind xs ≡ None →
+    behind_kid (pi.Led s a ∷ ps) (edges xs) ≡ None
 led-absent s a ps none e = refl
 led-absent s a ps (more t ts) e = absurd cc
 
-pub led-skip : (s : Sign) (a : Sort) (ps : List Piece) (xs : Nodes) (k : Kind) → first_kind xs ≡ Some k → is_none k ≡ true → behind_kid (pi.Led s a ∷ ps) (edges xs) ≡ behind_kid ps (edges (tail_of xs))
+pub led-skip : (s : Sign) (a : Sort) (ps : List Piece) (xs : Nodes) (k : Kind) → first_kind xs ≡ Some k → is_none k ≡ true →
+    behind_kid (pi.Led s a ∷ ps) (edges xs) ≡ behind_kid ps (edges (tail_of xs))
 led-skip s a ps none k e n = absurd cc
 led-skip s a ps (more t ts) k e n = let h : (head t).kind ≡ k = cc in rw (h, n) refl
 
-pub led-there : (s : Sign) (a : Sort) (ps : List Piece) (xs : Nodes) (k : Kind) → first_kind xs ≡ Some k → is_none k ≡ false → behind_kid (pi.Led s a ∷ ps) (edges xs) ≡ Some s
+pub led-there : (s : Sign) (a : Sort) (ps : List Piece) (xs : Nodes) (k : Kind) → first_kind xs ≡ Some k → is_none k ≡ false →
+    behind_kid (pi.Led s a ∷ ps) (edges xs) ≡ Some s
 led-there s a ps none k e n = absurd cc
 led-there s a ps (more t ts) k e n = let h : (head t).kind ≡ k = cc in rw (h, n) refl
 
@@ -62,7 +67,9 @@ pieces-at ps j d p lt e = rw (add-one, ← e) (drop-cons ps j d lt)
 
 -- ---- the left edge
 
-begins-form : (h : Head) (ps : List Piece) (first : Bool) → form_begins_labelled h ps first ≡ (if begins_with_kid ps then first else (if begins_with_label ps then not (is_empty h.text) else false))
+begins-form : (h : Head) (ps : List Piece) (first : Bool) →
+    form_begins_labelled h ps first ≡
+    (if begins_with_kid ps then first else (if begins_with_label ps then not (is_empty h.text) else false))
 begins-form h [] first = refl
 begins-form h (pi.Fixed s ∷ ps) first = refl
 begins-form h (pi.Own ow.Nothing ∷ ps) first = refl
@@ -96,7 +103,8 @@ unfolding begins_labelled
 begins-kid h ts e = begins-form h (form_of h.kind) (first_labelled ts) ∙ rw e refl
 
 -- any other begins as its form does
-pub begins-own : (h : Head) (ts : Nodes) (b : Bool) → begins_with_kid (form_of h.kind) ≡ false → begins_with_label (form_of h.kind) ≡ b → begins_labelled (branch h ts) ≡ (if b then not (is_empty h.text) else false)
+pub begins-own : (h : Head) (ts : Nodes) (b : Bool) → begins_with_kid (form_of h.kind) ≡ false → begins_with_label (form_of h.kind) ≡ b →
+    begins_labelled (branch h ts) ≡ (if b then not (is_empty h.text) else false)
 unfolding begins_labelled
 begins-own h ts b e l = begins-form h (form_of h.kind) (first_labelled ts) ∙ rw (e, l) refl
 
@@ -116,9 +124,11 @@ is_empty-length [] = refl
 is_empty-length (c ∷ s) = grind arith
 
 -- a kid is smaller than its tree
-pub kid_size-tree : (h : Head) (ks : List Node) (t x : Node) (i : ℕ) → branch h (nodes_of ks) ≡ t → slice_get ks i ≡ Some x → size_of x < size_of t
+pub kid_size-tree : (h : Head) (ks : List Node) (t x : Node) (i : ℕ) → branch h (nodes_of ks) ≡ t → slice_get ks i ≡ Some x →
+    size_of x < size_of t
 kid_size-tree h ks t x i e g = let s : size_of x < sizes_of (nodes_of ks) = kid_size ks i x g in rw (← e) (omega arith)
 
 -- a `yield` without a label
-pub yields : (h : Head) (ks : List Node) (t : Node) (b : Bool) (s : List ℕ) → branch h (nodes_of ks) ≡ t → is_yield h.kind ≡ true → s ≡ h.text → (length s == 0) ≡ true → first_labelled (nodes_of ks) ≡ b → not b ≡ yields_label (head t) (kids_of t)
+pub yields : (h : Head) (ks : List Node) (t : Node) (b : Bool) (s : List ℕ) → branch h (nodes_of ks) ≡ t → is_yield h.kind ≡ true →
+    s ≡ h.text → (length s == 0) ≡ true → first_labelled (nodes_of ks) ≡ b → not b ≡ yields_label (head t) (kids_of t)
 yields h ks t b s e k st l f = rw (← e, k, ← is_empty-length h.text, ← st, l, f) refl

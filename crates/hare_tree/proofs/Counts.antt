@@ -51,7 +51,8 @@ parts_length : (taken : Bool) (part s : List ℕ) → 1 ≤ length (parts_from t
 parts_length taken part [] = lit≤ tt
 parts_length true part (c ∷ s) = parts_length false part s
 parts_length false part (c ∷ s) =
-    elim (c == 58 && slice_index s 0 == 58) as (λ b. 1 ≤ length (if b then part ∷ parts_from true [] s else parts_from false (part ++ c ∷ []) s)) [
+    elim (c == 58 && slice_index s 0 == 58) as
+    (λ b. 1 ≤ length (if b then part ∷ parts_from true [] s else parts_from false (part ++ c ∷ []) s)) [
       | true ↦ omega arith
       | false ↦ parts_length false (part ++ c ∷ []) s
     ]
@@ -64,7 +65,8 @@ path_length f (p ∷ q ∷ ps) h = omega arith
 own_least : (f : ℕ) (h : Head) (o : Own) → least_own o ≤ weight eight f (own_tokens f h o)
 own_least f h ow.Nothing = omega arith
 own_least f h ow.Label = omega arith
-own_least f h ow.Path = omega (arith, eight_each (own_tokens f h ow.Path), path_length f (parts_from false [] h.text) (parts_length false [] h.text))
+own_least f h ow.Path =
+    omega (arith, eight_each (own_tokens f h ow.Path), path_length f (parts_from false [] h.text) (parts_length false [] h.text))
 own_least f h _ = lit≤ tt
 
 form_least : (f : ℕ) (h : Head) (ps : List Piece) → least ps ≤ own_weight eight f h ps
@@ -130,7 +132,8 @@ record Counted (f : ℕ) (h : Head) (ts : Nodes) : Type 0 where
   few : absents ts ≤ room_for (form_of h.kind)
   small : kid_count ts + spares ts ≤ kids_weight eight f ts + absents ts
 
-counted : (f : ℕ) (h : Head) (ts : Nodes) → Counted f h ts → node_count (branch h ts) + spare h.kind ≤ weight eight f (spell f (branch h ts)) + absent (branch h ts)
+counted : (f : ℕ) (h : Head) (ts : Nodes) → Counted f h ts → node_count (branch h ts) + spare h.kind ≤ weight eight f
+    (spell f (branch h ts)) + absent (branch h ts)
 unfolding node_count
 counted f h ts c =
     let w = c.weighed in
@@ -138,7 +141,8 @@ counted f h ts c =
     let few = c.few in
     let s = c.small in
     elim (has_room h.kind) [
-      | inl e ↦ let z : room_for (form_of h.kind) ≡ 0 = rw e refl in let a : absent (branch h ts) ≡ 1 = rw e refl in let p : spare h.kind ≡ 0 = rw e refl in omega (arith, w, few, s, z, a, p)
+      | inl e ↦ let z : room_for (form_of h.kind) ≡ 0 = rw e refl in let a : absent (branch h ts) ≡ 1 =
+          rw e refl in let p : spare h.kind ≡ 0 = rw e refl in omega (arith, w, few, s, z, a, p)
       | inr (inl e) ↦ let z : room_for (form_of h.kind) ≡ 2 = rw e refl in let p : spare h.kind ≡ 0 = rw e refl in
           let k : are_kids (level ki.Values h.text) (kid_pieces (form_of ki.Values)) ts ≡ true = rw e at c.kids in
           omega (arith, w, few, s, z, p, first_value (level ki.Values h.text) ts k)
@@ -155,7 +159,13 @@ mutual
   small f s (branch h ts) e =
       let k = kids_of_shaped s h ts e in
       let a = shaped_kids s h ts e in
-      counted f h ts record { kids = a; weighed = pieces_weight eight f (level h.kind h.text) h (form_of h.kind) ts a; few = k.few; small = all_small f ts k.shaped }
+      counted f h ts record {
+        kids = a;
+        weighed = pieces_weight eight f (level h.kind h.text) h (form_of h.kind) ts a;
+        few = k.few;
+        small =
+            all_small f ts k.shaped;
+      }
 
   all_small : (f : ℕ) (ts : Nodes) → AllShaped ts → kid_count ts + spares ts ≤ kids_weight eight f ts + absents ts
   all_small f none a = omega arith
@@ -169,7 +179,8 @@ shaped_trees_are_small f s t e n =
 -- ---- files
 
 -- trees side by side, none of which is absent
-side_small : (f : ℕ) (s : Sort) (ts : List Node) → list_all (is_shaped s) ts ≡ true → ((t : Node) → is_shaped s t ≡ true → absent t ≡ 0) → kid_count (nodes_of ts) ≤ kids_weight eight f (nodes_of ts)
+side_small : (f : ℕ) (s : Sort) (ts : List Node) → list_all (is_shaped s) ts ≡ true → ((t : Node) → is_shaped s t ≡ true → absent t ≡ 0) →
+    kid_count (nodes_of ts) ≤ kids_weight eight f (nodes_of ts)
 unfolding node_count
 side_small f s [] e r = omega arith
 side_small f s (t ∷ ts) e r =

@@ -18,7 +18,8 @@ use Rattle.hare_tree.proofs.Limits.{is_nil-low, is_nil-append, deep-place, same_
 use Rattle.hare_tree.proofs.LowTrees.{some-if, some-is, and_true'}
 
 -- a tree that is judged fits where it keeps the limits
-pub fits-some : (s : Sort) (t : Node) (e : Ends) (k : Bool) → Some e ≡ judged_tree 511 s t → k ≡ keeps_low 511 0 false t → k ≡ (is_shaped s t && is_shallow t)
+pub fits-some : (s : Sort) (t : Node) (e : Ends) (k : Bool) → Some e ≡ judged_tree 511 s t → k ≡ keeps_low 511 0 false t →
+    k ≡ (is_shaped s t && is_shallow t)
 fits-some s t e k j d =
     let p = some-is (is_low 511 s t) (ends_of t) e j in
     let q = and_parts (is_shaped s t) (nat_le (height t) 511) p.0 in
@@ -29,7 +30,8 @@ pub fits-none : (s : Sort) (t : Node) → None ≡ judged_tree 511 s t → false
 fits-none s t j =
     let l : is_low 511 s t ≡ false = some-if _ (ends_of t) j in
     same_test _ _ (λ e. absurd cc)
-    (λ e. let p = and_parts (is_shaped s t) (is_shallow t) e in let f : is_low 511 s t ≡ true = and_true _ _ p.0 (is_nil-low t p.1) in absurd cc)
+    (λ e. let p = and_parts (is_shaped s t) (is_shallow t) e in let f : is_low 511 s t ≡ true =
+    and_true _ _ p.0 (is_nil-low t p.1) in absurd cc)
 
 -- ---- lists
 
@@ -37,16 +39,19 @@ first-and : (b c : Bool) → (b && c) ≡ ((b && true) && c)
 first-and true c = refl
 first-and false c = refl
 
-all-suc : {A : Type 0} (p : A → Bool) (xs : List A) (i : ℕ) → list_all p (drop i xs) ≡ (list_all p (take 1 (drop i xs)) && list_all p (drop (suc i) xs))
+all-suc : {A : Type 0} (p : A → Bool) (xs : List A) (i : ℕ) →
+    list_all p (drop i xs) ≡ (list_all p (take 1 (drop i xs)) && list_all p (drop (suc i) xs))
 all-suc p [] zero = refl
 all-suc p [] (suc i) = refl
 all-suc p (x ∷ xs) zero = first-and (p x) (list_all p xs)
 all-suc p (x ∷ xs) (suc i) = all-suc p xs i
 
-pub all-first : {A : Type 0} (p : A → Bool) (xs : List A) (i : ℕ) → list_all p (drop i xs) ≡ (list_all p (take 1 (drop i xs)) && list_all p (drop (i + 1) xs))
+pub all-first : {A : Type 0} (p : A → Bool) (xs : List A) (i : ℕ) →
+    list_all p (drop i xs) ≡ (list_all p (take 1 (drop i xs)) && list_all p (drop (i + 1) xs))
 all-first p xs i = rw add-one (all-suc p xs i)
 
-pub first-there : {A : Type 0} (p : A → Bool) (xs : List A) (i : ℕ) (x : A) → slice_get xs i ≡ Some x → list_all p (take 1 (drop i xs)) ≡ p x
+pub first-there : {A : Type 0} (p : A → Bool) (xs : List A) (i : ℕ) (x : A) → slice_get xs i ≡ Some x →
+    list_all p (take 1 (drop i xs)) ≡ p x
 first-there p [] i x e = absurd cc
 first-there p (y ∷ ys) zero x e = let h : y ≡ x = cc in rw h (and_true' (p x))
 first-there p (y ∷ ys) (suc i) x e = first-there p ys i x e
@@ -83,9 +88,11 @@ file-bools false b c d = refl
 file-is : (t : FileTree) → (list_all (fits_as so.Use) t.uses && list_all (fits_as so.Decl) t.decls) ≡ fits_file t
 file-is t =
     rw (all-both (λ u. is_shaped so.Use u) is_shallow t.uses, all-both (λ u. is_shaped so.Decl u) is_shallow t.decls)
-    (file-bools (list_all (λ u. is_shaped so.Use u) t.uses) (list_all (λ u. is_shaped so.Decl u) t.decls) (list_all is_shallow t.uses) (list_all is_shallow t.decls))
+    (file-bools (list_all (λ u. is_shaped so.Use u) t.uses) (list_all (λ u. is_shaped so.Decl u) t.decls) (list_all is_shallow t.uses)
+    (list_all is_shallow t.decls))
 
-pub fits-file : (t : FileTree) (a b : Bool) → a ≡ list_all (fits_as so.Use) t.uses → b ≡ list_all (fits_as so.Decl) t.decls → a ≡ true → b ≡ fits_file t
+pub fits-file : (t : FileTree) (a b : Bool) → a ≡ list_all (fits_as so.Use) t.uses → b ≡ list_all (fits_as so.Decl) t.decls → a ≡ true →
+    b ≡ fits_file t
 fits-file t a b ea eb h = let both : (a && b) ≡ fits_file t = rw (ea, eb) (file-is t) in rw h at both
 
 pub fits-no-file : (t : FileTree) (a : Bool) → a ≡ list_all (fits_as so.Use) t.uses → a ≡ false → a ≡ fits_file t

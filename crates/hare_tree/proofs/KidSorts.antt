@@ -27,7 +27,8 @@ comma-behind x zero (suc i) = refl
 comma-behind x (suc n) zero = refl
 comma-behind x (suc n) (suc i) = comma-behind x n i
 
-pub dots-behind : (x y : Option Sort) (n i : ℕ) → (i ≡ n → ⊥) → slice_index_or (replicate n x) i None ≡ slice_index_or (replicate n x ++ y ∷ None ∷ []) i None
+pub dots-behind : (x y : Option Sort) (n i : ℕ) → (i ≡ n → ⊥) → slice_index_or (replicate n x) i None ≡ slice_index_or
+    (replicate n x ++ y ∷ None ∷ []) i None
 dots-behind x y zero zero d = absurd (d refl)
 dots-behind x y zero (suc zero) d = refl
 dots-behind x y zero (suc (suc i)) d = refl
@@ -40,35 +41,45 @@ dots-behind x y (suc n) (suc i) d = dots-behind x y n i (λ e. d (ap suc e))
 abbrev from_here : List Piece → ℕ → ℕ → Option Sort
 from_here ps n i = slice_index_or (kid_sorts ps n) i None
 
-behind_first : (x : Option Sort) (ys : List (Option Sort)) (i : ℕ) → (i ≡ 0 → ⊥) → slice_index_or ys (i - 1) None ≡ slice_index_or (x ∷ ys) i None
+behind_first : (x : Option Sort) (ys : List (Option Sort)) (i : ℕ) → (i ≡ 0 → ⊥) → slice_index_or ys (i - 1) None ≡ slice_index_or (x ∷ ys)
+    i None
 behind_first x ys zero h = absurd (h refl)
 behind_first x ys (suc i) h = let e : suc i - 1 ≡ i = omega arith in rw e refl
 
-pub step-fixed : (form : List Piece) (j n i : ℕ) (d : Piece) (x : Sign) → j < length form → get_or form j d ≡ pi.Fixed x → from_here (drop (j + 1) form) n i ≡ from_here (drop j form) n i
+pub step-fixed : (form : List Piece) (j n i : ℕ) (d : Piece) (x : Sign) → j < length form → get_or form j d ≡ pi.Fixed x →
+    from_here (drop (j + 1) form) n i ≡ from_here (drop j form) n i
 step-fixed form j n i d x lt e = rw (pieces-at form j d (pi.Fixed x) lt e) refl
 
-pub step-own : (form : List Piece) (j n i : ℕ) (d : Piece) (x : Own) → j < length form → get_or form j d ≡ pi.Own x → from_here (drop (j + 1) form) n i ≡ from_here (drop j form) n i
+pub step-own : (form : List Piece) (j n i : ℕ) (d : Piece) (x : Own) → j < length form → get_or form j d ≡ pi.Own x →
+    from_here (drop (j + 1) form) n i ≡ from_here (drop j form) n i
 step-own form j n i d x lt e = rw (pieces-at form j d (pi.Own x) lt e) refl
 
 pub step-kid : (form : List Piece) (j n i : ℕ) (d : Piece) (s : Sort) → j < length form → (i ≡ 0 → ⊥) → get_or form j d ≡ pi.Kid s →
     from_here (drop (j + 1) form) (n - 1) (i - 1) ≡ from_here (drop j form) n i
 step-kid form j n i d s lt h e = rw (pieces-at form j d (pi.Kid s) lt e) (behind_first (Some s) (kid_sorts (drop (j + 1) form) (n - 1)) i h)
 
-pub step-optional : (form : List Piece) (j n i : ℕ) (d : Piece) (s : Sort) → j < length form → (i ≡ 0 → ⊥) → get_or form j d ≡ pi.Optional s →
+pub step-optional : (form : List Piece) (j n i : ℕ) (d : Piece) (s : Sort) → j < length form → (i ≡ 0 → ⊥) →
+    get_or form j d ≡ pi.Optional s →
     from_here (drop (j + 1) form) (n - 1) (i - 1) ≡ from_here (drop j form) n i
-step-optional form j n i d s lt h e = rw (pieces-at form j d (pi.Optional s) lt e) (behind_first (Some s) (kid_sorts (drop (j + 1) form) (n - 1)) i h)
+step-optional form j n i d s lt h e =
+    rw (pieces-at form j d (pi.Optional s) lt e) (behind_first (Some s) (kid_sorts (drop (j + 1) form) (n - 1)) i h)
 
-pub step-led : (form : List Piece) (j n i : ℕ) (d : Piece) (s : Sort) (a : Sign) → j < length form → (i ≡ 0 → ⊥) → get_or form j d ≡ pi.Led a s →
+pub step-led : (form : List Piece) (j n i : ℕ) (d : Piece) (s : Sort) (a : Sign) → j < length form → (i ≡ 0 → ⊥) →
+    get_or form j d ≡ pi.Led a s →
     from_here (drop (j + 1) form) (n - 1) (i - 1) ≡ from_here (drop j form) n i
-step-led form j n i d s a lt h e = rw (pieces-at form j d (pi.Led a s) lt e) (behind_first (Some s) (kid_sorts (drop (j + 1) form) (n - 1)) i h)
+step-led form j n i d s a lt h e =
+    rw (pieces-at form j d (pi.Led a s) lt e) (behind_first (Some s) (kid_sorts (drop (j + 1) form) (n - 1)) i h)
 
-pub step-followed : (form : List Piece) (j n i : ℕ) (d : Piece) (s : Sort) (a : Sign) → j < length form → (i ≡ 0 → ⊥) → get_or form j d ≡ pi.Followed s a →
+pub step-followed : (form : List Piece) (j n i : ℕ) (d : Piece) (s : Sort) (a : Sign) → j < length form → (i ≡ 0 → ⊥) →
+    get_or form j d ≡ pi.Followed s a →
     from_here (drop (j + 1) form) (n - 1) (i - 1) ≡ from_here (drop j form) n i
-step-followed form j n i d s a lt h e = rw (pieces-at form j d (pi.Followed s a) lt e) (behind_first (Some s) (kid_sorts (drop (j + 1) form) (n - 1)) i h)
+step-followed form j n i d s a lt h e =
+    rw (pieces-at form j d (pi.Followed s a) lt e) (behind_first (Some s) (kid_sorts (drop (j + 1) form) (n - 1)) i h)
 
 pub step-value : (form : List Piece) (j n i : ℕ) (d : Piece) (s : Sort) → j < length form → (i ≡ 0 → ⊥) → get_or form j d ≡ pi.Value s →
     from_here (drop (j + 1) form) (n - 1) (i - 1) ≡ from_here (drop j form) n i
-step-value form j n i d s lt h e = rw (pieces-at form j d (pi.Value s) lt e) (behind_first (Some s) (kid_sorts (drop (j + 1) form) (n - 1)) i h)
+step-value form j n i d s lt h e =
+    rw (pieces-at form j d (pi.Value s) lt e) (behind_first (Some s) (kid_sorts (drop (j + 1) form) (n - 1)) i h)
 
 -- ---- shaped trees
 
@@ -111,7 +122,8 @@ suc_less_two : (n : ℕ) → suc (suc n) - 2 ≡ n
 suc_less_two n = omega arith
 
 -- kids that repeat
-all_of : (level : ℕ) (s : Sort) (ts : List Node) (i : ℕ) (t : Node) → list_all (is_shaped s) ts ≡ true → slice_get ts i ≡ Some t → IsKid level (slice_index_or (replicate (length ts) (Some s)) i None) t
+all_of : (level : ℕ) (s : Sort) (ts : List Node) (i : ℕ) (t : Node) → list_all (is_shaped s) ts ≡ true → slice_get ts i ≡ Some t →
+    IsKid level (slice_index_or (replicate (length ts) (Some s)) i None) t
 all_of n s [] i t e g = cc
 all_of n s (x ∷ ts) zero t e g = let h : x ≡ t = cc in inr (rw h at (as_kid n s x (and_parts _ _ e).0))
 all_of n s (x ∷ ts) (suc i) t e g = all_of n s ts i t (and_parts _ _ e).1 g
@@ -121,18 +133,21 @@ unfolding is_shaped
 each_all n s ps [] = refl
 each_all n s ps (t ∷ ts) = ap (λ b. is_shaped s t && b) (each_all n s ps ts)
 
-each_led_all : (n : ℕ) (a : Sign) (s : Sort) (ps : List Piece) (ts : List Node) → are_kids n (pi.EachLed a s ∷ ps) (nodes_of ts) ≡ list_all (is_shaped s) ts
+each_led_all : (n : ℕ) (a : Sign) (s : Sort) (ps : List Piece) (ts : List Node) → are_kids n (pi.EachLed a s ∷ ps) (nodes_of ts) ≡ list_all
+    (is_shaped s) ts
 unfolding is_shaped
 each_led_all n a s ps [] = refl
 each_led_all n a s ps (t ∷ ts) = ap (λ b. is_shaped s t && b) (each_led_all n a s ps ts)
 
-each_followed_all : (n : ℕ) (s : Sort) (a : Sign) (ps : List Piece) (ts : List Node) → are_kids n (pi.EachFollowed s a ∷ ps) (nodes_of ts) ≡ list_all (is_shaped s) ts
+each_followed_all : (n : ℕ) (s : Sort) (a : Sign) (ps : List Piece) (ts : List Node) →
+    are_kids n (pi.EachFollowed s a ∷ ps) (nodes_of ts) ≡ list_all (is_shaped s) ts
 unfolding is_shaped
 each_followed_all n s a ps [] = refl
 each_followed_all n s a ps (t ∷ ts) = ap (λ b. is_shaped s t && b) (each_followed_all n s a ps ts)
 
 -- the items of a list, the last of which stands for a trailing comma
-more_of : (n : ℕ) (s : Sort) (ps : List Piece) (ts : List Node) (i : ℕ) (t : Node) → are_kids n (pi.More s ∷ ps) (nodes_of ts) ≡ true → slice_get ts i ≡ Some t →
+more_of : (n : ℕ) (s : Sort) (ps : List Piece) (ts : List Node) (i : ℕ) (t : Node) → are_kids n (pi.More s ∷ ps) (nodes_of ts) ≡ true →
+    slice_get ts i ≡ Some t →
     IsKid n (slice_index_or (replicate (length ts - 1) (Some s) ++ None ∷ []) i None) t
 unfolding is_shaped
 more_of n s ps [] i t e g = cc
@@ -141,7 +156,8 @@ more_of n s ps (x ∷ []) (suc i) t e g = cc
 more_of n s ps (x ∷ y ∷ ts) zero t e g = let h : x ≡ t = cc in rw suc_less (inr (rw h at (as_kid n s x (and_parts _ _ e).0)))
 more_of n s ps (x ∷ y ∷ ts) (suc i) t e g = let r = more_of n s ps (y ∷ ts) i t (and_parts _ _ e).1 g in rw suc_less (rw suc_less at r)
 
-list_of : (n : ℕ) (s : Sort) (ps : List Piece) (ts : List Node) (i : ℕ) (t : Node) → are_kids n (pi.List s ∷ ps) (nodes_of ts) ≡ true → slice_get ts i ≡ Some t →
+list_of : (n : ℕ) (s : Sort) (ps : List Piece) (ts : List Node) (i : ℕ) (t : Node) → are_kids n (pi.List s ∷ ps) (nodes_of ts) ≡ true →
+    slice_get ts i ≡ Some t →
     IsKid n (slice_index_or (replicate (length ts - 1) (Some s) ++ None ∷ []) i None) t
 unfolding is_shaped
 list_of n s ps [] i t e g = cc
@@ -149,7 +165,8 @@ list_of n s ps (x ∷ []) zero t e g = let h : x ≡ t = cc in rw h at (leaf_com
 list_of n s ps (x ∷ []) (suc i) t e g = cc
 list_of n s ps (x ∷ y ∷ ts) i t e g = more_of n s ps (x ∷ y ∷ ts) i t e g
 
-more_elements_of : (n : ℕ) (s : Sort) (ps : List Piece) (ts : List Node) (i : ℕ) (t : Node) → are_kids n (pi.MoreElements s ∷ ps) (nodes_of ts) ≡ true → slice_get ts i ≡ Some t →
+more_elements_of : (n : ℕ) (s : Sort) (ps : List Piece) (ts : List Node) (i : ℕ) (t : Node) →
+    are_kids n (pi.MoreElements s ∷ ps) (nodes_of ts) ≡ true → slice_get ts i ≡ Some t →
     IsKid n (slice_index_or (replicate (length ts - 2) (Some s) ++ Some so.Dots ∷ None ∷ []) i None) t
 unfolding is_shaped
 more_elements_of n s ps [] i t e g = cc
@@ -160,12 +177,14 @@ more_elements_of n s ps (x ∷ y ∷ []) (suc zero) t e g =
     let q : is_leaf is_none_or_comma y ≡ true = (and_parts _ _ e).1 in
     rw h at q
 more_elements_of n s ps (x ∷ y ∷ []) (suc (suc i)) t e g = cc
-more_elements_of n s ps (x ∷ y ∷ z ∷ ts) zero t e g = let h : x ≡ t = cc in rw suc_less_two (inr (rw h at (as_kid n s x (and_parts _ _ e).0)))
+more_elements_of n s ps (x ∷ y ∷ z ∷ ts) zero t e g =
+    let h : x ≡ t = cc in rw suc_less_two (inr (rw h at (as_kid n s x (and_parts _ _ e).0)))
 more_elements_of n s ps (x ∷ y ∷ z ∷ ts) (suc i) t e g =
     let r = more_elements_of n s ps (y ∷ z ∷ ts) i t (and_parts _ _ e).1 g in
     rw suc_less_two (rw suc_less_two at r)
 
-elements_of : (n : ℕ) (s : Sort) (ps : List Piece) (ts : List Node) (i : ℕ) (t : Node) → are_kids n (pi.Elements s ∷ ps) (nodes_of ts) ≡ true → slice_get ts i ≡ Some t →
+elements_of : (n : ℕ) (s : Sort) (ps : List Piece) (ts : List Node) (i : ℕ) (t : Node) →
+    are_kids n (pi.Elements s ∷ ps) (nodes_of ts) ≡ true → slice_get ts i ≡ Some t →
     IsKid n (slice_index_or (replicate (length ts - 2) (Some s) ++ Some so.Dots ∷ None ∷ []) i None) t
 unfolding is_shaped
 elements_of n s ps [] i t e g = cc
@@ -179,7 +198,8 @@ elements_of n s ps (x ∷ y ∷ []) (suc (suc i)) t e g = cc
 elements_of n s ps (x ∷ y ∷ z ∷ ts) i t e g = more_elements_of n s ps (x ∷ y ∷ z ∷ ts) i t e g
 
 -- all kids
-kids_of_sorts : (n : ℕ) (ps : List Piece) (ts : List Node) (i : ℕ) (t : Node) → are_kids n (kid_pieces ps) (nodes_of ts) ≡ true → slice_get ts i ≡ Some t →
+kids_of_sorts : (n : ℕ) (ps : List Piece) (ts : List Node) (i : ℕ) (t : Node) → are_kids n (kid_pieces ps) (nodes_of ts) ≡ true →
+    slice_get ts i ≡ Some t →
     IsKid n (slice_index_or (kid_sorts ps (length ts)) i None) t
 unfolding is_shaped
 kids_of_sorts n [] [] i t e g = cc
@@ -212,7 +232,8 @@ kids_of_sorts n (pi.List s ∷ ps) ts i t e g = list_of n s (kid_pieces ps) ts i
 kids_of_sorts n (pi.Elements s ∷ ps) ts i t e g = elements_of n s (kid_pieces ps) ts i t e g
 kids_of_sorts n (pi.MoreElements s ∷ ps) ts i t e g = more_elements_of n s (kid_pieces ps) ts i t e g
 
-pub shaped_kids : (s : Sort) (h : Head) (ts : Nodes) → is_shaped s (branch h ts) ≡ true → are_kids (level h.kind h.text) (kid_pieces (form_of h.kind)) ts ≡ true
+pub shaped_kids : (s : Sort) (h : Head) (ts : Nodes) → is_shaped s (branch h ts) ≡ true →
+    are_kids (level h.kind h.text) (kid_pieces (form_of h.kind)) ts ≡ true
 unfolding is_shaped
 shaped_kids s h ts e =
     let a = and_parts _ _ e in
@@ -220,7 +241,8 @@ shaped_kids s h ts e =
     let c = and_parts _ _ b.0 in
     c.1
 
-pub kid_is_of_sort : (k : Kind) (n i : ℕ) (r : Option Sort) → r ≡ kid_sort k n i → (s : Sort) (h : Head) (ts : List Node) (t : Node) → h.kind ≡ k → length ts ≡ n →
+pub kid_is_of_sort : (k : Kind) (n i : ℕ) (r : Option Sort) → r ≡ kid_sort k n i → (s : Sort) (h : Head) (ts : List Node) (t : Node) →
+    h.kind ≡ k → length ts ≡ n →
     is_shaped s (branch h (nodes_of ts)) ≡ true → slice_get ts i ≡ Some t → IsKid (level k h.text) r t
 kid_is_of_sort k n i r v s h ts t a b e g =
     let d = shaped_kids s h (nodes_of ts) e in

@@ -5,12 +5,14 @@ use Rattle.hare_tree.specs.Node.{Node, branch, none, more, kids_of, nodes_of}
 use Rattle.hare_tree.specs.Judged.{nodes_from}
 
 -- the kid at a place is the first from there on
-get-suc : (ts : List Node) (i : ℕ) (x : Node) → slice_get ts i ≡ Some x → nodes_from i (nodes_of ts) ≡ more x (nodes_from (suc i) (nodes_of ts))
+get-suc : (ts : List Node) (i : ℕ) (x : Node) → slice_get ts i ≡ Some x →
+    nodes_from i (nodes_of ts) ≡ more x (nodes_from (suc i) (nodes_of ts))
 get-suc [] i x e = cc
 get-suc (t ∷ ts) zero x e = let h : t ≡ x = cc in ap (λ y. more y (nodes_of ts)) h
 get-suc (t ∷ ts) (suc i) x e = get-suc ts i x e
 
-pub nodes_from-get : (ts : List Node) (i : ℕ) (x : Node) → slice_get ts i ≡ Some x → nodes_from i (nodes_of ts) ≡ more x (nodes_from (i + 1) (nodes_of ts))
+pub nodes_from-get : (ts : List Node) (i : ℕ) (x : Node) → slice_get ts i ≡ Some x →
+    nodes_from i (nodes_of ts) ≡ more x (nodes_from (i + 1) (nodes_of ts))
 nodes_from-get ts i x e = rw add-one (get-suc ts i x e)
 
 -- there is none past the end
@@ -26,7 +28,8 @@ get-before [] i e = absurd (omega arith)
 get-before (t ∷ ts) zero e = (t, refl)
 get-before (t ∷ ts) (suc i) e = get-before ts i (omega arith)
 
-pub nodes_from-one : (ts : List Node) (i : ℕ) → i < length ts → (x : Node) × (nodes_from i (nodes_of ts) ≡ more x (nodes_from (i + 1) (nodes_of ts)))
+pub nodes_from-one : (ts : List Node) (i : ℕ) → i < length ts → (x : Node) ×
+    (nodes_from i (nodes_of ts) ≡ more x (nodes_from (i + 1) (nodes_of ts)))
 nodes_from-one ts i e = let g = get-before ts i e in (g.0, nodes_from-get ts i g.0 g.1)
 
 -- the kids of a tree that is open

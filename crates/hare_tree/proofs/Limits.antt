@@ -45,7 +45,8 @@ nat_le-over : (a : ℕ) → not (nat_le 256 a) ≡ nat_le a 255
 nat_le-over a =
     let cases : (t : Bool) → nat_le 256 a ≡ t → not t ≡ nat_le a 255 =
     λ t. elim t as (λ t. nat_le 256 a ≡ t → not t ≡ nat_le a 255) [
-      | true ↦ λ e. same_test _ _ (λ f. absurd cc) (λ f. let h : 256 ≤ a = leb-true _ _ e in let k : a ≤ 255 = leb-true _ _ f in absurd (omega arith))
+      | true ↦ λ e. same_test _ _ (λ f. absurd cc)
+          (λ f. let h : 256 ≤ a = leb-true _ _ e in let k : a ≤ 255 = leb-true _ _ f in absurd (omega arith))
       | false ↦ λ e. same_test _ _ (λ f. first_of (grind arith, omega arith)) (λ f. refl)
     ] in
     cases _ refl
@@ -63,10 +64,13 @@ is_nil-one false n = refl
 same_and : (a b c d : Bool) → a ≡ b → c ≡ d → (a && c) ≡ (b && d)
 same_and a b c d e f = rw (e, f) refl
 
-node_faults-nil : (n o : ℕ) (h : Head) (ts : Nodes) → is_nil (node_faults n o h ts) ≡ (not (is_node h.kind && nat_le 256 o) && not (is_operator h.kind && nat_le 256 (left_height ts)))
+node_faults-nil : (n o : ℕ) (h : Head) (ts : Nodes) →
+    is_nil (node_faults n o h ts) ≡ (not (is_node h.kind && nat_le 256 o) && not (is_operator h.kind && nat_le 256 (left_height ts)))
 node_faults-nil n o h ts =
-    is_nil-append (if is_node h.kind && nat_le 256 o then n ∷ [] else []) (if is_operator h.kind && nat_le 256 (left_height ts) then (n + place_in h ts) ∷ [] else [])
-    ∙ same_and _ _ _ _ (is_nil-one (is_node h.kind && nat_le 256 o) n) (is_nil-one (is_operator h.kind && nat_le 256 (left_height ts)) (n + place_in h ts))
+    is_nil-append (if is_node h.kind && nat_le 256 o then n ∷ [] else [])
+    (if is_operator h.kind && nat_le 256 (left_height ts) then (n + place_in h ts) ∷ [] else [])
+    ∙ same_and _ _ _ _ (is_nil-one (is_node h.kind && nat_le 256 o) n)
+    (is_nil-one (is_operator h.kind && nat_le 256 (left_height ts)) (n + place_in h ts))
 
 -- where a tree begins makes no difference
 mutual
@@ -75,22 +79,29 @@ mutual
   pub deep-place : (n m o : ℕ) (l : Bool) (t : Node) → is_nil (deep n o l t) ≡ is_nil (deep m o l t)
   deep-place n m o l (branch h ts) =
       is_nil-append (node_faults n o h ts) _
-      ∙ (same_and _ _ _ _ (node_faults-nil n o h ts ∙ sym (node_faults-nil m o h ts)) (deep_each-place (begins h (form_of h.kind) n (spells 0 ts)) (begins h (form_of h.kind) m (spells 0 ts)) (open_within o l h.kind) (is_operator h.kind) ts)
+      ∙ (same_and _ _ _ _ (node_faults-nil n o h ts ∙ sym (node_faults-nil m o h ts))
+      (deep_each-place (begins h (form_of h.kind) n (spells 0 ts)) (begins h (form_of h.kind) m (spells 0 ts)) (open_within o l h.kind)
+      (is_operator h.kind) ts)
       ∙ sym (is_nil-append (node_faults m o h ts) _))
 
   deep_each-place : (ns ms : List ℕ) (o : ℕ) (l : Bool) (ts : Nodes) → is_nil (deep_each ns o l ts) ≡ is_nil (deep_each ms o l ts)
   deep_each-place ns ms o l none = refl
   deep_each-place ns ms o l (more t ts) =
       is_nil-append (deep (first_number ns) o l t) _
-      ∙ (same_and _ _ _ _ (deep-place (first_number ns) (first_number ms) o l t) (deep_each-place (numbers_behind ns) (numbers_behind ms) o false ts)
+      ∙ (same_and _ _ _ _ (deep-place (first_number ns) (first_number ms) o l t)
+      (deep_each-place (numbers_behind ns) (numbers_behind ms) o false ts)
       ∙ sym (is_nil-append (deep (first_number ms) o l t) _))
 
-deep-branch : (n o : ℕ) (l : Bool) (h : Head) (ts : Nodes) → is_nil (deep n o l (branch h ts)) ≡ ((not (is_node h.kind && nat_le 256 o) && not (is_operator h.kind && nat_le 256 (left_height ts))) && is_nil (deep_each [] (open_within o l h.kind) (is_operator h.kind) ts))
+deep-branch : (n o : ℕ) (l : Bool) (h : Head) (ts : Nodes) →
+    is_nil (deep n o l (branch h ts)) ≡
+    ((not (is_node h.kind && nat_le 256 o) && not (is_operator h.kind && nat_le 256 (left_height ts))) &&
+    is_nil (deep_each [] (open_within o l h.kind) (is_operator h.kind) ts))
 unfolding deep
 deep-branch n o l h ts =
     is_nil-append (node_faults n o h ts) _ ∙ same_and _ _ _ _ (node_faults-nil n o h ts) (deep_each-place _ [] _ _ ts)
 
-deep_each-more : (o : ℕ) (l : Bool) (t : Node) (ts : Nodes) → is_nil (deep_each [] o l (more t ts)) ≡ (is_nil (deep 0 o l t) && is_nil (deep_each [] o false ts))
+deep_each-more : (o : ℕ) (l : Bool) (t : Node) (ts : Nodes) →
+    is_nil (deep_each [] o l (more t ts)) ≡ (is_nil (deep 0 o l t) && is_nil (deep_each [] o false ts))
 unfolding deep
 deep_each-more o l t ts = is_nil-append (deep 0 o l t) _
 
@@ -113,7 +124,8 @@ regroup_left true E false false g = refl
 regroup_left false E a false g = refl
 
 -- kids keep the limits where the first and those behind it do
-pub keep_low-more : (room o : ℕ) (l : Bool) (t : Node) (ts : Nodes) → keep_low room o l (more t ts) ≡ (keeps_low room o l t && keep_low room o false ts)
+pub keep_low-more : (room o : ℕ) (l : Bool) (t : Node) (ts : Nodes) →
+    keep_low room o l (more t ts) ≡ (keeps_low room o l t && keep_low room o false ts)
 unfolding height
 keep_low-more room o l t ts =
     same_and _ _ _ _ (deep_each-more o l t ts) (nat_le-max (height t) (greatest_height ts) room)
@@ -123,14 +135,22 @@ none-op : (op : Bool) → ((true && not (op && false)) && true) ≡ true
 none-op true = refl
 none-op false = refl
 
-by-operator : (op : Bool) (o r : ℕ) (t : Node) (us : Nodes) → (((true && not (op && nat_le 256 (height t))) && (is_nil (deep 0 o op t) && is_nil (deep_each [] o false us))) && (nat_le (height t) r && nat_le (greatest_height us) r)) ≡ ((is_nil (deep 0 o op t) && nat_le (height t) (if op then min r 255 else r)) && (is_nil (deep_each [] o false us) && nat_le (greatest_height us) r))
+by-operator : (op : Bool) (o r : ℕ) (t : Node) (us : Nodes) →
+    (((true && not (op && nat_le 256 (height t))) && (is_nil (deep 0 o op t) && is_nil (deep_each [] o false us))) &&
+    (nat_le (height t) r && nat_le (greatest_height us) r)) ≡
+    ((is_nil (deep 0 o op t) && nat_le (height t) (if op then min r 255 else r)) &&
+    (is_nil (deep_each [] o false us) && nat_le (greatest_height us) r))
 by-operator true o r t us =
-    rw (nat_le-over, nat_le-min) (regroup_left (is_nil (deep 0 o true t)) (is_nil (deep_each [] o false us)) (nat_le (height t) r) (nat_le (height t) 255) (nat_le (greatest_height us) r))
+    rw (nat_le-over, nat_le-min) (regroup_left (is_nil (deep 0 o true t)) (is_nil (deep_each [] o false us)) (nat_le (height t) r)
+    (nat_le (height t) 255) (nat_le (greatest_height us) r))
 by-operator false o r t us =
     regroup (is_nil (deep 0 o false t)) (is_nil (deep_each [] o false us)) (nat_le (height t) r) (nat_le (greatest_height us) r)
 
 -- a tree that may stand where it stands keeps the limits where its kids do
-pub keeps-branch : (h : Head) (ts : Nodes) (room r o : ℕ) (l : Bool) → (is_node h.kind && nat_le 256 o) ≡ false → counted h.kind + r ≡ room → keeps_low room o l (branch h ts) ≡ (kid_keeps (left_room r h.kind) (open_within o l h.kind) (is_operator h.kind) ts && keep_low r (open_within o l h.kind) false (nodes_from 1 ts))
+pub keeps-branch : (h : Head) (ts : Nodes) (room r o : ℕ) (l : Bool) → (is_node h.kind && nat_le 256 o) ≡ false →
+    counted h.kind + r ≡ room → keeps_low room o l (branch h ts) ≡
+    (kid_keeps (left_room r h.kind) (open_within o l h.kind) (is_operator h.kind) ts &&
+    keep_low r (open_within o l h.kind) false (nodes_from 1 ts))
 unfolding height deep
 keeps-branch h none room r o l e s =
     let d : is_nil (deep 0 o l (branch h none)) ≡ true = deep-branch 0 o l h none ∙ rw e (none-op (is_operator h.kind)) in
@@ -138,19 +158,22 @@ keeps-branch h none room r o l e s =
 keeps-branch h (more t us) room r o l e s =
     let o' = open_within o l h.kind in
     let op = is_operator h.kind in
-    let d : is_nil (deep 0 o l (branch h (more t us))) ≡ ((true && not (op && nat_le 256 (height t))) && (is_nil (deep 0 o' op t) && is_nil (deep_each [] o' false us))) =
+    let d : is_nil (deep 0 o l (branch h (more t us))) ≡
+    ((true && not (op && nat_le 256 (height t))) && (is_nil (deep 0 o' op t) && is_nil (deep_each [] o' false us))) =
     deep-branch 0 o l h (more t us) ∙ rw (e, deep_each-more) refl in
     same_and _ _ _ _ d (nat_le-room (counted h.kind) _ r room s ∙ nat_le-max (height t) (greatest_height us) r) ∙ by-operator op o' r t us
 
 -- a node with too many nodes open round it
-pub keeps-open : (h : Head) (ts : Nodes) (room o : ℕ) (l : Bool) → is_node h.kind ≡ true → 256 ≤ o → keeps_low room o l (branch h ts) ≡ false
+pub keeps-open : (h : Head) (ts : Nodes) (room o : ℕ) (l : Bool) → is_node h.kind ≡ true → 256 ≤ o →
+    keeps_low room o l (branch h ts) ≡ false
 keeps-open h ts room o l e s = rw (deep-branch, e, le-leb 256 o s) refl
 
 -- a node where there is no room
 pub keeps-full : (h : Head) (ts : Nodes) (room o : ℕ) (l : Bool) → counted h.kind ≡ 1 → room ≡ 0 → keeps_low room o l (branch h ts) ≡ false
 unfolding height
 keeps-full h ts room o l e s =
-    same_test _ _ (λ t. let p = and_parts _ _ t in let k : counted h.kind + greatest_height ts ≤ room = leb-true _ _ p.1 in absurd (omega arith)) (λ t. absurd cc)
+    same_test _ _ (λ t. let p = and_parts _ _ t in let k : counted h.kind + greatest_height ts ≤ room =
+    leb-true _ _ p.1 in absurd (omega arith)) (λ t. absurd cc)
 
 -- what is no node may stand where so many are open, and a node where fewer are
 pub may-stand : (b : Bool) (o : ℕ) → ((b ≡ true) × (o < 256)) ⊎ (b ≡ false) → (b && nat_le 256 o) ≡ false
@@ -158,15 +181,21 @@ may-stand b o (inl p) = rw (p.0) (same_test _ _ (λ e. let h : 256 ≤ o = leb-t
 may-stand b o (inr e) = rw e refl
 
 -- the same of what calls for the kids have answered
-keeps-answered : (h : Head) (ts : Nodes) (room r o : ℕ) (l : Bool) (lr o' : ℕ) (op k n b : Bool) → ((b ≡ true) × (o < 256)) ⊎ (b ≡ false) → b ≡ is_node h.kind → counted h.kind + r ≡ room → lr ≡ left_room r h.kind → o' ≡ open_within o l h.kind → op ≡ is_operator h.kind → k ≡ kid_keeps lr o' op ts → n ≡ keep_low r o' false (nodes_from 1 ts) → (k && n) ≡ keeps_low room o l (branch h ts)
+keeps-answered : (h : Head) (ts : Nodes) (room r o : ℕ) (l : Bool) (lr o' : ℕ) (op k n b : Bool) → ((b ≡ true) × (o < 256)) ⊎ (b ≡ false) →
+    b ≡ is_node h.kind → counted h.kind + r ≡ room → lr ≡ left_room r h.kind → o' ≡ open_within o l h.kind → op ≡ is_operator h.kind →
+    k ≡ kid_keeps lr o' op ts → n ≡ keep_low r o' false (nodes_from 1 ts) → (k && n) ≡ keeps_low room o l (branch h ts)
 keeps-answered h ts room r o l lr o' op k n b e eb s e1 e2 e3 e4 e5 =
     rw (e4, e5, e1, e2, e3) (sym (keeps-branch h ts room r o l (ap (λ x. x && nat_le 256 o) (sym eb) ∙ may-stand b o e) s))
 
-pub keeps-then : (h : Head) (ts : Nodes) (room r o : ℕ) (l : Bool) (lr o' : ℕ) (op k n b : Bool) → ((b ≡ true) × (o < 256)) ⊎ (b ≡ false) → b ≡ is_node h.kind → counted h.kind + r ≡ room → lr ≡ left_room r h.kind → o' ≡ open_within o l h.kind → op ≡ is_operator h.kind → k ≡ kid_keeps lr o' op ts → k ≡ true → n ≡ keep_low r o' false (nodes_from 1 ts) → n ≡ keeps_low room o l (branch h ts)
+pub keeps-then : (h : Head) (ts : Nodes) (room r o : ℕ) (l : Bool) (lr o' : ℕ) (op k n b : Bool) → ((b ≡ true) × (o < 256)) ⊎ (b ≡ false) →
+    b ≡ is_node h.kind → counted h.kind + r ≡ room → lr ≡ left_room r h.kind → o' ≡ open_within o l h.kind → op ≡ is_operator h.kind →
+    k ≡ kid_keeps lr o' op ts → k ≡ true → n ≡ keep_low r o' false (nodes_from 1 ts) → n ≡ keeps_low room o l (branch h ts)
 keeps-then h ts room r o l lr o' op k n b e eb s e1 e2 e3 e4 kt e5 =
     rw kt at (keeps-answered h ts room r o l lr o' op k n b e eb s e1 e2 e3 e4 e5)
 
-pub keeps-else : (h : Head) (ts : Nodes) (room r o : ℕ) (l : Bool) (lr o' : ℕ) (op k b : Bool) → ((b ≡ true) × (o < 256)) ⊎ (b ≡ false) → b ≡ is_node h.kind → counted h.kind + r ≡ room → lr ≡ left_room r h.kind → o' ≡ open_within o l h.kind → op ≡ is_operator h.kind → k ≡ kid_keeps lr o' op ts → k ≡ false → k ≡ keeps_low room o l (branch h ts)
+pub keeps-else : (h : Head) (ts : Nodes) (room r o : ℕ) (l : Bool) (lr o' : ℕ) (op k b : Bool) → ((b ≡ true) × (o < 256)) ⊎ (b ≡ false) →
+    b ≡ is_node h.kind → counted h.kind + r ≡ room → lr ≡ left_room r h.kind → o' ≡ open_within o l h.kind → op ≡ is_operator h.kind →
+    k ≡ kid_keeps lr o' op ts → k ≡ false → k ≡ keeps_low room o l (branch h ts)
 keeps-else h ts room r o l lr o' op k b e eb s e1 e2 e3 e4 kf =
     kf ∙ rw kf at (keeps-answered h ts room r o l lr o' op k (keep_low r o' false (nodes_from 1 ts)) b e eb s e1 e2 e3 e4 refl)
 
@@ -176,7 +205,8 @@ unfolding height deep
 keep_low-none room o l = le-leb 0 room (omega arith)
 
 -- the kids from one on, by that one and those behind it
-pub keep_low-step : (ks : List Node) (i room o : ℕ) → i < length ks → keep_low room o false (nodes_from i (nodes_of ks)) ≡ (kid_keeps room o false (nodes_from i (nodes_of ks)) && keep_low room o false (nodes_from (i + 1) (nodes_of ks)))
+pub keep_low-step : (ks : List Node) (i room o : ℕ) → i < length ks → keep_low room o false (nodes_from i (nodes_of ks)) ≡
+    (kid_keeps room o false (nodes_from i (nodes_of ks)) && keep_low room o false (nodes_from (i + 1) (nodes_of ks)))
 keep_low-step ks i room o lt = let g = nodes_from-one ks i lt in rw (g.1) (keep_low-more room o false g.0 _)
 
 -- ---- the height of what keeps the limits
@@ -194,7 +224,8 @@ counted-is : (b : Bool) (k : Kind) → is_node k ≡ b → counted k ≡ (if b t
 counted-is b k e = rw e refl
 
 -- nodes that are open round a tree that is no left operand, and its height, come to 511 at most, if they do so for its kids
-node-bound : (o g : ℕ) (h : Head) (ts : Nodes) → o ≤ 256 → not (is_node h.kind && nat_le 256 o) ≡ true → ((o' : ℕ) → o' ≡ open_within o false h.kind → o' ≤ 256 → g + o' ≤ 511) → (n : Bool) → is_node h.kind ≡ n → counted h.kind + g + o ≤ 511
+node-bound : (o g : ℕ) (h : Head) (ts : Nodes) → o ≤ 256 → not (is_node h.kind && nat_le 256 o) ≡ true →
+    ((o' : ℕ) → o' ≡ open_within o false h.kind → o' ≤ 256 → g + o' ≤ 511) → (n : Bool) → is_node h.kind ≡ n → counted h.kind + g + o ≤ 511
 node-bound o g h ts le q kids true en =
     let lt : o < 256 = below 256 o (not-both _ _ q en) in
     let c : counted h.kind ≡ 1 = counted-is true h.kind en in
@@ -214,9 +245,11 @@ mutual
   height-bound o (branch h ts) le e =
       let p = and_parts _ _ (sym (deep-branch 0 o false h ts) ∙ e) in
       let q = and_parts _ _ p.0 in
-      node-bound o (greatest_height ts) h ts le q.0 (λ o' w le'. kids-bound o' (is_operator h.kind) ts le' q.1 (rw (← w) at p.1)) (is_node h.kind) refl
+      node-bound o (greatest_height ts) h ts le q.0 (λ o' w le'. kids-bound o' (is_operator h.kind) ts le' q.1 (rw (← w) at p.1))
+      (is_node h.kind) refl
 
-  kids-bound : (o : ℕ) (op : Bool) (ts : Nodes) → o ≤ 256 → not (op && nat_le 256 (left_height ts)) ≡ true → is_nil (deep_each [] o op ts) ≡ true → greatest_height ts + o ≤ 511
+  kids-bound : (o : ℕ) (op : Bool) (ts : Nodes) → o ≤ 256 → not (op && nat_le 256 (left_height ts)) ≡ true →
+      is_nil (deep_each [] o op ts) ≡ true → greatest_height ts + o ≤ 511
   kids-bound o op none le r d = omega arith
   kids-bound o true (more t ts) le r d =
       let p = and_parts _ _ (sym (deep_each-more o true t ts) ∙ d) in

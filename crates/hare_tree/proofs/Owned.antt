@@ -23,25 +23,33 @@ slice-empty : (text : List ℕ) (i : ℕ) → slice_range text i i ≡ []
 slice-empty text i = let e : i - i ≡ 0 = omega arith in ap (λ n. take n (drop i text)) e
 
 -- one byte more
-slice-push : (text : List ℕ) (a i : ℕ) → a ≤ i → i < length text → slice_range text a (i + 1) ≡ slice_range text a i ++ slice_index text i ∷ []
+slice-push : (text : List ℕ) (a i : ℕ) → a ≤ i → i < length text → slice_range text a (i + 1) ≡ slice_range text a i ++ slice_index text i ∷
+    []
 slice-push text a i le lt =
     let e : (i + 1) - a ≡ (i - a) + 1 = omega arith in
     let n : i - a < length (drop a text) = omega (arith, length-drop a text) in
     let s : a + (i - a) ≡ i = omega arith in
-    ap (λ n. take n (drop a text)) e ∙ (take_more (drop a text) (i - a) 0 n ∙ ap (λ c. take (i - a) (drop a text) ++ c ∷ []) (get_or-drop a text (i - a) 0 ∙ ap (λ k. slice_index text k) s))
+    ap (λ n. take n (drop a text)) e ∙
+    (take_more (drop a text) (i - a) 0 n ∙ ap (λ c. take (i - a) (drop a text) ++ c ∷ [])
+    (get_or-drop a text (i - a) 0 ∙ ap (λ k. slice_index text k) s))
 
 -- the second colon of a mark
-pub names-second : (b : Bool) (text : List ℕ) (start i : ℕ) (k : Bool) → k ≡ true → start ≡ i → i < length text → names_left b false (slice_range text (i + 1) (i + 1)) (drop (i + 1) text) ≡ names_left b k (slice_range text start i) (drop i text)
+pub names-second : (b : Bool) (text : List ℕ) (start i : ℕ) (k : Bool) → k ≡ true → start ≡ i → i < length text →
+    names_left b false (slice_range text (i + 1) (i + 1)) (drop (i + 1) text) ≡ names_left b k (slice_range text start i) (drop i text)
 names-second b text start i k e s lt =
     rw (e, s, slice-empty text i, slice-empty text (i + 1)) (ap (are_names b) (sym (parts_from-second [] text i lt)))
 
 -- a byte of a part
-pub names-byte : (b : Bool) (text : List ℕ) (start i : ℕ) (k : Bool) → k ≡ false → start ≤ i → i < length text → (slice_index text i == 58 && slice_index text (i + 1) == 58) ≡ false → names_left b k (slice_range text start (i + 1)) (drop (i + 1) text) ≡ names_left b k (slice_range text start i) (drop i text)
+pub names-byte : (b : Bool) (text : List ℕ) (start i : ℕ) (k : Bool) → k ≡ false → start ≤ i → i < length text →
+    (slice_index text i == 58 && slice_index text (i + 1) == 58) ≡ false →
+    names_left b k (slice_range text start (i + 1)) (drop (i + 1) text) ≡ names_left b k (slice_range text start i) (drop i text)
 names-byte b text start i k e le lt m =
     rw (e, slice-push text start i le lt) (ap (are_names b) (sym (parts_from-byte (slice_range text start i) text i lt m)))
 
 -- the first colon of a mark, behind a name
-pub names-mark : (b : Bool) (text : List ℕ) (start i : ℕ) (k : Bool) → k ≡ false → i < length text → (slice_index text i == 58 && slice_index text (i + 1) == 58) ≡ true → is_name b (slice_range text start i) ≡ true → names_left true true (slice_range text (i + 1) (i + 1)) (drop (i + 1) text) ≡ names_left b k (slice_range text start i) (drop i text)
+pub names-mark : (b : Bool) (text : List ℕ) (start i : ℕ) (k : Bool) → k ≡ false → i < length text →
+    (slice_index text i == 58 && slice_index text (i + 1) == 58) ≡ true → is_name b (slice_range text start i) ≡ true →
+    names_left true true (slice_range text (i + 1) (i + 1)) (drop (i + 1) text) ≡ names_left b k (slice_range text start i) (drop i text)
 names-mark b text start i k e lt m n =
     rw (e, parts_from-mark (slice_range text start i) text i lt m, n, slice-empty text (i + 1)) refl
 

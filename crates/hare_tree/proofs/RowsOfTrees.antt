@@ -55,12 +55,14 @@ words t = map (λ u. u.text) (spell 0 t)
 -- ---- spellings
 
 -- `a::b(c,)`
-call_words : words (tree ki.Call [] (path (codes "a::b") ∷ c ∷ comma ∷ [])) ≡ codes "a" ∷ codes "::" ∷ codes "b" ∷ codes "(" ∷ codes "c" ∷ codes "," ∷ codes ")" ∷ []
+call_words : words (tree ki.Call [] (path (codes "a::b") ∷ c ∷ comma ∷ [])) ≡ codes "a" ∷ codes "::" ∷ codes "b" ∷ codes "(" ∷ codes "c" ∷
+    codes "," ∷ codes ")" ∷ []
 unfolding spell
 call_words = refl
 
 -- `[a, b...]`
-array_words : words (tree ki.Array [] (a ∷ b ∷ tree ki.Dots [] [] ∷ absent ∷ [])) ≡ codes "[" ∷ codes "a" ∷ codes "," ∷ codes "b" ∷ codes "..." ∷ codes "]" ∷ []
+array_words : words (tree ki.Array [] (a ∷ b ∷ tree ki.Dots [] [] ∷ absent ∷ [])) ≡ codes "[" ∷ codes "a" ∷ codes "," ∷ codes "b" ∷
+    codes "..." ∷ codes "]" ∷ []
 unfolding spell
 array_words = refl
 
@@ -70,7 +72,8 @@ unfolding spell
 yield_words = refl
 
 -- `for (a; b) c`
-for_words : words (tree ki.For [] (absent ∷ a ∷ b ∷ c ∷ [])) ≡ codes "for" ∷ codes "(" ∷ codes "a" ∷ codes ";" ∷ codes "b" ∷ codes ")" ∷ codes "c" ∷ []
+for_words : words (tree ki.For [] (absent ∷ a ∷ b ∷ c ∷ [])) ≡ codes "for" ∷ codes "(" ∷ codes "a" ∷ codes ";" ∷ codes "b" ∷ codes ")" ∷
+    codes "c" ∷ []
 unfolding spell
 for_words = refl
 
@@ -219,17 +222,21 @@ members_deep = refl
 -- `fn a() void = { a; };`
 abbrev function : Node
 function =
-    tree ki.Fn [] (absent ∷ tree ki.Name (codes "a") [] ∷ tree ki.Params [] (absent ∷ []) ∷ tree ki.TypeScalar (codes "void") [] ∷ tree ki.Block [] (a ∷ []) ∷ [])
+    tree ki.Fn [] (absent ∷ tree ki.Name (codes "a") [] ∷ tree ki.Params [] (absent ∷ []) ∷ tree ki.TypeScalar (codes "void") [] ∷
+    tree ki.Block [] (a ∷ []) ∷ [])
 
 -- `use rt::{a, b,};`
 abbrev imports : Node
 imports =
-    tree ki.UseNames [] (tree ki.ImportPath [] (tree ki.Name (codes "rt") [] ∷ []) ∷ tree ki.Name (codes "a") [] ∷ tree ki.Name (codes "b") [] ∷ comma ∷ [])
+    tree ki.UseNames [] (tree ki.ImportPath [] (tree ki.Name (codes "rt") [] ∷ []) ∷ tree ki.Name (codes "a") [] ∷
+    tree ki.Name (codes "b") [] ∷ comma ∷ [])
 
 abbrev file_of : List Node → List Node → FileTree
 file_of us ds = record { file = 0; uses = us; decls = ds }
 
-file_words : map (λ u. u.text) (spell_file (file_of (imports ∷ []) (function ∷ []))) ≡ codes "use" ∷ codes "rt" ∷ codes "::" ∷ codes "{" ∷ codes "a" ∷ codes "," ∷ codes "b" ∷ codes "," ∷ codes "}" ∷ codes ";" ∷ codes "fn" ∷ codes "a" ∷ codes "(" ∷ codes ")" ∷ codes "void" ∷ codes "=" ∷ codes "{" ∷ codes "a" ∷ codes ";" ∷ codes "}" ∷ codes ";" ∷ [] ∷ []
+file_words : map (λ u. u.text) (spell_file (file_of (imports ∷ []) (function ∷ []))) ≡ codes "use" ∷ codes "rt" ∷ codes "::" ∷ codes "{" ∷
+    codes "a" ∷ codes "," ∷ codes "b" ∷ codes "," ∷ codes "}" ∷ codes ";" ∷ codes "fn" ∷ codes "a" ∷ codes "(" ∷ codes ")" ∷ codes "void" ∷
+    codes "=" ∷ codes "{" ∷ codes "a" ∷ codes ";" ∷ codes "}" ∷ codes ";" ∷ [] ∷ []
 unfolding spell
 file_words = refl
 

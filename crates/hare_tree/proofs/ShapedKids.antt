@@ -17,11 +17,14 @@ use Rattle.hare_tree.specs.Shape.{is_shaped, are_kids, is_own, is_none, is_absen
 use Rattle.hare_tree.proofs.KidSorts.{shaped_kids}
 
 -- what stands for nothing, a trailing comma and `...` are shaped as what is no expression
-leaf_shaped : (p : Kind → Bool) (t : Node) → ((k : Kind) → p k ≡ true → (h : Head) → h.kind ≡ k → is_own ow.Nothing h ≡ true → is_shaped (so.Level 0) (branch h none) ≡ true) → is_leaf p t ≡ true → is_shaped (so.Level 0) t ≡ true
+leaf_shaped : (p : Kind → Bool) (t : Node) →
+    ((k : Kind) → p k ≡ true → (h : Head) → h.kind ≡ k → is_own ow.Nothing h ≡ true → is_shaped (so.Level 0) (branch h none) ≡ true) →
+    is_leaf p t ≡ true → is_shaped (so.Level 0) t ≡ true
 leaf_shaped p (branch h none) f e = let a = and_parts _ _ e in f h.kind a.0 h refl a.1
 leaf_shaped p (branch h (more t ts)) f e = cc
 
-as_leaf : (k : Kind) → (is_none_or_comma k || is_none_or_dots k) ≡ true → (h : Head) → h.kind ≡ k → is_own ow.Nothing h ≡ true → is_shaped (so.Level 0) (branch h none) ≡ true
+as_leaf : (k : Kind) → (is_none_or_comma k || is_none_or_dots k) ≡ true → (h : Head) → h.kind ≡ k → is_own ow.Nothing h ≡ true →
+    is_shaped (so.Level 0) (branch h none) ≡ true
 unfolding is_shaped
 as_leaf ki.None e h d o = rw (d, o) refl
 as_leaf ki.TrailingComma e h d o = rw (d, o) refl
@@ -124,7 +127,8 @@ not_both false e h = cc
 pub something : (s : Sort) (t : Node) → is_of_something s ≡ true → is_shaped s t ≡ true → absent t ≡ 0
 something s (branch h ts) r e =
     elim (none_is h.kind) [
-      | inl n ↦ let d : admits s ki.None h.text ≡ true = rw n at (shaped_admits s h ts e) in absurd (not_both (admits s ki.None h.text) d (admits_none s h.text r))
+      | inl n ↦ let d : admits s ki.None h.text ≡ true =
+          rw n at (shaped_admits s h ts e) in absurd (not_both (admits s ki.None h.text) d (admits_none s h.text r))
       | inr n ↦ rw n refl
     ]
 
@@ -142,33 +146,40 @@ pub record Kids (ps : List Piece) (ts : Nodes) : Type 0 where
   pub shaped : AllShaped ts
   pub few : absents ts ≤ room_for ps
 
-single : (p : Piece) (ps : List Piece) (t : Node) (ts : Nodes) → room_for (p ∷ ps) ≡ suc (room_for ps) → Shaped t → Kids ps ts → Kids (p ∷ ps) (more t ts)
+single : (p : Piece) (ps : List Piece) (t : Node) (ts : Nodes) → room_for (p ∷ ps) ≡ suc (room_for ps) → Shaped t → Kids ps ts →
+    Kids (p ∷ ps) (more t ts)
 single p ps t ts r s k = record { shaped = (s, k.shaped); few = omega (arith, r, k.few, absent_most t) }
 
 maybe : (s : Sort) (t : Node) → (is_absent t || is_shaped s t) ≡ true → Shaped t
 maybe s t e = elim (or_parts (is_absent t) (is_shaped s t) e) [ inl a ↦ (so.Level 0, absent_shaped t a) | inr b ↦ (s, b) ]
 
 -- a list of kids none of which is absent
-repeated : (s : Sort) (t : Node) (ts : Nodes) (n : ℕ) → is_of_something s ≡ true → is_shaped s t ≡ true → AllShaped ts → absents ts ≤ n → AllShaped (more t ts) × (absents (more t ts) ≤ n)
+repeated : (s : Sort) (t : Node) (ts : Nodes) (n : ℕ) → is_of_something s ≡ true → is_shaped s t ≡ true → AllShaped ts → absents ts ≤ n →
+    AllShaped (more t ts) × (absents (more t ts) ≤ n)
 repeated s t ts n r e a b = (((s, e), a), omega (arith, something s t r e, b))
 
 abbrev Listed : Nodes → ℕ → Type 0
 Listed ts n = AllShaped ts × (absents ts ≤ n)
 
-each_kids : (n : ℕ) (s : Sort) (ps : List Piece) (ts : Nodes) → is_of_something s ≡ true → are_kids n (pi.Each s ∷ ps) ts ≡ true → Listed ts 0
+each_kids : (n : ℕ) (s : Sort) (ps : List Piece) (ts : Nodes) → is_of_something s ≡ true → are_kids n (pi.Each s ∷ ps) ts ≡ true →
+    Listed ts 0
 unfolding is_shaped
 each_kids n s ps none r e = (tt, omega arith)
 each_kids n s ps (more t ts) r e = let a = and_parts _ _ e in let i = each_kids n s ps ts r a.1 in repeated s t ts 0 r a.0 i.0 i.1
 
-each_led_kids : (n : ℕ) (c : Sign) (s : Sort) (ps : List Piece) (ts : Nodes) → is_of_something s ≡ true → are_kids n (pi.EachLed c s ∷ ps) ts ≡ true → Listed ts 0
+each_led_kids : (n : ℕ) (c : Sign) (s : Sort) (ps : List Piece) (ts : Nodes) → is_of_something s ≡ true →
+    are_kids n (pi.EachLed c s ∷ ps) ts ≡ true → Listed ts 0
 unfolding is_shaped
 each_led_kids n c s ps none r e = (tt, omega arith)
-each_led_kids n c s ps (more t ts) r e = let a = and_parts _ _ e in let i = each_led_kids n c s ps ts r a.1 in repeated s t ts 0 r a.0 i.0 i.1
+each_led_kids n c s ps (more t ts) r e =
+    let a = and_parts _ _ e in let i = each_led_kids n c s ps ts r a.1 in repeated s t ts 0 r a.0 i.0 i.1
 
-each_followed_kids : (n : ℕ) (s : Sort) (c : Sign) (ps : List Piece) (ts : Nodes) → is_of_something s ≡ true → are_kids n (pi.EachFollowed s c ∷ ps) ts ≡ true → Listed ts 0
+each_followed_kids : (n : ℕ) (s : Sort) (c : Sign) (ps : List Piece) (ts : Nodes) → is_of_something s ≡ true →
+    are_kids n (pi.EachFollowed s c ∷ ps) ts ≡ true → Listed ts 0
 unfolding is_shaped
 each_followed_kids n s c ps none r e = (tt, omega arith)
-each_followed_kids n s c ps (more t ts) r e = let a = and_parts _ _ e in let i = each_followed_kids n s c ps ts r a.1 in repeated s t ts 0 r a.0 i.0 i.1
+each_followed_kids n s c ps (more t ts) r e =
+    let a = and_parts _ _ e in let i = each_followed_kids n s c ps ts r a.1 in repeated s t ts 0 r a.0 i.0 i.1
 
 last_one : (t : Node) → is_shaped (so.Level 0) t ≡ true → Listed (more t none) 1
 last_one t e = (((so.Level 0, e), tt), omega (arith, absent_most t))
@@ -176,7 +187,8 @@ last_one t e = (((so.Level 0, e), tt), omega (arith, absent_most t))
 last_two : (t u : Node) → is_shaped (so.Level 0) t ≡ true → is_shaped (so.Level 0) u ≡ true → Listed (more t (more u none)) 2
 last_two t u e g = (((so.Level 0, e), ((so.Level 0, g), tt)), omega (arith, absent_most t, absent_most u))
 
-more_kids : (n : ℕ) (s : Sort) (ps : List Piece) (ts : Nodes) → is_of_something s ≡ true → are_kids n (pi.More s ∷ ps) ts ≡ true → Listed ts 1
+more_kids : (n : ℕ) (s : Sort) (ps : List Piece) (ts : Nodes) → is_of_something s ≡ true → are_kids n (pi.More s ∷ ps) ts ≡ true →
+    Listed ts 1
 unfolding is_shaped
 more_kids n s ps none r e = cc
 more_kids n s ps (more t none) r e = last_one t (comma_shaped t e)
@@ -185,13 +197,15 @@ more_kids n s ps (more t (more u ts)) r e =
     let i = more_kids n s ps (more u ts) r a.1 in
     repeated s t (more u ts) 1 r a.0 i.0 i.1
 
-list_kids : (n : ℕ) (s : Sort) (ps : List Piece) (ts : Nodes) → is_of_something s ≡ true → are_kids n (pi.List s ∷ ps) ts ≡ true → Listed ts 1
+list_kids : (n : ℕ) (s : Sort) (ps : List Piece) (ts : Nodes) → is_of_something s ≡ true → are_kids n (pi.List s ∷ ps) ts ≡ true →
+    Listed ts 1
 unfolding is_shaped
 list_kids n s ps none r e = cc
 list_kids n s ps (more t none) r e = last_one t (absent_shaped t e)
 list_kids n s ps (more t (more u ts)) r e = more_kids n s ps (more t (more u ts)) r e
 
-more_elements_kids : (n : ℕ) (s : Sort) (ps : List Piece) (ts : Nodes) → is_of_something s ≡ true → are_kids n (pi.MoreElements s ∷ ps) ts ≡ true → Listed ts 2
+more_elements_kids : (n : ℕ) (s : Sort) (ps : List Piece) (ts : Nodes) → is_of_something s ≡ true →
+    are_kids n (pi.MoreElements s ∷ ps) ts ≡ true → Listed ts 2
 unfolding is_shaped
 more_elements_kids n s ps none r e = cc
 more_elements_kids n s ps (more t none) r e = cc
@@ -201,7 +215,8 @@ more_elements_kids n s ps (more t (more u (more v ts))) r e =
     let i = more_elements_kids n s ps (more u (more v ts)) r a.1 in
     repeated s t (more u (more v ts)) 2 r a.0 i.0 i.1
 
-elements_kids : (n : ℕ) (s : Sort) (ps : List Piece) (ts : Nodes) → is_of_something s ≡ true → are_kids n (pi.Elements s ∷ ps) ts ≡ true → Listed ts 2
+elements_kids : (n : ℕ) (s : Sort) (ps : List Piece) (ts : Nodes) → is_of_something s ≡ true → are_kids n (pi.Elements s ∷ ps) ts ≡ true →
+    Listed ts 2
 unfolding is_shaped
 elements_kids n s ps none r e = cc
 elements_kids n s ps (more t none) r e = cc
@@ -218,18 +233,24 @@ kids_are n [] (more t ts) r e = cc
 kids_are n (pi.Fixed s ∷ ps) ts r e = let i = kids_are n ps ts r e in record { shaped = i.shaped; few = i.few }
 kids_are n (pi.Own o ∷ ps) ts r e = let i = kids_are n ps ts r e in record { shaped = i.shaped; few = i.few }
 kids_are n (pi.Kid s ∷ ps) none r e = cc
-kids_are n (pi.Kid s ∷ ps) (more t ts) r e = let a = and_parts _ _ e in single (pi.Kid s) ps t ts refl (sort_in n s, a.0) (kids_are n ps ts r a.1)
+kids_are n (pi.Kid s ∷ ps) (more t ts) r e =
+    let a = and_parts _ _ e in single (pi.Kid s) ps t ts refl (sort_in n s, a.0) (kids_are n ps ts r a.1)
 kids_are n (pi.Optional s ∷ ps) none r e = cc
-kids_are n (pi.Optional s ∷ ps) (more t ts) r e = let a = and_parts _ _ e in single (pi.Optional s) ps t ts refl (maybe s t a.0) (kids_are n ps ts r a.1)
+kids_are n (pi.Optional s ∷ ps) (more t ts) r e =
+    let a = and_parts _ _ e in single (pi.Optional s) ps t ts refl (maybe s t a.0) (kids_are n ps ts r a.1)
 kids_are n (pi.Led c s ∷ ps) none r e = cc
-kids_are n (pi.Led c s ∷ ps) (more t ts) r e = let a = and_parts _ _ e in single (pi.Led c s) ps t ts refl (maybe s t a.0) (kids_are n ps ts r a.1)
+kids_are n (pi.Led c s ∷ ps) (more t ts) r e =
+    let a = and_parts _ _ e in single (pi.Led c s) ps t ts refl (maybe s t a.0) (kids_are n ps ts r a.1)
 kids_are n (pi.Followed s c ∷ ps) none r e = cc
-kids_are n (pi.Followed s c ∷ ps) (more t ts) r e = let a = and_parts _ _ e in single (pi.Followed s c) ps t ts refl (maybe s t a.0) (kids_are n ps ts r a.1)
+kids_are n (pi.Followed s c ∷ ps) (more t ts) r e =
+    let a = and_parts _ _ e in single (pi.Followed s c) ps t ts refl (maybe s t a.0) (kids_are n ps ts r a.1)
 kids_are n (pi.Value s ∷ ps) none r e = cc
-kids_are n (pi.Value s ∷ ps) (more t ts) r e = let a = and_parts _ _ e in single (pi.Value s) ps t ts refl (maybe s t a.0) (kids_are n ps ts r a.1)
+kids_are n (pi.Value s ∷ ps) (more t ts) r e =
+    let a = and_parts _ _ e in single (pi.Value s) ps t ts refl (maybe s t a.0) (kids_are n ps ts r a.1)
 kids_are n (pi.Each s ∷ ps) ts r e = listed_kids (pi.Each s ∷ ps) ts 0 refl (each_kids n s (kid_pieces ps) ts r e)
 kids_are n (pi.EachLed c s ∷ ps) ts r e = listed_kids (pi.EachLed c s ∷ ps) ts 0 refl (each_led_kids n c s (kid_pieces ps) ts r e)
-kids_are n (pi.EachFollowed s c ∷ ps) ts r e = listed_kids (pi.EachFollowed s c ∷ ps) ts 0 refl (each_followed_kids n s c (kid_pieces ps) ts r e)
+kids_are n (pi.EachFollowed s c ∷ ps) ts r e =
+    listed_kids (pi.EachFollowed s c ∷ ps) ts 0 refl (each_followed_kids n s c (kid_pieces ps) ts r e)
 kids_are n (pi.More s ∷ ps) ts r e = listed_kids (pi.More s ∷ ps) ts 1 refl (more_kids n s (kid_pieces ps) ts r e)
 kids_are n (pi.List s ∷ ps) ts r e = listed_kids (pi.List s ∷ ps) ts 1 refl (list_kids n s (kid_pieces ps) ts r e)
 kids_are n (pi.Elements s ∷ ps) ts r e = listed_kids (pi.Elements s ∷ ps) ts 2 refl (elements_kids n s (kid_pieces ps) ts r e)

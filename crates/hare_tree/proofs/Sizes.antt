@@ -13,7 +13,8 @@ kid_within [] i x h e = absurd (omega arith)
 kid_within (t ∷ ts) zero x h e = let f : t ≡ x = sym e in rw (← f) (omega arith)
 kid_within (t ∷ ts) (suc i) x h e = omega (arith, kid_within ts i x (omega arith) e)
 
-pub kid_smaller : (ts : List Node) (i : ℕ) (r : Option (Bor Node)) → is_some r ≡ nat_lt i (length ts) → IfSome r (λ t. t.now ≡ get_or ts i t.now) →
+pub kid_smaller : (ts : List Node) (i : ℕ) (r : Option (Bor Node)) → is_some r ≡ nat_lt i (length ts) →
+    IfSome r (λ t. t.now ≡ get_or ts i t.now) →
     IfSome r (λ t. size_of t.now < sizes_of (nodes_of ts))
 kid_smaller ts i (Some x) h e = kid_within ts i x.now (ltb-true _ _ (sym h)) e
 kid_smaller ts i None h e = tt

@@ -51,7 +51,8 @@ with_lead-alone f (le.Behind s) u e = rw e refl
 -- ---- kids
 
 -- the weight of a kid and of those behind it
-weights-get : (ts : List Node) (i : ℕ) (x : Node) → slice_get ts i ≡ Some x → weights (nodes_from i (nodes_of ts)) ≡ suc (suc (weight x)) + weights (nodes_from (i + 1) (nodes_of ts))
+weights-get : (ts : List Node) (i : ℕ) (x : Node) → slice_get ts i ≡ Some x → weights (nodes_from i (nodes_of ts)) ≡ suc (suc (weight x)) +
+    weights (nodes_from (i + 1) (nodes_of ts))
 weights-get ts i x e = ap weights (nodes_from-get ts i x e)
 
 weights-past : (ts : List Node) (i : ℕ) → length ts ≤ i → weights (nodes_from i (nodes_of ts)) ≡ 0
@@ -119,27 +120,43 @@ weights-all ts = ap weights (from-count ts)
 -- ---- what is left is put
 
 -- the first kid and those behind it
-row-put : (f : ℕ) (l : Lead) (us : List Spelled) (i : ℕ) (old mid new : List Token) → new ≡ one_led f l (drop i us) ++ mid → mid ≡ all_led f l (drop (i + 1) us) ++ old → new ≡ all_led f l (drop i us) ++ old
-row-put f l us i old mid new e k = rw (e, k, all_led-step f l us i) (sym (append_assoc (one_led f l (drop i us)) (all_led f l (drop (i + 1) us)) old))
+row-put : (f : ℕ) (l : Lead) (us : List Spelled) (i : ℕ) (old mid new : List Token) → new ≡ one_led f l (drop i us) ++ mid →
+    mid ≡ all_led f l (drop (i + 1) us) ++ old → new ≡ all_led f l (drop i us) ++ old
+row-put f l us i old mid new e k =
+    rw (e, k, all_led-step f l us i) (sym (append_assoc (one_led f l (drop i us)) (all_led f l (drop (i + 1) us)) old))
 
-listed-left : (f : ℕ) (us : List Spelled) (i : ℕ) (old mid new : List Token) → new ≡ one_led f le.Nothing (drop i us) ++ mid → mid ≡ all_led f (le.Before si.Comma) (drop (i + 1) us) ++ old → new ≡ listed f (drop i us) ++ old
-listed-left f us i old mid new e k = rw (e, k, drop-one us i) (sym (append_assoc (one_led f le.Nothing (drop i us)) (all_led f (le.Before si.Comma) (drop 1 (drop i us))) old))
+listed-left : (f : ℕ) (us : List Spelled) (i : ℕ) (old mid new : List Token) → new ≡ one_led f le.Nothing (drop i us) ++ mid →
+    mid ≡ all_led f (le.Before si.Comma) (drop (i + 1) us) ++ old → new ≡ listed f (drop i us) ++ old
+listed-left f us i old mid new e k = rw (e, k, drop-one us i)
+    (sym (append_assoc (one_led f le.Nothing (drop i us)) (all_led f (le.Before si.Comma) (drop 1 (drop i us))) old))
 
 -- ---- a tree is left
 
-pub leave-alone : (f : ℕ) (l : Lead) (p : Pieces) (es es' : List Entry) → p.piece ≡ 0 → p.kid ≡ 0 → stands_alone (head p.tree.now).kind ≡ true → es' ≡ es ++ en.Pieces p ∷ [] → left_tokens f es' ≡ with_lead f l (spelled_kid f p.tree.now) ++ left_tokens f es
-leave-alone f l p es es' e k a h = rw (h, left_tokens-push f es (en.Pieces p), with_lead-alone f l (spelled_kid f p.tree.now) a) (ap (λ x. x ++ left_tokens f es) (entry-tree f p e k))
+pub leave-alone : (f : ℕ) (l : Lead) (p : Pieces) (es es' : List Entry) → p.piece ≡ 0 → p.kid ≡ 0 →
+    stands_alone (head p.tree.now).kind ≡ true → es' ≡ es ++ en.Pieces p ∷ [] → left_tokens f es' ≡ with_lead f l (spelled_kid f p.tree.now)
+    ++ left_tokens f es
+leave-alone f l p es es' e k a h = rw (h, left_tokens-push f es (en.Pieces p), with_lead-alone f l (spelled_kid f p.tree.now) a)
+    (ap (λ x. x ++ left_tokens f es) (entry-tree f p e k))
 
-pub leave-nothing : (f : ℕ) (l : Lead) (p : Pieces) (es es' : List Entry) → p.piece ≡ 0 → p.kid ≡ 0 → l ≡ le.Nothing → es' ≡ es ++ en.Pieces p ∷ [] → left_tokens f es' ≡ with_lead f l (spelled_kid f p.tree.now) ++ left_tokens f es
+pub leave-nothing : (f : ℕ) (l : Lead) (p : Pieces) (es es' : List Entry) → p.piece ≡ 0 → p.kid ≡ 0 → l ≡ le.Nothing → es' ≡ es ++
+    en.Pieces p ∷ [] → left_tokens f es' ≡ with_lead f l (spelled_kid f p.tree.now) ++ left_tokens f es
 leave-nothing f l p es es' e k a h = rw (h, left_tokens-push f es (en.Pieces p), a) (ap (λ x. x ++ left_tokens f es) (entry-tree f p e k))
 
-pub leave-before : (f : ℕ) (l : Lead) (s : Sign) (p : Pieces) (es es' es'' : List Entry) → p.piece ≡ 0 → p.kid ≡ 0 → stands_alone (head p.tree.now).kind ≡ false → l ≡ le.Before s → es' ≡ es ++ en.Pieces p ∷ [] → es'' ≡ es' ++ en.Sign s ∷ [] → left_tokens f es'' ≡ with_lead f l (spelled_kid f p.tree.now) ++ left_tokens f es
-leave-before f l s p es es' es'' e k a b h g = rw (g, left_tokens-push f es' (en.Sign s), h, left_tokens-push f es (en.Pieces p), b, a) (ap (λ x. sign_token f s ∷ x ++ left_tokens f es) (entry-tree f p e k))
+pub leave-before : (f : ℕ) (l : Lead) (s : Sign) (p : Pieces) (es es' es'' : List Entry) → p.piece ≡ 0 → p.kid ≡ 0 →
+    stands_alone (head p.tree.now).kind ≡ false → l ≡ le.Before s → es' ≡ es ++ en.Pieces p ∷ [] → es'' ≡ es' ++ en.Sign s ∷ [] →
+    left_tokens f es'' ≡ with_lead f l (spelled_kid f p.tree.now) ++ left_tokens f es
+leave-before f l s p es es' es'' e k a b h g = rw (g, left_tokens-push f es' (en.Sign s), h, left_tokens-push f es (en.Pieces p), b, a)
+    (ap (λ x. sign_token f s ∷ x ++ left_tokens f es) (entry-tree f p e k))
 
-pub leave-behind : (f : ℕ) (l : Lead) (s : Sign) (p : Pieces) (es es' es'' : List Entry) → p.piece ≡ 0 → p.kid ≡ 0 → stands_alone (head p.tree.now).kind ≡ false → l ≡ le.Behind s → es' ≡ es ++ en.Sign s ∷ [] → es'' ≡ es' ++ en.Pieces p ∷ [] → left_tokens f es'' ≡ with_lead f l (spelled_kid f p.tree.now) ++ left_tokens f es
-leave-behind f l s p es es' es'' e k a b h g = rw (g, left_tokens-push f es' (en.Pieces p), h, left_tokens-push f es (en.Sign s), b, a, append_assoc) (ap (λ x. x ++ (sign_token f s ∷ left_tokens f es)) (entry-tree f p e k))
+pub leave-behind : (f : ℕ) (l : Lead) (s : Sign) (p : Pieces) (es es' es'' : List Entry) → p.piece ≡ 0 → p.kid ≡ 0 →
+    stands_alone (head p.tree.now).kind ≡ false → l ≡ le.Behind s → es' ≡ es ++ en.Sign s ∷ [] → es'' ≡ es' ++ en.Pieces p ∷ [] →
+    left_tokens f es'' ≡ with_lead f l (spelled_kid f p.tree.now) ++ left_tokens f es
+leave-behind f l s p es es' es'' e k a b h g =
+    rw (g, left_tokens-push f es' (en.Pieces p), h, left_tokens-push f es (en.Sign s), b, a, append_assoc)
+    (ap (λ x. x ++ (sign_token f s ∷ left_tokens f es)) (entry-tree f p e k))
 
-pub weight-tree : (p : Pieces) (es es' : List Entry) → p.piece ≡ 0 → p.kid ≡ 0 → es' ≡ es ++ en.Pieces p ∷ [] → left_weight es' ≡ left_weight es + weight p.tree.now
+pub weight-tree : (p : Pieces) (es es' : List Entry) → p.piece ≡ 0 → p.kid ≡ 0 → es' ≡ es ++ en.Pieces p ∷ [] →
+    left_weight es' ≡ left_weight es + weight p.tree.now
 weight-tree p es es' e k h = rw h (omega (arith, left_weight-push es (en.Pieces p), entry-tree-weight p e k))
 
 pub weight-sign : (s : Sign) (es es' : List Entry) → es' ≡ es ++ en.Sign s ∷ [] → left_weight es' ≡ left_weight es + 1
@@ -147,40 +164,58 @@ weight-sign s es es' h = rw h (left_weight-push es (en.Sign s))
 
 -- ---- a kid is left
 
-pub one-left : (ts : List Node) (i : ℕ) (x : Node) (l : Lead) (es es' : List Entry) → slice_get ts i ≡ Some x → ((f : ℕ) → left_tokens f es' ≡ with_lead f l (spelled_kid f x) ++ left_tokens f es) → (f : ℕ) → left_tokens f es' ≡ one_led f l (drop i (spells f (nodes_of ts))) ++ left_tokens f es
+pub one-left : (ts : List Node) (i : ℕ) (x : Node) (l : Lead) (es es' : List Entry) → slice_get ts i ≡ Some x →
+    ((f : ℕ) → left_tokens f es' ≡ with_lead f l (spelled_kid f x) ++ left_tokens f es) → (f : ℕ) →
+    left_tokens f es' ≡ one_led f l (drop i (spells f (nodes_of ts))) ++ left_tokens f es
 one-left ts i x l es es' e h f = rw (one_led-here f l ts i x e) (h f)
 
-pub one-weight : (ts : List Node) (i : ℕ) (x : Node) (a b : ℕ) → slice_get ts i ≡ Some x → b ≤ a + suc (weight x) → b + weights (nodes_from (i + 1) (nodes_of ts)) < a + weights (nodes_from i (nodes_of ts))
+pub one-weight : (ts : List Node) (i : ℕ) (x : Node) (a b : ℕ) → slice_get ts i ≡ Some x → b ≤ a + suc (weight x) →
+    b + weights (nodes_from (i + 1) (nodes_of ts)) < a + weights (nodes_from i (nodes_of ts))
 one-weight ts i x a b e h = rw (weights-get ts i x e) (omega arith)
 
-pub past-weight : (ts : List Node) (i a : ℕ) → length ts ≤ i → a + weights (nodes_from (i + 1) (nodes_of ts)) ≤ a + weights (nodes_from i (nodes_of ts))
+pub past-weight : (ts : List Node) (i a : ℕ) → length ts ≤ i → a + weights (nodes_from (i + 1) (nodes_of ts)) ≤ a + weights
+    (nodes_from i (nodes_of ts))
 past-weight ts i a h = rw (weights-past ts i h, weights-past ts (i + 1) (omega arith)) (omega arith)
 
 -- ---- kids are left
 
-pub row-left : (r : Row) (i : ℕ) (es es' es'' : List Entry) → r.from ≡ i + 1 → es' ≡ es ++ en.Row r ∷ [] → ((f : ℕ) → left_tokens f es'' ≡ one_led f r.lead (drop i (spells f (nodes_of r.kids.now))) ++ left_tokens f es') → (f : ℕ) → left_tokens f es'' ≡ all_led f r.lead (drop i (spells f (nodes_of r.kids.now))) ++ left_tokens f es
+pub row-left : (r : Row) (i : ℕ) (es es' es'' : List Entry) → r.from ≡ i + 1 → es' ≡ es ++ en.Row r ∷ [] →
+    ((f : ℕ) → left_tokens f es'' ≡ one_led f r.lead (drop i (spells f (nodes_of r.kids.now))) ++ left_tokens f es') → (f : ℕ) →
+    left_tokens f es'' ≡ all_led f r.lead (drop i (spells f (nodes_of r.kids.now))) ++ left_tokens f es
 row-left r i es es' es'' e h k f =
-    row-put f r.lead (spells f (nodes_of r.kids.now)) i (left_tokens f es) (left_tokens f es') (left_tokens f es'') (k f) (rw (h, left_tokens-push f es (en.Row r), e) refl)
+    row-put f r.lead (spells f (nodes_of r.kids.now)) i (left_tokens f es) (left_tokens f es') (left_tokens f es'') (k f)
+    (rw (h, left_tokens-push f es (en.Row r), e) refl)
 
-pub rows-left : (r : Row) (i : ℕ) (es es' es'' : List Entry) → r.from ≡ i + 1 → r.lead ≡ le.Before si.Comma → es' ≡ es ++ en.Row r ∷ [] → ((f : ℕ) → left_tokens f es'' ≡ one_led f le.Nothing (drop i (spells f (nodes_of r.kids.now))) ++ left_tokens f es') → (f : ℕ) → left_tokens f es'' ≡ listed f (drop i (spells f (nodes_of r.kids.now))) ++ left_tokens f es
+pub rows-left : (r : Row) (i : ℕ) (es es' es'' : List Entry) → r.from ≡ i + 1 → r.lead ≡ le.Before si.Comma → es' ≡ es ++ en.Row r ∷ [] →
+    ((f : ℕ) → left_tokens f es'' ≡ one_led f le.Nothing (drop i (spells f (nodes_of r.kids.now))) ++ left_tokens f es') → (f : ℕ) →
+    left_tokens f es'' ≡ listed f (drop i (spells f (nodes_of r.kids.now))) ++ left_tokens f es
 rows-left r i es es' es'' e l h k f =
-    listed-left f (spells f (nodes_of r.kids.now)) i (left_tokens f es) (left_tokens f es') (left_tokens f es'') (k f) (rw (h, left_tokens-push f es (en.Row r), e, l) refl)
+    listed-left f (spells f (nodes_of r.kids.now)) i (left_tokens f es) (left_tokens f es') (left_tokens f es'') (k f)
+    (rw (h, left_tokens-push f es (en.Row r), e, l) refl)
 
-pub row-weight : (r : Row) (i b : ℕ) (es es' : List Entry) → r.from ≡ i + 1 → es' ≡ es ++ en.Row r ∷ [] → b + weights (nodes_from (i + 1) (nodes_of r.kids.now)) < left_weight es' + weights (nodes_from i (nodes_of r.kids.now)) → b ≤ left_weight es + weights (nodes_from i (nodes_of r.kids.now))
+pub row-weight : (r : Row) (i b : ℕ) (es es' : List Entry) → r.from ≡ i + 1 → es' ≡ es ++ en.Row r ∷ [] →
+    b + weights (nodes_from (i + 1) (nodes_of r.kids.now)) < left_weight es' + weights (nodes_from i (nodes_of r.kids.now)) →
+    b ≤ left_weight es + weights (nodes_from i (nodes_of r.kids.now))
 row-weight r i b es es' e h k =
-    let g : left_weight es' ≡ left_weight es + suc (weights (nodes_from (i + 1) (nodes_of r.kids.now))) = rw (h, ← e) (left_weight-push es (en.Row r)) in
+    let g : left_weight es' ≡ left_weight es + suc (weights (nodes_from (i + 1) (nodes_of r.kids.now))) =
+    rw (h, ← e) (left_weight-push es (en.Row r)) in
     omega arith
 
 -- ---- a piece is put
 
-pub piece-one : (x : Piece) (ts : List Node) (ks : Nodes) (i a b : ℕ) → kid_behind x i (count_of ks) ≡ min (i + 1) (count_of ks) → ks ≡ nodes_of ts → b + weights (nodes_from (i + 1) (nodes_of ts)) ≤ a + weights (nodes_from i (nodes_of ts)) → b + weights (nodes_from (kid_behind x i (count_of ks)) ks) ≤ a + weights (nodes_from i ks)
+pub piece-one : (x : Piece) (ts : List Node) (ks : Nodes) (i a b : ℕ) → kid_behind x i (count_of ks) ≡ min (i + 1) (count_of ks) →
+    ks ≡ nodes_of ts → b + weights (nodes_from (i + 1) (nodes_of ts)) ≤ a + weights (nodes_from i (nodes_of ts)) →
+    b + weights (nodes_from (kid_behind x i (count_of ks)) ks) ≤ a + weights (nodes_from i ks)
 piece-one x ts ks i a b k e h = rw (k, weights-one ks i, e) h
 
-pub piece-all : (x : Piece) (ts : List Node) (ks : Nodes) (i a b : ℕ) → kid_behind x i (count_of ks) ≡ count_of ks → ks ≡ nodes_of ts → b ≤ a + weights (nodes_from i (nodes_of ts)) → b + weights (nodes_from (kid_behind x i (count_of ks)) ks) ≤ a + weights (nodes_from i ks)
+pub piece-all : (x : Piece) (ts : List Node) (ks : Nodes) (i a b : ℕ) → kid_behind x i (count_of ks) ≡ count_of ks → ks ≡ nodes_of ts →
+    b ≤ a + weights (nodes_from i (nodes_of ts)) → b + weights (nodes_from (kid_behind x i (count_of ks)) ks) ≤ a + weights
+    (nodes_from i ks)
 piece-all x ts ks i a b k e h = rw (k, weights-all ks, e) (omega arith)
 
 -- where two pieces leave the same
-pub either-kid : (x : Piece) (i n : ℕ) → ((s : Sort) × (x ≡ pi.Kid s)) ⊎ ((s : Sort) × (x ≡ pi.Optional s)) → kid_behind x i n ≡ min (i + 1) n
+pub either-kid : (x : Piece) (i n : ℕ) → ((s : Sort) × (x ≡ pi.Kid s)) ⊎ ((s : Sort) × (x ≡ pi.Optional s)) →
+    kid_behind x i n ≡ min (i + 1) n
 either-kid x i n (inl (s, e)) = ap (λ y. kid_behind y i n) e
 either-kid x i n (inr (s, e)) = ap (λ y. kid_behind y i n) e
 
@@ -192,17 +227,26 @@ pub either-list : (x : Piece) (i n : ℕ) → ((s : Sort) × (x ≡ pi.List s)) 
 either-list x i n (inl (s, e)) = ap (λ y. kid_behind y i n) e
 either-list x i n (inr (s, e)) = ap (λ y. kid_behind y i n) e
 
-pub form-left : (f : ℕ) (p p' : Pieces) (x d : Piece) (n : ℕ) (es es' : List Entry) (o r : List Token) → p'.tree.now ≡ p.tree.now → p'.piece ≡ p.piece + 1 → p'.kid ≡ kid_behind x p.kid n → n ≡ length (kids_spelled f p.tree.now) → p.piece < length (form_of (head p.tree.now).kind) → x ≡ get_or (form_of (head p.tree.now).kind) p.piece d → es' ≡ es ++ en.Pieces p' ∷ [] → r ≡ o ++ (piece_tokens f (head p.tree.now) x (drop p.kid (kids_spelled f p.tree.now)) ++ left_tokens f es') → r ≡ o ++ (form_tokens f p ++ left_tokens f es)
+pub form-left : (f : ℕ) (p p' : Pieces) (x d : Piece) (n : ℕ) (es es' : List Entry) (o r : List Token) → p'.tree.now ≡ p.tree.now →
+    p'.piece ≡ p.piece + 1 → p'.kid ≡ kid_behind x p.kid n → n ≡ length (kids_spelled f p.tree.now) →
+    p.piece < length (form_of (head p.tree.now).kind) → x ≡ get_or (form_of (head p.tree.now).kind) p.piece d → es' ≡ es ++ en.Pieces p' ∷
+    [] → r ≡ o ++ (piece_tokens f (head p.tree.now) x (drop p.kid (kids_spelled f p.tree.now)) ++ left_tokens f es') → r ≡ o ++
+    (form_tokens f p ++ left_tokens f es)
 form-left f p p' x d n es es' o r t e k c w i h g =
     let us = kids_spelled f p.tree.now in
     let ps = form_of (head p.tree.now).kind in
     let all = pieces-step f (head p.tree.now) ps (drop p.kid us) p.piece d w in
-    let behind : form_tokens f p' ≡ pieces_tokens f (head p.tree.now) (drop (p.piece + 1) ps) (left_behind x (drop p.kid us)) = rw (t, e, k) (ap (pieces_tokens f (head p.tree.now) (drop (p.piece + 1) ps)) (kids-behind x us p.kid n c)) in
+    let behind : form_tokens f p' ≡ pieces_tokens f (head p.tree.now) (drop (p.piece + 1) ps) (left_behind x (drop p.kid us)) =
+    rw (t, e, k) (ap (pieces_tokens f (head p.tree.now) (drop (p.piece + 1) ps)) (kids-behind x us p.kid n c)) in
     let stack : left_tokens f es' ≡ form_tokens f p' ++ left_tokens f es = rw h (left_tokens-push f es (en.Pieces p')) in
     rw (all, ← i, ← behind, append_assoc, ← stack) g
 
-pub form-weight : (p p' : Pieces) (x : Piece) (n b : ℕ) (es es' : List Entry) → p'.tree.now ≡ p.tree.now → p'.piece ≡ p.piece + 1 → p'.kid ≡ kid_behind x p.kid n → n ≡ count_of (kids_of p.tree.now) → p.piece < length (form_of (head p.tree.now).kind) → es' ≡ es ++ en.Pieces p' ∷ [] → b + weights (nodes_from (kid_behind x p.kid (count_of (kids_of p.tree.now))) (kids_of p.tree.now)) ≤ left_weight es' + weights (nodes_from p.kid (kids_of p.tree.now)) → b < left_weight es + form_weight p
+pub form-weight : (p p' : Pieces) (x : Piece) (n b : ℕ) (es es' : List Entry) → p'.tree.now ≡ p.tree.now → p'.piece ≡ p.piece + 1 →
+    p'.kid ≡ kid_behind x p.kid n → n ≡ count_of (kids_of p.tree.now) → p.piece < length (form_of (head p.tree.now).kind) → es' ≡ es ++
+    en.Pieces p' ∷ [] → b + weights (nodes_from (kid_behind x p.kid (count_of (kids_of p.tree.now))) (kids_of p.tree.now)) ≤ left_weight es'
+    + weights (nodes_from p.kid (kids_of p.tree.now)) → b < left_weight es + form_weight p
 form-weight p p' x n b es es' t e k c w h g =
-    let own : form_weight p' ≡ suc ((length (form_of (head p.tree.now).kind) - (p.piece + 1)) + weights (nodes_from (kid_behind x p.kid (count_of (kids_of p.tree.now))) (kids_of p.tree.now))) = rw (t, e, k, c) refl in
+    let own : form_weight p' ≡ suc ((length (form_of (head p.tree.now).kind) - (p.piece + 1)) + weights
+    (nodes_from (kid_behind x p.kid (count_of (kids_of p.tree.now))) (kids_of p.tree.now))) = rw (t, e, k, c) refl in
     let stack : left_weight es' ≡ left_weight es + form_weight p' = rw h (left_weight-push es (en.Pieces p')) in
     omega arith

@@ -33,7 +33,8 @@ module _ (w : Token → ℕ) (f : ℕ) where
   cons_weight : (t : Token) (ts : List Token) → weight (t ∷ ts) ≡ w t + weight ts
   cons_weight t ts = sum_by-append w (t ∷ []) ts ∙ ap (λ n. n + weight ts) (zero-add (w t))
 
-  fixed_weight : (h : Head) (s : Sign) (ps : List Piece) (us : List Spelled) → weight (pieces_tokens f h (pi.Fixed s ∷ ps) us) ≡ w (sign_token f s) + weight (pieces_tokens f h ps us)
+  fixed_weight : (h : Head) (s : Sign) (ps : List Piece) (us : List Spelled) → weight (pieces_tokens f h (pi.Fixed s ∷ ps) us) ≡ w
+      (sign_token f s) + weight (pieces_tokens f h ps us)
   fixed_weight h s ps us = cons_weight (sign_token f s) (pieces_tokens f h ps us)
 
   -- a sign that stands with a kid comes on top
@@ -54,7 +55,13 @@ module _ (w : Token → ℕ) (f : ℕ) where
   unfolding spell
   all_weight l none = omega arith
   all_weight l (more t ts) =
-      omega (arith, lead_weight l ((head t).kind, spell f t), all_weight l ts, sum_by-append w (with_lead f l ((head t).kind, spell f t)) (all_led f l (spells f ts)))
+      omega (
+        arith,
+        lead_weight l ((head t).kind, spell f t),
+        all_weight l ts,
+        sum_by-append w (with_lead f l ((head t).kind, spell f t))
+            (all_led f l (spells f ts)),
+      )
 
   one_weight : (l : Lead) (t : Node) (ts : Nodes) → weight (spell f t) ≤ weight (one_led f l (spells f (more t ts)))
   unfolding spell
@@ -64,7 +71,13 @@ module _ (w : Token → ℕ) (f : ℕ) where
   unfolding spell
   list_weight none = omega arith
   list_weight (more t ts) =
-      omega (arith, one_weight le.Nothing t ts, all_weight (le.Before si.Comma) ts, sum_by-append w (one_led f le.Nothing (spells f (more t ts))) (all_led f (le.Before si.Comma) (spells f ts)))
+      omega (
+        arith,
+        one_weight le.Nothing t ts,
+        all_weight (le.Before si.Comma) ts,
+        sum_by-append w
+            (one_led f le.Nothing (spells f (more t ts))) (all_led f (le.Before si.Comma) (spells f ts)),
+      )
 
   -- without kids
   none_weight : (h : Head) (ps : List Piece) → own_weight h ps ≤ weight (pieces_tokens f h ps [])
@@ -74,20 +87,25 @@ module _ (w : Token → ℕ) (f : ℕ) where
   none_weight h (_ ∷ ps) = none_weight h ps
 
   -- a kid that stands by itself, in front of the others
-  step : (h : Head) (l : Lead) (t : Node) (ts : Nodes) (ps : List Piece) → own_weight h ps + kids_weight ts ≤ weight (pieces_tokens f h ps (spells f ts)) →
+  step : (h : Head) (l : Lead) (t : Node) (ts : Nodes) (ps : List Piece) →
+      own_weight h ps + kids_weight ts ≤ weight (pieces_tokens f h ps (spells f ts)) →
       own_weight h ps + kids_weight (more t ts) ≤ weight (one_led f l (spells f (more t ts)) ++ pieces_tokens f h ps (spells f ts))
-  step h l t ts ps i = omega (arith, i, one_weight l t ts, sum_by-append w (one_led f l (spells f (more t ts))) (pieces_tokens f h ps (spells f ts)))
+  step h l t ts ps i =
+      omega (arith, i, one_weight l t ts, sum_by-append w (one_led f l (spells f (more t ts))) (pieces_tokens f h ps (spells f ts)))
 
   -- all kids that are left
-  last : (h : Head) (a : List Token) (ts : Nodes) (ps : List Piece) → kids_weight ts ≤ weight a → own_weight h ps + kids_weight ts ≤ weight (a ++ pieces_tokens f h ps [])
+  last : (h : Head) (a : List Token) (ts : Nodes) (ps : List Piece) → kids_weight ts ≤ weight a →
+      own_weight h ps + kids_weight ts ≤ weight (a ++ pieces_tokens f h ps [])
   last h a ts ps i = omega (arith, i, none_weight h ps, sum_by-append w a (pieces_tokens f h ps []))
 
-  pub pieces_weight : (n : ℕ) (h : Head) (ps : List Piece) (ts : Nodes) → are_kids n (kid_pieces ps) ts ≡ true → own_weight h ps + kids_weight ts ≤ weight (pieces_tokens f h ps (spells f ts))
+  pub pieces_weight : (n : ℕ) (h : Head) (ps : List Piece) (ts : Nodes) → are_kids n (kid_pieces ps) ts ≡ true →
+      own_weight h ps + kids_weight ts ≤ weight (pieces_tokens f h ps (spells f ts))
   unfolding spell are_kids
   pieces_weight n h [] none e = omega arith
   pieces_weight n h [] (more t ts) e = cc
   pieces_weight n h (pi.Fixed s ∷ ps) ts e = omega (arith, pieces_weight n h ps ts e, fixed_weight h s ps (spells f ts))
-  pieces_weight n h (pi.Own o ∷ ps) ts e = omega (arith, pieces_weight n h ps ts e, sum_by-append w (own_tokens f h o) (pieces_tokens f h ps (spells f ts)))
+  pieces_weight n h (pi.Own o ∷ ps) ts e =
+      omega (arith, pieces_weight n h ps ts e, sum_by-append w (own_tokens f h o) (pieces_tokens f h ps (spells f ts)))
   pieces_weight n h (pi.Kid s ∷ ps) none e = cc
   pieces_weight n h (pi.Kid s ∷ ps) (more t ts) e = step h le.Nothing t ts ps (pieces_weight n h ps ts (and_parts _ _ e).1)
   pieces_weight n h (pi.Optional s ∷ ps) none e = cc
@@ -104,7 +122,8 @@ module _ (w : Token → ℕ) (f : ℕ) where
   pieces_weight n h (pi.More s ∷ ps) ts e = last h (all_led f (le.Before si.Comma) (spells f ts)) ts ps (all_weight (le.Before si.Comma) ts)
   pieces_weight n h (pi.List s ∷ ps) ts e = last h (listed f (spells f ts)) ts ps (list_weight ts)
   pieces_weight n h (pi.Elements s ∷ ps) ts e = last h (listed f (spells f ts)) ts ps (list_weight ts)
-  pieces_weight n h (pi.MoreElements s ∷ ps) ts e = last h (all_led f (le.Before si.Comma) (spells f ts)) ts ps (all_weight (le.Before si.Comma) ts)
+  pieces_weight n h (pi.MoreElements s ∷ ps) ts e =
+      last h (all_led f (le.Before si.Comma) (spells f ts)) ts ps (all_weight (le.Before si.Comma) ts)
 
   -- the tokens of files side by side
   pub side_weight : (ts : List Node) → kids_weight (nodes_of ts) ≤ weight (spell_all f ts)

@@ -1,8 +1,9 @@
 -- The two limits on depth, by the letter: which trees keep them, and at which tokens of a tree's spelling they are passed.
 --
--- Types, expressions and statements are the nodes. A node is open round another where it is an ancestor of it and does not begin with the same
--- token as an operator or postfix node over it. A node with 256 nodes open round it is too deep, at its first token. An operator or postfix
--- node whose left operand has height 256 is too deep, at its operator. The height of a node is 1 and the greatest height of its kids.
+-- Types, expressions and statements are the nodes. A node is open round another where it is an ancestor of it and does not begin with the
+-- same token as an operator or postfix node over it. A node with 256 nodes open round it is too deep, at its first token. An operator or
+-- postfix node whose left operand has height 256 is too deep, at its operator. The height of a node is 1 and the greatest height of its
+-- kids.
 use Rattle.std.specs.Prelude.{ℕ, ◌+◌, max, List, [], ◌∷◌, ◌++◌, Bool, true, false, ◌&&◌, not, nat_le, length, take, if◌then◌else◌}
 use Rattle.std.specs.List.{list_all}
 use Rattle.hare_tree.specs.declared.kind.Kind.{Kind}
@@ -155,7 +156,8 @@ unfoldable mutual
   -- The tokens at which a tree passes a limit; the tree begins behind `n` tokens, and `opened` nodes are open round it.
   pub deep : ℕ → ℕ → Bool → Node → List ℕ
   deep n opened is_left (branch h ts) =
-      node_faults n opened h ts ++ deep_each (begins h (form_of h.kind) n (spells 0 ts)) (open_within opened is_left h.kind) (is_operator h.kind) ts
+      node_faults n opened h ts ++ deep_each (begins h (form_of h.kind) n (spells 0 ts)) (open_within opened is_left h.kind)
+      (is_operator h.kind) ts
 
   pub deep_each : List ℕ → ℕ → Bool → Nodes → List ℕ
   deep_each ns opened is_left none = []

@@ -51,7 +51,8 @@ form_of ki.Use = Fixed si.Use ∷ Kid so.ImportPath ∷ Fixed si.Semicolon ∷ [
 form_of ki.UseAlias = Fixed si.Use ∷ Kid so.Name ∷ Fixed si.Equals ∷ Kid so.ImportPath ∷ Fixed si.Semicolon ∷ []
 -- "use" path "::" "{" list(name) "}" ";"
 form_of ki.UseNames =
-    Fixed si.Use ∷ Kid so.ImportPath ∷ Fixed si.PathMark ∷ Fixed si.LeftBrace ∷ Kid so.Name ∷ More so.Name ∷ Fixed si.RightBrace ∷ Fixed si.Semicolon ∷ []
+    Fixed si.Use ∷ Kid so.ImportPath ∷ Fixed si.PathMark ∷ Fixed si.LeftBrace ∷ Kid so.Name ∷ More so.Name ∷ Fixed si.RightBrace ∷
+    Fixed si.Semicolon ∷ []
 -- name {"::" name}
 form_of ki.ImportPath = Kid so.Name ∷ EachLed si.PathMark so.PathName ∷ []
 -- ["export"] "def" name [":" type] "=" expr ";"
@@ -170,7 +171,8 @@ form_of ki.If =
     Fixed si.If ∷ Fixed si.LeftParen ∷ Kid expr ∷ Fixed si.RightParen ∷ Kid expr ∷ Led si.Else expr ∷ []
 -- "for" [label] "(" ["let" name [":" type] "=" expr ";"] expr [";" expr] ")" expr
 form_of ki.For =
-    Fixed si.For ∷ Own ow.Label ∷ Fixed si.LeftParen ∷ Followed so.Let si.Semicolon ∷ Kid expr ∷ Led si.Semicolon expr ∷ Fixed si.RightParen ∷ Kid expr ∷ []
+    Fixed si.For ∷ Own ow.Label ∷ Fixed si.LeftParen ∷ Followed so.Let si.Semicolon ∷ Kid expr ∷ Led si.Semicolon expr ∷
+    Fixed si.RightParen ∷ Kid expr ∷ []
 -- "for" [label] "(" "let" name (".." | "&" "..") expr ")" expr
 form_of ki.ForEach =
     Fixed si.For ∷ Own ow.Label ∷ Fixed si.LeftParen ∷ Kid so.Binding ∷ Kid expr ∷ Fixed si.RightParen ∷ Kid expr ∷ []
@@ -193,7 +195,8 @@ form_of ki.PatternLet = Fixed si.Let ∷ Own ow.Name ∷ Fixed si.Colon ∷ Kid 
 form_of ki.PatternNull = Fixed si.Null ∷ []
 -- "switch" "(" expr ")" "{" {"case" [list(expr)] "=>" {stmt ";"}} "}"
 form_of ki.Switch =
-    Fixed si.Switch ∷ Fixed si.LeftParen ∷ Kid expr ∷ Fixed si.RightParen ∷ Fixed si.LeftBrace ∷ Each so.SwitchCase ∷ Fixed si.RightBrace ∷ []
+    Fixed si.Switch ∷ Fixed si.LeftParen ∷ Kid expr ∷ Fixed si.RightParen ∷ Fixed si.LeftBrace ∷ Each so.SwitchCase ∷ Fixed si.RightBrace ∷
+    []
 form_of ki.SwitchCase =
     Fixed si.Case ∷ Optional so.Values ∷ Fixed si.Arrow ∷ EachFollowed so.Statement si.Semicolon ∷ []
 form_of ki.Values = Kid expr ∷ More expr ∷ []

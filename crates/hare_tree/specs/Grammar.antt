@@ -1,4 +1,5 @@
--- What a list of tokens is to the grammar: which trees it spells and with which places, which of its fronts are viable, and its first fault.
+-- What a list of tokens is to the grammar: which trees it spells and with which places, which of its fronts are viable, and its first
+-- fault.
 use Rattle.std.specs.Prelude.{◌≡◌, ℕ, zero, suc, ◌+◌, ◌<◌, ◌≤◌, List, [], ◌∷◌, ◌++◌, Bool, true, false, ◌&&◌, ◌==◌, ◌⊎◌, length, take, drop, map, if◌then◌else◌}
 use Rattle.hare_tree.specs.declared.place.Place.{Place}
 use Rattle.hare_tree.specs.declared.place.Fault.{Fault}
@@ -72,21 +73,24 @@ place_of [] n = start_of 0
 place_of (t ∷ ts) zero = t.place
 place_of (t ∷ ts) (suc n) = place_of ts n
 
--- Each node of a tree that begins behind `n` of these tokens has its operator's or else its first token's place; what is not there has line 1
--- and column 1 of the file.
+-- Each node of a tree that begins behind `n` of these tokens has its operator's or else its first token's place; what is not there has line
+-- 1 and column 1 of the file.
 unfoldable mutual
   pub HasPlaces : ℕ → List Token → ℕ → Node → Type 0
   HasPlaces f ts n (branch h us) =
-      (h.place ≡ (if is_none h.kind then start_of f else place_of ts (n + place_in h us))) × HavePlaces f ts (begins h (form_of h.kind) n (spells 0 us)) us
+      (h.place ≡ (if is_none h.kind then start_of f else place_of ts (n + place_in h us))) ×
+      HavePlaces f ts (begins h (form_of h.kind) n (spells 0 us)) us
 
   pub HavePlaces : ℕ → List Token → List ℕ → Nodes → Type 0
   HavePlaces f ts ns none = Unit {0}
   HavePlaces f ts ns (more u us) = HasPlaces f ts (first_number ns) u × HavePlaces f ts (numbers_behind ns) us
 
--- A file's tree has its places over the tokens of the file: its imports begin with the first of them, and its declarations behind the imports.
+-- A file's tree has its places over the tokens of the file: its imports begin with the first of them, and its declarations behind the
+-- imports.
 pub record FileHasPlaces (ts : List Token) (tree : FileTree) : Type 0 where
   pub uses : HavePlaces tree.file (joined ts) (begins_led le.Nothing 0 (spells 0 (nodes_of tree.uses))) (nodes_of tree.uses)
-  pub decls : HavePlaces tree.file (joined ts) (begins_led le.Nothing (length (spell_all 0 tree.uses)) (spells 0 (nodes_of tree.decls))) (nodes_of tree.decls)
+  pub decls : HavePlaces tree.file (joined ts) (begins_led le.Nothing (length (spell_all 0 tree.uses)) (spells 0 (nodes_of tree.decls)))
+      (nodes_of tree.decls)
 
 -- ---- the languages: what lists of tokens a sort or files have
 
@@ -156,8 +160,8 @@ before_end [] = []
 before_end (t ∷ []) = []
 before_end (t ∷ u ∷ us) = t ∷ before_end (u ∷ us)
 
--- The least fault of a file of which a lexical fault has kept these tokens, the last of them End: the first fault of the tokens before End, or
--- where they have none the lexical fault.
+-- The least fault of a file of which a lexical fault has kept these tokens, the last of them End: the first fault of the tokens before End,
+-- or where they have none the lexical fault.
 abbrev pub IsLeastFault : List Token → Fault → Fault → Type 0
 IsLeastFault kept lexical fault =
     ((number n : ℕ) × IsFirstFault files (before_end kept) number n × (fault ≡ fault_at kept number n))

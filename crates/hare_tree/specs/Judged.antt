@@ -60,13 +60,15 @@ judged_first room s c i (more t ts) =
 abbrev pub judged_optional : ℕ → Sort → Option Sign → At → Nodes → Option At
 judged_optional room s c at none = None
 judged_optional room s c at (more t ts) =
-    if is_none (head t).kind then (if is_absent t then Some record { kid = at.kid + 1; ends = at.ends } else None) else judged_first room s c at.kid (more t ts)
+    if is_none (head t).kind then (if is_absent t then Some record { kid = at.kid + 1; ends = at.ends } else None)
+    else judged_first room s c at.kid (more t ts)
 
 -- the same of a kid behind which a sign stands
 abbrev pub judged_followed : ℕ → Sort → At → Nodes → Option At
 judged_followed room s at none = None
 judged_followed room s at (more t ts) =
-    if is_none (head t).kind then (if is_absent t then Some record { kid = at.kid + 1; ends = at.ends } else None) else (if is_low room s t then Some record { kid = at.kid + 1; ends = both } else None)
+    if is_none (head t).kind then (if is_absent t then Some record { kid = at.kid + 1; ends = at.ends } else None)
+    else (if is_low room s t then Some record { kid = at.kid + 1; ends = both } else None)
 
 -- the kids are low, and those of these pieces of a form with this level
 abbrev pub are_low : ℕ → ℕ → List Piece → Nodes → Bool
@@ -134,7 +136,8 @@ abbrev pub more_elements_low : ℕ → Sort → Nodes → Bool
 more_elements_low room s none = false
 more_elements_low room s (more t none) = false
 more_elements_low room s (more t (more u none)) = is_leaf is_none_or_dots t && is_leaf is_none_or_comma u
-more_elements_low room s (more t (more u (more v ts))) = item_low room s (more t (more u (more v ts))) && more_elements_low room s (more u (more v ts))
+more_elements_low room s (more t (more u (more v ts))) =
+    item_low room s (more t (more u (more v ts))) && more_elements_low room s (more u (more v ts))
 
 -- nothing, or such elements
 abbrev pub elements_low : ℕ → Sort → Nodes → Bool

@@ -1,6 +1,6 @@
--- Which trees are shaped: each node has the kids of its form and, where its form has one, an operator of its kind; operators obey precedence
--- and left association, by the levels of their operands; and no kid goes on with the token that stands behind it, so that each `else`
--- belongs to the nearest `if`, and a comma behind the label of a `yield` to the `yield`. What no token is made from is empty.
+-- Which trees are shaped: each node has the kids of its form and, where its form has one, an operator of its kind; operators obey
+-- precedence and left association, by the levels of their operands; and no kid goes on with the token that stands behind it, so that each
+-- `else` belongs to the nearest `if`, and a comma behind the label of a `yield` to the `yield`. What no token is made from is empty.
 use Rattle.std.specs.Prelude.{ℕ, ◌^◌, List, [], ◌∷◌, codes, Bool, true, false, ◌&&◌, ◌||◌, not, ◌==◌, nat_le, nat_lt, slice_index, Option, Some, None, if◌then◌else◌}
 use Rattle.std.specs.List.{list_all}
 use Rattle.std.specs.Char.{is_ascii_digit}
@@ -248,7 +248,8 @@ unfoldable mutual
   are_kids n (pi.Elements s ∷ ps) (more t (more u none)) = is_absent t && is_absent u
   are_kids n (pi.Elements s ∷ ps) (more t (more u (more v ts))) = is_shaped s t && are_kids n (pi.MoreElements s ∷ ps) (more u (more v ts))
   are_kids n (pi.MoreElements s ∷ ps) (more t (more u none)) = is_leaf is_none_or_dots t && is_leaf is_none_or_comma u
-  are_kids n (pi.MoreElements s ∷ ps) (more t (more u (more v ts))) = is_shaped s t && are_kids n (pi.MoreElements s ∷ ps) (more u (more v ts))
+  are_kids n (pi.MoreElements s ∷ ps) (more t (more u (more v ts))) =
+      is_shaped s t && are_kids n (pi.MoreElements s ∷ ps) (more u (more v ts))
   are_kids n _ _ = false
 
 -- {use} {decl}

@@ -46,7 +46,8 @@ full_token f k h = record { kind = k; place = start_of f; text = h.text; number 
 abbrev pub parts_from : Bool → List ℕ → List ℕ → List (List ℕ)
 parts_from taken part [] = part ∷ []
 parts_from true part (c ∷ s) = parts_from false part s
-parts_from false part (c ∷ s) = if c == 58 && slice_index s 0 == 58 then part ∷ parts_from true [] s else parts_from false (part ++ c ∷ []) s
+parts_from false part (c ∷ s) =
+    if c == 58 && slice_index s 0 == 58 then part ∷ parts_from true [] s else parts_from false (part ++ c ∷ []) s
 
 abbrev pub parts : List ℕ → List (List ℕ)
 parts text = parts_from false [] text

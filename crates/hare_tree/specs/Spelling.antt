@@ -61,7 +61,8 @@ is_hex ds = list_all (λ c. is_digit c 16) ds
 abbrev pub IsEscape : List ℕ → ℕ → Type 0
 IsEscape e v =
     ((c : ℕ) × (e ≡ 92 ∷ c ∷ []) × (escaped c ≡ Some v))
-    ⊎ ((c : ℕ) × (ds : List ℕ) × (e ≡ 92 ∷ c ∷ ds) × (hex_len c ≡ Some (length ds)) × (is_hex ds ≡ true) × (v ≡ digits_value 16 ds) × MayStand c v)
+    ⊎ ((c : ℕ) × (ds : List ℕ) × (e ≡ 92 ∷ c ∷ ds) × (hex_len c ≡ Some (length ds)) × (is_hex ds ≡ true) × (v ≡ digits_value 16 ds) ×
+    MayStand c v)
 
 -- the bytes are one whole character
 abbrev pub is_character : List ℕ → Bool

@@ -23,7 +23,8 @@ use Rattle.hare_tree.specs.Spelling.{IsSpelling, IsEscape, IsPart, IsOne, spelle
 
 -- The place behind these bytes of the file: lines count LF, columns count the bytes since the last LF, and both count from 1.
 abbrev pub place_at : ℕ → List ℕ → Place
-place_at file before = record { file = file; line = 1 + count_by (λ c. c == 10) before; column = 1 + prefix_len is_not_feed (reverse before) }
+place_at file before =
+    record { file = file; line = 1 + count_by (λ c. c == 10) before; column = 1 + prefix_len is_not_feed (reverse before) }
 
 -- ---- blanks and comments
 

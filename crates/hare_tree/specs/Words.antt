@@ -36,7 +36,8 @@ is_listed words s = list_any (λ w. bytes_eq w s) words
 
 abbrev pub keywords : List (List ℕ)
 keywords =
-    codes "abort" ∷ codes "align" ∷ codes "alloc" ∷ codes "append" ∷ codes "as" ∷ codes "assert" ∷ codes "bool" ∷ codes "break" ∷ codes "case"
+    codes "abort" ∷ codes "align" ∷ codes "alloc" ∷ codes "append" ∷ codes "as" ∷ codes "assert" ∷ codes "bool" ∷ codes "break" ∷
+    codes "case"
     ∷ codes "const" ∷ codes "continue" ∷ codes "def" ∷ codes "defer" ∷ codes "delete" ∷ codes "else" ∷ codes "export" ∷ codes "false"
     ∷ codes "fn" ∷ codes "for" ∷ codes "free" ∷ codes "i16" ∷ codes "i32" ∷ codes "i64" ∷ codes "i8" ∷ codes "if" ∷ codes "int" ∷ codes "is"
     ∷ codes "len" ∷ codes "let" ∷ codes "match" ∷ codes "never" ∷ codes "null" ∷ codes "nullable" ∷ codes "offset" ∷ codes "opaque"

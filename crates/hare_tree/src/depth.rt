@@ -11,7 +11,8 @@ use crate::tree::{Kids, Tree};
 /// No node has so many nodes open round it, and no left operand has this height.
 const LIMIT: usize = 256;
 
-/// No tree that keeps the limits is higher: at most 256 nodes are open round one another, and the left operand of the innermost is at most 255 nodes high.
+/// No tree that keeps the limits is higher: at most 256 nodes are open round one another, and the left operand of the innermost is at most
+/// 255 nodes high.
 pub const ROOM: usize = 511;
 
 /// Whether a tree is a type, an expression or a statement.
@@ -97,7 +98,8 @@ fn open_within(opened: usize, is_left: bool, k: Kind) -> usize
     }
 }
 
-/// Whether a tree keeps the limits and is no higher than so many nodes. So many are open round it, and it is or is not the left operand of an operator.
+/// Whether a tree keeps the limits and is no higher than so many nodes. So many are open round it, and it is or is not the left operand of
+/// an operator.
 #[cycle(depth)]
 pub fn keeps_limits(t: &Tree, opened: usize, is_left: bool, room: usize) -> bool
     requires { opened ≤ 256 }

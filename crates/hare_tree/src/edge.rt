@@ -13,8 +13,8 @@ use crate::forms::form_of;
 use crate::kind::Kind;
 use crate::tree::{Kids, Tree};
 
-/// Whether a tree, where it stands before one of two signs, ends there: what it is spelled by would not go on with the sign. No other sign of a form can
-/// go on with a kid.
+/// Whether a tree, where it stands before one of two signs, ends there: what it is spelled by would not go on with the sign. No other sign
+/// of a form can go on with a kid.
 #[derive(Clone, Copy)]
 pub struct Ends {
     pub before_else: bool,
@@ -49,7 +49,8 @@ pub fn without(ends: Ends, s: Sign) -> Ends
 
 /// Whether a kid that ends so ends before the sign that stands behind it.
 pub fn ends_before(behind: Option<Sign>, ends: Ends) -> bool
-    ensures { (k : Kind) → result ≡ shape.ends_before behind record { kind = k; before_else = ends.before_else; before_comma = ends.before_comma } }
+    ensures { (k : Kind) → result ≡ shape.ends_before behind record
+        { kind = k; before_else = ends.before_else; before_comma = ends.before_comma } }
 {
     match behind {
         Some(Sign::Else) => ends.before_else,

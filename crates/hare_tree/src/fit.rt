@@ -11,8 +11,8 @@ use crate::tree::{FileTree, Kids, Tree};
 
 /// Whether the tree of a file is in the language: it is shaped, and each of its trees keeps the limits on depth.
 ///
-/// The call takes no memory, and goes over the tree twice at most. It leaves a tree as soon as more of its nodes stand within one another than in any
-/// tree of the language, which are 511.
+/// The call takes no memory, and goes over the tree twice at most. It leaves a tree as soon as more of its nodes stand within one another
+/// than in any tree of the language, which are 511.
 pub fn fits(t: &FileTree) -> bool
     ensures { result ≡ fits_file t.now }
 {

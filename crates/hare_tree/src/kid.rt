@@ -12,15 +12,16 @@ use crate::form::{Piece, Sort};
 use crate::forms::form_of;
 use crate::kind::Kind;
 
-/// The sort of the kid with this number, from 0, of a tree of this kind that has so many kids, as its form says (`docs/TREES.md`). None for the kid in
-/// which a trailing comma may stand, and where the form has no such kid.
+/// The sort of the kid with this number, from 0, of a tree of this kind that has so many kids, as its form says (`docs/TREES.md`). None for
+/// the kid in which a trailing comma may stand, and where the form has no such kid.
 ///
-/// The kid of a shaped tree is absent or shaped of this sort, where Left and Right are read by the tree's own level. The kid in which a trailing comma
-/// may stand is that comma, or absent.
+/// The kid of a shaped tree is absent or shaped of this sort, where Left and Right are read by the tree's own level. The kid in which a
+/// trailing comma may stand is that comma, or absent.
 #[tactic(auto, using(crate::proofs::KidSorts::kid_is_of_sort))]
 pub fn kid_sort(k: Kind, kids: usize, i: usize) -> Option<Sort>
     ensures value { result ≡ spec.kid_sort k kids i }
-    ensures shaped { (s : form_sort.Sort) (h : Head) (ts : List Node) (t : Node) → h.kind ≡ k → length ts ≡ kids → is_shaped s (branch h (nodes_of ts)) ≡ true → slice_get ts i ≡ Some t → spec.IsKid (level k h.text) result t }
+    ensures shaped { (s : form_sort.Sort) (h : Head) (ts : List Node) (t : Node) → h.kind ≡ k → length ts ≡ kids →
+        is_shaped s (branch h (nodes_of ts)) ≡ true → slice_get ts i ≡ Some t → spec.IsKid (level k h.text) result t }
 {
     sort_in_form(form_of(k), kids, i)
 }

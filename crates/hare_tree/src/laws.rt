@@ -2,8 +2,8 @@
 
 ghost use Rattle.hare_tree.specs.Size.{ShapedTreesAreSmall, ShapedFilesAreSmall, TextsAreSpelled};
 
-/// A shaped tree has at most eight nodes for each of its tokens, and so has a file. What stands in the place of a kid that is not there counts as a
-/// node.
+/// A shaped tree has at most eight nodes for each of its tokens, and so has a file. What stands in the place of a kid that is not there
+/// counts as a node.
 #[tactic(auto, using(crate::proofs::Counts::shaped_trees_are_small, crate::proofs::Counts::shaped_files_are_small))]
 pub fn law_nodes_and_tokens()
     ensures trees { ShapedTreesAreSmall }

@@ -40,7 +40,8 @@ fn is_same(a: &[u8], b: &[u8]) -> bool
 
 /// The keywords that begin with this byte.
 fn keywords_like(first: u8) -> &'static [&'static [u8]]
-    ensures { (rest : List ℕ) → words.is_listed (map (λ w. w.now) result.now) (first ∷ rest) ≡ words.is_listed words.keywords (first ∷ rest) }
+    ensures { (rest : List ℕ) → words.is_listed (map (λ w. w.now) result.now) (first ∷ rest) ≡ words.is_listed words.keywords
+        (first ∷ rest) }
 {
     match first {
         b'a' => &[b"abort", b"align", b"alloc", b"append", b"as", b"assert"],
@@ -66,7 +67,8 @@ fn keywords_like(first: u8) -> &'static [&'static [u8]]
 
 /// The words of Hare that the language leaves out and that begin with this byte.
 fn left_out_like(first: u8) -> &'static [&'static [u8]]
-    ensures { (rest : List ℕ) → words.is_listed (map (λ w. w.now) result.now) (first ∷ rest) ≡ words.is_listed words.left_out (first ∷ rest) }
+    ensures { (rest : List ℕ) → words.is_listed (map (λ w. w.now) result.now) (first ∷ rest) ≡ words.is_listed words.left_out
+        (first ∷ rest) }
 {
     match first {
         b'_' => &[b"_"],

@@ -91,7 +91,8 @@ fn is_scalar_value(n: u128) -> bool
 
 // ---- paths
 
-/// How far a path is read: where the part in hand begins, whether it stands behind `::`, and whether the next byte is the second colon of one.
+/// How far a path is read: where the part in hand begins, whether it stands behind `::`, and whether the next byte is the second colon of
+/// one.
 #[derive(Clone, Copy)]
 struct Part {
     start: usize,
@@ -117,12 +118,16 @@ fn is_path(text: &[u8]) -> bool
     is_name(part.behind_path, &text[part.start..text.len()])
 }
 
-/// Takes one byte of a path: it goes on with a part, or is the first or the second colon of a `::`. None where the part that ends there is no name.
+/// Takes one byte of a path: it goes on with a part, or is the first or the second colon of a `::`. None where the part that ends there is
+/// no name.
 fn next_part(text: &[u8], i: usize, part: Part) -> Option<Part>
     requires begun { part.start ≤ i }
     requires empty { part.taken ≡ true → part.start ≡ i }
     requires within { i < length text.now }
-    ensures value { MatchOption result (names_left part.behind_path part.taken (slice_range text.now part.start i) (drop i text.now) ≡ false) (λ next. names_left next.behind_path next.taken (slice_range text.now next.start (i + 1)) (drop (i + 1) text.now) ≡ names_left part.behind_path part.taken (slice_range text.now part.start i) (drop i text.now)) }
+    ensures value { MatchOption result
+        (names_left part.behind_path part.taken (slice_range text.now part.start i) (drop i text.now) ≡ false)
+        (λ next. names_left next.behind_path next.taken (slice_range text.now next.start (i + 1)) (drop (i + 1) text.now) ≡ names_left
+        part.behind_path part.taken (slice_range text.now part.start i) (drop i text.now)) }
     ensures begun { IfSome result (λ next. next.start ≤ i + 1) }
     ensures empty { IfSome result (λ next. next.taken ≡ true → next.start ≡ i + 1) }
 {

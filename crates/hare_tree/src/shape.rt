@@ -1,5 +1,5 @@
-//! Which trees are shaped: each node has the kids of its form, what it says of itself is what its form asks for, operators obey precedence, and no
-//! kid goes on with the token behind it.
+//! Which trees are shaped: each node has the kids of its form, what it says of itself is what its form asks for, operators obey precedence,
+//! and no kid goes on with the token behind it.
 
 ghost use Rattle.std.specs.Prelude.{◌≡◌, ◌<◌, ◌+◌, ◌&&◌, not, true, length, drop, option_map, if◌then◌else◌};
 ghost use Rattle.hare_tree.specs.Node.{head, kids_of, nodes_of};
@@ -40,7 +40,8 @@ enum Step {
 
 /// Where a tree ends, if it is of this sort, shaped and no higher than so many nodes.
 ///
-/// The call goes no deeper in the host than the tree is high, nodes counted, and three levels more for each: a tree that is of no sort is not looked into.
+/// The call goes no deeper in the host than the tree is high, nodes counted, and three levels more for each: a tree that is of no sort is
+/// not looked into.
 #[cycle(shape)]
 pub fn judged_tree(t: &Tree, sort: Sort, room: usize) -> Option<Ends>
     ensures { result ≡ spec.judged_tree room sort t.now }
@@ -84,7 +85,8 @@ fn judged_kids(t: &Tree, room: usize) -> Option<Ends>
 #[cycle(shape)]
 fn judged_piece(t: &Tree, form: &[Piece], j: usize, at: At, room: usize) -> Option<Step>
     requires { j < length form.now }
-    ensures { spec.judged_behind room (head t.now) (drop (j + 1) form.now) (kids_of t.now) result ≡ spec.judged room (head t.now) at.ends (drop j form.now) (nodes_from at.kid (kids_of t.now)) }
+    ensures { spec.judged_behind room (head t.now) (drop (j + 1) form.now) (kids_of t.now) result ≡ spec.judged room (head t.now) at.ends
+        (drop j form.now) (nodes_from at.kid (kids_of t.now)) }
 {
     let behind = form.split_at(j + 1).1;
     let piece = form[j];
@@ -164,7 +166,8 @@ fn valued(at: At, t: &Tree) -> At
 /// Judges the next kid: it is of the sort, and ends before the sign that stands behind it.
 #[cycle(shape)]
 fn judged_first(t: &Tree, behind: &[Piece], i: usize, sort: Sort, room: usize) -> Option<At>
-    ensures { result ≡ spec.judged_first room sort (shape.behind_kid behind.now (shape.edges (nodes_from (i + 1) (kids_of t.now)))) i (nodes_from i (kids_of t.now)) }
+    ensures { result ≡ spec.judged_first room sort (shape.behind_kid behind.now (shape.edges (nodes_from (i + 1) (kids_of t.now)))) i
+        (nodes_from i (kids_of t.now)) }
 {
     if t.kids.len() <= i {
         return None;
@@ -180,7 +183,8 @@ fn judged_first(t: &Tree, behind: &[Piece], i: usize, sort: Sort, room: usize) -
 /// Judges the next kid, which may be absent: then what stands before it ends there.
 #[cycle(shape)]
 fn judged_optional(t: &Tree, behind: &[Piece], at: At, sort: Sort, room: usize) -> Option<At>
-    ensures { result ≡ spec.judged_optional room sort (shape.behind_kid behind.now (shape.edges (nodes_from (at.kid + 1) (kids_of t.now)))) at (nodes_from at.kid (kids_of t.now)) }
+    ensures { result ≡ spec.judged_optional room sort (shape.behind_kid behind.now (shape.edges (nodes_from (at.kid + 1) (kids_of t.now))))
+        at (nodes_from at.kid (kids_of t.now)) }
 {
     if t.kids.len() <= at.kid {
         return None;

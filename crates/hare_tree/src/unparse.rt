@@ -22,8 +22,8 @@ use std::alloc::{AllocError, Global};
 
 /// The tokens of a file's tree, the last of them End. Each has line 1 and column 1 of the tree's file as its place.
 ///
-/// A tree whose kids are not those of its form is spelled as well: a kid that is missing has no tokens, and a kid too many is passed over. What
-/// is left to be put stands on the heap, so the call goes no deeper in the host for a deep tree.
+/// A tree whose kids are not those of its form is spelled as well: a kid that is missing has no tokens, and a kid too many is passed over.
+/// What is left to be put stands on the heap, so the call goes no deeper in the host for a deep tree.
 pub fn spell(alloc: Global, t: &FileTree) -> Result<Tokens, AllocError>
     ensures { IfOk result (λ ts. ts ≡ spec.spell_file t.now) }
 {
@@ -58,7 +58,8 @@ fn put_entry<'a>(
     entry: Entry<'a>,
     left: &mut Vec<Entry<'a>>,
 ) -> Result<(), AllocError>
-    ensures tokens { OnOk result (out.new ++ left_tokens file left.new.items ≡ out.old ++ (entry_tokens file entry.entry ++ left_tokens file left.old.items)) }
+    ensures tokens { OnOk result (out.new ++ left_tokens file left.new.items ≡ out.old ++
+        (entry_tokens file entry.entry ++ left_tokens file left.old.items)) }
     ensures weight { OnOk result (left_weight left.new.items < left_weight left.old.items + entry_weight entry.entry) }
 {
     match entry {
@@ -76,7 +77,8 @@ fn put_pieces<'a>(
     pieces: Pieces<'a>,
     left: &mut Vec<Entry<'a>>,
 ) -> Result<(), AllocError>
-    ensures tokens { OnOk result (out.new ++ left_tokens file left.new.items ≡ out.old ++ (form_tokens file pieces.entry ++ left_tokens file left.old.items)) }
+    ensures tokens { OnOk result (out.new ++ left_tokens file left.new.items ≡ out.old ++
+        (form_tokens file pieces.entry ++ left_tokens file left.old.items)) }
     ensures weight { OnOk result (left_weight left.new.items < left_weight left.old.items + form_weight pieces.entry) }
 {
     let tree = pieces.tree;
@@ -102,8 +104,12 @@ fn put_piece<'a>(
     piece: Piece,
     left: &mut Vec<Entry<'a>>,
 ) -> Result<(), AllocError>
-    ensures tokens { OnOk result (out.new ++ left_tokens file left.new.items ≡ out.old ++ (spec.piece_tokens file (head at.entry.tree.now) piece (drop at.entry.kid (spec.kids_spelled file at.entry.tree.now)) ++ left_tokens file left.old.items)) }
-    ensures weight { OnOk result (left_weight left.new.items + weights (nodes_from (kid_behind piece at.entry.kid (count_of (kids_of at.entry.tree.now))) (kids_of at.entry.tree.now)) ≤ left_weight left.old.items + weights (nodes_from at.entry.kid (kids_of at.entry.tree.now))) }
+    ensures tokens { OnOk result (out.new ++ left_tokens file left.new.items ≡ out.old ++
+        (spec.piece_tokens file (head at.entry.tree.now) piece (drop at.entry.kid (spec.kids_spelled file at.entry.tree.now)) ++
+        left_tokens file left.old.items)) }
+    ensures weight { OnOk result (left_weight left.new.items + weights
+        (nodes_from (kid_behind piece at.entry.kid (count_of (kids_of at.entry.tree.now))) (kids_of at.entry.tree.now)) ≤ left_weight
+        left.old.items + weights (nodes_from at.entry.kid (kids_of at.entry.tree.now))) }
 {
     let tree = at.tree;
     let kids = &tree.kids;

@@ -54,7 +54,8 @@ fn stands_alone(k: Kind) -> bool
 
 /// Leaves a tree to be put, with the sign that stands with it.
 fn leave_tree<'a>(left: &mut Vec<Entry<'a>>, tree: &'a Tree, lead: Lead) -> Result<(), AllocError>
-    ensures tokens { OnOk result ((f : ℕ) → left_tokens f left.new.items ≡ spec.with_lead f lead (spec.spelled_kid f tree.now) ++ left_tokens f left.old.items) }
+    ensures tokens { OnOk result ((f : ℕ) → left_tokens f left.new.items ≡ spec.with_lead f lead (spec.spelled_kid f tree.now) ++
+        left_tokens f left.old.items) }
     ensures weight { OnOk result (left_weight left.new.items ≤ left_weight left.old.items + suc (weight tree.now)) }
 {
     let pieces = Entry::Pieces(Pieces {
@@ -87,9 +88,12 @@ pub fn leave_one<'a>(
     i: usize,
     lead: Lead,
 ) -> Result<(), AllocError>
-    ensures tokens { OnOk result ((f : ℕ) → left_tokens f left.new.items ≡ spec.one_led f lead (drop i (spec.spells f (nodes_of kids.now))) ++ left_tokens f left.old.items) }
-    ensures weight { OnOk result (left_weight left.new.items + weights (nodes_from (i + 1) (nodes_of kids.now)) ≤ left_weight left.old.items + weights (nodes_from i (nodes_of kids.now))) }
-    ensures lighter { OnOk result (i < length kids.now → left_weight left.new.items + weights (nodes_from (i + 1) (nodes_of kids.now)) < left_weight left.old.items + weights (nodes_from i (nodes_of kids.now))) }
+    ensures tokens { OnOk result ((f : ℕ) → left_tokens f left.new.items ≡ spec.one_led f lead (drop i (spec.spells f (nodes_of kids.now)))
+        ++ left_tokens f left.old.items) }
+    ensures weight { OnOk result (left_weight left.new.items + weights (nodes_from (i + 1) (nodes_of kids.now)) ≤ left_weight left.old.items
+        + weights (nodes_from i (nodes_of kids.now))) }
+    ensures lighter { OnOk result (i < length kids.now → left_weight left.new.items + weights (nodes_from (i + 1) (nodes_of kids.now)) <
+        left_weight left.old.items + weights (nodes_from i (nodes_of kids.now))) }
 {
     match kids.get(i) {
         Some(t) => leave_tree(left, t, lead),
@@ -104,7 +108,8 @@ pub fn leave_row<'a>(
     from: usize,
     lead: Lead,
 ) -> Result<(), AllocError>
-    ensures tokens { OnOk result ((f : ℕ) → left_tokens f left.new.items ≡ spec.all_led f lead (drop from (spec.spells f (nodes_of kids.now))) ++ left_tokens f left.old.items) }
+    ensures tokens { OnOk result ((f : ℕ) → left_tokens f left.new.items ≡ spec.all_led f lead
+        (drop from (spec.spells f (nodes_of kids.now))) ++ left_tokens f left.old.items) }
     ensures weight { OnOk result (left_weight left.new.items ≤ left_weight left.old.items + weights (nodes_from from (nodes_of kids.now))) }
 {
     if kids.len() <= from {
@@ -124,7 +129,8 @@ pub fn leave_listed<'a>(
     kids: &'a Kids,
     from: usize,
 ) -> Result<(), AllocError>
-    ensures tokens { OnOk result ((f : ℕ) → left_tokens f left.new.items ≡ spec.listed f (drop from (spec.spells f (nodes_of kids.now))) ++ left_tokens f left.old.items) }
+    ensures tokens { OnOk result ((f : ℕ) → left_tokens f left.new.items ≡ spec.listed f (drop from (spec.spells f (nodes_of kids.now))) ++
+        left_tokens f left.old.items) }
     ensures weight { OnOk result (left_weight left.new.items ≤ left_weight left.old.items + weights (nodes_from from (nodes_of kids.now))) }
 {
     if kids.len() <= from {

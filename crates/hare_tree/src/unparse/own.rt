@@ -25,7 +25,8 @@ fn put_path(out: &mut Tokens, alloc: Global, file: u32, text: &[u8]) -> Result<(
     put_word(out, alloc, file, TokenKind::Name, part.bytes())
 }
 
-/// Takes one byte of a path: it goes on with a part, or is the first or the second colon of a `::`. Says whether the next byte is a second colon.
+/// Takes one byte of a path: it goes on with a part, or is the first or the second colon of a `::`. Says whether the next byte is a second
+/// colon.
 fn put_path_byte(
     out: &mut Tokens,
     alloc: Global,
@@ -36,7 +37,8 @@ fn put_path_byte(
     taken: bool,
 ) -> Result<bool, AllocError>
     requires { i < length text.now }
-    ensures { IfOk result (λ next. out.new ++ spec.path_tokens file (spec.parts_from next part.new (drop (i + 1) text.now)) ≡ out.old ++ spec.path_tokens file (spec.parts_from taken part.old (drop i text.now))) }
+    ensures { IfOk result (λ next. out.new ++ spec.path_tokens file (spec.parts_from next part.new (drop (i + 1) text.now)) ≡ out.old ++
+        spec.path_tokens file (spec.parts_from taken part.old (drop i text.now))) }
 {
     if taken {
         return Ok(false);

@@ -8,7 +8,8 @@ use Rattle.hare_tree.proofs.depth.+depth.Goals as goal
 
 pub kid_keeps-keeps_limits-requires : goal.kid_keeps-keeps_limits-requires
 kid_keeps-keeps_limits-requires t c =
-    let h : size_of c.in-Some.kid.now < sizes_of (nodes_of c.args.kids.now) = kid_size c.args.kids.now c.args.i c.in-Some.kid.now c.in-Some.ensures.found in
+    let h : size_of c.in-Some.kid.now < sizes_of (nodes_of c.args.kids.now) =
+    kid_size c.args.kids.now c.args.i c.in-Some.kid.now c.in-Some.ensures.found in
     (omega arith, omega arith)
 
 pub kid_keeps-returns-in-Some : goal.kid_keeps-returns-in-Some
@@ -26,28 +27,34 @@ keeps_limits-returns-then-opened-ge-LIMIT t c =
 pub keeps_limits-returns-in_default : goal.keeps_limits-returns-in_default
 keeps_limits-returns-in_default t c =
     let p = c.in_default.ensures in
-    sym (keeps-full _ _ c.args.room c.args.opened c.args.is_left p.0 p.1) ∙ ap (keeps_low c.args.room c.args.opened c.args.is_left) c.t.view_is
+    sym (keeps-full _ _ c.args.room c.args.opened c.args.is_left p.0 p.1) ∙ ap (keeps_low c.args.room c.args.opened c.args.is_left)
+    c.t.view_is
 
 pub keeps_limits-returns-then-kid_keeps : goal.keeps_limits-returns-then-kid_keeps
 keeps_limits-returns-then-kid_keeps t c =
-    keeps-then _ _ c.args.room c.in-Some.room c.args.opened c.args.is_left _ _ _ _ _ _ c.else-is_node.either c.is_node.ensures c.in-Some.ensures c.left_room.ensures c.open_within-opened.ensures c.is_operator.ensures c.kid_keeps.ensures c.if-kid_keeps.true c.others_keep.ensures
+    keeps-then _ _ c.args.room c.in-Some.room c.args.opened c.args.is_left _ _ _ _ _ _ c.else-is_node.either c.is_node.ensures
+    c.in-Some.ensures c.left_room.ensures c.open_within-opened.ensures c.is_operator.ensures c.kid_keeps.ensures c.if-kid_keeps.true
+    c.others_keep.ensures
     ∙ ap (keeps_low c.args.room c.args.opened c.args.is_left) c.t.view_is
 
 pub keeps_limits-returns-else-kid_keeps : goal.keeps_limits-returns-else-kid_keeps
 keeps_limits-returns-else-kid_keeps t c =
-    keeps-else _ _ c.args.room c.in-Some.room c.args.opened c.args.is_left _ _ _ _ _ c.else-is_node.either c.is_node.ensures c.in-Some.ensures c.left_room.ensures c.open_within-opened.ensures c.is_operator.ensures c.kid_keeps.ensures c.if-kid_keeps.false
+    keeps-else _ _ c.args.room c.in-Some.room c.args.opened c.args.is_left _ _ _ _ _ c.else-is_node.either c.is_node.ensures
+    c.in-Some.ensures c.left_room.ensures c.open_within-opened.ensures c.is_operator.ensures c.kid_keeps.ensures c.if-kid_keeps.false
     ∙ ap (keeps_low c.args.room c.args.opened c.args.is_left) c.t.view_is
 
 pub others_keep-returns-then-not-kid_keeps : goal.others_keep-returns-then-not-kid_keeps
 others_keep-returns-then-not-kid_keeps t c =
     let step = keep_low-step c.args.kids.now c.loop-i.i c.args.room c.args.opened (omega arith) in
-    let first : kid_keeps c.args.room c.args.opened false (nodes_from c.loop-i.i (nodes_of c.args.kids.now)) ≡ false = sym c.kid_keeps.ensures ∙ c.if-not-kid_keeps.true in
+    let first : kid_keeps c.args.room c.args.opened false (nodes_from c.loop-i.i (nodes_of c.args.kids.now)) ≡ false =
+    sym c.kid_keeps.ensures ∙ c.if-not-kid_keeps.true in
     sym (rw first at step) ∙ c.loop-i.invariant
 
 pub others_keep-loop-i-preserved : goal.others_keep-loop-i-preserved
 others_keep-loop-i-preserved t c =
     let step = keep_low-step c.args.kids.now c.loop-i.i c.args.room c.args.opened (omega arith) in
-    let first : kid_keeps c.args.room c.args.opened false (nodes_from c.loop-i.i (nodes_of c.args.kids.now)) ≡ true = sym c.kid_keeps.ensures ∙ c.if-not-kid_keeps.false in
+    let first : kid_keeps c.args.room c.args.opened false (nodes_from c.loop-i.i (nodes_of c.args.kids.now)) ≡ true =
+    sym c.kid_keeps.ensures ∙ c.if-not-kid_keeps.false in
     sym (rw first at step) ∙ c.loop-i.invariant
 
 pub others_keep-returns : goal.others_keep-returns

@@ -10,7 +10,8 @@ returns-in_err-kind c = c.from_residual.ensures ∙ (sym (item-absent _ (sym c.i
 
 pub returns-then-not-is_none : goal.returns-then-not-is_none
 returns-then-not-is_none c =
-    c.comma_before.ensures ∙ (sym (item-there _ _ (sym c.in_ok-kind.ensures.value) (sym c.is_none.ensures ∙ c.if-not-is_none.true)) ∙ c.loop-i.invariant)
+    c.comma_before.ensures ∙ (sym (item-there _ _ (sym c.in_ok-kind.ensures.value) (sym c.is_none.ensures ∙ c.if-not-is_none.true)) ∙
+    c.loop-i.invariant)
 
 pub loop-i-preserved : goal.loop-i-preserved
 loop-i-preserved c =

@@ -9,4 +9,5 @@ returns-then-len-i-clause-value c = ap first_kind (sym (nodes_from-past c.args.k
 
 pub returns-in-Some-clause-value : goal.returns-in-Some-clause-value
 returns-in-Some-clause-value c =
-    ap (λ t. Some (head t).kind) c.kid.view_is ∙ ap first_kind (sym (nodes_from-get c.args.kids.now c.args.i c.in-Some.kid.now c.in-Some.ensures.found))
+    ap (λ t. Some (head t).kind) c.kid.view_is ∙ ap first_kind
+    (sym (nodes_from-get c.args.kids.now c.args.i c.in-Some.kid.now c.in-Some.ensures.found))

@@ -11,7 +11,9 @@ loop-piece-preserved c =
     let i = c.loop-piece.number in
     let lt = c.loop-piece-test.true in
     elim c.match-piece.branch [
-      | in-Fixed w ↦ rw (w.left-is, w.number-is) (elim w.in-Fixed.is [ inl e ↦ step-fixed form j n i _ e.0 lt e.1 | inr e ↦ step-own form j n i _ e.0 lt e.1 ] ∙ c.loop-piece.invariant)
+      | in-Fixed w ↦ rw (w.left-is, w.number-is)
+          (elim w.in-Fixed.is [ inl e ↦ step-fixed form j n i _ e.0 lt e.1 | inr e ↦ step-own form j n i _ e.0 lt e.1 ] ∙
+          c.loop-piece.invariant)
       | in-Kid+else-number-eq0 w ↦ rw (w.left-is, w.saturating_sub-left.ensures, w.number-is)
           (elim w.in-Kid.is [
             | inl e ↦ step-kid form j n i _ _ lt w.if-number-eq0.false e

@@ -10,5 +10,6 @@ abbrev pub invariant-loop-i : goal.invariant-loop-i
 invariant-loop-i l = record {
   begun : l.part.start ≤ l.i;
   empty : l.part.taken ≡ true → l.part.start ≡ l.i;
-  same : names_left l.part.behind_path l.part.taken (slice_range l.text l.part.start l.i) (drop l.i l.text) ≡ are_names false (parts l.text);
+  same : names_left l.part.behind_path l.part.taken (slice_range l.text l.part.start l.i) (drop l.i l.text) ≡ are_names false
+      (parts l.text);
 }

@@ -15,9 +15,11 @@ invariant-more_low-loop-i l =
 
 abbrev pub invariant-more_elements_low-loop-i : goal.invariant-more_elements_low-loop-i
 invariant-more_elements_low-loop-i l =
-    more_elements_low l.room l.sort (nodes_from l.i (nodes_of l.kids)) ≡ more_elements_low l.room l.sort (nodes_from l.from (nodes_of l.kids))
+    more_elements_low l.room l.sort (nodes_from l.i (nodes_of l.kids)) ≡ more_elements_low l.room l.sort
+    (nodes_from l.from (nodes_of l.kids))
 
 -- the pieces and the kids from here on are judged as all are
 abbrev pub invariant-judged_kids-loop-j : goal.invariant-judged_kids-loop-j
 invariant-judged_kids-loop-j l =
-    judged l.room (head l.t) l.at.ends (drop l.j (form_of (head l.t).kind)) (nodes_from l.at.kid (kids_of l.t)) ≡ judged l.room (head l.t) both (form_of (head l.t).kind) (kids_of l.t)
+    judged l.room (head l.t) l.at.ends (drop l.j (form_of (head l.t).kind)) (nodes_from l.at.kid (kids_of l.t)) ≡ judged l.room (head l.t)
+    both (form_of (head l.t).kind) (kids_of l.t)

@@ -6,7 +6,8 @@ use Rattle.hare_tree.proofs.shape.is_comma_at.Goals as goal
 
 pub returns-in-Some : goal.returns-in-Some
 returns-in-Some c =
-    c.is_last_comma.ensures ∙ ap (first_is is_none_or_comma) (sym (nodes_from-get c.args.kids.now c.args.i c.in-Some.t.now c.in-Some.ensures.found))
+    c.is_last_comma.ensures ∙ ap (first_is is_none_or_comma)
+    (sym (nodes_from-get c.args.kids.now c.args.i c.in-Some.t.now c.in-Some.ensures.found))
 
 pub returns-in-None : goal.returns-in-None
 returns-in-None c = ap (first_is is_none_or_comma) (sym (nodes_from-past c.args.kids.now c.args.i c.in-None.ensures.none))

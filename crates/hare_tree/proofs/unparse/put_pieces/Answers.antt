@@ -20,9 +20,13 @@ returns-clause-tokens c =
     let p : Pieces = record { tree = c.args.pieces.tree; piece = c.args.pieces.piece + 1; kid = c.kid_behind.result } in
     let is : ps ≡ form_of (head tree).kind = c.form_of-form.ensures ∙ ap (λ t. form_of (head t).kind) c.tree.view_is in
     let within : c.args.pieces.piece < length (form_of (head tree).kind) = omega (arith, ap length is) in
-    let count : c.len.result ≡ length (kids_spelled c.args.file tree) = c.len.ensures ∙ sym (length-kids_spelled c.args.file _ c.tree.inside.kids tree c.tree.view_is) in
+    let count : c.len.result ≡ length (kids_spelled c.args.file tree) =
+    c.len.ensures ∙ sym (length-kids_spelled c.args.file _ c.tree.inside.kids tree c.tree.view_is) in
     let put = c.put_piece.new.out ++ left_tokens c.args.file c.put_piece.new.left.items in
-    on_ok_weaker c.put_piece.result (form-left c.args.file c.args.pieces p x (pi.Fixed si.Abort) c.len.result _ _ c.args.out.now put refl refl c.kid_behind.ensures count within (ap (λ qs. get_or qs c.args.pieces.piece (pi.Fixed si.Abort)) is) c.in_ok-push.ensures.items) c.put_piece.ensures.tokens
+    on_ok_weaker c.put_piece.result
+    (form-left c.args.file c.args.pieces p x (pi.Fixed si.Abort) c.len.result _ _ c.args.out.now put refl refl c.kid_behind.ensures
+    count within (ap (λ qs. get_or qs c.args.pieces.piece (pi.Fixed si.Abort)) is) c.in_ok-push.ensures.items)
+    c.put_piece.ensures.tokens
 
 pub returns-clause-weight : goal.returns-clause-weight
 returns-clause-weight c =
@@ -32,5 +36,8 @@ returns-clause-weight c =
     let p : Pieces = record { tree = c.args.pieces.tree; piece = c.args.pieces.piece + 1; kid = c.kid_behind.result } in
     let is : ps ≡ form_of (head tree).kind = c.form_of-form.ensures ∙ ap (λ t. form_of (head t).kind) c.tree.view_is in
     let within : c.args.pieces.piece < length (form_of (head tree).kind) = omega (arith, ap length is) in
-    let count : c.len.result ≡ count_of (kids_of tree) = c.len.ensures ∙ sym (count-nodes c.tree.inside.kids) ∙ ap count_of (sym (kids_of-open _ _ _ c.tree.view_is)) in
-    on_ok_weaker c.put_piece.result (form-weight c.args.pieces p x c.len.result (left_weight c.put_piece.new.left.items) _ _ refl refl c.kid_behind.ensures count within c.in_ok-push.ensures.items) c.put_piece.ensures.weight
+    let count : c.len.result ≡ count_of (kids_of tree) =
+    c.len.ensures ∙ sym (count-nodes c.tree.inside.kids) ∙ ap count_of (sym (kids_of-open _ _ _ c.tree.view_is)) in
+    on_ok_weaker c.put_piece.result
+    (form-weight c.args.pieces p x c.len.result (left_weight c.put_piece.new.left.items) _ _ refl refl c.kid_behind.ensures count within
+    c.in_ok-push.ensures.items) c.put_piece.ensures.weight

@@ -6,5 +6,6 @@ use Rattle.hare_tree.proofs.tokens.Tokens.drop_last.Goals as goal
 
 pub returns : goal.returns
 returns c =
-    let e : c.pop.new.self.items ≡ take (length c.self.inside.tokens.items - 1) c.self.inside.tokens.items = grind (arith, common_steps, c.pop.ensures.rest) in
+    let e : c.pop.new.self.items ≡ take (length c.self.inside.tokens.items - 1) c.self.inside.tokens.items =
+    grind (arith, common_steps, c.pop.ensures.rest) in
     e ∙ sym (before_end_is c.self.inside.tokens.items) ∙ ap before_end c.self.view_is

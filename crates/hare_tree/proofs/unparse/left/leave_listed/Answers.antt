@@ -15,7 +15,8 @@ returns-then-len-from-clause-tokens c = λ f.
 pub returns-clause-tokens : goal.returns-clause-tokens
 returns-clause-tokens c =
     let r : Row = record { kids = c.args.kids; from = c.args.from + 1; lead = le.Before si.Comma } in
-    on_ok_weaker c.leave_one.result (rows-left r c.args.from _ _ c.leave_one.new.left.items refl refl c.in_ok-push.ensures.items) c.leave_one.ensures.tokens
+    on_ok_weaker c.leave_one.result (rows-left r c.args.from _ _ c.leave_one.new.left.items refl refl c.in_ok-push.ensures.items)
+    c.leave_one.ensures.tokens
 
 pub returns-clause-weight : goal.returns-clause-weight
 returns-clause-weight c =

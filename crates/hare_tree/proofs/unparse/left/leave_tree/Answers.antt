@@ -33,13 +33,19 @@ returns-in_ok-push-in-Before-2-clause-tokens c = λ f.
     let p : Pieces = record { tree = c.args.tree; piece = 0; kid = 0 } in
     let kind = ap (λ t. (head t).kind) c.tree.view_is in
     let alone : spec.stands_alone (head c.args.tree.now).kind ≡ false = cc in
-    leave-before f c.args.lead c.in-Before.s p _ _ _ refl refl alone c.in-Before.is c.in_ok-push-in-Before.ensures.items c.in_ok-push-in-Before-2.ensures.items
+    leave-before f c.args.lead c.in-Before.s p _ _ _ refl refl alone c.in-Before.is c.in_ok-push-in-Before.ensures.items
+    c.in_ok-push-in-Before-2.ensures.items
 
 pub returns-in_ok-push-in-Before-2-clause-weight :
     goal.returns-in_ok-push-in-Before-2-clause-weight
 returns-in_ok-push-in-Before-2-clause-weight c =
     let p : Pieces = record { tree = c.args.tree; piece = 0; kid = 0 } in
-    omega (arith, weight-tree p _ _ refl refl c.in_ok-push-in-Before.ensures.items, weight-sign c.in-Before.s _ _ c.in_ok-push-in-Before-2.ensures.items)
+    omega (
+      arith,
+      weight-tree p _ _ refl refl c.in_ok-push-in-Before.ensures.items,
+      weight-sign c.in-Before.s _ _
+          c.in_ok-push-in-Before-2.ensures.items,
+    )
 
 pub returns-in_ok-push-in-Behind-2-clause-tokens :
     goal.returns-in_ok-push-in-Behind-2-clause-tokens
@@ -47,10 +53,16 @@ returns-in_ok-push-in-Behind-2-clause-tokens c = λ f.
     let p : Pieces = record { tree = c.args.tree; piece = 0; kid = 0 } in
     let kind = ap (λ t. (head t).kind) c.tree.view_is in
     let alone : spec.stands_alone (head c.args.tree.now).kind ≡ false = cc in
-    leave-behind f c.args.lead c.in-Behind.s p _ _ _ refl refl alone c.in-Behind.is c.in_ok-push-in-Behind.ensures.items c.in_ok-push-in-Behind-2.ensures.items
+    leave-behind f c.args.lead c.in-Behind.s p _ _ _ refl refl alone c.in-Behind.is c.in_ok-push-in-Behind.ensures.items
+    c.in_ok-push-in-Behind-2.ensures.items
 
 pub returns-in_ok-push-in-Behind-2-clause-weight :
     goal.returns-in_ok-push-in-Behind-2-clause-weight
 returns-in_ok-push-in-Behind-2-clause-weight c =
     let p : Pieces = record { tree = c.args.tree; piece = 0; kid = 0 } in
-    omega (arith, weight-sign c.in-Behind.s _ _ c.in_ok-push-in-Behind.ensures.items, weight-tree p _ _ refl refl c.in_ok-push-in-Behind-2.ensures.items)
+    omega (
+      arith,
+      weight-sign c.in-Behind.s _ _ c.in_ok-push-in-Behind.ensures.items,
+      weight-tree p _ _ refl refl
+          c.in_ok-push-in-Behind-2.ensures.items,
+    )
