@@ -6,8 +6,9 @@ use Rattle.std.proofs.lemmas.List.Sums.{sum_by-cons, sum_by_more_le}
 use Rattle.std.proofs.lemmas.Option.{get_or_from_slice_get, slice_get_within}
 use Rattle.hx_base.specs.Memory.{Memory, le_bytes, byte_at, bytes_at, is_mapped, write}
 use Rattle.hx_base.specs.Runtime.{record_size, argument_size, argument_records, write_arguments}
-use Rattle.hx_base.proofs.MemoryLemmas.{Inside, inside, outside, inside_of, byte_at-write_outside, bytes_at-write, bytes_at-same}
-use Rattle.hx_base.proofs.RangeLemmas.{bytes_at-write_inside}
+use Rattle.hx_base.proofs.Memory.Ranges.{Inside, inside, outside, inside_of}
+use Rattle.hx_base.proofs.Memory.Agreeing.{bytes_at-same}
+use Rattle.hx_base.proofs.Memory.Written.{byte_at-write_outside, bytes_at-write, bytes_at-write_inside}
 
 -- where the bytes of an argument begin, where those of the first do at an address
 abbrev pub text_at : ℕ → List (List ℕ) → ℕ → ℕ

@@ -4,8 +4,11 @@ use Rattle.std.specs.Prelude.{flat_map, sum_by, slice_get}
 use Rattle.std.proofs.lemmas.List.{length-append, length-replicate}
 use Rattle.std.proofs.lemmas.List.Sums.{sum_by-cons}
 use Rattle.hx_base.specs.Memory.{Memory, byte_at, bytes_at, is_mapped, all_mapped, write, round_up}
-use Rattle.hx_base.proofs.MemoryLemmas.{Inside, inside, outside, inside_of, byte_at-write_outside, bytes_at-write, bytes_at-same, length-le_bytes}
-use Rattle.hx_base.proofs.RangeLemmas.{bytes_at-map_range, is_mapped-map_range_outside, all_mapped-map_range_inside, all_mapped-alike}
+use Rattle.hx_base.proofs.Memory.Ranges.{Inside, inside, outside, inside_of}
+use Rattle.hx_base.proofs.Memory.Agreeing.{bytes_at-same, all_mapped-alike}
+use Rattle.hx_base.proofs.Memory.Written.{byte_at-write_outside, bytes_at-write, bytes_at-map_range}
+use Rattle.hx_base.proofs.Memory.Mapped.{is_mapped-map_range_outside, all_mapped-map_range_inside}
+use Rattle.hx_base.proofs.Memory.Numbers.{length-le_bytes}
 use Rattle.flat_code.specs.declared.program.Data.{Data}
 use Rattle.flat_code.specs.declared.program.FlatProgram.{FlatProgram}
 use Rattle.flat_code.specs.declared.program.Item.{Item}

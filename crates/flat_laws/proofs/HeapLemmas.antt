@@ -5,7 +5,7 @@ use Rattle.std.proofs.lemmas.Bool.Decides.{nat_tests}
 use Rattle.std.proofs.lemmas.List.Elements.{All-cons}
 use Rattle.hx_base.specs.Memory.{round_up}
 use Rattle.hx_base.specs.Runtime.{block_size, without_block, new_block}
-use Rattle.hx_base.proofs.HeapLemmas.{AreApart, without_block-apart}
+use Rattle.hx_base.proofs.Memory.Blocks.{AreApart, without_block-apart}
 use Rattle.flat_code.specs.State.{State}
 use Rattle.flat_laws.specs.Runs.{OfAllCode}
 use Rattle.flat_laws.specs.Heaps.{BeginApart, IsBlock, IsHeapKept, KeepsTheHeap}

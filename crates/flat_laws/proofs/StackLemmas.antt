@@ -4,7 +4,7 @@ use Rattle.std.specs.Prelude.{nat_lt}
 use Rattle.std.proofs.lemmas.Bool.Decides.{nat_tests}
 use Rattle.hx_base.specs.Memory.{Memory, round_up, byte_at, is_mapped}
 use Rattle.hx_base.specs.Runtime.{heap_start, block_size, new_block}
-use Rattle.hx_base.proofs.RangeLemmas.{is_mapped-map_range_inside as map_in, is_mapped-map_range_outside as map_out, is_mapped-unmap_range_inside as unmap_in, is_mapped-unmap_range_outside as unmap_out}
+use Rattle.hx_base.proofs.Memory.Mapped.{is_mapped-map_range_inside as map_in, is_mapped-map_range_outside as map_out, is_mapped-unmap_range_inside as unmap_in, is_mapped-unmap_range_outside as unmap_out}
 use Rattle.flat_code.specs.declared.program.FlatFn.{FlatFn}
 use Rattle.flat_code.specs.Shape.{code_of}
 use Rattle.flat_code.specs.State.{State, Result}

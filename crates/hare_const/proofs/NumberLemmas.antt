@@ -7,8 +7,7 @@ use lib.Signed.{mag}
 use mir.Syntax.{w128}
 use Rattle.hx_base.specs.Memory.{le_bytes, le_number}
 use Rattle.hx_base.specs.Numbers.{residue}
-use Rattle.hx_base.proofs.NumberLemmas.{slice_get-le_bytes}
-use Rattle.hx_base.proofs.MemoryLemmas.{length-le_bytes}
+use Rattle.hx_base.proofs.Memory.Numbers.{slice_get-le_bytes, length-le_bytes}
 use Rattle.hare_types.specs.Store.{Store}
 use Rattle.hare_types.specs.declared.coercion.Ty.{Ty}
 use Rattle.hare_types.specs.declared.coercion.Ty.TheVariants as ty

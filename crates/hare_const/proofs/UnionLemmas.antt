@@ -4,7 +4,7 @@ use Rattle.std.specs.Prelude.{pos, Option, Some, None, IsSome, option_map, unwra
 use Rattle.std.proofs.lemmas.List.{length-replicate, replicate-append-replicate, drop_at, length-map}
 use Rattle.std.proofs.Math.Nat.{mod-eq_of_lt}
 use Rattle.hx_base.specs.Memory.{le_bytes}
-use Rattle.hx_base.proofs.MemoryLemmas.{length-le_bytes}
+use Rattle.hx_base.proofs.Memory.Numbers.{length-le_bytes}
 use Rattle.hare_typed.specs.declared.cell.Cell.{Cell}
 use Rattle.hare_typed.specs.declared.cell.Cell.TheVariants as cell
 use Rattle.hare_typed.specs.Cells.{with_cells, undefined_cells, byte_cells}

@@ -4,7 +4,7 @@ use Rattle.std.specs.Prelude.{slice_get, slice_index}
 use Rattle.std.proofs.lemmas.Option.{same_Some}
 use Rattle.hx_base.specs.Memory.{Memory, empty_memory, write, map_range, le_bytes, bytes_at, all_mapped}
 use Rattle.hx_base.specs.Runtime.{World, heap_start, with_arguments}
-use Rattle.hx_base.proofs.MemoryLemmas.{all_mapped-each}
+use Rattle.hx_base.proofs.Memory.Ranges.{all_mapped-each}
 use Rattle.hare_tree.specs.declared.kind.Kind.TheVariants as kind
 use Rattle.hare_types.specs.declared.coercion.Ty.TheVariants as kept
 use Rattle.hare_typed.specs.declared.cell.Cell.{Cell}

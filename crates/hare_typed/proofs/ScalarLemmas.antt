@@ -9,8 +9,8 @@ use Rattle.std.proofs.Math.Nat.{mod-eq_of_lt, one-le-pow, pow-suc}
 use Rattle.std.proofs.lemmas.Nat.{pow-add}
 use Rattle.hx_base.specs.Memory.{le_bytes, le_number}
 use Rattle.hx_base.specs.Numbers.{residue, with_sign, wrap}
-use Rattle.hx_base.proofs.MemoryLemmas.{length-le_bytes, le_number-le_bytes}
-use Rattle.hx_base.proofs.NumberLemmas.{le_number-below, le_bytes-le_number, residue-below}
+use Rattle.hx_base.proofs.Memory.Numbers.{length-le_bytes, le_number-le_bytes, le_number-below, le_bytes-le_number}
+use Rattle.hx_base.proofs.NumberLemmas.{residue-below}
 use Rattle.hare_typed.specs.declared.cell.Cell.{Cell}
 use Rattle.hare_typed.specs.declared.cell.Cell.TheVariants as cell
 use Rattle.hare_typed.specs.Cells.{byte_cells, bytes_of, fragments, are_fragments}

@@ -1,8 +1,5 @@
-pub mod HeapLemmas
-pub mod MemoryLemmas
+pub mod Memory
 mod MemoryRows
 pub mod NumberLemmas
 mod NumberRows
-pub mod RangeLemmas
 mod RuntimeRows
-pub mod SameMemories

@@ -5,7 +5,13 @@ use Rattle.hx_base.specs.Runtime.{World, Act, Gives, Faults, Full, Wild, Puts, A
 
 -- a heap with so many bytes in one live block, and the next block at an address
 abbrev heap_at : ℕ → ℕ → World
-heap_at live next = record { memory = empty_memory 7; heap = record { next = next; blocks = (2 ^ 48, live) ∷ [] }; input = codes "abc"; output = []; arguments = 0 }
+heap_at live next = record {
+  memory = empty_memory 7;
+  heap = record { next = next; blocks = (2 ^ 48, live) ∷ [] };
+  input = codes "abc";
+  output = [];
+  arguments = 0;
+}
 
 -- what an act gives, or how it ends the program
 data Result : Type 0 where

@@ -5,7 +5,7 @@ use Rattle.std.specs.HashMap.{HashMap, get}
 use Rattle.std.proofs.lemmas.Bool.Decides.{nat_tests}
 use Rattle.std.proofs.lemmas.Option.{slice_get_within, slice_get-get_or}
 use Rattle.hx_base.specs.Memory.{Memory, byte_at, clear_range}
-use Rattle.hx_base.proofs.RangeLemmas.{byte_at-clear_range_inside, byte_at-clear_range_outside}
+use Rattle.hx_base.proofs.Memory.Written.{byte_at-clear_range_inside, byte_at-clear_range_outside}
 use Rattle.il_mem.specs.Kept.{Held, page_size, place_in, is_held, byte_of, AreDistinct}
 use Rattle.il_mem.specs.Holds.{HoldsBytes}
 use Rattle.il_mem.specs.Stored.{AreEntered, AreStored, source}

@@ -5,8 +5,8 @@ use Rattle.std.proofs.lemmas.Bool.Decides.{nat_tests}
 use Rattle.std.proofs.lemmas.List.{take_all, take-append-drop, length-replicate, get_or-replicate, get_or_append_left, get_or-append_right, get_or-take, get_or-drop}
 use Rattle.std.proofs.lemmas.Option.{slice_get-get_or}
 use Rattle.hx_base.specs.Memory.{Memory, byte_at, bytes_at, write, clear_range}
-use Rattle.hx_base.proofs.MemoryLemmas.{byte_at-write_outside, byte_at-write_inside, Inside, inside, outside, inside_of}
-use Rattle.hx_base.proofs.RangeLemmas.{write-append, bytes_at-append, byte_at-clear_range_inside, byte_at-clear_range_outside}
+use Rattle.hx_base.proofs.Memory.Ranges.{Inside, inside, outside, inside_of, bytes_at-append}
+use Rattle.hx_base.proofs.Memory.Written.{byte_at-write_outside, byte_at-write_inside, write-append, byte_at-clear_range_inside, byte_at-clear_range_outside}
 use Rattle.il_mem.specs.Kept.{Held, page_size, place_in, byte_of, AreDistinct}
 use Rattle.il_mem.specs.Holds.{HoldsBytes}
 use Rattle.il_mem.proofs.PageLists.{IsSound, Begins, begins, begins_not, read_held, read_bare, place_there, place_within, byte_of_held, byte_of_bare, address_is}

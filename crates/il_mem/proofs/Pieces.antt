@@ -5,8 +5,8 @@ use Rattle.std.proofs.lemmas.Bool.Decides.{nat_tests}
 use Rattle.std.proofs.lemmas.List.{take_all, take-append-drop}
 use Rattle.std.proofs.lemmas.Option.{slice_get-get_or}
 use Rattle.hx_base.specs.Memory.{Memory, byte_at, is_mapped, bytes_at, write, clear_range}
-use Rattle.hx_base.proofs.MemoryLemmas.{length-bytes_at, byte_at-write_outside, byte_at-write_inside, Inside, inside, outside, inside_of}
-use Rattle.hx_base.proofs.RangeLemmas.{bytes_at-append, bytes_at-write_outside, write-append, byte_at-clear_range_inside, byte_at-clear_range_outside}
+use Rattle.hx_base.proofs.Memory.Ranges.{length-bytes_at, Inside, inside, outside, inside_of, bytes_at-append}
+use Rattle.hx_base.proofs.Memory.Written.{byte_at-write_outside, byte_at-write_inside, bytes_at-write_outside, write-append, byte_at-clear_range_inside, byte_at-clear_range_outside}
 use Rattle.il_mem.specs.Kept.{Held, page_size, place_in, is_held, meets, lies_in}
 use Rattle.il_mem.specs.Holds.{HoldsBytes}
 use Rattle.il_mem.proofs.PageWrites.{holds_alike}

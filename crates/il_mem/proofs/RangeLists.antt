@@ -3,7 +3,7 @@ use Rattle.std.proofs.Common.{◌≡◌, ◌≢◌, ℕ, ◌+◌, ◌^◌, ◌<�
 use Rattle.std.specs.Prelude.{not, filter, slice_index_or, IsSome, nat_eq, nat_le, nat_lt, if◌then◌else◌}
 use Rattle.std.specs.List.{list_any, All}
 use Rattle.std.proofs.lemmas.List.Elements.{All-nil, All-cons, All-tail}
-use Rattle.hx_base.proofs.MemoryLemmas.{Inside, inside, outside, inside_of}
+use Rattle.hx_base.proofs.Memory.Ranges.{Inside, inside, outside, inside_of}
 use Rattle.std.specs.Ordering.{nat_cmp, is_lt, is_le, match_ordering}
 use Rattle.std.specs.Map.{lookup, remove_entry}
 use Rattle.std.specs.BTreeMap.{insert_entry, is_at}

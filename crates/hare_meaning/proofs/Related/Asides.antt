@@ -3,8 +3,9 @@ use Rattle.std.proofs.Common.{◌≡◌, ◌≢◌, ℕ, suc, ◌+◌, ◌-◌, 
 use Rattle.std.specs.Prelude.{slice_get}
 use Rattle.hx_base.specs.Memory.{Memory, byte_at, is_mapped, write, map_range, unmap_range, clear_range}
 use Rattle.hx_base.specs.Runtime.{World}
-use Rattle.hx_base.proofs.MemoryLemmas.{byte_at-write_outside, bytes_at-same}
-use Rattle.hx_base.proofs.RangeLemmas.{is_mapped-map_range_stays, is_mapped-map_range_outside, is_mapped-unmap_range_outside, is_mapped-unmap_range_before, is_mapped-clear_range, byte_at-clear_range_outside}
+use Rattle.hx_base.proofs.Memory.Agreeing.{bytes_at-same}
+use Rattle.hx_base.proofs.Memory.Written.{byte_at-write_outside, byte_at-clear_range_outside}
+use Rattle.hx_base.proofs.Memory.Mapped.{is_mapped-map_range_stays, is_mapped-map_range_outside, is_mapped-unmap_range_outside, is_mapped-unmap_range_before, is_mapped-clear_range}
 use Rattle.hare_typed.specs.Objects.{Object}
 use Rattle.hare_typed.specs.State.{State}
 use Rattle.hare_meaning.specs.Related.{Places, Covered, Held, BytesAre, Ground, Values, objects_in, Related}

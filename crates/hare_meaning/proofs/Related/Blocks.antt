@@ -4,7 +4,10 @@ use Rattle.std.specs.Prelude.{slice_get, slice_set}
 use Rattle.std.proofs.lemmas.Option.{slice_get_within}
 use Rattle.hx_base.specs.Memory.{Memory, byte_at, is_mapped}
 use Rattle.hx_base.specs.Runtime.{World, live_bytes, block_size}
-use Rattle.hx_base.proofs.MemoryLemmas.{bytes_at-same}
+use Rattle.hx_base.proofs.Memory.Agreeing.{bytes_at-same}
+use Rattle.hx_base.proofs.Memory.Written.{byte_at-clear_range_outside}
+use Rattle.hx_base.proofs.Memory.Mapped.{is_mapped-unmap_range_outside, is_mapped-unmap_range_before, is_mapped-clear_range}
+use Rattle.hx_base.proofs.Memory.Blocks.{block_size-without_other, block_size-without_same, without_block-apart, live_bytes-without}
 use Rattle.hare_typed.specs.declared.cell.Cell.{Cell}
 use Rattle.hare_typed.specs.Objects.{Object, Heap, extent_of}
 use Rattle.hare_typed.specs.State.{State}
@@ -12,8 +15,6 @@ use Rattle.hare_meaning.specs.Related.{At, Places, IsLive, Covered, Held, Agrees
 use Rattle.hare_meaning.proofs.Related.Cells.{Same, same, other, is_same, Inside, inside, before, behind, inside_of, get_set_other, length_set, Now, changed, as_before, after_set, at_is, live_covers, placed_set}
 use Rattle.hx_base.specs.Memory.{round_up, unmap_range, clear_range}
 use Rattle.hx_base.specs.Runtime.{without_block}
-use Rattle.hx_base.proofs.RangeLemmas.{is_mapped-unmap_range_outside, is_mapped-unmap_range_before, is_mapped-clear_range, byte_at-clear_range_outside}
-use Rattle.hx_base.proofs.HeapLemmas.{block_size-without_other, block_size-without_same, without_block-apart, live_bytes-without}
 use Rattle.hare_typed.specs.Objects.{killed}
 
 -- the state with other objects, and so many bytes of the heap alive and ever taken

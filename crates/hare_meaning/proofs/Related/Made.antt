@@ -5,9 +5,9 @@ use Rattle.std.proofs.lemmas.Option.{slice_get_within}
 use Rattle.std.proofs.lemmas.Bool.Decides.{nat_tests}
 use Rattle.hx_base.specs.Memory.{round_up, le_bytes, byte_at, is_mapped, map_range}
 use Rattle.hx_base.specs.Runtime.{World, new_block, block_size}
-use Rattle.hx_base.proofs.MemoryLemmas.{bytes_at-same}
-use Rattle.hx_base.proofs.RangeLemmas.{is_mapped-map_range_inside, is_mapped-map_range_outside, is_mapped-map_range_stays}
-use Rattle.hx_base.proofs.HeapLemmas.{live_bytes-cons}
+use Rattle.hx_base.proofs.Memory.Agreeing.{bytes_at-same}
+use Rattle.hx_base.proofs.Memory.Mapped.{is_mapped-map_range_inside, is_mapped-map_range_outside, is_mapped-map_range_stays}
+use Rattle.hx_base.proofs.Memory.Blocks.{live_bytes-cons}
 use Rattle.hare_typed.specs.declared.cell.Cell.{Cell}
 use Rattle.hare_typed.specs.Objects.{Object, Heap, extent_of}
 use Rattle.hare_typed.specs.State.{State}

@@ -5,7 +5,7 @@ use Rattle.std.proofs.lemmas.Option.{slice_get_within}
 use Rattle.std.proofs.lemmas.Bool.{cases_lt}
 use Rattle.hx_base.specs.Memory.{Memory, Mapping, byte_at, is_mapped, last_mapped, all_mapped, bytes_at}
 use Rattle.hx_base.specs.Runtime.{World, heap_start, live_bytes, block_size}
-use Rattle.hx_base.proofs.MemoryLemmas.{all_mapped-each, slice_get-bytes_at, in_range-outside}
+use Rattle.hx_base.proofs.Memory.Ranges.{all_mapped-each, slice_get-bytes_at, in_range-outside}
 use Rattle.hare_typed.specs.declared.cell.Cell.{Cell}
 use Rattle.hare_typed.specs.Objects.{Object, Heap, extent_of}
 use Rattle.hare_typed.specs.State.{State}

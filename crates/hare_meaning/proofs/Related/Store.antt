@@ -4,7 +4,9 @@ use Rattle.std.specs.Prelude.{slice_get, slice_set}
 use Rattle.std.proofs.lemmas.Option.{slice_get_within}
 use Rattle.hx_base.specs.Memory.{le_bytes, byte_at, is_mapped, all_mapped, bytes_at, write}
 use Rattle.hx_base.specs.Runtime.{World, block_size}
-use Rattle.hx_base.proofs.MemoryLemmas.{byte_at-write_outside, byte_at-write_inside, bytes_at-same, all_mapped-from}
+use Rattle.hx_base.proofs.Memory.Ranges.{all_mapped-from}
+use Rattle.hx_base.proofs.Memory.Agreeing.{bytes_at-same}
+use Rattle.hx_base.proofs.Memory.Written.{byte_at-write_outside, byte_at-write_inside}
 use Rattle.hare_typed.specs.declared.cell.Cell.{Cell}
 use Rattle.hare_typed.specs.Cells.{with_cells, cells_within}
 use Rattle.hare_typed.specs.Objects.{Object, Heap, extent_of}

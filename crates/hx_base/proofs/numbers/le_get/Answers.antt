@@ -1,6 +1,6 @@
 use Rattle.std.proofs.Common.{◌<◌, arith}
 use Rattle.std.proofs.lemmas.List.Elements.{All-from_get_or}
-use Rattle.hx_base.proofs.NumberLemmas.{le_number-more}
+use Rattle.hx_base.proofs.Memory.Numbers.{le_number-more}
 use Rattle.hx_base.proofs.numbers.le_get.Goals as goal
 
 pub loop-i-preserved : goal.loop-i-preserved

@@ -4,7 +4,7 @@ use Rattle.std.specs.List.{All}
 use Rattle.std.specs.Ordering.{nat_cmp}
 use Rattle.std.specs.BTreeMap.{is_at}
 use Rattle.hx_base.specs.Memory.{in_range}
-use Rattle.hx_base.proofs.MemoryLemmas.{in_range-inside}
+use Rattle.hx_base.proofs.Memory.Ranges.{in_range-inside}
 use Rattle.il_mem.proofs.RangeLists.{filter-remove_entry, filter-out, laid-remove_entry, laid_short}
 use Rattle.il_mem.proofs.ranges.Ranges.unmap.Goals as goal
 

@@ -1,4 +1,4 @@
--- A list of live blocks without one of them.
+-- Live blocks of the heap: a list of them with one more in front, or without one of them.
 use Rattle.std.proofs.Common.{◌≡◌, ◌≢◌, ℕ, ◌+◌, Bool, true, false, List, [], ◌∷◌, Some, None, refl, arith}
 use Rattle.std.specs.Prelude.{nat_eq}
 use Rattle.std.proofs.lemmas.Bool.Decides.{nat_tests}
@@ -10,6 +10,24 @@ use Rattle.hx_base.specs.Runtime.{live_bytes, block_size, without_block}
 abbrev pub AreApart : List (ℕ × ℕ) → Type 0
 AreApart [] = Unit {0}
 AreApart (b ∷ bs) = (block_size bs b.0 ≡ None) × AreApart bs
+
+-- ---- which block is found
+
+-- the one in front is found
+pub block_size-first : (p n : ℕ) (bs : List (ℕ × ℕ)) → block_size ((p, n) ∷ bs) p ≡ Some n
+block_size-first p n bs = pick (nat_eq p p) refl
+  where
+    pick : (t : Bool) → nat_eq p p ≡ t → block_size ((p, n) ∷ bs) p ≡ Some n
+    pick true e = rw e refl
+    pick false e = absurd (grind (arith, nat_tests))
+
+-- and one that begins elsewhere is found behind it
+pub block_size-behind : (p n q : ℕ) (bs : List (ℕ × ℕ)) → q ≢ p → block_size ((p, n) ∷ bs) q ≡ block_size bs q
+block_size-behind p n q bs h = pick (nat_eq p q) refl
+  where
+    pick : (t : Bool) → nat_eq p q ≡ t → block_size ((p, n) ∷ bs) q ≡ block_size bs q
+    pick true e = absurd (h (grind (arith, nat_tests)))
+    pick false e = rw e refl
 
 -- a block that begins elsewhere is found as before
 pub block_size-without_other : (bs : List (ℕ × ℕ)) (p q : ℕ) → p ≢ q → block_size (without_block bs p) q ≡ block_size bs q
@@ -53,6 +71,8 @@ without_block-apart (b ∷ bs) p h = pick (nat_eq b.0 p) refl (without_block-apa
     pick false e k =
         let other : p ≢ b.0 = λ s. absurd (grind (arith, nat_tests)) in
         rw e (rw (block_size-without_other bs p b.0 other) h.0, k)
+
+-- ---- how many bytes are live
 
 -- a block counts as the next multiple of 16
 pub live_bytes-cons : (b : ℕ × ℕ) (bs : List (ℕ × ℕ)) → live_bytes (b ∷ bs) ≡ round_up b.1 16 + live_bytes bs

@@ -1,7 +1,8 @@
 -- No access and no change tells two equal memories apart.
 use Rattle.std.proofs.Common.{◌≡◌, ℕ, zero, suc, ◌+◌, ◌≤◌, Bool, true, false, ◌&&◌, List, [], ◌∷◌, Option, Some, None, refl, sym, ◌∙◌, arith}
 use Rattle.hx_base.specs.Memory.{le_bytes, Memory, last_written, all_mapped, SameMemory, bytes_at, writes, write, map_range, unmap_range, clear_range, load, store, move, same}
-use Rattle.hx_base.proofs.MemoryLemmas.{last_written-other, byte_at-clear_range, bytes_at-same}
+use Rattle.hx_base.proofs.Memory.Agreeing.{bytes_at-same}
+use Rattle.hx_base.proofs.Memory.Written.{last_written-other, byte_at-clear_range}
 
 -- ---- an equality
 
@@ -56,7 +57,8 @@ module _ (m m' : Memory) (h : SameMemory m m') where
 
   -- ---- changes
 
-  last_written-writes : (at : ℕ) (bs : List ℕ) (a : ℕ) → last_written m.fill (writes m.written at bs) a ≡ last_written m'.fill (writes m'.written at bs) a
+  last_written-writes : (at : ℕ) (bs : List ℕ) (a : ℕ) →
+      last_written m.fill (writes m.written at bs) a ≡ last_written m'.fill (writes m'.written at bs) a
   last_written-writes at [] a = h.bytes a
   last_written-writes at (b ∷ bs) a = rw (last_written-writes (suc at) bs a) refl
 

@@ -1,0 +1,9 @@
+pub mod Ranges
+pub mod Agreeing
+pub mod Written
+pub mod Mapped
+pub mod Standing
+pub mod Numbers
+pub mod Blocks
+pub mod Arguments
+pub mod Equal
