@@ -1,21 +1,13 @@
 -- Where the globals of a program stand, and the memory with which it begins.
-use Rattle.std.specs.Prelude.{ℕ, ◌+◌, ◌^◌, max, List, [], ◌∷◌, length, replicate, flat_map, sum_by, slice_index_or, Option, None, Some}
+use Rattle.std.specs.Prelude.{ℕ, ◌+◌, max, List, [], ◌∷◌, length, replicate, flat_map, sum_by, slice_index_or, Option, None, Some}
 use Rattle.hx_base.specs.Memory.{Memory, le_bytes, round_up, empty_memory, write, map_range}
-use Rattle.hx_base.specs.Runtime.{lookup, with_arguments}
+use Rattle.hx_base.specs.Runtime.{data_start, lookup, or_zero, with_arguments}
 use Rattle.flat_code.specs.declared.program.Item.{Item}
 use Rattle.flat_code.specs.declared.program.Item.TheVariants.{Number, Bytes, Symbol, Zero}
 use Rattle.flat_code.specs.declared.program.Data.{Data}
 use Rattle.flat_code.specs.declared.program.FlatProgram.{FlatProgram}
 
--- ---- where things stand
-
--- where the first global stands
-abbrev pub data_start : ℕ
-data_start = 2 ^ 33
-
--- where the first frame begins
-abbrev pub stack_start : ℕ
-stack_start = 2 ^ 40
+-- ---- where globals stand
 
 -- the bytes that an item takes
 abbrev pub item_size : Item → ℕ
@@ -40,11 +32,6 @@ addresses p = addresses_from data_start p.globals
 -- the address of a global, by its place in the list; 0 where there is none, which no well formed program leaves
 abbrev pub address_at : FlatProgram → ℕ → ℕ
 address_at p i = (slice_index_or (addresses p) i ([], 0)).1
-
--- a number, or 0 where there is none
-abbrev pub or_zero : Option ℕ → ℕ
-or_zero None = 0
-or_zero (Some n) = n
 
 -- the same by its name
 abbrev pub address_named : FlatProgram → List ℕ → ℕ

@@ -11,7 +11,7 @@ use Rattle.std.specs.Prelude.{ℕ, zero, suc, ◌+◌, ◌-◌, ◌/◌, max, Bo
 use Rattle.hx_base.specs.declared.Class.{Class}
 use Rattle.hx_base.specs.declared.Class.TheVariants.{W, L}
 use Rattle.hx_base.specs.Memory.{Memory, round_up, map_range, unmap_range, load, store, move}
-use Rattle.hx_base.specs.Runtime.{World, Act, Gives, Exits, Aborts, Faults, Full, RuntimeFault, RuntimeFunction, act, runtime_function}
+use Rattle.hx_base.specs.Runtime.{World, Act, Gives, Exits, Aborts, Faults, Full, RuntimeFault}
 use Rattle.hx_base.specs.Runtime as runtime
 use Rattle.flat_code.specs.declared.op.Op.{Op}
 use Rattle.flat_code.specs.declared.op.Op.TheVariants.{Copy, Extsb, Extub, Extsh, Extuh, Extsw, Extuw}
@@ -23,7 +23,8 @@ use Rattle.flat_code.specs.declared.value.Value.{Value}
 use Rattle.flat_code.specs.Code.{Code, Codes, none, more, Seq, Set, Load, Store, Move, If, Loop, Leave, Call, Ret}
 use Rattle.flat_code.specs.Shape.{code_of}
 use Rattle.flat_code.specs.Costs.{call_cost}
-use Rattle.hx_runtime.specs.Functions.{runtime_params, runtime_result}
+use Rattle.hx_runtime.specs.Functions.{runtime_params, runtime_result, act, runtime_function}
+use Rattle.hx_runtime.specs.declared.runtime.RuntimeFunction.{RuntimeFunction}
 pub use Rattle.hx_runtime.specs.Ranges.{overlap}
 use Rattle.flat_code.specs.Operations.{gives}
 use Rattle.flat_code.specs.State.{State, cut, value_of, set_temp, give, with_memory, stepped, FlatFault, Wild, Overlap, BadFree, BadArg, ZeroDivisor, NoFunction, Next, Left, Returned, Exit, Abort, Fault, HeapFull, Spent, Result, then_go, caught, then_turn, spends}

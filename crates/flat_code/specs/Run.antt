@@ -1,10 +1,10 @@
 -- What a whole program of flat code does within a number of turns.
 use Rattle.std.specs.Prelude.{ℕ, ◌%◌, List, [], length, Option, None, Some, codes}
-use Rattle.hx_base.specs.Runtime.{World, heap_start}
+use Rattle.hx_base.specs.Runtime.{World, heap_start, stack_start}
 use Rattle.flat_code.specs.declared.program.FlatFn.{FlatFn}
 use Rattle.flat_code.specs.declared.program.FlatProgram.{FlatProgram}
 use Rattle.flat_code.specs.Shape.{code_of}
-use Rattle.flat_code.specs.Addresses.{stack_start, start_memory}
+use Rattle.flat_code.specs.Addresses.{start_memory}
 use Rattle.flat_code.specs.State.{State, Next, Left, Returned, Exit, Abort, Fault, NoFunction, HeapFull, Spent, Result}
 use Rattle.flat_code.specs.Evaluation.{flat, entered, function_named}
 

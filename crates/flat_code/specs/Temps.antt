@@ -2,11 +2,11 @@
 use Rattle.std.specs.Prelude.{ℕ, suc, Bool, true, false, not, ◌&&◌, ◌||◌, List, [], ◌∷◌, Option, None, Some, ◌==◌}
 use Rattle.hx_base.specs.declared.Class.{Class}
 use Rattle.hx_base.specs.declared.Class.TheVariants.{W, L}
-use Rattle.hx_base.specs.Runtime.{RuntimeFunction, runtime_function}
 use Rattle.flat_code.specs.declared.program.FlatFn.{FlatFn}
 use Rattle.flat_code.specs.Code.{Code, Codes, none, more, Seq, Set, Load, Store, Move, If, Loop, Leave, Call, Ret}
 use Rattle.flat_code.specs.Shape.{code_of}
-use Rattle.hx_runtime.specs.Functions.{runtime_result}
+use Rattle.hx_runtime.specs.Functions.{runtime_result, runtime_function}
+use Rattle.hx_runtime.specs.declared.runtime.RuntimeFunction.{RuntimeFunction}
 
 -- ---- classes
 

@@ -5,8 +5,10 @@ use Rattle.hx_base.specs.declared.Class.{Class}
 use Rattle.hx_base.specs.declared.Class.TheVariants.{W, L}
 use Rattle.hx_base.specs.Runtime as runtime
 use Rattle.hx_base.specs.Memory.{le_bytes, bytes_at, all_mapped, write, unmap_range, clear_range, load}
-use Rattle.hx_base.specs.Runtime.{World, Act, Gives, Exits, Aborts, Faults, Full, RuntimeFunction, Puts, Write, Read, Malloc, Free, Move as MoveBytes, Same, Abort as AbortCall, Exit as ExitCall, Nargs, Arg, act, put, read, malloc, freed, move_bytes, same_bytes, abort, arg, new_block, block_size, without_block, live_bytes, heap_size, heap_end, runtime_function}
-use Rattle.hx_runtime.specs.Functions.{runtime_params, runtime_result}
+use Rattle.hx_base.specs.Runtime.{World, Act, Gives, Exits, Aborts, Faults, Full, put, read, malloc, freed, move_bytes, same_bytes, abort, arg, new_block, block_size, without_block, live_bytes, heap_size, heap_end}
+use Rattle.hx_runtime.specs.Functions.{runtime_params, runtime_result, act, runtime_function}
+use Rattle.hx_runtime.specs.declared.runtime.RuntimeFunction.{RuntimeFunction}
+use Rattle.hx_runtime.specs.declared.runtime.RuntimeFunction.TheVariants.{Puts, Write, Read, Malloc, Free, Move as MoveBytes, Same, Abort as AbortCall, Exit as ExitCall, Nargs, Arg}
 use Rattle.flat_code.specs.declared.op.LoadKind.{LoadKind}
 use Rattle.flat_code.specs.declared.program.FlatFn.{FlatFn}
 use Rattle.flat_code.specs.declared.program.FlatProgram.{FlatProgram}

@@ -2,9 +2,8 @@
 use Rattle.std.proofs.Common.{◌≡◌, ℕ, ◌+◌, true, false, [], ◌∷◌, Some, None, refl}
 use Rattle.std.specs.Prelude.{codes}
 use Rattle.hx_base.specs.Memory.{map_range, is_mapped}
-use Rattle.hx_base.specs.Runtime.{heap_start}
+use Rattle.hx_base.specs.Runtime.{heap_start, data_start, stack_start}
 use Rattle.flat_code.specs.declared.value.Value.TheVariants.{Temp, Number, Frame}
-use Rattle.flat_code.specs.Addresses.{data_start, stack_start}
 use Rattle.flat_code.specs.Code.{Code, Store, Call}
 use Rattle.flat_code.specs.State.{State, Next, Left, Returned, Exit, Abort, Fault, HeapFull, Spent, Wild}
 use Rattle.flat_code.specs.Evaluation.{flat}

@@ -7,8 +7,9 @@ use Rattle.std.proofs.lemmas.Bool.Decides.{nat_tests}
 use Rattle.std.proofs.lemmas.List.Sums.{sum_by-cons}
 use Rattle.std.proofs.lemmas.List.Elements.{All-contains, All-cons}
 use Rattle.std.proofs.lemmas.Slice.Eq.{bytes_eq-Decides}
-use Rattle.hx_base.specs.Runtime.{RuntimeFunction, runtime_names, lookup}
-use Rattle.hx_runtime.specs.Functions.{is_reserved}
+use Rattle.hx_base.specs.Runtime.{lookup}
+use Rattle.hx_runtime.specs.Functions.{is_reserved, runtime_names}
+use Rattle.hx_runtime.specs.declared.runtime.RuntimeFunction.{RuntimeFunction}
 use Rattle.flat_code.specs.declared.program.FlatFn.{FlatFn}
 use Rattle.flat_code.specs.declared.program.FlatProgram.{FlatProgram}
 use Rattle.flat_code.specs.Evaluation.{function_named}

@@ -3,14 +3,13 @@ use Rattle.std.proofs.Common.{◌≡◌, ℕ, ◌+◌, Bool, List, [], ◌∷◌
 use Rattle.std.specs.Prelude.{codes, Some, None}
 use Rattle.hx_base.specs.declared.Class.TheVariants.{W, L}
 use Rattle.hx_base.specs.Memory.{Memory, empty_memory, write, map_range, is_mapped}
-use Rattle.hx_base.specs.Runtime.{World, heap_start}
+use Rattle.hx_base.specs.Runtime.{World, heap_start, data_start, stack_start}
 use Rattle.flat_code.specs.declared.op.Op.TheVariants.{Add}
 use Rattle.flat_code.specs.declared.program.Item.TheVariants as item
 use Rattle.flat_code.specs.declared.program.FlatProgram.{FlatProgram}
 use Rattle.flat_code.specs.declared.value.Value.{Value}
 use Rattle.flat_code.specs.declared.value.Value.TheVariants.{Temp, Number, Frame}
 use Rattle.flat_code.specs.Code.{Code, Set, Store, Call, Ret, Loop}
-use Rattle.flat_code.specs.Addresses.{data_start, stack_start}
 use Rattle.flat_code.specs.State.{State, Flow, Result}
 use Rattle.flat_code.specs.Evaluation.{flat}
 use Rattle.flat_code.proofs.RowPrograms.{seq, plain, of_one, global, program}

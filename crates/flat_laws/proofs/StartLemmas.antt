@@ -6,14 +6,14 @@ use Rattle.std.proofs.lemmas.Bool.{and_parts}
 use Rattle.std.proofs.lemmas.Bool.Decides.{nat_tests}
 use Rattle.std.proofs.lemmas.Option.{slice_get-get_or, slice_get_within}
 use Rattle.hx_base.specs.Memory.{Memory, empty_memory, is_mapped, write}
-use Rattle.hx_base.specs.Runtime.{arguments_start, record_size, argument_size, argument_records, write_arguments, with_arguments}
+use Rattle.hx_base.specs.Runtime.{arguments_start, record_size, argument_size, argument_records, write_arguments, with_arguments, data_start, or_zero}
 use Rattle.hx_base.proofs.Memory.Ranges.{Inside, inside, outside, inside_of, all_mapped-each}
 use Rattle.hx_base.proofs.Memory.Agreeing.{bytes_at-same}
 use Rattle.hx_base.proofs.Memory.Written.{byte_at-write_outside, bytes_at-map_range}
 use Rattle.hx_base.proofs.Memory.Mapped.{is_mapped-map_range_inside, is_mapped-map_range_outside, all_mapped-map_range_inside}
 use Rattle.flat_code.specs.declared.program.Data.{Data}
 use Rattle.flat_code.specs.declared.program.FlatProgram.{FlatProgram}
-use Rattle.flat_code.specs.Addresses.{data_start, data_size, with_globals, start_memory, or_zero}
+use Rattle.flat_code.specs.Addresses.{data_size, with_globals, start_memory}
 use Rattle.flat_code.specs.WellFormed.{IsWellFormed, how_many, global_size, most}
 use Rattle.flat_code.proofs.GlobalPlaces.{spot, end_of, ends_within, IsLocated, located, looked_up}
 use Rattle.flat_laws.specs.Starts.{IsGlobal, GlobalsStand, record_address, argument_address, arguments_end, IsArgument, ArgumentsStand, Part, Global, Record, Text, taken, IsIn, IsTaken, HaveRoom, ProgramsAreLaidOut}

@@ -1,6 +1,7 @@
 -- What the names of a well formed program call.
 use Rattle.std.specs.Prelude.{◌≡◌, ℕ, List, None, Some, Contains}
-use Rattle.hx_base.specs.Runtime.{RuntimeFunction, runtime_function}
+use Rattle.hx_runtime.specs.Functions.{runtime_function}
+use Rattle.hx_runtime.specs.declared.runtime.RuntimeFunction.{RuntimeFunction}
 use Rattle.flat_code.specs.declared.program.FlatFn.{FlatFn}
 use Rattle.flat_code.specs.declared.program.FlatProgram.{FlatProgram}
 use Rattle.flat_code.specs.Evaluation.{function_named}

@@ -1,10 +1,10 @@
 -- What a program begins with: where its globals and its arguments stand, what stands there, and what is mapped.
 use Rattle.std.specs.Prelude.{◌≡◌, ℕ, ◌+◌, ◌*◌, ◌%◌, ◌^◌, ◌<◌, ◌≤◌, true, false, List, ◌++◌, length, take, flat_map, sum_by, slice_get, Option, None, Some}
 use Rattle.hx_base.specs.Memory.{Memory, le_bytes, bytes_at, is_mapped, all_mapped}
-use Rattle.hx_base.specs.Runtime.{arguments_start, record_size, argument_size}
+use Rattle.hx_base.specs.Runtime.{arguments_start, record_size, argument_size, data_start, stack_start}
 use Rattle.flat_code.specs.declared.program.Data.{Data}
 use Rattle.flat_code.specs.declared.program.FlatProgram.{FlatProgram}
-use Rattle.flat_code.specs.Addresses.{data_start, stack_start, data_size, item_bytes, address_at, address_named, start_memory}
+use Rattle.flat_code.specs.Addresses.{data_size, item_bytes, address_at, address_named, start_memory}
 use Rattle.flat_code.specs.Run.{start_world, before_calls}
 use Rattle.flat_code.specs.State.{State}
 use Rattle.flat_code.specs.WellFormed.{IsWellFormed, global_size}

@@ -3,7 +3,7 @@ use Rattle.std.proofs.Common.{◌≡◌, ℕ, zero, suc, ◌+◌, max, Bool, tru
 use Rattle.std.specs.Prelude.{◌==◌, if◌then◌else◌}
 use Rattle.hx_base.specs.declared.Class.{Class}
 use Rattle.hx_base.specs.declared.Class.TheVariants.{W}
-use Rattle.hx_base.specs.Runtime.{Act, Gives, Exits, Aborts, Faults, Full, RuntimeFunction, act, runtime_function}
+use Rattle.hx_base.specs.Runtime.{Act, Gives, Exits, Aborts, Faults, Full}
 use Rattle.flat_code.specs.declared.program.FlatProgram.{FlatProgram}
 use Rattle.flat_code.specs.declared.value.Value.{Value}
 use Rattle.flat_code.specs.declared.value.Value.TheVariants.{Temp, Number, Symbol, Frame}
@@ -11,7 +11,8 @@ use Rattle.flat_code.specs.Code.{Code, Codes, none, more, Seq, Set, Load, Store,
 use Rattle.flat_code.specs.Costs.{addressed, addressed_in, addressed_in_all, call_cost}
 use Rattle.flat_code.specs.Evaluation.{Less, computed, acted, runtime_called, function_named, flat_begun, flats_in, flat_below, flat, cut_each, entered}
 use Rattle.flat_code.specs.Run.{run, ended, start_world, before_calls}
-use Rattle.hx_runtime.specs.Functions.{runtime_params, runtime_result}
+use Rattle.hx_runtime.specs.Functions.{runtime_params, runtime_result, act, runtime_function}
+use Rattle.hx_runtime.specs.declared.runtime.RuntimeFunction.{RuntimeFunction}
 use Rattle.flat_code.specs.State.{State, cut, value_of, give, stepped, Next, Left, Returned, Exit, Abort, Fault, HeapFull, Spent, Result, then_go, caught, then_turn, spends}
 use Rattle.il_emit.proofs.Counts.{sum_cons}
 use Rattle.hare_blocks.specs.Trees.{Program}

@@ -1,7 +1,7 @@
 -- What functions of the runtime do at their limits.
 use Rattle.std.proofs.Common.{◌≡◌, ℕ, ◌+◌, ◌-◌, ◌^◌, [], ◌∷◌, Some, None, refl, codes}
 use Rattle.hx_base.specs.Memory.{empty_memory, bytes_at, load}
-use Rattle.hx_base.specs.Runtime.{World, Act, Gives, Faults, Full, Wild, Puts, Arg, malloc, read, with_arguments, runtime_function}
+use Rattle.hx_base.specs.Runtime.{World, Act, Gives, Faults, Full, Wild, malloc, read, with_arguments}
 
 -- a heap with so many bytes in one live block, and the next block at an address
 abbrev heap_at : ℕ → ℕ → World
@@ -67,14 +67,3 @@ table_ends = refl
 
 no_table : load (with_arguments (empty_memory 7) []) (2 ^ 36) 1 ≡ None
 no_table = refl
-
--- ---- names
-
-puts_is : runtime_function (codes "rt.puts") ≡ Some Puts
-puts_is = refl
-
-arg_is : runtime_function (codes "rt.arg") ≡ Some Arg
-arg_is = refl
-
-none_is : runtime_function (codes "rt.args") ≡ None
-none_is = refl

@@ -1,8 +1,20 @@
--- What the functions of the runtime do. All code that calls them, structured or of the intermediate language, cites this one account.
-use Rattle.std.specs.Prelude.{ℕ, ◌+◌, ◌*◌, ◌%◌, ◌^◌, max, Bool, List, [], ◌∷◌, ◌++◌, length, take, drop, sum_by, slice_index_or, Option, None, Some, nat_eq, nat_lt, bytes_eq, codes, if◌then◌else◌}
+-- Where a program's things stand, what it acts on, and what the functions of the runtime do there. All that runs, structured code, the intermediate language
+-- and Hare itself, cites this one account. Which functions there are stands in hx_runtime (specs/Functions).
+use Rattle.std.specs.Prelude.{ℕ, ◌+◌, ◌*◌, ◌^◌, max, Bool, List, [], ◌∷◌, ◌++◌, length, take, drop, sum_by, Option, None, Some, nat_eq, nat_lt, bytes_eq, if◌then◌else◌}
 use Rattle.hx_base.specs.Memory.{Memory, le_bytes, round_up, all_mapped, bytes_at, write, map_range, unmap_range, clear_range, move, same}
 
 -- ---- where things stand
+
+-- the address of the first function, and from one function to the next
+abbrev pub functions_start : ℕ
+functions_start = 2 ^ 32
+
+abbrev pub function_step : ℕ
+function_step = 16
+
+-- where the first data item begins, or the next address of its alignment
+abbrev pub data_start : ℕ
+data_start = 2 ^ 33
 
 -- where the table of arguments begins
 abbrev pub arguments_start : ℕ
@@ -11,6 +23,10 @@ arguments_start = 2 ^ 36
 -- the bytes of a record of an argument
 abbrev pub record_size : ℕ
 record_size = 24
+
+-- where the stack begins
+abbrev pub stack_start : ℕ
+stack_start = 2 ^ 40
 
 -- where the first block of the heap begins
 abbrev pub heap_start : ℕ
@@ -23,6 +39,18 @@ heap_end = 2 ^ 63
 -- how many bytes live blocks have at most, each counted as the next multiple of 16
 abbrev pub heap_size : ℕ
 heap_size = 67108864
+
+-- ---- what stands beside names
+
+-- what stands beside a name in a list
+abbrev pub lookup : {A : Type 0} → List ℕ → List (List ℕ × A) → Option A
+lookup name [] = None
+lookup name (x ∷ xs) = if bytes_eq x.0 name then Some x.1 else lookup name xs
+
+-- a number, or 0 where there is none
+abbrev pub or_zero : Option ℕ → ℕ
+or_zero None = 0
+or_zero (Some n) = n
 
 -- ---- what a program acts on
 
@@ -159,38 +187,3 @@ abbrev pub with_arguments : Memory → List (List ℕ) → Memory
 with_arguments m args =
     let texts = arguments_start + record_size * length args in
     map_range (write_arguments (write m arguments_start (argument_records texts args)) texts args) arguments_start (record_size * length args + sum_by argument_size args)
-
--- ---- the functions
-
--- the functions of the runtime
-pub data RuntimeFunction : Type 0 where
-  Puts Write Read Malloc Free Move Same Abort Exit Nargs Arg : RuntimeFunction
-
--- their names
-abbrev pub runtime_names : List (List ℕ × RuntimeFunction)
-runtime_names =
-    (codes "rt.puts", Puts) ∷ (codes "rt.write", Write) ∷ (codes "rt.read", Read) ∷ (codes "rt.malloc", Malloc) ∷ (codes "rt.free", Free)
-    ∷ (codes "rt.move", Move) ∷ (codes "rt.same", Same) ∷ (codes "rt.abort", Abort) ∷ (codes "rt.exit", Exit) ∷ (codes "rt.nargs", Nargs) ∷ (codes "rt.arg", Arg) ∷ []
-
--- what stands beside a name in a list
-abbrev pub lookup : {A : Type 0} → List ℕ → List (List ℕ × A) → Option A
-lookup name [] = None
-lookup name (x ∷ xs) = if bytes_eq x.0 name then Some x.1 else lookup name xs
-
--- the function of the runtime with a name
-abbrev pub runtime_function : List ℕ → Option RuntimeFunction
-runtime_function name = lookup name runtime_names
-
--- what a function does on its arguments, of which one that is missing counts as 0
-abbrev pub act : RuntimeFunction → List ℕ → World → Act
-act Puts args w = put w (slice_index_or args 0 0) (slice_index_or args 1 0)
-act Write args w = put w (slice_index_or args 0 0) (slice_index_or args 1 0)
-act Read args w = read w (slice_index_or args 0 0) (slice_index_or args 1 0)
-act Malloc args w = malloc w (slice_index_or args 0 0)
-act Free args w = free w (slice_index_or args 0 0)
-act Move args w = move_bytes w (slice_index_or args 0 0) (slice_index_or args 1 0) (slice_index_or args 2 0)
-act Same args w = same_bytes w (slice_index_or args 0 0) (slice_index_or args 1 0) (slice_index_or args 2 0)
-act Abort args w = abort w (slice_index_or args 0 0) (slice_index_or args 1 0)
-act Exit args w = Exits (slice_index_or args 0 0 % 256)
-act Nargs args w = Gives w.arguments 0 w
-act Arg args w = arg w (slice_index_or args 0 0)

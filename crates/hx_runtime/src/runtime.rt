@@ -1,14 +1,13 @@
 //! The functions of the runtime: their names, and the classes of their parameters and results.
 
-ghost use Rattle.std.specs.Prelude.{◌≡◌, option_map};
-ghost use Rattle.hx_base.specs.Runtime.{runtime_function};
-ghost use Rattle.hx_runtime.specs.Functions.{function_of, runtime_params, runtime_result, is_reserved};
+ghost use Rattle.std.specs.Prelude.{◌≡◌};
+ghost use Rattle.hx_runtime.specs.Functions.{runtime_function, runtime_params, runtime_result, is_reserved};
 
 use hx_base::Class;
 
 /// A function of the runtime.
 #[derive(Clone, Copy, Debug, PartialEq, Eq)]
-pub enum Runtime {
+pub enum RuntimeFunction {
     Puts,
     Write,
     Read,
@@ -22,33 +21,33 @@ pub enum Runtime {
     Arg,
 }
 
-impl Runtime {
+impl RuntimeFunction {
     /// The function with a symbol, if there is one.
-    pub fn named(name: &[u8]) -> Option<Runtime>
-        ensures { option_map function_of result ≡ runtime_function name.now }
+    pub fn named(name: &[u8]) -> Option<RuntimeFunction>
+        ensures { result ≡ runtime_function name.now }
     {
         if b"rt.puts".as_slice() == name {
-            Some(Runtime::Puts)
+            Some(RuntimeFunction::Puts)
         } else if b"rt.write".as_slice() == name {
-            Some(Runtime::Write)
+            Some(RuntimeFunction::Write)
         } else if b"rt.read".as_slice() == name {
-            Some(Runtime::Read)
+            Some(RuntimeFunction::Read)
         } else if b"rt.malloc".as_slice() == name {
-            Some(Runtime::Malloc)
+            Some(RuntimeFunction::Malloc)
         } else if b"rt.free".as_slice() == name {
-            Some(Runtime::Free)
+            Some(RuntimeFunction::Free)
         } else if b"rt.move".as_slice() == name {
-            Some(Runtime::Move)
+            Some(RuntimeFunction::Move)
         } else if b"rt.same".as_slice() == name {
-            Some(Runtime::Same)
+            Some(RuntimeFunction::Same)
         } else if b"rt.abort".as_slice() == name {
-            Some(Runtime::Abort)
+            Some(RuntimeFunction::Abort)
         } else if b"rt.exit".as_slice() == name {
-            Some(Runtime::Exit)
+            Some(RuntimeFunction::Exit)
         } else if b"rt.nargs".as_slice() == name {
-            Some(Runtime::Nargs)
+            Some(RuntimeFunction::Nargs)
         } else if b"rt.arg".as_slice() == name {
-            Some(Runtime::Arg)
+            Some(RuntimeFunction::Arg)
         } else {
             None
         }
@@ -56,32 +55,36 @@ impl Runtime {
 
     /// The classes of its parameters.
     pub fn params(self) -> &'static [Class]
-        ensures { result.now ≡ runtime_params (function_of self) }
+        ensures { result.now ≡ runtime_params self }
     {
         match self {
-            Runtime::Puts | Runtime::Write | Runtime::Read | Runtime::Abort => {
-                &[Class::L, Class::L]
-            }
-            Runtime::Malloc | Runtime::Free | Runtime::Arg => &[Class::L],
-            Runtime::Move | Runtime::Same => &[Class::L, Class::L, Class::L],
-            Runtime::Exit => &[Class::W],
-            Runtime::Nargs => &[],
+            RuntimeFunction::Puts
+            | RuntimeFunction::Write
+            | RuntimeFunction::Read
+            | RuntimeFunction::Abort => &[Class::L, Class::L],
+            RuntimeFunction::Malloc | RuntimeFunction::Free | RuntimeFunction::Arg => &[Class::L],
+            RuntimeFunction::Move | RuntimeFunction::Same => &[Class::L, Class::L, Class::L],
+            RuntimeFunction::Exit => &[Class::W],
+            RuntimeFunction::Nargs => &[],
         }
     }
 
     /// The class of its result, where it has one.
     pub fn result(self) -> Option<Class>
-        ensures { result ≡ runtime_result (function_of self) }
+        ensures { result ≡ runtime_result self }
     {
         match self {
-            Runtime::Read | Runtime::Malloc | Runtime::Nargs | Runtime::Arg => Some(Class::L),
-            Runtime::Same => Some(Class::W),
-            Runtime::Puts
-            | Runtime::Write
-            | Runtime::Free
-            | Runtime::Move
-            | Runtime::Abort
-            | Runtime::Exit => None,
+            RuntimeFunction::Read
+            | RuntimeFunction::Malloc
+            | RuntimeFunction::Nargs
+            | RuntimeFunction::Arg => Some(Class::L),
+            RuntimeFunction::Same => Some(Class::W),
+            RuntimeFunction::Puts
+            | RuntimeFunction::Write
+            | RuntimeFunction::Free
+            | RuntimeFunction::Move
+            | RuntimeFunction::Abort
+            | RuntimeFunction::Exit => None,
         }
     }
 }

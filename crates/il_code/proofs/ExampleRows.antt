@@ -11,7 +11,7 @@ use Rattle.il_code.specs.declared.types.IlValue.TheVariants.{Number, Symbol}
 use Rattle.il_code.specs.declared.types.Inst.TheVariants.{Store, Call}
 use Rattle.il_code.specs.declared.types.Jump.TheVariants.{Fall, Jnz, Ret}
 use Rattle.il_code.specs.Machine.{Exit, Spent}
-use Rattle.il_code.specs.Addresses.{stack_start}
+use Rattle.hx_base.specs.Runtime.{stack_start}
 use Rattle.il_code.specs.MachineLaws.{jumps_done, calls_done}
 use Rattle.il_code.specs.Run.{after_steps, start}
 use Rattle.il_code.proofs.RunModules.{block, only_block, param, arg, phi, phi_arg, main, data_item, module_of, one, two, temp, runs, result}

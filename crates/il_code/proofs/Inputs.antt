@@ -6,7 +6,10 @@ use Rattle.std.proofs.Math.Seq.{take-append_seam, drop-append_seam}
 use Rattle.hx_base.specs.declared.Class.{Class}
 use Rattle.hx_base.specs.declared.Class.TheVariants.{W}
 use Rattle.hx_base.specs.Memory.{Memory, all_mapped, round_up, bytes_at, store, move, same}
-use Rattle.hx_base.specs.Runtime.{World, Act, Gives, Exits, Aborts, Faults, Full, Wild, BadArg, RuntimeFunction, Puts, Write, Read, Malloc, Free, Move, Same, Abort, Exit, Nargs, Arg, read, malloc, new_block, block_size, freed, moved, compared, act, runtime_function, heap_size, heap_end, live_bytes}
+use Rattle.hx_base.specs.Runtime.{World, Act, Gives, Exits, Aborts, Faults, Full, Wild, BadArg, read, malloc, new_block, block_size, freed, moved, compared, heap_size, heap_end, live_bytes}
+use Rattle.hx_runtime.specs.Functions.{act, runtime_function}
+use Rattle.hx_runtime.specs.declared.runtime.RuntimeFunction.{RuntimeFunction}
+use Rattle.hx_runtime.specs.declared.runtime.RuntimeFunction.TheVariants.{Puts, Write, Read, Malloc, Free, Move, Same, Abort, Exit, Nargs, Arg}
 use Rattle.il_code.specs.declared.op.IlOp.{IlOp}
 use Rattle.il_code.specs.declared.types.MachineFault.{MachineFault}
 use Rattle.il_code.specs.declared.types.Module.{Module}

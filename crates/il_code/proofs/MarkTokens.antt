@@ -18,7 +18,8 @@ use Rattle.il_code.specs.declared.types.Inst.{Inst}
 use Rattle.il_code.specs.declared.types.Inst.TheVariants.{Set, Store, Blit, Call}
 use Rattle.il_code.specs.declared.types.Jump.{Jump}
 use Rattle.il_code.specs.declared.types.Jump.TheVariants.{Fall, Jmp, Jnz, Ret, Hlt}
-use Rattle.hx_base.specs.Runtime.{RuntimeFunction, runtime_function}
+use Rattle.hx_runtime.specs.Functions.{runtime_function}
+use Rattle.hx_runtime.specs.declared.runtime.RuntimeFunction.{RuntimeFunction}
 use Rattle.il_code.specs.Items.{Code, function_named}
 use Rattle.il_code.specs.Classes.{op_kind, first_class, second_class, may_give}
 use Rattle.il_code.specs.Rules.{item_name, has_named, has_label, phi_labels_known, targets_pass, phi_is_placed, is_set, is_long, is_right, is_runtime_call, is_runtime_call_of, is_call_of, is_call_right, second_is_right, stored_class, call_is_right, inst_is_right, phi_is_right, return_is_right, jump_is_right}

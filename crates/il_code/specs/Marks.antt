@@ -21,7 +21,7 @@ use Rattle.il_code.specs.declared.types.Inst.{Inst}
 use Rattle.il_code.specs.declared.types.Inst.TheVariants.{Set, Store, Blit, Call}
 use Rattle.il_code.specs.declared.types.Jump.{Jump}
 use Rattle.il_code.specs.declared.types.Jump.TheVariants.{Fall, Jmp, Jnz, Ret, Hlt}
-use Rattle.hx_base.specs.Runtime.{runtime_function}
+use Rattle.hx_runtime.specs.Functions.{runtime_function}
 use Rattle.il_code.specs.Items.{function_named}
 use Rattle.il_code.specs.Classes.{op_kind, first_class, second_class, may_give}
 use Rattle.il_code.specs.Tokens.{IlToken, Word, TempName, SymbolName, LabelName, Numeral, Quoted, Mark, LineEnd}

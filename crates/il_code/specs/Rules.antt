@@ -21,8 +21,8 @@ use Rattle.il_code.specs.declared.types.Inst.{Inst}
 use Rattle.il_code.specs.declared.types.Inst.TheVariants.{Set, Store, Blit, Call}
 use Rattle.il_code.specs.declared.types.Jump.{Jump}
 use Rattle.il_code.specs.declared.types.Jump.TheVariants.{Fall, Jmp, Jnz, Ret, Hlt}
-use Rattle.hx_base.specs.Runtime.{RuntimeFunction, runtime_function}
-use Rattle.hx_runtime.specs.Functions.{runtime_params, runtime_result}
+use Rattle.hx_runtime.specs.Functions.{runtime_params, runtime_result, runtime_function}
+use Rattle.hx_runtime.specs.declared.runtime.RuntimeFunction.{RuntimeFunction}
 pub use Rattle.hx_runtime.specs.Functions.{is_reserved}
 use Rattle.il_code.specs.Items.{Code, function_named}
 pub use Rattle.il_code.specs.Items.{item_name}

@@ -6,7 +6,9 @@ use Rattle.std.proofs.lemmas.Bool.{or_cases}
 use Rattle.std.proofs.lemmas.Bool.Decides.{nat_tests}
 use Rattle.hx_base.specs.declared.Class.{Class}
 use Rattle.hx_base.specs.Memory.{Memory}
-use Rattle.hx_base.specs.Runtime.{World, RuntimeFunction, runtime_names, runtime_function, heap_start}
+use Rattle.hx_base.specs.Runtime.{World, heap_start, stack_start}
+use Rattle.hx_runtime.specs.Functions.{runtime_names, runtime_function}
+use Rattle.hx_runtime.specs.declared.runtime.RuntimeFunction.{RuntimeFunction}
 use Rattle.flat_code.specs.declared.program.FlatFn.{FlatFn}
 use Rattle.flat_code.specs.declared.program.FlatProgram.{FlatProgram}
 use Rattle.flat_code.specs.Costs as flat_cost
@@ -22,7 +24,6 @@ use Rattle.flat_code.specs.WellFormed.{IsWellFormed}
 use Rattle.il_code.specs.declared.types.Block.{Block}
 use Rattle.il_code.specs.declared.types.IlParam.{IlParam}
 use Rattle.il_code.specs.declared.types.Jump.TheVariants as jump
-use Rattle.il_code.specs.Addresses.{stack_start}
 use Rattle.il_code.specs.Machine.{StackFull, Temps, call_cost, stack_size}
 use Rattle.il_code.specs.Machine as machine
 use Rattle.il_code.specs.MachineLaws.{jumps_and_calls}

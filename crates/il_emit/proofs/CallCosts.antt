@@ -6,7 +6,6 @@ use Rattle.std.proofs.lemmas.Bool.{and_parts}
 use Rattle.std.proofs.lemmas.Bool.Decides.{nat_tests}
 use Rattle.std.proofs.lemmas.Slice.Eq.{bytes_eq-Decides}
 use Rattle.hx_base.specs.declared.Class.{Class}
-use Rattle.hx_base.specs.Runtime.{RuntimeFunction, runtime_function}
 use Rattle.flat_code.specs.declared.program.Data.{Data}
 use Rattle.flat_code.specs.declared.program.FlatFn.{FlatFn}
 use Rattle.flat_code.specs.declared.value.Value.{Value}
@@ -14,7 +13,8 @@ use Rattle.flat_code.specs.Code.{Code, Codes, none, more, Seq, Set, Load, Store,
 use Rattle.flat_code.specs.Costs as flat
 use Rattle.flat_code.specs.Costs.{addressed, addressed_in, addressed_in_all}
 use Rattle.flat_code.specs.Shape.{code_of}
-use Rattle.hx_runtime.specs.Functions.{runtime_params, runtime_result}
+use Rattle.hx_runtime.specs.Functions.{runtime_params, runtime_result, runtime_function}
+use Rattle.hx_runtime.specs.declared.runtime.RuntimeFunction.{RuntimeFunction}
 use Rattle.flat_code.specs.Temps.{call_class, has_one_class}
 use Rattle.flat_code.specs.WellFormed.{is_right, is_target, is_call, are_args, takes_result}
 use Rattle.il_code.specs.declared.types.Block.{Block}

@@ -5,7 +5,7 @@ use Rattle.std.proofs.lemmas.Bool.{and_parts}
 use Rattle.std.proofs.lemmas.Bool.Decides.{nat_tests}
 use Rattle.hx_base.specs.declared.Class.{Class}
 use Rattle.hx_base.specs.declared.Class.TheVariants.{W}
-use Rattle.hx_base.specs.Runtime.{World, Act, Gives, Exits, Aborts, Faults, Full, RuntimeFault, RuntimeFunction, act, runtime_function}
+use Rattle.hx_base.specs.Runtime.{World, Act, Gives, Exits, Aborts, Faults, Full, RuntimeFault}
 use Rattle.hx_base.specs.Runtime as runtime
 use Rattle.flat_code.specs.declared.op.Op.{Op}
 use Rattle.flat_code.specs.declared.program.FlatFn.{FlatFn}
@@ -17,7 +17,8 @@ use Rattle.flat_code.specs.Operations.{gives}
 use Rattle.flat_code.specs.Evaluation as flat
 use Rattle.flat_code.specs.Evaluation.{cut_each}
 use Rattle.flat_code.specs.Kinds.{op_kind, takes_two, first_class, second_class}
-use Rattle.hx_runtime.specs.Functions.{runtime_params, runtime_result}
+use Rattle.hx_runtime.specs.Functions.{runtime_params, runtime_result, act, runtime_function}
+use Rattle.hx_runtime.specs.declared.runtime.RuntimeFunction.{RuntimeFunction}
 use Rattle.flat_code.specs.State as state
 use Rattle.flat_code.specs.State.{State, Result, Spent, value_of, set_temp, give, stepped}
 use Rattle.flat_code.specs.Temps.{call_class, has_one_class}

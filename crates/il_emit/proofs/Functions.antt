@@ -20,7 +20,8 @@ use Rattle.il_code.specs.declared.types.Inst.{Inst}
 use Rattle.il_code.specs.declared.types.Jump.{Jump}
 use Rattle.il_code.specs.declared.types.Jump.TheVariants as jump
 use Rattle.il_code.specs.Rules as rule
-use Rattle.hx_base.specs.Runtime.{RuntimeFunction, runtime_function}
+use Rattle.hx_runtime.specs.Functions.{runtime_function}
+use Rattle.hx_runtime.specs.declared.runtime.RuntimeFunction.{RuntimeFunction}
 use Rattle.il_code.specs.Items.{function_named}
 use Rattle.il_code.specs.Rules.{item_name, how_many, are_distinct, has_named, has_label, labels_known, block_labels_known, targets_pass, start_is_no_target, phis_are_placed, is_set, sets, result_sets, inst_sets, block_sets, inst_has_one_class, block_has_one_class, each_has_one_class, inst_is_right, jump_is_right, return_is_right, block_is_right, has_own_names, flow_is_right, item_is_right}
 use Rattle.il_code.specs.Shaped.{is_param, is_inst, is_jump, is_block, is_item}

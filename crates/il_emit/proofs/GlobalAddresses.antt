@@ -7,7 +7,7 @@ use Rattle.std.proofs.lemmas.Bool.Decides.{nat_tests}
 use Rattle.std.proofs.lemmas.Grind.{common_steps, flat_map-append}
 use Rattle.std.proofs.lemmas.List.Sums.{sum_by-append}
 use Rattle.hx_base.specs.Memory.{Memory, le_bytes, round_up, map_range, write, empty_memory}
-use Rattle.hx_base.specs.Runtime.{lookup, with_arguments}
+use Rattle.hx_base.specs.Runtime.{lookup, with_arguments, function_step, functions_start, data_start, or_zero}
 use Rattle.flat_code.specs.declared.program.Data.{Data}
 use Rattle.flat_code.specs.declared.program.FlatFn.{FlatFn}
 use Rattle.flat_code.specs.declared.program.FlatProgram.{FlatProgram}
@@ -22,8 +22,7 @@ use Rattle.il_code.specs.declared.types.Module.{Module}
 use Rattle.il_code.specs.declared.types.Part.TheVariants as part
 use Rattle.il_code.specs.declared.types.PartValue.{PartValue}
 use Rattle.il_code.specs.declared.types.PartValue.TheVariants as value
-use Rattle.il_code.specs.Addresses.{width_bytes, value_size, part_size, data_size, symbols_from, function_step, functions_start, data_start, address, value_bytes, part_bytes, with_item, with_data, start_memory}
-use Rattle.il_code.specs.Addresses as il_address
+use Rattle.il_code.specs.Addresses.{width_bytes, value_size, part_size, data_size, symbols_from, address, value_bytes, part_bytes, with_item, with_data, start_memory}
 use Rattle.il_code.specs.Tokens.{is_string_byte}
 use Rattle.il_emit.specs.Lines.{name_of, name_at}
 use Rattle.il_emit.specs.Emitted.{string_of, byte_values, bytes_part, item_parts, parts_of, data_item, function_item, module_of}
@@ -179,14 +178,7 @@ module _ (p : FlatProgram) (w : IsWellFormed p) where
   looked_up name h = ap (lookup name) symbols ∙ lookup_front name data_start p.globals _ h
 
   named : (name : List ℕ) → has_global p name ≡ true → address (module_of p) name ≡ flat.address_named p name
-  named name h = ap or_none (looked_up name h) ∙ both (lookup name (addresses_from data_start p.globals))
-    where
-      or_none : Option ℕ → ℕ
-      or_none o = il_address.or_zero o
-
-      both : (o : Option ℕ) → il_address.or_zero o ≡ flat.or_zero o
-      both None = refl
-      both (Some n) = refl
+  named name h = ap or_zero (looked_up name h)
 
   -- where a table is looked up by the name of a global, it has the global's address
   looked_up_at : (i : ℕ) → i < length p.globals → lookup (name_at p.globals i) (addresses_from data_start p.globals) ≡ Some (flat.address_at p i)
@@ -206,7 +198,7 @@ module _ (p : FlatProgram) (w : IsWellFormed p) where
   pub address_is : (i : ℕ) → i < length p.globals → address (module_of p) (name_at p.globals i) ≡ flat.address_at p i
   address_is i h =
       let e = looked_up (name_at p.globals i) (name_any p.globals i h) ∙ looked_up_at i h in
-      ap il_address.or_zero e
+      ap or_zero e
 
   pub address_small : (i : ℕ) → i < length p.globals → flat.address_at p i < 2 ^ 64
   address_small i h =

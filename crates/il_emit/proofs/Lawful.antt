@@ -11,7 +11,8 @@ use Rattle.flat_code.specs.declared.program.FlatProgram.{FlatProgram}
 use Rattle.flat_code.specs.WellFormed.{IsWellFormed, is_symbol, is_identifier, is_reserved, is_alignment, is_item, is_global, global_size}
 use Rattle.flat_code.specs.WellFormed as flat
 use Rattle.il_code.specs.declared.types.IlItem.{IlItem}
-use Rattle.hx_base.specs.Runtime.{RuntimeFunction, runtime_function, runtime_names}
+use Rattle.hx_runtime.specs.Functions.{runtime_function, runtime_names}
+use Rattle.hx_runtime.specs.declared.runtime.RuntimeFunction.{RuntimeFunction}
 use Rattle.il_code.specs.Items.{function_named}
 use Rattle.il_code.specs.Rules.{item_name, how_many, is_main, is_function, item_is_small, item_size, is_small, has_named, has_own_names, flow_is_right, item_is_right, IsValid}
 use Rattle.il_code.specs.Shaped as il

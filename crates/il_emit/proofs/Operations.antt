@@ -5,11 +5,12 @@ use Rattle.std.specs.List.{list_all}
 use Rattle.std.proofs.lemmas.Bool.{and_parts}
 use Rattle.std.proofs.lemmas.Slice.Eq.{bytes_eq-Decides}
 use Rattle.hx_base.specs.declared.Class.{Class}
-use Rattle.hx_base.specs.Runtime.{RuntimeFunction, lookup, runtime_function, runtime_names}
+use Rattle.hx_base.specs.Runtime.{lookup}
 use Rattle.flat_code.specs.declared.op.Op.{Op}
 use Rattle.flat_code.specs.declared.op.Op.TheVariants as flat
 use Rattle.flat_code.specs.Kinds.{op_kind, takes_two, first_class, second_class, may_give}
-use Rattle.hx_runtime.specs.Functions.{runtime_params, runtime_result}
+use Rattle.hx_runtime.specs.Functions.{runtime_params, runtime_result, runtime_function, runtime_names}
+use Rattle.hx_runtime.specs.declared.runtime.RuntimeFunction.{RuntimeFunction}
 use Rattle.il_code.specs.declared.types.IlArg.{IlArg}
 use Rattle.il_code.specs.declared.types.IlParam.{IlParam}
 use Rattle.il_code.specs.Classes as il

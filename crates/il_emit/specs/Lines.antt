@@ -2,7 +2,6 @@
 use Rattle.std.specs.Prelude.{ℕ, suc, ◌+◌, ◌-◌, Bool, true, false, List, [], ◌∷◌, ◌++◌, length, slice_get, slice_index_or, Option, None, Some, ◌==◌, if◌then◌else◌}
 use Rattle.hx_base.specs.declared.Class.{Class}
 use Rattle.hx_base.specs.declared.Class.TheVariants.{L}
-use Rattle.hx_base.specs.Runtime.{RuntimeFunction, runtime_function}
 use Rattle.flat_code.specs.declared.program.Data.{Data}
 use Rattle.flat_code.specs.declared.program.FlatFn.{FlatFn}
 use Rattle.flat_code.specs.declared.value.Value.{Value}
@@ -11,7 +10,8 @@ use Rattle.flat_code.specs.Code.{Code, Codes, none, more, Seq, Set, Load, Store,
 use Rattle.flat_code.specs.Shape.{code_of}
 use Rattle.flat_code.specs.Costs.{addressed}
 use Rattle.flat_code.specs.Kinds.{op_kind, takes_two}
-use Rattle.hx_runtime.specs.Functions.{runtime_params}
+use Rattle.hx_runtime.specs.Functions.{runtime_params, runtime_function}
+use Rattle.hx_runtime.specs.declared.runtime.RuntimeFunction.{RuntimeFunction}
 use Rattle.flat_code.specs.Temps.{call_class}
 use Rattle.il_code.specs.declared.op.IlOp.TheVariants as op
 use Rattle.il_code.specs.declared.types.IlArg.{IlArg}

@@ -1,7 +1,7 @@
 //! The lines of single statements, and those round the statements within one.
 
 ghost use Rattle.std.specs.Prelude.{◌≡◌, ◌+◌, ◌-◌, ◌<◌, ◌^◌, ◌∷◌, ◌++◌, [], Some, length, take, OnOk, IfOk};
-ghost use Rattle.hx_base.specs.Runtime.{runtime_function};
+ghost use Rattle.hx_runtime.specs.Functions.{runtime_function};
 ghost use Rattle.flat_code.specs.Costs.{addressed};
 ghost use Rattle.flat_code.specs.Code as flat;
 ghost use Rattle.flat_code.specs.Temps.{call_class};
@@ -15,7 +15,7 @@ use crate::op::il_op;
 use crate::operand::second;
 use flat_code::{Data, Op, Value};
 use hx_base::{Class, Text};
-use hx_runtime::Runtime;
+use hx_runtime::RuntimeFunction;
 use il_code::{IlArg, IlArgs, IlParam, IlValue, Inst, Jump};
 use std::alloc::{AllocError, Global};
 
@@ -23,7 +23,7 @@ use std::alloc::{AllocError, Global};
 fn call_params(name: &[u8]) -> &'static [Class]
     ensures { result.now ≡ call_params (runtime_function name.now) }
 {
-    match Runtime::named(name) {
+    match RuntimeFunction::named(name) {
         None => &[],
         Some(f) => f.params(),
     }
@@ -33,7 +33,7 @@ fn call_params(name: &[u8]) -> &'static [Class]
 fn call_class(name: &[u8]) -> Option<Class>
     ensures { result ≡ call_class (runtime_function name.now) }
 {
-    match Runtime::named(name) {
+    match RuntimeFunction::named(name) {
         None => None,
         Some(f) => f.result(),
     }

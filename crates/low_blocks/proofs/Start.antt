@@ -4,13 +4,13 @@ use Rattle.std.specs.Prelude.{sum_by, flat_map, slice_index_or, if◌then◌else
 use Rattle.std.proofs.lemmas.List.{append-nil}
 use Rattle.std.proofs.lemmas.List.Sums.{sum_by-cons}
 use Rattle.hx_base.specs.Memory.{Memory, round_up, in_range, byte_at, is_mapped, all_mapped, bytes_at, write, map_range, empty_memory}
-use Rattle.hx_base.specs.Runtime.{arguments_start, record_size, argument_size, argument_records, write_arguments, with_arguments}
+use Rattle.hx_base.specs.Runtime.{arguments_start, record_size, argument_size, argument_records, write_arguments, with_arguments, data_start}
 use Rattle.hx_base.proofs.Memory.Ranges.{in_range-inside, all_mapped-from, all_mapped-each}
 use Rattle.hx_base.proofs.Memory.Agreeing.{bytes_at-same}
 use Rattle.hx_base.proofs.Memory.Written.{byte_at-write_outside, bytes_at-write}
 use Rattle.flat_code.specs.declared.program.FlatFn.{FlatFn}
 use Rattle.flat_code.specs.declared.program.FlatProgram.{FlatProgram}
-use Rattle.flat_code.specs.Addresses.{data_start, item_size, item_bytes, data_size, addresses_from, addresses, address_at, with_global, with_globals, start_memory}
+use Rattle.flat_code.specs.Addresses.{item_size, item_bytes, data_size, addresses_from, addresses, address_at, with_global, with_globals, start_memory}
 use Rattle.low_blocks.specs.Programs.{text_items, text_global, text_globals}
 use Rattle.low_blocks.proofs.Texts.{AreTexts}
 

@@ -1,7 +1,6 @@
 -- The lowered program does the same as the program.
 use Rattle.std.proofs.Common.{◌≡◌, ℕ, ◌+◌, ◌≤◌, List, [], length, refl, ap, arith}
-use Rattle.hx_base.specs.Runtime.{World, arguments_start}
-use Rattle.flat_code.specs.Addresses.{data_start}
+use Rattle.hx_base.specs.Runtime.{World, arguments_start, data_start}
 use Rattle.flat_code.specs.State as flat
 use Rattle.flat_code.specs.State.{stepped, caught}
 use Rattle.flat_code.specs.Run as flat_run

@@ -1,7 +1,7 @@
 //! Code: its nesting, its forms, and the rules of each statement.
 
 ghost use Rattle.std.specs.Prelude.{◌≡◌, ◌≤◌};
-ghost use Rattle.hx_base.specs.Runtime.{runtime_function};
+ghost use Rattle.hx_runtime.specs.Functions.{runtime_function};
 ghost use Rattle.flat_code.specs.Shape.{code_of};
 ghost use Rattle.flat_code.specs.Code.{codes_of};
 ghost use Rattle.flat_code.specs.WellFormed.{is_built, are_built, nests_within, each_nests_within, is_target, takes_result, is_call, stored_class, is_right, are_right};
@@ -14,7 +14,7 @@ use crate::op::Op;
 use crate::program::FlatFn;
 use crate::value::Value;
 use hx_base::Class;
-use hx_runtime::Runtime;
+use hx_runtime::RuntimeFunction;
 
 /// How many statements may stand within one another.
 pub const DEEPEST: u32 = 4096;
@@ -70,7 +70,7 @@ pub fn is_built(code: &Flat) -> bool
         Flat::Seq(kids) => are_built(kids),
         Flat::If { yes, no, .. } => is_built(yes.get()) && is_built(no.get()),
         Flat::Loop(body) => is_built(body.get()),
-        Flat::Call { name, .. } => Runtime::named(name.bytes()).is_some(),
+        Flat::Call { name, .. } => RuntimeFunction::named(name.bytes()).is_some(),
         Flat::Set { .. } | Flat::Leave(_) | Flat::Ret(_) => true,
         Flat::Load { .. } | Flat::Store { .. } | Flat::Move { .. } => false,
     }
@@ -110,7 +110,7 @@ fn takes_result(f: &FlatFn, temp: Option<u32>, given: Option<Class>) -> bool
 fn is_call(globals: usize, f: &FlatFn, temp: Option<u32>, args: &[Value], name: &[u8]) -> bool
     ensures { result ≡ is_call globals f.now temp args.now (runtime_function name.now) }
 {
-    match Runtime::named(name) {
+    match RuntimeFunction::named(name) {
         None => false,
         Some(g) => are_args(globals, f, g.params(), args) && takes_result(f, temp, g.result()),
     }

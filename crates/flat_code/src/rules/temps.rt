@@ -1,7 +1,7 @@
 //! Temporaries: what sets them, and at which class.
 
 ghost use Rattle.std.specs.Prelude.{◌≡◌};
-ghost use Rattle.hx_base.specs.Runtime.{runtime_function};
+ghost use Rattle.hx_runtime.specs.Functions.{runtime_function};
 ghost use Rattle.flat_code.specs.Shape.{code_of};
 ghost use Rattle.flat_code.specs.Code.{codes_of};
 ghost use Rattle.flat_code.specs.Temps.{same_class, other_class, is_temp_of, call_class, call_sets, code_sets, one_sets, params_set, is_set, has_one_class};
@@ -9,7 +9,7 @@ ghost use Rattle.flat_code.specs.Temps.{same_class, other_class, is_temp_of, cal
 use crate::flat::{Flat, FlatKids};
 use crate::program::FlatFn;
 use hx_base::Class;
-use hx_runtime::Runtime;
+use hx_runtime::RuntimeFunction;
 
 fn same_class(a: Class, b: Class) -> bool
     ensures { result ≡ same_class a b }
@@ -40,7 +40,7 @@ fn is_temp_of(t: u32, class: Class, temp: u32, c: Class) -> bool
 fn call_class(name: &[u8]) -> Option<Class>
     ensures { result ≡ call_class (runtime_function name.now) }
 {
-    match Runtime::named(name) {
+    match RuntimeFunction::named(name) {
         None => None,
         Some(f) => f.result(),
     }

@@ -8,7 +8,7 @@ use super::names::Named;
 use super::temps::same_class;
 use crate::types::{IlArg, IlItem, IlParam};
 use hx_base::Class;
-use hx_runtime::Runtime;
+use hx_runtime::RuntimeFunction;
 
 /// Whether a call is of a function of the module or of the runtime, with its classes. The first item of the target's name decides.
 pub fn is_call_right(items: &[IlItem], to: &Option<IlParam>, target: &[u8], args: &[IlArg]) -> bool
@@ -71,7 +71,7 @@ fn takes_result(to: &Option<IlParam>, given: Option<Class>) -> bool
 fn is_runtime_call(to: &Option<IlParam>, target: &[u8], args: &[IlArg]) -> bool
     ensures { result ≡ is_runtime_call to.now target.now args.now }
 {
-    match Runtime::named(target) {
+    match RuntimeFunction::named(target) {
         None => false,
         Some(f) => takes_result(to, f.result()) && has_classes(args, f.params()),
     }

@@ -1,6 +1,6 @@
 -- The call stands behind what computes the addresses of its arguments.
 use Rattle.std.proofs.Common.{ℕ, List, ap, ◌∙◌}
-use Rattle.hx_base.specs.Runtime.{runtime_function}
+use Rattle.hx_runtime.specs.Functions.{runtime_function}
 use Rattle.il_emit.specs.Lines.{call_params}
 use Rattle.il_emit.proofs.Emitting.{call_emits}
 use Rattle.il_emit.proofs.emitter.Emitter.call.Goals as goal
