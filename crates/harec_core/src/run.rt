@@ -7,7 +7,7 @@ ghost use Rattle.harec_core.specs.Stages.{IsTextOf};
 
 use hx_io::Sink;
 use il_plain::{Ended, run_plain};
-use il_read::{law_readable, read_printed};
+use il_read::{law_recoverable, read_printed};
 use std::alloc::{AllocError, Global};
 
 /// How the program ends that a text is, with a number of arguments, a fill byte and a budget of units. What runs is read back from the text. All
@@ -27,8 +27,8 @@ pub fn run_text<O: Sink>(
     ensures count { IfOk result (λ e. CountsEnd (O.faults out.old) (O.faults out.new) e) }
     ensures err { OnErr result (out.new ≡ out.old) }
 {
-    // The text is that of a valid module, and so of a readable one.
-    law_readable();
+    // The text is that of a valid module, and so of a recoverable one.
+    law_recoverable();
     let Some(module) = read_printed(alloc, text)? else {
         unreachable!();
     };

@@ -1,4 +1,4 @@
--- Valid modules are readable.
+-- Valid modules are recoverable.
 use Rattle.std.proofs.Common.{◌≡◌, ℕ, ◌^◌, List, [], ◌∷◌, true, nat_lt, refl, arith}
 use Rattle.std.specs.List.{list_all}
 use Rattle.std.proofs.lemmas.Bool.{and_parts}
@@ -10,7 +10,7 @@ use Rattle.il_code.specs.declared.types.Module.{Module}
 use Rattle.il_code.specs.Rules.{is_alignment, part_is_small, item_is_small, IsValid}
 use Rattle.il_code.specs.Shaped.{is_shaped, is_lawful}
 use Rattle.il_code.proofs.Validates.{valid_is}
-use Rattle.il_read.specs.Readable.{is_aligned, IsReadable}
+use Rattle.il_read.specs.Recoverable.{is_aligned, IsRecoverable}
 
 short : (n : ℕ) → is_alignment n ≡ true → nat_lt n (2 ^ 32) ≡ true
 short n h = grind (arith, nat_tests, common_steps)
@@ -26,8 +26,8 @@ all_aligned (i ∷ is) h =
     let first = aligned i p.0 in
     rw first (all_aligned is p.1)
 
-pub IsReadable-valid : (m : Module) → IsValid m → IsReadable m
-IsReadable-valid m v = record {
+pub IsRecoverable-valid : (m : Module) → IsValid m → IsRecoverable m
+IsRecoverable-valid m v = record {
   shaped = (and_parts (is_shaped m) (is_lawful m.items) ((valid_is m).1 v)).0;
   aligned = all_aligned m.items
       v.lawful.numbers;

@@ -1,4 +1,4 @@
-pub mod Readable
+pub mod Recoverable
 pub mod Taken
 pub mod Front
 pub mod Lists

@@ -1,8 +1,8 @@
-//! Which modules are readable.
+//! Which modules are recoverable.
 
-ghost use Rattle.il_read.specs.Readable.{ValidIsReadable};
+ghost use Rattle.il_read.specs.Recoverable.{ValidIsRecoverable};
 
 /// A valid module can be read back from its printed text.
-pub fn law_readable()
-    ensures { ValidIsReadable }
+pub fn law_recoverable()
+    ensures { ValidIsRecoverable }
 {}

@@ -1,7 +1,7 @@
 //! Reading the printed text of a module back.
 //!
-//! [`read_printed`] takes the texts that [`il_code::print`] writes and no others. Every readable module comes back as it was
-//! (`specs/Readable.antt`), and every valid module is readable ([`law_readable`]).
+//! [`read_printed`] takes the texts that [`il_code::print`] writes and no others. Every recoverable module comes back as it was
+//! (`specs/Recoverable.antt`), and every valid module is recoverable ([`law_recoverable`]).
 #![tactic(auto)]
 
 mod block;
@@ -20,5 +20,5 @@ mod taken;
 mod tests;
 mod value;
 
-pub use law::law_readable;
+pub use law::law_recoverable;
 pub use printed::read_printed;

@@ -15,12 +15,12 @@ same_module o m n h k = cc
 pub unreachable-requires-in-None : goal.unreachable-requires-in-None
 unreachable-requires-in-None g c =
     let text = c.requires.2 in
-    let read = c.in_ok-module.ensures.found c.requires.1 (c.law_readable.ensures c.requires.1 text.made.valid) text.printed in
+    let read = c.in_ok-module.ensures.found c.requires.1 (c.law_recoverable.ensures c.requires.1 text.made.valid) text.printed in
     let same = same_module c.in_ok-module.field-0 c.in-Some.module c.requires.1 c.in-Some.is read in
     some_none c.in_ok-end.field-0 _ c.in_ok-end.ensures.plain (rw same text.made.plain) c.in-None.is
 
 pub returns-clause-ran : goal.returns-clause-ran
 returns-clause-ran g c = λ source m args input text l.
-    let read = c.in_ok-module.ensures.found m (c.law_readable.ensures m text.made.valid) text.printed in
+    let read = c.in_ok-module.ensures.found m (c.law_recoverable.ensures m text.made.valid) text.printed in
     let same = same_module c.in_ok-module.field-0 c.in-Some.module m c.in-Some.is read in
     rw (← same) (rw c.in-Some-2.is at (c.in_ok-end.ensures.run args input l))
