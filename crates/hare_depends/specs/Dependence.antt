@@ -30,8 +30,7 @@ abbrev pub through : List Said → ℕ → List ℕ
 through ds e = if is_at is_global ds e then numbers_at (λ s. s.written) ds e else e ∷ []
 
 -- A type and a signature need the types that they hold by value or spread, and the defs in lengths of arrays; a def and a global without a
--- type all that
--- they name; a global with a type all that it names but globals with a type, and all that the types of those name.
+-- type all that they name; a global with a type all that it names but globals with a type, and all that the types of those name.
 abbrev pub needed_by : List Said → Sort → Said → List ℕ
 needed_by ds so.Type s = s.needed
 needed_by ds so.Function s = s.needed

@@ -1,6 +1,5 @@
 -- The graph of dependence, which is as large as what is said. A declaration has three nodes: itself, what it mentions, and what its written
--- type names. So
--- a value that depends on all that others mention has one edge for each of them. No public clause cites it.
+-- type names. So a value that depends on all that others mention has one edge for each of them. No public clause cites it.
 use Rattle.std.specs.Prelude.{◌≡◌, ◌↔◌, ℕ, zero, suc, ◌+◌, ◌<◌, List, [], ◌∷◌, ◌++◌, Bool, true, length, fold, slice_get, Option, Some, None, Contains, if◌then◌else◌}
 use Rattle.hare_tree.specs.declared.place.Place.{Place}
 use Rattle.hare_tree.specs.declared.place.Fault.{Fault}

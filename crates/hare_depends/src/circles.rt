@@ -1,8 +1,8 @@
 //! Circles of declarations.
 //!
-//! The nodes of the graph of dependence are parted into ranks such that no edge leads to a lower one. So an edge that leads to a higher rank leads back by no
-//! way, and only the others are followed. The ranks are such that the first that is followed ends the search, and all takes linear time; but the answer
-//! rests on nothing more than that no edge leads to a lower rank.
+//! The nodes of the graph of dependence are parted into ranks such that no edge leads to a lower one. So an edge that leads to a higher
+//! rank leads back by no way, and only the others are followed. The ranks are such that the first that is followed ends the search, and all
+//! takes linear time; but the answer rests on nothing more than that no edge leads to a lower rank.
 
 ghost use Rattle.std.specs.Prelude.{◌≡◌, ◌↔◌, ◌<◌, ◌^◌, length, IsTrue, IfOk};
 ghost use Rattle.hare_graph.specs.Graphs.{Reached};
@@ -16,12 +16,14 @@ use hare_graph::{Graph, flood, label_of, leads_to, leads_up, no_labels, ranks};
 use hare_tree::Fault;
 use std::alloc::{AllocError, Global};
 
-/// The fault of circles of declarations, of which these are said by their numbers: the first in source order that depends on itself has it at its name, E23
-/// where a def or a global without a type lies on a circle with it, and else E17. None where no declaration depends on itself.
+/// The fault of circles of declarations, of which these are said by their numbers: the first in source order that depends on itself has it
+/// at its name, E23 where a def or a global without a type lies on a circle with it, and else E17. None where no declaration depends on
+/// itself.
 ///
 /// There are fewer than 2^32 declarations, and each number that one says is that of one of them.
 ///
-/// Fails only for want of memory. Takes time in proportion to the declarations and to what they name, and no more of the host's stack for longer circles.
+/// Fails only for want of memory. Takes time in proportion to the declarations and to what they name, and no more of the host's stack for
+/// longer circles.
 pub fn first_circle(alloc: Global, saids: &[Said]) -> Result<Option<Fault>, AllocError>
     requires few { length saids.now < 2 ^ 32 }
     requires within { AllWithin saids.now }

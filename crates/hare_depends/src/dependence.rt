@@ -1,7 +1,7 @@
 //! The graph of what declarations depend on at once.
 //!
-//! A declaration has a fourth node here, from which lead what it needs; none leads to it, and from that of the declaration itself nothing leads on. So what is
-//! reached from there are the declarations on which it depends, and not those on which these depend in turn.
+//! A declaration has a fourth node here, from which lead what it needs; none leads to it, and from that of the declaration itself nothing
+//! leads on. So what is reached from there are the declarations on which it depends, and not those on which these depend in turn.
 
 ghost use Rattle.std.specs.Prelude.{◌≡◌, ◌+◌, ◌<◌, ◌^◌, length, fold, IfOk};
 ghost use Rattle.hare_depends.specs.Circles.{AllWithin};

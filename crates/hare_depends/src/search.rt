@@ -1,8 +1,8 @@
 //! The order in which declarations are judged.
 //!
-//! A search in depth, with a frame for each declaration under way. A frame has the declarations on which its own depends that were left when it was entered, in
-//! ascending order: the first of them that is still left is gone on to. Nodes of what is mentioned get a label once all that they lead to is done, and are not
-//! looked at again.
+//! A search in depth, with a frame for each declaration under way. A frame has the declarations on which its own depends that were left
+//! when it was entered, in ascending order: the first of them that is still left is gone on to. Nodes of what is mentioned get a label once
+//! all that they lead to is done, and are not looked at again.
 
 ghost use Rattle.std.specs.Prelude.{◌≡◌, ◌+◌, ◌<◌, ◌^◌, ◌++◌, ◌∷◌, [], length, slice_get, filter, None, IfOk, OnOk};
 ghost use Rattle.hare_graph.specs.Graphs.{label_of};
@@ -39,13 +39,14 @@ pub struct Search {
     pub way: Vec<Frame>,
 }
 
-/// The order in which declarations are judged, of which these are said by their numbers: that of the source, each behind those on which it depends, depth
-/// first. No declaration may depend on itself, which `first_circle` tells.
+/// The order in which declarations are judged, of which these are said by their numbers: that of the source, each behind those on which it
+/// depends, depth first. No declaration may depend on itself, which `first_circle` tells.
 ///
 /// There are fewer than 2^32 declarations, and each number that one says is that of one of them.
 ///
-/// Fails only for want of memory. Uses no more of the host's stack for longer chains. Takes time in proportion to the declarations and to what they name, but
-/// for sorting, and but for values that depend on one another and mention the same types while these are left: those types are gone over for each such value.
+/// Fails only for want of memory. Uses no more of the host's stack for longer chains. Takes time in proportion to the declarations and to
+/// what they name, but for sorting, and but for values that depend on one another and mention the same types while these are left: those
+/// types are gone over for each such value.
 pub fn order(alloc: Global, saids: &[Said]) -> Result<Vec<u32>, AllocError>
     requires few { length saids.now < 2 ^ 32 }
     requires within { AllWithin saids.now }
@@ -127,7 +128,8 @@ fn go_on(
     requires few { length saids.now < 2 ^ 32 }
     requires no_circle { TellsCircle saids.now None }
     requires graph { spec.IsDependence saids.now graph.now }
-    requires stands { spec.Stands saids.now graph.now search.done.items search.spent.items search.entered.items (search.way.items ++ frame ∷ []) }
+    requires stands { spec.Stands saids.now graph.now search.done.items search.spent.items search.entered.items
+        (search.way.items ++ frame ∷ []) }
     ensures { IfOk result (spec.Continues saids.now graph.now search frame.decl (spec.work search + 1)) }
 {
     let mut search = search;
@@ -238,7 +240,8 @@ fn put_out(
     requires few { length saids.now < 2 ^ 32 }
     requires no_circle { TellsCircle saids.now None }
     requires graph { spec.IsDependence saids.now graph.now }
-    requires stands { spec.Stands saids.now graph.now search.done.items search.spent.items search.entered.items (search.way.items ++ frame ∷ []) }
+    requires stands { spec.Stands saids.now graph.now search.done.items search.spent.items search.entered.items
+        (search.way.items ++ frame ∷ []) }
     requires ready { IsReady saids.now search.done.items frame.decl }
     ensures { IfOk result (spec.Continues saids.now graph.now search frame.decl (spec.work search + 1)) }
 {

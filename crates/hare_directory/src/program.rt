@@ -16,8 +16,8 @@ use hare_tree::{Fault, FileTree};
 use hx_base::{Items, Text};
 use std::alloc::{AllocError, Global};
 
-/// What the modules of a program declare and its files import; and of all faults of its files, imports and declarations the one that counts first, or none
-/// where there is none.
+/// What the modules of a program declare and its files import; and of all faults of its files, imports and declarations the one that counts
+/// first, or none where there is none.
 ///
 /// `paths` are those of the files, and `files` their trees, each with its number in that order. They have fewer than 2^32 - 1 declarations.
 /// Fails only for want of memory. Takes time in proportion to the imports and declarations, but for look-ups of names.

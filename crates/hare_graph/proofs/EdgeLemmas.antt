@@ -38,7 +38,8 @@ module _ (g : Graph) (a b : ℕ) where
     where
       by : Grown g a b (with_edge g a b) → Other x a → HasEdge (with_edge g a b) x y
       by (inr e) o = subst (λ k. HasEdge k x y) (sym e.1) h
-      by (inl e) (inr o) = subst (λ k. HasEdge k x y) (sym e.1) (subst (λ ns. Contains ns y) (sym (get_or-set_other g a x (get_or g a [] ++ b ∷ []) [] o)) h)
+      by (inl e) (inr o) =
+          subst (λ k. HasEdge k x y) (sym e.1) (subst (λ ns. Contains ns y) (sym (get_or-set_other g a x (get_or g a [] ++ b ∷ []) [] o)) h)
       by (inl e) (inl o) =
           subst (λ k. HasEdge k x y) (sym e.1)
           (subst (λ z. HasEdge (set g a (get_or g a [] ++ b ∷ [])) z y) (sym o)
@@ -59,7 +60,8 @@ module _ (g : Graph) (a b : ℕ) where
 
       by : Grown g a b (with_edge g a b) → Other x a → HasEdge g x y ⊎ ((x ≡ a) × (y ≡ b))
       by (inr e) o = inl (subst (λ k. HasEdge k x y) e.1 h)
-      by (inl e) (inr o) = inl (subst (λ ns. Contains ns y) (get_or-set_other g a x (get_or g a [] ++ b ∷ []) [] o) (subst (λ k. HasEdge k x y) e.1 h))
+      by (inl e) (inr o) =
+          inl (subst (λ ns. Contains ns y) (get_or-set_other g a x (get_or g a [] ++ b ∷ []) [] o) (subst (λ k. HasEdge k x y) e.1 h))
       by (inl e) (inl o) =
           pushed o (Contains-push_cases (get_or g a []) b y
           (subst (λ ns. Contains ns y) (get_or-set_same g a (get_or g a [] ++ b ∷ []) [] (ltb-true a (length g) e.0))
@@ -83,7 +85,8 @@ both-on count g h a b la lb t = record {
   where
     by : (x y : ℕ) → HasEdge g x y ⊎ ((x ≡ a) × (y ≡ b)) → HasEdge (with_edge h b a) y x
     by x y (inl e) = edge-kept h b a y x (t.reverse.back x y e)
-    by x y (inr e) = subst (λ z. HasEdge (with_edge h b a) z x) (sym e.1) (subst (λ z. HasEdge (with_edge h b a) b z) (sym e.0) (edge-new h b a (omega (arith, t.length_is, t.reverse.size))))
+    by x y (inr e) = subst (λ z. HasEdge (with_edge h b a) z x) (sym e.1)
+        (subst (λ z. HasEdge (with_edge h b a) b z) (sym e.0) (edge-new h b a (omega (arith, t.length_is, t.reverse.size))))
 
     within-by : (x y : ℕ) → HasEdge g x y ⊎ ((x ≡ a) × (y ≡ b)) → length (with_edge g a b) ≡ length g → y < length (with_edge g a b)
     within-by x y (inl e) l = let m : y < length g = t.stays x y e in omega arith

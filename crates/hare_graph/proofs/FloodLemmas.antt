@@ -14,7 +14,8 @@ use Rattle.hare_graph.specs.Graphs.{Graph, HasEdge, Reached, at_start, along, la
 pub record Step (k : ℕ) (ns : List ℕ) (m m' : Marks) : Type 0 where
   pub size : length m'.labels ≡ length m.labels
   pub kept : (n l : ℕ) → label_of m.labels n ≡ Some l → label_of m'.labels n ≡ Some l
-  pub fresh : (n l : ℕ) → label_of m'.labels n ≡ Some l → (label_of m.labels n ≡ Some l) ⊎ ((label_of m.labels n ≡ None) × (l ≡ k) × Contains ns n × Contains m'.left n)
+  pub fresh : (n l : ℕ) → label_of m'.labels n ≡ Some l →
+      (label_of m.labels n ≡ Some l) ⊎ ((label_of m.labels n ≡ None) × (l ≡ k) × Contains ns n × Contains m'.left n)
   pub stays : (n : ℕ) → Contains m.left n → Contains m'.left n
   pub left_from : (n : ℕ) → Contains m'.left n → Contains m.left n ⊎ ((label_of m.labels n ≡ None) × Contains ns n)
   pub all : (n : ℕ) → Contains ns n → n < length m.labels → IsLabelled m'.labels n
@@ -36,12 +37,19 @@ module _ (k : ℕ) (m : Marks) (n : ℕ) (lt : n < length m.labels) (none : labe
   new_kept a l e (inl h) = let f : label_of m.labels a ≡ None = rw h none in absurd cc
   new_kept a l e (inr h) = get_or-set_other m.labels n a (Some k) None h ∙ e
 
-  new_fresh : (a l : ℕ) → label_of new a ≡ Some l → Other a n → (label_of m.labels a ≡ Some l) ⊎ ((label_of m.labels a ≡ None) × (l ≡ k) × Contains (n ∷ []) a × Contains (m.left ++ n ∷ []) a)
+  new_fresh : (a l : ℕ) → label_of new a ≡ Some l → Other a n →
+      (label_of m.labels a ≡ Some l) ⊎ ((label_of m.labels a ≡ None) × (l ≡ k) × Contains (n ∷ []) a × Contains (m.left ++ n ∷ []) a)
   new_fresh a l e (inl h) =
       let same : label_of new a ≡ Some k = rw h (get_or-set_same m.labels n (Some k) None lt) in
       let none_at : label_of m.labels a ≡ None = rw h none in
       let eq : l ≡ k = cc in
-      inr (none_at, eq, subst (λ b. Contains (n ∷ []) b) (sym h) (Contains-here n []), subst (λ b. Contains (m.left ++ n ∷ []) b) (sym h) (Contains-push m.left n))
+      inr (
+        none_at,
+        eq,
+        subst (λ b. Contains (n ∷ []) b) (sym h) (Contains-here n []),
+        subst (λ b. Contains (m.left ++ n ∷ []) b) (sym h)
+            (Contains-push m.left n),
+      )
   new_fresh a l e (inr h) = inl (sym (get_or-set_other m.labels n a (Some k) None h) ∙ e)
 
   new_left : (a : ℕ) → Contains m.left a ⊎ (n ≡ a) → Contains m.left a ⊎ ((label_of m.labels a ≡ None) × Contains (n ∷ []) a)
@@ -95,7 +103,8 @@ not_free ls n e l = labelled (label_of ls n) (sym (ap (λ b. b && is_none (label
 visited-step : (k : ℕ) (m : Marks) (n : ℕ) → Step k (n ∷ []) m (visited k m n)
 visited-step k m n = by (is_free m.labels n) refl
   where
-    by : (b : Bool) → is_free m.labels n ≡ b → Step k (n ∷ []) m (cond b (record { labels = set m.labels n (Some k); left = m.left ++ n ∷ [] }) m)
+    by : (b : Bool) → is_free m.labels n ≡ b →
+        Step k (n ∷ []) m (cond b (record { labels = set m.labels n (Some k); left = m.left ++ n ∷ [] }) m)
     by true e = let p = and_parts _ _ e in taken-step k m n (ltb-true n (length m.labels) p.0) (unlabelled _ p.1)
     by false e = kept-step k m n (not_free m.labels n e)
 
@@ -116,19 +125,24 @@ module _ (k n : ℕ) (ns : List ℕ) (m m1 m2 : Marks) (s : Step k (n ∷ []) m 
       by (inl e) = subst (λ b. Contains (n ∷ ns) b) e (Contains-here n ns)
       by (inr d) = absurd (Contains-none a d)
 
-  joined_fresh : (a l : ℕ) → (label_of m1.labels a ≡ Some l) ⊎ ((label_of m1.labels a ≡ None) × (l ≡ k) × Contains ns a × Contains m2.left a) → (label_of m.labels a ≡ Some l) ⊎ ((label_of m.labels a ≡ None) × (l ≡ k) × Contains (n ∷ ns) a × Contains m2.left a)
+  joined_fresh : (a l : ℕ) → (label_of m1.labels a ≡ Some l) ⊎
+      ((label_of m1.labels a ≡ None) × (l ≡ k) × Contains ns a × Contains m2.left a) →
+      (label_of m.labels a ≡ Some l) ⊎ ((label_of m.labels a ≡ None) × (l ≡ k) × Contains (n ∷ ns) a × Contains m2.left a)
   joined_fresh a l (inr h) = inr (step_none a h.0, h.1, Contains-behind n a ns h.2, h.3)
   joined_fresh a l (inl e) = by (s.fresh a l e)
     where
-      by : (label_of m.labels a ≡ Some l) ⊎ ((label_of m.labels a ≡ None) × (l ≡ k) × Contains (n ∷ []) a × Contains m1.left a) → (label_of m.labels a ≡ Some l) ⊎ ((label_of m.labels a ≡ None) × (l ≡ k) × Contains (n ∷ ns) a × Contains m2.left a)
+      by : (label_of m.labels a ≡ Some l) ⊎ ((label_of m.labels a ≡ None) × (l ≡ k) × Contains (n ∷ []) a × Contains m1.left a) →
+          (label_of m.labels a ≡ Some l) ⊎ ((label_of m.labels a ≡ None) × (l ≡ k) × Contains (n ∷ ns) a × Contains m2.left a)
       by (inl f) = inl f
       by (inr h) = inr (h.0, h.1, head_of a h.2, t.stays a h.3)
 
-  joined_left : (a : ℕ) → Contains m1.left a ⊎ ((label_of m1.labels a ≡ None) × Contains ns a) → Contains m.left a ⊎ ((label_of m.labels a ≡ None) × Contains (n ∷ ns) a)
+  joined_left : (a : ℕ) → Contains m1.left a ⊎ ((label_of m1.labels a ≡ None) × Contains ns a) →
+      Contains m.left a ⊎ ((label_of m.labels a ≡ None) × Contains (n ∷ ns) a)
   joined_left a (inr h) = inr (step_none a h.0, Contains-behind n a ns h.1)
   joined_left a (inl c) = by (s.left_from a c)
     where
-      by : Contains m.left a ⊎ ((label_of m.labels a ≡ None) × Contains (n ∷ []) a) → Contains m.left a ⊎ ((label_of m.labels a ≡ None) × Contains (n ∷ ns) a)
+      by : Contains m.left a ⊎ ((label_of m.labels a ≡ None) × Contains (n ∷ []) a) →
+          Contains m.left a ⊎ ((label_of m.labels a ≡ None) × Contains (n ∷ ns) a)
       by (inl d) = inl d
       by (inr h) = inr (h.0, head_of a h.1)
 
@@ -162,7 +176,8 @@ no-step k m = record {
 
 pub all-step : (k : ℕ) (m : Marks) (ns : List ℕ) → Step k ns m (fold (visited k) m ns)
 all-step k m [] = no-step k m
-all-step k m (n ∷ ns) = joined-step k n ns m (visited k m n) (fold (visited k) (visited k m n) ns) (visited-step k m n) (all-step k (visited k m n) ns)
+all-step k m (n ∷ ns) =
+    joined-step k n ns m (visited k m n) (fold (visited k) (visited k m n) ns) (visited-step k m n) (all-step k (visited k m n) ns)
 
 -- ---- the whole flood
 
@@ -175,37 +190,43 @@ pub record Flooding (g : Graph) (start k : ℕ) (old now : List (Option ℕ)) (l
   pub left_new : (n : ℕ) → Contains left n → (label_of old n ≡ None) × Reached g start n
   pub closed : (a b : ℕ) → label_of old a ≡ None → IsLabelled now a → HasEdge g a b → b < length old → IsLabelled now b ⊎ Contains left a
 
-module _ (g : Graph) (start k : ℕ) (old now : List (Option ℕ)) (left : List ℕ) (s : Step k (start ∷ []) (marks old []) (marks now left)) where
-  start_reached : (n : ℕ) → (start ≡ n) ⊎ Contains [] n → Reached g start n
-  start_reached n (inl e) = subst (λ a. Reached g start a) e at_start
-  start_reached n (inr c) = absurd (Contains-none n c)
+module _ (g : Graph) (start k : ℕ) (old now : List (Option ℕ)) (left : List ℕ) (s : Step k (start ∷ []) (marks old []) (marks now left))
+  where
+    start_reached : (n : ℕ) → (start ≡ n) ⊎ Contains [] n → Reached g start n
+    start_reached n (inl e) = subst (λ a. Reached g start a) e at_start
+    start_reached n (inr c) = absurd (Contains-none n c)
 
-  start_fresh : (n l : ℕ) → (label_of old n ≡ Some l) ⊎ ((label_of old n ≡ None) × (l ≡ k) × Contains (start ∷ []) n × Contains left n) → (label_of old n ≡ Some l) ⊎ ((label_of old n ≡ None) × (l ≡ k) × Reached g start n)
-  start_fresh n l (inl e) = inl e
-  start_fresh n l (inr h) = inr (h.0, h.1, start_reached n (Contains-cases start n [] h.2))
+    start_fresh : (n l : ℕ) → (label_of old n ≡ Some l) ⊎ ((label_of old n ≡ None) × (l ≡ k) × Contains (start ∷ []) n × Contains left n) →
+        (label_of old n ≡ Some l) ⊎ ((label_of old n ≡ None) × (l ≡ k) × Reached g start n)
+    start_fresh n l (inl e) = inl e
+    start_fresh n l (inr h) = inr (h.0, h.1, start_reached n (Contains-cases start n [] h.2))
 
-  start_left : (n : ℕ) → Contains [] n ⊎ ((label_of old n ≡ None) × Contains (start ∷ []) n) → (label_of old n ≡ None) × Reached g start n
-  start_left n (inl c) = absurd (Contains-none n c)
-  start_left n (inr h) = (h.0, start_reached n (Contains-cases start n [] h.1))
+    start_left : (n : ℕ) → Contains [] n ⊎ ((label_of old n ≡ None) × Contains (start ∷ []) n) → (label_of old n ≡ None) × Reached g start n
+    start_left n (inl c) = absurd (Contains-none n c)
+    start_left n (inr h) = (h.0, start_reached n (Contains-cases start n [] h.1))
 
-  start_closed : (a b l : ℕ) → label_of old a ≡ None → (label_of old a ≡ Some l) ⊎ ((label_of old a ≡ None) × (l ≡ k) × Contains (start ∷ []) a × Contains left a) → IsLabelled now b ⊎ Contains left a
-  start_closed a b l n (inl e) = absurd cc
-  start_closed a b l n (inr h) = inr h.3
+    start_closed : (a b l : ℕ) → label_of old a ≡ None →
+        (label_of old a ≡ Some l) ⊎ ((label_of old a ≡ None) × (l ≡ k) × Contains (start ∷ []) a × Contains left a) →
+        IsLabelled now b ⊎ Contains left a
+    start_closed a b l n (inl e) = absurd cc
+    start_closed a b l n (inr h) = inr h.3
 
-  started-flooding : Flooding g start k old now left
-  started-flooding = record {
-    size = s.size;
-    kept = s.kept;
-    fresh = λ n l e. start_fresh n l (s.fresh n l e);
-    started = λ l. s.all start (Contains-here start []) l;
-    left_new = λ n c. start_left n (s.left_from n c);
-    closed = λ a b n e h l. start_closed a b e.0 n (s.fresh a e.0 e.1);
-  }
+    started-flooding : Flooding g start k old now left
+    started-flooding = record {
+      size = s.size;
+      kept = s.kept;
+      fresh = λ n l e. start_fresh n l (s.fresh n l e);
+      started = λ l. s.all start (Contains-here start []) l;
+      left_new = λ n c. start_left n (s.left_from n c);
+      closed = λ a b n e h l. start_closed a b e.0 n (s.fresh a e.0 e.1);
+    }
 
-pub flooding-start : (g : Graph) (start k : ℕ) (old now : List (Option ℕ)) (none left : List ℕ) → none ≡ [] → marks now left ≡ visited k (marks old none) start → Flooding g start k old now left
+pub flooding-start : (g : Graph) (start k : ℕ) (old now : List (Option ℕ)) (none left : List ℕ) → none ≡ [] →
+    marks now left ≡ visited k (marks old none) start → Flooding g start k old now left
 flooding-start g start k old now none left n e =
     let f : marks now left ≡ visited k (marks old []) start = e ∙ ap (λ xs. visited k (marks old xs) start) n in
-    started-flooding g start k old now left (subst (λ m. Step k (start ∷ []) (marks old []) m) (sym f) (visited-step k (marks old []) start))
+    started-flooding g start k old now left
+    (subst (λ m. Step k (start ∷ []) (marks old []) m) (sym f) (visited-step k (marks old []) start))
 
 module _ (g : Graph) (start k : ℕ) (old now now' : List (Option ℕ)) (all left left' : List ℕ) (node : ℕ) (a : all ≡ left ++ node ∷ [])
     (s : Step k (get_or g node []) (marks now left) (marks now' left')) (f : Flooding g start k old now all) where
@@ -215,11 +236,14 @@ module _ (g : Graph) (start k : ℕ) (old now now' : List (Option ℕ)) (all lef
   on_reached : (n : ℕ) → Contains (get_or g node []) n → Reached g start n
   on_reached n c = along node n (f.left_new node (subst (λ xs. Contains xs node) (sym a) (Contains-push left node))).1 c
 
-  on_fresh : (n l : ℕ) → (label_of now n ≡ Some l) ⊎ ((label_of now n ≡ None) × (l ≡ k) × Contains (get_or g node []) n × Contains left' n) → (label_of old n ≡ Some l) ⊎ ((label_of old n ≡ None) × (l ≡ k) × Reached g start n)
+  on_fresh : (n l : ℕ) → (label_of now n ≡ Some l) ⊎
+      ((label_of now n ≡ None) × (l ≡ k) × Contains (get_or g node []) n × Contains left' n) →
+      (label_of old n ≡ Some l) ⊎ ((label_of old n ≡ None) × (l ≡ k) × Reached g start n)
   on_fresh n l (inl e) = f.fresh n l e
   on_fresh n l (inr h) = inr (on_none n h.0, h.1, on_reached n h.2)
 
-  on_left : (n : ℕ) → Contains left n ⊎ ((label_of now n ≡ None) × Contains (get_or g node []) n) → (label_of old n ≡ None) × Reached g start n
+  on_left : (n : ℕ) → Contains left n ⊎ ((label_of now n ≡ None) × Contains (get_or g node []) n) → (label_of old n ≡ None) ×
+      Reached g start n
   on_left n (inl c) = f.left_new n (subst (λ xs. Contains xs n) (sym a) (Contains-append_left left (node ∷ []) n c))
   on_left n (inr h) = (on_none n h.0, on_reached n h.1)
 
@@ -231,7 +255,9 @@ module _ (g : Graph) (start k : ℕ) (old now now' : List (Option ℕ)) (all lef
   on_done x b h l (inl y) = inl (y.0, s.kept b y.0 y.1)
   on_done x b h l (inr c) = on_waiting x b h l (Contains-push_cases left node x (subst (λ xs. Contains xs x) a c))
 
-  on_closed : (x b l : ℕ) → label_of old x ≡ None → HasEdge g x b → b < length old → (label_of now x ≡ Some l) ⊎ ((label_of now x ≡ None) × (l ≡ k) × Contains (get_or g node []) x × Contains left' x) → IsLabelled now' b ⊎ Contains left' x
+  on_closed : (x b l : ℕ) → label_of old x ≡ None → HasEdge g x b → b < length old →
+      (label_of now x ≡ Some l) ⊎ ((label_of now x ≡ None) × (l ≡ k) × Contains (get_or g node []) x × Contains left' x) →
+      IsLabelled now' b ⊎ Contains left' x
   on_closed x b l n h lt (inl e) = on_done x b h lt (f.closed x b n (l, e) h lt)
   on_closed x b l n h lt (inr y) = inr y.3
 
@@ -245,18 +271,24 @@ module _ (g : Graph) (start k : ℕ) (old now now' : List (Option ℕ)) (all lef
     closed = λ x b n e h l. on_closed x b e.0 n h l (s.fresh x e.0 e.1);
   }
 
-pub flooding-on : (g : Graph) (start k : ℕ) (old now now' : List (Option ℕ)) (all left left' : List ℕ) (node : ℕ) → all ≡ left ++ node ∷ [] → marks now' left' ≡ fold (visited k) (marks now left) (get_or g node []) → Flooding g start k old now all → Flooding g start k old now' left'
+pub flooding-on : (g : Graph) (start k : ℕ) (old now now' : List (Option ℕ)) (all left left' : List ℕ) (node : ℕ) → all ≡ left ++ node ∷
+    [] → marks now' left' ≡ fold (visited k) (marks now left) (get_or g node []) → Flooding g start k old now all →
+    Flooding g start k old now' left'
 flooding-on g start k old now now' all left left' node a e f =
-    gone-on g start k old now now' all left left' node a (subst (λ m. Step k (get_or g node []) (marks now left) m) (sym e) (all-step k (marks now left) (get_or g node []))) f
+    gone-on g start k old now now' all left left' node a
+    (subst (λ m. Step k (get_or g node []) (marks now left) m) (sym e) (all-step k (marks now left) (get_or g node []))) f
 
 -- each turn takes one node more
-pub flooding-less : (k : ℕ) (now now' : List (Option ℕ)) (all left left' ns : List ℕ) (node : ℕ) → all ≡ left ++ node ∷ [] → marks now' left' ≡ fold (visited k) (marks now left) ns → count_free now' + length left' < count_free now + length all
+pub flooding-less : (k : ℕ) (now now' : List (Option ℕ)) (all left left' ns : List ℕ) (node : ℕ) → all ≡ left ++ node ∷ [] →
+    marks now' left' ≡ fold (visited k) (marks now left) ns → count_free now' + length left' < count_free now + length all
 flooding-less k now now' all left left' ns node a e =
-    let s : Step k ns (marks now left) (marks now' left') = subst (λ m. Step k ns (marks now left) m) (sym e) (all-step k (marks now left) ns) in
+    let s : Step k ns (marks now left) (marks now' left') =
+    subst (λ m. Step k ns (marks now left) m) (sym e) (all-step k (marks now left) ns) in
     let l : length all ≡ length left + 1 = ap length a ∙ length-append left (node ∷ []) in
     omega (arith, s.work, l)
 
-pub flooded : (g : Graph) (start k : ℕ) (old now : List (Option ℕ)) (left : List ℕ) → left ≡ [] → Flooding g start k old now left → Spreads g start k old now
+pub flooded : (g : Graph) (start k : ℕ) (old now : List (Option ℕ)) (left : List ℕ) → left ≡ [] → Flooding g start k old now left →
+    Spreads g start k old now
 flooded g start k old now left e f = record {
   size = f.size;
   kept = f.kept;
@@ -276,7 +308,8 @@ pub record Gathering (g : Graph) (start : ℕ) (old now : List (Option ℕ)) (le
   pub all : (n : ℕ) → label_of old n ≡ None → IsLabelled now n → Contains found n ⊎ Contains left n
   pub only : (n : ℕ) → Contains found n → (label_of old n ≡ None) × Reached g start n
 
-pub gathering-start : (g : Graph) (start k : ℕ) (old now : List (Option ℕ)) (none left found : List ℕ) → none ≡ [] → found ≡ [] → marks now left ≡ visited k (marks old none) start → Gathering g start old now left found
+pub gathering-start : (g : Graph) (start k : ℕ) (old now : List (Option ℕ)) (none left found : List ℕ) → none ≡ [] → found ≡ [] →
+    marks now left ≡ visited k (marks old none) start → Gathering g start old now left found
 gathering-start g start k old now none left found n q e = record {
   all = λ a h l. by a l.0 h (s.fresh a l.0 l.1);
   only = λ a c. absurd (Contains-none a (subst (λ xs. Contains xs a) q c));
@@ -288,11 +321,15 @@ gathering-start g start k old now none left found n q e = record {
     s : Step k (start ∷ []) (marks old []) (marks now left)
     s = subst (λ m. Step k (start ∷ []) (marks old []) m) (sym f) (visited-step k (marks old []) start)
 
-    by : (a l : ℕ) → label_of old a ≡ None → (label_of old a ≡ Some l) ⊎ ((label_of old a ≡ None) × (l ≡ k) × Contains (start ∷ []) a × Contains left a) → Contains found a ⊎ Contains left a
+    by : (a l : ℕ) → label_of old a ≡ None →
+        (label_of old a ≡ Some l) ⊎ ((label_of old a ≡ None) × (l ≡ k) × Contains (start ∷ []) a × Contains left a) →
+        Contains found a ⊎ Contains left a
     by a l h (inl x) = absurd cc
     by a l h (inr x) = inr x.3
 
-pub gathering-on : (g : Graph) (start k : ℕ) (old now now' : List (Option ℕ)) (all left left' found : List ℕ) (node : ℕ) → all ≡ left ++ node ∷ [] → marks now' left' ≡ fold (visited k) (marks now left) (get_or g node []) → Flooding g start k old now all → Gathering g start old now all found → Gathering g start old now' left' (found ++ node ∷ [])
+pub gathering-on : (g : Graph) (start k : ℕ) (old now now' : List (Option ℕ)) (all left left' found : List ℕ) (node : ℕ) → all ≡ left ++
+    node ∷ [] → marks now' left' ≡ fold (visited k) (marks now left) (get_or g node []) → Flooding g start k old now all →
+    Gathering g start old now all found → Gathering g start old now' left' (found ++ node ∷ [])
 gathering-on g start k old now now' all left left' found node a e f t = record {
   all = λ n h l. fresh n l.0 h (s.fresh n l.0 l.1);
   only = λ n c. only n (Contains-push_cases found node n c);
@@ -309,15 +346,19 @@ gathering-on g start k old now now' all left left' found node a e f t = record {
     before n (inl c) = inl (Contains-append_left found (node ∷ []) n c)
     before n (inr c) = waiting n (Contains-push_cases left node n (subst (λ xs. Contains xs n) a c))
 
-    fresh : (n l : ℕ) → label_of old n ≡ None → (label_of now n ≡ Some l) ⊎ ((label_of now n ≡ None) × (l ≡ k) × Contains (get_or g node []) n × Contains left' n) → Contains (found ++ node ∷ []) n ⊎ Contains left' n
+    fresh : (n l : ℕ) → label_of old n ≡ None →
+        (label_of now n ≡ Some l) ⊎ ((label_of now n ≡ None) × (l ≡ k) × Contains (get_or g node []) n × Contains left' n) →
+        Contains (found ++ node ∷ []) n ⊎ Contains left' n
     fresh n l h (inl x) = before n (t.all n h (l, x))
     fresh n l h (inr x) = inr x.3
 
     only : (n : ℕ) → Contains found n ⊎ (node ≡ n) → (label_of old n ≡ None) × Reached g start n
     only n (inl c) = t.only n c
-    only n (inr q) = f.left_new n (subst (λ xs. Contains xs n) (sym a) (subst (λ x. Contains (left ++ node ∷ []) x) q (Contains-push left node)))
+    only n (inr q) =
+        f.left_new n (subst (λ xs. Contains xs n) (sym a) (subst (λ x. Contains (left ++ node ∷ []) x) q (Contains-push left node)))
 
-pub gathered : (g : Graph) (start : ℕ) (old now : List (Option ℕ)) (left found : List ℕ) → left ≡ [] → Gathering g start old now left found → AreNew g start old now found
+pub gathered : (g : Graph) (start : ℕ) (old now : List (Option ℕ)) (left found : List ℕ) → left ≡ [] →
+    Gathering g start old now left found → AreNew g start old now found
 gathered g start old now left found e t = record {
   all = λ n h l. by n (t.all n h l);
   only = t.only;

@@ -29,27 +29,29 @@ has-edge-within (ns ∷ g) zero b h = omega arith
 has-edge-within (ns ∷ g) (suc a) b h = let l : a < length g = has-edge-within g a b h in omega arith
 
 -- a label that spreads over the reversed edges is a rank more
-module _ (g h : Graph) (start n : ℕ) (old new : List (Option ℕ)) (r : IsReverse g h) (s : Spreads h start n old new) (t : Ranking g old n) where
-  low-by : (a l : ℕ) → (label_of old a ≡ Some l) ⊎ ((label_of old a ≡ None) × (l ≡ n) × Reached h start a) → l < n + 1
-  low-by a l (inl e) = let k : l < n = t.low a l e in omega arith
-  low-by a l (inr e) = let k : l ≡ n = e.1 in omega arith
+module _ (g h : Graph) (start n : ℕ) (old new : List (Option ℕ)) (r : IsReverse g h) (s : Spreads h start n old new) (t : Ranking g old n)
+  where
+    low-by : (a l : ℕ) → (label_of old a ≡ Some l) ⊎ ((label_of old a ≡ None) × (l ≡ n) × Reached h start a) → l < n + 1
+    low-by a l (inl e) = let k : l < n = t.low a l e in omega arith
+    low-by a l (inr e) = let k : l ≡ n = e.1 in omega arith
 
-  not-higher : (a j : ℕ) → j ≡ n → IsLabelled new a → (i : ℕ) × (label_of new a ≡ Some i) × (i ≤ j)
-  not-higher a j e l = let k : l.0 < n + 1 = low-by a l.0 (s.fresh a l.0 l.1) in (l.0, l.1, omega arith)
+    not-higher : (a j : ℕ) → j ≡ n → IsLabelled new a → (i : ℕ) × (label_of new a ≡ Some i) × (i ≤ j)
+    not-higher a j e l = let k : l.0 < n + 1 = low-by a l.0 (s.fresh a l.0 l.1) in (l.0, l.1, omega arith)
 
-  ranks-by : (a b j : ℕ) → HasEdge g a b → IsLabelled new b → (label_of old b ≡ Some j) ⊎ ((label_of old b ≡ None) × (j ≡ n) × Reached h start b) → (i : ℕ) × (label_of new a ≡ Some i) × (i ≤ j)
-  ranks-by a b j e l (inl k) = let x = t.ranks a b j e k in (x.0, s.kept a x.0 x.1, x.2)
-  ranks-by a b j e l (inr k) =
-      let m : a < length g = has-edge-within g a b e in
-      let w : a < length old = omega (arith, t.size) in
-      not-higher a j k.1 (s.closed b a k.0 l (r.back a b e) w)
+    ranks-by : (a b j : ℕ) → HasEdge g a b → IsLabelled new b →
+        (label_of old b ≡ Some j) ⊎ ((label_of old b ≡ None) × (j ≡ n) × Reached h start b) → (i : ℕ) × (label_of new a ≡ Some i) × (i ≤ j)
+    ranks-by a b j e l (inl k) = let x = t.ranks a b j e k in (x.0, s.kept a x.0 x.1, x.2)
+    ranks-by a b j e l (inr k) =
+        let m : a < length g = has-edge-within g a b e in
+        let w : a < length old = omega (arith, t.size) in
+        not-higher a j k.1 (s.closed b a k.0 l (r.back a b e) w)
 
-  pub ranking-on : Ranking g new (n + 1)
-  ranking-on = record {
-    size = s.size ∙ t.size;
-    low = λ a l e. low-by a l (s.fresh a l e);
-    ranks = λ a b j e k. ranks-by a b j e (j, k) (s.fresh b j k);
-  }
+    pub ranking-on : Ranking g new (n + 1)
+    ranking-on = record {
+      size = s.size ∙ t.size;
+      low = λ a l e. low-by a l (s.fresh a l e);
+      ranks = λ a b j e k. ranks-by a b j e (j, k) (s.fresh b j k);
+    }
 
 module _ (g : Graph) (rs : List (Option ℕ)) (ranks : AreRanks g rs) (start j : ℕ) (rank : label_of rs start ≡ Some j) where
   -- what is reached has no lower rank

@@ -9,7 +9,8 @@ label_of-replicate zero a = refl
 label_of-replicate (suc n) zero = refl
 label_of-replicate (suc n) (suc a) = label_of-replicate n a
 
-module _ (g : Graph) (start k : ℕ) (old new : List (Option ℕ)) (free : old ≡ replicate (length g) None) (stays : StaysWithin g) (there : start < length g) (s : Spreads g start k old new) where
+module _ (g : Graph) (start k : ℕ) (old new : List (Option ℕ)) (free : old ≡ replicate (length g) None) (stays : StaysWithin g)
+    (there : start < length g) (s : Spreads g start k old new) where
   none-old : (a : ℕ) → label_of old a ≡ None
   none-old a = ap (λ ls. label_of ls a) free ∙ label_of-replicate (length g) a
 
@@ -18,7 +19,8 @@ module _ (g : Graph) (start k : ℕ) (old new : List (Option ℕ)) (free : old �
 
   reached-labelled : {b : ℕ} → Reached g start b → IsLabelled new b
   reached-labelled at_start = s.started (omega (arith, size-old))
-  reached-labelled (along a b r h) = let l : b < length g = stays a b h in s.closed a b (none-old a) (reached-labelled r) h (omega (arith, size-old))
+  reached-labelled (along a b r h) =
+      let l : b < length g = stays a b h in s.closed a b (none-old a) (reached-labelled r) h (omega (arith, size-old))
 
   labelled-reached : (b : ℕ) → IsLabelled new b → Reached g start b
   labelled-reached b l = by (s.fresh b l.0 l.1)

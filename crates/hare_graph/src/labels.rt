@@ -60,7 +60,8 @@ fn go_on(
     node: usize,
     label: usize,
 ) -> Result<(), AllocError>
-    ensures { OnOk result (spec.marks labels.new.items left.new.items ≡ fold (spec.visited label) (spec.marks labels.old.items left.old.items) (slice_index_or graph.now node [])) }
+    ensures { OnOk result (spec.marks labels.new.items left.new.items ≡ fold (spec.visited label)
+        (spec.marks labels.old.items left.old.items) (slice_index_or graph.now node [])) }
 {
     let Some(next) = graph.next(node) else {
         return Ok(());
@@ -76,7 +77,8 @@ fn visit_all(
     nodes: &[usize],
     label: usize,
 ) -> Result<(), AllocError>
-    ensures { OnOk result (spec.marks labels.new.items left.new.items ≡ fold (spec.visited label) (spec.marks labels.old.items left.old.items) nodes.now) }
+    ensures { OnOk result (spec.marks labels.new.items left.new.items ≡ fold (spec.visited label)
+        (spec.marks labels.old.items left.old.items) nodes.now) }
 {
     for node in nodes {
         visit(labels, left, *node, label)?;
@@ -91,7 +93,8 @@ fn visit(
     node: usize,
     label: usize,
 ) -> Result<(), AllocError>
-    ensures { OnOk result (spec.marks labels.new.items left.new.items ≡ spec.visited label (spec.marks labels.old.items left.old.items) node) }
+    ensures { OnOk result (spec.marks labels.new.items left.new.items ≡ spec.visited label (spec.marks labels.old.items left.old.items)
+        node) }
 {
     if is_free(labels, node) {
         left.push(node)?;

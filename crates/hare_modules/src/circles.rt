@@ -1,8 +1,9 @@
 //! Circles of imports.
 //!
-//! The modules are parted into ranks such that no import leads to a lower one. So an import that leads to a higher rank leads back by no way, and only
-//! the others are followed. The ranks are those of Kosaraju's algorithm, where each import within a rank lies on a circle: the first that is followed
-//! ends the search, and all takes linear time. But the answer rests on nothing more than that no import leads to a lower rank.
+//! The modules are parted into ranks such that no import leads to a lower one. So an import that leads to a higher rank leads back by no
+//! way, and only the others are followed. The ranks are those of Kosaraju's algorithm, where each import within a rank lies on a circle:
+//! the first that is followed ends the search, and all takes linear time. But the answer rests on nothing more than that no import leads to
+//! a lower rank.
 
 ghost use Rattle.std.specs.Prelude.{◌≡◌, map, length, IfOk, OnOk};
 ghost use Rattle.hare_modules.specs.Order.{TellsFirst, fault};

@@ -77,7 +77,8 @@ fn take_uses<'a>(
     home: usize,
     uses: &'a Kids,
 ) -> Result<(), AllocError>
-    ensures { OnOk result (map spec.using collected.new.items ≡ map spec.using collected.old.items ++ map (spec.using_of known.now home) uses.now) }
+    ensures { OnOk result (map spec.using collected.new.items ≡ map spec.using collected.old.items ++
+        map (spec.using_of known.now home) uses.now) }
 {
     for i in 0..uses.len() {
         let Some(tree) = uses.get(i) else {
@@ -134,7 +135,8 @@ fn take_imports<'a>(
     spot: Spot,
     uses: &'a Kids,
 ) -> Result<(), AllocError>
-    ensures { OnOk result (map spec.taking claims.new.items ≡ map spec.taking claims.old.items ++ flat_map (spec.use_takings known.now spot.file spot.home) uses.now) }
+    ensures { OnOk result (map spec.taking claims.new.items ≡ map spec.taking claims.old.items ++
+        flat_map (spec.use_takings known.now spot.file spot.home) uses.now) }
 {
     for i in 0..uses.len() {
         let Some(u) = uses.get(i) else {
@@ -153,7 +155,9 @@ fn take_names<'a>(
     number: Option<usize>,
     u: &'a Tree,
 ) -> Result<(), AllocError>
-    ensures { OnOk result (map spec.taking claims.new.items ≡ map spec.taking claims.old.items ++ map (spec.named spot.file spot.home (spec.import_taker number (not (uses.is_braced (head u.now).kind)))) (uses.names_brought u.now)) }
+    ensures { OnOk result (map spec.taking claims.new.items ≡ map spec.taking claims.old.items ++
+        map (spec.named spot.file spot.home (spec.import_taker number (not (uses.is_braced (head u.now).kind))))
+        (uses.names_brought u.now)) }
 {
     let whole = !is_braced(u.kind);
     let taker = Taker::Import(Imported { number, whole });
@@ -195,7 +199,8 @@ fn take_members<'a>(
     taker: Taker,
     kids: &'a Kids,
 ) -> Result<(), AllocError>
-    ensures { OnOk result (map spec.taking claims.new.items ≡ map spec.taking claims.old.items ++ map (spec.named spot.file spot.home taker) (filter uses.is_name_tree kids.now)) }
+    ensures { OnOk result (map spec.taking claims.new.items ≡ map spec.taking claims.old.items ++
+        map (spec.named spot.file spot.home taker) (filter uses.is_name_tree kids.now)) }
 {
     for i in 0..kids.len() {
         let Some(kid) = kids.get(i) else {
@@ -213,7 +218,8 @@ fn take_name<'a>(
     taker: Taker,
     kid: &'a Tree,
 ) -> Result<(), AllocError>
-    ensures { OnOk result (map spec.taking claims.new.items ≡ map spec.taking claims.old.items ++ map (spec.named spot.file spot.home taker) (filter uses.is_name_tree (kid.now ∷ []))) }
+    ensures { OnOk result (map spec.taking claims.new.items ≡ map spec.taking claims.old.items ++
+        map (spec.named spot.file spot.home taker) (filter uses.is_name_tree (kid.now ∷ []))) }
 {
     if is_name(kid.kind) {
         return take(claims, spot, kid, taker);
@@ -230,7 +236,8 @@ fn take_decls<'a>(
 ) -> Result<u32, AllocError>
     requires { number + length decls.now < 2 ^ 32 }
     ensures next { IfOk result (λ n. n ≡ number + length decls.now) }
-    ensures claims { OnOk result (map spec.taking claims.new.items ≡ map spec.taking claims.old.items ++ spec.decl_takings spot.file spot.home number decls.now) }
+    ensures claims { OnOk result (map spec.taking claims.new.items ≡ map spec.taking claims.old.items ++
+        spec.decl_takings spot.file spot.home number decls.now) }
 {
     let mut next = number;
     for i in 0..decls.len() {
@@ -251,7 +258,8 @@ fn take<'a>(
     name: &'a Tree,
     taker: Taker,
 ) -> Result<(), AllocError>
-    ensures { OnOk result (map spec.taking claims.new.items ≡ map spec.taking claims.old.items ++ spec.named spot.file spot.home taker name.now ∷ []) }
+    ensures { OnOk result (map spec.taking claims.new.items ≡ map spec.taking claims.old.items ++
+        spec.named spot.file spot.home taker name.now ∷ []) }
 {
     claims.push(Claim {
         home: spot.home,

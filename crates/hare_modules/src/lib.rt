@@ -1,8 +1,8 @@
 //! Modules of Hare: which module each file belongs to, what modules declare and what files import, and the faults of these.
 //!
-//! Modules have numbers here. `homes_of` gives them, `collect_uses` and `collect_claims` list the imports of a program and the names that its files
-//! take, and `take_all` puts these names into tables. `first_circle`, `unknown_module`, `runtime_file`, `unknown_member` and `take_all` each find the
-//! first fault of one sort.
+//! Modules have numbers here. `homes_of` gives them, `collect_uses` and `collect_claims` list the imports of a program and the names that
+//! its files take, and `take_all` puts these names into tables. `first_circle`, `unknown_module`, `runtime_file`, `unknown_member` and
+//! `take_all` each find the first fault of one sort.
 #![tactic(auto)]
 
 mod circles;

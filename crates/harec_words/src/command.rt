@@ -24,7 +24,8 @@ pub enum Command {
     Emit(Span),
     /// `run [--units N] FILES [-- ARGS]`: the program of these files is run with at most so many units and these arguments.
     Run(u64, Span, Span),
-    /// `exec [--units N] IL [-- ARGS]`: the text in the file that this one word names is run with at most so many units and these arguments.
+    /// `exec [--units N] IL [-- ARGS]`: the text in the file that this one word names is run with at most so many units and these
+    /// arguments.
     Exec(u64, Span, Span),
     /// `fmt FILE`: the file that this one word names is laid out.
     Fmt(Span),
@@ -32,9 +33,10 @@ pub enum Command {
 
 /// The command of the words behind the program's name, and None where they are no command. Takes no memory.
 ///
-/// FILES is 1 to 65,536 words. Each has at most 1,024 bytes and ends in `.ha`, and each directory in it is a name of the language; one `./` may
-/// stand before it; FILE is one such word. IL is one word that does not begin with `--`. N is at most 20 decimal digits with a value from 1 to 10^12, and 10^9 where it
-/// is left out. Everything behind the first `--` is an argument: at most 1,048,576 words, which have at most 2^30 bytes together.
+/// FILES is 1 to 65,536 words. Each has at most 1,024 bytes and ends in `.ha`, and each directory in it is a name of the language; one `./`
+/// may stand before it; FILE is one such word. IL is one word that does not begin with `--`. N is at most 20 decimal digits with a value
+/// from 1 to 10^12, and 10^9 where it is left out. Everything behind the first `--` is an argument: at most 1,048,576 words, which have at
+/// most 2^30 bytes together.
 pub fn command_of(words: &[Text]) -> Option<Command>
     ensures found { IfSome result (λ c. IsCommand words.now (meant words.now c)) }
     ensures only { (c : spec.Command) → IsCommand words.now c → MatchOption result ⊥ (λ found. meant words.now found ≡ c) }

@@ -78,11 +78,11 @@ const TEXT_FAULTS: [&str; 13] = [
     "NotPrinted",
 ];
 
-/// The line of the log for a fault at a place of the file that the path names, with its line feed: `PATH:LINE:COLUMN: E25 NotAssignable`. An
-/// undefined act has no name: `PATH:LINE:COLUMN: U1`.
+/// The line of the log for a fault at a place of the file that the path names, with its line feed: `PATH:LINE:COLUMN: E25 NotAssignable`.
+/// An undefined act has no name: `PATH:LINE:COLUMN: U1`.
 ///
-/// The letter is `E` with a number from 1 to 49 for a fault of the language, `I` with one from 1 to 13 for a fault of a text of the intermediate
-/// language, and `U` with one from 1 to 8 for an undefined act.
+/// The letter is `E` with a number from 1 to 49 for a fault of the language, `I` with one from 1 to 13 for a fault of a text of the
+/// intermediate language, and `U` with one from 1 to 8 for an undefined act.
 pub fn fault_text(
     alloc: Global,
     path: &Text,

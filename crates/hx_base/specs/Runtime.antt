@@ -1,5 +1,5 @@
--- Where a program's things stand, what it acts on, and what the functions of the runtime do there. All that runs, structured code, the intermediate language
--- and Hare itself, cites this one account. Which functions there are stands in hx_runtime (specs/Functions).
+-- Where a program's things stand, what it acts on, and what the functions of the runtime do there. All that runs, structured code, the
+-- intermediate language and Hare itself, cites this one account. Which functions there are stands in hx_runtime (specs/Functions).
 use Rattle.std.specs.Prelude.{ℕ, ◌+◌, ◌*◌, ◌^◌, max, Bool, List, [], ◌∷◌, ◌++◌, length, take, drop, sum_by, Option, None, Some, nat_eq, nat_lt, bytes_eq, if◌then◌else◌}
 use Rattle.hx_base.specs.Memory.{Memory, le_bytes, round_up, all_mapped, bytes_at, write, map_range, unmap_range, clear_range, move, same}
 
@@ -87,11 +87,14 @@ pub data Act : Type 0 where
 abbrev pub put : World → ℕ → ℕ → Act
 put w p n = if all_mapped w.memory p n then Gives 0 n (record w { output = w.output ++ bytes_at w.memory p n }) else Faults Wild
 
--- the next bytes of the input, `n` where there are as many, go to `p`; gives their number. All `n` are to be mapped before any input is taken.
+-- the next bytes of the input, `n` where there are as many, go to `p`; gives their number. All `n` are to be mapped before any input is
+-- taken.
 abbrev pub read : World → ℕ → ℕ → Act
 read w p n =
     let taken = take n w.input in
-    if all_mapped w.memory p n then Gives (length taken) (length taken) (record w { memory = write w.memory p taken; input = drop n w.input }) else Faults Wild
+    if all_mapped w.memory p n
+    then Gives (length taken) (length taken) (record w { memory = write w.memory p taken; input = drop n w.input })
+    else Faults Wild
 
 -- ---- the heap
 
@@ -175,7 +178,8 @@ argument_size a = max 1 (length a)
 -- the records of arguments whose bytes begin at an address: each has the argument's address and, twice, its length
 abbrev pub argument_records : ℕ → List (List ℕ) → List ℕ
 argument_records at [] = []
-argument_records at (a ∷ more) = le_bytes 8 at ++ le_bytes 8 (length a) ++ le_bytes 8 (length a) ++ argument_records (at + argument_size a) more
+argument_records at (a ∷ more) =
+    le_bytes 8 at ++ le_bytes 8 (length a) ++ le_bytes 8 (length a) ++ argument_records (at + argument_size a) more
 
 -- the bytes of arguments are written, one argument behind the other
 abbrev pub write_arguments : Memory → ℕ → List (List ℕ) → Memory
@@ -186,4 +190,5 @@ write_arguments m at (a ∷ more) = write_arguments (write m at a) (at + argumen
 abbrev pub with_arguments : Memory → List (List ℕ) → Memory
 with_arguments m args =
     let texts = arguments_start + record_size * length args in
-    map_range (write_arguments (write m arguments_start (argument_records texts args)) texts args) arguments_start (record_size * length args + sum_by argument_size args)
+    map_range (write_arguments (write m arguments_start (argument_records texts args)) texts args) arguments_start
+    (record_size * length args + sum_by argument_size args)

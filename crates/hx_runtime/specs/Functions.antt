@@ -1,5 +1,5 @@
--- The functions of the runtime, in one table: the symbols that code calls them by, the classes of their parameters and results, and what they do. The acts
--- themselves are of hx_base (specs/Runtime).
+-- The functions of the runtime, in one table: the symbols that code calls them by, the classes of their parameters and results, and what
+-- they do. The acts themselves are of hx_base (specs/Runtime).
 use Rattle.std.specs.Prelude.{ℕ, ◌%◌, Bool, List, [], ◌∷◌, map, take, bytes_eq, codes, slice_index_or, Option, None, Some}
 use Rattle.hx_base.specs.declared.Class.{Class}
 use Rattle.hx_base.specs.declared.Class.TheVariants.{W, L}
