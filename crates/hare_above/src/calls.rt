@@ -63,8 +63,8 @@ fn runtime_param(s: &mut TypeStore, n: u32) -> Result<Option<TypeId>, AllocError
     }
 }
 
-/// The type of parameter number `i`, counted from 0, of the declaration with this number; none where that is no function, or has no such parameter.
-/// The time is constant.
+/// The type of parameter number `i`, counted from 0, of the declaration with this number; none where that is no function, or has no such
+/// parameter. The time is constant.
 fn declared_param(decls: &DeclTypes, n: u32, i: usize) -> Option<TypeId>
     ensures { (w : Setting) → w.decls ≡ decls.now → result ≡ above.param_at (spec.called w (means.Decl n)) i }
 {

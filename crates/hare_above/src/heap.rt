@@ -103,7 +103,8 @@ fn refusable_asked(
 ) -> Result<Option<TypeId>, AllocError>
     requires hint { IsDefinedHint s.old hint.now }
     requires nomem { IsDefinedName s.old words.nomem }
-    ensures value { IfOk result (λ o. (w : Setting) → IsLater s.new w.store → above.hint_to o ≡ above.refusable_hint w (above.asked w hint.now)) }
+    ensures value { IfOk result (λ o. (w : Setting) → IsLater s.new w.store →
+        above.hint_to o ≡ above.refusable_hint w (above.asked w hint.now)) }
     ensures defined { IfOk result (λ o. IfSome o (IsDefined s.new)) }
     ensures grown { IsGrown s.old s.new }
 {

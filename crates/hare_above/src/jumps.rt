@@ -38,7 +38,8 @@ fn nearer(name: &[u8], l: &Label, i: usize, nearest: Option<usize>) -> Option<us
     }
 }
 
-/// How many labels stand round the block or case that a `yield` with this name means; none where it means none. The time is that of the labels.
+/// How many labels stand round the block or case that a `yield` with this name means; none where it means none. The time is that of the
+/// labels.
 pub(crate) fn yield_level(name: &[u8], labels: &Labels) -> Option<usize>
     ensures { (hs : List HintOf) → length hs ≡ length labels.now → result ≡ control.yield_level name.now (opens labels.now hs) }
 {

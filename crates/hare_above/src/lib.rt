@@ -1,4 +1,5 @@
-//! What stands over a node while a body is walked: the hint that it is given, the labels round it, its role, and the number of its first binding.
+//! What stands over a node while a body is walked: the hint that it is given, the labels round it, its role, and the number of its first
+//! binding.
 #![tactic(auto)]
 
 mod asking;

@@ -41,8 +41,8 @@ use std::mem::replace;
 
 /// What stands over the tree at hand, and over the trees round it, as a walk goes in and out. Contracts see it as the rules do.
 ///
-/// All trees that the walk is inside of share one stack of labels. A step takes constant time beside its hint, but for a deferred expression: each
-/// label round it loses its mark there, and is copied.
+/// All trees that the walk is inside of share one stack of labels. A step takes constant time beside its hint, but for a deferred
+/// expression: each label round it loses its mark there, and is copied.
 #[derive(Drop)]
 pub struct Standing {
     /// What the judge of the tree at hand is told.
@@ -90,7 +90,8 @@ impl Model for Standing {
 /// What a `switch` asks of the values of its cases: the default of its operand.
 fn values_under(s: &mut TypeStore, k: Kind, done: &TypedKids) -> Result<Hint, AllocError>
     requires { AreDefinedTrees s.old (typed_nodes done.now) }
-    ensures value { IfOk result (λ h. (w : Setting) (a : Above) → IsLater s.new w.store → h ≡ above.values_under w a k (map bare done.now)) }
+    ensures value { IfOk result (λ h. (w : Setting) (a : Above) → IsLater s.new w.store →
+        h ≡ above.values_under w a k (map bare done.now)) }
     ensures defined { IfOk result (IsDefinedHint s.new) }
     ensures grown { judged.IsGrown s.old s.new }
 {
@@ -108,7 +109,8 @@ fn values_under(s: &mut TypeStore, k: Kind, done: &TypedKids) -> Result<Hint, Al
     }
 }
 
-/// What kid number `i` of a node of kind `k`, which is no deferred expression, has round it more than the node: what a jump means by the node.
+/// What kid number `i` of a node of kind `k`, which is no deferred expression, has round it more than the node: what a jump means by the
+/// node.
 fn target_round(k: Kind, i: usize) -> Option<Target>
     ensures { (a : Above) (h : Head) (n : ℕ) → is_defer k ≡ false → above.labels_by a h n i k ≡ labels_with a h n result }
 {
@@ -122,8 +124,10 @@ fn target_round(k: Kind, i: usize) -> Option<Target>
 }
 
 impl Standing {
-    /// What stands over a body or the value of a declaration, with nothing round it: the number of the declaration; the type that the function gives, or
-    /// `never`; whether it is the body of a function; its role; what it is asked for; and how many bindings of the declaration begin before it.
+    /// What stands over a body or the value of a declaration, with nothing round it: the number of the declaration; the type that the
+    /// function gives, or
+    /// `never`; whether it is the body of a function; its role; what it is asked for; and how many bindings of the declaration begin before
+    /// it.
     /// Takes no memory.
     pub fn new(
         alloc: Global,
@@ -193,8 +197,8 @@ impl Standing {
         self.case.inside.labels.len()
     }
 
-    /// How many labels stand round the block or case that a `yield` with this name means at hand; none where it means none. The time is that of the
-    /// labels.
+    /// How many labels stand round the block or case that a `yield` with this name means at hand; none where it means none. The time is
+    /// that of the labels.
     pub fn yield_level(&self, name: &[u8]) -> Option<usize>
         ensures { result ≡ control.yield_level name.now self.now.above.inside.labels }
     {
@@ -269,7 +273,10 @@ impl Standing {
     /// Puts a label round the tree at hand.
     fn open(&mut self, label: Label, hint: Hint) -> Result<(), AllocError>
         requires { label.deferred ≡ self.old.above.inside.deferred }
-        ensures { OnOk result (self.new ≡ record self.old { above = record self.old.above { inside = record self.old.above.inside { labels = self.old.above.inside.labels ++ open_of label hint ∷ [] } } }) }
+        ensures { OnOk result (self.new ≡ record self.old {
+          above = record self.old.above
+              { inside = record self.old.above.inside { labels = self.old.above.inside.labels ++ open_of label hint ∷ [] } };
+        }) }
     {
         let count = self.hints.len();
         self.hints.push(hint)?;
@@ -284,7 +291,12 @@ impl Standing {
 
     /// Goes into a deferred expression: no label from outside is marked there.
     fn go_in_deferred(&mut self, alloc: Global) -> Result<(), AllocError>
-        ensures { OnOk result (self.new ≡ record self.old { above = record self.old.above { inside = record self.old.above.inside { labels = map above.outside self.old.above.inside.labels; deferred = true } }; outer = self.old.above ∷ self.old.outer }) }
+        ensures { OnOk result (self.new ≡ record self.old {
+          above = record self.old.above
+              { inside = record self.old.above.inside { labels = map above.outside self.old.above.inside.labels; deferred = true } };
+          outer =
+              self.old.above ∷ self.old.outer;
+        }) }
     {
         let inner = all_outside(alloc, &self.case.inside.labels)?;
         let labels = self.case.inside.labels.len();
@@ -334,7 +346,16 @@ impl Standing {
 
     /// Says what stands over the tree at hand, but for its labels.
     fn stand(&mut self, hint: Hint, values: Hint, role: Role, at: At)
-        ensures { self.new ≡ record self.old { above = record self.old.above { hint = hint; values = values; inside = record self.old.above.inside { body = false; role = role_in role }; first = at.first; begins = at.begins } } }
+        ensures { self.new ≡ record self.old {
+          above = record self.old.above {
+            hint = hint;
+            values = values;
+            inside = record self.old.above.inside { body = false; role = role_in role };
+            first =
+                at.first;
+            begins = at.begins;
+          };
+        } }
     {
         self.case.hint = hint;
         self.case.inside.body = false;
@@ -352,7 +373,8 @@ impl Standing {
     /// done is in the store and mentions no name that is not defined; and that so does each parameter in `decls`, and the store defines
     /// `rt::nomem`.
     ///
-    /// Beside the hint it takes constant time, but that of the labels at a deferred expression, and of the labels and its name at a `yield`.
+    /// Beside the hint it takes constant time, but that of the labels at a deferred expression, and of the labels and its name at a
+    /// `yield`.
     pub fn enter(
         &mut self,
         alloc: Global,
@@ -369,7 +391,9 @@ impl Standing {
         requires ready { IsReady s.old self.old }
         requires types { AreDefinedTrees s.old (typed_nodes done.now) }
         requires known { IsKnown s.old decls.now }
-        ensures over { IfOk result (λ _. (w : Store → Setting) → AreDeclared decls.now w → IsOver w s.new self.old.above (head node.now) done.now kid.now (nodes_of (drop (length done.now + 1) kids.now)) self.new.above) }
+        ensures over { IfOk result (λ _. (w : Store → Setting) → AreDeclared decls.now w →
+            IsOver w s.new self.old.above (head node.now) done.now kid.now (nodes_of (drop (length done.now + 1) kids.now))
+            self.new.above) }
         ensures outer { OnOk result (self.new.outer ≡ self.old.above ∷ self.old.outer) }
         ensures meaning { OnOk result (self.new.meaning ≡ self.old.meaning) }
         ensures yields { OnOk result (self.new.yields ≡ self.old.yields) }

@@ -61,7 +61,8 @@ pub(crate) fn declared_hint(q: &Asking<'_>) -> Hint
     written_hint(q.done, 2)
 }
 
-/// What an `if` asks of its next kid: `bool` of the condition; and of the branches what it is itself asked for, or nothing, where there is no `else`.
+/// What an `if` asks of its next kid: `bool` of the condition; and of the branches what it is itself asked for, or nothing, where there is
+/// no `else`.
 pub(crate) fn branch_hint(s: &mut TypeStore, q: &Asking<'_>) -> Result<Hint, AllocError>
     requires own { IsDefinedHint s.old q.now.own }
     requires next { slice_get q.now.kids.now (length q.now.done.now) ≡ Some q.now.kid.now }

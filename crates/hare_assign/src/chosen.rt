@@ -108,8 +108,8 @@ fn members_of_base(s: &TypeStore, t: TypeId) -> Option<&[TypeId]>
     }
 }
 
-/// Which member a value becomes that is assigned to a union, and by which row of the table of assignability it goes to that member. Names and error
-/// marks of the type are followed to the union.
+/// Which member a value becomes that is assigned to a union, and by which row of the table of assignability it goes to that member. Names
+/// and error marks of the type are followed to the union.
 ///
 /// The member is the value's own type; or the default type of a whole number without a suffix; or else the only member with an integer type
 /// as its base that holds the number; or the only one to which the value goes as a pointer, as `null` or as a slice. `None` where the
@@ -150,11 +150,12 @@ fn first_member(s: &TypeStore, members: &[TypeId], from: &Ty) -> Option<TypeId>
     first_of(s, Way::Lone, members, from)
 }
 
-/// The first member of a union to which a value goes: as its own type; or as the default type of a whole number without a suffix; or as an integer type
-/// that holds the number; or as a pointer, as `null` or as a slice. Names and error marks of the type are followed to the union. Where the union admits
-/// the value, this is the member that it becomes, which `chosen_member` tells: members are not counted here.
+/// The first member of a union to which a value goes: as its own type; or as the default type of a whole number without a suffix; or as an
+/// integer type that holds the number; or as a pointer, as `null` or as a slice. Names and error marks of the type are followed to the
+/// union. Where the union admits the value, this is the member that it becomes, which `chosen_member` tells: members are not counted here.
 ///
-/// `None` where no member admits the value so: where the union admits it all the same, it is of a union itself, and keeps the member that it has. `None`
+/// `None` where no member admits the value so: where the union admits it all the same, it is of a union itself, and keeps the member that
+/// it has. `None`
 /// also of a type that comes to no union. The types are in the store. The time grows with the members.
 pub fn first_choice(s: &TypeStore, to: TypeId, from: Ty) -> Option<TypeId>
     requires to { to < length s.now.rows }

@@ -57,15 +57,16 @@ fn known_kids(
     Ok(kids)
 }
 
-/// Judges the node of declaration `own`, a def or a global, of which the written type, where there is one, and the value have been judged: a type is written
-/// or the value has a default, that type has a size, the value is constant, and a def has an integer type, `bool`, `rune` or `str` as its base. Or the fault of
-/// the first row that fails. The answer is that of every later store, whatever is known of declarations.
+/// Judges the node of declaration `own`, a def or a global, of which the written type, where there is one, and the value have been judged:
+/// a type is written or the value has a default, that type has a size, the value is constant, and a def has an integer type, `bool`, `rune`
+/// or `str` as its base. Or the fault of the first row that fails. The answer is that of every later store, whatever is known of
+/// declarations.
 ///
 /// The conditions are that `decl` is a def or a global and shaped as a declaration; that `types` are trees of its written types, and
 /// `value` is one of its value; and that all types in `defined` are in the store, and mention no name that is not defined.
 ///
-/// Types that mention a name which is not defined, a declaration whose number is 2^32 - 1, and a constant that is not worked out (`hare_const::constant` says
-/// which those are) are answered as want of memory. The time is that of the value.
+/// Types that mention a name which is not defined, a declaration whose number is 2^32 - 1, and a constant that is not worked out
+/// (`hare_const::constant` says which those are) are answered as want of memory. The time is that of the value.
 pub fn judge_binding(
     alloc: Global,
     s: &mut TypeStore,

@@ -59,8 +59,8 @@ fn in_the_end(
     with_default(alloc, s, value)
 }
 
-/// Where the first node of a value of the declaration `own` stands, in check order, that is not constant or would abort; want of memory where that
-/// cannot be told.
+/// Where the first node of a value of the declaration `own` stands, in check order, that is not constant or would abort; want of memory
+/// where that cannot be told.
 fn place_inside(
     alloc: Global,
     s: &TypeStore,

@@ -15,7 +15,8 @@ use hare_typed::{Const, Typed, TypedKids};
 use hare_types::{Coercion, Ty, TypeId};
 use std::alloc::{AllocError, Global};
 
-/// How many kids the node of a def or of a global has: `export`, the name, the written type and the value, or what stands in the place of what is left out.
+/// How many kids the node of a def or of a global has: `export`, the name, the written type and the value, or what stands in the place of
+/// what is left out.
 const KIDS: usize = 4;
 
 /// What stands there without parts, of which nothing is asked. Want of memory where it has parts.

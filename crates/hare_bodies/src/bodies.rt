@@ -38,9 +38,9 @@ fn can_judge(alloc: Global, s: &TypeStore, known: &DeclTypes) -> Result<bool, Al
     are_ready(s, &mut defined, known)
 }
 
-/// The typed bodies of all functions of these files, in the order of files and source, where this is known of all declarations; or the first fault of the
-/// first function whose body has one, by the typing rules. The store may grow in names and types, also where there is a fault, and the answer holds in each
-/// later store.
+/// The typed bodies of all functions of these files, in the order of files and source, where this is known of all declarations; or the
+/// first fault of the first function whose body has one, by the typing rules. The store may grow in names and types, also where there is a
+/// fault, and the answer holds in each later store.
 ///
 /// Each declaration is shaped, and `places` are those of the declarations of these files. Where a type that is told mentions a name that is
 /// not defined, the answer is want of memory; so it is where `hare_check::check_body` says so.

@@ -13,12 +13,12 @@ use hare_typed::{Typed, TypedKids};
 use hare_types::TypeStore;
 use std::alloc::{AllocError, Global};
 
-/// The bytes of each of these declarations, up to 2^40: of a global those of its type, with those of each array in its value that is made a slice; of what
-/// is no global none. A type of which the store knows no size counts as none.
+/// The bytes of each of these declarations, up to 2^40: of a global those of its type, with those of each array in its value that is made a
+/// slice; of what is no global none. A type of which the store knows no size counts as none.
 ///
-/// Fails for want of memory, and where a type of the trees is none of the store's, comes to a name that is not defined, or is not settled by what stands
-/// beside it; in the trees of a finished program there is none of these. Takes time in proportion to the values of globals, and to the members of the
-/// unions to which arrays go in them.
+/// Fails for want of memory, and where a type of the trees is none of the store's, comes to a name that is not defined, or is not settled
+/// by what stands beside it; in the trees of a finished program there is none of these. Takes time in proportion to the values of globals,
+/// and to the members of the unions to which arrays go in them.
 pub fn bytes_of_globals(
     alloc: Global,
     s: &TypeStore,

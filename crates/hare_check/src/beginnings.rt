@@ -83,7 +83,8 @@ impl Beginning {
 
     /// The parameters, which have these types and may be assigned to.
     fn push_params(&mut self, types: &[TypeId]) -> Result<(), AllocError>
-        ensures bindings { OnOk result (map entry_of self.new.bindings.items ≡ map entry_of self.old.bindings.items ++ known_params types.now) }
+        ensures bindings { OnOk result (map entry_of self.new.bindings.items ≡ map entry_of self.old.bindings.items ++
+            known_params types.now) }
         ensures told { OnOk result (self.new.told ≡ self.old.told ++ told_params types.now) }
     {
         for i in 0..types.len() {
@@ -97,7 +98,8 @@ impl Beginning {
 
     /// So many bindings of which nothing is known; judges are told this type, which says nothing.
     fn push_later(&mut self, count: usize, ty: TypeId) -> Result<(), AllocError>
-        ensures bindings { OnOk result (map entry_of self.new.bindings.items ≡ map entry_of self.old.bindings.items ++ replicate count Later) }
+        ensures bindings { OnOk result (map entry_of self.new.bindings.items ≡ map entry_of self.old.bindings.items ++
+            replicate count Later) }
         ensures told { OnOk result (self.new.told ≡ self.old.told ++ replicate count (record { ty = ty; mutable = false })) }
     {
         for _ in 0..count {
@@ -111,7 +113,8 @@ impl Beginning {
 /// What is known before the body of this function.
 pub(crate) fn before_body(alloc: Global, d: &DeclType, body: &Tree) -> Result<Beginning, AllocError>
     ensures bindings { IfOk result (λ b. map entry_of b.bindings.items ≡ known_params d.now.params ++ whole.unknown_locals body.now) }
-    ensures told { IfOk result (λ b. b.told ≡ told_params d.now.params ++ replicate (bindings_of body.now) (record { ty = d.now.ty; mutable = false })) }
+    ensures told { IfOk result (λ b. b.told ≡ told_params d.now.params ++
+        replicate (bindings_of body.now) (record { ty = d.now.ty; mutable = false })) }
 {
     let mut known = Beginning::new(alloc);
     known.push_params(d.params.as_slice())?;

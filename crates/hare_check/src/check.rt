@@ -54,7 +54,8 @@ fn walker_over<'a>(
     ensures above { IfOk result (λ w. w.standing.above ≡ whole.over_body env.now.own d.now.ty (length d.now.params)) }
     ensures outer { IfOk result (λ w. w.standing.outer ≡ []) }
     ensures seen { IfOk result (λ w. w.seen ≡ whole.before_body d.now.params body.now) }
-    ensures walks { IfOk result (λ w. (s : Store) → IsKnown s env.now.decls.now → AreKnownDecls s env.now.decls.now → IsDefined s d.now.ty → ((i t : ℕ) → slice_get d.now.params i ≡ Some t → IsDefined s t) → (k : Kind) → Walks s (spot k 0 ∷ []) w) }
+    ensures walks { IfOk result (λ w. (s : Store) → IsKnown s env.now.decls.now → AreKnownDecls s env.now.decls.now → IsDefined s d.now.ty →
+        ((i t : ℕ) → slice_get d.now.params i ≡ Some t → IsDefined s t) → (k : Kind) → Walks s (spot k 0 ∷ []) w) }
 {
     let Beginning { bindings, told } = before_body(alloc, d, body)?;
     let mut begun = Items::new(alloc);
@@ -78,8 +79,9 @@ fn walker_over<'a>(
     })
 }
 
-/// The one typed tree of the body of a function, by the typing rules, or exactly its first fault: that of the first row that fails at the first node, in
-/// check order, that fails. The store may grow in names and types, also where there is a fault, and the answer holds in each later store.
+/// The one typed tree of the body of a function, by the typing rules, or exactly its first fault: that of the first row that fails at the
+/// first node, in check order, that fails. The store may grow in names and types, also where there is a fault, and the answer holds in each
+/// later store.
 ///
 /// The conditions are that the body is a shaped expression, that the store defines `rt::nomem`, that each declared type that is known is
 /// defined, and that all other types that are told mention no name that is not defined. A path that means nothing known, a declaration that

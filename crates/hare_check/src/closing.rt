@@ -52,7 +52,8 @@ impl<'a> Walker<'a> {
 
     /// The constant of the def that the node at hand means, where it is a path; none where it means none.
     fn named(&self, node: &Tree, meaning: Meaning) -> Result<Const, AllocError>
-        ensures { IfOk result (λ v. (c : Context) → c.setting.decls ≡ self.now.decls.now → c.head ≡ head node.now → ((head node.now).kind ≡ ki.Path → c.meaning ≡ meaning) → v ≡ values.value_named c) }
+        ensures { IfOk result (λ v. (c : Context) → c.setting.decls ≡ self.now.decls.now → c.head ≡ head node.now →
+            ((head node.now).kind ≡ ki.Path → c.meaning ≡ meaning) → v ≡ values.value_named c) }
     {
         match node.kind {
             Kind::Path => named_value(self.alloc, self.decls, meaning),
@@ -60,7 +61,8 @@ impl<'a> Walker<'a> {
         }
     }
 
-    /// Closes the turn of the node at hand, of which this has been found. The answer is its tree, over the kids with what is settled of them.
+    /// Closes the turn of the node at hand, of which this has been found. The answer is its tree, over the kids with what is settled of
+    /// them.
     pub(crate) fn close(
         &mut self,
         s: &mut TypeStore,
@@ -70,9 +72,11 @@ impl<'a> Walker<'a> {
     ) -> Result<Typed, AllocError>
         requires node { IsAtNode s.old self.old node.now kids }
         requires found { IsFindingOf s.old self.old node.now kids found.now }
-        ensures ok { IfOk result (λ x. IsTurned (program_of self.old) s.new (above_of self.old) (head node.now) kids self.old.seen x self.new.seen) }
+        ensures ok { IfOk result (λ x. IsTurned (program_of self.old) s.new (above_of self.old) (head node.now) kids self.old.seen x
+            self.new.seen) }
         ensures hand { IfOk result (λ x. IsInHand self.new.seen x) }
-        ensures walks { OnOk result ((ps : List Spot) → Walks s.old (spot (head node.now).kind (length kids) ∷ ps) self.old → Walks s.new (spot (head node.now).kind 0 ∷ ps) self.new) }
+        ensures walks { OnOk result ((ps : List Spot) → Walks s.old (spot (head node.now).kind (length kids) ∷ ps) self.old →
+            Walks s.new (spot (head node.now).kind 0 ∷ ps) self.new) }
         ensures kept { IfOk result (λ x. (r : Store) → IsGrown s.new r → IsKeptTree r x) }
         ensures same { IsUnder self.old self.new }
         ensures grown { IsGrown s.old s.new }

@@ -66,8 +66,10 @@ fn is_a_length(k: Kind) -> bool
 
 /// Whether a written type that is a path means a type that is known.
 fn means_type(decls: &DeclTypes, node: &Tree, meaning: Meaning) -> bool
-    ensures defined { result ≡ true → (head node.now).kind ≡ ki.TypePath → (s : Store) → IsKnown s decls.now → AreKnownDecls s decls.now → IsDefinedMeaning s meaning }
-    ensures meant { result ≡ true → (head node.now).kind ≡ ki.TypePath → (s : Store) → IsStore s → IsKnown s decls.now → AreKnownDecls s decls.now → IsTypeMeant s meaning }
+    ensures defined { result ≡ true → (head node.now).kind ≡ ki.TypePath → (s : Store) → IsKnown s decls.now → AreKnownDecls s decls.now →
+        IsDefinedMeaning s meaning }
+    ensures meant { result ≡ true → (head node.now).kind ≡ ki.TypePath → (s : Store) → IsStore s → IsKnown s decls.now →
+        AreKnownDecls s decls.now → IsTypeMeant s meaning }
 {
     match node.kind {
         Kind::TypePath => is_known_type(decls, meaning),
@@ -79,7 +81,8 @@ impl<'a> Walker<'a> {
     /// What was yielded to the node at hand.
     fn handed(&self, node: &Tree) -> Result<Items<Handed>, AllocError>
         requires { (s : Store) × (xs : List TypedNode) × IsAtNode s self.now node.now xs }
-        ensures { IfOk result (λ gs. map given_of gs ≡ yields_to (head node.now).kind (length (above_of self.now).inside.labels) self.now.seen.yields) }
+        ensures { IfOk result (λ gs. map given_of gs ≡ yields_to (head node.now).kind (length (above_of self.now).inside.labels)
+            self.now.seen.yields) }
     {
         match node.kind {
             Kind::Block | Kind::Case | Kind::SwitchCase => {
@@ -220,7 +223,8 @@ impl<'a> Walker<'a> {
 
     /// What is found of the node at hand: its type, and what is settled of it and of its kids; or its fault. The store may grow.
     ///
-    /// No declaration stands in a body, no expression in the place of a type, and no path means what is not known: these are answered as want of memory.
+    /// No declaration stands in a body, no expression in the place of a type, and no path means what is not known: these are answered as
+    /// want of memory.
     pub(crate) fn find(
         &mut self,
         s: &mut TypeStore,

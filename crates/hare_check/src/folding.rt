@@ -51,7 +51,8 @@ fn fold(
     coercion: Coercion,
 ) -> Result<(), AllocError>
     ensures tree { OnOk result (tree.new ≡ with_constant (mark_of tree.new).value tree.old) }
-    ensures value { OnOk result ((l : Store) → IsLater s.now l → (mark_of tree.new).value ≡ folded l own (with_coercion coercion tree.old)) }
+    ensures value { OnOk result ((l : Store) → IsLater s.now l →
+        (mark_of tree.new).value ≡ folded l own (with_coercion coercion tree.old)) }
 {
     if own == u32::MAX {
         return Err(AllocError);
@@ -70,7 +71,8 @@ impl<'a> Walker<'a> {
         requires hint { IsDefinedHint s.old (above_of self.now).hint }
         requires ty { IsDefinedTy s.old (mark_of tree.old).ty }
         ensures tree { OnOk result (tree.new ≡ with_constant (mark_of tree.new).value tree.old) }
-        ensures value { OnOk result ((l : Store) → IsLater s.new l → (mark_of tree.new).value ≡ constant_in (above_of self.now).inside.role l (above_of self.now).hint (above_of self.now).inside.own tree.old) }
+        ensures value { OnOk result ((l : Store) → IsLater s.new l → (mark_of tree.new).value ≡ constant_in (above_of self.now).inside.role
+            l (above_of self.now).hint (above_of self.now).inside.own tree.old) }
         ensures grown { IsGrown s.old s.new }
     {
         let _law = s.declarations();
@@ -90,8 +92,8 @@ impl<'a> Walker<'a> {
         }
     }
 
-    /// The tree of the node at hand, of which this has been found, with its constant. Its path means this where the constant is worked out. The store may
-    /// grow in types.
+    /// The tree of the node at hand, of which this has been found, with its constant. Its path means this where the constant is worked out.
+    /// The store may grow in types.
     pub(crate) fn tree(
         &self,
         s: &mut TypeStore,
@@ -102,8 +104,11 @@ impl<'a> Walker<'a> {
     ) -> Result<Typed, AllocError>
         requires hint { IsDefinedHint s.old (above_of self.now).hint }
         requires ty { IsDefinedTy s.old found.ty }
-        ensures tree { IfOk result (λ x. x ≡ marked (head node.now) (record (marks.mark_of found) { value = (mark_of x).value }) (typed_nodes kids)) }
-        ensures value { IfOk result (λ x. (l : Store) → IsLater s.new l → (mark_of x).value ≡ constant_in (above_of self.now).inside.role l (above_of self.now).hint (above_of self.now).inside.own (marked (head node.now) (record (marks.mark_of found) { meaning = meant }) (typed_nodes kids))) }
+        ensures tree { IfOk result (λ x. x ≡ marked (head node.now) (record (marks.mark_of found) { value = (mark_of x).value })
+            (typed_nodes kids)) }
+        ensures value { IfOk result (λ x. (l : Store) → IsLater s.new l → (mark_of x).value ≡ constant_in (above_of self.now).inside.role l
+            (above_of self.now).hint (above_of self.now).inside.own
+            (marked (head node.now) (record (marks.mark_of found) { meaning = meant }) (typed_nodes kids))) }
         ensures grown { IsGrown s.old s.new }
     {
         let _law = s.declarations();

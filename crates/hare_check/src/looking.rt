@@ -22,8 +22,8 @@ use hare_typed::TypedKids;
 use hare_types::TypeStore;
 
 impl<'a> Walker<'a> {
-    /// Looks at what a judge is not told of the node at hand: whether the binding has a type that a path means, and whether a `yield` without a value is
-    /// taken by what it means. The store may grow in types.
+    /// Looks at what a judge is not told of the node at hand: whether the binding has a type that a path means, and whether a `yield`
+    /// without a value is taken by what it means. The store may grow in types.
     pub(crate) fn look(
         &self,
         s: &mut TypeStore,
@@ -33,9 +33,13 @@ impl<'a> Walker<'a> {
     ) -> Result<(), Stop<Fault>>
         requires node { IsAtNode s.old self.now node.now kids.now }
         requires role { has_judge (above_of self.now).inside.role ≡ true }
-        requires meaning { (w : Setting) → w.means ≡ meaning_in self.now.names.now → meaning ≡ path_meaning w (head node.now) (head node.now).kind (map bare kids.now) }
-        ensures looked { OnOk result ((l : Store) → IsLater s.new l → IsLookedAt (context_at (program_of self.now) (above_of self.now) node.now kids.now self.now.seen l)) }
-        ensures void { OnOk result ((head node.now).kind ≡ ki.Yield → (l : Store) → IsLater s.new l → MeansInside (context_at (program_of self.now) (above_of self.now) node.now kids.now self.now.seen l) → IsTakenAt s.new self.now node.now kids.now) }
+        requires meaning { (w : Setting) → w.means ≡ meaning_in self.now.names.now →
+            meaning ≡ path_meaning w (head node.now) (head node.now).kind (map bare kids.now) }
+        ensures looked { OnOk result ((l : Store) → IsLater s.new l →
+            IsLookedAt (context_at (program_of self.now) (above_of self.now) node.now kids.now self.now.seen l)) }
+        ensures void { OnOk result ((head node.now).kind ≡ ki.Yield → (l : Store) → IsLater s.new l →
+            MeansInside (context_at (program_of self.now) (above_of self.now) node.now kids.now self.now.seen l) →
+            IsTakenAt s.new self.now node.now kids.now) }
         ensures err { IfErr result (IsStopOf s.new self.now node.now kids.now) }
         ensures grown { IsGrown s.old s.new }
     {

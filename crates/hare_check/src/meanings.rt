@@ -50,7 +50,8 @@ fn callee_meaning(kids: &TypedKids) -> Meaning
 
 /// What the names say of the path of a node: of itself, of the callee of a call, or of the type of a struct literal.
 pub(crate) fn path_meaning(names: &Names, node: &Tree, kids: &TypedKids) -> Meaning
-    ensures { (w : Setting) → w.means ≡ meaning_in names.now → result ≡ flow.path_meaning w (head node.now) (head node.now).kind (map bare kids.now) }
+    ensures { (w : Setting) → w.means ≡ meaning_in names.now → result ≡ flow.path_meaning w (head node.now) (head node.now).kind
+        (map bare kids.now) }
 {
     match node.kind {
         Kind::Call => callee_meaning(kids),

@@ -43,7 +43,8 @@ fn walker_over_value<'a>(
     ensures decls { IfOk result (λ w. w.decls.now ≡ env.now.decls.now) }
     ensures standing { IfOk result (λ w. w.standing ≡ start env.now.own never false context.DeclaredValue hint 0) }
     ensures seen { IfOk result (λ w. w.seen ≡ whole.before_value value.now) }
-    ensures walks { IfOk result (λ w. (s : Store) → IsKnown s env.now.decls.now → AreKnownDecls s env.now.decls.now → IsDefined s never → IsDefinedHint s hint → (k : Kind) → Walks s (spot k 0 ∷ []) w) }
+    ensures walks { IfOk result (λ w. (s : Store) → IsKnown s env.now.decls.now → AreKnownDecls s env.now.decls.now → IsDefined s never →
+        IsDefinedHint s hint → (k : Kind) → Walks s (spot k 0 ∷ []) w) }
 {
     let Beginning { bindings, told } = before_value(alloc, never, value)?;
     let mut begun = Items::new(alloc);
@@ -59,9 +60,9 @@ fn walker_over_value<'a>(
     })
 }
 
-/// The one typed tree of the value of a def or a global that is asked for this, by the typing rules, or exactly its first fault: that of the first row
-/// that fails at the first node, in check order, that fails. What the value goes to stands in its constant; its own coercion is that of its turn. The
-/// store may grow in names and types, also where there is a fault, and the answer holds in each later store.
+/// The one typed tree of the value of a def or a global that is asked for this, by the typing rules, or exactly its first fault: that of
+/// the first row that fails at the first node, in check order, that fails. What the value goes to stands in its constant; its own coercion
+/// is that of its turn. The store may grow in names and types, also where there is a fault, and the answer holds in each later store.
 ///
 /// The conditions are that the value is a shaped expression, that the store defines `rt::nomem`, that the type that is asked for and each
 /// declared type that is known are defined, and that all other types that are told mention no name that is not defined. A path that means

@@ -18,11 +18,11 @@ use std::alloc::{AllocError, Global};
 /// The bytes that each frame has beside those of its nodes.
 const FRAME_BYTES: u64 = 64;
 
-/// The copied weight of a declaration and the bound on the bytes of its frame, once the deferred expressions stand where they run: `docs/LANGUAGE.md`
-/// says how they are counted. Each stops at `MOST`. A type of which the store knows no size counts as none.
+/// The copied weight of a declaration and the bound on the bytes of its frame, once the deferred expressions stand where they run:
+/// `docs/LANGUAGE.md` says how they are counted. Each stops at `MOST`. A type of which the store knows no size counts as none.
 ///
-/// Fails only for want of memory. Goes over each node once, from right to left. What leaves nodes, as a `return`, is looked at once at each node that it
-/// leaves.
+/// Fails only for want of memory. Goes over each node once, from right to left. What leaves nodes, as a `return`, is looked at once at each
+/// node that it leaves.
 pub fn cost(alloc: Global, s: &TypeStore, f: &Typed) -> Result<Amount, AllocError>
     ensures { IfOk result (λ a. a ≡ spec.told_cost s.now f.now) }
 {

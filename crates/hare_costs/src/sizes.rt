@@ -105,7 +105,8 @@ fn is_by_reference(kids: &TypedKids) -> bool
 
 /// The size of what a loop over elements binds.
 fn turn_size(s: &TypeStore, kids: &TypedKids) -> u64
-    ensures { result ≡ min (spec.turn_size s.now (spec.by_reference (spec.first_of (typed_nodes kids.now))) (typed_nodes kids.now)) most_of_size }
+    ensures { result ≡ min (spec.turn_size s.now (spec.by_reference (spec.first_of (typed_nodes kids.now))) (typed_nodes kids.now))
+        most_of_size }
 {
     if is_by_reference(kids) {
         return POINTER_SIZE;

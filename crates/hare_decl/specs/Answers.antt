@@ -75,8 +75,7 @@ pub record IsSource (file : ℕ) (text : List ℕ) (tree : FileTree) : Type 0 wh
   pub file_is : IsFile file tokens tree
 
 -- The first fault of the bytes of a file: that of its tokens, or where they break off the least of the break and of the first fault of the
--- tokens
--- before it.
+-- tokens before it.
 abbrev pub HasSourceFault : ℕ → List ℕ → fault.Fault → Type 0
 HasSourceFault file text f =
     ((ts : List Token) × IsTokens file text ts × HasFirstFault ts f)

@@ -11,11 +11,11 @@ use crate::syntax::{Syntax, syntax_of};
 use hare_tree::{Fault, FileTree, Place, Stop, Tokens};
 use std::alloc::Global;
 
-/// The tree of the file with these tokens, which are all of the file with this number, as those are that a lexer gives (Hare specification, "Grammar"): the one tree within the limits on
-/// depth that spells the tokens and has their places.
+/// The tree of the file with these tokens, which are all of the file with this number, as those are that a lexer gives (Hare specification,
+/// "Grammar"): the one tree within the limits on depth that spells the tokens and has their places.
 ///
-/// Else the fault is E8 at the first token with which no file begins, or E9 at the first at which a limit on depth is passed, whichever stands first.
-/// Tokens that end before their file does, as none do that a lexer gives, have E8 at the last of them.
+/// Else the fault is E8 at the first token with which no file begins, or E9 at the first at which a limit on depth is passed, whichever
+/// stands first. Tokens that end before their file does, as none do that a lexer gives, have E8 at the last of them.
 ///
 /// The time is linear in the tokens.
 pub fn parse_file(alloc: Global, file: u32, t: &Tokens) -> Result<FileTree, Stop<Fault>>

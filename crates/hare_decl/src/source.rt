@@ -14,8 +14,8 @@ use std::alloc::Global;
 
 /// The tree of the file with these bytes, of which there are fewer than 2^32 - 1: that of its tokens.
 ///
-/// Else the fault is the least of the faults of its tokens, E8 and E9, and of the first place where they break off, E3 to E7 and E10: where the tokens in
-/// front of a break begin a file and pass no limit on depth, the break is the fault.
+/// Else the fault is the least of the faults of its tokens, E8 and E9, and of the first place where they break off, E3 to E7 and E10: where
+/// the tokens in front of a break begin a file and pass no limit on depth, the break is the fault.
 ///
 /// The time is linear in the bytes.
 pub fn parse_source(alloc: Global, file: u32, src: &[u8]) -> Result<FileTree, Stop<Fault>>

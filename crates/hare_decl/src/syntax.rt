@@ -36,8 +36,8 @@ pub fn syntax_of(alloc: Global, file: u32, tokens: &Tokens) -> Result<Syntax, Al
     }
 }
 
-/// What the tokens come to of which these imports and declarations stand in front of the token at a place of the list. Nothing but End may follow
-/// them, and nothing may follow End.
+/// What the tokens come to of which these imports and declarations stand in front of the token at a place of the list. Nothing but End may
+/// follow them, and nothing may follow End.
 fn over_at(file: u32, tokens: &Tokens, uses: Kids, decls: Kids, n: usize) -> Syntax
     requires { spec.IsOver file tokens.now uses decls n }
     ensures value { spec.IsSyntax file tokens.now result }

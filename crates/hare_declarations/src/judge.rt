@@ -54,11 +54,13 @@ fn pass(
     }
 }
 
-/// Judges all declarations of a program in the steps of its plan: what is known of each then, and the typed trees of its written types and its value. Or
-/// exactly the first fault of declarations. The store defines all types then, and grows in names and types also where there is a fault.
+/// Judges all declarations of a program in the steps of its plan: what is known of each then, and the typed trees of its written types and
+/// its value. Or exactly the first fault of declarations. The store defines all types then, and grows in names and types also where there
+/// is a fault.
 ///
-/// The conditions are that all declarations are shaped, and fewer than 2^32 - 1; that all types are declared and none is defined yet but `rt::nomem`,
-/// which is `!void`; and that the plan is that of these files. What the judges of types, values and declarations answer as want of memory is so here.
+/// The conditions are that all declarations are shaped, and fewer than 2^32 - 1; that all types are declared and none is defined yet but
+/// `rt::nomem`, which is `!void`; and that the plan is that of these files. What the judges of types, values and declarations answer as
+/// want of memory is so here.
 pub fn judge_declarations(
     alloc: Global,
     s: &mut TypeStore,

@@ -17,14 +17,14 @@ use hare_types::TypeStore;
 use hx_base::Items;
 use std::alloc::{AllocError, Global};
 
-/// Declares the types of a program, of which the store says nothing yet, each by the number of its declaration, in the order of files and source, and
-/// with what is seen of its size, where paths mean what `names` says: a type has no size where names and error marks come down to `never` or `opaque`.
-/// Beside them stands `rt::nomem`, which is defined as `!void`; no other is defined.
+/// Declares the types of a program, of which the store says nothing yet, each by the number of its declaration, in the order of files and
+/// source, and with what is seen of its size, where paths mean what `names` says: a type has no size where names and error marks come down
+/// to `never` or `opaque`. Beside them stands `rt::nomem`, which is defined as `!void`; no other is defined.
 ///
 /// There are fewer than 2^32 - 1 declarations.
 ///
-/// Fails only for want of memory. Takes time in proportion to the declarations and to their names, and no more of the host's stack for longer chains of
-/// names.
+/// Fails only for want of memory. Takes time in proportion to the declarations and to their names, and no more of the host's stack for
+/// longer chains of names.
 pub fn declare_all(
     alloc: Global,
     s: &mut TypeStore,

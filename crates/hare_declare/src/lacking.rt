@@ -7,8 +7,8 @@ use crate::outline::{Outline, SizeSeen};
 use hare_graph::{Graph, flood, no_labels};
 use std::alloc::{AllocError, Global};
 
-/// A label for each declaration whose type is seen to have no size, and for no other. Each declaration is looked at once: the label spreads from those that
-/// lack a size by themselves to those that name them, so that a chain of names that returns to itself gets none.
+/// A label for each declaration whose type is seen to have no size, and for no other. Each declaration is looked at once: the label spreads
+/// from those that lack a size by themselves to those that name them, so that a chain of names that returns to itself gets none.
 pub fn lacking(alloc: Global, outlines: &[Outline]) -> Result<Vec<Option<usize>>, AllocError>
     requires few { length outlines.now < 2 ^ 32 }
     requires within { spec.AreWithin outlines.now }
@@ -21,7 +21,8 @@ pub fn lacking(alloc: Global, outlines: &[Outline]) -> Result<Vec<Option<usize>>
     Ok(labels)
 }
 
-/// The graph in which each declaration leads to those that name it. One more node, behind them, leads to those that lack a size by themselves.
+/// The graph in which each declaration leads to those that name it. One more node, behind them, leads to those that lack a size by
+/// themselves.
 fn names_of(alloc: Global, outlines: &[Outline]) -> Result<Graph, AllocError>
     requires { length outlines.now < 2 ^ 32 }
     ensures { IfOk result (λ g. spec.IsGraphBelow outlines.now (length outlines.now) g) }

@@ -11,8 +11,8 @@ use indexmap::IndexSet;
 use std::alloc::{AllocError, Global};
 use std::marker::Model;
 
-/// The types of a store that are known to be in it and to mention no name that is not defined, in the order in which this was found out. Contracts see
-/// their ids.
+/// The types of a store that are known to be in it and to mention no name that is not defined, in the order in which this was found out.
+/// Contracts see their ids.
 ///
 /// It may be kept while the store grows: what is known goes on to hold.
 #[derive(Drop)]
@@ -38,8 +38,8 @@ impl Defined {
         }
     }
 
-    /// Whether a type is in the store, and each name that it mentions, to any depth, is defined. Where it is so, this is known from then on of the type
-    /// and of all that it mentions; where it is not, or memory is wanting, no more is known than before.
+    /// Whether a type is in the store, and each name that it mentions, to any depth, is defined. Where it is so, this is known from then on
+    /// of the type and of all that it mentions; where it is not, or memory is wanting, no more is known than before.
     ///
     /// The condition is that all types that are known before are in the store, and mention no name that is not defined. Fails for want of
     /// memory alone.

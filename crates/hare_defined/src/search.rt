@@ -10,8 +10,8 @@ use hare_types::{TypeId, TypeStore};
 use indexmap::IndexSet;
 use std::alloc::AllocError;
 
-/// Puts a type and all that it mentions behind those that are known, each once; they are looked at in the order in which they are met. The answer is no
-/// as soon as a name is met that is not defined.
+/// Puts a type and all that it mentions behind those that are known, each once; they are looked at in the order in which they are met. The
+/// answer is no as soon as a name is met that is not defined.
 pub(crate) fn meet_mentioned(
     known: &mut IndexSet<TypeId>,
     s: &TypeStore,

@@ -28,8 +28,8 @@ use hare_types::{Ty, TypeId, TypeStore};
 use rule_judge::{default_in, is_there, type_at};
 use std::alloc::AllocError;
 
-/// What a judge is told of a binding instead of this, where that is known of it. A binding of which nothing is known is told as one that may not be
-/// assigned to; its type says nothing.
+/// What a judge is told of a binding instead of this, where that is known of it. A binding of which nothing is known is told as one that
+/// may not be assigned to; its type says nothing.
 fn told_instead(told: &Local, b: &Binding) -> Local
     ensures told { IsToldEntry (entry_of b.now) result }
     ensures defined { (s : Store) → IsDefined s told.now.ty → IsDefinedEntry s (entry_of b.now) → IsDefined s result.ty }
@@ -90,7 +90,8 @@ fn id_in(a: &Ty) -> Option<TypeId>
 /// The type of the binding of a `let` or a `const` with these kids: the one that is written, or the default of the value.
 fn binding_type(s: &mut TypeStore, kids: &TypedKids) -> Result<Option<TypeId>, AllocError>
     requires { AreDefinedTrees s.old (typed_nodes kids.now) }
-    ensures value { IfOk result (λ o. (c : Context) → IsLater s.new (store_of c) → c.kids ≡ kids.now → control.type_kid_of c.head.kind ≡ 0 → o ≡ control.binding_type c) }
+    ensures value { IfOk result (λ o. (c : Context) → IsLater s.new (store_of c) → c.kids ≡ kids.now → control.type_kid_of c.head.kind ≡ 0 →
+        o ≡ control.binding_type c) }
     ensures defined { IfOk result (λ o. IfSome o (IsDefined s.new)) }
     ensures grown { IsGrown s.old s.new }
 {
@@ -103,11 +104,12 @@ fn binding_type(s: &mut TypeStore, kids: &TypedKids) -> Result<Option<TypeId>, A
     default_in(s, &value)
 }
 
-/// What is known of the binding of a node behind it: a `let` and a `const` bind their value, and the `let` of a case that of its operand. None
-/// where nothing more is known.
+/// What is known of the binding of a node behind it: a `let` and a `const` bind their value, and the `let` of a case that of its operand.
+/// None where nothing more is known.
 fn known_behind(s: &mut TypeStore, k: Kind, kids: &TypedKids) -> Result<Option<Binding>, AllocError>
     requires { AreDefinedTrees s.old (typed_nodes kids.now) }
-    ensures value { IfOk result (λ o. (c : Context) → IsLater s.new (store_of c) → c.kids ≡ kids.now → c.head.kind ≡ k → (n : ℕ) (ls : List Entry) → locals_after c k n ls ≡ bound_to (option_map entry_of o) n ls) }
+    ensures value { IfOk result (λ o. (c : Context) → IsLater s.new (store_of c) → c.kids ≡ kids.now → c.head.kind ≡ k →
+        (n : ℕ) (ls : List Entry) → locals_after c k n ls ≡ bound_to (option_map entry_of o) n ls) }
     ensures defined { IfOk result (λ o. IfSome o (λ b. IsDefinedEntry s.new (entry_of b))) }
     ensures grown { IsGrown s.old s.new }
 {
@@ -129,8 +131,8 @@ fn known_behind(s: &mut TypeStore, k: Kind, kids: &TypedKids) -> Result<Option<B
     }
 }
 
-/// Says what is known of the binding of a node behind it, also to judges. It is the one in front of which `first` bindings of the declaration begin.
-/// The store may grow in types.
+/// Says what is known of the binding of a node behind it, also to judges. It is the one in front of which `first` bindings of the
+/// declaration begin. The store may grow in types.
 pub(crate) fn bind_behind(
     s: &mut TypeStore,
     seen: &mut Seen,
@@ -140,7 +142,8 @@ pub(crate) fn bind_behind(
     first: u32,
 ) -> Result<(), AllocError>
     requires { AreDefinedTrees s.old (typed_nodes kids.now) }
-    ensures seen { OnOk result ((c : Context) → IsLater s.new (store_of c) → HasKids c (head node.now) kids.now → seen.new ≡ record seen.old { locals = locals_after c c.head.kind first seen.old.locals }) }
+    ensures seen { OnOk result ((c : Context) → IsLater s.new (store_of c) → HasKids c (head node.now) kids.now →
+        seen.new ≡ record seen.old { locals = locals_after c c.head.kind first seen.old.locals }) }
     ensures rest { OnOk result (seen.new ≡ record seen.old { locals = seen.new.locals }) }
     ensures told { AreToldEntries seen.old.locals told.old → AreToldEntries seen.new.locals told.new }
     ensures locals { AreDefinedLocals s.old told.old → OnOk result (AreDefinedLocals s.new told.new) }
@@ -163,9 +166,10 @@ fn is_behind_operand(k: Kind, before: usize) -> bool
     }
 }
 
-/// Says what is known of the binding of a for-each when its body begins, also to judges: it is an element of the array or slice, or, by reference, a
-/// pointer to one; over anything else it is odd, at the place of the loop. These are the kids before the one that begins; before any other kid of
-/// any node nothing changes. The binding is the one in front of which `first` bindings of the declaration begin. The store may grow in types.
+/// Says what is known of the binding of a for-each when its body begins, also to judges: it is an element of the array or slice, or, by
+/// reference, a pointer to one; over anything else it is odd, at the place of the loop. These are the kids before the one that begins;
+/// before any other kid of any node nothing changes. The binding is the one in front of which `first` bindings of the declaration begin.
+/// The store may grow in types.
 ///
 /// The condition is that each type that stands in the kids that are done is in the store, and mentions no name that is not defined. Fails
 /// for want of memory alone.
@@ -178,7 +182,8 @@ pub fn bind_before(
     first: u32,
 ) -> Result<(), AllocError>
     requires { AreDefinedTrees s.old (typed_nodes done.now) }
-    ensures seen { OnOk result ((w : Store → Setting) (a : Above) → ((l : Store) → (w l).store ≡ l) → a.first ≡ first → (l : Store) → IsLater s.new l → seen.new ≡ flow.flow_before (w l) a (head node.now) (map bare done.now) seen.old) }
+    ensures seen { OnOk result ((w : Store → Setting) (a : Above) → ((l : Store) → (w l).store ≡ l) → a.first ≡ first → (l : Store) →
+        IsLater s.new l → seen.new ≡ flow.flow_before (w l) a (head node.now) (map bare done.now) seen.old) }
     ensures rest { seen.new ≡ record seen.old { locals = seen.new.locals } }
     ensures told { AreToldEntries seen.old.locals told.old → AreToldEntries seen.new.locals told.new }
     ensures locals { AreDefinedLocals s.old told.old → OnOk result (AreDefinedLocals s.new told.new) }

@@ -46,7 +46,11 @@ fn settle_each_late(seen: &mut Seen, late: &[Late]) -> Result<(), AllocError>
 /// Settles what is found of a node: its own coercion, those of its kids, and what of yielded values is settled when the body is done.
 fn settle_all(seen: &mut Seen, kids: &mut TypedKids, found: &Finding) -> Result<(), AllocError>
     requires { length found.now.kids ≡ length kids.old }
-    ensures seen { OnOk result (seen.new ≡ record seen.old { coercions = write_each (written_each kids.old (map option_in found.now.kids)) (seen.old.coercions ++ found.now.own ∷ []); late = seen.old.late ++ map settled_in found.now.late }) }
+    ensures seen { OnOk result (seen.new ≡ record seen.old {
+      coercions = write_each (written_each kids.old (map option_in found.now.kids)) (seen.old.coercions ++ found.now.own ∷ []);
+      late =
+          seen.old.late ++ map settled_in found.now.late;
+    }) }
     ensures kids { OnOk result (kids.new ≡ coated_each kids.old (map option_in found.now.kids)) }
 {
     seen.judged(&found.own)?;
@@ -54,8 +58,9 @@ fn settle_all(seen: &mut Seen, kids: &mut TypedKids, found: &Finding) -> Result<
     settle_each_late(seen, found.late.as_slice())
 }
 
-/// Closes a node's turn, of which this is found: what is known of its binding, which values go on, and what is settled. It has `first` bindings of the
-/// declaration before it. The kids get the coercions that are settled of them, judges are told of the binding, and the store may grow in types.
+/// Closes a node's turn, of which this is found: what is known of its binding, which values go on, and what is settled. It has `first`
+/// bindings of the declaration before it. The kids get the coercions that are settled of them, judges are told of the binding, and the
+/// store may grow in types.
 ///
 /// The conditions are that `found` is as long as the kids; that each type that stands in these is in the store, and mentions no name that
 /// is not defined; and that none of the first `levels.from` values was handed to the node, where it is a block or a case. Fails for want of
@@ -74,7 +79,9 @@ pub fn close(
     requires many { length found.now.kids ≡ length kids.old }
     requires defined { AreDefinedTrees s.old (typed_nodes kids.old) }
     requires from { takes_yields (head node.now).kind ≡ true → filter (is_at levels.now.own) (take levels.now.from seen.old.yields) ≡ [] }
-    ensures seen { OnOk result ((w : Store → Setting) (a : Above) → Closes w a (head node.now) kids.old seen.old first levels.now → IsFound w s.old a (head node.now) kids.old seen.old found.now → (l : Store) → IsLater s.new l → seen.new ≡ flow_after (w l) a (head node.now) (map bare kids.old) seen.old) }
+    ensures seen { OnOk result ((w : Store → Setting) (a : Above) → Closes w a (head node.now) kids.old seen.old first levels.now →
+        IsFound w s.old a (head node.now) kids.old seen.old found.now → (l : Store) → IsLater s.new l →
+        seen.new ≡ flow_after (w l) a (head node.now) (map bare kids.old) seen.old) }
     ensures kids { OnOk result (kids.new ≡ coated_each kids.old (map option_in found.now.kids)) }
     ensures told { OnOk result (AreToldEntries seen.old.locals told.old → AreToldEntries seen.new.locals told.new) }
     ensures locals { AreDefinedLocals s.old told.old → OnOk result (AreDefinedLocals s.new told.new) }

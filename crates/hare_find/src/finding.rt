@@ -64,7 +64,8 @@ fn late_of(
     gs: &[Handed],
     count: usize,
 ) -> Result<Items<Late>, AllocError>
-    ensures asked { IfOk result (λ xs. t.now.case.now.hint ≡ hint.None → takes_yields (kind_in t.now) ≡ true → map settled_in xs ≡ listed_late (map given_of gs.now) (drop count v.now.coerce)) }
+    ensures asked { IfOk result (λ xs. t.now.case.now.hint ≡ hint.None → takes_yields (kind_in t.now) ≡ true →
+        map settled_in xs ≡ listed_late (map given_of gs.now) (drop count v.now.coerce)) }
     ensures hinted { IfOk result (λ xs. ¬ (t.now.case.now.hint ≡ hint.None) → xs ≡ []) }
     ensures others { IfOk result (λ xs. takes_yields (kind_in t.now) ≡ false → xs ≡ []) }
 {
@@ -100,8 +101,8 @@ fn settled(
     nones(alloc, t.kids.len())
 }
 
-/// Judges a node of which a hint asks something, with what was yielded to it: what is found of it, or its fault, in every later store. The store
-/// may grow in types.
+/// Judges a node of which a hint asks something, with what was yielded to it: what is found of it, or its fault, in every later store. The
+/// store may grow in types.
 ///
 /// The node is an expression or a statement, and the conditions of `hare_judge::judge` hold: it is shaped and has its kids, which have been
 /// judged; each type that stands in them or is told with it is in the store, and mentions no name that is not defined; the result of the
@@ -115,8 +116,10 @@ pub fn find_judged(
 ) -> Result<Finding, Stop<Fault>>
     requires kind { is_judged_kind (kind_in t.now) ≡ true }
     requires ready { IsReadyTurn s.old t.now }
-    ensures ok { IfOk result (λ x. (w : Store → Setting) (a : Above) (f : Flow) → IsAtTurn w s.new a f t.now (map given_of gs.now) → IsFound w s.new a (head t.now.node.now) t.now.kids.now f x) }
-    ensures err { IfErr result (λ e. (w : Store → Setting) (a : Above) (f : Flow) → IsAtTurn w s.new a f t.now (map given_of gs.now) → IsTurnedBack w s.new a (head t.now.node.now) t.now.kids.now f e) }
+    ensures ok { IfOk result (λ x. (w : Store → Setting) (a : Above) (f : Flow) → IsAtTurn w s.new a f t.now (map given_of gs.now) →
+        IsFound w s.new a (head t.now.node.now) t.now.kids.now f x) }
+    ensures err { IfErr result (λ e. (w : Store → Setting) (a : Above) (f : Flow) → IsAtTurn w s.new a f t.now (map given_of gs.now) →
+        IsTurnedBack w s.new a (head t.now.node.now) t.now.kids.now f e) }
     ensures many { IfOk result (λ x. length x.kids ≡ length t.now.kids.now) }
     ensures defined { IfOk result (IsDefinedFinding s.new) }
     ensures grown { IsGrown s.old s.new }

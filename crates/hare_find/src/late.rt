@@ -22,7 +22,8 @@ pub struct Late {
 
 /// Puts what is settled of one value behind the others; nothing, where no node gets its coercion.
 fn put_late(late: &mut Items<Late>, g: &Handed, coercion: &Coercion) -> Result<(), AllocError>
-    ensures { OnOk result (map settled_in late.new ≡ map settled_in late.old ++ late_where (given_of g.now).node (given_of g.now).ty coercion.now) }
+    ensures { OnOk result (map settled_in late.new ≡ map settled_in late.old ++ late_where (given_of g.now).node (given_of g.now).ty
+        coercion.now) }
 {
     let (Some(node), Some(_)) = (g.node, g.ty) else {
         return Ok(());

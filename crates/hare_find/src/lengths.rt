@@ -52,7 +52,8 @@ fn suffix_word(suffix: Suffix) -> Option<Scalar>
 /// The type of a number with this suffix.
 fn number_type(s: &mut TypeStore, suffix: Suffix, number: u128) -> Result<Ty, AllocError>
     requires { number < 2 ^ 127 }
-    ensures value { IfOk result (λ a. (f : Store) → IsLater s.new f → operators.number_type_by f (operators.suffix_word suffix) number ≡ Some a) }
+    ensures value { IfOk result (λ a. (f : Store) → IsLater s.new f → operators.number_type_by f (operators.suffix_word suffix) number ≡
+        Some a) }
     ensures defined { IfOk result (IsDefinedTy s.new) }
     ensures grown { IsGrown s.old s.new }
 {
@@ -65,7 +66,8 @@ fn number_type(s: &mut TypeStore, suffix: Suffix, number: u128) -> Result<Ty, Al
 
 /// The type of the def that a path means; none where it means no def.
 fn def_type(decls: &DeclTypes, meaning: Meaning) -> Option<TypeId>
-    ensures value { (c : Context) (o : Option Ty) → c.setting.decls ≡ decls.now → cond (means_def c.setting meaning) (operators.path_type c meaning) o ≡ option_or (typed_as result) o }
+    ensures value { (c : Context) (o : Option Ty) → c.setting.decls ≡ decls.now →
+        cond (means_def c.setting meaning) (operators.path_type c meaning) o ≡ option_or (typed_as result) o }
     ensures defined { (s : Store) → IsLengthMeant s decls.now meaning → IfSome result (IsDefined s) }
 {
     match meaning {
@@ -83,7 +85,8 @@ fn def_type(decls: &DeclTypes, meaning: Meaning) -> Option<TypeId>
 /// The type of a path that is a length: that of the def that it means, and void where it means none.
 fn path_type(s: &mut TypeStore, decls: &DeclTypes, meaning: Meaning) -> Result<Ty, AllocError>
     requires { IsLengthMeant s.old decls.now meaning }
-    ensures value { IfOk result (λ a. (c : Context) → IsLater s.new (store_of c) → c.setting.decls ≡ decls.now → cond (means_def c.setting meaning) (operators.path_type c meaning) (types.word c keyword.Void) ≡ Some a) }
+    ensures value { IfOk result (λ a. (c : Context) → IsLater s.new (store_of c) → c.setting.decls ≡ decls.now →
+        cond (means_def c.setting meaning) (operators.path_type c meaning) (types.word c keyword.Void) ≡ Some a) }
     ensures defined { IfOk result (IsDefinedTy s.new) }
     ensures grown { IsGrown s.old s.new }
 {
@@ -104,7 +107,8 @@ fn length_type(
     requires kind { is_length (head node.now).kind ≡ true }
     requires shaped { (sort : Sort) × (is_shaped sort node.now ≡ true) }
     requires meant { IsLengthMeant s.old decls.now meaning }
-    ensures value { IfOk result (λ a. (c : Context) → IsLengthIn s.new decls.now meaning (head node.now) c → types.length_type c c.head.kind ≡ Some a) }
+    ensures value { IfOk result (λ a. (c : Context) → IsLengthIn s.new decls.now meaning (head node.now) c →
+        types.length_type c c.head.kind ≡ Some a) }
     ensures defined { IfOk result (IsDefinedTy s.new) }
     ensures grown { IsGrown s.old s.new }
 {
@@ -116,8 +120,8 @@ fn length_type(
     }
 }
 
-/// What is found of the length of an array, whose path means this: it has the type of its number or of the def that it names, else void, and it
-/// settles nothing. Whether it is a length is asked at the array. The store may grow in types.
+/// What is found of the length of an array, whose path means this: it has the type of its number or of the def that it names, else void,
+/// and it settles nothing. Whether it is a length is asked at the array. The store may grow in types.
 ///
 /// The node is shaped and is a number or a path; a declaration that the path means is known. Fails for want of memory alone.
 pub fn find_length(
@@ -131,7 +135,8 @@ pub fn find_length(
     requires kind { is_length (head node.now).kind ≡ true }
     requires shaped { (sort : Sort) × (is_shaped sort node.now ≡ true) }
     requires meant { IsLengthMeant s.old decls.now meaning }
-    ensures ok { IfOk result (λ x. (w : Store → Setting) (a : Above) (f : Flow) → IsAtLength w s.new a f decls.now meaning (head node.now) kids.now → IsFound w s.new a (head node.now) kids.now f x) }
+    ensures ok { IfOk result (λ x. (w : Store → Setting) (a : Above) (f : Flow) → IsAtLength w s.new a f decls.now meaning (head node.now)
+        kids.now → IsFound w s.new a (head node.now) kids.now f x) }
     ensures many { IfOk result (λ x. length x.kids ≡ length kids.now) }
     ensures defined { IfOk result (IsDefinedFinding s.new) }
     ensures grown { IsGrown s.old s.new }

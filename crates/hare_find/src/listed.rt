@@ -60,8 +60,8 @@ pub(crate) struct Listed {
     pub(crate) count: usize,
 }
 
-/// Puts behind the others what a verdict lists for kid number `i`, where its coercions from `count` on are those of the kids from there on. The
-/// answer is from where on they are those of the kids behind it.
+/// Puts behind the others what a verdict lists for kid number `i`, where its coercions from `count` on are those of the kids from there on.
+/// The answer is from where on they are those of the kids behind it.
 fn list_next(
     alloc: Global,
     s: &mut TypeStore,
@@ -77,8 +77,10 @@ fn list_next(
     requires count { count ≤ i }
     requires room { i < usize.MAX }
     requires rest { (f : Store) → IsLater s.old f → drop count v.now.coerce ≡ listed_behind (context_in f t.now) i (yields_in t.now) }
-    ensures kids { OnOk result ((f : Store) → IsLater s.new f → map option_in kids.new ≡ map option_in kids.old ++ asked.listed (context_in f t.now) i ∷ []) }
-    ensures rest { IfOk result (λ n. (f : Store) → IsLater s.new f → drop n v.now.coerce ≡ listed_behind (context_in f t.now) (i + 1) (yields_in t.now)) }
+    ensures kids { OnOk result ((f : Store) → IsLater s.new f → map option_in kids.new ≡ map option_in kids.old ++
+        asked.listed (context_in f t.now) i ∷ []) }
+    ensures rest { IfOk result (λ n. (f : Store) → IsLater s.new f → drop n v.now.coerce ≡ listed_behind (context_in f t.now) (i + 1)
+        (yields_in t.now)) }
     ensures count { IfOk result (λ n. n ≤ count + 1) }
     ensures grown { IsGrown s.old s.new }
 {
@@ -104,9 +106,11 @@ pub(crate) fn list_kids(
     requires kind { is_judged_kind (kind_in t.now) ≡ true }
     requires ready { IsReadyTurn s.old t.now }
     requires verdict { IsJudged s.old t.now v.now }
-    ensures kids { IfOk result (λ x. (f : Store) → IsLater s.new f → map option_in x.kids ≡ listed_each (context_in f t.now) 0 t.now.kids.now) }
+    ensures kids { IfOk result (λ x. (f : Store) → IsLater s.new f → map option_in x.kids ≡ listed_each (context_in f t.now) 0
+        t.now.kids.now) }
     ensures many { IfOk result (λ x. length x.kids ≡ length t.now.kids.now) }
-    ensures yields { IfOk result (λ x. (f : Store) → IsLater s.new f → drop x.count v.now.coerce ≡ yields_listed (context_in f t.now) (yields_in t.now)) }
+    ensures yields { IfOk result (λ x. (f : Store) → IsLater s.new f → drop x.count v.now.coerce ≡ yields_listed (context_in f t.now)
+        (yields_in t.now)) }
     ensures grown { IsGrown s.old s.new }
 {
     let _law = s.declarations();

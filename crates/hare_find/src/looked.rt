@@ -29,8 +29,9 @@ use hare_types::TypeStore;
 use rule_judge::{is_there, void_fits};
 use std::alloc::AllocError;
 
-/// Looks at the binding that a path at this place means, of which this is known: it has a type. That of a loop over what is no array and no slice has
-/// none, and is the fault E33 at the loop. A path to one that has not been judged is answered as want of memory: names mean none such.
+/// Looks at the binding that a path at this place means, of which this is known: it has a type. That of a loop over what is no array and no
+/// slice has none, and is the fault E33 at the loop. A path to one that has not been judged is answered as want of memory: names mean none
+/// such.
 pub fn look_at_binding(place: Place, binding: &Option<Binding>) -> Result<(), Stop<Fault>>
     ensures ok { OnOk result ((c : Context) (n : ℕ) → MeansLocal c n place (option_map entry_of binding.now) → IsKnownAt c n) }
     ensures err { IfErr result (λ e. (c : Context) (n : ℕ) → MeansLocal c n place (option_map entry_of binding.now) → IsRefusedBy c e) }
@@ -84,7 +85,8 @@ fn meant<'a>(name: &[u8], labels: &'a Labels) -> Option<&'a Label>
 
 /// Whether a `yield` with this name means a block or a case, which stands inside the same deferred expression.
 fn means_inside(inside: &Inside, name: &[u8]) -> bool
-    ensures { (i : context.Inside) → inside.now.labels ≡ map told_label i.labels → inside.now.deferred ≡ i.deferred → result ≡ (is_some (control.block_meant name.now i.labels) && control.is_inside i (control.block_meant name.now i.labels)) }
+    ensures { (i : context.Inside) → inside.now.labels ≡ map told_label i.labels → inside.now.deferred ≡ i.deferred →
+        result ≡ (is_some (control.block_meant name.now i.labels) && control.is_inside i (control.block_meant name.now i.labels)) }
 {
     match meant(name, &inside.labels) {
         Some(l) => !inside.deferred || l.deferred,
@@ -107,13 +109,14 @@ fn takes_void(s: &mut TypeStore, hint: &Hint) -> Result<bool, AllocError>
 
 /// Whether a `yield` has no value, and what it means has to take void.
 fn gives_void(case: &Case, node: &Tree, kids: &TypedKids) -> bool
-    ensures { (c : Context) (i : HintOf) → IsYield c case.now (head node.now) kids.now i → result ≡ (not (context.is_there (kid c 0)) && (holds asked.YieldTarget c && holds asked.YieldInside c)) }
+    ensures { (c : Context) (i : HintOf) → IsYield c case.now (head node.now) kids.now i →
+        result ≡ (not (context.is_there (kid c 0)) && (holds asked.YieldTarget c && holds asked.YieldInside c)) }
 {
     !is_there(kids, 0) && means_inside(&case.inside, node.text.bytes())
 }
 
-/// Looks at a `yield`, of which its judge is not told what its block or case is asked for: where it has no value, void is taken there. It is asked for
-/// this, in every later store; where void does not fit it, the fault is E25 at the `yield`. The store may get the type void.
+/// Looks at a `yield`, of which its judge is not told what its block or case is asked for: where it has no value, void is taken there. It
+/// is asked for this, in every later store; where void does not fit it, the fault is E25 at the `yield`. The store may get the type void.
 ///
 /// The condition is that a type for which the hint asks is in the store, and mentions no name that is not defined.
 pub fn look_at_yield(
@@ -124,9 +127,12 @@ pub fn look_at_yield(
     hint: &Hint,
 ) -> Result<(), Stop<Fault>>
     requires { IsDefinedHint s.old hint.now }
-    ensures value { OnOk result ((c : Context) → IsLater s.new (store_of c) → IsYield c case.now (head node.now) kids.now hint.now → MeansInside c → holds asked.YieldNoValue c ≡ true) }
-    ensures taken { OnOk result ((c : Context) → IsYield c case.now (head node.now) kids.now hint.now → MeansInside c → IsVoidTaken s.new hint.now (yielded (head node.now) (tree_from_front 0 (map bare kids.now)))) }
-    ensures err { IfErr result (λ e. (c : Context) → IsLater s.new (store_of c) → IsYield c case.now (head node.now) kids.now hint.now → IsRefusedBy c e) }
+    ensures value { OnOk result ((c : Context) → IsLater s.new (store_of c) → IsYield c case.now (head node.now) kids.now hint.now →
+        MeansInside c → holds asked.YieldNoValue c ≡ true) }
+    ensures taken { OnOk result ((c : Context) → IsYield c case.now (head node.now) kids.now hint.now → MeansInside c →
+        IsVoidTaken s.new hint.now (yielded (head node.now) (tree_from_front 0 (map bare kids.now)))) }
+    ensures err { IfErr result (λ e. (c : Context) → IsLater s.new (store_of c) → IsYield c case.now (head node.now) kids.now hint.now →
+        IsRefusedBy c e) }
     ensures grown { IsGrown s.old s.new }
 {
     let _law = s.declarations();

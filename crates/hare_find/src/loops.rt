@@ -49,7 +49,8 @@ fn is_by_reference(kids: &TypedKids) -> bool
 /// What the binding is bound to where this is the element: to that, or, by reference, to a pointer to it.
 fn bound_element(s: &mut TypeStore, kids: &TypedKids, t: TypeId) -> Result<TypeId, AllocError>
     requires { IsDefined s.old t }
-    ensures value { IfOk result (λ u. (w : Setting) → IsLater s.new w.store → flow.bound_element w (tree_from_front 0 kids.now) (Some t) ≡ Some u) }
+    ensures value { IfOk result (λ u. (w : Setting) → IsLater s.new w.store → flow.bound_element w (tree_from_front 0 kids.now) (Some t) ≡
+        Some u) }
     ensures defined { IfOk result (IsDefined s.new) }
     ensures grown { IsGrown s.old s.new }
 {
@@ -60,8 +61,8 @@ fn bound_element(s: &mut TypeStore, kids: &TypedKids, t: TypeId) -> Result<TypeI
     Ok(t)
 }
 
-/// What is known of the binding of a loop behind its operand, of which these two are the kids so far. Over what is no array and no slice it is odd,
-/// at the place of the loop. The store may grow in types.
+/// What is known of the binding of a loop behind its operand, of which these two are the kids so far. Over what is no array and no slice it
+/// is odd, at the place of the loop. The store may grow in types.
 pub(crate) fn each_binding(
     s: &mut TypeStore,
     node: &Tree,
@@ -69,7 +70,8 @@ pub(crate) fn each_binding(
 ) -> Result<Binding, AllocError>
     requires two { length kids.now ≡ 2 }
     requires defined { AreDefinedTrees s.old (typed_nodes kids.now) }
-    ensures value { IfOk result (λ b. (w : Setting) → IsLater s.new w.store → entry_of b ≡ flow.each_entry w (head node.now) (map bare kids.now)) }
+    ensures value { IfOk result (λ b. (w : Setting) → IsLater s.new w.store →
+        entry_of b ≡ flow.each_entry w (head node.now) (map bare kids.now)) }
     ensures defined { IfOk result (λ b. IsDefinedEntry s.new (entry_of b)) }
     ensures grown { IsGrown s.old s.new }
 {

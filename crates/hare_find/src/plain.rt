@@ -36,7 +36,8 @@ pub fn find_plain(
     kids: &TypedKids,
 ) -> Result<Finding, AllocError>
     requires { spec.is_plain (head node.now).kind ≡ true }
-    ensures ok { IfOk result (λ x. (w : Store → Setting) (a : Above) (f : Flow) → IsAtPlain w a f kids.now → IsFound w s.new a (head node.now) kids.now f x) }
+    ensures ok { IfOk result (λ x. (w : Store → Setting) (a : Above) (f : Flow) → IsAtPlain w a f kids.now →
+        IsFound w s.new a (head node.now) kids.now f x) }
     ensures many { IfOk result (λ x. length x.kids ≡ length kids.now) }
     ensures defined { IfOk result (IsDefinedFinding s.new) }
     ensures grown { IsGrown s.old s.new }
@@ -53,7 +54,8 @@ pub fn find_callee(
     kids: &TypedKids,
 ) -> Result<Finding, AllocError>
     requires { (head node.now).kind ≡ ki.Path }
-    ensures ok { IfOk result (λ x. (w : Store → Setting) (a : Above) (f : Flow) → IsAtCallee w a f kids.now → IsFound w s.new a (head node.now) kids.now f x) }
+    ensures ok { IfOk result (λ x. (w : Store → Setting) (a : Above) (f : Flow) → IsAtCallee w a f kids.now →
+        IsFound w s.new a (head node.now) kids.now f x) }
     ensures many { IfOk result (λ x. length x.kids ≡ length kids.now) }
     ensures defined { IfOk result (IsDefinedFinding s.new) }
     ensures grown { IsGrown s.old s.new }

@@ -13,7 +13,8 @@ use hare_typed::TypedKids;
 /// Gives kid number `i` the coercion that is settled of it, where one is.
 fn settle_kid(seen: &mut Seen, kids: &mut TypedKids, i: usize, settling: &Settling)
     requires { i < length kids.old }
-    ensures seen { seen.new ≡ record seen.old { coercions = write_each (written_one (tree_from_front i kids.old) (option_in settling.now)) seen.old.coercions } }
+    ensures seen { seen.new ≡ record seen.old
+        { coercions = write_each (written_one (tree_from_front i kids.old) (option_in settling.now)) seen.old.coercions } }
     ensures kids { kids.new ≡ coated_at i (option_in settling.now) kids.old }
 {
     let Some(kid) = kids.get(i) else {
@@ -29,7 +30,8 @@ fn settle_kid(seen: &mut Seen, kids: &mut TypedKids, i: usize, settling: &Settli
 /// Gives each kid the coercion that is settled of it, where one is.
 pub(crate) fn settle(seen: &mut Seen, kids: &mut TypedKids, settlings: &[Settling])
     requires { length settlings.now ≡ length kids.old }
-    ensures seen { seen.new ≡ record seen.old { coercions = write_each (written_each kids.old (map option_in settlings.now)) seen.old.coercions } }
+    ensures seen { seen.new ≡ record seen.old
+        { coercions = write_each (written_each kids.old (map option_in settlings.now)) seen.old.coercions } }
     ensures kids { kids.new ≡ coated_each kids.old (map option_in settlings.now) }
 {
     for i in 0..kids.len() {

@@ -30,7 +30,8 @@ fn told_yield(void: TypeId, g: &Handed) -> Yielded
 /// The values, each as a judge is told of it, in their order.
 fn told_each(alloc: Global, void: TypeId, gs: &[Handed]) -> Result<Yields, AllocError>
     ensures told { IfOk result (λ ys. (f : Store) → IsVoidOf f void → AreToldYields f (map given_of gs.now) ys) }
-    ensures defined { IfOk result (λ ys. (s : Store) → IsDefined s void → AreDefinedGivens s (map given_of gs.now) → AreDefinedYields s ys) }
+    ensures defined { IfOk result (λ ys. (s : Store) → IsDefined s void → AreDefinedGivens s (map given_of gs.now) →
+        AreDefinedYields s ys) }
 {
     let mut told = Yields::new(alloc);
     for i in 0..gs.len() {

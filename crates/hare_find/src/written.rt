@@ -21,8 +21,8 @@ use hare_types::{Ty, TypeStore};
 use rule_types::{Written, judge};
 use std::alloc::Global;
 
-/// Judges a written type whose names are all defined: what is found of it, or its fault, in every later store. It is the type that it writes, and
-/// it settles nothing. The store may grow in names and types.
+/// Judges a written type whose names are all defined: what is found of it, or its fault, in every later store. It is the type that it
+/// writes, and it settles nothing. The store may grow in names and types.
 ///
 /// The node is a written type of which the conditions of `rule_types::judge` hold; each type that stands in its kids is in the store, and
 /// mentions no name that is not defined; and so does what the declaration is defined to be that its path means.
@@ -34,8 +34,10 @@ pub fn find_written(
     requires kind { is_type (kind_in t.now) ≡ true }
     requires told { IsToldType s.old t.now }
     requires names { IsDefinedWritten s.old t.now }
-    ensures ok { IfOk result (λ x. (w : Store → Setting) (a : Above) (f : Flow) → IsAtType w s.new a f t.now → IsFound w s.new a (head_in t.now) t.now.kids.now f x) }
-    ensures err { IfErr result (λ e. (w : Store → Setting) (a : Above) (f : Flow) → IsAtType w s.new a f t.now → IsTurnedBack w s.new a (head_in t.now) t.now.kids.now f e) }
+    ensures ok { IfOk result (λ x. (w : Store → Setting) (a : Above) (f : Flow) → IsAtType w s.new a f t.now →
+        IsFound w s.new a (head_in t.now) t.now.kids.now f x) }
+    ensures err { IfErr result (λ e. (w : Store → Setting) (a : Above) (f : Flow) → IsAtType w s.new a f t.now →
+        IsTurnedBack w s.new a (head_in t.now) t.now.kids.now f e) }
     ensures many { IfOk result (λ x. length x.kids ≡ length t.now.kids.now) }
     ensures typed { IfOk result (λ x. (u : ℕ) × (x.ty ≡ ty.Of u)) }
     ensures known { IfOk result (λ x. (u : ℕ) → x.ty ≡ ty.Of u → IsKnown s.new u) }

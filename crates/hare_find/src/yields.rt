@@ -69,8 +69,10 @@ fn hand_on(
     kids: &TypedKids,
     meant: Option<usize>,
 ) -> Result<(), AllocError>
-    ensures seen { OnOk result (seen.new ≡ record seen.old { yields = add_yield (head node.now) (map bare kids.now) meant seen.old.yields }) }
-    ensures defined { (s : Store) → AreDefinedTrees s (typed_nodes kids.now) → AreDefinedYielded s seen.old.yields → OnOk result (AreDefinedYielded s seen.new.yields) }
+    ensures seen { OnOk result (seen.new ≡ record seen.old
+        { yields = add_yield (head node.now) (map bare kids.now) meant seen.old.yields }) }
+    ensures defined { (s : Store) → AreDefinedTrees s (typed_nodes kids.now) → AreDefinedYielded s seen.old.yields →
+        OnOk result (AreDefinedYielded s seen.new.yields) }
 {
     match meant {
         Some(level) => seen.hand(level, handed(node, kids)),
@@ -94,9 +96,11 @@ pub(crate) fn pass_yields(
     levels: &Levels,
 ) -> Result<(), AllocError>
     requires { takes_yields (head node.now).kind ≡ true → filter (is_at levels.now.own) (take levels.now.from seen.old.yields) ≡ [] }
-    ensures yields { OnOk result ((ls : List Open) → AreLevels ls (head node.now) levels.now → seen.new ≡ record seen.old { yields = yields_after (head node.now).kind ls (head node.now) (map bare kids.now) seen.old.yields }) }
+    ensures yields { OnOk result ((ls : List Open) → AreLevels ls (head node.now) levels.now →
+        seen.new ≡ record seen.old { yields = yields_after (head node.now).kind ls (head node.now) (map bare kids.now) seen.old.yields }) }
     ensures rest { OnOk result (seen.new ≡ record seen.old { yields = seen.new.yields }) }
-    ensures defined { (s : Store) → AreDefinedTrees s (typed_nodes kids.now) → AreDefinedYielded s seen.old.yields → OnOk result (AreDefinedYielded s seen.new.yields) }
+    ensures defined { (s : Store) → AreDefinedTrees s (typed_nodes kids.now) → AreDefinedYielded s seen.old.yields →
+        OnOk result (AreDefinedYielded s seen.new.yields) }
 {
     if is_handed_to(node.kind) {
         return seen.take(alloc, levels.from, levels.own);

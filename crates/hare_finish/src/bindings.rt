@@ -24,7 +24,8 @@ fn is_binding(k: Kind) -> bool
     matches!(k, Kind::Def | Kind::GlobalLet | Kind::GlobalConst)
 }
 
-/// The written type, or what stands where it is left out, of which this is the tree. Types that are not those of the tree are answered as want of memory.
+/// The written type, or what stands where it is left out, of which this is the tree. Types that are not those of the tree are answered as
+/// want of memory.
 fn type_part(alloc: Global, void: TypeId, t: &Tree, types: &TypedKids) -> Result<Typed, AllocError>
     ensures tree { IfOk result (λ x. x ≡ type_as void t.now types.now) }
     ensures leaf { IfOk result (λ x. IsLeafOrWritten t.now types.now) }
@@ -60,8 +61,8 @@ fn binding(
     node(alloc, void, 0, decl, kids)
 }
 
-/// The finished tree of a def or a global with this value; another kind is answered as want of memory, and so is a type that mentions a name which is not
-/// defined.
+/// The finished tree of a def or a global with this value; another kind is answered as want of memory, and so is a type that mentions a
+/// name which is not defined.
 pub(crate) fn finish_binding(
     alloc: Global,
     s: &mut TypeStore,

@@ -18,7 +18,8 @@ pub(crate) fn sum(a: u32, b: u32) -> Result<u32, AllocError>
     }
 }
 
-/// How many nodes stand in a tree, itself among them, in front of which so many were counted. The call goes as deep in the host as the tree is.
+/// How many nodes stand in a tree, itself among them, in front of which so many were counted. The call goes as deep in the host as the tree
+/// is.
 #[cycle(counts)]
 pub(crate) fn count_tree(n: u32, t: &Typed) -> Result<u32, AllocError>
     ensures { IfOk result (λ m. m ≡ n + above.trees_in (erase t.now)) }

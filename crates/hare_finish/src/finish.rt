@@ -31,13 +31,13 @@ fn void_in(s: &mut TypeStore, defined: &Defined) -> Result<TypeId, AllocError>
     word(s, Scalar::Void)
 }
 
-/// The finished tree of a declaration, whose parts have been judged: its written types, the value of a def or a global, the body of a function. The
-/// nodes of types have no numbers in it, parameters are numbered behind the nodes of the body, and the value goes to the written type, or else to its
-/// default.
+/// The finished tree of a declaration, whose parts have been judged: its written types, the value of a def or a global, the body of a
+/// function. The nodes of types have no numbers in it, parameters are numbered behind the nodes of the body, and the value goes to the
+/// written type, or else to its default.
 ///
-/// The declaration is shaped as one, and all types in `defined` mention only names that are defined. Nothing is claimed of a tree from parts that are not
-/// those of the declaration. A part that is missing, another number of types, numbers of nodes from 2^32 on, and a type of a value that mentions a name
-/// which is not defined, are answered as want of memory. The time is that of the parts.
+/// The declaration is shaped as one, and all types in `defined` mention only names that are defined. Nothing is claimed of a tree from
+/// parts that are not those of the declaration. A part that is missing, another number of types, numbers of nodes from 2^32 on, and a type
+/// of a value that mentions a name which is not defined, are answered as want of memory. The time is that of the parts.
 pub fn finish_declaration(
     alloc: Global,
     s: &mut TypeStore,

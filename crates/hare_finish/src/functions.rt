@@ -27,8 +27,8 @@ fn last_type(alloc: Global, types: &TypedKids) -> Result<Typed, AllocError>
     copy_unnumbered(alloc, written)
 }
 
-/// The tree of a function with this body. The last of its types is that of its result, and the others are those of its parameters, which are numbered
-/// behind the nodes of the body.
+/// The tree of a function with this body. The last of its types is that of its result, and the others are those of its parameters, which
+/// are numbered behind the nodes of the body.
 pub(crate) fn finish_function(
     alloc: Global,
     void: TypeId,

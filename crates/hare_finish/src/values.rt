@@ -80,7 +80,8 @@ fn coercion_to(s: &mut TypeStore, hint: &Hint, a: &Ty) -> Result<Coercion, Alloc
     }
 }
 
-/// What becomes of the value of a declaration with these written types. A type that mentions a name which is not defined is answered as want of memory.
+/// What becomes of the value of a declaration with these written types. A type that mentions a name which is not defined is answered as
+/// want of memory.
 pub(crate) fn declared_coercion(
     s: &mut TypeStore,
     defined: &mut Defined,

@@ -125,7 +125,8 @@ impl Seen {
 
     /// Hands a value to the block or case round which so many labels stand. Nothing changes where memory is short.
     pub fn hand(&mut self, level: usize, handed: Handed) -> Result<(), AllocError>
-        ensures ok { OnOk result (self.new ≡ record self.old { yields = self.old.yields ++ record { level = level; given = given_of handed } ∷ [] }) }
+        ensures ok { OnOk result (self.new ≡ record self.old
+            { yields = self.old.yields ++ record { level = level; given = given_of handed } ∷ [] }) }
         ensures err { OnErr result (self.new ≡ self.old) }
     {
         self.yields.push(Yield { level, handed })?;

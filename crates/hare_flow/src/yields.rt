@@ -74,7 +74,8 @@ pub(crate) fn drop_at(
     from: usize,
     level: usize,
 ) -> Result<(), AllocError>
-    ensures { OnOk result (map yielded_of yields.new.items ≡ map yielded_of (take from yields.old.items) ++ filter (λ y. not (is_at level y)) (map yielded_of (drop from yields.old.items))) }
+    ensures { OnOk result (map yielded_of yields.new.items ≡ map yielded_of (take from yields.old.items) ++
+        filter (λ y. not (is_at level y)) (map yielded_of (drop from yields.old.items))) }
 {
     let kept = kept_at(alloc, yields.as_slice(), from, level)?;
     yields.truncate(from);

@@ -1,6 +1,5 @@
--- What the typing rules give to an untyped tree: from kids to parent, each node gets its type, or there is a reason why it has none.
--- Laws of
--- this crate say that this is just what well-typed trees and first faults are, which are defined without it.
+-- What the typing rules give to an untyped tree: from kids to parent, each node gets its type, or there is a reason why it has none. Laws
+-- of this crate say that this is just what well-typed trees and first faults are, which are defined without it.
 use Rattle.std.specs.Prelude.{List, [], ◌∷◌, ◌++◌, Option, Some, None, Result, Ok, Err}
 use Rattle.hare_tree.specs.Node.{Head, Node, Nodes, branch, none, more}
 use Rattle.hare_types.specs.declared.coercion.Ty.{Ty}

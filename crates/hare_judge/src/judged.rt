@@ -15,8 +15,8 @@ use hare_types::TypeStore;
 use rule_judge::Turn;
 use std::alloc::Global;
 
-/// Judges an expression or a statement. The answer is its type and the coercions that it settles, or the fault of the first row of the table of
-/// typing rules that it fails, in every later store. The store may grow in types, also where there is a fault.
+/// Judges an expression or a statement. The answer is its type and the coercions that it settles, or the fault of the first row of the
+/// table of typing rules that it fails, in every later store. The store may grow in types, also where there is a fault.
 ///
 /// The node is shaped and has its kids, which have been judged; each type that stands in them or is told with it is in the store, and
 /// mentions no name that is not defined. So it is of the result of the function. What a path means is known, and the store defines

@@ -22,8 +22,8 @@ pub enum Judge {
     Switching,
 }
 
-/// The rules of a kind of node of a body; none of a kind that has none, of a written type, which no hint asks for anything, and of a declaration,
-/// which is judged by itself.
+/// The rules of a kind of node of a body; none of a kind that has none, of a written type, which no hint asks for anything, and of a
+/// declaration, which is judged by itself.
 pub fn judge_of(kind: Kind) -> Option<Judge>
     ensures some { IfSome result (λ j. judges j kind ≡ true) }
     ensures known { is_some result ≡ is_judged_kind kind }

@@ -19,12 +19,13 @@ fn lacks_size(k: Scalar) -> bool
     matches!(k, Scalar::Never | Scalar::Opaque)
 }
 
-/// Whether a type has a size, where it is seen that it holds by value no name which is not defined: its bytes are known, or it is `never` or `opaque` once
-/// names and error marks are followed.
+/// Whether a type has a size, where it is seen that it holds by value no name which is not defined: its bytes are known, or it is `never`
+/// or `opaque` once names and error marks are followed.
 fn measured(s: &TypeStore, t: TypeId) -> Option<bool>
     ensures within { IfSome result (λ b. t < length s.now.rows) }
     ensures sized { IfSome result (λ b. IfSome (tree_at s.now t) (λ u. has_size s.now u ≡ Some b)) }
-    ensures finite { IfSome result (λ b. (d : ℕ) → definition_of s.now d ≡ None → IfSome (tree_at s.now t) (λ u. ¬ HoldsByValue s.now u d)) }
+    ensures finite { IfSome result (λ b. (d : ℕ) → definition_of s.now d ≡ None →
+        IfSome (tree_at s.now t) (λ u. ¬ HoldsByValue s.now u d)) }
 {
     if s.extent(t).is_some() {
         return Some(true);
@@ -41,8 +42,9 @@ fn measured(s: &TypeStore, t: TypeId) -> Option<bool>
 
 /// Defines a declared type as it is written, by the typed tree of that type.
 ///
-/// A type that is not declared or is defined already, one whose size is declared otherwise, and one of which it is not seen that it does not hold the name by
-/// value, are answered as want of memory; then nothing changes. All are ruled out where types are declared as they are written, and judged in their order.
+/// A type that is not declared or is defined already, one whose size is declared otherwise, and one of which it is not seen that it does
+/// not hold the name by value, are answered as want of memory; then nothing changes. All are ruled out where types are declared as they are
+/// written, and judged in their order.
 pub fn define_written(s: &mut TypeStore, own: u32, types: &TypedKids) -> Result<(), AllocError>
     ensures ok { OnOk result (DefinesOneMore s.old s.new own (written_id (tree_from_front 0 types.now))) }
     ensures err { OnErr result (s.new ≡ s.old) }

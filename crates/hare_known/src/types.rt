@@ -53,8 +53,8 @@ fn known_by_types(
     }
 }
 
-/// Puts what is known of declaration `own` by its written types behind what is known of others: of a type its name, of a function the types of its parameters
-/// and its result, of a global its type. Nothing becomes known of a def or of a global without a type.
+/// Puts what is known of declaration `own` by its written types behind what is known of others: of a type its name, of a function the types
+/// of its parameters and its result, of a global its type. Nothing becomes known of a def or of a global without a type.
 ///
 /// The type of each def that is known is in the store, and mentions no name that is not defined.
 ///
@@ -68,7 +68,8 @@ pub fn know_types(
     types: &TypedKids,
 ) -> Result<(), AllocError>
     requires defs { AreDefsDefined s.old known.old }
-    ensures ok { OnOk result ((l : Store) → IsLater s.new l → known.new ≡ known.old ++ known_by_types l own (head decl.now).kind (sort_of decl.now) types.now) }
+    ensures ok { OnOk result ((l : Store) → IsLater s.new l → known.new ≡ known.old ++
+        known_by_types l own (head decl.now).kind (sort_of decl.now) types.now) }
     ensures err { OnErr result (known.new ≡ known.old) }
     ensures defs { AreDefsDefined s.new known.new }
     ensures grown { IsGrown s.old s.new }

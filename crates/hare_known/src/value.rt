@@ -44,7 +44,8 @@ fn has_written_type(decl: &Tree, types: &TypedKids) -> Result<bool, AllocError>
     Ok(false)
 }
 
-/// The type of a def or of a global: the one that is written, or else the default of its value's. Where there is none, the answer is want of memory.
+/// The type of a def or of a global: the one that is written, or else the default of its value's. Where there is none, the answer is want
+/// of memory.
 fn declared_id(
     s: &mut TypeStore,
     decl: &Tree,
@@ -66,7 +67,8 @@ fn declared_id(
     }
 }
 
-/// What is known of a def with this type: its constant is that of its value. A type that mentions a name which is not defined is answered as want of memory.
+/// What is known of a def with this type: its constant is that of its value. A type that mentions a name which is not defined is answered
+/// as want of memory.
 fn def_as(
     alloc: Global,
     s: &TypeStore,
@@ -122,8 +124,8 @@ fn constant_known(
     Ok(global_as(alloc, own, kind, ty))
 }
 
-/// Puts what is known of declaration `own` by its value behind what is known of others: of a def its type and its constant, of a global without a type the
-/// type of its value. Nothing more becomes known of any other declaration.
+/// Puts what is known of declaration `own` by its value behind what is known of others: of a def its type and its constant, of a global
+/// without a type the type of its value. Nothing more becomes known of any other declaration.
 ///
 /// All types in `defined`, the type of each def that is known, and that of the value are in the store, and mention no name that is not
 /// defined.
@@ -142,7 +144,8 @@ pub fn know_value(
     requires defined { AreDefined s.old defined.old }
     requires defs { AreDefsDefined s.old known.old }
     requires ty { IsDefinedTy s.old (own_type value.now) }
-    ensures ok { OnOk result ((l : Store) (w : Setting) → IsLater s.new l → known.new ≡ known.old ++ known_by_value l own (head decl.now).kind (sort_of decl.now) (type_or_plain w (kid decl.now 2) types.now) value.now) }
+    ensures ok { OnOk result ((l : Store) (w : Setting) → IsLater s.new l → known.new ≡ known.old ++
+        known_by_value l own (head decl.now).kind (sort_of decl.now) (type_or_plain w (kid decl.now 2) types.now) value.now) }
     ensures err { OnErr result (known.new ≡ known.old) }
     ensures defined { AreDefined s.new defined.new }
     ensures defs { AreDefsDefined s.new known.new }

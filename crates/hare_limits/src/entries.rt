@@ -24,8 +24,9 @@ const START: Place = Place {
     column: 1,
 };
 
-/// The number of the function with which a program begins, by the paths of its files and by its declarations: `export fn main() void` of the module of the
-/// first file. The fault is E46: at the name of that module's `main` where it reads otherwise, and at the start of the first file where there is none.
+/// The number of the function with which a program begins, by the paths of its files and by its declarations: `export fn main() void` of
+/// the module of the first file. The fault is E46: at the name of that module's `main` where it reads otherwise, and at the start of the
+/// first file where there is none.
 ///
 /// Takes time in proportion to the paths and to the declarations.
 pub fn entry(alloc: Global, paths: &[Text], decls: &TypedKids) -> Result<usize, Stop<Fault>>

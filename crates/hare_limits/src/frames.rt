@@ -18,8 +18,8 @@ const MOST_OF_FRAME: u64 = 16_777_216;
 /// The number of the fault of a frame.
 const FRAME_TOO_LARGE: u8 = 47;
 
-/// The fault of the first function, in the order of the source, whose frame bound is over 16,777,216 bytes: E47, at its name. None where there is no such
-/// function.
+/// The fault of the first function, in the order of the source, whose frame bound is over 16,777,216 bytes: E47, at its name. None where
+/// there is no such function.
 ///
 /// Fails only for want of memory. Takes the time of `cost` for each function.
 pub fn first_large_frame(

@@ -14,9 +14,9 @@ use hare_types::TypeStore;
 use hx_base::Text;
 use std::alloc::{AllocError, Global};
 
-/// The number of the function with which a program begins, where the program is within all limits. The fault is the first of limits, by the paths of the
-/// files and by the typed declarations: that of `entry`, or else that of `first_large_frame`, or else that of `first_large_sum`, where `bytes` has the
-/// bytes of each declaration, up to 2^40; none of what is no global.
+/// The number of the function with which a program begins, where the program is within all limits. The fault is the first of limits, by the
+/// paths of the files and by the typed declarations: that of `entry`, or else that of `first_large_frame`, or else that of
+/// `first_large_sum`, where `bytes` has the bytes of each declaration, up to 2^40; none of what is no global.
 ///
 /// Takes time in proportion to the paths, and the time of `cost` for each function, twice.
 pub fn first_limit(

@@ -58,7 +58,8 @@ fn is_export(k: Kind) -> bool
 
 /// Whether a tree is a function with this name.
 pub(crate) fn is_function_named(t: &Typed, name: &[u8]) -> bool
-    ensures { result ≡ (spec.is_function (head (erase t.now)).kind && bytes_eq (uses.text_of (declarations.name_in (erase t.now))) name.now) }
+    ensures { result ≡ (spec.is_function (head (erase t.now)).kind && bytes_eq (uses.text_of (declarations.name_in (erase t.now)))
+        name.now) }
 {
     is_function(t.kind) && name_in(t).text.bytes() == name
 }

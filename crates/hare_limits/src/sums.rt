@@ -22,9 +22,9 @@ const MOST_OF_GLOBALS: u64 = 16_777_216;
 /// The number of the fault of a sum.
 const PROGRAM_TOO_LARGE: u8 = 48;
 
-/// The fault of the first declaration, in the order of the source, with which a sum passes its limit: E48, at its name. None where no sum does. The copied
-/// weights of functions are together at most 524,288, and the bytes of globals, with those of the arrays in their values that are made slices, at most
-/// 16,777,216. `bytes` has the bytes of each declaration, up to 2^40; none of what is no global.
+/// The fault of the first declaration, in the order of the source, with which a sum passes its limit: E48, at its name. None where no sum
+/// does. The copied weights of functions are together at most 524,288, and the bytes of globals, with those of the arrays in their values
+/// that are made slices, at most 16,777,216. `bytes` has the bytes of each declaration, up to 2^40; none of what is no global.
 ///
 /// Fails only for want of memory. Takes the time of `cost` for each function.
 pub fn first_large_sum(

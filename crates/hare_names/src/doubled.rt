@@ -11,7 +11,8 @@ use hare_modules::{Table, earlier};
 use hare_tree::{Fault, Kids, Tree};
 use std::alloc::{AllocError, Global};
 
-/// The fault that counts first of one that was found before, if there was one, and of those at the later of equal names of parameters or fields in a tree.
+/// The fault that counts first of one that was found before, if there was one, and of those at the later of equal names of parameters or
+/// fields in a tree.
 #[cycle(doubled)]
 pub fn first_doubled(
     alloc: Global,
@@ -68,8 +69,8 @@ fn doubled_kids(
     Ok(first)
 }
 
-/// Takes the name of a kid, if it is a parameter or a field. The answer is the fault that counts first of one that was found before, if there was one, and
-/// of that of a name that is taken already.
+/// Takes the name of a kid, if it is a parameter or a field. The answer is the fault that counts first of one that was found before, if
+/// there was one, and of that of a name that is taken already.
 fn take_name(
     names: &mut Table<()>,
     kid: &Tree,

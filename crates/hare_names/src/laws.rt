@@ -2,14 +2,15 @@
 
 ghost use Rattle.hare_names.specs.Bindings.{LocalsAreInScope, BindingsAscend};
 
-/// Each local that a path means is a binding of its declaration that is in scope there: the one with that number, of the path's name, visible in the path's
-/// scopes.
+/// Each local that a path means is a binding of its declaration that is in scope there: the one with that number, of the path's name,
+/// visible in the path's scopes.
 #[tactic(auto, using(crate::proofs::ScopeLemmas::locals_are_in_scope))]
 pub fn law_locals_are_in_scope()
     ensures { LocalsAreInScope }
 {}
 
-/// In a file that stands over its tokens the bindings of a declaration stand in their order: the number of a binding is how many stand before its place.
+/// In a file that stands over its tokens the bindings of a declaration stand in their order: the number of a binding is how many stand
+/// before its place.
 pub fn law_bindings_ascend()
     ensures { BindingsAscend }
 {}

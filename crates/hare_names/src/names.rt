@@ -31,8 +31,8 @@ impl Names {
         Names { places }
     }
 
-    /// What the path at a place means; `Meaning::None` where no path of an expression or a type stands there. Takes no memory, and constant expected
-    /// time.
+    /// What the path at a place means; `Meaning::None` where no path of an expression or a type stands there. Takes no memory, and constant
+    /// expected time.
     pub fn meaning(&self, place: Place) -> Meaning
         ensures { result ≡ meaning_in self.now place }
     {

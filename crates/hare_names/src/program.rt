@@ -24,8 +24,8 @@ use std::alloc::{AllocError, Global};
 /// The trees of files, in the order of their paths.
 pub type Files2 = Items<FileTree>;
 
-/// What each path of a program means; or of all violations of its names (E11 to E16) the one that counts first: that of the first file, there the one at the
-/// least place, and at one place the smaller number.
+/// What each path of a program means; or of all violations of its names (E11 to E16) the one that counts first: that of the first file,
+/// there the one at the least place, and at one place the smaller number.
 ///
 /// There is one tree for each path, that of a file by the grammar, with its number in that order; and there are fewer than 2^32 - 1
 /// declarations, and fewer than 2^32 - 1 bindings.
@@ -82,7 +82,8 @@ fn note_decls(
     decls: &Kids,
 ) -> Result<(), AllocError>
     requires { bindings_among (nodes_of decls.now) < 2 ^ 32 }
-    ensures { OnOk result (notes.new ≡ fold (noted.decl_noted (tables_of setting.entry.directory.now) setting.entry.file) notes.old decls.now) }
+    ensures { OnOk result (notes.new ≡ fold (noted.decl_noted (tables_of setting.entry.directory.now) setting.entry.file) notes.old
+        decls.now) }
 {
     for i in 0..decls.len() {
         let Some(decl) = decls.get(i) else {

@@ -89,7 +89,8 @@ fn pair_verdict(
     name: &[u8],
     member: &[u8],
 ) -> Verdict
-    ensures { result ≡ spec.pair_verdict (tables_of directory.now) is_type member.now (tables.import_at (tables_of directory.now) file name.now) }
+    ensures { result ≡ spec.pair_verdict (tables_of directory.now) is_type member.now
+        (tables.import_at (tables_of directory.now) file name.now) }
 {
     let Some(import) = import_at(directory, file, name) else {
         return Verdict::Fails(13);
@@ -105,7 +106,8 @@ fn pair_verdict(
 
 /// A name that is no local and not declared in the file's module.
 fn imported_verdict(directory: &Directory, file: usize, is_type: bool, name: &[u8]) -> Verdict
-    ensures { result ≡ spec.imported_verdict (tables_of directory.now) is_type name.now (tables.import_at (tables_of directory.now) file name.now) }
+    ensures { result ≡ spec.imported_verdict (tables_of directory.now) is_type name.now
+        (tables.import_at (tables_of directory.now) file name.now) }
 {
     let Some(import) = import_at(directory, file, name) else {
         return Verdict::Fails(13);

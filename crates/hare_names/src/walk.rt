@@ -25,8 +25,8 @@ pub struct Setting<'a> {
     pub file: usize,
 }
 
-/// Notes the paths of a tree, before which so many bindings of its declaration stand. The answer is how many stand behind it; then what it binds is
-/// visible.
+/// Notes the paths of a tree, before which so many bindings of its declaration stand. The answer is how many stand behind it; then what it
+/// binds is visible.
 #[cycle(walk)]
 pub fn walk<'a>(
     setting: Setting<'_>,
@@ -38,7 +38,8 @@ pub fn walk<'a>(
     requires { before + scopes.bindings_in t.now < 2 ^ 32 }
     ensures count { IfOk result (λ n. n ≡ before + scopes.bindings_in t.now) }
     ensures locals { OnOk result (locals.new ≡ scopes.bound_by before t.now ++ locals.old) }
-    ensures notes { OnOk result (notes.new ≡ fold (spec.noted (tables_of setting.entry.directory.now) setting.entry.file) notes.old (spec.spots_in before locals.old t.now)) }
+    ensures notes { OnOk result (notes.new ≡ fold (spec.noted (tables_of setting.entry.directory.now) setting.entry.file) notes.old
+        (spec.spots_in before locals.old t.now)) }
 {
     note(setting, locals, notes, t)?;
     let first = if is_binding(t.kind) {
@@ -74,7 +75,8 @@ fn walk_kids<'a>(
     requires { before + scopes.bindings_among (nodes_from from (nodes_of kids.now)) < 2 ^ 32 }
     ensures count { IfOk result (λ n. n ≡ before + scopes.bindings_among (nodes_from from (nodes_of kids.now))) }
     ensures locals { OnOk result (locals.new ≡ scopes.bound_among before (nodes_from from (nodes_of kids.now)) ++ locals.old) }
-    ensures notes { OnOk result (notes.new ≡ fold (spec.noted (tables_of setting.entry.directory.now) setting.entry.file) notes.old (spec.spots_among before locals.old (nodes_from from (nodes_of kids.now)))) }
+    ensures notes { OnOk result (notes.new ≡ fold (spec.noted (tables_of setting.entry.directory.now) setting.entry.file) notes.old
+        (spec.spots_among before locals.old (nodes_from from (nodes_of kids.now)))) }
 {
     let mut behind = before;
     for i in from..kids.len() {
@@ -98,7 +100,8 @@ fn walk_loop<'a>(
     requires { before + scopes.bindings_among (nodes_of kids.now) < 2 ^ 32 }
     ensures count { IfOk result (λ n. n ≡ before + scopes.bindings_among (nodes_of kids.now)) }
     ensures locals { OnOk result (locals.new ≡ locals.old) }
-    ensures notes { OnOk result (notes.new ≡ fold (spec.noted (tables_of setting.entry.directory.now) setting.entry.file) notes.old (spec.spots_of_loop before locals.old (nodes_of kids.now))) }
+    ensures notes { OnOk result (notes.new ≡ fold (spec.noted (tables_of setting.entry.directory.now) setting.entry.file) notes.old
+        (spec.spots_of_loop before locals.old (nodes_of kids.now))) }
 {
     let mark = locals.mark();
     let Some(binding) = kids.get(0) else {
@@ -134,7 +137,8 @@ fn note(
     notes: &mut Notes,
     t: &Tree,
 ) -> Result<(), AllocError>
-    ensures { OnOk result (notes.new ≡ fold (spec.noted (tables_of setting.entry.directory.now) setting.entry.file) notes.old (spec.spot_of t.now locals.now)) }
+    ensures { OnOk result (notes.new ≡ fold (spec.noted (tables_of setting.entry.directory.now) setting.entry.file) notes.old
+        (spec.spot_of t.now locals.now)) }
 {
     let is_type = is_type_path(t.kind);
     if is_type || is_value_path(t.kind) {

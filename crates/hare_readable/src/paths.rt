@@ -10,7 +10,8 @@ use hare_tree::{FileTree, Kind, Meaning, Place};
 use hx_base::Items;
 use rule_judge::DeclTypes;
 
-/// Whether the path of an expression at a place means no declaration of the program, or one that is known. `rt::nomem` is none of the program.
+/// Whether the path of an expression at a place means no declaration of the program, or one that is known. `rt::nomem` is none of the
+/// program.
 fn is_known(
     names: &Names,
     known: &DeclTypes,
@@ -44,7 +45,8 @@ fn means_type(names: &Names, files: &Items<FileTree>, places: &[DeclPlace], plac
     }
 }
 
-/// Whether what a node of this kind at this place says as a path stays as it is when more becomes known. Nodes that are no paths say nothing.
+/// Whether what a node of this kind at this place says as a path stays as it is when more becomes known. Nodes that are no paths say
+/// nothing.
 pub(crate) fn is_readable_at(
     names: &Names,
     known: &DeclTypes,

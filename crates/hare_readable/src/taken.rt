@@ -14,14 +14,15 @@ use hare_types::TypeStore;
 use rule_judge::DeclTypes;
 use std::alloc::{AllocError, Global};
 
-/// Puts what is known of each declaration that a path in this tree means among what is ready, where it is not there yet. Answers whether all
-/// of these are: then values can be judged by what is ready as by all that is known. The answer is no where a type of one of them mentions a name that is
-/// not defined.
+/// Puts what is known of each declaration that a path in this tree means among what is ready, where it is not there yet. Answers whether
+/// all of these are: then values can be judged by what is ready as by all that is known. The answer is no where a type of one of them
+/// mentions a name that is not defined.
 ///
 /// All types in `defined`, and all types of what is ready, are in the store and mention no name that is not defined; and what is ready of a
 /// declaration is what is known of it. Fails for want of memory alone.
 ///
-/// Over all calls each declaration is copied at most once; a path is looked at in constant time. The call goes as deep in the host as the tree is.
+/// Over all calls each declaration is copied at most once; a path is looked at in constant time. The call goes as deep in the host as the
+/// tree is.
 pub fn make_ready(
     alloc: Global,
     s: &TypeStore,

@@ -23,8 +23,8 @@ fn is_path(kind: Kind) -> bool
     matches!(kind, Kind::Path | Kind::TypePath)
 }
 
-/// Puts what is known of a declaration among what is ready, where it is not there yet, and answers whether it can stand there. A declaration of which
-/// nothing is known is left out.
+/// Puts what is known of a declaration among what is ready, where it is not there yet, and answers whether it can stand there. A
+/// declaration of which nothing is known is left out.
 fn take_declaration(
     alloc: Global,
     s: &TypeStore,

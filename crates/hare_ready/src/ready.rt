@@ -52,8 +52,8 @@ fn are_defined(s: &TypeStore, defined: &mut Defined, types: &[TypeId]) -> Result
     Ok(true)
 }
 
-/// Whether all types that are told of a declaration mention only names that are defined; of a declared type, whether its name is defined so. Types that
-/// have been found to be so are kept, so that over all calls each type is looked at once, but for those of an answer of no.
+/// Whether all types that are told of a declaration mention only names that are defined; of a declared type, whether its name is defined
+/// so. Types that have been found to be so are kept, so that over all calls each type is looked at once, but for those of an answer of no.
 ///
 /// The condition is that all types in `defined` are in the store, and mention no name that is not defined. Fails for want of memory alone.
 pub fn is_ready(s: &TypeStore, defined: &mut Defined, d: &DeclType) -> Result<bool, AllocError>

@@ -39,7 +39,8 @@ fn needed_of(
     sort: Sort,
     t: &Tree,
 ) -> Result<Numbers, AllocError>
-    ensures { IfOk result (λ ns. ns ≡ spec.numbers_at count (meaning_in names.now) (flat_map (spec.held_in false) (spec.held_by sort t.now))) }
+    ensures { IfOk result (λ ns. ns ≡ spec.numbers_at count (meaning_in names.now)
+        (flat_map (spec.held_in false) (spec.held_by sort t.now))) }
 {
     let mut numbers = Numbers::new(alloc);
     match sort {

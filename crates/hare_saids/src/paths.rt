@@ -19,7 +19,8 @@ fn push_meant(
     is_asked: bool,
     place: Place,
 ) -> Result<(), AllocError>
-    ensures { OnOk result (numbers.new ≡ numbers.old ++ spec.numbers_at count (meaning_in names.now) (if is_asked then place ∷ [] else [])) }
+    ensures { OnOk result (numbers.new ≡ numbers.old ++ spec.numbers_at count (meaning_in names.now)
+        (if is_asked then place ∷ [] else [])) }
 {
     if is_asked {
         if let Meaning::Decl(number) = names.meaning(place) {
@@ -61,7 +62,8 @@ fn push_named_among(
     names: &Names,
     kids: &Kids,
 ) -> Result<(), AllocError>
-    ensures { OnOk result (numbers.new ≡ numbers.old ++ spec.numbers_at count (meaning_in names.now) (spec.paths_among (nodes_of kids.now))) }
+    ensures { OnOk result (numbers.new ≡ numbers.old ++ spec.numbers_at count (meaning_in names.now)
+        (spec.paths_among (nodes_of kids.now))) }
 {
     for i in 0..kids.len() {
         let Some(t) = kids.get(i) else {
@@ -72,8 +74,8 @@ fn push_named_among(
     Ok(())
 }
 
-/// Puts the declarations behind others that a tree of a type, which stands behind a pointer or slice or not, holds by value or spreads, or has in the
-/// lengths of its arrays.
+/// Puts the declarations behind others that a tree of a type, which stands behind a pointer or slice or not, holds by value or spreads, or
+/// has in the lengths of its arrays.
 #[cycle(held)]
 pub(crate) fn push_held(
     numbers: &mut Numbers,
@@ -97,7 +99,8 @@ fn push_held_among(
     behind: bool,
     kids: &Kids,
 ) -> Result<(), AllocError>
-    ensures { OnOk result (numbers.new ≡ numbers.old ++ spec.numbers_at count (meaning_in names.now) (spec.held_among behind (nodes_of kids.now))) }
+    ensures { OnOk result (numbers.new ≡ numbers.old ++ spec.numbers_at count (meaning_in names.now)
+        (spec.held_among behind (nodes_of kids.now))) }
 {
     for i in 0..kids.len() {
         let Some(t) = kids.get(i) else {

@@ -17,8 +17,8 @@ pub(crate) struct Written<'t> {
     pub(crate) tree: &'t Tree,
 }
 
-/// The types that are written in a declaration, in the order of the source: the type of a type, those of a function's parameters and its result, the type of
-/// a def or a global where it is written.
+/// The types that are written in a declaration, in the order of the source: the type of a type, those of a function's parameters and its
+/// result, the type of a def or a global where it is written.
 pub(crate) fn written_types<'t>(
     alloc: Global,
     decl: &'t Tree,
@@ -32,7 +32,8 @@ pub(crate) fn written_types<'t>(
 
 /// Puts the types of a declaration behind others.
 fn push_types<'t>(written: &mut Vec<Written<'t>>, decl: &'t Tree) -> Result<(), AllocError>
-    ensures { OnOk result (map spec.written_of written.new.items ≡ map spec.written_of written.old.items ++ listing.written_types decl.now) }
+    ensures { OnOk result (map spec.written_of written.new.items ≡ map spec.written_of written.old.items ++
+        listing.written_types decl.now) }
 {
     let tree = kid(decl, 2);
     match decl.kind {
@@ -58,7 +59,8 @@ fn push_one<'t>(
     bound: bool,
     tree: &'t Tree,
 ) -> Result<(), AllocError>
-    ensures { OnOk result (map spec.written_of written.new.items ≡ map spec.written_of written.old.items ++ spec.one_written bound tree.now) }
+    ensures { OnOk result (map spec.written_of written.new.items ≡ map spec.written_of written.old.items ++
+        spec.one_written bound tree.now) }
 {
     written.push(Written { bound, tree })?;
     Ok(())
@@ -90,7 +92,8 @@ fn push_params<'t>(written: &mut Vec<Written<'t>>, params: &'t Kids) -> Result<(
 
 /// Puts the type of a tree behind others, if it is a parameter.
 fn push_param<'t>(written: &mut Vec<Written<'t>>, param: &'t Tree) -> Result<(), AllocError>
-    ensures { OnOk result (map spec.written_of written.new.items ≡ map spec.written_of written.old.items ++ spec.types_among (param.now ∷ [])) }
+    ensures { OnOk result (map spec.written_of written.new.items ≡ map spec.written_of written.old.items ++
+        spec.types_among (param.now ∷ [])) }
 {
     if !is_param(param.kind) {
         return Ok(());

@@ -41,8 +41,9 @@ struct Env<'a> {
     own: u32,
 }
 
-/// The typed trees of the types that are written in declaration `own`, in the order of the source: the type of a type, the types of a function's parameters and
-/// its result, the type of a def or a global where it is written. Or the fault of the first that has one. Names that stand in them need not be defined yet.
+/// The typed trees of the types that are written in declaration `own`, in the order of the source: the type of a type, the types of a
+/// function's parameters and its result, the type of a def or a global where it is written. Or the fault of the first that has one. Names
+/// that stand in them need not be defined yet.
 ///
 /// The conditions are that the declaration is shaped, that `places` are those of the declarations of these files, and that the type of each
 /// def that is known is in the store, and mentions no name that is not defined. What `judge_written` answers as want of memory is so here,
@@ -91,9 +92,11 @@ fn judge_type(env: &Env<'_>, s: &mut TypeStore, bound: bool, t: &Tree) -> Result
     requires shaped { IsTrue (is_shaped sorts.Type t.now) }
     requires defs { AreDefsDefined s.old env.now.known.now }
     requires places { ArePlaces env.now.files.now env.now.places.now }
-    ensures ok { IfOk result (IsTypeOf (listing env.now.names.now env.now.files.now) env.now.known.now s.new env.now.own (role_of bound, t.now)) }
+    ensures ok { IfOk result (IsTypeOf (listing env.now.names.now env.now.files.now) env.now.known.now s.new env.now.own
+        (role_of bound, t.now)) }
     ensures fits { IfOk result (λ x. AllFit s.new (x ∷ [])) }
-    ensures err { IfErr result (IsTypeStop (listing env.now.names.now env.now.files.now) env.now.known.now s.new env.now.own (role_of bound, t.now)) }
+    ensures err { IfErr result (IsTypeStop (listing env.now.names.now env.now.files.now) env.now.known.now s.new env.now.own
+        (role_of bound, t.now)) }
     ensures grown { IsGrown s.old s.new }
     ensures sound { IsStore s.new }
 {

@@ -9,8 +9,8 @@ use hare_inference::{
     law_tree_or_fault,
 };
 
-/// Over one store, declarations that have an order have at most one list of typed trees. Without an order they may have more: each of two defs that name one
-/// another has any value that the other has.
+/// Over one store, declarations that have an order have at most one list of typed trees. Without an order they may have more: each of two
+/// defs that name one another has any value that the other has.
 pub fn law_typed_trees_are_one()
     ensures { TypedTreesAreOne }
 {

@@ -22,9 +22,9 @@ const MOST_OF_FILE: usize = 1_048_576;
 /// The most bytes of all files together.
 const MOST_OF_ALL: usize = 4_194_304;
 
-/// The trees of the files of a program, of which there are at most 65,536; or their first fault. One file is done with before the next is looked at: more than
-/// 1,048,576 bytes are E1, and more than 4,194,304 together with the files in front of it E2, both at the file's start; then comes its first fault of tokens and
-/// syntax (E3 to E10).
+/// The trees of the files of a program, of which there are at most 65,536; or their first fault. One file is done with before the next is
+/// looked at: more than 1,048,576 bytes are E1, and more than 4,194,304 together with the files in front of it E2, both at the file's
+/// start; then comes its first fault of tokens and syntax (E3 to E10).
 ///
 /// The time is linear in the bytes of the files up to the one that has a fault.
 pub fn read_files(alloc: Global, srcs: &Sources) -> Result<Files2, Stop<Fault>>

@@ -23,8 +23,8 @@ pub struct Named {
     pub names: Names,
 }
 
-/// The trees of the files of a program and what their paths mean; or the first fault of its files (E1 to E10), and where they have none the violation of names that
-/// counts first (E11 to E16).
+/// The trees of the files of a program and what their paths mean; or the first fault of its files (E1 to E10), and where they have none the
+/// violation of names that counts first (E11 to E16).
 ///
 /// There is one path for each file, and at most 65,536 of them. The time is linear in the bytes, but for look-ups of names.
 pub fn read(alloc: Global, paths: &[Text], srcs: &Sources) -> Result<Named, Stop<Fault>>

@@ -40,7 +40,8 @@ fn push_places(places: &mut Vec<DeclPlace>, file: usize, count: usize) -> Result
     Ok(())
 }
 
-/// The declaration with a number, where these are the places of the declarations of files; none where there are not so many. Takes constant time.
+/// The declaration with a number, where these are the places of the declarations of files; none where there are not so many. Takes constant
+/// time.
 pub fn declaration_at<'t>(
     files: &'t Items<FileTree>,
     places: &[DeclPlace],

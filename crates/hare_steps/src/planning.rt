@@ -18,8 +18,8 @@ use hare_tree::{Fault, FileTree, Stop};
 use hx_base::Items;
 use std::alloc::Global;
 
-/// The plan by which the declarations of these files are judged, where paths mean what `names` says; or the fault of circles: the first declaration in the
-/// order of the source that depends on itself has it, E23 or E17.
+/// The plan by which the declarations of these files are judged, where paths mean what `names` says; or the fault of circles: the first
+/// declaration in the order of the source that depends on itself has it, E23 or E17.
 ///
 /// There are fewer than 2^32 declarations.
 pub fn plan(alloc: Global, names: &Names, files: &Items<FileTree>) -> Result<Plan, Stop<Fault>>

@@ -14,9 +14,9 @@ use crate::step::Step;
 use hare_depends::Said;
 use std::alloc::{AllocError, Global};
 
-/// The steps in which declarations are judged, of which these are said by their numbers, in this order of theirs: of each the types that are written in it,
-/// unless they have been judged, of a def and a global its value, and then that it is done. Right before a value come the written types of the globals that
-/// it names, in the order of the source, unless they have been judged.
+/// The steps in which declarations are judged, of which these are said by their numbers, in this order of theirs: of each the types that
+/// are written in it, unless they have been judged, of a def and a global its value, and then that it is done. Right before a value come
+/// the written types of the globals that it names, in the order of the source, unless they have been judged.
 ///
 /// `order` is the order of these declarations, as `hare_depends::order` tells it.
 ///
@@ -42,7 +42,8 @@ fn push_turn(
     decl: u32,
 ) -> Result<(), AllocError>
     requires there { decl < length saids.now }
-    ensures { OnOk result (spec.TakesTurn saids.now decl judged.old.items (map step_of steps.old.items) judged.new.items (map step_of steps.new.items)) }
+    ensures { OnOk result (spec.TakesTurn saids.now decl judged.old.items (map step_of steps.old.items) judged.new.items
+        (map step_of steps.new.items)) }
 {
     let said = &saids[decl as usize];
     push_own_types(steps, judged, decl)?;

@@ -10,12 +10,13 @@ use hare_typed::TypedKids;
 use hare_types::{TypeId, TypeStore};
 use std::alloc::{AllocError, Global};
 
-/// Empties the list of the types that have tags and makes it anew, of the declarations of a finished program: the types that are written as members of
-/// unions, in the order of files and source; then for each allocation and append of the bodies of functions, in check order, the other member of its union
-/// and `rt::nomem`; each once, where it stands first. All else of the store stays.
+/// Empties the list of the types that have tags and makes it anew, of the declarations of a finished program: the types that are written as
+/// members of unions, in the order of files and source; then for each allocation and append of the bodies of functions, in check order, the
+/// other member of its union and `rt::nomem`; each once, where it stands first. All else of the store stays.
 ///
-/// Fails for want of memory, and where a type of the trees is not in the store, comes to a name that is not defined, or is that of an allocation and no
-/// union with `rt::nomem`; in the trees of a finished program there is none of these. Takes time in proportion to the trees and the members of the unions.
+/// Fails for want of memory, and where a type of the trees is not in the store, comes to a name that is not defined, or is that of an
+/// allocation and no union with `rt::nomem`; in the trees of a finished program there is none of these. Takes time in proportion to the
+/// trees and the members of the unions.
 pub fn list_tags(alloc: Global, s: &mut TypeStore, decls: &TypedKids) -> Result<(), AllocError>
     ensures ok { OnOk result (s.new ≡ record s.old { listed = tag_list s.old decls.now }) }
     ensures rest { s.new ≡ record s.old { listed = s.new.listed } }

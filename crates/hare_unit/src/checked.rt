@@ -23,13 +23,13 @@ pub struct Checked {
     pub names: Names,
 }
 
-/// The checked program of these files, or its first fault. Files are looked at first, one after another (E1 to E10), then names (E11 to E16), then
-/// what declarations depend on (E17, E23), then declarations in their order, then bodies in the order of the source, and at last the entry (E46),
-/// frames (E47) and sums (E48). A later phase is looked at only where all earlier ones found nothing.
+/// The checked program of these files, or its first fault. Files are looked at first, one after another (E1 to E10), then names (E11 to
+/// E16), then what declarations depend on (E17, E23), then declarations in their order, then bodies in the order of the source, and at last
+/// the entry (E46), frames (E47) and sums (E48). A later phase is looked at only where all earlier ones found nothing.
 ///
-/// There is one path for each file, and at most 65,536 of them. Answered as want of memory, too, are values of declarations whose constant is not worked
-/// out (`hare_const::constant` says which), and a `switch` over what has no such constants. No clause says that nothing else is. Nothing recurses in the
-/// host deeper than a tree of the syntax.
+/// There is one path for each file, and at most 65,536 of them. Answered as want of memory, too, are values of declarations whose constant
+/// is not worked out (`hare_const::constant` says which), and a `switch` over what has no such constants. No clause says that nothing else
+/// is. Nothing recurses in the host deeper than a tree of the syntax.
 pub fn program(alloc: Global, paths: Paths, srcs: &Sources) -> Result<Checked, Stop<Fault>>
     requires { ArePaired paths srcs.now }
     ensures ok { IfOk result (IsChecked paths srcs.now) }

@@ -22,8 +22,8 @@ use hare_types::TypeStore;
 use hx_base::Items;
 use std::alloc::{AllocError, Global};
 
-/// The finished trees of all declarations, each from its parts and a function with its body. Parts of other declarations, and bodies of others, are
-/// answered as want of memory.
+/// The finished trees of all declarations, each from its parts and a function with its body. Parts of other declarations, and bodies of
+/// others, are answered as want of memory.
 pub(crate) fn finish_all(
     alloc: Global,
     s: &mut TypeStore,

@@ -12,8 +12,8 @@ use hare_tree::{Fault, Stop};
 use hx_base::Text;
 use std::alloc::Global;
 
-/// The number of the function with which a program of these paths begins, all of whose declarations and bodies have been judged, where it is within
-/// all limits; or the first fault of limits. The list of the types that have tags is made anew.
+/// The number of the function with which a program of these paths begins, all of whose declarations and bodies have been judged, where it
+/// is within all limits; or the first fault of limits. The list of the types that have tags is made anew.
 pub(crate) fn entry_of(
     alloc: Global,
     paths: &[Text],

@@ -33,7 +33,8 @@ pub(crate) fn can_judge(
     requires places { ArePlaces program.now.files.now program.now.places.now }
     requires defined { AreDefined s.now defined.old }
     requires taken { AreTaken s.now program.now.known.now ready.old }
-    ensures value { IfOk result (λ b. IsTrue b → CanJudge (listing_of program.now) program.now.known.now ready.new s.now hint.now value.now) }
+    ensures value { IfOk result (λ b. IsTrue b → CanJudge (listing_of program.now) program.now.known.now ready.new s.now hint.now
+        value.now) }
     ensures defined { AreDefined s.now defined.new }
     ensures taken { AreTaken s.now program.now.known.now ready.new }
 {

@@ -17,8 +17,8 @@ use hare_types::TypeStore;
 use rule_judge::DeclTypes;
 use std::alloc::Global;
 
-/// The typed tree of this value of declaration `own`, which is asked for this, or its first fault. It is judged by what is ready, and by all that is known the
-/// answer is the same.
+/// The typed tree of this value of declaration `own`, which is asked for this, or its first fault. It is judged by what is ready, and by
+/// all that is known the answer is the same.
 pub(crate) fn typed_value(
     alloc: Global,
     s: &mut TypeStore,

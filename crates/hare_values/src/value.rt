@@ -44,16 +44,16 @@ pub struct Program<'a> {
     pub known: &'a DeclTypes,
 }
 
-/// The typed tree of the value of declaration `own`, a def or a global whose written type, where there is one, has been judged; the declaration then meets its
-/// rows. Or the first fault of the value, or where it has none that of the declaration. `ready` is that part of what is known of which all types are defined;
-/// what the value names is put there.
+/// The typed tree of the value of declaration `own`, a def or a global whose written type, where there is one, has been judged; the
+/// declaration then meets its rows. Or the first fault of the value, or where it has none that of the declaration. `ready` is that part of
+/// what is known of which all types are defined; what the value names is put there.
 ///
-/// The conditions are that `decl` is a def or a global and shaped as a declaration; that `types` are trees of its written types; that the places are
-/// those of the files; and that all types in `defined`, and all types of what is ready, mention only names that are defined.
+/// The conditions are that `decl` is a def or a global and shaped as a declaration; that `types` are trees of its written types; that the
+/// places are those of the files; and that all types in `defined`, and all types of what is ready, mention only names that are defined.
 ///
-/// A value that names a declaration of the program which is not known, or one of which a type mentions a name that is not defined, is answered as want of memory; so is a written
-/// type that mentions such a name, all where `rt::nomem` is not defined, and what `check_value` and `judge_binding` answer so. The time is that of the value
-/// and of what it names for the first time.
+/// A value that names a declaration of the program which is not known, or one of which a type mentions a name that is not defined, is
+/// answered as want of memory; so is a written type that mentions such a name, all where `rt::nomem` is not defined, and what `check_value`
+/// and `judge_binding` answer so. The time is that of the value and of what it names for the first time.
 pub fn judge_value(
     alloc: Global,
     s: &mut TypeStore,
@@ -70,9 +70,11 @@ pub fn judge_value(
     requires places { ArePlaces program.files.now program.places.now }
     requires defined { AreDefined s.old defined.old }
     requires taken { AreTaken s.old program.known.now ready.old }
-    ensures ok { IfOk result (IsValueOf (listing program.entry.names.now program.entry.files.now) program.entry.known.now s.new own decl.now types.now) }
+    ensures ok { IfOk result (IsValueOf (listing program.entry.names.now program.entry.files.now) program.entry.known.now s.new own decl.now
+        types.now) }
     ensures typed { IfOk result (λ v. IsDefinedTy s.new (own_type v)) }
-    ensures err { IfErr result (IsValueStop (listing program.entry.names.now program.entry.files.now) program.entry.known.now s.new own decl.now types.now) }
+    ensures err { IfErr result (IsValueStop (listing program.entry.names.now program.entry.files.now) program.entry.known.now s.new own
+        decl.now types.now) }
     ensures defined { AreDefined s.new defined.new }
     ensures taken { AreTaken s.new program.entry.known.now ready.new }
     ensures grown { IsGrown s.old s.new }

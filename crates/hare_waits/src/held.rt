@@ -8,7 +8,8 @@ use hare_types::{Row, TypeId, TypeStore};
 use indexmap::IndexMap;
 use std::alloc::AllocError;
 
-/// By the ids of types, how many of the types that each holds by value are known to have an extent, from the first on: they are not looked at again.
+/// By the ids of types, how many of the types that each holds by value are known to have an extent, from the first on: they are not looked
+/// at again.
 pub(crate) type Seen = IndexMap<u32, usize>;
 
 /// How many types a row holds by value.
@@ -76,8 +77,8 @@ fn undefined_name(s: &TypeStore, t: TypeId) -> Option<u32>
     }
 }
 
-/// A name for which a type waits whose extent is not known. Types that hold never or opaque by value are refused where they are written, and do not come here:
-/// they, and types that the store does not have, are answered as want of memory.
+/// A name for which a type waits whose extent is not known. Types that hold never or opaque by value are refused where they are written,
+/// and do not come here: they, and types that the store does not have, are answered as want of memory.
 ///
 /// Goes down from a type to one that it holds by value, as deep as types are written in one another.
 pub(crate) fn awaited_name(seen: &mut Seen, s: &TypeStore, t: TypeId) -> Result<u32, AllocError>

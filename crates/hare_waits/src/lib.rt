@@ -1,5 +1,5 @@
-//! Written types that may turn out to be too large: such a type holds by value, behind a pointer or a slice, a name that is not defined yet, and waits for
-//! that name.
+//! Written types that may turn out to be too large: such a type holds by value, behind a pointer or a slice, a name that is not defined
+//! yet, and waits for that name.
 #![tactic(auto)]
 
 mod held;

@@ -41,8 +41,8 @@ fn unmeasured_type(s: &TypeStore, kind: Kind, ty: Ty) -> Option<TypeId>
     }
 }
 
-/// Puts the nodes of a tree whose bytes are not known at the end, in check order. So many nodes stand before the tree; the answer is how many stand before
-/// what comes behind it. The call goes as deep in the host as the tree is.
+/// Puts the nodes of a tree whose bytes are not known at the end, in check order. So many nodes stand before the tree; the answer is how
+/// many stand before what comes behind it. The call goes as deep in the host as the tree is.
 #[cycle(collect)]
 fn collect_tree(
     s: &TypeStore,

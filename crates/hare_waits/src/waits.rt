@@ -36,12 +36,15 @@ fn wait_each(
     Ok(())
 }
 
-/// The nodes of written types whose bytes are not known when they are judged: each waits for a name that it holds by value and that is not defined yet.
+/// The nodes of written types whose bytes are not known when they are judged: each waits for a name that it holds by value and that is not
+/// defined yet.
 ///
-/// Contracts see pairs of a name and of a node that waits for it, in an order that is left open. After an error of memory nothing is said of them any more.
+/// Contracts see pairs of a name and of a node that waits for it, in an order that is left open. After an error of memory nothing is said
+/// of them any more.
 ///
-/// Over a whole program the time is that of the written types, for as long as types stand in one another no deeper than the syntax allows: a node is looked at
-/// when it is entered, and when a name for which it waits is done, and of a type no part is looked at again once its bytes are known.
+/// Over a whole program the time is that of the written types, for as long as types stand in one another no deeper than the syntax allows:
+/// a node is looked at when it is entered, and when a name for which it waits is done, and of a type no part is looked at again once its
+/// bytes are known.
 #[derive(Drop)]
 pub struct Waits {
     lists: Lists,
@@ -68,26 +71,30 @@ impl Waits {
         }
     }
 
-    /// Enters the written types of a declaration, which were judged: those of their nodes wait that a row asks for their size, and whose bytes are not known.
+    /// Enters the written types of a declaration, which were judged: those of their nodes wait that a row asks for their size, and whose
+    /// bytes are not known.
     ///
     /// Each type that stands at one of their nodes is in the store, and none of which a row asks that it is small is known to be too large.
     /// Fails for want of memory alone. Nothing is said of the waits then.
     pub fn enter(&mut self, s: &TypeStore, decl: u32, types: &TypedKids) -> Result<(), AllocError>
         requires stands { StandIn s.now types.now }
         requires fits { AllFit s.now types.now }
-        ensures ok { OnOk result ((js : List (ℕ × List TypedNode)) → AreAwaited s.now self.old js → AreAwaited s.now self.new ((decl, types.now) ∷ js)) }
+        ensures ok { OnOk result ((js : List (ℕ × List TypedNode)) → AreAwaited s.now self.old js →
+            AreAwaited s.now self.new ((decl, types.now) ∷ js)) }
     {
         let mut nodes = Vec::new(self.lists.allocator());
         collect(s, decl, 0, types, &mut nodes)?;
         wait_each(&mut self.lists, &mut self.seen, s, nodes.as_slice())
     }
 
-    /// Looks at the nodes that wait for a name, once it is defined. Where types turn out to be too large, the first declaration with such a type is told, and
-    /// the place of its first such node in check order; what waits is not spoken of any more then. Where none is, those nodes whose bytes are still not known
-    /// wait for other names.
+    /// Looks at the nodes that wait for a name, once it is defined. Where types turn out to be too large, the first declaration with such a
+    /// type is told, and the place of its first such node in check order; what waits is not spoken of any more then. Where none is, those
+    /// nodes whose bytes are still not known wait for other names.
     pub fn done(&mut self, s: &TypeStore, name: u32) -> Result<Option<Late>, AllocError>
-        ensures none { result ≡ Ok None → (s0 : Store) (js : List (ℕ × List TypedNode)) → DefinesAlso s0 s.now name → AreAwaited s0 self.old js → AreAwaited s.now self.new js }
-        ensures some { (f : LateOf) → result ≡ Ok (Some f) → (s0 : Store) (js : List (ℕ × List TypedNode)) → DefinesAlso s0 s.now name → AreAwaited s0 self.old js → IsLate s.now js f.decl f.place }
+        ensures none { result ≡ Ok None → (s0 : Store) (js : List (ℕ × List TypedNode)) → DefinesAlso s0 s.now name →
+            AreAwaited s0 self.old js → AreAwaited s.now self.new js }
+        ensures some { (f : LateOf) → result ≡ Ok (Some f) → (s0 : Store) (js : List (ℕ × List TypedNode)) → DefinesAlso s0 s.now name →
+            AreAwaited s0 self.old js → IsLate s.now js f.decl f.place }
     {
         let nodes = self.lists.take(name);
         if let Some(first) = first_large(s, nodes.as_slice()) {

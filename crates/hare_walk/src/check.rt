@@ -69,7 +69,8 @@ fn judge_tree<W: Walk>(
     ensures hand { IfOk result (λ x. IsInHand (W.flow w.new) x) }
     ensures counts { IfOk result (λ x. IsBehind counts.old (bare x) counts.new) }
     ensures erases { IfOk result (λ x. erase x ≡ t.now) }
-    ensures ready { OnOk result ((ps : List Spot) → W.Ready w.old s.old (spot (head t.now).kind 0 ∷ ps) → W.Ready w.new s.new (spot (head t.now).kind 0 ∷ ps)) }
+    ensures ready { OnOk result ((ps : List Spot) → W.Ready w.old s.old (spot (head t.now).kind 0 ∷ ps) →
+        W.Ready w.new s.new (spot (head t.now).kind 0 ∷ ps)) }
     ensures kept { IfOk result (λ x. (r : Store) → IsGrown s.new r → W.Keeps r x) }
     ensures err { IfErr result (λ e. IsStopped (W.setting w.old) s.new (W.above w.old) t.now (W.flow w.old) e) }
     ensures above { OnOk result (W.above w.new ≡ W.above w.old) }
@@ -98,13 +99,16 @@ fn judge_kids<W: Walk>(
     requires part { IsPart node.now }
     requires counts { IsAmong (W.above w.old) (head node.now) [] counts.old }
     requires whole { kids_of node.now ≡ nodes_of kids.now }
-    ensures ok { IfOk result (λ xs. (l : Store) → IsLater s.new l → infer_each (W.setting w.old l) (W.above w.old) (head node.now) [] (nodes_of kids.now) (W.flow w.old) ≡ Ok (found_kids (map bare xs) (W.flow w.new))) }
+    ensures ok { IfOk result (λ xs. (l : Store) → IsLater s.new l → infer_each (W.setting w.old l) (W.above w.old) (head node.now) []
+        (nodes_of kids.now) (W.flow w.old) ≡ Ok (found_kids (map bare xs) (W.flow w.new))) }
     ensures hand { IfOk result (λ xs. AreInHand (W.flow w.new) xs) }
     ensures counts { IfOk result (λ xs. IsAmong (W.above w.old) (head node.now) (map bare xs) counts.new) }
     ensures erases { IfOk result (λ xs. erase_each (typed_nodes xs) ≡ nodes_of kids.now) }
-    ensures ready { IfOk result (λ xs. (ps : List Spot) → W.Ready w.old s.old (spot (head node.now).kind 0 ∷ ps) → W.Ready w.new s.new (spot (head node.now).kind (length xs) ∷ ps)) }
+    ensures ready { IfOk result (λ xs. (ps : List Spot) → W.Ready w.old s.old (spot (head node.now).kind 0 ∷ ps) →
+        W.Ready w.new s.new (spot (head node.now).kind (length xs) ∷ ps)) }
     ensures kept { IfOk result (λ xs. Each (W.Keeps s.new) xs) }
-    ensures err { IfErr result (λ e. (l : Store) → IsLater s.new l → IsStop e (infer_each (W.setting w.old l) (W.above w.old) (head node.now) [] (nodes_of kids.now) (W.flow w.old))) }
+    ensures err { IfErr result (λ e. (l : Store) → IsLater s.new l →
+        IsStop e (infer_each (W.setting w.old l) (W.above w.old) (head node.now) [] (nodes_of kids.now) (W.flow w.old))) }
     ensures above { OnOk result (W.above w.new ≡ W.above w.old) }
     ensures outer { OnOk result (W.outer w.new ≡ W.outer w.old) }
     ensures setting { W.setting w.new ≡ W.setting w.old }

@@ -102,8 +102,8 @@ fn count_trees(n: u32, kids: &Kids) -> Result<u32, AllocError>
     Ok(counted)
 }
 
-/// The number that a node of this kind gets that begins behind so many finished ones, where a jump can mean it. It is asked for once a node, and
-/// goes over its tree.
+/// The number that a node of this kind gets that begins behind so many finished ones, where a jump can mean it. It is asked for once a
+/// node, and goes over its tree.
 pub(crate) fn label_number(begins: u32, k: Kind, kids: &Kids) -> Result<u32, AllocError>
     ensures { IfOk result (λ n. counts.is_labelled k ≡ true → n ≡ begins + above.trees_in_each (nodes_of kids.now)) }
 {

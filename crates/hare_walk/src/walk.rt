@@ -46,7 +46,8 @@ pub trait Walk {
     /// What it relies on of each tree that has been judged.
     ghost Keeps: { Store → TypedNode → Type 0 };
 
-    /// Goes on to the kid behind those that are done, which stands there: the walk stands in the kid, and behind that in the node as before.
+    /// Goes on to the kid behind those that are done, which stands there: the walk stands in the kid, and behind that in the node as
+    /// before.
     ///
     /// The conditions are that these are the kids of the node, of which those that are done were judged and carry what is settled by now;
     /// that `kid` is the next, and `at` says where it stands; that the node is shaped, or stands in the place of a part that is left out;
@@ -63,14 +64,18 @@ pub trait Walk {
     ) -> Result<(), AllocError>
         requires whole { kids_of node.now ≡ nodes_of kids.now }
         requires next { slice_get kids.now (length done.now) ≡ Some kid.now }
-        requires at { IsAt (above self.old) (head node.now) (map bare done.now) kid.now (nodes_of (drop (length done.now + 1) kids.now)) at }
+        requires at { IsAt (above self.old) (head node.now) (map bare done.now) kid.now (nodes_of (drop (length done.now + 1) kids.now))
+            at }
         requires ready { (ps : List Spot) × Ready self.old s.old (spot (head node.now).kind (length done.now) ∷ ps) }
         requires part { IsPart node.now }
         requires hand { AreInHand (flow self.old) done.now }
         requires kept { Each (Keeps s.old) done.now }
-        ensures over { IfOk result (λ _. IsOver (setting self.old) s.new (above self.old) (head node.now) done.now kid.now (nodes_of (drop (length done.now + 1) kids.now)) (above self.new)) }
-        ensures seen { IfOk result (λ _. IsBefore (setting self.old) s.new (above self.old) (head node.now) done.now (flow self.old) (flow self.new)) }
-        ensures ready { OnOk result ((ps : List Spot) → Ready self.old s.old (spot (head node.now).kind (length done.now) ∷ ps) → Ready self.new s.new (spot (head kid.now).kind 0 ∷ spot (head node.now).kind (length done.now) ∷ ps)) }
+        ensures over { IfOk result (λ _. IsOver (setting self.old) s.new (above self.old) (head node.now) done.now kid.now
+            (nodes_of (drop (length done.now + 1) kids.now)) (above self.new)) }
+        ensures seen { IfOk result (λ _. IsBefore (setting self.old) s.new (above self.old) (head node.now) done.now (flow self.old)
+            (flow self.new)) }
+        ensures ready { OnOk result ((ps : List Spot) → Ready self.old s.old (spot (head node.now).kind (length done.now) ∷ ps) →
+            Ready self.new s.new (spot (head kid.now).kind 0 ∷ spot (head node.now).kind (length done.now) ∷ ps)) }
         ensures outer { OnOk result (outer self.new ≡ above self.old ∷ outer self.old) }
         ensures setting { setting self.new ≡ setting self.old }
         ensures grown { IsGrown s.old s.new }
@@ -80,7 +85,8 @@ pub trait Walk {
     fn leave(&mut self)
         ensures above { (a : Above) (rest : List Above) → outer self.old ≡ a ∷ rest → above self.new ≡ a }
         ensures outer { (a : Above) (rest : List Above) → outer self.old ≡ a ∷ rest → outer self.new ≡ rest }
-        ensures ready { (s : Store) (k : Kind) (p : Spot) (ps : List Spot) → Ready self.old s (spot k 0 ∷ p ∷ ps) → Ready self.new s (one_more p ∷ ps) }
+        ensures ready { (s : Store) (k : Kind) (p : Spot) (ps : List Spot) → Ready self.old s (spot k 0 ∷ p ∷ ps) →
+            Ready self.new s (one_more p ∷ ps) }
         ensures flow { flow self.new ≡ flow self.old }
         ensures setting { setting self.new ≡ setting self.old };
 
@@ -102,10 +108,12 @@ pub trait Walk {
         requires inferred { AreInferred (setting self.old) s.old (above self.old) (head node.now) (kids_of node.now) kids (flow self.old) }
         requires hand { AreInHand (flow self.old) kids }
         requires kept { Each (Keeps s.old) kids }
-        ensures ok { IfOk result (λ x. IsTurned (setting self.old) s.new (above self.old) (head node.now) kids (flow self.old) x (flow self.new)) }
+        ensures ok { IfOk result (λ x. IsTurned (setting self.old) s.new (above self.old) (head node.now) kids (flow self.old) x
+            (flow self.new)) }
         ensures hand { IfOk result (λ x. IsInHand (flow self.new) x) }
         ensures err { IfErr result (λ e. IsTurnedBack (setting self.old) s.new (above self.old) (head node.now) kids (flow self.old) e) }
-        ensures ready { OnOk result ((ps : List Spot) → Ready self.old s.old (spot (head node.now).kind (length kids) ∷ ps) → Ready self.new s.new (spot (head node.now).kind 0 ∷ ps)) }
+        ensures ready { OnOk result ((ps : List Spot) → Ready self.old s.old (spot (head node.now).kind (length kids) ∷ ps) →
+            Ready self.new s.new (spot (head node.now).kind 0 ∷ ps)) }
         ensures kept { IfOk result (λ x. (r : Store) → IsGrown s.new r → Keeps r x) }
         ensures above { OnOk result (above self.new ≡ above self.old) }
         ensures outer { OnOk result (outer self.new ≡ outer self.old) }

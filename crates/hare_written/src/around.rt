@@ -52,7 +52,8 @@ fn holds_based(s: &TypeStore, kids: &TypedKids) -> bool
 fn is_known(s: &TypeStore, node: &Tree, kids: &TypedKids) -> bool
     requires stand { Each (StandsIn s.now) (nodes_in kids.now) }
     requires known { AreKnownParts s.now kids.now }
-    ensures { result ≡ true → is_around (head node.now).kind ≡ true → (m : Mark) → IsKnownPart s.now (marked (head node.now) m (typed_nodes kids.now)) }
+    ensures { result ≡ true → is_around (head node.now).kind ≡ true → (m : Mark) →
+        IsKnownPart s.now (marked (head node.now) m (typed_nodes kids.now)) }
 {
     match node.kind {
         Kind::StructField => holds_type(kids),

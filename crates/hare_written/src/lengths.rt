@@ -42,8 +42,8 @@ fn means_other(decls: &DeclTypes, meaning: Meaning) -> bool
     }
 }
 
-/// What is found of the length of an array: the type of its number or of the def that it names, else void. Whether it is a length is asked at the
-/// array. The store may grow in types.
+/// What is found of the length of an array: the type of its number or of the def that it names, else void. Whether it is a length is asked
+/// at the array. The store may grow in types.
 pub(crate) fn find_counted(
     env: &Env<'_>,
     s: &mut TypeStore,

@@ -1,4 +1,5 @@
-//! Types that are written in declarations: the typed tree of each by the typing rules, or its first fault, also while names in it are not defined.
+//! Types that are written in declarations: the typed tree of each by the typing rules, or its first fault, also while names in it are not
+//! defined.
 #![tactic(auto)]
 
 mod around;

@@ -27,7 +27,8 @@ use std::alloc::AllocError;
 
 /// The constant of the declaration that a part means, where it is the path of a length; none where it means none.
 fn named(env: &Env<'_>, node: &Tree, meaning: Meaning) -> Result<Const, AllocError>
-    ensures { IfOk result (λ v. (c : Context) → c.setting.decls ≡ env.now.decls.now → c.head ≡ head node.now → ((head node.now).kind ≡ ki.Path → c.meaning ≡ meaning) → v ≡ values.value_named c) }
+    ensures { IfOk result (λ v. (c : Context) → c.setting.decls ≡ env.now.decls.now → c.head ≡ head node.now →
+        ((head node.now).kind ≡ ki.Path → c.meaning ≡ meaning) → v ≡ values.value_named c) }
 {
     match node.kind {
         Kind::Path => named_value(env.alloc, env.decls, meaning),

@@ -21,13 +21,14 @@ use hare_types::TypeStore;
 use rule_judge::DeclTypes;
 use std::alloc::Global;
 
-/// The typed tree of a type that is written in declaration `own`, by the typing rules, or its fault: that of the first row that fails at the first
-/// node, in check order, that fails. `bound` says that it is the type of a binding, which has to have a size. Nodes are numbered in check order from
+/// The typed tree of a type that is written in declaration `own`, by the typing rules, or its fault: that of the first row that fails at
+/// the first node, in check order, that fails. `bound` says that it is the type of a binding, which has to have a size. Nodes are numbered
+/// in check order from
 /// 0. The store may grow in names and types, also where there is a fault.
 ///
-/// Names that stand in the type need not be defined yet. It may turn out to be too large once a name is defined that it holds by value: it is well
-/// typed in each later store in which that has not come, and in each other one its fault is that of the first node that is too large. A fault that is
-/// told here stays the first as long as no more is known of the bytes of types.
+/// Names that stand in the type need not be defined yet. It may turn out to be too large once a name is defined that it holds by value: it
+/// is well typed in each later store in which that has not come, and in each other one its fault is that of the first node that is too
+/// large. A fault that is told here stays the first as long as no more is known of the bytes of types.
 ///
 /// The conditions are that the tree is a shaped type, and that the type of each def that is known is in the store, and mentions no name
 /// that is not defined. A type whose name is not declared, a type that is spread and whose base is not known, and a tree of more than

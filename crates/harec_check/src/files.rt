@@ -11,7 +11,8 @@ use hx_base::Text;
 use hx_io::{FileError, Files};
 use std::alloc::Global;
 
-/// The bytes of the files at these paths, in their order: of each those that it tells, where it tells any. Where one is not read, none behind it is.
+/// The bytes of the files at these paths, in their order: of each those that it tells, where it tells any. Where one is not read, none
+/// behind it is.
 pub fn read_all<F: Files>(alloc: Global, paths: &[Text], files: &mut F) -> Result<Sources, Stopped>
     ensures ok { IfOk result (λ srcs. AreTold (F.content files.old) paths.now srcs × (F.faults files.new ≡ F.faults files.old)) }
     ensures err { IfErr result (IsReadStop (F.content files.old) paths.now (F.faults files.old) (F.faults files.new)) }
@@ -35,7 +36,8 @@ fn read_one<F: Files>(
     files: &mut F,
     srcs: &mut Sources,
 ) -> Result<(), FileError>
-    ensures bytes { IfOk result (λ done. (src : List ℕ) × (srcs.new ≡ srcs.old ++ src ∷ []) × IfSome (F.content files.old path.now) (λ told. src ≡ told)) }
+    ensures bytes { IfOk result (λ done. (src : List ℕ) × (srcs.new ≡ srcs.old ++ src ∷ []) ×
+        IfSome (F.content files.old path.now) (λ told. src ≡ told)) }
     ensures same { (p : List ℕ) → F.content files.new p ≡ F.content files.old p }
     ensures count { CountsFile (F.faults files.old) (F.faults files.new) result }
 {

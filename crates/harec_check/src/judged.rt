@@ -48,8 +48,8 @@ fn copied(alloc: Global, paths: &[Text]) -> Result<Paths, AllocError>
     Ok(copy)
 }
 
-/// Why a program with this fault is not checked or not built: the fault, with its line; or want of memory for that. A fault of no file, or with a number that
-/// has no name, is answered as want of memory too. There are names of E1 to E49.
+/// Why a program with this fault is not checked or not built: the fault, with its line; or want of memory for that. A fault of no file, or
+/// with a number that has no name, is answered as want of memory too. There are names of E1 to E49.
 pub fn refused(alloc: Global, paths: &[Text], fault: Fault) -> Stopped
     ensures { IsRefusal paths.now fault result }
 {

@@ -13,15 +13,16 @@ use std::alloc::Global;
 
 /// The bytes of the files at these paths, in their order, where the program that they are is checked.
 ///
-/// There are at most 65,536 paths. All files are read in their order before anything is checked, and no file is read behind one that failed. Of a file
-/// that does not tell its bytes nothing is said but that there are some by which its program was checked.
+/// There are at most 65,536 paths. All files are read in their order before anything is checked, and no file is read behind one that
+/// failed. Of a file that does not tell its bytes nothing is said but that there are some by which its program was checked.
 pub fn check<F: Files>(alloc: Global, paths: &[Text], files: &mut F) -> Result<Sources, Stopped>
     requires few { length paths.now ≤ 65536 }
 
     // All files were read, and the program of these bytes is checked and has no fault.
     ensures ok { IfOk result (AreChecked (F.content files.old) paths.now (F.faults files.old) (F.faults files.new)) }
 
-    // A refused program has this first fault, and no other, with this line. A file was not read exactly where the count of faults rose; from 2^64 - 1 it rises no more.
+    // A refused program has this first fault, and no other, with this line. A file was not read exactly where the count of faults rose;
+    // from 2^64 - 1 it rises no more.
     ensures err { IfErr result (IsStop (F.content files.old) paths.now (F.faults files.old) (F.faults files.new)) }
 
     // What the paths hold stays as it is.

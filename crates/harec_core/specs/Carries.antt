@@ -1,7 +1,6 @@
 -- A text of the intermediate language carries a program: it is the text of a valid module, which has the program's shape and does what the
 -- program does, within bounds on the stack and the units. `Carries` says so whole. `CarriesBothWays` is what is proved of the texts of
--- today:
--- the shape, and that the machine does what the program does and nothing else.
+-- today: the shape, and that the machine does what the program does and nothing else.
 use Rattle.std.specs.Prelude.{◌≡◌, ℕ, ◌+◌, ◌*◌, ◌<◌, ◌≤◌, ◌⊎◌, List}
 use Rattle.il_code.specs.declared.types.Module.{Module}
 use Rattle.il_code.specs.Machine.{End, Exit, Abort, Spent}

@@ -18,7 +18,8 @@ pub enum Undef {
 /// What the top call answers.
 #[derive(Clone, Copy, Debug, PartialEq, Eq)]
 pub enum Answer {
-    /// The command is done: the program is checked, and its text is written out where that was asked; or the layout of the file is written out.
+    /// The command is done: the program is checked, and its text is written out where that was asked; or the layout of the file is written
+    /// out.
     Accepted,
     /// The program ended with this status.
     Exited(u8),

@@ -37,8 +37,8 @@ pub enum Purpose<'a> {
     Run { units: u64, args: &'a [Text] },
 }
 
-/// What the words ask for: `check FILES`, `emit FILES`, `run [--units N] FILES [-- ARGS]` or `fmt FILE`, as `harec_words::command_of` reads them.
-/// None: they are no command, or `exec`, which is not built yet.
+/// What the words ask for: `check FILES`, `emit FILES`, `run [--units N] FILES [-- ARGS]` or `fmt FILE`, as `harec_words::command_of` reads
+/// them. None: they are no command, or `exec`, which is not built yet.
 pub fn asked(words: &[Text]) -> Option<Task<'_>>
     ensures found { IfSome result (λ a. IsAsked words.now (command_of a)) }
     ensures only { (c : spec.Command) → IsAsked words.now c → MatchOption result ⊥ (λ a. command_of a ≡ c) }

@@ -17,7 +17,8 @@ use hx_io::{Failed, Sink};
 use il_code::MachineFault;
 use il_plain::Ended;
 
-/// Writes the line of what was found to the log, if it has one, and answers what was found; or else, where the log fails, that it did. Takes no memory.
+/// Writes the line of what was found to the log, if it has one, and answers what was found; or else, where the log fails, that it did.
+/// Takes no memory.
 ///
 /// `paths` are the words that name the files, and `units` are those of a run.
 pub fn tell<L: Sink>(

@@ -10,8 +10,8 @@ use il_plain::{Ended, run_plain};
 use il_read::{law_recoverable, read_printed};
 use std::alloc::{AllocError, Global};
 
-/// How the program ends that a text is, with a number of arguments, a fill byte and a budget of units. What runs is read back from the text. All
-/// memory is taken before it runs, and its output is written as it comes.
+/// How the program ends that a text is, with a number of arguments, a fill byte and a budget of units. What runs is read back from the
+/// text. All memory is taken before it runs, and its output is written as it comes.
 pub fn run_text<O: Sink>(
     alloc: Global,
     text: &[u8],

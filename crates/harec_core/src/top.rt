@@ -24,18 +24,19 @@ use std::alloc::Global;
 
 /// Does all that the program does: answers the words, over the files, the input, the output and the log that are handed in.
 ///
-/// All files are read in their order before anything else, and no file is read behind one that failed. `fmt FILE` then writes the layout of the file
-/// to the output, and nothing else: where the file has more than 1,048,576 bytes (E1) or a fault of tokens or syntax (E3 to E10), that is the answer,
-/// and no name and no type is looked at. With every other command the program of the files is checked: where it has a fault, that is the answer. `check
-/// FILES` does no more. `emit FILES` writes the IL text of the program to the output. `run
-/// [--units N] FILES [-- ARGS]` makes the same text, reads the module back from it and runs that, with the arguments and at most N units, and writes
-/// the program's output as it comes. Programs of several files, and of a file that is not of the class of today, are not compiled yet: E49 at the start
-/// of the first file. Each answer but an accepted program or file, a program's own exit and an abort has one line, which the log gets. Want of memory is
-/// answered only before the first byte of output or of the log.
+/// All files are read in their order before anything else, and no file is read behind one that failed. `fmt FILE` then writes the layout of
+/// the file to the output, and nothing else: where the file has more than 1,048,576 bytes (E1) or a fault of tokens or syntax (E3 to E10),
+/// that is the answer, and no name and no type is looked at. With every other command the program of the files is checked: where it has a
+/// fault, that is the answer. `check FILES` does no more. `emit FILES` writes the IL text of the program to the output. `run [--units N]
+/// FILES [-- ARGS]` makes the same text, reads the module back from it and runs that, with the arguments and at most N units, and writes
+/// the program's output as it comes. Programs of several files, and of a file that is not of the class of today, are not compiled yet: E49
+/// at the start of the first file. Each answer but an accepted program or file, a program's own exit and an abort has one line, which the
+/// log gets. Want of memory is answered only before the first byte of output or of the log.
 ///
 /// As the call begins, `text` is empty, and no object's count of faults stands at 2^64 - 1, where it could rise no more.
 ///
-/// `fill` is the byte that new memory and unassigned temporaries of a run hold. `text` becomes the IL text that was made: it is empty where no module
+/// `fill` is the byte that new memory and unassigned temporaries of a run hold. `text` becomes the IL text that was made: it is empty where
+/// no module
 /// was made, and after want of memory it is the text or empty.
 #[tactic(auto, using(crate::proofs::Causes::few_asked))]
 pub fn harec<F: Files, I: Source, O: Sink, L: Sink>(
@@ -70,8 +71,8 @@ pub fn harec<F: Files, I: Source, O: Sink, L: Sink>(
         (sent (L.faults log.old) (L.faults log.new) (L.written log.old) (L.written log.new))
         answer.Usage result }
 
-    // The answer to a command is found by a list of bytes for each of its files: those that the file tells, where it tells any. Then its line goes to
-    // the log.
+    // The answer to a command is found by a list of bytes for each of its files: those that the file tells, where it tells any. Then its
+    // line goes to the log.
     ensures command { (c : Command) → IsAsked words.now c
         → (srcs : List (List ℕ)) × AreTold (F.content files.old) (files_of c) srcs
         × (found : Answer)

@@ -1,5 +1,6 @@
-//! Does what `harec` does on each line of the standard input, of which the words stand with a blank between them: the files are those of the folder
-//! examples/. Of each line is printed the line as one would type it, what `harec` writes to its output and to its log, and the status.
+//! Does what `harec` does on each line of the standard input, of which the words stand with a blank between them: the files are those of
+//! the folder examples/. Of each line is printed the line as one would type it, what `harec` writes to its output and to its log, and the
+//! status.
 #![tactic(auto)]
 
 use anyhow::Result;
@@ -22,7 +23,8 @@ fn main(rt: HostRuntime) -> Result<()> {
     Ok(())
 }
 
-/// The status with which `harec` ends on these words, over the files of the folder, an empty input, and the standard output for output and log.
+/// The status with which `harec` ends on these words, over the files of the folder, an empty input, and the standard output for output and
+/// log.
 fn status_of(rt: &HostRuntime, line: &str) -> Result<u8> {
     let alloc = rt.alloc();
     let words = words(alloc, line)?;

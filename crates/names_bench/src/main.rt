@@ -1,6 +1,6 @@
-//! Resolves the names of a program again and again, so that the time of that can be measured: `names_bench FILES FUNCTIONS ROUNDS`. Each file has so many functions
-//! of one line, as `fn f_0_0(a: u32) u32 = a * 613;`, and all files belong to one module. The files are read once. In each round their names are resolved, and each path is
-//! asked what it means.
+//! Resolves the names of a program again and again, so that the time of that can be measured: `names_bench FILES FUNCTIONS ROUNDS`. Each
+//! file has so many functions of one line, as `fn f_0_0(a: u32) u32 = a * 613;`, and all files belong to one module. The files are read
+//! once. In each round their names are resolved, and each path is asked what it means.
 #![tactic(auto)]
 
 mod meanings;

@@ -1,5 +1,5 @@
-//! Prints what small programs come to: what each path in them means, or their first fault. In the standard input a program is a block of lines, of
-//! which each is a file: its path, a blank and its source, in which `$` stands for a line feed. An empty line ends the block.
+//! Prints what small programs come to: what each path in them means, or their first fault. In the standard input a program is a block of
+//! lines, of which each is a file: its path, a blank and its source, in which `$` stands for a line feed. An empty line ends the block.
 #![tactic(auto)]
 
 mod answer;

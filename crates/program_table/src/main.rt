@@ -1,6 +1,7 @@
-//! Prints what is found of small programs. The standard input has the lines of docs/PROGRAMS.md: before the `=>` of each stands what was worked out by hand, behind it the files of a program. Each
-//! begins with an `@` and its path, behind which stands a space and its source; a source alone is that of `main.ha`. In a source `$` stands for a line feed. What is printed is the line again, with
-//! what is found before the `=>`:
+//! Prints what is found of small programs. The standard input has the lines of docs/PROGRAMS.md: before the `=>` of each stands what was
+//! worked out by hand, behind it the files of a program. Each begins with an `@` and its path, behind which stands a space and its source;
+//! a source alone is that of `main.ha`. In a source `$` stands for a line feed. What is printed is the line again, with what is found
+//! before the `=>`:
 //!
 //! - `ok`, where the program is checked;
 //! - `E25 b.ha:1:13`, its first fault, with the path of the file and the line and the column at which it stands.

@@ -12,7 +12,8 @@ use hare_types::TypeStore;
 use rule_judge::{Turn, is_open, void_fits};
 use std::alloc::AllocError;
 
-/// Whether the function may end at the end of the node: it is not the body of one, its end is not reached, or void may be given as the result.
+/// Whether the function may end at the end of the node: it is not the body of one, its end is not reached, or void may be given as the
+/// result.
 pub(crate) fn body_returns(s: &mut TypeStore, t: &Turn<'_>) -> Result<bool, AllocError>
     requires turn { IsTurn s.old t.now }
     requires result { IsDefined s.old t.now.case.now.inside.result }

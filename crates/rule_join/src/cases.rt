@@ -22,8 +22,8 @@ use hare_types::{Ty, TypeId, TypeStore};
 use rule_judge::{Turn, is_type_hint, kids_before};
 use std::alloc::AllocError;
 
-/// The type of a `match` or a `switch`: under a hint of a type that type, and void where it is dropped; else the type of the first case that goes
-/// on, and `never` where none does.
+/// The type of a `match` or a `switch`: under a hint of a type that type, and void where it is dropped; else the type of the first case
+/// that goes on, and `never` where none does.
 ///
 /// The node is shaped and has its kids, which have been judged, and each kid behind the first has a type; each type that stands in them or
 /// is told with the node is in the store, and mentions no name that is not defined. The store may grow in types. Fails for want of memory
@@ -44,7 +44,8 @@ pub fn cases_type(s: &mut TypeStore, t: &Turn<'_>) -> Result<Ty, AllocError>
 /// mentions no name that is not defined. The store may grow in types. Fails for want of memory alone.
 pub fn case_misfit(s: &mut TypeStore, t: &Turn<'_>) -> Result<Option<Place>, AllocError>
     requires { IsTurn s.old t.now }
-    ensures value { IfOk result (λ o. (f : Store) → IsLater s.new f → o ≡ option_map place_in (first_misfit f t.now.case.now.hint (control.case_values (context_in f t.now)))) }
+    ensures value { IfOk result (λ o. (f : Store) → IsLater s.new f →
+        o ≡ option_map place_in (first_misfit f t.now.case.now.hint (control.case_values (context_in f t.now)))) }
     ensures grown { IsGrown s.old s.new }
 {
     misfit(s, Source::Cases, t)
@@ -61,10 +62,11 @@ pub fn asks_case(t: &Turn<'_>, i: usize) -> bool
     is_type_hint(&case.hint)
 }
 
-/// The type to which kid number `i` of a `match` goes, or of a `switch` where it is a case: that of all cases, which is the type `ty` of the node, where
-/// the node is asked for none. None where it stays as it is. The time does not go with the cases.
+/// The type to which kid number `i` of a `match` goes, or of a `switch` where it is a case: that of all cases, which is the type `ty` of
+/// the node, where the node is asked for none. None where it stays as it is. The time does not go with the cases.
 pub fn case_target(t: &Turn<'_>, ty: &Ty, i: usize) -> Option<TypeId>
-    ensures value { (f : Store) → control.cases_type (context_in f t.now) ≡ Some ty.now → result ≡ settles.case_target (context_in f t.now) i }
+    ensures value { (f : Store) → control.cases_type (context_in f t.now) ≡ Some ty.now →
+        result ≡ settles.case_target (context_in f t.now) i }
     ensures defined { (s : Store) → IsDefinedTy s ty.now → IfSome result (IsDefined s) }
 {
     if i == 0 {

@@ -32,16 +32,18 @@ fn id_in(ty: &Ty) -> Option<TypeId>
     }
 }
 
-/// The default of the first value that goes on, in the order of the source; else void of an end, and `never` without one. None where that value
-/// has no default.
+/// The default of the first value that goes on, in the order of the source; else void of an end, and `never` without one. None where that
+/// value has no default.
 pub(crate) fn joined_default(
     s: &mut TypeStore,
     v: Source,
     t: &Turn<'_>,
 ) -> Result<Option<TypeId>, AllocError>
     requires { IsTurn s.old t.now }
-    ensures value { IfOk result (λ o. (f : Store) → IsLater s.new f → o ≡ joined.joined f hint.None (spec.together v (context_in f t.now))) }
-    ensures there { IfOk result (λ o. (f : Store) → IsLater s.new f → is_some o ≡ is_none (joined.first_lacking f hint.None (spec.together v (context_in f t.now)))) }
+    ensures value { IfOk result (λ o. (f : Store) → IsLater s.new f →
+        o ≡ joined.joined f hint.None (spec.together v (context_in f t.now))) }
+    ensures there { IfOk result (λ o. (f : Store) → IsLater s.new f →
+        is_some o ≡ is_none (joined.first_lacking f hint.None (spec.together v (context_in f t.now)))) }
     ensures defined { IfOk result (λ o. IfSome o (IsDefined s.new)) }
     ensures grown { IsGrown s.old s.new }
 {
@@ -59,16 +61,18 @@ pub(crate) fn joined_default(
     }
 }
 
-/// The type of what comes together: under a hint of a type that type, and void where it is dropped; else the default of the first value that
-/// goes on. None where that value has no default.
+/// The type of what comes together: under a hint of a type that type, and void where it is dropped; else the default of the first value
+/// that goes on. None where that value has no default.
 pub(crate) fn joined_type(
     s: &mut TypeStore,
     v: Source,
     t: &Turn<'_>,
 ) -> Result<Option<TypeId>, AllocError>
     requires { IsTurn s.old t.now }
-    ensures value { IfOk result (λ o. (f : Store) → IsLater s.new f → o ≡ joined.joined f t.now.case.now.hint (spec.together v (context_in f t.now))) }
-    ensures there { IfOk result (λ o. (f : Store) → IsLater s.new f → is_some o ≡ is_none (joined.first_lacking f t.now.case.now.hint (spec.together v (context_in f t.now)))) }
+    ensures value { IfOk result (λ o. (f : Store) → IsLater s.new f →
+        o ≡ joined.joined f t.now.case.now.hint (spec.together v (context_in f t.now))) }
+    ensures there { IfOk result (λ o. (f : Store) → IsLater s.new f →
+        is_some o ≡ is_none (joined.first_lacking f t.now.case.now.hint (spec.together v (context_in f t.now)))) }
     ensures defined { IfOk result (λ o. IfSome o (IsDefined s.new)) }
     ensures grown { IsGrown s.old s.new }
 {
@@ -89,7 +93,8 @@ pub(crate) fn joined_type(
 
 /// The type to which the values go that were asked for none: that of what comes together, `ty`. None where they stay as they are.
 pub(crate) fn joined_target(t: &Turn<'_>, ty: &Ty) -> Option<TypeId>
-    ensures value { (f : Store) (vs : List Given) → words.typed_as (joined.joined f t.now.case.now.hint vs) ≡ Some ty.now → result ≡ settles.joined_target f t.now.case.now.hint vs }
+    ensures value { (f : Store) (vs : List Given) → words.typed_as (joined.joined f t.now.case.now.hint vs) ≡ Some ty.now →
+        result ≡ settles.joined_target f t.now.case.now.hint vs }
     ensures defined { (s : Store) → IsDefinedTy s ty.now → IfSome result (IsDefined s) }
 {
     let case = t.case;
@@ -136,7 +141,8 @@ pub(crate) fn lacking(s: &TypeStore, v: Source, t: &Turn<'_>) -> Option<Place>
 fn listed_misfit(s: &TypeStore, v: Source, t: &Turn<'_>, to: TypeId) -> Option<Place>
     requires turn { IsTurn s.now t.now }
     requires to { IsDefined s.now to }
-    ensures { (f : Store) → IsLater s.now f → result ≡ option_map spec.place_told (find (λ y. not (words.fits f y.ty to)) (spec.listed_in v t.now)) }
+    ensures { (f : Store) → IsLater s.now f → result ≡ option_map spec.place_told
+        (find (λ y. not (words.fits f y.ty to)) (spec.listed_in v t.now)) }
 {
     for i in 0..count(v, t) {
         let y = value_at(v, t, i);
@@ -180,7 +186,8 @@ fn misfit_to(
 ) -> Result<Option<Place>, AllocError>
     requires turn { IsTurn s.old t.now }
     requires to { IsDefined s.old to }
-    ensures value { IfOk result (λ o. (f : Store) → IsLater s.new f → o ≡ option_map spec.place_in (find (λ g. not (joined.given_fits f to g)) (spec.together v (context_in f t.now)))) }
+    ensures value { IfOk result (λ o. (f : Store) → IsLater s.new f →
+        o ≡ option_map spec.place_in (find (λ g. not (joined.given_fits f to g)) (spec.together v (context_in f t.now)))) }
     ensures grown { IsGrown s.old s.new }
 {
     let _law = s.declarations();
@@ -196,7 +203,8 @@ fn misfit_to(
 /// Where the first value stands that does not fit the default of the first that goes on.
 fn free_misfit(s: &mut TypeStore, v: Source, t: &Turn<'_>) -> Result<Option<Place>, AllocError>
     requires { IsTurn s.old t.now }
-    ensures value { IfOk result (λ o. (f : Store) → IsLater s.new f → o ≡ option_map spec.place_in (joined.first_misfit f hint.None (spec.together v (context_in f t.now)))) }
+    ensures value { IfOk result (λ o. (f : Store) → IsLater s.new f →
+        o ≡ option_map spec.place_in (joined.first_misfit f hint.None (spec.together v (context_in f t.now)))) }
     ensures grown { IsGrown s.old s.new }
 {
     let _law = s.declarations();
@@ -210,8 +218,8 @@ fn free_misfit(s: &mut TypeStore, v: Source, t: &Turn<'_>) -> Result<Option<Plac
     }
 }
 
-/// Where the first value stands that does not fit the type of all. Under a hint of a type it can be the end alone: each other value has been
-/// judged by the hint.
+/// Where the first value stands that does not fit the type of all. Under a hint of a type it can be the end alone: each other value has
+/// been judged by the hint.
 pub(crate) fn misfit(
     s: &mut TypeStore,
     v: Source,

@@ -72,8 +72,8 @@ impl Rules for Joining {
 /// Judges an `if`, a loop, a block or a case: its type and the coercions that it settles, or the fault of the first row of the table of
 /// typing rules that it fails. The answer is that of every later store. The store may grow in types, also where there is a fault.
 ///
-/// The node is shaped and has these kids, which have been judged; each type that stands in them or in `c`, and the result of the function, is in the
-/// store, and mentions no name that is not defined.
+/// The node is shaped and has these kids, which have been judged; each type that stands in them or in `c`, and the result of the function,
+/// is in the store, and mentions no name that is not defined.
 pub fn judge(
     alloc: Global,
     s: &mut TypeStore,

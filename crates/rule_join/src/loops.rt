@@ -68,9 +68,9 @@ fn is_break(name: &[u8], is_nearest: bool, k: Kind, text: &[u8]) -> bool
     }
 }
 
-/// Whether a `break` in the tree means the loop with this name that stands round it, where `is_nearest` says that no other loop stands between.
-/// Inside another loop a `break` without a name means that one, and so does one with the name of both. The call goes as deep in the host as the
-/// tree is; within another loop it looks on only for a loop with a name.
+/// Whether a `break` in the tree means the loop with this name that stands round it, where `is_nearest` says that no other loop stands
+/// between. Inside another loop a `break` without a name means that one, and so does one with the name of both. The call goes as deep in
+/// the host as the tree is; within another loop it looks on only for a loop with a name.
 #[cycle(breaks)]
 fn breaks(name: &[u8], is_nearest: bool, tree: &Typed) -> bool
     ensures { result ≡ control.breaks name.now is_nearest tree.now }

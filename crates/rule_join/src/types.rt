@@ -37,8 +37,10 @@ fn word_type(s: &mut TypeStore, k: Scalar) -> Result<Ty, AllocError>
 /// The type of what comes together, where the first value that goes on has a default or none is asked for.
 pub(crate) fn type_together(s: &mut TypeStore, v: Source, t: &Turn<'_>) -> Result<Ty, AllocError>
     requires turn { IsTurn s.old t.now }
-    requires defaults { (f : Store) → IsLater s.old f → joined.first_lacking f t.now.case.now.hint (together v (context_in f t.now)) ≡ None }
-    ensures value { IfOk result (λ a. (f : Store) → IsLater s.new f → words.typed_as (joined.joined f t.now.case.now.hint (together v (context_in f t.now))) ≡ Some a) }
+    requires defaults { (f : Store) → IsLater s.old f → joined.first_lacking f t.now.case.now.hint (together v (context_in f t.now)) ≡
+        None }
+    ensures value { IfOk result (λ a. (f : Store) → IsLater s.new f →
+        words.typed_as (joined.joined f t.now.case.now.hint (together v (context_in f t.now))) ≡ Some a) }
     ensures defined { IfOk result (IsDefinedTy s.new) }
     ensures grown { IsGrown s.old s.new }
 {
@@ -53,7 +55,8 @@ pub(crate) fn type_together(s: &mut TypeStore, v: Source, t: &Turn<'_>) -> Resul
 /// The type of an `if`: what its branches join to, and void without an `else`.
 fn if_type(s: &mut TypeStore, t: &Turn<'_>) -> Result<Ty, AllocError>
     requires turn { IsTurn s.old t.now }
-    requires defaults { (f : Store) → IsLater s.old f → joined.first_lacking f t.now.case.now.hint (together source.Branches (context_in f t.now)) ≡ None }
+    requires defaults { (f : Store) → IsLater s.old f → joined.first_lacking f t.now.case.now.hint
+        (together source.Branches (context_in f t.now)) ≡ None }
     ensures value { IfOk result (λ a. (f : Store) → IsLater s.new f → control.if_type (context_in f t.now) ≡ Some a) }
     ensures defined { IfOk result (IsDefinedTy s.new) }
     ensures grown { IsGrown s.old s.new }
@@ -88,11 +91,12 @@ fn is_block(k: Kind) -> bool
     matches!(k, Kind::Block | Kind::Case | Kind::SwitchCase)
 }
 
-/// The type of a block or a case: what was yielded to it and its end join to; where nothing was, void where its end is reached, and never where
-/// it is not.
+/// The type of a block or a case: what was yielded to it and its end join to; where nothing was, void where its end is reached, and never
+/// where it is not.
 fn block_type(s: &mut TypeStore, t: &Turn<'_>) -> Result<Ty, AllocError>
     requires turn { IsTurn s.old t.now }
-    requires defaults { (f : Store) → IsLater s.old f → joined.first_lacking f t.now.case.now.hint (together source.Yields (context_in f t.now)) ≡ None }
+    requires defaults { (f : Store) → IsLater s.old f → joined.first_lacking f t.now.case.now.hint
+        (together source.Yields (context_in f t.now)) ≡ None }
     ensures value { IfOk result (λ a. (f : Store) → IsLater s.new f → control.block_type (context_in f t.now) ≡ Some a) }
     ensures defined { IfOk result (IsDefinedTy s.new) }
     ensures grown { IsGrown s.old s.new }

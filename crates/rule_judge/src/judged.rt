@@ -18,8 +18,8 @@ use hare_tree::{Fault, Stop};
 use hare_types::TypeStore;
 use std::alloc::Global;
 
-/// Judges a node by the rules of its kind: its type and the coercions that it settles, or the fault of the first row that it fails. The answer
-/// is that of every later store. The store may grow in types, also where there is a fault.
+/// Judges a node by the rules of its kind: its type and the coercions that it settles, or the fault of the first row that it fails. The
+/// answer is that of every later store. The store may grow in types, also where there is a fault.
 ///
 /// The node is of one of the kinds of these rules, is shaped and has its kids, which have been judged; each type that stands in them or is
 /// told with it is in the store, and mentions no name that is not defined; and what the rules rely on beside that holds.

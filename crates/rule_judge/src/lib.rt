@@ -1,7 +1,8 @@
-//! What every judge of a node does, whatever its kind: it asks the rows of the table in their order, finds the node's type, asks the two rows
-//! that all kinds share, and settles coercions.
+//! What every judge of a node does, whatever its kind: it asks the rows of the table in their order, finds the node's type, asks the two
+//! rows that all kinds share, and settles coercions.
 //!
-//! A crate of judges says by `Rules` what its own kinds ask; `judge_by` does the rest. Each answer is that of every store that may come later.
+//! A crate of judges says by `Rules` what its own kinds ask; `judge_by` does the rest. Each answer is that of every store that may come
+//! later.
 #![tactic(auto)]
 
 mod bases;

@@ -103,8 +103,8 @@ fn joined_or_never(s: &mut TypeStore, members: TypeIds) -> Result<TypeId, AllocE
     }
 }
 
-/// What is left of the union that is the base of the type without its error members: one member alone is itself that type, and where none is
-/// left it is `never`.
+/// What is left of the union that is the base of the type without its error members: one member alone is itself that type, and where none
+/// is left it is `never`.
 ///
 /// The conditions are that the base of the type is a union, and that the type is in the store, and mentions no name that is not defined.
 /// The store may grow in types. Fails for want of memory alone.

@@ -140,7 +140,8 @@ pub fn is_mutable(s: &TypeStore, decls: &DeclTypes, locals: &Locals, tree: &Type
 #[cycle(mutable)]
 fn is_first_mutable(s: &TypeStore, decls: &DeclTypes, locals: &Locals, trees: &TypedKids) -> bool
     requires { AreDefinedTrees s.now (typed_nodes trees.now) }
-    ensures { (f : Store) → IsLater s.now f → result ≡ spec.is_first_mutable (setting_of f decls.now) (entries locals.now) (typed_nodes trees.now) }
+    ensures { (f : Store) → IsLater s.now f → result ≡ spec.is_first_mutable (setting_of f decls.now) (entries locals.now)
+        (typed_nodes trees.now) }
 {
     match trees.get(0) {
         Some(tree) => is_mutable(s, decls, locals, tree),

@@ -6,8 +6,8 @@ use hare_tree::Place;
 use hare_types::{Ty, TypeId, TypeStore};
 use std::alloc::{AllocError, Global};
 
-/// The rules of some kinds of nodes: what their own rows ask, which types they have, and where their kids go. The rows that all kinds share, and
-/// the order in which rows are asked, are `judge_by`'s.
+/// The rules of some kinds of nodes: what their own rows ask, which types they have, and where their kids go. The rows that all kinds
+/// share, and the order in which rows are asked, are `judge_by`'s.
 ///
 /// Each call may take types into the store, so that its answer holds in every later one; a call fails for want of memory alone.
 ///

@@ -65,7 +65,8 @@ fn first_going(s: &TypeStore, yields: &Yields) -> Option<Ty>
     None
 }
 
-/// The word that is the type of a node to which nothing is yielded that goes on: void where something is yielded and the end is reached, and
+/// The word that is the type of a node to which nothing is yielded that goes on: void where something is yielded and the end is reached,
+/// and
 /// `never` else.
 fn end_word(s: &TypeStore, t: &Turn<'_>) -> Scalar
     requires { IsTurn s.now t.now }
@@ -86,7 +87,8 @@ fn end_word(s: &TypeStore, t: &Turn<'_>) -> Scalar
 /// mentions no name that is not defined. The store may grow in types. Fails for want of memory alone.
 pub fn joined_yields(s: &mut TypeStore, t: &Turn<'_>) -> Result<Option<TypeId>, AllocError>
     requires { IsTurn s.old t.now }
-    ensures value { IfOk result (λ o. (f : Store) → IsLater s.new f → o ≡ joined.default_of_first f (find (joined.goes_on f) (control.block_values (context_in f t.now)))) }
+    ensures value { IfOk result (λ o. (f : Store) → IsLater s.new f →
+        o ≡ joined.default_of_first f (find (joined.goes_on f) (control.block_values (context_in f t.now)))) }
     ensures defined { IfOk result (λ o. IfSome o (IsDefined s.new)) }
     ensures grown { IsGrown s.old s.new }
 {
@@ -110,7 +112,8 @@ fn put_yields(
     requires yields { AreDefinedYields s.now yields.now }
     requires to { IfSome to.now (IsDefined s.now) }
     requires defined { AreDefinedCoercions s.now coercions.old }
-    ensures value { OnOk result ((f : Store) → IsLater s.now f → coercions.new ≡ coercions.old ++ map (λ y. settles.to_type f y.ty to.now) yields.now) }
+    ensures value { OnOk result ((f : Store) → IsLater s.now f → coercions.new ≡ coercions.old ++
+        map (λ y. settles.to_type f y.ty to.now) yields.now) }
     ensures defined { OnOk result (AreDefinedCoercions s.now coercions.new) }
 {
     for y in yields.as_slice() {
@@ -122,7 +125,8 @@ fn put_yields(
 /// The type to which yielded values go that were asked for none; none where they stay as they are.
 fn yield_target(s: &mut TypeStore, t: &Turn<'_>) -> Result<Option<TypeId>, AllocError>
     requires { IsTurn s.old t.now }
-    ensures value { IfOk result (λ o. (f : Store) → IsLater s.new f → o ≡ settles.joined_target f t.now.case.now.hint (control.block_values (context_in f t.now))) }
+    ensures value { IfOk result (λ o. (f : Store) → IsLater s.new f → o ≡ settles.joined_target f t.now.case.now.hint
+        (control.block_values (context_in f t.now))) }
     ensures defined { IfOk result (λ o. IfSome o (IsDefined s.new)) }
     ensures grown { IsGrown s.old s.new }
 {
@@ -149,7 +153,9 @@ pub(crate) fn add_yields(
 ) -> Result<(), AllocError>
     requires turn { IsTurn s.old t.now }
     requires defined { AreDefinedCoercions s.old coercions.old }
-    ensures value { OnOk result ((f : Store) → IsLater s.new f → coercions.new ≡ coercions.old ++ spec.yield_coercions f t.now.case.now.hint (settles.joined_target f t.now.case.now.hint (control.block_values (context_in f t.now))) (yields_in t.now)) }
+    ensures value { OnOk result ((f : Store) → IsLater s.new f → coercions.new ≡ coercions.old ++
+        spec.yield_coercions f t.now.case.now.hint (settles.joined_target f t.now.case.now.hint (control.block_values (context_in f t.now)))
+        (yields_in t.now)) }
     ensures defined { OnOk result (AreDefinedCoercions s.new coercions.new) }
     ensures grown { IsGrown s.old s.new }
 {

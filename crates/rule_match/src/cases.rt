@@ -38,7 +38,8 @@ pub(crate) fn asks_type(t: &Turn<'_>, i: usize) -> bool
     asks_case(t, i)
 }
 
-/// The type to which kid number `i` of a `match` goes that was asked for none; none where it stays as it is. What the node gives has the type `ty`.
+/// The type to which kid number `i` of a `match` goes that was asked for none; none where it stays as it is. What the node gives has the
+/// type `ty`.
 pub(crate) fn target(t: &Turn<'_>, ty: &Ty, i: usize) -> Option<TypeId>
     requires kind { judges (kind_in t.now) ≡ true }
     ensures value { (f : Store) → type_of (context_in f t.now) ≡ Some ty.now → result ≡ target_of (context_in f t.now) (kind_in t.now) i }

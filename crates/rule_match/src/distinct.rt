@@ -11,7 +11,8 @@ use hare_typed::TypedKids;
 use rule_judge::place_at;
 use std::alloc::{AllocError, Global};
 
-/// Where the first case stands whose pattern an earlier one has, or want of one; none where all are distinct. The time is that of the cases.
+/// Where the first case stands whose pattern an earlier one has, or want of one; none where all are distinct. The time is that of the
+/// cases.
 pub(crate) fn repeated(alloc: Global, kids: &TypedKids) -> Result<Option<Place>, AllocError>
     ensures { IfOk result (λ o. o ≡ option_map place_of (repeated_pattern [] (drop 1 kids.now))) }
 {

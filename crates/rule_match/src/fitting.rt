@@ -23,8 +23,8 @@ pub(crate) fn is_tagged(s: &TypeStore, a: &Ty) -> bool
     matches!(base_row(s, a), Some(Row::Union(_) | Row::Nullable(_)))
 }
 
-/// Whether the pattern is one of the type: no pattern, or a member of the union that is its base; where that is `nullable *X`, `null` or `*X`
-/// itself. A union has at most 64 members.
+/// Whether the pattern is one of the type: no pattern, or a member of the union that is its base; where that is `nullable *X`, `null` or
+/// `*X` itself. A union has at most 64 members.
 fn is_fitting(s: &TypeStore, a: &Ty, p: Pattern) -> bool
     requires operand { IsDefinedTy s.now a.now }
     requires pattern { IsDefinedPattern s.now (meant p) }
@@ -41,7 +41,8 @@ fn is_fitting(s: &TypeStore, a: &Ty, p: Pattern) -> bool
 /// Where the first pattern stands that is none of the operand's type; none where each is.
 pub(crate) fn odd_pattern(s: &TypeStore, t: &Turn<'_>) -> Option<Place>
     requires { IsTurn s.now t.now }
-    ensures { (f : Store) → IsLater s.now f → result ≡ option_map (λ x. place_of (control.pattern_kid x)) (control.odd_case (context_in f t.now)) }
+    ensures { (f : Store) → IsLater s.now f → result ≡ option_map (λ x. place_of (control.pattern_kid x))
+        (control.odd_case (context_in f t.now)) }
 {
     let operand = seen(t, 0);
     for i in 1..t.kids.len() {

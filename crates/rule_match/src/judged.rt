@@ -70,13 +70,13 @@ impl Rules for Matching {
     ghost needs_stay = { ready_stays };
 }
 
-/// Judges a `match`: its type and the coercions that it settles, or the fault of the first row of the table of typing rules that it fails: the
-/// operand is a union or a pointer that may be null (35), each pattern is one of its type (36), none stands twice (38), together they cover that
-/// type (37), and the cases join to one type (39). The answer is that of every later store. The store may grow in types, also where there is a
-/// fault. The time is that of the cases.
+/// Judges a `match`: its type and the coercions that it settles, or the fault of the first row of the table of typing rules that it fails:
+/// the operand is a union or a pointer that may be null (35), each pattern is one of its type (36), none stands twice (38), together they
+/// cover that type (37), and the cases join to one type (39). The answer is that of every later store. The store may grow in types, also
+/// where there is a fault. The time is that of the cases.
 ///
-/// The node is shaped and has these kids, which have been judged, and each case has a type; each type that stands in them or in `c` is in the
-/// store, and mentions no name that is not defined.
+/// The node is shaped and has these kids, which have been judged, and each case has a type; each type that stands in them or in `c` is in
+/// the store, and mentions no name that is not defined.
 pub fn judge(
     alloc: Global,
     s: &mut TypeStore,

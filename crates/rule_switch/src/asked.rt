@@ -17,7 +17,8 @@ use rule_join::{asks_case, case_target};
 use rule_judge::Turn;
 use std::alloc::AllocError;
 
-/// Whether the node has asked its kid number `i` for a value of a type: each case for what is asked of the node itself, and the operand for none.
+/// Whether the node has asked its kid number `i` for a value of a type: each case for what is asked of the node itself, and the operand for
+/// none.
 pub(crate) fn asks_type(s: &mut TypeStore, t: &Turn<'_>, i: usize) -> Result<bool, AllocError>
     requires { judges (kind_in t.now) ≡ true }
     ensures value { IfOk result (λ b. (f : Store) → IsLater s.new f → b ≡ asks_type (context_in f t.now) i) }
@@ -27,8 +28,8 @@ pub(crate) fn asks_type(s: &mut TypeStore, t: &Turn<'_>, i: usize) -> Result<boo
     Ok(asks_case(t, i))
 }
 
-/// The type to which kid number `i` goes that was asked for none: the operand to its default, and the cases to the type to which they join, which is
-/// the type `ty` of the node.
+/// The type to which kid number `i` goes that was asked for none: the operand to its default, and the cases to the type to which they join,
+/// which is the type `ty` of the node.
 pub(crate) fn target(
     s: &mut TypeStore,
     t: &Turn<'_>,

@@ -80,7 +80,8 @@ fn has_default(labels: &[Labelled]) -> bool
 /// Whether the labels, none of which stands twice, are all values of a type. None are those of `str`, or of no type.
 fn are_all(s: &TypeStore, to: &Option<TypeId>, labels: &[Labelled]) -> bool
     requires { IfSome to.now (IsDefined s.now) }
-    ensures { (f : Store) → IsLater s.now f → result ≡ constants.lists_range (constants.range_at f to.now) (numbers_in (map told labels.now)) }
+    ensures { (f : Store) → IsLater s.now f → result ≡ constants.lists_range (constants.range_at f to.now)
+        (numbers_in (map told labels.now)) }
 {
     let _law = s.declarations();
     let Some(t) = to else {

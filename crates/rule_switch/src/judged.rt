@@ -69,13 +69,13 @@ impl Rules for Switching {
     ghost needs_stay = { ready_stays };
 }
 
-/// Judges a `switch`: its type and the coercions that it settles, or the fault of the first row of the table of typing rules that it fails. Its operand
-/// has an integer type, `bool`, `rune` or `str` as its base; each value of a case is constant, and stands there once; the values are all that the type
-/// has, or a case has none; and what the cases give fits one type. The answer is that of every later store. The store may grow in types, also
-/// where there is a fault. The time is that of the values and of the cases.
+/// Judges a `switch`: its type and the coercions that it settles, or the fault of the first row of the table of typing rules that it fails.
+/// Its operand has an integer type, `bool`, `rune` or `str` as its base; each value of a case is constant, and stands there once; the
+/// values are all that the type has, or a case has none; and what the cases give fits one type. The answer is that of every later store.
+/// The store may grow in types, also where there is a fault. The time is that of the values and of the cases.
 ///
-/// The node is shaped and has these kids, which have been judged, values of cases with their constants; each type that stands in them or in `c` is in
-/// the store, and mentions no name that is not defined. What each case gives is of a type of the store.
+/// The node is shaped and has these kids, which have been judged, values of cases with their constants; each type that stands in them or in
+/// `c` is in the store, and mentions no name that is not defined. What each case gives is of a type of the store.
 pub fn judge(
     alloc: Global,
     s: &mut TypeStore,

@@ -104,7 +104,8 @@ fn put_values(
     labels: &mut Vec<Labelled>,
 ) -> Result<(), AllocError>
     requires { IfSome to.now (IsDefined s.now) }
-    ensures { OnOk result ((f : Store) → IsLater s.now f → map told labels.new.items ≡ map told labels.old.items ++ map (constants.labelled f to.now) (but_last values.now)) }
+    ensures { OnOk result ((f : Store) → IsLater s.now f → map told labels.new.items ≡ map told labels.old.items ++
+        map (constants.labelled f to.now) (but_last values.now)) }
 {
     for i in 0..values.len().saturating_sub(1) {
         let Some(value) = values.get(i) else {
@@ -143,7 +144,8 @@ fn put_labels(
     labels: &mut Vec<Labelled>,
 ) -> Result<(), AllocError>
     requires { IfSome to.now (IsDefined s.now) }
-    ensures { OnOk result ((f : Store) → IsLater s.now f → map told labels.new.items ≡ map told labels.old.items ++ constants.labels_of f to.now case.now) }
+    ensures { OnOk result ((f : Store) → IsLater s.now f → map told labels.new.items ≡ map told labels.old.items ++
+        constants.labels_of f to.now case.now) }
 {
     match values_of(case) {
         Some(values) => put_values(alloc, s, to, values, labels)?,

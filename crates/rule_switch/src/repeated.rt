@@ -30,7 +30,9 @@ fn is_constant(label: &Label) -> bool
 /// Meets a label, and answers whether it was not met before. What is no constant of the type is never met before.
 fn meet<'a>(met: &mut Met<'a>, label: &'a Label) -> Result<bool, AllocError>
     ensures first { IfOk result (λ b. b ≡ not (is_among_labels (labels_met met.old.keys) (label_told label.now))) }
-    ensures met { IfOk result (λ b. b ≡ true → (l : constants.Label) → is_among_labels (labels_met met.new.keys) l ≡ (same_label l (label_told label.now) || is_among_labels (labels_met met.old.keys) l)) }
+    ensures met { IfOk result (λ b. b ≡ true → (l : constants.Label) →
+        is_among_labels (labels_met met.new.keys) l ≡
+        (same_label l (label_told label.now) || is_among_labels (labels_met met.old.keys) l)) }
 {
     if !is_constant(label) {
         return Ok(true);
@@ -59,7 +61,8 @@ pub(crate) fn repeated(
     t: &Turn<'_>,
 ) -> Result<Option<Place>, AllocError>
     requires { IsTurn s.old t.now }
-    ensures value { IfOk result (λ o. (f : Store) → IsLater s.new f → o ≡ option_map place_in (constants.repeated_label [] (constants.switch_labels (context_in f t.now)))) }
+    ensures value { IfOk result (λ o. (f : Store) → IsLater s.new f →
+        o ≡ option_map place_in (constants.repeated_label [] (constants.switch_labels (context_in f t.now)))) }
     ensures grown { IsGrown s.old s.new }
 {
     let _law = s.declarations();

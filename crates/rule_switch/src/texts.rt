@@ -102,7 +102,8 @@ fn pointer_in_word(cells: &[Cell]) -> Option<Pointer>
 
 /// The pointer that the first word of cells is.
 fn pointer_of(cells: &Cells) -> Option<Pointer>
-    ensures { or_undefined 3 (option_map pointer_told result) ≡ (scalar_of scalars.Nullable (cells_within 0 8 cells.now) then (λ p. Gives (pointer_in p))) }
+    ensures { or_undefined 3 (option_map pointer_told result) ≡
+        (scalar_of scalars.Nullable (cells_within 0 8 cells.now) then (λ p. Gives (pointer_in p))) }
 {
     let mut word = [Cell::Undef; WORD];
     let buffer = &mut word[..];

@@ -48,5 +48,6 @@ pub record IsOwnType (s : Store) (t : Written) (k : Kind) (u : ℕ) : Type 0 whe
   pub large : (f : Store) (r : RowId) → IsLater s f → size_row f k u ≡ Some r → is_small_at f u ≡ false →
       own_failing k (context_in f t) ≡ Some r
   pub fits : FitsAs s k u
-  pub unsized : has_size_at s u ≡ false → (f : Store) → IsLater s f → own_failing k (context_in f t) ≡ None  -- then its bytes are not looked at
+  -- then its bytes are not looked at
+  pub unsized : has_size_at s u ≡ false → (f : Store) → IsLater s f → own_failing k (context_in f t) ≡ None
   pub known : IsKnown s u

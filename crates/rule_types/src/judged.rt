@@ -61,8 +61,8 @@ fn own_type(alloc: Global, s: &mut TypeStore, t: &Written<'_>) -> Result<TypeId,
     }
 }
 
-/// Judges a written type: the type that it writes, or the fault of the first row of the table of typing rules that it fails. The answer is that
-/// of every later store. The store may grow in names and types, also where there is a fault.
+/// Judges a written type: the type that it writes, or the fault of the first row of the table of typing rules that it fails. The answer is
+/// that of every later store. The store may grow in names and types, also where there is a fault.
 ///
 /// The node is a shaped type and has these kids, which have been judged. A path means a declaration, of which it is known whether its
 /// values have a size; so much is known of what the parts write, and the base of a type that is spread as well; and the type of a length

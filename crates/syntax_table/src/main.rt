@@ -1,5 +1,5 @@
-//! Prints what files of Hare come to: those that the arguments name, and those that stand as a line each in the standard input, in which `$` stands for
-//! a line feed. What a file comes to is its tree, or its first fault.
+//! Prints what files of Hare come to: those that the arguments name, and those that stand as a line each in the standard input, in which
+//! `$` stands for a line feed. What a file comes to is its tree, or its first fault.
 #![tactic(auto)]
 
 mod answer;

@@ -216,7 +216,8 @@ unfolding infer infer_each is_shaped stops begins_labelled
 compound_assignment = refl
 
 -- fn() void = 5 += 1
-compound_assignment_to_no_place : rules_say (function void [] 0 (operator ki.OpAssign 3 "+=" (number 1 "5" 5) (number 6 "1" 1))) ≡ Fault 28 3
+compound_assignment_to_no_place : rules_say (function void [] 0 (operator ki.OpAssign 3 "+=" (number 1 "5" 5) (number 6 "1" 1))) ≡ Fault 28
+    3
 unfolding infer infer_each is_shaped stops begins_labelled
 compound_assignment_to_no_place = refl
 

@@ -55,7 +55,8 @@ unfolding infer infer_each is_shaped stops begins_labelled
 number_for_a_written_nullable = refl
 
 -- fn() size = size([]int)
-slice_type : rules_say (function size [] 0 (unary ki.Size 1 (unary ki.TypeSlice 6 (word 8 "int")))) ≡ Types (is int ∷ is ints ∷ is size ∷ [])
+slice_type : rules_say (function size [] 0 (unary ki.Size 1 (unary ki.TypeSlice 6 (word 8 "int")))) ≡ Types
+    (is int ∷ is ints ∷ is size ∷ [])
 unfolding infer infer_each is_shaped stops begins_labelled
 slice_type = refl
 
@@ -129,7 +130,8 @@ unfolding infer infer_each is_shaped stops begins_labelled
 union_type = refl
 
 -- fn() size = size((never | never))
-union_of_no_member : rules_say (function size [] 0 (unary ki.Size 1 (binary ki.TypeUnion 6 (word 7 "never") (word 15 "never")))) ≡ Fault 19 6
+union_of_no_member : rules_say (function size [] 0 (unary ki.Size 1 (binary ki.TypeUnion 6 (word 7 "never") (word 15 "never")))) ≡ Fault 19
+    6
 unfolding infer infer_each is_shaped stops begins_labelled
 union_of_no_member = refl
 

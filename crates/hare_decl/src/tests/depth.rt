@@ -19,8 +19,8 @@ fn in_parens(
     fault_of(alloc, &text)
 }
 
-// The parenthesis of number k stands in column 13 + k. A number in 255 parentheses has 255 nodes open round it; with an operator behind it one
-// more, which is known where the operator is read.
+// The parenthesis of number k stands in column 13 + k. A number in 255 parentheses has 255 nodes open round it; with an operator behind it
+// one more, which is known where the operator is read.
 #[test]
 fn nodes_open_round_a_node_are_counted(rt: HostRuntime) -> Result<(), Fail> {
     let rows: [(u32, &str, u32, Option<Stands>); 14] = [
