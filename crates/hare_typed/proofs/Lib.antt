@@ -5,6 +5,7 @@ mod ArithmeticRows
 mod PointerRows
 mod UnionRows
 pub mod RepeatLemmas
+pub mod OriginLemmas
 pub mod KidLemmas
 pub mod CoatLemmas
 pub mod GivenLemmas

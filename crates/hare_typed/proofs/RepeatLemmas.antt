@@ -335,6 +335,10 @@ again-nothing n from cs h = sym (ap (λ x. cs ++ again n x) (drop_all from cs h)
     none zero = refl
     none (suc m) = none m
 
+-- nor does what is not repeated
+pub again-never : (n : ℕ) (part cs : List Cell) → n ≡ 0 → cs ≡ cs ++ again n part
+again-never n part cs e = sym (ap (λ k. cs ++ again k part) e ∙ append-nil cs)
+
 -- ---- back from one repetition to those before it
 
 pub proper_at : (rs : List Repeat) (i : ℕ) (d : Repeat) (cs : List Cell) → i < length rs → FitIn rs cs →
@@ -364,7 +368,7 @@ map_moved-more n rs out new i f t d h e a b s =
 
 -- ---- copies of a range
 
-slice_get-drop : (n : ℕ) (cs : List Cell) (i : ℕ) → slice_get (drop n cs) i ≡ slice_get cs (n + i)
+pub slice_get-drop : (n : ℕ) (cs : List Cell) (i : ℕ) → slice_get (drop n cs) i ≡ slice_get cs (n + i)
 slice_get-drop zero cs i = ap (slice_get cs) (omega arith)
 slice_get-drop (suc n) [] i = refl
 slice_get-drop (suc n) (c ∷ cs) i =

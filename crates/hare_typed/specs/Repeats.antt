@@ -1,7 +1,10 @@
 -- Lists of cells in which a part that stands there often is kept once: each cell that was written, and what is repeated of them.
-use Rattle.std.specs.Prelude.{ℕ, zero, suc, ◌+◌, ◌<◌, ◌≤◌, List, [], ◌∷◌, ◌++◌, length, take, drop}
+use Rattle.std.specs.Prelude.{◌≡◌, ℕ, zero, suc, ◌+◌, ◌-◌, ◌<◌, ◌≤◌, List, [], ◌∷◌, ◌++◌, length, take, drop}
 use Rattle.hare_typed.specs.declared.cell.Cell.{Cell}
 use Rattle.hare_typed.specs.declared.cells.Repeat.{Repeat}
+use Rattle.hare_typed.specs.declared.cells.part.Origin.{Origin}
+use Rattle.hare_typed.specs.declared.cells.part.Origin.TheVariants.{Plain, Repeated, Cut}
+use Rattle.hare_typed.specs.Cells.{cells_within}
 
 -- so many copies, one behind the other
 abbrev pub again : ℕ → List Cell → List Cell
@@ -25,3 +28,12 @@ FitIn (r ∷ rs) cs = (r.from < r.to) × (r.to ≤ length cs) × FitIn rs (with_
 -- the same repetition behind so many other cells
 abbrev pub moved : ℕ → Repeat → Repeat
 moved n r = record { from = n + r.from; to = n + r.to; more = r.more }
+
+-- what the part from one place up to another behind a repetition is of the cells before it; of one that is cut nothing is said
+abbrev pub IsOrigin : Repeat → (from to : ℕ) → Origin → List Cell → Type 0
+IsOrigin r from to (Plain a b) cs =
+    (a ≤ b) × (b ≤ length cs) × (cells_within from (to - from) (with_repeat r cs) ≡ cells_within a (b - a) cs)
+IsOrigin r from to (Repeated a b q) cs =
+    (a ≤ b) × (b ≤ length cs) × (q.from < q.to) × (q.to ≤ b - a) ×
+    (cells_within from (to - from) (with_repeat r cs) ≡ with_repeat q (cells_within a (b - a) cs))
+IsOrigin r from to Cut cs = Unit {0}

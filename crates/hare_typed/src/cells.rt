@@ -5,6 +5,8 @@ ghost use Rattle.hare_typed.specs.declared.cell.Cell.{Cell as CellValue};
 ghost use Rattle.hare_typed.specs.Cells.{cells_within};
 ghost use Rattle.hare_typed.specs.Repeats.{again, moved, with_repeat, repeated, FitIn};
 
+mod part;
+
 use crate::cell::Cell;
 use std::alloc::{AllocError, Global};
 use std::marker::Model;
@@ -165,7 +167,7 @@ impl Cells {
         ensures err { OnErr result (self.new ≡ self.old) }
     {
         let to = self.count;
-        if to <= from {
+        if to <= from || more == 0 {
             return Ok(());
         }
         let Some(added) = (to - from).checked_mul(more) else {

@@ -102,3 +102,23 @@ fn repeated_cells_stand_once(rt: HostRuntime) -> Result<(), Fail> {
     assert!(rt; read == [Cell::Undef, Cell::Byte(7), Cell::Undef]);
     Ok(())
 }
+
+#[test]
+fn parts_keep_what_is_repeated(rt: HostRuntime) -> Result<(), Fail> {
+    let mut whole = Cells::new(rt.alloc());
+    whole.push(Cell::Byte(1))?;
+    whole.push(Cell::Byte(2))?;
+    whole.push(Cell::Byte(3))?;
+    whole.repeat(1, 4_611_686_018_427_387_000)?;
+    whole.push(Cell::Byte(4))?;
+    let part = whole.part(rt.alloc(), 1, 9_223_372_036_854_774_003)?;
+    assert_eq!(rt; part.len(), 9_223_372_036_854_774_003);
+    assert!(rt; part.get(0) == Some(Cell::Byte(2)));
+    assert!(rt; part.get(9_223_372_036_854_774_001) == Some(Cell::Byte(3)));
+    assert!(rt; part.get(9_223_372_036_854_774_002) == Some(Cell::Byte(4)));
+    let cut = whole.part(rt.alloc(), 2, 2)?;
+    assert_eq!(rt; cut.len(), 2);
+    assert!(rt; cut.get(0) == Some(Cell::Byte(3)));
+    assert!(rt; cut.get(1) == Some(Cell::Byte(2)));
+    Ok(())
+}
