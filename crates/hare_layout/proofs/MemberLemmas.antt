@@ -131,7 +131,14 @@ pub members-decide : (s : Store) → IsStore s → (a b : ℕ) (is js : List ℕ
 members-decide s v a b is js e g =
     let first = tree_at_row s v a (row.Union is) e in
     let second = tree_at_row s v b (row.Union js) g in (
-      λ h. (trees_of (map (tree_in (trees s.rows)) is), trees_of (map (tree_in (trees s.rows)) js), first, second, all_to_trees s v is js h),
+      λ h. (
+        trees_of (map (tree_in (trees s.rows)) is),
+        trees_of (map (tree_in (trees s.rows)) js),
+        first,
+        second,
+        all_to_trees s v is js
+            h,
+      ),
       λ h. back h first second,
     )
   where

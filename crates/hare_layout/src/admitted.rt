@@ -44,21 +44,22 @@ fn is_too_large(s: &TypeStore, t: &Reduced) -> bool
     }
 }
 
-/// Reduces a spelled type, and takes it into the store: unnamed unions among the members of a union are flattened, a member that is spread is
-/// replaced by the members of the union that it is, never is dropped, and equal members are joined; one member alone is that member. The ids
-/// in `r` are of the store.
+/// Reduces a spelled type, and takes it into the store: unnamed unions among the members of a union are flattened, a member that is spread
+/// is replaced by the members of the union that it is, never is dropped, and equal members are joined; one member alone is that member. The
+/// ids in `r` are of the store.
 ///
 /// What is wrong with the type is told by the first of these faults, each of which but the first stands at `place`:
 ///
 /// - E35 at the first member that is spread, and whose base is no union, or is not defined;
-/// - E17, where an array's or a slice's element, a struct's field, a tuple's component or a member that is left of a union has no size. A named
+/// - E17, where an array's or a slice's element, a struct's field, a tuple's component or a member that is left of a union has no size. A
+/// named
 ///   type of which it is not declared whether it has a size counts as one that has;
 /// - E19, where no member is left;
 /// - E20, where more than 64 members are left;
 /// - E18, where the type has more than 67,108,864 bytes. It is looked at only where each name that the type holds by value is defined.
 ///
-/// So the type that is given has at most 67,108,864 bytes, and is small enough for `size_of`, wherever its extent is known. After a fault, and where there is not enough memory,
-/// the store is as it was.
+/// So the type that is given has at most 67,108,864 bytes, and is small enough for `size_of`, wherever its extent is known. After a fault,
+/// and where there is not enough memory, the store is as it was.
 pub fn admit(
     alloc: Global,
     s: &mut TypeStore,

@@ -10,8 +10,8 @@ pub fn law_layout_stays()
     ensures { LayoutStays }
 {}
 
-/// What a spelled type is reduced to, and what is wrong with it, over a store, is so over each later store. It rests on the bases
-/// of the members that are spread, on whether what has to have a size has one, and on the definitions of the names that it holds by value: where
+/// What a spelled type is reduced to, and what is wrong with it, over a store, is so over each later store. It rests on the bases of the
+/// members that are spread, on whether what has to have a size has one, and on the definitions of the names that it holds by value: where
 /// one of these is not known yet, the judgement may change.
 pub fn law_judgements_stay()
     ensures { JudgementsStay }
@@ -36,8 +36,8 @@ pub fn law_payloads_lie_within()
     ensures { PayloadsLieWithin }
 {}
 
-/// A type of at most 67,108,864 bytes is small enough for `size_of`, `align_of`, `offset_of` and `payload_of`. So are then its parts, but for
-/// the items of an array that has none: the types that it holds by value, what bears its error mark, what its name is defined to be.
+/// A type of at most 67,108,864 bytes is small enough for `size_of`, `align_of`, `offset_of` and `payload_of`. So are then its parts, but
+/// for the items of an array that has none: the types that it holds by value, what bears its error mark, what its name is defined to be.
 pub fn law_small_types()
     ensures { SmallTypes }
 {}

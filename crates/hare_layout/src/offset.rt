@@ -16,7 +16,8 @@ use hare_types::{TypeId, TypeStore};
 /// Where field `k` of a struct or tuple begins, by what the store tells of the extents of its fields.
 fn start_of(s: &TypeStore, t: TypeId, k: usize) -> Option<u128>
     requires within { t < length s.now.rows }
-    ensures value { (r : RowOf) (xs : List ExtentOf) → row_at s.now t ≡ Some r → all_known (extent_at s.now) (parts_of r) ≡ Some xs → result ≡ field_start 0 (map told xs) k }
+    ensures value { (r : RowOf) (xs : List ExtentOf) → row_at s.now t ≡ Some r → all_known (extent_at s.now) (parts_of r) ≡ Some xs →
+        result ≡ field_start 0 (map told xs) k }
 {
     let row = s.row(t);
     if k >= part_count(row) {

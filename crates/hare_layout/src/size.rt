@@ -10,8 +10,8 @@ use hare_types::{Extent, TypeId, TypeStore};
 /// The greatest size of a type, in bytes.
 pub(crate) const MOST_BYTES: u64 = 67_108_864;
 
-/// Whether `size_of`, `align_of`, `offset_of` and `payload_of` may be asked of a type: its extent is known, and has at most 67,108,864 bytes. The
-/// time is constant.
+/// Whether `size_of`, `align_of`, `offset_of` and `payload_of` may be asked of a type: its extent is known, and has at most 67,108,864
+/// bytes. The time is constant.
 pub fn is_small(s: &TypeStore, t: TypeId) -> bool
     ensures { IsTrue result ↔ IsSmall s.now t }
 {

@@ -181,7 +181,8 @@ pub traced-all : (rs : List Repeat) (cs : List Cell) (from to left first end : �
 traced-all rs cs from to left first end inside new ws k z e w =
     let none : left ≡ 0 = omega arith in
     let start : repeated (take left rs) cs ≡ cs = ap (λ n. repeated (take n rs) cs) none in
-    let cells : cells_within first (end - first) (repeated (take left rs) cs) ≡ ws = ap (cells_within first (end - first)) start ∙ sym w in (
+    let cells : cells_within first (end - first) (repeated (take left rs) cs) ≡ ws =
+    ap (cells_within first (end - first)) start ∙ sym w in (
       subst (λ xs. FitIn xs ws) (sym e) (subst (FitIn (reverse inside)) cells k.fit),
       ap (λ xs. repeated xs ws) e ∙ ap (repeated (reverse inside)) (sym cells) ∙ k.same,
     )

@@ -119,8 +119,7 @@ or_else None b = b
 or_else (Some t) b = Some t
 
 -- The first node of a value, in check order, that is not constant or whose evaluation would abort; which ones abort is said by `aborts`.
--- Types
--- are passed over, with all that stands in them.
+-- Types are passed over, with all that stands in them.
 abbrev mutual
   pub first_inconstant : Store → (TypedNode → Bool) → TypedNode → Option TypedNode
   first_inconstant s aborts (marked h m ts) =

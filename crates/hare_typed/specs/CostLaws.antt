@@ -41,8 +41,7 @@ WeightsStay =
 -- ---- marks
 
 -- Two trees are one but for their marks, and at the top they have the same types and coercions, and their kids give the same types.
--- Numbers,
--- meanings and constants are not looked at, nor any mark further below.
+-- Numbers, meanings and constants are not looked at, nor any mark further below.
 pub record SameAbove (t u : TypedNode) : Type 0 where
   pub trees : erase t ≡ erase u
   pub types : (mark_of t).ty ≡ (mark_of u).ty

@@ -19,7 +19,8 @@ struct Repeat {
     more: usize,
 }
 
-/// The cells of a value, in the order of their addresses, which contracts see as the list of them all. A part that is repeated takes the memory of one.
+/// The cells of a value, in the order of their addresses, which contracts see as the list of them all. A part that is repeated takes the
+/// memory of one.
 #[derive(Drop)]
 pub struct Cells {
     /// Each cell that was put there, once.
@@ -130,7 +131,8 @@ impl Cells {
         self.written.as_slice()
     }
 
-    /// Copies the cells from a place on, as many as there is room for, and says whether there are so many. Nothing is copied where there are not.
+    /// Copies the cells from a place on, as many as there is room for, and says whether there are so many. Nothing is copied where there
+    /// are not.
     pub fn read(&self, at: usize, out: &mut [Cell]) -> bool
         ensures known { IsTrue result ↔ at + length out.old ≤ length self.now }
         ensures cells { out.new ≡ (if result then cells_within at (length out.old) self.now else out.old) }
@@ -160,7 +162,8 @@ impl Cells {
         Ok(())
     }
 
-    /// Puts the cells from a place on so many times more at the end. Takes the memory of one repetition, however many cells they are; more cells than a
+    /// Puts the cells from a place on so many times more at the end. Takes the memory of one repetition, however many cells they are; more
+    /// cells than a
     /// `usize` counts are want of memory too. Nothing changes where memory is short.
     pub fn repeat(&mut self, from: usize, more: usize) -> Result<(), AllocError>
         ensures ok { OnOk result (self.new ≡ self.old ++ again more (drop from self.old)) }
@@ -181,8 +184,8 @@ impl Cells {
         Ok(())
     }
 
-    /// Puts the cells of `other` at the end. Takes the memory that these take; more cells than a `usize` counts are want of memory too. Nothing changes
-    /// where memory is short.
+    /// Puts the cells of `other` at the end. Takes the memory that these take; more cells than a `usize` counts are want of memory too.
+    /// Nothing changes where memory is short.
     pub fn append(&mut self, alloc: Global, other: &Cells) -> Result<(), AllocError>
         ensures ok { OnOk result (self.new ≡ self.old ++ other.now) }
         ensures err { OnErr result (self.new ≡ self.old) }

@@ -10,7 +10,8 @@ pub enum Const {
     Absent,
     /// The value.
     Known {
-        /// The value's cells. A fragment names the object of a global by the number of its declaration, and any other object as in `objects`.
+        /// The value's cells. A fragment names the object of a global by the number of its declaration, and any other object as in
+        /// `objects`.
         cells: Cells,
         /// The objects of string literals, and of arrays that became slices, to which the cells lead, directly or through such objects, by
         /// ascending number.

@@ -10,10 +10,10 @@ use crate::exits::{Round, leaving_from};
 use crate::typed::{Typed, TypedKids};
 use hare_tree::Kind;
 
-/// How many copies the node of a declaration has that has this number, once the deferred expressions stand where they run: `docs/LANGUAGE.md` says
-/// how they are counted. Of several nodes with the number the first in check order is meant; where no numbered node has it there are none. It stops
-/// at the greatest `u64`. Takes no memory. The time is linear in the size of the declaration, but for the labels of what leaves blocks: each is
-/// looked for among the nodes round it.
+/// How many copies the node of a declaration has that has this number, once the deferred expressions stand where they run:
+/// `docs/LANGUAGE.md` says how they are counted. Of several nodes with the number the first in check order is meant; where no numbered node
+/// has it there are none. It stops at the greatest `u64`. Takes no memory. The time is linear in the size of the declaration, but for the
+/// labels of what leaves blocks: each is looked for among the nodes round it.
 pub fn copies(f: &Typed, node: u32) -> u64
     ensures { result ≡ min (spec.copies_of f.now node) u64.MAX }
 {
@@ -124,7 +124,8 @@ fn times_in_kid(
     is_block: bool,
     node: u32,
 ) -> Option<u64>
-    ensures { result ≡ capped (find (spec.has_number node) (spec.copied 1 (if is_block then spec.deferred_copies 1 (typed_nodes (drop behind kids.now)) else 1) t.now)) }
+    ensures { result ≡ capped (find (spec.has_number node)
+        (spec.copied 1 (if is_block then spec.deferred_copies 1 (typed_nodes (drop behind kids.now)) else 1) t.now)) }
 {
     if !is_block || !is_defer(t.kind) {
         return times_in(t, node);

@@ -7,7 +7,8 @@ use crate::typed::{Typed, TypedKids};
 use hare_tree::{Kids, Tree, Word};
 use std::alloc::{AllocError, Global};
 
-/// The tree without what checking found: its kinds, places, texts, numbers, suffixes and kids. The call goes as deep in the host as the tree is.
+/// The tree without what checking found: its kinds, places, texts, numbers, suffixes and kids. The call goes as deep in the host as the
+/// tree is.
 #[cycle(erase)]
 pub fn erase(alloc: Global, t: &Typed) -> Result<Tree, AllocError>
     ensures { IfOk result (λ u. u ≡ erased t.now) }

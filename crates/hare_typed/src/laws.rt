@@ -2,8 +2,8 @@
 
 ghost use Rattle.hare_typed.specs.CostLaws.{AllOrdersAgree, WeightsStay, CostsAreOfMarks};
 
-/// Check order is that of the untyped tree; copies are counted of just the numbered nodes, in their order; and in a declaration of a checked program
-/// the number of a node is how many numbered nodes stand before it.
+/// Check order is that of the untyped tree; copies are counted of just the numbered nodes, in their order; and in a declaration of a
+/// checked program the number of a node is how many numbered nodes stand before it.
 pub fn law_orders_agree()
     ensures { AllOrdersAgree }
 {}
@@ -14,8 +14,8 @@ pub fn law_weights_stay()
     ensures { WeightsStay }
 {}
 
-/// The weight and the size of a node are those of its own type and coercion and of what its kids give, and copies are those of the untyped tree: a
-/// mark that is changed elsewhere changes none.
+/// The weight and the size of a node are those of its own type and coercion and of what its kids give, and copies are those of the untyped
+/// tree: a mark that is changed elsewhere changes none.
 #[tactic(auto, using(crate::proofs::LocalCosts::costs_are_of_marks))]
 pub fn law_costs_are_of_marks()
     ensures { CostsAreOfMarks }

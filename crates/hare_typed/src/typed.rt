@@ -32,7 +32,8 @@ impl Model for TypedKids {
 
     ghost Value = { List TypedNode };
 
-    ghost coded = { coded_list (typed_code (Prim.hlevel (codes, k.the_row.coded, p.the_row.coded, s.the_row.coded)) (Prim.hlevel (codes, t.the_row.coded, c.the_row.coded, m.the_row.coded, v.the_row.coded))) };
+    ghost coded = { coded_list (typed_code (Prim.hlevel (codes, k.the_row.coded, p.the_row.coded, s.the_row.coded))
+        (Prim.hlevel (codes, t.the_row.coded, c.the_row.coded, m.the_row.coded, v.the_row.coded))) };
 
     ghost view = { λ a. map (λ b. b.value) a.trees.items };
 
@@ -84,7 +85,8 @@ impl Model for Typed {
 
     ghost Value = { TypedNode };
 
-    ghost coded = { typed_code (Prim.hlevel (codes, k.the_row.coded, p.the_row.coded, s.the_row.coded)) (Prim.hlevel (codes, t.the_row.coded, c.the_row.coded, m.the_row.coded, v.the_row.coded)) };
+    ghost coded = { typed_code (Prim.hlevel (codes, k.the_row.coded, p.the_row.coded, s.the_row.coded))
+        (Prim.hlevel (codes, t.the_row.coded, c.the_row.coded, m.the_row.coded, v.the_row.coded)) };
 
     ghost view = { λ a. marked record {
       kind = a.kind;

@@ -10,7 +10,8 @@ pub fn law_cells_spell()
     ensures { CellsSpell }
 {}
 
-/// An operation that follows a pointer looks at the object that this names: over two lists of objects that are alike there it gives the same.
+/// An operation that follows a pointer looks at the object that this names: over two lists of objects that are alike there it gives the
+/// same.
 #[tactic(auto, using(crate::proofs::AlikeLemmas::looks_where_pointed))]
 pub fn law_looks_where_pointed()
     ensures { LooksWherePointed }
@@ -22,8 +23,8 @@ pub fn law_constants_are_quiet()
     ensures { ConstantsAreQuiet }
 {}
 
-/// The value of a tree that is constant rests on no object but static ones: in two states in which these are the same, its evaluation ends alike,
-/// makes the same objects and adds as many ticks.
+/// The value of a tree that is constant rests on no object but static ones: in two states in which these are the same, its evaluation ends
+/// alike, makes the same objects and adds as many ticks.
 #[tactic(auto, using(crate::proofs::Steady::Trees::constants_look_at_statics))]
 pub fn law_constants_look_at_statics()
     ensures { ConstantsLookAtStatics }

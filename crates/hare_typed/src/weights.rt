@@ -12,7 +12,8 @@ use hare_types::{Coercion, TypeStore};
 /// The row of the table of assignability that gives a union.
 const TO_UNION: u8 = 9;
 
-/// What the evaluation of a node may cost, and how much code it may take: `docs/LANGUAGE.md` says how it is counted. It stops at the greatest
+/// What the evaluation of a node may cost, and how much code it may take: `docs/LANGUAGE.md` says how it is counted. It stops at the
+/// greatest
 /// `u64`. Takes no memory, and constant time: of what stands below the node its kids' types are looked at, and how many there are.
 pub fn weight(s: &TypeStore, t: &Typed) -> u64
     ensures { result ≡ min (spec.weight_of s.now t.now) u64.MAX }

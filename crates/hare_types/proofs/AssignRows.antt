@@ -12,8 +12,10 @@ abbrev named : Store
 named = record {
   names = [];
   rows = row.Scalar keyword.Int ∷ row.Scalar keyword.U8 ∷ row.Nullable 1 ∷ row.Slice 1 ∷ row.Union (0 ∷ 1 ∷ []) ∷ [];
-  declared = (0, record { sized = true; definition = Some 0 }) ∷ (1, record { sized = true; definition = Some 0 }) ∷ (2, record { sized = true; definition = Some 1 }) ∷
-      (3, record { sized = true; definition = Some 2 }) ∷ (4, record { sized = true; definition = Some 3 }) ∷ (5, record { sized = true; definition = Some 4 }) ∷ [];
+  declared = (0, record { sized = true; definition = Some 0 }) ∷ (1, record { sized = true; definition = Some 0 }) ∷
+      (2, record { sized = true; definition = Some 1 }) ∷
+      (3, record { sized = true; definition = Some 2 }) ∷ (4, record { sized = true; definition = Some 3 }) ∷
+      (5, record { sized = true; definition = Some 4 }) ∷ [];
   listed = [];
 }
 

@@ -23,17 +23,28 @@ own m zero t u e = e
 own m (suc n) t u e = e
 
 module _ (s : Store) (v : IsStore s) (ks : ℕ → Option ℕ) (sound : (i b : ℕ) → ks i ≡ Some b → IsBaseOf s i b) where
-  itself : (t : ℕ) (r : Row) → slice_get s.rows t ≡ Some r → following base_with (meaning_of s) 0 (tree_of (trees s.rows) r) ≡ Some (tree_of (trees s.rows) r) → (b : ℕ) → Some t ≡ Some b → IsBaseOf s t b
+  itself : (t : ℕ) (r : Row) → slice_get s.rows t ≡ Some r → following base_with (meaning_of s) 0 (tree_of (trees s.rows) r) ≡ Some
+      (tree_of (trees s.rows) r) → (b : ℕ) → Some t ≡ Some b → IsBaseOf s t b
   itself t r h e b f =
       let same : t ≡ b = cc in
-      let tree = tree_at_row s v t r h in
-      (tree_of (trees s.rows) r, tree_of (trees s.rows) r, tree, subst (λ n. tree_at s n ≡ Some (tree_of (trees s.rows) r)) same tree, (0, e))
+      let tree = tree_at_row s v t r h in (
+        tree_of (trees s.rows) r,
+        tree_of (trees s.rows) r,
+        tree,
+        subst (λ n. tree_at s n ≡ Some (tree_of (trees s.rows) r)) same tree,
+        (0, e),
+      )
 
   by_mark : (t j : ℕ) → slice_get s.rows t ≡ Some (row.Error j) → (b : ℕ) → ks j ≡ Some b → IsBaseOf s t b
   by_mark t j h b e =
       let w = sound j b e in
-      let tree : tree_in (trees s.rows) j ≡ w.0 = get_or_from_slice_get (trees s.rows) j w.0 (Scalar keyword.Void) w.2 in
-      (Error w.0, w.1, tree_at_row s v t (row.Error j) h ∙ ap (λ u. Some (Error u)) tree, w.3, (w.4.0, own (meaning_of s) w.4.0 w.0 w.1 w.4.1))
+      let tree : tree_in (trees s.rows) j ≡ w.0 = get_or_from_slice_get (trees s.rows) j w.0 (Scalar keyword.Void) w.2 in (
+        Error w.0,
+        w.1,
+        tree_at_row s v t (row.Error j) h ∙ ap (λ u. Some (Error u)) tree,
+        w.3,
+        (w.4.0, own (meaning_of s) w.4.0 w.0 w.1 w.4.1),
+      )
 
   by_name : (t d : ℕ) → slice_get s.rows t ≡ Some (row.Named d) → (b : ℕ) → option_and_then ks (definition_of s d) ≡ Some b → IsBaseOf s t b
   by_name t d h b e = by (definition_of s d) refl e
@@ -42,8 +53,13 @@ module _ (s : Store) (v : IsStore s) (ks : ℕ → Option ℕ) (sound : (i b : �
       by None k g = absurd cc
       by (Some q) k g =
           let w = sound q b g in
-          let meaning : meaning_of s d ≡ Some w.0 = ap (option_and_then (tree_at s)) k ∙ w.2 in
-          (Named d, w.1, tree_at_row s v t (row.Named d) h, w.3, (suc w.4.0, ap (option_and_then (following base_with (meaning_of s) w.4.0)) meaning ∙ w.4.1))
+          let meaning : meaning_of s d ≡ Some w.0 = ap (option_and_then (tree_at s)) k ∙ w.2 in (
+            Named d,
+            w.1,
+            tree_at_row s v t (row.Named d) h,
+            w.3,
+            (suc w.4.0, ap (option_and_then (following base_with (meaning_of s) w.4.0)) meaning ∙ w.4.1),
+          )
 
   -- what follows for a row is its base
   pub base-step : (t : ℕ) (r : Row) → slice_get s.rows t ≡ Some r → (b : ℕ) → base_over (definition_of s) ks t r ≡ Some b → IsBaseOf s t b
@@ -69,7 +85,8 @@ by_names : (s : Store) (n : ℕ) (u : Tree) → base_with (names s n) u ≡ foll
 by_names s zero u = refl
 by_names s (suc n) u = refl
 
-module _ (s : Store) (v : IsStore s) (ks : ℕ → Option ℕ) (settled : (i : ℕ) (r : Row) → slice_get s.rows i ≡ Some r → ks i ≡ None → base_over (defined s.declared) ks i r ≡ None) where
+module _ (s : Store) (v : IsStore s) (ks : ℕ → Option ℕ)
+    (settled : (i : ℕ) (r : Row) → slice_get s.rows i ≡ Some r → ks i ≡ None → base_over (defined s.declared) ks i r ≡ None) where
   abbrev Found : ℕ → Type 0
   Found i = (b : ℕ) × (ks i ≡ Some b)
 
@@ -85,7 +102,8 @@ module _ (s : Store) (v : IsStore s) (ks : ℕ → Option ℕ) (settled : (i : �
   abbrev Complete : ℕ → ℕ → Type 0
   Complete n b = (j : ℕ) → j < b → (u : Tree) → base_with (names s n) (tree_in (trees s.rows) j) ≡ Some u → Found j
 
-  of_row : (n : ℕ) → ((k : ℕ) → suc k ≡ n → Complete k (length s.rows)) → (i : ℕ) (r : Row) → slice_get s.rows i ≡ Some r → Complete n i → (u : Tree)
+  of_row : (n : ℕ) → ((k : ℕ) → suc k ≡ n → Complete k (length s.rows)) → (i : ℕ) (r : Row) → slice_get s.rows i ≡ Some r → Complete n i →
+      (u : Tree)
       → base_with (names s n) (tree_of (trees s.rows) r) ≡ Some u → Found i
   of_row n fewer i (row.Scalar k) here below u e = must i (row.Scalar k) here i refl
   of_row n fewer i (row.Pointer j) here below u e = must i (row.Pointer j) here i refl
@@ -101,11 +119,14 @@ module _ (s : Store) (v : IsStore s) (ks : ℕ → Option ℕ) (settled : (i : �
   of_row zero fewer i (row.Named d) here below u e = absurd cc
   of_row (suc n) fewer i (row.Named d) here below u e = by (defined s.declared d) refl e
     where
-      by : (o : Option ℕ) → defined s.declared d ≡ o → option_and_then (following base_with (meaning_of s) n) (option_and_then (tree_at s) o) ≡ Some u → Found i
+      by : (o : Option ℕ) → defined s.declared d ≡ o → option_and_then (following base_with (meaning_of s) n)
+          (option_and_then (tree_at s) o) ≡ Some u → Found i
       by None f g = absurd cc
       by (Some t) f g =
-          let tree : tree_at s t ≡ Some (tree_in (trees s.rows) t) = slice_get-get_or (trees s.rows) t (Scalar keyword.Void) (omega (arith, v.defined_within d t f, length-trees s.rows)) in
-          let inner = fewer n refl t (v.defined_within d t f) u (by_names s n (tree_in (trees s.rows) t) ∙ sym (ap (option_and_then (following base_with (meaning_of s) n)) tree) ∙ g) in
+          let tree : tree_at s t ≡ Some (tree_in (trees s.rows) t) =
+          slice_get-get_or (trees s.rows) t (Scalar keyword.Void) (omega (arith, v.defined_within d t f, length-trees s.rows)) in
+          let inner = fewer n refl t (v.defined_within d t f) u
+          (by_names s n (tree_in (trees s.rows) t) ∙ sym (ap (option_and_then (following base_with (meaning_of s) n)) tree) ∙ g) in
           must i (row.Named d) here inner.0 (ap (option_and_then ks) f ∙ inner.1)
 
   up_to : (n : ℕ) → ((k : ℕ) → suc k ≡ n → Complete k (length s.rows)) → (b : ℕ) → b ≤ length s.rows → Complete n b
@@ -119,7 +140,8 @@ module _ (s : Store) (v : IsStore s) (ks : ℕ → Option ℕ) (settled : (i : �
           let r = slice_index_or s.rows j (row.Scalar keyword.Void) in
           let here : slice_get s.rows j ≡ Some r = slice_get-get_or s.rows j (row.Scalar keyword.Void) (omega arith) in
           of_row n fewer j r here (subst (Complete n) same ih) u
-          (sym (ap (base_with (names s n)) (get_or_from_slice_get (trees s.rows) j (tree_of (trees s.rows) r) (Scalar keyword.Void) (tree_at_row s v j r here))) ∙ e)
+          (sym (ap (base_with (names s n))
+          (get_or_from_slice_get (trees s.rows) j (tree_of (trees s.rows) r) (Scalar keyword.Void) (tree_at_row s v j r here))) ∙ e)
 
   complete : (n : ℕ) → Complete n (length s.rows)
   complete zero = up_to zero (λ k e. absurd (omega arith)) (length s.rows) (omega arith)

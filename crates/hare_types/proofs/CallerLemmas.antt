@@ -30,7 +30,14 @@ pub Continues-trans : {A : Type 0} (xs ys zs : List A) → Continues xs ys → C
 Continues-trans xs ys zs a b = (a.0 ++ b.0, b.1 ∙ ap (λ l. l ++ b.0) a.1 ∙ append_assoc xs a.0 b.0)
 
 pub Extends-refl : (s : Store) → Extends s s
-Extends-refl s = record { names = Continues-refl s.names; rows = Continues-refl s.rows; listed = Continues-refl s.listed; sized = λ d b e. e; defined = λ d t e. e }
+Extends-refl s = record {
+  names = Continues-refl s.names;
+  rows = Continues-refl s.rows;
+  listed = Continues-refl s.listed;
+  sized =
+      λ d b e. e;
+  defined = λ d t e. e;
+}
 
 pub Extends-trans : (a b c : Store) → Extends a b → Extends b c → Extends a c
 Extends-trans a b c h k = record {

@@ -9,8 +9,10 @@ use Rattle.hare_types.specs.Waiting.{nowhere, blank, kept_at, Among, AreDistinct
 
 -- ---- one row's entry is replaced
 
-pub kept-same : {A : Type 0} (f : Kept → A) (ks : List Kept) (i : ℕ) (k : Kept) → f k ≡ f (kept_at ks i) → (j : ℕ) → f (kept_at (set ks i k) j) ≡ f (kept_at ks j)
-kept-same f ks i k e j = sym (get_or-map f (set ks i k) j blank) ∙ ap (λ l. get_or l j (f blank)) (map-set_same f ks i k blank e) ∙ get_or-map f ks j blank
+pub kept-same : {A : Type 0} (f : Kept → A) (ks : List Kept) (i : ℕ) (k : Kept) → f k ≡ f (kept_at ks i) → (j : ℕ) →
+    f (kept_at (set ks i k) j) ≡ f (kept_at ks j)
+kept-same f ks i k e j =
+    sym (get_or-map f (set ks i k) j blank) ∙ ap (λ l. get_or l j (f blank)) (map-set_same f ks i k blank e) ∙ get_or-map f ks j blank
 
 pub kept-here : (ks : List Kept) (i : ℕ) (k : Kept) → i < length ks → kept_at (set ks i k) i ≡ k
 kept-here ks i k l = get_or-set_same ks i k blank l
@@ -25,7 +27,8 @@ equal_or_not i j = by (nat_eq i j) refl
     by true e = inl ((unsigned_Decides i j).0 e)
     by false e = inr (λ h. true≢false (sym ((unsigned_Decides i j).1 h) ∙ e))
 
-pub KeepsFound-set : (ks : List Kept) (i : ℕ) (k : Kept) → k.extent ≡ (kept_at ks i).extent → k.root ≡ (kept_at ks i).root → KeepsFound ks (set ks i k)
+pub KeepsFound-set : (ks : List Kept) (i : ℕ) (k : Kept) → k.extent ≡ (kept_at ks i).extent → k.root ≡ (kept_at ks i).root →
+    KeepsFound ks (set ks i k)
 KeepsFound-set ks i k e f = record {
   extents = map-set_same (λ k. k.extent) ks i k blank e;
   roots = map-set_same (λ k. k.root) ks i k blank f;
@@ -51,7 +54,8 @@ with_list-there lists n xs m other = by (nat_eq n m) refl
     by false e = ap (λ b. cond b xs (lists m)) e
 
 -- what stands in a list stood there, or is new
-pub with_list-from : (lists : ℕ → List ℕ) (n : ℕ) (xs : List ℕ) (m i : ℕ) → Among (with_list lists n xs m) i → ((n ≡ m) × Among xs i) ⊎ (¬ (n ≡ m) × Among (lists m) i)
+pub with_list-from : (lists : ℕ → List ℕ) (n : ℕ) (xs : List ℕ) (m i : ℕ) → Among (with_list lists n xs m) i →
+    ((n ≡ m) × Among xs i) ⊎ (¬ (n ≡ m) × Among (lists m) i)
 with_list-from lists n xs m i h = by (equal_or_not n m)
   where
     by : (n ≡ m) ⊎ (¬ (n ≡ m)) → ((n ≡ m) × Among xs i) ⊎ (¬ (n ≡ m) × Among (lists m) i)
@@ -60,10 +64,15 @@ with_list-from lists n xs m i h = by (equal_or_not n m)
 
 -- ---- chains
 
-pub Chain-same : (ks new : List Kept) → length new ≡ length ks → (xs : List ℕ) (h : ℕ) → ((i : ℕ) → Among xs i → (kept_at new i).next ≡ (kept_at ks i).next) → Chain ks h xs → Chain new h xs
+pub Chain-same : (ks new : List Kept) → length new ≡ length ks → (xs : List ℕ) (h : ℕ) →
+    ((i : ℕ) → Among xs i → (kept_at new i).next ≡ (kept_at ks i).next) → Chain ks h xs → Chain new h xs
 Chain-same ks new len [] h same c = c
-Chain-same ks new len (x ∷ xs) h same c =
-    (c.0, omega (arith, c.1, len), Chain-same ks new len xs (kept_at new x).next (λ i m. same i (inr m)) (subst (λ n. Chain ks n xs) (sym (same x (inl refl))) c.2))
+Chain-same ks new len (x ∷ xs) h same c = (
+  c.0,
+  omega (arith, c.1, len),
+  Chain-same ks new len xs (kept_at new x).next (λ i m. same i (inr m))
+      (subst (λ n. Chain ks n xs) (sym (same x (inl refl))) c.2),
+)
 
 pub Chain-below : (ks : List Kept) (xs : List ℕ) (h : ℕ) → Chain ks h xs → (i : ℕ) → Among xs i → i < length ks
 Chain-below ks [] h c i m = absurd m
@@ -76,9 +85,11 @@ Chain-nowhere ks few [] h e c = refl
 Chain-nowhere ks few (x ∷ xs) h e c = absurd (omega (arith, e, c.0, c.1, few))
 
 -- one that begins somewhere has something
-pub Chain-somewhere : (ks : List Kept) (xs : List ℕ) (h : ℕ) → ¬ (h ≡ nowhere) → Chain ks h xs → (ys : List ℕ) × (xs ≡ h ∷ ys) × (h < length ks) × Chain ks (kept_at ks h).next ys
+pub Chain-somewhere : (ks : List Kept) (xs : List ℕ) (h : ℕ) → ¬ (h ≡ nowhere) → Chain ks h xs → (ys : List ℕ) × (xs ≡ h ∷ ys) ×
+    (h < length ks) × Chain ks (kept_at ks h).next ys
 Chain-somewhere ks [] h other c = absurd (other c)
-Chain-somewhere ks (x ∷ xs) h other c = (xs, ap (λ n. n ∷ xs) (sym c.0), subst (λ n. n < length ks) (sym c.0) c.1, subst (λ n. Chain ks (kept_at ks n).next xs) (sym c.0) c.2)
+Chain-somewhere ks (x ∷ xs) h other c =
+    (xs, ap (λ n. n ∷ xs) (sym c.0), subst (λ n. n < length ks) (sym c.0) c.1, subst (λ n. Chain ks (kept_at ks n).next xs) (sym c.0) c.2)
 
 -- the last of a list is one of it
 pub ends-among : (x : ℕ) (xs : List ℕ) (z : ℕ) → EndsWith (x ∷ xs) z → Among (x ∷ xs) z
@@ -86,12 +97,17 @@ ends-among x [] z e = inl e
 ends-among x (y ∷ xs) z e = inr (ends-among y xs z e)
 
 -- two lists one behind another, once the last of the first is linked to the other
-pub Chain-append : (ks new : List Kept) → length new ≡ length ks → (x : ℕ) (xs : List ℕ) (h z p : ℕ) (ys : List ℕ) → EndsWith (x ∷ xs) z → AreDistinct (x ∷ xs) → ((i : ℕ) → ¬ (i ≡ z) → (kept_at new i).next ≡ (kept_at ks i).next)
+pub Chain-append : (ks new : List Kept) → length new ≡ length ks → (x : ℕ) (xs : List ℕ) (h z p : ℕ) (ys : List ℕ) → EndsWith (x ∷ xs) z →
+    AreDistinct (x ∷ xs) → ((i : ℕ) → ¬ (i ≡ z) → (kept_at new i).next ≡ (kept_at ks i).next)
     → (kept_at new z).next ≡ p → Chain new p ys → Chain ks h (x ∷ xs) → Chain new h ((x ∷ xs) ++ ys)
 Chain-append ks new len x [] h z p ys e d same link rest c =
     (c.0, omega (arith, c.1, len), subst (λ n. Chain new n ys) (sym (ap (λ n. (kept_at new n).next) e ∙ link)) rest)
-Chain-append ks new len x (y ∷ xs) h z p ys e d same link rest c =
-    (c.0, omega (arith, c.1, len), Chain-append ks new len y xs (kept_at new x).next z p ys e d.1 same link rest (subst (λ n. Chain ks n (y ∷ xs)) (sym (same x other)) c.2))
+Chain-append ks new len x (y ∷ xs) h z p ys e d same link rest c = (
+  c.0,
+  omega (arith, c.1, len),
+  Chain-append ks new len y xs (kept_at new x).next z p ys e d.1 same link rest
+      (subst (λ n. Chain ks n (y ∷ xs)) (sym (same x other)) c.2),
+)
   where
     other : ¬ (x ≡ z)
     other f = d.0 (subst (Among (y ∷ xs)) (sym f) (ends-among y xs z e))
@@ -162,7 +178,8 @@ without-gone n (x ∷ xs) d m = by (without-gone n xs d.1) (nat_eq x n) refl
 
     by : ¬ Among (without n xs) n → (b : Bool) → nat_eq x n ≡ b → ⊥
     by ih true e = d.0 (subst (Among xs) (sym ((unsigned_Decides x n).0 e)) (subst (λ b. Among (cond b xs (x ∷ without n xs)) n) e m))
-    by ih false e = next ih (λ h. true≢false (sym ((unsigned_Decides x n).1 h) ∙ e)) (subst (λ b. Among (cond b xs (x ∷ without n xs)) n) e m)
+    by ih false e =
+        next ih (λ h. true≢false (sym ((unsigned_Decides x n).1 h) ∙ e)) (subst (λ b. Among (cond b xs (x ∷ without n xs)) n) e m)
 
 length-without : (n : ℕ) (xs : List ℕ) → length xs ≤ suc (length (without n xs))
 length-without n [] = omega arith
@@ -185,16 +202,19 @@ length-distinct (suc n) xs d below =
         omega (arith, below i (without-from n xs i m), other)
 
 -- a list is as long as there are steps
-pub steps-Chain : (ks : List Kept) → length ks ≤ most → (n : ℕ) (xs : List ℕ) (h : ℕ) → length xs ≤ n → Chain ks h xs → steps ks n h ≡ length xs
+pub steps-Chain : (ks : List Kept) → length ks ≤ most → (n : ℕ) (xs : List ℕ) (h : ℕ) → length xs ≤ n → Chain ks h xs →
+    steps ks n h ≡ length xs
 steps-Chain ks few zero [] h l c = refl
 steps-Chain ks few zero (x ∷ xs) h l c = absurd (omega arith)
 steps-Chain ks few (suc n) [] h l c = ap (λ b. cond b 0 (suc (steps ks n (kept_at ks h).next))) ((unsigned_Decides h nowhere).1 c)
 steps-Chain ks few (suc n) (x ∷ xs) h l c =
-    by (steps-Chain ks few n xs (kept_at ks h).next (omega arith) (subst (λ k. Chain ks (kept_at ks k).next xs) (sym c.0) c.2)) (nat_eq h nowhere) refl
+    by (steps-Chain ks few n xs (kept_at ks h).next (omega arith) (subst (λ k. Chain ks (kept_at ks k).next xs) (sym c.0) c.2))
+    (nat_eq h nowhere) refl
   where
     by : steps ks n (kept_at ks h).next ≡ length xs → (b : Bool) → nat_eq h nowhere ≡ b → steps ks (suc n) h ≡ length (x ∷ xs)
     by ih true e = absurd (omega (arith, (unsigned_Decides h nowhere).0 e, c.0, c.1, few))
     by ih false e = ap (λ b. cond b 0 (suc (steps ks n (kept_at ks h).next))) e ∙ ap suc ih
 
 pub length-list : (ks : List Kept) (pile : ℕ) (lists : ℕ → List ℕ) → AreLinked ks pile lists → (n : ℕ) → length (lists n) ≤ length ks
-length-list ks pile lists l n = length-distinct (length ks) (lists n) (l.distinct n) (Chain-below ks (lists n) (first_of ks pile n) (l.chains n))
+length-list ks pile lists l n =
+    length-distinct (length ks) (lists n) (l.distinct n) (Chain-below ks (lists n) (first_of ks pile n) (l.chains n))

@@ -21,7 +21,8 @@ position-cons : {A : Type 0} (p : A → Bool) (x : A) (xs : List A)
 position-cons p x xs = by (p x) (nat_lt (position_or_len p xs) (length xs)) refl
   where
     by : (b c : Bool) → nat_lt (position_or_len p xs) (length xs) ≡ c
-        → cond (nat_lt (cond (not b) (1 + position_or_len p xs) 0) (suc (length xs))) (Some (cond (not b) (1 + position_or_len p xs) 0)) None
+        → cond (nat_lt (cond (not b) (1 + position_or_len p xs) 0) (suc (length xs))) (Some (cond (not b) (1 + position_or_len p xs) 0))
+        None
         ≡ cond b (Some 0) (option_map suc (cond c (Some (position_or_len p xs)) None))
     by true c e = ap (λ d. cond d (Some 0) None) (lt-ltb 0 (suc (length xs)) (omega arith))
     by false true e =
@@ -42,7 +43,12 @@ pub record AreEntered (old new : List (FieldName × ℕ)) (t : ℕ) (fs : List F
 -- none yet
 pub entered-none : (old : List (FieldName × ℕ)) (t : ℕ) (fs : List Field) (i : ℕ) → length fs ≤ i
     → ((name : ℕ) → place_of old t name ≡ None) → AreEntered old old t fs i
-entered-none old t fs i l none = record { here = λ name. none name ∙ sym (ap (λ gs. option_map (λ p. i + p) (position (λ f. f.name == name) gs)) (past fs i l)); there = λ u name h. refl }
+entered-none old t fs i l none =
+    record {
+      here = λ name. none name ∙ sym (ap (λ gs. option_map (λ p. i + p) (position (λ f. f.name == name) gs)) (past fs i l));
+      there =
+          λ u name h. refl;
+    }
   where
     past : (gs : List Field) (k : ℕ) → length gs ≤ k → drop k gs ≡ []
     past [] zero h = refl
@@ -51,14 +57,17 @@ entered-none old t fs i l none = record { here = λ name. none name ∙ sym (ap 
     past (g ∷ gs) (suc k) h = past gs k (omega arith)
 
 -- one more
-module _ (old mid new : List (FieldName × ℕ)) (t : ℕ) (fs : List Field) (i n : ℕ) (f : Field) (within : i < length fs) (here : f ≡ get_or fs i f) (next : n ≡ i + 1)
-    (put : (q : FieldName) → lookup (same_name q) new ≡ cond (same_name (record { of = t; name = (get_or fs i f).name }) q) (Some i) (lookup (same_name q) mid)) (before : AreEntered old mid t fs n) where
+module _ (old mid new : List (FieldName × ℕ)) (t : ℕ) (fs : List Field) (i n : ℕ) (f : Field) (within : i < length fs)
+    (here : f ≡ get_or fs i f) (next : n ≡ i + 1)
+    (put : (q : FieldName) → lookup (same_name q) new ≡ cond (same_name (record { of = t; name = (get_or fs i f).name }) q) (Some i)
+    (lookup (same_name q) mid)) (before : AreEntered old mid t fs n) where
   split : drop i fs ≡ f ∷ drop n fs
   split =
       let one : suc i ≡ n = omega (arith, next) in
       drop-cons fs i f within ∙ ap₂ (λ g k. g ∷ drop k fs) (sym here) one
 
-  put_field : (q : FieldName) → lookup (same_name q) new ≡ cond (same_name (record { of = t; name = f.name }) q) (Some i) (lookup (same_name q) mid)
+  put_field : (q : FieldName) → lookup (same_name q) new ≡ cond (same_name (record { of = t; name = f.name }) q) (Some i)
+      (lookup (same_name q) mid)
   put_field q = put q ∙ ap (λ g. cond (same_name (record { of = t; name = g.name }) q) (Some i) (lookup (same_name q) mid)) (sym here)
 
   shifted : (o : Option ℕ) → option_map (λ p. n + p) o ≡ option_map (λ p. i + p) (option_map suc o)
@@ -76,10 +85,12 @@ module _ (old mid new : List (FieldName × ℕ)) (t : ℕ) (fs : List Field) (i 
       by : (b : Bool) → (f.name == name) ≡ b
           → cond b (Some i) (place_of mid t name) ≡ option_map (λ p. i + p) (position (λ g. g.name == name) (f ∷ drop n fs))
       by true e =
-          let first = position-cons (λ g. g.name == name) f (drop n fs) ∙ ap (λ b. cond b (Some 0) (option_map suc (position (λ g. g.name == name) (drop n fs)))) e in
+          let first = position-cons (λ g. g.name == name) f (drop n fs) ∙ ap
+          (λ b. cond b (Some 0) (option_map suc (position (λ g. g.name == name) (drop n fs)))) e in
           ap Some (omega arith) ∙ sym (ap (option_map (λ p. i + p)) first)
       by false e =
-          let rest = position-cons (λ g. g.name == name) f (drop n fs) ∙ ap (λ b. cond b (Some 0) (option_map suc (position (λ g. g.name == name) (drop n fs)))) e in
+          let rest = position-cons (λ g. g.name == name) f (drop n fs) ∙ ap
+          (λ b. cond b (Some 0) (option_map suc (position (λ g. g.name == name) (drop n fs)))) e in
           before.here name ∙ shifted (position (λ g. g.name == name) (drop n fs)) ∙ sym (ap (option_map (λ p. i + p)) rest)
 
   place_there : (u name : ℕ) → u ≢ t → place_of new u name ≡ place_of old u name

@@ -6,12 +6,14 @@ use Rattle.hare_types.specs.ByValue.{held, Leads}
 use Rattle.hare_types.proofs.DefinitionLemmas.{Leads-more}
 
 -- a way to a name, and a way on from what it is defined to be
-Leads-join : (m : ℕ → Option Tree) (t : Tree) (way : List ℕ) (q : ℕ) (v : Tree) (on : List ℕ) (d : ℕ) → Leads m t way q → m q ≡ Some v → Leads m v on d → Leads m t (way ++ q ∷ on) d
+Leads-join : (m : ℕ → Option Tree) (t : Tree) (way : List ℕ) (q : ℕ) (v : Tree) (on : List ℕ) (d : ℕ) → Leads m t way q → m q ≡ Some v →
+    Leads m v on d → Leads m t (way ++ q ∷ on) d
 Leads-join m t [] q v on d h e k = (h, (v, e, k))
 Leads-join m t (p ∷ way) q v on d h e k = (h.0, (h.1.0, h.1.1, Leads-join m h.1.0 way q v on d h.1.2 e k))
 
 -- Under `new` the name d is defined to be u, and all else as under `old`.
-module _ (old new : ℕ → Option Tree) (d : ℕ) (u : Tree) (fresh : old d ≡ None) (here : new d ≡ Some u) (there : (q : ℕ) → (d ≡ q) ⊎ (new q ≡ old q))
+module _ (old new : ℕ → Option Tree) (d : ℕ) (u : Tree) (fresh : old d ≡ None) (here : new d ≡ Some u)
+    (there : (q : ℕ) → (d ≡ q) ⊎ (new q ≡ old q))
     (finite : ¬ ((way : List ℕ) × Leads old u way d)) where
   grows : (q : ℕ) (v : Tree) → old q ≡ Some v → new q ≡ Some v
   grows q v e = by (there q)
@@ -21,7 +23,8 @@ module _ (old new : ℕ → Option Tree) (d : ℕ) (u : Tree) (fresh : old d ≡
       by (inr h) = h ∙ e
 
   -- a way is an old one, or one that was an old way to d first
-  first_part : (v : Tree) (way : List ℕ) (q : ℕ) → Leads new v way q → Leads old v way q ⊎ (((way : List ℕ) × Leads old v way d) × ((way : List ℕ) × Leads new u way q))
+  first_part : (v : Tree) (way : List ℕ) (q : ℕ) → Leads new v way q →
+      Leads old v way q ⊎ (((way : List ℕ) × Leads old v way d) × ((way : List ℕ) × Leads new u way q))
   first_part v [] q h = inl h
   first_part v (e ∷ way) q h = by (there e) (first_part h.1.0 way q h.1.2)
     where
@@ -30,7 +33,8 @@ module _ (old new : ℕ → Option Tree) (d : ℕ) (u : Tree) (fresh : old d ≡
       next k (inl l) = inl (h.0, (h.1.0, sym k ∙ h.1.1, l))
       next k (inr l) = inr ((e ∷ l.0.0, (h.0, (h.1.0, sym k ∙ h.1.1, l.0.1))), l.1)
 
-      by : (d ≡ e) ⊎ (new e ≡ old e) → Leads old h.1.0 way q ⊎ (((way : List ℕ) × Leads old h.1.0 way d) × ((way : List ℕ) × Leads new u way q))
+      by : (d ≡ e) ⊎ (new e ≡ old e) →
+          Leads old h.1.0 way q ⊎ (((way : List ℕ) × Leads old h.1.0 way d) × ((way : List ℕ) × Leads new u way q))
           → Leads old v (e ∷ way) q ⊎ (((way : List ℕ) × Leads old v way d) × ((way : List ℕ) × Leads new u way q))
       by (inl k) part =
           let same : Some u ≡ Some h.1.0 = sym here ∙ ap new k ∙ h.1.1 in
@@ -47,12 +51,14 @@ module _ (old new : ℕ → Option Tree) (d : ℕ) (u : Tree) (fresh : old d ≡
       by (inr k) = finite k.0
 
   -- and no other does
-  pub all_finite : ((q : ℕ) (v : Tree) → old q ≡ Some v → ¬ ((way : List ℕ) × Leads old v way q)) → (q : ℕ) (v : Tree) → new q ≡ Some v → ¬ ((way : List ℕ) × Leads new v way q)
+  pub all_finite : ((q : ℕ) (v : Tree) → old q ≡ Some v → ¬ ((way : List ℕ) × Leads old v way q)) → (q : ℕ) (v : Tree) → new q ≡ Some v →
+      ¬ ((way : List ℕ) × Leads new v way q)
   all_finite before q v e h = by (there q)
     where
       through : old q ≡ Some v → Leads old v h.0 q ⊎ (((way : List ℕ) × Leads old v way d) × ((way : List ℕ) × Leads new u way q)) → ⊥
       through k (inl l) = before q v k (h.0, l)
-      through k (inr l) = new_finite (l.1.0 ++ q ∷ l.0.0) (Leads-join new u l.1.0 q v l.0.0 d l.1.1 e (Leads-more old new grows v l.0.0 d l.0.1))
+      through k (inr l) =
+          new_finite (l.1.0 ++ q ∷ l.0.0) (Leads-join new u l.1.0 q v l.0.0 d l.1.1 e (Leads-more old new grows v l.0.0 d l.0.1))
 
       by : (d ≡ q) ⊎ (new q ≡ old q) → ⊥
       by (inl k) =

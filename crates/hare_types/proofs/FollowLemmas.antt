@@ -156,7 +156,8 @@ module _ {A : Type 0} (s : Store) (rule : Rule A) (grows : Grows rule rule) wher
   enough = by (steps (length s.rows))
     where
       on : unknown (known_by (length s.rows)) + length s.rows ≤ length s.rows
-          → Gains (found_within s rule (length s.rows)) (found_within s rule (suc (length s.rows))) (known_by (length s.rows)) (known_by (suc (length s.rows))) (length s.rows)
+          → Gains (found_within s rule (length s.rows)) (found_within s rule (suc (length s.rows))) (known_by (length s.rows))
+          (known_by (suc (length s.rows))) (length s.rows)
           → Settled (length s.rows)
       on l (inl g) = absurd (omega arith)
       on l (inr g) = settled-all (length s.rows) g.1

@@ -82,9 +82,12 @@ bytes_over-grows f g k old new h t (row.Pointer j) a e = e
 bytes_over-grows f g k old new h t (row.Nullable j) a e = e
 bytes_over-grows f g k old new h t (row.Slice j) a e = e
 bytes_over-grows f g k old new h t (row.Array n j) a e = option_map-more _ (old j) (new j) (h j) a e
-bytes_over-grows f g k old new h t (row.Struct fs) a e = option_map-more _ (all_known old (map (λ f. f.ty) fs)) (all_known new (map (λ f. f.ty) fs)) (all_known-grows old new h (map (λ f. f.ty) fs)) a e
-bytes_over-grows f g k old new h t (row.Tuple js) a e = option_map-more _ (all_known old js) (all_known new js) (all_known-grows old new h js) a e
-bytes_over-grows f g k old new h t (row.Union js) a e = option_map-more _ (all_known old js) (all_known new js) (all_known-grows old new h js) a e
+bytes_over-grows f g k old new h t (row.Struct fs) a e = option_map-more _ (all_known old (map (λ f. f.ty) fs))
+    (all_known new (map (λ f. f.ty) fs)) (all_known-grows old new h (map (λ f. f.ty) fs)) a e
+bytes_over-grows f g k old new h t (row.Tuple js) a e =
+    option_map-more _ (all_known old js) (all_known new js) (all_known-grows old new h js) a e
+bytes_over-grows f g k old new h t (row.Union js) a e =
+    option_map-more _ (all_known old js) (all_known new js) (all_known-grows old new h js) a e
 
 -- ---- by one row
 
@@ -143,10 +146,14 @@ none_told f ks t (row.Scalar k) e = e
 none_told f ks t (row.Pointer j) e = absurd cc
 none_told f ks t (row.Nullable j) e = absurd cc
 none_told f ks t (row.Slice j) e = absurd cc
-none_told f ks t (row.Array n j) e = ap (λ o. option_map (λ x. told (record { size = n * x.size; align = x.align })) (option_map told o)) (none_map _ (ks j) e)
-none_told f ks t (row.Struct fs) e = ap (option_map (λ xs. told (fields_extent xs))) (none_all ks (map (λ g. g.ty) fs) (none_map fields_extent (all_known ks (map (λ g. g.ty) fs)) e))
-none_told f ks t (row.Tuple js) e = ap (option_map (λ xs. told (fields_extent xs))) (none_all ks js (none_map fields_extent (all_known ks js) e))
-none_told f ks t (row.Union js) e = ap (option_map (λ xs. told (union_extent xs))) (none_all ks js (none_map union_extent (all_known ks js) e))
+none_told f ks t (row.Array n j) e =
+    ap (λ o. option_map (λ x. told (record { size = n * x.size; align = x.align })) (option_map told o)) (none_map _ (ks j) e)
+none_told f ks t (row.Struct fs) e = ap (option_map (λ xs. told (fields_extent xs)))
+    (none_all ks (map (λ g. g.ty) fs) (none_map fields_extent (all_known ks (map (λ g. g.ty) fs)) e))
+none_told f ks t (row.Tuple js) e =
+    ap (option_map (λ xs. told (fields_extent xs))) (none_all ks js (none_map fields_extent (all_known ks js) e))
+none_told f ks t (row.Union js) e =
+    ap (option_map (λ xs. told (union_extent xs))) (none_all ks js (none_map union_extent (all_known ks js) e))
 none_told f ks t (row.Error j) e = ap (option_map told) e
 none_told f ks t (row.Named d) e = by (f d) e
   where
@@ -192,7 +199,9 @@ module _ (s : Store) (v : IsStore s) where
       let first = following-further base_with base_with-more (meaning_of s) m n h.0 h.1 h.4.1 in
       let second = following-further base_with base_with-more (meaning_of s) n m k.0 k.1 k.4.1 in
       let swap : n + m ≡ m + n = omega arith in
-      let again : following base_with (meaning_of s) (m + n) h.0 ≡ Some k.1 = subst (λ u. following base_with (meaning_of s) (m + n) u ≡ Some k.1) tree (subst (λ j. following base_with (meaning_of s) j k.0 ≡ Some k.1) swap second) in
+      let again : following base_with (meaning_of s) (m + n) h.0 ≡ Some k.1 =
+      subst (λ u. following base_with (meaning_of s) (m + n) u ≡ Some k.1) tree
+      (subst (λ j. following base_with (meaning_of s) j k.0 ≡ Some k.1) swap second) in
       let ends : Some h.1 ≡ Some k.1 = sym first ∙ again in
       let end : h.1 ≡ k.1 = cc in
       one_id s v b c h.1 k.1 h.3 k.3 (subst (Same h.1) end (Same-refl h.1))
@@ -211,7 +220,8 @@ module _ (s : Store) (v : IsStore s) where
 
   -- the error marks that are found in n steps are those of the trees
   abbrev AreMarked : ℕ → Type 0
-  AreMarked n = (i : ℕ) (a : Bool) → found_within s (error_over (definition_of s)) n i ≡ Some a → (u : Tree) × (tree_at s i ≡ Some u) × IsError s u a
+  AreMarked n = (i : ℕ) (a : Bool) → found_within s (error_over (definition_of s)) n i ≡ Some a → (u : Tree) × (tree_at s i ≡ Some u) ×
+      IsError s u a
 
   marked_sound : (n : ℕ) → AreMarked n
   marked_sound zero t b e = absurd cc
@@ -273,7 +283,8 @@ module _ (s : Store) (v : IsStore s) where
       by ih (Some q) f k =
           let p = slice_index_or s.rows q (row.Scalar keyword.Void) in
           let here : row_at s q ≡ Some p = slice_get-get_or s.rows q (row.Scalar keyword.Void) (v.defined_within d q f) in
-          ih q p here (by_marks n (tree_of (trees s.rows) p) ∙ sym (ap (option_and_then (following error_with (meaning_of s) n)) (tree_at_row s v q p here)) ∙ k)
+          ih q p here (by_marks n (tree_of (trees s.rows) p) ∙ sym
+          (ap (option_and_then (following error_with (meaning_of s) n)) (tree_at_row s v q p here)) ∙ k)
   marked_whole n t (row.Error j) b g e = marked-row s t (row.Error j) g ∙ e
   marked_whole n t (row.Scalar w) b g e = marked-row s t (row.Scalar w) g ∙ e
   marked_whole n t (row.Pointer j) b g e = marked-row s t (row.Pointer j) g ∙ e
@@ -292,7 +303,8 @@ module _ (s : Store) (v : IsStore s) where
           let r = row_of_tree s t h.0 h.1 in
           let both : Some h.0 ≡ Some (tree_of (trees s.rows) r.0) = sym h.1 ∙ tree_at_row s v t r.0 r.1 in
           let tree : h.0 ≡ tree_of (trees s.rows) r.0 = cc in
-          marked_whole h.2.0 t r.0 b r.1 (by_marks h.2.0 (tree_of (trees s.rows) r.0) ∙ subst (λ u. following error_with (meaning_of s) h.2.0 u ≡ Some b) tree h.2.1)
+          marked_whole h.2.0 t r.0 b r.1 (by_marks h.2.0 (tree_of (trees s.rows) r.0) ∙ subst
+          (λ u. following error_with (meaning_of s) h.2.0 u ≡ Some b) tree h.2.1)
 
   -- ---- sizes
 
@@ -344,7 +356,8 @@ module _ (s : Store) (v : IsStore s) where
 
   -- the extents that are found in n steps are those of the trees, where at most n names are followed
   abbrev AreExtents : ℕ → Type 0
-  AreExtents n = (i : ℕ) (x : Extent) → found_within s (bytes_over (definition_of s)) n i ≡ Some x → extent_with (names s n) (tree_in (trees s.rows) i) ≡ Some x
+  AreExtents n = (i : ℕ) (x : Extent) → found_within s (bytes_over (definition_of s)) n i ≡ Some x →
+      extent_with (names s n) (tree_in (trees s.rows) i) ≡ Some x
 
   of_parts : (ks : ℕ → Option Extent) (named : ℕ → Option Extent)
       → ((i : ℕ) (x : Extent) → ks i ≡ Some x → extent_with named (tree_in (trees s.rows) i) ≡ Some x)
@@ -352,8 +365,10 @@ module _ (s : Store) (v : IsStore s) where
       → extents_with named (trees_of (map (tree_in (trees s.rows)) is)) ≡ Some xs
   of_parts ks named h [] xs e = e
   of_parts ks named h (i ∷ is) xs e =
-      option_and_then-more (λ x. option_map (λ ys. x ∷ ys) (all_known ks is)) (λ x. option_map (λ ys. x ∷ ys) (extents_with named (trees_of (map (tree_in (trees s.rows)) is))))
-      (λ x. option_map-more (λ ys. x ∷ ys) (all_known ks is) (extents_with named (trees_of (map (tree_in (trees s.rows)) is))) (of_parts ks named h is)) (ks i) (extent_with named (tree_in (trees s.rows) i)) (h i) xs e
+      option_and_then-more (λ x. option_map (λ ys. x ∷ ys) (all_known ks is))
+      (λ x. option_map (λ ys. x ∷ ys) (extents_with named (trees_of (map (tree_in (trees s.rows)) is))))
+      (λ x. option_map-more (λ ys. x ∷ ys) (all_known ks is) (extents_with named (trees_of (map (tree_in (trees s.rows)) is)))
+      (of_parts ks named h is)) (ks i) (extent_with named (tree_in (trees s.rows) i)) (h i) xs e
 
   -- the same, where one more name is followed
   deeper : (n : ℕ) → AreExtents n → (i : ℕ) (x : Extent) → found_within s (bytes_over (definition_of s)) n i ≡ Some x
@@ -370,16 +385,20 @@ module _ (s : Store) (v : IsStore s) where
   extent_of_row n ih t (row.Pointer j) x e = e
   extent_of_row n ih t (row.Nullable j) x e = e
   extent_of_row n ih t (row.Slice j) x e = e
-  extent_of_row n ih t (row.Array m j) x e = option_map-more _ (found_within s (bytes_over (definition_of s)) n j) (extent_with (names s (suc n)) (tree_in (trees s.rows) j)) (deeper n ih j) x e
+  extent_of_row n ih t (row.Array m j) x e = option_map-more _ (found_within s (bytes_over (definition_of s)) n j)
+      (extent_with (names s (suc n)) (tree_in (trees s.rows) j)) (deeper n ih j) x e
   extent_of_row n ih t (row.Struct fs) x e =
-      let parts = option_map-more fields_extent (all_known (found_within s (bytes_over (definition_of s)) n) (map (λ f. f.ty) fs)) (extents_with (names s (suc n)) (trees_of (map (tree_in (trees s.rows)) (map (λ f. f.ty) fs))))
+      let parts = option_map-more fields_extent (all_known (found_within s (bytes_over (definition_of s)) n) (map (λ f. f.ty) fs))
+      (extents_with (names s (suc n)) (trees_of (map (tree_in (trees s.rows)) (map (λ f. f.ty) fs))))
       (of_parts (found_within s (bytes_over (definition_of s)) n) (names s (suc n)) (deeper n ih) (map (λ f. f.ty) fs)) x e in
       ap (λ ts. option_map fields_extent (extents_with (names s (suc n)) ts)) (parts_of_struct (trees s.rows) fs) ∙ parts
   extent_of_row n ih t (row.Tuple js) x e =
-      option_map-more fields_extent (all_known (found_within s (bytes_over (definition_of s)) n) js) (extents_with (names s (suc n)) (trees_of (map (tree_in (trees s.rows)) js)))
+      option_map-more fields_extent (all_known (found_within s (bytes_over (definition_of s)) n) js)
+      (extents_with (names s (suc n)) (trees_of (map (tree_in (trees s.rows)) js)))
       (of_parts (found_within s (bytes_over (definition_of s)) n) (names s (suc n)) (deeper n ih) js) x e
   extent_of_row n ih t (row.Union js) x e =
-      option_map-more union_extent (all_known (found_within s (bytes_over (definition_of s)) n) js) (extents_with (names s (suc n)) (trees_of (map (tree_in (trees s.rows)) js)))
+      option_map-more union_extent (all_known (found_within s (bytes_over (definition_of s)) n) js)
+      (extents_with (names s (suc n)) (trees_of (map (tree_in (trees s.rows)) js)))
       (of_parts (found_within s (bytes_over (definition_of s)) n) (names s (suc n)) (deeper n ih) js) x e
   extent_of_row n ih t (row.Error j) x e = deeper n ih j x e
   extent_of_row n ih t (row.Named d) x e = by (definition_of s d) refl e
@@ -413,7 +432,8 @@ module _ (s : Store) (v : IsStore s) where
       let second = following-further extent_with extent_with-more (meaning_of s) n m k.0 y k.2.1 in
       let swap : n + m ≡ m + n = omega arith in
       let again : following extent_with (meaning_of s) (m + n) h.0 ≡ Some y =
-      subst (λ u. following extent_with (meaning_of s) (m + n) u ≡ Some y) tree (subst (λ j. following extent_with (meaning_of s) j k.0 ≡ Some y) swap second) in
+      subst (λ u. following extent_with (meaning_of s) (m + n) u ≡ Some y) tree
+      (subst (λ j. following extent_with (meaning_of s) j k.0 ≡ Some y) swap second) in
       let both : Some x ≡ Some y = sym first ∙ again in
       cc
 
@@ -433,7 +453,8 @@ module _ (s : Store) (v : IsStore s) where
 
       settled : (i : ℕ) (r : Row) → slice_get s.rows i ≡ Some r → option_map told (extent_at s i) ≡ None
           → extent_over (definition_of s) (λ j. option_map told (extent_at s j)) r ≡ None
-      settled i r here none = none_told (definition_of s) (extent_at s) i r (sym (extent-row s i r here) ∙ none_map told (extent_at s i) none)
+      settled i r here none =
+          none_told (definition_of s) (extent_at s) i r (sym (extent-row s i r here) ∙ none_map told (extent_at s i) none)
 
       whole : LiesIn s t x → (o : Option Extent) → extent_at s t ≡ o → extent_at s t ≡ Some x
       whole h None e = absurd (none_lies s v (λ j. option_map told (extent_at s j)) settled t (ap (option_map told) e) x h)
@@ -459,13 +480,15 @@ module _ (s : Store) (v : IsStore s) where
       place : (k : ℕ) → position (nat_eq t) s.listed ≡ Some k → slice_get s.listed k ≡ Some t
       place k e = simp map-id at (position_found (λ q. q) t (nat_eq t) (unsigned_Decides t) s.listed k (sym e))
 
-      sound : (o : Option ℕ) → position (nat_eq t) s.listed ≡ o → option_map suc o ≡ Some n → (k : ℕ) × (n ≡ k + 1) × (slice_get s.listed k ≡ Some t)
+      sound : (o : Option ℕ) → position (nat_eq t) s.listed ≡ o → option_map suc o ≡ Some n → (k : ℕ) × (n ≡ k + 1) ×
+          (slice_get s.listed k ≡ Some t)
       sound None f e = absurd cc
       sound (Some k) f e =
           let same : suc k ≡ n = cc in
           (k, omega (arith, same), place k f)
 
-      whole : (k : ℕ) × (n ≡ k + 1) × (slice_get s.listed k ≡ Some t) → (o : Option ℕ) → position (nat_eq t) s.listed ≡ o → tag_at s t ≡ Some n
+      whole : (k : ℕ) × (n ≡ k + 1) × (slice_get s.listed k ≡ Some t) → (o : Option ℕ) → position (nat_eq t) s.listed ≡ o →
+          tag_at s t ≡ Some n
       whole h None f =
           let nowhere = position_absent (λ q. q) t (nat_eq t) (unsigned_Decides t) s.listed (sym f) h.0 in
           absurd (nowhere (ap (λ l. slice_get l h.0) (map-id s.listed) ∙ h.2))

@@ -96,10 +96,13 @@ store = record {
   names = [];
   rows = row.Scalar keyword.Int ∷ row.Scalar keyword.Str ∷ row.Scalar keyword.U8 ∷ row.Scalar keyword.U64 ∷ row.Scalar keyword.U16 ∷
       row.Scalar keyword.Never ∷ row.Scalar keyword.Opaque ∷ row.Error int ∷ row.Named 0 ∷ row.Named 1 ∷ row.Union (int ∷ str ∷ []) ∷
-      row.Union (str ∷ f ∷ []) ∷ row.Struct (record { name = 0; ty = u8 } ∷ record { name = 1; ty = u64 } ∷ record { name = 2; ty = u16 } ∷ []) ∷
-      row.Named 2 ∷ row.Named 3 ∷ row.Pointer opaque ∷ row.Union (int ∷ u8 ∷ []) ∷ row.Union (int ∷ str ∷ u8 ∷ []) ∷ row.Error h ∷ row.Array 0 triple ∷
+      row.Union (str ∷ f ∷ []) ∷ row.Struct
+      (record { name = 0; ty = u8 } ∷ record { name = 1; ty = u64 } ∷ record { name = 2; ty = u16 } ∷ []) ∷
+      row.Named 2 ∷ row.Named 3 ∷ row.Pointer opaque ∷ row.Union (int ∷ u8 ∷ []) ∷ row.Union (int ∷ str ∷ u8 ∷ []) ∷ row.Error h ∷
+      row.Array 0 triple ∷
       row.Tuple (u8 ∷ triple ∷ []) ∷ row.Union (e ∷ f ∷ []) ∷ [];
-  declared = (0, defined_as error_int) ∷ (1, defined_as e) ∷ (2, defined_as int_or_str) ∷ (3, record { sized = true; definition = None }) ∷ [];
+  declared = (0, defined_as error_int) ∷ (1, defined_as e) ∷ (2, defined_as int_or_str) ∷ (3, record { sized = true; definition = None }) ∷
+      [];
   listed = str ∷ int ∷ f ∷ [];
 }
 

@@ -24,20 +24,24 @@ use Rattle.hare_types.proofs.IdLemmas.{base_over-grows, error_over-grows, sized_
 -- ---- which stores are later
 
 pub later_here : (s : Store) → IsStore s → IsLater s s
-later_here s h = record { grows = record { names = e.names; rows = e.rows; listed = (s.listed, refl); sized = e.sized; defined = e.defined }; sound = h }
+later_here s h =
+    record { grows = record { names = e.names; rows = e.rows; listed = (s.listed, refl); sized = e.sized; defined = e.defined }; sound = h }
   where
     e : Extends s s
     e = Extends-refl s
 
 pub later_grown : (a b : Store) → Extends a b → IsStore b → IsLater a b
-later_grown a b e h = record { grows = record { names = e.names; rows = e.rows; listed = (b.listed, refl); sized = e.sized; defined = e.defined }; sound = h }
+later_grown a b e h =
+    record { grows = record { names = e.names; rows = e.rows; listed = (b.listed, refl); sized = e.sized; defined = e.defined }; sound = h }
 
 -- the list of types that have tags is emptied
 pub later_untagged : (a b : Store) → b ≡ record a { listed = [] } → IsStore b → IsLater a b
-later_untagged a b e h = record { grows = subst (Extends (record a { listed = [] })) (sym e) (Extends-refl (record a { listed = [] })); sound = h }
+later_untagged a b e h =
+    record { grows = subst (Extends (record a { listed = [] })) (sym e) (Extends-refl (record a { listed = [] })); sound = h }
 
 pub later_trans : (a b c : Store) → IsLater a b → IsLater b c → IsLater a c
-later_trans a b c h k = record { grows = Extends-trans (record a { listed = [] }) (record b { listed = [] }) c untagged k.grows; sound = k.sound }
+later_trans a b c h k =
+    record { grows = Extends-trans (record a { listed = [] }) (record b { listed = [] }) c untagged k.grows; sound = k.sound }
   where
     untagged : Extends (record a { listed = [] }) (record b { listed = [] })
     untagged = record { names = h.grows.names; rows = h.grows.rows; listed = ([], refl); sized = h.grows.sized; defined = h.grows.defined }
@@ -68,30 +72,37 @@ module _ (now later : Store) (v : IsStore now) (l : IsLater now later) where
       row_stays t r e ∙ sym e
 
   base_stays : (t b : ℕ) → base_at now t ≡ Some b → base_at later t ≡ Some b
-  base_stays = found-more now later l.grows.rows (base_over (definition_of now)) (base_over (definition_of later)) (base_over-grows (definition_of now) (definition_of later) l.grows.defined)
+  base_stays = found-more now later l.grows.rows (base_over (definition_of now)) (base_over (definition_of later))
+      (base_over-grows (definition_of now) (definition_of later) l.grows.defined)
 
   marked_stays : (t : ℕ) (b : Bool) → marked_at now t ≡ Some b → marked_at later t ≡ Some b
-  marked_stays = found-more now later l.grows.rows (error_over (definition_of now)) (error_over (definition_of later)) (error_over-grows (definition_of now) (definition_of later) l.grows.defined)
+  marked_stays = found-more now later l.grows.rows (error_over (definition_of now)) (error_over (definition_of later))
+      (error_over-grows (definition_of now) (definition_of later) l.grows.defined)
 
   sized_stays : (t : ℕ) (b : Bool) → sized_at now t ≡ Some b → sized_at later t ≡ Some b
-  sized_stays = found-more now later l.grows.rows (sized_over (sized_of now)) (sized_over (sized_of later)) (sized_over-grows (sized_of now) (sized_of later) l.grows.sized)
+  sized_stays = found-more now later l.grows.rows (sized_over (sized_of now)) (sized_over (sized_of later))
+      (sized_over-grows (sized_of now) (sized_of later) l.grows.sized)
 
   extent_stays : (t : ℕ) (x : Extent) → extent_at now t ≡ Some x → extent_at later t ≡ Some x
-  extent_stays = found-more now later l.grows.rows (bytes_over (definition_of now)) (bytes_over (definition_of later)) (bytes_over-grows (definition_of now) (definition_of later) l.grows.defined)
+  extent_stays = found-more now later l.grows.rows (bytes_over (definition_of now)) (bytes_over (definition_of later))
+      (bytes_over-grows (definition_of now) (definition_of later) l.grows.defined)
 
   fields_stay : (t : ℕ) (is : List ℕ) → fields_at now t ≡ Some is → fields_at later t ≡ Some is
   fields_stay t is e =
-      option_and_then-more (λ b. option_and_then fields_of (row_at now b)) (λ b. option_and_then fields_of (row_at later b)) (of_row fields_of) (base_at now t) (base_at later t) (base_stays t) is e
+      option_and_then-more (λ b. option_and_then fields_of (row_at now b)) (λ b. option_and_then fields_of (row_at later b))
+      (of_row fields_of) (base_at now t) (base_at later t) (base_stays t) is e
 
   members_stay : (t : ℕ) (is : List ℕ) → members_at now t ≡ Some is → members_at later t ≡ Some is
   members_stay t is e =
-      option_and_then-more (λ b. option_and_then members_of (row_at now b)) (λ b. option_and_then members_of (row_at later b)) (of_row members_of) (base_at now t) (base_at later t) (base_stays t) is e
+      option_and_then-more (λ b. option_and_then members_of (row_at now b)) (λ b. option_and_then members_of (row_at later b))
+      (of_row members_of) (base_at now t) (base_at later t) (base_stays t) is e
 
   -- the extents of some types, where of each there is one
   extents_stay : (o p : Option (List ℕ)) → ((is : List ℕ) → o ≡ Some is → p ≡ Some is) → (xs : List Extent)
       → option_and_then (all_known (extent_at now)) o ≡ Some xs
       → option_and_then (all_known (extent_at later)) p ≡ Some xs
-  extents_stay o p h xs e = option_and_then-more (all_known (extent_at now)) (all_known (extent_at later)) (all_known-grows (extent_at now) (extent_at later) extent_stays) o p h xs e
+  extents_stay o p h xs e = option_and_then-more (all_known (extent_at now)) (all_known (extent_at later))
+      (all_known-grows (extent_at now) (extent_at later) extent_stays) o p h xs e
 
   id_stays : (r : Row) (t : ℕ) → id_of now r ≡ Some t → id_of later r ≡ Some t
   id_stays r t e = (id_tells later l.sound r t).1 (row_stays t r ((id_tells now v r t).0 e))
@@ -103,7 +114,8 @@ module _ (now later : Store) (v : IsStore now) (l : IsLater now later) where
 
   brought_stays : (is : List ℕ) → AllBelow (length now.rows) is → flat_map (brought_at later) is ≡ flat_map (brought_at now) is
   brought_stays [] h = refl
-  brought_stays (i ∷ is) h = ap₂ (λ xs ys. xs ++ ys) (ap (λ o. unwrap_or (option_map (brought_by i) o) []) (row_here i h.0)) (brought_stays is h.1)
+  brought_stays (i ∷ is) h =
+      ap₂ (λ xs ys. xs ++ ys) (ap (λ o. unwrap_or (option_map (brought_by i) o) []) (row_here i h.0)) (brought_stays is h.1)
 
   left_stays : (is : List ℕ) → AllBelow (length now.rows) is → left_of later is ≡ left_of now is
   left_stays is h = ap ascending (brought_stays is h)
@@ -143,17 +155,23 @@ module _ (now later : Store) (v : IsStore now) (l : IsLater now later) where
     sized = sized_stays;
     has_size = λ t s. unwrapped false (sized_at now t) (sized_at later t) s (sized_stays t);
     extent = extent_stays;
-    size = λ t s. unwrapped 0 (option_map (λ x. x.size) (extent_at now t)) (option_map (λ x. x.size) (extent_at later t)) (some_mapped (λ x. x.size) (extent_at now t) s) (option_map-more (λ x. x.size) (extent_at now t) (extent_at later t) (extent_stays t));
-    align = λ t s. unwrapped 1 (option_map (λ x. x.align) (extent_at now t)) (option_map (λ x. x.align) (extent_at later t)) (some_mapped (λ x. x.align) (extent_at now t) s) (option_map-more (λ x. x.align) (extent_at now t) (extent_at later t) (extent_stays t));
+    size = λ t s. unwrapped 0 (option_map (λ x. x.size) (extent_at now t)) (option_map (λ x. x.size) (extent_at later t))
+        (some_mapped (λ x. x.size) (extent_at now t) s)
+        (option_map-more (λ x. x.size) (extent_at now t) (extent_at later t) (extent_stays t));
+    align = λ t s. unwrapped 1 (option_map (λ x. x.align) (extent_at now t)) (option_map (λ x. x.align) (extent_at later t))
+        (some_mapped (λ x. x.align) (extent_at now t) s)
+        (option_map-more (λ x. x.align) (extent_at now t) (extent_at later t) (extent_stays t));
     parts = λ t h. ap (λ o. unwrap_or (option_map parts_of o) []) (row_here t h);
     field = λ t name h. ap (option_and_then (field_in name)) (row_here t h);
     fields = fields_stay;
     members = members_stay;
     offset = λ t k o e.
         option_and_then-more (λ xs. field_start 0 xs k) (λ xs. field_start 0 xs k) (λ xs a h. h)
-        (option_and_then (all_known (extent_at now)) (fields_at now t)) (option_and_then (all_known (extent_at later)) (fields_at later t)) (extents_stay (fields_at now t) (fields_at later t) (fields_stay t)) o e;
+        (option_and_then (all_known (extent_at now)) (fields_at now t)) (option_and_then (all_known (extent_at later)) (fields_at later t))
+        (extents_stay (fields_at now t) (fields_at later t) (fields_stay t)) o e;
     payload = λ t p e.
-        option_map-more payload_start (option_and_then (all_known (extent_at now)) (members_at now t)) (option_and_then (all_known (extent_at later)) (members_at later t))
+        option_map-more payload_start (option_and_then (all_known (extent_at now)) (members_at now t))
+        (option_and_then (all_known (extent_at later)) (members_at later t))
         (extents_stay (members_at now t) (members_at later t) (members_stay t)) p e;
     id = id_stays;
     union = λ is t e. id_stays (row.Union (ascending is)) t e;
@@ -161,5 +179,6 @@ module _ (now later : Store) (v : IsStore now) (l : IsLater now later) where
     reduced = λ is t h e. ap (joined later) (left_stays is h) ∙ joined_stays (left_of now is) t e;
     values = values_stay;
     without = λ t u k e.
-        option_and_then-more (joined_or_never now) (joined_or_never later) never_stays (values_at now t) (values_at later t) (λ is h. values_stay t is k h) u e;
+        option_and_then-more (joined_or_never now) (joined_or_never later) never_stays (values_at now t) (values_at later t)
+        (λ is h. values_stay t is k h) u e;
   }

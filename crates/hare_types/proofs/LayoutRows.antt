@@ -92,7 +92,8 @@ array_of_no_size = refl
 fields_are_rounded_up : lies (Struct (0 ∷ 1 ∷ 2 ∷ []) (more u8 (more i32 (more u16 none)))) ≡ bytes_at 12 4
 fields_are_rounded_up = refl
 
-last_field_begins_behind : field_start 0 (record { size = 1; align = 1 } ∷ record { size = 4; align = 4 } ∷ record { size = 2; align = 2 } ∷ []) 2 ≡ Some 8
+last_field_begins_behind : field_start 0
+    (record { size = 1; align = 1 } ∷ record { size = 4; align = 4 } ∷ record { size = 2; align = 2 } ∷ []) 2 ≡ Some 8
 last_field_begins_behind = refl
 
 end_is_rounded_up : lies (Tuple (more u64 (more u8 none))) ≡ bytes_at 16 8

@@ -15,7 +15,8 @@ slice_get_end [] y ys = refl
 slice_get_end (x ∷ xs) y ys = slice_get_end xs y ys
 
 -- an element is one of the front or the last
-pub slice_get_push : {A : Type 0} (xs : List A) (x : A) (i : ℕ) (y : A) → slice_get (xs ++ x ∷ []) i ≡ Some y → (slice_get xs i ≡ Some y) ⊎ ((i ≡ length xs) × (y ≡ x))
+pub slice_get_push : {A : Type 0} (xs : List A) (x : A) (i : ℕ) (y : A) → slice_get (xs ++ x ∷ []) i ≡ Some y →
+    (slice_get xs i ≡ Some y) ⊎ ((i ≡ length xs) × (y ≡ x))
 slice_get_push [] x zero y e = inr (refl, cc)
 slice_get_push [] x (suc i) y e = cc
 slice_get_push (a ∷ xs) x zero y e = inl e
@@ -38,5 +39,6 @@ slice_get_past (x ∷ xs) zero h = absurd (omega arith)
 slice_get_past (x ∷ xs) (suc i) h = slice_get_past xs i (omega arith)
 
 -- an element that was read by an index
-pub slice_get_read : {A : Type 0} (xs : List A) (at index : ℕ) (x : A) → index ≡ at → index < length xs → x ≡ get_or xs index x → slice_get xs at ≡ Some x
+pub slice_get_read : {A : Type 0} (xs : List A) (at index : ℕ) (x : A) → index ≡ at → index < length xs → x ≡ get_or xs index x →
+    slice_get xs at ≡ Some x
 slice_get_read xs at index x same within is = ap (slice_get xs) (sym same) ∙ slice_get-get_or xs index x within ∙ ap Some (sym is)

@@ -43,7 +43,8 @@ marked_sized rows t j e s same = sym (sized-row s t (row.Error j) (ap (λ l. sli
 
 -- ---- whether a type has a size
 
-module _ (rows : List Row) (es : List (ℕ × Declared)) (t u : ℕ) (s : Store) (of : s.rows ≡ rows) (by_names : s.declared ≡ es) (same : sized_at s u ≡ sized_at s t) where
+module _ (rows : List Row) (es : List (ℕ × Declared)) (t u : ℕ) (s : Store) (of : s.rows ≡ rows) (by_names : s.declared ≡ es)
+    (same : sized_at s u ≡ sized_at s t) where
   pub size_of_row : (r : Row) → slice_get rows u ≡ Some r → (b : Bool)
       → ((ks : ℕ → Option Bool) (i : ℕ) → b ≡ unwrap_or (sized_over (sized_in es) ks i r) false) → b ≡ has_size_at s t
   size_of_row r here b value =

@@ -33,7 +33,8 @@ all_below n (i ∷ is) zero p h e =
     subst (λ x. x < n) same h.0
 all_below n (i ∷ is) (suc k) p h e = all_below n is k p h.1 e
 
-needs_below : (es : List (ℕ × Declared)) (n : ℕ) (r : Row) (p : ℕ) → IsWithin n r → ((d t : ℕ) → defined es d ≡ Some t → t < n) → NeedsRow es r p → p < n
+needs_below : (es : List (ℕ × Declared)) (n : ℕ) (r : Row) (p : ℕ) → IsWithin n r → ((d t : ℕ) → defined es d ≡ Some t → t < n) →
+    NeedsRow es r p → p < n
 needs_below es n (row.Array m j) p h ids e = subst (λ x. x < n) e h
 needs_below es n (row.Error j) p h ids e = subst (λ x. x < n) e h
 needs_below es n (row.Named d) p h ids e = ids d p e
@@ -48,7 +49,8 @@ needs_below es n (row.Slice j) p h ids e = absurd e
 pub needs-within : (s : Store) → IsStore s → NeedsAreWithin s.rows s.declared
 needs-within s v i p r g e =
     let below = slice_get_within s.rows i r g in
-    needs_below s.declared (length s.rows) r p (IsWithin-le i (length s.rows) r (omega arith) (v.rows_sound.within i r g)) v.defined_within e
+    needs_below s.declared (length s.rows) r p (IsWithin-le i (length s.rows) r (omega arith) (v.rows_sound.within i r g)) v.defined_within
+    e
 
 pub parts_below : (n : ℕ) (r : Row) (k p : ℕ) → IsWithin n r → slice_get (parts_of r) k ≡ Some p → p < n
 parts_below n (row.Struct fs) k p h e = all_below n (map (λ f. f.ty) fs) k p (FieldsBelow-ids n fs h) e
@@ -64,7 +66,8 @@ parts_below n (row.Slice j) k p h e = absurd cc
 
 -- ---- under other definitions
 
-root_same : (f g : ℕ → Option ℕ) (bs : ℕ → Option Root) → (i : ℕ) (r : Row) → ((d : ℕ) → r ≡ row.Named d → f d ≡ g d) → root_over f bs i r ≡ root_over g bs i r
+root_same : (f g : ℕ → Option ℕ) (bs : ℕ → Option Root) → (i : ℕ) (r : Row) → ((d : ℕ) → r ≡ row.Named d → f d ≡ g d) →
+    root_over f bs i r ≡ root_over g bs i r
 root_same f g bs i (row.Named d) h = ap (option_and_then bs) (h d refl)
 root_same f g bs i (row.Scalar k) h = refl
 root_same f g bs i (row.Pointer j) h = refl
@@ -76,7 +79,8 @@ root_same f g bs i (row.Tuple js) h = refl
 root_same f g bs i (row.Union js) h = refl
 root_same f g bs i (row.Error j) h = refl
 
-needs_same : (es new : List (ℕ × Declared)) (r : Row) (p : ℕ) → ((d : ℕ) → r ≡ row.Named d → defined new d ≡ defined es d) → NeedsRow es r p → NeedsRow new r p
+needs_same : (es new : List (ℕ × Declared)) (r : Row) (p : ℕ) → ((d : ℕ) → r ≡ row.Named d → defined new d ≡ defined es d) →
+    NeedsRow es r p → NeedsRow new r p
 needs_same es new (row.Named d) p h e = h d refl ∙ e
 needs_same es new (row.Array n j) p h e = e
 needs_same es new (row.Error j) p h e = e
@@ -88,7 +92,8 @@ needs_same es new (row.Pointer j) p h e = e
 needs_same es new (row.Nullable j) p h e = e
 needs_same es new (row.Slice j) p h e = e
 
-inert_same : (es new : List (ℕ × Declared)) (r : Row) → ((d : ℕ) → r ≡ row.Named d → defined new d ≡ defined es d) → IsInert es r → IsInert new r
+inert_same : (es new : List (ℕ × Declared)) (r : Row) → ((d : ℕ) → r ≡ row.Named d → defined new d ≡ defined es d) → IsInert es r →
+    IsInert new r
 inert_same es new (row.Named d) h e = h d refl ∙ e
 inert_same es new (row.Scalar k) h e = e
 inert_same es new (row.Pointer j) h e = e
@@ -100,21 +105,29 @@ inert_same es new (row.Tuple js) h e = e
 inert_same es new (row.Union js) h e = e
 inert_same es new (row.Error j) h e = e
 
-rest_same : (rows : List Row) (es new : List (ℕ × Declared)) (ks : List Kept) (lists : ℕ → List ℕ) (i : ℕ) → ((r : Row) (d : ℕ) → slice_get rows i ≡ Some r → r ≡ row.Named d → defined new d ≡ defined es d)
+rest_same : (rows : List Row) (es new : List (ℕ × Declared)) (ks : List Kept) (lists : ℕ → List ℕ) (i : ℕ) →
+    ((r : Row) (d : ℕ) → slice_get rows i ≡ Some r → r ≡ row.Named d → defined new d ≡ defined es d)
     → IsAtRest rows es ks lists i → IsAtRest rows new ks lists i
 rest_same rows es new ks lists i same h r g u =
     let q = h r g u in
     (TellsAll-same _ _ _ _ refl (root_same (defined new) (defined es) (root_at ks) i r (λ d e. same r d g e)) q.0, by q.1)
   where
-    by : IsInert es r ⊎ ((p : ℕ) × Among (lists (suc p)) i × (extent_at ks p ≡ None)) → IsInert new r ⊎ ((p : ℕ) × Among (lists (suc p)) i × (extent_at ks p ≡ None))
+    by : IsInert es r ⊎ ((p : ℕ) × Among (lists (suc p)) i × (extent_at ks p ≡ None)) →
+        IsInert new r ⊎ ((p : ℕ) × Among (lists (suc p)) i × (extent_at ks p ≡ None))
     by (inl x) = inl (inert_same es new r (λ d e. same r d g e) x)
     by (inr w) = inr w
 
 -- with one more declaration
-pub AreSettling-declared : (rows : List Row) (es new : List (ℕ × Declared)) (ks : List Kept) (pile : ℕ) (lists : ℕ → List ℕ) → ((d : ℕ) → defined new d ≡ defined es d) → AreSettling rows es ks pile lists
+pub AreSettling-declared : (rows : List Row) (es new : List (ℕ × Declared)) (ks : List Kept) (pile : ℕ) (lists : ℕ → List ℕ) →
+    ((d : ℕ) → defined new d ≡ defined es d) → AreSettling rows es ks pile lists
     → AreSettling rows new ks pile lists
 AreSettling-declared rows es new ks pile lists same h = record {
-  waiting = record { links = h.waiting.links; unknown = h.waiting.unknown; needs = λ p i a r g. needs_same es new r p (λ d e. same d) (h.waiting.needs p i a r g) };
+  waiting = record {
+    links = h.waiting.links;
+    unknown = h.waiting.unknown;
+    needs =
+        λ p i a r g. needs_same es new r p (λ d e. same d) (h.waiting.needs p i a r g);
+  };
   rest = λ i. by i (h.rest i);
 }
   where
@@ -123,7 +136,8 @@ AreSettling-declared rows es new ks pile lists same h = record {
     by i (inr a) = inr a
 
 -- the extent of a name that is not defined
-undefined_none : (s : Store) → IsStore s → (ks : List Kept) → KeepsExtents s (extents ks) → (d i : ℕ) → defined s.declared d ≡ None → slice_get s.rows i ≡ Some (row.Named d) → extent_at ks i ≡ None
+undefined_none : (s : Store) → IsStore s → (ks : List Kept) → KeepsExtents s (extents ks) → (d i : ℕ) → defined s.declared d ≡ None →
+    slice_get s.rows i ≡ Some (row.Named d) → extent_at ks i ≡ None
 undefined_none s v ks k d i fresh here = by (extent_at ks i) refl
   where
     none : (n : ℕ) (y : Extent) → following extent_with (meaning_of s) n (Named d) ≡ Some y → ⊥
@@ -142,8 +156,10 @@ undefined_none s v ks k d i fresh here = by (extent_at ks i) refl
         absurd (none w.1.2.0 w.0 (subst (λ u. following extent_with (meaning_of s) w.1.2.0 u ≡ Some w.0) (sym tree) w.1.2.1))
 
 -- with one more definition
-pub AreSettling-defined : (s : Store) (ks : List Kept) (d : ℕ) (new : List (ℕ × Declared)) (lists : ℕ → List ℕ) → IsStore s → KeepsExtents s (extents ks) → defined s.declared d ≡ None
-    → ((q : ℕ) → (d ≡ q) ⊎ (defined new q ≡ defined s.declared q)) → AreSettling s.rows s.declared ks nowhere lists → AreSettlingButName d s.rows new ks lists
+pub AreSettling-defined : (s : Store) (ks : List Kept) (d : ℕ) (new : List (ℕ × Declared)) (lists : ℕ → List ℕ) → IsStore s →
+    KeepsExtents s (extents ks) → defined s.declared d ≡ None
+    → ((q : ℕ) → (d ≡ q) ⊎ (defined new q ≡ defined s.declared q)) → AreSettling s.rows s.declared ks nowhere lists →
+    AreSettlingButName d s.rows new ks lists
 AreSettling-defined s ks d new lists v k fresh there h = record {
   waiting = record { links = h.waiting.links; unknown = h.waiting.unknown; needs = needs };
   out = λ i e. (undefined_none s v ks k d i fresh e, λ n a. out i e n a);
@@ -190,7 +206,8 @@ AreSettling-defined s ks d new lists v k fresh there h = record {
     is_name (row.Union js) = inr (λ e. absurd cc)
     is_name (row.Error j) = inr (λ e. absurd cc)
 
-    by : (i : ℕ) → IsAtRest s.rows s.declared ks lists i ⊎ Among (lists 0) i → (o : Option Row) → slice_get s.rows i ≡ o → (slice_get s.rows i ≡ Some (row.Named d)) ⊎ (IsAtRest s.rows new ks lists i ⊎ Among (lists 0) i)
+    by : (i : ℕ) → IsAtRest s.rows s.declared ks lists i ⊎ Among (lists 0) i → (o : Option Row) → slice_get s.rows i ≡ o →
+        (slice_get s.rows i ≡ Some (row.Named d)) ⊎ (IsAtRest s.rows new ks lists i ⊎ Among (lists 0) i)
     by i (inr a) o g = inr (inr a)
     by i (inl a) None g = inr (inl (λ r e u. let both : None ≡ Some r = sym g ∙ e in absurd cc))
     by i (inl a) (Some r) g = on (is_name r)
@@ -200,6 +217,7 @@ AreSettling-defined s ks d new lists v k fresh there h = record {
             let both : Some r ≡ Some q = sym g ∙ e in
             cc
 
-        on : (r ≡ row.Named d) ⊎ (¬ (r ≡ row.Named d)) → (slice_get s.rows i ≡ Some (row.Named d)) ⊎ (IsAtRest s.rows new ks lists i ⊎ Among (lists 0) i)
+        on : (r ≡ row.Named d) ⊎ (¬ (r ≡ row.Named d)) → (slice_get s.rows i ≡ Some (row.Named d)) ⊎
+            (IsAtRest s.rows new ks lists i ⊎ Among (lists 0) i)
         on (inl e) = inl (g ∙ ap Some e)
         on (inr away) = inr (inl (rest_same s.rows s.declared new ks lists i (λ q f e h. other r away f (one q e ∙ h)) a))

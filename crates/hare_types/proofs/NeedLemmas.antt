@@ -27,7 +27,8 @@ all_known-none f (i ∷ is) (suc k) p e h = by (all_known-none f is k p e h) (f 
     by ih (Some x) = ap (option_map (λ xs. x ∷ xs)) ih
 
 -- no extent follows where one that is needed is not known
-pub needs-none : (es : List (ℕ × Declared)) (f : ℕ → Option Extent) (r : Row) (p : ℕ) → NeedsRow es r p → f p ≡ None → extent_over (defined es) f r ≡ None
+pub needs-none : (es : List (ℕ × Declared)) (f : ℕ → Option Extent) (r : Row) (p : ℕ) → NeedsRow es r p → f p ≡ None →
+    extent_over (defined es) f r ≡ None
 needs-none es f (row.Array n j) p h e = ap (option_map _) (ap f h ∙ e)
 needs-none es f (row.Error j) p h e = ap f h ∙ e
 needs-none es f (row.Named d) p h e = ap (option_and_then f) h ∙ e
@@ -39,11 +40,13 @@ needs-none es f (row.Pointer j) p h e = absurd h
 needs-none es f (row.Nullable j) p h e = absurd h
 needs-none es f (row.Slice j) p h e = absurd h
 
-all_known-each : (f : ℕ → Option Extent) (is : List ℕ) → ((k p : ℕ) → slice_get is k ≡ Some p → IsSome (f p)) → (xs : List Extent) × (all_known f is ≡ Some xs)
+all_known-each : (f : ℕ → Option Extent) (is : List ℕ) → ((k p : ℕ) → slice_get is k ≡ Some p → IsSome (f p)) → (xs : List Extent) ×
+    (all_known f is ≡ Some xs)
 all_known-each f [] h = ([], refl)
 all_known-each f (i ∷ is) h = by (all_known-each f is (λ k p e. h (suc k) p e)) (f i) refl (h zero i refl)
   where
-    by : (xs : List Extent) × (all_known f is ≡ Some xs) → (o : Option Extent) → f i ≡ o → IsSome o → (xs : List Extent) × (all_known f (i ∷ is) ≡ Some xs)
+    by : (xs : List Extent) × (all_known f is ≡ Some xs) → (o : Option Extent) → f i ≡ o → IsSome o → (xs : List Extent) ×
+        (all_known f (i ∷ is) ≡ Some xs)
     by rest None e s = absurd cc
     by rest (Some x) e s = (x ∷ rest.0, ap₂ (λ o q. option_and_then (λ x. option_map (λ xs. x ∷ xs) q) o) e rest.1)
 
@@ -65,7 +68,8 @@ of_option None g e = refl
 of_option (Some x) g e = absurd cc
 
 -- has no extent yet
-pub needed-unknown : (es : List (ℕ × Declared)) (f : ℕ → Option Extent) (r : Row) (k p : ℕ) → extent_over (defined es) f r ≡ None → ((q : ℕ) → slice_get (parts_of r) k ≡ Some q → f q ≡ None)
+pub needed-unknown : (es : List (ℕ × Declared)) (f : ℕ → Option Extent) (r : Row) (k p : ℕ) → extent_over (defined es) f r ≡ None →
+    ((q : ℕ) → slice_get (parts_of r) k ≡ Some q → f q ≡ None)
     → needed_at (defined es) r k ≡ Some p → f p ≡ None
 needed-unknown es f (row.Array n j) k p none at e =
     let same : j ≡ p = cc in
@@ -82,7 +86,8 @@ needed-unknown es f (row.Pointer j) k p none at e = absurd cc
 needed-unknown es f (row.Nullable j) k p none at e = absurd cc
 needed-unknown es f (row.Slice j) k p none at e = absurd cc
 
-parts_all : (f : ℕ → Option Extent) (is : List ℕ) (k : ℕ) → slice_get is k ≡ None → ((j p : ℕ) → j < k → slice_get is j ≡ Some p → IsSome (f p)) → (j p : ℕ) → slice_get is j ≡ Some p → IsSome (f p)
+parts_all : (f : ℕ → Option Extent) (is : List ℕ) (k : ℕ) → slice_get is k ≡ None →
+    ((j p : ℕ) → j < k → slice_get is j ≡ Some p → IsSome (f p)) → (j p : ℕ) → slice_get is j ≡ Some p → IsSome (f p)
 parts_all f is k past before j p e = before j p (below is k past j p e) e
   where
     below : (is : List ℕ) (k : ℕ) → slice_get is k ≡ None → (j p : ℕ) → slice_get is j ≡ Some p → j < k
@@ -91,19 +96,22 @@ parts_all f is k past before j p e = before j p (below is k past j p e) e
     below (x ∷ is) (suc k) past zero p e = omega arith
     below (x ∷ is) (suc k) past (suc j) p e = let l = below is k past j p e in omega arith
 
-parts_some : (f : ℕ → Option Extent) (is : List ℕ) (g : List Extent → Extent) → option_map g (all_known f is) ≡ None → ((j p : ℕ) → slice_get is j ≡ Some p → IsSome (f p)) → ⊥
+parts_some : (f : ℕ → Option Extent) (is : List ℕ) (g : List Extent → Extent) → option_map g (all_known f is) ≡ None →
+    ((j p : ℕ) → slice_get is j ≡ Some p → IsSome (f p)) → ⊥
 parts_some f is g none all =
     let k = all_known-each f is all in
     let both : Some (g k.0) ≡ None = sym (ap (option_map g) k.1) ∙ none in
     absurd cc
 
 -- where nothing is needed, no extent follows ever
-pub needed-none : (es : List (ℕ × Declared)) (f : ℕ → Option Extent) (r : Row) (k : ℕ) → extent_over (defined es) f r ≡ None → ((j p : ℕ) → j < k → slice_get (parts_of r) j ≡ Some p → IsSome (f p))
+pub needed-none : (es : List (ℕ × Declared)) (f : ℕ → Option Extent) (r : Row) (k : ℕ) → extent_over (defined es) f r ≡ None →
+    ((j p : ℕ) → j < k → slice_get (parts_of r) j ≡ Some p → IsSome (f p))
     → needed_at (defined es) r k ≡ None → IsInert es r
 needed-none es f (row.Array n j) k none before e = absurd cc
 needed-none es f (row.Error j) k none before e = absurd cc
 needed-none es f (row.Named d) k none before e = e
-needed-none es f (row.Struct fs) k none before e = parts_some f (parts_of (row.Struct fs)) _ none (parts_all f (parts_of (row.Struct fs)) k e before)
+needed-none es f (row.Struct fs) k none before e =
+    parts_some f (parts_of (row.Struct fs)) _ none (parts_all f (parts_of (row.Struct fs)) k e before)
 needed-none es f (row.Tuple js) k none before e = parts_some f js _ none (parts_all f js k e before)
 needed-none es f (row.Union js) k none before e = parts_some f js _ none (parts_all f js k e before)
 needed-none es f (row.Scalar w) k none before e = none
@@ -113,7 +121,8 @@ needed-none es f (row.Slice j) k none before e = absurd cc
 
 -- ---- roots follow from what rows need
 
-pub root_over-near : (es : List (ℕ × Declared)) (f g : ℕ → Option Root) (i : ℕ) (r : Row) (p : ℕ) → NeedsRow es r p → g p ≡ f p → root_over (defined es) g i r ≡ root_over (defined es) f i r
+pub root_over-near : (es : List (ℕ × Declared)) (f g : ℕ → Option Root) (i : ℕ) (r : Row) (p : ℕ) → NeedsRow es r p → g p ≡ f p →
+    root_over (defined es) g i r ≡ root_over (defined es) f i r
 root_over-near es f g i (row.Error j) p h e = ap (λ o. Some (with_mark o)) (ap g h ∙ e ∙ ap f (sym h))
 root_over-near es f g i (row.Named d) p h e = ap (option_and_then g) h ∙ e ∙ sym (ap (option_and_then f) h)
 root_over-near es f g i (row.Array n j) p h e = refl
@@ -125,7 +134,8 @@ root_over-near es f g i (row.Pointer j) p h e = refl
 root_over-near es f g i (row.Nullable j) p h e = refl
 root_over-near es f g i (row.Slice j) p h e = refl
 
-pub root_over-inert : (es : List (ℕ × Declared)) (f g : ℕ → Option Root) (i : ℕ) (r : Row) → IsInert es r → root_over (defined es) g i r ≡ root_over (defined es) f i r
+pub root_over-inert : (es : List (ℕ × Declared)) (f g : ℕ → Option Root) (i : ℕ) (r : Row) → IsInert es r →
+    root_over (defined es) g i r ≡ root_over (defined es) f i r
 root_over-inert es f g i (row.Named d) h = ap (option_and_then g) h ∙ sym (ap (option_and_then f) h)
 root_over-inert es f g i (row.Scalar k) h = refl
 root_over-inert es f g i (row.Error j) h = absurd h
@@ -138,7 +148,8 @@ root_over-inert es f g i (row.Nullable j) h = absurd h
 root_over-inert es f g i (row.Slice j) h = absurd h
 
 -- a row has a base where it has an extent
-pub extent-rooted : (es : List (ℕ × Declared)) (ks : List Kept) → HaveRoots ks → (i : ℕ) (r : Row) → IsSome (extent_over (defined es) (known (extents ks)) r)
+pub extent-rooted : (es : List (ℕ × Declared)) (ks : List Kept) → HaveRoots ks → (i : ℕ) (r : Row) →
+    IsSome (extent_over (defined es) (known (extents ks)) r)
     → IsSome (base_in (root_over (defined es) (root_at ks) i r))
 extent-rooted es ks h i (row.Error j) s = h j s
 extent-rooted es ks h i (row.Named d) s = by (defined es d) s
@@ -160,9 +171,10 @@ pub rooted-based : (o : Option Root) → IsSome (base_in o) → IsSome o
 rooted-based None h = h
 rooted-based (Some r) h = refl
 
--- Once what follows for row i is kept of it, and of the other rows what was, no base follows that is not kept. No matter whether the row rests on
--- itself.
-pub base-kept : (es : List (ℕ × Declared)) (f g : ℕ → Option Root) (i : ℕ) (r : Row) → g i ≡ root_over (defined es) f i r → ((j : ℕ) → ¬ (j ≡ i) → g j ≡ f j)
+-- Once what follows for row i is kept of it, and of the other rows what was, no base follows that is not kept. No matter whether the row
+-- rests on itself.
+pub base-kept : (es : List (ℕ × Declared)) (f g : ℕ → Option Root) (i : ℕ) (r : Row) → g i ≡ root_over (defined es) f i r →
+    ((j : ℕ) → ¬ (j ≡ i) → g j ≡ f j)
     → base_in (g i) ≡ None → base_in (root_over (defined es) g i r) ≡ None
 base-kept es f g i (row.Error j) here there h = by (equal_or_not j i)
   where

@@ -17,7 +17,8 @@ position_none test ks e = by (cases_lt (position_or_len test ks) (length ks))
     by : (position_or_len test ks < length ks) ⊎ (length ks ≤ position_or_len test ks) → length ks ≡ position_or_len test ks
     by (inr h) = omega (arith, prefix_len-le-length (λ k. not (test k)) ks)
     by (inl h) =
-        let some : None ≡ Some (position_or_len test ks) = e ∙ ap (λ b. cond b (Some (position_or_len test ks)) None) (lt-ltb (position_or_len test ks) (length ks) h) in
+        let some : None ≡ Some (position_or_len test ks) =
+        e ∙ ap (λ b. cond b (Some (position_or_len test ks)) None) (lt-ltb (position_or_len test ks) (length ks) h) in
         absurd cc
 
 -- where a place of the list passes first, some key of it passes
@@ -25,7 +26,8 @@ pub some_passes : {K : Type 0} (test : K → Bool) (ks : List K) → position_or
 some_passes test [] h = absurd (omega arith)
 some_passes test (k ∷ ks) h = by (some_passes test ks) (test k) h
   where
-    by : (position_or_len test ks < length ks → list_any test ks ≡ true) → (b : Bool) → cond (not b) (1 + position_or_len test ks) 0 < length (k ∷ ks) → (b || list_any test ks) ≡ true
+    by : (position_or_len test ks < length ks → list_any test ks ≡ true) → (b : Bool) →
+        cond (not b) (1 + position_or_len test ks) 0 < length (k ∷ ks) → (b || list_any test ks) ≡ true
     by behind true l = refl
     by behind false l = behind (omega (arith, l))
 
@@ -92,7 +94,8 @@ module _ {K A : Type 0} (f : K → A) (x : A) (test : K → Bool) (decides : (k 
     at_end h m (inl e) = absurd (new_to h m e)
     at_end h m (inr e) = omega (arith, e.0, length-map ks f)
 
-    both : n ≡ length ks → IsOnce (map f ks) → (i j : ℕ) (y : A) → (slice_get (map f ks) i ≡ Some y) ⊎ ((i ≡ length (map f ks)) × (y ≡ x)) → (slice_get (map f ks) j ≡ Some y) ⊎ ((j ≡ length (map f ks)) × (y ≡ x)) → i ≡ j
+    both : n ≡ length ks → IsOnce (map f ks) → (i j : ℕ) (y : A) → (slice_get (map f ks) i ≡ Some y) ⊎ ((i ≡ length (map f ks)) × (y ≡ x)) →
+        (slice_get (map f ks) j ≡ Some y) ⊎ ((j ≡ length (map f ks)) × (y ≡ x)) → i ≡ j
     both h o i j y (inl a) (inl b) = o.once i j y a b
     both h o i j y (inl a) (inr b) = absurd (new_to h i (a ∙ ap Some b.1))
     both h o i j y (inr a) (inl b) = absurd (new_to h j (b ∙ ap Some a.1))
@@ -125,10 +128,14 @@ module _ {K A : Type 0} (f : K → A) (x : A) (test : K → Bool) (decides : (k 
       where
         by : (n < length ks) ⊎ ((n ≡ length ks) × (map f new ≡ map f ks ++ x ∷ [])) → IsOnce (map f new)
         by (inl h) = subst IsOnce (sym (ap (map f) (kept h))) o
-        by (inr h) = record { once = λ i j y a b. both h.0 o i j y (slice_get_push (map f ks) x i y (ap (λ l. slice_get l i) (sym h.1) ∙ a)) (slice_get_push (map f ks) x j y (ap (λ l. slice_get l j) (sym h.1) ∙ b)) }
+        by (inr h) = record {
+          once = λ i j y a b. both h.0 o i j y (slice_get_push (map f ks) x i y (ap (λ l. slice_get l i) (sym h.1) ∙ a))
+              (slice_get_push (map f ks) x j y (ap (λ l. slice_get l j) (sym h.1) ∙ b));
+        }
 
 -- the same of keys that are seen as they are
-module _ {A : Type 0} (eq : A → A → Bool) (decides : (x y : A) → Decides (eq x y) (x ≡ y)) (xs new : List A) (x : A) (n : ℕ) (place : n ≡ position_or_len (eq x) xs)
+module _ {A : Type 0} (eq : A → A → Bool) (decides : (x y : A) → Decides (eq x y) (x ≡ y)) (xs new : List A) (x : A) (n : ℕ)
+    (place : n ≡ position_or_len (eq x) xs)
     (kept : n < length xs → new ≡ xs) (added : n ≡ length xs → new ≡ xs ++ x ∷ []) (o : IsOnce xs) where
   seen_once : IsOnce (map (λ y. y) xs)
   seen_once = rw map-id o

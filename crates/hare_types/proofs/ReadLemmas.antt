@@ -46,7 +46,8 @@ module _ (s : Store) (ks : List Kept) (v : AreKept s ks) (t : ℕ) where
       by (Some b) e = sym (base_read b e)
 
   pub no_mark_read : root_at ks t ≡ None → false ≡ is_error_at s t
-  no_mark_read e = ap (λ o. unwrap_or o false) (sym (none_marked s (root_at ks) (roots-settled s.rows s.declared ks few v.lists v.settled v.rooted) t e))
+  no_mark_read e =
+      ap (λ o. unwrap_or o false) (sym (none_marked s (root_at ks) (roots-settled s.rows s.declared ks few v.lists v.settled v.rooted) t e))
 
   pub base_some : (b : ℕ) → base_at s t ≡ Some b → IsBaseOf s t b
   base_some b e = (base_tells s v.store t b).0 e

@@ -26,8 +26,10 @@ pub IsRootOf-more : (old new : Store) → Continues old.rows new.rows → Knows 
     → IsRootOf old t r → IsRootOf new t r
 IsRootOf-more old new rows more t r h = record {
   base = λ b e.
-      found-more old new rows (base_over (definition_of old)) (base_over (definition_of new)) (base_over-grows (definition_of old) (definition_of new) more) t b (h.base b e);
-  marked = found-more old new rows (error_over (definition_of old)) (error_over (definition_of new)) (error_over-grows (definition_of old) (definition_of new) more) t r.is_error h.marked;
+      found-more old new rows (base_over (definition_of old)) (base_over (definition_of new))
+      (base_over-grows (definition_of old) (definition_of new) more) t b (h.base b e);
+  marked = found-more old new rows (error_over (definition_of old)) (error_over (definition_of new))
+      (error_over-grows (definition_of old) (definition_of new) more) t r.is_error h.marked;
 }
 
 -- ---- one row
@@ -91,7 +93,8 @@ pub KeepsRoots-same : (old new : Store) (ks : List (Option Root)) → old.rows �
 KeepsRoots-same old new ks rows declared v = record {
   as_many = v.as_many ∙ ap length rows;
   sound = λ i r e.
-      IsRootOf-more old new (subst (Continues old.rows) rows (Continues-same old.rows)) (λ d t h. ap (λ l. defined l d) (sym declared) ∙ h) i r (v.sound i r e);
+      IsRootOf-more old new (subst (Continues old.rows) rows (Continues-same old.rows)) (λ d t h. ap (λ l. defined l d) (sym declared) ∙ h)
+      i r (v.sound i r e);
 }
 
 -- with more definitions
@@ -127,12 +130,15 @@ KeepsRoots-push s q ks o value v = record {
     old_sound : (i : ℕ) (r : Root) → known_root ks i ≡ Some r → IsRootOf (record s { rows = s.rows ++ q ∷ [] }) i r
     old_sound i r e = IsRootOf-more s (record s { rows = s.rows ++ q ∷ [] }) (q ∷ [], refl) (λ d t h. h) i r (v.sound i r e)
 
-    sound_at : (i : ℕ) (r : Root) → (known_root ks i ≡ Some r) ⊎ ((i ≡ length ks) × (o ≡ Some r)) → IsRootOf (record s { rows = s.rows ++ q ∷ [] }) i r
+    sound_at : (i : ℕ) (r : Root) → (known_root ks i ≡ Some r) ⊎ ((i ≡ length ks) × (o ≡ Some r)) →
+        IsRootOf (record s { rows = s.rows ++ q ∷ [] }) i r
     sound_at i r (inl h) = old_sound i r h
     sound_at i r (inr h) =
         let place : length s.rows ≡ i = sym v.as_many ∙ sym h.0 in
-        let here : slice_get (s.rows ++ q ∷ []) i ≡ Some q = subst (λ j. slice_get (s.rows ++ q ∷ []) j ≡ Some q) place (slice_get_end s.rows q []) in
-        root-step (record s { rows = s.rows ++ q ∷ [] }) (known_root ks) old_sound i q here r (sym (ap (λ n. root_over (defined s.declared) (known_root ks) n q) place) ∙ sym value ∙ h.1)
+        let here : slice_get (s.rows ++ q ∷ []) i ≡ Some q =
+        subst (λ j. slice_get (s.rows ++ q ∷ []) j ≡ Some q) place (slice_get_end s.rows q []) in
+        root-step (record s { rows = s.rows ++ q ∷ [] }) (known_root ks) old_sound i q here r
+        (sym (ap (λ n. root_over (defined s.declared) (known_root ks) n q) place) ∙ sym value ∙ h.1)
 
 -- with one more root
 pub KeepsRoots-set : (s : Store) (ks : List (Option Root)) (i : ℕ) (q : Row) (o : Option Root) → slice_get s.rows i ≡ Some q
@@ -170,7 +176,8 @@ TellsAll-same kept now follows next e f h = record {
 
 -- ---- where nothing is kept, there is no base, and no error mark
 
-module _ (s : Store) (ks : ℕ → Option Root) (settled : (i : ℕ) (q : Row) → slice_get s.rows i ≡ Some q → TellsAll (ks i) (root_over (definition_of s) ks i q)) where
+module _ (s : Store) (ks : ℕ → Option Root)
+    (settled : (i : ℕ) (q : Row) → slice_get s.rows i ≡ Some q → TellsAll (ks i) (root_over (definition_of s) ks i q)) where
   abbrev Based : ℕ → Type 0
   Based i = (b : ℕ) × (base_in (ks i) ≡ Some b)
 
@@ -217,7 +224,8 @@ module _ (s : Store) (ks : ℕ → Option Root) (settled : (i : ℕ) (q : Row) �
   based_row n ih t b (row.Tuple js) here e = base_kept t (row.Tuple js) here t refl
   based_row n ih t b (row.Union js) here e = base_kept t (row.Union js) here t refl
 
-  marked_row : (n : ℕ) → ((j : ℕ) (b : Bool) → found_within s (error_over (definition_of s)) n j ≡ Some b → Met j) → (t : ℕ) (b : Bool) (q : Row)
+  marked_row : (n : ℕ) → ((j : ℕ) (b : Bool) → found_within s (error_over (definition_of s)) n j ≡ Some b → Met j) →
+      (t : ℕ) (b : Bool) (q : Row)
       → slice_get s.rows t ≡ Some q
       → error_over (definition_of s) (found_within s (error_over (definition_of s)) n) t q ≡ Some b → Met t
   marked_row n ih t b (row.Named d) here e = by (definition_of s d) refl e

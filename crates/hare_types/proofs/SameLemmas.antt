@@ -85,7 +85,8 @@ ascending_same (i ∷ is) (j ∷ js) a b h k =
 -- ---- rows of one type are one row, where that is known of the ids in them
 
 module _ (ts : List Tree) (n k : ℕ) (known : (a b : ℕ) → a < n → b < k → Same (tree_in ts a) (tree_in ts b) → a ≡ b) where
-  each_same : (is js : List ℕ) → AllBelow n is → AllBelow k js → SameEach (trees_of (map (tree_in ts) is)) (trees_of (map (tree_in ts) js)) → is ≡ js
+  each_same : (is js : List ℕ) → AllBelow n is → AllBelow k js →
+      SameEach (trees_of (map (tree_in ts) is)) (trees_of (map (tree_in ts) js)) → is ≡ js
   each_same [] [] a b h = refl
   each_same [] (j ∷ js) a b h = absurd h
   each_same (i ∷ is) [] a b h = absurd h
@@ -112,7 +113,8 @@ module _ (ts : List Tree) (n k : ℕ) (known : (a b : ℕ) → a < n → b < k �
   some_in a (j ∷ js) l b (inl h) = inl (known a j l b.0 h)
   some_in a (j ∷ js) l b (inr h) = inr (some_in a js l b.1 h)
 
-  all_in : (is js : List ℕ) → AllBelow n is → AllBelow k js → AllAmong (trees_of (map (tree_in ts) is)) (trees_of (map (tree_in ts) js)) → EachIn is js
+  all_in : (is js : List ℕ) → AllBelow n is → AllBelow k js → AllAmong (trees_of (map (tree_in ts) is)) (trees_of (map (tree_in ts) js)) →
+      EachIn is js
   unfolding EachIn
   all_in [] js a b h = tt
   all_in (i ∷ is) js a b h = (some_in i js a.0 b h.0, all_in is js a.1 b h.1)
@@ -123,12 +125,14 @@ module _ (ts : List Tree) (n k : ℕ) (known : (a b : ℕ) → a < n → b < k �
   among_in (i ∷ is) b a l (inl h) = inl (sym (known i b a.0 l h))
   among_in (i ∷ is) b a l (inr h) = inr (among_in is b a.1 l h)
 
-  each_in : (is js : List ℕ) → AllBelow n is → AllBelow k js → EachTree (IsAmong (trees_of (map (tree_in ts) is))) (trees_of (map (tree_in ts) js)) → EachIn js is
+  each_in : (is js : List ℕ) → AllBelow n is → AllBelow k js → EachTree (IsAmong (trees_of (map (tree_in ts) is)))
+      (trees_of (map (tree_in ts) js)) → EachIn js is
   unfolding EachIn
   each_in is [] a b h = tt
   each_in is (j ∷ js) a b h = (among_in is j a b.0 h.0, each_in is js a b.1 h.1)
 
-  row_same : (rows : List Row) (q r : Row) → IsWithin n q → IsWithin k r → IsReduced rows q → IsReduced rows r → Same (tree_of ts q) (tree_of ts r) → q ≡ r
+  row_same : (rows : List Row) (q r : Row) → IsWithin n q → IsWithin k r → IsReduced rows q → IsReduced rows r →
+      Same (tree_of ts q) (tree_of ts r) → q ≡ r
   row_same rows (row.Scalar x) (row.Scalar y) a b c d h = ap row.Scalar h
   row_same rows (row.Pointer i) (row.Pointer j) a b c d h = ap row.Pointer (known i j a b h)
   row_same rows (row.Nullable i) (row.Nullable j) a b c d h = ap row.Nullable (known i j a b h)
@@ -139,7 +143,8 @@ module _ (ts : List Tree) (n k : ℕ) (known : (a b : ℕ) → a < n → b < k �
       λ p. row.Array (f p) (e p)
   row_same rows (row.Struct fs) (row.Struct gs) a b c d h = ap row.Struct (fields_same fs gs a b h.0 h.1)
   row_same rows (row.Tuple is) (row.Tuple js) a b c d h = ap row.Tuple (each_same is js a b h)
-  row_same rows (row.Union is) (row.Union js) a b c d h = ap row.Union (ascending_same is js c.ascend d.ascend (all_in is js a b h.0) (each_in is js a b h.1))
+  row_same rows (row.Union is) (row.Union js) a b c d h =
+      ap row.Union (ascending_same is js c.ascend d.ascend (all_in is js a b h.0) (each_in is js a b h.1))
   row_same rows (row.Error i) (row.Error j) a b c d h = ap row.Error (known i j a b h)
   row_same rows (row.Named x) (row.Named y) a b c d h = ap row.Named h
   row_same rows _ _ a b c d h = absurd h
@@ -160,7 +165,8 @@ module _ (rows : List Row) (sound : AreRows rows) where
       let p = row_at i a in
       let q = row_at j b in
       let e : p.0 ≡ q.0 = row_same (trees rows) i j (λ x y u v g. same_below n x y (omega arith) (omega arith) (omega arith) g) rows p.0 q.0
-      (sound.within i p.0 p.1) (sound.within j q.0 q.1) (sound.reduced i p.0 p.1) (sound.reduced j q.0 q.1) (subst (λ t. Same t (tree_of (trees rows) q.0)) p.2 (subst (λ t. Same (tree_in (trees rows) i) t) q.2 h)) in
+      (sound.within i p.0 p.1) (sound.within j q.0 q.1) (sound.reduced i p.0 p.1) (sound.reduced j q.0 q.1)
+      (subst (λ t. Same t (tree_of (trees rows) q.0)) p.2 (subst (λ t. Same (tree_in (trees rows) i) t) q.2 h)) in
       sound.once.once i j q.0 (p.1 ∙ ap Some e) q.1
 
   pub same_once : (i j : ℕ) (t u : Tree) → slice_get (trees rows) i ≡ Some t → slice_get (trees rows) j ≡ Some u → Same t u → i ≡ j

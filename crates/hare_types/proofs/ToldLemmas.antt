@@ -74,11 +74,13 @@ agree-sizes (x ∷ xs) = agree-max (told x).size x.size _ _ (agree-told x) (agre
 
 agree-ends : (xs : List Extent) (a b : ℕ) → AreLow xs → Agree a b → Agree (fields_end a (map told xs)) (fields_end b xs)
 agree-ends [] a b low h = h
-agree-ends (x ∷ xs) a b low h = agree-ends xs _ _ low.1 (agree-add _ _ (told x).size x.size (agree-round a b x.align low.0 h) (agree-told x))
+agree-ends (x ∷ xs) a b low h =
+    agree-ends xs _ _ low.1 (agree-add _ _ (told x).size x.size (agree-round a b x.align low.0 h) (agree-told x))
 
 -- ---- of extents
 
-pub told-array : (n : ℕ) (x : Extent) → told (record { size = n * (told x).size; align = (told x).align }) ≡ told (record { size = n * x.size; align = x.align })
+pub told-array : (n : ℕ) (x : Extent) → told (record { size = n * (told x).size; align = (told x).align }) ≡ told
+    (record { size = n * x.size; align = x.align })
 told-array n x = told-agree _ _ (agree-times n (told x).size x.size (agree-told x)) refl
 
 pub told-fields : (xs : List Extent) → AreLow xs → told (fields_extent (map told xs)) ≡ told (fields_extent xs)
@@ -92,7 +94,8 @@ told-union xs =
     let align = same_align xs in
     let sum = agree-add (payload_start xs) (payload_start xs) _ _ (inl refl) (agree-sizes xs) in
     let rounded = agree-round _ _ (max 4 (greatest_align xs)) (omega arith) sum in
-    ap (λ a. told (record { size = round_up (round_up 4 a + greatest_size (map told xs)) (max 4 a); align = max 4 a })) align ∙ told-agree _ _ rounded refl
+    ap (λ a. told (record { size = round_up (round_up 4 a + greatest_size (map told xs)) (max 4 a); align = max 4 a })) align ∙ told-agree _
+    _ rounded refl
 
 -- ---- of words
 

@@ -24,7 +24,8 @@ members-append ts us (i ∷ is) h =
     let b = members-append ts us is h.1 in
     cc
 
-fields-append : (ts us : List Tree) (fs : List Field) → FieldsBelow (length ts) fs → map (λ f. tree_in (ts ++ us) f.ty) fs ≡ map (λ f. tree_in ts f.ty) fs
+fields-append : (ts us : List Tree) (fs : List Field) → FieldsBelow (length ts) fs →
+    map (λ f. tree_in (ts ++ us) f.ty) fs ≡ map (λ f. tree_in ts f.ty) fs
 fields-append ts us [] h = refl
 fields-append ts us (f ∷ fs) h =
     let a = tree_in-append ts us f.ty h.0 in
@@ -77,29 +78,35 @@ pub trees-push : (rs : List Row) (r : Row) → trees (rs ++ r ∷ []) ≡ trees 
 trees-push rs r = trees_from-append [] rs (r ∷ [])
 
 -- an id stands for the tree of its row
-tree_from : (ts : List Tree) (rs : List Row) (i : ℕ) (r : Row) → ((j : ℕ) (q : Row) → slice_get rs j ≡ Some q → IsWithin (length ts + j) q) → slice_get rs i ≡ Some r
+tree_from : (ts : List Tree) (rs : List Row) (i : ℕ) (r : Row) →
+    ((j : ℕ) (q : Row) → slice_get rs j ≡ Some q → IsWithin (length ts + j) q) → slice_get rs i ≡ Some r
     → slice_get (trees_from ts rs) (length ts + i) ≡ Some (tree_of (trees_from ts rs) r)
 unfolding further
 tree_from ts [] i r h e = cc
 tree_from ts (q ∷ rs) zero r h e =
     let same : q ≡ r = cc in
-    let here : slice_get (ts ++ (tree_of ts q ∷ further (ts ++ tree_of ts q ∷ []) rs)) (length ts) ≡ Some (tree_of ts q) = slice_get_end ts (tree_of ts q) _ in
-    let all : trees_from ts (q ∷ rs) ≡ ts ++ (tree_of ts q ∷ further (ts ++ tree_of ts q ∷ []) rs) = trees_from-further (ts ++ tree_of ts q ∷ []) rs ∙ append_assoc ts (tree_of ts q ∷ []) _ in
+    let here : slice_get (ts ++ (tree_of ts q ∷ further (ts ++ tree_of ts q ∷ []) rs)) (length ts) ≡ Some (tree_of ts q) =
+    slice_get_end ts (tree_of ts q) _ in
+    let all : trees_from ts (q ∷ rs) ≡ ts ++ (tree_of ts q ∷ further (ts ++ tree_of ts q ∷ []) rs) =
+    trees_from-further (ts ++ tree_of ts q ∷ []) rs ∙ append_assoc ts (tree_of ts q ∷ []) _ in
     let w : IsWithin (length ts) q = subst (λ n. IsWithin n q) (omega arith) (h zero q refl) in
     let n : length ts + 0 ≡ length ts = omega arith in
     rw (all, n, ← same) (here ∙ ap Some (sym (tree_of-append ts _ q w)))
 tree_from ts (q ∷ rs) (suc i) r h e =
     let n : length ts + suc i ≡ length (ts ++ tree_of ts q ∷ []) + i = omega (arith, length-append ts (tree_of ts q ∷ [])) in
-    rw n (tree_from (ts ++ tree_of ts q ∷ []) rs i r (λ j p g. subst (λ n. IsWithin n p) (omega (arith, length-append ts (tree_of ts q ∷ []))) (h (suc j) p g)) e)
+    rw n (tree_from (ts ++ tree_of ts q ∷ []) rs i r
+    (λ j p g. subst (λ n. IsWithin n p) (omega (arith, length-append ts (tree_of ts q ∷ []))) (h (suc j) p g)) e)
 
-pub tree_of_row : (rs : List Row) → ((j : ℕ) (q : Row) → slice_get rs j ≡ Some q → IsWithin j q) → (i : ℕ) (r : Row) → slice_get rs i ≡ Some r → slice_get (trees rs) i ≡ Some (tree_of (trees rs) r)
+pub tree_of_row : (rs : List Row) → ((j : ℕ) (q : Row) → slice_get rs j ≡ Some q → IsWithin j q) → (i : ℕ) (r : Row) →
+    slice_get rs i ≡ Some r → slice_get (trees rs) i ≡ Some (tree_of (trees rs) r)
 tree_of_row rs h i r e =
     let n : 0 + i ≡ i = omega arith in
     rw n at (tree_from [] rs i r (λ j q g. subst (λ n. IsWithin n q) (omega arith) (h j q g)) e)
 
 -- ids that were given keep their trees
 pub tree_kept : (rs more : List Row) (i : ℕ) (t : Tree) → slice_get (trees rs) i ≡ Some t → slice_get (trees (rs ++ more)) i ≡ Some t
-tree_kept rs more i t e = ap (λ l. slice_get l i) (trees-append rs more) ∙ slice_get_front (trees rs) _ i (slice_get_within (trees rs) i t e) ∙ e
+tree_kept rs more i t e =
+    ap (λ l. slice_get l i) (trees-append rs more) ∙ slice_get_front (trees rs) _ i (slice_get_within (trees rs) i t e) ∙ e
 
 -- ---- rows among more ids
 

@@ -19,21 +19,29 @@ use Rattle.hare_types.proofs.RootLemmas.{TellsAll-same}
 
 -- ---- a row waits, or does not
 
-pub rest-kept : (rows : List Row) (es : List (ℕ × Declared)) (old new : List Kept) (lists after : ℕ → List ℕ) (j : ℕ) → KeepsFound old new → ((p : ℕ) → Among (lists (suc p)) j → Among (after (suc p)) j)
+pub rest-kept : (rows : List Row) (es : List (ℕ × Declared)) (old new : List Kept) (lists after : ℕ → List ℕ) (j : ℕ) → KeepsFound old new →
+    ((p : ℕ) → Among (lists (suc p)) j → Among (after (suc p)) j)
     → IsAtRest rows es old lists j → IsAtRest rows es new after j
 rest-kept rows es old new lists after j k more h r g u =
     let q = h r g (sym (ap (λ l. known l j) k.extents) ∙ u) in
     (TellsAll-same _ _ _ _ (ap (λ l. known_root l j) k.roots) (ap (λ bs. root_over (defined es) (known_root bs) j r) k.roots) q.0, by q.1)
   where
-    by : IsInert es r ⊎ ((p : ℕ) × Among (lists (suc p)) j × (extent_at old p ≡ None)) → IsInert es r ⊎ ((p : ℕ) × Among (after (suc p)) j × (extent_at new p ≡ None))
+    by : IsInert es r ⊎ ((p : ℕ) × Among (lists (suc p)) j × (extent_at old p ≡ None)) →
+        IsInert es r ⊎ ((p : ℕ) × Among (after (suc p)) j × (extent_at new p ≡ None))
     by (inl x) = inl x
     by (inr w) = inr (w.0, more w.0 w.1, ap (λ l. known l w.0) k.extents ∙ w.2)
 
-module _ (rows : List Row) (es : List (ℕ × Declared)) (old new : List Kept) (pile i : ℕ) (lists : ℕ → List ℕ) (h : AreSettlingBut i rows es old pile lists) (keeps : KeepsFound old new) where
+module _ (rows : List Row) (es : List (ℕ × Declared)) (old new : List Kept) (pile i : ℕ) (lists : ℕ → List ℕ)
+    (h : AreSettlingBut i rows es old pile lists) (keeps : KeepsFound old new) where
   -- it does not
   pub stay-settling : AreLinked new pile lists → IsAtRest rows es old lists i → AreSettling rows es new pile lists
   stay-settling links at_rest = record {
-    waiting = record { links = links; unknown = λ n j a. ap (λ l. known l j) keeps.extents ∙ h.waiting.unknown n j a; needs = h.waiting.needs };
+    waiting = record {
+      links = links;
+      unknown = λ n j a. ap (λ l. known l j) keeps.extents ∙ h.waiting.unknown n j a;
+      needs =
+          h.waiting.needs;
+    };
     rest = λ j. by j (h.rest j);
   }
     where
@@ -43,7 +51,8 @@ module _ (rows : List Row) (es : List (ℕ × Declared)) (old new : List Kept) (
       by j (inr (inr a)) = inr a
 
   -- it does
-  pub wait-settling : (t : ℕ) (r : Row) → slice_get rows i ≡ Some r → AreLinked new pile (linked lists t i) → extent_at old i ≡ None → NeedsRow es r t → extent_at old t ≡ None
+  pub wait-settling : (t : ℕ) (r : Row) → slice_get rows i ≡ Some r → AreLinked new pile (linked lists t i) → extent_at old i ≡ None →
+      NeedsRow es r t → extent_at old t ≡ None
       → HasRoot es old i r → AreSettling rows es new pile (linked lists t i)
   wait-settling t r g links unknown needs free root = record {
     waiting = record { links = links; unknown = unknown_at; needs = needs_at };
@@ -66,7 +75,8 @@ module _ (rows : List Row) (es : List (ℕ × Declared)) (old new : List Kept) (
       unknown_at : (n j : ℕ) → Among (linked lists t i n) j → extent_at new j ≡ None
       unknown_at n j a = unknown_in n j (with_list-from lists (suc t) (i ∷ lists (suc t)) n j a)
 
-      needs_in : (p j : ℕ) → ((suc t ≡ suc p) × Among (i ∷ lists (suc t)) j) ⊎ (¬ (suc t ≡ suc p) × Among (lists (suc p)) j) → Needs rows es j p
+      needs_in : (p j : ℕ) → ((suc t ≡ suc p) × Among (i ∷ lists (suc t)) j) ⊎ (¬ (suc t ≡ suc p) × Among (lists (suc p)) j) →
+          Needs rows es j p
       needs_in p j (inr a) = h.waiting.needs p j a.1
       needs_in p j (inl (e, inl f)) =
           let same : t ≡ p = omega arith in
@@ -83,7 +93,8 @@ module _ (rows : List Row) (es : List (ℕ × Declared)) (old new : List Kept) (
         where
           on : (suc t ≡ suc p) ⊎ (¬ (suc t ≡ suc p)) → Among (linked lists t i (suc p)) j
           on (inl e) =
-              subst (λ xs. Among xs j) (sym (subst (λ n. with_list lists (suc t) (i ∷ lists (suc t)) n ≡ i ∷ lists n) e (with_list-here lists (suc t) (i ∷ lists (suc t))))) (inr a)
+              subst (λ xs. Among xs j) (sym (subst (λ n. with_list lists (suc t) (i ∷ lists (suc t)) n ≡ i ∷ lists n) e
+              (with_list-here lists (suc t) (i ∷ lists (suc t))))) (inr a)
           on (inr other) = subst (λ xs. Among xs j) (sym (with_list-there lists (suc t) (i ∷ lists (suc t)) (suc p) other)) a
 
       pile_same : linked lists t i 0 ≡ lists 0
@@ -91,12 +102,15 @@ module _ (rows : List Row) (es : List (ℕ × Declared)) (old new : List Kept) (
 
       here : IsAtRest rows es new (linked lists t i) i
       here q k u =
-          subst (λ x. HasRoot es new i x × (IsInert es x ⊎ ((p : ℕ) × Among (linked lists t i (suc p)) i × (extent_at new p ≡ None)))) (same_row q k) (
-            TellsAll-same _ _ _ _ (ap (λ l. known_root l i) keeps.roots) (ap (λ bs. root_over (defined es) (known_root bs) i r) keeps.roots) root,
+          subst (λ x. HasRoot es new i x × (IsInert es x ⊎ ((p : ℕ) × Among (linked lists t i (suc p)) i × (extent_at new p ≡ None))))
+          (same_row q k) (
+            TellsAll-same _ _ _ _ (ap (λ l. known_root l i) keeps.roots) (ap (λ bs. root_over (defined es) (known_root bs) i r) keeps.roots)
+                root,
             inr (t, subst (λ xs. Among xs i) (sym (with_list-here lists (suc t) (i ∷ lists (suc t)))) (inl refl), e_new t ∙ free),
           )
 
-      by : (j : ℕ) → (i ≡ j) ⊎ (IsAtRest rows es old lists j ⊎ Among (lists 0) j) → IsAtRest rows es new (linked lists t i) j ⊎ Among (linked lists t i 0) j
+      by : (j : ℕ) → (i ≡ j) ⊎ (IsAtRest rows es old lists j ⊎ Among (lists 0) j) →
+          IsAtRest rows es new (linked lists t i) j ⊎ Among (linked lists t i 0) j
       by j (inl e) = inl (subst (IsAtRest rows es new (linked lists t i)) e here)
       by j (inr (inl a)) = inl (rest-kept rows es old new lists (linked lists t i) j keeps (λ p b. wider p j b) a)
       by j (inr (inr a)) = inr (subst (λ xs. Among xs j) (sym pile_same) a)
@@ -107,14 +121,16 @@ module _ (rows : List Row) (es : List (ℕ × Declared)) (old new : List Kept) (
 -- ---- what is seen of a row
 
 -- no extent is kept
-pub unknown-read : (ks : List Kept) (i : ℕ) (k : Kept) → i < length ks → k ≡ get_or ks i k → is_some k.extent ≡ false → extent_at ks i ≡ None
+pub unknown-read : (ks : List Kept) (i : ℕ) (k : Kept) → i < length ks → k ≡ get_or ks i k → is_some k.extent ≡ false →
+    extent_at ks i ≡ None
 unknown-read ks i k l e f = extent_field ks i ∙ ap (λ x. x.extent) (sym (e ∙ get_or_default ks i k blank l)) ∙ none k.extent f
   where
     none : (o : Option Extent) → is_some o ≡ false → o ≡ None
     none None g = refl
     none (Some x) g = absurd cc
 
-module _ (rows : List Row) (ks mid : List Kept) (i n : ℕ) (r : Row) (here : slice_get rows i ≡ Some r) (within : i < length ks) (is : mid ≡ with_seen ks i n)
+module _ (rows : List Row) (ks mid : List Kept) (i n : ℕ) (r : Row) (here : slice_get rows i ≡ Some r) (within : i < length ks)
+    (is : mid ≡ with_seen ks i n)
     (before : (k p : ℕ) → k < n → slice_get (parts_of r) k ≡ Some p → IsSome (extent_at ks p)) where
   pub seen-found : KeepsFound ks mid
   seen-found = subst (KeepsFound ks) (sym is) (KeepsFound-set ks i (record (kept_at ks i) { seen = n }) refl refl)
@@ -122,8 +138,10 @@ module _ (rows : List Row) (ks mid : List Kept) (i n : ℕ) (r : Row) (here : sl
   pub seen-links : (pile : ℕ) (lists : ℕ → List ℕ) → AreLinked ks pile lists → AreLinked mid pile lists
   seen-links pile lists l =
       subst (λ x. AreLinked x pile lists) (sym is)
-      (AreLinked-same ks (with_seen ks i n) pile lists (length-set ks i (record (kept_at ks i) { seen = n })) (kept-same (λ k. k.next) ks i (record (kept_at ks i) { seen = n }) refl)
-      (kept-same (λ k. k.first) ks i (record (kept_at ks i) { seen = n }) refl) (kept-same (λ k. k.last) ks i (record (kept_at ks i) { seen = n }) refl) l)
+      (AreLinked-same ks (with_seen ks i n) pile lists (length-set ks i (record (kept_at ks i) { seen = n }))
+      (kept-same (λ k. k.next) ks i (record (kept_at ks i) { seen = n }) refl)
+      (kept-same (λ k. k.first) ks i (record (kept_at ks i) { seen = n }) refl)
+      (kept-same (λ k. k.last) ks i (record (kept_at ks i) { seen = n }) refl) l)
 
   pub seen-more : AreSeen rows ks → AreSeen rows mid
   seen-more h j k p q g l e = subst IsSome (sym (ap (λ x. known x p) seen-found.extents)) (by (equal_or_not j i))
@@ -132,10 +150,12 @@ module _ (rows : List Row) (ks mid : List Kept) (i n : ℕ) (r : Row) (here : sl
       by (inl f) =
           let both : Some r ≡ Some q = sym here ∙ ap (slice_get rows) (sym f) ∙ g in
           let same : r ≡ q = cc in
-          let seen : (kept_at mid j).seen ≡ n = ap (λ x. (kept_at mid x).seen) f ∙ ap (λ x. (kept_at x i).seen) is ∙ ap (λ x. x.seen) (kept-here ks i (record (kept_at ks i) { seen = n }) within) in
+          let seen : (kept_at mid j).seen ≡ n = ap (λ x. (kept_at mid x).seen) f ∙ ap (λ x. (kept_at x i).seen) is ∙ ap (λ x. x.seen)
+          (kept-here ks i (record (kept_at ks i) { seen = n }) within) in
           before k p (omega (arith, l, seen)) (subst (λ x. slice_get (parts_of x) k ≡ Some p) (sym same) e)
       by (inr other) =
-          let seen : (kept_at mid j).seen ≡ (kept_at ks j).seen = ap (λ x. (kept_at x j).seen) is ∙ ap (λ x. x.seen) (kept-there ks i (record (kept_at ks i) { seen = n }) j other) in
+          let seen : (kept_at mid j).seen ≡ (kept_at ks j).seen =
+          ap (λ x. (kept_at x j).seen) is ∙ ap (λ x. x.seen) (kept-there ks i (record (kept_at ks i) { seen = n }) j other) in
           h j k p q g (omega (arith, l, seen)) e
 
 -- more that is kept of others leaves what was seen
@@ -143,11 +163,13 @@ pub AreSeen-kept : (rows : List Row) (old new : List Kept) → KeepsFound old ne
 AreSeen-kept rows old new k s h i j p r g l e = subst IsSome (sym (ap (λ x. known x p) k.extents)) (h i j p r g (omega (arith, l, s i)) e)
 
 pub HaveRoots-kept : (old new : List Kept) → KeepsFound old new → HaveRoots old → HaveRoots new
-HaveRoots-kept old new k h i s = subst IsSome (sym (ap (λ l. base_in (known_root l i)) k.roots)) (h i (subst IsSome (ap (λ l. known l i) k.extents) s))
+HaveRoots-kept old new k h i s =
+    subst IsSome (sym (ap (λ l. base_in (known_root l i)) k.roots)) (h i (subst IsSome (ap (λ l. known l i) k.extents) s))
 
 -- ---- a row is taken
 
-pub pop-settling : (rows : List Row) (es : List (ℕ × Declared)) (ks : List Kept) (pile : ℕ) (lists : ℕ → List ℕ) (xs : List ℕ) → AreSettling rows es ks pile lists → lists 0 ≡ pile ∷ xs
+pub pop-settling : (rows : List Row) (es : List (ℕ × Declared)) (ks : List Kept) (pile : ℕ) (lists : ℕ → List ℕ) (xs : List ℕ) →
+    AreSettling rows es ks pile lists → lists 0 ≡ pile ∷ xs
     → AreSettlingBut pile rows es ks (kept_at ks pile).next (with_list lists 0 xs)
 pop-settling rows es ks pile lists xs h e = record {
   waiting = record {
@@ -184,26 +206,32 @@ pop-settling rows es ks pile lists xs h e = record {
     taken j (inl f) = inl f
     taken j (inr a) = inr (inr (subst (λ l. Among l j) (sym (with_list-here lists 0 xs)) a))
 
-    by : (j : ℕ) → IsAtRest rows es ks lists j ⊎ Among (lists 0) j → (pile ≡ j) ⊎ (IsAtRest rows es ks (with_list lists 0 xs) j ⊎ Among (with_list lists 0 xs 0) j)
-    by j (inl a) = inr (inl (rest-kept rows es ks ks lists (with_list lists 0 xs) j (record { extents = refl; roots = refl; as_many = refl }) (λ p b. wider p j b) a))
+    by : (j : ℕ) → IsAtRest rows es ks lists j ⊎ Among (lists 0) j →
+        (pile ≡ j) ⊎ (IsAtRest rows es ks (with_list lists 0 xs) j ⊎ Among (with_list lists 0 xs 0) j)
+    by j (inl a) = inr (inl (rest-kept rows es ks ks lists (with_list lists 0 xs) j
+        (record { extents = refl; roots = refl; as_many = refl }) (λ p b. wider p j b) a))
     by j (inr a) = taken j (subst (λ l. Among l j) e a)
 
 -- ---- a name is defined
 
 -- its row is looked at
-pub name-settling : (d : ℕ) (rows : List Row) (once : IsOnce rows) (es : List (ℕ × Declared)) (ks : List Kept) (lists : ℕ → List ℕ) (place : ℕ) → slice_get rows place ≡ Some (row.Named d)
+pub name-settling : (d : ℕ) (rows : List Row) (once : IsOnce rows) (es : List (ℕ × Declared)) (ks : List Kept) (lists : ℕ → List ℕ)
+    (place : ℕ) → slice_get rows place ≡ Some (row.Named d)
     → AreSettlingButName d rows es ks lists → AreSettlingBut place rows es ks nowhere lists
 name-settling d rows once es ks lists place here h = record { waiting = h.waiting; out = (h.out place here).1; rest = λ i. by i (h.rest i) }
   where
-    by : (i : ℕ) → (slice_get rows i ≡ Some (row.Named d)) ⊎ (IsAtRest rows es ks lists i ⊎ Among (lists 0) i) → (place ≡ i) ⊎ (IsAtRest rows es ks lists i ⊎ Among (lists 0) i)
+    by : (i : ℕ) → (slice_get rows i ≡ Some (row.Named d)) ⊎ (IsAtRest rows es ks lists i ⊎ Among (lists 0) i) →
+        (place ≡ i) ⊎ (IsAtRest rows es ks lists i ⊎ Among (lists 0) i)
     by i (inl e) = inl (once.once place i (row.Named d) here e)
     by i (inr a) = inr a
 
 -- it has none
-pub nameless-settling : (d : ℕ) (rows : List Row) (es : List (ℕ × Declared)) (ks : List Kept) (lists : ℕ → List ℕ) → ((i : ℕ) → slice_get rows i ≢ Some (row.Named d)) → AreSettlingButName d rows es ks lists
+pub nameless-settling : (d : ℕ) (rows : List Row) (es : List (ℕ × Declared)) (ks : List Kept) (lists : ℕ → List ℕ) →
+    ((i : ℕ) → slice_get rows i ≢ Some (row.Named d)) → AreSettlingButName d rows es ks lists
     → AreSettling rows es ks nowhere lists
 nameless-settling d rows es ks lists none h = record { waiting = h.waiting; rest = λ i. by i (h.rest i) }
   where
-    by : (i : ℕ) → (slice_get rows i ≡ Some (row.Named d)) ⊎ (IsAtRest rows es ks lists i ⊎ Among (lists 0) i) → IsAtRest rows es ks lists i ⊎ Among (lists 0) i
+    by : (i : ℕ) → (slice_get rows i ≡ Some (row.Named d)) ⊎ (IsAtRest rows es ks lists i ⊎ Among (lists 0) i) →
+        IsAtRest rows es ks lists i ⊎ Among (lists 0) i
     by i (inl e) = absurd (none i e)
     by i (inr a) = a

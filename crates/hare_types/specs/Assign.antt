@@ -260,7 +260,8 @@ is_union s f t = holds_of (joins s f) (base s t)
 
 -- which rows of the table admit the value to the type, in the table's order
 abbrev pub table : Store → Value → Tree → List Bool
-table s f t = is_same f t ∷ is_never f ∷ is_const s f t ∷ is_wider f t ∷ is_pointer f t ∷ is_null s f t ∷ is_slice s f t ∷ is_name s f t ∷ is_union s f t ∷ []
+table s f t = is_same f t ∷ is_never f ∷ is_const s f t ∷ is_wider f t ∷ is_pointer f t ∷ is_null s f t ∷ is_slice s f t ∷ is_name s f t ∷
+    is_union s f t ∷ []
 
 -- the number of the first that is so, counted from n
 abbrev pub first_from : ℕ → List Bool → Option ℕ

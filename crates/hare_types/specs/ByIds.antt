@@ -1,5 +1,5 @@
--- What a type is, by its id in a store: functions of the store and the id, which speak of ids and rows alone. A union is a set of types, and
--- only the ids of one store put its members into an order: so whatever speaks of types that a program makes speaks of ids.
+-- What a type is, by its id in a store: functions of the store and the id, which speak of ids and rows alone. A union is a set of types,
+-- and only the ids of one store put its members into an order: so whatever speaks of types that a program makes speaks of ids.
 use Rattle.std.specs.Prelude.{ℕ, zero, suc, ◌*◌, ◌==◌, nat_eq, Bool, true, false, List, [], length, map, position, slice_get, Some, None, Option, is_some, option_map, option_and_then}
 use Rattle.std.specs.Option.{unwrap_or}
 use Rattle.hare_types.specs.declared.extent.Extent.{Extent}
@@ -29,7 +29,8 @@ found s rule = found_within s rule (length s.rows)
 
 -- ---- base, error mark and size
 
--- What is left of the type once names and error marks are followed until neither is left. None where that comes to a name that is not defined.
+-- What is left of the type once names and error marks are followed until neither is left. None where that comes to a name that is not
+-- defined.
 abbrev pub base_at : Store → ℕ → Option ℕ
 base_at s = found s (base_over (definition_of s))
 
@@ -90,8 +91,8 @@ bytes_over definition ks t (row.Union is) = option_map union_extent (all_known k
 bytes_over definition ks t (row.Error i) = ks i
 bytes_over definition ks t (row.Named d) = option_and_then ks (definition d)
 
--- How many bytes a value of the type takes, and of what its address is a multiple. None where the type is or holds by value never, opaque or a
--- name that is not defined. Sizes have no bound.
+-- How many bytes a value of the type takes, and of what its address is a multiple. None where the type is or holds by value never, opaque
+-- or a name that is not defined. Sizes have no bound.
 abbrev pub extent_at : Store → ℕ → Option Extent
 extent_at s = found s (bytes_over (definition_of s))
 
@@ -105,7 +106,8 @@ align_at s t = unwrap_or (option_map (λ x. x.align) (extent_at s t)) 1
 
 -- ---- parts
 
--- the types of a struct's fields, a tuple's components or a union's members, in order; of the row itself, names and error marks not followed
+-- the types of a struct's fields, a tuple's components or a union's members, in order; of the row itself, names and error marks not
+-- followed
 abbrev pub parts_at : Store → ℕ → List ℕ
 parts_at s t = unwrap_or (option_map parts_of (row_at s t)) []
 

@@ -9,8 +9,8 @@ use Rattle.hare_types.specs.Sound.{IsStore}
 use Rattle.hare_types.specs.ByIds.{row_at, base_at, marked_at, is_error_at, sized_at, has_size_at, extent_at, size_at, align_at, parts_at, field_at, fields_at, members_at, offset_at, payload_at}
 use Rattle.hare_types.specs.Unions.{id_of, union_of, left_of, reduced_of, values_at, without_errors}
 
--- Names, rows, sizes and definitions of `now` are continued in `later`, under the same numbers. The list of types that have tags is not looked at:
--- it may be emptied and made anew.
+-- Names, rows, sizes and definitions of `now` are continued in `later`, under the same numbers. The list of types that have tags is not
+-- looked at: it may be emptied and made anew.
 pub record IsLater (now later : Store) : Type 0 where
   pub grows : Extends (record now { listed = [] }) later
   pub sound : IsStore later
@@ -19,8 +19,8 @@ pub record IsLater (now later : Store) : Type 0 where
 abbrev pub AreMarksKnown : Store → ℕ → Type 0
 AreMarksKnown s t = (is : List ℕ) (i : ℕ) → members_at s t ≡ Some is → Contains is i → IsSome (marked_at s i)
 
--- What is known of types in `now` is known of them in `later`, and the same. A row tells all of itself at once; what is asked of names is known
--- once they are defined, or of sizes once they are declared.
+-- What is known of types in `now` is known of them in `later`, and the same. A row tells all of itself at once; what is asked of names is
+-- known once they are defined, or of sizes once they are declared.
 pub record KeepsTypes (now later : Store) : Type 0 where
   pub row : (t : ℕ) (r : Row) → row_at now t ≡ Some r → row_at later t ≡ Some r
   pub tree : (t : ℕ) (u : Tree) → tree_at now t ≡ Some u → tree_at later t ≡ Some u

@@ -104,7 +104,8 @@ abbrev pub payload_start : List Extent → ℕ
 payload_start xs = round_up 4 (greatest_align xs)
 
 abbrev pub union_extent : List Extent → Extent
-union_extent xs = record { size = round_up (payload_start xs + greatest_size xs) (max 4 (greatest_align xs)); align = max 4 (greatest_align xs) }
+union_extent xs =
+    record { size = round_up (payload_start xs + greatest_size xs) (max 4 (greatest_align xs)); align = max 4 (greatest_align xs) }
 
 abbrev mutual
   pub extent_with : (ℕ → Option Extent) → Tree → Option Extent

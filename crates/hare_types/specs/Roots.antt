@@ -1,4 +1,5 @@
--- Roots that are kept beside the rows of a store: the base of a type, and whether it is an error type. An error mark is known before the base is.
+-- Roots that are kept beside the rows of a store: the base of a type, and whether it is an error type. An error mark is known before the
+-- base is.
 use Rattle.std.specs.Prelude.{◌≡◌, ◌⊎◌, ℕ, true, false, List, length, slice_index_or, Some, None, Option, IsSome, option_and_then}
 use Rattle.hare_types.specs.declared.root.Root.{Root}
 use Rattle.hare_types.specs.declared.row.Row.{Row}

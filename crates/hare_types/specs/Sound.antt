@@ -8,8 +8,8 @@ use Rattle.hare_types.specs.Rows.{AreRows, NamesBelow}
 use Rattle.hare_types.specs.Store.{Store, sized_of, definition_of, meaning_of}
 use Rattle.hare_types.specs.ByValue.{has_size, HoldsByValue}
 
--- Numbers stand for one name, type and listed type each, fields have names of this store, definitions are of it, and no type holds itself by
--- value.
+-- Numbers stand for one name, type and listed type each, fields have names of this store, definitions are of it, and no type holds itself
+-- by value.
 pub record IsStore (s : Store) : Type 0 where
   pub names_once : IsOnce s.names
   pub names_few : length s.names ≤ most

@@ -91,8 +91,8 @@ reduced_of s ts = joined s (left_of s ts)
 abbrev pub values_at : Store → ℕ → Option (List ℕ)
 values_at s t = option_map (filter (λ i. not (is_error_at s i))) (members_at s t)
 
--- What is left of the union that is the base of the type, without its error members: one that is left alone is itself the type, and where none
--- is left it is never.
+-- What is left of the union that is the base of the type, without its error members: one that is left alone is itself the type, and where
+-- none is left it is never.
 abbrev pub joined_or_never : Store → List ℕ → Option ℕ
 joined_or_never s [] = id_of s (row.Scalar Never)
 joined_or_never s (i ∷ is) = joined s (i ∷ is)

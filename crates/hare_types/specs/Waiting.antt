@@ -1,5 +1,5 @@
--- What is kept beside the rows of a store, and the rows that wait for others: where nothing is known of the extent of a row yet, it stands in
--- the list of a row that it needs. The lists are linked through what is kept.
+-- What is kept beside the rows of a store, and the rows that wait for others: where nothing is known of the extent of a row yet, it stands
+-- in the list of a row that it needs. The lists are linked through what is kept.
 use Rattle.std.specs.Prelude.{◌≡◌, ℕ, zero, suc, ◌+◌, ◌<◌, ◌==◌, cond, ◌⊎◌, nat_eq, List, [], ◌∷◌, ◌++◌, length, map, set, slice_get, slice_index_or, Some, None, Option, IsSome, IfSome}
 use Rattle.hare_types.specs.declared.declared.Declared.{Declared}
 use Rattle.hare_types.specs.declared.extent.Extent.{Extent}
@@ -113,7 +113,8 @@ HaveRoots ks = (i : ℕ) → IsSome (extent_at ks i) → IsSome (base_in (root_a
 
 -- of the parts of a row that were seen an extent is kept
 abbrev pub AreSeen : List Row → List Kept → Type 0
-AreSeen rows ks = (i k p : ℕ) (r : Row) → slice_get rows i ≡ Some r → k < (kept_at ks i).seen → slice_get (parts_of r) k ≡ Some p → IsSome (extent_at ks p)
+AreSeen rows ks = (i k p : ℕ) (r : Row) → slice_get rows i ≡ Some r → k < (kept_at ks i).seen → slice_get (parts_of r) k ≡ Some p →
+    IsSome (extent_at ks p)
 
 -- each row that is not in list 0 is at rest
 pub record AreSettling (rows : List Row) (es : List (ℕ × Declared)) (ks : List Kept) (pile : ℕ) (lists : ℕ → List ℕ) : Type 0 where
@@ -121,7 +122,8 @@ pub record AreSettling (rows : List Row) (es : List (ℕ × Declared)) (ks : Lis
   pub rest : (i : ℕ) → IsAtRest rows es ks lists i ⊎ Among (lists 0) i
 
 -- the same, but for row `at`, which is in no list
-pub record AreSettlingBut (at : ℕ) (rows : List Row) (es : List (ℕ × Declared)) (ks : List Kept) (pile : ℕ) (lists : ℕ → List ℕ) : Type 0 where
+pub record AreSettlingBut (at : ℕ) (rows : List Row) (es : List (ℕ × Declared)) (ks : List Kept) (pile : ℕ) (lists : ℕ → List ℕ) : Type
+    0 where
   pub waiting : AreWaiting rows es ks pile lists
   pub out : (n : ℕ) → ¬ Among (lists n) at
   pub rest : (i : ℕ) → (at ≡ i) ⊎ (IsAtRest rows es ks lists i ⊎ Among (lists 0) i)

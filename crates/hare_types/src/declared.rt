@@ -16,7 +16,8 @@ pub struct Declared {
 /// Enters what a declared type is defined to be.
 pub(crate) fn set_definition(declared: &mut IndexMap<u32, Declared>, decl: u32, t: TypeId)
     requires { IsSome (get nat_eq declared.old decl) }
-    ensures { IfSome (get nat_eq declared.old decl) (λ e. Updates nat_eq declared.old declared.new decl (Some (record e { definition = Some t }))) }
+    ensures { IfSome (get nat_eq declared.old decl)
+        (λ e. Updates nat_eq declared.old declared.new decl (Some (record e { definition = Some t }))) }
 {
     match declared.get_mut(&decl) {
         Some(entry) => entry.definition = Some(t),

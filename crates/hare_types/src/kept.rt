@@ -15,7 +15,8 @@ pub(crate) const NOWHERE: u32 = 4_294_967_295;
 
 /// What is kept of a row: its extent and its root, where they are known, and its place in the lists of rows that wait.
 ///
-/// `first` and `last` are the ends of the list of the rows that wait for this one, and `next` is the row behind this one in the list in which it
+/// `first` and `last` are the ends of the list of the rows that wait for this one, and `next` is the row behind this one in the list in
+/// which it
 /// stands itself. Of the first `seen` types that it holds by value an extent is kept.
 #[derive(Clone, Copy, Drop)]
 pub(crate) struct Kept {

@@ -3,8 +3,8 @@
 ghost use Rattle.hare_types.specs.Later.{TypesStay};
 ghost use Rattle.hare_types.specs.Meanings.{IdsMeanTrees, IdsAscend};
 
-/// What is said of a type by its id is what is said of its tree: base, error mark, size and alignment, members and tag; and two ids are equal
-/// exactly where they stand for one type, a union being the set of its members.
+/// What is said of a type by its id is what is said of its tree: base, error mark, size and alignment, members and tag; and two ids are
+/// equal exactly where they stand for one type, a union being the set of its members.
 #[tactic(auto, using(crate::proofs::MeaningsLemmas::ids_mean_trees))]
 pub fn law_ids_mean_trees()
     ensures { IdsMeanTrees }

@@ -1,8 +1,9 @@
 //! Where rows lie in the store's table of hashes.
 //!
-//! Types that are taken in one after another are mostly asked for one after another. Pointers to them so lie by their ids in the table, and few
-//! lines of memory are met for many of them. There is at most one pointer to a type, so that no part of the table gets more of them than it has
-//! room for; of other rows, as arrays, there may be any number over one type, and they lie by a hash of all that is in them, which scatters them.
+//! Types that are taken in one after another are mostly asked for one after another. Pointers to them so lie by their ids in the table, and
+//! few lines of memory are met for many of them. There is at most one pointer to a type, so that no part of the table gets more of them
+//! than it has room for; of other rows, as arrays, there may be any number over one type, and they lie by a hash of all that is in them,
+//! which scatters them.
 
 ghost use Rattle.std.specs.Prelude.{◌≡◌, length};
 ghost use Rattle.std.specs.Hash.FoldHasher.{read_u32};

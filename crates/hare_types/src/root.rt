@@ -7,8 +7,8 @@ use crate::id::TypeId;
 use crate::packed::PackedId;
 use std::marker::Model;
 
-/// What is known of a type once names and error marks are followed: what it comes to where neither is left, and whether an error mark was met on
-/// the way. A type is known to be an error type as soon as a mark is met, before its base is known.
+/// What is known of a type once names and error marks are followed: what it comes to where neither is left, and whether an error mark was
+/// met on the way. A type is known to be an error type as soon as a mark is met, before its base is known.
 #[derive(Clone, Copy, Debug, PartialEq, Eq)]
 pub(crate) struct Root {
     pub base: Option<TypeId>,

@@ -54,7 +54,8 @@ fn look(rows: &[Row], declared: &IndexMap<u32, Declared>, kept: &mut Vec<Kept>, 
     requires as_many { length kept.old.items ≡ length rows.now }
     requires bounded { AreBounded (extents kept.old.items) }
     requires rooted { HaveRoots kept.old.items }
-    ensures found { result ≡ true → (r : RowOf) → slice_get rows.now i ≡ Some r → IsFound declared.now.entries kept.old.items kept.new.items i r }
+    ensures found { result ≡ true → (r : RowOf) → slice_get rows.now i ≡ Some r → IsFound declared.now.entries kept.old.items kept.new.items
+        i r }
     ensures same { result ≡ false → kept.new.items ≡ kept.old.items }
     ensures none { result ≡ false → (r : RowOf) → slice_get rows.now i ≡ Some r → NoneFollows declared.now.entries kept.old.items i r }
 {
@@ -136,18 +137,20 @@ pub(crate) fn fresh(row: &Row, i: usize, declared: &IndexMap<u32, Declared>, kep
     }
 }
 
-/// Lets row `i`, which stands in no list and for which no more follows, wait for the first type whose extent it needs, where no extent is kept
-/// of it.
+/// Lets row `i`, which stands in no list and for which no more follows, wait for the first type whose extent it needs, where no extent is
+/// kept of it.
 pub(crate) fn wait(rows: &[Row], declared: &IndexMap<u32, Declared>, kept: &mut Vec<Kept>, i: usize)
     requires within { i < length rows.now }
     requires few { length rows.now ≤ most }
     requires as_many { length kept.old.items ≡ length rows.now }
     requires needs { NeedsAreWithin rows.now declared.now.entries }
     requires seen { AreSeen rows.now kept.old.items }
-    requires none { extent_at kept.old.items i ≡ None → (r : RowOf) → slice_get rows.now i ≡ Some r → NoneFollows declared.now.entries kept.old.items i r }
+    requires none { extent_at kept.old.items i ≡ None → (r : RowOf) → slice_get rows.now i ≡ Some r →
+        NoneFollows declared.now.entries kept.old.items i r }
     ensures found { KeepsFound kept.old.items kept.new.items }
     ensures seen { AreSeen rows.now kept.new.items }
-    ensures settled { (pile : ℕ) (lists : ℕ → List ℕ) → AreSettlingBut i rows.now declared.now.entries kept.old.items pile lists → (new : ℕ → List ℕ) × AreSettling rows.now declared.now.entries kept.new.items pile new × (new 0 ≡ lists 0) }
+    ensures settled { (pile : ℕ) (lists : ℕ → List ℕ) → AreSettlingBut i rows.now declared.now.entries kept.old.items pile lists →
+        (new : ℕ → List ℕ) × AreSettling rows.now declared.now.entries kept.new.items pile new × (new 0 ≡ lists 0) }
 {
     let old = kept[i];
     if old.extent.get().is_some() {
@@ -170,8 +173,10 @@ pub(crate) fn keep_if_new(
 )
     requires few { length rows.now ≤ most }
     requires room { vec_len kept.old < vec_capacity kept.old }
-    requires taken { (s : Store) × (r : RowOf) × (s.declared ≡ declared.now.entries) × (i ≡ length s.rows) × IsTakenIn s kept.old.items r rows.now }
-    ensures kept { (s : Store) (r : RowOf) → s.declared ≡ declared.now.entries → i ≡ length s.rows → IsTakenIn s kept.old.items r rows.now → AreKept (record s { rows = rows.now }) kept.new.items }
+    requires taken { (s : Store) × (r : RowOf) × (s.declared ≡ declared.now.entries) × (i ≡ length s.rows) ×
+        IsTakenIn s kept.old.items r rows.now }
+    ensures kept { (s : Store) (r : RowOf) → s.declared ≡ declared.now.entries → i ≡ length s.rows → IsTakenIn s kept.old.items r rows.now →
+        AreKept (record s { rows = rows.now }) kept.new.items }
 {
     if i < rows.len() {
         let fresh = fresh(&rows[i], i, declared, kept);
@@ -180,8 +185,8 @@ pub(crate) fn keep_if_new(
     }
 }
 
-/// Looks at row `i`, which stands in no list, and of which no extent is kept: where more follows for it, the rows that wait for it are to be
-/// looked at too. The answer is the first row that is to be looked at, which was `pile`.
+/// Looks at row `i`, which stands in no list, and of which no extent is kept: where more follows for it, the rows that wait for it are to
+/// be looked at too. The answer is the first row that is to be looked at, which was `pile`.
 fn step(
     rows: &[Row],
     declared: &IndexMap<u32, Declared>,
@@ -202,9 +207,12 @@ fn step(
     ensures bounded { AreBounded (extents kept.new.items) }
     ensures rooted { HaveRoots kept.new.items }
     ensures seen { AreSeen rows.now kept.new.items }
-    ensures extents { (s : Store) → s.rows ≡ rows.now → s.declared ≡ declared.now.entries → IsStore s → KeepsExtents s (extents kept.old.items) → KeepsExtents s (extents kept.new.items) }
-    ensures roots { (s : Store) → s.rows ≡ rows.now → s.declared ≡ declared.now.entries → IsStore s → KeepsRoots s (roots kept.old.items) → KeepsRoots s (roots kept.new.items) }
-    ensures settled { (lists : ℕ → List ℕ) → AreSettlingBut i rows.now declared.now.entries kept.old.items pile lists → (new : ℕ → List ℕ) × AreSettling rows.now declared.now.entries kept.new.items result new × IsLess kept.old.items kept.new.items lists new }
+    ensures extents { (s : Store) → s.rows ≡ rows.now → s.declared ≡ declared.now.entries → IsStore s →
+        KeepsExtents s (extents kept.old.items) → KeepsExtents s (extents kept.new.items) }
+    ensures roots { (s : Store) → s.rows ≡ rows.now → s.declared ≡ declared.now.entries → IsStore s → KeepsRoots s (roots kept.old.items) →
+        KeepsRoots s (roots kept.new.items) }
+    ensures settled { (lists : ℕ → List ℕ) → AreSettlingBut i rows.now declared.now.entries kept.old.items pile lists → (new : ℕ → List ℕ) ×
+        AreSettling rows.now declared.now.entries kept.new.items result new × IsLess kept.old.items kept.new.items lists new }
 {
     if look(rows, declared, kept, i) {
         let first = release(kept, i, pile);
@@ -215,8 +223,8 @@ fn step(
     pile
 }
 
-/// Enters the extents and roots that follow from the definition of a name. Each row that waits is looked at only once something that it waits
-/// for is known.
+/// Enters the extents and roots that follow from the definition of a name. Each row that waits is looked at only once something that it
+/// waits for is known.
 pub(crate) fn settle(
     rows: &Rows,
     declared: &IndexMap<u32, Declared>,
@@ -233,8 +241,10 @@ pub(crate) fn settle(
     requires lists { (lists : ℕ → List ℕ) × AreSettlingButName decl rows.now.keys declared.now.entries kept.old.items lists }
     ensures rooted { HaveRoots kept.new.items }
     ensures seen { AreSeen rows.now.keys kept.new.items }
-    ensures extents { (s : Store) → s.rows ≡ rows.now.keys → s.declared ≡ declared.now.entries → IsStore s → KeepsExtents s (extents kept.old.items) → KeepsExtents s (extents kept.new.items) }
-    ensures roots { (s : Store) → s.rows ≡ rows.now.keys → s.declared ≡ declared.now.entries → IsStore s → KeepsRoots s (roots kept.old.items) → KeepsRoots s (roots kept.new.items) }
+    ensures extents { (s : Store) → s.rows ≡ rows.now.keys → s.declared ≡ declared.now.entries → IsStore s →
+        KeepsExtents s (extents kept.old.items) → KeepsExtents s (extents kept.new.items) }
+    ensures roots { (s : Store) → s.rows ≡ rows.now.keys → s.declared ≡ declared.now.entries → IsStore s →
+        KeepsRoots s (roots kept.old.items) → KeepsRoots s (roots kept.new.items) }
     ensures settled { (new : ℕ → List ℕ) × AreSettling rows.now.keys declared.now.entries kept.new.items nowhere new }
 {
     match rows.get_index_of(&Row::Named(decl)) {
@@ -256,8 +266,10 @@ fn settle_from(rows: &[Row], declared: &IndexMap<u32, Declared>, kept: &mut Vec<
     requires lists { (lists : ℕ → List ℕ) × AreSettlingBut i rows.now declared.now.entries kept.old.items nowhere lists }
     ensures rooted { HaveRoots kept.new.items }
     ensures seen { AreSeen rows.now kept.new.items }
-    ensures extents { (s : Store) → s.rows ≡ rows.now → s.declared ≡ declared.now.entries → IsStore s → KeepsExtents s (extents kept.old.items) → KeepsExtents s (extents kept.new.items) }
-    ensures roots { (s : Store) → s.rows ≡ rows.now → s.declared ≡ declared.now.entries → IsStore s → KeepsRoots s (roots kept.old.items) → KeepsRoots s (roots kept.new.items) }
+    ensures extents { (s : Store) → s.rows ≡ rows.now → s.declared ≡ declared.now.entries → IsStore s →
+        KeepsExtents s (extents kept.old.items) → KeepsExtents s (extents kept.new.items) }
+    ensures roots { (s : Store) → s.rows ≡ rows.now → s.declared ≡ declared.now.entries → IsStore s → KeepsRoots s (roots kept.old.items) →
+        KeepsRoots s (roots kept.new.items) }
     ensures settled { (new : ℕ → List ℕ) × AreSettling rows.now declared.now.entries kept.new.items nowhere new }
 {
     let mut pile = step(rows, declared, kept, i, NOWHERE);

@@ -54,9 +54,17 @@ impl Model for TypeStore {
 
     ghost Value = { Store };
 
-    ghost view = { λ a. record { names = map (λ v. v.items) a.names.keys; rows = a.rows.keys; declared = a.declared.entries; listed = a.listed.keys } };
+    ghost view = { λ a. record {
+      names = map (λ v. v.items) a.names.keys;
+      rows = a.rows.keys;
+      declared = a.declared.entries;
+      listed =
+          a.listed.keys;
+    } };
 
-    ghost invariant = { λ a. IsWhole (record { names = map (λ v. v.items) a.names.keys; rows = a.rows.keys; declared = a.declared.entries; listed = a.listed.keys }) a.kept.items a.fields.entries };
+    ghost invariant = { λ a. IsWhole
+        (record { names = map (λ v. v.items) a.names.keys; rows = a.rows.keys; declared = a.declared.entries; listed = a.listed.keys })
+        a.kept.items a.fields.entries };
 }
 
 impl TypeStore {
@@ -121,9 +129,9 @@ impl TypeStore {
 
     /// Enters what a declared type is defined to be. The type neither is nor holds by value that name.
     ///
-    /// The extents and bases that follow are entered. A type that was taken in before a name that it is or holds by value was defined waits for
-    /// the first type whose extent is not known yet, and is looked at again only once more is known of that one: over all definitions the
-    /// time is that of the types that wait and of the types that they hold.
+    /// The extents and bases that follow are entered. A type that was taken in before a name that it is or holds by value was defined waits
+    /// for the first type whose extent is not known yet, and is looked at again only once more is known of that one: over all definitions
+    /// the time is that of the types that wait and of the types that they hold.
     pub fn define(&mut self, decl: u32, t: TypeId)
         requires declared { IsSome (sized_of self.old decl) }
         requires fresh { definition_of self.old decl ≡ None }
@@ -181,7 +189,8 @@ impl TypeStore {
         ensures id { IfOk result (λ t. (later : Store) → IsLater self.new later → id_of later r ≡ Some t) }
         ensures within { IfOk result (λ t. t < length self.new.rows) }
         ensures stands { IfOk result (λ t. tree_at self.new t ≡ Some (tree_of (trees self.old.rows) r)) }
-        ensures once { IfOk result (λ t. (i : ℕ) (u : Tree) → tree_at self.new i ≡ Some u → Same u (tree_of (trees self.old.rows) r) → i ≡ t) }
+        ensures once { IfOk result (λ t. (i : ℕ) (u : Tree) → tree_at self.new i ≡ Some u → Same u (tree_of (trees self.old.rows) r) →
+            i ≡ t) }
         ensures kept { (i : ℕ) (u : Tree) → tree_at self.old i ≡ Some u → tree_at self.new i ≡ Some u }
         ensures rest { OnOk result (self.new ≡ record self.old { rows = self.new.rows }) }
         ensures grows { Extends self.old self.new }
@@ -222,7 +231,8 @@ impl TypeStore {
         extent_at(self.kept.as_slice(), t)
     }
 
-    /// The same of the type of a row, whose ids are of this store: it need not be in the store itself. The time is that of the types in the row.
+    /// The same of the type of a row, whose ids are of this store: it need not be in the store itself. The time is that of the types in the
+    /// row.
     pub fn row_extent(&self, r: &Row) -> Option<Extent>
         requires { IsWithin (length self.now.rows) r.now }
         ensures some { IfSome result (λ x. (y : ExtentOf) × HasExtent self.now (tree_of (trees self.now.rows) r.now) y × (x ≡ told y)) }
@@ -244,8 +254,8 @@ impl TypeStore {
         base_at(self.kept.as_slice(), t)
     }
 
-    /// Whether the type is an error type: it bears an error mark, or names a type that does; of a name that is not defined this is not known,
-    /// and the answer is no. The time is constant.
+    /// Whether the type is an error type: it bears an error mark, or names a type that does; of a name that is not defined this is not
+    /// known, and the answer is no. The time is constant.
     pub fn is_error(&self, t: TypeId) -> bool
         ensures { result ≡ is_error_at self.now t }
     {
@@ -255,8 +265,8 @@ impl TypeStore {
         }
     }
 
-    /// Whether values of the type have a size: never and opaque have none, an error type as much as the type that it marks, and a name as it
-    /// was declared, which is known before it is defined; a name that is not declared has none. The time is that of the error marks that
+    /// Whether values of the type have a size: never and opaque have none, an error type as much as the type that it marks, and a name as
+    /// it was declared, which is known before it is defined; a name that is not declared has none. The time is that of the error marks that
     /// stand directly before one another.
     pub fn has_size(&self, t: TypeId) -> bool
         ensures { result ≡ has_size_at self.now t }
@@ -264,8 +274,8 @@ impl TypeStore {
         has_size(self.rows.as_slice(), &self.declared, t)
     }
 
-    /// The place of the field of a struct that has the name of this number, counted from 0: of the first where there are several. `None` where
-    /// the type is no struct, or has no such field; names and error marks are not followed. The time is constant.
+    /// The place of the field of a struct that has the name of this number, counted from 0: of the first where there are several. `None`
+    /// where the type is no struct, or has no such field; names and error marks are not followed. The time is constant.
     pub fn field(&self, t: TypeId, name: u32) -> Option<usize>
         ensures { result ≡ field_at self.now t name }
     {

@@ -37,7 +37,8 @@ pub(crate) fn link(kept: &mut Vec<Kept>, t: usize, i: u32)
     requires waited { t < length kept.old.items }
     requires waits { i < length kept.old.items }
     requires few { length kept.old.items ≤ most }
-    ensures lists { (pile : ℕ) (lists : ℕ → List ℕ) → AreLinked kept.old.items pile lists → ((n : ℕ) → ¬ Among (lists n) i) → AreLinked kept.new.items pile (linked lists t i) }
+    ensures lists { (pile : ℕ) (lists : ℕ → List ℕ) → AreLinked kept.old.items pile lists → ((n : ℕ) → ¬ Among (lists n) i) →
+        AreLinked kept.new.items pile (linked lists t i) }
     ensures found { KeepsFound kept.old.items kept.new.items }
     ensures seen { KeepsSeen kept.old.items kept.new.items }
 {

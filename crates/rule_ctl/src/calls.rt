@@ -201,7 +201,8 @@ fn has_param(
     meaning: Meaning,
     j: usize,
 ) -> Result<bool, AllocError>
-    ensures value { IfOk result (λ b. (f : Store) → IsLater s.new f → b ≡ is_some (param_at (spec.called (setting_of f decls.now) meaning) j)) }
+    ensures value { IfOk result (λ b. (f : Store) → IsLater s.new f →
+        b ≡ is_some (param_at (spec.called (setting_of f decls.now) meaning) j)) }
     ensures grown { IsGrown s.old s.new }
 {
     let _law = s.declarations();

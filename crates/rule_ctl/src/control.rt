@@ -68,13 +68,13 @@ impl Rules for Control {
     ghost needs_stay = { ready_stays };
 }
 
-/// Judges `as`, `is`, a call, `?`, `!`, `abort`, `assert`, `let`, `const`, `defer`, `break`, `continue`, `return` or `yield`: its type and the
-/// coercions that it settles, or the fault of the first row of the table of typing rules that it fails. The answer is that of every later store.
-/// The store may grow in types, also where there is a fault. Whether a block asks for the value that a `yield` lacks is not asked here: a label
-/// does not tell what it is asked for.
+/// Judges `as`, `is`, a call, `?`, `!`, `abort`, `assert`, `let`, `const`, `defer`, `break`, `continue`, `return` or `yield`: its type and
+/// the coercions that it settles, or the fault of the first row of the table of typing rules that it fails. The answer is that of every
+/// later store. The store may grow in types, also where there is a fault. Whether a block asks for the value that a `yield` lacks is not
+/// asked here: a label does not tell what it is asked for.
 ///
-/// The node is shaped and has these kids, which have been judged; each type that stands in them or in `c` is in the store, and mentions no name
-/// that is not defined. What a callee means is known, and the store defines `rt::nomem`.
+/// The node is shaped and has these kids, which have been judged; each type that stands in them or in `c` is in the store, and mentions no
+/// name that is not defined. What a callee means is known, and the store defines `rt::nomem`.
 pub fn judge(
     alloc: Global,
     s: &mut TypeStore,

@@ -207,13 +207,15 @@ fn inconstant_fault(
     }
 }
 
-/// Judges the declaration of a def or of a global: the coercion of its value where no type is written, or the fault of the first row of the table of
-/// typing rules that it fails. Its type is written, or the value has a default; that type has a size; the value is constant; and a def has an integer
-/// type, `bool`, `rune` or `str` as its base. The answer is that of every later store. The store may grow in types, also where there is a fault.
+/// Judges the declaration of a def or of a global: the coercion of its value where no type is written, or the fault of the first row of the
+/// table of typing rules that it fails. Its type is written, or the value has a default; that type has a size; the value is constant; and a
+/// def has an integer type, `bool`, `rune` or `str` as its base. The answer is that of every later store. The store may grow in types, also
+/// where there is a fault.
 ///
-/// `inconstant` is where the first node of the value stands, in check order, that is not constant or would abort; it is asked for only where the value
-/// has no constant. The node is shaped and has these kids, which have been judged, the value with its constant; each type that stands in them or in `c`
-/// is in the store, and mentions no name that is not defined.
+/// `inconstant` is where the first node of the value stands, in check order, that is not constant or would abort; it is asked for only
+/// where the value
+/// has no constant. The node is shaped and has these kids, which have been judged, the value with its constant; each type that stands in
+/// them or in `c` is in the store, and mentions no name that is not defined.
 pub fn judge_declaration(
     alloc: Global,
     s: &mut TypeStore,

@@ -19,7 +19,8 @@ use hare_types::{Scalar, TypeId, TypeStore};
 use rule_judge::{Turn, word};
 use std::alloc::{AllocError, Global};
 
-/// Whether the node has asked its kid number `i` for a value of a type. A label does not tell what it is asked for, and so `yield` asks for none.
+/// Whether the node has asked its kid number `i` for a value of a type. A label does not tell what it is asked for, and so `yield` asks for
+/// none.
 pub fn asks_type(
     alloc: Global,
     s: &mut TypeStore,

@@ -28,8 +28,8 @@ fn unless(met: bool, place: Place) -> Option<Place>
     if met { None } else { Some(place) }
 }
 
-/// The place of the fault, where the node fails one of these rows; none where it meets it. That a block asks for no value where a `yield` has none
-/// is not known here, and the row of that is met.
+/// The place of the fault, where the node fails one of these rows; none where it meets it. That a block asks for no value where a `yield`
+/// has none is not known here, and the row of that is met.
 pub(crate) fn unmet(
     s: &mut TypeStore,
     t: &Turn<'_>,

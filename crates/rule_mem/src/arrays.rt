@@ -94,7 +94,8 @@ pub(crate) fn element_count(s: &TypeStore, t: &Turn<'_>) -> u64
 pub(crate) fn item_type(s: &mut TypeStore, t: &Turn<'_>) -> Result<Option<TypeId>, AllocError>
     requires { IsTurn s.old t.now }
     ensures value { IfOk result (λ o. (f : Store) → IsLater s.new f → o ≡ spec.item_type (context_in f t.now)) }
-    ensures there { IfOk result (λ o. (f : Store) → IsLater s.old f → is_some o ≡ (not (spec.is_empty_array (context_in f t.now)) && holds row.ArrayFirstDefault (context_in f t.now))) }
+    ensures there { IfOk result (λ o. (f : Store) → IsLater s.old f →
+        is_some o ≡ (not (spec.is_empty_array (context_in f t.now)) && holds row.ArrayFirstDefault (context_in f t.now))) }
     ensures defined { IfOk result (λ o. IfSome o (λ u. IsDefined s.new u)) }
     ensures grown { IsGrown s.old s.new }
 {
@@ -173,7 +174,8 @@ pub(crate) fn array_type(s: &mut TypeStore, t: &Turn<'_>) -> Result<Ty, AllocErr
     }
 }
 
-/// Whether an array asks its kid number `i` for a type: for the element that a hint gives, or else, behind the first, for the default of that.
+/// Whether an array asks its kid number `i` for a type: for the element that a hint gives, or else, behind the first, for the default of
+/// that.
 pub(crate) fn item_asks(s: &mut TypeStore, t: &Turn<'_>, i: usize) -> Result<bool, AllocError>
     requires { IsTurn s.old t.now }
     ensures value { IfOk result (λ b. (f : Store) → IsLater s.new f → b ≡ asks_as (context_in f t.now) i ki.Array) }

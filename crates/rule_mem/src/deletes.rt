@@ -61,7 +61,8 @@ fn is_operand_place(s: &TypeStore, t: &Turn<'_>, tree: &Typed) -> bool
 /// Whether the operand of a tree is a place that may be assigned to.
 fn is_operand_mutable(s: &TypeStore, t: &Turn<'_>, tree: &Typed) -> bool
     requires { IsDefinedTree s.now tree.now }
-    ensures { (f : Store) → IsLater s.now f → result ≡ places.is_mutable (setting_of f t.now.decls.now) (entries t.now.locals.now) (kid_from_front 0 tree.now) }
+    ensures { (f : Store) → IsLater s.now f → result ≡ places.is_mutable (setting_of f t.now.decls.now) (entries t.now.locals.now)
+        (kid_from_front 0 tree.now) }
 {
     match tree.kids.get(0) {
         Some(operand) => is_mutable(s, t.decls, t.locals, operand),

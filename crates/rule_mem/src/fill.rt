@@ -31,7 +31,8 @@ fn count(named: &Counts, name: u32) -> usize
 /// Counts a name once more.
 fn count_one(named: &mut Counts, name: u32) -> Result<(), AllocError>
     requires { unwrap_or (get nat_eq named.old name) 0 + 1 < 2 ^ 64 }
-    ensures { OnOk result ((n : ℕ) → unwrap_or (get nat_eq named.new n) 0 ≡ unwrap_or (get nat_eq named.old n) 0 + (if nat_eq name n then 1 else 0)) }
+    ensures { OnOk result ((n : ℕ) → unwrap_or (get nat_eq named.new n) 0 ≡ unwrap_or (get nat_eq named.old n) 0 +
+        (if nat_eq name n then 1 else 0)) }
 {
     let once_more = count(named, name) + 1;
     named.insert(name, once_more)?;
@@ -41,7 +42,8 @@ fn count_one(named: &mut Counts, name: u32) -> Result<(), AllocError>
 /// Counts the name that is spelled so, where the store has it.
 fn count_spelled(named: &mut Counts, s: &TypeStore, text: &[u8]) -> Result<(), AllocError>
     requires { (n : ℕ) → unwrap_or (get nat_eq named.old n) 0 + 1 < 2 ^ 64 }
-    ensures { OnOk result ((n : ℕ) → unwrap_or (get nat_eq named.new n) 0 ≡ unwrap_or (get nat_eq named.old n) 0 + (if spells s.now n text.now then 1 else 0)) }
+    ensures { OnOk result ((n : ℕ) → unwrap_or (get nat_eq named.new n) 0 ≡ unwrap_or (get nat_eq named.old n) 0 +
+        (if spells s.now n text.now then 1 else 0)) }
 {
     let _law = s.declarations();
     match s.find_name(text) {
@@ -74,8 +76,8 @@ fn each_once(named: &Counts, fields: &[Field]) -> bool
     fields.iter().all(|f| count(named, f.name) == 1)
 }
 
-/// Whether each field of a struct has just one of the values of a literal, and there is no other value. The time is that of the fields and of
-/// the values.
+/// Whether each field of a struct has just one of the values of a literal, and there is no other value. The time is that of the fields and
+/// of the values.
 pub(crate) fn is_filled(
     alloc: Global,
     s: &TypeStore,

@@ -92,7 +92,8 @@ fn literal_asks(s: &TypeStore, t: &Turn<'_>, i: usize) -> bool
     field_of(s, &own(t, 0), text_at(t.kids, i)).is_some()
 }
 
-/// Whether an allocation asks its kid number `i` for a type: the operand, where the hint asks for such a value, and the capacity for `size`.
+/// Whether an allocation asks its kid number `i` for a type: the operand, where the hint asks for such a value, and the capacity for
+/// `size`.
 fn allocation_asks(s: &mut TypeStore, t: &Turn<'_>, i: usize) -> Result<bool, AllocError>
     requires { IsTurn s.old t.now }
     ensures value { IfOk result (λ b. (f : Store) → IsLater s.new f → b ≡ asks_as (context_in f t.now) i ki.Alloc) }

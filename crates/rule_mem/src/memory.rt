@@ -68,12 +68,14 @@ impl Rules for Memory {
     ghost needs_stay = { ready_stays };
 }
 
-/// Judges a path, what a pointer leads to, an address, an assignment, an index, a slice, a member, a struct literal, a tuple, an array, `alloc`,
-/// `free`, `append`, `delete`, `len` or `offset`: its type and the coercions that it settles, or the fault of the first row of the table of typing
+/// Judges a path, what a pointer leads to, an address, an assignment, an index, a slice, a member, a struct literal, a tuple, an array,
+/// `alloc`,
+/// `free`, `append`, `delete`, `len` or `offset`: its type and the coercions that it settles, or the fault of the first row of the table of
+/// typing
 /// rules that it fails. The answer is that of every later store. The store may grow in types, also where there is a fault.
 ///
-/// The node is shaped and has these kids, which have been judged; each type that stands in them or in `c` is in the store, and mentions no name
-/// that is not defined. What a path means is known, and the store defines `rt::nomem`.
+/// The node is shaped and has these kids, which have been judged; each type that stands in them or in `c` is in the store, and mentions no
+/// name that is not defined. What a path means is known, and the store defines `rt::nomem`.
 pub fn judge(
     alloc: Global,
     s: &mut TypeStore,

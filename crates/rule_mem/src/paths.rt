@@ -64,7 +64,8 @@ fn declares_value(s: &mut TypeStore, decls: &DeclTypes, n: u32) -> Result<bool, 
 pub(crate) fn names_value(s: &mut TypeStore, t: &Turn<'_>) -> Result<bool, AllocError>
     requires meant { IsMeant s.old t.now.decls.now t.now.locals.now t.now.case.now.meaning }
     requires nomem { IsDefinedName s.old words.nomem }
-    ensures value { IfOk result (λ b. (f : Store) → IsLater s.new f → b ≡ spec.names_value (setting_of f t.now.decls.now) t.now.case.now.meaning) }
+    ensures value { IfOk result (λ b. (f : Store) → IsLater s.new f → b ≡ spec.names_value (setting_of f t.now.decls.now)
+        t.now.case.now.meaning) }
     ensures grown { IsGrown s.old s.new }
 {
     let _law = s.declarations();
@@ -80,7 +81,8 @@ pub(crate) fn names_value(s: &mut TypeStore, t: &Turn<'_>) -> Result<bool, Alloc
 fn declared_type(s: &mut TypeStore, decls: &DeclTypes, n: u32) -> Result<Ty, AllocError>
     requires known { IsKnownDecl s.old n (declaration (setting_of s.old decls.now) n) }
     requires nomem { IsDefinedName s.old words.nomem }
-    ensures value { IfOk result (λ a. (f : Store) → IsLater s.new f → spec.type_of_declaration (setting_of f decls.now) (declaration (setting_of f decls.now) n) n ≡ Some a) }
+    ensures value { IfOk result (λ a. (f : Store) → IsLater s.new f → spec.type_of_declaration (setting_of f decls.now)
+        (declaration (setting_of f decls.now) n) n ≡ Some a) }
     ensures defined { IfOk result (IsDefinedTy s.new) }
     ensures grown { IsGrown s.old s.new }
 {

@@ -26,7 +26,8 @@ pub(crate) fn element_reached(s: &TypeStore, t: &Turn<'_>) -> Option<TypeId>
 /// The type of the member that the node names of what the operand reaches.
 pub(crate) fn member_reached(s: &TypeStore, t: &Turn<'_>) -> Option<TypeId>
     requires { IsTurn s.now t.now }
-    ensures value { (f : Store) → IsLater s.now f → result ≡ spec.member_type (context_in f t.now) (spec.reached f (tree_from_front 0 t.now.kids.now)) }
+    ensures value { (f : Store) → IsLater s.now f → result ≡ spec.member_type (context_in f t.now)
+        (spec.reached f (tree_from_front 0 t.now.kids.now)) }
     ensures defined { IfSome result (λ u. IsDefined s.now u) }
 {
     member(s, &reached(s, &seen(t, 0)), t.node)

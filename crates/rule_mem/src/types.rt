@@ -120,8 +120,11 @@ fn address_type(s: &mut TypeStore, t: &Turn<'_>) -> Result<Ty, AllocError>
 fn sequence_type(alloc: Global, s: &mut TypeStore, t: &Turn<'_>) -> Result<Ty, AllocError>
     requires turn { IsTurn s.old t.now }
     requires nomem { IsDefinedName s.old words.nomem }
-    requires met { (f : Store) → IsLater s.old f → is_some (given.element_in (given.base_row f (given.given (tree_from_front 0 t.now.kids.now)))) ≡ true }
-    ensures value { IfOk result (λ a. (f : Store) → IsLater s.new f → spec.refusable f (spec.slice_of f (given.element_in (given.base_row f (given.given (tree_from_front 0 t.now.kids.now))))) ≡ Some a) }
+    requires met { (f : Store) → IsLater s.old f →
+        is_some (given.element_in (given.base_row f (given.given (tree_from_front 0 t.now.kids.now)))) ≡ true }
+    ensures value { IfOk result (λ a. (f : Store) → IsLater s.new f →
+        spec.refusable f (spec.slice_of f (given.element_in (given.base_row f (given.given (tree_from_front 0 t.now.kids.now))))) ≡ Some
+        a) }
     ensures defined { IfOk result (IsDefinedTy s.new) }
     ensures grown { IsGrown s.old s.new }
 {
@@ -140,7 +143,8 @@ fn object_pointer(alloc: Global, s: &mut TypeStore, t: &Turn<'_>) -> Result<Ty, 
     requires turn { IsTurn s.old t.now }
     requires nomem { IsDefinedName s.old words.nomem }
     requires met { words.has_default (given.given (tree_from_front 0 t.now.kids.now)) ≡ true }
-    ensures value { IfOk result (λ a. (f : Store) → IsLater s.new f → spec.refusable f (spec.pointer_to f (words.default_in f (given.given (tree_from_front 0 t.now.kids.now)))) ≡ Some a) }
+    ensures value { IfOk result (λ a. (f : Store) → IsLater s.new f →
+        spec.refusable f (spec.pointer_to f (words.default_in f (given.given (tree_from_front 0 t.now.kids.now)))) ≡ Some a) }
     ensures defined { IfOk result (IsDefinedTy s.new) }
     ensures grown { IsGrown s.old s.new }
 {

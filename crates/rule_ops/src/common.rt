@@ -71,8 +71,8 @@ fn common_of_types(s: &TypeStore, t: TypeId, u: TypeId) -> Option<TypeId>
     }
 }
 
-/// The common type of two operands: that of both, where they are equal and have an integer base; the other type, where one is a whole number
-/// without a suffix and the other has an integer base that holds it; the wider of two unnamed integer types of one signedness.
+/// The common type of two operands: that of both, where they are equal and have an integer base; the other type, where one is a whole
+/// number without a suffix and the other has an integer base that holds it; the wider of two unnamed integer types of one signedness.
 pub(crate) fn common_type(s: &TypeStore, a: &Ty, b: &Ty) -> Option<TypeId>
     requires first { IsDefinedTy s.now a.now }
     requires second { IsDefinedTy s.now b.now }

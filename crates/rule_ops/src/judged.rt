@@ -15,11 +15,12 @@ use hare_types::TypeStore;
 use rule_judge::{DeclTypes, Turn, judge_by};
 use std::alloc::Global;
 
-/// Judges a literal, an operator, a cast, a size or parentheses: its type and the coercions that it settles, or the fault of the first row of the
-/// table of typing rules that it fails. The answer is that of every later store. The store may grow in types, also where there is a fault.
+/// Judges a literal, an operator, a cast, a size or parentheses: its type and the coercions that it settles, or the fault of the first row
+/// of the table of typing rules that it fails. The answer is that of every later store. The store may grow in types, also where there is a
+/// fault.
 ///
-/// The node is shaped and has these kids, which have been judged; each type that stands in them or in `c` is in the store, and mentions no name
-/// that is not defined.
+/// The node is shaped and has these kids, which have been judged; each type that stands in them or in `c` is in the store, and mentions no
+/// name that is not defined.
 pub fn judge(
     alloc: Global,
     s: &mut TypeStore,

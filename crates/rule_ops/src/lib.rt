@@ -1,5 +1,5 @@
-//! The judge of literals, operators, casts, sizes and parentheses: the type of such a node and the coercions that it settles, or the first row of
-//! the table of typing rules that it fails.
+//! The judge of literals, operators, casts, sizes and parentheses: the type of such a node and the coercions that it settles, or the first
+//! row of the table of typing rules that it fails.
 #![tactic(auto)]
 
 mod common;

@@ -22,7 +22,8 @@ fn is_never(store: &TypeStore, t: TypeId) -> bool
 /// Whether the type is an array of a name other than this one that is not defined.
 fn is_of_undefined(store: &TypeStore, decl: u32, t: TypeId) -> bool
     requires { t < length store.now.rows }
-    ensures { IsTrue result → (n other : ℕ) × (tree_at store.now t ≡ Some (Array n (Named other))) × (definition_of store.now other ≡ None) × (decl ≢ other) }
+    ensures { IsTrue result → (n other : ℕ) × (tree_at store.now t ≡ Some (Array n (Named other))) ×
+        (definition_of store.now other ≡ None) × (decl ≢ other) }
 {
     match store.row(t) {
         Row::Array(_, item) => match store.row(*item) {
@@ -41,8 +42,8 @@ fn is_of_undefined(store: &TypeStore, decl: u32, t: TypeId) -> bool
     }
 }
 
-/// Whether it is known that a name may be defined to be a type: that is `never` for a name without a size, and for one with a size a type of
-/// which the extent is known, or an array of another name that is not defined.
+/// Whether it is known that a name may be defined to be a type: that is `never` for a name without a size, and for one with a size a type
+/// of which the extent is known, or an array of another name that is not defined.
 pub(crate) fn is_definable(store: &TypeStore, decl: u32, t: TypeId) -> bool
     requires { t < length store.now.rows }
     ensures declared { IsTrue result → IsSome (sized_of store.now decl) }

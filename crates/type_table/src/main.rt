@@ -3,8 +3,10 @@
 //! - `declare NAME` and `declare NAME unsized` enter a name, of a type with or without a size; `define NAME TYPE` enters what it is;
 //! - `admit TYPE` asks what a spelled type is reduced to, `base TYPE` what is left of it without names and error marks;
 //! - `extent TYPE` asks for its size and alignment, `fields TYPE` for these and for where its fields begin, where it is not too large;
-//! - `field NAME of TYPE` asks which field of a struct has the name, counted from 0, and `payload TYPE` where the payload of a union begins;
-//! - `assign TYPE <- VALUE` asks by which row of the table of assignability the value is assigned to the type, `cast TYPE <- VALUE` whether it may
+//! - `field NAME of TYPE` asks which field of a struct has the name, counted from 0, and `payload TYPE` where the payload of a union
+//! begins;
+//! - `assign TYPE <- VALUE` asks by which row of the table of assignability the value is assigned to the type, `cast TYPE <- VALUE` whether
+//! it may
 //!   be cast to it. A value is `null`, `[]`, a whole number, or a type, which stands for a value of that type;
 //! - `becomes TYPE <- VALUE` asks which member of a union the value becomes, and by which row of the table it is assigned to that member;
 //! - `subset TYPE of TYPE` asks whether the members of one union are members of the other;

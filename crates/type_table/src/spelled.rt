@@ -12,8 +12,8 @@ use hare_tree::{Fault, Kids, Kind, Place, Stop, Tree};
 use hare_types::{Field, Fields, Row, TypeId, TypeIds};
 use std::alloc::{AllocError, Global};
 
-/// The type that a part of a line spells, behind the first bytes of the line. Faults stand in the second line of what is parsed, in the columns of the
-/// line.
+/// The type that a part of a line spells, behind the first bytes of the line. Faults stand in the second line of what is parsed, in the
+/// columns of the line.
 pub(crate) fn type_in(table: &mut Table, skipped: usize, spelling: &str) -> Result<TypeId>
     ensures within { IfOk result (λ t. t < length table.new.store.rows) }
     ensures grows { length table.old.store.rows ≤ length table.new.store.rows }

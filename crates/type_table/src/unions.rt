@@ -27,7 +27,8 @@ pub(crate) fn is_union_type(store: &TypeStore, t: TypeId) -> bool
     }
 }
 
-/// How a value goes to the member of a union that it becomes; `None` where it is not assigned to the union, or keeps the member that it has.
+/// How a value goes to the member of a union that it becomes; `None` where it is not assigned to the union, or keeps the member that it
+/// has.
 pub(crate) fn becomes_member(store: &TypeStore, to: TypeId, from: Ty) -> Option<Coercion>
     requires to { to < length store.now.rows }
     requires from { IsIn store.now from }

@@ -49,8 +49,8 @@ fn origin_of(r: Repeat, from: usize, to: usize) -> Origin
     }
 }
 
-/// The cells from one place up to another of those that were written with these repetitions. What is repeated stands once; none where a repetition is
-/// cut.
+/// The cells from one place up to another of those that were written with these repetitions. What is repeated stands once; none where a
+/// repetition is cut.
 fn uncut(
     alloc: Global,
     written: &[Cell],
@@ -108,8 +108,8 @@ impl Cells {
         Ok(part)
     }
 
-    /// So many cells from a place on, as far as there are so many. What is repeated takes the memory of one, but where the part begins or ends within
-    /// what is repeated it takes that of each cell.
+    /// So many cells from a place on, as far as there are so many. What is repeated takes the memory of one, but where the part begins or
+    /// ends within what is repeated it takes that of each cell.
     pub fn part(&self, alloc: Global, at: usize, count: usize) -> Result<Cells, AllocError>
         ensures { IfOk result (λ part. part ≡ cells_within at count self.now) }
     {

@@ -7,7 +7,8 @@ pub loop-field-preserved : goal.loop-field-preserved
 loop-field-preserved c = λ k d l.
     let fs = c.fields_in-field-items.result.now in
     let i = c.loop-field.field-index in
-    let here : get_or fs i d ≡ c.field-item.result = get_or_default fs i d c.field-item.result c.loop-field-test.true ∙ sym c.field-item.is in
+    let here : get_or fs i d ≡ c.field-item.result =
+    get_or_default fs i d c.field-item.result c.loop-field-test.true ∙ sym c.field-item.is in
     below_more (λ n. (get_or fs n d).name < c.args.names) i (λ n h. c.loop-field.invariant n d h) (rw here c.if-field-names.false) k l
 
 pub returns : goal.returns

@@ -15,7 +15,8 @@ with_part-run-requires c = record {
 
 pub returns-in-None : goal.returns-in-None
 returns-in-None c = record {
-  value = parts-none (known (extents c.args.kept.now)) (parts_of c.args.row.now) c.loop-i.i c.part_at.result c.loop-i.run c.part_at.ensures c.in-None.ensures ∙ c.loop-i.invariant.value;
+  value = parts-none (known (extents c.args.kept.now)) (parts_of c.args.row.now) c.loop-i.i c.part_at.result c.loop-i.run c.part_at.ensures
+      c.in-None.ensures ∙ c.loop-i.invariant.value;
   within = tt;
 }
 
@@ -25,5 +26,8 @@ loop-i-preserved c =
     record {
       run = c.with_part-run.ensures.within;
       end = omega (arith, c.with_part-run.ensures.end, c.loop-i.invariant.end);
-      value = ap (λ r. option_map (with_parts r) (all_known (known (extents c.args.kept.now)) (drop (c.loop-i.i + 1) ps))) c.with_part-run.ensures.value ∙ sym (parts-step (known (extents c.args.kept.now)) ps c.loop-i.i c.part_at.result c.loop-i.run c.in-Some.x c.part_at.ensures c.in-Some.ensures) ∙ c.loop-i.invariant.value;
+      value = ap (λ r. option_map (with_parts r) (all_known (known (extents c.args.kept.now)) (drop (c.loop-i.i + 1) ps)))
+          c.with_part-run.ensures.value ∙ sym
+          (parts-step (known (extents c.args.kept.now)) ps c.loop-i.i c.part_at.result c.loop-i.run c.in-Some.x c.part_at.ensures
+          c.in-Some.ensures) ∙ c.loop-i.invariant.value;
     }

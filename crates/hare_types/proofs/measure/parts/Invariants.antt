@@ -10,5 +10,6 @@ invariant-loop-i l =
     record {
       run : IsRun l.run;
       end : l.run.end ≤ l.i * 2199023255552;
-      value : option_map (with_parts l.run) (all_known (known (extents l.kept)) (drop l.i (parts_of l.row))) ≡ option_map (with_parts no_parts) (all_known (known (extents l.kept)) (parts_of l.row));
+      value : option_map (with_parts l.run) (all_known (known (extents l.kept)) (drop l.i (parts_of l.row))) ≡ option_map
+          (with_parts no_parts) (all_known (known (extents l.kept)) (parts_of l.row));
     }

@@ -35,9 +35,12 @@ step-pile-requires-in-loop-pile-clause-lists c =
     let lists = c.loop-pile.invariant.lists.0 in
     let h = c.loop-pile.invariant.lists.1 in
     let first = first-taken c.args.rows.now c.args.declared.now.entries ks c.loop-pile.pile lists h c.loop-pile-test.true in
-    let next : (kept_at ks c.loop-pile.pile).next ≡ c.index.result.now.next = ap (λ k. k.next) (sym (c.index.ensures ∙ get_or_default ks c.loop-pile.pile c.index.result.now blank first.2)) in
-    let popped : AreSettlingBut c.loop-pile.pile c.args.rows.now c.args.declared.now.entries ks c.index.result.now.next (with_list lists 0 first.0) =
-    subst (λ n. AreSettlingBut c.loop-pile.pile c.args.rows.now c.args.declared.now.entries ks n (with_list lists 0 first.0)) next (pop-settling c.args.rows.now c.args.declared.now.entries ks c.loop-pile.pile lists first.0 h first.1) in
+    let next : (kept_at ks c.loop-pile.pile).next ≡ c.index.result.now.next =
+    ap (λ k. k.next) (sym (c.index.ensures ∙ get_or_default ks c.loop-pile.pile c.index.result.now blank first.2)) in
+    let popped : AreSettlingBut c.loop-pile.pile c.args.rows.now c.args.declared.now.entries ks c.index.result.now.next
+    (with_list lists 0 first.0) =
+    subst (λ n. AreSettlingBut c.loop-pile.pile c.args.rows.now c.args.declared.now.entries ks n (with_list lists 0 first.0)) next
+    (pop-settling c.args.rows.now c.args.declared.now.entries ks c.loop-pile.pile lists first.0 h first.1) in
     (with_list lists 0 first.0, popped)
 
 pub loop-pile-smaller : goal.loop-pile-smaller
@@ -46,11 +49,16 @@ loop-pile-smaller c =
     let lists = c.loop-pile.invariant.lists.0 in
     let h = c.loop-pile.invariant.lists.1 in
     let first = first-taken c.args.rows.now c.args.declared.now.entries ks c.loop-pile.pile lists h c.loop-pile-test.true in
-    let next : (kept_at ks c.loop-pile.pile).next ≡ c.index.result.now.next = ap (λ k. k.next) (sym (c.index.ensures ∙ get_or_default ks c.loop-pile.pile c.index.result.now blank first.2)) in
-    let popped : AreSettlingBut c.loop-pile.pile c.args.rows.now c.args.declared.now.entries ks c.index.result.now.next (with_list lists 0 first.0) =
-    subst (λ n. AreSettlingBut c.loop-pile.pile c.args.rows.now c.args.declared.now.entries ks n (with_list lists 0 first.0)) next (pop-settling c.args.rows.now c.args.declared.now.entries ks c.loop-pile.pile lists first.0 h first.1) in
+    let next : (kept_at ks c.loop-pile.pile).next ≡ c.index.result.now.next =
+    ap (λ k. k.next) (sym (c.index.ensures ∙ get_or_default ks c.loop-pile.pile c.index.result.now blank first.2)) in
+    let popped : AreSettlingBut c.loop-pile.pile c.args.rows.now c.args.declared.now.entries ks c.index.result.now.next
+    (with_list lists 0 first.0) =
+    subst (λ n. AreSettlingBut c.loop-pile.pile c.args.rows.now c.args.declared.now.entries ks n (with_list lists 0 first.0)) next
+    (pop-settling c.args.rows.now c.args.declared.now.entries ks c.loop-pile.pile lists first.0 h first.1) in
     let w = c.step-pile-in-loop-pile.ensures.settled (with_list lists 0 first.0) popped in
-    settle-smaller c.args.rows.now c.args.declared.now.entries ks c.step-pile-in-loop-pile.new.kept.items c.loop-pile.pile c.step-pile-in-loop-pile.result lists w.0 first.0 _ c.loop-pile.invariant.as_many c.step-pile-in-loop-pile.ensures.as_many c.requires.few h first.1 w.1 w.2
+    settle-smaller c.args.rows.now c.args.declared.now.entries ks c.step-pile-in-loop-pile.new.kept.items c.loop-pile.pile
+    c.step-pile-in-loop-pile.result lists w.0 first.0 _ c.loop-pile.invariant.as_many c.step-pile-in-loop-pile.ensures.as_many
+    c.requires.few h first.1 w.1 w.2
 
 pub loop-pile-preserved : goal.loop-pile-preserved
 loop-pile-preserved c =
@@ -58,9 +66,12 @@ loop-pile-preserved c =
     let lists = c.loop-pile.invariant.lists.0 in
     let h = c.loop-pile.invariant.lists.1 in
     let first = first-taken c.args.rows.now c.args.declared.now.entries ks c.loop-pile.pile lists h c.loop-pile-test.true in
-    let next : (kept_at ks c.loop-pile.pile).next ≡ c.index.result.now.next = ap (λ k. k.next) (sym (c.index.ensures ∙ get_or_default ks c.loop-pile.pile c.index.result.now blank first.2)) in
-    let popped : AreSettlingBut c.loop-pile.pile c.args.rows.now c.args.declared.now.entries ks c.index.result.now.next (with_list lists 0 first.0) =
-    subst (λ n. AreSettlingBut c.loop-pile.pile c.args.rows.now c.args.declared.now.entries ks n (with_list lists 0 first.0)) next (pop-settling c.args.rows.now c.args.declared.now.entries ks c.loop-pile.pile lists first.0 h first.1) in
+    let next : (kept_at ks c.loop-pile.pile).next ≡ c.index.result.now.next =
+    ap (λ k. k.next) (sym (c.index.ensures ∙ get_or_default ks c.loop-pile.pile c.index.result.now blank first.2)) in
+    let popped : AreSettlingBut c.loop-pile.pile c.args.rows.now c.args.declared.now.entries ks c.index.result.now.next
+    (with_list lists 0 first.0) =
+    subst (λ n. AreSettlingBut c.loop-pile.pile c.args.rows.now c.args.declared.now.entries ks n (with_list lists 0 first.0)) next
+    (pop-settling c.args.rows.now c.args.declared.now.entries ks c.loop-pile.pile lists first.0 h first.1) in
     let w = c.step-pile-in-loop-pile.ensures.settled (with_list lists 0 first.0) popped in
     record {
       as_many = c.step-pile-in-loop-pile.ensures.as_many;

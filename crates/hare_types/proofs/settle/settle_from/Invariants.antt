@@ -13,8 +13,10 @@ invariant-loop-pile l =
       bounded : AreBounded (extents l.kept.items);
       rooted : HaveRoots l.kept.items;
       seen : AreSeen l.rows l.kept.items;
-      extents : (s : Store) → s.rows ≡ l.rows → s.declared ≡ l.declared.entries → IsStore s → KeepsExtents s (extents l.fn.kept.items) → KeepsExtents s (extents l.kept.items);
-      roots : (s : Store) → s.rows ≡ l.rows → s.declared ≡ l.declared.entries → IsStore s → KeepsRoots s (roots l.fn.kept.items) → KeepsRoots s (roots l.kept.items);
+      extents : (s : Store) → s.rows ≡ l.rows → s.declared ≡ l.declared.entries → IsStore s → KeepsExtents s (extents l.fn.kept.items) →
+          KeepsExtents s (extents l.kept.items);
+      roots : (s : Store) → s.rows ≡ l.rows → s.declared ≡ l.declared.entries → IsStore s → KeepsRoots s (roots l.fn.kept.items) →
+          KeepsRoots s (roots l.kept.items);
       lists : (lists : ℕ → List ℕ) × AreSettling l.rows l.declared.entries l.kept.items l.pile lists;
     }
 

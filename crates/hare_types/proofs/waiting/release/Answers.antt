@@ -14,7 +14,8 @@ pub set_next-requires : goal.set_next-requires
 set_next-requires c =
     let ks = c.args.kept.now.items in
     let of : c.kept_at-of.result ≡ kept_at ks c.args.t = c.kept_at-of.ensures ∙ ap (λ l. kept_at l c.args.t) c.deref.ensures.value in
-    let last = last-within ks c.requires.few c.args.t c.args.pile c.requires.within c.requires.linked.0 c.requires.linked.1 (λ e. c.if-of.false (ap (λ k. k.first) of ∙ e)) in
+    let last = last-within ks c.requires.few c.args.t c.args.pile c.requires.within c.requires.linked.0 c.requires.linked.1
+    (λ e. c.if-of.false (ap (λ k. k.first) of ∙ e)) in
     let len : length c.set_ends.new.kept.items ≡ length ks = ap length c.set_ends.ensures ∙ length-set ks c.args.t _ in
     subst (λ n. n < length c.set_ends.new.kept.items) (sym (ap (λ k. k.last) of)) (omega (arith, last, len))
 

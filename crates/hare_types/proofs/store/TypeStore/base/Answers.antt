@@ -24,7 +24,9 @@ pub returns-clause-value : goal.returns-clause-value
 returns-clause-value c = read c ∙ rw (← c.self.view_is) (base_is _ _ c.self.invariant.kept c.args.t)
 
 pub returns-clause-some : goal.returns-clause-some
-returns-clause-some c = rw (← c.self.view_is) (some _ _ c.self.invariant.kept c.args.t c.base_at.result (read c ∙ base_is _ _ c.self.invariant.kept c.args.t))
+returns-clause-some c =
+    rw (← c.self.view_is) (some _ _ c.self.invariant.kept c.args.t c.base_at.result (read c ∙ base_is _ _ c.self.invariant.kept c.args.t))
 
 pub returns-clause-none : goal.returns-clause-none
-returns-clause-none c = rw (← c.self.view_is) (none _ _ c.self.invariant.kept c.args.t c.base_at.result (read c ∙ base_is _ _ c.self.invariant.kept c.args.t))
+returns-clause-none c =
+    rw (← c.self.view_is) (none _ _ c.self.invariant.kept c.args.t c.base_at.result (read c ∙ base_is _ _ c.self.invariant.kept c.args.t))

@@ -34,7 +34,8 @@ invariant_of-self-2 c =
         rooted = c.self.invariant.kept.rooted;
         seen = c.self.invariant.kept.seen;
         lists = c.self.invariant.kept.lists;
-        settled = AreSettling-declared c.self.inside.rows.keys es new ks nowhere c.self.invariant.kept.lists same c.self.invariant.kept.settled;
+        settled = AreSettling-declared c.self.inside.rows.keys es new ks nowhere c.self.invariant.kept.lists same
+            c.self.invariant.kept.settled;
       };
       fields = c.self.invariant.fields;
     }

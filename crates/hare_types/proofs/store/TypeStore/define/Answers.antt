@@ -21,7 +21,9 @@ invariant_of-self c =
     let sized = rw (← c.self.view_is) at c.requires.sized in
     let within = rw (← c.self.view_is) at c.requires.within in
     let finite = rw (← c.self.view_is) at c.requires.finite in
-    let put = IfSome_then _ c.set_definition.ensures (λ (e : Declared) (h : Updates nat_eq c.self.inside.declared c.set_definition.new.declared c.args.decl (Some (record e { definition = Some c.args.t }))). h.0) in
+    let put = IfSome_then _ c.set_definition.ensures
+    (λ (e : Declared) (h : Updates nat_eq c.self.inside.declared c.set_definition.new.declared c.args.decl
+    (Some (record e { definition = Some c.args.t }))). h.0) in
     let store = IsStore-define _ new c.args.decl c.args.t c.self.invariant.kept.store declared fresh sized within finite put in
     let still = definitions-kept es new c.args.decl c.args.t declared fresh put in
     record {
@@ -47,7 +49,9 @@ settle-requires c =
     let sized = rw (← c.self.view_is) at c.requires.sized in
     let within = rw (← c.self.view_is) at c.requires.within in
     let finite = rw (← c.self.view_is) at c.requires.finite in
-    let put = IfSome_then _ c.set_definition.ensures (λ (e : Declared) (h : Updates nat_eq c.self.inside.declared c.set_definition.new.declared c.args.decl (Some (record e { definition = Some c.args.t }))). h.0) in
+    let put = IfSome_then _ c.set_definition.ensures
+    (λ (e : Declared) (h : Updates nat_eq c.self.inside.declared c.set_definition.new.declared c.args.decl
+    (Some (record e { definition = Some c.args.t }))). h.0) in
     let store = IsStore-define _ new c.args.decl c.args.t c.self.invariant.kept.store declared fresh sized within finite put in
     record {
       once = c.self.invariant.kept.store.rows_sound.once;
@@ -57,7 +61,11 @@ settle-requires c =
       rooted = c.self.invariant.kept.rooted;
       needs = needs-within _ store;
       seen = c.self.invariant.kept.seen;
-      lists = (c.self.invariant.kept.lists, AreSettling-defined _ ks c.args.decl new c.self.invariant.kept.lists c.self.invariant.kept.store c.self.invariant.kept.extents fresh (definitions-there es new c.args.decl c.args.t declared put) c.self.invariant.kept.settled);
+      lists = (
+        c.self.invariant.kept.lists,
+        AreSettling-defined _ ks c.args.decl new c.self.invariant.kept.lists c.self.invariant.kept.store
+            c.self.invariant.kept.extents fresh (definitions-there es new c.args.decl c.args.t declared put) c.self.invariant.kept.settled,
+      );
     }
 
 pub returns-clause-later : goal.returns-clause-later

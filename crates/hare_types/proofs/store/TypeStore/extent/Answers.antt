@@ -18,7 +18,8 @@ none c e =
     let ks = c.self.inside.kept.items in
     rw (← c.self.view_is)
     (none_lies _ c.self.invariant.kept.store (extent_at ks)
-    (extents-settled c.self.inside.rows.keys c.self.inside.declared.entries ks (omega (arith, c.self.invariant.kept.store.rows_few, c.self.invariant.kept.extents.as_many, length-map ks (λ k. k.extent)))
+    (extents-settled c.self.inside.rows.keys c.self.inside.declared.entries ks
+    (omega (arith, c.self.invariant.kept.store.rows_few, c.self.invariant.kept.extents.as_many, length-map ks (λ k. k.extent)))
     c.self.invariant.kept.lists c.self.invariant.kept.settled) c.args.t (kept c ∙ e))
 
 pub returns-clause-none : goal.returns-clause-none
@@ -38,4 +39,5 @@ returns-clause-within c = by c.extent_at.result refl
 pub returns-clause-value : goal.returns-clause-value
 returns-clause-value c =
     rw (← c.self.view_is)
-    (extent_is _ c.self.invariant.kept.store c.args.t c.extent_at.result (λ x e. c.self.invariant.kept.extents.sound c.args.t x (kept c ∙ e)) (λ e. rw (← c.self.view_is) at (none c e)))
+    (extent_is _ c.self.invariant.kept.store c.args.t c.extent_at.result
+    (λ x e. c.self.invariant.kept.extents.sound c.args.t x (kept c ∙ e)) (λ e. rw (← c.self.view_is) at (none c e)))

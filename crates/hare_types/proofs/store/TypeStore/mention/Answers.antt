@@ -13,10 +13,12 @@ use Rattle.hare_types.proofs.IdLemmas.{tag_tells}
 use Rattle.hare_types.proofs.store.TypeStore.mention.Goals as goal
 
 numbered : (c : goal.In_ok-place) → IsNumbered c.self.inside.listed.keys c.number.new.set.keys c.args.t c.in_ok-place.place
-numbered c = plain_numbered nat_eq unsigned_Decides _ _ _ _ c.in_ok-place.ensures.place c.in_ok-place.ensures.kept c.in_ok-place.ensures.added c.self.invariant.kept.store.listed_once
+numbered c = plain_numbered nat_eq unsigned_Decides _ _ _ _ c.in_ok-place.ensures.place c.in_ok-place.ensures.kept
+    c.in_ok-place.ensures.added c.self.invariant.kept.store.listed_once
 
 once : (c : goal.In_ok-place) → IsOnce c.number.new.set.keys
-once c = plain_once nat_eq unsigned_Decides _ _ _ _ c.in_ok-place.ensures.place c.in_ok-place.ensures.kept c.in_ok-place.ensures.added c.self.invariant.kept.store.listed_once
+once c = plain_once nat_eq unsigned_Decides _ _ _ _ c.in_ok-place.ensures.place c.in_ok-place.ensures.kept c.in_ok-place.ensures.added
+    c.self.invariant.kept.store.listed_once
 
 pub invariant_of-self-2 : goal.invariant_of-self-2
 invariant_of-self-2 c = record {
@@ -41,7 +43,14 @@ returns-clause-numbered c = (c.in_ok-place.place, refl, rw (← c.self.view_is) 
 pub returns-clause-grows : goal.returns-clause-grows
 returns-clause-grows c =
     let more = Continues-grows c.self.inside.listed.keys c.number.new.set.keys c.args.t (numbered c).grows in
-    rw (← c.self.view_is) (record { names = ([], sym (append-nil _)); rows = ([], sym (append-nil _)); listed = more; sized = λ d b e. e; defined = λ d t e. e })
+    rw (← c.self.view_is) (record {
+      names = ([], sym (append-nil _));
+      rows = ([], sym (append-nil _));
+      listed = more;
+      sized =
+          λ d b e. e;
+      defined = λ d t e. e;
+    })
 
 pub returns-clause-later : goal.returns-clause-later
 returns-clause-later c = later_grown _ _ (returns-clause-grows c) (invariant_of-self-2 c).kept.store

@@ -15,7 +15,8 @@ invariant_of-result c = record {
     rooted = HaveRoots-empty c.new-5.result.items c.new-5.ensures.items;
     seen = AreSeen-empty c.with_hasher.result.keys c.new-5.result.items c.with_hasher.ensures.empty;
     lists = λ n. [];
-    settled = AreSettling-empty c.with_hasher.result.keys c.new-3.result.entries c.new-5.result.items c.with_hasher.ensures.empty c.new-5.ensures.items;
+    settled = AreSettling-empty c.with_hasher.result.keys c.new-3.result.entries c.new-5.result.items c.with_hasher.ensures.empty
+        c.new-5.ensures.items;
   };
   fields = KeepsFields-empty c.with_hasher.result.keys c.new-6.result.entries c.with_hasher.ensures.empty c.new-6.ensures.empty;
 }
