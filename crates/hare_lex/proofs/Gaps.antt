@@ -14,7 +14,7 @@ neither false false h = (refl, refl)
 neither false true h = absurd (cc)
 neither true b h = absurd (cc)
 
-stays : (left : List ℕ) → no_gap left ≡ true → skipped false left ≡ left
+pub stays : (left : List ℕ) → no_gap left ≡ true → skipped false left ≡ left
 stays [] h = refl
 stays (c ∷ rest) h =
     let p = neither (is_blank c) (eqb c 47 && eqb (get_or rest 0 0) 47) h in
@@ -25,7 +25,7 @@ stays (c ∷ rest) h =
 blank_no_slash : (c : ℕ) → is_blank c ≡ true → eqb c 47 ≡ false
 blank_no_slash c h = grind (arith, nat_tests, common_steps)
 
-past_blank : (c : ℕ) (rest : List ℕ) → is_blank c ≡ true → skipped false (c ∷ rest) ≡ skipped false rest
+pub past_blank : (c : ℕ) (rest : List ℕ) → is_blank c ≡ true → skipped false (c ∷ rest) ≡ skipped false rest
 past_blank c rest h = let a = blank_no_slash c h in rw (a, h) refl
 
 same_byte : (c k : ℕ) → eqb c k ≡ true → c ≡ k
@@ -35,7 +35,7 @@ not_true : (b : Bool) → not b ≡ true → b ≡ false
 not_true false h = refl
 not_true true h = absurd (cc)
 
-past_body : (body rest : List ℕ) → list_all is_not_feed body ≡ true → ends_line rest ≡ true →
+pub past_body : (body rest : List ℕ) → list_all is_not_feed body ≡ true → ends_line rest ≡ true →
     skipped true (body ++ rest) ≡ skipped false rest
 past_body [] [] h z = refl
 past_body [] (c ∷ rest) h z = rw (same_byte c 10 z) refl

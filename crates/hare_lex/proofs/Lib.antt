@@ -16,6 +16,7 @@ pub mod SoundLiterals
 pub mod Sound
 pub mod Turn
 pub mod Gaps
+pub mod GapParts
 pub mod Same
 pub mod WholeWords
 pub mod WholeLiterals

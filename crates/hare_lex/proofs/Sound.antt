@@ -6,7 +6,7 @@ use Rattle.hare_tree.specs.Words.{is_letter}
 use Rattle.hare_lex.specs.declared.front.Found.TheVariants as found
 use Rattle.hare_lex.specs.Lexing.{at_front, word_front, number_front, string_front, raw_front, rune_front, mark_front}
 use Rattle.hare_lex.proofs.Numbers.{number_within}
-use Rattle.hare_lex.proofs.Standing.{Sound}
+use Rattle.hare_lex.specs.Fronts.{Sound}
 use Rattle.hare_lex.proofs.SoundWords.{word_sound}
 use Rattle.hare_lex.proofs.SoundMarks.{mark_sound}
 use Rattle.hare_lex.proofs.SoundNumbers.{number_sounds}

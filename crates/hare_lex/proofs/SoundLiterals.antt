@@ -19,7 +19,8 @@ use Rattle.hare_lex.proofs.Quotes.{closing_found, closing_holds, closing_none, r
 use Rattle.hare_lex.proofs.Strings.{good_parts, bad_parts, parts_hold}
 use Rattle.hare_lex.proofs.Escapes.{no_escape}
 use Rattle.hare_lex.proofs.Runes.{one_holds, one_stands, one_some, one_small}
-use Rattle.hare_lex.proofs.Standing.{Standing, Sound, not_left_out, no_fraction, standing, fits_by, nothing_small}
+use Rattle.hare_lex.specs.Fronts.{Standing, Sound}
+use Rattle.hare_lex.proofs.Standing.{not_left_out, no_fraction, standing, fits_by, nothing_small}
 
 -- ---- literals
 

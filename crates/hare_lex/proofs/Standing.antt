@@ -7,32 +7,13 @@ use Rattle.std.proofs.lemmas.Bool.Decides.{nat_tests}
 use Rattle.hare_tree.specs.declared.place.Place.{Place}
 use Rattle.hare_tree.specs.declared.token.TokenKind.{TokenKind}
 use Rattle.hare_tree.specs.declared.token.Suffix.{Suffix}
-use Rattle.hare_tree.specs.declared.token.Token.{Token}
 use Rattle.hare_tree.specs.Words.{is_letter, is_word, is_listed, is_left_out, left_out, begins_fraction}
 use Rattle.hare_tree.specs.Spelling.{IsSpellingOf}
-use Rattle.hare_tree.specs.Tokens.{Fits, Stands, Break}
-use Rattle.hare_lex.specs.declared.front.Found.{Found}
-use Rattle.hare_lex.specs.declared.front.Found.TheVariants as found
+use Rattle.hare_tree.specs.Tokens.{Fits}
 use Rattle.hare_lex.specs.Lexing.{text_of, longest}
+use Rattle.hare_lex.specs.Fronts.{token_at, Standing}
 use Rattle.hare_lex.proofs.Lists.{and_left, listed_case}
 use Rattle.hare_lex.proofs.Firsts.{all_listed, is_first, is_other, first_of_kind}
-
--- the token of what is found
-abbrev pub token_at : TokenKind → Place → List ℕ → ℕ → Suffix → Token
-token_at k p w n x = record { kind = k; place = p; text = text_of k w; number = n; suffix = x }
-
--- what is found stands at the front
-pub record Standing (b : Bool) (s : List ℕ) (k : TokenKind) (len n : ℕ) (x : Suffix) : Type 0 where
-  pub word : List ℕ
-  pub rest : List ℕ
-  pub split : s ≡ word ++ rest
-  pub len_is : length word ≡ len
-  pub stands : (p : Place) → Stands b (token_at k p word n x) word rest
-
--- what is found is right: a token stands at the front, or a fault does
-abbrev pub Sound : Bool → List ℕ → Found → Type 0
-Sound b s (found.Token k len n x) = Standing b s k len n x
-Sound b s (found.Fault n offset) = Break b s n offset
 
 -- the text begins with the first byte of a word at its front
 pub first_same : (s w more : List ℕ) → s ≡ w ++ more → 0 < length w → get_or w 0 0 ≡ get_or s 0 0

@@ -8,10 +8,11 @@ use Rattle.hare_tree.specs.declared.token.Token.{Token}
 use Rattle.hare_tree.specs.Tokens.{Gap, is_path_mark}
 use Rattle.hare_lex.specs.Lexing.{advanced, text_of, skipped}
 use Rattle.hare_lex.proofs.Lists.{front_is, behind_is}
-use Rattle.hare_lex.proofs.Standing.{Standing, token_at}
+use Rattle.hare_lex.specs.Fronts.{Standing, token_at}
 use Rattle.hare_lex.proofs.Progress.{Reached, reached_more, gap_skipped}
 
-path_mark_text : (k : TokenKind) (s : List ℕ) → is_path_mark k (text_of k s) ≡ is_path_mark k s
+-- whether a token is the mark `::` is told by its spelling too
+pub path_mark_text : (k : TokenKind) (s : List ℕ) → is_path_mark k (text_of k s) ≡ is_path_mark k s
 path_mark_text Name s = refl
 path_mark_text Keyword s = refl
 path_mark_text Number s = refl

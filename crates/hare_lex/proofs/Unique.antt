@@ -47,12 +47,12 @@ same_token : (t u : Token) → t.kind ≡ u.kind → t.place ≡ u.place → t.t
 same_token t u a b c d e = λ i. record { kind = a i; place = b i; text = c i; number = d i; suffix = e i }
 
 -- one token at the same place
-record OneToken (t u : Token) (s s' rest rest' : List ℕ) : Type 0 where
-  token : t ≡ u
-  spelling : s ≡ s'
-  behind : rest ≡ rest'
+pub record OneToken (t u : Token) (s s' rest rest' : List ℕ) : Type 0 where
+  pub token : t ≡ u
+  pub spelling : s ≡ s'
+  pub behind : rest ≡ rest'
 
-one_token : (b : Bool) (t u : Token) (s s' rest rest' : List ℕ) → Stands b t s rest → Stands b u s' rest' → s ++ rest ≡ s' ++ rest' →
+pub one_token : (b : Bool) (t u : Token) (s s' rest rest' : List ℕ) → Stands b t s rest → Stands b u s' rest' → s ++ rest ≡ s' ++ rest' →
     t.place ≡ u.place → OneToken t u s s' rest rest'
 one_token b t u s s' rest rest' st su e p =
     let same = fits_same t u s rest s' rest' st.fits su.fits e in

@@ -24,7 +24,8 @@ use Rattle.hare_lex.proofs.Strings.{bad_here}
 use Rattle.hare_lex.proofs.Runes.{one_some, one_small}
 use Rattle.hare_lex.proofs.Numbers.{decimal}
 use Rattle.hare_lex.proofs.Same.{parts_bad}
-use Rattle.hare_lex.proofs.Standing.{token_at, nowhere, kind_first, first_same, left_out_is_word, word_letter}
+use Rattle.hare_lex.specs.Fronts.{token_at}
+use Rattle.hare_lex.proofs.Standing.{nowhere, kind_first, first_same, left_out_is_word, word_letter}
 use Rattle.hare_lex.proofs.SoundWords.{word_of}
 use Rattle.hare_lex.proofs.WholeWords.{word_same, front_letter, number_same, front_digit, great_front, small_front}
 use Rattle.hare_lex.proofs.WholeLiterals.{string_found, rune_found, open_none, front_string, front_raw, front_rune, front_at_sign, front_other}

@@ -15,7 +15,8 @@ use Rattle.hare_lex.specs.Lexing.{at_front, word_front, number_front, number_at}
 use Rattle.hare_lex.proofs.Lists.{run_within, same_front}
 use Rattle.hare_lex.proofs.Numbers.{number_sound, number_value, number_within}
 use Rattle.hare_lex.proofs.Same.{alike}
-use Rattle.hare_lex.proofs.Standing.{token_at, nowhere, kind_first, len_front, digit_not}
+use Rattle.hare_lex.specs.Fronts.{token_at}
+use Rattle.hare_lex.proofs.Standing.{nowhere, kind_first, len_front, digit_not}
 use Rattle.hare_lex.proofs.SoundWords.{word_of, rest_of, front_word, word_longest}
 use Rattle.hare_lex.proofs.SoundNumbers.{number_word, number_of, number_longest, digit_kind}
 

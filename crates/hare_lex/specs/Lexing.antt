@@ -1,6 +1,6 @@
--- What the private functions of the lexer give, one definition for each, of the same name and in the same order. No clause of a public
--- call cites them: hare_tree's Tokens.antt says what a file's tokens are.
-use Rattle.std.specs.Prelude.{◌≡◌, ℕ, zero, suc, ◌+◌, ◌-◌, ◌^◌, ◌<◌, ◌≤◌, List, [], ◌∷◌, ◌++◌, Bool, true, false, Option, Some, None, codes, length, ◌||◌, ◌&&◌, not, ◌==◌, bytes_eq, nat_lt, nat_le, slice_index, slice_get, take, drop, encode_utf8, if◌then◌else◌}
+-- What the private functions of the lexer give, one definition for each, of the same name and in the same order. Of these, clauses
+-- of public calls cite `text_of` alone: hare_tree's Tokens.antt says what a file's tokens are.
+use Rattle.std.specs.Prelude.{ℕ, zero, suc, ◌+◌, ◌-◌, ◌^◌, ◌≤◌, List, [], ◌∷◌, ◌++◌, Bool, true, false, Option, Some, None, codes, length, ◌||◌, ◌&&◌, not, ◌==◌, bytes_eq, nat_lt, nat_le, slice_index, slice_get, take, drop, encode_utf8, if◌then◌else◌}
 use Rattle.std.specs.List.{prefix_len}
 use Rattle.std.specs.Char.{is_digit, is_ascii_digit}
 use Rattle.std.specs.Str.{chars, is_utf8}
@@ -49,6 +49,10 @@ suffix_named s =
     else suffix.None
 
 -- ---- blanks and comments
+
+-- the text begins with `//`
+abbrev pub begins_comment : List ℕ → Bool
+begins_comment s = slice_index s 0 == 47 && slice_index s 1 == 47
 
 -- what stands behind the blanks and comments, from within a comment or not
 abbrev pub skipped : Bool → List ℕ → List ℕ
@@ -161,12 +165,7 @@ unescaped zero (c ∷ s) = elim (escape_at c s) as (λ _. List ℕ) [ None ↦ c
 
 -- ---- the token at the front
 
--- the token or the fault lies in the text, and a string has both of its quotes
-abbrev pub Within : List ℕ → Found → Type 0
-Within s (found.Token kind len n x) = (0 < len) × (len ≤ length s) × (kind ≡ Str → 2 ≤ len)
-Within s (found.Fault n offset) = offset ≤ length s
-
--- the same of a literal, of which this is the text behind its opening quote
+-- the literal or the fault lies in the text, which is what stands behind the opening quote, and the literal has both of its quotes
 abbrev pub Behind : List ℕ → Found → Type 0
 Behind s (found.Token kind len n x) = (2 ≤ len) × (len ≤ length s + 1)
 Behind s (found.Fault n offset) = offset ≤ length s + 1

@@ -1,4 +1,5 @@
 pub mod Lexing
+pub mod Fronts
 pub mod Stops
 pub mod Order
 pub mod Sizes

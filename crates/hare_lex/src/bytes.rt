@@ -15,8 +15,24 @@ pub fn byte(s: &[u8], at: usize) -> u8
     if at < s.len() { s[at] } else { 0 }
 }
 
+// How many blanks stand at the front.
+pub fn blank_len(s: &[u8]) -> usize
+    ensures value { result ≡ prefix_len words.is_blank s.now }
+    ensures within { result ≤ length s.now }
+{
+    s.iter().take_while(|c| is_blank(**c)).count()
+}
+
+// How many bytes stand before the end of the line.
+pub fn line_len(s: &[u8]) -> usize
+    ensures value { result ≡ prefix_len words.is_not_feed s.now }
+    ensures within { result ≤ length s.now }
+{
+    s.iter().take_while(|c| **c != b'\n').count()
+}
+
 // A space, a tab, LF or CR.
-pub fn is_blank(c: u8) -> bool
+fn is_blank(c: u8) -> bool
     ensures { result ≡ words.is_blank c }
 {
     c == 32 || c == 9 || c == 10 || c == 13

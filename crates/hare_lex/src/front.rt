@@ -2,6 +2,7 @@
 
 ghost use Rattle.std.specs.Prelude.{◌≡◌, ◌≤◌, ◌<◌, length, false, true, slice_index};
 ghost use Rattle.std.specs.Char.{is_ascii_digit};
+ghost use Rattle.hare_lex.specs.Fronts.{Sound, Within};
 ghost use Rattle.hare_lex.specs.Lexing as spec;
 ghost use Rattle.hare_tree.specs.Words as words;
 
@@ -28,12 +29,24 @@ fn plain(kind: TokenKind, len: usize) -> Found
     Found::Token(kind, len, 0, Suffix::None)
 }
 
+/// The token that stands at the front of a text, or the fault there. The text is not empty, and begins with neither a blank nor a comment;
+/// `behind_path` says whether the token before it is `::`.
+///
+/// The faults are those of `tokens`, but for E3. The time is linear in the bytes of the token, or in those of the text at a fault.
+pub fn first_token(behind_path: bool, s: &[u8]) -> Found
+    requires { 0 < length s.now }
+    ensures stands { Sound behind_path s.now result }
+    ensures within { Within s.now result }
+{
+    at_front(behind_path, s)
+}
+
 // What stands at the front of a text that is not empty.
 #[tactic(auto, unfolding(crate::specs::Lexing::at_front))]
-pub fn at_front(behind_path: bool, s: &[u8]) -> Found
+fn at_front(behind_path: bool, s: &[u8]) -> Found
     requires { 0 < length s.now }
     ensures value { result ≡ spec.at_front behind_path s.now }
-    ensures within { spec.Within s.now result }
+    ensures within { Within s.now result }
 {
     let first = s[0];
     if is_letter(first) {
@@ -57,7 +70,7 @@ pub fn at_front(behind_path: bool, s: &[u8]) -> Found
 fn word_front(behind_path: bool, s: &[u8]) -> Found
     requires { words.is_letter (slice_index s.now 0) ≡ true }
     ensures value { result ≡ spec.word_front behind_path s.now }
-    ensures within { spec.Within s.now result }
+    ensures within { Within s.now result }
 {
     let len = word_len(s);
     let word = s.split_at(len).0;
@@ -74,7 +87,7 @@ fn word_front(behind_path: bool, s: &[u8]) -> Found
 fn number_front(s: &[u8]) -> Found
     requires { is_ascii_digit (slice_index s.now 0) ≡ true }
     ensures value { result ≡ spec.number_front s.now }
-    ensures within { spec.Within s.now result }
+    ensures within { Within s.now result }
 {
     let number = number_at(s);
     match number.value {
@@ -156,7 +169,7 @@ fn rune_front(behind: &[u8]) -> Found
 // A mark at the front.
 fn mark_front(s: &[u8]) -> Found
     ensures value { result ≡ spec.mark_front s.now }
-    ensures within { spec.Within s.now result }
+    ensures within { Within s.now result }
 {
     let len = mark_len(s);
     if len == 0 {

@@ -1,30 +1,61 @@
 //! Blanks and comments, and places.
 
 ghost use Rattle.std.specs.Prelude.{◌≡◌, ◌+◌, ◌^◌, ◌<◌, ◌≤◌, length, drop, false};
-ghost use Rattle.hare_lex.specs.Lexing.{skipped, advanced};
+ghost use Rattle.hare_lex.specs.Fronts.{IsGapPart};
+ghost use Rattle.hare_lex.specs.Lexing.{begins_comment, skipped, advanced};
 
-use crate::bytes::{byte, is_blank};
+use crate::bytes::{blank_len, byte, line_len};
 use hare_tree::Place;
+
+/// Blanks or a comment at the front of a text.
+#[derive(Clone, Copy)]
+pub struct GapPart {
+    /// Whether it is a comment: from `//` to before the end of its line.
+    pub comment: bool,
+    /// How many bytes it has.
+    pub len: usize,
+}
+
+/// All of the blanks that stand at the front of a text, or the comment that does. Behind all such parts a token stands, or a fault, or the
+/// end.
+///
+/// The time is linear in the bytes of the part.
+pub fn gap_part(s: &[u8]) -> Option<GapPart>
+    ensures { IsGapPart s.now result }
+{
+    let blanks = blank_len(s);
+    if blanks > 0 {
+        Some(GapPart {
+            comment: false,
+            len: blanks,
+        })
+    } else if begins_comment(s) {
+        Some(GapPart {
+            comment: true,
+            len: line_len(s),
+        })
+    } else {
+        None
+    }
+}
+
+// Whether `//` stands at the front.
+fn begins_comment(s: &[u8]) -> bool
+    ensures { result ≡ begins_comment s.now }
+{
+    byte(s, 0) == b'/' && byte(s, 1) == b'/'
+}
 
 // The length of the blanks and comments at the front.
 pub fn gap_len(s: &[u8]) -> usize
     ensures value { drop result s.now ≡ skipped false s.now }
     ensures within { result ≤ length s.now }
 {
-    let mut at = 0;
-    let mut in_comment = false;
-    while at < s.len() {
-        let c = s[at];
-        if in_comment {
-            in_comment = c != 10;
-        } else if c == 47 && byte(s, at + 1) == 47 {
-            in_comment = true;
-        } else if !is_blank(c) {
-            return at;
-        }
-        at += 1;
+    let mut len = 0;
+    'parts: while let Some(part) = gap_part(s.split_at(len).1) {
+        len += part.len;
     }
-    at
+    len
 }
 
 // The place behind these bytes, which begin at the place.

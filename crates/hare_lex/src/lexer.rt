@@ -11,7 +11,7 @@ ghost use Rattle.hare_lex.specs.Lexing.{text_of, string_text, inner};
 ghost use Rattle.hare_lex.specs.Order.{AreInOrder};
 ghost use Rattle.hare_lex.specs.Stops.{Stops, Stopped, GivesTokens, GivesFault};
 
-use crate::front::{Found, at_front};
+use crate::front::{Found, first_token};
 use crate::gap::{advanced, gap_len};
 use crate::stop::LexStop;
 use crate::string::unescaped;
@@ -86,7 +86,7 @@ fn tokens_of(alloc: Global, file: u32, src: &[u8]) -> Result<Tokens, LexStop>
             tokens.push(end_at(alloc, at))?;
             return Ok(tokens);
         }
-        match at_front(behind_path, text) {
+        match first_token(behind_path, text) {
             Found::Fault(number, offset) => {
                 let fault = advanced(at, text.split_at(offset).0);
                 return Err(broken(alloc, tokens, number, fault));
@@ -129,8 +129,8 @@ fn broken(alloc: Global, mut kept: Tokens, number: u8, place: Place) -> LexStop
     }
 }
 
-// Whether the token is the mark `::`.
-fn is_path_mark(kind: TokenKind, spelling: &[u8]) -> bool
+/// Whether the token of this kind and spelling is the mark `::`.
+pub fn is_path_mark(kind: TokenKind, spelling: &[u8]) -> bool
     ensures { result ≡ spec.is_path_mark kind spelling.now }
 {
     match kind {

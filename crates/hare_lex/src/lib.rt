@@ -14,6 +14,8 @@ mod table;
 #[cfg(test)]
 mod tests;
 
+pub use front::{Found, first_token};
+pub use gap::{GapPart, gap_part};
 pub use law::{text_is_no_longer, tokens_are_few, tokens_are_in_order};
-pub use lexer::tokens;
+pub use lexer::{is_path_mark, tokens};
 pub use stop::LexStop;

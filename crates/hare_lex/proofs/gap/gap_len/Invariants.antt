@@ -3,8 +3,8 @@ use Rattle.hare_lex.specs.Lexing.{skipped}
 use Rattle.hare_lex.proofs.gap.gap_len.Given as goal
 
 -- what is left to skip from here is what is left from the start
-abbrev pub invariant-loop-at : goal.invariant-loop-at
-invariant-loop-at l = record { same : skipped l.in_comment (drop l.at l.s) ≡ skipped false l.s; within : l.at ≤ length l.s }
+abbrev pub invariant-parts : goal.invariant-parts
+invariant-parts l = record { same : skipped false (drop l.len l.s) ≡ skipped false l.s; within : l.len ≤ length l.s }
 
-abbrev pub decreases-loop-at : goal.decreases-loop-at
-decreases-loop-at l = length l.s - l.at
+abbrev pub decreases-parts : goal.decreases-parts
+decreases-parts l = length l.s - l.len

@@ -1,9 +1,7 @@
-use Rattle.std.proofs.Common.{◌≡◌, ◌∙◌, ◌++◌, [], ◌∷◌, ◌<◌, sym, ap, subst, arith, length}
+use Rattle.std.proofs.Common.{◌≡◌, ◌∙◌, ◌++◌, [], ◌∷◌, ap, arith, length}
 use Rattle.std.proofs.lemmas.Bool.Decides.{nat_tests}
 use Rattle.hare_lex.specs.Lexing.{advanced}
 use Rattle.hare_lex.proofs.Progress.{reached_at, at_more, at_lines, at_columns, all_read, broken_at}
-use Rattle.hare_lex.proofs.Sound.{front_sound}
-use Rattle.hare_lex.proofs.Standing.{Sound}
 use Rattle.hare_lex.proofs.Turn.{token_read, joined, gap_to}
 use Rattle.hare_lex.proofs.lexer.tokens_of.Goals as goal
 
@@ -48,13 +46,11 @@ returns-in-Fault-clause-cause c =
     let text = c.split_at.result.1.now in
     let b = c.loop-text.behind_path in
     let gap = gap_to rest text (c.split_at.ensures.back ∙ c.gap_len.ensures.value) in
-    let some : 0 < length text = grind (arith, nat_tests) in
-    let break = subst (Sound b text) (sym c.in-Fault.ensures.value) (front_sound b text some) in
     let fault = c.advanced-fault.ensures ∙ ap (λ s. advanced c.advanced-at.result s) c.split_at-in-Fault.ensures.front in
     broken_at c.args.file c.args.src.now c.loop-text.tokens c.loop-text.place c.advanced-at.result c.advanced-fault.result b rest blank text
     gap.0 c.in-Fault.number c.in-Fault.offset c.broken.result
     c.loop-text.invariant gap.1 (joined c.gap_len.result rest blank text c.split_at.ensures.front c.split_at.ensures.back)
-    c.advanced-at.ensures c.requires.utf8 break fault c.broken.ensures
+    c.advanced-at.ensures c.requires.utf8 c.in-Fault.ensures.stands fault c.broken.ensures
 
 pub advanced-place-requires-clause-lines : goal.advanced-place-requires-clause-lines
 advanced-place-requires-clause-lines c =
@@ -79,12 +75,10 @@ loop-text-preserved c =
     let text = c.split_at.result.1.now in
     let b = c.loop-text.behind_path in
     let gap = gap_to rest text (c.split_at.ensures.back ∙ c.gap_len.ensures.value) in
-    let some : 0 < length text = grind (arith, nat_tests) in
-    let stands = subst (Sound b text) (sym c.in-Token.ensures.value) (front_sound b text some) in
     token_read c.args.file c.args.src.now c.loop-text.tokens c.loop-text.place c.advanced-at.result b rest blank text gap.0
     c.in-Token.kind c.in-Token.len c.in-Token.number c.in-Token.suffix c.split_at-in-Token.result.0.now c.split_at-in-Token.result.1.now
     c.in_ok-token-in-Token.token c.push-in-Token.new.self c.advanced-place.result c.is_path_mark-behind_path.result
     c.loop-text.invariant gap.1 (joined c.gap_len.result rest blank text c.split_at.ensures.front c.split_at.ensures.back)
-    c.advanced-at.ensures stands
+    c.advanced-at.ensures c.in-Token.ensures.stands
     c.split_at-in-Token.ensures.front c.split_at-in-Token.ensures.back c.in_ok-token-in-Token.ensures c.in_ok-push-in-Token.ensures.ok
     c.advanced-place.ensures c.is_path_mark-behind_path.ensures
