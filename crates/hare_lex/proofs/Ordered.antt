@@ -91,8 +91,7 @@ abbrev Behind : ℕ → List ℕ → Token → Type 0
 Behind file before t = is_before (place_at file before) t.place ≡ true
 
 -- What is known of the tokens that stand behind these bytes of the file, with End so many bytes behind them: the text is what is read and
--- what is
--- left, each token stands behind what stands in front of it, and they are few.
+-- what is left, each token stands behind what stands in front of it, and they are few.
 record Facts (file : ℕ) (before : List ℕ) (ts : List Token) (text left more : List ℕ) : Type 0 where
   read : List ℕ
   text_is : text ≡ read ++ left

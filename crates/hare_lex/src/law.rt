@@ -17,8 +17,8 @@ pub fn tokens_are_in_order()
     ensures kept { KeptAreInOrder }
 {}
 
-/// The law that the tokens of a file are at most as many as its bytes and one, and that their strings have together at most as many bytes as the
-/// file; and likewise those that are kept before a break.
+/// The law that the tokens of a file are at most as many as its bytes and one, and that their strings have together at most as many bytes
+/// as the file; and likewise those that are kept before a break.
 pub fn tokens_are_few()
     ensures tokens { TokensAreFew }
     ensures kept { KeptAreFew }

@@ -149,7 +149,8 @@ fn token_of(
     suffix: Suffix,
 ) -> Result<Token, AllocError>
     requires { kind ≡ Str → 2 ≤ length spelling.now }
-    ensures { IfOk result (λ t. t ≡ record { kind = kind; place = place; text = text_of kind spelling.now; number = number; suffix = suffix }) }
+    ensures { IfOk result (λ t. t ≡ record
+        { kind = kind; place = place; text = text_of kind spelling.now; number = number; suffix = suffix }) }
 {
     Ok(Token {
         kind,
