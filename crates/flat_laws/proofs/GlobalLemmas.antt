@@ -3,9 +3,9 @@ use Rattle.std.proofs.Common.{◌≡◌, ℕ, zero, suc, ◌+◌, ◌<◌, ◌�
 use Rattle.std.specs.Prelude.{flat_map, sum_by, slice_get}
 use Rattle.std.proofs.lemmas.List.{length-append, length-replicate}
 use Rattle.std.proofs.lemmas.List.Sums.{sum_by-cons}
-use Rattle.hx_base.specs.Memory.{Memory, byte_at, bytes_at, is_mapped, all_mapped, write, round_up}
+use Rattle.hx_base.specs.Memory.{Memory, bytes_at, is_mapped, all_mapped, write, round_up}
 use Rattle.hx_base.proofs.Memory.Ranges.{Inside, inside, outside, inside_of}
-use Rattle.hx_base.proofs.Memory.Agreeing.{bytes_at-same, all_mapped-alike}
+use Rattle.hx_base.proofs.Memory.Agreeing.{IsKept, kept_then, bytes_at-same, all_mapped-alike}
 use Rattle.hx_base.proofs.Memory.Written.{byte_at-write_outside, bytes_at-write, bytes_at-map_range}
 use Rattle.hx_base.proofs.Memory.Mapped.{is_mapped-map_range_outside, all_mapped-map_range_inside}
 use Rattle.hx_base.proofs.Memory.Numbers.{length-le_bytes}
@@ -18,15 +18,7 @@ use Rattle.flat_code.specs.WellFormed.{global_size}
 use Rattle.flat_code.proofs.GlobalPlaces.{next, spot, end_of, AreRight, first_right, others_right, stands_at, ends_within, located}
 use Rattle.flat_laws.specs.Starts.{taken}
 
--- ---- one memory and another
-
--- an address has the same byte in both, and is mapped in both or in neither
-pub record IsKept (m m' : Memory) (a : ℕ) : Type 0 where
-  pub byte : byte_at m' a ≡ byte_at m a
-  pub mapped : is_mapped m' a ≡ is_mapped m a
-
-pub kept_then : (m m' m'' : Memory) (a : ℕ) → IsKept m m' a → IsKept m' m'' a → IsKept m m'' a
-kept_then m m' m'' a h g = record { byte = g.byte ∙ h.byte; mapped = g.mapped ∙ h.mapped }
+-- ---- elements of a list
 
 -- the element at a place
 pub record IsFound {A : Type 0} (xs : List A) (i : ℕ) : Type 0 where

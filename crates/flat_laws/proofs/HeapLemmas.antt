@@ -5,6 +5,7 @@ use Rattle.std.proofs.lemmas.Bool.Decides.{nat_tests}
 use Rattle.std.proofs.lemmas.List.Elements.{All-cons}
 use Rattle.hx_base.specs.Memory.{round_up}
 use Rattle.hx_base.specs.Runtime.{block_size, without_block, new_block}
+use Rattle.hx_base.proofs.Memory.Numbers.{round_up-reaches}
 use Rattle.hx_base.proofs.Memory.Blocks.{AreApart, without_block-apart}
 use Rattle.flat_code.specs.State.{State}
 use Rattle.flat_laws.specs.Runs.{OfAllCode}
@@ -82,16 +83,13 @@ same_heap s = record { next = omega arith; heap = λ h. h }
 heaps_then : (s t u : State) → IsHeapKept s t → IsHeapKept t u → IsHeapKept s u
 heaps_then s t u h g = record { next = omega (arith, h.next, g.next); heap = λ i. g.heap (h.heap i) }
 
-round_up-most : (n : ℕ) → n ≤ round_up n 16
-round_up-most n = omega arith
-
 made_kept : (s : State) (size : ℕ) → 1 ≤ size → IsHeapKept s (record s { world = new_block s.world size })
 made_kept s size l = record {
   next = omega arith;
   heap = λ h. record {
     next = omega (arith, h.next);
     blocks = All-cons (IsBlock (s.world.heap.next + round_up size 16)) (s.world.heap.next, size) s.world.heap.blocks
-        (record { starts = h.next; some = l; ends = omega (arith, round_up-most size) })
+        (record { starts = h.next; some = l; ends = omega (arith, round_up-reaches size 16 (omega arith)) })
         (raised s.world.heap.next (s.world.heap.next + round_up size 16) s.world.heap.blocks (omega arith) h.blocks);
     apart = (none_begins s.world.heap.next s.world.heap.blocks h.blocks, h.apart);
   };

@@ -8,6 +8,5 @@ mod CallRows
 mod MapRows
 mod NameRows
 pub mod GlobalLemmas
-pub mod ArgumentLemmas
 pub mod StartLemmas
 mod StartRows

@@ -1,10 +1,10 @@
 -- What is mapped below the heap, from each state to each later one, and what a call maps.
-use Rattle.std.proofs.Common.{◌≡◌, ℕ, zero, suc, ◌+◌, ◌-◌, ◌<◌, ◌≤◌, ◌⊎◌, inl, inr, Bool, true, false, List, Some, refl, sym, ◌∙◌, subst, arith}
-use Rattle.std.specs.Prelude.{nat_lt}
-use Rattle.std.proofs.lemmas.Bool.Decides.{nat_tests}
+use Rattle.std.proofs.Common.{◌≡◌, ℕ, zero, suc, ◌+◌, ◌-◌, ◌<◌, ◌≤◌, ◌⊎◌, inl, inr, true, false, List, Some, refl, sym, ◌∙◌, subst, arith}
+use Rattle.std.proofs.lemmas.Bool.{cases_lt}
 use Rattle.hx_base.specs.Memory.{Memory, round_up, byte_at, is_mapped}
 use Rattle.hx_base.specs.Runtime.{heap_start, block_size, new_block}
 use Rattle.hx_base.proofs.Memory.Mapped.{is_mapped-map_range_inside as map_in, is_mapped-map_range_outside as map_out, is_mapped-unmap_range_inside as unmap_in, is_mapped-unmap_range_outside as unmap_out}
+use Rattle.hx_base.proofs.Memory.Numbers.{round_up-reaches}
 use Rattle.flat_code.specs.declared.program.FlatFn.{FlatFn}
 use Rattle.flat_code.specs.Shape.{code_of}
 use Rattle.flat_code.specs.State.{State, Result}
@@ -30,17 +30,6 @@ framed_out m at (suc n) a h = map_out m at (suc n) a h
 framed_byte : (m : Memory) (at n a : ℕ) → byte_at (framed m at n) a ≡ byte_at m a
 framed_byte m at zero a = refl
 framed_byte m at (suc n) a = refl
-
-round_up-most : (n : ℕ) → n ≤ round_up n 16
-round_up-most n = omega arith
-
--- an address is below another, or not
-below_or_not : (a b : ℕ) → (a < b) ⊎ (b ≤ a)
-below_or_not a b = pick (nat_lt a b) refl
-  where
-    pick : (t : Bool) → nat_lt a b ≡ t → (a < b) ⊎ (b ≤ a)
-    pick true e = inl (grind (arith, nat_tests))
-    pick false e = inr (grind (arith, nat_tests))
 
 -- ---- what is kept however code ends, and what where it goes on
 
@@ -104,7 +93,7 @@ came_back s t f vs h = record {
       unmap_out t.world.memory s.top (t.top - s.top) a (inl l)
       ∙ h.below i a (omega (arith, l)) u
       ∙ framed_out s.world.memory s.top f.frame a (inl l);
-  clear = λ i c a l u. behind i c a l u (below_or_not a t.top);
+  clear = λ i c a l u. behind i c a l u (cases_lt a t.top);
 }
   where
     size : ℕ
@@ -115,7 +104,7 @@ came_back s t f vs h = record {
 
     begins_clear : IsClear s → IsClear (entered s f vs)
     begins_clear c a l u =
-        framed_out s.world.memory s.top f.frame a (inr (omega (arith, l, round_up-most f.frame))) ∙ c a (omega (arith, l)) u
+        framed_out s.world.memory s.top f.frame a (inr (omega (arith, l, round_up-reaches f.frame 16 (omega arith)))) ∙ c a (omega (arith, l)) u
 
     behind : IsHeap s.world.heap → IsClear s → (a : ℕ) → s.top ≤ a → a < heap_start → (a < t.top) ⊎ (t.top ≤ a) →
         is_mapped (left s t).world.memory a ≡ false
@@ -148,7 +137,7 @@ stack_so : (s : State) (r : Result) → Behind Kept Ended s r.0 r.1 → KeepsThe
 stack_so s r h i = record {
   below = (ends_so Kept Ended stack_laws s r h).below i;
   clear = λ on. (goes_on_so Kept Ended s r h on).clear i;
-  same = λ on c a u. all_same s r.1 i c (goes_on_so Kept Ended s r h on) a u (below_or_not a s.top);
+  same = λ on c a u. all_same s r.1 i c (goes_on_so Kept Ended s r h on) a u (cases_lt a s.top);
 }
 
 pub keeps_the_stack : OfAllCode KeepsTheStack
@@ -176,7 +165,7 @@ leaves s f t e = record {
   unmapped = λ a l u. unmap_in t.world.memory s.top (t.top - s.top) a l (rw size u);
   others = λ a h. unmap_out t.world.memory s.top (t.top - s.top) a (rw size h);
   bytes = λ a. refl;
-  within = round_up-most f.frame;
+  within = round_up-reaches f.frame 16 (omega arith);
   heap = refl;
   input = refl;
   output = refl;

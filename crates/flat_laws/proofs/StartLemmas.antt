@@ -5,59 +5,21 @@ use Rattle.std.specs.List.{list_all}
 use Rattle.std.proofs.lemmas.Bool.{and_parts}
 use Rattle.std.proofs.lemmas.Bool.Decides.{nat_tests}
 use Rattle.std.proofs.lemmas.Option.{slice_get-get_or, slice_get_within}
-use Rattle.hx_base.specs.Memory.{Memory, empty_memory, is_mapped, write}
-use Rattle.hx_base.specs.Runtime.{arguments_start, record_size, argument_size, argument_records, write_arguments, with_arguments, data_start, or_zero}
+use Rattle.hx_base.specs.Memory.{Memory, empty_memory, is_mapped}
+use Rattle.hx_base.specs.Runtime.{arguments_start, record_size, argument_size, with_arguments, data_start, or_zero}
 use Rattle.hx_base.proofs.Memory.Ranges.{Inside, inside, outside, inside_of, all_mapped-each}
 use Rattle.hx_base.proofs.Memory.Agreeing.{bytes_at-same}
-use Rattle.hx_base.proofs.Memory.Written.{byte_at-write_outside, bytes_at-map_range}
-use Rattle.hx_base.proofs.Memory.Mapped.{is_mapped-map_range_inside, is_mapped-map_range_outside, all_mapped-map_range_inside}
+use Rattle.hx_base.proofs.Memory.Written.{bytes_at-map_range}
+use Rattle.hx_base.proofs.Memory.Mapped.{all_mapped-map_range_inside}
+use Rattle.hx_base.proofs.Memory.Arguments.{text_within, byte_at-write_arguments_outside, bytes_at-write_arguments, bytes_at-argument_records, has_text, one_text, texts_start, table_size, with_records, with_texts, with_arguments-below, is_mapped-with_arguments_inside, is_mapped-with_arguments_above}
 use Rattle.flat_code.specs.declared.program.Data.{Data}
 use Rattle.flat_code.specs.declared.program.FlatProgram.{FlatProgram}
 use Rattle.flat_code.specs.Addresses.{data_size, with_globals, start_memory}
 use Rattle.flat_code.specs.WellFormed.{IsWellFormed, how_many, global_size, most}
 use Rattle.flat_code.proofs.GlobalPlaces.{spot, end_of, ends_within, IsLocated, located, looked_up}
 use Rattle.flat_laws.specs.Starts.{IsGlobal, GlobalsStand, record_address, argument_address, arguments_end, IsArgument, ArgumentsStand, Part, Global, Record, Text, taken, IsIn, IsTaken, HaveRoom, ProgramsAreLaidOut}
-use Rattle.flat_laws.proofs.GlobalLemmas.{IsKept, found_of, IsThere, there_kept, globals_there, HasAddress, has_between, has_one, HasSome, mapped_before}
-use Rattle.flat_laws.proofs.ArgumentLemmas.{text_within, byte_kept, mapped_kept, text_there, record_written, has_text, one_text}
+use Rattle.flat_laws.proofs.GlobalLemmas.{found_of, IsThere, there_kept, globals_there, HasAddress, has_between, has_one, HasSome, mapped_before}
 use Rattle.flat_laws.proofs.HeapLemmas.{no_blocks}
-
--- ---- memory with the table of arguments
-
--- where the bytes of the first argument begin, and how many bytes the table has
-abbrev texts : List (List ℕ) → ℕ
-texts args = record_address (length args)
-
-abbrev table : List (List ℕ) → ℕ
-table args = record_size * length args + sum_by argument_size args
-
--- the bytes of the table
-abbrev recorded : Memory → List (List ℕ) → Memory
-recorded m args = write m arguments_start (argument_records (texts args) args)
-
-abbrev filled : Memory → List (List ℕ) → Memory
-filled m args = write_arguments (recorded m args) (texts args) args
-
--- below the table all is as it was
-table_kept : (m : Memory) (args : List (List ℕ)) (a : ℕ) → a < arguments_start → IsKept m (with_arguments m args) a
-table_kept m args a l = record {
-  byte =
-      byte_kept (recorded m args) (texts args) args a (inl (omega (arith, l)))
-      ∙ byte_at-write_outside m arguments_start (argument_records (texts args) args) a (inl l);
-  mapped =
-      is_mapped-map_range_outside (filled m args) arguments_start (table args) a (inl l)
-      ∙ mapped_kept (recorded m args) (texts args) args a;
-}
-
--- all of the table is mapped
-table_mapped : (m : Memory) (args : List (List ℕ)) (a : ℕ) → arguments_start ≤ a → a < arguments_end args →
-    is_mapped (with_arguments m args) a ≡ true
-table_mapped m args a l u = is_mapped-map_range_inside (filled m args) arguments_start (table args) a l (omega (arith, u))
-
--- what is mapped above is not of the table
-above_table : (m : Memory) (args : List (List ℕ)) (a : ℕ) → arguments_end args ≤ a → is_mapped (with_arguments m args) a ≡ is_mapped m a
-above_table m args a l =
-    is_mapped-map_range_outside (filled m args) arguments_start (table args) a (inr (omega (arith, l)))
-    ∙ mapped_kept (recorded m args) (texts args) args a
 
 -- ---- arguments
 
@@ -65,18 +27,18 @@ arguments_in : (m : Memory) (args : List (List ℕ)) (i : ℕ) (a : List ℕ) �
     IsArgument args (with_arguments m args) i a
 arguments_in m args i a e = record {
   recorded =
-      bytes_at-map_range (filled m args) arguments_start (table args) (record_address i) record_size
-      ∙ bytes_at-same (recorded m args) (filled m args) (record_address i) record_size
-      (λ x l u. byte_kept (recorded m args) (texts args) args x (inl (omega (arith, u, within))))
-      ∙ record_written m arguments_start (texts args) args i a e;
+      bytes_at-map_range (with_texts m args) arguments_start (table_size args) (record_address i) record_size
+      ∙ bytes_at-same (with_records m args) (with_texts m args) (record_address i) record_size
+      (λ x l u. byte_at-write_arguments_outside (with_records m args) (texts_start args) args x (inl (omega (arith, u, within))))
+      ∙ bytes_at-argument_records m arguments_start (texts_start args) args i a e;
   record_mapped =
-      all_mapped-map_range_inside (filled m args) arguments_start (table args) (record_address i) record_size
+      all_mapped-map_range_inside (with_texts m args) arguments_start (table_size args) (record_address i) record_size
       (omega arith) (omega (arith, within));
   bytes =
-      bytes_at-map_range (filled m args) arguments_start (table args) (argument_address args i) (length a)
-      ∙ text_there (recorded m args) (texts args) args i a e;
+      bytes_at-map_range (with_texts m args) arguments_start (table_size args) (argument_address args i) (length a)
+      ∙ bytes_at-write_arguments (with_records m args) (texts_start args) args i a e;
   mapped =
-      all_mapped-map_range_inside (filled m args) arguments_start (table args) (argument_address args i) (argument_size a)
+      all_mapped-map_range_inside (with_texts m args) arguments_start (table_size args) (argument_address args i) (argument_size a)
       (omega arith) (omega (arith, ends));
   below = ends;
 }
@@ -85,7 +47,7 @@ arguments_in m args i a e = record {
     within = slice_get_within args i a e
 
     ends : argument_address args i + argument_size a ≤ arguments_end args
-    ends = text_within (texts args) args i a e
+    ends = text_within (texts_start args) args i a e
 
 pub arguments_stand : ArgumentsStand
 arguments_stand fill p args i a e = arguments_in (with_globals p (empty_memory fill) data_start p.globals) args i a e
@@ -139,7 +101,7 @@ module _ (p : FlatProgram) (w : IsWellFormed p) where
       there =
           there_kept p start (start_memory fill p args) (spot data_start p.globals i) d
           (globals_there p (empty_memory fill) data_start p.globals i d w.globals e)
-          (λ a u. table_kept start args a (omega (arith, u, place.below, globals_end)))
+          (λ a u. with_arguments-below start args a (omega (arith, u, place.below, globals_end)))
 
 pub globals_stand : GlobalsStand
 globals_stand fill p args i d w e = global_in p w fill args i d e
@@ -187,13 +149,13 @@ module _ (p : FlatProgram) (args : List (List ℕ)) (w : IsWellFormed p) where
       let b = has_between p data_start p.globals i a w.globals (of_global i a h) in
       (b.0, omega (arith, b.1, globals_end p w))
 
-  record_low : (i a : ℕ) → IsIn p args (Record i) a → (arguments_start ≤ a) × (a < texts args)
+  record_low : (i a : ℕ) → IsIn p args (Record i) a → (arguments_start ≤ a) × (a < texts_start args)
   record_low i a h = let r = of_record i a h in (omega (arith, r.from), omega (arith, r.below, r.within))
 
-  text_high : (i a : ℕ) → IsIn p args (Text i) a → (texts args ≤ a) × (a < arguments_end args)
+  text_high : (i a : ℕ) → IsIn p args (Text i) a → (texts_start args ≤ a) × (a < arguments_end args)
   text_high i a h =
       let t = of_text i a h in
-      let e = text_within (texts args) args i t.text t.found in
+      let e = text_within (texts_start args) args i t.text t.found in
       (omega (arith, t.from), omega (arith, t.below, e))
 
   apart : (x y : Part) (a : ℕ) → IsIn p args x a → IsIn p args y a → x ≡ y
@@ -211,7 +173,7 @@ module _ (p : FlatProgram) (args : List (List ℕ)) (w : IsWellFormed p) where
   apart (Text i) (Text j) a h k =
       let t = of_text i a h in
       let u = of_text j a k in
-      ap Text (one_text (texts args) args i j t.text u.text a t.found u.found t.from t.below u.from u.below)
+      ap Text (one_text (texts_start args) args i j t.text u.text a t.found u.found t.from t.below u.from u.below)
 
   within : HaveRoom args → (x : Part) (a : ℕ) → IsIn p args x a → (data_start ≤ a) × (a < 2 ^ 37)
   within room (Global i) a h = let b = global_low i a h in (b.0, omega (arith, b.1))
@@ -231,8 +193,8 @@ module _ (p : FlatProgram) (args : List (List ℕ)) (w : IsWellFormed p) where
         let u : a < spot data_start p.globals i + data_size f.element =
         subst (λ (o : Option Data). a < spot data_start p.globals i + taken data_size o) f.found h.below in
         all_mapped-each (start_memory fill p args) (spot data_start p.globals i) (data_size f.element) a g.mapped h.from u
-    mapped (Record i) a h = let b = record_low i a h in table_mapped start args a b.0 (omega (arith, b.1))
-    mapped (Text i) a h = let b = text_high i a h in table_mapped start args a (omega (arith, b.0)) b.1
+    mapped (Record i) a h = let b = record_low i a h in is_mapped-with_arguments_inside start args a b.0 (omega (arith, b.1))
+    mapped (Text i) a h = let b = text_high i a h in is_mapped-with_arguments_inside start args a (omega (arith, b.0)) b.1
 
     -- an address of the table is a record's or an argument's
     of_table : (a : ℕ) → arguments_start ≤ a → a < arguments_end args → IsTaken p args a
@@ -252,7 +214,7 @@ module _ (p : FlatProgram) (args : List (List ℕ)) (w : IsWellFormed p) where
             }
         pick (outside e (inl o)) = absurd (omega (arith, l, o))
         pick (outside e (inr o)) =
-            let t = has_text (texts args) args a o u in
+            let t = has_text (texts_start args) args a o u in
             record {
               part = Text t.place;
               inside = record {
@@ -262,18 +224,18 @@ module _ (p : FlatProgram) (args : List (List ℕ)) (w : IsWellFormed p) where
             }
 
     only : (a : ℕ) → is_mapped (start_memory fill p args) a ≡ true → IsTaken p args a
-    only a h = pick (inside_of arguments_start (table args) a)
+    only a h = pick (inside_of arguments_start (table_size args) a)
       where
         of_some : (is_mapped (empty_memory fill) a ≡ true) ⊎ HasSome p data_start p.globals a → IsTaken p args a
         of_some (inl e) = absurd (let f : false ≡ true = e in cc)
         of_some (inr s) = record { part = Global s.place; inside = record { from = s.address.from; below = s.address.below } }
 
-        pick : Inside arguments_start (table args) a → IsTaken p args a
+        pick : Inside arguments_start (table_size args) a → IsTaken p args a
         pick (inside e l u) = of_table a l (omega (arith, u))
         pick (outside e (inl o)) =
-            of_some (mapped_before p (empty_memory fill) data_start p.globals a (sym (table_kept start args a o).mapped ∙ h))
+            of_some (mapped_before p (empty_memory fill) data_start p.globals a (sym (with_arguments-below start args a o).mapped ∙ h))
         pick (outside e (inr o)) =
-            of_some (mapped_before p (empty_memory fill) data_start p.globals a (sym (above_table start args a (omega (arith, o))) ∙ h))
+            of_some (mapped_before p (empty_memory fill) data_start p.globals a (sym (is_mapped-with_arguments_above start args a (omega (arith, o))) ∙ h))
 
     above : HaveRoom args → (a : ℕ) → 2 ^ 37 ≤ a → is_mapped (start_memory fill p args) a ≡ false
     above room a l = pick (is_mapped (start_memory fill p args) a) refl
