@@ -76,12 +76,18 @@ below_there = refl
 abbrev dirty : State
 dirty = record begins { world = record world { memory = map_range world.memory (stack_start + 40) 1 } }
 
+was_mapped : is_mapped dirty.world.memory (stack_start + 40) ≡ true
+was_mapped = refl
+
 not_clear : is_mapped (flat sample 1 calls dirty).1.world.memory (stack_start + 40) ≡ false
 not_clear = refl
 
 -- where the heap has a block of the stack, it can be freed
 abbrev low_block : State
 low_block = record begins { world = record world { heap = record { next = heap_start; blocks = (stack_start, 16) ∷ [] } } }
+
+was_mapped_low : is_mapped low_block.world.memory stack_start ≡ true
+was_mapped_low = refl
 
 not_a_heap : is_mapped (flat sample 0 (Call None (codes "rt.free") (Frame 0 ∷ [])) low_block).1.world.memory stack_start ≡ false
 not_a_heap = refl

@@ -63,6 +63,20 @@ last_text = refl
 texts_end : arguments_end words ≡ 2 ^ 36 + 78
 texts_end = refl
 
+-- two globals side by side, of three bytes and of none: no byte is shared, and none is skipped
+abbrev beside : FlatProgram
+beside = program (plain (codes "main") 0 0 [] ∷ []) (
+    global (codes "a") 1 (item.Bytes (codes "xyz") ∷ [])
+    ∷ global (codes "b") 1 []
+    ∷ global (codes "c") 1 (item.Zero 2 ∷ [])
+    ∷ [])
+
+side_by_side : addresses beside ≡ (codes "a", 2 ^ 33) ∷ (codes "b", 2 ^ 33 + 3) ∷ (codes "c", 2 ^ 33 + 4) ∷ []
+side_by_side = refl
+
+last_byte_kept : bytes_at (before_calls (start_world beside [] [] 9)).world.memory (2 ^ 33) 7 ≡ 120 ∷ 121 ∷ 122 ∷ 9 ∷ 0 ∷ 0 ∷ 9 ∷ []
+last_byte_kept = refl
+
 -- ---- bytes
 
 -- the bytes from an address on
