@@ -74,7 +74,8 @@ impl Rules for Control {
 /// asked here: a label does not tell what it is asked for.
 ///
 /// The node is shaped and has these kids, which have been judged; each type that stands in them or in `c` is in the store, and mentions no
-/// name that is not defined. What a callee means is known, and the store defines `rt::nomem`.
+/// name that is not defined. What a callee means is known, and the store defines `rt::nomem`. The result of the function is in the store,
+/// and mentions no name that is not defined.
 pub fn judge(
     alloc: Global,
     s: &mut TypeStore,

@@ -21,6 +21,10 @@ use std::alloc::{AllocError, Global};
 
 /// Whether the node has asked its kid number `i` for a value of a type. A label does not tell what it is asked for, and so `yield` asks for
 /// none.
+///
+/// The node is one of those that `judge` judges. It is shaped and has its kids, which have been judged; each type that stands in them or is
+/// told with it is in the store, and mentions no name that is not defined. So it is of the result of the function. What a callee means is
+/// known, and the store defines `rt::nomem`. The store may grow in types. Fails for want of memory alone.
 pub fn asks_type(
     alloc: Global,
     s: &mut TypeStore,

@@ -113,6 +113,9 @@ fn allocation_asks(s: &mut TypeStore, t: &Turn<'_>, i: usize) -> Result<bool, Al
 }
 
 /// Whether the node has asked its kid number `i` for a value of a type.
+///
+/// The node is one of those that `judge` judges. It is shaped and has its kids, which have been judged; each type that stands in them or is
+/// told with it is in the store, and mentions no name that is not defined. The store may grow in types. Fails for want of memory alone.
 pub fn asks_type(s: &mut TypeStore, t: &Turn<'_>, i: usize) -> Result<bool, AllocError>
     requires kind { judges (kind_in t.now) ≡ true }
     requires turn { IsTurn s.old t.now }

@@ -24,7 +24,8 @@ pub(crate) fn hint_base<'s>(s: &'s TypeStore, hint: &Hint) -> Option<&'s Row>
     }
 }
 
-/// The element that a hint gives to an array.
+/// The element that a hint gives to an array. The condition is that a type for which the hint asks is in the store, and mentions no name
+/// that is not defined.
 pub fn hinted_element(s: &TypeStore, hint: &Hint) -> Option<TypeId>
     requires { IsDefinedHint s.now hint.now }
     ensures value { (f : Store) → IsLater s.now f → result ≡ spec.hinted_element f hint.now }
@@ -48,7 +49,8 @@ pub(crate) fn hinted_length(s: &TypeStore, hint: &Hint) -> Option<u64>
     }
 }
 
-/// The components that a hint gives to a tuple of so many items.
+/// The components that a hint gives to a tuple of so many items. The condition is that a type for which the hint asks is in the store, and
+/// mentions no name that is not defined.
 pub fn hinted_components<'s>(s: &'s TypeStore, hint: &Hint, count: usize) -> Option<&'s [TypeId]>
     requires { IsDefinedHint s.now hint.now }
     ensures value { (f : Store) → IsLater s.now f → option_copied result ≡ spec.hinted_components f hint.now count }
@@ -66,7 +68,8 @@ pub fn hinted_components<'s>(s: &'s TypeStore, hint: &Hint, count: usize) -> Opt
     }
 }
 
-/// The object that an allocation of one operand is asked for.
+/// The object that an allocation of one operand is asked for. The condition is that a type for which the hint asks is in the store, and
+/// mentions no name that is not defined.
 pub fn object_asked(s: &TypeStore, hint: &Hint) -> Option<TypeId>
     requires { IsDefinedHint s.now hint.now }
     ensures value { (f : Store) → IsLater s.now f → result ≡ object_of f hint.now }

@@ -104,7 +104,8 @@ pub(crate) fn member(s: &TypeStore, a: &Ty, node: &Tree) -> Option<TypeId>
     }
 }
 
-/// The type of the field with this name of what has this type. The time is constant.
+/// The type of the field with this name of what has this type. The time is constant. The condition is that the type is in the store, and
+/// mentions no name that is not defined.
 pub fn field_of(s: &TypeStore, a: &Ty, text: &[u8]) -> Option<TypeId>
     requires { IsDefinedTy s.now a.now }
     ensures { (f : Store) → IsLater s.now f → result ≡ spec.field_type f (given.base_row f a.now) text.now }

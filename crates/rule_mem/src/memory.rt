@@ -69,13 +69,12 @@ impl Rules for Memory {
 }
 
 /// Judges a path, what a pointer leads to, an address, an assignment, an index, a slice, a member, a struct literal, a tuple, an array,
-/// `alloc`,
-/// `free`, `append`, `delete`, `len` or `offset`: its type and the coercions that it settles, or the fault of the first row of the table of
-/// typing
-/// rules that it fails. The answer is that of every later store. The store may grow in types, also where there is a fault.
+/// `alloc`, `free`, `append`, `delete`, `len` or `offset`: its type and the coercions that it settles, or the fault of the first row of the
+/// table of typing rules that it fails. The answer is that of every later store. The store may grow in types, also where there is a fault.
 ///
 /// The node is shaped and has these kids, which have been judged; each type that stands in them or in `c` is in the store, and mentions no
-/// name that is not defined. What a path means is known, and the store defines `rt::nomem`.
+/// name that is not defined. What a path means is known, and the store defines `rt::nomem`. Where the first kid can be a place, it has a
+/// type.
 pub fn judge(
     alloc: Global,
     s: &mut TypeStore,

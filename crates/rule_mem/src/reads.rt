@@ -28,7 +28,8 @@ pub(crate) fn pointee(s: &TypeStore, a: &Ty) -> Option<TypeId>
     }
 }
 
-/// The type of the elements, where the base of a type is a slice.
+/// The type of the elements, where the base of a type is a slice. The condition is that the type is in the store, and mentions no name that
+/// is not defined.
 pub fn slice_element(s: &TypeStore, a: &Ty) -> Option<TypeId>
     requires { IsDefinedTy s.now a.now }
     ensures value { (f : Store) → IsLater s.now f → result ≡ element_of_slice (given.base_row f a.now) }

@@ -32,6 +32,10 @@ fn id_in(a: &Ty) -> Option<TypeId>
 }
 
 /// Whether the node has asked its kid number `i` for a value of a type.
+///
+/// The node is a literal, an operator, a cast, a size or parentheses. It is shaped and has its kids, which have been judged; each type that
+/// stands in them or is told with it is in the store, and mentions no name that is not defined. The store may grow in types. Fails for want
+/// of memory alone.
 pub fn asks_type(s: &mut TypeStore, t: &Turn<'_>, i: usize) -> Result<bool, AllocError>
     requires kind { is_operator (kind_in t.now) ≡ true }
     requires turn { IsTurn s.old t.now }
