@@ -6,6 +6,7 @@ pub mod NodeLemmas
 pub mod AddressLemmas
 pub mod ArrayLemmas
 pub mod PlacingLemmas
+pub mod PlacedLemmas
 pub mod PartLemmas
 pub mod SizeLemmas
 pub mod LaterTypes

@@ -19,8 +19,11 @@ use Rattle.hare_typed.specs.ConstantForms.{type_of_kid, offset_in, part_named, w
 use Rattle.hare_types.specs.declared.coercion.Ty.{Ty}
 use Rattle.hare_const.specs.declared.outcome.Outcome.{Outcome}
 use Rattle.hare_const.specs.declared.outcome.Outcome.TheVariants.{Known}
-use Rattle.hare_const.specs.NodeValues.{on_cells, kid_at, kids_at, filled, HasParts, type_with_offset}
+use Rattle.hare_const.specs.declared.placing.Part.{Part}
+use Rattle.hare_const.specs.NodeValues.{on_cells, kid_at, kids_at, HasParts, type_with_offset}
+use Rattle.hare_const.specs.Placing.{cells_of, cells_in, placed}
 use Rattle.hare_const.proofs.NodeLemmas.{kid-found, kid-missing}
+use Rattle.hare_const.proofs.PlacingLemmas.{placed_push}
 
 -- ---- which parts are given
 
@@ -130,84 +133,76 @@ reached_next s most i at next h e =
 
 -- ---- the parts at their offsets
 
--- what the value is once so many parts stand in it, of which these cells are known
-abbrev pub RestOfParts : Store → Ty → (size : ℕ) → List ℕ → (from : ℕ) → List Outcome → ℕ → List Cell → Outcome
-RestOfParts s f size ns from os i whole =
-    kids_at (from + i) (length ns - i) os (λ cs. Known (with_parts s f (drop i ns) cs (filled size whole)))
+-- what the value is once so many parts stand in it, which is this then
+abbrev pub RestOfParts : Store → Ty → List ℕ → (from : ℕ) → List Outcome → ℕ → List Cell → Outcome
+RestOfParts s f ns from os i whole = kids_at (from + i) (length ns - i) os (λ cs. Known (with_parts s f (drop i ns) cs whole))
 
 abbrev pub WithParts : Store → Ty → List ℕ → (from : ℕ) → List Outcome → Outcome
 WithParts s f ns from os = kids_at from (length ns) os (λ cs. Known (made_of s f ns cs))
 
 -- the parts so far stand in the value, and what is left goes on from there
-pub record Placed (s : Store) (f : Ty) (size : ℕ) (ns : List ℕ) (from : ℕ) (os : List Outcome) (i : ℕ) (whole : List Cell) : Type 0 where
-  pub within : length whole ≤ size
-  pub rest : WithParts s f ns from os ≡ RestOfParts s f size ns from os i whole
+abbrev pub Gathered : Store → Ty → (size : ℕ) → List ℕ → (from : ℕ) → List Outcome → ℕ → List Part → Type 0
+Gathered s f size ns from os i ps = WithParts s f ns from os ≡ RestOfParts s f ns from os i (placed os ps (undefined_cells size))
 
-pub placed_none : (s : Store) (f : Ty) (size : ℕ) (ns : List ℕ) (from : ℕ) (os : List Outcome) → size ≡ size_in s f →
-    Placed s f size ns from os 0 []
-placed_none s f size ns from os e =
+pub gathered_none : (s : Store) (f : Ty) (size : ℕ) (ns : List ℕ) (from : ℕ) (os : List Outcome) → size ≡ size_in s f →
+    Gathered s f size ns from os 0 []
+gathered_none s f size ns from os e =
     let start : from ≡ from + 0 = omega arith in
     let left : length ns ≡ length ns - 0 = omega arith in
-    let all : size_in s f ≡ size - 0 = omega arith in
-    record {
-      within = omega arith;
-      rest =
-          ap (λ k. kids_at k (length ns) os (λ cs. Known (made_of s f ns cs))) start
-          ∙ ap (λ k. kids_at (from + 0) k os (λ cs. Known (made_of s f ns cs))) left
-          ∙ ap (λ k. kids_at (from + 0) (length ns - 0) os (λ cs. Known (with_parts s f ns cs (undefined_cells k)))) all;
-    }
+    ap (λ k. kids_at k (length ns) os (λ cs. Known (made_of s f ns cs))) start
+    ∙ ap (λ k. kids_at (from + 0) k os (λ cs. Known (made_of s f ns cs))) left
+    ∙ ap (λ k. kids_at (from + 0) (length ns - 0) os (λ cs. Known (with_parts s f ns cs (undefined_cells k)))) (sym e)
 
--- one more part stands in the value
-pub placed_more : (s : Store) (f : Ty) (size : ℕ) (ns : List ℕ) (from : ℕ) (os : List Outcome) (i start : ℕ) (whole new c : List Cell) →
-    Placed s f size ns from os i whole → i < length ns → kid_at (from + i) os ≡ Known c →
-    start ≡ offset_in s f (get_or ns i 0) →
-    length new ≤ size → filled size new ≡ with_cells start c (filled size whole) → Placed s f size ns from os (i + 1) new
-placed_more s f size ns from os i start whole new c l h e o w v =
-    let p : ℕ = get_or ns i 0 in
+-- one more part is gathered
+pub gathered_more : (s : Store) (f : Ty) (size : ℕ) (ns : List ℕ) (from : ℕ) (os : List Outcome) (i : ℕ) (ps new : List Part) (p : Part)
+    (c : List Cell) → Gathered s f size ns from os i ps → i < length ns → kid_at (from + i) os ≡ Known c → p.kid ≡ from + i →
+    p.start ≡ offset_in s f (get_or ns i 0) → new ≡ ps ++ p ∷ [] → Gathered s f size ns from os (i + 1) new
+gathered_more s f size ns from os i ps new p c l h e q o w =
+    let n : ℕ = get_or ns i 0 in
     let k : ℕ = length ns - (i + 1) in
     let left : length ns - i ≡ suc k = omega arith in
     let next : suc (from + i) ≡ from + (i + 1) = omega arith in
     let same : suc i ≡ i + 1 = omega arith in
     let tail : List ℕ = drop (suc i) ns in
-    let front : drop i ns ≡ p ∷ tail = drop-cons ns i 0 h in
-    let put : with_cells (offset_in s f p) c (filled size whole) ≡ filled size new =
-    ap (λ j. with_cells j c (filled size whole)) (sym o) ∙ sym v in
-    record {
-      within = w;
-      rest =
-          l.rest
-          ∙ ap (λ j. kids_at (from + i) j os (λ cs. Known (with_parts s f (drop i ns) cs (filled size whole)))) left
-          ∙ ap (λ ms. kids_at (from + i) (suc k) os (λ cs. Known (with_parts s f ms cs (filled size whole)))) front
-          ∙ ap (λ x. on_cells x (λ d. kids_at (suc (from + i)) k os λ cs. Known
-          (with_parts s f tail cs (with_cells (offset_in s f p) d (filled size whole))))) e
-          ∙ ap (λ x. kids_at (suc (from + i)) k os λ cs. Known (with_parts s f tail cs x)) put
-          ∙ ap (λ j. kids_at j k os λ cs. Known (with_parts s f tail cs (filled size new))) next
-          ∙ ap (λ j. kids_at (from + (i + 1)) k os λ cs. Known (with_parts s f (drop j ns) cs (filled size new))) same;
-    }
+    let front : drop i ns ≡ n ∷ tail = drop-cons ns i 0 h in
+    let whole : List Cell = placed os ps (undefined_cells size) in
+    let cells : c ≡ cells_in os p = sym (ap (λ j. cells_of (kid_at j os)) q ∙ ap cells_of e) in
+    let put : with_cells (offset_in s f n) c whole ≡ placed os new (undefined_cells size) =
+    ap (λ j. with_cells j c whole) (sym o) ∙ ap (λ d. with_cells p.start d whole) cells
+    ∙ sym (ap (λ xs. placed os xs (undefined_cells size)) w ∙ placed_push os ps p (undefined_cells size)) in
+    l
+    ∙ ap (λ j. kids_at (from + i) j os (λ cs. Known (with_parts s f (drop i ns) cs whole))) left
+    ∙ ap (λ ms. kids_at (from + i) (suc k) os (λ cs. Known (with_parts s f ms cs whole))) front
+    ∙ ap (λ x. on_cells x (λ d. kids_at (suc (from + i)) k os λ cs. Known
+    (with_parts s f tail cs (with_cells (offset_in s f n) d whole)))) e
+    ∙ ap (λ x. kids_at (suc (from + i)) k os λ cs. Known (with_parts s f tail cs x)) put
+    ∙ ap (λ j. kids_at j k os λ cs. Known (with_parts s f tail cs (placed os new (undefined_cells size)))) next
+    ∙ ap (λ j. kids_at (from + (i + 1)) k os λ cs. Known (with_parts s f (drop j ns) cs (placed os new (undefined_cells size)))) same
 
 -- a part that has no value
-pub placed_stopped : (s : Store) (f : Ty) (size : ℕ) (ns : List ℕ) (from : ℕ) (os : List Outcome) (i : ℕ) (whole : List Cell)
-    (o : Outcome) →
-    Placed s f size ns from os i whole → i < length ns → kid_at (from + i) os ≡ o → ((g : List Cell → Outcome) → on_cells o g ≡ o) →
+pub gathered_stopped : (s : Store) (f : Ty) (size : ℕ) (ns : List ℕ) (from : ℕ) (os : List Outcome) (i : ℕ) (ps : List Part) (o : Outcome) →
+    Gathered s f size ns from os i ps → i < length ns → kid_at (from + i) os ≡ o → ((g : List Cell → Outcome) → on_cells o g ≡ o) →
     o ≡ WithParts s f ns from os
-placed_stopped s f size ns from os i whole o l h e stop =
+gathered_stopped s f size ns from os i ps o l h e stop =
     let k : ℕ = length ns - (i + 1) in
     let left : length ns - i ≡ suc k = omega arith in
-    sym (l.rest
-    ∙ ap (λ j. kids_at (from + i) j os (λ cs. Known (with_parts s f (drop i ns) cs (filled size whole)))) left
-    ∙ ap (λ x. on_cells x (λ d. kids_at (suc (from + i)) k os λ cs. Known (with_parts s f (drop i ns) (d ∷ cs) (filled size whole)))) e
+    let whole : List Cell = placed os ps (undefined_cells size) in
+    sym (l
+    ∙ ap (λ j. kids_at (from + i) j os (λ cs. Known (with_parts s f (drop i ns) cs whole))) left
+    ∙ ap (λ x. on_cells x (λ d. kids_at (suc (from + i)) k os λ cs. Known (with_parts s f (drop i ns) (d ∷ cs) whole))) e
     ∙ stop _)
 
 no-parts : (s : Store) (f : Ty) (ns : List ℕ) (into : List Cell) → with_parts s f ns [] into ≡ into
 no-parts s f [] into = refl
 no-parts s f (n ∷ ns) into = refl
 
-pub placed_all : (s : Store) (f : Ty) (size : ℕ) (ns : List ℕ) (from : ℕ) (os : List Outcome) (i : ℕ) (whole new : List Cell) →
-    Placed s f size ns from os i whole → length ns ≤ i → new ≡ filled size whole → Known new ≡ WithParts s f ns from os
-placed_all s f size ns from os i whole new l h e =
+pub gathered_all : (s : Store) (f : Ty) (size : ℕ) (ns : List ℕ) (from : ℕ) (os : List Outcome) (i : ℕ) (ps : List Part) (new : List Cell) →
+    Gathered s f size ns from os i ps → length ns ≤ i → new ≡ placed os ps (undefined_cells size) → Known new ≡ WithParts s f ns from os
+gathered_all s f size ns from os i ps new l h e =
     let left : length ns - i ≡ 0 = omega arith in
-    ap Known (e ∙ sym (no-parts s f (drop i ns) (filled size whole)))
-    ∙ sym (l.rest ∙ ap (λ j. kids_at (from + i) j os (λ cs. Known (with_parts s f (drop i ns) cs (filled size whole)))) left)
+    let whole : List Cell = placed os ps (undefined_cells size) in
+    ap Known (e ∙ sym (no-parts s f (drop i ns) whole))
+    ∙ sym (l ∙ ap (λ j. kids_at (from + i) j os (λ cs. Known (with_parts s f (drop i ns) cs whole))) left)
 
 -- the parts that a node gives, as its kind says which they are
 pub with_given : (s : Store) (f g : Ty) (ns ms : List ℕ) (from n : ℕ) (os : List Outcome) → ns ≡ ms → length ms ≡ n → f ≡ g →

@@ -1,8 +1,6 @@
 -- Values of unions that keep their member.
-use Rattle.std.proofs.Common.{◌≡◌, ◌∙◌, sym, ap, ap₂, subst, refl, ℕ, zero, suc, ◌+◌, ◌-◌, ◌<◌, ◌≤◌, ◌⊎◌, inl, inr, arith, Bool, true, false, List, [], ◌∷◌, ◌++◌, length, take, drop, get_or, append_assoc, append-nil, Option, Some, None, IsSome}
-use Rattle.std.proofs.lemmas.Bool.{cases_lt}
-use Rattle.std.proofs.lemmas.List.{take_all, length-drop}
-use Rattle.std.specs.Prelude.{pos, ℤ, nat_eq, min, IfSome, find, cond, slice_get, option_and_then, unwrap_or}
+use Rattle.std.proofs.Common.{◌≡◌, ◌∙◌, sym, ap, subst, refl, ℕ, zero, suc, ◌+◌, ◌-◌, ◌<◌, arith, Bool, true, false, List, [], ◌∷◌, length, drop, get_or, Option, Some, None, IsSome}
+use Rattle.std.specs.Prelude.{pos, ℤ, nat_eq, IfSome, find, cond, option_and_then, unwrap_or}
 use Rattle.std.proofs.lemmas.Bool.Decides.{nat_tests}
 use Rattle.hare_types.specs.declared.coercion.Ty.TheVariants as ty
 use Rattle.hare_types.specs.declared.row.Row.TheVariants as row
@@ -99,47 +97,6 @@ find_at p ms k m h e =
     go [] i l g = absurd (omega arith)
     go (j ∷ js) zero l g = ap (λ x. cond (p x) (Some x) (find p js)) (sym g)
     go (j ∷ js) (suc i) l g = go js i (omega arith) g
-
--- so many cells from one on, one after another
-cell_at : (cs : List Cell) (at i j : ℕ) → j ≡ at + i → slice_get cs j ≡ slice_get (drop at cs) i
-cell_at [] zero i j e = refl
-cell_at [] (suc at) i j e = refl
-cell_at (c ∷ cs) zero i j e = let same : j ≡ i = omega (arith, e) in ap (slice_get (c ∷ cs)) same
-cell_at (c ∷ cs) (suc at) i zero e = absurd (omega (arith, e))
-cell_at (c ∷ cs) (suc at) i (suc j) e = cell_at cs at i j (omega (arith, e))
-
-next_of : (cs : List Cell) (i : ℕ) (x : Cell) → slice_get cs i ≡ Some x → drop i cs ≡ x ∷ drop (suc i) cs
-next_of [] i x e = absurd cc
-next_of (c ∷ cs) zero x e = let same : c ≡ x = cc in ap (λ y. y ∷ cs) same
-next_of (c ∷ cs) (suc i) x e = next_of cs i x e
-
-pub part_more : (cs part more : List Cell) (at i n : ℕ) (x : Cell) → i < n → slice_get cs (at + i) ≡ Some x → more ≡ part ++ x ∷ [] →
-    part ++ take (n - i) (drop i (drop at cs)) ≡ take n (drop at cs) →
-    more ++ take (n - (i + 1)) (drop (i + 1) (drop at cs)) ≡ take n (drop at cs)
-part_more cs part more at i n x h e f g =
-    let ds = drop at cs in
-    let here : slice_get ds i ≡ Some x = sym (cell_at cs at i (at + i) refl) ∙ e in
-    let next : i + 1 ≡ suc i = omega arith in
-    let left : n - i ≡ suc (n - (i + 1)) = omega (arith, h) in
-    ap₂ (λ l k. l ++ take (n - (i + 1)) (drop k ds)) f next
-    ∙ append_assoc part (x ∷ []) (take (n - (i + 1)) (drop (suc i) ds))
-    ∙ sym (ap₂ (λ k l. part ++ take k l) left (next_of ds i x here)) ∙ g
-
-take_least : (cs : List Cell) (n k : ℕ) → k ≡ min n (length cs) → take k cs ≡ take n cs
-take_least cs n k e = by (cases_lt n (length cs))
-  where
-    by : (n < length cs) ⊎ (length cs ≤ n) → take k cs ≡ take n cs
-    by (inl h) = let same : k ≡ n = omega (arith, e, h) in ap (λ i. take i cs) same
-    by (inr h) = let all : length cs ≤ k = omega (arith, e, h) in take_all k cs all ∙ sym (take_all n cs h)
-
-pub part_whole : (cs part : List Cell) (at i n count left : ℕ) → n ≤ i → n ≡ min count left → left ≡ length cs - at →
-    part ++ take (n - i) (drop i (drop at cs)) ≡ take n (drop at cs) → part ≡ take count (drop at cs)
-part_whole cs part at i n count left h e f g =
-    let ds = drop at cs in
-    let none : n - i ≡ 0 = omega (arith, h) in
-    let many : length ds ≡ length cs - at = length-drop at cs in
-    let least : n ≡ min count (length ds) = e ∙ ap (min count) (f ∙ sym many) in
-    sym (append-nil part) ∙ sym (ap (λ k. part ++ take k (drop i ds)) none) ∙ g ∙ take_least ds count n least
 
 -- ---- members by their tags
 

@@ -1,11 +1,14 @@
 -- Cells in the place of others, one by one and behind those that are known.
-use Rattle.std.proofs.Common.{◌≡◌, ◌∙◌, sym, ap, refl, ℕ, zero, suc, ◌+◌, ◌-◌, ◌≤◌, ◌<◌, arith, List, [], ◌∷◌, ◌++◌, append_assoc, length, take}
+use Rattle.std.proofs.Common.{◌≡◌, ◌∙◌, sym, ap, refl, ℕ, zero, suc, ◌+◌, ◌-◌, ◌≤◌, ◌<◌, arith, List, [], ◌∷◌, ◌++◌, append_assoc, length}
 use Rattle.std.specs.Prelude.{slice_get, Some, None}
-use Rattle.std.proofs.lemmas.List.{length-append, length-replicate, take_all}
+use Rattle.std.proofs.lemmas.List.{length-append, length-replicate}
 use Rattle.hare_typed.specs.declared.cell.Cell.{Cell}
 use Rattle.hare_typed.specs.declared.cell.Cell.TheVariants as cell
 use Rattle.hare_typed.specs.Cells.{with_cells, undefined_cells}
 use Rattle.hare_const.specs.NodeValues.{filled}
+use Rattle.hare_const.specs.declared.outcome.Outcome.{Outcome}
+use Rattle.hare_const.specs.declared.placing.Part.{Part}
+use Rattle.hare_const.specs.Placing.{cells_in, placed, Holds}
 use Rattle.hare_const.proofs.UnionLemmas.{with_later, apart}
 
 -- ---- one by one
@@ -57,33 +60,6 @@ parts_keep_length zero ns cs = first_keep_length ns cs
 parts_keep_length (suc at) ns [] = refl
 parts_keep_length (suc at) ns (c ∷ cs) = omega (arith, parts_keep_length at ns cs)
 
-take_next : (cs : List Cell) (i : ℕ) (x : Cell) → slice_get cs i ≡ Some x → take (suc i) cs ≡ take i cs ++ x ∷ []
-take_next [] i x e = cc
-take_next (c ∷ cs) zero x e = let same : c ≡ x = cc in ap (λ d. d ∷ []) same
-take_next (c ∷ cs) (suc i) x e = ap (λ ds. c ∷ ds) (take_next cs i x e)
-
-take_past : (cs : List Cell) (i : ℕ) → slice_get cs i ≡ None → take (suc i) cs ≡ take i cs
-take_past [] zero e = refl
-take_past [] (suc i) e = refl
-take_past (c ∷ cs) zero e = cc
-take_past (c ∷ cs) (suc i) e = ap (λ ds. c ∷ ds) (take_past cs i e)
-
--- one more cell of those that are copied
-pub copied_next : (cs out more : List Cell) (i : ℕ) (x : Cell) → out ≡ take i cs → slice_get cs i ≡ Some x → more ≡ out ++ x ∷ [] →
-    more ≡ take (i + 1) cs
-copied_next cs out more i x e f g =
-    let next : suc i ≡ i + 1 = omega arith in
-    g ∙ ap (λ ds. ds ++ x ∷ []) e ∙ sym (take_next cs i x f) ∙ ap (λ k. take k cs) next
-
-pub copied_past : (cs out : List Cell) (i : ℕ) → out ≡ take i cs → slice_get cs i ≡ None → out ≡ take (i + 1) cs
-copied_past cs out i e f =
-    let next : suc i ≡ i + 1 = omega arith in
-    e ∙ sym (take_past cs i f) ∙ ap (λ k. take k cs) next
-
-pub copied_all : (at n i : ℕ) (ns cs out : List Cell) → out ≡ take i (with_cells at ns cs) → n ≡ length cs → n ≤ i →
-    out ≡ with_cells at ns cs
-copied_all at n i ns cs out e f h = e ∙ take_all i (with_cells at ns cs) (omega (arith, parts_keep_length at ns cs))
-
 -- ---- behind what is known
 
 pub filled_all : (n k : ℕ) (cs all : List Cell) → k ≡ length cs → all ≡ cs ++ undefined_cells (n - k) → all ≡ filled n cs
@@ -93,26 +69,6 @@ length_filled : (n : ℕ) (cs : List Cell) → length cs ≤ n → length (fille
 length_filled n cs h =
     let undefined : length (undefined_cells (n - length cs)) ≡ n - length cs = length-replicate (n - length cs) cell.Undef in
     omega (arith, length-append cs (undefined_cells (n - length cs)), undefined)
-
--- a value of which all cells are known
-pub filled_whole : (n : ℕ) (cs : List Cell) → length cs ≡ n → filled n cs ≡ cs
-filled_whole n cs e =
-    let none : n - length cs ≡ 0 = omega arith in
-    ap (λ k. cs ++ undefined_cells k) none ∙ append-nil cs
-  where
-    append-nil : (xs : List Cell) → xs ++ [] ≡ xs
-    append-nil [] = refl
-    append-nil (x ∷ xs) = ap (λ ys. x ∷ ys) (append-nil xs)
-
-pub replaced_within : (at n : ℕ) (ns cs whole more : List Cell) → length cs ≤ n → whole ≡ filled n cs → more ≡ with_cells at ns whole →
-    length more ≡ n
-replaced_within at n ns cs whole more h e f =
-    ap length f ∙ parts_keep_length at ns whole ∙ ap length e ∙ length_filled n cs h
-
-pub replaced_filled : (at n : ℕ) (ns cs whole more : List Cell) → length cs ≤ n → whole ≡ filled n cs → more ≡ with_cells at ns whole →
-    filled n more ≡ with_cells at ns (filled n cs)
-replaced_filled at n ns cs whole more h e f =
-    filled_whole n more (replaced_within at n ns cs whole more h e f) ∙ f ∙ ap (with_cells at ns) e
 
 length_behind : (at : ℕ) (ns cs : List Cell) → length cs ≤ at → length ((cs ++ undefined_cells (at - length cs)) ++ ns) ≡ at + length ns
 length_behind at ns cs h =
@@ -142,3 +98,36 @@ behind_filled at n ns cs more h l e =
     (length-replicate (length ns) cell.Undef))
     ∙ ap (with_cells at ns) (append_assoc cs (undefined_cells (at - length cs)) (undefined_cells (length ns) ++ undefined_cells rest))
     ∙ ap (λ xs. with_cells at ns (cs ++ xs)) (sym split)
+
+-- which lie before the end of what is known then, and behind what was known
+pub behind_apart : (at : ℕ) (ns cs more : List Cell) → length cs ≤ at → more ≡ (cs ++ undefined_cells (at - length cs)) ++ ns →
+    (place : ℕ) → Holds at ns place → (length cs ≤ place) × (place < length more)
+behind_apart at ns cs more h e place k =
+    let long : length more ≡ at + length ns = ap length e ∙ length_behind at ns cs h in
+    (omega (arith, h, k.0), omega (arith, long, k.1))
+
+pub behind_grows : (at : ℕ) (ns cs more : List Cell) → length cs ≤ at → more ≡ (cs ++ undefined_cells (at - length cs)) ++ ns →
+    length cs ≤ length more
+behind_grows at ns cs more h e =
+    let long : length more ≡ at + length ns = ap length e ∙ length_behind at ns cs h in
+    omega arith
+
+-- ---- no cells
+
+-- in the place of others they change nothing
+pub with_none : (at : ℕ) (ns cs : List Cell) → length ns ≡ 0 → with_cells at ns cs ≡ cs
+with_none zero [] cs e = refl
+with_none zero (n ∷ ns) cs e = absurd (omega arith)
+with_none (suc at) ns [] e = refl
+with_none (suc at) ns (c ∷ cs) e = ap (λ ds. c ∷ ds) (with_none at ns cs e)
+
+pub holds_none : (at : ℕ) (ns : List Cell) (place : ℕ) → length ns ≡ 0 → Holds at ns place → ⊥
+holds_none at ns place e h = omega (arith, e, h.0, h.1)
+
+-- ---- one part after another
+
+-- the last one
+pub placed_push : (os : List Outcome) (ps : List Part) (p : Part) (cs : List Cell) →
+    placed os (ps ++ p ∷ []) cs ≡ with_cells p.start (cells_in os p) (placed os ps cs)
+placed_push os [] p cs = refl
+placed_push os (q ∷ ps) p cs = placed_push os ps p (with_cells q.start (cells_in os q) cs)

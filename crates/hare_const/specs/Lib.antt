@@ -10,3 +10,4 @@ pub mod Coerced
 pub mod Made
 pub mod Settled
 pub mod Statics
+pub mod Placing

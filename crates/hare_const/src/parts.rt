@@ -15,10 +15,9 @@ ghost use Rattle.hare_const.specs.NodeValues as spec;
 
 use crate::kids::kid_at;
 use crate::outcome::Outcome;
-use crate::placing::with_part;
+use crate::placing::{Part, whole_of};
 use crate::shape::base_row;
 use crate::sizes::{size_of, starts_of};
-use crate::unions::with_undefined;
 use hare_typed::{Cells, Typed};
 use hare_types::{Row, Ty, TypeId, TypeStore};
 use std::alloc::{AllocError, Global};
@@ -84,8 +83,8 @@ fn fields_given(alloc: Global, s: &TypeStore, of: TypeId, t: &Typed) -> Result<V
     Ok(places)
 }
 
-/// Parts at their offsets, in this order, which are the values of the kids from one on; `none` stands for a kid that is not there. Where each part of
-/// the type begins is worked out once.
+/// Parts at their offsets, which are the values of the kids from one on, in whatever order; `none` stands for a kid that is not there. Where each part
+/// of the type begins is worked out once.
 fn laid(
     alloc: Global,
     s: &TypeStore,
@@ -103,19 +102,20 @@ fn laid(
 {
     let size = size_of(s, of) as usize;
     let starts = starts_of(alloc, s, of)?;
-    let mut whole = Cells::new(alloc);
+    let mut given = Vec::new(alloc);
     for i in 0..parts.len() {
-        match kid_at(kids, from + i, none) {
-            Outcome::Known(cells) => {
+        let kid = from + i;
+        match kid_at(kids, kid, none) {
+            Outcome::Known(_) => {
                 let start = starts[parts[i] as usize];
-                whole = with_part(alloc, whole, size, start as usize, cells)?;
+                given.push(Part { start, kid })?;
             }
             Outcome::Aborts => return Ok(Outcome::Aborts),
             Outcome::Undefined => return Ok(Outcome::Undefined),
         }
     }
-    let missing = size - whole.len();
-    Ok(Outcome::Known(with_undefined(whole, missing)?))
+    let whole = whole_of(alloc, size, given, kids, none)?;
+    Ok(Outcome::Known(whole))
 }
 
 /// The value of a tuple: its components at their offsets, and undefined cells between them.

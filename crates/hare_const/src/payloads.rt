@@ -49,21 +49,6 @@ fn member_tagged(s: &TypeStore, members: &[TypeId], tag: u64) -> Option<TypeId>
     None
 }
 
-/// So many cells from a place on, as far as there are so many.
-fn cells_within(alloc: Global, cells: &Cells, at: usize, count: usize) -> Result<Cells, AllocError>
-    ensures { IfOk result (λ part. part ≡ part_of at count cells.now) }
-{
-    let mut part = Cells::new(alloc);
-    let left = cells.len().saturating_sub(at);
-    for i in 0..count.min(left) {
-        let Some(cell) = cells.get(at + i) else {
-            return Err(AllocError);
-        };
-        part.push(cell)?;
-    }
-    Ok(part)
-}
-
 /// Whether cells are a value of a type: where this is scalar, they spell one.
 fn is_value(s: &TypeStore, t: TypeId, cells: &Cells) -> bool
     ensures { result ≡ true → Gives cells.now ≡ unions.checked s.now t cells.now }
@@ -114,7 +99,7 @@ fn payload_cells(
 {
     let _law = s.declarations();
     let (at, count) = (payload_of(s, of_union), size_of(s, member));
-    let part = cells_within(alloc, cells, at as usize, count as usize)?;
+    let part = cells.part(alloc, at as usize, count as usize)?;
     if !is_value(s, member, &part) {
         return Err(AllocError);
     }
