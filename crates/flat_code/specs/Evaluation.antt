@@ -5,8 +5,7 @@
 -- Nothing else uses a turn. Where a turn or such a call begins and none is left, the end is Spent.
 --
 -- Each statement that begins is one flat step, each turn of a Loop being one that begins. A call takes one more for each argument, and a
--- Move and a call of the
--- runtime one more for each 64 bytes moved.
+-- Move and a call of the runtime one more for each 64 bytes moved.
 use Rattle.std.specs.Prelude.{ℕ, zero, suc, ◌+◌, ◌-◌, ◌/◌, max, Bool, true, false, List, [], ◌∷◌, length, map, Option, None, Some, bytes_eq, ◌==◌, if◌then◌else◌}
 use Rattle.hx_base.specs.declared.Class.{Class}
 use Rattle.hx_base.specs.declared.Class.TheVariants.{W, L}

@@ -3,7 +3,8 @@
 /// An operation on two operands, named by its word in the QBE IL reference. One that the reference has on one operand has 0 as its second.
 ///
 /// The names of comparisons are `c`, the relation, and the class at which both operands are read. A relation begins with `s` where the
-/// operands are signed and with `u` where they are not, and ends with `le`, `lt`, `ge` or `gt`. A comparison gives 1 where it holds, else 0.
+/// operands are signed and with `u` where they are not, and ends with `le`, `lt`, `ge` or `gt`. A comparison gives 1 where it holds, else
+/// 0.
 #[derive(Clone, Copy, Debug, PartialEq, Eq)]
 pub enum Op {
     // One operand.

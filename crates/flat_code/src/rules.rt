@@ -21,10 +21,10 @@ use names::is_once;
 /// Whether code of the intermediate language can be made of the program. Takes no memory.
 ///
 /// Each function and each global has an identifier of its own that does not begin with `rt.`, and there is a function `main` that has no
-/// parameters and gives no long. Temporaries are below `temps`, are set at one class each, and are set somewhere where they are read; operands
-/// have the classes that their operations want; addresses are of globals that are there. A Leave leaves a Seq or Loop round it, a Ret has a
-/// value exactly in a function with a result, and a call has the arguments and the result of its function. At most 4,096 statements stand
-/// within one another. Globals have alignments and sizes that the intermediate language admits.
+/// parameters and gives no long. Temporaries are below `temps`, are set at one class each, and are set somewhere where they are read;
+/// operands have the classes that their operations want; addresses are of globals that are there. A Leave leaves a Seq or Loop round it, a
+/// Ret has a value exactly in a function with a result, and a call has the arguments and the result of its function. At most 4,096
+/// statements stand within one another. Globals have alignments and sizes that the intermediate language admits.
 ///
 /// So far no program with a Load, a Store, a Move, a frame, or a call of a function of the program is well formed.
 #[tactic(auto, using(crate::proofs::Passes::passes_is))]

@@ -104,7 +104,8 @@ came_back s t f vs h = record {
 
     begins_clear : IsClear s → IsClear (entered s f vs)
     begins_clear c a l u =
-        framed_out s.world.memory s.top f.frame a (inr (omega (arith, l, round_up-reaches f.frame 16 (omega arith)))) ∙ c a (omega (arith, l)) u
+        framed_out s.world.memory s.top f.frame a (inr (omega (arith, l, round_up-reaches f.frame 16 (omega arith)))) ∙ c a
+        (omega (arith, l)) u
 
     behind : IsHeap s.world.heap → IsClear s → (a : ℕ) → s.top ≤ a → a < heap_start → (a < t.top) ⊎ (t.top ≤ a) →
         is_mapped (left s t).world.memory a ≡ false

@@ -235,7 +235,8 @@ module _ (p : FlatProgram) (args : List (List ℕ)) (w : IsWellFormed p) where
         pick (outside e (inl o)) =
             of_some (mapped_before p (empty_memory fill) data_start p.globals a (sym (with_arguments-below start args a o).mapped ∙ h))
         pick (outside e (inr o)) =
-            of_some (mapped_before p (empty_memory fill) data_start p.globals a (sym (is_mapped-with_arguments_above start args a (omega (arith, o))) ∙ h))
+            of_some (mapped_before p (empty_memory fill) data_start p.globals a
+            (sym (is_mapped-with_arguments_above start args a (omega (arith, o))) ∙ h))
 
     above : HaveRoom args → (a : ℕ) → 2 ^ 37 ≤ a → is_mapped (start_memory fill p args) a ≡ false
     above room a l = pick (is_mapped (start_memory fill p args) a) refl

@@ -34,7 +34,8 @@ pub fn law_programs_are_laid_out()
     ensures { ProgramsAreLaidOut }
 {}
 
-/// However code ends, the fill byte is what it was, steps and the most that calls cost have not become fewer, and what they cost is not above that most.
+/// However code ends, the fill byte is what it was, steps and the most that calls cost have not become fewer, and what they cost is not
+/// above that most.
 pub fn law_code_counts()
     ensures { OfAllCode Counts }
 {}

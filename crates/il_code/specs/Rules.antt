@@ -217,8 +217,7 @@ is_call_of result target args None = is_runtime_call result target args
 is_call_of result target args (Some f) = takes_result result f.class && has_classes_of args f.params
 
 -- A call is of a function of the module or of the runtime (else unknown symbol, 9), with its number and classes of arguments and its result
--- (else class
--- mismatch, 8). Which one it is, is decided as the machine does.
+-- (else class mismatch, 8). Which one it is, is decided as the machine does.
 abbrev pub is_call_right : List IlItem → Option IlParam → List ℕ → List IlArg → Bool
 is_call_right items result target args = is_call_of result target args (function_named items target)
 

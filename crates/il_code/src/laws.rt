@@ -46,8 +46,8 @@ pub fn law_marks()
     ensures { MarksAreTheRules }
 {}
 
-/// A text of a module is valid exactly where no rule is broken at one of its places, no `$main` is missing at its end, and the numbers are in
-/// their ranges.
+/// A text of a module is valid exactly where no rule is broken at one of its places, no `$main` is missing at its end, and the numbers are
+/// in their ranges.
 pub fn law_faults()
     ensures { FaultsAreTheRules }
 {}

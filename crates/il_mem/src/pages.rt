@@ -278,7 +278,8 @@ fn take_bytes_out(bytes: &mut Vec<u8>, place: usize, last: usize)
 fn move_page(bytes: &mut [u8], place: usize, last: usize)
     requires order { place ≤ last }
     requires inside { page_size * (last + 1) ≤ length bytes.old }
-    ensures copied { (o : ℕ) → o < page_size → slice_index bytes.new (page_size * place + o) ≡ slice_index bytes.old (page_size * last + o) }
+    ensures copied { (o : ℕ) → o < page_size → slice_index bytes.new (page_size * place + o) ≡ slice_index bytes.old
+        (page_size * last + o) }
     ensures kept { (i : ℕ) → (i < page_size * place) ⊎ (page_size * (place + 1) ≤ i) → slice_index bytes.new i ≡ slice_index bytes.old i }
 {
     if place < last {

@@ -22,7 +22,8 @@ pub returns-in-Err-Fault-clause-none : goal.returns-in-Err-Fault-clause-none
 returns-in-Err-Fault-clause-none c = other_than_printed c
 
 -- what is read is not recoverable, so that no recoverable module was printed so
-unrecoverable : (src : List ℕ) (x m : Module) → module_at src ≡ Some x → false ≡ (is_shaped x && list_all is_aligned x.items) → IsRecoverable m →
+unrecoverable : (src : List ℕ) (x m : Module) → module_at src ≡ Some x → false ≡ (is_shaped x && list_all is_aligned x.items) →
+    IsRecoverable m →
     src ≡ module_text m → ⊥
 unrecoverable src x m at fails h e =
     let passes : (is_shaped m && list_all is_aligned m.items) ≡ true = rw (h.shaped, h.aligned) refl in

@@ -17,7 +17,8 @@ pub loop-page-preserved : goal.loop-page-preserved
 loop-page-preserved c =
     let i = c.loop-page.invariant in
     let e = c.in_default.ensures in (
-      grows_next c.args.self.now c.loop-page.self c.make.new.self c.len-before.result c.args.first c.loop-page.page i.0 c.loop-page.auto.page
+      grows_next c.args.self.now c.loop-page.self c.make.new.self c.len-before.result c.args.first c.loop-page.page i.0
+          c.loop-page.auto.page
           e.made (λ h. (e.held h).1),
       i.1,
     )
