@@ -6,6 +6,7 @@ pub mod Gaps
 pub mod Sources
 pub mod Files
 pub mod Reading
+pub mod Strings
 pub mod Standing
 pub mod LaidParts
 pub mod ReadSources

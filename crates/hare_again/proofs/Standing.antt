@@ -25,9 +25,9 @@ use Rattle.hare_lex.proofs.Runes.{one_holds}
 use Rattle.hare_lex.proofs.SoundLiterals.{lit_longest, rune_kind, rune_is, quote_kind, raw_kind}
 use Rattle.hare_lex.proofs.SoundMarks.{no_other_kind, mark_listed}
 use Rattle.hare_lex.proofs.Standing.{first_same, no_fraction}
-use Rattle.hare_pieces.proofs.Lengths.{string_closes, string_of}
 use Rattle.hare_lines.specs.Gaps.{lengthened, are_digits}
 use Rattle.hare_lines.proofs.Grown.{digits_run}
+use Rattle.hare_again.proofs.Strings.{string_closes, string_of}
 
 -- What a token is spelled by, without a fault of its own, wherever it stands.
 pub record IsToken (behind_path : Bool) (t : Token) (s : List ℕ) : Type 0 where

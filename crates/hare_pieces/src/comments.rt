@@ -1,13 +1,12 @@
 //! The comments in front of a token.
 
-ghost use Rattle.std.specs.Prelude.{◌≡◌, ◌≢◌, ◌+◌, ◌^◌, ◌<◌, ◌≤◌, ◌&&◌, ◌==◌, true, length, drop, slice_index, IfOk};
-ghost use Rattle.std.specs.List.{prefix_len};
-ghost use Rattle.hare_tree.specs.Words as words;
+ghost use Rattle.std.specs.Prelude.{◌≡◌, ◌+◌, ◌^◌, ◌<◌, ◌≤◌, true, length, drop, IfOk};
 ghost use Rattle.hare_tree.specs.Tokens.{no_gap};
 ghost use Rattle.hare_pieces.specs.Walk as spec;
 
 use crate::piece::Piece;
 use crate::pieces::Pieces;
+use hare_lex::{GapPart, gap_part};
 use std::alloc::AllocError;
 
 // Puts the comments in front of the next token, in a text that begins behind `at` bytes of the file, and gives the length of what stands
@@ -19,55 +18,24 @@ pub fn put_comments(pieces: &mut Pieces, at: usize, s: &[u8]) -> Result<usize, A
     ensures fresh { IfOk result (λ n. no_gap (drop n s.now) ≡ true) }
 {
     let mut len = 0;
-    'gaps: loop {
-        len += blank_len(s.split_at(len).1);
-        let rest = s.split_at(len).1;
-        if !begins_comment(rest) {
-            return Ok(len);
-        }
-        let comment = line_len(rest);
+    'gap: while let Some(part) = gap_part(s.split_at(len).1) {
+        put_part(pieces, at + len, part)?;
+        len += part.len;
+    }
+    Ok(len)
+}
+
+// Puts the part of a gap that stands behind `at` bytes of the file, if it is a comment.
+fn put_part(pieces: &mut Pieces, at: usize, part: GapPart) -> Result<(), AllocError>
+    requires { at + part.len < 2 ^ 64 }
+    ensures { IfOk result (λ _. pieces.new ≡ spec.with_part at part pieces.old) }
+{
+    if part.comment {
         pieces.push(Piece {
-            from: at + len,
-            to: at + len + comment,
+            from: at,
+            to: at + part.len,
             comment: true,
         })?;
-        len += comment;
     }
-}
-
-// How many blanks stand at the front.
-fn blank_len(s: &[u8]) -> usize
-    ensures value { result ≡ prefix_len words.is_blank s.now }
-    ensures within { result ≤ length s.now }
-{
-    s.iter().take_while(|c| is_blank(**c)).count()
-}
-
-// How many bytes stand before the end of the line.
-fn line_len(s: &[u8]) -> usize
-    ensures value { result ≡ prefix_len words.is_not_feed s.now }
-    ensures within { result ≤ length s.now }
-{
-    s.iter().take_while(|c| **c != b'\n').count()
-}
-
-// A space, a tab, LF or CR.
-fn is_blank(c: u8) -> bool
-    ensures { result ≡ words.is_blank c }
-{
-    c == b' ' || c == b'\t' || c == b'\n' || c == b'\r'
-}
-
-// Whether the text begins with `//`.
-fn begins_comment(s: &[u8]) -> bool
-    ensures { result ≡ spec.begins_comment s.now }
-{
-    byte(s, 0) == b'/' && byte(s, 1) == b'/'
-}
-
-// The byte at a place, and 0 past the end.
-fn byte(s: &[u8], at: usize) -> u8
-    ensures { result ≡ slice_index s.now at }
-{
-    if at < s.len() { s[at] } else { 0 }
+    Ok(())
 }

@@ -4,7 +4,6 @@
 mod comments;
 mod cut;
 mod laws;
-mod length;
 mod piece;
 mod pieces;
 #[cfg(test)]

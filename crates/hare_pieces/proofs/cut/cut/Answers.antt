@@ -1,46 +1,44 @@
-use Rattle.std.proofs.Common.{◌<◌, ◌-◌, refl, arith, length}
-use Rattle.hare_pieces.proofs.Walked.{walked_start, walked_more, walked_end, in_front}
+use Rattle.std.proofs.Common.{◌≡◌, ◌+◌, ◌<◌, sym, subst, length, arith}
+use Rattle.std.proofs.lemmas.Bool.Decides.{nat_tests}
+use Rattle.hare_tree.specs.Tokens.{is_path_mark}
+use Rattle.hare_pieces.proofs.Walked.{Walked, walked_start, walked_more, walked_end, no_fault}
 use Rattle.hare_pieces.proofs.cut.cut.Goals as goal
 
-pub loop-n-init : goal.loop-n-init
-loop-n-init c = rw c.new-pieces.ensures (walked_start c.args.src.now c.args.tokens.now c.requires)
+pub tokens-init : goal.tokens-init
+tokens-init c = rw c.new-pieces.ensures (walked_start c.args.src.now c.requires)
 
-pub put_token-requires-clause-stands : goal.put_token-requires-clause-stands
-put_token-requires-clause-stands c =
-    let within : c.loop-n.n < length c.args.tokens.now - 1 = omega
-    (arith, c.loop-n-test.true, c.saturating_sub-n-end.ensures, c.len.ensures) in
+pub returns-then-is_empty : goal.returns-then-is_empty
+returns-then-is_empty c =
+    let text = c.split_at.result.1.now in
+    let none : length text ≡ 0 = grind (arith, nat_tests) in
     let gap = c.in_ok-gap.ensures in
-    in_front c.args.src.now c.args.tokens.now c.loop-n.n c.loop-n.at c.loop-n.pieces c.loop-n.rest.now
-    c.put_comments.new.pieces c.in_ok-gap.gap _ _
-    (record {
-      walked = c.loop-n.invariant;
-      leads = gap.leads;
-      fresh = gap.fresh;
-      within = within;
-      token = c.token_at-token.ensures;
-      text_is = c.split_at.ensures.back;
-    })
+    walked_end c.args.src.now c.tokens.behind_path c.tokens.at c.tokens.pieces c.tokens.rest.now c.put_comments.new.pieces c.in_ok-gap.gap
+    text
+    (record { walked = c.tokens.invariant; leads = gap.leads; fresh = gap.fresh; text_is = c.split_at.ensures.back }) none
 
-pub loop-n-preserved : goal.loop-n-preserved
-loop-n-preserved c =
-    let within : c.loop-n.n < length c.args.tokens.now - 1 = omega
-    (arith, c.loop-n-test.true, c.saturating_sub-n-end.ensures, c.len.ensures) in
+pub unreachable-requires : goal.unreachable-requires
+unreachable-requires c =
+    let text = c.split_at.result.1.now in
+    let some : 0 < length text = grind (arith, nat_tests) in
     let gap = c.in_ok-gap.ensures in
-    walked_more c.args.src.now c.args.tokens.now c.loop-n.n c.loop-n.at c.loop-n.pieces c.loop-n.rest.now
-    c.put_comments.new.pieces c.in_ok-gap.gap _ _ c.in_ok-len.len _ _ _ _
-    (record {
-      walked = c.loop-n.invariant;
-      leads = gap.leads;
-      fresh = gap.fresh;
-      within = within;
-      token = c.token_at-token.ensures;
-      text_is = c.split_at.ensures.back;
-    })
-    c.in_ok-len.ensures.put gap.within refl refl c.split_at-in-loop-n.ensures.back
+    no_fault c.args.src.now c.tokens.behind_path c.tokens.at c.tokens.pieces c.tokens.rest.now c.put_comments.new.pieces c.in_ok-gap.gap
+    text c.in-Fault.field-0 c.in-Fault.field-1
+    (record { walked = c.tokens.invariant; leads = gap.leads; fresh = gap.fresh; text_is = c.split_at.ensures.back }) some
+    c.in-Fault.ensures.stands
 
-pub returns : goal.returns
-returns c =
-    let end = c.loop-n-test.false in
-    walked_end c.args.src.now c.args.tokens.now c.loop-n.n c.loop-n.at c.loop-n.pieces c.loop-n.rest.now c.put_comments-2.new.pieces
-    c.in_ok-put_comments.field-0 c.requires (omega (arith, end, c.saturating_sub-n-end.ensures, c.len.ensures))
-    c.loop-n.invariant c.in_ok-put_comments.ensures.leads c.in_ok-put_comments.ensures.fresh
+pub tokens-preserved : goal.tokens-preserved
+tokens-preserved c =
+    let src = c.args.src.now in
+    let text = c.split_at.result.1.now in
+    let spelling = c.split_at-in-Token.result.0.now in
+    let behind = c.split_at-in-Token.result.1.now in
+    let to = (c.tokens.at + c.in_ok-gap.gap) + c.in-Token.len in
+    let some : 0 < length text = grind (arith, nat_tests) in
+    let gap = c.in_ok-gap.ensures in
+    let walked = walked_more src c.tokens.behind_path c.tokens.at c.tokens.pieces c.tokens.rest.now c.put_comments.new.pieces
+    c.in_ok-gap.gap text c.in-Token.kind c.in-Token.len c.in-Token.field-2 c.in-Token.field-3 spelling behind
+    (record { walked = c.tokens.invariant; leads = gap.leads; fresh = gap.fresh; text_is = c.split_at.ensures.back })
+    gap.within some c.in-Token.ensures.stands
+    (record { front = c.split_at-in-Token.ensures.front; back = c.split_at-in-Token.ensures.back }) in
+    subst (λ q. Walked src q to c.push.new.self behind) (sym c.is_path_mark-behind_path.ensures)
+    (subst (λ l. Walked src (is_path_mark c.in-Token.kind spelling) to l behind) (sym c.in_ok-push-in-Token.ensures.ok) walked)
