@@ -31,14 +31,14 @@ pub fn law_texts_are_read()
     ensures { TextsAreRead }
 {}
 
-/// A layout consists of blanks, comments and tokens, each of which stands in front of all that is behind it, and they are read as the pieces of
-/// the layout.
+/// A layout consists of blanks, comments and tokens, each of which stands in front of all that is behind it, and they are read as the
+/// pieces of the layout.
 pub fn law_layouts_have_parts()
     ensures { LayoutsHaveParts }
 {}
 
-/// A layout is the layout of itself. Its tokens are those of its source, with the commas behind last items of lists left out on both sides, and
-/// its comments are those of the source, in order, without the blanks and the CR at their ends.
+/// A layout is the layout of itself. Its tokens are those of its source, with the commas behind last items of lists left out on both sides,
+/// and its comments are those of the source, in order, without the blanks and the CR at their ends.
 pub fn law_layouts_are_laid_out()
     ensures { LayoutsAreLaidOut }
 {}

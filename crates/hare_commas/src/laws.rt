@@ -2,8 +2,8 @@
 
 ghost use Rattle.hare_commas.specs.Commas.{CommasStandInTrees, WaysAskAtMarks};
 
-/// A file whose commas are added has a tree in which they stand: the same but for them, which its tokens spell with those commas among them;
-/// its tokens have the same ways, and no comma is added any more.
+/// A file whose commas are added has a tree in which they stand: the same but for them, which its tokens spell with those commas among
+/// them; its tokens have the same ways, and no comma is added any more.
 pub fn law_commas_stand_in_trees()
     ensures { CommasStandInTrees }
 {}
