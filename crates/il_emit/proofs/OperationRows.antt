@@ -319,3 +319,35 @@ cugtl_w = ((refl, refl), (refl, refl))
 
 cugtl_l : both L Cugtl 1 least_l (Some 0) × both L Cugtl 4294967296 0 (Some 1)
 cugtl_l = ((refl, refl), (refl, refl))
+
+-- Comparisons of 64 bits that are given at w, of numbers that differ above 32 bits alone: the operands are compared whole, and what comes of
+-- it is cut, so that none of these is what it would be if both were cut to w before.
+above_ceql : both W Ceql 4294967296 0 (Some 0)
+above_ceql = (refl, refl)
+
+above_cnel : both W Cnel 4294967296 0 (Some 1)
+above_cnel = (refl, refl)
+
+above_cslel : both W Cslel 4294967296 0 (Some 0)
+above_cslel = (refl, refl)
+
+above_csltl : both W Csltl 0 4294967296 (Some 1)
+above_csltl = (refl, refl)
+
+above_csgel : both W Csgel 0 4294967296 (Some 0)
+above_csgel = (refl, refl)
+
+above_csgtl : both W Csgtl 4294967296 0 (Some 1)
+above_csgtl = (refl, refl)
+
+above_culel : both W Culel 4294967296 0 (Some 0)
+above_culel = (refl, refl)
+
+above_cultl : both W Cultl 0 4294967296 (Some 1)
+above_cultl = (refl, refl)
+
+above_cugel : both W Cugel 0 4294967296 (Some 0)
+above_cugel = (refl, refl)
+
+above_cugtl : both W Cugtl 4294967296 0 (Some 1)
+above_cugtl = (refl, refl)
