@@ -29,18 +29,27 @@ use Rattle.il_emit.proofs.Counts.{both_true, all_append}
 pub record LinesPass (globals : List Data) (f : FlatFn) (good : Line → Bool) (most_labels most_addresses : ℕ) : Type 0 where
   pub label : (n : ℕ) → n < most_labels → good (Label n) ≡ true
   pub goes : (n : ℕ) → 0 < n → n < most_labels → good (End (jump.Jmp (label_name n))) ≡ true
-  pub branch : (v : Value) (k n m : ℕ) → is_operand (length globals) f W v ≡ true → k + addressed v ≤ most_addresses → 0 < n → n < most_labels → 0 < m → m < most_labels
+  pub branch : (v : Value) (k n m : ℕ) → is_operand (length globals) f W v ≡ true → k + addressed v ≤ most_addresses → 0 < n →
+      n < most_labels → 0 < m → m < most_labels
       → good (End (jump.Jnz (operand globals v k) (label_name n) (label_name m))) ≡ true
   pub returns : is_return (length globals) f f.result None ≡ true → good (End (jump.Ret None)) ≡ true
-  pub returns_value : (v : Value) (k : ℕ) → is_return (length globals) f f.result (Some v) ≡ true → k + addressed v ≤ most_addresses → good (End (jump.Ret (Some (operand globals v k)))) ≡ true
-  pub set : (t : ℕ) (class : Class) (o : Op) (a b : Value) (k : ℕ) → is_right (length globals) f 0 (Set t class o a b) ≡ true → k + addressed a + addressed b ≤ most_addresses
-      → good (Do (inst.Set (temp_name t) class (il_op o) (operand globals a k) (second (takes_two (op_kind o)) (operand globals b (k + addressed a))))) ≡ true
-  pub call : (temp : Option ℕ) (name : List ℕ) (args : List Value) (k : ℕ) → is_right (length globals) f 0 (Call temp name args) ≡ true → k + all_addressed args ≤ most_addresses
-      → good (Do (inst.Call (result_param temp (call_class (runtime_function name))) name (args_of globals (call_params (runtime_function name)) args k))) ≡ true
-  pub address : (i offset k : ℕ) → i < length globals → is_bits offset ≡ true → k < most_addresses → good (Do (address_inst globals i offset k)) ≡ true
+  pub returns_value : (v : Value) (k : ℕ) → is_return (length globals) f f.result (Some v) ≡ true → k + addressed v ≤ most_addresses →
+      good (End (jump.Ret (Some (operand globals v k)))) ≡ true
+  pub set : (t : ℕ) (class : Class) (o : Op) (a b : Value) (k : ℕ) → is_right (length globals) f 0 (Set t class o a b) ≡ true →
+      k + addressed a + addressed b ≤ most_addresses
+      → good (Do (inst.Set (temp_name t) class (il_op o) (operand globals a k)
+      (second (takes_two (op_kind o)) (operand globals b (k + addressed a))))) ≡ true
+  pub call : (temp : Option ℕ) (name : List ℕ) (args : List Value) (k : ℕ) → is_right (length globals) f 0 (Call temp name args) ≡ true →
+      k + all_addressed args ≤ most_addresses
+      → good (Do (inst.Call (result_param temp (call_class (runtime_function name))) name
+      (args_of globals (call_params (runtime_function name)) args k))) ≡ true
+  pub address : (i offset k : ℕ) → i < length globals → is_bits offset ≡ true → k < most_addresses →
+      good (Do (address_inst globals i offset k)) ≡ true
 
-module _ (globals : List Data) (f : FlatFn) (good : Line → Bool) (most_labels most_addresses : ℕ) (pass : LinesPass globals f good most_labels most_addresses) where
-  address_good : (class : Class) (v : Value) (k : ℕ) → is_operand (length globals) f class v ≡ true → k + addressed v ≤ most_addresses → list_all good (address_lines globals v k) ≡ true
+module _ (globals : List Data) (f : FlatFn) (good : Line → Bool) (most_labels most_addresses : ℕ)
+    (pass : LinesPass globals f good most_labels most_addresses) where
+  address_good : (class : Class) (v : Value) (k : ℕ) → is_operand (length globals) f class v ≡ true → k + addressed v ≤ most_addresses →
+      list_all good (address_lines globals v k) ≡ true
   address_good class (Temp t) k r u = refl
   address_good class (Number n) k r u = refl
   address_good class (Frame offset) k r u = refl
@@ -55,30 +64,37 @@ module _ (globals : List Data) (f : FlatFn) (good : Line → Bool) (most_labels 
           let room : k + 1 ≤ most_addresses = rw e at u in
           rw e (both_true _ true (pass.address i offset k lt q.1 (omega arith)) refl)
 
-  second_good : (class : Class) (two : Bool) (v : Value) (k : ℕ) → is_second (length globals) f class two v ≡ true → k + addressed v ≤ most_addresses → list_all good (address_lines globals v k) ≡ true
+  second_good : (class : Class) (two : Bool) (v : Value) (k : ℕ) → is_second (length globals) f class two v ≡ true →
+      k + addressed v ≤ most_addresses → list_all good (address_lines globals v k) ≡ true
   second_good class true v k r u = address_good class v k r u
   second_good class false (Temp t) k r u = refl
   second_good class false (Number n) k r u = refl
   second_good class false (Frame offset) k r u = refl
   second_good class false (Symbol i offset) k r u = cc
 
-  args_good : (cs : List Class) (vs : List Value) (k : ℕ) → are_args (length globals) f cs vs ≡ true → k + all_addressed vs ≤ most_addresses → list_all good (arg_lines globals vs k) ≡ true
+  args_good : (cs : List Class) (vs : List Value) (k : ℕ) → are_args (length globals) f cs vs ≡ true →
+      k + all_addressed vs ≤ most_addresses → list_all good (arg_lines globals vs k) ≡ true
   args_good [] [] k r u = refl
   args_good (c ∷ cs) [] k r u = refl
   args_good [] (v ∷ vs) k r u = cc
   args_good (c ∷ cs) (v ∷ vs) k r u =
       let p = and_parts (is_operand (length globals) f c v) (are_args (length globals) f cs vs) r in
-      all_append good (address_lines globals v k) _ (address_good c v k p.0 (omega arith)) (args_good cs vs (k + addressed v) p.1 (omega arith))
+      all_append good (address_lines globals v k) _ (address_good c v k p.0 (omega arith))
+      (args_good cs vs (k + addressed v) p.1 (omega arith))
 
-  called_good : (temp : Option ℕ) (args : List Value) (k : ℕ) (g : Option RuntimeFunction) → is_call (length globals) f temp args g ≡ true → k + all_addressed args ≤ most_addresses → list_all good (arg_lines globals args k) ≡ true
+  called_good : (temp : Option ℕ) (args : List Value) (k : ℕ) (g : Option RuntimeFunction) → is_call (length globals) f temp args g ≡ true →
+      k + all_addressed args ≤ most_addresses → list_all good (arg_lines globals args k) ≡ true
   called_good temp args k None r u = cc
-  called_good temp args k (Some g) r u = args_good (runtime_params g) args k (and_parts (are_args (length globals) f (runtime_params g) args) (takes_result f temp (runtime_result g)) r).0 u
+  called_good temp args k (Some g) r u = args_good (runtime_params g) args k
+      (and_parts (are_args (length globals) f (runtime_params g) args) (takes_result f temp (runtime_result g)) r).0 u
 
-  returned_good : (class : Option Class) (v : Value) (k : ℕ) → is_return (length globals) f class (Some v) ≡ true → k + addressed v ≤ most_addresses → list_all good (address_lines globals v k) ≡ true
+  returned_good : (class : Option Class) (v : Value) (k : ℕ) → is_return (length globals) f class (Some v) ≡ true →
+      k + addressed v ≤ most_addresses → list_all good (address_lines globals v k) ≡ true
   returned_good None v k r u = cc
   returned_good (Some c) v k r u = address_good c v k r u
 
-  return_good : (value : Option Value) (n k : ℕ) → is_return (length globals) f f.result value ≡ true → n < most_labels → k + addresses_of value ≤ most_addresses → list_all good (return_lines globals value n k) ≡ true
+  return_good : (value : Option Value) (n k : ℕ) → is_return (length globals) f f.result value ≡ true → n < most_labels →
+      k + addresses_of value ≤ most_addresses → list_all good (return_lines globals value n k) ≡ true
   return_good None n k r l u = both_true _ _ (pass.returns r) (both_true _ true (pass.label n l) refl)
   return_good (Some v) n k r l u =
       all_append good (address_lines globals v k) _ (returned_good f.result v k r u)
@@ -88,7 +104,8 @@ module _ (globals : List Data) (f : FlatFn) (good : Line → Bool) (most_labels 
   inside e = nat_lt 0 e && nat_lt e most_labels
 
   inside_is : (e : ℕ) → 0 < e → e < most_labels → inside e ≡ true
-  inside_is e l u = let a : nat_lt 0 e ≡ true = grind (arith, nat_tests) in let b : nat_lt e most_labels ≡ true = grind (arith, nat_tests) in both_true _ _ a b
+  inside_is e l u = let a : nat_lt 0 e ≡ true = grind (arith, nat_tests) in let b : nat_lt e most_labels ≡ true =
+      grind (arith, nat_tests) in both_true _ _ a b
 
   exit_inside : (es : List ℕ) (i : ℕ) → i < length es → list_all inside es ≡ true → inside (slice_index_or es i 0) ≡ true
   exit_inside [] i l h = absurd (omega arith)
@@ -106,49 +123,60 @@ module _ (globals : List Data) (f : FlatFn) (good : Line → Bool) (most_labels 
   more_exits es e h l u = all_append inside es (e ∷ []) h (both_true (inside e) true (inside_is e l u) refl)
 
   mutual
-    pub code_good : (c : Code) (around n k : ℕ) (es : List ℕ) → is_right (length globals) f around c ≡ true → length es ≡ around → list_all inside es ≡ true → 0 < n → n + labels_in c ≤ most_labels → k + addresses_in c ≤ most_addresses
+    pub code_good : (c : Code) (around n k : ℕ) (es : List ℕ) → is_right (length globals) f around c ≡ true → length es ≡ around →
+        list_all inside es ≡ true → 0 < n → n + labels_in c ≤ most_labels → k + addresses_in c ≤ most_addresses
         → list_all good (code_lines globals c n k es) ≡ true
     code_good (Seq cs) around n k es r d h z l u =
         let p = and_parts (nat_lt around deepest) (are_right (length globals) f (suc around) cs) r in
         all_append good (each_lines globals cs (suc n) k (es ++ n ∷ [])) (Label n ∷ [])
-        (each_good cs (suc around) (suc n) k (es ++ n ∷ []) p.1 (omega (arith, length-append es (n ∷ []))) (more_exits es n h z (omega arith)) (omega arith) (omega arith) (omega arith))
+        (each_good cs (suc around) (suc n) k (es ++ n ∷ []) p.1 (omega (arith, length-append es (n ∷ [])))
+        (more_exits es n h z (omega arith)) (omega arith) (omega arith) (omega arith))
         (both_true _ true (pass.label n (omega arith)) refl)
     code_good (Set t class o a b) around n k es r d h z l u =
         let p = and_parts (is_target f t class) _ r in
         let q = and_parts (may_give (op_kind o) class) _ p.1 in
-        let s = and_parts (is_operand (length globals) f (first_class (op_kind o) class) a) (is_second (length globals) f (second_class (op_kind o) class) (takes_two (op_kind o)) b) q.1 in
+        let s = and_parts (is_operand (length globals) f (first_class (op_kind o) class) a)
+        (is_second (length globals) f (second_class (op_kind o) class) (takes_two (op_kind o)) b) q.1 in
         all_append good (address_lines globals a k) _ (address_good (first_class (op_kind o) class) a k s.0 (omega arith))
-        (all_append good (address_lines globals b (k + addressed a)) _ (second_good (second_class (op_kind o) class) (takes_two (op_kind o)) b (k + addressed a) s.1 (omega arith))
+        (all_append good (address_lines globals b (k + addressed a)) _
+        (second_good (second_class (op_kind o) class) (takes_two (op_kind o)) b (k + addressed a) s.1 (omega arith))
         (both_true _ true (pass.set t class o a b k r (omega arith)) refl))
     code_good (Load t how at) around n k es r d h z l u = refl
     code_good (Store width value at) around n k es r d h z l u = refl
     code_good (Move to from bytes) around n k es r d h z l u = refl
     code_good (If cond a b) around n k es r d h z l u =
-        let p = and_parts (is_operand (length globals) f W cond) (is_right (length globals) f around a && is_right (length globals) f around b) r in
+        let p = and_parts (is_operand (length globals) f W cond)
+        (is_right (length globals) f around a && is_right (length globals) f around b) r in
         let s = and_parts (is_right (length globals) f around a) (is_right (length globals) f around b) p.1 in
         all_append good (address_lines globals cond k) _ (address_good W cond k p.0 (omega arith))
         (both_true _ _ (pass.branch cond k n (n + 1) p.0 (omega arith) z (omega arith) (omega arith) (omega arith))
         (both_true _ _ (pass.label n (omega arith))
-        (all_append good (code_lines globals a (n + 3) (k + addressed cond) es) _ (code_good a around (n + 3) (k + addressed cond) es s.0 d h (omega arith) (omega arith) (omega arith))
+        (all_append good (code_lines globals a (n + 3) (k + addressed cond) es) _
+        (code_good a around (n + 3) (k + addressed cond) es s.0 d h (omega arith) (omega arith) (omega arith))
         (both_true _ _ (pass.goes (n + 2) (omega arith) (omega arith))
         (both_true _ _ (pass.label (n + 1) (omega arith))
-        (all_append good (code_lines globals b (n + 3 + labels_in a) (k + addressed cond + addresses_in a) es) _ (code_good b around (n + 3 + labels_in a) (k + addressed cond + addresses_in a) es s.1 d h (omega arith) (omega arith) (omega arith))
+        (all_append good (code_lines globals b (n + 3 + labels_in a) (k + addressed cond + addresses_in a) es) _
+        (code_good b around (n + 3 + labels_in a) (k + addressed cond + addresses_in a) es s.1 d h (omega arith) (omega arith)
+        (omega arith))
         (both_true _ true (pass.label (n + 2) (omega arith)) refl)))))))
     code_good (Loop c) around n k es r d h z l u =
         let p = and_parts (nat_lt around deepest) (is_right (length globals) f (suc around) c) r in
         both_true _ _ (pass.goes n z (omega arith))
         (both_true _ _ (pass.label n (omega arith))
         (all_append good (code_lines globals c (n + 2) k (es ++ (n + 1) ∷ [])) _
-        (code_good c (suc around) (n + 2) k (es ++ (n + 1) ∷ []) p.1 (omega (arith, length-append es ((n + 1) ∷ []))) (more_exits es (n + 1) h (omega arith) (omega arith)) (omega arith) (omega arith) (omega arith))
+        (code_good c (suc around) (n + 2) k (es ++ (n + 1) ∷ []) p.1 (omega (arith, length-append es ((n + 1) ∷ [])))
+        (more_exits es (n + 1) h (omega arith) (omega arith)) (omega arith) (omega arith) (omega arith))
         (both_true _ _ (pass.goes n z (omega arith)) (both_true _ true (pass.label (n + 1) (omega arith)) refl))))
     code_good (Leave j) around n k es r d h z l u =
         let lt : j < around = grind (arith, nat_tests) in
         leave_good (exit_at es j) n (exit_inside es (length es - suc j) (omega arith) h) (omega arith)
     code_good (Call temp name args) around n k es r d h z l u =
-        all_append good (arg_lines globals args k) _ (called_good temp args k (runtime_function name) r u) (both_true _ true (pass.call temp name args k r u) refl)
+        all_append good (arg_lines globals args k) _ (called_good temp args k (runtime_function name) r u)
+        (both_true _ true (pass.call temp name args k r u) refl)
     code_good (Ret value) around n k es r d h z l u = return_good value n k r (omega arith) u
 
-    each_good : (cs : Codes) (around n k : ℕ) (es : List ℕ) → are_right (length globals) f around cs ≡ true → length es ≡ around → list_all inside es ≡ true → 0 < n → n + labels_in_all cs ≤ most_labels → k + addresses_in_all cs ≤ most_addresses
+    each_good : (cs : Codes) (around n k : ℕ) (es : List ℕ) → are_right (length globals) f around cs ≡ true → length es ≡ around →
+        list_all inside es ≡ true → 0 < n → n + labels_in_all cs ≤ most_labels → k + addresses_in_all cs ≤ most_addresses
         → list_all good (each_lines globals cs n k es) ≡ true
     each_good none around n k es r d h z l u = refl
     each_good (more c cs) around n k es r d h z l u =

@@ -70,7 +70,8 @@ module _ (p : FlatProgram) (w : IsWellFormed p) (few : AllByRecursion HasFewName
 
   -- ---- the whole run
 
-  module _ (f : FlatFn) (found_f : Found (length p.globals) (codes "main") f) (named : flat.function_named p.functions (codes "main") ≡ Some f) (args : List (List ℕ)) (input : List ℕ) (fill n : ℕ) where
+  module _ (f : FlatFn) (found_f : Found (length p.globals) (codes "main") f)
+      (named : flat.function_named p.functions (codes "main") ≡ Some f) (args : List (List ℕ)) (input : List ℕ) (fill n : ℕ) where
     abbrev world : World
     world = start_world (module_of p) args input fill
 
@@ -121,7 +122,15 @@ module _ (p : FlatProgram) (w : IsWellFormed p) (few : AllByRecursion HasFewName
           used = 0;
           ended = if nat_lt stack_size cost then Some StackFull else None;
           state = record {
-            active = record { function = f.name; blocks = blocks_of p.globals f; place = il.start_of [] (blocks_of p.globals f); temps = ts; pointer = stack_start; cost = cost };
+            active = record {
+              function = f.name;
+              blocks = blocks_of p.globals f;
+              place = il.start_of [] (blocks_of p.globals f);
+              temps =
+                  ts;
+              pointer = stack_start;
+              cost = cost;
+            };
             waiting = [];
             world = world;
             done = [];
@@ -157,7 +166,9 @@ module _ (p : FlatProgram) (w : IsWellFormed p) (few : AllByRecursion HasFewName
           output = [];
           arguments = length args;
         }) facts.no_frame
-        ∙ ap (λ (memory : Memory). record { memory = memory; heap = record { next = heap_start; blocks = [] }; input = input; output = []; arguments = length args }) (sym (start_same p w fill args))
+        ∙ ap (λ (memory : Memory). record
+        { memory = memory; heap = record { next = heap_start; blocks = [] }; input = input; output = []; arguments = length args })
+        (sym (start_same p w fill args))
 
     holds : Holds floor (stepped 1 flat_first) first
     holds = record {
@@ -173,8 +184,11 @@ module _ (p : FlatProgram) (w : IsWellFormed p) (few : AllByRecursion HasFewName
         let names = found_f.few in
         let labels = names.labels in
         let addresses = names.addresses in
-        subst (λ (x : World). Meets (module_of p) call n 0 (4 * (0 + 1)) (0 + 3) (λ k. rest) rest (before (module_of p) call (body_lines ++ rest) x first) flat_body) same_world
-        (meets p f (module_of p) (setting f facts names) labels stack_start cost floor [] n (code_of f.body) 0 1 0 [] (λ k. rest) rest (stepped 1 flat_first) first facts.built facts.code no_exits (record { labels = omega arith; addresses = omega arith }) (inside_next all (body_lines ++ rest) (Label 0) (inside_all all)) holds)
+        subst (λ (x : World). Meets (module_of p) call n 0 (4 * (0 + 1)) (0 + 3) (λ k. rest) rest
+        (before (module_of p) call (body_lines ++ rest) x first) flat_body) same_world
+        (meets p f (module_of p) (setting f facts names) labels stack_start cost floor [] n (code_of f.body) 0 1 0 [] (λ k. rest) rest
+        (stepped 1 flat_first) first facts.built facts.code no_exits (record { labels = omega arith; addresses = omega arith })
+        (inside_next all (body_lines ++ rest) (Label 0) (inside_all all)) holds)
 
     -- ---- how it ends
 
@@ -188,8 +202,14 @@ module _ (p : FlatProgram) (w : IsWellFormed p) (few : AllByRecursion HasFewName
       most : floor ≤ r.1.most
 
     -- the last return
-    last_return : (class : Option Class) (x : World) (c : Mark) → after_steps (module_of p) 1 (before (module_of p) call (End (jump.Ret (end_value class)) ∷ []) x c)
-        ≡ record { used = c.used + 1; ended = Some (machine.Exit 0); state = (before (module_of p) call (End (jump.Ret (end_value class)) ∷ []) x c).state }
+    last_return : (class : Option Class) (x : World) (c : Mark) →
+        after_steps (module_of p) 1 (before (module_of p) call (End (jump.Ret (end_value class)) ∷ []) x c)
+        ≡ record {
+          used = c.used + 1;
+          ended = Some (machine.Exit 0);
+          state =
+              (before (module_of p) call (End (jump.Ret (end_value class)) ∷ []) x c).state;
+        }
     last_return None x c = refl
     last_return (Some class) x c = refl
 
@@ -209,7 +229,8 @@ module _ (p : FlatProgram) (w : IsWellFormed p) (few : AllByRecursion HasFewName
     returns_ends : (v : ℕ) (s : State) → Returns (module_of p) call 0 (4 * (0 + 1)) (0 + 3) begins s v → Ends (state.Exit (v % 256), s)
     returns_ends v s h =
         let u = h.units in
-        let e = steps_more (module_of p) h.count 1 begins ∙ ap (after_steps (module_of p) 1) h.by ∙ ap (after_step (before (module_of p) call h.lines s.world h.to)) h.returns in
+        let e = steps_more (module_of p) h.count 1 begins ∙ ap (after_steps (module_of p) 1) h.by ∙ ap
+        (after_step (before (module_of p) call h.lines s.world h.to)) h.returns in
         record {
           count = h.count + 1;
           ended = ap (λ (r : Run). r.ended) e;
@@ -219,10 +240,19 @@ module _ (p : FlatProgram) (w : IsWellFormed p) (few : AllByRecursion HasFewName
           most = h.holds.most;
         }
 
-    stops_ends : (flow : state.Flow) (s : State) (e : machine.End) → end_for flow ≡ Some e → (flow ≡ Spent → ⊥) → Stops (module_of p) call (4 * (0 + 1)) (0 + 3) begins s e → Ends (flow, s)
+    stops_ends : (flow : state.Flow) (s : State) (e : machine.End) → end_for flow ≡ Some e → (flow ≡ Spent → ⊥) →
+        Stops (module_of p) call (4 * (0 + 1)) (0 + 3) begins s e → Ends (flow, s)
     stops_ends flow s e k other h =
         let u = h.units in
-        record { count = h.count; ended = h.ended ∙ sym k; world_is = h.world; jumps = λ z. absurd (other z); units = omega arith; most = h.most }
+        record {
+          count = h.count;
+          ended = h.ended ∙ sym k;
+          world_is = h.world;
+          jumps = λ z. absurd (other z);
+          units = omega arith;
+          most =
+              h.most;
+        }
 
     ends : (r : Result) → Meets (module_of p) call n 0 (4 * (0 + 1)) (0 + 3) (λ k. rest) rest begins r → Ends (flat_run.ended r)
     ends (Next, s) h = comes_ends s h
@@ -238,12 +268,14 @@ module _ (p : FlatProgram) (w : IsWellFormed p) (few : AllByRecursion HasFewName
         record { count = h.count; ended = h.ended; world_is = h.world; jumps = λ z. omega arith; units = omega arith; most = h.most }
 
     equal_worlds : (x y : World) → x ≡ y → SameWorld y x
-    equal_worlds x y e = subst (λ (z : World). SameWorld z x) e (record { memory = record { bytes = λ a. refl; mapped = λ a. refl }; heap = refl; input = refl; output = refl; arguments = refl })
+    equal_worlds x y e = subst (λ (z : World). SameWorld z x) e
+        (record { memory = record { bytes = λ a. refl; mapped = λ a. refl }; heap = refl; input = refl; output = refl; arguments = refl })
 
     arrives : (r : Result) → start (module_of p) args input fill ≡ begins → Ends r → Arrives (module_of p) args input fill n r
     arrives r e h =
         let there = after_steps (module_of p) h.count begins in
-        let is : run_to (module_of p) there.used (start (module_of p) args input fill) ≡ there = ap (run_to (module_of p) there.used) e ∙ run_to-after_steps (module_of p) h.count begins in
+        let is : run_to (module_of p) there.used (start (module_of p) args input fill) ≡ there =
+        ap (run_to (module_of p) there.used) e ∙ run_to-after_steps (module_of p) h.count begins in
         record {
           budget = there.used;
           ended = ap (λ (z : Run). z.ended) is ∙ h.ended;
@@ -253,27 +285,36 @@ module _ (p : FlatProgram) (w : IsWellFormed p) (few : AllByRecursion HasFewName
           units = h.units;
         }
 
-    overflows : (r : Result) → start (module_of p) args input fill ≡ begun_with (Some StackFull) → stack_size < cost → floor ≤ r.1.most → Overflows (module_of p) args input fill n r
+    overflows : (r : Result) → start (module_of p) args input fill ≡ begun_with (Some StackFull) → stack_size < cost → floor ≤ r.1.most →
+        Overflows (module_of p) args input fill n r
     overflows r e large most =
         let few_names = costs_no_more p.globals f facts.code facts.few_params in
         record { budget = 0; ended = ap (λ (z : Run). (run_to (module_of p) 0 z).ended) e; cost = omega (arith, large, few_names, most) }
 
-    comes : Arrives (module_of p) args input fill n (flat_run.ended flat_body) ⊎ Overflows (module_of p) args input fill n (flat_run.ended flat_body)
+    comes : Arrives (module_of p) args input fill n (flat_run.ended flat_body) ⊎ Overflows (module_of p) args input fill n
+        (flat_run.ended flat_body)
     comes = pick (nat_lt stack_size cost) refl
       where
-        pick : (b : Bool) → nat_lt stack_size cost ≡ b → Arrives (module_of p) args input fill n (flat_run.ended flat_body) ⊎ Overflows (module_of p) args input fill n (flat_run.ended flat_body)
+        pick : (b : Bool) → nat_lt stack_size cost ≡ b → Arrives (module_of p) args input fill n (flat_run.ended flat_body) ⊎ Overflows
+            (module_of p) args input fill n (flat_run.ended flat_body)
         pick true e =
             let large : stack_size < cost = grind (arith, nat_tests) in
             let h = ends flat_body body_meets in
-            inr (overflows (flat_run.ended flat_body) (starts ∙ ap (λ (b : Bool). begun_with (if b then Some StackFull else None)) e) large h.most)
-        pick false e = inl (arrives (flat_run.ended flat_body) (starts ∙ ap (λ (b : Bool). begun_with (if b then Some StackFull else None)) e) (ends flat_body body_meets))
+            inr (overflows (flat_run.ended flat_body) (starts ∙ ap (λ (b : Bool). begun_with (if b then Some StackFull else None)) e) large
+            h.most)
+        pick false e = inl (arrives (flat_run.ended flat_body)
+            (starts ∙ ap (λ (b : Bool). begun_with (if b then Some StackFull else None)) e) (ends flat_body body_meets))
 
-    main_reaches : Arrives (module_of p) args input fill n (run p args input fill n) ⊎ Overflows (module_of p) args input fill n (run p args input fill n)
-    main_reaches = subst (λ (r : Result). Arrives (module_of p) args input fill n r ⊎ Overflows (module_of p) args input fill n r) (sym flat_runs) comes
+    main_reaches : Arrives (module_of p) args input fill n (run p args input fill n) ⊎ Overflows (module_of p) args input fill n
+        (run p args input fill n)
+    main_reaches = subst (λ (r : Result). Arrives (module_of p) args input fill n r ⊎ Overflows (module_of p) args input fill n r)
+        (sym flat_runs) comes
 
   pub reaches : Reaches p (module_of p)
   reaches args input fill n = pick (flat.function_named p.functions (codes "main")) refl
     where
-      pick : (o : Option FlatFn) → flat.function_named p.functions (codes "main") ≡ o → Arrives (module_of p) args input fill n (run p args input fill n) ⊎ Overflows (module_of p) args input fill n (run p args input fill n)
+      pick : (o : Option FlatFn) → flat.function_named p.functions (codes "main") ≡ o →
+          Arrives (module_of p) args input fill n (run p args input fill n) ⊎ Overflows (module_of p) args input fill n
+          (run p args input fill n)
       pick None e = absurd (main_there p.functions w.main e)
       pick (Some f) e = main_reaches f (found (length p.globals) (codes "main") p.functions f w.functions few e) e args input fill n

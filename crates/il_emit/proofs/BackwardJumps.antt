@@ -98,12 +98,19 @@ module _ (globals : List Data) (f : FlatFn) where
 
   mutual
     -- where the exits of code stand behind it, only its Loops jump back
-    code_back : (c : Code) (around n k : ℕ) (es : List ℕ) (rest : List Line) → is_right (length globals) f around c ≡ true → length es ≡ around → list_all (stands rest) es ≡ true
+    code_back : (c : Code) (around n k : ℕ) (es : List ℕ) (rest : List Line) → is_right (length globals) f around c ≡ true →
+        length es ≡ around → list_all (stands rest) es ≡ true
         → back_of (code_lines globals c n k es ++ rest) ≤ loops_in c + back_of rest
     code_back (Seq cs) around n k es rest r d h =
         let q = and_parts (nat_lt around deepest) (are_right (length globals) f (suc around) cs) r in
-        let behind = all_append (stands (Label n ∷ rest)) es (n ∷ []) (all_behind es (Label n ∷ []) rest h) (both_true (stands (Label n ∷ rest) n) true (stands_here n rest) refl) in
-        omega (arith, ap back_of (append_assoc (each_lines globals cs (suc n) k (es ++ n ∷ [])) (Label n ∷ []) rest), each_back cs (suc around) (suc n) k (es ++ n ∷ []) (Label n ∷ rest) q.1 (omega (arith, length-append es (n ∷ []))) behind)
+        let behind = all_append (stands (Label n ∷ rest)) es (n ∷ []) (all_behind es (Label n ∷ []) rest h)
+        (both_true (stands (Label n ∷ rest) n) true (stands_here n rest) refl) in
+        omega (
+          arith,
+          ap back_of (append_assoc (each_lines globals cs (suc n) k (es ++ n ∷ [])) (Label n ∷ []) rest),
+          each_back cs
+              (suc around) (suc n) k (es ++ n ∷ []) (Label n ∷ rest) q.1 (omega (arith, length-append es (n ∷ []))) behind,
+        )
     code_back (Set t class o a b) around n k es rest r d h =
         let same : back_of (code_lines globals (Set t class o a b) n k es ++ rest) ≡ back_of rest =
         ap back_of (append_assoc (address_lines globals a k) _ rest) ∙ address_back a k _
@@ -113,7 +120,8 @@ module _ (globals : List Data) (f : FlatFn) where
     code_back (Store width value at) around n k es rest r d h = omega arith
     code_back (Move to from bytes) around n k es rest r d h = omega arith
     code_back (If v a b) around n k es rest r d h =
-        let q = and_parts (is_operand (length globals) f W v) (is_right (length globals) f around a && is_right (length globals) f around b) r in
+        let q = and_parts (is_operand (length globals) f W v) (is_right (length globals) f around a && is_right (length globals) f around b)
+        r in
         let w = and_parts (is_right (length globals) f around a) (is_right (length globals) f around b) q.1 in
         let one = code_lines globals a (n + 3) (k + addressed v) es in
         let other = code_lines globals b (n + 3 + labels_in a) (k + addressed v + addresses_in a) es in
@@ -121,15 +129,33 @@ module _ (globals : List Data) (f : FlatFn) where
         let other_side : List Line = Label (n + 1) ∷ (other ++ tail) in
         let over : List Line = End (jump.Jmp (label_name (n + 2))) ∷ other_side in
         let one_side : List Line = Label n ∷ (one ++ over) in
-        let same : code_lines globals (If v a b) n k es ++ rest ≡ address_lines globals v k ++ (End (jump.Jnz (operand globals v k) (label_name n) (label_name (n + 1))) ∷ one_side) =
+        let same : code_lines globals (If v a b) n k es ++ rest ≡ address_lines globals v k ++
+        (End (jump.Jnz (operand globals v k) (label_name n) (label_name (n + 1))) ∷ one_side) =
         append_assoc (address_lines globals v k) _ rest
-        ∙ ap (λ (x : List Line). address_lines globals v k ++ (End (jump.Jnz (operand globals v k) (label_name n) (label_name (n + 1))) ∷ Label n ∷ x)) (append_assoc one _ rest)
-        ∙ ap (λ (x : List Line). address_lines globals v k ++ (End (jump.Jnz (operand globals v k) (label_name n) (label_name (n + 1))) ∷ Label n ∷ (one ++ (End (jump.Jmp (label_name (n + 2))) ∷ Label (n + 1) ∷ x)))) (append_assoc other (Label (n + 2) ∷ []) rest) in
+        ∙ ap (λ (x : List Line). address_lines globals v k ++
+        (End (jump.Jnz (operand globals v k) (label_name n) (label_name (n + 1))) ∷ Label n ∷ x)) (append_assoc one _ rest)
+        ∙ ap (λ (x : List Line). address_lines globals v k ++
+        (End (jump.Jnz (operand globals v k) (label_name n) (label_name (n + 1))) ∷ Label n ∷
+        (one ++ (End (jump.Jmp (label_name (n + 2))) ∷ Label (n + 1) ∷ x)))) (append_assoc other (Label (n + 2) ∷ []) rest) in
         let at_end = all_behind es (Label (n + 2) ∷ []) rest h in
         let at_over = all_behind es (End (jump.Jmp (label_name (n + 2))) ∷ Label (n + 1) ∷ other) tail at_end in
-        let branch = back_none (line_blocks one_side) (jump.Jnz (operand globals v k) (label_name n) (label_name (n + 1))) (both_true _ _ (stands_here n (one ++ over)) (stands_behind (n + 1) (Label n ∷ one) over (stands_here (n + 1) (other ++ tail)))) in
-        let jumps = back_none (line_blocks other_side) (jump.Jmp (label_name (n + 2))) (stands_behind (n + 2) (Label (n + 1) ∷ other) tail (stands_here (n + 2) rest)) in
-        omega (arith, ap back_of same, address_back v k (End (jump.Jnz (operand globals v k) (label_name n) (label_name (n + 1))) ∷ one_side), branch, jumps, code_back a around (n + 3) (k + addressed v) es over w.0 d at_over, code_back b around (n + 3 + labels_in a) (k + addressed v + addresses_in a) es tail w.1 d at_end)
+        let branch = back_none (line_blocks one_side) (jump.Jnz (operand globals v k) (label_name n) (label_name (n + 1)))
+        (both_true _ _ (stands_here n (one ++ over))
+        (stands_behind (n + 1) (Label n ∷ one) over (stands_here (n + 1) (other ++ tail)))) in
+        let jumps = back_none (line_blocks other_side) (jump.Jmp (label_name (n + 2)))
+        (stands_behind (n + 2) (Label (n + 1) ∷ other) tail (stands_here (n + 2) rest)) in
+        omega (
+          arith,
+          ap back_of same,
+          address_back v k
+              (End (jump.Jnz (operand globals v k) (label_name n) (label_name (n + 1))) ∷ one_side),
+          branch,
+          jumps,
+          code_back a around (n + 3)
+              (k + addressed v) es over w.0 d at_over,
+          code_back b around (n + 3 + labels_in a) (k + addressed v + addresses_in a) es tail w.1
+              d at_end,
+        )
     code_back (Loop c) around n k es rest r d h =
         let q = and_parts (nat_lt around deepest) (is_right (length globals) f (suc around) c) r in
         let body = code_lines globals c (n + 2) k (es ++ (n + 1) ∷ []) in
@@ -138,26 +164,49 @@ module _ (globals : List Data) (f : FlatFn) where
         let enters = back_none (line_blocks (Label n ∷ (body ++ tail))) (jump.Jmp (label_name n)) (stands_here n (body ++ tail)) in
         let enters' = ap (λ (x : List Line). back (line_blocks (Label n ∷ x)) (jump.Jmp (label_name n))) same in
         let turns = back_least (line_blocks (Label (n + 1) ∷ rest)) (jump.Jmp (label_name n)) in
-        let exits = all_append (stands tail) es ((n + 1) ∷ []) (all_behind es (End (jump.Jmp (label_name n)) ∷ Label (n + 1) ∷ []) rest h) (both_true (stands tail (n + 1)) true (stands_here (n + 1) rest) refl) in
-        omega (arith, enters, enters', turns, ap back_of same, code_back c (suc around) (n + 2) k (es ++ (n + 1) ∷ []) tail q.1 (omega (arith, length-append es ((n + 1) ∷ []))) exits)
+        let exits = all_append (stands tail) es ((n + 1) ∷ []) (all_behind es (End (jump.Jmp (label_name n)) ∷ Label (n + 1) ∷ []) rest h)
+        (both_true (stands tail (n + 1)) true (stands_here (n + 1) rest) refl) in
+        omega (
+          arith,
+          enters,
+          enters',
+          turns,
+          ap back_of same,
+          code_back c (suc around) (n + 2) k (es ++ (n + 1) ∷ []) tail q.1
+              (omega (arith, length-append es ((n + 1) ∷ []))) exits,
+        )
     code_back (Leave j) around n k es rest r d h =
         let lt : j < around = grind (arith, nat_tests) in
         let there = stands_behind (exit_at es j) (Label n ∷ []) rest (exit_stands (stands rest) es (length es - suc j) (omega arith) h) in
         omega (arith, back_none (line_blocks (Label n ∷ rest)) (jump.Jmp (label_name (exit_at es j))) there)
     code_back (Call temp name args) around n k es rest r d h =
-        let same : back_of (code_lines globals (Call temp name args) n k es ++ rest) ≡ back_of rest = ap back_of (append_assoc (arg_lines globals args k) _ rest) ∙ args_back args k _ in
+        let same : back_of (code_lines globals (Call temp name args) n k es ++ rest) ≡ back_of rest =
+        ap back_of (append_assoc (arg_lines globals args k) _ rest) ∙ args_back args k _ in
         omega (arith, same)
     code_back (Ret value) around n k es rest r d h = omega (arith, return_back value n k rest)
 
-    each_back : (cs : Codes) (around n k : ℕ) (es : List ℕ) (rest : List Line) → are_right (length globals) f around cs ≡ true → length es ≡ around → list_all (stands rest) es ≡ true
+    each_back : (cs : Codes) (around n k : ℕ) (es : List ℕ) (rest : List Line) → are_right (length globals) f around cs ≡ true →
+        length es ≡ around → list_all (stands rest) es ≡ true
         → back_of (each_lines globals cs n k es ++ rest) ≤ loops_in_all cs + back_of rest
     each_back none around n k es rest r d h = omega arith
     each_back (more c cs) around n k es rest r d h =
         let q = and_parts (is_right (length globals) f around c) (are_right (length globals) f around cs) r in
         let others = each_lines globals cs (n + labels_in c) (k + addresses_in c) es in
-        omega (arith, ap back_of (append_assoc (code_lines globals c n k es) others rest), code_back c around n k es (others ++ rest) q.0 d (all_behind es others rest h), each_back cs around (n + labels_in c) (k + addresses_in c) es rest q.1 d h)
+        omega (
+          arith,
+          ap back_of (append_assoc (code_lines globals c n k es) others rest),
+          code_back c around n k es (others ++ rest) q.0 d
+              (all_behind es others rest h),
+          each_back cs around (n + labels_in c) (k + addresses_in c) es rest q.1 d h,
+        )
 
   pub jumps_few : is_right (length globals) f 0 (code_of f.body) ≡ true → backward_jumps (blocks_of globals f) ≤ loops_in (code_of f.body)
   jumps_few r =
       let last : List Line = End (jump.Ret (end_value f.result)) ∷ [] in
-      omega (arith, ap backward_jumps (function_blocks globals f), back_blocks (function_lines globals f), code_back (code_of f.body) 0 1 0 [] last r refl refl)
+      omega (
+        arith,
+        ap backward_jumps (function_blocks globals f),
+        back_blocks (function_lines globals f),
+        code_back (code_of f.body) 0 1 0
+            [] last r refl refl,
+      )

@@ -45,11 +45,15 @@ line_passes label inst jump (Do i) = inst i
 line_passes label inst jump (End j) = jump j
 
 module _ (label : ℕ → Bool) (inst : Inst → Bool) (jump : Jump → Bool) (falling : jump Fall ≡ true) (test : Block → Bool)
-    (on : (s : List ℕ) (n : ℕ) (is : List Inst) (j : Jump) → s ≡ label_name n → label n ≡ true → list_all inst is ≡ true → jump j ≡ true → test (block s is j) ≡ true) where
-  block_more : (bs : List Block) (s : List ℕ) (n : ℕ) (is : List Inst) (j : Jump) → s ≡ label_name n → label n ≡ true → list_all inst is ≡ true → jump j ≡ true → list_all test bs ≡ true → list_all test (bs ++ block s is j ∷ []) ≡ true
-  block_more bs s n is j e l h k all = all_append test bs (block s is j ∷ []) all (both_true (test (block s is j)) true (on s n is j e l h k) refl)
+    (on : (s : List ℕ) (n : ℕ) (is : List Inst) (j : Jump) → s ≡ label_name n → label n ≡ true → list_all inst is ≡ true → jump j ≡ true →
+    test (block s is j) ≡ true) where
+  block_more : (bs : List Block) (s : List ℕ) (n : ℕ) (is : List Inst) (j : Jump) → s ≡ label_name n → label n ≡ true →
+      list_all inst is ≡ true → jump j ≡ true → list_all test bs ≡ true → list_all test (bs ++ block s is j ∷ []) ≡ true
+  block_more bs s n is j e l h k all =
+      all_append test bs (block s is j ∷ []) all (both_true (test (block s is j)) true (on s n is j e l h k) refl)
 
-  pub blocks_pass : (bs : List Block) (s : List ℕ) (n : ℕ) (is : List Inst) (b : Bool) (lines : List Line) → s ≡ label_name n → label n ≡ true → list_all inst is ≡ true → list_all test bs ≡ true
+  pub blocks_pass : (bs : List Block) (s : List ℕ) (n : ℕ) (is : List Inst) (b : Bool) (lines : List Line) → s ≡ label_name n →
+      label n ≡ true → list_all inst is ≡ true → list_all test bs ≡ true
       → list_all (line_passes label inst jump) lines ≡ true → list_all test (add_all (draft bs s is b) lines).blocks ≡ true
   blocks_pass bs s n is b [] e l h all p = all
   blocks_pass bs s n is b (Do i ∷ lines) e l h all p =
@@ -60,7 +64,8 @@ module _ (label : ℕ → Bool) (inst : Inst → Bool) (jump : Jump → Bool) (f
       blocks_pass (bs ++ block s is j ∷ []) s n [] false lines e l refl (block_more bs s n is j e l h k.0 all) k.1
   blocks_pass bs s n is true (Label m ∷ lines) e l h all p =
       let k = and_parts (label m) (list_all (line_passes label inst jump) lines) p in
-      blocks_pass (bs ++ block s is Fall ∷ []) (label_name m) m [] true lines refl k.0 refl (block_more bs s n is Fall e l h falling all) k.1
+      blocks_pass (bs ++ block s is Fall ∷ []) (label_name m) m [] true lines refl k.0 refl (block_more bs s n is Fall e l h falling all)
+      k.1
   blocks_pass bs s n is false (Label m ∷ lines) e l h all p =
       let k = and_parts (label m) (list_all (line_passes label inst jump) lines) p in
       blocks_pass bs (label_name m) m [] true lines refl k.0 refl all k.1
@@ -79,10 +84,12 @@ regroup false true r = refl
 regroup false false r = refl
 
 module _ (q : Inst → Bool) (r : Block → Bool) (on : (s : List ℕ) (is : List Inst) (j : Jump) → r (block s is j) ≡ list_any q is) where
-  last_any : (bs : List Block) (s : List ℕ) (is : List Inst) (j : Jump) → list_any r (bs ++ block s is j ∷ []) ≡ (list_any r bs || (list_any q is || false))
+  last_any : (bs : List Block) (s : List ℕ) (is : List Inst) (j : Jump) →
+      list_any r (bs ++ block s is j ∷ []) ≡ (list_any r bs || (list_any q is || false))
   last_any bs s is j = list_any-append r bs (block s is j ∷ []) ∙ ap (λ (x : Bool). list_any r bs || (x || false)) (on s is j)
 
-  any_more : (bs : List Block) (s : List ℕ) (is : List Inst) (j : Jump) (x : Bool) → (list_any r (bs ++ block s is j ∷ []) || x) ≡ (list_any r bs || (list_any q is || x))
+  any_more : (bs : List Block) (s : List ℕ) (is : List Inst) (j : Jump) (x : Bool) →
+      (list_any r (bs ++ block s is j ∷ []) || x) ≡ (list_any r bs || (list_any q is || x))
   any_more bs s is j x = ap (λ (y : Bool). y || x) (last_any bs s is j) ∙ regroup (list_any r bs) (list_any q is) x
 
   mutual
@@ -93,7 +100,8 @@ module _ (q : Inst → Bool) (r : Block → Bool) (on : (s : List ℕ) (is : Lis
         any_open bs s (is ++ i ∷ []) lines j h
         ∙ ap (λ (x : Bool). list_any r bs || (x || lines_any q lines)) (list_any-append q is (i ∷ []))
         ∙ ap (λ (x : Bool). list_any r bs || x) (regroup (list_any q is) (q i) (lines_any q lines))
-    any_open bs s is (Label n ∷ lines) j h = any_open (bs ++ block s is Fall ∷ []) (label_name n) [] lines j h ∙ any_more bs s is Fall (lines_any q lines)
+    any_open bs s is (Label n ∷ lines) j h =
+        any_open (bs ++ block s is Fall ∷ []) (label_name n) [] lines j h ∙ any_more bs s is Fall (lines_any q lines)
     any_open bs s is (End i ∷ lines) j h = any_closed (bs ++ block s is i ∷ []) s lines j h ∙ any_more bs s is i (lines_any q lines)
 
     any_closed : (bs : List Block) (s : List ℕ) (lines : List Line) (j : Jump) → tidy false lines ≡ true
@@ -125,15 +133,19 @@ module _ (l : List ℕ) where
   abbrev pub labelled : List Block → ℕ
   labelled bs = how_many (λ (b : Block). b.label) l bs
 
-  one_more : (bs : List Block) (s : List ℕ) (is : List Inst) (j : Jump) → labelled (bs ++ block s is j ∷ []) ≡ labelled bs + cond (bytes_eq s l) 1 0
-  one_more bs s is j = count_append (λ (b : Block). bytes_eq b.label l) bs (block s is j ∷ []) ∙ omega (arith, sum_cons (λ (b : Block). cond (bytes_eq b.label l) 1 0) (block s is j) [])
+  one_more : (bs : List Block) (s : List ℕ) (is : List Inst) (j : Jump) → labelled (bs ++ block s is j ∷ []) ≡ labelled bs + cond
+      (bytes_eq s l) 1 0
+  one_more bs s is j = count_append (λ (b : Block). bytes_eq b.label l) bs (block s is j ∷ []) ∙ omega
+      (arith, sum_cons (λ (b : Block). cond (bytes_eq b.label l) 1 0) (block s is j) [])
 
   mutual
     pub count_open : (bs : List Block) (s : List ℕ) (is : List Inst) (lines : List Line) (j : Jump) → tidy true lines ≡ true
-        → labelled (add_all (draft bs s is true) (lines ++ End j ∷ [])).blocks ≡ labelled bs + cond (bytes_eq s l) 1 0 + lines_labelled l lines
+        → labelled (add_all (draft bs s is true) (lines ++ End j ∷ [])).blocks ≡ labelled bs + cond (bytes_eq s l) 1 0 + lines_labelled l
+        lines
     count_open bs s is [] j h = one_more bs s is j ∙ omega arith
     count_open bs s is (Do i ∷ lines) j h = count_open bs s (is ++ i ∷ []) lines j h
-    count_open bs s is (Label n ∷ lines) j h = count_open (bs ++ block s is Fall ∷ []) (label_name n) [] lines j h ∙ omega (arith, one_more bs s is Fall)
+    count_open bs s is (Label n ∷ lines) j h =
+        count_open (bs ++ block s is Fall ∷ []) (label_name n) [] lines j h ∙ omega (arith, one_more bs s is Fall)
     count_open bs s is (End i ∷ lines) j h = count_closed (bs ++ block s is i ∷ []) s lines j h ∙ omega (arith, one_more bs s is i)
 
     count_closed : (bs : List Block) (s : List ℕ) (lines : List Line) (j : Jump) → tidy false lines ≡ true
@@ -159,22 +171,28 @@ starts_append : (s : List ℕ) (xs ys : List Block) → Starts s xs → Starts s
 starts_append s [] ys h = absurd h
 starts_append s (x ∷ xs) ys h = h
 
-starts_stay : (s : List ℕ) (bs : List Block) (t : List ℕ) (is : List Inst) (b : Bool) (lines : List Line) → Starts s bs → Starts s (add_all (draft bs t is b) lines).blocks
+starts_stay : (s : List ℕ) (bs : List Block) (t : List ℕ) (is : List Inst) (b : Bool) (lines : List Line) → Starts s bs →
+    Starts s (add_all (draft bs t is b) lines).blocks
 starts_stay s bs t is b [] h = h
 starts_stay s bs t is b (Do i ∷ lines) h = starts_stay s bs t (is ++ i ∷ []) b lines h
-starts_stay s bs t is b (End j ∷ lines) h = starts_stay s (bs ++ block t is j ∷ []) t [] false lines (starts_append s bs (block t is j ∷ []) h)
-starts_stay s bs t is true (Label n ∷ lines) h = starts_stay s (bs ++ block t is Fall ∷ []) (label_name n) [] true lines (starts_append s bs (block t is Fall ∷ []) h)
+starts_stay s bs t is b (End j ∷ lines) h =
+    starts_stay s (bs ++ block t is j ∷ []) t [] false lines (starts_append s bs (block t is j ∷ []) h)
+starts_stay s bs t is true (Label n ∷ lines) h =
+    starts_stay s (bs ++ block t is Fall ∷ []) (label_name n) [] true lines (starts_append s bs (block t is Fall ∷ []) h)
 starts_stay s bs t is false (Label n ∷ lines) h = starts_stay s bs (label_name n) [] true lines h
 
-pub starts_open : (s : List ℕ) (is : List Inst) (lines : List Line) (j : Jump) → Starts s (add_all (draft [] s is true) (lines ++ End j ∷ [])).blocks
+pub starts_open : (s : List ℕ) (is : List Inst) (lines : List Line) (j : Jump) →
+    Starts s (add_all (draft [] s is true) (lines ++ End j ∷ [])).blocks
 starts_open s is [] j = refl
 starts_open s is (Do i ∷ lines) j = starts_open s (is ++ i ∷ []) lines j
 starts_open s is (End i ∷ lines) j = starts_stay s (block s is i ∷ []) s [] false (lines ++ End j ∷ []) refl
 starts_open s is (Label n ∷ lines) j = starts_stay s (block s is Fall ∷ []) (label_name n) [] true (lines ++ End j ∷ []) refl
 
-pub no_target : (s : List ℕ) (bs : List Block) → Starts s bs → list_all (λ (b : Block). targets_pass (λ l. not (bytes_eq l s)) b.jump) bs ≡ true → start_is_no_target bs ≡ true
+pub no_target : (s : List ℕ) (bs : List Block) → Starts s bs → list_all (λ (b : Block). targets_pass (λ l. not (bytes_eq l s)) b.jump) bs ≡
+    true → start_is_no_target bs ≡ true
 no_target s [] h k = refl
-no_target s (first ∷ rest) h k = subst (λ (t : List ℕ). list_all (λ (b : Block). targets_pass (λ l. not (bytes_eq l t)) b.jump) (first ∷ rest) ≡ true) (sym h) k
+no_target s (first ∷ rest) h k =
+    subst (λ (t : List ℕ). list_all (λ (b : Block). targets_pass (λ l. not (bytes_eq l t)) b.jump) (first ∷ rest) ≡ true) (sym h) k
 
 ends_in : (bs : List Block) (b : Block) → ends (bs ++ b ∷ []) ≡ not (falls b.jump)
 ends_in [] b = refl

@@ -51,24 +51,51 @@ count_length q [] = omega arith
 count_length q (x ∷ xs) = omega (arith, count_cons q x xs, weight_one (q x), count_length q xs)
 
 module _ (x : List ℕ) (xs : List (List ℕ)) where
-  count_more : (ys : List (List ℕ)) → count_by (λ (y : List ℕ). is_among y xs) ys ≤ count_by (λ (y : List ℕ). bytes_eq y x || is_among y xs) ys
+  count_more : (ys : List (List ℕ)) → count_by (λ (y : List ℕ). is_among y xs) ys ≤ count_by (λ (y : List ℕ). bytes_eq y x || is_among y xs)
+      ys
   count_more [] = omega arith
-  count_more (y ∷ ys) = omega (arith, count_cons (λ (z : List ℕ). is_among z xs) y ys, count_cons (λ (z : List ℕ). bytes_eq z x || is_among z xs) y ys, weight_more (bytes_eq y x) (is_among y xs), count_more ys)
+  count_more (y ∷ ys) = omega (
+    arith,
+    count_cons (λ (z : List ℕ). is_among z xs) y ys,
+    count_cons
+        (λ (z : List ℕ). bytes_eq z x || is_among z xs) y ys,
+    weight_more (bytes_eq y x) (is_among y xs),
+    count_more ys,
+  )
 
-  one_more : (ys : List (List ℕ)) → is_among x xs ≡ false → is_among x ys ≡ true → 1 + count_by (λ (y : List ℕ). is_among y xs) ys ≤ count_by (λ (y : List ℕ). bytes_eq y x || is_among y xs) ys
+  one_more : (ys : List (List ℕ)) → is_among x xs ≡ false → is_among x ys ≡ true →
+      1 + count_by (λ (y : List ℕ). is_among y xs) ys ≤ count_by (λ (y : List ℕ). bytes_eq y x || is_among y xs) ys
   one_more [] h k = cc
   one_more (y ∷ ys) h k = pick (bytes_eq x y) refl k (λ k'. one_more ys h k')
     where
-      pick : (b : Bool) → bytes_eq x y ≡ b → (b || is_among x ys) ≡ true → (is_among x ys ≡ true → 1 + count_by (λ (z : List ℕ). is_among z xs) ys ≤ count_by (λ (z : List ℕ). bytes_eq z x || is_among z xs) ys)
+      pick : (b : Bool) → bytes_eq x y ≡ b → (b || is_among x ys) ≡ true →
+          (is_among x ys ≡ true → 1 + count_by (λ (z : List ℕ). is_among z xs) ys ≤ count_by (λ (z : List ℕ). bytes_eq z x || is_among z xs)
+          ys)
           → 1 + count_by (λ (z : List ℕ). is_among z xs) (y ∷ ys) ≤ count_by (λ (z : List ℕ). bytes_eq z x || is_among z xs) (y ∷ ys)
       pick true e k' on =
           let same : x ≡ y = (bytes_eq-Decides x y).0 e in
           let none' : weight (is_among y xs) ≡ 0 = ap (λ (z : List ℕ). weight (is_among z xs)) (sym same) ∙ ap weight h in
-          let own : weight (bytes_eq y x || is_among y xs) ≡ 1 = ap (λ (z : List ℕ). weight (bytes_eq z x || is_among z xs)) (sym same) ∙ ap (λ (b : Bool). weight (b || is_among x xs)) (bytes_same x) in
-          omega (arith, count_cons (λ (z : List ℕ). is_among z xs) y ys, count_cons (λ (z : List ℕ). bytes_eq z x || is_among z xs) y ys, none', own, count_more ys)
-      pick false e k' on = omega (arith, count_cons (λ (z : List ℕ). is_among z xs) y ys, count_cons (λ (z : List ℕ). bytes_eq z x || is_among z xs) y ys, weight_more (bytes_eq y x) (is_among y xs), on k')
+          let own : weight (bytes_eq y x || is_among y xs) ≡ 1 = ap (λ (z : List ℕ). weight (bytes_eq z x || is_among z xs)) (sym same) ∙ ap
+          (λ (b : Bool). weight (b || is_among x xs)) (bytes_same x) in
+          omega (
+            arith,
+            count_cons (λ (z : List ℕ). is_among z xs) y ys,
+            count_cons (λ (z : List ℕ). bytes_eq z x || is_among z xs) y ys,
+            none',
+            own,
+            count_more ys,
+          )
+      pick false e k' on = omega (
+        arith,
+        count_cons (λ (z : List ℕ). is_among z xs) y ys,
+        count_cons
+            (λ (z : List ℕ). bytes_eq z x || is_among z xs) y ys,
+        weight_more (bytes_eq y x) (is_among y xs),
+        on k',
+      )
 
-distinct_count : (xs ys : List (List ℕ)) → list_all (λ (x : List ℕ). is_among x ys) xs ≡ true → length (distinct xs) ≤ count_by (λ (y : List ℕ). is_among y xs) ys
+distinct_count : (xs ys : List (List ℕ)) → list_all (λ (x : List ℕ). is_among x ys) xs ≡ true →
+    length (distinct xs) ≤ count_by (λ (y : List ℕ). is_among y xs) ys
 distinct_count [] ys h = omega arith
 distinct_count (x ∷ xs) ys h =
     let k = and_parts (is_among x ys) (list_all (λ (z : List ℕ). is_among z ys) xs) h in
@@ -103,15 +130,18 @@ unfolding numbered
 numbered_among name at zero t l u = absurd (omega arith)
 numbered_among name at (suc count) t l u = pick (at == t) refl (λ k. numbered_among name (suc at) count t k (omega arith))
   where
-    pick : (b : Bool) → (at == t) ≡ b → (suc at ≤ t → is_among (name t) (numbered name (suc at) count) ≡ true) → (bytes_eq (name t) (name at) || is_among (name t) (numbered name (suc at) count)) ≡ true
-    pick true e on = let same : at ≡ t = grind (arith, nat_tests) in left_of (bytes_eq (name t) (name at)) _ (ap (λ (z : ℕ). bytes_eq (name t) (name z)) same ∙ bytes_same (name t))
+    pick : (b : Bool) → (at == t) ≡ b → (suc at ≤ t → is_among (name t) (numbered name (suc at) count) ≡ true) →
+        (bytes_eq (name t) (name at) || is_among (name t) (numbered name (suc at) count)) ≡ true
+    pick true e on = let same : at ≡ t = grind (arith, nat_tests) in left_of (bytes_eq (name t) (name at)) _
+        (ap (λ (z : ℕ). bytes_eq (name t) (name z)) same ∙ bytes_same (name t))
     pick false e on = or_true (bytes_eq (name t) (name at)) _ (on (grind (arith, nat_tests)))
 
 among_left : (x : List ℕ) (xs ys : List (List ℕ)) → is_among x xs ≡ true → is_among x (xs ++ ys) ≡ true
 among_left x [] ys h = cc
 among_left x (z ∷ xs) ys h = pick (bytes_eq x z) h (among_left x xs ys)
   where
-    pick : (b : Bool) → (b || is_among x xs) ≡ true → (is_among x xs ≡ true → is_among x (xs ++ ys) ≡ true) → (b || is_among x (xs ++ ys)) ≡ true
+    pick : (b : Bool) → (b || is_among x xs) ≡ true → (is_among x xs ≡ true → is_among x (xs ++ ys) ≡ true) →
+        (b || is_among x (xs ++ ys)) ≡ true
     pick true k on = refl
     pick false k on = on k
 
@@ -121,11 +151,14 @@ among_right x (z ∷ xs) ys h = or_true (bytes_eq x z) _ (among_right x xs ys h)
 
 -- ---- the names that a function assigns
 
-all_flat : {A : Type 0} (q : List ℕ → Bool) (g : A → List (List ℕ)) (xs : List A) → list_all (λ (x : A). list_all q (g x)) xs ≡ true → list_all q (flat_map g xs) ≡ true
+all_flat : {A : Type 0} (q : List ℕ → Bool) (g : A → List (List ℕ)) (xs : List A) → list_all (λ (x : A). list_all q (g x)) xs ≡ true →
+    list_all q (flat_map g xs) ≡ true
 all_flat q g [] h = refl
-all_flat q g (x ∷ xs) h = let k = and_parts (list_all q (g x)) (list_all (λ y. list_all q (g y)) xs) h in all_append q (g x) (flat_map g xs) k.0 (all_flat q g xs k.1)
+all_flat q g (x ∷ xs) h = let k = and_parts (list_all q (g x)) (list_all (λ y. list_all q (g y)) xs) h in all_append q (g x) (flat_map g xs)
+    k.0 (all_flat q g xs k.1)
 
-module _ (globals : List Data) (f : FlatFn) (right : is_right (length globals) f 0 (code_of f.body) ≡ true) (few_params : length f.params ≤ f.temps) where
+module _ (globals : List Data) (f : FlatFn) (right : is_right (length globals) f 0 (code_of f.body) ≡ true)
+    (few_params : length f.params ≤ f.temps) where
   abbrev known : List (List ℕ)
   known = numbered temp_name 0 f.temps ++ numbered address_name 0 (addresses_in (code_of f.body))
 
@@ -139,10 +172,12 @@ module _ (globals : List Data) (f : FlatFn) (right : is_right (length globals) f
   good = line_passes (λ n. true) good_inst (λ j. true)
 
   temp_known : (t : ℕ) → t < f.temps → is_known (temp_name t) ≡ true
-  temp_known t h = among_left (temp_name t) (numbered temp_name 0 f.temps) _ (numbered_among temp_name 0 f.temps t (omega arith) (omega arith))
+  temp_known t h =
+      among_left (temp_name t) (numbered temp_name 0 f.temps) _ (numbered_among temp_name 0 f.temps t (omega arith) (omega arith))
 
   address_known : (k : ℕ) → k < addresses_in (code_of f.body) → is_known (address_name k) ≡ true
-  address_known k h = among_right (address_name k) (numbered temp_name 0 f.temps) _ (numbered_among address_name 0 (addresses_in (code_of f.body)) k (omega arith) (omega arith))
+  address_known k h = among_right (address_name k) (numbered temp_name 0 f.temps) _
+      (numbered_among address_name 0 (addresses_in (code_of f.body)) k (omega arith) (omega arith))
 
   target_known : (t : ℕ) (class : Class) → is_target f t class ≡ true → is_known (temp_name t) ≡ true
   target_known t class h =
@@ -150,11 +185,14 @@ module _ (globals : List Data) (f : FlatFn) (right : is_right (length globals) f
       let lt : t < f.temps = grind (arith, nat_tests) in
       temp_known t lt
 
-  call_known : (temp : Option ℕ) (args : List Value) (g : Option RuntimeFunction) (is : List IlArg) (name : List ℕ) → is_call (length globals) f temp args g ≡ true → good_inst (inst.Call (result_param temp (call_class g)) name is) ≡ true
+  call_known : (temp : Option ℕ) (args : List Value) (g : Option RuntimeFunction) (is : List IlArg) (name : List ℕ) →
+      is_call (length globals) f temp args g ≡ true → good_inst (inst.Call (result_param temp (call_class g)) name is) ≡ true
   call_known temp args None is name h = cc
-  call_known temp args (Some g) is name h = taken temp (runtime_result g) (and_parts (are_args (length globals) f (runtime_params g) args) (takes_result f temp (runtime_result g)) h).1
+  call_known temp args (Some g) is name h = taken temp (runtime_result g)
+      (and_parts (are_args (length globals) f (runtime_params g) args) (takes_result f temp (runtime_result g)) h).1
     where
-      taken : (temp : Option ℕ) (class : Option Class) → takes_result f temp class ≡ true → good_inst (inst.Call (result_param temp class) name is) ≡ true
+      taken : (temp : Option ℕ) (class : Option Class) → takes_result f temp class ≡ true →
+          good_inst (inst.Call (result_param temp class) name is) ≡ true
       taken None class h = refl
       taken (Some t) None h = cc
       taken (Some t) (Some class) h = both_true _ true (target_known t class h) refl
@@ -173,12 +211,16 @@ module _ (globals : List Data) (f : FlatFn) (right : is_right (length globals) f
 
   blocks_known : list_all (λ (b : Block). list_all is_known (block_assigned b)) (blocks_of globals f) ≡ true
   blocks_known =
-      blocks_pass (λ n. true) good_inst (λ j. true) refl (λ (b : Block). list_all is_known (block_assigned b)) (λ s n is j e l h k. all_flat is_known assigned is h)
-      [] (label_name 0) 0 [] true (code_lines globals (code_of f.body) 1 0 [] ++ End (jump.Ret (end_value f.result)) ∷ []) refl refl refl refl
+      blocks_pass (λ n. true) good_inst (λ j. true) refl (λ (b : Block). list_all is_known (block_assigned b))
+      (λ s n is j e l h k. all_flat is_known assigned is h)
+      [] (label_name 0) 0 [] true (code_lines globals (code_of f.body) 1 0 [] ++ End (jump.Ret (end_value f.result)) ∷ []) refl refl refl
+      refl
       (all_append good (code_lines globals (code_of f.body) 1 0 []) _
-      (code_good globals f good (suc (labels_in (code_of f.body))) (addresses_in (code_of f.body)) lines_known (code_of f.body) 0 1 0 [] right refl refl (omega arith) (omega arith) (omega arith)) refl)
+      (code_good globals f good (suc (labels_in (code_of f.body))) (addresses_in (code_of f.body)) lines_known (code_of f.body) 0 1 0 []
+      right refl refl (omega arith) (omega arith) (omega arith)) refl)
 
-  params_known : (at : ℕ) (cs : List Class) → at + length cs ≤ f.temps → list_all is_known (map (λ (p : IlParam). p.name) (params_of at cs)) ≡ true
+  params_known : (at : ℕ) (cs : List Class) → at + length cs ≤ f.temps → list_all is_known (map (λ (p : IlParam). p.name) (params_of at cs))
+      ≡ true
   params_known at [] h = refl
   params_known at (c ∷ cs) h = both_true _ _ (temp_known at (omega arith)) (params_known (suc at) cs (omega arith))
 
@@ -210,5 +252,14 @@ module _ (globals : List Data) (f : FlatFn) (right : is_right (length globals) f
 
   pub costs_no_more : call_cost (params_of 0 f.params) (blocks_of globals f) ≤ flat.call_cost f
   costs_no_more =
-      let names = all_append is_known (map (λ (p : IlParam). p.name) (params_of 0 f.params)) (flat_map block_assigned (blocks_of globals f)) (params_known 0 f.params (omega arith)) (all_flat is_known block_assigned (blocks_of globals f) blocks_known) in
-      omega (arith, distinct_length (all_assigned (params_of 0 f.params) (blocks_of globals f)) known names, length-append (numbered temp_name 0 f.temps) (numbered address_name 0 (addresses_in (code_of f.body))), numbered_length temp_name 0 f.temps, numbered_length address_name 0 (addresses_in (code_of f.body)), addresses_few (code_of f.body))
+      let names = all_append is_known (map (λ (p : IlParam). p.name) (params_of 0 f.params)) (flat_map block_assigned (blocks_of globals f))
+      (params_known 0 f.params (omega arith)) (all_flat is_known block_assigned (blocks_of globals f) blocks_known) in
+      omega (
+        arith,
+        distinct_length (all_assigned (params_of 0 f.params) (blocks_of globals f)) known names,
+        length-append
+            (numbered temp_name 0 f.temps) (numbered address_name 0 (addresses_in (code_of f.body))),
+        numbered_length temp_name 0 f.temps,
+        numbered_length address_name 0 (addresses_in (code_of f.body)),
+        addresses_few (code_of f.body),
+      )

@@ -30,9 +30,16 @@ line_calls name (Label n ∷ ls) = line_calls name ls
 line_calls name (Do i ∷ ls) = one_call name i + line_calls name ls
 line_calls name (End j ∷ ls) = line_calls name ls
 
-call_blocks : (name : List ℕ) (ls : List Line) → count_by (is_call_of name) (insts_of ls) + calls_of name (line_blocks ls) ≤ line_calls name ls
+call_blocks : (name : List ℕ) (ls : List Line) → count_by (is_call_of name) (insts_of ls) + calls_of name (line_blocks ls) ≤ line_calls name
+    ls
 call_blocks name [] = omega arith
-call_blocks name (Label n ∷ ls) = omega (arith, call_blocks name ls, sum_cons (λ (b : Block). count_by (is_call_of name) b.insts) (block (label_name n) (insts_of ls) (jump_of ls)) (line_blocks ls))
+call_blocks name (Label n ∷ ls) =
+    omega (
+      arith,
+      call_blocks name ls,
+      sum_cons (λ (b : Block). count_by (is_call_of name) b.insts)
+          (block (label_name n) (insts_of ls) (jump_of ls)) (line_blocks ls),
+    )
 call_blocks name (Do i ∷ ls) = omega (arith, call_blocks name ls, sum_cons (λ (x : Inst). one_call name x) i (insts_of ls))
 call_blocks name (End j ∷ ls) = omega (arith, call_blocks name ls)
 
@@ -58,11 +65,17 @@ module _ (globals : List Data) (name : List ℕ) where
 
   args_calls : (vs : List Value) (k : ℕ) → line_calls name (arg_lines globals vs k) ≡ 0
   args_calls [] k = refl
-  args_calls (v ∷ vs) k = omega (arith, calls_append name (address_lines globals v k) (arg_lines globals vs (k + addressed v)), address_calls v k, args_calls vs (k + addressed v))
+  args_calls (v ∷ vs) k = omega (
+    arith,
+    calls_append name (address_lines globals v k) (arg_lines globals vs (k + addressed v)),
+    address_calls v k,
+    args_calls vs (k + addressed v),
+  )
 
   return_calls : (value : Option Value) (n k : ℕ) → line_calls name (return_lines globals value n k) ≡ 0
   return_calls None n k = refl
-  return_calls (Some v) n k = omega (arith, calls_append name (address_lines globals v k) (End (jump.Ret (Some (operand globals v k))) ∷ Label n ∷ []), address_calls v k)
+  return_calls (Some v) n k = omega
+      (arith, calls_append name (address_lines globals v k) (End (jump.Ret (Some (operand globals v k))) ∷ Label n ∷ []), address_calls v k)
 
   counted : (b : Bool) → cond b 1 0 + 0 ≡ (if b then 1 else 0)
   counted true = refl
@@ -70,7 +83,8 @@ module _ (globals : List Data) (name : List ℕ) where
 
   mutual
     code_calls : (c : Code) (n k : ℕ) (es : List ℕ) → line_calls name (code_lines globals c n k es) ≤ calls_in name c
-    code_calls (Seq cs) n k es = omega (arith, calls_append name (each_lines globals cs (suc n) k (es ++ n ∷ [])) (Label n ∷ []), each_calls cs (suc n) k (es ++ n ∷ []))
+    code_calls (Seq cs) n k es = omega
+        (arith, calls_append name (each_lines globals cs (suc n) k (es ++ n ∷ [])) (Label n ∷ []), each_calls cs (suc n) k (es ++ n ∷ []))
     code_calls (Set t class o a b) n k es =
         let same : line_calls name (code_lines globals (Set t class o a b) n k es) ≡ 0 =
         behind_calls a k _ ∙ behind_calls b (k + addressed a) _ in
@@ -82,20 +96,46 @@ module _ (globals : List Data) (name : List ℕ) where
         let one = code_lines globals a (n + 3) (k + addressed v) es in
         let other = code_lines globals b (n + 3 + labels_in a) (k + addressed v + addresses_in a) es in
         let same : line_calls name (code_lines globals (If v a b) n k es) ≡ line_calls name one + (line_calls name other + 0) =
-        behind_calls v k _ ∙ calls_append name one _ ∙ ap (λ (x : ℕ). line_calls name one + x) (calls_append name other (Label (n + 2) ∷ [])) in
-        omega (arith, same, code_calls a (n + 3) (k + addressed v) es, code_calls b (n + 3 + labels_in a) (k + addressed v + addresses_in a) es)
-    code_calls (Loop c) n k es = omega (arith, calls_append name (code_lines globals c (n + 2) k (es ++ (n + 1) ∷ [])) (End (jump.Jmp (label_name n)) ∷ Label (n + 1) ∷ []), code_calls c (n + 2) k (es ++ (n + 1) ∷ []))
+        behind_calls v k _ ∙ calls_append name one _ ∙ ap (λ (x : ℕ). line_calls name one + x)
+        (calls_append name other (Label (n + 2) ∷ [])) in
+        omega (
+          arith,
+          same,
+          code_calls a (n + 3) (k + addressed v) es,
+          code_calls b (n + 3 + labels_in a) (k + addressed v + addresses_in a)
+              es,
+        )
+    code_calls (Loop c) n k es = omega (
+      arith,
+      calls_append name (code_lines globals c (n + 2) k (es ++ (n + 1) ∷ []))
+          (End (jump.Jmp (label_name n)) ∷ Label (n + 1) ∷ []),
+      code_calls c (n + 2) k (es ++ (n + 1) ∷ []),
+    )
     code_calls (Leave j) n k es = omega arith
     code_calls (Call temp target args) n k es =
-        let same : line_calls name (code_lines globals (Call temp target args) n k es) ≡ line_calls name (arg_lines globals args k) + (cond (bytes_eq target name) 1 0 + 0) = calls_append name (arg_lines globals args k) _ in
+        let same : line_calls name (code_lines globals (Call temp target args) n k es) ≡ line_calls name (arg_lines globals args k) +
+        (cond (bytes_eq target name) 1 0 + 0) = calls_append name (arg_lines globals args k) _ in
         omega (arith, same, args_calls args k, counted (bytes_eq target name))
     code_calls (Ret value) n k es = omega (arith, return_calls value n k)
 
     each_calls : (cs : Codes) (n k : ℕ) (es : List ℕ) → line_calls name (each_lines globals cs n k es) ≤ calls_in_all name cs
     each_calls none n k es = omega arith
-    each_calls (more c cs) n k es = omega (arith, calls_append name (code_lines globals c n k es) (each_lines globals cs (n + labels_in c) (k + addresses_in c) es), code_calls c n k es, each_calls cs (n + labels_in c) (k + addresses_in c) es)
+    each_calls (more c cs) n k es =
+        omega (
+          arith,
+          calls_append name (code_lines globals c n k es) (each_lines globals cs (n + labels_in c) (k + addresses_in c) es),
+          code_calls c n k es,
+          each_calls cs (n + labels_in c) (k + addresses_in c) es,
+        )
 
   pub calls_few : (f : FlatFn) → calls_of name (blocks_of globals f) ≤ calls_in name (code_of f.body)
   calls_few f =
       let last : List Line = End (jump.Ret (end_value f.result)) ∷ [] in
-      omega (arith, ap (calls_of name) (function_blocks globals f), call_blocks name (function_lines globals f), calls_append name (code_lines globals (code_of f.body) 1 0 []) last, code_calls (code_of f.body) 1 0 [])
+      omega (
+        arith,
+        ap (calls_of name) (function_blocks globals f),
+        call_blocks name (function_lines globals f),
+        calls_append name
+            (code_lines globals (code_of f.body) 1 0 []) last,
+        code_calls (code_of f.body) 1 0 [],
+      )

@@ -23,7 +23,8 @@ or_true false b h = h
 pub sum_cons : {A : Type 0} (f : A → ℕ) (x : A) (xs : List A) → sum_by f (x ∷ xs) ≡ f x + sum_by f xs
 sum_cons f x xs = sum_by-append f (x ∷ []) xs ∙ omega arith
 
-pub sum_map : {A B : Type 0} (q : B → ℕ) (f : A → B) (g : A → ℕ) → ((x : A) → q (f x) ≡ g x) → (xs : List A) → sum_by q (map f xs) ≡ sum_by g xs
+pub sum_map : {A B : Type 0} (q : B → ℕ) (f : A → B) (g : A → ℕ) → ((x : A) → q (f x) ≡ g x) → (xs : List A) →
+    sum_by q (map f xs) ≡ sum_by g xs
 sum_map q f g h [] = refl
 sum_map q f g h (x ∷ xs) = sum_cons q (f x) (map f xs) ∙ omega (arith, h x, sum_map q f g h xs) ∙ sym (sum_cons g x xs)
 
@@ -63,7 +64,8 @@ all_same f g h [] = refl
 all_same f g h (x ∷ xs) = let a = h x in let b = all_same f g h xs in rw (a, b) refl
 
 -- what passes one test passes another
-pub all_more : {A : Type 0} (f g : A → Bool) → ((x : A) → f x ≡ true → g x ≡ true) → (xs : List A) → list_all f xs ≡ true → list_all g xs ≡ true
+pub all_more : {A : Type 0} (f g : A → Bool) → ((x : A) → f x ≡ true → g x ≡ true) → (xs : List A) → list_all f xs ≡ true →
+    list_all g xs ≡ true
 all_more f g h [] e = refl
 all_more f g h (x ∷ xs) e =
     let p = and_parts (f x) (list_all f xs) e in

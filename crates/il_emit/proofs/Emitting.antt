@@ -31,7 +31,8 @@ take_back xs x =
     rw e (take-append_seam xs (x ∷ []))
 
 -- lines behind lines
-pub then_emits : (a b c : Emitter) (xs ys : List Line) (l m k j : ℕ) (es fs : List ℕ) → Emits a b xs l k es → Emits b c ys m j fs → Emits a c (xs ++ ys) (l + m) (k + j) fs
+pub then_emits : (a b c : Emitter) (xs ys : List Line) (l m k j : ℕ) (es fs : List ℕ) → Emits a b xs l k es → Emits b c ys m j fs →
+    Emits a c (xs ++ ys) (l + m) (k + j) fs
 then_emits a b c xs ys l m k j es fs p q = record {
   draft = q.draft ∙ ap (λ (d : Draft). add_all d ys) p.draft ∙ sym (add_all_append a.draft xs ys);
   labels = omega (arith, p.labels, q.labels);
@@ -47,10 +48,13 @@ pub seq_emits : (globals : List Data) (cs : Codes) (n : ℕ) (a b c d : Emitter)
 seq_emits globals cs n a b c d same p q s =
     let l : b.labels ≡ suc a.labels = omega (arith, p.labels) in
     let k : b.addresses ≡ a.addresses = omega (arith, p.addresses) in
-    let body : c.draft ≡ add_all a.draft (each_lines globals cs (suc a.labels) a.addresses (a.exits.items ++ a.labels ∷ [])) = rw (p.draft, l, k, p.exits) at q.draft in
+    let body : c.draft ≡ add_all a.draft (each_lines globals cs (suc a.labels) a.addresses (a.exits.items ++ a.labels ∷ [])) =
+    rw (p.draft, l, k, p.exits) at q.draft in
     let behind : c.exits.items ≡ a.exits.items ++ a.labels ∷ [] = q.exits ∙ p.exits in
     record {
-      draft = s.draft ∙ ap (λ (m : ℕ). add_all c.draft (Label m ∷ [])) same ∙ ap (λ (x : Draft). add_all x (Label a.labels ∷ [])) body ∙ sym (add_all_append a.draft (each_lines globals cs (suc a.labels) a.addresses (a.exits.items ++ a.labels ∷ [])) (Label a.labels ∷ []));
+      draft = s.draft ∙ ap (λ (m : ℕ). add_all c.draft (Label m ∷ [])) same ∙ ap (λ (x : Draft). add_all x (Label a.labels ∷ [])) body ∙ sym
+          (add_all_append a.draft (each_lines globals cs (suc a.labels) a.addresses (a.exits.items ++ a.labels ∷ []))
+          (Label a.labels ∷ []));
       labels = omega (arith, p.labels, q.labels, s.labels);
       addresses = omega (arith, p.addresses, q.addresses, s.addresses);
       exits = s.exits ∙ ap (λ (xs : List ℕ). take (length xs - 1) xs) behind ∙ take_back a.exits.items a.labels;
@@ -60,16 +64,21 @@ pub loop_emits : (globals : List Data) (body : Code) (n : ℕ) (a b c d : Emitte
     → Emits a b (End (jump.Jmp (label_name a.labels)) ∷ Label a.labels ∷ []) 2 0 (a.exits.items ++ (a.labels + 1) ∷ [])
     → Emits b c (code_lines globals body b.labels b.addresses b.exits.items) (labels_in body) (addresses_in body) b.exits.items
     → Emits c d (End (jump.Jmp (label_name n)) ∷ Label (n + 1) ∷ []) 0 0 (take (length c.exits.items - 1) c.exits.items)
-    → Emits a d (code_lines globals (Loop body) a.labels a.addresses a.exits.items) (labels_in (Loop body)) (addresses_in (Loop body)) a.exits.items
+    → Emits a d (code_lines globals (Loop body) a.labels a.addresses a.exits.items) (labels_in (Loop body)) (addresses_in (Loop body))
+    a.exits.items
 loop_emits globals body n a b c d same p q s =
     let k : b.addresses ≡ a.addresses = omega (arith, p.addresses) in
-    let inner : c.draft ≡ add_all (add_all a.draft (End (jump.Jmp (label_name a.labels)) ∷ Label a.labels ∷ [])) (code_lines globals body (a.labels + 2) a.addresses (a.exits.items ++ (a.labels + 1) ∷ [])) = rw (p.draft, p.labels, k, p.exits) at q.draft in
+    let inner : c.draft ≡ add_all (add_all a.draft (End (jump.Jmp (label_name a.labels)) ∷ Label a.labels ∷ []))
+    (code_lines globals body (a.labels + 2) a.addresses (a.exits.items ++ (a.labels + 1) ∷ [])) =
+    rw (p.draft, p.labels, k, p.exits) at q.draft in
     let behind : c.exits.items ≡ a.exits.items ++ (a.labels + 1) ∷ [] = q.exits ∙ p.exits in
     record {
       draft =
           s.draft ∙ ap (λ (m : ℕ). add_all c.draft (End (jump.Jmp (label_name m)) ∷ Label (m + 1) ∷ [])) same
           ∙ ap (λ (x : Draft). add_all x (End (jump.Jmp (label_name a.labels)) ∷ Label (a.labels + 1) ∷ [])) inner
-          ∙ sym (add_all_append (add_all a.draft (End (jump.Jmp (label_name a.labels)) ∷ Label a.labels ∷ [])) (code_lines globals body (a.labels + 2) a.addresses (a.exits.items ++ (a.labels + 1) ∷ [])) (End (jump.Jmp (label_name a.labels)) ∷ Label (a.labels + 1) ∷ []));
+          ∙ sym (add_all_append (add_all a.draft (End (jump.Jmp (label_name a.labels)) ∷ Label a.labels ∷ []))
+          (code_lines globals body (a.labels + 2) a.addresses (a.exits.items ++ (a.labels + 1) ∷ []))
+          (End (jump.Jmp (label_name a.labels)) ∷ Label (a.labels + 1) ∷ []));
       labels = omega (arith, p.labels, q.labels, s.labels);
       addresses = omega (arith, p.addresses, q.addresses, s.addresses);
       exits = s.exits ∙ ap (λ (xs : List ℕ). take (length xs - 1) xs) behind ∙ take_back a.exits.items (a.labels + 1);
@@ -81,14 +90,19 @@ pub if_emits : (globals : List Data) (cond : Value) (one other : Code) (n : ℕ)
     → Emits c d (End (jump.Jmp (label_name (n + 2))) ∷ Label (n + 1) ∷ []) 0 0 c.exits.items
     → Emits d e (code_lines globals other d.labels d.addresses d.exits.items) (labels_in other) (addresses_in other) d.exits.items
     → Emits e f (Label (n + 2) ∷ []) 0 0 e.exits.items
-    → Emits a f (code_lines globals (If cond one other) a.labels a.addresses a.exits.items) (labels_in (If cond one other)) (addresses_in (If cond one other)) a.exits.items
+    → Emits a f (code_lines globals (If cond one other) a.labels a.addresses a.exits.items) (labels_in (If cond one other))
+    (addresses_in (If cond one other)) a.exits.items
 if_emits globals cond one other n a b c d e f same p q r s t =
     let l : d.labels ≡ a.labels + 3 + labels_in one = omega (arith, p.labels, q.labels, r.labels) in
     let k : d.addresses ≡ a.addresses + addressed cond + addresses_in one = omega (arith, p.addresses, q.addresses, r.addresses) in
     let es : d.exits.items ≡ a.exits.items = r.exits ∙ q.exits ∙ p.exits in
-    let first : c.draft ≡ add_all (add_all a.draft (condition_lines globals cond a.labels a.addresses)) (code_lines globals one (a.labels + 3) (a.addresses + addressed cond) a.exits.items) = rw (p.draft, p.labels, p.addresses, p.exits) at q.draft in
+    let first : c.draft ≡ add_all (add_all a.draft (condition_lines globals cond a.labels a.addresses))
+    (code_lines globals one (a.labels + 3) (a.addresses + addressed cond) a.exits.items) =
+    rw (p.draft, p.labels, p.addresses, p.exits) at q.draft in
     let middle : d.draft ≡ add_all c.draft (End (jump.Jmp (label_name (a.labels + 2))) ∷ Label (a.labels + 1) ∷ []) = rw same at r.draft in
-    let second : e.draft ≡ add_all d.draft (code_lines globals other (a.labels + 3 + labels_in one) (a.addresses + addressed cond + addresses_in one) a.exits.items) = rw (l, k, es) at s.draft in
+    let second : e.draft ≡ add_all d.draft
+    (code_lines globals other (a.labels + 3 + labels_in one) (a.addresses + addressed cond + addresses_in one) a.exits.items) =
+    rw (l, k, es) at s.draft in
     let last : f.draft ≡ add_all e.draft (Label (a.labels + 2) ∷ []) = rw same at t.draft in
     record {
       draft = rw (last, second, middle, first) (simp add_all_append);
@@ -99,7 +113,8 @@ if_emits globals cond one other n a b c d e f same p q r s t =
 
 -- what is left to be emitted, of the statements from one on
 pub record Left (globals : List Data) (cs : List Code) (i : ℕ) (a b : Emitter) : Type 0 where
-  pub draft : add_all a.draft (each_lines globals (codes_of (drop i cs)) a.labels a.addresses a.exits.items) ≡ add_all b.draft (each_lines globals (codes_of (drop (i + 1) cs)) b.labels b.addresses b.exits.items)
+  pub draft : add_all a.draft (each_lines globals (codes_of (drop i cs)) a.labels a.addresses a.exits.items) ≡ add_all b.draft
+      (each_lines globals (codes_of (drop (i + 1) cs)) b.labels b.addresses b.exits.items)
   pub labels : a.labels + labels_in_all (codes_of (drop i cs)) ≡ b.labels + labels_in_all (codes_of (drop (i + 1) cs))
   pub addresses : a.addresses + addresses_in_all (codes_of (drop i cs)) ≡ b.addresses + addresses_in_all (codes_of (drop (i + 1) cs))
   pub exits : b.exits.items ≡ a.exits.items
@@ -111,16 +126,20 @@ kid_emits globals cs i x a b h p =
     let n : i + 1 ≡ suc i = omega arith in
     let d = drop_kid cs i x h in
     record {
-      draft = rw (n, d, p.draft, p.labels, p.addresses, p.exits) (add_all_append a.draft (code_lines globals x a.labels a.addresses a.exits.items) (each_lines globals (codes_of (drop (suc i) cs)) (a.labels + labels_in x) (a.addresses + addresses_in x) a.exits.items));
+      draft = rw (n, d, p.draft, p.labels, p.addresses, p.exits)
+          (add_all_append a.draft (code_lines globals x a.labels a.addresses a.exits.items)
+          (each_lines globals (codes_of (drop (suc i) cs)) (a.labels + labels_in x) (a.addresses + addresses_in x) a.exits.items));
       labels = rw (n, d) (omega (arith, p.labels));
       addresses = rw (n, d) (omega (arith, p.addresses));
       exits = p.exits;
     }
 
 -- the blocks of a function, which begins with no line
-pub function_emits : (globals : List Data) (f : FlatFn) (a b c d : Emitter) → a.draft ≡ empty_draft → a.labels ≡ 1 → a.addresses ≡ 0 → a.exits.items ≡ []
+pub function_emits : (globals : List Data) (f : FlatFn) (a b c d : Emitter) → a.draft ≡ empty_draft → a.labels ≡ 1 → a.addresses ≡ 0 →
+    a.exits.items ≡ []
     → Emits a b (Label 0 ∷ []) 0 0 a.exits.items
-    → Emits b c (code_lines globals (code_of f.body) b.labels b.addresses b.exits.items) (labels_in (code_of f.body)) (addresses_in (code_of f.body)) b.exits.items
+    → Emits b c (code_lines globals (code_of f.body) b.labels b.addresses b.exits.items) (labels_in (code_of f.body))
+    (addresses_in (code_of f.body)) b.exits.items
     → Emits c d (End (jump.Ret (end_value f.result)) ∷ []) 0 0 c.exits.items
     → d.draft.blocks ≡ blocks_of globals f
 function_emits globals f a b c d da la ka ea p q r =
@@ -128,20 +147,26 @@ function_emits globals f a b c d da la ka ea p q r =
     let k : b.addresses ≡ 0 = omega (arith, p.addresses, ka) in
     let es : b.exits.items ≡ [] = p.exits ∙ ea in
     let start : b.draft ≡ add_all empty_draft (Label 0 ∷ []) = rw da at p.draft in
-    let body : c.draft ≡ add_all (add_all empty_draft (Label 0 ∷ [])) (code_lines globals (code_of f.body) 1 0 []) = rw (start, l, k, es) at q.draft in
-    ap (λ (x : Draft). x.blocks) (r.draft ∙ ap (λ (x : Draft). add_all x (End (jump.Ret (end_value f.result)) ∷ [])) body ∙ sym (add_all_append (add_all empty_draft (Label 0 ∷ [])) (code_lines globals (code_of f.body) 1 0 []) (End (jump.Ret (end_value f.result)) ∷ [])))
+    let body : c.draft ≡ add_all (add_all empty_draft (Label 0 ∷ [])) (code_lines globals (code_of f.body) 1 0 []) =
+    rw (start, l, k, es) at q.draft in
+    ap (λ (x : Draft). x.blocks) (r.draft ∙ ap (λ (x : Draft). add_all x (End (jump.Ret (end_value f.result)) ∷ [])) body ∙ sym
+    (add_all_append (add_all empty_draft (Label 0 ∷ [])) (code_lines globals (code_of f.body) 1 0 [])
+    (End (jump.Ret (end_value f.result)) ∷ [])))
 
-pub call_emits : (globals : List Data) (args : List Value) (ps qs : List Class) (xs : List IlArg) (r : Option IlParam) (name : List ℕ) (i : Inst) (a b c : Emitter)
+pub call_emits : (globals : List Data) (args : List Value) (ps qs : List Class) (xs : List IlArg) (r : Option IlParam) (name : List ℕ)
+    (i : Inst) (a b c : Emitter)
     → Emits a b (arg_lines globals args a.addresses) 0 (all_addressed args) a.exits.items
     → xs ≡ args_of globals ps args a.addresses → ps ≡ qs → i ≡ Call r name xs
     → Emits b c (Do i ∷ []) 0 0 b.exits.items
-    → Emits a c (arg_lines globals args a.addresses ++ Do (Call r name (args_of globals qs args a.addresses)) ∷ []) 0 (all_addressed args) a.exits.items
+    → Emits a c (arg_lines globals args a.addresses ++ Do (Call r name (args_of globals qs args a.addresses)) ∷ []) 0 (all_addressed args)
+    a.exits.items
 call_emits globals args ps qs xs r name i a b c p v e f q =
     let x : xs ≡ args_of globals qs args a.addresses = v ∙ ap (λ (cs : List Class). args_of globals cs args a.addresses) e in
     let y : i ≡ Call r name (args_of globals qs args a.addresses) = f ∙ ap (λ (zs : List IlArg). Call r name zs) x in
     let last : c.draft ≡ add_all b.draft (Do (Call r name (args_of globals qs args a.addresses)) ∷ []) = rw y at q.draft in
     record {
-      draft = rw (last, p.draft) (sym (add_all_append a.draft (arg_lines globals args a.addresses) (Do (Call r name (args_of globals qs args a.addresses)) ∷ [])));
+      draft = rw (last, p.draft) (sym
+          (add_all_append a.draft (arg_lines globals args a.addresses) (Do (Call r name (args_of globals qs args a.addresses)) ∷ [])));
       labels = omega (arith, p.labels, q.labels);
       addresses = omega (arith, p.addresses, q.addresses);
       exits = q.exits ∙ p.exits;

@@ -67,7 +67,8 @@ and_false : (b : Bool) → not (b && false) ≡ true
 and_false true = refl
 and_false false = refl
 
-no_word_lines : (globals : List Data) (f : FlatFn) (k : ℕ) (most_labels most_addresses : ℕ) → LinesPass globals f (no_word_line k) most_labels most_addresses
+no_word_lines : (globals : List Data) (f : FlatFn) (k : ℕ) (most_labels most_addresses : ℕ) →
+    LinesPass globals f (no_word_line k) most_labels most_addresses
 no_word_lines globals f k most_labels most_addresses = record {
   label = λ n h. refl;
   goes = λ n l u. refl;
@@ -79,7 +80,8 @@ no_word_lines globals f k most_labels most_addresses = record {
   address = λ i offset j h b l. and_false (bytes_eq (address_name j) (address_name k));
 }
 
-none_any : (q : Inst → Bool) (lines : List Line) → list_all (line_passes (λ n. true) (λ i. not (q i)) (λ j. true)) lines ≡ true → lines_any q lines ≡ false
+none_any : (q : Inst → Bool) (lines : List Line) → list_all (line_passes (λ n. true) (λ i. not (q i)) (λ j. true)) lines ≡ true →
+    lines_any q lines ≡ false
 none_any q [] h = refl
 none_any q (Label n ∷ lines) h = none_any q lines h
 none_any q (End j ∷ lines) h = none_any q lines h
@@ -103,15 +105,19 @@ params_spelled : (at : ℕ) (cs : List Class) → at + length cs ≤ 2 ^ 64 → 
 params_spelled at [] h = refl
 params_spelled at (c ∷ cs) h = both_true _ _ (temp_identifier at (omega arith)) (params_spelled (suc at) cs (omega arith))
 
-params_count : (t at : ℕ) (cs : List Class) → t < 2 ^ 64 → at + length cs ≤ 2 ^ 64 → how_many (λ (p : IlParam). p.name) (temp_name t) (params_of at cs) ≡ within t at (length cs)
+params_count : (t at : ℕ) (cs : List Class) → t < 2 ^ 64 → at + length cs ≤ 2 ^ 64 →
+    how_many (λ (p : IlParam). p.name) (temp_name t) (params_of at cs) ≡ within t at (length cs)
 params_count t at [] s h = refl
 params_count t at (c ∷ cs) s h =
     sum_cons (λ (p : IlParam). cond (bytes_eq p.name (temp_name t)) 1 0) (record { name = temp_name at; class = c }) (params_of (suc at) cs)
     ∙ omega (arith, ap weight (temp_eq at t (omega arith) s), params_count t (suc at) cs s (omega arith))
 
-params_each : (test : IlParam → Bool) (at : ℕ) (cs : List Class) → ((t : ℕ) (c : Class) → at ≤ t → t < at + length cs → test (record { name = temp_name t; class = c }) ≡ true) → list_all test (params_of at cs) ≡ true
+params_each : (test : IlParam → Bool) (at : ℕ) (cs : List Class) →
+    ((t : ℕ) (c : Class) → at ≤ t → t < at + length cs → test (record { name = temp_name t; class = c }) ≡ true) →
+    list_all test (params_of at cs) ≡ true
 params_each test at [] h = refl
-params_each test at (c ∷ cs) h = both_true _ _ (h at c (omega arith) (omega arith)) (params_each test (suc at) cs (λ t d l u. h t d (omega arith) (omega arith)))
+params_each test at (c ∷ cs) h =
+    both_true _ _ (h at c (omega arith) (omega arith)) (params_each test (suc at) cs (λ t d l u. h t d (omega arith) (omega arith)))
 
 -- ---- one function
 
@@ -132,7 +138,8 @@ record Parts (globals : ℕ) (f : FlatFn) : Type 0 where
   one_class : params_have_one_class f 0 f.params ≡ true
   code : is_right globals f 0 (code_of f.body) ≡ true
 
-module _ (globals : List Data) (f : FlatFn) (items : List IlItem) (right : is_function_right (length globals) f ≡ true) (few : HasFewNames f)
+module _ (globals : List Data) (f : FlatFn) (items : List IlItem) (right : is_function_right (length globals) f ≡ true)
+    (few : HasFewNames f)
     (identifiers : (i : ℕ) → i < length globals → is_identifier (name_at globals i) ≡ true)
     (symbols : (i : ℕ) → i < length globals → has_named item_name (name_at globals i) items ≡ true)
     (no_code : (name : List ℕ) (g : RuntimeFunction) → runtime_function name ≡ Some g → function_named items name ≡ None) where
@@ -175,7 +182,12 @@ module _ (globals : List Data) (f : FlatFn) (items : List IlItem) (right : is_fu
   label_count n h =
       let s = few.labels in
       count_open (label_name n) [] (label_name 0) [] lines last tidy_lines
-      ∙ omega (arith, ap weight (label_eq 0 n (omega arith) (omega arith)), code_labels globals n (omega arith) body 1 0 [] (omega arith), within_in n 0 most_labels (omega arith) (omega arith))
+      ∙ omega (
+        arith,
+        ap weight (label_eq 0 n (omega arith) (omega arith)),
+        code_labels globals n (omega arith) body 1 0 [] (omega arith),
+        within_in n 0 most_labels (omega arith) (omega arith),
+      )
 
   set_is : (t : ℕ) (class : Class) → t < f.temps → is_set params blocks (temp_name t) class ≡ flat.is_set f t class
   set_is t class h =
@@ -198,14 +210,17 @@ module _ (globals : List Data) (f : FlatFn) (items : List IlItem) (right : is_fu
 
   computed : (k : ℕ) → k < addresses_in body → is_set params blocks (address_name k) L ≡ true
   computed k h =
-      or_true _ _ (any_open (inst_sets (address_name k) L) (block_sets (address_name k) L) (λ l is j. refl) [] (label_name 0) [] lines last tidy_lines
+      or_true _ _ (any_open (inst_sets (address_name k) L) (block_sets (address_name k) L) (λ l is j. refl) [] (label_name 0) [] lines last
+      tidy_lines
       ∙ code_there globals (length globals) f no_frame k body 0 1 0 [] parts.code (omega arith) (omega arith))
 
   no_word : (k : ℕ) → is_set params blocks (address_name k) W ≡ false
   no_word k =
       either _ _ false false (params_no_word k 0 f.params)
       (any_open (inst_sets (address_name k) W) (block_sets (address_name k) W) (λ l is j. refl) [] (label_name 0) [] lines last tidy_lines
-      ∙ none_any (inst_sets (address_name k) W) lines (code_good globals f (no_word_line k) most_labels (addresses_in body) (no_word_lines globals f k most_labels (addresses_in body)) body 0 1 0 [] parts.code refl refl (omega arith) (omega arith) (omega arith)))
+      ∙ none_any (inst_sets (address_name k) W) lines
+      (code_good globals f (no_word_line k) most_labels (addresses_in body) (no_word_lines globals f k most_labels (addresses_in body))
+      body 0 1 0 [] parts.code refl refl (omega arith) (omega arith) (omega arith)))
 
   names : Names globals f items params blocks most_labels (addresses_in body)
   names = record {
@@ -229,7 +244,8 @@ module _ (globals : List Data) (f : FlatFn) (items : List IlItem) (right : is_fu
   abbrev jump_good : Jump → Bool
   jump_good = good_jump items params blocks f.result
 
-  last_right : (class : Option Class) → (is_jump (jump.Ret (end_value class)) ≡ true) × (return_is_right items params blocks class (end_value class) ≡ true)
+  last_right : (class : Option Class) → (is_jump (jump.Ret (end_value class)) ≡ true) ×
+      (return_is_right items params blocks class (end_value class) ≡ true)
   last_right None = (refl, refl)
   last_right (Some c) = (refl, refl)
 
@@ -237,14 +253,19 @@ module _ (globals : List Data) (f : FlatFn) (items : List IlItem) (right : is_fu
   all_lines =
       let e = last_right f.result in
       all_append _ lines (End last ∷ [])
-      (code_good globals f (line_passes (good_label most_labels) inst_good jump_good) most_labels (addresses_in body) (lines_pass globals f items params blocks most_labels (addresses_in body) names) body 0 1 0 [] parts.code refl refl (omega arith) (omega arith) (omega arith))
+      (code_good globals f (line_passes (good_label most_labels) inst_good jump_good) most_labels (addresses_in body)
+      (lines_pass globals f items params blocks most_labels (addresses_in body) names) body 0 1 0 [] parts.code refl refl (omega arith)
+      (omega arith) (omega arith))
       (both_true _ true (both_true _ _ e.0 e.1) refl)
 
   -- a test that blocks of good lines pass
-  each_block : (test : Block → Bool) → ((n : ℕ) (is : List Inst) (j : Jump) → n < most_labels → list_all inst_good is ≡ true → jump_good j ≡ true → test (block (label_name n) is j) ≡ true) → list_all test blocks ≡ true
+  each_block : (test : Block → Bool) →
+      ((n : ℕ) (is : List Inst) (j : Jump) → n < most_labels → list_all inst_good is ≡ true → jump_good j ≡ true →
+      test (block (label_name n) is j) ≡ true) → list_all test blocks ≡ true
   each_block test on =
       blocks_pass (good_label most_labels) inst_good jump_good refl test
-      (λ s n is j e l h k. let lt : n < most_labels = grind (arith, nat_tests) in subst (λ (t : List ℕ). test (block t is j) ≡ true) (sym e) (on n is j lt h k))
+      (λ s n is j e l h k. let lt : n < most_labels = grind (arith, nat_tests) in subst (λ (t : List ℕ). test (block t is j) ≡ true) (sym e)
+      (on n is j lt h k))
       [] (label_name 0) 0 [] true (lines ++ End last ∷ []) refl first refl refl all_lines
     where
       first : good_label most_labels 0 ≡ true
@@ -265,10 +286,12 @@ module _ (globals : List Data) (f : FlatFn) (items : List IlItem) (right : is_fu
       (both_true _ _ (params_spelled 0 f.params (omega arith))
       (both_true _ _ (each_block is_block on) (blocks_end _ lines last refl)))
     where
-      on : (n : ℕ) (is : List Inst) (j : Jump) → n < most_labels → list_all inst_good is ≡ true → jump_good j ≡ true → is_block (block (label_name n) is j) ≡ true
+      on : (n : ℕ) (is : List Inst) (j : Jump) → n < most_labels → list_all inst_good is ≡ true → jump_good j ≡ true →
+          is_block (block (label_name n) is j) ≡ true
       on n is j l h k =
           let s = few.labels in
-          both_true _ _ (label_identifier n (omega arith)) (both_true _ _ (all_more inst_good is_inst (λ i e. (and_parts (is_inst i) _ e).0) is h) (jump_parts j k).spelled)
+          both_true _ _ (label_identifier n (omega arith))
+          (both_true _ _ (all_more inst_good is_inst (λ i e. (and_parts (is_inst i) _ e).0) is h) (jump_parts j k).spelled)
 
   pub own_names : has_own_names (function_item globals f) ≡ true
   own_names =
@@ -277,15 +300,19 @@ module _ (globals : List Data) (f : FlatFn) (items : List IlItem) (right : is_fu
       both_true _ _ (and_parts (is_identifier f.name) (not (is_reserved f.name)) parts.symbol).1
       (both_true _ _ (params_each (λ (p : IlParam). how_many (λ (q : IlParam). q.name) p.name params == 1) 0 f.params
       (λ t c l u. ap (λ (m : ℕ). m == 1) (params_count t 0 f.params (omega arith) (omega arith) ∙ within_in t 0 (length f.params) l u)))
-      (each_block (λ (b : Block). how_many (λ (x : Block). x.label) b.label blocks == 1) (λ n is j l h k. ap (λ (m : ℕ). m == 1) (label_count n l))))
+      (each_block (λ (b : Block). how_many (λ (x : Block). x.label) b.label blocks == 1)
+      (λ n is j l h k. ap (λ (m : ℕ). m == 1) (label_count n l))))
 
   pub flows : flow_is_right (function_item globals f) ≡ true
   flows =
       both_true _ _ (each_block (block_labels_known blocks) (λ n is j l h k. both_true _ _ (jump_parts j k).known refl))
-      (both_true _ _ (no_target (label_name 0) blocks (starts_open (label_name 0) [] lines last) (each_block (λ (b : Block). targets_pass (λ l. not (bytes_eq l (label_name 0))) b.jump) (λ n is j l h k. (jump_parts j k).no_start)))
+      (both_true _ _ (no_target (label_name 0) blocks (starts_open (label_name 0) [] lines last)
+      (each_block (λ (b : Block). targets_pass (λ l. not (bytes_eq l (label_name 0))) b.jump)
+      (λ n is j l h k. (jump_parts j k).no_start)))
       (no_phis_placed blocks (each_block (λ (b : Block). length b.phis == 0) (λ n is j l h k. refl))))
 
-  params_one_class : (at : ℕ) (cs : List Class) → at + length cs ≤ f.temps → params_have_one_class f at cs ≡ true → list_all (λ (p : IlParam). rule.has_one_class params blocks p.name p.class) (params_of at cs) ≡ true
+  params_one_class : (at : ℕ) (cs : List Class) → at + length cs ≤ f.temps → params_have_one_class f at cs ≡ true →
+      list_all (λ (p : IlParam). rule.has_one_class params blocks p.name p.class) (params_of at cs) ≡ true
   params_one_class at [] u h = refl
   params_one_class at (c ∷ cs) u h =
       let p = and_parts (has_one_class f at c) (params_have_one_class f (suc at) cs) h in
@@ -293,8 +320,12 @@ module _ (globals : List Data) (f : FlatFn) (items : List IlItem) (right : is_fu
 
   pub rightful : item_is_right items (function_item globals f) ≡ true
   rightful =
-      both_true _ _ (ap (λ (m : ℕ). not (bytes_eq f.name (codes "main")) || (m == 0 && rule.no_long f.result)) (params_length 0 f.params) ∙ parts.main)
+      both_true _ _ (ap (λ (m : ℕ). not (bytes_eq f.name (codes "main")) || (m == 0 && rule.no_long f.result)) (params_length 0 f.params) ∙
+      parts.main)
       (both_true _ _ (both_true _ _ (params_one_class 0 f.params (omega (arith, params_few)) parts.one_class)
-      (each_block (block_has_one_class params blocks) (λ n is j l h k. all_more inst_good (inst_has_one_class params blocks) (λ i e. (and_parts (inst_has_one_class params blocks i) _ (and_parts (is_inst i) _ e).1).0) is h)))
+      (each_block (block_has_one_class params blocks)
+      (λ n is j l h k. all_more inst_good (inst_has_one_class params blocks)
+      (λ i e. (and_parts (inst_has_one_class params blocks i) _ (and_parts (is_inst i) _ e).1).0) is h)))
       (each_block (block_is_right items params blocks f.result) (λ n is j l h k.
-      both_true _ _ (all_more inst_good (inst_is_right items params blocks) (λ i e. (and_parts (inst_has_one_class params blocks i) _ (and_parts (is_inst i) _ e).1).1) is h) (jump_parts j k).fits)))
+      both_true _ _ (all_more inst_good (inst_is_right items params blocks)
+      (λ i e. (and_parts (inst_has_one_class params blocks i) _ (and_parts (is_inst i) _ e).1).1) is h) (jump_parts j k).fits)))

@@ -44,13 +44,15 @@ module _ (p : FlatProgram) where
   one_size (item.Number width n) h = let w = width_kept width (and_parts (is_width width) (is_bits n) h).0 in omega (arith, w)
   one_size (item.Symbol name offset) h = refl
   one_size (item.Zero n) h = omega arith
-  one_size (item.Bytes bytes) h = bytes_size (byte_values [] bytes) ∙ omega (arith, values_size (value_size 1) (λ s. refl) (λ n. refl) [] bytes)
+  one_size (item.Bytes bytes) h =
+      bytes_size (byte_values [] bytes) ∙ omega (arith, values_size (value_size 1) (λ s. refl) (λ n. refl) [] bytes)
 
   parts_size : (is : List Item) → list_all (is_item p) is ≡ true → sum_by part_size (parts_of is) ≡ sum_by item_size is
   parts_size [] h = refl
   parts_size (i ∷ is) h =
       let k = and_parts (is_item p i) (list_all (is_item p) is) h in
-      sum_by-append part_size (item_parts i) (parts_of is) ∙ omega (arith, one_size i k.0, parts_size is k.1) ∙ sym (sum_cons item_size i is)
+      sum_by-append part_size (item_parts i) (parts_of is) ∙ omega (arith, one_size i k.0, parts_size is k.1) ∙ sym
+      (sum_cons item_size i is)
 
   global_items : (d : Data) → is_global p d ≡ true → list_all (is_item p) d.items ≡ true
   global_items d h = (and_parts (is_alignment d.align) (list_all (is_item p) d.items) (and_parts (is_symbol d.name) _ h).1).1
@@ -64,21 +66,27 @@ module _ (p : FlatProgram) where
   behind_globals at [] = at
   behind_globals at (d ∷ ds) = behind_globals (round_up at d.align + flat.data_size d) ds
 
-  symbols_are : (f at : ℕ) (ds : List Data) (items : List IlItem) → list_all (is_global p) ds ≡ true → symbols_from f at (map data_item ds ++ items) ≡ addresses_from at ds ++ symbols_from f (behind_globals at ds) items
+  symbols_are : (f at : ℕ) (ds : List Data) (items : List IlItem) → list_all (is_global p) ds ≡ true →
+      symbols_from f at (map data_item ds ++ items) ≡ addresses_from at ds ++ symbols_from f (behind_globals at ds) items
   unfolding behind_globals
   symbols_are f at [] items h = refl
   symbols_are f at (d ∷ ds) items h =
       let k = and_parts (is_global p d) (list_all (is_global p) ds) h in
-      ap (λ (n : ℕ). (d.name, round_up at d.align) ∷ symbols_from f (round_up at d.align + n) (map data_item ds ++ items)) (global_bytes d k.0)
-      ∙ ap (λ (xs : List (List ℕ × ℕ)). (d.name, round_up at d.align) ∷ xs) (symbols_are f (round_up at d.align + flat.data_size d) ds items k.1)
+      ap (λ (n : ℕ). (d.name, round_up at d.align) ∷ symbols_from f (round_up at d.align + n) (map data_item ds ++ items))
+      (global_bytes d k.0)
+      ∙ ap (λ (xs : List (List ℕ × ℕ)). (d.name, round_up at d.align) ∷ xs)
+      (symbols_are f (round_up at d.align + flat.data_size d) ds items k.1)
 
 -- the first of two tables has the name
-lookup_front : (name : List ℕ) (at : ℕ) (ds : List Data) (xs : List (List ℕ × ℕ)) → list_any (λ (d : Data). bytes_eq d.name name) ds ≡ true → lookup name (addresses_from at ds ++ xs) ≡ lookup name (addresses_from at ds)
+lookup_front : (name : List ℕ) (at : ℕ) (ds : List Data) (xs : List (List ℕ × ℕ)) →
+    list_any (λ (d : Data). bytes_eq d.name name) ds ≡ true → lookup name (addresses_from at ds ++ xs) ≡ lookup name (addresses_from at ds)
 lookup_front name at [] xs h = cc
 lookup_front name at (d ∷ ds) xs h = pick (bytes_eq d.name name) refl h (lookup_front name (round_up at d.align + flat.data_size d) ds xs)
   where
     pick : (b : Bool) → bytes_eq d.name name ≡ b → (b || list_any (λ (x : Data). bytes_eq x.name name) ds) ≡ true
-        → (list_any (λ (x : Data). bytes_eq x.name name) ds ≡ true → lookup name (addresses_from (round_up at d.align + flat.data_size d) ds ++ xs) ≡ lookup name (addresses_from (round_up at d.align + flat.data_size d) ds))
+        → (list_any (λ (x : Data). bytes_eq x.name name) ds ≡ true →
+        lookup name (addresses_from (round_up at d.align + flat.data_size d) ds ++ xs) ≡ lookup name
+        (addresses_from (round_up at d.align + flat.data_size d) ds))
         → lookup name (addresses_from at (d ∷ ds) ++ xs) ≡ lookup name (addresses_from at (d ∷ ds))
     pick true e k on = rw e refl
     pick false e k on = rw e (on k)
@@ -101,7 +109,8 @@ global_at (d ∷ ds) (suc i) h = let on = global_at ds i (omega arith) in record
 
 -- ---- bytes
 
-module _ (p : FlatProgram) (m : Module) (known : (name : List ℕ) → has_global p name ≡ true → address m name ≡ flat.address_named p name) where
+module _ (p : FlatProgram) (m : Module)
+    (known : (name : List ℕ) → has_global p name ≡ true → address m name ≡ flat.address_named p name) where
   string_bytes : (s : List ℕ) → flat_map (value_bytes m 1) (string_of s) ≡ s
   string_bytes [] = refl
   string_bytes (c ∷ s) = append-nil (c ∷ s)
@@ -113,7 +122,8 @@ module _ (p : FlatProgram) (m : Module) (known : (name : List ℕ) → has_globa
   values_bytes s [] = string_bytes s ∙ sym (append-nil s)
   values_bytes s (c ∷ bs) = pick (is_string_byte c) refl (values_bytes (s ++ c ∷ []) bs) (values_bytes [] bs)
     where
-      pick : (b : Bool) → is_string_byte c ≡ b → flat_map (value_bytes m 1) (byte_values (s ++ c ∷ []) bs) ≡ (s ++ c ∷ []) ++ bs → flat_map (value_bytes m 1) (byte_values [] bs) ≡ bs → flat_map (value_bytes m 1) (byte_values s (c ∷ bs)) ≡ s ++ c ∷ bs
+      pick : (b : Bool) → is_string_byte c ≡ b → flat_map (value_bytes m 1) (byte_values (s ++ c ∷ []) bs) ≡ (s ++ c ∷ []) ++ bs →
+          flat_map (value_bytes m 1) (byte_values [] bs) ≡ bs → flat_map (value_bytes m 1) (byte_values s (c ∷ bs)) ≡ s ++ c ∷ bs
       pick true e h k = rw e (h ∙ append_assoc s (c ∷ []) bs)
       pick false e h k =
           let same : byte_values s (c ∷ bs) ≡ string_of s ++ value.Number c ∷ byte_values [] bs = rw e refl in
@@ -134,7 +144,8 @@ module _ (p : FlatProgram) (m : Module) (known : (name : List ℕ) → has_globa
   one_bytes (item.Bytes bytes) h = part_of_bytes (byte_values [] bytes) ∙ values_bytes [] bytes
   one_bytes (item.Symbol name offset) h =
       let k = known name (and_parts (has_global p name) (is_bits offset) h).0 in
-      append-nil (le_bytes 8 (address m name + offset) ++ []) ∙ append-nil (le_bytes 8 (address m name + offset)) ∙ ap (λ (a : ℕ). le_bytes 8 (a + offset)) k
+      append-nil (le_bytes 8 (address m name + offset) ++ []) ∙ append-nil (le_bytes 8 (address m name + offset)) ∙ ap
+      (λ (a : ℕ). le_bytes 8 (a + offset)) k
   one_bytes (item.Zero n) h = append-nil (part_bytes m (part.Zero n))
 
   items_bytes : (is : List Item) → list_all (is_item p) is ≡ true → flat_map (part_bytes m) (parts_of is) ≡ flat_map (item_bytes p) is
@@ -147,7 +158,8 @@ module _ (p : FlatProgram) (m : Module) (known : (name : List ℕ) → has_globa
 
   -- ---- memory
 
-  functions_take_none : (memory : Memory) (globals : List Data) (fs : List FlatFn) → with_data m memory (map (function_item globals) fs) ≡ memory
+  functions_take_none : (memory : Memory) (globals : List Data) (fs : List FlatFn) →
+      with_data m memory (map (function_item globals) fs) ≡ memory
   functions_take_none memory globals [] = refl
   functions_take_none memory globals (f ∷ fs) = functions_take_none memory globals fs
 
@@ -158,31 +170,43 @@ module _ (p : FlatProgram) (m : Module) (known : (name : List ℕ) → has_globa
   same_data at memory [] fs h places = functions_take_none memory p.globals fs
   same_data at memory (d ∷ ds) fs h places =
       let k = and_parts (is_global p d) (list_all (is_global p) ds) h in
-      ap (λ (x : ℕ). with_data m (with_item m memory x (parts_of d.items)) (map data_item ds ++ map (function_item p.globals) fs)) (places 0 (omega arith))
-      ∙ ap (λ (xs : List ℕ). with_data m (map_range (write memory (round_up at d.align) xs) (round_up at d.align) (data_size (parts_of d.items))) (map data_item ds ++ map (function_item p.globals) fs)) (items_bytes d.items (global_items p d k.0))
-      ∙ ap (λ (n : ℕ). with_data m (map_range (write memory (round_up at d.align) (flat_map (item_bytes p) d.items)) (round_up at d.align) n) (map data_item ds ++ map (function_item p.globals) fs)) (global_bytes p d k.0)
-      ∙ same_data (round_up at d.align + flat.data_size d) (with_global p memory (round_up at d.align) d) ds fs k.1 (λ i l. places (suc i) (omega arith))
+      ap (λ (x : ℕ). with_data m (with_item m memory x (parts_of d.items)) (map data_item ds ++ map (function_item p.globals) fs))
+      (places 0 (omega arith))
+      ∙ ap (λ (xs : List ℕ). with_data m
+      (map_range (write memory (round_up at d.align) xs) (round_up at d.align) (data_size (parts_of d.items)))
+      (map data_item ds ++ map (function_item p.globals) fs)) (items_bytes d.items (global_items p d k.0))
+      ∙ ap (λ (n : ℕ). with_data m (map_range (write memory (round_up at d.align) (flat_map (item_bytes p) d.items)) (round_up at d.align)
+      n) (map data_item ds ++ map (function_item p.globals) fs)) (global_bytes p d k.0)
+      ∙ same_data (round_up at d.align + flat.data_size d) (with_global p memory (round_up at d.align) d) ds fs k.1
+      (λ i l. places (suc i) (omega arith))
 
 -- ---- a whole program
 
 module _ (p : FlatProgram) (w : IsWellFormed p) where
-  differ : (ds : List Data) (i : ℕ) → list_all (λ (d : Data). how_many p d.name == 1) ds ≡ true → i < length ds → how_many p (name_at ds i) ≡ 1
+  differ : (ds : List Data) (i : ℕ) → list_all (λ (d : Data). how_many p d.name == 1) ds ≡ true → i < length ds →
+      how_many p (name_at ds i) ≡ 1
   differ [] i h l = absurd (omega arith)
-  differ (d ∷ ds) zero h l = let k = (and_parts (how_many p d.name == 1) (list_all (λ (x : Data). how_many p x.name == 1) ds) h).0 in grind (arith, nat_tests)
-  differ (d ∷ ds) (suc i) h l = differ ds i (and_parts (how_many p d.name == 1) (list_all (λ (x : Data). how_many p x.name == 1) ds) h).1 (omega arith)
+  differ (d ∷ ds) zero h l =
+      let k = (and_parts (how_many p d.name == 1) (list_all (λ (x : Data). how_many p x.name == 1) ds) h).0 in grind (arith, nat_tests)
+  differ (d ∷ ds) (suc i) h l =
+      differ ds i (and_parts (how_many p d.name == 1) (list_all (λ (x : Data). how_many p x.name == 1) ds) h).1 (omega arith)
 
-  symbols : symbols_from functions_start data_start (module_of p).items ≡ addresses_from data_start p.globals ++ symbols_from functions_start (behind_globals p data_start p.globals) (map (function_item p.globals) p.functions)
+  symbols : symbols_from functions_start data_start (module_of p).items ≡ addresses_from data_start p.globals ++
+      symbols_from functions_start (behind_globals p data_start p.globals) (map (function_item p.globals) p.functions)
   symbols = symbols_are p functions_start data_start p.globals (map (function_item p.globals) p.functions) w.globals
 
-  looked_up : (name : List ℕ) → has_global p name ≡ true → lookup name (symbols_from functions_start data_start (module_of p).items) ≡ lookup name (addresses_from data_start p.globals)
+  looked_up : (name : List ℕ) → has_global p name ≡ true → lookup name (symbols_from functions_start data_start (module_of p).items) ≡
+      lookup name (addresses_from data_start p.globals)
   looked_up name h = ap (lookup name) symbols ∙ lookup_front name data_start p.globals _ h
 
   named : (name : List ℕ) → has_global p name ≡ true → address (module_of p) name ≡ flat.address_named p name
   named name h = ap or_zero (looked_up name h)
 
   -- where a table is looked up by the name of a global, it has the global's address
-  looked_up_at : (i : ℕ) → i < length p.globals → lookup (name_at p.globals i) (addresses_from data_start p.globals) ≡ Some (flat.address_at p i)
-  looked_up_at i h = subst (λ (name : List ℕ). lookup name (addresses_from data_start p.globals) ≡ Some (flat.address_at p i)) (sym named_so)
+  looked_up_at : (i : ℕ) → i < length p.globals → lookup (name_at p.globals i) (addresses_from data_start p.globals) ≡ Some
+      (flat.address_at p i)
+  looked_up_at i h =
+      subst (λ (name : List ℕ). lookup name (addresses_from data_start p.globals) ≡ Some (flat.address_at p i)) (sym named_so)
       (flat_place.looked_up data_start p.globals i g.global g.found (omega (arith, one)))
     where
       g : IsGlobalAt p.globals i
@@ -210,4 +234,5 @@ module _ (p : FlatProgram) (w : IsWellFormed p) where
 
   -- and the memory is the same as the runs begin
   pub start_same : (fill : ℕ) (args : List (List ℕ)) → start_memory fill (module_of p) args ≡ flat.start_memory fill p args
-  start_same fill args = ap (λ (memory : Memory). with_arguments memory args) (same_data p (module_of p) named data_start (empty_memory fill) p.globals p.functions w.globals address_is)
+  start_same fill args = ap (λ (memory : Memory). with_arguments memory args)
+      (same_data p (module_of p) named data_start (empty_memory fill) p.globals p.functions w.globals address_is)

@@ -27,7 +27,8 @@ use Rattle.il_emit.proofs.NumberedNames.{bytes_same}
 -- ---- names of globals
 
 -- the name at a place in the list passes a test of all names
-pub name_passes : (test : List ℕ → Bool) (ds : List Data) (i : ℕ) → i < length ds → list_all (λ (d : Data). test d.name) ds ≡ true → test (name_at ds i) ≡ true
+pub name_passes : (test : List ℕ → Bool) (ds : List Data) (i : ℕ) → i < length ds → list_all (λ (d : Data). test d.name) ds ≡ true →
+    test (name_at ds i) ≡ true
 name_passes test [] i l h = absurd (omega arith)
 name_passes test (d ∷ ds) zero l h = (and_parts (test d.name) _ h).0
 name_passes test (d ∷ ds) (suc i) l h = name_passes test ds i (omega arith) (and_parts (test d.name) _ h).1
@@ -39,11 +40,13 @@ name_there (d ∷ ds) zero l = ap (λ (b : Bool). b || list_any (λ (x : Data). 
 name_there (d ∷ ds) (suc i) l = or_true (bytes_eq d.name (name_at ds i)) _ (name_there ds i (omega arith))
 
 -- a name of one in the list passes a test of all names
-name_of_passes : (test : List ℕ → Bool) (name : List ℕ) (ds : List Data) → list_all (λ (d : Data). test d.name) ds ≡ true → list_any (λ (d : Data). bytes_eq d.name name) ds ≡ true → test name ≡ true
+name_of_passes : (test : List ℕ → Bool) (name : List ℕ) (ds : List Data) → list_all (λ (d : Data). test d.name) ds ≡ true →
+    list_any (λ (d : Data). bytes_eq d.name name) ds ≡ true → test name ≡ true
 name_of_passes test name [] h k = cc
 name_of_passes test name (d ∷ ds) h k = pick (bytes_eq d.name name) refl k (name_of_passes test name ds (and_parts (test d.name) _ h).1)
   where
-    pick : (b : Bool) → bytes_eq d.name name ≡ b → (b || list_any (λ (x : Data). bytes_eq x.name name) ds) ≡ true → (list_any (λ (x : Data). bytes_eq x.name name) ds ≡ true → test name ≡ true) → test name ≡ true
+    pick : (b : Bool) → bytes_eq d.name name ≡ b → (b || list_any (λ (x : Data). bytes_eq x.name name) ds) ≡ true →
+        (list_any (λ (x : Data). bytes_eq x.name name) ds ≡ true → test name ≡ true) → test name ≡ true
     pick true e k' on = subst (λ (s : List ℕ). test s ≡ true) ((bytes_eq-Decides d.name name).0 e) (and_parts (test d.name) _ h).0
     pick false e k' on = on k'
 
@@ -64,7 +67,8 @@ bytes_right : (items : List IlItem) (s bs : List ℕ) → list_all is_string_byt
 bytes_right items s [] h = string_right items s h
 bytes_right items s (c ∷ bs) h = pick (is_string_byte c) refl (bytes_right items (s ++ c ∷ []) bs) (bytes_right items [] bs refl)
   where
-    pick : (b : Bool) → is_string_byte c ≡ b → (list_all is_string_byte (s ++ c ∷ []) ≡ true → Right items (byte_values (s ++ c ∷ []) bs)) → Right items (byte_values [] bs) → Right items (byte_values s (c ∷ bs))
+    pick : (b : Bool) → is_string_byte c ≡ b → (list_all is_string_byte (s ++ c ∷ []) ≡ true → Right items (byte_values (s ++ c ∷ []) bs)) →
+        Right items (byte_values [] bs) → Right items (byte_values s (c ∷ bs))
     pick true e on rest =
         let same : byte_values s (c ∷ bs) ≡ byte_values (s ++ c ∷ []) bs = rw e refl in
         subst (Right items) (sym same) (on (all_append is_string_byte s (c ∷ []) h (both_true _ true e refl)))
@@ -105,8 +109,11 @@ module _ (p : FlatProgram) (items : List IlItem) (spelled : list_all (λ (d : Da
   parts_right (i ∷ is) h =
       let k = and_parts (well.is_item p i) (list_all (well.is_item p) is) h in
       let one = item_right i k.0 in
-      let rest = parts_right is k.1 in
-      (all_append is_part (item_parts i) (parts_of is) one.0 rest.0, all_append (part_is_right items) (item_parts i) (parts_of is) one.1 rest.1)
+      let rest = parts_right is k.1 in (
+        all_append is_part (item_parts i) (parts_of is) one.0 rest.0,
+        all_append (part_is_right items) (item_parts i) (parts_of is) one.1
+            rest.1,
+      )
 
   alignment_bits : (n : ℕ) → is_alignment n ≡ true → is_bits n ≡ true
   alignment_bits n h = grind (arith, nat_tests, common_steps)

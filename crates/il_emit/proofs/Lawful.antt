@@ -27,9 +27,11 @@ use Rattle.il_emit.proofs.Globals.{name_passes, name_there, data_shaped, data_ri
 use Rattle.il_emit.proofs.NamedFunctions.{emitted, items_named, none_named, reserved}
 use Rattle.il_emit.proofs.Smalls.{function_small, parts_small, parts_size}
 
-both_ways : {A : Type 0} {P : A → Type 0} (f g : A → Bool) → ((x : A) → f x ≡ true → P x → g x ≡ true) → (xs : List A) → list_all f xs ≡ true → AllByRecursion P xs → list_all g xs ≡ true
+both_ways : {A : Type 0} {P : A → Type 0} (f g : A → Bool) → ((x : A) → f x ≡ true → P x → g x ≡ true) → (xs : List A) →
+    list_all f xs ≡ true → AllByRecursion P xs → list_all g xs ≡ true
 both_ways f g h [] e k = refl
-both_ways f g h (x ∷ xs) e k = let p = and_parts (f x) (list_all f xs) e in both_true (g x) (list_all g xs) (h x p.0 k.0) (both_ways f g h xs p.1 k.1)
+both_ways f g h (x ∷ xs) e k =
+    let p = and_parts (f x) (list_all f xs) e in both_true (g x) (list_all g xs) (h x p.0 k.0) (both_ways f g h xs p.1 k.1)
 
 module _ (p : FlatProgram) (w : IsWellFormed p) (few : AllByRecursion HasFewNames p.functions) where
   datas : List IlItem
@@ -39,18 +41,23 @@ module _ (p : FlatProgram) (w : IsWellFormed p) (few : AllByRecursion HasFewName
   functions = map (function_item p.globals) p.functions
 
   -- as many items have a name as functions and globals
-  named : (name : List ℕ) → how_many item_name name (map data_item p.globals ++ map (function_item p.globals) p.functions) ≡ flat.how_many p name
+  named : (name : List ℕ) → how_many item_name name (map data_item p.globals ++ map (function_item p.globals) p.functions) ≡ flat.how_many p
+      name
   named name =
       let q : IlItem → Bool = λ x. bytes_eq (item_name x) name in
       count_append q (map data_item p.globals) (map (function_item p.globals) p.functions)
       ∙ omega (arith, count_map q data_item p.globals, count_map q (function_item p.globals) p.functions)
 
-  once_is : (name : List ℕ) → (how_many item_name name (map data_item p.globals ++ map (function_item p.globals) p.functions) == 1) ≡ (flat.how_many p name == 1)
+  once_is : (name : List ℕ) → (how_many item_name name (map data_item p.globals ++ map (function_item p.globals) p.functions) == 1) ≡
+      (flat.how_many p name == 1)
   once_is name = ap (λ (n : ℕ). n == 1) (named name)
 
-  once : list_all (λ (x : IlItem). how_many item_name (item_name x) (map data_item p.globals ++ map (function_item p.globals) p.functions) == 1) (map data_item p.globals ++ map (function_item p.globals) p.functions) ≡ true
+  once : list_all (λ (x : IlItem). how_many item_name (item_name x)
+      (map data_item p.globals ++ map (function_item p.globals) p.functions) == 1)
+      (map data_item p.globals ++ map (function_item p.globals) p.functions) ≡ true
   once =
-      let q : IlItem → Bool = λ x. how_many item_name (item_name x) (map data_item p.globals ++ map (function_item p.globals) p.functions) == 1 in
+      let q : IlItem → Bool =
+      λ x. how_many item_name (item_name x) (map data_item p.globals ++ map (function_item p.globals) p.functions) == 1 in
       all_append q (map data_item p.globals) (map (function_item p.globals) p.functions)
       (all_map q data_item p.globals ∙ all_same _ _ (λ (d : Data). once_is d.name) p.globals ∙ w.globals_differ)
       (all_map q (function_item p.globals) p.functions ∙ all_same _ _ (λ (f : FlatFn). once_is f.name) p.functions ∙ w.functions_differ)
@@ -69,36 +76,62 @@ module _ (p : FlatProgram) (w : IsWellFormed p) (few : AllByRecursion HasFewName
   numbers : list_all item_is_small (map data_item p.globals ++ map (function_item p.globals) p.functions) ≡ true
   numbers =
       all_append item_is_small (map data_item p.globals) (map (function_item p.globals) p.functions)
-      (all_map item_is_small data_item p.globals ∙ all_more (is_global p) (λ (d : Data). item_is_small (data_item d)) data_small p.globals w.globals)
-      (all_map item_is_small (function_item p.globals) p.functions ∙ all_more (flat.is_function_right (length p.globals)) (λ (f : FlatFn). item_is_small (function_item p.globals f)) (λ (f : FlatFn) (h : flat.is_function_right (length p.globals) f ≡ true). function_small p.globals f) p.functions w.functions)
+      (all_map item_is_small data_item p.globals ∙ all_more (is_global p) (λ (d : Data). item_is_small (data_item d)) data_small p.globals
+      w.globals)
+      (all_map item_is_small (function_item p.globals) p.functions ∙ all_more (flat.is_function_right (length p.globals))
+      (λ (f : FlatFn). item_is_small (function_item p.globals f))
+      (λ (f : FlatFn) (h : flat.is_function_right (length p.globals) f ≡ true). function_small p.globals f) p.functions w.functions)
 
   code_count : count_by is_function (map data_item p.globals ++ map (function_item p.globals) p.functions) ≡ length p.functions
   code_count =
       count_append is_function (map data_item p.globals) (map (function_item p.globals) p.functions)
-      ∙ omega (arith, count_map is_function data_item p.globals, count_none p.globals, count_map is_function (function_item p.globals) p.functions, count_all p.functions)
+      ∙ omega (
+        arith,
+        count_map is_function data_item p.globals,
+        count_none p.globals,
+        count_map is_function (function_item p.globals)
+            p.functions,
+        count_all p.functions,
+      )
 
-  data_count : count_by (λ (i : IlItem). not (is_function i)) (map data_item p.globals ++ map (function_item p.globals) p.functions) ≡ length p.globals
+  data_count : count_by (λ (i : IlItem). not (is_function i)) (map data_item p.globals ++ map (function_item p.globals) p.functions) ≡
+      length p.globals
   data_count =
       let q : IlItem → Bool = λ i. not (is_function i) in
       count_append q (map data_item p.globals) (map (function_item p.globals) p.functions)
-      ∙ omega (arith, count_map q data_item p.globals, count_all p.globals, count_map q (function_item p.globals) p.functions, count_none p.functions)
+      ∙ omega (
+        arith,
+        count_map q data_item p.globals,
+        count_all p.globals,
+        count_map q (function_item p.globals) p.functions,
+        count_none
+            p.functions,
+      )
 
   data_bytes : sum_by item_size (map data_item p.globals ++ map (function_item p.globals) p.functions) ≡ sum_by global_size p.globals
   data_bytes =
       sum_by-append item_size (map data_item p.globals) (map (function_item p.globals) p.functions)
-      ∙ omega (arith, sum_map item_size data_item global_size (λ (d : Data). parts_size d.items) p.globals, sum_map item_size (function_item p.globals) (λ (f : FlatFn). 0) (λ (f : FlatFn). refl) p.functions, sum_none p.functions)
+      ∙ omega (
+        arith,
+        sum_map item_size data_item global_size (λ (d : Data). parts_size d.items) p.globals,
+        sum_map item_size
+            (function_item p.globals) (λ (f : FlatFn). 0) (λ (f : FlatFn). refl) p.functions,
+        sum_none p.functions,
+      )
 
   small : is_small (map data_item p.globals ++ map (function_item p.globals) p.functions) ≡ true
   small = rw (code_count, data_count, data_bytes) (both_true _ _ w.few_functions (both_true _ _ w.few_globals w.few_bytes))
 
-  known : (name : List ℕ) → list_any (λ (d : Data). bytes_eq d.name name) p.globals ≡ true → has_named item_name name (map data_item p.globals ++ map (function_item p.globals) p.functions) ≡ true
+  known : (name : List ℕ) → list_any (λ (d : Data). bytes_eq d.name name) p.globals ≡ true →
+      has_named item_name name (map data_item p.globals ++ map (function_item p.globals) p.functions) ≡ true
   known name h =
       let q : IlItem → Bool = λ x. bytes_eq (item_name x) name in
       list_any-append q (map data_item p.globals) (map (function_item p.globals) p.functions)
       ∙ ap (λ (b : Bool). b || list_any q (map (function_item p.globals) p.functions)) (any_map q data_item p.globals ∙ h)
 
   spelled : list_all (λ (d : Data). is_identifier d.name) p.globals ≡ true
-  spelled = all_more (is_global p) (λ (d : Data). is_identifier d.name) (λ d h. (and_parts (is_identifier d.name) (not (is_reserved d.name)) (and_parts (is_symbol d.name) _ h).0).0) p.globals w.globals
+  spelled = all_more (is_global p) (λ (d : Data). is_identifier d.name)
+      (λ d h. (and_parts (is_identifier d.name) (not (is_reserved d.name)) (and_parts (is_symbol d.name) _ h).0).0) p.globals w.globals
 
   -- a test that the items of all globals and of all functions pass
   each_item : (test : IlItem → Bool) → ((d : Data) → is_global p d ≡ true → test (data_item d) ≡ true)
@@ -107,29 +140,36 @@ module _ (p : FlatProgram) (w : IsWellFormed p) (few : AllByRecursion HasFewName
   each_item test on_data on_function =
       all_append test (map data_item p.globals) (map (function_item p.globals) p.functions)
       (all_map test data_item p.globals ∙ all_more (is_global p) (λ (d : Data). test (data_item d)) on_data p.globals w.globals)
-      (all_map test (function_item p.globals) p.functions ∙ both_ways {P = HasFewNames} (flat.is_function_right (length p.globals)) (λ (f : FlatFn). test (function_item p.globals f)) on_function p.functions w.functions few)
+      (all_map test (function_item p.globals) p.functions ∙ both_ways {P = HasFewNames} (flat.is_function_right (length p.globals))
+      (λ (f : FlatFn). test (function_item p.globals f)) on_function p.functions w.functions few)
 
   names : (i : ℕ) → i < length p.globals → is_identifier (name_at p.globals i) ≡ true
   names i h = name_passes is_identifier p.globals i h spelled
 
-  symbols : (i : ℕ) → i < length p.globals → has_named item_name (name_at p.globals i) (map data_item p.globals ++ map (function_item p.globals) p.functions) ≡ true
+  symbols : (i : ℕ) → i < length p.globals → has_named item_name (name_at p.globals i)
+      (map data_item p.globals ++ map (function_item p.globals) p.functions) ≡ true
   symbols i h = known (name_at p.globals i) (name_there p.globals i h)
 
-  no_code : (name : List ℕ) (g : RuntimeFunction) → runtime_function name ≡ Some g → function_named (map data_item p.globals ++ map (function_item p.globals) p.functions) name ≡ None
-  no_code name g e = items_named p w name ∙ ap (emitted p.globals) (none_named (length p.globals) p.functions name w.functions (reserved name runtime_names g refl e))
+  no_code : (name : List ℕ) (g : RuntimeFunction) → runtime_function name ≡ Some g →
+      function_named (map data_item p.globals ++ map (function_item p.globals) p.functions) name ≡ None
+  no_code name g e = items_named p w name ∙ ap (emitted p.globals)
+      (none_named (length p.globals) p.functions name w.functions (reserved name runtime_names g refl e))
 
   shape : is_shaped (module_of p) ≡ true
   unfolding is_shaped
-  shape = each_item il.is_item (data_shaped p (map data_item p.globals ++ map (function_item p.globals) p.functions) spelled known) (λ f r s. shaped p.globals f (map data_item p.globals ++ map (function_item p.globals) p.functions) r s names symbols no_code)
+  shape = each_item il.is_item (data_shaped p (map data_item p.globals ++ map (function_item p.globals) p.functions) spelled known)
+      (λ f r s. shaped p.globals f (map data_item p.globals ++ map (function_item p.globals) p.functions) r s names symbols no_code)
 
   laws : is_lawful (module_of p).items ≡ true
   unfolding is_lawful
   laws =
       let items = map data_item p.globals ++ map (function_item p.globals) p.functions in
       both_true _ _ once
-      (both_true _ _ (each_item has_own_names (data_own p items spelled known) (λ f r s. own_names p.globals f items r s names symbols no_code))
+      (both_true _ _ (each_item has_own_names (data_own p items spelled known)
+      (λ f r s. own_names p.globals f items r s names symbols no_code))
       (both_true _ _ (each_item flow_is_right (λ d h. refl) (λ f r s. flows p.globals f items r s names symbols no_code))
-      (both_true _ _ (each_item (item_is_right items) (data_right p items spelled known) (λ f r s. rightful p.globals f items r s names symbols no_code))
+      (both_true _ _ (each_item (item_is_right items) (data_right p items spelled known)
+      (λ f r s. rightful p.globals f items r s names symbols no_code))
       (both_true _ _ main (both_true _ _ numbers small)))))
 
   pub valid : IsValid (module_of p)

@@ -19,7 +19,8 @@ module _ (m : Module) (call : Activation) where
     on : (j : ℕ) → after_steps m (k + j) r ≡ after_steps m j r1
     on j = steps_more m k j r ∙ ap (after_steps m j) by
 
-    comes_later : (q q1 : ℕ) (s : flat.State) (ls : List Line) → q ≤ q1 → Comes m call q1 low1 high1 r1 s ls → Comes m call q low high r s ls
+    comes_later : (q q1 : ℕ) (s : flat.State) (ls : List Line) → q ≤ q1 → Comes m call q1 low1 high1 r1 s ls →
+        Comes m call q low high r s ls
     comes_later q q1 s ls le h =
         let j = h.jumps in
         let u = h.units in
@@ -29,7 +30,17 @@ module _ (m : Module) (call : Activation) where
     returns_later q q1 s v le h =
         let j = h.jumps in
         let u = h.units in
-        record { to = h.to; lines = h.lines; count = k + h.count; by = on h.count ∙ h.by; returns = h.returns; holds = h.holds; jumps = omega arith; units = omega arith }
+        record {
+          to = h.to;
+          lines = h.lines;
+          count = k + h.count;
+          by = on h.count ∙ h.by;
+          returns = h.returns;
+          holds = h.holds;
+          jumps =
+              omega arith;
+          units = omega arith;
+        }
 
     stops_later : (s : flat.State) (e : machine.End) → Stops m call low1 high1 r1 s e → Stops m call low high r s e
     stops_later s e h =
@@ -57,7 +68,8 @@ module _ (m : Module) (call : Activation) where
           most = h.most;
         }
 
-    pub later : (n n1 q q1 : ℕ) (out : ℕ → List Line) (rest : List Line) (res : Result) → q ≤ q1 → q + n ≤ q1 + n1 → Meets m call n1 q1 low1 high1 out rest r1 res → Meets m call n q low high out rest r res
+    pub later : (n n1 q q1 : ℕ) (out : ℕ → List Line) (rest : List Line) (res : Result) → q ≤ q1 → q + n ≤ q1 + n1 →
+        Meets m call n1 q1 low1 high1 out rest r1 res → Meets m call n q low high out rest r res
     later n n1 q q1 out rest (Next, s) l le h = comes_later q q1 s rest l h
     later n n1 q q1 out rest (Left k', s) l le h = comes_later q q1 s (out k') l h
     later n n1 q q1 out rest (Returned v, s) l le h = returns_later q q1 s v l h
@@ -68,36 +80,60 @@ module _ (m : Module) (call : Activation) where
     later n n1 q q1 out rest (Spent, s) l le h = goes_later n n1 q q1 s le h
 
   -- more units may be used
-  pub may_use : (n q low low1 high high1 : ℕ) (out : ℕ → List Line) (rest : List Line) (r : Run) (res : Result) → high1 + low ≤ high + low1 → Meets m call n q low1 high1 out rest r res → Meets m call n q low high out rest r res
-  may_use n q low low1 high high1 out rest r res le h = later 0 r r refl low low1 high high1 le n n q q out rest res (omega arith) (omega arith) h
+  pub may_use : (n q low low1 high high1 : ℕ) (out : ℕ → List Line) (rest : List Line) (r : Run) (res : Result) →
+      high1 + low ≤ high + low1 → Meets m call n q low1 high1 out rest r res → Meets m call n q low high out rest r res
+  may_use n q low low1 high high1 out rest r res le h =
+      later 0 r r refl low low1 high high1 le n n q q out rest res (omega arith) (omega arith) h
 
   -- ---- statements put together
 
   -- what is claimed of what comes next: `more` units may be used there besides
   abbrev pub NextMeets : (n more : ℕ) (out : ℕ → List Line) (rest here : List Line) → (flat.State → Result) → Type 0
-  NextMeets n more out rest here go = (s : flat.State) (c : Mark) → Holds call.floor s c → Meets m call n (counted c) (4 * s.steps) (c.used + more) out rest (before m call here s.world c) (go s)
+  NextMeets n more out rest here go = (s : flat.State) (c : Mark) → Holds call.floor s c →
+      Meets m call n (counted c) (4 * s.steps) (c.used + more) out rest (before m call here s.world c) (go s)
 
-  behind : (n q low high more : ℕ) (out : ℕ → List Line) (rest here : List Line) (r : Run) (s : flat.State) (go : flat.State → Result) → Comes m call q low high r s here → NextMeets n more out rest here go → Meets m call n q low (high + more) out rest r (go s)
+  behind : (n q low high more : ℕ) (out : ℕ → List Line) (rest here : List Line) (r : Run) (s : flat.State) (go : flat.State → Result) →
+      Comes m call q low high r s here → NextMeets n more out rest here go → Meets m call n q low (high + more) out rest r (go s)
   behind n q low high more out rest here r s go h g =
       let j = h.jumps in
       let u = h.units in
-      later h.count r (before m call here s.world h.to) h.by low (4 * s.steps) (high + more) (h.to.used + more) (omega arith) n n q (counted h.to) out rest (go s) j (omega arith) (g s h.to h.holds)
+      later h.count r (before m call here s.world h.to) h.by low (4 * s.steps) (high + more) (h.to.used + more) (omega arith) n n q
+      (counted h.to) out rest (go s) j (omega arith) (g s h.to h.holds)
 
-  stops_more : (low high more : ℕ) (r : Run) (s : flat.State) (e : machine.End) → Stops m call low high r s e → Stops m call low (high + more) r s e
-  stops_more low high more r s e h = let u = h.units in record { count = h.count; ended = h.ended; world = h.world; units = omega arith; most = h.most }
+  stops_more : (low high more : ℕ) (r : Run) (s : flat.State) (e : machine.End) → Stops m call low high r s e →
+      Stops m call low (high + more) r s e
+  stops_more low high more r s e h =
+      let u = h.units in record { count = h.count; ended = h.ended; world = h.world; units = omega arith; most = h.most }
 
-  returns_more : (q low high more : ℕ) (r : Run) (s : flat.State) (v : ℕ) → Returns m call q low high r s v → Returns m call q low (high + more) r s v
-  returns_more q low high more r s v h = let u = h.units in record { to = h.to; lines = h.lines; count = h.count; by = h.by; returns = h.returns; holds = h.holds; jumps = h.jumps; units = omega arith }
+  returns_more : (q low high more : ℕ) (r : Run) (s : flat.State) (v : ℕ) → Returns m call q low high r s v →
+      Returns m call q low (high + more) r s v
+  returns_more q low high more r s v h = let u =
+      h.units in record {
+        to = h.to;
+        lines = h.lines;
+        count = h.count;
+        by = h.by;
+        returns = h.returns;
+        holds = h.holds;
+        jumps =
+            h.jumps;
+        units = omega arith;
+      }
 
-  comes_more : (q low high more : ℕ) (r : Run) (s : flat.State) (ls : List Line) → Comes m call q low high r s ls → Comes m call q low (high + more) r s ls
-  comes_more q low high more r s ls h = let u = h.units in record { to = h.to; count = h.count; by = h.by; holds = h.holds; jumps = h.jumps; units = omega arith }
+  comes_more : (q low high more : ℕ) (r : Run) (s : flat.State) (ls : List Line) → Comes m call q low high r s ls →
+      Comes m call q low (high + more) r s ls
+  comes_more q low high more r s ls h =
+      let u = h.units in record { to = h.to; count = h.count; by = h.by; holds = h.holds; jumps = h.jumps; units = omega arith }
 
   goes_more : (n q low high more : ℕ) (r : Run) (s : flat.State) → GoesOn m call n q low high r s → GoesOn m call n q low (high + more) r s
-  goes_more n q low high more r s h = let u = h.units in record { count = h.count; ended = h.ended; world = h.world; jumps = h.jumps; units = omega arith; most = h.most }
+  goes_more n q low high more r s h =
+      let u = h.units in record { count = h.count; ended = h.ended; world = h.world; jumps = h.jumps; units = omega arith; most = h.most }
 
-  module _ (n q low high more : ℕ) (out : ℕ → List Line) (rest here : List Line) (r : Run) (go : flat.State → Result) (g : NextMeets n more out rest here go) where
+  module _ (n q low high more : ℕ) (out : ℕ → List Line) (rest here : List Line) (r : Run) (go : flat.State → Result)
+      (g : NextMeets n more out rest here go) where
     -- a statement and all behind it
-    pub then_meets : (res : Result) → Meets m call n q low high out here r res → Meets m call n q low (high + more) out rest r (flat.then_go res go)
+    pub then_meets : (res : Result) → Meets m call n q low high out here r res →
+        Meets m call n q low (high + more) out rest r (flat.then_go res go)
     then_meets (Next, s) h = behind n q low high more out rest here r s go h g
     then_meets (Left k, s) h = comes_more q low high more r s (out k) h
     then_meets (Returned v, s) h = returns_more q low high more r s v h
@@ -108,7 +144,8 @@ module _ (m : Module) (call : Activation) where
     then_meets (Spent, s) h = goes_more n q low high more r s h
 
     -- the body of a Loop and the turns behind it
-    pub turn_meets : (res : Result) → Meets m call n q low high (out_of rest out) here r res → Meets m call n q low (high + more) out rest r (flat.then_turn res go)
+    pub turn_meets : (res : Result) → Meets m call n q low high (out_of rest out) here r res →
+        Meets m call n q low (high + more) out rest r (flat.then_turn res go)
     turn_meets (Next, s) h = behind n q low high more out rest here r s go h g
     turn_meets (Left zero, s) h = comes_more q low high more r s rest h
     turn_meets (Left (suc k), s) h = comes_more q low high more r s (out k) h
@@ -120,7 +157,8 @@ module _ (m : Module) (call : Activation) where
     turn_meets (Spent, s) h = goes_more n q low high more r s h
 
   -- a Seq
-  pub caught_meets : (n q low high : ℕ) (out : ℕ → List Line) (rest : List Line) (r : Run) (res : Result) → Meets m call n q low high (out_of rest out) rest r res → Meets m call n q low high out rest r (flat.caught res)
+  pub caught_meets : (n q low high : ℕ) (out : ℕ → List Line) (rest : List Line) (r : Run) (res : Result) →
+      Meets m call n q low high (out_of rest out) rest r res → Meets m call n q low high out rest r (flat.caught res)
   caught_meets n q low high out rest r (Next, s) h = h
   caught_meets n q low high out rest r (Left zero, s) h = h
   caught_meets n q low high out rest r (Left (suc k), s) h = h
@@ -132,10 +170,21 @@ module _ (m : Module) (call : Activation) where
   caught_meets n q low high out rest r (Spent, s) h = h
 
   -- behind the code stands a label
-  label_comes : (q low high x : ℕ) (rest : List Line) (r : Run) (s : flat.State) → Comes m call q low high r s (Label x ∷ rest) → Comes m call q low high r s rest
-  label_comes q low high x rest r s h = record { to = passed m call x h.to; count = h.count; by = h.by; holds = record { same = h.holds.same; most = h.holds.most }; jumps = h.jumps; units = h.units }
+  label_comes : (q low high x : ℕ) (rest : List Line) (r : Run) (s : flat.State) → Comes m call q low high r s (Label x ∷ rest) →
+      Comes m call q low high r s rest
+  label_comes q low high x rest r s h =
+      record {
+        to = passed m call x h.to;
+        count = h.count;
+        by = h.by;
+        holds = record { same = h.holds.same; most = h.holds.most };
+        jumps =
+            h.jumps;
+        units = h.units;
+      }
 
-  pub label_meets : (n q low high x : ℕ) (out : ℕ → List Line) (rest : List Line) (r : Run) (res : Result) → Meets m call n q low high out (Label x ∷ rest) r res → Meets m call n q low high out rest r res
+  pub label_meets : (n q low high x : ℕ) (out : ℕ → List Line) (rest : List Line) (r : Run) (res : Result) →
+      Meets m call n q low high out (Label x ∷ rest) r res → Meets m call n q low high out rest r res
   label_meets n q low high x out rest r (Next, s) h = label_comes q low high x rest r s h
   label_meets n q low high x out rest r (Left k, s) h = h
   label_meets n q low high x out rest r (Returned v, s) h = h
@@ -146,7 +195,8 @@ module _ (m : Module) (call : Activation) where
   label_meets n q low high x out rest r (Spent, s) h = h
 
   -- behind the code stands a jump to a label
-  jump_comes : (q low high x : ℕ) (ls rest : List Line) (r : Run) (s : flat.State) → Finds call.lines x rest → Comes m call q low high r s (End (jump.Jmp (label_name x)) ∷ ls) → Comes m call q low (high + 1) r s rest
+  jump_comes : (q low high x : ℕ) (ls rest : List Line) (r : Run) (s : flat.State) → Finds call.lines x rest →
+      Comes m call q low high r s (End (jump.Jmp (label_name x)) ∷ ls) → Comes m call q low (high + 1) r s rest
   jump_comes q low high x ls rest r s f h =
       let j = h.jumps in
       let u = h.units in
@@ -159,7 +209,8 @@ module _ (m : Module) (call : Activation) where
         units = omega arith;
       }
 
-  pub jump_meets : (n q low high x : ℕ) (out : ℕ → List Line) (ls rest : List Line) (r : Run) (res : Result) → Finds call.lines x rest → Meets m call n q low high out (End (jump.Jmp (label_name x)) ∷ ls) r res → Meets m call n q low (high + 1) out rest r res
+  pub jump_meets : (n q low high x : ℕ) (out : ℕ → List Line) (ls rest : List Line) (r : Run) (res : Result) → Finds call.lines x rest →
+      Meets m call n q low high out (End (jump.Jmp (label_name x)) ∷ ls) r res → Meets m call n q low (high + 1) out rest r res
   jump_meets n q low high x out ls rest r (Next, s) f h = jump_comes q low high x ls rest r s f h
   jump_meets n q low high x out ls rest r (Left k, s) f h = comes_more q low high 1 r s (out k) h
   jump_meets n q low high x out ls rest r (Returned v, s) f h = returns_more q low high 1 r s v h

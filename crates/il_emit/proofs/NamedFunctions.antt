@@ -26,11 +26,13 @@ abbrev pub emitted : List Data → Option FlatFn → Option il.Code
 emitted globals None = None
 emitted globals (Some f) = Some (record { name = f.name; class = f.result; params = params_of 0 f.params; blocks = blocks_of globals f })
 
-functions_named : (globals : List Data) (fs : List FlatFn) (name : List ℕ) → il.function_named (map (function_item globals) fs) name ≡ emitted globals (flat.function_named fs name)
+functions_named : (globals : List Data) (fs : List FlatFn) (name : List ℕ) → il.function_named (map (function_item globals) fs) name ≡
+    emitted globals (flat.function_named fs name)
 functions_named globals [] name = refl
 functions_named globals (f ∷ fs) name = pick (bytes_eq f.name name) refl (functions_named globals fs name)
   where
-    pick : (b : Bool) → bytes_eq f.name name ≡ b → il.function_named (map (function_item globals) fs) name ≡ emitted globals (flat.function_named fs name)
+    pick : (b : Bool) → bytes_eq f.name name ≡ b → il.function_named (map (function_item globals) fs) name ≡ emitted globals
+        (flat.function_named fs name)
         → il.function_named (map (function_item globals) (f ∷ fs)) name ≡ emitted globals (flat.function_named (f ∷ fs) name)
     pick true e on = rw e refl
     pick false e on = rw e on
@@ -45,13 +47,15 @@ past_globals globals [] fs name h = functions_named globals fs name
 past_globals globals (d ∷ ds) fs name h = pick (bytes_eq d.name name) refl (past_globals globals ds fs name)
   where
     pick : (b : Bool) → bytes_eq d.name name ≡ b
-        → (count_by (λ (x : Data). bytes_eq x.name name) ds ≡ 0 → il.function_named (map data_item ds ++ map (function_item globals) fs) name ≡ emitted globals (flat.function_named fs name))
+        → (count_by (λ (x : Data). bytes_eq x.name name) ds ≡ 0 → il.function_named (map data_item ds ++ map (function_item globals) fs)
+        name ≡ emitted globals (flat.function_named fs name))
         → il.function_named (map data_item (d ∷ ds) ++ map (function_item globals) fs) name ≡ emitted globals (flat.function_named fs name)
     pick true e on = absurd (omega (arith, h, count_cons (λ (x : Data). bytes_eq x.name name) d ds, ap weight e))
     pick false e on = rw e (on (omega (arith, h, count_cons (λ (x : Data). bytes_eq x.name name) d ds)))
 
 -- and where no function has a name, none is found
-none_behind : (globals ds : List Data) (fs : List FlatFn) (name : List ℕ) → flat.function_named fs name ≡ None → il.function_named (map data_item ds ++ map (function_item globals) fs) name ≡ None
+none_behind : (globals ds : List Data) (fs : List FlatFn) (name : List ℕ) → flat.function_named fs name ≡ None →
+    il.function_named (map data_item ds ++ map (function_item globals) fs) name ≡ None
 none_behind globals [] fs name h = functions_named globals fs name ∙ ap (emitted globals) h
 none_behind globals (d ∷ ds) fs name h = pick (bytes_eq d.name name) refl (none_behind globals ds fs name h)
   where
@@ -66,11 +70,13 @@ record IsAmong (test : FlatFn → Bool) (name : List ℕ) (fs : List FlatFn) (f 
   passes : test f ≡ true
   counted : 1 ≤ count_by (λ (x : FlatFn). bytes_eq x.name name) fs
 
-is_among : (test : FlatFn → Bool) (name : List ℕ) (fs : List FlatFn) (f : FlatFn) → list_all test fs ≡ true → flat.function_named fs name ≡ Some f → IsAmong test name fs f
+is_among : (test : FlatFn → Bool) (name : List ℕ) (fs : List FlatFn) (f : FlatFn) → list_all test fs ≡ true →
+    flat.function_named fs name ≡ Some f → IsAmong test name fs f
 is_among test name [] f h e = cc
 is_among test name (x ∷ fs) f h e = pick (bytes_eq x.name name) refl e (is_among test name fs f (and_parts (test x) (list_all test fs) h).1)
   where
-    pick : (b : Bool) → bytes_eq x.name name ≡ b → (if b then Some x else flat.function_named fs name) ≡ Some f → (flat.function_named fs name ≡ Some f → IsAmong test name fs f) → IsAmong test name (x ∷ fs) f
+    pick : (b : Bool) → bytes_eq x.name name ≡ b → (if b then Some x else flat.function_named fs name) ≡ Some f →
+        (flat.function_named fs name ≡ Some f → IsAmong test name fs f) → IsAmong test name (x ∷ fs) f
     pick true n e' on =
         let same : x ≡ f = cc in
         let k = count_cons (λ (y : FlatFn). bytes_eq y.name name) x fs in
@@ -84,13 +90,17 @@ is_among test name (x ∷ fs) f h e = pick (bytes_eq x.name name) refl e (is_amo
         let c = r.counted in
         record { named = r.named; passes = r.passes; counted = omega (arith, count_cons (λ (y : FlatFn). bytes_eq y.name name) x fs, c) }
 
-pub items_named : (p : FlatProgram) → IsWellFormed p → (name : List ℕ) → il.function_named (map data_item p.globals ++ map (function_item p.globals) p.functions) name ≡ emitted p.globals (flat.function_named p.functions name)
+pub items_named : (p : FlatProgram) → IsWellFormed p → (name : List ℕ) →
+    il.function_named (map data_item p.globals ++ map (function_item p.globals) p.functions) name ≡ emitted p.globals
+    (flat.function_named p.functions name)
 items_named p w name = pick (flat.function_named p.functions name) refl
   where
     once : (n : ℕ) → (n == 1) ≡ true → n ≡ 1
     once n h = grind (arith, nat_tests)
 
-    pick : (o : Option FlatFn) → flat.function_named p.functions name ≡ o → il.function_named (map data_item p.globals ++ map (function_item p.globals) p.functions) name ≡ emitted p.globals (flat.function_named p.functions name)
+    pick : (o : Option FlatFn) → flat.function_named p.functions name ≡ o →
+        il.function_named (map data_item p.globals ++ map (function_item p.globals) p.functions) name ≡ emitted p.globals
+        (flat.function_named p.functions name)
     pick None e = none_behind p.globals p.globals p.functions name e ∙ sym (ap (emitted p.globals) e)
     pick (Some f) e =
         let k = is_among (λ (x : FlatFn). how_many p x.name == 1) name p.functions f w.functions_differ e in
@@ -104,27 +114,37 @@ pub record Found (globals : ℕ) (name : List ℕ) (f : FlatFn) : Type 0 where
   pub right : is_function_right globals f ≡ true
   pub few : HasFewNames f
 
-pub found : (globals : ℕ) (name : List ℕ) (fs : List FlatFn) (f : FlatFn) → list_all (is_function_right globals) fs ≡ true → AllByRecursion HasFewNames fs → flat.function_named fs name ≡ Some f → Found globals name f
+pub found : (globals : ℕ) (name : List ℕ) (fs : List FlatFn) (f : FlatFn) → list_all (is_function_right globals) fs ≡ true →
+    AllByRecursion HasFewNames fs → flat.function_named fs name ≡ Some f → Found globals name f
 found globals name [] f h few e = cc
 found globals name (x ∷ fs) f h few e =
     let k = and_parts (is_function_right globals x) (list_all (is_function_right globals) fs) h in
     pick (bytes_eq x.name name) refl e (found globals name fs f k.1 few.1)
   where
-    pick : (b : Bool) → bytes_eq x.name name ≡ b → (if b then Some x else flat.function_named fs name) ≡ Some f → (flat.function_named fs name ≡ Some f → Found globals name f) → Found globals name f
+    pick : (b : Bool) → bytes_eq x.name name ≡ b → (if b then Some x else flat.function_named fs name) ≡ Some f →
+        (flat.function_named fs name ≡ Some f → Found globals name f) → Found globals name f
     pick true n e' on =
         let same : x ≡ f = cc in
-        subst (λ (z : FlatFn). Found globals name z) same (record { named = n; right = (and_parts (is_function_right globals x) (list_all (is_function_right globals) fs) h).0; few = few.0 })
+        subst (λ (z : FlatFn). Found globals name z) same
+        (record {
+          named = n;
+          right = (and_parts (is_function_right globals x) (list_all (is_function_right globals) fs) h).0;
+          few =
+              few.0;
+        })
     pick false n e' on = on e'
 
 -- no function has a name of the runtime
-pub reserved : (name : List ℕ) (rows : List (List ℕ × RuntimeFunction)) (g : RuntimeFunction) → list_all (λ (x : List ℕ × RuntimeFunction). is_reserved x.0) rows ≡ true → lookup name rows ≡ Some g → is_reserved name ≡ true
+pub reserved : (name : List ℕ) (rows : List (List ℕ × RuntimeFunction)) (g : RuntimeFunction) →
+    list_all (λ (x : List ℕ × RuntimeFunction). is_reserved x.0) rows ≡ true → lookup name rows ≡ Some g → is_reserved name ≡ true
 reserved name [] g h e = cc
 reserved name (x ∷ rows) g h e = pick (bytes_eq x.0 name) refl e (reserved name rows g k.1)
   where
     k : (is_reserved x.0 ≡ true) × (list_all (λ (y : List ℕ × RuntimeFunction). is_reserved y.0) rows ≡ true)
     k = and_parts (is_reserved x.0) (list_all (λ (y : List ℕ × RuntimeFunction). is_reserved y.0) rows) h
 
-    pick : (b : Bool) → bytes_eq x.0 name ≡ b → (if b then Some x.1 else lookup name rows) ≡ Some g → (lookup name rows ≡ Some g → is_reserved name ≡ true) → is_reserved name ≡ true
+    pick : (b : Bool) → bytes_eq x.0 name ≡ b → (if b then Some x.1 else lookup name rows) ≡ Some g →
+        (lookup name rows ≡ Some g → is_reserved name ≡ true) → is_reserved name ≡ true
     pick true n e' on = subst (λ (s : List ℕ). is_reserved s ≡ true) ((bytes_eq-Decides x.0 name).0 n) k.0
     pick false n e' on = on e'
 
@@ -132,7 +152,8 @@ not_both : (b : Bool) → b ≡ true → not b ≡ true → ⊥
 not_both true e h = cc
 not_both false e h = cc
 
-pub none_named : (globals : ℕ) (fs : List FlatFn) (name : List ℕ) → list_all (is_function_right globals) fs ≡ true → is_reserved name ≡ true → flat.function_named fs name ≡ None
+pub none_named : (globals : ℕ) (fs : List FlatFn) (name : List ℕ) → list_all (is_function_right globals) fs ≡ true →
+    is_reserved name ≡ true → flat.function_named fs name ≡ None
 none_named globals [] name h r = refl
 none_named globals (f ∷ fs) name h r = pick (bytes_eq f.name name) refl (none_named globals fs name k.1 r)
   where
@@ -142,8 +163,10 @@ none_named globals (f ∷ fs) name h r = pick (bytes_eq f.name name) refl (none_
     own : not (is_reserved f.name) ≡ true
     own = (and_parts (is_identifier f.name) (not (is_reserved f.name)) (and_parts (is_symbol f.name) _ k.0).0).1
 
-    pick : (b : Bool) → bytes_eq f.name name ≡ b → flat.function_named fs name ≡ None → (if b then Some f else flat.function_named fs name) ≡ None
-    pick true n on = absurd (not_both (is_reserved f.name) (subst (λ (s : List ℕ). is_reserved s ≡ true) (sym ((bytes_eq-Decides f.name name).0 n)) r) own)
+    pick : (b : Bool) → bytes_eq f.name name ≡ b → flat.function_named fs name ≡ None →
+        (if b then Some f else flat.function_named fs name) ≡ None
+    pick true n on = absurd (not_both (is_reserved f.name)
+        (subst (λ (s : List ℕ). is_reserved s ≡ true) (sym ((bytes_eq-Decides f.name name).0 n)) r) own)
     pick false n on = on
 
 -- there is a `main`
@@ -151,7 +174,9 @@ pub main_there : (fs : List FlatFn) → list_any is_main fs ≡ true → flat.fu
 main_there [] h e = cc
 main_there (f ∷ fs) h e = pick (bytes_eq f.name (codes "main")) refl h e (main_there fs)
   where
-    pick : (b : Bool) → bytes_eq f.name (codes "main") ≡ b → (b || list_any is_main fs) ≡ true → (if b then Some f else flat.function_named fs (codes "main")) ≡ None → (list_any is_main fs ≡ true → flat.function_named fs (codes "main") ≡ None → ⊥) → ⊥
+    pick : (b : Bool) → bytes_eq f.name (codes "main") ≡ b → (b || list_any is_main fs) ≡ true →
+        (if b then Some f else flat.function_named fs (codes "main")) ≡ None →
+        (list_any is_main fs ≡ true → flat.function_named fs (codes "main") ≡ None → ⊥) → ⊥
     pick true n h' e' on = cc
     pick false n h' e' on = on h' e'
 

@@ -33,7 +33,8 @@ digit_in_name c h = grind (arith, nat_tests, common_steps)
 
 digits_in_name : (s : List ℕ) → all_ascii_digits s ≡ true → list_all is_name_byte s ≡ true
 digits_in_name [] h = refl
-digits_in_name (c ∷ s) h = let k = and_parts (is_ascii_digit c) (all_ascii_digits s) h in both_true (is_name_byte c) _ (digit_in_name c k.0) (digits_in_name s k.1)
+digits_in_name (c ∷ s) h =
+    let k = and_parts (is_ascii_digit c) (all_ascii_digits s) h in both_true (is_name_byte c) _ (digit_in_name c k.0) (digits_in_name s k.1)
 
 own : IsNumeralModel (λ ds. all_ascii_digits ds ≡ true) (digits_value 10)
 own = numerals_by_value _ tells_all_ascii_digits

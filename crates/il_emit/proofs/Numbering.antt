@@ -43,7 +43,8 @@ module _ (globals : List Data) where
 
   args_tidy : (vs : List Value) (k : ℕ) → tidy true (arg_lines globals vs k) ≡ true
   args_tidy [] k = refl
-  args_tidy (v ∷ vs) k = tidy_append true (address_lines globals v k) (arg_lines globals vs (k + addressed v)) (address_tidy v k) (args_tidy vs (k + addressed v))
+  args_tidy (v ∷ vs) k = tidy_append true (address_lines globals v k) (arg_lines globals vs (k + addressed v)) (address_tidy v k)
+      (args_tidy vs (k + addressed v))
 
   return_tidy : (value : Option Value) (n k : ℕ) → tidy true (return_lines globals value n k) ≡ true
   return_tidy None n k = refl
@@ -51,7 +52,8 @@ module _ (globals : List Data) where
 
   mutual
     pub code_tidy : (c : Code) (n k : ℕ) (es : List ℕ) → tidy true (code_lines globals c n k es) ≡ true
-    code_tidy (Seq cs) n k es = tidy_append true (each_lines globals cs (suc n) k (es ++ n ∷ [])) (Label n ∷ []) (each_tidy cs (suc n) k (es ++ n ∷ [])) refl
+    code_tidy (Seq cs) n k es =
+        tidy_append true (each_lines globals cs (suc n) k (es ++ n ∷ [])) (Label n ∷ []) (each_tidy cs (suc n) k (es ++ n ∷ [])) refl
     code_tidy (Set t class o a b) n k es =
         tidy_append true (address_lines globals a k) _ (address_tidy a k)
         (tidy_append true (address_lines globals b (k + addressed a)) _ (address_tidy b (k + addressed a)) refl)
@@ -61,15 +63,19 @@ module _ (globals : List Data) where
     code_tidy (If cond a b) n k es =
         tidy_append true (address_lines globals cond k) _ (address_tidy cond k)
         (tidy_append true (code_lines globals a (n + 3) (k + addressed cond) es) _ (code_tidy a (n + 3) (k + addressed cond) es)
-        (tidy_append true (code_lines globals b (n + 3 + labels_in a) (k + addressed cond + addresses_in a) es) (Label (n + 2) ∷ []) (code_tidy b (n + 3 + labels_in a) (k + addressed cond + addresses_in a) es) refl))
-    code_tidy (Loop c) n k es = tidy_append true (code_lines globals c (n + 2) k (es ++ (n + 1) ∷ [])) _ (code_tidy c (n + 2) k (es ++ (n + 1) ∷ [])) refl
+        (tidy_append true (code_lines globals b (n + 3 + labels_in a) (k + addressed cond + addresses_in a) es) (Label (n + 2) ∷ [])
+        (code_tidy b (n + 3 + labels_in a) (k + addressed cond + addresses_in a) es) refl))
+    code_tidy (Loop c) n k es =
+        tidy_append true (code_lines globals c (n + 2) k (es ++ (n + 1) ∷ [])) _ (code_tidy c (n + 2) k (es ++ (n + 1) ∷ [])) refl
     code_tidy (Leave j) n k es = refl
     code_tidy (Call temp name args) n k es = tidy_append true (arg_lines globals args k) _ (args_tidy args k) refl
     code_tidy (Ret value) n k es = return_tidy value n k
 
     each_tidy : (cs : Codes) (n k : ℕ) (es : List ℕ) → tidy true (each_lines globals cs n k es) ≡ true
     each_tidy none n k es = refl
-    each_tidy (more c cs) n k es = tidy_append true (code_lines globals c n k es) (each_lines globals cs (n + labels_in c) (k + addresses_in c) es) (code_tidy c n k es) (each_tidy cs (n + labels_in c) (k + addresses_in c) es)
+    each_tidy (more c cs) n k es = tidy_append true (code_lines globals c n k es)
+        (each_lines globals cs (n + labels_in c) (k + addresses_in c) es) (code_tidy c n k es)
+        (each_tidy cs (n + labels_in c) (k + addresses_in c) es)
 
 -- ---- each label stands once
 
@@ -91,7 +97,13 @@ within_by x n m m' e = ap (λ (s : ℕ). within x n s) e
 within_add : (x n a b : ℕ) → within x n (a + b) ≡ within x n a + within x (n + a) b
 within_add x n zero b = omega (arith, within_by x n (0 + b) b (omega arith), within_at x b n (n + 0) (omega arith))
 within_add x n (suc a) b =
-    omega (arith, within_by x n (suc a + b) (suc (a + b)) (omega arith), within_add x (suc n) a b, within_at x b (suc n + a) (n + suc a) (omega arith))
+    omega (
+      arith,
+      within_by x n (suc a + b) (suc (a + b)) (omega arith),
+      within_add x (suc n) a b,
+      within_at x b (suc n + a) (n + suc a)
+          (omega arith),
+    )
 
 within_past : (x n m : ℕ) → x < n → within x n m ≡ 0
 within_past x n zero h = refl
@@ -124,19 +136,23 @@ module _ (globals : List Data) (x : ℕ) (small : x < 2 ^ 64) where
       pick true e = rw e refl
       pick false e = rw e refl
 
-  behind_labels : (v : Value) (k : ℕ) (ys : List Line) (m : ℕ) → lines_labelled (label_name x) ys ≡ m → lines_labelled (label_name x) (address_lines globals v k ++ ys) ≡ m
+  behind_labels : (v : Value) (k : ℕ) (ys : List Line) (m : ℕ) → lines_labelled (label_name x) ys ≡ m →
+      lines_labelled (label_name x) (address_lines globals v k ++ ys) ≡ m
   behind_labels v k ys m h = labelled_append (label_name x) (address_lines globals v k) ys ∙ omega (arith, address_labels v k, h)
 
   arg_labels : (vs : List Value) (k : ℕ) → lines_labelled (label_name x) (arg_lines globals vs k) ≡ 0
   arg_labels [] k = refl
-  arg_labels (v ∷ vs) k = labelled_append (label_name x) (address_lines globals v k) (arg_lines globals vs (k + addressed v)) ∙ omega (arith, address_labels v k, arg_labels vs (k + addressed v))
+  arg_labels (v ∷ vs) k = labelled_append (label_name x) (address_lines globals v k) (arg_lines globals vs (k + addressed v)) ∙ omega
+      (arith, address_labels v k, arg_labels vs (k + addressed v))
 
-  return_labels : (value : Option Value) (n k : ℕ) → n < 2 ^ 64 → lines_labelled (label_name x) (return_lines globals value n k) ≡ within x n 1
+  return_labels : (value : Option Value) (n k : ℕ) → n < 2 ^ 64 → lines_labelled (label_name x) (return_lines globals value n k) ≡ within x
+      n 1
   return_labels None n k h = omega (arith, hit n h)
   return_labels (Some v) n k h = labelled_append (label_name x) (address_lines globals v k) _ ∙ omega (arith, address_labels v k, hit n h)
 
   mutual
-    pub code_labels : (c : Code) (n k : ℕ) (es : List ℕ) → n + labels_in c ≤ 2 ^ 64 → lines_labelled (label_name x) (code_lines globals c n k es) ≡ within x n (labels_in c)
+    pub code_labels : (c : Code) (n k : ℕ) (es : List ℕ) → n + labels_in c ≤ 2 ^ 64 →
+        lines_labelled (label_name x) (code_lines globals c n k es) ≡ within x n (labels_in c)
     code_labels (Seq cs) n k es h =
         labelled_append (label_name x) (each_lines globals cs (suc n) k (es ++ n ∷ [])) (Label n ∷ [])
         ∙ omega (arith, each_labels cs (suc n) k (es ++ n ∷ []) (omega arith), hit n (omega arith))
@@ -157,7 +173,21 @@ module _ (globals : List Data) (x : ℕ) (small : x < 2 ^ 64) where
         let at = within_at x (labels_in b) (n + (3 + labels_in a)) (n + 3 + labels_in a) (omega arith) in
         let s1 = one_at (n + 1) (suc n) (omega arith) in
         let s2 = one_at (n + 2) (suc (suc n)) (omega arith) in
-        behind_labels cond k _ _ (omega (arith, h0, front, one', h1, back, other, h2, within_add x n (3 + labels_in a) (labels_in b), within_add x n 3 (labels_in a), at, s1, s2))
+        behind_labels cond k _ _ (omega (
+          arith,
+          h0,
+          front,
+          one',
+          h1,
+          back,
+          other,
+          h2,
+          within_add x n (3 + labels_in a) (labels_in b),
+          within_add x n 3 (labels_in a),
+          at,
+          s1,
+          s2,
+        ))
     code_labels (Loop c) n k es h =
         let A = code_lines globals c (n + 2) k (es ++ (n + 1) ∷ []) in
         let inner = code_labels c (n + 2) k (es ++ (n + 1) ∷ []) (omega arith) in
@@ -167,14 +197,21 @@ module _ (globals : List Data) (x : ℕ) (small : x < 2 ^ 64) where
         let s1 = one_at (n + 1) (suc n) (omega arith) in
         omega (arith, h0, front, inner, h1, within_add x n 2 (labels_in c), s1)
     code_labels (Leave j) n k es h = omega (arith, hit n (omega arith))
-    code_labels (Call temp name args) n k es h = labelled_append (label_name x) (arg_lines globals args k) _ ∙ omega (arith, arg_labels args k)
+    code_labels (Call temp name args) n k es h =
+        labelled_append (label_name x) (arg_lines globals args k) _ ∙ omega (arith, arg_labels args k)
     code_labels (Ret value) n k es h = return_labels value n k (omega arith)
 
-    each_labels : (cs : Codes) (n k : ℕ) (es : List ℕ) → n + labels_in_all cs ≤ 2 ^ 64 → lines_labelled (label_name x) (each_lines globals cs n k es) ≡ within x n (labels_in_all cs)
+    each_labels : (cs : Codes) (n k : ℕ) (es : List ℕ) → n + labels_in_all cs ≤ 2 ^ 64 →
+        lines_labelled (label_name x) (each_lines globals cs n k es) ≡ within x n (labels_in_all cs)
     each_labels none n k es h = refl
     each_labels (more c cs) n k es h =
         labelled_append (label_name x) (code_lines globals c n k es) _
-        ∙ omega (arith, code_labels c n k es (omega arith), each_labels cs (n + labels_in c) (k + addresses_in c) es (omega arith), within_add x n (labels_in c) (labels_in_all cs))
+        ∙ omega (
+          arith,
+          code_labels c n k es (omega arith),
+          each_labels cs (n + labels_in c) (k + addresses_in c) es (omega arith),
+          within_add x n (labels_in c) (labels_in_all cs),
+        )
 
 -- ---- the temporaries that are set
 
@@ -200,7 +237,8 @@ module _ (globals : List Data) (count : ℕ) (f : FlatFn) (few : f.temps < 2 ^ 6
       pick false e = rw e refl
 
   behind : (v : Value) (k : ℕ) (ys : List Line) (b : Bool) → lines_any here ys ≡ b → lines_any here (address_lines globals v k ++ ys) ≡ b
-  behind v k ys b h = any_append here (address_lines globals v k) ys ∙ or_none (lines_any here (address_lines globals v k)) _ b (address_sets v k) h
+  behind v k ys b h =
+      any_append here (address_lines globals v k) ys ∙ or_none (lines_any here (address_lines globals v k)) _ b (address_sets v k) h
 
   arg_sets : (vs : List Value) (k : ℕ) → lines_any here (arg_lines globals vs k) ≡ false
   arg_sets [] k = refl
@@ -216,20 +254,25 @@ module _ (globals : List Data) (count : ℕ) (f : FlatFn) (few : f.temps < 2 ^ 6
       let lt : u < f.temps = grind (arith, nat_tests) in
       ap (λ (b : Bool). b && same_class c class) (temp_eq u t (omega arith) small)
 
-  kept_sets : (temp : Option ℕ) (given : Option Class) → takes_result f temp given ≡ true → result_sets (temp_name t) class (result_param temp given) ≡ call_sets t class temp given
+  kept_sets : (temp : Option ℕ) (given : Option Class) → takes_result f temp given ≡ true →
+      result_sets (temp_name t) class (result_param temp given) ≡ call_sets t class temp given
   kept_sets None given h = refl
   kept_sets (Some u) None h = refl
   kept_sets (Some u) (Some c) h = target_sets u c h
 
-  called_sets : (temp : Option ℕ) (args : List Value) (g : Option RuntimeFunction) → is_call count f temp args g ≡ true → result_sets (temp_name t) class (result_param temp (call_class g)) ≡ call_sets t class temp (call_class g)
+  called_sets : (temp : Option ℕ) (args : List Value) (g : Option RuntimeFunction) → is_call count f temp args g ≡ true →
+      result_sets (temp_name t) class (result_param temp (call_class g)) ≡ call_sets t class temp (call_class g)
   called_sets temp args None h = cc
-  called_sets temp args (Some g) h = kept_sets temp (runtime_result g) (and_parts (are_args count f (runtime_params g) args) (takes_result f temp (runtime_result g)) h).1
+  called_sets temp args (Some g) h =
+      kept_sets temp (runtime_result g) (and_parts (are_args count f (runtime_params g) args) (takes_result f temp (runtime_result g)) h).1
 
   mutual
-    pub code_sets_is : (c : Code) (around n k : ℕ) (es : List ℕ) → is_built c ≡ true → is_right count f around c ≡ true → lines_any here (code_lines globals c n k es) ≡ code_sets t class c
+    pub code_sets_is : (c : Code) (around n k : ℕ) (es : List ℕ) → is_built c ≡ true → is_right count f around c ≡ true →
+        lines_any here (code_lines globals c n k es) ≡ code_sets t class c
     code_sets_is (Seq cs) around n k es u r =
         let p = and_parts (nat_lt around deepest) (are_right count f (suc around) cs) r in
-        any_append here (each_lines globals cs (suc n) k (es ++ n ∷ [])) (Label n ∷ []) ∙ none_right _ ∙ each_sets_is cs (suc around) (suc n) k (es ++ n ∷ []) u p.1
+        any_append here (each_lines globals cs (suc n) k (es ++ n ∷ [])) (Label n ∷ []) ∙ none_right _ ∙ each_sets_is cs (suc around)
+        (suc n) k (es ++ n ∷ []) u p.1
     code_sets_is (Set v c o a b) around n k es u r =
         let p = and_parts (is_target f v c) _ r in
         behind a k _ _ (behind b (k + addressed a) _ _ (none_right (sets (temp_name t) class (temp_name v) c) ∙ target_sets v c p.0))
@@ -244,25 +287,32 @@ module _ (globals : List Data) (count : ℕ) (f : FlatFn) (few : f.temps < 2 ^ 6
         behind cond k _ _
         (any_append here (code_lines globals a (n + 3) (k + addressed cond) es) _
         ∙ either _ _ _ _ (code_sets_is a around (n + 3) (k + addressed cond) es v.0 s.0)
-        (any_append here B (Label (n + 2) ∷ []) ∙ none_right (lines_any here B) ∙ code_sets_is b around (n + 3 + labels_in a) (k + addressed cond + addresses_in a) es v.1 s.1))
+        (any_append here B (Label (n + 2) ∷ []) ∙ none_right (lines_any here B) ∙ code_sets_is b around (n + 3 + labels_in a)
+        (k + addressed cond + addresses_in a) es v.1 s.1))
     code_sets_is (Loop c) around n k es u r =
         let p = and_parts (nat_lt around deepest) (is_right count f (suc around) c) r in
-        any_append here (code_lines globals c (n + 2) k (es ++ (n + 1) ∷ [])) _ ∙ none_right _ ∙ code_sets_is c (suc around) (n + 2) k (es ++ (n + 1) ∷ []) u p.1
+        any_append here (code_lines globals c (n + 2) k (es ++ (n + 1) ∷ [])) _ ∙ none_right _ ∙ code_sets_is c (suc around) (n + 2) k
+        (es ++ (n + 1) ∷ []) u p.1
     code_sets_is (Leave j) around n k es u r = refl
     code_sets_is (Call temp name args) around n k es u r =
-        any_append here (arg_lines globals args k) _ ∙ or_none (lines_any here (arg_lines globals args k)) _ _ (arg_sets args k) (none_right _ ∙ called_sets temp args (runtime_function name) r)
+        any_append here (arg_lines globals args k) _ ∙ or_none (lines_any here (arg_lines globals args k)) _ _ (arg_sets args k)
+        (none_right _ ∙ called_sets temp args (runtime_function name) r)
     code_sets_is (Ret value) around n k es u r = return_sets value n k
 
-    each_sets_is : (cs : Codes) (around n k : ℕ) (es : List ℕ) → are_built cs ≡ true → are_right count f around cs ≡ true → lines_any here (each_lines globals cs n k es) ≡ one_sets t class cs
+    each_sets_is : (cs : Codes) (around n k : ℕ) (es : List ℕ) → are_built cs ≡ true → are_right count f around cs ≡ true →
+        lines_any here (each_lines globals cs n k es) ≡ one_sets t class cs
     each_sets_is none around n k es u r = refl
     each_sets_is (more c cs) around n k es u r =
         let p = and_parts (is_right count f around c) (are_right count f around cs) r in
         let v = and_parts (is_built c) (are_built cs) u in
-        any_append here (code_lines globals c n k es) _ ∙ either _ _ _ _ (code_sets_is c around n k es v.0 p.0) (each_sets_is cs around (n + labels_in c) (k + addresses_in c) es v.1 p.1)
+        any_append here (code_lines globals c n k es) _ ∙ either _ _ _ _ (code_sets_is c around n k es v.0 p.0)
+        (each_sets_is cs around (n + labels_in c) (k + addresses_in c) es v.1 p.1)
 
-  pub params_sets_is : (at : ℕ) (cs : List Class) → at + length cs ≤ 2 ^ 64 → list_any (λ (p : IlParam). sets (temp_name t) class p.name p.class) (params_of at cs) ≡ params_set t class at cs
+  pub params_sets_is : (at : ℕ) (cs : List Class) → at + length cs ≤ 2 ^ 64 →
+      list_any (λ (p : IlParam). sets (temp_name t) class p.name p.class) (params_of at cs) ≡ params_set t class at cs
   params_sets_is at [] h = refl
-  params_sets_is at (c ∷ cs) h = either _ _ _ _ (ap (λ (b : Bool). b && same_class c class) (temp_eq at t (omega arith) small)) (params_sets_is (suc at) cs (omega arith))
+  params_sets_is at (c ∷ cs) h = either _ _ _ _ (ap (λ (b : Bool). b && same_class c class) (temp_eq at t (omega arith) small))
+      (params_sets_is (suc at) cs (omega arith))
 
 -- ---- only temporaries of the function are set
 
@@ -275,18 +325,23 @@ module _ (count : ℕ) (f : FlatFn) (t : ℕ) (class : Class) where
       let lt : u < f.temps = let z = p.0 in grind (arith, nat_tests) in
       omega arith
 
-  kept_below : (temp : Option ℕ) (given : Option Class) → takes_result f temp given ≡ true → call_sets t class temp given ≡ true → t < f.temps
+  kept_below : (temp : Option ℕ) (given : Option Class) → takes_result f temp given ≡ true → call_sets t class temp given ≡ true →
+      t < f.temps
   kept_below None given h e = cc
   kept_below (Some u) None h e = cc
   kept_below (Some u) (Some c) h e = target_below u c h e
 
-  called_below : (temp : Option ℕ) (args : List Value) (g : Option RuntimeFunction) → is_call count f temp args g ≡ true → call_sets t class temp (call_class g) ≡ true → t < f.temps
+  called_below : (temp : Option ℕ) (args : List Value) (g : Option RuntimeFunction) → is_call count f temp args g ≡ true →
+      call_sets t class temp (call_class g) ≡ true → t < f.temps
   called_below temp args None h e = cc
-  called_below temp args (Some g) h e = kept_below temp (runtime_result g) (and_parts (are_args count f (runtime_params g) args) (takes_result f temp (runtime_result g)) h).1 e
+  called_below temp args (Some g) h e = kept_below temp (runtime_result g)
+      (and_parts (are_args count f (runtime_params g) args) (takes_result f temp (runtime_result g)) h).1 e
 
   mutual
-    pub code_below : (c : Code) (around : ℕ) → is_built c ≡ true → is_right count f around c ≡ true → code_sets t class c ≡ true → t < f.temps
-    code_below (Seq cs) around u r e = each_below cs (suc around) u (and_parts (nat_lt around deepest) (are_right count f (suc around) cs) r).1 e
+    pub code_below : (c : Code) (around : ℕ) → is_built c ≡ true → is_right count f around c ≡ true → code_sets t class c ≡ true →
+        t < f.temps
+    code_below (Seq cs) around u r e =
+        each_below cs (suc around) u (and_parts (nat_lt around deepest) (are_right count f (suc around) cs) r).1 e
     code_below (Set v c o a b) around u r e = target_below v c (and_parts (is_target f v c) _ r).0 e
     code_below (Load v how at) around u r e = cc
     code_below (Store width value at) around u r e = cc
@@ -299,12 +354,14 @@ module _ (count : ℕ) (f : FlatFn) (t : ℕ) (class : Class) where
           | inl h ↦ code_below a around v.0 s.0 h
           | inr h ↦ code_below b around v.1 s.1 h
         ]
-    code_below (Loop c) around u r e = code_below c (suc around) u (and_parts (nat_lt around deepest) (is_right count f (suc around) c) r).1 e
+    code_below (Loop c) around u r e =
+        code_below c (suc around) u (and_parts (nat_lt around deepest) (is_right count f (suc around) c) r).1 e
     code_below (Leave j) around u r e = cc
     code_below (Call temp name args) around u r e = called_below temp args (runtime_function name) r e
     code_below (Ret value) around u r e = cc
 
-    each_below : (cs : Codes) (around : ℕ) → are_built cs ≡ true → are_right count f around cs ≡ true → one_sets t class cs ≡ true → t < f.temps
+    each_below : (cs : Codes) (around : ℕ) → are_built cs ≡ true → are_right count f around cs ≡ true → one_sets t class cs ≡ true →
+        t < f.temps
     each_below none around u r e = cc
     each_below (more c cs) around u r e =
         let p = and_parts (is_right count f around c) (are_right count f around cs) r in
@@ -333,7 +390,8 @@ module _ (globals : List Data) (count : ℕ) (f : FlatFn) (empty : f.frame ≡ 0
   right : (xs ys : List Line) → lines_any computes ys ≡ true → lines_any computes (xs ++ ys) ≡ true
   right xs ys h = any_append computes xs ys ∙ or_true (lines_any computes xs) (lines_any computes ys) h
 
-  address_there : (class : Class) (v : Value) (k : ℕ) → is_operand count f class v ≡ true → k ≤ x → x < k + addressed v → lines_any computes (address_lines globals v k) ≡ true
+  address_there : (class : Class) (v : Value) (k : ℕ) → is_operand count f class v ≡ true → k ≤ x → x < k + addressed v →
+      lines_any computes (address_lines globals v k) ≡ true
   address_there class (Temp t) k r l u = absurd (omega arith)
   address_there class (Number n) k r l u = absurd (omega arith)
   address_there class (Frame offset) k r l u =
@@ -348,7 +406,8 @@ module _ (globals : List Data) (count : ℕ) (f : FlatFn) (empty : f.frame ≡ 0
           let s : k ≡ x = omega arith in
           rw (e, s) (ap (λ (b : Bool). (b && true) || false) (bytes_same (address_name x)))
 
-  args_there : (cs : List Class) (vs : List Value) (k : ℕ) → are_args count f cs vs ≡ true → k ≤ x → x < k + all_addressed vs → lines_any computes (arg_lines globals vs k) ≡ true
+  args_there : (cs : List Class) (vs : List Value) (k : ℕ) → are_args count f cs vs ≡ true → k ≤ x → x < k + all_addressed vs →
+      lines_any computes (arg_lines globals vs k) ≡ true
   args_there [] [] k r l u = absurd (omega arith)
   args_there [] (v ∷ vs) k r l u = cc
   args_there (c ∷ cs) [] k r l u = absurd (omega arith)
@@ -359,32 +418,42 @@ module _ (globals : List Data) (count : ℕ) (f : FlatFn) (empty : f.frame ≡ 0
         | inr h ↦ right (address_lines globals v k) _ (args_there cs vs (k + addressed v) p.1 h (omega arith))
       ]
 
-  called_there : (temp : Option ℕ) (args : List Value) (k : ℕ) (g : Option RuntimeFunction) → is_call count f temp args g ≡ true → k ≤ x → x < k + all_addressed args → lines_any computes (arg_lines globals args k) ≡ true
+  called_there : (temp : Option ℕ) (args : List Value) (k : ℕ) (g : Option RuntimeFunction) → is_call count f temp args g ≡ true → k ≤ x →
+      x < k + all_addressed args → lines_any computes (arg_lines globals args k) ≡ true
   called_there temp args k None r l u = cc
-  called_there temp args k (Some g) r l u = args_there (runtime_params g) args k (and_parts (are_args count f (runtime_params g) args) (takes_result f temp (runtime_result g)) r).0 l u
+  called_there temp args k (Some g) r l u = args_there (runtime_params g) args k
+      (and_parts (are_args count f (runtime_params g) args) (takes_result f temp (runtime_result g)) r).0 l u
 
-  second_there : (class : Class) (two : Bool) (v : Value) (k : ℕ) → is_second count f class two v ≡ true → k ≤ x → x < k + addressed v → lines_any computes (address_lines globals v k) ≡ true
+  second_there : (class : Class) (two : Bool) (v : Value) (k : ℕ) → is_second count f class two v ≡ true → k ≤ x → x < k + addressed v →
+      lines_any computes (address_lines globals v k) ≡ true
   second_there class true v k r l u = address_there class v k r l u
   second_there class false (Temp t) k r l u = cc
   second_there class false (Number n) k r l u = absurd (omega arith)
   second_there class false (Symbol i offset) k r l u = cc
   second_there class false (Frame offset) k r l u = cc
 
-  return_there : (class : Option Class) (value : Option Value) (n k : ℕ) → is_return count f class value ≡ true → k ≤ x → x < k + addresses_of value → lines_any computes (return_lines globals value n k) ≡ true
+  return_there : (class : Option Class) (value : Option Value) (n k : ℕ) → is_return count f class value ≡ true → k ≤ x →
+      x < k + addresses_of value → lines_any computes (return_lines globals value n k) ≡ true
   return_there class None n k r l u = absurd (omega arith)
   return_there None (Some v) n k r l u = cc
   return_there (Some c) (Some v) n k r l u = left (address_lines globals v k) _ (address_there c v k r l u)
 
   mutual
-    pub code_there : (c : Code) (around n k : ℕ) (es : List ℕ) → is_right count f around c ≡ true → k ≤ x → x < k + addresses_in c → lines_any computes (code_lines globals c n k es) ≡ true
-    code_there (Seq cs) around n k es r l u = left (each_lines globals cs (suc n) k (es ++ n ∷ [])) (Label n ∷ []) (each_there cs (suc around) (suc n) k (es ++ n ∷ []) (and_parts (nat_lt around deepest) (are_right count f (suc around) cs) r).1 l u)
+    pub code_there : (c : Code) (around n k : ℕ) (es : List ℕ) → is_right count f around c ≡ true → k ≤ x → x < k + addresses_in c →
+        lines_any computes (code_lines globals c n k es) ≡ true
+    code_there (Seq cs) around n k es r l u = left (each_lines globals cs (suc n) k (es ++ n ∷ [])) (Label n ∷ [])
+        (each_there cs (suc around) (suc n) k (es ++ n ∷ []) (and_parts (nat_lt around deepest) (are_right count f (suc around) cs) r).1 l
+        u)
     code_there (Set t class o a b) around n k es r l u =
         let p = and_parts (is_target f t class) _ r in
         let q = and_parts (may_give (op_kind o) class) _ p.1 in
-        let s = and_parts (is_operand count f (first_class (op_kind o) class) a) (is_second count f (second_class (op_kind o) class) (takes_two (op_kind o)) b) q.1 in
+        let s = and_parts (is_operand count f (first_class (op_kind o) class) a)
+        (is_second count f (second_class (op_kind o) class) (takes_two (op_kind o)) b) q.1 in
         elim (cases_lt x (k + addressed a)) [
           | inl h ↦ left (address_lines globals a k) _ (address_there (first_class (op_kind o) class) a k s.0 l h)
-          | inr h ↦ right (address_lines globals a k) _ (left (address_lines globals b (k + addressed a)) _ (second_there (second_class (op_kind o) class) (takes_two (op_kind o)) b (k + addressed a) s.1 h (omega arith)))
+          | inr h ↦ right (address_lines globals a k) _
+              (left (address_lines globals b (k + addressed a)) _
+              (second_there (second_class (op_kind o) class) (takes_two (op_kind o)) b (k + addressed a) s.1 h (omega arith)))
         ]
     code_there (Load t how at) around n k es r l u = absurd (omega arith)
     code_there (Store width value at) around n k es r l u = absurd (omega arith)
@@ -398,19 +467,25 @@ module _ (globals : List Data) (count : ℕ) (f : FlatFn) (empty : f.frame ≡ 0
           | inl h ↦ left (address_lines globals cond k) _ (address_there W cond k p.0 l h)
           | inr h ↦ right (address_lines globals cond k) _ (elim (cases_lt x (k + addressed cond + addresses_in a)) [
             | inl i ↦ left A _ (code_there a around (n + 3) (k + addressed cond) es s.0 h i)
-            | inr i ↦ right A _ (left B _ (code_there b around (n + 3 + labels_in a) (k + addressed cond + addresses_in a) es s.1 i (omega arith)))
+            | inr i ↦ right A _ (left B _ (code_there b around (n + 3 + labels_in a) (k + addressed cond + addresses_in a) es s.1 i
+                (omega arith)))
           ])
         ]
-    code_there (Loop c) around n k es r l u = left (code_lines globals c (n + 2) k (es ++ (n + 1) ∷ [])) _ (code_there c (suc around) (n + 2) k (es ++ (n + 1) ∷ []) (and_parts (nat_lt around deepest) (is_right count f (suc around) c) r).1 l u)
+    code_there (Loop c) around n k es r l u = left (code_lines globals c (n + 2) k (es ++ (n + 1) ∷ [])) _
+        (code_there c (suc around) (n + 2) k (es ++ (n + 1) ∷ []) (and_parts (nat_lt around deepest) (is_right count f (suc around) c) r).1
+        l u)
     code_there (Leave j) around n k es r l u = absurd (omega arith)
-    code_there (Call temp name args) around n k es r l u = left (arg_lines globals args k) _ (called_there temp args k (runtime_function name) r l u)
+    code_there (Call temp name args) around n k es r l u =
+        left (arg_lines globals args k) _ (called_there temp args k (runtime_function name) r l u)
     code_there (Ret value) around n k es r l u = return_there f.result value n k r l u
 
-    each_there : (cs : Codes) (around n k : ℕ) (es : List ℕ) → are_right count f around cs ≡ true → k ≤ x → x < k + addresses_in_all cs → lines_any computes (each_lines globals cs n k es) ≡ true
+    each_there : (cs : Codes) (around n k : ℕ) (es : List ℕ) → are_right count f around cs ≡ true → k ≤ x → x < k + addresses_in_all cs →
+        lines_any computes (each_lines globals cs n k es) ≡ true
     each_there none around n k es r l u = absurd (omega arith)
     each_there (more c cs) around n k es r l u =
         let p = and_parts (is_right count f around c) (are_right count f around cs) r in
         elim (cases_lt x (k + addresses_in c)) [
           | inl h ↦ left (code_lines globals c n k es) _ (code_there c around n k es p.0 l h)
-          | inr h ↦ right (code_lines globals c n k es) _ (each_there cs around (n + labels_in c) (k + addresses_in c) es p.1 h (omega arith))
+          | inr h ↦ right (code_lines globals c n k es) _
+              (each_there cs around (n + labels_in c) (k + addresses_in c) es p.1 h (omega arith))
         ]

@@ -44,7 +44,9 @@ addressed_one (Frame offset) = omega arith
 
 -- ---- temporaries that are set
 
-same_step : (fill v x : ℕ) (ts : List (ℕ × ℕ)) (temps : Temps) (b c : Bool) → b ≡ c → temp_value fill temps (temp_name x) ≡ flat.temp_value fill ts x → (if b then v else temp_value fill temps (temp_name x)) ≡ (if c then v else flat.temp_value fill ts x)
+same_step : (fill v x : ℕ) (ts : List (ℕ × ℕ)) (temps : Temps) (b c : Bool) → b ≡ c →
+    temp_value fill temps (temp_name x) ≡ flat.temp_value fill ts x → (if b then v else temp_value fill temps (temp_name x)) ≡
+    (if c then v else flat.temp_value fill ts x)
 same_step fill v x ts temps true true e h = refl
 same_step fill v x ts temps false false e h = h
 same_step fill v x ts temps true false e h = cc
@@ -52,14 +54,16 @@ same_step fill v x ts temps false true e h = cc
 
 -- a temporary more
 pub same_set : (ts : List (ℕ × ℕ)) (temps : Temps) (t v : ℕ) → t < 2 ^ 64 → Same ts temps → Same ((t, v) ∷ ts) ((temp_name t, v) ∷ temps)
-same_set ts temps t v h s = record { at = λ fill x l. same_step fill v x ts temps (bytes_eq (temp_name t) (temp_name x)) (nat_eq t x) (temp_eq t x h l) (s.at fill x l) }
+same_set ts temps t v h s = record
+    { at = λ fill x l. same_step fill v x ts temps (bytes_eq (temp_name t) (temp_name x)) (nat_eq t x) (temp_eq t x h l) (s.at fill x l) }
 
 -- an address is no temporary of flat code
 same_address : (ts : List (ℕ × ℕ)) (temps : Temps) (k v : ℕ) → Same ts temps → Same ts ((address_name k, v) ∷ temps)
 same_address ts temps k v s = record { at = λ fill x l. s.at fill x l }
 
 -- an address with another number is kept
-other_address : (fill j k v : ℕ) (temps : Temps) → j < k → k < 2 ^ 64 → temp_value fill ((address_name k, v) ∷ temps) (address_name j) ≡ temp_value fill temps (address_name j)
+other_address : (fill j k v : ℕ) (temps : Temps) → j < k → k < 2 ^ 64 → temp_value fill ((address_name k, v) ∷ temps) (address_name j) ≡
+    temp_value fill temps (address_name j)
 other_address fill j k v temps l h =
     let e : bytes_eq (address_name k) (address_name j) ≡ false = decimal_eq k j h (omega arith) ∙ apart in
     rw e refl
@@ -90,7 +94,8 @@ module _ (p : FlatProgram) (f : FlatFn) (m : Module) (set : Setting p f m) (call
 
   abbrev with_address : Bool → ℕ → ℕ → ℕ → Mark → Mark
   with_address true i offset k c = c
-  with_address false i offset k c = record c { used = c.used + 1 + 0; temps = (address_name k, cut L (address m (name_at p.globals i) + offset)) ∷ c.temps }
+  with_address false i offset k c =
+      record c { used = c.used + 1 + 0; temps = (address_name k, cut L (address m (name_at p.globals i) + offset)) ∷ c.temps }
 
   -- behind the lines of an operand's address
   abbrev pub behind_address : Value → ℕ → Mark → Mark
@@ -100,11 +105,13 @@ module _ (p : FlatProgram) (f : FlatFn) (m : Module) (set : Setting p f m) (call
   behind_address (Frame offset) k c = c
 
   symbol_steps : (b : Bool) (i offset k : ℕ) (ls : List Line) (w : World) (c : Mark)
-      → after_steps m (if b then 0 else 1) (run_at ((if b then [] else (Do (address_inst p.globals i offset k) ∷ [])) ++ ls) w c) ≡ run_at ls w (with_address b i offset k c)
+      → after_steps m (if b then 0 else 1) (run_at ((if b then [] else (Do (address_inst p.globals i offset k) ∷ [])) ++ ls) w c) ≡ run_at
+      ls w (with_address b i offset k c)
   symbol_steps true i offset k ls w c = refl
   symbol_steps false i offset k ls w c = refl
 
-  pub address_steps : (class : Class) (v : Value) (k : ℕ) (ls : List Line) (w : World) (c : Mark) → is_operand (length p.globals) f class v ≡ true
+  pub address_steps : (class : Class) (v : Value) (k : ℕ) (ls : List Line) (w : World) (c : Mark) →
+      is_operand (length p.globals) f class v ≡ true
       → after_steps m (addressed v) (run_at (address_lines p.globals v k ++ ls) w c) ≡ run_at ls w (behind_address v k c)
   address_steps class (Temp t) k ls w c r = refl
   address_steps class (Number n) k ls w c r = refl
@@ -164,7 +171,8 @@ module _ (p : FlatProgram) (f : FlatFn) (m : Module) (set : Setting p f m) (call
   pub record Ready (s : flat.State) (v : Value) (k : ℕ) (temps : Temps) : Type 0 where
     pub value : worth m s.world temps (operand p.globals v k) ≡ flat.value_of p s v
 
-  temp_ready : (s : flat.State) (class : Class) (t k : ℕ) (temps : Temps) → is_operand (length p.globals) f class (Temp t) ≡ true → Same s.temps temps → Ready s (Temp t) k temps
+  temp_ready : (s : flat.State) (class : Class) (t k : ℕ) (temps : Temps) → is_operand (length p.globals) f class (Temp t) ≡ true →
+      Same s.temps temps → Ready s (Temp t) k temps
   temp_ready s class t k temps r h = record { value = h.at s.world.memory.fill t small }
     where
       some_class : (c : Class) → is_operand (length p.globals) f c (Temp t) ≡ true → t < f.temps
@@ -179,15 +187,18 @@ module _ (p : FlatProgram) (f : FlatFn) (m : Module) (set : Setting p f m) (call
       small = let a = some_class class r in let b = set.few_temps in omega arith
 
   symbol_ready : (b : Bool) (s : flat.State) (i offset k : ℕ) (c : Mark) → (offset == 0) ≡ b → i < length p.globals
-      → worth m s.world (with_address b i offset k c).temps (if b then il.Symbol (name_at p.globals i) else il.Temp (address_name k)) ≡ (address_at p i + offset) % 2 ^ 64
+      → worth m s.world (with_address b i offset k c).temps (if b then il.Symbol (name_at p.globals i) else il.Temp (address_name k)) ≡
+      (address_at p i + offset) % 2 ^ 64
   symbol_ready true s i offset k c e h =
       let z : offset ≡ 0 = grind (arith, nat_tests) in
       let u = set.address_fits i h in
       set.address i h ∙ omega arith
-  symbol_ready false s i offset k c e h = own_address s.world.memory.fill k _ c.temps ∙ ap (λ (x : ℕ). (x + offset) % 2 ^ 64) (set.address i h)
+  symbol_ready false s i offset k c e h =
+      own_address s.world.memory.fill k _ c.temps ∙ ap (λ (x : ℕ). (x + offset) % 2 ^ 64) (set.address i h)
 
   -- behind its lines it is ready
-  pub operand_ready : (s : flat.State) (class : Class) (v : Value) (k : ℕ) (c : Mark) → is_operand (length p.globals) f class v ≡ true → Same s.temps c.temps → Ready s v k (behind_address v k c).temps
+  pub operand_ready : (s : flat.State) (class : Class) (v : Value) (k : ℕ) (c : Mark) → is_operand (length p.globals) f class v ≡ true →
+      Same s.temps c.temps → Ready s v k (behind_address v k c).temps
   operand_ready s class (Temp t) k c r h = temp_ready s class t k c.temps r h
   operand_ready s class (Number n) k c r h = record { value = refl }
   operand_ready s class (Symbol i offset) k c r h =
@@ -201,15 +212,18 @@ module _ (p : FlatProgram) (f : FlatFn) (m : Module) (set : Setting p f m) (call
       absurd (grind (arith, nat_tests))
 
   symbol_stays : (b : Bool) (w : World) (i k k' : ℕ) (c c' : Mark) → k + (if b then 0 else 1) ≤ k' → Keeps k' c c'
-      → worth m w c'.temps (if b then il.Symbol (name_at p.globals i) else il.Temp (address_name k)) ≡ worth m w c.temps (if b then il.Symbol (name_at p.globals i) else il.Temp (address_name k))
+      → worth m w c'.temps (if b then il.Symbol (name_at p.globals i) else il.Temp (address_name k)) ≡ worth m w c.temps
+      (if b then il.Symbol (name_at p.globals i) else il.Temp (address_name k))
   symbol_stays true w i k k' c c' l h = refl
   symbol_stays false w i k k' c c' l h = h.kept w.memory.fill k (omega arith)
 
   -- it stays ready behind the lines of other operands
-  pub stays_ready : (s : flat.State) (class : Class) (v : Value) (k k' : ℕ) (c c' : Mark) → is_operand (length p.globals) f class v ≡ true → Same s.temps c'.temps → k + addressed v ≤ k' → Keeps k' c c' → Ready s v k c.temps → Ready s v k c'.temps
+  pub stays_ready : (s : flat.State) (class : Class) (v : Value) (k k' : ℕ) (c c' : Mark) → is_operand (length p.globals) f class v ≡ true →
+      Same s.temps c'.temps → k + addressed v ≤ k' → Keeps k' c c' → Ready s v k c.temps → Ready s v k c'.temps
   stays_ready s class (Temp t) k k' c c' r h l u g = temp_ready s class t k c'.temps r h
   stays_ready s class (Number n) k k' c c' r h l u g = record { value = refl }
-  stays_ready s class (Symbol i offset) k k' c c' r h l u g = record { value = symbol_stays (offset == 0) s.world i k k' c c' l u ∙ g.value }
+  stays_ready s class (Symbol i offset) k k' c c' r h l u g =
+      record { value = symbol_stays (offset == 0) s.world i k k' c c' l u ∙ g.value }
   stays_ready s class (Frame offset) k k' c c' r h l u g =
       let q = (and_parts (is_long class) (nat_lt offset f.frame) r).1 in
       let z = set.no_frame in
@@ -222,14 +236,16 @@ module _ (p : FlatProgram) (f : FlatFn) (m : Module) (set : Setting p f m) (call
   behind_args [] k c = c
   behind_args (v ∷ vs) k c = behind_args vs (k + addressed v) (behind_address v k c)
 
-  pub arg_steps : (cs : List Class) (vs : List Value) (k : ℕ) (ls : List Line) (w : World) (c : Mark) → are_args (length p.globals) f cs vs ≡ true
+  pub arg_steps : (cs : List Class) (vs : List Value) (k : ℕ) (ls : List Line) (w : World) (c : Mark) →
+      are_args (length p.globals) f cs vs ≡ true
       → after_steps m (all_addressed vs) (run_at (arg_lines p.globals vs k ++ ls) w c) ≡ run_at ls w (behind_args vs k c)
   arg_steps cs [] k ls w c r = refl
   arg_steps [] (v ∷ vs) k ls w c r = cc
   arg_steps (d ∷ cs) (v ∷ vs) k ls w c r =
       let q = and_parts (is_operand (length p.globals) f d v) (are_args (length p.globals) f cs vs) r in
       let rest = arg_lines p.globals vs (k + addressed v) in
-      ap (λ (x : List Line). after_steps m (addressed v + all_addressed vs) (run_at x w c)) (append_assoc (address_lines p.globals v k) rest ls)
+      ap (λ (x : List Line). after_steps m (addressed v + all_addressed vs) (run_at x w c))
+      (append_assoc (address_lines p.globals v k) rest ls)
       ∙ steps_more m (addressed v) (all_addressed vs) _
       ∙ ap (after_steps m (all_addressed vs)) (address_steps d v k (rest ++ ls) w c q.0)
       ∙ arg_steps cs vs (k + addressed v) ls w (behind_address v k c) q.1
@@ -254,8 +270,10 @@ module _ (p : FlatProgram) (f : FlatFn) (m : Module) (set : Setting p f m) (call
       record { kept = λ fill j l. b.kept fill j (omega arith) ∙ a.kept fill j l }
 
   -- the values of all arguments
-  pub args_ready : (s : flat.State) (cs : List Class) (vs : List Value) (k : ℕ) (c : Mark) → are_args (length p.globals) f cs vs ≡ true → k + all_addressed vs < 2 ^ 64 → Same s.temps c.temps
-      → map (λ (a : IlArg). cut a.class (worth m s.world (behind_args vs k c).temps a.value)) (args_of p.globals cs vs k) ≡ cut_each cs (map (flat.value_of p s) vs)
+  pub args_ready : (s : flat.State) (cs : List Class) (vs : List Value) (k : ℕ) (c : Mark) → are_args (length p.globals) f cs vs ≡ true →
+      k + all_addressed vs < 2 ^ 64 → Same s.temps c.temps
+      → map (λ (a : IlArg). cut a.class (worth m s.world (behind_args vs k c).temps a.value)) (args_of p.globals cs vs k) ≡ cut_each cs
+      (map (flat.value_of p s) vs)
   args_ready s [] [] k c r l h = refl
   args_ready s [] (v ∷ vs) k c r l h = cc
   args_ready s (d ∷ cs) [] k c r l h = cc
@@ -263,8 +281,12 @@ module _ (p : FlatProgram) (f : FlatFn) (m : Module) (set : Setting p f m) (call
       let q = and_parts (is_operand (length p.globals) f d v) (are_args (length p.globals) f cs vs) r in
       let same = address_same v k c s.temps h in
       let keeps = args_keep vs (k + addressed v) (behind_address v k c) (omega arith) in
-      let ready = stays_ready s d v k (k + addressed v) (behind_address v k c) (behind_args vs (k + addressed v) (behind_address v k c)) q.0 (args_same vs (k + addressed v) (behind_address v k c) s.temps same) (omega arith) keeps (operand_ready s d v k c q.0 h) in
-      let first : cut d (worth m s.world (behind_args vs (k + addressed v) (behind_address v k c)).temps (operand p.globals v k)) ≡ cut d (flat.value_of p s v) = ap (cut d) ready.value in
+      let ready = stays_ready s d v k (k + addressed v) (behind_address v k c) (behind_args vs (k + addressed v) (behind_address v k c)) q.0
+      (args_same vs (k + addressed v) (behind_address v k c) s.temps same) (omega arith) keeps (operand_ready s d v k c q.0 h) in
+      let first : cut d (worth m s.world (behind_args vs (k + addressed v) (behind_address v k c)).temps (operand p.globals v k)) ≡ cut d
+      (flat.value_of p s v) = ap (cut d) ready.value in
       let rest = args_ready s cs vs (k + addressed v) (behind_address v k c) q.1 (omega arith) same in
-      ap (λ (x : ℕ). x ∷ map (λ (a : IlArg). cut a.class (worth m s.world (behind_args vs (k + addressed v) (behind_address v k c)).temps a.value)) (args_of p.globals cs vs (k + addressed v))) first
+      ap (λ (x : ℕ). x ∷ map (λ (a : IlArg). cut a.class
+      (worth m s.world (behind_args vs (k + addressed v) (behind_address v k c)).temps a.value))
+      (args_of p.globals cs vs (k + addressed v))) first
       ∙ ap (λ (xs : List ℕ). cut d (flat.value_of p s v) ∷ xs) rest

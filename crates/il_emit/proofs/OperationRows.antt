@@ -1,4 +1,5 @@
--- Each operation at both classes, at the ends and for a divisor of 0: what it gives, cut to the class, in flat code and in the intermediate language.
+-- Each operation at both classes, at the ends and for a divisor of 0: what it gives, cut to the class, in flat code and in the intermediate
+-- language.
 use Rattle.std.proofs.Common.{◌≡◌, ℕ, ◌-◌, ◌^◌, Option, Some, None, refl}
 use Rattle.std.specs.Prelude.{option_map}
 use Rattle.hx_base.specs.declared.Class.{Class}
@@ -320,8 +321,8 @@ cugtl_w = ((refl, refl), (refl, refl))
 cugtl_l : both L Cugtl 1 least_l (Some 0) × both L Cugtl 4294967296 0 (Some 1)
 cugtl_l = ((refl, refl), (refl, refl))
 
--- Comparisons of 64 bits that are given at w, of numbers that differ above 32 bits alone: the operands are compared whole, and what comes of
--- it is cut, so that none of these is what it would be if both were cut to w before.
+-- Comparisons of 64 bits that are given at w, of numbers that differ above 32 bits alone: the operands are compared whole, and what comes
+-- of it is cut, so that none of these is what it would be if both were cut to w before.
 above_ceql : both W Ceql 4294967296 0 (Some 0)
 above_ceql = (refl, refl)
 

@@ -41,10 +41,12 @@ may_is _ class = refl
 -- calls of this name, with the result and the parameters of the function
 pub record IsNamed (name : List ℕ) (g : RuntimeFunction) : Type 0 where
   pub identifier : is_identifier name ≡ true
-  pub call : (result : Option IlParam) (args : List IlArg) → (takes_result result (runtime_result g) && has_classes args (runtime_params g)) ≡ true → is_runtime_call result name args ≡ true
+  pub call : (result : Option IlParam) (args : List IlArg) → (takes_result result (runtime_result g) && has_classes args (runtime_params g))
+      ≡ true → is_runtime_call result name args ≡ true
 
 -- each name is an identifier
-found : (name : List ℕ) (g : RuntimeFunction) (names : List (List ℕ × RuntimeFunction)) → list_all (λ (x : List ℕ × RuntimeFunction). is_identifier x.0) names ≡ true → lookup name names ≡ Some g → is_identifier name ≡ true
+found : (name : List ℕ) (g : RuntimeFunction) (names : List (List ℕ × RuntimeFunction)) →
+    list_all (λ (x : List ℕ × RuntimeFunction). is_identifier x.0) names ≡ true → lookup name names ≡ Some g → is_identifier name ≡ true
 found name g [] h e = cc
 found name g (x ∷ xs) h e = pick (bytes_eq x.0 name) refl (λ t. found name g xs k.1 t)
   where
@@ -57,4 +59,5 @@ found name g (x ∷ xs) h e = pick (bytes_eq x.0 name) refl (λ t. found name g 
 
 pub named_call : (name : List ℕ) (g : RuntimeFunction) → runtime_function name ≡ Some g → IsNamed name g
 unfolding is_runtime_call
-named_call name g e = record { identifier = found name g runtime_names refl e; call = λ result args h. ap (is_runtime_call_of result args) e ∙ h }
+named_call name g e =
+    record { identifier = found name g runtime_names refl e; call = λ result args h. ap (is_runtime_call_of result args) e ∙ h }

@@ -49,11 +49,13 @@ place_of from label ls = place_at from label [] (insts_of ls) (jump_of ls) (line
 
 mutual
   open_blocks : (bs : List Block) (s : List ℕ) (is : List Inst) (lines : List Line) (j : Jump) → tidy true lines ≡ true
-      → (add_all (draft bs s is true) (lines ++ End j ∷ [])).blocks ≡ bs ++ block s (is ++ insts_of (lines ++ End j ∷ [])) (jump_of (lines ++ End j ∷ [])) ∷ line_blocks (lines ++ End j ∷ [])
+      → (add_all (draft bs s is true) (lines ++ End j ∷ [])).blocks ≡ bs ++
+      block s (is ++ insts_of (lines ++ End j ∷ [])) (jump_of (lines ++ End j ∷ [])) ∷ line_blocks (lines ++ End j ∷ [])
   open_blocks bs s is [] j h = ap (λ (x : List Inst). bs ++ block s x j ∷ []) (sym (append-nil is))
   open_blocks bs s is (Do i ∷ lines) j h =
       open_blocks bs s (is ++ i ∷ []) lines j h
-      ∙ ap (λ (x : List Inst). bs ++ block s x (jump_of (lines ++ End j ∷ [])) ∷ line_blocks (lines ++ End j ∷ [])) (append_assoc is (i ∷ []) (insts_of (lines ++ End j ∷ [])))
+      ∙ ap (λ (x : List Inst). bs ++ block s x (jump_of (lines ++ End j ∷ [])) ∷ line_blocks (lines ++ End j ∷ []))
+      (append_assoc is (i ∷ []) (insts_of (lines ++ End j ∷ [])))
   open_blocks bs s is (Label n ∷ lines) j h =
       open_blocks (bs ++ block s is jump.Fall ∷ []) (label_name n) [] lines j h
       ∙ append_assoc bs (block s is jump.Fall ∷ []) _
@@ -63,14 +65,16 @@ mutual
       ∙ append_assoc bs (block s is i ∷ []) _
       ∙ ap (λ (x : List Inst). bs ++ block s x i ∷ line_blocks (lines ++ End j ∷ [])) (sym (append-nil is))
 
-  closed_blocks : (bs : List Block) (s : List ℕ) (lines : List Line) (j : Jump) → tidy false lines ≡ true → (add_all (draft bs s [] false) (lines ++ End j ∷ [])).blocks ≡ bs ++ line_blocks (lines ++ End j ∷ [])
+  closed_blocks : (bs : List Block) (s : List ℕ) (lines : List Line) (j : Jump) → tidy false lines ≡ true →
+      (add_all (draft bs s [] false) (lines ++ End j ∷ [])).blocks ≡ bs ++ line_blocks (lines ++ End j ∷ [])
   closed_blocks bs s [] j h = cc
   closed_blocks bs s (Do i ∷ lines) j h = cc
   closed_blocks bs s (End i ∷ lines) j h = cc
   closed_blocks bs s (Label n ∷ lines) j h = open_blocks bs (label_name n) [] lines j h
 
 pub function_blocks : (globals : List Data) (f : FlatFn) → blocks_of globals f ≡ line_blocks (function_lines globals f)
-function_blocks globals f = open_blocks [] (label_name 0) [] (code_lines globals (code_of f.body) 1 0 []) (jump.Ret (end_value f.result)) (code_tidy globals (code_of f.body) 1 0 [])
+function_blocks globals f = open_blocks [] (label_name 0) [] (code_lines globals (code_of f.body) 1 0 []) (jump.Ret (end_value f.result))
+    (code_tidy globals (code_of f.body) 1 0 [])
 
 -- ---- the block of a label
 
@@ -99,13 +103,16 @@ pub record Finds (all : List Line) (n : ℕ) (ls : List Line) : Type 0 where
 here_found : (n : ℕ) (ls : List Line) → blocks_from (label_name n) (line_blocks (Label n ∷ ls)) ≡ line_blocks (Label n ∷ ls)
 here_found n ls = rw (bytes_same (label_name n)) refl
 
-past : (x : ℕ) (xs ls : List Line) → lines_labelled (label_name x) xs ≡ 0 → blocks_from (label_name x) (line_blocks (xs ++ ls)) ≡ blocks_from (label_name x) (line_blocks ls)
+past : (x : ℕ) (xs ls : List Line) → lines_labelled (label_name x) xs ≡ 0 → blocks_from (label_name x) (line_blocks (xs ++ ls)) ≡
+    blocks_from (label_name x) (line_blocks ls)
 past x [] ls h = refl
 past x (Do i ∷ xs) ls h = past x xs ls h
 past x (End j ∷ xs) ls h = past x xs ls h
 past x (Label n ∷ xs) ls h = pick (bytes_eq (label_name n) (label_name x)) refl (λ k. past x xs ls k)
   where
-    pick : (b : Bool) → bytes_eq (label_name n) (label_name x) ≡ b → (lines_labelled (label_name x) xs ≡ 0 → blocks_from (label_name x) (line_blocks (xs ++ ls)) ≡ blocks_from (label_name x) (line_blocks ls)) → blocks_from (label_name x) (line_blocks (Label n ∷ (xs ++ ls))) ≡ blocks_from (label_name x) (line_blocks ls)
+    pick : (b : Bool) → bytes_eq (label_name n) (label_name x) ≡ b →
+        (lines_labelled (label_name x) xs ≡ 0 → blocks_from (label_name x) (line_blocks (xs ++ ls)) ≡ blocks_from (label_name x)
+        (line_blocks ls)) → blocks_from (label_name x) (line_blocks (Label n ∷ (xs ++ ls))) ≡ blocks_from (label_name x) (line_blocks ls)
     pick true e on = let w : weight (bytes_eq (label_name n) (label_name x)) ≡ 1 = rw e refl in absurd (omega (arith, h, w))
     pick false e on = let w : weight (bytes_eq (label_name n) (label_name x)) ≡ 0 = rw e refl in rw e (on (omega (arith, h, w)))
 
@@ -114,11 +121,24 @@ module _ (globals : List Data) (f : FlatFn) (few : suc (labels_in (code_of f.bod
   label_once x h =
       let c = code_of f.body in
       let e : weight (bytes_eq (label_name 0) (label_name x)) ≡ one x 0 = ap weight (label_eq 0 x (omega arith) (omega arith)) in
-      omega (arith, e, labelled_append (label_name x) (code_lines globals c 1 0 []) (End (jump.Ret (end_value f.result)) ∷ []), code_labels globals x (omega arith) c 1 0 [] (omega arith), within_in x 0 (suc (labels_in c)) (omega arith) (omega arith))
+      omega (
+        arith,
+        e,
+        labelled_append (label_name x) (code_lines globals c 1 0 []) (End (jump.Ret (end_value f.result)) ∷ []),
+        code_labels
+            globals x (omega arith) c 1 0 [] (omega arith),
+        within_in x 0 (suc (labels_in c)) (omega arith) (omega arith),
+      )
 
-  pub finds : (x : ℕ) (ls : List Line) → x < suc (labels_in (code_of f.body)) → Inside (function_lines globals f) (Label x ∷ ls) → Finds (function_lines globals f) x ls
+  pub finds : (x : ℕ) (ls : List Line) → x < suc (labels_in (code_of f.body)) → Inside (function_lines globals f) (Label x ∷ ls) →
+      Finds (function_lines globals f) x ls
   finds x ls h at =
-      let once : lines_labelled (label_name x) (at.front ++ (Label x ∷ ls)) ≡ 1 = subst (λ (all : List Line). lines_labelled (label_name x) all ≡ 1) at.is (label_once x h) in
+      let once : lines_labelled (label_name x) (at.front ++ (Label x ∷ ls)) ≡ 1 =
+      subst (λ (all : List Line). lines_labelled (label_name x) all ≡ 1) at.is (label_once x h) in
       let own : weight (bytes_eq (label_name x) (label_name x)) ≡ 1 = rw (bytes_same (label_name x)) refl in
-      let none : lines_labelled (label_name x) at.front ≡ 0 = omega (arith, once, own, labelled_append (label_name x) at.front (Label x ∷ ls)) in
-      record { blocks = ap (λ (all : List Line). blocks_from (label_name x) (line_blocks all)) at.is ∙ past x at.front (Label x ∷ ls) none ∙ here_found x ls }
+      let none : lines_labelled (label_name x) at.front ≡ 0 =
+      omega (arith, once, own, labelled_append (label_name x) at.front (Label x ∷ ls)) in
+      record {
+        blocks = ap (λ (all : List Line). blocks_from (label_name x) (line_blocks all)) at.is ∙ past x at.front (Label x ∷ ls) none ∙
+            here_found x ls;
+      }

@@ -1,4 +1,5 @@
--- What a run of a program and a run of its module come to, how often a function jumps back, and what it takes of the stack, on small programs.
+-- What a run of a program and a run of its module come to, how often a function jumps back, and what it takes of the stack, on small
+-- programs.
 use Rattle.std.proofs.Common.{◌≡◌, ℕ, ◌^◌, List, [], ◌∷◌, Option, Some, None, true, false, refl}
 use Rattle.std.specs.Fmt.{digits}
 use Rattle.std.specs.Prelude.{codes}

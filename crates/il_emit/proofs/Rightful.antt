@@ -51,14 +51,16 @@ module _ (items : List IlItem) (params : List IlParam) (blocks : List Block) (cl
   good_inst i = is_inst i && (inst_has_one_class params blocks i && inst_is_right items params blocks i)
 
   abbrev pub good_jump : Jump → Bool
-  good_jump j = is_jump j && (targets_pass (has_label blocks) j && (targets_pass (λ l. not (bytes_eq l (label_name 0))) j && jump_is_right items params blocks class j))
+  good_jump j = is_jump j && (targets_pass (has_label blocks) j &&
+      (targets_pass (λ l. not (bytes_eq l (label_name 0))) j && jump_is_right items params blocks class j))
 
 abbrev pub good_label : ℕ → ℕ → Bool
 good_label most n = nat_lt n most
 
 -- ---- what is known of the names of a function
 
-pub record Names (globals : List Data) (f : FlatFn) (items : List IlItem) (params : List IlParam) (blocks : List Block) (most_labels most_addresses : ℕ) : Type 0 where
+pub record Names (globals : List Data) (f : FlatFn) (items : List IlItem) (params : List IlParam) (blocks : List Block)
+    (most_labels most_addresses : ℕ) : Type 0 where
   pub few_labels : most_labels ≤ 2 ^ 64
   pub few_addresses : most_addresses ≤ 2 ^ 64
   pub few_temps : f.temps < 2 ^ 64
@@ -72,7 +74,8 @@ pub record Names (globals : List Data) (f : FlatFn) (items : List IlItem) (param
   pub symbols : (i : ℕ) → i < length globals → has_named item_name (name_at globals i) items ≡ true
   pub no_code : (name : List ℕ) (g : RuntimeFunction) → runtime_function name ≡ Some g → function_named items name ≡ None
 
-pub record ArgsFine (items : List IlItem) (params : List IlParam) (blocks : List Block) (classes : List Class) (args : List IlArg) : Type 0 where
+pub record ArgsFine (items : List IlItem) (params : List IlParam) (blocks : List Block) (classes : List Class) (args : List IlArg) : Type
+    0 where
   pub as_many : length args ≡ length classes
   pub classed : each_has_class args classes ≡ true
   pub spelled : list_all is_arg args ≡ true
@@ -90,7 +93,8 @@ class_same L = refl
 one_only : (a b c d : Bool) → a ≡ c → b ≡ d → (a && not b) ≡ (c && not d)
 one_only a b c d h k = rw (h, k) refl
 
-module _ (globals : List Data) (f : FlatFn) (items : List IlItem) (params : List IlParam) (blocks : List Block) (most_labels most_addresses : ℕ) (n : Names globals f items params blocks most_labels most_addresses) where
+module _ (globals : List Data) (f : FlatFn) (items : List IlItem) (params : List IlParam) (blocks : List Block)
+    (most_labels most_addresses : ℕ) (n : Names globals f items params blocks most_labels most_addresses) where
   -- ---- operands
 
   abbrev Fine : Class → IlValue → Type 0
@@ -101,7 +105,8 @@ module _ (globals : List Data) (f : FlatFn) (items : List IlItem) (params : List
       let few = n.few_addresses in
       (address_identifier k (omega arith), one_only _ _ true false (n.computed k h) (n.no_word k))
 
-  operand_fine : (class : Class) (v : Value) (k : ℕ) → is_operand (length globals) f class v ≡ true → k + addressed v ≤ most_addresses → Fine class (operand globals v k)
+  operand_fine : (class : Class) (v : Value) (k : ℕ) → is_operand (length globals) f class v ≡ true → k + addressed v ≤ most_addresses →
+      Fine class (operand globals v k)
   operand_fine class (Number m) k r u = (r, refl)
   operand_fine W (Temp t) k r u =
       let lt : t < f.temps = elim (or_cases (flat.is_set f t W) (flat.is_set f t L) r) [ inl h ↦ n.below t W h | inr h ↦ n.below t L h ] in
@@ -131,7 +136,8 @@ module _ (globals : List Data) (f : FlatFn) (items : List IlItem) (params : List
 
   -- ---- single instructions
 
-  target_fine : (t : ℕ) (class : Class) → is_target f t class ≡ true → (is_identifier (temp_name t) ≡ true) × (rule.has_one_class params blocks (temp_name t) class ≡ true)
+  target_fine : (t : ℕ) (class : Class) → is_target f t class ≡ true → (is_identifier (temp_name t) ≡ true) ×
+      (rule.has_one_class params blocks (temp_name t) class ≡ true)
   target_fine t class h =
       let p = and_parts (nat_lt t f.temps) (has_one_class f t class) h in
       let lt : t < f.temps = let z = p.0 in grind (arith, nat_tests) in
@@ -141,19 +147,23 @@ module _ (globals : List Data) (f : FlatFn) (items : List IlItem) (params : List
   abbrev SecondFine : Class → Bool → Option IlValue → Type 0
   SecondFine class two v = (shape.is_second two v ≡ true) × (second_is_right items params blocks class v ≡ true)
 
-  second_fine : (class : Class) (two : Bool) (v : Value) (k : ℕ) → is_second (length globals) f class two v ≡ true → k + addressed v ≤ most_addresses → SecondFine class two (second two (operand globals v k))
+  second_fine : (class : Class) (two : Bool) (v : Value) (k : ℕ) → is_second (length globals) f class two v ≡ true →
+      k + addressed v ≤ most_addresses → SecondFine class two (second two (operand globals v k))
   second_fine class true v k r u = operand_fine class v k r u
   second_fine class false v k r u = (refl, refl)
 
   abbrev good : Inst → Type 0
   good i = good_inst items params blocks f.result i ≡ true
 
-  set_good : (t : ℕ) (class : Class) (o : Op) (a b : Value) (k : ℕ) → is_right (length globals) f 0 (Set t class o a b) ≡ true → k + addressed a + addressed b ≤ most_addresses
-      → good (inst.Set (temp_name t) class (il_op o) (operand globals a k) (second (takes_two (op_kind o)) (operand globals b (k + addressed a))))
+  set_good : (t : ℕ) (class : Class) (o : Op) (a b : Value) (k : ℕ) → is_right (length globals) f 0 (Set t class o a b) ≡ true →
+      k + addressed a + addressed b ≤ most_addresses
+      → good (inst.Set (temp_name t) class (il_op o) (operand globals a k)
+      (second (takes_two (op_kind o)) (operand globals b (k + addressed a))))
   set_good t class o a b k r u =
       let p = and_parts (is_target f t class) _ r in
       let q = and_parts (may_give (op_kind o) class) _ p.1 in
-      let s = and_parts (is_operand (length globals) f (first_class (op_kind o) class) a) (is_second (length globals) f (second_class (op_kind o) class) (takes_two (op_kind o)) b) q.1 in
+      let s = and_parts (is_operand (length globals) f (first_class (op_kind o) class) a)
+      (is_second (length globals) f (second_class (op_kind o) class) (takes_two (op_kind o)) b) q.1 in
       let to = target_fine t class p.0 in
       let one = operand_fine (first_class (op_kind o) class) a k s.0 (omega arith) in
       let two = second_fine (second_class (op_kind o) class) (takes_two (op_kind o)) b (k + addressed a) s.1 (omega arith) in
@@ -162,7 +172,8 @@ module _ (globals : List Data) (f : FlatFn) (items : List IlItem) (params : List
       (both_true _ _ to.0 (both_true _ _ one.0 (subst (λ (x : Bool). shape.is_second x v ≡ true) (sym (takes_is o)) two.0)))
       (both_true _ _ to.1
       (both_true _ _ (may_is o class ∙ q.0)
-      (both_true _ _ (subst (λ (c : Class). rule.is_right items params blocks c (operand globals a k) ≡ true) (sym (first_is o class)) one.1)
+      (both_true _ _ (subst (λ (c : Class). rule.is_right items params blocks c (operand globals a k) ≡ true) (sym (first_is o class))
+      one.1)
       (subst (λ (c : Class). second_is_right items params blocks c v ≡ true) (sym (second_is o class)) two.1))))
 
   address_good : (i offset k : ℕ) → i < length globals → is_bits offset ≡ true → k < most_addresses → good (address_inst globals i offset k)
@@ -174,7 +185,8 @@ module _ (globals : List Data) (f : FlatFn) (items : List IlItem) (params : List
 
   -- ---- calls
 
-  args_fine : (cs : List Class) (vs : List Value) (k : ℕ) → are_args (length globals) f cs vs ≡ true → k + all_addressed vs ≤ most_addresses → ArgsFine items params blocks cs (args_of globals cs vs k)
+  args_fine : (cs : List Class) (vs : List Value) (k : ℕ) → are_args (length globals) f cs vs ≡ true →
+      k + all_addressed vs ≤ most_addresses → ArgsFine items params blocks cs (args_of globals cs vs k)
   args_fine [] [] k r u = record { as_many = refl; classed = refl; spelled = refl; right = refl }
   args_fine [] (v ∷ vs) k r u = cc
   args_fine (c ∷ cs) [] k r u = cc
@@ -190,20 +202,25 @@ module _ (globals : List Data) (f : FlatFn) (items : List IlItem) (params : List
       }
 
   classes_fine : (cs : List Class) (args : List IlArg) → ArgsFine items params blocks cs args → has_classes args cs ≡ true
-  classes_fine cs args a = let h : (length args == length cs) ≡ true = let z = a.as_many in grind (arith, nat_tests) in both_true _ _ h a.classed
+  classes_fine cs args a =
+      let h : (length args == length cs) ≡ true = let z = a.as_many in grind (arith, nat_tests) in both_true _ _ h a.classed
 
-  result_fine : (temp : Option ℕ) (given : Option Class) → takes_result f temp given ≡ true → ResultFine params blocks given (result_param temp given)
+  result_fine : (temp : Option ℕ) (given : Option Class) → takes_result f temp given ≡ true →
+      ResultFine params blocks given (result_param temp given)
   result_fine None given h = record { taken = refl; spelled = refl; one_class = λ name args. refl }
   result_fine (Some t) None h = cc
   result_fine (Some t) (Some c) h =
       let p = target_fine t c h in
       record { taken = class_same c; spelled = p.0; one_class = λ name args. p.1 }
 
-  call_right : (result : Option IlParam) (name : List ℕ) (args : List IlArg) → function_named items name ≡ None → is_runtime_call result name args ≡ true → list_all (λ (a : IlArg). rule.is_right items params blocks a.class a.value) args ≡ true → call_is_right items params blocks result name args ≡ true
+  call_right : (result : Option IlParam) (name : List ℕ) (args : List IlArg) → function_named items name ≡ None →
+      is_runtime_call result name args ≡ true → list_all (λ (a : IlArg). rule.is_right items params blocks a.class a.value) args ≡ true →
+      call_is_right items params blocks result name args ≡ true
   unfolding call_is_right
   call_right result name args none h k = both_true _ _ (ap (is_call_of result name args) none ∙ h) k
 
-  called_good : (temp : Option ℕ) (name : List ℕ) (args : List Value) (k : ℕ) (g : Option RuntimeFunction) → runtime_function name ≡ g → is_call (length globals) f temp args g ≡ true → k + all_addressed args ≤ most_addresses
+  called_good : (temp : Option ℕ) (name : List ℕ) (args : List Value) (k : ℕ) (g : Option RuntimeFunction) → runtime_function name ≡ g →
+      is_call (length globals) f temp args g ≡ true → k + all_addressed args ≤ most_addresses
       → good (inst.Call (result_param temp (call_class g)) name (args_of globals (call_params g) args k))
   called_good temp name args k None e r u = cc
   called_good temp name args k (Some g) e r u =
@@ -215,7 +232,9 @@ module _ (globals : List Data) (f : FlatFn) (items : List IlItem) (params : List
       let t = result_param temp (runtime_result g) in
       both_true _ _
       (both_true _ _ to.spelled (both_true _ _ known.identifier xs.spelled))
-      (both_true _ _ (to.one_class name x) (call_right t name x (n.no_code name g e) (known.call t x (both_true _ _ to.taken (classes_fine (runtime_params g) x xs))) xs.right))
+      (both_true _ _ (to.one_class name x)
+      (call_right t name x (n.no_code name g e) (known.call t x (both_true _ _ to.taken (classes_fine (runtime_params g) x xs)))
+      xs.right))
 
   -- ---- jumps
 
@@ -234,23 +253,28 @@ module _ (globals : List Data) (f : FlatFn) (items : List IlItem) (params : List
   jump_good : (m : ℕ) → 0 < m → m < most_labels → leads (jump.Jmp (label_name m))
   jump_good m l u = both_true _ _ (label_fine m u) (both_true _ _ (n.labels m u) (both_true _ true (not_first m l u) refl))
 
-  branch_good : (v : Value) (k a b : ℕ) → is_operand (length globals) f W v ≡ true → k + addressed v ≤ most_addresses → 0 < a → a < most_labels → 0 < b → b < most_labels → leads (jump.Jnz (operand globals v k) (label_name a) (label_name b))
+  branch_good : (v : Value) (k a b : ℕ) → is_operand (length globals) f W v ≡ true → k + addressed v ≤ most_addresses → 0 < a →
+      a < most_labels → 0 < b → b < most_labels → leads (jump.Jnz (operand globals v k) (label_name a) (label_name b))
   branch_good v k a b r u la ua lb ub =
       let one = operand_fine W v k r u in
       both_true _ _ (both_true _ _ one.0 (both_true _ _ (label_fine a ua) (label_fine b ub)))
       (both_true _ _ (both_true _ _ (n.labels a ua) (n.labels b ub))
       (both_true _ _ (both_true _ _ (not_first a la ua) (not_first b lb ub)) one.1))
 
-  return_good : (class : Option Class) → is_return (length globals) f class None ≡ true → return_is_right items params blocks class None ≡ true
+  return_good : (class : Option Class) → is_return (length globals) f class None ≡ true →
+      return_is_right items params blocks class None ≡ true
   return_good None r = refl
   return_good (Some c) r = cc
 
-  value_good : (class : Option Class) (v : Value) (k : ℕ) → is_return (length globals) f class (Some v) ≡ true → k + addressed v ≤ most_addresses
+  value_good : (class : Option Class) (v : Value) (k : ℕ) → is_return (length globals) f class (Some v) ≡ true →
+      k + addressed v ≤ most_addresses
       → (is_value (operand globals v k) ≡ true) × (return_is_right items params blocks class (Some (operand globals v k)) ≡ true)
   value_good None v k r u = cc
   value_good (Some c) v k r u = operand_fine c v k r u
 
-  pub lines_pass : LinesPass globals f (line_passes (good_label most_labels) (good_inst items params blocks f.result) (good_jump items params blocks f.result)) most_labels most_addresses
+  pub lines_pass : LinesPass globals f
+      (line_passes (good_label most_labels) (good_inst items params blocks f.result) (good_jump items params blocks f.result)) most_labels
+      most_addresses
   lines_pass = record {
     label = λ m h. grind (arith, nat_tests);
     goes = jump_good;

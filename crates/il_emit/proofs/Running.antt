@@ -20,8 +20,8 @@ use Rattle.il_emit.specs.Lines.{Line, End}
 use Rattle.il_emit.specs.Reaches.{fault_for}
 use Rattle.il_emit.proofs.Places.{line_blocks, place_of, Finds}
 
--- What stays as a call runs: the name of its function and the lines of it, the stack pointer, what the stack has cost up to it, and the calls that wait for it. In flat code, calls have
--- cost at least `floor` at once.
+-- What stays as a call runs: the name of its function and the lines of it, the stack pointer, what the stack has cost up to it, and the
+-- calls that wait for it. In flat code, calls have cost at least `floor` at once.
 pub record Activation : Type 0 where
   pub name : List ℕ
   pub lines : List Line
@@ -69,7 +69,15 @@ out_of rest out (suc k) = out k
 module _ (m : Module) (call : Activation) where
   abbrev pub state_at : List Line → World → Mark → State
   state_at ls w c = record {
-    active = record { function = call.name; blocks = line_blocks call.lines; place = place_of c.from c.label ls; temps = c.temps; pointer = call.pointer; cost = call.cost };
+    active = record {
+      function = call.name;
+      blocks = line_blocks call.lines;
+      place = place_of c.from c.label ls;
+      temps = c.temps;
+      pointer =
+          call.pointer;
+      cost = call.cost;
+    };
     waiting = call.waiting;
     world = w;
     done = c.done;
@@ -90,13 +98,22 @@ module _ (m : Module) (call : Activation) where
   abbrev pub jumped_to : ℕ → Mark → Mark
   jumped_to n c = record c { used = c.used + 1 + 0; from = c.label; label = label_name n; done = Jumped call.name (label_name n) ∷ c.done }
 
-  pub jump_step : (n : ℕ) (ls rest : List Line) (w : World) (c : Mark) → Finds call.lines n ls → further m (before (End (jump.Jmp (label_name n)) ∷ rest) w c) ≡ before ls w (jumped_to n c)
+  pub jump_step : (n : ℕ) (ls rest : List Line) (w : World) (c : Mark) → Finds call.lines n ls →
+      further m (before (End (jump.Jmp (label_name n)) ∷ rest) w c) ≡ before ls w (jumped_to n c)
   jump_step n ls rest w c h =
       ap (λ (bs : List Block). record {
         used = c.used + 1 + 0;
         ended = None;
         state = record {
-          active = record { function = call.name; blocks = line_blocks call.lines; place = start_of c.label bs; temps = c.temps; pointer = call.pointer; cost = call.cost };
+          active = record {
+            function = call.name;
+            blocks = line_blocks call.lines;
+            place = start_of c.label bs;
+            temps = c.temps;
+            pointer =
+                call.pointer;
+            cost = call.cost;
+          };
           waiting = call.waiting;
           world = w;
           done = Jumped call.name (label_name n) ∷ c.done;
@@ -109,7 +126,8 @@ module _ (m : Module) (call : Activation) where
 
   -- ---- what a run comes to
 
-  -- it comes before lines, in the world of a state of flat code, with no fewer jumps. Four units are paid for each flat step: `low` for those before, and `high` units may be used besides.
+  -- it comes before lines, in the world of a state of flat code, with no fewer jumps. Four units are paid for each flat step: `low` for
+  -- those before, and `high` units may be used besides.
   pub record Comes (q low high : ℕ) (r : Run) (s : flat.State) (ls : List Line) : Type 0 where
     pub to : Mark
     pub count : ℕ

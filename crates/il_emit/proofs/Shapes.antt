@@ -1,4 +1,5 @@
--- Each function of the module has the shape of one of the program: what it jumps back and calls, and what it takes of the stack, which is nothing so far.
+-- Each function of the module has the shape of one of the program: what it jumps back and calls, and what it takes of the stack, which is
+-- nothing so far.
 use Rattle.std.proofs.Common.{◌≡◌, ℕ, suc, ◌≤◌, Bool, true, false, not, ◌||◌, List, [], ◌∷◌, ◌++◌, length, Option, None, Some, refl, sym, ap, ◌∙◌, subst, arith}
 use Rattle.std.specs.Prelude.{sum_by, if◌then◌else◌}
 use Rattle.std.specs.List.{list_all, AllByRecursion}
@@ -40,7 +41,8 @@ plain i = not (is_alloc i)
 plain_op : (o : Op) → not (is_taking (kind_of (il_op o))) ≡ true
 plain_op o = ap (λ (k : Kind). not (is_taking k)) (op_computes o)
 
-plain_lines : (globals : List Data) (f : FlatFn) (most_labels most_addresses : ℕ) → LinesPass globals f (line_passes (λ n. true) plain (λ j. true)) most_labels most_addresses
+plain_lines : (globals : List Data) (f : FlatFn) (most_labels most_addresses : ℕ) →
+    LinesPass globals f (line_passes (λ n. true) plain (λ j. true)) most_labels most_addresses
 plain_lines globals f most_labels most_addresses = record {
   label = λ n h. refl;
   goes = λ n l u. refl;
@@ -68,7 +70,8 @@ plain_sized (inst.Store width value at) h = refl
 plain_sized (inst.Blit from to bytes) h = refl
 plain_sized (inst.Call result target args) h = refl
 
-sum_none : {A : Type 0} (q : A → Bool) (g : A → ℕ) → ((x : A) → q x ≡ true → g x ≡ 0) → (xs : List A) → list_all q xs ≡ true → sum_by g xs ≡ 0
+sum_none : {A : Type 0} (q : A → Bool) (g : A → ℕ) → ((x : A) → q x ≡ true → g x ≡ 0) → (xs : List A) → list_all q xs ≡ true →
+    sum_by g xs ≡ 0
 sum_none q g on [] h = refl
 sum_none q g on (x ∷ xs) h = let k = and_parts (q x) (list_all q xs) h in sum_cons g x xs ∙ omega (arith, on x k.0, sum_none q g on xs k.1)
 
@@ -82,16 +85,21 @@ module _ (globals : List Data) (f : FlatFn) (right : is_right (length globals) f
   plain_blocks : list_all (λ (b : Block). list_all plain b.insts) (blocks_of globals f) ≡ true
   plain_blocks =
       blocks_pass (λ n. true) plain (λ j. true) refl (λ (b : Block). list_all plain b.insts) (λ s n is j e l h k. h)
-      [] (label_name 0) 0 [] true (code_lines globals (code_of f.body) 1 0 [] ++ End (jump.Ret (end_value f.result)) ∷ []) refl refl refl refl
+      [] (label_name 0) 0 [] true (code_lines globals (code_of f.body) 1 0 [] ++ End (jump.Ret (end_value f.result)) ∷ []) refl refl refl
+      refl
       (all_append _ (code_lines globals (code_of f.body) 1 0 []) _
-      (code_good globals f _ (suc (labels_in (code_of f.body))) (addresses_in (code_of f.body)) (plain_lines globals f (suc (labels_in (code_of f.body))) (addresses_in (code_of f.body))) (code_of f.body) 0 1 0 [] right refl refl (omega arith) (omega arith) (omega arith)) refl)
+      (code_good globals f _ (suc (labels_in (code_of f.body))) (addresses_in (code_of f.body))
+      (plain_lines globals f (suc (labels_in (code_of f.body))) (addresses_in (code_of f.body))) (code_of f.body) 0 1 0 [] right refl
+      refl (omega arith) (omega arith) (omega arith)) refl)
 
   nothing_taken : sum_by (λ (b : Block). sum_by takes b.insts) (blocks_of globals f) ≡ 0
-  nothing_taken = sum_none (λ (b : Block). list_all plain b.insts) (λ (b : Block). sum_by takes b.insts) (λ b h. sum_none plain takes plain_takes b.insts h) (blocks_of globals f) plain_blocks
+  nothing_taken = sum_none (λ (b : Block). list_all plain b.insts) (λ (b : Block). sum_by takes b.insts)
+      (λ b h. sum_none plain takes plain_takes b.insts h) (blocks_of globals f) plain_blocks
 
 -- ---- all functions
 
-shaped : (globals : List Data) (f : FlatFn) → is_right (length globals) f 0 (code_of f.body) ≡ true → length f.params ≤ f.temps → IsShapedAs f (record { name = f.name; class = f.result; params = params_of 0 f.params; blocks = blocks_of globals f })
+shaped : (globals : List Data) (f : FlatFn) → is_right (length globals) f 0 (code_of f.body) ≡ true → length f.params ≤ f.temps →
+    IsShapedAs f (record { name = f.name; class = f.result; params = params_of 0 f.params; blocks = blocks_of globals f })
 shaped globals f r few = record {
   jumps = jumps_few globals f r;
   calls = λ name. calls_few globals name f;
@@ -100,7 +108,8 @@ shaped globals f r few = record {
 }
 
 pub shape : (p : FlatProgram) → IsWellFormed p → AllByRecursion HasFewNames p.functions → HasShape p (module_of p)
-shape p w few name = subst (λ (c : Option il.Code). AreAlike (flat.function_named p.functions name) c) (sym (items_named p w name)) (pick (flat.function_named p.functions name) refl)
+shape p w few name = subst (λ (c : Option il.Code). AreAlike (flat.function_named p.functions name) c) (sym (items_named p w name))
+    (pick (flat.function_named p.functions name) refl)
   where
     pick : (o : Option FlatFn) → flat.function_named p.functions name ≡ o → AreAlike o (emitted p.globals o)
     pick None e = tt

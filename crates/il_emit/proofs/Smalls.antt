@@ -49,14 +49,18 @@ abbrev pub blocks_pass : (Inst → Bool) → List Block → Bool
 blocks_pass q bs = list_all (λ (b : Block). list_all q b.insts) bs
 
 -- a block more
-block_more : (q : Inst → Bool) (d : Draft) (j : Jump) → list_all q d.insts ≡ true → blocks_pass q d.blocks ≡ true → blocks_pass q (d.blocks ++ finished d j ∷ []) ≡ true
-block_more q d j h k = all_append (λ (b : Block). list_all q b.insts) d.blocks (finished d j ∷ []) k (both_true (list_all q d.insts) true h refl)
+block_more : (q : Inst → Bool) (d : Draft) (j : Jump) → list_all q d.insts ≡ true → blocks_pass q d.blocks ≡ true →
+    blocks_pass q (d.blocks ++ finished d j ∷ []) ≡ true
+block_more q d j h k =
+    all_append (λ (b : Block). list_all q b.insts) d.blocks (finished d j ∷ []) k (both_true (list_all q d.insts) true h refl)
 
-fallen_pass : (q : Inst → Bool) (d : Draft) (b : Bool) → list_all q d.insts ≡ true → blocks_pass q d.blocks ≡ true → blocks_pass q (fallen d b).blocks ≡ true
+fallen_pass : (q : Inst → Bool) (d : Draft) (b : Bool) → list_all q d.insts ≡ true → blocks_pass q d.blocks ≡ true →
+    blocks_pass q (fallen d b).blocks ≡ true
 fallen_pass q d true h k = block_more q d Fall h k
 fallen_pass q d false h k = k
 
-pub pass_blocks : (q : Inst → Bool) (d : Draft) (lines : List Line) → list_all q d.insts ≡ true → blocks_pass q d.blocks ≡ true → lines_pass q lines ≡ true → blocks_pass q (add_all d lines).blocks ≡ true
+pub pass_blocks : (q : Inst → Bool) (d : Draft) (lines : List Line) → list_all q d.insts ≡ true → blocks_pass q d.blocks ≡ true →
+    lines_pass q lines ≡ true → blocks_pass q (add_all d lines).blocks ≡ true
 pass_blocks q d [] h k e = k
 pass_blocks q d (Label n ∷ lines) h k e = pass_blocks q (add d (Label n)) lines refl (fallen_pass q d d.is_open h k) e
 pass_blocks q d (End j ∷ lines) h k e = pass_blocks q (add d (End j)) lines refl (block_more q d j h k) e
@@ -79,7 +83,8 @@ module _ (globals : List Data) where
 
   args_small : (vs : List Value) (k : ℕ) → lines_pass inst_is_small (arg_lines globals vs k) ≡ true
   args_small [] k = refl
-  args_small (v ∷ vs) k = pass_append inst_is_small (address_lines globals v k) (arg_lines globals vs (k + addressed v)) (address_small v k) (args_small vs (k + addressed v))
+  args_small (v ∷ vs) k = pass_append inst_is_small (address_lines globals v k) (arg_lines globals vs (k + addressed v)) (address_small v k)
+      (args_small vs (k + addressed v))
 
   return_small : (value : Option Value) (n k : ℕ) → lines_pass inst_is_small (return_lines globals value n k) ≡ true
   return_small None n k = refl
@@ -87,7 +92,8 @@ module _ (globals : List Data) where
 
   mutual
     code_small : (c : Code) (n k : ℕ) (es : List ℕ) → lines_pass inst_is_small (code_lines globals c n k es) ≡ true
-    code_small (Seq cs) n k es = pass_append inst_is_small (each_lines globals cs (suc n) k (es ++ n ∷ [])) (Label n ∷ []) (each_small cs (suc n) k (es ++ n ∷ [])) refl
+    code_small (Seq cs) n k es = pass_append inst_is_small (each_lines globals cs (suc n) k (es ++ n ∷ [])) (Label n ∷ [])
+        (each_small cs (suc n) k (es ++ n ∷ [])) refl
     code_small (Set t class o a b) n k es =
         pass_append inst_is_small (address_lines globals a k) _ (address_small a k)
         (pass_append inst_is_small (address_lines globals b (k + addressed a)) _ (address_small b (k + addressed a)) refl)
@@ -97,18 +103,23 @@ module _ (globals : List Data) where
     code_small (If cond a b) n k es =
         pass_append inst_is_small (address_lines globals cond k) _ (address_small cond k)
         (pass_append inst_is_small (code_lines globals a (n + 3) (k + addressed cond) es) _ (code_small a (n + 3) (k + addressed cond) es)
-        (pass_append inst_is_small (code_lines globals b (n + 3 + labels_in a) (k + addressed cond + addresses_in a) es) (Label (n + 2) ∷ []) (code_small b (n + 3 + labels_in a) (k + addressed cond + addresses_in a) es) refl))
-    code_small (Loop c) n k es = pass_append inst_is_small (code_lines globals c (n + 2) k (es ++ (n + 1) ∷ [])) _ (code_small c (n + 2) k (es ++ (n + 1) ∷ [])) refl
+        (pass_append inst_is_small (code_lines globals b (n + 3 + labels_in a) (k + addressed cond + addresses_in a) es)
+        (Label (n + 2) ∷ []) (code_small b (n + 3 + labels_in a) (k + addressed cond + addresses_in a) es) refl))
+    code_small (Loop c) n k es =
+        pass_append inst_is_small (code_lines globals c (n + 2) k (es ++ (n + 1) ∷ [])) _ (code_small c (n + 2) k (es ++ (n + 1) ∷ [])) refl
     code_small (Leave j) n k es = refl
     code_small (Call temp name args) n k es = pass_append inst_is_small (arg_lines globals args k) _ (args_small args k) refl
     code_small (Ret value) n k es = return_small value n k
 
     each_small : (cs : Codes) (n k : ℕ) (es : List ℕ) → lines_pass inst_is_small (each_lines globals cs n k es) ≡ true
     each_small none n k es = refl
-    each_small (more c cs) n k es = pass_append inst_is_small (code_lines globals c n k es) (each_lines globals cs (n + labels_in c) (k + addresses_in c) es) (code_small c n k es) (each_small cs (n + labels_in c) (k + addresses_in c) es)
+    each_small (more c cs) n k es = pass_append inst_is_small (code_lines globals c n k es)
+        (each_lines globals cs (n + labels_in c) (k + addresses_in c) es) (code_small c n k es)
+        (each_small cs (n + labels_in c) (k + addresses_in c) es)
 
   pub function_small : (f : FlatFn) → blocks_pass inst_is_small (blocks_of globals f) ≡ true
-  function_small f = pass_blocks inst_is_small empty_draft (function_lines globals f) refl refl (pass_append inst_is_small (code_lines globals (code_of f.body) 1 0 []) _ (code_small (code_of f.body) 1 0 []) refl)
+  function_small f = pass_blocks inst_is_small empty_draft (function_lines globals f) refl refl
+      (pass_append inst_is_small (code_lines globals (code_of f.body) 1 0 []) _ (code_small (code_of f.body) 1 0 []) refl)
 
 -- ---- parts of globals
 
@@ -131,7 +142,8 @@ parts_small p (i ∷ is) h =
 -- ---- sizes of globals
 
 -- values of bytes take as many as they are, where sizes of values are counted so
-module _ (size : PartValue → ℕ) (of_string : (s : List ℕ) → size (value.Str s) ≡ length s) (of_number : (n : ℕ) → size (value.Number n) ≡ 1) where
+module _ (size : PartValue → ℕ) (of_string : (s : List ℕ) → size (value.Str s) ≡ length s)
+    (of_number : (n : ℕ) → size (value.Number n) ≡ 1) where
   string_size : (s : List ℕ) → sum_by size (string_of s) ≡ length s
   string_size [] = refl
   string_size (c ∷ s) = sum_cons size (value.Str (c ∷ s)) [] ∙ omega (arith, of_string (c ∷ s))
@@ -140,9 +152,11 @@ module _ (size : PartValue → ℕ) (of_string : (s : List ℕ) → size (value.
   values_size s [] = omega (arith, string_size s)
   values_size s (c ∷ bs) = pick (is_string_byte c) refl (values_size (s ++ c ∷ []) bs) (values_size [] bs)
     where
-      pick : (b : Bool) → is_string_byte c ≡ b → sum_by size (byte_values (s ++ c ∷ []) bs) ≡ length (s ++ c ∷ []) + length bs → sum_by size (byte_values [] bs) ≡ 0 + length bs → sum_by size (byte_values s (c ∷ bs)) ≡ length s + length (c ∷ bs)
+      pick : (b : Bool) → is_string_byte c ≡ b → sum_by size (byte_values (s ++ c ∷ []) bs) ≡ length (s ++ c ∷ []) + length bs →
+          sum_by size (byte_values [] bs) ≡ 0 + length bs → sum_by size (byte_values s (c ∷ bs)) ≡ length s + length (c ∷ bs)
       pick true e h k = rw e (omega (arith, h, length-append s (c ∷ [])))
-      pick false e h k = rw e (sum_by-append size (string_of s) (value.Number c ∷ byte_values [] bs) ∙ omega (arith, string_size s, k, of_number c, sum_cons size (value.Number c) (byte_values [] bs)))
+      pick false e h k = rw e (sum_by-append size (string_of s) (value.Number c ∷ byte_values [] bs) ∙ omega
+          (arith, string_size s, k, of_number c, sum_cons size (value.Number c) (byte_values [] bs)))
 
 bytes_size : (vs : List PartValue) → sum_by part_size (bytes_part vs) ≡ sum_by (value_size 1) vs
 bytes_size [] = refl
@@ -156,4 +170,5 @@ one_size (item.Bytes bytes) = bytes_size (byte_values [] bytes) ∙ omega (arith
 
 pub parts_size : (is : List Item) → sum_by part_size (parts_of is) ≡ sum_by item_size is
 parts_size [] = refl
-parts_size (i ∷ is) = sum_by-append part_size (item_parts i) (parts_of is) ∙ omega (arith, one_size i, parts_size is) ∙ sym (sum_cons item_size i is)
+parts_size (i ∷ is) =
+    sum_by-append part_size (item_parts i) (parts_of is) ∙ omega (arith, one_size i, parts_size is) ∙ sym (sum_cons item_size i is)

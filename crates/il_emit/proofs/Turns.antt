@@ -50,7 +50,8 @@ finds_at : (all : List Line) (x y : ℕ) (ls : List Line) → x ≡ y → Finds 
 finds_at all x y ls e h = subst (λ (n : ℕ). Finds all n ls) (sym e) h
 
 -- one exit more
-exits_more : (all : List Line) (around : ℕ) (es : List ℕ) (out : ℕ → List Line) (x : ℕ) (rest : List Line) → Exits all around es out → Finds all x rest → Exits all (suc around) (es ++ x ∷ []) (out_of rest out)
+exits_more : (all : List Line) (around : ℕ) (es : List ℕ) (out : ℕ → List Line) (x : ℕ) (rest : List Line) → Exits all around es out →
+    Finds all x rest → Exits all (suc around) (es ++ x ∷ []) (out_of rest out)
 exits_more all around es out x rest h f = record { depth = length-append es (x ∷ []) ∙ omega (arith, h.depth); leads = leads }
   where
     leads : (j : ℕ) → j < suc around → Finds all (exit_at (es ++ x ∷ []) j) (out_of rest out j)
@@ -60,10 +61,12 @@ exits_more all around es out x rest h f = record { depth = length-append es (x �
 stepped_holds : (floor : ℕ) (s : State) (c : Mark) → Holds floor s c → Holds floor (stepped 1 s) c
 stepped_holds floor s c h = record { same = h.same; most = h.most }
 
-jumped_holds : (m : Module) (call : Activation) (floor x : ℕ) (s : State) (c : Mark) → Holds floor s c → Holds floor s (jumped_to m call x c)
+jumped_holds : (m : Module) (call : Activation) (floor x : ℕ) (s : State) (c : Mark) → Holds floor s c →
+    Holds floor s (jumped_to m call x c)
 jumped_holds m call floor x s c h = record { same = h.same; most = h.most }
 
-module _ (p : FlatProgram) (f : FlatFn) (m : Module) (set : Setting p f m) (few_labels : suc (labels_in (code_of f.body)) < 2 ^ 64) (pointer cost floor : ℕ) (waiting : List Waiting) where
+module _ (p : FlatProgram) (f : FlatFn) (m : Module) (set : Setting p f m) (few_labels : suc (labels_in (code_of f.body)) < 2 ^ 64)
+    (pointer cost floor : ℕ) (waiting : List Waiting) where
   abbrev all : List Line
   all = function_lines p.globals f
 
@@ -87,17 +90,21 @@ module _ (p : FlatProgram) (f : FlatFn) (m : Module) (set : Setting p f m) (few_
   abbrev pub Claim : ℕ → Code → Type 0
   Claim n c =
       (around label k : ℕ) (es : List ℕ) (out : ℕ → List Line) (rest : List Line) (s : State) (at : Mark)
-      → is_built c ≡ true → is_right (length p.globals) f around c ≡ true → Exits all around es out → Room label (labels_in c) k (addresses_in c)
+      → is_built c ≡ true → is_right (length p.globals) f around c ≡ true → Exits all around es out →
+      Room label (labels_in c) k (addresses_in c)
       → Inside all (code_lines p.globals c label k es ++ rest) → Holds floor s at
-      → Meets m call n (counted at) (4 * s.steps) (at.used + 3) out rest (run_at (code_lines p.globals c label k es ++ rest) s.world at) (flat_begun p n (flat_below p n) c s)
+      → Meets m call n (counted at) (4 * s.steps) (at.used + 3) out rest (run_at (code_lines p.globals c label k es ++ rest) s.world at)
+      (flat_begun p n (flat_below p n) c s)
 
   -- the same of the statements of a Seq
   abbrev pub ClaimEach : ℕ → Codes → Type 0
   ClaimEach n cs =
       (around label k : ℕ) (es : List ℕ) (out : ℕ → List Line) (rest : List Line) (s : State) (at : Mark)
-      → are_built cs ≡ true → are_right (length p.globals) f around cs ≡ true → Exits all around es out → Room label (labels_in_all cs) k (addresses_in_all cs)
+      → are_built cs ≡ true → are_right (length p.globals) f around cs ≡ true → Exits all around es out →
+      Room label (labels_in_all cs) k (addresses_in_all cs)
       → Inside all (each_lines p.globals cs label k es ++ rest) → Holds floor s at
-      → Meets m call n (counted at) (4 * s.steps) (at.used + 0) out rest (run_at (each_lines p.globals cs label k es ++ rest) s.world at) (flats_in p n (flat_below p n) cs s)
+      → Meets m call n (counted at) (4 * s.steps) (at.used + 0) out rest (run_at (each_lines p.globals cs label k es ++ rest) s.world at)
+      (flats_in p n (flat_below p n) cs s)
 
   -- it is claimed of all code at each smaller number of turns
   abbrev pub Below : ℕ → Type 0
@@ -107,8 +114,11 @@ module _ (p : FlatProgram) (f : FlatFn) (m : Module) (set : Setting p f m) (few_
   -- ---- loops
 
   module _ (c : Code) (around label k : ℕ) (es : List ℕ) (out : ℕ → List Line) (rest : List Line)
-      (built : is_built c ≡ true) (right : is_right (length p.globals) f (suc around) c ≡ true) (exits : Exits all around es out) (room : Room label (2 + labels_in c) k (addresses_in c))
-      (inside : Inside all (Label label ∷ (code_lines p.globals c (label + 2) k (es ++ (label + 1) ∷ []) ++ (End (jump.Jmp (label_name label)) ∷ Label (label + 1) ∷ rest)))) where
+      (built : is_built c ≡ true) (right : is_right (length p.globals) f (suc around) c ≡ true) (exits : Exits all around es out)
+      (room : Room label (2 + labels_in c) k (addresses_in c))
+      (inside : Inside all (Label label ∷
+      (code_lines p.globals c (label + 2) k (es ++ (label + 1) ∷ []) ++
+      (End (jump.Jmp (label_name label)) ∷ Label (label + 1) ∷ rest)))) where
     abbrev back : List Line
     back = End (jump.Jmp (label_name label)) ∷ Label (label + 1) ∷ rest
 
@@ -121,22 +131,33 @@ module _ (p : FlatProgram) (f : FlatFn) (m : Module) (set : Setting p f m) (few_
     leaves : Finds all (label + 1) rest
     leaves =
         let r = room.labels in
-        found (label + 1) rest (omega arith) (inside_next all _ (End (jump.Jmp (label_name label))) (inside_behind all (code_lines p.globals c (label + 2) k (es ++ (label + 1) ∷ [])) back (inside_next all body (Label label) inside)))
+        found (label + 1) rest (omega arith)
+        (inside_next all _ (End (jump.Jmp (label_name label)))
+        (inside_behind all (code_lines p.globals c (label + 2) k (es ++ (label + 1) ∷ [])) back
+        (inside_next all body (Label label) inside)))
 
     -- a turn begins at a jump to the loop's label, wherever that stands
     pub loop_meets : (n : ℕ) → Below n → (ls : List Line) (s : State) (at : Mark) → Holds floor s at
-        → Meets m call n (counted at) (4 * s.steps) (at.used + 3) out rest (run_at (End (jump.Jmp (label_name label)) ∷ ls) s.world at) (flat_begun p n (flat_below p n) (Loop c) s)
-    loop_meets zero below ls s at h = record { count = 0; ended = refl; world = refl; jumps = omega arith; units = omega arith; most = h.most }
+        → Meets m call n (counted at) (4 * s.steps) (at.used + 3) out rest (run_at (End (jump.Jmp (label_name label)) ∷ ls) s.world at)
+        (flat_begun p n (flat_below p n) (Loop c) s)
+    loop_meets zero below ls s at h =
+        record { count = 0; ended = refl; world = refl; jumps = omega arith; units = omega arith; most = h.most }
     loop_meets (suc n) below ls s at h =
         let inner = jumped_to m call label at in
         let r = room.labels in
         let a = room.addresses in
-        let turn = below.0 c (suc around) (label + 2) k (es ++ (label + 1) ∷ []) (out_of rest out) back (stepped 1 s) inner built right (exits_more all around es out (label + 1) rest exits leaves) (record { labels = omega arith; addresses = omega arith }) (inside_next all body (Label label) inside)
+        let turn = below.0 c (suc around) (label + 2) k (es ++ (label + 1) ∷ []) (out_of rest out) back (stepped 1 s) inner built right
+        (exits_more all around es out (label + 1) rest exits leaves) (record { labels = omega arith; addresses = omega arith })
+        (inside_next all body (Label label) inside)
         (stepped_holds floor s inner (jumped_holds m call floor label s at h)) in
-        let turns = turn_meets m call n (counted inner) (4 * (s.steps + 1)) (inner.used + 3) 0 out rest back (run_at body s.world inner) (flat_below p (suc n) (Loop c))
-        (λ s1 c1 h1. may_use m call n (counted c1) (4 * s1.steps) (4 * (s1.steps + 1)) (c1.used + 0) (c1.used + 3) out rest _ _ (omega arith) (loop_meets n below.1 (Label (label + 1) ∷ rest) (stepped 1 s1) c1 (stepped_holds floor s1 c1 h1)))
+        let turns = turn_meets m call n (counted inner) (4 * (s.steps + 1)) (inner.used + 3) 0 out rest back (run_at body s.world inner)
+        (flat_below p (suc n) (Loop c))
+        (λ s1 c1 h1. may_use m call n (counted c1) (4 * s1.steps) (4 * (s1.steps + 1)) (c1.used + 0) (c1.used + 3) out rest _ _
+        (omega arith) (loop_meets n below.1 (Label (label + 1) ∷ rest) (stepped 1 s1) c1 (stepped_holds floor s1 c1 h1)))
         (flat_below p (suc n) c s) turn in
-        later m call 1 (run_at (End (jump.Jmp (label_name label)) ∷ ls) s.world at) (run_at body s.world inner) (jump_step m call label body ls s.world at enters) (4 * s.steps) (4 * (s.steps + 1)) (at.used + 3) (inner.used + 3 + 0) (omega arith)
+        later m call 1 (run_at (End (jump.Jmp (label_name label)) ∷ ls) s.world at) (run_at body s.world inner)
+        (jump_step m call label body ls s.world at enters) (4 * s.steps) (4 * (s.steps + 1)) (at.used + 3) (inner.used + 3 + 0)
+        (omega arith)
         (suc n) n (counted at) (counted inner) out rest _ (omega arith) (omega arith) turns
 
   -- ---- branches
@@ -144,9 +165,12 @@ module _ (p : FlatProgram) (f : FlatFn) (m : Module) (set : Setting p f m) (few_
   abbrev side_meets : (n : ℕ) (a b : Code) (s : State) → Bool → Result
   side_meets n a b s z = if z then flat_begun p n (flat_below p n) b (stepped 1 s) else flat_begun p n (flat_below p n) a (stepped 1 s)
 
-  module _ (n : ℕ) (v : Value) (a b : Code) (claim_a : Claim n a) (claim_b : Claim n b) (around label k : ℕ) (es : List ℕ) (out : ℕ → List Line) (rest : List Line)
-      (built_a : is_built a ≡ true) (built_b : is_built b ≡ true) (operand_right : is_operand (length p.globals) f W v ≡ true) (right_a : is_right (length p.globals) f around a ≡ true) (right_b : is_right (length p.globals) f around b ≡ true)
-      (exits : Exits all around es out) (room : Room label (3 + labels_in a + labels_in b) k (addressed v + addresses_in a + addresses_in b)) where
+  module _ (n : ℕ) (v : Value) (a b : Code) (claim_a : Claim n a) (claim_b : Claim n b) (around label k : ℕ) (es : List ℕ)
+      (out : ℕ → List Line) (rest : List Line)
+      (built_a : is_built a ≡ true) (built_b : is_built b ≡ true) (operand_right : is_operand (length p.globals) f W v ≡ true)
+      (right_a : is_right (length p.globals) f around a ≡ true) (right_b : is_right (length p.globals) f around b ≡ true)
+      (exits : Exits all around es out)
+      (room : Room label (3 + labels_in a + labels_in b) k (addressed v + addresses_in a + addresses_in b)) where
     abbrev one : List Line
     one = code_lines p.globals a (label + 3) (k + addressed v) es
 
@@ -165,65 +189,89 @@ module _ (p : FlatProgram) (f : FlatFn) (m : Module) (set : Setting p f m) (few_
     regrouped : code_lines p.globals (If v a b) label k es ++ rest ≡ address_lines p.globals v k ++ branch
     regrouped =
         append_assoc (address_lines p.globals v k) _ rest
-        ∙ ap (λ (x : List Line). address_lines p.globals v k ++ (End (jump.Jnz (operand p.globals v k) (label_name label) (label_name (label + 1))) ∷ Label label ∷ x)) (append_assoc one _ rest)
-        ∙ ap (λ (x : List Line). address_lines p.globals v k ++ (End (jump.Jnz (operand p.globals v k) (label_name label) (label_name (label + 1))) ∷ Label label ∷ (one ++ (End (jump.Jmp (label_name (label + 2))) ∷ Label (label + 1) ∷ x)))) (append_assoc other (Label (label + 2) ∷ []) rest)
+        ∙ ap (λ (x : List Line). address_lines p.globals v k ++
+        (End (jump.Jnz (operand p.globals v k) (label_name label) (label_name (label + 1))) ∷ Label label ∷ x))
+        (append_assoc one _ rest)
+        ∙ ap (λ (x : List Line). address_lines p.globals v k ++
+        (End (jump.Jnz (operand p.globals v k) (label_name label) (label_name (label + 1))) ∷ Label label ∷
+        (one ++ (End (jump.Jmp (label_name (label + 2))) ∷ Label (label + 1) ∷ x)))) (append_assoc other (Label (label + 2) ∷ []) rest)
 
     module _ (inside : Inside all (address_lines p.globals v k ++ branch)) where
       at_one : Inside all (Label label ∷ (one ++ over))
-      at_one = inside_next all _ (End (jump.Jnz (operand p.globals v k) (label_name label) (label_name (label + 1)))) (inside_behind all (address_lines p.globals v k) branch inside)
+      at_one = inside_next all _ (End (jump.Jnz (operand p.globals v k) (label_name label) (label_name (label + 1))))
+          (inside_behind all (address_lines p.globals v k) branch inside)
 
       at_other : Inside all (Label (label + 1) ∷ other_side)
-      at_other = inside_next all _ (End (jump.Jmp (label_name (label + 2)))) (inside_behind all one over (inside_next all _ (Label label) at_one))
+      at_other = inside_next all _ (End (jump.Jmp (label_name (label + 2))))
+          (inside_behind all one over (inside_next all _ (Label label) at_one))
 
       at_end : Inside all (Label (label + 2) ∷ rest)
       at_end = inside_behind all other (Label (label + 2) ∷ rest) (inside_next all _ (Label (label + 1)) at_other)
 
-      one_meets : (s : State) (at : Mark) → Holds floor s at → Meets m call n (counted at) (4 * s.steps) (at.used + 4) out rest (run_at (one ++ over) s.world at) (flat_begun p n (flat_below p n) a s)
+      one_meets : (s : State) (at : Mark) → Holds floor s at → Meets m call n (counted at) (4 * s.steps) (at.used + 4) out rest
+          (run_at (one ++ over) s.world at) (flat_begun p n (flat_below p n) a s)
       one_meets s at h =
           let r = room.labels in
           let z = room.addresses in
           let there = found (label + 2) rest (omega arith) at_end in
-          let does = claim_a around (label + 3) (k + addressed v) es out over s at built_a right_a exits (record { labels = omega arith; addresses = omega arith }) (inside_next all _ (Label label) at_one) h in
+          let does = claim_a around (label + 3) (k + addressed v) es out over s at built_a right_a exits
+          (record { labels = omega arith; addresses = omega arith }) (inside_next all _ (Label label) at_one) h in
           may_use m call n (counted at) (4 * s.steps) (4 * s.steps) (at.used + 4) (at.used + 3 + 1) out rest _ _ (omega arith)
-          (jump_meets m call n (counted at) (4 * s.steps) (at.used + 3) (label + 2) out (Label (label + 1) ∷ other_side) rest _ _ there does)
+          (jump_meets m call n (counted at) (4 * s.steps) (at.used + 3) (label + 2) out (Label (label + 1) ∷ other_side) rest _ _ there
+          does)
 
-      other_meets : (s : State) (at : Mark) → Holds floor s at → Meets m call n (counted at) (4 * s.steps) (at.used + 4) out rest (run_at other_side s.world at) (flat_begun p n (flat_below p n) b s)
+      other_meets : (s : State) (at : Mark) → Holds floor s at → Meets m call n (counted at) (4 * s.steps) (at.used + 4) out rest
+          (run_at other_side s.world at) (flat_begun p n (flat_below p n) b s)
       other_meets s at h =
           let r = room.labels in
           let z = room.addresses in
-          let does = claim_b around (label + 3 + labels_in a) (k + addressed v + addresses_in a) es out (Label (label + 2) ∷ rest) s at built_b right_b exits (record { labels = omega arith; addresses = omega arith }) (inside_next all _ (Label (label + 1)) at_other) h in
-          may_use m call n (counted at) (4 * s.steps) (4 * s.steps) (at.used + 4) (at.used + 3) out rest _ _ (omega arith) (label_meets m call n (counted at) (4 * s.steps) (at.used + 3) (label + 2) out rest _ _ does)
+          let does = claim_b around (label + 3 + labels_in a) (k + addressed v + addresses_in a) es out (Label (label + 2) ∷ rest) s at
+          built_b right_b exits (record { labels = omega arith; addresses = omega arith })
+          (inside_next all _ (Label (label + 1)) at_other) h in
+          may_use m call n (counted at) (4 * s.steps) (4 * s.steps) (at.used + 4) (at.used + 3) out rest _ _ (omega arith)
+          (label_meets m call n (counted at) (4 * s.steps) (at.used + 3) (label + 2) out rest _ _ does)
 
       branch_meets : (s : State) (at : Mark) (z : Bool) → Holds floor s at → (cut W (value_of p s v) == 0) ≡ z
-          → Meets m call n (counted at) (4 * s.steps) (at.used + 3) out rest (run_at (address_lines p.globals v k ++ branch) s.world at) (side_meets n a b s z)
+          → Meets m call n (counted at) (4 * s.steps) (at.used + 3) out rest (run_at (address_lines p.globals v k ++ branch) s.world at)
+          (side_meets n a b s z)
       branch_meets s at z h e =
           let behind = behind_address p f m set call v k at in
           let r = room.labels in
-          let comes = branch_comes p f m set call v k label (label + 1) (Label label ∷ (one ++ over)) (one ++ over) other_side s at z operand_right h (found label (one ++ over) (omega arith) at_one) (found (label + 1) other_side (omega arith) at_other) e in
+          let comes = branch_comes p f m set call v k label (label + 1) (Label label ∷ (one ++ over)) (one ++ over) other_side s at z
+          operand_right h (found label (one ++ over) (omega arith) at_one) (found (label + 1) other_side (omega arith) at_other) e in
           let used = address_used p f m set call v k at in
           let jumps = address_jumps p f m set call v k at in
           let few = addressed_one v in
           let held : Holds floor s behind = record { same = address_same p f m set call v k at s.temps h.same; most = h.most } in
-          later m call (addressed v + 1) _ _ comes (4 * s.steps) (4 * (s.steps + 1)) (at.used + 3) (behind.used + 1 + 0 + 4) (omega arith) n n (counted at) (suc (counted behind)) out rest _ (omega arith) (omega arith) (side z behind held)
+          later m call (addressed v + 1) _ _ comes (4 * s.steps) (4 * (s.steps + 1)) (at.used + 3) (behind.used + 1 + 0 + 4) (omega arith) n
+          n (counted at) (suc (counted behind)) out rest _ (omega arith) (omega arith) (side z behind held)
         where
-          side : (y : Bool) (c : Mark) → Holds floor s c → Meets m call n (suc (counted c)) (4 * (s.steps + 1)) (c.used + 1 + 0 + 4) out rest (run_at (if y then other_side else (one ++ over)) s.world (jumped_to m call (if y then label + 1 else label) c)) (side_meets n a b s y)
-          side true c hc = other_meets (stepped 1 s) (jumped_to m call (label + 1) c) (stepped_holds floor s _ (jumped_holds m call floor (label + 1) s c hc))
-          side false c hc = one_meets (stepped 1 s) (jumped_to m call label c) (stepped_holds floor s _ (jumped_holds m call floor label s c hc))
+          side : (y : Bool) (c : Mark) → Holds floor s c → Meets m call n (suc (counted c)) (4 * (s.steps + 1)) (c.used + 1 + 0 + 4) out
+              rest (run_at (if y then other_side else (one ++ over)) s.world (jumped_to m call (if y then label + 1 else label) c))
+              (side_meets n a b s y)
+          side true c hc = other_meets (stepped 1 s) (jumped_to m call (label + 1) c)
+              (stepped_holds floor s _ (jumped_holds m call floor (label + 1) s c hc))
+          side false c hc =
+              one_meets (stepped 1 s) (jumped_to m call label c) (stepped_holds floor s _ (jumped_holds m call floor label s c hc))
 
   if_meets : (n : ℕ) (v : Value) (a b : Code) → Claim n a → Claim n b → Claim n (If v a b)
   if_meets n v a b ca cb around label k es out rest s at built right exits room inside h =
       let u = and_parts (is_built a) (is_built b) built in
-      let q = and_parts (is_operand (length p.globals) f W v) (is_right (length p.globals) f around a && is_right (length p.globals) f around b) right in
+      let q = and_parts (is_operand (length p.globals) f W v)
+      (is_right (length p.globals) f around a && is_right (length p.globals) f around b) right in
       let w = and_parts (is_right (length p.globals) f around a) (is_right (length p.globals) f around b) q.1 in
       let same = regrouped n v a b ca cb around label k es out rest u.0 u.1 q.0 w.0 w.1 exits room in
       let there = subst (λ (x : List Line). Inside all x) same inside in
-      subst (λ (x : List Line). Meets m call n (counted at) (4 * s.steps) (at.used + 3) out rest (run_at x s.world at) (flat_begun p n (flat_below p n) (If v a b) s)) (sym same)
+      subst (λ (x : List Line). Meets m call n (counted at) (4 * s.steps) (at.used + 3) out rest (run_at x s.world at)
+      (flat_begun p n (flat_below p n) (If v a b) s)) (sym same)
       (branch_meets n v a b ca cb around label k es out rest u.0 u.1 q.0 w.0 w.1 exits room there s at (cut W (value_of p s v) == 0) h refl)
 
   -- ---- all code
 
-  leave_meets : (n j around label k : ℕ) (es : List ℕ) (out : ℕ → List Line) (ls rest : List Line) (s : State) (at : Mark) → nat_lt j around ≡ true → Exits all around es out → Holds floor s at
-      → Meets m call n (counted at) (4 * s.steps) (at.used + 3) out rest (run_at (End (jump.Jmp (label_name (exit_at es j))) ∷ ls) s.world at) (flat_begun p n (flat_below p n) (Leave j) s)
+  leave_meets : (n j around label k : ℕ) (es : List ℕ) (out : ℕ → List Line) (ls rest : List Line) (s : State) (at : Mark) →
+      nat_lt j around ≡ true → Exits all around es out → Holds floor s at
+      → Meets m call n (counted at) (4 * s.steps) (at.used + 3) out rest
+      (run_at (End (jump.Jmp (label_name (exit_at es j))) ∷ ls) s.world at) (flat_begun p n (flat_below p n) (Leave j) s)
   leave_meets n j around label k es out ls rest s at right exits h =
       let lt : j < around = grind (arith, nat_tests) in
       record {
@@ -244,32 +292,45 @@ module _ (p : FlatProgram) (f : FlatFn) (m : Module) (set : Setting p f m) (few_
           let z = room.addresses in
           let same = append_assoc (each_lines p.globals cs (suc label) k (es ++ label ∷ [])) (Label label ∷ []) rest in
           let there = inside_regroup all (each_lines p.globals cs (suc label) k (es ++ label ∷ [])) (Label label ∷ []) rest inside in
-          let leaves = found label rest (omega arith) (inside_behind all (each_lines p.globals cs (suc label) k (es ++ label ∷ [])) (Label label ∷ rest) there) in
-          let each = each_meets cs (suc around) (suc label) k (es ++ label ∷ []) (out_of rest out) (Label label ∷ rest) s at built q.1 (exits_more all around es out label rest exits leaves) (record { labels = omega arith; addresses = z }) there h in
-          subst (λ (x : List Line). Meets m call n (counted at) (4 * s.steps) (at.used + 3) out rest (run_at x s.world at) (flat_begun p n (flat_below p n) (Seq cs) s)) (sym same)
+          let leaves = found label rest (omega arith)
+          (inside_behind all (each_lines p.globals cs (suc label) k (es ++ label ∷ [])) (Label label ∷ rest) there) in
+          let each = each_meets cs (suc around) (suc label) k (es ++ label ∷ []) (out_of rest out) (Label label ∷ rest) s at built q.1
+          (exits_more all around es out label rest exits leaves) (record { labels = omega arith; addresses = z }) there h in
+          subst (λ (x : List Line). Meets m call n (counted at) (4 * s.steps) (at.used + 3) out rest (run_at x s.world at)
+          (flat_begun p n (flat_below p n) (Seq cs) s)) (sym same)
           (may_use m call n (counted at) (4 * s.steps) (4 * s.steps) (at.used + 3) (at.used + 0) out rest _ _ (omega arith)
           (caught_meets m call n (counted at) (4 * s.steps) (at.used + 0) out rest _ (flats_in p n (flat_below p n) cs s)
           (label_meets m call n (counted at) (4 * s.steps) (at.used + 0) label (out_of rest out) rest _ _ each)))
       code_meets (Set t class o a b) around label k es out rest s at built right exits room inside h =
           let q = and_parts (is_target f t class) _ right in
           let u = and_parts (may_give (op_kind o) class) _ q.1 in
-          let w = and_parts (is_operand (length p.globals) f (first_class (op_kind o) class) a) (is_second (length p.globals) f (second_class (op_kind o) class) (takes_two (op_kind o)) b) u.1 in
+          let w = and_parts (is_operand (length p.globals) f (first_class (op_kind o) class) a)
+          (is_second (length p.globals) f (second_class (op_kind o) class) (takes_two (op_kind o)) b) u.1 in
           set_meets p f m set call n out t class o a b k rest s at q.0 w.0 w.1 room.addresses h
       code_meets (Load t how a) around label k es out rest s at built right exits room inside h = cc
       code_meets (Store width value a) around label k es out rest s at built right exits room inside h = cc
       code_meets (Move to from bytes) around label k es out rest s at built right exits room inside h = cc
-      code_meets (If v a b) around label k es out rest s at built right exits room inside h = if_meets n v a b (code_meets a) (code_meets b) around label k es out rest s at built right exits room inside h
+      code_meets (If v a b) around label k es out rest s at built right exits room inside h =
+          if_meets n v a b (code_meets a) (code_meets b) around label k es out rest s at built right exits room inside h
       code_meets (Loop c) around label k es out rest s at built right exits room inside h =
           let q = and_parts (nat_lt around deepest) (is_right (length p.globals) f (suc around) c) right in
-          let same = append_assoc (code_lines p.globals c (label + 2) k (es ++ (label + 1) ∷ [])) (End (jump.Jmp (label_name label)) ∷ Label (label + 1) ∷ []) rest in
-          let there = subst (λ (x : List Line). Inside all (Label label ∷ x)) same (inside_next all _ (End (jump.Jmp (label_name label))) inside) in
-          loop_meets c around label k es out rest built q.1 exits room there n below (Label label ∷ ((code_lines p.globals c (label + 2) k (es ++ (label + 1) ∷ []) ++ (End (jump.Jmp (label_name label)) ∷ Label (label + 1) ∷ [])) ++ rest)) s at h
-      code_meets (Leave j) around label k es out rest s at built right exits room inside h = leave_meets n j around label k es out (Label label ∷ rest) rest s at right exits h
-      code_meets (Call temp name args) around label k es out rest s at built right exits room inside h = call_meets p f m set call n (flat_below p n) out temp name args k rest s at right room.addresses h
-      code_meets (Ret value) around label k es out rest s at built right exits room inside h = return_meets p f m set call n label out f.result value k rest s at right h
+          let same = append_assoc (code_lines p.globals c (label + 2) k (es ++ (label + 1) ∷ []))
+          (End (jump.Jmp (label_name label)) ∷ Label (label + 1) ∷ []) rest in
+          let there = subst (λ (x : List Line). Inside all (Label label ∷ x)) same
+          (inside_next all _ (End (jump.Jmp (label_name label))) inside) in
+          loop_meets c around label k es out rest built q.1 exits room there n below
+          (Label label ∷ ((code_lines p.globals c (label + 2) k (es ++ (label + 1) ∷ []) ++
+          (End (jump.Jmp (label_name label)) ∷ Label (label + 1) ∷ [])) ++ rest)) s at h
+      code_meets (Leave j) around label k es out rest s at built right exits room inside h =
+          leave_meets n j around label k es out (Label label ∷ rest) rest s at right exits h
+      code_meets (Call temp name args) around label k es out rest s at built right exits room inside h =
+          call_meets p f m set call n (flat_below p n) out temp name args k rest s at right room.addresses h
+      code_meets (Ret value) around label k es out rest s at built right exits room inside h =
+          return_meets p f m set call n label out f.result value k rest s at right h
 
       each_meets : (cs : Codes) → ClaimEach n cs
-      each_meets none around label k es out rest s at built right exits room inside h = record { to = at; count = 0; by = refl; holds = h; jumps = omega arith; units = omega arith }
+      each_meets none around label k es out rest s at built right exits room inside h =
+          record { to = at; count = 0; by = refl; holds = h; jumps = omega arith; units = omega arith }
       each_meets (more c cs) around label k es out rest s at built right exits room inside h =
           let u = and_parts (is_built c) (are_built cs) built in
           let q = and_parts (is_right (length p.globals) f around c) (are_right (length p.globals) f around cs) right in
@@ -279,12 +340,16 @@ module _ (p : FlatProgram) (f : FlatFn) (m : Module) (set : Setting p f m) (few_
           let others = each_lines p.globals cs (label + labels_in c) (k + addresses_in c) es in
           let same = append_assoc first others rest in
           let there = inside_regroup all first others rest inside in
-          let does = code_meets c around label k es out (others ++ rest) (stepped 1 s) at u.0 q.0 exits (record { labels = omega arith; addresses = omega arith }) there (stepped_holds floor s at h) in
-          let does_s = may_use m call n (counted at) (4 * s.steps) (4 * (s.steps + 1)) (at.used + 0) (at.used + 3) out (others ++ rest) _ _ (omega arith) does in
-          subst (λ (x : List Line). Meets m call n (counted at) (4 * s.steps) (at.used + 0) out rest (run_at x s.world at) (flats_in p n (flat_below p n) (more c cs) s)) (sym same)
+          let does = code_meets c around label k es out (others ++ rest) (stepped 1 s) at u.0 q.0 exits
+          (record { labels = omega arith; addresses = omega arith }) there (stepped_holds floor s at h) in
+          let does_s = may_use m call n (counted at) (4 * s.steps) (4 * (s.steps + 1)) (at.used + 0) (at.used + 3) out (others ++ rest) _ _
+          (omega arith) does in
+          subst (λ (x : List Line). Meets m call n (counted at) (4 * s.steps) (at.used + 0) out rest (run_at x s.world at)
+          (flats_in p n (flat_below p n) (more c cs) s)) (sym same)
           (may_use m call n (counted at) (4 * s.steps) (4 * s.steps) (at.used + 0) (at.used + 0 + 0) out rest _ _ (omega arith)
           (then_meets m call n (counted at) (4 * s.steps) (at.used + 0) 0 out rest (others ++ rest) _ (flats_in p n (flat_below p n) cs)
-          (λ s1 c1 h1. each_meets cs around (label + labels_in c) (k + addresses_in c) es out rest s1 c1 u.1 q.1 exits (record { labels = omega arith; addresses = omega arith }) (inside_behind all first (others ++ rest) there) h1)
+          (λ s1 c1 h1. each_meets cs around (label + labels_in c) (k + addresses_in c) es out rest s1 c1 u.1 q.1 exits
+          (record { labels = omega arith; addresses = omega arith }) (inside_behind all first (others ++ rest) there) h1)
           (flat_begun p n (flat_below p n) c (stepped 1 s)) does_s))
 
   every_below : (n : ℕ) → Below n

@@ -29,10 +29,12 @@ abbrev pub string_of : List ℕ → List PartValue
 string_of [] = []
 string_of (c ∷ s) = value.Str (c ∷ s) ∷ []
 
--- bytes as values, behind those of a string that is not ended: strings as long as they can be, and as numbers the bytes that no string may hold
+-- bytes as values, behind those of a string that is not ended: strings as long as they can be, and as numbers the bytes that no string may
+-- hold
 abbrev pub byte_values : List ℕ → List ℕ → List PartValue
 byte_values string [] = string_of string
-byte_values string (c ∷ bytes) = if is_string_byte c then byte_values (string ++ c ∷ []) bytes else string_of string ++ value.Number c ∷ byte_values [] bytes
+byte_values string (c ∷ bytes) =
+    if is_string_byte c then byte_values (string ++ c ∷ []) bytes else string_of string ++ value.Number c ∷ byte_values [] bytes
 
 -- no values are no part
 abbrev pub bytes_part : List PartValue → List Part

@@ -144,28 +144,31 @@ abbrev mutual
   addresses_in_all none = 0
   addresses_in_all (more c cs) = addresses_in c + addresses_in_all cs
 
--- the label behind the Seq or Loop number `j` round a statement, counted from the inside, where `exits` are those of all, the outermost first
+-- the label behind the Seq or Loop number `j` round a statement, counted from the inside, where `exits` are those of all, the outermost
+-- first
 abbrev pub exit_at : List ℕ → ℕ → ℕ
 exit_at exits j = slice_index_or exits (length exits - suc j) 0
 
 -- a branch on a condition, and the label of its first side
 abbrev pub condition_lines : List Data → Value → (n k : ℕ) → List Line
-condition_lines globals cond n k = address_lines globals cond k ++ (End (jump.Jnz (operand globals cond k) (label_name n) (label_name (n + 1))) ∷ Label n ∷ [])
+condition_lines globals cond n k =
+    address_lines globals cond k ++ (End (jump.Jnz (operand globals cond k) (label_name n) (label_name (n + 1))) ∷ Label n ∷ [])
 
 -- a return, behind which the label `n` stands
 abbrev pub return_lines : List Data → Option Value → (n k : ℕ) → List Line
 return_lines globals None n k = End (jump.Ret None) ∷ Label n ∷ []
 return_lines globals (Some v) n k = address_lines globals v k ++ (End (jump.Ret (Some (operand globals v k))) ∷ Label n ∷ [])
 
--- The lines of a statement, whose labels have the numbers from `n` on and whose addresses those from `k` on. Behind each jump stands a label, so that code behind a
--- Leave or a Ret has a block of its own. A Loop is entered by a written jump and has one backward jump.
+-- The lines of a statement, whose labels have the numbers from `n` on and whose addresses those from `k` on. Behind each jump stands a
+-- label, so that code behind a Leave or a Ret has a block of its own. A Loop is entered by a written jump and has one backward jump.
 module _ (globals : List Data) where
   abbrev mutual
     pub code_lines : Code → (n k : ℕ) → (exits : List ℕ) → List Line
     code_lines (Seq cs) n k exits = each_lines cs (suc n) k (exits ++ n ∷ []) ++ (Label n ∷ [])
     code_lines (Set t class o a b) n k exits =
         address_lines globals a k ++ (address_lines globals b (k + addressed a)
-        ++ (Do (inst.Set (temp_name t) class (il_op o) (operand globals a k) (second (takes_two (op_kind o)) (operand globals b (k + addressed a)))) ∷ []))
+        ++ (Do (inst.Set (temp_name t) class (il_op o) (operand globals a k)
+        (second (takes_two (op_kind o)) (operand globals b (k + addressed a)))) ∷ []))
     code_lines (Load t how at) n k exits = []
     code_lines (Store width value at) n k exits = []
     code_lines (Move to from bytes) n k exits = []
@@ -174,10 +177,13 @@ module _ (globals : List Data) where
         ∷ (code_lines a (n + 3) (k + addressed cond) exits ++ (End (jump.Jmp (label_name (n + 2))) ∷ Label (n + 1)
         ∷ (code_lines b (n + 3 + labels_in a) (k + addressed cond + addresses_in a) exits ++ (Label (n + 2) ∷ [])))))
     code_lines (Loop c) n k exits =
-        End (jump.Jmp (label_name n)) ∷ Label n ∷ (code_lines c (n + 2) k (exits ++ (n + 1) ∷ []) ++ (End (jump.Jmp (label_name n)) ∷ Label (n + 1) ∷ []))
+        End (jump.Jmp (label_name n)) ∷ Label n ∷
+        (code_lines c (n + 2) k (exits ++ (n + 1) ∷ []) ++ (End (jump.Jmp (label_name n)) ∷ Label (n + 1) ∷ []))
     code_lines (Leave j) n k exits = End (jump.Jmp (label_name (exit_at exits j))) ∷ Label n ∷ []
     code_lines (Call temp name args) n k exits =
-        arg_lines globals args k ++ (Do (inst.Call (result_param temp (call_class (runtime_function name))) name (args_of globals (call_params (runtime_function name)) args k)) ∷ [])
+        arg_lines globals args k ++ (Do
+        (inst.Call (result_param temp (call_class (runtime_function name))) name
+        (args_of globals (call_params (runtime_function name)) args k)) ∷ [])
     code_lines (Ret value) n k exits = return_lines globals value n k
 
     pub each_lines : Codes → (n k : ℕ) → (exits : List ℕ) → List Line

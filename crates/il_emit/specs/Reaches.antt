@@ -32,8 +32,8 @@ fault_for flat.BadArg = fault.BadArg
 fault_for flat.ZeroDivisor = fault.ZeroDivisor
 fault_for flat.NoFunction = fault.Hlt
 
--- How the machine ends where a program ends so: a block of the heap that would end too high is a full stack there. Where turns ran out it has not ended. A program ends in
--- none of the last three ways.
+-- How the machine ends where a program ends so: a block of the heap that would end too high is a full stack there. Where turns ran out it
+-- has not ended. A program ends in none of the last three ways.
 abbrev pub end_for : Flow → Option End
 end_for (flat.Exit status) = Some (Exit status)
 end_for (flat.Abort text) = Some (Abort text)
@@ -47,9 +47,9 @@ end_for (flat.Returned value) = None
 -- ---- the theorem
 
 module _ (m : Module) (args : List (List ℕ)) (input : List ℕ) (fill n : ℕ) where
-  -- With some budget the machine stands where the program's run of `n` turns stands: it has the same end, or goes on where turns ran out, and the world is the same.
-  -- Where turns ran out it has done at least as many jumps and calls. The budget is just what it has used: at most four units for each flat step, and one for the frame
-  -- of `main`.
+  -- With some budget the machine stands where the program's run of `n` turns stands: it has the same end, or goes on where turns ran out,
+  -- and the world is the same. Where turns ran out it has done at least as many jumps and calls. The budget is just what it has used: at
+  -- most four units for each flat step, and one for the frame of `main`.
   pub record Arrives (r : Result) : Type 0 where
     pub budget : ℕ
     pub ended : (machine m args input fill budget).ended ≡ end_for r.0

@@ -1,4 +1,5 @@
--- The module has the program's shape: the same functions, with no loop and no call that the program does not have, and calls that cost the stack no more.
+-- The module has the program's shape: the same functions, with no loop and no call that the program does not have, and calls that cost the
+-- stack no more.
 use Rattle.std.specs.Prelude.{ℕ, suc, ◌+◌, ◌≤◌, Bool, true, false, not, ◌&&◌, ◌||◌, IsTrue, List, [], ◌∷◌, Option, None, Some, bytes_eq, count_by, sum_by, if◌then◌else◌}
 use Rattle.std.specs.List.{list_all}
 use Rattle.flat_code.specs.declared.program.FlatFn.{FlatFn}
@@ -69,10 +70,12 @@ has_fixed_size (inst.Store width value at) = true
 has_fixed_size (inst.Blit from to bytes) = true
 has_fixed_size (inst.Call result target args) = true
 
--- allocs stand in the first block, to which no jump of a valid function leads, and each names a number of bytes: so each call takes them once
+-- allocs stand in the first block, to which no jump of a valid function leads, and each names a number of bytes: so each call takes them
+-- once
 abbrev pub allocs_are_placed : List Block → Bool
 allocs_are_placed [] = true
-allocs_are_placed (first ∷ rest) = list_all has_fixed_size first.insts && list_all (λ (b : Block). list_all (λ (i : Inst). not (is_alloc i)) b.insts) rest
+allocs_are_placed (first ∷ rest) =
+    list_all has_fixed_size first.insts && list_all (λ (b : Block). list_all (λ (i : Inst). not (is_alloc i)) b.insts) rest
 
 abbrev pub taken_of : Option ℕ → ℕ
 taken_of None = 0
@@ -129,8 +132,8 @@ abbrev mutual
 
 -- ---- functions and programs
 
--- A function of the module has no more backward jumps than one of the program has Loops, no more calls of any function than that has Calls of it, and a call of it costs
--- the stack no more than flat code says.
+-- A function of the module has no more backward jumps than one of the program has Loops, no more calls of any function than that has Calls
+-- of it, and a call of it costs the stack no more than flat code says.
 pub record IsShapedAs (f : FlatFn) (c : il.Code) : Type 0 where
   pub jumps : backward_jumps c.blocks ≤ loops_in (code_of f.body)
   pub calls : (name : List ℕ) → calls_of name c.blocks ≤ calls_in name (code_of f.body)

@@ -24,10 +24,10 @@ use std::alloc::{AllocError, Global};
 ///
 /// The program is well formed, as `flat_code::well_formed` tells.
 ///
-/// The module is valid, and it does what the program does: at every number of turns there is a budget, of at most four units for each flat step and
-/// one more, with which a run of it comes to the same end and the same world, or to the same world where turns ran out. Where calls that are active
-/// at once cost more than the stack holds, its end may be a full stack instead. No function jumps back more often than its code has Loops, calls a
-/// function more often than its code has Calls of it, or costs the stack more than flat code says.
+/// The module is valid, and it does what the program does: at every number of turns there is a budget, of at most four units for each flat
+/// step and one more, with which a run of it comes to the same end and the same world, or to the same world where turns ran out. Where
+/// calls that are active at once cost more than the stack holds, its end may be a full stack instead. No function jumps back more often
+/// than its code has Loops, calls a function more often than its code has Calls of it, or costs the stack more than flat code says.
 ///
 /// An error is want of memory.
 pub fn emit(alloc: Global, p: &FlatProgram) -> Result<Module, AllocError>

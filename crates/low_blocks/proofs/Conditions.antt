@@ -36,13 +36,50 @@ module _ (p : FlatProgram) (n : ℕ) (below : Less) where
     reaches : Reaches p n below (comparison r a b ∷ []) s (set_temp (stepped 1 s) test_temp W given)
     test : (cut W given == 0) ≡ not holds
 
-  comparison_tests : (args : ℕ) (s : State) (r : Relation) (a b : Value) (x y : ℕ) → value_of p s a ≡ x → value_of p s b ≡ y → x < 2 ^ 64 → y < 2 ^ 64 → Compares s r a b (relates args r x y)
-  comparison_tests args s less a b x y e f h k = record { given = _; reaches = reaches_set p n below s test_temp W Cultl a b _ refl; test = rw (e, f, cut_fits x h, cut_fits y k) (truth_test (nat_lt x y)) }
-  comparison_tests args s less_equal a b x y e f h k = record { given = _; reaches = reaches_set p n below s test_temp W Culel a b _ refl; test = rw (e, f, cut_fits x h, cut_fits y k) (truth_test (nat_le x y)) }
-  comparison_tests args s greater a b x y e f h k = record { given = _; reaches = reaches_set p n below s test_temp W Cultl b a _ refl; test = rw (e, f, cut_fits x h, cut_fits y k) (truth_test (nat_lt y x)) }
-  comparison_tests args s greater_equal a b x y e f h k = record { given = _; reaches = reaches_set p n below s test_temp W Culel b a _ refl; test = rw (e, f, cut_fits x h, cut_fits y k) (truth_test (nat_le y x)) }
-  comparison_tests args s equal a b x y e f h k = record { given = _; reaches = reaches_set p n below s test_temp W Ceql a b _ refl; test = rw (e, f, cut_fits x h, cut_fits y k) (truth_test (nat_eq x y)) }
-  comparison_tests args s differ a b x y e f h k = record { given = _; reaches = reaches_set p n below s test_temp W Cnel a b _ refl; test = rw (e, f, cut_fits x h, cut_fits y k) (untruth_test (nat_eq x y)) }
+  comparison_tests : (args : ℕ) (s : State) (r : Relation) (a b : Value) (x y : ℕ) → value_of p s a ≡ x → value_of p s b ≡ y → x < 2 ^ 64 →
+      y < 2 ^ 64 → Compares s r a b (relates args r x y)
+  comparison_tests args s less a b x y e f h k =
+      record {
+        given = _;
+        reaches = reaches_set p n below s test_temp W Cultl a b _ refl;
+        test =
+            rw (e, f, cut_fits x h, cut_fits y k) (truth_test (nat_lt x y));
+      }
+  comparison_tests args s less_equal a b x y e f h k =
+      record {
+        given = _;
+        reaches = reaches_set p n below s test_temp W Culel a b _ refl;
+        test =
+            rw (e, f, cut_fits x h, cut_fits y k) (truth_test (nat_le x y));
+      }
+  comparison_tests args s greater a b x y e f h k =
+      record {
+        given = _;
+        reaches = reaches_set p n below s test_temp W Cultl b a _ refl;
+        test =
+            rw (e, f, cut_fits x h, cut_fits y k) (truth_test (nat_lt y x));
+      }
+  comparison_tests args s greater_equal a b x y e f h k =
+      record {
+        given = _;
+        reaches = reaches_set p n below s test_temp W Culel b a _ refl;
+        test =
+            rw (e, f, cut_fits x h, cut_fits y k) (truth_test (nat_le y x));
+      }
+  comparison_tests args s equal a b x y e f h k =
+      record {
+        given = _;
+        reaches = reaches_set p n below s test_temp W Ceql a b _ refl;
+        test =
+            rw (e, f, cut_fits x h, cut_fits y k) (truth_test (nat_eq x y));
+      }
+  comparison_tests args s differ a b x y e f h k =
+      record {
+        given = _;
+        reaches = reaches_set p n below s test_temp W Cnel a b _ refl;
+        test =
+            rw (e, f, cut_fits x h, cut_fits y k) (untruth_test (nat_eq x y));
+      }
 
   -- ---- conditions
 
@@ -57,8 +94,10 @@ module _ (p : FlatProgram) (n : ℕ) (below : Less) where
   test_keeps : (s : State) (t v : ℕ) → Keeps t s (set_temp (stepped 1 s) test_temp W v)
   test_keeps s t v u pos l = temp_of-other (stepped 1 s) test_temp W v u (λ e. omega arith)
 
-  module _ (args : ℕ) (nargs : function_named p.functions (codes "rt.nargs") ≡ None) (scope : Scope) (vs : Variables) (bound : ℕ) (pos : 0 < bound) (under : Below bound scope) where
-    pub condition_tells : (c : Condition) (s : State) → Ready p n below args nargs scope vs bound pos under s → Tells s (condition_piece scope bound c) (holds args vs c) bound
+  module _ (args : ℕ) (nargs : function_named p.functions (codes "rt.nargs") ≡ None) (scope : Scope) (vs : Variables) (bound : ℕ)
+      (pos : 0 < bound) (under : Below bound scope) where
+    pub condition_tells : (c : Condition) (s : State) → Ready p n below args nargs scope vs bound pos under s →
+        Tells s (condition_piece scope bound c) (holds args vs c) bound
     condition_tells always s r = record { after = s; reaches = reaches_none p n below s; test = refl; world = refl; keeps = λ u l k. refl }
     condition_tells (compares a r b) s ready =
         let x = expr_piece scope bound a in
@@ -66,16 +105,19 @@ module _ (p : FlatProgram) (n : ℕ) (below : Less) where
         let fx = expr_from scope bound pos under bound a (omega arith) in
         let fy = expr_from scope bound pos under x.next b fx.grows in
         let gx = expr_gives p n below args nargs scope vs bound pos under bound a s (omega arith) ready in
-        let gy = expr_gives p n below args nargs scope vs bound pos under x.next b gx.after fx.grows (ready_on p n below args nargs scope vs bound pos under s gx.after bound (omega arith) ready gx.world gx.keeps) in
+        let gy = expr_gives p n below args nargs scope vs bound pos under x.next b gx.after fx.grows
+        (ready_on p n below args nargs scope vs bound pos under s gx.after bound (omega arith) ready gx.world gx.keeps) in
         let left = operand_kept p x.next gx.after gy.after x.value fx.value gy.keeps ∙ gx.value in
         let k = comparison_tests args gy.after r x.value y.value _ _ left gy.value gx.fits gy.fits in
         let end = set_temp (stepped 1 gy.after) test_temp W k.given in
         record {
           after = end;
-          reaches = reaches_on p n below x.code (y.code ++ comparison r x.value y.value ∷ []) s gx.after end gx.reaches (reaches_on p n below y.code (comparison r x.value y.value ∷ []) gx.after gy.after end gy.reaches k.reaches);
+          reaches = reaches_on p n below x.code (y.code ++ comparison r x.value y.value ∷ []) s gx.after end gx.reaches
+              (reaches_on p n below y.code (comparison r x.value y.value ∷ []) gx.after gy.after end gy.reaches k.reaches);
           test = rw (temp_of-same (stepped 1 gy.after) test_temp W k.given) (rw (cut_again k.given) k.test);
           world = gy.world ∙ gx.world;
-          keeps = keeps_on bound x.next s gx.after end fx.grows gx.keeps (keeps_on x.next x.next gx.after gy.after end (omega arith) gy.keeps (test_keeps gy.after x.next k.given));
+          keeps = keeps_on bound x.next s gx.after end fx.grows gx.keeps
+              (keeps_on x.next x.next gx.after gy.after end (omega arith) gy.keeps (test_keeps gy.after x.next k.given));
         }
       where
         cut_again : (v : ℕ) → cut W (cut W v) ≡ cut W v

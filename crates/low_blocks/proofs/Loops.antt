@@ -60,7 +60,15 @@ loops_condition scope t always = refl
 loops_condition scope t (compares a r b) =
     let x = expr_piece scope t a in
     let y = expr_piece scope x.next b in
-    omega (arith, loops_parts x.code (y.code ++ comparison r x.value y.value ∷ []), loops_expr scope t a, loops_parts y.code (comparison r x.value y.value ∷ []), loops_expr scope x.next b, loops_comparison r x.value y.value)
+    omega (
+      arith,
+      loops_parts x.code (y.code ++ comparison r x.value y.value ∷ []),
+      loops_expr scope t a,
+      loops_parts y.code
+          (comparison r x.value y.value ∷ []),
+      loops_expr scope x.next b,
+      loops_comparison r x.value y.value,
+    )
 
 -- ---- statements
 
@@ -77,24 +85,33 @@ loops_turn (compares a r b) test body h = loops_parts test.code _ ∙ omega (ari
 
 mutual
   statement_loops : (site : Site) (s : Statement) → loops (statement_code site s).code ≡ statement_fors s
-  statement_loops site (declares x e) = loops_parts (expr_piece site.scope site.next e).code _ ∙ omega (arith, loops_expr site.scope site.next e)
-  statement_loops site (assigns x e) = loops_parts (expr_piece site.scope site.next e).code _ ∙ omega (arith, loops_expr site.scope site.next e, loops_copied (number_of x site.scope) (expr_piece site.scope site.next e).value)
+  statement_loops site (declares x e) =
+      loops_parts (expr_piece site.scope site.next e).code _ ∙ omega (arith, loops_expr site.scope site.next e)
+  statement_loops site (assigns x e) = loops_parts (expr_piece site.scope site.next e).code _ ∙ omega
+      (arith, loops_expr site.scope site.next e, loops_copied (number_of x site.scope) (expr_piece site.scope site.next e).value)
   statement_loops site (chooses c body) =
       let test = condition_piece site.scope site.next c in
-      loops_branch test (statements_code (past site test.next) body).code [] (loops_condition site.scope site.next c) ∙ omega (arith, statements_loops (past site test.next) body)
+      loops_branch test (statements_code (past site test.next) body).code [] (loops_condition site.scope site.next c) ∙ omega
+      (arith, statements_loops (past site test.next) body)
   statement_loops site (chooses_one c body other) =
       let test = condition_piece site.scope site.next c in
       let low = statements_code (past site test.next) body in
-      loops_branch test low.code (statements_code (outside site low.behind) other).code (loops_condition site.scope site.next c) ∙ omega (arith, statements_loops (past site test.next) body, statements_loops (outside site low.behind) other)
+      loops_branch test low.code (statements_code (outside site low.behind) other).code (loops_condition site.scope site.next c) ∙ omega
+      (arith, statements_loops (past site test.next) body, statements_loops (outside site low.behind) other)
   statement_loops site (repeats c body) =
       let test = condition_piece site.scope site.next c in
-      omega (arith, loops_turn c test (statements_code (past site test.next) body).code (loops_condition site.scope site.next c), statements_loops (past site test.next) body)
+      omega (
+        arith,
+        loops_turn c test (statements_code (past site test.next) body).code (loops_condition site.scope site.next c),
+        statements_loops (past site test.next) body,
+      )
   statement_loops site (puts text) = refl
   statement_loops site (exits e) = loops_parts (expr_piece site.scope site.next e).code _ ∙ omega (arith, loops_expr site.scope site.next e)
 
   statements_loops : (site : Site) (ss : Statements) → loops (statements_code site ss).code ≡ statements_fors ss
   statements_loops site nothing = refl
-  statements_loops site (first s ss) = loops_parts (statement_code site s).code _ ∙ omega (arith, statement_loops site s, statements_loops (statement_code site s).behind ss)
+  statements_loops site (first s ss) =
+      loops_parts (statement_code site s).code _ ∙ omega (arith, statement_loops site s, statements_loops (statement_code site s).behind ss)
 
 program_loops : (p : Program) → loops (body_code p).code ≡ program_fors p
 program_loops (exit_of e) = statements_loops start (body_of (exit_of e))

@@ -22,30 +22,39 @@ pub record Stands (w : World) (scope : Scope) (v : State) (s : flat.State) : Typ
 -- flat code ends as the program does
 pub data Meets (w : World) (scope : Scope) (r : Result) (r' : flat.Result) : Type 0 where
   goes_on : (v : State) (s : flat.State) → r ≡ (Next, v) → r' ≡ (flat.Next, s) → Stands w scope v s → Meets w scope r r'
-  exits : (k : ℕ) (v : State) (s : flat.State) → r ≡ (Ends (Exit k), v) → r' ≡ (flat.Exit k, s) → s.world ≡ World_after w v.output → Meets w scope r r'
+  exits : (k : ℕ) (v : State) (s : flat.State) → r ≡ (Ends (Exit k), v) → r' ≡ (flat.Exit k, s) → s.world ≡ World_after w v.output →
+      Meets w scope r r'
   spent : (v : State) (s : flat.State) → r ≡ (Ends Spent, v) → r' ≡ (flat.Spent, s) → s.world ≡ World_after w v.output → Meets w scope r r'
 
 -- what stands behind goes on from where both stand
-pub then_meets : (w : World) (scope scope' : Scope) (r : Result) (r' : flat.Result) (go : State → Result) (go' : flat.State → flat.Result) → Meets w scope r r' → ((v : State) (s : flat.State) → Stands w scope v s → Meets w scope' (go v) (go' s)) → Meets w scope' (then_go r go) (flat.then_go r' go')
+pub then_meets : (w : World) (scope scope' : Scope) (r : Result) (r' : flat.Result) (go : State → Result) (go' : flat.State → flat.Result) →
+    Meets w scope r r' → ((v : State) (s : flat.State) → Stands w scope v s → Meets w scope' (go v) (go' s)) →
+    Meets w scope' (then_go r go) (flat.then_go r' go')
 then_meets w scope scope' r r' go go' (goes_on v s e f h) on = rw (e, f) (on v s h)
 then_meets w scope scope' r r' go go' (exits k v s e f h) on = rw (e, f) (exits k v s refl refl h)
 then_meets w scope scope' r r' go go' (spent v s e f h) on = rw (e, f) (spent v s refl refl h)
 
 -- the same where a turn of a Loop ends
-pub turn_meets : (w : World) (scope scope' : Scope) (r : Result) (r' : flat.Result) (go : State → Result) (go' : flat.State → flat.Result) → Meets w scope r r' → ((v : State) (s : flat.State) → Stands w scope v s → Meets w scope' (go v) (go' s)) → Meets w scope' (then_go r go) (flat.then_turn r' go')
+pub turn_meets : (w : World) (scope scope' : Scope) (r : Result) (r' : flat.Result) (go : State → Result) (go' : flat.State → flat.Result) →
+    Meets w scope r r' → ((v : State) (s : flat.State) → Stands w scope v s → Meets w scope' (go v) (go' s)) →
+    Meets w scope' (then_go r go) (flat.then_turn r' go')
 turn_meets w scope scope' r r' go go' (goes_on v s e f h) on = rw (e, f) (on v s h)
 turn_meets w scope scope' r r' go go' (exits k v s e f h) on = rw (e, f) (exits k v s refl refl h)
 turn_meets w scope scope' r r' go go' (spent v s e f h) on = rw (e, f) (spent v s refl refl h)
 
 -- a block ends, and the Seq that it became
-pub closed_meets : (w : World) (scope scope' : Scope) (before : State) (s : flat.State) (r : Result) (r' : flat.Result) → Extends scope scope' → Holds scope before.variables s → Meets w scope' r r' → Meets w scope (closed before r) (flat.caught r')
-closed_meets w scope scope' before s r r' x b (goes_on v t e f h) = rw (e, f) (goes_on _ t refl refl (record { holds = holds_outer scope scope' before.variables v.variables s t x b h.holds; world = h.world }))
+pub closed_meets : (w : World) (scope scope' : Scope) (before : State) (s : flat.State) (r : Result) (r' : flat.Result) →
+    Extends scope scope' → Holds scope before.variables s → Meets w scope' r r' → Meets w scope (closed before r) (flat.caught r')
+closed_meets w scope scope' before s r r' x b (goes_on v t e f h) =
+    rw (e, f) (goes_on _ t refl refl
+    (record { holds = holds_outer scope scope' before.variables v.variables s t x b h.holds; world = h.world }))
 closed_meets w scope scope' before s r r' x b (exits k v t e f h) = rw (e, f) (exits k _ t refl refl h)
 closed_meets w scope scope' before s r r' x b (spent v t e f h) = rw (e, f) (spent _ t refl refl h)
 
 -- ---- code in parts
 
-then_go-on : (r : flat.Result) (f g : flat.State → flat.Result) → flat.then_go (flat.then_go r f) g ≡ flat.then_go r (λ s. flat.then_go (f s) g)
+then_go-on : (r : flat.Result) (f g : flat.State → flat.Result) → flat.then_go (flat.then_go r f) g ≡ flat.then_go r
+    (λ s. flat.then_go (f s) g)
 then_go-on (flat.Next, s) f g = refl
 then_go-on (flat.Left k, s) f g = refl
 then_go-on (flat.Returned v, s) f g = refl

@@ -17,7 +17,8 @@ use Rattle.low_blocks.proofs.Plain.{and_assoc, and_both}
 abbrev pub Nest : ℕ → List Code → Type 0
 Nest n cs = each_nests_within (codes_of cs) n ≡ true
 
-nest_parts : (n : ℕ) (a b : List Code) → each_nests_within (codes_of (a ++ b)) n ≡ (each_nests_within (codes_of a) n && each_nests_within (codes_of b) n)
+nest_parts : (n : ℕ) (a b : List Code) → each_nests_within (codes_of (a ++ b)) n ≡
+    (each_nests_within (codes_of a) n && each_nests_within (codes_of b) n)
 nest_parts n [] b = refl
 nest_parts n (c ∷ a) b = ap (λ x. nests_within c n && x) (nest_parts n a b) ∙ and_assoc (nests_within c n) _ _
 
@@ -76,7 +77,9 @@ module _ (n : ℕ) (pos : 0 < n) where
 
   nest_condition : (scope : Scope) (t : ℕ) (c : Condition) → Nest n (condition_piece scope t c).code
   nest_condition scope t always = refl
-  nest_condition scope t (compares a r b) = nest_append n (expr_piece scope t a).code _ (nest_expr scope t a) (nest_append n (expr_piece scope (expr_piece scope t a).next b).code _ (nest_expr scope (expr_piece scope t a).next b) (nest_comparison r _ _))
+  nest_condition scope t (compares a r b) = nest_append n (expr_piece scope t a).code _ (nest_expr scope t a)
+      (nest_append n (expr_piece scope (expr_piece scope t a).next b).code _ (nest_expr scope (expr_piece scope t a).next b)
+      (nest_comparison r _ _))
 
   nest_copied : (o : Option ℕ) (v : Value) → Nest n (copied o v)
   nest_copied None v = refl
@@ -84,13 +87,17 @@ module _ (n : ℕ) (pos : 0 < n) where
 
 -- ---- statements
 
-nest_branch : (n : ℕ) (test : Piece) (does other : List Code) → Nest (suc (suc n)) test.code → Nest n does → Nest n other → Nest (suc (suc n)) (branch test does other)
-nest_branch n test does other h k l = nest_append (suc (suc n)) test.code _ h (nest_one (suc (suc n)) (If test.value (seq does) (seq other)) (and_both _ _ k l))
+nest_branch : (n : ℕ) (test : Piece) (does other : List Code) → Nest (suc (suc n)) test.code → Nest n does → Nest n other →
+    Nest (suc (suc n)) (branch test does other)
+nest_branch n test does other h k l =
+    nest_append (suc (suc n)) test.code _ h (nest_one (suc (suc n)) (If test.value (seq does) (seq other)) (and_both _ _ k l))
 
-nest_turn : (n : ℕ) (c : Condition) (test : Piece) (body : List Code) → ((m : ℕ) → 0 < m → Nest m test.code) → ((m : ℕ) → n ≤ m → Nest m body) → Nest (suc (suc (suc (suc n)))) (Loop (turn c test body) ∷ [])
+nest_turn : (n : ℕ) (c : Condition) (test : Piece) (body : List Code) → ((m : ℕ) → 0 < m → Nest m test.code) →
+    ((m : ℕ) → n ≤ m → Nest m body) → Nest (suc (suc (suc (suc n)))) (Loop (turn c test body) ∷ [])
 nest_turn n always test body h k = and_both _ _ (k (suc (suc n)) (omega arith)) refl
 nest_turn n (compares a r b) test body h k =
-    and_both _ _ (nest_append (suc (suc n)) test.code _ (h (suc (suc n)) (omega arith)) (nest_one (suc (suc n)) (If test.value (seq body) (Leave 1)) (and_both _ _ (k n (omega arith)) (above (suc n) (omega arith))))) refl
+    and_both _ _ (nest_append (suc (suc n)) test.code _ (h (suc (suc n)) (omega arith))
+    (nest_one (suc (suc n)) (If test.value (seq body) (Leave 1)) (and_both _ _ (k n (omega arith)) (above (suc n) (omega arith))))) refl
 
 four_more : (n : ℕ) → 4 ≤ n → suc (suc (suc (suc (n - 4)))) ≡ n
 four_more n h = omega arith
@@ -100,24 +107,34 @@ two_more n h = omega arith
 
 mutual
   statement_nests : (site : Site) (s : Statement) (n : ℕ) → 4 * statement_blocks s < n → Nest n (statement_code site s).code
-  statement_nests site (declares x e) n l = nest_append n (expr_piece site.scope site.next e).code _ (nest_expr n (omega arith) site.scope site.next e) (nest_copied n (omega arith) (Some (expr_piece site.scope site.next e).next) (expr_piece site.scope site.next e).value)
-  statement_nests site (assigns x e) n l = nest_append n (expr_piece site.scope site.next e).code _ (nest_expr n (omega arith) site.scope site.next e) (nest_copied n (omega arith) (number_of x site.scope) (expr_piece site.scope site.next e).value)
+  statement_nests site (declares x e) n l = nest_append n (expr_piece site.scope site.next e).code _
+      (nest_expr n (omega arith) site.scope site.next e)
+      (nest_copied n (omega arith) (Some (expr_piece site.scope site.next e).next) (expr_piece site.scope site.next e).value)
+  statement_nests site (assigns x e) n l = nest_append n (expr_piece site.scope site.next e).code _
+      (nest_expr n (omega arith) site.scope site.next e)
+      (nest_copied n (omega arith) (number_of x site.scope) (expr_piece site.scope site.next e).value)
   statement_nests site (chooses c body) n l =
       let test = condition_piece site.scope site.next c in
       let b = statements_nest (past site test.next) body (n - 2) (omega arith) in
-      subst (λ m. Nest m (branch test (statements_code (past site test.next) body).code [])) (two_more n (omega arith)) (nest_branch (n - 2) test _ [] (nest_condition _ (omega arith) site.scope site.next c) b refl)
+      subst (λ m. Nest m (branch test (statements_code (past site test.next) body).code [])) (two_more n (omega arith))
+      (nest_branch (n - 2) test _ [] (nest_condition _ (omega arith) site.scope site.next c) b refl)
   statement_nests site (chooses_one c body other) n l =
       let test = condition_piece site.scope site.next c in
       let within = (statements_code (past site test.next) body).behind in
       let b = statements_nest (past site test.next) body (n - 2) (omega arith) in
       let o = statements_nest (outside site within) other (n - 2) (omega arith) in
-      subst (λ m. Nest m (branch test (statements_code (past site test.next) body).code (statements_code (outside site within) other).code)) (two_more n (omega arith)) (nest_branch (n - 2) test _ _ (nest_condition _ (omega arith) site.scope site.next c) b o)
+      subst (λ m. Nest m (branch test (statements_code (past site test.next) body).code (statements_code (outside site within) other).code))
+      (two_more n (omega arith)) (nest_branch (n - 2) test _ _ (nest_condition _ (omega arith) site.scope site.next c) b o)
   statement_nests site (repeats c body) n l =
       let test = condition_piece site.scope site.next c in
-      subst (λ m. Nest m (Loop (turn c test (statements_code (past site test.next) body).code) ∷ [])) (four_more n (omega arith)) (nest_turn (n - 4) c test _ (λ m k. nest_condition m k site.scope site.next c) (λ m k. statements_nest (past site test.next) body m (omega arith)))
+      subst (λ m. Nest m (Loop (turn c test (statements_code (past site test.next) body).code) ∷ [])) (four_more n (omega arith))
+      (nest_turn (n - 4) c test _ (λ m k. nest_condition m k site.scope site.next c)
+      (λ m k. statements_nest (past site test.next) body m (omega arith)))
   statement_nests site (puts text) n l = leaf n (omega arith)
-  statement_nests site (exits e) n l = nest_append n (expr_piece site.scope site.next e).code _ (nest_expr n (omega arith) site.scope site.next e) (leaf n (omega arith))
+  statement_nests site (exits e) n l =
+      nest_append n (expr_piece site.scope site.next e).code _ (nest_expr n (omega arith) site.scope site.next e) (leaf n (omega arith))
 
   pub statements_nest : (site : Site) (ss : Statements) (n : ℕ) → 4 * statements_blocks ss < n → Nest n (statements_code site ss).code
   statements_nest site nothing n l = refl
-  statements_nest site (first s ss) n l = nest_append n (statement_code site s).code _ (statement_nests site s n (omega arith)) (statements_nest (statement_code site s).behind ss n (omega arith))
+  statements_nest site (first s ss) n l = nest_append n (statement_code site s).code _ (statement_nests site s n (omega arith))
+      (statements_nest (statement_code site s).behind ss n (omega arith))

@@ -29,15 +29,18 @@ module _ (scope : Scope) (bound : ℕ) (pos : 0 < bound) (below : Below bound sc
 
     pub terms_from : (t : ℕ) (left : Piece) (ts : Terms) → bound ≤ t → IsFrom t left → IsFrom t (terms_piece scope left ts)
     terms_from t left no_term le h = h
-    terms_from t left (plus a ts) le h = terms_from t _ ts le (operated_from t _ left _ (omega arith) h (term_from left.next a (omega (arith, h.grows))))
-    terms_from t left (minus a ts) le h = terms_from t _ ts le (operated_from t _ left _ (omega arith) h (term_from left.next a (omega (arith, h.grows))))
+    terms_from t left (plus a ts) le h =
+        terms_from t _ ts le (operated_from t _ left _ (omega arith) h (term_from left.next a (omega (arith, h.grows))))
+    terms_from t left (minus a ts) le h =
+        terms_from t _ ts le (operated_from t _ left _ (omega arith) h (term_from left.next a (omega (arith, h.grows))))
 
     pub term_from : (t : ℕ) (a : Term) → bound ≤ t → IsFrom t (term_piece scope t a)
     term_from t (product_of f fs) le = factors_from t (factor_piece scope t f) fs le (factor_from t f le)
 
     pub factors_from : (t : ℕ) (left : Piece) (fs : Factors) → bound ≤ t → IsFrom t left → IsFrom t (factors_piece scope left fs)
     factors_from t left no_factor le h = h
-    factors_from t left (times f fs) le h = factors_from t _ fs le (operated_from t _ left _ (omega arith) h (factor_from left.next f (omega (arith, h.grows))))
+    factors_from t left (times f fs) le h =
+        factors_from t _ fs le (operated_from t _ left _ (omega arith) h (factor_from left.next f (omega (arith, h.grows))))
 
     pub factor_from : (t : ℕ) (f : Factor) → bound ≤ t → IsFrom t (factor_piece scope t f)
     factor_from t (number n) le = record { grows = omega arith; value = tt }

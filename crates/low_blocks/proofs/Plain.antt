@@ -32,7 +32,8 @@ pub and_assoc : (a b c : Bool) → (a && (b && c)) ≡ ((a && b) && c)
 and_assoc true b c = refl
 and_assoc false b c = refl
 
-pub sets_append : (t : ℕ) (class : Class) (a b : List Code) → one_sets t class (codes_of (a ++ b)) ≡ (one_sets t class (codes_of a) || one_sets t class (codes_of b))
+pub sets_append : (t : ℕ) (class : Class) (a b : List Code) →
+    one_sets t class (codes_of (a ++ b)) ≡ (one_sets t class (codes_of a) || one_sets t class (codes_of b))
 sets_append t class [] b = refl
 sets_append t class (c ∷ a) b = ap (λ x. code_sets t class c || x) (sets_append t class a b) ∙ or_assoc (code_sets t class c) _ _
 
@@ -97,7 +98,8 @@ plain_comparison differ a b = plain_test _ a b
 
 -- ---- expressions and conditions
 
-plain_operated : (op : Op) (a b : Piece) → 0 < b.next → IsPlain (codes_of a.code) → IsPlain (codes_of b.code) → IsPlain (codes_of (operated op a b).code)
+plain_operated : (op : Op) (a b : Piece) → 0 < b.next → IsPlain (codes_of a.code) → IsPlain (codes_of b.code) →
+    IsPlain (codes_of (operated op a b).code)
 plain_operated op a b l h k = plain_append a.code _ h (plain_append b.code _ k (plain_set b.next op a.value b.value l))
 
 module _ (scope : Scope) (bound : ℕ) (pos : 0 < bound) (below : Below bound scope) where
@@ -105,26 +107,32 @@ module _ (scope : Scope) (bound : ℕ) (pos : 0 < bound) (below : Below bound sc
     expr_plain : (t : ℕ) (e : Expr) → bound ≤ t → IsPlain (codes_of (expr_piece scope t e).code)
     expr_plain t (sum_of a ts) le = terms_plain t (term_piece scope t a) ts le (term_from scope bound pos below t a le) (term_plain t a le)
 
-    terms_plain : (t : ℕ) (left : Piece) (ts : Terms) → bound ≤ t → IsFrom t left → IsPlain (codes_of left.code) → IsPlain (codes_of (terms_piece scope left ts).code)
+    terms_plain : (t : ℕ) (left : Piece) (ts : Terms) → bound ≤ t → IsFrom t left → IsPlain (codes_of left.code) →
+        IsPlain (codes_of (terms_piece scope left ts).code)
     terms_plain t left no_term le i h = h
     terms_plain t left (plus a ts) le i h =
         let l : bound ≤ left.next = omega (arith, i.grows) in
         let j = term_from scope bound pos below left.next a l in
-        terms_plain t _ ts le (operated_from t _ left _ (omega arith) i j) (plain_operated _ left _ (omega (arith, j.grows)) h (term_plain left.next a l))
+        terms_plain t _ ts le (operated_from t _ left _ (omega arith) i j)
+        (plain_operated _ left _ (omega (arith, j.grows)) h (term_plain left.next a l))
     terms_plain t left (minus a ts) le i h =
         let l : bound ≤ left.next = omega (arith, i.grows) in
         let j = term_from scope bound pos below left.next a l in
-        terms_plain t _ ts le (operated_from t _ left _ (omega arith) i j) (plain_operated _ left _ (omega (arith, j.grows)) h (term_plain left.next a l))
+        terms_plain t _ ts le (operated_from t _ left _ (omega arith) i j)
+        (plain_operated _ left _ (omega (arith, j.grows)) h (term_plain left.next a l))
 
     term_plain : (t : ℕ) (a : Term) → bound ≤ t → IsPlain (codes_of (term_piece scope t a).code)
-    term_plain t (product_of f fs) le = factors_plain t (factor_piece scope t f) fs le (factor_from scope bound pos below t f le) (factor_plain t f le)
+    term_plain t (product_of f fs) le =
+        factors_plain t (factor_piece scope t f) fs le (factor_from scope bound pos below t f le) (factor_plain t f le)
 
-    factors_plain : (t : ℕ) (left : Piece) (fs : Factors) → bound ≤ t → IsFrom t left → IsPlain (codes_of left.code) → IsPlain (codes_of (factors_piece scope left fs).code)
+    factors_plain : (t : ℕ) (left : Piece) (fs : Factors) → bound ≤ t → IsFrom t left → IsPlain (codes_of left.code) →
+        IsPlain (codes_of (factors_piece scope left fs).code)
     factors_plain t left no_factor le i h = h
     factors_plain t left (times f fs) le i h =
         let l : bound ≤ left.next = omega (arith, i.grows) in
         let j = factor_from scope bound pos below left.next f l in
-        factors_plain t _ fs le (operated_from t _ left _ (omega arith) i j) (plain_operated _ left _ (omega (arith, j.grows)) h (factor_plain left.next f l))
+        factors_plain t _ fs le (operated_from t _ left _ (omega arith) i j)
+        (plain_operated _ left _ (omega (arith, j.grows)) h (factor_plain left.next f l))
 
     factor_plain : (t : ℕ) (f : Factor) → bound ≤ t → IsPlain (codes_of (factor_piece scope t f).code)
     factor_plain t (number n) le = plain_none
@@ -138,7 +146,8 @@ module _ (scope : Scope) (bound : ℕ) (pos : 0 < bound) (below : Below bound sc
       let x = expr_piece scope t a in
       let y = expr_piece scope x.next b in
       let f = expr_from scope bound pos below t a le in
-      plain_append x.code _ (expr_plain t a le) (plain_append y.code _ (expr_plain x.next b (omega (arith, f.grows))) (plain_comparison r x.value y.value))
+      plain_append x.code _ (expr_plain t a le)
+      (plain_append y.code _ (expr_plain x.next b (omega (arith, f.grows))) (plain_comparison r x.value y.value))
 
 -- ---- statements
 
@@ -148,8 +157,10 @@ or_both a b h k = rw (h, k) refl
 pub and_both : (a b : Bool) → a ≡ true → b ≡ true → (a && b) ≡ true
 and_both a b h k = rw (h, k) refl
 
-plain_if : (v : Value) (does other : List Code) → IsPlain (codes_of does) → IsPlain (codes_of other) → IsPlain (more (If v (seq does) (seq other)) none)
-plain_if v does other h k = plain_one _ (λ t l. or_both _ _ (h.words t l) (k.words t l)) (or_both _ _ h.longs k.longs) (and_both _ _ h.built k.built)
+plain_if : (v : Value) (does other : List Code) → IsPlain (codes_of does) → IsPlain (codes_of other) →
+    IsPlain (more (If v (seq does) (seq other)) none)
+plain_if v does other h k =
+    plain_one _ (λ t l. or_both _ _ (h.words t l) (k.words t l)) (or_both _ _ h.longs k.longs) (and_both _ _ h.built k.built)
 
 plain_leave : (v : Value) (body : List Code) → IsPlain (codes_of body) → IsPlain (more (If v (seq body) (Leave 1)) none)
 plain_leave v body h = plain_one _ (λ t l. or_none _ (h.words t l)) (or_none _ h.longs) (and_all _ h.built)
@@ -157,11 +168,13 @@ plain_leave v body h = plain_one _ (λ t l. or_none _ (h.words t l)) (or_none _ 
 plain_loop : (cs : List Code) → IsPlain (codes_of cs) → IsPlain (more (Loop (seq cs)) none)
 plain_loop cs h = plain_one _ h.words h.longs h.built
 
-plain_turn : (c : Condition) (test : Piece) (body : List Code) → IsPlain (codes_of test.code) → IsPlain (codes_of body) → IsPlain (more (Loop (turn c test body)) none)
+plain_turn : (c : Condition) (test : Piece) (body : List Code) → IsPlain (codes_of test.code) → IsPlain (codes_of body) →
+    IsPlain (more (Loop (turn c test body)) none)
 plain_turn always test body h k = plain_loop body k
 plain_turn (compares a r b) test body h k = plain_loop _ (plain_append test.code _ h (plain_leave test.value body k))
 
-plain_copied : (x : List ℕ) (site : Site) (v : Value) → IsSited site → (o : Option ℕ) → number_of x site.scope ≡ o → IsPlain (codes_of (copied o v))
+plain_copied : (x : List ℕ) (site : Site) (v : Value) → IsSited site → (o : Option ℕ) → number_of x site.scope ≡ o →
+    IsPlain (codes_of (copied o v))
 plain_copied x site v h None e = plain_none
 plain_copied x site v h (Some t) e = plain_set t _ v _ (place_above site.next t x site.scope h.below e)
 
@@ -170,14 +183,18 @@ mutual
   statement_plain site (declares x e) h =
       let v = expr_piece site.scope site.next e in
       let f = expr_from site.scope site.next h.some h.below site.next e (omega arith) in
-      plain_append v.code _ (expr_plain site.scope site.next h.some h.below site.next e (omega arith)) (plain_set v.next _ v.value _ (omega (arith, f.grows, h.some)))
+      plain_append v.code _ (expr_plain site.scope site.next h.some h.below site.next e (omega arith))
+      (plain_set v.next _ v.value _ (omega (arith, f.grows, h.some)))
   statement_plain site (assigns x e) h =
       let v = expr_piece site.scope site.next e in
-      plain_append v.code _ (expr_plain site.scope site.next h.some h.below site.next e (omega arith)) (plain_copied x site v.value h (number_of x site.scope) refl)
+      plain_append v.code _ (expr_plain site.scope site.next h.some h.below site.next e (omega arith))
+      (plain_copied x site v.value h (number_of x site.scope) refl)
   statement_plain site (chooses c body) h =
       let test = condition_piece site.scope site.next c in
-      let b = statements_plain (past site test.next) body (sited_past site test.next h (condition_grows site.scope site.next h.some h.below site.next c (omega arith))) in
-      plain_append test.code _ (condition_plain site.scope site.next h.some h.below site.next c (omega arith)) (plain_if test.value _ [] b plain_none)
+      let b = statements_plain (past site test.next) body
+      (sited_past site test.next h (condition_grows site.scope site.next h.some h.below site.next c (omega arith))) in
+      plain_append test.code _ (condition_plain site.scope site.next h.some h.below site.next c (omega arith))
+      (plain_if test.value _ [] b plain_none)
   statement_plain site (chooses_one c body other) h =
       let test = condition_piece site.scope site.next c in
       let g = condition_grows site.scope site.next h.some h.below site.next c (omega arith) in
@@ -189,13 +206,16 @@ mutual
       plain_append test.code _ (condition_plain site.scope site.next h.some h.below site.next c (omega arith)) (plain_if test.value _ _ b o)
   statement_plain site (repeats c body) h =
       let test = condition_piece site.scope site.next c in
-      let b = statements_plain (past site test.next) body (sited_past site test.next h (condition_grows site.scope site.next h.some h.below site.next c (omega arith))) in
+      let b = statements_plain (past site test.next) body
+      (sited_past site test.next h (condition_grows site.scope site.next h.some h.below site.next c (omega arith))) in
       plain_turn c test _ (condition_plain site.scope site.next h.some h.below site.next c (omega arith)) b
   statement_plain site (puts text) h = plain_one _ (λ t l. refl) refl refl
   statement_plain site (exits e) h =
       let v = expr_piece site.scope site.next e in
-      plain_append v.code _ (expr_plain site.scope site.next h.some h.below site.next e (omega arith)) (plain_one (Call None (codes "rt.exit") (v.value ∷ [])) (λ t l. refl) refl refl)
+      plain_append v.code _ (expr_plain site.scope site.next h.some h.below site.next e (omega arith))
+      (plain_one (Call None (codes "rt.exit") (v.value ∷ [])) (λ t l. refl) refl refl)
 
   pub statements_plain : (site : Site) (ss : Statements) → IsSited site → IsPlain (codes_of (statements_code site ss).code)
   statements_plain site nothing h = plain_none
-  statements_plain site (first s ss) h = plain_append (statement_code site s).code _ (statement_plain site s h) (statements_plain (statement_code site s).behind ss (statement_behind site s h).sited)
+  statements_plain site (first s ss) h = plain_append (statement_code site s).code _ (statement_plain site s h)
+      (statements_plain (statement_code site s).behind ss (statement_behind site s h).sited)

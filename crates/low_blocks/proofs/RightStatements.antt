@@ -56,13 +56,17 @@ module _ (globals : ℕ) (f : FlatFn) (words : (t : ℕ) → 0 < t → is_set f 
           (omega (arith, h.0), ap (λ u. is_set f u L) (sym i) ∙ h.1)
       pick false g on = let k : number_of x (y ∷ ys) ≡ number_of x ys = rw g refl in on (sym k ∙ e)
 
-  right_copy : (around t : ℕ) (v : Value) → 0 < t → t < f.temps → IsOperand globals f words longs v → Right around (Set t L Copy v (Number 0) ∷ [])
-  right_copy around t v pos l h = right_one globals f words longs around (Set t L Copy v (Number 0)) (rw (long_target globals f words longs t pos l, operand_long globals f words longs v h) refl)
+  right_copy : (around t : ℕ) (v : Value) → 0 < t → t < f.temps → IsOperand globals f words longs v →
+      Right around (Set t L Copy v (Number 0) ∷ [])
+  right_copy around t v pos l h = right_one globals f words longs around (Set t L Copy v (Number 0))
+      (rw (long_target globals f words longs t pos l, operand_long globals f words longs v h) refl)
 
   -- a variable's temporary is one of the function's, since it stands below the next one
-  right_copied : (around : ℕ) (site : Site) (x : List ℕ) (v : Value) (o : Option ℕ) → IsSited site → site.next ≤ f.temps → Placed site.scope → number_of x site.scope ≡ o → IsOperand globals f words longs v → Right around (copied o v)
+  right_copied : (around : ℕ) (site : Site) (x : List ℕ) (v : Value) (o : Option ℕ) → IsSited site → site.next ≤ f.temps →
+      Placed site.scope → number_of x site.scope ≡ o → IsOperand globals f words longs v → Right around (copied o v)
   right_copied around site x v None h l set e k = refl
-  right_copied around site x v (Some t) h l set e k = right_copy around t v (set_place x site.scope t set e).0 (omega (arith, place_under site.next t x site.scope h.below e)) k
+  right_copied around site x v (Some t) h l set e k =
+      right_copy around t v (set_place x site.scope t set e).0 (omega (arith, place_under site.next t x site.scope h.below e)) k
 
   -- ---- parts of branches and loops
 
@@ -75,7 +79,8 @@ module _ (globals : ℕ) (f : FlatFn) (words : (t : ℕ) → 0 < t → is_set f 
       let inside : Part (test.code ++ If test.value (seq body) (Leave 1) ∷ []) = λ u k i. h u k (or_left _ _ i) in
       part_back globals f words longs test.code (If test.value (seq body) (Leave 1) ∷ []) inside t class (or_left _ _ (or_left _ _ e))
 
-  part_test : (site : Site) (c : Condition) (body : List Code) → Part (Loop (turn c (condition_piece site.scope site.next c) body) ∷ []) → Part (condition_piece site.scope site.next c).code
+  part_test : (site : Site) (c : Condition) (body : List Code) → Part (Loop (turn c (condition_piece site.scope site.next c) body) ∷ []) →
+      Part (condition_piece site.scope site.next c).code
   part_test site always body h = λ t class e. absurd (cc)
   part_test site (compares a r b) body h =
       let test = condition_piece site.scope site.next (compares a r b) in
@@ -85,12 +90,20 @@ module _ (globals : ℕ) (f : FlatFn) (words : (t : ℕ) → 0 < t → is_set f 
   right_seq : (around : ℕ) (cs : List Code) → around < deepest → Right (suc around) cs → is_right globals f around (seq cs) ≡ true
   right_seq around cs l h = and_both _ _ (less_true around deepest l) h
 
-  right_turn : (around : ℕ) (c : Condition) (test : Piece) (body : List Code) → around + 3 ≤ deepest → ((k : ℕ) → Right k test.code) → is_operand globals f W test.value ≡ true → ((k : ℕ) → k ≤ around + 3 → Right k body) → Right around (Loop (turn c test body) ∷ [])
+  right_turn : (around : ℕ) (c : Condition) (test : Piece) (body : List Code) → around + 3 ≤ deepest → ((k : ℕ) → Right k test.code) →
+      is_operand globals f W test.value ≡ true → ((k : ℕ) → k ≤ around + 3 → Right k body) → Right around (Loop (turn c test body) ∷ [])
   right_turn around always test body l h v k =
-      right_one globals f words longs around (Loop (turn always test body)) (and_both _ _ (less_true around deepest (omega arith)) (right_seq (suc around) body (omega arith) (k (suc (suc around)) (omega arith))))
+      right_one globals f words longs around (Loop (turn always test body))
+      (and_both _ _ (less_true around deepest (omega arith))
+      (right_seq (suc around) body (omega arith) (k (suc (suc around)) (omega arith))))
   right_turn around (compares a r b) test body l h v k =
-      let cond = right_one globals f words longs (suc (suc around)) (If test.value (seq body) (Leave 1)) (and_both _ _ v (and_both _ _ (right_seq (suc (suc around)) body (omega arith) (k (suc (suc (suc around))) (omega arith))) (less_true 1 (suc (suc around)) (omega arith)))) in
-      right_one globals f words longs around (Loop (turn (compares a r b) test body)) (and_both _ _ (less_true around deepest (omega arith)) (right_seq (suc around) (test.code ++ If test.value (seq body) (Leave 1) ∷ []) (omega arith) (right_parts globals f words longs (suc (suc around)) test.code _ (h (suc (suc around))) cond)))
+      let cond = right_one globals f words longs (suc (suc around)) (If test.value (seq body) (Leave 1))
+      (and_both _ _ v (and_both _ _ (right_seq (suc (suc around)) body (omega arith) (k (suc (suc (suc around))) (omega arith)))
+      (less_true 1 (suc (suc around)) (omega arith)))) in
+      right_one globals f words longs around (Loop (turn (compares a r b) test body))
+      (and_both _ _ (less_true around deepest (omega arith))
+      (right_seq (suc around) (test.code ++ If test.value (seq body) (Leave 1) ∷ []) (omega arith)
+      (right_parts globals f words longs (suc (suc around)) test.code _ (h (suc (suc around))) cond)))
 
   -- ---- statements
 
@@ -100,24 +113,34 @@ module _ (globals : ℕ) (f : FlatFn) (words : (t : ℕ) → 0 < t → is_set f 
     pub set : Placed scope
 
   mutual
-    statement_right : (site : Site) (s : Statement) (around : ℕ) → IsSited site → Placed site.scope → Part (statement_code site s).code → (statement_code site s).behind.next ≤ f.temps → (statement_code site s).behind.texts ≤ globals → AreShort (statement_texts s) → around + 3 * statement_blocks s ≤ deepest →
+    statement_right : (site : Site) (s : Statement) (around : ℕ) → IsSited site → Placed site.scope → Part (statement_code site s).code →
+        (statement_code site s).behind.next ≤ f.temps → (statement_code site s).behind.texts ≤ globals → AreShort (statement_texts s) →
+        around + 3 * statement_blocks s ≤ deepest →
         AreKept around (statement_code site s).code (statement_code site s).behind.scope
     statement_right site (declares x e) around h set part temps texts short deep =
         let v = expr_piece site.scope site.next e in
         let g = expr_from site.scope site.next h.some h.below site.next e (omega arith) in
         let copy = Set v.next L Copy v.value (Number 0) in
-        let r = expr_right globals f words longs site.scope site.next h.some h.below set site.next e (omega arith) (part_front globals f words longs v.code (copy ∷ []) part, omega arith) in
-        let is = part_set globals f words longs v.next L copy (rw (same_number v.next) refl) (part_back globals f words longs v.code (copy ∷ []) part) in
+        let r = expr_right globals f words longs site.scope site.next h.some h.below set site.next e (omega arith)
+        (part_front globals f words longs v.code (copy ∷ []) part, omega arith) in
+        let is = part_set globals f words longs v.next L copy (rw (same_number v.next) refl)
+        (part_back globals f words longs v.code (copy ∷ []) part) in
         record {
-          right = right_parts globals f words longs around v.code (copy ∷ []) (r.code around) (right_copy around v.next v.value (omega (arith, g.grows, h.some)) (omega arith) r.value);
+          right = right_parts globals f words longs around v.code (copy ∷ []) (r.code around)
+              (right_copy around v.next v.value (omega (arith, g.grows, h.some)) (omega arith) r.value);
           set = (omega (arith, g.grows, h.some), is, set);
         }
     statement_right site (assigns x e) around h set part temps texts short deep =
         let v = expr_piece site.scope site.next e in
         let g = expr_from site.scope site.next h.some h.below site.next e (omega arith) in
         let o = number_of x site.scope in
-        let r = expr_right globals f words longs site.scope site.next h.some h.below set site.next e (omega arith) (part_front globals f words longs v.code (copied o v.value) part, temps) in
-        record { right = right_parts globals f words longs around v.code (copied o v.value) (r.code around) (right_copied around site x v.value o h (omega (arith, g.grows)) set refl r.value); set = set }
+        let r = expr_right globals f words longs site.scope site.next h.some h.below set site.next e (omega arith)
+        (part_front globals f words longs v.code (copied o v.value) part, temps) in
+        record {
+          right = right_parts globals f words longs around v.code (copied o v.value) (r.code around)
+              (right_copied around site x v.value o h (omega (arith, g.grows)) set refl r.value);
+          set = set;
+        }
     statement_right site (chooses c body) around h set part temps texts short deep =
         let test = condition_piece site.scope site.next c in
         let g = condition_grows site.scope site.next h.some h.below site.next c (omega arith) in
@@ -125,10 +148,13 @@ module _ (globals : ℕ) (f : FlatFn) (words : (t : ℕ) → 0 < t → is_set f 
         let low = statements_code (past site test.next) body in
         let b = statements_behind (past site test.next) body inner in
         let cond = If test.value (seq low.code) (seq []) in
-        let rt = condition_right globals f words longs site.scope site.next h.some h.below set site.next c (omega arith) (part_front globals f words longs test.code (cond ∷ []) part) (omega (arith, b.grows)) in
+        let rt = condition_right globals f words longs site.scope site.next h.some h.below set site.next c (omega arith)
+        (part_front globals f words longs test.code (cond ∷ []) part) (omega (arith, b.grows)) in
         let parts = part_if test.value low.code [] (part_back globals f words longs test.code (cond ∷ []) part) in
         let rb = statements_right (past site test.next) body (suc around) inner set parts.0 temps texts short (omega arith) in
-        let both = right_one globals f words longs around cond (and_both _ _ rt.value (and_both _ _ (right_seq around low.code (omega arith) rb.right) (right_seq around [] (omega arith) refl))) in
+        let both = right_one globals f words longs around cond
+        (and_both _ _ rt.value (and_both _ _ (right_seq around low.code (omega arith) rb.right)
+        (right_seq around [] (omega arith) refl))) in
         record { right = right_parts globals f words longs around test.code (cond ∷ []) (rt.code around) both; set = set }
     statement_right site (chooses_one c body other) around h set part temps texts short deep =
         let test = condition_piece site.scope site.next c in
@@ -140,11 +166,16 @@ module _ (globals : ℕ) (f : FlatFn) (words : (t : ℕ) → 0 < t → is_set f 
         let low' = statements_code (outside site low.behind) other in
         let o = statements_behind (outside site low.behind) other inner' in
         let cond = If test.value (seq low.code) (seq low'.code) in
-        let rt = condition_right globals f words longs site.scope site.next h.some h.below set site.next c (omega arith) (part_front globals f words longs test.code (cond ∷ []) part) (omega (arith, b.grows, o.grows)) in
+        let rt = condition_right globals f words longs site.scope site.next h.some h.below set site.next c (omega arith)
+        (part_front globals f words longs test.code (cond ∷ []) part) (omega (arith, b.grows, o.grows)) in
         let parts = part_if test.value low.code low'.code (part_back globals f words longs test.code (cond ∷ []) part) in
-        let rb = statements_right (past site test.next) body (suc around) inner set parts.0 (omega (arith, o.grows)) (omega (arith, o.counts)) (short_front (statements_texts body) (statements_texts other) short) (omega arith) in
-        let ro = statements_right (outside site low.behind) other (suc around) inner' set parts.1 temps texts (short_back (statements_texts body) (statements_texts other) short) (omega arith) in
-        let both = right_one globals f words longs around cond (and_both _ _ rt.value (and_both _ _ (right_seq around low.code (omega arith) rb.right) (right_seq around low'.code (omega arith) ro.right))) in
+        let rb = statements_right (past site test.next) body (suc around) inner set parts.0 (omega (arith, o.grows))
+        (omega (arith, o.counts)) (short_front (statements_texts body) (statements_texts other) short) (omega arith) in
+        let ro = statements_right (outside site low.behind) other (suc around) inner' set parts.1 temps texts
+        (short_back (statements_texts body) (statements_texts other) short) (omega arith) in
+        let both = right_one globals f words longs around cond
+        (and_both _ _ rt.value (and_both _ _ (right_seq around low.code (omega arith) rb.right)
+        (right_seq around low'.code (omega arith) ro.right))) in
         record { right = right_parts globals f words longs around test.code (cond ∷ []) (rt.code around) both; set = set }
     statement_right site (repeats c body) around h set part temps texts short deep =
         let test = condition_piece site.scope site.next c in
@@ -152,18 +183,35 @@ module _ (globals : ℕ) (f : FlatFn) (words : (t : ℕ) → 0 < t → is_set f 
         let inner = sited_past site test.next h g in
         let low = statements_code (past site test.next) body in
         let b = statements_behind (past site test.next) body inner in
-        let rt = condition_right globals f words longs site.scope site.next h.some h.below set site.next c (omega arith) (part_test site c low.code part) (omega (arith, b.grows)) in
+        let rt = condition_right globals f words longs site.scope site.next h.some h.below set site.next c (omega arith)
+        (part_test site c low.code part) (omega (arith, b.grows)) in
         let pb = part_turn c test low.code part in
-        record { right = right_turn around c test low.code (omega arith) rt.code rt.value (λ k l. (statements_right (past site test.next) body k inner set pb temps texts short (omega arith)).right); set = set }
+        record {
+          right = right_turn around c test low.code (omega arith) rt.code rt.value
+              (λ k l. (statements_right (past site test.next) body k inner set pb temps texts short (omega arith)).right);
+          set = set;
+        }
     statement_right site (puts text) around h set part temps texts short deep =
-        record { right = right_one globals f words longs around (Call None (codes "rt.puts") (Symbol site.texts 0 ∷ Number (length text) ∷ [])) (rw (less_true site.texts globals (omega arith), less_true (length text) (2 ^ 64) short.0) refl); set = set }
+        record {
+          right = right_one globals f words longs around
+              (Call None (codes "rt.puts") (Symbol site.texts 0 ∷ Number (length text) ∷ []))
+              (rw (less_true site.texts globals (omega arith), less_true (length text) (2 ^ 64) short.0) refl);
+          set = set;
+        }
     statement_right site (exits e) around h set part temps texts short deep =
         let v = expr_piece site.scope site.next e in
         let exit = Call None (codes "rt.exit") (v.value ∷ []) in
-        let r = expr_right globals f words longs site.scope site.next h.some h.below set site.next e (omega arith) (part_front globals f words longs v.code (exit ∷ []) part, temps) in
-        record { right = right_parts globals f words longs around v.code (exit ∷ []) (r.code around) (right_one globals f words longs around exit (rw (operand_word globals f words longs v.value r.value) refl)); set = set }
+        let r = expr_right globals f words longs site.scope site.next h.some h.below set site.next e (omega arith)
+        (part_front globals f words longs v.code (exit ∷ []) part, temps) in
+        record {
+          right = right_parts globals f words longs around v.code (exit ∷ []) (r.code around)
+              (right_one globals f words longs around exit (rw (operand_word globals f words longs v.value r.value) refl));
+          set = set;
+        }
 
-    pub statements_right : (site : Site) (ss : Statements) (around : ℕ) → IsSited site → Placed site.scope → Part (statements_code site ss).code → (statements_code site ss).behind.next ≤ f.temps → (statements_code site ss).behind.texts ≤ globals → AreShort (statements_texts ss) → around + 3 * statements_blocks ss ≤ deepest →
+    pub statements_right : (site : Site) (ss : Statements) (around : ℕ) → IsSited site → Placed site.scope →
+        Part (statements_code site ss).code → (statements_code site ss).behind.next ≤ f.temps →
+        (statements_code site ss).behind.texts ≤ globals → AreShort (statements_texts ss) → around + 3 * statements_blocks ss ≤ deepest →
         AreKept around (statements_code site ss).code (statements_code site ss).behind.scope
     statements_right site nothing around h set part temps texts short deep = record { right = refl; set = set }
     statements_right site (first s ss) around h set part temps texts short deep =
@@ -171,6 +219,8 @@ module _ (globals : ℕ) (f : FlatFn) (words : (t : ℕ) → 0 < t → is_set f 
         let b = statement_behind site s h in
         let low' = statements_code low.behind ss in
         let o = statements_behind low.behind ss b.sited in
-        let r = statement_right site s around h set (part_front globals f words longs low.code low'.code part) (omega (arith, o.grows)) (omega (arith, o.counts)) (short_front (statement_texts s) (statements_texts ss) short) (omega arith) in
-        let q = statements_right low.behind ss around b.sited r.set (part_back globals f words longs low.code low'.code part) temps texts (short_back (statement_texts s) (statements_texts ss) short) (omega arith) in
+        let r = statement_right site s around h set (part_front globals f words longs low.code low'.code part) (omega (arith, o.grows))
+        (omega (arith, o.counts)) (short_front (statement_texts s) (statements_texts ss) short) (omega arith) in
+        let q = statements_right low.behind ss around b.sited r.set (part_back globals f words longs low.code low'.code part) temps texts
+        (short_back (statement_texts s) (statements_texts ss) short) (omega arith) in
         record { right = right_parts globals f words longs around low.code low'.code r.right q.right; set = q.set }

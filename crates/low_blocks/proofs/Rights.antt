@@ -45,9 +45,11 @@ or_left false b e = absurd (cc)
 
 -- a function in a program with so many globals, which sets words at the temporary of tests alone and longs at all others
 module _ (globals : ℕ) (f : FlatFn) (words : (t : ℕ) → 0 < t → is_set f t W ≡ false) (longs : is_set f 0 L ≡ false) where
-  right_append : (around : ℕ) (a b : List Code) → are_right globals f around (codes_of (a ++ b)) ≡ (are_right globals f around (codes_of a) && are_right globals f around (codes_of b))
+  right_append : (around : ℕ) (a b : List Code) → are_right globals f around (codes_of (a ++ b)) ≡
+      (are_right globals f around (codes_of a) && are_right globals f around (codes_of b))
   right_append around [] b = refl
-  right_append around (c ∷ a) b = ap (λ x. is_right globals f around c && x) (right_append around a b) ∙ and_assoc (is_right globals f around c) _ _
+  right_append around (c ∷ a) b =
+      ap (λ x. is_right globals f around c && x) (right_append around a b) ∙ and_assoc (is_right globals f around c) _ _
 
   -- statements keep the rules, with so many Seqs and Loops round them
   abbrev pub AreRight : ℕ → List Code → Type 0
@@ -116,8 +118,10 @@ module _ (globals : ℕ) (f : FlatFn) (words : (t : ℕ) → 0 < t → is_set f 
   word_target : 0 < f.temps → is_target f 0 W ≡ true
   word_target l = and_both _ _ (less_true 0 f.temps l) (rw longs refl)
 
-  right_operation : (around t : ℕ) (op : Op) (a b : Value) → op_kind op ≡ Arithmetic → 0 < t → t < f.temps → IsOperand a → IsOperand b → AreRight around (Set t L op a b ∷ [])
-  right_operation around t op a b e pos l h k = right_one around (Set t L op a b) (rw (e, long_target t pos l, operand_long a h, operand_long b k) refl)
+  right_operation : (around t : ℕ) (op : Op) (a b : Value) → op_kind op ≡ Arithmetic → 0 < t → t < f.temps → IsOperand a → IsOperand b →
+      AreRight around (Set t L op a b ∷ [])
+  right_operation around t op a b e pos l h k =
+      right_one around (Set t L op a b) (rw (e, long_target t pos l, operand_long a h, operand_long b k) refl)
 
   -- ---- expressions
 
@@ -129,7 +133,8 @@ module _ (globals : ℕ) (f : FlatFn) (words : (t : ℕ) → 0 < t → is_set f 
     pub code : (around : ℕ) → AreRight around piece.code
     pub value : IsOperand piece.value
 
-  operated_right : (op : Op) (a b : Piece) → op_kind op ≡ Arithmetic → 0 < a.next → a.next ≤ b.next → (Fits a → IsRightPiece a) → (Fits b → IsRightPiece b) → Fits (operated op a b) → IsRightPiece (operated op a b)
+  operated_right : (op : Op) (a b : Piece) → op_kind op ≡ Arithmetic → 0 < a.next → a.next ≤ b.next → (Fits a → IsRightPiece a) →
+      (Fits b → IsRightPiece b) → Fits (operated op a b) → IsRightPiece (operated op a b)
   operated_right op a b e pos le ha hb fits =
       let set = Set b.next L op a.value b.value in
       let back = part_back a.code (b.code ++ set ∷ []) fits.0 in
@@ -137,35 +142,44 @@ module _ (globals : ℕ) (f : FlatFn) (words : (t : ℕ) → 0 < t → is_set f 
       let rb = hb (part_front b.code (set ∷ []) back, omega (arith, fits.1)) in
       let is : is_set f b.next L ≡ true = part_set b.next L set (rw (same_number b.next) refl) (part_back b.code (set ∷ []) back) in
       record {
-        code = λ around. right_parts around a.code _ (ra.code around) (right_parts around b.code _ (rb.code around) (right_operation around b.next op a.value b.value e (omega arith) (omega (arith, fits.1)) ra.value rb.value));
+        code = λ around. right_parts around a.code _ (ra.code around)
+            (right_parts around b.code _ (rb.code around)
+            (right_operation around b.next op a.value b.value e (omega arith) (omega (arith, fits.1)) ra.value rb.value));
         value = (omega arith, is);
       }
 
   module _ (scope : Scope) (bound : ℕ) (pos : 0 < bound) (below : Below bound scope) (set : AreSet scope) where
     mutual
       pub expr_right : (t : ℕ) (e : Expr) → bound ≤ t → Fits (expr_piece scope t e) → IsRightPiece (expr_piece scope t e)
-      expr_right t (sum_of a ts) le fits = terms_right t (term_piece scope t a) ts le (term_from scope bound pos below t a le) (term_right t a le) fits
+      expr_right t (sum_of a ts) le fits =
+          terms_right t (term_piece scope t a) ts le (term_from scope bound pos below t a le) (term_right t a le) fits
 
-      terms_right : (t : ℕ) (left : Piece) (ts : Terms) → bound ≤ t → IsFrom t left → (Fits left → IsRightPiece left) → Fits (terms_piece scope left ts) → IsRightPiece (terms_piece scope left ts)
+      terms_right : (t : ℕ) (left : Piece) (ts : Terms) → bound ≤ t → IsFrom t left → (Fits left → IsRightPiece left) →
+          Fits (terms_piece scope left ts) → IsRightPiece (terms_piece scope left ts)
       terms_right t left no_term le i h fits = h fits
       terms_right t left (plus a ts) le i h fits =
           let l : bound ≤ left.next = omega (arith, i.grows) in
           let j = term_from scope bound pos below left.next a l in
-          terms_right t _ ts le (operated_from t _ left _ (omega arith) i j) (operated_right _ left _ refl (omega arith) j.grows h (term_right left.next a l)) fits
+          terms_right t _ ts le (operated_from t _ left _ (omega arith) i j)
+          (operated_right _ left _ refl (omega arith) j.grows h (term_right left.next a l)) fits
       terms_right t left (minus a ts) le i h fits =
           let l : bound ≤ left.next = omega (arith, i.grows) in
           let j = term_from scope bound pos below left.next a l in
-          terms_right t _ ts le (operated_from t _ left _ (omega arith) i j) (operated_right _ left _ refl (omega arith) j.grows h (term_right left.next a l)) fits
+          terms_right t _ ts le (operated_from t _ left _ (omega arith) i j)
+          (operated_right _ left _ refl (omega arith) j.grows h (term_right left.next a l)) fits
 
       term_right : (t : ℕ) (a : Term) → bound ≤ t → Fits (term_piece scope t a) → IsRightPiece (term_piece scope t a)
-      term_right t (product_of g gs) le fits = factors_right t (factor_piece scope t g) gs le (factor_from scope bound pos below t g le) (factor_right t g le) fits
+      term_right t (product_of g gs) le fits =
+          factors_right t (factor_piece scope t g) gs le (factor_from scope bound pos below t g le) (factor_right t g le) fits
 
-      factors_right : (t : ℕ) (left : Piece) (gs : Factors) → bound ≤ t → IsFrom t left → (Fits left → IsRightPiece left) → Fits (factors_piece scope left gs) → IsRightPiece (factors_piece scope left gs)
+      factors_right : (t : ℕ) (left : Piece) (gs : Factors) → bound ≤ t → IsFrom t left → (Fits left → IsRightPiece left) →
+          Fits (factors_piece scope left gs) → IsRightPiece (factors_piece scope left gs)
       factors_right t left no_factor le i h fits = h fits
       factors_right t left (times g gs) le i h fits =
           let l : bound ≤ left.next = omega (arith, i.grows) in
           let j = factor_from scope bound pos below left.next g l in
-          factors_right t _ gs le (operated_from t _ left _ (omega arith) i j) (operated_right _ left _ refl (omega arith) j.grows h (factor_right left.next g l)) fits
+          factors_right t _ gs le (operated_from t _ left _ (omega arith) i j)
+          (operated_right _ left _ refl (omega arith) j.grows h (factor_right left.next g l)) fits
 
       factor_right : (t : ℕ) (g : Factor) → bound ≤ t → Fits (factor_piece scope t g) → IsRightPiece (factor_piece scope t g)
       factor_right t (number n) le fits = record { code = λ around. refl; value = omega arith }
@@ -182,10 +196,12 @@ module _ (globals : ℕ) (f : FlatFn) (words : (t : ℕ) → 0 < t → is_set f 
       pub code : (around : ℕ) → AreRight around piece.code
       pub value : is_operand globals f W piece.value ≡ true
 
-    right_test : (around : ℕ) (op : Op) (a b : Value) → op_kind op ≡ CompareLongs → 0 < f.temps → IsOperand a → IsOperand b → AreRight around (Set 0 W op a b ∷ [])
+    right_test : (around : ℕ) (op : Op) (a b : Value) → op_kind op ≡ CompareLongs → 0 < f.temps → IsOperand a → IsOperand b →
+        AreRight around (Set 0 W op a b ∷ [])
     right_test around op a b e l h k = right_one around (Set 0 W op a b) (rw (e, word_target l, operand_long a h, operand_long b k) refl)
 
-    right_comparison : (around : ℕ) (r : Relation) (a b : Value) → 0 < f.temps → IsOperand a → IsOperand b → AreRight around (comparison r a b ∷ [])
+    right_comparison : (around : ℕ) (r : Relation) (a b : Value) → 0 < f.temps → IsOperand a → IsOperand b →
+        AreRight around (comparison r a b ∷ [])
     right_comparison around less a b l h k = right_test around Cultl a b refl l h k
     right_comparison around less_equal a b l h k = right_test around Culel a b refl l h k
     right_comparison around greater a b l h k = right_test around Cultl b a refl l k h
@@ -201,7 +217,8 @@ module _ (globals : ℕ) (f : FlatFn) (words : (t : ℕ) → 0 < t → is_set f 
     sets_test equal a b = refl
     sets_test differ a b = refl
 
-    pub condition_right : (t : ℕ) (c : Condition) → bound ≤ t → IsPart (condition_piece scope t c).code → (condition_piece scope t c).next ≤ f.temps → IsRightTest (condition_piece scope t c)
+    pub condition_right : (t : ℕ) (c : Condition) → bound ≤ t → IsPart (condition_piece scope t c).code →
+        (condition_piece scope t c).next ≤ f.temps → IsRightTest (condition_piece scope t c)
     condition_right t always le part fits = record { code = λ around. refl; value = refl }
     condition_right t (compares a r b) le part fits =
         let x = expr_piece scope t a in
@@ -213,6 +230,8 @@ module _ (globals : ℕ) (f : FlatFn) (words : (t : ℕ) → 0 < t → is_set f 
         let rx = expr_right t a le (part_front x.code (y.code ++ c ∷ []) part, omega (arith, fy.grows)) in
         let ry = expr_right x.next b (omega (arith, fx.grows)) (part_front y.code (c ∷ []) back, fits) in
         record {
-          code = λ around. right_parts around x.code _ (rx.code around) (right_parts around y.code _ (ry.code around) (right_comparison around r x.value y.value (omega (arith, fx.grows, fy.grows)) rx.value ry.value));
+          code = λ around. right_parts around x.code _ (rx.code around)
+              (right_parts around y.code _ (ry.code around)
+              (right_comparison around r x.value y.value (omega (arith, fx.grows, fy.grows)) rx.value ry.value));
           value = or_left _ _ (part_set 0 W c (sets_test r x.value y.value) (part_back y.code (c ∷ []) back));
         }

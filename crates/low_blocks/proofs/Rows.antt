@@ -23,7 +23,10 @@ i = variable (codes "i")
 
 -- let i = 0z; for (i < rt::nargs()) { rt::puts("ab"); i = i + 1z; }; rt::exit((i * 2z): u8);
 abbrev puts_each : Program
-puts_each = block_of (first (declares (codes "i") (one (number 0))) (first (repeats (compares (one i) less (one arg_count)) (first (puts (codes "ab")) (first (assigns (codes "i") (added i (number 1))) nothing))) (first (exits (sum_of (product_of i (times (number 2) no_factor)) no_term)) nothing)))
+puts_each = block_of (first (declares (codes "i") (one (number 0)))
+    (first (repeats (compares (one i) less (one arg_count))
+    (first (puts (codes "ab")) (first (assigns (codes "i") (added i (number 1))) nothing)))
+    (first (exits (sum_of (product_of i (times (number 2) no_factor)) no_term)) nothing)))
 
 -- `i` is temporary 1, and temporary 0 holds what the comparison gives
 row_code : (body_code puts_each).code ≡
@@ -31,7 +34,8 @@ row_code : (body_code puts_each).code ≡
     ∷ Loop (seq (
     Call (Some 2) (codes "rt.nargs") []
     ∷ Set 0 W Cultl (Temp 1) (Temp 2)
-    ∷ If (Temp 0) (seq (Call None (codes "rt.puts") (Symbol 0 0 ∷ Number 2 ∷ []) ∷ Set 3 L Add (Temp 1) (Number 1) ∷ Set 1 L Copy (Temp 3) (Number 0) ∷ [])) (Leave 1)
+    ∷ If (Temp 0) (seq (Call None (codes "rt.puts") (Symbol 0 0 ∷ Number 2 ∷ []) ∷ Set 3 L Add (Temp 1) (Number 1) ∷
+    Set 1 L Copy (Temp 3) (Number 0) ∷ [])) (Leave 1)
     ∷ []))
     ∷ Set 4 L Mul (Temp 1) (Number 2)
     ∷ Call None (codes "rt.exit") (Temp 4 ∷ [])
@@ -65,9 +69,13 @@ row_wraps : does (exit_of (sum_of (product_of arg_count no_factor) (minus (produ
 row_wraps = (refl, refl)
 
 -- let i = 1z; if (true) { let i = 2z; i = 3z; }; rt::exit((i): u8);
-row_shadowed : does (block_of (first (declares (codes "i") (one (number 1))) (first (chooses always (first (declares (codes "i") (one (number 2))) (first (assigns (codes "i") (one (number 3))) nothing))) (first (exits (one i)) nothing)))) 0 (flow.Exit 1) []
+row_shadowed : does (block_of (first (declares (codes "i") (one (number 1)))
+    (first (chooses always (first (declares (codes "i") (one (number 2))) (first (assigns (codes "i") (one (number 3))) nothing)))
+    (first (exits (one i)) nothing)))) 0 (flow.Exit 1) []
 row_shadowed = (refl, refl)
 
 -- if (1z > 2z) { rt::puts(""); } else { rt::puts("else"); };
-row_else : does (block_of (first (chooses_one (compares (one (number 1)) greater (one (number 2))) (first (puts []) nothing) (first (puts (codes "else")) nothing)) nothing)) 0 (flow.Exit 0) (codes "else")
+row_else : does (block_of (first
+    (chooses_one (compares (one (number 1)) greater (one (number 2))) (first (puts []) nothing) (first (puts (codes "else")) nothing))
+    nothing)) 0 (flow.Exit 0) (codes "else")
 row_else = (refl, refl)

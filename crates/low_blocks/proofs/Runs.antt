@@ -83,7 +83,9 @@ module _ (p : FlatProgram) (n : ℕ) (less : Less) where
   reaches_one c s s' e rest = ap (λ r. then_go r (flats_in p n less (codes_of rest))) e
 
   -- a temporary is set to what an operation gives
-  pub reaches_set : (s : State) (t : ℕ) (class : Class) (op : Op) (a b : Value) (v : ℕ) → gives class op (value_of p s a) (value_of p s b) ≡ Some v → Reaches (Set t class op a b ∷ []) s (set_temp (stepped 1 s) t class v)
+  pub reaches_set : (s : State) (t : ℕ) (class : Class) (op : Op) (a b : Value) (v : ℕ) →
+      gives class op (value_of p s a) (value_of p s b) ≡ Some v → Reaches (Set t class op a b ∷ []) s (set_temp (stepped 1 s) t class v)
   reaches_set s t class op a b v e =
-      let k : gives class op (value_of p (stepped 1 s) a) (value_of p (stepped 1 s) b) ≡ Some v = rw (value_of-stepped p 1 s a, value_of-stepped p 1 s b) e in
+      let k : gives class op (value_of p (stepped 1 s) a) (value_of p (stepped 1 s) b) ≡ Some v =
+      rw (value_of-stepped p 1 s a, value_of-stepped p 1 s b) e in
       reaches_one (Set t class op a b) s (set_temp (stepped 1 s) t class v) (ap (computed (stepped 1 s) t class) k)

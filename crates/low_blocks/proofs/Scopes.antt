@@ -41,20 +41,24 @@ Holds [] (v ∷ vs) s = ⊥
 Holds (x ∷ xs) [] s = ⊥
 Holds (x ∷ xs) (v ∷ vs) s = (x.0 ≡ v.0) × (temp_of s x.1 ≡ v.1) × (v.1 < 2 ^ 64) × Holds xs vs s
 
-pub holds_kept : (t : ℕ) (scope : Scope) (vs : Variables) (s s' : State) → Below t scope → Keeps t s s' → Holds scope vs s → Holds scope vs s'
+pub holds_kept : (t : ℕ) (scope : Scope) (vs : Variables) (s s' : State) → Below t scope → Keeps t s s' → Holds scope vs s →
+    Holds scope vs s'
 holds_kept t [] [] s s' b k h = tt
 holds_kept t [] (v ∷ vs) s s' b k h = absurd h
 holds_kept t (x ∷ xs) [] s s' b k h = absurd h
-holds_kept t (x ∷ xs) (v ∷ vs) s s' b k h = (h.0, k x.1 b.0 b.1 ∙ h.1, h.2, holds_kept x.1 xs vs s s' b.2 (λ u l m. k u l (omega (arith, b.1))) h.3)
+holds_kept t (x ∷ xs) (v ∷ vs) s s' b k h =
+    (h.0, k x.1 b.0 b.1 ∙ h.1, h.2, holds_kept x.1 xs vs s s' b.2 (λ u l m. k u l (omega (arith, b.1))) h.3)
 
 -- a variable is read
-pub held_value : (p : FlatProgram) (x : List ℕ) (scope : Scope) (vs : Variables) (s : State) → Holds scope vs s → value_of p s (held (number_of x scope)) ≡ variable_value x vs
+pub held_value : (p : FlatProgram) (x : List ℕ) (scope : Scope) (vs : Variables) (s : State) → Holds scope vs s →
+    value_of p s (held (number_of x scope)) ≡ variable_value x vs
 held_value p x [] [] s h = refl
 held_value p x [] (v ∷ vs) s h = absurd h
 held_value p x (y ∷ ys) [] s h = absurd h
 held_value p x (y ∷ ys) (v ∷ vs) s h = pick (bytes_eq v.0 x) refl (held_value p x ys vs s h.3)
   where
-    pick : (b : Bool) → bytes_eq v.0 x ≡ b → value_of p s (held (number_of x ys)) ≡ variable_value x vs → value_of p s (held (number_of x (y ∷ ys))) ≡ variable_value x (v ∷ vs)
+    pick : (b : Bool) → bytes_eq v.0 x ≡ b → value_of p s (held (number_of x ys)) ≡ variable_value x vs →
+        value_of p s (held (number_of x (y ∷ ys))) ≡ variable_value x (v ∷ vs)
     pick true e on = rw (h.0, e) h.1
     pick false e on = rw (h.0, e) on
 
@@ -71,7 +75,8 @@ value_fits x (y ∷ ys) (v ∷ vs) s h = pick (bytes_eq v.0 x) refl (value_fits 
 -- ---- assignments
 
 -- no variable is assigned to where there is none with the name
-pub assigned_nowhere : (x : List ℕ) (n : ℕ) (scope : Scope) (vs : Variables) (s : State) → Holds scope vs s → number_of x scope ≡ None → assigned x n vs ≡ vs
+pub assigned_nowhere : (x : List ℕ) (n : ℕ) (scope : Scope) (vs : Variables) (s : State) → Holds scope vs s → number_of x scope ≡ None →
+    assigned x n vs ≡ vs
 assigned_nowhere x n [] [] s h e = refl
 assigned_nowhere x n [] (v ∷ vs) s h e = absurd h
 assigned_nowhere x n (y ∷ ys) [] s h e = absurd h
@@ -102,12 +107,16 @@ place_above t u x (y ∷ ys) b e = pick (bytes_eq y.0 x) refl (place_above y.1 u
     pick false f on = let g : number_of x (y ∷ ys) ≡ number_of x ys = rw f refl in on (sym g ∙ e)
 
 -- the temporary of the variable gets the value, and no other changes
-pub holds_assigned : (t u : ℕ) (x : List ℕ) (n : ℕ) (scope : Scope) (vs : Variables) (s s' : State) → Below t scope → Holds scope vs s → number_of x scope ≡ Some u → n < 2 ^ 64 → temp_of s' u ≡ n → ((w : ℕ) → u ≢ w → temp_of s' w ≡ temp_of s w) → Holds scope (assigned x n vs) s'
+pub holds_assigned : (t u : ℕ) (x : List ℕ) (n : ℕ) (scope : Scope) (vs : Variables) (s s' : State) → Below t scope → Holds scope vs s →
+    number_of x scope ≡ Some u → n < 2 ^ 64 → temp_of s' u ≡ n → ((w : ℕ) → u ≢ w → temp_of s' w ≡ temp_of s w) →
+    Holds scope (assigned x n vs) s'
 holds_assigned t u x n [] vs s s' b h e f same other = absurd (cc)
 holds_assigned t u x n (y ∷ ys) [] s s' b h e f same other = absurd h
-holds_assigned t u x n (y ∷ ys) (v ∷ vs) s s' b h e f same other = pick (bytes_eq v.0 x) refl (λ g. holds_assigned y.1 u x n ys vs s s' b.2 h.3 g f same other)
+holds_assigned t u x n (y ∷ ys) (v ∷ vs) s s' b h e f same other =
+    pick (bytes_eq v.0 x) refl (λ g. holds_assigned y.1 u x n ys vs s s' b.2 h.3 g f same other)
   where
-    pick : (c : Bool) → bytes_eq v.0 x ≡ c → (number_of x ys ≡ Some u → Holds ys (assigned x n vs) s') → Holds (y ∷ ys) (assigned x n (v ∷ vs)) s'
+    pick : (c : Bool) → bytes_eq v.0 x ≡ c → (number_of x ys ≡ Some u → Holds ys (assigned x n vs) s') →
+        Holds (y ∷ ys) (assigned x n (v ∷ vs)) s'
     pick true g on =
         let k : number_of x (y ∷ ys) ≡ Some y.1 = rw (h.0, g) refl in
         let at : y.1 ≡ u = cc in
@@ -126,13 +135,15 @@ length_holds [] (v ∷ vs) s h = absurd h
 length_holds (x ∷ xs) [] s h = absurd h
 length_holds (x ∷ xs) (v ∷ vs) s h = ap suc (length_holds xs vs s h.3)
 
-holds_inner : (inner scope : Scope) (vs : Variables) (s : State) → Holds (inner ++ scope) vs s → Holds scope (drop (length inner) vs) s × (length vs ≡ length inner + length scope)
+holds_inner : (inner scope : Scope) (vs : Variables) (s : State) → Holds (inner ++ scope) vs s → Holds scope (drop (length inner) vs) s ×
+    (length vs ≡ length inner + length scope)
 holds_inner [] scope vs s h = (h, omega (arith, length_holds scope vs s h))
 holds_inner (x ∷ inner) scope [] s h = absurd h
 holds_inner (x ∷ inner) scope (v ∷ vs) s h = let k = holds_inner inner scope vs s h.3 in (k.0, omega (arith, k.1))
 
 -- the inner variables end, and the outer ones are left
-pub holds_outer : (scope scope' : Scope) (vs vs' : Variables) (s s' : State) → Extends scope scope' → Holds scope vs s → Holds scope' vs' s' → Holds scope (drop (length vs' - length vs) vs') s'
+pub holds_outer : (scope scope' : Scope) (vs vs' : Variables) (s s' : State) → Extends scope scope' → Holds scope vs s →
+    Holds scope' vs' s' → Holds scope (drop (length vs' - length vs) vs') s'
 holds_outer scope scope' vs vs' s s' e h h' =
     let k = holds_inner e.0 scope vs' s' (subst (λ x. Holds x vs' s') e.1 h') in
     let m : length vs' - length vs ≡ length e.0 = omega (arith, k.1, length_holds scope vs s h) in

@@ -55,7 +55,11 @@ mutual
       let v = expr_piece site.scope site.next e in
       record {
         grows = omega (arith, f.grows);
-        sited = record { some = omega arith; below = (omega (arith, f.grows, h.some), omega arith, below_more site.next v.next site.scope f.grows h.below) };
+        sited = record {
+          some = omega arith;
+          below =
+              (omega (arith, f.grows, h.some), omega arith, below_more site.next v.next site.scope f.grows h.below);
+        };
         counts = omega arith;
       }
   statement_behind site (assigns x e) h =
@@ -64,8 +68,14 @@ mutual
   statement_behind site (chooses c body) h =
       let g = condition_grows site.scope site.next h.some h.below site.next c (omega arith) in
       let b = statements_behind (past site (condition_piece site.scope site.next c).next) body (sited_past site _ h g) in
-      let k : site.next ≤ (statements_code (past site (condition_piece site.scope site.next c).next) body).behind.next = omega (arith, g, b.grows) in
-      record { grows = k; sited = sited_outside site (statements_code (past site (condition_piece site.scope site.next c).next) body).behind h k; counts = b.counts }
+      let k : site.next ≤ (statements_code (past site (condition_piece site.scope site.next c).next) body).behind.next =
+      omega (arith, g, b.grows) in
+      record {
+        grows = k;
+        sited = sited_outside site (statements_code (past site (condition_piece site.scope site.next c).next) body).behind
+            h k;
+        counts = b.counts;
+      }
   statement_behind site (chooses_one c body other) h =
       let g = condition_grows site.scope site.next h.some h.below site.next c (omega arith) in
       let within = (statements_code (past site (condition_piece site.scope site.next c).next) body).behind in
@@ -73,13 +83,25 @@ mutual
       let k : site.next ≤ within.next = omega (arith, g, b.grows) in
       let o = statements_behind (outside site within) other (sited_outside site within h k) in
       let l : site.next ≤ (statements_code (outside site within) other).behind.next = omega (arith, k, o.grows) in
-      record { grows = l; sited = sited_outside site (statements_code (outside site within) other).behind h l; counts = omega (arith, b.counts, o.counts, length-append (statements_texts body) (statements_texts other)) }
+      record {
+        grows = l;
+        sited = sited_outside site (statements_code (outside site within) other).behind h l;
+        counts =
+            omega (arith, b.counts, o.counts, length-append (statements_texts body) (statements_texts other));
+      }
   statement_behind site (repeats c body) h =
       let g = condition_grows site.scope site.next h.some h.below site.next c (omega arith) in
       let b = statements_behind (past site (condition_piece site.scope site.next c).next) body (sited_past site _ h g) in
-      let k : site.next ≤ (statements_code (past site (condition_piece site.scope site.next c).next) body).behind.next = omega (arith, g, b.grows) in
-      record { grows = k; sited = sited_outside site (statements_code (past site (condition_piece site.scope site.next c).next) body).behind h k; counts = b.counts }
-  statement_behind site (puts text) h = record { grows = omega arith; sited = record { some = h.some; below = h.below }; counts = omega arith }
+      let k : site.next ≤ (statements_code (past site (condition_piece site.scope site.next c).next) body).behind.next =
+      omega (arith, g, b.grows) in
+      record {
+        grows = k;
+        sited = sited_outside site (statements_code (past site (condition_piece site.scope site.next c).next) body).behind
+            h k;
+        counts = b.counts;
+      }
+  statement_behind site (puts text) h =
+      record { grows = omega arith; sited = record { some = h.some; below = h.below }; counts = omega arith }
   statement_behind site (exits e) h =
       let f = expr_from site.scope site.next h.some h.below site.next e (omega arith) in
       record { grows = f.grows; sited = sited_past site _ h f.grows; counts = omega arith }

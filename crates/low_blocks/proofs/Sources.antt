@@ -30,7 +30,16 @@ spelling_size t s h = omega arith
 text_holds : (ts : List Token) (text : List ℕ) → Spells ts text → tokens_size ts ≤ length text
 text_holds [] text h = omega arith
 text_holds (t ∷ ts) text (blanks, s, rest, b, spelled, l, e, on) =
-    omega (arith, sum_by-cons token_size t ts, spelling_size t s spelled, text_holds ts rest on, ap length e, length-append blanks (s ++ rest), length-append s rest)
+    omega (
+      arith,
+      sum_by-cons token_size t ts,
+      spelling_size t s spelled,
+      text_holds ts rest on,
+      ap length e,
+      length-append blanks
+          (s ++ rest),
+      length-append s rest,
+    )
 
 -- ---- the strings of statements stand in their tokens
 
@@ -50,25 +59,66 @@ mutual
   statement_holds : (s : Statement) → texts_size (statement_texts s) ≤ tokens_size (statement_tokens s)
   statement_holds (declares x e) = omega arith
   statement_holds (assigns x e) = omega arith
-  statement_holds (chooses c body) = omega (arith, statements_hold body, size_braces (statements_tokens body), size_back (head_tokens token.If c) (in_braces (statements_tokens body)))
+  statement_holds (chooses c body) =
+      omega (
+        arith,
+        statements_hold body,
+        size_braces (statements_tokens body),
+        size_back (head_tokens token.If c)
+            (in_braces (statements_tokens body)),
+      )
   statement_holds (chooses_one c body other) =
       let a = in_braces (statements_tokens body) in
       let b = in_braces (statements_tokens other) in
-      omega (arith, statements_hold body, statements_hold other, size_braces (statements_tokens body), size_braces (statements_tokens other), size_back (head_tokens token.If c) (a ++ (token.Else ∷ b)), sum_by-append token_size a (token.Else ∷ b), size_more token.Else b, sum_by-append argument_size (statements_texts body) (statements_texts other))
-  statement_holds (repeats c body) = omega (arith, statements_hold body, size_braces (statements_tokens body), size_back (head_tokens token.For c) (in_braces (statements_tokens body)))
+      omega (
+        arith,
+        statements_hold body,
+        statements_hold other,
+        size_braces (statements_tokens body),
+        size_braces
+            (statements_tokens other),
+        size_back (head_tokens token.If c) (a ++ (token.Else ∷ b)),
+        sum_by-append token_size a
+            (token.Else ∷ b),
+        size_more token.Else b,
+        sum_by-append argument_size (statements_texts body) (statements_texts other),
+      )
+  statement_holds (repeats c body) =
+      omega (
+        arith,
+        statements_hold body,
+        size_braces (statements_tokens body),
+        size_back (head_tokens token.For c)
+            (in_braces (statements_tokens body)),
+      )
   statement_holds (puts text) = omega arith
   statement_holds (exits e) = omega arith
 
   statements_hold : (ss : Statements) → texts_size (statements_texts ss) ≤ tokens_size (statements_tokens ss)
   statements_hold nothing = omega arith
   statements_hold (first s ss) =
-      omega (arith, statement_holds s, statements_hold ss, sum_by-append argument_size (statement_texts s) (statements_texts ss), sum_by-append token_size (statement_tokens s) (token.Semicolon ∷ statements_tokens ss), size_more token.Semicolon (statements_tokens ss))
+      omega (
+        arith,
+        statement_holds s,
+        statements_hold ss,
+        sum_by-append argument_size (statement_texts s) (statements_texts ss),
+        sum_by-append token_size (statement_tokens s) (token.Semicolon ∷ statements_tokens ss),
+        size_more token.Semicolon
+            (statements_tokens ss),
+      )
 
 program_holds : (p : Program) → texts_size (program_texts p) ≤ tokens_size (file_tokens p)
 program_holds (exit_of e) = omega arith
 program_holds (block_of ss) =
     let braces = in_braces (statements_tokens ss) in
-    omega (arith, statements_hold ss, size_braces (statements_tokens ss), size_front braces (token.Semicolon ∷ []), size_back front_tokens (braces ++ token.Semicolon ∷ []))
+    omega (
+      arith,
+      statements_hold ss,
+      size_braces (statements_tokens ss),
+      size_front braces (token.Semicolon ∷ []),
+      size_back front_tokens
+          (braces ++ token.Semicolon ∷ []),
+    )
 
 -- ---- files of the class
 

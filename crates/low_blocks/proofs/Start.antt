@@ -117,4 +117,5 @@ start_texts functions ts fill args fits =
     let p : FlatProgram = record { functions = functions; globals = text_globals 0 ts } in
     let m = with_globals p (empty_memory fill) data_start p.globals in
     texts_there p (empty_memory fill) data_start 0 ts
-    (λ k. let z : 0 + k ≡ k = omega arith in ap (λ x. slice_index_or (addresses p) x ([], 0)) z) fits (start_memory fill p args) (table_stays m args)
+    (λ k. let z : 0 + k ≡ k = omega arith in ap (λ x. slice_index_or (addresses p) x ([], 0)) z) fits (start_memory fill p args)
+    (table_stays m args)

@@ -27,5 +27,6 @@ module _ (p : FlatProgram) (m : Memory) where
   texts_back i j (t ∷ a) b e h = texts_back (suc i) j a b (omega arith) h.1
 
 -- a string that stands in memory is put out
-pub put_text : (w : World) (at : ℕ) (text : List ℕ) → all_mapped w.memory at (length text) ≡ true → bytes_at w.memory at (length text) ≡ text → put w at (length text) ≡ Gives 0 (length text) (record w { output = w.output ++ text })
+pub put_text : (w : World) (at : ℕ) (text : List ℕ) → all_mapped w.memory at (length text) ≡ true →
+    bytes_at w.memory at (length text) ≡ text → put w at (length text) ≡ Gives 0 (length text) (record w { output = w.output ++ text })
 put_text w at text e f = rw (e, f) refl

@@ -54,12 +54,14 @@ module _ (p : Program) (few : texts_size (program_texts p) ≤ 65536) (shallow :
   body_right =
       let globals = length (lowered p).globals in
       let counts = (statements_behind start (body_of p) begins).counts in
-      and_both _ _ refl (statements_right globals main words longs start (body_of p) 1 begins tt (λ t class e. e) (omega arith) (omega (arith, counts, length-text_globals 0 texts)) (short texts (omega (arith, few))) (omega (arith, shallow))).right
+      and_both _ _ refl (statements_right globals main words longs start (body_of p) 1 begins tt (λ t class e. e) (omega arith)
+      (omega (arith, counts, length-text_globals 0 texts)) (short texts (omega (arith, few))) (omega (arith, shallow))).right
 
   main_right : is_function_right (length (lowered p).globals) main ≡ true
   main_right =
       and_both _ _ refl (and_both _ _ refl (and_both _ _ (le_true 0 main.temps (omega arith)) (and_both _ _ refl
-      (and_both _ _ (statements_nest start (body_of p) 4095 (omega (arith, shallow))) (and_both _ _ (statements_plain start (body_of p) begins).built (and_both _ _ refl body_right))))))
+      (and_both _ _ (statements_nest start (body_of p) 4095 (omega (arith, shallow)))
+      (and_both _ _ (statements_plain start (body_of p) begins).built (and_both _ _ refl body_right))))))
 
   once : (j : ℕ) → j < length texts → (how_many (lowered p) (text_name j) == 1) ≡ true
   once j l = rw (one_named j 0 texts (omega (arith, count)) (omega arith) (omega arith)) refl

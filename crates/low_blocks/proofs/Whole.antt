@@ -19,7 +19,8 @@ record EndsAlike (w : World) (r : End × List ℕ) (r' : flat.Result) : Type 0 w
   ends : r'.0 ≡ flat_end r.0
   world : r'.1.world ≡ World_after w r.1
 
-meets_ends : (w : World) (scope : Scope) (r : Result) (r' : flat.Result) → Meets w scope r r' → EndsAlike w (ended r) (flat_run.ended (caught r'))
+meets_ends : (w : World) (scope : Scope) (r : Result) (r' : flat.Result) → Meets w scope r r' →
+    EndsAlike w (ended r) (flat_run.ended (caught r'))
 meets_ends w scope r r' (goes_on v s e f h) = rw (e, f) (record { ends = refl; world = h.world })
 meets_ends w scope r r' (exits k v s e f h) = rw (e, f) (record { ends = refl; world = h })
 meets_ends w scope r r' (spent v s e f h) = rw (e, f) (record { ends = refl; world = h })
@@ -43,7 +44,10 @@ module _ (p : Program) (few : HasFewTexts p) (args : List (List ℕ)) (input : L
   alike : EndsAlike w (run (length args) p n) (flat_run.run (lowered p) args input fill n)
   alike =
       let s : flat.State = record (before_calls w) { cost = _; most = _ } in
-      rw (run_does (length args) p n) (meets_ends w _ _ _ (all_meet (lowered p) w (length args) refl refl refl refl n start (body_of p) nothing_done (stepped 1 s) (record { some = omega arith; below = tt }) (start_texts (lowered p).functions (program_texts p) fill args few) (record { holds = tt; world = refl })))
+      rw (run_does (length args) p n)
+      (meets_ends w _ _ _ (all_meet (lowered p) w (length args) refl refl refl refl n start (body_of p) nothing_done (stepped 1 s)
+      (record { some = omega arith; below = tt }) (start_texts (lowered p).functions (program_texts p) fill args few)
+      (record { holds = tt; world = refl })))
 
 pub does_the_same : (p : Program) → HasFewTexts p → DoesTheSame p (lowered p)
 does_the_same p few = record {

@@ -17,11 +17,12 @@ abbrev pub flat_end : End → Flow
 flat_end (Exit status) = flow.Exit status
 flat_end Spent = flow.Spent
 
--- With the same arguments and the same number of turns, whatever the input and the fill byte, flat code ends as the program does and has put out
--- the same. The input is left as it was.
+-- With the same arguments and the same number of turns, whatever the input and the fill byte, flat code ends as the program does and has
+-- put out the same. The input is left as it was.
 pub record DoesTheSame (p : Program) (f : FlatProgram) : Type 0 where
   pub ends : (args : List (List ℕ)) (input : List ℕ) (fill n : ℕ) → (flat.run f args input fill n).0 ≡ flat_end (run (length args) p n).0
-  pub outputs : (args : List (List ℕ)) (input : List ℕ) (fill n : ℕ) → (flat.run f args input fill n).1.world.output ≡ (run (length args) p n).1
+  pub outputs : (args : List (List ℕ)) (input : List ℕ) (fill n : ℕ) → (flat.run f args input fill n).1.world.output ≡
+      (run (length args) p n).1
   pub inputs : (args : List (List ℕ)) (input : List ℕ) (fill n : ℕ) → (flat.run f args input fill n).1.world.input ≡ input
 
 -- ---- loops

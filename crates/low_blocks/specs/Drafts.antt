@@ -42,13 +42,15 @@ abbrev pub site : Draft → Scope → List Data → Site
 site d scope globals = record { scope = scope; next = d.next; texts = length globals }
 
 -- the code of statements with these strings was put at the end
-pub record Lowers (old new : Draft) (scope : Scope) (globals globals' : List Data) (scope' : Scope) (low : Lowered) (texts : List (List ℕ)) : Type 0 where
+pub record Lowers (old new : Draft) (scope : Scope) (globals globals' : List Data) (scope' : Scope) (low : Lowered)
+    (texts : List (List ℕ)) : Type 0 where
   pub code : new.code ≡ old.code ++ low.code
   pub ends : site new scope' globals' ≡ low.behind
   pub texts_are : globals' ≡ globals ++ text_globals (length globals) texts
 
 -- a block was lowered by itself to this code. What it declares has ended.
-pub record LowersBlock (old new : Draft) (scope : Scope) (globals globals' : List Data) (scope' : Scope) (code : List Code) (low : Lowered) (texts : List (List ℕ)) : Type 0 where
+pub record LowersBlock (old new : Draft) (scope : Scope) (globals globals' : List Data) (scope' : Scope) (code : List Code) (low : Lowered)
+    (texts : List (List ℕ)) : Type 0 where
   pub code_is : code ≡ low.code
   pub kept : new.code ≡ old.code
   pub ends : site new scope' globals' ≡ outside (site old scope globals) low.behind

@@ -1,7 +1,7 @@
 -- The flat code of expressions and conditions.
 --
--- Each operation and each call of `rt::nargs` sets a temporary of its own, in the order of evaluation, from left to right. A variable is read
--- where it is an operand: nothing in an expression changes a variable.
+-- Each operation and each call of `rt::nargs` sets a temporary of its own, in the order of evaluation, from left to right. A variable is
+-- read where it is an operand: nothing in an expression changes a variable.
 use Rattle.std.specs.Prelude.{ℕ, suc, ◌^◌, ◌%◌, List, [], ◌∷◌, ◌++◌, Option, None, Some, codes}
 use Rattle.hx_base.specs.declared.Class.TheVariants.{W, L}
 use Rattle.flat_code.specs.declared.op.Op.{Op}
@@ -60,7 +60,8 @@ abbrev mutual
 
 -- ---- conditions
 
--- the temporary of class w that holds what a comparison gives. It is read at once, so that all comparisons share it; those of class l come behind it.
+-- the temporary of class w that holds what a comparison gives. It is read at once, so that all comparisons share it; those of class l come
+-- behind it.
 abbrev pub test_temp : ℕ
 test_temp = 0
 

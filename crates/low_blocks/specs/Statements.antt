@@ -41,8 +41,8 @@ seq cs = Seq (codes_of cs)
 abbrev pub branch : Piece → (does other : List Code) → List Code
 branch c does other = c.code ++ If c.value (seq does) (seq other) ∷ []
 
--- One turn of a loop: where the condition does not hold, it leaves the Seq that is the turn and the Loop round it. A loop whose condition always
--- holds tests nothing.
+-- One turn of a loop: where the condition does not hold, it leaves the Seq that is the turn and the Loop round it. A loop whose condition
+-- always holds tests nothing.
 abbrev pub turn : Condition → Piece → List Code → Code
 turn always c body = seq body
 turn (compares a r b) c body = seq (c.code ++ If c.value (seq body) (Leave 1) ∷ [])
@@ -51,7 +51,11 @@ abbrev mutual
   pub statement_code : Site → Statement → Lowered
   statement_code site (declares x e) =
       let v = expr_piece site.scope site.next e in
-      record { code = v.code ++ copied (Some v.next) v.value; behind = record { scope = (x, v.next) ∷ site.scope; next = suc v.next; texts = site.texts } }
+      record {
+        code = v.code ++ copied (Some v.next) v.value;
+        behind =
+            record { scope = (x, v.next) ∷ site.scope; next = suc v.next; texts = site.texts };
+      }
   statement_code site (assigns x e) =
       let v = expr_piece site.scope site.next e in
       record { code = v.code ++ copied (number_of x site.scope) v.value; behind = past site v.next }
@@ -69,7 +73,11 @@ abbrev mutual
       let b = statements_code (past site test.next) body in
       record { code = Loop (turn c test b.code) ∷ []; behind = outside site b.behind }
   statement_code site (puts text) =
-      record { code = Call None (codes "rt.puts") (Symbol site.texts 0 ∷ Number (length text) ∷ []) ∷ []; behind = record { scope = site.scope; next = site.next; texts = suc site.texts } }
+      record {
+        code = Call None (codes "rt.puts") (Symbol site.texts 0 ∷ Number (length text) ∷ []) ∷ [];
+        behind =
+            record { scope = site.scope; next = site.next; texts = suc site.texts };
+      }
   statement_code site (exits e) =
       let v = expr_piece site.scope site.next e in
       record { code = v.code ++ Call None (codes "rt.exit") (v.value ∷ []) ∷ []; behind = past site v.next }

@@ -17,7 +17,8 @@ pub const TEST_TEMP: u32 = 0;
 
 /// Puts the code of a condition at the end, and gives the operand that is not 0 where it holds.
 pub fn lower_condition(draft: &mut Draft, scope: &Scope, c: &Condition) -> Result<Value, AllocError>
-    ensures { IfOk result (λ v. piece_of draft.new v ≡ behind draft.old.code (condition_piece scope.now draft.old.next (condition_of c.now))) }
+    ensures { IfOk result (λ v. piece_of draft.new v ≡ behind draft.old.code
+        (condition_piece scope.now draft.old.next (condition_of c.now))) }
 {
     match c {
         Condition::Always => Ok(Value::Number(1)),

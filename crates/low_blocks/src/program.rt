@@ -20,7 +20,8 @@ use std::alloc::{AllocError, Global};
 /// The program is that of some file of the class, as one is that `hare_blocks::read` gives.
 ///
 /// It is well formed, and does the same as the program: for all arguments, all input and every number of turns it ends as the program does,
-/// with the same output. It has a loop for each `for`. An error is want of memory, or of numbers for temporaries and globals, which are below 2^32.
+/// with the same output. It has a loop for each `for`. An error is want of memory, or of numbers for temporaries and globals, which are
+/// below 2^32.
 #[tactic(auto, using(crate::proofs::WellFormed::well_formed, crate::proofs::Sources::source_same, crate::proofs::Loops::has_its_loops))]
 pub fn lower(alloc: Global, p: &Program) -> Result<FlatProgram, AllocError>
     requires { (text : List ℕ) × IsSource text (program_of p.now) }

@@ -106,7 +106,8 @@ fn declare(
     name: &[u8],
     value: &Expr,
 ) -> Result<(), AllocError>
-    ensures { OnOk result ((g : List Data) → Lowers draft.old draft.new scope.old g g scope.new (statement_code (site draft.old scope.old g) (declares name.now value.now)) []) }
+    ensures { OnOk result ((g : List Data) → Lowers draft.old draft.new scope.old g g scope.new
+        (statement_code (site draft.old scope.old g) (declares name.now value.now)) []) }
 {
     let v = lower_expr(draft, scope, value)?;
     let temp = draft.set(Op::Copy, v, Value::Number(0))?;
@@ -115,7 +116,8 @@ fn declare(
 
 /// The temporary of the variable, if there is one, gets the value.
 fn assign(draft: &mut Draft, scope: &Scope, name: &[u8], value: &Expr) -> Result<(), AllocError>
-    ensures { OnOk result ((g : List Data) → Lowers draft.old draft.new scope.now g g scope.now (statement_code (site draft.old scope.now g) (assigns name.now value.now)) []) }
+    ensures { OnOk result ((g : List Data) → Lowers draft.old draft.new scope.now g g scope.now
+        (statement_code (site draft.old scope.now g) (assigns name.now value.now)) []) }
 {
     let v = lower_expr(draft, scope, value)?;
     match scope.find(name) {
@@ -165,7 +167,8 @@ fn repeat(
 
 /// Puts out a string, which becomes a global.
 fn puts(draft: &mut Draft, globals: &mut DataList, text: &[u8]) -> Result<(), AllocError>
-    ensures { OnOk result ((scope : Scope) → Lowers draft.old draft.new scope globals.old globals.new scope (statement_code (site draft.old scope globals.old) (puts text.now)) (text.now ∷ [])) }
+    ensures { OnOk result ((scope : Scope) → Lowers draft.old draft.new scope globals.old globals.new scope
+        (statement_code (site draft.old scope globals.old) (puts text.now)) (text.now ∷ [])) }
 {
     let Ok(place) = u32::try_from(globals.len()) else {
         return Err(AllocError);
@@ -179,7 +182,8 @@ fn puts(draft: &mut Draft, globals: &mut DataList, text: &[u8]) -> Result<(), Al
 
 /// Ends the program with the value of an expression.
 pub fn lower_exit(draft: &mut Draft, scope: &Scope, e: &Expr) -> Result<(), AllocError>
-    ensures { OnOk result ((g : List Data) → Lowers draft.old draft.new scope.now g g scope.now (statement_code (site draft.old scope.now g) (exits e.now)) []) }
+    ensures { OnOk result ((g : List Data) → Lowers draft.old draft.new scope.now g g scope.now
+        (statement_code (site draft.old scope.now g) (exits e.now)) []) }
 {
     let value = lower_expr(draft, scope, e)?;
     let mut args = Values::new(draft.alloc);

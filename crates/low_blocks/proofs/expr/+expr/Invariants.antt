@@ -6,7 +6,9 @@ use Rattle.low_blocks.specs.Drafts.{piece_of}
 use Rattle.low_blocks.proofs.expr.+expr.Given as goal
 
 abbrev pub invariant-lower_expr-loop-t : goal.invariant-lower_expr-loop-t
-invariant-lower_expr-loop-t l = terms_piece l.scope (piece_of l.draft l.left) (terms_of (drop l.t-index l.t-items)) ≡ terms_piece l.scope (piece_of l.initial.draft l.initial.left) (terms_of l.t-items)
+invariant-lower_expr-loop-t l = terms_piece l.scope (piece_of l.draft l.left) (terms_of (drop l.t-index l.t-items)) ≡ terms_piece l.scope
+    (piece_of l.initial.draft l.initial.left) (terms_of l.t-items)
 
 abbrev pub invariant-lower_term-loop-f : goal.invariant-lower_term-loop-f
-invariant-lower_term-loop-f l = factors_piece l.scope (piece_of l.draft l.left) (factors_of (drop l.f-index l.f-items)) ≡ factors_piece l.scope (piece_of l.initial.draft l.initial.left) (factors_of l.f-items)
+invariant-lower_term-loop-f l = factors_piece l.scope (piece_of l.draft l.left) (factors_of (drop l.f-index l.f-items)) ≡ factors_piece
+    l.scope (piece_of l.initial.draft l.initial.left) (factors_of l.f-items)

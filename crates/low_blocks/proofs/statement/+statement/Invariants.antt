@@ -5,4 +5,5 @@ use Rattle.low_blocks.proofs.Lowered.{IsRest}
 use Rattle.low_blocks.proofs.statement.+statement.Given as goal
 
 abbrev pub invariant-lower_statements-loop-i : goal.invariant-lower_statements-loop-i
-invariant-lower_statements-loop-i l = IsRest l.initial.draft l.draft l.initial.scope l.initial.globals l.globals l.scope (list_of_statements l.body) (list_of_statements (drop l.i l.body))
+invariant-lower_statements-loop-i l = IsRest l.initial.draft l.draft l.initial.scope l.initial.globals l.globals l.scope
+    (list_of_statements l.body) (list_of_statements (drop l.i l.body))

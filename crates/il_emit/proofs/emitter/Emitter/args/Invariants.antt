@@ -6,8 +6,10 @@ use Rattle.il_emit.proofs.emitter.Emitter.args.Given as goal
 
 abbrev pub invariant-each : goal.invariant-each
 invariant-each l = record {
-  value : l.out ++ args_of l.globals l.classes_left l.left l.self.addresses ≡ args_of l.globals l.initial.classes_left l.initial.left l.initial.self.addresses;
-  draft : add_all l.self.draft (arg_lines l.globals l.left l.self.addresses) ≡ add_all l.initial.self.draft (arg_lines l.globals l.initial.left l.initial.self.addresses);
+  value : l.out ++ args_of l.globals l.classes_left l.left l.self.addresses ≡ args_of l.globals l.initial.classes_left l.initial.left
+      l.initial.self.addresses;
+  draft : add_all l.self.draft (arg_lines l.globals l.left l.self.addresses) ≡ add_all l.initial.self.draft
+      (arg_lines l.globals l.initial.left l.initial.self.addresses);
   labels : l.self.labels ≡ l.initial.self.labels;
   addresses : l.self.addresses + all_addressed l.left ≡ l.initial.self.addresses + all_addressed l.initial.left;
   exits : l.self.exits.items ≡ l.initial.self.exits.items;

@@ -7,5 +7,8 @@ use Rattle.il_emit.proofs.emitter.Emitter.call.Goals as goal
 
 pub returns : goal.returns
 returns c =
-    call_emits c.args.globals.now c.args.args.now c.call_params.result.now _ c.in_ok-args.args _ c.args.name.now c.in_ok-call.call c.args.self.now c.args-2.new.self c.inst.new.self
-    c.in_ok-args.ensures.ok c.in_ok-args.ensures.value (c.call_params.ensures ∙ ap (λ (s : List ℕ). call_params (runtime_function s)) c.bytes.ensures) c.in_ok-call.ensures c.in_ok-inst.ensures
+    call_emits c.args.globals.now c.args.args.now c.call_params.result.now _ c.in_ok-args.args _ c.args.name.now c.in_ok-call.call
+    c.args.self.now c.args-2.new.self c.inst.new.self
+    c.in_ok-args.ensures.ok c.in_ok-args.ensures.value
+    (c.call_params.ensures ∙ ap (λ (s : List ℕ). call_params (runtime_function s)) c.bytes.ensures) c.in_ok-call.ensures
+    c.in_ok-inst.ensures
