@@ -18,8 +18,8 @@ use std::alloc::{AllocError, Global};
 /// The layout of the file with these bytes, of which there are fewer than 2^32 - 1: the same tokens, up to commas behind the last items of
 /// lists, and the same comments, in the one layout.
 ///
-/// It is the layout of itself: it has tokens and a tree. Its tokens are those of the file, with the commas behind last items of lists left out on
-/// both sides, and its comments are those of the file, in order, without the blanks and the CR at their ends.
+/// It is the layout of itself: it has tokens and a tree. Its tokens are those of the file, with the commas behind last items of lists left
+/// out on both sides, and its comments are those of the file, in order, without the blanks and the CR at their ends.
 ///
 /// A file without a tree has none: the fault is that which `parse_source` finds in it as the file with number 0.
 ///

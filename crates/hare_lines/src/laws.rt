@@ -25,8 +25,7 @@ pub fn law_gaps_stay()
 {}
 
 /// Where a blank is kept for the tokens' sake, between `&` and `&` and before a number behind a `.` that stands behind plain decimal
-/// digits, the text without
-/// it would have other tokens.
+/// digits, the text without it would have other tokens.
 pub fn law_blanks_are_needed()
     ensures { GrowingPiecesAreOthers }
 {}
