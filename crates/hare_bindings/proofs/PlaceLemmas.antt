@@ -15,6 +15,7 @@ use Rattle.hare_rules.specs.Constants.{is_absent_value}
 use Rattle.hare_rules.specs.Context.{place_of, own_type, is_there}
 use Rattle.hare_const.specs.NodeValues.{Refuses}
 use Rattle.hare_const.specs.Settled.{IsSettled, ConstantsStay}
+use Rattle.hare_const.specs.Statics.{IsCoherent}
 use Rattle.rule_judge.specs.Defined.{IsDefinedTy, AreDefinedTrees}
 use Rattle.rule_judge.proofs.KidLemmas.{front_found, own_defined}
 use Rattle.hare_bindings.specs.Own.{place_inside, in_the_end, value_among, IsPlaceAmong}
@@ -25,9 +26,9 @@ use Rattle.hare_bindings.specs.Own.{place_inside, in_the_end, value_among, IsPla
 abbrev pub IsPlaceInside : Store → ℕ → TypedNode → Option Place → Type 0
 IsPlaceInside s own t o = (f : Store) → IsLater s f → o ≡ place_inside f own t
 
-module _ (stay : ConstantsStay) (s : Store) (v : IsStore s) (own : ℕ) (t : TypedNode) (h : IsSettled s t) where
+module _ (stay : ConstantsStay) (s : Store) (v : IsStore s) (own : ℕ) (t : TypedNode) (h : IsSettled s t) (c : IsCoherent own t) where
   keeps : (f : Store) → IsLater s f → inconstant f own t ≡ inconstant s own t
-  keeps f l = (stay s f v l own t h).inconstant
+  keeps f l = (stay s f v l own t h c).inconstant
 
   -- nowhere, where each node is constant
   pub place_none : inconstant s own t ≡ None → IsPlaceInside s own t None

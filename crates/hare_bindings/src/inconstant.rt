@@ -10,7 +10,7 @@ ghost use Rattle.rule_judge.specs.Defined.{IsDefinedTy, AreDefinedTrees};
 ghost use Rattle.rule_judge.specs.Grown.{IsGrown};
 ghost use Rattle.hare_bindings.specs.Own as spec;
 
-use hare_const::{constant_cells, is_settled, law_constants_stay};
+use hare_const::{constant_cells, is_coherent, is_settled, law_constants_stay};
 use hare_copies::copy_tree;
 use hare_tree::{Place, Stop};
 use hare_typed::{Const, Typed, TypedKids};
@@ -73,6 +73,9 @@ fn place_inside(
     let _law = s.declarations();
     law_constants_stay();
     if !is_settled(s, value) {
+        return Err(AllocError);
+    }
+    if !is_coherent(alloc, own, value)? {
         return Err(AllocError);
     }
     match constant_cells(alloc, s, own, value) {

@@ -30,7 +30,7 @@ use Rattle.hare_typed.specs.ConstantForms.{own_type, type_of_kid, is_iconst, int
 use Rattle.hare_const.specs.declared.operands.Operands.TheVariants.{OneKid, TwoKids}
 use Rattle.hare_const.specs.declared.outcome.Outcome.{Outcome}
 use Rattle.hare_const.specs.declared.outcome.Outcome.TheVariants.{Known, Aborts, Undefined}
-use Rattle.hare_const.specs.NodeValues.{on_cells, on_answer, kid_at, kids_at, numbered, number_of_kid, negation, complement, order_value, equality_value, cast_value, offset_value, arithmetic_value, shift_value, length_value, array_length_value, tuple_value, struct_value, array_value, type_with_offset, part_with_offset, unary_value, binary_value, operator_value, kind_value, HasNumber, HasParts, fields_given, components_given, AskedKind, PlainKind}
+use Rattle.hare_const.specs.NodeValues.{on_cells, on_answer, kid_at, kids_at, numbered, number_of_kid, same_texts, negation, complement, order_value, equality_value, cast_value, offset_value, arithmetic_value, shift_value, length_value, array_length_value, tuple_value, struct_value, array_value, type_with_offset, part_with_offset, unary_value, binary_value, operator_value, kind_value, HasNumber, HasParts, fields_given, components_given, AskedKind, PlainKind}
 use Rattle.hare_const.specs.Operators.{IsWidth}
 use Rattle.hare_const.specs.Sizes.{Fits, HasPart}
 use Rattle.hare_const.specs.Settled.{HasBase, HasBases, HaveBases}
@@ -143,7 +143,11 @@ module _ (s l : Store) (v : IsStore s) (later : IsLater s l) where
     order_same x y = ap₂ (λ j k. bool_cells (in_order (order_of (head_of t).text) j k)) (kid_same 0 x) (kid_same 1 y)
 
     equality_same : (x y : List Cell) → equality_value l t x y ≡ equality_value s t x y
-    equality_same x y = ap₂ (λ j k. bool_cells (by_equality (head_of t).text (same_number j k))) (kid_same 0 x) (kid_same 1 y)
+    equality_same x y =
+        let told = same_texts (kids_of t) in
+        ap (λ b. bool_cells (by_equality (head_of t).text b))
+        (ap (λ b. if b then told else same_number (number_of_kid l t 0 x) (number_of_kid l t 1 y)) (str_same (type_of_kid 0 t) (a.kid 0))
+        ∙ ap₂ (λ j k. if is_str s (type_of_kid 0 t) then told else same_number j k) (kid_same 0 x) (kid_same 1 y))
 
     cast_same : (x : List Cell) → cast_value l t x ≡ cast_value s t x
     cast_same x =
@@ -309,6 +313,6 @@ module _ (s l : Store) (v : IsStore s) (later : IsLater s l) where
       place_same h.kind m (first_given us) (first_given us) (first_is_place l us) (first_is_place s us) e b.0.0
 
   pub plain_stays : (k : Kind) (ts : TypedNodes) → HaveBases s ts → PlainKind s k ts → PlainKind l k ts
-  plain_stays kind.Equal ts b h = str_same (first_given ts) (first-base s ts b) ∙ h
+  plain_stays kind.Equal ts b h = λ e. h (sym (str_same (first_given ts) (first-base s ts b)) ∙ e)
   plain_stays kind.Addr ts b h = λ e. first_place_same ts e b ∙ h e
   plain_stays _ ts b h = h

@@ -16,7 +16,7 @@ use Rattle.hare_const.specs.Joined.{Joins}
 use Rattle.hare_const.specs.NodeValues.{on_cells, operands_of, own_value, coerced_value, tree_value, kid_values, IsSimple, AreSimple, is_aborted, first_refused, cells_in, cells_of}
 use Rattle.hare_const.specs.Made.{made_by_kids, made_of_value, made_by, made_by_each}
 use Rattle.hare_const.specs.Settled.{HasBase, HasBases, HaveBases, IsSettled, ConstantsStay}
-use Rattle.hare_const.specs.Statics.{statics_in, objects_in}
+use Rattle.hare_const.specs.Statics.{statics_in, IsCoherent, objects_in}
 use Rattle.hare_const.proofs.LaterNodes.{around, kind_same, cells_on}
 use Rattle.hare_const.proofs.LaterUnions.{SameTags}
 use Rattle.hare_const.proofs.LaterCoercions.{coerced_same, object_same}
@@ -64,7 +64,7 @@ module _ (s l : Store) (v : IsStore s) (later : IsLater s l) (same : SameTags s 
 module _ (s l : Store) (v : IsStore s) (later : IsLater s l) (own : ℕ) where
   tagged_value : (t : TypedNode) → IsSimple s t → HasBases s t → tree_value (tagged_by_id l) own t ≡ tree_value (tagged_by_id s) own t
   tagged_value t p b =
-      let q = tagged_settled s v own t (record { simple = p; bases = b }) in
+      let q = tagged_settled s v t (record { simple = p; bases = b }) in
       value_same (tagged_by_id s) (tagged_by_id l) (tagged_store s v) (both_tagged s l later) (same_tags s l v later) own t q.simple q.bases
 
   first_refused_same : (t : TypedNode) → IsSettled s t → first_refused l own t ≡ first_refused s own t
@@ -77,22 +77,22 @@ module _ (s l : Store) (v : IsStore s) (later : IsLater s l) (own : ℕ) where
   absent None r u e = absurd cc
   absent (Some w) r u e = refl
 
-  module _ (t : TypedNode) (p : IsSettled s t) where
+  module _ (t : TypedNode) (p : IsSettled s t) (c : IsCoherent own t) where
     here : IsSettled l t
     here = settled_stays s l v later t p
 
     inconstant_stays : inconstant l own t ≡ inconstant s own t
-    inconstant_stays = refused_same l later.sound own t here ∙ first_refused_same t p ∙ sym (refused_same s v own t p)
+    inconstant_stays = refused_same l later.sound own t here c ∙ first_refused_same t p ∙ sym (refused_same s v own t p c)
 
     cells_same : cells_in (folded l own t) ≡ cells_in (folded s own t)
     cells_same = by (first_refused s own t) refl
       where
         by : (o : Option TypedNode) → first_refused s own t ≡ o → cells_in (folded l own t) ≡ cells_in (folded s own t)
         by None e =
-            (folded_cells l later.sound own t here (first_refused_same t p ∙ e)).1 ∙ ap cells_of (tagged_value t p.simple p.bases)
-            ∙ sym (folded_cells s v own t p e).1
+            (folded_cells l later.sound own t here c (first_refused_same t p ∙ e)).1 ∙ ap cells_of (tagged_value t p.simple p.bases)
+            ∙ sym (folded_cells s v own t p c e).1
         by (Some u) e =
-            let none = refused_same s v own t p ∙ e in
+            let none = refused_same s v own t p c ∙ e in
             absent (inconstant l own t) (constant_result (tagged_by_id l) own t) u (inconstant_stays ∙ none)
             ∙ sym (absent (inconstant s own t) (constant_result (tagged_by_id s) own t) u none)
 
@@ -100,14 +100,14 @@ module _ (s l : Store) (v : IsStore s) (later : IsLater s l) (own : ℕ) where
 pub objects_stay : (s l : Store) → IsStore s → IsLater s l → (own : ℕ) (t : TypedNode) → IsSettled s t →
     objects_in (tagged_by_id l) own t ≡ objects_in (tagged_by_id s) own t
 objects_stay s l v later own t p =
-    let q = tagged_settled s v own t p in
+    let q = tagged_settled s v t p in
     ap (λ ms. statics_in own t ++ ms)
     (made_same (tagged_by_id s) (tagged_by_id l) (tagged_store s v) (both_tagged s l later) (same_tags s l v later) own t q.simple q.bases)
 
 pub constants_stay : ConstantsStay
-constants_stay s l v later own t p = record {
+constants_stay s l v later own t p c = record {
   settled = settled_stays s l v later t p;
   value = tagged_value s l v later own t p.simple p.bases;
-  inconstant = inconstant_stays s l v later own t p;
-  cells = cells_same s l v later own t p;
+  inconstant = inconstant_stays s l v later own t p c;
+  cells = cells_same s l v later own t p c;
 }

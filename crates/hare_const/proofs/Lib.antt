@@ -22,6 +22,7 @@ pub mod LaterTrees
 pub mod SettledLemmas
 pub mod FoldedLemmas
 pub mod StaticLemmas
+pub mod TextLemmas
 pub mod ReachedLemmas
 pub mod WalkLemmas
 pub mod MadeLemmas

@@ -1,5 +1,5 @@
 -- Values of unions that keep their member.
-use Rattle.std.proofs.Common.{◌≡◌, ◌∙◌, sym, ap, subst, refl, ℕ, zero, suc, ◌+◌, ◌-◌, ◌<◌, arith, Bool, true, false, List, [], ◌∷◌, length, drop, get_or, Option, Some, None, IsSome}
+use Rattle.std.proofs.Common.{◌≡◌, ◌∙◌, sym, ap, subst, refl, ℕ, zero, suc, ◌+◌, ◌<◌, arith, Bool, true, false, List, [], ◌∷◌, length, drop, get_or, Option, Some, None, IsSome}
 use Rattle.std.specs.Prelude.{pos, ℤ, nat_eq, IfSome, find, cond, option_and_then, unwrap_or}
 use Rattle.std.proofs.lemmas.Bool.Decides.{nat_tests}
 use Rattle.hare_types.specs.declared.coercion.Ty.TheVariants as ty

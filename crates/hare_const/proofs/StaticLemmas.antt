@@ -22,11 +22,12 @@ use Rattle.hare_typed.specs.ConstantValues.{constant_object, listed_objects, obj
 use Rattle.hare_typed.specs.Folded.{leads, cells_named, cells_of_named, reached_in, with_cells_of, objects_behind, tagged_by_id, folded_from, folded, inconstant}
 use Rattle.hare_const.specs.NodeValues.{cells_in}
 use Rattle.hare_const.specs.Settled.{IsSettled}
-use Rattle.hare_const.specs.Statics.{scope_in, held, statics_in, statics_in_each, objects_in, objects_led_to, cells_found, cells_by, reached_by, listed_by}
+use Rattle.hare_const.specs.Texts.{cells_found}
+use Rattle.hare_const.specs.Statics.{scope_in, held, statics_in, statics_in_each, IsCoherent, objects_in, objects_led_to, cells_by, reached_by, listed_by}
 use Rattle.hare_const.proofs.Shown.Trees.{plain_from}
 use Rattle.hare_const.proofs.Tagged.{tagged_settled, constant_there}
 use Rattle.hare_types.specs.Sound.{IsStore}
-use Rattle.hare_const.proofs.Shown.Made.{held-append}
+use Rattle.hare_const.proofs.Shown.Texts.{held-append, held_listed}
 use Rattle.hare_const.proofs.Shown.MadeTrees.{made_shown}
 use Rattle.hare_typed.proofs.KidLemmas.{take-get}
 
@@ -89,10 +90,6 @@ held_behind os cs =
     ∙ sym (behind_same (listed_objects (held os)) find (found_same (held os)) cs)
 
 -- ---- the objects that stand in a tree
-
-pub held_listed : (os : List ConstObject) → held (listed_objects os) ≡ os
-held_listed [] = refl
-held_listed (o ∷ os) = ap (λ l. o ∷ l) (held_listed os)
 
 pub statics_parts : (own : ℕ) (t : TypedNode) →
     (held (text_object (scope_in own) t (own_kind t)) ++ held (objects_of (mark_of t).value)) ++ statics_in_each own (kids_of t) ≡
@@ -208,10 +205,10 @@ from_objects os (Value ds, st) cs m e =
 from_objects os (_, st) cs m e = absurd cc
 
 -- the constant with these cells
-pub folded_known : (s : Store) → IsStore s → (own : ℕ) (t : TypedNode) (cs : List Cell) → IsSettled s t →
+pub folded_known : (s : Store) → IsStore s → (own : ℕ) (t : TypedNode) (cs : List Cell) → IsSettled s t → IsCoherent own t →
     cells_in (folded s own t) ≡ Some cs →
     folded s own t ≡ constant.Known cs (objects_led_to (objects_in (tagged_by_id s) own t) cs)
-folded_known s v own t cs p e = by (inconstant s own t) refl e
+folded_known s v own t cs p c e = by (inconstant s own t) refl e
   where
     by : (o : Option TypedNode) → inconstant s own t ≡ o →
         cells_in (elim o [ None ↦ folded_from (constant_result (tagged_by_id s) own t) | Some u ↦ constant.Absent ]) ≡ Some cs →
@@ -219,6 +216,6 @@ folded_known s v own t cs p e = by (inconstant s own t) refl e
         ≡ constant.Known cs (objects_led_to (objects_in (tagged_by_id s) own t) cs)
     by None q g =
         from_objects (objects_in (tagged_by_id s) own t) (constant_result (tagged_by_id s) own t) cs
-        (λ ds. made_shown (tagged_by_id s) own t (constant_there s v own t p q)
-        (plain_from (tagged_by_id s) t (tagged_settled s v own t p).simple) ds) g
+        (λ ds. made_shown (tagged_by_id s) own t (constant_there s v own t p c q)
+        (plain_from (tagged_by_id s) t (tagged_settled s v t p).simple) c ds) g
     by (Some u) q g = absurd cc

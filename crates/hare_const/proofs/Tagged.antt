@@ -20,8 +20,9 @@ use Rattle.hare_typed.specs.ConstantForms.{counted_from}
 use Rattle.hare_typed.specs.State.{Result}
 use Rattle.hare_typed.specs.ConstantValues.{constant_result}
 use Rattle.hare_typed.specs.Folded.{tagged_by_id, aborts, inconstant, folded_from, folded}
-use Rattle.hare_const.specs.NodeValues.{tree_value, IsSimple, AreSimple, is_aborted, first_refused, Refuses, cells_in, cells_of}
+use Rattle.hare_const.specs.NodeValues.{tree_value, IsPlain, IsSimple, AreSimple, is_aborted, first_refused, Refuses, cells_in, cells_of}
 use Rattle.hare_const.specs.Settled.{HasBases, HaveBases, IsSettled}
+use Rattle.hare_const.specs.Statics.{IsCoherent}
 use Rattle.hare_const.proofs.LaterTypes.{has_base, in_store}
 use Rattle.hare_const.proofs.LaterNodes.{around, first-base, simple_stays, plain_stays, constant_same}
 use Rattle.hare_const.proofs.LaterUnions.{SameTags, joins_stay}
@@ -146,17 +147,20 @@ folded-none : (o : Option TypedNode) (r : Result) → o ≡ None →
 folded-none None r e = refl
 folded-none (Some u) r e = absurd cc
 
-module _ (s : Store) (v : IsStore s) (own : ℕ) (t : TypedNode) (p : IsSettled s t) where
+pub tagged_settled : (s : Store) → IsStore s → (t : TypedNode) → IsSettled s t → IsSettled (tagged_by_id s) t
+tagged_settled s v t p = settled_stays s (tagged_by_id s) v (tagged_later s v) t p
+
+module _ (s : Store) (v : IsStore s) (own : ℕ) (t : TypedNode) (p : IsSettled s t) (c : IsCoherent own t) where
   abbrev there : Store
   there = tagged_by_id s
 
-  pub tagged_settled : IsSettled (tagged_by_id s) t
-  tagged_settled = settled_stays s there v (tagged_later s v) t p
+  abbrev plain : IsPlain there t
+  plain = plain_from there t (tagged_settled s v t p).simple
 
   pub refused_same : inconstant s own t ≡ first_refused s own t
   refused_same =
       sym (first_same s there v (tagged_later s v) (aborts s own) (aborts s own) t p.bases (λ u q k. refl) p.simple)
-      ∙ inconstant_same there own t (plain_from there t tagged_settled.simple)
+      ∙ inconstant_same there own t plain c
       ∙ first_same s there v (tagged_later s v) (λ u. is_aborted (tree_value there own u)) (λ u. is_aborted (tree_value there own u)) t
       p.bases
       (λ u q k. refl) p.simple
@@ -175,7 +179,7 @@ module _ (s : Store) (v : IsStore s) (own : ℕ) (t : TypedNode) (p : IsSettled 
         none,
         folded-none (inconstant s own t) (constant_result there own t) none
             ∙ folded-cells (constant_result there own t)
-            ∙ ap cells_of (value_shown there own t (constant_there none) (plain_from there t tagged_settled.simple)),
+            ∙ ap cells_of (value_shown there own t (constant_there none) plain c),
       )
 
   pub folded_refused : (e : Stop Fault) → Refuses (first_refused s own t) e → Refuses (inconstant s own t) e

@@ -5,9 +5,10 @@ pub mod Lengths
 pub mod Covering
 pub mod Sizes
 pub mod Joined
+pub mod Texts
 pub mod NodeValues
 pub mod Coerced
 pub mod Made
-pub mod Settled
 pub mod Statics
 pub mod Placing
+pub mod Settled

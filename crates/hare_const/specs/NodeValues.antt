@@ -1,5 +1,5 @@
--- The value of a typed tree, where no program runs and no object is looked at: each kind of which constants are made gives it from the
--- values of its kids.
+-- The value of a typed tree, where no program runs: each kind of which constants are made gives it from the values of its kids, and an
+-- equality of texts from their bytes.
 use Rattle.std.specs.List.{All}
 use Rattle.std.specs.Prelude.{◌≡◌, ◌<◌, ℕ, zero, suc, ◌+◌, ◌-◌, ◌*◌, ◌^◌, pos, ℤ, Bool, true, false, not, ◌&&◌, bytes_eq, codes, List, [], ◌∷◌, ◌++◌, length, Option, Some, None, is_some, option_and_then, if◌then◌else◌}
 use Rattle.hare_tree.specs.declared.kind.Kind.{Kind}
@@ -38,6 +38,7 @@ use Rattle.hare_typed.specs.Folded.{tagged_by_id}
 use Rattle.hare_const.specs.Joined.{Joins}
 use Rattle.hare_const.specs.Operators.{IsWidth}
 use Rattle.hare_const.specs.Sizes.{Fits, HasPart}
+use Rattle.hare_const.specs.Texts.{text_of_kid, bytes_told, AreTexts}
 use Rattle.hare_const.specs.declared.operands.Operands.{Operands}
 use Rattle.hare_const.specs.declared.operands.Operands.TheVariants.{NoKid, OneKid, TwoKids, RightIfOpen, Components, Fields, Elements}
 use Rattle.hare_const.specs.declared.outcome.Outcome.{Outcome}
@@ -122,9 +123,17 @@ shift_value s t a b =
 abbrev pub order_value : Store → TypedNode → List Cell → List Cell → List Cell
 order_value s t a b = bool_cells (in_order (order_of (head_of t).text) (number_of_kid s t 0 a) (number_of_kid s t 1 b))
 
--- of two numbers
+-- two texts are equal where their bytes are
+abbrev pub same_texts : TypedNodes → Bool
+same_texts ts = bytes_eq (bytes_told (text_of_kid 0 ts)) (bytes_told (text_of_kid 1 ts))
+
+-- whether the operands are equal: texts, or else numbers or bools
+abbrev pub same_operands : Store → TypedNode → List Cell → List Cell → Bool
+same_operands s t a b =
+    if is_str s (type_of_kid 0 t) then same_texts (kids_of t) else same_number (number_of_kid s t 0 a) (number_of_kid s t 1 b)
+
 abbrev pub equality_value : Store → TypedNode → List Cell → List Cell → List Cell
-equality_value s t a b = bool_cells (by_equality (head_of t).text (same_number (number_of_kid s t 0 a) (number_of_kid s t 1 b)))
+equality_value s t a b = bool_cells (by_equality (head_of t).text (same_operands s t a b))
 
 -- `!`
 abbrev pub denial : List Cell → List Cell
@@ -318,13 +327,13 @@ HasNumber s t = is_iconst (own_type t) ≡ false → IsWidth (int_in s (own_type
 abbrev pub HasNumbers : Store → TypedNode → Type 0
 HasNumbers s t = HasNumber s t × (is_iconst (own_type t) ≡ false → is_iconst (type_of_kid 1 t) ≡ false)
 
--- an equality compares numbers or bools, and a global whose address is taken is a place
+-- the texts that an equality compares are told, and a global whose address is taken is a place
 abbrev pub PlainKind : Store → Kind → TypedNodes → Type 0
-PlainKind s kind.Equal ts = is_str s (first_given ts) ≡ false
+PlainKind s kind.Equal ts = is_str s (first_given ts) ≡ true → AreTexts ts
 PlainKind s kind.Addr ts = begins_with_global ts ≡ true → first_is_place s ts ≡ true
 PlainKind s _ ts = Unit {0}
 
--- no value of the tree rests on what an object holds
+-- the same of each node of the tree
 abbrev mutual
   pub IsPlain : Store → TypedNode → Type 0
   IsPlain s (marked h m ts) = PlainKind s h.kind ts × ArePlain s ts
@@ -362,8 +371,8 @@ AskedKind s t kind.StructLit = HasParts s (own_type t) (fields_given s t)
 AskedKind s t kind.Offset = HasParts s (type_with_offset s t) (part_with_offset s t ∷ [])
 AskedKind s t _ = Unit {0}
 
--- The tree compares no texts; its types are those of the store, and of the unions to which its values go all is known of which these are
--- made.
+-- The texts that the tree compares are told; its types are those of the store, and of the unions to which its values go all is known of
+-- which these are made.
 abbrev mutual
   pub IsSimple : Store → TypedNode → Type 0
   IsSimple s (marked h m ts) =

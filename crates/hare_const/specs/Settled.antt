@@ -10,6 +10,7 @@ use Rattle.hare_typed.specs.Typed.{TypedNode, TypedNodes, marked, typed_none, ty
 use Rattle.hare_typed.specs.Constants.{own_kind}
 use Rattle.hare_typed.specs.Folded.{tagged_by_id, folded, inconstant}
 use Rattle.hare_const.specs.Joined.{Joins}
+use Rattle.hare_const.specs.Statics.{IsCoherent}
 use Rattle.hare_const.specs.NodeValues.{tree_value, AskedKind, PlainKind, IsSimple, cells_in}
 
 -- ---- types
@@ -60,4 +61,5 @@ pub record KeepsConstant (now later : Store) (own : ℕ) (t : TypedNode) : Type 
 
 abbrev pub ConstantsStay : Type 0
 ConstantsStay =
-    (now later : Store) → IsStore now → IsLater now later → (own : ℕ) (t : TypedNode) → IsSettled now t → KeepsConstant now later own t
+    (now later : Store) → IsStore now → IsLater now later → (own : ℕ) (t : TypedNode) → IsSettled now t → IsCoherent own t →
+    KeepsConstant now later own t

@@ -1,16 +1,18 @@
 -- The objects to which a constant may lead: those of strings and of constants that stand in its tree, and those that its evaluation makes.
-use Rattle.std.specs.Prelude.{◌≡◌, ℕ, zero, suc, nat_eq, List, [], ◌∷◌, ◌++◌, flat_map, Contains, Option, Some, None, option_map, unwrap_or}
-use Rattle.std.specs.Map.{lookup}
+use Rattle.std.specs.Prelude.{◌≡◌, ℕ, zero, suc, Bool, true, false, ◌||◌, List, [], ◌∷◌, ◌++◌, flat_map, Contains, Option, Some, None, unwrap_or}
+use Rattle.hare_tree.specs.declared.kind.Kind.{Kind}
+use Rattle.hare_tree.specs.declared.kind.Kind.TheVariants as kind
 use Rattle.hare_types.specs.Store.{Store}
 use Rattle.hare_types.specs.Unions.{put_all}
 use Rattle.hare_typed.specs.declared.cell.Cell.{Cell}
 use Rattle.hare_typed.specs.declared.constant.ConstObject.{ConstObject}
 use Rattle.hare_typed.specs.Objects.{Object}
-use Rattle.hare_typed.specs.Typed.{TypedNode, TypedNodes}
+use Rattle.hare_typed.specs.Typed.{TypedNode, TypedNodes, marked, typed_none, typed_more}
 use Rattle.hare_typed.specs.State.{Scope}
 use Rattle.hare_typed.specs.ConstantValues.{listed_objects, statics, statics_of_each}
 use Rattle.hare_typed.specs.Folded.{leads, objects_behind}
 use Rattle.hare_const.specs.Made.{made_by}
+use Rattle.hare_const.specs.Texts.{AreCoherent}
 
 -- where the value of a declaration is evaluated
 abbrev pub scope_in : (own : ℕ) → Scope
@@ -34,10 +36,6 @@ objects_in s own t = statics_in own t ++ made_by s own t
 -- those of them to which cells lead, directly or through such objects
 abbrev pub objects_led_to : List ConstObject → List Cell → List ConstObject
 objects_led_to os cs = objects_behind (listed_objects os) cs
-
--- the cells of the first object with this number
-abbrev pub cells_found : List ConstObject → ℕ → Option (List Cell)
-cells_found os n = option_map (λ o. o.cells) (lookup (nat_eq n) (listed_objects os))
 
 -- ---- what is reached where the cells of objects are looked up
 
@@ -65,3 +63,22 @@ pub record Adds (ns old new : List ℕ) : Type 0 where
   pub behind : new ≡ old ++ others
   pub all : (n : ℕ) → Contains ns n → Contains new n
   pub only : (n : ℕ) → Contains others n → Contains ns n
+
+-- ---- trees that compare
+
+abbrev pub is_equality : Kind → Bool
+is_equality kind.Equal = true
+is_equality _ = false
+
+-- an equality stands in the tree
+abbrev mutual
+  pub has_equality : TypedNode → Bool
+  has_equality (marked h m ts) = is_equality h.kind || has_equality_each ts
+
+  pub has_equality_each : TypedNodes → Bool
+  has_equality_each typed_none = false
+  has_equality_each (typed_more t ts) = has_equality t || has_equality_each ts
+
+-- Where a tree compares, its objects with one number have the same cells: so it does not matter in which of them a text is looked up.
+abbrev pub IsCoherent : (own : ℕ) → TypedNode → Type 0
+IsCoherent own t = has_equality t ≡ true → AreCoherent (statics_in own t)

@@ -17,7 +17,8 @@ use crate::operators::{
     leaves_open, negated, same_number, shifted,
 };
 use crate::outcome::Outcome;
-use crate::shape::{Shape, shape_at};
+use crate::shape::{Shape, is_str, shape_at};
+use crate::texts::same_texts;
 use hare_typed::{Cell, Cells, Typed};
 use hare_types::{Ty, TypeId, TypeStore};
 use std::alloc::{AllocError, Global};
@@ -152,7 +153,23 @@ pub(crate) fn order_value(
     bool_cells(alloc, in_order(order, x, y))
 }
 
-/// The value of `==` or `!=` between two numbers or bools.
+/// Whether two operands are equal: two texts where their bytes are, and else two numbers or bools.
+fn same_operands(
+    alloc: Global,
+    s: &TypeStore,
+    t: &Typed,
+    left: &Cells,
+    right: &Cells,
+) -> Result<bool, AllocError>
+    ensures { IfOk result (λ b. b ≡ spec.same_operands s.now t.now left.now right.now) }
+{
+    if is_str(s, type_of_kid(t, 0)) {
+        return same_texts(alloc, t);
+    }
+    Ok(same_number(number_of_kid(s, t, 0, left), number_of_kid(s, t, 1, right)))
+}
+
+/// The value of `==` or `!=` between two texts, numbers or bools.
 pub(crate) fn equality_value(
     alloc: Global,
     s: &TypeStore,
@@ -162,7 +179,7 @@ pub(crate) fn equality_value(
 ) -> Result<Cells, AllocError>
     ensures { IfOk result (λ cs. cs ≡ spec.equality_value s.now t.now left.now right.now) }
 {
-    let same = same_number(number_of_kid(s, t, 0, left), number_of_kid(s, t, 1, right));
+    let same = same_operands(alloc, s, t, left, right)?;
     let asks_equal = t.text.bytes() == b"==".as_slice();
     bool_cells(alloc, same == asks_equal)
 }

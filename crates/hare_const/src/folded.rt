@@ -7,7 +7,9 @@ ghost use Rattle.hare_typed.specs.Folded.{tagged_by_id, folded, inconstant};
 ghost use Rattle.hare_const.specs.Made.{made_by};
 ghost use Rattle.hare_const.specs.NodeValues as spec;
 ghost use Rattle.hare_const.specs.Settled.{IsSettled};
+ghost use Rattle.hare_const.specs.Statics.{IsCoherent};
 
+use crate::coherent::is_coherent;
 use crate::outcome::Outcome;
 use crate::reached::objects_led_to;
 use crate::settled::is_settled;
@@ -38,6 +40,7 @@ fn cells_and_objects(
 ) -> Result<Option<Cells>, Stop<Fault>>
     requires own { own < 2 ^ 32 - 1 }
     requires settled { IsSettled s.now t.now }
+    requires coherent { IsCoherent own t.now }
     ensures ok { IfOk result (λ cells. (inconstant s.now own t.now ≡ None) × (spec.cells_in (folded s.now own t.now) ≡ cells)) }
     ensures objects { OnOk result (objects.new ≡ objects.old ++ made_by (tagged_by_id s.now) own t.now) }
     ensures err { IfErr result (spec.Refuses (inconstant s.now own t.now)) }
@@ -68,6 +71,9 @@ pub fn constant_cells(
     if !is_settled(s, t) {
         return Err(Stop::Memory);
     }
+    if !is_coherent(alloc, own, t)? {
+        return Err(Stop::Memory);
+    }
     let mut made = ConstObjects::new(alloc);
     cells_and_objects(alloc, s, own, t, &mut made)
 }
@@ -77,16 +83,20 @@ pub fn constant_cells(
 ///
 /// Where the store or the tree tells too little, the answer is want of memory: so it is of a tree with a type that comes to a name which is not
 /// defined, or with a tuple or struct whose size is not known to be at most 67,108,864 bytes, or with parts that its type has not; of a value that goes to a
-/// union of which, or of whose members, so much is not known; and of cells that
-/// lead to objects which are not there, where there are more of these than there are objects. It is so also of what the crate does not work out yet:
-/// equalities of texts. The tag of a type in a union is one more than its id, in each store. The time is that of the tree and of the cells, and n log n
-/// in the objects.
+/// union of which, or of whose members, so much is not known; of cells that
+/// lead to objects which are not there, where there are more of these than there are objects; and of a tree with an equality in which objects with one
+/// number have other cells. It is so also of what the crate does not work out yet: an equality of texts of which one is no string and no name of a
+/// def, in parentheses or not. The tag of a type in a union is one more than its id, in each store. The time is that of the tree and of the cells, and
+/// n log n in the objects; where there is an equality, that of the cells of the objects too.
 pub fn constant(alloc: Global, s: &TypeStore, own: u32, t: &Typed) -> Result<Const, AllocError>
     requires own { own < 2 ^ 32 - 1 }
     ensures { IfOk result (λ c. (l : Store) → IsLater s.now l → c ≡ folded l own t.now) }
 {
     let _law = s.declarations();
     if !is_settled(s, t) {
+        return Err(AllocError);
+    }
+    if !is_coherent(alloc, own, t)? {
         return Err(AllocError);
     }
     let mut objects = ConstObjects::new(alloc);

@@ -6,6 +6,7 @@ mod array;
 mod calculated;
 mod casts;
 mod coercions;
+mod coherent;
 mod constancy;
 mod cover;
 mod folded;
@@ -32,10 +33,12 @@ mod table;
 mod taken;
 #[cfg(test)]
 mod tests;
+mod texts;
 mod unions;
 mod walk;
 mod words;
 
+pub use coherent::is_coherent;
 pub use cover::{Limits, covers, limits_at};
 pub use folded::{constant, constant_cells};
 pub use laws::law_constants_stay;

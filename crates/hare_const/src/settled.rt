@@ -6,7 +6,6 @@ ghost use Rattle.hare_tree.specs.declared.kind.Kind.TheVariants as kind;
 ghost use Rattle.hare_types.specs.declared.coercion.Ty.TheVariants as ty;
 ghost use Rattle.hare_typed.specs.Typed.{typed_nodes, kids_of};
 ghost use Rattle.hare_typed.specs.Constants.{own_kind};
-ghost use Rattle.hare_typed.specs.Given.{is_str as str_type};
 ghost use Rattle.hare_typed.specs.ConstantForms.{own_type, int_in, is_iconst as iconst};
 ghost use Rattle.hare_const.specs.Operators.{IsWidth};
 ghost use Rattle.hare_const.specs.Sizes.{Fits, HasPart};
@@ -18,11 +17,12 @@ use crate::joined::joins;
 use crate::kids::{first_given, type_of_kid};
 use crate::measures::{part_with_offset, type_with_offset};
 use crate::parts::part_named;
-use crate::shape::{Shape, base_row, shape_at};
+use crate::shape::{Shape, is_str, shape_at};
 use crate::sizes::{fits, has_part, part_count};
+use crate::texts::are_texts;
 use hare_tree::Kind;
 use hare_typed::{Typed, TypedKids};
-use hare_types::{Row, Scalar, Ty, TypeId, TypeStore};
+use hare_types::{Ty, TypeId, TypeStore};
 
 /// Literals below this are numbers of some type.
 const END_OF_NUMBERS: u128 = 1 << 127;
@@ -80,16 +80,6 @@ fn is_sized(s: &TypeStore, t: Ty) -> bool
         Ty::Of(t) => fits(s, t),
         Ty::Iconst(_) | Ty::Null | Ty::Empty => true,
     }
-}
-
-/// Whether the base of a type is str.
-fn is_str(s: &TypeStore, t: Ty) -> bool
-    ensures { result ≡ str_type s.now t }
-{
-    let Ty::Of(t) = t else {
-        return false;
-    };
-    matches!(base_row(s, t), Some(Row::Scalar(Scalar::Str)))
 }
 
 /// Whether a type that fits has so many parts.
@@ -176,12 +166,12 @@ fn begins_with_place(s: &TypeStore, t: &Typed) -> bool
     has_base(s, kid.ty) && !names_void(s, kid.meaning, kid.ty)
 }
 
-/// Whether a node is no equality of texts, and no address of what is no place.
+/// Whether the texts are told that a node compares, and it is no address of what is no place.
 fn is_plain_kind(s: &TypeStore, t: &Typed) -> bool
     ensures { result ≡ true → values.PlainKind s.now (own_kind t.now) (kids_of t.now) }
 {
     match t.kind {
-        Kind::Equal => !is_str(s, first_given(t)),
+        Kind::Equal => !is_str(s, first_given(t)) || are_texts(t),
         Kind::Addr => begins_with_place(s, t),
         _ => true,
     }

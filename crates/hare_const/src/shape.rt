@@ -2,11 +2,11 @@
 
 ghost use Rattle.std.specs.Prelude.{◌≡◌, ◌≤◌, option_copied, option_map, IfSome};
 ghost use Rattle.hare_types.specs.declared.coercion.Ty.TheVariants as ty;
-ghost use Rattle.hare_typed.specs.Given.{base_row};
+ghost use Rattle.hare_typed.specs.Given.{base_row, is_str as str_type};
 ghost use Rattle.hare_typed.specs.Shapes as spec;
 ghost use Rattle.hare_const.specs.Shapes.{shape_of, IsNarrow};
 
-use hare_types::{Row, Scalar, TypeId, TypeStore};
+use hare_types::{Row, Scalar, Ty, TypeId, TypeStore};
 
 /// What is needed of a scalar type.
 #[derive(Clone, Copy, Debug, PartialEq, Eq)]
@@ -27,6 +27,16 @@ pub(crate) fn base_row(s: &TypeStore, t: TypeId) -> Option<&Row>
 {
     let b = s.base(t)?;
     Some(s.row(b))
+}
+
+/// Whether the base of a type is str.
+pub(crate) fn is_str(s: &TypeStore, t: Ty) -> bool
+    ensures { result ≡ str_type s.now t }
+{
+    let Ty::Of(t) = t else {
+        return false;
+    };
+    matches!(base_row(s, t), Some(Row::Scalar(Scalar::Str)))
 }
 
 /// The shape of a type that is one word.

@@ -1,10 +1,10 @@
 //! What words say: pointers, and the three words of a text.
 
-ghost use Rattle.std.specs.Prelude.{◌≡◌, ◌+◌, ◌≤◌, length, true, is_some, IsSome, IfSome};
+ghost use Rattle.std.specs.Prelude.{◌≡◌, ◌+◌, ◌≤◌, length, true, is_some, Some, IsSome, IfSome};
 ghost use Rattle.hare_typed.specs.Answers.{Gives, ◌then◌};
 ghost use Rattle.hare_typed.specs.Cells as cells_of;
 ghost use Rattle.hare_typed.specs.Cells.{cells_within};
-ghost use Rattle.hare_typed.specs.Scalars.{Nullable, Reference, spelled};
+ghost use Rattle.hare_typed.specs.Scalars.{Address, Pointing, Nullable, Reference, spelled};
 ghost use Rattle.hare_typed.specs.Words as spec;
 
 use crate::number::little_endian;
@@ -116,4 +116,53 @@ pub(crate) fn length_of_text(cells: &Cells) -> Option<u64>
     let length = size_at(cells, WORD)?;
     let _capacity = size_at(cells, 2 * WORD)?;
     Some(length)
+}
+
+/// What the three words of a text say that is not null.
+#[derive(Clone, Copy, Debug, PartialEq, Eq)]
+pub(crate) struct Text {
+    /// The object that has its bytes.
+    pub object: u64,
+    /// The offset of the first of them.
+    pub offset: u64,
+    /// How many they are.
+    pub length: u64,
+    /// For how many there is room.
+    pub capacity: u64,
+}
+
+/// The object and the offset to which the first word of cells leads; none where it is no pointer, or null.
+fn first_address(cells: &Cells) -> Option<(u64, u64)>
+    ensures { IfSome result (λ p. spelled Nullable (cells_within 0 8 cells.now) ≡ Some (Pointing (Address p.0 p.1))) }
+{
+    let mut word = [Cell::Undef; WORD];
+    if !cells.read(0, &mut word) {
+        return None;
+    }
+    let (first, _) = word.split_first()?;
+    match *first {
+        Cell::Fragment(object, offset, _) => {
+            if are_fragments(object, offset, 0, &word) {
+                Some((object, offset))
+            } else {
+                None
+            }
+        }
+        Cell::Byte(_) | Cell::Undef => None,
+    }
+}
+
+/// What the three words of a text say; none where the cells are no three words, or where the pointer is null.
+pub(crate) fn text_words(cells: &Cells) -> Option<Text>
+    ensures { IfSome result (λ x. spec.words cells.now ≡ Gives (record { data_at = Address x.object x.offset; length = x.length; capacity = x.capacity })) }
+{
+    let (object, offset) = first_address(cells)?;
+    let length = size_at(cells, WORD)?;
+    let capacity = size_at(cells, 2 * WORD)?;
+    Some(Text {
+        object,
+        offset,
+        length,
+        capacity,
+    })
 }

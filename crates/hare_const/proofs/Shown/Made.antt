@@ -1,7 +1,7 @@
 -- The objects that the evaluation of a constant makes are those of its tree.
 use Rattle.std.proofs.Common.{◌≡◌, ◌∙◌, ℕ, zero, suc, Bool, true, false, List, [], ◌∷◌, ◌++◌, refl, ap, ap₂, sym, subst, append_assoc, append-nil, arith, ◌≤◌, ◌<◌}
 use Rattle.std.proofs.lemmas.Bool.Decides.{nat_tests}
-use Rattle.std.specs.Prelude.{◌+◌, ℤ, pos, nat_le, nat_lt, ◌==◌, ◌&&◌, ◌||◌, is_some, Option, Some, None, if◌then◌else◌}
+use Rattle.std.specs.Prelude.{◌+◌, ◌/◌, ℤ, pos, nat_eq, nat_le, nat_lt, ◌==◌, ◌&&◌, ◌||◌, is_some, Option, Some, None, option_and_then, if◌then◌else◌}
 use Rattle.hare_tree.specs.Node.{Head}
 use Rattle.hare_tree.specs.declared.kind.Kind.{Kind}
 use Rattle.hare_tree.specs.declared.kind.Kind.TheVariants as kind
@@ -17,31 +17,29 @@ use Rattle.hare_typed.specs.Weight.{items_of}
 use Rattle.hare_typed.specs.Answers.{Answer, Gives, Aborts as aborts, IsUndefined}
 use Rattle.hare_typed.specs.Arithmetic.{shift_of, shifted, logic_of, leaves_open, logic, same_number}
 use Rattle.hare_typed.specs.Scalars.{Pointer, Address}
-use Rattle.hare_typed.specs.Words.{Words, words}
-use Rattle.hare_typed.specs.Objects.{Object}
-use Rattle.hare_typed.specs.State.{State, Scope, AsValue, AsPlace, Outcome as End, Value, Reached, Result}
-use Rattle.hare_typed.specs.Acts.{Act, end, make, tick}
+use Rattle.hare_typed.specs.Words.{Words, words, same_text}
+use Rattle.hare_typed.specs.Shapes.{shape_of_row}
+use Rattle.hare_typed.specs.Objects.{Object, reading}
+use Rattle.hare_typed.specs.State.{Memory, State, Scope, AsValue, AsPlace, Outcome as End, Value, Reached, Result}
+use Rattle.hare_typed.specs.Acts.{Act, end, look, make, tick}
 use Rattle.hare_typed.specs.Interpreter.{Tasks, Kids, after, act, with_objects, made_object}
 use Rattle.hare_typed.specs.World.{World, static_number, answered}
 use Rattle.hare_typed.specs.Sequence.{on_value, on_place, value, place, values}
 use Rattle.hare_typed.specs.Evaluated.{ticks_of_value, with_coercion, slice_over, array_object, coerced_from, as_coerced, by_value}
-use Rattle.hare_typed.specs.ConstantForms.{own_type, int_in, constant_cells, is_iconst, arith_answer, Equality, OfNumbers, OfPointers, OfTexts, with_equality, equality_of, type_of_kid, is_array_row, bool_cells, truth}
+use Rattle.hare_typed.specs.ConstantForms.{own_type, int_in, constant_cells, is_iconst, arith_answer, Equality, OfNumbers, OfPointers, OfTexts, with_equality, with_texts, equality_of_shape, equality_of, type_of_kid, is_array_row, bool_cells, truth}
 use Rattle.hare_typed.specs.ConstantValues.{without_run, constant_form}
 use Rattle.hare_typed.specs.Coercions.{sliced_element, length_of_value, coerced}
 use Rattle.hare_const.specs.declared.operands.Operands.TheVariants.{NoKid, OneKid, TwoKids, RightIfOpen, Components, Fields, Elements}
 use Rattle.hare_const.specs.declared.outcome.Outcome.{Outcome}
 use Rattle.hare_const.specs.declared.outcome.Outcome.TheVariants.{Known}
-use Rattle.hare_const.specs.NodeValues.{on_cells, on_answer, kid_at, kids_at, object_number, literal_text, numbered, number_of_kid, array_length_value, declared_by, operands_of, unary_value, binary_value, operator_value, kind_value, slice_of, cells_known, array_value, tuple_value, struct_value}
+use Rattle.hare_const.specs.NodeValues.{on_cells, on_answer, kid_at, kids_at, object_number, literal_text, numbered, number_of_kid, same_texts, same_operands, array_length_value, declared_by, operands_of, unary_value, binary_value, operator_value, kind_value, slice_of, cells_known, array_value, tuple_value, struct_value}
 use Rattle.hare_const.specs.Made.{is_open, is_taken, taken_from, made_by_kids, own_object, made_of_value}
 use Rattle.hare_const.specs.Statics.{held}
-use Rattle.hare_const.proofs.Shown.Acts.{shown, Shows}
-use Rattle.hare_const.proofs.Shown.Forms.{homed-same}
+use Rattle.hare_const.proofs.Shown.Acts.{Has, has_more, Shown, Shows}
+use Rattle.hare_const.proofs.Shown.Texts.{held-append}
+use Rattle.hare_const.proofs.Shown.Forms.{homed-same, Compares, IsCompared, numbers, texts, as_equal, Places}
 
 -- ---- lists
-
-pub held-append : (xs ys : List (ℕ × Object)) → held (xs ++ ys) ≡ held xs ++ held ys
-held-append [] ys = refl
-held-append (x ∷ xs) ys = ap (λ l. record { object = x.0; cells = x.1.cells } ∷ l) (held-append xs ys)
 
 -- that of the list with so many before it
 abbrev pub made_at : ℕ → List (List ConstObject) → List ConstObject
@@ -60,21 +58,23 @@ made_each i (suc n) ms = made_at i ms ++ made_each (suc i) n ms
 abbrev pub named_in : State → List ConstObject
 named_in st = held st.memory.objects.named
 
--- an evaluation that ends with cells makes these objects
-abbrev pub MakesThese : (own : ℕ) → (Scope → State → Result) → List ConstObject → Type 0
-MakesThese own m new =
-    (sc : Scope) (st : State) (cs : List Cell) → sc.own ≡ own → (m sc st).0 ≡ Value cs → named_in (m sc st).1 ≡ named_in st ++ new
+-- in a state with these objects an evaluation that ends with cells makes those
+abbrev pub MakesThese : List ConstObject → (own : ℕ) → (Scope → State → Result) → List ConstObject → Type 0
+MakesThese held own m new =
+    (sc : Scope) (st : State) (cs : List Cell) → sc.own ≡ own → Has held st.memory → (m sc st).0 ≡ Value cs →
+    named_in (m sc st).1 ≡ named_in st ++ new
 
-module _ (ks : Kids) (less : Tasks) where
-  -- where the act ends with cells, it makes these objects
+module _ (old : List ConstObject) (ks : Kids) (less : Tasks) where
+  -- in a state with the old objects the act makes these, where it ends with cells
   pub record Makes (a : Act) (new : List ConstObject) : Type 0 where
-    pub named : (st : State) (cs : List Cell) → (act ks less a st).0 ≡ Value cs → named_in (act ks less a st).1 ≡ named_in st ++ new
+    pub named : (st : State) (cs : List Cell) → Has old st.memory → (act ks less a st).0 ≡ Value cs →
+        named_in (act ks less a st).1 ≡ named_in st ++ new
 
   pub makes_as : (a : Act) (new new' : List ConstObject) → new ≡ new' → Makes a new → Makes a new'
   makes_as a new new' e h = subst (Makes a) e h
 
   pub makes_end : (o : End) → Makes (end o) []
-  makes_end o = record { named = λ st cs e. sym (append-nil (named_in st)) }
+  makes_end o = record { named = λ st cs p e. sym (append-nil (named_in st)) }
 
   pub makes_tick : (n : ℕ) (a : Act) (new : List ConstObject) → Makes a new → Makes (tick n a) new
   makes_tick n a new h = record { named = λ st. h.named (record st { ticks = st.ticks + n }) }
@@ -82,8 +82,8 @@ module _ (ks : Kids) (less : Tasks) where
   pub makes_make : (name : ℕ) (b : Object) (f : ℕ → Act) (new : List ConstObject) → Makes (f name) new →
       Makes (make (Some name) b f) (record { object = name; cells = b.cells } ∷ new)
   makes_make name b f new h = record {
-    named = λ st cs e.
-        h.named (with_objects st (made_object (Some name) b st.memory.objects)) cs e
+    named = λ st cs p e.
+        h.named (with_objects st (made_object (Some name) b st.memory.objects)) cs (has_more old st name b p) e
         ∙ ap (λ l. l ++ new) (held-append st.memory.objects.named ((name, b) ∷ []))
         ∙ append_assoc (named_in st) (record { object = name; cells = b.cells } ∷ []) new;
   }
@@ -91,22 +91,34 @@ module _ (ks : Kids) (less : Tasks) where
   pub makes_answered : {A : Type 0} (w : World) (h : Head) (a : Answer A) (k : A → Act) (new : List ConstObject) →
       ((x : A) → a ≡ Gives x → Makes (k x) new) → Makes (answered w h a k) new
   makes_answered w h (Gives x) k new f = f x refl
-  makes_answered w h (aborts r) k new f = record { named = λ st cs e. absurd cc }
-  makes_answered w h (IsUndefined u) k new f = record { named = λ st cs e. absurd cc }
+  makes_answered w h (aborts r) k new f = record { named = λ st cs p e. absurd cc }
+  makes_answered w h (IsUndefined u) k new f = record { named = λ st cs p e. absurd cc }
 
-  after-made : (r : Result) (k : List Cell → Act) (x : Outcome) (before here new : List ConstObject) (cs : List Cell) → shown r.0 ≡ x →
+  -- where the answer is known
+  pub makes_as_given : {A : Type 0} (w : World) (h : Head) (a : Answer A) (k : A → Act) (x : A) (new : List ConstObject) → a ≡ Gives x →
+      Makes (k x) new → Makes (answered w h a k) new
+  makes_as_given w h a k x new e g = subst (λ b. Makes (answered w h b k) new) (sym e) g
+
+  -- where it rests on memory, and is known for each memory with the old objects
+  pub makes_looked : {A : Type 0} (w : World) (h : Head) (a : Memory → Answer A) (k : A → Act) (x : A) (new : List ConstObject) →
+      ((m : Memory) → Has old m → a m ≡ Gives x) → Makes (k x) new → Makes (look λ m. answered w h (a m) k) new
+  makes_looked w h a k x new e g = record {
+    named = λ st cs p. (makes_as_given w h (a st.memory) k x new (e st.memory p) g).named st cs p;
+  }
+
+  after-made : (r : Result) (k : List Cell → Act) (x : Outcome) (before here new : List ConstObject) (cs : List Cell) → Shown old x r →
       ((ds : List Cell) → r.0 ≡ Value ds → named_in r.1 ≡ before ++ here) → ((ds : List Cell) → x ≡ Known ds → Makes (k ds) new) →
       (after r (λ o s. act ks less (on_value k o) s)).0 ≡ Value cs →
       named_in (after r (λ o s. act ks less (on_value k o) s)).1 ≡ before ++ (here ++ new)
   after-made (Value ds, st) k x before here new cs e m h q =
-      (h ds (sym e)).named st cs q ∙ ap (λ l. l ++ new) (m ds refl) ∙ append_assoc before here new
+      (h ds (sym e.ended)).named st cs e.has q ∙ ap (λ l. l ++ new) (m ds refl) ∙ append_assoc before here new
   after-made (_, st) k x before here new cs e m h q = absurd cc
 
   pub makes_value : (own i : ℕ) (sc : Scope) (k : List Cell → Act) (x : Outcome) (here new : List ConstObject) → sc.own ≡ own →
-      Shows own (ks.kid i AsValue) x → MakesThese own (ks.kid i AsValue) here → ((ds : List Cell) → x ≡ Known ds → Makes (k ds) new) →
+      Shows old own (ks.kid i AsValue) x → MakesThese old own (ks.kid i AsValue) here → ((ds : List Cell) → x ≡ Known ds → Makes (k ds) new) →
       Makes (value i sc k) (here ++ new)
   makes_value own i sc k x here new e v m h = record {
-    named = λ st cs. after-made (ks.kid i AsValue sc st) k x (named_in st) here new cs (v sc st e) (λ ds. m sc st ds e) h;
+    named = λ st cs p. after-made (ks.kid i AsValue sc st) k x (named_in st) here new cs (v sc st e p) (λ ds. m sc st ds e p) h;
   }
 
   -- whatever is made of the cells of so many kids: they are these
@@ -114,7 +126,7 @@ module _ (ks : Kids) (less : Tasks) where
   AreKnown i n os css = (f : List (List Cell) → Outcome) → kids_at i n os f ≡ f css
 
   pub makes_values : (own : ℕ) (os : List Outcome) (ms : List (List ConstObject)) (sc : Scope) → sc.own ≡ own →
-      ((i : ℕ) → Shows own (ks.kid i AsValue) (kid_at i os)) → ((i : ℕ) → MakesThese own (ks.kid i AsValue) (made_at i ms)) →
+      ((i : ℕ) → Shows old own (ks.kid i AsValue) (kid_at i os)) → ((i : ℕ) → MakesThese old own (ks.kid i AsValue) (made_at i ms)) →
       (i n : ℕ) (k : List (List Cell) → Act) (new : List ConstObject) →
       ((css : List (List Cell)) → AreKnown i n os css → Makes (k css) new) →
       Makes (values i n sc k) (made_each i n ms ++ new)
@@ -247,47 +259,47 @@ taken_fields t first ms = taken_behind (items_of kind.StructLit (kids_of t)) ms
 
 -- ---- acts of the kinds
 
-module _ (s : Store) (own : ℕ) (ks : Kids) (less : Tasks) where
+module _ (s : Store) (own : ℕ) (old : List ConstObject) (ks : Kids) (less : Tasks) where
   -- what the kids of a node come to, and what they make
   pub record KidsMake (os : List Outcome) (ms : List (List ConstObject)) : Type 0 where
-    pub shown : (i : ℕ) → Shows own (ks.kid i AsValue) (kid_at i os)
-    pub made : (i : ℕ) → MakesThese own (ks.kid i AsValue) (made_at i ms)
+    pub shown : (i : ℕ) → Shows old own (ks.kid i AsValue) (kid_at i os)
+    pub made : (i : ℕ) → MakesThese old own (ks.kid i AsValue) (made_at i ms)
 
   module _ (os : List Outcome) (ms : List (List ConstObject)) (v : KidsMake os ms) (sc : Scope) (e : sc.own ≡ own)
       (new : List ConstObject) where
     -- behind the value of one kid
-    made_one : (k : List Cell → Act) → ((a : List Cell) → kid_at 0 os ≡ Known a → Makes ks less (k a) new) →
-        Makes ks less (value 0 sc k) (made_at 0 ms ++ new)
-    made_one k h = makes_value ks less own 0 sc k (kid_at 0 os) (made_at 0 ms) new e (v.shown 0) (v.made 0) h
+    made_one : (k : List Cell → Act) → ((a : List Cell) → kid_at 0 os ≡ Known a → Makes old ks less (k a) new) →
+        Makes old ks less (value 0 sc k) (made_at 0 ms ++ new)
+    made_one k h = makes_value old ks less own 0 sc k (kid_at 0 os) (made_at 0 ms) new e (v.shown 0) (v.made 0) h
 
     -- behind the values of two
     made_two : (k : List Cell → List Cell → Act) →
-        ((a b : List Cell) → kid_at 0 os ≡ Known a → kid_at 1 os ≡ Known b → Makes ks less (k a b) new) →
-        Makes ks less (value 0 sc λ a. value 1 sc λ b. k a b) ((made_at 0 ms ++ made_at 1 ms) ++ new)
+        ((a b : List Cell) → kid_at 0 os ≡ Known a → kid_at 1 os ≡ Known b → Makes old ks less (k a b) new) →
+        Makes old ks less (value 0 sc λ a. value 1 sc λ b. k a b) ((made_at 0 ms ++ made_at 1 ms) ++ new)
     made_two k h =
-        makes_as ks less (value 0 sc λ a. value 1 sc λ b. k a b) _ _ (sym (append_assoc (made_at 0 ms) (made_at 1 ms) new))
-        (makes_value ks less own 0 sc (λ a. value 1 sc λ b. k a b) (kid_at 0 os) (made_at 0 ms) (made_at 1 ms ++ new) e (v.shown 0)
+        makes_as old ks less (value 0 sc λ a. value 1 sc λ b. k a b) _ _ (sym (append_assoc (made_at 0 ms) (made_at 1 ms) new))
+        (makes_value old ks less own 0 sc (λ a. value 1 sc λ b. k a b) (kid_at 0 os) (made_at 0 ms) (made_at 1 ms ++ new) e (v.shown 0)
         (v.made 0)
-        (λ a f. makes_value ks less own 1 sc (λ b. k a b) (kid_at 1 os) (made_at 1 ms) new e (v.shown 1) (v.made 1)
+        (λ a f. makes_value old ks less own 1 sc (λ b. k a b) (kid_at 1 os) (made_at 1 ms) new e (v.shown 1) (v.made 1)
         (λ b g. h a b f g)))
 
     -- behind those of so many
     made_many : (i n : ℕ) (k : List (List Cell) → Act) →
-        ((css : List (List Cell)) → AreKnown ks less i n os css → Makes ks less (k css) new) →
-        Makes ks less (values i n sc k) (made_each i n ms ++ new)
-    made_many i n k h = makes_values ks less own os ms sc e v.shown v.made i n k new h
+        ((css : List (List Cell)) → AreKnown old ks less i n os css → Makes old ks less (k css) new) →
+        Makes old ks less (values i n sc k) (made_each i n ms ++ new)
+    made_many i n k h = makes_values old ks less own os ms sc e v.shown v.made i n k new h
 
     -- as the kinds have it that take the values of one kid, of two, or of the second where the first leaves the answer open
-    one_kid : (t : TypedNode) (k : List Cell → Act) → ((a : List Cell) → kid_at 0 os ≡ Known a → Makes ks less (k a) new) →
-        Makes ks less (value 0 sc k) (made_by_kids t OneKid os ms ++ new)
-    one_kid t k h = makes_as ks less (value 0 sc k) _ _ (ap (λ l. l ++ new) (sym (taken_one t (kid_at 0 os) ms))) (made_one k h)
+    one_kid : (t : TypedNode) (k : List Cell → Act) → ((a : List Cell) → kid_at 0 os ≡ Known a → Makes old ks less (k a) new) →
+        Makes old ks less (value 0 sc k) (made_by_kids t OneKid os ms ++ new)
+    one_kid t k h = makes_as old ks less (value 0 sc k) _ _ (ap (λ l. l ++ new) (sym (taken_one t (kid_at 0 os) ms))) (made_one k h)
 
     two_kids : (t : TypedNode) (x : Kind) (k : List Cell → List Cell → Act) →
         ((a b : List Cell) → operator_value s t x TwoKids (kid_at 0 os) (kid_at 1 os) ≡ binary_value s t x a b →
-        Makes ks less (k a b) new) →
-        Makes ks less (value 0 sc λ a. value 1 sc λ b. k a b) (made_by_kids t TwoKids os ms ++ new)
+        Makes old ks less (k a b) new) →
+        Makes old ks less (value 0 sc λ a. value 1 sc λ b. k a b) (made_by_kids t TwoKids os ms ++ new)
     two_kids t x k h =
-        makes_as ks less (value 0 sc λ a. value 1 sc λ b. k a b) _ _ (ap (λ l. l ++ new) (sym (taken_two t (kid_at 0 os) ms)))
+        makes_as old ks less (value 0 sc λ a. value 1 sc λ b. k a b) _ _ (ap (λ l. l ++ new) (sym (taken_two t (kid_at 0 os) ms)))
         (made_two k (λ a b f g. h a b (ap₂ (λ y z. operator_value s t x TwoKids y z) f g)))
 
     -- the acts behind the left operand of a logic operator, where it leaves the answer open or not
@@ -299,92 +311,122 @@ module _ (s : Store) (own : ℕ) (ks : Kids) (less : Tasks) where
         ((cs : List Cell) →
         (if x then (on_cells (kid_at 1 os) λ b. Known (bool_cells (logic (logic_of (head_of t).text) (truth a) (truth b)))) else Known
         (bool_cells (truth a)))
-        ≡ Known cs → Makes ks less (k cs) new) →
-        Makes ks less (behind_left t k a x) (second_if x ms ++ new)
+        ≡ Known cs → Makes old ks less (k cs) new) →
+        Makes old ks less (behind_left t k a x) (second_if x ms ++ new)
     right_made t k a true g =
-        makes_value ks less own 1 sc (λ b. k (bool_cells (logic (logic_of (head_of t).text) (truth a) (truth b)))) (kid_at 1 os)
+        makes_value old ks less own 1 sc (λ b. k (bool_cells (logic (logic_of (head_of t).text) (truth a) (truth b)))) (kid_at 1 os)
         (made_at 1 ms) new e (v.shown 1) (v.made 1)
         (λ b f. g (bool_cells (logic (logic_of (head_of t).text) (truth a) (truth b)))
         (ap (λ o. on_cells o λ c. Known (bool_cells (logic (logic_of (head_of t).text) (truth a) (truth c)))) f))
     right_made t k a false g = g (bool_cells (truth a)) refl
 
     right_if_open : (t : TypedNode) (k : List Cell → Act) →
-        ((cs : List Cell) → operator_value s t kind.Logic RightIfOpen (kid_at 0 os) (kid_at 1 os) ≡ Known cs → Makes ks less (k cs) new) →
-        Makes ks less (constant_form (without_run s) t sc kind.Logic k) (made_by_kids t RightIfOpen os ms ++ new)
+        ((cs : List Cell) → operator_value s t kind.Logic RightIfOpen (kid_at 0 os) (kid_at 1 os) ≡ Known cs → Makes old ks less (k cs) new) →
+        Makes old ks less (constant_form (without_run s) t sc kind.Logic k) (made_by_kids t RightIfOpen os ms ++ new)
     right_if_open t k h =
         let opens : List Cell → Bool = λ a. leaves_open (logic_of (head_of t).text) (truth a) in
-        makes_as ks less (constant_form (without_run s) t sc kind.Logic k) _ _
+        makes_as old ks less (constant_form (without_run s) t sc kind.Logic k) _ _
         (sym (append_assoc (made_at 0 ms) (second_if (is_open t (kid_at 0 os)) ms) new)
         ∙ ap (λ l. l ++ new) (sym (taken_open t (kid_at 0 os) ms)))
-        (makes_value ks less own 0 sc (λ a. behind_left t k a (opens a)) (kid_at 0 os) (made_at 0 ms)
+        (makes_value old ks less own 0 sc (λ a. behind_left t k a (opens a)) (kid_at 0 os) (made_at 0 ms)
         (second_if (is_open t (kid_at 0 os)) ms ++ new) e
         (v.shown 0) (v.made 0)
-        (λ a f. makes_as ks less (behind_left t k a (opens a)) _ _ (ap (λ o. second_if (is_open t o) ms ++ new) (sym f))
+        (λ a f. makes_as old ks less (behind_left t k a (opens a)) _ _ (ap (λ o. second_if (is_open t o) ms ++ new) (sym f))
         (right_made t k a (opens a) (λ cs g. h cs (ap (λ o. operator_value s t kind.Logic RightIfOpen o (kid_at 1 os)) f ∙ g)))))
 
   -- what a kind makes that takes the value of no kid
-  no_kid : (os : List Outcome) (ms : List (List ConstObject)) (t : TypedNode) (a : Act) (new : List ConstObject) → Makes ks less a new →
-      Makes ks less a (made_by_kids t NoKid os ms ++ new)
-  no_kid os ms t a new h = makes_as ks less a _ _ (ap (λ l. l ++ new) (sym (taken_none t (kid_at 0 os) ms))) h
+  no_kid : (os : List Outcome) (ms : List (List ConstObject)) (t : TypedNode) (a : Act) (new : List ConstObject) → Makes old ks less a new →
+      Makes old ks less a (made_by_kids t NoKid os ms ++ new)
+  no_kid os ms t a new h = makes_as old ks less a _ _ (ap (λ l. l ++ new) (sym (taken_none t (kid_at 0 os) ms))) h
 
   numbers_made : (t : TypedNode) (x : Bool) (answer : Answer ℤ) (k : List Cell → Act) (new : List ConstObject) →
-      ((cs : List Cell) → (if x then Known [] else on_answer answer λ v. Known (numbered s t v)) ≡ Known cs → Makes ks less (k cs) new) →
-      Makes ks less (if x then k [] else (answered (without_run s) (head_of t) answer λ v. k (numbered s t v))) new
+      ((cs : List Cell) → (if x then Known [] else on_answer answer λ v. Known (numbered s t v)) ≡ Known cs → Makes old ks less (k cs) new) →
+      Makes old ks less (if x then k [] else (answered (without_run s) (head_of t) answer λ v. k (numbered s t v))) new
   numbers_made t true answer k new h = h [] refl
   numbers_made t false answer k new h =
-      makes_answered ks less (without_run s) (head_of t) answer (λ v. k (numbered s t v)) new
+      makes_answered old ks less (without_run s) (head_of t) answer (λ v. k (numbered s t v)) new
       (λ v e. h (numbered s t v) (ap (λ y. on_answer y λ z. Known (numbered s t z)) e))
 
   shift_made : (t : TypedNode) (x : Bool) (v : ℤ) (k : List Cell → Act) (new : List ConstObject) →
-      ((cs : List Cell) → Known (if x then [] else numbered s t v) ≡ Known cs → Makes ks less (k cs) new) →
-      Makes ks less (if x then k [] else k (numbered s t v)) new
+      ((cs : List Cell) → Known (if x then [] else numbered s t v) ≡ Known cs → Makes old ks less (k cs) new) →
+      Makes old ks less (if x then k [] else k (numbered s t v)) new
   shift_made t true v k new h = h [] refl
   shift_made t false v k new h = h (numbered s t v) refl
 
   length_made : (t : TypedNode) (x : Bool) (n : List Cell) (answer : Answer Words) (k : List Cell → Act) (new : List ConstObject) →
       ((cs : List Cell) → (if x then Known n else on_answer answer λ v. Known (numbered s t (pos v.length))) ≡ Known cs →
-      Makes ks less (k cs) new) →
-      Makes ks less (if x then k n else (answered (without_run s) (head_of t) answer λ v. k (numbered s t (pos v.length)))) new
+      Makes old ks less (k cs) new) →
+      Makes old ks less (if x then k n else (answered (without_run s) (head_of t) answer λ v. k (numbered s t (pos v.length)))) new
   length_made t true n answer k new h = h n refl
   length_made t false n answer k new h =
-      makes_answered ks less (without_run s) (head_of t) answer (λ v. k (numbered s t (pos v.length))) new
+      makes_answered old ks less (without_run s) (head_of t) answer (λ v. k (numbered s t (pos v.length))) new
       (λ v e. h _ (ap (λ y. on_answer y λ z. Known (numbered s t (pos z.length))) e))
 
-  same_made : (t : TypedNode) (q : Equality) (a b : List Cell) (k : Bool → Act) (new : List ConstObject) → q ≡ OfNumbers →
-      Makes ks less (k (same_number (number_of_kid s t 0 a) (number_of_kid s t 1 b))) new →
-      Makes ks less (with_equality (without_run s) t q a b k) new
-  same_made t OfNumbers a b k new e h = h
-  same_made t OfPointers a b k new e h = absurd cc
-  same_made t OfTexts a b k new e h = absurd cc
+  numbers_compared : (t : TypedNode) (q : Equality) (a b : List Cell) (k : Bool → Act) (new : List ConstObject) → q ≡ OfNumbers →
+      Makes old ks less (k (same_number (number_of_kid s t 0 a) (number_of_kid s t 1 b))) new →
+      Makes old ks less (with_equality (without_run s) t q a b k) new
+  numbers_compared t OfNumbers a b k new e h = h
+  numbers_compared t OfPointers a b k new e h = absurd cc
+  numbers_compared t OfTexts a b k new e h = absurd cc
 
-  constant_made : (c : Const) (k : List Cell → Act) (new : List ConstObject) → Makes ks less (k (cells_known c)) new →
-      Makes ks less (k (constant_cells (without_run s) c)) new
-  constant_made constant.Absent k new h = h
-  constant_made (constant.Known cs os) k new h = subst (λ x. Makes ks less (k x) new) (sym (homed-same cs)) h
+  texts_compared : (os : List Outcome) (t : TypedNode) (same : Bool) (k : Bool → Act) (new : List ConstObject) (c : Compares old os same) →
+      Makes old ks less (k same) new → Makes old ks less (with_equality (without_run s) t OfTexts c.left c.right k) new
+  texts_compared os t same k new c h =
+      makes_as_given old ks less (without_run s) (head_of t) (words c.left)
+      (λ v. answered (without_run s) (head_of t) (words c.right) λ u. with_texts (without_run s) t v u k) c.left_words new c.left_told
+      (makes_as_given old ks less (without_run s) (head_of t) (words c.right) (λ u. with_texts (without_run s) t c.left_words u k)
+      c.right_words new c.right_told
+      (makes_tick old ks less (if nat_eq c.left_words.length c.right_words.length then c.left_words.length / 64 else 0)
+      (look λ m. answered (without_run s) (head_of t) (same_text (reading m.objects) c.left_words c.right_words) k) new
+      (makes_looked old ks less (without_run s) (head_of t) (λ m. same_text (reading m.objects) c.left_words c.right_words) k same new c.told
+      h)))
 
-  -- a place that is asked for makes nothing
-  abbrev pub Places : Pointer → Type 0
-  Places p =
-      (c : Scope) (st : State) → c.own ≡ own → ((ks.kid 0 AsPlace c st).0 ≡ Reached p) × ((ks.kid 0 AsPlace c st).1.memory ≡ st.memory)
-
-  place_made : (sc : Scope) (k : Pointer → Act) (p : Pointer) (new : List ConstObject) → sc.own ≡ own → Places p →
-      Makes ks less (k p) new → Makes ks less (place 0 sc k) new
-  place_made sc k p new e m h = record { named = λ st cs. go st cs (ks.kid 0 AsPlace sc st) (m sc st e) }
+  -- behind the cells of both operands, by whether they are texts
+  same_made : (os : List Outcome) (t : TypedNode) (a b : List Cell) (k : List Cell → Act) (new : List ConstObject) →
+      IsCompared s own old ks less os t → kid_at 0 os ≡ Known a → kid_at 1 os ≡ Known b →
+      Makes old ks less (as_equal s own old ks less t k (same_operands s t a b)) new →
+      Makes old ks less (with_equality (without_run s) t (equality_of s (type_of_kid 0 t)) a b (as_equal s own old ks less t k)) new
+  same_made os t a b k new (numbers d q) f g h =
+      numbers_compared t (equality_of s (type_of_kid 0 t)) a b (as_equal s own old ks less t k) new q
+      (subst (λ x. Makes old ks less (as_equal s own old ks less t k
+      (if x then same_texts (kids_of t) else same_number (number_of_kid s t 0 a) (number_of_kid s t 1 b))) new) d h)
+  same_made os t a b k new (texts d c) f g h =
+      let left : c.left ≡ a = known_same c.left a (sym c.first ∙ f) in
+      let right : c.right ≡ b = known_same c.right b (sym c.second ∙ g) in
+      subst (λ x. Makes old ks less (with_equality (without_run s) t (if x then OfTexts else equality_of_shape (option_and_then shape_of_row
+      (base_row s (type_of_kid 0 t)))) a b (as_equal s own old ks less t k)) new) (sym d)
+      (subst (λ x. Makes old ks less (with_equality (without_run s) t OfTexts x b (as_equal s own old ks less t k)) new) left
+      (subst (λ y. Makes old ks less (with_equality (without_run s) t OfTexts c.left y (as_equal s own old ks less t k)) new) right
+      (texts_compared os t (same_texts (kids_of t)) (as_equal s own old ks less t k) new c
+      (subst (λ x. Makes old ks less (as_equal s own old ks less t k
+      (if x then same_texts (kids_of t) else same_number (number_of_kid s t 0 a) (number_of_kid s t 1 b))) new) d h))))
     where
-      go : (st : State) (cs : List Cell) (r : Result) → (r.0 ≡ Reached p) × (r.1.memory ≡ st.memory) →
+      known_same : (xs ys : List Cell) → Known xs ≡ Known ys → xs ≡ ys
+      known_same xs ys q = cc
+
+  constant_made : (c : Const) (k : List Cell → Act) (new : List ConstObject) → Makes old ks less (k (cells_known c)) new →
+      Makes old ks less (k (constant_cells (without_run s) c)) new
+  constant_made constant.Absent k new h = h
+  constant_made (constant.Known cs os) k new h = subst (λ x. Makes old ks less (k x) new) (sym (homed-same cs)) h
+
+  place_made : (sc : Scope) (k : Pointer → Act) (p : Pointer) (new : List ConstObject) → sc.own ≡ own → Places s own old ks less p →
+      Makes old ks less (k p) new → Makes old ks less (place 0 sc k) new
+  place_made sc k p new e m h = record { named = λ st cs has. go st cs has (ks.kid 0 AsPlace sc st) (m sc st e) }
+    where
+      go : (st : State) (cs : List Cell) → Has old st.memory → (r : Result) → (r.0 ≡ Reached p) × (r.1.memory ≡ st.memory) →
           (after r (λ x u. act ks less (on_place k x) u)).0 ≡ Value cs →
           named_in (after r (λ x u. act ks less (on_place k x) u)).1 ≡ named_in st ++ new
-      go st cs (Reached q, u) (f, g) z =
+      go st cs has (Reached q, u) (f, g) z =
           let same : q ≡ p = cc in
-          let made = subst (λ y. Makes ks less (k y) new) (sym same) h in
-          made.named u cs z ∙ ap (λ y. held y.objects.named ++ new) g
-      go st cs (_, u) (f, g) z = absurd cc
+          let made = subst (λ y. Makes old ks less (k y) new) (sym same) h in
+          made.named u cs (subst (Has old) (sym g) has) z ∙ ap (λ y. held y.objects.named ++ new) g
+      go st cs has (_, u) (f, g) z = absurd cc
 
   -- what a kind asks of its node and of the kids
   abbrev pub ReadyToMake : List Outcome → List (List ConstObject) → TypedNode → Kind → Type 0
-  ReadyToMake os ms t kind.Addr = Places (Address (declared_by (mark_of (kid_from_front 0 t)).meaning) 0)
+  ReadyToMake os ms t kind.Addr = Places s own old ks less (Address (declared_by (mark_of (kid_from_front 0 t)).meaning) 0)
   ReadyToMake os ms t kind.Offset = Unit {0}
-  ReadyToMake os ms t kind.Equal = KidsMake os ms × (equality_of s (type_of_kid 0 t) ≡ OfNumbers)
+  ReadyToMake os ms t kind.Equal = KidsMake os ms × IsCompared s own old ks less os t
   ReadyToMake os ms t _ = KidsMake os ms
 
   unary : (os : List Outcome) (t : TypedNode) (x : Kind) (a : List Cell) → kid_at 0 os ≡ Known a →
@@ -394,8 +436,8 @@ module _ (s : Store) (own : ℕ) (ks : Kids) (less : Tasks) where
   module _ (os : List Outcome) (ms : List (List ConstObject)) (t : TypedNode) (sc : Scope) (e : sc.own ≡ own) (k : List Cell → Act)
       (new : List ConstObject) where
     pub makes_form : (x : Kind) → ReadyToMake os ms t x →
-        ((cs : List Cell) → kind_value s own t x os ≡ Known cs → Makes ks less (k cs) new) →
-        Makes ks less (constant_form (without_run s) t sc x k) (made_by_kids t (operands_of x) os ms ++ new)
+        ((cs : List Cell) → kind_value s own t x os ≡ Known cs → Makes old ks less (k cs) new) →
+        Makes old ks less (constant_form (without_run s) t sc x k) (made_by_kids t (operands_of x) os ms ++ new)
     makes_form kind.Number v h = no_kid os ms t _ new (h _ refl)
     makes_form kind.RuneLit v h = no_kid os ms t _ new (h _ refl)
     makes_form kind.Bool v h = no_kid os ms t _ new (h _ refl)
@@ -417,23 +459,24 @@ module _ (s : Store) (own : ℕ) (ks : Kids) (less : Tasks) where
         (λ cs g. h cs (f ∙ g)))
     makes_form kind.Less v h = two_kids os ms v sc e new t kind.Less _ (λ a b f. h _ f)
     makes_form kind.Equal v h =
-        two_kids os ms v.0 sc e new t kind.Equal _
-        (λ a b f. same_made t (equality_of s (type_of_kid 0 t)) a b _ new v.1 (h _ f))
+        makes_as old ks less (constant_form (without_run s) t sc kind.Equal k) _ _ (ap (λ l. l ++ new) (sym (taken_two t (kid_at 0 os) ms)))
+        (made_two os ms v.0 sc e new _
+        (λ a b f g. same_made os t a b k new v.1 f g (h _ (ap₂ (λ y z. operator_value s t kind.Equal TwoKids y z) f g))))
     makes_form kind.Logic v h = right_if_open os ms v sc e new t k h
     makes_form kind.Cast v h = one_kid os ms v sc e new t _ (λ a f. h _ (unary os t kind.Cast a f))
     makes_form kind.StructLit v h =
-        makes_as ks less (constant_form (without_run s) t sc kind.StructLit k) _ _
+        makes_as old ks less (constant_form (without_run s) t sc kind.StructLit k) _ _
         (ap (λ l. l ++ new) (sym (taken_fields t (kid_at 0 os) ms)))
         (made_many os ms v sc e new 1 (items_of kind.StructLit (kids_of t)) (λ cs. k (struct_value s t cs))
         (λ css f. h (struct_value s t css) (f (λ cs. Known (struct_value s t cs)))))
     makes_form kind.FieldValue v h = one_kid os ms v sc e new t k (λ a f. h a (unary os t kind.FieldValue a f))
     makes_form kind.Tuple v h =
-        makes_as ks less (constant_form (without_run s) t sc kind.Tuple k) _ _
+        makes_as old ks less (constant_form (without_run s) t sc kind.Tuple k) _ _
         (ap (λ l. l ++ new) (sym (taken_components t (kid_at 0 os) ms)))
         (made_many os ms v sc e new 0 (items_of kind.Tuple (kids_of t)) (λ cs. k (tuple_value s t cs))
         (λ css f. h (tuple_value s t css) (f (λ cs. Known (tuple_value s t cs)))))
     makes_form kind.Array v h =
-        makes_as ks less (constant_form (without_run s) t sc kind.Array k) _ _
+        makes_as old ks less (constant_form (without_run s) t sc kind.Array k) _ _
         (ap (λ l. l ++ new) (sym (taken_elements t (kid_at 0 os) ms)))
         (made_many os ms v sc e new 0 (items_of kind.Array (kids_of t)) (λ cs. k (array_value s t cs))
         (λ css f. h (array_value s t css) (f (λ cs. Known (array_value s t cs)))))
@@ -453,32 +496,32 @@ module _ (s : Store) (own : ℕ) (ks : Kids) (less : Tasks) where
   abbrev ending : List Cell → Act
   ending ds = end (Value ds)
 
-  given_made : (t : TypedNode) (cs : List Cell) → Makes ks less (with_coercion (without_run s) t cs ending) []
+  given_made : (t : TypedNode) (cs : List Cell) → Makes old ks less (with_coercion (without_run s) t cs ending) []
   given_made t cs =
-      makes_answered ks less (without_run s) (head_of t) (coerced s (mark_of t).ty (mark_of t).coerce cs) ending []
-      (λ ds f. makes_end ks less (Value ds))
+      makes_answered old ks less (without_run s) (head_of t) (coerced s (mark_of t).ty (mark_of t).coerce cs) ending []
+      (λ ds f. makes_end old ks less (Value ds))
 
   from_made : (t : TypedNode) (sc : Scope) (cs : List Cell) (x : Option ℕ) →
-      Makes ks less (coerced_from (without_run s) t sc cs x ending)
+      Makes old ks less (coerced_from (without_run s) t sc cs x ending)
       (if is_some x then record { object = object_number sc.own t; cells = cs } ∷ [] else [])
   from_made t sc cs None = given_made t cs
   from_made t sc cs (Some y) =
-      makes_make ks less (static_number sc t) (array_object (without_run s) y cs) (λ o. slice_over (without_run s) t (Address o 0) ending)
+      makes_make old ks less (static_number sc t) (array_object (without_run s) y cs) (λ o. slice_over (without_run s) t (Address o 0) ending)
       []
       (given_made t (slice_of sc.own t (length_of_value s (mark_of t).ty)))
 
   coerced_made : (t : TypedNode) (sc : Scope) (cs : List Cell) → sc.own ≡ own →
-      Makes ks less (as_coerced (without_run s) t sc cs ending) (own_object s own t cs)
+      Makes old ks less (as_coerced (without_run s) t sc cs ending) (own_object s own t cs)
   coerced_made t sc cs e =
-      makes_as ks less (as_coerced (without_run s) t sc cs ending) _ _ (ap (λ o. own_object s o t cs) e)
+      makes_as old ks less (as_coerced (without_run s) t sc cs ending) _ _ (ap (λ o. own_object s o t cs) e)
       (from_made t sc cs (sliced_element s (mark_of t).ty (mark_of t).coerce))
 
   pub makes_value_of : (os : List Outcome) (ms : List (List ConstObject)) (t : TypedNode) (sc : Scope) (x : Kind) → sc.own ≡ own →
       ReadyToMake os ms t x →
-      Makes ks less (by_value (without_run s) t sc (constant_form (without_run s) t sc x) ending)
+      Makes old ks less (by_value (without_run s) t sc (constant_form (without_run s) t sc x) ending)
       (made_by_kids t (operands_of x) os ms ++ made_of_value s own t (kind_value s own t x os))
   makes_value_of os ms t sc x e v =
-      makes_tick ks less (ticks_of_value s t) (constant_form (without_run s) t sc x (λ cs. as_coerced (without_run s) t sc cs ending)) _
+      makes_tick old ks less (ticks_of_value s t) (constant_form (without_run s) t sc x (λ cs. as_coerced (without_run s) t sc cs ending)) _
       (makes_form os ms t sc e (λ cs. as_coerced (without_run s) t sc cs ending) (made_of_value s own t (kind_value s own t x os)) x v
-      (λ cs f. makes_as ks less (as_coerced (without_run s) t sc cs ending) _ _ (ap (made_of_value s own t) (sym f))
+      (λ cs f. makes_as old ks less (as_coerced (without_run s) t sc cs ending) _ _ (ap (made_of_value s own t) (sym f))
       (coerced_made t sc cs e)))

@@ -1,5 +1,5 @@
 -- The evaluation of a constant comes to the value of its tree.
-use Rattle.std.proofs.Common.{◌≡◌, ℕ, zero, suc, Bool, true, false, [], refl, sym, ap, subst, ◌∙◌}
+use Rattle.std.proofs.Common.{◌≡◌, ℕ, zero, suc, Bool, true, false, List, [], refl, sym, ap, subst, ◌∙◌, append-nil}
 use Rattle.std.specs.Prelude.{◌+◌, if◌then◌else◌, not, ◌&&◌, ◌||◌, ◌==◌, Option, Some, None, option_and_then}
 use Rattle.hare_tree.specs.declared.kind.Kind.{Kind}
 use Rattle.hare_tree.specs.declared.kind.Kind.TheVariants as kind
@@ -12,6 +12,7 @@ use Rattle.hare_types.specs.declared.row.Row.TheVariants as row
 use Rattle.hare_types.specs.declared.row.Scalar.{Scalar as Keyword}
 use Rattle.hare_types.specs.declared.row.Scalar.TheVariants as keyword
 use Rattle.hare_types.specs.Store.{Store}
+use Rattle.hare_typed.specs.declared.constant.ConstObject.{ConstObject}
 use Rattle.hare_typed.specs.Typed.{TypedNode, TypedNodes, Mark, marked, typed_none, typed_more, mark_of}
 use Rattle.hare_typed.specs.Order.{kid_from_front}
 use Rattle.hare_typed.specs.Given.{base_row, first_given, is_str, is_str_row}
@@ -24,13 +25,16 @@ use Rattle.hare_typed.specs.Bindings.{own_bindings}
 use Rattle.hare_typed.specs.Interpreter.{Tasks, Kids, act, behind, node_act, kid_act, part_act, fewer_than}
 use Rattle.hare_typed.specs.Evaluated.{ValueForm, is_evaluated, is_named, is_place_kind, is_place, first_is_place, place_in_mode, value_in_mode, gives}
 use Rattle.hare_typed.specs.ConstantForms.{OfNumbers, OfTexts, equality_of_shape, equality_of, type_of_kid, object_meant}
-use Rattle.hare_typed.specs.ConstantValues.{without_run, constant_form, constant_place, constant_node, constant_forms, constant_result}
+use Rattle.hare_typed.specs.ConstantValues.{without_run, constant_form, constant_place, constant_node, constant_forms, listed_objects, statics, state_without_run, constant_result}
 use Rattle.hare_typed.specs.Folded.{is_abort, folded_from}
 use Rattle.hare_const.specs.declared.outcome.Outcome.{Outcome}
 use Rattle.hare_const.specs.declared.outcome.Outcome.TheVariants.{Known}
 use Rattle.hare_const.specs.NodeValues.{on_cells, kid_at, declared_by, own_value, coerced_value, tree_value, kid_values, PlainKind, IsPlain, ArePlain, IsSimple, AreSimple, is_aborted, cells_in, cells_of}
-use Rattle.hare_const.proofs.Shown.Acts.{shown, Shows, Ends}
-use Rattle.hare_const.proofs.Shown.Forms.{Ready, ends_value_of}
+use Rattle.hare_const.specs.Texts.{AreCoherent, AreTexts}
+use Rattle.hare_const.specs.Statics.{scope_in, statics_in, statics_in_each, is_equality, has_equality, has_equality_each, IsCoherent}
+use Rattle.hare_const.proofs.Shown.Acts.{shown, Has, Shows, Ends}
+use Rattle.hare_const.proofs.Shown.Forms.{IsCompared, numbers, texts, Ready, ends_value_of}
+use Rattle.hare_const.proofs.Shown.Texts.{statics-again, Inside, of_kids, first_of, rest_of, compares, coherent_inside}
 
 -- ---- what constancy says of a node
 
@@ -151,6 +155,10 @@ pub not-true : (x : Bool) → not x ≡ true → x ≡ false
 not-true true e = absurd cc
 not-true false e = refl
 
+first_is : (s : Store) (h : Head) (m : Mark) (ts : TypedNodes) → is_str s (type_of_kid 0 (marked h m ts)) ≡ is_str s (first_given ts)
+first_is s h m typed_none = refl
+first_is s h m (typed_more t ts) = refl
+
 pub equality_known : (s : Store) (h : Head) (m : Mark) (ts : TypedNodes) → is_str s (first_given ts) ≡ false →
     is_address_row (base_row s (first_given ts)) ≡ false → equality_of s (type_of_kid 0 (marked h m ts)) ≡ OfNumbers
 equality_known s h m typed_none e f = equality-row (base_row s (first_given typed_none)) e f
@@ -167,7 +175,41 @@ global_meaning m e = go m.meaning e
     go (meant.Rt x) q = absurd cc
     go meant.None q = absurd cc
 
-module _ (s : Store) (own : ℕ) (less : Tasks) where
+-- where something is compared, these objects are among all, and these are coherent
+abbrev pub Safe : (all os : List ConstObject) → Bool → Type 0
+Safe all os b = b ≡ true → AreCoherent all × Inside all os
+
+pub or-left : (a b : Bool) → a ≡ true → (a || b) ≡ true
+or-left true b e = refl
+or-left false b e = absurd cc
+
+pub or-right : (a b : Bool) → b ≡ true → (a || b) ≡ true
+or-right true b e = refl
+or-right false b e = e
+
+-- of the kids of a node, of the first of some trees, and of those behind it
+pub safe_kids : (all : List ConstObject) (own : ℕ) (h : Head) (m : Mark) (ts : TypedNodes) →
+    Safe all (statics_in own (marked h m ts)) (has_equality (marked h m ts)) → Safe all (statics_in_each own ts) (has_equality_each ts)
+safe_kids all own h m ts w e =
+    let p = w (or-right (is_equality h.kind) (has_equality_each ts) e) in (p.0, λ o c. p.1 o (of_kids own h m ts o c))
+
+pub safe_node : (all : List ConstObject) (own : ℕ) (h : Head) (m : Mark) (ts : TypedNodes) →
+    Safe all (statics_in own (marked h m ts)) (has_equality (marked h m ts)) → Safe all (statics_in_each own ts) (is_equality h.kind)
+safe_node all own h m ts w e =
+    let p = w (or-left (is_equality h.kind) (has_equality_each ts) e) in (p.0, λ o c. p.1 o (of_kids own h m ts o c))
+
+pub safe_first : (all : List ConstObject) (own : ℕ) (t : TypedNode) (ts : TypedNodes) →
+    Safe all (statics_in_each own (typed_more t ts)) (has_equality_each (typed_more t ts)) → Safe all (statics_in own t) (has_equality t)
+safe_first all own t ts w e =
+    let p = w (or-left (has_equality t) (has_equality_each ts) e) in (p.0, λ o c. p.1 o (first_of own t ts o c))
+
+pub safe_rest : (all : List ConstObject) (own : ℕ) (t : TypedNode) (ts : TypedNodes) →
+    Safe all (statics_in_each own (typed_more t ts)) (has_equality_each (typed_more t ts)) →
+    Safe all (statics_in_each own ts) (has_equality_each ts)
+safe_rest all own t ts w e =
+    let p = w (or-right (has_equality t) (has_equality_each ts) e) in (p.0, λ o c. p.1 o (rest_of own t ts o c))
+
+module _ (s : Store) (own : ℕ) (all : List ConstObject) (less : Tasks) where
   -- what the kids of a node give
   abbrev pub over : Head → TypedNodes → Kids
   over h ts =
@@ -182,49 +224,64 @@ module _ (s : Store) (own : ℕ) (less : Tasks) where
       let g = global_meaning m e in
       subst (λ x. object_meant (without_run s) sc x ≡ declared_by x) (sym g.1) refl
 
+  -- an evaluation reaches the global that a node means, and changes no memory
+  abbrev Arrives : TypedNode → State → Result → Type 0
+  Arrives t st r = (r.0 ≡ Reached (Address (declared_by (mark_of t).meaning) 0)) × (r.1.memory ≡ st.memory)
+
   path-reached : (ks : Kids) (t : TypedNode) (sc : Scope) (st : State) (x : Bool) → x ≡ true → is_global_path kind.Path (mark_of t) ≡ true →
-      (act ks less (if x then place_in_mode (without_run s) t AsPlace sc (constant_form (without_run s) t sc kind.Path)
+      Arrives t st (act ks less (if x then place_in_mode (without_run s) t AsPlace sc (constant_form (without_run s) t sc kind.Path)
       (constant_place (without_run s) t sc kind.Path)
-      else value_in_mode (without_run s) t AsPlace sc (constant_form (without_run s) t sc kind.Path)) st).0
-      ≡ Reached (Address (declared_by (mark_of t).meaning) 0)
-  path-reached ks t sc st true q e = ap (λ d. Reached (Address d 0)) (object-named (mark_of t) sc e)
+      else value_in_mode (without_run s) t AsPlace sc (constant_form (without_run s) t sc kind.Path)) st)
+  path-reached ks t sc st true q e = (ap (λ d. Reached (Address d 0)) (object-named (mark_of t) sc e), refl)
   path-reached ks t sc st false q e = absurd cc
 
   global-reached : (ks : Kids) (t : TypedNode) (sc : Scope) (st : State) (k : Kind) → is_global_path k (mark_of t) ≡ true →
       is_place s t ≡ true →
-      (act ks less (if not (is_evaluated k) then gives [] else
+      Arrives t st (act ks less (if not (is_evaluated k) then gives [] else
       (if is_place s t then place_in_mode (without_run s) t AsPlace sc (constant_form (without_run s) t sc k)
       (constant_place (without_run s) t sc k)
-      else value_in_mode (without_run s) t AsPlace sc (constant_form (without_run s) t sc k))) st).0
-      ≡ Reached (Address (declared_by (mark_of t).meaning) 0)
+      else value_in_mode (without_run s) t AsPlace sc (constant_form (without_run s) t sc k))) st)
   global-reached ks t sc st kind.Path e p = path-reached ks t sc st (is_place s t) p e
   global-reached ks t sc st _ e p = absurd cc
 
   pub first-reached : (h : Head) (m : Mark) (ts : TypedNodes) → begins_with_global ts ≡ true → first_is_place s ts ≡ true →
       (sc : Scope) (st : State) → sc.own ≡ own →
-      (kid_act (constant_forms (without_run s)) less ts 0 AsPlace sc st).0
-      ≡ Reached (Address (declared_by (mark_of (kid_from_front 0 (marked h m ts))).meaning) 0)
+      Arrives (kid_from_front 0 (marked h m ts)) st (kid_act (constant_forms (without_run s)) less ts 0 AsPlace sc st)
   first-reached h m typed_none e p sc st q = absurd cc
   first-reached h m (typed_more (marked h' m' us) ts) e p sc st q =
       global-reached (over h' us) (marked h' m' us) sc st h'.kind e p
 
   -- ---- nodes
 
+  -- an equality compares numbers, or texts that are told
+  pub compared : (h : Head) (m : Mark) (ts : TypedNodes) → is_address_row (base_row s (first_given ts)) ≡ false →
+      (is_str s (first_given ts) ≡ true → AreTexts ts) → AreCoherent all × Inside all (statics_in_each own ts) →
+      IsCompared s own all (over h ts) less (kid_values s own ts) (marked h m ts)
+  compared h m ts a p i = by (is_str s (first_given ts)) refl
+    where
+      first : is_str s (type_of_kid 0 (marked h m ts)) ≡ is_str s (first_given ts)
+      first = first_is s h m ts
+
+      by : (b : Bool) → is_str s (first_given ts) ≡ b → IsCompared s own all (over h ts) less (kid_values s own ts) (marked h m ts)
+      by true e = texts (first ∙ e) (compares s own all i.0 ts (p e) i.1)
+      by false e = numbers (first ∙ e) (equality_known s h m ts e a)
+
   -- a constant node is as its kind asks
   ready : (h : Head) (k : Kind) (m : Mark) (ts : TypedNodes) → is_constant s k m ts ≡ true → PlainKind s k ts →
-      (hides_kids k ts ≡ false → (i : ℕ) → Shows own (kid_act (constant_forms (without_run s)) less ts i AsValue)
+      Safe all (statics_in_each own ts) (is_equality k) →
+      (hides_kids k ts ≡ false → (i : ℕ) → Shows all own (kid_act (constant_forms (without_run s)) less ts i AsValue)
       (kid_at i (kid_values s own ts))) →
-      Ready s own (over h ts) less (kid_values s own ts) (marked h m ts) k
-  ready h kind.Addr m ts e p f = λ sc st q.
+      Ready s own all (over h ts) less (kid_values s own ts) (marked h m ts) k
+  ready h kind.Addr m ts e p w f = λ sc st q.
       let g = and-left (begins_with_global ts) (not (m.coerce.row == 2)) e in
       first-reached h m ts g (p g)
       (record sc { first = sc.first + own_bindings h.kind }) st q
-  ready h kind.Offset m ts e p f = tt
-  ready h kind.Equal m ts e p f = (
+  ready h kind.Offset m ts e p w f = tt
+  ready h kind.Equal m ts e p w f = (
     λ i sc st q. f refl i (record sc { first = sc.first + own_bindings h.kind }) st q,
-    equality_known s h m ts p (not-true _ (and-left _ (not (m.coerce.row == 2)) e)),
+    compared h m ts (not-true _ (and-left _ (not (m.coerce.row == 2)) e)) p (w refl),
   )
-  ready h _ m ts e p f = λ i sc st q. f refl i (record sc { first = sc.first + own_bindings h.kind }) st q
+  ready h _ m ts e p w f = λ i sc st q. f refl i (record sc { first = sc.first + own_bindings h.kind }) st q
 
   -- the acts of a node up to its own value, and what they come to
   abbrev pub form : Head → Mark → TypedNodes → Scope → ValueForm
@@ -234,54 +291,68 @@ module _ (s : Store) (own : ℕ) (less : Tasks) where
   result h m ts = on_cells (own_value s own (marked h m ts) (kid_values s own ts)) (coerced_value s own (marked h m ts))
 
   node-shown : (h : Head) (m : Mark) (ts : TypedNodes) → first_inconstant s (λ u. false) (marked h m ts) ≡ None → PlainKind s h.kind ts →
+      Safe all (statics_in_each own ts) (is_equality h.kind) →
       (first_inconstant_of s (λ u. false) ts ≡ None →
-      (i : ℕ) → Shows own (kid_act (constant_forms (without_run s)) less ts i AsValue) (kid_at i (kid_values s own ts))) →
+      (i : ℕ) → Shows all own (kid_act (constant_forms (without_run s)) less ts i AsValue) (kid_at i (kid_values s own ts))) →
       (sc : Scope) → sc.own ≡ own →
-      Ends (over h ts) less (constant_node (without_run s) (marked h m ts) AsValue sc) (tree_value s own (marked h m ts))
-  node-shown h m ts e p f sc q = go (is_type h.kind) refl
+      Ends all (over h ts) less (constant_node (without_run s) (marked h m ts) AsValue sc) (tree_value s own (marked h m ts))
+  node-shown h m ts e p w f sc q = go (is_type h.kind) refl
     where
       placed : (y : Bool) → y ≡ false → (x : Bool) →
-          Ends (over h ts) less (value_in_mode (without_run s) (marked h m ts) AsValue sc (form h m ts sc)) (result h m ts) →
-          Ends (over h ts) less (if not x then gives [] else
+          Ends all (over h ts) less (value_in_mode (without_run s) (marked h m ts) AsValue sc (form h m ts sc)) (result h m ts) →
+          Ends all (over h ts) less (if not x then gives [] else
           (if y then place_in_mode (without_run s) (marked h m ts) AsValue sc (form h m ts sc)
           (constant_place (without_run s) (marked h m ts) sc h.kind)
           else value_in_mode (without_run s) (marked h m ts) AsValue sc (form h m ts sc))) (if x then result h m ts else Known [])
       placed true r x v = absurd cc
       placed false r true v = v
-      placed false r false v = λ st. refl
+      placed false r false v = λ st has. record { ended = refl; has = has }
 
-      idle : (x : Bool) → x ≡ false → Ends (over h ts) less (if not x then gives [] else
+      idle : (x : Bool) → x ≡ false → Ends all (over h ts) less (if not x then gives [] else
           (if is_place s (marked h m ts) then place_in_mode (without_run s) (marked h m ts) AsValue sc (form h m ts sc)
           (constant_place (without_run s) (marked h m ts) sc h.kind)
           else value_in_mode (without_run s) (marked h m ts) AsValue sc (form h m ts sc))) (if x then result h m ts else Known [])
       idle true r = absurd cc
-      idle false r = λ st. refl
+      idle false r = λ st has. record { ended = refl; has = has }
 
       go : (x : Bool) → is_type h.kind ≡ x →
-          Ends (over h ts) less (constant_node (without_run s) (marked h m ts) AsValue sc) (tree_value s own (marked h m ts))
+          Ends all (over h ts) less (constant_node (without_run s) (marked h m ts) AsValue sc) (tree_value s own (marked h m ts))
       go true g = idle (is_evaluated h.kind) (type-idle h.kind g)
       go false g =
           let c = constant_from s h m ts g e in
           placed (is_place s (marked h m ts)) (no_place s (marked h m ts) e) (is_evaluated h.kind)
-          (ends_value_of s own (over h ts) less (kid_values s own ts) (marked h m ts) sc h.kind q
-          (ready h h.kind m ts c.itself p (λ r. f (c.kids r))))
+          (ends_value_of s own all (over h ts) less (kid_values s own ts) (marked h m ts) sc h.kind q
+          (ready h h.kind m ts c.itself p w (λ r. f (c.kids r))))
 
   mutual
     tree-shown : (t : TypedNode) → first_inconstant s (λ u. false) t ≡ None → IsPlain s t →
-        Shows own (node_act (constant_forms (without_run s)) less t AsValue) (tree_value s own t)
-    tree-shown (marked h m ts) e p sc st q = node-shown h m ts e p.0 (λ f i. kids-shown ts f p.1 i) sc q st
+        Safe all (statics_in own t) (has_equality t) → Shows all own (node_act (constant_forms (without_run s)) less t AsValue) (tree_value s own t)
+    tree-shown (marked h m ts) e p w sc st q =
+        node-shown h m ts e p.0 (safe_node all own h m ts w) (λ f i. kids-shown ts f p.1 (safe_kids all own h m ts w) i) sc q st
 
-    pub kids-shown : (ts : TypedNodes) → first_inconstant_of s (λ u. false) ts ≡ None → ArePlain s ts → (i : ℕ) →
-        Shows own (kid_act (constant_forms (without_run s)) less ts i AsValue) (kid_at i (kid_values s own ts))
-    kids-shown typed_none e p i sc st q = refl
-    kids-shown (typed_more t ts) e p zero sc st q = tree-shown t (first-none (first_inconstant s (λ u. false) t) _ e).0 p.0 sc st q
-    kids-shown (typed_more t ts) e p (suc i) sc st q =
-        kids-shown ts (first-none (first_inconstant s (λ u. false) t) _ e).1 p.1 i _ st q
+    pub kids-shown : (ts : TypedNodes) → first_inconstant_of s (λ u. false) ts ≡ None → ArePlain s ts →
+        Safe all (statics_in_each own ts) (has_equality_each ts) → (i : ℕ) →
+        Shows all own (kid_act (constant_forms (without_run s)) less ts i AsValue) (kid_at i (kid_values s own ts))
+    kids-shown typed_none e p w i sc st q = λ has. record { ended = refl; has = has }
+    kids-shown (typed_more t ts) e p w zero sc st q =
+        tree-shown t (first-none (first_inconstant s (λ u. false) t) _ e).0 p.0 (safe_first all own t ts w) sc st q
+    kids-shown (typed_more t ts) e p w (suc i) sc st q =
+        kids-shown ts (first-none (first_inconstant s (λ u. false) t) _ e).1 p.1 (safe_rest all own t ts w) i _ st q
+
+-- the static objects of a tree are those that there are first
+pub has_statics : (own : ℕ) (t : TypedNode) → Has (statics_in own t) (state_without_run (statics (scope_in own) t)).memory
+has_statics own t = record {
+  none_made = refl;
+  others = [];
+  named = sym (append-nil (listed_objects (statics_in own t)) ∙ statics-again own t);
+}
 
 -- the value of a constant is that of its tree
 pub value_shown : (s : Store) (own : ℕ) (t : TypedNode) → first_inconstant s (λ u. false) t ≡ None → IsPlain s t →
-    shown (constant_result s own t).0 ≡ tree_value s own t
-value_shown s own t e p = tree-shown s own (fewer_than (constant_forms (without_run s)) 0) t e p _ _ refl
+    IsCoherent own t → shown (constant_result s own t).0 ≡ tree_value s own t
+value_shown s own t e p c =
+    (tree-shown s own (statics_in own t) (fewer_than (constant_forms (without_run s)) 0) t e p (λ x. (c x, λ o h. h)) (scope_in own)
+    (state_without_run (statics (scope_in own) t)) refl (has_statics own t)).ended
 
 -- ---- the first that is not constant
 
@@ -326,8 +397,8 @@ abbrev pub stops : Store → (own : ℕ) → TypedNode → Bool
 stops s own t = is_abort (constant_result s own t).0
 
 abort_same : (s : Store) (own : ℕ) (t : TypedNode) → first_inconstant s (λ u. false) t ≡ None → IsPlain s t →
-    stops s own t ≡ is_aborted (tree_value s own t)
-abort_same s own t e p = abort-shown (constant_result s own t).0 ∙ ap is_aborted (value_shown s own t e p)
+    IsCoherent own t → stops s own t ≡ is_aborted (tree_value s own t)
+abort_same s own t e p c = abort-shown (constant_result s own t).0 ∙ ap is_aborted (value_shown s own t e p c)
 
 -- where the kids have none, two tests that agree of the node find the same
 same-step : (k : Option TypedNode) (x a b : Bool) (t : TypedNode) → (k ≡ None → x ≡ true → a ≡ b) →
@@ -353,9 +424,11 @@ constant-itself true t e = refl
 constant-itself false t e = absurd cc
 
 mutual
-  pub inconstant_same : (s : Store) (own : ℕ) (t : TypedNode) → IsPlain s t →
+  pub inconstant_same : (s : Store) (own : ℕ) (t : TypedNode) → IsPlain s t → IsCoherent own t →
       first_inconstant s (stops s own) t ≡ first_inconstant s (λ u. is_aborted (tree_value s own u)) t
-  inconstant_same s own (marked h m ts) p = go (is_type h.kind) (inconstant-each s own ts p.1)
+  inconstant_same s own (marked h m ts) p w =
+      go (is_type h.kind) (inconstant-each s own ts p.1 (λ x. coherent_inside (statics_in own (marked h m ts)) (statics_in_each own ts)
+      (w (or-right (is_equality h.kind) (has_equality_each ts) x)) (of_kids own h m ts)))
     where
       go : (x : Bool) → first_inconstant_of s (stops s own) ts ≡ first_inconstant_of s (λ u. is_aborted (tree_value s own u)) ts →
           (if x then None else asked s (stops s own) h m ts) ≡ (if x then None else asked s (λ u. is_aborted (tree_value s own u)) h m ts)
@@ -366,17 +439,23 @@ mutual
           (λ n c. abort_same s own (marked h m ts)
           (if-none (is_type h.kind) (asked s (λ u. false) h m ts)
           (both-none _ _ (none-hidden (hides_kids h.kind ts) _ (first_inconstant_of s (λ u. false) ts) n (constant-each s (stops s own) ts))
-          (constant-itself (is_constant s h.kind m ts) (marked h m ts) c))) p)
+          (constant-itself (is_constant s h.kind m ts) (marked h m ts) c))) p w)
           ∙ ap (λ o. or_else o (if not (is_constant s h.kind m ts) || is_aborted (tree_value s own (marked h m ts)) then Some
           (marked h m ts) else None))
           (same-hidden (hides_kids h.kind ts) _ _ k)
 
   inconstant-each : (s : Store) (own : ℕ) (ts : TypedNodes) → ArePlain s ts →
+      (has_equality_each ts ≡ true → AreCoherent (statics_in_each own ts)) →
       first_inconstant_of s (stops s own) ts ≡ first_inconstant_of s (λ u. is_aborted (tree_value s own u)) ts
-  inconstant-each s own typed_none p = refl
-  inconstant-each s own (typed_more t ts) p =
-      ap (λ o. or_else o (first_inconstant_of s (stops s own) ts)) (inconstant_same s own t p.0)
-      ∙ ap (λ o. or_else (first_inconstant s (λ u. is_aborted (tree_value s own u)) t) o) (inconstant-each s own ts p.1)
+  inconstant-each s own typed_none p w = refl
+  inconstant-each s own (typed_more t ts) p w =
+      let all = statics_in_each own (typed_more t ts) in
+      let here : IsCoherent own t =
+      λ x. coherent_inside all (statics_in own t) (w (or-left (has_equality t) (has_equality_each ts) x)) (first_of own t ts) in
+      let rest : has_equality_each ts ≡ true → AreCoherent (statics_in_each own ts) =
+      λ x. coherent_inside all (statics_in_each own ts) (w (or-right (has_equality t) (has_equality_each ts) x)) (rest_of own t ts) in
+      ap (λ o. or_else o (first_inconstant_of s (stops s own) ts)) (inconstant_same s own t p.0 here)
+      ∙ ap (λ o. or_else (first_inconstant s (λ u. is_aborted (tree_value s own u)) t) o) (inconstant-each s own ts p.1 rest)
 
 -- ---- the constant
 

@@ -1,0 +1,183 @@
+-- Texts, read cell by cell, objects with one number, and trees that compare.
+use Rattle.std.proofs.Common.{◌≡◌, ◌≢◌, ◌∙◌, ℕ, zero, suc, ◌+◌, ◌-◌, ◌<◌, ◌≤◌, Bool, true, false, List, [], ◌∷◌, ◌++◌, length, take, drop, Option, Some, None, ◌⊎◌, inl, inr, refl, ap, sym, subst, arith, append_assoc, append-nil}
+use Rattle.std.proofs.lemmas.Bool.Decides.{nat_tests}
+use Rattle.std.proofs.lemmas.List.{take_all}
+use Rattle.std.proofs.lemmas.List.Elements.{Contains-push_cases}
+use Rattle.std.specs.Option.{option_eq}
+use Rattle.std.specs.Prelude.{not, ◌||◌, slice_get, nat_eq, nat_le, cond, Contains, IsSome, option_map, if◌then◌else◌}
+use Rattle.std.specs.Map.{lookup}
+use Rattle.hare_typed.specs.declared.cell.Cell.{Cell}
+use Rattle.hare_typed.specs.declared.cell.Cell.TheVariants as cell
+use Rattle.hare_typed.specs.declared.constant.ConstObject.{ConstObject}
+use Rattle.hare_typed.specs.Typed.{TypedNode, typed_nodes}
+use Rattle.hare_typed.specs.Cells.{bytes_of, cells_within}
+use Rattle.hare_typed.specs.ConstantValues.{constant_object, listed_objects}
+use Rattle.hare_types.proofs.ListLemmas.{slice_get_none}
+use Rattle.hare_typed.specs.contracts.cell.CellPartialEq.TheImpl.{ghosts}
+use Rattle.hare_typed.proofs.KidLemmas.{take-get}
+use Rattle.hare_typed.proofs.ExitLemmas.{drop-get}
+use Rattle.hare_const.specs.Texts.{cells_found, AreCoherent, bytes_behind, text_of, text_of_kid}
+use Rattle.hare_const.specs.Statics.{has_equality, has_equality_each}
+
+-- ---- objects
+
+found_by : (os : List ConstObject) (i : ℕ) (x : ConstObject) (n : ℕ) (b : Bool) → slice_get os i ≡ Some x → nat_eq n x.object ≡ b →
+    cells_found (drop i os) n ≡ option_map (λ o. o.cells) (cond b (Some (constant_object x.cells)) (lookup (nat_eq n) (listed_objects
+    (drop (i + 1) os))))
+found_by os i x n b e f =
+    ap (λ l. cells_found l n) (drop-get os i x e)
+    ∙ ap (λ c. option_map (λ o. o.cells) (cond c (Some (constant_object x.cells)) (lookup (nat_eq n) (listed_objects (drop (i + 1) os))))) f
+
+-- the object with this number is found
+pub found_here : (os : List ConstObject) (i : ℕ) (x : ConstObject) (n : ℕ) → slice_get os i ≡ Some x → x.object ≡ n →
+    cells_found os n ≡ cells_found (drop i os) n → cells_found os n ≡ Some x.cells
+found_here os i x n e f g = let here : nat_eq n x.object ≡ true = grind (arith, nat_tests) in g ∙ found_by os i x n true e here
+
+-- or it is one behind this
+pub found_next : (os : List ConstObject) (i : ℕ) (x : ConstObject) (n : ℕ) → slice_get os i ≡ Some x → x.object ≢ n →
+    cells_found os n ≡ cells_found (drop i os) n → cells_found os n ≡ cells_found (drop (i + 1) os) n
+found_next os i x n e f g =
+    let other : nat_eq n x.object ≡ false = unlike (nat_eq n x.object) refl in
+    g ∙ found_by os i x n false e other
+  where
+    unlike : (b : Bool) → nat_eq n x.object ≡ b → b ≡ false
+    unlike true h = let same : x.object ≡ n = grind (arith, nat_tests) in absurd (f same)
+    unlike false h = refl
+
+-- each of the first so many is found with its own cells
+abbrev pub AreFound : ℕ → List ConstObject → Type 0
+AreFound i os = (o : ConstObject) → Contains (take i os) o → cells_found os o.object ≡ Some o.cells
+
+pub found_more : (os : List ConstObject) (i : ℕ) (x : ConstObject) → slice_get os i ≡ Some x → cells_found os x.object ≡ Some x.cells →
+    AreFound i os → AreFound (i + 1) os
+found_more os i x e f h o c = by (Contains-push_cases (take i os) x o (subst (λ l. Contains l o) (take-get os i x e) c))
+  where
+    by : Contains (take i os) o ⊎ (x ≡ o) → cells_found os o.object ≡ Some o.cells
+    by (inl d) = h o d
+    by (inr g) = subst (λ y. cells_found os y.object ≡ Some y.cells) g f
+
+pub found_all : (os : List ConstObject) (i : ℕ) → length os ≤ i → AreFound i os → AreCoherent os
+found_all os i e h o c = h o (subst (λ l. Contains l o) (sym (take_all i os e)) c)
+
+-- ---- cells
+
+-- what `==` of two cells says
+abbrev pub cell_eq : Cell → Cell → Bool
+cell_eq = ghosts.eq
+
+same_cell : (a b : Cell) → cell_eq a b ≡ true → a ≡ b
+same_cell (cell.Byte x) (cell.Byte y) e = let same : x ≡ y = grind (arith, nat_tests) in ap cell.Byte same
+same_cell (cell.Byte x) (cell.Fragment p f l) e = absurd cc
+same_cell (cell.Byte x) cell.Undef e = absurd cc
+same_cell (cell.Fragment o d k) (cell.Byte y) e = absurd cc
+same_cell (cell.Fragment o d k) (cell.Fragment p f l) e =
+    let object : o ≡ p = grind (arith, nat_tests) in
+    let offset : d ≡ f = grind (arith, nat_tests) in
+    let place : k ≡ l = grind (arith, nat_tests) in
+    cc
+same_cell (cell.Fragment o d k) cell.Undef e = absurd cc
+same_cell cell.Undef (cell.Byte y) e = absurd cc
+same_cell cell.Undef (cell.Fragment p f l) e = absurd cc
+same_cell cell.Undef cell.Undef e = refl
+
+same_option : (a b : Option Cell) → option_eq cell_eq a b ≡ true → a ≡ b
+same_option None None e = refl
+same_option None (Some b) e = absurd cc
+same_option (Some a) None e = absurd cc
+same_option (Some a) (Some b) e = ap Some (same_cell a b e)
+
+-- the cells so far are the same with one more
+pub cells_same_more : (xs ys : List Cell) (i : ℕ) (a b : Option Cell) → a ≡ slice_get xs i → b ≡ slice_get ys i →
+    false ≡ not (option_eq cell_eq a b) → take i xs ≡ take i ys → take (i + 1) xs ≡ take (i + 1) ys
+cells_same_more xs ys i a b e f g h = by a (sym e) (sym f ∙ sym (same_option a b (told (option_eq cell_eq a b) g)))
+  where
+    told : (r : Bool) → false ≡ not r → r ≡ true
+    told true q = refl
+    told false q = absurd cc
+
+    past : (zs : List Cell) → slice_get zs i ≡ None → take (i + 1) zs ≡ take i zs
+    past zs q =
+        let ended : length zs ≤ i = slice_get_none zs i q in
+        let further : length zs ≤ i + 1 = omega (arith, ended) in
+        take_all (i + 1) zs further ∙ sym (take_all i zs ended)
+
+    by : (c : Option Cell) → slice_get xs i ≡ c → slice_get ys i ≡ c → take (i + 1) xs ≡ take (i + 1) ys
+    by None p q = past xs p ∙ h ∙ sym (past ys q)
+    by (Some x) p q = take-get xs i x p ∙ ap (λ l. l ++ x ∷ []) h ∙ sym (take-get ys i x q)
+
+-- ---- equalities
+
+-- one stands in those from here on, where one stands in the first of them
+pub equality_here : (ts : List TypedNode) (i : ℕ) (x : TypedNode) → slice_get ts i ≡ Some x → has_equality x ≡ true →
+    has_equality_each (typed_nodes (drop i ts)) ≡ true
+equality_here ts i x e f =
+    ap (λ us. has_equality_each (typed_nodes us)) (drop-get ts i x e)
+    ∙ ap (λ b. b || has_equality_each (typed_nodes (drop (i + 1) ts))) f
+
+-- or else where one stands behind it
+pub equality_behind : (ts : List TypedNode) (i : ℕ) (x : TypedNode) → slice_get ts i ≡ Some x → has_equality x ≡ false →
+    has_equality_each (typed_nodes (drop i ts)) ≡ has_equality_each (typed_nodes (drop (i + 1) ts))
+equality_behind ts i x e f =
+    ap (λ us. has_equality_each (typed_nodes us)) (drop-get ts i x e)
+    ∙ ap (λ b. b || has_equality_each (typed_nodes (drop (i + 1) ts))) f
+
+-- ---- bytes
+
+-- one byte more of those that are left
+left_next : (cs : List Cell) (from count i : ℕ) (b : ℕ) → slice_get cs (from + i) ≡ Some (cell.Byte b) → i < count →
+    take (count - i) (drop (from + i) cs) ≡ cell.Byte b ∷ take (count - (i + 1)) (drop (from + (i + 1)) cs)
+left_next cs from count i b e h =
+    let more : count - i ≡ suc (count - (i + 1)) = omega arith in
+    let next : from + i + 1 ≡ from + (i + 1) = omega arith in
+    ap (λ k. take k (drop (from + i) cs)) more
+    ∙ ap (take (suc (count - (i + 1)))) (drop-get cs (from + i) (cell.Byte b) e)
+    ∙ ap (λ k. cell.Byte b ∷ take (count - (i + 1)) (drop k cs)) next
+
+pub byte_more : (cs : List Cell) (from count i : ℕ) (b : ℕ) (out new : List ℕ) (all : Option (List ℕ)) →
+    slice_get cs (from + i) ≡ Some (cell.Byte b) → i < count → new ≡ out ++ b ∷ [] →
+    option_map (λ bs. out ++ bs) (bytes_of (take (count - i) (drop (from + i) cs))) ≡ all →
+    option_map (λ bs. new ++ bs) (bytes_of (take (count - (i + 1)) (drop (from + (i + 1)) cs))) ≡ all
+byte_more cs from count i b out new all e h f g =
+    joined (bytes_of (take (count - (i + 1)) (drop (from + (i + 1)) cs)))
+    ∙ sym (ap (λ l. option_map (λ bs. out ++ bs) (bytes_of l)) (left_next cs from count i b e h)) ∙ g
+  where
+    joined : (o : Option (List ℕ)) → option_map (λ bs. new ++ bs) o ≡ option_map (λ bs. out ++ bs) (option_map (λ bs. b ∷ bs) o)
+    joined None = refl
+    joined (Some bs) = ap Some (ap (λ l. l ++ bs) f ∙ append_assoc out (b ∷ []) bs)
+
+pub byte_seen : (cs : List Cell) (from count i : ℕ) (b : ℕ) (G : Type 0) → slice_get cs (from + i) ≡ Some (cell.Byte b) → i < count →
+    (IsSome (bytes_of (take (count - i) (drop (from + i) cs))) → G) →
+    IsSome (bytes_of (take (count - (i + 1)) (drop (from + (i + 1)) cs))) → G
+byte_seen cs from count i b G e h go rest =
+    go (subst (λ l. IsSome (bytes_of l)) (sym (left_next cs from count i b e h))
+    (some (bytes_of (take (count - (i + 1)) (drop (from + (i + 1)) cs))) rest))
+  where
+    some : (o : Option (List ℕ)) → IsSome o → IsSome (option_map (λ bs. b ∷ bs) o)
+    some None k = k
+    some (Some bs) k = refl
+
+-- none is left
+pub bytes_read : (cs : List Cell) (from count i : ℕ) (out : List ℕ) → from + count ≤ length cs → count ≤ i →
+    option_map (λ bs. out ++ bs) (bytes_of (take (count - i) (drop (from + i) cs))) ≡ bytes_of (cells_within from count cs) →
+    bytes_behind from count cs ≡ Some out
+bytes_read cs from count i out few h e =
+    let there : nat_le (from + count) (length cs) ≡ true = grind (arith, nat_tests) in
+    let none : count - i ≡ 0 = omega arith in
+    ap (λ b. if b then bytes_of (cells_within from count cs) else None) there
+    ∙ sym e ∙ ap (λ k. option_map (λ bs. out ++ bs) (bytes_of (take k (drop (from + i) cs)))) none ∙ ap Some (append-nil out)
+
+pub bytes_seen : (cs : List Cell) (from count i : ℕ) → from + count ≤ length cs → count ≤ i →
+    (IsSome (bytes_of (take (count - i) (drop (from + i) cs))) → IsSome (bytes_of (cells_within from count cs))) →
+    IsSome (bytes_behind from count cs)
+bytes_seen cs from count i few h go =
+    let there : nat_le (from + count) (length cs) ≡ true = grind (arith, nat_tests) in
+    let none : count - i ≡ 0 = omega arith in
+    subst (λ b. IsSome (if b then bytes_of (cells_within from count cs) else None)) (sym there)
+    (go (subst (λ k. IsSome (bytes_of (take k (drop (from + i) cs)))) (sym none) refl))
+
+-- ---- kids
+
+pub text_at : (ts : List TypedNode) (i : ℕ) (x : TypedNode) → slice_get ts i ≡ Some x → text_of_kid i (typed_nodes ts) ≡ text_of x
+text_at [] i x e = absurd cc
+text_at (t ∷ ts) zero x e = let same : t ≡ x = cc in ap text_of same
+text_at (t ∷ ts) (suc i) x e = text_at ts i x e

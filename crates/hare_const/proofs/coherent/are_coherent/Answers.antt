@@ -1,0 +1,23 @@
+use Rattle.std.proofs.Common.{◌≡◌, ◌∙◌, ◌≤◌, length, sym, ap, arith}
+use Rattle.std.specs.Prelude.{slice_get, Some}
+use Rattle.hare_const.specs.Statics.{statics_in}
+use Rattle.hare_const.specs.Texts.{cells_found}
+use Rattle.hare_const.proofs.TextLemmas.{found_more, found_all}
+use Rattle.hare_const.proofs.coherent.are_coherent.Goals as goal
+
+pub loop-i-preserved : goal.loop-i-preserved
+loop-i-preserved c =
+    let all = statics_in c.args.own c.args.t.now in
+    let o = c.in-Some.o.now in
+    let there : slice_get all c.loop-i.i ≡ Some o = ap (λ os. slice_get os c.loop-i.i) (sym c.in_ok-objects.ensures) ∙ sym c.in-Some.ensures in
+    let found : cells_found all o.object ≡ Some o.cells =
+    ap (λ os. cells_found os o.object) (sym c.in_ok-statics_of.ensures) ∙ sym (c.in_ok-table.ensures o.object)
+    ∙ sym c.in-Some-get.ensures.value ∙ ap Some (c.same_cells.ensures c.if-not-same_cells.false) in
+    found_more all c.loop-i.i o there found c.loop-i.invariant
+
+pub returns : goal.returns
+returns c e =
+    let all = statics_in c.args.own c.args.t.now in
+    let ended : length all ≤ c.loop-i.i =
+    omega (arith, sym (ap length c.in_ok-objects.ensures), c.len-i-end.ensures, c.loop-i-test.false) in
+    found_all all c.loop-i.i ended c.loop-i.invariant

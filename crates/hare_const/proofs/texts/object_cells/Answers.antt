@@ -1,0 +1,11 @@
+use Rattle.std.proofs.Common.{sym}
+use Rattle.hare_const.proofs.TextLemmas.{found_here, found_next}
+use Rattle.hare_const.proofs.texts.object_cells.Goals as goal
+
+pub returns-then-o-number : goal.returns-then-o-number
+returns-then-o-number c =
+    found_here c.args.objects.now c.loop-i.i c.in-Some.o.now c.args.number (sym c.in-Some.ensures) c.if-o-number.true c.loop-i.invariant
+
+pub loop-i-preserved : goal.loop-i-preserved
+loop-i-preserved c =
+    found_next c.args.objects.now c.loop-i.i c.in-Some.o.now c.args.number (sym c.in-Some.ensures) c.if-o-number.false c.loop-i.invariant

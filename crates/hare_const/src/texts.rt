@@ -1,0 +1,195 @@
+//! Texts whose bytes are told without an evaluation: strings, and the constants of defs, each in parentheses or not.
+
+ghost use Rattle.std.specs.Prelude.{◌≡◌, true, Some, IsSome, IfOk, IfSome};
+ghost use Rattle.hare_typed.specs.Typed.{typed_nodes, mark_of, kids_of};
+ghost use Rattle.hare_const.specs.NodeValues as values;
+ghost use Rattle.hare_const.specs.Texts as spec;
+
+use crate::words::text_words;
+use hare_tree::Kind;
+use hare_typed::{Cell, Cells, Const, ConstObjects, Typed, TypedKids};
+use std::alloc::{AllocError, Global};
+
+/// Strings have fewer bytes.
+const LONGEST: u64 = 1 << 32;
+
+/// The row of a coercion to the type that a value has.
+const SAME_TYPE: u8 = 1;
+
+/// The row of a coercion between types of one base.
+const SAME_BASE: u8 = 8;
+
+/// Whether a coercion leaves a text as it is.
+fn keeps_text(t: &Typed) -> bool
+    ensures { result ≡ spec.keeps_text (mark_of t.now).coerce.row }
+{
+    t.coerce.row == SAME_TYPE || t.coerce.row == SAME_BASE
+}
+
+/// The cells of the first object with this number.
+fn object_cells(objects: &ConstObjects, number: u64) -> Option<&Cells>
+    ensures { IfSome result (λ cs. spec.cells_found objects.now number ≡ Some cs.now) }
+{
+    for i in 0..objects.len() {
+        let Some(o) = objects.get(i) else {
+            return None;
+        };
+        if o.object == number {
+            return Some(&o.cells);
+        }
+    }
+    None
+}
+
+/// The bytes that so many cells from a place on are; none where there are fewer, or where one is no byte.
+fn bytes_behind(
+    alloc: Global,
+    cells: &Cells,
+    from: usize,
+    count: usize,
+) -> Result<Option<Vec<u8>>, AllocError>
+    ensures { IfOk result (λ o. IfSome o (λ v. spec.bytes_behind from count cells.now ≡ Some v.items)) }
+{
+    if from > cells.len() || count > cells.len() - from {
+        return Ok(None);
+    }
+    let mut out = Vec::new(alloc);
+    for i in 0..count {
+        let Some(Cell::Byte(b)) = cells.get(from + i) else {
+            return Ok(None);
+        };
+        out.push(b)?;
+    }
+    Ok(Some(out))
+}
+
+/// The bytes of the text that a constant is, among the objects that it lists.
+fn text_in(alloc: Global, c: &Const) -> Result<Option<Vec<u8>>, AllocError>
+    ensures { IfOk result (λ o. IfSome o (λ v. spec.text_in c.now ≡ Some v.items)) }
+{
+    let Const::Known { cells, objects } = c else {
+        return Ok(None);
+    };
+    let Some(text) = text_words(cells) else {
+        return Ok(None);
+    };
+    match object_cells(objects, text.object) {
+        Some(held) => bytes_behind(alloc, held, text.offset as usize, text.length as usize),
+        None => Ok(None),
+    }
+}
+
+/// The bytes of a string; none of one that is too long.
+fn string_bytes(alloc: Global, bytes: &[u8]) -> Result<Option<Vec<u8>>, AllocError>
+    ensures { IfOk result (λ o. IfSome o (λ v. spec.unless_long bytes.now ≡ Some v.items)) }
+{
+    if bytes.len() as u64 >= LONGEST {
+        return Ok(None);
+    }
+    Ok(Some(Vec::from_slice(alloc, bytes)?))
+}
+
+/// The bytes of the text that a tree is; none where they are not told.
+#[cycle(texts)]
+fn text_of(alloc: Global, t: &Typed) -> Result<Option<Vec<u8>>, AllocError>
+    ensures { IfOk result (λ o. IfSome o (λ v. spec.text_of t.now ≡ Some v.items)) }
+{
+    if !keeps_text(t) {
+        return Ok(None);
+    }
+    match t.kind {
+        Kind::Str => string_bytes(alloc, t.text.bytes()),
+        Kind::Path => text_in(alloc, &t.value),
+        Kind::Paren => text_of_kid(alloc, &t.kids, 0),
+        _ => Ok(None),
+    }
+}
+
+/// The bytes of the text that the kid with so many before it is; none where they are not told.
+#[cycle(texts)]
+fn text_of_kid(alloc: Global, kids: &TypedKids, i: usize) -> Result<Option<Vec<u8>>, AllocError>
+    ensures { IfOk result (λ o. IfSome o (λ v. spec.text_of_kid i (typed_nodes kids.now) ≡ Some v.items)) }
+{
+    let Some(kid) = kids.get(i) else {
+        return Ok(None);
+    };
+    text_of(alloc, kid)
+}
+
+/// Whether two operands are texts of the same bytes. Want of memory where one of them is not told.
+pub(crate) fn same_texts(alloc: Global, t: &Typed) -> Result<bool, AllocError>
+    ensures { IfOk result (λ b. b ≡ values.same_texts (kids_of t.now)) }
+{
+    let Some(left) = text_of_kid(alloc, &t.kids, 0)? else {
+        return Err(AllocError);
+    };
+    let Some(right) = text_of_kid(alloc, &t.kids, 1)? else {
+        return Err(AllocError);
+    };
+    Ok(left.as_slice() == right.as_slice())
+}
+
+/// Whether so many cells from a place on are there, and each is a byte.
+fn are_bytes(cells: &Cells, from: usize, count: usize) -> bool
+    ensures { result ≡ true → IsSome (spec.bytes_behind from count cells.now) }
+{
+    if from > cells.len() || count > cells.len() - from {
+        return false;
+    }
+    for i in 0..count {
+        let Some(Cell::Byte(_)) = cells.get(from + i) else {
+            return false;
+        };
+    }
+    true
+}
+
+/// Whether a constant is a text whose bytes are those of an object that it lists.
+fn has_text(c: &Const) -> bool
+    ensures { result ≡ true → IsSome (spec.text_in c.now) }
+{
+    let Const::Known { cells, objects } = c else {
+        return false;
+    };
+    let Some(text) = text_words(cells) else {
+        return false;
+    };
+    match object_cells(objects, text.object) {
+        Some(held) => are_bytes(held, text.offset as usize, text.length as usize),
+        None => false,
+    }
+}
+
+/// Whether a tree is a text whose bytes are told.
+#[cycle(told)]
+fn is_text(t: &Typed) -> bool
+    ensures { result ≡ true → IsSome (spec.text_of t.now) }
+{
+    if !keeps_text(t) {
+        return false;
+    }
+    match t.kind {
+        Kind::Str => (t.text.bytes().len() as u64) < LONGEST,
+        Kind::Path => has_text(&t.value),
+        Kind::Paren => is_text_kid(&t.kids, 0),
+        _ => false,
+    }
+}
+
+/// Whether the kid with so many before it is a text whose bytes are told.
+#[cycle(told)]
+fn is_text_kid(kids: &TypedKids, i: usize) -> bool
+    ensures { result ≡ true → IsSome (spec.text_of_kid i (typed_nodes kids.now)) }
+{
+    let Some(kid) = kids.get(i) else {
+        return false;
+    };
+    is_text(kid)
+}
+
+/// Whether both operands are texts whose bytes are told.
+pub(crate) fn are_texts(t: &Typed) -> bool
+    ensures { result ≡ true → spec.AreTexts (kids_of t.now) }
+{
+    is_text_kid(&t.kids, 0) && is_text_kid(&t.kids, 1)
+}
