@@ -42,7 +42,8 @@ fn laid(
     none: &Outcome,
 ) -> Result<Outcome, AllocError>
     requires { none.now ≡ Known [] }
-    ensures { IfOk result (λ o. o ≡ spec.kids_at 0 (items_of kind.Array (kids_of t.now)) kids.now (λ cs. Known (spec.array_value s.now t.now cs))) }
+    ensures { IfOk result (λ o. o ≡ spec.kids_at 0 (items_of kind.Array (kids_of t.now)) kids.now
+        (λ cs. Known (spec.array_value s.now t.now cs))) }
 {
     let mut whole = Cells::new(alloc);
     let mut last = 0;
@@ -65,7 +66,8 @@ pub(crate) fn array_value(
     t: &Typed,
     kids: &[Outcome],
 ) -> Result<Outcome, AllocError>
-    ensures { IfOk result (λ o. o ≡ spec.kids_at 0 (items_of kind.Array (kids_of t.now)) kids.now (λ cs. Known (spec.array_value s.now t.now cs))) }
+    ensures { IfOk result (λ o. o ≡ spec.kids_at 0 (items_of kind.Array (kids_of t.now)) kids.now
+        (λ cs. Known (spec.array_value s.now t.now cs))) }
 {
     let none = Outcome::Known(Cells::new(alloc));
     laid(alloc, s, t, kids, &none)

@@ -34,8 +34,8 @@ fn is_slice(s: &TypeStore, t: TypeId) -> bool
     matches!(base_row(s, t), Some(Row::Slice(_)))
 }
 
-/// The value of a node as a row of the table of assignability gives it at a type, other than the row to unions: a number at the type, null, a slice over
-/// the node's object, or the value as it is. The object of an array that becomes a slice is put behind the others.
+/// The value of a node as a row of the table of assignability gives it at a type, other than the row to unions: a number at the type, null,
+/// a slice over the node's object, or the value as it is. The object of an array that becomes a slice is put behind the others.
 fn by_row(
     alloc: Global,
     s: &TypeStore,
@@ -119,8 +119,8 @@ fn as_union(
     }
 }
 
-/// The value of a node as its coercion gives it. The object of an array that becomes a slice is put behind the others, also where it becomes one as a
-/// member of a union.
+/// The value of a node as its coercion gives it. The object of an array that becomes a slice is put behind the others, also where it
+/// becomes one as a member of a union.
 pub(crate) fn coerced_cells(
     alloc: Global,
     s: &TypeStore,

@@ -89,8 +89,9 @@ fn are_coherent(alloc: Global, own: u32, t: &Typed) -> Result<bool, AllocError>
     Ok(true)
 }
 
-/// Whether a value of the declaration `own` holds no equality, or the objects of the strings and of the constants in it that have one number have the same
-/// cells, as they have in each tree that was checked. Where there is an equality, each cell of the objects is looked at.
+/// Whether a value of the declaration `own` holds no equality, or the objects of the strings and of the constants in it that have one
+/// number have the same cells, as they have in each tree that was checked. Where there is an equality, each cell of the objects is looked
+/// at.
 pub fn is_coherent(alloc: Global, own: u32, t: &Typed) -> Result<bool, AllocError>
     requires { own < 2 ^ 32 - 1 }
     ensures { IfOk result (λ b. b ≡ true → spec.IsCoherent own t.now) }

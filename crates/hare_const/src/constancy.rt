@@ -40,8 +40,8 @@ pub(crate) fn is_type(kind: Kind) -> bool
     )
 }
 
-/// Whether a node of this kind is evaluated: declarations, types and patterns are not, nor is what only stands for a token or holds what another node
-/// looks at.
+/// Whether a node of this kind is evaluated: declarations, types and patterns are not, nor is what only stands for a token or holds what
+/// another node looks at.
 pub(crate) fn is_evaluated(kind: Kind) -> bool
     ensures { result ≡ evaluated kind }
 {

@@ -25,7 +25,8 @@ fn limits_of(k: Scalar) -> Option<Limits>
     ensures low { IfSome result (λ r. neg_ℤ (pos (2 ^ 63)) ≤ℤ r.least) }
     ensures some { IfSome result (λ r. r.least ≤ℤ r.greatest) }
     ensures high { IfSome result (λ r. r.greatest <ℤ pos (2 ^ 64)) }
-    ensures value { MatchOption result (range_of_word k ≡ None) (λ r. range_of_word k ≡ Some (record { least = r.least; greatest = r.greatest })) }
+    ensures value { MatchOption result (range_of_word k ≡ None)
+        (λ r. range_of_word k ≡ Some (record { least = r.least; greatest = r.greatest })) }
 {
     let (least, greatest) = match k {
         Scalar::Void | Scalar::Never | Scalar::Opaque | Scalar::Str => return None,
@@ -47,7 +48,8 @@ pub fn limits_at(s: &TypeStore, t: TypeId) -> Option<Limits>
     ensures low { IfSome result (λ r. neg_ℤ (pos (2 ^ 63)) ≤ℤ r.least) }
     ensures some { IfSome result (λ r. r.least ≤ℤ r.greatest) }
     ensures high { IfSome result (λ r. r.greatest <ℤ pos (2 ^ 64)) }
-    ensures value { MatchOption result (range_of (row_of_base s.now (ty.Of t)) ≡ None) (λ r. range_of (row_of_base s.now (ty.Of t)) ≡ Some (record { least = r.least; greatest = r.greatest })) }
+    ensures value { MatchOption result (range_of (row_of_base s.now (ty.Of t)) ≡ None)
+        (λ r. range_of (row_of_base s.now (ty.Of t)) ≡ Some (record { least = r.least; greatest = r.greatest })) }
 {
     match base_row(s, t) {
         Some(Row::Scalar(k)) => limits_of(*k),
@@ -55,8 +57,8 @@ pub fn limits_at(s: &TypeStore, t: TypeId) -> Option<Limits>
     }
 }
 
-/// Whether constants of a type are all its values: of an integer type or rune, from its least to its greatest, and of bool both. They ascend, and one
-/// may stand there more than once. Texts have no end, so that no constants cover `str`. Takes no memory, and one pass.
+/// Whether constants of a type are all its values: of an integer type or rune, from its least to its greatest, and of bool both. They
+/// ascend, and one may stand there more than once. Texts have no end, so that no constants cover `str`. Takes no memory, and one pass.
 pub fn covers(s: &TypeStore, t: TypeId, cases: &Consts) -> bool
     requires { Ascend s.now t cases.now }
     ensures { IsTrue result ↔ Cover s.now t cases.now }

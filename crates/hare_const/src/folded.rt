@@ -50,14 +50,14 @@ fn cells_and_objects(
     Ok(cells_of(outcome))
 }
 
-/// The cells of the constant that a value of the declaration `own` has, as its coercion gives it; or E21 at its first node, in check order, that is no
-/// constant or whose evaluation would abort, also where it would not run. `None` where the evaluation meets an undefined act, which it does in no tree
-/// that was checked.
+/// The cells of the constant that a value of the declaration `own` has, as its coercion gives it; or E21 at its first node, in check order,
+/// that is no constant or whose evaluation would abort, also where it would not run. `None` where the evaluation meets an undefined act,
+/// which it does in no tree that was checked.
 ///
-/// Nothing is asked of the tree: where it tells too little, which `is_settled` tests, the answer is want of memory, as that of `constant` is. In a union
-/// the tag of a type is one more than its id. Each node is evaluated once, and the call goes as deep in the host as the tree is. The parts of a tuple
-/// take the memory of their own cells, and so do the fields of a struct that are written in the order of its type; where a field is written behind a
-/// later one, each cell that is known by then is copied once more.
+/// Nothing is asked of the tree: where it tells too little, which `is_settled` tests, the answer is want of memory, as that of `constant`
+/// is. In a union the tag of a type is one more than its id. Each node is evaluated once, and the call goes as deep in the host as the tree
+/// is. The parts of a tuple take the memory of their own cells, and so do the fields of a struct that are written in the order of its type;
+/// where a field is written behind a later one, each cell that is known by then is copied once more.
 pub fn constant_cells(
     alloc: Global,
     s: &TypeStore,
@@ -78,16 +78,17 @@ pub fn constant_cells(
     cells_and_objects(alloc, s, own, t, &mut made)
 }
 
-/// The constant that a value of the declaration `own` has, as its coercion gives it; `Absent` where one of its nodes is no constant, or would abort.
-/// It is the constant over each later store too. The objects of strings, and of arrays that become slices, to which its cells lead are listed with it.
+/// The constant that a value of the declaration `own` has, as its coercion gives it; `Absent` where one of its nodes is no constant, or
+/// would abort. It is the constant over each later store too. The objects of strings, and of arrays that become slices, to which its cells
+/// lead are listed with it.
 ///
-/// Where the store or the tree tells too little, the answer is want of memory: so it is of a tree with a type that comes to a name which is not
-/// defined, or with a tuple or struct whose size is not known to be at most 67,108,864 bytes, or with parts that its type has not; of a value that goes to a
-/// union of which, or of whose members, so much is not known; of cells that
-/// lead to objects which are not there, where there are more of these than there are objects; and of a tree with an equality in which objects with one
-/// number have other cells. It is so also of what the crate does not work out yet: an equality of texts of which one is no string and no name of a
-/// def, in parentheses or not. The tag of a type in a union is one more than its id, in each store. The time is that of the tree and of the cells, and
-/// n log n in the objects; where there is an equality, that of the cells of the objects too.
+/// Where the store or the tree tells too little, the answer is want of memory: so it is of a tree with a type that comes to a name which is
+/// not defined, or with a tuple or struct whose size is not known to be at most 67,108,864 bytes, or with parts that its type has not; of a
+/// value that goes to a union of which, or of whose members, so much is not known; of cells that lead to objects which are not there, where
+/// there are more of these than there are objects; and of a tree with an equality in which objects with one number have other cells. It is
+/// so also of what the crate does not work out yet: an equality of texts of which one is no string and no name of a def, in parentheses or
+/// not. The tag of a type in a union is one more than its id, in each store. The time is that of the tree and of the cells, and n log n in
+/// the objects; where there is an equality, that of the cells of the objects too.
 pub fn constant(alloc: Global, s: &TypeStore, own: u32, t: &Typed) -> Result<Const, AllocError>
     requires own { own < 2 ^ 32 - 1 }
     ensures { IfOk result (λ c. (l : Store) → IsLater s.now l → c ≡ folded l own t.now) }

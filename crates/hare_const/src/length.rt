@@ -63,10 +63,11 @@ fn number_at(s: &TypeStore, t: &Typed) -> Option<u128>
     }
 }
 
-/// The length of an array that a node is: a literal without a suffix or with that of size, or the name of a def of integer base, with a value from 0
-/// to 67,108,864. Any other node is E24, at its place. Takes no memory.
+/// The length of an array that a node is: a literal without a suffix or with that of size, or the name of a def of integer base, with a
+/// value from 0 to 67,108,864. Any other node is E24, at its place. Takes no memory.
 pub fn array_length(s: &TypeStore, t: &Typed) -> Result<u64, Fault>
-    ensures { MatchResult result (λ n. spec.length_of s.now t.now ≡ Some n) (λ f. (spec.length_of s.now t.now ≡ None) × (f ≡ spec.bad_length t.now)) }
+    ensures { MatchResult result (λ n. spec.length_of s.now t.now ≡ Some n)
+        (λ f. (spec.length_of s.now t.now ≡ None) × (f ≡ spec.bad_length t.now)) }
 {
     match number_at(s, t) {
         Some(n) if n <= MOST => Ok(n as u64),

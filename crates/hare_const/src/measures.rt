@@ -168,8 +168,8 @@ fn is_array(s: &TypeStore, t: Ty) -> bool
     matches!(base_row(s, t), Some(Row::Array(_, _)))
 }
 
-/// The value of `len(..)`: the length of an array is in its type, and that of a text among its cells. Cells that are no text are want of memory; no
-/// tree that was checked comes to them.
+/// The value of `len(..)`: the length of an array is in its type, and that of a text among its cells. Cells that are no text are want of
+/// memory; no tree that was checked comes to them.
 pub(crate) fn length_value(
     alloc: Global,
     s: &TypeStore,

@@ -145,8 +145,8 @@ fn own_value(
     }
 }
 
-/// The value of a node, as its coercion gives it, from those of its kids. Where it is an array that becomes a slice, its object is put behind the
-/// others.
+/// The value of a node, as its coercion gives it, from those of its kids. Where it is an array that becomes a slice, its object is put
+/// behind the others.
 pub(crate) fn node_value(
     alloc: Global,
     s: &TypeStore,

@@ -153,7 +153,8 @@ pub(crate) fn byte_cells_of(alloc: Global, number: u64, bytes: u32) -> Result<Ce
     Ok(cells)
 }
 
-/// The cells of a number at a type: as many bytes as it has, the lowest first, in two's complement. A whole number without a suffix has none.
+/// The cells of a number at a type: as many bytes as it has, the lowest first, in two's complement. A whole number without a suffix has
+/// none.
 pub fn number_cells(alloc: Global, s: &TypeStore, t: Ty, v: i128) -> Result<Cells, AllocError>
     ensures { IfOk result (λ cells. cells ≡ cells_of_number s.now t v) }
 {

@@ -83,8 +83,8 @@ fn fields_given(alloc: Global, s: &TypeStore, of: TypeId, t: &Typed) -> Result<V
     Ok(places)
 }
 
-/// Parts at their offsets, which are the values of the kids from one on, in whatever order; `none` stands for a kid that is not there. Where each part
-/// of the type begins is worked out once.
+/// Parts at their offsets, which are the values of the kids from one on, in whatever order; `none` stands for a kid that is not there.
+/// Where each part of the type begins is worked out once.
 fn laid(
     alloc: Global,
     s: &TypeStore,
@@ -98,7 +98,8 @@ fn laid(
     requires parts { All (HasPart s.now of) parts.now }
     requires from { from ≤ 1 }
     requires none { none.now ≡ Known [] }
-    ensures { IfOk result (λ o. o ≡ spec.kids_at from (length parts.now) kids.now (λ cs. Known (forms.made_of s.now (ty.Of of) parts.now cs))) }
+    ensures { IfOk result (λ o. o ≡ spec.kids_at from (length parts.now) kids.now
+        (λ cs. Known (forms.made_of s.now (ty.Of of) parts.now cs))) }
 {
     let size = size_of(s, of) as usize;
     let starts = starts_of(alloc, s, of)?;
@@ -126,7 +127,8 @@ pub(crate) fn tuple_value(
     kids: &[Outcome],
 ) -> Result<Outcome, AllocError>
     requires { spec.HasParts s.now (own_type t.now) (spec.components_given t.now) }
-    ensures { IfOk result (λ o. o ≡ spec.kids_at 0 (items_of kind.Tuple (kids_of t.now)) kids.now (λ cs. Known (spec.tuple_value s.now t.now cs))) }
+    ensures { IfOk result (λ o. o ≡ spec.kids_at 0 (items_of kind.Tuple (kids_of t.now)) kids.now
+        (λ cs. Known (spec.tuple_value s.now t.now cs))) }
 {
     let Ty::Of(of) = t.ty else { unreachable!() };
     let parts = components_given(alloc, t)?;
@@ -142,7 +144,8 @@ pub(crate) fn struct_value(
     kids: &[Outcome],
 ) -> Result<Outcome, AllocError>
     requires { spec.HasParts s.now (own_type t.now) (spec.fields_given s.now t.now) }
-    ensures { IfOk result (λ o. o ≡ spec.kids_at 1 (items_of kind.StructLit (kids_of t.now)) kids.now (λ cs. Known (spec.struct_value s.now t.now cs))) }
+    ensures { IfOk result (λ o. o ≡ spec.kids_at 1 (items_of kind.StructLit (kids_of t.now)) kids.now
+        (λ cs. Known (spec.struct_value s.now t.now cs))) }
 {
     let Ty::Of(of) = t.ty else { unreachable!() };
     let parts = fields_given(alloc, s, of, t)?;

@@ -21,8 +21,9 @@ pub(crate) struct Part {
     pub kid: usize,
 }
 
-/// The known cells of a value of `size` cells once a part is put into it behind them, at its place. Takes the memory that the part's own cells take, and
-/// one for what lies between. Where the part begins before the end of what is known, or has no room, the answer is want of memory.
+/// The known cells of a value of `size` cells once a part is put into it behind them, at its place. Takes the memory that the part's own
+/// cells take, and one for what lies between. Where the part begins before the end of what is known, or has no room, the answer is want of
+/// memory.
 fn with_part(
     alloc: Global,
     cells: Cells,
@@ -51,9 +52,9 @@ fn with_part(
     Ok(more)
 }
 
-/// A value of `size` cells of these parts, with undefined cells between them. They are laid from front to back, in whatever order they are given. Where
-/// two of them have cells at one place, or one has no room, the answer is want of memory: no struct or tuple has such parts. `none` stands for a kid
-/// that is not there.
+/// A value of `size` cells of these parts, with undefined cells between them. They are laid from front to back, in whatever order they are
+/// given. Where two of them have cells at one place, or one has no room, the answer is want of memory: no struct or tuple has such parts.
+/// `none` stands for a kid that is not there.
 pub(crate) fn whole_of(
     alloc: Global,
     size: usize,

@@ -99,7 +99,8 @@ fn met_at(met: &Met, i: usize) -> Option<u64>
 fn meet_next(met: &mut Met, table: &Table, i: usize) -> Result<(), AllocError>
     requires { met.old.numbers.keys ≡ ascending met.old.order.items }
     ensures numbers { OnOk result (met.new.numbers.keys ≡ ascending met.new.order.items) }
-    ensures order { OnOk result (spec.Adds (spec.led_from (get nat_cmp table.now) (slice_get met.old.order.items i)) met.old.order.items met.new.order.items) }
+    ensures order { OnOk result (spec.Adds (spec.led_from (get nat_cmp table.now) (slice_get met.old.order.items i)) met.old.order.items
+        met.new.order.items) }
 {
     match met_at(met, i) {
         Some(n) => meet_behind(met, table, n),
@@ -107,8 +108,8 @@ fn meet_next(met: &mut Met, table: &Table, i: usize) -> Result<(), AllocError>
     }
 }
 
-/// The numbers of the objects to which cells lead, directly or through others. Want of memory where they are more than the objects of the table, of
-/// which there are so many: some object is not in it then.
+/// The numbers of the objects to which cells lead, directly or through others. Want of memory where they are more than the objects of the
+/// table, of which there are so many: some object is not in it then.
 fn numbers_reached(
     alloc: Global,
     table: &Table,
@@ -154,8 +155,9 @@ fn listed(alloc: Global, table: &Table, numbers: &[u64]) -> Result<ConstObjects,
     Ok(objects)
 }
 
-/// Those of the objects to which cells lead, directly or through such objects, by ascending number; of several with one number the first counts. Want
-/// of memory where they lead to so many numbers besides that there are more numbers than objects. Each object that is reached is looked at once.
+/// Those of the objects to which cells lead, directly or through such objects, by ascending number; of several with one number the first
+/// counts. Want of memory where they lead to so many numbers besides that there are more numbers than objects. Each object that is reached
+/// is looked at once.
 pub(crate) fn objects_led_to(
     alloc: Global,
     objects: ConstObjects,

@@ -188,8 +188,8 @@ fn is_settled_node(s: &TypeStore, t: &Typed) -> bool
         && is_plain_kind(s, t)
 }
 
-/// Whether the constant of a tree can be told, and rests on no name that is not defined yet. The work of a node is constant, but for the fields of a
-/// struct, and the call goes as deep in the host as the tree is.
+/// Whether the constant of a tree can be told, and rests on no name that is not defined yet. The work of a node is constant, but for the
+/// fields of a struct, and the call goes as deep in the host as the tree is.
 #[cycle(settled)]
 pub fn is_settled(s: &TypeStore, t: &Typed) -> bool
     ensures { result ≡ true → spec.IsSettled s.now t.now }

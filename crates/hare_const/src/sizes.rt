@@ -110,11 +110,12 @@ fn start_of(s: &TypeStore, row: &Row, k: usize) -> Option<u128>
     }
 }
 
-/// Where the parts of a struct or tuple of this row begin, in their order. Want of memory where the extent of one is not known, or one would begin
-/// behind the greatest type; of a type that fits neither is so.
+/// Where the parts of a struct or tuple of this row begin, in their order. Want of memory where the extent of one is not known, or one
+/// would begin behind the greatest type; of a type that fits neither is so.
 fn starts_in(alloc: Global, s: &TypeStore, row: &Row) -> Result<Vec<u64>, AllocError>
     requires { spec.AreFew s.now row.now }
-    ensures { IfOk result (λ starts. (xs : List ExtentOf) → all_known (extent_at s.now) (spec.parts_in row.now) ≡ Some xs → (k : ℕ) → slice_get starts.items k ≡ field_start 0 xs k) }
+    ensures { IfOk result (λ starts. (xs : List ExtentOf) → all_known (extent_at s.now) (spec.parts_in row.now) ≡ Some xs → (k : ℕ) →
+        slice_get starts.items k ≡ field_start 0 xs k) }
 {
     let mut starts = Vec::new(alloc);
     let mut end = 0;
@@ -132,8 +133,8 @@ fn starts_in(alloc: Global, s: &TypeStore, row: &Row) -> Result<Vec<u64>, AllocE
     Ok(starts)
 }
 
-/// Where each part of a type begins: how many bytes behind the first byte of the whole. Names and error marks of the type are followed. The time is
-/// that of the parts.
+/// Where each part of a type begins: how many bytes behind the first byte of the whole. Names and error marks of the type are followed. The
+/// time is that of the parts.
 pub(crate) fn starts_of(alloc: Global, s: &TypeStore, t: TypeId) -> Result<Vec<u64>, AllocError>
     requires { spec.Fits s.now t }
     ensures { IfOk result (λ starts. (k : ℕ) → spec.HasPart s.now t k → slice_get starts.items k ≡ offset_at s.now t k) }
@@ -144,8 +145,8 @@ pub(crate) fn starts_of(alloc: Global, s: &TypeStore, t: TypeId) -> Result<Vec<u
     }
 }
 
-/// Where a part of a type begins: how many bytes behind the first byte of the whole. Names and error marks of the type are followed, and `k` counts
-/// from 0. The time is that of the parts before it.
+/// Where a part of a type begins: how many bytes behind the first byte of the whole. Names and error marks of the type are followed, and
+/// `k` counts from 0. The time is that of the parts before it.
 pub(crate) fn offset_of(s: &TypeStore, t: TypeId, k: u32) -> u64
     requires fits { spec.Fits s.now t }
     requires part { spec.HasPart s.now t k }

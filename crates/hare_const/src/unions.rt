@@ -38,9 +38,10 @@ pub(crate) fn payload_of(s: &TypeStore, t: TypeId) -> u64
     align_of(s, t)
 }
 
-/// The cells of a union's value in a constant, of these cells of one of its members: the member's tag, which is one more than the member's id, and at
-/// the place of the payload its cells. All other cells are undefined, and take the memory of one. The conditions are that the size of the union can be
-/// told, and that the member is in the store. Where the cells have no room behind the tag, the answer is want of memory: no union has such a member.
+/// The cells of a union's value in a constant, of these cells of one of its members: the member's tag, which is one more than the member's
+/// id, and at the place of the payload its cells. All other cells are undefined, and take the memory of one. The conditions are that the
+/// size of the union can be told, and that the member is in the store. Where the cells have no room behind the tag, the answer is want of
+/// memory: no union has such a member.
 pub(crate) fn union_cells(
     alloc: Global,
     s: &TypeStore,

@@ -42,7 +42,8 @@ fn own_outcome(
 ) -> Result<Outcome, Stop<Fault>>
     requires own { own < 2 ^ 32 - 1 }
     requires settled { IsSettled s.now t.now }
-    ensures ok { IfOk result (λ o. (spec.is_constant_node s.now t.now ≡ true) × (o ≡ spec.node_value (tagged_by_id s.now) own t.now kids.now) × (spec.is_aborted o ≡ false)) }
+    ensures ok { IfOk result (λ o. (spec.is_constant_node s.now t.now ≡ true) ×
+        (o ≡ spec.node_value (tagged_by_id s.now) own t.now kids.now) × (spec.is_aborted o ≡ false)) }
     ensures made { OnOk result (made.new ≡ made.old ++ objects.made_of_node (tagged_by_id s.now) own t.now (own_kind t.now) kids.now) }
     ensures err { IfErr result (spec.RefusesNode s.now own t.now kids.now) }
 {
@@ -66,8 +67,8 @@ fn keep_if(made: &mut ConstObjects, before: usize, keeps: bool)
     }
 }
 
-/// The value of a tree, as the coercion of its node gives it, or the fault at its first node that is no constant. Each node is evaluated once, and the
-/// objects that this makes are put behind the others.
+/// The value of a tree, as the coercion of its node gives it, or the fault at its first node that is no constant. Each node is evaluated
+/// once, and the objects that this makes are put behind the others.
 #[cycle(walk)]
 pub(crate) fn tree_value(
     alloc: Global,
@@ -92,8 +93,8 @@ pub(crate) fn tree_value(
     own_outcome(alloc, s, own, t, kids.as_slice(), made)
 }
 
-/// The values of the kids of a node in their order, or the fault at the first node among them that is no constant. The objects that the kids make which
-/// the node evaluates are put behind the others.
+/// The values of the kids of a node in their order, or the fault at the first node among them that is no constant. The objects that the
+/// kids make which the node evaluates are put behind the others.
 #[cycle(walk)]
 fn kid_values(
     alloc: Global,
@@ -105,8 +106,10 @@ fn kid_values(
 ) -> Result<Vec<Outcome>, Stop<Fault>>
     requires own { own < 2 ^ 32 - 1 }
     requires settled { AreSettled s.now (typed_nodes kids.now) }
-    ensures ok { IfOk result (λ os. (os.items ≡ spec.kid_values (tagged_by_id s.now) own (typed_nodes kids.now)) × (spec.first_refused_of s.now own (typed_nodes kids.now) ≡ None)) }
-    ensures made { IfOk result (λ os. made.new ≡ made.old ++ objects.made_by_kids node.now (spec.operands_of (own_kind node.now)) os.items (objects.made_by_each (tagged_by_id s.now) own (typed_nodes kids.now))) }
+    ensures ok { IfOk result (λ os. (os.items ≡ spec.kid_values (tagged_by_id s.now) own (typed_nodes kids.now)) ×
+        (spec.first_refused_of s.now own (typed_nodes kids.now) ≡ None)) }
+    ensures made { IfOk result (λ os. made.new ≡ made.old ++ objects.made_by_kids node.now (spec.operands_of (own_kind node.now)) os.items
+        (objects.made_by_each (tagged_by_id s.now) own (typed_nodes kids.now))) }
     ensures err { IfErr result (spec.Refuses (spec.first_refused_of s.now own (typed_nodes kids.now))) }
 {
     let operands = operands_of(node.kind);

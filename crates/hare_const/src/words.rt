@@ -154,7 +154,8 @@ fn first_address(cells: &Cells) -> Option<(u64, u64)>
 
 /// What the three words of a text say; none where the cells are no three words, or where the pointer is null.
 pub(crate) fn text_words(cells: &Cells) -> Option<Text>
-    ensures { IfSome result (λ x. spec.words cells.now ≡ Gives (record { data_at = Address x.object x.offset; length = x.length; capacity = x.capacity })) }
+    ensures { IfSome result (λ x. spec.words cells.now ≡ Gives
+        (record { data_at = Address x.object x.offset; length = x.length; capacity = x.capacity })) }
 {
     let (object, offset) = first_address(cells)?;
     let length = size_at(cells, WORD)?;

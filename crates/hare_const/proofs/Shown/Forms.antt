@@ -91,7 +91,8 @@ module _ (s : Store) (own : ℕ) (held : List ConstObject) (ks : Kids) (less : T
 
     ends_two : (k : List Cell → List Cell → Act) (g : List Cell → List Cell → Outcome) (f : List Cell → Outcome) →
         ((a b : List Cell) → Ends held ks less (k a b) (on_cells (g a b) f)) →
-        Ends held ks less (value 0 sc λ a. value 1 sc λ b. k a b) (on_cells (on_cells (kid_at 0 os) λ a. on_cells (kid_at 1 os) λ b. g a b) f)
+        Ends held ks less (value 0 sc λ a. value 1 sc λ b. k a b)
+        (on_cells (on_cells (kid_at 0 os) λ a. on_cells (kid_at 1 os) λ b. g a b) f)
     ends_two k g f h =
         ends_kid 0 (λ a. value 1 sc λ b. k a b) (λ a. on_cells (kid_at 1 os) λ b. g a b) f
         (λ a. ends_kid 1 (λ b. k a b) (λ b. g a b) f (h a))
@@ -153,11 +154,13 @@ module _ (s : Store) (own : ℕ) (held : List ConstObject) (ks : Kids) (less : T
   ends_texts os t same k o c h =
       ends_as_given held ks less (without_run s) (head_of t) (words c.left)
       (λ v. answered (without_run s) (head_of t) (words c.right) λ u. with_texts (without_run s) t v u k) c.left_words o c.left_told
-      (ends_as_given held ks less (without_run s) (head_of t) (words c.right) (λ u. with_texts (without_run s) t c.left_words u k) c.right_words o
+      (ends_as_given held ks less (without_run s) (head_of t) (words c.right) (λ u. with_texts (without_run s) t c.left_words u k)
+      c.right_words o
       c.right_told
       (ends_tick held ks less (if nat_eq c.left_words.length c.right_words.length then c.left_words.length / 64 else 0)
       (look λ m. answered (without_run s) (head_of t) (same_text (reading m.objects) c.left_words c.right_words) k) o
-      (ends_looked held ks less (without_run s) (head_of t) (λ m. same_text (reading m.objects) c.left_words c.right_words) k same o c.told h)))
+      (ends_looked held ks less (without_run s) (head_of t) (λ m. same_text (reading m.objects) c.left_words c.right_words) k same o c.told
+      h)))
 
   module _ (os : List Outcome) (m : KidsShow os) (sc : Scope) (e : sc.own ≡ own) (t : TypedNode) (k : List Cell → Act)
       (f : List Cell → Outcome) (h : Behind k f) where
@@ -182,7 +185,8 @@ module _ (s : Store) (own : ℕ) (held : List ConstObject) (ks : Kids) (less : T
     of_texts c =
         let o : Outcome = f (bool_cells (by_equality (head_of t).text (same_texts (kids_of t)))) in
         let value_is : o ≡ compared_by true =
-        sym (ap₂ (λ x y. on_cells (on_cells x λ a. on_cells y λ b. Known (bool_cells (by_equality (head_of t).text (same_texts (kids_of t)))))
+        sym (ap₂ (λ x y. on_cells (on_cells x λ a. on_cells y λ b. Known
+        (bool_cells (by_equality (head_of t).text (same_texts (kids_of t)))))
         f) c.first c.second) in
         subst (λ x. Ends held ks less (comparing OfTexts) x) value_is
         (ends_known held ks less own 0 sc (λ a. value 1 sc λ b. with_equality (without_run s) t OfTexts a b (as_equal t k)) c.left o e
@@ -281,7 +285,8 @@ module _ (s : Store) (own : ℕ) (held : List ConstObject) (ks : Kids) (less : T
   ends_given : (t : TypedNode) (cs : List Cell) →
       Ends held ks less (with_coercion (without_run s) t cs ending) (on_answer (coerced s (mark_of t).ty (mark_of t).coerce cs) Known)
   ends_given t cs =
-      ends_answered held ks less (without_run s) (head_of t) (coerced s (mark_of t).ty (mark_of t).coerce cs) ending Known (λ ds st p. record { ended = refl; has = p })
+      ends_answered held ks less (without_run s) (head_of t) (coerced s (mark_of t).ty (mark_of t).coerce cs) ending Known
+      (λ ds st p. record { ended = refl; has = p })
 
   ends_from : (t : TypedNode) (sc : Scope) (cs : List Cell) (x : Option ℕ) →
       Ends held ks less (coerced_from (without_run s) t sc cs x ending)
@@ -289,7 +294,8 @@ module _ (s : Store) (own : ℕ) (held : List ConstObject) (ks : Kids) (less : T
       (elim x [ None ↦ cs | Some y ↦ slice_of sc.own t (length_of_value s (mark_of t).ty) ])) Known)
   ends_from t sc cs None = ends_given t cs
   ends_from t sc cs (Some y) =
-      ends_make held ks less (static_number sc t) (array_object (without_run s) y cs) (λ o. slice_over (without_run s) t (Address o 0) ending)
+      ends_make held ks less (static_number sc t) (array_object (without_run s) y cs)
+      (λ o. slice_over (without_run s) t (Address o 0) ending)
       (on_answer (coerced s (mark_of t).ty (mark_of t).coerce (slice_of sc.own t (length_of_value s (mark_of t).ty))) Known)
       (ends_given t (slice_of sc.own t (length_of_value s (mark_of t).ty)))
 

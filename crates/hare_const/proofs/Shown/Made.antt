@@ -115,7 +115,8 @@ module _ (old : List ConstObject) (ks : Kids) (less : Tasks) where
   after-made (_, st) k x before here new cs e m h q = absurd cc
 
   pub makes_value : (own i : ℕ) (sc : Scope) (k : List Cell → Act) (x : Outcome) (here new : List ConstObject) → sc.own ≡ own →
-      Shows old own (ks.kid i AsValue) x → MakesThese old own (ks.kid i AsValue) here → ((ds : List Cell) → x ≡ Known ds → Makes (k ds) new) →
+      Shows old own (ks.kid i AsValue) x → MakesThese old own (ks.kid i AsValue) here →
+      ((ds : List Cell) → x ≡ Known ds → Makes (k ds) new) →
       Makes (value i sc k) (here ++ new)
   makes_value own i sc k x here new e v m h = record {
     named = λ st cs p. after-made (ks.kid i AsValue sc st) k x (named_in st) here new cs (v sc st e p) (λ ds. m sc st ds e p) h;
@@ -321,7 +322,8 @@ module _ (s : Store) (own : ℕ) (old : List ConstObject) (ks : Kids) (less : Ta
     right_made t k a false g = g (bool_cells (truth a)) refl
 
     right_if_open : (t : TypedNode) (k : List Cell → Act) →
-        ((cs : List Cell) → operator_value s t kind.Logic RightIfOpen (kid_at 0 os) (kid_at 1 os) ≡ Known cs → Makes old ks less (k cs) new) →
+        ((cs : List Cell) → operator_value s t kind.Logic RightIfOpen (kid_at 0 os) (kid_at 1 os) ≡ Known cs →
+        Makes old ks less (k cs) new) →
         Makes old ks less (constant_form (without_run s) t sc kind.Logic k) (made_by_kids t RightIfOpen os ms ++ new)
     right_if_open t k h =
         let opens : List Cell → Bool = λ a. leaves_open (logic_of (head_of t).text) (truth a) in
@@ -340,7 +342,8 @@ module _ (s : Store) (own : ℕ) (old : List ConstObject) (ks : Kids) (less : Ta
   no_kid os ms t a new h = makes_as old ks less a _ _ (ap (λ l. l ++ new) (sym (taken_none t (kid_at 0 os) ms))) h
 
   numbers_made : (t : TypedNode) (x : Bool) (answer : Answer ℤ) (k : List Cell → Act) (new : List ConstObject) →
-      ((cs : List Cell) → (if x then Known [] else on_answer answer λ v. Known (numbered s t v)) ≡ Known cs → Makes old ks less (k cs) new) →
+      ((cs : List Cell) → (if x then Known [] else on_answer answer λ v. Known (numbered s t v)) ≡ Known cs →
+      Makes old ks less (k cs) new) →
       Makes old ks less (if x then k [] else (answered (without_run s) (head_of t) answer λ v. k (numbered s t v))) new
   numbers_made t true answer k new h = h [] refl
   numbers_made t false answer k new h =
@@ -378,7 +381,8 @@ module _ (s : Store) (own : ℕ) (old : List ConstObject) (ks : Kids) (less : Ta
       c.right_words new c.right_told
       (makes_tick old ks less (if nat_eq c.left_words.length c.right_words.length then c.left_words.length / 64 else 0)
       (look λ m. answered (without_run s) (head_of t) (same_text (reading m.objects) c.left_words c.right_words) k) new
-      (makes_looked old ks less (without_run s) (head_of t) (λ m. same_text (reading m.objects) c.left_words c.right_words) k same new c.told
+      (makes_looked old ks less (without_run s) (head_of t) (λ m. same_text (reading m.objects) c.left_words c.right_words) k same new
+      c.told
       h)))
 
   -- behind the cells of both operands, by whether they are texts
@@ -506,7 +510,8 @@ module _ (s : Store) (own : ℕ) (old : List ConstObject) (ks : Kids) (less : Ta
       (if is_some x then record { object = object_number sc.own t; cells = cs } ∷ [] else [])
   from_made t sc cs None = given_made t cs
   from_made t sc cs (Some y) =
-      makes_make old ks less (static_number sc t) (array_object (without_run s) y cs) (λ o. slice_over (without_run s) t (Address o 0) ending)
+      makes_make old ks less (static_number sc t) (array_object (without_run s) y cs)
+      (λ o. slice_over (without_run s) t (Address o 0) ending)
       []
       (given_made t (slice_of sc.own t (length_of_value s (mark_of t).ty)))
 

@@ -106,22 +106,26 @@ module _ (s : Store) (own : ℕ) (all : List ConstObject) (less : Tasks) where
     placed false r false e v = idle false false refl e
 
     node-made : first_inconstant s (λ u. false) (marked h m ts) ≡ None → PlainKind s h.kind ts →
-        Safe all (statics_in_each own ts) (is_equality h.kind) → (first_inconstant_of s (λ u. false) ts ≡ None → KidsAre ts) → sc.own ≡ own →
+        Safe all (statics_in_each own ts) (is_equality h.kind) → (first_inconstant_of s (λ u. false) ts ≡ None → KidsAre ts) →
+        sc.own ≡ own →
         Makes all (over s own all less h ts) less (constant_node (without_run s) (marked h m ts) AsValue sc) (made_by s own (marked h m ts))
     node-made e p w f q = go (is_type h.kind) refl
       where
         go : (x : Bool) → is_type h.kind ≡ x →
-            Makes all (over s own all less h ts) less (constant_node (without_run s) (marked h m ts) AsValue sc) (made_by s own (marked h m ts))
+            Makes all (over s own all less h ts) less (constant_node (without_run s) (marked h m ts) AsValue sc)
+            (made_by s own (marked h m ts))
         go true g = idle (is_place s (marked h m ts)) (is_evaluated h.kind) (type-idle h.kind g) refl
         go false g =
             let c = constant_from s h m ts g e in
             placed (is_place s (marked h m ts)) (no_place s (marked h m ts) e) (is_evaluated h.kind) refl
-            (makes_value_of s own all (over s own all less h ts) less (kid_values s own ts) (made_by_each s own ts) (marked h m ts) sc h.kind q
+            (makes_value_of s own all (over s own all less h ts) less (kid_values s own ts) (made_by_each s own ts) (marked h m ts) sc
+            h.kind q
             (ready h h.kind m ts c.itself p w (λ r. f (c.kids r))))
 
   mutual
     tree-made : (t : TypedNode) → first_inconstant s (λ u. false) t ≡ None → IsPlain s t →
-        Safe all (statics_in own t) (has_equality t) → MakesThese all own (node_act (constant_forms (without_run s)) less t AsValue) (made_by s own t)
+        Safe all (statics_in own t) (has_equality t) → MakesThese all own (node_act (constant_forms (without_run s)) less t AsValue)
+        (made_by s own t)
     tree-made (marked h m ts) e p w sc st cs q has r =
         let safe = safe_kids all own h m ts w in
         (node-made h m ts sc e p.0 (safe_node all own h m ts w) (λ f. record {

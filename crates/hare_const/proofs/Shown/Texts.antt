@@ -415,7 +415,8 @@ module _ (s : Store) (own : ℕ) (all : List ConstObject) (coherent : AreCoheren
     abbrev static_as : Kind → List ConstObject
     static_as k = held (text_object (scope_in own) (marked h m ts) k ++ objects_of m.value ++ statics_of_each (scope_in own) ts)
 
-    own_first : (k : Kind) → Inside all (static_as k) → Inside all (held (text_object (scope_in own) (marked h m ts) k ++ objects_of m.value))
+    own_first : (k : Kind) → Inside all (static_as k) →
+        Inside all (held (text_object (scope_in own) (marked h m ts) k ++ objects_of m.value))
     own_first k i o c =
         i o (subst (λ xs. Contains xs o)
         (sym (held-append (text_object (scope_in own) (marked h m ts) k ++ objects_of m.value) (statics_of_each (scope_in own) ts)))
@@ -509,8 +510,11 @@ coherent_inside all os h i o c =
     found_some : (xs : List ConstObject) (x : ConstObject) → Contains xs x → (cs : List Cell) × (cells_found xs x.object ≡ Some cs)
     found_some [] x (k, l, e) = absurd (omega (arith, l))
     found_some (y ∷ xs) x (zero, l, e) =
-        let same : nat_eq x.object y.object ≡ true = (unsigned_Decides x.object y.object).1 (ap (λ z. z.object) (sym e)) in
-        (y.cells, ap (λ b. option_map (λ z. z.cells) (cond b (Some (constant_object y.cells)) (lookup (nat_eq x.object) (listed_objects xs)))) same)
+        let same : nat_eq x.object y.object ≡ true = (unsigned_Decides x.object y.object).1 (ap (λ z. z.object) (sym e)) in (
+          y.cells,
+          ap (λ b. option_map (λ z. z.cells)
+              (cond b (Some (constant_object y.cells)) (lookup (nat_eq x.object) (listed_objects xs)))) same,
+        )
     found_some (y ∷ xs) x (suc k, l, e) = by (nat_eq x.object y.object) (found_some xs x (k, omega (arith, l), e))
       where
         by : (b : Bool) → (cs : List Cell) × (cells_found xs x.object ≡ Some cs) →

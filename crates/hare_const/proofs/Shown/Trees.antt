@@ -326,7 +326,8 @@ module _ (s : Store) (own : ℕ) (all : List ConstObject) (less : Tasks) where
 
   mutual
     tree-shown : (t : TypedNode) → first_inconstant s (λ u. false) t ≡ None → IsPlain s t →
-        Safe all (statics_in own t) (has_equality t) → Shows all own (node_act (constant_forms (without_run s)) less t AsValue) (tree_value s own t)
+        Safe all (statics_in own t) (has_equality t) → Shows all own (node_act (constant_forms (without_run s)) less t AsValue)
+        (tree_value s own t)
     tree-shown (marked h m ts) e p w sc st q =
         node-shown h m ts e p.0 (safe_node all own h m ts w) (λ f i. kids-shown ts f p.1 (safe_kids all own h m ts w) i) sc q st
 

@@ -13,7 +13,8 @@ has_equality_each-has_equality-requires t c =
 pub has_equality_each-returns-then-has_equality : goal.has_equality_each-returns-then-has_equality
 has_equality_each-returns-then-has_equality t c =
     sym (c.loop-i.invariant
-    ∙ equality_here c.args.kids.now c.loop-i.i c.in-Some.kid.now c.in-Some.ensures.found (sym c.has_equality.ensures ∙ c.if-has_equality.true))
+    ∙ equality_here c.args.kids.now c.loop-i.i c.in-Some.kid.now c.in-Some.ensures.found
+    (sym c.has_equality.ensures ∙ c.if-has_equality.true))
 
 pub has_equality_each-loop-i-preserved : goal.has_equality_each-loop-i-preserved
 has_equality_each-loop-i-preserved t c =

@@ -9,7 +9,8 @@ pub loop-i-preserved : goal.loop-i-preserved
 loop-i-preserved c =
     let all = statics_in c.args.own c.args.t.now in
     let o = c.in-Some.o.now in
-    let there : slice_get all c.loop-i.i ≡ Some o = ap (λ os. slice_get os c.loop-i.i) (sym c.in_ok-objects.ensures) ∙ sym c.in-Some.ensures in
+    let there : slice_get all c.loop-i.i ≡ Some o =
+    ap (λ os. slice_get os c.loop-i.i) (sym c.in_ok-objects.ensures) ∙ sym c.in-Some.ensures in
     let found : cells_found all o.object ≡ Some o.cells =
     ap (λ os. cells_found os o.object) (sym c.in_ok-statics_of.ensures) ∙ sym (c.in_ok-table.ensures o.object)
     ∙ sym c.in-Some-get.ensures.value ∙ ap Some (c.same_cells.ensures c.if-not-same_cells.false) in

@@ -9,7 +9,8 @@ pub returns-in_err-outcome-clause-err : goal.returns-in_err-outcome-clause-err
 returns-in_err-outcome-clause-err c =
     let e = c.in_err-outcome.field-0.0 in
     err-same c.from_residual.result e (Refuses (inconstant c.args.s.now c.args.own c.args.t.now)) c.from_residual.ensures.1
-    (folded_refused c.args.s.now c.declarations-law.ensures.sound c.args.own c.args.t.now c.requires.settled c.requires.coherent e c.in_err-outcome.ensures.err)
+    (folded_refused c.args.s.now c.declarations-law.ensures.sound c.args.own c.args.t.now c.requires.settled c.requires.coherent e
+    c.in_err-outcome.ensures.err)
 
 pub returns-clause-ok : goal.returns-clause-ok
 returns-clause-ok c =
