@@ -1,13 +1,13 @@
 -- A block of the heap made for a new object.
-use Rattle.std.proofs.Common.{◌≡◌, ◌≢◌, ℕ, ◌+◌, ◌%◌, ◌^◌, ◌<◌, ◌≤◌, List, [], ◌∷◌, ◌++◌, length, Option, Some, None, refl, ap, sym, ◌∙◌, subst, arith, length-append, ◌⊎◌, inl, inr, Bool, true, false}
-use Rattle.std.specs.Prelude.{slice_get, nat_eq}
+use Rattle.std.proofs.Common.{◌≡◌, ◌≢◌, ℕ, ◌+◌, ◌%◌, ◌^◌, ◌<◌, ◌≤◌, List, [], ◌∷◌, ◌++◌, length, Option, Some, None, refl, ap, sym, ◌∙◌, subst, arith, length-append, ◌⊎◌, inl, inr, Bool, true}
+use Rattle.std.specs.Prelude.{slice_get}
 use Rattle.std.proofs.lemmas.Option.{slice_get_within}
-use Rattle.std.proofs.lemmas.Bool.Decides.{nat_tests}
 use Rattle.hx_base.specs.Memory.{round_up, le_bytes, byte_at, is_mapped, map_range}
 use Rattle.hx_base.specs.Runtime.{World, new_block, block_size}
 use Rattle.hx_base.proofs.Memory.Agreeing.{bytes_at-same}
 use Rattle.hx_base.proofs.Memory.Mapped.{is_mapped-map_range_inside, is_mapped-map_range_outside, is_mapped-map_range_stays}
-use Rattle.hx_base.proofs.Memory.Blocks.{live_bytes-cons}
+use Rattle.hx_base.proofs.Memory.Numbers.{round_up-reaches}
+use Rattle.hx_base.proofs.Memory.Blocks.{block_size-first, block_size-behind, live_bytes-cons}
 use Rattle.hare_typed.specs.declared.cell.Cell.{Cell}
 use Rattle.hare_typed.specs.Objects.{Object, Heap, extent_of}
 use Rattle.hare_typed.specs.State.{State}
@@ -16,27 +16,10 @@ use Rattle.hare_meaning.proofs.Related.Cells.{Same, same, other, is_same, Inside
 use Rattle.hare_meaning.proofs.Related.New.{Newer, newest, older, after_more, front_more}
 use Rattle.hare_meaning.proofs.Related.Blocks.{with_heap}
 
-pub round_up-reaches : (n : ℕ) → n ≤ round_up n 16
-round_up-reaches n = omega arith
-
 -- an address of an old object or of the newest
 data WhichOf (ps : Places) (objs : List Object) (x : Object) (b o a : ℕ) : Type 0 where
   old_one : Covered ps objs o a → WhichOf ps objs x b o a
   new_one : o ≡ length objs → (i : ℕ) → i < extent_of x → a ≡ b + i → WhichOf ps objs x b o a
-
-pub block_size-first : (b n : ℕ) (bs : List (ℕ × ℕ)) → block_size ((b, n) ∷ bs) b ≡ Some n
-block_size-first b n bs = pick (nat_eq b b) refl
-  where
-    pick : (t : Bool) → nat_eq b b ≡ t → block_size ((b, n) ∷ bs) b ≡ Some n
-    pick true e = rw e refl
-    pick false e = absurd (grind (arith, nat_tests))
-
-pub block_size-behind : (b n a : ℕ) (bs : List (ℕ × ℕ)) → a ≢ b → block_size ((b, n) ∷ bs) a ≡ block_size bs a
-block_size-behind b n a bs h = pick (nat_eq b a) refl
-  where
-    pick : (t : Bool) → nat_eq b a ≡ t → block_size ((b, n) ∷ bs) a ≡ block_size bs a
-    pick true e = absurd (h (grind (arith, nat_tests)))
-    pick false e = rw e refl
 
 module _ (ground : Ground) where
   -- what a new object of the heap is, whose block is the next one
@@ -88,7 +71,7 @@ module _ (ground : Ground) where
       ps' = ps ++ At b ∷ []
 
       up : n ≤ round_up n 16
-      up = round_up-reaches n
+      up = round_up-reaches n 16 (omega arith)
 
       place_old : (o : ℕ) (p : Standing) (y : Object) → slice_get (objects_in s) o ≡ Some y → slice_get ps' o ≡ Some p →
           slice_get ps o ≡ Some p
