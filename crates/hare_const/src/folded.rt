@@ -56,8 +56,8 @@ fn cells_and_objects(
 ///
 /// Nothing is asked of the tree: where it tells too little, which `is_settled` tests, the answer is want of memory, as that of `constant`
 /// is. In a union the tag of a type is one more than its id. Each node is evaluated once, and the call goes as deep in the host as the tree
-/// is. The parts of a tuple take the memory of their own cells, and so do the fields of a struct that are written in the order of its type;
-/// where a field is written behind a later one, each cell that is known by then is copied once more.
+/// is. The parts of a tuple take the memory of their own cells, and so do the fields of a struct, in whatever order they are written. The
+/// declaration's number `own` is below 2^32 - 1.
 pub fn constant_cells(
     alloc: Global,
     s: &TypeStore,
@@ -87,8 +87,8 @@ pub fn constant_cells(
 /// value that goes to a union of which, or of whose members, so much is not known; of cells that lead to objects which are not there, where
 /// there are more of these than there are objects; and of a tree with an equality in which objects with one number have other cells. It is
 /// so also of what the crate does not work out yet: an equality of texts of which one is no string and no name of a def, in parentheses or
-/// not. The tag of a type in a union is one more than its id, in each store. The time is that of the tree and of the cells, and n log n in
-/// the objects; where there is an equality, that of the cells of the objects too.
+/// not. The tag of a type in a union is one more than its id, in each store. The declaration's number `own` is below 2^32 - 1. The time is
+/// that of the tree and of the cells, and n log n in the objects; where there is an equality, that of the cells of the objects too.
 pub fn constant(alloc: Global, s: &TypeStore, own: u32, t: &Typed) -> Result<Const, AllocError>
     requires own { own < 2 ^ 32 - 1 }
     ensures { IfOk result (λ c. (l : Store) → IsLater s.now l → c ≡ folded l own t.now) }

@@ -43,7 +43,7 @@ fn byte_of(cell: Cell) -> Option<u8>
     }
 }
 
-/// The number that bytes spell, the lowest first; none where a cell is no byte.
+/// The number that bytes spell, the lowest first; none where a cell is no byte. There are at most eight cells.
 pub fn little_endian(cells: &[Cell]) -> Option<u64>
     requires { length cells.now ≤ 8 }
     ensures value { result ≡ option_map le_number (bytes_of cells.now) }

@@ -184,7 +184,8 @@ fn remainder(t: IntType, x: i128, y: i128) -> Option<i128>
     Some(cut(t, x % y))
 }
 
-/// What an operator makes of two numbers of integer types, cut to the bits of a type; none where the divisor is zero.
+/// What an operator makes of two numbers of integer types, cut to the bits of a type; none where the divisor is zero. The type has 1 to 64
+/// bits, and both numbers are from - 2^63 to 2^64 - 1, so that some integer type has each.
 pub fn computed(op: Arithmetic, t: IntType, x: i128, y: i128) -> Option<i128>
     requires width { IsWidth t.bits }
     requires left { IsWhole x }
@@ -203,7 +204,7 @@ pub fn computed(op: Arithmetic, t: IntType, x: i128, y: i128) -> Option<i128>
     }
 }
 
-/// The number with the other sign, cut to the bits of a type.
+/// The number with the other sign, cut to the bits of a type. The type has 1 to 64 bits, and the number is from - 2^63 to 2^64 - 1.
 pub fn negated(t: IntType, x: i128) -> i128
     requires width { IsWidth t.bits }
     requires operand { IsWhole x }
@@ -212,7 +213,8 @@ pub fn negated(t: IntType, x: i128) -> i128
     cut(t, -x)
 }
 
-/// The number whose bits are those that this one has not, cut to the bits of a type.
+/// The number whose bits are those that this one has not, cut to the bits of a type. The type has 1 to 64 bits, and the number is from
+/// - 2^63 to 2^64 - 1.
 pub fn complemented(t: IntType, x: i128) -> i128
     requires width { IsWidth t.bits }
     requires operand { IsWhole x }
@@ -230,7 +232,8 @@ fn distance(t: IntType, amount: i128) -> u32
     amount.rem_euclid(i128::from(t.bits)) as u32
 }
 
-/// The number with its bits shifted, cut to the bits of a type. The amount counts modulo these.
+/// The number with its bits shifted, cut to the bits of a type. The amount counts modulo these. The type has 1 to 64 bits, the number is
+/// from - 2^63 to 2^64 - 1, and the amount may be any.
 pub fn shifted(way: Shift, t: IntType, x: i128, amount: i128) -> i128
     requires width { IsWidth t.bits }
     requires operand { IsWhole x }
