@@ -16,7 +16,10 @@ use std::alloc::{AllocError, Global};
 
 /// Whether the module of these symbols is plain.
 pub(crate) fn is_plain(alloc: Global, symbols: &Symbols) -> Result<bool, AllocError>
-    ensures { IfOk result (λ b. b ≡ (list_any rules.is_main symbols.now.items.now && (nat_le (sum_by plain.item_room symbols.now.items.now) plain.data_room && list_all (plain.is_plain_item symbols.now.items.now) symbols.now.items.now))) }
+    ensures { IfOk result (λ b. b ≡
+        (list_any rules.is_main symbols.now.items.now &&
+        (nat_le (sum_by plain.item_room symbols.now.items.now) plain.data_room &&
+        list_all (plain.is_plain_item symbols.now.items.now) symbols.now.items.now))) }
 {
     if !has_main(symbols.items) || !has_room(symbols.items) {
         return Ok(false);
