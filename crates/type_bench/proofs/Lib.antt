@@ -1,2 +1,3 @@
 pub mod UndefinedLemmas
 pub mod FieldLemmas
+pub mod AliasLemmas

@@ -1,12 +1,13 @@
 -- Types that a name may be defined to be while the names in them are not defined.
-use Rattle.std.proofs.Common.{◌≡◌, ◌≢◌, ℕ, zero, suc, Bool, true, false, cond, List, [], ◌∷◌, ◌++◌, Option, Some, None, refl, ap, sym, ◌∙◌, subst, arith, nat_eq, ◌⊎◌, inl, inr}
+use Rattle.std.proofs.Common.{◌≡◌, ◌≢◌, ℕ, zero, suc, Bool, true, false, cond, List, [], ◌∷◌, ◌++◌, Option, Some, None, refl, ap}
+use Rattle.std.proofs.Common.{sym, ◌∙◌, subst, arith, nat_eq, ◌⊎◌, inl, inr}
 use Rattle.std.specs.Prelude.{Contains, IfSome, option_map, option_and_then}
 use Rattle.std.specs.Map.{lookup}
 use Rattle.std.specs.Cmp.{unsigned_Decides}
 use Rattle.hare_types.specs.declared.declared.Declared.{Declared}
 use Rattle.hare_types.specs.declared.row.Scalar.TheVariants as keyword
-use Rattle.hare_types.specs.Trees.{Scalar, Array, Named}
-use Rattle.hare_types.specs.ByValue.{Leads, HoldsByValue}
+use Rattle.hare_types.specs.Trees.{Tree, Scalar, Array, Named}
+use Rattle.hare_types.specs.ByValue.{Leads, HoldsByValue, held}
 use Rattle.hare_types.specs.Store.{Store, tree_at, sized_of, definition_of, meaning_of, with_declared}
 
 -- a name that is not declared is not defined
@@ -70,23 +71,36 @@ one_held o d (suc k, l, e) = absurd (omega (arith, l))
 none_held : (d : ℕ) → Contains [] d → ⊥
 none_held d (k, l, e) = omega (arith, l)
 
--- an array of a name that is not defined holds no other name
-pub array_finite : (s : Store) (t n other d : ℕ) → tree_at s t ≡ Some (Array n (Named other)) → definition_of s other ≡ None → d ≢ other →
-    IfSome (tree_at s t) (λ u. ¬ HoldsByValue s u d)
-array_finite s t n other d tree unknown apart = rw tree (λ h. by h.0 h.1)
+-- a type that holds one name alone, which is not defined, holds no other
+pub one_finite : (s : Store) (t other d : ℕ) (u : Tree) → tree_at s t ≡ Some u → held u ≡ other ∷ [] → definition_of s other ≡ None →
+    d ≢ other → IfSome (tree_at s t) (λ v. ¬ HoldsByValue s v d)
+one_finite s t other d u tree alone unknown apart = rw tree (λ h. by h.0 h.1)
   where
-    by : (way : List ℕ) → Leads (meaning_of s) (Array n (Named other)) way d → ⊥
-    by [] h = apart (sym (one_held other d h))
+    by : (way : List ℕ) → Leads (meaning_of s) u way d → ⊥
+    by [] h = apart (sym (one_held other d (subst (λ ns. Contains ns d) alone h)))
     by (e ∷ way) h =
-        let same : other ≡ e = one_held other e h.0 in
+        let same : other ≡ e = one_held other e (subst (λ ns. Contains ns e) alone h.0) in
         let gone : meaning_of s e ≡ None = ap (option_and_then (tree_at s)) (subst (λ q. definition_of s q ≡ None) same unknown) in
         let some : meaning_of s e ≡ Some h.1.0 = h.1.1 in
         absurd cc
 
+-- an array of a name that is not defined holds no other name
+pub array_finite : (s : Store) (t n other d : ℕ) → tree_at s t ≡ Some (Array n (Named other)) → definition_of s other ≡ None → d ≢ other →
+    IfSome (tree_at s t) (λ u. ¬ HoldsByValue s u d)
+array_finite s t n other d tree unknown apart = one_finite s t other d (Array n (Named other)) tree refl unknown apart
+
+-- a type that holds no name
+pub unheld_finite : (s : Store) (t d : ℕ) → IfSome (tree_at s t) (λ u. held u ≡ []) → IfSome (tree_at s t) (λ u. ¬ HoldsByValue s u d)
+unheld_finite s t d = by (tree_at s t)
+  where
+    none : (u : Tree) → held u ≡ [] → (way : List ℕ) → Leads (meaning_of s) u way d → ⊥
+    none u e [] h = none_held d (subst (λ ns. Contains ns d) e h)
+    none u e (f ∷ way) h = none_held f (subst (λ ns. Contains ns f) e h.0)
+
+    by : (o : Option Tree) → IfSome o (λ u. held u ≡ []) → IfSome o (λ u. ¬ HoldsByValue s u d)
+    by None h = tt
+    by (Some u) h = λ w. none u h w.0 w.1
+
 -- a word holds no name
 pub word_finite : (s : Store) (t d : ℕ) → tree_at s t ≡ Some (Scalar keyword.Int) → IfSome (tree_at s t) (λ u. ¬ HoldsByValue s u d)
-word_finite s t d tree = rw tree (λ h. by h.0 h.1)
-  where
-    by : (way : List ℕ) → Leads (meaning_of s) (Scalar keyword.Int) way d → ⊥
-    by [] h = none_held d h
-    by (e ∷ way) h = none_held e h.0
+word_finite s t d tree = unheld_finite s t d (subst (λ o. IfSome o (λ u. held u ≡ [])) (sym tree) refl)

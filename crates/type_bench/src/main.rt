@@ -1,9 +1,11 @@
 //! Takes ROWS types into a store and asks for each again, so that the time of the store can be measured. By `type_bench ROWS names` it defines
-//! ROWS names in place of that, while all wait for one; by `type_bench ROWS fields` it takes in a struct of ROWS fields, and looks for each.
+//! ROWS names in place of that, while all wait for one; by `type_bench ROWS fields` it takes in a struct of ROWS fields, and looks for each;
+//! by `type_bench ROWS aliases` it defines ROWS names, each as the next, and asks each what it is.
 #![tactic(auto)]
 
 ghost use Rattle.std.specs.Prelude.{◌<◌, length, IfOk};
 
+mod aliases;
 mod fields;
 mod names;
 
@@ -12,7 +14,7 @@ use hare_types::{Extent, Row, Scalar, TypeId, TypeStore};
 use std::alloc::AllocError;
 use std::env;
 
-const USAGE: &str = "usage: type_bench ROWS [names|fields]";
+const USAGE: &str = "usage: type_bench ROWS [names|fields|aliases]";
 
 fn main(rt: HostRuntime) -> Result<()> {
     let mut words = env::args(&rt)?;
@@ -26,6 +28,7 @@ fn main(rt: HostRuntime) -> Result<()> {
         Some(mode) => match mode.as_str() {
             "names" => define(rt, rows),
             "fields" => look_up(rt, rows),
+            "aliases" => follow(rt, rows),
             _ => bail!("{USAGE}"),
         },
     }
@@ -57,6 +60,13 @@ fn look_up(rt: HostRuntime, rows: u32) -> Result<()> {
     let t = fields::structure(rt.alloc(), &mut store, rows)?;
     let found = fields::found(&store, t, rows);
     println!(rt; "fields {rows}, found {found}")?;
+    Ok(())
+}
+
+/// Defines so many names, each as the next, and asks each what it is.
+fn follow(rt: HostRuntime, rows: u32) -> Result<()> {
+    let told = aliases::told_in_chain(rt.alloc(), rows)?;
+    println!(rt; "names {rows}, all is told of {told}")?;
     Ok(())
 }
 
