@@ -1,6 +1,6 @@
-//! Takes ROWS types into a store and asks for each again, so that the time of the store can be measured. By `type_bench ROWS names` it defines
-//! ROWS names in place of that, while all wait for one; by `type_bench ROWS fields` it takes in a struct of ROWS fields, and looks for each;
-//! by `type_bench ROWS aliases` it defines ROWS names, each as the next, and asks each what it is.
+//! Takes ROWS types into a store and asks for each again, so that the time of the store can be measured. By `type_bench ROWS names` it
+//! defines ROWS names in place of that, while all wait for one; by `type_bench ROWS fields` it takes in a struct of ROWS fields, and looks
+//! for each; by `type_bench ROWS aliases` it defines ROWS names, each as the next, and asks each what it is.
 #![tactic(auto)]
 
 ghost use Rattle.std.specs.Prelude.{◌<◌, length, IfOk};
@@ -78,8 +78,8 @@ fn bytes(extent: Option<Extent>) -> u64 {
     }
 }
 
-/// The last of so many types over `int`, of which each is over the one before: pointers and arrays in turn, so that no two are equal. The ids of new
-/// types follow one another, so that the last one tells how many there are.
+/// The last of so many types over `int`, of which each is over the one before: pointers and arrays in turn, so that no two are equal. The
+/// ids of new types follow one another, so that the last one tells how many there are.
 fn chain(store: &mut TypeStore, rows: u32) -> Result<TypeId, AllocError>
     ensures { IfOk result (λ t. t < length store.new.rows) }
 {

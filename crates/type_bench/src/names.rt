@@ -19,7 +19,8 @@ pub(crate) fn in_fan(alloc: Global, names: u32) -> Result<Option<Extent>, AllocE
     fan(&mut store, names)
 }
 
-/// Defines so many names in a chain, each to hold the next, and then the last one: all wait until then. The answer is the extent of the first.
+/// Defines so many names in a chain, each to hold the next, and then the last one: all wait until then. The answer is the extent of the
+/// first.
 fn chain(store: &mut TypeStore, names: u32) -> Result<Option<Extent>, AllocError>
     requires { (d : ℕ) → sized_of store.old d ≡ None }
 {
