@@ -1,0 +1,7 @@
+pub mod Calls
+mod EndRows
+pub mod EndedRuns
+pub mod FreshPages
+mod WantRows
+mod FaultingRows
+mod AnswerRows
