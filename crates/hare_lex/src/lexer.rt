@@ -18,7 +18,7 @@ use crate::string::unescaped;
 use hare_tree::{Fault, Place, Suffix, Token, TokenKind, Tokens, Word};
 use std::alloc::{AllocError, Global};
 
-/// The tokens of a file, the last of them End, or its first break with the tokens before it.
+/// The tokens of a file of fewer than 2^32 - 1 bytes, the last of them End, or its first break with the tokens before it.
 ///
 /// The faults are E3 (not UTF-8), E4 (a character that begins no token), E5 (a wrong escape, or a rune that is not one character), E6 (an
 /// opening quote without its closing one), E7 (a number over 2^127 - 1) and E10 (what the language leaves out of Hare).

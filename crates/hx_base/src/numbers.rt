@@ -34,7 +34,7 @@ pub fn le_get(b: &[u8]) -> u64
     number
 }
 
-/// Byte `k` of the eight of a number, the lowest first.
+/// Byte `k` of the eight of a number, the lowest first, where `k` is below 8.
 pub fn le_byte(v: u64, k: u32) -> u8
     requires { k < 8 }
     ensures { slice_get (le_bytes 8 v) k ≡ Some result }
@@ -42,7 +42,7 @@ pub fn le_byte(v: u64, k: u32) -> u8
     v.to_le_bytes()[k as usize]
 }
 
-/// The least multiple of `a`, a power of two, that is at least `v`.
+/// The least multiple of `a` that is at least `v`, where `a` is a power of two and the sum of both is below 2^64.
 pub fn round_up(v: u64, a: u64) -> u64
     requires power { IsPowerOfTwo a }
     requires fits { v + a < 2 ^ 64 }
