@@ -134,6 +134,7 @@ impl Seen {
     }
 
     /// What was handed to the block or case round which so many labels stand; none of the first `from` values was.
+    /// It fails for want of memory alone.
     pub fn handed(
         &self,
         alloc: Global,
@@ -147,6 +148,7 @@ impl Seen {
     }
 
     /// Drops what was handed to the block or case round which so many labels stand; none of the first `from` values was.
+    /// It fails for want of memory alone, and then nothing is told of what is left.
     pub fn take(&mut self, alloc: Global, from: usize, level: usize) -> Result<(), AllocError>
         requires { filter (is_at level) (take from self.old.yields) ≡ [] }
         ensures { OnOk result (self.new ≡ record self.old { yields = filter (λ y. not (is_at level y)) self.old.yields }) }

@@ -32,7 +32,7 @@ impl Bools {
         }
     }
 
-    /// Puts an answer at the end.
+    /// Puts an answer at the end. Nothing changes where memory is short.
     pub fn push(&mut self, answer: bool) -> Result<(), AllocError>
         ensures ok { OnOk result (self.new ≡ self.old ++ answer ∷ []) }
         ensures err { OnErr result (self.new ≡ self.old) }
@@ -81,7 +81,7 @@ impl Places {
         }
     }
 
-    /// Puts a place at the end.
+    /// Puts a place at the end. Nothing changes where memory is short.
     pub fn push(&mut self, place: Place) -> Result<(), AllocError>
         ensures ok { OnOk result (self.new ≡ self.old ++ place ∷ []) }
         ensures err { OnErr result (self.new ≡ self.old) }

@@ -12,7 +12,7 @@ use hare_tree::{Fault, Kids, Tree};
 use std::alloc::{AllocError, Global};
 
 /// The fault that counts first of one that was found before, if there was one, and of those at the later of equal names of parameters or
-/// fields in a tree.
+/// fields in a tree. It fails for want of memory alone.
 #[cycle(doubled)]
 pub fn first_doubled(
     alloc: Global,

@@ -26,7 +26,7 @@ pub struct Setting<'a> {
 }
 
 /// Notes the paths of a tree, before which so many bindings of its declaration stand. The answer is how many stand behind it; then what it
-/// binds is visible.
+/// binds is visible. Together they are fewer than 2^32. It fails for want of memory alone.
 #[cycle(walk)]
 pub fn walk<'a>(
     setting: Setting<'_>,

@@ -32,7 +32,7 @@ impl Tokens {
         }
     }
 
-    /// Puts a token at the end.
+    /// Puts a token at the end. Nothing changes where memory is short.
     pub fn push(&mut self, t: Token) -> Result<(), AllocError>
         ensures ok { OnOk result (self.new ≡ self.old ++ t ∷ []) }
         ensures err { OnErr result (self.new ≡ self.old) }

@@ -99,7 +99,7 @@ impl Kids {
         }
     }
 
-    /// Puts a tree at the end.
+    /// Puts a tree at the end. Nothing changes where memory is short.
     pub fn push(&mut self, t: Tree) -> Result<(), AllocError>
         ensures ok { OnOk result (self.new ≡ self.old ++ t ∷ []) }
         ensures err { OnErr result (self.new ≡ self.old) }

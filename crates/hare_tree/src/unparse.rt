@@ -23,7 +23,8 @@ use std::alloc::{AllocError, Global};
 /// The tokens of a file's tree, the last of them End. Each has line 1 and column 1 of the tree's file as its place.
 ///
 /// A tree whose kids are not those of its form is spelled as well: a kid that is missing has no tokens, and a kid too many is passed over.
-/// What is left to be put stands on the heap, so the call goes no deeper in the host for a deep tree.
+/// What is left to be put stands on the heap, so the call goes no deeper in the host for a deep tree. It fails for
+/// want of memory alone.
 pub fn spell(alloc: Global, t: &FileTree) -> Result<Tokens, AllocError>
     ensures { IfOk result (λ ts. ts ≡ spec.spell_file t.now) }
 {

@@ -29,7 +29,7 @@ impl Word {
         }
     }
 
-    /// A word with these bytes.
+    /// A word with these bytes. It fails for want of memory alone.
     pub fn copy(alloc: Global, b: &[u8]) -> Result<Word, AllocError>
         ensures { IfOk result (λ w. w ≡ b.now) }
     {
@@ -38,7 +38,7 @@ impl Word {
         Ok(word)
     }
 
-    /// Puts one byte at the end.
+    /// Puts one byte at the end. Nothing changes where memory is short.
     pub fn push(&mut self, b: u8) -> Result<(), AllocError>
         ensures ok { OnOk result (self.new ≡ self.old ++ b ∷ []) }
         ensures err { OnErr result (self.new ≡ self.old) }
@@ -47,7 +47,7 @@ impl Word {
         Ok(())
     }
 
-    /// Puts bytes at the end.
+    /// Puts bytes at the end. Nothing changes where memory is short.
     pub fn extend(&mut self, b: &[u8]) -> Result<(), AllocError>
         ensures ok { OnOk result (self.new ≡ self.old ++ b.now) }
         ensures err { OnErr result (self.new ≡ self.old) }

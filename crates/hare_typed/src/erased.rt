@@ -8,7 +8,7 @@ use hare_tree::{Kids, Tree, Word};
 use std::alloc::{AllocError, Global};
 
 /// The tree without what checking found: its kinds, places, texts, numbers, suffixes and kids. The call goes as deep in the host as the
-/// tree is.
+/// tree is. It fails for want of memory alone.
 #[cycle(erase)]
 pub fn erase(alloc: Global, t: &Typed) -> Result<Tree, AllocError>
     ensures { IfOk result (λ u. u ≡ erased t.now) }

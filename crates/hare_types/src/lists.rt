@@ -32,7 +32,7 @@ impl TypeIds {
         }
     }
 
-    /// Puts a type at the end.
+    /// Puts a type at the end. Nothing changes where memory is short.
     pub fn push(&mut self, t: TypeId) -> Result<(), AllocError>
         ensures ok { OnOk result (self.new ≡ self.old ++ t ∷ []) }
         ensures err { OnErr result (self.new ≡ self.old) }
@@ -102,7 +102,7 @@ impl Fields {
         }
     }
 
-    /// Puts a field at the end.
+    /// Puts a field at the end. Nothing changes where memory is short.
     pub fn push(&mut self, field: Field) -> Result<(), AllocError>
         ensures ok { OnOk result (self.new ≡ self.old ++ field ∷ []) }
         ensures err { OnErr result (self.new ≡ self.old) }

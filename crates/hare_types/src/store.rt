@@ -82,7 +82,8 @@ impl TypeStore {
         }
     }
 
-    /// The number of the name that is spelled so: the same for equal spellings, and another for other ones.
+    /// The number of the name that is spelled so: the same for equal spellings, and another for other ones. Nothing changes where
+    /// memory is short.
     pub fn name(&mut self, spelling: &[u8]) -> Result<u32, AllocError>
         ensures numbered { IfOk result (λ n. IsNumbered self.old.names self.new.names spelling.now n) }
         ensures rest { OnOk result (self.new ≡ record self.old { names = self.new.names }) }
@@ -110,7 +111,8 @@ impl TypeStore {
         }
     }
 
-    /// Enters a declared type, and whether it has a size, before what it is defined to be is known.
+    /// Enters a declared type, and whether it has a size, before what it is defined to be is known. It was not
+    /// entered before. Nothing changes where memory is short.
     pub fn declare(&mut self, decl: u32, sized: bool) -> Result<(), AllocError>
         requires { sized_of self.old decl ≡ None }
         ensures ok { OnOk result (self.new ≡ with_declared self.old decl sized) }
@@ -127,7 +129,8 @@ impl TypeStore {
         Ok(())
     }
 
-    /// Enters what a declared type is defined to be. The type neither is nor holds by value that name.
+    /// Enters what a declared type is defined to be: a type of this store that has a size exactly where it was declared to have one, and that
+    /// neither is nor holds by value that name. The name was declared, and not defined yet.
     ///
     /// The extents and bases that follow are entered. A type that was taken in before a name that it is or holds by value was defined waits
     /// for the first type whose extent is not known yet, and is looked at again only once more is known of that one: over all definitions
@@ -181,7 +184,8 @@ impl TypeStore {
     /// The id of a type: the same for equal types, and another for other ones. The row's ids are of this store, and the members of
     /// a union are at least two, ascend by id, and none of them is never or an unnamed union.
     ///
-    /// A struct is taken in only where its fields have names of this store, and is else answered by `AllocError`.
+    /// A struct is taken in only where its fields have names of this store, and is else answered by `AllocError`. So is
+    /// want of memory; nothing changes then.
     pub fn intern(&mut self, r: Row) -> Result<TypeId, AllocError>
         requires within { IsWithin (length self.old.rows) r }
         requires reduced { IsReduced self.old.rows r }
@@ -209,7 +213,7 @@ impl TypeStore {
         Ok(TypeId::at(place))
     }
 
-    /// The row of a type.
+    /// The row of a type of this store.
     pub fn row(&self, t: TypeId) -> &Row
         requires { t < length self.now.rows }
         ensures row { slice_get self.now.rows t ≡ Some result.now }
@@ -286,6 +290,7 @@ impl TypeStore {
     }
 
     /// The tag of a type, counted from 1: its place in the list of the types that have tags, where it is put last unless it is there.
+    /// The type is of this store. Nothing changes where memory is short.
     pub fn mention(&mut self, t: TypeId) -> Result<u32, AllocError>
         requires { t < length self.old.rows }
         ensures tag { IfOk result (λ n. tag_at self.new t ≡ Some n) }

@@ -12,7 +12,8 @@ use std::alloc::{AllocError, Global};
 /// side are one token. There are fewer than 2^32 of them (`law_each_token_has_a_way`).
 ///
 /// The time is at most the number of tokens times that of the brackets that are open round one another, of which a tree of the language
-/// has few. The call goes as deep in the host as the tree does, of which a tree of the language has few levels as well.
+/// has few. The call goes as deep in the host as the tree does, of which a tree of the language has few levels as well. It fails for want of
+/// memory alone.
 pub fn file_ways(alloc: Global, comments: &[usize], t: &FileTree) -> Result<Vec<Way>, AllocError>
     requires { length (ways.file_ways comments.now t.now) < 2 ^ 32 }
     ensures { IfOk result (λ found. found.items ≡ ways.file_ways comments.now t.now) }
