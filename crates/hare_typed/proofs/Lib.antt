@@ -6,6 +6,7 @@ mod PointerRows
 mod UnionRows
 pub mod RepeatLemmas
 pub mod OriginLemmas
+pub mod StretchLemmas
 pub mod KidLemmas
 pub mod CoatLemmas
 pub mod GivenLemmas

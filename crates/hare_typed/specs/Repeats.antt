@@ -1,9 +1,10 @@
 -- Lists of cells in which a part that stands there often is kept once: each cell that was written, and what is repeated of them.
-use Rattle.std.specs.Prelude.{◌≡◌, ℕ, zero, suc, ◌+◌, ◌-◌, ◌<◌, ◌≤◌, List, [], ◌∷◌, ◌++◌, length, take, drop}
+use Rattle.std.specs.Prelude.{◌≡◌, ℕ, zero, suc, ◌+◌, ◌-◌, ◌<◌, ◌≤◌, List, [], ◌∷◌, ◌++◌, length, take, drop, slice_get}
 use Rattle.hare_typed.specs.declared.cell.Cell.{Cell}
 use Rattle.hare_typed.specs.declared.cells.Repeat.{Repeat}
 use Rattle.hare_typed.specs.declared.cells.part.Origin.{Origin}
 use Rattle.hare_typed.specs.declared.cells.part.Origin.TheVariants.{Plain, Repeated, Cut}
+use Rattle.hare_typed.specs.declared.cells.same.Stretch.{Stretch}
 use Rattle.hare_typed.specs.Cells.{cells_within}
 
 -- so many copies, one behind the other
@@ -37,3 +38,18 @@ IsOrigin r from to (Repeated a b q) cs =
     (a ≤ b) × (b ≤ length cs) × (q.from < q.to) × (q.to ≤ b - a) ×
     (cells_within from (to - from) (with_repeat r cs) ≡ with_repeat q (cells_within a (b - a) cs))
 IsOrigin r from to Cut cs = Unit {0}
+
+-- the stretch holds the place
+pub record IsAround (place : ℕ) (s : Stretch) : Type 0 where
+  pub behind : s.begin ≤ place
+  pub before : place < s.end
+
+-- in the stretch of these cells each is the one that stands so many places before it
+pub record Recurs (s : Stretch) (cs : List Cell) : Type 0 where
+  pub proper : 0 < s.distance
+  pub within : s.distance ≤ s.begin
+  pub same : (i : ℕ) → s.begin ≤ i → i < s.end → slice_get cs i ≡ slice_get cs (i - s.distance)
+
+-- two lists have the same cells before a place
+abbrev pub AgreeTo : (place : ℕ) → List Cell → List Cell → Type 0
+AgreeTo place cs ds = (i : ℕ) → i < place → slice_get cs i ≡ slice_get ds i

@@ -6,6 +6,7 @@ ghost use Rattle.hare_typed.specs.Cells.{cells_within};
 ghost use Rattle.hare_typed.specs.Repeats.{again, moved, with_repeat, repeated, FitIn};
 
 mod part;
+mod same;
 
 use crate::cell::Cell;
 use std::alloc::{AllocError, Global};

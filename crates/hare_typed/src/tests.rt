@@ -122,3 +122,35 @@ fn parts_keep_what_is_repeated(rt: HostRuntime) -> Result<(), Fail> {
     assert!(rt; cut.get(1) == Some(Cell::Byte(2)));
     Ok(())
 }
+
+// So many cells of this byte, kept as one that is repeated behind so many that are not.
+fn bytes(alloc: Global, byte: u8, written: usize, repeated: usize) -> Result<Cells, AllocError> {
+    let mut cells = Cells::new(alloc);
+    for _ in 0..written {
+        cells.push(Cell::Byte(byte))?;
+    }
+    cells.push(Cell::Byte(byte))?;
+    cells.repeat(written, repeated)?;
+    Ok(cells)
+}
+
+#[test]
+fn lists_are_the_same_however_kept(rt: HostRuntime) -> Result<(), Fail> {
+    let mut once = bytes(rt.alloc(), 7, 0, 67_108_863)?;
+    let mut later = bytes(rt.alloc(), 7, 3, 67_108_860)?;
+    let mut rows = bytes(rt.alloc(), 7, 0, 8_191)?;
+    rows.repeat(0, 8_191)?;
+    assert!(rt; once.is_same(&once));
+    assert!(rt; once.is_same(&later));
+    assert!(rt; once.is_same(&rows));
+    assert!(rt; rows.is_same(&later));
+    assert!(rt; bytes(rt.alloc(), 7, 0, 3)?.is_same(&bytes(rt.alloc(), 7, 3, 0)?));
+    assert!(rt; !once.is_same(&bytes(rt.alloc(), 7, 0, 67_108_862)?));
+    assert!(rt; !once.is_same(&bytes(rt.alloc(), 8, 0, 67_108_863)?));
+    once.push(Cell::Byte(1))?;
+    later.push(Cell::Byte(2))?;
+    rows.push(Cell::Byte(1))?;
+    assert!(rt; !once.is_same(&later));
+    assert!(rt; once.is_same(&rows));
+    Ok(())
+}
