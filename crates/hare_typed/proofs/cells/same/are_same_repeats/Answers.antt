@@ -4,7 +4,8 @@ use Rattle.hare_typed.proofs.cells.same.are_same_repeats.Goals as goal
 
 pub loop-i-preserved : goal.loop-i-preserved
 loop-i-preserved c =
-    agree_more c.args.left.now c.args.right.now c.loop-i.i (record { from = 0; to = 0; more = 0 }) (omega arith) (omega arith) (search rules) c.loop-i.invariant
+    agree_more c.args.left.now c.args.right.now c.loop-i.i (record { from = 0; to = 0; more = 0 }) (omega arith) (omega arith)
+    (search rules) c.loop-i.invariant
 
 pub returns : goal.returns
 returns c = (
