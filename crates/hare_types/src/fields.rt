@@ -51,11 +51,16 @@ pub(crate) fn reserve_fields(places: &mut FieldPlaces, row: &Row) -> Result<(), 
     ensures same { places.new.entries ≡ places.old.entries }
     ensures room { OnOk result (length (fields_in row.now) ≤ spare places.new) }
 {
-    places.reserve(fields_in(row).len())?;
+    let fields = fields_in(row);
+    if fields.is_empty() {
+        return Ok(());
+    }
+    places.reserve(fields.len())?;
     Ok(())
 }
 
 /// Enters the places of the fields of struct `t`, of which none is entered yet. Of fields of one name the first counts.
+#[inline(never)]
 fn enter_fields(places: &mut FieldPlaces, t: TypeId, fields: &[Field])
     requires room { length fields.now ≤ spare places.old }
     requires none { (name : ℕ) → place_of places.old.entries t name ≡ None }
