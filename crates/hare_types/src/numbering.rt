@@ -28,6 +28,19 @@ pub(crate) fn number<T: Eq + Hash + Drop, S: BuildHasher>(
         let (place, _) = set.insert_full(key)?;
         return Ok(place as u32);
     }
+    number_in_full(set, key)
+}
+
+/// The place of a key in a set that takes no more keys. It stands apart from `number`, so that the usual path is short.
+#[inline(never)]
+fn number_in_full<T: Eq + Hash + Drop, S: BuildHasher>(
+    set: &IndexSet<T, S>,
+    key: T,
+) -> Result<u32, AllocError>
+    requires { length set.now.keys ≤ most }
+    ensures place { IfOk result (λ n. n ≡ position_or_len (T.eq key) set.now.keys) }
+    ensures within { IfOk result (λ n. n < length set.now.keys) }
+{
     match set.get_index_of(&key) {
         Some(place) => Ok(place as u32),
         None => Err(AllocError),
