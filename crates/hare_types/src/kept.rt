@@ -1,6 +1,6 @@
 //! What is kept beside the rows of a store.
 
-ghost use Rattle.std.specs.Prelude.{◌≡◌, ◌<◌, IfSome};
+ghost use Rattle.std.specs.Prelude.{◌≡◌, ◌<◌, None, IfSome};
 ghost use Rattle.hare_types.specs.Numbering.{most};
 ghost use Rattle.hare_types.specs.Packed.{Tells, base_in};
 ghost use Rattle.hare_types.specs.Waiting.{extent_at, root_at};
@@ -26,6 +26,38 @@ pub(crate) struct Kept {
     pub last: u32,
     pub next: u32,
     pub seen: u32,
+}
+
+/// What is found of a type: its extent and its root, where they are known.
+#[derive(Clone, Copy, Drop)]
+pub(crate) struct Found {
+    pub extent: PackedExtent,
+    pub root: PackedRoot,
+}
+
+/// The extent and the root that are kept of a type.
+pub(crate) fn found_at(kept: &[Kept], t: TypeId) -> Found
+    ensures extent { result.extent ≡ extent_at kept.now t }
+    ensures root { result.root ≡ root_at kept.now t }
+{
+    match kept.get(t.index() as usize) {
+        Some(k) => Found {
+            extent: k.extent,
+            root: k.root,
+        },
+        None => nothing(),
+    }
+}
+
+/// Nothing is found.
+pub(crate) fn nothing() -> Found
+    ensures extent { result.extent ≡ None }
+    ensures root { result.root ≡ None }
+{
+    Found {
+        extent: PackedExtent::of(None),
+        root: PackedRoot::of(None),
+    }
 }
 
 /// The extent that is kept of a type.

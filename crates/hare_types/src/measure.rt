@@ -4,7 +4,6 @@ ghost use Rattle.std.specs.Prelude.{◌≡◌, ◌<◌, ◌≤◌, ◌^◌, IfSo
 ghost use Rattle.hare_types.specs.Kept.{parts_of, known, defined, all_known, extent_over, IsBounded, AreBounded};
 ghost use Rattle.hare_types.specs.declared.row.Row.TheVariants as RowOf;
 ghost use Rattle.hare_types.specs.Waiting.{extents, root_at};
-ghost use Rattle.hare_types.specs.Packed.{Tells};
 ghost use Rattle.hare_types.specs.Roots.{root_over};
 ghost use Rattle.hare_types.specs.Numbering.{most};
 ghost use Rattle.hare_types.specs.Run.{no_parts, with_parts, IsRun};
@@ -13,9 +12,10 @@ use crate::bytes::{Run, fields_extent, repeated, scalar_extent, union_extent, wi
 use crate::declared::Declared;
 use crate::extent::Extent;
 use crate::id::TypeId;
-use crate::kept::{Kept, base_at, extent_at, root_at};
+use crate::kept::{Found, Kept, base_at, extent_at, found_at, nothing};
+use crate::packed::PackedExtent;
 use crate::parts::{part_at, part_count};
-use crate::root::Root;
+use crate::root::{PackedRoot, Root};
 use crate::row::Row;
 use indexmap::IndexMap;
 
@@ -90,30 +90,38 @@ fn named(decl: u32, declared: &IndexMap<u32, Declared>, kept: &[Kept]) -> Option
     }
 }
 
-/// The root of row `t`, as far as it follows from those that are kept: `None` where none is kept of the type that it is named to be.
-pub(crate) fn root_over(
+/// What follows for row `t` from what is kept of others. No root follows of a name where none is kept of the type that it is named to be.
+pub(crate) fn found_over(
     row: &Row,
     t: TypeId,
     declared: &IndexMap<u32, Declared>,
     kept: &[Kept],
-) -> Option<Root>
-    requires { t < most }
-    ensures value { result ≡ root_over (defined declared.now.entries) (root_at kept.now) t row.now }
-    ensures tells { IfSome result (λ r. Tells r) }
+) -> Found
+    requires few { t < most }
+    requires bounded { AreBounded (extents kept.now) }
+    ensures extent { result.extent ≡ extent_over (defined declared.now.entries) (known (extents kept.now)) row.now }
+    ensures root { result.root ≡ root_over (defined declared.now.entries) (root_at kept.now) t row.now }
+    ensures bounded { IfSome result.extent (λ x. IsBounded x) }
 {
     match row {
-        Row::Error(inner) => Some(Root {
-            base: base_at(kept, *inner),
-            is_error: true,
-        }),
-        Row::Named(decl) => match definition(*decl, declared) {
-            Some(meaning) => root_at(kept, meaning),
-            None => None,
+        Row::Error(inner) => Found {
+            extent: found_at(kept, *inner).extent,
+            root: PackedRoot::of(Some(Root {
+                base: base_at(kept, *inner),
+                is_error: true,
+            })),
         },
-        _ => Some(Root {
-            base: Some(t),
-            is_error: false,
-        }),
+        Row::Named(decl) => match definition(*decl, declared) {
+            Some(meaning) => found_at(kept, meaning),
+            None => nothing(),
+        },
+        _ => Found {
+            extent: PackedExtent::of(extent_over(row, declared, kept)),
+            root: PackedRoot::of(Some(Root {
+                base: Some(t),
+                is_error: false,
+            })),
+        },
     }
 }
 

@@ -11,29 +11,25 @@ ghost use Rattle.hare_types.specs.Roots.{root_over, KeepsRoots, TellsAll, TellsM
 ghost use Rattle.hare_types.specs.Waiting.{nowhere, blank, extents, roots, extent_at, root_at, kept_at, with_found, with_seen, Among, HaveRoots, AreSeen, AreSettling, AreSettlingBut, KeepsFound, IsFound, NoneFollows, NeedsAreWithin, needed_at, IsLess, AreSettlingButName, AreKept, IsTakenIn};
 
 use crate::declared::Declared;
-use crate::extent::Extent;
 use crate::id::TypeId;
-use crate::kept::{Kept, NOWHERE, extent_at};
-use crate::measure::{definition, extent_over, root_over};
-use crate::packed::PackedExtent;
+use crate::kept::{Found, Kept, NOWHERE, extent_at};
+use crate::measure::{definition, found_over};
 use crate::parts::{part_at, part_count};
 use crate::places::Rows;
-use crate::root::{PackedRoot, Root};
+use crate::root::Root;
 use crate::row::Row;
 use crate::waiting::{link, release};
 use indexmap::IndexMap;
 
 /// Enters what is found of row `i`.
-fn set_found(kept: &mut Vec<Kept>, i: usize, extent: Option<Extent>, root: Option<Root>)
-    requires there { i < length kept.old.items }
-    requires bounded { IfSome extent (λ x. IsBounded x) }
-    requires tells { IfSome root (λ r. Tells r) }
-    ensures { kept.new.items ≡ with_found kept.old.items i extent root }
+fn set_found(kept: &mut Vec<Kept>, i: usize, found: Found)
+    requires { i < length kept.old.items }
+    ensures { kept.new.items ≡ with_found kept.old.items i found.extent found.root }
 {
     let old = kept[i];
     kept[i] = Kept {
-        extent: PackedExtent::of(extent),
-        root: PackedRoot::of(root),
+        extent: found.extent,
+        root: found.root,
         ..old
     };
 }
@@ -59,14 +55,13 @@ fn look(rows: &[Row], declared: &IndexMap<u32, Declared>, kept: &mut Vec<Kept>, 
     ensures same { result ≡ false → kept.new.items ≡ kept.old.items }
     ensures none { result ≡ false → (r : RowOf) → slice_get rows.now i ≡ Some r → NoneFollows declared.now.entries kept.old.items i r }
 {
-    let extent = extent_over(&rows[i], declared, kept);
-    let root = root_over(&rows[i], TypeId::at(i as u32), declared, kept);
-    if extent.is_some() {
-        set_found(kept, i, extent, root);
+    let found = found_over(&rows[i], TypeId::at(i as u32), declared, kept);
+    if found.extent.get().is_some() {
+        set_found(kept, i, found);
         return true;
     }
-    if is_more(&kept[i].root.get(), &root) {
-        set_found(kept, i, extent, root);
+    if is_more(&kept[i].root.get(), &found.root.get()) {
+        set_found(kept, i, found);
         return true;
     }
     false
@@ -127,9 +122,10 @@ pub(crate) fn fresh(row: &Row, i: usize, declared: &IndexMap<u32, Declared>, kep
     ensures bounded { IfSome result.extent (λ x. IsBounded x) }
     ensures blank { result ≡ record blank { extent = result.extent; root = result.root } }
 {
+    let found = found_over(row, TypeId::at(i as u32), declared, kept);
     Kept {
-        extent: PackedExtent::of(extent_over(row, declared, kept)),
-        root: PackedRoot::of(root_over(row, TypeId::at(i as u32), declared, kept)),
+        extent: found.extent,
+        root: found.root,
         first: NOWHERE,
         last: NOWHERE,
         next: NOWHERE,
@@ -156,6 +152,26 @@ pub(crate) fn wait(rows: &[Row], declared: &IndexMap<u32, Declared>, kept: &mut 
     if old.extent.get().is_some() {
         return;
     }
+    enlist(rows, declared, kept, i);
+}
+
+/// Puts row `i`, which stands in no list, for which no more follows and of which no extent is kept, into the list of the first type whose
+/// extent it needs.
+#[inline(never)]
+fn enlist(rows: &[Row], declared: &IndexMap<u32, Declared>, kept: &mut Vec<Kept>, i: usize)
+    requires within { i < length rows.now }
+    requires few { length rows.now ≤ most }
+    requires as_many { length kept.old.items ≡ length rows.now }
+    requires needs { NeedsAreWithin rows.now declared.now.entries }
+    requires seen { AreSeen rows.now kept.old.items }
+    requires unknown { extent_at kept.old.items i ≡ None }
+    requires none { (r : RowOf) → slice_get rows.now i ≡ Some r → NoneFollows declared.now.entries kept.old.items i r }
+    ensures found { KeepsFound kept.old.items kept.new.items }
+    ensures seen { AreSeen rows.now kept.new.items }
+    ensures settled { (pile : ℕ) (lists : ℕ → List ℕ) → AreSettlingBut i rows.now declared.now.entries kept.old.items pile lists →
+        (new : ℕ → List ℕ) × AreSettling rows.now declared.now.entries kept.new.items pile new × (new 0 ≡ lists 0) }
+{
+    let old = kept[i];
     let seen = seen_of(&rows[i], kept, old.seen);
     set_seen(kept, i, seen.min(NOWHERE as usize) as u32);
     match needed(&rows[i], declared, seen) {
