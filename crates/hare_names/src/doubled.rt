@@ -1,6 +1,6 @@
 //! Equal names of parameters and of fields.
 
-ghost use Rattle.std.specs.Prelude.{◌≡◌, fold, IfOk, OnOk};
+ghost use Rattle.std.specs.Prelude.{◌≡◌, take, fold, IfOk, OnOk};
 ghost use Rattle.hare_tree.specs.Node.{nodes_of};
 ghost use Rattle.hare_modules.specs.Order.{earlier};
 ghost use Rattle.hare_names.specs.Doubled as spec;
@@ -10,6 +10,9 @@ use crate::kinds::{has_names, is_named};
 use hare_modules::{Table, earlier};
 use hare_tree::{Fault, Kids, Tree};
 use std::alloc::{AllocError, Global};
+
+/// How many kids of one tree are compared one by one.
+const FEW: usize = 8;
 
 /// The fault that counts first of one that was found before, if there was one, and of those at the later of equal names of parameters or
 /// fields in a tree. It fails for want of memory alone.
@@ -42,6 +45,9 @@ fn doubled_among(
         let Some(kid) = kids.get(i) else {
             return Ok(first);
         };
+        if kid.kids.len() == 0 {
+            continue;
+        }
         first = first_doubled(alloc, kid, first)?;
     }
     Ok(first)
@@ -55,8 +61,8 @@ fn doubled_kids(
 ) -> Result<Option<Fault>, AllocError>
     ensures { IfOk result (λ f. f ≡ fold earlier found (spec.doubled_kids (nodes_of kids.now))) }
 {
-    if kids.len() < 2 {
-        return Ok(found);
+    if kids.len() <= FEW {
+        return Ok(doubled_few(kids, found));
     }
     let mut names: Table<()> = Table::new(alloc);
     let mut first = found;
@@ -67,6 +73,53 @@ fn doubled_kids(
         first = take_name(&mut names, kid, first)?;
     }
     Ok(first)
+}
+
+/// The same of few kids, each of which is compared with those before it. Takes no memory.
+fn doubled_few(kids: &Kids, found: Option<Fault>) -> Option<Fault>
+    ensures { result ≡ fold earlier found (spec.doubled_kids (nodes_of kids.now)) }
+{
+    let mut first = found;
+    for i in 0..kids.len() {
+        let Some(kid) = kids.get(i) else {
+            return first;
+        };
+        first = compare(kids, i, kid, first);
+    }
+    first
+}
+
+/// The fault that counts first of one that was found before, if there was one, and of that of a kid whose name one of the first `count`
+/// kids has.
+fn compare(kids: &Kids, count: usize, kid: &Tree, found: Option<Fault>) -> Option<Fault>
+    ensures { result ≡ doubling.first_behind (take count kids.now) kid.now found }
+{
+    if is_named(kid.kind) && has_name(kids, count, kid.text.bytes()) {
+        return earlier(found, doubled_fault(kid));
+    }
+    found
+}
+
+/// Whether one of the first `count` kids is a parameter or a field of a name.
+fn has_name(kids: &Kids, count: usize, name: &[u8]) -> bool
+    ensures { result ≡ doubling.any_called (take count kids.now) name.now }
+{
+    for i in 0..count {
+        let Some(kid) = kids.get(i) else {
+            return false;
+        };
+        if is_called(kid, name) {
+            return true;
+        }
+    }
+    false
+}
+
+/// Whether a kid is a parameter or a field of a name.
+fn is_called(kid: &Tree, name: &[u8]) -> bool
+    ensures { result ≡ doubling.is_called kid.now name.now }
+{
+    is_named(kid.kind) && kid.text.bytes() == name
 }
 
 /// Takes the name of a kid, if it is a parameter or a field. The answer is the fault that counts first of one that was found before, if

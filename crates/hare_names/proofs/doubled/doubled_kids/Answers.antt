@@ -1,9 +1,6 @@
 use Rattle.std.proofs.Common.{arith}
-use Rattle.hare_names.proofs.DoubledLemmas.{doubling-start, doubling-on, doubling-done, doubled-short}
+use Rattle.hare_names.proofs.DoubledLemmas.{doubling-start, doubling-on, doubling-done}
 use Rattle.hare_names.proofs.doubled.doubled_kids.Goals as goal
-
-pub returns-then-len-lt2 : goal.returns-then-len-lt2
-returns-then-len-lt2 c = doubled-short c.args.kids.now c.args.found (omega arith)
 
 pub loop-i-init : goal.loop-i-init
 loop-i-init c = doubling-start c.args.kids.now c.args.found c.new-names.result c.new-names.ensures
