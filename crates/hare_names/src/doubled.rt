@@ -11,7 +11,7 @@ use hare_modules::{Table, earlier};
 use hare_tree::{Fault, Kids, Tree};
 use std::alloc::{AllocError, Global};
 
-/// How many kids of one tree are compared one by one.
+/// How many kids of one tree are compared one by one. More take a table, so that no list takes quadratic time.
 const FEW: usize = 8;
 
 /// The fault that counts first of one that was found before, if there was one, and of those at the later of equal names of parameters or
@@ -89,8 +89,8 @@ fn doubled_few(kids: &Kids, found: Option<Fault>) -> Option<Fault>
     first
 }
 
-/// The fault that counts first of one that was found before, if there was one, and of that of a kid whose name one of the first `count`
-/// kids has.
+/// The fault that counts first of one that was found before, if there was one, and of that of a kid, if it is a parameter or a field whose
+/// name one of the first `count` kids has.
 fn compare(kids: &Kids, count: usize, kid: &Tree, found: Option<Fault>) -> Option<Fault>
     ensures { result ≡ doubling.first_behind (take count kids.now) kid.now found }
 {
