@@ -4,3 +4,4 @@ mod PhaseLemmas
 mod CompleteLemmas
 mod TagLemmas
 mod ProgramLemmas
+mod BoundLemmas

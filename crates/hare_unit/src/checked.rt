@@ -3,11 +3,13 @@
 ghost use Rattle.std.specs.Prelude.{IfOk, IfErr};
 ghost use Rattle.hare_sources.specs.Named.{ArePaired};
 ghost use Rattle.hare_unit.specs.Programs.{IsChecked, IsFaultless, IsOnlyProgramStop, IsProgramStop};
+ghost use Rattle.hare_unit.specs.Whole.{IsWhole};
+ghost use Rattle.harec_words.specs.Commands.{AreFiles};
 
 use crate::limits::entry_of;
 use crate::phases::{Typing, judge};
 use hare_filed::law_programs_are_filed;
-use hare_names::Names;
+use hare_names::{Names, law_locals_are_in_scope};
 use hare_sole::law_one_fault_of_phases;
 use hare_sources::{Sources, law_one_early_fault, read};
 use hare_tree::{Fault, Stop};
@@ -35,11 +37,15 @@ pub fn program(alloc: Global, paths: Paths, srcs: &Sources) -> Result<Checked, S
     ensures ok { IfOk result (IsChecked paths srcs.now) }
     ensures err { IfErr result (IsProgramStop paths srcs.now) }
 
+    // Where the paths are words that name files, it is whole.
+    ensures whole { IfOk result (λ c. AreFiles paths → IsWhole c) }
+
     // Over one store a program is checked or has one first fault, and never both.
     ensures only { IfOk result (IsFaultless paths srcs.now) }
     ensures only_fault { IfErr result (IsOnlyProgramStop paths srcs.now) }
 {
     law_programs_are_filed();
+    law_locals_are_in_scope();
     law_one_early_fault();
     law_one_fault_of_phases();
     let named = read(alloc, paths.as_slice(), srcs)?;

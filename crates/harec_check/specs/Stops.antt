@@ -2,6 +2,8 @@
 use Rattle.std.specs.Prelude.{◌≡◌, ℕ, List, Option}
 use Rattle.hare_unit.specs.declared.checked.Checked.{Checked}
 use Rattle.hare_unit.specs.Programs.{IsChecked, IsFaultless, IsFaultOfProgram, IsOnlyFaultOfProgram}
+use Rattle.hare_unit.specs.Whole.{IsWhole}
+use Rattle.harec_words.specs.Commands as words
 use Rattle.harec_check.specs.declared.stopped.Refusal.{Refusal}
 use Rattle.harec_check.specs.declared.stopped.Stopped.{Stopped}
 use Rattle.harec_check.specs.declared.stopped.Stopped.TheVariants.{Refused, Unread, Memory}
@@ -16,13 +18,15 @@ pub record IsFirstFault (paths srcs : List (List ℕ)) (r : Refusal) : Type 0 wh
 
 -- files, by their paths and what they hold, where that is told, and how often a read had failed before and has failed now
 module _ (content : List ℕ → Option (List ℕ)) (paths : List (List ℕ)) (before now : ℕ) where
-  -- all were read, these are their bytes, and the program of these is checked and has no fault
+  -- All were read, these are their bytes, and the program of these is checked and has no fault. Where the paths are words that name files,
+  -- it is whole.
   pub record AreChecked (srcs : List (List ℕ)) : Type 0 where
     pub stands : now ≡ before
     pub told : AreTold content paths srcs
     pub program : Checked
     pub checked : IsChecked paths srcs program
     pub faultless : IsFaultless paths srcs program
+    pub whole : words.AreFiles paths → IsWhole program
 
   -- all were read, and the program of their bytes has this first fault
   pub record AreRefused (r : Refusal) : Type 0 where

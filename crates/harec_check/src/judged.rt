@@ -4,6 +4,8 @@ ghost use Rattle.std.specs.Prelude.{◌≡◌, ◌≤◌, length, IfOk, IfErr, O
 ghost use Rattle.hare_sources.specs.Named.{ArePaired};
 ghost use Rattle.hare_unit.specs.declared.checked.Checked.{Checked};
 ghost use Rattle.hare_unit.specs.Programs.{IsChecked, IsFaultless};
+ghost use Rattle.hare_unit.specs.Whole.{IsWhole};
+ghost use Rattle.harec_words.specs.Commands.{AreFiles};
 ghost use Rattle.harec_check.specs.Lines.{IsFaultLine, IsRefusal};
 ghost use Rattle.harec_check.specs.Stops.{IsJudgeStop};
 
@@ -25,7 +27,8 @@ const LAST_FAULT: u8 = 49;
 /// Checks the program of these files; or else tells its first fault, with its line.
 pub(crate) fn judge(alloc: Global, paths: &[Text], srcs: &Sources) -> Result<(), Stopped>
     requires { ArePaired paths.now srcs.now }
-    ensures ok { OnOk result ((c : Checked) × IsChecked paths.now srcs.now c × IsFaultless paths.now srcs.now c) }
+    ensures ok { OnOk result ((c : Checked) × IsChecked paths.now srcs.now c × IsFaultless paths.now srcs.now c
+        × (AreFiles paths.now → IsWhole c)) }
     ensures err { IfErr result (IsJudgeStop paths.now srcs.now) }
 {
     match program(alloc, copied(alloc, paths)?, srcs) {

@@ -19,7 +19,7 @@ use std::alloc::Global;
 pub fn check<F: Files>(alloc: Global, paths: &[Text], files: &mut F) -> Result<Sources, Stopped>
     requires few { length paths.now ≤ 65536 }
 
-    // All files were read, and the program of these bytes is checked and has no fault.
+    // All files were read, and the program of these bytes is checked, has no fault, and is whole where the paths name files.
     ensures ok { IfOk result (AreChecked (F.content files.old) paths.now (F.faults files.old) (F.faults files.new)) }
 
     // A refused program has this first fault, and no other, with this line. A file was not read exactly where the count of faults rose;

@@ -10,6 +10,7 @@ use Rattle.il_plain.specs.declared.ended.Ended.TheVariants as ended
 use Rattle.il_plain.specs.Runs.{RunsAs, CountsEnd}
 use Rattle.hare_unit.specs.declared.checked.Checked.{Checked}
 use Rattle.hare_unit.specs.Programs.{IsChecked, IsFaultless}
+use Rattle.hare_unit.specs.Whole.{IsWhole}
 use Rattle.harec_words.specs.Commands.{Command, Check, Emit, Run}
 use Rattle.harec_check.specs.declared.stopped.Stopped.{Stopped}
 use Rattle.harec_check.specs.declared.stopped.Stopped.TheVariants.{Refused, Unread, Memory}
@@ -23,7 +24,7 @@ use Rattle.harec_core.specs.declared.carry.Done.{Done}
 use Rattle.harec_core.specs.Answers.{Call, HasCause, Emitted, EndedIn, CutEmit, IsMade, IsCompiled, IsSound}
 use Rattle.harec_core.specs.Asked.{IsAsked, files_of, Checks, Compiles}
 use Rattle.harec_core.specs.Outside.{Count, HasRisen, Stands, Sent, sent, IsSent}
-use Rattle.harec_core.specs.Stages.{AreFew, IsTextOf, IsBuilt, IsBuildStop, Emits, answer_of, done_answer, stopped_answer, command_on, command_for}
+use Rattle.harec_core.specs.Stages.{AreFilesFor, IsTextOf, IsBuilt, IsBuildStop, Emits, answer_of, done_answer, stopped_answer, command_on, command_for}
 
 -- ---- counts and bytes
 
@@ -73,12 +74,12 @@ Checks-command_on files purpose.Check = tt
 Checks-command_on files purpose.Emit = tt
 Checks-command_on files (purpose.Run units args) = tt
 
--- words ask for few files, and for one that is laid out
-pub few_asked : (words files : List (List ℕ)) (a : Action) → IsAsked words (command_for files a) → AreFew files a
-few_asked words files action.Layout h = ap length h.0.1.only
-few_asked words files (action.Program purpose.Check) h = h.0.1.few
-few_asked words files (action.Program purpose.Emit) h = h.0.1.few
-few_asked words files (action.Program (purpose.Run units args)) h = h.0.1.few
+-- words ask for files, and for one that is laid out
+pub files_asked : (words files : List (List ℕ)) (a : Action) → IsAsked words (command_for files a) → AreFilesFor files a
+files_asked words files action.Layout h = ap length h.0.1.only
+files_asked words files (action.Program purpose.Check) h = h.0.1
+files_asked words files (action.Program purpose.Emit) h = h.0.1
+files_asked words files (action.Program (purpose.Run units args)) h = h.0.1
 
 -- ---- why nothing was done
 
@@ -154,17 +155,17 @@ made_of source text m t = record {
 -- a checked program without a fault
 sound_on :
     (files : List (List ℕ)) (p : Purpose) (srcs : List (List ℕ)) (fill : ℕ) (count : Count) (out : Sent) (text : List ℕ)
-    → Stands count → (c : Checked) × IsChecked files srcs c × IsFaultless files srcs c
+    → Stands count → (c : Checked) × IsChecked files srcs c × IsFaultless files srcs c × IsWhole c
     → IsSound (record { command = command_on files p; sources = srcs; fill = fill; files = count; out = out; text = text })
 sound_on files p srcs fill count out text s c =
     let same = files_of-command_on files p in
-    record { checks = Checks-command_on files p; files = s; program = c.0; checked = rw same c.1; faultless = rw same c.2 }
+    record { checks = Checks-command_on files p; files = s; program = c.0; checked = rw same c.1; faultless = rw same c.2; whole = c.3 }
 
 -- of a checked program no text was made
 pub unbuilt_cause :
     (files : List (List ℕ)) (p : Purpose) (srcs : List (List ℕ)) (fill : ℕ) (count : Count) (out : Sent) (text : List ℕ)
     (why : Stopped) → Compiles (command_on files p) → Stands count
-    → (c : Checked) × IsChecked files srcs c × IsFaultless files srcs c → IsSent [] out → text ≡ [] → IsBuildStop files srcs why
+    → (c : Checked) × IsChecked files srcs c × IsFaultless files srcs c × IsWhole c → IsSent [] out → text ≡ [] → IsBuildStop files srcs why
     → HasCause (record { command = command_on files p; sources = srcs; fill = fill; files = count; out = out; text = text })
     (stopped_answer why)
 unbuilt_cause files p srcs fill count out text (Refused r) k s c quiet empty h =
@@ -176,7 +177,7 @@ unbuilt_cause files p srcs fill count out text Memory k s c quiet empty h = reco
 -- a checked program that is compiled
 pub compiled_on :
     (files : List (List ℕ)) (p : Purpose) (srcs : List (List ℕ)) (fill : ℕ) (count : Count) (out : Sent) (text : List ℕ)
-    (m : Module) → Compiles (command_on files p) → Stands count → (c : Checked) × IsChecked files srcs c × IsFaultless files srcs c
+    (m : Module) → Compiles (command_on files p) → Stands count → (c : Checked) × IsChecked files srcs c × IsFaultless files srcs c × IsWhole c
     → length srcs ≡ length files → IsBuilt srcs text m
     → IsCompiled (record { command = command_on files p; sources = srcs; fill = fill; files = count; out = out; text = text }) m
 compiled_on files p srcs fill count out text m k s c paired b =

@@ -16,6 +16,7 @@ use Rattle.hare_lines.specs.Layout.{IsLaidOut}
 use Rattle.hare_sources.specs.Files.{most_of_file}
 use Rattle.hare_unit.specs.declared.checked.Checked.{Checked}
 use Rattle.hare_unit.specs.Programs.{IsChecked, IsFaultless, IsFaultOfProgram, IsOnlyFaultOfProgram}
+use Rattle.hare_unit.specs.Whole.{IsWhole}
 use Rattle.harec_words.specs.Commands.{Command, Check, Emit, Run, Exec, Fmt}
 use Rattle.harec_core.specs.declared.answer.Answer.{Answer}
 use Rattle.harec_core.specs.declared.answer.Answer.TheVariants.{Accepted, Exited, Usage, Refused, FileFault, Undefined, Memory, ReadFault, WriteFault, Spent, StackFull, Aborted}
@@ -45,13 +46,14 @@ pub record IsQuiet (c : Call) : Type 0 where
 
 -- ---- what is checked, and what is compiled
 
--- The command is one on a program: all of its files were read, and their program is checked and has no fault.
+-- The command is one on a program: all of its files were read, and their program is checked, has no fault and is whole.
 pub record IsSound (c : Call) : Type 0 where
   pub checks : Checks c.command
   pub files : Stands c.files
   pub program : Checked
   pub checked : IsChecked (files_of c.command) c.sources program
   pub faultless : IsFaultless (files_of c.command) c.sources program
+  pub whole : IsWhole program
 
 -- the text is that of a module, which carries the one program of the file with these bytes
 pub record IsMade (source text : List ℕ) (m : Module) : Type 0 where

@@ -43,10 +43,10 @@ command_for files (OnProgram purpose) = command_on files purpose
 abbrev pub command_of : Task → words.Command
 command_of a = command_for a.files.now a.action
 
--- a file that is laid out is the only one
-abbrev pub AreFew : List (List ℕ) → Action → Type 0
-AreFew files Layout = length files ≡ 1
-AreFew files (OnProgram purpose) = length files ≤ 65536
+-- a file that is laid out is the only one, and a program has words that name files
+abbrev pub AreFilesFor : List (List ℕ) → Action → Type 0
+AreFilesFor files Layout = length files ≡ 1
+AreFilesFor files (OnProgram purpose) = words.AreFiles files
 
 -- ---- texts
 

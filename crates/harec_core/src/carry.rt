@@ -3,6 +3,7 @@
 ghost use Rattle.std.specs.Prelude.{◌≡◌, ◌<◌, ◌-◌, ◌^◌, [], length, IfErr};
 ghost use Rattle.hare_unit.specs.declared.checked.Checked.{Checked};
 ghost use Rattle.hare_unit.specs.Programs.{IsChecked, IsFaultless};
+ghost use Rattle.hare_unit.specs.Whole.{IsWhole};
 ghost use Rattle.harec_core.specs.Answers.{HasCause, LeavesOutput};
 ghost use Rattle.harec_core.specs.Outside.{Count, Stands, sent};
 ghost use Rattle.harec_core.specs.Stages.{Emits, HasLine, command_on, found_answer};
@@ -41,7 +42,7 @@ pub fn carry_out<O: Sink>(
 ) -> Result<Done, Stopped>
     requires empty { text.old ≡ [] }
     requires paired { length srcs.now ≡ length paths.now }
-    requires checked { (c : Checked) × IsChecked paths.now srcs.now c × IsFaultless paths.now srcs.now c }
+    requires checked { (c : Checked) × IsChecked paths.now srcs.now c × IsFaultless paths.now srcs.now c × IsWhole c }
     requires count { O.faults out.old < 2 ^ 64 - 1 }
     ensures cause { (files : Count) → Stands files
         → HasCause (record {

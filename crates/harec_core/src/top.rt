@@ -1,7 +1,7 @@
 //! The top call: from words and files to an answer.
 
 ghost use Rattle.std.specs.Prelude.{◌≡◌, ℕ, ◌<◌, ◌≤◌, ◌-◌, ◌^◌, ◌↔◌, ◌⊎◌, List, [], length, IfErr};
-ghost use Rattle.harec_words.specs.Commands.{Command};
+ghost use Rattle.harec_words.specs.Commands.{AreFiles, Command};
 ghost use Rattle.harec_check.specs.Files.{AreTold};
 ghost use Rattle.harec_core.specs.declared.answer.Answer.{Answer};
 ghost use Rattle.harec_core.specs.declared.answer.Answer.TheVariants as answer;
@@ -9,7 +9,7 @@ ghost use Rattle.harec_core.specs.Answers.{Answers, HasCause, LeavesOutput};
 ghost use Rattle.harec_core.specs.Asked.{IsAsked, IsNotAsked, files_of, units_of};
 ghost use Rattle.harec_core.specs.Log.{Logs, IsLine, LeavesLog, usage_line};
 ghost use Rattle.harec_core.specs.Outside.{sent};
-ghost use Rattle.harec_core.specs.Stages.{AreFew, HasLine, command_for, command_of, command_on, found_answer};
+ghost use Rattle.harec_core.specs.Stages.{AreFilesFor, HasLine, command_for, command_of, command_on, found_answer};
 
 use crate::answer::Answer;
 use crate::asked::{Action, Purpose, Task, asked};
@@ -38,7 +38,7 @@ use std::alloc::Global;
 /// `fill` is the byte that new memory and unassigned temporaries of a run hold. `text` becomes the IL text that was made: it is empty where
 /// no module
 /// was made, and after want of memory it is the text or empty.
-#[tactic(auto, using(crate::proofs::Causes::few_asked))]
+#[tactic(auto, using(crate::proofs::Causes::files_asked))]
 pub fn harec<F: Files, I: Source, O: Sink, L: Sink>(
     alloc: Global,
     words: &[Text],
@@ -124,7 +124,7 @@ fn answer_to<F: Files, O: Sink>(
     text: &mut Bytes,
 ) -> Result<Done, Stopped>
     requires empty { text.old ≡ [] }
-    requires few { AreFew task.files.now task.action }
+    requires files { AreFilesFor task.files.now task.action }
     requires count_of_files { F.faults files.old < 2 ^ 64 - 1 }
     requires count_of_out { O.faults out.old < 2 ^ 64 - 1 }
     ensures cause { (srcs : List (List ℕ)) × AreTold (F.content files.old) task.entry.files.now srcs
@@ -157,7 +157,7 @@ fn checked<F: Files, O: Sink>(
     text: &mut Bytes,
 ) -> Result<Done, Stopped>
     requires empty { text.old ≡ [] }
-    requires few { length paths.now ≤ 65536 }
+    requires files { AreFiles paths.now }
     requires count_of_files { F.faults files.old < 2 ^ 64 - 1 }
     requires count_of_out { O.faults out.old < 2 ^ 64 - 1 }
     ensures cause { (srcs : List (List ℕ)) × AreTold (F.content files.old) paths.now srcs

@@ -1,4 +1,4 @@
-use Rattle.std.proofs.Common.{refl, subst}
+use Rattle.std.proofs.Common.{refl, subst, ◌∙◌}
 use Rattle.hare_names.specs.Answers.{meaning_in}
 use Rattle.hare_saids.specs.Saids.{decls}
 use Rattle.hare_sources.specs.Named.{AreNamed, IsEarlyFault}
@@ -6,6 +6,8 @@ use Rattle.hare_decl.specs.Answers.{Stops}
 use Rattle.hare_filed.specs.Filed.{AreFiled}
 use Rattle.hare_walk.proofs.Steps.{err_same}
 use Rattle.hare_unit.specs.Programs.{IsProgramStop, IsOnlyProgramStop, IsEnded, IsLimitStop, listing_of}
+use Rattle.hare_sources.proofs.ReadLemmas.{length-read}
+use Rattle.hare_unit.proofs.BoundLemmas.{locals-bound}
 use Rattle.hare_unit.proofs.CompleteLemmas.{is-complete}
 use Rattle.hare_unit.proofs.ProgramLemmas.{early-stops, phase-stops, ended-stops, is-seen, only-early, only-phase, only-limit, all-passed}
 use Rattle.hare_unit.proofs.checked.program.Goals as goal
@@ -120,4 +122,23 @@ returns-clause-only c =
       early = λ f h. c.law_one_early_fault.ensures.none paths srcs n.files (meaning_in n.names) f named h;
       checked = passed;
       late = λ f h. c.law_one_fault_of_phases.ensures.none paths (listing_of n) t.types t.decls entry f passed h;
+    }
+
+pub returns-clause-whole : goal.returns-clause-whole
+returns-clause-whole c = λ files.
+    let paths = c.args.paths in
+    let srcs = c.args.srcs.now in
+    let n = c.in_ok-named.named in
+    let t = c.entry_of.new.typing in
+    let entry = c.in_ok-entry.entry in
+    let named : AreNamed paths srcs n.files (meaning_in n.names) =
+    subst (λ ps. AreNamed ps srcs n.files (meaning_in n.names)) c.as_slice.ensures c.in_ok-named.ensures.ok in
+    let filed : AreFiled paths (decls n.files) =
+    c.law_programs_are_filed.ensures paths srcs n.files (meaning_in n.names) c.requires named in
+    let ended : IsEnded paths n t entry = subst (λ ps. IsEnded ps n t entry) c.as_slice-2.ensures c.in_ok-entry.ensures.ok in
+    record {
+      files = files;
+      bound = locals-bound c.law_locals_are_in_scope.ensures paths n.files (meaning_in n.names) t.decls
+        (length-read 0 0 srcs n.files named.read ∙ c.requires.paired) named.meanings ended.typed.erases;
+      complete = is-complete paths (listing_of n) t.types t.decls entry (is-seen paths n t entry filed ended);
     }

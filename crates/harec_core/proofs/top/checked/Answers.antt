@@ -12,6 +12,14 @@ returns-in_err-srcs-clause-cause g c =
     rw (p.1, p.2)
     (stop_cause _ _ _ _ c.requires.count_of_files _ c.args.fill _ _ _ checks same (silent _ _) c.requires.empty c.in_err-srcs.ensures.err)
 
+pub check-requires : goal.check-requires
+check-requires g c = c.requires.files.few
+
+pub carry_out-requires-clause-checked : goal.carry_out-requires-clause-checked
+carry_out-requires-clause-checked g c =
+    let read = c.in_ok-srcs.ensures.ok in
+    (read.program, read.checked, read.faultless, read.whole c.requires.files)
+
 pub carry_out-requires-clause-paired : goal.carry_out-requires-clause-paired
 carry_out-requires-clause-paired g c = length-AreTold _ _ _ c.in_ok-srcs.ensures.ok.told
 
