@@ -1,7 +1,9 @@
 pub mod RowPrograms
 mod EvaluationRows
 mod MemoryRows
+mod WellFormedRows
 pub mod Kids
+pub mod Named
 pub mod Passes
 pub mod Rights
 pub mod NumberNames

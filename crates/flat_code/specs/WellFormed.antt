@@ -13,40 +13,12 @@ use Rattle.flat_code.specs.declared.value.Value.TheVariants.{Temp, Number, Symbo
 use Rattle.flat_code.specs.Code.{Code, Codes, none, more, Seq, Set, Load, Store, Move, If, Loop, Leave, Call, Ret}
 use Rattle.flat_code.specs.Shape.{code_of}
 use Rattle.flat_code.specs.Addresses.{item_size}
+use Rattle.flat_code.specs.Evaluation.{function_named}
 use Rattle.flat_code.specs.Kinds.{op_kind, takes_two, first_class, second_class, may_give}
 use Rattle.hx_runtime.specs.Functions.{runtime_params, runtime_result, runtime_function}
 use Rattle.hx_runtime.specs.declared.runtime.RuntimeFunction.{RuntimeFunction}
 pub use Rattle.hx_runtime.specs.Functions.{is_reserved}
 use Rattle.flat_code.specs.Temps.{is_set, has_one_class}
-
--- ---- what is not built yet
-
--- a call of a function of the runtime
-abbrev pub is_runtime : Option RuntimeFunction → Bool
-is_runtime None = false
-is_runtime (Some f) = true
-
--- Code of the forms that are compiled so far: no Load, no Store, no Move and no call of a function of the program. A later stage drops this
--- definition, and with it the condition that a function has no frame.
-abbrev mutual
-  pub is_built : Code → Bool
-  is_built (Seq cs) = are_built cs
-  is_built (Set temp class op a b) = true
-  is_built (Load temp how at) = false
-  is_built (Store width value at) = false
-  is_built (Move to from bytes) = false
-  is_built (If cond a b) = is_built a && is_built b
-  is_built (Loop c) = is_built c
-  is_built (Leave k) = true
-  is_built (Call temp name args) = is_runtime (runtime_function name)
-  is_built (Ret value) = true
-
-  pub are_built : Codes → Bool
-  are_built none = true
-  are_built (more c cs) = is_built c && are_built cs
-
-abbrev pub has_no_frame : FlatFn → Bool
-has_no_frame f = f.frame == 0
 
 -- ---- nesting
 
@@ -103,14 +75,15 @@ abbrev pub is_long : Class → Bool
 is_long W = false
 is_long L = true
 
--- An operand is right at the class at which it is wanted, in a program with so many globals. A temporary is set in the function, and where
--- a long is wanted not as a word; an address is a long, of a global that is there or of a place of the frame.
-abbrev pub is_operand : ℕ → FlatFn → Class → Value → Bool
-is_operand globals f class (Number n) = is_bits n
-is_operand globals f W (Temp t) = is_set f t W || is_set f t L
-is_operand globals f L (Temp t) = is_set f t L && not (is_set f t W)
-is_operand globals f class (Symbol i offset) = is_long class && (nat_lt i globals && is_bits offset)
-is_operand globals f class (Frame offset) = is_long class && nat_lt offset f.frame
+-- An operand is right at the class at which it is wanted, in a function of a program. A temporary is set in the function, and where a long
+-- is wanted not as a word: so a word may be given a long, of which the low half is read, and never the other way. An address is a long, of
+-- a global that is there or of a place of the frame.
+abbrev pub is_operand : FlatProgram → FlatFn → Class → Value → Bool
+is_operand p f class (Number n) = is_bits n
+is_operand p f W (Temp t) = is_set p f t W || is_set p f t L
+is_operand p f L (Temp t) = is_set p f t L && not (is_set p f t W)
+is_operand p f class (Symbol i offset) = is_long class && (nat_lt i (length p.globals) && is_bits offset)
+is_operand p f class (Frame offset) = is_long class && nat_lt offset f.frame
 
 -- what stands where an operation has no second operand: the number 0
 abbrev pub is_zero : Value → Bool
@@ -120,40 +93,46 @@ is_zero (Symbol i offset) = false
 is_zero (Frame offset) = false
 
 -- the second operand of an operation that takes two, or one
-abbrev pub is_second : ℕ → FlatFn → Class → Bool → Value → Bool
-is_second globals f class true b = is_operand globals f class b
-is_second globals f class false b = is_zero b
+abbrev pub is_second : FlatProgram → FlatFn → Class → Bool → Value → Bool
+is_second p f class true b = is_operand p f class b
+is_second p f class false b = is_zero b
 
 -- operands of these classes, in their order
-abbrev pub are_args : ℕ → FlatFn → List Class → List Value → Bool
-are_args globals f [] [] = true
-are_args globals f [] (v ∷ vs) = false
-are_args globals f (c ∷ cs) [] = false
-are_args globals f (c ∷ cs) (v ∷ vs) = is_operand globals f c v && are_args globals f cs vs
+abbrev pub are_args : FlatProgram → FlatFn → List Class → List Value → Bool
+are_args p f [] [] = true
+are_args p f [] (v ∷ vs) = false
+are_args p f (c ∷ cs) [] = false
+are_args p f (c ∷ cs) (v ∷ vs) = is_operand p f c v && are_args p f cs vs
 
 -- ---- statements
 
 -- a temporary of the function, which is set at no other class
-abbrev pub is_target : FlatFn → ℕ → Class → Bool
-is_target f t class = nat_lt t f.temps && has_one_class f t class
+abbrev pub is_target : FlatProgram → FlatFn → ℕ → Class → Bool
+is_target p f t class = nat_lt t f.temps && has_one_class p f t class
 
 -- what a call's result goes to, if it is kept: there is a result then
-abbrev pub takes_result : FlatFn → Option ℕ → Option Class → Bool
-takes_result f None given = true
-takes_result f (Some t) None = false
-takes_result f (Some t) (Some class) = is_target f t class
+abbrev pub takes_result : FlatProgram → FlatFn → Option ℕ → Option Class → Bool
+takes_result p f None given = true
+takes_result p f (Some t) None = false
+takes_result p f (Some t) (Some class) = is_target p f t class
 
--- a call, by the function of the runtime that it is of
-abbrev pub is_call : ℕ → FlatFn → Option ℕ → List Value → Option RuntimeFunction → Bool
-is_call globals f temp args None = false
-is_call globals f temp args (Some g) = are_args globals f (runtime_params g) args && takes_result f temp (runtime_result g)
+-- a call of a function of the runtime, if there is one
+abbrev pub is_runtime_call : FlatProgram → FlatFn → Option ℕ → List Value → Option RuntimeFunction → Bool
+is_runtime_call p f temp args None = false
+is_runtime_call p f temp args (Some g) = are_args p f (runtime_params g) args && takes_result p f temp (runtime_result g)
+
+-- a call of a function of the program, if there is one, with as many arguments as it has parameters, each at its class; else it is of the
+-- runtime
+abbrev pub is_call : FlatProgram → FlatFn → Option ℕ → List ℕ → List Value → Option FlatFn → Bool
+is_call p f temp name args None = is_runtime_call p f temp args (runtime_function name)
+is_call p f temp name args (Some g) = are_args p f g.params args && takes_result p f temp g.result
 
 -- a value is returned exactly by a function with a result, at its class
-abbrev pub is_return : ℕ → FlatFn → Option Class → Option Value → Bool
-is_return globals f None None = true
-is_return globals f None (Some v) = false
-is_return globals f (Some class) None = false
-is_return globals f (Some class) (Some v) = is_operand globals f class v
+abbrev pub is_return : FlatProgram → FlatFn → Option Class → Option Value → Bool
+is_return p f None None = true
+is_return p f None (Some v) = false
+is_return p f (Some class) None = false
+is_return p f (Some class) (Some v) = is_operand p f class v
 
 -- the class at which a number is stored, by its width in bytes
 abbrev pub stored_class : ℕ → Class
@@ -161,25 +140,25 @@ stored_class width = if width == 8 then L else W
 
 -- a statement with `around` Seqs and Loops round it, of which there are no more than may stand within one another
 abbrev mutual
-  pub is_right : ℕ → FlatFn → ℕ → Code → Bool
-  is_right globals f around (Seq cs) = nat_lt around deepest && are_right globals f (suc around) cs
-  is_right globals f around (Set temp class op a b) =
-      is_target f temp class && (may_give (op_kind op) class &&
-      (is_operand globals f (first_class (op_kind op) class) a && is_second globals f (second_class (op_kind op) class)
+  pub is_right : FlatProgram → FlatFn → ℕ → Code → Bool
+  is_right p f around (Seq cs) = nat_lt around deepest && are_right p f (suc around) cs
+  is_right p f around (Set temp class op a b) =
+      is_target p f temp class && (may_give (op_kind op) class &&
+      (is_operand p f (first_class (op_kind op) class) a && is_second p f (second_class (op_kind op) class)
       (takes_two (op_kind op)) b))
-  is_right globals f around (Load temp how at) = is_target f temp L && is_operand globals f L at
-  is_right globals f around (Store width value at) =
-      is_width width && (is_operand globals f (stored_class width) value && is_operand globals f L at)
-  is_right globals f around (Move to from bytes) = nat_le bytes most && (is_operand globals f L to && is_operand globals f L from)
-  is_right globals f around (If cond a b) = is_operand globals f W cond && (is_right globals f around a && is_right globals f around b)
-  is_right globals f around (Loop c) = nat_lt around deepest && is_right globals f (suc around) c
-  is_right globals f around (Leave k) = nat_lt k around
-  is_right globals f around (Call temp name args) = is_call globals f temp args (runtime_function name)
-  is_right globals f around (Ret value) = is_return globals f f.result value
+  is_right p f around (Load temp how at) = is_target p f temp L && is_operand p f L at
+  is_right p f around (Store width value at) =
+      is_width width && (is_operand p f (stored_class width) value && is_operand p f L at)
+  is_right p f around (Move to from bytes) = nat_le bytes most && (is_operand p f L to && is_operand p f L from)
+  is_right p f around (If cond a b) = is_operand p f W cond && (is_right p f around a && is_right p f around b)
+  is_right p f around (Loop c) = nat_lt around deepest && is_right p f (suc around) c
+  is_right p f around (Leave k) = nat_lt k around
+  is_right p f around (Call temp name args) = is_call p f temp name args (function_named p.functions name)
+  is_right p f around (Ret value) = is_return p f f.result value
 
-  pub are_right : ℕ → FlatFn → ℕ → Codes → Bool
-  are_right globals f around none = true
-  are_right globals f around (more c cs) = is_right globals f around c && are_right globals f around cs
+  pub are_right : FlatProgram → FlatFn → ℕ → Codes → Bool
+  are_right p f around none = true
+  are_right p f around (more c cs) = is_right p f around c && are_right p f around cs
 
 -- ---- names
 
@@ -218,16 +197,15 @@ abbrev pub is_main_right : FlatFn → Bool
 is_main_right f = not (is_main f) || (length f.params == 0 && no_long f.result)
 
 -- each parameter from number `at` on is set at no other class
-abbrev pub params_have_one_class : FlatFn → ℕ → List Class → Bool
-params_have_one_class f at [] = true
-params_have_one_class f at (c ∷ cs) = has_one_class f at c && params_have_one_class f (suc at) cs
+abbrev pub params_have_one_class : FlatProgram → FlatFn → ℕ → List Class → Bool
+params_have_one_class p f at [] = true
+params_have_one_class p f at (c ∷ cs) = has_one_class p f at c && params_have_one_class p f (suc at) cs
 
--- a function, in a program with so many globals
-abbrev pub is_function_right : ℕ → FlatFn → Bool
-is_function_right globals f =
-    is_symbol f.name && (is_main_right f && (nat_le (length f.params) f.temps && (has_no_frame f
-    && (nests_within (code_of f.body) deepest &&
-    (is_built (code_of f.body) && (params_have_one_class f 0 f.params && is_right globals f 0 (code_of f.body)))))))
+-- a function, in a program
+abbrev pub is_function_right : FlatProgram → FlatFn → Bool
+is_function_right p f =
+    is_symbol f.name && (is_main_right f && (nat_le (length f.params) f.temps && (nests_within (code_of f.body) deepest &&
+    (params_have_one_class p f 0 f.params && is_right p f 0 (code_of f.body)))))
 
 -- ---- globals
 
@@ -256,7 +234,7 @@ pub record IsWellFormed (p : FlatProgram) : Type 0 where
   pub globals_differ : IsTrue (list_all (λ (d : Data). how_many p d.name == 1) p.globals)
   -- there is a function `main`
   pub main : IsTrue (list_any is_main p.functions)
-  pub functions : IsTrue (list_all (is_function_right (length p.globals)) p.functions)
+  pub functions : IsTrue (list_all (is_function_right p) p.functions)
   pub globals : IsTrue (list_all (is_global p) p.globals)
   -- there are no more functions, globals and bytes of globals than the intermediate language admits
   pub few_functions : IsTrue (nat_le (length p.functions) most_functions)
@@ -271,5 +249,5 @@ are_few p = nat_le (length p.functions) most_functions && (nat_le (length p.glob
 unfoldable pub passes : FlatProgram → Bool
 passes p =
     list_all (λ (f : FlatFn). how_many p f.name == 1) p.functions && (list_all (λ (d : Data). how_many p d.name == 1) p.globals
-    && (list_any is_main p.functions && (list_all (is_function_right (length p.globals)) p.functions &&
+    && (list_any is_main p.functions && (list_all (is_function_right p) p.functions &&
     (list_all (is_global p) p.globals && are_few p))))

@@ -1,6 +1,6 @@
 //! Whether a program is well formed.
 
-ghost use Rattle.std.specs.Prelude.{◌≡◌, ◌↔◌, ◌&&◌, ◌==◌, IsTrue, length};
+ghost use Rattle.std.specs.Prelude.{◌≡◌, ◌↔◌, ◌&&◌, ◌==◌, IsTrue};
 ghost use Rattle.std.specs.List.{list_all, list_any};
 ghost use Rattle.flat_code.specs.WellFormed.{IsWellFormed, passes, how_many, is_main, is_function_right, is_global};
 
@@ -22,11 +22,15 @@ use names::is_once;
 ///
 /// Each function and each global has an identifier of its own that does not begin with `rt.`, and there is a function `main` that has no
 /// parameters and gives no long. Temporaries are below `temps`, are set at one class each, and are set somewhere where they are read;
-/// operands have the classes that their operations want; addresses are of globals that are there. A Leave leaves a Seq or Loop round it, a
-/// Ret has a value exactly in a function with a result, and a call has the arguments and the result of its function. At most 4,096
-/// statements stand within one another. Globals have alignments and sizes that the intermediate language admits.
+/// operands have the classes that their operations want; addresses are of globals that are there, or of places of the function's frame. A
+/// Load sets a long, a Store has a width of 1, 2, 4 or 8 bytes, and a Move at most 2^30 bytes. A Leave leaves a Seq or Loop round it, and a
+/// Ret has a value exactly in a function with a result. A call is of a function of the program, or else of the runtime. It has as many
+/// arguments as that has parameters, each at its parameter's class, where a word may be given a long and never the other way; and its result
+/// goes to a temporary only where there is one, at its class. At most 4,096 statements stand within one another. Globals have alignments and
+/// sizes that the intermediate language admits.
 ///
-/// So far no program with a Load, a Store, a Move, a frame, or a call of a function of the program is well formed.
+/// As it takes no memory, it looks through the code of a function for each temporary that is read or set there, and through the functions of
+/// the program for each call.
 #[tactic(auto, using(crate::proofs::Passes::passes_is))]
 pub fn well_formed(p: &FlatProgram) -> bool
     ensures { IsTrue result ↔ IsWellFormed p.now }
@@ -71,13 +75,12 @@ fn has_main(p: &FlatProgram) -> bool
 }
 
 fn are_functions_right(p: &FlatProgram) -> bool
-    ensures { result ≡ list_all (is_function_right (length p.now.globals)) p.now.functions }
+    ensures { result ≡ list_all (is_function_right p.now) p.now.functions }
 {
-    let globals = p.globals.len();
     p.functions
         .as_slice()
         .iter()
-        .all(|f| is_function_right(globals, f))
+        .all(|f| is_function_right(p, f))
 }
 
 fn are_globals(p: &FlatProgram) -> bool

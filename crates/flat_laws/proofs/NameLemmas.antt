@@ -38,8 +38,8 @@ found_reserved (x ∷ xs) name g h e = pick (bytes_eq x.0 name) refl (found_rese
     pick false i on = on (rw i at e)
 
 -- a function that is right has no reserved name
-not_reserved : (globals : ℕ) (f : FlatFn) → is_function_right globals f ≡ true → is_reserved f.name ≡ false
-not_reserved globals f h =
+not_reserved : (p : FlatProgram) (f : FlatFn) → is_function_right p f ≡ true → is_reserved f.name ≡ false
+not_reserved p f h =
     pick (is_reserved f.name) refl (and_parts (is_identifier f.name) (not (is_reserved f.name)) (and_parts (is_symbol f.name) _ h).0).1
   where
     pick : (b : Bool) → is_reserved f.name ≡ b → not (is_reserved f.name) ≡ true → is_reserved f.name ≡ false
@@ -47,12 +47,12 @@ not_reserved globals f h =
     pick false e n = e
 
 -- so a reserved name is none of such functions'
-none_named : (globals : ℕ) (fs : List FlatFn) (name : List ℕ) → list_all (is_function_right globals) fs ≡ true →
+none_named : (p : FlatProgram) (fs : List FlatFn) (name : List ℕ) → list_all (is_function_right p) fs ≡ true →
     is_reserved name ≡ true → function_named fs name ≡ None
-none_named globals [] name h r = refl
-none_named globals (f ∷ fs) name h r =
-    let parts = and_parts (is_function_right globals f) (list_all (is_function_right globals) fs) h in
-    pick (bytes_eq f.name name) refl (not_reserved globals f parts.0) (none_named globals fs name parts.1 r)
+none_named p [] name h r = refl
+none_named p (f ∷ fs) name h r =
+    let parts = and_parts (is_function_right p f) (list_all (is_function_right p) fs) h in
+    pick (bytes_eq f.name name) refl (not_reserved p f parts.0) (none_named p fs name parts.1 r)
   where
     pick : (b : Bool) → bytes_eq f.name name ≡ b → is_reserved f.name ≡ false → function_named fs name ≡ None →
         function_named (f ∷ fs) name ≡ None
@@ -63,7 +63,7 @@ none_named globals (f ∷ fs) name h r =
 
 pub runtime_is_not_taken : RuntimeIsNotTaken
 runtime_is_not_taken p name g w e =
-    none_named (length p.globals) p.functions name w.functions (found_reserved runtime_names name g all_reserved e)
+    none_named p p.functions name w.functions (found_reserved runtime_names name g all_reserved e)
 
 -- ---- names of functions
 

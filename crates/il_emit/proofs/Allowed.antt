@@ -7,8 +7,8 @@ use Rattle.std.proofs.lemmas.Bool.Decides.{nat_tests}
 use Rattle.hx_base.specs.declared.Class.{Class}
 use Rattle.hx_base.specs.declared.Class.TheVariants.{W}
 use Rattle.flat_code.specs.declared.op.Op.{Op}
-use Rattle.flat_code.specs.declared.program.Data.{Data}
 use Rattle.flat_code.specs.declared.program.FlatFn.{FlatFn}
+use Rattle.flat_code.specs.declared.program.FlatProgram.{FlatProgram}
 use Rattle.flat_code.specs.declared.value.Value.{Value}
 use Rattle.flat_code.specs.declared.value.Value.TheVariants.{Temp, Number, Symbol, Frame}
 use Rattle.flat_code.specs.Code.{Code, Codes, none, more, Seq, Set, Load, Store, Move, If, Loop, Leave, Call, Ret}
@@ -17,87 +17,89 @@ use Rattle.flat_code.specs.Kinds.{op_kind, takes_two, first_class, second_class,
 use Rattle.hx_runtime.specs.Functions.{runtime_params, runtime_result, runtime_function}
 use Rattle.hx_runtime.specs.declared.runtime.RuntimeFunction.{RuntimeFunction}
 use Rattle.flat_code.specs.Temps.{call_class}
-use Rattle.flat_code.specs.WellFormed.{deepest, is_bits, is_operand, is_second, is_target, is_right, are_right, are_args, takes_result, is_call, is_return, is_long}
+use Rattle.flat_code.specs.WellFormed.{deepest, is_bits, is_operand, is_second, is_target, is_right, are_right, are_args, takes_result, is_runtime_call, is_return, is_long}
 use Rattle.il_code.specs.declared.types.Inst.TheVariants as inst
 use Rattle.il_code.specs.declared.types.Jump.TheVariants as jump
 use Rattle.il_emit.specs.Names.{temp_name, label_name}
+use Rattle.il_emit.specs.Built.{is_built, are_built}
 use Rattle.il_emit.specs.Ops.{il_op}
 use Rattle.il_emit.specs.Lines.{Line, Label, Do, End, operand, address_inst, second, call_params, result_param, args_of, exit_at, address_lines, arg_lines, return_lines, code_lines, each_lines, labels_in, labels_in_all, addresses_in, addresses_in_all, addresses_of, all_addressed}
+use Rattle.il_emit.proofs.BuiltFunctions.{IsFree, built_call}
 use Rattle.il_emit.proofs.Counts.{both_true, all_append}
 
 -- lines of each form pass, where labels are below `most_labels`, no jump goes to the first, and addresses are below `most_addresses`
-pub record LinesPass (globals : List Data) (f : FlatFn) (good : Line → Bool) (most_labels most_addresses : ℕ) : Type 0 where
+pub record LinesPass (p : FlatProgram) (f : FlatFn) (good : Line → Bool) (most_labels most_addresses : ℕ) : Type 0 where
   pub label : (n : ℕ) → n < most_labels → good (Label n) ≡ true
   pub goes : (n : ℕ) → 0 < n → n < most_labels → good (End (jump.Jmp (label_name n))) ≡ true
-  pub branch : (v : Value) (k n m : ℕ) → is_operand (length globals) f W v ≡ true → k + addressed v ≤ most_addresses → 0 < n →
+  pub branch : (v : Value) (k n m : ℕ) → is_operand p f W v ≡ true → k + addressed v ≤ most_addresses → 0 < n →
       n < most_labels → 0 < m → m < most_labels
-      → good (End (jump.Jnz (operand globals v k) (label_name n) (label_name m))) ≡ true
-  pub returns : is_return (length globals) f f.result None ≡ true → good (End (jump.Ret None)) ≡ true
-  pub returns_value : (v : Value) (k : ℕ) → is_return (length globals) f f.result (Some v) ≡ true → k + addressed v ≤ most_addresses →
-      good (End (jump.Ret (Some (operand globals v k)))) ≡ true
-  pub set : (t : ℕ) (class : Class) (o : Op) (a b : Value) (k : ℕ) → is_right (length globals) f 0 (Set t class o a b) ≡ true →
+      → good (End (jump.Jnz (operand p.globals v k) (label_name n) (label_name m))) ≡ true
+  pub returns : is_return p f f.result None ≡ true → good (End (jump.Ret None)) ≡ true
+  pub returns_value : (v : Value) (k : ℕ) → is_return p f f.result (Some v) ≡ true → k + addressed v ≤ most_addresses →
+      good (End (jump.Ret (Some (operand p.globals v k)))) ≡ true
+  pub set : (t : ℕ) (class : Class) (o : Op) (a b : Value) (k : ℕ) → is_right p f 0 (Set t class o a b) ≡ true →
       k + addressed a + addressed b ≤ most_addresses
-      → good (Do (inst.Set (temp_name t) class (il_op o) (operand globals a k)
-      (second (takes_two (op_kind o)) (operand globals b (k + addressed a))))) ≡ true
-  pub call : (temp : Option ℕ) (name : List ℕ) (args : List Value) (k : ℕ) → is_right (length globals) f 0 (Call temp name args) ≡ true →
+      → good (Do (inst.Set (temp_name t) class (il_op o) (operand p.globals a k)
+      (second (takes_two (op_kind o)) (operand p.globals b (k + addressed a))))) ≡ true
+  pub call : (temp : Option ℕ) (name : List ℕ) (args : List Value) (k : ℕ) → is_runtime_call p f temp args (runtime_function name) ≡ true →
       k + all_addressed args ≤ most_addresses
       → good (Do (inst.Call (result_param temp (call_class (runtime_function name))) name
-      (args_of globals (call_params (runtime_function name)) args k))) ≡ true
-  pub address : (i offset k : ℕ) → i < length globals → is_bits offset ≡ true → k < most_addresses →
-      good (Do (address_inst globals i offset k)) ≡ true
+      (args_of p.globals (call_params (runtime_function name)) args k))) ≡ true
+  pub address : (i offset k : ℕ) → i < length p.globals → is_bits offset ≡ true → k < most_addresses →
+      good (Do (address_inst p.globals i offset k)) ≡ true
 
-module _ (globals : List Data) (f : FlatFn) (good : Line → Bool) (most_labels most_addresses : ℕ)
-    (pass : LinesPass globals f good most_labels most_addresses) where
-  address_good : (class : Class) (v : Value) (k : ℕ) → is_operand (length globals) f class v ≡ true → k + addressed v ≤ most_addresses →
-      list_all good (address_lines globals v k) ≡ true
+module _ (p : FlatProgram) (f : FlatFn) (good : Line → Bool) (most_labels most_addresses : ℕ)
+    (pass : LinesPass p f good most_labels most_addresses) (free : IsFree p) where
+  address_good : (class : Class) (v : Value) (k : ℕ) → is_operand p f class v ≡ true → k + addressed v ≤ most_addresses →
+      list_all good (address_lines p.globals v k) ≡ true
   address_good class (Temp t) k r u = refl
   address_good class (Number n) k r u = refl
   address_good class (Frame offset) k r u = refl
   address_good class (Symbol i offset) k r u = pick (offset == 0) refl
     where
-      pick : (b : Bool) → (offset == 0) ≡ b → list_all good (address_lines globals (Symbol i offset) k) ≡ true
+      pick : (b : Bool) → (offset == 0) ≡ b → list_all good (address_lines p.globals (Symbol i offset) k) ≡ true
       pick true e = rw e refl
       pick false e =
-          let p = and_parts (is_long class) _ r in
-          let q = and_parts (nat_lt i (length globals)) (is_bits offset) p.1 in
-          let lt : i < length globals = let z = q.0 in grind (arith, nat_tests) in
+          let both = and_parts (is_long class) _ r in
+          let q = and_parts (nat_lt i (length p.globals)) (is_bits offset) both.1 in
+          let lt : i < length p.globals = let z = q.0 in grind (arith, nat_tests) in
           let room : k + 1 ≤ most_addresses = rw e at u in
           rw e (both_true _ true (pass.address i offset k lt q.1 (omega arith)) refl)
 
-  second_good : (class : Class) (two : Bool) (v : Value) (k : ℕ) → is_second (length globals) f class two v ≡ true →
-      k + addressed v ≤ most_addresses → list_all good (address_lines globals v k) ≡ true
+  second_good : (class : Class) (two : Bool) (v : Value) (k : ℕ) → is_second p f class two v ≡ true →
+      k + addressed v ≤ most_addresses → list_all good (address_lines p.globals v k) ≡ true
   second_good class true v k r u = address_good class v k r u
   second_good class false (Temp t) k r u = refl
   second_good class false (Number n) k r u = refl
   second_good class false (Frame offset) k r u = refl
   second_good class false (Symbol i offset) k r u = cc
 
-  args_good : (cs : List Class) (vs : List Value) (k : ℕ) → are_args (length globals) f cs vs ≡ true →
-      k + all_addressed vs ≤ most_addresses → list_all good (arg_lines globals vs k) ≡ true
+  args_good : (cs : List Class) (vs : List Value) (k : ℕ) → are_args p f cs vs ≡ true →
+      k + all_addressed vs ≤ most_addresses → list_all good (arg_lines p.globals vs k) ≡ true
   args_good [] [] k r u = refl
   args_good (c ∷ cs) [] k r u = refl
   args_good [] (v ∷ vs) k r u = cc
   args_good (c ∷ cs) (v ∷ vs) k r u =
-      let p = and_parts (is_operand (length globals) f c v) (are_args (length globals) f cs vs) r in
-      all_append good (address_lines globals v k) _ (address_good c v k p.0 (omega arith))
-      (args_good cs vs (k + addressed v) p.1 (omega arith))
+      let both = and_parts (is_operand p f c v) (are_args p f cs vs) r in
+      all_append good (address_lines p.globals v k) _ (address_good c v k both.0 (omega arith))
+      (args_good cs vs (k + addressed v) both.1 (omega arith))
 
-  called_good : (temp : Option ℕ) (args : List Value) (k : ℕ) (g : Option RuntimeFunction) → is_call (length globals) f temp args g ≡ true →
-      k + all_addressed args ≤ most_addresses → list_all good (arg_lines globals args k) ≡ true
+  called_good : (temp : Option ℕ) (args : List Value) (k : ℕ) (g : Option RuntimeFunction) → is_runtime_call p f temp args g ≡ true →
+      k + all_addressed args ≤ most_addresses → list_all good (arg_lines p.globals args k) ≡ true
   called_good temp args k None r u = cc
   called_good temp args k (Some g) r u = args_good (runtime_params g) args k
-      (and_parts (are_args (length globals) f (runtime_params g) args) (takes_result f temp (runtime_result g)) r).0 u
+      (and_parts (are_args p f (runtime_params g) args) (takes_result p f temp (runtime_result g)) r).0 u
 
-  returned_good : (class : Option Class) (v : Value) (k : ℕ) → is_return (length globals) f class (Some v) ≡ true →
-      k + addressed v ≤ most_addresses → list_all good (address_lines globals v k) ≡ true
+  returned_good : (class : Option Class) (v : Value) (k : ℕ) → is_return p f class (Some v) ≡ true →
+      k + addressed v ≤ most_addresses → list_all good (address_lines p.globals v k) ≡ true
   returned_good None v k r u = cc
   returned_good (Some c) v k r u = address_good c v k r u
 
-  return_good : (value : Option Value) (n k : ℕ) → is_return (length globals) f f.result value ≡ true → n < most_labels →
-      k + addresses_of value ≤ most_addresses → list_all good (return_lines globals value n k) ≡ true
+  return_good : (value : Option Value) (n k : ℕ) → is_return p f f.result value ≡ true → n < most_labels →
+      k + addresses_of value ≤ most_addresses → list_all good (return_lines p.globals value n k) ≡ true
   return_good None n k r l u = both_true _ _ (pass.returns r) (both_true _ true (pass.label n l) refl)
   return_good (Some v) n k r l u =
-      all_append good (address_lines globals v k) _ (returned_good f.result v k r u)
+      all_append good (address_lines p.globals v k) _ (returned_good f.result v k r u)
       (both_true _ _ (pass.returns_value v k r u) (both_true _ true (pass.label n l) refl))
 
   abbrev inside : ℕ → Bool
@@ -114,72 +116,75 @@ module _ (globals : List Data) (f : FlatFn) (good : Line → Bool) (most_labels 
 
   leave_good : (e n : ℕ) → inside e ≡ true → n < most_labels → list_all good (End (jump.Jmp (label_name e)) ∷ Label n ∷ []) ≡ true
   leave_good e n h l =
-      let p = and_parts (nat_lt 0 e) (nat_lt e most_labels) h in
-      let a : 0 < e = let z = p.0 in grind (arith, nat_tests) in
-      let b : e < most_labels = let z = p.1 in grind (arith, nat_tests) in
+      let both = and_parts (nat_lt 0 e) (nat_lt e most_labels) h in
+      let a : 0 < e = let z = both.0 in grind (arith, nat_tests) in
+      let b : e < most_labels = let z = both.1 in grind (arith, nat_tests) in
       both_true _ _ (pass.goes e a b) (both_true _ true (pass.label n l) refl)
 
   more_exits : (es : List ℕ) (e : ℕ) → list_all inside es ≡ true → 0 < e → e < most_labels → list_all inside (es ++ e ∷ []) ≡ true
   more_exits es e h l u = all_append inside es (e ∷ []) h (both_true (inside e) true (inside_is e l u) refl)
 
   mutual
-    pub code_good : (c : Code) (around n k : ℕ) (es : List ℕ) → is_right (length globals) f around c ≡ true → length es ≡ around →
+    pub code_good : (c : Code) (around n k : ℕ) (es : List ℕ) → is_built c ≡ true → is_right p f around c ≡ true → length es ≡ around →
         list_all inside es ≡ true → 0 < n → n + labels_in c ≤ most_labels → k + addresses_in c ≤ most_addresses
-        → list_all good (code_lines globals c n k es) ≡ true
-    code_good (Seq cs) around n k es r d h z l u =
-        let p = and_parts (nat_lt around deepest) (are_right (length globals) f (suc around) cs) r in
-        all_append good (each_lines globals cs (suc n) k (es ++ n ∷ [])) (Label n ∷ [])
-        (each_good cs (suc around) (suc n) k (es ++ n ∷ []) p.1 (omega (arith, length-append es (n ∷ [])))
+        → list_all good (code_lines p.globals c n k es) ≡ true
+    code_good (Seq cs) around n k es v r d h z l u =
+        let both = and_parts (nat_lt around deepest) (are_right p f (suc around) cs) r in
+        all_append good (each_lines p.globals cs (suc n) k (es ++ n ∷ [])) (Label n ∷ [])
+        (each_good cs (suc around) (suc n) k (es ++ n ∷ []) v both.1 (omega (arith, length-append es (n ∷ [])))
         (more_exits es n h z (omega arith)) (omega arith) (omega arith) (omega arith))
         (both_true _ true (pass.label n (omega arith)) refl)
-    code_good (Set t class o a b) around n k es r d h z l u =
-        let p = and_parts (is_target f t class) _ r in
-        let q = and_parts (may_give (op_kind o) class) _ p.1 in
-        let s = and_parts (is_operand (length globals) f (first_class (op_kind o) class) a)
-        (is_second (length globals) f (second_class (op_kind o) class) (takes_two (op_kind o)) b) q.1 in
-        all_append good (address_lines globals a k) _ (address_good (first_class (op_kind o) class) a k s.0 (omega arith))
-        (all_append good (address_lines globals b (k + addressed a)) _
+    code_good (Set t class o a b) around n k es v r d h z l u =
+        let both = and_parts (is_target p f t class) _ r in
+        let q = and_parts (may_give (op_kind o) class) _ both.1 in
+        let s = and_parts (is_operand p f (first_class (op_kind o) class) a)
+        (is_second p f (second_class (op_kind o) class) (takes_two (op_kind o)) b) q.1 in
+        all_append good (address_lines p.globals a k) _ (address_good (first_class (op_kind o) class) a k s.0 (omega arith))
+        (all_append good (address_lines p.globals b (k + addressed a)) _
         (second_good (second_class (op_kind o) class) (takes_two (op_kind o)) b (k + addressed a) s.1 (omega arith))
         (both_true _ true (pass.set t class o a b k r (omega arith)) refl))
-    code_good (Load t how at) around n k es r d h z l u = refl
-    code_good (Store width value at) around n k es r d h z l u = refl
-    code_good (Move to from bytes) around n k es r d h z l u = refl
-    code_good (If cond a b) around n k es r d h z l u =
-        let p = and_parts (is_operand (length globals) f W cond)
-        (is_right (length globals) f around a && is_right (length globals) f around b) r in
-        let s = and_parts (is_right (length globals) f around a) (is_right (length globals) f around b) p.1 in
-        all_append good (address_lines globals cond k) _ (address_good W cond k p.0 (omega arith))
-        (both_true _ _ (pass.branch cond k n (n + 1) p.0 (omega arith) z (omega arith) (omega arith) (omega arith))
+    code_good (Load t how at) around n k es v r d h z l u = refl
+    code_good (Store width value at) around n k es v r d h z l u = refl
+    code_good (Move to from bytes) around n k es v r d h z l u = refl
+    code_good (If cond a b) around n k es v r d h z l u =
+        let both = and_parts (is_operand p f W cond)
+        (is_right p f around a && is_right p f around b) r in
+        let s = and_parts (is_right p f around a) (is_right p f around b) both.1 in
+        let w = and_parts (is_built a) (is_built b) v in
+        all_append good (address_lines p.globals cond k) _ (address_good W cond k both.0 (omega arith))
+        (both_true _ _ (pass.branch cond k n (n + 1) both.0 (omega arith) z (omega arith) (omega arith) (omega arith))
         (both_true _ _ (pass.label n (omega arith))
-        (all_append good (code_lines globals a (n + 3) (k + addressed cond) es) _
-        (code_good a around (n + 3) (k + addressed cond) es s.0 d h (omega arith) (omega arith) (omega arith))
+        (all_append good (code_lines p.globals a (n + 3) (k + addressed cond) es) _
+        (code_good a around (n + 3) (k + addressed cond) es w.0 s.0 d h (omega arith) (omega arith) (omega arith))
         (both_true _ _ (pass.goes (n + 2) (omega arith) (omega arith))
         (both_true _ _ (pass.label (n + 1) (omega arith))
-        (all_append good (code_lines globals b (n + 3 + labels_in a) (k + addressed cond + addresses_in a) es) _
-        (code_good b around (n + 3 + labels_in a) (k + addressed cond + addresses_in a) es s.1 d h (omega arith) (omega arith)
+        (all_append good (code_lines p.globals b (n + 3 + labels_in a) (k + addressed cond + addresses_in a) es) _
+        (code_good b around (n + 3 + labels_in a) (k + addressed cond + addresses_in a) es w.1 s.1 d h (omega arith) (omega arith)
         (omega arith))
         (both_true _ true (pass.label (n + 2) (omega arith)) refl)))))))
-    code_good (Loop c) around n k es r d h z l u =
-        let p = and_parts (nat_lt around deepest) (is_right (length globals) f (suc around) c) r in
+    code_good (Loop c) around n k es v r d h z l u =
+        let both = and_parts (nat_lt around deepest) (is_right p f (suc around) c) r in
         both_true _ _ (pass.goes n z (omega arith))
         (both_true _ _ (pass.label n (omega arith))
-        (all_append good (code_lines globals c (n + 2) k (es ++ (n + 1) ∷ [])) _
-        (code_good c (suc around) (n + 2) k (es ++ (n + 1) ∷ []) p.1 (omega (arith, length-append es ((n + 1) ∷ [])))
+        (all_append good (code_lines p.globals c (n + 2) k (es ++ (n + 1) ∷ [])) _
+        (code_good c (suc around) (n + 2) k (es ++ (n + 1) ∷ []) v both.1 (omega (arith, length-append es ((n + 1) ∷ [])))
         (more_exits es (n + 1) h (omega arith) (omega arith)) (omega arith) (omega arith) (omega arith))
         (both_true _ _ (pass.goes n z (omega arith)) (both_true _ true (pass.label (n + 1) (omega arith)) refl))))
-    code_good (Leave j) around n k es r d h z l u =
+    code_good (Leave j) around n k es v r d h z l u =
         let lt : j < around = grind (arith, nat_tests) in
         leave_good (exit_at es j) n (exit_inside es (length es - suc j) (omega arith) h) (omega arith)
-    code_good (Call temp name args) around n k es r d h z l u =
-        all_append good (arg_lines globals args k) _ (called_good temp args k (runtime_function name) r u)
-        (both_true _ true (pass.call temp name args k r u) refl)
-    code_good (Ret value) around n k es r d h z l u = return_good value n k r (omega arith) u
+    code_good (Call temp name args) around n k es v r d h z l u =
+        let own = built_call p free name f temp args v r in
+        all_append good (arg_lines p.globals args k) _ (called_good temp args k (runtime_function name) own u)
+        (both_true _ true (pass.call temp name args k own u) refl)
+    code_good (Ret value) around n k es v r d h z l u = return_good value n k r (omega arith) u
 
-    each_good : (cs : Codes) (around n k : ℕ) (es : List ℕ) → are_right (length globals) f around cs ≡ true → length es ≡ around →
+    each_good : (cs : Codes) (around n k : ℕ) (es : List ℕ) → are_built cs ≡ true → are_right p f around cs ≡ true → length es ≡ around →
         list_all inside es ≡ true → 0 < n → n + labels_in_all cs ≤ most_labels → k + addresses_in_all cs ≤ most_addresses
-        → list_all good (each_lines globals cs n k es) ≡ true
-    each_good none around n k es r d h z l u = refl
-    each_good (more c cs) around n k es r d h z l u =
-        let p = and_parts (is_right (length globals) f around c) (are_right (length globals) f around cs) r in
-        all_append good (code_lines globals c n k es) _ (code_good c around n k es p.0 d h z (omega arith) (omega arith))
-        (each_good cs around (n + labels_in c) (k + addresses_in c) es p.1 d h (omega arith) (omega arith) (omega arith))
+        → list_all good (each_lines p.globals cs n k es) ≡ true
+    each_good none around n k es v r d h z l u = refl
+    each_good (more c cs) around n k es v r d h z l u =
+        let both = and_parts (is_right p f around c) (are_right p f around cs) r in
+        let w = and_parts (is_built c) (are_built cs) v in
+        all_append good (code_lines p.globals c n k es) _ (code_good c around n k es w.0 both.0 d h z (omega arith) (omega arith))
+        (each_good cs around (n + labels_in c) (k + addresses_in c) es w.1 both.1 d h (omega arith) (omega arith) (omega arith))

@@ -7,8 +7,6 @@ use Rattle.std.proofs.lemmas.Bool.Decides.{nat_tests}
 use Rattle.hx_base.specs.declared.Class.{Class}
 use Rattle.hx_base.specs.Memory.{Memory}
 use Rattle.hx_base.specs.Runtime.{World, heap_start, stack_start}
-use Rattle.hx_runtime.specs.Functions.{runtime_names, runtime_function}
-use Rattle.hx_runtime.specs.declared.runtime.RuntimeFunction.{RuntimeFunction}
 use Rattle.flat_code.specs.declared.program.FlatFn.{FlatFn}
 use Rattle.flat_code.specs.declared.program.FlatProgram.{FlatProgram}
 use Rattle.flat_code.specs.Costs as flat_cost
@@ -32,10 +30,12 @@ use Rattle.il_code.specs.State as il
 use Rattle.il_code.specs.Step.{bound}
 use Rattle.il_code.proofs.Budgets.{run_to-after_steps}
 use Rattle.il_emit.specs.Names.{label_name}
+use Rattle.il_emit.specs.Built.{IsBuilt}
 use Rattle.il_emit.specs.Lines.{Line, Label, End, code_lines, end_value, function_lines}
 use Rattle.il_emit.specs.Emitted.{params_of, blocks_of, module_of}
 use Rattle.il_emit.specs.Numbered.{HasFewNames}
 use Rattle.il_emit.specs.Reaches.{SameWorld, end_for, Arrives, Overflows, Reaches}
+use Rattle.il_emit.proofs.BuiltFunctions.{all_emitted}
 use Rattle.il_emit.proofs.CallCosts.{costs_no_more}
 use Rattle.il_emit.proofs.GlobalAddresses.{address_is, address_small, start_same}
 use Rattle.il_emit.proofs.Numbering.{code_below, params_below}
@@ -43,34 +43,31 @@ use Rattle.il_emit.proofs.Operands.{Setting}
 use Rattle.il_emit.proofs.Places.{function_blocks, inside_all, inside_next}
 use Rattle.il_emit.proofs.Running.{Activation, Returns, Mark, steps_more, before, Same, Holds, Comes, Stops, Meets}
 use Rattle.il_emit.proofs.Turns.{Exits, meets}
-use Rattle.il_emit.proofs.NamedFunctions.{emitted, items_named, Found, found, reserved, none_named, main_there, Parts, parts}
+use Rattle.il_emit.proofs.NamedFunctions.{emitted, items_named, Found, found, free, main_there, Parts, parts}
 
-module _ (p : FlatProgram) (w : IsWellFormed p) (few : AllByRecursion HasFewNames p.functions) where
-  setting : (f : FlatFn) → Parts (length p.globals) f → HasFewNames f → Setting p f (module_of p)
+module _ (p : FlatProgram) (w : IsWellFormed p) (built : IsBuilt p) (few : AllByRecursion HasFewNames p.functions) where
+  setting : (f : FlatFn) → Parts p f → HasFewNames f → Setting p f (module_of p)
   setting f q names = record {
     no_frame = q.no_frame;
     few_temps = names.temps;
     set_below = set_below;
     address = address_is p w;
     address_fits = address_small p w;
-    no_function = no_function;
-    no_code = λ name g e. items_named p w name ∙ ap (emitted p.globals) (no_function name g e);
+    no_function = free p w;
+    no_code = λ name g e. items_named p w name ∙ ap (emitted p.globals) (free p w name g e);
   }
     where
-      set_below : (t : ℕ) (class : Class) → is_set f t class ≡ true → t < f.temps
+      set_below : (t : ℕ) (class : Class) → is_set p f t class ≡ true → t < f.temps
       set_below t class e =
           let z = q.few_params in
-          elim (or_cases (params_set t class 0 f.params) (code_sets t class (code_of f.body)) e) [
-            | inl h ↦ let k = params_below (length p.globals) f t class 0 f.params h in omega (arith, k)
-            | inr h ↦ code_below (length p.globals) f t class (code_of f.body) 0 q.built q.code h
+          elim (or_cases (params_set t class 0 f.params) (code_sets p t class (code_of f.body)) e) [
+            | inl h ↦ let k = params_below p (free p w) f t class 0 f.params h in omega (arith, k)
+            | inr h ↦ code_below p (free p w) f t class (code_of f.body) 0 q.built q.code h
           ]
-
-      no_function : (name : List ℕ) (g : RuntimeFunction) → runtime_function name ≡ Some g → flat.function_named p.functions name ≡ None
-      no_function name g e = none_named (length p.globals) p.functions name w.functions (reserved name runtime_names g refl e)
 
   -- ---- the whole run
 
-  module _ (f : FlatFn) (found_f : Found (length p.globals) (codes "main") f)
+  module _ (f : FlatFn) (found_f : Found p (codes "main") f)
       (named : flat.function_named p.functions (codes "main") ≡ Some f) (args : List (List ℕ)) (input : List ℕ) (fill n : ℕ) where
     abbrev world : World
     world = start_world (module_of p) args input fill
@@ -103,8 +100,8 @@ module _ (p : FlatProgram) (w : IsWellFormed p) (few : AllByRecursion HasFewName
     abbrev begun_with : Option machine.End → Run
     begun_with e = record { used = 0; ended = e; state = begins.state }
 
-    facts : Parts (length p.globals) f
-    facts = parts (length p.globals) f found_f.right
+    facts : Parts p f
+    facts = parts p f found_f.right
 
     nothing_bound : (ps : List IlParam) → bound ps [] ≡ []
     nothing_bound [] = refl
@@ -288,7 +285,7 @@ module _ (p : FlatProgram) (w : IsWellFormed p) (few : AllByRecursion HasFewName
     overflows : (r : Result) → start (module_of p) args input fill ≡ begun_with (Some StackFull) → stack_size < cost → floor ≤ r.1.most →
         Overflows (module_of p) args input fill n r
     overflows r e large most =
-        let few_names = costs_no_more p.globals f facts.code facts.few_params in
+        let few_names = costs_no_more p (free p w) f facts.built facts.code facts.few_params in
         record { budget = 0; ended = ap (λ (z : Run). (run_to (module_of p) 0 z).ended) e; cost = omega (arith, large, few_names, most) }
 
     comes : Arrives (module_of p) args input fill n (flat_run.ended flat_body) ⊎ Overflows (module_of p) args input fill n
@@ -317,4 +314,4 @@ module _ (p : FlatProgram) (w : IsWellFormed p) (few : AllByRecursion HasFewName
           Arrives (module_of p) args input fill n (run p args input fill n) ⊎ Overflows (module_of p) args input fill n
           (run p args input fill n)
       pick None e = absurd (main_there p.functions w.main e)
-      pick (Some f) e = main_reaches f (found (length p.globals) (codes "main") p.functions f w.functions few e) e args input fill n
+      pick (Some f) e = main_reaches f (found p (codes "main") p.functions f (all_emitted p w built) few e) e args input fill n

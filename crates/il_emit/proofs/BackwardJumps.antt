@@ -4,8 +4,8 @@ use Rattle.std.specs.Prelude.{bytes_eq, slice_index_or, nat_lt, ◌==◌, if◌t
 use Rattle.std.specs.List.{list_all}
 use Rattle.std.proofs.lemmas.Bool.{and_parts}
 use Rattle.std.proofs.lemmas.Bool.Decides.{nat_tests}
-use Rattle.flat_code.specs.declared.program.Data.{Data}
 use Rattle.flat_code.specs.declared.program.FlatFn.{FlatFn}
+use Rattle.flat_code.specs.declared.program.FlatProgram.{FlatProgram}
 use Rattle.flat_code.specs.declared.value.Value.{Value}
 use Rattle.flat_code.specs.declared.value.Value.TheVariants.{Temp, Number, Symbol, Frame}
 use Rattle.flat_code.specs.Code.{Code, Codes, none, more, Seq, Set, Load, Store, Move, If, Loop, Leave, Call, Ret}
@@ -75,71 +75,71 @@ back_least behind j = pick (targets_pass (has_label behind) j)
 back_none : (behind : List Block) (j : Jump) → targets_pass (has_label behind) j ≡ true → back behind j ≡ 0
 back_none behind j h = rw h refl
 
-module _ (globals : List Data) (f : FlatFn) where
-  address_back : (v : Value) (k : ℕ) (ls : List Line) → back_of (address_lines globals v k ++ ls) ≡ back_of ls
+module _ (p : FlatProgram) (f : FlatFn) where
+  address_back : (v : Value) (k : ℕ) (ls : List Line) → back_of (address_lines p.globals v k ++ ls) ≡ back_of ls
   address_back (Temp t) k ls = refl
   address_back (Number n) k ls = refl
   address_back (Frame offset) k ls = refl
   address_back (Symbol i offset) k ls = pick (offset == 0) refl
     where
-      pick : (b : Bool) → (offset == 0) ≡ b → back_of (address_lines globals (Symbol i offset) k ++ ls) ≡ back_of ls
+      pick : (b : Bool) → (offset == 0) ≡ b → back_of (address_lines p.globals (Symbol i offset) k ++ ls) ≡ back_of ls
       pick true e = rw e refl
       pick false e = rw e refl
 
-  args_back : (vs : List Value) (k : ℕ) (ls : List Line) → back_of (arg_lines globals vs k ++ ls) ≡ back_of ls
+  args_back : (vs : List Value) (k : ℕ) (ls : List Line) → back_of (arg_lines p.globals vs k ++ ls) ≡ back_of ls
   args_back [] k ls = refl
   args_back (v ∷ vs) k ls =
-      ap back_of (append_assoc (address_lines globals v k) (arg_lines globals vs (k + addressed v)) ls)
-      ∙ address_back v k (arg_lines globals vs (k + addressed v) ++ ls) ∙ args_back vs (k + addressed v) ls
+      ap back_of (append_assoc (address_lines p.globals v k) (arg_lines p.globals vs (k + addressed v)) ls)
+      ∙ address_back v k (arg_lines p.globals vs (k + addressed v) ++ ls) ∙ args_back vs (k + addressed v) ls
 
-  return_back : (value : Option Value) (n k : ℕ) (ls : List Line) → back_of (return_lines globals value n k ++ ls) ≡ back_of ls
+  return_back : (value : Option Value) (n k : ℕ) (ls : List Line) → back_of (return_lines p.globals value n k ++ ls) ≡ back_of ls
   return_back None n k ls = omega arith
-  return_back (Some v) n k ls = ap back_of (append_assoc (address_lines globals v k) _ ls) ∙ address_back v k _ ∙ omega arith
+  return_back (Some v) n k ls = ap back_of (append_assoc (address_lines p.globals v k) _ ls) ∙ address_back v k _ ∙ omega arith
 
   mutual
     -- where the exits of code stand behind it, only its Loops jump back
-    code_back : (c : Code) (around n k : ℕ) (es : List ℕ) (rest : List Line) → is_right (length globals) f around c ≡ true →
+    code_back : (c : Code) (around n k : ℕ) (es : List ℕ) (rest : List Line) → is_right p f around c ≡ true →
         length es ≡ around → list_all (stands rest) es ≡ true
-        → back_of (code_lines globals c n k es ++ rest) ≤ loops_in c + back_of rest
+        → back_of (code_lines p.globals c n k es ++ rest) ≤ loops_in c + back_of rest
     code_back (Seq cs) around n k es rest r d h =
-        let q = and_parts (nat_lt around deepest) (are_right (length globals) f (suc around) cs) r in
+        let q = and_parts (nat_lt around deepest) (are_right p f (suc around) cs) r in
         let behind = all_append (stands (Label n ∷ rest)) es (n ∷ []) (all_behind es (Label n ∷ []) rest h)
         (both_true (stands (Label n ∷ rest) n) true (stands_here n rest) refl) in
         omega (
           arith,
-          ap back_of (append_assoc (each_lines globals cs (suc n) k (es ++ n ∷ [])) (Label n ∷ []) rest),
+          ap back_of (append_assoc (each_lines p.globals cs (suc n) k (es ++ n ∷ [])) (Label n ∷ []) rest),
           each_back cs
               (suc around) (suc n) k (es ++ n ∷ []) (Label n ∷ rest) q.1 (omega (arith, length-append es (n ∷ []))) behind,
         )
     code_back (Set t class o a b) around n k es rest r d h =
-        let same : back_of (code_lines globals (Set t class o a b) n k es ++ rest) ≡ back_of rest =
-        ap back_of (append_assoc (address_lines globals a k) _ rest) ∙ address_back a k _
-        ∙ ap back_of (append_assoc (address_lines globals b (k + addressed a)) _ rest) ∙ address_back b (k + addressed a) _ in
+        let same : back_of (code_lines p.globals (Set t class o a b) n k es ++ rest) ≡ back_of rest =
+        ap back_of (append_assoc (address_lines p.globals a k) _ rest) ∙ address_back a k _
+        ∙ ap back_of (append_assoc (address_lines p.globals b (k + addressed a)) _ rest) ∙ address_back b (k + addressed a) _ in
         omega (arith, same)
     code_back (Load t how at) around n k es rest r d h = omega arith
     code_back (Store width value at) around n k es rest r d h = omega arith
     code_back (Move to from bytes) around n k es rest r d h = omega arith
     code_back (If v a b) around n k es rest r d h =
-        let q = and_parts (is_operand (length globals) f W v) (is_right (length globals) f around a && is_right (length globals) f around b)
+        let q = and_parts (is_operand p f W v) (is_right p f around a && is_right p f around b)
         r in
-        let w = and_parts (is_right (length globals) f around a) (is_right (length globals) f around b) q.1 in
-        let one = code_lines globals a (n + 3) (k + addressed v) es in
-        let other = code_lines globals b (n + 3 + labels_in a) (k + addressed v + addresses_in a) es in
+        let w = and_parts (is_right p f around a) (is_right p f around b) q.1 in
+        let one = code_lines p.globals a (n + 3) (k + addressed v) es in
+        let other = code_lines p.globals b (n + 3 + labels_in a) (k + addressed v + addresses_in a) es in
         let tail : List Line = Label (n + 2) ∷ rest in
         let other_side : List Line = Label (n + 1) ∷ (other ++ tail) in
         let over : List Line = End (jump.Jmp (label_name (n + 2))) ∷ other_side in
         let one_side : List Line = Label n ∷ (one ++ over) in
-        let same : code_lines globals (If v a b) n k es ++ rest ≡ address_lines globals v k ++
-        (End (jump.Jnz (operand globals v k) (label_name n) (label_name (n + 1))) ∷ one_side) =
-        append_assoc (address_lines globals v k) _ rest
-        ∙ ap (λ (x : List Line). address_lines globals v k ++
-        (End (jump.Jnz (operand globals v k) (label_name n) (label_name (n + 1))) ∷ Label n ∷ x)) (append_assoc one _ rest)
-        ∙ ap (λ (x : List Line). address_lines globals v k ++
-        (End (jump.Jnz (operand globals v k) (label_name n) (label_name (n + 1))) ∷ Label n ∷
+        let same : code_lines p.globals (If v a b) n k es ++ rest ≡ address_lines p.globals v k ++
+        (End (jump.Jnz (operand p.globals v k) (label_name n) (label_name (n + 1))) ∷ one_side) =
+        append_assoc (address_lines p.globals v k) _ rest
+        ∙ ap (λ (x : List Line). address_lines p.globals v k ++
+        (End (jump.Jnz (operand p.globals v k) (label_name n) (label_name (n + 1))) ∷ Label n ∷ x)) (append_assoc one _ rest)
+        ∙ ap (λ (x : List Line). address_lines p.globals v k ++
+        (End (jump.Jnz (operand p.globals v k) (label_name n) (label_name (n + 1))) ∷ Label n ∷
         (one ++ (End (jump.Jmp (label_name (n + 2))) ∷ Label (n + 1) ∷ x)))) (append_assoc other (Label (n + 2) ∷ []) rest) in
         let at_end = all_behind es (Label (n + 2) ∷ []) rest h in
         let at_over = all_behind es (End (jump.Jmp (label_name (n + 2))) ∷ Label (n + 1) ∷ other) tail at_end in
-        let branch = back_none (line_blocks one_side) (jump.Jnz (operand globals v k) (label_name n) (label_name (n + 1)))
+        let branch = back_none (line_blocks one_side) (jump.Jnz (operand p.globals v k) (label_name n) (label_name (n + 1)))
         (both_true _ _ (stands_here n (one ++ over))
         (stands_behind (n + 1) (Label n ∷ one) over (stands_here (n + 1) (other ++ tail)))) in
         let jumps = back_none (line_blocks other_side) (jump.Jmp (label_name (n + 2)))
@@ -148,7 +148,7 @@ module _ (globals : List Data) (f : FlatFn) where
           arith,
           ap back_of same,
           address_back v k
-              (End (jump.Jnz (operand globals v k) (label_name n) (label_name (n + 1))) ∷ one_side),
+              (End (jump.Jnz (operand p.globals v k) (label_name n) (label_name (n + 1))) ∷ one_side),
           branch,
           jumps,
           code_back a around (n + 3)
@@ -157,8 +157,8 @@ module _ (globals : List Data) (f : FlatFn) where
               d at_end,
         )
     code_back (Loop c) around n k es rest r d h =
-        let q = and_parts (nat_lt around deepest) (is_right (length globals) f (suc around) c) r in
-        let body = code_lines globals c (n + 2) k (es ++ (n + 1) ∷ []) in
+        let q = and_parts (nat_lt around deepest) (is_right p f (suc around) c) r in
+        let body = code_lines p.globals c (n + 2) k (es ++ (n + 1) ∷ []) in
         let tail : List Line = End (jump.Jmp (label_name n)) ∷ Label (n + 1) ∷ rest in
         let same = append_assoc body (End (jump.Jmp (label_name n)) ∷ Label (n + 1) ∷ []) rest in
         let enters = back_none (line_blocks (Label n ∷ (body ++ tail))) (jump.Jmp (label_name n)) (stands_here n (body ++ tail)) in
@@ -180,33 +180,33 @@ module _ (globals : List Data) (f : FlatFn) where
         let there = stands_behind (exit_at es j) (Label n ∷ []) rest (exit_stands (stands rest) es (length es - suc j) (omega arith) h) in
         omega (arith, back_none (line_blocks (Label n ∷ rest)) (jump.Jmp (label_name (exit_at es j))) there)
     code_back (Call temp name args) around n k es rest r d h =
-        let same : back_of (code_lines globals (Call temp name args) n k es ++ rest) ≡ back_of rest =
-        ap back_of (append_assoc (arg_lines globals args k) _ rest) ∙ args_back args k _ in
+        let same : back_of (code_lines p.globals (Call temp name args) n k es ++ rest) ≡ back_of rest =
+        ap back_of (append_assoc (arg_lines p.globals args k) _ rest) ∙ args_back args k _ in
         omega (arith, same)
     code_back (Ret value) around n k es rest r d h = omega (arith, return_back value n k rest)
 
-    each_back : (cs : Codes) (around n k : ℕ) (es : List ℕ) (rest : List Line) → are_right (length globals) f around cs ≡ true →
+    each_back : (cs : Codes) (around n k : ℕ) (es : List ℕ) (rest : List Line) → are_right p f around cs ≡ true →
         length es ≡ around → list_all (stands rest) es ≡ true
-        → back_of (each_lines globals cs n k es ++ rest) ≤ loops_in_all cs + back_of rest
+        → back_of (each_lines p.globals cs n k es ++ rest) ≤ loops_in_all cs + back_of rest
     each_back none around n k es rest r d h = omega arith
     each_back (more c cs) around n k es rest r d h =
-        let q = and_parts (is_right (length globals) f around c) (are_right (length globals) f around cs) r in
-        let others = each_lines globals cs (n + labels_in c) (k + addresses_in c) es in
+        let q = and_parts (is_right p f around c) (are_right p f around cs) r in
+        let others = each_lines p.globals cs (n + labels_in c) (k + addresses_in c) es in
         omega (
           arith,
-          ap back_of (append_assoc (code_lines globals c n k es) others rest),
+          ap back_of (append_assoc (code_lines p.globals c n k es) others rest),
           code_back c around n k es (others ++ rest) q.0 d
               (all_behind es others rest h),
           each_back cs around (n + labels_in c) (k + addresses_in c) es rest q.1 d h,
         )
 
-  pub jumps_few : is_right (length globals) f 0 (code_of f.body) ≡ true → backward_jumps (blocks_of globals f) ≤ loops_in (code_of f.body)
+  pub jumps_few : is_right p f 0 (code_of f.body) ≡ true → backward_jumps (blocks_of p.globals f) ≤ loops_in (code_of f.body)
   jumps_few r =
       let last : List Line = End (jump.Ret (end_value f.result)) ∷ [] in
       omega (
         arith,
-        ap backward_jumps (function_blocks globals f),
-        back_blocks (function_lines globals f),
+        ap backward_jumps (function_blocks p.globals f),
+        back_blocks (function_lines p.globals f),
         code_back (code_of f.body) 0 1 0
             [] last r refl refl,
       )

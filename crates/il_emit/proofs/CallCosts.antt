@@ -6,8 +6,8 @@ use Rattle.std.proofs.lemmas.Bool.{and_parts}
 use Rattle.std.proofs.lemmas.Bool.Decides.{nat_tests}
 use Rattle.std.proofs.lemmas.Slice.Eq.{bytes_eq-Decides}
 use Rattle.hx_base.specs.declared.Class.{Class}
-use Rattle.flat_code.specs.declared.program.Data.{Data}
 use Rattle.flat_code.specs.declared.program.FlatFn.{FlatFn}
+use Rattle.flat_code.specs.declared.program.FlatProgram.{FlatProgram}
 use Rattle.flat_code.specs.declared.value.Value.{Value}
 use Rattle.flat_code.specs.Code.{Code, Codes, none, more, Seq, Set, Load, Store, Move, If, Loop, Leave, Call, Ret}
 use Rattle.flat_code.specs.Costs as flat
@@ -16,7 +16,7 @@ use Rattle.flat_code.specs.Shape.{code_of}
 use Rattle.hx_runtime.specs.Functions.{runtime_params, runtime_result, runtime_function}
 use Rattle.hx_runtime.specs.declared.runtime.RuntimeFunction.{RuntimeFunction}
 use Rattle.flat_code.specs.Temps.{call_class, has_one_class}
-use Rattle.flat_code.specs.WellFormed.{is_right, is_target, is_call, are_args, takes_result}
+use Rattle.flat_code.specs.WellFormed.{is_right, is_target, is_runtime_call, are_args, takes_result}
 use Rattle.il_code.specs.declared.types.Block.{Block}
 use Rattle.il_code.specs.declared.types.IlParam.{IlParam}
 use Rattle.il_code.specs.declared.types.IlArg.{IlArg}
@@ -25,10 +25,12 @@ use Rattle.il_code.specs.declared.types.Inst.TheVariants as inst
 use Rattle.il_code.specs.declared.types.Jump.TheVariants as jump
 use Rattle.il_code.specs.Machine.{assigned, block_assigned, all_assigned, is_among, distinct, call_cost}
 use Rattle.il_emit.specs.Names.{temp_name, address_name, label_name}
+use Rattle.il_emit.specs.Built.{is_built}
 use Rattle.il_emit.specs.Lines.{Line, End, all_addressed, addresses_in, addresses_in_all, labels_in, code_lines, end_value, result_param}
 use Rattle.il_emit.specs.Emitted.{params_of, blocks_of}
 use Rattle.il_emit.proofs.Allowed.{LinesPass, code_good}
 use Rattle.il_emit.proofs.Blocks.{line_passes, blocks_pass}
+use Rattle.il_emit.proofs.BuiltFunctions.{IsFree}
 use Rattle.il_emit.proofs.Counts.{both_true, all_append, sum_cons, weight, or_true}
 use Rattle.il_emit.proofs.NumberedNames.{bytes_same}
 
@@ -157,8 +159,8 @@ all_flat q g [] h = refl
 all_flat q g (x ∷ xs) h = let k = and_parts (list_all q (g x)) (list_all (λ y. list_all q (g y)) xs) h in all_append q (g x) (flat_map g xs)
     k.0 (all_flat q g xs k.1)
 
-module _ (globals : List Data) (f : FlatFn) (right : is_right (length globals) f 0 (code_of f.body) ≡ true)
-    (few_params : length f.params ≤ f.temps) where
+module _ (p : FlatProgram) (free : IsFree p) (f : FlatFn) (built : is_built (code_of f.body) ≡ true)
+    (right : is_right p f 0 (code_of f.body) ≡ true) (few_params : length f.params ≤ f.temps) where
   abbrev known : List (List ℕ)
   known = numbered temp_name 0 f.temps ++ numbered address_name 0 (addresses_in (code_of f.body))
 
@@ -179,45 +181,45 @@ module _ (globals : List Data) (f : FlatFn) (right : is_right (length globals) f
   address_known k h = among_right (address_name k) (numbered temp_name 0 f.temps) _
       (numbered_among address_name 0 (addresses_in (code_of f.body)) k (omega arith) (omega arith))
 
-  target_known : (t : ℕ) (class : Class) → is_target f t class ≡ true → is_known (temp_name t) ≡ true
+  target_known : (t : ℕ) (class : Class) → is_target p f t class ≡ true → is_known (temp_name t) ≡ true
   target_known t class h =
-      let q = (and_parts (nat_lt t f.temps) (has_one_class f t class) h).0 in
+      let q = (and_parts (nat_lt t f.temps) (has_one_class p f t class) h).0 in
       let lt : t < f.temps = grind (arith, nat_tests) in
       temp_known t lt
 
   call_known : (temp : Option ℕ) (args : List Value) (g : Option RuntimeFunction) (is : List IlArg) (name : List ℕ) →
-      is_call (length globals) f temp args g ≡ true → good_inst (inst.Call (result_param temp (call_class g)) name is) ≡ true
+      is_runtime_call p f temp args g ≡ true → good_inst (inst.Call (result_param temp (call_class g)) name is) ≡ true
   call_known temp args None is name h = cc
   call_known temp args (Some g) is name h = taken temp (runtime_result g)
-      (and_parts (are_args (length globals) f (runtime_params g) args) (takes_result f temp (runtime_result g)) h).1
+      (and_parts (are_args p f (runtime_params g) args) (takes_result p f temp (runtime_result g)) h).1
     where
-      taken : (temp : Option ℕ) (class : Option Class) → takes_result f temp class ≡ true →
+      taken : (temp : Option ℕ) (class : Option Class) → takes_result p f temp class ≡ true →
           good_inst (inst.Call (result_param temp class) name is) ≡ true
       taken None class h = refl
       taken (Some t) None h = cc
       taken (Some t) (Some class) h = both_true _ true (target_known t class h) refl
 
-  lines_known : LinesPass globals f good (suc (labels_in (code_of f.body))) (addresses_in (code_of f.body))
+  lines_known : LinesPass p f good (suc (labels_in (code_of f.body))) (addresses_in (code_of f.body))
   lines_known = record {
     label = λ n h. refl;
     goes = λ n l u. refl;
     branch = λ v k n m r u a b c d. refl;
     returns = λ r. refl;
     returns_value = λ v k r u. refl;
-    set = λ t class o a b k r u. both_true _ true (target_known t class (and_parts (is_target f t class) _ r).0) refl;
+    set = λ t class o a b k r u. both_true _ true (target_known t class (and_parts (is_target p f t class) _ r).0) refl;
     call = λ temp name args k r u. call_known temp args (runtime_function name) _ name r;
     address = λ i offset k h b l. both_true _ true (address_known k l) refl;
   }
 
-  blocks_known : list_all (λ (b : Block). list_all is_known (block_assigned b)) (blocks_of globals f) ≡ true
+  blocks_known : list_all (λ (b : Block). list_all is_known (block_assigned b)) (blocks_of p.globals f) ≡ true
   blocks_known =
       blocks_pass (λ n. true) good_inst (λ j. true) refl (λ (b : Block). list_all is_known (block_assigned b))
       (λ s n is j e l h k. all_flat is_known assigned is h)
-      [] (label_name 0) 0 [] true (code_lines globals (code_of f.body) 1 0 [] ++ End (jump.Ret (end_value f.result)) ∷ []) refl refl refl
+      [] (label_name 0) 0 [] true (code_lines p.globals (code_of f.body) 1 0 [] ++ End (jump.Ret (end_value f.result)) ∷ []) refl refl refl
       refl
-      (all_append good (code_lines globals (code_of f.body) 1 0 []) _
-      (code_good globals f good (suc (labels_in (code_of f.body))) (addresses_in (code_of f.body)) lines_known (code_of f.body) 0 1 0 []
-      right refl refl (omega arith) (omega arith) (omega arith)) refl)
+      (all_append good (code_lines p.globals (code_of f.body) 1 0 []) _
+      (code_good p f good (suc (labels_in (code_of f.body))) (addresses_in (code_of f.body)) lines_known free (code_of f.body) 0 1 0 []
+      built right refl refl (omega arith) (omega arith) (omega arith)) refl)
 
   params_known : (at : ℕ) (cs : List Class) → at + length cs ≤ f.temps → list_all is_known (map (λ (p : IlParam). p.name) (params_of at cs))
       ≡ true
@@ -250,13 +252,13 @@ module _ (globals : List Data) (f : FlatFn) (right : is_right (length globals) f
 
   -- ---- the cost
 
-  pub costs_no_more : call_cost (params_of 0 f.params) (blocks_of globals f) ≤ flat.call_cost f
+  pub costs_no_more : call_cost (params_of 0 f.params) (blocks_of p.globals f) ≤ flat.call_cost f
   costs_no_more =
-      let names = all_append is_known (map (λ (p : IlParam). p.name) (params_of 0 f.params)) (flat_map block_assigned (blocks_of globals f))
-      (params_known 0 f.params (omega arith)) (all_flat is_known block_assigned (blocks_of globals f) blocks_known) in
+      let names = all_append is_known (map (λ (p : IlParam). p.name) (params_of 0 f.params)) (flat_map block_assigned (blocks_of p.globals f))
+      (params_known 0 f.params (omega arith)) (all_flat is_known block_assigned (blocks_of p.globals f) blocks_known) in
       omega (
         arith,
-        distinct_length (all_assigned (params_of 0 f.params) (blocks_of globals f)) known names,
+        distinct_length (all_assigned (params_of 0 f.params) (blocks_of p.globals f)) known names,
         length-append
             (numbered temp_name 0 f.temps) (numbered address_name 0 (addresses_in (code_of f.body))),
         numbered_length temp_name 0 f.temps,

@@ -22,7 +22,7 @@ use Rattle.hx_runtime.specs.declared.runtime.RuntimeFunction.{RuntimeFunction}
 use Rattle.flat_code.specs.State as state
 use Rattle.flat_code.specs.State.{State, Result, Spent, value_of, set_temp, give, stepped}
 use Rattle.flat_code.specs.Temps.{call_class, has_one_class}
-use Rattle.flat_code.specs.WellFormed.{is_operand, is_second, are_args, is_target, takes_result, is_call, is_return}
+use Rattle.flat_code.specs.WellFormed.{is_operand, is_second, are_args, is_target, takes_result, is_runtime_call, is_return}
 use Rattle.il_code.specs.declared.types.IlArg.{IlArg}
 use Rattle.il_code.specs.declared.types.IlValue.{IlValue}
 use Rattle.il_code.specs.declared.types.IlParam.{IlParam}
@@ -98,9 +98,9 @@ module _ (p : FlatProgram) (f : FlatFn) (m : Module) (set : Setting p f m) (call
     most = h.most;
   }
 
-  target_small : (t : ℕ) (class : Class) → is_target f t class ≡ true → t < 2 ^ 64
+  target_small : (t : ℕ) (class : Class) → is_target p f t class ≡ true → t < 2 ^ 64
   target_small t class h =
-      let q = (and_parts (nat_lt t f.temps) (has_one_class f t class) h).0 in
+      let q = (and_parts (nat_lt t f.temps) (has_one_class p f t class) h).0 in
       let lt : t < f.temps = grind (arith, nat_tests) in
       let few = set.few_temps in
       omega arith
@@ -113,7 +113,7 @@ module _ (p : FlatProgram) (f : FlatFn) (m : Module) (set : Setting p f m) (call
         (value_of p s v)
 
   second_runs : (s : State) (class : Class) (two : Bool) (v : Value) (k : ℕ) (c : Mark) →
-      is_second (length p.globals) f class two v ≡ true → Same s.temps c.temps → Runs s two v k c
+      is_second p f class two v ≡ true → Same s.temps c.temps → Runs s two v k c
   second_runs s class true v k c r h = record {
     steps = λ ls. address_steps p f m set call class v k ls s.world c r;
     value = ap Some (operand_ready p f m set call s class v k c r h).value;
@@ -125,8 +125,8 @@ module _ (p : FlatProgram) (f : FlatFn) (m : Module) (set : Setting p f m) (call
 
   pub set_meets : (n : ℕ) (out : ℕ → List Line) (t : ℕ) (class : Class) (o : Op) (a b : Value) (k : ℕ) (rest : List Line) (s : State)
       (c : Mark)
-      → is_target f t class ≡ true → is_operand (length p.globals) f (first_class (op_kind o) class) a ≡ true →
-      is_second (length p.globals) f (second_class (op_kind o) class) (takes_two (op_kind o)) b ≡ true
+      → is_target p f t class ≡ true → is_operand p f (first_class (op_kind o) class) a ≡ true →
+      is_second p f (second_class (op_kind o) class) (takes_two (op_kind o)) b ≡ true
       → k + (addressed a + addressed b) < 2 ^ 64 → Holds call.floor s c
       → Meets m call n (counted c) (4 * s.steps) (c.used + 3) out rest
       (run_at ((address_lines p.globals a k ++
@@ -195,7 +195,7 @@ module _ (p : FlatProgram) (f : FlatFn) (m : Module) (set : Setting p f m) (call
   -- behind a call that gives a value
   given_comes : (low high : ℕ) (temp : Option ℕ) (class : Option Class) (here rest : List Line) (s : State) (c : Mark) (v moved : ℕ)
       (w : World)
-      → takes_result f temp class ≡ true → Holds call.floor s c → c.used + 1 + low ≤ high + 4 * s.steps
+      → takes_result p f temp class ≡ true → Holds call.floor s c → c.used + 1 + low ≤ high + 4 * s.steps
       → further m (run_at here s.world c) ≡ after_step (run_at here s.world c)
       (runtime_step (at rest s.world c) (result_param temp class) (Gives v moved w))
       → Comes m call (counted c) low high (run_at here s.world c) (give (stepped (moved / 64) (record s { world = w })) temp class v) rest
@@ -219,7 +219,7 @@ module _ (p : FlatProgram) (f : FlatFn) (m : Module) (set : Setting p f m) (call
 
   act_meets : (n low high : ℕ) (out : ℕ → List Line) (temp : Option ℕ) (class : Option Class) (here rest : List Line) (s : State) (c : Mark)
       (a : Act)
-      → takes_result f temp class ≡ true → Holds call.floor s c → c.used + 1 + low ≤ high + 4 * s.steps
+      → takes_result p f temp class ≡ true → Holds call.floor s c → c.used + 1 + low ≤ high + 4 * s.steps
       → further m (run_at here s.world c) ≡ after_step (run_at here s.world c)
       (runtime_step (at rest s.world c) (result_param temp class) a)
       → Meets m call n (counted c) low high out rest (run_at here s.world c) (flat.acted s temp class a)
@@ -277,14 +277,14 @@ module _ (p : FlatProgram) (f : FlatFn) (m : Module) (set : Setting p f m) (call
 
   call_meets_at : (n : ℕ) (out : ℕ → List Line) (temp : Option ℕ) (name : List ℕ) (args : List Value) (k : ℕ) (rest : List Line) (s : State)
       (c : Mark) (o : Option RuntimeFunction)
-      → runtime_function name ≡ o → is_call (length p.globals) f temp args o ≡ true → k + all_addressed args < 2 ^ 64 → Holds call.floor s c
+      → runtime_function name ≡ o → is_runtime_call p f temp args o ≡ true → k + all_addressed args < 2 ^ 64 → Holds call.floor s c
       → Meets m call n (counted c) (4 * s.steps) (c.used + 3) out rest
       (run_at ((arg_lines p.globals args k ++
       (Do (inst.Call (result_param temp (call_class o)) name (args_of p.globals (call_params o) args k)) ∷ [])) ++ rest) s.world c)
       (flat.runtime_called (stepped (length args) s) temp o (map (value_of p s) args))
   call_meets_at n out temp name args k rest s c None e r few h = cc
   call_meets_at n out temp name args k rest s c (Some g) e r few h =
-      let q = and_parts (are_args (length p.globals) f (runtime_params g) args) (takes_result f temp (runtime_result g)) r in
+      let q = and_parts (are_args p f (runtime_params g) args) (takes_result p f temp (runtime_result g)) r in
       let ca = behind_args p f m set call args k c in
       let last : List Line =
       Do (inst.Call (result_param temp (runtime_result g)) name (args_of p.globals (runtime_params g) args k)) ∷ [] in
@@ -305,7 +305,7 @@ module _ (p : FlatProgram) (f : FlatFn) (m : Module) (set : Setting p f m) (call
 
   pub call_meets : (n : ℕ) (less : flat.Less) (out : ℕ → List Line) (temp : Option ℕ) (name : List ℕ) (args : List Value) (k : ℕ)
       (rest : List Line) (s : State) (c : Mark)
-      → is_call (length p.globals) f temp args (runtime_function name) ≡ true → k + all_addressed args < 2 ^ 64 → Holds call.floor s c
+      → is_runtime_call p f temp args (runtime_function name) ≡ true → k + all_addressed args < 2 ^ 64 → Holds call.floor s c
       → Meets m call n (counted c) (4 * s.steps) (c.used + 3) out rest
       (run_at ((arg_lines p.globals args k ++
       (Do (inst.Call (result_param temp (call_class (runtime_function name))) name
@@ -313,7 +313,7 @@ module _ (p : FlatProgram) (f : FlatFn) (m : Module) (set : Setting p f m) (call
       (flat.called n less (stepped (length args) s) temp name (flat.function_named p.functions name) (map (value_of p s) args))
   call_meets n less out temp name args k rest s c r few h = by_name (runtime_function name) refl r
     where
-      by_name : (o : Option RuntimeFunction) → runtime_function name ≡ o → is_call (length p.globals) f temp args o ≡ true
+      by_name : (o : Option RuntimeFunction) → runtime_function name ≡ o → is_runtime_call p f temp args o ≡ true
           → Meets m call n (counted c) (4 * s.steps) (c.used + 3) out rest
           (run_at ((arg_lines p.globals args k ++
           (Do (inst.Call (result_param temp (call_class (runtime_function name))) name
@@ -332,7 +332,7 @@ module _ (p : FlatProgram) (f : FlatFn) (m : Module) (set : Setting p f m) (call
 
   -- a branch comes to the side that its condition says
   pub branch_comes : (v : Value) (k x y : ℕ) (ls one other : List Line) (s : State) (c : Mark) (b : Bool) →
-      is_operand (length p.globals) f W v ≡ true → Holds call.floor s c
+      is_operand p f W v ≡ true → Holds call.floor s c
       → Finds call.lines x one → Finds call.lines y other → (state.cut W (value_of p s v) == 0) ≡ b
       → after_steps m (addressed v + 1)
       (run_at (address_lines p.globals v k ++ (End (jump.Jnz (operand p.globals v k) (label_name x) (label_name y)) ∷ ls)) s.world c)
@@ -360,7 +360,7 @@ module _ (p : FlatProgram) (f : FlatFn) (m : Module) (set : Setting p f m) (call
   -- ---- returns
 
   pub return_meets : (n x : ℕ) (out : ℕ → List Line) (class : Option Class) (value : Option Value) (k : ℕ) (rest : List Line) (s : State)
-      (c : Mark) → is_return (length p.globals) f class value ≡ true → Holds call.floor s c
+      (c : Mark) → is_return p f class value ≡ true → Holds call.floor s c
       → Meets m call n (counted c) (4 * s.steps) (c.used + 3) out rest (run_at (return_lines p.globals value x k ++ rest) s.world c)
       (flat.returns p s value)
   return_meets n x out class None k rest s c r h =

@@ -6,13 +6,13 @@ use Rattle.std.proofs.lemmas.Bool.{and_parts, or_cases}
 use Rattle.std.proofs.lemmas.Bool.Decides.{nat_tests}
 use Rattle.hx_base.specs.declared.Class.{Class}
 use Rattle.hx_base.specs.declared.Class.TheVariants.{W, L}
-use Rattle.flat_code.specs.declared.program.Data.{Data}
 use Rattle.flat_code.specs.declared.program.FlatFn.{FlatFn}
+use Rattle.flat_code.specs.declared.program.FlatProgram.{FlatProgram}
 use Rattle.flat_code.specs.Code.{Code}
 use Rattle.flat_code.specs.Shape.{code_of}
 use Rattle.flat_code.specs.Temps.{params_set, code_sets, has_one_class, other_class}
 use Rattle.flat_code.specs.Temps as flat
-use Rattle.flat_code.specs.WellFormed.{deepest, is_symbol, is_identifier, is_reserved, is_main_right, is_function_right, has_no_frame, nests_within, is_built, is_right, params_have_one_class}
+use Rattle.flat_code.specs.WellFormed.{deepest, is_symbol, is_identifier, is_reserved, is_main_right, is_function_right, nests_within, is_right, params_have_one_class}
 use Rattle.il_code.specs.declared.types.Block.{Block}
 use Rattle.il_code.specs.declared.types.IlItem.{IlItem}
 use Rattle.il_code.specs.declared.types.IlParam.{IlParam}
@@ -26,11 +26,13 @@ use Rattle.il_code.specs.Items.{function_named}
 use Rattle.il_code.specs.Rules.{item_name, how_many, are_distinct, has_named, has_label, labels_known, block_labels_known, targets_pass, start_is_no_target, phis_are_placed, is_set, sets, result_sets, inst_sets, block_sets, inst_has_one_class, block_has_one_class, each_has_one_class, inst_is_right, jump_is_right, return_is_right, block_is_right, has_own_names, flow_is_right, item_is_right}
 use Rattle.il_code.specs.Shaped.{is_param, is_inst, is_jump, is_block, is_item}
 use Rattle.il_emit.specs.Names.{temp_name, address_name, label_name}
+use Rattle.il_emit.specs.Built.{is_built, is_function_built}
 use Rattle.il_emit.specs.Lines.{Line, Label, Do, End, name_at, end_value, result_param, code_lines, labels_in, addresses_in}
 use Rattle.il_emit.specs.Emitted.{params_of, blocks_of, function_item}
 use Rattle.il_emit.specs.Numbered.{HasFewNames}
 use Rattle.il_emit.proofs.Allowed.{LinesPass, code_good}
 use Rattle.il_emit.proofs.Blocks.{block, tidy, line_passes, lines_any, blocks_pass, any_open, count_open, starts_open, no_target, blocks_end, no_phis_placed}
+use Rattle.il_emit.proofs.BuiltFunctions.{is_emitted, IsFree}
 use Rattle.il_emit.proofs.Counts.{both_true, or_true, all_append, all_more, sum_cons, weight, either}
 use Rattle.il_emit.proofs.NumberedNames.{temp_identifier, label_identifier, temp_eq, label_eq}
 use Rattle.il_emit.proofs.Numbering.{code_tidy, within, within_in, code_labels, code_sets_is, params_sets_is, code_below, params_below, code_there}
@@ -67,9 +69,9 @@ and_false : (b : Bool) → not (b && false) ≡ true
 and_false true = refl
 and_false false = refl
 
-no_word_lines : (globals : List Data) (f : FlatFn) (k : ℕ) (most_labels most_addresses : ℕ) →
-    LinesPass globals f (no_word_line k) most_labels most_addresses
-no_word_lines globals f k most_labels most_addresses = record {
+no_word_lines : (p : FlatProgram) (f : FlatFn) (k : ℕ) (most_labels most_addresses : ℕ) →
+    LinesPass p f (no_word_line k) most_labels most_addresses
+no_word_lines p f k most_labels most_addresses = record {
   label = λ n h. refl;
   goes = λ n l u. refl;
   branch = λ v j n m r u a b c d. refl;
@@ -129,19 +131,19 @@ record JumpParts (items : List IlItem) (params : List IlParam) (blocks : List Bl
   fits : jump_is_right items params blocks class j ≡ true
 
 -- the parts of the test of a function
-record Parts (globals : ℕ) (f : FlatFn) : Type 0 where
+record Parts (p : FlatProgram) (f : FlatFn) : Type 0 where
   symbol : is_symbol f.name ≡ true
   main : is_main_right f ≡ true
   few_params : nat_le (length f.params) f.temps ≡ true
-  frame : has_no_frame f ≡ true
+  frame : (f.frame == 0) ≡ true
   built : is_built (code_of f.body) ≡ true
-  one_class : params_have_one_class f 0 f.params ≡ true
-  code : is_right globals f 0 (code_of f.body) ≡ true
+  one_class : params_have_one_class p f 0 f.params ≡ true
+  code : is_right p f 0 (code_of f.body) ≡ true
 
-module _ (globals : List Data) (f : FlatFn) (items : List IlItem) (right : is_function_right (length globals) f ≡ true)
+module _ (p : FlatProgram) (free : IsFree p) (f : FlatFn) (items : List IlItem) (right : is_emitted p f ≡ true)
     (few : HasFewNames f)
-    (identifiers : (i : ℕ) → i < length globals → is_identifier (name_at globals i) ≡ true)
-    (symbols : (i : ℕ) → i < length globals → has_named item_name (name_at globals i) items ≡ true)
+    (identifiers : (i : ℕ) → i < length p.globals → is_identifier (name_at p.globals i) ≡ true)
+    (symbols : (i : ℕ) → i < length p.globals → has_named item_name (name_at p.globals i) items ≡ true)
     (no_code : (name : List ℕ) (g : RuntimeFunction) → runtime_function name ≡ Some g → function_named items name ≡ None) where
   abbrev body : Code
   body = code_of f.body
@@ -150,7 +152,7 @@ module _ (globals : List Data) (f : FlatFn) (items : List IlItem) (right : is_fu
   most_labels = suc (labels_in body)
 
   abbrev lines : List Line
-  lines = code_lines globals body 1 0 []
+  lines = code_lines p.globals body 1 0 []
 
   abbrev last : Jump
   last = jump.Ret (end_value f.result)
@@ -159,24 +161,24 @@ module _ (globals : List Data) (f : FlatFn) (items : List IlItem) (right : is_fu
   params = params_of 0 f.params
 
   abbrev blocks : List Block
-  blocks = blocks_of globals f
+  blocks = blocks_of p.globals f
 
-  parts : Parts (length globals) f
+  parts : Parts p f
   parts =
-      let a = and_parts (is_symbol f.name) _ right in
+      let e = and_parts (is_function_right p f) (is_function_built f) right in
+      let a = and_parts (is_symbol f.name) _ e.0 in
       let b = and_parts (is_main_right f) _ a.1 in
       let c = and_parts (nat_le (length f.params) f.temps) _ b.1 in
-      let d = and_parts (has_no_frame f) _ c.1 in
-      let e = and_parts (nests_within body deepest) _ d.1 in
-      let g = and_parts (is_built body) _ e.1 in
-      let h = and_parts (params_have_one_class f 0 f.params) (is_right (length globals) f 0 body) g.1 in
-      record { symbol = a.0; main = b.0; few_params = c.0; frame = d.0; built = g.0; one_class = h.0; code = h.1 }
+      let d = and_parts (nests_within body deepest) _ c.1 in
+      let g = and_parts (params_have_one_class p f 0 f.params) (is_right p f 0 body) d.1 in
+      let h = and_parts (f.frame == 0) (is_built body) e.1 in
+      record { symbol = a.0; main = b.0; few_params = c.0; frame = h.0; built = h.1; one_class = g.0; code = g.1 }
 
   params_few : length f.params ≤ f.temps
   params_few = let z = parts.few_params in grind (arith, nat_tests)
 
   tidy_lines : tidy true lines ≡ true
-  tidy_lines = code_tidy globals body 1 0 []
+  tidy_lines = code_tidy p.globals body 1 0 []
 
   label_count : (n : ℕ) → n < most_labels → how_many (λ (b : Block). b.label) (label_name n) blocks ≡ 1
   label_count n h =
@@ -185,24 +187,24 @@ module _ (globals : List Data) (f : FlatFn) (items : List IlItem) (right : is_fu
       ∙ omega (
         arith,
         ap weight (label_eq 0 n (omega arith) (omega arith)),
-        code_labels globals n (omega arith) body 1 0 [] (omega arith),
+        code_labels p.globals n (omega arith) body 1 0 [] (omega arith),
         within_in n 0 most_labels (omega arith) (omega arith),
       )
 
-  set_is : (t : ℕ) (class : Class) → t < f.temps → is_set params blocks (temp_name t) class ≡ flat.is_set f t class
+  set_is : (t : ℕ) (class : Class) → t < f.temps → is_set params blocks (temp_name t) class ≡ flat.is_set p f t class
   set_is t class h =
       let s = few.temps in
       let z = params_few in
-      either _ _ _ _ (params_sets_is globals (length globals) f s t (omega arith) class 0 f.params (omega arith))
+      either _ _ _ _ (params_sets_is p free f s t (omega arith) class 0 f.params (omega arith))
       (any_open (inst_sets (temp_name t) class) (block_sets (temp_name t) class) (λ l is j. refl) [] (label_name 0) [] lines last tidy_lines
-      ∙ code_sets_is globals (length globals) f s t (omega arith) class body 0 1 0 [] parts.built parts.code)
+      ∙ code_sets_is p free f s t (omega arith) class body 0 1 0 [] parts.built parts.code)
 
-  below : (t : ℕ) (class : Class) → flat.is_set f t class ≡ true → t < f.temps
+  below : (t : ℕ) (class : Class) → flat.is_set p f t class ≡ true → t < f.temps
   below t class e =
       let z = params_few in
-      elim (or_cases (params_set t class 0 f.params) (code_sets t class body) e) [
-        | inl h ↦ let k = params_below (length globals) f t class 0 f.params h in omega (arith, k)
-        | inr h ↦ code_below (length globals) f t class body 0 parts.built parts.code h
+      elim (or_cases (params_set t class 0 f.params) (code_sets p t class body) e) [
+        | inl h ↦ let k = params_below p free f t class 0 f.params h in omega (arith, k)
+        | inr h ↦ code_below p free f t class body 0 parts.built parts.code h
       ]
 
   no_frame : f.frame ≡ 0
@@ -212,17 +214,17 @@ module _ (globals : List Data) (f : FlatFn) (items : List IlItem) (right : is_fu
   computed k h =
       or_true _ _ (any_open (inst_sets (address_name k) L) (block_sets (address_name k) L) (λ l is j. refl) [] (label_name 0) [] lines last
       tidy_lines
-      ∙ code_there globals (length globals) f no_frame k body 0 1 0 [] parts.code (omega arith) (omega arith))
+      ∙ code_there p f no_frame k body 0 1 0 [] parts.code (omega arith) (omega arith))
 
   no_word : (k : ℕ) → is_set params blocks (address_name k) W ≡ false
   no_word k =
       either _ _ false false (params_no_word k 0 f.params)
       (any_open (inst_sets (address_name k) W) (block_sets (address_name k) W) (λ l is j. refl) [] (label_name 0) [] lines last tidy_lines
       ∙ none_any (inst_sets (address_name k) W) lines
-      (code_good globals f (no_word_line k) most_labels (addresses_in body) (no_word_lines globals f k most_labels (addresses_in body))
-      body 0 1 0 [] parts.code refl refl (omega arith) (omega arith) (omega arith)))
+      (code_good p f (no_word_line k) most_labels (addresses_in body) (no_word_lines p f k most_labels (addresses_in body))
+      free body 0 1 0 [] parts.built parts.code refl refl (omega arith) (omega arith) (omega arith)))
 
-  names : Names globals f items params blocks most_labels (addresses_in body)
+  names : Names p f items params blocks most_labels (addresses_in body)
   names = record {
     few_labels = let s = few.labels in omega arith;
     few_addresses = let s = few.addresses in omega arith;
@@ -253,8 +255,8 @@ module _ (globals : List Data) (f : FlatFn) (items : List IlItem) (right : is_fu
   all_lines =
       let e = last_right f.result in
       all_append _ lines (End last ∷ [])
-      (code_good globals f (line_passes (good_label most_labels) inst_good jump_good) most_labels (addresses_in body)
-      (lines_pass globals f items params blocks most_labels (addresses_in body) names) body 0 1 0 [] parts.code refl refl (omega arith)
+      (code_good p f (line_passes (good_label most_labels) inst_good jump_good) most_labels (addresses_in body)
+      (lines_pass p f items params blocks most_labels (addresses_in body) names) free body 0 1 0 [] parts.built parts.code refl refl (omega arith)
       (omega arith) (omega arith))
       (both_true _ true (both_true _ _ e.0 e.1) refl)
 
@@ -278,7 +280,7 @@ module _ (globals : List Data) (f : FlatFn) (items : List IlItem) (right : is_fu
       let c = and_parts (targets_pass (λ l. not (bytes_eq l (label_name 0))) j) _ b.1 in
       record { spelled = a.0; known = b.0; no_start = c.0; fits = c.1 }
 
-  pub shaped : is_item (function_item globals f) ≡ true
+  pub shaped : is_item (function_item p.globals f) ≡ true
   shaped =
       let z = params_few in
       let s = few.temps in
@@ -293,7 +295,7 @@ module _ (globals : List Data) (f : FlatFn) (items : List IlItem) (right : is_fu
           both_true _ _ (label_identifier n (omega arith))
           (both_true _ _ (all_more inst_good is_inst (λ i e. (and_parts (is_inst i) _ e).0) is h) (jump_parts j k).spelled)
 
-  pub own_names : has_own_names (function_item globals f) ≡ true
+  pub own_names : has_own_names (function_item p.globals f) ≡ true
   own_names =
       let z = params_few in
       let s = few.temps in
@@ -303,7 +305,7 @@ module _ (globals : List Data) (f : FlatFn) (items : List IlItem) (right : is_fu
       (each_block (λ (b : Block). how_many (λ (x : Block). x.label) b.label blocks == 1)
       (λ n is j l h k. ap (λ (m : ℕ). m == 1) (label_count n l))))
 
-  pub flows : flow_is_right (function_item globals f) ≡ true
+  pub flows : flow_is_right (function_item p.globals f) ≡ true
   flows =
       both_true _ _ (each_block (block_labels_known blocks) (λ n is j l h k. both_true _ _ (jump_parts j k).known refl))
       (both_true _ _ (no_target (label_name 0) blocks (starts_open (label_name 0) [] lines last)
@@ -311,14 +313,14 @@ module _ (globals : List Data) (f : FlatFn) (items : List IlItem) (right : is_fu
       (λ n is j l h k. (jump_parts j k).no_start)))
       (no_phis_placed blocks (each_block (λ (b : Block). length b.phis == 0) (λ n is j l h k. refl))))
 
-  params_one_class : (at : ℕ) (cs : List Class) → at + length cs ≤ f.temps → params_have_one_class f at cs ≡ true →
+  params_one_class : (at : ℕ) (cs : List Class) → at + length cs ≤ f.temps → params_have_one_class p f at cs ≡ true →
       list_all (λ (p : IlParam). rule.has_one_class params blocks p.name p.class) (params_of at cs) ≡ true
   params_one_class at [] u h = refl
   params_one_class at (c ∷ cs) u h =
-      let p = and_parts (has_one_class f at c) (params_have_one_class f (suc at) cs) h in
-      both_true _ _ (ap not (set_is at (other_class c) (omega arith)) ∙ p.0) (params_one_class (suc at) cs (omega arith) p.1)
+      let both = and_parts (has_one_class p f at c) (params_have_one_class p f (suc at) cs) h in
+      both_true _ _ (ap not (set_is at (other_class c) (omega arith)) ∙ both.0) (params_one_class (suc at) cs (omega arith) both.1)
 
-  pub rightful : item_is_right items (function_item globals f) ≡ true
+  pub rightful : item_is_right items (function_item p.globals f) ≡ true
   rightful =
       both_true _ _ (ap (λ (m : ℕ). not (bytes_eq f.name (codes "main")) || (m == 0 && rule.no_long f.result)) (params_length 0 f.params) ∙
       parts.main)

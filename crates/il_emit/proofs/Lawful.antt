@@ -11,20 +11,22 @@ use Rattle.flat_code.specs.declared.program.FlatProgram.{FlatProgram}
 use Rattle.flat_code.specs.WellFormed.{IsWellFormed, is_symbol, is_identifier, is_reserved, is_alignment, is_item, is_global, global_size}
 use Rattle.flat_code.specs.WellFormed as flat
 use Rattle.il_code.specs.declared.types.IlItem.{IlItem}
-use Rattle.hx_runtime.specs.Functions.{runtime_function, runtime_names}
+use Rattle.hx_runtime.specs.Functions.{runtime_function}
 use Rattle.hx_runtime.specs.declared.runtime.RuntimeFunction.{RuntimeFunction}
 use Rattle.il_code.specs.Items.{function_named}
 use Rattle.il_code.specs.Rules.{item_name, how_many, is_main, is_function, item_is_small, item_size, is_small, has_named, has_own_names, flow_is_right, item_is_right, IsValid}
 use Rattle.il_code.specs.Shaped as il
 use Rattle.il_code.specs.Shaped.{is_shaped, is_lawful}
 use Rattle.il_code.proofs.Validates.{valid_is}
+use Rattle.il_emit.specs.Built.{IsBuilt}
 use Rattle.il_emit.specs.Lines.{name_at}
 use Rattle.il_emit.specs.Emitted.{data_item, function_item, module_of}
 use Rattle.il_emit.specs.Numbered.{HasFewNames}
+use Rattle.il_emit.proofs.BuiltFunctions.{is_emitted, all_emitted}
 use Rattle.il_emit.proofs.Counts.{both_true, or_true, count_append, count_map, count_all, count_none, sum_map, sum_none, any_map, all_map, all_append, all_same, all_more}
 use Rattle.il_emit.proofs.Functions.{shaped, own_names, flows, rightful}
 use Rattle.il_emit.proofs.Globals.{name_passes, name_there, data_shaped, data_right, data_own}
-use Rattle.il_emit.proofs.NamedFunctions.{emitted, items_named, none_named, reserved}
+use Rattle.il_emit.proofs.NamedFunctions.{emitted, items_named, free}
 use Rattle.il_emit.proofs.Smalls.{function_small, parts_small, parts_size}
 
 both_ways : {A : Type 0} {P : A → Type 0} (f g : A → Bool) → ((x : A) → f x ≡ true → P x → g x ≡ true) → (xs : List A) →
@@ -33,7 +35,7 @@ both_ways f g h [] e k = refl
 both_ways f g h (x ∷ xs) e k =
     let p = and_parts (f x) (list_all f xs) e in both_true (g x) (list_all g xs) (h x p.0 k.0) (both_ways f g h xs p.1 k.1)
 
-module _ (p : FlatProgram) (w : IsWellFormed p) (few : AllByRecursion HasFewNames p.functions) where
+module _ (p : FlatProgram) (w : IsWellFormed p) (built : IsBuilt p) (few : AllByRecursion HasFewNames p.functions) where
   datas : List IlItem
   datas = map data_item p.globals
 
@@ -78,9 +80,9 @@ module _ (p : FlatProgram) (w : IsWellFormed p) (few : AllByRecursion HasFewName
       all_append item_is_small (map data_item p.globals) (map (function_item p.globals) p.functions)
       (all_map item_is_small data_item p.globals ∙ all_more (is_global p) (λ (d : Data). item_is_small (data_item d)) data_small p.globals
       w.globals)
-      (all_map item_is_small (function_item p.globals) p.functions ∙ all_more (flat.is_function_right (length p.globals))
+      (all_map item_is_small (function_item p.globals) p.functions ∙ all_more (flat.is_function_right p)
       (λ (f : FlatFn). item_is_small (function_item p.globals f))
-      (λ (f : FlatFn) (h : flat.is_function_right (length p.globals) f ≡ true). function_small p.globals f) p.functions w.functions)
+      (λ (f : FlatFn) (h : flat.is_function_right p f ≡ true). function_small p.globals f) p.functions w.functions)
 
   code_count : count_by is_function (map data_item p.globals ++ map (function_item p.globals) p.functions) ≡ length p.functions
   code_count =
@@ -135,13 +137,13 @@ module _ (p : FlatProgram) (w : IsWellFormed p) (few : AllByRecursion HasFewName
 
   -- a test that the items of all globals and of all functions pass
   each_item : (test : IlItem → Bool) → ((d : Data) → is_global p d ≡ true → test (data_item d) ≡ true)
-      → ((f : FlatFn) → flat.is_function_right (length p.globals) f ≡ true → HasFewNames f → test (function_item p.globals f) ≡ true)
+      → ((f : FlatFn) → is_emitted p f ≡ true → HasFewNames f → test (function_item p.globals f) ≡ true)
       → list_all test (map data_item p.globals ++ map (function_item p.globals) p.functions) ≡ true
   each_item test on_data on_function =
       all_append test (map data_item p.globals) (map (function_item p.globals) p.functions)
       (all_map test data_item p.globals ∙ all_more (is_global p) (λ (d : Data). test (data_item d)) on_data p.globals w.globals)
-      (all_map test (function_item p.globals) p.functions ∙ both_ways {P = HasFewNames} (flat.is_function_right (length p.globals))
-      (λ (f : FlatFn). test (function_item p.globals f)) on_function p.functions w.functions few)
+      (all_map test (function_item p.globals) p.functions ∙ both_ways {P = HasFewNames} (is_emitted p)
+      (λ (f : FlatFn). test (function_item p.globals f)) on_function p.functions (all_emitted p w built) few)
 
   names : (i : ℕ) → i < length p.globals → is_identifier (name_at p.globals i) ≡ true
   names i h = name_passes is_identifier p.globals i h spelled
@@ -152,13 +154,12 @@ module _ (p : FlatProgram) (w : IsWellFormed p) (few : AllByRecursion HasFewName
 
   no_code : (name : List ℕ) (g : RuntimeFunction) → runtime_function name ≡ Some g →
       function_named (map data_item p.globals ++ map (function_item p.globals) p.functions) name ≡ None
-  no_code name g e = items_named p w name ∙ ap (emitted p.globals)
-      (none_named (length p.globals) p.functions name w.functions (reserved name runtime_names g refl e))
+  no_code name g e = items_named p w name ∙ ap (emitted p.globals) (free p w name g e)
 
   shape : is_shaped (module_of p) ≡ true
   unfolding is_shaped
   shape = each_item il.is_item (data_shaped p (map data_item p.globals ++ map (function_item p.globals) p.functions) spelled known)
-      (λ f r s. shaped p.globals f (map data_item p.globals ++ map (function_item p.globals) p.functions) r s names symbols no_code)
+      (λ f r s. shaped p (free p w) f (map data_item p.globals ++ map (function_item p.globals) p.functions) r s names symbols no_code)
 
   laws : is_lawful (module_of p).items ≡ true
   unfolding is_lawful
@@ -166,10 +167,10 @@ module _ (p : FlatProgram) (w : IsWellFormed p) (few : AllByRecursion HasFewName
       let items = map data_item p.globals ++ map (function_item p.globals) p.functions in
       both_true _ _ once
       (both_true _ _ (each_item has_own_names (data_own p items spelled known)
-      (λ f r s. own_names p.globals f items r s names symbols no_code))
-      (both_true _ _ (each_item flow_is_right (λ d h. refl) (λ f r s. flows p.globals f items r s names symbols no_code))
+      (λ f r s. own_names p (free p w) f items r s names symbols no_code))
+      (both_true _ _ (each_item flow_is_right (λ d h. refl) (λ f r s. flows p (free p w) f items r s names symbols no_code))
       (both_true _ _ (each_item (item_is_right items) (data_right p items spelled known)
-      (λ f r s. rightful p.globals f items r s names symbols no_code))
+      (λ f r s. rightful p (free p w) f items r s names symbols no_code))
       (both_true _ _ main (both_true _ _ numbers small)))))
 
   pub valid : IsValid (module_of p)

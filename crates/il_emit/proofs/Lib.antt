@@ -1,6 +1,8 @@
 pub mod Drafts
 pub mod Emitting
 pub mod Counts
+pub mod BuiltFunctions
+pub mod BuiltTest
 pub mod Smalls
 pub mod NumberedNames
 pub mod Blocks

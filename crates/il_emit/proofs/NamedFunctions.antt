@@ -6,6 +6,7 @@ use Rattle.std.proofs.lemmas.Bool.{and_parts}
 use Rattle.std.proofs.lemmas.Bool.Decides.{nat_tests}
 use Rattle.std.proofs.lemmas.Slice.Eq.{bytes_eq-Decides}
 use Rattle.hx_base.specs.Runtime.{lookup}
+use Rattle.hx_runtime.specs.Functions.{runtime_names}
 use Rattle.hx_runtime.specs.declared.runtime.RuntimeFunction.{RuntimeFunction}
 use Rattle.flat_code.specs.declared.program.Data.{Data}
 use Rattle.flat_code.specs.declared.program.FlatFn.{FlatFn}
@@ -13,10 +14,12 @@ use Rattle.flat_code.specs.declared.program.FlatProgram.{FlatProgram}
 use Rattle.flat_code.specs.Evaluation as flat
 use Rattle.flat_code.specs.Evaluation.{flat_begun, flat_below, framed, in_temps, cut_each, entered}
 use Rattle.flat_code.specs.Shape.{code_of}
-use Rattle.flat_code.specs.WellFormed.{IsWellFormed, how_many, deepest, is_symbol, is_identifier, is_reserved, is_main, is_main_right, is_function_right, has_no_frame, nests_within, is_built, is_right, params_have_one_class}
+use Rattle.flat_code.specs.WellFormed.{IsWellFormed, how_many, deepest, is_symbol, is_identifier, is_reserved, is_main, is_main_right, is_function_right, nests_within, is_right, params_have_one_class}
 use Rattle.il_code.specs.State as il
+use Rattle.il_emit.specs.Built.{is_built, is_function_built}
 use Rattle.il_emit.specs.Emitted.{data_item, params_of, blocks_of, function_item}
 use Rattle.il_emit.specs.Numbered.{HasFewNames}
+use Rattle.il_emit.proofs.BuiltFunctions.{is_emitted, IsFree}
 use Rattle.il_emit.proofs.Counts.{weight, sum_cons}
 
 -- ---- functions by name
@@ -109,26 +112,26 @@ items_named p w name = pick (flat.function_named p.functions name) refl
         past_globals p.globals p.globals p.functions name (omega arith)
 
 -- a function that is found
-pub record Found (globals : ℕ) (name : List ℕ) (f : FlatFn) : Type 0 where
+pub record Found (p : FlatProgram) (name : List ℕ) (f : FlatFn) : Type 0 where
   pub named : bytes_eq f.name name ≡ true
-  pub right : is_function_right globals f ≡ true
+  pub right : is_emitted p f ≡ true
   pub few : HasFewNames f
 
-pub found : (globals : ℕ) (name : List ℕ) (fs : List FlatFn) (f : FlatFn) → list_all (is_function_right globals) fs ≡ true →
-    AllByRecursion HasFewNames fs → flat.function_named fs name ≡ Some f → Found globals name f
-found globals name [] f h few e = cc
-found globals name (x ∷ fs) f h few e =
-    let k = and_parts (is_function_right globals x) (list_all (is_function_right globals) fs) h in
-    pick (bytes_eq x.name name) refl e (found globals name fs f k.1 few.1)
+pub found : (p : FlatProgram) (name : List ℕ) (fs : List FlatFn) (f : FlatFn) → list_all (is_emitted p) fs ≡ true →
+    AllByRecursion HasFewNames fs → flat.function_named fs name ≡ Some f → Found p name f
+found p name [] f h few e = cc
+found p name (x ∷ fs) f h few e =
+    let k = and_parts (is_emitted p x) (list_all (is_emitted p) fs) h in
+    pick (bytes_eq x.name name) refl e (found p name fs f k.1 few.1)
   where
     pick : (b : Bool) → bytes_eq x.name name ≡ b → (if b then Some x else flat.function_named fs name) ≡ Some f →
-        (flat.function_named fs name ≡ Some f → Found globals name f) → Found globals name f
+        (flat.function_named fs name ≡ Some f → Found p name f) → Found p name f
     pick true n e' on =
         let same : x ≡ f = cc in
-        subst (λ (z : FlatFn). Found globals name z) same
+        subst (λ (z : FlatFn). Found p name z) same
         (record {
           named = n;
-          right = (and_parts (is_function_right globals x) (list_all (is_function_right globals) fs) h).0;
+          right = (and_parts (is_emitted p x) (list_all (is_emitted p) fs) h).0;
           few =
               few.0;
         })
@@ -152,13 +155,13 @@ not_both : (b : Bool) → b ≡ true → not b ≡ true → ⊥
 not_both true e h = cc
 not_both false e h = cc
 
-pub none_named : (globals : ℕ) (fs : List FlatFn) (name : List ℕ) → list_all (is_function_right globals) fs ≡ true →
+pub none_named : (p : FlatProgram) (fs : List FlatFn) (name : List ℕ) → list_all (is_function_right p) fs ≡ true →
     is_reserved name ≡ true → flat.function_named fs name ≡ None
-none_named globals [] name h r = refl
-none_named globals (f ∷ fs) name h r = pick (bytes_eq f.name name) refl (none_named globals fs name k.1 r)
+none_named p [] name h r = refl
+none_named p (f ∷ fs) name h r = pick (bytes_eq f.name name) refl (none_named p fs name k.1 r)
   where
-    k : (is_function_right globals f ≡ true) × (list_all (is_function_right globals) fs ≡ true)
-    k = and_parts (is_function_right globals f) (list_all (is_function_right globals) fs) h
+    k : (is_function_right p f ≡ true) × (list_all (is_function_right p) fs ≡ true)
+    k = and_parts (is_function_right p f) (list_all (is_function_right p) fs) h
 
     own : not (is_reserved f.name) ≡ true
     own = (and_parts (is_identifier f.name) (not (is_reserved f.name)) (and_parts (is_symbol f.name) _ k.0).0).1
@@ -168,6 +171,9 @@ none_named globals (f ∷ fs) name h r = pick (bytes_eq f.name name) refl (none_
     pick true n on = absurd (not_both (is_reserved f.name)
         (subst (λ (s : List ℕ). is_reserved s ≡ true) (sym ((bytes_eq-Decides f.name name).0 n)) r) own)
     pick false n on = on
+
+pub free : (p : FlatProgram) → IsWellFormed p → IsFree p
+free p w name g e = none_named p p.functions name w.functions (reserved name runtime_names g refl e)
 
 -- there is a `main`
 pub main_there : (fs : List FlatFn) → list_any is_main fs ≡ true → flat.function_named fs (codes "main") ≡ None → ⊥
@@ -182,26 +188,26 @@ main_there (f ∷ fs) h e = pick (bytes_eq f.name (codes "main")) refl h e (main
 
 -- ---- one function
 
--- what its being right says
-pub record Parts (globals : ℕ) (f : FlatFn) : Type 0 where
+-- what its being emitted says
+pub record Parts (p : FlatProgram) (f : FlatFn) : Type 0 where
   pub few_params : length f.params ≤ f.temps
   pub no_frame : f.frame ≡ 0
   pub built : is_built (code_of f.body) ≡ true
-  pub code : is_right globals f 0 (code_of f.body) ≡ true
+  pub code : is_right p f 0 (code_of f.body) ≡ true
 
-pub parts : (globals : ℕ) (f : FlatFn) → is_function_right globals f ≡ true → Parts globals f
-parts globals f h =
-    let a = and_parts (is_symbol f.name) _ h in
+pub parts : (p : FlatProgram) (f : FlatFn) → is_emitted p f ≡ true → Parts p f
+parts p f h =
+    let e = and_parts (is_function_right p f) (is_function_built f) h in
+    let a = and_parts (is_symbol f.name) _ e.0 in
     let b = and_parts (is_main_right f) _ a.1 in
     let c = and_parts (nat_le (length f.params) f.temps) _ b.1 in
-    let d = and_parts (has_no_frame f) _ c.1 in
-    let e = and_parts (nests_within (code_of f.body) deepest) _ d.1 in
-    let g = and_parts (is_built (code_of f.body)) _ e.1 in
-    let i = and_parts (params_have_one_class f 0 f.params) (is_right globals f 0 (code_of f.body)) g.1 in
-    record { few_params = at_most c.0; no_frame = none d.0; built = g.0; code = i.1 }
+    let d = and_parts (nests_within (code_of f.body) deepest) _ c.1 in
+    let g = and_parts (params_have_one_class p f 0 f.params) (is_right p f 0 (code_of f.body)) d.1 in
+    let i = and_parts (f.frame == 0) (is_built (code_of f.body)) e.1 in
+    record { few_params = at_most c.0; no_frame = none i.0; built = i.1; code = g.1 }
   where
     at_most : nat_le (length f.params) f.temps ≡ true → length f.params ≤ f.temps
     at_most e = grind (arith, nat_tests)
 
-    none : has_no_frame f ≡ true → f.frame ≡ 0
+    none : (f.frame == 0) ≡ true → f.frame ≡ 0
     none e = grind (arith, nat_tests)

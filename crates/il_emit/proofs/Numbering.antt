@@ -1,5 +1,5 @@
 -- Which labels, temporaries and addresses the lines of code have.
-use Rattle.std.proofs.Common.{◌≡◌, ℕ, zero, suc, ◌+◌, ◌<◌, ◌≤◌, ◌^◌, Bool, true, false, cond, ◌&&◌, ◌||◌, List, [], ◌∷◌, ◌++◌, length, Option, None, Some, refl, ap, ◌∙◌, arith, inl, inr}
+use Rattle.std.proofs.Common.{◌≡◌, ℕ, zero, suc, ◌+◌, ◌<◌, ◌≤◌, ◌^◌, Bool, true, false, cond, ◌&&◌, ◌||◌, List, [], ◌∷◌, ◌++◌, length, Option, None, Some, refl, sym, ap, ◌∙◌, arith, inl, inr}
 use Rattle.std.specs.Prelude.{bytes_eq, nat_eq, nat_lt, ◌==◌}
 use Rattle.std.specs.List.{list_any}
 use Rattle.std.proofs.lemmas.Bool.{and_parts, cases_lt, or_cases}
@@ -8,6 +8,7 @@ use Rattle.hx_base.specs.declared.Class.{Class}
 use Rattle.hx_base.specs.declared.Class.TheVariants.{W, L}
 use Rattle.flat_code.specs.declared.program.Data.{Data}
 use Rattle.flat_code.specs.declared.program.FlatFn.{FlatFn}
+use Rattle.flat_code.specs.declared.program.FlatProgram.{FlatProgram}
 use Rattle.flat_code.specs.declared.value.Value.{Value}
 use Rattle.flat_code.specs.declared.value.Value.TheVariants.{Temp, Number, Symbol, Frame}
 use Rattle.flat_code.specs.Code.{Code, Codes, none, more, Seq, Set, Load, Store, Move, If, Loop, Leave, Call, Ret}
@@ -15,15 +16,18 @@ use Rattle.flat_code.specs.Costs.{addressed}
 use Rattle.flat_code.specs.Kinds.{op_kind, takes_two, first_class, second_class, may_give}
 use Rattle.hx_runtime.specs.Functions.{runtime_params, runtime_result, runtime_function}
 use Rattle.hx_runtime.specs.declared.runtime.RuntimeFunction.{RuntimeFunction}
+use Rattle.flat_code.specs.Evaluation.{function_named}
 use Rattle.flat_code.specs.Temps.{call_class, call_sets, code_sets, one_sets, params_set, same_class, has_one_class, is_temp_of}
-use Rattle.flat_code.specs.WellFormed.{deepest, is_built, are_built, is_operand, is_second, is_target, is_right, are_right, are_args, takes_result, is_call, is_return, is_long}
+use Rattle.flat_code.specs.WellFormed.{deepest, is_operand, is_second, is_target, is_right, are_right, are_args, takes_result, is_call, is_runtime_call, is_return, is_long}
 use Rattle.il_code.specs.declared.types.IlParam.{IlParam}
 use Rattle.il_code.specs.declared.types.Inst.{Inst}
 use Rattle.il_code.specs.declared.types.Jump.TheVariants as jump
 use Rattle.il_code.specs.Rules.{sets, result_sets, inst_sets}
 use Rattle.il_emit.specs.Names.{temp_name, address_name, label_name}
+use Rattle.il_emit.specs.Built.{is_built, are_built}
 use Rattle.il_emit.specs.Lines.{Line, Label, End, address_lines, arg_lines, return_lines, code_lines, each_lines, labels_in, labels_in_all, addresses_in, addresses_in_all, addresses_of, all_addressed, result_param}
 use Rattle.il_emit.specs.Emitted.{params_of}
+use Rattle.il_emit.proofs.BuiltFunctions.{IsFree, built_call, built_class}
 use Rattle.il_emit.proofs.Counts.{or_true, either}
 use Rattle.il_emit.proofs.NumberedNames.{bytes_same, temp_eq, label_eq}
 use Rattle.il_emit.proofs.Blocks.{tidy, tidy_append, lines_any, any_append, lines_labelled, labelled_append}
@@ -222,91 +226,92 @@ none_right : (a : Bool) → (a || false) ≡ a
 none_right true = refl
 none_right false = refl
 
-module _ (globals : List Data) (count : ℕ) (f : FlatFn) (few : f.temps < 2 ^ 64) (t : ℕ) (small : t < 2 ^ 64) (class : Class) where
+module _ (p : FlatProgram) (free : IsFree p) (f : FlatFn) (few : f.temps < 2 ^ 64) (t : ℕ) (small : t < 2 ^ 64) (class : Class) where
   abbrev here : Inst → Bool
   here i = inst_sets (temp_name t) class i
 
-  address_sets : (v : Value) (k : ℕ) → lines_any here (address_lines globals v k) ≡ false
+  address_sets : (v : Value) (k : ℕ) → lines_any here (address_lines p.globals v k) ≡ false
   address_sets (Temp u) k = refl
   address_sets (Number n) k = refl
   address_sets (Frame offset) k = refl
   address_sets (Symbol i offset) k = pick (offset == 0) refl
     where
-      pick : (b : Bool) → (offset == 0) ≡ b → lines_any here (address_lines globals (Symbol i offset) k) ≡ false
+      pick : (b : Bool) → (offset == 0) ≡ b → lines_any here (address_lines p.globals (Symbol i offset) k) ≡ false
       pick true e = rw e refl
       pick false e = rw e refl
 
-  behind : (v : Value) (k : ℕ) (ys : List Line) (b : Bool) → lines_any here ys ≡ b → lines_any here (address_lines globals v k ++ ys) ≡ b
+  behind : (v : Value) (k : ℕ) (ys : List Line) (b : Bool) → lines_any here ys ≡ b → lines_any here (address_lines p.globals v k ++ ys) ≡ b
   behind v k ys b h =
-      any_append here (address_lines globals v k) ys ∙ or_none (lines_any here (address_lines globals v k)) _ b (address_sets v k) h
+      any_append here (address_lines p.globals v k) ys ∙ or_none (lines_any here (address_lines p.globals v k)) _ b (address_sets v k) h
 
-  arg_sets : (vs : List Value) (k : ℕ) → lines_any here (arg_lines globals vs k) ≡ false
+  arg_sets : (vs : List Value) (k : ℕ) → lines_any here (arg_lines p.globals vs k) ≡ false
   arg_sets [] k = refl
   arg_sets (v ∷ vs) k = behind v k _ false (arg_sets vs (k + addressed v))
 
-  return_sets : (value : Option Value) (n k : ℕ) → lines_any here (return_lines globals value n k) ≡ false
+  return_sets : (value : Option Value) (n k : ℕ) → lines_any here (return_lines p.globals value n k) ≡ false
   return_sets None n k = refl
   return_sets (Some v) n k = behind v k _ false refl
 
-  target_sets : (u : ℕ) (c : Class) → is_target f u c ≡ true → sets (temp_name t) class (temp_name u) c ≡ is_temp_of t class u c
+  target_sets : (u : ℕ) (c : Class) → is_target p f u c ≡ true → sets (temp_name t) class (temp_name u) c ≡ is_temp_of t class u c
   target_sets u c h =
-      let p = and_parts (nat_lt u f.temps) (has_one_class f u c) h in
+      let both = and_parts (nat_lt u f.temps) (has_one_class p f u c) h in
       let lt : u < f.temps = grind (arith, nat_tests) in
       ap (λ (b : Bool). b && same_class c class) (temp_eq u t (omega arith) small)
 
-  kept_sets : (temp : Option ℕ) (given : Option Class) → takes_result f temp given ≡ true →
+  kept_sets : (temp : Option ℕ) (given : Option Class) → takes_result p f temp given ≡ true →
       result_sets (temp_name t) class (result_param temp given) ≡ call_sets t class temp given
   kept_sets None given h = refl
-  kept_sets (Some u) None h = refl
+  kept_sets (Some u) None h = cc
   kept_sets (Some u) (Some c) h = target_sets u c h
 
-  called_sets : (temp : Option ℕ) (args : List Value) (g : Option RuntimeFunction) → is_call count f temp args g ≡ true →
+  called_sets : (temp : Option ℕ) (args : List Value) (g : Option RuntimeFunction) → is_runtime_call p f temp args g ≡ true →
       result_sets (temp_name t) class (result_param temp (call_class g)) ≡ call_sets t class temp (call_class g)
   called_sets temp args None h = cc
   called_sets temp args (Some g) h =
-      kept_sets temp (runtime_result g) (and_parts (are_args count f (runtime_params g) args) (takes_result f temp (runtime_result g)) h).1
+      kept_sets temp (runtime_result g) (and_parts (are_args p f (runtime_params g) args) (takes_result p f temp (runtime_result g)) h).1
 
   mutual
-    pub code_sets_is : (c : Code) (around n k : ℕ) (es : List ℕ) → is_built c ≡ true → is_right count f around c ≡ true →
-        lines_any here (code_lines globals c n k es) ≡ code_sets t class c
+    pub code_sets_is : (c : Code) (around n k : ℕ) (es : List ℕ) → is_built c ≡ true → is_right p f around c ≡ true →
+        lines_any here (code_lines p.globals c n k es) ≡ code_sets p t class c
     code_sets_is (Seq cs) around n k es u r =
-        let p = and_parts (nat_lt around deepest) (are_right count f (suc around) cs) r in
-        any_append here (each_lines globals cs (suc n) k (es ++ n ∷ [])) (Label n ∷ []) ∙ none_right _ ∙ each_sets_is cs (suc around)
-        (suc n) k (es ++ n ∷ []) u p.1
+        let both = and_parts (nat_lt around deepest) (are_right p f (suc around) cs) r in
+        any_append here (each_lines p.globals cs (suc n) k (es ++ n ∷ [])) (Label n ∷ []) ∙ none_right _ ∙ each_sets_is cs (suc around)
+        (suc n) k (es ++ n ∷ []) u both.1
     code_sets_is (Set v c o a b) around n k es u r =
-        let p = and_parts (is_target f v c) _ r in
-        behind a k _ _ (behind b (k + addressed a) _ _ (none_right (sets (temp_name t) class (temp_name v) c) ∙ target_sets v c p.0))
+        let both = and_parts (is_target p f v c) _ r in
+        behind a k _ _ (behind b (k + addressed a) _ _ (none_right (sets (temp_name t) class (temp_name v) c) ∙ target_sets v c both.0))
     code_sets_is (Load v how at) around n k es u r = cc
     code_sets_is (Store width value at) around n k es u r = cc
     code_sets_is (Move to from bytes) around n k es u r = cc
     code_sets_is (If cond a b) around n k es u r =
-        let p = and_parts (is_operand count f W cond) (is_right count f around a && is_right count f around b) r in
-        let s = and_parts (is_right count f around a) (is_right count f around b) p.1 in
+        let both = and_parts (is_operand p f W cond) (is_right p f around a && is_right p f around b) r in
+        let s = and_parts (is_right p f around a) (is_right p f around b) both.1 in
         let v = and_parts (is_built a) (is_built b) u in
-        let B = code_lines globals b (n + 3 + labels_in a) (k + addressed cond + addresses_in a) es in
+        let B = code_lines p.globals b (n + 3 + labels_in a) (k + addressed cond + addresses_in a) es in
         behind cond k _ _
-        (any_append here (code_lines globals a (n + 3) (k + addressed cond) es) _
+        (any_append here (code_lines p.globals a (n + 3) (k + addressed cond) es) _
         ∙ either _ _ _ _ (code_sets_is a around (n + 3) (k + addressed cond) es v.0 s.0)
         (any_append here B (Label (n + 2) ∷ []) ∙ none_right (lines_any here B) ∙ code_sets_is b around (n + 3 + labels_in a)
         (k + addressed cond + addresses_in a) es v.1 s.1))
     code_sets_is (Loop c) around n k es u r =
-        let p = and_parts (nat_lt around deepest) (is_right count f (suc around) c) r in
-        any_append here (code_lines globals c (n + 2) k (es ++ (n + 1) ∷ [])) _ ∙ none_right _ ∙ code_sets_is c (suc around) (n + 2) k
-        (es ++ (n + 1) ∷ []) u p.1
+        let both = and_parts (nat_lt around deepest) (is_right p f (suc around) c) r in
+        any_append here (code_lines p.globals c (n + 2) k (es ++ (n + 1) ∷ [])) _ ∙ none_right _ ∙ code_sets_is c (suc around) (n + 2) k
+        (es ++ (n + 1) ∷ []) u both.1
     code_sets_is (Leave j) around n k es u r = refl
     code_sets_is (Call temp name args) around n k es u r =
-        any_append here (arg_lines globals args k) _ ∙ or_none (lines_any here (arg_lines globals args k)) _ _ (arg_sets args k)
-        (none_right _ ∙ called_sets temp args (runtime_function name) r)
+        any_append here (arg_lines p.globals args k) _ ∙ or_none (lines_any here (arg_lines p.globals args k)) _ _ (arg_sets args k)
+        (none_right _ ∙ called_sets temp args (runtime_function name) (built_call p free name f temp args u r)
+        ∙ ap (call_sets t class temp) (sym (built_class p free name temp args u)))
     code_sets_is (Ret value) around n k es u r = return_sets value n k
 
-    each_sets_is : (cs : Codes) (around n k : ℕ) (es : List ℕ) → are_built cs ≡ true → are_right count f around cs ≡ true →
-        lines_any here (each_lines globals cs n k es) ≡ one_sets t class cs
+    each_sets_is : (cs : Codes) (around n k : ℕ) (es : List ℕ) → are_built cs ≡ true → are_right p f around cs ≡ true →
+        lines_any here (each_lines p.globals cs n k es) ≡ one_sets p t class cs
     each_sets_is none around n k es u r = refl
     each_sets_is (more c cs) around n k es u r =
-        let p = and_parts (is_right count f around c) (are_right count f around cs) r in
+        let both = and_parts (is_right p f around c) (are_right p f around cs) r in
         let v = and_parts (is_built c) (are_built cs) u in
-        any_append here (code_lines globals c n k es) _ ∙ either _ _ _ _ (code_sets_is c around n k es v.0 p.0)
-        (each_sets_is cs around (n + labels_in c) (k + addresses_in c) es v.1 p.1)
+        any_append here (code_lines p.globals c n k es) _ ∙ either _ _ _ _ (code_sets_is c around n k es v.0 both.0)
+        (each_sets_is cs around (n + labels_in c) (k + addresses_in c) es v.1 both.1)
 
   pub params_sets_is : (at : ℕ) (cs : List Class) → at + length cs ≤ 2 ^ 64 →
       list_any (λ (p : IlParam). sets (temp_name t) class p.name p.class) (params_of at cs) ≡ params_set t class at cs
@@ -316,59 +321,61 @@ module _ (globals : List Data) (count : ℕ) (f : FlatFn) (few : f.temps < 2 ^ 6
 
 -- ---- only temporaries of the function are set
 
-module _ (count : ℕ) (f : FlatFn) (t : ℕ) (class : Class) where
-  target_below : (u : ℕ) (c : Class) → is_target f u c ≡ true → is_temp_of t class u c ≡ true → t < f.temps
+module _ (p : FlatProgram) (free : IsFree p) (f : FlatFn) (t : ℕ) (class : Class) where
+  target_below : (u : ℕ) (c : Class) → is_target p f u c ≡ true → is_temp_of t class u c ≡ true → t < f.temps
   target_below u c h e =
-      let p = and_parts (nat_lt u f.temps) (has_one_class f u c) h in
+      let both = and_parts (nat_lt u f.temps) (has_one_class p f u c) h in
       let q = and_parts (nat_eq u t) (same_class c class) e in
       let s : u ≡ t = let z = q.0 in grind (arith, nat_tests) in
-      let lt : u < f.temps = let z = p.0 in grind (arith, nat_tests) in
+      let lt : u < f.temps = let z = both.0 in grind (arith, nat_tests) in
       omega arith
 
-  kept_below : (temp : Option ℕ) (given : Option Class) → takes_result f temp given ≡ true → call_sets t class temp given ≡ true →
+  kept_below : (temp : Option ℕ) (given : Option Class) → takes_result p f temp given ≡ true → call_sets t class temp given ≡ true →
       t < f.temps
   kept_below None given h e = cc
   kept_below (Some u) None h e = cc
   kept_below (Some u) (Some c) h e = target_below u c h e
 
-  called_below : (temp : Option ℕ) (args : List Value) (g : Option RuntimeFunction) → is_call count f temp args g ≡ true →
+  called_below : (temp : Option ℕ) (args : List Value) (g : Option RuntimeFunction) → is_runtime_call p f temp args g ≡ true →
       call_sets t class temp (call_class g) ≡ true → t < f.temps
   called_below temp args None h e = cc
   called_below temp args (Some g) h e = kept_below temp (runtime_result g)
-      (and_parts (are_args count f (runtime_params g) args) (takes_result f temp (runtime_result g)) h).1 e
+      (and_parts (are_args p f (runtime_params g) args) (takes_result p f temp (runtime_result g)) h).1 e
 
   mutual
-    pub code_below : (c : Code) (around : ℕ) → is_built c ≡ true → is_right count f around c ≡ true → code_sets t class c ≡ true →
+    pub code_below : (c : Code) (around : ℕ) → is_built c ≡ true → is_right p f around c ≡ true → code_sets p t class c ≡ true →
         t < f.temps
     code_below (Seq cs) around u r e =
-        each_below cs (suc around) u (and_parts (nat_lt around deepest) (are_right count f (suc around) cs) r).1 e
-    code_below (Set v c o a b) around u r e = target_below v c (and_parts (is_target f v c) _ r).0 e
+        each_below cs (suc around) u (and_parts (nat_lt around deepest) (are_right p f (suc around) cs) r).1 e
+    code_below (Set v c o a b) around u r e = target_below v c (and_parts (is_target p f v c) _ r).0 e
     code_below (Load v how at) around u r e = cc
     code_below (Store width value at) around u r e = cc
     code_below (Move to from bytes) around u r e = cc
     code_below (If cond a b) around u r e =
-        let p = and_parts (is_operand count f W cond) (is_right count f around a && is_right count f around b) r in
-        let s = and_parts (is_right count f around a) (is_right count f around b) p.1 in
+        let both = and_parts (is_operand p f W cond) (is_right p f around a && is_right p f around b) r in
+        let s = and_parts (is_right p f around a) (is_right p f around b) both.1 in
         let v = and_parts (is_built a) (is_built b) u in
-        elim (or_cases (code_sets t class a) (code_sets t class b) e) [
+        elim (or_cases (code_sets p t class a) (code_sets p t class b) e) [
           | inl h ↦ code_below a around v.0 s.0 h
           | inr h ↦ code_below b around v.1 s.1 h
         ]
     code_below (Loop c) around u r e =
-        code_below c (suc around) u (and_parts (nat_lt around deepest) (is_right count f (suc around) c) r).1 e
+        code_below c (suc around) u (and_parts (nat_lt around deepest) (is_right p f (suc around) c) r).1 e
     code_below (Leave j) around u r e = cc
-    code_below (Call temp name args) around u r e = called_below temp args (runtime_function name) r e
+    code_below (Call temp name args) around u r e =
+        called_below temp args (runtime_function name) (built_call p free name f temp args u r)
+        (sym (ap (call_sets t class temp) (built_class p free name temp args u)) ∙ e)
     code_below (Ret value) around u r e = cc
 
-    each_below : (cs : Codes) (around : ℕ) → are_built cs ≡ true → are_right count f around cs ≡ true → one_sets t class cs ≡ true →
+    each_below : (cs : Codes) (around : ℕ) → are_built cs ≡ true → are_right p f around cs ≡ true → one_sets p t class cs ≡ true →
         t < f.temps
     each_below none around u r e = cc
     each_below (more c cs) around u r e =
-        let p = and_parts (is_right count f around c) (are_right count f around cs) r in
+        let both = and_parts (is_right p f around c) (are_right p f around cs) r in
         let v = and_parts (is_built c) (are_built cs) u in
-        elim (or_cases (code_sets t class c) (one_sets t class cs) e) [
-          | inl h ↦ code_below c around v.0 p.0 h
-          | inr h ↦ each_below cs around v.1 p.1 h
+        elim (or_cases (code_sets p t class c) (one_sets p t class cs) e) [
+          | inl h ↦ code_below c around v.0 both.0 h
+          | inr h ↦ each_below cs around v.1 both.1 h
         ]
 
   pub params_below : (at : ℕ) (cs : List Class) → params_set t class at cs ≡ true → t < at + length cs
@@ -380,7 +387,7 @@ module _ (count : ℕ) (f : FlatFn) (t : ℕ) (class : Class) where
 
 -- ---- each address that is used is computed
 
-module _ (globals : List Data) (count : ℕ) (f : FlatFn) (empty : f.frame ≡ 0) (x : ℕ) where
+module _ (p : FlatProgram) (f : FlatFn) (empty : f.frame ≡ 0) (x : ℕ) where
   abbrev computes : Inst → Bool
   computes i = inst_sets (address_name x) L i
 
@@ -390,102 +397,108 @@ module _ (globals : List Data) (count : ℕ) (f : FlatFn) (empty : f.frame ≡ 0
   right : (xs ys : List Line) → lines_any computes ys ≡ true → lines_any computes (xs ++ ys) ≡ true
   right xs ys h = any_append computes xs ys ∙ or_true (lines_any computes xs) (lines_any computes ys) h
 
-  address_there : (class : Class) (v : Value) (k : ℕ) → is_operand count f class v ≡ true → k ≤ x → x < k + addressed v →
-      lines_any computes (address_lines globals v k) ≡ true
+  address_there : (class : Class) (v : Value) (k : ℕ) → is_operand p f class v ≡ true → k ≤ x → x < k + addressed v →
+      lines_any computes (address_lines p.globals v k) ≡ true
   address_there class (Temp t) k r l u = absurd (omega arith)
   address_there class (Number n) k r l u = absurd (omega arith)
   address_there class (Frame offset) k r l u =
-      let p = (and_parts (is_long class) (nat_lt offset f.frame) r).1 in
+      let both = (and_parts (is_long class) (nat_lt offset f.frame) r).1 in
       absurd (grind (arith, nat_tests))
   address_there class (Symbol i offset) k r l u = pick (offset == 0) refl
     where
-      pick : (b : Bool) → (offset == 0) ≡ b → lines_any computes (address_lines globals (Symbol i offset) k) ≡ true
+      pick : (b : Bool) → (offset == 0) ≡ b → lines_any computes (address_lines p.globals (Symbol i offset) k) ≡ true
       pick true e = let lt : x < k + 0 = rw e at u in absurd (omega arith)
       pick false e =
           let lt : x < k + 1 = rw e at u in
           let s : k ≡ x = omega arith in
           rw (e, s) (ap (λ (b : Bool). (b && true) || false) (bytes_same (address_name x)))
 
-  args_there : (cs : List Class) (vs : List Value) (k : ℕ) → are_args count f cs vs ≡ true → k ≤ x → x < k + all_addressed vs →
-      lines_any computes (arg_lines globals vs k) ≡ true
+  args_there : (cs : List Class) (vs : List Value) (k : ℕ) → are_args p f cs vs ≡ true → k ≤ x → x < k + all_addressed vs →
+      lines_any computes (arg_lines p.globals vs k) ≡ true
   args_there [] [] k r l u = absurd (omega arith)
   args_there [] (v ∷ vs) k r l u = cc
   args_there (c ∷ cs) [] k r l u = absurd (omega arith)
   args_there (c ∷ cs) (v ∷ vs) k r l u =
-      let p = and_parts (is_operand count f c v) (are_args count f cs vs) r in
+      let both = and_parts (is_operand p f c v) (are_args p f cs vs) r in
       elim (cases_lt x (k + addressed v)) [
-        | inl h ↦ left (address_lines globals v k) _ (address_there c v k p.0 l h)
-        | inr h ↦ right (address_lines globals v k) _ (args_there cs vs (k + addressed v) p.1 h (omega arith))
+        | inl h ↦ left (address_lines p.globals v k) _ (address_there c v k both.0 l h)
+        | inr h ↦ right (address_lines p.globals v k) _ (args_there cs vs (k + addressed v) both.1 h (omega arith))
       ]
 
-  called_there : (temp : Option ℕ) (args : List Value) (k : ℕ) (g : Option RuntimeFunction) → is_call count f temp args g ≡ true → k ≤ x →
-      x < k + all_addressed args → lines_any computes (arg_lines globals args k) ≡ true
-  called_there temp args k None r l u = cc
-  called_there temp args k (Some g) r l u = args_there (runtime_params g) args k
-      (and_parts (are_args count f (runtime_params g) args) (takes_result f temp (runtime_result g)) r).0 l u
+  runtime_there : (temp : Option ℕ) (args : List Value) (k : ℕ) (g : Option RuntimeFunction) → is_runtime_call p f temp args g ≡ true →
+      k ≤ x → x < k + all_addressed args → lines_any computes (arg_lines p.globals args k) ≡ true
+  runtime_there temp args k None r l u = cc
+  runtime_there temp args k (Some g) r l u = args_there (runtime_params g) args k
+      (and_parts (are_args p f (runtime_params g) args) (takes_result p f temp (runtime_result g)) r).0 l u
 
-  second_there : (class : Class) (two : Bool) (v : Value) (k : ℕ) → is_second count f class two v ≡ true → k ≤ x → x < k + addressed v →
-      lines_any computes (address_lines globals v k) ≡ true
+  called_there : (temp : Option ℕ) (name : List ℕ) (args : List Value) (k : ℕ) (g : Option FlatFn) →
+      is_call p f temp name args g ≡ true → k ≤ x → x < k + all_addressed args → lines_any computes (arg_lines p.globals args k) ≡ true
+  called_there temp name args k None r l u = runtime_there temp args k (runtime_function name) r l u
+  called_there temp name args k (Some g) r l u =
+      args_there g.params args k (and_parts (are_args p f g.params args) (takes_result p f temp g.result) r).0 l u
+
+  second_there : (class : Class) (two : Bool) (v : Value) (k : ℕ) → is_second p f class two v ≡ true → k ≤ x → x < k + addressed v →
+      lines_any computes (address_lines p.globals v k) ≡ true
   second_there class true v k r l u = address_there class v k r l u
   second_there class false (Temp t) k r l u = cc
   second_there class false (Number n) k r l u = absurd (omega arith)
   second_there class false (Symbol i offset) k r l u = cc
   second_there class false (Frame offset) k r l u = cc
 
-  return_there : (class : Option Class) (value : Option Value) (n k : ℕ) → is_return count f class value ≡ true → k ≤ x →
-      x < k + addresses_of value → lines_any computes (return_lines globals value n k) ≡ true
+  return_there : (class : Option Class) (value : Option Value) (n k : ℕ) → is_return p f class value ≡ true → k ≤ x →
+      x < k + addresses_of value → lines_any computes (return_lines p.globals value n k) ≡ true
   return_there class None n k r l u = absurd (omega arith)
   return_there None (Some v) n k r l u = cc
-  return_there (Some c) (Some v) n k r l u = left (address_lines globals v k) _ (address_there c v k r l u)
+  return_there (Some c) (Some v) n k r l u = left (address_lines p.globals v k) _ (address_there c v k r l u)
 
   mutual
-    pub code_there : (c : Code) (around n k : ℕ) (es : List ℕ) → is_right count f around c ≡ true → k ≤ x → x < k + addresses_in c →
-        lines_any computes (code_lines globals c n k es) ≡ true
-    code_there (Seq cs) around n k es r l u = left (each_lines globals cs (suc n) k (es ++ n ∷ [])) (Label n ∷ [])
-        (each_there cs (suc around) (suc n) k (es ++ n ∷ []) (and_parts (nat_lt around deepest) (are_right count f (suc around) cs) r).1 l
+    pub code_there : (c : Code) (around n k : ℕ) (es : List ℕ) → is_right p f around c ≡ true → k ≤ x → x < k + addresses_in c →
+        lines_any computes (code_lines p.globals c n k es) ≡ true
+    code_there (Seq cs) around n k es r l u = left (each_lines p.globals cs (suc n) k (es ++ n ∷ [])) (Label n ∷ [])
+        (each_there cs (suc around) (suc n) k (es ++ n ∷ []) (and_parts (nat_lt around deepest) (are_right p f (suc around) cs) r).1 l
         u)
     code_there (Set t class o a b) around n k es r l u =
-        let p = and_parts (is_target f t class) _ r in
-        let q = and_parts (may_give (op_kind o) class) _ p.1 in
-        let s = and_parts (is_operand count f (first_class (op_kind o) class) a)
-        (is_second count f (second_class (op_kind o) class) (takes_two (op_kind o)) b) q.1 in
+        let both = and_parts (is_target p f t class) _ r in
+        let q = and_parts (may_give (op_kind o) class) _ both.1 in
+        let s = and_parts (is_operand p f (first_class (op_kind o) class) a)
+        (is_second p f (second_class (op_kind o) class) (takes_two (op_kind o)) b) q.1 in
         elim (cases_lt x (k + addressed a)) [
-          | inl h ↦ left (address_lines globals a k) _ (address_there (first_class (op_kind o) class) a k s.0 l h)
-          | inr h ↦ right (address_lines globals a k) _
-              (left (address_lines globals b (k + addressed a)) _
+          | inl h ↦ left (address_lines p.globals a k) _ (address_there (first_class (op_kind o) class) a k s.0 l h)
+          | inr h ↦ right (address_lines p.globals a k) _
+              (left (address_lines p.globals b (k + addressed a)) _
               (second_there (second_class (op_kind o) class) (takes_two (op_kind o)) b (k + addressed a) s.1 h (omega arith)))
         ]
     code_there (Load t how at) around n k es r l u = absurd (omega arith)
     code_there (Store width value at) around n k es r l u = absurd (omega arith)
     code_there (Move to from bytes) around n k es r l u = absurd (omega arith)
     code_there (If cond a b) around n k es r l u =
-        let p = and_parts (is_operand count f W cond) (is_right count f around a && is_right count f around b) r in
-        let s = and_parts (is_right count f around a) (is_right count f around b) p.1 in
-        let A = code_lines globals a (n + 3) (k + addressed cond) es in
-        let B = code_lines globals b (n + 3 + labels_in a) (k + addressed cond + addresses_in a) es in
+        let both = and_parts (is_operand p f W cond) (is_right p f around a && is_right p f around b) r in
+        let s = and_parts (is_right p f around a) (is_right p f around b) both.1 in
+        let A = code_lines p.globals a (n + 3) (k + addressed cond) es in
+        let B = code_lines p.globals b (n + 3 + labels_in a) (k + addressed cond + addresses_in a) es in
         elim (cases_lt x (k + addressed cond)) [
-          | inl h ↦ left (address_lines globals cond k) _ (address_there W cond k p.0 l h)
-          | inr h ↦ right (address_lines globals cond k) _ (elim (cases_lt x (k + addressed cond + addresses_in a)) [
+          | inl h ↦ left (address_lines p.globals cond k) _ (address_there W cond k both.0 l h)
+          | inr h ↦ right (address_lines p.globals cond k) _ (elim (cases_lt x (k + addressed cond + addresses_in a)) [
             | inl i ↦ left A _ (code_there a around (n + 3) (k + addressed cond) es s.0 h i)
             | inr i ↦ right A _ (left B _ (code_there b around (n + 3 + labels_in a) (k + addressed cond + addresses_in a) es s.1 i
                 (omega arith)))
           ])
         ]
-    code_there (Loop c) around n k es r l u = left (code_lines globals c (n + 2) k (es ++ (n + 1) ∷ [])) _
-        (code_there c (suc around) (n + 2) k (es ++ (n + 1) ∷ []) (and_parts (nat_lt around deepest) (is_right count f (suc around) c) r).1
+    code_there (Loop c) around n k es r l u = left (code_lines p.globals c (n + 2) k (es ++ (n + 1) ∷ [])) _
+        (code_there c (suc around) (n + 2) k (es ++ (n + 1) ∷ []) (and_parts (nat_lt around deepest) (is_right p f (suc around) c) r).1
         l u)
     code_there (Leave j) around n k es r l u = absurd (omega arith)
     code_there (Call temp name args) around n k es r l u =
-        left (arg_lines globals args k) _ (called_there temp args k (runtime_function name) r l u)
+        left (arg_lines p.globals args k) _ (called_there temp name args k (function_named p.functions name) r l u)
     code_there (Ret value) around n k es r l u = return_there f.result value n k r l u
 
-    each_there : (cs : Codes) (around n k : ℕ) (es : List ℕ) → are_right count f around cs ≡ true → k ≤ x → x < k + addresses_in_all cs →
-        lines_any computes (each_lines globals cs n k es) ≡ true
+    each_there : (cs : Codes) (around n k : ℕ) (es : List ℕ) → are_right p f around cs ≡ true → k ≤ x → x < k + addresses_in_all cs →
+        lines_any computes (each_lines p.globals cs n k es) ≡ true
     each_there none around n k es r l u = absurd (omega arith)
     each_there (more c cs) around n k es r l u =
-        let p = and_parts (is_right count f around c) (are_right count f around cs) r in
+        let both = and_parts (is_right p f around c) (are_right p f around cs) r in
         elim (cases_lt x (k + addresses_in c)) [
-          | inl h ↦ left (code_lines globals c n k es) _ (code_there c around n k es p.0 l h)
-          | inr h ↦ right (code_lines globals c n k es) _
-              (each_there cs around (n + labels_in c) (k + addresses_in c) es p.1 h (omega arith))
+          | inl h ↦ left (code_lines p.globals c n k es) _ (code_there c around n k es both.0 l h)
+          | inr h ↦ right (code_lines p.globals c n k es) _
+              (each_there cs around (n + labels_in c) (k + addresses_in c) es both.1 h (omega arith))
         ]

@@ -80,7 +80,7 @@ own_address fill k v temps = rw (bytes_same (address_name k)) refl
 pub record Setting (p : FlatProgram) (f : FlatFn) (m : Module) : Type 0 where
   pub no_frame : f.frame ≡ 0
   pub few_temps : f.temps < 2 ^ 64
-  pub set_below : (t : ℕ) (class : Class) → is_set f t class ≡ true → t < f.temps
+  pub set_below : (t : ℕ) (class : Class) → is_set p f t class ≡ true → t < f.temps
   pub address : (i : ℕ) → i < length p.globals → address m (name_at p.globals i) ≡ address_at p i
   pub address_fits : (i : ℕ) → i < length p.globals → address_at p i < 2 ^ 64
   pub no_function : (name : List ℕ) (g : RuntimeFunction) → runtime_function name ≡ Some g → function_named p.functions name ≡ None
@@ -111,7 +111,7 @@ module _ (p : FlatProgram) (f : FlatFn) (m : Module) (set : Setting p f m) (call
   symbol_steps false i offset k ls w c = refl
 
   pub address_steps : (class : Class) (v : Value) (k : ℕ) (ls : List Line) (w : World) (c : Mark) →
-      is_operand (length p.globals) f class v ≡ true
+      is_operand p f class v ≡ true
       → after_steps m (addressed v) (run_at (address_lines p.globals v k ++ ls) w c) ≡ run_at ls w (behind_address v k c)
   address_steps class (Temp t) k ls w c r = refl
   address_steps class (Number n) k ls w c r = refl
@@ -171,15 +171,15 @@ module _ (p : FlatProgram) (f : FlatFn) (m : Module) (set : Setting p f m) (call
   pub record Ready (s : flat.State) (v : Value) (k : ℕ) (temps : Temps) : Type 0 where
     pub value : worth m s.world temps (operand p.globals v k) ≡ flat.value_of p s v
 
-  temp_ready : (s : flat.State) (class : Class) (t k : ℕ) (temps : Temps) → is_operand (length p.globals) f class (Temp t) ≡ true →
+  temp_ready : (s : flat.State) (class : Class) (t k : ℕ) (temps : Temps) → is_operand p f class (Temp t) ≡ true →
       Same s.temps temps → Ready s (Temp t) k temps
   temp_ready s class t k temps r h = record { value = h.at s.world.memory.fill t small }
     where
-      some_class : (c : Class) → is_operand (length p.globals) f c (Temp t) ≡ true → t < f.temps
-      some_class L e = set.set_below t L (and_parts (is_set f t L) _ e).0
-      some_class W e = pick (is_set f t W) refl e
+      some_class : (c : Class) → is_operand p f c (Temp t) ≡ true → t < f.temps
+      some_class L e = set.set_below t L (and_parts (is_set p f t L) _ e).0
+      some_class W e = pick (is_set p f t W) refl e
         where
-          pick : (b : Bool) → is_set f t W ≡ b → (b || is_set f t L) ≡ true → t < f.temps
+          pick : (b : Bool) → is_set p f t W ≡ b → (b || is_set p f t L) ≡ true → t < f.temps
           pick true q u = set.set_below t W q
           pick false q u = set.set_below t L u
 
@@ -197,7 +197,7 @@ module _ (p : FlatProgram) (f : FlatFn) (m : Module) (set : Setting p f m) (call
       own_address s.world.memory.fill k _ c.temps ∙ ap (λ (x : ℕ). (x + offset) % 2 ^ 64) (set.address i h)
 
   -- behind its lines it is ready
-  pub operand_ready : (s : flat.State) (class : Class) (v : Value) (k : ℕ) (c : Mark) → is_operand (length p.globals) f class v ≡ true →
+  pub operand_ready : (s : flat.State) (class : Class) (v : Value) (k : ℕ) (c : Mark) → is_operand p f class v ≡ true →
       Same s.temps c.temps → Ready s v k (behind_address v k c).temps
   operand_ready s class (Temp t) k c r h = temp_ready s class t k c.temps r h
   operand_ready s class (Number n) k c r h = record { value = refl }
@@ -218,7 +218,7 @@ module _ (p : FlatProgram) (f : FlatFn) (m : Module) (set : Setting p f m) (call
   symbol_stays false w i k k' c c' l h = h.kept w.memory.fill k (omega arith)
 
   -- it stays ready behind the lines of other operands
-  pub stays_ready : (s : flat.State) (class : Class) (v : Value) (k k' : ℕ) (c c' : Mark) → is_operand (length p.globals) f class v ≡ true →
+  pub stays_ready : (s : flat.State) (class : Class) (v : Value) (k k' : ℕ) (c c' : Mark) → is_operand p f class v ≡ true →
       Same s.temps c'.temps → k + addressed v ≤ k' → Keeps k' c c' → Ready s v k c.temps → Ready s v k c'.temps
   stays_ready s class (Temp t) k k' c c' r h l u g = temp_ready s class t k c'.temps r h
   stays_ready s class (Number n) k k' c c' r h l u g = record { value = refl }
@@ -237,12 +237,12 @@ module _ (p : FlatProgram) (f : FlatFn) (m : Module) (set : Setting p f m) (call
   behind_args (v ∷ vs) k c = behind_args vs (k + addressed v) (behind_address v k c)
 
   pub arg_steps : (cs : List Class) (vs : List Value) (k : ℕ) (ls : List Line) (w : World) (c : Mark) →
-      are_args (length p.globals) f cs vs ≡ true
+      are_args p f cs vs ≡ true
       → after_steps m (all_addressed vs) (run_at (arg_lines p.globals vs k ++ ls) w c) ≡ run_at ls w (behind_args vs k c)
   arg_steps cs [] k ls w c r = refl
   arg_steps [] (v ∷ vs) k ls w c r = cc
   arg_steps (d ∷ cs) (v ∷ vs) k ls w c r =
-      let q = and_parts (is_operand (length p.globals) f d v) (are_args (length p.globals) f cs vs) r in
+      let q = and_parts (is_operand p f d v) (are_args p f cs vs) r in
       let rest = arg_lines p.globals vs (k + addressed v) in
       ap (λ (x : List Line). after_steps m (addressed v + all_addressed vs) (run_at x w c))
       (append_assoc (address_lines p.globals v k) rest ls)
@@ -270,7 +270,7 @@ module _ (p : FlatProgram) (f : FlatFn) (m : Module) (set : Setting p f m) (call
       record { kept = λ fill j l. b.kept fill j (omega arith) ∙ a.kept fill j l }
 
   -- the values of all arguments
-  pub args_ready : (s : flat.State) (cs : List Class) (vs : List Value) (k : ℕ) (c : Mark) → are_args (length p.globals) f cs vs ≡ true →
+  pub args_ready : (s : flat.State) (cs : List Class) (vs : List Value) (k : ℕ) (c : Mark) → are_args p f cs vs ≡ true →
       k + all_addressed vs < 2 ^ 64 → Same s.temps c.temps
       → map (λ (a : IlArg). cut a.class (worth m s.world (behind_args vs k c).temps a.value)) (args_of p.globals cs vs k) ≡ cut_each cs
       (map (flat.value_of p s) vs)
@@ -278,7 +278,7 @@ module _ (p : FlatProgram) (f : FlatFn) (m : Module) (set : Setting p f m) (call
   args_ready s [] (v ∷ vs) k c r l h = cc
   args_ready s (d ∷ cs) [] k c r l h = cc
   args_ready s (d ∷ cs) (v ∷ vs) k c r l h =
-      let q = and_parts (is_operand (length p.globals) f d v) (are_args (length p.globals) f cs vs) r in
+      let q = and_parts (is_operand p f d v) (are_args p f cs vs) r in
       let same = address_same v k c s.temps h in
       let keeps = args_keep vs (k + addressed v) (behind_address v k c) (omega arith) in
       let ready = stays_ready s d v k (k + addressed v) (behind_address v k c) (behind_args vs (k + addressed v) (behind_address v k c)) q.0

@@ -7,8 +7,8 @@ use Rattle.std.proofs.lemmas.Bool.Decides.{nat_tests}
 use Rattle.hx_base.specs.declared.Class.{Class}
 use Rattle.hx_base.specs.declared.Class.TheVariants.{W, L}
 use Rattle.flat_code.specs.declared.op.Op.{Op}
-use Rattle.flat_code.specs.declared.program.Data.{Data}
 use Rattle.flat_code.specs.declared.program.FlatFn.{FlatFn}
+use Rattle.flat_code.specs.declared.program.FlatProgram.{FlatProgram}
 use Rattle.flat_code.specs.declared.value.Value.{Value}
 use Rattle.flat_code.specs.declared.value.Value.TheVariants.{Temp, Number, Symbol, Frame}
 use Rattle.flat_code.specs.Code.{Set}
@@ -18,7 +18,8 @@ use Rattle.hx_runtime.specs.Functions.{runtime_params, runtime_result, runtime_f
 use Rattle.hx_runtime.specs.declared.runtime.RuntimeFunction.{RuntimeFunction}
 use Rattle.flat_code.specs.Temps.{call_class, other_class, has_one_class}
 use Rattle.flat_code.specs.Temps as flat
-use Rattle.flat_code.specs.WellFormed.{is_bits, is_operand, is_second, is_target, is_right, are_args, takes_result, is_call, is_return, is_long}
+use Rattle.flat_code.specs.WellFormed.{is_bits, is_operand, is_second, is_target, is_right, are_args, takes_result, is_return, is_long}
+use Rattle.flat_code.specs.WellFormed as well
 use Rattle.il_code.specs.declared.types.Block.{Block}
 use Rattle.il_code.specs.declared.types.IlArg.{IlArg}
 use Rattle.il_code.specs.declared.types.IlItem.{IlItem}
@@ -59,19 +60,19 @@ good_label most n = nat_lt n most
 
 -- ---- what is known of the names of a function
 
-pub record Names (globals : List Data) (f : FlatFn) (items : List IlItem) (params : List IlParam) (blocks : List Block)
+pub record Names (p : FlatProgram) (f : FlatFn) (items : List IlItem) (params : List IlParam) (blocks : List Block)
     (most_labels most_addresses : ℕ) : Type 0 where
   pub few_labels : most_labels ≤ 2 ^ 64
   pub few_addresses : most_addresses ≤ 2 ^ 64
   pub few_temps : f.temps < 2 ^ 64
   pub no_frame : f.frame ≡ 0
-  pub set_is : (t : ℕ) (class : Class) → t < f.temps → is_set params blocks (temp_name t) class ≡ flat.is_set f t class
-  pub below : (t : ℕ) (class : Class) → flat.is_set f t class ≡ true → t < f.temps
+  pub set_is : (t : ℕ) (class : Class) → t < f.temps → is_set params blocks (temp_name t) class ≡ flat.is_set p f t class
+  pub below : (t : ℕ) (class : Class) → flat.is_set p f t class ≡ true → t < f.temps
   pub computed : (k : ℕ) → k < most_addresses → is_set params blocks (address_name k) L ≡ true
   pub no_word : (k : ℕ) → is_set params blocks (address_name k) W ≡ false
   pub labels : (n : ℕ) → n < most_labels → has_label blocks (label_name n) ≡ true
-  pub identifiers : (i : ℕ) → i < length globals → is_identifier (name_at globals i) ≡ true
-  pub symbols : (i : ℕ) → i < length globals → has_named item_name (name_at globals i) items ≡ true
+  pub identifiers : (i : ℕ) → i < length p.globals → is_identifier (name_at p.globals i) ≡ true
+  pub symbols : (i : ℕ) → i < length p.globals → has_named item_name (name_at p.globals i) items ≡ true
   pub no_code : (name : List ℕ) (g : RuntimeFunction) → runtime_function name ≡ Some g → function_named items name ≡ None
 
 pub record ArgsFine (items : List IlItem) (params : List IlParam) (blocks : List Block) (classes : List Class) (args : List IlArg) : Type
@@ -93,8 +94,8 @@ class_same L = refl
 one_only : (a b c d : Bool) → a ≡ c → b ≡ d → (a && not b) ≡ (c && not d)
 one_only a b c d h k = rw (h, k) refl
 
-module _ (globals : List Data) (f : FlatFn) (items : List IlItem) (params : List IlParam) (blocks : List Block)
-    (most_labels most_addresses : ℕ) (n : Names globals f items params blocks most_labels most_addresses) where
+module _ (p : FlatProgram) (f : FlatFn) (items : List IlItem) (params : List IlParam) (blocks : List Block)
+    (most_labels most_addresses : ℕ) (n : Names p f items params blocks most_labels most_addresses) where
   -- ---- operands
 
   abbrev Fine : Class → IlValue → Type 0
@@ -105,78 +106,78 @@ module _ (globals : List Data) (f : FlatFn) (items : List IlItem) (params : List
       let few = n.few_addresses in
       (address_identifier k (omega arith), one_only _ _ true false (n.computed k h) (n.no_word k))
 
-  operand_fine : (class : Class) (v : Value) (k : ℕ) → is_operand (length globals) f class v ≡ true → k + addressed v ≤ most_addresses →
-      Fine class (operand globals v k)
+  operand_fine : (class : Class) (v : Value) (k : ℕ) → is_operand p f class v ≡ true → k + addressed v ≤ most_addresses →
+      Fine class (operand p.globals v k)
   operand_fine class (Number m) k r u = (r, refl)
   operand_fine W (Temp t) k r u =
-      let lt : t < f.temps = elim (or_cases (flat.is_set f t W) (flat.is_set f t L) r) [ inl h ↦ n.below t W h | inr h ↦ n.below t L h ] in
+      let lt : t < f.temps = elim (or_cases (flat.is_set p f t W) (flat.is_set p f t L) r) [ inl h ↦ n.below t W h | inr h ↦ n.below t L h ] in
       let few = n.few_temps in
       (temp_identifier t (omega arith), either _ _ _ _ (n.set_is t W lt) (n.set_is t L lt) ∙ r)
   operand_fine L (Temp t) k r u =
-      let lt : t < f.temps = n.below t L (and_parts (flat.is_set f t L) (not (flat.is_set f t W)) r).0 in
+      let lt : t < f.temps = n.below t L (and_parts (flat.is_set p f t L) (not (flat.is_set p f t W)) r).0 in
       let few = n.few_temps in
       (temp_identifier t (omega arith), one_only _ _ _ _ (n.set_is t L lt) (n.set_is t W lt) ∙ r)
   operand_fine W (Symbol i offset) k r u = cc
   operand_fine L (Symbol i offset) k r u = pick (offset == 0) refl
     where
-      pick : (b : Bool) → (offset == 0) ≡ b → Fine L (operand globals (Symbol i offset) k)
+      pick : (b : Bool) → (offset == 0) ≡ b → Fine L (operand p.globals (Symbol i offset) k)
       pick true e =
-          let p = and_parts (nat_lt i (length globals)) (is_bits offset) r in
-          let lt : i < length globals = let z = p.0 in grind (arith, nat_tests) in
-          let s : operand globals (Symbol i offset) k ≡ value.Symbol (name_at globals i) = rw e refl in
+          let both = and_parts (nat_lt i (length p.globals)) (is_bits offset) r in
+          let lt : i < length p.globals = let z = both.0 in grind (arith, nat_tests) in
+          let s : operand p.globals (Symbol i offset) k ≡ value.Symbol (name_at p.globals i) = rw e refl in
           subst (Fine L) (sym s) (n.identifiers i lt, n.symbols i lt)
       pick false e =
           let room : k + 1 ≤ most_addresses = rw e at u in
-          let s : operand globals (Symbol i offset) k ≡ value.Temp (address_name k) = rw e refl in
+          let s : operand p.globals (Symbol i offset) k ≡ value.Temp (address_name k) = rw e refl in
           subst (Fine L) (sym s) (address_fine k (omega arith))
   operand_fine class (Frame offset) k r u =
-      let p = (and_parts (is_long class) (nat_lt offset f.frame) r).1 in
+      let both = (and_parts (is_long class) (nat_lt offset f.frame) r).1 in
       let z = n.no_frame in
       absurd (grind (arith, nat_tests))
 
   -- ---- single instructions
 
-  target_fine : (t : ℕ) (class : Class) → is_target f t class ≡ true → (is_identifier (temp_name t) ≡ true) ×
+  target_fine : (t : ℕ) (class : Class) → is_target p f t class ≡ true → (is_identifier (temp_name t) ≡ true) ×
       (rule.has_one_class params blocks (temp_name t) class ≡ true)
   target_fine t class h =
-      let p = and_parts (nat_lt t f.temps) (has_one_class f t class) h in
-      let lt : t < f.temps = let z = p.0 in grind (arith, nat_tests) in
+      let both = and_parts (nat_lt t f.temps) (has_one_class p f t class) h in
+      let lt : t < f.temps = let z = both.0 in grind (arith, nat_tests) in
       let few = n.few_temps in
-      (temp_identifier t (omega arith), ap not (n.set_is t (other_class class) lt) ∙ p.1)
+      (temp_identifier t (omega arith), ap not (n.set_is t (other_class class) lt) ∙ both.1)
 
   abbrev SecondFine : Class → Bool → Option IlValue → Type 0
   SecondFine class two v = (shape.is_second two v ≡ true) × (second_is_right items params blocks class v ≡ true)
 
-  second_fine : (class : Class) (two : Bool) (v : Value) (k : ℕ) → is_second (length globals) f class two v ≡ true →
-      k + addressed v ≤ most_addresses → SecondFine class two (second two (operand globals v k))
+  second_fine : (class : Class) (two : Bool) (v : Value) (k : ℕ) → is_second p f class two v ≡ true →
+      k + addressed v ≤ most_addresses → SecondFine class two (second two (operand p.globals v k))
   second_fine class true v k r u = operand_fine class v k r u
   second_fine class false v k r u = (refl, refl)
 
   abbrev good : Inst → Type 0
   good i = good_inst items params blocks f.result i ≡ true
 
-  set_good : (t : ℕ) (class : Class) (o : Op) (a b : Value) (k : ℕ) → is_right (length globals) f 0 (Set t class o a b) ≡ true →
+  set_good : (t : ℕ) (class : Class) (o : Op) (a b : Value) (k : ℕ) → is_right p f 0 (Set t class o a b) ≡ true →
       k + addressed a + addressed b ≤ most_addresses
-      → good (inst.Set (temp_name t) class (il_op o) (operand globals a k)
-      (second (takes_two (op_kind o)) (operand globals b (k + addressed a))))
+      → good (inst.Set (temp_name t) class (il_op o) (operand p.globals a k)
+      (second (takes_two (op_kind o)) (operand p.globals b (k + addressed a))))
   set_good t class o a b k r u =
-      let p = and_parts (is_target f t class) _ r in
-      let q = and_parts (may_give (op_kind o) class) _ p.1 in
-      let s = and_parts (is_operand (length globals) f (first_class (op_kind o) class) a)
-      (is_second (length globals) f (second_class (op_kind o) class) (takes_two (op_kind o)) b) q.1 in
-      let to = target_fine t class p.0 in
+      let both = and_parts (is_target p f t class) _ r in
+      let q = and_parts (may_give (op_kind o) class) _ both.1 in
+      let s = and_parts (is_operand p f (first_class (op_kind o) class) a)
+      (is_second p f (second_class (op_kind o) class) (takes_two (op_kind o)) b) q.1 in
+      let to = target_fine t class both.0 in
       let one = operand_fine (first_class (op_kind o) class) a k s.0 (omega arith) in
       let two = second_fine (second_class (op_kind o) class) (takes_two (op_kind o)) b (k + addressed a) s.1 (omega arith) in
-      let v = second (takes_two (op_kind o)) (operand globals b (k + addressed a)) in
+      let v = second (takes_two (op_kind o)) (operand p.globals b (k + addressed a)) in
       both_true _ _
       (both_true _ _ to.0 (both_true _ _ one.0 (subst (λ (x : Bool). shape.is_second x v ≡ true) (sym (takes_is o)) two.0)))
       (both_true _ _ to.1
       (both_true _ _ (may_is o class ∙ q.0)
-      (both_true _ _ (subst (λ (c : Class). rule.is_right items params blocks c (operand globals a k) ≡ true) (sym (first_is o class))
+      (both_true _ _ (subst (λ (c : Class). rule.is_right items params blocks c (operand p.globals a k) ≡ true) (sym (first_is o class))
       one.1)
       (subst (λ (c : Class). second_is_right items params blocks c v ≡ true) (sym (second_is o class)) two.1))))
 
-  address_good : (i offset k : ℕ) → i < length globals → is_bits offset ≡ true → k < most_addresses → good (address_inst globals i offset k)
+  address_good : (i offset k : ℕ) → i < length p.globals → is_bits offset ≡ true → k < most_addresses → good (address_inst p.globals i offset k)
   address_good i offset k h b l =
       let few = n.few_addresses in
       both_true _ _
@@ -185,15 +186,15 @@ module _ (globals : List Data) (f : FlatFn) (items : List IlItem) (params : List
 
   -- ---- calls
 
-  args_fine : (cs : List Class) (vs : List Value) (k : ℕ) → are_args (length globals) f cs vs ≡ true →
-      k + all_addressed vs ≤ most_addresses → ArgsFine items params blocks cs (args_of globals cs vs k)
+  args_fine : (cs : List Class) (vs : List Value) (k : ℕ) → are_args p f cs vs ≡ true →
+      k + all_addressed vs ≤ most_addresses → ArgsFine items params blocks cs (args_of p.globals cs vs k)
   args_fine [] [] k r u = record { as_many = refl; classed = refl; spelled = refl; right = refl }
   args_fine [] (v ∷ vs) k r u = cc
   args_fine (c ∷ cs) [] k r u = cc
   args_fine (c ∷ cs) (v ∷ vs) k r u =
-      let p = and_parts (is_operand (length globals) f c v) (are_args (length globals) f cs vs) r in
-      let one = operand_fine c v k p.0 (omega arith) in
-      let rest = args_fine cs vs (k + addressed v) p.1 (omega arith) in
+      let both = and_parts (is_operand p f c v) (are_args p f cs vs) r in
+      let one = operand_fine c v k both.0 (omega arith) in
+      let rest = args_fine cs vs (k + addressed v) both.1 (omega arith) in
       record {
         as_many = omega (arith, rest.as_many);
         classed = both_true _ _ (class_same c) rest.classed;
@@ -205,13 +206,13 @@ module _ (globals : List Data) (f : FlatFn) (items : List IlItem) (params : List
   classes_fine cs args a =
       let h : (length args == length cs) ≡ true = let z = a.as_many in grind (arith, nat_tests) in both_true _ _ h a.classed
 
-  result_fine : (temp : Option ℕ) (given : Option Class) → takes_result f temp given ≡ true →
+  result_fine : (temp : Option ℕ) (given : Option Class) → takes_result p f temp given ≡ true →
       ResultFine params blocks given (result_param temp given)
   result_fine None given h = record { taken = refl; spelled = refl; one_class = λ name args. refl }
   result_fine (Some t) None h = cc
   result_fine (Some t) (Some c) h =
-      let p = target_fine t c h in
-      record { taken = class_same c; spelled = p.0; one_class = λ name args. p.1 }
+      let both = target_fine t c h in
+      record { taken = class_same c; spelled = both.0; one_class = λ name args. both.1 }
 
   call_right : (result : Option IlParam) (name : List ℕ) (args : List IlArg) → function_named items name ≡ None →
       is_runtime_call result name args ≡ true → list_all (λ (a : IlArg). rule.is_right items params blocks a.class a.value) args ≡ true →
@@ -220,15 +221,15 @@ module _ (globals : List Data) (f : FlatFn) (items : List IlItem) (params : List
   call_right result name args none h k = both_true _ _ (ap (is_call_of result name args) none ∙ h) k
 
   called_good : (temp : Option ℕ) (name : List ℕ) (args : List Value) (k : ℕ) (g : Option RuntimeFunction) → runtime_function name ≡ g →
-      is_call (length globals) f temp args g ≡ true → k + all_addressed args ≤ most_addresses
-      → good (inst.Call (result_param temp (call_class g)) name (args_of globals (call_params g) args k))
+      well.is_runtime_call p f temp args g ≡ true → k + all_addressed args ≤ most_addresses
+      → good (inst.Call (result_param temp (call_class g)) name (args_of p.globals (call_params g) args k))
   called_good temp name args k None e r u = cc
   called_good temp name args k (Some g) e r u =
-      let p = and_parts (are_args (length globals) f (runtime_params g) args) (takes_result f temp (runtime_result g)) r in
-      let xs = args_fine (runtime_params g) args k p.0 u in
-      let to = result_fine temp (runtime_result g) p.1 in
+      let both = and_parts (are_args p f (runtime_params g) args) (takes_result p f temp (runtime_result g)) r in
+      let xs = args_fine (runtime_params g) args k both.0 u in
+      let to = result_fine temp (runtime_result g) both.1 in
       let known = named_call name g e in
-      let x = args_of globals (runtime_params g) args k in
+      let x = args_of p.globals (runtime_params g) args k in
       let t = result_param temp (runtime_result g) in
       both_true _ _
       (both_true _ _ to.spelled (both_true _ _ known.identifier xs.spelled))
@@ -253,26 +254,26 @@ module _ (globals : List Data) (f : FlatFn) (items : List IlItem) (params : List
   jump_good : (m : ℕ) → 0 < m → m < most_labels → leads (jump.Jmp (label_name m))
   jump_good m l u = both_true _ _ (label_fine m u) (both_true _ _ (n.labels m u) (both_true _ true (not_first m l u) refl))
 
-  branch_good : (v : Value) (k a b : ℕ) → is_operand (length globals) f W v ≡ true → k + addressed v ≤ most_addresses → 0 < a →
-      a < most_labels → 0 < b → b < most_labels → leads (jump.Jnz (operand globals v k) (label_name a) (label_name b))
+  branch_good : (v : Value) (k a b : ℕ) → is_operand p f W v ≡ true → k + addressed v ≤ most_addresses → 0 < a →
+      a < most_labels → 0 < b → b < most_labels → leads (jump.Jnz (operand p.globals v k) (label_name a) (label_name b))
   branch_good v k a b r u la ua lb ub =
       let one = operand_fine W v k r u in
       both_true _ _ (both_true _ _ one.0 (both_true _ _ (label_fine a ua) (label_fine b ub)))
       (both_true _ _ (both_true _ _ (n.labels a ua) (n.labels b ub))
       (both_true _ _ (both_true _ _ (not_first a la ua) (not_first b lb ub)) one.1))
 
-  return_good : (class : Option Class) → is_return (length globals) f class None ≡ true →
+  return_good : (class : Option Class) → is_return p f class None ≡ true →
       return_is_right items params blocks class None ≡ true
   return_good None r = refl
   return_good (Some c) r = cc
 
-  value_good : (class : Option Class) (v : Value) (k : ℕ) → is_return (length globals) f class (Some v) ≡ true →
+  value_good : (class : Option Class) (v : Value) (k : ℕ) → is_return p f class (Some v) ≡ true →
       k + addressed v ≤ most_addresses
-      → (is_value (operand globals v k) ≡ true) × (return_is_right items params blocks class (Some (operand globals v k)) ≡ true)
+      → (is_value (operand p.globals v k) ≡ true) × (return_is_right items params blocks class (Some (operand p.globals v k)) ≡ true)
   value_good None v k r u = cc
   value_good (Some c) v k r u = operand_fine c v k r u
 
-  pub lines_pass : LinesPass globals f
+  pub lines_pass : LinesPass p f
       (line_passes (good_label most_labels) (good_inst items params blocks f.result) (good_jump items params blocks f.result)) most_labels
       most_addresses
   lines_pass = record {
@@ -280,7 +281,7 @@ module _ (globals : List Data) (f : FlatFn) (items : List IlItem) (params : List
     goes = jump_good;
     branch = branch_good;
     returns = λ r. return_good f.result r;
-    returns_value = λ v k r u. let p = value_good f.result v k r u in both_true _ _ p.0 p.1;
+    returns_value = λ v k r u. let both = value_good f.result v k r u in both_true _ _ both.0 both.1;
     set = set_good;
     call = λ temp name args k r u. called_good temp name args k (runtime_function name) refl r u;
     address = address_good;

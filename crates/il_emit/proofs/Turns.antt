@@ -16,13 +16,15 @@ use Rattle.flat_code.specs.Evaluation.{flat_begun, flats_in, flat_below}
 use Rattle.flat_code.specs.Kinds.{op_kind, takes_two, first_class, second_class, may_give}
 use Rattle.flat_code.specs.Shape.{code_of}
 use Rattle.flat_code.specs.State.{State, Result, cut, value_of, stepped}
-use Rattle.flat_code.specs.WellFormed.{deepest, is_built, are_built, is_right, are_right, is_operand, is_second, is_target}
+use Rattle.flat_code.specs.WellFormed.{deepest, is_right, are_right, is_operand, is_second, is_target}
 use Rattle.il_code.specs.declared.types.Jump.TheVariants as jump
 use Rattle.il_code.specs.declared.types.Module.{Module}
 use Rattle.il_code.specs.Run.{Run}
 use Rattle.il_code.specs.State.{Waiting}
+use Rattle.il_emit.specs.Built.{is_built, are_built}
 use Rattle.il_emit.specs.Lines.{Line, Label, End, operand, address_lines, exit_at, code_lines, each_lines, labels_in, labels_in_all, addresses_in, addresses_in_all, function_lines}
 use Rattle.il_emit.specs.Names.{label_name}
+use Rattle.il_emit.proofs.BuiltFunctions.{built_call}
 use Rattle.il_emit.proofs.Forms.{set_meets, call_meets, branch_comes, return_meets}
 use Rattle.il_emit.proofs.Operands.{addressed_one, Setting, behind_address, address_used, address_jumps, address_same}
 use Rattle.il_emit.proofs.Places.{Inside, inside_behind, inside_next, inside_regroup, Finds, finds}
@@ -90,7 +92,7 @@ module _ (p : FlatProgram) (f : FlatFn) (m : Module) (set : Setting p f m) (few_
   abbrev pub Claim : ℕ → Code → Type 0
   Claim n c =
       (around label k : ℕ) (es : List ℕ) (out : ℕ → List Line) (rest : List Line) (s : State) (at : Mark)
-      → is_built c ≡ true → is_right (length p.globals) f around c ≡ true → Exits all around es out →
+      → is_built c ≡ true → is_right p f around c ≡ true → Exits all around es out →
       Room label (labels_in c) k (addresses_in c)
       → Inside all (code_lines p.globals c label k es ++ rest) → Holds floor s at
       → Meets m call n (counted at) (4 * s.steps) (at.used + 3) out rest (run_at (code_lines p.globals c label k es ++ rest) s.world at)
@@ -100,7 +102,7 @@ module _ (p : FlatProgram) (f : FlatFn) (m : Module) (set : Setting p f m) (few_
   abbrev pub ClaimEach : ℕ → Codes → Type 0
   ClaimEach n cs =
       (around label k : ℕ) (es : List ℕ) (out : ℕ → List Line) (rest : List Line) (s : State) (at : Mark)
-      → are_built cs ≡ true → are_right (length p.globals) f around cs ≡ true → Exits all around es out →
+      → are_built cs ≡ true → are_right p f around cs ≡ true → Exits all around es out →
       Room label (labels_in_all cs) k (addresses_in_all cs)
       → Inside all (each_lines p.globals cs label k es ++ rest) → Holds floor s at
       → Meets m call n (counted at) (4 * s.steps) (at.used + 0) out rest (run_at (each_lines p.globals cs label k es ++ rest) s.world at)
@@ -114,7 +116,7 @@ module _ (p : FlatProgram) (f : FlatFn) (m : Module) (set : Setting p f m) (few_
   -- ---- loops
 
   module _ (c : Code) (around label k : ℕ) (es : List ℕ) (out : ℕ → List Line) (rest : List Line)
-      (built : is_built c ≡ true) (right : is_right (length p.globals) f (suc around) c ≡ true) (exits : Exits all around es out)
+      (built : is_built c ≡ true) (right : is_right p f (suc around) c ≡ true) (exits : Exits all around es out)
       (room : Room label (2 + labels_in c) k (addresses_in c))
       (inside : Inside all (Label label ∷
       (code_lines p.globals c (label + 2) k (es ++ (label + 1) ∷ []) ++
@@ -167,8 +169,8 @@ module _ (p : FlatProgram) (f : FlatFn) (m : Module) (set : Setting p f m) (few_
 
   module _ (n : ℕ) (v : Value) (a b : Code) (claim_a : Claim n a) (claim_b : Claim n b) (around label k : ℕ) (es : List ℕ)
       (out : ℕ → List Line) (rest : List Line)
-      (built_a : is_built a ≡ true) (built_b : is_built b ≡ true) (operand_right : is_operand (length p.globals) f W v ≡ true)
-      (right_a : is_right (length p.globals) f around a ≡ true) (right_b : is_right (length p.globals) f around b ≡ true)
+      (built_a : is_built a ≡ true) (built_b : is_built b ≡ true) (operand_right : is_operand p f W v ≡ true)
+      (right_a : is_right p f around a ≡ true) (right_b : is_right p f around b ≡ true)
       (exits : Exits all around es out)
       (room : Room label (3 + labels_in a + labels_in b) k (addressed v + addresses_in a + addresses_in b)) where
     abbrev one : List Line
@@ -257,9 +259,9 @@ module _ (p : FlatProgram) (f : FlatFn) (m : Module) (set : Setting p f m) (few_
   if_meets : (n : ℕ) (v : Value) (a b : Code) → Claim n a → Claim n b → Claim n (If v a b)
   if_meets n v a b ca cb around label k es out rest s at built right exits room inside h =
       let u = and_parts (is_built a) (is_built b) built in
-      let q = and_parts (is_operand (length p.globals) f W v)
-      (is_right (length p.globals) f around a && is_right (length p.globals) f around b) right in
-      let w = and_parts (is_right (length p.globals) f around a) (is_right (length p.globals) f around b) q.1 in
+      let q = and_parts (is_operand p f W v)
+      (is_right p f around a && is_right p f around b) right in
+      let w = and_parts (is_right p f around a) (is_right p f around b) q.1 in
       let same = regrouped n v a b ca cb around label k es out rest u.0 u.1 q.0 w.0 w.1 exits room in
       let there = subst (λ (x : List Line). Inside all x) same inside in
       subst (λ (x : List Line). Meets m call n (counted at) (4 * s.steps) (at.used + 3) out rest (run_at x s.world at)
@@ -287,7 +289,7 @@ module _ (p : FlatProgram) (f : FlatFn) (m : Module) (set : Setting p f m) (few_
     mutual
       code_meets : (c : Code) → Claim n c
       code_meets (Seq cs) around label k es out rest s at built right exits room inside h =
-          let q = and_parts (nat_lt around deepest) (are_right (length p.globals) f (suc around) cs) right in
+          let q = and_parts (nat_lt around deepest) (are_right p f (suc around) cs) right in
           let r = room.labels in
           let z = room.addresses in
           let same = append_assoc (each_lines p.globals cs (suc label) k (es ++ label ∷ [])) (Label label ∷ []) rest in
@@ -302,10 +304,10 @@ module _ (p : FlatProgram) (f : FlatFn) (m : Module) (set : Setting p f m) (few_
           (caught_meets m call n (counted at) (4 * s.steps) (at.used + 0) out rest _ (flats_in p n (flat_below p n) cs s)
           (label_meets m call n (counted at) (4 * s.steps) (at.used + 0) label (out_of rest out) rest _ _ each)))
       code_meets (Set t class o a b) around label k es out rest s at built right exits room inside h =
-          let q = and_parts (is_target f t class) _ right in
+          let q = and_parts (is_target p f t class) _ right in
           let u = and_parts (may_give (op_kind o) class) _ q.1 in
-          let w = and_parts (is_operand (length p.globals) f (first_class (op_kind o) class) a)
-          (is_second (length p.globals) f (second_class (op_kind o) class) (takes_two (op_kind o)) b) u.1 in
+          let w = and_parts (is_operand p f (first_class (op_kind o) class) a)
+          (is_second p f (second_class (op_kind o) class) (takes_two (op_kind o)) b) u.1 in
           set_meets p f m set call n out t class o a b k rest s at q.0 w.0 w.1 room.addresses h
       code_meets (Load t how a) around label k es out rest s at built right exits room inside h = cc
       code_meets (Store width value a) around label k es out rest s at built right exits room inside h = cc
@@ -313,7 +315,7 @@ module _ (p : FlatProgram) (f : FlatFn) (m : Module) (set : Setting p f m) (few_
       code_meets (If v a b) around label k es out rest s at built right exits room inside h =
           if_meets n v a b (code_meets a) (code_meets b) around label k es out rest s at built right exits room inside h
       code_meets (Loop c) around label k es out rest s at built right exits room inside h =
-          let q = and_parts (nat_lt around deepest) (is_right (length p.globals) f (suc around) c) right in
+          let q = and_parts (nat_lt around deepest) (is_right p f (suc around) c) right in
           let same = append_assoc (code_lines p.globals c (label + 2) k (es ++ (label + 1) ∷ []))
           (End (jump.Jmp (label_name label)) ∷ Label (label + 1) ∷ []) rest in
           let there = subst (λ (x : List Line). Inside all (Label label ∷ x)) same
@@ -324,7 +326,8 @@ module _ (p : FlatProgram) (f : FlatFn) (m : Module) (set : Setting p f m) (few_
       code_meets (Leave j) around label k es out rest s at built right exits room inside h =
           leave_meets n j around label k es out (Label label ∷ rest) rest s at right exits h
       code_meets (Call temp name args) around label k es out rest s at built right exits room inside h =
-          call_meets p f m set call n (flat_below p n) out temp name args k rest s at right room.addresses h
+          call_meets p f m set call n (flat_below p n) out temp name args k rest s at
+          (built_call p set.no_function name f temp args built right) room.addresses h
       code_meets (Ret value) around label k es out rest s at built right exits room inside h =
           return_meets p f m set call n label out f.result value k rest s at right h
 
@@ -333,7 +336,7 @@ module _ (p : FlatProgram) (f : FlatFn) (m : Module) (set : Setting p f m) (few_
           record { to = at; count = 0; by = refl; holds = h; jumps = omega arith; units = omega arith }
       each_meets (more c cs) around label k es out rest s at built right exits room inside h =
           let u = and_parts (is_built c) (are_built cs) built in
-          let q = and_parts (is_right (length p.globals) f around c) (are_right (length p.globals) f around cs) right in
+          let q = and_parts (is_right p f around c) (are_right p f around cs) right in
           let r = room.labels in
           let z = room.addresses in
           let first = code_lines p.globals c label k es in

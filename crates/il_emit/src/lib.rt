@@ -4,6 +4,7 @@
 //! function, whose structured code becomes blocks. `specs/Lines.antt` says which. The module is valid.
 #![tactic(auto)]
 
+mod built;
 mod code;
 mod data;
 mod draft;
@@ -16,5 +17,6 @@ mod statement;
 #[cfg(test)]
 mod tests;
 
+pub use built::is_built;
 pub use module::emit;
 pub use op::law_operations_agree;

@@ -4,6 +4,7 @@ ghost use Rattle.std.specs.Prelude.{◌≡◌, ◌++◌, ◌<◌, ◌^◌, map, 
 ghost use Rattle.std.specs.List.{AllByRecursion};
 ghost use Rattle.flat_code.specs.WellFormed.{IsWellFormed, is_main};
 ghost use Rattle.il_code.specs.Rules.{IsValid};
+ghost use Rattle.il_emit.specs.Built.{IsBuilt};
 ghost use Rattle.il_emit.specs.Lines.{end_value};
 ghost use Rattle.il_emit.specs.Numbered.{HasFewNames};
 ghost use Rattle.il_emit.specs.Reaches.{Reaches};
@@ -22,7 +23,7 @@ use std::alloc::{AllocError, Global};
 
 /// The module of a program: a data item for each global, and then a function for each function, in their order. `main` is exported.
 ///
-/// The program is well formed, as `flat_code::well_formed` tells.
+/// The program is well formed, as `flat_code::well_formed` tells, and has only forms that are emitted so far, as [`crate::is_built`] tells.
 ///
 /// The module is valid, and it does what the program does: at every number of turns there is a budget, of at most four units for each flat
 /// step and one more, with which a run of it comes to the same end and the same world, or to the same world where turns ran out. Where
@@ -31,7 +32,8 @@ use std::alloc::{AllocError, Global};
 ///
 /// An error is want of memory.
 pub fn emit(alloc: Global, p: &FlatProgram) -> Result<Module, AllocError>
-    requires { IsWellFormed p.now }
+    requires formed { IsWellFormed p.now }
+    requires built { IsBuilt p.now }
     ensures value { IfOk result (λ m. m ≡ module_of p.now) }
     ensures valid { IfOk result (λ m. IsValid m) }
     ensures reaches { IfOk result (λ m. Reaches p.now m) }

@@ -1,6 +1,6 @@
 //! Small programs and their texts, which are written by hand.
 
-use crate::emit;
+use crate::{emit, is_built};
 use flat_code::{
     Class, Classes, Data, DataList, Flat, FlatBox, FlatFn, FlatFns, FlatKids, FlatProgram, Item,
     Op, Value, Values, well_formed,
@@ -71,10 +71,10 @@ fn branch(alloc: Global, cond: Value, yes: Flat, no: Flat) -> Result<Flat, Alloc
     })
 }
 
-/// The text of a program with this body, if the program is well formed and its module valid.
+/// The text of a program with this body, if the program is well formed and built so far, and its module valid.
 fn text(alloc: Global, body: Flat) -> Result<Option<Bytes>, AllocError> {
     let p = program(alloc, body)?;
-    if !well_formed(&p) {
+    if !well_formed(&p) || !is_built(&p) {
         return Ok(None);
     }
     let m = emit(alloc, &p)?;

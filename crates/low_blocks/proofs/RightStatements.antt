@@ -4,6 +4,7 @@ use Rattle.std.specs.Prelude.{codes, bytes_eq}
 use Rattle.hx_base.specs.declared.Class.TheVariants.{W, L}
 use Rattle.flat_code.specs.declared.op.Op.TheVariants.{Copy}
 use Rattle.flat_code.specs.declared.program.FlatFn.{FlatFn}
+use Rattle.flat_code.specs.declared.program.FlatProgram.{FlatProgram}
 use Rattle.flat_code.specs.declared.value.Value.{Value}
 use Rattle.flat_code.specs.declared.value.Value.TheVariants.{Number, Symbol}
 use Rattle.flat_code.specs.Code.{Code, Set, If, Loop, Leave, Call}
@@ -17,7 +18,7 @@ use Rattle.low_blocks.specs.Statements.{Site, past, outside, copied, seq, turn, 
 use Rattle.low_blocks.proofs.Scopes.{place_under}
 use Rattle.low_blocks.proofs.Pieces.{expr_from, condition_grows}
 use Rattle.low_blocks.proofs.Sites.{IsSited, sited_past, sited_outside, statement_behind, statements_behind}
-use Rattle.low_blocks.proofs.Plain.{and_both}
+use Rattle.low_blocks.proofs.Plain.{IsFree, and_both}
 use Rattle.low_blocks.proofs.Rights.{less_true, same_number, or_left, or_right, AreRight, right_parts, right_one, IsPart, part_front, part_back, part_set, IsOperand, operand_long, operand_word, AreSet, long_target, expr_right, condition_right}
 
 -- strings whose lengths are numbers of 64 bits
@@ -33,37 +34,38 @@ short_back : (a b : List (List ℕ)) → AreShort (a ++ b) → AreShort b
 short_back [] b h = h
 short_back (t ∷ a) b h = short_back a b h.1
 
-module _ (globals : ℕ) (f : FlatFn) (words : (t : ℕ) → 0 < t → is_set f t W ≡ false) (longs : is_set f 0 L ≡ false) where
+module _ (p : FlatProgram) (free : IsFree p) (f : FlatFn) (words : (t : ℕ) → 0 < t → is_set p f t W ≡ false)
+    (longs : is_set p f 0 L ≡ false) where
   abbrev Part : List Code → Type 0
-  Part = IsPart globals f words longs
+  Part = IsPart p free f words longs
 
   abbrev Right : ℕ → List Code → Type 0
-  Right = AreRight globals f words longs
+  Right = AreRight p free f words longs
 
   abbrev Placed : Scope → Type 0
-  Placed = AreSet globals f words longs
+  Placed = AreSet p free f words longs
 
   -- ---- variables
 
-  set_place : (x : List ℕ) (scope : Scope) (t : ℕ) → Placed scope → number_of x scope ≡ Some t → (0 < t) × (is_set f t L ≡ true)
+  set_place : (x : List ℕ) (scope : Scope) (t : ℕ) → Placed scope → number_of x scope ≡ Some t → (0 < t) × (is_set p f t L ≡ true)
   set_place x [] t h e = absurd (cc)
   set_place x (y ∷ ys) t h e = pick (bytes_eq y.0 x) refl (set_place x ys t h.2)
     where
-      pick : (b : Bool) → bytes_eq y.0 x ≡ b → (number_of x ys ≡ Some t → (0 < t) × (is_set f t L ≡ true)) → (0 < t) × (is_set f t L ≡ true)
+      pick : (b : Bool) → bytes_eq y.0 x ≡ b → (number_of x ys ≡ Some t → (0 < t) × (is_set p f t L ≡ true)) → (0 < t) × (is_set p f t L ≡ true)
       pick true g on =
           let k : number_of x (y ∷ ys) ≡ Some y.1 = rw g refl in
           let i : y.1 ≡ t = cc in
-          (omega (arith, h.0), ap (λ u. is_set f u L) (sym i) ∙ h.1)
+          (omega (arith, h.0), ap (λ u. is_set p f u L) (sym i) ∙ h.1)
       pick false g on = let k : number_of x (y ∷ ys) ≡ number_of x ys = rw g refl in on (sym k ∙ e)
 
-  right_copy : (around t : ℕ) (v : Value) → 0 < t → t < f.temps → IsOperand globals f words longs v →
+  right_copy : (around t : ℕ) (v : Value) → 0 < t → t < f.temps → IsOperand p free f words longs v →
       Right around (Set t L Copy v (Number 0) ∷ [])
-  right_copy around t v pos l h = right_one globals f words longs around (Set t L Copy v (Number 0))
-      (rw (long_target globals f words longs t pos l, operand_long globals f words longs v h) refl)
+  right_copy around t v pos l h = right_one p free f words longs around (Set t L Copy v (Number 0))
+      (rw (long_target p free f words longs t pos l, operand_long p free f words longs v h) refl)
 
   -- a variable's temporary is one of the function's, since it stands below the next one
   right_copied : (around : ℕ) (site : Site) (x : List ℕ) (v : Value) (o : Option ℕ) → IsSited site → site.next ≤ f.temps →
-      Placed site.scope → number_of x site.scope ≡ o → IsOperand globals f words longs v → Right around (copied o v)
+      Placed site.scope → number_of x site.scope ≡ o → IsOperand p free f words longs v → Right around (copied o v)
   right_copied around site x v None h l set e k = refl
   right_copied around site x v (Some t) h l set e k =
       right_copy around t v (set_place x site.scope t set e).0 (omega (arith, place_under site.next t x site.scope h.below e)) k
@@ -77,7 +79,7 @@ module _ (globals : ℕ) (f : FlatFn) (words : (t : ℕ) → 0 < t → is_set f 
   part_turn always test body h t class e = h t class (or_left _ _ e)
   part_turn (compares a r b) test body h t class e =
       let inside : Part (test.code ++ If test.value (seq body) (Leave 1) ∷ []) = λ u k i. h u k (or_left _ _ i) in
-      part_back globals f words longs test.code (If test.value (seq body) (Leave 1) ∷ []) inside t class (or_left _ _ (or_left _ _ e))
+      part_back p free f words longs test.code (If test.value (seq body) (Leave 1) ∷ []) inside t class (or_left _ _ (or_left _ _ e))
 
   part_test : (site : Site) (c : Condition) (body : List Code) → Part (Loop (turn c (condition_piece site.scope site.next c) body) ∷ []) →
       Part (condition_piece site.scope site.next c).code
@@ -85,25 +87,25 @@ module _ (globals : ℕ) (f : FlatFn) (words : (t : ℕ) → 0 < t → is_set f 
   part_test site (compares a r b) body h =
       let test = condition_piece site.scope site.next (compares a r b) in
       let inside : Part (test.code ++ If test.value (seq body) (Leave 1) ∷ []) = λ u k i. h u k (or_left _ _ i) in
-      part_front globals f words longs test.code (If test.value (seq body) (Leave 1) ∷ []) inside
+      part_front p free f words longs test.code (If test.value (seq body) (Leave 1) ∷ []) inside
 
-  right_seq : (around : ℕ) (cs : List Code) → around < deepest → Right (suc around) cs → is_right globals f around (seq cs) ≡ true
+  right_seq : (around : ℕ) (cs : List Code) → around < deepest → Right (suc around) cs → is_right p f around (seq cs) ≡ true
   right_seq around cs l h = and_both _ _ (less_true around deepest l) h
 
   right_turn : (around : ℕ) (c : Condition) (test : Piece) (body : List Code) → around + 3 ≤ deepest → ((k : ℕ) → Right k test.code) →
-      is_operand globals f W test.value ≡ true → ((k : ℕ) → k ≤ around + 3 → Right k body) → Right around (Loop (turn c test body) ∷ [])
+      is_operand p f W test.value ≡ true → ((k : ℕ) → k ≤ around + 3 → Right k body) → Right around (Loop (turn c test body) ∷ [])
   right_turn around always test body l h v k =
-      right_one globals f words longs around (Loop (turn always test body))
+      right_one p free f words longs around (Loop (turn always test body))
       (and_both _ _ (less_true around deepest (omega arith))
       (right_seq (suc around) body (omega arith) (k (suc (suc around)) (omega arith))))
   right_turn around (compares a r b) test body l h v k =
-      let cond = right_one globals f words longs (suc (suc around)) (If test.value (seq body) (Leave 1))
+      let cond = right_one p free f words longs (suc (suc around)) (If test.value (seq body) (Leave 1))
       (and_both _ _ v (and_both _ _ (right_seq (suc (suc around)) body (omega arith) (k (suc (suc (suc around))) (omega arith)))
       (less_true 1 (suc (suc around)) (omega arith)))) in
-      right_one globals f words longs around (Loop (turn (compares a r b) test body))
+      right_one p free f words longs around (Loop (turn (compares a r b) test body))
       (and_both _ _ (less_true around deepest (omega arith))
       (right_seq (suc around) (test.code ++ If test.value (seq body) (Leave 1) ∷ []) (omega arith)
-      (right_parts globals f words longs (suc (suc around)) test.code _ (h (suc (suc around))) cond)))
+      (right_parts p free f words longs (suc (suc around)) test.code _ (h (suc (suc around))) cond)))
 
   -- ---- statements
 
@@ -114,19 +116,19 @@ module _ (globals : ℕ) (f : FlatFn) (words : (t : ℕ) → 0 < t → is_set f 
 
   mutual
     statement_right : (site : Site) (s : Statement) (around : ℕ) → IsSited site → Placed site.scope → Part (statement_code site s).code →
-        (statement_code site s).behind.next ≤ f.temps → (statement_code site s).behind.texts ≤ globals → AreShort (statement_texts s) →
+        (statement_code site s).behind.next ≤ f.temps → (statement_code site s).behind.texts ≤ length p.globals → AreShort (statement_texts s) →
         around + 3 * statement_blocks s ≤ deepest →
         AreKept around (statement_code site s).code (statement_code site s).behind.scope
     statement_right site (declares x e) around h set part temps texts short deep =
         let v = expr_piece site.scope site.next e in
         let g = expr_from site.scope site.next h.some h.below site.next e (omega arith) in
         let copy = Set v.next L Copy v.value (Number 0) in
-        let r = expr_right globals f words longs site.scope site.next h.some h.below set site.next e (omega arith)
-        (part_front globals f words longs v.code (copy ∷ []) part, omega arith) in
-        let is = part_set globals f words longs v.next L copy (rw (same_number v.next) refl)
-        (part_back globals f words longs v.code (copy ∷ []) part) in
+        let r = expr_right p free f words longs site.scope site.next h.some h.below set site.next e (omega arith)
+        (part_front p free f words longs v.code (copy ∷ []) part, omega arith) in
+        let is = part_set p free f words longs v.next L copy (rw (same_number v.next) refl)
+        (part_back p free f words longs v.code (copy ∷ []) part) in
         record {
-          right = right_parts globals f words longs around v.code (copy ∷ []) (r.code around)
+          right = right_parts p free f words longs around v.code (copy ∷ []) (r.code around)
               (right_copy around v.next v.value (omega (arith, g.grows, h.some)) (omega arith) r.value);
           set = (omega (arith, g.grows, h.some), is, set);
         }
@@ -134,10 +136,10 @@ module _ (globals : ℕ) (f : FlatFn) (words : (t : ℕ) → 0 < t → is_set f 
         let v = expr_piece site.scope site.next e in
         let g = expr_from site.scope site.next h.some h.below site.next e (omega arith) in
         let o = number_of x site.scope in
-        let r = expr_right globals f words longs site.scope site.next h.some h.below set site.next e (omega arith)
-        (part_front globals f words longs v.code (copied o v.value) part, temps) in
+        let r = expr_right p free f words longs site.scope site.next h.some h.below set site.next e (omega arith)
+        (part_front p free f words longs v.code (copied o v.value) part, temps) in
         record {
-          right = right_parts globals f words longs around v.code (copied o v.value) (r.code around)
+          right = right_parts p free f words longs around v.code (copied o v.value) (r.code around)
               (right_copied around site x v.value o h (omega (arith, g.grows)) set refl r.value);
           set = set;
         }
@@ -148,14 +150,14 @@ module _ (globals : ℕ) (f : FlatFn) (words : (t : ℕ) → 0 < t → is_set f 
         let low = statements_code (past site test.next) body in
         let b = statements_behind (past site test.next) body inner in
         let cond = If test.value (seq low.code) (seq []) in
-        let rt = condition_right globals f words longs site.scope site.next h.some h.below set site.next c (omega arith)
-        (part_front globals f words longs test.code (cond ∷ []) part) (omega (arith, b.grows)) in
-        let parts = part_if test.value low.code [] (part_back globals f words longs test.code (cond ∷ []) part) in
+        let rt = condition_right p free f words longs site.scope site.next h.some h.below set site.next c (omega arith)
+        (part_front p free f words longs test.code (cond ∷ []) part) (omega (arith, b.grows)) in
+        let parts = part_if test.value low.code [] (part_back p free f words longs test.code (cond ∷ []) part) in
         let rb = statements_right (past site test.next) body (suc around) inner set parts.0 temps texts short (omega arith) in
-        let both = right_one globals f words longs around cond
+        let both = right_one p free f words longs around cond
         (and_both _ _ rt.value (and_both _ _ (right_seq around low.code (omega arith) rb.right)
         (right_seq around [] (omega arith) refl))) in
-        record { right = right_parts globals f words longs around test.code (cond ∷ []) (rt.code around) both; set = set }
+        record { right = right_parts p free f words longs around test.code (cond ∷ []) (rt.code around) both; set = set }
     statement_right site (chooses_one c body other) around h set part temps texts short deep =
         let test = condition_piece site.scope site.next c in
         let g = condition_grows site.scope site.next h.some h.below site.next c (omega arith) in
@@ -166,24 +168,24 @@ module _ (globals : ℕ) (f : FlatFn) (words : (t : ℕ) → 0 < t → is_set f 
         let low' = statements_code (outside site low.behind) other in
         let o = statements_behind (outside site low.behind) other inner' in
         let cond = If test.value (seq low.code) (seq low'.code) in
-        let rt = condition_right globals f words longs site.scope site.next h.some h.below set site.next c (omega arith)
-        (part_front globals f words longs test.code (cond ∷ []) part) (omega (arith, b.grows, o.grows)) in
-        let parts = part_if test.value low.code low'.code (part_back globals f words longs test.code (cond ∷ []) part) in
+        let rt = condition_right p free f words longs site.scope site.next h.some h.below set site.next c (omega arith)
+        (part_front p free f words longs test.code (cond ∷ []) part) (omega (arith, b.grows, o.grows)) in
+        let parts = part_if test.value low.code low'.code (part_back p free f words longs test.code (cond ∷ []) part) in
         let rb = statements_right (past site test.next) body (suc around) inner set parts.0 (omega (arith, o.grows))
         (omega (arith, o.counts)) (short_front (statements_texts body) (statements_texts other) short) (omega arith) in
         let ro = statements_right (outside site low.behind) other (suc around) inner' set parts.1 temps texts
         (short_back (statements_texts body) (statements_texts other) short) (omega arith) in
-        let both = right_one globals f words longs around cond
+        let both = right_one p free f words longs around cond
         (and_both _ _ rt.value (and_both _ _ (right_seq around low.code (omega arith) rb.right)
         (right_seq around low'.code (omega arith) ro.right))) in
-        record { right = right_parts globals f words longs around test.code (cond ∷ []) (rt.code around) both; set = set }
+        record { right = right_parts p free f words longs around test.code (cond ∷ []) (rt.code around) both; set = set }
     statement_right site (repeats c body) around h set part temps texts short deep =
         let test = condition_piece site.scope site.next c in
         let g = condition_grows site.scope site.next h.some h.below site.next c (omega arith) in
         let inner = sited_past site test.next h g in
         let low = statements_code (past site test.next) body in
         let b = statements_behind (past site test.next) body inner in
-        let rt = condition_right globals f words longs site.scope site.next h.some h.below set site.next c (omega arith)
+        let rt = condition_right p free f words longs site.scope site.next h.some h.below set site.next c (omega arith)
         (part_test site c low.code part) (omega (arith, b.grows)) in
         let pb = part_turn c test low.code part in
         record {
@@ -193,25 +195,25 @@ module _ (globals : ℕ) (f : FlatFn) (words : (t : ℕ) → 0 < t → is_set f 
         }
     statement_right site (puts text) around h set part temps texts short deep =
         record {
-          right = right_one globals f words longs around
+          right = right_one p free f words longs around
               (Call None (codes "rt.puts") (Symbol site.texts 0 ∷ Number (length text) ∷ []))
-              (rw (less_true site.texts globals (omega arith), less_true (length text) (2 ^ 64) short.0) refl);
+              (rw (free.puts, less_true site.texts (length p.globals) (omega arith), less_true (length text) (2 ^ 64) short.0) refl);
           set = set;
         }
     statement_right site (exits e) around h set part temps texts short deep =
         let v = expr_piece site.scope site.next e in
         let exit = Call None (codes "rt.exit") (v.value ∷ []) in
-        let r = expr_right globals f words longs site.scope site.next h.some h.below set site.next e (omega arith)
-        (part_front globals f words longs v.code (exit ∷ []) part, temps) in
+        let r = expr_right p free f words longs site.scope site.next h.some h.below set site.next e (omega arith)
+        (part_front p free f words longs v.code (exit ∷ []) part, temps) in
         record {
-          right = right_parts globals f words longs around v.code (exit ∷ []) (r.code around)
-              (right_one globals f words longs around exit (rw (operand_word globals f words longs v.value r.value) refl));
+          right = right_parts p free f words longs around v.code (exit ∷ []) (r.code around)
+              (right_one p free f words longs around exit (rw (free.exit, operand_word p free f words longs v.value r.value) refl));
           set = set;
         }
 
     pub statements_right : (site : Site) (ss : Statements) (around : ℕ) → IsSited site → Placed site.scope →
         Part (statements_code site ss).code → (statements_code site ss).behind.next ≤ f.temps →
-        (statements_code site ss).behind.texts ≤ globals → AreShort (statements_texts ss) → around + 3 * statements_blocks ss ≤ deepest →
+        (statements_code site ss).behind.texts ≤ length p.globals → AreShort (statements_texts ss) → around + 3 * statements_blocks ss ≤ deepest →
         AreKept around (statements_code site ss).code (statements_code site ss).behind.scope
     statements_right site nothing around h set part temps texts short deep = record { right = refl; set = set }
     statements_right site (first s ss) around h set part temps texts short deep =
@@ -219,8 +221,8 @@ module _ (globals : ℕ) (f : FlatFn) (words : (t : ℕ) → 0 < t → is_set f 
         let b = statement_behind site s h in
         let low' = statements_code low.behind ss in
         let o = statements_behind low.behind ss b.sited in
-        let r = statement_right site s around h set (part_front globals f words longs low.code low'.code part) (omega (arith, o.grows))
+        let r = statement_right site s around h set (part_front p free f words longs low.code low'.code part) (omega (arith, o.grows))
         (omega (arith, o.counts)) (short_front (statement_texts s) (statements_texts ss) short) (omega arith) in
-        let q = statements_right low.behind ss around b.sited r.set (part_back globals f words longs low.code low'.code part) temps texts
+        let q = statements_right low.behind ss around b.sited r.set (part_back p free f words longs low.code low'.code part) temps texts
         (short_back (statement_texts s) (statements_texts ss) short) (omega arith) in
-        record { right = right_parts globals f words longs around low.code low'.code r.right q.right; set = q.set }
+        record { right = right_parts p free f words longs around low.code low'.code r.right q.right; set = q.set }

@@ -8,6 +8,7 @@ use Rattle.flat_code.specs.declared.kinds.OpKind.TheVariants.{Arithmetic, Compar
 use Rattle.flat_code.specs.declared.op.Op.{Op}
 use Rattle.flat_code.specs.declared.op.Op.TheVariants.{Cultl, Culel, Ceql, Cnel}
 use Rattle.flat_code.specs.declared.program.FlatFn.{FlatFn}
+use Rattle.flat_code.specs.declared.program.FlatProgram.{FlatProgram}
 use Rattle.flat_code.specs.declared.value.Value.{Value}
 use Rattle.flat_code.specs.declared.value.Value.TheVariants.{Temp, Number, Symbol, Frame}
 use Rattle.flat_code.specs.Code.{Code, Set, Call, codes_of}
@@ -19,7 +20,7 @@ use Rattle.hare_blocks.specs.Scopes.{number_of}
 use Rattle.low_blocks.specs.Expressions.{Scope, held, Piece, operated, comparison, expr_piece, terms_piece, term_piece, factors_piece, factor_piece, condition_piece}
 use Rattle.low_blocks.proofs.Scopes.{Below}
 use Rattle.low_blocks.proofs.Pieces.{IsFrom, operated_from, expr_from, term_from, factor_from}
-use Rattle.low_blocks.proofs.Plain.{sets_append, and_assoc, and_both}
+use Rattle.low_blocks.proofs.Plain.{IsFree, sets_append, and_assoc, and_both}
 
 pub less_true : (a b : ℕ) → a < b → nat_lt a b ≡ true
 less_true a b l = pick (nat_lt a b) refl
@@ -43,55 +44,56 @@ pub or_left : (a b : Bool) → a ≡ true → (a || b) ≡ true
 or_left true b e = refl
 or_left false b e = absurd (cc)
 
--- a function in a program with so many globals, which sets words at the temporary of tests alone and longs at all others
-module _ (globals : ℕ) (f : FlatFn) (words : (t : ℕ) → 0 < t → is_set f t W ≡ false) (longs : is_set f 0 L ≡ false) where
-  right_append : (around : ℕ) (a b : List Code) → are_right globals f around (codes_of (a ++ b)) ≡
-      (are_right globals f around (codes_of a) && are_right globals f around (codes_of b))
+-- a function in a program, which sets words at the temporary of tests alone and longs at all others
+module _ (p : FlatProgram) (free : IsFree p) (f : FlatFn) (words : (t : ℕ) → 0 < t → is_set p f t W ≡ false)
+    (longs : is_set p f 0 L ≡ false) where
+  right_append : (around : ℕ) (a b : List Code) → are_right p f around (codes_of (a ++ b)) ≡
+      (are_right p f around (codes_of a) && are_right p f around (codes_of b))
   right_append around [] b = refl
   right_append around (c ∷ a) b =
-      ap (λ x. is_right globals f around c && x) (right_append around a b) ∙ and_assoc (is_right globals f around c) _ _
+      ap (λ x. is_right p f around c && x) (right_append around a b) ∙ and_assoc (is_right p f around c) _ _
 
   -- statements keep the rules, with so many Seqs and Loops round them
   abbrev pub AreRight : ℕ → List Code → Type 0
-  AreRight around cs = are_right globals f around (codes_of cs) ≡ true
+  AreRight around cs = are_right p f around (codes_of cs) ≡ true
 
   pub right_parts : (around : ℕ) (a b : List Code) → AreRight around a → AreRight around b → AreRight around (a ++ b)
   right_parts around a b h k = right_append around a b ∙ and_both _ _ h k
 
-  pub right_one : (around : ℕ) (c : Code) → is_right globals f around c ≡ true → AreRight around (c ∷ [])
+  pub right_one : (around : ℕ) (c : Code) → is_right p f around c ≡ true → AreRight around (c ∷ [])
   right_one around c h = and_both _ _ h refl
 
   -- ---- parts of the function
 
   -- what the code sets, the function sets
   abbrev pub IsPart : List Code → Type 0
-  IsPart cs = (t : ℕ) (class : Class) → one_sets t class (codes_of cs) ≡ true → is_set f t class ≡ true
+  IsPart cs = (t : ℕ) (class : Class) → one_sets p t class (codes_of cs) ≡ true → is_set p f t class ≡ true
 
   pub part_front : (a b : List Code) → IsPart (a ++ b) → IsPart a
-  part_front a b h t class e = h t class (sets_append t class a b ∙ or_left _ _ e)
+  part_front a b h t class e = h t class (sets_append p free t class a b ∙ or_left _ _ e)
 
   pub part_back : (a b : List Code) → IsPart (a ++ b) → IsPart b
-  part_back a b h t class e = h t class (sets_append t class a b ∙ or_right _ _ e)
+  part_back a b h t class e = h t class (sets_append p free t class a b ∙ or_right _ _ e)
 
-  pub part_set : (t : ℕ) (class : Class) (c : Code) → code_sets t class c ≡ true → IsPart (c ∷ []) → is_set f t class ≡ true
+  pub part_set : (t : ℕ) (class : Class) (c : Code) → code_sets p t class c ≡ true → IsPart (c ∷ []) → is_set p f t class ≡ true
   part_set t class c e h = h t class (or_left _ _ e)
 
   -- ---- operands
 
   -- a number, or a long that the function sets
   abbrev pub IsOperand : Value → Type 0
-  IsOperand (Temp t) = (0 < t) × (is_set f t L ≡ true)
+  IsOperand (Temp t) = (0 < t) × (is_set p f t L ≡ true)
   IsOperand (Number n) = n < 2 ^ 64
   IsOperand (Symbol i offset) = ⊥
   IsOperand (Frame offset) = ⊥
 
-  pub operand_long : (v : Value) → IsOperand v → is_operand globals f L v ≡ true
+  pub operand_long : (v : Value) → IsOperand v → is_operand p f L v ≡ true
   operand_long (Temp t) h = rw (h.1, words t h.0) refl
   operand_long (Number n) h = less_true n (2 ^ 64) h
   operand_long (Symbol i offset) h = absurd h
   operand_long (Frame offset) h = absurd h
 
-  pub operand_word : (v : Value) → IsOperand v → is_operand globals f W v ≡ true
+  pub operand_word : (v : Value) → IsOperand v → is_operand p f W v ≡ true
   operand_word (Temp t) h = or_right _ _ h.1
   operand_word (Number n) h = less_true n (2 ^ 64) h
   operand_word (Symbol i offset) h = absurd h
@@ -100,7 +102,7 @@ module _ (globals : ℕ) (f : FlatFn) (words : (t : ℕ) → 0 < t → is_set f 
   -- the temporaries of variables are set
   abbrev pub AreSet : Scope → Type 0
   AreSet [] = Unit {0}
-  AreSet (x ∷ xs) = (0 < x.1) × (is_set f x.1 L ≡ true) × AreSet xs
+  AreSet (x ∷ xs) = (0 < x.1) × (is_set p f x.1 L ≡ true) × AreSet xs
 
   held_operand : (x : List ℕ) (scope : Scope) → AreSet scope → IsOperand (held (number_of x scope))
   held_operand x [] h = omega arith
@@ -112,10 +114,10 @@ module _ (globals : ℕ) (f : FlatFn) (words : (t : ℕ) → 0 < t → is_set f 
 
   -- ---- targets
 
-  pub long_target : (t : ℕ) → 0 < t → t < f.temps → is_target f t L ≡ true
+  pub long_target : (t : ℕ) → 0 < t → t < f.temps → is_target p f t L ≡ true
   long_target t pos l = and_both _ _ (less_true t f.temps l) (rw (words t pos) refl)
 
-  word_target : 0 < f.temps → is_target f 0 W ≡ true
+  word_target : 0 < f.temps → is_target p f 0 W ≡ true
   word_target l = and_both _ _ (less_true 0 f.temps l) (rw longs refl)
 
   right_operation : (around t : ℕ) (op : Op) (a b : Value) → op_kind op ≡ Arithmetic → 0 < t → t < f.temps → IsOperand a → IsOperand b →
@@ -140,7 +142,7 @@ module _ (globals : ℕ) (f : FlatFn) (words : (t : ℕ) → 0 < t → is_set f 
       let back = part_back a.code (b.code ++ set ∷ []) fits.0 in
       let ra = ha (part_front a.code (b.code ++ set ∷ []) fits.0, omega (arith, fits.1)) in
       let rb = hb (part_front b.code (set ∷ []) back, omega (arith, fits.1)) in
-      let is : is_set f b.next L ≡ true = part_set b.next L set (rw (same_number b.next) refl) (part_back b.code (set ∷ []) back) in
+      let is : is_set p f b.next L ≡ true = part_set b.next L set (rw (same_number b.next) refl) (part_back b.code (set ∷ []) back) in
       record {
         code = λ around. right_parts around a.code _ (ra.code around)
             (right_parts around b.code _ (rb.code around)
@@ -184,8 +186,9 @@ module _ (globals : ℕ) (f : FlatFn) (words : (t : ℕ) → 0 < t → is_set f 
       factor_right : (t : ℕ) (g : Factor) → bound ≤ t → Fits (factor_piece scope t g) → IsRightPiece (factor_piece scope t g)
       factor_right t (number n) le fits = record { code = λ around. refl; value = omega arith }
       factor_right t arg_count le fits = record {
-        code = λ around. right_one around (Call (Some t) (codes "rt.nargs") []) (long_target t (omega arith) (omega (arith, fits.1)));
-        value = (omega arith, part_set t L (Call (Some t) (codes "rt.nargs") []) (rw (same_number t) refl) fits.0);
+        code = λ around. right_one around (Call (Some t) (codes "rt.nargs") [])
+            (rw free.nargs (long_target t (omega arith) (omega (arith, fits.1))));
+        value = (omega arith, part_set t L (Call (Some t) (codes "rt.nargs") []) (rw (free.nargs, same_number t) refl) fits.0);
       }
       factor_right t (variable x) le fits = record { code = λ around. refl; value = held_operand x scope set }
       factor_right t (group e) le fits = expr_right t e le fits
@@ -194,7 +197,7 @@ module _ (globals : ℕ) (f : FlatFn) (words : (t : ℕ) → 0 < t → is_set f 
 
     pub record IsRightTest (piece : Piece) : Type 0 where
       pub code : (around : ℕ) → AreRight around piece.code
-      pub value : is_operand globals f W piece.value ≡ true
+      pub value : is_operand p f W piece.value ≡ true
 
     right_test : (around : ℕ) (op : Op) (a b : Value) → op_kind op ≡ CompareLongs → 0 < f.temps → IsOperand a → IsOperand b →
         AreRight around (Set 0 W op a b ∷ [])
@@ -209,7 +212,7 @@ module _ (globals : ℕ) (f : FlatFn) (words : (t : ℕ) → 0 < t → is_set f 
     right_comparison around equal a b l h k = right_test around Ceql a b refl l h k
     right_comparison around differ a b l h k = right_test around Cnel a b refl l h k
 
-    sets_test : (r : Relation) (a b : Value) → code_sets 0 W (comparison r a b) ≡ true
+    sets_test : (r : Relation) (a b : Value) → code_sets p 0 W (comparison r a b) ≡ true
     sets_test less a b = refl
     sets_test less_equal a b = refl
     sets_test greater a b = refl

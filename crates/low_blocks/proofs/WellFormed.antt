@@ -13,7 +13,7 @@ use Rattle.hare_blocks.specs.Class.{statements_blocks, IsSource}
 use Rattle.low_blocks.specs.Statements.{seq}
 use Rattle.low_blocks.specs.Programs.{body_of, start, body_code, program_texts, text_name, lowered_main, lowered}
 use Rattle.low_blocks.proofs.Sites.{IsSited, statements_behind}
-use Rattle.low_blocks.proofs.Plain.{and_both, statements_plain}
+use Rattle.low_blocks.proofs.Plain.{IsFree, and_both, statements_plain}
 use Rattle.low_blocks.proofs.Nests.{statements_nest}
 use Rattle.low_blocks.proofs.RightStatements.{AreShort, statements_right}
 use Rattle.low_blocks.proofs.Start.{texts_size}
@@ -44,24 +44,25 @@ module _ (p : Program) (few : texts_size (program_texts p) ≤ 65536) (shallow :
   count : length texts ≤ 65536
   count = omega (arith, few, length_le-texts_size texts)
 
-  words : (t : ℕ) → 0 < t → is_set main t W ≡ false
-  words t l = (statements_plain start (body_of p) begins).words t l
+  free : IsFree (lowered p)
+  free = record { nargs = refl; puts = refl; exit = refl }
 
-  longs : is_set main 0 L ≡ false
-  longs = (statements_plain start (body_of p) begins).longs
+  words : (t : ℕ) → 0 < t → is_set (lowered p) main t W ≡ false
+  words t l = (statements_plain (lowered p) free start (body_of p) begins).words t l
 
-  body_right : is_right (length (lowered p).globals) main 0 (seq (body_code p).code) ≡ true
+  longs : is_set (lowered p) main 0 L ≡ false
+  longs = (statements_plain (lowered p) free start (body_of p) begins).longs
+
+  body_right : is_right (lowered p) main 0 (seq (body_code p).code) ≡ true
   body_right =
-      let globals = length (lowered p).globals in
       let counts = (statements_behind start (body_of p) begins).counts in
-      and_both _ _ refl (statements_right globals main words longs start (body_of p) 1 begins tt (λ t class e. e) (omega arith)
+      and_both _ _ refl (statements_right (lowered p) free main words longs start (body_of p) 1 begins tt (λ t class e. e) (omega arith)
       (omega (arith, counts, length-text_globals 0 texts)) (short texts (omega (arith, few))) (omega (arith, shallow))).right
 
-  main_right : is_function_right (length (lowered p).globals) main ≡ true
+  main_right : is_function_right (lowered p) main ≡ true
   main_right =
-      and_both _ _ refl (and_both _ _ refl (and_both _ _ (le_true 0 main.temps (omega arith)) (and_both _ _ refl
-      (and_both _ _ (statements_nest start (body_of p) 4095 (omega (arith, shallow)))
-      (and_both _ _ (statements_plain start (body_of p) begins).built (and_both _ _ refl body_right))))))
+      and_both _ _ refl (and_both _ _ refl (and_both _ _ (le_true 0 main.temps (omega arith))
+      (and_both _ _ (statements_nest start (body_of p) 4095 (omega (arith, shallow))) (and_both _ _ refl body_right))))
 
   once : (j : ℕ) → j < length texts → (how_many (lowered p) (text_name j) == 1) ≡ true
   once j l = rw (one_named j 0 texts (omega (arith, count)) (omega arith) (omega arith)) refl

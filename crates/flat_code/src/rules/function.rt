@@ -3,11 +3,11 @@
 ghost use Rattle.std.specs.Prelude.{◌≡◌, ◌≤◌, length};
 ghost use Rattle.flat_code.specs.WellFormed.{is_main, no_long, is_main_right, params_have_one_class, is_function_right};
 
-use super::code::{DEEPEST, is_built, is_right, nests_within};
+use super::code::{DEEPEST, is_right, nests_within};
 use super::names::is_symbol;
 use super::operand::is_long;
 use super::temps::has_one_class;
-use crate::program::FlatFn;
+use crate::program::{FlatFn, FlatProgram};
 use hx_base::Class;
 
 /// Whether a function is named `main`.
@@ -32,29 +32,27 @@ fn is_main_right(f: &FlatFn) -> bool
     !is_main(f) || (f.params.is_empty() && no_long(f.result))
 }
 
-fn params_have_one_class(f: &FlatFn) -> bool
+fn params_have_one_class(p: &FlatProgram, f: &FlatFn) -> bool
     requires { length f.now.params ≤ f.now.temps }
-    ensures { result ≡ params_have_one_class f.now 0 f.now.params }
+    ensures { result ≡ params_have_one_class p.now f.now 0 f.now.params }
 {
     let _temps = f.temps;
     for (at, class) in f.params.as_slice().iter().enumerate() {
-        if !has_one_class(f, at as u32, *class) {
+        if !has_one_class(p, f, at as u32, *class) {
             return false;
         }
     }
     true
 }
 
-/// Whether a function keeps the rules, in a program with so many globals.
-pub fn is_function_right(globals: usize, f: &FlatFn) -> bool
-    ensures { result ≡ is_function_right globals f.now }
+/// Whether a function of a program keeps the rules.
+pub fn is_function_right(p: &FlatProgram, f: &FlatFn) -> bool
+    ensures { result ≡ is_function_right p.now f.now }
 {
     is_symbol(f.name.bytes())
         && is_main_right(f)
         && f.params.len() <= f.temps as usize
-        && f.frame == 0
         && nests_within(&f.body, DEEPEST)
-        && is_built(&f.body)
-        && params_have_one_class(f)
-        && is_right(globals, f, 0, &f.body)
+        && params_have_one_class(p, f)
+        && is_right(p, f, 0, &f.body)
 }

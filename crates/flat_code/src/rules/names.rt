@@ -1,11 +1,26 @@
 //! Names of functions and globals.
 
-ghost use Rattle.std.specs.Prelude.{◌≡◌, ◌+◌, ◌==◌, bytes_eq, count_by};
+ghost use Rattle.std.specs.Prelude.{◌≡◌, ◌+◌, ◌==◌, bytes_eq, count_by, find, option_copied};
 ghost use Rattle.std.specs.List.{list_all};
+ghost use Rattle.flat_code.specs.Evaluation.{function_named};
 ghost use Rattle.flat_code.specs.WellFormed.{how_many, is_digit_byte, is_name_byte, is_identifier, is_symbol};
 
 use crate::program::{Data, FlatFn, FlatProgram};
 use hx_runtime::is_reserved;
+
+/// The first function of the program with a name, which is the one that a call of the name calls.
+#[tactic(auto, using(crate::proofs::Named::called))]
+pub fn function_named<'a>(p: &'a FlatProgram, name: &[u8]) -> Option<&'a FlatFn>
+    ensures { option_copied result ≡ function_named p.now.functions name.now }
+{
+    first_named(p.functions.as_slice(), name)
+}
+
+fn first_named<'a>(functions: &'a [FlatFn], name: &[u8]) -> Option<&'a FlatFn>
+    ensures { option_copied result ≡ find (λ f. bytes_eq f.name name.now) functions.now }
+{
+    functions.iter().find(|f| f.name.bytes() == name)
+}
 
 /// Whether exactly one function or global has the name.
 pub fn is_once(p: &FlatProgram, name: &[u8]) -> bool

@@ -4,10 +4,11 @@ ghost use Rattle.std.specs.Prelude.{◌≡◌};
 ghost use Rattle.hx_runtime.specs.Functions.{runtime_function};
 ghost use Rattle.flat_code.specs.Shape.{code_of};
 ghost use Rattle.flat_code.specs.Code.{codes_of};
-ghost use Rattle.flat_code.specs.Temps.{same_class, other_class, is_temp_of, call_class, call_sets, code_sets, one_sets, params_set, is_set, has_one_class};
+ghost use Rattle.flat_code.specs.Temps.{same_class, other_class, is_temp_of, call_class, result_class, is_given, call_sets, code_sets, one_sets, params_set, is_set, has_one_class};
 
+use super::names::function_named;
 use crate::flat::{Flat, FlatKids};
-use crate::program::FlatFn;
+use crate::program::{FlatFn, FlatProgram};
 use hx_base::Class;
 use hx_runtime::RuntimeFunction;
 
@@ -46,41 +47,60 @@ fn call_class(name: &[u8]) -> Option<Class>
     }
 }
 
-fn call_sets(t: u32, class: Class, temp: Option<u32>, given: Option<Class>) -> bool
-    ensures { result ≡ call_sets t class temp given }
+/// The class of the result of what a name calls, where it has one. The functions of the program come before those of the runtime.
+fn result_class(p: &FlatProgram, name: &[u8]) -> Option<Class>
+    ensures { result ≡ result_class p.now name.now }
 {
-    match (temp, given) {
-        (None, _) => false,
-        (Some(_), None) => false,
-        (Some(temp), Some(c)) => is_temp_of(t, class, temp, c),
+    match function_named(p, name) {
+        Some(g) => g.result,
+        None => call_class(name),
+    }
+}
+
+fn is_given(class: Class, given: Option<Class>) -> bool
+    ensures { result ≡ is_given class given }
+{
+    match given {
+        None => false,
+        Some(c) => same_class(c, class),
+    }
+}
+
+/// Whether a call sets the temporary at the class. The name is looked up only where the call sets the temporary at all.
+fn call_sets(p: &FlatProgram, t: u32, class: Class, temp: Option<u32>, name: &[u8]) -> bool
+    ensures { result ≡ call_sets t class temp (result_class p.now name.now) }
+{
+    match temp {
+        None => false,
+        Some(temp) => temp == t && is_given(class, result_class(p, name)),
     }
 }
 
 #[cycle(sets)]
-fn code_sets(t: u32, class: Class, code: &Flat) -> bool
-    ensures { result ≡ code_sets t class (code_of code.now) }
+fn code_sets(p: &FlatProgram, t: u32, class: Class, code: &Flat) -> bool
+    ensures { result ≡ code_sets p.now t class (code_of code.now) }
 {
     match code {
-        Flat::Seq(kids) => one_sets(t, class, kids),
+        Flat::Seq(kids) => one_sets(p, t, class, kids),
         Flat::Set { temp, class: c, .. } => is_temp_of(t, class, *temp, *c),
         Flat::Load { temp, .. } => is_temp_of(t, class, *temp, Class::L),
         Flat::If { yes, no, .. } => {
-            code_sets(t, class, yes.get()) || code_sets(t, class, no.get())
+            code_sets(p, t, class, yes.get()) || code_sets(p, t, class, no.get())
         }
-        Flat::Loop(body) => code_sets(t, class, body.get()),
-        Flat::Call { temp, name, .. } => call_sets(t, class, *temp, call_class(name.bytes())),
+        Flat::Loop(body) => code_sets(p, t, class, body.get()),
+        Flat::Call { temp, name, .. } => call_sets(p, t, class, *temp, name.bytes()),
         Flat::Store { .. } | Flat::Move { .. } | Flat::Leave(_) | Flat::Ret(_) => false,
     }
 }
 
 #[cycle(sets)]
 #[tactic(auto, using(crate::proofs::Kids::kid_deep, crate::proofs::Kids::drop_kid, crate::proofs::Kids::drop_rest))]
-fn one_sets(t: u32, class: Class, kids: &FlatKids) -> bool
-    ensures { result ≡ one_sets t class (codes_of kids.now) }
+fn one_sets(p: &FlatProgram, t: u32, class: Class, kids: &FlatKids) -> bool
+    ensures { result ≡ one_sets p.now t class (codes_of kids.now) }
 {
     for i in 0..kids.len() {
         if let Some(kid) = kids.get(i) {
-            if code_sets(t, class, kid) {
+            if code_sets(p, t, class, kid) {
                 return true;
             }
         }
@@ -107,15 +127,15 @@ fn params_set(t: u32, class: Class, params: &[Class]) -> bool
 }
 
 /// Whether the function sets the temporary at the class, as a parameter or in its code.
-pub fn is_set(f: &FlatFn, t: u32, class: Class) -> bool
-    ensures { result ≡ is_set f.now t class }
+pub fn is_set(p: &FlatProgram, f: &FlatFn, t: u32, class: Class) -> bool
+    ensures { result ≡ is_set p.now f.now t class }
 {
-    params_set(t, class, f.params.as_slice()) || code_sets(t, class, &f.body)
+    params_set(t, class, f.params.as_slice()) || code_sets(p, t, class, &f.body)
 }
 
 /// Whether the function sets the temporary at no other class.
-pub fn has_one_class(f: &FlatFn, t: u32, class: Class) -> bool
-    ensures { result ≡ has_one_class f.now t class }
+pub fn has_one_class(p: &FlatProgram, f: &FlatFn, t: u32, class: Class) -> bool
+    ensures { result ≡ has_one_class p.now f.now t class }
 {
-    !is_set(f, t, other_class(class))
+    !is_set(p, f, t, other_class(class))
 }
