@@ -14,7 +14,7 @@ use Rattle.hare_typed.specs.Typed.{TypedNode, Mark, marked, typed_nodes, head_of
 use Rattle.hare_typed.specs.Order.{kid_from_front, missing}
 use Rattle.hare_typed.specs.Followed.{pointee_or, reached_within, reached_type}
 use Rattle.hare_typed.specs.Cells.{with_cells, undefined_cells}
-use Rattle.hare_typed.specs.Given.{size_in, pointee}
+use Rattle.hare_typed.specs.Given.{pointee}
 use Rattle.hare_typed.specs.ConstantForms.{type_of_kid, offset_in, part_named, with_parts, made_of, counted_from, fields_from}
 use Rattle.hare_types.specs.declared.coercion.Ty.{Ty}
 use Rattle.hare_const.specs.declared.outcome.Outcome.{Outcome}
@@ -143,15 +143,6 @@ WithParts s f ns from os = kids_at from (length ns) os (λ cs. Known (made_of s 
 -- the parts so far stand in the value, and what is left goes on from there
 abbrev pub Gathered : Store → Ty → (size : ℕ) → List ℕ → (from : ℕ) → List Outcome → ℕ → List Part → Type 0
 Gathered s f size ns from os i ps = WithParts s f ns from os ≡ RestOfParts s f ns from os i (placed os ps (undefined_cells size))
-
-pub gathered_none : (s : Store) (f : Ty) (size : ℕ) (ns : List ℕ) (from : ℕ) (os : List Outcome) → size ≡ size_in s f →
-    Gathered s f size ns from os 0 []
-gathered_none s f size ns from os e =
-    let start : from ≡ from + 0 = omega arith in
-    let left : length ns ≡ length ns - 0 = omega arith in
-    ap (λ k. kids_at k (length ns) os (λ cs. Known (made_of s f ns cs))) start
-    ∙ ap (λ k. kids_at (from + 0) k os (λ cs. Known (made_of s f ns cs))) left
-    ∙ ap (λ k. kids_at (from + 0) (length ns - 0) os (λ cs. Known (with_parts s f ns cs (undefined_cells k)))) (sym e)
 
 -- one more part is gathered
 pub gathered_more : (s : Store) (f : Ty) (size : ℕ) (ns : List ℕ) (from : ℕ) (os : List Outcome) (i : ℕ) (ps new : List Part) (p : Part)

@@ -74,12 +74,6 @@ length_behind : (at : ℕ) (ns cs : List Cell) → length cs ≤ at → length (
 length_behind at ns cs h =
     omega (arith, length-append (cs ++ undefined_cells (at - length cs)) ns, length_filled at cs h)
 
-pub behind_within : (at n : ℕ) (ns cs more : List Cell) → length cs ≤ at → at + length ns ≤ n →
-    more ≡ (cs ++ undefined_cells (at - length cs)) ++ ns → length more ≤ n
-behind_within at n ns cs more h l e =
-    let long : length more ≡ at + length ns = ap length e ∙ length_behind at ns cs h in
-    omega arith
-
 -- a part behind all cells that are known
 pub behind_filled : (at n : ℕ) (ns cs more : List Cell) → length cs ≤ at → at + length ns ≤ n →
     more ≡ (cs ++ undefined_cells (at - length cs)) ++ ns → filled n more ≡ with_cells at ns (filled n cs)
@@ -98,19 +92,6 @@ behind_filled at n ns cs more h l e =
     (length-replicate (length ns) cell.Undef))
     ∙ ap (with_cells at ns) (append_assoc cs (undefined_cells (at - length cs)) (undefined_cells (length ns) ++ undefined_cells rest))
     ∙ ap (λ xs. with_cells at ns (cs ++ xs)) (sym split)
-
--- which lie before the end of what is known then, and behind what was known
-pub behind_apart : (at : ℕ) (ns cs more : List Cell) → length cs ≤ at → more ≡ (cs ++ undefined_cells (at - length cs)) ++ ns →
-    (place : ℕ) → Holds at ns place → (length cs ≤ place) × (place < length more)
-behind_apart at ns cs more h e place k =
-    let long : length more ≡ at + length ns = ap length e ∙ length_behind at ns cs h in
-    (omega (arith, h, k.0), omega (arith, long, k.1))
-
-pub behind_grows : (at : ℕ) (ns cs more : List Cell) → length cs ≤ at → more ≡ (cs ++ undefined_cells (at - length cs)) ++ ns →
-    length cs ≤ length more
-behind_grows at ns cs more h e =
-    let long : length more ≡ at + length ns = ap length e ∙ length_behind at ns cs h in
-    omega arith
 
 -- ---- no cells
 
