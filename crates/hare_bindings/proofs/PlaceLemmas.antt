@@ -26,7 +26,7 @@ use Rattle.hare_bindings.specs.Own.{place_inside, in_the_end, value_among, IsPla
 abbrev pub IsPlaceInside : Store → ℕ → TypedNode → Option Place → Type 0
 IsPlaceInside s own t o = (f : Store) → IsLater s f → o ≡ place_inside f own t
 
-module _ (stay : ConstantsStay) (s : Store) (v : IsStore s) (own : ℕ) (t : TypedNode) (h : IsSettled s t) (c : IsCoherent own t) where
+module _ (stay : ConstantsStay) (s : Store) (v : IsStore s) (own : ℕ) (t : TypedNode) (h : IsSettled s t) (c : IsCoherent s own t) where
   keeps : (f : Store) → IsLater s f → inconstant f own t ≡ inconstant s own t
   keeps f l = (stay s f v l own t h c).inconstant
 

@@ -75,7 +75,7 @@ fn place_inside(
     if !is_settled(s, value) {
         return Err(AllocError);
     }
-    if !is_coherent(alloc, own, value)? {
+    if !is_coherent(alloc, s, own, value)? {
         return Err(AllocError);
     }
     match constant_cells(alloc, s, own, value) {

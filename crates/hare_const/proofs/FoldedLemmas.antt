@@ -17,6 +17,7 @@ use Rattle.hare_typed.specs.Folded.{tagged_by_id, folded_from, folded, inconstan
 use Rattle.hare_const.specs.NodeValues.{cells_in, Refuses}
 use Rattle.hare_const.specs.Settled.{IsSettled}
 use Rattle.hare_const.specs.Statics.{IsCoherent, objects_in, objects_led_to}
+use Rattle.hare_const.proofs.LaterNodes.{coherent_stays}
 use Rattle.hare_const.proofs.LaterTrees.{constants_stay, objects_stay}
 use Rattle.hare_const.proofs.StaticLemmas.{folded_known}
 
@@ -37,14 +38,14 @@ folded_absent s own t u e = by (inconstant s own t) (constant_result (tagged_by_
 -- ---- over later stores
 
 -- the answers to a settled tree, by what is known of its constant over the first store
-module _ (s : Store) (own : ℕ) (t : TypedNode) (v : IsStore s) (p : IsSettled s t) (c : IsCoherent own t) where
+module _ (s : Store) (own : ℕ) (t : TypedNode) (v : IsStore s) (p : IsSettled s t) (c : IsCoherent s own t) where
   pub known_later : (cs : List Cell) → cells_in (folded s own t) ≡ Some cs → (os : List ConstObject) →
       os ≡ objects_led_to (objects_in (tagged_by_id s) own t) cs →
       (l : Store) → IsLater s l → constant.Known cs os ≡ folded l own t
   known_later cs e os f l later =
       let stay = constants_stay s l v later own t p c in
       ap (constant.Known cs) (f ∙ ap (λ xs. objects_led_to xs cs) (sym (objects_stay s l v later own t p)))
-      ∙ sym (folded_known l later.sound own t cs stay.settled c (stay.cells ∙ e))
+      ∙ sym (folded_known l later.sound own t cs stay.settled (coherent_stays s l v later own t p.bases c) (stay.cells ∙ e))
 
   pub none_later : cells_in (folded s own t) ≡ None → (l : Store) → IsLater s l → constant.Absent ≡ folded l own t
   none_later e l later = sym (absent_in (folded l own t) ((constants_stay s l v later own t p c).cells ∙ e))

@@ -1,8 +1,10 @@
 -- The value of a node, and whether it is constant, are in each later store the same.
 use Rattle.std.proofs.Common.{◌≡◌, ◌∙◌, sym, ap, ap₂, subst, refl, ℕ, zero, suc, Bool, true, false, List, [], ◌∷◌, IsSome}
-use Rattle.std.specs.Prelude.{◌==◌, ◌-◌, ◌||◌, ◌&&◌, not, pos, ℤ, option_and_then, unwrap_or, ◌++◌, if◌then◌else◌}
+use Rattle.std.specs.Prelude.{◌==◌, ◌-◌, Option, Some, None, bytes_eq, ◌||◌, ◌&&◌, not, pos, ℤ, option_and_then, unwrap_or, ◌++◌, if◌then◌else◌}
 use Rattle.hare_tree.specs.declared.kind.Kind.{Kind}
 use Rattle.hare_tree.specs.declared.kind.Kind.TheVariants as kind
+use Rattle.hare_tree.specs.Levels.{is_type}
+use Rattle.hare_tree.specs.Node.{Head}
 use Rattle.hare_tree.specs.declared.token.Meaning.{Meaning}
 use Rattle.hare_tree.specs.declared.token.Meaning.TheVariants as meant
 use Rattle.hare_types.specs.declared.coercion.Ty.{Ty}
@@ -22,7 +24,7 @@ use Rattle.hare_typed.specs.Repeats.{again}
 use Rattle.hare_typed.specs.Arithmetic.{arithmetic_of, shift_of, order_of, by_equality, arithmetic, shifted, negated, complemented, in_order, same_number}
 use Rattle.hare_typed.specs.Shapes.{shape_of_row, align_in}
 use Rattle.hare_typed.specs.Constants.{is_known}
-use Rattle.hare_typed.specs.Constancy.{is_name_of, is_void_row, names_void, is_address_row, is_counted_row, is_wrapper, is_constant_kind, is_constant, is_global_path, begins_with_global}
+use Rattle.hare_typed.specs.Constancy.{is_name_of, is_void_row, names_void, is_address_row, is_counted_row, is_wrapper, is_constant_kind, is_constant, is_global_path, begins_with_global, hides_kids, or_else, first_inconstant, first_inconstant_of}
 use Rattle.hare_typed.specs.Coercions.{length_of_row}
 use Rattle.hare_typed.specs.Words.{words}
 use Rattle.hare_typed.specs.Evaluated.{is_named, is_place_kind, first_is_place}
@@ -33,6 +35,8 @@ use Rattle.hare_const.specs.declared.outcome.Outcome.TheVariants.{Known, Aborts,
 use Rattle.hare_const.specs.NodeValues.{on_cells, on_answer, kid_at, kids_at, numbered, number_of_kid, same_texts, negation, complement, order_value, equality_value, cast_value, offset_value, arithmetic_value, shift_value, length_value, array_length_value, tuple_value, struct_value, array_value, type_with_offset, part_with_offset, unary_value, binary_value, operator_value, kind_value, HasNumber, HasParts, fields_given, components_given, AskedKind, PlainKind}
 use Rattle.hare_const.specs.Operators.{IsWidth}
 use Rattle.hare_const.specs.Sizes.{Fits, HasPart}
+use Rattle.hare_const.specs.Texts.{keeps_text, text_by, text_of, text_of_kid, bytes_told, AreTexts}
+use Rattle.hare_const.specs.Statics.{is_text_equality, compares_texts, compares_texts_each, IsCoherent}
 use Rattle.hare_const.specs.Settled.{HasBase, HasBases, HaveBases}
 use Rattle.hare_const.proofs.LaterTypes.{known_base, base_row_same, row_same, cells_same, number_same, int_same, sized, size_same, align_same, part_same, made_same, has_parts, named_same, fields_same, reached_same}
 use Rattle.hare_const.proofs.SizeLemmas.{starts}
@@ -43,6 +47,7 @@ pub record Around (s : Store) (t : TypedNode) : Type 0 where
   pub own : HasBase s (own_type t)
   pub kid : (i : ℕ) → HasBase s (type_of_kid i t)
   pub inner : HasBase s (type_of_kid 0 (kid_from_front 0 t))
+  pub kids : HaveBases s (kids_of t)
 
 kid-bases : (s : Store) (ts : TypedNodes) (i : ℕ) → HaveBases s ts → HasBases s (tree_from_front i (listed_nodes ts))
 kid-bases s typed_none i h = (tt, tt, tt)
@@ -58,11 +63,15 @@ given-base s (marked h m ts) b = b.1
 own-base : (s : Store) (t : TypedNode) → HasBases s t → HasBase s (own_type t)
 own-base s (marked h m ts) b = b.0
 
+kids-base : (s : Store) (t : TypedNode) → HasBases s t → HaveBases s (kids_of t)
+kids-base s (marked h m ts) b = b.2
+
 pub around : (s : Store) (t : TypedNode) → HasBases s t → Around s t
 around s t b = record {
   own = own-base s t b;
   kid = λ i. given-base s (kid_from_front i t) (bases-kid s t i b);
   inner = given-base s (kid_from_front 0 (kid_from_front 0 t)) (bases-kid s (kid_from_front 0 t) 0 (bases-kid s t 0 b));
+  kids = kids-base s t b;
 }
 
 pub first-base : (s : Store) (ts : TypedNodes) → HaveBases s ts → HasBase s (first_given ts)
@@ -99,6 +108,35 @@ part_base s t k f h = let p = starts s t k f h in known_base s (ty.Of t) p.row p
 module _ (s l : Store) (v : IsStore s) (later : IsLater s l) where
   pub str_same : (f : Ty) → HasBase s f → is_str l f ≡ is_str s f
   str_same f h = ap is_str_row (base_row_same s l v later f h)
+
+  -- ---- texts that are told
+
+  text_by_same : (h : Head) (m : Mark) (k : Kind) (o p : Option (List ℕ)) → HasBase s m.ty → o ≡ p → text_by l h m k o ≡ text_by s h m k p
+  text_by_same h m kind.Str o p b e = refl
+  text_by_same h m kind.Path o p b e = refl
+  text_by_same h m kind.Paren o p b e = e
+  text_by_same h m kind.Cast o p b e = ap₂ (λ x q. if x then q else None) (str_same m.ty b) e
+  text_by_same h m _ o p b e = refl
+
+  mutual
+    text_same : (t : TypedNode) → HasBases s t → text_of l t ≡ text_of s t
+    text_same (marked h m ts) b =
+        ap (λ o. if keeps_text m.coerce.row then o else None)
+        (text_by_same h m h.kind (text_of_kid l 0 ts) (text_of_kid s 0 ts) b.0 (kid_text_same 0 ts b.2))
+
+    pub kid_text_same : (n : ℕ) (ts : TypedNodes) → HaveBases s ts → text_of_kid l n ts ≡ text_of_kid s n ts
+    kid_text_same n typed_none b = refl
+    kid_text_same zero (typed_more t ts) b = text_same t b.0
+    kid_text_same (suc n) (typed_more t ts) b = kid_text_same n ts b.1
+
+  texts_same : (ts : TypedNodes) → HaveBases s ts → same_texts l ts ≡ same_texts s ts
+  texts_same ts b = ap₂ (λ x y. bytes_eq (bytes_told x) (bytes_told y)) (kid_text_same 0 ts b) (kid_text_same 1 ts b)
+
+  texts_stay : (ts : TypedNodes) → HaveBases s ts → AreTexts s ts → AreTexts l ts
+  texts_stay ts b a = record {
+    left = subst IsSome (sym (kid_text_same 0 ts b)) a.left;
+    right = subst IsSome (sym (kid_text_same 1 ts b)) a.right;
+  }
 
   module _ (t : TypedNode) (a : Around s t) where
     numbered_same : (n : ℤ) → numbered l t n ≡ numbered s t n
@@ -144,9 +182,10 @@ module _ (s l : Store) (v : IsStore s) (later : IsLater s l) where
 
     equality_same : (x y : List Cell) → equality_value l t x y ≡ equality_value s t x y
     equality_same x y =
-        let told = same_texts (kids_of t) in
+        let told = same_texts s (kids_of t) in
         ap (λ b. bool_cells (by_equality (head_of t).text b))
-        (ap (λ b. if b then told else same_number (number_of_kid l t 0 x) (number_of_kid l t 1 y)) (str_same (type_of_kid 0 t) (a.kid 0))
+        (ap₂ (λ b c. if b then c else same_number (number_of_kid l t 0 x) (number_of_kid l t 1 y)) (str_same (type_of_kid 0 t) (a.kid 0))
+        (texts_same (kids_of t) a.kids)
         ∙ ap₂ (λ j k. if is_str s (type_of_kid 0 t) then told else same_number j k) (kid_same 0 x) (kid_same 1 y))
 
     cast_same : (x : List Cell) → cast_value l t x ≡ cast_value s t x
@@ -300,6 +339,34 @@ module _ (s l : Store) (v : IsStore s) (later : IsLater s l) where
       is_constant l k m ts ≡ is_constant s k m ts
   constant_same k m ts h g = ap (λ b. is_wrapper k || (b && not (m.coerce.row == 2))) (constant_kind_same k m ts h g)
 
+  -- an equality of texts stands in the tree
+  text_equality_same : (k : Kind) (ts : TypedNodes) → HaveBases s ts → is_text_equality l k ts ≡ is_text_equality s k ts
+  text_equality_same kind.Equal ts b = str_same (first_given ts) (first-base s ts b)
+  text_equality_same _ ts b = refl
+
+  mutual
+    compares_same : (t : TypedNode) → HasBases s t → compares_texts l t ≡ compares_texts s t
+    compares_same (marked h m ts) b = ap₂ (λ x y. x || y) (text_equality_same h.kind ts b.2) (compares_same_each ts b.2)
+
+    compares_same_each : (ts : TypedNodes) → HaveBases s ts → compares_texts_each l ts ≡ compares_texts_each s ts
+    compares_same_each typed_none b = refl
+    compares_same_each (typed_more t ts) b = ap₂ (λ x y. x || y) (compares_same t b.0) (compares_same_each ts b.1)
+
+  pub coherent_stays : (own : ℕ) (t : TypedNode) → HasBases s t → IsCoherent s own t → IsCoherent l own t
+  coherent_stays own t b c = λ e. c (sym (compares_same t b) ∙ e)
+
+  -- the first node of no constant kind
+  mutual
+    kinds_same : (t : TypedNode) → HasBases s t → first_inconstant l (λ u. false) t ≡ first_inconstant s (λ u. false) t
+    kinds_same (marked h m ts) b =
+        ap (λ o. if is_type h.kind then None else o)
+        (ap₂ (λ x c. or_else (if hides_kids h.kind ts then None else x) (if not c || false then Some (marked h m ts) else None))
+        (kinds_same_each ts b.2) (constant_same h.kind m ts b.0 (first-base s ts b.2)))
+
+    kinds_same_each : (ts : TypedNodes) → HaveBases s ts → first_inconstant_of l (λ u. false) ts ≡ first_inconstant_of s (λ u. false) ts
+    kinds_same_each typed_none b = refl
+    kinds_same_each (typed_more t ts) b = ap₂ (λ x y. or_else x y) (kinds_same t b.0) (kinds_same_each ts b.1)
+
   -- ---- addresses and equalities
 
   place_same : (k : Kind) (m : Mark) (f g : Ty) (x y : Bool) → is_global_path k m ≡ true → HasBase s m.ty →
@@ -313,6 +380,7 @@ module _ (s l : Store) (v : IsStore s) (later : IsLater s l) where
       place_same h.kind m (first_given us) (first_given us) (first_is_place l us) (first_is_place s us) e b.0.0
 
   pub plain_stays : (k : Kind) (ts : TypedNodes) → HaveBases s ts → PlainKind s k ts → PlainKind l k ts
-  plain_stays kind.Equal ts b h = λ e. h (sym (str_same (first_given ts) (first-base s ts b)) ∙ e)
+  plain_stays kind.Equal ts b h = λ e n.
+      texts_stay ts b (h (sym (str_same (first_given ts) (first-base s ts b)) ∙ e) (sym (kinds_same_each ts b) ∙ n))
   plain_stays kind.Addr ts b h = λ e. first_place_same ts e b ∙ h e
   plain_stays _ ts b h = h

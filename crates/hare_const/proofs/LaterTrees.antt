@@ -17,7 +17,7 @@ use Rattle.hare_const.specs.NodeValues.{on_cells, operands_of, own_value, coerce
 use Rattle.hare_const.specs.Made.{made_by_kids, made_of_value, made_by, made_by_each}
 use Rattle.hare_const.specs.Settled.{HasBase, HasBases, HaveBases, IsSettled, ConstantsStay}
 use Rattle.hare_const.specs.Statics.{statics_in, IsCoherent, objects_in}
-use Rattle.hare_const.proofs.LaterNodes.{around, kind_same, cells_on}
+use Rattle.hare_const.proofs.LaterNodes.{around, kind_same, cells_on, coherent_stays}
 use Rattle.hare_const.proofs.LaterUnions.{SameTags}
 use Rattle.hare_const.proofs.LaterCoercions.{coerced_same, object_same}
 use Rattle.hare_const.proofs.Tagged.{tagged_store, both_tagged, same_tags, settled_stays, first_same, tagged_settled, refused_same, folded_cells}
@@ -77,19 +77,22 @@ module _ (s l : Store) (v : IsStore s) (later : IsLater s l) (own : ℕ) where
   absent None r u e = absurd cc
   absent (Some w) r u e = refl
 
-  module _ (t : TypedNode) (p : IsSettled s t) (c : IsCoherent own t) where
+  module _ (t : TypedNode) (p : IsSettled s t) (c : IsCoherent s own t) where
     here : IsSettled l t
     here = settled_stays s l v later t p
 
+    coherent : IsCoherent l own t
+    coherent = coherent_stays s l v later own t p.bases c
+
     inconstant_stays : inconstant l own t ≡ inconstant s own t
-    inconstant_stays = refused_same l later.sound own t here c ∙ first_refused_same t p ∙ sym (refused_same s v own t p c)
+    inconstant_stays = refused_same l later.sound own t here coherent ∙ first_refused_same t p ∙ sym (refused_same s v own t p c)
 
     cells_same : cells_in (folded l own t) ≡ cells_in (folded s own t)
     cells_same = by (first_refused s own t) refl
       where
         by : (o : Option TypedNode) → first_refused s own t ≡ o → cells_in (folded l own t) ≡ cells_in (folded s own t)
         by None e =
-            (folded_cells l later.sound own t here c (first_refused_same t p ∙ e)).1 ∙ ap cells_of (tagged_value t p.simple p.bases)
+            (folded_cells l later.sound own t here coherent (first_refused_same t p ∙ e)).1 ∙ ap cells_of (tagged_value t p.simple p.bases)
             ∙ sym (folded_cells s v own t p c e).1
         by (Some u) e =
             let none = refused_same s v own t p c ∙ e in

@@ -25,7 +25,8 @@ use Rattle.hare_const.specs.Settled.{IsSettled}
 use Rattle.hare_const.specs.Texts.{cells_found}
 use Rattle.hare_const.specs.Statics.{scope_in, held, statics_in, statics_in_each, IsCoherent, objects_in, objects_led_to, cells_by, reached_by, listed_by}
 use Rattle.hare_const.proofs.Shown.Trees.{plain_from}
-use Rattle.hare_const.proofs.Tagged.{tagged_settled, constant_there}
+use Rattle.hare_const.proofs.LaterNodes.{coherent_stays}
+use Rattle.hare_const.proofs.Tagged.{tagged_later, tagged_settled, constant_there}
 use Rattle.hare_types.specs.Sound.{IsStore}
 use Rattle.hare_const.proofs.Shown.Texts.{held-append, held_listed}
 use Rattle.hare_const.proofs.Shown.MadeTrees.{made_shown}
@@ -205,7 +206,7 @@ from_objects os (Value ds, st) cs m e =
 from_objects os (_, st) cs m e = absurd cc
 
 -- the constant with these cells
-pub folded_known : (s : Store) → IsStore s → (own : ℕ) (t : TypedNode) (cs : List Cell) → IsSettled s t → IsCoherent own t →
+pub folded_known : (s : Store) → IsStore s → (own : ℕ) (t : TypedNode) (cs : List Cell) → IsSettled s t → IsCoherent s own t →
     cells_in (folded s own t) ≡ Some cs →
     folded s own t ≡ constant.Known cs (objects_led_to (objects_in (tagged_by_id s) own t) cs)
 folded_known s v own t cs p c e = by (inconstant s own t) refl e
@@ -217,5 +218,6 @@ folded_known s v own t cs p c e = by (inconstant s own t) refl e
     by None q g =
         from_objects (objects_in (tagged_by_id s) own t) (constant_result (tagged_by_id s) own t) cs
         (λ ds. made_shown (tagged_by_id s) own t (constant_there s v own t p c q)
-        (plain_from (tagged_by_id s) t (tagged_settled s v t p).simple) c ds) g
+        (plain_from (tagged_by_id s) t (tagged_settled s v t p).simple)
+        (coherent_stays s (tagged_by_id s) v (tagged_later s v) own t p.bases c) ds) g
     by (Some u) q g = absurd cc

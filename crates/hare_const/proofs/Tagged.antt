@@ -1,5 +1,5 @@
 -- Constants have the tags that types have by their ids, which no later store changes.
-use Rattle.std.proofs.Common.{◌≡◌, ◌∙◌, sym, ap, ap₂, subst, refl, ℕ, zero, suc, ◌+◌, ◌<◌, ◌≤◌, arith, Bool, false, length, Option, Some, None}
+use Rattle.std.proofs.Common.{◌≡◌, ◌∙◌, sym, ap, ap₂, subst, refl, ℕ, zero, suc, ◌+◌, ◌<◌, ◌≤◌, arith, Bool, true, false, List, [], ◌++◌, length, Option, Some, None}
 use Rattle.std.proofs.lemmas.List.{length-append}
 use Rattle.std.specs.Prelude.{not, ◌||◌, slice_get, if◌then◌else◌}
 use Rattle.hare_tree.specs.declared.place.Fault.{Fault}
@@ -17,14 +17,21 @@ use Rattle.hare_typed.specs.declared.constant.Const.TheVariants as constant
 use Rattle.hare_typed.specs.Typed.{TypedNode, TypedNodes, marked, typed_none, typed_more}
 use Rattle.hare_typed.specs.Constancy.{hides_kids, or_else, first_inconstant, first_inconstant_of}
 use Rattle.hare_typed.specs.ConstantForms.{counted_from}
+use Rattle.hare_typed.specs.Constants.{own_kind}
+use Rattle.hare_typed.specs.Evaluated.{is_evaluated}
+use Rattle.hare_typed.specs.declared.cell.Cell.{Cell}
+use Rattle.hare_typed.specs.declared.constant.ConstObject.{ConstObject}
 use Rattle.hare_typed.specs.State.{Result}
 use Rattle.hare_typed.specs.ConstantValues.{constant_result}
 use Rattle.hare_typed.specs.Folded.{tagged_by_id, aborts, inconstant, folded_from, folded}
-use Rattle.hare_const.specs.NodeValues.{tree_value, IsPlain, IsSimple, AreSimple, is_aborted, first_refused, Refuses, cells_in, cells_of}
+use Rattle.hare_const.specs.declared.outcome.Outcome.{Outcome}
+use Rattle.hare_const.specs.declared.outcome.Outcome.TheVariants.{Known}
+use Rattle.hare_const.specs.Made.{own_object, made_of_value, made_of_node}
+use Rattle.hare_const.specs.NodeValues.{on_cells, own_value, coerced_value, node_value, AskedKind, tree_value, IsPlain, IsSimple, AreSimple, is_aborted, first_refused, Refuses, cells_in, cells_of}
 use Rattle.hare_const.specs.Settled.{HasBases, HaveBases, IsSettled}
 use Rattle.hare_const.specs.Statics.{IsCoherent}
 use Rattle.hare_const.proofs.LaterTypes.{has_base, in_store}
-use Rattle.hare_const.proofs.LaterNodes.{around, first-base, simple_stays, plain_stays, constant_same}
+use Rattle.hare_const.proofs.LaterNodes.{around, kind_same, first-base, simple_stays, plain_stays, coherent_stays, constant_same}
 use Rattle.hare_const.proofs.LaterUnions.{SameTags, joins_stay}
 use Rattle.hare_const.proofs.Shown.Trees.{constant-too, value_shown, inconstant_same, plain_from, folded-cells}
 
@@ -140,6 +147,35 @@ module _ (s l : Store) (v : IsStore s) (later : IsLater s l) where
       firsts_same typed_none k same p = refl
       firsts_same (typed_more t ts) k same p = ap₂ (λ x y. or_else x y) (first_same t k.0 same p.0) (firsts_same ts k.1 same p.1)
 
+-- ---- the value of a node, and what it makes
+
+module _ (s : Store) (v : IsStore s) (own : ℕ) (t : TypedNode) (os : List Outcome) (cs : List Cell) (p : IsSettled s t)
+    (asked : AskedKind s t (own_kind t)) (evaluated : is_evaluated (own_kind t) ≡ true) (known : own_value s own t os ≡ Known cs) where
+  own_known : own_value (tagged_by_id s) own t os ≡ Known cs
+  own_known = kind_same s (tagged_by_id s) v (tagged_later s v) t (around s t p.bases) own os (own_kind t) asked ∙ known
+
+  node_known_by : (ds : List Cell) → Known ds ≡ coerced_value (tagged_by_id s) own t cs → Known ds ≡ node_value (tagged_by_id s) own t os
+  node_known_by ds e =
+      e ∙ sym (ap (λ o. on_cells o (coerced_value (tagged_by_id s) own t)) own_known)
+      ∙ sym (ap (λ b. if b then on_cells (own_value (tagged_by_id s) own t os) (coerced_value (tagged_by_id s) own t) else Known [])
+      evaluated)
+
+  node_makes_by : (old new : List ConstObject) → new ≡ old ++ own_object (tagged_by_id s) own t cs →
+      new ≡ old ++ made_of_node (tagged_by_id s) own t (own_kind t) os
+  node_makes_by old new e =
+      e ∙ sym (ap (λ o. old ++ made_of_value (tagged_by_id s) own t o) own_known)
+      ∙ sym (ap (λ b. old ++ (if b then made_of_value (tagged_by_id s) own t (own_value (tagged_by_id s) own t os) else [])) evaluated)
+
+pub node_known : (s : Store) → IsStore s → (own : ℕ) (t : TypedNode) (os : List Outcome) (cs ds : List Cell) → IsSettled s t →
+    AskedKind s t (own_kind t) → is_evaluated (own_kind t) ≡ true → own_value s own t os ≡ Known cs →
+    Known ds ≡ coerced_value (tagged_by_id s) own t cs → Known ds ≡ node_value (tagged_by_id s) own t os
+node_known s v own t os cs ds p a b k e = node_known_by s v own t os cs p a b k ds e
+
+pub node_makes : (s : Store) → IsStore s → (own : ℕ) (t : TypedNode) (os : List Outcome) (cs : List Cell) (old new : List ConstObject) →
+    IsSettled s t → AskedKind s t (own_kind t) → is_evaluated (own_kind t) ≡ true → own_value s own t os ≡ Known cs →
+    new ≡ old ++ own_object (tagged_by_id s) own t cs → new ≡ old ++ made_of_node (tagged_by_id s) own t (own_kind t) os
+node_makes s v own t os cs old new p a b k e = node_makes_by s v own t os cs p a b k old new e
+
 -- ---- the constant of a settled tree
 
 folded-none : (o : Option TypedNode) (r : Result) → o ≡ None →
@@ -150,17 +186,20 @@ folded-none (Some u) r e = absurd cc
 pub tagged_settled : (s : Store) → IsStore s → (t : TypedNode) → IsSettled s t → IsSettled (tagged_by_id s) t
 tagged_settled s v t p = settled_stays s (tagged_by_id s) v (tagged_later s v) t p
 
-module _ (s : Store) (v : IsStore s) (own : ℕ) (t : TypedNode) (p : IsSettled s t) (c : IsCoherent own t) where
+module _ (s : Store) (v : IsStore s) (own : ℕ) (t : TypedNode) (p : IsSettled s t) (c : IsCoherent s own t) where
   abbrev there : Store
   there = tagged_by_id s
 
   abbrev plain : IsPlain there t
   plain = plain_from there t (tagged_settled s v t p).simple
 
+  coherent : IsCoherent there own t
+  coherent = coherent_stays s there v (tagged_later s v) own t p.bases c
+
   pub refused_same : inconstant s own t ≡ first_refused s own t
   refused_same =
       sym (first_same s there v (tagged_later s v) (aborts s own) (aborts s own) t p.bases (λ u q k. refl) p.simple)
-      ∙ inconstant_same there own t plain c
+      ∙ inconstant_same there own t plain coherent
       ∙ first_same s there v (tagged_later s v) (λ u. is_aborted (tree_value there own u)) (λ u. is_aborted (tree_value there own u)) t
       p.bases
       (λ u q k. refl) p.simple
@@ -179,7 +218,7 @@ module _ (s : Store) (v : IsStore s) (own : ℕ) (t : TypedNode) (p : IsSettled 
         none,
         folded-none (inconstant s own t) (constant_result there own t) none
             ∙ folded-cells (constant_result there own t)
-            ∙ ap cells_of (value_shown there own t (constant_there none) plain c),
+            ∙ ap cells_of (value_shown there own t (constant_there none) plain coherent),
       )
 
   pub folded_refused : (e : Stop Fault) → Refuses (first_refused s own t) e → Refuses (inconstant s own t) e

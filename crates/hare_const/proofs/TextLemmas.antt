@@ -1,23 +1,21 @@
--- Texts, read cell by cell, objects with one number, and trees that compare.
+-- Texts, read byte by byte, objects with one number, and trees that compare.
 use Rattle.std.proofs.Common.{◌≡◌, ◌≢◌, ◌∙◌, ℕ, zero, suc, ◌+◌, ◌-◌, ◌<◌, ◌≤◌, Bool, true, false, List, [], ◌∷◌, ◌++◌, length, take, drop, Option, Some, None, ◌⊎◌, inl, inr, refl, ap, sym, subst, arith, append_assoc, append-nil}
 use Rattle.std.proofs.lemmas.Bool.Decides.{nat_tests}
 use Rattle.std.proofs.lemmas.List.{take_all}
 use Rattle.std.proofs.lemmas.List.Elements.{Contains-push_cases}
-use Rattle.std.specs.Option.{option_eq}
-use Rattle.std.specs.Prelude.{not, ◌||◌, slice_get, nat_eq, nat_le, cond, Contains, IsSome, option_map, if◌then◌else◌}
+use Rattle.std.specs.Prelude.{◌||◌, slice_get, nat_eq, nat_le, cond, Contains, IsSome, option_map, if◌then◌else◌}
 use Rattle.std.specs.Map.{lookup}
 use Rattle.hare_typed.specs.declared.cell.Cell.{Cell}
 use Rattle.hare_typed.specs.declared.cell.Cell.TheVariants as cell
 use Rattle.hare_typed.specs.declared.constant.ConstObject.{ConstObject}
+use Rattle.hare_types.specs.Store.{Store}
 use Rattle.hare_typed.specs.Typed.{TypedNode, typed_nodes}
 use Rattle.hare_typed.specs.Cells.{bytes_of, cells_within}
 use Rattle.hare_typed.specs.ConstantValues.{constant_object, listed_objects}
-use Rattle.hare_types.proofs.ListLemmas.{slice_get_none}
-use Rattle.hare_typed.specs.contracts.cell.CellPartialEq.TheImpl.{ghosts}
 use Rattle.hare_typed.proofs.KidLemmas.{take-get}
 use Rattle.hare_typed.proofs.ExitLemmas.{drop-get}
 use Rattle.hare_const.specs.Texts.{cells_found, AreCoherent, bytes_behind, text_of, text_of_kid}
-use Rattle.hare_const.specs.Statics.{has_equality, has_equality_each}
+use Rattle.hare_const.specs.Statics.{compares_texts, compares_texts_each}
 
 -- ---- objects
 
@@ -59,67 +57,21 @@ found_more os i x e f h o c = by (Contains-push_cases (take i os) x o (subst (λ
 pub found_all : (os : List ConstObject) (i : ℕ) → length os ≤ i → AreFound i os → AreCoherent os
 found_all os i e h o c = h o (subst (λ l. Contains l o) (sym (take_all i os e)) c)
 
--- ---- cells
-
--- what `==` of two cells says
-abbrev pub cell_eq : Cell → Cell → Bool
-cell_eq = ghosts.eq
-
-same_cell : (a b : Cell) → cell_eq a b ≡ true → a ≡ b
-same_cell (cell.Byte x) (cell.Byte y) e = let same : x ≡ y = grind (arith, nat_tests) in ap cell.Byte same
-same_cell (cell.Byte x) (cell.Fragment p f l) e = absurd cc
-same_cell (cell.Byte x) cell.Undef e = absurd cc
-same_cell (cell.Fragment o d k) (cell.Byte y) e = absurd cc
-same_cell (cell.Fragment o d k) (cell.Fragment p f l) e =
-    let object : o ≡ p = grind (arith, nat_tests) in
-    let offset : d ≡ f = grind (arith, nat_tests) in
-    let place : k ≡ l = grind (arith, nat_tests) in
-    cc
-same_cell (cell.Fragment o d k) cell.Undef e = absurd cc
-same_cell cell.Undef (cell.Byte y) e = absurd cc
-same_cell cell.Undef (cell.Fragment p f l) e = absurd cc
-same_cell cell.Undef cell.Undef e = refl
-
-same_option : (a b : Option Cell) → option_eq cell_eq a b ≡ true → a ≡ b
-same_option None None e = refl
-same_option None (Some b) e = absurd cc
-same_option (Some a) None e = absurd cc
-same_option (Some a) (Some b) e = ap Some (same_cell a b e)
-
--- the cells so far are the same with one more
-pub cells_same_more : (xs ys : List Cell) (i : ℕ) (a b : Option Cell) → a ≡ slice_get xs i → b ≡ slice_get ys i →
-    false ≡ not (option_eq cell_eq a b) → take i xs ≡ take i ys → take (i + 1) xs ≡ take (i + 1) ys
-cells_same_more xs ys i a b e f g h = by a (sym e) (sym f ∙ sym (same_option a b (told (option_eq cell_eq a b) g)))
-  where
-    told : (r : Bool) → false ≡ not r → r ≡ true
-    told true q = refl
-    told false q = absurd cc
-
-    past : (zs : List Cell) → slice_get zs i ≡ None → take (i + 1) zs ≡ take i zs
-    past zs q =
-        let ended : length zs ≤ i = slice_get_none zs i q in
-        let further : length zs ≤ i + 1 = omega (arith, ended) in
-        take_all (i + 1) zs further ∙ sym (take_all i zs ended)
-
-    by : (c : Option Cell) → slice_get xs i ≡ c → slice_get ys i ≡ c → take (i + 1) xs ≡ take (i + 1) ys
-    by None p q = past xs p ∙ h ∙ sym (past ys q)
-    by (Some x) p q = take-get xs i x p ∙ ap (λ l. l ++ x ∷ []) h ∙ sym (take-get ys i x q)
-
 -- ---- equalities
 
 -- one stands in those from here on, where one stands in the first of them
-pub equality_here : (ts : List TypedNode) (i : ℕ) (x : TypedNode) → slice_get ts i ≡ Some x → has_equality x ≡ true →
-    has_equality_each (typed_nodes (drop i ts)) ≡ true
-equality_here ts i x e f =
-    ap (λ us. has_equality_each (typed_nodes us)) (drop-get ts i x e)
-    ∙ ap (λ b. b || has_equality_each (typed_nodes (drop (i + 1) ts))) f
+pub equality_here : (s : Store) (ts : List TypedNode) (i : ℕ) (x : TypedNode) → slice_get ts i ≡ Some x → compares_texts s x ≡ true →
+    compares_texts_each s (typed_nodes (drop i ts)) ≡ true
+equality_here s ts i x e f =
+    ap (λ us. compares_texts_each s (typed_nodes us)) (drop-get ts i x e)
+    ∙ ap (λ b. b || compares_texts_each s (typed_nodes (drop (i + 1) ts))) f
 
 -- or else where one stands behind it
-pub equality_behind : (ts : List TypedNode) (i : ℕ) (x : TypedNode) → slice_get ts i ≡ Some x → has_equality x ≡ false →
-    has_equality_each (typed_nodes (drop i ts)) ≡ has_equality_each (typed_nodes (drop (i + 1) ts))
-equality_behind ts i x e f =
-    ap (λ us. has_equality_each (typed_nodes us)) (drop-get ts i x e)
-    ∙ ap (λ b. b || has_equality_each (typed_nodes (drop (i + 1) ts))) f
+pub equality_behind : (s : Store) (ts : List TypedNode) (i : ℕ) (x : TypedNode) → slice_get ts i ≡ Some x → compares_texts s x ≡ false →
+    compares_texts_each s (typed_nodes (drop i ts)) ≡ compares_texts_each s (typed_nodes (drop (i + 1) ts))
+equality_behind s ts i x e f =
+    ap (λ us. compares_texts_each s (typed_nodes us)) (drop-get ts i x e)
+    ∙ ap (λ b. b || compares_texts_each s (typed_nodes (drop (i + 1) ts))) f
 
 -- ---- bytes
 
@@ -177,7 +129,8 @@ bytes_seen cs from count i few h go =
 
 -- ---- kids
 
-pub text_at : (ts : List TypedNode) (i : ℕ) (x : TypedNode) → slice_get ts i ≡ Some x → text_of_kid i (typed_nodes ts) ≡ text_of x
-text_at [] i x e = absurd cc
-text_at (t ∷ ts) zero x e = let same : t ≡ x = cc in ap text_of same
-text_at (t ∷ ts) (suc i) x e = text_at ts i x e
+pub text_at : (s : Store) (ts : List TypedNode) (i : ℕ) (x : TypedNode) → slice_get ts i ≡ Some x →
+    text_of_kid s i (typed_nodes ts) ≡ text_of s x
+text_at s [] i x e = absurd cc
+text_at s (t ∷ ts) zero x e = let same : t ≡ x = cc in ap (text_of s) same
+text_at s (t ∷ ts) (suc i) x e = text_at s ts i x e

@@ -124,13 +124,13 @@ abbrev pub order_value : Store → TypedNode → List Cell → List Cell → Lis
 order_value s t a b = bool_cells (in_order (order_of (head_of t).text) (number_of_kid s t 0 a) (number_of_kid s t 1 b))
 
 -- two texts are equal where their bytes are
-abbrev pub same_texts : TypedNodes → Bool
-same_texts ts = bytes_eq (bytes_told (text_of_kid 0 ts)) (bytes_told (text_of_kid 1 ts))
+abbrev pub same_texts : Store → TypedNodes → Bool
+same_texts s ts = bytes_eq (bytes_told (text_of_kid s 0 ts)) (bytes_told (text_of_kid s 1 ts))
 
 -- whether the operands are equal: texts, or else numbers or bools
 abbrev pub same_operands : Store → TypedNode → List Cell → List Cell → Bool
 same_operands s t a b =
-    if is_str s (type_of_kid 0 t) then same_texts (kids_of t) else same_number (number_of_kid s t 0 a) (number_of_kid s t 1 b)
+    if is_str s (type_of_kid 0 t) then same_texts s (kids_of t) else same_number (number_of_kid s t 0 a) (number_of_kid s t 1 b)
 
 abbrev pub equality_value : Store → TypedNode → List Cell → List Cell → List Cell
 equality_value s t a b = bool_cells (by_equality (head_of t).text (same_operands s t a b))
@@ -327,9 +327,10 @@ HasNumber s t = is_iconst (own_type t) ≡ false → IsWidth (int_in s (own_type
 abbrev pub HasNumbers : Store → TypedNode → Type 0
 HasNumbers s t = HasNumber s t × (is_iconst (own_type t) ≡ false → is_iconst (type_of_kid 1 t) ≡ false)
 
--- the texts that an equality compares are told, and a global whose address is taken is a place
+-- the texts that an equality compares are told, unless a node of its operands is of no constant kind; and a global whose address is taken
+-- is a place
 abbrev pub PlainKind : Store → Kind → TypedNodes → Type 0
-PlainKind s kind.Equal ts = is_str s (first_given ts) ≡ true → AreTexts ts
+PlainKind s kind.Equal ts = is_str s (first_given ts) ≡ true → first_inconstant_of s (λ u. false) ts ≡ None → AreTexts s ts
 PlainKind s kind.Addr ts = begins_with_global ts ≡ true → first_is_place s ts ≡ true
 PlainKind s _ ts = Unit {0}
 

@@ -61,5 +61,5 @@ pub record KeepsConstant (now later : Store) (own : ℕ) (t : TypedNode) : Type 
 
 abbrev pub ConstantsStay : Type 0
 ConstantsStay =
-    (now later : Store) → IsStore now → IsLater now later → (own : ℕ) (t : TypedNode) → IsSettled now t → IsCoherent own t →
+    (now later : Store) → IsStore now → IsLater now later → (own : ℕ) (t : TypedNode) → IsSettled now t → IsCoherent now own t →
     KeepsConstant now later own t

@@ -8,6 +8,7 @@ use Rattle.hare_typed.specs.declared.cell.Cell.{Cell}
 use Rattle.hare_typed.specs.declared.constant.ConstObject.{ConstObject}
 use Rattle.hare_typed.specs.Objects.{Object}
 use Rattle.hare_typed.specs.Typed.{TypedNode, TypedNodes, marked, typed_none, typed_more}
+use Rattle.hare_typed.specs.Given.{first_given, is_str}
 use Rattle.hare_typed.specs.State.{Scope}
 use Rattle.hare_typed.specs.ConstantValues.{listed_objects, statics, statics_of_each}
 use Rattle.hare_typed.specs.Folded.{leads, objects_behind}
@@ -64,21 +65,22 @@ pub record Adds (ns old new : List ℕ) : Type 0 where
   pub all : (n : ℕ) → Contains ns n → Contains new n
   pub only : (n : ℕ) → Contains others n → Contains ns n
 
--- ---- trees that compare
+-- ---- trees that compare texts
 
-abbrev pub is_equality : Kind → Bool
-is_equality kind.Equal = true
-is_equality _ = false
+-- a node of the kind compares texts
+abbrev pub is_text_equality : Store → Kind → TypedNodes → Bool
+is_text_equality s kind.Equal ts = is_str s (first_given ts)
+is_text_equality s _ ts = false
 
--- an equality stands in the tree
+-- an equality of texts stands in the tree
 abbrev mutual
-  pub has_equality : TypedNode → Bool
-  has_equality (marked h m ts) = is_equality h.kind || has_equality_each ts
+  pub compares_texts : Store → TypedNode → Bool
+  compares_texts s (marked h m ts) = is_text_equality s h.kind ts || compares_texts_each s ts
 
-  pub has_equality_each : TypedNodes → Bool
-  has_equality_each typed_none = false
-  has_equality_each (typed_more t ts) = has_equality t || has_equality_each ts
+  pub compares_texts_each : Store → TypedNodes → Bool
+  compares_texts_each s typed_none = false
+  compares_texts_each s (typed_more t ts) = compares_texts s t || compares_texts_each s ts
 
--- Where a tree compares, its objects with one number have the same cells: so it does not matter in which of them a text is looked up.
-abbrev pub IsCoherent : (own : ℕ) → TypedNode → Type 0
-IsCoherent own t = has_equality t ≡ true → AreCoherent (statics_in own t)
+-- Where a tree compares texts, its objects with one number have the same cells: so it does not matter in which of them a text is looked up.
+abbrev pub IsCoherent : Store → (own : ℕ) → TypedNode → Type 0
+IsCoherent s own t = compares_texts s t ≡ true → AreCoherent (statics_in own t)

@@ -1,14 +1,16 @@
--- Texts whose bytes are told without an evaluation: strings, and the constants of defs, each in parentheses or not.
+-- Texts whose bytes are told without an evaluation: strings and the constants of defs, in parentheses or not, cast to texts or not.
 use Rattle.std.specs.Prelude.{◌≡◌, ◌+◌, ℕ, zero, suc, Bool, ◌||◌, ◌^◌, nat_eq, nat_lt, nat_le, List, [], length, Contains, Option, Some, None, option_map, option_and_then, unwrap_or, IsSome, if◌then◌else◌}
 use Rattle.std.specs.Map.{lookup}
 use Rattle.hare_tree.specs.Node.{Head}
 use Rattle.hare_tree.specs.declared.kind.Kind.{Kind}
 use Rattle.hare_tree.specs.declared.kind.Kind.TheVariants as kind
+use Rattle.hare_types.specs.Store.{Store}
 use Rattle.hare_typed.specs.declared.cell.Cell.{Cell}
 use Rattle.hare_typed.specs.declared.constant.Const.{Const}
 use Rattle.hare_typed.specs.declared.constant.Const.TheVariants as constant
 use Rattle.hare_typed.specs.declared.constant.ConstObject.{ConstObject}
 use Rattle.hare_typed.specs.Typed.{TypedNode, TypedNodes, Mark, marked, typed_none, typed_more}
+use Rattle.hare_typed.specs.Given.{is_str}
 use Rattle.hare_typed.specs.Answers.{Answer, Gives, Aborts, IsUndefined}
 use Rattle.hare_typed.specs.Cells.{bytes_of, cells_within}
 use Rattle.hare_typed.specs.Scalars.{Pointer, Null, Address}
@@ -57,28 +59,29 @@ longest = 2 ^ 32
 abbrev pub unless_long : List ℕ → Option (List ℕ)
 unless_long bs = if nat_lt (length bs) longest then Some bs else None
 
--- of a node of the kind, where so much is told of its first kid
-abbrev pub text_by : Head → Mark → Kind → Option (List ℕ) → Option (List ℕ)
-text_by h m kind.Str o = unless_long h.text
-text_by h m kind.Path o = text_in m.value
-text_by h m kind.Paren o = o
-text_by h m _ o = None
+-- of a node of the kind, where so much is told of its first kid; a cast to a text leaves a text as it is
+abbrev pub text_by : Store → Head → Mark → Kind → Option (List ℕ) → Option (List ℕ)
+text_by s h m kind.Str o = unless_long h.text
+text_by s h m kind.Path o = text_in m.value
+text_by s h m kind.Paren o = o
+text_by s h m kind.Cast o = if is_str s m.ty then o else None
+text_by s h m _ o = None
 
--- the bytes of the text that a tree is, where it is a string or the name of a def, in parentheses or not
+-- the bytes of the text that a tree is, where it is a string or the name of a def, in parentheses or not, cast to a text or not
 abbrev mutual
-  pub text_of : TypedNode → Option (List ℕ)
-  text_of (marked h m ts) = if keeps_text m.coerce.row then text_by h m h.kind (text_of_kid 0 ts) else None
+  pub text_of : Store → TypedNode → Option (List ℕ)
+  text_of s (marked h m ts) = if keeps_text m.coerce.row then text_by s h m h.kind (text_of_kid s 0 ts) else None
 
-  pub text_of_kid : ℕ → TypedNodes → Option (List ℕ)
-  text_of_kid n typed_none = None
-  text_of_kid zero (typed_more t ts) = text_of t
-  text_of_kid (suc n) (typed_more t ts) = text_of_kid n ts
+  pub text_of_kid : Store → ℕ → TypedNodes → Option (List ℕ)
+  text_of_kid s n typed_none = None
+  text_of_kid s zero (typed_more t ts) = text_of s t
+  text_of_kid s (suc n) (typed_more t ts) = text_of_kid s n ts
 
 -- the bytes of a text; none where they are not told
 abbrev pub bytes_told : Option (List ℕ) → List ℕ
 bytes_told o = unwrap_or o []
 
 -- both operands are texts whose bytes are told
-pub record AreTexts (ts : TypedNodes) : Type 0 where
-  pub left : IsSome (text_of_kid 0 ts)
-  pub right : IsSome (text_of_kid 1 ts)
+pub record AreTexts (s : Store) (ts : TypedNodes) : Type 0 where
+  pub left : IsSome (text_of_kid s 0 ts)
+  pub right : IsSome (text_of_kid s 1 ts)

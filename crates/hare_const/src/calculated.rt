@@ -164,7 +164,7 @@ fn same_operands(
     ensures { IfOk result (λ b. b ≡ spec.same_operands s.now t.now left.now right.now) }
 {
     if is_str(s, type_of_kid(t, 0)) {
-        return same_texts(alloc, t);
+        return same_texts(alloc, s, t);
     }
     Ok(same_number(number_of_kid(s, t, 0, left), number_of_kid(s, t, 1, right)))
 }

@@ -1,61 +1,52 @@
 //! Whether the objects of a tree that have one number have the same cells.
 
 ghost use Rattle.std.specs.Prelude.{◌≡◌, ◌-◌, ◌<◌, ◌^◌, true, IfOk};
-ghost use Rattle.hare_typed.specs.Typed.{typed_nodes};
+ghost use Rattle.hare_typed.specs.Typed.{typed_nodes, kids_of};
 ghost use Rattle.hare_typed.specs.Constants.{own_kind};
 ghost use Rattle.hare_const.specs.Statics as spec;
 ghost use Rattle.hare_const.specs.Texts.{AreCoherent};
 
+use crate::kids::first_given;
+use crate::shape::is_str;
 use crate::statics::put_statics;
 use crate::table::table_of;
 use hare_tree::Kind;
-use hare_typed::{Cells, ConstObjects, Typed, TypedKids};
+use hare_typed::{ConstObjects, Typed, TypedKids};
+use hare_types::TypeStore;
 use std::alloc::{AllocError, Global};
 
-/// Whether a node is an equality.
-fn is_equality(t: &Typed) -> bool
-    ensures { result ≡ spec.is_equality (own_kind t.now) }
+/// Whether a node compares texts.
+fn is_text_equality(s: &TypeStore, t: &Typed) -> bool
+    ensures { result ≡ spec.is_text_equality s.now (own_kind t.now) (kids_of t.now) }
 {
-    matches!(t.kind, Kind::Equal)
+    match t.kind {
+        Kind::Equal => is_str(s, first_given(t)),
+        _ => false,
+    }
 }
 
-/// Whether an equality stands in a tree.
+/// Whether an equality of texts stands in a tree.
 #[cycle(equalities)]
-fn has_equality(t: &Typed) -> bool
-    ensures { result ≡ spec.has_equality t.now }
+fn compares_texts(s: &TypeStore, t: &Typed) -> bool
+    ensures { result ≡ spec.compares_texts s.now t.now }
 {
-    is_equality(t) || has_equality_each(&t.kids)
+    is_text_equality(s, t) || compares_texts_each(s, &t.kids)
 }
 
 /// The same of some trees.
 #[cycle(equalities)]
-fn has_equality_each(kids: &TypedKids) -> bool
-    ensures { result ≡ spec.has_equality_each (typed_nodes kids.now) }
+fn compares_texts_each(s: &TypeStore, kids: &TypedKids) -> bool
+    ensures { result ≡ spec.compares_texts_each s.now (typed_nodes kids.now) }
 {
     for i in 0..kids.len() {
         let Some(kid) = kids.get(i) else {
             return false;
         };
-        if has_equality(kid) {
+        if compares_texts(s, kid) {
             return true;
         }
     }
     false
-}
-
-/// Whether cells are the same.
-fn same_cells(left: &Cells, right: &Cells) -> bool
-    ensures { result ≡ true → left.now ≡ right.now }
-{
-    if left.len() != right.len() {
-        return false;
-    }
-    for i in 0..left.len() {
-        if left.get(i) != right.get(i) {
-            return false;
-        }
-    }
-    true
 }
 
 /// The objects of the strings and of the constants in a tree.
@@ -82,21 +73,21 @@ fn are_coherent(alloc: Global, own: u32, t: &Typed) -> Result<bool, AllocError>
         let Some(cells) = table.get(&o.object) else {
             return Ok(false);
         };
-        if !same_cells(cells, &o.cells) {
+        if !cells.is_same(&o.cells) {
             return Ok(false);
         }
     }
     Ok(true)
 }
 
-/// Whether a value of the declaration `own` holds no equality, or the objects of the strings and of the constants in it that have one
-/// number have the same cells, as they have in each tree that was checked. Where there is an equality, each cell of the objects is looked
-/// at.
-pub fn is_coherent(alloc: Global, own: u32, t: &Typed) -> Result<bool, AllocError>
+/// Whether a value of the declaration `own` compares no texts, or the objects of the strings and of the constants in it that have one
+/// number have the same cells, as they have in each tree that was checked. Where it compares texts, what the objects keep of their cells is
+/// looked at.
+pub fn is_coherent(alloc: Global, s: &TypeStore, own: u32, t: &Typed) -> Result<bool, AllocError>
     requires { own < 2 ^ 32 - 1 }
-    ensures { IfOk result (λ b. b ≡ true → spec.IsCoherent own t.now) }
+    ensures { IfOk result (λ b. b ≡ true → spec.IsCoherent s.now own t.now) }
 {
-    if !has_equality(t) {
+    if !compares_texts(s, t) {
         return Ok(true);
     }
     are_coherent(alloc, own, t)

@@ -40,7 +40,7 @@ fn cells_and_objects(
 ) -> Result<Option<Cells>, Stop<Fault>>
     requires own { own < 2 ^ 32 - 1 }
     requires settled { IsSettled s.now t.now }
-    requires coherent { IsCoherent own t.now }
+    requires coherent { IsCoherent s.now own t.now }
     ensures ok { IfOk result (λ cells. (inconstant s.now own t.now ≡ None) × (spec.cells_in (folded s.now own t.now) ≡ cells)) }
     ensures objects { OnOk result (objects.new ≡ objects.old ++ made_by (tagged_by_id s.now) own t.now) }
     ensures err { IfErr result (spec.Refuses (inconstant s.now own t.now)) }
@@ -71,7 +71,7 @@ pub fn constant_cells(
     if !is_settled(s, t) {
         return Err(Stop::Memory);
     }
-    if !is_coherent(alloc, own, t)? {
+    if !is_coherent(alloc, s, own, t)? {
         return Err(Stop::Memory);
     }
     let mut made = ConstObjects::new(alloc);
@@ -85,10 +85,10 @@ pub fn constant_cells(
 /// Where the store or the tree tells too little, the answer is want of memory: so it is of a tree with a type that comes to a name which is
 /// not defined, or with a tuple or struct whose size is not known to be at most 67,108,864 bytes, or with parts that its type has not; of a
 /// value that goes to a union of which, or of whose members, so much is not known; of cells that lead to objects which are not there, where
-/// there are more of these than there are objects; and of a tree with an equality in which objects with one number have other cells. It is
-/// so also of what the crate does not work out yet: an equality of texts of which one is no string and no name of a def, in parentheses or
-/// not. The tag of a type in a union is one more than its id, in each store. The declaration's number `own` is below 2^32 - 1. The time is
-/// that of the tree and of the cells, and n log n in the objects; where there is an equality, that of the cells of the objects too.
+/// there are more of these than there are objects; and of a tree that compares texts where objects with one number have other cells, or
+/// where both are constants and one is no string and no name of a def, in parentheses or not, cast to a text or not. The tag of a type in a
+/// union is one more than its id, in each store. The declaration's number `own` is below 2^32 - 1. The time is that of the tree and of the
+/// cells, and n log n in the objects; where texts are compared, that of what the objects keep of their cells too.
 pub fn constant(alloc: Global, s: &TypeStore, own: u32, t: &Typed) -> Result<Const, AllocError>
     requires own { own < 2 ^ 32 - 1 }
     ensures { IfOk result (λ c. (l : Store) → IsLater s.now l → c ≡ folded l own t.now) }
@@ -97,7 +97,7 @@ pub fn constant(alloc: Global, s: &TypeStore, own: u32, t: &Typed) -> Result<Con
     if !is_settled(s, t) {
         return Err(AllocError);
     }
-    if !is_coherent(alloc, own, t)? {
+    if !is_coherent(alloc, s, own, t)? {
         return Err(AllocError);
     }
     let mut objects = ConstObjects::new(alloc);

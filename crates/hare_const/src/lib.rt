@@ -25,6 +25,7 @@ mod parts;
 mod payloads;
 mod placing;
 mod reached;
+mod refused;
 mod settled;
 mod shape;
 mod sizes;

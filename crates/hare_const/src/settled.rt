@@ -17,7 +17,8 @@ use crate::joined::joins;
 use crate::kids::{first_given, type_of_kid};
 use crate::measures::{part_with_offset, type_with_offset};
 use crate::parts::part_named;
-use crate::shape::{Shape, is_str, shape_at};
+use crate::refused::is_refused_kid;
+use crate::shape::{Shape, has_base, is_str, shape_at};
 use crate::sizes::{fits, has_part, part_count};
 use crate::texts::are_texts;
 use hare_tree::Kind;
@@ -26,16 +27,6 @@ use hare_types::{Ty, TypeId, TypeStore};
 
 /// Literals below this are numbers of some type.
 const END_OF_NUMBERS: u128 = 1 << 127;
-
-/// Whether each name is defined to which a type comes, where there is one.
-fn has_base(s: &TypeStore, t: Ty) -> bool
-    ensures { result ≡ true → spec.HasBase s.now t }
-{
-    match t {
-        Ty::Of(t) => s.base(t).is_some(),
-        Ty::Iconst(_) | Ty::Null | Ty::Empty => true,
-    }
-}
 
 /// Whether it is a whole number without a suffix.
 fn is_iconst(t: Ty) -> bool
@@ -166,12 +157,22 @@ fn begins_with_place(s: &TypeStore, t: &Typed) -> bool
     has_base(s, kid.ty) && !names_void(s, kid.meaning, kid.ty)
 }
 
-/// Whether the texts are told that a node compares, and it is no address of what is no place.
+/// Whether the texts are told that an equality compares, or an operand is no constant.
+fn compares_plainly(s: &TypeStore, t: &Typed) -> bool
+    ensures { result ≡ true → values.PlainKind s.now kind.Equal (kids_of t.now) }
+{
+    !is_str(s, first_given(t))
+        || are_texts(s, t)
+        || is_refused_kid(s, &t.kids, 0)
+        || is_refused_kid(s, &t.kids, 1)
+}
+
+/// Whether the texts are told that a node compares, or an operand is no constant, and it is no address of what is no place.
 fn is_plain_kind(s: &TypeStore, t: &Typed) -> bool
     ensures { result ≡ true → values.PlainKind s.now (own_kind t.now) (kids_of t.now) }
 {
     match t.kind {
-        Kind::Equal => !is_str(s, first_given(t)) || are_texts(t),
+        Kind::Equal => compares_plainly(s, t),
         Kind::Addr => begins_with_place(s, t),
         _ => true,
     }

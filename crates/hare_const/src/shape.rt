@@ -1,9 +1,10 @@
-//! The scalar types that a store has.
+//! The bases of types, and the scalar types among them.
 
-ghost use Rattle.std.specs.Prelude.{◌≡◌, ◌≤◌, option_copied, option_map, IfSome};
+ghost use Rattle.std.specs.Prelude.{◌≡◌, ◌≤◌, true, option_copied, option_map, IfSome};
 ghost use Rattle.hare_types.specs.declared.coercion.Ty.TheVariants as ty;
 ghost use Rattle.hare_typed.specs.Given.{base_row, is_str as str_type};
 ghost use Rattle.hare_typed.specs.Shapes as spec;
+ghost use Rattle.hare_const.specs.Settled.{HasBase};
 ghost use Rattle.hare_const.specs.Shapes.{shape_of, IsNarrow};
 
 use hare_types::{Row, Scalar, Ty, TypeId, TypeStore};
@@ -27,6 +28,16 @@ pub(crate) fn base_row(s: &TypeStore, t: TypeId) -> Option<&Row>
 {
     let b = s.base(t)?;
     Some(s.row(b))
+}
+
+/// Whether each name is defined to which a type comes, where there is one.
+pub(crate) fn has_base(s: &TypeStore, t: Ty) -> bool
+    ensures { result ≡ true → HasBase s.now t }
+{
+    match t {
+        Ty::Of(t) => s.base(t).is_some(),
+        Ty::Iconst(_) | Ty::Null | Ty::Empty => true,
+    }
 }
 
 /// Whether the base of a type is str.

@@ -1,13 +1,15 @@
-//! Texts whose bytes are told without an evaluation: strings, and the constants of defs, each in parentheses or not.
+//! Texts whose bytes are told without an evaluation: strings and the constants of defs, in parentheses or not, cast to texts or not.
 
 ghost use Rattle.std.specs.Prelude.{◌≡◌, true, Some, IsSome, IfOk, IfSome};
 ghost use Rattle.hare_typed.specs.Typed.{typed_nodes, mark_of, kids_of};
 ghost use Rattle.hare_const.specs.NodeValues as values;
 ghost use Rattle.hare_const.specs.Texts as spec;
 
+use crate::shape::is_str;
 use crate::words::text_words;
 use hare_tree::Kind;
 use hare_typed::{Cell, Cells, Const, ConstObjects, Typed, TypedKids};
+use hare_types::TypeStore;
 use std::alloc::{AllocError, Global};
 
 /// Strings have fewer bytes.
@@ -91,8 +93,8 @@ fn string_bytes(alloc: Global, bytes: &[u8]) -> Result<Option<Vec<u8>>, AllocErr
 
 /// The bytes of the text that a tree is; none where they are not told.
 #[cycle(texts)]
-fn text_of(alloc: Global, t: &Typed) -> Result<Option<Vec<u8>>, AllocError>
-    ensures { IfOk result (λ o. IfSome o (λ v. spec.text_of t.now ≡ Some v.items)) }
+fn text_of(alloc: Global, s: &TypeStore, t: &Typed) -> Result<Option<Vec<u8>>, AllocError>
+    ensures { IfOk result (λ o. IfSome o (λ v. spec.text_of s.now t.now ≡ Some v.items)) }
 {
     if !keeps_text(t) {
         return Ok(None);
@@ -100,30 +102,36 @@ fn text_of(alloc: Global, t: &Typed) -> Result<Option<Vec<u8>>, AllocError>
     match t.kind {
         Kind::Str => string_bytes(alloc, t.text.bytes()),
         Kind::Path => text_in(alloc, &t.value),
-        Kind::Paren => text_of_kid(alloc, &t.kids, 0),
+        Kind::Paren => text_of_kid(alloc, s, &t.kids, 0),
+        Kind::Cast if is_str(s, t.ty) => text_of_kid(alloc, s, &t.kids, 0),
         _ => Ok(None),
     }
 }
 
 /// The bytes of the text that the kid with so many before it is; none where they are not told.
 #[cycle(texts)]
-fn text_of_kid(alloc: Global, kids: &TypedKids, i: usize) -> Result<Option<Vec<u8>>, AllocError>
-    ensures { IfOk result (λ o. IfSome o (λ v. spec.text_of_kid i (typed_nodes kids.now) ≡ Some v.items)) }
+fn text_of_kid(
+    alloc: Global,
+    s: &TypeStore,
+    kids: &TypedKids,
+    i: usize,
+) -> Result<Option<Vec<u8>>, AllocError>
+    ensures { IfOk result (λ o. IfSome o (λ v. spec.text_of_kid s.now i (typed_nodes kids.now) ≡ Some v.items)) }
 {
     let Some(kid) = kids.get(i) else {
         return Ok(None);
     };
-    text_of(alloc, kid)
+    text_of(alloc, s, kid)
 }
 
 /// Whether two operands are texts of the same bytes. Want of memory where one of them is not told.
-pub(crate) fn same_texts(alloc: Global, t: &Typed) -> Result<bool, AllocError>
-    ensures { IfOk result (λ b. b ≡ values.same_texts (kids_of t.now)) }
+pub(crate) fn same_texts(alloc: Global, s: &TypeStore, t: &Typed) -> Result<bool, AllocError>
+    ensures { IfOk result (λ b. b ≡ values.same_texts s.now (kids_of t.now)) }
 {
-    let Some(left) = text_of_kid(alloc, &t.kids, 0)? else {
+    let Some(left) = text_of_kid(alloc, s, &t.kids, 0)? else {
         return Err(AllocError);
     };
-    let Some(right) = text_of_kid(alloc, &t.kids, 1)? else {
+    let Some(right) = text_of_kid(alloc, s, &t.kids, 1)? else {
         return Err(AllocError);
     };
     Ok(left.as_slice() == right.as_slice())
@@ -162,8 +170,8 @@ fn has_text(c: &Const) -> bool
 
 /// Whether a tree is a text whose bytes are told.
 #[cycle(told)]
-fn is_text(t: &Typed) -> bool
-    ensures { result ≡ true → IsSome (spec.text_of t.now) }
+fn is_text(s: &TypeStore, t: &Typed) -> bool
+    ensures { result ≡ true → IsSome (spec.text_of s.now t.now) }
 {
     if !keeps_text(t) {
         return false;
@@ -171,25 +179,26 @@ fn is_text(t: &Typed) -> bool
     match t.kind {
         Kind::Str => (t.text.bytes().len() as u64) < LONGEST,
         Kind::Path => has_text(&t.value),
-        Kind::Paren => is_text_kid(&t.kids, 0),
+        Kind::Paren => is_text_kid(s, &t.kids, 0),
+        Kind::Cast if is_str(s, t.ty) => is_text_kid(s, &t.kids, 0),
         _ => false,
     }
 }
 
 /// Whether the kid with so many before it is a text whose bytes are told.
 #[cycle(told)]
-fn is_text_kid(kids: &TypedKids, i: usize) -> bool
-    ensures { result ≡ true → IsSome (spec.text_of_kid i (typed_nodes kids.now)) }
+fn is_text_kid(s: &TypeStore, kids: &TypedKids, i: usize) -> bool
+    ensures { result ≡ true → IsSome (spec.text_of_kid s.now i (typed_nodes kids.now)) }
 {
     let Some(kid) = kids.get(i) else {
         return false;
     };
-    is_text(kid)
+    is_text(s, kid)
 }
 
 /// Whether both operands are texts whose bytes are told.
-pub(crate) fn are_texts(t: &Typed) -> bool
-    ensures { result ≡ true → spec.AreTexts (kids_of t.now) }
+pub(crate) fn are_texts(s: &TypeStore, t: &Typed) -> bool
+    ensures { result ≡ true → spec.AreTexts s.now (kids_of t.now) }
 {
-    is_text_kid(&t.kids, 0) && is_text_kid(&t.kids, 1)
+    is_text_kid(s, &t.kids, 0) && is_text_kid(s, &t.kids, 1)
 }

@@ -135,7 +135,7 @@ module _ (s : Store) (own : ℕ) (held : List ConstObject) (ks : Kids) (less : T
   -- an equality compares numbers, or texts that are told
   pub data IsCompared (os : List Outcome) (t : TypedNode) : Type 0 where
     numbers : is_str s (type_of_kid 0 t) ≡ false → equality_of s (type_of_kid 0 t) ≡ OfNumbers → IsCompared os t
-    texts : is_str s (type_of_kid 0 t) ≡ true → Compares held os (same_texts (kids_of t)) → IsCompared os t
+    texts : is_str s (type_of_kid 0 t) ≡ true → Compares held os (same_texts s (kids_of t)) → IsCompared os t
 
   -- the acts behind the operands
   abbrev pub as_equal : TypedNode → (List Cell → Act) → Bool → Act
@@ -172,7 +172,7 @@ module _ (s : Store) (own : ℕ) (held : List ConstObject) (ks : Kids) (less : T
     abbrev compared_by : Bool → Outcome
     compared_by x =
         on_cells (on_cells (kid_at 0 os) λ a. on_cells (kid_at 1 os) λ b. Known (bool_cells (by_equality (head_of t).text
-        (if x then same_texts (kids_of t) else same_number (number_of_kid s t 0 a) (number_of_kid s t 1 b))))) f
+        (if x then same_texts s (kids_of t) else same_number (number_of_kid s t 0 a) (number_of_kid s t 1 b))))) f
 
     of_numbers : equality_of s (type_of_kid 0 t) ≡ OfNumbers → Ends held ks less (comparing (equality_of s (type_of_kid 0 t)))
         (compared_by false)
@@ -181,19 +181,19 @@ module _ (s : Store) (own : ℕ) (held : List ConstObject) (ks : Kids) (less : T
         (same_number (number_of_kid s t 0 a) (number_of_kid s t 1 b))))) f
         (λ a b. ends_numbers t (equality_of s (type_of_kid 0 t)) a b (as_equal t k) _ q (h _))
 
-    of_texts : Compares held os (same_texts (kids_of t)) → Ends held ks less (comparing OfTexts) (compared_by true)
+    of_texts : Compares held os (same_texts s (kids_of t)) → Ends held ks less (comparing OfTexts) (compared_by true)
     of_texts c =
-        let o : Outcome = f (bool_cells (by_equality (head_of t).text (same_texts (kids_of t)))) in
+        let o : Outcome = f (bool_cells (by_equality (head_of t).text (same_texts s (kids_of t)))) in
         let value_is : o ≡ compared_by true =
         sym (ap₂ (λ x y. on_cells (on_cells x λ a. on_cells y λ b. Known
-        (bool_cells (by_equality (head_of t).text (same_texts (kids_of t)))))
+        (bool_cells (by_equality (head_of t).text (same_texts s (kids_of t)))))
         f) c.first c.second) in
         subst (λ x. Ends held ks less (comparing OfTexts) x) value_is
         (ends_known held ks less own 0 sc (λ a. value 1 sc λ b. with_equality (without_run s) t OfTexts a b (as_equal t k)) c.left o e
         (subst (λ x. Shows held own (ks.kid 0 AsValue) x) c.first (m 0))
         (ends_known held ks less own 1 sc (λ b. with_equality (without_run s) t OfTexts c.left b (as_equal t k)) c.right o e
         (subst (λ x. Shows held own (ks.kid 1 AsValue) x) c.second (m 1))
-        (ends_texts os t (same_texts (kids_of t)) (as_equal t k) o c (h _))))
+        (ends_texts os t (same_texts s (kids_of t)) (as_equal t k) o c (h _))))
 
     of_operands : IsCompared os t → Ends held ks less (comparing (equality_of s (type_of_kid 0 t)))
         (compared_by (is_str s (type_of_kid 0 t)))

@@ -393,7 +393,7 @@ module _ (s : Store) (own : ℕ) (old : List ConstObject) (ks : Kids) (less : Ta
   same_made os t a b k new (numbers d q) f g h =
       numbers_compared t (equality_of s (type_of_kid 0 t)) a b (as_equal s own old ks less t k) new q
       (subst (λ x. Makes old ks less (as_equal s own old ks less t k
-      (if x then same_texts (kids_of t) else same_number (number_of_kid s t 0 a) (number_of_kid s t 1 b))) new) d h)
+      (if x then same_texts s (kids_of t) else same_number (number_of_kid s t 0 a) (number_of_kid s t 1 b))) new) d h)
   same_made os t a b k new (texts d c) f g h =
       let left : c.left ≡ a = known_same c.left a (sym c.first ∙ f) in
       let right : c.right ≡ b = known_same c.right b (sym c.second ∙ g) in
@@ -401,9 +401,9 @@ module _ (s : Store) (own : ℕ) (old : List ConstObject) (ks : Kids) (less : Ta
       (base_row s (type_of_kid 0 t)))) a b (as_equal s own old ks less t k)) new) (sym d)
       (subst (λ x. Makes old ks less (with_equality (without_run s) t OfTexts x b (as_equal s own old ks less t k)) new) left
       (subst (λ y. Makes old ks less (with_equality (without_run s) t OfTexts c.left y (as_equal s own old ks less t k)) new) right
-      (texts_compared os t (same_texts (kids_of t)) (as_equal s own old ks less t k) new c
+      (texts_compared os t (same_texts s (kids_of t)) (as_equal s own old ks less t k) new c
       (subst (λ x. Makes old ks less (as_equal s own old ks less t k
-      (if x then same_texts (kids_of t) else same_number (number_of_kid s t 0 a) (number_of_kid s t 1 b))) new) d h))))
+      (if x then same_texts s (kids_of t) else same_number (number_of_kid s t 0 a) (number_of_kid s t 1 b))) new) d h))))
     where
       known_same : (xs ys : List Cell) → Known xs ≡ Known ys → xs ≡ ys
       known_same xs ys q = cc

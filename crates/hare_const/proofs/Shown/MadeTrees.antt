@@ -19,7 +19,7 @@ use Rattle.hare_typed.specs.ConstantValues.{without_run, constant_place, constan
 use Rattle.hare_const.specs.declared.operands.Operands.TheVariants.{NoKid}
 use Rattle.hare_const.specs.NodeValues.{kid_at, operands_of, kind_value, kid_values, PlainKind, IsPlain, ArePlain}
 use Rattle.hare_const.specs.Made.{made_by_kids, made_of_value, made_by, made_by_each}
-use Rattle.hare_const.specs.Statics.{scope_in, held, statics_in, statics_in_each, is_equality, has_equality, has_equality_each, IsCoherent, objects_in}
+use Rattle.hare_const.specs.Statics.{scope_in, held, statics_in, statics_in_each, is_text_equality, compares_texts, compares_texts_each, IsCoherent, objects_in}
 use Rattle.hare_const.proofs.Shown.Acts.{Shows}
 use Rattle.hare_const.proofs.Shown.Made.{made_at, named_in, MakesThese, Makes, makes_as, makes_end, taken_none, ReadyToMake, makes_value_of}
 use Rattle.hare_const.proofs.Shown.Trees.{first-none, type-idle, constant_from, no_place, and-left, not-true, compared, over, first-reached, form, kids-shown, Safe, safe_kids, safe_node, safe_first, safe_rest, has_statics}
@@ -53,20 +53,22 @@ module _ (s : Store) (own : ℕ) (all : List ConstObject) (less : Tasks) where
 
   -- a constant node is as its kind asks
   ready : (h : Head) (k : Kind) (m : Mark) (ts : TypedNodes) → is_constant s k m ts ≡ true → PlainKind s k ts →
-      Safe all (statics_in_each own ts) (is_equality k) → (hides_kids k ts ≡ false → KidsAre ts) →
+      Safe all (statics_in_each own ts) (is_text_equality s k ts) →
+      (hides_kids k ts ≡ false → first_inconstant_of s (λ u. false) ts ≡ None) →
+      (hides_kids k ts ≡ false → KidsAre ts) →
       ReadyToMake s own all (over s own all less h ts) less (kid_values s own ts) (made_by_each s own ts) (marked h m ts) k
-  ready h kind.Addr m ts e p w f = λ sc st q.
+  ready h kind.Addr m ts e p w n f = λ sc st q.
       let g = and-left (begins_with_global ts) (not (m.coerce.row == 2)) e in
       first-reached s own all less h m ts g (p g) (record sc { first = sc.first + own_bindings h.kind }) st q
-  ready h kind.Offset m ts e p w f = tt
-  ready h kind.Equal m ts e p w f = (
+  ready h kind.Offset m ts e p w n f = tt
+  ready h kind.Equal m ts e p w n f = (
     record {
       shown = λ i sc st q. (f refl).shown i (record sc { first = sc.first + own_bindings h.kind }) st q;
       made = λ i sc st cs q z. (f refl).made i (record sc { first = sc.first + own_bindings h.kind }) st cs q z;
     },
-    compared s own all less h m ts (not-true _ (and-left _ (not (m.coerce.row == 2)) e)) p (w refl),
+    compared s own all less h m ts (not-true _ (and-left _ (not (m.coerce.row == 2)) e)) (λ r. p r (n refl)) w,
   )
-  ready h _ m ts e p w f = record {
+  ready h _ m ts e p w n f = record {
     shown = λ i sc st q. (f refl).shown i (record sc { first = sc.first + own_bindings h.kind }) st q;
     made = λ i sc st cs q z. (f refl).made i (record sc { first = sc.first + own_bindings h.kind }) st cs q z;
   }
@@ -106,7 +108,7 @@ module _ (s : Store) (own : ℕ) (all : List ConstObject) (less : Tasks) where
     placed false r false e v = idle false false refl e
 
     node-made : first_inconstant s (λ u. false) (marked h m ts) ≡ None → PlainKind s h.kind ts →
-        Safe all (statics_in_each own ts) (is_equality h.kind) → (first_inconstant_of s (λ u. false) ts ≡ None → KidsAre ts) →
+        Safe all (statics_in_each own ts) (is_text_equality s h.kind ts) → (first_inconstant_of s (λ u. false) ts ≡ None → KidsAre ts) →
         sc.own ≡ own →
         Makes all (over s own all less h ts) less (constant_node (without_run s) (marked h m ts) AsValue sc) (made_by s own (marked h m ts))
     node-made e p w f q = go (is_type h.kind) refl
@@ -120,31 +122,31 @@ module _ (s : Store) (own : ℕ) (all : List ConstObject) (less : Tasks) where
             placed (is_place s (marked h m ts)) (no_place s (marked h m ts) e) (is_evaluated h.kind) refl
             (makes_value_of s own all (over s own all less h ts) less (kid_values s own ts) (made_by_each s own ts) (marked h m ts) sc
             h.kind q
-            (ready h h.kind m ts c.itself p w (λ r. f (c.kids r))))
+            (ready h h.kind m ts c.itself p w c.kids (λ r. f (c.kids r))))
 
   mutual
     tree-made : (t : TypedNode) → first_inconstant s (λ u. false) t ≡ None → IsPlain s t →
-        Safe all (statics_in own t) (has_equality t) → MakesThese all own (node_act (constant_forms (without_run s)) less t AsValue)
+        Safe all (statics_in own t) (compares_texts s t) → MakesThese all own (node_act (constant_forms (without_run s)) less t AsValue)
         (made_by s own t)
     tree-made (marked h m ts) e p w sc st cs q has r =
-        let safe = safe_kids all own h m ts w in
-        (node-made h m ts sc e p.0 (safe_node all own h m ts w) (λ f. record {
+        let safe = safe_kids s all own h m ts w in
+        (node-made h m ts sc e p.0 (safe_node s all own h m ts w) (λ f. record {
           shown = kids-shown s own all less ts f p.1 safe;
           made = kids-made ts f p.1 safe;
         }) q).named st cs has r
 
     kids-made : (ts : TypedNodes) → first_inconstant_of s (λ u. false) ts ≡ None → ArePlain s ts →
-        Safe all (statics_in_each own ts) (has_equality_each ts) → (i : ℕ) →
+        Safe all (statics_in_each own ts) (compares_texts_each s ts) → (i : ℕ) →
         MakesThese all own (kid_act (constant_forms (without_run s)) less ts i AsValue) (made_at i (made_by_each s own ts))
     kids-made typed_none e p w i sc st cs q has r = sym (append-nil (named_in st))
     kids-made (typed_more t ts) e p w zero sc st cs q has r =
-        tree-made t (first-none (first_inconstant s (λ u. false) t) _ e).0 p.0 (safe_first all own t ts w) sc st cs q has r
+        tree-made t (first-none (first_inconstant s (λ u. false) t) _ e).0 p.0 (safe_first s all own t ts w) sc st cs q has r
     kids-made (typed_more t ts) e p w (suc i) sc st cs q has r =
-        kids-made ts (first-none (first_inconstant s (λ u. false) t) _ e).1 p.1 (safe_rest all own t ts w) i _ st cs q has r
+        kids-made ts (first-none (first_inconstant s (λ u. false) t) _ e).1 p.1 (safe_rest s all own t ts w) i _ st cs q has r
 
 -- all objects that there are when a constant is known
 pub made_shown : (s : Store) (own : ℕ) (t : TypedNode) → first_inconstant s (λ u. false) t ≡ None → IsPlain s t →
-    IsCoherent own t → (cs : List Cell) → (constant_result s own t).0 ≡ Value cs →
+    IsCoherent s own t → (cs : List Cell) → (constant_result s own t).0 ≡ Value cs →
     held (constant_result s own t).1.memory.objects.named ≡ objects_in s own t
 made_shown s own t e p c cs r =
     tree-made s own (statics_in own t) (fewer_than (constant_forms (without_run s)) 0) t e p (λ x. (c x, λ o h. h)) (scope_in own)

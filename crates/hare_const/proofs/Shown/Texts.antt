@@ -18,12 +18,18 @@ use Rattle.hare_tree.specs.declared.kind.Kind.TheVariants as kind
 use Rattle.hare_tree.specs.Node.{Head}
 use Rattle.hare_types.specs.declared.coercion.Ty.{Ty}
 use Rattle.hare_types.specs.declared.coercion.Ty.TheVariants as ty
+use Rattle.hare_types.specs.declared.row.Row.{Row}
+use Rattle.hare_types.specs.declared.row.Row.TheVariants as row
+use Rattle.hare_types.specs.declared.row.Scalar.TheVariants as keyword
 use Rattle.hare_types.specs.Store.{Store}
 use Rattle.hare_typed.specs.declared.cell.Cell.{Cell}
 use Rattle.hare_typed.specs.declared.constant.Const.{Const}
 use Rattle.hare_typed.specs.declared.constant.Const.TheVariants as constant
 use Rattle.hare_typed.specs.declared.constant.ConstObject.{ConstObject}
 use Rattle.hare_typed.specs.Typed.{TypedNode, TypedNodes, Mark, marked, typed_none, typed_more}
+use Rattle.hare_typed.specs.Given.{base_row, is_str, is_str_row}
+use Rattle.hare_typed.specs.Shapes.{shape_of_row}
+use Rattle.hare_typed.specs.ConstantForms.{own_type, is_whole}
 use Rattle.hare_typed.specs.Answers.{Answer, Gives, Aborts, IsUndefined, or_undefined, unless, ◌then◌}
 use Rattle.hare_typed.specs.Cells.{byte_cells, bytes_of, cells_within}
 use Rattle.hare_typed.specs.Scalars.{Pointer, Null, Address, Number, Pointing, Whole, Nullable, cells}
@@ -35,7 +41,7 @@ use Rattle.hare_typed.specs.ConstantValues.{constant_object, listed_objects, obj
 use Rattle.hare_typed.proofs.ScalarLemmas.{bytes_of-only, bytes_of-byte_cells, length-byte_cells, cells_spell}
 use Rattle.hare_const.specs.declared.outcome.Outcome.{Outcome}
 use Rattle.hare_const.specs.declared.outcome.Outcome.TheVariants.{Known}
-use Rattle.hare_const.specs.NodeValues.{on_cells, kid_at, object_number, slice_of, cells_known, kind_value, coerced_value, tree_value, kid_values, same_texts}
+use Rattle.hare_const.specs.NodeValues.{on_cells, kid_at, object_number, slice_of, cells_known, numbered, number_of_kid, cast_value, kind_value, coerced_value, tree_value, kid_values, same_texts}
 use Rattle.hare_const.specs.Texts.{cells_found, AreCoherent, bytes_behind, bytes_at, text_of_words, text_in, keeps_text, longest, unless_long, text_by, text_of, text_of_kid, bytes_told, AreTexts}
 use Rattle.hare_const.specs.Statics.{scope_in, held, statics_in, statics_in_each}
 use Rattle.hare_const.proofs.Shown.Acts.{Has}
@@ -263,6 +269,18 @@ kept_by s own h m ts cs e = go m.coerce.row e
         coerced_value s own (marked h (record m { coerce = record { row = r; to = m.coerce.to } }) ts) cs ≡ Known cs
     go r q = to r m.coerce.to (which r (nat_eq r 1) (nat_eq r 8) refl refl q)
 
+-- a text is no number of so many bits
+text_not_whole : (r : Option Row) → is_str_row r ≡ true → is_whole (option_and_then shape_of_row r) ≡ false
+text_not_whole None e = absurd cc
+text_not_whole (Some (row.Scalar keyword.Str)) e = refl
+text_not_whole (Some (row.Scalar _)) e = absurd cc
+text_not_whole (Some _) e = absurd cc
+
+-- nor does a cast to a text
+cast_kept : (s : Store) (t : TypedNode) (cs : List Cell) → is_str s (own_type t) ≡ true → cast_value s t cs ≡ cs
+cast_kept s t cs e =
+    ap (λ b. if b then numbered s t (number_of_kid s t 0 cs) else cs) (text_not_whole (base_row s (own_type t)) e)
+
 -- ---- the static objects of kids
 
 -- those of the kids are among those of a node, were it of a kind
@@ -435,8 +453,8 @@ module _ (s : Store) (own : ℕ) (all : List ConstObject) (coherent : AreCoheren
     kids_last : (k : Kind) → Inside all (static_as k) → Inside all (statics_in_each own ts)
     kids_last k i o c = i o (kids_behind own (marked h m ts) m ts k o c)
 
-    by_kind : (k : Kind) → keeps_text m.coerce.row ≡ true → text_by h m k (text_of_kid 0 ts) ≡ Some bs → Inside all (static_as k) →
-        (text_of_kid 0 ts ≡ Some bs → Inside all (statics_in_each own ts) → IsText (kid_at 0 (kid_values s own ts)) bs) →
+    by_kind : (k : Kind) → keeps_text m.coerce.row ≡ true → text_by s h m k (text_of_kid s 0 ts) ≡ Some bs → Inside all (static_as k) →
+        (text_of_kid s 0 ts ≡ Some bs → Inside all (statics_in_each own ts) → IsText (kid_at 0 (kid_values s own ts)) bs) →
         IsText (if is_evaluated k then on_cells (kind_value s own (marked h m ts) k (kid_values s own ts))
         (coerced_value s own (marked h m ts)) else Known []) bs
     by_kind kind.Str e q i f = kept_text h m ts _ bs e (string_text h m ts bs q (text_first kind.Str i))
@@ -451,20 +469,38 @@ module _ (s : Store) (own : ℕ) (all : List ConstObject) (coherent : AreCoheren
           many = x.many;
           reads = x.reads;
         })
+    by_kind kind.Cast e q i f = by (is_str s m.ty) refl q
+      where
+        t : TypedNode
+        t = marked h m ts
+
+        by : (b : Bool) → is_str s m.ty ≡ b → (if b then text_of_kid s 0 ts else None) ≡ Some bs →
+            IsText (on_cells (on_cells (kid_at 0 (kid_values s own ts)) λ a. Known (cast_value s t a)) (coerced_value s own t)) bs
+        by true d r =
+            let x = f r (kids_last kind.Cast i) in
+            kept_text h m ts (on_cells (kid_at 0 (kid_values s own ts)) λ a. Known (cast_value s t a)) bs e (record {
+              cells_are = x.cells_are;
+              known = ap (λ y. on_cells y (λ a. Known (cast_value s t a))) x.known ∙ ap Known (cast_kept s t x.cells_are d);
+              says = x.says;
+              told = x.told;
+              many = x.many;
+              reads = x.reads;
+            })
+        by false d r = absurd cc
     by_kind _ e q i f = absurd cc
 
   mutual
     -- a text that is told is the value of its tree
-    text_shown : (t : TypedNode) (bs : List ℕ) → text_of t ≡ Some bs → Inside all (statics_in own t) → IsText (tree_value s own t) bs
+    text_shown : (t : TypedNode) (bs : List ℕ) → text_of s t ≡ Some bs → Inside all (statics_in own t) → IsText (tree_value s own t) bs
     text_shown (marked h m ts) bs e i = go (keeps_text m.coerce.row) refl e (λ f j. kid_shown 0 ts bs f j)
       where
-        go : (b : Bool) → keeps_text m.coerce.row ≡ b → (if b then text_by h m h.kind (text_of_kid 0 ts) else None) ≡ Some bs →
-            (text_of_kid 0 ts ≡ Some bs → Inside all (statics_in_each own ts) → IsText (kid_at 0 (kid_values s own ts)) bs) →
+        go : (b : Bool) → keeps_text m.coerce.row ≡ b → (if b then text_by s h m h.kind (text_of_kid s 0 ts) else None) ≡ Some bs →
+            (text_of_kid s 0 ts ≡ Some bs → Inside all (statics_in_each own ts) → IsText (kid_at 0 (kid_values s own ts)) bs) →
             IsText (tree_value s own (marked h m ts)) bs
         go true d q f = by_kind h m ts bs h.kind d q i f
         go false d q f = absurd cc
 
-    kid_shown : (n : ℕ) (ts : TypedNodes) (bs : List ℕ) → text_of_kid n ts ≡ Some bs → Inside all (statics_in_each own ts) →
+    kid_shown : (n : ℕ) (ts : TypedNodes) (bs : List ℕ) → text_of_kid s n ts ≡ Some bs → Inside all (statics_in_each own ts) →
         IsText (kid_at n (kid_values s own ts)) bs
     kid_shown n typed_none bs e i = absurd cc
     kid_shown zero (typed_more t ts) bs e i = text_shown t bs e (λ o c. i o (first_of own t ts o c))
@@ -475,10 +511,11 @@ module _ (s : Store) (own : ℕ) (all : List ConstObject) (coherent : AreCoheren
   some_text (Some bs) h = (bs, refl)
 
   -- what is needed of an equality of two texts that are told
-  pub compares : (ts : TypedNodes) → AreTexts ts → Inside all (statics_in_each own ts) → Compares all (kid_values s own ts) (same_texts ts)
+  pub compares : (ts : TypedNodes) → AreTexts s ts → Inside all (statics_in_each own ts) →
+      Compares all (kid_values s own ts) (same_texts s ts)
   compares ts a i =
-      let x = some_text (text_of_kid 0 ts) a.left in
-      let y = some_text (text_of_kid 1 ts) a.right in
+      let x = some_text (text_of_kid s 0 ts) a.left in
+      let y = some_text (text_of_kid s 1 ts) a.right in
       let p = kid_shown 0 ts x.0 x.1 i in
       let q = kid_shown 1 ts y.0 y.1 i in
       record {

@@ -31,7 +31,7 @@ use Rattle.hare_const.specs.declared.outcome.Outcome.{Outcome}
 use Rattle.hare_const.specs.declared.outcome.Outcome.TheVariants.{Known}
 use Rattle.hare_const.specs.NodeValues.{on_cells, kid_at, declared_by, own_value, coerced_value, tree_value, kid_values, PlainKind, IsPlain, ArePlain, IsSimple, AreSimple, is_aborted, cells_in, cells_of}
 use Rattle.hare_const.specs.Texts.{AreCoherent, AreTexts}
-use Rattle.hare_const.specs.Statics.{scope_in, statics_in, statics_in_each, is_equality, has_equality, has_equality_each, IsCoherent}
+use Rattle.hare_const.specs.Statics.{scope_in, statics_in, statics_in_each, is_text_equality, compares_texts, compares_texts_each, IsCoherent}
 use Rattle.hare_const.proofs.Shown.Acts.{shown, Has, Shows, Ends}
 use Rattle.hare_const.proofs.Shown.Forms.{IsCompared, numbers, texts, Ready, ends_value_of}
 use Rattle.hare_const.proofs.Shown.Texts.{statics-again, Inside, of_kids, first_of, rest_of, compares, coherent_inside}
@@ -188,26 +188,29 @@ or-right true b e = refl
 or-right false b e = e
 
 -- of the kids of a node, of the first of some trees, and of those behind it
-pub safe_kids : (all : List ConstObject) (own : ℕ) (h : Head) (m : Mark) (ts : TypedNodes) →
-    Safe all (statics_in own (marked h m ts)) (has_equality (marked h m ts)) → Safe all (statics_in_each own ts) (has_equality_each ts)
-safe_kids all own h m ts w e =
-    let p = w (or-right (is_equality h.kind) (has_equality_each ts) e) in (p.0, λ o c. p.1 o (of_kids own h m ts o c))
+pub safe_kids : (s : Store) (all : List ConstObject) (own : ℕ) (h : Head) (m : Mark) (ts : TypedNodes) →
+    Safe all (statics_in own (marked h m ts)) (compares_texts s (marked h m ts)) →
+    Safe all (statics_in_each own ts) (compares_texts_each s ts)
+safe_kids s all own h m ts w e =
+    let p = w (or-right (is_text_equality s h.kind ts) (compares_texts_each s ts) e) in (p.0, λ o c. p.1 o (of_kids own h m ts o c))
 
-pub safe_node : (all : List ConstObject) (own : ℕ) (h : Head) (m : Mark) (ts : TypedNodes) →
-    Safe all (statics_in own (marked h m ts)) (has_equality (marked h m ts)) → Safe all (statics_in_each own ts) (is_equality h.kind)
-safe_node all own h m ts w e =
-    let p = w (or-left (is_equality h.kind) (has_equality_each ts) e) in (p.0, λ o c. p.1 o (of_kids own h m ts o c))
+pub safe_node : (s : Store) (all : List ConstObject) (own : ℕ) (h : Head) (m : Mark) (ts : TypedNodes) →
+    Safe all (statics_in own (marked h m ts)) (compares_texts s (marked h m ts)) →
+    Safe all (statics_in_each own ts) (is_text_equality s h.kind ts)
+safe_node s all own h m ts w e =
+    let p = w (or-left (is_text_equality s h.kind ts) (compares_texts_each s ts) e) in (p.0, λ o c. p.1 o (of_kids own h m ts o c))
 
-pub safe_first : (all : List ConstObject) (own : ℕ) (t : TypedNode) (ts : TypedNodes) →
-    Safe all (statics_in_each own (typed_more t ts)) (has_equality_each (typed_more t ts)) → Safe all (statics_in own t) (has_equality t)
-safe_first all own t ts w e =
-    let p = w (or-left (has_equality t) (has_equality_each ts) e) in (p.0, λ o c. p.1 o (first_of own t ts o c))
+pub safe_first : (s : Store) (all : List ConstObject) (own : ℕ) (t : TypedNode) (ts : TypedNodes) →
+    Safe all (statics_in_each own (typed_more t ts)) (compares_texts_each s (typed_more t ts)) →
+    Safe all (statics_in own t) (compares_texts s t)
+safe_first s all own t ts w e =
+    let p = w (or-left (compares_texts s t) (compares_texts_each s ts) e) in (p.0, λ o c. p.1 o (first_of own t ts o c))
 
-pub safe_rest : (all : List ConstObject) (own : ℕ) (t : TypedNode) (ts : TypedNodes) →
-    Safe all (statics_in_each own (typed_more t ts)) (has_equality_each (typed_more t ts)) →
-    Safe all (statics_in_each own ts) (has_equality_each ts)
-safe_rest all own t ts w e =
-    let p = w (or-right (has_equality t) (has_equality_each ts) e) in (p.0, λ o c. p.1 o (rest_of own t ts o c))
+pub safe_rest : (s : Store) (all : List ConstObject) (own : ℕ) (t : TypedNode) (ts : TypedNodes) →
+    Safe all (statics_in_each own (typed_more t ts)) (compares_texts_each s (typed_more t ts)) →
+    Safe all (statics_in_each own ts) (compares_texts_each s ts)
+safe_rest s all own t ts w e =
+    let p = w (or-right (compares_texts s t) (compares_texts_each s ts) e) in (p.0, λ o c. p.1 o (rest_of own t ts o c))
 
 module _ (s : Store) (own : ℕ) (all : List ConstObject) (less : Tasks) where
   -- what the kids of a node give
@@ -255,7 +258,8 @@ module _ (s : Store) (own : ℕ) (all : List ConstObject) (less : Tasks) where
 
   -- an equality compares numbers, or texts that are told
   pub compared : (h : Head) (m : Mark) (ts : TypedNodes) → is_address_row (base_row s (first_given ts)) ≡ false →
-      (is_str s (first_given ts) ≡ true → AreTexts ts) → AreCoherent all × Inside all (statics_in_each own ts) →
+      (is_str s (first_given ts) ≡ true → AreTexts s ts) →
+      (is_str s (first_given ts) ≡ true → AreCoherent all × Inside all (statics_in_each own ts)) →
       IsCompared s own all (over h ts) less (kid_values s own ts) (marked h m ts)
   compared h m ts a p i = by (is_str s (first_given ts)) refl
     where
@@ -263,25 +267,26 @@ module _ (s : Store) (own : ℕ) (all : List ConstObject) (less : Tasks) where
       first = first_is s h m ts
 
       by : (b : Bool) → is_str s (first_given ts) ≡ b → IsCompared s own all (over h ts) less (kid_values s own ts) (marked h m ts)
-      by true e = texts (first ∙ e) (compares s own all i.0 ts (p e) i.1)
+      by true e = let j = i e in texts (first ∙ e) (compares s own all j.0 ts (p e) j.1)
       by false e = numbers (first ∙ e) (equality_known s h m ts e a)
 
   -- a constant node is as its kind asks
   ready : (h : Head) (k : Kind) (m : Mark) (ts : TypedNodes) → is_constant s k m ts ≡ true → PlainKind s k ts →
-      Safe all (statics_in_each own ts) (is_equality k) →
+      Safe all (statics_in_each own ts) (is_text_equality s k ts) →
+      (hides_kids k ts ≡ false → first_inconstant_of s (λ u. false) ts ≡ None) →
       (hides_kids k ts ≡ false → (i : ℕ) → Shows all own (kid_act (constant_forms (without_run s)) less ts i AsValue)
       (kid_at i (kid_values s own ts))) →
       Ready s own all (over h ts) less (kid_values s own ts) (marked h m ts) k
-  ready h kind.Addr m ts e p w f = λ sc st q.
+  ready h kind.Addr m ts e p w n f = λ sc st q.
       let g = and-left (begins_with_global ts) (not (m.coerce.row == 2)) e in
       first-reached h m ts g (p g)
       (record sc { first = sc.first + own_bindings h.kind }) st q
-  ready h kind.Offset m ts e p w f = tt
-  ready h kind.Equal m ts e p w f = (
+  ready h kind.Offset m ts e p w n f = tt
+  ready h kind.Equal m ts e p w n f = (
     λ i sc st q. f refl i (record sc { first = sc.first + own_bindings h.kind }) st q,
-    compared h m ts (not-true _ (and-left _ (not (m.coerce.row == 2)) e)) p (w refl),
+    compared h m ts (not-true _ (and-left _ (not (m.coerce.row == 2)) e)) (λ r. p r (n refl)) w,
   )
-  ready h _ m ts e p w f = λ i sc st q. f refl i (record sc { first = sc.first + own_bindings h.kind }) st q
+  ready h _ m ts e p w n f = λ i sc st q. f refl i (record sc { first = sc.first + own_bindings h.kind }) st q
 
   -- the acts of a node up to its own value, and what they come to
   abbrev pub form : Head → Mark → TypedNodes → Scope → ValueForm
@@ -291,7 +296,7 @@ module _ (s : Store) (own : ℕ) (all : List ConstObject) (less : Tasks) where
   result h m ts = on_cells (own_value s own (marked h m ts) (kid_values s own ts)) (coerced_value s own (marked h m ts))
 
   node-shown : (h : Head) (m : Mark) (ts : TypedNodes) → first_inconstant s (λ u. false) (marked h m ts) ≡ None → PlainKind s h.kind ts →
-      Safe all (statics_in_each own ts) (is_equality h.kind) →
+      Safe all (statics_in_each own ts) (is_text_equality s h.kind ts) →
       (first_inconstant_of s (λ u. false) ts ≡ None →
       (i : ℕ) → Shows all own (kid_act (constant_forms (without_run s)) less ts i AsValue) (kid_at i (kid_values s own ts))) →
       (sc : Scope) → sc.own ≡ own →
@@ -322,23 +327,23 @@ module _ (s : Store) (own : ℕ) (all : List ConstObject) (less : Tasks) where
           let c = constant_from s h m ts g e in
           placed (is_place s (marked h m ts)) (no_place s (marked h m ts) e) (is_evaluated h.kind)
           (ends_value_of s own all (over h ts) less (kid_values s own ts) (marked h m ts) sc h.kind q
-          (ready h h.kind m ts c.itself p w (λ r. f (c.kids r))))
+          (ready h h.kind m ts c.itself p w c.kids (λ r. f (c.kids r))))
 
   mutual
     tree-shown : (t : TypedNode) → first_inconstant s (λ u. false) t ≡ None → IsPlain s t →
-        Safe all (statics_in own t) (has_equality t) → Shows all own (node_act (constant_forms (without_run s)) less t AsValue)
+        Safe all (statics_in own t) (compares_texts s t) → Shows all own (node_act (constant_forms (without_run s)) less t AsValue)
         (tree_value s own t)
     tree-shown (marked h m ts) e p w sc st q =
-        node-shown h m ts e p.0 (safe_node all own h m ts w) (λ f i. kids-shown ts f p.1 (safe_kids all own h m ts w) i) sc q st
+        node-shown h m ts e p.0 (safe_node s all own h m ts w) (λ f i. kids-shown ts f p.1 (safe_kids s all own h m ts w) i) sc q st
 
     pub kids-shown : (ts : TypedNodes) → first_inconstant_of s (λ u. false) ts ≡ None → ArePlain s ts →
-        Safe all (statics_in_each own ts) (has_equality_each ts) → (i : ℕ) →
+        Safe all (statics_in_each own ts) (compares_texts_each s ts) → (i : ℕ) →
         Shows all own (kid_act (constant_forms (without_run s)) less ts i AsValue) (kid_at i (kid_values s own ts))
     kids-shown typed_none e p w i sc st q = λ has. record { ended = refl; has = has }
     kids-shown (typed_more t ts) e p w zero sc st q =
-        tree-shown t (first-none (first_inconstant s (λ u. false) t) _ e).0 p.0 (safe_first all own t ts w) sc st q
+        tree-shown t (first-none (first_inconstant s (λ u. false) t) _ e).0 p.0 (safe_first s all own t ts w) sc st q
     kids-shown (typed_more t ts) e p w (suc i) sc st q =
-        kids-shown ts (first-none (first_inconstant s (λ u. false) t) _ e).1 p.1 (safe_rest all own t ts w) i _ st q
+        kids-shown ts (first-none (first_inconstant s (λ u. false) t) _ e).1 p.1 (safe_rest s all own t ts w) i _ st q
 
 -- the static objects of a tree are those that there are first
 pub has_statics : (own : ℕ) (t : TypedNode) → Has (statics_in own t) (state_without_run (statics (scope_in own) t)).memory
@@ -350,7 +355,7 @@ has_statics own t = record {
 
 -- the value of a constant is that of its tree
 pub value_shown : (s : Store) (own : ℕ) (t : TypedNode) → first_inconstant s (λ u. false) t ≡ None → IsPlain s t →
-    IsCoherent own t → shown (constant_result s own t).0 ≡ tree_value s own t
+    IsCoherent s own t → shown (constant_result s own t).0 ≡ tree_value s own t
 value_shown s own t e p c =
     (tree-shown s own (statics_in own t) (fewer_than (constant_forms (without_run s)) 0) t e p (λ x. (c x, λ o h. h)) (scope_in own)
     (state_without_run (statics (scope_in own) t)) refl (has_statics own t)).ended
@@ -398,7 +403,7 @@ abbrev pub stops : Store → (own : ℕ) → TypedNode → Bool
 stops s own t = is_abort (constant_result s own t).0
 
 abort_same : (s : Store) (own : ℕ) (t : TypedNode) → first_inconstant s (λ u. false) t ≡ None → IsPlain s t →
-    IsCoherent own t → stops s own t ≡ is_aborted (tree_value s own t)
+    IsCoherent s own t → stops s own t ≡ is_aborted (tree_value s own t)
 abort_same s own t e p c = abort-shown (constant_result s own t).0 ∙ ap is_aborted (value_shown s own t e p c)
 
 -- where the kids have none, two tests that agree of the node find the same
@@ -425,11 +430,11 @@ constant-itself true t e = refl
 constant-itself false t e = absurd cc
 
 mutual
-  pub inconstant_same : (s : Store) (own : ℕ) (t : TypedNode) → IsPlain s t → IsCoherent own t →
+  pub inconstant_same : (s : Store) (own : ℕ) (t : TypedNode) → IsPlain s t → IsCoherent s own t →
       first_inconstant s (stops s own) t ≡ first_inconstant s (λ u. is_aborted (tree_value s own u)) t
   inconstant_same s own (marked h m ts) p w =
       go (is_type h.kind) (inconstant-each s own ts p.1 (λ x. coherent_inside (statics_in own (marked h m ts)) (statics_in_each own ts)
-      (w (or-right (is_equality h.kind) (has_equality_each ts) x)) (of_kids own h m ts)))
+      (w (or-right (is_text_equality s h.kind ts) (compares_texts_each s ts) x)) (of_kids own h m ts)))
     where
       go : (x : Bool) → first_inconstant_of s (stops s own) ts ≡ first_inconstant_of s (λ u. is_aborted (tree_value s own u)) ts →
           (if x then None else asked s (stops s own) h m ts) ≡ (if x then None else asked s (λ u. is_aborted (tree_value s own u)) h m ts)
@@ -446,15 +451,16 @@ mutual
           (same-hidden (hides_kids h.kind ts) _ _ k)
 
   inconstant-each : (s : Store) (own : ℕ) (ts : TypedNodes) → ArePlain s ts →
-      (has_equality_each ts ≡ true → AreCoherent (statics_in_each own ts)) →
+      (compares_texts_each s ts ≡ true → AreCoherent (statics_in_each own ts)) →
       first_inconstant_of s (stops s own) ts ≡ first_inconstant_of s (λ u. is_aborted (tree_value s own u)) ts
   inconstant-each s own typed_none p w = refl
   inconstant-each s own (typed_more t ts) p w =
       let all = statics_in_each own (typed_more t ts) in
-      let here : IsCoherent own t =
-      λ x. coherent_inside all (statics_in own t) (w (or-left (has_equality t) (has_equality_each ts) x)) (first_of own t ts) in
-      let rest : has_equality_each ts ≡ true → AreCoherent (statics_in_each own ts) =
-      λ x. coherent_inside all (statics_in_each own ts) (w (or-right (has_equality t) (has_equality_each ts) x)) (rest_of own t ts) in
+      let here : IsCoherent s own t =
+      λ x. coherent_inside all (statics_in own t) (w (or-left (compares_texts s t) (compares_texts_each s ts) x)) (first_of own t ts) in
+      let rest : compares_texts_each s ts ≡ true → AreCoherent (statics_in_each own ts) =
+      λ x. coherent_inside all (statics_in_each own ts) (w (or-right (compares_texts s t) (compares_texts_each s ts) x))
+      (rest_of own t ts) in
       ap (λ o. or_else o (first_inconstant_of s (stops s own) ts)) (inconstant_same s own t p.0 here)
       ∙ ap (λ o. or_else (first_inconstant s (λ u. is_aborted (tree_value s own u)) t) o) (inconstant-each s own ts p.1 rest)
 

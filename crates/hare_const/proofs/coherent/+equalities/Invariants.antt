@@ -1,14 +1,15 @@
 use Rattle.std.proofs.Common.{◌≡◌, drop}
 use Rattle.hare_typed.specs.Typed.{typed_nodes}
-use Rattle.hare_const.specs.Statics.{has_equality_each}
+use Rattle.hare_const.specs.Statics.{compares_texts_each}
 use Rattle.hare_const.proofs.coherent.+equalities.Given as goal
 
-abbrev pub decreases-has_equality : goal.decreases-has_equality
-decreases-has_equality l = goal.size-has_equality l
+abbrev pub decreases-compares_texts : goal.decreases-compares_texts
+decreases-compares_texts l = goal.size-compares_texts l
 
-abbrev pub decreases-has_equality_each : goal.decreases-has_equality_each
-decreases-has_equality_each l = goal.size-has_equality_each l
+abbrev pub decreases-compares_texts_each : goal.decreases-compares_texts_each
+decreases-compares_texts_each l = goal.size-compares_texts_each l
 
 -- none stands in those so far
-abbrev pub invariant-has_equality_each-loop-i : goal.invariant-has_equality_each-loop-i
-invariant-has_equality_each-loop-i l = has_equality_each (typed_nodes l.kids) ≡ has_equality_each (typed_nodes (drop l.i l.kids))
+abbrev pub invariant-compares_texts_each-loop-i : goal.invariant-compares_texts_each-loop-i
+invariant-compares_texts_each-loop-i l =
+    compares_texts_each l.s (typed_nodes l.kids) ≡ compares_texts_each l.s (typed_nodes (drop l.i l.kids))

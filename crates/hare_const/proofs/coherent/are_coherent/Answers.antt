@@ -13,7 +13,7 @@ loop-i-preserved c =
     ap (λ os. slice_get os c.loop-i.i) (sym c.in_ok-objects.ensures) ∙ sym c.in-Some.ensures in
     let found : cells_found all o.object ≡ Some o.cells =
     ap (λ os. cells_found os o.object) (sym c.in_ok-statics_of.ensures) ∙ sym (c.in_ok-table.ensures o.object)
-    ∙ sym c.in-Some-get.ensures.value ∙ ap Some (c.same_cells.ensures c.if-not-same_cells.false) in
+    ∙ sym c.in-Some-get.ensures.value ∙ ap Some (c.is_same.ensures.0 c.if-not-is_same.false) in
     found_more all c.loop-i.i o there found c.loop-i.invariant
 
 pub returns : goal.returns

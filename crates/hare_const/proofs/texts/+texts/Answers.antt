@@ -14,4 +14,4 @@ text_of_kid-text_of-requires t c =
 pub text_of_kid-returns : goal.text_of_kid-returns
 text_of_kid-returns t c =
     subst (λ x. IfOk c.text_of.result (λ o. IfSome o (λ v. x ≡ Some v.items)))
-    (sym (text_at c.args.kids.now c.args.i c.in-Some.kid.now c.in-Some.ensures.found)) c.text_of.ensures
+    (sym (text_at c.args.s.now c.args.kids.now c.args.i c.in-Some.kid.now c.in-Some.ensures.found)) c.text_of.ensures

@@ -13,4 +13,4 @@ is_text_kid-is_text-requires t c =
 
 pub is_text_kid-returns : goal.is_text_kid-returns
 is_text_kid-returns t c e =
-    subst IsSome (sym (text_at c.args.kids.now c.args.i c.in-Some.kid.now c.in-Some.ensures.found)) (c.is_text.ensures e)
+    subst IsSome (sym (text_at c.args.s.now c.args.kids.now c.args.i c.in-Some.kid.now c.in-Some.ensures.found)) (c.is_text.ensures e)
