@@ -1,4 +1,3 @@
-pub mod Outcome
 pub mod Names
 pub mod Plain
 pub mod Code
