@@ -58,7 +58,7 @@ IsFree i = IsNoLocal i.meaning
 built-free : All IsFree built_in
 built-free =
     All-from_recursion IsFree built_in
-    (rt 0 , (rt 1 , (rt 2 , (rt 3 , (rt 4 , (rt 5 , (rt 6 , ((λ n e. absurd cc) , tt))))))))
+    (rt 0, (rt 1, (rt 2, (rt 3, (rt 4, (rt 5, (rt 6, ((λ n e. absurd cc), tt))))))))
   where
     rt : (k : ℕ) → IsNoLocal (me.Rt k)
     rt k n e = absurd cc

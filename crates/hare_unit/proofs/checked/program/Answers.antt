@@ -139,6 +139,6 @@ returns-clause-whole c = λ files.
     record {
       files = files;
       bound = locals-bound c.law_locals_are_in_scope.ensures paths n.files (meaning_in n.names) t.decls
-        (length-read 0 0 srcs n.files named.read ∙ c.requires.paired) named.meanings ended.typed.erases;
+          (length-read 0 0 srcs n.files named.read ∙ c.requires.paired) named.meanings ended.typed.erases;
       complete = is-complete paths (listing_of n) t.types t.decls entry (is-seen paths n t entry filed ended);
     }
