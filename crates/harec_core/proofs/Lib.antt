@@ -6,7 +6,7 @@ pub mod Distinct
 pub mod PlainLines
 pub mod PlainCode
 pub mod PlainLowered
-pub mod BuiltLowered
+mod BuiltLowered
 pub mod PlainTexts
 pub mod PlainModule
 pub mod Shaped

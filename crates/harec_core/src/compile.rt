@@ -76,7 +76,6 @@ fn make_text(alloc: Global, source: &[u8], text: &mut Bytes) -> Result<bool, All
 }
 
 // The module of a file's program. None: the file is not of the class.
-#[tactic(auto, using(crate::proofs::BuiltLowered::flat_built))]
 fn module_of(alloc: Global, source: &[u8]) -> Result<Option<Module>, AllocError>
     ensures { IfOk result (λ o. MatchOption o (IsNoSource source.now) (λ m. IsModuleOf source.now m)) }
 {

@@ -1,5 +1,6 @@
 use Rattle.std.proofs.Common.{sym}
 use Rattle.harec_core.proofs.Compiled.{module_of_file}
+use Rattle.harec_core.proofs.BuiltLowered.{flat_built}
 use Rattle.harec_core.proofs.compile.module_of.Goals as goal
 
 pub returns : goal.returns
@@ -10,3 +11,6 @@ returns c =
     module_of_file c.args.source.now _ c.in_ok-flat.flat c.in_ok-module.module flat.value made.value file
     (λ q s. sym (rw c.in-Some.is at (c.in_ok-program.ensures.only q s)))
     made.valid flat.does flat.loops made.reaches made.shape
+
+pub emit-requires-clause-built : goal.emit-requires-clause-built
+emit-requires-clause-built c = flat_built _ _ c.in_ok-flat.ensures.value

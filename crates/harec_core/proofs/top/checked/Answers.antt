@@ -13,7 +13,7 @@ returns-in_err-srcs-clause-cause g c =
     (stop_cause _ _ _ _ c.requires.count_of_files _ c.args.fill _ _ _ checks same (silent _ _) c.requires.empty c.in_err-srcs.ensures.err)
 
 pub check-requires : goal.check-requires
-check-requires g c = c.requires.files.few
+check-requires g c = record { few = c.requires.files.few }
 
 pub carry_out-requires-clause-checked : goal.carry_out-requires-clause-checked
 carry_out-requires-clause-checked g c =
