@@ -13,4 +13,4 @@ returns c =
     made.valid flat.does flat.loops made.reaches made.shape
 
 pub emit-requires-clause-built : goal.emit-requires-clause-built
-emit-requires-clause-built c = flat_built _ _ c.in_ok-flat.ensures.value
+emit-requires-clause-built c = flat_built c.in-Some.program c.in_ok-flat.flat c.in_ok-flat.ensures.value
