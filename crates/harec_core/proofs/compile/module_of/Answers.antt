@@ -1,4 +1,5 @@
 use Rattle.std.proofs.Common.{sym}
+use Rattle.hare_blocks.specs.Shape.{program_of}
 use Rattle.harec_core.proofs.Compiled.{module_of_file}
 use Rattle.harec_core.proofs.BuiltLowered.{flat_built}
 use Rattle.harec_core.proofs.compile.module_of.Goals as goal
@@ -13,4 +14,4 @@ returns c =
     made.valid flat.does flat.loops made.reaches made.shape
 
 pub emit-requires-clause-built : goal.emit-requires-clause-built
-emit-requires-clause-built c = flat_built c.in-Some.program c.in_ok-flat.flat c.in_ok-flat.ensures.value
+emit-requires-clause-built c = flat_built (program_of c.in-Some.program) c.in_ok-flat.flat c.in_ok-flat.ensures.value
