@@ -3,6 +3,7 @@ mod EvaluationRows
 mod MemoryRows
 mod WellFormedRows
 pub mod Kids
+pub mod Heights
 pub mod Named
 pub mod Passes
 pub mod Rights

@@ -24,7 +24,7 @@ use Rattle.flat_code.specs.Temps.{is_set, has_one_class}
 
 -- how many statements may stand within one another
 abbrev pub deepest : ℕ
-deepest = 4096
+deepest = 65536
 
 -- no more than so many statements of the code stand within one another
 abbrev mutual

@@ -3,6 +3,8 @@
 ghost use Rattle.std.specs.Prelude.{◌≡◌, ◌≤◌, [], ◌∷◌, ◌++◌, ◌==◌, length, slice_get, Some, IfSome, IfNone, IfOk, OnOk, OnErr};
 ghost use Rattle.flat_code.specs.Shape.{code_of};
 
+mod given_up;
+
 use crate::op::{LoadKind, Op};
 use crate::value::{Value, Values};
 use hx_base::{Class, Text};
@@ -12,7 +14,8 @@ use std::marker::Model;
 /// A statement of flat code.
 ///
 /// What a temporary is set to is cut to a class: 32 bits at `W`, 64 at `L`.
-#[derive(Drop)]
+///
+/// Code is given up without recursion and takes no memory for it, however deep its statements stand within one another.
 #[cycle(flat)]
 pub enum Flat {
     /// One statement after the other.
@@ -61,6 +64,15 @@ pub enum Flat {
     },
     /// Returns from the function, with its result where it has one.
     Ret(Option<Value>),
+}
+
+impl Drop for Flat {
+    fn drop(self) {
+        let mut left = self;
+        'parts: while let Some((first, rest)) = left.parted() {
+            left = first.turned(rest);
+        }
+    }
 }
 
 /// A list of statements, which contracts see as a list of [`Flat`] without addresses.

@@ -53,6 +53,7 @@ impl Emitter {
     }
 
     /// Begins a block.
+    #[inline(never)]
     pub fn label(&mut self, n: u64) -> Result<(), AllocError>
         ensures { OnOk result (Emits self.old self.new (Label n ∷ []) 0 0 self.old.exits.items) }
     {

@@ -188,6 +188,7 @@ impl Emitter {
     }
 
     /// Leaves a Seq or Loop. What stands behind has a block of its own.
+    #[inline(never)]
     pub fn leave(&mut self, j: u32) -> Result<(), AllocError>
         ensures { OnOk result (Emits self.old self.new
             (code_lines [] (flat.Leave j) self.old.labels self.old.addresses self.old.exits.items)
@@ -210,6 +211,7 @@ impl Emitter {
     }
 
     /// Ends the Seq with this label behind it.
+    #[inline(never)]
     pub fn end_seq(&mut self, n: u64) -> Result<(), AllocError>
         ensures { OnOk result (Emits self.old self.new (Label n ∷ []) 0 0
             (take (length self.old.exits.items - 1) self.old.exits.items)) }
@@ -235,6 +237,7 @@ impl Emitter {
     }
 
     /// Ends the first side of an If, and begins the other.
+    #[inline(never)]
     pub fn otherwise(&mut self, n: u64) -> Result<(), AllocError>
         requires { n + 3 < 2 ^ 64 }
         ensures { OnOk result (Emits self.old self.new
@@ -246,6 +249,7 @@ impl Emitter {
     }
 
     /// Begins a Loop, and gives the label of its body; the next is that behind it.
+    #[inline(never)]
     pub fn begin_loop(&mut self) -> Result<u64, AllocError>
         ensures first { IfOk result (λ n. n ≡ self.old.labels) }
         ensures fits { OnOk result (self.old.labels + 2 < 2 ^ 64) }
@@ -262,6 +266,7 @@ impl Emitter {
     }
 
     /// Ends a Loop, whose body begins at this label.
+    #[inline(never)]
     pub fn end_loop(&mut self, n: u64) -> Result<(), AllocError>
         requires { n + 2 < 2 ^ 64 }
         ensures { OnOk result (Emits self.old self.new

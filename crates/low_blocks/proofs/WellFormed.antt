@@ -62,7 +62,7 @@ module _ (p : Program) (few : texts_size (program_texts p) ≤ 65536) (shallow :
   main_right : is_function_right (lowered p) main ≡ true
   main_right =
       and_both _ _ refl (and_both _ _ refl (and_both _ _ (le_true 0 main.temps (omega arith))
-      (and_both _ _ (statements_nest start (body_of p) 4095 (omega (arith, shallow))) (and_both _ _ refl body_right))))
+      (and_both _ _ (statements_nest start (body_of p) 65535 (omega (arith, shallow))) (and_both _ _ refl body_right))))
 
   once : (j : ℕ) → j < length texts → (how_many (lowered p) (text_name j) == 1) ≡ true
   once j l = rw (one_named j 0 texts (omega (arith, count)) (omega arith) (omega arith)) refl

@@ -1,11 +1,12 @@
 //! Code: its nesting, and the rules of each statement.
 
-ghost use Rattle.std.specs.Prelude.{◌≡◌, ◌≤◌};
+ghost use Rattle.std.specs.Prelude.{◌≡◌, ◌≤◌, ◌&&◌};
 ghost use Rattle.hx_runtime.specs.Functions.{runtime_function};
 ghost use Rattle.flat_code.specs.Shape.{code_of};
 ghost use Rattle.flat_code.specs.Code.{codes_of};
 ghost use Rattle.flat_code.specs.Evaluation.{function_named};
-ghost use Rattle.flat_code.specs.WellFormed.{nests_within, each_nests_within, is_target, takes_result, is_runtime_call, is_call, stored_class, is_right, are_right};
+ghost use Rattle.flat_code.specs.Kinds.{op_kind, may_give, takes_two, first_class, second_class};
+ghost use Rattle.flat_code.specs.WellFormed.{nests_within, each_nests_within, is_operand, is_second, is_target, takes_result, is_runtime_call, is_call, is_return, stored_class, is_right, are_right};
 
 use super::data::is_width;
 use super::names::function_named;
@@ -14,12 +15,13 @@ use super::temps::has_one_class;
 use crate::flat::{Flat, FlatKids};
 use crate::op::Op;
 use crate::program::{FlatFn, FlatProgram};
-use crate::value::Value;
-use hx_base::Class;
+use crate::value::{Value, Values};
+use hx_base::{Class, Text};
 use hx_runtime::RuntimeFunction;
 
-/// How many statements may stand within one another.
-pub const DEEPEST: u32 = 4096;
+/// How many statements may stand within one another. The walks recurse as deep: what they ask of a single statement is never inlined into
+/// them, so that they take little of the stack for each level.
+pub const DEEPEST: u32 = 65_536;
 
 /// How many bytes a Move may have.
 const MOST_BYTES: u64 = 1_073_741_824;
@@ -63,6 +65,7 @@ fn each_nests_within(kids: &FlatKids, left: u32) -> bool
     true
 }
 
+#[inline(never)]
 fn is_target(p: &FlatProgram, f: &FlatFn, t: u32, class: Class) -> bool
     ensures { result ≡ is_target p.now f.now t class }
 {
@@ -106,28 +109,72 @@ fn is_call(p: &FlatProgram, f: &FlatFn, temp: Option<u32>, name: &[u8], args: &[
     }
 }
 
-fn is_set_right(
-    p: &FlatProgram,
-    f: &FlatFn,
-    temp: u32,
-    class: Class,
-    op: Op,
-    a: Value,
-    b: Value,
-) -> bool
-    ensures { result ≡ is_right p.now f.now 0 (Rattle.flat_code.specs.Code.Set temp class op a b) }
+/// Whether what is set at a class by an operation may be, and has the operands that it takes.
+#[inline(never)]
+fn is_result(p: &FlatProgram, f: &FlatFn, class: Class, op: Op, a: &Value, b: &Value) -> bool
+    ensures { result ≡ (may_give (op_kind op) class && (is_operand p.now f.now (first_class (op_kind op) class) a.now
+        && is_second p.now f.now (second_class (op_kind op) class) (takes_two (op_kind op)) b.now)) }
 {
     let kind = op.kind();
-    is_target(p, f, temp, class)
-        && kind.may_give(class)
-        && is_operand(p, f, kind.first_class(class), a)
-        && is_second(p, f, kind.second_class(class), kind.takes_two(), b)
+    kind.may_give(class)
+        && is_operand(p, f, kind.first_class(class), *a)
+        && is_second(p, f, kind.second_class(class), kind.takes_two(), *b)
+}
+
+#[inline(never)]
+fn is_load_right(p: &FlatProgram, f: &FlatFn, temp: u32, at: &Value) -> bool
+    ensures { result ≡ (is_target p.now f.now temp Class.L && is_operand p.now f.now Class.L at.now) }
+{
+    is_target(p, f, temp, Class::L) && is_operand(p, f, Class::L, *at)
 }
 
 fn stored_class(width: u32) -> Class
     ensures { result ≡ stored_class width }
 {
     if width == 8 { Class::L } else { Class::W }
+}
+
+#[inline(never)]
+fn is_store_right(p: &FlatProgram, f: &FlatFn, width: u32, value: &Value, at: &Value) -> bool
+    ensures { result ≡ is_right p.now f.now 0 (Rattle.flat_code.specs.Code.Store width value.now at.now) }
+{
+    is_width(width)
+        && is_operand(p, f, stored_class(width), *value)
+        && is_operand(p, f, Class::L, *at)
+}
+
+#[inline(never)]
+fn is_move_right(p: &FlatProgram, f: &FlatFn, to: &Value, from: &Value, bytes: u64) -> bool
+    ensures { result ≡ is_right p.now f.now 0 (Rattle.flat_code.specs.Code.Move to.now from.now bytes) }
+{
+    bytes <= MOST_BYTES && is_operand(p, f, Class::L, *to) && is_operand(p, f, Class::L, *from)
+}
+
+#[inline(never)]
+fn is_condition(p: &FlatProgram, f: &FlatFn, cond: &Value) -> bool
+    ensures { result ≡ is_operand p.now f.now Class.W cond.now }
+{
+    is_operand(p, f, Class::W, *cond)
+}
+
+#[inline(never)]
+fn is_call_right(
+    p: &FlatProgram,
+    f: &FlatFn,
+    temp: &Option<u32>,
+    name: &Text,
+    args: &Values,
+) -> bool
+    ensures { result ≡ is_right p.now f.now 0 (Rattle.flat_code.specs.Code.Call temp.now name.now args.now) }
+{
+    is_call(p, f, *temp, name.bytes(), args.as_slice())
+}
+
+#[inline(never)]
+fn is_ret_right(p: &FlatProgram, f: &FlatFn, value: &Option<Value>) -> bool
+    ensures { result ≡ is_return p.now f.now f.now.result value.now }
+{
+    is_return(p, f, f.result, *value)
 }
 
 /// Whether a statement keeps the rules, with so many Seqs and Loops round it, in a function of a program.
@@ -143,29 +190,19 @@ pub fn is_right(p: &FlatProgram, f: &FlatFn, around: u32, code: &Flat) -> bool
             op,
             a,
             b,
-        } => is_set_right(p, f, *temp, *class, *op, *a, *b),
-        Flat::Load { temp, at, .. } => {
-            is_target(p, f, *temp, Class::L) && is_operand(p, f, Class::L, *at)
-        }
-        Flat::Store { width, value, at } => {
-            is_width(*width)
-                && is_operand(p, f, stored_class(*width), *value)
-                && is_operand(p, f, Class::L, *at)
-        }
-        Flat::Move { to, from, bytes } => {
-            *bytes <= MOST_BYTES
-                && is_operand(p, f, Class::L, *to)
-                && is_operand(p, f, Class::L, *from)
-        }
+        } => is_target(p, f, *temp, *class) && is_result(p, f, *class, *op, a, b),
+        Flat::Load { temp, at, .. } => is_load_right(p, f, *temp, at),
+        Flat::Store { width, value, at } => is_store_right(p, f, *width, value, at),
+        Flat::Move { to, from, bytes } => is_move_right(p, f, to, from, *bytes),
         Flat::If { cond, yes, no } => {
-            is_operand(p, f, Class::W, *cond)
+            is_condition(p, f, cond)
                 && is_right(p, f, around, yes.get())
                 && is_right(p, f, around, no.get())
         }
         Flat::Loop(body) => around < DEEPEST && is_right(p, f, around + 1, body.get()),
         Flat::Leave(k) => *k < around,
-        Flat::Call { temp, name, args } => { is_call(p, f, *temp, name.bytes(), args.as_slice()) }
-        Flat::Ret(value) => is_return(p, f, f.result, *value),
+        Flat::Call { temp, name, args } => is_call_right(p, f, temp, name, args),
+        Flat::Ret(value) => is_ret_right(p, f, value),
     }
 }
 

@@ -76,31 +76,41 @@ fn call_sets(p: &FlatProgram, t: u32, class: Class, temp: Option<u32>, name: &[u
     }
 }
 
+/// A temporary at a class.
+#[derive(Drop)]
+struct Target {
+    temp: u32,
+    class: Class,
+}
+
+/// Whether code sets a temporary at a class.
 #[cycle(sets)]
-fn code_sets(p: &FlatProgram, t: u32, class: Class, code: &Flat) -> bool
-    ensures { result ≡ code_sets p.now t class (code_of code.now) }
+fn code_sets(p: &FlatProgram, target: &Target, code: &Flat) -> bool
+    ensures { result ≡ code_sets p.now target.now.temp target.now.class (code_of code.now) }
 {
     match code {
-        Flat::Seq(kids) => one_sets(p, t, class, kids),
-        Flat::Set { temp, class: c, .. } => is_temp_of(t, class, *temp, *c),
-        Flat::Load { temp, .. } => is_temp_of(t, class, *temp, Class::L),
+        Flat::Seq(kids) => one_sets(p, target, kids),
+        Flat::Set { temp, class, .. } => is_temp_of(target.temp, target.class, *temp, *class),
+        Flat::Load { temp, .. } => is_temp_of(target.temp, target.class, *temp, Class::L),
         Flat::If { yes, no, .. } => {
-            code_sets(p, t, class, yes.get()) || code_sets(p, t, class, no.get())
+            code_sets(p, target, yes.get()) || code_sets(p, target, no.get())
         }
-        Flat::Loop(body) => code_sets(p, t, class, body.get()),
-        Flat::Call { temp, name, .. } => call_sets(p, t, class, *temp, name.bytes()),
+        Flat::Loop(body) => code_sets(p, target, body.get()),
+        Flat::Call { temp, name, .. } => {
+            call_sets(p, target.temp, target.class, *temp, name.bytes())
+        }
         Flat::Store { .. } | Flat::Move { .. } | Flat::Leave(_) | Flat::Ret(_) => false,
     }
 }
 
 #[cycle(sets)]
 #[tactic(auto, using(crate::proofs::Kids::kid_deep, crate::proofs::Kids::drop_kid, crate::proofs::Kids::drop_rest))]
-fn one_sets(p: &FlatProgram, t: u32, class: Class, kids: &FlatKids) -> bool
-    ensures { result ≡ one_sets p.now t class (codes_of kids.now) }
+fn one_sets(p: &FlatProgram, target: &Target, kids: &FlatKids) -> bool
+    ensures { result ≡ one_sets p.now target.now.temp target.now.class (codes_of kids.now) }
 {
     for i in 0..kids.len() {
         if let Some(kid) = kids.get(i) {
-            if code_sets(p, t, class, kid) {
+            if code_sets(p, target, kid) {
                 return true;
             }
         }
@@ -130,7 +140,8 @@ fn params_set(t: u32, class: Class, params: &[Class]) -> bool
 pub fn is_set(p: &FlatProgram, f: &FlatFn, t: u32, class: Class) -> bool
     ensures { result ≡ is_set p.now f.now t class }
 {
-    params_set(t, class, f.params.as_slice()) || code_sets(p, t, class, &f.body)
+    let target = Target { temp: t, class };
+    params_set(t, class, f.params.as_slice()) || code_sets(p, &target, &f.body)
 }
 
 /// Whether the function sets the temporary at no other class.

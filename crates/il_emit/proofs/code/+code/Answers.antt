@@ -32,7 +32,7 @@ pub code-returns-in_ok-label-in-If : goal.code-returns-in_ok-label-in-If
 code-returns-in_ok-label-in-If t c =
     let one = rw c.get.ensures at c.in_ok-code-in-If.ensures in
     let other = rw c.get-in-If.ensures at c.in_ok-code-in-If-2.ensures in
-    rw c.in-If.is (if_emits c.args.globals.now c.in-If.cond c.in-If.yes c.in-If.no c.in_ok-n-in-If.n c.args.e.now c.begin_if.new.self
+    rw c.in-If.is (if_emits c.args.globals.now c.in-If.cond c.in-If.yes c.in-If.no c.in_ok-n-in-If.n c.args.e.now c.begin_if.new.e
     c.code.new.e c.otherwise.new.self c.code-in-If.new.e c.label.new.self c.in_ok-n-in-If.ensures.first c.in_ok-n-in-If.ensures.ok one
     c.in_ok-otherwise-in-If.ensures other c.in_ok-label-in-If.ensures)
 
