@@ -98,7 +98,7 @@ one_member s r k t u h g =
     cc
 
 -- the member at a place is the type of the id that is written there
-member-at : (s : Store) (r : Spelled) (is : List ℕ) (k i : ℕ) → written r.row ≡ Some is → AreIds s is → k < length is → i ≡ get_or is k i →
+pub member-at : (s : Store) (r : Spelled) (is : List ℕ) (k i : ℕ) → written r.row ≡ Some is → AreIds s is → k < length is → i ≡ get_or is k i →
     IsMember s r k (tree_in (trees s.rows) i)
 member-at s r is k i e ids l here =
     let within : i < length s.rows = subst (λ x. x < length s.rows) (sym here) (All-get_or (λ x. x < length s.rows) is k i l ids) in
@@ -112,7 +112,7 @@ AreLeftBelow-none s r = record {
       absurd (omega (arith, h.1));
 }
 
-AreLeftBelow-more : (s : Store) (r : Spelled) (k : ℕ) (t : Tree) (old new js : List ℕ) → AreLeftBelow s r k old → IsMember s r k t →
+pub AreLeftBelow-more : (s : Store) (r : Spelled) (k : ℕ) (t : Tree) (old new js : List ℕ) → AreLeftBelow s r k old → IsMember s r k t →
     AreBrought s (is_spread r k) t js → Gains s old new js → AreLeftBelow s r (k + 1) new
 AreLeftBelow-more s r k t old new js left member brought gains = record {
   sound = λ j h. from j (gains.only j h);

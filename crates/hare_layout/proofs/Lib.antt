@@ -14,3 +14,4 @@ pub mod SizedLemmas
 pub mod SmallLemmas
 pub mod SpreadLemmas
 pub mod StableLemmas
+pub mod UnionLemmas

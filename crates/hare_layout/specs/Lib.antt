@@ -6,4 +6,5 @@ pub mod Offsets
 pub mod Reduced
 pub mod Reduction
 pub mod Small
+pub mod Unions
 pub mod Whole

@@ -2,6 +2,7 @@
 
 ghost use Rattle.hare_layout.specs.Growth.{LayoutStays, JudgementsStay};
 ghost use Rattle.hare_layout.specs.Offsets.{OffsetsMeanTrees};
+ghost use Rattle.hare_layout.specs.Unions.{UnionsMeanTrees};
 ghost use Rattle.hare_layout.specs.Whole.{TypesAreAligned, FieldsLieWithin, PayloadsLieWithin, SmallTypes};
 
 /// Where bytes lie, which fields there are, and which unions hold which, stays in later stores.
@@ -46,4 +47,10 @@ pub fn law_small_types()
 #[tactic(auto, using(crate::proofs::MeansLemmas::offsets_mean))]
 pub fn law_offsets_mean_trees()
     ensures { OffsetsMeanTrees }
+{}
+
+/// Types that are put together into a union by their ids are what the union is reduced to that is spelled with them as its members: the same
+/// types are left, and the id that they are reduced to stands for its type.
+pub fn law_unions_mean_trees()
+    ensures { UnionsMeanTrees }
 {}

@@ -21,7 +21,7 @@ mod tag;
 pub use admitted::admit;
 pub use laws::{
     law_fields_lie_within, law_judgements_stay, law_layout_stays, law_offsets_mean_trees,
-    law_payloads_lie_within, law_small_types, law_types_are_aligned,
+    law_payloads_lie_within, law_small_types, law_types_are_aligned, law_unions_mean_trees,
 };
 pub use members::subset;
 pub use offset::offset_of;

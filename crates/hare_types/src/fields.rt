@@ -88,6 +88,9 @@ pub(crate) fn enter_if_new(rows: &[Row], places: &mut FieldPlaces, i: usize)
     ensures there { (u name : ℕ) → u ≢ i → place_of places.new.entries u name ≡ place_of places.old.entries u name }
 {
     if i < rows.len() {
-        enter_fields(places, TypeId::at(i as u32), fields_in(&rows[i]));
+        let fields = fields_in(&rows[i]);
+        if !fields.is_empty() {
+            enter_fields(places, TypeId::at(i as u32), fields);
+        }
     }
 }
