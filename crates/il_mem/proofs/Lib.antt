@@ -6,3 +6,4 @@ pub mod PageMoves
 pub mod PageWrites
 pub mod Pieces
 pub mod RangeLists
+pub mod TouchedLemmas

@@ -2,3 +2,4 @@ pub mod Holds
 pub mod Kept
 pub mod Laid
 pub mod Stored
+pub mod Touched

@@ -16,4 +16,5 @@ mod stop;
 mod tests;
 
 pub use mem::Mem;
+pub use pages::PAGE;
 pub use stop::{MemStop, Wild};
