@@ -1,0 +1,4 @@
+pub mod Puts
+pub mod Data
+pub mod Arguments
+pub mod Start
