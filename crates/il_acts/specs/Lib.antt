@@ -1,0 +1,4 @@
+pub mod Acts
+pub mod Blocks
+pub mod Filling
+pub mod Outside
