@@ -5,3 +5,5 @@ pub mod FreshPages
 mod WantRows
 mod FaultingRows
 mod AnswerRows
+pub mod Outsides
+pub mod Coming
