@@ -1,0 +1,5 @@
+pub mod BelowLemmas
+pub mod DefinableLemmas
+pub mod ShapedLemmas
+pub mod MarkLemmas
+pub mod ReadyLemmas

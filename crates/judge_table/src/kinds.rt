@@ -1,0 +1,95 @@
+//! Words and marks of spelled types.
+
+use anyhow::{Context, Result, bail};
+use hare_tree::{Kids, Kind, Tree};
+use hare_types::Scalar;
+
+/// The type that is written by this word.
+pub(crate) fn scalar(word: &str) -> Result<Scalar> {
+    Ok(match word {
+        "void" => Scalar::Void,
+        "never" => Scalar::Never,
+        "opaque" => Scalar::Opaque,
+        "bool" => Scalar::Bool,
+        "rune" => Scalar::Rune,
+        "str" => Scalar::Str,
+        "i8" => Scalar::I8,
+        "i16" => Scalar::I16,
+        "i32" => Scalar::I32,
+        "i64" => Scalar::I64,
+        "u8" => Scalar::U8,
+        "u16" => Scalar::U16,
+        "u32" => Scalar::U32,
+        "u64" => Scalar::U64,
+        "int" => Scalar::Int,
+        "uint" => Scalar::Uint,
+        "size" => Scalar::Size,
+        _ => bail!("no type is written {word}"),
+    })
+}
+
+/// The word by which the type is written.
+pub(crate) fn word(k: Scalar) -> &'static str {
+    match k {
+        Scalar::Void => "void",
+        Scalar::Never => "never",
+        Scalar::Opaque => "opaque",
+        Scalar::Bool => "bool",
+        Scalar::Rune => "rune",
+        Scalar::Str => "str",
+        Scalar::I8 => "i8",
+        Scalar::I16 => "i16",
+        Scalar::I32 => "i32",
+        Scalar::I64 => "i64",
+        Scalar::U8 => "u8",
+        Scalar::U16 => "u16",
+        Scalar::U32 => "u32",
+        Scalar::U64 => "u64",
+        Scalar::Int => "int",
+        Scalar::Uint => "uint",
+        Scalar::Size => "size",
+    }
+}
+
+/// Whether a part of a type is a type, or bears one as a field or a spread member does.
+pub(crate) fn bears_type(kind: Kind) -> bool {
+    !matches!(
+        kind,
+        Kind::None | Kind::Number | Kind::Path | Kind::TrailingComma
+    )
+}
+
+/// What a tree's own token says.
+pub(crate) fn text(tree: &Tree) -> Result<&str> {
+    str::from_utf8(tree.text.bytes()).context("a text that is not UTF-8")
+}
+
+/// The number of items of an array type.
+pub(crate) fn items(kids: &Kids) -> Result<u64> {
+    let Some(number) = kids.get(0) else {
+        bail!("an array without a length");
+    };
+    if number.kind != Kind::Number {
+        bail!("an array whose length is no number");
+    }
+    u64::try_from(number.number)
+        .ok()
+        .context("a length that is too large")
+}
+
+/// Whether a tree of this kind is a written type.
+pub(crate) fn is_type(kind: Kind) -> bool {
+    matches!(
+        kind,
+        Kind::TypeScalar
+            | Kind::TypePath
+            | Kind::TypePointer
+            | Kind::TypeNullable
+            | Kind::TypeSlice
+            | Kind::TypeError
+            | Kind::TypeArray
+            | Kind::TypeStruct
+            | Kind::TypeTuple
+            | Kind::TypeUnion
+    )
+}
