@@ -9,7 +9,7 @@ import sys
 
 TOP = pathlib.Path(__file__).resolve().parent.parent
 # pages whose lines between fences are given to a program, which prints them again where it finds the same
-LINES = {"BODIES.md": "body_table", "PROGRAMS.md": "program_table", "CONSTANTS.md": "const_table"}
+LINES = {"BODIES.md": "body_table", "JUDGES.md": "judge_table", "PROGRAMS.md": "program_table", "CONSTANTS.md": "const_table"}
 # pages that a program prints
 PRINTED = {"RULES.md": "rules_table"}
 
