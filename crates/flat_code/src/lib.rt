@@ -11,8 +11,6 @@ mod kinds;
 mod op;
 mod program;
 mod rules;
-#[cfg(test)]
-mod tests;
 mod value;
 
 pub use flat::{Flat, FlatBox, FlatKids};

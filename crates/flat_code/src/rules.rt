@@ -10,8 +10,6 @@ mod function;
 mod names;
 mod operand;
 mod temps;
-#[cfg(test)]
-mod tests;
 
 use crate::program::FlatProgram;
 use data::{are_few, is_global};

@@ -14,8 +14,6 @@ mod names;
 mod op;
 mod operand;
 mod statement;
-#[cfg(test)]
-mod tests;
 
 pub use built::is_built;
 pub use module::emit;

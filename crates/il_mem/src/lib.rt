@@ -12,8 +12,6 @@ mod mem;
 mod pages;
 mod ranges;
 mod stop;
-#[cfg(test)]
-mod tests;
 
 pub use mem::Mem;
 pub use pages::PAGE;

@@ -16,8 +16,6 @@ mod list;
 mod op;
 mod printed;
 mod taken;
-#[cfg(test)]
-mod tests;
 mod value;
 
 pub use law::law_recoverable;

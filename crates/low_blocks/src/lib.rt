@@ -9,8 +9,6 @@ mod draft;
 mod expr;
 mod program;
 mod statement;
-#[cfg(test)]
-mod tests;
 mod text;
 
 pub use program::lower;

@@ -1,9 +1,9 @@
-use crate::*;
 use hx_base::{Bytes, Items, Text};
 use il_code::{
     Block, Blocks, Class, IlItem, IlItems, IlOp, IlParams, IlValue, Inst, Insts, Jump, Module,
     Part, PartValue, PartValues, Parts, Phis, print, valid,
 };
+use il_read::*;
 use std::alloc::{AllocError, Global};
 use std::test::Fail;
 

@@ -1,6 +1,6 @@
 //! Each call with ample memory: that it answers, and what a person expects of it.
 
-use crate::{Bytes, Items, Text, le_byte, le_get, round_up, wrap};
+use hx_base::{Bytes, Items, Text, le_byte, le_get, round_up, wrap};
 use std::test::Fail;
 
 #[test]

@@ -1,6 +1,6 @@
 //! Programs of one function, of which it is plain whether they are well formed.
 
-use crate::*;
+use flat_code::*;
 use hx_base::Text;
 use std::alloc::{AllocError, Global};
 use std::test::Fail;

@@ -1,6 +1,6 @@
 //! Statements that are put together by hand.
 
-use crate::*;
+use flat_code::*;
 use std::test::Fail;
 
 /// How many statements a loop over a sequence has.

@@ -1,6 +1,6 @@
 //! Each call with ample memory: that it answers, and what a person expects of it.
 
-use crate::Mem;
+use il_mem::Mem;
 use std::test::Fail;
 
 #[test]

@@ -1,8 +1,8 @@
 //! Files that are read and lowered.
 
-use crate::lower;
 use flat_code::{FlatProgram, well_formed};
 use hare_blocks::read;
+use low_blocks::lower;
 use std::alloc::{AllocError, Global};
 use std::test::Fail;
 

@@ -1,12 +1,12 @@
 //! Small programs and their texts, which are written by hand.
 
-use crate::{emit, is_built};
 use flat_code::{
     Class, Classes, Data, DataList, Flat, FlatBox, FlatFn, FlatFns, FlatKids, FlatProgram, Item,
     Op, Value, Values, well_formed,
 };
 use hx_base::{Bytes, Items, Text};
 use il_code::{print, valid};
+use il_emit::{emit, is_built};
 use std::alloc::{AllocError, Global};
 use std::test::Fail;
 

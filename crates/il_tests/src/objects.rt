@@ -1,10 +1,10 @@
 //! Each object is called through its trait, and what a person expects of the rooms, the lists of failing calls and the held paths.
 
-use crate::{
+use hx_base::{Bytes, Text};
+use hx_io::{
     Calls, Failed, FileError, Files, HostFiles, HostSink, HostSource, MemFiles, MemSink, MemSource,
     Sink, Source, SureFiles, SureSink, SureSource, write_all,
 };
-use hx_base::{Bytes, Text};
 use std::alloc::{AllocError, Global};
 use std::io;
 use std::test::Fail;
