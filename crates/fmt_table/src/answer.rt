@@ -17,7 +17,8 @@ pub(crate) fn answer(alloc: Global, line: &str) -> Result<String> {
 
 /// The layout of a file, or its fault.
 fn found(alloc: Global, source: &str) -> Result<String> {
-    let src = source.replace(alloc, '$', "\n")?.replace(alloc, '#', "\t")?;
+    let lines = source.replace(alloc, '$', "\n")?.replace(alloc, '#', "\t")?;
+    let src = lines.replace(alloc, '@', "\r")?;
     let bytes = src.as_bytes();
     if bytes.len() > MOST {
         bail!("the file is too long");
@@ -43,7 +44,8 @@ fn laid_out(alloc: Global, text: &[u8]) -> Result<String> {
 /// A text on one line.
 fn written(alloc: Global, text: &[u8]) -> Result<String> {
     let text = str::from_utf8(text)?;
-    Ok(text.replace(alloc, '\n', "$")?.replace(alloc, '\t', "#")?)
+    let line = text.replace(alloc, '\n', "$")?.replace(alloc, '\t', "#")?;
+    Ok(line.replace(alloc, '\r', "@")?)
 }
 
 /// A fault.

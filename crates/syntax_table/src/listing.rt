@@ -28,7 +28,7 @@ fn put_kids(out: &mut String, kids: &Kids) -> Result<()> {
 
 /// Writes a tree.
 #[cycle(trees)]
-fn put_tree(out: &mut String, tree: &Tree) -> Result<()> {
+pub(crate) fn put_tree(out: &mut String, tree: &Tree) -> Result<()> {
     let kind = tree.kind;
     if kind == Kind::None {
         out.push_str("None")?;
@@ -54,7 +54,7 @@ fn put_text(out: &mut String, kind: Kind, text: &[u8]) -> Result<()> {
 }
 
 /// Writes a text in quotes. A quote and a backslash have a backslash in front, and a control character is written by its number.
-fn put_quoted(out: &mut String, text: &str) -> Result<(), AllocError> {
+pub(crate) fn put_quoted(out: &mut String, text: &str) -> Result<(), AllocError> {
     out.push_str(" \"")?;
     for c in text.chars() {
         match c {
@@ -70,7 +70,7 @@ fn put_quoted(out: &mut String, text: &str) -> Result<(), AllocError> {
 }
 
 /// Writes the suffix of a number, if it has one.
-fn put_suffix(out: &mut String, suffix: Suffix) -> Result<(), AllocError> {
+pub(crate) fn put_suffix(out: &mut String, suffix: Suffix) -> Result<(), AllocError> {
     out.push_str(match suffix {
         Suffix::None => "",
         Suffix::I8 => " i8",
