@@ -14,6 +14,3 @@ pub use assign::assignable;
 pub use cast::castable;
 pub use chosen::{chosen_member, first_choice};
 pub use laws::{law_choices_stay, law_firsts_stay, law_verdicts_stay};
-
-#[cfg(test)]
-mod tests;

@@ -14,8 +14,6 @@ mod read_expr;
 mod read_statement;
 mod scan;
 mod scope;
-#[cfg(test)]
-mod tests;
 mod token;
 mod tokens;
 

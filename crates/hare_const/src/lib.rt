@@ -32,8 +32,6 @@ mod sizes;
 mod statics;
 mod table;
 mod taken;
-#[cfg(test)]
-mod tests;
 mod texts;
 mod unions;
 mod walk;

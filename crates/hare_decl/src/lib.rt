@@ -5,8 +5,6 @@ mod file;
 mod laws;
 mod source;
 mod syntax;
-#[cfg(test)]
-mod tests;
 
 pub use file::parse_file;
 pub use laws::{law_sizes_of_sources, law_trees_of_sources};

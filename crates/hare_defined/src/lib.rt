@@ -8,6 +8,3 @@ mod search;
 
 pub use defined::Defined;
 pub use laws::law_defined_types_stay;
-
-#[cfg(test)]
-mod tests;

@@ -3,8 +3,6 @@
 
 mod directory;
 mod program;
-#[cfg(test)]
-mod tests;
 
 pub use directory::Directory;
 pub use program::look;

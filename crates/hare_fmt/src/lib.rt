@@ -2,7 +2,5 @@
 #![tactic(auto)]
 
 mod source;
-#[cfg(test)]
-mod tests;
 
 pub use source::format;

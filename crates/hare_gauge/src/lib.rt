@@ -10,8 +10,6 @@ mod gauge;
 mod nodes;
 mod run;
 mod step;
-#[cfg(test)]
-mod tests;
 mod width;
 
 pub use depth::{depth_fault, depth_fault_of_file};

@@ -29,6 +29,3 @@ pub use payload::payload_of;
 pub use size::{align_of, is_small, size_of};
 pub use spelled::{Bools, Places, Spelled};
 pub use tag::tag_of;
-
-#[cfg(test)]
-mod tests;

@@ -11,8 +11,6 @@ mod number;
 mod stop;
 mod string;
 mod table;
-#[cfg(test)]
-mod tests;
 
 pub use front::{Found, first_token};
 pub use gap::{GapPart, gap_part};

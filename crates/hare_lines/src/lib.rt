@@ -5,8 +5,6 @@ mod comments;
 mod laws;
 mod line;
 mod read;
-#[cfg(test)]
-mod tests;
 mod way;
 mod write;
 

@@ -9,8 +9,6 @@ mod names;
 mod notes;
 mod places;
 mod program;
-#[cfg(test)]
-mod tests;
 mod verdict;
 mod walk;
 

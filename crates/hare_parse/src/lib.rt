@@ -8,8 +8,6 @@ mod parse;
 mod reader;
 mod run;
 mod step;
-#[cfg(test)]
-mod tests;
 mod whole;
 
 pub use file::{FileOutcome, read_file};

@@ -6,8 +6,6 @@ mod cut;
 mod laws;
 mod piece;
 mod pieces;
-#[cfg(test)]
-mod tests;
 
 pub use cut::pieces_of;
 pub use laws::law_one_list_of_pieces;

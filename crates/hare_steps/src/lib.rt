@@ -14,6 +14,3 @@ pub use planned::Plan;
 pub use planning::plan;
 pub use step::Step;
 pub use turns::steps;
-
-#[cfg(test)]
-mod tests;

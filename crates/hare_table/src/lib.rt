@@ -10,8 +10,6 @@ mod rows;
 mod signs;
 mod spare;
 mod strings;
-#[cfg(test)]
-mod tests;
 mod waits;
 
 pub use answer::Answer;

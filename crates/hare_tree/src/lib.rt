@@ -17,8 +17,6 @@ mod shape;
 mod sign;
 mod sort;
 mod stop;
-#[cfg(test)]
-mod tests;
 mod text;
 mod token;
 mod tokens;

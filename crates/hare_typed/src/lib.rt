@@ -10,8 +10,6 @@ mod exits;
 mod given;
 mod laws;
 mod program;
-#[cfg(test)]
-mod tests;
 mod typed;
 mod value_laws;
 mod weights;

@@ -30,6 +30,3 @@ pub use laws::{law_ids_ascend, law_ids_mean_trees, law_types_stay};
 pub use lists::{Field, Fields, TypeIds};
 pub use row::{Row, Scalar};
 pub use store::TypeStore;
-
-#[cfg(test)]
-mod tests;

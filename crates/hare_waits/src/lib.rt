@@ -6,8 +6,6 @@ mod held;
 mod laws;
 mod lists;
 mod nodes;
-#[cfg(test)]
-mod tests;
 mod waiting;
 mod waits;
 

@@ -4,8 +4,6 @@
 mod check;
 mod counts;
 mod laws;
-#[cfg(test)]
-mod tests;
 mod walk;
 
 pub use check::check_by;

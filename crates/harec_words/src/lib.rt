@@ -6,8 +6,6 @@ mod fault;
 mod laws;
 mod path;
 mod reading;
-#[cfg(test)]
-mod tests;
 mod units;
 
 pub use command::{Command, Span, command_of};

@@ -8,8 +8,6 @@ mod fitting;
 mod judged;
 mod listed;
 mod patterns;
-#[cfg(test)]
-mod tests;
 mod unmet;
 
 pub use judged::judge;

@@ -1,19 +1,10 @@
-//! Each call once, with what a person expects of it.
+//! Words, lists of tokens, and the kids of forms.
 
-mod fitting;
-mod kids;
-mod spelling;
-mod trees;
-
-use crate::{Fault, Meaning, Place, Stop, Suffix, Token, TokenKind, Tokens, Word};
+use hare_tree::{
+    Fault, Kind, Meaning, Place, Sort, Stop, Suffix, Token, TokenKind, Tokens, Word, kid_sort,
+};
 use std::alloc::{AllocError, AllocFailed, Global};
 use std::test::Fail;
-
-const PLACE: Place = Place {
-    file: 1,
-    line: 2,
-    column: 3,
-};
 
 #[test]
 fn words_are_put_together(rt: HostRuntime) -> Result<(), Fail> {
@@ -22,10 +13,6 @@ fn words_are_put_together(rt: HostRuntime) -> Result<(), Fail> {
     word.push(b'r')?;
     word.extend(b"ea\xff")?;
     assert_eq!(rt; word.bytes(), b"rea\xff".as_slice());
-    assert_eq!(rt;
-        Word::copy(rt.alloc(), b"nomem")?.bytes(),
-        b"nomem".as_slice()
-    );
     Ok(())
 }
 
@@ -33,7 +20,11 @@ fn words_are_put_together(rt: HostRuntime) -> Result<(), Fail> {
 fn number(alloc: Global, value: u128) -> Token {
     Token {
         kind: TokenKind::Number,
-        place: PLACE,
+        place: Place {
+            file: 1,
+            line: 2,
+            column: 3,
+        },
         text: Word::new(alloc),
         number: value,
         suffix: Suffix::Z,
@@ -43,10 +34,8 @@ fn number(alloc: Global, value: u128) -> Token {
 #[test]
 fn lists_keep_their_order(rt: HostRuntime) -> Result<(), Fail> {
     let mut tokens = Tokens::new(rt.alloc());
-    assert_eq!(rt; tokens.len(), 0);
     tokens.push(number(rt.alloc(), 5))?;
     tokens.push(number(rt.alloc(), 7))?;
-    assert_eq!(rt; tokens.len(), 2);
     assert_eq!(rt; tokens.get(0).ok_or("first")?.number, 5);
     assert_eq!(rt; tokens.get(1).ok_or("second")?.number, 7);
     assert!(rt; tokens.get(2).is_none());
@@ -67,13 +56,9 @@ fn stopped_with(failed: Result<(), AllocFailed<u8>>) -> Result<(), Stop<Fault>> 
 
 #[test]
 fn want_of_memory_stops(rt: HostRuntime) {
+    let failed = stopped_with(Err(AllocFailed { value: 7 }));
     assert!(rt; matches!(stopped(Err(AllocError)), Err(Stop::Memory)));
-    assert!(rt;
-        matches!(
-            stopped_with(Err(AllocFailed { value: 7 })),
-            Err(Stop::Memory)
-        )
-    );
+    assert!(rt; matches!(failed, Err(Stop::Memory)));
 }
 
 #[test]
@@ -81,4 +66,16 @@ fn meanings_differ(rt: HostRuntime) {
     assert_ne!(rt; Meaning::Local(1), Meaning::Decl(1));
     assert_eq!(rt; Meaning::Rt(2), Meaning::Rt(2));
     assert_ne!(rt; Meaning::None, Meaning::Local(0));
+}
+
+#[test]
+fn kids_stand_in_the_order_of_the_form(rt: HostRuntime) {
+    assert_eq!(rt; kid_sort(Kind::Fn, 5, 0), Some(Sort::Export));
+    assert_eq!(rt; kid_sort(Kind::Fn, 5, 2), Some(Sort::Params));
+    assert_eq!(rt; kid_sort(Kind::Fn, 5, 5), None);
+    assert_eq!(rt; kid_sort(Kind::Block, 3, 2), Some(Sort::Statement));
+    // The last kids of an array are dots and a comma.
+    assert_eq!(rt; kid_sort(Kind::Array, 4, 1), Some(Sort::Level(1)));
+    assert_eq!(rt; kid_sort(Kind::Array, 4, 2), Some(Sort::Dots));
+    assert_eq!(rt; kid_sort(Kind::Array, 4, 3), None);
 }

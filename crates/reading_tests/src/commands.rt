@@ -1,6 +1,6 @@
-//! A command and lines, with ample memory.
+//! A command and lines of faults, with ample memory.
 
-use super::*;
+use harec_words::{Command, Span, command_of, fault_text, law_one_command};
 use hx_base::Text;
 use std::test::Fail;
 

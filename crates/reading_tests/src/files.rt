@@ -1,13 +1,13 @@
-//! Trees of files, and lists of tokens that no lexer gives.
+//! Where the trees of a file stand, and lists of tokens that no text has.
 
 ghost use Rattle.std.specs.Prelude.{◌≡◌};
 
-use super::*;
-use crate::parse_file;
-use hare_tree::{Fault, FileTree, Kids, Kind, Place, Suffix, Token, TokenKind, Tokens, Word};
+use hare_decl::{parse_file, parse_source};
+use hare_tree::{Fault, FileTree, Kids, Kind, Place, Stop, Suffix, Token, TokenKind, Tokens, Word};
+use std::alloc::Global;
 use std::test::Fail;
 
-// Whether the trees are one of this kind, at this line of file 3.
+// Whether the trees are one of this kind, at the start of this line of file 3.
 fn is_one(trees: &Kids, kind: Kind, line: u32) -> bool {
     let place = Place {
         file: 3,
@@ -24,25 +24,10 @@ fn is_one(trees: &Kids, kind: Kind, line: u32) -> bool {
 fn a_file_has_imports_and_declarations(rt: HostRuntime) -> Result<(), Fail> {
     match parse_source(rt.alloc(), 3, b"use rt;\nlet x = 1;\n") {
         Ok(tree) => {
-            assert_eq!(rt; tree.file, 3);
             assert!(rt; is_one(&tree.uses, Kind::Use, 1));
             assert!(rt; is_one(&tree.decls, Kind::GlobalLet, 2));
         }
         Err(_) => assert!(rt; false),
-    }
-    Ok(())
-}
-
-#[test]
-fn a_fault_is_of_its_file(rt: HostRuntime) -> Result<(), Fail> {
-    let place = Place {
-        file: 3,
-        line: 1,
-        column: 1,
-    };
-    match parse_source(rt.alloc(), 3, b")") {
-        Err(Stop::Fault(fault)) => assert_eq!(rt; fault, Fault { number: 8, place }),
-        _ => assert!(rt; false),
     }
     Ok(())
 }
@@ -74,9 +59,8 @@ fn column_of(answer: Result<FileTree, Stop<Fault>>) -> Option<u32> {
 
 #[test]
 fn lists_without_end_have_a_fault(rt: HostRuntime) -> Result<(), Fail> {
-    let a = rt.alloc();
-    let none = Tokens::new(a);
-    assert_eq!(rt; column_of(parse_file(a, 3, &none)), Some(1));
+    let none = Tokens::new(rt.alloc());
+    assert_eq!(rt; column_of(parse_file(rt.alloc(), 3, &none)), Some(1));
     Ok(())
 }
 
