@@ -12,7 +12,7 @@ use Rattle.hare_whole.specs.Limits.{IsEntry, IsLimitFault}
 use Rattle.hare_whole.specs.Turns.{Stage, AreJudged, IsDeclarationFault}
 use Rattle.hare_limits.proofs.SoundLemmas.{limits-sound}
 use Rattle.hare_whole.specs.Judged.{AreFaultless, IsFaultOfPhases, of_circles, of_declarations, of_bodies, of_limits}
-use Rattle.hare_sole.specs.Checked.{AreChecked, PhaseFaultsAreOne, CheckedOrFaulty, TypedTreesAreOne}
+use Rattle.hare_sole.specs.Checked.{AreChecked, PhaseFaultsAreOne, CheckedOrFaulty, LimitsAreLeft, TypedTreesAreOne}
 use Rattle.hare_sole.proofs.StepLemmas.{Inference}
 use Rattle.hare_sole.proofs.CourseLemmas.{declaration-once, declaration-or-judged}
 use Rattle.hare_sole.proofs.BodyLemmas.{body-once, body-or-faultless}
@@ -60,13 +60,15 @@ module _ (k : Inference) (l : Trees) (o : Orders) (paths : List (List ℕ)) (p :
   phase-once f g (of_limits ds i a t h) (of_limits es q b u j) =
       limit-once paths s es f g (subst (λ (xs : List TypedNode). IsLimitFault paths s xs f) (faultless-trees ds es a t u) h) j
 
+  pub limits-left : (ds : List TypedNode) (f : Fault) → AreFaultless p s → AreTyped p s ds → IsFaultOfPhases paths p s f →
+      IsLimitFault paths s ds f
+  limits-left ds f a t (of_circles h) = absurd (circle-or-judged a.stage f a.judged h)
+  limits-left ds f a t (of_declarations i h) = absurd (declaration-or-judged k o.order p s a.stage f a.judged h)
+  limits-left ds f a t (of_bodies i h) = absurd (body-or-faultless k o.order p s f a h)
+  limits-left ds f a t (of_limits es i b u h) = subst (λ (xs : List TypedNode). IsLimitFault paths s xs f) (faultless-trees es ds a u t) h
+
   pub checked-or-phase : (ds : List TypedNode) (entry : ℕ) (f : Fault) → AreChecked paths p s ds entry → ¬ IsFaultOfPhases paths p s f
-  checked-or-phase ds entry f c (of_circles h) = circle-or-judged c.faultless.stage f c.faultless.judged h
-  checked-or-phase ds entry f c (of_declarations i h) = declaration-or-judged k o.order p s c.faultless.stage f c.faultless.judged h
-  checked-or-phase ds entry f c (of_bodies i h) = body-or-faultless k o.order p s f c.faultless h
-  checked-or-phase ds entry f c (of_limits es i a t h) =
-      limits-sound paths s ds entry f c.limits
-      (subst (λ (xs : List TypedNode). IsLimitFault paths s xs f) (faultless-trees es ds a t c.typed) h)
+  checked-or-phase ds entry f c h = limits-sound paths s ds entry f c.limits (limits-left ds f c.faultless c.typed h)
 
   same-entry : (n m : ℕ) (xs : List TypedNode) → IsEntry paths (map erase xs) n → IsEntry paths (map erase xs) m → n ≡ m
   same-entry n m xs h j = let both : Some n ≡ Some m = sym h.main ∙ j.main in cc
@@ -81,3 +83,6 @@ phase_faults_are_one k l o paths p s f g h j = phase-once k l o paths p s f g h 
 
 pub checked_or_faulty : Inference → Trees → Orders → CheckedOrFaulty
 checked_or_faulty k l o paths p s ds entry f c h = checked-or-phase k l o paths p s ds entry f c h
+
+pub limits_are_left : Inference → Trees → Orders → LimitsAreLeft
+limits_are_left k l o paths p s ds f a t h = limits-left k l o paths p s ds f a t h

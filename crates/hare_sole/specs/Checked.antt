@@ -6,7 +6,7 @@ use Rattle.hare_typed.specs.Typed.{TypedNode}
 use Rattle.hare_depends.specs.Order.{IsOrder}
 use Rattle.hare_whole.specs.Listing.{Listing, saids}
 use Rattle.hare_whole.specs.Judged.{IsFinal, AreTyped, AreFaultless, IsFaultOfPhases}
-use Rattle.hare_whole.specs.Limits.{AreWithinLimits}
+use Rattle.hare_whole.specs.Limits.{AreWithinLimits, IsLimitFault}
 
 -- no phase behind names finds a fault: all declarations and bodies have been judged, these are their typed trees, and they pass no limit
 pub record AreChecked (paths : List (List ℕ)) (p : Listing) (s : Store) (ds : List TypedNode) (entry : ℕ) : Type 0 where
@@ -28,6 +28,15 @@ CheckedOrFaulty =
     (paths : List (List ℕ)) (p : Listing) (s : Store) (ds : List TypedNode) (entry : ℕ) (f : Fault)
     → AreChecked paths p s ds entry
     → ¬ IsFaultOfPhases paths p s f
+
+-- where all declarations and bodies have been judged, with these trees, no fault is left but one of limits
+abbrev pub LimitsAreLeft : Type 0
+LimitsAreLeft =
+    (paths : List (List ℕ)) (p : Listing) (s : Store) (ds : List TypedNode) (f : Fault)
+    → AreFaultless p s
+    → AreTyped p s ds
+    → IsFaultOfPhases paths p s f
+    → IsLimitFault paths s ds f
 
 -- declarations that have an order have one list of typed trees
 abbrev pub TypedTreesAreOne : Type 0

@@ -1,6 +1,6 @@
 //! What holds of the phases behind names.
 
-ghost use Rattle.hare_sole.specs.Checked.{CheckedOrFaulty, PhaseFaultsAreOne, TypedTreesAreOne};
+ghost use Rattle.hare_sole.specs.Checked.{CheckedOrFaulty, LimitsAreLeft, PhaseFaultsAreOne, TypedTreesAreOne};
 
 use hare_agree::law_values_are_enough;
 use hare_depends::law_one_order;
@@ -19,10 +19,12 @@ pub fn law_typed_trees_are_one()
     law_values_are_enough();
 }
 
-/// Over one store the phases behind names have at most one first fault, and none where none of them finds one.
+/// Over one store the phases behind names have at most one first fault, and none where none of them finds one. Where all declarations and
+/// bodies have been judged, none is left but one of limits.
 pub fn law_one_fault_of_phases()
     ensures one { PhaseFaultsAreOne }
     ensures none { CheckedOrFaulty }
+    ensures left { LimitsAreLeft }
 {
     law_inference_is_exact();
     law_one_tree();

@@ -3,5 +3,6 @@ mod FinishedLemmas
 mod PhaseLemmas
 mod CompleteLemmas
 mod TagLemmas
+mod NameLemmas
 mod ProgramLemmas
 mod BoundLemmas

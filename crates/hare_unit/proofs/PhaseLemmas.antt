@@ -1,5 +1,5 @@
 -- What the phases from declarations to bodies come to.
-use Rattle.std.proofs.Common.{◌≡◌, ℕ, zero, suc, ◌+◌, List, [], slice_get, Some, ap, sym, ◌∙◌, subst, arith}
+use Rattle.std.proofs.Common.{◌≡◌, ℕ, zero, suc, ◌+◌, List, slice_get, Some, ap, sym, ◌∙◌, subst, arith}
 use Rattle.hare_tree.specs.declared.place.Fault.{Fault}
 use Rattle.hare_tree.specs.declared.stop.Stop.{Stop}
 use Rattle.hare_tree.specs.declared.stop.Stop.TheVariants.{Fault as Refused, Memory}
@@ -24,21 +24,18 @@ use Rattle.hare_declarations.specs.declared.parts.Judged.{Judged}
 use Rattle.hare_declarations.specs.Judged.{IsJudgedAs}
 use Rattle.hare_declarations.proofs.StoreLemmas.{grown-to}
 use Rattle.hare_joined.specs.Joined.{AreFinished, FinishedAreTyped}
-use Rattle.hare_unit.specs.Programs.{listing_of, IsPhaseStop}
-use Rattle.hare_unit.proofs.StoreLemmas.{end-here, final-grown}
-
--- a fault of circles is one over any store
-no-types : Store
-no-types = record { names = []; rows = []; declared = []; listed = [] }
+use Rattle.hare_unit.specs.Programs.{listing_of, OverEnds, AreJudged, IsFaultBehindNames, IsPhaseStop}
+use Rattle.hare_unit.proofs.StoreLemmas.{final-grown}
 
 pub circle-stops : (n : Named) (e : Stop Fault) → StopsAtCircle (saids (listing_of n)) e → IsPhaseStop n e
 circle-stops n Memory h = tt
-circle-stops n (Refused f) h = λ paths. (no-types, IsFaultOfPhases.of_circles h)
+circle-stops n (Refused f) h = λ paths. IsFaultBehindNames.of_circles h
 
 pub declaration-stops : (n : Named) (s : Store) (e : Stop Fault) → IsFinal (listing_of n) s → IsDeclarationStop (listing_of n) s e →
     IsPhaseStop n e
 declaration-stops n s Memory f h = tt
-declaration-stops n s (Refused e) f h = λ paths. (s, IsFaultOfPhases.of_declarations f (h s (end-here (listing_of n) s f.declared.sound f)))
+declaration-stops n s (Refused e) f h = λ paths.
+    IsFaultBehindNames.of_each s (record { final = f; each = λ l k. IsFaultOfPhases.of_declarations k.final (h l k) })
 
 -- declarations were judged with the first store, and bodies with the second
 pub record AreJudgedWith (p : Listing) (s r : Store) (j : Judged) : Type 0 where
@@ -57,13 +54,15 @@ body-stops law n s r j (Refused f) k h =
     let p = listing_of n in
     let g = grown-to s r k.sound_behind k.grown in
     let final = final-grown p s r k.sound g (final-judged p s j k.judged) in
-    λ paths. (
-      r,
-      IsFaultOfPhases.of_bodies final
-          (law p s r r k.judged.stage k.judged.values f k.judged.judged g
-          (subst (λ ds. IsBodyStop p ds r (Refused f)) (sym k.judged.same) h)
-          (end-here p r k.sound_behind final)),
-    )
+    λ paths.
+    IsFaultBehindNames.of_each r
+    (record {
+      final = final;
+      each = λ l e.
+          IsFaultOfPhases.of_bodies e.final
+          (law p s r l k.judged.stage k.judged.values f k.judged.judged g
+          (subst (λ ds. IsBodyStop p ds r (Refused f)) (sym k.judged.same) h) e);
+    })
 
 -- trees were finished with the third
 pub record AreFinishedWith (p : Listing) (s r f : Store) (j : Judged) (bs ds : List TypedNode) : Type 0 where
@@ -73,13 +72,13 @@ pub record AreFinishedWith (p : Listing) (s r f : Store) (j : Judged) (bs ds : L
   pub sound : IsStore f
   pub finished : AreFinished f p.decls j.parts bs ds
 
-pub final-finished : (p : Listing) (s r f : Store) (j : Judged) (bs ds : List TypedNode) → AreFinishedWith p s r f j bs ds → IsFinal p f
+final-finished : (p : Listing) (s r f : Store) (j : Judged) (bs ds : List TypedNode) → AreFinishedWith p s r f j bs ds → IsFinal p f
 final-finished p s r f j bs ds k =
     let g = grown-to s r k.judged.sound_behind k.judged.grown in
     let h = grown-to r f k.sound k.grown in
     final-grown p r f k.judged.sound_behind h (final-grown p s r k.judged.sound g (final-judged p s j k.judged.judged))
 
-pub typed-finished : FinishedAreTyped → (p : Listing) (s r f : Store) (j : Judged) (bs ds : List TypedNode) →
+typed-finished : FinishedAreTyped → (p : Listing) (s r f : Store) (j : Judged) (bs ds : List TypedNode) →
     AreFinishedWith p s r f j bs ds →
     (l : Store) → IsLater f l → IsFinal p l → AreTyped p l ds
 typed-finished law p s r f j bs ds k l later final =
@@ -102,7 +101,7 @@ body-at p ds s (AreBodies.other m u us xs g rest) zero n t e h f = let same : u 
 body-at p ds s (AreBodies.other m u us xs g rest) (suc i) n t e h f = body-at p ds s rest i n t (omega arith) h f
 
 -- Where declarations were judged with the first store and bodies with the second, with whatever store the checking ends.
-pub faultless-judged : StagesStay → EndsAreSeen → (p : Listing) (s r : Store) (j : Judged) (bs : List TypedNode) → AreJudgedWith p s r j →
+faultless-judged : StagesStay → EndsAreSeen → (p : Listing) (s r : Store) (j : Judged) (bs : List TypedNode) → AreJudgedWith p s r j →
     AreBodies p j.known r 0 p.decls bs → (l : Store) → IsLater r l → IsFinal p l → AreFaultless p l
 faultless-judged stay ends p s r j bs k bodies l later final = record {
   stage = g;
@@ -124,3 +123,15 @@ faultless-judged stay ends p s r j bs k bodies l later final = record {
     behind : IsSeenAt r (seen l g.done)
     behind =
         ends p r l g k.judged.values (stay p s r g k.judged.values k.judged.judged.stage grown) (record { later = later; final = final })
+
+-- all is judged with whatever store the checking ends
+pub judged-finished : FinishedAreTyped → StagesStay → EndsAreSeen → (p : Listing) (s r f : Store) (j : Judged) (bs ds : List TypedNode) →
+    AreFinishedWith p s r f j bs ds → OverEnds p f (AreJudged p ds)
+judged-finished law stay ends p s r f j bs ds k = record {
+  final = final-finished p s r f j bs ds k;
+  each = λ l e. record {
+    faultless =
+        faultless-judged stay ends p s r j bs k.judged k.bodies l (later_trans r f l (grown-to r f k.sound k.grown).later e.later) e.final;
+    typed = typed-finished law p s r f j bs ds k l e.later e.final;
+  };
+}

@@ -40,7 +40,8 @@ pub fn program(alloc: Global, paths: Paths, srcs: &Sources) -> Result<Checked, S
     // Where the paths are words that name files, it is whole.
     ensures whole { IfOk result (λ c. AreFiles paths → IsWhole c) }
 
-    // Over one store a program is checked or has one first fault, and never both.
+    // A program is checked or has one first fault, and never both: over the store with which its checking ends, and over each that goes on
+    // from it. A fault of files, of names and of circles is the only one over every store.
     ensures only { IfOk result (IsFaultless paths srcs.now) }
     ensures only_fault { IfErr result (IsOnlyProgramStop paths srcs.now) }
 {

@@ -3,8 +3,10 @@
 
 mod checked;
 mod finished;
+mod laws;
 mod limits;
 mod phases;
 mod reversed;
 
 pub use checked::{Checked, program};
+pub use laws::{law_faults_meet, law_names_are_one};

@@ -10,7 +10,8 @@ use Rattle.harec_check.specs.declared.stopped.Stopped.TheVariants.{Refused, Unre
 use Rattle.harec_check.specs.Files.{AreTold, IsFirstUnread}
 use Rattle.harec_check.specs.Lines.{IsFaultLine}
 
--- the fault is the first of the program of these files, and the only one over the store with which its checking ended; the line is its own
+-- the fault is the first of the program of these files, and the only one over the stores that `IsOnlyFaultOfProgram` names; the line is
+-- its own
 pub record IsFirstFault (paths srcs : List (List ℕ)) (r : Refusal) : Type 0 where
   pub first : IsFaultOfProgram paths srcs r.fault
   pub only : IsOnlyFaultOfProgram paths srcs r.fault

@@ -5,3 +5,4 @@ mod OperatorRows
 mod MemoryRows
 mod ControlRows
 mod TypeRows
+mod LackingRows

@@ -11,6 +11,7 @@ use Rattle.hare_tree.specs.Shape.{is_none}
 use Rattle.hare_types.specs.declared.coercion.Ty.{Ty}
 use Rattle.hare_types.specs.declared.coercion.Ty.TheVariants as ty
 use Rattle.hare_types.specs.declared.coercion.Coercion.{Coercion}
+use Rattle.hare_types.specs.Store.{Store}
 use Rattle.hare_typed.specs.declared.constant.Const.TheVariants as constant
 use Rattle.hare_typed.specs.Typed.{TypedNode, marked, typed_nodes, head_of, mark_of}
 use Rattle.hare_typed.specs.Order.{check_order}
@@ -107,8 +108,8 @@ abbrev meaning_at : List TypedNode → (column : ℕ) → Meaning
 meaning_at [] c = means.None
 meaning_at (t ∷ ts) c = cond (nat_eq (head_of t).place.column c && says_something (mark_of t).meaning) (mark_of t).meaning (meaning_at ts c)
 
-abbrev names_in : TypedNode → Setting
-names_in t = record { store = store; decls = decls; means = λ p. meaning_at (check_order t) p.column }
+abbrev names_in : Store → TypedNode → Setting
+names_in s t = record { store = s; decls = decls; means = λ p. meaning_at (check_order t) p.column }
 
 abbrev over_body : Function → Above
 over_body f =
@@ -144,9 +145,13 @@ saying_of (Well t) = Types (parts_of (check_order t))
 saying_of (Faulty e) = Fault e.number e.place.column
 saying_of Odd = Unfit
 
--- what the typing rules say of the body of a function
+-- what the typing rules say of the body of a function over a store
+abbrev pub rules_say_over : Store → Function → Saying
+rules_say_over s f = saying_of (finding (names_in s f.body) (over_body f) (entries f.params f.bindings) (erase f.body))
+
+-- and over the store of all types that the worked bodies speak of
 abbrev pub rules_say : Function → Saying
-rules_say f = saying_of (finding (names_in f.body) (over_body f) (entries f.params f.bindings) (erase f.body))
+rules_say = rules_say_over store
 
 -- a node of a type that stays as it is
 abbrev pub is : ℕ → Part

@@ -1,6 +1,6 @@
 use Rattle.hare_sole.proofs.StepLemmas.{Inference}
 use Rattle.hare_sole.proofs.PartLemmas.{Trees}
-use Rattle.hare_sole.proofs.PhaseLemmas.{Orders, phase_faults_are_one, checked_or_faulty}
+use Rattle.hare_sole.proofs.PhaseLemmas.{Orders, phase_faults_are_one, checked_or_faulty, limits_are_left}
 use Rattle.hare_sole.proofs.laws.law_one_fault_of_phases.Goals as goal
 
 pub returns-clause-one : goal.returns-clause-one
@@ -30,3 +30,17 @@ returns-clause-none c =
     let orders : Orders =
     record { circle = c.law_one_order.ensures.fault; order = c.law_one_order.ensures.order; circles = c.law_one_order.ensures.circles } in
     checked_or_faulty inference trees orders
+
+pub returns-clause-left : goal.returns-clause-left
+returns-clause-left c =
+    let inference : Inference = record {
+      exact = c.law_inference_is_exact.ensures;
+      tree = c.law_one_tree.ensures;
+      fault = c.law_one_fault.ensures;
+      decided = c.law_tree_or_fault.ensures;
+    } in
+    let trees : Trees =
+    record { exact = c.law_inference_is_exact.ensures; tree = c.law_one_tree.ensures; enough = c.law_values_are_enough.ensures } in
+    let orders : Orders =
+    record { circle = c.law_one_order.ensures.fault; order = c.law_one_order.ensures.order; circles = c.law_one_order.ensures.circles } in
+    limits_are_left inference trees orders

@@ -9,7 +9,7 @@ use Rattle.hare_unit.specs.Programs.{IsProgramStop, IsOnlyProgramStop, IsEnded, 
 use Rattle.hare_sources.proofs.ReadLemmas.{length-read}
 use Rattle.hare_unit.proofs.BoundLemmas.{locals-bound}
 use Rattle.hare_unit.proofs.CompleteLemmas.{is-complete}
-use Rattle.hare_unit.proofs.ProgramLemmas.{early-stops, phase-stops, ended-stops, is-seen, only-early, only-phase, only-limit, all-passed}
+use Rattle.hare_unit.proofs.ProgramLemmas.{Names, Phases, early-stops, phase-stops, ended-stops, is-seen, judged-here, told-judged, only-early, only-phase, only-limit, is-faultless}
 use Rattle.hare_unit.proofs.checked.program.Goals as goal
 
 pub returns-in_err-named-clause-err : goal.returns-in_err-named-clause-err
@@ -25,8 +25,14 @@ returns-in_err-named-clause-only_fault c =
     let paths = c.args.paths in
     let srcs = c.args.srcs.now in
     let e = c.in_err-named.field-0.0 in
+    let names : Names =
+    record {
+      one = c.law_one_early_fault.ensures.one;
+      none = c.law_one_early_fault.ensures.none;
+      trees = c.law_one_early_fault.ensures.trees;
+    } in
     err_same c.from_residual.result e (IsOnlyProgramStop paths srcs) c.from_residual.ensures.1
-    (only-early c.law_one_early_fault.ensures.one c.law_one_early_fault.ensures.none paths srcs e
+    (only-early names paths srcs e
     (subst (λ ps. Stops (IsEarlyFault ps srcs) e) c.as_slice.ensures c.in_err-named.ensures.err))
 
 pub judge-requires : goal.judge-requires
@@ -57,9 +63,20 @@ returns-in_err-typing-clause-only_fault c =
     let e = c.in_err-typing.field-0.0 in
     let named : AreNamed paths srcs n.files (meaning_in n.names) =
     subst (λ ps. AreNamed ps srcs n.files (meaning_in n.names)) c.as_slice.ensures c.in_ok-named.ensures.ok in
+    let names : Names =
+    record {
+      one = c.law_one_early_fault.ensures.one;
+      none = c.law_one_early_fault.ensures.none;
+      trees = c.law_one_early_fault.ensures.trees;
+    } in
+    let phases : Phases =
+    record {
+      one = c.law_one_fault_of_phases.ensures.one;
+      none = c.law_one_fault_of_phases.ensures.none;
+      left = c.law_one_fault_of_phases.ensures.left;
+    } in
     err_same c.from_residual-in_err-typing.result e (IsOnlyProgramStop paths srcs) c.from_residual-in_err-typing.ensures.1
-    (only-phase c.law_one_fault_of_phases.ensures.one c.law_one_fault_of_phases.ensures.none paths srcs n named e
-    c.in_err-typing.ensures.err)
+    (only-phase names phases paths srcs n named e c.in_err-typing.ensures.err)
 
 pub returns-in_err-entry-clause-err : goal.returns-in_err-entry-clause-err
 returns-in_err-entry-clause-err c =
@@ -82,8 +99,20 @@ returns-in_err-entry-clause-only_fault c =
     let named : AreNamed paths srcs n.files (meaning_in n.names) =
     subst (λ ps. AreNamed ps srcs n.files (meaning_in n.names)) c.as_slice.ensures c.in_ok-named.ensures.ok in
     let stop : IsLimitStop paths n e = subst (λ ps. IsLimitStop ps n e) c.as_slice-2.ensures c.in_err-entry.ensures.err in
+    let names : Names =
+    record {
+      one = c.law_one_early_fault.ensures.one;
+      none = c.law_one_early_fault.ensures.none;
+      trees = c.law_one_early_fault.ensures.trees;
+    } in
+    let phases : Phases =
+    record {
+      one = c.law_one_fault_of_phases.ensures.one;
+      none = c.law_one_fault_of_phases.ensures.none;
+      left = c.law_one_fault_of_phases.ensures.left;
+    } in
     err_same c.from_residual-in_err-entry.result e (IsOnlyProgramStop paths srcs) c.from_residual-in_err-entry.ensures.1
-    (only-limit c.law_one_fault_of_phases.ensures.one c.law_one_fault_of_phases.ensures.none paths srcs n named e stop)
+    (only-limit names phases paths srcs n named e stop)
 
 pub returns-clause-ok : goal.returns-clause-ok
 returns-clause-ok c =
@@ -101,7 +130,7 @@ returns-clause-ok c =
       trees = n.files;
       named = named;
       paths_are = refl;
-      erases = ended.typed.erases;
+      erases = (judged-here n t ended.sound ended.judged).typed.erases;
       complete = is-complete paths (listing_of n) t.types t.decls entry (is-seen paths n t entry filed ended);
     }
 
@@ -115,14 +144,19 @@ returns-clause-only c =
     let named : AreNamed paths srcs n.files (meaning_in n.names) =
     subst (λ ps. AreNamed ps srcs n.files (meaning_in n.names)) c.as_slice.ensures c.in_ok-named.ensures.ok in
     let ended : IsEnded paths n t entry = subst (λ ps. IsEnded ps n t entry) c.as_slice-2.ensures c.in_ok-entry.ensures.ok in
-    let passed = all-passed paths n t entry ended in
+    let names : Names =
     record {
-      trees = n.files;
-      named = named;
-      early = λ f h. c.law_one_early_fault.ensures.none paths srcs n.files (meaning_in n.names) f named h;
-      checked = passed;
-      late = λ f h. c.law_one_fault_of_phases.ensures.none paths (listing_of n) t.types t.decls entry f passed h;
-    }
+      one = c.law_one_early_fault.ensures.one;
+      none = c.law_one_early_fault.ensures.none;
+      trees = c.law_one_early_fault.ensures.trees;
+    } in
+    let phases : Phases =
+    record {
+      one = c.law_one_fault_of_phases.ensures.one;
+      none = c.law_one_fault_of_phases.ensures.none;
+      left = c.law_one_fault_of_phases.ensures.left;
+    } in
+    is-faultless names phases paths srcs n t entry named ended
 
 pub returns-clause-whole : goal.returns-clause-whole
 returns-clause-whole c = λ files.
@@ -139,6 +173,8 @@ returns-clause-whole c = λ files.
     record {
       files = files;
       bound = locals-bound c.law_locals_are_in_scope.ensures paths n.files (meaning_in n.names) t.decls
-          (length-read 0 0 srcs n.files named.read ∙ c.requires.paired) named.meanings ended.typed.erases;
+          (length-read 0 0 srcs n.files named.read ∙ c.requires.paired) named.meanings
+          (judged-here n t ended.sound ended.judged).typed.erases;
       complete = is-complete paths (listing_of n) t.types t.decls entry (is-seen paths n t entry filed ended);
+      judged = told-judged n t ended.sound ended.judged;
     }

@@ -1,10 +1,8 @@
 use Rattle.hare_tree.specs.declared.stop.Stop.TheVariants.{Memory}
 use Rattle.hare_whole.specs.Judged.{IsFinal}
-use Rattle.hare_types.proofs.LaterLemmas.{later_trans}
-use Rattle.hare_declarations.proofs.StoreLemmas.{grown-to}
 use Rattle.hare_walk.proofs.Steps.{err_same}
 use Rattle.hare_unit.specs.Programs.{listing_of, IsPhaseStop}
-use Rattle.hare_unit.proofs.PhaseLemmas.{AreJudgedWith, AreFinishedWith, circle-stops, declaration-stops, body-stops, final-finished, typed-finished, faultless-judged}
+use Rattle.hare_unit.proofs.PhaseLemmas.{AreJudgedWith, AreFinishedWith, circle-stops, declaration-stops, body-stops, judged-finished}
 use Rattle.hare_unit.proofs.phases.judge.Goals as goal
 
 pub returns-in_err-plan-clause-err : goal.returns-in_err-plan-clause-err
@@ -60,11 +58,5 @@ returns-clause-ok c =
       sound = c.finish_all.ensures.sound;
       finished = c.in_ok-decls.ensures.ok;
     } in
-    record {
-      faultless = λ l later final.
-          faultless-judged c.law_stages_stay.ensures c.law_ends_are_seen.ensures p s r c.in_ok-judged.judged c.in_ok-bodies.bodies
-          with.judged
-          with.bodies l (later_trans r f l (grown-to r f with.sound with.grown).later later) final;
-      final = final-finished p s r f c.in_ok-judged.judged c.in_ok-bodies.bodies c.in_ok-decls.decls with;
-      typed = typed-finished c.law_finished_are_typed.ensures p s r f c.in_ok-judged.judged c.in_ok-bodies.bodies c.in_ok-decls.decls with;
-    }
+    judged-finished c.law_finished_are_typed.ensures c.law_stages_stay.ensures c.law_ends_are_seen.ensures p s r f c.in_ok-judged.judged
+    c.in_ok-bodies.bodies c.in_ok-decls.decls with
