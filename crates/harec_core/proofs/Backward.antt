@@ -32,7 +32,7 @@ none_some : (e : machine.End) → None ≡ Some e → ⊥
 none_some e h = cc
 
 -- nothing was done at the start
-none_begun : (m : Module) (args : List (List ℕ)) (input : List ℕ) (fill : ℕ) → jumps_and_calls (start m args input fill) ≡ 0
+pub none_begun : (m : Module) (args : List (List ℕ)) (input : List ℕ) (fill : ℕ) → jumps_and_calls (start m args input fill) ≡ 0
 none_begun m args input fill = pick (function_named m.items (codes "main"))
   where
     pick : (f : Option Code) → jumps_and_calls (started (start_world m args input fill) f) ≡ 0
@@ -43,7 +43,7 @@ none_begun m args input fill = pick (function_named m.items (codes "main"))
 
 module _ (m : Module) (args : List (List ℕ)) (input : List ℕ) (fill : ℕ) where
   -- an end stays at every greater budget
-  later_same : (n k : ℕ) (e : machine.End) → n ≤ k → (machine m args input fill n).ended ≡ Some e →
+  pub later_same : (n k : ℕ) (e : machine.End) → n ≤ k → (machine m args input fill n).ended ≡ Some e →
       machine m args input fill k ≡ machine m args input fill n
   later_same n k e l h =
       let more : n + (k - n) ≡ k = omega arith in

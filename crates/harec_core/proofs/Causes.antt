@@ -1,17 +1,12 @@
 -- Causes of answers.
-use Rattle.std.proofs.Common.{◌≡◌, ℕ, ◌<◌, ◌-◌, ◌^◌, List, [], ◌∷◌, length, Option, Some, None, IfSome, refl, sym, ap, ◌∙◌, subst, inl, inr, arith, append-nil}
+use Rattle.std.proofs.Common.{◌≡◌, ℕ, ◌<◌, ◌-◌, ◌^◌, List, [], ◌∷◌, length, Option, Some, None, IfSome, Ok, Err, refl, sym, ap, ◌∙◌, subst, inl, inr, arith, append-nil}
 use Rattle.std.specs.Io.KnownBytes.{Appends}
 use Rattle.hx_io.specs.Causes.{Rose}
 use Rattle.il_code.specs.declared.types.Module.{Module}
-use Rattle.il_code.specs.Machine as machine
-use Rattle.il_code.specs.Run.{machine_end, machine_output}
-use Rattle.il_plain.specs.declared.ended.Ended.{Ended}
-use Rattle.il_plain.specs.declared.ended.Ended.TheVariants as ended
-use Rattle.il_plain.specs.Runs.{RunsAs, CountsEnd}
 use Rattle.hare_unit.specs.declared.checked.Checked.{Checked}
 use Rattle.hare_unit.specs.Programs.{IsChecked, IsFaultless}
 use Rattle.hare_unit.specs.Whole.{IsWhole}
-use Rattle.harec_words.specs.Commands.{Command, Check, Emit, Run}
+use Rattle.harec_words.specs.Commands.{Command, Check, Emit, Run, IsCommand}
 use Rattle.harec_check.specs.declared.stopped.Stopped.{Stopped}
 use Rattle.harec_check.specs.declared.stopped.Stopped.TheVariants.{Refused, Unread, Memory}
 use Rattle.harec_check.specs.Files.{AreTold}
@@ -20,11 +15,15 @@ use Rattle.harec_core.specs.declared.asked.Action.{Action}
 use Rattle.harec_core.specs.declared.asked.Action.TheVariants as action
 use Rattle.harec_core.specs.declared.asked.Purpose.{Purpose}
 use Rattle.harec_core.specs.declared.asked.Purpose.TheVariants as purpose
-use Rattle.harec_core.specs.declared.carry.Done.{Done}
-use Rattle.harec_core.specs.Answers.{Call, HasCause, Emitted, EndedIn, CutEmit, IsMade, IsCompiled, IsSound}
-use Rattle.harec_core.specs.Asked.{IsAsked, files_of, Checks, Compiles}
-use Rattle.harec_core.specs.Outside.{Count, HasRisen, Stands, Sent, sent, IsSent}
-use Rattle.harec_core.specs.Stages.{AreFilesFor, IsTextOf, IsBuilt, IsBuildStop, Emits, answer_of, done_answer, stopped_answer, command_on, command_for}
+use Rattle.harec_core.specs.declared.done.Done.{Done}
+use Rattle.harec_core.specs.declared.done.Done.TheVariants as done
+use Rattle.harec_core.specs.declared.done.Ran.{Ran}
+use Rattle.harec_core.specs.Answers.{Call, Passed, Emitted, CutEmit, IsMade, IsCompiled, IsSound, IsJobOf, compiled}
+use Rattle.harec_core.specs.Asked.{files_of, Checks, Compiles}
+use Rattle.harec_core.specs.Jobs.{Job}
+use Rattle.harec_core.specs.Outside.{Count, HasRisen, Stands, Received, Sent, sent, IsSent}
+use Rattle.harec_core.specs.Stages.{AreFilesFor, ArgumentsFor, IsTextOf, IsBuilt, IsBuildStop, Emits, IsRunOf, IsFound, command_on, command_for}
+use Rattle.harec_core.proofs.Running.{run_found}
 
 -- ---- counts and bytes
 
@@ -66,6 +65,7 @@ files_of-command_on files (purpose.Run units args) = refl
 
 pub files_of-command_for : (files : List (List ℕ)) (a : Action) → files_of (command_for files a) ≡ files
 files_of-command_for files action.Layout = refl
+files_of-command_for files (action.Text units args) = refl
 files_of-command_for files (action.Program p) = files_of-command_on files p
 
 -- what is done with a program is a command on one
@@ -74,65 +74,100 @@ Checks-command_on files purpose.Check = tt
 Checks-command_on files purpose.Emit = tt
 Checks-command_on files (purpose.Run units args) = tt
 
--- words ask for files, and for one that is laid out
-pub files_asked : (words files : List (List ℕ)) (a : Action) → IsAsked words (command_for files a) → AreFilesFor files a
-files_asked words files action.Layout h = ap length h.0.1.only
-files_asked words files (action.Program purpose.Check) h = h.0.1
-files_asked words files (action.Program purpose.Emit) h = h.0.1
-files_asked words files (action.Program (purpose.Run units args)) h = h.0.1
+-- words ask for files, and for one that is laid out or whose text is run
+pub files_asked : (words files : List (List ℕ)) (a : Action) → IsCommand words (command_for files a) → AreFilesFor files a
+files_asked words files action.Layout h = ap length h.1.only
+files_asked words files (action.Text units args) h = ap length h.1.only
+files_asked words files (action.Program purpose.Check) h = h.1
+files_asked words files (action.Program purpose.Emit) h = h.1
+files_asked words files (action.Program (purpose.Run units args)) h = h.1
+
+-- and for few arguments
+pub arguments_asked : (words files : List (List ℕ)) (a : Action) → IsCommand words (command_for files a) → ArgumentsFor a
+arguments_asked words files action.Layout h = tt
+arguments_asked words files (action.Text units args) h = h.0.arguments
+arguments_asked words files (action.Program purpose.Check) h = tt
+arguments_asked words files (action.Program purpose.Emit) h = tt
+arguments_asked words files (action.Program (purpose.Run units args)) h = h.0.arguments
 
 -- ---- why nothing was done
 
-module _ (content : List ℕ → Option (List ℕ)) (paths : List (List ℕ)) (before now : ℕ) (few : before < 2 ^ 64 - 1) where
-  -- files were not checked
-  pub stop_cause :
-      (command : Command) (fill : ℕ) (out : Sent) (text : List ℕ) (s : Stopped) → Checks command → files_of command ≡ paths
-      → IsSent [] out → text ≡ [] → IsStop content paths before now s
-      → (srcs : List (List ℕ)) × AreTold content paths srcs × HasCause (record {
-        command = command;
-        sources = srcs;
-        fill = fill;
-        files = record { before = before; now = now };
-        out = out;
-        text = text;
-      }) (stopped_answer s)
-  stop_cause command fill out text (Refused r) k e quiet empty h = (
-    h.srcs,
-    h.told,
-    inl (record {
-      checks = k;
-      files = h.stands;
-      first = rw e h.refusal.first;
-      only = rw e h.refusal.only;
-      silent = quiet;
-      text = empty;
-    }),
-  )
-  stop_cause command fill out text (Unread number) k e quiet empty h =
-      let told = all_told content paths in
-      (told.0, told.1, record { files = risen before now few h.risen; silent = quiet; text = empty })
-  stop_cause command fill out text Memory k e quiet empty h =
-      let told = all_told content paths in
-      (told.0, told.1, record { files = h; silent = quiet; text = inl empty })
-
+module _
+    (content : List ℕ → Option (List ℕ)) (paths : List (List ℕ)) (before now : ℕ) (few : before < 2 ^ 64 - 1) (command : Command) (out : Sent)
+    (quiet : IsSent [] out) where
   -- files were not read
-  pub read_stop_cause :
-      (command : Command) (out : Sent) (s : Stopped) → IsSent [] out → IsReadStop content paths before now s
-      → (srcs : List (List ℕ)) × AreTold content paths srcs × ((fill : ℕ) (text : List ℕ) → text ≡ [] → HasCause (record {
+  pub read_stop_found :
+      (s : Stopped) → IsReadStop content paths before now s
+      → (srcs : List (List ℕ)) × AreTold content paths srcs
+      × ((fill : ℕ) (text : List ℕ) (input : Received) → text ≡ [] → Stands input.faults → IsFound (record {
         command = command;
         sources = srcs;
         fill = fill;
         files = record { before = before; now = now };
+        input = input;
         out = out;
         text = text;
-      }) (stopped_answer s))
-  read_stop_cause command out (Refused r) quiet h = absurd h
-  read_stop_cause command out (Unread number) quiet h =
-      let told = all_told content paths in
-      (told.0, told.1, λ fill text empty. record { files = risen before now few h.risen; silent = quiet; text = empty })
-  read_stop_cause command out Memory quiet h =
-      let told = all_told content paths in
-      (told.0, told.1, λ fill text empty. record { files = h; silent = quiet; text = inl empty })
+      }) paths (Err s))
+  read_stop_found (Refused r) h = absurd h
+  read_stop_found (Unread number) h =
+      let told = all_told content paths in (
+        told.0,
+        told.1,
+        λ fill text input empty unread. record {
+          cause = record { files = risen before now few h.risen; silent = quiet; text = empty };
+          text = [];
+          line = h.within;
+          aborts = tt;
+        },
+      )
+  read_stop_found Memory h =
+      let told = all_told content paths in (
+        told.0,
+        told.1,
+        λ fill text input empty unread. record {
+          cause = inl (record { files = h; input = unread; silent = quiet; text = inl empty });
+          text = [];
+          line = tt;
+          aborts = tt;
+        },
+      )
+
+  module _ (fill : ℕ) (text : List ℕ) (input : Received) (empty : text ≡ []) (unread : Stands input.faults) where
+    -- files were not checked
+    pub stop_found :
+        (s : Stopped) → Checks command → files_of command ≡ paths → IsStop content paths before now s
+        → (srcs : List (List ℕ)) × AreTold content paths srcs × IsFound (record {
+          command = command;
+          sources = srcs;
+          fill = fill;
+          files = record { before = before; now = now };
+          input = input;
+          out = out;
+          text = text;
+        }) paths (Err s)
+    stop_found (Refused r) k e h = (
+      h.srcs,
+      h.told,
+      record {
+        cause = inl (record {
+          checks = k;
+          files = h.stands;
+          first = rw e h.refusal.first;
+          only = rw e h.refusal.only;
+          silent = quiet;
+          text = empty;
+        });
+        text = [];
+        line = h.refusal.line;
+        aborts = tt;
+      },
+    )
+    stop_found (Unread number) k e h =
+        let (srcs, told, found) = read_stop_found (Unread number) h in
+        (srcs, told, found fill text input empty unread)
+    stop_found Memory k e h =
+        let (srcs, told, found) = read_stop_found Memory h in
+        (srcs, told, found fill text input empty unread)
 
 -- ---- what is compiled
 
@@ -148,102 +183,105 @@ made_of source text m t = record {
   program = t.made.program;
   file = t.made.file;
   only = t.made.only;
+  unread = t.made.unread;
   valid = rw t.printed t.made.valid;
   carries = rw t.printed t.made.carries;
 }
 
--- a checked program without a fault
-sound_on :
-    (files : List (List ℕ)) (p : Purpose) (srcs : List (List ℕ)) (fill : ℕ) (count : Count) (out : Sent) (text : List ℕ)
-    → Stands count → (c : Checked) × IsChecked files srcs c × IsFaultless files srcs c × IsWhole c
-    → IsSound (record { command = command_on files p; sources = srcs; fill = fill; files = count; out = out; text = text })
-sound_on files p srcs fill count out text s c =
-    let same = files_of-command_on files p in
-    record { checks = Checks-command_on files p; files = s; program = c.0; checked = rw same c.1; faultless = rw same c.2; whole = c.3 }
+-- a call on a program: its files, and what is done with them
+module _
+    (files : List (List ℕ)) (p : Purpose) (srcs : List (List ℕ)) (fill : ℕ) (count : Count) (input : Received) (out : Sent) (text : List ℕ)
+    (s : Stands count) (c : (c : Checked) × IsChecked files srcs c × IsFaultless files srcs c × IsWhole c) where
+  abbrev pub call_on : Call
+  call_on = record {
+    command = command_on files p;
+    sources = srcs;
+    fill = fill;
+    files = count;
+    input = input;
+    out = out;
+    text = text;
+  }
 
--- of a checked program no text was made
-pub unbuilt_cause :
-    (files : List (List ℕ)) (p : Purpose) (srcs : List (List ℕ)) (fill : ℕ) (count : Count) (out : Sent) (text : List ℕ)
-    (why : Stopped) → Compiles (command_on files p) → Stands count
-    → (c : Checked) × IsChecked files srcs c × IsFaultless files srcs c × IsWhole c → IsSent [] out → text ≡ [] → IsBuildStop files srcs why
-    → HasCause (record { command = command_on files p; sources = srcs; fill = fill; files = count; out = out; text = text })
-    (stopped_answer why)
-unbuilt_cause files p srcs fill count out text (Refused r) k s c quiet empty h =
-    let sound = sound_on files p srcs fill count out text s c in
-    inr (inl (h.0, record { compiles = k; sound = sound; sources = h.2; silent = quiet; text = empty }))
-unbuilt_cause files p srcs fill count out text (Unread number) k s c quiet empty h = absurd h
-unbuilt_cause files p srcs fill count out text Memory k s c quiet empty h = record { files = s; silent = quiet; text = inl empty }
+  -- a checked program without a fault
+  pub sound_on : IsSound call_on
+  sound_on =
+      let same = files_of-command_on files p in
+      record { checks = Checks-command_on files p; files = s; program = c.0; checked = rw same c.1; faultless = rw same c.2; whole = c.3 }
 
--- a checked program that is compiled
-pub compiled_on :
-    (files : List (List ℕ)) (p : Purpose) (srcs : List (List ℕ)) (fill : ℕ) (count : Count) (out : Sent) (text : List ℕ)
-    (m : Module) → Compiles (command_on files p) → Stands count → (c : Checked) × IsChecked files srcs c × IsFaultless files srcs c × IsWhole c
-    → length srcs ≡ length files → IsBuilt srcs text m
-    → IsCompiled (record { command = command_on files p; sources = srcs; fill = fill; files = count; out = out; text = text }) m
-compiled_on files p srcs fill count out text m k s c paired b =
-    let same = files_of-command_on files p in
-    let one : length files ≡ 1 = sym paired ∙ ap length b.one in
-    let (path, named) = single files one in
-    record {
-      compiles = k;
-      sound = sound_on files p srcs fill count out text s c;
-      path = path;
-      named = same ∙ named;
-      source = b.source;
-      one = b.one;
-      made = made_of b.source text m b.made;
-    }
+  -- of a checked program no text was made
+  pub unbuilt_found :
+      (why : Stopped) → Compiles (command_on files p) → Stands input.faults → IsSent [] out → text ≡ [] → IsBuildStop files srcs why
+      → IsFound call_on files (Err why)
+  unbuilt_found (Refused r) k unread quiet empty h = record {
+    cause = inr (inl (h.0, record { compiles = k; sound = sound_on; sources = h.2; silent = quiet; text = empty }));
+    text = [];
+    line = h.1;
+    aborts = tt;
+  }
+  unbuilt_found (Unread number) k unread quiet empty h = absurd h
+  unbuilt_found Memory k unread quiet empty h = record {
+    cause = inl (record { files = s; input = unread; silent = quiet; text = inl empty });
+    text = [];
+    line = tt;
+    aborts = tt;
+  }
+
+  -- a checked program that is compiled
+  pub compiled_on :
+      (m : Module) → Compiles (command_on files p) → length srcs ≡ length files → IsBuilt srcs text m → IsCompiled call_on m
+  compiled_on m k paired b =
+      let same = files_of-command_on files p in
+      let one : length files ≡ 1 = sym paired ∙ ap length b.one in
+      let (path, named) = single files one in
+      record {
+        compiles = k;
+        sound = sound_on;
+        path = path;
+        named = same ∙ named;
+        source = b.source;
+        one = b.one;
+        made = made_of b.source text m b.made;
+      }
 
 -- ---- what is done with a text
 
 -- a text that was written out
-pub emit_cause :
-    (c : Call) (m : Module) (d : Done) (paths : List (List ℕ)) → c.command ≡ Emit paths → IsCompiled c m → Emits c.text c.out d
-    → HasCause c (done_answer d)
-emit_cause c m d paths e k (inl h) =
+pub emit_found :
+    (c : Call) (m : Module) (d : Done) (paths files : List (List ℕ)) → c.command ≡ Emit paths → IsCompiled c m → Emits c.text c.out d
+    → IsFound c files (Ok d)
+emit_found c m d paths files e k (inl h) =
     let cause : Emitted c = record { paths = paths; command = e; program = m; compiled = k; sent = h.1 } in
-    subst (λ d. HasCause c (done_answer d)) (sym h.0) (inr (inl cause))
-emit_cause c m d paths e k (inr h) =
+    subst (λ (x : Done). IsFound c files (Ok x)) (sym h.0)
+    (record { cause = inr (inl cause); text = []; line = tt; aborts = tt })
+emit_found c m d paths files e k (inr h) =
     let cut : CutEmit c = record { paths = paths; command = e; program = m; compiled = k; cut = h.1 } in
-    subst (λ d. HasCause c (done_answer d)) (sym h.0) (inl cut)
+    subst (λ (x : Done). IsFound c files (Ok x)) (sym h.0) (record { cause = inl cut; text = []; line = tt; aborts = tt })
 
-module _
-    (c : Call) (m : Module) (units : ℕ) (paths args : List (List ℕ)) (e : c.command ≡ Run units paths args) (k : IsCompiled c m) where
-  -- a run that no write cut off
-  ended_in :
-      (end : machine.End) → Stands c.out.faults
-      → ((input : List ℕ)
-      → (machine_end m args input c.fill units ≡ end) × Appends c.out.before c.out.now (machine_output m args input c.fill units))
-      → EndedIn c end
-  ended_in end stands r = record {
-    units = units;
-    paths = paths;
-    args = args;
-    command = e;
-    program = m;
-    compiled = k;
-    ends = λ input. (r input).0;
-    sent = λ input. record { stands = stands; written = (r input).1 };
-  }
+-- a program that is only checked
+pub passed_found :
+    (c : Call) (paths files : List (List ℕ)) → c.command ≡ Check paths → IsSound c → IsSent [] c.out → c.text ≡ []
+    → IsFound c files (Ok done.Accepted)
+passed_found c paths files e sound quiet empty =
+    let cause : Passed c = record { paths = paths; command = e; sound = sound; silent = quiet; text = empty } in
+    record { cause = inl cause; text = []; line = tt; aborts = tt }
 
-  -- a run
-  pub run_cause :
-      (end : Ended) → c.out.faults.before < 2 ^ 64 - 1 → CountsEnd c.out.faults.before c.out.faults.now end
-      → ((input : List ℕ) → RunsAs m args input c.fill units end c.out.before c.out.now) → HasCause c (answer_of end)
-  run_cause (ended.Exit status) few counts r = ended_in (machine.Exit status) (counts.kept (λ h. cc)) r
-  run_cause (ended.Fault f) few counts r = ended_in (machine.Fault f) (counts.kept (λ h. cc)) r
-  run_cause ended.StackFull few counts r = ended_in machine.StackFull (counts.kept (λ h. cc)) r
-  run_cause ended.Spent few counts r = ended_in machine.Spent (counts.kept (λ h. cc)) r
-  run_cause ended.WriteFault few counts r = inr (inl (record {
-    units = units;
-    paths = paths;
-    args = args;
-    command = e;
-    program = m;
-    compiled = k;
-    cut = λ input. record {
-      risen = risen c.out.faults.before c.out.faults.now few (counts.failed refl);
-      count = (r input).0;
-      written = (r input).1;
-    };
-  }))
+-- a module that is compiled and run
+pub ran_found :
+    (c : Call) (m : Module) (units : ℕ) (paths args files : List (List ℕ)) (r : Ran) → c.command ≡ Run units paths args → IsCompiled c m
+    → IsRunOf (record { program = m; args = args; fill = c.fill; units = units }) c.input c.out r → IsFound c files (Ok (done.Ended r))
+ran_found c m units paths args files r e k h =
+    let job : Job = record { program = m; args = args; fill = c.fill; units = units } in
+    let asked : IsJobOf c job = record { fill = refl; runs = compiled paths e k } in
+    run_found c files job asked r.machine r.end h
+
+-- memory ran out before it was run
+pub compiled_memory_found :
+    (c : Call) (m : Module) (files : List (List ℕ)) → IsCompiled c m → Stands c.input.faults → IsSent [] c.out
+    → IsFound c files (Err Memory)
+compiled_memory_found c m files k unread quiet = record {
+  cause = inl (record { files = k.sound.files; input = unread; silent = quiet; text = inr (inl (m, k)) });
+  text = [];
+  line = tt;
+  aborts = tt;
+}

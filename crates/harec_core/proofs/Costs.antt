@@ -17,10 +17,8 @@ use Rattle.flat_code.specs.State.{State, cut, value_of, give, stepped, Next, Lef
 use Rattle.il_emit.proofs.Counts.{sum_cons}
 use Rattle.hare_blocks.specs.Trees.{Program}
 use Rattle.low_blocks.specs.Programs.{body_of, start, body_code, lowered_main, lowered}
-use Rattle.harec_core.proofs.PlainCode.{IsOperand, IsFitCall, IsFit, AreFit}
-use Rattle.harec_core.proofs.PlainCode as fit
-use Rattle.harec_core.proofs.PlainLowered.{statements_fit}
-use Rattle.harec_core.proofs.Shaped.{Any, any_held}
+use Rattle.harec_core.proofs.Fits.{IsOperand, IsFitCall, IsFit, AreFit, statements_fit}
+use Rattle.harec_core.proofs.Fits as fit
 
 -- ---- ends put together
 
@@ -97,13 +95,13 @@ runtime_keeps s t None vs = refl
 runtime_keeps s t (Some f) vs = acted_keeps s t (runtime_result f) (act f (cut_each (runtime_params f) vs) s.world)
 
 module _ (p : FlatProgram)
-    (none_named : (temp : Option ℕ) (name : List ℕ) (args : List Value) → IsFitCall Any temp name args →
+    (none_named : (temp : Option ℕ) (name : List ℕ) (args : List Value) → IsFitCall temp name args →
     function_named p.functions name ≡ None) where
   abbrev LessKeeps : Less → Type 0
-  LessKeeps less = (c : Code) (s : State) (k : ℕ) → IsFit Any c → s.most ≡ k → Keeps k (less c s)
+  LessKeeps less = (c : Code) (s : State) (k : ℕ) → IsFit c → s.most ≡ k → Keeps k (less c s)
 
   mutual
-    begun_keeps : (n : ℕ) (less : Less) → LessKeeps less → (c : Code) (s : State) (k : ℕ) → IsFit Any c → s.most ≡ k →
+    begun_keeps : (n : ℕ) (less : Less) → LessKeeps less → (c : Code) (s : State) (k : ℕ) → IsFit c → s.most ≡ k →
         Keeps k (flat_begun p n less c s)
     begun_keeps n less below (Seq cs) s k h e = caught_keeps k _ (each_keeps n less below cs s k h e)
     begun_keeps n less below (Set t class o a b) s k h e = computed_keeps s t class _ ∙ e
@@ -125,7 +123,7 @@ module _ (p : FlatProgram)
         rw (none_named t name args h) (runtime_keeps (stepped (length args) s) t (runtime_function name) (map (value_of p s) args) ∙ e)
     begun_keeps n less below (Ret value) s k h e = absurd h
 
-    each_keeps : (n : ℕ) (less : Less) → LessKeeps less → (cs : Codes) (s : State) (k : ℕ) → AreFit Any cs → s.most ≡ k →
+    each_keeps : (n : ℕ) (less : Less) → LessKeeps less → (cs : Codes) (s : State) (k : ℕ) → AreFit cs → s.most ≡ k →
         Keeps k (flats_in p n less cs s)
     each_keeps n less below none s k h e = e
     each_keeps n less below (more c cs) s k h e =
@@ -136,16 +134,16 @@ module _ (p : FlatProgram)
   below_keeps zero c s k h e = e
   below_keeps (suc n) c s k h e = begun_keeps n (flat_below p n) (below_keeps n) c (stepped 1 s) k h e
 
-  flat_keeps : (n : ℕ) (c : Code) (s : State) → IsFit Any c → Keeps s.most (flat p n c s)
+  flat_keeps : (n : ℕ) (c : Code) (s : State) → IsFit c → Keeps s.most (flat p n c s)
   flat_keeps n c s h = begun_keeps n (flat_below p n) (below_keeps n) c (stepped 1 s) s.most h refl
 
 -- ---- whole programs
 
-runtime_alone : (p : Program) (temp : Option ℕ) (name : List ℕ) (args : List Value) → IsFitCall Any temp name args →
+runtime_alone : (p : Program) (temp : Option ℕ) (name : List ℕ) (args : List Value) → IsFitCall temp name args →
     function_named (lowered p).functions name ≡ None
 runtime_alone p temp name args (fit.counts t) = refl
 runtime_alone p temp name args (fit.leaves v h) = refl
-runtime_alone p temp name args (fit.puts i text h) = refl
+runtime_alone p temp name args (fit.puts_out i n) = refl
 
 -- the cost of a run is that of a call of `main`
 pub run_cost : (p : Program) (args : List (List ℕ)) (input : List ℕ) (fill n : ℕ) →
@@ -155,7 +153,7 @@ run_cost p args input fill n =
     let begun = entered (before_calls (start_world (lowered p) args input fill)) (lowered_main (body_code p)) [] in
     let first : max 0 (0 + cost) ≡ cost = omega arith in
     ended_keeps _ _ (flat_keeps (lowered p) (runtime_alone p) n (Seq (codes_of (body_code p).code)) begun
-    (statements_fit Any start (body_of p) (any_held 0 _))) ∙ first
+    (statements_fit start (body_of p))) ∙ first
 
 -- ---- addresses
 
@@ -165,14 +163,14 @@ operand_alone (Number n) h = refl
 operand_alone (Symbol i offset) h = absurd h
 operand_alone (Frame offset) h = absurd h
 
-call_alone : (temp : Option ℕ) (name : List ℕ) (args : List Value) → IsFitCall Any temp name args → addressed_in (Call temp name args) ≡ 0
+call_alone : (temp : Option ℕ) (name : List ℕ) (args : List Value) → IsFitCall temp name args → addressed_in (Call temp name args) ≡ 0
 call_alone temp name args (fit.counts t) = refl
 call_alone temp name args (fit.leaves v h) = let e = operand_alone v h in sum_cons addressed v [] ∙ omega (arith, e)
-call_alone temp name args (fit.puts i text h) = refl
+call_alone temp name args (fit.puts_out i n) = refl
 
 mutual
   -- no operand of such code is an address that has to be computed
-  pub none_addressed : (c : Code) → IsFit Any c → addressed_in c ≡ 0
+  pub none_addressed : (c : Code) → IsFit c → addressed_in c ≡ 0
   none_addressed (Seq cs) h = all_none_addressed cs h
   none_addressed (Set t class o a b) h = omega (arith, operand_alone a h.0, operand_alone b h.1)
   none_addressed (Load t how at) h = absurd h
@@ -184,6 +182,6 @@ mutual
   none_addressed (Call temp name args) h = call_alone temp name args h
   none_addressed (Ret value) h = absurd h
 
-  all_none_addressed : (cs : Codes) → AreFit Any cs → addressed_in_all cs ≡ 0
+  all_none_addressed : (cs : Codes) → AreFit cs → addressed_in_all cs ≡ 0
   all_none_addressed none h = refl
   all_none_addressed (more c cs) h = omega (arith, none_addressed c h.0, all_none_addressed cs h.1)

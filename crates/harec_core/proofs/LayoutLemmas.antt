@@ -12,11 +12,11 @@ use Rattle.harec_check.specs.declared.stopped.Stopped.TheVariants as stopped
 use Rattle.harec_check.specs.Lines.{IsRefusal}
 use Rattle.harec_words.specs.Commands.{Fmt}
 use Rattle.harec_check.specs.Files.{AreTold}
-use Rattle.harec_core.specs.declared.carry.Done.{Done}
-use Rattle.harec_core.specs.Answers.{Call, HasCause, IsToLayOut, LaidOut, CutLayout}
+use Rattle.harec_core.specs.declared.done.Done.{Done}
+use Rattle.harec_core.specs.Answers.{Call, IsToLayOut, LaidOut, CutLayout}
 use Rattle.harec_core.specs.Layouts.{HasLayout, HasNoLayout, IsLayoutFault, too_large, of_source, too_large_fault}
-use Rattle.harec_core.specs.Outside.{Sent, IsSent}
-use Rattle.harec_core.specs.Stages.{Emits, IsLayoutStop, done_answer, stopped_answer}
+use Rattle.harec_core.specs.Outside.{Stands, Received, Sent, IsSent}
+use Rattle.harec_core.specs.Stages.{Emits, IsLayoutStop, IsFound}
 
 -- ---- what is answered of bytes
 
@@ -91,72 +91,86 @@ module _ (srcs : List (List ℕ)) (src : List ℕ) where
 
 -- ---- causes
 
-module _ (c : Call) (source : List ℕ) (asked : IsToLayOut c source) where
+module _ (c : Call) (paths : List (List ℕ)) (source : List ℕ) (asked : IsToLayOut c source) where
   -- a layout that was written out
-  pub laid_cause :
-      (layout : List ℕ) (d : Done) → HasLayout source layout → Emits layout c.out d → HasCause c (done_answer d)
-  laid_cause layout d laid (inl h) =
+  laid_found : (layout : List ℕ) (d : Done) → HasLayout source layout → Emits layout c.out d → IsFound c paths (Ok d)
+  laid_found layout d laid (inl h) =
       let cause : LaidOut c = record { source = source; asked = asked; layout = layout; laid = laid; sent = h.1 } in
-      subst (λ d. HasCause c (done_answer d)) (sym h.0) (inr (inr cause))
-  laid_cause layout d laid (inr h) =
+      subst (λ (x : Done). IsFound c paths (Ok x)) (sym h.0)
+      (record { cause = inr (inr cause); text = []; line = tt; aborts = tt })
+  laid_found layout d laid (inr h) =
       let cut : CutLayout c = record { source = source; asked = asked; layout = layout; laid = laid; cut = h.1 } in
-      subst (λ d. HasCause c (done_answer d)) (sym h.0) (inr (inr cut))
+      subst (λ (x : Done). IsFound c paths (Ok x)) (sym h.0) (record { cause = inr (inr cut); text = []; line = tt; aborts = tt })
 
   -- a file without a layout
-  pub not_laid_cause :
-      (paths : List (List ℕ)) (s : Stopped) → IsSent [] c.out → IsLayoutStop paths source s → HasCause c (stopped_answer s)
-  not_laid_cause paths (stopped.Refused r) quiet h =
-      inr (inr (record { source = source; asked = asked; fault = h.0; silent = quiet }))
-  not_laid_cause paths (stopped.Unread number) quiet h = absurd h
-  not_laid_cause paths stopped.Memory quiet h = record { files = asked.files; silent = quiet; text = inl asked.text }
+  not_laid_found :
+      (s : Stopped) → Stands c.input.faults → IsSent [] c.out → IsLayoutStop paths source s → IsFound c paths (Err s)
+  not_laid_found (stopped.Refused r) unread quiet h = record {
+    cause = inr (inr (record { source = source; asked = asked; fault = h.0; silent = quiet }));
+    text = [];
+    line = h.1;
+    aborts = tt;
+  }
+  not_laid_found (stopped.Unread number) unread quiet h = absurd h
+  not_laid_found stopped.Memory unread quiet h = record {
+    cause = inl (record { files = asked.files; input = unread; silent = quiet; text = inl asked.text });
+    text = [];
+    line = tt;
+    aborts = tt;
+  }
 
 module _
     (content : List ℕ → Option (List ℕ)) (paths srcs : List (List ℕ)) (before now : ℕ) (out : Sent) (told : AreTold content paths srcs)
     (stands : now ≡ before) (source : List ℕ) (one : srcs ≡ source ∷ []) where
+  -- the call that lays the one file out, and leaves no text
+  abbrev pub call_for : ℕ → List ℕ → Received → Call
+  call_for fill text input = record {
+    command = Fmt paths;
+    sources = srcs;
+    fill = fill;
+    files = record { before = before; now = now };
+    input = input;
+    out = out;
+    text = text;
+  }
+
+  to_lay_out : (fill : ℕ) (text : List ℕ) (input : Received) → text ≡ [] → IsToLayOut (call_for fill text input) source
+  to_lay_out fill text input empty = record { file = paths; command = refl; files = stands; one = one; text = empty }
+
   -- the one file was laid out
-  pub laid_out_cause :
+  pub laid_out_found :
       (layout : List ℕ) (d : Done) → HasLayout source layout → Emits layout out d
-      → (srcs : List (List ℕ)) × AreTold content paths srcs × ((fill : ℕ) (text : List ℕ) → text ≡ [] → HasCause (record {
+      → (srcs : List (List ℕ)) × AreTold content paths srcs
+      × ((fill : ℕ) (text : List ℕ) (input : Received) → text ≡ [] → Stands input.faults → IsFound (record {
         command = Fmt paths;
         sources = srcs;
         fill = fill;
         files = record { before = before; now = now };
+        input = input;
         out = out;
         text = text;
-      }) (done_answer d))
-  laid_out_cause layout d laid e = (
+      }) paths (Ok d))
+  laid_out_found layout d laid e = (
     srcs,
     told,
-    λ fill text empty. laid_cause (record {
-      command = Fmt paths;
-      sources = srcs;
-      fill = fill;
-      files = record { before = before; now = now };
-      out = out;
-      text = text;
-    }) source (record { file = paths; command = refl; files = stands; one = one; text = empty }) layout d laid e,
+    λ fill text input empty unread. laid_found (call_for fill text input) paths source (to_lay_out fill text input empty) layout d laid e,
   )
 
   -- it was not
-  pub layout_stop_cause :
+  pub layout_stop_found :
       (s : Stopped) → IsSent [] out → IsLayoutStop paths source s
-      → (srcs : List (List ℕ)) × AreTold content paths srcs × ((fill : ℕ) (text : List ℕ) → text ≡ [] → HasCause (record {
+      → (srcs : List (List ℕ)) × AreTold content paths srcs
+      × ((fill : ℕ) (text : List ℕ) (input : Received) → text ≡ [] → Stands input.faults → IsFound (record {
         command = Fmt paths;
         sources = srcs;
         fill = fill;
         files = record { before = before; now = now };
+        input = input;
         out = out;
         text = text;
-      }) (stopped_answer s))
-  layout_stop_cause s quiet h = (
+      }) paths (Err s))
+  layout_stop_found s quiet h = (
     srcs,
     told,
-    λ fill text empty. not_laid_cause (record {
-      command = Fmt paths;
-      sources = srcs;
-      fill = fill;
-      files = record { before = before; now = now };
-      out = out;
-      text = text;
-    }) source (record { file = paths; command = refl; files = stands; one = one; text = empty }) paths s quiet h,
+    λ fill text input empty unread. not_laid_found (call_for fill text input) paths source (to_lay_out fill text input empty) s unread quiet h,
   )

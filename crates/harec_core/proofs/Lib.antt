@@ -1,18 +1,18 @@
 pub mod SentLemmas
+pub mod Unread
+pub mod Running
 pub mod Causes
 pub mod LayoutLemmas
+pub mod Leaves
+pub mod Executing
 pub mod Answering
-pub mod Distinct
-pub mod PlainLines
-pub mod PlainCode
-pub mod PlainLowered
+pub mod Fits
 mod BuiltLowered
-pub mod PlainTexts
-pub mod PlainModule
 pub mod Shaped
 pub mod Forward
-pub mod Compiled
 pub mod Costs
 pub mod Sizes
 pub mod Backward
+pub mod ReadsNothing
+pub mod Compiled
 mod Rows

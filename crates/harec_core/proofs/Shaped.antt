@@ -16,9 +16,8 @@ use Rattle.low_blocks.specs.Agreement.{code_loops, codes_loops, HasItsLoops}
 use Rattle.low_blocks.specs.Programs.{text_globals, body_of, start, body_code, program_texts, lowered_main, lowered}
 use Rattle.harec_core.specs.Class.{outline_of}
 use Rattle.harec_core.specs.Shape.{Body, functions_of, data_count, HasShape}
-use Rattle.harec_core.proofs.PlainCode.{IsFitCall, IsFit, AreFit}
-use Rattle.harec_core.proofs.PlainCode as fit
-use Rattle.harec_core.proofs.PlainLowered.{AreHeld, statements_fit}
+use Rattle.harec_core.proofs.Fits.{IsFitCall, IsFit, AreFit, statements_fit}
+use Rattle.harec_core.proofs.Fits as fit
 
 -- ---- the items
 
@@ -70,22 +69,14 @@ mutual
 
 -- ---- calls
 
--- any string is held
-abbrev pub Any : ℕ → List ℕ → Type 0
-Any i text = Unit {0}
-
-pub any_held : (i : ℕ) (ts : List (List ℕ)) → AreHeld Any i ts
-any_held i [] = tt
-any_held i (t ∷ ts) = (tt, any_held (suc i) ts)
-
-call_is_none : (temp : Option ℕ) (name : List ℕ) (args : List Value) → IsFitCall Any temp name args →
+call_is_none : (temp : Option ℕ) (name : List ℕ) (args : List Value) → IsFitCall temp name args →
     calls_in (codes "main") (Call temp name args) ≡ 0
 call_is_none temp name args (fit.counts t) = refl
 call_is_none temp name args (fit.leaves v h) = refl
-call_is_none temp name args (fit.puts i text h) = refl
+call_is_none temp name args (fit.puts_out i n) = refl
 
 mutual
-  no_calls : (c : Code) → IsFit Any c → calls_in (codes "main") c ≡ 0
+  no_calls : (c : Code) → IsFit c → calls_in (codes "main") c ≡ 0
   no_calls (Seq cs) h = no_calls_in cs h
   no_calls (Set t class o a b) h = refl
   no_calls (Load t how at) h = absurd h
@@ -97,7 +88,7 @@ mutual
   no_calls (Call temp name args) h = call_is_none temp name args h
   no_calls (Ret value) h = absurd h
 
-  no_calls_in : (cs : Codes) → AreFit Any cs → calls_in_all (codes "main") cs ≡ 0
+  no_calls_in : (cs : Codes) → AreFit cs → calls_in_all (codes "main") cs ≡ 0
   no_calls_in none h = refl
   no_calls_in (more c cs) h = omega (arith, no_calls c h.0, no_calls_in cs h.1)
 
@@ -113,7 +104,7 @@ lowered_shape p shaped loops =
     let alike : IsShapedAs body (record { name = codes "main"; class = None; params = []; blocks = (main_body p).blocks }) =
     subst (λ (c : Option il.Code). emit.AreAlike (Some body) c) (main_named p (program_texts p) 0) (shaped (codes "main")) in
     let one = sum_cons (λ (g : FlatFn). code_loops (code_of g.body)) body [] in
-    let quiet = no_calls code (statements_fit Any start (body_of p) (any_held 0 (program_texts p))) in
+    let quiet = no_calls code (statements_fit start (body_of p)) in
     let all = one_function p (program_texts p) 0 in
     let count = each_string p (program_texts p) 0 in
     record {

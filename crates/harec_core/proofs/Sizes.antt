@@ -14,8 +14,7 @@ use Rattle.low_blocks.specs.Expressions.{Scope, Piece, operated, expr_piece, ter
 use Rattle.low_blocks.specs.Statements.{Site, past, outside, statement_code, statements_code}
 use Rattle.low_blocks.specs.Programs.{body_of, start, body_code, lowered_main}
 use Rattle.harec_core.proofs.Costs.{none_addressed}
-use Rattle.harec_core.proofs.PlainLowered.{statements_fit}
-use Rattle.harec_core.proofs.Shaped.{Any, any_held}
+use Rattle.harec_core.proofs.Fits.{statements_fit}
 
 -- ---- temporaries of expressions
 
@@ -214,5 +213,5 @@ main_fits text p s =
       file_length text p
           s.of_class,
     ) in
-    let none = none_addressed code (statements_fit Any start (body_of p) (any_held 0 _)) in
+    let none = none_addressed code (statements_fit start (body_of p)) in
     omega (arith, temps, none)

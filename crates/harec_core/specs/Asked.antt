@@ -1,22 +1,6 @@
--- What the words behind the program's name ask of it.
+-- What a command asks for.
 use Rattle.std.specs.Prelude.{ℕ, List}
-use Rattle.harec_words.specs.Commands.{Command, Check, Emit, Run, Exec, Fmt, IsCommand}
-
--- The command is built. Texts of the intermediate language are not run yet.
-abbrev pub IsBuilt : Command → Type 0
-IsBuilt (Check files) = Unit {0}
-IsBuilt (Emit files) = Unit {0}
-IsBuilt (Run units files args) = Unit {0}
-IsBuilt (Exec units program args) = ⊥
-IsBuilt (Fmt file) = Unit {0}
-
--- the words ask for this command
-abbrev pub IsAsked : List (List ℕ) → Command → Type 0
-IsAsked words c = IsCommand words c × IsBuilt c
-
--- the words ask for none
-abbrev pub IsNotAsked : List (List ℕ) → Type 0
-IsNotAsked words = (c : Command) → ¬ (IsAsked words c)
+use Rattle.harec_words.specs.Commands.{Command, Check, Emit, Run, Exec, Fmt}
 
 -- the words that name what a command is about
 abbrev pub files_of : Command → List (List ℕ)
@@ -49,3 +33,11 @@ Compiles (Emit files) = Unit {0}
 Compiles (Run units files args) = Unit {0}
 Compiles (Exec units program args) = ⊥
 Compiles (Fmt file) = ⊥
+
+-- the command to run the text of a file
+abbrev pub Executes : Command → Type 0
+Executes (Check files) = ⊥
+Executes (Emit files) = ⊥
+Executes (Run units files args) = ⊥
+Executes (Exec units program args) = Unit {0}
+Executes (Fmt file) = ⊥

@@ -7,5 +7,7 @@ pub mod Shape
 pub mod Carries
 pub mod Class
 pub mod Layouts
+pub mod Texts
+pub mod Jobs
 pub mod Answers
 pub mod Stages

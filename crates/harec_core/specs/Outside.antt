@@ -26,6 +26,17 @@ abbrev pub sent : ℕ → ℕ → Option (List ℕ) → Option (List ℕ) → Se
 sent faults_before faults_now before now = record
     { faults = record { before = faults_before; now = faults_now }; before = before; now = now }
 
+-- what was read of an object: its count, and the bytes that it had left before and that it has left now, where it tells them
+pub record Received : Type 0 where
+  pub faults : Count
+  pub before : Option (List ℕ)
+  pub now : Option (List ℕ)
+
+-- the same, from its parts
+abbrev pub received : ℕ → ℕ → Option (List ℕ) → Option (List ℕ) → Received
+received faults_before faults_now before now = record
+    { faults = record { before = faults_before; now = faults_now }; before = before; now = now }
+
 -- just these bytes were written, and no write failed
 pub record IsSent (bytes : List ℕ) (s : Sent) : Type 0 where
   pub stands : Stands s.faults

@@ -1,7 +1,7 @@
 -- The status of each answer.
 use Rattle.std.specs.Prelude.{ℕ}
 use Rattle.harec_core.specs.declared.answer.Answer.{Answer}
-use Rattle.harec_core.specs.declared.answer.Answer.TheVariants.{Accepted, Exited, Usage, Refused, FileFault, Undefined, Memory, ReadFault, WriteFault, Spent, StackFull, Aborted}
+use Rattle.harec_core.specs.declared.answer.Answer.TheVariants.{Accepted, Exited, Usage, Refused, RefusedText, FileFault, Undefined, Memory, ReadFault, WriteFault, Spent, StackFull, Aborted}
 
 -- a program's own status, or the one that is kept for the answer
 abbrev pub status : Answer → ℕ
@@ -9,6 +9,7 @@ status Accepted = 0
 status (Exited k) = k
 status Usage = 64
 status (Refused fault) = 65
+status (RefusedText fault) = 65
 status FileFault = 66
 status (Undefined act) = 70
 status Memory = 71

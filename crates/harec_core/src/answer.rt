@@ -15,6 +15,17 @@ pub enum Undef {
     Hare(u8),
 }
 
+/// A fault of a text of the intermediate language: the `I` number of its sort, and where it stands.
+#[derive(Clone, Copy, Debug, PartialEq, Eq)]
+pub struct IlFault {
+    /// The number of the sort of fault, as 13 for I13.
+    pub number: u8,
+    /// The line, from 1.
+    pub line: u64,
+    /// 1 and the number of bytes since the last line feed.
+    pub column: u64,
+}
+
 /// What the top call answers.
 #[derive(Clone, Copy, Debug, PartialEq, Eq)]
 pub enum Answer {
@@ -23,10 +34,12 @@ pub enum Answer {
     Accepted,
     /// The program ended with this status.
     Exited(u8),
-    /// The words ask for nothing that is built.
+    /// The words are no command.
     Usage,
     /// The program, or the file that is to be laid out, has this fault. E49 says that the program is not compiled yet.
     Refused(Fault),
+    /// The text of the intermediate language that is to be run has this fault.
+    RefusedText(IlFault),
     /// A file was not read.
     FileFault,
     /// The program did what has no meaning.
@@ -54,7 +67,7 @@ pub fn status(a: &Answer) -> u8
         Answer::Accepted => 0,
         Answer::Exited(k) => *k,
         Answer::Usage => 64,
-        Answer::Refused(_) => 65,
+        Answer::Refused(_) | Answer::RefusedText(_) => 65,
         Answer::FileFault => 66,
         Answer::Undefined(_) => 70,
         Answer::Memory => 71,

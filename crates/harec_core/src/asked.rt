@@ -3,13 +3,12 @@
 ghost use Rattle.std.specs.Prelude.{◌≡◌, IfSome, MatchOption, length};
 ghost use Rattle.harec_words.specs.Commands as spec;
 ghost use Rattle.harec_words.specs.Spans.{IsWithin, words_at};
-ghost use Rattle.harec_core.specs.Asked.{IsAsked};
 ghost use Rattle.harec_core.specs.Stages.{command_of};
 
 use harec_words::{Command, Span, command_of};
 use hx_base::Text;
 
-/// A command that is built, with the words that it names.
+/// A command, with the words that it names.
 #[derive(Clone, Copy)]
 pub struct Task<'a> {
     /// The words that name its files.
@@ -22,6 +21,8 @@ pub struct Task<'a> {
 pub enum Action<'a> {
     /// The one file is laid out, and its layout is written out.
     Layout,
+    /// The one file is the text of a module, which is run with these arguments, and at most so many units.
+    Text { units: u64, args: &'a [Text] },
     /// Their program is checked, and goes on so.
     Program(Purpose<'a>),
 }
@@ -37,11 +38,11 @@ pub enum Purpose<'a> {
     Run { units: u64, args: &'a [Text] },
 }
 
-/// What the words ask for: `check FILES`, `emit FILES`, `run [--units N] FILES [-- ARGS]` or `fmt FILE`, as `harec_words::command_of` reads
-/// them. None: they are no command, or `exec`, which is not built yet.
+/// What the words ask for: `check FILES`, `emit FILES`, `run [--units N] FILES [-- ARGS]`, `exec [--units N] IL [-- ARGS]` or `fmt FILE`, as
+/// `harec_words::command_of` reads them. None: they are no command.
 pub fn asked(words: &[Text]) -> Option<Task<'_>>
-    ensures found { IfSome result (λ a. IsAsked words.now (command_of a)) }
-    ensures only { (c : spec.Command) → IsAsked words.now c → MatchOption result ⊥ (λ a. command_of a ≡ c) }
+    ensures found { IfSome result (λ a. spec.IsCommand words.now (command_of a)) }
+    ensures only { (c : spec.Command) → spec.IsCommand words.now c → MatchOption result ⊥ (λ a. command_of a ≡ c) }
 {
     match command_of(words)? {
         Command::Check(files) => Some(Task {
@@ -63,7 +64,13 @@ pub fn asked(words: &[Text]) -> Option<Task<'_>>
             files: words_in(words, file),
             action: Action::Layout,
         }),
-        Command::Exec(..) => None,
+        Command::Exec(units, program, args) => Some(Task {
+            files: words_in(words, program),
+            action: Action::Text {
+                units,
+                args: words_in(words, args),
+            },
+        }),
     }
 }
 

@@ -1,41 +1,31 @@
 //! Doing with a checked program what the command says.
 
-ghost use Rattle.std.specs.Prelude.{◌≡◌, ◌<◌, ◌-◌, ◌^◌, [], length, IfErr};
+ghost use Rattle.std.specs.Prelude.{◌≡◌, ◌<◌, ◌-◌, ◌^◌, [], length};
 ghost use Rattle.hare_unit.specs.declared.checked.Checked.{Checked};
 ghost use Rattle.hare_unit.specs.Programs.{IsChecked, IsFaultless};
 ghost use Rattle.hare_unit.specs.Whole.{IsWhole};
-ghost use Rattle.harec_core.specs.Answers.{HasCause, LeavesOutput};
-ghost use Rattle.harec_core.specs.Outside.{Count, Stands, sent};
-ghost use Rattle.harec_core.specs.Stages.{Emits, HasLine, command_on, found_answer};
+ghost use Rattle.harec_core.specs.Answers.{LeavesInput, LeavesOutput};
+ghost use Rattle.harec_core.specs.Outside.{Count, Stands, received, sent};
+ghost use Rattle.harec_core.specs.Stages.{ArgumentsOf, Emits, IsFound, command_on, found_answer};
 
 use crate::asked::Purpose;
 use crate::compile::build;
+use crate::done::Done;
 use crate::piece::write;
 use crate::run::run_text;
 use hare_sources::Sources;
 use harec_check::Stopped;
 use hx_base::{Bytes, Text};
-use hx_io::Sink;
-use il_plain::Ended;
+use hx_io::{Sink, Source};
 use std::alloc::Global;
 
-/// How a command ended that was carried out.
-#[derive(Clone, Copy)]
-pub enum Done {
-    /// The program was checked, or what is written out of it or of the file was.
-    Accepted,
-    /// The program was run.
-    Ended(Ended),
-    /// The output failed while this was written.
-    Cut,
-}
-
 /// Checks no more; or makes the text of the checked program of these files, and writes it out or runs it.
-pub fn carry_out<O: Sink>(
+pub fn carry_out<I: Source, O: Sink>(
     alloc: Global,
     paths: &[Text],
     purpose: Purpose<'_>,
     srcs: &Sources,
+    input: &mut I,
     out: &mut O,
     fill: u8,
     text: &mut Bytes,
@@ -43,17 +33,19 @@ pub fn carry_out<O: Sink>(
     requires empty { text.old ≡ [] }
     requires paired { length srcs.now ≡ length paths.now }
     requires checked { (c : Checked) × IsChecked paths.now srcs.now c × IsFaultless paths.now srcs.now c × IsWhole c }
+    requires few { ArgumentsOf purpose }
     requires count { O.faults out.old < 2 ^ 64 - 1 }
     ensures cause { (files : Count) → Stands files
-        → HasCause (record {
+        → IsFound (record {
           command = command_on paths.now purpose.entry;
           sources = srcs.now;
           fill = fill;
           text = text.new;
           files = files;
+          input = received (I.faults input.old) (I.faults input.new) (I.left input.old) (I.left input.new);
           out = sent (O.faults out.old) (O.faults out.new) (O.written out.old) (O.written out.new);
-        }) (found_answer result) }
-    ensures line { IfErr result (HasLine paths.now) }
+        }) paths.now result }
+    ensures unread { LeavesInput (command_on paths.now purpose.entry) (found_answer result) input.old input.new }
     ensures leaves { LeavesOutput (command_on paths.now purpose.entry) (found_answer result) out.old out.new }
 {
     match purpose {
@@ -64,9 +56,8 @@ pub fn carry_out<O: Sink>(
         }
         Purpose::Run { units, args } => {
             build(alloc, paths, srcs, text)?;
-            let count = args.len() as u64;
-            let end = run_text(alloc, text.bytes(), count, fill, units, out)?;
-            Ok(Done::Ended(end))
+            let ran = run_text(alloc, text.bytes(), args, fill, units, input, out)?;
+            Ok(Done::Ended(ran))
         }
     }
 }

@@ -11,7 +11,7 @@ use hare_sources::Sources;
 use hare_tree::{Fault, Place};
 use harec_check::{Stopped, refused};
 use hx_base::{Bytes, Text};
-use il_code::{Module, print};
+use il_code::{Module, law_input, print};
 use il_emit::emit;
 use low_blocks::lower;
 use std::alloc::{AllocError, Global};
@@ -83,6 +83,8 @@ fn module_of(alloc: Global, source: &[u8]) -> Result<Option<Module>, AllocError>
         return Ok(None);
     };
     let flat = lower(alloc, &program)?;
+    // A run depends on its input by what it takes alone, and this one takes nothing.
+    law_input();
     let module = emit(alloc, &flat)?;
     Ok(Some(module))
 }

@@ -4,12 +4,13 @@ ghost use Rattle.std.specs.Prelude.{◌≡◌, ℕ, ◌<◌, ◌≤◌, ◌-◌,
 ghost use Rattle.hare_sources.specs.Files.{most_of_file};
 ghost use Rattle.harec_words.specs.Commands.{Fmt};
 ghost use Rattle.harec_check.specs.Files.{AreTold};
-ghost use Rattle.harec_core.specs.Answers.{HasCause, LeavesOutput};
+ghost use Rattle.harec_core.specs.Answers.{LeavesOutput};
 ghost use Rattle.harec_core.specs.Layouts.{HasLayout};
-ghost use Rattle.harec_core.specs.Outside.{sent};
-ghost use Rattle.harec_core.specs.Stages.{HasLine, IsLayoutStop, found_answer};
+ghost use Rattle.harec_core.specs.Outside.{Received, Stands, sent};
+ghost use Rattle.harec_core.specs.Stages.{IsFound, IsLayoutStop, found_answer};
 
-use crate::carry::{Done, emit};
+use crate::carry::emit;
+use crate::done::Done;
 use hare_fmt::format;
 use hare_sources::Sources;
 use hare_tree::{Fault, Place, Stop};
@@ -42,15 +43,15 @@ pub fn lay_out<F: Files, O: Sink>(
     requires count_of_files { F.faults files.old < 2 ^ 64 - 1 }
     requires count_of_out { O.faults out.old < 2 ^ 64 - 1 }
     ensures cause { (srcs : List (List ℕ)) × AreTold (F.content files.old) paths.now srcs
-        × ((fill : ℕ) (text : List ℕ) → text ≡ [] → HasCause (record {
+        × ((fill : ℕ) (text : List ℕ) (input : Received) → text ≡ [] → Stands input.faults → IsFound (record {
           command = Fmt paths.now;
           sources = srcs;
           fill = fill;
           text = text;
           files = record { before = F.faults files.old; now = F.faults files.new };
+          input = input;
           out = sent (O.faults out.old) (O.faults out.new) (O.written out.old) (O.written out.new);
-        }) (found_answer result)) }
-    ensures line { IfErr result (HasLine paths.now) }
+        }) paths.now result) }
     ensures leaves { LeavesOutput (Fmt paths.now) (found_answer result) out.old out.new }
     ensures same { (p : List ℕ) → F.content files.new p ≡ F.content files.old p }
 {

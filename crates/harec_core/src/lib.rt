@@ -5,6 +5,8 @@ mod answer;
 mod asked;
 mod carry;
 mod compile;
+mod done;
+mod execute;
 mod layout;
 mod log;
 mod piece;
@@ -13,7 +15,7 @@ mod run;
 mod tests;
 mod top;
 
-pub use answer::{Answer, Undef, status};
+pub use answer::{Answer, IlFault, Undef, status};
 pub use hare_tree::{Fault, Place};
 pub use il_code::MachineFault;
 pub use top::harec;

@@ -1,26 +1,26 @@
 //! The one line that the log gets.
 
-ghost use Rattle.std.specs.Prelude.{◌≡◌, ◌<◌, ◌-◌, ◌^◌, ◌++◌, ℕ, List, length, codes, IfErr};
+ghost use Rattle.std.specs.Prelude.{◌≡◌, ◌<◌, ◌-◌, ◌^◌, ◌++◌, ℕ, List, codes};
 ghost use Rattle.std.specs.Fmt.{decimal};
 ghost use Rattle.harec_core.specs.declared.answer.Answer.TheVariants as answer;
 ghost use Rattle.harec_core.specs.declared.answer.Undef.TheVariants.{Il};
 ghost use Rattle.harec_core.specs.Log.{Logs, IsLine, LeavesLog, fault_name, unread_line, undefined_line, spent_line};
 ghost use Rattle.harec_core.specs.Outside.{Sent, Writes, sent};
-ghost use Rattle.harec_core.specs.Stages.{HasLine, answer_of, done_answer, found_answer};
+ghost use Rattle.harec_core.specs.Stages.{BringsLine, HasAborted, HasLine, answer_of, done_answer, found_answer};
 
 use crate::answer::{Answer, Undef};
-use crate::carry::Done;
+use crate::done::{Done, Ran};
 use crate::piece::write;
 use harec_check::Stopped;
 use hx_base::Text;
 use hx_io::{Failed, Sink};
 use il_code::MachineFault;
-use il_plain::Ended;
+use il_step::End;
 
 /// Writes the line of what was found to the log, if it has one, and answers what was found; or else, where the log fails, that it did.
 /// Takes no memory.
 ///
-/// `paths` are the words that name the files, and `units` are those of a run.
+/// `paths` are the words that name the files, and `units` are those of a run. The text of an abort is the one that the machine keeps.
 pub fn tell<L: Sink>(
     log: &mut L,
     paths: &[Text],
@@ -28,13 +28,14 @@ pub fn tell<L: Sink>(
     found: Result<Done, Stopped>,
 ) -> Answer
     requires count { L.faults log.old < 2 ^ 64 - 1 }
-    requires line { IfErr found (HasLine paths.now) }
-    ensures line { (line : List ℕ) × IsLine paths.now units (found_answer found) line
+    requires brings { (abort : List ℕ) × HasLine paths.now abort found }
+    ensures line { (abort : List ℕ) → HasLine paths.now abort found
+        → (line : List ℕ) × IsLine paths.now units abort (found_answer found) line
         × Logs line (sent (L.faults log.old) (L.faults log.new) (L.written log.old) (L.written log.new)) (found_answer found) result }
     ensures leaves { LeavesLog (found_answer found) log.old log.new }
 {
     match found {
-        Ok(done) => tell_done(log, paths, units, done),
+        Ok(done) => tell_done(log, paths, units, &done),
         Err(Stopped::Refused(refusal)) => {
             report(log, refusal.line.bytes(), Answer::Refused(refusal.fault))
         }
@@ -44,32 +45,42 @@ pub fn tell<L: Sink>(
 }
 
 // The same of a command that was carried out.
-fn tell_done<L: Sink>(log: &mut L, paths: &[Text], units: u64, done: Done) -> Answer
+fn tell_done<L: Sink>(log: &mut L, paths: &[Text], units: u64, done: &Done) -> Answer
     requires { L.faults log.old < 2 ^ 64 - 1 }
-    ensures line { (line : List ℕ) × IsLine paths.now units (done_answer done) line
-        × Logs line (sent (L.faults log.old) (L.faults log.new) (L.written log.old) (L.written log.new)) (done_answer done) result }
-    ensures leaves { LeavesLog (done_answer done) log.old log.new }
+    ensures line { (abort : List ℕ) → BringsLine paths.now abort done.now
+        → (line : List ℕ) × IsLine paths.now units abort (done_answer done.now) line
+        × Logs line (sent (L.faults log.old) (L.faults log.new) (L.written log.old) (L.written log.new)) (done_answer done.now) result }
+    ensures leaves { LeavesLog (done_answer done.now) log.old log.new }
 {
     match done {
         Done::Accepted => Answer::Accepted,
-        Done::Ended(end) => tell_end(log, paths, units, end),
+        Done::Ended(ran) => tell_end(log, paths, units, ran),
+        Done::RefusedText(refusal) => report(
+            log,
+            refusal.line.bytes(),
+            Answer::RefusedText(refusal.fault),
+        ),
         Done::Cut => report(log, b"harec: write fault\n", Answer::WriteFault),
     }
 }
 
 // The same of a run.
-fn tell_end<L: Sink>(log: &mut L, paths: &[Text], units: u64, end: Ended) -> Answer
+fn tell_end<L: Sink>(log: &mut L, paths: &[Text], units: u64, ran: &Ran) -> Answer
     requires { L.faults log.old < 2 ^ 64 - 1 }
-    ensures line { (line : List ℕ) × IsLine paths.now units (answer_of end) line
-        × Logs line (sent (L.faults log.old) (L.faults log.new) (L.written log.old) (L.written log.new)) (answer_of end) result }
-    ensures leaves { LeavesLog (answer_of end) log.old log.new }
+    ensures line { (abort : List ℕ) → HasAborted abort ran.now.end ran.now.machine
+        → (line : List ℕ) × IsLine paths.now units abort (answer_of ran.now.end) line
+        × Logs line (sent (L.faults log.old) (L.faults log.new) (L.written log.old) (L.written log.new)) (answer_of ran.now.end) result }
+    ensures leaves { LeavesLog (answer_of ran.now.end) log.old log.new }
 {
-    match end {
-        Ended::Exit(status) => Answer::Exited(status),
-        Ended::Fault(fault) => report_undefined(log, fault),
-        Ended::StackFull => report(log, b"harec: stack full\n", Answer::StackFull),
-        Ended::Spent => report_spent(log, units),
-        Ended::WriteFault => report(log, b"harec: write fault\n", Answer::WriteFault),
+    match ran.end {
+        End::Exit(status) => Answer::Exited(status),
+        End::Abort => report_abort(log, ran.machine.abort_text()),
+        End::Fault(fault) => report_undefined(log, fault),
+        End::StackFull => report(log, b"harec: stack full\n", Answer::StackFull),
+        End::Spent => report_spent(log, units),
+        End::ReadFault => report(log, b"harec: read fault\n", Answer::ReadFault),
+        End::WriteFault => report(log, b"harec: write fault\n", Answer::WriteFault),
+        End::Memory => report(log, b"harec: memory\n", Answer::Memory),
     }
 }
 
@@ -100,6 +111,15 @@ fn report_undefined<L: Sink>(log: &mut L, fault: MachineFault) -> Answer
         write_undefined(log, fault),
         Answer::Undefined(Undef::Il(fault)),
     )
+}
+
+// Reports a run that gave up, with this text.
+fn report_abort<L: Sink>(log: &mut L, text: &[u8]) -> Answer
+    requires { L.faults log.old < 2 ^ 64 - 1 }
+    ensures { Logs (text.now ++ codes "\n")
+        (sent (L.faults log.old) (L.faults log.new) (L.written log.old) (L.written log.new)) answer.Aborted result }
+{
+    answered(write_two(log, text, b"\n"), Answer::Aborted)
 }
 
 // Reports a run that spent its units.

@@ -15,8 +15,11 @@ struct Given<'a> {
     words: &'a str,
     /// The files, each a path with its content.
     files: &'a [(&'a str, &'a str)],
+    /// What the input has left.
+    input: &'a str,
     /// The numbers of the calls that fail.
     file_fails: &'a [u64],
+    input_fails: &'a [u64],
     out_fails: &'a [u64],
     log_fails: &'a [u64],
     /// The most bytes that the output takes in one call.
@@ -28,7 +31,9 @@ fn on<'a>(words: &'a str, files: &'a [(&'a str, &'a str)]) -> Given<'a> {
     Given {
         words,
         files,
+        input: "",
         file_fails: &[],
+        input_fails: &[],
         out_fails: &[],
         log_fails: &[],
         most: 4096,
@@ -77,30 +82,47 @@ fn sink(alloc: Global, fails: &[u64], most: usize) -> Result<MemSink, AllocError
     MemSink::new(alloc, calls(alloc, fails)?, most, 4096)
 }
 
+/// An input, of which no read has failed yet.
+fn source(alloc: Global, content: &str, fails: &[u64]) -> Result<MemSource, AllocError>
+    ensures { IfOk result (λ source. source.tally.failed ≡ 0) }
+{
+    let content = bytes(alloc, content)?;
+    Ok(MemSource::new(alloc, content, calls(alloc, fails)?))
+}
+
 /// The answer to these words.
 fn answer_to(
     alloc: Global,
     words: &[Text],
     files: &mut MemFiles,
+    input: &mut MemSource,
     out: &mut MemSink,
     log: &mut MemSink,
 ) -> Answer
     requires files { files.old.tally.failed ≡ 0 }
+    requires input { input.old.tally.failed ≡ 0 }
     requires out { out.old.tally.failed ≡ 0 }
     requires log { log.old.tally.failed ≡ 0 }
 {
-    let mut input = MemSource::new(alloc, Bytes::new(alloc), Calls::new(alloc));
     let mut text = Bytes::new(alloc);
-    harec(alloc, words, files, &mut input, out, log, 165, &mut text)
+    harec(alloc, words, files, input, out, log, 165, &mut text)
 }
 
 /// The status, the output and the log of a call, apart by bars.
 fn outcome(alloc: Global, given: Given) -> Result<String, AllocError> {
     let words = words_of(alloc, given.words)?;
     let mut files = held(alloc, given.files, given.file_fails)?;
+    let mut input = source(alloc, given.input, given.input_fails)?;
     let mut out = sink(alloc, given.out_fails, given.most.max(1))?;
     let mut log = sink(alloc, given.log_fails, 5)?;
-    let answer = answer_to(alloc, words.as_slice(), &mut files, &mut out, &mut log);
+    let answer = answer_to(
+        alloc,
+        words.as_slice(),
+        &mut files,
+        &mut input,
+        &mut out,
+        &mut log,
+    );
     let status = status(&answer);
     let out = text_of(out.written());
     let log = text_of(log.written());
@@ -262,7 +284,10 @@ fn words_that_ask_for_nothing(rt: HostRuntime) -> Result<(), Fail> {
         "fmt a/../main.ha",
         "emit main.ha --",
         "run --units 0 main.ha",
-        "exec main.il",
+        "exec",
+        "exec --main.il",
+        "exec --units 0 main.il",
+        "exec main.il b.il",
     ] {
         let outcome = outcome(rt.alloc(), on(words, &files))?;
         assert_eq!(rt; outcome.as_str(), "64||harec: usage\n", "{words}");
@@ -359,6 +384,165 @@ fn calls_that_fail(rt: HostRuntime) -> Result<(), Fail> {
                 ..fmt
             },
             GREETS_LAID,
+        ),
+    ] {
+        let outcome = outcome(rt.alloc(), given)?;
+        assert_eq!(rt; outcome.as_str(), expected);
+    }
+    Ok(())
+}
+
+const SWAP: &str = "export function w $main() {
+@start
+@loop
+\t%a =w phi @start 1, @loop %b
+\t%b =w phi @start 2, @loop %a
+\t%i =w phi @start 0, @loop %j
+\t%j =w add %i, 1
+\t%c =w csltw %j, 2
+\tjnz %c, @loop, @done
+@done
+\tret %b
+}
+";
+
+/// Writes what it reads, four bytes at a time.
+const ECHO: &str = "export function w $main() {
+@start
+\t%b =l alloc8 4
+@more
+\t%n =l call $rt.read(l %b, l 4)
+\tcall $rt.write(l %b, l %n)
+\t%c =w cnel %n, 0
+\tjnz %c, @more, @done
+@done
+\tret 0
+}
+";
+
+/// Writes `ab`, and aborts with `gave up`.
+const ABORTS: &str = "data $t = align 1 { b \"abgave up\" }
+export function $main() {
+@s
+\t%t =l add $t, 2
+\tcall $rt.puts(l $t, l 2)
+\tcall $rt.abort(l %t, l 7)
+\tret
+}
+";
+
+/// Writes `a`, and then takes a block of the heap, four bytes of the stack and a call.
+const TAKES: &str = "data $t = align 1 { b \"a\" }
+function l $f(l %p) {
+@s
+\t%a =l alloc4 4
+\tstorew 7, %a
+\tstorel %p, %p
+\tret %p
+}
+export function w $main() {
+@s
+\tcall $rt.puts(l $t, l 1)
+\t%h =l call $rt.malloc(l 8)
+\t%r =l call $f(l %h)
+\t%x =w ceql %r, %h
+\tret %x
+}
+";
+
+#[test]
+fn runs_of_texts(rt: HostRuntime) -> Result<(), Fail> {
+    let commented = behind(rt.alloc(), "# swap\n", SWAP, 1)?;
+    for (words, text, expected) in [
+        ("exec x.ssa", SWAP, "1||"),
+        ("exec --units 13 x.ssa", SWAP, "1||"),
+        ("exec --units 12 x.ssa", SWAP, "75||harec: spent 12 units\n"),
+        (
+            "exec x.ssa",
+            commented.as_str(),
+            "65||x.ssa:1:1: I13 NotPrinted\n",
+        ),
+        ("exec x.ssa", "", "65||x.ssa:1:1: I13 NotPrinted\n"),
+        ("exec x.ssa", ECHO, "0|to be or|"),
+        (
+            "exec --units 3 x.ssa -- a",
+            ECHO,
+            "75|to b|harec: spent 3 units\n",
+        ),
+        ("exec x.ssa", ABORTS, "134|ab|gave up\n"),
+        ("exec x.ssa", TAKES, "1|a|"),
+        ("exec y.ssa", SWAP, "66||y.ssa: file fault\n"),
+    ] {
+        let files = [("x.ssa", text)];
+        let given = Given {
+            input: "to be or",
+            ..on(words, &files)
+        };
+        let outcome = outcome(rt.alloc(), given)?;
+        assert_eq!(rt; outcome.as_str(), expected, "{words}");
+    }
+    Ok(())
+}
+
+#[test]
+fn runs_that_fail(rt: HostRuntime) -> Result<(), Fail> {
+    let files = [("x.ssa", ECHO)];
+    let echo = Given {
+        input: "to be or",
+        ..on("exec x.ssa", &files)
+    };
+    let aborts = on("exec x.ssa", &[("x.ssa", ABORTS)]);
+    for (given, expected) in [
+        (
+            Given {
+                file_fails: &[1],
+                ..echo
+            },
+            "66||x.ssa: file fault\n",
+        ),
+        (
+            Given {
+                input_fails: &[1],
+                ..echo
+            },
+            "74||harec: read fault\n",
+        ),
+        (
+            Given {
+                input_fails: &[2],
+                ..echo
+            },
+            "74|to b|harec: read fault\n",
+        ),
+        (
+            Given {
+                out_fails: &[2],
+                ..echo
+            },
+            "74|to b|harec: write fault\n",
+        ),
+        (
+            Given {
+                out_fails: &[2],
+                most: 3,
+                ..echo
+            },
+            "74|to |harec: write fault\n",
+        ),
+        // A log takes at most five bytes in one call.
+        (
+            Given {
+                log_fails: &[2],
+                ..aborts
+            },
+            "74|ab|gave ",
+        ),
+        (
+            Given {
+                log_fails: &[3],
+                ..aborts
+            },
+            "74|ab|gave up",
         ),
     ] {
         let outcome = outcome(rt.alloc(), given)?;

@@ -1,6 +1,6 @@
 //! Does what `harec` does on each line of the standard input, of which the words stand with a blank between them: the files are those of
-//! the folder examples/. Of each line is printed the line as one would type it, what `harec` writes to its output and to its log, and the
-//! status.
+//! the folder examples/, and the input is the same two lines for each. Of each line is printed the line as one would type it, what `harec`
+//! writes to its output and to its log, and the status.
 #![tactic(auto)]
 
 use anyhow::Result;
@@ -11,6 +11,9 @@ use std::alloc::Global;
 
 /// The byte that new memory and unassigned temporaries of a run hold.
 const FILL: u8 = 165;
+
+/// What is read of the input.
+const INPUT: &[u8] = b"to be or\nnot to be\n";
 
 fn main(rt: HostRuntime) -> Result<()> {
     let alloc = rt.alloc();
@@ -23,13 +26,15 @@ fn main(rt: HostRuntime) -> Result<()> {
     Ok(())
 }
 
-/// The status with which `harec` ends on these words, over the files of the folder, an empty input, and the standard output for output and
+/// The status with which `harec` ends on these words, over the files of the folder, the one input, and the standard output for output and
 /// log.
 fn status_of(rt: &HostRuntime, line: &str) -> Result<u8> {
     let alloc = rt.alloc();
     let words = words(alloc, line)?;
     let mut files = HostFiles::new(rt);
-    let mut input = SureSource::new(alloc, Bytes::new(alloc));
+    let mut content = Bytes::new(alloc);
+    content.extend(INPUT)?;
+    let mut input = SureSource::new(alloc, content);
     let mut out = HostSink::new(rt.stdout());
     let mut log = HostSink::new(rt.stdout());
     let mut text = Bytes::new(alloc);

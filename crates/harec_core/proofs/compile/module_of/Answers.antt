@@ -9,7 +9,7 @@ returns c =
     let file = rw c.in-Some.is at c.in_ok-program.ensures.ok in
     let flat = c.in_ok-flat.ensures in
     let made = c.in_ok-module.ensures in
-    module_of_file c.args.source.now _ c.in_ok-flat.flat c.in_ok-module.module flat.value made.value file
+    module_of_file c.law_input.ensures c.args.source.now _ c.in_ok-flat.flat c.in_ok-module.module flat.value made.value file
     (λ q s. sym (rw c.in-Some.is at (c.in_ok-program.ensures.only q s)))
     made.valid flat.does flat.loops made.reaches made.shape
 

@@ -1,7 +1,8 @@
+use Rattle.std.proofs.Common.{refl}
 use Rattle.std.proofs.lemmas.Result.{err_from_is_err_and}
 use Rattle.harec_check.proofs.FileLemmas.{length-AreTold}
 use Rattle.harec_core.specs.Outside.{Count}
-use Rattle.harec_core.proofs.Causes.{Checks-command_on, files_of-command_on, silent, stop_cause}
+use Rattle.harec_core.proofs.Causes.{Checks-command_on, files_of-command_on, silent, stop_found}
 use Rattle.harec_core.proofs.top.checked.Goals as goal
 
 pub returns-in_err-srcs-clause-cause : goal.returns-in_err-srcs-clause-cause
@@ -10,7 +11,8 @@ returns-in_err-srcs-clause-cause g c =
     let checks = Checks-command_on c.args.paths.now c.args.purpose in
     let same = files_of-command_on c.args.paths.now c.args.purpose in
     rw (p.1, p.2)
-    (stop_cause _ _ _ _ c.requires.count_of_files _ c.args.fill _ _ _ checks same (silent _ _) c.requires.empty c.in_err-srcs.ensures.err)
+    (stop_found _ _ _ _ c.requires.count_of_files _ _ (silent _ _) c.args.fill _ _ c.requires.empty refl _ checks same
+    c.in_err-srcs.ensures.err)
 
 pub check-requires : goal.check-requires
 check-requires g c = record { few = c.requires.files.few }

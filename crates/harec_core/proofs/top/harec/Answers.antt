@@ -1,7 +1,8 @@
 use Rattle.std.proofs.Common.{◌≢◌, refl}
-use Rattle.harec_core.specs.declared.answer.Answer.TheVariants.{Usage, FileFault, WriteFault}
-use Rattle.harec_core.proofs.Answering.{answered_is, answers, found_file_fault, found_usage, write_fault_where}
+use Rattle.harec_core.specs.declared.answer.Answer.TheVariants.{Usage, FileFault, ReadFault, WriteFault}
+use Rattle.harec_core.proofs.Answering.{HasRoom, answered_is, found_answers, found_file_fault, found_read_fault, found_usage, write_fault_where}
 use Rattle.harec_core.proofs.Causes.{files_of-command_for}
+use Rattle.harec_core.proofs.Leaves.{input_part}
 use Rattle.harec_core.proofs.top.harec.Goals as goal
 
 usage_differs : Usage ≢ WriteFault
@@ -9,6 +10,9 @@ usage_differs e = cc
 
 file_fault_differs : FileFault ≢ WriteFault
 file_fault_differs e = cc
+
+read_fault_differs : ReadFault ≢ WriteFault
+read_fault_differs e = cc
 
 pub returns-in_default-clause-usage : goal.returns-in_default-clause-usage
 returns-in_default-clause-usage g c =
@@ -20,40 +24,62 @@ returns-in_default-clause-command g c = λ command w. absurd (c.in_default.ensur
 
 pub returns-clause-write_fault : goal.returns-clause-write_fault
 returns-clause-write_fault g c =
-    let found = c.answer_to-found.ensures.cause in
-    let line = c.tell.ensures.line in
-    write_fault_where _ line.0 _ _ _ (answers c.law_text.ensures _ _ found.2) line.2
+    let found = c.answer_to-found.ensures.cause.2 in
+    let (line, is, logs) = c.tell.ensures.line found.text found.line in
+    let few : HasRoom _ = record { input = c.requires.count_of_input; out = c.requires.count_of_out } in
+    let all = found_answers c.law_text.ensures _ _ _ _ line (files_of-command_for c.in-Some.task.files.now c.in-Some.task.action)
+    (c.units_of.ensures c.in-Some.task.files.now) few found (input_part g.I.Source.faults _ _ _ _ c.answer_to-found.ensures.unread) is in
+    write_fault_where _ line _ _ _ few all logs
 
 pub returns-clause-file_fault : goal.returns-clause-file_fault
 returns-clause-file_fault g c =
-    let found = c.answer_to-found.ensures.cause in
-    let line = c.tell.ensures.line in
-    let answered = answered_is line.0 _ _ c.tell.result FileFault file_fault_differs line.2 in
-    let all = answers c.law_text.ensures _ _ found.2 in
-    (λ e. (found_file_fault _ _ found.2 (answered.0 e).0, (answered.0 e).1), λ h. answered.1 (all.file_fault h.0, h.1))
+    let found = c.answer_to-found.ensures.cause.2 in
+    let (line, is, logs) = c.tell.ensures.line found.text found.line in
+    let few : HasRoom _ = record { input = c.requires.count_of_input; out = c.requires.count_of_out } in
+    let all = found_answers c.law_text.ensures _ _ _ _ line (files_of-command_for c.in-Some.task.files.now c.in-Some.task.action)
+    (c.units_of.ensures c.in-Some.task.files.now) few found (input_part g.I.Source.faults _ _ _ _ c.answer_to-found.ensures.unread) is in
+    let answered = answered_is line _ _ c.tell.result FileFault file_fault_differs logs in
+    (λ e. (found_file_fault _ _ found.cause (answered.0 e).0, (answered.0 e).1), λ h. answered.1 (all.file_fault h.0, h.1))
+
+pub returns-clause-read_fault : goal.returns-clause-read_fault
+returns-clause-read_fault g c =
+    let found = c.answer_to-found.ensures.cause.2 in
+    let (line, is, logs) = c.tell.ensures.line found.text found.line in
+    let few : HasRoom _ = record { input = c.requires.count_of_input; out = c.requires.count_of_out } in
+    let all = found_answers c.law_text.ensures _ _ _ _ line (files_of-command_for c.in-Some.task.files.now c.in-Some.task.action)
+    (c.units_of.ensures c.in-Some.task.files.now) few found (input_part g.I.Source.faults _ _ _ _ c.answer_to-found.ensures.unread) is in
+    let answered = answered_is line _ _ c.tell.result ReadFault read_fault_differs logs in
+    (λ e. (found_read_fault _ _ few found.cause (answered.0 e).0, (answered.0 e).1), λ h. answered.1 (all.read_fault h.0, h.1))
 
 pub returns-clause-usage : goal.returns-clause-usage
 returns-clause-usage g c =
-    let line = c.tell.ensures.line in
-    let answered = answered_is line.0 _ _ c.tell.result Usage usage_differs line.2 in
-    (λ e. absurd (found_usage _ _ c.answer_to-found.ensures.cause.2 (answered.0 e).0), λ h. absurd (h.0 _ c.in-Some.ensures.found))
+    let found = c.answer_to-found.ensures.cause.2 in
+    let (line, is, logs) = c.tell.ensures.line found.text found.line in
+    let answered = answered_is line _ _ c.tell.result Usage usage_differs logs in
+    (λ e. absurd (found_usage _ _ found.cause (answered.0 e).0), λ h. absurd (h.0 _ c.in-Some.ensures.found))
 
-pub returns-clause-unasked : goal.returns-clause-unasked
-returns-clause-unasked g c = λ none. absurd (none _ c.in-Some.ensures.found)
+pub returns-clause-no_command : goal.returns-clause-no_command
+returns-clause-no_command g c = λ none. absurd (none _ c.in-Some.ensures.found)
 
 pub returns-clause-command : goal.returns-clause-command
 returns-clause-command g c = λ command w.
-    let found = c.answer_to-found.ensures.cause in
-    let line = c.tell.ensures.line in
+    let found = c.answer_to-found.ensures.cause.2 in
+    let (line, is, logs) = c.tell.ensures.line found.text found.line in
+    let few : HasRoom _ = record { input = c.requires.count_of_input; out = c.requires.count_of_out } in
+    let all = found_answers c.law_text.ensures _ _ _ _ line (files_of-command_for c.in-Some.task.files.now c.in-Some.task.action)
+    (c.units_of.ensures c.in-Some.task.files.now) few found (input_part g.I.Source.faults _ _ _ _ c.answer_to-found.ensures.unread) is in
     let files = files_of-command_for c.in-Some.task.files.now c.in-Some.task.action in
     rw (← c.in-Some.ensures.only command w) (
-      found.0,
-      rw files found.1,
+      c.answer_to-found.ensures.cause.0,
+      rw files c.answer_to-found.ensures.cause.1,
       _,
-      answers c.law_text.ensures _ _ found.2,
+      line,
+      all,
+      c.answer_to-found.ensures.unread,
       c.answer_to-found.ensures.leaves,
       c.tell.ensures.leaves,
-      line.0,
-      rw (files, ← c.units_of.ensures c.in-Some.task.files.now) line.1,
-      line.2,
+      logs,
     )
+
+pub tell-requires-clause-brings : goal.tell-requires-clause-brings
+tell-requires-clause-brings g c = let found = c.answer_to-found.ensures.cause.2 in (found.text, found.line)
