@@ -107,8 +107,13 @@ fn next_value(value: u128, radix: u8, c: u8) -> Option<u128>
     ensures { result ≡ (if nat_lt (value * radix + digit_value c) (2 ^ 127) then Some (value * radix + digit_value c) else None) }
 {
     let limit: u128 = 0x7fff_ffff_ffff_ffff_ffff_ffff_ffff_ffff;
+    let small: u128 = 0x0100_0000_0000_0000_0000_0000_0000_0000;
     let digit = digit_value(c) as u128;
     let radix = radix as u128;
+    if value < small {
+        // No division is needed: the next value is below 2^125.
+        return Some(value * radix + digit);
+    }
     if value > limit / radix {
         return None;
     }

@@ -7,11 +7,6 @@ ghost use Rattle.hare_lex.specs.Lexing.{longest, suffixes, suffix_named};
 use crate::bytes::front;
 use hare_tree::{Suffix, is_listed};
 
-/// The suffixes of numbers.
-pub const SUFFIXES: [&[u8]; 11] = [
-    b"i8", b"i16", b"i32", b"i64", b"u8", b"u16", b"u32", b"u64", b"i", b"u", b"z",
-];
-
 // The length of the longest mark at the front, 0 where none stands there.
 #[tactic(auto, using(crate::proofs::Longest::longest_like), unfolding(crate::specs::Lexing::longest))]
 pub fn mark_len(s: &[u8]) -> usize
@@ -58,11 +53,27 @@ fn marks_like(first: u8) -> &'static [&'static [u8]]
 }
 
 // The length of the longest suffix at the front, 0 where none stands there.
+#[tactic(auto, using(crate::proofs::Longest::longest_like), unfolding(crate::specs::Lexing::longest))]
 pub fn suffix_len(s: &[u8]) -> usize
     ensures value { result ≡ longest suffixes s.now }
     ensures within { result ≤ length s.now }
 {
-    longest(&SUFFIXES, s)
+    match s {
+        [first, ..] => longest(suffixes_like(*first), s),
+        [] => 0,
+    }
+}
+
+// The suffixes that begin with this byte.
+fn suffixes_like(first: u8) -> &'static [&'static [u8]]
+    ensures { (rest : List ℕ) → is_listed (map (λ w. w.now) result.now) (first ∷ rest) ≡ is_listed suffixes (first ∷ rest) }
+{
+    match first {
+        b'i' => &[b"i8", b"i16", b"i32", b"i64", b"i"],
+        b'u' => &[b"u8", b"u16", b"u32", b"u64", b"u"],
+        b'z' => &[b"z"],
+        _ => &[],
+    }
 }
 
 // The length of the longest of the words, of at most three bytes, at the front of the text; 0 where none stands there.

@@ -1,5 +1,6 @@
 pub mod Words
 pub mod Spelling
+pub mod Stored
 pub mod Tokens
 pub mod Node
 pub mod Signs

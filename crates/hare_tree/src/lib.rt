@@ -14,6 +14,7 @@ mod name;
 mod own;
 mod place;
 mod shape;
+mod short;
 mod sign;
 mod sort;
 mod stop;

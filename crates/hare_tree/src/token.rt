@@ -42,14 +42,14 @@ pub enum Suffix {
 /// A token.
 #[derive(Drop)]
 pub struct Token {
-    /// Its kind.
-    pub kind: TokenKind,
-    /// Where its first byte stands; for End, the place behind the last byte, or that of the fault.
-    pub place: Place,
-    /// Its spelling; for Str the decoded bytes; for End nothing.
-    pub text: Word,
     /// The value of a Number, at most 2^127 - 1, or of a RuneLit; else 0.
     pub number: u128,
+    /// Its spelling; for Str the decoded bytes; for End nothing.
+    pub text: Word,
+    /// Where its first byte stands; for End, the place behind the last byte, or that of the fault.
+    pub place: Place,
+    /// Its kind.
+    pub kind: TokenKind,
     /// The suffix of a Number; else None.
     pub suffix: Suffix,
 }

@@ -42,18 +42,18 @@ impl Model for Kids {
 #[derive(Drop)]
 #[cycle(tree)]
 pub struct Tree {
-    /// The form.
-    pub kind: Kind,
-    /// The form's operator, or else its first token, in the source.
-    pub place: Place,
-    /// What the form's own token says: a name, a path, an operator, the bytes of a string; else nothing.
-    pub text: Word,
     /// The value of a number or of a rune; else 0.
     pub number: u128,
-    /// The suffix of a number; else None.
-    pub suffix: Suffix,
+    /// What the form's own token says: a name, a path, an operator, the bytes of a string; else nothing.
+    pub text: Word,
     /// The parts, as the form has them. A part that is not there is a tree of kind None.
     pub kids: Kids,
+    /// The form's operator, or else its first token, in the source.
+    pub place: Place,
+    /// The form.
+    pub kind: Kind,
+    /// The suffix of a number; else None.
+    pub suffix: Suffix,
 }
 
 impl Model for Tree {

@@ -2,13 +2,24 @@
 
 ghost use Rattle.std.specs.Prelude.{◌≡◌, [], ◌∷◌, ◌++◌, IfOk, OnOk, OnErr};
 
+use crate::short::Short;
 use std::alloc::{AllocError, Global};
 use std::marker::Model;
 
-/// A list of bytes.
+/// A list of bytes. Few stand in the value itself, so that a name, a keyword or a mark takes no memory of its own.
 #[derive(Drop)]
 pub struct Word {
-    bytes: Vec<u8>,
+    stored: Stored,
+    alloc: Global,
+}
+
+/// Where the bytes of a word stand.
+#[derive(Drop)]
+pub(crate) enum Stored {
+    /// In the word.
+    Short(Short),
+    /// In memory.
+    Long(Box<Vec<u8>>),
 }
 
 impl Model for Word {
@@ -16,7 +27,9 @@ impl Model for Word {
 
     ghost Value = { List ℕ };
 
-    ghost view = { λ a. a.bytes.items };
+    ghost use Rattle.hare_tree.specs.Stored.{stored_bytes};
+
+    ghost view = { λ a. stored_bytes a.stored };
 }
 
 impl Word {
@@ -25,7 +38,8 @@ impl Word {
         ensures { result ≡ [] }
     {
         Word {
-            bytes: Vec::new(alloc),
+            stored: Stored::Short(Short::new()),
+            alloc,
         }
     }
 
@@ -43,8 +57,7 @@ impl Word {
         ensures ok { OnOk result (self.new ≡ self.old ++ b ∷ []) }
         ensures err { OnErr result (self.new ≡ self.old) }
     {
-        self.bytes.push(b)?;
-        Ok(())
+        self.extend(&[b])
     }
 
     /// Puts bytes at the end. Nothing changes where memory is short.
@@ -52,13 +65,40 @@ impl Word {
         ensures ok { OnOk result (self.new ≡ self.old ++ b.now) }
         ensures err { OnErr result (self.new ≡ self.old) }
     {
-        self.bytes.extend_from_slice(b)
+        match &mut self.stored {
+            Stored::Long(bytes) => bytes.extend_from_slice(b),
+            Stored::Short(short) => {
+                if b.len() <= short.room() {
+                    short.extend(b);
+                    return Ok(());
+                }
+                let bytes = joined(self.alloc, short.bytes(), b)?;
+                self.stored = Stored::Long(bytes);
+                Ok(())
+            }
+        }
     }
 
     /// The bytes.
     pub fn bytes(&self) -> &[u8]
         ensures { result.now ≡ self.now }
     {
-        self.bytes.as_slice()
+        match &self.stored {
+            Stored::Short(short) => short.bytes(),
+            Stored::Long(bytes) => bytes.as_slice(),
+        }
+    }
+}
+
+/// These bytes, and behind them those, in memory.
+fn joined(alloc: Global, front: &[u8], back: &[u8]) -> Result<Box<Vec<u8>>, AllocError>
+    ensures { IfOk result (λ v. v.value.items ≡ front.now ++ back.now) }
+{
+    let mut bytes = Vec::new(alloc);
+    bytes.extend_from_slice(front)?;
+    bytes.extend_from_slice(back)?;
+    match Box::new(alloc, bytes) {
+        Ok(boxed) => Ok(boxed),
+        Err(_) => Err(AllocError),
     }
 }

@@ -48,28 +48,28 @@ impl Model for TypedKids {
 #[derive(Drop)]
 #[cycle(typed)]
 pub struct Typed {
-    /// The form.
-    pub kind: Kind,
-    /// The form's operator, or else its first token, in the source.
-    pub place: Place,
-    /// What the form's own token says: a name, a path, an operator, the bytes of a string; else nothing.
-    pub text: Word,
     /// The value of a number or of a rune, and 7 for an abort that stands for a failed `!`; else 0.
     pub number: u128,
-    /// The suffix of a number; else None.
-    pub suffix: Suffix,
-    /// The node's number in its declaration. `docs/TREES.md` says which nodes are numbered; the others have 0.
-    pub node: u32,
     /// The type of what the node gives, before its coercion.
     pub ty: Ty,
     /// What becomes of that at the node's site.
     pub coerce: Coercion,
-    /// What a path means.
-    pub meaning: Meaning,
     /// The node's constant, where one stands.
     pub value: Const,
     /// The parts, as the form has them. A part that is not there is a tree of kind None.
     pub kids: TypedKids,
+    /// What the form's own token says: a name, a path, an operator, the bytes of a string; else nothing.
+    pub text: Word,
+    /// What a path means.
+    pub meaning: Meaning,
+    /// The form's operator, or else its first token, in the source.
+    pub place: Place,
+    /// The node's number in its declaration. `docs/TREES.md` says which nodes are numbered; the others have 0.
+    pub node: u32,
+    /// The form.
+    pub kind: Kind,
+    /// The suffix of a number; else None.
+    pub suffix: Suffix,
 }
 
 impl Model for Typed {
