@@ -9,7 +9,7 @@ use crate::number::number_in;
 use crate::shape::base_row;
 use hare_tree::{Fault, Kind, Suffix};
 use hare_typed::Typed;
-use hare_types::{Row, Scalar, Ty, TypeStore};
+use hare_types::{Row, Ty, TypeStore};
 
 /// The greatest length of an array.
 const MOST: u128 = 67_108_864;
@@ -24,18 +24,7 @@ fn is_integer(s: &TypeStore, t: Ty) -> bool
     let Ty::Of(t) = t else {
         return false;
     };
-    match base_row(s, t) {
-        Some(Row::Scalar(k)) => !matches!(
-            *k,
-            Scalar::Void
-                | Scalar::Never
-                | Scalar::Opaque
-                | Scalar::Bool
-                | Scalar::Rune
-                | Scalar::Str
-        ),
-        _ => false,
-    }
+    matches!(base_row(s, t), Some(Row::Scalar(k)) if k.is_signed().is_some())
 }
 
 /// The constant of a path to a def of integer base, where it is not negative.
