@@ -7,3 +7,4 @@ pub mod PageWrites
 pub mod Pieces
 pub mod RangeLists
 pub mod TouchedLemmas
+pub mod WindowLemmas

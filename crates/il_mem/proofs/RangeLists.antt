@@ -128,9 +128,10 @@ filter-alike p q [] h = refl
 filter-alike p q (r ∷ rs) h = rw (h r, filter-alike p q rs h) refl
 
 -- what the last of them says
-pub record Last (low at end : ℕ) (rs : List (ℕ × ℕ)) : Type 0 where
-  pub from : low ≤ at
-  pub covered : (a : ℕ) → at ≤ a → a < end → covers rs a ≡ true
+pub record Last (low at s end : ℕ) (rs : List (ℕ × ℕ)) : Type 0 where
+  pub from : low ≤ s
+  pub begins : s ≤ at
+  pub covered : (a : ℕ) → s ≤ a → a < end → covers rs a ≡ true
   pub bare : end ≤ at → covers rs at ≡ false
 
 none_begins : (at : ℕ) (rs : List (ℕ × ℕ)) → filter (λ r. nat_le r.0 at) rs ≡ [] → covers rs at ≡ false
@@ -142,7 +143,7 @@ none_begins at (r ∷ rs) h = pick (nat_le r.0 at) refl (none_begins at rs)
     pick false e on = let x = rw e at h in covers-rest at r rs (inl (grind (arith, nat_tests))) ∙ on x
 
 last_begins : (low at s end : ℕ) (rs front : List (ℕ × ℕ)) → are_laid low rs ≡ true →
-    filter (λ r. nat_le r.0 at) rs ≡ front ++ (s, end) ∷ [] → Last low at end rs
+    filter (λ r. nat_le r.0 at) rs ≡ front ++ (s, end) ∷ [] → Last low at s end rs
 last_begins low at s end [] [] h e = cc
 last_begins low at s end [] (f ∷ fs) h e = cc
 last_begins low at s end (r ∷ rs) front h e = pick (nat_le r.0 at) front refl e (last_begins r.1 at s end rs)
@@ -151,17 +152,19 @@ last_begins low at s end (r ∷ rs) front h e = pick (nat_le r.0 at) front refl 
     p = laid_parts low r rs h
 
     pick : (b : Bool) (front : List (ℕ × ℕ)) → nat_le r.0 at ≡ b → filter (λ x. nat_le x.0 at) (r ∷ rs) ≡ front ++ (s, end) ∷ [] →
-        ((fs : List (ℕ × ℕ)) → are_laid r.1 rs ≡ true → filter (λ x. nat_le x.0 at) rs ≡ fs ++ (s, end) ∷ [] → Last r.1 at end rs) →
-        Last low at end (r ∷ rs)
+        ((fs : List (ℕ × ℕ)) → are_laid r.1 rs ≡ true → filter (λ x. nat_le x.0 at) rs ≡ fs ++ (s, end) ∷ [] → Last r.1 at s end rs) →
+        Last low at s end (r ∷ rs)
     pick true [] t e on =
         let x = rw t at e in
         let first : r ≡ (s, end) = cc in
         let none : filter (λ x. nat_le x.0 at) rs ≡ [] = cc in
         let last : r.1 ≡ end = ap (λ (x : ℕ × ℕ). x.1) first in
+        let start : r.0 ≡ s = ap (λ (x : ℕ × ℕ). x.0) first in
         let begins : r.0 ≤ at = grind (arith, nat_tests) in
         record {
-          from = omega (arith, p.from, begins);
-          covered = λ a l u. covers-first a r rs (omega (arith, begins, l)) (omega (arith, last, u));
+          from = omega (arith, p.from, start);
+          begins = omega (arith, begins, start);
+          covered = λ a l u. covers-first a r rs (omega (arith, start, l)) (omega (arith, last, u));
           bare = λ l. covers-rest at r rs (inr (omega (arith, last, l))) ∙ none_begins at rs none;
         }
     pick true (f ∷ fs) t e on =
@@ -170,17 +173,18 @@ last_begins low at s end (r ∷ rs) front h e = pick (nat_le r.0 at) front refl 
         let i = on fs p.rest more in
         record {
           from = omega (arith, p.from, p.some, i.from);
+          begins = i.begins;
           covered = λ a l u. covers-rest a r rs (inr (omega (arith, i.from, l))) ∙ i.covered a l u;
-          bare = λ l. covers-rest at r rs (inr i.from) ∙ i.bare l;
+          bare = λ l. covers-rest at r rs (inr (omega (arith, i.from, i.begins))) ∙ i.bare l;
         }
     pick false front t e on =
         let i = on front p.rest (rw t at e) in
         let above : at < r.0 = grind (arith, nat_tests) in
-        absurd (omega (arith, i.from, p.some, above))
+        absurd (omega (arith, i.from, i.begins, p.some, above))
 
 -- the same of what the map lends
 pub last_range : (at s end : ℕ) (rs front : List (ℕ × ℕ)) → are_laid 0 rs ≡ true →
-    filter (λ r. range_contains nat_cmp Unbounded (Included at) r.0) rs ≡ front ++ (s, end) ∷ [] → Last 0 at end rs
+    filter (λ r. range_contains nat_cmp Unbounded (Included at) r.0) rs ≡ front ++ (s, end) ∷ [] → Last 0 at s end rs
 last_range at s end rs front h e =
     last_begins 0 at s end rs front h (sym (filter-alike (λ r. range_contains nat_cmp Unbounded (Included at) r.0) (λ r. nat_le r.0 at) rs
     (λ r. begins_by at r.0)) ∙ e)

@@ -3,3 +3,4 @@ pub mod Kept
 pub mod Laid
 pub mod Stored
 pub mod Touched
+pub mod Windows

@@ -93,6 +93,7 @@ pub fn clear(pages: &mut Pages, at: u64, n: u64)
     requires ends { at + n < 2 ^ 64 }
     ensures bytes { (m : Memory) → HoldsBytes pages.old m → HoldsBytes pages.new (clear_range m at n) }
     ensures pages { (p : ℕ) → is_held pages.new p ≡ (is_held pages.old p && not (lies_in at n p)) }
+    ensures few { n < page_size → pages.new.pages ≡ pages.old.pages }
 {
     let mut done = 0;
     while done < n {

@@ -12,6 +12,7 @@ mod mem;
 mod pages;
 mod ranges;
 mod stop;
+mod windows;
 
 pub use mem::Mem;
 pub use pages::PAGE;

@@ -2,9 +2,9 @@
 
 ghost use Rattle.std.specs.Prelude.{◌≡◌, ◌≢◌, ℕ, ◌+◌, ◌-◌, ◌⊎◌, if◌then◌else◌, ◌*◌, ◌/◌, ◌%◌, ◌<◌, ◌≤◌, ◌^◌, ◌++◌, ◌&&◌, ◌||◌, [], ◌∷◌, min, take, drop, length, replicate, option_map, is_some, nat_eq, nat_le, nat_lt, not, slice_get, slice_index, bytes_eq, IsSome, IfSome, IsOk, OnOk, OnErr, Some, None, true, false};
 ghost use Rattle.std.specs.HashMap.{get};
-ghost use Rattle.hx_base.specs.Memory.{Memory, bytes_at, write, clear_range};
+ghost use Rattle.hx_base.specs.Memory.{Memory, bytes_at, le_bytes, le_number, write, clear_range};
 ghost use Rattle.il_mem.specs.Kept.{Held, place_in, is_held, byte_of, AreDistinct, page_size, meets};
-ghost use Rattle.il_mem.specs.Holds.{HoldsBytes};
+ghost use Rattle.il_mem.specs.Holds.{HoldsBytes, IsWidth};
 ghost use Rattle.il_mem.specs.Stored.{AreEntered, source, with_page};
 
 use std::alloc::{AllocError, Global};
@@ -56,7 +56,7 @@ impl Pages {
     }
 
     /// How many bytes stand before those of a page, if it is held.
-    fn begin(&self, page: u64) -> Option<usize>
+    pub fn begin(&self, page: u64) -> Option<usize>
         ensures value { result ≡ option_map (λ k. page_size * k) (place_in self.now.pages page) }
         ensures inside { IfSome result (λ i. i + page_size ≤ length self.now.bytes) }
         ensures short { IfSome result (λ i. i + page_size < 2 ^ 64) }
@@ -80,6 +80,39 @@ impl Pages {
             }
             None => part.fill(self.fill),
         }
+    }
+
+    /// The number in the 1, 2, 4 or 8 bytes from an address on, before which `i` bytes of pages stand.
+    #[inline(always)]
+    pub fn number(&self, at: u64, n: u32, i: usize) -> u64
+        requires width { IsWidth n }
+        requires within { at % page_size + n ≤ page_size }
+        requires held { place_in self.now.pages (at / page_size) ≡ Some (i / page_size) }
+        requires offset { i % page_size ≡ at % page_size }
+        requires short { i + n < 2 ^ 64 }
+        ensures { (m : Memory) → HoldsBytes self.now m → result ≡ le_number (bytes_at m at n) }
+    {
+        let _at = at;
+        let len = n as usize;
+        let mut eight = [0; 8];
+        eight[..len].copy_from_slice(&self.bytes[i..i + len]);
+        u64::from_le_bytes(eight)
+    }
+
+    /// Writes the 1, 2, 4 or 8 low bytes of a number from an address on, before which `i` bytes of pages stand.
+    #[inline(always)]
+    pub fn put_number(&mut self, at: u64, n: u32, i: usize, v: u64)
+        requires width { IsWidth n }
+        requires within { at % page_size + n ≤ page_size }
+        requires held { place_in self.old.pages (at / page_size) ≡ Some (i / page_size) }
+        requires offset { i % page_size ≡ at % page_size }
+        requires short { i + n < 2 ^ 64 }
+        ensures bytes { (m : Memory) → HoldsBytes self.old m → HoldsBytes self.new (write m at (le_bytes n v)) }
+        ensures pages { self.new.pages ≡ self.old.pages }
+    {
+        let _at = at;
+        let eight = v.to_le_bytes();
+        put_part(self.bytes.as_mut_slice(), i, &eight[..n as usize]);
     }
 
     /// Writes a part of a page that is held.
@@ -157,6 +190,7 @@ impl Pages {
         ensures pages { OnOk result ((p : ℕ) → is_held self.new p ≡ (is_held self.old p || (nat_le first p && nat_lt p end))) }
         ensures err { OnErr result (self.new ≡ self.old) }
         ensures held { ((p : ℕ) → first ≤ p → p < end → is_held self.old p ≡ true) → (IsOk result) }
+        ensures stay { (p k : ℕ) → place_in self.old.pages p ≡ Some k → place_in self.new.pages p ≡ Some k }
     {
         let before = self.numbers.len();
         for page in first..end {
@@ -223,6 +257,7 @@ fn in_page(at: u64, n: usize) -> usize
 }
 
 // Puts bytes in the place of as many others.
+#[inline(always)]
 fn put_part(bytes: &mut [u8], from: usize, part: &[u8])
     requires { from + length part.now ≤ length bytes.old }
     ensures { bytes.new ≡ take from bytes.old ++ part.now ++ drop (from + length part.now) bytes.old }

@@ -59,6 +59,13 @@ impl Ranges {
         true
     }
 
+    /// The range in which an address lies, if there is one: its first address and the one behind its last.
+    pub fn around(&self, at: u64) -> Option<(u64, u64)>
+        ensures { IfSome result (λ r. (r.0 ≤ at) × (at < r.1) × IsCovered self.now r.0 r.1) }
+    {
+        range_of(&self.ends, at)
+    }
+
     /// Maps the `n` addresses from `at` on.
     pub fn map(&mut self, at: u64, n: u64) -> Result<(), AllocError>
         requires some { 0 < n }
@@ -93,9 +100,21 @@ fn end_of(ends: &BTreeMap<u64, u64>, at: u64) -> Option<u64>
     ensures found { IfSome result (λ e. (at < e) × IsCovered ends.now.entries at e) }
     ensures none { IfNone result (covers ends.now.entries at ≡ false) }
 {
+    match range_of(ends, at) {
+        Some((_, end)) => Some(end),
+        None => None,
+    }
+}
+
+// The range in which an address lies: its first address and the one behind its last.
+fn range_of(ends: &BTreeMap<u64, u64>, at: u64) -> Option<(u64, u64)>
+    requires { are_laid 0 ends.now.entries ≡ true }
+    ensures found { IfSome result (λ r. (r.0 ≤ at) × (at < r.1) × IsCovered ends.now.entries r.0 r.1) }
+    ensures none { IfNone result (covers ends.now.entries at ≡ false) }
+{
     let mut below = ends.range(..=at);
     match below.next_back() {
-        Some((_, end)) if *end > at => Some(*end),
+        Some((start, end)) if *end > at => Some((*start, *end)),
         _ => None,
     }
 }

@@ -1,4 +1,4 @@
-use Rattle.std.proofs.Common.{◌≡◌, ◌+◌, ◌-◌, ◌*◌, ◌/◌, ◌%◌, ℕ, sym, subst, arith}
+use Rattle.std.proofs.Common.{◌≡◌, ◌+◌, ◌-◌, ◌*◌, ◌/◌, ◌%◌, ◌<◌, ℕ, refl, sym, ap, ◌∙◌, subst, arith}
 use Rattle.std.specs.Prelude.{min}
 use Rattle.hx_base.specs.Memory.{Memory, clear_range}
 use Rattle.il_mem.specs.Kept.{Held, page_size}
@@ -8,7 +8,7 @@ use Rattle.il_mem.proofs.copies.clear.Goals as goal
 use Rattle.il_mem.proofs.copies.clear.Goals.{then-len-eq-PAGE, else-len-eq-PAGE}
 
 pub loop-done-init : goal.loop-done-init
-loop-done-init c = (omega arith, λ m holds. clear_none c.args.pages.now m c.args.at holds, gone_first c.args.pages.now c.args.at c.args.n)
+loop-done-init c = (omega arith, λ m holds. clear_none c.args.pages.now m c.args.at holds, gone_first c.args.pages.now c.args.at c.args.n, λ h. refl)
 
 pub loop-done-preserved : goal.loop-done-preserved
 loop-done-preserved c =
@@ -43,9 +43,17 @@ loop-done-preserved c =
           subst (λ (h : Held). IsGone old h at (done + len) n) (sym w.pages-is)
           (gone_piece old now w.wipe.new.self at done n len i.2 more is w.if-len-eq-PAGE.false w.wipe.ensures.pages)
     ] in
-    (omega (arith, is, more), bytes, gone)
+    let few : n < page_size → new.pages ≡ old.pages = λ small.
+    elim c.if-len-eq-PAGE.branch [
+      | then-len-eq-PAGE w ↦ absurd (omega (arith, is, w.if-len-eq-PAGE.true, small))
+      | else-len-eq-PAGE w ↦ ap (λ (h : Held). h.pages) w.pages-is ∙ w.wipe.ensures.pages ∙ i.3 small
+    ] in
+    (omega (arith, is, more), bytes, gone, few)
 
 pub returns-clause-bytes : goal.returns-clause-bytes
 returns-clause-bytes c = λ m holds.
     let all : c.loop-done.done ≡ c.args.n = omega (arith, c.loop-done.invariant.0, c.loop-done-test.false) in
     subst (λ (k : ℕ). HoldsBytes c.loop-done.pages (clear_range m c.args.at k)) all (c.loop-done.invariant.1 m holds)
+
+pub returns-clause-few : goal.returns-clause-few
+returns-clause-few c = λ small. c.loop-done.invariant.3 small

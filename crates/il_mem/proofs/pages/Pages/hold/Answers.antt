@@ -3,6 +3,7 @@ use Rattle.std.specs.Prelude.{nat_le, nat_lt}
 use Rattle.il_mem.specs.Kept.{Held, is_held}
 use Rattle.il_mem.proofs.PageLists.{sound_from, IsSound}
 use Rattle.il_mem.proofs.PageGrowth.{Growing, grows_first, grows_next}
+use Rattle.il_mem.proofs.WindowLemmas.{place_stays}
 use Rattle.il_mem.proofs.pages.Pages.hold.Goals as goal
 
 pub loop-page-init : goal.loop-page-init
@@ -27,3 +28,7 @@ pub returns-clause-pages : goal.returns-clause-pages
 returns-clause-pages c =
     let last : c.loop-page.page ≡ c.args.end = omega (arith, c.loop-page-test.false, c.requires, c.loop-page.auto) in
     λ p. c.loop-page.invariant.0.held p ∙ ap (λ (n : ℕ). is_held c.args.self.now p || (nat_le c.args.first p && nat_lt p n)) last
+
+pub returns-clause-stay : goal.returns-clause-stay
+returns-clause-stay c = λ p k e.
+    place_stays c.args.self.now.pages c.loop-page.self.pages c.len-before.result p k c.loop-page.invariant.0.pages e
