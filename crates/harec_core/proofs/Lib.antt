@@ -7,7 +7,6 @@ pub mod Leaves
 pub mod Executing
 pub mod Answering
 pub mod Fits
-mod BuiltLowered
 pub mod Shaped
 pub mod Forward
 pub mod Costs

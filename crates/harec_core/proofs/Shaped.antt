@@ -23,14 +23,13 @@ use Rattle.harec_core.proofs.Fits as fit
 
 module _ (p : Program) where
   abbrev blocks_at : List (List ℕ) → ℕ → List IlItem
-  blocks_at ts i = map data_item (text_globals i ts) ++ function_item (text_globals 0 (program_texts p)) (lowered_main (body_code p)) ∷ []
+  blocks_at ts i = map data_item (text_globals i ts) ++ function_item (lowered p) (lowered_main (body_code p)) ∷ []
 
   abbrev main_body : Body
   main_body = record {
     name = codes "main";
     params = [];
-    blocks = blocks_of (text_globals 0 (program_texts p))
-        (lowered_main (body_code p));
+    blocks = blocks_of (lowered p) (lowered_main (body_code p));
   }
 
   one_function : (ts : List (List ℕ)) (i : ℕ) → functions_of (blocks_at ts i) ≡ main_body ∷ []
@@ -102,7 +101,7 @@ lowered_shape p shaped loops =
     let body = lowered_main (body_code p) in
     let code = Seq (codes_of (body_code p).code) in
     let alike : IsShapedAs body (record { name = codes "main"; class = None; params = []; blocks = (main_body p).blocks }) =
-    subst (λ (c : Option il.Code). emit.AreAlike (Some body) c) (main_named p (program_texts p) 0) (shaped (codes "main")) in
+    subst (λ (c : Option il.Code). emit.AreAlike (Some body) c) (main_named p (program_texts p) 0) (shaped.functions (codes "main")) in
     let one = sum_cons (λ (g : FlatFn). code_loops (code_of g.body)) body [] in
     let quiet = no_calls code (statements_fit start (body_of p)) in
     let all = one_function p (program_texts p) 0 in

@@ -1,11 +1,12 @@
 -- The lines of well formed code pass a test that the lines of each form pass.
 use Rattle.std.proofs.Common.{◌≡◌, ℕ, zero, suc, ◌+◌, ◌-◌, ◌<◌, ◌≤◌, Bool, true, false, ◌&&◌, List, [], ◌∷◌, ◌++◌, length, Option, None, Some, refl, arith, length-append}
-use Rattle.std.specs.Prelude.{nat_lt, ◌==◌, slice_index_or}
+use Rattle.std.specs.Prelude.{nat_lt, nat_le, ◌==◌, slice_index_or}
 use Rattle.std.specs.List.{list_all}
 use Rattle.std.proofs.lemmas.Bool.{and_parts}
 use Rattle.std.proofs.lemmas.Bool.Decides.{nat_tests}
 use Rattle.hx_base.specs.declared.Class.{Class}
-use Rattle.hx_base.specs.declared.Class.TheVariants.{W}
+use Rattle.hx_base.specs.declared.Class.TheVariants.{W, L}
+use Rattle.flat_code.specs.declared.op.LoadKind.{LoadKind}
 use Rattle.flat_code.specs.declared.op.Op.{Op}
 use Rattle.flat_code.specs.declared.program.FlatFn.{FlatFn}
 use Rattle.flat_code.specs.declared.program.FlatProgram.{FlatProgram}
@@ -14,17 +15,16 @@ use Rattle.flat_code.specs.declared.value.Value.TheVariants.{Temp, Number, Symbo
 use Rattle.flat_code.specs.Code.{Code, Codes, none, more, Seq, Set, Load, Store, Move, If, Loop, Leave, Call, Ret}
 use Rattle.flat_code.specs.Costs.{addressed}
 use Rattle.flat_code.specs.Kinds.{op_kind, takes_two, first_class, second_class, may_give}
-use Rattle.hx_runtime.specs.Functions.{runtime_params, runtime_result, runtime_function}
-use Rattle.hx_runtime.specs.declared.runtime.RuntimeFunction.{RuntimeFunction}
-use Rattle.flat_code.specs.Temps.{call_class}
-use Rattle.flat_code.specs.WellFormed.{deepest, is_bits, is_operand, is_second, is_target, is_right, are_right, are_args, takes_result, is_runtime_call, is_return, is_long}
+use Rattle.flat_code.specs.Evaluation.{function_named}
+use Rattle.flat_code.specs.Shape.{code_of}
+use Rattle.flat_code.specs.Temps.{result_class}
+use Rattle.flat_code.specs.WellFormed.{deepest, most, is_bits, is_operand, is_second, is_target, is_width, stored_class, is_right, are_right, are_args, is_return, is_long}
 use Rattle.il_code.specs.declared.types.Inst.TheVariants as inst
 use Rattle.il_code.specs.declared.types.Jump.TheVariants as jump
 use Rattle.il_emit.specs.Names.{temp_name, label_name}
-use Rattle.il_emit.specs.Built.{is_built, are_built}
-use Rattle.il_emit.specs.Ops.{il_op}
-use Rattle.il_emit.specs.Lines.{Line, Label, Do, End, operand, address_inst, second, call_params, result_param, args_of, exit_at, address_lines, arg_lines, return_lines, code_lines, each_lines, labels_in, labels_in_all, addresses_in, addresses_in_all, addresses_of, all_addressed}
-use Rattle.il_emit.proofs.BuiltFunctions.{IsFree, built_call}
+use Rattle.il_emit.specs.Ops.{il_op, load_op}
+use Rattle.il_emit.specs.Lines.{Line, Label, Do, End, operand, address_inst, place_inst, second, called_params, result_param, args_of, exit_at, address_lines, arg_lines, return_lines, code_lines, each_lines, labels_in, labels_in_all, addresses_in, addresses_in_all, addresses_of, all_addressed, frame_lines, inner_lines}
+use Rattle.il_emit.proofs.Calls.{called_args}
 use Rattle.il_emit.proofs.Counts.{both_true, all_append}
 
 -- lines of each form pass, where labels are below `most_labels`, no jump goes to the first, and addresses are below `most_addresses`
@@ -41,20 +41,32 @@ pub record LinesPass (p : FlatProgram) (f : FlatFn) (good : Line → Bool) (most
       k + addressed a + addressed b ≤ most_addresses
       → good (Do (inst.Set (temp_name t) class (il_op o) (operand p.globals a k)
       (second (takes_two (op_kind o)) (operand p.globals b (k + addressed a))))) ≡ true
-  pub call : (temp : Option ℕ) (name : List ℕ) (args : List Value) (k : ℕ) → is_runtime_call p f temp args (runtime_function name) ≡ true →
+  pub load : (t : ℕ) (how : LoadKind) (at : Value) (k : ℕ) → is_right p f 0 (Load t how at) ≡ true → k + addressed at ≤ most_addresses
+      → good (Do (inst.Set (temp_name t) L (load_op how) (operand p.globals at k) None)) ≡ true
+  pub store : (width : ℕ) (value at : Value) (k : ℕ) → is_right p f 0 (Store width value at) ≡ true →
+      k + addressed value + addressed at ≤ most_addresses
+      → good (Do (inst.Store width (operand p.globals value k) (operand p.globals at (k + addressed value)))) ≡ true
+  pub move : (to from : Value) (bytes k : ℕ) → is_right p f 0 (Move to from bytes) ≡ true →
+      k + addressed to + addressed from ≤ most_addresses
+      → good (Do (inst.Blit (operand p.globals from (k + addressed to)) (operand p.globals to k) bytes)) ≡ true
+  pub call : (temp : Option ℕ) (name : List ℕ) (args : List Value) (k : ℕ) → is_right p f 0 (Call temp name args) ≡ true →
       k + all_addressed args ≤ most_addresses
-      → good (Do (inst.Call (result_param temp (call_class (runtime_function name))) name
-      (args_of p.globals (call_params (runtime_function name)) args k))) ≡ true
+      → good (Do (inst.Call (result_param temp (result_class p name)) name
+      (args_of p.globals (called_params (function_named p.functions name) name) args k))) ≡ true
+  pub place : (offset k : ℕ) → offset < f.frame → k < most_addresses → good (Do (place_inst offset k)) ≡ true
   pub address : (i offset k : ℕ) → i < length p.globals → is_bits offset ≡ true → k < most_addresses →
       good (Do (address_inst p.globals i offset k)) ≡ true
 
 module _ (p : FlatProgram) (f : FlatFn) (good : Line → Bool) (most_labels most_addresses : ℕ)
-    (pass : LinesPass p f good most_labels most_addresses) (free : IsFree p) where
+    (pass : LinesPass p f good most_labels most_addresses) where
   address_good : (class : Class) (v : Value) (k : ℕ) → is_operand p f class v ≡ true → k + addressed v ≤ most_addresses →
       list_all good (address_lines p.globals v k) ≡ true
   address_good class (Temp t) k r u = refl
   address_good class (Number n) k r u = refl
-  address_good class (Frame offset) k r u = refl
+  address_good class (Frame offset) k r u =
+      let q = (and_parts (is_long class) (nat_lt offset f.frame) r).1 in
+      let lt : offset < f.frame = grind (arith, nat_tests) in
+      both_true _ true (pass.place offset k lt (omega arith)) refl
   address_good class (Symbol i offset) k r u = pick (offset == 0) refl
     where
       pick : (b : Bool) → (offset == 0) ≡ b → list_all good (address_lines p.globals (Symbol i offset) k) ≡ true
@@ -71,7 +83,7 @@ module _ (p : FlatProgram) (f : FlatFn) (good : Line → Bool) (most_labels most
   second_good class true v k r u = address_good class v k r u
   second_good class false (Temp t) k r u = refl
   second_good class false (Number n) k r u = refl
-  second_good class false (Frame offset) k r u = refl
+  second_good class false (Frame offset) k r u = cc
   second_good class false (Symbol i offset) k r u = cc
 
   args_good : (cs : List Class) (vs : List Value) (k : ℕ) → are_args p f cs vs ≡ true →
@@ -83,12 +95,6 @@ module _ (p : FlatProgram) (f : FlatFn) (good : Line → Bool) (most_labels most
       let both = and_parts (is_operand p f c v) (are_args p f cs vs) r in
       all_append good (address_lines p.globals v k) _ (address_good c v k both.0 (omega arith))
       (args_good cs vs (k + addressed v) both.1 (omega arith))
-
-  called_good : (temp : Option ℕ) (args : List Value) (k : ℕ) (g : Option RuntimeFunction) → is_runtime_call p f temp args g ≡ true →
-      k + all_addressed args ≤ most_addresses → list_all good (arg_lines p.globals args k) ≡ true
-  called_good temp args k None r u = cc
-  called_good temp args k (Some g) r u = args_good (runtime_params g) args k
-      (and_parts (are_args p f (runtime_params g) args) (takes_result p f temp (runtime_result g)) r).0 u
 
   returned_good : (class : Option Class) (v : Value) (k : ℕ) → is_return p f class (Some v) ≡ true →
       k + addressed v ≤ most_addresses → list_all good (address_lines p.globals v k) ≡ true
@@ -125,16 +131,16 @@ module _ (p : FlatProgram) (f : FlatFn) (good : Line → Bool) (most_labels most
   more_exits es e h l u = all_append inside es (e ∷ []) h (both_true (inside e) true (inside_is e l u) refl)
 
   mutual
-    pub code_good : (c : Code) (around n k : ℕ) (es : List ℕ) → is_built c ≡ true → is_right p f around c ≡ true → length es ≡ around →
+    pub code_good : (c : Code) (around n k : ℕ) (es : List ℕ) → is_right p f around c ≡ true → length es ≡ around →
         list_all inside es ≡ true → 0 < n → n + labels_in c ≤ most_labels → k + addresses_in c ≤ most_addresses
-        → list_all good (code_lines p.globals c n k es) ≡ true
-    code_good (Seq cs) around n k es v r d h z l u =
+        → list_all good (code_lines p c n k es) ≡ true
+    code_good (Seq cs) around n k es r d h z l u =
         let both = and_parts (nat_lt around deepest) (are_right p f (suc around) cs) r in
-        all_append good (each_lines p.globals cs (suc n) k (es ++ n ∷ [])) (Label n ∷ [])
-        (each_good cs (suc around) (suc n) k (es ++ n ∷ []) v both.1 (omega (arith, length-append es (n ∷ [])))
+        all_append good (each_lines p cs (suc n) k (es ++ n ∷ [])) (Label n ∷ [])
+        (each_good cs (suc around) (suc n) k (es ++ n ∷ []) both.1 (omega (arith, length-append es (n ∷ [])))
         (more_exits es n h z (omega arith)) (omega arith) (omega arith) (omega arith))
         (both_true _ true (pass.label n (omega arith)) refl)
-    code_good (Set t class o a b) around n k es v r d h z l u =
+    code_good (Set t class o a b) around n k es r d h z l u =
         let both = and_parts (is_target p f t class) _ r in
         let q = and_parts (may_give (op_kind o) class) _ both.1 in
         let s = and_parts (is_operand p f (first_class (op_kind o) class) a)
@@ -143,48 +149,63 @@ module _ (p : FlatProgram) (f : FlatFn) (good : Line → Bool) (most_labels most
         (all_append good (address_lines p.globals b (k + addressed a)) _
         (second_good (second_class (op_kind o) class) (takes_two (op_kind o)) b (k + addressed a) s.1 (omega arith))
         (both_true _ true (pass.set t class o a b k r (omega arith)) refl))
-    code_good (Load t how at) around n k es v r d h z l u = refl
-    code_good (Store width value at) around n k es v r d h z l u = refl
-    code_good (Move to from bytes) around n k es v r d h z l u = refl
-    code_good (If cond a b) around n k es v r d h z l u =
+    code_good (Load t how at) around n k es r d h z l u =
+        let both = and_parts (is_target p f t L) (is_operand p f L at) r in
+        all_append good (address_lines p.globals at k) _ (address_good L at k both.1 u)
+        (both_true _ true (pass.load t how at k r u) refl)
+    code_good (Store width value at) around n k es r d h z l u =
+        let s = and_parts (is_operand p f (stored_class width) value) (is_operand p f L at) (and_parts (is_width width) _ r).1 in
+        all_append good (address_lines p.globals value k) _ (address_good (stored_class width) value k s.0 (omega arith))
+        (all_append good (address_lines p.globals at (k + addressed value)) _ (address_good L at (k + addressed value) s.1 (omega arith))
+        (both_true _ true (pass.store width value at k r (omega arith)) refl))
+    code_good (Move to from bytes) around n k es r d h z l u =
+        let s = and_parts (is_operand p f L to) (is_operand p f L from) (and_parts (nat_le bytes most) _ r).1 in
+        all_append good (address_lines p.globals to k) _ (address_good L to k s.0 (omega arith))
+        (all_append good (address_lines p.globals from (k + addressed to)) _ (address_good L from (k + addressed to) s.1 (omega arith))
+        (both_true _ true (pass.move to from bytes k r (omega arith)) refl))
+    code_good (If cond a b) around n k es r d h z l u =
         let both = and_parts (is_operand p f W cond)
         (is_right p f around a && is_right p f around b) r in
         let s = and_parts (is_right p f around a) (is_right p f around b) both.1 in
-        let w = and_parts (is_built a) (is_built b) v in
         all_append good (address_lines p.globals cond k) _ (address_good W cond k both.0 (omega arith))
         (both_true _ _ (pass.branch cond k n (n + 1) both.0 (omega arith) z (omega arith) (omega arith) (omega arith))
         (both_true _ _ (pass.label n (omega arith))
-        (all_append good (code_lines p.globals a (n + 3) (k + addressed cond) es) _
-        (code_good a around (n + 3) (k + addressed cond) es w.0 s.0 d h (omega arith) (omega arith) (omega arith))
+        (all_append good (code_lines p a (n + 3) (k + addressed cond) es) _
+        (code_good a around (n + 3) (k + addressed cond) es s.0 d h (omega arith) (omega arith) (omega arith))
         (both_true _ _ (pass.goes (n + 2) (omega arith) (omega arith))
         (both_true _ _ (pass.label (n + 1) (omega arith))
-        (all_append good (code_lines p.globals b (n + 3 + labels_in a) (k + addressed cond + addresses_in a) es) _
-        (code_good b around (n + 3 + labels_in a) (k + addressed cond + addresses_in a) es w.1 s.1 d h (omega arith) (omega arith)
+        (all_append good (code_lines p b (n + 3 + labels_in a) (k + addressed cond + addresses_in a) es) _
+        (code_good b around (n + 3 + labels_in a) (k + addressed cond + addresses_in a) es s.1 d h (omega arith) (omega arith)
         (omega arith))
         (both_true _ true (pass.label (n + 2) (omega arith)) refl)))))))
-    code_good (Loop c) around n k es v r d h z l u =
+    code_good (Loop c) around n k es r d h z l u =
         let both = and_parts (nat_lt around deepest) (is_right p f (suc around) c) r in
         both_true _ _ (pass.goes n z (omega arith))
         (both_true _ _ (pass.label n (omega arith))
-        (all_append good (code_lines p.globals c (n + 2) k (es ++ (n + 1) ∷ [])) _
-        (code_good c (suc around) (n + 2) k (es ++ (n + 1) ∷ []) v both.1 (omega (arith, length-append es ((n + 1) ∷ [])))
+        (all_append good (code_lines p c (n + 2) k (es ++ (n + 1) ∷ [])) _
+        (code_good c (suc around) (n + 2) k (es ++ (n + 1) ∷ []) both.1 (omega (arith, length-append es ((n + 1) ∷ [])))
         (more_exits es (n + 1) h (omega arith) (omega arith)) (omega arith) (omega arith) (omega arith))
         (both_true _ _ (pass.goes n z (omega arith)) (both_true _ true (pass.label (n + 1) (omega arith)) refl))))
-    code_good (Leave j) around n k es v r d h z l u =
+    code_good (Leave j) around n k es r d h z l u =
         let lt : j < around = grind (arith, nat_tests) in
         leave_good (exit_at es j) n (exit_inside es (length es - suc j) (omega arith) h) (omega arith)
-    code_good (Call temp name args) around n k es v r d h z l u =
-        let own = built_call p free name f temp args v r in
-        all_append good (arg_lines p.globals args k) _ (called_good temp args k (runtime_function name) own u)
-        (both_true _ true (pass.call temp name args k own u) refl)
-    code_good (Ret value) around n k es v r d h z l u = return_good value n k r (omega arith) u
+    code_good (Call temp name args) around n k es r d h z l u =
+        all_append good (arg_lines p.globals args k) _
+        (args_good (called_params (function_named p.functions name) name) args k
+        (called_args p f temp args name (function_named p.functions name) r) u)
+        (both_true _ true (pass.call temp name args k r u) refl)
+    code_good (Ret value) around n k es r d h z l u = return_good value n k r (omega arith) u
 
-    each_good : (cs : Codes) (around n k : ℕ) (es : List ℕ) → are_built cs ≡ true → are_right p f around cs ≡ true → length es ≡ around →
+    each_good : (cs : Codes) (around n k : ℕ) (es : List ℕ) → are_right p f around cs ≡ true → length es ≡ around →
         list_all inside es ≡ true → 0 < n → n + labels_in_all cs ≤ most_labels → k + addresses_in_all cs ≤ most_addresses
-        → list_all good (each_lines p.globals cs n k es) ≡ true
-    each_good none around n k es v r d h z l u = refl
-    each_good (more c cs) around n k es v r d h z l u =
+        → list_all good (each_lines p cs n k es) ≡ true
+    each_good none around n k es r d h z l u = refl
+    each_good (more c cs) around n k es r d h z l u =
         let both = and_parts (is_right p f around c) (are_right p f around cs) r in
-        let w = and_parts (is_built c) (are_built cs) v in
-        all_append good (code_lines p.globals c n k es) _ (code_good c around n k es w.0 both.0 d h z (omega arith) (omega arith))
-        (each_good cs around (n + labels_in c) (k + addresses_in c) es w.1 both.1 d h (omega arith) (omega arith) (omega arith))
+        all_append good (code_lines p c n k es) _ (code_good c around n k es both.0 d h z (omega arith) (omega arith))
+        (each_good cs around (n + labels_in c) (k + addresses_in c) es both.1 d h (omega arith) (omega arith) (omega arith))
+
+  pub inner_good : is_right p f 0 (code_of f.body) ≡ true → suc (labels_in (code_of f.body)) ≤ most_labels →
+      addresses_in (code_of f.body) ≤ most_addresses → list_all good (frame_lines f.frame) ≡ true → list_all good (inner_lines p f) ≡ true
+  inner_good r l u h = all_append good (frame_lines f.frame) _ h
+      (code_good (code_of f.body) 0 1 0 [] r refl refl (omega arith) (omega arith) (omega arith))

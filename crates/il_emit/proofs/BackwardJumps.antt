@@ -18,7 +18,7 @@ use Rattle.il_code.specs.declared.types.Jump.TheVariants as jump
 use Rattle.il_code.specs.Rules.{has_label, targets_pass}
 use Rattle.hx_base.specs.declared.Class.TheVariants.{W}
 use Rattle.il_emit.specs.Names.{label_name}
-use Rattle.il_emit.specs.Lines.{Line, Label, Do, End, operand, address_lines, arg_lines, return_lines, exit_at, code_lines, each_lines, end_value, function_lines, labels_in, addresses_in}
+use Rattle.il_emit.specs.Lines.{Line, Label, Do, End, operand, address_lines, arg_lines, return_lines, exit_at, code_lines, each_lines, frame_lines, end_value, function_lines, labels_in, addresses_in}
 use Rattle.il_emit.specs.Emitted.{blocks_of}
 use Rattle.il_emit.specs.Shape.{backward_jumps, loops_in, loops_in_all}
 use Rattle.il_emit.proofs.Counts.{both_true, all_append, all_more, or_true}
@@ -100,36 +100,47 @@ module _ (p : FlatProgram) (f : FlatFn) where
     -- where the exits of code stand behind it, only its Loops jump back
     code_back : (c : Code) (around n k : ℕ) (es : List ℕ) (rest : List Line) → is_right p f around c ≡ true →
         length es ≡ around → list_all (stands rest) es ≡ true
-        → back_of (code_lines p.globals c n k es ++ rest) ≤ loops_in c + back_of rest
+        → back_of (code_lines p c n k es ++ rest) ≤ loops_in c + back_of rest
     code_back (Seq cs) around n k es rest r d h =
         let q = and_parts (nat_lt around deepest) (are_right p f (suc around) cs) r in
         let behind = all_append (stands (Label n ∷ rest)) es (n ∷ []) (all_behind es (Label n ∷ []) rest h)
         (both_true (stands (Label n ∷ rest) n) true (stands_here n rest) refl) in
         omega (
           arith,
-          ap back_of (append_assoc (each_lines p.globals cs (suc n) k (es ++ n ∷ [])) (Label n ∷ []) rest),
+          ap back_of (append_assoc (each_lines p cs (suc n) k (es ++ n ∷ [])) (Label n ∷ []) rest),
           each_back cs
               (suc around) (suc n) k (es ++ n ∷ []) (Label n ∷ rest) q.1 (omega (arith, length-append es (n ∷ []))) behind,
         )
     code_back (Set t class o a b) around n k es rest r d h =
-        let same : back_of (code_lines p.globals (Set t class o a b) n k es ++ rest) ≡ back_of rest =
+        let same : back_of (code_lines p (Set t class o a b) n k es ++ rest) ≡ back_of rest =
         ap back_of (append_assoc (address_lines p.globals a k) _ rest) ∙ address_back a k _
         ∙ ap back_of (append_assoc (address_lines p.globals b (k + addressed a)) _ rest) ∙ address_back b (k + addressed a) _ in
         omega (arith, same)
-    code_back (Load t how at) around n k es rest r d h = omega arith
-    code_back (Store width value at) around n k es rest r d h = omega arith
-    code_back (Move to from bytes) around n k es rest r d h = omega arith
+    code_back (Load t how at) around n k es rest r d h =
+        let same : back_of (code_lines p (Load t how at) n k es ++ rest) ≡ back_of rest =
+        ap back_of (append_assoc (address_lines p.globals at k) _ rest) ∙ address_back at k _ in
+        omega (arith, same)
+    code_back (Store width value at) around n k es rest r d h =
+        let same : back_of (code_lines p (Store width value at) n k es ++ rest) ≡ back_of rest =
+        ap back_of (append_assoc (address_lines p.globals value k) _ rest) ∙ address_back value k _
+        ∙ ap back_of (append_assoc (address_lines p.globals at (k + addressed value)) _ rest) ∙ address_back at (k + addressed value) _ in
+        omega (arith, same)
+    code_back (Move to from bytes) around n k es rest r d h =
+        let same : back_of (code_lines p (Move to from bytes) n k es ++ rest) ≡ back_of rest =
+        ap back_of (append_assoc (address_lines p.globals to k) _ rest) ∙ address_back to k _
+        ∙ ap back_of (append_assoc (address_lines p.globals from (k + addressed to)) _ rest) ∙ address_back from (k + addressed to) _ in
+        omega (arith, same)
     code_back (If v a b) around n k es rest r d h =
         let q = and_parts (is_operand p f W v) (is_right p f around a && is_right p f around b)
         r in
         let w = and_parts (is_right p f around a) (is_right p f around b) q.1 in
-        let one = code_lines p.globals a (n + 3) (k + addressed v) es in
-        let other = code_lines p.globals b (n + 3 + labels_in a) (k + addressed v + addresses_in a) es in
+        let one = code_lines p a (n + 3) (k + addressed v) es in
+        let other = code_lines p b (n + 3 + labels_in a) (k + addressed v + addresses_in a) es in
         let tail : List Line = Label (n + 2) ∷ rest in
         let other_side : List Line = Label (n + 1) ∷ (other ++ tail) in
         let over : List Line = End (jump.Jmp (label_name (n + 2))) ∷ other_side in
         let one_side : List Line = Label n ∷ (one ++ over) in
-        let same : code_lines p.globals (If v a b) n k es ++ rest ≡ address_lines p.globals v k ++
+        let same : code_lines p (If v a b) n k es ++ rest ≡ address_lines p.globals v k ++
         (End (jump.Jnz (operand p.globals v k) (label_name n) (label_name (n + 1))) ∷ one_side) =
         append_assoc (address_lines p.globals v k) _ rest
         ∙ ap (λ (x : List Line). address_lines p.globals v k ++
@@ -158,7 +169,7 @@ module _ (p : FlatProgram) (f : FlatFn) where
         )
     code_back (Loop c) around n k es rest r d h =
         let q = and_parts (nat_lt around deepest) (is_right p f (suc around) c) r in
-        let body = code_lines p.globals c (n + 2) k (es ++ (n + 1) ∷ []) in
+        let body = code_lines p c (n + 2) k (es ++ (n + 1) ∷ []) in
         let tail : List Line = End (jump.Jmp (label_name n)) ∷ Label (n + 1) ∷ rest in
         let same = append_assoc body (End (jump.Jmp (label_name n)) ∷ Label (n + 1) ∷ []) rest in
         let enters = back_none (line_blocks (Label n ∷ (body ++ tail))) (jump.Jmp (label_name n)) (stands_here n (body ++ tail)) in
@@ -180,33 +191,39 @@ module _ (p : FlatProgram) (f : FlatFn) where
         let there = stands_behind (exit_at es j) (Label n ∷ []) rest (exit_stands (stands rest) es (length es - suc j) (omega arith) h) in
         omega (arith, back_none (line_blocks (Label n ∷ rest)) (jump.Jmp (label_name (exit_at es j))) there)
     code_back (Call temp name args) around n k es rest r d h =
-        let same : back_of (code_lines p.globals (Call temp name args) n k es ++ rest) ≡ back_of rest =
+        let same : back_of (code_lines p (Call temp name args) n k es ++ rest) ≡ back_of rest =
         ap back_of (append_assoc (arg_lines p.globals args k) _ rest) ∙ args_back args k _ in
         omega (arith, same)
     code_back (Ret value) around n k es rest r d h = omega (arith, return_back value n k rest)
 
     each_back : (cs : Codes) (around n k : ℕ) (es : List ℕ) (rest : List Line) → are_right p f around cs ≡ true →
         length es ≡ around → list_all (stands rest) es ≡ true
-        → back_of (each_lines p.globals cs n k es ++ rest) ≤ loops_in_all cs + back_of rest
+        → back_of (each_lines p cs n k es ++ rest) ≤ loops_in_all cs + back_of rest
     each_back none around n k es rest r d h = omega arith
     each_back (more c cs) around n k es rest r d h =
         let q = and_parts (is_right p f around c) (are_right p f around cs) r in
-        let others = each_lines p.globals cs (n + labels_in c) (k + addresses_in c) es in
+        let others = each_lines p cs (n + labels_in c) (k + addresses_in c) es in
         omega (
           arith,
-          ap back_of (append_assoc (code_lines p.globals c n k es) others rest),
+          ap back_of (append_assoc (code_lines p c n k es) others rest),
           code_back c around n k es (others ++ rest) q.0 d
               (all_behind es others rest h),
           each_back cs around (n + labels_in c) (k + addresses_in c) es rest q.1 d h,
         )
 
-  pub jumps_few : is_right p f 0 (code_of f.body) ≡ true → backward_jumps (blocks_of p.globals f) ≤ loops_in (code_of f.body)
+  frame_back : (n : ℕ) (ls : List Line) → back_of (frame_lines n ++ ls) ≡ back_of ls
+  frame_back zero ls = refl
+  frame_back (suc n) ls = refl
+
+  pub jumps_few : is_right p f 0 (code_of f.body) ≡ true → backward_jumps (blocks_of p f) ≤ loops_in (code_of f.body)
   jumps_few r =
       let last : List Line = End (jump.Ret (end_value f.result)) ∷ [] in
       omega (
         arith,
-        ap backward_jumps (function_blocks p.globals f),
-        back_blocks (function_lines p.globals f),
+        ap backward_jumps (function_blocks p f),
+        back_blocks (function_lines p f),
+        ap back_of (append_assoc (frame_lines f.frame) (code_lines p (code_of f.body) 1 0 []) last),
+        frame_back f.frame (code_lines p (code_of f.body) 1 0 [] ++ last),
         code_back (code_of f.body) 0 1 0
             [] last r refl refl,
       )

@@ -1,11 +1,13 @@
 -- A call of an emitted function costs the stack no more than flat code says.
-use Rattle.std.proofs.Common.{◌≡◌, ℕ, zero, suc, ◌+◌, ◌<◌, ◌≤◌, Bool, true, false, ◌||◌, List, [], ◌∷◌, ◌++◌, map, length, Option, None, Some, refl, sym, ap, ◌∙◌, arith, length-append}
-use Rattle.std.specs.Prelude.{bytes_eq, count_by, sum_by, nat_lt, ◌==◌, if◌then◌else◌}
+use Rattle.std.proofs.Common.{◌≡◌, ℕ, zero, suc, ◌+◌, ◌*◌, ◌<◌, ◌≤◌, Bool, true, false, ◌||◌, List, [], ◌∷◌, ◌++◌, map, length, Option, None, Some, refl, sym, ap, ◌∙◌, arith, length-append}
+use Rattle.std.specs.Prelude.{bytes_eq, count_by, sum_by, max, nat_lt, ◌==◌, if◌then◌else◌}
 use Rattle.std.specs.List.{flat_map, list_all}
 use Rattle.std.proofs.lemmas.Bool.{and_parts}
 use Rattle.std.proofs.lemmas.Bool.Decides.{nat_tests}
 use Rattle.std.proofs.lemmas.Slice.Eq.{bytes_eq-Decides}
 use Rattle.hx_base.specs.declared.Class.{Class}
+use Rattle.hx_base.specs.declared.Class.TheVariants.{L}
+use Rattle.hx_base.specs.Memory.{round_up}
 use Rattle.flat_code.specs.declared.program.FlatFn.{FlatFn}
 use Rattle.flat_code.specs.declared.program.FlatProgram.{FlatProgram}
 use Rattle.flat_code.specs.declared.value.Value.{Value}
@@ -13,10 +15,9 @@ use Rattle.flat_code.specs.Code.{Code, Codes, none, more, Seq, Set, Load, Store,
 use Rattle.flat_code.specs.Costs as flat
 use Rattle.flat_code.specs.Costs.{addressed, addressed_in, addressed_in_all}
 use Rattle.flat_code.specs.Shape.{code_of}
-use Rattle.hx_runtime.specs.Functions.{runtime_params, runtime_result, runtime_function}
-use Rattle.hx_runtime.specs.declared.runtime.RuntimeFunction.{RuntimeFunction}
-use Rattle.flat_code.specs.Temps.{call_class, has_one_class}
-use Rattle.flat_code.specs.WellFormed.{is_right, is_target, is_runtime_call, are_args, takes_result}
+use Rattle.flat_code.specs.Evaluation.{function_named}
+use Rattle.flat_code.specs.Temps.{result_class, has_one_class}
+use Rattle.flat_code.specs.WellFormed.{is_right, is_target, takes_result}
 use Rattle.il_code.specs.declared.types.Block.{Block}
 use Rattle.il_code.specs.declared.types.IlParam.{IlParam}
 use Rattle.il_code.specs.declared.types.IlArg.{IlArg}
@@ -24,13 +25,13 @@ use Rattle.il_code.specs.declared.types.Inst.{Inst}
 use Rattle.il_code.specs.declared.types.Inst.TheVariants as inst
 use Rattle.il_code.specs.declared.types.Jump.TheVariants as jump
 use Rattle.il_code.specs.Machine.{assigned, block_assigned, all_assigned, is_among, distinct, call_cost}
-use Rattle.il_emit.specs.Names.{temp_name, address_name, label_name}
-use Rattle.il_emit.specs.Built.{is_built}
-use Rattle.il_emit.specs.Lines.{Line, End, all_addressed, addresses_in, addresses_in_all, labels_in, code_lines, end_value, result_param}
+use Rattle.il_code.specs.Step.{taken}
+use Rattle.il_emit.specs.Names.{temp_name, address_name, frame_name, label_name}
+use Rattle.il_emit.specs.Lines.{Line, End, all_addressed, addresses_in, addresses_in_all, labels_in, frame_lines, inner_lines, end_value, result_param}
 use Rattle.il_emit.specs.Emitted.{params_of, blocks_of}
-use Rattle.il_emit.proofs.Allowed.{LinesPass, code_good}
+use Rattle.il_emit.proofs.Allowed.{LinesPass, inner_good}
 use Rattle.il_emit.proofs.Blocks.{line_passes, blocks_pass}
-use Rattle.il_emit.proofs.BuiltFunctions.{IsFree}
+use Rattle.il_emit.proofs.Calls.{called_takes}
 use Rattle.il_emit.proofs.Counts.{both_true, all_append, sum_cons, weight, or_true}
 use Rattle.il_emit.proofs.NumberedNames.{bytes_same}
 
@@ -159,10 +160,9 @@ all_flat q g [] h = refl
 all_flat q g (x ∷ xs) h = let k = and_parts (list_all q (g x)) (list_all (λ y. list_all q (g y)) xs) h in all_append q (g x) (flat_map g xs)
     k.0 (all_flat q g xs k.1)
 
-module _ (p : FlatProgram) (free : IsFree p) (f : FlatFn) (built : is_built (code_of f.body) ≡ true)
-    (right : is_right p f 0 (code_of f.body) ≡ true) (few_params : length f.params ≤ f.temps) where
+module _ (p : FlatProgram) (f : FlatFn) (right : is_right p f 0 (code_of f.body) ≡ true) (few_params : length f.params ≤ f.temps) where
   abbrev known : List (List ℕ)
-  known = numbered temp_name 0 f.temps ++ numbered address_name 0 (addresses_in (code_of f.body))
+  known = (numbered temp_name 0 f.temps ++ numbered address_name 0 (addresses_in (code_of f.body))) ++ frame_name ∷ []
 
   abbrev is_known : List ℕ → Bool
   is_known x = is_among x known
@@ -175,11 +175,17 @@ module _ (p : FlatProgram) (free : IsFree p) (f : FlatFn) (built : is_built (cod
 
   temp_known : (t : ℕ) → t < f.temps → is_known (temp_name t) ≡ true
   temp_known t h =
-      among_left (temp_name t) (numbered temp_name 0 f.temps) _ (numbered_among temp_name 0 f.temps t (omega arith) (omega arith))
+      among_left (temp_name t) (numbered temp_name 0 f.temps ++ numbered address_name 0 (addresses_in (code_of f.body))) _
+      (among_left (temp_name t) (numbered temp_name 0 f.temps) _ (numbered_among temp_name 0 f.temps t (omega arith) (omega arith)))
 
   address_known : (k : ℕ) → k < addresses_in (code_of f.body) → is_known (address_name k) ≡ true
-  address_known k h = among_right (address_name k) (numbered temp_name 0 f.temps) _
-      (numbered_among address_name 0 (addresses_in (code_of f.body)) k (omega arith) (omega arith))
+  address_known k h =
+      among_left (address_name k) (numbered temp_name 0 f.temps ++ numbered address_name 0 (addresses_in (code_of f.body))) _
+      (among_right (address_name k) (numbered temp_name 0 f.temps) _
+      (numbered_among address_name 0 (addresses_in (code_of f.body)) k (omega arith) (omega arith)))
+
+  frame_known : is_known frame_name ≡ true
+  frame_known = among_right frame_name (numbered temp_name 0 f.temps ++ numbered address_name 0 (addresses_in (code_of f.body))) _ refl
 
   target_known : (t : ℕ) (class : Class) → is_target p f t class ≡ true → is_known (temp_name t) ≡ true
   target_known t class h =
@@ -187,17 +193,11 @@ module _ (p : FlatProgram) (free : IsFree p) (f : FlatFn) (built : is_built (cod
       let lt : t < f.temps = grind (arith, nat_tests) in
       temp_known t lt
 
-  call_known : (temp : Option ℕ) (args : List Value) (g : Option RuntimeFunction) (is : List IlArg) (name : List ℕ) →
-      is_runtime_call p f temp args g ≡ true → good_inst (inst.Call (result_param temp (call_class g)) name is) ≡ true
-  call_known temp args None is name h = cc
-  call_known temp args (Some g) is name h = taken temp (runtime_result g)
-      (and_parts (are_args p f (runtime_params g) args) (takes_result p f temp (runtime_result g)) h).1
-    where
-      taken : (temp : Option ℕ) (class : Option Class) → takes_result p f temp class ≡ true →
-          good_inst (inst.Call (result_param temp class) name is) ≡ true
-      taken None class h = refl
-      taken (Some t) None h = cc
-      taken (Some t) (Some class) h = both_true _ true (target_known t class h) refl
+  result_known : (temp : Option ℕ) (class : Option Class) (name : List ℕ) (is : List IlArg) → takes_result p f temp class ≡ true →
+      good_inst (inst.Call (result_param temp class) name is) ≡ true
+  result_known None class name is h = refl
+  result_known (Some t) None name is h = cc
+  result_known (Some t) (Some class) name is h = both_true _ true (target_known t class h) refl
 
   lines_known : LinesPass p f good (suc (labels_in (code_of f.body))) (addresses_in (code_of f.body))
   lines_known = record {
@@ -207,19 +207,27 @@ module _ (p : FlatProgram) (free : IsFree p) (f : FlatFn) (built : is_built (cod
     returns = λ r. refl;
     returns_value = λ v k r u. refl;
     set = λ t class o a b k r u. both_true _ true (target_known t class (and_parts (is_target p f t class) _ r).0) refl;
-    call = λ temp name args k r u. call_known temp args (runtime_function name) _ name r;
+    load = λ t how at k r u. both_true _ true (target_known t L (and_parts (is_target p f t L) _ r).0) refl;
+    store = λ width value at k r u. refl;
+    move = λ to from bytes k r u. refl;
+    call = λ temp name args k r u. result_known temp (result_class p name) name _
+        (called_takes p f temp args name (function_named p.functions name) r);
+    place = λ offset k h l. both_true _ true (address_known k l) refl;
     address = λ i offset k h b l. both_true _ true (address_known k l) refl;
   }
 
-  blocks_known : list_all (λ (b : Block). list_all is_known (block_assigned b)) (blocks_of p.globals f) ≡ true
+  frame_lines_known : (n : ℕ) → list_all good (frame_lines n) ≡ true
+  frame_lines_known zero = refl
+  frame_lines_known (suc n) = both_true _ true (both_true _ true frame_known refl) refl
+
+  blocks_known : list_all (λ (b : Block). list_all is_known (block_assigned b)) (blocks_of p f) ≡ true
   blocks_known =
       blocks_pass (λ n. true) good_inst (λ j. true) refl (λ (b : Block). list_all is_known (block_assigned b))
       (λ s n is j e l h k. all_flat is_known assigned is h)
-      [] (label_name 0) 0 [] true (code_lines p.globals (code_of f.body) 1 0 [] ++ End (jump.Ret (end_value f.result)) ∷ []) refl refl refl
-      refl
-      (all_append good (code_lines p.globals (code_of f.body) 1 0 []) _
-      (code_good p f good (suc (labels_in (code_of f.body))) (addresses_in (code_of f.body)) lines_known free (code_of f.body) 0 1 0 []
-      built right refl refl (omega arith) (omega arith) (omega arith)) refl)
+      [] (label_name 0) 0 [] true (inner_lines p f ++ End (jump.Ret (end_value f.result)) ∷ []) refl refl refl refl
+      (all_append good (inner_lines p f) _
+      (inner_good p f good (suc (labels_in (code_of f.body))) (addresses_in (code_of f.body)) lines_known right (omega arith) (omega arith)
+      (frame_lines_known f.frame)) refl)
 
   params_known : (at : ℕ) (cs : List Class) → at + length cs ≤ f.temps → list_all is_known (map (λ (p : IlParam). p.name) (params_of at cs))
       ≡ true
@@ -252,16 +260,32 @@ module _ (p : FlatProgram) (free : IsFree p) (f : FlatFn) (built : is_built (cod
 
   -- ---- the cost
 
-  pub costs_no_more : call_cost (params_of 0 f.params) (blocks_of p.globals f) ≤ flat.call_cost f
+  -- without the frame itself
+  pub costs_no_more : call_cost (params_of 0 f.params) (blocks_of p f) ≤ 64 + 8 * (f.temps + addressed_in (code_of f.body) + 1)
   costs_no_more =
-      let names = all_append is_known (map (λ (p : IlParam). p.name) (params_of 0 f.params)) (flat_map block_assigned (blocks_of p.globals f))
-      (params_known 0 f.params (omega arith)) (all_flat is_known block_assigned (blocks_of p.globals f) blocks_known) in
+      let names = all_append is_known (map (λ (p : IlParam). p.name) (params_of 0 f.params)) (flat_map block_assigned (blocks_of p f))
+      (params_known 0 f.params (omega arith)) (all_flat is_known block_assigned (blocks_of p f) blocks_known) in
       omega (
         arith,
-        distinct_length (all_assigned (params_of 0 f.params) (blocks_of p.globals f)) known names,
+        distinct_length (all_assigned (params_of 0 f.params) (blocks_of p f)) known names,
+        length-append
+            (numbered temp_name 0 f.temps ++ numbered address_name 0 (addresses_in (code_of f.body))) (frame_name ∷ []),
         length-append
             (numbered temp_name 0 f.temps) (numbered address_name 0 (addresses_in (code_of f.body))),
         numbered_length temp_name 0 f.temps,
         numbered_length address_name 0 (addresses_in (code_of f.body)),
         addresses_few (code_of f.body),
       )
+
+-- what a frame takes of the stack: nothing where it has no bytes
+abbrev pub frame_cost : ℕ → ℕ
+frame_cost zero = 0
+frame_cost (suc n) = taken (suc n)
+
+pub full_costs : (p : FlatProgram) (f : FlatFn) → is_right p f 0 (code_of f.body) ≡ true → length f.params ≤ f.temps →
+    call_cost (params_of 0 f.params) (blocks_of p f) + frame_cost f.frame ≤ flat.call_cost f
+full_costs p f right few = let c = costs_no_more p f right few in let k = at_most f.frame in omega arith
+  where
+    at_most : (n : ℕ) → frame_cost n ≤ round_up (max 1 n) 16
+    at_most zero = omega arith
+    at_most (suc n) = omega arith

@@ -1,6 +1,6 @@
 -- A function of a well formed program becomes one that keeps the rules of the intermediate language.
-use Rattle.std.proofs.Common.{◌≡◌, ℕ, suc, ◌+◌, ◌<◌, ◌≤◌, ◌^◌, Bool, true, false, cond, not, ◌&&◌, ◌||◌, List, [], ◌∷◌, ◌++◌, length, Option, None, Some, refl, sym, ap, ◌∙◌, subst, arith, inl, inr}
-use Rattle.std.specs.Prelude.{bytes_eq, codes, count_by, nat_le, ◌==◌}
+use Rattle.std.proofs.Common.{◌≡◌, ℕ, zero, suc, ◌+◌, ◌<◌, ◌≤◌, ◌^◌, Bool, true, false, cond, not, ◌&&◌, ◌||◌, List, [], ◌∷◌, ◌++◌, length, Option, None, Some, refl, sym, ap, ◌∙◌, subst, arith, inl, inr}
+use Rattle.std.specs.Prelude.{bytes_eq, codes, count_by, nat_le, nat_lt, ◌==◌}
 use Rattle.std.specs.List.{list_all, list_any}
 use Rattle.std.proofs.lemmas.Bool.{and_parts, or_cases}
 use Rattle.std.proofs.lemmas.Bool.Decides.{nat_tests}
@@ -9,6 +9,7 @@ use Rattle.hx_base.specs.declared.Class.TheVariants.{W, L}
 use Rattle.flat_code.specs.declared.program.FlatFn.{FlatFn}
 use Rattle.flat_code.specs.declared.program.FlatProgram.{FlatProgram}
 use Rattle.flat_code.specs.Code.{Code}
+use Rattle.flat_code.specs.Evaluation as evaluation
 use Rattle.flat_code.specs.Shape.{code_of}
 use Rattle.flat_code.specs.Temps.{params_set, code_sets, has_one_class, other_class}
 use Rattle.flat_code.specs.Temps as flat
@@ -20,23 +21,21 @@ use Rattle.il_code.specs.declared.types.Inst.{Inst}
 use Rattle.il_code.specs.declared.types.Jump.{Jump}
 use Rattle.il_code.specs.declared.types.Jump.TheVariants as jump
 use Rattle.il_code.specs.Rules as rule
-use Rattle.hx_runtime.specs.Functions.{runtime_function}
-use Rattle.hx_runtime.specs.declared.runtime.RuntimeFunction.{RuntimeFunction}
 use Rattle.il_code.specs.Items.{function_named}
 use Rattle.il_code.specs.Rules.{item_name, how_many, are_distinct, has_named, has_label, labels_known, block_labels_known, targets_pass, start_is_no_target, phis_are_placed, is_set, sets, result_sets, inst_sets, block_sets, inst_has_one_class, block_has_one_class, each_has_one_class, inst_is_right, jump_is_right, return_is_right, block_is_right, has_own_names, flow_is_right, item_is_right}
 use Rattle.il_code.specs.Shaped.{is_param, is_inst, is_jump, is_block, is_item}
-use Rattle.il_emit.specs.Names.{temp_name, address_name, label_name}
-use Rattle.il_emit.specs.Built.{is_built, is_function_built}
-use Rattle.il_emit.specs.Lines.{Line, Label, Do, End, name_at, end_value, result_param, code_lines, labels_in, addresses_in}
+use Rattle.il_emit.specs.Names.{temp_name, address_name, frame_name, label_name}
+use Rattle.il_emit.specs.Lines.{Line, Label, Do, End, name_at, end_value, result_param, frame_lines, inner_lines, labels_in, addresses_in}
 use Rattle.il_emit.specs.Emitted.{params_of, blocks_of, function_item}
 use Rattle.il_emit.specs.Numbered.{HasFewNames}
-use Rattle.il_emit.proofs.Allowed.{LinesPass, code_good}
+use Rattle.il_emit.proofs.Allowed.{LinesPass, inner_good}
 use Rattle.il_emit.proofs.Blocks.{block, tidy, line_passes, lines_any, blocks_pass, any_open, count_open, starts_open, no_target, blocks_end, no_phis_placed}
-use Rattle.il_emit.proofs.BuiltFunctions.{is_emitted, IsFree}
 use Rattle.il_emit.proofs.Counts.{both_true, or_true, all_append, all_more, sum_cons, weight, either}
+use Rattle.il_emit.proofs.EachInst.{passes}
+use Rattle.il_emit.proofs.NamedFunctions.{emitted}
 use Rattle.il_emit.proofs.NumberedNames.{temp_identifier, label_identifier, temp_eq, label_eq}
-use Rattle.il_emit.proofs.Numbering.{code_tidy, within, within_in, code_labels, code_sets_is, params_sets_is, code_below, params_below, code_there}
-use Rattle.il_emit.proofs.Rightful.{Names, good_inst, good_jump, good_label, lines_pass}
+use Rattle.il_emit.proofs.Numbering.{inner_tidy, within, within_in, inner_labels, inner_sets_is, params_sets_is, code_below, params_below, inner_there, frame_there}
+use Rattle.il_emit.proofs.Rightful.{Names, good_inst, good_jump, good_label, params_length, lines_pass}
 
 -- what is not there is not counted
 nowhere : {A : Type 0} (q : A → Bool) (ys : List A) → list_any q ys ≡ false → count_by q ys ≡ 0
@@ -55,35 +54,50 @@ counted q xs h = pick (list_any q xs) refl
     pick true e = refl
     pick false e = absurd (omega (arith, h, nowhere q xs e))
 
--- ---- no address is a word
+-- ---- neither an address nor that of the frame is a word
 
-abbrev no_word_line : ℕ → Line → Bool
-no_word_line k = line_passes (λ n. true) (λ i. not (inst_sets (address_name k) W i)) (λ j. true)
+-- no temporary of flat code has the name
+abbrev IsApart : List ℕ → Type 0
+IsApart name = (t : ℕ) → bytes_eq (temp_name t) name ≡ false
 
-result_no_word : (k : ℕ) (temp : Option ℕ) (given : Option Class) → not (result_sets (address_name k) W (result_param temp given)) ≡ true
-result_no_word k None given = refl
-result_no_word k (Some t) None = refl
-result_no_word k (Some t) (Some c) = refl
+abbrev no_word : List ℕ → Inst → Bool
+no_word name i = not (inst_sets name W i)
+
+set_no_word : (name : List ℕ) → IsApart name → (t : ℕ) (class : Class) → not (sets name W (temp_name t) class) ≡ true
+set_no_word name apart t class = ap (λ (b : Bool). not (b && rule.same_class class W)) (apart t)
+
+result_no_word : (name : List ℕ) → IsApart name → (temp : Option ℕ) (given : Option Class) →
+    not (result_sets name W (result_param temp given)) ≡ true
+result_no_word name apart None given = refl
+result_no_word name apart (Some t) None = refl
+result_no_word name apart (Some t) (Some c) = set_no_word name apart t c
 
 and_false : (b : Bool) → not (b && false) ≡ true
 and_false true = refl
 and_false false = refl
 
-no_word_lines : (p : FlatProgram) (f : FlatFn) (k : ℕ) (most_labels most_addresses : ℕ) →
-    LinesPass p f (no_word_line k) most_labels most_addresses
-no_word_lines p f k most_labels most_addresses = record {
+no_word_lines : (p : FlatProgram) (f : FlatFn) (name : List ℕ) → IsApart name → (most_labels most_addresses : ℕ) →
+    LinesPass p f (passes (no_word name)) most_labels most_addresses
+no_word_lines p f name apart most_labels most_addresses = record {
   label = λ n h. refl;
   goes = λ n l u. refl;
   branch = λ v j n m r u a b c d. refl;
   returns = λ r. refl;
   returns_value = λ v j r u. refl;
-  set = λ t class o a b j r u. refl;
-  call = λ temp name args j r u. result_no_word k temp _;
-  address = λ i offset j h b l. and_false (bytes_eq (address_name j) (address_name k));
+  set = λ t class o a b j r u. set_no_word name apart t class;
+  load = λ t how at j r u. set_no_word name apart t L;
+  store = λ width value at j r u. refl;
+  move = λ to from bytes j r u. refl;
+  call = λ temp target args j r u. result_no_word name apart temp _;
+  place = λ offset j h l. and_false (bytes_eq (address_name j) name);
+  address = λ i offset j h b l. and_false (bytes_eq (address_name j) name);
 }
 
-none_any : (q : Inst → Bool) (lines : List Line) → list_all (line_passes (λ n. true) (λ i. not (q i)) (λ j. true)) lines ≡ true →
-    lines_any q lines ≡ false
+frame_no_word : (name : List ℕ) (n : ℕ) → list_all (passes (no_word name)) (frame_lines n) ≡ true
+frame_no_word name zero = refl
+frame_no_word name (suc n) = both_true _ true (and_false (bytes_eq frame_name name)) refl
+
+none_any : (q : Inst → Bool) (lines : List Line) → list_all (passes (λ i. not (q i))) lines ≡ true → lines_any q lines ≡ false
 none_any q [] h = refl
 none_any q (Label n ∷ lines) h = none_any q lines h
 none_any q (End j ∷ lines) h = none_any q lines h
@@ -93,15 +107,13 @@ none_any q (Do i ∷ lines) h = pick (q i) (and_parts (not (q i)) _ h).0 (none_a
     pick true e on = cc
     pick false e on = on
 
-params_no_word : (k at : ℕ) (cs : List Class) → list_any (λ (p : IlParam). sets (address_name k) W p.name p.class) (params_of at cs) ≡ false
-params_no_word k at [] = refl
-params_no_word k at (c ∷ cs) = params_no_word k (suc at) cs
+params_no_word : (name : List ℕ) → IsApart name → (at : ℕ) (cs : List Class) →
+    list_any (λ (p : IlParam). sets name W p.name p.class) (params_of at cs) ≡ false
+params_no_word name apart at [] = refl
+params_no_word name apart at (c ∷ cs) =
+    either _ _ false false (ap (λ (b : Bool). b && rule.same_class c W) (apart at)) (params_no_word name apart (suc at) cs)
 
 -- ---- parameters
-
-params_length : (at : ℕ) (cs : List Class) → length (params_of at cs) ≡ length cs
-params_length at [] = refl
-params_length at (c ∷ cs) = omega (arith, params_length (suc at) cs)
 
 params_spelled : (at : ℕ) (cs : List Class) → at + length cs ≤ 2 ^ 64 → list_all is_param (params_of at cs) ≡ true
 params_spelled at [] h = refl
@@ -135,16 +147,14 @@ record Parts (p : FlatProgram) (f : FlatFn) : Type 0 where
   symbol : is_symbol f.name ≡ true
   main : is_main_right f ≡ true
   few_params : nat_le (length f.params) f.temps ≡ true
-  frame : (f.frame == 0) ≡ true
-  built : is_built (code_of f.body) ≡ true
   one_class : params_have_one_class p f 0 f.params ≡ true
   code : is_right p f 0 (code_of f.body) ≡ true
 
-module _ (p : FlatProgram) (free : IsFree p) (f : FlatFn) (items : List IlItem) (right : is_emitted p f ≡ true)
-    (few : HasFewNames f)
+module _ (p : FlatProgram) (f : FlatFn) (items : List IlItem) (right : is_function_right p f ≡ true) (few : HasFewNames f)
     (identifiers : (i : ℕ) → i < length p.globals → is_identifier (name_at p.globals i) ≡ true)
     (symbols : (i : ℕ) → i < length p.globals → has_named item_name (name_at p.globals i) items ≡ true)
-    (no_code : (name : List ℕ) (g : RuntimeFunction) → runtime_function name ≡ Some g → function_named items name ≡ None) where
+    (functions : (name : List ℕ) → function_named items name ≡ emitted p (evaluation.function_named p.functions name))
+    (called : (name : List ℕ) (g : FlatFn) → evaluation.function_named p.functions name ≡ Some g → is_identifier name ≡ true) where
   abbrev body : Code
   body = code_of f.body
 
@@ -152,7 +162,7 @@ module _ (p : FlatProgram) (free : IsFree p) (f : FlatFn) (items : List IlItem) 
   most_labels = suc (labels_in body)
 
   abbrev lines : List Line
-  lines = code_lines p.globals body 1 0 []
+  lines = inner_lines p f
 
   abbrev last : Jump
   last = jump.Ret (end_value f.result)
@@ -161,24 +171,22 @@ module _ (p : FlatProgram) (free : IsFree p) (f : FlatFn) (items : List IlItem) 
   params = params_of 0 f.params
 
   abbrev blocks : List Block
-  blocks = blocks_of p.globals f
+  blocks = blocks_of p f
 
   parts : Parts p f
   parts =
-      let e = and_parts (is_function_right p f) (is_function_built f) right in
-      let a = and_parts (is_symbol f.name) _ e.0 in
+      let a = and_parts (is_symbol f.name) _ right in
       let b = and_parts (is_main_right f) _ a.1 in
       let c = and_parts (nat_le (length f.params) f.temps) _ b.1 in
       let d = and_parts (nests_within body deepest) _ c.1 in
       let g = and_parts (params_have_one_class p f 0 f.params) (is_right p f 0 body) d.1 in
-      let h = and_parts (f.frame == 0) (is_built body) e.1 in
-      record { symbol = a.0; main = b.0; few_params = c.0; frame = h.0; built = h.1; one_class = g.0; code = g.1 }
+      record { symbol = a.0; main = b.0; few_params = c.0; one_class = g.0; code = g.1 }
 
   params_few : length f.params ≤ f.temps
   params_few = let z = parts.few_params in grind (arith, nat_tests)
 
   tidy_lines : tidy true lines ≡ true
-  tidy_lines = code_tidy p.globals body 1 0 []
+  tidy_lines = inner_tidy p f
 
   label_count : (n : ℕ) → n < most_labels → how_many (λ (b : Block). b.label) (label_name n) blocks ≡ 1
   label_count n h =
@@ -187,7 +195,7 @@ module _ (p : FlatProgram) (free : IsFree p) (f : FlatFn) (items : List IlItem) 
       ∙ omega (
         arith,
         ap weight (label_eq 0 n (omega arith) (omega arith)),
-        code_labels p.globals n (omega arith) body 1 0 [] (omega arith),
+        inner_labels p n (omega arith) f (omega arith),
         within_in n 0 most_labels (omega arith) (omega arith),
       )
 
@@ -195,49 +203,55 @@ module _ (p : FlatProgram) (free : IsFree p) (f : FlatFn) (items : List IlItem) 
   set_is t class h =
       let s = few.temps in
       let z = params_few in
-      either _ _ _ _ (params_sets_is p free f s t (omega arith) class 0 f.params (omega arith))
+      either _ _ _ _ (params_sets_is p f s t (omega arith) class 0 f.params (omega arith))
       (any_open (inst_sets (temp_name t) class) (block_sets (temp_name t) class) (λ l is j. refl) [] (label_name 0) [] lines last tidy_lines
-      ∙ code_sets_is p free f s t (omega arith) class body 0 1 0 [] parts.built parts.code)
+      ∙ inner_sets_is p f s t (omega arith) class parts.code)
 
   below : (t : ℕ) (class : Class) → flat.is_set p f t class ≡ true → t < f.temps
   below t class e =
       let z = params_few in
       elim (or_cases (params_set t class 0 f.params) (code_sets p t class body) e) [
-        | inl h ↦ let k = params_below p free f t class 0 f.params h in omega (arith, k)
-        | inr h ↦ code_below p free f t class body 0 parts.built parts.code h
+        | inl h ↦ let k = params_below p f t class 0 f.params h in omega (arith, k)
+        | inr h ↦ code_below p f t class body 0 parts.code h
       ]
-
-  no_frame : f.frame ≡ 0
-  no_frame = let z = parts.frame in grind (arith, nat_tests)
 
   computed : (k : ℕ) → k < addresses_in body → is_set params blocks (address_name k) L ≡ true
   computed k h =
       or_true _ _ (any_open (inst_sets (address_name k) L) (block_sets (address_name k) L) (λ l is j. refl) [] (label_name 0) [] lines last
       tidy_lines
-      ∙ code_there p f no_frame k body 0 1 0 [] parts.code (omega arith) (omega arith))
+      ∙ inner_there p f k parts.code h)
 
-  no_word : (k : ℕ) → is_set params blocks (address_name k) W ≡ false
-  no_word k =
-      either _ _ false false (params_no_word k 0 f.params)
-      (any_open (inst_sets (address_name k) W) (block_sets (address_name k) W) (λ l is j. refl) [] (label_name 0) [] lines last tidy_lines
-      ∙ none_any (inst_sets (address_name k) W) lines
-      (code_good p f (no_word_line k) most_labels (addresses_in body) (no_word_lines p f k most_labels (addresses_in body))
-      free body 0 1 0 [] parts.built parts.code refl refl (omega arith) (omega arith) (omega arith)))
+  framed : 0 < f.frame → is_set params blocks frame_name L ≡ true
+  framed h =
+      or_true _ _ (any_open (inst_sets frame_name L) (block_sets frame_name L) (λ l is j. refl) [] (label_name 0) [] lines last
+      tidy_lines
+      ∙ frame_there p f h)
+
+  never_word : (name : List ℕ) → IsApart name → is_set params blocks name W ≡ false
+  never_word name apart =
+      either _ _ false false (params_no_word name apart 0 f.params)
+      (any_open (inst_sets name W) (block_sets name W) (λ l is j. refl) [] (label_name 0) [] lines last tidy_lines
+      ∙ none_any (inst_sets name W) lines
+      (inner_good p f (passes (no_word name)) most_labels (addresses_in body) (no_word_lines p f name apart most_labels (addresses_in body))
+      parts.code (omega arith) (omega arith) (frame_no_word name f.frame)))
 
   names : Names p f items params blocks most_labels (addresses_in body)
   names = record {
     few_labels = let s = few.labels in omega arith;
     few_addresses = let s = few.addresses in omega arith;
     few_temps = few.temps;
-    no_frame = no_frame;
+    few_frame = few.frame;
     set_is = set_is;
     below = below;
     computed = computed;
-    no_word = no_word;
+    no_word = λ k. never_word (address_name k) (λ t. refl);
+    framed = framed;
+    no_frame_word = never_word frame_name (λ t. refl);
     labels = λ n h. counted (λ (b : Block). bytes_eq b.label (label_name n)) blocks (label_count n h);
     identifiers = identifiers;
     symbols = symbols;
-    no_code = no_code;
+    functions = functions;
+    called = called;
   }
 
   abbrev inst_good : Inst → Bool
@@ -251,13 +265,21 @@ module _ (p : FlatProgram) (free : IsFree p) (f : FlatFn) (items : List IlItem) 
   last_right None = (refl, refl)
   last_right (Some c) = (refl, refl)
 
+  frame_good : (n : ℕ) → n < 2 ^ 64 → list_all (line_passes (good_label most_labels) inst_good jump_good) (frame_lines n) ≡ true
+  frame_good zero h = refl
+  frame_good (suc n) h =
+      let bits : nat_lt (suc n) (2 ^ 64) ≡ true = grind (arith, nat_tests) in
+      both_true _ true
+      (both_true _ _ (both_true _ true bits refl)
+      (both_true _ true (ap not (never_word frame_name (λ t. refl))) refl)) refl
+
   all_lines : list_all (line_passes (good_label most_labels) inst_good jump_good) (lines ++ End last ∷ []) ≡ true
   all_lines =
       let e = last_right f.result in
       all_append _ lines (End last ∷ [])
-      (code_good p f (line_passes (good_label most_labels) inst_good jump_good) most_labels (addresses_in body)
-      (lines_pass p f items params blocks most_labels (addresses_in body) names) free body 0 1 0 [] parts.built parts.code refl refl (omega arith)
-      (omega arith) (omega arith))
+      (inner_good p f (line_passes (good_label most_labels) inst_good jump_good) most_labels (addresses_in body)
+      (lines_pass p f items params blocks most_labels (addresses_in body) names) parts.code (omega arith) (omega arith)
+      (frame_good f.frame few.frame))
       (both_true _ true (both_true _ _ e.0 e.1) refl)
 
   -- a test that blocks of good lines pass
@@ -280,7 +302,7 @@ module _ (p : FlatProgram) (free : IsFree p) (f : FlatFn) (items : List IlItem) 
       let c = and_parts (targets_pass (λ l. not (bytes_eq l (label_name 0))) j) _ b.1 in
       record { spelled = a.0; known = b.0; no_start = c.0; fits = c.1 }
 
-  pub shaped : is_item (function_item p.globals f) ≡ true
+  pub shaped : is_item (function_item p f) ≡ true
   shaped =
       let z = params_few in
       let s = few.temps in
@@ -295,7 +317,7 @@ module _ (p : FlatProgram) (free : IsFree p) (f : FlatFn) (items : List IlItem) 
           both_true _ _ (label_identifier n (omega arith))
           (both_true _ _ (all_more inst_good is_inst (λ i e. (and_parts (is_inst i) _ e).0) is h) (jump_parts j k).spelled)
 
-  pub own_names : has_own_names (function_item p.globals f) ≡ true
+  pub own_names : has_own_names (function_item p f) ≡ true
   own_names =
       let z = params_few in
       let s = few.temps in
@@ -305,7 +327,7 @@ module _ (p : FlatProgram) (free : IsFree p) (f : FlatFn) (items : List IlItem) 
       (each_block (λ (b : Block). how_many (λ (x : Block). x.label) b.label blocks == 1)
       (λ n is j l h k. ap (λ (m : ℕ). m == 1) (label_count n l))))
 
-  pub flows : flow_is_right (function_item p.globals f) ≡ true
+  pub flows : flow_is_right (function_item p f) ≡ true
   flows =
       both_true _ _ (each_block (block_labels_known blocks) (λ n is j l h k. both_true _ _ (jump_parts j k).known refl))
       (both_true _ _ (no_target (label_name 0) blocks (starts_open (label_name 0) [] lines last)
@@ -320,7 +342,7 @@ module _ (p : FlatProgram) (free : IsFree p) (f : FlatFn) (items : List IlItem) 
       let both = and_parts (has_one_class p f at c) (params_have_one_class p f (suc at) cs) h in
       both_true _ _ (ap not (set_is at (other_class c) (omega arith)) ∙ both.0) (params_one_class (suc at) cs (omega arith) both.1)
 
-  pub rightful : item_is_right items (function_item p.globals f) ≡ true
+  pub rightful : item_is_right items (function_item p f) ≡ true
   rightful =
       both_true _ _ (ap (λ (m : ℕ). not (bytes_eq f.name (codes "main")) || (m == 0 && rule.no_long f.result)) (params_length 0 f.params) ∙
       parts.main)

@@ -1,13 +1,13 @@
 -- Globals stand at the same addresses on both sides, and a run begins with the same memory.
-use Rattle.std.proofs.Common.{◌≡◌, ℕ, zero, suc, ◌+◌, ◌-◌, ◌*◌, ◌%◌, ◌^◌, ◌<◌, ◌≤◌, Bool, true, false, ◌||◌, List, [], ◌∷◌, ◌++◌, map, length, Option, None, Some, refl, sym, ap, ◌∙◌, subst, arith, append_assoc, append-nil}
-use Rattle.std.specs.Prelude.{bytes_eq, count_by, sum_by, max, slice_get, slice_index_or, ◌==◌}
+use Rattle.std.proofs.Common.{◌≡◌, ℕ, zero, suc, ◌+◌, ◌%◌, ◌^◌, ◌<◌, ◌≤◌, Bool, true, false, ◌||◌, List, [], ◌∷◌, ◌++◌, map, length, Some, refl, sym, ap, ◌∙◌, subst, arith, append_assoc, append-nil}
+use Rattle.std.specs.Prelude.{bytes_eq, sum_by, max, slice_get, slice_index_or, ◌==◌}
 use Rattle.std.specs.List.{flat_map, list_all, list_any}
 use Rattle.std.proofs.lemmas.Bool.{and_parts}
 use Rattle.std.proofs.lemmas.Bool.Decides.{nat_tests}
 use Rattle.std.proofs.lemmas.Grind.{common_steps, flat_map-append}
 use Rattle.std.proofs.lemmas.List.Sums.{sum_by-append}
 use Rattle.hx_base.specs.Memory.{Memory, le_bytes, round_up, map_range, write, empty_memory}
-use Rattle.hx_base.specs.Runtime.{lookup, with_arguments, function_step, functions_start, data_start, or_zero}
+use Rattle.hx_base.specs.Runtime.{lookup, with_arguments, functions_start, data_start, or_zero}
 use Rattle.flat_code.specs.declared.program.Data.{Data}
 use Rattle.flat_code.specs.declared.program.FlatFn.{FlatFn}
 use Rattle.flat_code.specs.declared.program.FlatProgram.{FlatProgram}
@@ -26,7 +26,7 @@ use Rattle.il_code.specs.Addresses.{width_bytes, value_size, part_size, data_siz
 use Rattle.il_code.specs.Tokens.{is_string_byte}
 use Rattle.il_emit.specs.Lines.{name_of, name_at}
 use Rattle.il_emit.specs.Emitted.{string_of, byte_values, bytes_part, item_parts, parts_of, data_item, function_item, module_of}
-use Rattle.il_emit.proofs.Counts.{sum_cons, weight, or_true}
+use Rattle.il_emit.proofs.Counts.{sum_cons, or_true}
 use Rattle.il_emit.proofs.NumberedNames.{bytes_same}
 use Rattle.il_emit.proofs.Smalls.{values_size}
 
@@ -158,25 +158,25 @@ module _ (p : FlatProgram) (m : Module)
 
   -- ---- memory
 
-  functions_take_none : (memory : Memory) (globals : List Data) (fs : List FlatFn) →
-      with_data m memory (map (function_item globals) fs) ≡ memory
-  functions_take_none memory globals [] = refl
-  functions_take_none memory globals (f ∷ fs) = functions_take_none memory globals fs
+  functions_take_none : (memory : Memory) (q : FlatProgram) (fs : List FlatFn) →
+      with_data m memory (map (function_item q) fs) ≡ memory
+  functions_take_none memory q [] = refl
+  functions_take_none memory q (f ∷ fs) = functions_take_none memory q fs
 
   -- globals that stand from `at` on, as the module has them
   pub same_data : (at : ℕ) (memory : Memory) (ds : List Data) (fs : List FlatFn) → list_all (is_global p) ds ≡ true
       → ((i : ℕ) → i < length ds → address m (name_at ds i) ≡ (slice_index_or (addresses_from at ds) i ([], 0)).1)
-      → with_data m memory (map data_item ds ++ map (function_item p.globals) fs) ≡ with_globals p memory at ds
-  same_data at memory [] fs h places = functions_take_none memory p.globals fs
+      → with_data m memory (map data_item ds ++ map (function_item p) fs) ≡ with_globals p memory at ds
+  same_data at memory [] fs h places = functions_take_none memory p fs
   same_data at memory (d ∷ ds) fs h places =
       let k = and_parts (is_global p d) (list_all (is_global p) ds) h in
-      ap (λ (x : ℕ). with_data m (with_item m memory x (parts_of d.items)) (map data_item ds ++ map (function_item p.globals) fs))
+      ap (λ (x : ℕ). with_data m (with_item m memory x (parts_of d.items)) (map data_item ds ++ map (function_item p) fs))
       (places 0 (omega arith))
       ∙ ap (λ (xs : List ℕ). with_data m
       (map_range (write memory (round_up at d.align) xs) (round_up at d.align) (data_size (parts_of d.items)))
-      (map data_item ds ++ map (function_item p.globals) fs)) (items_bytes d.items (global_items p d k.0))
+      (map data_item ds ++ map (function_item p) fs)) (items_bytes d.items (global_items p d k.0))
       ∙ ap (λ (n : ℕ). with_data m (map_range (write memory (round_up at d.align) (flat_map (item_bytes p) d.items)) (round_up at d.align)
-      n) (map data_item ds ++ map (function_item p.globals) fs)) (global_bytes p d k.0)
+      n) (map data_item ds ++ map (function_item p) fs)) (global_bytes p d k.0)
       ∙ same_data (round_up at d.align + flat.data_size d) (with_global p memory (round_up at d.align) d) ds fs k.1
       (λ i l. places (suc i) (omega arith))
 
@@ -192,8 +192,8 @@ module _ (p : FlatProgram) (w : IsWellFormed p) where
       differ ds i (and_parts (how_many p d.name == 1) (list_all (λ (x : Data). how_many p x.name == 1) ds) h).1 (omega arith)
 
   symbols : symbols_from functions_start data_start (module_of p).items ≡ addresses_from data_start p.globals ++
-      symbols_from functions_start (behind_globals p data_start p.globals) (map (function_item p.globals) p.functions)
-  symbols = symbols_are p functions_start data_start p.globals (map (function_item p.globals) p.functions) w.globals
+      symbols_from functions_start (behind_globals p data_start p.globals) (map (function_item p) p.functions)
+  symbols = symbols_are p functions_start data_start p.globals (map (function_item p) p.functions) w.globals
 
   looked_up : (name : List ℕ) → has_global p name ≡ true → lookup name (symbols_from functions_start data_start (module_of p).items) ≡
       lookup name (addresses_from data_start p.globals)

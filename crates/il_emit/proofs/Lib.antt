@@ -1,13 +1,14 @@
 pub mod Drafts
 pub mod Emitting
+pub mod Sources
 pub mod Counts
-pub mod BuiltFunctions
-pub mod BuiltTest
-pub mod Smalls
+pub mod Calls
 pub mod NumberedNames
 pub mod Blocks
 pub mod Numbering
 pub mod Allowed
+pub mod EachInst
+pub mod Smalls
 pub mod Operations
 pub mod Rightful
 pub mod Functions
@@ -19,6 +20,7 @@ pub mod Meeting
 pub mod Operands
 pub mod Outcomes
 pub mod Forms
+pub mod Calling
 pub mod Turns
 pub mod GlobalAddresses
 pub mod CallCosts
@@ -28,4 +30,5 @@ pub mod BackwardJumps
 pub mod CallCounts
 pub mod Shapes
 mod ReachesRows
+mod MachineRows
 mod OperationRows

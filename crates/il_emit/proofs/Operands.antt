@@ -1,13 +1,11 @@
 -- Operands have the values of flat code once the lines of their addresses have run.
-use Rattle.std.proofs.Common.{◌≡◌, ℕ, ◌+◌, ◌%◌, ◌^◌, ◌<◌, ◌≤◌, Bool, true, false, ◌||◌, List, [], ◌∷◌, ◌++◌, map, length, None, Some, refl, ap, ◌∙◌, arith, append_assoc}
+use Rattle.std.proofs.Common.{◌≡◌, ℕ, ◌+◌, ◌%◌, ◌^◌, ◌<◌, ◌≤◌, Bool, true, false, ◌||◌, List, [], ◌∷◌, ◌++◌, map, length, refl, sym, ap, ◌∙◌, arith, append_assoc}
 use Rattle.std.specs.Prelude.{bytes_eq, nat_eq, nat_lt, ◌==◌, if◌then◌else◌}
 use Rattle.std.proofs.lemmas.Bool.{and_parts}
 use Rattle.std.proofs.lemmas.Bool.Decides.{nat_tests}
 use Rattle.hx_base.specs.declared.Class.{Class}
 use Rattle.hx_base.specs.declared.Class.TheVariants.{W, L}
 use Rattle.hx_base.specs.Runtime.{World}
-use Rattle.hx_runtime.specs.Functions.{runtime_function}
-use Rattle.hx_runtime.specs.declared.runtime.RuntimeFunction.{RuntimeFunction}
 use Rattle.flat_code.specs.declared.program.FlatFn.{FlatFn}
 use Rattle.flat_code.specs.declared.program.FlatProgram.{FlatProgram}
 use Rattle.flat_code.specs.declared.value.Value.{Value}
@@ -28,8 +26,9 @@ use Rattle.il_code.specs.State as state
 use Rattle.il_code.specs.Run.{Run, after_steps}
 use Rattle.il_emit.specs.Names.{temp_name, address_name}
 use Rattle.il_emit.specs.Lines.{Line, Do, name_at, operand, address_inst, address_lines, arg_lines, args_of, all_addressed}
+use Rattle.il_emit.proofs.NamedFunctions.{emitted}
 use Rattle.il_emit.proofs.NumberedNames.{bytes_same, temp_eq}
-use Rattle.il_emit.proofs.Running.{Activation, counted, Mark, worth, steps_more, before, Same}
+use Rattle.il_emit.proofs.Running.{Activation, counted, Mark, worth, steps_more, before, Same, HasFrame, Holds}
 
 -- an operand has at most one address
 pub addressed_one : (v : Value) → addressed v ≤ 1
@@ -76,33 +75,35 @@ own_address fill k v temps = rw (bytes_same (address_name k)) refl
 
 -- ---- what the section rests on
 
--- a function of a program, and the module that is made of it
-pub record Setting (p : FlatProgram) (f : FlatFn) (m : Module) : Type 0 where
-  pub no_frame : f.frame ≡ 0
+-- a call of a function of a program, in the module that is made of it
+pub record Setting (p : FlatProgram) (f : FlatFn) (m : Module) (call : Activation) : Type 0 where
+  pub frame : call.frame ≡ f.frame
   pub few_temps : f.temps < 2 ^ 64
   pub set_below : (t : ℕ) (class : Class) → is_set p f t class ≡ true → t < f.temps
   pub address : (i : ℕ) → i < length p.globals → address m (name_at p.globals i) ≡ address_at p i
   pub address_fits : (i : ℕ) → i < length p.globals → address_at p i < 2 ^ 64
-  pub no_function : (name : List ℕ) (g : RuntimeFunction) → runtime_function name ≡ Some g → function_named p.functions name ≡ None
-  pub no_code : (name : List ℕ) (g : RuntimeFunction) → runtime_function name ≡ Some g → state.function_named m.items name ≡ None
+  pub functions : (name : List ℕ) → state.function_named m.items name ≡ emitted p (function_named p.functions name)
 
-module _ (p : FlatProgram) (f : FlatFn) (m : Module) (set : Setting p f m) (call : Activation) where
+module _ (p : FlatProgram) (f : FlatFn) (m : Module) (call : Activation) (set : Setting p f m call) where
   abbrev run_at : List Line → World → Mark → Run
   run_at ls w c = before m call ls w c
 
   -- ---- the lines of an address
 
+  -- behind one instruction that computes an address from another and an offset
+  abbrev computed : ℕ → ℕ → ℕ → Mark → Mark
+  computed from offset k c = record c { used = c.used + 1 + 0; temps = (address_name k, cut L (from + offset)) ∷ c.temps }
+
   abbrev with_address : Bool → ℕ → ℕ → ℕ → Mark → Mark
   with_address true i offset k c = c
-  with_address false i offset k c =
-      record c { used = c.used + 1 + 0; temps = (address_name k, cut L (address m (name_at p.globals i) + offset)) ∷ c.temps }
+  with_address false i offset k c = computed (address m (name_at p.globals i)) offset k c
 
   -- behind the lines of an operand's address
   abbrev pub behind_address : Value → ℕ → Mark → Mark
   behind_address (Temp t) k c = c
   behind_address (Number n) k c = c
   behind_address (Symbol i offset) k c = with_address (offset == 0) i offset k c
-  behind_address (Frame offset) k c = c
+  behind_address (Frame offset) k c = computed (cut L call.base) offset k c
 
   symbol_steps : (b : Bool) (i offset k : ℕ) (ls : List Line) (w : World) (c : Mark)
       → after_steps m (if b then 0 else 1) (run_at ((if b then [] else (Do (address_inst p.globals i offset k) ∷ [])) ++ ls) w c) ≡ run_at
@@ -110,16 +111,22 @@ module _ (p : FlatProgram) (f : FlatFn) (m : Module) (set : Setting p f m) (call
   symbol_steps true i offset k ls w c = refl
   symbol_steps false i offset k ls w c = refl
 
-  pub address_steps : (class : Class) (v : Value) (k : ℕ) (ls : List Line) (w : World) (c : Mark) →
-      is_operand p f class v ≡ true
-      → after_steps m (addressed v) (run_at (address_lines p.globals v k ++ ls) w c) ≡ run_at ls w (behind_address v k c)
-  address_steps class (Temp t) k ls w c r = refl
-  address_steps class (Number n) k ls w c r = refl
-  address_steps class (Symbol i offset) k ls w c r = symbol_steps (offset == 0) i offset k ls w c
-  address_steps class (Frame offset) k ls w c r =
+  -- where there is a place, there is a frame
+  has_place : (class : Class) (offset : ℕ) → is_operand p f class (Frame offset) ≡ true → 0 < call.frame
+  has_place class offset r =
       let q = (and_parts (is_long class) (nat_lt offset f.frame) r).1 in
-      let z = set.no_frame in
-      absurd (grind (arith, nat_tests))
+      let lt : offset < f.frame = grind (arith, nat_tests) in
+      let z = set.frame in
+      omega arith
+
+  pub address_steps : (class : Class) (v : Value) (k : ℕ) (ls : List Line) (w : World) (c : Mark) →
+      is_operand p f class v ≡ true → HasFrame call c.temps
+      → after_steps m (addressed v) (run_at (address_lines p.globals v k ++ ls) w c) ≡ run_at ls w (behind_address v k c)
+  address_steps class (Temp t) k ls w c r h = refl
+  address_steps class (Number n) k ls w c r h = refl
+  address_steps class (Symbol i offset) k ls w c r h = symbol_steps (offset == 0) i offset k ls w c
+  address_steps class (Frame offset) k ls w c r h =
+      ap (λ (from : ℕ). run_at ls w (computed from offset k c)) (h.at (has_place class offset r) w.memory.fill)
 
   with_used : (b : Bool) (i offset k : ℕ) (c : Mark) → (with_address b i offset k c).used ≡ c.used + (if b then 0 else 1)
   with_used true i offset k c = omega arith
@@ -141,15 +148,25 @@ module _ (p : FlatProgram) (f : FlatFn) (m : Module) (set : Setting p f m) (call
   address_jumps (Symbol i offset) k c = with_jumps (offset == 0) i offset k c
   address_jumps (Frame offset) k c = refl
 
-  with_same : (b : Bool) (i offset k : ℕ) (c : Mark) (ts : List (ℕ × ℕ)) → Same ts c.temps → Same ts (with_address b i offset k c).temps
-  with_same true i offset k c ts h = h
-  with_same false i offset k c ts h = same_address ts c.temps k _ h
+  -- an address more is no temporary of flat code, and not that of the frame
+  computed_holds : (from offset k : ℕ) (c : Mark) (s : flat.State) → Holds call s c → Holds call s (computed from offset k c)
+  computed_holds from offset k c s h = record {
+    same = same_address s.temps c.temps k (cut L (from + offset)) h.same;
+    frame = record { at = λ l fill. h.frame.at l fill };
+    base = h.base;
+    top = h.top;
+    cost = h.cost;
+  }
 
-  pub address_same : (v : Value) (k : ℕ) (c : Mark) (ts : List (ℕ × ℕ)) → Same ts c.temps → Same ts (behind_address v k c).temps
-  address_same (Temp t) k c ts h = h
-  address_same (Number n) k c ts h = h
-  address_same (Symbol i offset) k c ts h = with_same (offset == 0) i offset k c ts h
-  address_same (Frame offset) k c ts h = h
+  with_holds : (b : Bool) (i offset k : ℕ) (c : Mark) (s : flat.State) → Holds call s c → Holds call s (with_address b i offset k c)
+  with_holds true i offset k c s h = h
+  with_holds false i offset k c s h = computed_holds (address m (name_at p.globals i)) offset k c s h
+
+  pub address_holds : (v : Value) (k : ℕ) (c : Mark) (s : flat.State) → Holds call s c → Holds call s (behind_address v k c)
+  address_holds (Temp t) k c s h = h
+  address_holds (Number n) k c s h = h
+  address_holds (Symbol i offset) k c s h = with_holds (offset == 0) i offset k c s h
+  address_holds (Frame offset) k c s h = computed_holds (cut L call.base) offset k c s h
 
   -- addresses with lower numbers are kept
   pub record Keeps (k : ℕ) (c c' : Mark) : Type 0 where
@@ -163,7 +180,7 @@ module _ (p : FlatProgram) (f : FlatFn) (m : Module) (set : Setting p f m) (call
   address_keeps (Temp t) k c h = record { kept = λ fill j l. refl }
   address_keeps (Number n) k c h = record { kept = λ fill j l. refl }
   address_keeps (Symbol i offset) k c h = with_keeps (offset == 0) i offset k c h
-  address_keeps (Frame offset) k c h = record { kept = λ fill j l. refl }
+  address_keeps (Frame offset) k c h = record { kept = λ fill j l. other_address fill j k _ c.temps l h }
 
   -- ---- the value of an operand
 
@@ -196,20 +213,23 @@ module _ (p : FlatProgram) (f : FlatFn) (m : Module) (set : Setting p f m) (call
   symbol_ready false s i offset k c e h =
       own_address s.world.memory.fill k _ c.temps ∙ ap (λ (x : ℕ). (x + offset) % 2 ^ 64) (set.address i h)
 
+  place_ready : (base offset : ℕ) → (base % 2 ^ 64 + offset) % 2 ^ 64 ≡ (base + offset) % 2 ^ 64
+  place_ready base offset = omega arith
+
   -- behind its lines it is ready
   pub operand_ready : (s : flat.State) (class : Class) (v : Value) (k : ℕ) (c : Mark) → is_operand p f class v ≡ true →
-      Same s.temps c.temps → Ready s v k (behind_address v k c).temps
-  operand_ready s class (Temp t) k c r h = temp_ready s class t k c.temps r h
+      Holds call s c → Ready s v k (behind_address v k c).temps
+  operand_ready s class (Temp t) k c r h = temp_ready s class t k c.temps r h.same
   operand_ready s class (Number n) k c r h = record { value = refl }
   operand_ready s class (Symbol i offset) k c r h =
       let q = and_parts (is_long class) _ r in
       let b = (and_parts (nat_lt i (length p.globals)) _ q.1).0 in
       let lt : i < length p.globals = grind (arith, nat_tests) in
       record { value = symbol_ready (offset == 0) s i offset k c refl lt }
-  operand_ready s class (Frame offset) k c r h =
-      let q = (and_parts (is_long class) (nat_lt offset f.frame) r).1 in
-      let z = set.no_frame in
-      absurd (grind (arith, nat_tests))
+  operand_ready s class (Frame offset) k c r h = record {
+    value = own_address s.world.memory.fill k _ c.temps ∙ place_ready call.base offset
+        ∙ ap (λ (x : ℕ). (x + offset) % 2 ^ 64) (sym h.base);
+  }
 
   symbol_stays : (b : Bool) (w : World) (i k k' : ℕ) (c c' : Mark) → k + (if b then 0 else 1) ≤ k' → Keeps k' c c'
       → worth m w c'.temps (if b then il.Symbol (name_at p.globals i) else il.Temp (address_name k)) ≡ worth m w c.temps
@@ -219,15 +239,13 @@ module _ (p : FlatProgram) (f : FlatFn) (m : Module) (set : Setting p f m) (call
 
   -- it stays ready behind the lines of other operands
   pub stays_ready : (s : flat.State) (class : Class) (v : Value) (k k' : ℕ) (c c' : Mark) → is_operand p f class v ≡ true →
-      Same s.temps c'.temps → k + addressed v ≤ k' → Keeps k' c c' → Ready s v k c.temps → Ready s v k c'.temps
-  stays_ready s class (Temp t) k k' c c' r h l u g = temp_ready s class t k c'.temps r h
+      Holds call s c' → k + addressed v ≤ k' → Keeps k' c c' → Ready s v k c.temps → Ready s v k c'.temps
+  stays_ready s class (Temp t) k k' c c' r h l u g = temp_ready s class t k c'.temps r h.same
   stays_ready s class (Number n) k k' c c' r h l u g = record { value = refl }
   stays_ready s class (Symbol i offset) k k' c c' r h l u g =
       record { value = symbol_stays (offset == 0) s.world i k k' c c' l u ∙ g.value }
   stays_ready s class (Frame offset) k k' c c' r h l u g =
-      let q = (and_parts (is_long class) (nat_lt offset f.frame) r).1 in
-      let z = set.no_frame in
-      absurd (grind (arith, nat_tests))
+      record { value = u.kept s.world.memory.fill k (omega arith) ∙ g.value }
 
   -- ---- arguments
 
@@ -236,19 +254,19 @@ module _ (p : FlatProgram) (f : FlatFn) (m : Module) (set : Setting p f m) (call
   behind_args [] k c = c
   behind_args (v ∷ vs) k c = behind_args vs (k + addressed v) (behind_address v k c)
 
-  pub arg_steps : (cs : List Class) (vs : List Value) (k : ℕ) (ls : List Line) (w : World) (c : Mark) →
-      are_args p f cs vs ≡ true
-      → after_steps m (all_addressed vs) (run_at (arg_lines p.globals vs k ++ ls) w c) ≡ run_at ls w (behind_args vs k c)
-  arg_steps cs [] k ls w c r = refl
-  arg_steps [] (v ∷ vs) k ls w c r = cc
-  arg_steps (d ∷ cs) (v ∷ vs) k ls w c r =
+  pub arg_steps : (cs : List Class) (vs : List Value) (k : ℕ) (ls : List Line) (s : flat.State) (c : Mark) →
+      are_args p f cs vs ≡ true → Holds call s c
+      → after_steps m (all_addressed vs) (run_at (arg_lines p.globals vs k ++ ls) s.world c) ≡ run_at ls s.world (behind_args vs k c)
+  arg_steps cs [] k ls s c r h = refl
+  arg_steps [] (v ∷ vs) k ls s c r h = cc
+  arg_steps (d ∷ cs) (v ∷ vs) k ls s c r h =
       let q = and_parts (is_operand p f d v) (are_args p f cs vs) r in
       let rest = arg_lines p.globals vs (k + addressed v) in
-      ap (λ (x : List Line). after_steps m (addressed v + all_addressed vs) (run_at x w c))
+      ap (λ (x : List Line). after_steps m (addressed v + all_addressed vs) (run_at x s.world c))
       (append_assoc (address_lines p.globals v k) rest ls)
       ∙ steps_more m (addressed v) (all_addressed vs) _
-      ∙ ap (after_steps m (all_addressed vs)) (address_steps d v k (rest ++ ls) w c q.0)
-      ∙ arg_steps cs vs (k + addressed v) ls w (behind_address v k c) q.1
+      ∙ ap (after_steps m (all_addressed vs)) (address_steps d v k (rest ++ ls) s.world c q.0 h.frame)
+      ∙ arg_steps cs vs (k + addressed v) ls s (behind_address v k c) q.1 (address_holds v k c s h)
 
   pub args_used : (vs : List Value) (k : ℕ) (c : Mark) → (behind_args vs k c).used ≤ c.used + length vs
   args_used [] k c = omega arith
@@ -258,9 +276,9 @@ module _ (p : FlatProgram) (f : FlatFn) (m : Module) (set : Setting p f m) (call
   args_jumps [] k c = refl
   args_jumps (v ∷ vs) k c = args_jumps vs (k + addressed v) (behind_address v k c) ∙ address_jumps v k c
 
-  pub args_same : (vs : List Value) (k : ℕ) (c : Mark) (ts : List (ℕ × ℕ)) → Same ts c.temps → Same ts (behind_args vs k c).temps
-  args_same [] k c ts h = h
-  args_same (v ∷ vs) k c ts h = args_same vs (k + addressed v) (behind_address v k c) ts (address_same v k c ts h)
+  pub args_hold : (vs : List Value) (k : ℕ) (c : Mark) (s : flat.State) → Holds call s c → Holds call s (behind_args vs k c)
+  args_hold [] k c s h = h
+  args_hold (v ∷ vs) k c s h = args_hold vs (k + addressed v) (behind_address v k c) s (address_holds v k c s h)
 
   args_keep : (vs : List Value) (k : ℕ) (c : Mark) → k + all_addressed vs < 2 ^ 64 → Keeps k c (behind_args vs k c)
   args_keep [] k c h = record { kept = λ fill j l. refl }
@@ -271,7 +289,7 @@ module _ (p : FlatProgram) (f : FlatFn) (m : Module) (set : Setting p f m) (call
 
   -- the values of all arguments
   pub args_ready : (s : flat.State) (cs : List Class) (vs : List Value) (k : ℕ) (c : Mark) → are_args p f cs vs ≡ true →
-      k + all_addressed vs < 2 ^ 64 → Same s.temps c.temps
+      k + all_addressed vs < 2 ^ 64 → Holds call s c
       → map (λ (a : IlArg). cut a.class (worth m s.world (behind_args vs k c).temps a.value)) (args_of p.globals cs vs k) ≡ cut_each cs
       (map (flat.value_of p s) vs)
   args_ready s [] [] k c r l h = refl
@@ -279,13 +297,13 @@ module _ (p : FlatProgram) (f : FlatFn) (m : Module) (set : Setting p f m) (call
   args_ready s (d ∷ cs) [] k c r l h = cc
   args_ready s (d ∷ cs) (v ∷ vs) k c r l h =
       let q = and_parts (is_operand p f d v) (are_args p f cs vs) r in
-      let same = address_same v k c s.temps h in
+      let held = address_holds v k c s h in
       let keeps = args_keep vs (k + addressed v) (behind_address v k c) (omega arith) in
       let ready = stays_ready s d v k (k + addressed v) (behind_address v k c) (behind_args vs (k + addressed v) (behind_address v k c)) q.0
-      (args_same vs (k + addressed v) (behind_address v k c) s.temps same) (omega arith) keeps (operand_ready s d v k c q.0 h) in
+      (args_hold vs (k + addressed v) (behind_address v k c) s held) (omega arith) keeps (operand_ready s d v k c q.0 h) in
       let first : cut d (worth m s.world (behind_args vs (k + addressed v) (behind_address v k c)).temps (operand p.globals v k)) ≡ cut d
       (flat.value_of p s v) = ap (cut d) ready.value in
-      let rest = args_ready s cs vs (k + addressed v) (behind_address v k c) q.1 (omega arith) same in
+      let rest = args_ready s cs vs (k + addressed v) (behind_address v k c) q.1 (omega arith) held in
       ap (λ (x : ℕ). x ∷ map (λ (a : IlArg). cut a.class
       (worth m s.world (behind_args vs (k + addressed v) (behind_address v k c)).temps a.value))
       (args_of p.globals cs vs (k + addressed v))) first

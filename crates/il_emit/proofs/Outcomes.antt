@@ -1,14 +1,22 @@
--- Each operation of flat code is one that computes, and gives a value or finds that its divisor is 0, as it does in flat code.
-use Rattle.std.proofs.Common.{◌≡◌, ℕ, Bool, true, false, Some, None, refl}
-use Rattle.std.specs.Prelude.{Ok, Err, ◌==◌, if◌then◌else◌}
+-- Each operation of flat code is one that computes, and gives a value or finds that its divisor is 0, as it does in flat code; and loads and
+-- copies do the same in both.
+use Rattle.std.proofs.Common.{◌≡◌, ℕ, ◌+◌, Bool, true, false, not, ◌&&◌, Some, None, refl, ap, ◌∙◌, arith}
+use Rattle.std.specs.Prelude.{Ok, Err, nat_eq, nat_lt, ◌==◌, if◌then◌else◌}
+use Rattle.std.proofs.lemmas.Bool.Decides.{nat_tests}
 use Rattle.hx_base.specs.declared.Class.{Class}
+use Rattle.hx_base.specs.declared.Class.TheVariants.{L}
 use Rattle.hx_base.specs.Operations.{is_zero, quotient, remainder, unsigned_quotient, unsigned_remainder}
+use Rattle.hx_runtime.specs.Ranges.{overlap}
+use Rattle.flat_code.specs.declared.op.LoadKind.{LoadKind}
+use Rattle.flat_code.specs.declared.op.LoadKind.TheVariants as how
 use Rattle.flat_code.specs.declared.op.Op.{Op}
 use Rattle.flat_code.specs.declared.op.Op.TheVariants as flat
+use Rattle.flat_code.specs.Evaluation.{extension, load_bytes}
+use Rattle.flat_code.specs.Operations.{gives}
 use Rattle.il_code.specs.declared.types.MachineFault.TheVariants.{ZeroDivisor}
-use Rattle.il_code.specs.Operations.{Outcome, cut}
-use Rattle.il_code.specs.Step.{Computes, kind_of}
-use Rattle.il_emit.specs.Ops.{il_op, given, il_outcome, OperationsAgree}
+use Rattle.il_code.specs.Operations.{Outcome, cut, op_value}
+use Rattle.il_code.specs.Step.{Computes, Loads, kind_of}
+use Rattle.il_emit.specs.Ops.{il_op, load_op, given, il_outcome, OperationsAgree}
 
 -- what an operation of flat code may give
 pub data Fine : Outcome → Type 0 where
@@ -119,3 +127,57 @@ op_computes flat.Cugew = refl
 op_computes flat.Cugel = refl
 op_computes flat.Cugtw = refl
 op_computes flat.Cugtl = refl
+
+-- ---- loads
+
+-- what loads a number takes as many bytes, and extends them alike
+pub load_kind : (h : LoadKind) → kind_of (load_op h) ≡ Loads (load_bytes h) (il_op (extension h))
+load_kind how.Sb = refl
+load_kind how.Ub = refl
+load_kind how.Sh = refl
+load_kind how.Uh = refl
+load_kind how.Sw = refl
+load_kind how.Uw = refl
+load_kind how.L = refl
+
+pub extension_fine : (h : LoadKind) (v : ℕ) → Fine (op_value L (il_op (extension h)) v None)
+extension_fine how.Sb v = has_value _
+extension_fine how.Ub v = has_value _
+extension_fine how.Sh v = has_value _
+extension_fine how.Uh v = has_value _
+extension_fine how.Sw v = has_value _
+extension_fine how.Uw v = has_value _
+extension_fine how.L v = has_value _
+
+pub extension_agrees : (h : LoadKind) (v : ℕ) → gives L (extension h) v 0 ≡ given (op_value L (il_op (extension h)) v None)
+extension_agrees how.Sb v = refl
+extension_agrees how.Ub v = refl
+extension_agrees how.Sh v = refl
+extension_agrees how.Uh v = refl
+extension_agrees how.Sw v = refl
+extension_agrees how.Uw v = refl
+extension_agrees how.L v = refl
+
+-- ---- copies
+
+swapped : (x y z : Bool) → ((x && y) && z) ≡ ((x && z) && y)
+swapped true true true = refl
+swapped true true false = refl
+swapped true false true = refl
+swapped true false false = refl
+swapped false y z = refl
+
+same_either_way : (a b : ℕ) → nat_eq a b ≡ nat_eq b a
+same_either_way a b = pick (nat_eq a b) (nat_eq b a) refl refl
+  where
+    pick : (x y : Bool) → nat_eq a b ≡ x → nat_eq b a ≡ y → x ≡ y
+    pick true true e h = refl
+    pick false false e h = refl
+    pick true false e h = absurd (grind (arith, nat_tests))
+    pick false true e h = absurd (grind (arith, nat_tests))
+
+-- it is the same whether one range overlaps the other or the other the one
+pub overlap_same : (a b n : ℕ) → overlap a b n ≡ overlap b a n
+overlap_same a b n =
+    ap (λ (x : Bool). (not x && nat_lt a (b + n)) && nat_lt b (a + n)) (same_either_way a b)
+    ∙ swapped (not (nat_eq b a)) (nat_lt a (b + n)) (nat_lt b (a + n))

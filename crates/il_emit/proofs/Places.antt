@@ -1,8 +1,8 @@
 -- Where the machine stands before some lines of a function.
 use Rattle.std.proofs.Common.{◌≡◌, ℕ, ◌<◌, ◌^◌, Bool, true, false, List, [], ◌∷◌, ◌++◌, refl, sym, ap, ◌∙◌, subst, arith, append_assoc, append-nil, suc}
 use Rattle.std.specs.Prelude.{bytes_eq}
-use Rattle.flat_code.specs.declared.program.Data.{Data}
 use Rattle.flat_code.specs.declared.program.FlatFn.{FlatFn}
+use Rattle.flat_code.specs.declared.program.FlatProgram.{FlatProgram}
 use Rattle.flat_code.specs.Shape.{code_of}
 use Rattle.il_code.specs.declared.types.Block.{Block}
 use Rattle.il_code.specs.declared.types.Inst.{Inst}
@@ -10,13 +10,13 @@ use Rattle.il_code.specs.declared.types.Jump.{Jump}
 use Rattle.il_code.specs.declared.types.Jump.TheVariants as jump
 use Rattle.il_code.specs.State.{Place, place_at, blocks_from}
 use Rattle.il_emit.specs.Names.{label_name}
-use Rattle.il_emit.specs.Lines.{Line, Label, Do, End, code_lines, end_value, function_lines, labels_in}
+use Rattle.il_emit.specs.Lines.{Line, Label, Do, End, inner_lines, end_value, function_lines, labels_in}
 use Rattle.il_emit.specs.Drafts.{add_all}
 use Rattle.il_emit.specs.Emitted.{blocks_of}
 use Rattle.il_emit.proofs.Counts.{weight}
 use Rattle.il_emit.proofs.Blocks.{draft, block, tidy, lines_labelled, labelled_append}
 use Rattle.il_emit.proofs.NumberedNames.{bytes_same, label_eq}
-use Rattle.il_emit.proofs.Numbering.{code_tidy, code_labels, within_in, one}
+use Rattle.il_emit.proofs.Numbering.{inner_tidy, inner_labels, within_in, one}
 
 -- ---- blocks made of lines
 
@@ -72,9 +72,8 @@ mutual
   closed_blocks bs s (End i ∷ lines) j h = cc
   closed_blocks bs s (Label n ∷ lines) j h = open_blocks bs (label_name n) [] lines j h
 
-pub function_blocks : (globals : List Data) (f : FlatFn) → blocks_of globals f ≡ line_blocks (function_lines globals f)
-function_blocks globals f = open_blocks [] (label_name 0) [] (code_lines globals (code_of f.body) 1 0 []) (jump.Ret (end_value f.result))
-    (code_tidy globals (code_of f.body) 1 0 [])
+pub function_blocks : (p : FlatProgram) (f : FlatFn) → blocks_of p f ≡ line_blocks (function_lines p f)
+function_blocks p f = open_blocks [] (label_name 0) [] (inner_lines p f) (jump.Ret (end_value f.result)) (inner_tidy p f)
 
 -- ---- the block of a label
 
@@ -116,22 +115,21 @@ past x (Label n ∷ xs) ls h = pick (bytes_eq (label_name n) (label_name x)) ref
     pick true e on = let w : weight (bytes_eq (label_name n) (label_name x)) ≡ 1 = rw e refl in absurd (omega (arith, h, w))
     pick false e on = let w : weight (bytes_eq (label_name n) (label_name x)) ≡ 0 = rw e refl in rw e (on (omega (arith, h, w)))
 
-module _ (globals : List Data) (f : FlatFn) (few : suc (labels_in (code_of f.body)) < 2 ^ 64) where
-  label_once : (x : ℕ) → x < suc (labels_in (code_of f.body)) → lines_labelled (label_name x) (function_lines globals f) ≡ 1
+module _ (p : FlatProgram) (f : FlatFn) (few : suc (labels_in (code_of f.body)) < 2 ^ 64) where
+  label_once : (x : ℕ) → x < suc (labels_in (code_of f.body)) → lines_labelled (label_name x) (function_lines p f) ≡ 1
   label_once x h =
       let c = code_of f.body in
       let e : weight (bytes_eq (label_name 0) (label_name x)) ≡ one x 0 = ap weight (label_eq 0 x (omega arith) (omega arith)) in
       omega (
         arith,
         e,
-        labelled_append (label_name x) (code_lines globals c 1 0 []) (End (jump.Ret (end_value f.result)) ∷ []),
-        code_labels
-            globals x (omega arith) c 1 0 [] (omega arith),
+        labelled_append (label_name x) (inner_lines p f) (End (jump.Ret (end_value f.result)) ∷ []),
+        inner_labels p x (omega arith) f (omega arith),
         within_in x 0 (suc (labels_in c)) (omega arith) (omega arith),
       )
 
-  pub finds : (x : ℕ) (ls : List Line) → x < suc (labels_in (code_of f.body)) → Inside (function_lines globals f) (Label x ∷ ls) →
-      Finds (function_lines globals f) x ls
+  pub finds : (x : ℕ) (ls : List Line) → x < suc (labels_in (code_of f.body)) → Inside (function_lines p f) (Label x ∷ ls) →
+      Finds (function_lines p f) x ls
   finds x ls h at =
       let once : lines_labelled (label_name x) (at.front ++ (Label x ∷ ls)) ≡ 1 =
       subst (λ (all : List Line). lines_labelled (label_name x) all ≡ 1) at.is (label_once x h) in

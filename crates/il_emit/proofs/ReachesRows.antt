@@ -91,27 +91,27 @@ divided_too = (refl, refl, refl, refl)
 -- ---- shapes
 
 -- a Loop is one backward jump: it is entered by a jump to what stands behind
-one_loop : backward_jumps (blocks_of [] counting_main) ≡ 1
+one_loop : backward_jumps (blocks_of counting counting_main) ≡ 1
 unfolding digits
 one_loop = refl
 
-calls_puts : calls_of (codes "rt.puts") (blocks_of [] counting_main) ≡ 1
+calls_puts : calls_of (codes "rt.puts") (blocks_of counting counting_main) ≡ 1
 calls_puts = refl
 
 -- a Loop in a Loop
-two_loops : backward_jumps (blocks_of [] (plain (codes "main") 1 0 (Loop (Loop (Leave 1)) ∷ []))) ≡ 2
+two_loops : backward_jumps (blocks_of counting (plain (codes "main") 1 0 (Loop (Loop (Leave 1)) ∷ []))) ≡ 2
 unfolding digits
 two_loops = refl
 
 -- no Loop
-branch : backward_jumps (blocks_of [] (plain (codes "main") 1 0 (If (Number 4) (seq (Leave 1 ∷ [])) (Ret None) ∷ []))) ≡ 0
+branch : backward_jumps (blocks_of counting (plain (codes "main") 1 0 (If (Number 4) (seq (Leave 1 ∷ [])) (Ret None) ∷ []))) ≡ 0
 unfolding digits
 branch = refl
 
 -- ---- the stack
 
 -- 64, and 8 for each of three temporaries and an address, where flat code has 64 + 8 * 5 + 16
-counting_cost : full_cost [] (blocks_of [] counting_main) ≡ 96
+counting_cost : full_cost [] (blocks_of counting counting_main) ≡ 96
 unfolding digits
 counting_cost = refl
 

@@ -1,24 +1,26 @@
 -- Each line of a function of a well formed program is one that the intermediate language admits.
-use Rattle.std.proofs.Common.{◌≡◌, ℕ, ◌+◌, ◌<◌, ◌≤◌, ◌^◌, Bool, true, false, not, ◌&&◌, List, [], ◌∷◌, length, Option, None, Some, refl, sym, ap, ◌∙◌, subst, arith, inl, inr}
-use Rattle.std.specs.Prelude.{bytes_eq, nat_eq, nat_lt, ◌==◌}
+use Rattle.std.proofs.Common.{◌≡◌, ℕ, suc, ◌+◌, ◌<◌, ◌≤◌, ◌^◌, Bool, true, false, not, ◌&&◌, List, [], ◌∷◌, length, Option, None, Some, refl, sym, ap, ◌∙◌, subst, arith, inl, inr}
+use Rattle.std.specs.Prelude.{bytes_eq, nat_eq, nat_lt, nat_le, ◌==◌}
 use Rattle.std.specs.List.{list_all}
 use Rattle.std.proofs.lemmas.Bool.{and_parts, or_cases}
 use Rattle.std.proofs.lemmas.Bool.Decides.{nat_tests}
 use Rattle.hx_base.specs.declared.Class.{Class}
 use Rattle.hx_base.specs.declared.Class.TheVariants.{W, L}
+use Rattle.flat_code.specs.declared.op.LoadKind.{LoadKind}
 use Rattle.flat_code.specs.declared.op.Op.{Op}
 use Rattle.flat_code.specs.declared.program.FlatFn.{FlatFn}
 use Rattle.flat_code.specs.declared.program.FlatProgram.{FlatProgram}
 use Rattle.flat_code.specs.declared.value.Value.{Value}
 use Rattle.flat_code.specs.declared.value.Value.TheVariants.{Temp, Number, Symbol, Frame}
-use Rattle.flat_code.specs.Code.{Set}
+use Rattle.flat_code.specs.Code.{Set, Load, Store, Move}
 use Rattle.flat_code.specs.Costs.{addressed}
+use Rattle.flat_code.specs.Evaluation as evaluation
 use Rattle.flat_code.specs.Kinds.{op_kind, takes_two, first_class, second_class, may_give}
 use Rattle.hx_runtime.specs.Functions.{runtime_params, runtime_result, runtime_function}
 use Rattle.hx_runtime.specs.declared.runtime.RuntimeFunction.{RuntimeFunction}
-use Rattle.flat_code.specs.Temps.{call_class, other_class, has_one_class}
+use Rattle.flat_code.specs.Temps.{call_class, called_class, other_class, has_one_class}
 use Rattle.flat_code.specs.Temps as flat
-use Rattle.flat_code.specs.WellFormed.{is_bits, is_operand, is_second, is_target, is_right, are_args, takes_result, is_return, is_long}
+use Rattle.flat_code.specs.WellFormed.{most, is_bits, is_width, is_operand, is_second, is_target, stored_class, is_right, are_args, takes_result, is_call, is_return, is_long}
 use Rattle.flat_code.specs.WellFormed as well
 use Rattle.il_code.specs.declared.types.Block.{Block}
 use Rattle.il_code.specs.declared.types.IlArg.{IlArg}
@@ -31,18 +33,20 @@ use Rattle.il_code.specs.declared.types.Inst.TheVariants as inst
 use Rattle.il_code.specs.declared.types.Jump.{Jump}
 use Rattle.il_code.specs.declared.types.Jump.TheVariants as jump
 use Rattle.il_code.specs.Rules as rule
-use Rattle.il_code.specs.Items.{function_named}
-use Rattle.il_code.specs.Rules.{item_name, has_named, has_label, targets_pass, is_set, inst_has_one_class, each_has_class, has_classes, is_call_right, is_call_of, is_runtime_call, call_is_right, second_is_right, inst_is_right, return_is_right, jump_is_right}
+use Rattle.il_code.specs.Items.{Code, function_named}
+use Rattle.il_code.specs.Rules.{item_name, has_named, has_label, targets_pass, is_set, inst_has_one_class, each_has_class, each_has_class_of, has_classes, has_classes_of, is_call_right, is_call_of, is_runtime_call, call_is_right, second_is_right, inst_is_right, return_is_right, jump_is_right}
 use Rattle.il_code.specs.Shaped.{is_value, is_arg, is_result, is_inst, is_jump}
 use Rattle.il_code.specs.Shaped as shape
 use Rattle.il_code.specs.Tokens.{is_identifier}
-use Rattle.il_emit.specs.Names.{temp_name, address_name, label_name}
-use Rattle.il_emit.specs.Ops.{il_op}
-use Rattle.il_emit.specs.Lines.{operand, address_inst, name_at, second, call_params, result_param, args_of, all_addressed}
+use Rattle.il_emit.specs.Names.{temp_name, address_name, frame_name, label_name}
+use Rattle.il_emit.specs.Ops.{il_op, load_op}
+use Rattle.il_emit.specs.Lines.{operand, address_inst, place_inst, name_at, second, call_params, called_params, result_param, args_of, all_addressed}
+use Rattle.il_emit.specs.Emitted.{params_of, blocks_of}
 use Rattle.il_emit.proofs.Allowed.{LinesPass}
 use Rattle.il_emit.proofs.Blocks.{line_passes}
-use Rattle.il_emit.proofs.Counts.{both_true, or_true, either}
-use Rattle.il_emit.proofs.Operations.{takes_is, first_is, second_is, may_is, named_call}
+use Rattle.il_emit.proofs.Counts.{both_true, either}
+use Rattle.il_emit.proofs.NamedFunctions.{emitted}
+use Rattle.il_emit.proofs.Operations.{takes_is, first_is, second_is, may_is, load_is, stored_is, named_call}
 use Rattle.il_emit.proofs.NumberedNames.{temp_identifier, address_identifier, label_identifier, label_eq}
 
 -- ---- tests of lines
@@ -65,15 +69,18 @@ pub record Names (p : FlatProgram) (f : FlatFn) (items : List IlItem) (params : 
   pub few_labels : most_labels ≤ 2 ^ 64
   pub few_addresses : most_addresses ≤ 2 ^ 64
   pub few_temps : f.temps < 2 ^ 64
-  pub no_frame : f.frame ≡ 0
+  pub few_frame : f.frame < 2 ^ 64
   pub set_is : (t : ℕ) (class : Class) → t < f.temps → is_set params blocks (temp_name t) class ≡ flat.is_set p f t class
   pub below : (t : ℕ) (class : Class) → flat.is_set p f t class ≡ true → t < f.temps
   pub computed : (k : ℕ) → k < most_addresses → is_set params blocks (address_name k) L ≡ true
   pub no_word : (k : ℕ) → is_set params blocks (address_name k) W ≡ false
+  pub framed : 0 < f.frame → is_set params blocks frame_name L ≡ true
+  pub no_frame_word : is_set params blocks frame_name W ≡ false
   pub labels : (n : ℕ) → n < most_labels → has_label blocks (label_name n) ≡ true
   pub identifiers : (i : ℕ) → i < length p.globals → is_identifier (name_at p.globals i) ≡ true
   pub symbols : (i : ℕ) → i < length p.globals → has_named item_name (name_at p.globals i) items ≡ true
-  pub no_code : (name : List ℕ) (g : RuntimeFunction) → runtime_function name ≡ Some g → function_named items name ≡ None
+  pub functions : (name : List ℕ) → function_named items name ≡ emitted p (evaluation.function_named p.functions name)
+  pub called : (name : List ℕ) (g : FlatFn) → evaluation.function_named p.functions name ≡ Some g → is_identifier name ≡ true
 
 pub record ArgsFine (items : List IlItem) (params : List IlParam) (blocks : List Block) (classes : List Class) (args : List IlArg) : Type
     0 where
@@ -90,6 +97,24 @@ pub record ResultFine (params : List IlParam) (blocks : List Block) (given : Opt
 class_same : (x : Class) → rule.same_class x x ≡ true
 class_same W = refl
 class_same L = refl
+
+-- a number of 64 bits
+bits_of : (n : ℕ) → n < 2 ^ 64 → is_bits n ≡ true
+bits_of n h = grind (arith, nat_tests)
+
+few_bits : (n : ℕ) → nat_le n most ≡ true → is_bits n ≡ true
+few_bits n h = let l : n ≤ most = grind (arith, nat_tests) in bits_of n (omega arith)
+
+-- parameters have the classes that they are made of
+pub params_length : (at : ℕ) (cs : List Class) → length (params_of at cs) ≡ length cs
+params_length at [] = refl
+params_length at (c ∷ cs) = omega (arith, params_length (suc at) cs)
+
+params_classes : (at : ℕ) (cs : List Class) (args : List IlArg) → each_has_class_of args (params_of at cs) ≡ each_has_class args cs
+params_classes at [] [] = refl
+params_classes at [] (a ∷ args) = refl
+params_classes at (c ∷ cs) [] = refl
+params_classes at (c ∷ cs) (a ∷ args) = ap (λ (b : Bool). rule.same_class a.class c && b) (params_classes (suc at) cs args)
 
 one_only : (a b c d : Bool) → a ≡ c → b ≡ d → (a && not b) ≡ (c && not d)
 one_only a b c d h k = rw (h, k) refl
@@ -130,10 +155,8 @@ module _ (p : FlatProgram) (f : FlatFn) (items : List IlItem) (params : List IlP
           let room : k + 1 ≤ most_addresses = rw e at u in
           let s : operand p.globals (Symbol i offset) k ≡ value.Temp (address_name k) = rw e refl in
           subst (Fine L) (sym s) (address_fine k (omega arith))
-  operand_fine class (Frame offset) k r u =
-      let both = (and_parts (is_long class) (nat_lt offset f.frame) r).1 in
-      let z = n.no_frame in
-      absurd (grind (arith, nat_tests))
+  operand_fine W (Frame offset) k r u = cc
+  operand_fine L (Frame offset) k r u = address_fine k (omega arith)
 
   -- ---- single instructions
 
@@ -184,6 +207,52 @@ module _ (p : FlatProgram) (f : FlatFn) (items : List IlItem) (params : List IlP
       (both_true _ _ (address_identifier k (omega arith)) (both_true _ _ (n.identifiers i h) b))
       (both_true _ _ (ap not (n.no_word k)) (both_true _ true (n.symbols i h) refl))
 
+  load_good : (t : ℕ) (how : LoadKind) (at : Value) (k : ℕ) → is_right p f 0 (Load t how at) ≡ true → k + addressed at ≤ most_addresses
+      → good (inst.Set (temp_name t) L (load_op how) (operand p.globals at k) None)
+  load_good t how at k r u =
+      let both = and_parts (is_target p f t L) (is_operand p f L at) r in
+      let to = target_fine t L both.0 in
+      let one = operand_fine L at k both.1 u in
+      let is = load_is how in
+      both_true _ _
+      (both_true _ _ to.0 (both_true _ _ one.0 is.one))
+      (both_true _ _ to.1
+      (both_true _ _ is.gives
+      (both_true _ true (subst (λ (c : Class). rule.is_right items params blocks c (operand p.globals at k) ≡ true) (sym is.wants) one.1)
+      refl)))
+
+  store_good : (width : ℕ) (value at : Value) (k : ℕ) → is_right p f 0 (Store width value at) ≡ true →
+      k + addressed value + addressed at ≤ most_addresses
+      → good (inst.Store width (operand p.globals value k) (operand p.globals at (k + addressed value)))
+  store_good width value at k r u =
+      let both = and_parts (is_width width) _ r in
+      let s = and_parts (is_operand p f (stored_class width) value) (is_operand p f L at) both.1 in
+      let one = operand_fine (stored_class width) value k s.0 (omega arith) in
+      let two = operand_fine L at (k + addressed value) s.1 (omega arith) in
+      both_true _ _
+      (both_true _ _ both.0 (both_true _ _ one.0 two.0))
+      (both_true _ _
+      (subst (λ (c : Class). rule.is_right items params blocks c (operand p.globals value k) ≡ true) (sym (stored_is width both.0)) one.1)
+      two.1)
+
+  move_good : (to from : Value) (bytes k : ℕ) → is_right p f 0 (Move to from bytes) ≡ true →
+      k + addressed to + addressed from ≤ most_addresses
+      → good (inst.Blit (operand p.globals from (k + addressed to)) (operand p.globals to k) bytes)
+  move_good to from bytes k r u =
+      let both = and_parts (nat_le bytes most) _ r in
+      let s = and_parts (is_operand p f L to) (is_operand p f L from) both.1 in
+      let one = operand_fine L to k s.0 (omega arith) in
+      let two = operand_fine L from (k + addressed to) s.1 (omega arith) in
+      both_true _ _ (both_true _ _ two.0 (both_true _ _ one.0 (few_bits bytes both.0))) (both_true _ _ two.1 one.1)
+
+  place_good : (offset k : ℕ) → offset < f.frame → k < most_addresses → good (place_inst offset k)
+  place_good offset k h l =
+      let few = n.few_addresses in
+      let bytes = n.few_frame in
+      both_true _ _
+      (both_true _ _ (address_identifier k (omega arith)) (bits_of offset (omega arith)))
+      (both_true _ _ (ap not (n.no_word k)) (both_true _ true (one_only _ _ true false (n.framed (omega arith)) n.no_frame_word) refl))
+
   -- ---- calls
 
   args_fine : (cs : List Class) (vs : List Value) (k : ℕ) → are_args p f cs vs ≡ true →
@@ -220,11 +289,11 @@ module _ (p : FlatProgram) (f : FlatFn) (items : List IlItem) (params : List IlP
   unfolding call_is_right
   call_right result name args none h k = both_true _ _ (ap (is_call_of result name args) none ∙ h) k
 
-  called_good : (temp : Option ℕ) (name : List ℕ) (args : List Value) (k : ℕ) (g : Option RuntimeFunction) → runtime_function name ≡ g →
-      well.is_runtime_call p f temp args g ≡ true → k + all_addressed args ≤ most_addresses
+  runtime_good : (temp : Option ℕ) (name : List ℕ) (args : List Value) (k : ℕ) (g : Option RuntimeFunction) → runtime_function name ≡ g →
+      function_named items name ≡ None → well.is_runtime_call p f temp args g ≡ true → k + all_addressed args ≤ most_addresses
       → good (inst.Call (result_param temp (call_class g)) name (args_of p.globals (call_params g) args k))
-  called_good temp name args k None e r u = cc
-  called_good temp name args k (Some g) e r u =
+  runtime_good temp name args k None e none r u = cc
+  runtime_good temp name args k (Some g) e none r u =
       let both = and_parts (are_args p f (runtime_params g) args) (takes_result p f temp (runtime_result g)) r in
       let xs = args_fine (runtime_params g) args k both.0 u in
       let to = result_fine temp (runtime_result g) both.1 in
@@ -234,8 +303,36 @@ module _ (p : FlatProgram) (f : FlatFn) (items : List IlItem) (params : List IlP
       both_true _ _
       (both_true _ _ to.spelled (both_true _ _ known.identifier xs.spelled))
       (both_true _ _ (to.one_class name x)
-      (call_right t name x (n.no_code name g e) (known.call t x (both_true _ _ to.taken (classes_fine (runtime_params g) x xs)))
+      (call_right t name x none (known.call t x (both_true _ _ to.taken (classes_fine (runtime_params g) x xs)))
       xs.right))
+
+  program_right : (result : Option IlParam) (name : List ℕ) (args : List IlArg) (c : Code) → function_named items name ≡ Some c →
+      (rule.takes_result result c.class && has_classes_of args c.params) ≡ true →
+      list_all (λ (a : IlArg). rule.is_right items params blocks a.class a.value) args ≡ true →
+      call_is_right items params blocks result name args ≡ true
+  unfolding call_is_right
+  program_right result name args c some h k = both_true _ _ (ap (is_call_of result name args) some ∙ h) k
+
+  called_good : (temp : Option ℕ) (name : List ℕ) (args : List Value) (k : ℕ) (g : Option FlatFn) →
+      evaluation.function_named p.functions name ≡ g →
+      is_call p f temp name args g ≡ true → k + all_addressed args ≤ most_addresses
+      → good (inst.Call (result_param temp (called_class g name)) name (args_of p.globals (called_params g name) args k))
+  called_good temp name args k None e r u =
+      runtime_good temp name args k (runtime_function name) refl (n.functions name ∙ ap (emitted p) e) r u
+  called_good temp name args k (Some g) e r u =
+      let both = and_parts (are_args p f g.params args) (takes_result p f temp g.result) r in
+      let xs = args_fine g.params args k both.0 u in
+      let to = result_fine temp g.result both.1 in
+      let x = args_of p.globals g.params args k in
+      let t = result_param temp g.result in
+      let c : Code = record { name = g.name; class = g.result; params = params_of 0 g.params; blocks = blocks_of p g } in
+      let many : (length x == length (params_of 0 g.params)) ≡ true =
+      ap (λ (m : ℕ). length x == m) (params_length 0 g.params) ∙ (and_parts (length x == length g.params) _ (classes_fine g.params x xs)).0 in
+      both_true _ _
+      (both_true _ _ to.spelled (both_true _ _ (n.called name g e) xs.spelled))
+      (both_true _ _ (to.one_class name x)
+      (program_right t name x c (n.functions name ∙ ap (emitted p) e)
+      (both_true _ _ to.taken (both_true _ _ many (params_classes 0 g.params x ∙ xs.classed))) xs.right))
 
   -- ---- jumps
 
@@ -283,6 +380,10 @@ module _ (p : FlatProgram) (f : FlatFn) (items : List IlItem) (params : List IlP
     returns = λ r. return_good f.result r;
     returns_value = λ v k r u. let both = value_good f.result v k r u in both_true _ _ both.0 both.1;
     set = set_good;
-    call = λ temp name args k r u. called_good temp name args k (runtime_function name) refl r u;
+    load = load_good;
+    store = store_good;
+    move = move_good;
+    call = λ temp name args k r u. called_good temp name args k (evaluation.function_named p.functions name) refl r u;
+    place = place_good;
     address = address_good;
   }

@@ -1,5 +1,6 @@
 -- Runs of the machine from places before lines: what each line does.
-use Rattle.std.proofs.Common.{◌≡◌, ℕ, zero, suc, ◌+◌, ◌*◌, ◌^◌, ◌<◌, ◌≤◌, List, ◌∷◌, length, None, Some, refl, ap, arith}
+use Rattle.std.proofs.Common.{◌≡◌, ℕ, zero, suc, ◌+◌, ◌*◌, ◌^◌, ◌<◌, ◌≤◌, ◌⊎◌, List, ◌∷◌, length, None, Some, refl, ap, arith}
+use Rattle.hx_base.specs.declared.Class.TheVariants.{L}
 use Rattle.hx_base.specs.Runtime.{World}
 use Rattle.flat_code.specs.State as flat
 use Rattle.flat_code.specs.State.{Result, Next, Left, Returned, HeapFull, Spent}
@@ -9,25 +10,26 @@ use Rattle.il_code.specs.declared.types.IlValue.TheVariants as il
 use Rattle.il_code.specs.declared.types.Jump.TheVariants as jump
 use Rattle.il_code.specs.declared.types.Module.{Module}
 use Rattle.il_code.specs.Addresses.{address}
-use Rattle.il_code.specs.Machine.{Temps, temp_value}
+use Rattle.il_code.specs.Machine.{Temps, temp_value, cut, stack_size}
 use Rattle.il_code.specs.Machine as machine
 use Rattle.il_code.specs.MachineLaws.{jumps_and_calls}
 use Rattle.il_code.specs.State.{State, Waiting, Done, Jumped, start_of}
 use Rattle.il_code.specs.Step.{step, value_of, returned}
 use Rattle.il_code.specs.Run.{Run, further, after_steps}
-use Rattle.il_emit.specs.Names.{temp_name, label_name}
+use Rattle.il_emit.specs.Names.{temp_name, frame_name, label_name}
 use Rattle.il_emit.specs.Lines.{Line, End}
 use Rattle.il_emit.specs.Reaches.{fault_for}
 use Rattle.il_emit.proofs.Places.{line_blocks, place_of, Finds}
 
--- What stays as a call runs: the name of its function and the lines of it, the stack pointer, what the stack has cost up to it, and the
--- calls that wait for it. In flat code, calls have cost at least `floor` at once.
+-- What stays as a call runs, once it has taken its frame: the name of its function and the lines of it, the bytes of the frame and its
+-- address, the stack pointer, what the stack has cost with it, and the calls that wait for it.
 pub record Activation : Type 0 where
   pub name : List ℕ
   pub lines : List Line
+  pub frame : ℕ
+  pub base : ℕ
   pub pointer : ℕ
   pub cost : ℕ
-  pub floor : ℕ
   pub waiting : List Waiting
 
 -- what changes as it runs, besides the world
@@ -56,10 +58,18 @@ steps_more m (suc a) b r = let e : suc a + b ≡ suc (a + b) = omega arith in rw
 pub record Same (ts : List (ℕ × ℕ)) (temps : Temps) : Type 0 where
   pub at : (fill t : ℕ) → t < 2 ^ 64 → temp_value fill temps (temp_name t) ≡ flat.temp_value fill ts t
 
--- what is kept of a state of flat code, in which calls have cost at least so much
-pub record Holds (floor : ℕ) (s : flat.State) (c : Mark) : Type 0 where
+-- the address of the frame is in its temporary, where there is a frame
+pub record HasFrame (call : Activation) (temps : Temps) : Type 0 where
+  pub at : 0 < call.frame → (fill : ℕ) → temp_value fill temps frame_name ≡ cut L call.base
+
+-- What a call holds of a state of flat code: its temporaries, its frame, where the next frame begins, and no more than the cost of all
+-- calls. Memory is one and the same in both.
+pub record Holds (call : Activation) (s : flat.State) (c : Mark) : Type 0 where
   pub same : Same s.temps c.temps
-  pub most : floor ≤ s.most
+  pub frame : HasFrame call c.temps
+  pub base : s.frame ≡ call.base
+  pub top : s.top ≡ call.pointer
+  pub cost : call.cost ≤ s.cost
 
 -- where each exit leads that a Seq or Loop adds
 abbrev pub out_of : List Line → (ℕ → List Line) → ℕ → List Line
@@ -132,7 +142,7 @@ module _ (m : Module) (call : Activation) where
     pub to : Mark
     pub count : ℕ
     pub by : after_steps m count r ≡ before ls s.world to
-    pub holds : Holds call.floor s to
+    pub holds : Holds call s to
     pub jumps : q ≤ counted to
     pub units : to.used + low ≤ high + 4 * s.steps
 
@@ -142,7 +152,6 @@ module _ (m : Module) (call : Activation) where
     pub ended : (after_steps m count r).ended ≡ Some e
     pub world : (after_steps m count r).state.world ≡ s.world
     pub units : (after_steps m count r).used + low ≤ high + 4 * s.steps
-    pub most : call.floor ≤ s.most
 
   -- it goes on, after `n` jumps more
   pub record GoesOn (n q low high : ℕ) (r : Run) (s : flat.State) : Type 0 where
@@ -151,7 +160,6 @@ module _ (m : Module) (call : Activation) where
     pub world : (after_steps m count r).state.world ≡ s.world
     pub jumps : q + n ≤ jumps_and_calls (after_steps m count r)
     pub units : (after_steps m count r).used + low ≤ high + 4 * s.steps
-    pub most : call.floor ≤ s.most
 
   -- it comes to a return with a value
   pub record Returns (q low high : ℕ) (r : Run) (s : flat.State) (v : ℕ) : Type 0 where
@@ -160,17 +168,27 @@ module _ (m : Module) (call : Activation) where
     pub count : ℕ
     pub by : after_steps m count r ≡ before lines s.world to
     pub returns : step m (state_at lines s.world to) ≡ returned (state_at lines s.world to) v call.waiting
-    pub holds : Holds call.floor s to
+    pub holds : Holds call s to
     pub jumps : q ≤ counted to
     pub units : to.used + 1 + low ≤ high + 4 * s.steps
 
+  -- the stack is full, and calls that were active at once cost more than it holds
+  pub record Fills (r : Run) (s : flat.State) : Type 0 where
+    pub count : ℕ
+    pub ended : (after_steps m count r).ended ≡ Some machine.StackFull
+    pub most : stack_size < s.most
+
   -- what it comes to, by how code ends that begins there, where `rest` are the lines behind it and `out` those behind each exit
+  abbrev pub Does : (n q low high : ℕ) (out : ℕ → List Line) (rest : List Line) → Run → Result → Type 0
+  Does n q low high out rest r (Next, s) = Comes q low high r s rest
+  Does n q low high out rest r (Left k, s) = Comes q low high r s (out k)
+  Does n q low high out rest r (Returned v, s) = Returns q low high r s v
+  Does n q low high out rest r (flat.Exit k, s) = Stops low high r s (machine.Exit k)
+  Does n q low high out rest r (flat.Abort t, s) = Stops low high r s (machine.Abort t)
+  Does n q low high out rest r (flat.Fault f, s) = Stops low high r s (machine.Fault (fault_for f))
+  Does n q low high out rest r (HeapFull, s) = Stops low high r s machine.StackFull
+  Does n q low high out rest r (Spent, s) = GoesOn n q low high r s
+
+  -- it comes there, or the stack is full before
   abbrev pub Meets : (n q low high : ℕ) (out : ℕ → List Line) (rest : List Line) → Run → Result → Type 0
-  Meets n q low high out rest r (Next, s) = Comes q low high r s rest
-  Meets n q low high out rest r (Left k, s) = Comes q low high r s (out k)
-  Meets n q low high out rest r (Returned v, s) = Returns q low high r s v
-  Meets n q low high out rest r (flat.Exit k, s) = Stops low high r s (machine.Exit k)
-  Meets n q low high out rest r (flat.Abort t, s) = Stops low high r s (machine.Abort t)
-  Meets n q low high out rest r (flat.Fault f, s) = Stops low high r s (machine.Fault (fault_for f))
-  Meets n q low high out rest r (HeapFull, s) = Stops low high r s machine.StackFull
-  Meets n q low high out rest r (Spent, s) = GoesOn n q low high r s
+  Meets n q low high out rest r res = Does n q low high out rest r res ⊎ Fills r res.1

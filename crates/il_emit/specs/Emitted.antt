@@ -66,15 +66,15 @@ abbrev pub empty_draft : Draft
 empty_draft = record { blocks = []; label = []; insts = []; is_open = false }
 
 -- the blocks of a function
-abbrev pub blocks_of : List Data → FlatFn → List Block
-blocks_of globals f = (add_all empty_draft (function_lines globals f)).blocks
+abbrev pub blocks_of : FlatProgram → FlatFn → List Block
+blocks_of p f = (add_all empty_draft (function_lines p f)).blocks
 
 -- `main` is seen from outside
-abbrev pub function_item : List Data → FlatFn → IlItem
-function_item globals f = il.Function (is_main f) f.result f.name (params_of 0 f.params) (blocks_of globals f)
+abbrev pub function_item : FlatProgram → FlatFn → IlItem
+function_item p f = il.Function (is_main f) f.result f.name (params_of 0 f.params) (blocks_of p f)
 
 -- ---- programs
 
 -- the globals, and then the functions
 abbrev pub module_of : FlatProgram → Module
-module_of p = record { items = map data_item p.globals ++ map (function_item p.globals) p.functions }
+module_of p = record { items = map data_item p.globals ++ map (function_item p) p.functions }

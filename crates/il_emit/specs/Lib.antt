@@ -7,4 +7,4 @@ pub mod Emitted
 pub mod Numbered
 pub mod Reaches
 pub mod Shape
-pub mod Built
+pub mod Sources

@@ -1,18 +1,22 @@
 -- The lines of a function: labels, instructions and jumps, as they are made of flat code.
-use Rattle.std.specs.Prelude.{ℕ, suc, ◌+◌, ◌-◌, Bool, true, false, List, [], ◌∷◌, ◌++◌, length, slice_get, slice_index_or, Option, None, Some, ◌==◌, if◌then◌else◌}
+use Rattle.std.specs.Prelude.{ℕ, zero, suc, ◌+◌, ◌-◌, Bool, true, false, List, [], ◌∷◌, ◌++◌, length, slice_get, slice_index_or, Option, None, Some, ◌==◌, if◌then◌else◌}
 use Rattle.hx_base.specs.declared.Class.{Class}
 use Rattle.hx_base.specs.declared.Class.TheVariants.{L}
 use Rattle.flat_code.specs.declared.program.Data.{Data}
+use Rattle.flat_code.specs.declared.op.LoadKind.{LoadKind}
+use Rattle.flat_code.specs.declared.op.Op.{Op}
 use Rattle.flat_code.specs.declared.program.FlatFn.{FlatFn}
+use Rattle.flat_code.specs.declared.program.FlatProgram.{FlatProgram}
 use Rattle.flat_code.specs.declared.value.Value.{Value}
 use Rattle.flat_code.specs.declared.value.Value.TheVariants.{Temp, Number, Symbol, Frame}
 use Rattle.flat_code.specs.Code.{Code, Codes, none, more, Seq, Set, Load, Store, Move, If, Loop, Leave, Call, Ret}
 use Rattle.flat_code.specs.Shape.{code_of}
 use Rattle.flat_code.specs.Costs.{addressed}
+use Rattle.flat_code.specs.Evaluation.{function_named}
 use Rattle.flat_code.specs.Kinds.{op_kind, takes_two}
 use Rattle.hx_runtime.specs.Functions.{runtime_params, runtime_function}
 use Rattle.hx_runtime.specs.declared.runtime.RuntimeFunction.{RuntimeFunction}
-use Rattle.flat_code.specs.Temps.{call_class}
+use Rattle.flat_code.specs.Temps.{result_class}
 use Rattle.il_code.specs.declared.op.IlOp.TheVariants as op
 use Rattle.il_code.specs.declared.types.IlArg.{IlArg}
 use Rattle.il_code.specs.declared.types.IlParam.{IlParam}
@@ -22,8 +26,8 @@ use Rattle.il_code.specs.declared.types.Inst.{Inst}
 use Rattle.il_code.specs.declared.types.Inst.TheVariants as inst
 use Rattle.il_code.specs.declared.types.Jump.{Jump}
 use Rattle.il_code.specs.declared.types.Jump.TheVariants as jump
-use Rattle.il_emit.specs.Names.{temp_name, address_name, label_name}
-use Rattle.il_emit.specs.Ops.{il_op}
+use Rattle.il_emit.specs.Names.{temp_name, address_name, frame_name, label_name}
+use Rattle.il_emit.specs.Ops.{il_op, load_op}
 
 -- a line
 pub data Line : Type 0 where
@@ -53,12 +57,16 @@ operand globals (Frame offset) k = il.Temp (address_name k)
 abbrev pub address_inst : List Data → ℕ → ℕ → ℕ → Inst
 address_inst globals i offset k = inst.Set (address_name k) L op.Add (il.Symbol (name_at globals i)) (Some (il.Number offset))
 
--- what computes the address of an operand that needs it: a symbol with an offset. No function has a frame so far.
+-- the address of number `k` is that of a place of the frame
+abbrev pub place_inst : ℕ → ℕ → Inst
+place_inst offset k = inst.Set (address_name k) L op.Add (il.Temp frame_name) (Some (il.Number offset))
+
+-- what computes the address of an operand that needs it: a symbol with an offset, or a place of the frame
 abbrev pub address_lines : List Data → Value → ℕ → List Line
 address_lines globals (Temp t) k = []
 address_lines globals (Number n) k = []
 address_lines globals (Symbol i offset) k = if offset == 0 then [] else Do (address_inst globals i offset k) ∷ []
-address_lines globals (Frame offset) k = []
+address_lines globals (Frame offset) k = Do (place_inst offset k) ∷ []
 
 -- the second operand, where there are two
 abbrev pub second : Bool → IlValue → Option IlValue
@@ -71,6 +79,11 @@ second false v = None
 abbrev pub call_params : Option RuntimeFunction → List Class
 call_params None = []
 call_params (Some f) = runtime_params f
+
+-- the classes of the parameters of what a name calls: of a function of the program, else of the runtime
+abbrev pub called_params : Option FlatFn → List ℕ → List Class
+called_params (Some g) name = g.params
+called_params None name = call_params (runtime_function name)
 
 -- what a call's result goes to
 abbrev pub result_param : Option ℕ → Option Class → Option IlParam
@@ -126,14 +139,14 @@ abbrev pub addresses_of : Option Value → ℕ
 addresses_of None = 0
 addresses_of (Some v) = addressed v
 
--- how many addresses code takes, of the forms that are compiled so far
+-- how many addresses code takes
 abbrev mutual
   pub addresses_in : Code → ℕ
   addresses_in (Seq cs) = addresses_in_all cs
   addresses_in (Set temp class op a b) = addressed a + addressed b
-  addresses_in (Load temp how at) = 0
-  addresses_in (Store width value at) = 0
-  addresses_in (Move to from bytes) = 0
+  addresses_in (Load temp how at) = addressed at
+  addresses_in (Store width value at) = addressed value + addressed at
+  addresses_in (Move to from bytes) = addressed to + addressed from
   addresses_in (If cond a b) = addressed cond + addresses_in a + addresses_in b
   addresses_in (Loop c) = addresses_in c
   addresses_in (Leave j) = 0
@@ -149,42 +162,70 @@ abbrev mutual
 abbrev pub exit_at : List ℕ → ℕ → ℕ
 exit_at exits j = slice_index_or exits (length exits - suc j) 0
 
--- a branch on a condition, and the label of its first side
-abbrev pub condition_lines : List Data → Value → (n k : ℕ) → List Line
-condition_lines globals cond n k =
-    address_lines globals cond k ++ (End (jump.Jnz (operand globals cond k) (label_name n) (label_name (n + 1))) ∷ Label n ∷ [])
+-- The lines of single statements: those of the addresses of their operands, whose numbers begin with `k`, and then one instruction or
+-- jump. Behind a jump the label `n` stands.
+module _ (globals : List Data) where
+  -- an operation on its operands
+  abbrev pub set_lines : ℕ → Class → Op → (a b : Value) → (k : ℕ) → List Line
+  set_lines t class o a b k =
+      address_lines globals a k ++ (address_lines globals b (k + addressed a)
+      ++ (Do (inst.Set (temp_name t) class (il_op o) (operand globals a k)
+      (second (takes_two (op_kind o)) (operand globals b (k + addressed a)))) ∷ []))
 
--- a return, behind which the label `n` stands
-abbrev pub return_lines : List Data → Option Value → (n k : ℕ) → List Line
-return_lines globals None n k = End (jump.Ret None) ∷ Label n ∷ []
-return_lines globals (Some v) n k = address_lines globals v k ++ (End (jump.Ret (Some (operand globals v k))) ∷ Label n ∷ [])
+  abbrev pub load_lines : ℕ → LoadKind → Value → (k : ℕ) → List Line
+  load_lines t how at k =
+      address_lines globals at k ++ (Do (inst.Set (temp_name t) L (load_op how) (operand globals at k) None) ∷ [])
+
+  abbrev pub store_lines : ℕ → (value at : Value) → (k : ℕ) → List Line
+  store_lines width value at k =
+      address_lines globals value k ++ (address_lines globals at (k + addressed value)
+      ++ (Do (inst.Store width (operand globals value k) (operand globals at (k + addressed value))) ∷ []))
+
+  -- a Move is a blit, which names the address that bytes come from first
+  abbrev pub move_lines : (to from : Value) → (bytes k : ℕ) → List Line
+  move_lines to from bytes k =
+      address_lines globals to k ++ (address_lines globals from (k + addressed to)
+      ++ (Do (inst.Blit (operand globals from (k + addressed to)) (operand globals to k) bytes) ∷ []))
+
+  -- a call of a name, with the classes of what it calls
+  abbrev pub call_lines : (params : List Class) → (result : Option Class) → Option ℕ → List ℕ → List Value → (k : ℕ) → List Line
+  call_lines params result temp name args k =
+      arg_lines globals args k ++ (Do (inst.Call (result_param temp result) name (args_of globals params args k)) ∷ [])
+
+  -- a branch on a condition, and the label of its first side
+  abbrev pub condition_lines : Value → (n k : ℕ) → List Line
+  condition_lines cond n k =
+      address_lines globals cond k ++ (End (jump.Jnz (operand globals cond k) (label_name n) (label_name (n + 1))) ∷ Label n ∷ [])
+
+  abbrev pub return_lines : Option Value → (n k : ℕ) → List Line
+  return_lines None n k = End (jump.Ret None) ∷ Label n ∷ []
+  return_lines (Some v) n k = address_lines globals v k ++ (End (jump.Ret (Some (operand globals v k))) ∷ Label n ∷ [])
+
+-- a Leave
+abbrev pub leave_lines : (j n : ℕ) → (exits : List ℕ) → List Line
+leave_lines j n exits = End (jump.Jmp (label_name (exit_at exits j))) ∷ Label n ∷ []
 
 -- The lines of a statement, whose labels have the numbers from `n` on and whose addresses those from `k` on. Behind each jump stands a
 -- label, so that code behind a Leave or a Ret has a block of its own. A Loop is entered by a written jump and has one backward jump.
-module _ (globals : List Data) where
+module _ (p : FlatProgram) where
   abbrev mutual
     pub code_lines : Code → (n k : ℕ) → (exits : List ℕ) → List Line
     code_lines (Seq cs) n k exits = each_lines cs (suc n) k (exits ++ n ∷ []) ++ (Label n ∷ [])
-    code_lines (Set t class o a b) n k exits =
-        address_lines globals a k ++ (address_lines globals b (k + addressed a)
-        ++ (Do (inst.Set (temp_name t) class (il_op o) (operand globals a k)
-        (second (takes_two (op_kind o)) (operand globals b (k + addressed a)))) ∷ []))
-    code_lines (Load t how at) n k exits = []
-    code_lines (Store width value at) n k exits = []
-    code_lines (Move to from bytes) n k exits = []
+    code_lines (Set t class o a b) n k exits = set_lines p.globals t class o a b k
+    code_lines (Load t how at) n k exits = load_lines p.globals t how at k
+    code_lines (Store width value at) n k exits = store_lines p.globals width value at k
+    code_lines (Move to from bytes) n k exits = move_lines p.globals to from bytes k
     code_lines (If cond a b) n k exits =
-        address_lines globals cond k ++ (End (jump.Jnz (operand globals cond k) (label_name n) (label_name (n + 1))) ∷ Label n
+        address_lines p.globals cond k ++ (End (jump.Jnz (operand p.globals cond k) (label_name n) (label_name (n + 1))) ∷ Label n
         ∷ (code_lines a (n + 3) (k + addressed cond) exits ++ (End (jump.Jmp (label_name (n + 2))) ∷ Label (n + 1)
         ∷ (code_lines b (n + 3 + labels_in a) (k + addressed cond + addresses_in a) exits ++ (Label (n + 2) ∷ [])))))
     code_lines (Loop c) n k exits =
         End (jump.Jmp (label_name n)) ∷ Label n ∷
         (code_lines c (n + 2) k (exits ++ (n + 1) ∷ []) ++ (End (jump.Jmp (label_name n)) ∷ Label (n + 1) ∷ []))
-    code_lines (Leave j) n k exits = End (jump.Jmp (label_name (exit_at exits j))) ∷ Label n ∷ []
+    code_lines (Leave j) n k exits = leave_lines j n exits
     code_lines (Call temp name args) n k exits =
-        arg_lines globals args k ++ (Do
-        (inst.Call (result_param temp (call_class (runtime_function name))) name
-        (args_of globals (call_params (runtime_function name)) args k)) ∷ [])
-    code_lines (Ret value) n k exits = return_lines globals value n k
+        call_lines p.globals (called_params (function_named p.functions name) name) (result_class p name) temp name args k
+    code_lines (Ret value) n k exits = return_lines p.globals value n k
 
     pub each_lines : Codes → (n k : ℕ) → (exits : List ℕ) → List Line
     each_lines none n k exits = []
@@ -192,11 +233,20 @@ module _ (globals : List Data) where
 
 -- ---- functions
 
+-- the frame of a function is taken from the stack by one alloc of its bytes; one of no bytes takes nothing
+abbrev pub frame_lines : ℕ → List Line
+frame_lines zero = []
+frame_lines (suc n) = Do (inst.Set frame_name L op.Alloc16 (il.Number (suc n)) None) ∷ []
+
 -- what a body that ends without a Ret returns
 abbrev pub end_value : Option Class → Option IlValue
 end_value None = None
 end_value (Some class) = Some (il.Number 0)
 
--- the lines of a function. No jump goes to its first label.
-abbrev pub function_lines : List Data → FlatFn → List Line
-function_lines globals f = Label 0 ∷ (code_lines globals (code_of f.body) 1 0 [] ++ (End (jump.Ret (end_value f.result)) ∷ []))
+-- the lines of a function between its first label and its last return
+abbrev pub inner_lines : FlatProgram → FlatFn → List Line
+inner_lines p f = frame_lines f.frame ++ code_lines p (code_of f.body) 1 0 []
+
+-- the lines of a function. Its frame is taken in the first block, and no jump goes to the label of that.
+abbrev pub function_lines : FlatProgram → FlatFn → List Line
+function_lines p f = Label 0 ∷ (inner_lines p f ++ (End (jump.Ret (end_value f.result)) ∷ []))

@@ -3,6 +3,8 @@ use Rattle.std.specs.Prelude.{◌≡◌, ℕ, Bool, true, false, Option, None, S
 use Rattle.hx_base.specs.declared.Class.{Class}
 use Rattle.flat_code.specs.declared.op.Op.{Op}
 use Rattle.flat_code.specs.declared.op.Op.TheVariants as flat
+use Rattle.flat_code.specs.declared.op.LoadKind.{LoadKind}
+use Rattle.flat_code.specs.declared.op.LoadKind.TheVariants as how
 use Rattle.flat_code.specs.Kinds.{op_kind, takes_two}
 use Rattle.flat_code.specs.Operations.{gives}
 use Rattle.il_code.specs.declared.op.IlOp.{IlOp}
@@ -51,6 +53,16 @@ il_op flat.Cugew = il.Cugew
 il_op flat.Cugel = il.Cugel
 il_op flat.Cugtw = il.Cugtw
 il_op flat.Cugtl = il.Cugtl
+
+-- what loads a number by its kind, and extends it
+abbrev pub load_op : LoadKind → IlOp
+load_op how.Sb = il.Loadsb
+load_op how.Ub = il.Loadub
+load_op how.Sh = il.Loadsh
+load_op how.Uh = il.Loaduh
+load_op how.Sw = il.Loadsw
+load_op how.Uw = il.Loaduw
+load_op how.L = il.Loadl
 
 -- ---- what they give
 

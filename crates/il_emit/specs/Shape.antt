@@ -1,7 +1,8 @@
--- The module has the program's shape: the same functions, with no loop and no call that the program does not have, and calls that cost the
--- stack no more.
-use Rattle.std.specs.Prelude.{ℕ, suc, ◌+◌, ◌≤◌, Bool, true, false, not, ◌&&◌, ◌||◌, IsTrue, List, [], ◌∷◌, Option, None, Some, bytes_eq, count_by, sum_by, if◌then◌else◌}
+-- The module has the program's shape: the same data and functions in the same order, with no loop and no call that the program does not
+-- have, and calls that cost the stack no more.
+use Rattle.std.specs.Prelude.{◌≡◌, ℕ, suc, ◌+◌, ◌≤◌, Bool, true, false, not, ◌&&◌, ◌||◌, IsTrue, List, [], ◌∷◌, ◌++◌, map, Option, None, Some, bytes_eq, count_by, sum_by, if◌then◌else◌}
 use Rattle.std.specs.List.{list_all}
+use Rattle.flat_code.specs.declared.program.Data.{Data}
 use Rattle.flat_code.specs.declared.program.FlatFn.{FlatFn}
 use Rattle.flat_code.specs.declared.program.FlatProgram.{FlatProgram}
 use Rattle.flat_code.specs.Code.{Code, Codes, none, more, Seq, Set, Load, Store, Move, If, Loop, Leave, Call, Ret}
@@ -9,6 +10,7 @@ use Rattle.flat_code.specs.Costs as flat_cost
 use Rattle.flat_code.specs.Evaluation as flat
 use Rattle.flat_code.specs.Shape.{code_of}
 use Rattle.il_code.specs.declared.types.Block.{Block}
+use Rattle.il_code.specs.declared.types.IlItem.{IlItem}
 use Rattle.il_code.specs.declared.types.IlParam.{IlParam}
 use Rattle.il_code.specs.declared.types.IlValue.{IlValue}
 use Rattle.il_code.specs.declared.types.IlValue.TheVariants as il_value
@@ -16,7 +18,7 @@ use Rattle.il_code.specs.declared.types.Inst.{Inst}
 use Rattle.il_code.specs.declared.types.Inst.TheVariants as inst
 use Rattle.il_code.specs.declared.types.Module.{Module}
 use Rattle.il_code.specs.Machine.{call_cost}
-use Rattle.il_code.specs.Rules.{has_label, targets_pass}
+use Rattle.il_code.specs.Rules.{item_name, is_function, has_label, targets_pass}
 use Rattle.il_code.specs.State as il
 use Rattle.il_code.specs.Step.{Kind, Takes, Loads, Computes, kind_of, taken}
 
@@ -133,11 +135,12 @@ abbrev mutual
 -- ---- functions and programs
 
 -- A function of the module has no more backward jumps than one of the program has Loops, no more calls of any function than that has Calls
--- of it, and a call of it costs the stack no more than flat code says.
+-- of it, an alloc only where that has a frame, and a call of it costs the stack no more than flat code says.
 pub record IsShapedAs (f : FlatFn) (c : il.Code) : Type 0 where
   pub jumps : backward_jumps c.blocks ≤ loops_in (code_of f.body)
   pub calls : (name : List ℕ) → calls_of name c.blocks ≤ calls_in name (code_of f.body)
   pub allocs : IsTrue (allocs_are_placed c.blocks)
+  pub unframed : f.frame ≡ 0 → IsTrue (list_all (λ (b : Block). list_all (λ (i : Inst). not (is_alloc i)) b.insts) c.blocks)
   pub cost : full_cost c.params c.blocks ≤ flat_cost.call_cost f
 
 -- the function of the module for one of the program, which is there exactly where that is
@@ -147,6 +150,13 @@ AreAlike None (Some c) = ⊥
 AreAlike (Some f) None = ⊥
 AreAlike (Some f) (Some c) = IsShapedAs f c
 
--- function by function, by their names
-abbrev pub HasShape : FlatProgram → Module → Type 0
-HasShape p m = (name : List ℕ) → AreAlike (flat.function_named p.functions name) (il.function_named m.items name)
+-- the name of a definition of the module, and whether it is a function
+abbrev pub outlined : IlItem → List ℕ × Bool
+outlined i = (item_name i, is_function i)
+
+pub record HasShape (p : FlatProgram) (m : Module) : Type 0 where
+  -- a data item for each global and then a function for each function, in their order and under their names
+  pub items : map outlined m.items ≡
+      map (λ (d : Data). (d.name, false)) p.globals ++ map (λ (f : FlatFn). (f.name, true)) p.functions
+  -- function by function, by their names
+  pub functions : (name : List ℕ) → AreAlike (flat.function_named p.functions name) (il.function_named m.items name)

@@ -4,7 +4,6 @@
 //! function, whose structured code becomes blocks. `specs/Lines.antt` says which. The module is valid.
 #![tactic(auto)]
 
-mod built;
 mod code;
 mod data;
 mod draft;
@@ -13,8 +12,8 @@ mod module;
 mod names;
 mod op;
 mod operand;
+mod source;
 mod statement;
 
-pub use built::is_built;
 pub use module::emit;
 pub use op::law_operations_agree;

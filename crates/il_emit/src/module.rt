@@ -4,7 +4,6 @@ ghost use Rattle.std.specs.Prelude.{◌≡◌, ◌++◌, ◌<◌, ◌^◌, map, 
 ghost use Rattle.std.specs.List.{AllByRecursion};
 ghost use Rattle.flat_code.specs.WellFormed.{IsWellFormed, is_main};
 ghost use Rattle.il_code.specs.Rules.{IsValid};
-ghost use Rattle.il_emit.specs.Built.{IsBuilt};
 ghost use Rattle.il_emit.specs.Lines.{end_value};
 ghost use Rattle.il_emit.specs.Numbered.{HasFewNames};
 ghost use Rattle.il_emit.specs.Reaches.{Reaches};
@@ -16,6 +15,7 @@ use crate::data::data_item;
 use crate::draft::Draft;
 use crate::emitter::Emitter;
 use crate::names::{same_text, temp_name};
+use crate::source::Source;
 use flat_code::{Data, FlatFn, FlatProgram};
 use hx_base::Class;
 use il_code::{Blocks, IlItem, IlItems, IlParam, IlParams, IlValue, Jump, Module};
@@ -23,7 +23,7 @@ use std::alloc::{AllocError, Global};
 
 /// The module of a program: a data item for each global, and then a function for each function, in their order. `main` is exported.
 ///
-/// The program is well formed, as `flat_code::well_formed` tells, and has only forms that are emitted so far, as [`crate::is_built`] tells.
+/// The program is well formed, as `flat_code::well_formed` tells.
 ///
 /// The module is valid, and it does what the program does: at every number of turns there is a budget, of at most four units for each flat
 /// step and one more, with which a run of it comes to the same end and the same world, or to the same world where turns ran out. Where
@@ -32,8 +32,7 @@ use std::alloc::{AllocError, Global};
 ///
 /// An error is want of memory.
 pub fn emit(alloc: Global, p: &FlatProgram) -> Result<Module, AllocError>
-    requires formed { IsWellFormed p.now }
-    requires built { IsBuilt p.now }
+    requires { IsWellFormed p.now }
     ensures value { IfOk result (λ m. m ≡ module_of p.now) }
     ensures valid { IfOk result (λ m. IsValid m) }
     ensures reaches { IfOk result (λ m. Reaches p.now m) }
@@ -47,10 +46,10 @@ fn module_of(alloc: Global, p: &FlatProgram) -> Result<Module, AllocError>
     ensures value { IfOk result (λ m. m ≡ module_of p.now) }
     ensures fits { OnOk result (AllByRecursion HasFewNames p.now.functions) }
 {
-    let globals = p.globals.as_slice();
+    let source = Source::new(alloc, p)?;
     let mut items = IlItems::new(alloc);
-    put_globals(alloc, &mut items, globals)?;
-    put_functions(alloc, &mut items, globals, p.functions.as_slice())?;
+    put_globals(alloc, &mut items, p.globals.as_slice())?;
+    put_functions(alloc, &mut items, &source, p.functions.as_slice())?;
     Ok(Module { items })
 }
 
@@ -68,27 +67,27 @@ fn put_globals(alloc: Global, out: &mut IlItems, globals: &[Data]) -> Result<(),
 fn put_functions(
     alloc: Global,
     out: &mut IlItems,
-    globals: &[Data],
+    source: &Source,
     functions: &[FlatFn],
 ) -> Result<(), AllocError>
-    ensures value { OnOk result (out.new ≡ out.old ++ map (function_item globals.now) functions.now) }
+    ensures value { OnOk result (out.new ≡ out.old ++ map (function_item source.now.program.now) functions.now) }
     ensures fits { OnOk result (AllByRecursion HasFewNames functions.now) }
 {
     let mut left = functions;
     'each: while let [f, more @ ..] = left {
-        out.push(function_item(alloc, globals, f)?)?;
+        out.push(function_item(alloc, source, f)?)?;
         left = more;
     }
     Ok(())
 }
 
-fn function_item(alloc: Global, globals: &[Data], f: &FlatFn) -> Result<IlItem, AllocError>
-    ensures value { IfOk result (λ i. i ≡ function_item globals.now f.now) }
+fn function_item(alloc: Global, source: &Source, f: &FlatFn) -> Result<IlItem, AllocError>
+    ensures value { IfOk result (λ i. i ≡ function_item source.now.program.now f.now) }
     ensures fits { OnOk result (HasFewNames f.now) }
 {
     let name = same_text(alloc, &f.name)?;
     let params = params_of(alloc, f.params.as_slice())?;
-    let blocks = blocks_of(alloc, globals, f)?;
+    let blocks = blocks_of(alloc, source, f)?;
     Ok(IlItem::Function {
         export: is_main(f),
         class: f.result,
@@ -140,8 +139,8 @@ fn has_64_bits(n: u64)
     ensures { n < 2 ^ 64 }
 {}
 
-fn blocks_of(alloc: Global, globals: &[Data], f: &FlatFn) -> Result<Blocks, AllocError>
-    ensures value { IfOk result (λ bs. bs ≡ blocks_of globals.now f.now) }
+fn blocks_of(alloc: Global, source: &Source, f: &FlatFn) -> Result<Blocks, AllocError>
+    ensures value { IfOk result (λ bs. bs ≡ blocks_of source.now.program.now f.now) }
     ensures fits { OnOk result (HasFewNames f.now) }
 {
     let mut e = Emitter {
@@ -152,10 +151,12 @@ fn blocks_of(alloc: Global, globals: &[Data], f: &FlatFn) -> Result<Blocks, Allo
         exits: Vec::new(alloc),
     };
     e.label(0)?;
-    code(&mut e, globals, &f.body)?;
+    e.frame(f.frame)?;
+    code(&mut e, source, &f.body)?;
     has_64_bits(e.labels);
     has_64_bits(e.addresses);
     has_64_bits(u64::from(f.temps));
+    has_64_bits(f.frame);
     e.end(Jump::Ret(end_value(f.result)))?;
     let Emitter { draft, .. } = e;
     let Draft { blocks, .. } = draft;

@@ -1,7 +1,7 @@
 //! The names that stand in emitted functions.
 
 ghost use Rattle.std.specs.Prelude.{◌≡◌, IfOk};
-ghost use Rattle.il_emit.specs.Names.{temp_name, address_name, label_name};
+ghost use Rattle.il_emit.specs.Names.{temp_name, address_name, frame_name, label_name};
 
 use hx_base::Text;
 use std::alloc::{AllocError, Global};
@@ -22,6 +22,13 @@ pub fn address_name(alloc: Global, k: u64) -> Result<Text, AllocError>
     let mut name = Text::copy(alloc, "a")?;
     name.push_decimal(i128::from(k))?;
     Ok(name)
+}
+
+/// The name of the temporary that holds the address of the call's frame.
+pub fn frame_name(alloc: Global) -> Result<Text, AllocError>
+    ensures { IfOk result (λ s. s ≡ frame_name) }
+{
+    Text::copy(alloc, "f")
 }
 
 /// The name of a block.

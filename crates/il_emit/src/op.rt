@@ -1,15 +1,30 @@
 //! The operations of flat code in the intermediate language.
 
 ghost use Rattle.std.specs.Prelude.{◌≡◌};
-ghost use Rattle.il_emit.specs.Ops.{OperationsAgree, il_op};
+ghost use Rattle.il_emit.specs.Ops.{OperationsAgree, il_op, load_op};
 
-use flat_code::Op;
+use flat_code::{LoadKind, Op};
 use il_code::IlOp;
 
 /// Each operation of flat code gives what the operation of the same name gives, and nothing where that faults.
 pub fn law_operations_agree()
     ensures { OperationsAgree }
 {}
+
+/// What loads a number by its kind, and extends it.
+pub fn load_op(how: LoadKind) -> IlOp
+    ensures { result ≡ load_op how }
+{
+    match how {
+        LoadKind::Sb => IlOp::Loadsb,
+        LoadKind::Ub => IlOp::Loadub,
+        LoadKind::Sh => IlOp::Loadsh,
+        LoadKind::Uh => IlOp::Loaduh,
+        LoadKind::Sw => IlOp::Loadsw,
+        LoadKind::Uw => IlOp::Loaduw,
+        LoadKind::L => IlOp::Loadl,
+    }
+}
 
 /// The operation of the same name.
 pub fn il_op(op: Op) -> IlOp

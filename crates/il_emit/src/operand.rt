@@ -2,11 +2,11 @@
 
 ghost use Rattle.std.specs.Prelude.{◌≡◌, OnOk, IfOk};
 ghost use Rattle.flat_code.specs.Costs.{addressed};
-ghost use Rattle.il_emit.specs.Lines.{name_at, operand, address_inst, address_lines, second};
+ghost use Rattle.il_emit.specs.Lines.{name_at, operand, address_inst, place_inst, address_lines, second};
 ghost use Rattle.il_emit.specs.Emitting.{Emits};
 
 use crate::emitter::Emitter;
-use crate::names::{address_name, same_text, temp_name};
+use crate::names::{address_name, frame_name, same_text, temp_name};
 use flat_code::{Data, Value};
 use hx_base::{Class, Text};
 use il_code::{IlOp, IlValue, Inst};
@@ -59,6 +59,19 @@ fn address_inst(
     })
 }
 
+/// What computes an address, of number `k`, from that of the frame and an offset.
+fn place_inst(alloc: Global, offset: u64, k: u64) -> Result<Inst, AllocError>
+    ensures { IfOk result (λ x. x ≡ place_inst offset k) }
+{
+    Ok(Inst::Set {
+        temp: address_name(alloc, k)?,
+        class: Class::L,
+        op: IlOp::Add,
+        a: IlValue::Temp(frame_name(alloc)?),
+        b: Some(IlValue::Number(offset)),
+    })
+}
+
 /// The second operand, where there are two.
 pub fn second(two: bool, v: IlValue) -> Option<IlValue>
     ensures { result ≡ second two v }
@@ -81,9 +94,9 @@ impl Emitter {
                 let k = self.take_address()?;
                 self.inst(address_inst(self.alloc, globals, i, offset, k)?)
             }
-            Value::Frame(_) => {
-                self.take_address()?;
-                Ok(())
+            Value::Frame(offset) => {
+                let k = self.take_address()?;
+                self.inst(place_inst(self.alloc, offset, k)?)
             }
         }
     }

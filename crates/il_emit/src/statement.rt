@@ -1,43 +1,20 @@
 //! The lines of single statements, and those round the statements within one.
 
 ghost use Rattle.std.specs.Prelude.{◌≡◌, ◌+◌, ◌-◌, ◌<◌, ◌^◌, ◌∷◌, ◌++◌, [], Some, length, take, OnOk, IfOk};
-ghost use Rattle.hx_runtime.specs.Functions.{runtime_function};
 ghost use Rattle.flat_code.specs.Costs.{addressed};
-ghost use Rattle.flat_code.specs.Code as flat;
-ghost use Rattle.flat_code.specs.Temps.{call_class};
-ghost use Rattle.il_emit.specs.Lines.{Label, Do, End, operand, address_lines, addresses_of, all_addressed, code_lines, return_lines, call_params, result_param, first_arg, rest_of, arg_lines, args_of, condition_lines};
+ghost use Rattle.il_emit.specs.Lines.{Label, Do, End, addresses_of, all_addressed, set_lines, load_lines, store_lines, move_lines, call_lines, condition_lines, return_lines, leave_lines, result_param, first_arg, rest_of, arg_lines, args_of, frame_lines};
 ghost use Rattle.il_emit.specs.Names.{label_name};
 ghost use Rattle.il_emit.specs.Emitting.{Emits};
 
 use crate::emitter::Emitter;
-use crate::names::{label_name, same_text, temp_name};
-use crate::op::il_op;
+use crate::names::{frame_name, label_name, same_text, temp_name};
+use crate::op::{il_op, load_op};
 use crate::operand::second;
-use flat_code::{Data, Op, Value};
+use crate::source::Signature;
+use flat_code::{Data, LoadKind, Op, Value};
 use hx_base::{Class, Text};
-use hx_runtime::RuntimeFunction;
-use il_code::{IlArg, IlArgs, IlParam, IlValue, Inst, Jump};
+use il_code::{IlArg, IlArgs, IlOp, IlParam, IlValue, Inst, Jump};
 use std::alloc::{AllocError, Global};
-
-/// The classes of the parameters of a function of the runtime.
-fn call_params(name: &[u8]) -> &'static [Class]
-    ensures { result.now ≡ call_params (runtime_function name.now) }
-{
-    match RuntimeFunction::named(name) {
-        None => &[],
-        Some(f) => f.params(),
-    }
-}
-
-/// The class of its result, where it has one.
-fn call_class(name: &[u8]) -> Option<Class>
-    ensures { result ≡ call_class (runtime_function name.now) }
-{
-    match RuntimeFunction::named(name) {
-        None => None,
-        Some(f) => f.result(),
-    }
-}
 
 /// What a call's result goes to.
 fn result_param(
@@ -83,14 +60,13 @@ fn rest_of<'a>(classes: &'a [Class]) -> &'a [Class]
 fn call_inst(
     alloc: Global,
     temp: Option<u32>,
+    class: Option<Class>,
     name: &Text,
     args: IlArgs,
 ) -> Result<Inst, AllocError>
-    ensures { IfOk result (λ i. i ≡ Inst.Call
-        (result_param temp (call_class (runtime_function name.now))) name.now args) }
+    ensures { IfOk result (λ i. i ≡ Inst.Call (result_param temp class) name.now args) }
 {
-    let result_class = call_class(name.bytes());
-    let to = result_param(alloc, temp, result_class)?;
+    let to = result_param(alloc, temp, class)?;
     let target = same_text(alloc, name)?;
     Ok(Inst::Call {
         result: to,
@@ -111,8 +87,7 @@ impl Emitter {
         b: Value,
     ) -> Result<(), AllocError>
         ensures { OnOk result (Emits self.old self.new
-            (code_lines globals.now (flat.Set temp class op a b) self.old.labels self.old.addresses self.old.exits.items)
-            0 (addressed a + addressed b) self.old.exits.items) }
+            (set_lines globals.now temp class op a b self.old.addresses) 0 (addressed a + addressed b) self.old.exits.items) }
     {
         let a = self.operand(globals, a)?;
         let b = self.operand(globals, b)?;
@@ -126,20 +101,92 @@ impl Emitter {
         })
     }
 
-    /// Calls a function.
+    /// Sets a temporary to the number at an address.
+    pub fn load(
+        &mut self,
+        globals: &[Data],
+        temp: u32,
+        how: LoadKind,
+        at: Value,
+    ) -> Result<(), AllocError>
+        ensures { OnOk result (Emits self.old self.new
+            (load_lines globals.now temp how at self.old.addresses) 0 (addressed at) self.old.exits.items) }
+    {
+        let at = self.operand(globals, at)?;
+        let temp = temp_name(self.alloc, temp)?;
+        self.inst(Inst::Set {
+            temp,
+            class: Class::L,
+            op: load_op(how),
+            a: at,
+            b: None,
+        })
+    }
+
+    /// Stores so many bytes of a number at an address.
+    pub fn store(
+        &mut self,
+        globals: &[Data],
+        width: u32,
+        value: Value,
+        at: Value,
+    ) -> Result<(), AllocError>
+        ensures { OnOk result (Emits self.old self.new
+            (store_lines globals.now width value at self.old.addresses) 0 (addressed value + addressed at) self.old.exits.items) }
+    {
+        let value = self.operand(globals, value)?;
+        let at = self.operand(globals, at)?;
+        self.inst(Inst::Store { width, value, at })
+    }
+
+    /// Copies bytes.
+    pub fn copy(
+        &mut self,
+        globals: &[Data],
+        to: Value,
+        from: Value,
+        bytes: u64,
+    ) -> Result<(), AllocError>
+        ensures { OnOk result (Emits self.old self.new
+            (move_lines globals.now to from bytes self.old.addresses) 0 (addressed to + addressed from) self.old.exits.items) }
+    {
+        let to = self.operand(globals, to)?;
+        let from = self.operand(globals, from)?;
+        self.inst(Inst::Blit { from, to, bytes })
+    }
+
+    /// Takes the frame of a function, where it has bytes.
+    pub fn frame(&mut self, bytes: u64) -> Result<(), AllocError>
+        ensures { OnOk result (Emits self.old self.new (frame_lines bytes) 0 0 self.old.exits.items) }
+    {
+        if bytes == 0 {
+            return Ok(());
+        }
+        let temp = frame_name(self.alloc)?;
+        self.inst(Inst::Set {
+            temp,
+            class: Class::L,
+            op: IlOp::Alloc16,
+            a: IlValue::Number(bytes),
+            b: None,
+        })
+    }
+
+    /// Calls a function with this signature.
     pub fn call(
         &mut self,
         globals: &[Data],
+        signature: &Signature,
         temp: Option<u32>,
         name: &Text,
         args: &[Value],
     ) -> Result<(), AllocError>
         ensures { OnOk result (Emits self.old self.new
-            (code_lines globals.now (flat.Call temp name.now args.now) self.old.labels self.old.addresses self.old.exits.items)
+            (call_lines globals.now signature.now.params.now signature.now.result temp name.now args.now self.old.addresses)
             0 (all_addressed args.now) self.old.exits.items) }
     {
-        let args = self.args(globals, call_params(name.bytes()), args)?;
-        let call = call_inst(self.alloc, temp, name, args)?;
+        let args = self.args(globals, signature.params, args)?;
+        let call = call_inst(self.alloc, temp, signature.result, name, args)?;
         self.inst(call)?;
         Ok(())
     }
@@ -191,8 +238,7 @@ impl Emitter {
     #[inline(never)]
     pub fn leave(&mut self, j: u32) -> Result<(), AllocError>
         ensures { OnOk result (Emits self.old self.new
-            (code_lines [] (flat.Leave j) self.old.labels self.old.addresses self.old.exits.items)
-            1 0 self.old.exits.items) }
+            (leave_lines j self.old.labels self.old.exits.items) 1 0 self.old.exits.items) }
     {
         let n = self.take_labels(1)?;
         let jump = self.jump_to(self.exit(j))?;

@@ -6,7 +6,7 @@ use flat_code::{
 };
 use hx_base::{Bytes, Items, Text};
 use il_code::{print, valid};
-use il_emit::{emit, is_built};
+use il_emit::emit;
 use std::alloc::{AllocError, Global};
 use std::test::Fail;
 
@@ -71,10 +71,10 @@ fn branch(alloc: Global, cond: Value, yes: Flat, no: Flat) -> Result<Flat, Alloc
     })
 }
 
-/// The text of a program with this body, if the program is well formed and built so far, and its module valid.
+/// The text of a program with this body, if the program is well formed and its module valid.
 fn text(alloc: Global, body: Flat) -> Result<Option<Bytes>, AllocError> {
     let p = program(alloc, body)?;
-    if !well_formed(&p) || !is_built(&p) {
+    if !well_formed(&p) {
         return Ok(None);
     }
     let m = emit(alloc, &p)?;

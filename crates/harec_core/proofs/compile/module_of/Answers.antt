@@ -1,7 +1,6 @@
 use Rattle.std.proofs.Common.{sym}
 use Rattle.hare_blocks.specs.Shape.{program_of}
 use Rattle.harec_core.proofs.Compiled.{module_of_file}
-use Rattle.harec_core.proofs.BuiltLowered.{flat_built}
 use Rattle.harec_core.proofs.compile.module_of.Goals as goal
 
 pub returns : goal.returns
@@ -12,6 +11,3 @@ returns c =
     module_of_file c.law_input.ensures c.args.source.now _ c.in_ok-flat.flat c.in_ok-module.module flat.value made.value file
     (λ q s. sym (rw c.in-Some.is at (c.in_ok-program.ensures.only q s)))
     made.valid flat.does flat.loops made.reaches made.shape
-
-pub emit-requires-clause-built : goal.emit-requires-clause-built
-emit-requires-clause-built c = flat_built (program_of c.in-Some.program) c.in_ok-flat.flat c.in_ok-flat.ensures.value

@@ -11,12 +11,12 @@ use Rattle.il_emit.proofs.module.emit.Goals as goal
 
 pub returns-clause-valid : goal.returns-clause-valid
 returns-clause-valid c =
-    subst (λ (m : Module). IsValid m) (sym c.in_ok-m.ensures.value) (valid c.args.p.now c.requires.formed c.requires.built c.in_ok-m.ensures.fits)
+    subst (λ (m : Module). IsValid m) (sym c.in_ok-m.ensures.value) (valid c.args.p.now c.requires c.in_ok-m.ensures.fits)
 
 pub returns-clause-reaches : goal.returns-clause-reaches
 returns-clause-reaches c =
-    subst (λ (m : Module). Reaches c.args.p.now m) (sym c.in_ok-m.ensures.value) (reaches c.args.p.now c.requires.formed c.requires.built c.in_ok-m.ensures.fits)
+    subst (λ (m : Module). Reaches c.args.p.now m) (sym c.in_ok-m.ensures.value) (reaches c.args.p.now c.requires c.in_ok-m.ensures.fits)
 
 pub returns-clause-shape : goal.returns-clause-shape
 returns-clause-shape c =
-    subst (λ (m : Module). HasShape c.args.p.now m) (sym c.in_ok-m.ensures.value) (shape c.args.p.now c.requires.formed c.requires.built c.in_ok-m.ensures.fits)
+    subst (λ (m : Module). HasShape c.args.p.now m) (sym c.in_ok-m.ensures.value) (shape c.args.p.now c.requires)
