@@ -2,4 +2,3 @@ pub mod BaseLemmas
 pub mod PartLemmas
 pub mod SearchLemmas
 pub mod StayLemmas
-pub mod TestLemmas

@@ -2,5 +2,4 @@ pub mod Grown
 pub mod Spots
 pub mod Walks
 pub mod Verdicts
-pub mod Nulls
 pub mod Counts

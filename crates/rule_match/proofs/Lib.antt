@@ -4,4 +4,3 @@ pub mod DistinctLemmas
 pub mod FittingLemmas
 pub mod CoverLemmas
 pub mod UnmetLemmas
-pub mod SmallestLemmas

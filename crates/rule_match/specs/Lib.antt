@@ -2,4 +2,3 @@ pub mod Patterns
 pub mod Kinds
 pub mod Needs
 pub mod Laws
-pub mod Smallest
