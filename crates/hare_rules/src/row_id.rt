@@ -1,7 +1,7 @@
 //! The rows of the table of typing rules.
 
 /// One row of the table of typing rules: a condition that a node has to meet. A name is that of the kinds whose list has the row, and what
-/// it asks; where several kinds share a list, the first of them or what they have in common. `docs/LANGUAGE.md` has the table in words.
+/// it asks; where several kinds share a list, the first of them or what they have in common. `docs/RULES.md` has the table in words.
 #[derive(Clone, Copy, Debug, PartialEq, Eq)]
 pub enum RowId {
     /// Number: the type of the suffix holds it.

@@ -7,7 +7,7 @@ use crate::row_id::RowId;
 use hare_tree::Kind;
 
 /// The rows that a node of this kind has to meet, in the order in which they are looked at: the first that fails is the node's fault. A
-/// kind that is no expression, statement, type or declaration with a value has none. `docs/LANGUAGE.md` has each row in words.
+/// kind that is no expression, statement, type or declaration with a value has none. `docs/RULES.md` has each row in words.
 pub fn rows(k: Kind) -> &'static [RowId]
     ensures value { result.now ≡ rows_of k }
 {
