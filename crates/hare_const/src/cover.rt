@@ -1,8 +1,8 @@
 //! Whether constants cover a type.
 
-ghost use Rattle.std.specs.Prelude.{◌↔◌, ◌≡◌, ◌^◌, pos, neg_ℤ, ◌≤ℤ◌, ◌<ℤ◌, IsTrue, Some, None, IfSome, MatchOption};
+ghost use Rattle.std.specs.Prelude.{◌↔◌, ◌≡◌, ◌≤◌, ◌^◌, pos, neg_ℤ, ◌≤ℤ◌, ◌<ℤ◌, IsTrue, Some, None, IfSome, MatchOption};
 ghost use Rattle.hare_types.specs.declared.coercion.Ty.TheVariants as ty;
-ghost use Rattle.hare_typed.specs.Cover.{range_of_word, range_of};
+ghost use Rattle.hare_typed.specs.Cover.{integers, range_of_word, range_of};
 ghost use Rattle.hare_typed.specs.Given.{base_row as row_of_base};
 ghost use Rattle.hare_const.specs.Covering.{Ascend, Cover};
 
@@ -20,6 +20,33 @@ pub struct Limits {
     pub greatest: i128,
 }
 
+/// The bits of a rune.
+const RUNE_BITS: u32 = 32;
+
+/// The values of an integer type of so many bits, from 1 to 64.
+fn integers(bits: u32, signed: bool) -> Limits
+    requires some { 1 ≤ bits }
+    requires few { bits ≤ 64 }
+    ensures low { neg_ℤ (pos (2 ^ 63)) ≤ℤ result.least }
+    ensures some { result.least ≤ℤ result.greatest }
+    ensures high { result.greatest <ℤ pos (2 ^ 64) }
+    ensures value { integers bits (Some signed) ≡ Some (record { least = result.least; greatest = result.greatest }) }
+{
+    if signed {
+        let end = 1i128 << (bits - 1);
+        Limits {
+            least: -end,
+            greatest: end - 1,
+        }
+    } else {
+        let end = 1i128 << bits;
+        Limits {
+            least: 0,
+            greatest: end - 1,
+        }
+    }
+}
+
 /// The values of a type that is one word, where it has a least and a greatest.
 fn limits_of(k: Scalar) -> Option<Limits>
     ensures low { IfSome result (λ r. neg_ℤ (pos (2 ^ 63)) ≤ℤ r.least) }
@@ -28,19 +55,17 @@ fn limits_of(k: Scalar) -> Option<Limits>
     ensures value { MatchOption result (range_of_word k ≡ None)
         (λ r. range_of_word k ≡ Some (record { least = r.least; greatest = r.greatest })) }
 {
-    let (least, greatest) = match k {
-        Scalar::Void | Scalar::Never | Scalar::Opaque | Scalar::Str => return None,
-        Scalar::Bool => (0, 1),
-        Scalar::I8 => (-128, 127),
-        Scalar::I16 => (-32_768, 32_767),
-        Scalar::I32 | Scalar::Int => (-2_147_483_648, 2_147_483_647),
-        Scalar::I64 => (-9_223_372_036_854_775_808, 9_223_372_036_854_775_807),
-        Scalar::U8 => (0, 255),
-        Scalar::U16 => (0, 65_535),
-        Scalar::Rune | Scalar::U32 | Scalar::Uint => (0, 4_294_967_295),
-        Scalar::U64 | Scalar::Size => (0, 18_446_744_073_709_551_615),
-    };
-    Some(Limits { least, greatest })
+    match k {
+        Scalar::Bool => Some(Limits {
+            least: 0,
+            greatest: 1,
+        }),
+        Scalar::Rune => Some(integers(RUNE_BITS, false)),
+        _ => match k.is_signed() {
+            Some(signed) => Some(integers(k.bits(), signed)),
+            None => None,
+        },
+    }
 }
 
 /// The least and the greatest value of a type: of an integer type or rune, and 0 and 1 of bool. None where its base has no such values.

@@ -9,6 +9,9 @@ ghost use Rattle.hare_const.specs.Shapes.{shape_of, IsNarrow};
 
 use hare_types::{Row, Scalar, Ty, TypeId, TypeStore};
 
+/// The bytes of a rune.
+const RUNE_BYTES: u32 = 4;
+
 /// What is needed of a scalar type.
 #[derive(Clone, Copy, Debug, PartialEq, Eq)]
 pub(crate) enum Shape {
@@ -57,16 +60,12 @@ fn shape_of_word(k: Scalar) -> Option<Shape>
 {
     match k {
         Scalar::Void => Some(Shape::Whole(0, false)),
-        Scalar::Never | Scalar::Opaque | Scalar::Str => None,
         Scalar::Bool => Some(Shape::Truth),
-        Scalar::I8 => Some(Shape::Whole(1, true)),
-        Scalar::I16 => Some(Shape::Whole(2, true)),
-        Scalar::I32 | Scalar::Int => Some(Shape::Whole(4, true)),
-        Scalar::I64 => Some(Shape::Whole(8, true)),
-        Scalar::U8 => Some(Shape::Whole(1, false)),
-        Scalar::U16 => Some(Shape::Whole(2, false)),
-        Scalar::Rune | Scalar::U32 | Scalar::Uint => Some(Shape::Whole(4, false)),
-        Scalar::U64 | Scalar::Size => Some(Shape::Whole(8, false)),
+        Scalar::Rune => Some(Shape::Whole(RUNE_BYTES, false)),
+        _ => match k.is_signed() {
+            Some(signed) => Some(Shape::Whole(k.bits() / 8, signed)),
+            None => None,
+        },
     }
 }
 
