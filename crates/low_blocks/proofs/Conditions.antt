@@ -13,8 +13,8 @@ use Rattle.hare_blocks.specs.Evaluation.{Variables, relates, holds}
 use Rattle.low_blocks.specs.Expressions.{Scope, Piece, test_temp, comparison, expr_piece, condition_piece}
 use Rattle.low_blocks.proofs.Runs.{temp_of-same, temp_of-other, Keeps, keeps_on, operand_kept, Reaches, reaches_none, reaches_on, reaches_set}
 use Rattle.low_blocks.proofs.Scopes.{Below}
-use Rattle.low_blocks.proofs.Pieces.{expr_from}
-use Rattle.low_blocks.proofs.Values.{Ready, ready_on, expr_gives}
+use Rattle.low_blocks.proofs.Pieces.{piece_from}
+use Rattle.low_blocks.proofs.Values.{Ready, ready_on, piece_gives}
 
 -- ---- comparisons
 
@@ -102,10 +102,10 @@ module _ (p : FlatProgram) (n : ℕ) (below : Less) where
     condition_tells (compares a r b) s ready =
         let x = expr_piece scope bound a in
         let y = expr_piece scope x.next b in
-        let fx = expr_from scope bound pos under bound a (omega arith) in
-        let fy = expr_from scope bound pos under x.next b fx.grows in
-        let gx = expr_gives p n below args nargs scope vs bound pos under bound a s (omega arith) ready in
-        let gy = expr_gives p n below args nargs scope vs bound pos under x.next b gx.after fx.grows
+        let fx = piece_from scope bound pos under bound a (omega arith) in
+        let fy = piece_from scope bound pos under x.next b fx.grows in
+        let gx = piece_gives p n below args nargs scope vs bound pos under bound a s (omega arith) ready in
+        let gy = piece_gives p n below args nargs scope vs bound pos under x.next b gx.after fx.grows
         (ready_on p n below args nargs scope vs bound pos under s gx.after bound (omega arith) ready gx.world gx.keeps) in
         let left = operand_kept p x.next gx.after gy.after x.value fx.value gy.keeps ∙ gx.value in
         let k = comparison_tests args gy.after r x.value y.value _ _ left gy.value gx.fits gy.fits in

@@ -5,6 +5,7 @@ use Rattle.std.proofs.lemmas.Bool.Decides.{nat_tests}
 use Rattle.hx_base.specs.declared.Class.{Class}
 use Rattle.hx_base.specs.declared.Class.TheVariants.{W, L}
 use Rattle.flat_code.specs.declared.op.Op.{Op}
+use Rattle.flat_code.specs.declared.op.Op.TheVariants.{Add, Sub, Mul}
 use Rattle.flat_code.specs.declared.program.FlatProgram.{FlatProgram}
 use Rattle.flat_code.specs.declared.value.Value.{Value}
 use Rattle.flat_code.specs.Code.{Code, Codes, none, more, Set, If, Loop, Leave, Call, codes_of}
@@ -12,10 +13,12 @@ use Rattle.flat_code.specs.Evaluation.{function_named}
 use Rattle.flat_code.specs.Temps.{same_class, code_sets, one_sets}
 use Rattle.hare_blocks.specs.Trees.{Expr, Terms, Term, Factors, Factor, sum_of, no_term, plus, minus, product_of, no_factor, times, number, arg_count, variable, group, Relation, less, less_equal, greater, greater_equal, equal, differ, Condition, always, compares, Statement, Statements, declares, assigns, chooses, chooses_one, repeats, puts, exits, nothing, first}
 use Rattle.hare_blocks.specs.Scopes.{number_of}
-use Rattle.low_blocks.specs.Expressions.{Scope, Piece, operated, comparison, expr_piece, terms_piece, term_piece, factors_piece, factor_piece, condition_piece}
-use Rattle.low_blocks.specs.Statements.{Site, past, outside, copied, seq, turn, statement_code, statements_code}
+use Rattle.low_blocks.specs.declared.last.Last.{Last}
+use Rattle.low_blocks.specs.declared.last.Last.TheVariants.{Operand, Operation, ArgCount}
+use Rattle.low_blocks.specs.Expressions.{Scope, last_set, Steps, Piece, settled, operand_of, operated, comparison, expr_steps, terms_steps, term_steps, factors_steps, factor_steps, expr_piece, condition_piece}
+use Rattle.low_blocks.specs.Statements.{Site, past, outside, variable_set, seq, turn, statement_code, statements_code}
 use Rattle.low_blocks.proofs.Scopes.{Below, place_above}
-use Rattle.low_blocks.proofs.Pieces.{IsFrom, operated_from, expr_from, term_from, factor_from, condition_grows}
+use Rattle.low_blocks.proofs.Pieces.{AreFrom, joined_from, after_operand, expr_from, term_from, factor_from, piece_from, condition_grows}
 use Rattle.low_blocks.proofs.Sites.{IsSited, sited_past, sited_outside, statement_behind, statements_behind}
 
 -- ---- tests
@@ -105,56 +108,77 @@ module _ (q : FlatProgram) (free : IsFree q) where
 
   -- ---- expressions and conditions
 
-  plain_operated : (op : Op) (a b : Piece) → 0 < b.next → IsPlain (codes_of a.code) → IsPlain (codes_of b.code) →
-      IsPlain (codes_of (operated op a b).code)
-  plain_operated op a b l h k = plain_append a.code _ h (plain_append b.code _ k (plain_set b.next op a.value b.value l))
+  plain_last : (t : ℕ) (last : Last) → 0 < t → IsPlain (more (last_set t last) none)
+  plain_last t (Operand v) l = plain_set t _ v _ l
+  plain_last t (Operation op a b) l = plain_set t op a b l
+  plain_last t ArgCount l = plain_one (Call (Some t) (codes "rt.nargs") []) (λ u k. rw free.nargs (long_word t u)) (rw free.nargs (long_first t l))
+
+  plain_settled : (last : Last) (cs : List Code) (next : ℕ) → 0 < next → IsPlain (codes_of cs) → IsPlain (codes_of (settled last cs next).code)
+  plain_settled (Operand v) cs next l h = h
+  plain_settled (Operation op a b) cs next l h = plain_append cs _ h (plain_last next (Operation op a b) l)
+  plain_settled ArgCount cs next l h = plain_append cs _ h (plain_last next ArgCount l)
+
+  plain_operand : (steps : Steps) → 0 < steps.next → IsPlain (codes_of steps.code) → IsPlain (codes_of (operand_of steps).code)
+  plain_operand steps l h = plain_settled steps.last steps.code steps.next l h
+
+  plain_joined : (op : Op) (left right : Steps) → 0 < left.next → 0 < right.next → IsPlain (codes_of left.code) →
+      IsPlain (codes_of right.code) → IsPlain (codes_of (operated op (operand_of left) (operand_of right)).code)
+  plain_joined op left right l m h k = plain_append (operand_of left).code _ (plain_operand left l h) (plain_operand right m k)
 
   module _ (scope : Scope) (bound : ℕ) (pos : 0 < bound) (below : Below bound scope) where
     mutual
-      expr_plain : (t : ℕ) (e : Expr) → bound ≤ t → IsPlain (codes_of (expr_piece scope t e).code)
-      expr_plain t (sum_of a ts) le = terms_plain t (term_piece scope t a) ts le (term_from scope bound pos below t a le) (term_plain t a le)
+      expr_plain : (t : ℕ) (e : Expr) → bound ≤ t → IsPlain (codes_of (expr_steps scope t e).code)
+      expr_plain t (sum_of a ts) le = terms_plain t (term_steps scope t a) ts le (term_from scope bound pos below t a le) (term_plain t a le)
 
-      terms_plain : (t : ℕ) (left : Piece) (ts : Terms) → bound ≤ t → IsFrom t left → IsPlain (codes_of left.code) →
-          IsPlain (codes_of (terms_piece scope left ts).code)
+      terms_plain : (t : ℕ) (left : Steps) (ts : Terms) → bound ≤ t → AreFrom t left → IsPlain (codes_of left.code) →
+          IsPlain (codes_of (terms_steps scope left ts).code)
       terms_plain t left no_term le i h = h
       terms_plain t left (plus a ts) le i h =
-          let l : bound ≤ left.next = omega (arith, i.grows) in
-          let j = term_from scope bound pos below left.next a l in
-          terms_plain t _ ts le (operated_from t _ left _ (omega arith) i j)
-          (plain_operated _ left _ (omega (arith, j.grows)) h (term_plain left.next a l))
+          let x = operand_of left in
+          let l = after_operand scope bound pos below t left le i in
+          let j = term_from scope bound pos below x.next a l in
+          terms_plain t _ ts le (joined_from t Add left _ (omega arith) i j)
+          (plain_joined Add left _ (omega (arith, i.grows)) (omega (arith, j.grows)) h (term_plain x.next a l))
       terms_plain t left (minus a ts) le i h =
-          let l : bound ≤ left.next = omega (arith, i.grows) in
-          let j = term_from scope bound pos below left.next a l in
-          terms_plain t _ ts le (operated_from t _ left _ (omega arith) i j)
-          (plain_operated _ left _ (omega (arith, j.grows)) h (term_plain left.next a l))
+          let x = operand_of left in
+          let l = after_operand scope bound pos below t left le i in
+          let j = term_from scope bound pos below x.next a l in
+          terms_plain t _ ts le (joined_from t Sub left _ (omega arith) i j)
+          (plain_joined Sub left _ (omega (arith, i.grows)) (omega (arith, j.grows)) h (term_plain x.next a l))
 
-      term_plain : (t : ℕ) (a : Term) → bound ≤ t → IsPlain (codes_of (term_piece scope t a).code)
+      term_plain : (t : ℕ) (a : Term) → bound ≤ t → IsPlain (codes_of (term_steps scope t a).code)
       term_plain t (product_of f fs) le =
-          factors_plain t (factor_piece scope t f) fs le (factor_from scope bound pos below t f le) (factor_plain t f le)
+          factors_plain t (factor_steps scope t f) fs le (factor_from scope bound pos below t f le) (factor_plain t f le)
 
-      factors_plain : (t : ℕ) (left : Piece) (fs : Factors) → bound ≤ t → IsFrom t left → IsPlain (codes_of left.code) →
-          IsPlain (codes_of (factors_piece scope left fs).code)
+      factors_plain : (t : ℕ) (left : Steps) (fs : Factors) → bound ≤ t → AreFrom t left → IsPlain (codes_of left.code) →
+          IsPlain (codes_of (factors_steps scope left fs).code)
       factors_plain t left no_factor le i h = h
       factors_plain t left (times f fs) le i h =
-          let l : bound ≤ left.next = omega (arith, i.grows) in
-          let j = factor_from scope bound pos below left.next f l in
-          factors_plain t _ fs le (operated_from t _ left _ (omega arith) i j)
-          (plain_operated _ left _ (omega (arith, j.grows)) h (factor_plain left.next f l))
+          let x = operand_of left in
+          let l = after_operand scope bound pos below t left le i in
+          let j = factor_from scope bound pos below x.next f l in
+          factors_plain t _ fs le (joined_from t Mul left _ (omega arith) i j)
+          (plain_joined Mul left _ (omega (arith, i.grows)) (omega (arith, j.grows)) h (factor_plain x.next f l))
 
-      factor_plain : (t : ℕ) (f : Factor) → bound ≤ t → IsPlain (codes_of (factor_piece scope t f).code)
+      factor_plain : (t : ℕ) (f : Factor) → bound ≤ t → IsPlain (codes_of (factor_steps scope t f).code)
       factor_plain t (number n) le = plain_none
-      factor_plain t arg_count le = plain_one (Call (Some t) (codes "rt.nargs") []) (λ u k. rw free.nargs (long_word t u)) (rw free.nargs (long_first t (omega arith)))
+      factor_plain t arg_count le = plain_none
       factor_plain t (variable x) le = plain_none
       factor_plain t (group e) le = expr_plain t e le
+
+    piece_plain : (t : ℕ) (e : Expr) → bound ≤ t → IsPlain (codes_of (expr_piece scope t e).code)
+    piece_plain t e le =
+        let f = expr_from scope bound pos below t e le in
+        plain_operand (expr_steps scope t e) (omega (arith, f.grows)) (expr_plain t e le)
 
     condition_plain : (t : ℕ) (c : Condition) → bound ≤ t → IsPlain (codes_of (condition_piece scope t c).code)
     condition_plain t always le = plain_none
     condition_plain t (compares a r b) le =
         let x = expr_piece scope t a in
         let y = expr_piece scope x.next b in
-        let f = expr_from scope bound pos below t a le in
-        plain_append x.code _ (expr_plain t a le)
-        (plain_append y.code _ (expr_plain x.next b (omega (arith, f.grows))) (plain_comparison r x.value y.value))
+        let f = piece_from scope bound pos below t a le in
+        plain_append x.code _ (piece_plain t a le)
+        (plain_append y.code _ (piece_plain x.next b (omega (arith, f.grows))) (plain_comparison r x.value y.value))
 
   -- ---- statements
 
@@ -174,22 +198,22 @@ module _ (q : FlatProgram) (free : IsFree q) where
   plain_turn always test body h k = plain_loop body k
   plain_turn (compares a r b) test body h k = plain_loop _ (plain_append test.code _ h (plain_leave test.value body k))
 
-  plain_copied : (x : List ℕ) (site : Site) (v : Value) → IsSited site → (o : Option ℕ) → number_of x site.scope ≡ o →
-      IsPlain (codes_of (copied o v))
-  plain_copied x site v h None e = plain_none
-  plain_copied x site v h (Some t) e = plain_set t _ v _ (place_above site.next t x site.scope h.below e)
+  plain_variable : (x : List ℕ) (site : Site) (last : Last) → IsSited site → (o : Option ℕ) → number_of x site.scope ≡ o →
+      IsPlain (codes_of (variable_set o last))
+  plain_variable x site last h None e = plain_none
+  plain_variable x site last h (Some t) e = plain_last t last (place_above site.next t x site.scope h.below e)
 
   mutual
     statement_plain : (site : Site) (s : Statement) → IsSited site → IsPlain (codes_of (statement_code site s).code)
     statement_plain site (declares x e) h =
-        let v = expr_piece site.scope site.next e in
+        let v = expr_steps site.scope site.next e in
         let f = expr_from site.scope site.next h.some h.below site.next e (omega arith) in
         plain_append v.code _ (expr_plain site.scope site.next h.some h.below site.next e (omega arith))
-        (plain_set v.next _ v.value _ (omega (arith, f.grows, h.some)))
+        (plain_last v.next v.last (omega (arith, f.grows, h.some)))
     statement_plain site (assigns x e) h =
-        let v = expr_piece site.scope site.next e in
+        let v = expr_steps site.scope site.next e in
         plain_append v.code _ (expr_plain site.scope site.next h.some h.below site.next e (omega arith))
-        (plain_copied x site v.value h (number_of x site.scope) refl)
+        (plain_variable x site v.last h (number_of x site.scope) refl)
     statement_plain site (chooses c body) h =
         let test = condition_piece site.scope site.next c in
         let b = statements_plain (past site test.next) body
@@ -213,7 +237,7 @@ module _ (q : FlatProgram) (free : IsFree q) where
     statement_plain site (puts text) h = plain_one _ (λ t l. refl) refl
     statement_plain site (exits e) h =
         let v = expr_piece site.scope site.next e in
-        plain_append v.code _ (expr_plain site.scope site.next h.some h.below site.next e (omega arith))
+        plain_append v.code _ (piece_plain site.scope site.next h.some h.below site.next e (omega arith))
         (plain_one (Call None (codes "rt.exit") (v.value ∷ [])) (λ t l. refl) refl)
 
     pub statements_plain : (site : Site) (ss : Statements) → IsSited site → IsPlain (codes_of (statements_code site ss).code)

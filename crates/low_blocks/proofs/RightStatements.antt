@@ -2,24 +2,24 @@
 use Rattle.std.proofs.Common.{◌≡◌, ℕ, suc, ◌+◌, ◌*◌, ◌^◌, ◌<◌, ◌≤◌, Bool, true, false, List, [], ◌∷◌, ◌++◌, length, Option, Some, None, refl, sym, ap, ◌∙◌, arith}
 use Rattle.std.specs.Prelude.{codes, bytes_eq}
 use Rattle.hx_base.specs.declared.Class.TheVariants.{W, L}
-use Rattle.flat_code.specs.declared.op.Op.TheVariants.{Copy}
 use Rattle.flat_code.specs.declared.program.FlatFn.{FlatFn}
 use Rattle.flat_code.specs.declared.program.FlatProgram.{FlatProgram}
 use Rattle.flat_code.specs.declared.value.Value.{Value}
 use Rattle.flat_code.specs.declared.value.Value.TheVariants.{Number, Symbol}
-use Rattle.flat_code.specs.Code.{Code, Set, If, Loop, Leave, Call}
+use Rattle.flat_code.specs.Code.{Code, If, Loop, Leave, Call}
 use Rattle.flat_code.specs.Temps.{is_set}
 use Rattle.flat_code.specs.WellFormed.{deepest, is_operand, is_right}
 use Rattle.hare_blocks.specs.Trees.{Condition, always, compares, Statement, Statements, declares, assigns, chooses, chooses_one, repeats, puts, exits, nothing, first}
 use Rattle.hare_blocks.specs.Class.{statement_blocks, statements_blocks}
 use Rattle.hare_blocks.specs.Scopes.{number_of}
-use Rattle.low_blocks.specs.Expressions.{Scope, Piece, expr_piece, condition_piece}
-use Rattle.low_blocks.specs.Statements.{Site, past, outside, copied, seq, turn, statement_code, statements_code, statement_texts, statements_texts}
+use Rattle.low_blocks.specs.declared.last.Last.{Last}
+use Rattle.low_blocks.specs.Expressions.{Scope, last_set, Piece, expr_steps, expr_piece, condition_piece}
+use Rattle.low_blocks.specs.Statements.{Site, past, outside, variable_set, seq, turn, statement_code, statements_code, statement_texts, statements_texts}
 use Rattle.low_blocks.proofs.Scopes.{place_under}
 use Rattle.low_blocks.proofs.Pieces.{expr_from, condition_grows}
 use Rattle.low_blocks.proofs.Sites.{IsSited, sited_past, sited_outside, statement_behind, statements_behind}
 use Rattle.low_blocks.proofs.Plain.{IsFree, and_both}
-use Rattle.low_blocks.proofs.Rights.{less_true, same_number, or_left, or_right, AreRight, right_parts, right_one, IsPart, part_front, part_back, part_set, IsOperand, operand_long, operand_word, AreSet, long_target, expr_right, condition_right}
+use Rattle.low_blocks.proofs.Rights.{less_true, or_left, or_right, AreRight, right_parts, right_one, IsPart, part_front, part_back, operand_word, AreSet, AreOperands, right_last, last_is_set, expr_right, piece_right, condition_right}
 
 -- strings whose lengths are numbers of 64 bits
 abbrev pub AreShort : List (List ℕ) → Type 0
@@ -58,17 +58,12 @@ module _ (p : FlatProgram) (free : IsFree p) (f : FlatFn) (words : (t : ℕ) →
           (omega (arith, h.0), ap (λ u. is_set p f u L) (sym i) ∙ h.1)
       pick false g on = let k : number_of x (y ∷ ys) ≡ number_of x ys = rw g refl in on (sym k ∙ e)
 
-  right_copy : (around t : ℕ) (v : Value) → 0 < t → t < f.temps → IsOperand p free f words longs v →
-      Right around (Set t L Copy v (Number 0) ∷ [])
-  right_copy around t v pos l h = right_one p free f words longs around (Set t L Copy v (Number 0))
-      (rw (long_target p free f words longs t pos l, operand_long p free f words longs v h) refl)
-
   -- a variable's temporary is one of the function's, since it stands below the next one
-  right_copied : (around : ℕ) (site : Site) (x : List ℕ) (v : Value) (o : Option ℕ) → IsSited site → site.next ≤ f.temps →
-      Placed site.scope → number_of x site.scope ≡ o → IsOperand p free f words longs v → Right around (copied o v)
-  right_copied around site x v None h l set e k = refl
-  right_copied around site x v (Some t) h l set e k =
-      right_copy around t v (set_place x site.scope t set e).0 (omega (arith, place_under site.next t x site.scope h.below e)) k
+  right_variable : (around : ℕ) (site : Site) (x : List ℕ) (last : Last) (o : Option ℕ) → IsSited site → site.next ≤ f.temps →
+      Placed site.scope → number_of x site.scope ≡ o → AreOperands p free f words longs last → Right around (variable_set o last)
+  right_variable around site x last None h l set e k = refl
+  right_variable around site x last (Some t) h l set e k = right_last p free f words longs around t last (set_place x site.scope t set e).0
+      (omega (arith, place_under site.next t x site.scope h.below e)) k
 
   -- ---- parts of branches and loops
 
@@ -120,27 +115,26 @@ module _ (p : FlatProgram) (free : IsFree p) (f : FlatFn) (words : (t : ℕ) →
         around + 3 * statement_blocks s ≤ deepest →
         AreKept around (statement_code site s).code (statement_code site s).behind.scope
     statement_right site (declares x e) around h set part temps texts short deep =
-        let v = expr_piece site.scope site.next e in
+        let v = expr_steps site.scope site.next e in
         let g = expr_from site.scope site.next h.some h.below site.next e (omega arith) in
-        let copy = Set v.next L Copy v.value (Number 0) in
+        let sets = last_set v.next v.last in
         let r = expr_right p free f words longs site.scope site.next h.some h.below set site.next e (omega arith)
-        (part_front p free f words longs v.code (copy ∷ []) part, omega arith) in
-        let is = part_set p free f words longs v.next L copy (rw (same_number v.next) refl)
-        (part_back p free f words longs v.code (copy ∷ []) part) in
+        (part_front p free f words longs v.code (sets ∷ []) part, omega arith) in
+        let is = last_is_set p free f words longs v.next v.last (part_back p free f words longs v.code (sets ∷ []) part) in
         record {
-          right = right_parts p free f words longs around v.code (copy ∷ []) (r.code around)
-              (right_copy around v.next v.value (omega (arith, g.grows, h.some)) (omega arith) r.value);
+          right = right_parts p free f words longs around v.code (sets ∷ []) (r.code around)
+              (right_last p free f words longs around v.next v.last (omega (arith, g.grows, h.some)) (omega arith) r.operands);
           set = (omega (arith, g.grows, h.some), is, set);
         }
     statement_right site (assigns x e) around h set part temps texts short deep =
-        let v = expr_piece site.scope site.next e in
+        let v = expr_steps site.scope site.next e in
         let g = expr_from site.scope site.next h.some h.below site.next e (omega arith) in
         let o = number_of x site.scope in
         let r = expr_right p free f words longs site.scope site.next h.some h.below set site.next e (omega arith)
-        (part_front p free f words longs v.code (copied o v.value) part, temps) in
+        (part_front p free f words longs v.code (variable_set o v.last) part, temps) in
         record {
-          right = right_parts p free f words longs around v.code (copied o v.value) (r.code around)
-              (right_copied around site x v.value o h (omega (arith, g.grows)) set refl r.value);
+          right = right_parts p free f words longs around v.code (variable_set o v.last) (r.code around)
+              (right_variable around site x v.last o h (omega (arith, g.grows)) set refl r.operands);
           set = set;
         }
     statement_right site (chooses c body) around h set part temps texts short deep =
@@ -203,7 +197,7 @@ module _ (p : FlatProgram) (free : IsFree p) (f : FlatFn) (words : (t : ℕ) →
     statement_right site (exits e) around h set part temps texts short deep =
         let v = expr_piece site.scope site.next e in
         let exit = Call None (codes "rt.exit") (v.value ∷ []) in
-        let r = expr_right p free f words longs site.scope site.next h.some h.below set site.next e (omega arith)
+        let r = piece_right p free f words longs site.scope site.next h.some h.below set site.next e (omega arith)
         (part_front p free f words longs v.code (exit ∷ []) part, temps) in
         record {
           right = right_parts p free f words longs around v.code (exit ∷ []) (r.code around)

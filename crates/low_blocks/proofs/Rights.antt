@@ -1,12 +1,12 @@
 -- Lowered code keeps the rules of statements: operands are set at the classes that are wanted, and leaves are of loops round them.
-use Rattle.std.proofs.Common.{◌≡◌, ℕ, ◌^◌, ◌<◌, ◌≤◌, Bool, true, false, ◌&&◌, List, [], ◌∷◌, ◌++◌, Some, refl, ap, ◌∙◌, arith}
+use Rattle.std.proofs.Common.{◌≡◌, ℕ, suc, ◌^◌, ◌<◌, ◌≤◌, Bool, true, false, ◌&&◌, List, [], ◌∷◌, ◌++◌, Some, refl, ap, ◌∙◌, arith}
 use Rattle.std.specs.Prelude.{codes, nat_lt, ◌||◌, ◌==◌, bytes_eq}
 use Rattle.std.proofs.lemmas.Bool.Decides.{nat_tests}
 use Rattle.hx_base.specs.declared.Class.{Class}
 use Rattle.hx_base.specs.declared.Class.TheVariants.{W, L}
 use Rattle.flat_code.specs.declared.kinds.OpKind.TheVariants.{Arithmetic, CompareLongs}
 use Rattle.flat_code.specs.declared.op.Op.{Op}
-use Rattle.flat_code.specs.declared.op.Op.TheVariants.{Cultl, Culel, Ceql, Cnel}
+use Rattle.flat_code.specs.declared.op.Op.TheVariants.{Copy, Cultl, Culel, Ceql, Cnel}
 use Rattle.flat_code.specs.declared.program.FlatFn.{FlatFn}
 use Rattle.flat_code.specs.declared.program.FlatProgram.{FlatProgram}
 use Rattle.flat_code.specs.declared.value.Value.{Value}
@@ -17,9 +17,11 @@ use Rattle.flat_code.specs.Temps.{is_set, code_sets, one_sets}
 use Rattle.flat_code.specs.WellFormed.{is_operand, is_target, is_right, are_right}
 use Rattle.hare_blocks.specs.Trees.{Expr, Terms, Term, Factors, Factor, sum_of, no_term, plus, minus, product_of, no_factor, times, number, arg_count, variable, group, Relation, less, less_equal, greater, greater_equal, equal, differ, Condition, always, compares}
 use Rattle.hare_blocks.specs.Scopes.{number_of}
-use Rattle.low_blocks.specs.Expressions.{Scope, held, Piece, operated, comparison, expr_piece, terms_piece, term_piece, factors_piece, factor_piece, condition_piece}
+use Rattle.low_blocks.specs.declared.last.Last.{Last}
+use Rattle.low_blocks.specs.declared.last.Last.TheVariants.{Operand, Operation, ArgCount}
+use Rattle.low_blocks.specs.Expressions.{Scope, held, last_set, Steps, Piece, settled, operand_of, operated, comparison, expr_steps, terms_steps, term_steps, factors_steps, factor_steps, expr_piece, condition_piece}
 use Rattle.low_blocks.proofs.Scopes.{Below}
-use Rattle.low_blocks.proofs.Pieces.{IsFrom, operated_from, expr_from, term_from, factor_from}
+use Rattle.low_blocks.proofs.Pieces.{AreFrom, operand_from, joined_from, after_operand, expr_from, term_from, factor_from, piece_from}
 use Rattle.low_blocks.proofs.Plain.{IsFree, sets_append, and_assoc, and_both}
 
 pub less_true : (a b : ℕ) → a < b → nat_lt a b ≡ true
@@ -120,78 +122,131 @@ module _ (p : FlatProgram) (free : IsFree p) (f : FlatFn) (words : (t : ℕ) →
   word_target : 0 < f.temps → is_target p f 0 W ≡ true
   word_target l = and_both _ _ (less_true 0 f.temps l) (rw longs refl)
 
-  right_operation : (around t : ℕ) (op : Op) (a b : Value) → op_kind op ≡ Arithmetic → 0 < t → t < f.temps → IsOperand a → IsOperand b →
-      AreRight around (Set t L op a b ∷ [])
-  right_operation around t op a b e pos l h k =
-      right_one around (Set t L op a b) (rw (e, long_target t pos l, operand_long a h, operand_long b k) refl)
+  -- ---- last steps
+
+  -- what the operands of a last step keep to
+  abbrev pub AreOperands : Last → Type 0
+  AreOperands (Operand v) = IsOperand v
+  AreOperands (Operation op a b) = (op_kind op ≡ Arithmetic) × IsOperand a × IsOperand b
+  AreOperands ArgCount = Unit {0}
+
+  pub right_last : (around t : ℕ) (last : Last) → 0 < t → t < f.temps → AreOperands last → AreRight around (last_set t last ∷ [])
+  right_last around t (Operand v) pos l h =
+      right_one around (Set t L Copy v (Number 0)) (rw (long_target t pos l, operand_long v h) refl)
+  right_last around t (Operation op a b) pos l h =
+      right_one around (Set t L op a b) (rw (h.0, long_target t pos l, operand_long a h.1, operand_long b h.2) refl)
+  right_last around t ArgCount pos l h = right_one around (Call (Some t) (codes "rt.nargs") []) (rw free.nargs (long_target t pos l))
+
+  -- it sets the temporary
+  pub last_is_set : (t : ℕ) (last : Last) → IsPart (last_set t last ∷ []) → is_set p f t L ≡ true
+  last_is_set t (Operand v) h = part_set t L (Set t L Copy v (Number 0)) (rw (same_number t) refl) h
+  last_is_set t (Operation op a b) h = part_set t L (Set t L op a b) (rw (same_number t) refl) h
+  last_is_set t ArgCount h = part_set t L (Call (Some t) (codes "rt.nargs") []) (rw (free.nargs, same_number t) refl) h
 
   -- ---- expressions
 
-  -- a piece whose code is a part of the function and whose temporaries are the function's
-  abbrev Fits : Piece → Type 0
-  Fits piece = IsPart piece.code × (piece.next ≤ f.temps)
+  -- code that is a part of the function, and whose temporaries are the function's
+  abbrev Fits : List Code → ℕ → Type 0
+  Fits cs next = IsPart cs × (next ≤ f.temps)
 
   pub record IsRightPiece (piece : Piece) : Type 0 where
     pub code : (around : ℕ) → AreRight around piece.code
     pub value : IsOperand piece.value
 
-  operated_right : (op : Op) (a b : Piece) → op_kind op ≡ Arithmetic → 0 < a.next → a.next ≤ b.next → (Fits a → IsRightPiece a) →
-      (Fits b → IsRightPiece b) → Fits (operated op a b) → IsRightPiece (operated op a b)
-  operated_right op a b e pos le ha hb fits =
-      let set = Set b.next L op a.value b.value in
-      let back = part_back a.code (b.code ++ set ∷ []) fits.0 in
-      let ra = ha (part_front a.code (b.code ++ set ∷ []) fits.0, omega (arith, fits.1)) in
-      let rb = hb (part_front b.code (set ∷ []) back, omega (arith, fits.1)) in
-      let is : is_set p f b.next L ≡ true = part_set b.next L set (rw (same_number b.next) refl) (part_back b.code (set ∷ []) back) in
+  pub record AreRightSteps (steps : Steps) : Type 0 where
+    pub code : (around : ℕ) → AreRight around steps.code
+    pub operands : AreOperands steps.last
+
+  -- the next temporary is set by the last step
+  taken_right : (cs : List Code) (last : Last) (next : ℕ) → 0 < next →
+      (Fits cs next → AreRightSteps (record { code = cs; last = last; next = next })) → Fits (cs ++ last_set next last ∷ []) (suc next) →
+      IsRightPiece (record { code = cs ++ last_set next last ∷ []; value = Temp next; next = suc next })
+  taken_right cs last next pos h fits =
+      let r = h (part_front cs (last_set next last ∷ []) fits.0, omega (arith, fits.1)) in
       record {
-        code = λ around. right_parts around a.code _ (ra.code around)
-            (right_parts around b.code _ (rb.code around)
-            (right_operation around b.next op a.value b.value e (omega arith) (omega (arith, fits.1)) ra.value rb.value));
-        value = (omega arith, is);
+        code = λ around. right_parts around cs _ (r.code around) (right_last around next last pos (omega (arith, fits.1)) r.operands);
+        value = (pos, last_is_set next last (part_back cs (last_set next last ∷ []) fits.0));
+      }
+
+  settled_right : (last : Last) (cs : List Code) (next : ℕ) → 0 < next →
+      (Fits cs next → AreRightSteps (record { code = cs; last = last; next = next })) →
+      Fits (settled last cs next).code (settled last cs next).next → IsRightPiece (settled last cs next)
+  settled_right (Operand v) cs next pos h fits = let r = h fits in record { code = r.code; value = r.operands }
+  settled_right (Operation op a b) cs next pos h fits = taken_right cs (Operation op a b) next pos h fits
+  settled_right ArgCount cs next pos h fits = taken_right cs ArgCount next pos h fits
+
+  operand_right : (steps : Steps) → 0 < steps.next → (Fits steps.code steps.next → AreRightSteps steps) →
+      Fits (operand_of steps).code (operand_of steps).next → IsRightPiece (operand_of steps)
+  operand_right steps pos h fits = settled_right steps.last steps.code steps.next pos h fits
+
+  -- an operation on what two steps give
+  joined_right : (t : ℕ) (op : Op) (left right : Steps) → op_kind op ≡ Arithmetic → 0 < t → AreFrom t left →
+      AreFrom (operand_of left).next right → (Fits left.code left.next → AreRightSteps left) →
+      (Fits right.code right.next → AreRightSteps right) →
+      Fits (operated op (operand_of left) (operand_of right)).code (operated op (operand_of left) (operand_of right)).next →
+      AreRightSteps (operated op (operand_of left) (operand_of right))
+  joined_right t op left right e pos i j hl hr fits =
+      let x = operand_of left in
+      let y = operand_of right in
+      let fx = operand_from t left pos i in
+      let fy = operand_from x.next right (omega (arith, fx.grows)) j in
+      let rx = operand_right left (omega (arith, i.grows)) hl (part_front x.code y.code fits.0, omega (arith, fy.grows, fits.1)) in
+      let ry = operand_right right (omega (arith, fx.grows, j.grows)) hr (part_back x.code y.code fits.0, fits.1) in
+      record {
+        code = λ around. right_parts around x.code y.code (rx.code around) (ry.code around);
+        operands = (e, rx.value, ry.value);
       }
 
   module _ (scope : Scope) (bound : ℕ) (pos : 0 < bound) (below : Below bound scope) (set : AreSet scope) where
     mutual
-      pub expr_right : (t : ℕ) (e : Expr) → bound ≤ t → Fits (expr_piece scope t e) → IsRightPiece (expr_piece scope t e)
+      pub expr_right : (t : ℕ) (e : Expr) → bound ≤ t → Fits (expr_steps scope t e).code (expr_steps scope t e).next →
+          AreRightSteps (expr_steps scope t e)
       expr_right t (sum_of a ts) le fits =
-          terms_right t (term_piece scope t a) ts le (term_from scope bound pos below t a le) (term_right t a le) fits
+          terms_right t (term_steps scope t a) ts le (term_from scope bound pos below t a le) (term_right t a le) fits
 
-      terms_right : (t : ℕ) (left : Piece) (ts : Terms) → bound ≤ t → IsFrom t left → (Fits left → IsRightPiece left) →
-          Fits (terms_piece scope left ts) → IsRightPiece (terms_piece scope left ts)
+      terms_right : (t : ℕ) (left : Steps) (ts : Terms) → bound ≤ t → AreFrom t left → (Fits left.code left.next → AreRightSteps left) →
+          Fits (terms_steps scope left ts).code (terms_steps scope left ts).next → AreRightSteps (terms_steps scope left ts)
       terms_right t left no_term le i h fits = h fits
       terms_right t left (plus a ts) le i h fits =
-          let l : bound ≤ left.next = omega (arith, i.grows) in
-          let j = term_from scope bound pos below left.next a l in
-          terms_right t _ ts le (operated_from t _ left _ (omega arith) i j)
-          (operated_right _ left _ refl (omega arith) j.grows h (term_right left.next a l)) fits
+          let x = operand_of left in
+          let l = after_operand scope bound pos below t left le i in
+          let j = term_from scope bound pos below x.next a l in
+          terms_right t _ ts le (joined_from t _ left _ (omega arith) i j)
+          (joined_right t _ left _ refl (omega arith) i j h (term_right x.next a l)) fits
       terms_right t left (minus a ts) le i h fits =
-          let l : bound ≤ left.next = omega (arith, i.grows) in
-          let j = term_from scope bound pos below left.next a l in
-          terms_right t _ ts le (operated_from t _ left _ (omega arith) i j)
-          (operated_right _ left _ refl (omega arith) j.grows h (term_right left.next a l)) fits
+          let x = operand_of left in
+          let l = after_operand scope bound pos below t left le i in
+          let j = term_from scope bound pos below x.next a l in
+          terms_right t _ ts le (joined_from t _ left _ (omega arith) i j)
+          (joined_right t _ left _ refl (omega arith) i j h (term_right x.next a l)) fits
 
-      term_right : (t : ℕ) (a : Term) → bound ≤ t → Fits (term_piece scope t a) → IsRightPiece (term_piece scope t a)
+      term_right : (t : ℕ) (a : Term) → bound ≤ t → Fits (term_steps scope t a).code (term_steps scope t a).next →
+          AreRightSteps (term_steps scope t a)
       term_right t (product_of g gs) le fits =
-          factors_right t (factor_piece scope t g) gs le (factor_from scope bound pos below t g le) (factor_right t g le) fits
+          factors_right t (factor_steps scope t g) gs le (factor_from scope bound pos below t g le) (factor_right t g le) fits
 
-      factors_right : (t : ℕ) (left : Piece) (gs : Factors) → bound ≤ t → IsFrom t left → (Fits left → IsRightPiece left) →
-          Fits (factors_piece scope left gs) → IsRightPiece (factors_piece scope left gs)
+      factors_right : (t : ℕ) (left : Steps) (gs : Factors) → bound ≤ t → AreFrom t left → (Fits left.code left.next → AreRightSteps left) →
+          Fits (factors_steps scope left gs).code (factors_steps scope left gs).next → AreRightSteps (factors_steps scope left gs)
       factors_right t left no_factor le i h fits = h fits
       factors_right t left (times g gs) le i h fits =
-          let l : bound ≤ left.next = omega (arith, i.grows) in
-          let j = factor_from scope bound pos below left.next g l in
-          factors_right t _ gs le (operated_from t _ left _ (omega arith) i j)
-          (operated_right _ left _ refl (omega arith) j.grows h (factor_right left.next g l)) fits
+          let x = operand_of left in
+          let l = after_operand scope bound pos below t left le i in
+          let j = factor_from scope bound pos below x.next g l in
+          factors_right t _ gs le (joined_from t _ left _ (omega arith) i j)
+          (joined_right t _ left _ refl (omega arith) i j h (factor_right x.next g l)) fits
 
-      factor_right : (t : ℕ) (g : Factor) → bound ≤ t → Fits (factor_piece scope t g) → IsRightPiece (factor_piece scope t g)
-      factor_right t (number n) le fits = record { code = λ around. refl; value = omega arith }
-      factor_right t arg_count le fits = record {
-        code = λ around. right_one around (Call (Some t) (codes "rt.nargs") [])
-            (rw free.nargs (long_target t (omega arith) (omega (arith, fits.1))));
-        value = (omega arith, part_set t L (Call (Some t) (codes "rt.nargs") []) (rw (free.nargs, same_number t) refl) fits.0);
-      }
-      factor_right t (variable x) le fits = record { code = λ around. refl; value = held_operand x scope set }
+      factor_right : (t : ℕ) (g : Factor) → bound ≤ t → Fits (factor_steps scope t g).code (factor_steps scope t g).next →
+          AreRightSteps (factor_steps scope t g)
+      factor_right t (number n) le fits = record { code = λ around. refl; operands = omega arith }
+      factor_right t arg_count le fits = record { code = λ around. refl; operands = tt }
+      factor_right t (variable x) le fits = record { code = λ around. refl; operands = held_operand x scope set }
       factor_right t (group e) le fits = expr_right t e le fits
+
+    pub piece_right : (t : ℕ) (e : Expr) → bound ≤ t → Fits (expr_piece scope t e).code (expr_piece scope t e).next →
+        IsRightPiece (expr_piece scope t e)
+    piece_right t e le fits =
+        let i = expr_from scope bound pos below t e le in
+        operand_right (expr_steps scope t e) (omega (arith, i.grows)) (expr_right t e le) fits
 
     -- ---- conditions
 
@@ -226,12 +281,12 @@ module _ (p : FlatProgram) (free : IsFree p) (f : FlatFn) (words : (t : ℕ) →
     condition_right t (compares a r b) le part fits =
         let x = expr_piece scope t a in
         let y = expr_piece scope x.next b in
-        let fx = expr_from scope bound pos below t a le in
-        let fy = expr_from scope bound pos below x.next b (omega (arith, fx.grows)) in
+        let fx = piece_from scope bound pos below t a le in
+        let fy = piece_from scope bound pos below x.next b (omega (arith, fx.grows)) in
         let c = comparison r x.value y.value in
         let back = part_back x.code (y.code ++ c ∷ []) part in
-        let rx = expr_right t a le (part_front x.code (y.code ++ c ∷ []) part, omega (arith, fy.grows)) in
-        let ry = expr_right x.next b (omega (arith, fx.grows)) (part_front y.code (c ∷ []) back, fits) in
+        let rx = piece_right t a le (part_front x.code (y.code ++ c ∷ []) part, omega (arith, fy.grows)) in
+        let ry = piece_right x.next b (omega (arith, fx.grows)) (part_front y.code (c ∷ []) back, fits) in
         record {
           code = λ around. right_parts around x.code _ (rx.code around)
               (right_parts around y.code _ (ry.code around)

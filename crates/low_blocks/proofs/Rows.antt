@@ -1,13 +1,13 @@
 -- What programs become, and what that does.
 use Rattle.std.proofs.Common.{◌≡◌, ℕ, List, [], ◌∷◌, Some, None, codes, refl}
 use Rattle.hx_base.specs.declared.Class.TheVariants.{W, L}
-use Rattle.flat_code.specs.declared.op.Op.TheVariants.{Copy, Add, Mul, Cultl}
+use Rattle.flat_code.specs.declared.op.Op.TheVariants.{Copy, Add, Sub, Mul, Cultl}
 use Rattle.flat_code.specs.declared.value.Value.TheVariants.{Temp, Number, Symbol}
 use Rattle.flat_code.specs.Code.{Set, If, Loop, Leave, Call}
 use Rattle.flat_code.specs.State as flow
 use Rattle.flat_code.specs.State.{Flow}
 use Rattle.flat_code.specs.Run as flat
-use Rattle.hare_blocks.specs.Trees.{Expr, Factor, sum_of, no_term, plus, minus, product_of, no_factor, times, number, arg_count, variable, less, greater, always, compares, declares, assigns, chooses, chooses_one, repeats, puts, exits, nothing, first, Program, exit_of, block_of}
+use Rattle.hare_blocks.specs.Trees.{Expr, Factor, sum_of, no_term, plus, minus, product_of, no_factor, times, number, arg_count, variable, group, less, greater, always, compares, declares, assigns, chooses, chooses_one, repeats, puts, exits, nothing, first, Program, exit_of, block_of}
 use Rattle.low_blocks.specs.Statements.{seq}
 use Rattle.low_blocks.specs.Programs.{body_code, lowered}
 use Rattle.low_blocks.specs.Agreement.{HasItsLoops}
@@ -34,11 +34,10 @@ row_code : (body_code puts_each).code ≡
     ∷ Loop (seq (
     Call (Some 2) (codes "rt.nargs") []
     ∷ Set 0 W Cultl (Temp 1) (Temp 2)
-    ∷ If (Temp 0) (seq (Call None (codes "rt.puts") (Symbol 0 0 ∷ Number 2 ∷ []) ∷ Set 3 L Add (Temp 1) (Number 1) ∷
-    Set 1 L Copy (Temp 3) (Number 0) ∷ [])) (Leave 1)
+    ∷ If (Temp 0) (seq (Call None (codes "rt.puts") (Symbol 0 0 ∷ Number 2 ∷ []) ∷ Set 1 L Add (Temp 1) (Number 1) ∷ [])) (Leave 1)
     ∷ []))
-    ∷ Set 4 L Mul (Temp 1) (Number 2)
-    ∷ Call None (codes "rt.exit") (Temp 4 ∷ [])
+    ∷ Set 3 L Mul (Temp 1) (Number 2)
+    ∷ Call None (codes "rt.exit") (Temp 3 ∷ [])
     ∷ []
 row_code = refl
 
@@ -59,6 +58,37 @@ row_spent = (refl, refl)
 
 row_one_turn : does puts_each 1 flow.Spent (codes "ab")
 row_one_turn = (refl, refl)
+
+-- let a = 3z; let b = 7z; a = b - a; b = (a + b) * a; let c = a + b; a = rt::nargs(); rt::exit((c - a): u8);
+abbrev reads_what_it_sets : Program
+reads_what_it_sets =
+    let a = variable (codes "a") in
+    let b = variable (codes "b") in
+    let sum = sum_of (product_of a no_factor) (plus (product_of b no_factor) no_term) in
+    block_of (first (declares (codes "a") (one (number 3)))
+    (first (declares (codes "b") (one (number 7)))
+    (first (assigns (codes "a") (sum_of (product_of b no_factor) (minus (product_of a no_factor) no_term)))
+    (first (assigns (codes "b") (sum_of (product_of (group sum) (times a no_factor)) no_term))
+    (first (declares (codes "c") sum)
+    (first (assigns (codes "a") (one arg_count))
+    (first (exits (sum_of (product_of (variable (codes "c")) no_factor) (minus (product_of a no_factor) no_term))) nothing)))))))
+
+-- `a`, `b` and `c` are temporaries 1, 2 and 4: the last step of each value sets its variable, which it may read
+row_last_steps : (body_code reads_what_it_sets).code ≡
+    Set 1 L Copy (Number 3) (Number 0)
+    ∷ Set 2 L Copy (Number 7) (Number 0)
+    ∷ Set 1 L Sub (Temp 2) (Temp 1)
+    ∷ Set 3 L Add (Temp 1) (Temp 2)
+    ∷ Set 2 L Mul (Temp 3) (Temp 1)
+    ∷ Set 4 L Add (Temp 1) (Temp 2)
+    ∷ Call (Some 1) (codes "rt.nargs") []
+    ∷ Set 5 L Sub (Temp 4) (Temp 1)
+    ∷ Call None (codes "rt.exit") (Temp 5 ∷ [])
+    ∷ []
+row_last_steps = refl
+
+row_last_steps_end : does reads_what_it_sets 0 (flow.Exit 45) []
+row_last_steps_end = (refl, refl)
 
 -- for (true) { rt::puts("x"); };
 row_without_end : does (block_of (first (repeats always (first (puts (codes "x")) nothing)) nothing)) 5 flow.Spent (codes "xxxxx")

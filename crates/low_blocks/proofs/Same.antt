@@ -2,27 +2,24 @@
 use Rattle.std.proofs.Common.{◌≡◌, ℕ, zero, suc, ◌+◌, ◌/◌, ◌%◌, ◌^◌, ◌<◌, ◌≤◌, Bool, true, false, List, [], ◌∷◌, ◌++◌, length, Option, Some, None, refl, sym, ap, ◌∙◌, subst, arith}
 use Rattle.std.specs.Prelude.{codes, if◌then◌else◌}
 use Rattle.std.proofs.lemmas.List.{append-nil}
-use Rattle.hx_base.specs.declared.Class.TheVariants.{L}
 use Rattle.hx_base.specs.Runtime.{World, put}
 use Rattle.hx_base.specs.Runtime as runtime
-use Rattle.flat_code.specs.declared.op.Op.TheVariants.{Copy}
 use Rattle.flat_code.specs.declared.program.FlatProgram.{FlatProgram}
 use Rattle.flat_code.specs.declared.value.Value.TheVariants.{Number, Symbol}
 use Rattle.flat_code.specs.Code.{Code, Loop, Leave, Call}
 use Rattle.flat_code.specs.Addresses.{address_at}
-use Rattle.flat_code.specs.Operations.{gives}
 use Rattle.flat_code.specs.State as flat
-use Rattle.flat_code.specs.State.{cut, temp_value, set_temp, stepped, caught, then_turn}
+use Rattle.flat_code.specs.State.{temp_value, stepped, caught, then_turn}
 use Rattle.flat_code.specs.Evaluation.{Less, acted, function_named, flat_begun, flat_below}
 use Rattle.hare_blocks.specs.Trees.{Expr, Condition, always, compares, Statement, Statements, declares, assigns, chooses, chooses_one, repeats, puts, exits, nothing, first}
 use Rattle.hare_blocks.specs.Evaluation.{assigned, value, holds, Next, State, Result, then_go, closed, statement_in, statements_in, below}
 use Rattle.hare_blocks.specs.Scopes.{number_of}
-use Rattle.low_blocks.specs.Expressions.{Piece, expr_piece, condition_piece}
-use Rattle.low_blocks.specs.Statements.{Site, past, outside, copied, seq, branch, turn, statement_code, statements_code, statement_texts, statements_texts}
-use Rattle.low_blocks.proofs.Runs.{temp_of-same, temp_of-other, keeps_on, set_keeps, value_of-stepped, runs, Reaches, reaches_on, reaches_set}
+use Rattle.low_blocks.specs.Expressions.{Steps, expr_steps, expr_piece, condition_piece}
+use Rattle.low_blocks.specs.Statements.{Site, past, outside, variable_set, seq, branch, turn, statement_code, statements_code, statement_texts, statements_texts}
+use Rattle.low_blocks.proofs.Runs.{keeps_on, value_of-stepped, runs, Reaches, reaches_on}
 use Rattle.low_blocks.proofs.Scopes.{holds_kept, assigned_nowhere, holds_assigned}
 use Rattle.low_blocks.proofs.Pieces.{expr_from, condition_grows}
-use Rattle.low_blocks.proofs.Values.{Gives, Ready, expr_gives}
+use Rattle.low_blocks.proofs.Values.{word_fits, Leads, Ready, last_sets, expr_leads, piece_gives}
 use Rattle.low_blocks.proofs.Conditions.{condition_tells}
 use Rattle.low_blocks.proofs.Meets.{World_after, Stands, Meets, goes_on, then_meets, turn_meets, closed_meets, then_nothing, runs_parts}
 use Rattle.low_blocks.proofs.Meets as ends
@@ -32,9 +29,6 @@ use Rattle.low_blocks.proofs.Branches.{stands_on, either_meets, caught_meets, br
 
 exit_cut : (v : ℕ) → (v % 2 ^ 32) % 256 ≡ v % 256
 exit_cut v = omega arith
-
-word_fits : (v : ℕ) → v < 2 ^ 64 → v % 2 ^ 64 ≡ v
-word_fits v h = omega arith
 
 offset_fits : (v : ℕ) → v < 2 ^ 64 → ((v + 0) % 2 ^ 64) % 2 ^ 64 ≡ v
 offset_fits v h = omega arith
@@ -70,58 +64,46 @@ module _ (p : FlatProgram) (w : World) (args : ℕ) (arguments : w.arguments ≡
       (within n (statement_code site (declares x e)).code s)
   declares_meets n site x e v s h st =
       let less = flat_below p n in
-      let piece = expr_piece site.scope site.next e in
+      let steps = expr_steps site.scope site.next e in
       let f = expr_from site.scope site.next h.some h.below site.next e (omega arith) in
-      let g = expr_gives p n less args no_nargs site.scope v.variables site.next h.some h.below site.next e s (omega arith)
+      let g = expr_leads p n less args no_nargs site.scope v.variables site.next h.some h.below site.next e s (omega arith)
       (ready n less site v s h st) in
       let z = value args v.variables e in
-      let k : gives L Copy (flat.value_of p g.after piece.value) 0 ≡ Some z = rw g.value refl in
-      let end = set_temp (stepped 1 g.after) piece.next L z in
-      let r = reaches_on p n less piece.code (copied (Some piece.next) piece.value) s g.after end g.reaches
-      (reaches_set p n less g.after piece.next L Copy piece.value (Number 0) z k) in
-      let keeps = keeps_on site.next piece.next s g.after end f.grows g.keeps
-      (set_keeps (stepped 1 g.after) piece.next piece.next L z (omega arith)) in
-      goes_on _ end refl (ended n (piece.code ++ copied (Some piece.next) piece.value) s end r) (record {
-        holds = (
-          refl,
-          temp_of-same (stepped 1 g.after) piece.next L z ∙ word_fits z g.fits,
-          g.fits,
-          holds_kept site.next site.scope
-              v.variables s end h.below keeps st.holds,
-        );
-        world = g.world ∙ st.world;
+      let k = last_sets p n less args no_nargs site.scope v.variables site.next h.some h.below g.after steps.next steps.last z g.yields g.fits in
+      let r = reaches_on p n less steps.code (variable_set (Some steps.next) steps.last) s g.after k.after g.reaches k.reaches in
+      let keeps = keeps_on site.next steps.next s g.after k.after f.grows g.keeps (λ u l m. k.others u (λ i. omega arith)) in
+      goes_on _ k.after refl (ended n (steps.code ++ variable_set (Some steps.next) steps.last) s k.after r) (record {
+        holds = (refl, k.value, g.fits, holds_kept site.next site.scope v.variables s k.after h.below keeps st.holds);
+        world = k.world ∙ g.world ∙ st.world;
       })
 
-  -- a variable, if there is one, gets what a piece gives
-  copied_meets : (n : ℕ) (site : Site) (x : List ℕ) (piece : Piece) (z : ℕ) (v : State) (s : flat.State) (o : Option ℕ) → IsSited site →
-      Stands w site.scope v s → Gives p n (flat_below p n) s piece z site.next → number_of x site.scope ≡ o →
-      Meets w site.scope (Next, record v { variables = assigned x z v.variables }) (within n (piece.code ++ copied o piece.value) s)
-  copied_meets n site x piece z v s None h st g none =
+  -- a variable, if there is one, is set by the last step
+  variable_meets : (n : ℕ) (site : Site) (x : List ℕ) (steps : Steps) (z : ℕ) (v : State) (s : flat.State) (o : Option ℕ) → (h : IsSited site) →
+      Stands w site.scope v s → Leads p n (flat_below p n) s steps z site.next → number_of x site.scope ≡ o →
+      Meets w site.scope (Next, record v { variables = assigned x z v.variables }) (within n (steps.code ++ variable_set o steps.last) s)
+  variable_meets n site x steps z v s None h st g none =
       let same = assigned_nowhere x z site.scope v.variables s st.holds none in
       goes_on _ g.after refl (g.reaches []) (record {
         holds = rw same (holds_kept site.next site.scope v.variables s g.after h.below g.keeps st.holds);
         world = g.world ∙ st.world;
       })
-  copied_meets n site x piece z v s (Some t) h st g some =
+  variable_meets n site x steps z v s (Some t) h st g some =
       let less = flat_below p n in
-      let k : gives L Copy (flat.value_of p g.after piece.value) 0 ≡ Some z = rw g.value refl in
-      let end = set_temp (stepped 1 g.after) t L z in
-      let r = reaches_on p n less piece.code (copied (Some t) piece.value) s g.after end g.reaches
-      (reaches_set p n less g.after t L Copy piece.value (Number 0) z k) in
+      let k = last_sets p n less args no_nargs site.scope v.variables site.next h.some h.below g.after t steps.last z g.yields g.fits in
+      let r = reaches_on p n less steps.code (variable_set (Some t) steps.last) s g.after k.after g.reaches k.reaches in
       let before = holds_kept site.next site.scope v.variables s g.after h.below g.keeps st.holds in
-      goes_on _ end refl (ended n (piece.code ++ copied (Some t) piece.value) s end r) (record {
-        holds = holds_assigned site.next t x z site.scope v.variables g.after end h.below before some g.fits
-            (temp_of-same (stepped 1 g.after) t L z ∙ word_fits z g.fits) (λ u ne. temp_of-other (stepped 1 g.after) t L z u ne);
-        world = g.world ∙ st.world;
+      goes_on _ k.after refl (ended n (steps.code ++ variable_set (Some t) steps.last) s k.after r) (record {
+        holds = holds_assigned site.next t x z site.scope v.variables g.after k.after h.below before some g.fits k.value k.others;
+        world = k.world ∙ g.world ∙ st.world;
       })
 
   assigns_meets : (n : ℕ) (site : Site) (x : List ℕ) (e : Expr) (v : State) (s : flat.State) → IsSited site → Stands w site.scope v s →
       Meets w site.scope (statement_in args n (below args n) (assigns x e) v) (within n (statement_code site (assigns x e)).code s)
   assigns_meets n site x e v s h st =
       let less = flat_below p n in
-      let g = expr_gives p n less args no_nargs site.scope v.variables site.next h.some h.below site.next e s (omega arith)
+      let g = expr_leads p n less args no_nargs site.scope v.variables site.next h.some h.below site.next e s (omega arith)
       (ready n less site v s h st) in
-      copied_meets n site x (expr_piece site.scope site.next e) (value args v.variables e) v s (number_of x site.scope) h st g refl
+      variable_meets n site x (expr_steps site.scope site.next e) (value args v.variables e) v s (number_of x site.scope) h st g refl
 
   puts_meets : (n : ℕ) (site : Site) (text : List ℕ) (v : State) (s : flat.State) → IsSited site → IsText p w.memory site.texts text →
       Stands w site.scope v s →
@@ -146,7 +128,7 @@ module _ (p : FlatProgram) (w : World) (args : ℕ) (arguments : w.arguments ≡
   exits_meets n site e v s h st =
       let less = flat_below p n in
       let piece = expr_piece site.scope site.next e in
-      let g = expr_gives p n less args no_nargs site.scope v.variables site.next h.some h.below site.next e s (omega arith)
+      let g = piece_gives p n less args no_nargs site.scope v.variables site.next h.some h.below site.next e s (omega arith)
       (ready n less site v s h st) in
       let z = value args v.variables e in
       let c = Call None (codes "rt.exit") (piece.value ∷ []) in

@@ -2,17 +2,17 @@
 use Rattle.std.proofs.Common.{◌≡◌, ℕ, ◌+◌, ◌<◌, ◌≤◌, List, [], ◌∷◌, ◌++◌, length, refl, sym, ap, ◌∙◌, arith, append_assoc}
 use Rattle.std.proofs.lemmas.List.{length-append}
 use Rattle.hare_blocks.specs.Trees.{Statement, Statements, declares, assigns, chooses, chooses_one, repeats, puts, exits, nothing, first}
-use Rattle.low_blocks.specs.Expressions.{expr_piece, condition_piece}
+use Rattle.low_blocks.specs.Expressions.{expr_steps, condition_piece}
 use Rattle.low_blocks.specs.Statements.{Site, Lowered, past, outside, statement_code, statements_code, statement_texts, statements_texts}
 use Rattle.low_blocks.proofs.Scopes.{Below, below_more, Extends}
-use Rattle.low_blocks.proofs.Pieces.{expr_from, condition_grows}
+use Rattle.low_blocks.proofs.Pieces.{expr_from, piece_from, condition_grows}
 
 -- ---- scopes
 
 -- statements leave the variables that stand in front of them
 mutual
   statement_extends : (s : Site) (t : Statement) → Extends s.scope (statement_code s t).behind.scope
-  statement_extends s (declares x e) = ((x, (expr_piece s.scope s.next e).next) ∷ [], refl)
+  statement_extends s (declares x e) = ((x, (expr_steps s.scope s.next e).next) ∷ [], refl)
   statement_extends s (assigns x e) = ([], refl)
   statement_extends s (chooses c body) = ([], refl)
   statement_extends s (chooses_one c body other) = ([], refl)
@@ -52,7 +52,7 @@ mutual
   pub statement_behind : (site : Site) (s : Statement) → IsSited site → IsBehind site (statement_code site s) (statement_texts s)
   statement_behind site (declares x e) h =
       let f = expr_from site.scope site.next h.some h.below site.next e (omega arith) in
-      let v = expr_piece site.scope site.next e in
+      let v = expr_steps site.scope site.next e in
       record {
         grows = omega (arith, f.grows);
         sited = record {
@@ -103,7 +103,7 @@ mutual
   statement_behind site (puts text) h =
       record { grows = omega arith; sited = record { some = h.some; below = h.below }; counts = omega arith }
   statement_behind site (exits e) h =
-      let f = expr_from site.scope site.next h.some h.below site.next e (omega arith) in
+      let f = piece_from site.scope site.next h.some h.below site.next e (omega arith) in
       record { grows = f.grows; sited = sited_past site _ h f.grows; counts = omega arith }
 
   pub statements_behind : (site : Site) (ss : Statements) → IsSited site → IsBehind site (statements_code site ss) (statements_texts ss)

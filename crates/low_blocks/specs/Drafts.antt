@@ -8,7 +8,8 @@ use Rattle.flat_code.specs.Code.{Code}
 use Rattle.hare_blocks.specs.declared.expr.Sign.{Sign}
 use Rattle.hare_blocks.specs.declared.expr.Sign.TheVariants.{Plus, Minus}
 use Rattle.low_blocks.specs.declared.draft.Draft.{Draft}
-use Rattle.low_blocks.specs.Expressions.{Scope, Piece}
+use Rattle.low_blocks.specs.declared.last.Last.{Last}
+use Rattle.low_blocks.specs.Expressions.{Scope, Steps, Piece}
 use Rattle.low_blocks.specs.Statements.{Site, Lowered, outside}
 use Rattle.low_blocks.specs.Programs.{text_globals}
 
@@ -18,6 +19,14 @@ use Rattle.low_blocks.specs.Programs.{text_globals}
 abbrev pub sign_op : Sign → Op
 sign_op Plus = Add
 sign_op Minus = Sub
+
+-- the code so far, and behind it a last step
+abbrev pub steps_of : Draft → Last → Steps
+steps_of d last = record { code = d.code; last = last; next = d.next }
+
+-- steps behind other code
+abbrev pub steps_behind : List Code → Steps → Steps
+steps_behind cs s = record { code = cs ++ s.code; last = s.last; next = s.next }
 
 -- the code so far as a piece that gives an operand
 abbrev pub piece_of : Draft → Value → Piece

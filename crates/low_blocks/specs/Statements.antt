@@ -1,13 +1,11 @@
 -- The flat code of statements.
 use Rattle.std.specs.Prelude.{ℕ, suc, List, [], ◌∷◌, ◌++◌, length, Option, None, Some, codes}
-use Rattle.hx_base.specs.declared.Class.TheVariants.{L}
-use Rattle.flat_code.specs.declared.op.Op.TheVariants.{Copy}
-use Rattle.flat_code.specs.declared.value.Value.{Value}
 use Rattle.flat_code.specs.declared.value.Value.TheVariants.{Number, Symbol}
-use Rattle.flat_code.specs.Code.{Code, Seq, Set, If, Loop, Leave, Call, codes_of}
+use Rattle.flat_code.specs.Code.{Code, Seq, If, Loop, Leave, Call, codes_of}
 use Rattle.hare_blocks.specs.Trees.{Condition, always, compares, Statement, Statements, declares, assigns, chooses, chooses_one, repeats, puts, exits, nothing, first}
 use Rattle.hare_blocks.specs.Scopes.{number_of}
-use Rattle.low_blocks.specs.Expressions.{Scope, Piece, expr_piece, condition_piece}
+use Rattle.low_blocks.specs.declared.last.Last.{Last}
+use Rattle.low_blocks.specs.Expressions.{Scope, Piece, last_set, expr_steps, expr_piece, condition_piece}
 
 -- where a statement stands
 pub record Site : Type 0 where
@@ -28,10 +26,11 @@ outside before within = record { scope = before.scope; next = within.next; texts
 abbrev pub past : Site → ℕ → Site
 past site next = record { scope = site.scope; next = next; texts = site.texts }
 
--- the copy of a value into a variable, if there is one, as in each program of the class
-abbrev pub copied : Option ℕ → Value → List Code
-copied None v = []
-copied (Some t) v = Set t L Copy v (Number 0) ∷ []
+-- A variable, if there is one, as in each program of the class, is set by the last step of a value. That step reads its operands before it
+-- sets the variable, which may be one of them.
+abbrev pub variable_set : Option ℕ → Last → List Code
+variable_set None last = []
+variable_set (Some t) last = last_set t last ∷ []
 
 -- statements within a statement
 abbrev pub seq : List Code → Code
@@ -50,15 +49,15 @@ turn (compares a r b) c body = seq (c.code ++ If c.value (seq body) (Leave 1) �
 abbrev mutual
   pub statement_code : Site → Statement → Lowered
   statement_code site (declares x e) =
-      let v = expr_piece site.scope site.next e in
+      let v = expr_steps site.scope site.next e in
       record {
-        code = v.code ++ copied (Some v.next) v.value;
+        code = v.code ++ variable_set (Some v.next) v.last;
         behind =
             record { scope = (x, v.next) ∷ site.scope; next = suc v.next; texts = site.texts };
       }
   statement_code site (assigns x e) =
-      let v = expr_piece site.scope site.next e in
-      record { code = v.code ++ copied (number_of x site.scope) v.value; behind = past site v.next }
+      let v = expr_steps site.scope site.next e in
+      record { code = v.code ++ variable_set (number_of x site.scope) v.last; behind = past site v.next }
   statement_code site (chooses c body) =
       let test = condition_piece site.scope site.next c in
       let b = statements_code (past site test.next) body in

@@ -7,7 +7,7 @@ ghost use Rattle.low_blocks.specs.Expressions.{test, comparison, condition_piece
 ghost use Rattle.low_blocks.specs.Drafts.{piece_of, behind};
 
 use crate::draft::Draft;
-use crate::expr::lower_expr;
+use crate::expr::lower_operand;
 use flat_code::{Class, Flat, Op, Value};
 use hare_blocks::{Condition, Relation, Scope};
 use std::alloc::AllocError;
@@ -27,8 +27,8 @@ pub fn lower_condition(draft: &mut Draft, scope: &Scope, c: &Condition) -> Resul
             relation,
             right,
         } => {
-            let a = lower_expr(draft, scope, left)?;
-            let b = lower_expr(draft, scope, right)?;
+            let a = lower_operand(draft, scope, left)?;
+            let b = lower_operand(draft, scope, right)?;
             draft.push(comparison(*relation, a, b))?;
             Ok(Value::Temp(TEST_TEMP))
         }

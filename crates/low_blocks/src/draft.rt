@@ -4,9 +4,11 @@ ghost use Rattle.std.specs.Prelude.{◌≡◌, ◌+◌, [], ◌∷◌, ◌++◌,
 ghost use Rattle.hx_base.specs.declared.Class.TheVariants.{L};
 ghost use Rattle.flat_code.specs.Code.{Set, Call};
 ghost use Rattle.flat_code.specs.Shape.{code_of};
+ghost use Rattle.low_blocks.specs.Expressions.{last_set, operand_of};
 ghost use Rattle.low_blocks.specs.Statements.{seq};
-ghost use Rattle.low_blocks.specs.Drafts.{Grows, IsEmptyDraft};
+ghost use Rattle.low_blocks.specs.Drafts.{piece_of, steps_of, Grows, IsEmptyDraft};
 
+use crate::last::Last;
 use flat_code::{Class, Flat, FlatBox, FlatKids, Op, Value, Values};
 use hx_base::Text;
 use std::alloc::{AllocError, Global};
@@ -40,20 +42,27 @@ impl Draft {
         Ok(())
     }
 
-    /// Sets a temporary of its own, of class l, to what an operation gives.
-    pub fn set(&mut self, op: Op, a: Value, b: Value) -> Result<u32, AllocError>
-        ensures temp { IfOk result (λ t. t ≡ self.old.next) }
-        ensures ok { OnOk result (Grows self.old self.new (Set self.old.next L op a b ∷ []) (self.old.next + 1)) }
+    /// Sets a temporary, of class l, by a last step.
+    pub fn set(&mut self, temp: u32, last: Last) -> Result<(), AllocError>
+        ensures { OnOk result (Grows self.old self.new (last_set temp last ∷ []) self.old.next) }
     {
+        match last {
+            Last::Operand(v) => self.operate(temp, Op::Copy, v, Value::Number(0)),
+            Last::Operation(op, a, b) => self.operate(temp, op, a, b),
+            Last::ArgCount => self.call(Some(temp), "rt.nargs", Values::new(self.alloc)),
+        }
+    }
+
+    /// The operand that a last step gives. Where it is none yet, the next temporary is set by that step.
+    pub fn operand(&mut self, last: Last) -> Result<Value, AllocError>
+        ensures { IfOk result (λ v. piece_of self.new v ≡ operand_of (steps_of self.old last)) }
+    {
+        if let Last::Operand(v) = last {
+            return Ok(v);
+        }
         let temp = self.take_temp()?;
-        self.push(Flat::Set {
-            temp,
-            class: Class::L,
-            op,
-            a,
-            b,
-        })?;
-        Ok(temp)
+        self.set(temp, last)?;
+        Ok(Value::Temp(temp))
     }
 
     /// Takes the next temporary.
@@ -67,6 +76,19 @@ impl Draft {
         };
         self.next = next;
         Ok(temp)
+    }
+
+    /// Sets a temporary, of class l, to what an operation gives.
+    fn operate(&mut self, temp: u32, op: Op, a: Value, b: Value) -> Result<(), AllocError>
+        ensures { OnOk result (Grows self.old self.new (Set temp L op a b ∷ []) self.old.next) }
+    {
+        self.push(Flat::Set {
+            temp,
+            class: Class::L,
+            op,
+            a,
+            b,
+        })
     }
 
     /// Calls a function of the runtime, and sets a temporary to its result, where one is named.

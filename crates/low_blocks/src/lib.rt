@@ -7,6 +7,7 @@
 mod condition;
 mod draft;
 mod expr;
+mod last;
 mod program;
 mod statement;
 mod text;

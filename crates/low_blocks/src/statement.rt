@@ -12,9 +12,9 @@ ghost use Rattle.low_blocks.specs.Drafts.{site, piece_of, Grows, Lowers, LowersB
 
 use crate::condition::lower_condition;
 use crate::draft::Draft;
-use crate::expr::lower_expr;
+use crate::expr::{lower_expr, lower_operand};
 use crate::text::text_global;
-use flat_code::{Class, DataList, Flat, FlatBox, FlatKids, Op, Value, Values};
+use flat_code::{DataList, Flat, FlatBox, FlatKids, Value, Values};
 use hare_blocks::{Condition, Expr, Scope, Statement, Statements};
 use std::alloc::AllocError;
 
@@ -99,7 +99,7 @@ fn lower_block(
     Ok(code)
 }
 
-/// A `let`: a temporary of its own gets the value, and the name stands for it.
+/// A `let`: the last step of the value sets a temporary of its own, and the name stands for it.
 fn declare(
     draft: &mut Draft,
     scope: &mut Scope,
@@ -109,26 +109,21 @@ fn declare(
     ensures { OnOk result ((g : List Data) → Lowers draft.old draft.new scope.old g g scope.new
         (statement_code (site draft.old scope.old g) (declares name.now value.now)) []) }
 {
-    let v = lower_expr(draft, scope, value)?;
-    let temp = draft.set(Op::Copy, v, Value::Number(0))?;
+    let last = lower_expr(draft, scope, value)?;
+    let temp = draft.take_temp()?;
+    draft.set(temp, last)?;
     scope.declare(name, temp)
 }
 
-/// The temporary of the variable, if there is one, gets the value.
+/// The last step of the value sets the temporary of the variable, if there is one.
 fn assign(draft: &mut Draft, scope: &Scope, name: &[u8], value: &Expr) -> Result<(), AllocError>
     ensures { OnOk result ((g : List Data) → Lowers draft.old draft.new scope.now g g scope.now
         (statement_code (site draft.old scope.now g) (assigns name.now value.now)) []) }
 {
-    let v = lower_expr(draft, scope, value)?;
+    let last = lower_expr(draft, scope, value)?;
     match scope.find(name) {
         None => Ok(()),
-        Some(temp) => draft.push(Flat::Set {
-            temp,
-            class: Class::L,
-            op: Op::Copy,
-            a: v,
-            b: Value::Number(0),
-        }),
+        Some(temp) => draft.set(temp, last),
     }
 }
 
@@ -185,7 +180,7 @@ pub fn lower_exit(draft: &mut Draft, scope: &Scope, e: &Expr) -> Result<(), Allo
     ensures { OnOk result ((g : List Data) → Lowers draft.old draft.new scope.now g g scope.now
         (statement_code (site draft.old scope.now g) (exits e.now)) []) }
 {
-    let value = lower_expr(draft, scope, e)?;
+    let value = lower_operand(draft, scope, e)?;
     let mut args = Values::new(draft.alloc);
     args.push(value)?;
     draft.call(None, "rt.exit", args)
