@@ -1,10 +1,10 @@
 -- What the program does of which a module does what it does: each run of the module is one of the program.
 use Rattle.std.proofs.Common.{◌≡◌, ℕ, ◌+◌, ◌-◌, ◌≤◌, List, Option, Some, None, length, length-append, refl, sym, ap, ◌∙◌, inl, inr, arith}
 use Rattle.std.specs.Prelude.{◌⊎◌, codes}
+use Rattle.flat_code.specs.declared.program.FlatProgram.{FlatProgram}
 use Rattle.flat_code.specs.Run as flat
 use Rattle.flat_code.specs.State.{Flow}
 use Rattle.flat_code.specs.State as flow
-use Rattle.hare_blocks.specs.Class.{IsSource}
 use Rattle.hare_blocks.specs.Evaluation.{End, Exit, Spent, run}
 use Rattle.hare_blocks.specs.Trees.{Program}
 use Rattle.il_code.specs.declared.types.Module.{Module}
@@ -16,12 +16,10 @@ use Rattle.il_code.proofs.Budgets.{Order, less, most, order_of, ends_stay}
 use Rattle.il_code.proofs.Steps.{output_grows, done_is_kept}
 use Rattle.il_emit.specs.Reaches.{Reaches, Arrives, Overflows, end_for}
 use Rattle.low_blocks.specs.Agreement.{DoesTheSame, flat_end}
-use Rattle.low_blocks.specs.Programs.{lowered}
+use Rattle.low_blocks.specs.Shape.{CostsLittle}
 use Rattle.harec_core.specs.Carries.{Backs, Back}
 use Rattle.harec_core.specs.Class.{evaluation_of, outcome_of}
-use Rattle.harec_core.proofs.Costs.{run_cost}
 use Rattle.harec_core.proofs.Forward.{ended_in}
-use Rattle.harec_core.proofs.Sizes.{main_fits}
 
 -- the end of a run that goes on
 goes_on : (r : Run) → r.ended ≡ None → end_of r ≡ machine.Spent
@@ -139,30 +137,22 @@ backs m args input fill budget reached n Spent expected way f e o j more =
     let some = j f in
     back_going m args input fill budget reached expected o (e ∙ ap end_for f) (omega (arith, some, more))
 
--- The module of a lowered program does nothing that the program does not do.
-pub does_back : (source : List ℕ) (p : Program) (m : Module) → IsSource source p → DoesTheSame p (lowered p) → Reaches (lowered p) m →
-    Back m (evaluation_of p)
-does_back source p m s does reaches args input fill budget few byte = record {
+-- The module of flat code that does what the program does does nothing that the program does not do.
+pub does_back : (p : Program) (f : FlatProgram) (m : Module) → CostsLittle f → DoesTheSame p f → Reaches f m → Back m (evaluation_of p)
+does_back p f m costs does reaches args input fill budget few byte = record {
   few = omega (arith, done_is_kept.few m (start m args input fill) budget, none_begun m args input fill);
   backs = pick (reaches args input fill (jumps_and_calls (machine m args input fill budget) + 1));
 }
   where
     pick : Arrives m args input fill (jumps_and_calls (machine m args input fill budget) + 1)
-        (flat.run (lowered p) args input fill (jumps_and_calls (machine m args input fill budget) + 1)) ⊎ Overflows m args input
-        fill (jumps_and_calls (machine m args input fill budget) + 1)
-        (flat.run (lowered p) args input fill (jumps_and_calls (machine m args input fill budget) + 1))
+        (flat.run f args input fill (jumps_and_calls (machine m args input fill budget) + 1)) ⊎ Overflows m args input fill
+        (jumps_and_calls (machine m args input fill budget) + 1)
+        (flat.run f args input fill (jumps_and_calls (machine m args input fill budget) + 1))
         → Backs (machine_end m args input fill budget) (machine_output m args input fill budget)
         (outcome_of (run (length args) p (jumps_and_calls (machine m args input fill budget) + 1)).0)
         (run (length args) p (jumps_and_calls (machine m args input fill budget) + 1)).1
     pick (inl a) =
         let n = jumps_and_calls (machine m args input fill budget) + 1 in
-        backs m args input fill budget a.budget n (run (length args) p n).0 (run (length args) p n).1
-        (flat.run (lowered p) args input fill n).0
+        backs m args input fill budget a.budget n (run (length args) p n).0 (run (length args) p n).1 (flat.run f args input fill n).0
         (does.ends args input fill n) a.ended (sym a.world.output ∙ does.outputs args input fill n) a.jumps refl
-    pick (inr o) = absurd (omega (
-      arith,
-      o.cost,
-      main_fits source p s,
-      run_cost p args input fill
-          (jumps_and_calls (machine m args input fill budget) + 1),
-    ))
+    pick (inr o) = absurd (omega (arith, o.cost, costs.most args input fill (jumps_and_calls (machine m args input fill budget) + 1)))

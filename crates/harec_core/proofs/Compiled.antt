@@ -6,40 +6,44 @@ use Rattle.hare_blocks.specs.Trees.{Program}
 use Rattle.il_code.specs.declared.types.Module.{Module}
 use Rattle.il_code.specs.MachineLaws.{InputIsTaken}
 use Rattle.il_code.specs.Rules.{IsValid}
-use Rattle.il_emit.specs.Emitted.{module_of}
 use Rattle.il_emit.specs.Reaches.{Reaches}
 use Rattle.il_emit.specs.Shape as emit
-use Rattle.low_blocks.specs.Agreement.{DoesTheSame, HasItsLoops}
-use Rattle.low_blocks.specs.Programs.{lowered}
+use Rattle.low_blocks.specs.Agreement.{DoesTheSame}
+use Rattle.low_blocks.specs.Shape.{HasItsLoops, CostsLittle}
+use Rattle.low_blocks.specs.Shape as low
 use Rattle.harec_core.specs.Stages.{IsModuleOf}
 use Rattle.harec_core.proofs.Backward.{does_back}
 use Rattle.harec_core.proofs.Forward.{does_forward}
 use Rattle.harec_core.proofs.ReadsNothing.{reads_nothing}
-use Rattle.harec_core.proofs.Shaped.{lowered_shape}
+use Rattle.harec_core.proofs.Shaped.{outline_shape}
 
--- of the module of the lowered program
-lowered_module : InputIsTaken → (source : List ℕ) (p : Program) → IsSource source p → ((q : Program) → IsSource source q → q ≡ p) →
-    IsValid (module_of (lowered p)) → DoesTheSame p (lowered p) → HasItsLoops p (lowered p) → Reaches (lowered p) (module_of (lowered p)) →
-    emit.HasShape (lowered p) (module_of (lowered p)) → IsModuleOf source (module_of (lowered p))
-lowered_module law source p s only valid does loops reaches shape = record {
+-- what is known of the flat code of a program
+pub record IsLowered (p : Program) (f : FlatProgram) : Type 0 where
+  pub does : DoesTheSame p f
+  pub loops : HasItsLoops p f
+  pub shape : low.HasShape p f
+  pub costs : CostsLittle f
+
+-- and of the module of flat code
+pub record IsEmitted (f : FlatProgram) (m : Module) : Type 0 where
+  pub valid : IsValid m
+  pub reaches : Reaches f m
+  pub shape : emit.HasShape f m
+
+-- the module of a file's program, whose text carries the program
+pub module_of_file : InputIsTaken → (source : List ℕ) (p : Program) (f : FlatProgram) (m : Module) → IsSource source p →
+    ((q : Program) → IsSource source q → q ≡ p) → IsLowered p f → IsEmitted f m → IsModuleOf source m
+module_of_file law source p f m s only flat made = record {
   program = p;
   file = s;
   only = only;
-  valid = valid;
-  unread = reads_nothing law source p (module_of (lowered p)) s does reaches;
+  valid = made.valid;
+  unread = reads_nothing law p f m flat.costs flat.does made.reaches;
   carries = record {
-    program = module_of (lowered p);
-    valid = valid;
-    shape = lowered_shape p shape loops;
-    forward = does_forward source p (module_of (lowered p)) s does reaches;
-    back = does_back source p (module_of (lowered p)) s does reaches;
+    program = m;
+    valid = made.valid;
+    shape = outline_shape p f m made.shape flat.shape flat.loops;
+    forward = does_forward p f m flat.costs flat.does made.reaches;
+    back = does_back p f m flat.costs flat.does made.reaches;
   };
 }
-
--- the module of a file's program, whose text carries the program
-pub module_of_file : InputIsTaken → (source : List ℕ) (p : Program) (f : FlatProgram) (m : Module) → f ≡ lowered p → m ≡ module_of f →
-    IsSource source p → ((q : Program) → IsSource source q → q ≡ p) → IsValid m → DoesTheSame p f → HasItsLoops p f → Reaches f m → emit.HasShape f m →
-    IsModuleOf source m
-module_of_file law source p f m e k s only valid does loops reaches shape =
-    rw (k, e) (lowered_module law source p s only (rw (k, e) at valid) (rw e at does) (rw e at loops) (rw (k, e) at reaches)
-    (rw (k, e) at shape))

@@ -6,11 +6,8 @@ pub mod LayoutLemmas
 pub mod Leaves
 pub mod Executing
 pub mod Answering
-pub mod Fits
 pub mod Shaped
 pub mod Forward
-pub mod Costs
-pub mod Sizes
 pub mod Backward
 pub mod ReadsNothing
 pub mod Compiled

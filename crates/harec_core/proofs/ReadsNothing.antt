@@ -1,7 +1,7 @@
--- The module of a lowered program reads nothing: wherever the program comes, all of the input is left.
+-- The module of a program of the class reads nothing: wherever the program comes, all of the input is left.
 use Rattle.std.proofs.Common.{◌≡◌, ℕ, ◌+◌, ◌<◌, ◌≤◌, List, [], ◌∷◌, ◌++◌, length, refl, sym, ap, ◌∙◌, subst, inl, inr, arith, length-append}
+use Rattle.flat_code.specs.declared.program.FlatProgram.{FlatProgram}
 use Rattle.flat_code.specs.Run as flat
-use Rattle.hare_blocks.specs.Class.{IsSource}
 use Rattle.hare_blocks.specs.Evaluation.{End, Exit, Spent, run}
 use Rattle.hare_blocks.specs.Trees.{Program}
 use Rattle.il_code.specs.declared.types.Module.{Module}
@@ -12,11 +12,9 @@ use Rattle.il_code.proofs.Budgets.{less, most, order_of, run_to-on}
 use Rattle.il_code.proofs.Steps.{done_is_kept}
 use Rattle.il_emit.specs.Reaches.{Reaches, Arrives, end_for}
 use Rattle.low_blocks.specs.Agreement.{DoesTheSame, flat_end}
-use Rattle.low_blocks.specs.Programs.{lowered}
+use Rattle.low_blocks.specs.Shape.{CostsLittle}
 use Rattle.harec_core.specs.Jobs.{ReadsNothing}
 use Rattle.harec_core.proofs.Backward.{later_same, none_begun}
-use Rattle.harec_core.proofs.Costs.{run_cost}
-use Rattle.harec_core.proofs.Sizes.{main_fits}
 use Rattle.harec_core.proofs.Unread.{none_in_front, start_input, start_other}
 
 -- an input with a byte
@@ -63,15 +61,15 @@ module _ (law : InputIsTaken) (m : Module) (args : List (List ℕ)) (fill : ℕ)
       some : byte ≡ [] → ⊥
       some e = cc
 
--- the module of a file's program reads nothing
+-- the module of flat code that does what the program does reads nothing
 pub reads_nothing :
-    InputIsTaken → (source : List ℕ) (p : Program) (m : Module) → IsSource source p → DoesTheSame p (lowered p) → Reaches (lowered p) m → ReadsNothing m
-reads_nothing law source p m s does reaches args input other fill n =
+    InputIsTaken → (p : Program) (f : FlatProgram) (m : Module) → CostsLittle f → DoesTheSame p f → Reaches f m → ReadsNothing m
+reads_nothing law p f m costs does reaches args input other fill n =
     same_on_any law m args fill n kept other
     ∙ ap (λ (r : Run). with_input r other) (sym (same_on_any law m args fill n kept input))
   where
     -- where the program's run of so many turns comes, the input is left
-    arrived : Arrives m args byte fill (n + 1) (flat.run (lowered p) args byte fill (n + 1)) → input_of (machine m args byte fill n) ≡ byte
+    arrived : Arrives m args byte fill (n + 1) (flat.run f args byte fill (n + 1)) → input_of (machine m args byte fill n) ≡ byte
     arrived a = elim (order_of m a.budget n) [
       | most l ↦ left_before law m args fill n a.budget l left
       | less l ↦ over (run (length args) p (n + 1)).0 (does.ends args byte fill (n + 1)) l
@@ -81,17 +79,17 @@ reads_nothing law source p m s does reaches args input other fill n =
         left = sym a.world.input ∙ does.inputs args byte fill (n + 1)
 
         over :
-            (end : End) → (flat.run (lowered p) args byte fill (n + 1)).0 ≡ flat_end end → a.budget < n
+            (end : End) → (flat.run f args byte fill (n + 1)).0 ≡ flat_end end → a.budget < n
             → input_of (machine m args byte fill n) ≡ byte
-        over (Exit status) f l =
-            let ended = a.ended ∙ ap end_for f in
+        over (Exit status) e l =
+            let ended = a.ended ∙ ap end_for e in
             ap input_of (later_same m args byte fill a.budget n (machine.Exit status) (omega (arith, l)) ended) ∙ left
-        over Spent f l =
+        over Spent e l =
             let few = done_is_kept.few m (start m args byte fill) a.budget in
-            absurd (omega (arith, few, none_begun m args byte fill, a.jumps f, l))
+            absurd (omega (arith, few, none_begun m args byte fill, a.jumps e, l))
 
     kept : input_of (machine m args byte fill n) ≡ byte
     kept = elim (reaches args byte fill (n + 1)) [
       | inl a ↦ arrived a
-      | inr o ↦ absurd (omega (arith, o.cost, main_fits source p s, run_cost p args byte fill (n + 1)))
+      | inr o ↦ absurd (omega (arith, o.cost, costs.most args byte fill (n + 1)))
     ]

@@ -2,8 +2,8 @@
 use Rattle.std.specs.Prelude.{ℕ, List, [], ◌∷◌, length, codes}
 use Rattle.hare_blocks.specs.Trees.{Program}
 use Rattle.hare_blocks.specs.Evaluation.{End, Exit, Spent, run}
-use Rattle.low_blocks.specs.Agreement.{program_fors}
 use Rattle.low_blocks.specs.Programs.{program_texts}
+use Rattle.low_blocks.specs.Shape.{program_fors}
 use Rattle.harec_core.specs.Programs.{Outcome, Exits, Goes, Evaluation, Outline}
 use Rattle.harec_core.specs.Carries.{CarriesBothWays}
 

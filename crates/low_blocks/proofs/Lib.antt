@@ -22,3 +22,7 @@ pub mod Loops
 pub mod Drafts
 pub mod Kids
 pub mod Lowered
+pub mod Fits
+pub mod Costs
+pub mod Sizes
+pub mod Shaped

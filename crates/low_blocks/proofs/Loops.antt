@@ -11,7 +11,7 @@ use Rattle.low_blocks.specs.declared.last.Last.TheVariants.{Operand, Operation, 
 use Rattle.low_blocks.specs.Expressions.{Scope, last_set, Steps, Piece, settled, operand_of, operated, comparison, expr_steps, terms_steps, term_steps, factors_steps, factor_steps, expr_piece, condition_piece}
 use Rattle.low_blocks.specs.Statements.{Site, past, outside, variable_set, branch, turn, statement_code, statements_code}
 use Rattle.low_blocks.specs.Programs.{body_of, start, body_code, lowered}
-use Rattle.low_blocks.specs.Agreement.{code_loops, codes_loops, statement_fors, statements_fors, program_fors, HasItsLoops}
+use Rattle.low_blocks.specs.Shape.{code_loops, codes_loops, statement_fors, statements_fors, program_fors, HasItsLoops}
 
 abbrev loops : List Code → ℕ
 loops cs = codes_loops (codes_of cs)
@@ -54,7 +54,8 @@ mutual
 
   loops_factors : (scope : Scope) (left : Steps) (fs : Factors) → loops left.code ≡ 0 → loops (factors_steps scope left fs).code ≡ 0
   loops_factors scope left no_factor h = h
-  loops_factors scope left (times f fs) h = loops_factors scope _ fs (loops_joined Mul left _ h (loops_factor scope (operand_of left).next f))
+  loops_factors scope left (times f fs) h =
+      loops_factors scope _ fs (loops_joined Mul left _ h (loops_factor scope (operand_of left).next f))
 
   loops_factor : (scope : Scope) (t : ℕ) (f : Factor) → loops (factor_steps scope t f).code ≡ 0
   loops_factor scope t (number m) = refl
@@ -126,7 +127,8 @@ mutual
         statements_loops (past site test.next) body,
       )
   statement_loops site (puts text) = refl
-  statement_loops site (exits e) = loops_parts (expr_piece site.scope site.next e).code _ ∙ omega (arith, loops_piece site.scope site.next e)
+  statement_loops site (exits e) =
+      loops_parts (expr_piece site.scope site.next e).code _ ∙ omega (arith, loops_piece site.scope site.next e)
 
   statements_loops : (site : Site) (ss : Statements) → loops (statements_code site ss).code ≡ statements_fors ss
   statements_loops site nothing = refl

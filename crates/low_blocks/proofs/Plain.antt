@@ -111,9 +111,11 @@ module _ (q : FlatProgram) (free : IsFree q) where
   plain_last : (t : ℕ) (last : Last) → 0 < t → IsPlain (more (last_set t last) none)
   plain_last t (Operand v) l = plain_set t _ v _ l
   plain_last t (Operation op a b) l = plain_set t op a b l
-  plain_last t ArgCount l = plain_one (Call (Some t) (codes "rt.nargs") []) (λ u k. rw free.nargs (long_word t u)) (rw free.nargs (long_first t l))
+  plain_last t ArgCount l =
+      plain_one (Call (Some t) (codes "rt.nargs") []) (λ u k. rw free.nargs (long_word t u)) (rw free.nargs (long_first t l))
 
-  plain_settled : (last : Last) (cs : List Code) (next : ℕ) → 0 < next → IsPlain (codes_of cs) → IsPlain (codes_of (settled last cs next).code)
+  plain_settled : (last : Last) (cs : List Code) (next : ℕ) → 0 < next → IsPlain (codes_of cs) →
+      IsPlain (codes_of (settled last cs next).code)
   plain_settled (Operand v) cs next l h = h
   plain_settled (Operation op a b) cs next l h = plain_append cs _ h (plain_last next (Operation op a b) l)
   plain_settled ArgCount cs next l h = plain_append cs _ h (plain_last next ArgCount l)
@@ -128,7 +130,8 @@ module _ (q : FlatProgram) (free : IsFree q) where
   module _ (scope : Scope) (bound : ℕ) (pos : 0 < bound) (below : Below bound scope) where
     mutual
       expr_plain : (t : ℕ) (e : Expr) → bound ≤ t → IsPlain (codes_of (expr_steps scope t e).code)
-      expr_plain t (sum_of a ts) le = terms_plain t (term_steps scope t a) ts le (term_from scope bound pos below t a le) (term_plain t a le)
+      expr_plain t (sum_of a ts) le =
+          terms_plain t (term_steps scope t a) ts le (term_from scope bound pos below t a le) (term_plain t a le)
 
       terms_plain : (t : ℕ) (left : Steps) (ts : Terms) → bound ≤ t → AreFrom t left → IsPlain (codes_of left.code) →
           IsPlain (codes_of (terms_steps scope left ts).code)

@@ -10,7 +10,7 @@ use Rattle.flat_code.specs.Run as flat
 use Rattle.hare_blocks.specs.Trees.{Expr, Factor, sum_of, no_term, plus, minus, product_of, no_factor, times, number, arg_count, variable, group, less, greater, always, compares, declares, assigns, chooses, chooses_one, repeats, puts, exits, nothing, first, Program, exit_of, block_of}
 use Rattle.low_blocks.specs.Statements.{seq}
 use Rattle.low_blocks.specs.Programs.{body_code, lowered}
-use Rattle.low_blocks.specs.Agreement.{HasItsLoops}
+use Rattle.low_blocks.specs.Shape.{HasItsLoops}
 
 abbrev one : Factor → Expr
 one f = sum_of (product_of f no_factor) no_term

@@ -69,7 +69,7 @@ module _ (p : FlatProgram) (w : World) (args : ℕ) (arguments : w.arguments ≡
       let g = expr_leads p n less args no_nargs site.scope v.variables site.next h.some h.below site.next e s (omega arith)
       (ready n less site v s h st) in
       let z = value args v.variables e in
-      let k = last_sets p n less args no_nargs site.scope v.variables site.next h.some h.below g.after steps.next steps.last z g.yields g.fits in
+      let k = last_sets p n less no_nargs g.after steps.next steps.last z g.yields g.fits in
       let r = reaches_on p n less steps.code (variable_set (Some steps.next) steps.last) s g.after k.after g.reaches k.reaches in
       let keeps = keeps_on site.next steps.next s g.after k.after f.grows g.keeps (λ u l m. k.others u (λ i. omega arith)) in
       goes_on _ k.after refl (ended n (steps.code ++ variable_set (Some steps.next) steps.last) s k.after r) (record {
@@ -78,7 +78,7 @@ module _ (p : FlatProgram) (w : World) (args : ℕ) (arguments : w.arguments ≡
       })
 
   -- a variable, if there is one, is set by the last step
-  variable_meets : (n : ℕ) (site : Site) (x : List ℕ) (steps : Steps) (z : ℕ) (v : State) (s : flat.State) (o : Option ℕ) → (h : IsSited site) →
+  variable_meets : (n : ℕ) (site : Site) (x : List ℕ) (steps : Steps) (z : ℕ) (v : State) (s : flat.State) (o : Option ℕ) → IsSited site →
       Stands w site.scope v s → Leads p n (flat_below p n) s steps z site.next → number_of x site.scope ≡ o →
       Meets w site.scope (Next, record v { variables = assigned x z v.variables }) (within n (steps.code ++ variable_set o steps.last) s)
   variable_meets n site x steps z v s None h st g none =
@@ -89,7 +89,7 @@ module _ (p : FlatProgram) (w : World) (args : ℕ) (arguments : w.arguments ≡
       })
   variable_meets n site x steps z v s (Some t) h st g some =
       let less = flat_below p n in
-      let k = last_sets p n less args no_nargs site.scope v.variables site.next h.some h.below g.after t steps.last z g.yields g.fits in
+      let k = last_sets p n less no_nargs g.after t steps.last z g.yields g.fits in
       let r = reaches_on p n less steps.code (variable_set (Some t) steps.last) s g.after k.after g.reaches k.reaches in
       let before = holds_kept site.next site.scope v.variables s g.after h.below g.keeps st.holds in
       goes_on _ k.after refl (ended n (steps.code ++ variable_set (Some t) steps.last) s k.after r) (record {

@@ -87,18 +87,7 @@ module _ (p : FlatProgram) (n : ℕ) (less : Less) where
         keeps = keeps_on t a.next s h.after k.after ta h.keeps k.keeps;
       }
 
-  module _ (args : ℕ) (nargs : function_named p.functions (codes "rt.nargs") ≡ None) (scope : Scope) (vs : Variables) (bound : ℕ)
-      (pos : 0 < bound) (below : Below bound scope) where
-    -- the variables stand in the state, and it has so many arguments
-    abbrev pub Ready : State → Type 0
-    Ready s = Holds scope vs s × (s.world.arguments ≡ args)
-
-    pub ready_on : (s s' : State) (t : ℕ) → bound ≤ t → Ready s → s'.world ≡ s.world → Keeps t s s' → Ready s'
-    ready_on s s' t le r w k =
-        (holds_kept bound scope vs s s' below (λ u l m. k u l (omega arith)) r.0, ap (λ (x : World). x.arguments) w ∙ r.1)
-
-    -- ---- last steps and operands
-
+  module _ (nargs : function_named p.functions (codes "rt.nargs") ≡ None) where
     -- a temporary is set by a last step
     pub last_sets : (s : State) (t : ℕ) (last : Last) (v : ℕ) → Yields s last v → v < 2 ^ 64 → SetsTo s (last_set t last) t v
     last_sets s t (Operand x) v e fits =
@@ -139,14 +128,24 @@ module _ (p : FlatProgram) (n : ℕ) (less : Less) where
     operand_gives : (s : State) (steps : Steps) (v t : ℕ) → t ≤ steps.next → Leads s steps v t → Gives s (operand_of steps) v t
     operand_gives s steps v t le h = settled_gives s steps.last steps.code steps.next v t le h
 
+  module _ (args : ℕ) (nargs : function_named p.functions (codes "rt.nargs") ≡ None) (scope : Scope) (vs : Variables) (bound : ℕ)
+      (pos : 0 < bound) (below : Below bound scope) where
+    -- the variables stand in the state, and it has so many arguments
+    abbrev pub Ready : State → Type 0
+    Ready s = Holds scope vs s × (s.world.arguments ≡ args)
+
+    pub ready_on : (s s' : State) (t : ℕ) → bound ≤ t → Ready s → s'.world ≡ s.world → Keeps t s s' → Ready s'
+    ready_on s s' t le r w k =
+        (holds_kept bound scope vs s s' below (λ u l m. k u l (omega arith)) r.0, ap (λ (x : World). x.arguments) w ∙ r.1)
+
     -- an operation on what two steps lead to
-    joined_leads : (s : State) (op : Op) (left right : Steps) (v w r z t : ℕ) → 0 < t → AreFrom t left → AreFrom (operand_of left).next right →
-        (g : Gives s (operand_of left) v t) → Leads g.after right w (operand_of left).next → gives L op v w ≡ Some r → r % 2 ^ 64 ≡ z →
+    joined_leads : (s : State) (op : Op) (left right : Steps) (v w r z t : ℕ) → 0 < t → AreFrom t left →
+        AreFrom (operand_of left).next right → (g : Gives s (operand_of left) v t) → Leads g.after right w (operand_of left).next → gives L op v w ≡ Some r → r % 2 ^ 64 ≡ z →
         Leads s (operated op (operand_of left) (operand_of right)) z t
     joined_leads s op left right v w r z t some i j g k e f =
         let x = operand_from t left some i in
         operated_leads s op (operand_of left) (operand_of right) v w r z t x.grows x.value g
-        (operand_gives g.after right w (operand_of left).next j.grows k) e f
+        (operand_gives nargs g.after right w (operand_of left).next j.grows k) e f
 
     mutual
       pub expr_leads : (t : ℕ) (e : Expr) (s : State) → bound ≤ t → Ready s → Leads s (expr_steps scope t e) (value args vs e) t
@@ -160,20 +159,20 @@ module _ (p : FlatProgram) (n : ℕ) (less : Less) where
           let x = operand_of left in
           let l = after_operand scope bound pos below t left le i in
           let j = term_from scope bound pos below x.next a l in
-          let g = operand_gives s left v t i.grows h in
+          let g = operand_gives nargs s left v t i.grows h in
           let k = term_leads x.next a g.after l (ready_on s g.after t le r g.world g.keeps) in
           terms_leads t _ ts s _ le r (joined_from t Add left (term_steps scope x.next a) (omega arith) i j)
-          (joined_leads s Add left (term_steps scope x.next a) v (term_value args vs a) (v + term_value args vs a) _ t (omega arith) i j g k
-          refl refl)
+          (joined_leads s Add left (term_steps scope x.next a) v (term_value args vs a) (v + term_value args vs a) _ t
+          (omega arith) i j g k refl refl)
       terms_leads t left (minus a ts) s v le r i h =
           let x = operand_of left in
           let l = after_operand scope bound pos below t left le i in
           let j = term_from scope bound pos below x.next a l in
-          let g = operand_gives s left v t i.grows h in
+          let g = operand_gives nargs s left v t i.grows h in
           let k = term_leads x.next a g.after l (ready_on s g.after t le r g.world g.keeps) in
           terms_leads t _ ts s _ le r (joined_from t Sub left (term_steps scope x.next a) (omega arith) i j)
-          (joined_leads s Sub left (term_steps scope x.next a) v (term_value args vs a) (v + 2 ^ 64 - term_value args vs a) _ t (omega arith)
-          i j g k refl refl)
+          (joined_leads s Sub left (term_steps scope x.next a) v (term_value args vs a) (v + 2 ^ 64 - term_value args vs a) _ t
+          (omega arith) i j g k refl refl)
 
       term_leads : (t : ℕ) (a : Term) (s : State) → bound ≤ t → Ready s → Leads s (term_steps scope t a) (term_value args vs a) t
       term_leads t (product_of f fs) s le r =
@@ -186,11 +185,11 @@ module _ (p : FlatProgram) (n : ℕ) (less : Less) where
           let x = operand_of left in
           let l = after_operand scope bound pos below t left le i in
           let j = factor_from scope bound pos below x.next f l in
-          let g = operand_gives s left v t i.grows h in
+          let g = operand_gives nargs s left v t i.grows h in
           let k = factor_leads x.next f g.after l (ready_on s g.after t le r g.world g.keeps) in
           factors_leads t _ fs s _ le r (joined_from t Mul left (factor_steps scope x.next f) (omega arith) i j)
-          (joined_leads s Mul left (factor_steps scope x.next f) v (factor_value args vs f) (v * factor_value args vs f) _ t (omega arith) i j g
-          k refl refl)
+          (joined_leads s Mul left (factor_steps scope x.next f) v (factor_value args vs f) (v * factor_value args vs f) _ t
+          (omega arith) i j g k refl refl)
 
       factor_leads : (t : ℕ) (f : Factor) (s : State) → bound ≤ t → Ready s → Leads s (factor_steps scope t f) (factor_value args vs f) t
       factor_leads t (number m) s le r =
@@ -216,4 +215,4 @@ module _ (p : FlatProgram) (n : ℕ) (less : Less) where
     -- the operand that an expression becomes is its value
     pub piece_gives : (t : ℕ) (e : Expr) (s : State) → bound ≤ t → Ready s → Gives s (expr_piece scope t e) (value args vs e) t
     piece_gives t e s le r =
-        operand_gives s (expr_steps scope t e) (value args vs e) t (expr_from scope bound pos below t e le).grows (expr_leads t e s le r)
+        operand_gives nargs s (expr_steps scope t e) (value args vs e) t (expr_from scope bound pos below t e le).grows (expr_leads t e s le r)

@@ -3,3 +3,4 @@ pub mod Statements
 pub mod Programs
 pub mod Drafts
 pub mod Agreement
+pub mod Shape

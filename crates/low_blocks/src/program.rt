@@ -5,7 +5,8 @@ ghost use Rattle.flat_code.specs.WellFormed.{IsWellFormed};
 ghost use Rattle.hare_blocks.specs.Shape.{program_of};
 ghost use Rattle.hare_blocks.specs.Class.{IsSource};
 ghost use Rattle.low_blocks.specs.Programs.{lowered, main_of};
-ghost use Rattle.low_blocks.specs.Agreement.{DoesTheSame, HasItsLoops};
+ghost use Rattle.low_blocks.specs.Agreement.{DoesTheSame};
+ghost use Rattle.low_blocks.specs.Shape.{HasItsLoops, HasShape, CostsLittle};
 
 use crate::condition::TEST_TEMP;
 use crate::draft::Draft;
@@ -20,15 +21,15 @@ use std::alloc::{AllocError, Global};
 /// The program is that of some file of the class, as one is that `hare_blocks::read` gives.
 ///
 /// It is well formed, and does the same as the program: for all arguments, all input and every number of turns it ends as the program does,
-/// with the same output. It has a loop for each `for`. An error is want of memory, or of numbers for temporaries and globals, which are
-/// below 2^32.
-#[tactic(auto, using(crate::proofs::WellFormed::well_formed, crate::proofs::Sources::source_same, crate::proofs::Loops::has_its_loops))]
+/// with the same output. It has a loop for each `for`, its function has no frame and calls functions of the runtime alone, and its calls
+/// cost the stack at most a mebibyte. An error is want of memory, or of numbers for temporaries and globals, which are below 2^32.
 pub fn lower(alloc: Global, p: &Program) -> Result<FlatProgram, AllocError>
     requires { (text : List ℕ) × IsSource text (program_of p.now) }
-    ensures value { IfOk result (λ f. f ≡ lowered (program_of p.now)) }
     ensures well_formed { IfOk result (λ f. IsWellFormed f) }
     ensures does { IfOk result (λ f. DoesTheSame (program_of p.now) f) }
     ensures loops { IfOk result (λ f. HasItsLoops (program_of p.now) f) }
+    ensures shape { IfOk result (λ f. HasShape (program_of p.now) f) }
+    ensures costs { IfOk result (λ f. CostsLittle f) }
 {
     let f = lowered(alloc, p)?;
     Ok(f)

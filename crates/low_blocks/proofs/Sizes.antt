@@ -1,65 +1,80 @@
--- A file's program needs no more temporaries than the file has bytes, so that its call fits the stack.
+-- A file's program needs no more temporaries than the file has bytes, so that its run costs little of the stack.
 use Rattle.std.proofs.Common.{◌≡◌, ℕ, ◌+◌, ◌≤◌, List, [], ◌∷◌, ◌++◌, true, length, ap, arith}
 use Rattle.std.proofs.lemmas.List.{length-append}
 use Rattle.flat_code.specs.declared.op.Op.TheVariants.{Add, Sub, Mul}
-use Rattle.flat_code.specs.Code.{Seq, codes_of}
+use Rattle.flat_code.specs.Code.{Code, Seq, codes_of}
 use Rattle.flat_code.specs.Costs.{call_cost}
-use Rattle.il_code.specs.Machine.{stack_size}
 use Rattle.hare_blocks.specs.declared.token.Token.{Token}
 use Rattle.hare_blocks.specs.declared.token.Token.TheVariants as token
 use Rattle.hare_blocks.specs.Class.{IsSource, IsOfClass}
 use Rattle.hare_blocks.specs.Tokens.{IsSpelling, Spells, is_name}
 use Rattle.hare_blocks.specs.Trees.{Expr, Terms, Term, Factors, Factor, sum_of, no_term, plus, minus, product_of, no_factor, times, number, arg_count, variable, group, Condition, always, compares, Statement, Statements, declares, assigns, chooses, chooses_one, repeats, puts, exits, nothing, first, Program, exit_of, block_of, relation_token, expr_tokens, terms_tokens, term_tokens, factors_tokens, factor_tokens, condition_tokens, head_tokens, in_braces, exit_tokens, statement_tokens, statements_tokens, file_tokens}
-use Rattle.low_blocks.specs.Expressions.{Scope, Piece, operated, expr_piece, terms_piece, term_piece, factors_piece, factor_piece, condition_piece}
+use Rattle.low_blocks.specs.declared.last.Last.{Last}
+use Rattle.low_blocks.specs.declared.last.Last.TheVariants.{Operand, Operation, ArgCount}
+use Rattle.low_blocks.specs.Expressions.{Scope, Steps, settled, operand_of, operated, expr_steps, terms_steps, term_steps, factors_steps, factor_steps, expr_piece, condition_piece}
 use Rattle.low_blocks.specs.Statements.{Site, past, outside, statement_code, statements_code}
-use Rattle.low_blocks.specs.Programs.{body_of, start, body_code, lowered_main}
-use Rattle.harec_core.proofs.Costs.{none_addressed}
-use Rattle.harec_core.proofs.Fits.{statements_fit}
+use Rattle.low_blocks.specs.Programs.{body_of, start, body_code, lowered_main, lowered}
+use Rattle.low_blocks.specs.Shape.{little, CostsLittle}
+use Rattle.low_blocks.proofs.Costs.{none_addressed, run_cost}
+use Rattle.low_blocks.proofs.Fits.{statements_fit}
 
 -- ---- temporaries of expressions
+
+next_settled : (last : Last) (cs : List Code) (next : ℕ) → next ≤ (settled last cs next).next
+next_settled (Operand v) cs next = omega arith
+next_settled (Operation o a b) cs next = omega arith
+next_settled ArgCount cs next = omega arith
+
+next_operand : (s : Steps) → s.next ≤ (operand_of s).next
+next_operand s = next_settled s.last s.code s.next
 
 mutual
   expr_next : (scope : Scope) (t : ℕ) (e : Expr) → (expr_piece scope t e).next ≤ t + length (expr_tokens e)
   expr_next scope t (sum_of a ts) = omega (
     arith,
-    terms_next scope (term_piece scope t a) ts,
+    terms_next scope (term_steps scope t a) ts,
     term_next scope t a,
     length-append
         (term_tokens a) (terms_tokens ts),
   )
 
-  terms_next : (scope : Scope) (left : Piece) (ts : Terms) → (terms_piece scope left ts).next ≤ left.next + length (terms_tokens ts)
+  terms_next : (scope : Scope) (left : Steps) (ts : Terms) →
+      (operand_of (terms_steps scope left ts)).next ≤ (operand_of left).next + length (terms_tokens ts)
   terms_next scope left no_term = omega arith
-  terms_next scope left (plus a ts) = omega (
-    arith,
-    terms_next scope (operated Add left (term_piece scope left.next a)) ts,
-    term_next scope
-        left.next a,
-    length-append (term_tokens a) (terms_tokens ts),
-  )
-  terms_next scope left (minus a ts) = omega (
-    arith,
-    terms_next scope (operated Sub left (term_piece scope left.next a)) ts,
-    term_next scope left.next a,
-    length-append
-        (term_tokens a) (terms_tokens ts),
-  )
+  terms_next scope left (plus a ts) =
+      let x = operand_of left in
+      omega (
+        arith,
+        terms_next scope (operated Add x (operand_of (term_steps scope x.next a))) ts,
+        term_next scope x.next a,
+        length-append (term_tokens a) (terms_tokens ts),
+      )
+  terms_next scope left (minus a ts) =
+      let x = operand_of left in
+      omega (
+        arith,
+        terms_next scope (operated Sub x (operand_of (term_steps scope x.next a))) ts,
+        term_next scope x.next a,
+        length-append (term_tokens a) (terms_tokens ts),
+      )
 
-  term_next : (scope : Scope) (t : ℕ) (a : Term) → (term_piece scope t a).next ≤ t + length (term_tokens a)
+  term_next : (scope : Scope) (t : ℕ) (a : Term) → (operand_of (term_steps scope t a)).next ≤ t + length (term_tokens a)
   term_next scope t (product_of f fs) = omega
-      (arith, factors_next scope (factor_piece scope t f) fs, factor_next scope t f, length-append (factor_tokens f) (factors_tokens fs))
+      (arith, factors_next scope (factor_steps scope t f) fs, factor_next scope t f, length-append (factor_tokens f) (factors_tokens fs))
 
-  factors_next : (scope : Scope) (left : Piece) (fs : Factors) → (factors_piece scope left fs).next ≤ left.next + length (factors_tokens fs)
+  factors_next : (scope : Scope) (left : Steps) (fs : Factors) →
+      (operand_of (factors_steps scope left fs)).next ≤ (operand_of left).next + length (factors_tokens fs)
   factors_next scope left no_factor = omega arith
-  factors_next scope left (times f fs) = omega (
-    arith,
-    factors_next scope (operated Mul left (factor_piece scope left.next f)) fs,
-    factor_next scope left.next f,
-    length-append
-        (factor_tokens f) (factors_tokens fs),
-  )
+  factors_next scope left (times f fs) =
+      let x = operand_of left in
+      omega (
+        arith,
+        factors_next scope (operated Mul x (operand_of (factor_steps scope x.next f))) fs,
+        factor_next scope x.next f,
+        length-append (factor_tokens f) (factors_tokens fs),
+      )
 
-  factor_next : (scope : Scope) (t : ℕ) (f : Factor) → (factor_piece scope t f).next ≤ t + length (factor_tokens f)
+  factor_next : (scope : Scope) (t : ℕ) (f : Factor) → (operand_of (factor_steps scope t f)).next ≤ t + length (factor_tokens f)
   factor_next scope t (number n) = omega arith
   factor_next scope t arg_count = omega arith
   factor_next scope t (variable x) = omega arith
@@ -89,8 +104,8 @@ braces_length ts = omega (arith, length-append ts (token.CloseBrace ∷ []))
 
 mutual
   statement_next : (site : Site) (s : Statement) → (statement_code site s).behind.next ≤ site.next + length (statement_tokens s)
-  statement_next site (declares x e) = omega (arith, expr_next site.scope site.next e)
-  statement_next site (assigns x e) = omega (arith, expr_next site.scope site.next e)
+  statement_next site (declares x e) = omega (arith, expr_next site.scope site.next e, next_operand (expr_steps site.scope site.next e))
+  statement_next site (assigns x e) = omega (arith, expr_next site.scope site.next e, next_operand (expr_steps site.scope site.next e))
   statement_next site (chooses c body) =
       let test = condition_piece site.scope site.next c in
       omega (
@@ -200,9 +215,9 @@ file_length text (block_of ss) h = omega (arith, h.small)
 
 -- ---- the stack
 
--- a call of the `main` of a file's program fits the stack
-pub main_fits : (text : List ℕ) (p : Program) → IsSource text p → call_cost (lowered_main (body_code p)) ≤ stack_size
-main_fits text p s =
+-- a call of the `main` of a file's program costs little
+main_cost : (text : List ℕ) (p : Program) → IsSource text p → call_cost (lowered_main (body_code p)) ≤ little
+main_cost text p s =
     let code = Seq (codes_of (body_code p).code) in
     let temps : (body_code p).behind.next ≤ 65537 =
     omega (
@@ -215,3 +230,6 @@ main_fits text p s =
     ) in
     let none = none_addressed code (statements_fit start (body_of p)) in
     omega (arith, temps, none)
+
+pub costs_little : (text : List ℕ) (p : Program) → IsSource text p → CostsLittle (lowered p)
+costs_little text p s = record { most = λ args input fill n. omega (arith, run_cost p args input fill n, main_cost text p s) }

@@ -8,8 +8,10 @@ use Rattle.flat_code.specs.declared.value.Value.TheVariants.{Temp, Number, Symbo
 use Rattle.flat_code.specs.Code.{Code, Codes, none, more, Seq, Set, Load, Store, Move, If, Loop, Leave, Call, Ret, codes_of}
 use Rattle.hare_blocks.specs.Scopes.{number_of}
 use Rattle.hare_blocks.specs.Trees.{Expr, Terms, Term, Factors, Factor, sum_of, no_term, plus, minus, product_of, no_factor, times, number, arg_count, variable, group, Relation, less, less_equal, greater, greater_equal, equal, differ, Condition, always, compares, Statement, Statements, declares, assigns, chooses, chooses_one, repeats, puts, exits, nothing, first}
-use Rattle.low_blocks.specs.Expressions.{Scope, held, Piece, operated, comparison, expr_piece, terms_piece, term_piece, factors_piece, factor_piece, condition_piece}
-use Rattle.low_blocks.specs.Statements.{Site, past, outside, copied, branch, turn, statement_code, statements_code}
+use Rattle.low_blocks.specs.declared.last.Last.{Last}
+use Rattle.low_blocks.specs.declared.last.Last.TheVariants.{Operand, Operation, ArgCount}
+use Rattle.low_blocks.specs.Expressions.{Scope, held, last_set, Steps, Piece, settled, operand_of, operated, comparison, expr_steps, terms_steps, term_steps, factors_steps, factor_steps, expr_piece, condition_piece}
+use Rattle.low_blocks.specs.Statements.{Site, past, outside, variable_set, branch, turn, statement_code, statements_code}
 
 -- ---- code
 
@@ -54,37 +56,64 @@ record IsFitPiece (p : Piece) : Type 0 where
   code : AreFit (codes_of p.code)
   value : IsOperand p.value
 
+-- the operands of a last step
+abbrev IsFitLast : Last → Type 0
+IsFitLast (Operand v) = IsOperand v
+IsFitLast (Operation o a b) = IsOperand a × IsOperand b
+IsFitLast ArgCount = Unit {0}
+
+record AreFitSteps (s : Steps) : Type 0 where
+  code : AreFit (codes_of s.code)
+  last : IsFitLast s.last
+
 held_operand : (o : Option ℕ) → IsOperand (held o)
 held_operand None = tt
 held_operand (Some t) = tt
 
-operated_fit : (o : Op) (a b : Piece) → IsFitPiece a → IsFitPiece b → IsFitPiece (operated o a b)
-operated_fit o a b h k = record { code = fit_append a.code _ h.code (fit_append b.code _ k.code ((h.value, k.value), tt)); value = tt }
+last_fit : (t : ℕ) (last : Last) → IsFitLast last → AreFit (codes_of (last_set t last ∷ []))
+last_fit t (Operand v) h = ((h, tt), tt)
+last_fit t (Operation o a b) h = (h, tt)
+last_fit t ArgCount h = (counts t, tt)
+
+settled_fit : (last : Last) (cs : List Code) (next : ℕ) → AreFit (codes_of cs) → IsFitLast last → IsFitPiece (settled last cs next)
+settled_fit (Operand v) cs next h k = record { code = h; value = k }
+settled_fit (Operation o a b) cs next h k = record { code = fit_append cs _ h (last_fit next (Operation o a b) k); value = tt }
+settled_fit ArgCount cs next h k = record { code = fit_append cs _ h (last_fit next ArgCount k); value = tt }
+
+operand_fit : (s : Steps) → AreFitSteps s → IsFitPiece (operand_of s)
+operand_fit s h = settled_fit s.last s.code s.next h.code h.last
+
+joined_fit : (o : Op) (left right : Steps) → AreFitSteps left → AreFitSteps right →
+    AreFitSteps (operated o (operand_of left) (operand_of right))
+joined_fit o left right h k =
+    let x = operand_fit left h in
+    let y = operand_fit right k in
+    record { code = fit_append (operand_of left).code _ x.code y.code; last = (x.value, y.value) }
 
 mutual
-  expr_fit : (scope : Scope) (t : ℕ) (e : Expr) → IsFitPiece (expr_piece scope t e)
-  expr_fit scope t (sum_of a ts) = terms_fit scope (term_piece scope t a) ts (term_fit scope t a)
+  expr_fit : (scope : Scope) (t : ℕ) (e : Expr) → AreFitSteps (expr_steps scope t e)
+  expr_fit scope t (sum_of a ts) = terms_fit scope (term_steps scope t a) ts (term_fit scope t a)
 
-  terms_fit : (scope : Scope) (left : Piece) (ts : Terms) → IsFitPiece left → IsFitPiece (terms_piece scope left ts)
+  terms_fit : (scope : Scope) (left : Steps) (ts : Terms) → AreFitSteps left → AreFitSteps (terms_steps scope left ts)
   terms_fit scope left no_term h = h
-  terms_fit scope left (plus a ts) h = terms_fit scope _ ts
-      (operated_fit Add left (term_piece scope left.next a) h (term_fit scope left.next a))
-  terms_fit scope left (minus a ts) h = terms_fit scope _ ts
-      (operated_fit Sub left (term_piece scope left.next a) h (term_fit scope left.next a))
+  terms_fit scope left (plus a ts) h = terms_fit scope _ ts (joined_fit Add left _ h (term_fit scope (operand_of left).next a))
+  terms_fit scope left (minus a ts) h = terms_fit scope _ ts (joined_fit Sub left _ h (term_fit scope (operand_of left).next a))
 
-  term_fit : (scope : Scope) (t : ℕ) (a : Term) → IsFitPiece (term_piece scope t a)
-  term_fit scope t (product_of f fs) = factors_fit scope (factor_piece scope t f) fs (factor_fit scope t f)
+  term_fit : (scope : Scope) (t : ℕ) (a : Term) → AreFitSteps (term_steps scope t a)
+  term_fit scope t (product_of f fs) = factors_fit scope (factor_steps scope t f) fs (factor_fit scope t f)
 
-  factors_fit : (scope : Scope) (left : Piece) (fs : Factors) → IsFitPiece left → IsFitPiece (factors_piece scope left fs)
+  factors_fit : (scope : Scope) (left : Steps) (fs : Factors) → AreFitSteps left → AreFitSteps (factors_steps scope left fs)
   factors_fit scope left no_factor h = h
-  factors_fit scope left (times f fs) h = factors_fit scope _ fs
-      (operated_fit Mul left (factor_piece scope left.next f) h (factor_fit scope left.next f))
+  factors_fit scope left (times f fs) h = factors_fit scope _ fs (joined_fit Mul left _ h (factor_fit scope (operand_of left).next f))
 
-  factor_fit : (scope : Scope) (t : ℕ) (f : Factor) → IsFitPiece (factor_piece scope t f)
-  factor_fit scope t (number n) = record { code = tt; value = tt }
-  factor_fit scope t arg_count = record { code = (counts t, tt); value = tt }
-  factor_fit scope t (variable x) = record { code = tt; value = held_operand (number_of x scope) }
+  factor_fit : (scope : Scope) (t : ℕ) (f : Factor) → AreFitSteps (factor_steps scope t f)
+  factor_fit scope t (number n) = record { code = tt; last = tt }
+  factor_fit scope t arg_count = record { code = tt; last = tt }
+  factor_fit scope t (variable x) = record { code = tt; last = held_operand (number_of x scope) }
   factor_fit scope t (group e) = expr_fit scope t e
+
+piece_fit : (scope : Scope) (t : ℕ) (e : Expr) → IsFitPiece (expr_piece scope t e)
+piece_fit scope t e = operand_fit (expr_steps scope t e) (expr_fit scope t e)
 
 -- ---- conditions
 
@@ -101,8 +130,8 @@ condition_fit scope t always = record { code = tt; value = tt }
 condition_fit scope t (compares a r b) =
     let x = expr_piece scope t a in
     let y = expr_piece scope x.next b in
-    let h = expr_fit scope t a in
-    let k = expr_fit scope x.next b in
+    let h = piece_fit scope t a in
+    let k = piece_fit scope x.next b in
     record {
       code = fit_append x.code _ h.code (fit_append y.code _ k.code (comparison_fit r x.value y.value h.value k.value, tt));
       value = tt;
@@ -110,9 +139,9 @@ condition_fit scope t (compares a r b) =
 
 -- ---- statements
 
-copied_fit : (place : Option ℕ) (v : Value) → IsOperand v → AreFit (codes_of (copied place v))
-copied_fit None v h = tt
-copied_fit (Some t) v h = ((h, tt), tt)
+variable_fit : (place : Option ℕ) (last : Last) → IsFitLast last → AreFit (codes_of (variable_set place last))
+variable_fit None last h = tt
+variable_fit (Some t) last h = last_fit t last h
 
 branch_fit : (c : Piece) (does other : List Code) → IsFitPiece c → AreFit (codes_of does) → AreFit (codes_of other) →
     AreFit (codes_of (branch c does other))
@@ -125,13 +154,13 @@ turn_fit (compares a r e) test body h b = fit_append test.code _ h.code ((h.valu
 mutual
   statement_fit : (site : Site) (s : Statement) → AreFit (codes_of (statement_code site s).code)
   statement_fit site (declares x e) =
-      let v = expr_piece site.scope site.next e in
+      let v = expr_steps site.scope site.next e in
       let h = expr_fit site.scope site.next e in
-      fit_append v.code _ h.code (copied_fit (Some v.next) v.value h.value)
+      fit_append v.code _ h.code (variable_fit (Some v.next) v.last h.last)
   statement_fit site (assigns x e) =
-      let v = expr_piece site.scope site.next e in
+      let v = expr_steps site.scope site.next e in
       let h = expr_fit site.scope site.next e in
-      fit_append v.code _ h.code (copied_fit (number_of x site.scope) v.value h.value)
+      fit_append v.code _ h.code (variable_fit (number_of x site.scope) v.last h.last)
   statement_fit site (chooses c body) =
       let test = condition_piece site.scope site.next c in
       branch_fit test _ [] (condition_fit site.scope site.next c) (statements_fit (past site test.next) body) tt
@@ -146,7 +175,7 @@ mutual
   statement_fit site (puts text) = (puts_out _ _, tt)
   statement_fit site (exits e) =
       let v = expr_piece site.scope site.next e in
-      let h = expr_fit site.scope site.next e in
+      let h = piece_fit site.scope site.next e in
       fit_append v.code _ h.code (leaves v.value h.value, tt)
 
   -- the code of statements is fit

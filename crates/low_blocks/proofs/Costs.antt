@@ -1,6 +1,7 @@
 -- A run of a lowered program costs the stack what its `main` does, and no more.
 use Rattle.std.proofs.Common.{◌≡◌, ℕ, zero, suc, ◌+◌, max, Bool, true, false, List, [], map, length, Option, Some, None, refl, ◌∙◌, arith}
 use Rattle.std.specs.Prelude.{◌==◌, if◌then◌else◌}
+use Rattle.std.proofs.lemmas.List.Sums.{sum_by-cons}
 use Rattle.hx_base.specs.declared.Class.{Class}
 use Rattle.hx_base.specs.declared.Class.TheVariants.{W}
 use Rattle.hx_base.specs.Runtime.{Act, Gives, Exits, Aborts, Faults, Full}
@@ -14,11 +15,10 @@ use Rattle.flat_code.specs.Run.{run, ended, start_world, before_calls}
 use Rattle.hx_runtime.specs.Functions.{runtime_params, runtime_result, act, runtime_function}
 use Rattle.hx_runtime.specs.declared.runtime.RuntimeFunction.{RuntimeFunction}
 use Rattle.flat_code.specs.State.{State, cut, value_of, give, stepped, Next, Left, Returned, Exit, Abort, Fault, HeapFull, Spent, Result, then_go, caught, then_turn, spends}
-use Rattle.il_emit.proofs.Counts.{sum_cons}
 use Rattle.hare_blocks.specs.Trees.{Program}
 use Rattle.low_blocks.specs.Programs.{body_of, start, body_code, lowered_main, lowered}
-use Rattle.harec_core.proofs.Fits.{IsOperand, IsFitCall, IsFit, AreFit, statements_fit}
-use Rattle.harec_core.proofs.Fits as fit
+use Rattle.low_blocks.proofs.Fits.{IsOperand, IsFitCall, IsFit, AreFit, statements_fit}
+use Rattle.low_blocks.proofs.Fits as fit
 
 -- ---- ends put together
 
@@ -165,7 +165,7 @@ operand_alone (Frame offset) h = absurd h
 
 call_alone : (temp : Option ℕ) (name : List ℕ) (args : List Value) → IsFitCall temp name args → addressed_in (Call temp name args) ≡ 0
 call_alone temp name args (fit.counts t) = refl
-call_alone temp name args (fit.leaves v h) = let e = operand_alone v h in sum_cons addressed v [] ∙ omega (arith, e)
+call_alone temp name args (fit.leaves v h) = let e = operand_alone v h in sum_by-cons addressed v [] ∙ omega (arith, e)
 call_alone temp name args (fit.puts_out i n) = refl
 
 mutual
