@@ -1,4 +1,4 @@
--- The flat code of expressions and conditions.
+-- The flat code of expressions and conditions. No public clause cites it.
 --
 -- Operations and calls of `rt::nargs` stand in the order of evaluation, from left to right. Each but the last sets a temporary of its own;
 -- the last one sets the temporary that is to hold the value, which may be that of a variable. A variable is read where it is an operand:

@@ -1,4 +1,5 @@
--- The flat program that a program of the class becomes: one function `main`, and a global for each string.
+-- The flat program that a program of the class becomes: one function `main`, and a global for each string. Of this, public clauses cite the
+-- strings and their names alone.
 use Rattle.std.specs.Prelude.{ℕ, suc, List, [], ◌∷◌, None, codes}
 use Rattle.std.specs.Fmt.{decimal}
 use Rattle.flat_code.specs.declared.flat.Flat.TheVariants as flat

@@ -1,4 +1,4 @@
--- The flat code of statements.
+-- The flat code of statements. No public clause cites it, but for the list of strings.
 use Rattle.std.specs.Prelude.{ℕ, suc, List, [], ◌∷◌, ◌++◌, length, Option, None, Some, codes}
 use Rattle.flat_code.specs.declared.value.Value.TheVariants.{Number, Symbol}
 use Rattle.flat_code.specs.Code.{Code, Seq, If, Loop, Leave, Call, codes_of}
