@@ -1,6 +1,5 @@
 use Rattle.std.proofs.Common.{sym}
-use Rattle.hare_blocks.specs.Shape.{program_of}
-use Rattle.harec_core.proofs.Compiled.{IsLowered, IsEmitted, module_of_file}
+use Rattle.harec_core.proofs.Compiled.{module_of_file}
 use Rattle.harec_core.proofs.compile.module_of.Goals as goal
 
 pub returns : goal.returns
