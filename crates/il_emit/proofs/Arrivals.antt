@@ -29,6 +29,7 @@ use Rattle.il_code.specs.Run.{Run, after_step, after_steps, run_to, start, start
 use Rattle.il_code.specs.State as il
 use Rattle.il_code.specs.Step.{bound}
 use Rattle.il_code.proofs.Budgets.{run_to-after_steps}
+use Rattle.il_emit.specs.declared.goal.Goal.TheVariants.{Next}
 use Rattle.il_emit.specs.Names.{label_name}
 use Rattle.il_emit.specs.Lines.{Line, End, code_lines, frame_lines, end_value, function_lines}
 use Rattle.il_emit.specs.Emitted.{params_of, blocks_of, module_of}
@@ -87,7 +88,7 @@ module _ (p : FlatProgram) (w : IsWellFormed p) (few : AllByRecursion HasFewName
     rest = End (jump.Ret (end_value f.result)) ∷ []
 
     abbrev body_lines : List Line
-    body_lines = code_lines p (code_of f.body) 1 0 []
+    body_lines = code_lines p (code_of f.body) Next 1 0 []
 
     abbrev cost : ℕ
     cost = call_cost (params_of 0 f.params) (blocks_of p f)
@@ -201,8 +202,8 @@ module _ (p : FlatProgram) (w : IsWellFormed p) (few : AllByRecursion HasFewName
         let names = facts.few in
         let labels = names.labels in
         let addresses = names.addresses in
-        meets p (module_of p) ready f facts call.base call.pointer call.cost [] n (code_of f.body) 0 1 0 [] (λ k. rest) rest
-        (stepped 1 flat_first) begun facts.code (body_exits p f rest) (record { labels = omega arith; addresses = omega arith }) (body_inside p f)
+        meets p (module_of p) ready f facts call.base call.pointer call.cost [] n (code_of f.body) Next 0 1 0 [] (λ k. rest) rest rest
+        (stepped 1 flat_first) begun facts.code (body_exits p f rest) refl (record { labels = omega arith; addresses = omega arith }) (body_inside p f)
         holds
 
     -- ---- how it ends

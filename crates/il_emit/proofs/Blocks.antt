@@ -24,18 +24,38 @@ draft bs s is b = record { blocks = bs; label = s; insts = is; is_open = b }
 abbrev pub block : List ℕ → List Inst → Jump → Block
 block s is j = record { label = s; phis = []; insts = is; jump = j }
 
--- Lines that stand where a block is open or not, and end in an open one: nothing but a label stands behind a jump.
-abbrev pub tidy : Bool → List Line → Bool
-tidy b [] = b
-tidy b (Label n ∷ rest) = tidy true rest
-tidy b (Do i ∷ rest) = b && tidy b rest
-tidy b (End j ∷ rest) = b && tidy false rest
+-- Lines that stand where a block is open or not: nothing but a label stands behind a jump. Where `wanted` says so, they end in an open one.
+abbrev pub tidy_to : (wanted b : Bool) → List Line → Bool
+tidy_to wanted b [] = not wanted || b
+tidy_to wanted b (Label n ∷ rest) = tidy_to wanted true rest
+tidy_to wanted b (Do i ∷ rest) = b && tidy_to wanted b rest
+tidy_to wanted b (End j ∷ rest) = b && tidy_to wanted false rest
 
-pub tidy_append : (b : Bool) (xs ys : List Line) → tidy b xs ≡ true → tidy true ys ≡ true → tidy b (xs ++ ys) ≡ true
-tidy_append b [] ys h k = rw h k
-tidy_append b (Label n ∷ xs) ys h k = tidy_append true xs ys h k
-tidy_append b (Do i ∷ xs) ys h k = let p = and_parts b (tidy b xs) h in both_true b _ p.0 (tidy_append b xs ys p.1 k)
-tidy_append b (End j ∷ xs) ys h k = let p = and_parts b (tidy false xs) h in both_true b _ p.0 (tidy_append false xs ys p.1 k)
+-- those that end in an open one
+abbrev pub tidy : Bool → List Line → Bool
+tidy b lines = tidy_to true b lines
+
+tidy_opened : (wanted : Bool) (ys : List Line) → tidy_to wanted false ys ≡ true → tidy_to wanted true ys ≡ true
+tidy_opened true [] h = cc
+tidy_opened false [] h = refl
+tidy_opened wanted (Label n ∷ ys) h = h
+tidy_opened wanted (Do i ∷ ys) h = cc
+tidy_opened wanted (End j ∷ ys) h = cc
+
+tidy_from : (middle wanted b : Bool) (ys : List Line) → (not middle || b) ≡ true → tidy_to wanted middle ys ≡ true → tidy_to wanted b ys ≡ true
+tidy_from true wanted true ys h k = k
+tidy_from true wanted false ys h k = cc
+tidy_from false wanted true ys h k = tidy_opened wanted ys k
+tidy_from false wanted false ys h k = k
+
+pub tidy_append : (middle wanted b : Bool) (xs ys : List Line) → tidy_to middle b xs ≡ true → tidy_to wanted middle ys ≡ true →
+    tidy_to wanted b (xs ++ ys) ≡ true
+tidy_append middle wanted b [] ys h k = tidy_from middle wanted b ys h k
+tidy_append middle wanted b (Label n ∷ xs) ys h k = tidy_append middle wanted true xs ys h k
+tidy_append middle wanted b (Do i ∷ xs) ys h k =
+    let p = and_parts b (tidy_to middle b xs) h in both_true b _ p.0 (tidy_append middle wanted b xs ys p.1 k)
+tidy_append middle wanted b (End j ∷ xs) ys h k =
+    let p = and_parts b (tidy_to middle false xs) h in both_true b _ p.0 (tidy_append middle wanted false xs ys p.1 k)
 
 -- ---- tests of each line and each block
 

@@ -31,6 +31,7 @@ use Rattle.il_code.specs.State as il
 use Rattle.il_code.specs.State.{Code, Waiting, Called, start_of}
 use Rattle.il_code.specs.Step as step
 use Rattle.il_code.specs.Step.{taken, took, bound, call_step, returned, arg_values}
+use Rattle.il_emit.specs.declared.goal.Goal.TheVariants.{Next}
 use Rattle.il_emit.specs.Names.{temp_name, frame_name, label_name}
 use Rattle.il_emit.specs.Lines.{Line, Do, End, arg_lines, args_of, all_addressed, result_param, call_lines, code_lines, frame_lines, end_value, function_lines}
 use Rattle.il_emit.specs.Emitted.{params_of, blocks_of}
@@ -166,7 +167,7 @@ module _ (m : Module) (call : Activation) (p : FlatProgram) (g : FlatFn) (rest :
   last = End (jump.Ret (end_value g.result)) ∷ []
 
   abbrev pub body : List Line
-  body = code_lines p (code_of g.body) 1 0 []
+  body = code_lines p (code_of g.body) Next 1 0 []
 
   -- the caller, as it waits for a result
   abbrev pub waits : Option IlParam → Mark → Waiting

@@ -36,12 +36,12 @@ lines_blocks_pass q (Do i ∷ ls) h =
 lines_blocks_pass q (End j ∷ ls) h = (refl, (lines_blocks_pass q ls h).1)
 
 module _ (p : FlatProgram) (f : FlatFn) (q : Inst → Bool)
-    (pass : LinesPass p f (passes q) (suc (labels_in (code_of f.body))) (addresses_in (code_of f.body)))
+    (pass : LinesPass p f (passes q) (suc (labels_in (code_of f.body) true)) (addresses_in (code_of f.body)))
     (right : is_right p f 0 (code_of f.body) ≡ true) where
   pub each_inst : list_all (passes q) (frame_lines f.frame) ≡ true → all_pass q (blocks_of p f) ≡ true
   each_inst h =
       let last : List Line = End (jump.Ret (end_value f.result)) ∷ [] in
-      let good = inner_good p f (passes q) (suc (labels_in (code_of f.body))) (addresses_in (code_of f.body)) pass right (omega arith)
+      let good = inner_good p f (passes q) (suc (labels_in (code_of f.body) true)) (addresses_in (code_of f.body)) pass right (omega arith)
       (omega arith) h in
       subst (λ (bs : List Block). all_pass q bs ≡ true) (sym (function_blocks p f))
       (lines_blocks_pass q (function_lines p f) (all_append (passes q) (inner_lines p f) last good refl)).1

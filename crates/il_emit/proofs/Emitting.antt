@@ -1,6 +1,6 @@
 -- What the parts of a statement add together.
-use Rattle.std.proofs.Common.{◌≡◌, ℕ, suc, ◌+◌, ◌-◌, List, [], ◌∷◌, ◌++◌, length, take, drop, Option, Some, sym, ap, ◌∙◌, arith, length-append}
-use Rattle.std.specs.Prelude.{slice_get}
+use Rattle.std.proofs.Common.{◌≡◌, ℕ, suc, ◌+◌, ◌-◌, true, false, not, refl, List, [], ◌∷◌, ◌++◌, length, take, drop, Option, Some, sym, ap, ◌∙◌, arith, length-append}
+use Rattle.std.specs.Prelude.{slice_get, ◌==◌}
 use Rattle.std.proofs.Math.Seq.{take-append_seam}
 use Rattle.flat_code.specs.declared.program.Data.{Data}
 use Rattle.flat_code.specs.declared.program.FlatFn.{FlatFn}
@@ -18,12 +18,16 @@ use Rattle.il_code.specs.declared.types.Inst.TheVariants.{Call}
 use Rattle.il_code.specs.declared.types.Jump.TheVariants as jump
 use Rattle.il_emit.specs.declared.draft.Draft.{Draft}
 use Rattle.il_emit.specs.declared.emitter.Emitter.{Emitter}
+use Rattle.il_emit.specs.declared.goal.Goal.{Goal}
+use Rattle.il_emit.specs.declared.goal.Goal.TheVariants.{Next}
 use Rattle.il_emit.specs.Names.{label_name}
-use Rattle.il_emit.specs.Lines.{Line, Label, Do, End, arg_lines, args_of, all_addressed, condition_lines, labels_in, labels_in_all, addresses_in, addresses_in_all, code_lines, each_lines, frame_lines, inner_lines, end_value}
+use Rattle.il_emit.specs.Lines.{Line, Label, Do, End, is_next, fresh, is_more, has_lines, goal_label, inner, in_front, first_goal, go_lines, own_label, side, seq_end, if_branch, arg_lines, args_of, all_addressed, labels_in, labels_in_all, addresses_in, addresses_in_all, code_lines, each_lines, frame_lines, inner_lines, end_value}
 use Rattle.il_emit.specs.Drafts.{add_all}
 use Rattle.il_emit.specs.Emitting.{Emits}
 use Rattle.il_emit.specs.Emitted.{empty_draft, blocks_of}
 use Rattle.il_emit.proofs.Drafts.{add_all_append}
+use Rattle.il_emit.proofs.Numbering.{front_next}
+use Rattle.std.proofs.lemmas.Bool.Decides.{nat_tests}
 
 -- a list without what was put at its end
 take_back : (xs : List ℕ) (x : ℕ) → take (length (xs ++ x ∷ []) - 1) (xs ++ x ∷ []) ≡ xs
@@ -41,96 +45,128 @@ then_emits a b c xs ys l m k j es fs p q = record {
   exits = q.exits;
 }
 
-pub seq_emits : (program : FlatProgram) (cs : Codes) (n : ℕ) (a b c d : Emitter) → n ≡ a.labels
-    → Emits a b [] 1 0 (a.exits.items ++ a.labels ∷ [])
-    → Emits b c (each_lines program cs b.labels b.addresses b.exits.items) (labels_in_all cs) (addresses_in_all cs) b.exits.items
-    → Emits c d (Label n ∷ []) 0 0 (take (length c.exits.items - 1) c.exits.items)
-    → Emits a d (code_lines program (Seq cs) a.labels a.addresses a.exits.items) (labels_in (Seq cs)) (addresses_in (Seq cs)) a.exits.items
-seq_emits program cs n a b c d same p q s =
-    let l : b.labels ≡ suc a.labels = omega (arith, p.labels) in
+-- the lines of a single statement, and then the way to its goal
+pub go_emits : (g : Goal) (a b c : Emitter) (xs : List Line) (k : ℕ) → Emits a b xs 0 k a.exits.items → Emits b c (go_lines g) 0 0 b.exits.items →
+    Emits a c (xs ++ go_lines g) 0 k a.exits.items
+go_emits g a b c xs k p q = record {
+  draft = q.draft ∙ ap (λ (d : Draft). add_all d (go_lines g)) p.draft ∙ sym (add_all_append a.draft xs (go_lines g));
+  labels = omega (arith, p.labels, q.labels);
+  addresses = omega (arith, p.addresses, q.addresses);
+  exits = q.exits ∙ p.exits;
+}
+
+pub empty_is : (cs : List Code) → (length cs == 0) ≡ not (is_more (codes_of cs))
+empty_is [] = refl
+empty_is (c ∷ cs) = grind (arith, nat_tests)
+
+pub seq_emits : (program : FlatProgram) (cs : Codes) (g : Goal) (n : ℕ) (a b c d : Emitter) → n ≡ a.labels
+    → Emits a b [] (fresh (is_next g)) 0 (a.exits.items ++ goal_label g a.labels ∷ [])
+    → Emits b c (each_lines program cs (inner g n) b.labels b.addresses b.exits.items) (labels_in_all cs) (addresses_in_all cs) b.exits.items
+    → Emits c d (seq_end (not (is_more cs)) g n) 0 0 (take (length c.exits.items - 1) c.exits.items)
+    → Emits a d (code_lines program (Seq cs) g a.labels a.addresses a.exits.items) (labels_in (Seq cs) (is_next g)) (addresses_in (Seq cs))
+    a.exits.items
+seq_emits program cs g n a b c d same p q s =
     let k : b.addresses ≡ a.addresses = omega (arith, p.addresses) in
-    let body : c.draft ≡ add_all a.draft (each_lines program cs (suc a.labels) a.addresses (a.exits.items ++ a.labels ∷ [])) =
-    rw (p.draft, l, k, p.exits) at q.draft in
-    let behind : c.exits.items ≡ a.exits.items ++ a.labels ∷ [] = q.exits ∙ p.exits in
+    let each = each_lines program cs (inner g a.labels) (a.labels + fresh (is_next g)) a.addresses
+    (a.exits.items ++ goal_label g a.labels ∷ []) in
+    let body : c.draft ≡ add_all a.draft each = rw (p.draft, p.labels, k, p.exits, same) at q.draft in
+    let last : d.draft ≡ add_all c.draft (seq_end (not (is_more cs)) g a.labels) = rw same at s.draft in
+    let behind : c.exits.items ≡ a.exits.items ++ goal_label g a.labels ∷ [] = q.exits ∙ p.exits in
     record {
-      draft = s.draft ∙ ap (λ (m : ℕ). add_all c.draft (Label m ∷ [])) same ∙ ap (λ (x : Draft). add_all x (Label a.labels ∷ [])) body ∙ sym
-          (add_all_append a.draft (each_lines program cs (suc a.labels) a.addresses (a.exits.items ++ a.labels ∷ []))
-          (Label a.labels ∷ []));
+      draft = last ∙ ap (λ (x : Draft). add_all x (seq_end (not (is_more cs)) g a.labels)) body ∙ sym
+          (add_all_append a.draft each (seq_end (not (is_more cs)) g a.labels));
       labels = omega (arith, p.labels, q.labels, s.labels);
       addresses = omega (arith, p.addresses, q.addresses, s.addresses);
-      exits = s.exits ∙ ap (λ (xs : List ℕ). take (length xs - 1) xs) behind ∙ take_back a.exits.items a.labels;
+      exits = s.exits ∙ ap (λ (xs : List ℕ). take (length xs - 1) xs) behind ∙ take_back a.exits.items (goal_label g a.labels);
     }
 
-pub loop_emits : (program : FlatProgram) (body : Code) (n : ℕ) (a b c d : Emitter) → n ≡ a.labels
-    → Emits a b (End (jump.Jmp (label_name a.labels)) ∷ Label a.labels ∷ []) 2 0 (a.exits.items ++ (a.labels + 1) ∷ [])
-    → Emits b c (code_lines program body b.labels b.addresses b.exits.items) (labels_in body) (addresses_in body) b.exits.items
-    → Emits c d (End (jump.Jmp (label_name n)) ∷ Label (n + 1) ∷ []) 0 0 (take (length c.exits.items - 1) c.exits.items)
-    → Emits a d (code_lines program (Loop body) a.labels a.addresses a.exits.items) (labels_in (Loop body)) (addresses_in (Loop body))
+pub loop_emits : (program : FlatProgram) (body : Code) (g : Goal) (n : ℕ) (a b c d : Emitter) → n ≡ a.labels
+    → Emits a b (End (jump.Jmp (label_name (a.labels + fresh (is_next g)))) ∷ Label (a.labels + fresh (is_next g)) ∷ [])
+    (fresh (is_next g) + 1) 0 (a.exits.items ++ goal_label g a.labels ∷ [])
+    → Emits b c (code_lines program body Next b.labels b.addresses b.exits.items) (labels_in body true) (addresses_in body) b.exits.items
+    → Emits c d (End (jump.Jmp (label_name (n + fresh (is_next g)))) ∷ own_label g n) 0 0 (take (length c.exits.items - 1) c.exits.items)
+    → Emits a d (code_lines program (Loop body) g a.labels a.addresses a.exits.items) (labels_in (Loop body) (is_next g)) (addresses_in (Loop body))
     a.exits.items
-loop_emits program body n a b c d same p q s =
+loop_emits program body g n a b c d same p q s =
+    let begin = a.labels + fresh (is_next g) in
+    let l : b.labels ≡ suc begin = omega (arith, p.labels) in
     let k : b.addresses ≡ a.addresses = omega (arith, p.addresses) in
-    let inner : c.draft ≡ add_all (add_all a.draft (End (jump.Jmp (label_name a.labels)) ∷ Label a.labels ∷ []))
-    (code_lines program body (a.labels + 2) a.addresses (a.exits.items ++ (a.labels + 1) ∷ [])) =
-    rw (p.draft, p.labels, k, p.exits) at q.draft in
-    let behind : c.exits.items ≡ a.exits.items ++ (a.labels + 1) ∷ [] = q.exits ∙ p.exits in
+    let lines = code_lines program body Next (suc begin) a.addresses (a.exits.items ++ goal_label g a.labels ∷ []) in
+    let start = add_all a.draft (End (jump.Jmp (label_name begin)) ∷ Label begin ∷ []) in
+    let ends : List Line = End (jump.Jmp (label_name begin)) ∷ own_label g a.labels in
+    let inside : c.draft ≡ add_all start lines = rw (p.draft, l, k, p.exits) at q.draft in
+    let last : d.draft ≡ add_all c.draft ends = rw same at s.draft in
+    let behind : c.exits.items ≡ a.exits.items ++ goal_label g a.labels ∷ [] = q.exits ∙ p.exits in
+    record {
+      draft = last ∙ ap (λ (x : Draft). add_all x ends) inside ∙ sym (add_all_append start lines ends);
+      labels = omega (arith, p.labels, q.labels, s.labels);
+      addresses = omega (arith, p.addresses, q.addresses, s.addresses);
+      exits = s.exits ∙ ap (λ (xs : List ℕ). take (length xs - 1) xs) behind ∙ take_back a.exits.items (goal_label g a.labels);
+    }
+
+pub if_emits : (program : FlatProgram) (cond : Value) (x y : Code) (g : Goal) (n : ℕ) (a b c d e : Emitter) → n ≡ a.labels
+    → Emits a b (if_branch program.globals cond x y g a.labels a.addresses a.exits.items)
+    (fresh (is_next g) + fresh (has_lines x) + fresh (has_lines y)) (addressed cond) a.exits.items
+    → Emits b c (side (has_lines x) (n + fresh (is_next g))
+    (code_lines program x (first_goal (has_lines y) g n) b.labels b.addresses b.exits.items)) (labels_in x false) (addresses_in x) b.exits.items
+    → Emits c d (side (has_lines y) (n + fresh (is_next g) + fresh (has_lines x))
+    (code_lines program y (inner g n) c.labels c.addresses c.exits.items)) (labels_in y false) (addresses_in y) c.exits.items
+    → Emits d e (own_label g n) 0 0 d.exits.items
+    → Emits a e (code_lines program (If cond x y) g a.labels a.addresses a.exits.items) (labels_in (If cond x y) (is_next g))
+    (addresses_in (If cond x y)) a.exits.items
+if_emits program cond x y g n a b c d e same p q r s =
+    let one = a.labels + fresh (is_next g) in
+    let other = one + fresh (has_lines x) in
+    let m = other + fresh (has_lines y) in
+    let lb : b.labels ≡ m = omega (arith, p.labels) in
+    let lc : c.labels ≡ m + labels_in x false = omega (arith, lb, q.labels) in
+    let kb : b.addresses ≡ a.addresses + addressed cond = omega (arith, p.addresses) in
+    let kc : c.addresses ≡ a.addresses + addressed cond + addresses_in x = omega (arith, p.addresses, q.addresses) in
+    let ec : c.exits.items ≡ a.exits.items = q.exits ∙ p.exits in
+    let branch = if_branch program.globals cond x y g a.labels a.addresses a.exits.items in
+    let X = side (has_lines x) one (code_lines program x (first_goal (has_lines y) g a.labels) m (a.addresses + addressed cond) a.exits.items) in
+    let Y = side (has_lines y) other
+    (code_lines program y (inner g a.labels) (m + labels_in x false) (a.addresses + addressed cond + addresses_in x) a.exits.items) in
+    let own = own_label g a.labels in
+    let first : c.draft ≡ add_all b.draft X = rw (lb, kb, p.exits, same) at q.draft in
+    let second : d.draft ≡ add_all c.draft Y = rw (lc, kc, ec, same) at r.draft in
+    let last : e.draft ≡ add_all d.draft own = rw same at s.draft in
     record {
       draft =
-          s.draft ∙ ap (λ (m : ℕ). add_all c.draft (End (jump.Jmp (label_name m)) ∷ Label (m + 1) ∷ [])) same
-          ∙ ap (λ (x : Draft). add_all x (End (jump.Jmp (label_name a.labels)) ∷ Label (a.labels + 1) ∷ [])) inner
-          ∙ sym (add_all_append (add_all a.draft (End (jump.Jmp (label_name a.labels)) ∷ Label a.labels ∷ []))
-          (code_lines program body (a.labels + 2) a.addresses (a.exits.items ++ (a.labels + 1) ∷ []))
-          (End (jump.Jmp (label_name a.labels)) ∷ Label (a.labels + 1) ∷ []));
-      labels = omega (arith, p.labels, q.labels, s.labels);
-      addresses = omega (arith, p.addresses, q.addresses, s.addresses);
-      exits = s.exits ∙ ap (λ (xs : List ℕ). take (length xs - 1) xs) behind ∙ take_back a.exits.items (a.labels + 1);
-    }
-
-pub if_emits : (program : FlatProgram) (cond : Value) (one other : Code) (n : ℕ) (a b c d e f : Emitter) → n ≡ a.labels
-    → Emits a b (condition_lines program.globals cond a.labels a.addresses) 3 (addressed cond) a.exits.items
-    → Emits b c (code_lines program one b.labels b.addresses b.exits.items) (labels_in one) (addresses_in one) b.exits.items
-    → Emits c d (End (jump.Jmp (label_name (n + 2))) ∷ Label (n + 1) ∷ []) 0 0 c.exits.items
-    → Emits d e (code_lines program other d.labels d.addresses d.exits.items) (labels_in other) (addresses_in other) d.exits.items
-    → Emits e f (Label (n + 2) ∷ []) 0 0 e.exits.items
-    → Emits a f (code_lines program (If cond one other) a.labels a.addresses a.exits.items) (labels_in (If cond one other))
-    (addresses_in (If cond one other)) a.exits.items
-if_emits program cond one other n a b c d e f same p q r s t =
-    let l : d.labels ≡ a.labels + 3 + labels_in one = omega (arith, p.labels, q.labels, r.labels) in
-    let k : d.addresses ≡ a.addresses + addressed cond + addresses_in one = omega (arith, p.addresses, q.addresses, r.addresses) in
-    let es : d.exits.items ≡ a.exits.items = r.exits ∙ q.exits ∙ p.exits in
-    let first : c.draft ≡ add_all (add_all a.draft (condition_lines program.globals cond a.labels a.addresses))
-    (code_lines program one (a.labels + 3) (a.addresses + addressed cond) a.exits.items) =
-    rw (p.draft, p.labels, p.addresses, p.exits) at q.draft in
-    let middle : d.draft ≡ add_all c.draft (End (jump.Jmp (label_name (a.labels + 2))) ∷ Label (a.labels + 1) ∷ []) = rw same at r.draft in
-    let second : e.draft ≡ add_all d.draft
-    (code_lines program other (a.labels + 3 + labels_in one) (a.addresses + addressed cond + addresses_in one) a.exits.items) =
-    rw (l, k, es) at s.draft in
-    let last : f.draft ≡ add_all e.draft (Label (a.labels + 2) ∷ []) = rw same at t.draft in
-    record {
-      draft = rw (last, second, middle, first) (simp add_all_append);
-      labels = omega (arith, p.labels, q.labels, r.labels, s.labels, t.labels);
-      addresses = omega (arith, p.addresses, q.addresses, r.addresses, s.addresses, t.addresses);
-      exits = t.exits ∙ s.exits ∙ es;
+          last
+          ∙ ap (λ (z : Draft). add_all z own) (second ∙ ap (λ (z : Draft). add_all z Y) (first ∙ ap (λ (z : Draft). add_all z X) p.draft))
+          ∙ sym (add_all_append a.draft branch (X ++ (Y ++ own)) ∙ add_all_append (add_all a.draft branch) X (Y ++ own)
+          ∙ add_all_append (add_all (add_all a.draft branch) X) Y own);
+      labels = omega (arith, p.labels, q.labels, r.labels, s.labels);
+      addresses = omega (arith, p.addresses, q.addresses, r.addresses, s.addresses);
+      exits = s.exits ∙ r.exits ∙ ec;
     }
 
 -- what is left to be emitted, of the statements from one on
-pub record Left (program : FlatProgram) (cs : List Code) (i : ℕ) (a b : Emitter) : Type 0 where
-  pub draft : add_all a.draft (each_lines program (codes_of (drop i cs)) a.labels a.addresses a.exits.items) ≡ add_all b.draft
-      (each_lines program (codes_of (drop (i + 1) cs)) b.labels b.addresses b.exits.items)
+pub record Left (program : FlatProgram) (cs : List Code) (g : Goal) (i : ℕ) (a b : Emitter) : Type 0 where
+  pub draft : add_all a.draft (each_lines program (codes_of (drop i cs)) g a.labels a.addresses a.exits.items) ≡ add_all b.draft
+      (each_lines program (codes_of (drop (i + 1) cs)) g b.labels b.addresses b.exits.items)
   pub labels : a.labels + labels_in_all (codes_of (drop i cs)) ≡ b.labels + labels_in_all (codes_of (drop (i + 1) cs))
   pub addresses : a.addresses + addresses_in_all (codes_of (drop i cs)) ≡ b.addresses + addresses_in_all (codes_of (drop (i + 1) cs))
   pub exits : b.exits.items ≡ a.exits.items
 
-pub kid_emits : (program : FlatProgram) (cs : List Code) (i : ℕ) (x : Code) (a b : Emitter) → slice_get cs i ≡ Some x
-    → Emits a b (code_lines program x a.labels a.addresses a.exits.items) (labels_in x) (addresses_in x) a.exits.items
-    → Left program cs i a b
-kid_emits program cs i x a b h p =
+pub kid_emits : (program : FlatProgram) (cs : List Code) (g : Goal) (i : ℕ) (x : Code) (h : Goal) (a b : Emitter) → slice_get cs i ≡ Some x
+    → is_next g ≡ false → h ≡ in_front (codes_of (drop (i + 1) cs)) g
+    → Emits a b (code_lines program x h a.labels a.addresses a.exits.items) (labels_in x (is_next h)) (addresses_in x) a.exits.items
+    → Left program cs g i a b
+kid_emits program cs g i x h a b e last front p =
     let n : i + 1 ≡ suc i = omega arith in
-    let d = drop_kid cs i x h in
+    let d = drop_kid cs i x e in
+    let behind = codes_of (drop (suc i) cs) in
+    let goal : h ≡ in_front behind g = rw n at front in
+    let next : is_next h ≡ is_more behind = ap is_next goal ∙ front_next behind g last in
+    let lines : b.draft ≡ add_all a.draft (code_lines program x (in_front behind g) a.labels a.addresses a.exits.items) = rw goal at p.draft in
+    let labels : b.labels ≡ a.labels + labels_in x (is_more behind) = rw next at p.labels in
     record {
-      draft = rw (n, d, p.draft, p.labels, p.addresses, p.exits)
-          (add_all_append a.draft (code_lines program x a.labels a.addresses a.exits.items)
-          (each_lines program (codes_of (drop (suc i) cs)) (a.labels + labels_in x) (a.addresses + addresses_in x) a.exits.items));
-      labels = rw (n, d) (omega (arith, p.labels));
+      draft = rw (n, d, lines, labels, p.addresses, p.exits)
+          (add_all_append a.draft (code_lines program x (in_front behind g) a.labels a.addresses a.exits.items)
+          (each_lines program behind g (a.labels + labels_in x (is_more behind)) (a.addresses + addresses_in x) a.exits.items));
+      labels = rw (n, d) (omega (arith, labels));
       addresses = rw (n, d) (omega (arith, p.addresses));
       exits = p.exits;
     }
@@ -140,7 +176,7 @@ pub function_emits : (program : FlatProgram) (f : FlatFn) (a b c d e : Emitter) 
     a.exits.items ≡ []
     → Emits a b (Label 0 ∷ []) 0 0 a.exits.items
     → Emits b c (frame_lines f.frame) 0 0 b.exits.items
-    → Emits c d (code_lines program (code_of f.body) c.labels c.addresses c.exits.items) (labels_in (code_of f.body))
+    → Emits c d (code_lines program (code_of f.body) Next c.labels c.addresses c.exits.items) (labels_in (code_of f.body) true)
     (addresses_in (code_of f.body)) c.exits.items
     → Emits d e (End (jump.Ret (end_value f.result)) ∷ []) 0 0 d.exits.items
     → e.draft.blocks ≡ blocks_of program f
@@ -151,10 +187,10 @@ function_emits program f a b c d e da la ka ea p o q r =
     let start : b.draft ≡ add_all empty_draft (Label 0 ∷ []) = rw da at p.draft in
     let framed : c.draft ≡ add_all (add_all empty_draft (Label 0 ∷ [])) (frame_lines f.frame) = rw start at o.draft in
     let body : d.draft ≡ add_all (add_all (add_all empty_draft (Label 0 ∷ [])) (frame_lines f.frame))
-    (code_lines program (code_of f.body) 1 0 []) =
+    (code_lines program (code_of f.body) Next 1 0 []) =
     rw (framed, l, k, es) at q.draft in
     let inner : d.draft ≡ add_all (add_all empty_draft (Label 0 ∷ [])) (inner_lines program f) =
-    body ∙ sym (add_all_append (add_all empty_draft (Label 0 ∷ [])) (frame_lines f.frame) (code_lines program (code_of f.body) 1 0 [])) in
+    body ∙ sym (add_all_append (add_all empty_draft (Label 0 ∷ [])) (frame_lines f.frame) (code_lines program (code_of f.body) Next 1 0 [])) in
     ap (λ (x : Draft). x.blocks) (r.draft ∙ ap (λ (x : Draft). add_all x (End (jump.Ret (end_value f.result)) ∷ [])) inner ∙ sym
     (add_all_append (add_all empty_draft (Label 0 ∷ [])) (inner_lines program f) (End (jump.Ret (end_value f.result)) ∷ [])))
 

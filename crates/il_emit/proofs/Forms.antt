@@ -43,7 +43,8 @@ use Rattle.il_code.specs.Step as step
 use Rattle.il_code.specs.Step.{Step, Kind, Computes, kind_of, second_value, set_step, arg_values, runtime_step, runtime_call, call_step, returned}
 use Rattle.il_code.specs.State as il_state
 use Rattle.il_code.specs.Run.{Run, after_step, further, after_steps}
-use Rattle.il_emit.specs.Lines.{Line, Label, Do, End, operand, second, address_lines, arg_lines, args_of, all_addressed, result_param, call_params, load_lines, store_lines, move_lines, call_lines, return_lines}
+use Rattle.il_emit.specs.Lines.{Line, Do, End, own_label, operand, second, address_lines, arg_lines, args_of, all_addressed, result_param, call_params, load_lines, store_lines, move_lines, call_lines, return_lines}
+use Rattle.il_emit.specs.declared.goal.Goal.{Goal}
 use Rattle.il_emit.specs.Names.{temp_name, label_name}
 use Rattle.il_emit.specs.Ops.{il_op, load_op, given, second_number}
 use Rattle.il_emit.specs.Reaches.{fault_for}
@@ -520,14 +521,14 @@ module _ (p : FlatProgram) (f : FlatFn) (m : Module) (call : Activation) (set : 
 
   -- ---- returns
 
-  pub return_meets : (n x : ℕ) (out : ℕ → List Line) (class : Option Class) (value : Option Value) (k : ℕ) (rest : List Line) (s : State)
+  pub return_meets : (n : ℕ) (g : Goal) (x : ℕ) (out : ℕ → List Line) (class : Option Class) (value : Option Value) (k : ℕ) (rest after : List Line) (s : State)
       (c : Mark) → is_return p f class value ≡ true → Holds call s c
-      → Meets m call n (counted c) (4 * s.steps) (c.used + 3) out rest (run_at (return_lines p.globals value x k ++ rest) s.world c)
+      → Meets m call n (counted c) (4 * s.steps) (c.used + 3) out after (run_at (return_lines p.globals value g x k ++ rest) s.world c)
       (flat.returns p s value)
-  return_meets n x out class None k rest s c r h =
+  return_meets n g x out class None k rest after s c r h =
       inl (record {
         to = c;
-        lines = return_lines p.globals None x k ++ rest;
+        lines = return_lines p.globals None g x k ++ rest;
         count = 0;
         by = refl;
         returns = refl;
@@ -535,10 +536,10 @@ module _ (p : FlatProgram) (f : FlatFn) (m : Module) (call : Activation) (set : 
         jumps = omega arith;
         units = omega arith;
       })
-  return_meets n x out None (Some v) k rest s c r h = cc
-  return_meets n x out (Some class) (Some v) k rest s c r h =
+  return_meets n g x out None (Some v) k rest after s c r h = cc
+  return_meets n g x out (Some class) (Some v) k rest after s c r h =
       let ca = behind_address p f m call set v k c in
-      let last : List Line = End (jump.Ret (Some (operand p.globals v k))) ∷ Label x ∷ [] in
+      let last : List Line = End (jump.Ret (Some (operand p.globals v k))) ∷ own_label g x in
       let ready = operand_ready p f m call set s class v k c r h in
       let used = address_used p f m call set v k c in
       let one = addressed_one v in

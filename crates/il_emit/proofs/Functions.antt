@@ -159,7 +159,7 @@ module _ (p : FlatProgram) (f : FlatFn) (items : List IlItem) (right : is_functi
   body = code_of f.body
 
   abbrev most_labels : ℕ
-  most_labels = suc (labels_in body)
+  most_labels = suc (labels_in body true)
 
   abbrev lines : List Line
   lines = inner_lines p f

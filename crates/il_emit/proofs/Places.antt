@@ -95,6 +95,13 @@ inside_next all ls x h = inside_behind all (x ∷ []) ls h
 pub inside_regroup : (all xs ys ls : List Line) → Inside all ((xs ++ ys) ++ ls) → Inside all (xs ++ (ys ++ ls))
 inside_regroup all xs ys ls h = record { front = h.front; is = h.is ∙ ap (λ (z : List Line). h.front ++ z) (append_assoc xs ys ls) }
 
+-- lines of five parts and those behind them
+pub five_parts : (vs xs bs cs ds rest : List Line) → ((vs ++ xs) ++ (bs ++ (cs ++ ds))) ++ rest ≡ vs ++ (xs ++ (bs ++ (cs ++ (ds ++ rest))))
+five_parts vs xs bs cs ds rest =
+    append_assoc (vs ++ xs) (bs ++ (cs ++ ds)) rest
+    ∙ append_assoc vs xs ((bs ++ (cs ++ ds)) ++ rest)
+    ∙ ap (λ (z : List Line). vs ++ (xs ++ z)) (append_assoc bs (cs ++ ds) rest ∙ ap (λ (z : List Line). bs ++ z) (append_assoc cs ds rest))
+
 -- control that jumps to a label comes to the lines behind it
 pub record Finds (all : List Line) (n : ℕ) (ls : List Line) : Type 0 where
   pub blocks : blocks_from (label_name n) (line_blocks all) ≡ line_blocks (Label n ∷ ls)
@@ -115,8 +122,8 @@ past x (Label n ∷ xs) ls h = pick (bytes_eq (label_name n) (label_name x)) ref
     pick true e on = let w : weight (bytes_eq (label_name n) (label_name x)) ≡ 1 = rw e refl in absurd (omega (arith, h, w))
     pick false e on = let w : weight (bytes_eq (label_name n) (label_name x)) ≡ 0 = rw e refl in rw e (on (omega (arith, h, w)))
 
-module _ (p : FlatProgram) (f : FlatFn) (few : suc (labels_in (code_of f.body)) < 2 ^ 64) where
-  label_once : (x : ℕ) → x < suc (labels_in (code_of f.body)) → lines_labelled (label_name x) (function_lines p f) ≡ 1
+module _ (p : FlatProgram) (f : FlatFn) (few : suc (labels_in (code_of f.body) true) < 2 ^ 64) where
+  label_once : (x : ℕ) → x < suc (labels_in (code_of f.body) true) → lines_labelled (label_name x) (function_lines p f) ≡ 1
   label_once x h =
       let c = code_of f.body in
       let e : weight (bytes_eq (label_name 0) (label_name x)) ≡ one x 0 = ap weight (label_eq 0 x (omega arith) (omega arith)) in
@@ -125,10 +132,10 @@ module _ (p : FlatProgram) (f : FlatFn) (few : suc (labels_in (code_of f.body)) 
         e,
         labelled_append (label_name x) (inner_lines p f) (End (jump.Ret (end_value f.result)) ∷ []),
         inner_labels p x (omega arith) f (omega arith),
-        within_in x 0 (suc (labels_in c)) (omega arith) (omega arith),
+        within_in x 0 (suc (labels_in c true)) (omega arith) (omega arith),
       )
 
-  pub finds : (x : ℕ) (ls : List Line) → x < suc (labels_in (code_of f.body)) → Inside (function_lines p f) (Label x ∷ ls) →
+  pub finds : (x : ℕ) (ls : List Line) → x < suc (labels_in (code_of f.body) true) → Inside (function_lines p f) (Label x ∷ ls) →
       Finds (function_lines p f) x ls
   finds x ls h at =
       let once : lines_labelled (label_name x) (at.front ++ (Label x ∷ ls)) ≡ 1 =

@@ -61,8 +61,8 @@ counting = program (counting_main ∷ []) (global (codes "text") 1 (item.Bytes (
 counted : flat_run counting 4 (Exit 6) (codes "ababab") 41
 counted = (refl, refl, refl)
 
--- 2 units, 8 for each whole turn, 4 for the last, and 2: at most four for each of 41 flat steps
-counted_too : comes_to (machine_run counting 1000) (Some (machine.Exit 6)) (codes "ababab") 32 12
+-- 2 units, 7 for each whole turn, 3 for the last, and 2: at most four for each of 41 flat steps
+counted_too : comes_to (machine_run counting 1000) (Some (machine.Exit 6)) (codes "ababab") 28 8
 unfolding digits
 counted_too = (refl, refl, refl, refl)
 
@@ -72,7 +72,7 @@ no_turn_left : flat_run counting 3 Spent (codes "ababab") 33
 no_turn_left = (refl, refl, refl)
 
 -- behind the third turn: no fewer jumps than turns
-going_on : comes_to (machine_run counting 26) None (codes "ababab") 26 10
+going_on : comes_to (machine_run counting 23) None (codes "ababab") 23 7
 unfolding digits
 going_on = (refl, refl, refl, refl)
 

@@ -22,6 +22,7 @@ use Rattle.il_code.specs.declared.types.Inst.TheVariants as inst
 use Rattle.il_code.specs.declared.types.Jump.TheVariants as jump
 use Rattle.il_code.specs.State as il
 use Rattle.il_code.specs.Step.{Kind, kind_of}
+use Rattle.il_emit.specs.declared.goal.Goal.TheVariants.{Next}
 use Rattle.il_emit.specs.Names.{frame_name, label_name}
 use Rattle.il_emit.specs.Ops.{il_op, load_op}
 use Rattle.il_emit.specs.Lines.{Line, Label, End, code_lines, end_value, frame_lines, labels_in, addresses_in}
@@ -132,19 +133,19 @@ framed (suc n) ls h =
     }
 
 function_framed : (p : FlatProgram) (f : FlatFn) → is_right p f 0 (code_of f.body) ≡ true →
-    Framed f.frame (code_lines p (code_of f.body) 1 0 [] ++ (End (jump.Ret (end_value f.result)) ∷ []))
+    Framed f.frame (code_lines p (code_of f.body) Next 1 0 [] ++ (End (jump.Ret (end_value f.result)) ∷ []))
 function_framed p f right =
     framed f.frame _
-    (all_append (passes plain) (code_lines p (code_of f.body) 1 0 []) _
-    (code_good p f (passes plain) (suc (labels_in (code_of f.body))) (addresses_in (code_of f.body))
-    (plain_lines p f (suc (labels_in (code_of f.body))) (addresses_in (code_of f.body))) (code_of f.body) 0 1 0 [] right refl
-    refl (omega arith) (omega arith) (omega arith)) refl)
+    (all_append (passes plain) (code_lines p (code_of f.body) Next 1 0 []) _
+    (code_good p f (passes plain) (suc (labels_in (code_of f.body) true)) (addresses_in (code_of f.body))
+    (plain_lines p f (suc (labels_in (code_of f.body) true)) (addresses_in (code_of f.body))) (code_of f.body) Next 0 1 0 [] right refl
+    refl refl (omega arith) (omega arith) (omega arith)) refl)
 
 -- the blocks of a function, with its frame apart
 blocks_are : (p : FlatProgram) (f : FlatFn) → blocks_of p f ≡ line_blocks
-    (Label 0 ∷ (frame_lines f.frame ++ (code_lines p (code_of f.body) 1 0 [] ++ (End (jump.Ret (end_value f.result)) ∷ []))))
+    (Label 0 ∷ (frame_lines f.frame ++ (code_lines p (code_of f.body) Next 1 0 [] ++ (End (jump.Ret (end_value f.result)) ∷ []))))
 blocks_are p f = function_blocks p f ∙ ap (λ (ls : List Line). line_blocks (Label 0 ∷ ls))
-    (append_assoc (frame_lines f.frame) (code_lines p (code_of f.body) 1 0 []) (End (jump.Ret (end_value f.result)) ∷ []))
+    (append_assoc (frame_lines f.frame) (code_lines p (code_of f.body) Next 1 0 []) (End (jump.Ret (end_value f.result)) ∷ []))
 
 -- ---- all functions
 

@@ -47,7 +47,7 @@ frame_small (suc n) = refl
 pub function_small : (p : FlatProgram) (f : FlatFn) → is_right p f 0 (code_of f.body) ≡ true →
     all_pass inst_is_small (blocks_of p f) ≡ true
 function_small p f right =
-    each_inst p f inst_is_small (small_lines p f (suc (labels_in (code_of f.body))) (addresses_in (code_of f.body))) right
+    each_inst p f inst_is_small (small_lines p f (suc (labels_in (code_of f.body) true)) (addresses_in (code_of f.body))) right
     (frame_small f.frame)
 
 -- ---- parts of globals

@@ -1,5 +1,5 @@
 -- The lines of a function: labels, instructions and jumps, as they are made of flat code.
-use Rattle.std.specs.Prelude.{ℕ, zero, suc, ◌+◌, ◌-◌, Bool, true, false, List, [], ◌∷◌, ◌++◌, length, slice_get, slice_index_or, Option, None, Some, ◌==◌, if◌then◌else◌}
+use Rattle.std.specs.Prelude.{ℕ, zero, suc, ◌+◌, ◌-◌, Bool, true, false, List, [], ◌∷◌, ◌++◌, length, slice_get, slice_index_or, Option, None, Some, ◌==◌, not, if◌then◌else◌}
 use Rattle.hx_base.specs.declared.Class.{Class}
 use Rattle.hx_base.specs.declared.Class.TheVariants.{L}
 use Rattle.flat_code.specs.declared.program.Data.{Data}
@@ -26,6 +26,8 @@ use Rattle.il_code.specs.declared.types.Inst.{Inst}
 use Rattle.il_code.specs.declared.types.Inst.TheVariants as inst
 use Rattle.il_code.specs.declared.types.Jump.{Jump}
 use Rattle.il_code.specs.declared.types.Jump.TheVariants as jump
+use Rattle.il_emit.specs.declared.goal.Goal.{Goal}
+use Rattle.il_emit.specs.declared.goal.Goal.TheVariants.{Next, Near, Far}
 use Rattle.il_emit.specs.Names.{temp_name, address_name, frame_name, label_name}
 use Rattle.il_emit.specs.Ops.{il_op, load_op}
 
@@ -116,23 +118,56 @@ all_addressed (v ∷ vs) = addressed v + all_addressed vs
 
 -- ---- statements
 
--- how many labels code takes
-abbrev mutual
-  pub labels_in : Code → ℕ
-  labels_in (Seq cs) = suc (labels_in_all cs)
-  labels_in (Set temp class op a b) = 0
-  labels_in (Load temp how at) = 0
-  labels_in (Store width value at) = 0
-  labels_in (Move to from bytes) = 0
-  labels_in (If cond a b) = 3 + labels_in a + labels_in b
-  labels_in (Loop c) = 2 + labels_in c
-  labels_in (Leave j) = 1
-  labels_in (Call temp name args) = 0
-  labels_in (Ret value) = 1
+-- Where control goes behind a statement is its goal: on to the next lines, which stand in the same block, to a label that stands right behind
+-- the statement, or to one that does not, so that a jump is needed.
 
+abbrev pub is_next : Goal → Bool
+is_next Next = true
+is_next (Near x) = false
+is_next (Far x) = false
+
+-- one label, where there has to be one
+abbrev pub fresh : Bool → ℕ
+fresh true = 1
+fresh false = 0
+
+-- whether there are statements
+abbrev pub is_more : Codes → Bool
+is_more none = false
+is_more (more c cs) = true
+
+-- whether a side of an If has lines. Nothing, or a Leave, has none: the branch goes where that goes.
+abbrev pub has_lines : Code → Bool
+has_lines (Seq cs) = is_more cs
+has_lines (Set temp class op a b) = true
+has_lines (Load temp how at) = true
+has_lines (Store width value at) = true
+has_lines (Move to from bytes) = true
+has_lines (If cond a b) = true
+has_lines (Loop c) = true
+has_lines (Leave j) = false
+has_lines (Call temp name args) = true
+has_lines (Ret value) = true
+
+-- how many labels code takes, by whether its goal is the next lines
+abbrev mutual
+  pub labels_in : Code → Bool → ℕ
+  labels_in (Seq cs) next = fresh next + labels_in_all cs
+  labels_in (Set temp class op a b) next = 0
+  labels_in (Load temp how at) next = 0
+  labels_in (Store width value at) next = 0
+  labels_in (Move to from bytes) next = 0
+  labels_in (If cond a b) next =
+      fresh next + fresh (has_lines a) + fresh (has_lines b) + labels_in a false + labels_in b false
+  labels_in (Loop c) next = fresh next + suc (labels_in c true)
+  labels_in (Leave j) next = fresh next
+  labels_in (Call temp name args) next = 0
+  labels_in (Ret value) next = fresh next
+
+  -- those of a Seq, of which the last has the goal of the Seq, that is a label
   pub labels_in_all : Codes → ℕ
   labels_in_all none = 0
-  labels_in_all (more c cs) = labels_in c + labels_in_all cs
+  labels_in_all (more c cs) = labels_in c (is_more cs) + labels_in_all cs
 
 -- how many addresses a value that may be missing takes
 abbrev pub addresses_of : Option Value → ℕ
@@ -157,13 +192,49 @@ abbrev mutual
   addresses_in_all none = 0
   addresses_in_all (more c cs) = addresses_in c + addresses_in_all cs
 
--- the label behind the Seq or Loop number `j` round a statement, counted from the inside, where `exits` are those of all, the outermost
--- first
+-- the label of the goal of the Seq or Loop number `j` round a statement, counted from the inside, where `exits` are those of all, the
+-- outermost first
 abbrev pub exit_at : List ℕ → ℕ → ℕ
 exit_at exits j = slice_index_or exits (length exits - suc j) 0
 
+-- ---- goals
+
+-- the label of a goal, which is the statement's own, `n`, where that is the next lines
+abbrev pub goal_label : Goal → (n : ℕ) → ℕ
+goal_label Next n = n
+goal_label (Near x) n = x
+goal_label (Far x) n = x
+
+-- the goal of what stands last within a statement
+abbrev pub inner : Goal → (n : ℕ) → Goal
+inner Next n = Near n
+inner (Near x) n = Near x
+inner (Far x) n = Far x
+
+-- the goal of a statement that stands in front of these
+abbrev pub in_front : Codes → Goal → Goal
+in_front none goal = goal
+in_front (more c cs) goal = Next
+
+-- the goal of the first side of an If, by whether the other has lines
+abbrev pub first_goal : Bool → Goal → (n : ℕ) → Goal
+first_goal true goal n = Far (goal_label goal n)
+first_goal false goal n = inner goal n
+
+-- how control goes to a goal
+abbrev pub go_lines : Goal → List Line
+go_lines Next = []
+go_lines (Near x) = []
+go_lines (Far x) = End (jump.Jmp (label_name x)) ∷ []
+
+-- the label of a statement's own behind it
+abbrev pub own_label : Goal → (n : ℕ) → List Line
+own_label Next n = Label n ∷ []
+own_label (Near x) n = []
+own_label (Far x) n = []
+
 -- The lines of single statements: those of the addresses of their operands, whose numbers begin with `k`, and then one instruction or
--- jump. Behind a jump the label `n` stands.
+-- jump. Behind a Ret stands the label `n` where other lines stand behind it.
 module _ (globals : List Data) where
   -- an operation on its operands
   abbrev pub set_lines : ℕ → Class → Op → (a b : Value) → (k : ℕ) → List Line
@@ -192,44 +263,93 @@ module _ (globals : List Data) where
   call_lines params result temp name args k =
       arg_lines globals args k ++ (Do (inst.Call (result_param temp result) name (args_of globals params args k)) ∷ [])
 
-  -- a branch on a condition, and the label of its first side
-  abbrev pub condition_lines : Value → (n k : ℕ) → List Line
-  condition_lines cond n k =
-      address_lines globals cond k ++ (End (jump.Jnz (operand globals cond k) (label_name n) (label_name (n + 1))) ∷ Label n ∷ [])
+  -- a branch on a condition
+  abbrev pub branch_lines : Value → (one other k : ℕ) → List Line
+  branch_lines cond one other k =
+      address_lines globals cond k ++ (End (jump.Jnz (operand globals cond k) (label_name one) (label_name other)) ∷ [])
 
-  abbrev pub return_lines : Option Value → (n k : ℕ) → List Line
-  return_lines None n k = End (jump.Ret None) ∷ Label n ∷ []
-  return_lines (Some v) n k = address_lines globals v k ++ (End (jump.Ret (Some (operand globals v k))) ∷ Label n ∷ [])
+  abbrev pub return_lines : Option Value → Goal → (n k : ℕ) → List Line
+  return_lines None goal n k = End (jump.Ret None) ∷ own_label goal n
+  return_lines (Some v) goal n k = address_lines globals v k ++ (End (jump.Ret (Some (operand globals v k))) ∷ own_label goal n)
 
--- a Leave
-abbrev pub leave_lines : (j n : ℕ) → (exits : List ℕ) → List Line
-leave_lines j n exits = End (jump.Jmp (label_name (exit_at exits j))) ∷ Label n ∷ []
+-- A Leave to the label `x`. No jump goes to the label right behind it.
+abbrev pub leave_lines : (x : ℕ) → Goal → (n : ℕ) → List Line
+leave_lines x Next n = End (jump.Jmp (label_name x)) ∷ Label n ∷ []
+leave_lines x (Near y) n = if x == y then [] else End (jump.Jmp (label_name x)) ∷ []
+leave_lines x (Far y) n = End (jump.Jmp (label_name x)) ∷ []
 
--- The lines of a statement, whose labels have the numbers from `n` on and whose addresses those from `k` on. Behind each jump stands a
--- label, so that code behind a Leave or a Ret has a block of its own. A Loop is entered by a written jump and has one backward jump.
+-- where a side of an If goes that has no lines; `x` is the label behind the If
+abbrev pub target : Code → (exits : List ℕ) → (x : ℕ) → ℕ
+target (Seq cs) exits x = x
+target (Set temp class op a b) exits x = x
+target (Load temp how at) exits x = x
+target (Store width value at) exits x = x
+target (Move to from bytes) exits x = x
+target (If cond a b) exits x = x
+target (Loop c) exits x = x
+target (Leave j) exits x = exit_at exits j
+target (Call temp name args) exits x = x
+target (Ret value) exits x = x
+
+-- the label to which a branch goes for a side: where it goes that has no lines, and else its own
+abbrev pub way : Code → (exits : List ℕ) → (x own : ℕ) → ℕ
+way c exits x own = if has_lines c then own else target c exits x
+
+-- the lines of a side, if it has any, behind its label
+abbrev pub side : Bool → (own : ℕ) → List Line → List Line
+side true own lines = Label own ∷ lines
+side false own lines = []
+
+-- the end of a Seq, by whether it has no statements
+abbrev pub seq_end : Bool → Goal → (n : ℕ) → List Line
+seq_end true goal n = go_lines (inner goal n) ++ own_label goal n
+seq_end false goal n = own_label goal n
+
+-- the branch of an If to its sides
+abbrev pub if_branch : List Data → Value → (a b : Code) → Goal → (n k : ℕ) → (exits : List ℕ) → List Line
+if_branch globals cond a b goal n k exits =
+    let x = goal_label goal n in
+    let one = n + fresh (is_next goal) in
+    branch_lines globals cond (way a exits x one) (way b exits x (one + fresh (has_lines a))) k
+
+-- a call of a function of a program, else of the runtime
+abbrev pub named_call_lines : FlatProgram → Option ℕ → List ℕ → List Value → (k : ℕ) → List Line
+named_call_lines p temp name args k =
+    call_lines p.globals (called_params (function_named p.functions name) name) (result_class p name) temp name args k
+
+-- The lines of a statement, whose labels have the numbers from `n` on and whose addresses those from `k` on. Where lines stand behind a Leave
+-- or a Ret, they have a block of their own. A Loop is entered by a written jump and has one backward jump.
 module _ (p : FlatProgram) where
   abbrev mutual
-    pub code_lines : Code → (n k : ℕ) → (exits : List ℕ) → List Line
-    code_lines (Seq cs) n k exits = each_lines cs (suc n) k (exits ++ n ∷ []) ++ (Label n ∷ [])
-    code_lines (Set t class o a b) n k exits = set_lines p.globals t class o a b k
-    code_lines (Load t how at) n k exits = load_lines p.globals t how at k
-    code_lines (Store width value at) n k exits = store_lines p.globals width value at k
-    code_lines (Move to from bytes) n k exits = move_lines p.globals to from bytes k
-    code_lines (If cond a b) n k exits =
-        address_lines p.globals cond k ++ (End (jump.Jnz (operand p.globals cond k) (label_name n) (label_name (n + 1))) ∷ Label n
-        ∷ (code_lines a (n + 3) (k + addressed cond) exits ++ (End (jump.Jmp (label_name (n + 2))) ∷ Label (n + 1)
-        ∷ (code_lines b (n + 3 + labels_in a) (k + addressed cond + addresses_in a) exits ++ (Label (n + 2) ∷ [])))))
-    code_lines (Loop c) n k exits =
-        End (jump.Jmp (label_name n)) ∷ Label n ∷
-        (code_lines c (n + 2) k (exits ++ (n + 1) ∷ []) ++ (End (jump.Jmp (label_name n)) ∷ Label (n + 1) ∷ []))
-    code_lines (Leave j) n k exits = leave_lines j n exits
-    code_lines (Call temp name args) n k exits =
-        call_lines p.globals (called_params (function_named p.functions name) name) (result_class p name) temp name args k
-    code_lines (Ret value) n k exits = return_lines p.globals value n k
+    pub code_lines : Code → Goal → (n k : ℕ) → (exits : List ℕ) → List Line
+    code_lines (Seq cs) goal n k exits =
+        each_lines cs (inner goal n) (n + fresh (is_next goal)) k (exits ++ goal_label goal n ∷ [])
+        ++ seq_end (not (is_more cs)) goal n
+    code_lines (Set t class o a b) goal n k exits = set_lines p.globals t class o a b k ++ go_lines goal
+    code_lines (Load t how at) goal n k exits = load_lines p.globals t how at k ++ go_lines goal
+    code_lines (Store width value at) goal n k exits = store_lines p.globals width value at k ++ go_lines goal
+    code_lines (Move to from bytes) goal n k exits = move_lines p.globals to from bytes k ++ go_lines goal
+    code_lines (If cond a b) goal n k exits =
+        let one = n + fresh (is_next goal) in
+        let other = one + fresh (has_lines a) in
+        let m = other + fresh (has_lines b) in
+        if_branch p.globals cond a b goal n k exits
+        ++ (side (has_lines a) one (code_lines a (first_goal (has_lines b) goal n) m (k + addressed cond) exits)
+        ++ (side (has_lines b) other (code_lines b (inner goal n) (m + labels_in a false) (k + addressed cond + addresses_in a) exits)
+        ++ own_label goal n))
+    code_lines (Loop c) goal n k exits =
+        let begin = n + fresh (is_next goal) in
+        End (jump.Jmp (label_name begin)) ∷ Label begin ∷
+        (code_lines c Next (suc begin) k (exits ++ goal_label goal n ∷ []) ++ (End (jump.Jmp (label_name begin)) ∷ own_label goal n))
+    code_lines (Leave j) goal n k exits = leave_lines (exit_at exits j) goal n
+    code_lines (Call temp name args) goal n k exits =
+        named_call_lines p temp name args k ++ go_lines goal
+    code_lines (Ret value) goal n k exits = return_lines p.globals value goal n k
 
-    pub each_lines : Codes → (n k : ℕ) → (exits : List ℕ) → List Line
-    each_lines none n k exits = []
-    each_lines (more c cs) n k exits = code_lines c n k exits ++ each_lines cs (n + labels_in c) (k + addresses_in c) exits
+    pub each_lines : Codes → Goal → (n k : ℕ) → (exits : List ℕ) → List Line
+    each_lines none goal n k exits = []
+    each_lines (more c cs) goal n k exits =
+        code_lines c (in_front cs goal) n k exits ++ each_lines cs goal (n + labels_in c (is_more cs)) (k + addresses_in c) exits
 
 -- ---- functions
 
@@ -245,7 +365,7 @@ end_value (Some class) = Some (il.Number 0)
 
 -- the lines of a function between its first label and its last return
 abbrev pub inner_lines : FlatProgram → FlatFn → List Line
-inner_lines p f = frame_lines f.frame ++ code_lines p (code_of f.body) 1 0 []
+inner_lines p f = frame_lines f.frame ++ code_lines p (code_of f.body) Next 1 0 []
 
 -- the lines of a function. Its frame is taken in the first block, and no jump goes to the label of that.
 abbrev pub function_lines : FlatProgram → FlatFn → List Line

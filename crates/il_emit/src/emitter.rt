@@ -1,11 +1,12 @@
 //! The state of emitting one function.
 
 ghost use Rattle.std.specs.Prelude.{◌≡◌, ◌+◌, ◌∷◌, ◌++◌, ◌<◌, ◌^◌, [], OnOk, IfOk};
-ghost use Rattle.il_emit.specs.Lines.{Label, Do, End, exit_at};
+ghost use Rattle.il_emit.specs.Lines.{Label, Do, End, exit_at, go_lines, own_label};
 ghost use Rattle.il_emit.specs.Names.{label_name};
 ghost use Rattle.il_emit.specs.Emitting.{Emits};
 
 use crate::draft::Draft;
+use crate::goal::Goal;
 use crate::names::label_name;
 use il_code::{Inst, Jump};
 use std::alloc::{AllocError, Global};
@@ -20,7 +21,7 @@ pub struct Emitter {
     pub labels: u64,
     /// The number of the next computed address.
     pub addresses: u64,
-    /// The labels behind the Seqs and Loops round the statement, the outermost first.
+    /// The labels to which a Leave of each Seq and Loop round the statement goes, the outermost first.
     pub exits: Vec<u64>,
 }
 
@@ -77,12 +78,37 @@ impl Emitter {
         Ok(())
     }
 
-    /// The label behind the Seq or Loop with so many others between it and a statement.
+    /// The label to which a Leave goes of the Seq or Loop with so many others between it and a statement.
     pub fn exit(&self, j: u32) -> u64
         ensures { result ≡ exit_at self.now.exits.items j }
     {
         let at = self.exits.len().saturating_sub(j as usize + 1);
         self.exits.get(at).copied().unwrap_or(0)
+    }
+
+    /// Goes to a goal behind a statement that comes to its end.
+    #[inline(never)]
+    pub fn go(&mut self, goal: Goal) -> Result<(), AllocError>
+        ensures { OnOk result (Emits self.old self.new (go_lines goal) 0 0 self.old.exits.items) }
+    {
+        match goal {
+            Goal::Next | Goal::Near(_) => Ok(()),
+            Goal::Far(x) => {
+                let jump = self.jump_to(x)?;
+                self.end(jump)
+            }
+        }
+    }
+
+    /// Begins the block behind a statement, where the label there is the statement's own, `n`.
+    #[inline(never)]
+    pub fn own_label(&mut self, goal: Goal, n: u64) -> Result<(), AllocError>
+        ensures { OnOk result (Emits self.old self.new (own_label goal n) 0 0 self.old.exits.items) }
+    {
+        match goal {
+            Goal::Next => self.label(n),
+            Goal::Near(_) | Goal::Far(_) => Ok(()),
+        }
     }
 
     /// A jump to the block of a number.

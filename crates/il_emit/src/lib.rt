@@ -8,6 +8,7 @@ mod code;
 mod data;
 mod draft;
 mod emitter;
+mod goal;
 mod module;
 mod names;
 mod op;

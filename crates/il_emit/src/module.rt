@@ -14,6 +14,7 @@ use crate::code::code;
 use crate::data::data_item;
 use crate::draft::Draft;
 use crate::emitter::Emitter;
+use crate::goal::Goal;
 use crate::names::{same_text, temp_name};
 use crate::source::Source;
 use flat_code::{Data, FlatFn, FlatProgram};
@@ -152,7 +153,7 @@ fn blocks_of(alloc: Global, source: &Source, f: &FlatFn) -> Result<Blocks, Alloc
     };
     e.label(0)?;
     e.frame(f.frame)?;
-    code(&mut e, source, &f.body)?;
+    code(&mut e, source, &f.body, Goal::Next)?;
     has_64_bits(e.labels);
     has_64_bits(e.addresses);
     has_64_bits(u64::from(f.temps));

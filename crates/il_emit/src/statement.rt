@@ -2,11 +2,12 @@
 
 ghost use Rattle.std.specs.Prelude.{◌≡◌, ◌+◌, ◌-◌, ◌<◌, ◌^◌, ◌∷◌, ◌++◌, [], Some, length, take, OnOk, IfOk};
 ghost use Rattle.flat_code.specs.Costs.{addressed};
-ghost use Rattle.il_emit.specs.Lines.{Label, Do, End, addresses_of, all_addressed, set_lines, load_lines, store_lines, move_lines, call_lines, condition_lines, return_lines, leave_lines, result_param, first_arg, rest_of, arg_lines, args_of, frame_lines};
+ghost use Rattle.il_emit.specs.Lines.{Label, Do, End, addresses_of, all_addressed, set_lines, load_lines, store_lines, move_lines, call_lines, exit_at, is_next, fresh, goal_label, own_label, seq_end, branch_lines, return_lines, leave_lines, result_param, first_arg, rest_of, arg_lines, args_of, frame_lines};
 ghost use Rattle.il_emit.specs.Names.{label_name};
 ghost use Rattle.il_emit.specs.Emitting.{Emits};
 
 use crate::emitter::Emitter;
+use crate::goal::{Goal, fresh};
 use crate::names::{frame_name, label_name, same_text, temp_name};
 use crate::op::{il_op, load_op};
 use crate::operand::second;
@@ -214,114 +215,133 @@ impl Emitter {
         Ok(out)
     }
 
-    /// Returns, with a value if there is one. What stands behind has a block of its own.
-    pub fn ret(&mut self, globals: &[Data], value: Option<Value>) -> Result<(), AllocError>
+    /// Returns, with a value if there is one. Lines that stand behind have a block of their own.
+    pub fn ret(
+        &mut self,
+        globals: &[Data],
+        value: Option<Value>,
+        goal: Goal,
+    ) -> Result<(), AllocError>
         ensures { OnOk result (Emits self.old self.new
-            (return_lines globals.now value self.old.labels self.old.addresses)
-            1 (addresses_of value) self.old.exits.items) }
+            (return_lines globals.now value goal self.old.labels self.old.addresses)
+            (fresh (is_next goal)) (addresses_of value) self.old.exits.items) }
     {
-        let n = self.take_labels(1)?;
+        let n = self.take_labels(goal.fresh())?;
         match value {
             None => {
                 self.end(Jump::Ret(None))?;
-                self.label(n)
+                self.own_label(goal, n)
             }
             Some(v) => {
                 let v = self.operand(globals, v)?;
                 self.end(Jump::Ret(Some(v)))?;
+                self.own_label(goal, n)
+            }
+        }
+    }
+
+    /// Leaves a Seq or Loop. Lines that stand behind have a block of their own.
+    #[inline(never)]
+    pub fn leave(&mut self, j: u32, goal: Goal) -> Result<(), AllocError>
+        ensures { OnOk result (Emits self.old self.new
+            (leave_lines (exit_at self.old.exits.items j) goal self.old.labels) (fresh (is_next goal)) 0 self.old.exits.items) }
+    {
+        let x = self.exit(j);
+        match goal {
+            Goal::Near(y) if x == y => Ok(()),
+            Goal::Near(_) | Goal::Far(_) => {
+                let jump = self.jump_to(x)?;
+                self.end(jump)
+            }
+            Goal::Next => {
+                let n = self.take_labels(1)?;
+                let jump = self.jump_to(x)?;
+                self.end(jump)?;
                 self.label(n)
             }
         }
     }
 
-    /// Leaves a Seq or Loop. What stands behind has a block of its own.
+    /// Begins a Seq, and gives its own label.
     #[inline(never)]
-    pub fn leave(&mut self, j: u32) -> Result<(), AllocError>
-        ensures { OnOk result (Emits self.old self.new
-            (leave_lines j self.old.labels self.old.exits.items) 1 0 self.old.exits.items) }
-    {
-        let n = self.take_labels(1)?;
-        let jump = self.jump_to(self.exit(j))?;
-        self.end(jump)?;
-        self.label(n)
-    }
-
-    /// Begins a Seq, and gives the label behind it.
-    pub fn begin_seq(&mut self) -> Result<u64, AllocError>
+    pub fn begin_seq(&mut self, goal: Goal) -> Result<u64, AllocError>
         ensures first { IfOk result (λ n. n ≡ self.old.labels) }
-        ensures ok { OnOk result (Emits self.old self.new [] 1 0 (self.old.exits.items ++ self.old.labels ∷ [])) }
+        ensures ok { OnOk result (Emits self.old self.new [] (fresh (is_next goal)) 0
+            (self.old.exits.items ++ goal_label goal self.old.labels ∷ [])) }
     {
-        let n = self.take_labels(1)?;
-        self.exits.push(n)?;
+        let n = self.take_labels(goal.fresh())?;
+        self.exits.push(goal.label(n))?;
         Ok(n)
     }
 
-    /// Ends the Seq with this label behind it.
+    /// Ends the Seq with this own label.
     #[inline(never)]
-    pub fn end_seq(&mut self, n: u64) -> Result<(), AllocError>
-        ensures { OnOk result (Emits self.old self.new (Label n ∷ []) 0 0
+    pub fn end_seq(&mut self, is_empty: bool, goal: Goal, n: u64) -> Result<(), AllocError>
+        ensures { OnOk result (Emits self.old self.new (seq_end is_empty goal n) 0 0
             (take (length self.old.exits.items - 1) self.old.exits.items)) }
     {
         let _ = self.exits.pop();
-        self.label(n)
+        if is_empty {
+            self.go(goal.inner(n))?;
+        }
+        self.own_label(goal, n)
     }
 
-    /// Begins an If, and gives the label of its first side.
-    pub fn begin_if(&mut self, globals: &[Data], cond: Value) -> Result<u64, AllocError>
+    /// Takes the labels of an If, whose sides have lines or not, and gives the first, which is its own where its goal is the next lines.
+    pub fn begin_if(&mut self, goal: Goal, yes: bool, no: bool) -> Result<u64, AllocError>
         ensures first { IfOk result (λ n. n ≡ self.old.labels) }
-        ensures fits { OnOk result (self.old.labels + 3 < 2 ^ 64) }
-        ensures ok { OnOk result (Emits self.old self.new
-            (condition_lines globals.now cond self.old.labels self.old.addresses) 3 (addressed cond) self.old.exits.items) }
+        ensures fits { OnOk result (self.old.labels + fresh (is_next goal) + fresh yes + fresh no < 2 ^ 64) }
+        ensures ok { OnOk result (Emits self.old self.new [] (fresh (is_next goal) + fresh yes + fresh no) 0 self.old.exits.items) }
     {
-        let n = self.take_labels(3)?;
+        self.take_labels(goal.fresh() + fresh(yes) + fresh(no))
+    }
+
+    /// Branches on a condition to the blocks of two numbers.
+    pub fn branch(
+        &mut self,
+        globals: &[Data],
+        cond: Value,
+        yes: u64,
+        no: u64,
+    ) -> Result<(), AllocError>
+        ensures { OnOk result (Emits self.old self.new
+            (branch_lines globals.now cond yes no self.old.addresses) 0 (addressed cond) self.old.exits.items) }
+    {
         let value = self.operand(globals, cond)?;
-        let yes = label_name(self.alloc, n)?;
-        let no = label_name(self.alloc, n + 1)?;
-        self.end(Jump::Jnz(value, yes, no))?;
-        self.label(n)?;
-        Ok(n)
+        let yes = label_name(self.alloc, yes)?;
+        let no = label_name(self.alloc, no)?;
+        self.end(Jump::Jnz(value, yes, no))
     }
 
-    /// Ends the first side of an If, and begins the other.
+    /// Begins a Loop, and gives its first label, which is its own where its goal is the next lines. That of its body is the next.
     #[inline(never)]
-    pub fn otherwise(&mut self, n: u64) -> Result<(), AllocError>
-        requires { n + 3 < 2 ^ 64 }
-        ensures { OnOk result (Emits self.old self.new
-            (End (Jump.Jmp (label_name (n + 2))) ∷ Label (n + 1) ∷ []) 0 0 self.old.exits.items) }
-    {
-        let jump = self.jump_to(n + 2)?;
-        self.end(jump)?;
-        self.label(n + 1)
-    }
-
-    /// Begins a Loop, and gives the label of its body; the next is that behind it.
-    #[inline(never)]
-    pub fn begin_loop(&mut self) -> Result<u64, AllocError>
+    pub fn begin_loop(&mut self, goal: Goal) -> Result<u64, AllocError>
         ensures first { IfOk result (λ n. n ≡ self.old.labels) }
-        ensures fits { OnOk result (self.old.labels + 2 < 2 ^ 64) }
+        ensures fits { OnOk result (self.old.labels + fresh (is_next goal) + 1 < 2 ^ 64) }
         ensures ok { OnOk result (Emits self.old self.new
-            (End (Jump.Jmp (label_name self.old.labels)) ∷ Label self.old.labels ∷ []) 2 0
-            (self.old.exits.items ++ (self.old.labels + 1) ∷ [])) }
+            (End (Jump.Jmp (label_name (self.old.labels + fresh (is_next goal)))) ∷ Label (self.old.labels + fresh (is_next goal)) ∷ [])
+            (fresh (is_next goal) + 1) 0 (self.old.exits.items ++ goal_label goal self.old.labels ∷ [])) }
     {
-        let n = self.take_labels(2)?;
-        let entry = self.jump_to(n)?;
+        let n = self.take_labels(goal.fresh() + 1)?;
+        let body = n + goal.fresh();
+        let entry = self.jump_to(body)?;
         self.end(entry)?;
-        self.label(n)?;
-        self.exits.push(n + 1)?;
+        self.label(body)?;
+        self.exits.push(goal.label(n))?;
         Ok(n)
     }
 
-    /// Ends a Loop, whose body begins at this label.
+    /// Ends a Loop with this first label.
     #[inline(never)]
-    pub fn end_loop(&mut self, n: u64) -> Result<(), AllocError>
-        requires { n + 2 < 2 ^ 64 }
+    pub fn end_loop(&mut self, goal: Goal, n: u64) -> Result<(), AllocError>
+        requires { n + fresh (is_next goal) + 1 < 2 ^ 64 }
         ensures { OnOk result (Emits self.old self.new
-            (End (Jump.Jmp (label_name n)) ∷ Label (n + 1) ∷ []) 0 0
+            (End (Jump.Jmp (label_name (n + fresh (is_next goal)))) ∷ own_label goal n) 0 0
             (take (length self.old.exits.items - 1) self.old.exits.items)) }
     {
         let _ = self.exits.pop();
-        let back = self.jump_to(n)?;
+        let back = self.jump_to(n + goal.fresh())?;
         self.end(back)?;
-        self.label(n + 1)
+        self.own_label(goal, n)
     }
 }

@@ -120,21 +120,14 @@ export function w $main() {
 @b2
 \t%t1 =l call $rt.nargs()
 \t%t2 =w cultl %t0, %t1
+@b4
+\tjnz %t2, @b5, @b1
 @b5
-\tjnz %t2, @b6, @b7
-@b6
 \t%a0 =l add $h.text, 1
 \tcall $rt.puts(l %a0, l 2)
 \t%t0 =l add %t0, 1
-@b9
-\tjmp @b8
-@b7
-\tjmp @b3
-@b10
-@b8
-@b4
-\tjmp @b2
 @b3
+\tjmp @b2
 @b1
 \tret 0
 }
@@ -166,20 +159,17 @@ fn nested_branches(rt: HostRuntime) -> Result<(), Fail> {
         b"data $h.text = align 1 { b \"ab\" 10 }
 export function w $main() {
 @b0
-\tjnz 1, @b1, @b2
-@b1
+\tjnz 1, @b2, @b3
+@b2
 \tjnz %t0, @b4, @b5
 @b4
 \tret %t0
-@b7
-\tjmp @b6
 @b5
 \t%t1 =w neg %t0
-@b6
-\tjmp @b3
-@b2
-\t%t0 =w copy 7
+\tjmp @b1
 @b3
+\t%t0 =w copy 7
+@b1
 \tret 0
 }
 "
@@ -200,16 +190,16 @@ fn a_leave_out_of_two_loops(rt: HostRuntime) -> Result<(), Fail> {
         b"data $h.text = align 1 { b \"ab\" 10 }
 export function w $main() {
 @b0
-\tjmp @b1
-@b1
-\tjmp @b3
-@b3
 \tjmp @b2
-@b5
-\tjmp @b3
+@b2
+\tjmp @b4
 @b4
 \tjmp @b1
-@b2
+@b5
+\tjmp @b4
+@b3
+\tjmp @b2
+@b1
 \tret 0
 }
 "
