@@ -1,0 +1,7 @@
+pub mod Judged
+pub mod Types
+pub mod Parts
+pub mod Operators
+pub mod Joined
+pub mod Places
+pub mod Trees

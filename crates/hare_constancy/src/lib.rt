@@ -1,0 +1,6 @@
+//! What typing rules give of a tree is enough to work out its constant.
+#![tactic(auto)]
+
+mod laws;
+
+pub use laws::law_met_trees_are_settled;
