@@ -1,6 +1,6 @@
 -- What goes to a union goes to one of which all is known, and of its members too.
-use Rattle.std.proofs.Common.{◌≡◌, ◌≢◌, ◌∙◌, sym, ap, subst, refl, ℕ, zero, suc, ◌+◌, ◌-◌, ◌<◌, ◌≤◌, length, arith, Bool, true, false, ◌⊎◌, inl, inr, List, [], ◌∷◌, Option, Some, None, cond}
-use Rattle.std.specs.Prelude.{slice_get, option_map, option_and_then, unwrap_or, IsSome, Contains}
+use Rattle.std.proofs.Common.{◌≡◌, ◌∙◌, sym, ap, subst, refl, ℕ, zero, suc, ◌+◌, ◌-◌, ◌≤◌, length, arith, Bool, true, false, inl, inr, List, [], ◌∷◌, Option, Some, None, cond}
+use Rattle.std.specs.Prelude.{slice_get, option_map, option_and_then, unwrap_or, IsSome}
 use Rattle.std.specs.Option.{option_or}
 use Rattle.hare_types.specs.declared.extent.Extent.{Extent}
 use Rattle.hare_types.specs.declared.row.Row.{Row}
@@ -9,7 +9,7 @@ use Rattle.hare_types.specs.declared.coercion.Coercion.{Coercion}
 use Rattle.hare_types.specs.declared.coercion.Ty.{Ty}
 use Rattle.hare_types.specs.declared.coercion.Ty.TheVariants as ty
 use Rattle.hare_types.specs.Trees.{Tree, Trees, Scalar, Pointer, Nullable, Slice, Array, Struct, Tuple, Union, Error, Named}
-use Rattle.hare_types.specs.Assign.{Value, Of, Iconst, Null, Empty, type_at, value_at, base, holds_of, members_among, is_part, is_same, is_const, is_lone, is_union, joins, table, first_row, coercion, only_one}
+use Rattle.hare_types.specs.Assign.{Value, type_at, value_at, base, holds_of, members_among, is_part, is_same, is_const, is_lone, is_union, joins, table, first_row, only_one}
 use Rattle.hare_types.specs.Bases.{base_over}
 use Rattle.hare_types.specs.Store.{Store, definition_of}
 use Rattle.hare_types.specs.Sound.{IsStore}
@@ -17,7 +17,6 @@ use Rattle.hare_types.specs.ByIds.{row_at, found_within, bytes_over, base_at, ex
 use Rattle.hare_types.proofs.AscendingLemmas.{In, In-to}
 use Rattle.hare_types.proofs.IdLemmas.{base-row}
 use Rattle.hare_typed.specs.Given.{base_row}
-use Rattle.hare_typed.specs.Unions.{union_members}
 use Rattle.hare_typed.specs.Coercions.{chosen_member}
 use Rattle.hare_layout.specs.Whole.{PayloadLiesIn}
 use Rattle.hare_layout.proofs.PlacesLemmas.{payload_lies_in, then}
@@ -25,7 +24,7 @@ use Rattle.hare_assign.specs.Shapes.{types_at}
 use Rattle.hare_assign.specs.Chosen.{is_its_default, first_of, only_of, member_for, first_member}
 use Rattle.hare_assign.specs.First.{IsFirst}
 use Rattle.hare_assign.proofs.FirstLemmas.{first_from-first}
-use Rattle.hare_assign.proofs.ChosenLemmas.{base_union, union_base, keeps_own}
+use Rattle.hare_assign.proofs.ChosenLemmas.{base_union, keeps_own}
 use Rattle.hare_const.specs.Sizes.{Fits}
 use Rattle.hare_const.specs.Joined.{AreTold, IsToldUnion, HasToldUnion, IsJoined, Joins}
 use Rattle.hare_const.proofs.JoinedLemmas.{chosen_first}
@@ -46,7 +45,8 @@ based-within s (suc n) t x e = by (based-within s n) (row_at s t) refl e
 
     by : ((u : ℕ) (y : Extent) → found_within s (bytes_over (definition_of s)) n u ≡ Some y → IsSome (base_at s u)) → (o : Option Row) →
         row_at s t ≡ o
-        → option_and_then (bytes_over (definition_of s) (found_within s (bytes_over (definition_of s)) n) t) o ≡ Some x → IsSome (base_at s t)
+        → option_and_then (bytes_over (definition_of s) (found_within s (bytes_over (definition_of s)) n) t) o ≡ Some x →
+        IsSome (base_at s t)
     by ih None f g = absurd cc
     by ih (Some (row.Scalar k)) f g = itself (row.Scalar k) f refl
     by ih (Some (row.Pointer i)) f g = itself (row.Pointer i) f refl
@@ -65,9 +65,11 @@ told_each : (s : Store) (whole : Extent) (start : ℕ) → whole.size ≤ 671088
     → ((i : ℕ) → In i is → (x : Extent) × (extent_at s i ≡ Some x) × (start + x.size ≤ whole.size)) → AreTold s is
 told_each s whole start l [] h = tt
 told_each s whole start l (i ∷ is) h =
-    let here = h i (inl refl) in
-    (based-within s (length s.rows) i here.0 here.1, record { extent = here.0; at = here.1; few = omega (arith, here.2, l) },
-    told_each s whole start l is (λ j k. h j (inr k)))
+    let here = h i (inl refl) in (
+      based-within s (length s.rows) i here.0 here.1,
+      record { extent = here.0; at = here.1; few = omega (arith, here.2, l) },
+      told_each s whole start l is (λ j k. h j (inr k)),
+    )
 
 -- the row of the base of a union
 union_row : (s : Store) (u : ℕ) (is : List ℕ) → members_at s u ≡ Some is → base_row s (ty.Of u) ≡ Some (row.Union is)
@@ -114,11 +116,13 @@ none_for : (s : Store) (f : Value) (is : List ℕ) → first_member s f is ≡ N
 none_for s f is e =
     let own = first_none (first_of s (is_same f) is)
     (option_or (first_of s (is_its_default f) is) (option_or (first_of s (is_const s f) is) (first_of s (is_lone s f) is))) e in
-    let default = first_none (first_of s (is_its_default f) is) (option_or (first_of s (is_const s f) is) (first_of s (is_lone s f) is)) own.1 in
+    let default = first_none (first_of s (is_its_default f) is)
+    (option_or (first_of s (is_const s f) is) (first_of s (is_lone s f) is)) own.1 in
     let held = first_none (first_of s (is_const s f) is) (first_of s (is_lone s f) is) default.1 in
     let const_none = only_none (only_one (is_const s f) (types_at s is)) (first_of s (is_const s f) is) held.0 in
     let lone_none = only_none (only_one (is_lone s f) (types_at s is)) (first_of s (is_lone s f) is) held.1 in
-    ap (λ o. option_or o (option_or (first_of s (is_its_default f) is) (option_or (only_of s (is_const s f) is) (only_of s (is_lone s f) is))))
+    ap (λ o. option_or o (option_or (first_of s (is_its_default f) is)
+    (option_or (only_of s (is_const s f) is) (only_of s (is_lone s f) is))))
     own.0
     ∙ ap (λ o. option_or o (option_or (only_of s (is_const s f) is) (only_of s (is_lone s f) is))) default.0
     ∙ ap (λ o. option_or o (only_of s (is_lone s f) is)) const_none ∙ lone_none
@@ -161,10 +165,10 @@ is_joined s v f u k m e = by (base s (type_at s u)) refl e
         record {
           union = told;
           own = λ none.
-            (let first : first_member s (value_at s f) found.0 ≡ None =
-            sym (chosen_first s f found.0) ∙ sym (ap (λ o. chosen_member s f (unwrap_or o [])) found.1) ∙ none in
-            part_union s v f ts k
-            (keeps_own s v f u (base_in s u m.0) found.0 found.1 (none_for s (value_at s f) found.0 first) ts g h));
+              (let first : first_member s (value_at s f) found.0 ≡ None =
+              sym (chosen_first s f found.0) ∙ sym (ap (λ o. chosen_member s f (unwrap_or o [])) found.1) ∙ none in
+              part_union s v f ts k
+              (keeps_own s v f u (base_in s u m.0) found.0 found.1 (none_for s (value_at s f) found.0 first) ts g h));
         }
     of_tree (Scalar w) g h = absurd cc
     of_tree (Pointer t) g h = absurd cc

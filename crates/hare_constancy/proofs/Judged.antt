@@ -1,23 +1,20 @@
 -- What a node that meets its rows has by each of them, and what its kids give.
-use Rattle.std.proofs.Common.{◌≡◌, ℕ, zero, suc, ◌+◌, Bool, true, false, not, ◌||◌, ◌⊎◌, ◌≢◌, inl, inr, List, [], ◌∷◌, map, refl, ap, sym, ◌∙◌, subst, arith}
+use Rattle.std.proofs.Common.{◌≡◌, ℕ, zero, suc, ◌+◌, Bool, true, false, not, ◌⊎◌, ◌≢◌, inl, inr, List, [], ◌∷◌, map, refl, ap, sym, ◌∙◌, subst, arith}
 use Rattle.std.specs.Prelude.{cond, find, Option, Some, None}
 use Rattle.hare_tree.specs.declared.kind.Kind.{Kind}
 use Rattle.hare_tree.specs.declared.kind.Kind.TheVariants as kind
-use Rattle.hare_tree.specs.Node.{Head}
-use Rattle.hare_types.specs.declared.coercion.Ty.{Ty}
 use Rattle.hare_types.specs.declared.coercion.Ty.TheVariants as ty
-use Rattle.hare_typed.specs.Typed.{TypedNode, Mark, marked, head_of, mark_of, kids_of, listed_nodes}
-use Rattle.hare_typed.specs.Order.{missing, tree_from_front, kid_from_front}
+use Rattle.hare_typed.specs.Typed.{TypedNode, marked, head_of, mark_of, kids_of, listed_nodes}
+use Rattle.hare_typed.specs.Order.{tree_from_front, kid_from_front}
 use Rattle.hare_typed.specs.Given.{given}
-use Rattle.hare_typed.specs.Coats.{with_coercion}
 use Rattle.hare_typed.specs.Constants.{own_kind}
 use Rattle.hare_rules.specs.declared.row_id.RowId.{RowId}
 use Rattle.hare_rules.specs.Aggregates.{is_path}
 use Rattle.hare_rules.specs.Context.{Context, Role, Ordinary, Callee, Length, BindingType, CaseValue, DeclaredValue, store_of, kid, own_type}
-use Rattle.hare_rules.specs.Rows.{holds, rows_in_role, first_failing}
+use Rattle.hare_rules.specs.Rows.{holds, first_failing}
 use Rattle.hare_rules.specs.Settles.{to_type, target_of, kid_coercion, settled_kid, settled_from, settled_kids}
 use Rattle.hare_rules.specs.Table.{rows_of}
-use Rattle.hare_rules.specs.Types.{type_by, type_in_role, type_of}
+use Rattle.hare_rules.specs.Types.{type_by, type_of}
 use Rattle.hare_constancy.specs.Met.{is_number, is_in_role, shown, IsJudged}
 
 -- ---- rows

@@ -1,8 +1,6 @@
 -- What rows ask of operators on numbers is enough.
-use Rattle.std.proofs.Common.{◌≡◌, ◌≢◌, ◌∙◌, sym, ap, subst, refl, ℕ, zero, suc, ◌+◌, ◌*◌, ◌<◌, ◌≤◌, length, arith, Bool, true, false, not, ◌&&◌, ◌||◌, ◌⊎◌, inl, inr, Option, Some, None}
-use Rattle.std.specs.Prelude.{ℤ, cond, nat_eq, slice_get, is_some, option_map, option_and_then, unwrap_or, IsSome, List, [], ◌∷◌}
-use Rattle.std.proofs.lemmas.Option.{slice_get_within}
-use Rattle.hare_tree.specs.declared.kind.Kind.{Kind}
+use Rattle.std.proofs.Common.{◌≡◌, ◌≢◌, ◌∙◌, sym, ap, subst, refl, ℕ, ◌<◌, length, arith, Bool, true, false, not, ◌&&◌, ◌⊎◌, inl, inr, Option, Some, None}
+use Rattle.std.specs.Prelude.{ℤ, cond, nat_eq, is_some, option_map, option_and_then, unwrap_or, IsSome, List, ◌∷◌}
 use Rattle.hare_tree.specs.declared.kind.Kind.TheVariants as kind
 use Rattle.std.specs.Prelude.{ltb}
 use Rattle.std.specs.Bool.{beq}
@@ -13,9 +11,8 @@ use Rattle.hare_types.specs.declared.row.Row.{Row}
 use Rattle.hare_types.specs.declared.row.Row.TheVariants as row
 use Rattle.hare_types.specs.declared.row.Scalar.{Scalar as Keyword}
 use Rattle.hare_types.specs.declared.row.Scalar.TheVariants as keyword
-use Rattle.hare_types.specs.Trees.{Tree, Scalar}
-use Rattle.hare_types.specs.Rows.{trees, tree_of}
-use Rattle.hare_types.specs.Assign.{wider, bits, Value, Of, Iconst, type_at, value_at, base, holds_of, signed, holds, tree_holds, default_word, is_const, is_same, is_never, table, first_from, first_row, coercion}
+use Rattle.hare_types.specs.Trees.{Tree}
+use Rattle.hare_types.specs.Assign.{wider, bits, Iconst, type_at, value_at, base, holds_of, signed, holds, tree_holds, default_word, is_const, first_from, first_row, coercion}
 use Rattle.hare_types.specs.Store.{Store}
 use Rattle.hare_types.specs.Sound.{IsStore}
 use Rattle.hare_types.specs.ByIds.{row_at, base_at}
@@ -24,7 +21,6 @@ use Rattle.hare_typed.specs.Typed.{TypedNode}
 use Rattle.hare_typed.specs.Order.{kid_from_front}
 use Rattle.hare_typed.specs.Given.{given, base_row}
 use Rattle.hare_typed.specs.Constants.{own_kind}
-use Rattle.hare_typed.specs.Scalars.{Shape, Whole}
 use Rattle.hare_typed.specs.Shapes.{shape_of_row, int_of_shape}
 use Rattle.hare_typed.specs.ConstantForms.{type_of_kid, is_iconst, int_in}
 use Rattle.hare_layout.proofs.PlacesLemmas.{then}
@@ -33,14 +29,14 @@ use Rattle.hare_assign.proofs.TypeLemmas.{type_at_row}
 use Rattle.hare_const.specs.Operators.{IsWidth}
 use Rattle.hare_const.specs.NodeValues.{HasNumber, HasNumbers}
 use Rattle.hare_rules.specs.Words as words
-use Rattle.hare_rules.specs.Words.{Common, Typed, Exact, common, common_of_types, common_type, widens, integer_word, integer_word_of, word_of, wider_word, holds_in, has_integer_base, is_integer, default_in, word_id, are_iconsts, has_default}
+use Rattle.hare_rules.specs.Words.{Common, Typed, Exact, common, common_of_types, common_type, widens, integer_word, integer_word_of, word_of, wider_word, holds_in, has_integer_base, is_integer, default_in, word_id, are_iconsts}
 use Rattle.hare_rules.specs.Context.{Context, store_of, kid, own_type}
 use Rattle.hare_rules.specs.Exact.{exact_of}
 use Rattle.hare_rules.specs.Operators.{first_seen, second_seen, unary, unary_type, operands_common, exact_type, arith_type_by, arith_type, shift_type}
 use Rattle.hare_rules.specs.Settles.{same, to_type, target_of, common_target, shift_target, only_where, default_at}
 use Rattle.hare_constancy.specs.Met.{asks_nothing, IsJudged}
 use Rattle.hare_constancy.proofs.Types.{base_in}
-use Rattle.hare_constancy.proofs.Judged.{kid_type, kid_given, kid_coerced}
+use Rattle.hare_constancy.proofs.Judged.{kid_given, kid_coerced}
 
 -- ---- bits
 
@@ -324,7 +320,8 @@ module _ (c : Context) (t : TypedNode) (v : IsStore (store_of c)) (j : IsJudged 
       is_iconst (type_of_kid i t) ≡ false
   kid_typed i u e h = by (kid_coerced c t j y i u e)
     where
-      by : (given (kid_from_front i t) ≡ (to_type (store_of c) (own_type (kid c i)) (Some u)).to) ⊎ (given (kid_from_front i t) ≡ ty.Empty) →
+      by : (given (kid_from_front i t) ≡ (to_type (store_of c) (own_type (kid c i)) (Some u)).to)
+          ⊎ (given (kid_from_front i t) ≡ ty.Empty) →
           is_iconst (type_of_kid i t) ≡ false
       by (inl g) = ap is_iconst g ∙ h
       by (inr g) = ap is_iconst g
@@ -379,7 +376,8 @@ module _ (c : Context) (t : TypedNode) (v : IsStore (store_of c)) (j : IsJudged 
       of_type ty.Null h n u d = absurd cc
       of_type ty.Empty h n u d = absurd cc
 
-      by : (b : Bool) → are_iconsts (first_seen c) (second_seen c) ≡ b → cond b (exact_type c) (words.typed_as (default_in s (first_seen c))) ≡
+      by : (b : Bool) → are_iconsts (first_seen c) (second_seen c) ≡ b →
+          cond b (exact_type c) (words.typed_as (default_in s (first_seen c))) ≡
           Some (own_type t) → HasNumber s t
       by true f h n = no_number (exact_none (exact_of c.head.kind c.head.text (first_seen c) (second_seen c)) h) n
       by false f h n =
@@ -387,6 +385,7 @@ module _ (c : Context) (t : TypedNode) (v : IsStore (store_of c)) (j : IsJudged 
           let p = of_type (first_seen c) refl i m.0 m.1 in
           let kept : first_seen c ≡ own_type (kid c 0) = j.unasked 0 a in
           let to : target_of c c.head.kind 0 ≡ Some m.0 =
-          g ∙ ap (λ b. only_where (true && not b) (default_at c 0)) f ∙ ap (default_in s) (sym kept) ∙ m.1 in
-          (subst (λ q. IsWidth (int_in s q).bits) m.2 (integer_width s (ty.Of m.0) p.0),
-          kid_typed 0 m.0 to (subst (λ q. is_iconst (to_type s q (Some m.0)).to ≡ false) kept p.1))
+          g ∙ ap (λ b. only_where (true && not b) (default_at c 0)) f ∙ ap (default_in s) (sym kept) ∙ m.1 in (
+            subst (λ q. IsWidth (int_in s q).bits) m.2 (integer_width s (ty.Of m.0) p.0),
+            kid_typed 0 m.0 to (subst (λ q. is_iconst (to_type s q (Some m.0)).to ≡ false) kept p.1),
+          )

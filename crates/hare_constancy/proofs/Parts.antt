@@ -1,6 +1,6 @@
 -- What rows ask of literals with parts, and of measures, is enough.
-use Rattle.std.proofs.Common.{◌≡◌, ◌≢◌, ◌∙◌, sym, ap, subst, refl, ℕ, zero, suc, ◌+◌, ◌-◌, ◌<◌, ◌≤◌, arith, Bool, true, false, ◌==◌, ◌&&◌, ◌⊎◌, inl, inr, List, [], ◌∷◌, length, map, drop, Option, Some, None}
-use Rattle.std.specs.Prelude.{cond, find, nat_lt, nat_eq, position, slice_get, is_some, option_map, option_and_then, unwrap_or, bytes_eq, IsSome}
+use Rattle.std.proofs.Common.{◌≡◌, ◌≢◌, ◌∙◌, sym, ap, subst, refl, ℕ, zero, suc, ◌+◌, ◌-◌, ◌<◌, arith, Bool, true, false, ◌==◌, ◌&&◌, List, [], ◌∷◌, length, map, drop, Option, Some, None}
+use Rattle.std.specs.Prelude.{cond, nat_lt, position, slice_get, is_some, option_and_then, unwrap_or, bytes_eq}
 use Rattle.std.specs.List.{All, position_or_len}
 use Rattle.std.proofs.Common.{ltb-true}
 use Rattle.std.proofs.lemmas.Bool.{eqb-true}
@@ -18,28 +18,26 @@ use Rattle.hare_types.specs.declared.coercion.Ty.TheVariants as ty
 use Rattle.hare_types.specs.Store.{Store}
 use Rattle.hare_types.specs.Sound.{IsStore}
 use Rattle.hare_types.specs.Unions.{id_of}
-use Rattle.hare_types.specs.ByIds.{row_at, base_at, field_in, field_at, fields_of}
+use Rattle.hare_types.specs.ByIds.{row_at, base_at, field_in, field_at}
 use Rattle.hare_types.proofs.IdLemmas.{id_tells}
-use Rattle.hare_typed.specs.Typed.{TypedNode, TypedNodes, marked, typed_none, typed_more, head_of, mark_of, kids_of, listed_nodes}
-use Rattle.hare_typed.specs.Order.{missing, tree_from_front, kid_from_front}
-use Rattle.hare_typed.specs.Weight.{count, items_of}
+use Rattle.hare_typed.specs.Typed.{TypedNode, TypedNodes, marked, typed_none, typed_more, head_of, kids_of, listed_nodes}
+use Rattle.hare_typed.specs.Order.{kid_from_front}
+use Rattle.hare_typed.specs.Weight.{count}
 use Rattle.hare_typed.specs.Given.{given, base_row}
 use Rattle.hare_typed.specs.Constants.{own_kind}
 use Rattle.hare_typed.specs.Followed.{reached_type}
-use Rattle.hare_typed.specs.ConstantForms.{type_of_kid, id_in, part_in, part_named, counted_from, fields_from}
+use Rattle.hare_typed.specs.ConstantForms.{type_of_kid, part_in, part_named, counted_from, fields_from}
 use Rattle.hare_layout.proofs.PlacesLemmas.{then}
 use Rattle.hare_const.specs.Sizes.{Fits, HasPart}
 use Rattle.hare_const.specs.NodeValues.{IsSized, HasParts, components_given, fields_given, type_with_offset, part_with_offset}
-use Rattle.hare_rules.specs.declared.row_id.RowId.TheVariants as rules
 use Rattle.hare_rules.specs.Words as words
 use Rattle.hare_rules.specs.Context.{Context, store_of, kid, own_type, behind_first}
-use Rattle.hare_rules.specs.Operators.{written, has_size_of}
-use Rattle.hare_rules.specs.Aggregates.{but_last, fields_in, field_values, each_once, fill, tuple_items, as_many, with_id, defaults, hinted_components, or_defaults, tuple_components, tuple_type, reached, is_component_number, field_named, name_number, field_type, member_type, is_member_access}
+use Rattle.hare_rules.specs.Operators.{has_size_of}
+use Rattle.hare_rules.specs.Aggregates.{but_last, fields_in, field_values, each_once, fill, tuple_items, as_many, with_id, defaults, hinted_components, or_defaults, tuple_components, tuple_type, reached, is_component_number, field_named, name_number, member_type}
 use Rattle.hare_rules.specs.Settles.{target_of, settled_from, settled_kids}
-use Rattle.hare_rules.specs.Types.{type_of}
-use Rattle.hare_constancy.specs.Measured.{IsKnown, IsMeasured, AreMeasured, EachMeasured}
-use Rattle.hare_constancy.specs.Met.{is_number, shown, IsJudged}
-use Rattle.hare_constancy.proofs.Judged.{row_holds, StandsAlone, kid_head, kid_type, kid_given}
+use Rattle.hare_constancy.specs.Measured.{IsKnown, IsMeasured}
+use Rattle.hare_constancy.specs.Met.{shown, IsJudged}
+use Rattle.hare_constancy.proofs.Judged.{kid_given}
 use Rattle.hare_constancy.proofs.Types.{built_fits, own_base, fields_row, part_there}
 
 -- ---- measures
@@ -95,7 +93,8 @@ length-defaults : (s : Store) (xs : List TypedNode) (is : List ℕ) → defaults
 length-defaults s [] is e = let same : [] ≡ is = cc in sym (ap length same)
 length-defaults s (x ∷ xs) is e = by (length-defaults s xs) (words.default_in s (own_type x)) (defaults s xs) refl e
   where
-    by : ((js : List ℕ) → defaults s xs ≡ Some js → length js ≡ length xs) → (o : Option ℕ) (p : Option (List ℕ)) → defaults s xs ≡ p → with_id o p ≡ Some is → length is ≡ suc (length xs)
+    by : ((js : List ℕ) → defaults s xs ≡ Some js → length js ≡ length xs) → (o : Option ℕ) (p : Option (List ℕ)) →
+        defaults s xs ≡ p → with_id o p ≡ Some is → length is ≡ suc (length xs)
     by ih None None f g = absurd cc
     by ih None (Some js) f g = absurd cc
     by ih (Some d) None f g = absurd cc
@@ -141,9 +140,11 @@ tuple_asked c t v j k y m e =
     let last = length-but_last c.kids in
     let items = length-components c parts.0 parts.1 in
     let many : length parts.0 ≡ count (kids_of t) - 1 = omega (arith, items, last, kids) in
-    subst (λ f. HasParts s f (components_given t)) (sym made.2)
-    (fits, counted_each (HasPart s made.0) 0 (count (kids_of t) - 1)
-    (λ i l. part_there s made.0 i parts.0 fits fields (omega (arith, l, many))))
+    subst (λ f. HasParts s f (components_given t)) (sym made.2) (
+      fits,
+      counted_each (HasPart s made.0) 0 (count (kids_of t) - 1)
+          (λ i l. part_there s made.0 i parts.0 fits fields (omega (arith, l, many))),
+    )
 
 -- ---- structs
 
@@ -165,14 +166,15 @@ field_within : (s : Store) (t : ℕ) (fs : List Field) (h : Head) → base_row s
     part_named s (ty.Of t) h < length fs
 field_within s t fs h e l =
     let base = then (row_at s) (base_at s t) (row.Struct fs) e in
-    let place = or_first (option_and_then (λ b. option_and_then (field_at s b) (position (bytes_eq h.text) s.names)) (base_at s t)) (length fs)
-        (λ k g.
-          let at = then (λ b. option_and_then (field_at s b) (position (bytes_eq h.text) s.names)) (base_at s t) k g in
-          let name = then (field_at s at.0) (position (bytes_eq h.text) s.names) k at.2 in
-          let same : at.0 ≡ base.0 = (let both = sym at.1 ∙ base.1 in cc) in
-          let found : field_at s base.0 name.0 ≡ Some k = subst (λ b. field_at s b name.0 ≡ Some k) same name.2 in
-          position_within (λ f. f.name == name.0) fs k (sym (ap (option_and_then (field_in name.0)) base.2) ∙ found))
-        l in
+    let place = or_first
+    (option_and_then (λ b. option_and_then (field_at s b) (position (bytes_eq h.text) s.names)) (base_at s t)) (length fs)
+    (λ k g.
+    let at = then (λ b. option_and_then (field_at s b) (position (bytes_eq h.text) s.names)) (base_at s t) k g in
+    let name = then (field_at s at.0) (position (bytes_eq h.text) s.names) k at.2 in
+    let same : at.0 ≡ base.0 = (let both = sym at.1 ∙ base.1 in cc) in
+    let found : field_at s base.0 name.0 ≡ Some k = subst (λ b. field_at s b name.0 ≡ Some k) same name.2 in
+    position_within (λ f. f.name == name.0) fs k (sym (ap (option_and_then (field_in name.0)) base.2) ∙ found))
+    l in
     subst (λ n. n < length fs) (sym (ap (part_in s (ty.Of t) h) e)) place
 
 -- a struct has the part that is named
@@ -258,15 +260,20 @@ member_there c f v k e = by f (base_row (store_of c) f) refl k e
     by : (g : Ty) (o : Option Row) → base_row s g ≡ o → IsKnown s g → is_some (member_type c o) ≡ true →
         HasParts s g (part_named s g c.head ∷ [])
     by (ty.Of u) (Some (row.Struct fs)) b m h =
-        let fits = built_fits s v u (row.Struct fs) m b refl in
-        (fits, All-cons (HasPart s u) (part_named s (ty.Of u) c.head) []
-        (struct_part s u fs c.head fits b (some_field fs (name_number s c.head.text) h)) (All-nil (HasPart s u)))
+        let fits = built_fits s v u (row.Struct fs) m b refl in (
+          fits,
+          All-cons (HasPart s u) (part_named s (ty.Of u) c.head) []
+              (struct_part s u fs c.head fits b (some_field fs (name_number s c.head.text) h)) (All-nil (HasPart s u)),
+        )
     by (ty.Of u) (Some (row.Tuple is)) b m h =
         let fits = built_fits s v u (row.Tuple is) m b refl in
         let there : is_some (slice_get is c.head.number) ≡ true = numbered (is_component_number c.head.text c.head.suffix) h in
-        let here : HasPart s u c.head.number = part_there s u c.head.number is fits (fields_row s u (row.Tuple is) b) (some_get is c.head.number there) in
-        (fits, All-cons (HasPart s u) (part_named s (ty.Of u) c.head) []
-        (subst (HasPart s u) (sym (ap (part_in s (ty.Of u) c.head) b)) here) (All-nil (HasPart s u)))
+        let here : HasPart s u c.head.number =
+        part_there s u c.head.number is fits (fields_row s u (row.Tuple is) b) (some_get is c.head.number there) in (
+          fits,
+          All-cons (HasPart s u) (part_named s (ty.Of u) c.head) []
+              (subst (HasPart s u) (sym (ap (part_in s (ty.Of u) c.head) b)) here) (All-nil (HasPart s u)),
+        )
       where
         numbered : (d : Bool) → is_some (cond d (slice_get is c.head.number) None) ≡ true → is_some (slice_get is c.head.number) ≡ true
         numbered true g = g

@@ -1,5 +1,5 @@
 -- A path to a global of which the address is taken is a place.
-use Rattle.std.proofs.Common.{◌≡◌, ◌≢◌, ◌∙◌, sym, ap, subst, refl, ℕ, Bool, true, false, not, ◌&&◌, ◌||◌, Option, Some, None}
+use Rattle.std.proofs.Common.{◌≡◌, ◌∙◌, sym, ap, refl, ℕ, Bool, true, false, not, ◌&&◌, ◌||◌, Option, Some, None}
 use Rattle.std.specs.Prelude.{nat_eq}
 use Rattle.std.proofs.lemmas.Bool.{eqb-true}
 use Rattle.hare_tree.specs.declared.kind.Kind.{Kind}
@@ -10,16 +10,15 @@ use Rattle.hare_types.specs.declared.coercion.Ty.{Ty}
 use Rattle.hare_types.specs.declared.coercion.Ty.TheVariants as ty
 use Rattle.hare_types.specs.declared.row.Row.{Row}
 use Rattle.hare_types.specs.declared.row.Row.TheVariants as row
-use Rattle.hare_types.specs.Store.{Store}
 use Rattle.hare_types.specs.ByIds.{row_at}
-use Rattle.hare_typed.specs.Typed.{TypedNode, TypedNodes, Mark, marked, typed_none, typed_more, head_of, mark_of, kids_of}
+use Rattle.hare_typed.specs.Typed.{TypedNode, Mark, marked, typed_none, typed_more, head_of, mark_of, kids_of}
 use Rattle.hare_typed.specs.Order.{kid_from_front}
 use Rattle.hare_typed.specs.Given.{base_row, first_given}
-use Rattle.hare_typed.specs.Constants.{own_kind, is_known}
+use Rattle.hare_typed.specs.Constants.{is_known}
 use Rattle.hare_typed.specs.Constancy.{is_name_of, is_void_row, names_void, is_global_path, begins_with_global}
 use Rattle.hare_typed.specs.Evaluated.{is_named, is_place_kind, first_is_place}
 use Rattle.hare_rules.specs.declared.declared.DeclType.{DeclType}
-use Rattle.hare_rules.specs.Context.{Setting, Context, declaration, kid}
+use Rattle.hare_rules.specs.Context.{Setting, declaration}
 use Rattle.hare_rules.specs.Operators.{is_type_decl, declares_type}
 use Rattle.hare_rules.specs.Places.{is_global, is_global_decl, means_place, place_by, is_place, is_first_place}
 use Rattle.hare_constancy.specs.Laws.{NamesAreTypes}

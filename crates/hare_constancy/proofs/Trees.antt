@@ -1,26 +1,23 @@
 -- A tree that meets its rows, whose types are known, is one of which the constant can be told.
-use Rattle.std.proofs.Common.{◌≡◌, ◌≢◌, ◌∙◌, sym, ap, subst, refl, ℕ, zero, suc, ◌^◌, ◌<◌, Bool, true, false, ◌&&◌, ◌⊎◌, inl, inr, List, [], ◌∷◌, Option, Some, None}
-use Rattle.std.specs.Prelude.{option_and_then}
+use Rattle.std.proofs.Common.{◌≡◌, ◌≢◌, ◌∙◌, sym, ap, subst, refl, ℕ, zero, suc, Bool, true, false, ◌&&◌, ◌⊎◌, inl, inr, [], ◌∷◌, None}
 use Rattle.hare_tree.specs.declared.kind.Kind.{Kind}
 use Rattle.hare_tree.specs.declared.kind.Kind.TheVariants as kind
-use Rattle.hare_tree.specs.Node.{Head}
 use Rattle.hare_types.specs.declared.coercion.Ty.{Ty}
 use Rattle.hare_types.specs.declared.coercion.Ty.TheVariants as ty
 use Rattle.hare_types.specs.Store.{Store}
 use Rattle.hare_types.specs.Sound.{IsStore}
-use Rattle.hare_typed.specs.Typed.{TypedNode, TypedNodes, Mark, marked, typed_none, typed_more, head_of, mark_of, kids_of, listed_nodes}
+use Rattle.hare_typed.specs.Typed.{TypedNode, TypedNodes, marked, typed_none, typed_more, head_of, kids_of, listed_nodes}
 use Rattle.hare_typed.specs.Order.{missing, tree_from_front, kid_from_front}
-use Rattle.hare_typed.specs.Given.{given, pointee}
-use Rattle.hare_typed.specs.Followed.{pointee_or, reached_within}
+use Rattle.hare_typed.specs.Given.{given}
+use Rattle.hare_typed.specs.Followed.{reached_within}
 use Rattle.hare_typed.specs.Constants.{own_kind}
 use Rattle.hare_typed.specs.ConstantForms.{own_type, type_of_kid}
-use Rattle.hare_const.specs.NodeValues.{IsSized, HasNumber, HasParts, type_with_offset, part_with_offset, AskedKind, PlainKind, IsSimple, AreSimple}
+use Rattle.hare_const.specs.NodeValues.{IsSized, HasParts, type_with_offset, part_with_offset, AskedKind, PlainKind, IsSimple, AreSimple}
 use Rattle.hare_const.specs.Settled.{HasBase, HasBases, HaveBases, IsSettled}
 use Rattle.hare_rules.specs.declared.row_id.RowId.TheVariants as rules
 use Rattle.hare_rules.specs.Context.{Setting, Context, store_of, kid}
 use Rattle.hare_rules.specs.Aggregates.{is_path, is_member_access}
 use Rattle.hare_rules.specs.Operators.{first_seen, second_seen, has_size_of, written}
-use Rattle.hare_rules.specs.Rows.{holds}
 use Rattle.hare_rules.specs.Settles.{target_of}
 use Rattle.hare_rules.specs.Table.{asked as last_rows}
 use Rattle.hare_rules.specs.Words as words
@@ -89,7 +86,8 @@ module _ (c : Context) (t : TypedNode) (v : IsStore (store_of c)) (j : IsJudged 
   no_yield k e n y = n (sym e ∙ y)
 
   measure_asked : (k : Kind) → own_kind t ≡ k → k ≢ kind.Yield → target_of c k 0 ≡ None →
-      ((i : ℕ) → given (kid c i) ≡ own_type (kid c i)) → has_size_of (store_of c) (written c 0) ≡ true → IsKnown (store_of c) (type_of_kid 0 t)
+      ((i : ℕ) → given (kid c i) ≡ own_type (kid c i)) → has_size_of (store_of c) (written c 0) ≡ true →
+      IsKnown (store_of c) (type_of_kid 0 t)
       → IsSized (store_of c) (type_of_kid 0 t)
   measure_asked k e n o u h m =
       let same : type_of_kid 0 t ≡ own_type (kid c 0) =
@@ -105,12 +103,14 @@ module _ (c : Context) (t : TypedNode) (v : IsStore (store_of c)) (j : IsJudged 
   asked_alone own first kind.Neg e l o =
       let s = alone kind.Neg e refl refl in
       let k = kind_of_context kind.Neg e in
-      unary_asked c t j (no_yield kind.Neg e (λ y. absurd cc)) (ap (λ q. target_of c q 0) k) (row_holds c rules.UnaryInteger (rules.UnaryRange ∷ last_rows) s.rows).0
+      unary_asked c t j (no_yield kind.Neg e (λ y. absurd cc)) (ap (λ q. target_of c q 0) k)
+      (row_holds c rules.UnaryInteger (rules.UnaryRange ∷ last_rows) s.rows).0
       (sym s.type ∙ j.type)
   asked_alone own first kind.Not e l o =
       let s = alone kind.Not e refl refl in
       let k = kind_of_context kind.Not e in
-      unary_asked c t j (no_yield kind.Not e (λ y. absurd cc)) (ap (λ q. target_of c q 0) k) (row_holds c rules.UnaryInteger (rules.UnaryRange ∷ last_rows) s.rows).0
+      unary_asked c t j (no_yield kind.Not e (λ y. absurd cc)) (ap (λ q. target_of c q 0) k)
+      (row_holds c rules.UnaryInteger (rules.UnaryRange ∷ last_rows) s.rows).0
       (sym s.type ∙ j.type)
   asked_alone own first kind.Arith e l o =
       let s = alone kind.Arith e refl refl in
@@ -125,11 +125,13 @@ module _ (c : Context) (t : TypedNode) (v : IsStore (store_of c)) (j : IsJudged 
       (row_holds c rules.ShiftIntegers (rules.ShiftRange ∷ rules.ShiftLeftDefault ∷ last_rows) s.rows).0) (sym s.type ∙ j.type)
   asked_alone own first kind.Size e l o =
       let s = alone kind.Size e refl refl in
-      measure_asked kind.Size e (λ y. absurd cc) refl (λ i. j.unasked i (ap asks_nothing e)) (row_holds c rules.MeasureHasSize last_rows s.rows).0
+      measure_asked kind.Size e (λ y. absurd cc) refl (λ i. j.unasked i (ap asks_nothing e))
+      (row_holds c rules.MeasureHasSize last_rows s.rows).0
       (first 0)
   asked_alone own first kind.Align e l o =
       let s = alone kind.Align e refl refl in
-      measure_asked kind.Align e (λ y. absurd cc) refl (λ i. j.unasked i (ap asks_nothing e)) (row_holds c rules.MeasureHasSize last_rows s.rows).0
+      measure_asked kind.Align e (λ y. absurd cc) refl (λ i. j.unasked i (ap asks_nothing e))
+      (row_holds c rules.MeasureHasSize last_rows s.rows).0
       (first 0)
   asked_alone own first kind.Tuple e l o =
       let s = alone kind.Tuple e refl refl in
@@ -170,7 +172,8 @@ module _ (w : Setting) (v : IsStore w.store) (d : NamesAreTypes w) where
           let m = given_measured s (kid_from_front 0 (kid_from_front 0 t)) inner in
           subst (λ r. HasParts r (type_with_offset r t) (part_with_offset r t ∷ [])) there
           (offset_asked c t (subst IsStore (sym there) v) met.2 e
-          (subst (λ r. IsMeasured r (type_of_kid 0 (kid_from_front 0 t))) (sym there) m) (row_holds c rules.FieldMember last_rows st.rows).0)
+          (subst (λ r. IsMeasured r (type_of_kid 0 (kid_from_front 0 t))) (sym there) m)
+          (row_holds c rules.FieldMember last_rows st.rows).0)
 
   asked_node : (t : TypedNode) (c : Context) → c.setting ≡ w → IsJudged c t → AreMet w (kids_of t) → IsMeasured s (own_type t) →
       EachMeasured s (kids_of t) → IsSmall (own_kind t) (head_of t).number → (k : Kind) → own_kind t ≡ k → AskedKind s t k

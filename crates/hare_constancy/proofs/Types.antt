@@ -1,6 +1,6 @@
 -- What the store says of a type, by the row of its base.
-use Rattle.std.proofs.Common.{◌≡◌, ◌∙◌, sym, ap, subst, refl, ℕ, zero, suc, ◌<◌, Bool, true, false, List, length, map, Option, Some, None}
-use Rattle.std.specs.Prelude.{slice_get, option_and_then, unwrap_or, IsSome}
+use Rattle.std.proofs.Common.{◌≡◌, ◌∙◌, sym, ap, subst, refl, ℕ, zero, suc, ◌<◌, Bool, true, false, List, length, Option, Some, None}
+use Rattle.std.specs.Prelude.{option_and_then, unwrap_or, IsSome}
 use Rattle.hare_types.specs.declared.row.Row.{Row}
 use Rattle.hare_types.specs.declared.row.Row.TheVariants as row
 use Rattle.hare_types.specs.declared.coercion.Ty.{Ty}
@@ -9,14 +9,13 @@ use Rattle.hare_types.specs.Assign.{IsIn, type_at}
 use Rattle.hare_types.specs.Bases.{base_over}
 use Rattle.hare_types.specs.Store.{Store, sized_of, definition_of, meaning_of, tree_at}
 use Rattle.hare_types.specs.Sound.{IsStore}
-use Rattle.hare_types.specs.ByIds.{row_at, found_within, base_at, sized_at, has_size_at, extent_at, fields_of, fields_at, members_of, members_at, offset_at}
+use Rattle.hare_types.specs.ByIds.{row_at, found_within, base_at, sized_at, has_size_at, fields_of, fields_at}
 use Rattle.hare_types.proofs.IdLemmas.{base-row, sized-row, sized_tells}
 use Rattle.hare_typed.specs.Given.{base_row}
 use Rattle.hare_layout.proofs.PlacesLemmas.{fields_lie_in, then}
 use Rattle.hare_assign.proofs.TypeLemmas.{tree_at-type}
 use Rattle.hare_const.specs.Sizes.{Fits, HasPart}
 use Rattle.hare_constancy.specs.Measured.{IsKnown}
-
 use Rattle.std.proofs.lemmas.Option.{slice_get_within}
 
 -- ---- sizes

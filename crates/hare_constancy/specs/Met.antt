@@ -1,6 +1,6 @@
 -- Trees of which each node meets its rows. A well-typed tree is such, and so is the value of a declaration when its constant is asked for,
 -- before the tree round it is done.
-use Rattle.std.specs.Prelude.{◌≡◌, ◌≢◌, ℕ, Bool, true, false, ◌||◌, List, map, Option, Some, None}
+use Rattle.std.specs.Prelude.{◌≡◌, ◌≢◌, ℕ, Bool, true, false, ◌||◌, map, Option, Some, None}
 use Rattle.hare_tree.specs.declared.kind.Kind.{Kind}
 use Rattle.hare_tree.specs.declared.kind.Kind.TheVariants as kind
 use Rattle.hare_tree.specs.Node.{Head}
@@ -48,8 +48,8 @@ asks_nothing kind.Size = true
 asks_nothing kind.Align = true
 asks_nothing _ = false
 
--- The node, whose context this is, meets its whole list, and has the type that follows. Its kids are those of the context, behind the node's
--- turn; what is yielded goes where the block says that it leaves.
+-- The node, whose context this is, meets its whole list, and has the type that follows. Its kids are those of the context, as they are
+-- behind the node's turn; but the kid of a `yield` goes where the tree says that it leaves.
 pub record IsJudged (c : Context) (t : TypedNode) : Type 0 where
   pub head : c.head ≡ head_of t
   pub role : is_in_role c.inside.role (own_kind t) ≡ true
