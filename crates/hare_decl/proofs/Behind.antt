@@ -4,10 +4,10 @@ use Rattle.std.proofs.lemmas.List.{drop_all}
 use Rattle.hare_tree.specs.declared.token.Token.{Token}
 use Rattle.hare_tree.specs.Node.{Node}
 use Rattle.hare_tree.specs.Grammar.{files, IsFirstFault, joined}
-use Rattle.hare_grammar.specs.Engine.{bottom}
-use Rattle.hare_grammar.specs.OneTree.{file_symbols}
+use Rattle.hare_automaton.specs.Engine.{bottom}
+use Rattle.hare_automaton.specs.OneTree.{file_symbols}
 use Rattle.hare_parse.specs.Files.{file_made}
-use Rattle.hare_table.proofs.Joining.{read_drop, drop_past}
+use Rattle.hare_ll_table.proofs.Joining.{read_drop, drop_past}
 use Rattle.hare_parse.proofs.Onward.{done_behind}
 use Rattle.hare_decl.specs.Answers.{IsEnd, IsOver, IsFile}
 use Rattle.hare_decl.proofs.Over.{over_no_end, over_behind_end, over_whole}

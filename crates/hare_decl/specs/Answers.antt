@@ -11,8 +11,8 @@ use Rattle.hare_tree.specs.Node.{Node}
 use Rattle.hare_tree.specs.Spell.{start_of, word_token}
 use Rattle.hare_tree.specs.Tokens.{IsTokens, IsFirstBreak, end_at}
 use Rattle.hare_tree.specs.Grammar.{files, unplaced, fault_at, IsDepthFault, IsFirstFault, IsLeastFault, IsFileTree, joined, StandsAt}
-use Rattle.hare_grammar.specs.Engine.{Done, run, bottom}
-use Rattle.hare_grammar.specs.OneTree.{file_symbols}
+use Rattle.hare_automaton.specs.Engine.{Done, run, bottom}
+use Rattle.hare_automaton.specs.OneTree.{file_symbols}
 use Rattle.hare_parse.specs.Files.{HaveSorts, file_made}
 use Rattle.hare_decl.specs.declared.syntax.Syntax.{Syntax}
 use Rattle.hare_decl.specs.declared.syntax.Syntax.TheVariants as sx

@@ -5,7 +5,7 @@ ghost use Rattle.hare_tree.specs.declared.place.Place.{Place};
 ghost use Rattle.hare_tree.specs.declared.token.Token.{Token};
 ghost use Rattle.hare_decl.specs.Answers as spec;
 
-use hare_gauge::depth_fault_of_file;
+use hare_recogniser::depth_fault_of_file;
 use hare_parse::{FileOutcome, read_file};
 use hare_tree::{FileTree, Kids, Suffix, Token, TokenKind, Tokens};
 use std::alloc::{AllocError, Global};

@@ -8,20 +8,20 @@ use Rattle.hare_tree.specs.Node.{Node}
 use Rattle.hare_tree.specs.Spell.{spell}
 use Rattle.hare_tree.specs.Shape.{is_shaped}
 use Rattle.hare_tree.specs.Grammar.{Spells, HasPlaces, joined, trees_of, IsViable, IsRun, IsSyntaxFault, IsDepthFault, IsTreeOf, ends_in_string, begins_with_string, StandsAt}
-use Rattle.hare_grammar.specs.Rows.{of}
-use Rattle.hare_grammar.specs.Engine.{Group, add, Done, Fails, run, bottom}
-use Rattle.hare_grammar.proofs.Places.{tokens_have_one_tree}
-use Rattle.hare_parsing.specs.Viable.{has_trees}
-use Rattle.hare_parsing.proofs.Breaks.{trees_sort}
-use Rattle.hare_parsing.proofs.Faults.{runs_fault, runs_fault_in_trees, runs_read_fronts}
-use Rattle.hare_parsing.proofs.Places.{cut}
-use Rattle.hare_parsing.proofs.Joined.{head}
-use Rattle.hare_parsing.proofs.Viable.{end}
-use Rattle.hare_depth.specs.Depth.{closed}
-use Rattle.hare_gauge.specs.Limits.{IsFirstDepth, TreesFit}
-use Rattle.hare_table.specs.Places.{IsPlace}
+use Rattle.hare_automaton.specs.Rows.{of}
+use Rattle.hare_automaton.specs.Engine.{Group, add, Done, Fails, run, bottom}
+use Rattle.hare_automaton.proofs.Places.{tokens_have_one_tree}
+use Rattle.hare_prefixes.specs.Viable.{has_trees}
+use Rattle.hare_prefixes.proofs.Breaks.{trees_sort}
+use Rattle.hare_prefixes.proofs.Faults.{runs_fault, runs_fault_in_trees, runs_read_fronts}
+use Rattle.hare_prefixes.proofs.Places.{cut}
+use Rattle.hare_prefixes.proofs.Joined.{head}
+use Rattle.hare_prefixes.proofs.Viable.{end}
+use Rattle.hare_nesting.specs.Depth.{closed}
+use Rattle.hare_recogniser.specs.Limits.{IsFirstDepth, TreesFit}
+use Rattle.hare_ll_table.specs.Places.{IsPlace}
 use Rattle.hare_tree.proofs.Fitting.{fits_tree}
-use Rattle.hare_table.proofs.Places.{and_false, drop_to}
+use Rattle.hare_ll_table.proofs.Places.{and_false, drop_to}
 use Rattle.hare_parse.proofs.Onward.{done_behind}
 use Rattle.hare_parse.specs.Answers.{IsRead, IsBroken, HasFault, fault_up_to}
 use Rattle.hare_parse.proofs.Placed.{place_dropped}

@@ -2,25 +2,25 @@
 use Rattle.std.proofs.Common.{◌≡◌, ℕ, ◌<◌, ◌≤◌, List, [], ◌∷◌, ◌++◌, Bool, true, false, ◌&&◌, drop, length, refl, ap, sym, ◌∙◌, subst}
 use Rattle.std.proofs.lemmas.List.{drop_all}
 use Rattle.hare_tree.specs.declared.token.Token.{Token}
-use Rattle.hare_grammar.specs.declared.class.Class.{Class}
-use Rattle.hare_grammar.specs.declared.class.Class.TheVariants as cl
-use Rattle.hare_grammar.specs.declared.rule.Symbol.{Symbol}
-use Rattle.hare_grammar.specs.Classes.{class_of}
-use Rattle.hare_grammar.specs.Engine.{Group, Step, Goes, Ends, Stuck, step, Outcome, Done, Fails, after, run, bottom}
+use Rattle.hare_automaton.specs.declared.class.Class.{Class}
+use Rattle.hare_automaton.specs.declared.class.Class.TheVariants as cl
+use Rattle.hare_automaton.specs.declared.rule.Symbol.{Symbol}
+use Rattle.hare_automaton.specs.Classes.{class_of}
+use Rattle.hare_automaton.specs.Engine.{Group, Step, Goes, Ends, Stuck, step, Outcome, Done, Fails, after, run, bottom}
 use Rattle.hare_tree.specs.Grammar.{joined, ends_in_string}
-use Rattle.hare_parsing.proofs.Places.{cut}
-use Rattle.hare_parsing.proofs.Joined.{head, joined_append}
-use Rattle.hare_parsing.proofs.Viable.{end}
-use Rattle.hare_depth.proofs.Claims.{seen_step}
-use Rattle.hare_depth.proofs.Piles.{frames}
-use Rattle.hare_depth.proofs.SeenSteps.{steps_are_seen}
-use Rattle.hare_depth.proofs.Unused.{step_unused}
-use Rattle.hare_table.specs.declared.answer.Answer.{Answer}
-use Rattle.hare_table.specs.declared.answer.Answer.TheVariants as an
+use Rattle.hare_prefixes.proofs.Places.{cut}
+use Rattle.hare_prefixes.proofs.Joined.{head, joined_append}
+use Rattle.hare_prefixes.proofs.Viable.{end}
+use Rattle.hare_nesting.proofs.Claims.{seen_step}
+use Rattle.hare_nesting.proofs.Piles.{frames}
+use Rattle.hare_nesting.proofs.SeenSteps.{steps_are_seen}
+use Rattle.hare_nesting.proofs.Unused.{step_unused}
+use Rattle.hare_ll_table.specs.declared.answer.Answer.{Answer}
+use Rattle.hare_ll_table.specs.declared.answer.Answer.TheVariants as an
 use Rattle.hare_parse.specs.Steps.{Says}
 use Rattle.hare_parse.specs.declared.run.Reached.{Reached}
 use Rattle.hare_parse.specs.declared.run.Reached.TheVariants as re
-use Rattle.hare_depth.specs.Depth.{closed}
+use Rattle.hare_nesting.specs.Depth.{closed}
 use Rattle.hare_parse.specs.Runs.{outcome_at_end, IsUsedUp}
 use Rattle.hare_parse.proofs.Onward.{done_behind, done_more, fails_more}
 

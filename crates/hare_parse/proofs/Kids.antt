@@ -1,7 +1,7 @@
 -- What taking out the last kid leaves.
 use Rattle.std.proofs.Common.{◌≡◌, List, [], ◌∷◌, ◌++◌, refl, ap}
 use Rattle.hare_tree.specs.Node.{Node}
-use Rattle.hare_grammar.specs.Engine.{last_kid, but_last}
+use Rattle.hare_automaton.specs.Engine.{last_kid, but_last}
 
 pub last_kid_append : (ks : List Node) (t : Node) → last_kid (ks ++ t ∷ []) ≡ t ∷ []
 last_kid_append [] t = refl

@@ -1,10 +1,10 @@
 -- A run goes on behind the tokens that it has used, whatever stands there.
 use Rattle.std.proofs.Common.{◌≡◌, ℕ, List, [], ◌∷◌, ◌++◌, refl}
 use Rattle.hare_tree.specs.declared.token.Token.{Token}
-use Rattle.hare_grammar.specs.declared.rule.Symbol.{Symbol}
-use Rattle.hare_grammar.specs.Classes.{class_of}
-use Rattle.hare_grammar.specs.Engine.{Group, Step, Goes, Ends, Stuck, step, Done, Fails, after, run}
-use Rattle.hare_table.specs.declared.answer.Answer.TheVariants as an
+use Rattle.hare_automaton.specs.declared.rule.Symbol.{Symbol}
+use Rattle.hare_automaton.specs.Classes.{class_of}
+use Rattle.hare_automaton.specs.Engine.{Group, Step, Goes, Ends, Stuck, step, Done, Fails, after, run}
+use Rattle.hare_ll_table.specs.declared.answer.Answer.TheVariants as an
 use Rattle.hare_parse.specs.Steps.{Says}
 
 -- a token that is used

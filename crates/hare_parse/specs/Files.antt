@@ -8,7 +8,7 @@ use Rattle.hare_tree.specs.declared.token.Token.{Token}
 use Rattle.hare_tree.specs.Node.{Node, head}
 use Rattle.hare_tree.specs.Spell.{start_of}
 use Rattle.hare_tree.specs.Shape.{is_shaped}
-use Rattle.hare_grammar.specs.Engine.{Group, Outcome, Done, Fails, begun}
+use Rattle.hare_automaton.specs.Engine.{Group, Outcome, Done, Fails, begun}
 use Rattle.hare_tree.specs.Grammar.{joined}
 use Rattle.hare_parse.specs.declared.file.FileOutcome.{FileOutcome}
 use Rattle.hare_parse.specs.declared.file.FileOutcome.TheVariants as ou

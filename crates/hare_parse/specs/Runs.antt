@@ -2,17 +2,17 @@
 use Rattle.std.specs.Prelude.{◌≡◌, ℕ, ◌≤◌, List, [], Bool, true, false, drop, length}
 use Rattle.hare_tree.specs.declared.token.Token.{Token}
 use Rattle.hare_tree.specs.Node.{Node}
-use Rattle.hare_grammar.specs.declared.rule.Symbol.{Symbol}
-use Rattle.hare_grammar.specs.Classes.{class_of}
-use Rattle.hare_grammar.specs.Engine.{Group, Outcome, Done, Fails, add, bottom, step}
+use Rattle.hare_automaton.specs.declared.rule.Symbol.{Symbol}
+use Rattle.hare_automaton.specs.Classes.{class_of}
+use Rattle.hare_automaton.specs.Engine.{Group, Outcome, Done, Fails, add, bottom, step}
 use Rattle.hare_tree.specs.Grammar.{joined}
-use Rattle.hare_table.specs.Joined.{BeginsWith}
+use Rattle.hare_ll_table.specs.Joined.{BeginsWith}
 use Rattle.hare_parse.specs.declared.reader.Outcome.{Outcome as Answered}
 use Rattle.hare_parse.specs.declared.reader.Outcome.TheVariants as ou
 use Rattle.hare_parse.specs.declared.run.Read.{Read}
 use Rattle.hare_parse.specs.declared.run.Reached.{Reached}
 use Rattle.hare_parse.specs.declared.run.Reached.TheVariants as re
-use Rattle.hare_depth.specs.Depth.{closed}
+use Rattle.hare_nesting.specs.Depth.{closed}
 use Rattle.hare_parse.specs.Steps.{Says}
 
 -- What came of the first of the joined tokens from a place on: the answer, and the place of the next.

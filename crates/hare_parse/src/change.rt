@@ -2,12 +2,12 @@
 
 ghost use Rattle.std.specs.Prelude.{◌≡◌, ◌∷◌, [], OnOk};
 ghost use Rattle.hare_tree.specs.Spell as spell;
-ghost use Rattle.hare_grammar.specs.Engine as engine;
+ghost use Rattle.hare_automaton.specs.Engine as engine;
 
 use crate::group::Group;
 use crate::whole::{bare_leaf, full_leaf};
-use hare_grammar::Change;
-use hare_table::{Pile, Spare};
+use hare_automaton::Change;
+use hare_ll_table::{Pile, Spare};
 use hare_tree::{Kind, Place, Token, Tree};
 use std::alloc::{AllocError, Global};
 

@@ -3,14 +3,14 @@
 ghost use Rattle.std.specs.Prelude.{◌≡◌, ◌++◌, ◌≤◌, [], ◌∷◌, length, drop, IfOk, OnOk};
 ghost use Rattle.hare_tree.specs.Grammar.{joined, StandsAt};
 ghost use Rattle.hare_tree.specs.Spell.{start_of};
-ghost use Rattle.hare_grammar.specs.Engine as engine;
-ghost use Rattle.hare_grammar.specs.OneTree.{file_symbols};
+ghost use Rattle.hare_automaton.specs.Engine as engine;
+ghost use Rattle.hare_automaton.specs.OneTree.{file_symbols};
 ghost use Rattle.hare_parse.specs.Files as spec;
 
 use crate::group::Group;
 use crate::run::{Reached, bottom, run};
-use hare_grammar::Rule;
-use hare_table::{Pile, part, push_waits};
+use hare_automaton::Rule;
+use hare_ll_table::{Pile, part, push_waits};
 use hare_tree::{Kids, Kind, Sort, Tokens, Tree};
 use std::alloc::{AllocError, Global};
 

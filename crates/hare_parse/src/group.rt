@@ -2,10 +2,10 @@
 
 ghost use Rattle.std.specs.Prelude.{◌≡◌, [], ◌∷◌, ◌++◌, IfNone, IfOk, IfSome, OnOk, MatchOption};
 ghost use Rattle.hare_tree.specs.Node.{branch, nodes_of};
-ghost use Rattle.hare_grammar.specs.Engine as engine;
+ghost use Rattle.hare_automaton.specs.Engine as engine;
 
 use crate::whole::kids_of;
-use hare_table::Spare;
+use hare_ll_table::Spare;
 use hare_tree::{Kind, Place, Suffix, Token, Tree, Word};
 use std::alloc::{AllocError, Global};
 use std::marker::Model;
@@ -26,7 +26,7 @@ impl Model for Group {
     ghost use Rattle.hare_tree.specs.contracts.place.Place as p;
     ghost use Rattle.hare_tree.specs.contracts.token.Suffix as s;
     ghost use Rattle.hare_tree.specs.Node.{node_code};
-    ghost use Rattle.hare_grammar.specs.Engine as machine;
+    ghost use Rattle.hare_automaton.specs.Engine as machine;
 
     ghost Value = { machine.Group };
 

@@ -6,12 +6,12 @@ ghost use Rattle.hare_tree.specs.declared.form.Sort.TheVariants as so;
 ghost use Rattle.hare_tree.specs.Forms as forms;
 ghost use Rattle.hare_tree.specs.Node.{Node};
 ghost use Rattle.hare_tree.specs.Grammar.{trees_of, place_of, IsDepthFault};
-ghost use Rattle.hare_parsing.specs.Viable.{has_trees};
-ghost use Rattle.hare_gauge.specs.Limits.{TreesFit};
+ghost use Rattle.hare_prefixes.specs.Viable.{has_trees};
+ghost use Rattle.hare_recogniser.specs.Limits.{TreesFit};
 ghost use Rattle.hare_parse.specs.Answers as spec;
 
 use crate::reader::{Outcome, read};
-use hare_gauge::depth_fault;
+use hare_recogniser::depth_fault;
 use hare_tree::{Fault, Place, Sort, Stop, Tokens, Tree};
 use std::alloc::Global;
 

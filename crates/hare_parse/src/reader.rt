@@ -4,18 +4,18 @@ ghost use Rattle.std.specs.Prelude.{◌≡◌, [], ◌∷◌, drop, IfOk};
 ghost use Rattle.hare_tree.specs.declared.token.TokenKind.TheVariants as kinds;
 ghost use Rattle.hare_tree.specs.Spell.{word_token};
 ghost use Rattle.hare_tree.specs.Grammar.{joined};
-ghost use Rattle.hare_grammar.specs.Rows as rows;
-ghost use Rattle.hare_grammar.specs.Engine as engine;
-ghost use Rattle.hare_table.specs.Seen.{waited};
-ghost use Rattle.hare_table.specs.Places.{IsPlace};
-ghost use Rattle.hare_depth.specs.Depth.{closed};
+ghost use Rattle.hare_automaton.specs.Rows as rows;
+ghost use Rattle.hare_automaton.specs.Engine as engine;
+ghost use Rattle.hare_ll_table.specs.Seen.{waited};
+ghost use Rattle.hare_ll_table.specs.Places.{IsPlace};
+ghost use Rattle.hare_nesting.specs.Depth.{closed};
 ghost use Rattle.hare_parse.specs.Runs as spec;
 
 use crate::change::start_of;
 use crate::group::Group;
 use crate::run::{Reached, bottom, run};
 use crate::step::step;
-use hare_table::{Answer, Pile, RowBuffer, Spare, Wait, class_of, of};
+use hare_ll_table::{Answer, Pile, RowBuffer, Spare, Wait, class_of, of};
 use hare_tree::{Sort, Suffix, Token, TokenKind, Tokens, Tree, Word};
 use std::alloc::{AllocError, Global};
 

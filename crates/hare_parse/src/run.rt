@@ -3,15 +3,15 @@
 ghost use Rattle.std.specs.Prelude.{◌≡◌, ◌++◌, List, Some, drop, slice_get, IfOk};
 ghost use Rattle.hare_tree.specs.declared.token.Token.{Token};
 ghost use Rattle.hare_tree.specs.Grammar.{joined};
-ghost use Rattle.hare_grammar.specs.Engine as engine;
-ghost use Rattle.hare_table.specs.Seen.{waited};
-ghost use Rattle.hare_table.specs.Places.{IsPlace};
+ghost use Rattle.hare_automaton.specs.Engine as engine;
+ghost use Rattle.hare_ll_table.specs.Seen.{waited};
+ghost use Rattle.hare_ll_table.specs.Places.{IsPlace};
 ghost use Rattle.hare_parse.specs.Runs as spec;
 
 use crate::change::start_of;
 use crate::group::Group;
 use crate::step::step;
-use hare_table::{
+use hare_ll_table::{
     Answer, Joined, Pile, RowBuffer, Spare, Wait, class_of, is_proper_string, place_behind,
     strings_at,
 };
@@ -44,7 +44,7 @@ pub fn bottom(alloc: Global) -> Result<Pile<Group>, AllocError>
 }
 
 /// Reads the tokens of the file from a place of the list on.
-#[tactic(auto, unfolding(hare_grammar::specs::Engine::run))]
+#[tactic(auto, unfolding(hare_automaton::specs::Engine::run))]
 pub fn run(
     alloc: Global,
     file: u32,

@@ -1,14 +1,14 @@
 //! What comes of one token.
 
 ghost use Rattle.std.specs.Prelude.{◌≡◌, IfOk};
-ghost use Rattle.hare_grammar.specs.Engine as engine;
-ghost use Rattle.hare_table.specs.Seen.{waited, has_room};
+ghost use Rattle.hare_automaton.specs.Engine as engine;
+ghost use Rattle.hare_ll_table.specs.Seen.{waited, has_room};
 ghost use Rattle.hare_parse.specs.Steps.{Says};
 
 use crate::change::{all_changed, close};
 use crate::group::Group;
-use hare_grammar::{Class, Symbol};
-use hare_table::{
+use hare_automaton::{Class, Symbol};
+use hare_ll_table::{
     Answer, Pile, Row, RowBuffer, Spare, Wait, has_sign, next_symbol, push_waits, row_at,
 };
 use hare_tree::{Token, Tree};
@@ -16,7 +16,7 @@ use std::alloc::AllocError;
 
 /// Reads one token of the file, of which the class is given: the trees under way that are whole in front of it are closed, and it is used
 /// by the first rule that has a place for it. Rows are made in the buffer.
-#[tactic(auto, unfolding(hare_grammar::specs::Engine::step))]
+#[tactic(auto, unfolding(hare_automaton::specs::Engine::step))]
 pub fn step(
     spare: &mut Spare<Tree>,
     file: u32,

@@ -1,7 +1,7 @@
 //! Trees that are whole.
 
 ghost use Rattle.std.specs.Prelude.{◌≡◌, IfOk};
-ghost use Rattle.hare_grammar.specs.Engine as engine;
+ghost use Rattle.hare_automaton.specs.Engine as engine;
 
 use hare_tree::{Kids, Kind, Place, Suffix, Token, Tree, Word};
 use std::alloc::{AllocError, Global};

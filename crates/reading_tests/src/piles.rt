@@ -1,6 +1,6 @@
 //! Piles and spare lists of bytes.
 
-use hare_table::{Pile, Spare};
+use hare_ll_table::{Pile, Spare};
 use std::test::Fail;
 
 #[test]

@@ -1,5 +1,5 @@
 use Rattle.std.proofs.Common.{◌≡◌, drop}
-use Rattle.hare_grammar.specs.Engine.{all_changed}
+use Rattle.hare_automaton.specs.Engine.{all_changed}
 use Rattle.hare_parse.proofs.change.all_changed.Given as goal
 
 abbrev pub invariant-loop-change : goal.invariant-loop-change

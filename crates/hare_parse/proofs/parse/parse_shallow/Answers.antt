@@ -1,5 +1,5 @@
 use Rattle.std.proofs.Common.{◌-◌, drop, ap, ◌∙◌, subst}
-use Rattle.hare_table.specs.Places.{IsPlace}
+use Rattle.hare_ll_table.specs.Places.{IsPlace}
 use Rattle.hare_parse.specs.Runs.{outcome_of, place_of}
 use Rattle.hare_parse.specs.Answers.{IsRead}
 use Rattle.hare_parse.proofs.Answered.{done_is_parsed, stuck_is_fault}

@@ -2,10 +2,10 @@ use Rattle.std.proofs.Common.{rules, arith, ◌≡◌, ◌<◌, ◌≤◌, [], �
 use Rattle.std.proofs.lemmas.Bool.Decides.{nat_tests}
 use Rattle.std.proofs.lemmas.Grind.{common_steps}
 use Rattle.hare_tree.specs.Grammar.{joined}
-use Rattle.hare_grammar.specs.Rows.{of}
-use Rattle.hare_grammar.specs.Engine.{Done, Fails, run, bottom}
-use Rattle.hare_table.specs.Seen.{waited}
-use Rattle.hare_depth.specs.Depth.{closed}
+use Rattle.hare_automaton.specs.Rows.{of}
+use Rattle.hare_automaton.specs.Engine.{Done, Fails, run, bottom}
+use Rattle.hare_ll_table.specs.Seen.{waited}
+use Rattle.hare_nesting.specs.Depth.{closed}
 use Rattle.hare_parse.specs.Runs.{outcome_at_end, IsUsedUp}
 use Rattle.hare_parse.proofs.Made.{holds_tree}
 use Rattle.hare_parse.proofs.AtEnd.{done_closed, fails_closed, used_closed, is_used_up}

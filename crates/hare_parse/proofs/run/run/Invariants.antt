@@ -1,9 +1,9 @@
 use Rattle.std.proofs.Common.{◌≡◌, ◌-◌, ◌++◌, List, length, drop}
 use Rattle.hare_tree.specs.declared.token.Token.{Token}
 use Rattle.hare_tree.specs.Grammar.{joined}
-use Rattle.hare_grammar.specs.Engine.{run}
-use Rattle.hare_table.specs.Places.{IsPlace}
-use Rattle.hare_table.specs.Seen.{waited}
+use Rattle.hare_automaton.specs.Engine.{run}
+use Rattle.hare_ll_table.specs.Places.{IsPlace}
+use Rattle.hare_ll_table.specs.Seen.{waited}
 use Rattle.hare_parse.proofs.run.run.Given as goal
 
 abbrev pub invariant-loop-token : goal.invariant-loop-token

@@ -1,6 +1,6 @@
 use Rattle.std.proofs.Common.{◌≡◌, length}
-use Rattle.hare_grammar.specs.Engine.{step}
-use Rattle.hare_table.specs.Seen.{waited}
+use Rattle.hare_automaton.specs.Engine.{step}
+use Rattle.hare_ll_table.specs.Seen.{waited}
 use Rattle.hare_parse.proofs.step.step.Given as goal
 
 abbrev pub invariant-loop-symbol : goal.invariant-loop-symbol

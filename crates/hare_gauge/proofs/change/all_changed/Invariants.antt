@@ -1,8 +1,0 @@
-use Rattle.std.proofs.Common.{◌≡◌, drop}
-use Rattle.hare_depth.specs.Marks.{all_changed}
-use Rattle.hare_gauge.specs.Capped.{capped}
-use Rattle.hare_gauge.proofs.change.all_changed.Given as goal
-
-abbrev pub invariant-loop-change : goal.invariant-loop-change
-invariant-loop-change l =
-    capped (all_changed l.number l.changes l.fn.frames) ≡ capped (all_changed l.number (drop l.change-index l.changes) l.frames)

@@ -1,0 +1,75 @@
+//! What is waited for: a pile of symbols, of which those that a form is read by stand as one entry.
+
+ghost use Rattle.std.specs.Prelude.{◌≡◌, [], ◌∷◌, ◌++◌, List, ℕ, drop, OnOk, IfOk, MatchOption};
+ghost use Rattle.std.specs.Option.{option_to_list};
+ghost use Rattle.hare_tree.specs.declared.form.Piece.{Piece};
+ghost use Rattle.hare_automaton.specs.Rows.{symbols, rest_of};
+ghost use Rattle.hare_ll_table.specs.Seen.{waited};
+
+use crate::pile::Pile;
+use crate::row::Wait;
+use hare_automaton::{Rule, Symbol};
+use hare_tree::{Kind, Piece, form_of};
+use std::alloc::AllocError;
+
+/// Puts what is waited for on the pile, the first of it on top. An error is want of memory; part of it may be on the pile then.
+pub fn push_waits(stack: &mut Pile<Wait>, waits: &[Wait]) -> Result<(), AllocError>
+    ensures { OnOk result (waited stack.new ≡ waited waits.now ++ waited stack.old) }
+{
+    let mut left = waits.len();
+    while left > 0 {
+        left -= 1;
+        stack.push(waits[left])?;
+    }
+    Ok(())
+}
+
+/// Takes the symbol that is waited for next; none where nothing is. What is left of a form goes on the pile again: an error is want of
+/// memory for it.
+pub fn next_symbol(stack: &mut Pile<Wait>) -> Result<Option<Symbol>, AllocError>
+    ensures { IfOk result (λ next. MatchOption next ((waited stack.old ≡ []) × (waited stack.new ≡ []))
+        (λ s. waited stack.old ≡ s ∷ waited stack.new)) }
+{
+    match stack.pop() {
+        None => Ok(None),
+        Some(Wait::One(symbol)) => Ok(Some(symbol)),
+        Some(Wait::Rest(from, kind)) => Ok(Some(next_of_form(stack, from, kind)?)),
+    }
+}
+
+/// The next symbol of what is left of a form, which goes on the pile again without it.
+fn next_of_form(stack: &mut Pile<Wait>, from: usize, kind: Kind) -> Result<Symbol, AllocError>
+    ensures { IfOk result (λ s. rest_of from kind ++ waited stack.old ≡ s ∷ waited stack.new) }
+{
+    let form = form_of(kind);
+    let mut at = from;
+    while let Some(piece) = form.get(at) {
+        at += 1;
+        if let Some(symbol) = symbol_of(*piece) {
+            stack.push(Wait::Rest(at, kind))?;
+            return Ok(symbol);
+        }
+    }
+    Ok(Symbol::Close(kind))
+}
+
+/// What is waited for in order to read a piece. A kid with a sign behind it and the value of a `yield` are read by rules of their own.
+fn symbol_of(piece: Piece) -> Option<Symbol>
+    ensures { (ps : List Piece) → symbols (piece ∷ ps) ≡ option_to_list result ++ symbols ps }
+{
+    match piece {
+        Piece::Fixed(sign) => Some(Symbol::Want(sign)),
+        Piece::Own(own) => Some(Symbol::Part(Rule::Own(own))),
+        Piece::Kid(sort) => Some(Symbol::Part(Rule::Of(sort))),
+        Piece::Optional(sort) => Some(Symbol::Part(Rule::Optional(sort))),
+        Piece::Led(sign, sort) => Some(Symbol::Part(Rule::Led(sign, sort))),
+        Piece::Followed(_, _) | Piece::Value(_) => None,
+        Piece::Each(sort) => Some(Symbol::Part(Rule::Each(sort))),
+        Piece::EachLed(sign, sort) => Some(Symbol::Part(Rule::EachLed(sign, sort))),
+        Piece::EachFollowed(sort, sign) => Some(Symbol::Part(Rule::EachFollowed(sort, sign))),
+        Piece::More(sort) => Some(Symbol::Part(Rule::More(sort))),
+        Piece::List(sort) => Some(Symbol::Part(Rule::List(sort))),
+        Piece::Elements(_) => Some(Symbol::Part(Rule::Elements)),
+        Piece::MoreElements(_) => Some(Symbol::Part(Rule::MoreElements)),
+    }
+}
