@@ -16,10 +16,10 @@ use Rattle.hare_tree.specs.Depth.{is_nil, is_shallow, fits_file}
 use Rattle.hare_tree.specs.Tokens.{IsTokens, Reads, Stands, end_at, place_at, is_path_mark, no_gap}
 use Rattle.hare_tree.specs.Grammar.{is_proper_string, string_at, joined_to, joined, before_end, unplaced, Spells, IsFileTree}
 use Rattle.hare_automaton.specs.OneTree.{plain, plains, plain_head, plain_file}
-use Rattle.hare_automaton.proofs.Files.{files_have_one_tree}
-use Rattle.hare_automaton.proofs.Still.{still_append, still_led, still_spells}
-use Rattle.hare_prefixes.proofs.Whole.{whole_runs_make_files, files_have_whole_runs}
-use Rattle.hare_nesting.proofs.Placeless.{roots_pass_alike}
+use Rattle.hare_automaton.proofs.Spelled.Files.{files_have_one_tree}
+use Rattle.hare_automaton.proofs.Machine.Still.{still_append, still_led, still_spells}
+use Rattle.hare_prefixes.proofs.Outcomes.Whole.{whole_runs_make_files, files_have_whole_runs}
+use Rattle.hare_nesting.proofs.ByTheLetter.Placeless.{roots_pass_alike}
 use Rattle.hare_lex.proofs.Unique.{only_tokens}
 use Rattle.hare_pieces.specs.Pieces.{ConsistsOf}
 use Rattle.hare_ways.specs.declared.way.Way.{Way}

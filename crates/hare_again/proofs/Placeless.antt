@@ -15,7 +15,7 @@ use Rattle.hare_tree.specs.Spell.{Spelled, own_tokens, piece_tokens, left_behind
 use Rattle.hare_tree.specs.Shape.{Ending, form_stops, stops, stops_each}
 use Rattle.hare_tree.specs.Depth.{begins, begins_in, begins_led, first_number, numbers_behind}
 use Rattle.hare_automaton.specs.OneTree.{plain, plains, plain_head}
-use Rattle.hare_automaton.proofs.Places.{spells_plain}
+use Rattle.hare_automaton.proofs.Unambiguous.Places.{spells_plain}
 use Rattle.hare_ways.specs.declared.way.Start.TheVariants.{Begins}
 use Rattle.hare_ways.specs.declared.breaks.Breaks.{Breaks}
 use Rattle.hare_ways.specs.Breaks.{Item, is_fixed, sign_at, is_commented, has_comment, has_case_comment, is_broken, is_list, is_case, has_own_lines, wants_comma, kids_behind, opening, closing, breaks_of}

@@ -8,8 +8,8 @@ use Rattle.hare_tree.specs.Node.{Node}
 use Rattle.hare_tree.specs.Shape.{is_shaped, is_shaped_file}
 use Rattle.hare_tree.specs.Grammar.{files, IsFirstFault, is_proper_string, joined, StandsAt}
 use Rattle.hare_automaton.specs.Engine.{Group, Done}
-use Rattle.hare_automaton.proofs.Paths.{split}
-use Rattle.hare_prefixes.proofs.Joined.{Head, head}
+use Rattle.hare_automaton.proofs.Spelled.Paths.{split}
+use Rattle.hare_prefixes.proofs.Joining.Joined.{Head, head}
 use Rattle.hare_parse.specs.Files.{HaveSorts, file_made}
 use Rattle.hare_parse.proofs.FileParts.{parts_once}
 use Rattle.hare_decl.specs.Answers.{IsEnd, IsOver, IsFile}

@@ -5,11 +5,11 @@ use Rattle.hare_tree.specs.Grammar.{files, IsDepthFault, IsFirstFault, IsFileTre
 use Rattle.hare_tree.proofs.Fitting.{fits_file_parts, file_fits}
 use Rattle.hare_automaton.specs.Engine.{Group, Outcome, Done, Fails, run, bottom}
 use Rattle.hare_automaton.specs.OneTree.{file_symbols}
-use Rattle.hare_automaton.proofs.Files.{tokens_have_one_file}
+use Rattle.hare_automaton.proofs.Spelled.Files.{tokens_have_one_file}
 use Rattle.hare_prefixes.specs.Whole.{MakesFile}
-use Rattle.hare_prefixes.proofs.Whole.{whole_runs_make_files, files_have_whole_runs}
-use Rattle.hare_prefixes.proofs.FileFaults.{file_runs_fault, file_runs_are_over, file_runs_use_all}
-use Rattle.hare_nesting.proofs.Firsts.{first_syntax, viable_no_first}
+use Rattle.hare_prefixes.proofs.Outcomes.Whole.{whole_runs_make_files, files_have_whole_runs}
+use Rattle.hare_prefixes.proofs.FirstFault.FileFaults.{file_runs_fault, file_runs_are_over, file_runs_use_all}
+use Rattle.hare_nesting.proofs.LeastFault.Firsts.{first_syntax, viable_no_first}
 use Rattle.hare_decl.specs.Answers.{IsEnd, IsFile, IsCut}
 
 -- no limit is passed

@@ -6,10 +6,10 @@ use Rattle.hare_tree.specs.Tokens.{end_at}
 use Rattle.hare_tree.specs.Grammar.{files, IsDepthFault, IsFirstFault, joined, StandsAt}
 use Rattle.hare_automaton.specs.Engine.{Fails, run, bottom}
 use Rattle.hare_automaton.specs.OneTree.{file_symbols}
-use Rattle.hare_prefixes.proofs.Joined.{head}
-use Rattle.hare_prefixes.proofs.Places.{cut}
-use Rattle.hare_prefixes.proofs.FileFaults.{file_runs_use_no_end}
-use Rattle.hare_nesting.proofs.Firsts.{first_depth}
+use Rattle.hare_prefixes.proofs.Joining.Joined.{head}
+use Rattle.hare_prefixes.proofs.Joining.Places.{cut}
+use Rattle.hare_prefixes.proofs.FirstFault.FileFaults.{file_runs_use_no_end}
+use Rattle.hare_nesting.proofs.LeastFault.Firsts.{first_depth}
 use Rattle.hare_recogniser.specs.Limits.{IsFirstDepth}
 use Rattle.hare_decl.specs.Answers.{IsCut, HasEnd}
 use Rattle.hare_decl.proofs.Runs.{IsShallow, stuck_first, used_up_cut}

@@ -15,7 +15,7 @@ use Rattle.hare_tree.specs.Shape.{is_none, is_shaped, kid_pieces}
 use Rattle.hare_tree.specs.Depth.{begins, first_number, numbers_behind, place_in, is_operator}
 use Rattle.hare_tree.specs.Grammar.{place_of, HasPlaces, HavePlaces}
 use Rattle.hare_lex.specs.Order.{is_before}
-use Rattle.hare_nesting.proofs.FormKids.{has_form, have_forms, kids_have_forms, shaped_has_form, pieces_some}
+use Rattle.hare_nesting.proofs.ByTheLetter.FormKids.{has_form, have_forms, kids_have_forms, shaped_has_form, pieces_some}
 use Rattle.hare_typed.specs.Erased.{heads, heads_each}
 use Rattle.hare_modules.specs.Uses.{place_of as place_of_node}
 use Rattle.hare_graph.proofs.Elements.{Contains-none, Contains-cases}

@@ -15,7 +15,7 @@ use Rattle.hare_tree.specs.Shape.{is_shaped, is_shaped_file}
 use Rattle.hare_tree.specs.Depth.{begins_led, is_shallow}
 use Rattle.hare_tree.specs.Grammar.{place_of, joined, joined_to, is_proper_string, string_at, unplaced, HavePlaces}
 use Rattle.hare_lex.specs.Order.{is_before, AreOfFile}
-use Rattle.hare_prefixes.proofs.Moved.{side_moved}
+use Rattle.hare_prefixes.proofs.Outcomes.Moved.{side_moved}
 use Rattle.hare_graph.proofs.Elements.{Contains-none, Contains-cases, Contains-here, Contains-behind}
 use Rattle.hare_names.specs.Answers.{IsFileOf}
 use Rattle.hare_names.proofs.TurnLemmas.{InTurn, side_turns}

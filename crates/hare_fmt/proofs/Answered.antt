@@ -1,7 +1,7 @@
 -- What the call that lays out a file answers.
 use Rattle.std.proofs.Common.{◌≡◌, ℕ, List, Result, Ok, Err, ap, sym, subst}
 use Rattle.std.specs.Prelude.{IsErrAnd}
-use Rattle.hare_automaton.proofs.Files.{tokens_have_one_file}
+use Rattle.hare_automaton.proofs.Spelled.Files.{tokens_have_one_file}
 use Rattle.hare_decl.specs.Answers.{IsSource}
 use Rattle.hare_lines.specs.Layout.{IsLaidOut}
 use Rattle.hare_fmt.specs.Answer.{GivesText}

@@ -23,8 +23,8 @@ use Rattle.hare_tree.specs.Shape.{is_none, is_shaped, is_shaped_file, are_kids, 
 use Rattle.hare_tree.specs.Depth.{begins, begins_led, first_number, numbers_behind, place_in, is_node, is_operator, is_shallow}
 use Rattle.hare_tree.specs.Grammar.{place_of, joined, joined_to, is_proper_string, string_at, unplaced, HasPlaces, HavePlaces}
 use Rattle.hare_lex.specs.Order.{is_before, AreOfFile}
-use Rattle.hare_prefixes.proofs.Moved.{side_moved}
-use Rattle.hare_nesting.proofs.FormKids.{has_form, have_forms, kids_have_forms, all_have_forms, node_some}
+use Rattle.hare_prefixes.proofs.Outcomes.Moved.{side_moved}
+use Rattle.hare_nesting.proofs.ByTheLetter.FormKids.{has_form, have_forms, kids_have_forms, all_have_forms, node_some}
 use Rattle.hare_modules.specs.Uses.{place_of as place_of_node}
 use Rattle.hare_graph.proofs.Elements.{Contains-none, Contains-cases, Contains-here, Contains-behind}
 use Rattle.hare_names.specs.Scopes.{Scopes, with_locals, is_binding, is_for_each, bindings_in, bound_by, bound_itself}

@@ -10,13 +10,13 @@ use Rattle.hare_tree.specs.Shape.{is_shaped}
 use Rattle.hare_tree.specs.Grammar.{Spells, HasPlaces, joined, trees_of, IsViable, IsRun, IsSyntaxFault, IsDepthFault, IsTreeOf, ends_in_string, begins_with_string, StandsAt}
 use Rattle.hare_automaton.specs.Rows.{of}
 use Rattle.hare_automaton.specs.Engine.{Group, add, Done, Fails, run, bottom}
-use Rattle.hare_automaton.proofs.Places.{tokens_have_one_tree}
+use Rattle.hare_automaton.proofs.Unambiguous.Places.{tokens_have_one_tree}
 use Rattle.hare_prefixes.specs.Viable.{has_trees}
-use Rattle.hare_prefixes.proofs.Breaks.{trees_sort}
-use Rattle.hare_prefixes.proofs.Faults.{runs_fault, runs_fault_in_trees, runs_read_fronts}
-use Rattle.hare_prefixes.proofs.Places.{cut}
-use Rattle.hare_prefixes.proofs.Joined.{head}
-use Rattle.hare_prefixes.proofs.Viable.{end}
+use Rattle.hare_prefixes.proofs.Outcomes.Breaks.{trees_sort}
+use Rattle.hare_prefixes.proofs.FirstFault.Faults.{runs_fault, runs_fault_in_trees, runs_read_fronts}
+use Rattle.hare_prefixes.proofs.Joining.Places.{cut}
+use Rattle.hare_prefixes.proofs.Joining.Joined.{head}
+use Rattle.hare_prefixes.proofs.Completion.Viable.{end}
 use Rattle.hare_nesting.specs.Depth.{closed}
 use Rattle.hare_recogniser.specs.Limits.{IsFirstDepth, TreesFit}
 use Rattle.hare_ll_table.specs.Places.{IsPlace}

@@ -8,13 +8,13 @@ use Rattle.hare_automaton.specs.declared.rule.Symbol.{Symbol}
 use Rattle.hare_automaton.specs.Classes.{class_of}
 use Rattle.hare_automaton.specs.Engine.{Group, Step, Goes, Ends, Stuck, step, Outcome, Done, Fails, after, run, bottom}
 use Rattle.hare_tree.specs.Grammar.{joined, ends_in_string}
-use Rattle.hare_prefixes.proofs.Places.{cut}
-use Rattle.hare_prefixes.proofs.Joined.{head, joined_append}
-use Rattle.hare_prefixes.proofs.Viable.{end}
-use Rattle.hare_nesting.proofs.Claims.{seen_step}
-use Rattle.hare_nesting.proofs.Piles.{frames}
-use Rattle.hare_nesting.proofs.SeenSteps.{steps_are_seen}
-use Rattle.hare_nesting.proofs.Unused.{step_unused}
+use Rattle.hare_prefixes.proofs.Joining.Places.{cut}
+use Rattle.hare_prefixes.proofs.Joining.Joined.{head, joined_append}
+use Rattle.hare_prefixes.proofs.Completion.Viable.{end}
+use Rattle.hare_nesting.proofs.Telling.Claims.{seen_step}
+use Rattle.hare_nesting.proofs.UnderWay.Piles.{frames}
+use Rattle.hare_nesting.proofs.UnderWay.SeenSteps.{steps_are_seen}
+use Rattle.hare_nesting.proofs.OverFiles.Unused.{step_unused}
 use Rattle.hare_ll_table.specs.declared.answer.Answer.{Answer}
 use Rattle.hare_ll_table.specs.declared.answer.Answer.TheVariants as an
 use Rattle.hare_parse.specs.Steps.{Says}

@@ -8,8 +8,8 @@ use Rattle.hare_tree.specs.declared.form.Sort.TheVariants as so
 use Rattle.hare_tree.specs.Node.{Node, branch, head}
 use Rattle.hare_tree.specs.Levels.{admits}
 use Rattle.hare_tree.specs.Shape.{is_shaped}
-use Rattle.hare_automaton.proofs.Paths.{split}
-use Rattle.hare_automaton.proofs.Nodes.{whole}
+use Rattle.hare_automaton.proofs.Spelled.Paths.{split}
+use Rattle.hare_automaton.proofs.Spelled.Nodes.{whole}
 use Rattle.hare_parse.specs.Files.{is_import, imports, others, HaveSorts}
 
 use_kind : (k : Kind) (x : List ℕ) → admits so.Use k x ≡ true → is_import k ≡ true

@@ -7,7 +7,7 @@ use Rattle.hare_tree.specs.Spell.{start_of}
 use Rattle.hare_automaton.specs.Rows.{of}
 use Rattle.hare_automaton.specs.Engine.{Group, begun, Done, run, bottom}
 use Rattle.hare_automaton.specs.OneTree.{file_symbols}
-use Rattle.hare_prefixes.proofs.Readings.{runs_read_trees, runs_read_files}
+use Rattle.hare_prefixes.proofs.Soundness.Readings.{runs_read_trees, runs_read_files}
 use Rattle.hare_parse.specs.Runs.{HoldsTree}
 use Rattle.hare_parse.specs.Files.{imports, others, HaveSorts, HoldsFile, file_made}
 use Rattle.hare_parse.proofs.FileParts.{imports_in, others_in}

@@ -7,8 +7,8 @@ use Rattle.hare_automaton.specs.Rows.{of}
 use Rattle.hare_prefixes.specs.Viable.{has_trees}
 use Rattle.hare_nesting.specs.Depth.{TellsDepth, gauged, gauged_file}
 use Rattle.hare_nesting.specs.Gauge.{Gauged, start}
-use Rattle.hare_nesting.proofs.Gauges.{gauged_trees_fit, gauged_files_fit}
-use Rattle.hare_nesting.proofs.Unused.{gauge_closed}
+use Rattle.hare_nesting.proofs.LeastFault.Gauges.{gauged_trees_fit, gauged_files_fit}
+use Rattle.hare_nesting.proofs.OverFiles.Unused.{gauge_closed}
 use Rattle.hare_nesting.specs.Depth.{closed}
 use Rattle.hare_recogniser.specs.Gauged.{IsLeastOf}
 use Rattle.hare_recogniser.specs.Limits.{IsFirstDepth, TreesFit, FilesFit}

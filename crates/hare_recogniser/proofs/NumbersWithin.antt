@@ -12,7 +12,7 @@ use Rattle.hare_automaton.specs.declared.rule.Change.TheVariants as ch
 use Rattle.hare_automaton.specs.Rows.{Row, Fault, Skips, Uses, has_sign}
 use Rattle.hare_automaton.specs.Table.{row}
 use Rattle.hare_tree.specs.Grammar.{is_proper_string, joined_to, joined}
-use Rattle.hare_prefixes.proofs.Used.{merged}
+use Rattle.hare_prefixes.proofs.Joining.Used.{merged}
 use Rattle.hare_nesting.specs.Marks.{Mark, Frame, lies_before, first_in, mark_as, last_mark, but_last_mark, put, close, over, lift, changed, all_changed}
 use Rattle.hare_nesting.specs.Gauge.{opened, nodes_in, deep_frame, deep_last, high_operand, found, Step, Goes, Ends, Stuck, wanted, acted, step, Seen, Gauged, after, gauge, start, numbered, seen_in, seen}
 use Rattle.hare_recogniser.specs.Gauged.{gauged_from, seen_from}

@@ -1,7 +1,7 @@
 use Rattle.std.proofs.Common.{[], ◌∷◌, drop, subst}
 use Rattle.hare_tree.specs.Grammar.{trees_of}
 use Rattle.hare_nesting.specs.Depth.{gauged}
-use Rattle.hare_nesting.proofs.Gauges.{gauges_tell}
+use Rattle.hare_nesting.proofs.LeastFault.Gauges.{gauges_tell}
 use Rattle.hare_ll_table.specs.Seen.{waited}
 use Rattle.hare_recogniser.specs.Gauged.{IsLeastOf, gauged_from}
 use Rattle.hare_recogniser.proofs.Depths.{first_told, trees_fit}

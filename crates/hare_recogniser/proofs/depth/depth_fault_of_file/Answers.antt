@@ -1,7 +1,7 @@
 use Rattle.std.proofs.Common.{[], ◌∷◌, subst}
 use Rattle.hare_tree.specs.Grammar.{files}
 use Rattle.hare_nesting.specs.Depth.{gauged_file}
-use Rattle.hare_nesting.proofs.Gauges.{file_gauges_tell}
+use Rattle.hare_nesting.proofs.LeastFault.Gauges.{file_gauges_tell}
 use Rattle.hare_tree.specs.declared.form.Sort.TheVariants as so
 use Rattle.hare_automaton.specs.declared.rule.Rule.TheVariants as ru
 use Rattle.hare_automaton.specs.Rows.{part}

@@ -1,0 +1,21 @@
+-- What is spelled is read: from names and lists over the pieces of a form, kind by kind, to whole files.
+pub mod Paths
+pub mod Lists
+pub mod Pieces
+pub mod Types
+pub mod Kids
+pub mod Items
+pub mod Elements
+pub mod Forms
+pub mod Read
+pub mod Nodes
+pub mod Openers
+pub mod Operators
+pub mod Leaves
+pub mod Late
+pub mod Loops
+pub mod Names
+pub mod Imports
+pub mod Declarations
+pub mod Expressions
+pub mod Files

@@ -1,0 +1,3 @@
+-- The first syntax fault, of a sort and of a file.
+pub mod Faults
+pub mod FileFaults
