@@ -16,7 +16,11 @@ pub fn flood(
 ) -> Result<(), AllocError>
     ensures { OnOk result (spec.Spreads graph.now start label labels.old.items labels.new.items) }
 {
-    spread(alloc, graph, labels, start, label)?;
+    let mut left = Vec::new(alloc);
+    visit(labels, &mut left, start, label)?;
+    while let Some(node) = left.pop() {
+        go_on(graph, labels, &mut left, node, label)?;
+    }
     Ok(())
 }
 

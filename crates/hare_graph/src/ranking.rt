@@ -38,22 +38,22 @@ struct Step {
 fn finished(alloc: Global, graph: &Graph) -> Result<Vec<usize>, AllocError> {
     let mut seen = no_labels(alloc, graph.len())?;
     let mut order = Vec::new(alloc);
+    let mut way = Vec::new(alloc);
     for start in 0..graph.len() {
-        finish(alloc, graph, &mut seen, &mut order, start)?;
+        finish(graph, &mut seen, &mut order, &mut way, start)?;
     }
     Ok(order)
 }
 
-/// The same from one node on, over nodes that were not seen.
+/// The same from one node on, over nodes that were not seen. The way to it is empty.
 fn finish(
-    alloc: Global,
     graph: &Graph,
     seen: &mut Vec<Option<usize>>,
     order: &mut Vec<usize>,
+    way: &mut Vec<Step>,
     start: usize,
 ) -> Result<(), AllocError> {
-    let mut way = Vec::new(alloc);
-    enter(seen, &mut way, start)?;
+    enter(seen, way, start)?;
     for _ in 0..u64::MAX {
         let Some(step) = way.pop() else {
             return Ok(());
@@ -64,7 +64,7 @@ fn finish(
                     node: step.node,
                     edge: step.edge.saturating_add(1),
                 })?;
-                enter(seen, &mut way, next)?;
+                enter(seen, way, next)?;
             }
             None => order.push(step.node)?,
         }
