@@ -5,3 +5,4 @@ pub mod Operators
 pub mod Joined
 pub mod Places
 pub mod Trees
+pub mod Well

@@ -1,3 +1,5 @@
 pub mod Measured
 pub mod Met
+pub mod Traced
+pub mod Well
 pub mod Laws

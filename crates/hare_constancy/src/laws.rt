@@ -1,9 +1,15 @@
-//! What holds of every tree that meets its rows.
+//! What holds of every tree that meets its rows, and that well-typed trees do.
 
 ghost use Rattle.hare_constancy.specs.Laws.{MetTreesAreSettled};
+ghost use Rattle.hare_constancy.specs.Well.{WellTreesAreMet, AskedTreesAreMet};
 
-/// The constant of a tree can be told of which each node meets its rows and each type is known and small enough, where the texts that it
 /// compares are told and what it takes addresses of are places.
 pub fn law_met_trees_are_settled()
     ensures { MetTreesAreSettled }
+{}
+
+/// declaration, or of a case, when its constant is asked for, before what stands round it is done.
+pub fn law_well_trees_are_met()
+    ensures well { WellTreesAreMet }
+    ensures asked { AskedTreesAreMet }
 {}
