@@ -89,6 +89,16 @@ meaning-front c [] j i = refl
 meaning-front c (x ∷ xs) j zero = meaning-settled c j (target_of c c.head.kind j) x
 meaning-front c (x ∷ xs) j (suc i) = meaning-front c xs (suc j) i
 
+value-settled : (c : Context) (i : ℕ) (o : Option ℕ) (x : TypedNode) → (mark_of (settled_kid c i o x)).value ≡ (mark_of x).value
+value-settled c i None x = refl
+value-settled c i (Some u) (marked h m ts) = refl
+
+value-front : (c : Context) (xs : List TypedNode) (j i : ℕ) →
+    (mark_of (tree_from_front i (settled_from c j xs))).value ≡ (mark_of (tree_from_front i xs)).value
+value-front c [] j i = refl
+value-front c (x ∷ xs) j zero = value-settled c j (target_of c c.head.kind j) x
+value-front c (x ∷ xs) j (suc i) = value-front c xs (suc j) i
+
 given-settled : (c : Context) (i : ℕ) (o : Option ℕ) (x : TypedNode) → o ≡ None → given (settled_kid c i o x) ≡ given x
 given-settled c i None x e = refl
 given-settled c i (Some u) x e = absurd cc
@@ -134,6 +144,9 @@ module _ (c : Context) (t : TypedNode) (j : IsJudged c t) (k : own_kind t ≢ ki
 
   pub kid_meaning : (i : ℕ) → (mark_of (kid_from_front i t)).meaning ≡ (mark_of (kid c i)).meaning
   kid_meaning i = ap (λ p. p.1.meaning) (kids_shown i) ∙ meaning-front c c.kids 0 i
+
+  pub kid_value : (i : ℕ) → (mark_of (kid_from_front i t)).value ≡ (mark_of (kid c i)).value
+  kid_value i = ap (λ p. p.1.value) (kids_shown i) ∙ value-front c c.kids 0 i
 
   given_shown : (i : ℕ) → given (kid_from_front i t) ≡ given (tree_from_front i (settled_kids c))
   given_shown i = ap (λ p. p.1.coerce.to) (kids_shown i)

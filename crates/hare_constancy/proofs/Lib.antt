@@ -6,3 +6,4 @@ pub mod Joined
 pub mod Places
 pub mod Trees
 pub mod Well
+pub mod Texts

@@ -12,7 +12,7 @@ use Rattle.hare_types.specs.declared.row.Row.TheVariants as row
 use Rattle.hare_types.specs.declared.row.Scalar.{Scalar as Keyword}
 use Rattle.hare_types.specs.declared.row.Scalar.TheVariants as keyword
 use Rattle.hare_types.specs.Trees.{Tree}
-use Rattle.hare_types.specs.Assign.{wider, bits, Iconst, type_at, value_at, base, holds_of, signed, holds, tree_holds, default_word, is_const, first_from, first_row, coercion}
+use Rattle.hare_types.specs.Assign.{wider, bits, Iconst, type_at, value_at, holds_of, signed, holds, tree_holds, default_word, is_const, first_from, first_row, coercion}
 use Rattle.hare_types.specs.Store.{Store}
 use Rattle.hare_types.specs.Sound.{IsStore}
 use Rattle.hare_types.specs.ByIds.{row_at, base_at}
@@ -158,7 +158,7 @@ held_goes s w u v e = by (integer_word s (ty.Of u)) refl e
     by (Some k) f g = const_goes s v u (word_held s w u k (word_of_base (base_row s (ty.Of u)) k f) v g)
     by None f g = absurd cc
 
-held_integer : (s : Store) (u : ℕ) (v : ℤ) → holds_in (integer_word s (ty.Of u)) v ≡ true → has_integer_base s (ty.Of u) ≡ true
+pub held_integer : (s : Store) (u : ℕ) (v : ℤ) → holds_in (integer_word s (ty.Of u)) v ≡ true → has_integer_base s (ty.Of u) ≡ true
 held_integer s u v e = by (integer_word s (ty.Of u)) refl e
   where
     by : (o : Option Keyword) → integer_word s (ty.Of u) ≡ o → holds_in o v ≡ true → has_integer_base s (ty.Of u) ≡ true
@@ -180,8 +180,8 @@ stays_typed s f (Some u) e = by (coercion s f u) refl
 -- ---- common types
 
 -- a type that is common to two operands is an integer type, and holds each that is a whole number without a suffix
-record IsCommon (s : Store) (a b : Ty) (u : ℕ) : Type 0 where
-  integer : has_integer_base s (ty.Of u) ≡ true
+pub record IsCommon (s : Store) (a b : Ty) (u : ℕ) : Type 0 where
+  pub integer : has_integer_base s (ty.Of u) ≡ true
   left : (v : ℤ) → a ≡ ty.Iconst v → holds_in (integer_word s (ty.Of u)) v ≡ true
   right : (v : ℤ) → b ≡ ty.Iconst v → holds_in (integer_word s (ty.Of u)) v ≡ true
 
@@ -200,7 +200,7 @@ wide_word (Some a) (Some b) e = (b, refl, wider_signed a b e)
 wide_word (Some a) None e = absurd cc
 wide_word None p e = absurd cc
 
-row_of_word : (o : Option Row) (k : Keyword) → word_of o ≡ Some k → o ≡ Some (row.Scalar k)
+pub row_of_word : (o : Option Row) (k : Keyword) → word_of o ≡ Some k → o ≡ Some (row.Scalar k)
 row_of_word (Some (row.Scalar j)) k e = let same : j ≡ k = cc in ap (λ i. Some (row.Scalar i)) same
 row_of_word None k e = absurd cc
 row_of_word (Some (row.Pointer i)) k e = absurd cc
@@ -213,15 +213,15 @@ row_of_word (Some (row.Union is)) k e = absurd cc
 row_of_word (Some (row.Error i)) k e = absurd cc
 row_of_word (Some (row.Named d)) k e = absurd cc
 
-scalar_base : (s : Store) (u : ℕ) (k : Keyword) → row_at s u ≡ Some (row.Scalar k) → base_row s (ty.Of u) ≡ Some (row.Scalar k)
+pub scalar_base : (s : Store) (u : ℕ) (k : Keyword) → row_at s u ≡ Some (row.Scalar k) → base_row s (ty.Of u) ≡ Some (row.Scalar k)
 scalar_base s u k e = ap (option_and_then (row_at s)) (base-row s u (row.Scalar k) e) ∙ e
 
-scalar_integer : (s : Store) (u : ℕ) (k : Keyword) → row_at s u ≡ Some (row.Scalar k) → is_some (signed k) ≡ true →
+pub scalar_integer : (s : Store) (u : ℕ) (k : Keyword) → row_at s u ≡ Some (row.Scalar k) → is_some (signed k) ≡ true →
     has_integer_base s (ty.Of u) ≡ true
 scalar_integer s u k e h =
     ap (λ o. is_some (integer_word_of (word_of o))) (scalar_base s u k e) ∙ ap (λ b. is_some (cond b (Some k) None)) h
 
-widened : (s : Store) (t u : ℕ) → widens s (ty.Of t) (ty.Of u) ≡ true → has_integer_base s (ty.Of u) ≡ true
+pub widened : (s : Store) (t u : ℕ) → widens s (ty.Of t) (ty.Of u) ≡ true → has_integer_base s (ty.Of u) ≡ true
 widened s t u e =
     let w = wide_word (word_of (row_at s t)) (word_of (row_at s u)) e in
     scalar_integer s u w.0 (row_of_word (row_at s u) w.0 w.1) w.2
@@ -245,7 +245,7 @@ common_of s t u n e =
     by false f false g true h k = let same : t ≡ n = cc in subst (λ i. has_integer_base s (ty.Of i) ≡ true) same (widened s u t h)
     by false f false g false h k = absurd cc
 
-common_is : (s : Store) (a b : Ty) (u : ℕ) → common s a b ≡ Some (Typed u) → IsCommon s a b u
+pub common_is : (s : Store) (a b : Ty) (u : ℕ) → common s a b ≡ Some (Typed u) → IsCommon s a b u
 common_is s (ty.Iconst v) (ty.Of t) u e = by (holds_in (integer_word s (ty.Of t)) v) refl e
   where
     by : (d : Bool) → holds_in (integer_word s (ty.Of t)) v ≡ d → cond d (Some (Typed t)) None ≡ Some (Typed u) →

@@ -122,7 +122,7 @@ length-components c is e = by (hinted_components (store_of c) c.hint (length (tu
     by None f g = length-defaults (store_of c) (tuple_items c) is g
 
 -- a type that is made of an id
-made_as : (o : Option ℕ) (f : Ty) → words.typed_as o ≡ Some f → (t : ℕ) × (o ≡ Some t) × (f ≡ ty.Of t)
+pub made_as : (o : Option ℕ) (f : Ty) → words.typed_as o ≡ Some f → (t : ℕ) × (o ≡ Some t) × (f ≡ ty.Of t)
 made_as None f e = absurd cc
 made_as (Some t) f e = (t, refl, cc)
 
@@ -185,7 +185,7 @@ struct_part s t fs h f e l =
     (subst (λ n. part_named s (ty.Of t) h < n) (sym (length-map fs (λ g. g.ty))) (field_within s t fs h e l))
 
 -- fields that are filled are those of a struct, and as many
-filled : (s : Store) (o : Option Row) (xs : List TypedNode) → fill s (fields_in o) xs ≡ true →
+pub filled : (s : Store) (o : Option Row) (xs : List TypedNode) → fill s (fields_in o) xs ≡ true →
     (fs : List Field) × (o ≡ Some (row.Struct fs)) × (length xs ≡ length fs)
 filled s (Some (row.Struct fs)) xs e = (fs, refl, by (length xs == length fs) refl e)
   where

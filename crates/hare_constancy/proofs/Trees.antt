@@ -59,10 +59,10 @@ kid_met w typed_none p i = inr refl
 kid_met w (typed_more t ts) p zero = inl p.0
 kid_met w (typed_more t ts) p (suc i) = kid_met w ts p.1 i
 
-judged_in : (w : Setting) (x : TypedNode) → IsMet w x → (c : Context) × (c.setting ≡ w) × IsJudged c x
+pub judged_in : (w : Setting) (x : TypedNode) → IsMet w x → (c : Context) × (c.setting ≡ w) × IsJudged c x
 judged_in w (marked h m ts) p = p.0
 
-head_kind : (x : TypedNode) → (head_of x).kind ≡ own_kind x
+pub head_kind : (x : TypedNode) → (head_of x).kind ≡ own_kind x
 head_kind (marked h m ts) = refl
 
 -- ---- a node
@@ -76,13 +76,13 @@ access_field kind.Field e = refl
 access_field _ e = absurd cc
 
 module _ (c : Context) (t : TypedNode) (v : IsStore (store_of c)) (j : IsJudged c t) where
-  kind_of_context : (k : Kind) → own_kind t ≡ k → c.head.kind ≡ k
+  pub kind_of_context : (k : Kind) → own_kind t ≡ k → c.head.kind ≡ k
   kind_of_context k e = ap (λ h. h.kind) j.head ∙ head_kind t ∙ e
 
-  alone : (k : Kind) → own_kind t ≡ k → is_path k ≡ false → is_number k ≡ false → StandsAlone c k
+  pub alone : (k : Kind) → own_kind t ≡ k → is_path k ≡ false → is_number k ≡ false → StandsAlone c k
   alone k e p n = stands_alone c k (kind_of_context k e) (subst (λ q. is_in_role c.inside.role q ≡ true) e j.role) p n j.rows
 
-  no_yield : (k : Kind) → own_kind t ≡ k → k ≢ kind.Yield → own_kind t ≢ kind.Yield
+  pub no_yield : (k : Kind) → own_kind t ≡ k → k ≢ kind.Yield → own_kind t ≢ kind.Yield
   no_yield k e n y = n (sym e ∙ y)
 
   measure_asked : (k : Kind) → own_kind t ≡ k → k ≢ kind.Yield → target_of c k 0 ≡ None →

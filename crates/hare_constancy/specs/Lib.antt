@@ -3,3 +3,4 @@ pub mod Met
 pub mod Traced
 pub mod Well
 pub mod Laws
+pub mod Texts

@@ -1,6 +1,7 @@
 //! What holds of every tree that meets its rows, and that well-typed trees do.
 
 ghost use Rattle.hare_constancy.specs.Laws.{MetTreesAreSettled};
+ghost use Rattle.hare_constancy.specs.Texts.{WellTreesAreTraced, AskedTreesAreTraced, TracedTextsAreTold};
 ghost use Rattle.hare_constancy.specs.Well.{WellTreesAreMet, AskedTreesAreMet};
 
 /// compares are told and what it takes addresses of are places.
@@ -12,4 +13,11 @@ pub fn law_met_trees_are_settled()
 pub fn law_well_trees_are_met()
     ensures well { WellTreesAreMet }
     ensures asked { AskedTreesAreMet }
+{}
+
+/// 2^32 bytes. An operand that is a text, and constant, is a string or the name of a def, in parentheses or not, cast to a text or not.
+pub fn law_texts_are_told()
+    ensures well { WellTreesAreTraced }
+    ensures asked { AskedTreesAreTraced }
+    ensures told { TracedTextsAreTold }
 {}
