@@ -7,3 +7,4 @@ pub mod Places
 pub mod Trees
 pub mod Well
 pub mod Texts
+pub mod Coherent

@@ -4,3 +4,4 @@ pub mod Traced
 pub mod Well
 pub mod Laws
 pub mod Texts
+pub mod Coherent

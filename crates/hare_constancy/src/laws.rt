@@ -1,5 +1,6 @@
 //! What holds of every tree that meets its rows, and that well-typed trees do.
 
+ghost use Rattle.hare_constancy.specs.Coherent.{AskedTreesAreCoherent};
 ghost use Rattle.hare_constancy.specs.Laws.{MetTreesAreSettled};
 ghost use Rattle.hare_constancy.specs.Texts.{WellTreesAreTraced, AskedTreesAreTraced, TracedTextsAreTold};
 ghost use Rattle.hare_constancy.specs.Well.{WellTreesAreMet, AskedTreesAreMet};
@@ -20,4 +21,9 @@ pub fn law_texts_are_told()
     ensures well { WellTreesAreTraced }
     ensures asked { AskedTreesAreTraced }
     ensures told { TracedTextsAreTold }
+{}
+
+/// asked for: where those agree that the constants of defs list, and the values of cases in it list no others.
+pub fn law_objects_agree()
+    ensures { AskedTreesAreCoherent }
 {}

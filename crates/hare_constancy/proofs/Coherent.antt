@@ -1,0 +1,4 @@
+-- Objects with one number have the same cells.
+pub mod Lists
+pub mod Strings
+pub mod Values
