@@ -8,3 +8,4 @@ pub mod Trees
 pub mod Well
 pub mod Texts
 pub mod Coherent
+pub mod Ready

@@ -5,3 +5,4 @@ pub mod Well
 pub mod Laws
 pub mod Texts
 pub mod Coherent
+pub mod Ready
