@@ -9,12 +9,14 @@ use Rattle.hare_typed.specs.Coats.{with_coercion}
 use Rattle.hare_typed.specs.Constants.{own_kind}
 use Rattle.hare_typed.specs.ConstantForms.{own_type}
 use Rattle.hare_typed.specs.Erased.{erase}
+use Rattle.hare_typed.specs.Folded.{folded}
 use Rattle.hare_const.specs.Settled.{IsSettled}
 use Rattle.hare_const.specs.Statics.{IsCoherent}
 use Rattle.hare_rules.specs.Above.{Above, trees_in}
-use Rattle.hare_rules.specs.Context.{Setting, Entry}
+use Rattle.hare_rules.specs.Context.{Setting, DeclaredValue, Entry}
 use Rattle.hare_rules.specs.Finished.{IsWell}
 use Rattle.hare_rules.specs.Flow.{flow_at}
+use Rattle.hare_rules.specs.Values.{declared_coercion}
 use Rattle.hare_constancy.specs.Coherent.{DefsAgree, IsStatic, CasesList}
 use Rattle.hare_constancy.specs.Laws.{NamesAreTypes}
 use Rattle.hare_constancy.specs.Measured.{AreMeasured}
@@ -50,6 +52,16 @@ AskedValuesAreReady =
     (w : Setting) (a : Above) (ls : List Entry) (t : TypedNode) (r : Coercion) → IsKnownFor w a.inside.own → IsWellValue w a ls t →
     GoesTo w.store (own_type t) r → AreMeasured w.store (asked w a (flow_at ls) r t) →
     IsReady w.store a.inside.own (asked w a (flow_at ls) r t)
+
+-- The value of a def or a global carries the constant of such a tree: that with the coercion which it has in the end, to what it is asked for
+-- or to its default.
+abbrev pub DeclaredValuesAreReady : Type 0
+DeclaredValuesAreReady =
+    (w : Setting) (a : Above) (ls : List Entry) (t : TypedNode) → IsKnownFor w a.inside.own → IsWellValue w a ls t →
+    a.inside.role ≡ DeclaredValue →
+    AreMeasured w.store (asked w a (flow_at ls) (declared_coercion w.store a.hint (own_type t)) t) →
+    IsReady w.store a.inside.own (asked w a (flow_at ls) (declared_coercion w.store a.hint (own_type t)) t)
+    × ((mark_of t).value ≡ folded w.store a.inside.own (asked w a (flow_at ls) (declared_coercion w.store a.hint (own_type t)) t))
 
 -- It is so of the finished value, too, where this has no constant, so that it can be told at which node.
 abbrev pub WellValuesAreReady : Type 0

@@ -2,7 +2,7 @@
 
 ghost use Rattle.hare_constancy.specs.Coherent.{AskedTreesAreCoherent};
 ghost use Rattle.hare_constancy.specs.Laws.{MetTreesAreSettled};
-ghost use Rattle.hare_constancy.specs.Ready.{AskedValuesAreReady, WellValuesAreReady};
+ghost use Rattle.hare_constancy.specs.Ready.{AskedValuesAreReady, DeclaredValuesAreReady, WellValuesAreReady};
 ghost use Rattle.hare_constancy.specs.Texts.{WellTreesAreTraced, AskedTreesAreTraced, TracedTextsAreTold};
 ghost use Rattle.hare_constancy.specs.Well.{WellTreesAreMet, AskedTreesAreMet};
 
@@ -33,10 +33,11 @@ pub fn law_objects_agree()
     ensures { AskedTreesAreCoherent }
 {}
 
-/// A well-typed value of a declaration has all that `constant` and `constant_cells` of hare_const ask, but for memory: when its constant is
-/// asked for, and when it is finished and has none. Its types are known and small, and so are its strings; what is known of defs, and what
-/// the values of cases in it carry, is such as values come to.
+/// What `is_settled` and `is_coherent` of hare_const test holds of a well-typed value of a declaration: when its constant is asked for, which
+/// is what a def or a global carries, and when it is finished and has none. So its constant can be told, but for memory. Its types are
+/// known and small, and so are its strings; what is known of defs, and what the values of cases in it carry, is such as values come to.
 pub fn law_values_are_ready()
     ensures asked { AskedValuesAreReady }
+    ensures declared { DeclaredValuesAreReady }
     ensures finished { WellValuesAreReady }
 {}
