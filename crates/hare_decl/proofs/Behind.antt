@@ -9,7 +9,7 @@ use Rattle.hare_automaton.specs.OneTree.{file_symbols}
 use Rattle.hare_parse.specs.Files.{file_made}
 use Rattle.hare_ll_table.proofs.Joining.{read_drop, drop_past}
 use Rattle.hare_parse.proofs.Onward.{done_behind}
-use Rattle.hare_decl.specs.Answers.{IsEnd, IsOver, IsFile}
+use Rattle.hare_decl.specs.Answers.{IsEnd, IsLastEnd, IsOver, IsFile}
 use Rattle.hare_decl.proofs.Over.{over_no_end, over_behind_end, over_whole}
 
 -- a token that is not End
@@ -29,6 +29,10 @@ pub over_at_last : (file : ℕ) (ts : List Token) (uses decls : List Node) (n : 
     Some t ≡ slice_get ts n → IsEnd t → length ts ≤ n + 1 → IsFile file ts (record { file = file; uses = uses; decls = decls })
 over_at_last file ts uses decls n t o e k h =
     over_whole file ts uses decls n t o (read_drop ts n t e ∙ ap (λ l. t ∷ l) (drop_all (n + 1) ts h)) k
+
+-- End stands there, and nothing behind it
+pub last_end : (ts : List Token) (n : ℕ) (t : Token) → Some t ≡ slice_get ts n → IsEnd t → length ts ≤ n + 1 → IsLastEnd ts n
+last_end ts n t e k h = record { token = t; last = read_drop ts n t e ∙ ap (λ l. t ∷ l) (drop_all (n + 1) ts h); ends = k }
 
 -- some token is there
 pub over_somewhere : (file : ℕ) (ts : List Token) (uses decls : List Node) (n : ℕ) → IsOver file ts uses decls n → None ≡ slice_get ts n → ⊥

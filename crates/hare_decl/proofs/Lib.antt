@@ -1,6 +1,7 @@
 pub mod Runs
 pub mod Answers
 pub mod Over
+pub mod Low
 pub mod Stuck
 pub mod Places
 pub mod Once

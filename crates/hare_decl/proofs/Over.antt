@@ -12,7 +12,7 @@ use Rattle.hare_automaton.proofs.Spelled.Paths.{split}
 use Rattle.hare_prefixes.proofs.Joining.Joined.{Head, head}
 use Rattle.hare_parse.specs.Files.{HaveSorts, file_made}
 use Rattle.hare_parse.proofs.FileParts.{parts_once}
-use Rattle.hare_decl.specs.Answers.{IsEnd, IsOver, IsFile}
+use Rattle.hare_decl.specs.Answers.{IsEnd, IsLastEnd, IsReadLow, IsOver, IsFile}
 use Rattle.hare_decl.proofs.Runs.{no_end_first, behind_end_first, whole_made, whole_is_file}
 
 -- ---- the token behind them
@@ -61,12 +61,18 @@ kids_of [] = []
 kids_of (g ∷ gs) = g.kids
 
 -- the file that is read in front of End alone
-pub over_whole : (file : ℕ) (ts : List Token) (uses decls : List Node) (n : ℕ) (t : Token) → IsOver file ts uses decls n →
-    drop n ts ≡ t ∷ [] → IsEnd t → IsFile file ts (record { file = file; uses = uses; decls = decls })
-over_whole file ts uses decls n t o d e =
-    let us : joined (drop n ts) ≡ t ∷ [] = ap joined d in
+pub low_whole : (file : ℕ) (ts : List Token) (uses decls : List Node) (n : ℕ) → IsReadLow file ts uses decls n → IsLastEnd ts n →
+    IsFile file ts (record { file = file; uses = uses; decls = decls })
+low_whole file ts uses decls n o e =
+    let us : joined (drop n ts) ≡ e.token ∷ [] = ap joined e.last in
     let made = file_made uses decls in
-    let m = whole_made file ts t made (o.run_is ∙ ap (λ y. Done y made) us) e in
+    let m = whole_made file ts e.token made (o.run_is ∙ ap (λ y. Done y made) us) e.ends in
     let p = parts_once uses decls m.tree.uses m.tree.decls o.sorts (file_sorts m.tree m.spells.shaped) (ap kids_of m.is_made) in
     let i = file_same m.tree file uses decls m.spells.file_is p.0 p.1 in
     subst (IsFile file ts) i (whole_is_file file ts made m (ap files.deep_of i ∙ o.limits))
+
+pub over_whole : (file : ℕ) (ts : List Token) (uses decls : List Node) (n : ℕ) (t : Token) → IsOver file ts uses decls n →
+    drop n ts ≡ t ∷ [] → IsEnd t → IsFile file ts (record { file = file; uses = uses; decls = decls })
+over_whole file ts uses decls n t o d e =
+    low_whole file ts uses decls n (record { run_is = o.run_is; sorts = o.sorts; limits = o.limits })
+    (record { token = t; last = d; ends = e })

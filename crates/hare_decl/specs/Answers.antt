@@ -51,6 +51,18 @@ pub record IsOver (file : ℕ) (ts : List Token) (uses decls : List Node) (n : �
   pub shallow : (m : ℕ) → IsDepthFault files ts m → ⊥
   pub limits : files.deep_of (record { file = file; uses = uses; decls = decls }) ≡ []
 
+-- End stands at this place of the list, and nothing behind it.
+pub record IsLastEnd (ts : List Token) (n : ℕ) : Type 0 where
+  pub token : Token
+  pub last : drop n ts ≡ token ∷ []
+  pub ends : IsEnd token
+
+-- Of these tokens the machine has read imports and declarations, which keep the limits on depth, in front of the token at this place.
+pub record IsReadLow (file : ℕ) (ts : List Token) (uses decls : List Node) (n : ℕ) : Type 0 where
+  pub run_is : run file (joined ts) file_symbols bottom ≡ Done (joined (drop n ts)) (file_made uses decls)
+  pub sorts : HaveSorts uses decls
+  pub limits : files.deep_of (record { file = file; uses = uses; decls = decls }) ≡ []
+
 -- the place of the last token, or where there is none the start of the file
 abbrev pub last_place : ℕ → List Token → Place
 last_place file [] = start_of file

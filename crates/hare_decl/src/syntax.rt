@@ -5,8 +5,8 @@ ghost use Rattle.hare_tree.specs.declared.place.Place.{Place};
 ghost use Rattle.hare_tree.specs.declared.token.Token.{Token};
 ghost use Rattle.hare_decl.specs.Answers as spec;
 
+use hare_parse::{FileOutcome, LowFile, read_file, read_low_file};
 use hare_recogniser::depth_fault_of_file;
-use hare_parse::{FileOutcome, read_file};
 use hare_tree::{FileTree, Kids, Suffix, Token, TokenKind, Tokens};
 use std::alloc::{AllocError, Global};
 
@@ -21,8 +21,32 @@ pub enum Syntax {
     Cut,
 }
 
-/// Reads the tokens of a file. The depth is looked at first, so that no tree is built that passes a limit.
+/// Reads the tokens of a file. Most files have low trees and no fault, and are read once. Of any other the depth is looked at, and it is
+/// read again: so no tree is built that passes a limit.
 pub fn syntax_of(alloc: Global, file: u32, tokens: &Tokens) -> Result<Syntax, AllocError>
+    ensures value { IfOk result (λ s. spec.IsSyntax file tokens.now s) }
+    ensures ended { IfOk result (λ s. spec.HasEnd tokens.now → s ≡ Syntax.Cut → ⊥) }
+{
+    match read_low_file(alloc, file, tokens)? {
+        Some(LowFile { uses, decls, next }) if is_last_end(tokens, next) => {
+            Ok(Syntax::Whole(FileTree { file, uses, decls }))
+        }
+        _ => gauged_syntax(alloc, file, tokens),
+    }
+}
+
+/// Whether End stands at a place of the list, and nothing behind it.
+fn is_last_end(tokens: &Tokens, n: usize) -> bool
+    ensures { result ≡ true → spec.IsLastEnd tokens.now n }
+{
+    match tokens.get(n) {
+        Some(token) if is_end(token) => tokens.len() - 1 <= n,
+        _ => false,
+    }
+}
+
+/// Reads the tokens of a file. The depth is looked at first, so that no tree is built that passes a limit.
+fn gauged_syntax(alloc: Global, file: u32, tokens: &Tokens) -> Result<Syntax, AllocError>
     ensures value { IfOk result (λ s. spec.IsSyntax file tokens.now s) }
     ensures ended { IfOk result (λ s. spec.HasEnd tokens.now → s ≡ Syntax.Cut → ⊥) }
 {

@@ -1,6 +1,7 @@
 pub mod Answered
 pub mod AtEnd
 pub mod FileParts
+pub mod Heights
 pub mod Kids
 pub mod Made
 pub mod Once

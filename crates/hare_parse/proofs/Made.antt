@@ -1,5 +1,5 @@
 -- What is under way where a run is done: one whole tree, or a file.
-use Rattle.std.proofs.Common.{◌≡◌, ℕ, List, [], ◌∷◌, ◌++◌, ap, sym, ◌∙◌}
+use Rattle.std.proofs.Common.{◌≡◌, ℕ, ◌≤◌, List, [], ◌∷◌, ◌++◌, ap, sym, ◌∙◌, subst, arith}
 use Rattle.hare_tree.specs.declared.token.Token.{Token}
 use Rattle.hare_tree.specs.declared.form.Sort.{Sort}
 use Rattle.hare_tree.specs.Node.{Node}
@@ -8,9 +8,11 @@ use Rattle.hare_automaton.specs.Rows.{of}
 use Rattle.hare_automaton.specs.Engine.{Group, begun, Done, run, bottom}
 use Rattle.hare_automaton.specs.OneTree.{file_symbols}
 use Rattle.hare_prefixes.proofs.Soundness.Readings.{runs_read_trees, runs_read_files}
+use Rattle.hare_parse.specs.Heights.{IsBound}
 use Rattle.hare_parse.specs.Runs.{HoldsTree}
 use Rattle.hare_parse.specs.Files.{imports, others, HaveSorts, HoldsFile, file_made}
 use Rattle.hare_parse.proofs.FileParts.{imports_in, others_in}
+use Rattle.hare_parse.proofs.Heights.{high}
 
 pub holds_tree : (s : Sort) (file : ℕ) (ts rest : List Token) (gs : List Group) → run file ts (of s ∷ []) bottom ≡ Done rest gs →
     HoldsTree gs
@@ -27,7 +29,7 @@ kids_on [] = []
 kids_on (g ∷ gs) = g.kids
 
 -- the parts of a file are those by which its trees are told apart
-file_is : (gs : List Group) (ts us ds : List Node) → HoldsFile gs → gs ≡ begun (start_of 0) ts ∷ [] → us ≡ imports ts → ds ≡ others ts →
+pub file_is : (gs : List Group) (ts us ds : List Node) → HoldsFile gs → gs ≡ begun (start_of 0) ts ∷ [] → us ≡ imports ts → ds ≡ others ts →
     (gs ≡ file_made us ds) × HaveSorts us ds
 unfolding kids_on
 file_is gs ts us ds h e a b =
@@ -43,3 +45,12 @@ pub file_read : (file : ℕ) (ts rest : List Token) (gs : List Group) (us ds tre
 file_read file ts rest gs us ds trees e m a b =
     let i = file_is gs trees us ds (holds_file file ts rest gs e) m a b in
     (e ∙ ap (Done rest) i.0, i.1)
+
+-- the trees of a file are as low as the innermost tree under way tells
+pub file_low : (gs rest : List Group) (us ds : List Node) (g : Group) (b : ℕ) → gs ≡ file_made us ds → gs ≡ g ∷ rest →
+    IsBound b (high g.kids) → b ≤ 256 → high (us ++ ds) ≤ 256
+unfolding kids_on
+file_low gs rest us ds g b e k i le =
+    let kids : g.kids ≡ us ++ ds = ap kids_on (sym k ∙ e) in
+    let h : high (us ++ ds) ≤ b = subst (λ ts. high ts ≤ b) kids (i.up_to le) in
+    omega (arith, h, le)

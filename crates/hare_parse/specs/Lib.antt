@@ -1,4 +1,5 @@
 pub mod Answers
 pub mod Files
+pub mod Heights
 pub mod Runs
 pub mod Steps

@@ -1,6 +1,7 @@
 //! What a row changes in the trees under way.
 
-ghost use Rattle.std.specs.Prelude.{◌≡◌, ◌∷◌, [], OnOk};
+ghost use Rattle.std.specs.Prelude.{◌≡◌, ◌∷◌, [], ◌≤◌, OnOk};
+ghost use Rattle.hare_tree.specs.Depth.{height};
 ghost use Rattle.hare_tree.specs.Spell as spell;
 ghost use Rattle.hare_automaton.specs.Engine as engine;
 
@@ -28,6 +29,7 @@ pub fn all_changed(
 }
 
 /// A change at a token of the file.
+#[tactic(auto, using(crate::proofs::Heights::bound_leaf))]
 fn changed(
     spare: &mut Spare<Tree>,
     file: u32,
@@ -38,9 +40,9 @@ fn changed(
     ensures { OnOk result (groups.new ≡ engine.changed file token.now change groups.old) }
 {
     match change {
-        Change::Absent => add(groups, bare_leaf(spare.alloc(), Kind::None, start_of(file))),
-        Change::Mark(kind) => add(groups, bare_leaf(spare.alloc(), kind, token.place)),
-        Change::Leaf(kind) => add(groups, full_leaf(spare.alloc(), kind, token)?),
+        Change::Absent => add_leaf(groups, bare_leaf(spare.alloc(), Kind::None, start_of(file))),
+        Change::Mark(kind) => add_leaf(groups, bare_leaf(spare.alloc(), kind, token.place)),
+        Change::Leaf(kind) => add_leaf(groups, full_leaf(spare.alloc(), kind, token)?),
         Change::Open => groups.push(Group::begun(spare.alloc(), token.place, spare.take())),
         Change::Over => over(spare, token.place, groups),
         Change::Take => take_text(spare.alloc(), token, groups),
@@ -66,14 +68,16 @@ pub fn start_of(file: u32) -> Place
 
 // ---- the innermost tree under way
 
-/// The tree is the next kid of the innermost tree under way.
-fn add(groups: &mut Pile<Group>, tree: Tree) -> Result<(), AllocError>
+/// The tree, which has no kids, is the next kid of the innermost tree under way.
+#[tactic(auto, using(crate::proofs::Heights::bound_one))]
+fn add_leaf(groups: &mut Pile<Group>, tree: Tree) -> Result<(), AllocError>
+    requires { height tree ≤ 1 }
     ensures { OnOk result (groups.new ≡ engine.add tree groups.old) }
 {
     let Some(mut group) = groups.pop() else {
         return Ok(());
     };
-    group.add(tree)?;
+    group.add(tree, 1)?;
     groups.push(group)
 }
 
@@ -88,7 +92,11 @@ pub fn close(
     let Some(group) = groups.pop() else {
         return Ok(());
     };
-    add(groups, group.into_tree(spare, kind)?)
+    let Some(mut outer) = groups.pop() else {
+        return Ok(());
+    };
+    group.close_into(spare, kind, &mut outer)?;
+    groups.push(outer)
 }
 
 /// The innermost tree under way takes the token's text, number and suffix.
@@ -120,12 +128,9 @@ fn over(spare: &mut Spare<Tree>, place: Place, groups: &mut Pile<Group>) -> Resu
     let Some(mut group) = groups.pop() else {
         return Ok(());
     };
-    let mut kids = spare.take();
-    if let Some(tree) = group.take_last() {
-        kids.push(tree)?;
-    }
+    let first = group.split_last(spare, place)?;
     groups.push(group)?;
-    groups.push(Group::begun(spare.alloc(), place, kids))
+    groups.push(first)
 }
 
 /// The kids of the innermost tree under way are those of the tree round it.
@@ -138,9 +143,7 @@ fn lift(spare: &mut Spare<Tree>, groups: &mut Pile<Group>) -> Result<(), AllocEr
     let Some(mut outer) = groups.pop() else {
         return Ok(());
     };
-    let mut kids = group.into_kids();
-    outer.add_all(&mut kids)?;
-    spare.keep(kids)?;
+    outer.lift(spare, group)?;
     groups.push(outer)
 }
 

@@ -1,16 +1,20 @@
 //! The trees of a whole file read from its tokens.
 
-ghost use Rattle.std.specs.Prelude.{◌≡◌, ◌++◌, ◌≤◌, [], ◌∷◌, length, drop, IfOk, OnOk};
+ghost use Rattle.std.specs.Prelude.{◌≡◌, ◌++◌, ◌≤◌, [], ◌∷◌, length, drop, IfOk, IfSome, OnOk};
+ghost use Rattle.hare_tree.specs.Depth.{greatest_height};
+ghost use Rattle.hare_tree.specs.Node.{nodes_of};
 ghost use Rattle.hare_tree.specs.Grammar.{joined, StandsAt};
 ghost use Rattle.hare_tree.specs.Spell.{start_of};
 ghost use Rattle.hare_automaton.specs.Engine as engine;
+ghost use Rattle.hare_automaton.specs.Engine.{Done};
 ghost use Rattle.hare_automaton.specs.OneTree.{file_symbols};
+ghost use Rattle.hare_ll_table.specs.Seen.{waited};
 ghost use Rattle.hare_parse.specs.Files as spec;
 
 use crate::group::Group;
-use crate::run::{Reached, bottom, run};
+use crate::run::{HIGHEST, Reached, bottom, run, run_low};
 use hare_automaton::Rule;
-use hare_ll_table::{Pile, part, push_waits};
+use hare_ll_table::{Pile, Wait, part, push_waits};
 use hare_tree::{Kids, Kind, Sort, Tokens, Tree};
 use std::alloc::{AllocError, Global};
 
@@ -34,11 +38,7 @@ pub fn read_file(alloc: Global, file: u32, tokens: &Tokens) -> Result<FileOutcom
     ensures within { IfOk result (λ o. spec.place_of o ≤ length tokens.now) }
     ensures place { IfOk result (λ o. StandsAt tokens.now (spec.place_of o) (joined (drop (spec.place_of o) tokens.now))) }
 {
-    let mut stack = Pile::new(alloc);
-    push_waits(
-        &mut stack,
-        &[part(Rule::Each(Sort::Use)), part(Rule::Each(Sort::Decl))],
-    )?;
+    let mut stack = file_waits(alloc)?;
     let mut groups = bottom(alloc)?;
     match run(alloc, file, tokens, 0, &mut stack, &mut groups)? {
         Reached::End(next) => {
@@ -47,6 +47,72 @@ pub fn read_file(alloc: Global, file: u32, tokens: &Tokens) -> Result<FileOutcom
         }
         Reached::Stuck(next) => Ok(FileOutcome::Stuck(next)),
     }
+}
+
+/// The imports and the declarations that the tokens of a file begin with.
+#[derive(Drop)]
+pub struct LowFile {
+    /// The imports, in the order of the source.
+    pub uses: Kids,
+    /// The declarations, in the order of the source.
+    pub decls: Kids,
+    /// The place in the list of tokens of the first that is not used.
+    pub next: usize,
+}
+
+/// Reads imports and declarations in the same way, where all trees are so low that they keep both limits on depth. None where a token
+/// cannot stand where it stands, where the tokens are used up, and where a tree is higher: a caller who needs to know more looks at the
+/// depth, and reads the file again.
+///
+/// The call takes time linear in the tokens that it reads, and no more of the host's stack than trees need that keep the limits.
+pub fn read_low_file(
+    alloc: Global,
+    file: u32,
+    tokens: &Tokens,
+) -> Result<Option<LowFile>, AllocError>
+    ensures run { IfOk result (λ o. IfSome o (λ f. engine.run file (joined tokens.now) file_symbols engine.bottom ≡
+        Done (joined (drop f.next tokens.now)) (spec.file_made f.uses f.decls))) }
+    ensures sorts { IfOk result (λ o. IfSome o (λ f. spec.HaveSorts f.uses f.decls)) }
+    ensures place { IfOk result (λ o. IfSome o (λ f. StandsAt tokens.now f.next (joined (drop f.next tokens.now)))) }
+    ensures low { IfOk result (λ o. IfSome o (λ f. greatest_height (nodes_of (f.uses ++ f.decls)) ≤ 256)) }
+{
+    let mut stack = file_waits(alloc)?;
+    let mut groups = bottom(alloc)?;
+    match run_low(alloc, file, tokens, &mut stack, &mut groups)? {
+        Some(Reached::End(next)) => match low_parts(alloc, &mut groups)? {
+            Some(Parts { uses, decls }) => Ok(Some(LowFile { uses, decls, next })),
+            None => Ok(None),
+        },
+        Some(Reached::Stuck(_)) | None => Ok(None),
+    }
+}
+
+/// Takes the parts of the file that is under way out, where its trees are low.
+fn low_parts(alloc: Global, groups: &mut Pile<Group>) -> Result<Option<Parts>, AllocError>
+    requires { spec.HoldsFile groups.old }
+    ensures made { IfOk result (λ o. IfSome o (λ p. groups.old ≡ spec.file_made p.uses p.decls)) }
+    ensures sorts { IfOk result (λ o. IfSome o (λ p. spec.HaveSorts p.uses p.decls)) }
+    ensures low { IfOk result (λ o. IfSome o (λ p. greatest_height (nodes_of (p.uses ++ p.decls)) ≤ 256)) }
+{
+    match groups.top() {
+        Some(group) if group.highest() <= HIGHEST => {
+            let parts = parts_of(alloc, trees_in(groups))?;
+            Ok(Some(parts))
+        }
+        _ => Ok(None),
+    }
+}
+
+/// What is waited for in order to read a file.
+fn file_waits(alloc: Global) -> Result<Pile<Wait>, AllocError>
+    ensures { IfOk result (λ stack. waited stack ≡ file_symbols) }
+{
+    let mut stack = Pile::new(alloc);
+    push_waits(
+        &mut stack,
+        &[part(Rule::Each(Sort::Use)), part(Rule::Each(Sort::Decl))],
+    )?;
+    Ok(stack)
 }
 
 /// The parts of a file.

@@ -10,5 +10,5 @@ mod run;
 mod step;
 mod whole;
 
-pub use file::{FileOutcome, read_file};
+pub use file::{FileOutcome, LowFile, read_file, read_low_file};
 pub use parse::{Parsed, parse_expr, parse_type};

@@ -1,6 +1,6 @@
 //! The whole run: tokens are read from a place on, up to the first that is not used.
 
-ghost use Rattle.std.specs.Prelude.{◌≡◌, ◌++◌, List, Some, drop, slice_get, IfOk};
+ghost use Rattle.std.specs.Prelude.{◌≡◌, ◌++◌, List, Some, drop, slice_get, IfOk, IfSome};
 ghost use Rattle.hare_tree.specs.declared.token.Token.{Token};
 ghost use Rattle.hare_tree.specs.Grammar.{joined};
 ghost use Rattle.hare_automaton.specs.Engine as engine;
@@ -33,6 +33,12 @@ pub enum Reached {
     /// The token at this place of the list cannot stand there, or the tokens are used up.
     Stuck(usize),
 }
+
+/// A tree that is no higher than this keeps both limits on depth.
+pub const HIGHEST: usize = 256;
+
+/// So many trees are under way at the most where so many types, expressions and statements are open in one another as may be.
+const MOST_UNDER_WAY: usize = 768;
 
 /// The trees under way before the first token is read.
 pub fn bottom(alloc: Global) -> Result<Pile<Group>, AllocError>
@@ -81,6 +87,52 @@ pub fn run(
         }
     }
     Ok(Reached::Stuck(at))
+}
+
+/// The same while no tree under way becomes higher than 256, and no more than 768 are under way; none where one does or more are. So a tree
+/// that is built has at most 1,536 trees one in the other.
+#[tactic(auto, unfolding(hare_automaton::specs::Engine::run))]
+pub fn run_low(
+    alloc: Global,
+    file: u32,
+    tokens: &Tokens,
+    stack: &mut Pile<Wait>,
+    groups: &mut Pile<Group>,
+) -> Result<Option<Reached>, AllocError>
+    ensures value { IfOk result (λ o. IfSome o (λ r. engine.run file (joined tokens.now) (waited stack.old) groups.old ≡
+        spec.outcome_in r tokens.now groups.new)) }
+    ensures place { IfOk result (λ o. IfSome o (λ r. IsPlace tokens.now 0 (spec.place_in r))) }
+{
+    let mut buffer = RowBuffer::new(alloc);
+    let mut spare = Spare::new(alloc);
+    let mut at = 0;
+    while let Some(token) = tokens.get(at) {
+        let read = read_at(
+            &mut spare,
+            file,
+            tokens,
+            at,
+            token,
+            &mut buffer,
+            stack,
+            groups,
+        )?;
+        match read.answer {
+            Answer::Goes if is_low(groups) => at = read.next,
+            Answer::Goes => return Ok(None),
+            Answer::Ends => return Ok(Some(Reached::End(at))),
+            Answer::Stuck => return Ok(Some(Reached::Stuck(at))),
+        }
+    }
+    Ok(Some(Reached::Stuck(at)))
+}
+
+/// Whether few trees are under way, and the kids of the innermost are low.
+fn is_low(groups: &Pile<Group>) -> bool {
+    match groups.top() {
+        Some(group) => group.highest() <= HIGHEST && groups.len() <= MOST_UNDER_WAY,
+        None => true,
+    }
 }
 
 /// Reads the token at a place of the list, where strings side by side are one.

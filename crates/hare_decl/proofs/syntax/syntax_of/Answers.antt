@@ -1,24 +1,23 @@
-use Rattle.std.proofs.Common.{arith}
-use Rattle.hare_decl.proofs.Stuck.{depth_first, no_depth, stuck_at_token, stuck_at_end, end_not_used}
+use Rattle.std.proofs.Common.{rules, arith, ◌≡◌, ◌≤◌, ◌++◌, drop}
+use Rattle.std.proofs.lemmas.Grind.{common_steps}
+use Rattle.hare_tree.specs.Grammar.{joined}
+use Rattle.hare_automaton.specs.Engine.{Done, run, bottom}
+use Rattle.hare_automaton.specs.OneTree.{file_symbols}
+use Rattle.hare_parse.specs.Files.{HaveSorts, file_made}
+use Rattle.hare_parse.proofs.Heights.{high}
+use Rattle.hare_decl.proofs.Low.{low_files}
+use Rattle.hare_decl.proofs.Over.{low_whole}
 use Rattle.hare_decl.proofs.syntax.syntax_of.Goals as goal
 
 pub returns-in-Some-clause-value : goal.returns-in-Some-clause-value
-returns-in-Some-clause-value c = depth_first c.args.tokens.now c.in_ok-n.field-0 c.in-Some.n c.in_ok-n.ensures.value c.in-Some.is
-
-pub returns-in-Stuck-clause-value : goal.returns-in-Stuck-clause-value
-returns-in-Stuck-clause-value c =
-    let shallow = no_depth c.args.tokens.now c.in_ok-n.field-0 c.in_ok-n.ensures.value c.in_default.is in
-    let stuck = rw c.in-Stuck.is at c.in_ok-uses.ensures.run in
-    let stands = rw c.in-Stuck.is at c.in_ok-uses.ensures.place in
-    stuck_at_token c.args.file c.args.tokens.now c.in-Stuck.n shallow stuck stands (omega (arith, c.if-n-len.true, c.len.ensures))
-
-pub returns-in-Stuck-2-clause-value : goal.returns-in-Stuck-2-clause-value
-returns-in-Stuck-2-clause-value c =
-    let shallow = no_depth c.args.tokens.now c.in_ok-n.field-0 c.in_ok-n.ensures.value c.in_default.is in
-    let stuck = rw c.in-Stuck.is at c.in_ok-uses.ensures.run in
-    stuck_at_end c.args.file c.args.tokens.now c.in-Stuck.n shallow stuck (omega (arith, c.if-n-len.false, c.len.ensures))
-
-pub returns-in-Stuck-2-clause-ended : goal.returns-in-Stuck-2-clause-ended
-returns-in-Stuck-2-clause-ended c =
-    let stuck = rw c.in-Stuck.is at c.in_ok-uses.ensures.run in
-    λ k e. end_not_used c.args.file c.args.tokens.now c.in-Stuck.n stuck (omega (arith, c.if-n-len.false, c.len.ensures)) k
+returns-in-Some-clause-value c =
+    let ts = c.args.tokens.now in
+    let uses = c.in-Some.field-0.uses in
+    let decls = c.in-Some.field-0.decls in
+    let n = c.in-Some.field-0.next in
+    let read : run c.args.file (joined ts) file_symbols bottom ≡ Done (joined (drop n ts)) (file_made uses decls) =
+    first_of (search rules, grind (arith, common_steps)) in
+    let sorts : HaveSorts uses decls = first_of (search rules, grind (arith, common_steps)) in
+    let low : high (uses ++ decls) ≤ 256 = first_of (search rules, grind (arith, common_steps)) in
+    low_whole c.args.file ts uses decls n (record { run_is = read; sorts = sorts; limits = low_files c.args.file uses decls low })
+    (c.is_last_end.ensures c.if-is_last_end.true)
