@@ -1,6 +1,7 @@
 pub mod Code
 pub mod Shape
 pub mod Falls
+pub mod Contents
 pub mod Costs
 pub mod Addresses
 pub mod State

@@ -6,18 +6,18 @@ use Rattle.std.proofs.lemmas.List.Sums.{sum_by-cons}
 use Rattle.flat_code.specs.declared.program.Data.{Data}
 use Rattle.flat_code.specs.declared.program.FlatFn.{FlatFn}
 use Rattle.flat_code.specs.declared.program.FlatProgram.{FlatProgram}
-use Rattle.flat_code.specs.Code.{Code, Codes, none, more, Seq, Set, Load, Store, Move, If, Loop, Leave, Call, Ret}
+use Rattle.flat_code.specs.Contents.{loops_in, calls_in}
 use Rattle.flat_code.specs.Evaluation as flat
 use Rattle.flat_code.specs.Shape.{code_of}
 use Rattle.il_code.specs.declared.types.IlItem.{IlItem}
 use Rattle.il_code.specs.declared.types.IlItem.TheVariants as item
 use Rattle.il_code.specs.declared.types.Module.{Module}
 use Rattle.il_code.specs.State as il
-use Rattle.il_emit.specs.Shape.{backward_jumps, calls_of, loops_in, loops_in_all, calls_in, calls_in_all, outlined}
+use Rattle.il_emit.specs.Shape.{backward_jumps, calls_of, outlined}
 use Rattle.il_emit.specs.Shape as emit
 use Rattle.hare_blocks.specs.Trees.{Program}
 use Rattle.low_blocks.specs.Programs.{program_texts}
-use Rattle.low_blocks.specs.Shape.{code_loops, codes_loops, program_fors, HasItsLoops, code_calls, codes_calls, text_names}
+use Rattle.low_blocks.specs.Shape.{program_fors, HasItsLoops, text_names}
 use Rattle.low_blocks.specs.Shape as low
 use Rattle.harec_core.specs.Class.{outline_of}
 use Rattle.harec_core.specs.Shape.{Body, functions_of, data_count, HasShape}
@@ -115,49 +115,12 @@ length-text_names : (i : ℕ) (ts : List (List ℕ)) → length (text_names i ts
 length-text_names i [] = refl
 length-text_names i (t ∷ ts) = omega (arith, length-text_names (suc i) ts)
 
--- ---- loops and calls
-
--- loops are counted alike
-mutual
-  loops_same : (c : Code) → loops_in c ≡ code_loops c
-  loops_same (Seq cs) = all_loops_same cs
-  loops_same (Set t class o a b) = refl
-  loops_same (Load t how at) = refl
-  loops_same (Store width value at) = refl
-  loops_same (Move to from bytes) = refl
-  loops_same (If cond a b) = let x = loops_same a in let y = loops_same b in rw (x, y) refl
-  loops_same (Loop c) = ap suc (loops_same c)
-  loops_same (Leave k) = refl
-  loops_same (Call temp name args) = refl
-  loops_same (Ret value) = refl
-
-  all_loops_same : (cs : Codes) → loops_in_all cs ≡ codes_loops cs
-  all_loops_same none = refl
-  all_loops_same (more c cs) = let x = loops_same c in let y = all_loops_same cs in rw (x, y) refl
-
--- and calls
-module _ (name : List ℕ) where
-  mutual
-    calls_same : (c : Code) → calls_in name c ≡ code_calls name c
-    calls_same (Seq cs) = all_calls_same cs
-    calls_same (Set t class o a b) = refl
-    calls_same (Load t how at) = refl
-    calls_same (Store width value at) = refl
-    calls_same (Move to from bytes) = refl
-    calls_same (If cond a b) = let x = calls_same a in let y = calls_same b in rw (x, y) refl
-    calls_same (Loop c) = calls_same c
-    calls_same (Leave k) = refl
-    calls_same (Call temp target args) = refl
-    calls_same (Ret value) = refl
-
-    all_calls_same : (cs : Codes) → calls_in_all name cs ≡ codes_calls name cs
-    all_calls_same none = refl
-    all_calls_same (more c cs) = let x = calls_same c in let y = all_calls_same cs in rw (x, y) refl
+-- ---- loops
 
 loops_alone : (gs : List FlatFn) (g : FlatFn) → gs ≡ g ∷ [] →
-    sum_by (λ (x : FlatFn). code_loops (code_of x.body)) gs ≡ code_loops (code_of g.body)
+    sum_by (λ (x : FlatFn). loops_in (code_of x.body)) gs ≡ loops_in (code_of g.body)
 loops_alone gs g e =
-    let count : FlatFn → ℕ = λ x. code_loops (code_of x.body) in
+    let count : FlatFn → ℕ = λ x. loops_in (code_of x.body) in
     ap (λ (xs : List FlatFn). sum_by count xs) e ∙ sum_by-cons count g [] ∙ omega arith
 
 -- ---- the shape
@@ -200,7 +163,7 @@ module _ (p : Program) (f : FlatProgram) (m : Module) (shaped : emit.HasShape f 
   globals = one.count ∙ sym (length-map f.globals (λ (d : Data). d.name)) ∙ ap length lowered.globals
       ∙ length-text_names 0 (program_texts p)
 
-  all_loops : code_loops (code_of lowered.main.body) ≡ program_fors p
+  all_loops : loops_in (code_of lowered.main.body) ≡ program_fors p
   all_loops = sym (loops_alone f.functions lowered.main lowered.only) ∙ loops
 
   pub outline_shape : HasShape (outline_of p) m
@@ -208,9 +171,9 @@ module _ (p : Program) (f : FlatProgram) (m : Module) (shaped : emit.HasShape f 
     functions = rw one.functions (
       record {
         name = one.named;
-        jumps = omega (arith, within.jumps, loops_same (code_of lowered.main.body), all_loops);
+        jumps = omega (arith, within.jumps, all_loops);
         calls = (
-          rw one.named (omega (arith, within.calls, calls_same main (code_of lowered.main.body), lowered.calls)),
+          rw one.named (omega (arith, within.calls, lowered.calls)),
           tt,
         );
       },

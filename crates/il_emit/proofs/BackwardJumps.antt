@@ -22,7 +22,8 @@ use Rattle.il_emit.specs.declared.goal.Goal.TheVariants.{Next, Near, Far}
 use Rattle.il_emit.specs.Names.{label_name}
 use Rattle.il_emit.specs.Lines.{Line, Label, Do, End, operand, address_lines, arg_lines, is_next, fresh, is_more, has_lines, goal_label, inner, in_front, first_goal, go_lines, own_label, side, seq_end, target, way, named_call_lines, set_lines, load_lines, store_lines, move_lines, leave_lines, return_lines, exit_at, code_lines, each_lines, frame_lines, end_value, function_lines, labels_in, addresses_in}
 use Rattle.il_emit.specs.Emitted.{blocks_of}
-use Rattle.il_emit.specs.Shape.{backward_jumps, loops_in, loops_in_all}
+use Rattle.flat_code.specs.Contents.{loops_in, loops_in_all}
+use Rattle.il_emit.specs.Shape.{backward_jumps}
 use Rattle.il_emit.proofs.Counts.{both_true, all_append, all_more, or_true}
 use Rattle.il_emit.proofs.NumberedNames.{bytes_same}
 use Rattle.il_emit.proofs.Places.{jump_of, line_blocks, function_blocks, five_parts}
@@ -159,7 +160,8 @@ module _ (p : FlatProgram) (f : FlatFn) where
       ap back_of (append_assoc (address_lines p.globals v k) _ rest) ∙ address_back v k _ ∙ omega (arith, own_back g n rest)
 
   -- the lines of a single statement, and then the way to its goal
-  then_back : (g : Goal) (xs rest : List Line) → goal_stands rest g ≡ true → back_of (xs ++ (go_lines g ++ rest)) ≡ back_of (go_lines g ++ rest)
+  then_back : (g : Goal) (xs rest : List Line) → goal_stands rest g ≡ true →
+      back_of (xs ++ (go_lines g ++ rest)) ≡ back_of (go_lines g ++ rest)
       → back_of ((xs ++ go_lines g) ++ rest) ≡ back_of rest
   then_back g xs rest h e = ap back_of (append_assoc xs (go_lines g) rest) ∙ e ∙ go_back g rest h
 
@@ -179,7 +181,8 @@ module _ (p : FlatProgram) (f : FlatFn) where
   target_stands (Call temp name args) around es x ls r d h k = k
   target_stands (Ret value) around es x ls r d h k = k
 
-  way_stands : (c : Code) (around : ℕ) (es : List ℕ) (x own : ℕ) (lines ls : List Line) → is_right p f around c ≡ true → length es ≡ around →
+  way_stands : (c : Code) (around : ℕ) (es : List ℕ) (x own : ℕ) (lines ls : List Line) → is_right p f around c ≡ true →
+      length es ≡ around →
       list_all (stands ls) es ≡ true → stands ls x ≡ true → stands (side (has_lines c) own lines ++ ls) (way c es x own) ≡ true
   way_stands c around es x own lines ls r d h k = pick (has_lines c)
     where
@@ -208,7 +211,8 @@ module _ (p : FlatProgram) (f : FlatFn) where
         omega (
           arith,
           ap back_of (append_assoc (each_lines p cs (inner g n) m k (es ++ goal_label g n ∷ [])) (seq_end b g n) rest),
-          each_back cs (inner g n) (suc around) m k (es ++ goal_label g n ∷ []) tail q.1 (omega (arith, length-append es (goal_label g n ∷ [])))
+          each_back cs (inner g n) (suc around) m k (es ++ goal_label g n ∷ []) tail q.1
+              (omega (arith, length-append es (goal_label g n ∷ [])))
               exits (inner_stands g n tail x),
           end_back b g n rest i,
         )
@@ -257,14 +261,16 @@ module _ (p : FlatProgram) (f : FlatFn) where
         let at_a = all_behind es (side (has_lines b) other B) tail at_tail in
         let x_a = stands_behind x (side (has_lines b) other B) tail x_tail in
         let to_a = way_stands a around es x one A behind_a w.0 d at_a x_a in
-        let to_b = stands_behind (way b es x other) (side (has_lines a) one A) behind_a (way_stands b around es x other B tail w.1 d at_tail x_tail) in
+        let to_b = stands_behind (way b es x other) (side (has_lines a) one A) behind_a
+        (way_stands b around es x other B tail w.1 d at_tail x_tail) in
         omega (
           arith,
           ap back_of same,
           address_back v k (End branch ∷ behind),
           back_none (line_blocks behind) branch (both_true _ _ to_a to_b),
           side_back (has_lines a) one (loops_in a) A behind_a
-              (code_back a (first_goal (has_lines b) g n) around m (k + addressed v) es behind_a w.0 d at_a (first_stands (has_lines b) g n behind_a x_a)),
+              (code_back a (first_goal (has_lines b) g n) around m (k + addressed v) es behind_a w.0 d at_a
+              (first_stands (has_lines b) g n behind_a x_a)),
           side_back (has_lines b) other (loops_in b) B tail
               (code_back b (inner g n) around (m + labels_in a false) (k + addressed v + addresses_in a) es tail w.1 d at_tail
               (inner_stands g n tail x_tail)),
@@ -277,7 +283,8 @@ module _ (p : FlatProgram) (f : FlatFn) where
         let own = own_label g n ++ rest in
         let tail : List Line = End (jump.Jmp (label_name begin)) ∷ own in
         let same = append_assoc body (End (jump.Jmp (label_name begin)) ∷ own_label g n) rest in
-        let enters = back_none (line_blocks (Label begin ∷ (body ++ tail))) (jump.Jmp (label_name begin)) (stands_here begin (body ++ tail)) in
+        let enters = back_none (line_blocks (Label begin ∷ (body ++ tail))) (jump.Jmp (label_name begin))
+        (stands_here begin (body ++ tail)) in
         let enters' = ap (λ (x : List Line). back (line_blocks (Label begin ∷ x)) (jump.Jmp (label_name begin))) same in
         let turns = back_least (line_blocks own) (jump.Jmp (label_name begin)) in
         let exits = all_append (stands tail) es (goal_label g n ∷ [])

@@ -16,7 +16,8 @@ use Rattle.il_emit.specs.declared.goal.Goal.TheVariants.{Next, Near, Far}
 use Rattle.il_emit.specs.Names.{label_name}
 use Rattle.il_emit.specs.Lines.{Line, Label, Do, End, exit_at, is_next, fresh, is_more, has_lines, goal_label, inner, in_front, first_goal, go_lines, own_label, side, seq_end, if_branch, named_call_lines, address_lines, arg_lines, set_lines, load_lines, store_lines, move_lines, leave_lines, return_lines, code_lines, each_lines, frame_lines, inner_lines, end_value, function_lines, labels_in, addresses_in}
 use Rattle.il_emit.specs.Emitted.{blocks_of}
-use Rattle.il_emit.specs.Shape.{is_call_of, calls_of, calls_in, calls_in_all}
+use Rattle.flat_code.specs.Contents.{calls_in, calls_in_all}
+use Rattle.il_emit.specs.Shape.{is_call_of, calls_of}
 use Rattle.il_emit.proofs.Blocks.{block}
 use Rattle.il_emit.proofs.Counts.{sum_cons}
 use Rattle.il_emit.proofs.Places.{insts_of, jump_of, line_blocks, function_blocks}
@@ -150,7 +151,8 @@ module _ (p : FlatProgram) (name : List ℕ) where
         omega (
           arith,
           branch,
-          calls_append name (if_branch p.globals v a b g n k es) (side (has_lines a) one A ++ (side (has_lines b) other B ++ own_label g n)),
+          calls_append name (if_branch p.globals v a b g n k es)
+              (side (has_lines a) one A ++ (side (has_lines b) other B ++ own_label g n)),
           calls_append name (side (has_lines a) one A) (side (has_lines b) other B ++ own_label g n),
           calls_append name (side (has_lines b) other B) (own_label g n),
           side_calls (has_lines a) one A,
@@ -181,7 +183,8 @@ module _ (p : FlatProgram) (name : List ℕ) where
     each_calls (more c cs) g n k es =
         omega (
           arith,
-          calls_append name (code_lines p c (in_front cs g) n k es) (each_lines p cs g (n + labels_in c (is_more cs)) (k + addresses_in c) es),
+          calls_append name (code_lines p c (in_front cs g) n k es)
+              (each_lines p cs g (n + labels_in c (is_more cs)) (k + addresses_in c) es),
           code_calls c (in_front cs g) n k es,
           each_calls cs g (n + labels_in c (is_more cs)) (k + addresses_in c) es,
         )

@@ -1,11 +1,11 @@
 -- The module has the program's shape: the same data and functions in the same order, with no loop and no call that the program does not
 -- have, and calls that cost the stack no more.
-use Rattle.std.specs.Prelude.{◌≡◌, ℕ, suc, ◌+◌, ◌≤◌, Bool, true, false, not, ◌&&◌, ◌||◌, IsTrue, List, [], ◌∷◌, ◌++◌, map, Option, None, Some, bytes_eq, count_by, sum_by, if◌then◌else◌}
+use Rattle.std.specs.Prelude.{◌≡◌, ℕ, ◌+◌, ◌≤◌, Bool, true, false, not, ◌&&◌, ◌||◌, IsTrue, List, [], ◌∷◌, ◌++◌, map, Option, None, Some, bytes_eq, count_by, sum_by, if◌then◌else◌}
 use Rattle.std.specs.List.{list_all}
 use Rattle.flat_code.specs.declared.program.Data.{Data}
 use Rattle.flat_code.specs.declared.program.FlatFn.{FlatFn}
 use Rattle.flat_code.specs.declared.program.FlatProgram.{FlatProgram}
-use Rattle.flat_code.specs.Code.{Code, Codes, none, more, Seq, Set, Load, Store, Move, If, Loop, Leave, Call, Ret}
+use Rattle.flat_code.specs.Contents.{loops_in, calls_in}
 use Rattle.flat_code.specs.Costs as flat_cost
 use Rattle.flat_code.specs.Evaluation as flat
 use Rattle.flat_code.specs.Shape.{code_of}
@@ -93,44 +93,6 @@ takes (inst.Call result target args) = 0
 -- what a call of a function costs the stack in all
 abbrev pub full_cost : List IlParam → List Block → ℕ
 full_cost params blocks = call_cost params blocks + sum_by (λ (b : Block). sum_by takes b.insts) blocks
-
--- ---- code
-
--- how many Loops stand in code
-abbrev mutual
-  pub loops_in : Code → ℕ
-  loops_in (Seq cs) = loops_in_all cs
-  loops_in (Set temp class op a b) = 0
-  loops_in (Load temp how at) = 0
-  loops_in (Store width value at) = 0
-  loops_in (Move to from bytes) = 0
-  loops_in (If cond a b) = loops_in a + loops_in b
-  loops_in (Loop c) = suc (loops_in c)
-  loops_in (Leave k) = 0
-  loops_in (Call temp name args) = 0
-  loops_in (Ret value) = 0
-
-  pub loops_in_all : Codes → ℕ
-  loops_in_all none = 0
-  loops_in_all (more c cs) = loops_in c + loops_in_all cs
-
--- how many Calls of the function with a name stand in code
-abbrev mutual
-  pub calls_in : List ℕ → Code → ℕ
-  calls_in name (Seq cs) = calls_in_all name cs
-  calls_in name (Set temp class op a b) = 0
-  calls_in name (Load temp how at) = 0
-  calls_in name (Store width value at) = 0
-  calls_in name (Move to from bytes) = 0
-  calls_in name (If cond a b) = calls_in name a + calls_in name b
-  calls_in name (Loop c) = calls_in name c
-  calls_in name (Leave k) = 0
-  calls_in name (Call temp target args) = if bytes_eq target name then 1 else 0
-  calls_in name (Ret value) = 0
-
-  pub calls_in_all : List ℕ → Codes → ℕ
-  calls_in_all name none = 0
-  calls_in_all name (more c cs) = calls_in name c + calls_in_all name cs
 
 -- ---- functions and programs
 

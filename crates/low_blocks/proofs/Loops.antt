@@ -4,6 +4,7 @@ use Rattle.flat_code.specs.declared.op.Op.{Op}
 use Rattle.flat_code.specs.declared.op.Op.TheVariants.{Add, Sub, Mul}
 use Rattle.flat_code.specs.declared.value.Value.{Value}
 use Rattle.flat_code.specs.Code.{Code, codes_of}
+use Rattle.flat_code.specs.Contents.{loops_in, loops_in_all}
 use Rattle.hare_blocks.specs.Trees.{Expr, Terms, Term, Factors, Factor, sum_of, no_term, plus, minus, product_of, no_factor, times, number, arg_count, variable, group, Relation, less, less_equal, greater, greater_equal, equal, differ, Condition, always, compares, Statement, Statements, declares, assigns, chooses, chooses_one, repeats, puts, exits, nothing, first, Program, exit_of, block_of}
 use Rattle.hare_blocks.specs.Scopes.{number_of}
 use Rattle.low_blocks.specs.declared.last.Last.{Last}
@@ -11,10 +12,10 @@ use Rattle.low_blocks.specs.declared.last.Last.TheVariants.{Operand, Operation, 
 use Rattle.low_blocks.specs.Expressions.{Scope, last_set, Steps, Piece, settled, operand_of, operated, comparison, expr_steps, terms_steps, term_steps, factors_steps, factor_steps, expr_piece, condition_piece}
 use Rattle.low_blocks.specs.Statements.{Site, past, outside, variable_set, branch, turn, statement_code, statements_code}
 use Rattle.low_blocks.specs.Programs.{body_of, start, body_code, lowered}
-use Rattle.low_blocks.specs.Shape.{code_loops, codes_loops, statement_fors, statements_fors, program_fors, HasItsLoops}
+use Rattle.low_blocks.specs.Shape.{statement_fors, statements_fors, program_fors, HasItsLoops}
 
 abbrev loops : List Code → ℕ
-loops cs = codes_loops (codes_of cs)
+loops cs = loops_in_all (codes_of cs)
 
 loops_parts : (a b : List Code) → loops (a ++ b) ≡ loops a + loops b
 loops_parts [] b = omega arith
@@ -98,7 +99,7 @@ loops_variable (Some t) last = loops_last t last
 loops_branch : (test : Piece) (does other : List Code) → loops test.code ≡ 0 → loops (branch test does other) ≡ loops does + loops other
 loops_branch test does other h = loops_parts test.code _ ∙ omega (arith, h)
 
-loops_turn : (c : Condition) (test : Piece) (body : List Code) → loops test.code ≡ 0 → code_loops (turn c test body) ≡ loops body
+loops_turn : (c : Condition) (test : Piece) (body : List Code) → loops test.code ≡ 0 → loops_in (turn c test body) ≡ loops body
 loops_turn always test body h = refl
 loops_turn (compares a r b) test body h = loops_parts test.code _ ∙ omega (arith, h)
 

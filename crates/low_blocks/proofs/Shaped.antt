@@ -4,20 +4,21 @@ use Rattle.std.specs.Prelude.{codes}
 use Rattle.flat_code.specs.declared.program.Data.{Data}
 use Rattle.flat_code.specs.declared.value.Value.{Value}
 use Rattle.flat_code.specs.Code.{Code, Codes, none, more, Seq, Set, Load, Store, Move, If, Loop, Leave, Call, Ret, codes_of}
+use Rattle.flat_code.specs.Contents.{calls_in, calls_in_all}
 use Rattle.hare_blocks.specs.Trees.{Program}
 use Rattle.low_blocks.specs.Programs.{text_name, text_globals, body_of, start, body_code, program_texts, lowered_main, lowered}
-use Rattle.low_blocks.specs.Shape.{code_calls, codes_calls, text_names, HasShape}
+use Rattle.low_blocks.specs.Shape.{text_names, HasShape}
 use Rattle.low_blocks.proofs.Fits.{IsFitCall, IsFit, AreFit, statements_fit}
 use Rattle.low_blocks.proofs.Fits as fit
 
 call_is_none : (temp : Option ℕ) (name : List ℕ) (args : List Value) → IsFitCall temp name args →
-    code_calls (codes "main") (Call temp name args) ≡ 0
+    calls_in (codes "main") (Call temp name args) ≡ 0
 call_is_none temp name args (fit.counts t) = refl
 call_is_none temp name args (fit.leaves v h) = refl
 call_is_none temp name args (fit.puts_out i n) = refl
 
 mutual
-  no_calls : (c : Code) → IsFit c → code_calls (codes "main") c ≡ 0
+  no_calls : (c : Code) → IsFit c → calls_in (codes "main") c ≡ 0
   no_calls (Seq cs) h = no_calls_in cs h
   no_calls (Set t class o a b) h = refl
   no_calls (Load t how at) h = absurd h
@@ -29,7 +30,7 @@ mutual
   no_calls (Call temp name args) h = call_is_none temp name args h
   no_calls (Ret value) h = absurd h
 
-  no_calls_in : (cs : Codes) → AreFit cs → codes_calls (codes "main") cs ≡ 0
+  no_calls_in : (cs : Codes) → AreFit cs → calls_in_all (codes "main") cs ≡ 0
   no_calls_in none h = refl
   no_calls_in (more c cs) h = omega (arith, no_calls c h.0, no_calls_in cs h.1)
 
