@@ -125,7 +125,8 @@ enum Nest {
     If,
 }
 
-/// So many statements within one another, of which the innermost adds 1.
+/// So many statements within one another, of which the innermost adds 1. No other reads a temporary, so that asking whether the code is
+/// well formed goes over it few times.
 fn within(alloc: Global, nest: Nest, count: u32) -> Result<Flat, AllocError> {
     let mut code = add_one();
     for _ in 1..count {
@@ -143,7 +144,7 @@ fn round(alloc: Global, nest: Nest, code: Flat) -> Result<Flat, AllocError> {
         }
         Nest::Loop => Ok(Flat::Loop(FlatBox::new(alloc, code)?)),
         Nest::If => Ok(Flat::If {
-            cond: Value::Temp(TEMP),
+            cond: Value::Number(1),
             yes: FlatBox::new(alloc, code)?,
             no: FlatBox::new(alloc, Flat::Seq(FlatKids::new(alloc)))?,
         }),

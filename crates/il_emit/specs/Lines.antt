@@ -118,8 +118,8 @@ all_addressed (v ∷ vs) = addressed v + all_addressed vs
 
 -- ---- statements
 
--- Where control goes behind a statement is its goal: on to the next lines, which stand in the same block, to a label that stands right behind
--- the statement, or to one that does not, so that a jump is needed.
+-- Where control goes behind a statement is its goal: on to the next lines, which stand in the same block, to a label that stands right
+-- behind the statement, or to one that does not, so that a jump is needed.
 
 abbrev pub is_next : Goal → Bool
 is_next Next = true
@@ -135,6 +135,19 @@ fresh false = 0
 abbrev pub is_more : Codes → Bool
 is_more none = false
 is_more (more c cs) = true
+
+-- whether a statement has none within it
+abbrev pub is_single : Code → Bool
+is_single (Seq cs) = false
+is_single (Set temp class op a b) = true
+is_single (Load temp how at) = true
+is_single (Store width value at) = true
+is_single (Move to from bytes) = true
+is_single (If cond a b) = false
+is_single (Loop c) = false
+is_single (Leave j) = true
+is_single (Call temp name args) = true
+is_single (Ret value) = true
 
 -- whether a side of an If has lines. Nothing, or a Leave, has none: the branch goes where that goes.
 abbrev pub has_lines : Code → Bool
@@ -317,8 +330,8 @@ abbrev pub named_call_lines : FlatProgram → Option ℕ → List ℕ → List V
 named_call_lines p temp name args k =
     call_lines p.globals (called_params (function_named p.functions name) name) (result_class p name) temp name args k
 
--- The lines of a statement, whose labels have the numbers from `n` on and whose addresses those from `k` on. Where lines stand behind a Leave
--- or a Ret, they have a block of their own. A Loop is entered by a written jump and has one backward jump.
+-- The lines of a statement, whose labels have the numbers from `n` on and whose addresses those from `k` on. Where lines stand behind a
+-- Leave or a Ret, they have a block of their own. A Loop is entered by a written jump and has one backward jump.
 module _ (p : FlatProgram) where
   abbrev mutual
     pub code_lines : Code → Goal → (n k : ℕ) → (exits : List ℕ) → List Line

@@ -1,19 +1,19 @@
 //! The lines of statements.
 //!
-//! [`code`] recurses as deep as statements stand within one another. What it does for a single statement is never inlined into it, and is
-//! given operands by reference, so that it takes little of the stack for each level.
+//! [`code`] recurses as deep as statements stand within one another. What it does for a single statement is never inlined into it, and a
+//! Seq and a Loop have a function of their own that is called last, so that it takes little of the stack for each level.
 
-ghost use Rattle.std.specs.Prelude.{◌≡◌, ◌+◌, ◌-◌, ◌<◌, ◌^◌, ◌++◌, false, not, length, take, drop, OnOk, IfOk};
-ghost use Rattle.flat_code.specs.Code.{codes_of};
+ghost use Rattle.std.specs.Prelude.{◌≡◌, ◌+◌, ◌-◌, ◌<◌, ◌^◌, ◌++◌, true, false, not, length, take, drop, OnOk, IfOk};
+ghost use Rattle.flat_code.specs.Code.{Seq, Loop, codes_of};
 ghost use Rattle.flat_code.specs.Costs.{addressed};
 ghost use Rattle.flat_code.specs.Shape.{code_of};
-ghost use Rattle.il_emit.specs.Lines.{labels_in, labels_in_all, addresses_in, addresses_in_all, addresses_of, all_addressed, code_lines, each_lines, set_lines, load_lines, store_lines, move_lines, is_next, fresh, is_more, has_lines, way, side, in_front, first_goal, go_lines, seq_end, if_branch, named_call_lines, return_lines};
+ghost use Rattle.il_emit.specs.Lines.{labels_in, labels_in_all, addresses_in, addresses_in_all, addresses_of, all_addressed, code_lines, each_lines, set_lines, load_lines, store_lines, move_lines, is_next, fresh, is_more, is_single, has_lines, way, side, in_front, first_goal, go_lines, seq_end, if_branch, named_call_lines, return_lines};
 ghost use Rattle.il_emit.specs.Emitting.{Emits};
 
 use crate::emitter::Emitter;
 use crate::goal::{Goal, fresh};
 use crate::source::Source;
-use flat_code::{Flat, FlatKids, LoadKind, Op, Value, Values};
+use flat_code::{Flat, FlatBox, FlatKids, LoadKind, Op, Value, Values};
 use hx_base::{Class, Text};
 use std::alloc::AllocError;
 
@@ -128,10 +128,12 @@ fn begin_if(
     goal: Goal,
 ) -> Result<u64, AllocError>
     ensures first { IfOk result (λ n. n ≡ e.old.labels) }
-    ensures fits { OnOk result (e.old.labels + fresh (is_next goal) + fresh (has_lines (code_of yes.now)) + fresh (has_lines (code_of no.now))
+    ensures fits { OnOk result (e.old.labels + fresh (is_next goal) + fresh (has_lines (code_of yes.now)) + fresh
+        (has_lines (code_of no.now))
         < 2 ^ 64) }
     ensures ok { OnOk result (Emits e.old e.new
-        (if_branch s.now.program.now.globals cond.now (code_of yes.now) (code_of no.now) goal e.old.labels e.old.addresses e.old.exits.items)
+        (if_branch s.now.program.now.globals cond.now (code_of yes.now)
+        (code_of no.now) goal e.old.labels e.old.addresses e.old.exits.items)
         (fresh (is_next goal) + fresh (has_lines (code_of yes.now)) + fresh (has_lines (code_of no.now)))
         (addressed cond.now) e.old.exits.items) }
 {
@@ -194,16 +196,6 @@ fn ret(e: &mut Emitter, s: &Source, value: &Option<Value>, goal: Goal) -> Result
     e.ret(s.program.globals.as_slice(), *value, goal)
 }
 
-/// Ends a Seq of these statements, with this own label.
-#[inline(never)]
-#[tactic(auto, using(crate::proofs::Emitting::empty_is))]
-fn end_seq(e: &mut Emitter, kids: &FlatKids, goal: Goal, n: u64) -> Result<(), AllocError>
-    ensures { OnOk result (Emits e.old e.new (seq_end (not (is_more (codes_of kids.now))) goal n) 0 0
-        (take (length e.old.exits.items - 1) e.old.exits.items)) }
-{
-    e.end_seq(kids.is_empty(), goal, n)
-}
-
 /// The goal of the first side of an If, before this other side.
 #[inline(never)]
 fn first_goal(other: &Flat, goal: Goal, n: u64) -> Goal
@@ -229,21 +221,15 @@ fn other_label(first: &Flat, goal: Goal, n: u64) -> u64
     n + goal.fresh() + fresh(has_lines(first))
 }
 
-/// Emits a statement, behind which control goes to a goal.
-#[cycle(code)]
-#[tactic(auto, using(crate::proofs::Numbering::inner_next, crate::proofs::Numbering::first_next))]
-pub fn code(e: &mut Emitter, s: &Source, c: &Flat, goal: Goal) -> Result<(), AllocError>
+/// Emits a statement that has none within it, behind which control goes to a goal.
+#[inline(never)]
+fn single(e: &mut Emitter, s: &Source, c: &Flat, goal: Goal) -> Result<(), AllocError>
+    requires { is_single (code_of c.now) ≡ true }
     ensures { OnOk result (Emits e.old e.new
         (code_lines s.now.program.now (code_of c.now) goal e.old.labels e.old.addresses e.old.exits.items)
         (labels_in (code_of c.now) (is_next goal)) (addresses_in (code_of c.now)) e.old.exits.items) }
 {
     match c {
-        Flat::Seq(kids) => {
-            let n = e.begin_seq(goal)?;
-            each(e, s, kids, goal.inner(n))?;
-            end_seq(e, kids, goal, n)?;
-            Ok(())
-        }
         Flat::Set {
             temp,
             class,
@@ -254,6 +240,23 @@ pub fn code(e: &mut Emitter, s: &Source, c: &Flat, goal: Goal) -> Result<(), All
         Flat::Load { temp, how, at } => load(e, s, *temp, *how, at, goal),
         Flat::Store { width, value, at } => store(e, s, *width, value, at, goal),
         Flat::Move { to, from, bytes } => copy(e, s, to, from, *bytes, goal),
+        Flat::Leave(j) => e.leave(*j, goal),
+        Flat::Call { temp, name, args } => call(e, s, temp, name, args, goal),
+        Flat::Ret(value) => ret(e, s, value, goal),
+        Flat::Seq(_) | Flat::If { .. } | Flat::Loop(_) => Ok(()),
+    }
+}
+
+/// Emits a statement, behind which control goes to a goal.
+#[cycle(code)]
+#[tactic(auto, using(crate::proofs::Numbering::inner_next, crate::proofs::Numbering::first_next))]
+pub fn code(e: &mut Emitter, s: &Source, c: &Flat, goal: Goal) -> Result<(), AllocError>
+    ensures { OnOk result (Emits e.old e.new
+        (code_lines s.now.program.now (code_of c.now) goal e.old.labels e.old.addresses e.old.exits.items)
+        (labels_in (code_of c.now) (is_next goal)) (addresses_in (code_of c.now)) e.old.exits.items) }
+{
+    match c {
+        Flat::Seq(kids) => seq(e, s, kids, goal),
         Flat::If { cond, yes, no } => {
             let first = yes.get();
             let other = no.get();
@@ -269,16 +272,23 @@ pub fn code(e: &mut Emitter, s: &Source, c: &Flat, goal: Goal) -> Result<(), All
             e.own_label(goal, n)?;
             Ok(())
         }
-        Flat::Loop(body) => {
-            let n = e.begin_loop(goal)?;
-            code(e, s, body.get(), Goal::Next)?;
-            e.end_loop(goal, n)?;
-            Ok(())
-        }
-        Flat::Leave(j) => e.leave(*j, goal),
-        Flat::Call { temp, name, args } => call(e, s, temp, name, args, goal),
-        Flat::Ret(value) => ret(e, s, value, goal),
+        Flat::Loop(body) => repeat(e, s, body, goal),
+        _ => single(e, s, c, goal),
     }
+}
+
+/// Emits a Loop.
+#[inline(never)]
+#[cycle(code)]
+fn repeat(e: &mut Emitter, s: &Source, body: &FlatBox, goal: Goal) -> Result<(), AllocError>
+    ensures { OnOk result (Emits e.old e.new
+        (code_lines s.now.program.now (Loop body.now) goal e.old.labels e.old.addresses e.old.exits.items)
+        (labels_in (Loop body.now) (is_next goal)) (addresses_in (Loop body.now)) e.old.exits.items) }
+{
+    let n = e.begin_loop(goal)?;
+    code(e, s, body.get(), Goal::Next)?;
+    e.end_loop(goal, n)?;
+    Ok(())
 }
 
 /// Emits a side of an If, if it has lines, behind its own label. Its goal is a label.
@@ -295,8 +305,7 @@ fn side(e: &mut Emitter, s: &Source, c: &Flat, goal: Goal, own: u64) -> Result<(
         return Ok(());
     }
     e.label(own)?;
-    code(e, s, c, goal)?;
-    Ok(())
+    code(e, s, c, goal)
 }
 
 /// The goal of a statement in front of those from one on.
@@ -308,6 +317,31 @@ fn in_front(kids: &FlatKids, next: usize, goal: Goal) -> Goal
         None => goal,
         Some(_) => Goal::Next,
     }
+}
+
+/// Ends a Seq of these statements, with this own label.
+#[inline(never)]
+#[tactic(auto, using(crate::proofs::Emitting::empty_is))]
+fn end_seq(e: &mut Emitter, kids: &FlatKids, goal: Goal, n: u64) -> Result<(), AllocError>
+    ensures { OnOk result (Emits e.old e.new (seq_end (not (is_more (codes_of kids.now))) goal n) 0 0
+        (take (length e.old.exits.items - 1) e.old.exits.items)) }
+{
+    e.end_seq(kids.is_empty(), goal, n)
+}
+
+/// Emits a Seq.
+#[inline(never)]
+#[cycle(code)]
+#[tactic(auto, using(crate::proofs::Numbering::inner_next))]
+fn seq(e: &mut Emitter, s: &Source, kids: &FlatKids, goal: Goal) -> Result<(), AllocError>
+    ensures { OnOk result (Emits e.old e.new
+        (code_lines s.now.program.now (Seq (codes_of kids.now)) goal e.old.labels e.old.addresses e.old.exits.items)
+        (labels_in (Seq (codes_of kids.now)) (is_next goal)) (addresses_in (Seq (codes_of kids.now))) e.old.exits.items) }
+{
+    let n = e.begin_seq(goal)?;
+    each(e, s, kids, goal.inner(n))?;
+    end_seq(e, kids, goal, n)?;
+    Ok(())
 }
 
 /// Emits the statements of a Seq, one behind the other. The last has this goal, which is a label.

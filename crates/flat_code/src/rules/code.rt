@@ -177,13 +177,22 @@ fn is_ret_right(p: &FlatProgram, f: &FlatFn, value: &Option<Value>) -> bool
     is_return(p, f, f.result, *value)
 }
 
-/// Whether a statement keeps the rules, with so many Seqs and Loops round it, in a function of a program.
+/// A function, and the program that it is of.
+#[derive(Drop)]
+pub struct Place<'a> {
+    pub program: &'a FlatProgram,
+    pub function: &'a FlatFn,
+}
+
+/// Whether a statement keeps the rules, with so many Seqs and Loops round it, in a function of a program. Recurses as deep as statements
+/// stand within one another, so it has few parameters.
 #[cycle(right)]
-pub fn is_right(p: &FlatProgram, f: &FlatFn, around: u32, code: &Flat) -> bool
-    ensures { result ≡ is_right p.now f.now around (code_of code.now) }
+pub fn is_right(place: &Place<'_>, around: u32, code: &Flat) -> bool
+    ensures { result ≡ is_right place.now.program.now place.now.function.now around (code_of code.now) }
 {
+    let (p, f) = (place.program, place.function);
     match code {
-        Flat::Seq(kids) => around < DEEPEST && are_right(p, f, around + 1, kids),
+        Flat::Seq(kids) => around < DEEPEST && are_right(place, around + 1, kids),
         Flat::Set {
             temp,
             class,
@@ -196,10 +205,10 @@ pub fn is_right(p: &FlatProgram, f: &FlatFn, around: u32, code: &Flat) -> bool
         Flat::Move { to, from, bytes } => is_move_right(p, f, to, from, *bytes),
         Flat::If { cond, yes, no } => {
             is_condition(p, f, cond)
-                && is_right(p, f, around, yes.get())
-                && is_right(p, f, around, no.get())
+                && is_right(place, around, yes.get())
+                && is_right(place, around, no.get())
         }
-        Flat::Loop(body) => around < DEEPEST && is_right(p, f, around + 1, body.get()),
+        Flat::Loop(body) => around < DEEPEST && is_right(place, around + 1, body.get()),
         Flat::Leave(k) => *k < around,
         Flat::Call { temp, name, args } => is_call_right(p, f, temp, name, args),
         Flat::Ret(value) => is_ret_right(p, f, value),
@@ -208,12 +217,12 @@ pub fn is_right(p: &FlatProgram, f: &FlatFn, around: u32, code: &Flat) -> bool
 
 #[cycle(right)]
 #[tactic(auto, using(crate::proofs::Kids::kid_deep, crate::proofs::Kids::drop_kid, crate::proofs::Kids::drop_rest))]
-fn are_right(p: &FlatProgram, f: &FlatFn, around: u32, kids: &FlatKids) -> bool
-    ensures { result ≡ are_right p.now f.now around (codes_of kids.now) }
+fn are_right(place: &Place<'_>, around: u32, kids: &FlatKids) -> bool
+    ensures { result ≡ are_right place.now.program.now place.now.function.now around (codes_of kids.now) }
 {
     for i in 0..kids.len() {
         if let Some(kid) = kids.get(i) {
-            if !is_right(p, f, around, kid) {
+            if !is_right(place, around, kid) {
                 return false;
             }
         }

@@ -3,7 +3,7 @@
 ghost use Rattle.std.specs.Prelude.{◌≡◌, ◌≤◌, length};
 ghost use Rattle.flat_code.specs.WellFormed.{is_main, no_long, is_main_right, params_have_one_class, is_function_right};
 
-use super::code::{DEEPEST, is_right, nests_within};
+use super::code::{DEEPEST, Place, is_right, nests_within};
 use super::names::is_symbol;
 use super::operand::is_long;
 use super::temps::has_one_class;
@@ -49,10 +49,14 @@ fn params_have_one_class(p: &FlatProgram, f: &FlatFn) -> bool
 pub fn is_function_right(p: &FlatProgram, f: &FlatFn) -> bool
     ensures { result ≡ is_function_right p.now f.now }
 {
+    let place = Place {
+        program: p,
+        function: f,
+    };
     is_symbol(f.name.bytes())
         && is_main_right(f)
         && f.params.len() <= f.temps as usize
         && nests_within(&f.body, DEEPEST)
         && params_have_one_class(p, f)
-        && is_right(p, f, 0, &f.body)
+        && is_right(&place, 0, &f.body)
 }

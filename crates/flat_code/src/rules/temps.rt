@@ -66,51 +66,51 @@ fn is_given(class: Class, given: Option<Class>) -> bool
     }
 }
 
-/// Whether a call sets the temporary at the class. The name is looked up only where the call sets the temporary at all.
-fn call_sets(p: &FlatProgram, t: u32, class: Class, temp: Option<u32>, name: &[u8]) -> bool
-    ensures { result ≡ call_sets t class temp (result_class p.now name.now) }
-{
-    match temp {
-        None => false,
-        Some(temp) => temp == t && is_given(class, result_class(p, name)),
-    }
-}
-
-/// A temporary at a class.
+/// A temporary at a class, in a program.
 #[derive(Drop)]
-struct Target {
+struct Target<'a> {
+    program: &'a FlatProgram,
     temp: u32,
     class: Class,
 }
 
-/// Whether code sets a temporary at a class.
+/// Whether a call sets the temporary at the class. The name is looked up only where the call sets the temporary at all.
+#[inline(never)]
+fn call_sets(target: &Target<'_>, temp: Option<u32>, name: &[u8]) -> bool
+    ensures { result ≡ call_sets target.now.temp target.now.class temp (result_class target.now.program.now name.now) }
+{
+    match temp {
+        None => false,
+        Some(temp) => {
+            temp == target.temp && is_given(target.class, result_class(target.program, name))
+        }
+    }
+}
+
+/// Whether code sets a temporary at a class. Recurses as deep as statements stand within one another, so it has few parameters.
 #[cycle(sets)]
-fn code_sets(p: &FlatProgram, target: &Target, code: &Flat) -> bool
-    ensures { result ≡ code_sets p.now target.now.temp target.now.class (code_of code.now) }
+fn code_sets(target: &Target<'_>, code: &Flat) -> bool
+    ensures { result ≡ code_sets target.now.program.now target.now.temp target.now.class (code_of code.now) }
 {
     match code {
-        Flat::Seq(kids) => one_sets(p, target, kids),
+        Flat::Seq(kids) => one_sets(target, kids),
         Flat::Set { temp, class, .. } => is_temp_of(target.temp, target.class, *temp, *class),
         Flat::Load { temp, .. } => is_temp_of(target.temp, target.class, *temp, Class::L),
-        Flat::If { yes, no, .. } => {
-            code_sets(p, target, yes.get()) || code_sets(p, target, no.get())
-        }
-        Flat::Loop(body) => code_sets(p, target, body.get()),
-        Flat::Call { temp, name, .. } => {
-            call_sets(p, target.temp, target.class, *temp, name.bytes())
-        }
+        Flat::If { yes, no, .. } => { code_sets(target, yes.get()) || code_sets(target, no.get()) }
+        Flat::Loop(body) => code_sets(target, body.get()),
+        Flat::Call { temp, name, .. } => call_sets(target, *temp, name.bytes()),
         Flat::Store { .. } | Flat::Move { .. } | Flat::Leave(_) | Flat::Ret(_) => false,
     }
 }
 
 #[cycle(sets)]
 #[tactic(auto, using(crate::proofs::Kids::kid_deep, crate::proofs::Kids::drop_kid, crate::proofs::Kids::drop_rest))]
-fn one_sets(p: &FlatProgram, target: &Target, kids: &FlatKids) -> bool
-    ensures { result ≡ one_sets p.now target.now.temp target.now.class (codes_of kids.now) }
+fn one_sets(target: &Target<'_>, kids: &FlatKids) -> bool
+    ensures { result ≡ one_sets target.now.program.now target.now.temp target.now.class (codes_of kids.now) }
 {
     for i in 0..kids.len() {
         if let Some(kid) = kids.get(i) {
-            if code_sets(p, target, kid) {
+            if code_sets(target, kid) {
                 return true;
             }
         }
@@ -140,8 +140,12 @@ fn params_set(t: u32, class: Class, params: &[Class]) -> bool
 pub fn is_set(p: &FlatProgram, f: &FlatFn, t: u32, class: Class) -> bool
     ensures { result ≡ is_set p.now f.now t class }
 {
-    let target = Target { temp: t, class };
-    params_set(t, class, f.params.as_slice()) || code_sets(p, &target, &f.body)
+    let target = Target {
+        program: p,
+        temp: t,
+        class,
+    };
+    params_set(t, class, f.params.as_slice()) || code_sets(&target, &f.body)
 }
 
 /// Whether the function sets the temporary at no other class.

@@ -22,25 +22,24 @@ each-loop-i-preserved t c =
       | each-in_default w ↦ absurd (grind (arith, common_steps))
     ]
 
-pub code-returns-in_ok-end_seq-in-Seq : goal.code-returns-in_ok-end_seq-in-Seq
-code-returns-in_ok-end_seq-in-Seq t c =
-    let statements = rw c.inner.ensures at c.in_ok-each-in-Seq.ensures in
-    rw c.in-Seq.is (seq_emits c.args.s.now.program.now (codes_of c.in-Seq.kids) c.args.goal c.in_ok-n-in-Seq.n c.args.e.now
-    c.begin_seq.new.self c.each.new.e c.end_seq.new.e c.in_ok-n-in-Seq.ensures.first c.in_ok-n-in-Seq.ensures.ok statements
-    c.in_ok-end_seq-in-Seq.ensures)
+pub seq-returns : goal.seq-returns
+seq-returns t c =
+    let statements = rw c.inner.ensures at c.in_ok-each.ensures in
+    seq_emits c.args.s.now.program.now (codes_of c.args.kids.now) c.args.goal c.in_ok-n.n c.args.e.now c.begin_seq.new.self
+    c.each.new.e c.end_seq.new.e c.in_ok-n.ensures.first c.in_ok-n.ensures.ok statements c.in_ok-end_seq.ensures
 
 pub code-returns-in_ok-own_label-in-If : goal.code-returns-in_ok-own_label-in-If
 code-returns-in_ok-own_label-in-If t c =
     let branch = rw (c.get-first.ensures, c.get-other.ensures) at c.in_ok-n-in-If.ensures.ok in
     let one = rw (c.first_goal.ensures, c.first_label.ensures, c.get-first.ensures, c.get-other.ensures) at c.in_ok-side-in-If.ensures in
-    let other = rw (c.inner-in-If.ensures, c.other_label.ensures, c.get-first.ensures, c.get-other.ensures) at c.in_ok-side-in-If-2.ensures in
+    let other = rw (c.inner.ensures, c.other_label.ensures, c.get-first.ensures, c.get-other.ensures) at
+    c.in_ok-side-in-If-2.ensures in
     rw c.in-If.is (if_emits c.args.s.now.program.now c.in-If.cond c.in-If.yes c.in-If.no c.args.goal c.in_ok-n-in-If.n c.args.e.now
     c.begin_if.new.e c.side.new.e c.side-in-If.new.e c.own_label.new.self c.in_ok-n-in-If.ensures.first branch one other
     c.in_ok-own_label-in-If.ensures)
 
-pub code-returns-in_ok-end_loop-in-Loop : goal.code-returns-in_ok-end_loop-in-Loop
-code-returns-in_ok-end_loop-in-Loop t c =
-    let body = rw c.get.ensures at c.in_ok-code-in-Loop.ensures in
-    rw c.in-Loop.is (loop_emits c.args.s.now.program.now c.in-Loop.body c.args.goal c.in_ok-n-in-Loop.n c.args.e.now c.begin_loop.new.self
-    c.code.new.e c.end_loop.new.self c.in_ok-n-in-Loop.ensures.first c.in_ok-n-in-Loop.ensures.ok body
-    c.in_ok-end_loop-in-Loop.ensures)
+pub repeat-returns : goal.repeat-returns
+repeat-returns t c =
+    let body = rw c.get.ensures at c.in_ok-code.ensures in
+    loop_emits c.args.s.now.program.now c.args.body.now c.args.goal c.in_ok-n.n c.args.e.now c.begin_loop.new.self c.code.new.e
+    c.end_loop.new.self c.in_ok-n.ensures.first c.in_ok-n.ensures.ok body c.in_ok-end_loop.ensures

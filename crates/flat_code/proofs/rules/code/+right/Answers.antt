@@ -10,7 +10,8 @@ are_right-loop-i-preserved t c =
     elim c.match-get.branch [
       | are_right-in-Some+else-not-is_right w ↦
           let kept : w.is_right.result ≡ true = grind (arith, common_steps) in
-          sym (right_more c.args.p.now c.args.f.now c.args.around c.args.kids.now c.loop-i.i _ w.in-Some.ensures.found
+          let place = c.args.place.now in
+          sym (right_more place.program.now place.function.now c.args.around c.args.kids.now c.loop-i.i _ w.in-Some.ensures.found
           (sym w.is_right.ensures ∙ kept)) ∙ c.loop-i.invariant
       | are_right-in_default w ↦ absurd (grind (arith, common_steps))
     ]
