@@ -1,5 +1,5 @@
 -- Frames, memory and calls, by what a run of flat code and a run of its module come to on small programs.
-use Rattle.std.proofs.Common.{◌≡◌, ℕ, ◌+◌, ◌-◌, ◌^◌, [], ◌∷◌, Option, Some, None, Bool, true, false, refl}
+use Rattle.std.proofs.Common.{◌≡◌, ℕ, ◌+◌, ◌-◌, ◌*◌, ◌^◌, [], ◌∷◌, Option, Some, None, Bool, true, false, refl}
 use Rattle.std.specs.Fmt.{digits}
 use Rattle.std.specs.Prelude.{codes}
 use Rattle.hx_base.specs.declared.Class.TheVariants.{W, L}
@@ -183,3 +183,21 @@ just_fits = refl
 one_byte_more : (machine_run (large (2 ^ 30 - 79)) 1000).ended ≡ Some machine.StackFull
 unfolding digits
 one_byte_more = refl
+
+-- `main`, with such a frame, calls a function which calls itself twice. A call of it costs 64, and 8 for each of its two temporaries.
+abbrev filling : ℕ → FlatProgram
+filling frame = program (
+    plain (codes "main") 1 frame (
+    Set 0 L Copy (Number 2) (Number 0) ∷ Call None (codes "h.f") (Temp 0 ∷ []) ∷ Ret (Some (Number 4)) ∷ [])
+    ∷ of_one (codes "h.f") L 2 0 (
+    If (Temp 0) (seq (Set 1 L Sub (Temp 0) (Number 1) ∷ Call None (codes "h.f") (Temp 1 ∷ []) ∷ [])) (seq []) ∷ []) ∷ []) []
+
+-- 80 for `main`, and three calls fill the stack
+calls_fit : (machine_run (filling (2 ^ 30 - 80 - 3 * 80)) 1000).ended ≡ Some (machine.Exit 4)
+unfolding digits
+calls_fit = refl
+
+-- a multiple of 16 more in the frame, and the third call has no room
+calls_fill : (machine_run (filling (2 ^ 30 - 80 - 3 * 80 + 16)) 1000).ended ≡ Some machine.StackFull
+unfolding digits
+calls_fill = refl

@@ -2,7 +2,7 @@
 
 use flat_code::{
     Class, Classes, Data, DataList, Flat, FlatBox, FlatFn, FlatFns, FlatKids, FlatProgram, Item,
-    Op, Value, Values, well_formed,
+    LoadKind, Op, Value, Values, well_formed,
 };
 use hx_base::{Bytes, Items, Text};
 use il_code::{print, valid};
@@ -10,8 +10,8 @@ use il_emit::emit;
 use std::alloc::{AllocError, Global};
 use std::test::Fail;
 
-/// A program that is `main`, of three temporaries and a word as result, with one global.
-fn program(alloc: Global, body: Flat) -> Result<FlatProgram, AllocError> {
+/// A program of these functions, with one global.
+fn program_of(alloc: Global, functions: FlatFns) -> Result<FlatProgram, AllocError> {
     let mut bytes = Bytes::new(alloc);
     bytes.extend(b"ab\n")?;
     let mut items = Items::new(alloc);
@@ -22,16 +22,26 @@ fn program(alloc: Global, body: Flat) -> Result<FlatProgram, AllocError> {
         align: 1,
         items,
     })?;
-    let mut functions = FlatFns::new(alloc);
-    functions.push(FlatFn {
+    Ok(FlatProgram { functions, globals })
+}
+
+/// `main`, of three temporaries, such a frame and a word as result.
+fn main_function(alloc: Global, frame: u64, body: Flat) -> Result<FlatFn, AllocError> {
+    Ok(FlatFn {
         name: Text::copy(alloc, "main")?,
         params: Classes::new(alloc),
         result: Some(Class::W),
         temps: 3,
-        frame: 0,
+        frame,
         body,
-    })?;
-    Ok(FlatProgram { functions, globals })
+    })
+}
+
+/// A program that is `main` alone, without a frame.
+fn program(alloc: Global, body: Flat) -> Result<FlatProgram, AllocError> {
+    let mut functions = FlatFns::new(alloc);
+    functions.push(main_function(alloc, 0, body)?)?;
+    program_of(alloc, functions)
 }
 
 fn seq(alloc: Global, a: Flat, b: Flat) -> Result<Flat, AllocError> {
@@ -71,17 +81,22 @@ fn branch(alloc: Global, cond: Value, yes: Flat, no: Flat) -> Result<Flat, Alloc
     })
 }
 
-/// The text of a program with this body, if the program is well formed and its module valid.
-fn text(alloc: Global, body: Flat) -> Result<Option<Bytes>, AllocError> {
-    let p = program(alloc, body)?;
-    if !well_formed(&p) {
+/// The text of a program, if it is well formed and its module valid.
+fn text_of(alloc: Global, p: &FlatProgram) -> Result<Option<Bytes>, AllocError> {
+    if !well_formed(p) {
         return Ok(None);
     }
-    let m = emit(alloc, &p)?;
+    let m = emit(alloc, p)?;
     if !valid(&m) {
         return Ok(None);
     }
     Ok(Some(print(alloc, &m)?))
+}
+
+/// The text of a program with this body.
+fn text(alloc: Global, body: Flat) -> Result<Option<Bytes>, AllocError> {
+    let p = program(alloc, body)?;
+    text_of(alloc, &p)
 }
 
 /// Counts from 0 to the number of arguments, writes two bytes each time, and leaves the Loop.
@@ -205,5 +220,143 @@ export function w $main() {
 "
             .as_slice()
     );
+    Ok(())
+}
+
+/// A call of five arguments, each a place of the frame or of a global.
+#[test]
+fn a_call_of_computed_addresses(rt: HostRuntime) -> Result<(), Fail> {
+    let alloc = rt.alloc();
+    let mut params = Classes::new(alloc);
+    for _ in 0..5 {
+        params.push(Class::L)?;
+    }
+    let args = [
+        Value::Frame(0),
+        Value::Symbol(0, 1),
+        Value::Frame(8),
+        Value::Symbol(0, 2),
+        Value::Symbol(0, 3),
+    ];
+    let mut functions = FlatFns::new(alloc);
+    functions.push(main_function(alloc, 16, call(alloc, None, "h.f", &args)?)?)?;
+    functions.push(FlatFn {
+        name: Text::copy(alloc, "h.f")?,
+        params,
+        result: None,
+        temps: 5,
+        frame: 0,
+        body: set(0, Class::L, Op::Copy, Value::Temp(4), Value::Number(0)),
+    })?;
+    let p = program_of(alloc, functions)?;
+    let text = text_of(alloc, &p)?.ok_or("not valid")?;
+    assert_eq!(rt;
+        text.bytes(),
+        b"data $h.text = align 1 { b \"ab\" 10 }
+export function w $main() {
+@b0
+\t%f =l alloc16 16
+\t%a0 =l add %f, 0
+\t%a1 =l add $h.text, 1
+\t%a2 =l add %f, 8
+\t%a3 =l add $h.text, 2
+\t%a4 =l add $h.text, 3
+\tcall $h.f(l %a0, l %a1, l %a2, l %a3, l %a4)
+\tret 0
+}
+function $h.f(l %t0, l %t1, l %t2, l %t3, l %t4) {
+@b0
+\t%t0 =l copy %t4
+\tret
+}
+"
+            .as_slice()
+    );
+    Ok(())
+}
+
+/// A symbol with an offset as each operand that may be an address.
+fn symbols(alloc: Global) -> Result<Flat, AllocError> {
+    let at = Value::Symbol(0, 1);
+    let mut list = FlatKids::new(alloc);
+    list.push(set(0, Class::L, Op::Sub, at, Value::Symbol(0, 2)))?;
+    list.push(Flat::Load {
+        temp: 1,
+        how: LoadKind::Ub,
+        at,
+    })?;
+    list.push(Flat::Store {
+        width: 8,
+        value: at,
+        at: Value::Symbol(0, 2),
+    })?;
+    list.push(Flat::Move {
+        to: at,
+        from: Value::Symbol(0, 2),
+        bytes: 1,
+    })?;
+    list.push(call(alloc, None, "rt.puts", &[at, Value::Number(2)])?)?;
+    list.push(Flat::Ret(Some(Value::Symbol(0, 3))))?;
+    Ok(Flat::Seq(list))
+}
+
+/// Each of these operands is computed in front of its statement.
+#[test]
+fn symbols_with_offsets(rt: HostRuntime) -> Result<(), Fail> {
+    let alloc = rt.alloc();
+    let mut functions = FlatFns::new(alloc);
+    functions.push(FlatFn {
+        name: Text::copy(alloc, "h.f")?,
+        params: Classes::new(alloc),
+        result: Some(Class::L),
+        temps: 2,
+        frame: 0,
+        body: symbols(alloc)?,
+    })?;
+    functions.push(main_function(alloc, 0, call(alloc, None, "h.f", &[])?)?)?;
+    let p = program_of(alloc, functions)?;
+    let text = text_of(alloc, &p)?.ok_or("not valid")?;
+    assert_eq!(rt;
+        text.bytes(),
+        b"data $h.text = align 1 { b \"ab\" 10 }
+function l $h.f() {
+@b0
+\t%a0 =l add $h.text, 1
+\t%a1 =l add $h.text, 2
+\t%t0 =l sub %a0, %a1
+\t%a2 =l add $h.text, 1
+\t%t1 =l loadub %a2
+\t%a3 =l add $h.text, 1
+\t%a4 =l add $h.text, 2
+\tstorel %a3, %a4
+\t%a5 =l add $h.text, 1
+\t%a6 =l add $h.text, 2
+\tblit %a6, %a5, 1
+\t%a7 =l add $h.text, 1
+\tcall $rt.puts(l %a7, l 2)
+\t%a8 =l add $h.text, 3
+\tret %a8
+@b1
+\tret 0
+}
+export function w $main() {
+@b0
+\tcall $h.f()
+\tret 0
+}
+"
+            .as_slice()
+    );
+    Ok(())
+}
+
+/// A condition is a word, and so it is no symbol.
+#[test]
+fn no_symbol_as_a_condition(rt: HostRuntime) -> Result<(), Fail> {
+    let alloc = rt.alloc();
+    let nothing = Flat::Seq(FlatKids::new(alloc));
+    let other = Flat::Seq(FlatKids::new(alloc));
+    let text = text(alloc, branch(alloc, Value::Symbol(0, 1), nothing, other)?)?;
+    assert!(rt; text.is_none());
     Ok(())
 }
