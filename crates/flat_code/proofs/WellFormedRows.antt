@@ -14,7 +14,7 @@ use Rattle.flat_code.specs.declared.value.Value.TheVariants.{Temp, Number, Symbo
 use Rattle.flat_code.specs.Code.{Code, Set, Load, Store, Move, Call, Ret}
 use Rattle.flat_code.specs.WellFormed.{IsWellFormed, passes, is_function_right}
 use Rattle.flat_code.proofs.Passes.{passes_is}
-use Rattle.flat_code.proofs.RowPrograms.{seq, plain, global, program}
+use Rattle.flat_code.proofs.RowPrograms.{plain, global, program}
 
 -- a function with parameters, of four temporaries and no frame
 abbrev with_params : List ℕ → List Class → Option Class → List Code → FlatFn

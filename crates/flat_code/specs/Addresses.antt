@@ -1,5 +1,5 @@
 -- Where the globals of a program stand, and the memory with which it begins.
-use Rattle.std.specs.Prelude.{ℕ, ◌+◌, max, List, [], ◌∷◌, length, replicate, flat_map, sum_by, slice_index_or, Option, None, Some}
+use Rattle.std.specs.Prelude.{ℕ, ◌+◌, max, List, [], ◌∷◌, length, replicate, flat_map, sum_by, slice_index_or}
 use Rattle.hx_base.specs.Memory.{Memory, le_bytes, round_up, empty_memory, write, map_range}
 use Rattle.hx_base.specs.Runtime.{data_start, lookup, or_zero, with_arguments}
 use Rattle.flat_code.specs.declared.program.Item.{Item}

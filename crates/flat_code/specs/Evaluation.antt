@@ -10,7 +10,7 @@ use Rattle.std.specs.Prelude.{ℕ, zero, suc, ◌+◌, ◌-◌, ◌/◌, max, Bo
 use Rattle.hx_base.specs.declared.Class.{Class}
 use Rattle.hx_base.specs.declared.Class.TheVariants.{W, L}
 use Rattle.hx_base.specs.Memory.{Memory, round_up, map_range, unmap_range, load, store, move}
-use Rattle.hx_base.specs.Runtime.{World, Act, Gives, Exits, Aborts, Faults, Full, RuntimeFault}
+use Rattle.hx_base.specs.Runtime.{Act, Gives, Exits, Aborts, Faults, Full, RuntimeFault}
 use Rattle.hx_base.specs.Runtime as runtime
 use Rattle.flat_code.specs.declared.op.Op.{Op}
 use Rattle.flat_code.specs.declared.op.Op.TheVariants.{Copy, Extsb, Extub, Extsh, Extuh, Extsw, Extuw}

@@ -21,14 +21,14 @@ use names::is_once;
 /// Each function and each global has an identifier of its own that does not begin with `rt.`, and there is a function `main` that has no
 /// parameters and gives no long. Temporaries are below `temps`, are set at one class each, and are set somewhere where they are read;
 /// operands have the classes that their operations want; addresses are of globals that are there, or of places of the function's frame. A
-/// Load sets a long, a Store has a width of 1, 2, 4 or 8 bytes, and a Move at most 2^30 bytes. A Leave leaves a Seq or Loop round it, and a
-/// Ret has a value exactly in a function with a result. A call is of a function of the program, or else of the runtime. It has as many
-/// arguments as that has parameters, each at its parameter's class, where a word may be given a long and never the other way; and its result
-/// goes to a temporary only where there is one, at its class. At most 65,536 statements stand within one another. Globals have alignments and
-/// sizes that the intermediate language admits.
+/// Load sets a long, a Store has a width of 1, 2, 4 or 8 bytes, and a Move at most 2^30 bytes. A Leave leaves a Seq or Loop round it, and
+/// a Ret has a value exactly in a function with a result. A call is of a function of the program, or else of the runtime. It has as many
+/// arguments as that has parameters, each at its parameter's class, where a word may be given a long and never the other way; and its
+/// result goes to a temporary only where there is one, at its class. At most 65,536 statements stand within one another. Globals have
+/// alignments and sizes that the intermediate language admits.
 ///
-/// As it takes no memory, it looks through the code of a function for each temporary that is read or set there, and through the functions of
-/// the program for each call.
+/// As it takes no memory, it looks through the code of a function for each temporary that is read or set there, and through the functions
+/// of the program for each call.
 #[tactic(auto, using(crate::proofs::Passes::passes_is))]
 pub fn well_formed(p: &FlatProgram) -> bool
     ensures { IsTrue result ↔ IsWellFormed p.now }

@@ -286,11 +286,13 @@ module _ (p : FlatProgram) (f : FlatFn) (good : Line → Bool) (most_labels most
         (way_inside b around es (goal_label g n) other s.1 d h x (omega arith) (omega arith)))
         (all_append good (side (has_lines a) one A) _
         (side_good (has_lines a) one A (omega arith)
-        (code_good a (first_goal (has_lines b) g n) around m (k + addressed cond) es s.0 d h (first_inside (has_lines b) g n i z (omega arith))
+        (code_good a (first_goal (has_lines b) g n) around m (k + addressed cond) es s.0 d h
+        (first_inside (has_lines b) g n i z (omega arith))
         (omega arith) (rw fa (omega arith)) (omega arith)))
         (all_append good (side (has_lines b) other B) _
         (side_good (has_lines b) other B (omega arith)
-        (code_good b (inner g n) around (m + labels_in a false) (k + addressed cond + addresses_in a) es s.1 d h (inner_inside g n i z (omega arith))
+        (code_good b (inner g n) around (m + labels_in a false) (k + addressed cond + addresses_in a) es s.1 d h
+        (inner_inside g n i z (omega arith))
         (omega arith) (rw fb (omega arith)) (omega arith)))
         (own_good g n (omega arith))))
     code_good (Loop c) g around n k es r d h i z l u =
@@ -299,7 +301,8 @@ module _ (p : FlatProgram) (f : FlatFn) (good : Line → Bool) (most_labels most
         both_true _ _ (pass.goes begin (omega arith) (omega arith))
         (both_true _ _ (pass.label begin (omega arith))
         (all_append good (code_lines p c Next (suc begin) k (es ++ goal_label g n ∷ [])) _
-        (code_good c Next (suc around) (suc begin) k (es ++ goal_label g n ∷ []) both.1 (omega (arith, length-append es (goal_label g n ∷ [])))
+        (code_good c Next (suc around) (suc begin) k (es ++ goal_label g n ∷ []) both.1
+        (omega (arith, length-append es (goal_label g n ∷ [])))
         (more_exits es (goal_label g n) h (label_inside g n i z (omega arith))) refl (omega arith) (omega arith) u)
         (both_true _ _ (pass.goes begin (omega arith) (omega arith)) (own_good g n (omega arith)))))
     code_good (Leave j) g around n k es r d h i z l u =
@@ -323,7 +326,8 @@ module _ (p : FlatProgram) (f : FlatFn) (good : Line → Bool) (most_labels most
         let front = front_next cs g e in
         all_append good (code_lines p c (in_front cs g) n k es) _
         (code_good c (in_front cs g) around n k es both.0 d h (front_inside cs g i) z (rw front (omega arith)) (omega arith))
-        (each_good cs g around (n + labels_in c (is_more cs)) (k + addresses_in c) es both.1 d h i e (omega arith) (omega arith) (omega arith))
+        (each_good cs g around (n + labels_in c (is_more cs)) (k + addresses_in c) es both.1 d h i e (omega arith) (omega arith)
+        (omega arith))
 
   pub inner_good : is_right p f 0 (code_of f.body) ≡ true → suc (labels_in (code_of f.body) true) ≤ most_labels →
       addresses_in (code_of f.body) ≤ most_addresses → list_all good (frame_lines f.frame) ≡ true → list_all good (inner_lines p f) ≡ true

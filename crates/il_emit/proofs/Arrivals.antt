@@ -203,7 +203,8 @@ module _ (p : FlatProgram) (w : IsWellFormed p) (few : AllByRecursion HasFewName
         let labels = names.labels in
         let addresses = names.addresses in
         meets p (module_of p) ready f facts call.base call.pointer call.cost [] n (code_of f.body) Next 0 1 0 [] (λ k. rest) rest rest
-        (stepped 1 flat_first) begun facts.code (body_exits p f rest) refl (record { labels = omega arith; addresses = omega arith }) (body_inside p f)
+        (stepped 1 flat_first) begun facts.code (body_exits p f rest) refl (record { labels = omega arith; addresses = omega arith })
+        (body_inside p f)
         holds
 
     -- ---- how it ends
@@ -231,7 +232,8 @@ module _ (p : FlatProgram) (w : IsWellFormed p) (few : AllByRecursion HasFewName
     last_return None x c = refl
     last_return (Some class) x c = refl
 
-    comes_ends : (s : State) → Comes (module_of p) call (counted begun) (4 * (0 + 1)) (begun.used + 3) begins s rest → Ends (state.Exit 0, s)
+    comes_ends : (s : State) → Comes (module_of p) call (counted begun) (4 * (0 + 1)) (begun.used + 3) begins s rest →
+        Ends (state.Exit 0, s)
     comes_ends s h =
         let u = h.units in
         let b = begun_used in
@@ -303,7 +305,8 @@ module _ (p : FlatProgram) (w : IsWellFormed p) (few : AllByRecursion HasFewName
     equal_worlds x y e = subst (λ (z : World). SameWorld z x) e
         (record { memory = record { bytes = λ a. refl; mapped = λ a. refl }; heap = refl; input = refl; output = refl; arguments = refl })
 
-    arrives : (r : Result) (k : ℕ) → start (module_of p) args input fill ≡ starts_at → after_steps (module_of p) k starts_at ≡ begins → Ends r
+    arrives : (r : Result) (k : ℕ) → start (module_of p) args input fill ≡ starts_at →
+        after_steps (module_of p) k starts_at ≡ begins → Ends r
         → Arrives (module_of p) args input fill n r
     arrives r k e by h =
         let there = after_steps (module_of p) (k + h.count) starts_at in
@@ -334,7 +337,8 @@ module _ (p : FlatProgram) (w : IsWellFormed p) (few : AllByRecursion HasFewName
     over : (x : ℕ) → stack_size < x → x ≤ cost + frame_cost f.frame → stack_size < flat_body.1.most
     over x l u =
         let costs = full_costs p f facts.code facts.few_params in
-        let most : max 0 (0 + flat_cost.call_cost f) ≤ flat_body.1.most = (code_counts.begun p n (code_of f.body) (stepped 1 flat_first)).most in
+        let most : max 0 (0 + flat_cost.call_cost f) ≤ flat_body.1.most =
+        (code_counts.begun p n (code_of f.body) (stepped 1 flat_first)).most in
         omega (arith, most, costs)
 
     abbrev Arrival : Type 0

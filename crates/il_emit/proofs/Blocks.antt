@@ -42,7 +42,8 @@ tidy_opened wanted (Label n ∷ ys) h = h
 tidy_opened wanted (Do i ∷ ys) h = cc
 tidy_opened wanted (End j ∷ ys) h = cc
 
-tidy_from : (middle wanted b : Bool) (ys : List Line) → (not middle || b) ≡ true → tidy_to wanted middle ys ≡ true → tidy_to wanted b ys ≡ true
+tidy_from : (middle wanted b : Bool) (ys : List Line) → (not middle || b) ≡ true → tidy_to wanted middle ys ≡ true →
+    tidy_to wanted b ys ≡ true
 tidy_from true wanted true ys h k = k
 tidy_from true wanted false ys h k = cc
 tidy_from false wanted true ys h k = tidy_opened wanted ys k

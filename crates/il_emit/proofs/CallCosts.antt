@@ -226,7 +226,8 @@ module _ (p : FlatProgram) (f : FlatFn) (right : is_right p f 0 (code_of f.body)
       (λ s n is j e l h k. all_flat is_known assigned is h)
       [] (label_name 0) 0 [] true (inner_lines p f ++ End (jump.Ret (end_value f.result)) ∷ []) refl refl refl refl
       (all_append good (inner_lines p f) _
-      (inner_good p f good (suc (labels_in (code_of f.body) true)) (addresses_in (code_of f.body)) lines_known right (omega arith) (omega arith)
+      (inner_good p f good (suc (labels_in (code_of f.body) true)) (addresses_in (code_of f.body)) lines_known right (omega arith)
+      (omega arith)
       (frame_lines_known f.frame)) refl)
 
   params_known : (at : ℕ) (cs : List Class) → at + length cs ≤ f.temps → list_all is_known (map (λ (p : IlParam). p.name) (params_of at cs))

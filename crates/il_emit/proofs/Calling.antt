@@ -427,7 +427,8 @@ module _ (p : FlatProgram) (f : FlatFn) (m : Module) (call : Activation) (set : 
   abbrev pub BodyMeets : (n : ℕ) (rest : List Line) (result : Option IlParam) → Type 0
   BodyMeets n rest result =
       (c c' : Mark) (s : State) → Holds (callee m call p g rest result c) s c' →
-      Meets m (callee m call p g rest result c) n (counted c') (4 * s.steps) (c'.used + 3) (λ j. last m call p g rest) (last m call p g rest)
+      Meets m (callee m call p g rest result c) n (counted c') (4 * s.steps) (c'.used + 3) (λ j. last m call p g rest)
+      (last m call p g rest)
       (before m (callee m call p g rest result c) (body m call p g rest ++ last m call p g rest) s.world c')
       (flat.flat_begun p n (flat.flat_below p n) (code_of g.body) s)
 
@@ -481,7 +482,8 @@ module _ (p : FlatProgram) (f : FlatFn) (m : Module) (call : Activation) (set : 
     goes : further m (before m call (line ++ rest) s.world ca) ≡ after_step (before m call (line ++ rest) s.world ca)
         (step.enter (state_at m call rest s.world ca) result (code_is m call p g rest) cut_vs)
     goes = call_goes result name (args_of p.globals g.params args k) rest s.world ca cut_vs (set.functions name ∙ ap (emitted p) named)
-        (args_are p f m call set rest s.world ca (args_of p.globals g.params args k) ∙ args_ready p f m call set s g.params args k c ra few_k h)
+        (args_are p f m call set rest s.world ca (args_of p.globals g.params args k)
+        ∙ args_ready p f m call set s g.params args k c ra few_k h)
 
     calls : after_steps m (all_addressed args + 1) begins ≡ after_step (before m call (line ++ rest) s.world ca)
         (step.enter (state_at m call rest s.world ca) result (code_is m call p g rest) cut_vs)
@@ -522,7 +524,8 @@ module _ (p : FlatProgram) (f : FlatFn) (m : Module) (call : Activation) (set : 
               let jumps = begun_counted in
               let begun_at = begun_used in
               meets_back m call p g rest f set s1 ca held temp takes begins (all_addressed args + 1 + frame_steps g.frame) (4 * s.steps)
-              (c.used + 3) (4 * s2.steps) (begun.used + 3) n (counted c) (counted begun) out (omega arith) (omega arith) (omega arith) _ there
+              (c.used + 3) (4 * s2.steps) (begun.used + 3) n (counted c) (counted begun) out (omega arith) (omega arith)
+              (omega arith) _ there
               res (claim ca begun s2 (begun_holds m call p g rest s1 ca result vs right few_params few held))
           | inr x ↦ inr (record {
             count = all_addressed args + 1 + 1;

@@ -46,7 +46,8 @@ then_emits a b c xs ys l m k j es fs p q = record {
 }
 
 -- the lines of a single statement, and then the way to its goal
-pub go_emits : (g : Goal) (a b c : Emitter) (xs : List Line) (k : ℕ) → Emits a b xs 0 k a.exits.items → Emits b c (go_lines g) 0 0 b.exits.items →
+pub go_emits : (g : Goal) (a b c : Emitter) (xs : List Line) (k : ℕ) → Emits a b xs 0 k a.exits.items →
+    Emits b c (go_lines g) 0 0 b.exits.items →
     Emits a c (xs ++ go_lines g) 0 k a.exits.items
 go_emits g a b c xs k p q = record {
   draft = q.draft ∙ ap (λ (d : Draft). add_all d (go_lines g)) p.draft ∙ sym (add_all_append a.draft xs (go_lines g));
@@ -61,7 +62,8 @@ empty_is (c ∷ cs) = grind (arith, nat_tests)
 
 pub seq_emits : (program : FlatProgram) (cs : Codes) (g : Goal) (n : ℕ) (a b c d : Emitter) → n ≡ a.labels
     → Emits a b [] (fresh (is_next g)) 0 (a.exits.items ++ goal_label g a.labels ∷ [])
-    → Emits b c (each_lines program cs (inner g n) b.labels b.addresses b.exits.items) (labels_in_all cs) (addresses_in_all cs) b.exits.items
+    → Emits b c (each_lines program cs (inner g n) b.labels b.addresses b.exits.items) (labels_in_all cs)
+    (addresses_in_all cs) b.exits.items
     → Emits c d (seq_end (not (is_more cs)) g n) 0 0 (take (length c.exits.items - 1) c.exits.items)
     → Emits a d (code_lines program (Seq cs) g a.labels a.addresses a.exits.items) (labels_in (Seq cs) (is_next g)) (addresses_in (Seq cs))
     a.exits.items
@@ -85,7 +87,8 @@ pub loop_emits : (program : FlatProgram) (body : Code) (g : Goal) (n : ℕ) (a b
     (fresh (is_next g) + 1) 0 (a.exits.items ++ goal_label g a.labels ∷ [])
     → Emits b c (code_lines program body Next b.labels b.addresses b.exits.items) (labels_in body true) (addresses_in body) b.exits.items
     → Emits c d (End (jump.Jmp (label_name (n + fresh (is_next g)))) ∷ own_label g n) 0 0 (take (length c.exits.items - 1) c.exits.items)
-    → Emits a d (code_lines program (Loop body) g a.labels a.addresses a.exits.items) (labels_in (Loop body) (is_next g)) (addresses_in (Loop body))
+    → Emits a d (code_lines program (Loop body) g a.labels a.addresses a.exits.items) (labels_in (Loop body) (is_next g))
+    (addresses_in (Loop body))
     a.exits.items
 loop_emits program body g n a b c d same p q s =
     let begin = a.labels + fresh (is_next g) in
@@ -108,7 +111,8 @@ pub if_emits : (program : FlatProgram) (cond : Value) (x y : Code) (g : Goal) (n
     → Emits a b (if_branch program.globals cond x y g a.labels a.addresses a.exits.items)
     (fresh (is_next g) + fresh (has_lines x) + fresh (has_lines y)) (addressed cond) a.exits.items
     → Emits b c (side (has_lines x) (n + fresh (is_next g))
-    (code_lines program x (first_goal (has_lines y) g n) b.labels b.addresses b.exits.items)) (labels_in x false) (addresses_in x) b.exits.items
+    (code_lines program x (first_goal (has_lines y) g n) b.labels b.addresses b.exits.items)) (labels_in x false)
+    (addresses_in x) b.exits.items
     → Emits c d (side (has_lines y) (n + fresh (is_next g) + fresh (has_lines x))
     (code_lines program y (inner g n) c.labels c.addresses c.exits.items)) (labels_in y false) (addresses_in y) c.exits.items
     → Emits d e (own_label g n) 0 0 d.exits.items
@@ -124,7 +128,8 @@ if_emits program cond x y g n a b c d e same p q r s =
     let kc : c.addresses ≡ a.addresses + addressed cond + addresses_in x = omega (arith, p.addresses, q.addresses) in
     let ec : c.exits.items ≡ a.exits.items = q.exits ∙ p.exits in
     let branch = if_branch program.globals cond x y g a.labels a.addresses a.exits.items in
-    let X = side (has_lines x) one (code_lines program x (first_goal (has_lines y) g a.labels) m (a.addresses + addressed cond) a.exits.items) in
+    let X = side (has_lines x) one (code_lines program x (first_goal (has_lines y) g a.labels) m
+    (a.addresses + addressed cond) a.exits.items) in
     let Y = side (has_lines y) other
     (code_lines program y (inner g a.labels) (m + labels_in x false) (a.addresses + addressed cond + addresses_in x) a.exits.items) in
     let own = own_label g a.labels in
@@ -160,7 +165,8 @@ kid_emits program cs g i x h a b e last front p =
     let behind = codes_of (drop (suc i) cs) in
     let goal : h ≡ in_front behind g = rw n at front in
     let next : is_next h ≡ is_more behind = ap is_next goal ∙ front_next behind g last in
-    let lines : b.draft ≡ add_all a.draft (code_lines program x (in_front behind g) a.labels a.addresses a.exits.items) = rw goal at p.draft in
+    let lines : b.draft ≡ add_all a.draft (code_lines program x (in_front behind g) a.labels a.addresses a.exits.items) = rw goal at
+    p.draft in
     let labels : b.labels ≡ a.labels + labels_in x (is_more behind) = rw next at p.labels in
     record {
       draft = rw (n, d, lines, labels, p.addresses, p.exits)
@@ -190,7 +196,8 @@ function_emits program f a b c d e da la ka ea p o q r =
     (code_lines program (code_of f.body) Next 1 0 []) =
     rw (framed, l, k, es) at q.draft in
     let inner : d.draft ≡ add_all (add_all empty_draft (Label 0 ∷ [])) (inner_lines program f) =
-    body ∙ sym (add_all_append (add_all empty_draft (Label 0 ∷ [])) (frame_lines f.frame) (code_lines program (code_of f.body) Next 1 0 [])) in
+    body ∙ sym (add_all_append (add_all empty_draft (Label 0 ∷ [])) (frame_lines f.frame)
+    (code_lines program (code_of f.body) Next 1 0 [])) in
     ap (λ (x : Draft). x.blocks) (r.draft ∙ ap (λ (x : Draft). add_all x (End (jump.Ret (end_value f.result)) ∷ [])) inner ∙ sym
     (add_all_append (add_all empty_draft (Label 0 ∷ [])) (inner_lines program f) (End (jump.Ret (end_value f.result)) ∷ [])))
 

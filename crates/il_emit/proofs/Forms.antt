@@ -171,7 +171,8 @@ module _ (p : FlatProgram) (f : FlatFn) (m : Module) (call : Activation) (set : 
       (append_assoc (address_lines p.globals a k) (address_lines p.globals b kb ++ last) rest)
       ∙ steps_more m (addressed a) (addressed b) _
       ∙ ap (after_steps m (addressed b))
-      (address_steps p f m call set (first_class (op_kind o) class) a k ((address_lines p.globals b kb ++ last) ++ rest) s.world c ha h.frame)
+      (address_steps p f m call set (first_class (op_kind o) class) a k
+      ((address_lines p.globals b kb ++ last) ++ rest) s.world c ha h.frame)
       ∙ ap (λ (x : List Line). after_steps m (addressed b) (run_at x s.world ca)) (append_assoc (address_lines p.globals b kb) last rest)
       ∙ second_b.steps (last ++ rest) in
       let goes =
@@ -234,7 +235,8 @@ module _ (p : FlatProgram) (f : FlatFn) (m : Module) (call : Activation) (set : 
             ∙ steps_more m (addressed a) (addressed b) _
             ∙ ap (after_steps m (addressed b))
             (address_steps p f m call set class_a a k ((address_lines p.globals b kb ++ last) ++ rest) s.world c ha h.frame)
-            ∙ ap (λ (x : List Line). after_steps m (addressed b) (run_at x s.world ca)) (append_assoc (address_lines p.globals b kb) last rest)
+            ∙ ap (λ (x : List Line). after_steps m (addressed b) (run_at x s.world ca))
+            (append_assoc (address_lines p.globals b kb) last rest)
             ∙ address_steps p f m call set class_b b kb (last ++ rest) s.world ca hb held_a.frame;
         first = ready_a.value;
         second = ready_b.value;
@@ -285,7 +287,8 @@ module _ (p : FlatProgram) (f : FlatFn) (m : Module) (call : Activation) (set : 
   load_meets n out t how v k rest s c ht hv h =
       let ca = behind_address p f m call set v k c in
       let last : List Line = Do (inst.Set (temp_name t) L (load_op how) (operand p.globals v k) None) ∷ [] in
-      let by : after_steps m (addressed v) (run_at ((address_lines p.globals v k ++ last) ++ rest) s.world c) ≡ run_at (last ++ rest) s.world
+      let by : after_steps m (addressed v) (run_at ((address_lines p.globals v k ++ last) ++ rest) s.world c) ≡ run_at
+      (last ++ rest) s.world
       ca =
       ap (λ (x : List Line). after_steps m (addressed v) (run_at x s.world c)) (append_assoc (address_lines p.globals v k) last rest)
       ∙ address_steps p f m call set L v k (last ++ rest) s.world c hv h.frame in
@@ -298,7 +301,8 @@ module _ (p : FlatProgram) (f : FlatFn) (m : Module) (call : Activation) (set : 
       let used = address_used p f m call set v k c in
       let one = addressed_one v in
       let j = address_jumps p f m call set v k c in
-      later m call (addressed v) _ (run_at (last ++ rest) s.world ca) by (4 * s.steps) (4 * s.steps) (c.used + 3) (c.used + 3) (omega arith) n
+      later m call (addressed v) _ (run_at (last ++ rest) s.world ca) by (4 * s.steps) (4 * s.steps) (c.used + 3) (c.used + 3)
+      (omega arith) n
       n (counted c) (counted ca) out rest _ (omega arith) (omega arith)
       (loaded_meets n (4 * s.steps) (c.used + 3) out t how (last ++ rest) rest s ca
       (load s.world.memory (value_of p s v) (flat.load_bytes how)) (target_small t L ht) (address_holds p f m call set v k c s h)
@@ -377,7 +381,8 @@ module _ (p : FlatProgram) (f : FlatFn) (m : Module) (call : Activation) (set : 
       (step.blitted (at rest s.world x.to) bytes (overlap (value_of p s a) (value_of p s b) bytes)
       (move s.world.memory (value_of p s a) (value_of p s b) bytes)) =
       ap (λ (y : ℕ). after_step r (step.blitted (at rest s.world x.to) bytes
-      (overlap y (step.value_of m (at rest s.world x.to) to) bytes) (move s.world.memory (step.value_of m (at rest s.world x.to) to) y bytes)))
+      (overlap y (step.value_of m (at rest s.world x.to) to) bytes)
+      (move s.world.memory (step.value_of m (at rest s.world x.to) to) y bytes)))
       (value_is m call rest s.world x.to from ∙ x.second)
       ∙ ap (λ (y : ℕ). after_step r (step.blitted (at rest s.world x.to) bytes
       (overlap (value_of p s b) y bytes) (move s.world.memory y (value_of p s b) bytes)))
@@ -461,7 +466,8 @@ module _ (p : FlatProgram) (f : FlatFn) (m : Module) (call : Activation) (set : 
       ∙ ap (λ (x : Option RuntimeFunction). after_step r (runtime_call (at rest w c) result x (arg_values m (at rest w c) args))) e
       ∙ ap (λ (xs : List ℕ). after_step r (runtime_step (at rest w c) result (act g xs w))) (args_are rest w c args ∙ v)
 
-  pub runtime_meets : (n : ℕ) (out : ℕ → List Line) (temp : Option ℕ) (name : List ℕ) (args : List Value) (k : ℕ) (rest : List Line) (s : State)
+  pub runtime_meets : (n : ℕ) (out : ℕ → List Line) (temp : Option ℕ) (name : List ℕ) (args : List Value) (k : ℕ) (rest : List Line)
+      (s : State)
       (c : Mark) (o : Option RuntimeFunction)
       → il_state.function_named m.items name ≡ None → runtime_function name ≡ o → is_runtime_call p f temp args o ≡ true
       → k + all_addressed args < 2 ^ 64 → Holds call s c
@@ -479,7 +485,8 @@ module _ (p : FlatProgram) (f : FlatFn) (m : Module) (call : Activation) (set : 
       ap (λ (x : List Line). after_steps m (all_addressed args) (run_at x s.world c)) (append_assoc (arg_lines p.globals args k) last rest)
       ∙ arg_steps p f m call set (runtime_params g) args k (last ++ rest) s c q.0 h in
       let ready = args_ready p f m call set s (runtime_params g) args k c q.0 few h in
-      let goes = call_goes (result_param temp (runtime_result g)) name g (args_of p.globals (runtime_params g) args k) rest s.world ca _ none e
+      let goes = call_goes (result_param temp (runtime_result g)) name g
+      (args_of p.globals (runtime_params g) args k) rest s.world ca _ none e
       ready in
       let used = args_used p f m call set args k c in
       let j = args_jumps p f m call set args k c in
@@ -521,7 +528,8 @@ module _ (p : FlatProgram) (f : FlatFn) (m : Module) (call : Activation) (set : 
 
   -- ---- returns
 
-  pub return_meets : (n : ℕ) (g : Goal) (x : ℕ) (out : ℕ → List Line) (class : Option Class) (value : Option Value) (k : ℕ) (rest after : List Line) (s : State)
+  pub return_meets : (n : ℕ) (g : Goal) (x : ℕ) (out : ℕ → List Line) (class : Option Class) (value : Option Value) (k : ℕ)
+      (rest after : List Line) (s : State)
       (c : Mark) → is_return p f class value ≡ true → Holds call s c
       → Meets m call n (counted c) (4 * s.steps) (c.used + 3) out after (run_at (return_lines p.globals value g x k ++ rest) s.world c)
       (flat.returns p s value)

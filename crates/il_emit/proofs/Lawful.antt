@@ -150,7 +150,8 @@ module _ (p : FlatProgram) (w : IsWellFormed p) (few : AllByRecursion HasFewName
   shape : is_shaped (module_of p) ≡ true
   unfolding is_shaped
   shape = each_item il.is_item (data_shaped p (map data_item p.globals ++ map (function_item p) p.functions) spelled known)
-      (λ f r s. shaped p f (map data_item p.globals ++ map (function_item p) p.functions) r s names symbols (items_named p w) (λ name g. found_identifier p name g w))
+      (λ f r s. shaped p f (map data_item p.globals ++ map (function_item p) p.functions) r s names symbols (items_named p w)
+      (λ name g. found_identifier p name g w))
 
   laws : is_lawful (module_of p).items ≡ true
   unfolding is_lawful
@@ -159,7 +160,8 @@ module _ (p : FlatProgram) (w : IsWellFormed p) (few : AllByRecursion HasFewName
       both_true _ _ once
       (both_true _ _ (each_item has_own_names (data_own p items spelled known)
       (λ f r s. own_names p f items r s names symbols (items_named p w) (λ name g. found_identifier p name g w)))
-      (both_true _ _ (each_item flow_is_right (λ d h. refl) (λ f r s. flows p f items r s names symbols (items_named p w) (λ name g. found_identifier p name g w)))
+      (both_true _ _ (each_item flow_is_right (λ d h. refl) (λ f r s. flows p f items r s names symbols (items_named p w)
+      (λ name g. found_identifier p name g w)))
       (both_true _ _ (each_item (item_is_right items) (data_right p items spelled known)
       (λ f r s. rightful p f items r s names symbols (items_named p w) (λ name g. found_identifier p name g w)))
       (both_true _ _ main (both_true _ _ numbers small)))))

@@ -143,7 +143,8 @@ module _ (m : Module) (call : Activation) where
     fills_more : (s : flat.State) → Fills m call r s → Fills m call r (go s).1
     fills_more s h = record { count = h.count; ended = h.ended; most = omega (arith, h.most, grows s) }
 
-    then_does : (res : Result) → Does m call n q low high out here r res → Meets m call n q low (high + more) out rest r (flat.then_go res go)
+    then_does : (res : Result) → Does m call n q low high out here r res →
+        Meets m call n q low (high + more) out rest r (flat.then_go res go)
     then_does (Next, s) h = behind n q low high more out rest here r s go h g
     then_does (Left k, s) h = inl (comes_more q low high more r s (out k) h)
     then_does (Returned v, s) h = inl (returns_more q low high more r s v h)

@@ -135,7 +135,8 @@ module _ (p : FlatProgram) where
 
   args_tidy : (vs : List Value) (k : ℕ) → tidy true (arg_lines p.globals vs k) ≡ true
   args_tidy [] k = refl
-  args_tidy (v ∷ vs) k = tidy_append true true true (address_lines p.globals v k) (arg_lines p.globals vs (k + addressed v)) (address_tidy v k)
+  args_tidy (v ∷ vs) k = tidy_append true true true (address_lines p.globals v k) (arg_lines p.globals vs (k + addressed v))
+      (address_tidy v k)
       (args_tidy vs (k + addressed v))
 
   return_tidy : (value : Option Value) (g : Goal) (n k : ℕ) → tidy_to (is_next g) true (return_lines p.globals value g n k) ≡ true
@@ -329,7 +330,8 @@ module _ (p : FlatProgram) (x : ℕ) (small : x < 2 ^ 64) where
   branch_labels : (v : Value) (y z k : ℕ) → lines_labelled (label_name x) (branch_lines p.globals v y z k) ≡ 0
   branch_labels v y z k = behind_labels v k _ 0 refl
 
-  side_labelled : (b : Bool) (m l : ℕ) (ls : List Line) → m + fresh b ≤ 2 ^ 64 → lines_labelled (label_name x) ls ≡ l → (b ≡ false → l ≡ 0) →
+  side_labelled : (b : Bool) (m l : ℕ) (ls : List Line) → m + fresh b ≤ 2 ^ 64 → lines_labelled (label_name x) ls ≡ l →
+      (b ≡ false → l ≡ 0) →
       lines_labelled (label_name x) (side b m ls) ≡ within x m (fresh b) + l
   side_labelled true m l ls h k z = omega (arith, hit m (omega arith), k)
   side_labelled false m l ls h k z = omega (arith, z refl)
@@ -365,9 +367,11 @@ module _ (p : FlatProgram) (x : ℕ) (small : x < 2 ^ 64) where
         let A = code_lines p a (first_goal (has_lines b) g n) m (k + addressed cond) es in
         let B = code_lines p b (inner g n) (m + la) (k + addressed cond + addresses_in a) es in
         let in_a : lines_labelled (label_name x) A ≡ within x m la =
-        rw (first_next (has_lines b) g n) at (code_labels a (first_goal (has_lines b) g n) m (k + addressed cond) es (rw (first_next (has_lines b) g n) (omega arith))) in
+        rw (first_next (has_lines b) g n) at (code_labels a (first_goal (has_lines b) g n) m (k + addressed cond) es
+        (rw (first_next (has_lines b) g n) (omega arith))) in
         let in_b : lines_labelled (label_name x) B ≡ within x (m + la) lb =
-        rw (inner_next g n) at (code_labels b (inner g n) (m + la) (k + addressed cond + addresses_in a) es (rw (inner_next g n) (omega arith))) in
+        rw (inner_next g n) at (code_labels b (inner g n) (m + la) (k + addressed cond + addresses_in a) es
+        (rw (inner_next g n) (omega arith))) in
         let on_a = side_labelled (has_lines a) one (within x m la) A (omega arith) in_a (λ e. within_by x m la 0 (no_labels a e)) in
         let on_b = side_labelled (has_lines b) other (within x (m + la) lb) B (omega arith) in_b
         (λ e. within_by x (m + la) lb 0 (no_labels b e)) in

@@ -1,5 +1,5 @@
--- Each operation of flat code is one that computes, and gives a value or finds that its divisor is 0, as it does in flat code; and loads and
--- copies do the same in both.
+-- Each operation of flat code is one that computes, and gives a value or finds that its divisor is 0, as it does in flat code; and loads
+-- and copies do the same in both.
 use Rattle.std.proofs.Common.{◌≡◌, ℕ, ◌+◌, Bool, true, false, not, ◌&&◌, Some, None, refl, ap, ◌∙◌, arith}
 use Rattle.std.specs.Prelude.{Ok, Err, nat_eq, nat_lt, ◌==◌, if◌then◌else◌}
 use Rattle.std.proofs.lemmas.Bool.Decides.{nat_tests}

@@ -135,7 +135,8 @@ module _ (p : FlatProgram) (f : FlatFn) (items : List IlItem) (params : List IlP
       Fine class (operand p.globals v k)
   operand_fine class (Number m) k r u = (r, refl)
   operand_fine W (Temp t) k r u =
-      let lt : t < f.temps = elim (or_cases (flat.is_set p f t W) (flat.is_set p f t L) r) [ inl h ↦ n.below t W h | inr h ↦ n.below t L h ] in
+      let lt : t < f.temps = elim (or_cases (flat.is_set p f t W) (flat.is_set p f t L) r)
+      [ inl h ↦ n.below t W h | inr h ↦ n.below t L h ] in
       let few = n.few_temps in
       (temp_identifier t (omega arith), either _ _ _ _ (n.set_is t W lt) (n.set_is t L lt) ∙ r)
   operand_fine L (Temp t) k r u =
@@ -200,7 +201,8 @@ module _ (p : FlatProgram) (f : FlatFn) (items : List IlItem) (params : List IlP
       one.1)
       (subst (λ (c : Class). second_is_right items params blocks c v ≡ true) (sym (second_is o class)) two.1))))
 
-  address_good : (i offset k : ℕ) → i < length p.globals → is_bits offset ≡ true → k < most_addresses → good (address_inst p.globals i offset k)
+  address_good : (i offset k : ℕ) → i < length p.globals → is_bits offset ≡ true → k < most_addresses →
+      good (address_inst p.globals i offset k)
   address_good i offset k h b l =
       let few = n.few_addresses in
       both_true _ _
@@ -327,7 +329,8 @@ module _ (p : FlatProgram) (f : FlatFn) (items : List IlItem) (params : List IlP
       let t = result_param temp g.result in
       let c : Code = record { name = g.name; class = g.result; params = params_of 0 g.params; blocks = blocks_of p g } in
       let many : (length x == length (params_of 0 g.params)) ≡ true =
-      ap (λ (m : ℕ). length x == m) (params_length 0 g.params) ∙ (and_parts (length x == length g.params) _ (classes_fine g.params x xs)).0 in
+      ap (λ (m : ℕ). length x == m) (params_length 0 g.params) ∙
+      (and_parts (length x == length g.params) _ (classes_fine g.params x xs)).0 in
       both_true _ _
       (both_true _ _ to.spelled (both_true _ _ (n.called name g e) xs.spelled))
       (both_true _ _ (to.one_class name x)

@@ -30,7 +30,8 @@ placed front (f ∷ fs) name = pick (bytes_eq f.name name) (placed (front ++ f �
         (append_assoc front (f ∷ []) fs)
         ∙ ap (λ (at : ℕ). at_place (front ++ f ∷ fs) (lookup name (places_from at fs))) (length-append front (f ∷ []) ∙ omega arith)
 
-    pick : (b : Bool) → function_named fs name ≡ at_place ((front ++ f ∷ []) ++ fs) (lookup name (places_from (length (front ++ f ∷ [])) fs))
+    pick : (b : Bool) → function_named fs name ≡ at_place ((front ++ f ∷ []) ++ fs)
+        (lookup name (places_from (length (front ++ f ∷ [])) fs))
         → (if b then Some f else function_named fs name) ≡
         at_place (front ++ f ∷ fs) (if b then Some (length front) else lookup name (places_from (suc (length front)) fs))
     pick true on = sym (behind front f fs)

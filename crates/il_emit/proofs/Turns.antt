@@ -239,7 +239,8 @@ module _ (p : FlatProgram) (m : Module) where
     label_finds (Far x) label rest after l h inside = h
 
     -- the way to the goal, behind lines that come to their end
-    go_meets : (n q low used : ℕ) (g : Goal) (out : ℕ → List Line) (rest after : List Line) (r : Run) (res : Result) → Leads all g rest after →
+    go_meets : (n q low used : ℕ) (g : Goal) (out : ℕ → List Line) (rest after : List Line) (r : Run) (res : Result) →
+        Leads all g rest after →
         Meets m call n q low (used + 3) out (go_lines g ++ rest) r res → Meets m call n q low (allowed g used) out after r res
     go_meets n q low used Next out rest after r res h does =
         subst (λ (ls : List Line). Meets m call n q low (used + 3) out ls r res) h does
@@ -301,7 +302,8 @@ module _ (p : FlatProgram) (m : Module) where
             (record { labels = omega arith; addresses = omega arith })
             (inside_next all body (Label begin) inside)
             (stepped_holds call s inner' (jumped_holds m call begin s at h)) in
-            let turns = turn_meets m call n (counted inner') (4 * (s.steps + 1)) (inner'.used + 3) 0 out after back (run_at body s.world inner')
+            let turns = turn_meets m call n (counted inner') (4 * (s.steps + 1)) (inner'.used + 3) 0 out after back
+            (run_at body s.world inner')
             (flat_below p (suc n) (Loop c)) (λ s1. (code_counts.body p (suc n) (Loop c) s1).most)
             (λ s1 c1 h1. may_use m call n (counted c1) (4 * s1.steps) (4 * (s1.steps + 1)) (c1.used + 0) (c1.used + 3) out after _ _
             (omega arith) (loop_meets n below.1 (own_label g label ++ rest) (stepped 1 s1) c1 (stepped_holds call s1 c1 h1)))
@@ -348,7 +350,8 @@ module _ (p : FlatProgram) (m : Module) where
     target_finds (Ret value) around x es out after r exits h = h
 
     -- a branch to a side finds it
-    way_finds : (c : Code) (around x own : ℕ) (es : List ℕ) (out : ℕ → List Line) (lines ls after : List Line) → is_right p f around c ≡ true →
+    way_finds : (c : Code) (around x own : ℕ) (es : List ℕ) (out : ℕ → List Line) (lines ls after : List Line) →
+        is_right p f around c ≡ true →
         Exits all around es out → Finds all x after → own + fresh (has_lines c) ≤ suc (labels_in (code_of f.body) true) →
         Inside all (side (has_lines c) own lines ++ ls) → Finds all (way c es x own) (way_to (has_lines c) c (lines ++ ls) after out)
     way_finds c around x own es out lines ls after r exits h l inside = pick (has_lines c) l inside
@@ -431,8 +434,10 @@ module _ (p : FlatProgram) (m : Module) where
                 let last = first_next (has_lines b) g label in
                 let does = claim_a goal around first (k + addressed v) es out behind_a after s at right_a exits
                 (first_leads all (has_lines b) g label other lines_b rest after leads ends)
-                (record { labels = rw last (omega arith); addresses = omega arith }) (inside_next all (lines_a ++ behind_a) (Label one) i) h in
-                may_use m call n (counted at) (4 * s.steps) (4 * s.steps) (at.used + 4) (allowed goal at.used) out after _ _ (omega arith) does
+                (record { labels = rw last (omega arith); addresses = omega arith })
+                (inside_next all (lines_a ++ behind_a) (Label one) i) h in
+                may_use m call n (counted at) (4 * s.steps) (4 * s.steps) (at.used + 4) (allowed goal at.used) out after _ _
+                (omega arith) does
 
         other_meets : (s : State) (at : Mark) → Holds call s at → Meets m call n (counted at) (4 * s.steps) (at.used + 4) out after
             (run_at (way_to (has_lines b) b (lines_b ++ tail) after out) s.world at) (flat_begun p n (flat_below p n) b s)
@@ -450,8 +455,10 @@ module _ (p : FlatProgram) (m : Module) where
                 let last = inner_next g label in
                 let does = claim_b goal around (first + labels_in a false) (k + addressed v + addresses_in a) es out tail after s at
                 right_b exits (inner_leads all g label rest after leads ends)
-                (record { labels = rw last (omega arith); addresses = omega arith }) (inside_next all (lines_b ++ tail) (Label other) i) h in
-                may_use m call n (counted at) (4 * s.steps) (4 * s.steps) (at.used + 4) (allowed goal at.used) out after _ _ (omega arith) does
+                (record { labels = rw last (omega arith); addresses = omega arith })
+                (inside_next all (lines_b ++ tail) (Label other) i) h in
+                may_use m call n (counted at) (4 * s.steps) (4 * s.steps) (at.used + 4) (allowed goal at.used) out after _ _
+                (omega arith) does
 
         branch_meets : (s : State) (at : Mark) (z : Bool) → Holds call s at → (cut W (value_of p s v) == 0) ≡ z
             → Meets m call n (counted at) (4 * s.steps) (at.used + 3) out after (run_at (address_lines p.globals v k ++ branch) s.world at)
@@ -459,19 +466,23 @@ module _ (p : FlatProgram) (m : Module) where
         branch_meets s at z h e =
             let moved = behind_address p f m call set v k at in
             let r = room.labels in
-            let finds_a = way_finds a around (goal_label g label) one es out lines_a behind_a after right_a exits ends (omega arith) at_one in
-            let finds_b = way_finds b around (goal_label g label) other es out lines_b tail after right_b exits ends (omega arith) at_other in
+            let finds_a = way_finds a around (goal_label g label) one es out lines_a behind_a after right_a exits ends
+            (omega arith) at_one in
+            let finds_b = way_finds b around (goal_label g label) other es out lines_b tail after right_b exits ends
+            (omega arith) at_other in
             let comes = branch_comes p f m call set v k to_a to_b behind (way_to (has_lines a) a (lines_a ++ behind_a) after out)
             (way_to (has_lines b) b (lines_b ++ tail) after out) s at z operand_right h finds_a finds_b e in
             let used = address_used p f m call set v k at in
             let jumps = address_jumps p f m call set v k at in
             let few = addressed_one v in
             let held : Holds call s moved = address_holds p f m call set v k at s h in
-            later m call (addressed v + 1) _ _ comes (4 * s.steps) (4 * (s.steps + 1)) (at.used + 3) (moved.used + 1 + 0 + 4) (omega arith) n
+            later m call (addressed v + 1) _ _ comes (4 * s.steps) (4 * (s.steps + 1)) (at.used + 3) (moved.used + 1 + 0 + 4)
+            (omega arith) n
             n (counted at) (suc (counted moved)) out after _ (omega arith) (omega arith) (taken z moved held)
           where
             taken : (y : Bool) (c : Mark) → Holds call s c → Meets m call n (suc (counted c)) (4 * (s.steps + 1)) (c.used + 1 + 0 + 4) out
-                after (run_at (if y then way_to (has_lines b) b (lines_b ++ tail) after out else way_to (has_lines a) a (lines_a ++ behind_a) after out)
+                after (run_at (if y then way_to (has_lines b) b (lines_b ++ tail) after out else way_to (has_lines a) a
+                (lines_a ++ behind_a) after out)
                 s.world (jumped_to m call (if y then to_b else to_a) c)) (side_meets n a b s y)
             taken true c hc = other_meets (stepped 1 s) (jumped_to m call to_b c)
                 (stepped_holds call s _ (jumped_holds m call to_b s c hc))
@@ -489,7 +500,8 @@ module _ (p : FlatProgram) (m : Module) where
         subst (λ (x : List Line). Meets m call n (counted at) (4 * s.steps) (allowed g at.used) out after (run_at x s.world at)
         (flat_begun p n (flat_below p n) (If v a b) s)) (sym same)
         (may_use m call n (counted at) (4 * s.steps) (4 * s.steps) (allowed g at.used) (at.used + 3) out after _ _ (omega arith)
-        (branch_meets n v a b ca cb g around label k es out rest after q.0 w.0 w.1 exits leads room there s at (cut W (value_of p s v) == 0) h
+        (branch_meets n v a b ca cb g around label k es out rest after q.0 w.0 w.1 exits leads room there s at
+        (cut W (value_of p s v) == 0) h
         refl))
 
     -- ---- calls
@@ -515,7 +527,8 @@ module _ (p : FlatProgram) (m : Module) where
         (λ c c' t holds. below.0 g own (callee m call p g rest (result_param temp g.result) c).base
         (callee m call p g rest (result_param temp g.result) c).pointer (callee m call p g rest (result_param temp g.result) c).cost
         (callee m call p g rest (result_param temp g.result) c).waiting (code_of g.body) Next 0 1 0 [] (λ j. last m call p g rest)
-        (last m call p g rest) (last m call p g rest) t c' own.code (body_exits p g (last m call p g rest)) refl (record { labels = omega arith; addresses = omega arith })
+        (last m call p g rest) (last m call p g rest) t c' own.code (body_exits p g (last m call p g rest)) refl
+        (record { labels = omega arith; addresses = omega arith })
         (body_inside p g) holds)
 
     -- ---- leaves
@@ -577,7 +590,8 @@ module _ (p : FlatProgram) (m : Module) where
               units = omega arith;
             })
 
-    leaves_meets : (n j x label : ℕ) (g : Goal) (out : ℕ → List Line) (rest after : List Line) (s : State) (at : Mark) → Finds all x (out j) →
+    leaves_meets : (n j x label : ℕ) (g : Goal) (out : ℕ → List Line) (rest after : List Line) (s : State) (at : Mark) →
+        Finds all x (out j) →
         Leads all g rest after → Holds call s at → Meets m call n (counted at) (4 * s.steps) (allowed g at.used) out after
         (run_at (leave_lines x g label ++ rest) s.world at) (Left j, s)
     leaves_meets n j x label Next out rest after s at f leads h = leave_meets n j x Next out (Label label ∷ rest) after s at f h
@@ -598,7 +612,8 @@ module _ (p : FlatProgram) (m : Module) where
         inl (record { to = at; count = 0; by = refl; holds = h; jumps = omega arith; units = omega arith }) in
         let goes = go_meets n (counted at) (4 * s.steps) at.used (inner g label) out (own_label g label ++ rest) after
         (run_at here s.world at) (flat.Next, s) there does in
-        subst (λ (ls : List Line). Meets m call n (counted at) (4 * s.steps) (allowed g at.used) out after (run_at ls s.world at) (flat.Next, s))
+        subst (λ (ls : List Line). Meets m call n (counted at) (4 * s.steps) (allowed g at.used) out after (run_at ls s.world at)
+        (flat.Next, s))
         (sym (append_assoc (go_lines (inner g label)) (own_label g label) rest))
         (may_use m call n (counted at) (4 * s.steps) (4 * s.steps) (allowed g at.used) (allowed (inner g label) at.used) out after
         (run_at here s.world at) (flat.Next, s) (few g) goes)
@@ -680,7 +695,8 @@ module _ (p : FlatProgram) (m : Module) where
             leaves_meets n j (exit_at es j) label g out rest after s at (exits.leads j lt) leads h
         code_meets (Call temp name args) g around label k es out rest after s at right exits leads room inside h =
             then_go_meets n (counted at) (4 * s.steps) at.used g out (named_call_lines p temp name args k) rest after s.world at _ leads
-            (call_meets n below temp name args k out (go_lines g ++ rest) s at (function_named p.functions name) refl right room.addresses h)
+            (call_meets n below temp name args k out (go_lines g ++ rest) s at
+            (function_named p.functions name) refl right room.addresses h)
         code_meets (Ret value) g around label k es out rest after s at right exits leads room inside h =
             let least = allowed_least g at.used in
             may_use m call n (counted at) (4 * s.steps) (4 * s.steps) (allowed g at.used) (at.used + 3) out after _ _ (omega arith)
@@ -712,7 +728,8 @@ module _ (p : FlatProgram) (m : Module) where
             (may_use m call n (counted at) (4 * s.steps) (4 * s.steps) (at.used + 0) (at.used + 0 + 0) out after _ _ (omega arith)
             (then_meets m call n (counted at) (4 * s.steps) (at.used + 0) 0 out after behind _ (flats_in p n (flat_below p n) cs)
             (λ s1. (code_counts.statements p n cs s1).most)
-            (λ s1 c1 h1. each_meets cs g around (label + labels_in c (is_more cs)) (k + addresses_in c) es out rest after s1 c1 e q.1 exits leads
+            (λ s1 c1 h1. each_meets cs g around (label + labels_in c (is_more cs))
+            (k + addresses_in c) es out rest after s1 c1 e q.1 exits leads
             (record { labels = omega arith; addresses = omega arith }) (inside_behind all lines (others ++ rest) there) h1)
             (flat_begun p n (flat_below p n) c (stepped 1 s)) does_s))
 

@@ -23,7 +23,8 @@ fn files_are_lowered(rt: HostRuntime) -> Result<(), Fail> {
             0,
         ),
         (
-            b"use rt; export fn main() void = { let i = 0z; for (i < rt::nargs()) { rt::puts(\"ab\"); i = i + 1z; }; rt::exit((i * 2z): u8); };",
+            b"use rt; export fn main() void = { let i = 0z; for (i < rt::nargs()) { rt::puts(\"ab\"); i = i + 1z; }; \
+              rt::exit((i * 2z): u8); };",
             1,
         ),
         (
@@ -31,7 +32,8 @@ fn files_are_lowered(rt: HostRuntime) -> Result<(), Fail> {
             2,
         ),
         (
-            b"use rt; export fn main() void = { let n = 9z; if (n >= 8z) { let n = n; n = n - 1z; } else { rt::puts(\"z\"); }; if (n > 1z) { }; if (n <= 1z) { }; if (n == 1z) { }; };",
+            b"use rt; export fn main() void = { let n = 9z; if (n >= 8z) { let n = n; n = n - 1z; } else { rt::puts(\"z\"); }; \
+              if (n > 1z) { }; if (n <= 1z) { }; if (n == 1z) { }; };",
             1,
         ),
     ];

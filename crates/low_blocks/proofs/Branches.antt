@@ -7,7 +7,7 @@ use Rattle.flat_code.specs.declared.program.FlatProgram.{FlatProgram}
 use Rattle.flat_code.specs.declared.value.Value.{Value}
 use Rattle.flat_code.specs.Code.{Code, If}
 use Rattle.flat_code.specs.State as flat
-use Rattle.flat_code.specs.State.{cut, value_of, stepped, caught, then_turn}
+use Rattle.flat_code.specs.State.{cut, value_of, stepped, caught}
 use Rattle.flat_code.specs.Evaluation.{Less, flat_begun}
 use Rattle.hare_blocks.specs.Evaluation.{State, Result}
 use Rattle.low_blocks.specs.Expressions.{Scope, Piece}

@@ -79,7 +79,8 @@ operation_grows op k left right a b d0 d1 d2 d3 e f g =
     here ∙ ap (λ (z : Piece). operated op z (operand_of (k z.next))) e
 
 signed_steps : (scope : Scope) (left : Steps) (s : Sign) (a : Term) (ts : Terms) →
-    terms_steps scope left (signed s a ts) ≡ terms_steps scope (operated (sign_op s) (operand_of left) (operand_of (term_steps scope (operand_of left).next a))) ts
+    terms_steps scope left (signed s a ts) ≡ terms_steps scope
+    (operated (sign_op s) (operand_of left) (operand_of (term_steps scope (operand_of left).next a))) ts
 signed_steps scope left Plus a ts = refl
 signed_steps scope left Minus a ts = refl
 

@@ -231,7 +231,8 @@ module _ (q : FlatProgram) (free : IsFree q) where
         let le : site.next ≤ within.next = omega (arith, g, (statements_behind (past site test.next) body inner).grows) in
         let b = statements_plain (past site test.next) body inner in
         let o = statements_plain (outside site within) other (sited_outside site within h le) in
-        plain_append test.code _ (condition_plain site.scope site.next h.some h.below site.next c (omega arith)) (plain_if test.value _ _ b o)
+        plain_append test.code _ (condition_plain site.scope site.next h.some h.below site.next c (omega arith))
+        (plain_if test.value _ _ b o)
     statement_plain site (repeats c body) h =
         let test = condition_piece site.scope site.next c in
         let b = statements_plain (past site test.next) body

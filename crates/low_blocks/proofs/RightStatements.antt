@@ -51,7 +51,8 @@ module _ (p : FlatProgram) (free : IsFree p) (f : FlatFn) (words : (t : ℕ) →
   set_place x [] t h e = absurd (cc)
   set_place x (y ∷ ys) t h e = pick (bytes_eq y.0 x) refl (set_place x ys t h.2)
     where
-      pick : (b : Bool) → bytes_eq y.0 x ≡ b → (number_of x ys ≡ Some t → (0 < t) × (is_set p f t L ≡ true)) → (0 < t) × (is_set p f t L ≡ true)
+      pick : (b : Bool) → bytes_eq y.0 x ≡ b → (number_of x ys ≡ Some t → (0 < t) × (is_set p f t L ≡ true)) →
+          (0 < t) × (is_set p f t L ≡ true)
       pick true g on =
           let k : number_of x (y ∷ ys) ≡ Some y.1 = rw g refl in
           let i : y.1 ≡ t = cc in
@@ -111,7 +112,8 @@ module _ (p : FlatProgram) (free : IsFree p) (f : FlatFn) (words : (t : ℕ) →
 
   mutual
     statement_right : (site : Site) (s : Statement) (around : ℕ) → IsSited site → Placed site.scope → Part (statement_code site s).code →
-        (statement_code site s).behind.next ≤ f.temps → (statement_code site s).behind.texts ≤ length p.globals → AreShort (statement_texts s) →
+        (statement_code site s).behind.next ≤ f.temps → (statement_code site s).behind.texts ≤ length p.globals →
+        AreShort (statement_texts s) →
         around + 3 * statement_blocks s ≤ deepest →
         AreKept around (statement_code site s).code (statement_code site s).behind.scope
     statement_right site (declares x e) around h set part temps texts short deep =
@@ -207,7 +209,8 @@ module _ (p : FlatProgram) (free : IsFree p) (f : FlatFn) (words : (t : ℕ) →
 
     pub statements_right : (site : Site) (ss : Statements) (around : ℕ) → IsSited site → Placed site.scope →
         Part (statements_code site ss).code → (statements_code site ss).behind.next ≤ f.temps →
-        (statements_code site ss).behind.texts ≤ length p.globals → AreShort (statements_texts ss) → around + 3 * statements_blocks ss ≤ deepest →
+        (statements_code site ss).behind.texts ≤ length p.globals → AreShort (statements_texts ss) →
+        around + 3 * statements_blocks ss ≤ deepest →
         AreKept around (statements_code site ss).code (statements_code site ss).behind.scope
     statements_right site nothing around h set part temps texts short deep = record { right = refl; set = set }
     statements_right site (first s ss) around h set part temps texts short deep =

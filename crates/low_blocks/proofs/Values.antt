@@ -140,7 +140,8 @@ module _ (p : FlatProgram) (n : ℕ) (less : Less) where
 
     -- an operation on what two steps lead to
     joined_leads : (s : State) (op : Op) (left right : Steps) (v w r z t : ℕ) → 0 < t → AreFrom t left →
-        AreFrom (operand_of left).next right → (g : Gives s (operand_of left) v t) → Leads g.after right w (operand_of left).next → gives L op v w ≡ Some r → r % 2 ^ 64 ≡ z →
+        AreFrom (operand_of left).next right → (g : Gives s (operand_of left) v t) → Leads g.after right w (operand_of left).next →
+        gives L op v w ≡ Some r → r % 2 ^ 64 ≡ z →
         Leads s (operated op (operand_of left) (operand_of right)) z t
     joined_leads s op left right v w r z t some i j g k e f =
         let x = operand_from t left some i in
@@ -215,4 +216,5 @@ module _ (p : FlatProgram) (n : ℕ) (less : Less) where
     -- the operand that an expression becomes is its value
     pub piece_gives : (t : ℕ) (e : Expr) (s : State) → bound ≤ t → Ready s → Gives s (expr_piece scope t e) (value args vs e) t
     piece_gives t e s le r =
-        operand_gives nargs s (expr_steps scope t e) (value args vs e) t (expr_from scope bound pos below t e le).grows (expr_leads t e s le r)
+        operand_gives nargs s (expr_steps scope t e) (value args vs e) t (expr_from scope bound pos below t e le).grows
+        (expr_leads t e s le r)

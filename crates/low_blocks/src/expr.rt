@@ -50,7 +50,8 @@ fn lower_term(draft: &mut Draft, scope: &Scope, t: &Term) -> Result<Last, AllocE
 
 #[cycle(expr)]
 fn lower_factor(draft: &mut Draft, scope: &Scope, f: &Factor) -> Result<Last, AllocError>
-    ensures { IfOk result (λ s. steps_of draft.new s ≡ steps_behind draft.old.code (factor_steps scope.now draft.old.next (factor_of f.now))) }
+    ensures { IfOk result (λ s. steps_of draft.new s ≡ steps_behind draft.old.code
+        (factor_steps scope.now draft.old.next (factor_of f.now))) }
 {
     match f {
         Factor::Number(n) => Ok(Last::Operand(Value::Number(*n))),

@@ -28,7 +28,8 @@ pub fn lower_statements(
     body: &Statements,
 ) -> Result<(), AllocError>
     ensures { OnOk result (Lowers draft.old draft.new scope.old globals.old globals.new scope.new
-        (statements_code (site draft.old scope.old globals.old) (list_of_statements body.now)) (statements_texts (list_of_statements body.now))) }
+        (statements_code (site draft.old scope.old globals.old) (list_of_statements body.now))
+        (statements_texts (list_of_statements body.now))) }
 {
     for i in 0..body.len() {
         if let Some(s) = body.get(i) {
@@ -88,7 +89,8 @@ fn lower_block(
     body: &Statements,
 ) -> Result<FlatKids, AllocError>
     ensures { IfOk result (λ cs. LowersBlock draft.old draft.new scope.old globals.old globals.new scope.new cs
-        (statements_code (site draft.old scope.old globals.old) (list_of_statements body.now)) (statements_texts (list_of_statements body.now))) }
+        (statements_code (site draft.old scope.old globals.old) (list_of_statements body.now))
+        (statements_texts (list_of_statements body.now))) }
 {
     let mark = scope.mark();
     let mut inner = Draft::new(draft.alloc, draft.next);

@@ -7,7 +7,8 @@ use Rattle.il_emit.proofs.module.put_functions.Given as goal
 
 abbrev pub invariant-each : goal.invariant-each
 invariant-each l = record {
-  value : l.out ++ map (function_item l.source.program.now) l.left ≡ l.initial.out ++ map (function_item l.source.program.now) l.initial.left;
+  value : l.out ++ map (function_item l.source.program.now) l.left ≡ l.initial.out ++ map
+      (function_item l.source.program.now) l.initial.left;
   fits : AllByRecursion HasFewNames l.left → AllByRecursion HasFewNames l.initial.left;
 }
 
