@@ -24,7 +24,7 @@ use Rattle.hare_whole.specs.Programs.{IsComplete}
 use Rattle.hare_turns.specs.Stages.{IsEnd}
 use Rattle.hare_sole.specs.Checked.{AreChecked}
 use Rattle.hare_unit.specs.declared.phases.Typing.{Typing}
-use Rattle.hare_unit.specs.declared.checked.Checked.{Checked}
+pub use Rattle.hare_unit.specs.declared.checked.Checked.{Checked}
 
 -- ---- a checked program
 

@@ -1,6 +1,6 @@
 -- What comes of the check of files: their bytes, or why it stopped.
 use Rattle.std.specs.Prelude.{◌≡◌, ℕ, List, Option}
-use Rattle.hare_unit.specs.declared.checked.Checked.{Checked}
+pub use Rattle.hare_unit.specs.declared.checked.Checked.{Checked}
 use Rattle.hare_unit.specs.Programs.{IsChecked, IsFaultless, IsFaultOfProgram, IsOnlyFaultOfProgram}
 use Rattle.hare_unit.specs.Whole.{IsWhole}
 use Rattle.harec_words.specs.Commands as words

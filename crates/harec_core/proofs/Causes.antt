@@ -3,9 +3,9 @@ use Rattle.std.proofs.Common.{◌≡◌, ℕ, ◌<◌, ◌-◌, ◌^◌, List, [
 use Rattle.std.specs.Io.KnownBytes.{Appends}
 use Rattle.hx_io.specs.Causes.{Rose}
 use Rattle.il_code.specs.declared.types.Module.{Module}
-use Rattle.hare_unit.specs.declared.checked.Checked.{Checked}
-use Rattle.hare_unit.specs.Programs.{IsChecked, IsFaultless}
-use Rattle.hare_unit.specs.Whole.{IsWhole}
+use Rattle.harec_check.specs.Stops.{Checked}
+use Rattle.harec_check.specs.Programs.{IsChecked, IsFaultless}
+use Rattle.harec_check.specs.Whole.{IsWhole}
 use Rattle.harec_words.specs.Commands.{Command, Check, Emit, Run, IsCommand}
 use Rattle.harec_check.specs.declared.stopped.Stopped.{Stopped}
 use Rattle.harec_check.specs.declared.stopped.Stopped.TheVariants.{Refused, Unread, Memory}

@@ -17,9 +17,9 @@ use Rattle.hare_blocks.specs.Trees.{Program}
 use Rattle.hare_blocks.specs.Class.{IsSource, IsNoSource}
 use Rattle.hare_lines.specs.Layout.{IsLaidOut}
 use Rattle.hare_sources.specs.Files.{most_of_file}
-use Rattle.hare_unit.specs.declared.checked.Checked.{Checked}
-use Rattle.hare_unit.specs.Programs.{IsChecked, IsFaultless, IsFaultOfProgram, IsOnlyFaultOfProgram}
-use Rattle.hare_unit.specs.Whole.{IsWhole}
+use Rattle.harec_check.specs.Stops.{Checked}
+use Rattle.harec_check.specs.Programs.{IsChecked, IsFaultless, IsFaultOfProgram, IsOnlyFaultOfProgram}
+use Rattle.harec_check.specs.Whole.{IsWhole}
 use Rattle.harec_words.specs.Commands.{Command, Check, Emit, Run, Exec, Fmt}
 use Rattle.harec_core.specs.declared.answer.IlFault.{IlFault}
 use Rattle.harec_core.specs.declared.answer.Answer.{Answer}

@@ -1,9 +1,9 @@
 //! Doing with a checked program what the command says.
 
 ghost use Rattle.std.specs.Prelude.{◌≡◌, ◌<◌, ◌-◌, ◌^◌, [], length};
-ghost use Rattle.hare_unit.specs.declared.checked.Checked.{Checked};
-ghost use Rattle.hare_unit.specs.Programs.{IsChecked, IsFaultless};
-ghost use Rattle.hare_unit.specs.Whole.{IsWhole};
+ghost use Rattle.harec_check.specs.Stops.{Checked};
+ghost use Rattle.harec_check.specs.Programs.{IsChecked, IsFaultless};
+ghost use Rattle.harec_check.specs.Whole.{IsWhole};
 ghost use Rattle.harec_core.specs.Answers.{LeavesInput, LeavesOutput};
 ghost use Rattle.harec_core.specs.Outside.{Count, Stands, received, sent};
 ghost use Rattle.harec_core.specs.Stages.{ArgumentsOf, Emits, IsFound, command_on, found_answer};
