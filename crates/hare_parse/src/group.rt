@@ -6,9 +6,8 @@ ghost use Rattle.hare_tree.specs.Node.{branch, nodes_of};
 ghost use Rattle.hare_automaton.specs.Engine as engine;
 ghost use Rattle.hare_parse.specs.Heights.{IsBound};
 
-use crate::whole::kids_of;
 use hare_ll_table::Spare;
-use hare_tree::{Kind, Place, Suffix, Token, Tree, Word, is_node};
+use hare_tree::{Kids, Kind, Place, Suffix, Token, Tree, Word, is_node};
 use std::alloc::{AllocError, Global};
 use std::marker::Model;
 
@@ -139,7 +138,7 @@ impl Group {
             highest,
             last: _,
         } = self;
-        let taken = kids_of(spare.alloc(), &mut kids)?;
+        let taken = Kids::taken(spare.alloc(), &mut kids)?;
         spare.keep(kids)?;
         let tree = Tree {
             number,

@@ -34,14 +34,3 @@ pub fn full_leaf(alloc: Global, kind: Kind, token: &Token) -> Result<Tree, Alloc
         kids: Kids::new(alloc),
     })
 }
-
-/// Trees as the kids of one, which are taken out of their list.
-pub fn kids_of(alloc: Global, trees: &mut Vec<Tree>) -> Result<Kids, AllocError>
-    ensures { IfOk result (λ kids. kids ≡ trees.old.items) }
-{
-    let mut kids = Kids::new(alloc);
-    for tree in trees.drain(..) {
-        kids.push(tree)?;
-    }
-    Ok(kids)
-}

@@ -1,6 +1,6 @@
 //! Trees, which contracts see as plain data without addresses.
 
-ghost use Rattle.std.specs.Prelude.{◌≡◌, ◌≤◌, ◌<◌, [], ◌∷◌, ◌++◌, length, slice_get, IfSome, IfNone, OnOk, OnErr};
+ghost use Rattle.std.specs.Prelude.{◌≡◌, ◌≤◌, ◌<◌, [], ◌∷◌, ◌++◌, length, slice_get, IfSome, IfNone, IfOk, OnOk, OnErr};
 ghost use Rattle.hare_tree.specs.Node.{nodes_of, size_of, sizes_of};
 
 use crate::kind::Kind;
@@ -97,6 +97,17 @@ impl Kids {
         Kids {
             trees: Vec::new(alloc),
         }
+    }
+
+    /// The trees of a list, which are taken out of it. They take just the memory that they need. Nothing changes where memory is short.
+    pub fn taken(alloc: Global, trees: &mut Vec<Tree>) -> Result<Kids, AllocError>
+        ensures value { IfOk result (λ kids. kids ≡ trees.old.items) }
+        ensures ok { OnOk result (trees.new.items ≡ []) }
+        ensures err { OnErr result (trees.new.items ≡ trees.old.items) }
+    {
+        let mut own = Vec::with_capacity(alloc, trees.len())?;
+        own.append(trees)?;
+        Ok(Kids { trees: own })
     }
 
     /// Puts a tree at the end. Nothing changes where memory is short.

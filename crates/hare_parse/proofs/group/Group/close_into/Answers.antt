@@ -7,4 +7,4 @@ pub add-requires : goal.add-requires
 add-requires c =
     let ts = c.self.inside.kids.items in
     let b = c.above.ensures (high ts) c.self.invariant.0 in
-    rw c.in_ok-taken.ensures (subst (IsBound c.above.result) (sym (height_branch _ ts)) b)
+    rw c.in_ok-taken.ensures.value (subst (IsBound c.above.result) (sym (height_branch _ ts)) b)
