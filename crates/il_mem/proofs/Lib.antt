@@ -6,5 +6,8 @@ pub mod PageMoves
 pub mod PageWrites
 pub mod Pieces
 pub mod RangeLists
+pub mod StackCuts
+pub mod StackLists
 pub mod TouchedLemmas
 pub mod WindowLemmas
+pub mod WindowPlaces

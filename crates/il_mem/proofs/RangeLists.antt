@@ -1,19 +1,18 @@
 -- Lists of ranges in the order of their addresses.
-use Rattle.std.proofs.Common.{◌≡◌, ◌≢◌, ℕ, ◌+◌, ◌^◌, ◌<◌, ◌≤◌, Bool, true, false, ◌&&◌, ◌||◌, List, [], ◌∷◌, ◌++◌, Option, Some, None, refl, sym, ap, ◌∙◌, subst, arith, ◌⊎◌, inl, inr}
+use Rattle.std.proofs.Common.{◌≡◌, ◌≢◌, ℕ, ◌+◌, ◌^◌, ◌<◌, ◌≤◌, Bool, true, false, ◌&&◌, ◌||◌, List, [], ◌∷◌, ◌++◌, refl, sym, ap, ◌∙◌, subst, arith, ◌⊎◌, inl, inr}
 use Rattle.std.specs.Prelude.{not, filter, slice_index_or, IsSome, nat_eq, nat_le, nat_lt, if◌then◌else◌}
-use Rattle.std.specs.List.{list_any, All}
+use Rattle.std.specs.List.{All}
 use Rattle.std.proofs.lemmas.List.Elements.{All-nil, All-cons, All-tail}
 use Rattle.hx_base.proofs.Memory.Ranges.{Inside, inside, outside, inside_of}
-use Rattle.std.specs.Ordering.{nat_cmp, is_lt, is_le, match_ordering}
+use Rattle.std.specs.Ordering.{nat_cmp}
 use Rattle.std.specs.Map.{lookup, remove_entry}
 use Rattle.std.specs.BTreeMap.{insert_entry, is_at}
 use Rattle.std.specs.BTreeMap.Range.{range_contains}
 use Rattle.std.specs.declared.ops.Bound.TheVariants.{Unbounded, Included}
-use Rattle.std.proofs.lemmas.Bool.{and_parts}
 use Rattle.std.proofs.lemmas.Bool.Decides.{nat_tests}
 use Rattle.hx_base.specs.Memory.{in_range}
-use Rattle.il_mem.specs.Kept.{range_has, covers, IsBare, IsWhole}
-use Rattle.il_mem.specs.Laid.{are_laid, IsCovered, HasGap}
+use Rattle.il_mem.specs.Kept.{range_has, covers, IsWhole}
+use Rattle.il_mem.specs.Laid.{are_laid}
 
 -- ---- what the order says
 
@@ -66,7 +65,7 @@ has_yes a r l u = pick (nat_le r.0 a) (nat_lt a r.1) refl refl
     pick true false e f = absurd (grind (arith, nat_tests))
     pick false c e f = absurd (grind (arith, nat_tests))
 
-has_no : (a : ℕ) (r : ℕ × ℕ) → (a < r.0) ⊎ (r.1 ≤ a) → range_has a r ≡ false
+pub has_no : (a : ℕ) (r : ℕ × ℕ) → (a < r.0) ⊎ (r.1 ≤ a) → range_has a r ≡ false
 has_no a r h = pick (nat_le r.0 a) (nat_lt a r.1) refl refl h
   where
     pick : (b c : Bool) → nat_le r.0 a ≡ b → nat_lt a r.1 ≡ c → (a < r.0) ⊎ (r.1 ≤ a) → (b && c) ≡ false

@@ -11,6 +11,7 @@ mod copies;
 mod mem;
 mod pages;
 mod ranges;
+mod stack;
 mod stop;
 mod windows;
 

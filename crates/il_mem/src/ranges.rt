@@ -1,6 +1,6 @@
 //! The mapped addresses.
 
-ghost use Rattle.std.specs.Prelude.{◌≡◌, ◌+◌, ◌^◌, ◌<◌, ◌≤◌, true, false, not, [], filter, All, IsSome, IfSome, IfNone, MatchBool, OnOk, OnErr};
+ghost use Rattle.std.specs.Prelude.{◌≡◌, ℕ, List, ◌+◌, ◌^◌, ◌<◌, ◌≤◌, true, false, not, [], filter, length, All, IsSome, IfSome, IfNone, MatchBool, OnOk, OnErr};
 ghost use Rattle.std.specs.Bool.{OnTrue};
 ghost use Rattle.std.specs.Ordering.{nat_cmp};
 ghost use Rattle.std.specs.BTreeMap.{insert_entry, is_at};
@@ -9,25 +9,37 @@ ghost use Rattle.hx_base.specs.Memory.{in_range};
 ghost use Rattle.il_mem.specs.Kept.{covers, IsBare};
 ghost use Rattle.il_mem.specs.Laid.{are_laid, IsCovered, HasGap};
 
+use crate::stack::{cut, follows, found};
 use std::alloc::{AllocError, Global};
 use std::collections::BTreeMap;
 use std::marker::Model;
 
+// Where a stack is looked for: ranges that begin here, each behind the one before, need no look-up.
+const STACK_FROM: u64 = 1 << 40;
+
+const STACK_END: u64 = 1 << 48;
+
 /// The mapped ranges, each from its first address to the one behind its last. No two have an address in common, but they may touch.
+///
+/// Those of a stack stand in a list of their own, in the order of their addresses, so that the last of them is mapped and unmapped at once.
+/// No other begins at an address of `from` up to `end`.
 #[derive(Drop)]
 pub struct Ranges {
     ends: BTreeMap<u64, u64>,
+    stack: Vec<(u64, u64)>,
+    from: u64,
+    end: u64,
 }
 
 impl Model for Ranges {
-    ghost use Rattle.std.specs.Prelude.{List, ℕ, ◌≡◌, true};
-    ghost use Rattle.il_mem.specs.Laid.{are_laid};
+    ghost use Rattle.std.specs.Prelude.{List, ℕ};
+    ghost use Rattle.il_mem.specs.Laid.{AreApart, LeavesOut, with_all};
 
     ghost Value = { List (ℕ × ℕ) };
 
-    ghost view = { λ a. a.ends.entries };
+    ghost view = { λ a. with_all a.stack.items a.ends.entries };
 
-    ghost invariant = { λ a. are_laid 0 a.ends.entries ≡ true };
+    ghost invariant = { λ a. AreApart a.stack.items a.ends.entries × LeavesOut a.from a.end a.ends.entries };
 }
 
 impl Ranges {
@@ -37,6 +49,9 @@ impl Ranges {
     {
         Ranges {
             ends: BTreeMap::new(alloc),
+            stack: Vec::new(alloc),
+            from: STACK_FROM,
+            end: STACK_END,
         }
     }
 
@@ -45,13 +60,13 @@ impl Ranges {
         ensures value { MatchBool result (IsCovered self.now at (at + n)) (HasGap self.now at (at + n)) }
         ensures ends { OnTrue result (at + n < 2 ^ 64) }
     {
-        let ends = &self.ends;
+        let _stack = self.stack.len();
         let Some(end) = at.checked_add(n) else {
             return false;
         };
         let mut reached = at;
         while reached < end {
-            match end_of(ends, reached) {
+            match self.end_of(reached) {
                 Some(next) => reached = next,
                 None => return false,
             }
@@ -63,7 +78,29 @@ impl Ranges {
     pub fn around(&self, at: u64) -> Option<(u64, u64)>
         ensures { IfSome result (λ r. (r.0 ≤ at) × (at < r.1) × IsCovered self.now r.0 r.1) }
     {
-        range_of(&self.ends, at)
+        self.range_of(at)
+    }
+
+    // The address behind the range in which an address lies.
+    fn end_of(&self, at: u64) -> Option<u64>
+        ensures found { IfSome result (λ e. (at < e) × IsCovered self.now at e) }
+        ensures none { IfNone result (covers self.now at ≡ false) }
+    {
+        match self.range_of(at) {
+            Some((_, end)) => Some(end),
+            None => None,
+        }
+    }
+
+    // The range in which an address lies: its first address and the one behind its last.
+    fn range_of(&self, at: u64) -> Option<(u64, u64)>
+        ensures found { IfSome result (λ r. (r.0 ≤ at) × (at < r.1) × IsCovered self.now r.0 r.1) }
+        ensures none { IfNone result (covers self.now at ≡ false) }
+    {
+        match found(&self.stack, at) {
+            Some(range) => Some(range),
+            None => range_of(&self.ends, at),
+        }
     }
 
     /// Maps the `n` addresses from `at` on.
@@ -75,7 +112,14 @@ impl Ranges {
         ensures laid { OnOk result (are_laid 0 self.old ≡ true) }
         ensures err { OnErr result (self.new ≡ self.old) }
     {
+        if self.from <= at && at < self.end && follows(&self.stack, at) {
+            self.stack.push((at, at + n))?;
+            return Ok(());
+        }
         self.ends.insert(at, at + n)?;
+        if self.from <= at {
+            self.end = self.end.min(at);
+        }
         Ok(())
     }
 
@@ -84,25 +128,24 @@ impl Ranges {
         ensures value { self.new ≡ filter (λ r. not (in_range at n r.0)) self.old }
         ensures laid { are_laid 0 self.old ≡ true }
     {
-        let end = at.saturating_add(n);
-        while let Some(start) = first_from(&self.ends, at) {
-            if start >= end {
-                break;
-            }
-            self.ends.remove(&start);
+        cut(&mut self.stack, at, n);
+        if at < self.from || self.end < at.saturating_add(n) {
+            remove(&mut self.ends, at, n);
         }
     }
 }
 
-// The address behind the range in which an address lies.
-fn end_of(ends: &BTreeMap<u64, u64>, at: u64) -> Option<u64>
-    requires { are_laid 0 ends.now.entries ≡ true }
-    ensures found { IfSome result (λ e. (at < e) × IsCovered ends.now.entries at e) }
-    ensures none { IfNone result (covers ends.now.entries at ≡ false) }
+// Gives up the ranges of a map that begin at one of the `n` addresses from `at` on.
+fn remove(ends: &mut BTreeMap<u64, u64>, at: u64, n: u64)
+    requires { are_laid 0 ends.old.entries ≡ true }
+    ensures { ends.new.entries ≡ filter (λ r. not (in_range at n r.0)) ends.old.entries }
 {
-    match range_of(ends, at) {
-        Some((_, end)) => Some(end),
-        None => None,
+    let end = at.saturating_add(n);
+    while let Some(start) = first_from(ends, at) {
+        if start >= end {
+            break;
+        }
+        ends.remove(&start);
     }
 }
 

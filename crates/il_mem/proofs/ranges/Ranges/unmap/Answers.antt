@@ -1,45 +1,62 @@
-use Rattle.std.proofs.Common.{◌≡◌, ℕ, ◌+◌, ◌<◌, ◌≤◌, List, true, false, refl, sym, ◌∙◌, ap, arith}
+use Rattle.std.proofs.Common.{◌≡◌, ℕ, List, true, sym, ap, ◌∙◌, subst, arith}
 use Rattle.std.specs.Prelude.{not, filter}
-use Rattle.std.specs.List.{All}
-use Rattle.std.specs.Ordering.{nat_cmp}
-use Rattle.std.specs.BTreeMap.{is_at}
 use Rattle.hx_base.specs.Memory.{in_range}
-use Rattle.hx_base.proofs.Memory.Ranges.{in_range-inside}
-use Rattle.il_mem.proofs.RangeLists.{filter-remove_entry, filter-out, laid-remove_entry, laid_short}
+use Rattle.il_mem.specs.Laid.{are_laid, AreApart, LeavesOut, with_all}
+use Rattle.il_mem.proofs.StackLists.{joined, apart-filter, leaves_out-filter, leaves_out-none, filter-with_all}
 use Rattle.il_mem.proofs.ranges.Ranges.unmap.Goals as goal
 
+-- what is left
 abbrev out : ℕ → ℕ → List (ℕ × ℕ) → List (ℕ × ℕ)
 out at n rs = filter (λ r. not (in_range at n r.0)) rs
 
-pub loop-start-preserved : goal.loop-start-preserved
-loop-start-preserved c =
-    let at = c.args.at in
-    let n = c.args.n in
-    let s = c.in-Some.start in
-    let rs = c.loop-start.self-inside.ends.entries in
-    let below : s < at + n = omega (arith, c.if-start-end.false, c.saturating_add-end.ensures) in
-    let inside : in_range at n s ≡ true = in_range-inside at n s c.in-Some.ensures.found.0 below in
-    let gone : (e : ℕ) → not (in_range at n s) ≡ false = λ e. rw inside refl in
-    rw c.remove.ensures.entries (
-      filter-remove_entry (λ r. not (in_range at n r.0)) s rs gone ∙ c.loop-start.invariant.0,
-      laid-remove_entry (is_at (nat_cmp s)) 0 rs c.loop-start.invariant.1,
+-- of both lists
+all_out : (at n : ℕ) (ss es ss' es' now : List (ℕ × ℕ)) → AreApart ss es → with_all ss es ≡ now → ss' ≡ out at n ss → es' ≡ out at n es →
+    with_all ss' es' ≡ out at n now
+all_out at n ss es ss' es' now h view e f =
+    ap (λ (rs : List (ℕ × ℕ)). with_all rs es') e ∙ ap (λ (rs : List (ℕ × ℕ)). with_all (out at n ss) rs) f
+    ∙ sym (filter-with_all (λ a. not (in_range at n a)) ss es h) ∙ ap (λ (rs : List (ℕ × ℕ)). out at n rs) view
+
+apart_out : (at n : ℕ) (ss es ss' es' : List (ℕ × ℕ)) → AreApart ss es → ss' ≡ out at n ss → es' ≡ out at n es → AreApart ss' es'
+apart_out at n ss es ss' es' h e f =
+    subst (λ (rs : List (ℕ × ℕ)). AreApart ss' rs) (sym f)
+    (subst (λ (rs : List (ℕ × ℕ)). AreApart rs (out at n es)) (sym e) (apart-filter (λ r. not (in_range at n r.0)) ss es h))
+
+pub invariant_of-self : goal.invariant_of-self
+invariant_of-self c =
+    let same = leaves_out-none c.self.inside.from c.self.inside.end c.args.at c.args.n c.self.inside.ends.entries c.self.invariant.0.ends
+    c.self.invariant.1 c.if-at-self.false
+    (λ s short l. omega (arith, short, l, c.if-self-saturating_add.false, c.saturating_add.ensures)) in (
+      apart_out c.args.at c.args.n c.self.inside.stack.items c.self.inside.ends.entries _ _ c.self.invariant.0 c.cut.ensures (sym same),
+      c.self.invariant.1,
     )
 
--- nothing that is left begins there
-done : (at n : ℕ) (rs start now : List (ℕ × ℕ)) → out at n rs ≡ out at n start → start ≡ now → All (λ r. at ≤ r.0 → at + n ≤ r.0) rs →
-    rs ≡ out at n now
-done at n rs start now e f h = sym (filter-out at n rs h) ∙ e ∙ ap (out at n) f
+pub invariant_of-self-then-at-self : goal.invariant_of-self-then-at-self
+invariant_of-self-then-at-self c = (
+  apart_out c.args.at c.args.n c.self.inside.stack.items c.self.inside.ends.entries _ _ c.self.invariant.0 c.cut.ensures c.remove.ensures,
+  subst (λ (rs : List (ℕ × ℕ)). LeavesOut c.self.inside.from c.self.inside.end rs) (sym c.remove.ensures)
+      (leaves_out-filter (λ r. not (in_range c.args.at c.args.n r.0)) c.self.inside.from c.self.inside.end c.self.inside.ends.entries
+      c.self.invariant.1),
+)
 
-pub returns-then-start-end-clause-value : goal.returns-then-start-end-clause-value
-returns-then-start-end-clause-value c =
-    let rs = c.loop-start.self-inside.ends.entries in
-    let short = laid_short 0 rs c.loop-start.invariant.1 in
-    let first = c.in-Some.ensures.first in
-    done c.args.at c.args.n rs c.self.inside.ends.entries c.args.self.now c.loop-start.invariant.0 c.self.view_is
-    (λ k d l m. omega (arith, short k d l, first k d l m, c.if-start-end.true, c.saturating_add-end.ensures))
+pub returns-then-at-self-clause-value : goal.returns-then-at-self-clause-value
+returns-then-at-self-clause-value c =
+    all_out c.args.at c.args.n c.self.inside.stack.items c.self.inside.ends.entries _ _ c.args.self.now c.self.invariant.0 c.self.view_is
+    c.cut.ensures c.remove.ensures
 
-pub returns-in_default-clause-value : goal.returns-in_default-clause-value
-returns-in_default-clause-value c =
-    done c.args.at c.args.n c.loop-start.self-inside.ends.entries c.self.inside.ends.entries c.args.self.now c.loop-start.invariant.0
-    c.self.view_is
-    (λ k d l m. omega (arith, c.in_default.ensures.none k d l, m))
+pub returns-then-at-self-clause-laid : goal.returns-then-at-self-clause-laid
+returns-then-at-self-clause-laid c =
+    subst (λ (rs : List (ℕ × ℕ)). are_laid 0 rs ≡ true) c.self.view_is
+    (joined c.self.inside.stack.items c.self.inside.ends.entries c.self.invariant.0).laid
+
+pub returns-else-self-saturating_add-clause-value : goal.returns-else-self-saturating_add-clause-value
+returns-else-self-saturating_add-clause-value c =
+    let same = leaves_out-none c.self.inside.from c.self.inside.end c.args.at c.args.n c.self.inside.ends.entries c.self.invariant.0.ends
+    c.self.invariant.1 c.if-at-self.false
+    (λ s short l. omega (arith, short, l, c.if-self-saturating_add.false, c.saturating_add.ensures)) in
+    all_out c.args.at c.args.n c.self.inside.stack.items c.self.inside.ends.entries _ _ c.args.self.now c.self.invariant.0 c.self.view_is
+    c.cut.ensures (sym same)
+
+pub returns-else-self-saturating_add-clause-laid : goal.returns-else-self-saturating_add-clause-laid
+returns-else-self-saturating_add-clause-laid c =
+    subst (λ (rs : List (ℕ × ℕ)). are_laid 0 rs ≡ true) c.self.view_is
+    (joined c.self.inside.stack.items c.self.inside.ends.entries c.self.invariant.0).laid
