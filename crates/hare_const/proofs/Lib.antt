@@ -23,6 +23,7 @@ pub mod SettledLemmas
 pub mod FoldedLemmas
 pub mod StaticLemmas
 pub mod TextLemmas
+pub mod WordLemmas
 pub mod RefusedLemmas
 pub mod ReachedLemmas
 pub mod WalkLemmas

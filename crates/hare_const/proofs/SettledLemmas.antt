@@ -1,13 +1,16 @@
 -- What tests of a tree say of it.
 use Rattle.std.proofs.Common.{◌≡◌, ◌∙◌, sym, ap, ap₂, subst, refl, ℕ, zero, suc, ◌+◌, ◌-◌, ◌<◌, ◌≤◌, arith, Bool, true, false, not, List, [], ◌∷◌, length, drop, Some}
 use Rattle.std.specs.Prelude.{slice_get, ◌&&◌, ◌||◌}
-use Rattle.std.specs.List.{All}
-use Rattle.std.proofs.lemmas.List.Elements.{All-nil, All-cons}
+use Rattle.std.specs.List.{All, AllByRecursion}
+use Rattle.std.proofs.Common.{◌⊎◌, inl, inr}
+use Rattle.std.proofs.lemmas.Bool.{cases_lt}
+use Rattle.std.proofs.lemmas.List.Elements.{All-nil, All-cons, recursion_from_All, All-from_recursion}
 use Rattle.hare_tree.specs.declared.kind.Kind.{Kind}
 use Rattle.hare_tree.specs.declared.kind.Kind.TheVariants as kind
 use Rattle.hare_tree.specs.Node.{Head}
 use Rattle.hare_types.specs.declared.coercion.Ty.{Ty}
 use Rattle.hare_types.specs.declared.coercion.Ty.TheVariants as ty
+use Rattle.hare_types.specs.Assign.{IsIn}
 use Rattle.hare_types.specs.Store.{Store}
 use Rattle.hare_typed.specs.Typed.{TypedNode, TypedNodes, Mark, marked, typed_none, typed_more, typed_nodes, head_of, mark_of, kids_of}
 use Rattle.hare_typed.specs.Order.{kid_from_front}
@@ -18,7 +21,7 @@ use Rattle.hare_typed.specs.Constancy.{names_void, is_global_path}
 use Rattle.hare_typed.specs.Evaluated.{is_named, is_place_kind, first_is_place}
 use Rattle.hare_typed.specs.ConstantForms.{own_type, part_named, counted_from, fields_from}
 use Rattle.hare_const.specs.Sizes.{Fits, HasPart, parts_in}
-use Rattle.hare_const.specs.NodeValues.{HasParts, components_given, AreSimple}
+use Rattle.hare_const.specs.NodeValues.{HasParts, components_given, fields_given, AreSimple}
 use Rattle.hare_const.specs.Settled.{HaveBases, IsSettled, IsSettledNode, AreSettled}
 use Rattle.hare_const.proofs.SizeLemmas.{starts, has_part}
 use Rattle.hare_const.proofs.LaterTypes.{in_store}
@@ -137,3 +140,99 @@ drop-past (t ∷ ts) (suc i) h = drop-past ts i (omega arith)
 pub settled_all : (s : Store) (ts : List TypedNode) (i : ℕ) (G : Type 0) → length ts ≤ i →
     (AreSettled s (typed_nodes (drop i ts)) → G) → G
 settled_all s ts i G h go = go (subst (λ l. AreSettled s (typed_nodes l)) (sym (drop-past ts i h)) tt)
+
+-- ---- parts that a node asks for
+
+-- each of those that are counted from one on
+counted_back : (P : ℕ → Type 0) (i n : ℕ) → AllByRecursion P (counted_from i n) → (k : ℕ) → i ≤ k → k < i + n → P k
+counted_back P i zero h k l m = absurd (omega (arith, l, m))
+counted_back P i (suc n) h k l m = by (cases_lt i k) (λ g. counted_back P (suc i) n h.1 k (omega (arith, g)) (omega (arith, m)))
+  where
+    by : (i < k) ⊎ (k ≤ i) → (i < k → P k) → P k
+    by (inl g) rest = rest g
+    by (inr g) rest = let same : i ≡ k = omega (arith, l, g) in subst P same h.0
+
+-- the type of a tuple has the components that this gives
+pub components_back : (s : Store) (t : TypedNode) (f n : ℕ) → own_type t ≡ ty.Of f → n ≡ items_of kind.Tuple (kids_of t) →
+    HasParts s (own_type t) (components_given t) → Fits s f × ((k : ℕ) → k < n → HasPart s f k)
+components_back s t f n e m h =
+    let parts : HasParts s (ty.Of f) (components_given t) = subst (λ g. HasParts s g (components_given t)) e h in
+    let all : AllByRecursion (HasPart s f) (counted_from 0 n) =
+    subst (λ c. AllByRecursion (HasPart s f) (counted_from 0 c)) (sym m) (recursion_from_All (HasPart s f) (components_given t) parts.1) in
+    (parts.0, λ k l. counted_back (HasPart s f) 0 n all k (omega arith) (omega (arith, l)))
+
+pub fields_back : (s : Store) (t : TypedNode) (f : ℕ) → own_type t ≡ ty.Of f → HasParts s (own_type t) (fields_given s t) →
+    Fits s f × All (HasPart s f) (fields_given s t)
+fields_back s t f e h = subst (λ g. HasParts s g (fields_given s t)) e h
+
+-- of the fields from one on, the first and those behind it
+pub field_here : (s : Store) (f : Ty) (t : TypedNode) (of i n p : ℕ) → i < n → p ≡ part_named s f (head_of (kid_from_front (i + 1) t)) →
+    All (HasPart s of) (fields_from s f (suc i) (n - i) t) →
+    HasPart s of p × All (HasPart s of) (fields_from s f (suc (i + 1)) (n - (i + 1)) t)
+field_here s f t of i n p l e h =
+    let left : n - i ≡ suc (n - (i + 1)) = omega arith in
+    let next : suc i ≡ i + 1 = omega arith in
+    let rest : List ℕ = fields_from s f (suc (suc i)) (n - (i + 1)) t in
+    let all : AllByRecursion (HasPart s of) (part_named s f (head_of (kid_from_front (suc i) t)) ∷ rest) =
+    recursion_from_All (HasPart s of) (part_named s f (head_of (kid_from_front (suc i) t)) ∷ rest)
+    (subst (λ k. All (HasPart s of) (fields_from s f (suc i) k t)) left h) in
+    let here : HasPart s of (part_named s f (head_of (kid_from_front (i + 1) t))) =
+    subst (λ k. HasPart s of (part_named s f (head_of (kid_from_front k t)))) next all.0 in
+    let behind : All (HasPart s of) rest = All-from_recursion (HasPart s of) rest all.1 in
+    (subst (HasPart s of) (sym e) here, subst (λ k. All (HasPart s of) (fields_from s f (suc k) (n - (i + 1)) t)) next behind)
+
+-- ---- what a settled tree is made of
+
+pub settled_node : (s : Store) (t : TypedNode) → IsSettled s t → IsSettledNode s t
+settled_node s (marked h m ts) p = record {
+  simple = p.simple.0;
+  plain = p.simple.1;
+  own = p.bases.0;
+  to = p.bases.1;
+  joins = p.simple.3;
+}
+
+settled_each : (s : Store) (ts : TypedNodes) → AreSimple s ts → HaveBases s ts → AreSettled s ts
+settled_each s typed_none p q = tt
+settled_each s (typed_more t ts) p q = (record { simple = p.0; bases = q.0 }, settled_each s ts p.1 q.1)
+
+pub settled_kids : (s : Store) (t : TypedNode) → IsSettled s t → AreSettled s (kids_of t)
+settled_kids s (marked h m ts) p = settled_each s ts p.simple.4 p.bases.2
+
+pub settled_at : (s : Store) (ts : List TypedNode) (i : ℕ) (x : TypedNode) → slice_get ts i ≡ Some x → AreSettled s (typed_nodes ts) →
+    IsSettled s x
+settled_at s [] i x e p = absurd cc
+settled_at s (t ∷ ts) zero x e p = let same : t ≡ x = cc in subst (IsSettled s) same p.0
+settled_at s (t ∷ ts) (suc i) x e p = settled_at s ts i x e p.1
+
+pub settled_type : (s : Store) (x : TypedNode) → IsSettled s x → IsIn s (mark_of x).ty
+settled_type s (marked h m ts) p = p.simple.2
+
+-- a path to a type is no place
+void_path : (s : Store) (k : Kind) (m : Mark) (f : Ty) (b : Bool) → is_global_path k m ≡ true → names_void s m.meaning m.ty ≡ true →
+    is_place_kind s k m f b ≡ true → ⊥
+void_path s kind.Path m f b e g p =
+    let none : is_place_kind s kind.Path m f b ≡ false =
+    ap (λ x. is_named m.meaning && not (is_known m.value || x)) g ∙ last (is_named m.meaning) (is_known m.value) in
+    let both = sym p ∙ none in
+    absurd cc
+  where
+    last : (x y : Bool) → (x && not (y || true)) ≡ false
+    last true true = refl
+    last true false = refl
+    last false y = refl
+void_path s _ m f b e g p = absurd cc
+
+void_first : (s : Store) (ts : List TypedNode) (x : TypedNode) → slice_get ts 0 ≡ Some x → is_global_path (own_kind x) (mark_of x) ≡ true →
+    names_void s (mark_of x).meaning (mark_of x).ty ≡ true → first_is_place s (typed_nodes ts) ≡ true → ⊥
+void_first s [] x g e n p = absurd cc
+void_first s (marked h m us ∷ ts) x g e n p =
+    let same : x ≡ marked h m us = cc in
+    void_path s h.kind m (first_given us) (first_is_place s us)
+    (subst (λ y. is_global_path (own_kind y) (mark_of y) ≡ true) same e)
+    (subst (λ y. names_void s (mark_of y).meaning (mark_of y).ty ≡ true) same n) p
+
+pub not_placed : (s : Store) (t x : TypedNode) (h : Head) (m : Mark) (ts : List TypedNode) → marked h m (typed_nodes ts) ≡ t →
+    slice_get ts 0 ≡ Some x → is_global_path (own_kind x) (mark_of x) ≡ true → names_void s (mark_of x).meaning (mark_of x).ty ≡ true →
+    first_is_place s (kids_of t) ≡ true → ⊥
+not_placed s t x h m ts e g p n f = void_first s ts x g p n (subst (λ y. first_is_place s (kids_of y) ≡ true) (sym e) f)

@@ -236,3 +236,24 @@ pub start_found : (s : Store) (t k n d : ℕ) (ns : List ℕ) → HasPart s t k 
 start_found s t k n d ns p e f =
     let here : slice_get ns k ≡ Some (get_or ns k d) = slice_get-get_or ns k d (start_within s t k ns p e) in
     f ∙ ap (λ o. unwrap_or o 0) (sym here ∙ e)
+
+-- ---- types that do not fit, and parts that are not there
+
+pub fits_none : (s : Store) (t : ℕ) → None ≡ option_map told (extent_at s t) → Fits s t → ⊥
+fits_none s t e h = let both = e ∙ ap (option_map told) h.at in absurd cc
+
+pub fits_few : (s : Store) (t : ℕ) (x : Extent) → Some x ≡ option_map told (extent_at s t) → Fits s t → x.size ≤ 67108864
+fits_few s t x e h =
+    let both : Some x ≡ Some (told h.extent) = e ∙ ap (option_map told) h.at in
+    let same : x ≡ told h.extent = cc in
+    let size : x.size ≡ min h.extent.size 1099511627777 = ap (λ z. z.size) same in
+    omega (arith, size, h.few)
+
+pub part_within : (s : Store) (t k : ℕ) (r : Row) → Fits s t → base_row s (ty.Of t) ≡ Some r → HasPart s t k → k < length (parts_in r)
+part_within s t k r f e h =
+    let q = starts s t k f h in
+    let same : q.row ≡ r = let both = sym q.here ∙ e in cc in
+    subst (λ y. k < length (parts_in y)) same q.part
+
+pub no_part : (s : Store) (t k : ℕ) → Fits s t → base_row s (ty.Of t) ≡ None → HasPart s t k → ⊥
+no_part s t k f e h = let both = sym (starts s t k f h).here ∙ e in absurd cc

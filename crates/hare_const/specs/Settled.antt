@@ -1,5 +1,5 @@
 -- Trees whose constants can be told, and are in each later store the same.
-use Rattle.std.specs.Prelude.{◌≡◌, ℕ, IsSome}
+use Rattle.std.specs.Prelude.{◌≡◌, ℕ, Bool, false, is_some, IsSome}
 use Rattle.hare_types.specs.declared.coercion.Ty.{Ty}
 use Rattle.hare_types.specs.declared.coercion.Ty.TheVariants as kept
 use Rattle.hare_types.specs.Store.{Store}
@@ -8,6 +8,7 @@ use Rattle.hare_types.specs.Later.{IsLater}
 use Rattle.hare_types.specs.ByIds.{base_at}
 use Rattle.hare_typed.specs.Typed.{TypedNode, TypedNodes, marked, typed_none, typed_more, mark_of, kids_of}
 use Rattle.hare_typed.specs.Constants.{own_kind}
+use Rattle.hare_typed.specs.Constancy.{first_inconstant, first_inconstant_of}
 use Rattle.hare_typed.specs.Folded.{tagged_by_id, folded, inconstant}
 use Rattle.hare_const.specs.Joined.{Joins}
 use Rattle.hare_const.specs.Statics.{IsCoherent}
@@ -49,6 +50,17 @@ pub record IsSettledNode (s : Store) (t : TypedNode) : Type 0 where
 abbrev pub AreSettled : Store → TypedNodes → Type 0
 AreSettled s typed_none = Unit {0}
 AreSettled s (typed_more t ts) = IsSettled s t × AreSettled s ts
+
+-- ---- what is found of them
+
+-- it is settled, and so much is said of whether a node in it is of no constant kind
+pub record IsFound (s : Store) (t : TypedNode) (found : Bool) : Type 0 where
+  pub settled : IsSettled s t
+  pub refused : found ≡ is_some (first_inconstant s (λ u. false) t)
+
+pub record AreFound (s : Store) (ts : TypedNodes) (found : Bool) : Type 0 where
+  pub settled : AreSettled s ts
+  pub refused : found ≡ is_some (first_inconstant_of s (λ u. false) ts)
 
 -- ---- later stores
 

@@ -1,6 +1,6 @@
 //! Whether the objects of a tree that have one number have the same cells.
 
-ghost use Rattle.std.specs.Prelude.{◌≡◌, ◌-◌, ◌<◌, ◌^◌, true, IfOk};
+ghost use Rattle.std.specs.Prelude.{◌≡◌, ◌↔◌, ◌-◌, ◌<◌, ◌^◌, IsTrue, IfOk};
 ghost use Rattle.hare_typed.specs.Typed.{typed_nodes, kids_of};
 ghost use Rattle.hare_typed.specs.Constants.{own_kind};
 ghost use Rattle.hare_const.specs.Statics as spec;
@@ -62,7 +62,7 @@ fn statics_of(alloc: Global, own: u32, t: &Typed) -> Result<ConstObjects, AllocE
 /// Whether those of the objects that have one number have the same cells.
 fn are_coherent(alloc: Global, own: u32, t: &Typed) -> Result<bool, AllocError>
     requires { own < 2 ^ 32 - 1 }
-    ensures { IfOk result (λ b. b ≡ true → AreCoherent (spec.statics_in own t.now)) }
+    ensures { IfOk result (λ b. IsTrue b ↔ AreCoherent (spec.statics_in own t.now)) }
 {
     let table = table_of(alloc, statics_of(alloc, own, t)?)?;
     let objects = statics_of(alloc, own, t)?;
@@ -85,7 +85,7 @@ fn are_coherent(alloc: Global, own: u32, t: &Typed) -> Result<bool, AllocError>
 /// looked at.
 pub fn is_coherent(alloc: Global, s: &TypeStore, own: u32, t: &Typed) -> Result<bool, AllocError>
     requires { own < 2 ^ 32 - 1 }
-    ensures { IfOk result (λ b. b ≡ true → spec.IsCoherent s.now own t.now) }
+    ensures { IfOk result (λ b. IsTrue b ↔ spec.IsCoherent s.now own t.now) }
 {
     if !compares_texts(s, t) {
         return Ok(true);

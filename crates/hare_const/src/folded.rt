@@ -78,6 +78,38 @@ pub fn constant_cells(
     cells_and_objects(alloc, s, own, t, &mut made)
 }
 
+/// The constant that a value of the declaration `own` has, as its coercion gives it: its cells, and the objects of strings, and of arrays
+/// that become slices, to which they lead, directly or through such objects, by ascending number. Or E21 at its first node, in check order,
+/// that is no constant or whose evaluation would abort, also where it would not run. The answer is so over each later store too. `Absent`
+/// where the evaluation meets an undefined act, which it does in no tree that was checked.
+///
+/// It is asked that the constant can be told: `is_settled` and `is_coherent` test it, and it holds of each well-typed value. So there is no
+/// other answer but for want of memory, which is also that where the cells lead to more objects that are not there than there are objects.
+/// In a union the tag of a type is one more than its id. The declaration's number `own` is below 2^32 - 1. Each node is evaluated once, and
+/// the call goes as deep in the host as the tree is. The time is that of the tree and of the cells, and n log n in the objects.
+pub fn const_eval(alloc: Global, s: &TypeStore, own: u32, t: &Typed) -> Result<Const, Stop<Fault>>
+    requires own { own < 2 ^ 32 - 1 }
+    requires settled { IsSettled s.now t.now }
+    requires coherent { IsCoherent s.now own t.now }
+    ensures ok { IfOk result (λ c. (inconstant s.now own t.now ≡ None) × ((l : Store) → IsLater s.now l → c ≡ folded l own t.now)) }
+    ensures err { IfErr result (spec.Refuses (inconstant s.now own t.now)) }
+{
+    let _law = s.declarations();
+    let mut objects = ConstObjects::new(alloc);
+    put_statics(alloc, own, t, &mut objects)?;
+    match cells_and_objects(alloc, s, own, t, &mut objects) {
+        Ok(Some(cells)) => {
+            let listed = objects_led_to(alloc, objects, &cells)?;
+            Ok(Const::Known {
+                cells,
+                objects: listed,
+            })
+        }
+        Ok(None) => Ok(Const::Absent),
+        Err(stop) => Err(stop),
+    }
+}
+
 /// The constant that a value of the declaration `own` has, as its coercion gives it; `Absent` where one of its nodes is no constant, or
 /// would abort. It is the constant over each later store too. The objects of strings, and of arrays that become slices, to which its cells
 /// lead are listed with it.
@@ -100,17 +132,8 @@ pub fn constant(alloc: Global, s: &TypeStore, own: u32, t: &Typed) -> Result<Con
     if !is_coherent(alloc, s, own, t)? {
         return Err(AllocError);
     }
-    let mut objects = ConstObjects::new(alloc);
-    put_statics(alloc, own, t, &mut objects)?;
-    match cells_and_objects(alloc, s, own, t, &mut objects) {
-        Ok(Some(cells)) => {
-            let listed = objects_led_to(alloc, objects, &cells)?;
-            Ok(Const::Known {
-                cells,
-                objects: listed,
-            })
-        }
-        Ok(None) => Ok(Const::Absent),
+    match const_eval(alloc, s, own, t) {
+        Ok(c) => Ok(c),
         Err(Stop::Fault(_)) => Ok(Const::Absent),
         Err(Stop::Memory) => Err(AllocError),
     }

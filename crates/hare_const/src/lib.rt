@@ -39,7 +39,7 @@ mod words;
 
 pub use coherent::is_coherent;
 pub use cover::{Limits, covers, limits_at};
-pub use folded::{constant, constant_cells};
+pub use folded::{const_eval, constant, constant_cells};
 pub use laws::law_constants_stay;
 pub use length::array_length;
 pub use number::{little_endian, number_cells, number_of, number_of_value};

@@ -34,7 +34,7 @@ fn width(shape: Shape) -> u32
 }
 
 /// The byte that a cell is.
-fn byte_of(cell: Cell) -> Option<u8>
+pub(crate) fn byte_of(cell: Cell) -> Option<u8>
     ensures { result ≡ spec.byte_in cell }
 {
     match cell {

@@ -1,12 +1,14 @@
 //! Which trees have a constant that can be told, and is in each later store the same.
 
-ghost use Rattle.std.specs.Prelude.{◌≡◌, ◌<◌, ℕ, true, [], ◌∷◌};
+ghost use Rattle.std.specs.Prelude.{◌≡◌, ◌<◌, ◌↔◌, ◌||◌, ℕ, false, is_some, IsTrue, MatchOption, [], ◌∷◌};
 ghost use Rattle.std.specs.List.{All};
 ghost use Rattle.hare_tree.specs.declared.kind.Kind.TheVariants as kind;
 ghost use Rattle.hare_types.specs.declared.coercion.Ty.TheVariants as ty;
 ghost use Rattle.hare_typed.specs.Typed.{typed_nodes, kids_of};
 ghost use Rattle.hare_typed.specs.Constants.{own_kind};
+ghost use Rattle.hare_typed.specs.Constancy.{first_inconstant_of};
 ghost use Rattle.hare_typed.specs.ConstantForms.{own_type, int_in, is_iconst as iconst};
+ghost use Rattle.hare_typed.specs.Shapes.{int_at};
 ghost use Rattle.hare_const.specs.Operators.{IsWidth};
 ghost use Rattle.hare_const.specs.Sizes.{Fits, HasPart};
 ghost use Rattle.hare_const.specs.NodeValues as values;
@@ -17,7 +19,7 @@ use crate::joined::joins;
 use crate::kids::{first_given, type_of_kid};
 use crate::measures::{part_with_offset, type_with_offset};
 use crate::parts::part_named;
-use crate::refused::is_refused_kid;
+use crate::refused::is_refused;
 use crate::shape::{Shape, has_base, is_str, shape_at};
 use crate::sizes::{fits, has_part, part_count};
 use crate::texts::are_texts;
@@ -35,13 +37,10 @@ fn is_iconst(t: Ty) -> bool
     matches!(t, Ty::Iconst(_))
 }
 
-/// Whether a type has bits that operators work on.
-fn has_width(s: &TypeStore, t: Ty) -> bool
-    ensures { result ≡ true → IsWidth (int_in s.now t).bits }
+/// Whether a value of the type has bits that operators work on.
+fn has_bits(s: &TypeStore, t: TypeId) -> bool
+    ensures { IsTrue result ↔ IsWidth (int_at s.now t).bits }
 {
-    let Ty::Of(t) = t else {
-        return false;
-    };
     match shape_at(s, t) {
         Some(Shape::Whole(bytes, _)) => bytes > 0,
         Some(Shape::Truth | Shape::Reference | Shape::Nullable) => true,
@@ -49,23 +48,33 @@ fn has_width(s: &TypeStore, t: Ty) -> bool
     }
 }
 
+/// The same of a type, where there is one.
+fn has_width(s: &TypeStore, t: Ty) -> bool
+    ensures { IsTrue result ↔ IsWidth (int_in s.now t).bits }
+{
+    match t {
+        Ty::Of(t) => has_bits(s, t),
+        Ty::Iconst(_) | Ty::Null | Ty::Empty => false,
+    }
+}
+
 /// Whether an operator gives a number with bits, of an operand with a type; or has no type itself.
 fn has_number(s: &TypeStore, t: &Typed) -> bool
-    ensures { result ≡ true → values.HasNumber s.now t.now }
+    ensures { IsTrue result ↔ values.HasNumber s.now t.now }
 {
     is_iconst(t.ty) || (has_width(s, t.ty) && !is_iconst(type_of_kid(t, 0)))
 }
 
 /// The same of two operands.
 fn has_numbers(s: &TypeStore, t: &Typed) -> bool
-    ensures { result ≡ true → values.HasNumbers s.now t.now }
+    ensures { IsTrue result ↔ values.HasNumbers s.now t.now }
 {
     has_number(s, t) && (is_iconst(t.ty) || !is_iconst(type_of_kid(t, 1)))
 }
 
 /// Whether the size of a type can be told, where there is one.
 fn is_sized(s: &TypeStore, t: Ty) -> bool
-    ensures { result ≡ true → values.IsSized s.now t }
+    ensures { IsTrue result ↔ values.IsSized s.now t }
 {
     match t {
         Ty::Of(t) => fits(s, t),
@@ -76,26 +85,26 @@ fn is_sized(s: &TypeStore, t: Ty) -> bool
 /// Whether a type that fits has so many parts.
 fn has_parts(s: &TypeStore, of: TypeId, count: usize) -> bool
     requires { Fits s.now of }
-    ensures { result ≡ true → (k : ℕ) → k < count → HasPart s.now of k }
+    ensures { IsTrue result ↔ ((k : ℕ) → k < count → HasPart s.now of k) }
 {
     count == 0 || has_part(s, of, (count - 1) as u128)
 }
 
 /// Whether a tuple has a type with the components that it gives.
 fn gives_components(s: &TypeStore, t: &Typed) -> bool
-    ensures { result ≡ true → values.HasParts s.now (own_type t.now) (values.components_given t.now) }
+    ensures { IsTrue result ↔ values.HasParts s.now (own_type t.now) (values.components_given t.now) }
 {
-    let Ty::Of(of) = t.ty else {
-        return false;
-    };
-    fits(s, of) && has_parts(s, of, t.kids.len().saturating_sub(1))
+    match t.ty {
+        Ty::Of(of) => fits(s, of) && has_parts(s, of, t.kids.len().saturating_sub(1)),
+        Ty::Iconst(_) | Ty::Null | Ty::Empty => false,
+    }
 }
 
 /// Whether a type that fits has the fields that a struct gives.
 fn has_fields(s: &TypeStore, of: TypeId, t: &Typed) -> bool
     requires fits { Fits s.now of }
     requires own { own_type t.now ≡ ty.Of of }
-    ensures { result ≡ true → All (HasPart s.now of) (values.fields_given s.now t.now) }
+    ensures { IsTrue result ↔ All (HasPart s.now of) (values.fields_given s.now t.now) }
 {
     for i in 0..t.kids.len().saturating_sub(2) {
         let Some(field) = t.kids.get(i + 1) else {
@@ -110,27 +119,35 @@ fn has_fields(s: &TypeStore, of: TypeId, t: &Typed) -> bool
 
 /// Whether a struct has a type with the fields that it gives.
 fn gives_fields(s: &TypeStore, t: &Typed) -> bool
-    ensures { result ≡ true → values.HasParts s.now (own_type t.now) (values.fields_given s.now t.now) }
+    ensures { IsTrue result ↔ values.HasParts s.now (own_type t.now) (values.fields_given s.now t.now) }
 {
-    let Ty::Of(of) = t.ty else {
-        return false;
-    };
-    fits(s, of) && has_fields(s, of, t)
+    match t.ty {
+        Ty::Of(of) => fits(s, of) && has_fields(s, of, t),
+        Ty::Iconst(_) | Ty::Null | Ty::Empty => false,
+    }
+}
+
+/// Whether what an `offset(..)` names is a part of the type in which it stands, and the size of this can be told.
+fn has_offset_in(s: &TypeStore, whole: Ty, t: &Typed) -> bool
+    requires { values.type_with_offset s.now t.now ≡ whole }
+    ensures { IsTrue result ↔ values.HasParts s.now whole (values.part_with_offset s.now t.now ∷ []) }
+{
+    match whole {
+        Ty::Of(of) => fits(s, of) && has_part(s, of, part_with_offset(s, of, t)),
+        Ty::Iconst(_) | Ty::Null | Ty::Empty => false,
+    }
 }
 
 /// Whether what an `offset(..)` names is a part of a type whose size can be told.
 fn has_offset(s: &TypeStore, t: &Typed) -> bool
-    ensures { result ≡ true → values.HasParts s.now (values.type_with_offset s.now t.now) (values.part_with_offset s.now t.now ∷ []) }
+    ensures { IsTrue result ↔ values.HasParts s.now (values.type_with_offset s.now t.now) (values.part_with_offset s.now t.now ∷ []) }
 {
-    let Ty::Of(whole) = type_with_offset(s, t) else {
-        return false;
-    };
-    fits(s, whole) && has_part(s, whole, part_with_offset(s, whole, t))
+    has_offset_in(s, type_with_offset(s, t), t)
 }
 
 /// Whether a node has what each node of its kind has that meets its rules.
 fn is_asked_kind(s: &TypeStore, t: &Typed) -> bool
-    ensures { result ≡ true → values.AskedKind s.now t.now (own_kind t.now) }
+    ensures { IsTrue result ↔ values.AskedKind s.now t.now (own_kind t.now) }
 {
     match t.kind {
         Kind::Number | Kind::RuneLit => t.number < END_OF_NUMBERS,
@@ -146,7 +163,8 @@ fn is_asked_kind(s: &TypeStore, t: &Typed) -> bool
 
 /// Whether the first kid, where it is a path to a global, is a place.
 fn begins_with_place(s: &TypeStore, t: &Typed) -> bool
-    ensures { result ≡ true → values.PlainKind s.now kind.Addr (kids_of t.now) }
+    requires { spec.AreSettled s.now (kids_of t.now) }
+    ensures { IsTrue result ↔ values.PlainKind s.now kind.Addr (kids_of t.now) }
 {
     let Some(kid) = t.kids.get(0) else {
         return true;
@@ -154,62 +172,94 @@ fn begins_with_place(s: &TypeStore, t: &Typed) -> bool
     if !is_global_path(kid) {
         return true;
     }
-    has_base(s, kid.ty) && !names_void(s, kid.meaning, kid.ty)
+    !names_void(s, kid.meaning, kid.ty)
 }
 
-/// Whether the texts are told that an equality compares, or an operand is no constant.
-fn compares_plainly(s: &TypeStore, t: &Typed) -> bool
-    ensures { result ≡ true → values.PlainKind s.now kind.Equal (kids_of t.now) }
+/// Whether the texts are told that an equality compares, or a node of its operands is of no constant kind, which `refused` says.
+fn compares_plainly(s: &TypeStore, t: &Typed, refused: bool) -> bool
+    requires { refused ≡ is_some (first_inconstant_of s.now (λ u. false) (kids_of t.now)) }
+    ensures { IsTrue result ↔ values.PlainKind s.now kind.Equal (kids_of t.now) }
 {
-    !is_str(s, first_given(t))
-        || are_texts(s, t)
-        || is_refused_kid(s, &t.kids, 0)
-        || is_refused_kid(s, &t.kids, 1)
+    if refused {
+        return true;
+    }
+    if !is_str(s, first_given(t)) {
+        return true;
+    }
+    are_texts(s, t)
 }
 
-/// Whether the texts are told that a node compares, or an operand is no constant, and it is no address of what is no place.
-fn is_plain_kind(s: &TypeStore, t: &Typed) -> bool
-    ensures { result ≡ true → values.PlainKind s.now (own_kind t.now) (kids_of t.now) }
+/// Whether the texts are told that a node compares, or a node of its operands is of no constant kind, and it is no address of what is no
+/// place.
+fn is_plain_kind(s: &TypeStore, t: &Typed, refused: bool) -> bool
+    requires kids { spec.AreSettled s.now (kids_of t.now) }
+    requires refused { refused ≡ is_some (first_inconstant_of s.now (λ u. false) (kids_of t.now)) }
+    ensures { IsTrue result ↔ values.PlainKind s.now (own_kind t.now) (kids_of t.now) }
 {
     match t.kind {
-        Kind::Equal => compares_plainly(s, t),
+        Kind::Equal => compares_plainly(s, t, refused),
         Kind::Addr => begins_with_place(s, t),
         _ => true,
     }
 }
 
-/// Whether the value of a node can be told of its kids', and rests on no name that is not defined.
-fn is_settled_node(s: &TypeStore, t: &Typed) -> bool
-    ensures { result ≡ true → spec.IsSettledNode s.now t.now }
+/// Whether the value of a node can be told of its kids', and rests on no name that is not defined. The kids are settled, and `refused` says
+/// whether a node among them is of no constant kind.
+fn is_settled_node(s: &TypeStore, t: &Typed, refused: bool) -> bool
+    requires kids { spec.AreSettled s.now (kids_of t.now) }
+    requires refused { refused ≡ is_some (first_inconstant_of s.now (λ u. false) (kids_of t.now)) }
+    ensures { IsTrue result ↔ spec.IsSettledNode s.now t.now }
 {
     has_base(s, t.ty)
         && has_base(s, t.coerce.to)
         && joins(s, t)
         && is_asked_kind(s, t)
-        && is_plain_kind(s, t)
+        && is_plain_kind(s, t, refused)
+}
+
+/// Whether one of two is so.
+fn either(a: bool, b: bool) -> bool
+    ensures { result ≡ (a || b) }
+{
+    a || b
+}
+
+/// Of a tree that is settled, whether one of its nodes is of no constant kind; none of another.
+#[cycle(settled)]
+fn refused_in(s: &TypeStore, t: &Typed) -> Option<bool>
+    ensures { MatchOption result (¬ spec.IsSettled s.now t.now) (spec.IsFound s.now t.now) }
+{
+    match refused_among(s, &t.kids) {
+        Some(within) => {
+            if !is_settled_node(s, t, within) {
+                return None;
+            }
+            Some(is_refused(s, t, within))
+        }
+        None => None,
+    }
+}
+
+/// The same of some trees: none where one of them is not settled.
+#[cycle(settled)]
+fn refused_among(s: &TypeStore, kids: &TypedKids) -> Option<bool>
+    ensures { MatchOption result (¬ spec.AreSettled s.now (typed_nodes kids.now)) (spec.AreFound s.now (typed_nodes kids.now)) }
+{
+    let mut refused = false;
+    for i in 0..kids.len() {
+        let kid = kids.get(i)?;
+        match refused_in(s, kid) {
+            Some(here) => refused = either(refused, here),
+            None => return None,
+        }
+    }
+    Some(refused)
 }
 
 /// Whether the constant of a tree can be told, and rests on no name that is not defined yet. The work of a node is constant, but for the
-/// fields of a struct, and the call goes as deep in the host as the tree is.
-#[cycle(settled)]
+/// fields of a struct and the members of a union to which a value goes, and the call goes as deep in the host as the tree is.
 pub fn is_settled(s: &TypeStore, t: &Typed) -> bool
-    ensures { result ≡ true → spec.IsSettled s.now t.now }
+    ensures { IsTrue result ↔ spec.IsSettled s.now t.now }
 {
-    is_settled_node(s, t) && are_settled(s, &t.kids)
-}
-
-/// The same of each of some trees.
-#[cycle(settled)]
-fn are_settled(s: &TypeStore, kids: &TypedKids) -> bool
-    ensures { result ≡ true → spec.AreSettled s.now (typed_nodes kids.now) }
-{
-    for i in 0..kids.len() {
-        let Some(kid) = kids.get(i) else {
-            return false;
-        };
-        if !is_settled(s, kid) {
-            return false;
-        }
-    }
-    true
+    refused_in(s, t).is_some()
 }

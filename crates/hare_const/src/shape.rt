@@ -1,6 +1,6 @@
 //! The bases of types, and the scalar types among them.
 
-ghost use Rattle.std.specs.Prelude.{◌≡◌, ◌≤◌, true, option_copied, option_map, IfSome};
+ghost use Rattle.std.specs.Prelude.{◌≡◌, ◌≤◌, ◌↔◌, IsTrue, option_copied, option_map, IfSome};
 ghost use Rattle.hare_types.specs.declared.coercion.Ty.TheVariants as ty;
 ghost use Rattle.hare_typed.specs.Given.{base_row, is_str as str_type};
 ghost use Rattle.hare_typed.specs.Shapes as spec;
@@ -35,7 +35,7 @@ pub(crate) fn base_row(s: &TypeStore, t: TypeId) -> Option<&Row>
 
 /// Whether each name is defined to which a type comes, where there is one.
 pub(crate) fn has_base(s: &TypeStore, t: Ty) -> bool
-    ensures { result ≡ true → HasBase s.now t }
+    ensures { IsTrue result ↔ HasBase s.now t }
 {
     match t {
         Ty::Of(t) => s.base(t).is_some(),

@@ -1,6 +1,6 @@
 //! Sizes of types, and where their parts begin.
 
-ghost use Rattle.std.specs.Prelude.{◌≡◌, ◌<◌, ◌≤◌, ◌+◌, ◌^◌, ℕ, List, true, length, slice_get, Some, IfSome, IfOk};
+ghost use Rattle.std.specs.Prelude.{◌≡◌, ◌<◌, ◌≤◌, ◌+◌, ◌^◌, ℕ, List, IsTrue, ◌↔◌, length, slice_get, Some, IfSome, IfOk};
 ghost use Rattle.hare_types.specs.declared.extent.Extent.{Extent as ExtentOf};
 ghost use Rattle.hare_types.specs.ByIds.{extent_at, size_at, align_at, offset_at};
 ghost use Rattle.hare_types.specs.Kept.{all_known};
@@ -16,7 +16,7 @@ const MOST_BYTES: u64 = 67_108_864;
 
 /// Whether a type has at most that many bytes.
 pub(crate) fn fits(s: &TypeStore, t: TypeId) -> bool
-    ensures { result ≡ true → spec.Fits s.now t }
+    ensures { IsTrue result ↔ spec.Fits s.now t }
 {
     match s.extent(t) {
         Some(x) => x.size <= MOST_BYTES,
@@ -164,7 +164,7 @@ pub(crate) fn offset_of(s: &TypeStore, t: TypeId, k: u32) -> u64
 /// Whether a type that fits has a part with so many before it.
 pub(crate) fn has_part(s: &TypeStore, t: TypeId, k: u128) -> bool
     requires { spec.Fits s.now t }
-    ensures { result ≡ true → spec.HasPart s.now t k }
+    ensures { IsTrue result ↔ spec.HasPart s.now t k }
 {
     match base_row(s, t) {
         Some(row) => k < part_count(row) as u128,

@@ -1,12 +1,15 @@
 //! Texts whose bytes are told without an evaluation: strings and the constants of defs, in parentheses or not, cast to texts or not.
 
-ghost use Rattle.std.specs.Prelude.{◌≡◌, true, Some, IsSome, IfOk, IfSome};
+ghost use Rattle.std.specs.Prelude.{◌≡◌, ◌↔◌, Some, None, IsTrue, IsSome, IfOk, IfSome, MatchOption};
 ghost use Rattle.hare_typed.specs.Typed.{typed_nodes, mark_of, kids_of};
+ghost use Rattle.hare_typed.specs.Scalars.{Address};
+ghost use Rattle.hare_typed.specs.Words.{words};
 ghost use Rattle.hare_const.specs.NodeValues as values;
 ghost use Rattle.hare_const.specs.Texts as spec;
 
+use crate::number::byte_of;
 use crate::shape::is_str;
-use crate::words::text_words;
+use crate::words::{Text, text_words};
 use hare_tree::Kind;
 use hare_typed::{Cell, Cells, Const, ConstObjects, Typed, TypedKids};
 use hare_types::TypeStore;
@@ -30,7 +33,7 @@ fn keeps_text(t: &Typed) -> bool
 
 /// The cells of the first object with this number.
 fn object_cells(objects: &ConstObjects, number: u64) -> Option<&Cells>
-    ensures { IfSome result (λ cs. spec.cells_found objects.now number ≡ Some cs.now) }
+    ensures { MatchOption result (spec.cells_found objects.now number ≡ None) (λ cs. spec.cells_found objects.now number ≡ Some cs.now) }
 {
     for i in 0..objects.len() {
         let Some(o) = objects.get(i) else {
@@ -139,39 +142,56 @@ pub(crate) fn same_texts(alloc: Global, s: &TypeStore, t: &Typed) -> Result<bool
 
 /// Whether so many cells from a place on are there, and each is a byte.
 fn are_bytes(cells: &Cells, from: usize, count: usize) -> bool
-    ensures { result ≡ true → IsSome (spec.bytes_behind from count cells.now) }
+    ensures { IsTrue result ↔ IsSome (spec.bytes_behind from count cells.now) }
 {
     if from > cells.len() || count > cells.len() - from {
         return false;
     }
     for i in 0..count {
-        let Some(Cell::Byte(_)) = cells.get(from + i) else {
+        let Some(cell) = cells.get(from + i) else {
             return false;
         };
+        if byte_of(cell).is_none() {
+            return false;
+        }
     }
     true
 }
 
-/// Whether a constant is a text whose bytes are those of an object that it lists.
-fn has_text(c: &Const) -> bool
-    ensures { result ≡ true → IsSome (spec.text_in c.now) }
+/// Whether one of these objects has the bytes that the words of a text tell.
+fn has_bytes(objects: &ConstObjects, text: Text) -> bool
+    ensures { IsTrue result ↔ IsSome (spec.bytes_at objects.now (Address text.object text.offset) text.length) }
 {
-    let Const::Known { cells, objects } = c else {
-        return false;
-    };
-    let Some(text) = text_words(cells) else {
-        return false;
-    };
     match object_cells(objects, text.object) {
         Some(held) => are_bytes(held, text.offset as usize, text.length as usize),
         None => false,
     }
 }
 
+/// Whether cells are the words of a text whose bytes are those of one of these objects.
+fn says_text(cells: &Cells, objects: &ConstObjects) -> bool
+    ensures { IsTrue result ↔ IsSome (spec.text_of_words objects.now (words cells.now)) }
+{
+    match text_words(cells) {
+        Some(text) => has_bytes(objects, text),
+        None => false,
+    }
+}
+
+/// Whether a constant is a text whose bytes are those of an object that it lists.
+fn has_text(c: &Const) -> bool
+    ensures { IsTrue result ↔ IsSome (spec.text_in c.now) }
+{
+    match c {
+        Const::Absent => false,
+        Const::Known { cells, objects } => says_text(cells, objects),
+    }
+}
+
 /// Whether a tree is a text whose bytes are told.
 #[cycle(told)]
 fn is_text(s: &TypeStore, t: &Typed) -> bool
-    ensures { result ≡ true → IsSome (spec.text_of s.now t.now) }
+    ensures { IsTrue result ↔ IsSome (spec.text_of s.now t.now) }
 {
     if !keeps_text(t) {
         return false;
@@ -188,17 +208,17 @@ fn is_text(s: &TypeStore, t: &Typed) -> bool
 /// Whether the kid with so many before it is a text whose bytes are told.
 #[cycle(told)]
 fn is_text_kid(s: &TypeStore, kids: &TypedKids, i: usize) -> bool
-    ensures { result ≡ true → IsSome (spec.text_of_kid s.now i (typed_nodes kids.now)) }
+    ensures { IsTrue result ↔ IsSome (spec.text_of_kid s.now i (typed_nodes kids.now)) }
 {
-    let Some(kid) = kids.get(i) else {
-        return false;
-    };
-    is_text(s, kid)
+    match kids.get(i) {
+        Some(kid) => is_text(s, kid),
+        None => false,
+    }
 }
 
 /// Whether both operands are texts whose bytes are told.
 pub(crate) fn are_texts(s: &TypeStore, t: &Typed) -> bool
-    ensures { result ≡ true → spec.AreTexts s.now (kids_of t.now) }
+    ensures { IsTrue result ↔ spec.AreTexts s.now (kids_of t.now) }
 {
     is_text_kid(s, &t.kids, 0) && is_text_kid(s, &t.kids, 1)
 }

@@ -1,6 +1,6 @@
 //! What words say: pointers, and the three words of a text.
 
-ghost use Rattle.std.specs.Prelude.{◌≡◌, ◌+◌, ◌≤◌, length, true, is_some, Some, IsSome, IfSome};
+ghost use Rattle.std.specs.Prelude.{◌≡◌, ◌≢◌, ◌+◌, ◌≤◌, ℕ, length, true, is_some, Some, IsSome, IfSome, MatchOption};
 ghost use Rattle.hare_typed.specs.Answers.{Gives, ◌then◌};
 ghost use Rattle.hare_typed.specs.Cells as cells_of;
 ghost use Rattle.hare_typed.specs.Cells.{cells_within};
@@ -81,7 +81,7 @@ pub(crate) fn is_nullable(cells: &Cells) -> bool
 /// The number that the cells of a word are.
 fn size_in(word: &[Cell]) -> Option<u64>
     requires { length word.now ≡ 8 }
-    ensures { IfSome result (λ n. spec.size_in word.now ≡ Gives n) }
+    ensures { MatchOption result ((n : ℕ) → spec.size_in word.now ≢ Gives n) (λ n. spec.size_in word.now ≡ Gives n) }
 {
     little_endian(word)
 }
@@ -96,7 +96,8 @@ fn begins_with_pointer(cells: &Cells) -> bool
 
 /// The number that the word at a place of a value is.
 fn size_at(cells: &Cells, at: usize) -> Option<u64>
-    ensures { IfSome result (λ n. spec.size_in (cells_within at 8 cells.now) ≡ Gives n) }
+    ensures { MatchOption result ((n : ℕ) → spec.size_in (cells_within at 8 cells.now) ≢ Gives n)
+        (λ n. spec.size_in (cells_within at 8 cells.now) ≡ Gives n) }
 {
     let mut word = [Cell::Undef; WORD];
     if cells.read(at, &mut word) {
@@ -133,7 +134,8 @@ pub(crate) struct Text {
 
 /// The object and the offset to which the first word of cells leads; none where it is no pointer, or null.
 fn first_address(cells: &Cells) -> Option<(u64, u64)>
-    ensures { IfSome result (λ p. spelled Nullable (cells_within 0 8 cells.now) ≡ Some (Pointing (Address p.0 p.1))) }
+    ensures { MatchOption result ((o d : ℕ) → spelled Nullable (cells_within 0 8 cells.now) ≢ Some (Pointing (Address o d)))
+        (λ p. spelled Nullable (cells_within 0 8 cells.now) ≡ Some (Pointing (Address p.0 p.1))) }
 {
     let mut word = [Cell::Undef; WORD];
     if !cells.read(0, &mut word) {
@@ -154,16 +156,19 @@ fn first_address(cells: &Cells) -> Option<(u64, u64)>
 
 /// What the three words of a text say; none where the cells are no three words, or where the pointer is null.
 pub(crate) fn text_words(cells: &Cells) -> Option<Text>
-    ensures { IfSome result (λ x. spec.words cells.now ≡ Gives
+    ensures { MatchOption result ((w : spec.Words) (o d : ℕ) → spec.words cells.now ≡ Gives w → w.data_at ≢ Address o d)
+        (λ x. spec.words cells.now ≡ Gives
         (record { data_at = Address x.object x.offset; length = x.length; capacity = x.capacity })) }
 {
     let (object, offset) = first_address(cells)?;
     let length = size_at(cells, WORD)?;
-    let capacity = size_at(cells, 2 * WORD)?;
-    Some(Text {
-        object,
-        offset,
-        length,
-        capacity,
-    })
+    match size_at(cells, 2 * WORD) {
+        Some(capacity) => Some(Text {
+            object,
+            offset,
+            length,
+            capacity,
+        }),
+        None => None,
+    }
 }

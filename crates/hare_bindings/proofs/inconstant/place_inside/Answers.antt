@@ -10,8 +10,8 @@ returns c =
     let own = c.args.own in
     let t = c.args.value.now in
     let sound = c.declarations-law.ensures.sound in
-    let settled = c.is_settled.ensures c.if-not-is_settled.false in
-    let coherent = c.in_ok-is_coherent.ensures c.if-not-branch.false in
+    let settled = c.is_settled.ensures.0 c.if-not-is_settled.false in
+    let coherent = c.in_ok-is_coherent.ensures.0 c.if-not-branch.false in
     elim c.match-constant_cells.branch [
       | in-Ok w ↦
           subst (λ r. IfOk r (IsPlaceInside s own t)) (sym w.result-is)

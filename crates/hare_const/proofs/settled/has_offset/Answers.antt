@@ -1,5 +1,13 @@
-use Rattle.std.proofs.Common.{◌∙◌, sym}
+use Rattle.std.proofs.Common.{sym, subst, [], ◌∷◌}
+use Rattle.std.specs.Prelude.{◌↔◌, IsTrue}
+use Rattle.hare_const.specs.NodeValues.{HasParts, part_with_offset}
 use Rattle.hare_const.proofs.settled.has_offset.Goals as goal
 
-pub part_with_offset-requires : goal.part_with_offset-requires
-part_with_offset-requires c = sym c.type_with_offset.ensures ∙ c.in-Of.is
+pub has_offset_in-requires : goal.has_offset_in-requires
+has_offset_in-requires c = sym c.type_with_offset.ensures
+
+pub returns : goal.returns
+returns c =
+    let s = c.args.s.now in
+    let t = c.args.t.now in
+    subst (λ f. IsTrue c.has_offset_in.result ↔ HasParts s f (part_with_offset s t ∷ [])) c.type_with_offset.ensures c.has_offset_in.ensures

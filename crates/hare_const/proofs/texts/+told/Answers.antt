@@ -1,8 +1,8 @@
-use Rattle.std.proofs.Common.{◌<◌, arith, subst, sym}
-use Rattle.std.specs.Prelude.{IsSome}
+use Rattle.std.proofs.Common.{◌<◌, ◌∙◌, ap, arith, subst, sym}
+use Rattle.std.specs.Prelude.{◌↔◌, IsTrue, IsSome, is_some}
 use Rattle.hare_typed.specs.Typed.{typed_nodes, size_of, sizes_of}
 use Rattle.hare_typed.proofs.KidLemmas.{kid_size}
-use Rattle.hare_const.proofs.TextLemmas.{text_at}
+use Rattle.hare_const.proofs.TextLemmas.{text_at, text_past}
 use Rattle.hare_const.proofs.texts.+told.Goals as goal
 
 pub is_text_kid-is_text-requires : goal.is_text_kid-is_text-requires
@@ -11,6 +11,16 @@ is_text_kid-is_text-requires t c =
     kid_size c.args.kids.now c.args.i c.in-Some.kid.now c.in-Some.ensures.found in
     (omega arith, tt)
 
-pub is_text_kid-returns : goal.is_text_kid-returns
-is_text_kid-returns t c e =
-    subst IsSome (sym (text_at c.args.s.now c.args.kids.now c.args.i c.in-Some.kid.now c.in-Some.ensures.found)) (c.is_text.ensures e)
+pub is_text_kid-returns-in-Some : goal.is_text_kid-returns-in-Some
+is_text_kid-returns-in-Some t c =
+    subst (λ o. IsTrue c.is_text.result ↔ IsSome o)
+    (sym (text_at c.args.s.now c.args.kids.now c.args.i c.in-Some.kid.now c.in-Some.ensures.found)) c.is_text.ensures
+
+pub is_text_kid-returns-in-None : goal.is_text_kid-returns-in-None
+is_text_kid-returns-in-None t c = (
+  λ e. absurd cc,
+  λ h.
+      let none = text_past c.args.s.now c.args.kids.now c.args.i c.in-None.ensures.none in
+      let both = sym (ap is_some none) ∙ h in
+      absurd cc,
+)
