@@ -9,3 +9,4 @@ pub mod Well
 pub mod Texts
 pub mod Coherent
 pub mod Ready
+pub mod Agreement

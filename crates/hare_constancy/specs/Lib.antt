@@ -6,3 +6,4 @@ pub mod Laws
 pub mod Texts
 pub mod Coherent
 pub mod Ready
+pub mod Kept

@@ -1,6 +1,7 @@
 //! What holds of every tree that meets its rows, and that well-typed trees do.
 
 ghost use Rattle.hare_constancy.specs.Coherent.{AskedTreesAreCoherent};
+ghost use Rattle.hare_constancy.specs.Kept.{DefsStayInAgreement};
 ghost use Rattle.hare_constancy.specs.Laws.{MetTreesAreSettled};
 ghost use Rattle.hare_constancy.specs.Ready.{AskedValuesAreReady, DeclaredValuesAreReady, WellValuesAreReady};
 ghost use Rattle.hare_constancy.specs.Texts.{WellTreesAreTraced, AskedTreesAreTraced, TracedTextsAreTold};
@@ -40,4 +41,10 @@ pub fn law_values_are_ready()
     ensures asked { AskedValuesAreReady }
     ensures declared { DeclaredValuesAreReady }
     ensures finished { WellValuesAreReady }
+{}
+
+/// What is known of defs agrees as before, for the value of each other declaration, when a constant more is known: one that lists objects of
+/// nodes of its own declaration, and objects that are listed with what is known.
+pub fn law_defs_stay()
+    ensures { DefsStayInAgreement }
 {}
