@@ -1,5 +1,5 @@
 -- What tests of a tree say of it.
-use Rattle.std.proofs.Common.{◌≡◌, ◌∙◌, sym, ap, ap₂, subst, refl, ℕ, zero, suc, ◌+◌, ◌-◌, ◌<◌, ◌≤◌, arith, Bool, true, false, not, List, [], ◌∷◌, length, drop, Some}
+use Rattle.std.proofs.Common.{◌≡◌, ◌∙◌, sym, ap, ap₂, subst, refl, ℕ, zero, suc, ◌+◌, ◌-◌, ◌<◌, ◌≤◌, arith, Bool, true, false, not, List, [], ◌∷◌, length, Some}
 use Rattle.std.specs.Prelude.{slice_get, ◌&&◌, ◌||◌}
 use Rattle.std.specs.List.{All, AllByRecursion}
 use Rattle.std.proofs.Common.{◌⊎◌, inl, inr}
@@ -117,29 +117,6 @@ settled_tree s (marked h m ts) n p = record {
   simple = (n.simple, n.plain, in_store s m.ty n.own, n.joins, simple-of s ts p);
   bases = (n.own, n.to, bases-of s ts p);
 }
-
-drop-next : (ts : List TypedNode) (i : ℕ) (x : TypedNode) → slice_get ts i ≡ Some x → drop i ts ≡ x ∷ drop (suc i) ts
-drop-next [] i x e = absurd cc
-drop-next (t ∷ ts) zero x e = let same : t ≡ x = cc in ap (λ y. y ∷ ts) same
-drop-next (t ∷ ts) (suc i) x e = drop-next ts i x e
-
--- the kids from one on, where it is settled and those behind it are
-pub settled_more : (s : Store) (ts : List TypedNode) (i : ℕ) (x : TypedNode) (G : Type 0) → slice_get ts i ≡ Some x → IsSettled s x →
-    (AreSettled s (typed_nodes (drop i ts)) → G) → AreSettled s (typed_nodes (drop (i + 1) ts)) → G
-settled_more s ts i x G e p go rest =
-    let next : i + 1 ≡ suc i = omega arith in
-    let behind : AreSettled s (typed_nodes (drop (suc i) ts)) = subst (λ k. AreSettled s (typed_nodes (drop k ts))) next rest in
-    go (subst (λ l. AreSettled s (typed_nodes l)) (sym (drop-next ts i x e)) (p, behind))
-
-drop-past : (ts : List TypedNode) (i : ℕ) → length ts ≤ i → drop i ts ≡ []
-drop-past [] zero h = refl
-drop-past [] (suc i) h = refl
-drop-past (t ∷ ts) zero h = absurd (omega arith)
-drop-past (t ∷ ts) (suc i) h = drop-past ts i (omega arith)
-
-pub settled_all : (s : Store) (ts : List TypedNode) (i : ℕ) (G : Type 0) → length ts ≤ i →
-    (AreSettled s (typed_nodes (drop i ts)) → G) → G
-settled_all s ts i G h go = go (subst (λ l. AreSettled s (typed_nodes l)) (sym (drop-past ts i h)) tt)
 
 -- ---- parts that a node asks for
 
