@@ -21,11 +21,11 @@ use std::alloc::{AllocError, Global};
 ///
 /// `paths` are those of the files, and `files` their trees, each with its number in that order. They have fewer than 2^32 - 1 declarations.
 /// Fails only for want of memory. Takes time in proportion to the imports and declarations, but for look-ups of names.
-pub fn look(
+pub fn look<'a>(
     alloc: Global,
     paths: &[Text],
-    files: &Items<FileTree>,
-) -> Result<(Directory, Option<Fault>), AllocError>
+    files: &'a Items<FileTree>,
+) -> Result<(Directory<'a>, Option<Fault>), AllocError>
     requires { AreNumbered paths.now files.now }
     ensures tables { IfOk result (λ r. IsDirectoryOf (sources paths.now files.now) (tables_of r.0)) }
     ensures first { IfOk result (λ r. TellsFirst (IsModuleFault (sources paths.now files.now)) r.1) }

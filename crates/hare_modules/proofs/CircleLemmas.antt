@@ -1,8 +1,6 @@
 -- Graphs of imports, and what following an import tells.
-use Rattle.std.proofs.Common.{◌≡◌, ◌⊎◌, inl, inr, ◌↔◌, IsTrue, ℕ, ◌+◌, ◌<◌, ◌≤◌, List, [], ◌∷◌, ◌++◌, Bool, true, false, not, length, get_or, set, fold, replicate, take, map, nat_lt, Option, Some, None, is_some, refl, sym, ap, ◌∙◌, subst, suc, zero, add-one, arith}
+use Rattle.std.proofs.Common.{◌≡◌, ◌⊎◌, inl, inr, ℕ, ◌+◌, ◌<◌, List, [], ◌∷◌, ◌++◌, Bool, true, false, not, length, get_or, fold, take, map, Option, Some, None, refl, sym, ap, ◌∙◌, subst, suc, zero, add-one, arith}
 use Rattle.std.specs.Prelude.{Contains}
-use Rattle.std.proofs.lemmas.Bool.{ltb-true, lt-ltb}
-use Rattle.std.proofs.lemmas.List.{length-set, get_or-set_same, get_or-set_other, length-replicate}
 use Rattle.std.proofs.lemmas.List.Elements.{Contains-push, Contains-append_left, Contains-push_cases}
 use Rattle.hare_tree.specs.declared.place.Fault.{Fault}
 use Rattle.hare_modules.specs.Order.{fault, counts_before, earlier, TellsFirst}

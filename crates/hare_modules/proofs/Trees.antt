@@ -1,5 +1,5 @@
 -- Kids of trees, by the lists that the code reads them from.
-use Rattle.std.proofs.Common.{◌≡◌, ℕ, ◌≤◌, List, [], ◌∷◌, length, get_or, slice_get, Some, None, refl, sym, ap, ◌∙◌, suc, zero, arith}
+use Rattle.std.proofs.Common.{◌≡◌, ℕ, ◌≤◌, List, [], ◌∷◌, length, get_or, slice_get, Some, refl, sym, ap, ◌∙◌, suc, zero, arith}
 use Rattle.hare_tree.specs.Node.{Head, Node, branch, nodes_of}
 use Rattle.hare_graph.proofs.Elements.{get_or-there}
 use Rattle.hare_modules.specs.Uses.{listed, kids, kid}

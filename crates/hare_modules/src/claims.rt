@@ -240,6 +240,7 @@ fn take_decls<'a>(
         spec.decl_takings spot.file spot.home number decls.now) }
 {
     let mut next = number;
+    claims.reserve(decls.len())?;
     for i in 0..decls.len() {
         let Some(tree) = decls.get(i) else {
             return Ok(next);

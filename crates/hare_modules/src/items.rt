@@ -23,7 +23,7 @@ pub struct Entry {
 pub const NOMEM: u32 = 4_294_967_295;
 
 /// Puts what is built in into the table of the module `rt`.
-pub fn build_in(items: &mut Table<Entry>) -> Result<(), AllocError>
+pub fn build_in(items: &mut Table<'_, Entry>) -> Result<(), AllocError>
     requires { items.old ≡ [] }
     ensures { OnOk result (items.new ≡ entries.built_in) }
 {

@@ -89,7 +89,7 @@ fn place_of(t: &Tree) -> Place
 }
 
 /// The first of E14 and E15 at the names between the braces of imports of known modules.
-pub fn unknown_member(items: &[Table<Entry>], claims: &[Claim<'_>]) -> Option<Fault>
+pub fn unknown_member(items: &[Table<'_, Entry>], claims: &[Claim<'_>]) -> Option<Fault>
     ensures { result ≡ first_in (filter_map (taken.member_fault items.now) (map takings.taking claims.now)) }
 {
     let mut first = None;
@@ -100,7 +100,7 @@ pub fn unknown_member(items: &[Table<Entry>], claims: &[Claim<'_>]) -> Option<Fa
 }
 
 /// The fault of a name that stands between braces, if it has one.
-fn member_fault(items: &[Table<Entry>], claim: Claim<'_>) -> Option<Fault>
+fn member_fault(items: &[Table<'_, Entry>], claim: Claim<'_>) -> Option<Fault>
     ensures { result ≡ taken.member_fault items.now (takings.taking claim.entry) }
 {
     let Taker::Import(import) = claim.taker else {
@@ -116,7 +116,7 @@ fn member_fault(items: &[Table<Entry>], claim: Claim<'_>) -> Option<Fault>
 }
 
 /// What a module declares under a name.
-pub fn entry_at(items: &[Table<Entry>], number: usize, name: &[u8]) -> Option<Entry>
+pub fn entry_at(items: &[Table<'_, Entry>], number: usize, name: &[u8]) -> Option<Entry>
     ensures { result ≡ value_of name.now (taken.table_at items.now number) }
 {
     match items.get(number) {

@@ -7,25 +7,25 @@ use indexmap::IndexMap;
 use std::alloc::{AllocError, Global};
 use std::marker::Model;
 
-/// A table from names to values. A name keeps the first value that is put under it.
+/// A table from names, which are borrowed, to values. A name keeps the first value that is put under it.
 ///
 /// A look-up takes constant expected time.
 #[derive(Drop)]
-pub struct Table<T> {
-    entries: IndexMap<Vec<u8>, T>,
+pub struct Table<'a, T> {
+    entries: IndexMap<&'a [u8], T>,
 }
 
-impl<T> Model for Table<T> {
+impl<'a, T> Model for Table<'a, T> {
     ghost use Rattle.std.specs.Prelude.{List, ℕ, map};
 
     ghost Value = { List (List ℕ × T) };
 
-    ghost view = { λ a. map (λ e. (e.0.items, e.1)) a.entries.entries };
+    ghost view = { λ a. map (λ e. (e.0.now, e.1)) a.entries.entries };
 }
 
-impl<T: Copy> Table<T> {
+impl<'a, T: Copy> Table<'a, T> {
     /// An empty table. Takes no memory.
-    pub fn new(alloc: Global) -> Table<T>
+    pub fn new(alloc: Global) -> Table<'a, T>
         ensures { result ≡ [] }
     {
         Table {
@@ -41,16 +41,24 @@ impl<T: Copy> Table<T> {
     }
 
     /// Puts a value under a name that has none. Nothing changes where it has one, or where memory is short.
-    pub fn put(&mut self, name: &[u8], value: T) -> Result<(), AllocError>
+    pub fn put(&mut self, name: &'a [u8], value: T) -> Result<(), AllocError>
         ensures ok { OnOk result (self.new ≡ spec.put self.old name.now value) }
         ensures err { OnErr result (self.new ≡ self.old) }
     {
-        if self.get(name).is_some() {
-            return Ok(());
-        }
-        let mut key = Vec::new(*self.entries.allocator());
-        key.extend_from_slice(name)?;
-        self.entries.insert(key, value)?;
+        self.enter(name, value)?;
         Ok(())
+    }
+
+    /// The same. The answer is whether the name had a value before.
+    pub(crate) fn enter(&mut self, name: &'a [u8], value: T) -> Result<bool, AllocError>
+        ensures had { IfOk result (λ had. had ≡ spec.has name.now self.old) }
+        ensures ok { OnOk result (self.new ≡ spec.put self.old name.now value) }
+        ensures err { OnErr result (self.new ≡ self.old) }
+    {
+        if let Some(first) = self.entries.insert(name, value)? {
+            self.entries.insert(name, first)?;
+            return Ok(true);
+        }
+        Ok(false)
     }
 }

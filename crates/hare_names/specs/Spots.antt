@@ -1,5 +1,5 @@
 -- The paths of a tree with the locals that are visible there, and what the tables of a program note of them. No public clause cites them.
-use Rattle.std.specs.Prelude.{ℕ, ◌+◌, List, [], ◌∷◌, ◌++◌, Bool, ◌||◌, if◌then◌else◌}
+use Rattle.std.specs.Prelude.{ℕ, ◌+◌, List, [], ◌∷◌, ◌++◌, Bool, false, not, ◌&&◌, ◌||◌, if◌then◌else◌}
 use Rattle.hare_tree.specs.declared.place.Place.{Place}
 use Rattle.hare_tree.specs.Node.{Head, Node, Nodes, branch, none, more}
 use Rattle.hare_tree.specs.Spell.{parts}
@@ -8,7 +8,7 @@ use Rattle.hare_modules.specs.Directory.{Directory}
 use Rattle.hare_names.specs.declared.notes.Notes.{Notes}
 use Rattle.hare_names.specs.declared.verdict.Verdict.{Verdict}
 use Rattle.hare_names.specs.declared.verdict.Verdict.TheVariants.{Means, Fails}
-use Rattle.hare_names.specs.Scopes.{Local, is_for_each, bindings_in, bound_by, bound_itself}
+use Rattle.hare_names.specs.Scopes.{Local, is_binding, is_for_each, bindings_in, bound_by, bound_itself}
 use Rattle.hare_names.specs.Paths.{is_type_path, is_value_path, before_kids}
 use Rattle.hare_names.specs.Tables.{verdict, put}
 
@@ -43,6 +43,11 @@ abbrev mutual
   spots_of_loop n ls (more b (more over ts)) =
       spots_in n ls b ++ spots_in (n + bindings_in b) ls over ++ spots_among (n + bindings_in b + bindings_in over)
       (bound_itself n b ++ ls) ts
+
+-- a tree without kids that is neither a path nor a binding
+abbrev pub is_idle : Node → Bool
+is_idle (branch h none) = not (is_binding h.kind) && not (is_type_path h.kind) && not (is_value_path h.kind)
+is_idle (branch h (more t ts)) = false
 
 -- ---- notes
 

@@ -17,54 +17,53 @@ const FEW: usize = 8;
 /// The fault that counts first of one that was found before, if there was one, and of those at the later of equal names of parameters or
 /// fields in a tree. It fails for want of memory alone.
 #[cycle(doubled)]
-pub fn first_doubled(
-    alloc: Global,
-    t: &Tree,
-    found: Option<Fault>,
-) -> Result<Option<Fault>, AllocError>
-    ensures { IfOk result (λ f. f ≡ fold earlier found (spec.doubled_in t.now)) }
+pub fn first_doubled(alloc: Global, t: &Tree, found: &mut Option<Fault>) -> Result<(), AllocError>
+    ensures { OnOk result (found.new ≡ fold earlier found.old (spec.doubled_in t.now)) }
 {
     if has_names(t.kind) {
-        let found = doubled_kids(alloc, &t.kids, found)?;
-        return doubled_among(alloc, &t.kids, found);
+        doubled_kids(alloc, &t.kids, found)?;
     }
     doubled_among(alloc, &t.kids, found)
 }
 
 /// The same of the kids of a tree.
 #[cycle(doubled)]
-fn doubled_among(
-    alloc: Global,
-    kids: &Kids,
-    found: Option<Fault>,
-) -> Result<Option<Fault>, AllocError>
-    ensures { IfOk result (λ f. f ≡ fold earlier found (spec.doubled_among (nodes_of kids.now))) }
+fn doubled_among(alloc: Global, kids: &Kids, found: &mut Option<Fault>) -> Result<(), AllocError>
+    ensures { OnOk result (found.new ≡ fold earlier found.old (spec.doubled_among (nodes_of kids.now))) }
 {
-    let mut first = found;
     for i in 0..kids.len() {
         let Some(kid) = kids.get(i) else {
-            return Ok(first);
+            return Ok(());
         };
         if kid.kids.len() == 0 {
             continue;
         }
-        first = first_doubled(alloc, kid, first)?;
+        first_doubled(alloc, kid, found)?;
     }
-    Ok(first)
+    Ok(())
 }
 
 /// The same of the parameters or fields that are kids of one tree.
-fn doubled_kids(
+fn doubled_kids(alloc: Global, kids: &Kids, found: &mut Option<Fault>) -> Result<(), AllocError>
+    ensures { OnOk result (found.new ≡ fold earlier found.old (spec.doubled_kids (nodes_of kids.now))) }
+{
+    *found = if kids.len() <= FEW {
+        doubled_few(kids, *found)
+    } else {
+        doubled_many(alloc, kids, *found)?
+    };
+    Ok(())
+}
+
+/// The same of many kids, whose names are put into a table.
+fn doubled_many(
     alloc: Global,
     kids: &Kids,
     found: Option<Fault>,
 ) -> Result<Option<Fault>, AllocError>
     ensures { IfOk result (λ f. f ≡ fold earlier found (spec.doubled_kids (nodes_of kids.now))) }
 {
-    if kids.len() <= FEW {
-        return Ok(doubled_few(kids, found));
-    }
-    let mut names: Table<()> = Table::new(alloc);
+    let mut names: Table<'_, ()> = Table::new(alloc);
     let mut first = found;
     for i in 0..kids.len() {
         let Some(kid) = kids.get(i) else {
@@ -124,9 +123,9 @@ fn is_called(kid: &Tree, name: &[u8]) -> bool
 
 /// Takes the name of a kid, if it is a parameter or a field. The answer is the fault that counts first of one that was found before, if
 /// there was one, and of that of a name that is taken already.
-fn take_name(
-    names: &mut Table<()>,
-    kid: &Tree,
+fn take_name<'a>(
+    names: &mut Table<'a, ()>,
+    kid: &'a Tree,
     found: Option<Fault>,
 ) -> Result<Option<Fault>, AllocError>
     ensures first { IfOk result (λ f. f ≡ doubling.first_with names.old kid.now found) }

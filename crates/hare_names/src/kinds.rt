@@ -8,6 +8,7 @@ ghost use Rattle.hare_names.specs.Doubled as doubled;
 use hare_tree::Kind;
 
 /// Whether trees of a kind bind their name.
+#[inline(always)]
 pub fn is_binding(k: Kind) -> bool
     ensures { result ≡ scopes.is_binding k }
 {
@@ -18,6 +19,7 @@ pub fn is_binding(k: Kind) -> bool
 }
 
 /// Whether a kind is that of a function's parameters.
+#[inline(always)]
 pub fn is_params(k: Kind) -> bool
     ensures { result ≡ scopes.is_params k }
 {
@@ -25,6 +27,7 @@ pub fn is_params(k: Kind) -> bool
 }
 
 /// Whether a kind is that of a `for` over items.
+#[inline(always)]
 pub fn is_for_each(k: Kind) -> bool
     ensures { result ≡ scopes.is_for_each k }
 {
@@ -32,6 +35,7 @@ pub fn is_for_each(k: Kind) -> bool
 }
 
 /// Whether a kind is that of a path where a type stands.
+#[inline(always)]
 pub fn is_type_path(k: Kind) -> bool
     ensures { result ≡ paths.is_type_path k }
 {
@@ -39,6 +43,7 @@ pub fn is_type_path(k: Kind) -> bool
 }
 
 /// Whether a kind is that of a path in an expression.
+#[inline(always)]
 pub fn is_value_path(k: Kind) -> bool
     ensures { result ≡ paths.is_value_path k }
 {
@@ -46,6 +51,7 @@ pub fn is_value_path(k: Kind) -> bool
 }
 
 /// Whether the kids of trees of a kind have names that have to differ.
+#[inline(always)]
 pub fn has_names(k: Kind) -> bool
     ensures { result ≡ doubled.has_names k }
 {
@@ -53,6 +59,7 @@ pub fn has_names(k: Kind) -> bool
 }
 
 /// Whether a kind is that of a parameter or of a field of a struct type.
+#[inline(always)]
 pub fn is_named(k: Kind) -> bool
     ensures { result ≡ doubled.is_named k }
 {

@@ -1,6 +1,6 @@
 //! The names of a program.
 
-ghost use Rattle.std.specs.Prelude.{◌≡◌, ◌<◌, ◌-◌, ◌^◌, fold, length, sum_by, OnOk, IfOk, IfErr};
+ghost use Rattle.std.specs.Prelude.{◌≡◌, ◌<◌, ◌-◌, ◌^◌, [], fold, length, sum_by, OnOk, IfOk, IfErr};
 ghost use Rattle.hare_tree.specs.declared.place.Fault as fault;
 ghost use Rattle.hare_tree.specs.Node.{nodes_of};
 ghost use Rattle.hare_directory.specs.Seen.{tables_of};
@@ -57,7 +57,7 @@ pub fn resolve(alloc: Global, paths: &[Text], files: &Files2) -> Result<Names, S
 /// Notes the declarations of all files.
 fn note_files(
     alloc: Global,
-    directory: &Directory,
+    directory: &Directory<'_>,
     notes: &mut Notes,
     files: &Files2,
 ) -> Result<(), AllocError>
@@ -85,27 +85,31 @@ fn note_decls(
     ensures { OnOk result (notes.new ≡ fold (noted.decl_noted (tables_of setting.entry.directory.now) setting.entry.file) notes.old
         decls.now) }
 {
+    let mut locals = Locals::new(alloc);
     for i in 0..decls.len() {
         let Some(decl) = decls.get(i) else {
             return Ok(());
         };
-        note_decl(alloc, setting, notes, decl)?;
+        note_decl(alloc, setting, &mut locals, notes, decl)?;
     }
     Ok(())
 }
 
-/// Notes a declaration.
-fn note_decl(
+/// Notes a declaration, outside of which no locals are visible.
+fn note_decl<'a>(
     alloc: Global,
     setting: Setting<'_>,
+    locals: &mut Locals<'a>,
     notes: &mut Notes,
-    decl: &Tree,
+    decl: &'a Tree,
 ) -> Result<(), AllocError>
-    requires { bindings_in decl.now < 2 ^ 32 }
-    ensures { OnOk result (notes.new ≡ noted.decl_noted (tables_of setting.entry.directory.now) setting.entry.file notes.old decl.now) }
+    requires room { bindings_in decl.now < 2 ^ 32 }
+    requires none { locals.old ≡ [] }
+    ensures none { OnOk result (locals.new ≡ []) }
+    ensures noted { OnOk result (notes.new ≡ noted.decl_noted (tables_of setting.entry.directory.now) setting.entry.file notes.old decl.now) }
 {
-    notes.first = first_doubled(alloc, decl, notes.first)?;
-    let mut locals = Locals::new(alloc);
-    walk(setting, &mut locals, notes, decl, 0)?;
+    first_doubled(alloc, decl, &mut notes.first)?;
+    walk(setting, locals, notes, decl, 0)?;
+    locals.back_to(0);
     Ok(())
 }

@@ -23,7 +23,7 @@ pub enum Verdict {
 
 /// What is said of the path with this text in a file, where these locals are visible.
 pub fn judge(
-    directory: &Directory,
+    directory: &Directory<'_>,
     file: usize,
     is_type: bool,
     locals: &Locals<'_>,
@@ -64,7 +64,7 @@ fn ends_name(text: &[u8], i: usize) -> bool
 
 /// A path of one name.
 fn name_verdict(
-    directory: &Directory,
+    directory: &Directory<'_>,
     file: usize,
     is_type: bool,
     locals: &Locals<'_>,
@@ -83,7 +83,7 @@ fn name_verdict(
 
 /// A path of the name of a module and of a member.
 fn pair_verdict(
-    directory: &Directory,
+    directory: &Directory<'_>,
     file: usize,
     is_type: bool,
     name: &[u8],
@@ -105,7 +105,7 @@ fn pair_verdict(
 }
 
 /// A name that is no local and not declared in the file's module.
-fn imported_verdict(directory: &Directory, file: usize, is_type: bool, name: &[u8]) -> Verdict
+fn imported_verdict(directory: &Directory<'_>, file: usize, is_type: bool, name: &[u8]) -> Verdict
     ensures { result ≡ spec.imported_verdict (tables_of directory.now) is_type name.now
         (tables.import_at (tables_of directory.now) file name.now) }
 {
@@ -119,7 +119,7 @@ fn imported_verdict(directory: &Directory, file: usize, is_type: bool, name: &[u
 }
 
 /// What a module that is known by its number declares under a name.
-fn member_at(directory: &Directory, name: &[u8], number: Option<usize>) -> Option<Entry>
+fn member_at(directory: &Directory<'_>, name: &[u8], number: Option<usize>) -> Option<Entry>
     ensures { result ≡ spec.member_at (tables_of directory.now) name.now number }
 {
     match number {
@@ -183,7 +183,7 @@ fn local_verdict(is_type: bool, number: u32) -> Verdict
 }
 
 /// What a name of the module with this number means.
-fn item_at(directory: &Directory, number: usize, name: &[u8]) -> Option<Entry>
+fn item_at(directory: &Directory<'_>, number: usize, name: &[u8]) -> Option<Entry>
     ensures { result ≡ tables.item_at (tables_of directory.now) number name.now }
 {
     match directory.items.get(number) {
@@ -193,7 +193,7 @@ fn item_at(directory: &Directory, number: usize, name: &[u8]) -> Option<Entry>
 }
 
 /// What a name of the module of a file means.
-fn own_at(directory: &Directory, file: usize, name: &[u8]) -> Option<Entry>
+fn own_at(directory: &Directory<'_>, file: usize, name: &[u8]) -> Option<Entry>
     ensures { result ≡ tables.own_at (tables_of directory.now) file name.now }
 {
     match directory.homes.get(file) {
@@ -203,7 +203,7 @@ fn own_at(directory: &Directory, file: usize, name: &[u8]) -> Option<Entry>
 }
 
 /// What a name that a file imports stands for.
-fn import_at(directory: &Directory, file: usize, name: &[u8]) -> Option<Imported>
+fn import_at(directory: &Directory<'_>, file: usize, name: &[u8]) -> Option<Imported>
     ensures { result ≡ tables.import_at (tables_of directory.now) file name.now }
 {
     match directory.imports.get(file) {

@@ -21,7 +21,7 @@ use std::alloc::AllocError;
 /// A file of a program, by its number, with what modules declare and files import.
 #[derive(Clone, Copy)]
 pub struct Setting<'a> {
-    pub directory: &'a Directory,
+    pub directory: &'a Directory<'a>,
     pub file: usize,
 }
 
@@ -83,9 +83,19 @@ fn walk_kids<'a>(
         let Some(kid) = kids.get(i) else {
             return Ok(behind);
         };
+        if is_idle(kid) {
+            continue;
+        }
         behind = walk(setting, locals, notes, kid, behind)?;
     }
     Ok(behind)
+}
+
+/// Whether a tree has no kids and is neither a path nor a binding.
+fn is_idle(t: &Tree) -> bool
+    ensures { result ≡ spec.is_idle t.now }
+{
+    t.kids.len() == 0 && !is_binding(t.kind) && !is_type_path(t.kind) && !is_value_path(t.kind)
 }
 
 /// Notes the paths of the kids of a `for` over items: a binding, what is gone over, where the binding is not visible, and the body.

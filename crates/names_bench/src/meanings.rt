@@ -6,7 +6,7 @@ use crate::program::Program;
 use anyhow::{Error, Result, anyhow, ensure};
 use hare_names::{Files2, Names, resolve};
 use hare_sources::read_files;
-use hare_tree::{Fault, Kids, Kind, Meaning, Stop, Tree};
+use hare_tree::{Fault, Kids, Kind, Meaning, Place, Stop, Tree};
 use hx_base::Text;
 use std::alloc::Global;
 
@@ -16,31 +16,40 @@ pub(crate) fn resolved(alloc: Global, program: &Program, rounds: u32) -> Result<
     ensure!(paths.len() <= 65_536, "more than 65,536 files");
     ensure!(sources.len() == paths.len(), "a file without a path");
     match read_files(alloc, sources) {
-        Ok(files) => in_rounds(alloc, paths, &files, rounds),
+        Ok(files) => {
+            let places = places_of(alloc, &files)?;
+            in_rounds(alloc, paths, &files, places.as_slice(), rounds)
+        }
         Err(stop) => Err(told(stop)),
     }
 }
 
 /// The same, of files that were read.
-fn in_rounds(alloc: Global, paths: &[Text], files: &Files2, rounds: u32) -> Result<u64>
+fn in_rounds(
+    alloc: Global,
+    paths: &[Text],
+    files: &Files2,
+    places: &[Place],
+    rounds: u32,
+) -> Result<u64>
     requires { AreFiles paths.now files.now }
 {
     let mut found = 0;
     for _ in 0..rounds {
-        found = round(alloc, paths, files)?;
+        found = round(alloc, paths, files, places)?;
     }
     Ok(found)
 }
 
 /// The same, once.
-fn round(alloc: Global, paths: &[Text], files: &Files2) -> Result<u64>
+fn round(alloc: Global, paths: &[Text], files: &Files2, places: &[Place]) -> Result<u64>
     requires { AreFiles paths.now files.now }
 {
     match resolve(alloc, paths, files) {
         Ok(names) => {
-            let mut found = 0;
-            for file in files.as_slice() {
-                found = in_kids(&names, &file.decls, found);
+            let mut found: u64 = 0;
+            for place in places {
+                found = found.saturating_add(told_at(&names, *place));
             }
             Ok(found)
         }
@@ -59,28 +68,40 @@ fn told(stop: Stop<Fault>) -> Error {
     }
 }
 
-/// So many paths, and those in these trees that mean something.
+/// 1 where the path at a place means something, and else 0.
+fn told_at(names: &Names, place: Place) -> u64 {
+    match names.meaning(place) {
+        Meaning::None => 0,
+        _ => 1,
+    }
+}
+
+/// The places of the paths of files.
+fn places_of(alloc: Global, files: &Files2) -> Result<Vec<Place>> {
+    let mut places = Vec::new(alloc);
+    for file in files.as_slice() {
+        put_kids(&mut places, &file.decls)?;
+    }
+    Ok(places)
+}
+
+/// Puts the places of the paths in these trees at the end.
 #[cycle(trees)]
 #[tactic(auto, using(hare_tree::proofs::Sizes::kid_size))]
-fn in_kids(names: &Names, kids: &Kids, before: u64) -> u64 {
-    let mut found = before;
+fn put_kids(places: &mut Vec<Place>, kids: &Kids) -> Result<()> {
     for i in 0..kids.len() {
         if let Some(kid) = kids.get(i) {
-            found = in_tree(names, kid, found);
+            put_tree(places, kid)?;
         }
     }
-    found
+    Ok(())
 }
 
 /// The same of one tree.
 #[cycle(trees)]
-fn in_tree(names: &Names, tree: &Tree, before: u64) -> u64 {
-    let found = in_kids(names, &tree.kids, before);
-    if !matches!(tree.kind, Kind::Path | Kind::TypePath) {
-        return found;
+fn put_tree(places: &mut Vec<Place>, tree: &Tree) -> Result<()> {
+    if matches!(tree.kind, Kind::Path | Kind::TypePath) {
+        places.push(tree.place)?;
     }
-    match names.meaning(tree.place) {
-        Meaning::None => found,
-        _ => found.saturating_add(1),
-    }
+    put_kids(places, &tree.kids)
 }
