@@ -7,6 +7,7 @@ pub mod AdmittedLemmas
 pub mod JudgedLemmas
 pub mod NotedLemmas
 pub mod SpotLemmas
+pub mod RisingLemmas
 pub mod ListedLemmas
 pub mod MeaningLemmas
 pub mod TurnLemmas

@@ -1,7 +1,6 @@
 -- Meanings by places, by the keys of the table.
 use Rattle.std.proofs.Common.{◌≡◌, List, [], ◌∷◌, ◌++◌, Bool, true, false, cond, ◌&&◌, ◌==◌, map, Some, is_some, refl, sym, ap, ◌∙◌}
 use Rattle.std.specs.Map.{lookup}
-use Rattle.indexmap.specs.IndexMap.{insert_entry}
 use Rattle.hare_tree.specs.declared.place.Place.{Place}
 use Rattle.hare_tree.specs.declared.token.Meaning.{Meaning}
 use Rattle.hare_modules.specs.Order.{same_place}
@@ -36,26 +35,3 @@ keyed q k p e = three (q.file == k.file) (q.line == k.line) (q.column == k.colum
     three : (a b c : Bool) → (a && (b && c)) ≡ (a && b && c)
     three true b c = refl
     three false b c = refl
-
--- an entry that is put under a key that has one, and then the first put back
-put-back : {K V : Type 0} (eq : K → K → Bool) (k : K) (v w : V) (es : List (K × V)) → lookup (eq k) es ≡ Some w →
-    insert_entry eq (insert_entry eq es k v) k w ≡ es
-put-back eq k v w [] h = absurd cc
-put-back {K} {V} eq k v w (e ∷ es) h = by (eq k e.0) refl h (put-back eq k v w es)
-  where
-    by : (b : Bool) → eq k e.0 ≡ b → cond b (Some e.1) (lookup (eq k) es) ≡ Some w →
-        (lookup (eq k) es ≡ Some w → insert_entry eq (insert_entry eq es k v) k w ≡ es) →
-        insert_entry eq (insert_entry eq (e ∷ es) k v) k w ≡ e ∷ es
-    by true s h on =
-        let same : w ≡ e.1 = cc in
-        ap (λ c. insert_entry eq (cond c ((e.0, v) ∷ es) (e ∷ insert_entry eq es k v)) k w) s
-        ∙ ap (λ c. cond c ((e.0, w) ∷ es) ((e.0, v) ∷ insert_entry eq es k w)) s
-        ∙ ap (λ x. (e.0, x) ∷ es) same
-    by false s h on =
-        ap (λ c. insert_entry eq (cond c ((e.0, v) ∷ es) (e ∷ insert_entry eq es k v)) k w) s
-        ∙ ap (λ c. cond c ((e.0, w) ∷ insert_entry eq es k v) (e ∷ insert_entry eq (insert_entry eq es k v) k w)) s
-        ∙ ap (λ xs. e ∷ xs) (on h)
-
-pub restored : {K V : Type 0} (eq : K → K → Bool) (k : K) (v w : V) (es mid new : List (K × V)) → mid ≡ insert_entry eq es k v →
-    new ≡ insert_entry eq mid k w → lookup (eq k) es ≡ Some w → new ≡ es
-restored eq k v w es mid new m n h = n ∙ ap (λ xs. insert_entry eq xs k w) m ∙ put-back eq k v w es h

@@ -1,15 +1,16 @@
 -- The walk over kids, kid by kid.
-use Rattle.std.proofs.Common.{◌≡◌, ℕ, ◌+◌, ◌<◌, ◌^◌, ◌≤◌, ◌-◌, List, [], ◌∷◌, ◌++◌, fold, length, drop, refl, sym, ap, ◌∙◌, subst, suc, zero, append_assoc, add-zero, arith}
+use Rattle.std.proofs.Common.{◌≡◌, ℕ, ◌+◌, ◌<◌, ◌^◌, ◌≤◌, ◌-◌, List, [], ◌∷◌, ◌++◌, Bool, true, false, not, ◌&&◌, if◌then◌else◌, fold, length, drop, refl, sym, ap, ◌∙◌, subst, suc, zero, append_assoc, add-zero, arith}
 use Rattle.std.proofs.lemmas.List.Sums.{fold-append}
 use Rattle.std.proofs.lemmas.List.{length-append}
-use Rattle.hare_tree.specs.Node.{Node, Nodes, none, more, nodes_of}
+use Rattle.hare_tree.specs.Node.{Head, Node, Nodes, branch, none, more, nodes_of}
 use Rattle.hare_tree.specs.Judged.{nodes_from}
 use Rattle.hare_tree.proofs.KidsFrom.{nodes_from-get, nodes_from-past}
 use Rattle.std.specs.Prelude.{slice_get, Some}
 use Rattle.hare_modules.specs.Directory.{Directory}
 use Rattle.hare_names.specs.declared.notes.Notes.{Notes}
-use Rattle.hare_names.specs.Scopes.{Local, bindings_in, bindings_among, bound_by, bound_among, bound_itself}
-use Rattle.hare_names.specs.Spots.{Spot, noted, spots_in, spots_among, spots_of_loop}
+use Rattle.hare_names.specs.Scopes.{Local, is_binding, is_params, is_for_each, bindings_in, bindings_among, bound_by, bound_among, bound_itself}
+use Rattle.hare_names.specs.Paths.{is_type_path, is_value_path, before_kids}
+use Rattle.hare_names.specs.Spots.{Spot, noted, spot_at, spots_in, spots_among, spots_of_loop, is_idle_kind, is_idle}
 
 -- what is left of kids comes to the same as all of them
 pub record Walking (d : Directory) (f n₀ : ℕ) (ls₀ : List Local) (notes₀ : Notes) (whole rest : Nodes) (n : ℕ) (ls : List Local)
@@ -41,7 +42,60 @@ walking-on d f n₀ ls₀ notes₀ whole rest t ts n n' ls ls' notes notes' r e 
           ∙ sym (fold-append (noted d f) notes (spots_in n ls t) (spots_among (n + bindings_in t) (bound_by n t ++ ls) ts)) ∙ v.noted_is;
     }
 
--- no kid is left
+-- ---- a kid that is passed by: it has no kids, and is neither a path nor a binding
+
+pub idle-leaf : (h : Head) (ts : List Node) (t : Node) → branch h (nodes_of ts) ≡ t → length ts ≡ 0 → is_idle_kind h.kind ≡ is_idle t
+idle-leaf h [] t e l = ap is_idle e
+idle-leaf h (u ∷ us) t e l = absurd (omega (arith, l))
+
+pub idle-not : (h : Head) (ts : List Node) (t : Node) → branch h (nodes_of ts) ≡ t → 0 < length ts → false ≡ is_idle t
+idle-not h [] t e l = absurd (omega (arith, l))
+idle-not h (u ∷ us) t e l = ap is_idle e
+
+-- it binds nothing, and no path stands in it
+record Idle (t : Node) : Type 0 where
+  count : bindings_in t ≡ 0
+  locals : (n : ℕ) → bound_by n t ≡ []
+  spots : (n : ℕ) (ls : List Local) → spots_in n ls t ≡ []
+
+idle-parts : (h : Head) (b c e : Bool) → is_binding h.kind ≡ b → is_type_path h.kind ≡ c → is_value_path h.kind ≡ e →
+    (not b && not c && not e) ≡ true → Idle (branch h none)
+idle-parts h true c e p q r i = absurd cc
+idle-parts h false true e p q r i = absurd cc
+idle-parts h false false true p q r i = absurd cc
+idle-parts h false false false p q r i = record {
+  count = ap (λ x. (if x then 1 else 0) + 0) p;
+  locals = λ n. ap (λ x. if x then (h.text, n) ∷ [] else if is_params h.kind then bound_among n none else []) p ∙ by (is_params h.kind) [];
+  spots = λ n ls. at n ls (is_for_each h.kind);
+}
+  where
+    by : (x : Bool) (ls : List Local) → (if x then ls else ls) ≡ ls
+    by true ls = refl
+    by false ls = refl
+
+    none-here : (ls : List Local) → (spot_at h ls ++ []) ≡ []
+    none-here ls = rw (q, r) refl
+
+    at : (n : ℕ) (ls : List Local) (x : Bool) →
+        (spot_at h ls ++ (if x then spots_of_loop (before_kids n h.kind) ls none else spots_among (before_kids n h.kind) ls none)) ≡ []
+    at n ls true = none-here ls
+    at n ls false = none-here ls
+
+idle : (t : Node) → is_idle t ≡ true → Idle t
+idle (branch h none) i = idle-parts h (is_binding h.kind) (is_type_path h.kind) (is_value_path h.kind) refl refl refl i
+idle (branch h (more u us)) i = absurd cc
+
+pub walking-past : (d : Directory) (f n₀ : ℕ) (ls₀ : List Local) (notes₀ : Notes) (whole rest : Nodes) (t : Node) (ts : Nodes) (n : ℕ)
+    (ls : List Local) (notes : Notes) →
+    rest ≡ more t ts → is_idle t ≡ true → Walking d f n₀ ls₀ notes₀ whole rest n ls notes → Walking d f n₀ ls₀ notes₀ whole ts n ls notes
+walking-past d f n₀ ls₀ notes₀ whole rest t ts n ls notes r e w =
+    let i = idle t e in
+    let same : n ≡ n + bindings_in t = omega (arith, i.count) in
+    walking-on d f n₀ ls₀ notes₀ whole rest t ts n n ls ls notes notes r same (sym (ap (λ xs. xs ++ ls) (i.locals n)))
+    (sym (ap (fold (noted d f) notes) (i.spots n ls))) w
+
+-- ---- no kid is left
+
 pub record Walked (d : Directory) (f n₀ : ℕ) (ls₀ : List Local) (notes₀ : Notes) (whole : Nodes) (n : ℕ) (ls : List Local)
     (notes : Notes) : Type 0 where
   pub count : n ≡ n₀ + bindings_among whole

@@ -1,5 +1,6 @@
 -- The paths of a tree with the locals that are visible there, and what the tables of a program note of them. No public clause cites them.
 use Rattle.std.specs.Prelude.{ℕ, ◌+◌, List, [], ◌∷◌, ◌++◌, Bool, false, not, ◌&&◌, ◌||◌, if◌then◌else◌}
+use Rattle.hare_tree.specs.declared.kind.Kind.{Kind}
 use Rattle.hare_tree.specs.declared.place.Place.{Place}
 use Rattle.hare_tree.specs.Node.{Head, Node, Nodes, branch, none, more}
 use Rattle.hare_tree.specs.Spell.{parts}
@@ -44,9 +45,13 @@ abbrev mutual
       spots_in n ls b ++ spots_in (n + bindings_in b) ls over ++ spots_among (n + bindings_in b + bindings_in over)
       (bound_itself n b ++ ls) ts
 
--- a tree without kids that is neither a path nor a binding
+-- neither a path nor a binding
+abbrev pub is_idle_kind : Kind → Bool
+is_idle_kind k = not (is_binding k) && not (is_type_path k) && not (is_value_path k)
+
+-- a tree of such a kind without kids
 abbrev pub is_idle : Node → Bool
-is_idle (branch h none) = not (is_binding h.kind) && not (is_type_path h.kind) && not (is_value_path h.kind)
+is_idle (branch h none) = is_idle_kind h.kind
 is_idle (branch h (more t ts)) = false
 
 -- ---- notes

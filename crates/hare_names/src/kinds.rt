@@ -4,6 +4,7 @@ ghost use Rattle.std.specs.Prelude.{◌≡◌, ◌||◌};
 ghost use Rattle.hare_names.specs.Scopes as scopes;
 ghost use Rattle.hare_names.specs.Paths as paths;
 ghost use Rattle.hare_names.specs.Doubled as doubled;
+ghost use Rattle.hare_names.specs.Spots as spots;
 
 use hare_tree::Kind;
 
@@ -64,4 +65,21 @@ pub fn is_named(k: Kind) -> bool
     ensures { result ≡ doubled.is_named k }
 {
     matches!(k, Kind::Param | Kind::StructField)
+}
+
+/// Whether trees of a kind are neither paths nor bindings.
+#[inline(always)]
+pub fn is_idle_kind(k: Kind) -> bool
+    ensures { result ≡ spots.is_idle_kind k }
+{
+    !matches!(
+        k,
+        Kind::Param
+            | Kind::Let
+            | Kind::Const
+            | Kind::Binding
+            | Kind::PatternLet
+            | Kind::TypePath
+            | Kind::Path
+    )
 }

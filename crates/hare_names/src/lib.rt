@@ -9,6 +9,7 @@ mod names;
 mod notes;
 mod places;
 mod program;
+mod rising;
 mod verdict;
 mod walk;
 

@@ -3,14 +3,14 @@
 ghost use Rattle.std.specs.Prelude.{◌≡◌};
 ghost use Rattle.hare_names.specs.Answers.{meaning_in};
 
-use crate::places::Places;
+use crate::rising::Rising;
 use hare_tree::{Meaning, Place};
 use std::marker::Model;
 
 /// What the paths of a program mean, by their places.
 #[derive(Drop)]
 pub struct Names {
-    places: Places,
+    places: Rising,
 }
 
 impl Model for Names {
@@ -25,14 +25,14 @@ impl Model for Names {
 
 impl Names {
     /// The names with these meanings.
-    pub(crate) fn new(places: Places) -> Names
+    pub(crate) fn new(places: Rising) -> Names
         ensures { result ≡ places }
     {
         Names { places }
     }
 
-    /// What the path at a place means; `Meaning::None` where no path of an expression or a type stands there. Takes no memory, and constant
-    /// expected time.
+    /// What the path at a place means; `Meaning::None` where no path of an expression or a type stands there. Takes no memory, and as
+    /// many steps as halving the paths of the program does.
     pub fn meaning(&self, place: Place) -> Meaning
         ensures { result ≡ meaning_in self.now place }
     {

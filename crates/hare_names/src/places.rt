@@ -1,6 +1,6 @@
 //! Meanings by places.
 
-ghost use Rattle.std.specs.Prelude.{◌≡◌, [], OnOk, OnErr};
+ghost use Rattle.std.specs.Prelude.{◌≡◌, ◌↔◌, [], IsTrue, OnOk, OnErr};
 ghost use Rattle.hare_names.specs.Tables as spec;
 ghost use Rattle.hare_names.specs.Keys.{place_of};
 
@@ -44,6 +44,13 @@ impl Places {
         Places {
             meanings: IndexMap::new(alloc),
         }
+    }
+
+    /// Whether there are none.
+    pub fn is_empty(&self) -> bool
+        ensures { IsTrue result ↔ (self.now ≡ []) }
+    {
+        self.meanings.is_empty()
     }
 
     /// The meaning at a place, if one was put there.

@@ -14,7 +14,7 @@ use crate::doubled::first_doubled;
 use crate::locals::Locals;
 use crate::names::Names;
 use crate::notes::Notes;
-use crate::places::Places;
+use crate::rising::Rising;
 use crate::walk::{Setting, walk};
 use hare_directory::{Directory, look};
 use hare_tree::{Fault, FileTree, Kids, Stop, Tree};
@@ -44,7 +44,7 @@ pub fn resolve(alloc: Global, paths: &[Text], files: &Files2) -> Result<Names, S
 {
     let (directory, first) = look(alloc, paths, files)?;
     let mut notes = Notes {
-        places: Places::new(alloc),
+        places: Rising::new(alloc),
         first,
     };
     note_files(alloc, &directory, &mut notes, files)?;
@@ -69,7 +69,11 @@ fn note_files(
             return Ok(());
         };
         let decls = &tree.decls;
-        note_decls(alloc, Setting { directory, file }, notes, decls)?;
+        let setting = Setting {
+            directory: &*directory,
+            file,
+        };
+        note_decls(alloc, setting, notes, decls)?;
     }
     Ok(())
 }

@@ -9,7 +9,7 @@ ghost use Rattle.hare_directory.specs.Seen.{tables_of};
 ghost use Rattle.hare_names.specs.Scopes as scopes;
 ghost use Rattle.hare_names.specs.Spots as spec;
 
-use crate::kinds::{is_binding, is_for_each, is_params, is_type_path, is_value_path};
+use crate::kinds::{is_binding, is_for_each, is_idle_kind, is_params, is_type_path, is_value_path};
 use crate::locals::Locals;
 use crate::notes::Notes;
 use crate::verdict::{Verdict, judge};
@@ -42,18 +42,15 @@ pub fn walk<'a>(
         (spec.spots_in before locals.old t.now)) }
 {
     note(setting, locals, notes, t)?;
-    let first = if is_binding(t.kind) {
-        before + 1
-    } else {
-        before
-    };
+    let binds = is_binding(t.kind);
+    let first = if binds { before + 1 } else { before };
     let mark = locals.mark();
     let behind = if is_for_each(t.kind) {
         walk_loop(setting, locals, notes, &t.kids, first)?
     } else {
         walk_kids(setting, locals, notes, &t.kids, 0, first)?
     };
-    if is_binding(t.kind) {
+    if binds {
         locals.back_to(mark);
         locals.declare(t.text.bytes(), before)?;
     } else if !is_params(t.kind) {
@@ -95,7 +92,10 @@ fn walk_kids<'a>(
 fn is_idle(t: &Tree) -> bool
     ensures { result ≡ spec.is_idle t.now }
 {
-    t.kids.len() == 0 && !is_binding(t.kind) && !is_type_path(t.kind) && !is_value_path(t.kind)
+    if t.kids.len() != 0 {
+        return false;
+    }
+    is_idle_kind(t.kind)
 }
 
 /// Notes the paths of the kids of a `for` over items: a binding, what is gone over, where the binding is not visible, and the body.

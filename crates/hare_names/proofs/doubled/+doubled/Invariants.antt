@@ -7,5 +7,5 @@ use Rattle.hare_names.proofs.doubled.+doubled.Given as goal
 
 -- what is left of the kids comes to the same as all of them
 abbrev pub invariant-doubled_among-loop-i : goal.invariant-doubled_among-loop-i
-invariant-doubled_among-loop-i l = fold earlier l.first (doubled_among (nodes_from l.i (nodes_of l.kids))) ≡ fold earlier l.initial.first
+invariant-doubled_among-loop-i l = fold earlier l.found (doubled_among (nodes_from l.i (nodes_of l.kids))) ≡ fold earlier l.initial.found
     (doubled_among (nodes_of l.kids))

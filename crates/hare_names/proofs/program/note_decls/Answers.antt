@@ -5,17 +5,19 @@ use Rattle.hare_names.specs.Scopes.{bindings_in, bindings_among}
 use Rattle.hare_names.proofs.NotedLemmas.{decl-le, decls-on, decls-done}
 use Rattle.hare_names.proofs.program.note_decls.Goals as goal
 
-pub note_decl-requires : goal.note_decl-requires
-note_decl-requires c =
+pub note_decl-requires-clause-room : goal.note_decl-requires-clause-room
+note_decl-requires-clause-room c =
     let l : bindings_in c.in-Some.decl.now ≤ bindings_among (nodes_of c.args.decls.now) =
     decl-le c.args.decls.now c.loop-i.i c.in-Some.decl.now c.in-Some.ensures.found in
     omega arith
 
 pub loop-i-preserved : goal.loop-i-preserved
-loop-i-preserved c =
-    decls-on (tables_of c.args.setting.directory.now) c.args.setting.file c.args.decls.now c.loop-i.i c.in-Some.decl.now c.loop-i.notes
-    c.note_decl.new.notes _ c.in-Some.ensures.found c.in_ok-note_decl.ensures c.loop-i.invariant
+loop-i-preserved c = record {
+  none = c.in_ok-note_decl.ensures.none;
+  noted = decls-on (tables_of c.args.setting.directory.now) c.args.setting.file c.args.decls.now c.loop-i.i c.in-Some.decl.now
+      c.loop-i.notes c.note_decl.new.notes _ c.in-Some.ensures.found c.in_ok-note_decl.ensures.noted c.loop-i.invariant.noted;
+}
 
 pub returns : goal.returns
 returns c = decls-done (tables_of c.args.setting.directory.now) c.args.setting.file c.args.decls.now c.loop-i.i c.loop-i.notes _
-    (omega arith) c.loop-i.invariant
+    (omega arith) c.loop-i.invariant.noted

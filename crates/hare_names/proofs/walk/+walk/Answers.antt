@@ -5,7 +5,7 @@ use Rattle.hare_tree.proofs.Sizes.{kid_size}
 use Rattle.hare_tree.proofs.KidsFrom.{nodes_from-get, nodes_from-past}
 use Rattle.hare_directory.specs.Seen.{tables_of}
 use Rattle.hare_names.specs.Scopes.{bindings_in, bindings_among, bound_by, bound_among, bound_itself}
-use Rattle.hare_names.proofs.WalkLemmas.{walking-on, walking-done, walking-room, back, one-kid, two-kids, counted-one, counted-two, loop-one, loop-two}
+use Rattle.hare_names.proofs.WalkLemmas.{walking-on, walking-past, walking-done, walking-room, back, one-kid, two-kids, counted-one, counted-two, loop-one, loop-two}
 use Rattle.hare_names.proofs.walk.+walk.Goals as goal
 
 pub walk_kids-walk-requires : goal.walk_kids-walk-requires
@@ -22,6 +22,13 @@ walk_kids-loop-i-preserved t c =
     walking-on _ _ _ _ _ _ _ c.in-Some.kid.now _ _ _ _ _ _ _
     (nodes_from-get c.args.kids.now c.loop-i.i c.in-Some.kid.now c.in-Some.ensures.found) c.in_ok-behind.ensures.count
     c.in_ok-behind.ensures.locals c.in_ok-behind.ensures.notes c.loop-i.invariant
+
+-- a kid that is passed by
+pub walk_kids-loop-i-preserved-then-is_idle : goal.walk_kids-loop-i-preserved-then-is_idle
+walk_kids-loop-i-preserved-then-is_idle t c =
+    walking-past _ _ _ _ _ _ _ c.in-Some.kid.now _ _ _ _
+    (nodes_from-get c.args.kids.now c.loop-i.i c.in-Some.kid.now c.in-Some.ensures.found) (sym c.is_idle.ensures ∙ c.if-is_idle.true)
+    c.loop-i.invariant
 
 pub walk_kids-returns-clause-count : goal.walk_kids-returns-clause-count
 walk_kids-returns-clause-count t c = (walking-done _ _ _ _ _ _ _ _ _ _

@@ -2,7 +2,8 @@ use Rattle.std.proofs.Common.{is_some, sym, ap, ◌∙◌}
 use Rattle.indexmap.proofs.CallerLemmas.{insert_entry-new}
 use Rattle.hare_names.specs.Keys.{place_of}
 use Rattle.hare_names.specs.Tables.{meaning_at}
-use Rattle.hare_names.proofs.PlaceLemmas.{lookup-seen, keyed, put-new, put-there, restored}
+use Rattle.hare_modules.proofs.TableLemmas.{restored}
+use Rattle.hare_names.proofs.PlaceLemmas.{lookup-seen, keyed, put-new, put-there}
 use Rattle.hare_names.proofs.places.Places.put.Goals as goal
 
 -- the place keeps its first meaning
