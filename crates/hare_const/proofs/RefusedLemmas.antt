@@ -53,7 +53,8 @@ refused_here s t e f =
     refused_is s t
     ∙ ap₂ (λ y c. not y && (not c || (refused_of s (kids_of t) && not (hides_kids (own_kind t) (kids_of t))))) e f
 
-pub refused_within : (s : Store) (t : TypedNode) → is_type (own_kind t) ≡ false → is_constant s (own_kind t) (mark_of t) (kids_of t) ≡ true →
+pub refused_within : (s : Store) (t : TypedNode) → is_type (own_kind t) ≡ false →
+    is_constant s (own_kind t) (mark_of t) (kids_of t) ≡ true →
     refused_by s t ≡ (refused_of s (kids_of t) && not (hides_kids (own_kind t) (kids_of t)))
 refused_within s t e f =
     refused_is s t
@@ -88,8 +89,8 @@ finds_more s ts i x refused here new e f g p = record {
   back = λ q. (subst (λ l. AreSettled s (typed_nodes l)) (drop-get ts i x e) (p.back q)).1;
 }
 
-pub finds_not : (s : Store) (ts : List TypedNode) (i : ℕ) (x : TypedNode) (refused : Bool) → slice_get ts i ≡ Some x → Finds s ts i refused →
-    (IsSettled s x → ⊥) → AreSettled s (typed_nodes ts) → ⊥
+pub finds_not : (s : Store) (ts : List TypedNode) (i : ℕ) (x : TypedNode) (refused : Bool) → slice_get ts i ≡ Some x →
+    Finds s ts i refused → (IsSettled s x → ⊥) → AreSettled s (typed_nodes ts) → ⊥
 finds_not s ts i x refused e p f q = f (settled_at s ts i x e q)
 
 or_false : (a : Bool) → (a || false) ≡ a

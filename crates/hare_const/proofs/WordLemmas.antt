@@ -26,7 +26,8 @@ short_of at cs h =
 pub no_size_short : (at : ℕ) (cs : List Cell) (n : ℕ) → length cs < at + 8 → size_in (cells_within at 8 cs) ≢ Gives n
 no_size_short at cs n h e =
     let none : size_in (cells_within at 8 cs) ≡ (or_undefined 3 None then λ v. Gives (natural_of (number_in v))) =
-    ap (λ b. or_undefined 3 (if b then option_map (λ bs. Number (wrap (pos (le_number bs)) (8 * 8) false)) (bytes_of (cells_within at 8 cs)) else None) then λ v. Gives (natural_of (number_in v)))
+    ap (λ b. or_undefined 3 (if b then option_map (λ bs. Number (wrap (pos (le_number bs)) (8 * 8) false)) (bytes_of (cells_within at 8 cs))
+    else None) then λ v. Gives (natural_of (number_in v)))
     (short_of at cs h) in
     let both = sym none ∙ e in
     absurd cc

@@ -13,7 +13,8 @@ returns-in_ok-listed-in-Ok-Some-clause-ok c =
     let cells = c.in-Ok-Some.cells in
     let all : c.cells_and_objects.new.objects ≡ objects_in (tagged_by_id s) own t =
     c.in-Ok-Some.ensures.objects
-    ∙ ap (λ l. l ++ made_by (tagged_by_id s) own t) (c.in_ok-put_statics.ensures ∙ ap (λ l. l ++ statics_in own t) c.new-objects.ensures) in (
+    ∙ ap (λ l. l ++ made_by (tagged_by_id s) own t)
+    (c.in_ok-put_statics.ensures ∙ ap (λ l. l ++ statics_in own t) c.new-objects.ensures) in (
       c.in-Ok-Some.ensures.ok.0,
       known_later s own t c.declarations-law.ensures.sound c.requires.settled c.requires.coherent cells
           (c.in-Ok-Some.ensures.ok.1 ∙ c.in-Ok-Some.field-0-is) c.in_ok-listed-in-Ok-Some.listed

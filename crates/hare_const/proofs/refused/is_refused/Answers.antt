@@ -9,7 +9,8 @@ use Rattle.hare_const.proofs.refused.is_refused.Goals as goal
 
 pub returns-then-is_type : goal.returns-then-is_type
 returns-then-is_type c =
-    let kind : is_type (own_kind c.args.t.now) ≡ true = sym (ap (λ y. is_type (own_kind y)) c.t.view_is) ∙ sym c.is_type.ensures ∙ c.if-is_type.true in
+    let kind : is_type (own_kind c.args.t.now) ≡ true =
+    sym (ap (λ y. is_type (own_kind y)) c.t.view_is) ∙ sym c.is_type.ensures ∙ c.if-is_type.true in
     sym (refused_type c.args.s.now c.args.t.now kind)
 
 pub returns-then-not-is_constant : goal.returns-then-not-is_constant

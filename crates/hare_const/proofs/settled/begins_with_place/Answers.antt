@@ -27,7 +27,8 @@ pub names_void-requires : goal.names_void-requires
 names_void-requires c =
     let s = c.args.s.now in
     let kids : AreSettled s (typed_nodes c.t.inside.kids) = subst (λ y. AreSettled s (kids_of y)) (sym c.t.view_is) c.requires in
-    subst (λ y. IsIn s (mark_of y).ty) (sym c.kid.view_is) (settled_type s c.in-Some.kid.now (settled_at s _ 0 c.in-Some.kid.now c.in-Some.ensures.found kids))
+    subst (λ y. IsIn s (mark_of y).ty) (sym c.kid.view_is)
+    (settled_type s c.in-Some.kid.now (settled_at s _ 0 c.in-Some.kid.now c.in-Some.ensures.found kids))
 
 pub returns : goal.returns
 returns c =
@@ -36,9 +37,11 @@ returns c =
     let global : is_global_path (own_kind x) (mark_of x) ≡ true = sym c.is_global_path.ensures ∙ c.if-not-is_global_path.false in
     let said = ap (λ y. names_void s (mark_of y).meaning (mark_of y).ty) c.kid.view_is in (
       λ e g.
-          let void : names_void s (mark_of x).meaning (mark_of x).ty ≡ false = sym said ∙ sym c.names_void.ensures ∙ not-true c.names_void.result e in
+          let void : names_void s (mark_of x).meaning (mark_of x).ty ≡ false =
+          sym said ∙ sym c.names_void.ensures ∙ not-true c.names_void.result e in
           first_placed s c.args.t.now x _ _ c.t.inside.kids c.t.view_is c.in-Some.ensures.found global void,
       λ h. unless c.names_void.result λ void.
-          not_placed s c.args.t.now x _ _ c.t.inside.kids c.t.view_is c.in-Some.ensures.found global (sym said ∙ sym c.names_void.ensures ∙ void)
+          not_placed s c.args.t.now x _ _ c.t.inside.kids c.t.view_is c.in-Some.ensures.found global
+          (sym said ∙ sym c.names_void.ensures ∙ void)
           (h (sym (begins-found c.args.t.now x _ _ c.t.inside.kids c.t.view_is c.in-Some.ensures.found) ∙ global)),
     )

@@ -13,7 +13,8 @@ pub returns : goal.returns
 returns c =
     let s = c.args.s.now in
     let ts = kids_of c.args.t.now in
-    let text : is_str s (first_given ts) ≡ true = ap (is_str s) (sym c.first_given.ensures) ∙ sym c.is_str.ensures ∙ c.if-not-is_str.false in
+    let text : is_str s (first_given ts) ≡ true =
+    ap (is_str s) (sym c.first_given.ensures) ∙ sym c.is_str.ensures ∙ c.if-not-is_str.false in
     let none : first_inconstant_of s (λ u. false) ts ≡ None =
     none_is (first_inconstant_of s (λ u. false) ts) (sym c.requires ∙ c.if-refused.false) in
     (λ e f g. c.are_texts.ensures.0 e, λ h. c.are_texts.ensures.1 (h text none))

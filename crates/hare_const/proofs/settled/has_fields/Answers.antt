@@ -35,7 +35,8 @@ loop-i-preserved c =
           (All (HasPart s c.args.of) (fields_from s (ty.Of c.args.of) 1 n t)) c.loop-i-test.true named
           (c.has_part.ensures.0 c.if-not-has_part.false) c.loop-i.invariant.found;
       back = λ p.
-          (field_here s (ty.Of c.args.of) t c.args.of c.loop-i.i n c.part_named.result c.loop-i-test.true named (c.loop-i.invariant.back p)).1;
+          (field_here s (ty.Of c.args.of) t c.args.of c.loop-i.i n c.part_named.result c.loop-i-test.true named
+          (c.loop-i.invariant.back p)).1;
     }
 
 pub returns-then-not-has_part : goal.returns-then-not-has_part
@@ -68,7 +69,8 @@ returns c =
     let many : c.saturating_sub-i-end.result ≡ items_of kind.StructLit (kids_of t) =
     omega (arith, all, c.saturating_sub-i-end.ensures, c.len.ensures) in
     let whole : All (HasPart s c.args.of) (fields_from s (ty.Of c.args.of) 1 c.saturating_sub-i-end.result t)
-    = fields_there s (ty.Of c.args.of) t c.args.of c.loop-i.i c.saturating_sub-i-end.result _ c.loop-i-test.false c.loop-i.invariant.found in (
+    = fields_there s (ty.Of c.args.of) t c.args.of c.loop-i.i c.saturating_sub-i-end.result _ c.loop-i-test.false
+    c.loop-i.invariant.found in (
       λ e.
           subst (λ f. All (HasPart s c.args.of) (fields_from s f 1 (items_of kind.StructLit (kids_of t)) t)) (sym c.requires.own)
           (subst (λ n. All (HasPart s c.args.of) (fields_from s (ty.Of c.args.of) 1 n t)) many whole),

@@ -7,6 +7,8 @@ use Rattle.hare_const.proofs.texts.are_bytes.Given as goal
 abbrev pub invariant-loop-i : goal.invariant-loop-i
 invariant-loop-i l =
     record {
-      found : IsSome (bytes_of (take (l.count - l.i) (drop (l.from + l.i) l.cells))) → IsSome (bytes_of (cells_within l.from l.count l.cells));
-      back : IsSome (bytes_of (cells_within l.from l.count l.cells)) → IsSome (bytes_of (take (l.count - l.i) (drop (l.from + l.i) l.cells)));
+      found : IsSome (bytes_of (take (l.count - l.i) (drop (l.from + l.i) l.cells))) →
+          IsSome (bytes_of (cells_within l.from l.count l.cells));
+      back : IsSome (bytes_of (cells_within l.from l.count l.cells)) →
+          IsSome (bytes_of (take (l.count - l.i) (drop (l.from + l.i) l.cells)));
     }
