@@ -29,6 +29,7 @@ pub mod Arrivals
 pub mod BackwardJumps
 pub mod CallCounts
 pub mod Shapes
+pub mod Tightened
 mod ReachesRows
 mod MachineRows
 mod OperationRows

@@ -83,7 +83,7 @@ plain_takes (inst.Store width value at) h = refl
 plain_takes (inst.Blit from to bytes) h = refl
 plain_takes (inst.Call result target args) h = refl
 
-plain_sized : (i : Inst) → plain i ≡ true → has_fixed_size i ≡ true
+pub plain_sized : (i : Inst) → plain i ≡ true → has_fixed_size i ≡ true
 plain_sized (inst.Set temp class op a b) h = ap (λ (z : Bool). z || fixed (number_of a)) h
 plain_sized (inst.Store width value at) h = refl
 plain_sized (inst.Blit from to bytes) h = refl

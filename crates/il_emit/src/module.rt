@@ -8,6 +8,7 @@ ghost use Rattle.il_emit.specs.Lines.{end_value};
 ghost use Rattle.il_emit.specs.Numbered.{HasFewNames};
 ghost use Rattle.il_emit.specs.Reaches.{Reaches};
 ghost use Rattle.il_emit.specs.Shape.{HasShape};
+ghost use Rattle.il_tight.specs.Tight.{tight, tight_item, tight_module};
 ghost use Rattle.il_emit.specs.Emitted.{data_item, params_of, blocks_of, function_item, module_of};
 
 use crate::code::code;
@@ -20,6 +21,7 @@ use crate::source::Source;
 use flat_code::{Data, FlatFn, FlatProgram};
 use hx_base::Class;
 use il_code::{Blocks, IlItem, IlItems, IlParam, IlParams, IlValue, Jump, Module};
+use il_tight::tighten;
 use std::alloc::{AllocError, Global};
 
 /// The module of a program: a data item for each global, and then a function for each function, in their order. `main` is exported.
@@ -43,7 +45,7 @@ pub fn emit(alloc: Global, p: &FlatProgram) -> Result<Module, AllocError>
 }
 
 fn module_of(alloc: Global, p: &FlatProgram) -> Result<Module, AllocError>
-    ensures value { IfOk result (λ m. m ≡ module_of p.now) }
+    ensures value { IfOk result (λ m. m ≡ tight_module (module_of p.now)) }
     ensures fits { OnOk result (AllByRecursion HasFewNames p.now.functions) }
 {
     let source = Source::new(alloc, p)?;
@@ -70,7 +72,7 @@ fn put_functions(
     source: &Source,
     functions: &[FlatFn],
 ) -> Result<(), AllocError>
-    ensures value { OnOk result (out.new ≡ out.old ++ map (function_item source.now.program.now) functions.now) }
+    ensures value { OnOk result (out.new ≡ out.old ++ map (λ f. tight_item (function_item source.now.program.now f)) functions.now) }
     ensures fits { OnOk result (AllByRecursion HasFewNames functions.now) }
 {
     let mut left = functions;
@@ -82,12 +84,12 @@ fn put_functions(
 }
 
 fn function_item(alloc: Global, source: &Source, f: &FlatFn) -> Result<IlItem, AllocError>
-    ensures value { IfOk result (λ i. i ≡ function_item source.now.program.now f.now) }
+    ensures value { IfOk result (λ i. i ≡ tight_item (function_item source.now.program.now f.now)) }
     ensures fits { OnOk result (HasFewNames f.now) }
 {
     let name = same_text(alloc, &f.name)?;
     let params = params_of(alloc, f.params.as_slice())?;
-    let blocks = blocks_of(alloc, source, f)?;
+    let blocks = tight_blocks_of(alloc, source, f)?;
     Ok(IlItem::Function {
         export: is_main(f),
         class: f.result,
@@ -139,6 +141,16 @@ fn has_64_bits(n: u64)
     ensures { n < 2 ^ 64 }
 {}
 
+/// The blocks of a function, each of which begins where it must.
+fn tight_blocks_of(alloc: Global, source: &Source, f: &FlatFn) -> Result<Blocks, AllocError>
+    ensures value { IfOk result (λ bs. bs ≡ tight (blocks_of source.now.program.now f.now)) }
+    ensures fits { OnOk result (HasFewNames f.now) }
+{
+    let blocks = blocks_of(alloc, source, f)?;
+    tighten(alloc, blocks)
+}
+
+/// The blocks of a function, one at each label.
 fn blocks_of(alloc: Global, source: &Source, f: &FlatFn) -> Result<Blocks, AllocError>
     ensures value { IfOk result (λ bs. bs ≡ blocks_of source.now.program.now f.now) }
     ensures fits { OnOk result (HasFewNames f.now) }

@@ -135,13 +135,11 @@ export function w $main() {
 @b2
 \t%t1 =l call $rt.nargs()
 \t%t2 =w cultl %t0, %t1
-@b4
 \tjnz %t2, @b5, @b1
 @b5
 \t%a0 =l add $h.text, 1
 \tcall $rt.puts(l %a0, l 2)
 \t%t0 =l add %t0, 1
-@b3
 \tjmp @b2
 @b1
 \tret 0
@@ -210,10 +208,6 @@ export function w $main() {
 \tjmp @b4
 @b4
 \tjmp @b1
-@b5
-\tjmp @b4
-@b3
-\tjmp @b2
 @b1
 \tret 0
 }
@@ -336,8 +330,6 @@ function l $h.f() {
 \tcall $rt.puts(l %a7, l 2)
 \t%a8 =l add $h.text, 3
 \tret %a8
-@b1
-\tret 0
 }
 export function w $main() {
 @b0

@@ -7,16 +7,21 @@ use Rattle.il_emit.specs.Shape.{HasShape}
 use Rattle.il_emit.proofs.Arrivals.{reaches}
 use Rattle.il_emit.proofs.Lawful.{valid}
 use Rattle.il_emit.proofs.Shapes.{shape}
+use Rattle.il_emit.proofs.Tightened.{module_plain, tight_reaches, tight_shape}
+use Rattle.il_tight.proofs.Valid.{valid_same}
 use Rattle.il_emit.proofs.module.emit.Goals as goal
 
 pub returns-clause-valid : goal.returns-clause-valid
 returns-clause-valid c =
-    subst (λ (m : Module). IsValid m) (sym c.in_ok-m.ensures.value) (valid c.args.p.now c.requires c.in_ok-m.ensures.fits)
+    subst (λ (m : Module). IsValid m) (sym c.in_ok-m.ensures.value)
+    (valid_same _ (module_plain c.args.p.now) (valid c.args.p.now c.requires c.in_ok-m.ensures.fits))
 
 pub returns-clause-reaches : goal.returns-clause-reaches
 returns-clause-reaches c =
-    subst (λ (m : Module). Reaches c.args.p.now m) (sym c.in_ok-m.ensures.value) (reaches c.args.p.now c.requires c.in_ok-m.ensures.fits)
+    subst (λ (m : Module). Reaches c.args.p.now m) (sym c.in_ok-m.ensures.value)
+    (tight_reaches c.args.p.now _ (module_plain c.args.p.now) (reaches c.args.p.now c.requires c.in_ok-m.ensures.fits))
 
 pub returns-clause-shape : goal.returns-clause-shape
 returns-clause-shape c =
-    subst (λ (m : Module). HasShape c.args.p.now m) (sym c.in_ok-m.ensures.value) (shape c.args.p.now c.requires)
+    subst (λ (m : Module). HasShape c.args.p.now m) (sym c.in_ok-m.ensures.value)
+    (tight_shape c.args.p.now _ (module_plain c.args.p.now) (shape c.args.p.now c.requires))

@@ -1,0 +1,287 @@
+-- With tight functions a module does what it did, and keeps the shape of its program.
+use Rattle.std.proofs.Common.{◌≡◌, ℕ, zero, suc, ◌+◌, ◌≤◌, Bool, true, false, cond, not, ◌&&◌, ◌||◌, ◌⊎◌, inl, inr, List, [], ◌∷◌, ◌++◌, map, length, Option, None, Some, refl, sym, ap, ◌∙◌, subst, arith}
+use Rattle.std.specs.Prelude.{count_by, sum_by, if◌then◌else◌}
+use Rattle.std.specs.List.{list_all}
+use Rattle.std.proofs.lemmas.Bool.{and_parts}
+use Rattle.std.proofs.lemmas.List.Sums.{sum_by-append}
+use Rattle.hx_base.specs.Runtime.{World}
+use Rattle.flat_code.specs.declared.program.Data.{Data}
+use Rattle.flat_code.specs.declared.program.FlatFn.{FlatFn}
+use Rattle.flat_code.specs.declared.program.FlatProgram.{FlatProgram}
+use Rattle.flat_code.specs.Evaluation as flat
+use Rattle.flat_code.specs.Run.{run}
+use Rattle.il_code.specs.declared.types.Block.{Block}
+use Rattle.il_code.specs.declared.types.IlItem.{IlItem}
+use Rattle.il_code.specs.declared.types.IlItem.TheVariants as item
+use Rattle.il_code.specs.declared.types.Inst.{Inst}
+use Rattle.il_code.specs.declared.types.Jump.{Jump}
+use Rattle.il_code.specs.declared.types.Jump.TheVariants.{Fall, Jmp, Jnz, Ret, Hlt}
+use Rattle.il_code.specs.declared.types.Module.{Module}
+use Rattle.il_code.specs.Rules.{has_label, targets_pass}
+use Rattle.il_code.specs.Run.{machine}
+use Rattle.il_code.specs.Shaped.{falls}
+use Rattle.il_code.specs.State as il
+use Rattle.il_code.specs.State.{Done}
+use Rattle.il_tight.specs.Tight.{first_stays, is_closed, tight_item, tight_module}
+use Rattle.il_tight.proofs.Kept.{into_insts, into_jump, whole, kept}
+use Rattle.il_tight.proofs.Passing.{into_pass, kept_pass, label_kept}
+use Rattle.il_tight.proofs.Runs.{NoPhis, functions_same, machine_same, runs_alike}
+use Rattle.il_tight.proofs.Twins.{Plain, SameCode, no_code, one_code, IsWhole}
+use Rattle.il_tight.proofs.Valid.{values_same}
+use Rattle.il_emit.specs.Emitted.{data_item, function_item, blocks_of, module_of}
+use Rattle.il_emit.specs.Lines.{Line, Label, Do, End, function_lines}
+use Rattle.il_emit.specs.Reaches.{SameWorld, Reaches, Arrives, Overflows}
+use Rattle.il_emit.specs.Shape.{backward_jumps, calls_of, is_call_of, is_alloc, has_fixed_size, allocs_are_placed, takes, full_cost, IsShapedAs, AreAlike, outlined, HasShape}
+use Rattle.il_emit.proofs.Counts.{both_true, all_append, all_more, sum_cons}
+use Rattle.il_emit.proofs.Places.{line_blocks, function_blocks}
+use Rattle.il_emit.proofs.Shapes.{plain_sized}
+
+-- ---- no phis
+
+lines_plain : (ls : List Line) → Plain (line_blocks ls)
+lines_plain [] = tt
+lines_plain (Label n ∷ ls) = (refl, lines_plain ls)
+lines_plain (Do i ∷ ls) = lines_plain ls
+lines_plain (End j ∷ ls) = lines_plain ls
+
+functions_plain : (p : FlatProgram) (fs : List FlatFn) → NoPhis (map (function_item p) fs)
+functions_plain p [] = tt
+functions_plain p (f ∷ fs) = (subst Plain (sym (function_blocks p f)) (lines_plain (function_lines p f)), functions_plain p fs)
+
+items_plain : (p : FlatProgram) (ds : List Data) (fs : List FlatFn) → NoPhis (map data_item ds ++ map (function_item p) fs)
+items_plain p [] fs = functions_plain p fs
+items_plain p (d ∷ ds) fs = items_plain p ds fs
+
+pub module_plain : (p : FlatProgram) → NoPhis (module_of p).items
+module_plain p = items_plain p p.globals p.functions
+
+-- the items of a module with tight functions
+functions_tight : (p : FlatProgram) (fs : List FlatFn) →
+    map (λ (f : FlatFn). tight_item (function_item p f)) fs ≡ map tight_item (map (function_item p) fs)
+functions_tight p [] = refl
+functions_tight p (f ∷ fs) = ap (λ (is : List IlItem). tight_item (function_item p f) ∷ is) (functions_tight p fs)
+
+items_tight : (p : FlatProgram) (ds : List Data) (fs : List FlatFn) →
+    map data_item ds ++ map (λ (f : FlatFn). tight_item (function_item p f)) fs ≡
+    map tight_item (map data_item ds ++ map (function_item p) fs)
+items_tight p [] fs = functions_tight p fs
+items_tight p (d ∷ ds) fs = ap (λ (is : List IlItem). data_item d ∷ is) (items_tight p ds fs)
+
+pub module_emits : (p q : FlatProgram) (a b c : List IlItem) (ds : List Data) (fs : List FlatFn) → a ≡ [] → b ≡ a ++ map data_item ds →
+    c ≡ b ++ map (λ (f : FlatFn). tight_item (function_item q f)) fs → q ≡ p → ds ≡ p.globals → fs ≡ p.functions →
+    record { items = c } ≡ tight_module (module_of p)
+module_emits p q a b c ds fs none front behind same globals functions =
+    let items : c ≡ map data_item p.globals ++ map (λ (f : FlatFn). tight_item (function_item p f)) p.functions =
+    rw (front, none, same, globals, functions) at behind in
+    ap (λ (is : List IlItem). record { items = is }) (items ∙ items_tight p p.globals p.functions)
+
+-- ---- what it does
+
+pub tight_reaches : (p : FlatProgram) (m : Module) → NoPhis m.items → Reaches p m → Reaches p (tight_module m)
+tight_reaches p m plain h args input fill n = elim (h args input fill n) [
+  | inl a ↦
+      let r = runs_alike _ _ (machine_same m plain args input fill a.budget) in
+      inl (record {
+        budget = a.budget;
+        ended = r.ended ∙ a.ended;
+        world = subst (λ (w : World). SameWorld (run p args input fill n).1.world w) (sym r.world) a.world;
+        jumps = λ e. subst (λ (d : List Done). n ≤ length d) (sym r.done) (a.jumps e);
+        used = r.used ∙ a.used;
+        units = a.units;
+      })
+  | inr o ↦
+      let r = runs_alike _ _ (machine_same m plain args input fill o.budget) in
+      inr (record { budget = o.budget; ended = r.ended ∙ o.ended; cost = o.cost })
+]
+
+-- ---- its shape
+
+-- 1 where a jump names a block that is not among these
+abbrev back : List Block → Jump → ℕ
+back behind j = if targets_pass (has_label behind) j then 0 else 1
+
+-- what each instruction of some blocks weighs, in all
+abbrev total : (Inst → ℕ) → List Block → ℕ
+total w bs = sum_by (λ (b : Block). sum_by w b.insts) bs
+
+module _ (stays : List ℕ → Bool) where
+  same_back : (bs : List Block) (j : Jump) → targets_pass stays j ≡ true → back (kept stays bs) j ≡ back bs j
+  same_back bs Fall h = refl
+  same_back bs (Jmp l) h = ap (λ (b : Bool). if b then 0 else 1) (label_kept stays l h bs)
+  same_back bs (Jnz v x y) h =
+      let k = and_parts (stays x) (stays y) h in
+      let a = label_kept stays x k.0 bs in
+      let b = label_kept stays y k.1 bs in
+      rw (a, b) refl
+  same_back bs (Ret v) h = refl
+  same_back bs Hlt h = refl
+
+  -- how often kept blocks jump back, with the jump that control falls to in front of them, or without
+  record Back (bs : List Block) : Type 0 where
+    joined : (j : Jump) → targets_pass stays j ≡ true → is_closed stays (falls j) bs ≡ true →
+        back (kept stays bs) (into_jump stays j bs) + backward_jumps (kept stays bs) ≤ back bs j + backward_jumps bs
+    alone : (into : Bool) → is_closed stays into bs ≡ true → backward_jumps (kept stays bs) ≤ backward_jumps bs
+
+  -- a jump that does not fall
+  jump_back : (bs : List Block) (j : Jump) → into_jump stays j bs ≡ j → targets_pass stays j ≡ true →
+      backward_jumps (kept stays bs) ≤ backward_jumps bs →
+      back (kept stays bs) (into_jump stays j bs) + backward_jumps (kept stays bs) ≤ back bs j + backward_jumps bs
+  jump_back bs j e h on =
+      let same : back (kept stays bs) (into_jump stays j bs) ≡ back bs j = ap (back (kept stays bs)) e ∙ same_back bs j h in
+      omega (arith, same, on)
+
+  none_back : Back []
+  none_back = record { joined = joined; alone = λ into c. omega arith }
+    where
+      joined : (j : Jump) → targets_pass stays j ≡ true → is_closed stays (falls j) [] ≡ true →
+          back [] (into_jump stays j []) + 0 ≤ back [] j + 0
+      joined (Jmp l) h c = omega arith
+      joined (Jnz v x y) h c = omega arith
+      joined (Ret v) h c = omega arith
+      joined Hlt h c = omega arith
+      joined Fall h c = omega arith
+
+  more_back : (b : Block) (bs : List Block) → Back bs → Back (b ∷ bs)
+  more_back b bs on = record { joined = joined; alone = alone }
+    where
+      Here : Type 0
+      Here = back (kept stays bs) (into_jump stays b.jump bs) + backward_jumps (kept stays bs) ≤ back bs b.jump + backward_jumps bs
+
+      here : (targets_pass stays b.jump && is_closed stays (falls b.jump) bs) ≡ true → Here
+      here c = let k = and_parts (targets_pass stays b.jump) _ c in on.joined b.jump k.0 k.1
+
+      begins : stays b.label ≡ true → Here → backward_jumps (kept stays (b ∷ bs)) ≤ backward_jumps (b ∷ bs)
+      begins e h = rw e h
+
+      goes : stays b.label ≡ false → Here → backward_jumps (kept stays (b ∷ bs)) ≤ backward_jumps (b ∷ bs)
+      goes e h = rw e (omega (arith, h))
+
+      by_label : (z : Bool) → stays b.label ≡ z → (i : Bool) → is_closed stays i (b ∷ bs) ≡ true →
+          backward_jumps (kept stays (b ∷ bs)) ≤ backward_jumps (b ∷ bs)
+      by_label true e true c = begins e (here c)
+      by_label true e false c = let c' = rw e at c in begins e (here c')
+      by_label false e true c = goes e (here c)
+      by_label false e false c =
+          let c' = rw e at c in
+          let k = and_parts _ (is_closed stays false bs) c' in
+          let h = on.alone false k.1 in
+          rw e (omega (arith, h))
+
+      alone : (into : Bool) → is_closed stays into (b ∷ bs) ≡ true → backward_jumps (kept stays (b ∷ bs)) ≤ backward_jumps (b ∷ bs)
+      alone into c = by_label (stays b.label) refl into c
+
+      fallen : (z : Bool) → stays b.label ≡ z → Here →
+          back (kept stays (b ∷ bs)) (into_jump stays Fall (b ∷ bs)) + backward_jumps (kept stays (b ∷ bs)) ≤
+          back (b ∷ bs) Fall + backward_jumps (b ∷ bs)
+      fallen true e h = rw e (omega (arith, h))
+      fallen false e h = rw e (omega (arith, h))
+
+      joined : (j : Jump) → targets_pass stays j ≡ true → is_closed stays (falls j) (b ∷ bs) ≡ true →
+          back (kept stays (b ∷ bs)) (into_jump stays j (b ∷ bs)) + backward_jumps (kept stays (b ∷ bs)) ≤
+          back (b ∷ bs) j + backward_jumps (b ∷ bs)
+      joined (Jmp l) h c = jump_back (b ∷ bs) (Jmp l) refl h (alone false c)
+      joined (Jnz v x y) h c = jump_back (b ∷ bs) (Jnz v x y) refl h (alone false c)
+      joined (Ret v) h c = jump_back (b ∷ bs) (Ret v) refl h (alone false c)
+      joined Hlt h c = jump_back (b ∷ bs) Hlt refl h (alone false c)
+      joined Fall h c = fallen (stays b.label) refl (here c)
+
+  all_back : (bs : List Block) → Back bs
+  all_back [] = none_back
+  all_back (b ∷ bs) = more_back b bs (all_back bs)
+
+  total_kept : (w : Inst → ℕ) (into : Bool) (bs : List Block) →
+      sum_by w (into_insts stays into bs) + total w (kept stays bs) ≤ total w bs
+  total_kept w false [] = omega arith
+  total_kept w true [] = omega arith
+  total_kept w into (b ∷ bs) = pick (stays b.label) refl into (total_kept w (falls b.jump) bs) (total_kept w false bs)
+    where
+      pick : (z : Bool) → stays b.label ≡ z → (i : Bool) →
+          sum_by w (into_insts stays (falls b.jump) bs) + total w (kept stays bs) ≤ total w bs →
+          sum_by w (into_insts stays false bs) + total w (kept stays bs) ≤ total w bs →
+          sum_by w (into_insts stays i (b ∷ bs)) + total w (kept stays (b ∷ bs)) ≤ total w (b ∷ bs)
+      pick true e true on off = rw e (omega (
+        arith,
+        on,
+        sum_by-append w b.insts (into_insts stays (falls b.jump) bs),
+        sum_cons (λ (x : Block). sum_by w x.insts) (whole stays b bs) (kept stays bs),
+        sum_cons (λ (x : Block). sum_by w x.insts) b bs,
+      ))
+      pick true e false on off = rw e (omega (
+        arith,
+        on,
+        sum_by-append w b.insts (into_insts stays (falls b.jump) bs),
+        sum_cons (λ (x : Block). sum_by w x.insts) (whole stays b bs) (kept stays bs),
+        sum_cons (λ (x : Block). sum_by w x.insts) b bs,
+      ))
+      pick false e true on off = rw e (omega (
+        arith,
+        on,
+        sum_by-append w b.insts (into_insts stays (falls b.jump) bs),
+        sum_cons (λ (x : Block). sum_by w x.insts) b bs,
+      ))
+      pick false e false on off = rw e (omega (arith, off, sum_cons (λ (x : Block). sum_by w x.insts) b bs))
+
+  total_few : (w : Inst → ℕ) (bs : List Block) → total w (kept stays bs) ≤ total w bs
+  total_few w bs = omega (arith, total_kept w false bs)
+
+  -- a test of all instructions
+  abbrev all_insts : (Inst → Bool) → List Block → Bool
+  all_insts q bs = list_all (λ (b : Block). list_all q b.insts) bs
+
+  passing : (q : Inst → Bool) (bs : List Block) → all_insts q bs ≡ true →
+      list_all (λ (b : Block). true && (list_all q b.insts && true)) bs ≡ true
+  passing q bs h = all_more _ _ (λ (b : Block) e. both_true _ true e refl) bs h
+
+  insts_kept : (q : Inst → Bool) (bs : List Block) → all_insts q bs ≡ true → all_insts q (kept stays bs) ≡ true
+  insts_kept q bs h =
+      all_more _ _ (λ (b : Block) e. (and_parts (list_all q b.insts) true e).0) (kept stays bs)
+      (kept_pass stays (λ (l : List ℕ). true) q (λ (j : Jump). true) refl bs (passing q bs h))
+
+  abbrev plain : Inst → Bool
+  plain i = not (is_alloc i)
+
+  placed_kept : (bs : List Block) → first_stays stays bs ≡ true → allocs_are_placed bs ≡ true →
+      allocs_are_placed (kept stays bs) ≡ true
+  placed_kept [] s h = refl
+  placed_kept (b ∷ bs) s h =
+      let k = and_parts (list_all has_fixed_size b.insts) (all_insts plain bs) h in
+      let into = into_pass stays (λ (l : List ℕ). true) plain (λ (j : Jump). true) refl b.jump bs refl (passing plain bs k.1) in
+      rw s (both_true _ _
+      (all_append has_fixed_size b.insts _ k.0 (all_more plain has_fixed_size plain_sized (into_insts stays (falls b.jump) bs) into.0))
+      (insts_kept plain bs k.1))
+
+-- a function with its blocks kept
+shaped_kept : (f : FlatFn) (c : il.Code) (stays : List ℕ → Bool) → IsWhole stays c.params c.blocks → IsShapedAs f c →
+    IsShapedAs f (record c { blocks = kept stays c.blocks })
+shaped_kept f c stays w s =
+    let ks = kept stays c.blocks in
+    let jumps : backward_jumps ks ≤ backward_jumps c.blocks = (all_back stays c.blocks).alone false w.closed in
+    let taken : total takes ks ≤ total takes c.blocks = total_few stays takes c.blocks in
+    let sj = s.jumps in
+    let sc = s.cost in
+    record {
+      jumps = omega (arith, jumps, sj);
+      calls = λ name.
+          let calls : calls_of name ks ≤ calls_of name c.blocks = total_few stays (λ (i : Inst). cond (is_call_of name i) 1 0) c.blocks in
+          let sn = s.calls name in
+          omega (arith, calls, sn);
+      allocs = placed_kept stays c.blocks w.first s.allocs;
+      unframed = λ e. insts_kept stays (λ (i : Inst). not (is_alloc i)) c.blocks (s.unframed e);
+      cost = omega (arith, w.cost, taken, sc);
+    }
+
+alike_kept : (o : Option FlatFn) (c c' : Option il.Code) → SameCode c c' → AreAlike o c → AreAlike o c'
+alike_kept None _ _ no_code h = h
+alike_kept (Some f) _ _ no_code h = h
+alike_kept None _ _ (one_code c stays w) h = h
+alike_kept (Some f) _ _ (one_code c stays w) h = shaped_kept f c stays w h
+
+outline_same : (i : IlItem) → outlined (tight_item i) ≡ outlined i
+outline_same (item.Data export name align parts) = refl
+outline_same (item.Function export class name params blocks) = refl
+
+pub tight_shape : (p : FlatProgram) (m : Module) → NoPhis m.items → HasShape p m → HasShape p (tight_module m)
+tight_shape p m plain h = record {
+  items = values_same outlined outline_same m.items ∙ h.items;
+  functions = λ name. alike_kept (flat.function_named p.functions name) _ _ (functions_same m.items plain name) (h.functions name);
+}
