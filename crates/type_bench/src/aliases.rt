@@ -9,13 +9,17 @@ ghost use Rattle.hare_types.specs.Store.{sized_of, definition_of, tree_at};
 use hare_types::{Row, Scalar, TypeId, TypeIds, TypeStore};
 use std::alloc::{AllocError, Global};
 
-/// Defines so many names in a chain, in a store of their own. Of how many all is told then that is asked of them.
-pub(crate) fn told_in_chain(alloc: Global, names: u32) -> Result<u32, AllocError>
+/// Defines so many names in a chain, in a store without names. Of how many all is told then that is asked of them.
+pub(crate) fn told_in_chain(
+    alloc: Global,
+    store: &mut TypeStore,
+    names: u32,
+) -> Result<u32, AllocError>
+    requires { (d : ℕ) → sized_of store.old d ≡ None }
     ensures { IfOk result (λ n. n ≤ names) }
 {
-    let mut store = TypeStore::new(alloc);
-    chain(alloc, &mut store, names)?;
-    told(&mut store, names)
+    chain(alloc, store, names)?;
+    told(store, names)
 }
 
 /// Defines so many names, each as the next, from the first on, and the one behind them as `!(int | *int)`: all wait until then.

@@ -3,7 +3,8 @@
 //! for each; by `type_bench ROWS aliases` it defines ROWS names, each as the next, and asks each what it is.
 #![tactic(auto)]
 
-ghost use Rattle.std.specs.Prelude.{◌<◌, length, IfOk};
+ghost use Rattle.std.specs.Prelude.{◌≡◌, ◌<◌, ℕ, None, length, IfOk};
+ghost use Rattle.hare_types.specs.Store.{sized_of};
 
 mod aliases;
 mod fields;
@@ -12,41 +13,86 @@ mod names;
 use anyhow::{Context, Result, bail};
 use hare_types::{Extent, Row, Scalar, TypeId, TypeStore};
 use std::alloc::AllocError;
-use std::env;
+use std::env::{self, Args};
 
 const USAGE: &str = "usage: type_bench ROWS [names|fields|aliases]";
 
+/// What is measured.
+#[derive(Clone, Copy)]
+enum Mode {
+    /// Types that are asked for again.
+    Rows,
+    Names,
+    Fields,
+    Aliases,
+}
+
 fn main(rt: HostRuntime) -> Result<()> {
-    let mut words = env::args(&rt)?;
-    let word = words.nth(1).context(USAGE)?;
-    let rows = word
-        .as_str()
+    let (rows, mode) = asked(&rt)?;
+    let mut store = TypeStore::new(rt.alloc());
+    measure(&rt, &mut store, rows, mode)
+}
+
+/// What the command line asks for: so many rows, and what is measured.
+fn asked(rt: &HostRuntime) -> Result<(u32, Mode)> {
+    let mut words = env::args(rt)?;
+    read(&mut words)
+}
+
+/// The same, by the words of the command line.
+fn read(words: &mut Args) -> Result<(u32, Mode)> {
+    let rows = number(words.nth(1))?;
+    let mode = mode(words.next())?;
+    Ok((rows, mode))
+}
+
+/// How many rows a word asks for.
+fn number(word: Option<String>) -> Result<u32> {
+    let word = word.context(USAGE)?;
+    word.as_str()
         .parse::<u32>()
-        .context("ROWS is a number below 2^32")?;
-    match words.next() {
-        None => ask_again(rt, rows),
-        Some(mode) => match mode.as_str() {
-            "names" => define(rt, rows),
-            "fields" => look_up(rt, rows),
-            "aliases" => follow(rt, rows),
-            _ => bail!("{USAGE}"),
-        },
+        .context("ROWS is a number below 2^32")
+}
+
+/// What a word asks to measure.
+fn mode(word: Option<String>) -> Result<Mode> {
+    let Some(word) = word else {
+        return Ok(Mode::Rows);
+    };
+    match word.as_str() {
+        "names" => Ok(Mode::Names),
+        "fields" => Ok(Mode::Fields),
+        "aliases" => Ok(Mode::Aliases),
+        _ => bail!("{USAGE}"),
+    }
+}
+
+/// Measures with a store that holds nothing. It stands in `main` alone, since each function that may drop a store is proved to drop it.
+fn measure(rt: &HostRuntime, store: &mut TypeStore, rows: u32, mode: Mode) -> Result<()>
+    requires { (d : ℕ) → sized_of store.old d ≡ None }
+{
+    match mode {
+        Mode::Rows => ask_again(rt, store, rows),
+        Mode::Names => define(rt, store, rows),
+        Mode::Fields => look_up(rt, store, rows),
+        Mode::Aliases => follow(rt, store, rows),
     }
 }
 
 /// Takes so many types in, and asks for each again.
-fn ask_again(rt: HostRuntime, rows: u32) -> Result<()> {
-    let mut store = TypeStore::new(rt.alloc());
-    let last = chain(&mut store, rows)?;
-    let again = chain(&mut store, rows)?;
+fn ask_again(rt: &HostRuntime, store: &mut TypeStore, rows: u32) -> Result<()> {
+    let last = chain(store, rows)?;
+    let again = chain(store, rows)?;
     let (last, again) = (last.index(), again.index());
     println!(rt; "rows {rows}, last id {last}, asked again {again}")?;
     Ok(())
 }
 
-/// Defines so many names in a chain, and so many in a fan.
-fn define(rt: HostRuntime, rows: u32) -> Result<()> {
-    let first = bytes(names::in_chain(rt.alloc(), rows)?);
+/// Defines so many names in a chain, and so many in a fan, in a store of its own.
+fn define(rt: &HostRuntime, store: &mut TypeStore, rows: u32) -> Result<()>
+    requires { (d : ℕ) → sized_of store.old d ≡ None }
+{
+    let first = bytes(names::in_chain(store, rows)?);
     let last = bytes(names::in_fan(rt.alloc(), rows)?);
     println!(rt;
         "names {rows}, the first of the chain takes {first} bytes, the last of the fan {last}"
@@ -55,17 +101,18 @@ fn define(rt: HostRuntime, rows: u32) -> Result<()> {
 }
 
 /// Takes in a struct of so many fields, and looks for each by its name.
-fn look_up(rt: HostRuntime, rows: u32) -> Result<()> {
-    let mut store = TypeStore::new(rt.alloc());
-    let t = fields::structure(rt.alloc(), &mut store, rows)?;
-    let found = fields::found(&store, t, rows);
+fn look_up(rt: &HostRuntime, store: &mut TypeStore, rows: u32) -> Result<()> {
+    let t = fields::structure(rt.alloc(), store, rows)?;
+    let found = fields::found(store, t, rows);
     println!(rt; "fields {rows}, found {found}")?;
     Ok(())
 }
 
 /// Defines so many names, each as the next, and asks each what it is.
-fn follow(rt: HostRuntime, rows: u32) -> Result<()> {
-    let told = aliases::told_in_chain(rt.alloc(), rows)?;
+fn follow(rt: &HostRuntime, store: &mut TypeStore, rows: u32) -> Result<()>
+    requires { (d : ℕ) → sized_of store.old d ≡ None }
+{
+    let told = aliases::told_in_chain(rt.alloc(), store, rows)?;
     println!(rt; "names {rows}, all is told of {told}")?;
     Ok(())
 }

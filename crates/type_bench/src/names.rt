@@ -7,12 +7,6 @@ ghost use Rattle.hare_types.specs.Trees.{Array, Named};
 use hare_types::{Extent, Row, Scalar, TypeId, TypeStore};
 use std::alloc::{AllocError, Global};
 
-/// The extent of the first of so many names in a chain, in a store of their own.
-pub(crate) fn in_chain(alloc: Global, names: u32) -> Result<Option<Extent>, AllocError> {
-    let mut store = TypeStore::new(alloc);
-    chain(&mut store, names)
-}
-
 /// The extent of the last of so many names in a fan, in a store of their own.
 pub(crate) fn in_fan(alloc: Global, names: u32) -> Result<Option<Extent>, AllocError> {
     let mut store = TypeStore::new(alloc);
@@ -21,7 +15,7 @@ pub(crate) fn in_fan(alloc: Global, names: u32) -> Result<Option<Extent>, AllocE
 
 /// Defines so many names in a chain, each to hold the next, and then the last one: all wait until then. The answer is the extent of the
 /// first.
-fn chain(store: &mut TypeStore, names: u32) -> Result<Option<Extent>, AllocError>
+pub(crate) fn in_chain(store: &mut TypeStore, names: u32) -> Result<Option<Extent>, AllocError>
     requires { (d : ℕ) → sized_of store.old d ≡ None }
 {
     for n in 0..names {

@@ -1,6 +1,6 @@
 use Rattle.std.proofs.Common.{◌≡◌, ◌≤◌, ℕ, None}
 use Rattle.hare_types.specs.Store.{sized_of}
-use Rattle.type_bench.proofs.names.chain.Given as goal
+use Rattle.type_bench.proofs.names.in_chain.Given as goal
 
 -- the names from here on are not declared
 abbrev pub invariant-loop-n : goal.invariant-loop-n
