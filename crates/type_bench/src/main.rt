@@ -42,7 +42,7 @@ fn asked(rt: &HostRuntime) -> Result<(u32, Mode)> {
 /// The same, by the words of the command line.
 fn read(words: &mut Args) -> Result<(u32, Mode)> {
     let rows = number(words.nth(1))?;
-    let mode = mode(words.next())?;
+    let mode = mode_of(words.next())?;
     Ok((rows, mode))
 }
 
@@ -55,7 +55,7 @@ fn number(word: Option<String>) -> Result<u32> {
 }
 
 /// What a word asks to measure.
-fn mode(word: Option<String>) -> Result<Mode> {
+fn mode_of(word: Option<String>) -> Result<Mode> {
     let Some(word) = word else {
         return Ok(Mode::Rows);
     };
