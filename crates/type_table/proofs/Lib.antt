@@ -1,4 +1,2 @@
-pub mod BelowLemmas
-pub mod DefinableLemmas
 pub mod FieldLemmas
 pub mod UnionLemmas

@@ -3,16 +3,13 @@
 ghost use Rattle.std.specs.Prelude.{◌≡◌, ◌<◌, length, IsTrue};
 ghost use Rattle.hare_layout.specs.Members.{IsUnion};
 
-use crate::definable::is_definable;
 use crate::layout::{field, fields};
-use crate::listing::listing;
-use crate::spelled::type_in;
-use crate::table::Table;
 use crate::unions::payload;
 use crate::values::{assign, becomes, cast};
 use anyhow::{Context, Result, bail, ensure};
 use hare_layout::subset;
 use hare_types::{Row, TypeId, TypeStore};
+use spelled_types::{Table, is_definable, listing, type_in};
 
 /// What a line comes to.
 pub(crate) fn answer(table: &mut Table, line: &str) -> Result<String> {

@@ -3,11 +3,10 @@
 ghost use Rattle.std.specs.Prelude.{◌<◌, ◌≤◌, ℕ, length};
 ghost use Rattle.hare_layout.specs.Offsets.{HasField};
 
-use crate::spelled::type_in;
-use crate::table::Table;
 use anyhow::{Context, Result, bail};
 use hare_layout::{align_of, is_small, offset_of, size_of};
 use hare_types::{Row, TypeId, TypeStore};
+use spelled_types::{Table, type_in};
 
 /// The size and the alignment of a type, and where its fields begin.
 pub(crate) fn fields(table: &mut Table, skipped: usize, spelling: &str) -> Result<String> {

@@ -16,27 +16,33 @@
 #![tactic(auto)]
 
 mod answer;
-mod definable;
-mod kinds;
 mod layout;
-mod listing;
-mod spelled;
-mod table;
 mod unions;
 mod values;
 
 use crate::answer::answer;
-use crate::table::Table;
 use anyhow::Result;
+use spelled_types::Table;
 
 fn main(rt: HostRuntime) -> Result<()> {
     let mut table = Table::new(rt.alloc());
+    print_all(&rt, &mut table)
+}
+
+/// Prints what the lines come to. The types stand in `main` alone, since each function that may drop them is proved to drop them.
+fn print_all(rt: &HostRuntime, table: &mut Table) -> Result<()> {
     for line in rt.lines(rt.alloc()) {
         let line = line?;
-        match answer(&mut table, line.as_str()) {
-            Ok(answer) => println!(rt; "{line}\n  {answer}")?,
-            Err(error) => println!(rt; "{line}\n  {error}")?,
-        }
+        print(rt, table, line.as_str())?;
+    }
+    Ok(())
+}
+
+/// Prints a line, and what it comes to.
+fn print(rt: &HostRuntime, table: &mut Table, line: &str) -> Result<()> {
+    match answer(table, line) {
+        Ok(answer) => println!(rt; "{line}\n  {answer}")?,
+        Err(error) => println!(rt; "{line}\n  {error}")?,
     }
     Ok(())
 }

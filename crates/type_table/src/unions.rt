@@ -5,12 +5,11 @@ ghost use Rattle.hare_types.specs.Assign.{IsIn};
 ghost use Rattle.hare_types.specs.ByIds.{members_at};
 ghost use Rattle.hare_types.specs.Sound.{IsStore};
 
-use crate::spelled::type_in;
-use crate::table::Table;
 use anyhow::{Result, bail, ensure};
 use hare_assign::chosen_member;
 use hare_layout::{is_small, payload_of};
 use hare_types::{Coercion, Row, Ty, TypeId, TypeStore};
+use spelled_types::{Table, type_in};
 
 /// Whether the type is a union, once names and error marks are followed.
 pub(crate) fn is_union_type(store: &TypeStore, t: TypeId) -> bool

@@ -3,13 +3,11 @@
 ghost use Rattle.std.specs.Prelude.{◌<◌, ◌≤◌, length, IfOk};
 ghost use Rattle.hare_types.specs.Assign.{IsIn};
 
-use crate::listing::listing;
-use crate::spelled::type_in;
-use crate::table::Table;
 use crate::unions::{becomes_member, is_union_type};
 use anyhow::{Context, Result, bail, ensure};
 use hare_assign::{assignable, castable};
 use hare_types::{Ty, TypeId};
+use spelled_types::{Table, listing, type_in};
 
 /// A value and the type that it is brought to.
 #[derive(Drop)]

@@ -3,7 +3,7 @@ use Rattle.hare_types.specs.declared.row.Row.TheVariants as row
 use Rattle.hare_types.specs.Trees.{Array}
 use Rattle.hare_types.proofs.CallerLemmas.{tree_at_row}
 use Rattle.hare_layout.proofs.SpreadLemmas.{tree_in-row}
-use Rattle.type_table.proofs.definable.is_of_undefined.Goals as goal
+use Rattle.spelled_types.proofs.definable.is_of_undefined.Goals as goal
 
 pub row-requires-in-Array : goal.row-requires-in-Array
 row-requires-in-Array c =

@@ -1,8 +1,8 @@
 -- Each type is written by those that came before it.
 use Rattle.std.proofs.Common.{◌<◌, Some, ap, ◌∙◌, arith}
 use Rattle.hare_types.specs.declared.row.Row.TheVariants as row
-use Rattle.type_table.proofs.BelowLemmas.{AllBelow-item, FieldsBelow-item}
-use Rattle.type_table.proofs.listing.+types.Goals as goal
+use Rattle.spelled_types.proofs.BelowLemmas.{AllBelow-item, FieldsBelow-item}
+use Rattle.spelled_types.proofs.printed.+types.Goals as goal
 
 pub put_type-put_behind-requires : goal.put_type-put_behind-requires
 put_type-put_behind-requires t c =

@@ -1,6 +1,6 @@
 use Rattle.std.proofs.Common.{◌≡◌, length}
 use Rattle.hare_types.specs.Rows.{FieldsBelow}
-use Rattle.type_table.proofs.spelled.fields.Given as goal
+use Rattle.spelled_types.proofs.spelled.fields.Given as goal
 
 abbrev pub invariant-loop-i : goal.invariant-loop-i
 invariant-loop-i l = record {

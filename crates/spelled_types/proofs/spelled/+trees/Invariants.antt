@@ -1,6 +1,6 @@
 use Rattle.std.proofs.Common.{◌≤◌, length}
 use Rattle.hare_types.specs.Rows.{AllBelow}
-use Rattle.type_table.proofs.spelled.+trees.Given as goal
+use Rattle.spelled_types.proofs.spelled.+trees.Given as goal
 
 abbrev pub invariant-types_of-loop-i : goal.invariant-types_of-loop-i
 invariant-types_of-loop-i l = record {

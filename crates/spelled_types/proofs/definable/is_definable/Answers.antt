@@ -1,6 +1,6 @@
 use Rattle.std.proofs.Common.{Some, ap, sym, ◌∙◌, rules}
-use Rattle.type_table.proofs.DefinableLemmas.{known-sized, known-finite, array-finite, never-finite}
-use Rattle.type_table.proofs.definable.is_definable.Goals as goal
+use Rattle.spelled_types.proofs.DefinableLemmas.{known-sized, known-finite, array-finite, never-finite}
+use Rattle.spelled_types.proofs.definable.is_definable.Goals as goal
 
 pub returns-then-is_some-2-clause-sized : goal.returns-then-is_some-2-clause-sized
 returns-then-is_some-2-clause-sized c =

@@ -1,6 +1,6 @@
 -- Types are written by those that came before them.
 use Rattle.std.proofs.Common.{◌+◌, ◌*◌}
-use Rattle.type_table.proofs.listing.+types.Given as goal
+use Rattle.spelled_types.proofs.printed.+types.Given as goal
 
 abbrev pub decreases-put_type : goal.decreases-put_type
 decreases-put_type l = 4 * l.t + 3

@@ -1,4 +1,4 @@
-//! The types and the names of a program.
+//! The types and the names that lines entered.
 
 ghost use Rattle.std.specs.Prelude.{◌≡◌};
 
@@ -6,9 +6,12 @@ use anyhow::Result;
 use hare_types::TypeStore;
 use std::alloc::Global;
 
-/// The types that the lines entered, and the spellings of their names, by the numbers that the store gives them.
+/// The number of the refusal of memory, which no line declares.
+pub const NOMEM: u32 = 4_294_967_295;
+
+/// The types that lines entered, and the spellings of their names, by the numbers that the store gives them.
 #[derive(Drop)]
-pub(crate) struct Table {
+pub struct Table {
     pub alloc: Global,
     pub store: TypeStore,
     pub names: Vec<String>,
@@ -24,10 +27,13 @@ impl Table {
         }
     }
 
-    /// The number of a name.
+    /// The number of a name: [`NOMEM`] for `rt::nomem`, and else that which the store gives it.
     pub fn number(&mut self, name: &str) -> Result<u32>
         ensures { self.new.store.rows ≡ self.old.store.rows }
     {
+        if name == "rt::nomem" {
+            return Ok(NOMEM);
+        }
         let number = self.store.name(name.as_bytes())?;
         if number as usize == self.names.len() {
             let spelling = String::from_str(self.alloc, name)?;

@@ -3,13 +3,13 @@
 ghost use Rattle.std.specs.Prelude.{◌≡◌, ◌<◌, ◌≤◌, length};
 ghost use Rattle.hare_types.specs.Rows.{AllBelow, FieldsBelow};
 
+use crate::entered::{NOMEM, Table};
 use crate::kinds::word;
-use crate::table::Table;
 use anyhow::Result;
 use hare_types::{Field, Row, TypeId};
 
-/// The type as a program spells it. The members of a union stand in the order in which their types were first spelled.
-pub(crate) fn listing(table: &Table, t: TypeId) -> Result<String>
+/// The type as a program spells it, as [`put_type`] writes it.
+pub fn listing(table: &Table, t: TypeId) -> Result<String>
     requires { t < length table.now.store.rows }
 {
     let mut out = String::new(table.alloc);
@@ -17,9 +17,9 @@ pub(crate) fn listing(table: &Table, t: TypeId) -> Result<String>
     Ok(out)
 }
 
-/// Writes a type.
+/// Writes a type as a program spells it. The members of a union stand in the order in which their types were first spelled.
 #[cycle(types)]
-fn put_type(out: &mut String, table: &Table, t: TypeId) -> Result<()>
+pub fn put_type(out: &mut String, table: &Table, t: TypeId) -> Result<()>
     requires { t < length table.now.store.rows }
 {
     match table.store.row(t) {
@@ -52,6 +52,10 @@ fn put_behind(out: &mut String, table: &Table, t: TypeId, mark: &str, inner: Typ
 
 /// Writes a name.
 fn put_name(out: &mut String, table: &Table, number: u32) -> Result<()> {
+    if number == NOMEM {
+        out.push_str("rt::nomem")?;
+        return Ok(());
+    }
     if let Some(name) = table.names.get(number as usize) {
         out.push_str(name.as_str())?;
     }

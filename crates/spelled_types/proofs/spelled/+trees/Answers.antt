@@ -2,9 +2,9 @@
 use Rattle.std.proofs.Common.{◌≡◌, length, ap, sym, ◌∙◌, subst, arith}
 use Rattle.hare_types.specs.Rows.{AllBelow}
 use Rattle.hare_types.proofs.TreeLemmas.{AllBelow-le}
-use Rattle.type_table.proofs.BelowLemmas.{AllBelow-push}
-use Rattle.type_table.proofs.spelled.+trees.Goals as goal
-use Rattle.type_table.proofs.spelled.+trees.Goals.{types_of-in-Some+then-bears_type+in_ok-t+in_ok-push, types_of-in-Some+else-bears_type, types_of-in_default}
+use Rattle.spelled_types.proofs.BelowLemmas.{AllBelow-push}
+use Rattle.spelled_types.proofs.spelled.+trees.Goals as goal
+use Rattle.spelled_types.proofs.spelled.+trees.Goals.{types_of-in-Some+then-bears_type+in_ok-t+in_ok-push, types_of-in-Some+else-bears_type, types_of-in_default}
 
 pub types_of-loop-i-preserved : goal.types_of-loop-i-preserved
 types_of-loop-i-preserved t c =

@@ -44,7 +44,7 @@ fn is_of_undefined(store: &TypeStore, decl: u32, t: TypeId) -> bool
 
 /// Whether it is known that a name may be defined to be a type: that is `never` for a name without a size, and for one with a size a type
 /// of which the extent is known, or an array of another name that is not defined.
-pub(crate) fn is_definable(store: &TypeStore, decl: u32, t: TypeId) -> bool
+pub fn is_definable(store: &TypeStore, decl: u32, t: TypeId) -> bool
     requires { t < length store.now.rows }
     ensures declared { IsTrue result → IsSome (sized_of store.now decl) }
     ensures fresh { IsTrue result → definition_of store.now decl ≡ None }

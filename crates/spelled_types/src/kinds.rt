@@ -60,7 +60,7 @@ pub(crate) fn bears_type(kind: Kind) -> bool {
 }
 
 /// What a tree's own token says.
-pub(crate) fn text(tree: &Tree) -> Result<&str> {
+pub fn text(tree: &Tree) -> Result<&str> {
     str::from_utf8(tree.text.bytes()).context("a text that is not UTF-8")
 }
 
@@ -75,4 +75,21 @@ pub(crate) fn items(kids: &Kids) -> Result<u64> {
     u64::try_from(number.number)
         .ok()
         .context("a length that is too large")
+}
+
+/// Whether a tree of this kind is a written type.
+pub fn is_type(kind: Kind) -> bool {
+    matches!(
+        kind,
+        Kind::TypeScalar
+            | Kind::TypePath
+            | Kind::TypePointer
+            | Kind::TypeNullable
+            | Kind::TypeSlice
+            | Kind::TypeError
+            | Kind::TypeArray
+            | Kind::TypeStruct
+            | Kind::TypeTuple
+            | Kind::TypeUnion
+    )
 }

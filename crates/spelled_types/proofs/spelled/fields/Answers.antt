@@ -1,8 +1,8 @@
 use Rattle.std.proofs.Common.{length, ap, sym, ◌∙◌, subst}
 use Rattle.hare_types.specs.Rows.{FieldsBelow}
-use Rattle.type_table.proofs.BelowLemmas.{AllBelow-get, FieldsBelow-push}
-use Rattle.type_table.proofs.spelled.fields.Goals as goal
-use Rattle.type_table.proofs.spelled.fields.Goals.{in-Some+in-Some-get+in_ok-text+in_ok-name+in_ok-push, in-Some+in_default-get, in_default}
+use Rattle.spelled_types.proofs.BelowLemmas.{AllBelow-get, FieldsBelow-push}
+use Rattle.spelled_types.proofs.spelled.fields.Goals as goal
+use Rattle.spelled_types.proofs.spelled.fields.Goals.{in-Some+in-Some-get+in_ok-text+in_ok-name+in_ok-push, in-Some+in_default-get, in_default}
 
 pub loop-i-preserved : goal.loop-i-preserved
 loop-i-preserved c =

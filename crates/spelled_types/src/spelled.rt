@@ -3,8 +3,8 @@
 ghost use Rattle.std.specs.Prelude.{◌≡◌, ◌<◌, ◌≤◌, ℕ, length, IfOk};
 ghost use Rattle.hare_types.specs.Rows.{AllBelow, FieldsBelow, IsWithin};
 
+use crate::entered::Table;
 use crate::kinds::{bears_type, items, scalar, text};
-use crate::table::Table;
 use anyhow::{Error, Result, anyhow, bail, ensure};
 use hare_decl::parse_source;
 use hare_layout::{Bools, Places, Spelled, admit};
@@ -14,18 +14,32 @@ use std::alloc::{AllocError, Global};
 
 /// The type that a part of a line spells, behind the first bytes of the line. Faults stand in the second line of what is parsed, in the
 /// columns of the line.
-pub(crate) fn type_in(table: &mut Table, skipped: usize, spelling: &str) -> Result<TypeId>
+pub fn type_in(table: &mut Table, skipped: usize, spelling: &str) -> Result<TypeId>
     ensures within { IfOk result (λ t. t < length table.new.store.rows) }
     ensures grows { length table.old.store.rows ≤ length table.new.store.rows }
 {
-    let mut source = String::from_str(table.alloc, "type t =\n")?;
+    let source = source(table.alloc, skipped, spelling)?;
+    first_type(table, source.as_bytes())
+}
+
+/// A file that declares what is spelled, with so many blanks before it.
+fn source(alloc: Global, skipped: usize, spelling: &str) -> Result<String, AllocError> {
+    let mut source = String::from_str(alloc, "type t =\n")?;
     for _ in 0..skipped {
         source.push(' ')?;
     }
     source.push_str(spelling)?;
     source.push(';')?;
+    Ok(source)
+}
+
+/// The type of the first declaration of a file.
+fn first_type(table: &mut Table, source: &[u8]) -> Result<TypeId>
+    ensures within { IfOk result (λ t. t < length table.new.store.rows) }
+    ensures grows { length table.old.store.rows ≤ length table.new.store.rows }
+{
     ensure!(source.len() < 4_294_967_295, "a line of 4 GiB");
-    match parse_source(table.alloc, 0, source.as_bytes()) {
+    match parse_source(table.alloc, 0, source) {
         Ok(file) => declared(table, &file.decls),
         Err(Stop::Fault(fault)) => Err(told(fault)),
         Err(Stop::Memory) => bail!("out of memory"),
@@ -79,7 +93,7 @@ fn named(table: &mut Table, tree: &Tree) -> Result<TypeId>
 
 /// The type that a tree spells, or that of a field or of a spread member.
 #[cycle(trees)]
-fn type_of(table: &mut Table, tree: &Tree) -> Result<TypeId>
+pub fn type_of(table: &mut Table, tree: &Tree) -> Result<TypeId>
     ensures within { IfOk result (λ t. t < length table.new.store.rows) }
     ensures grows { length table.old.store.rows ≤ length table.new.store.rows }
 {
@@ -91,14 +105,7 @@ fn type_of(table: &mut Table, tree: &Tree) -> Result<TypeId>
         return only(&types);
     }
     let row = row_of(table, tree, types)?;
-    let spreads = spreads(table.alloc, &tree.kids)?;
-    let places = places(table.alloc, &tree.kids)?;
-    let r = Spelled {
-        row,
-        spreads,
-        places,
-    };
-    admitted(table, &r, tree.place)
+    whole(table, tree, row)
 }
 
 /// The types of the parts of a type, in their order.
@@ -127,15 +134,26 @@ fn row_of(table: &mut Table, tree: &Tree, types: TypeIds) -> Result<Row>
     ensures grows { length table.old.store.rows ≤ length table.new.store.rows }
 {
     match tree.kind {
-        Kind::TypeScalar => Ok(Row::Scalar(scalar(text(tree)?)?)),
-        Kind::TypePointer => Ok(Row::Pointer(only(&types)?)),
-        Kind::TypeNullable => Ok(Row::Nullable(only(&types)?)),
-        Kind::TypeSlice => Ok(Row::Slice(only(&types)?)),
-        Kind::TypeError => Ok(Row::Error(only(&types)?)),
-        Kind::TypeArray => Ok(Row::Array(items(&tree.kids)?, only(&types)?)),
-        Kind::TypeStruct => Ok(Row::Struct(fields(table, &tree.kids, &types)?)),
         Kind::TypeTuple => Ok(Row::Tuple(types)),
         Kind::TypeUnion => Ok(Row::Union(types)),
+        _ => row_over(table, tree, &types),
+    }
+}
+
+/// The same of a type that is no tuple and no union.
+fn row_over(table: &mut Table, tree: &Tree, types: &TypeIds) -> Result<Row>
+    requires { AllBelow (length table.old.store.rows) types.now }
+    ensures within { IfOk result (λ q. IsWithin (length table.new.store.rows) q) }
+    ensures grows { length table.old.store.rows ≤ length table.new.store.rows }
+{
+    match tree.kind {
+        Kind::TypeScalar => Ok(Row::Scalar(scalar(text(tree)?)?)),
+        Kind::TypePointer => Ok(Row::Pointer(only(types)?)),
+        Kind::TypeNullable => Ok(Row::Nullable(only(types)?)),
+        Kind::TypeSlice => Ok(Row::Slice(only(types)?)),
+        Kind::TypeError => Ok(Row::Error(only(types)?)),
+        Kind::TypeArray => Ok(Row::Array(items(&tree.kids)?, only(types)?)),
+        Kind::TypeStruct => Ok(Row::Struct(fields(table, &tree.kids, types)?)),
         _ => bail!("no type"),
     }
 }
@@ -168,26 +186,30 @@ fn fields(table: &mut Table, kids: &Kids, types: &TypeIds) -> Result<Fields>
     Ok(fields)
 }
 
-/// Which of the members of a union are spread.
-fn spreads(alloc: Global, kids: &Kids) -> Result<Bools, AllocError> {
-    let mut spreads = Bools::new(alloc);
-    for i in 0..kids.len() {
-        if let Some(kid) = kids.get(i) {
-            spreads.push(kid.kind == Kind::Spread)?;
-        }
-    }
-    Ok(spreads)
+/// The type that a tree spells whose row this is.
+fn whole(table: &mut Table, tree: &Tree, row: Row) -> Result<TypeId>
+    requires { IsWithin (length table.old.store.rows) row }
+    ensures within { IfOk result (λ t. t < length table.new.store.rows) }
+    ensures grows { length table.old.store.rows ≤ length table.new.store.rows }
+{
+    let mut r = Spelled {
+        row,
+        spreads: Bools::new(table.alloc),
+        places: Places::new(table.alloc),
+    };
+    mark(&mut r.spreads, &mut r.places, &tree.kids)?;
+    admitted(table, &r, tree.place)
 }
 
-/// Where the members of a union stand.
-fn places(alloc: Global, kids: &Kids) -> Result<Places, AllocError> {
-    let mut places = Places::new(alloc);
-    for i in 0..kids.len() {
-        if let Some(kid) = kids.get(i) {
-            places.push(kid.place)?;
+/// Tells which of the members of a union are spread, and where they stand.
+fn mark(spreads: &mut Bools, places: &mut Places, members: &Kids) -> Result<(), AllocError> {
+    for i in 0..members.len() {
+        if let Some(member) = members.get(i) {
+            spreads.push(member.kind == Kind::Spread)?;
+            places.push(member.place)?;
         }
     }
-    Ok(places)
+    Ok(())
 }
 
 /// The type that a spelled type is.
