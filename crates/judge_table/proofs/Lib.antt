@@ -1,5 +1,3 @@
-pub mod BelowLemmas
-pub mod DefinableLemmas
 pub mod ShapedLemmas
 pub mod MarkLemmas
 pub mod ReadyLemmas

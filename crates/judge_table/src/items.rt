@@ -1,30 +1,41 @@
 //! What each item of a line tells.
 
-use crate::spelled::type_in;
 use crate::told::{Mark, Told};
-use anyhow::{Context, Result};
+use anyhow::{Context, Result, ensure};
 use hare_rules::{DeclType, Hint, Label, Local, Target, Yielded};
 use hare_tree::{Kind, Place, Word};
 use hare_typed::Const;
 use hare_types::{Ty, TypeId, TypeIds};
+use spelled_types::{Table, is_definable, type_in};
 use std::alloc::Global;
 
+/// Declares a type, and defines it to be what is spelled.
+pub(crate) fn enter(table: &mut Table, decl: u32, spelling: &str) -> Result<()> {
+    ensure!(table.store.sized(decl).is_none(), "declared before");
+    let is_sized = spelling != "never";
+    table.store.declare(decl, is_sized)?;
+    let t = type_in(table, 0, spelling)?;
+    ensure!(is_definable(&table.store, decl, t), "no such definition");
+    table.store.define(decl, t);
+    Ok(())
+}
+
 /// Takes in what an item tells.
-pub(crate) fn tell(alloc: Global, told: &mut Told, item: &str) -> Result<()> {
+pub(crate) fn tell(table: &mut Table, told: &mut Told, item: &str) -> Result<()> {
     let (word, rest) = item.split_once(' ').unwrap_or((item, ""));
     match word {
-        "let" => bind(alloc, told, rest, true),
-        "const" => bind(alloc, told, rest, false),
-        "type" => define(alloc, told, rest),
-        "def" => declare(alloc, told, rest, Kind::Def),
-        "global" => declare(alloc, told, rest, Kind::GlobalLet),
-        "fixed" => declare(alloc, told, rest, Kind::GlobalConst),
-        "fn" => declare(alloc, told, rest, Kind::Fn),
-        "hint" | "result" | "values" => tell_type(told, word, rest),
-        "loop" => put_label(alloc, told, rest, Target::Loop),
-        "block" => put_label(alloc, told, rest, Target::Block),
-        "case" => put_label(alloc, told, rest, Target::Case),
-        "yielded" => put_yielded(told, rest),
+        "let" => bind(table, told, rest, true),
+        "const" => bind(table, told, rest, false),
+        "type" => define(table, told, rest),
+        "def" => declare(table, told, rest, Kind::Def),
+        "global" => declare(table, told, rest, Kind::GlobalLet),
+        "fixed" => declare(table, told, rest, Kind::GlobalConst),
+        "fn" => declare(table, told, rest, Kind::Fn),
+        "hint" | "result" | "values" => tell_type(table, told, word, rest),
+        "loop" => put_label(table.alloc, told, rest, Target::Loop),
+        "block" => put_label(table.alloc, told, rest, Target::Block),
+        "case" => put_label(table.alloc, told, rest, Target::Case),
+        "yielded" => put_yielded(table, told, rest),
         "part" => {
             let number = rest.parse::<usize>().context("a part without a number")?;
             told.part = Some(number);
@@ -34,7 +45,7 @@ pub(crate) fn tell(alloc: Global, told: &mut Told, item: &str) -> Result<()> {
             tell_word(told, word);
             Ok(())
         }
-        _ => put_mark(told, item),
+        _ => put_mark(table, told, item),
     }
 }
 
@@ -49,8 +60,8 @@ fn tell_word(told: &mut Told, word: &str) {
 }
 
 /// Takes in a type: what is asked of the node, what the function gives, or to what the values of cases go.
-fn tell_type(told: &mut Told, word: &str, spelling: &str) -> Result<()> {
-    let t = type_in(&mut told.table, spelling)?;
+fn tell_type(table: &mut Table, told: &mut Told, word: &str, spelling: &str) -> Result<()> {
+    let t = type_in(table, 0, spelling)?;
     match word {
         "hint" => told.case.hint = Hint::Of(t),
         "result" => told.case.inside.result = t,
@@ -60,45 +71,45 @@ fn tell_type(told: &mut Told, word: &str, spelling: &str) -> Result<()> {
 }
 
 /// Takes in a binding, as `a: int`.
-fn bind(alloc: Global, told: &mut Told, rest: &str, mutable: bool) -> Result<()> {
+fn bind(table: &mut Table, told: &mut Told, rest: &str, mutable: bool) -> Result<()> {
     let (name, spelling) = rest.split_once(": ").context("a binding without a type")?;
-    let ty = type_in(&mut told.table, spelling)?;
+    let ty = type_in(table, 0, spelling)?;
     told.locals.push(Local { ty, mutable })?;
-    told.names.push(String::from_str(alloc, name)?)?;
+    told.names.push(String::from_str(table.alloc, name)?)?;
     Ok(())
 }
 
 /// Takes in a declared type, as `t = *int`.
-fn define(alloc: Global, told: &mut Told, rest: &str) -> Result<()> {
+fn define(table: &mut Table, told: &mut Told, rest: &str) -> Result<()> {
     let (name, spelling) = rest
         .split_once(" = ")
         .context("a type without a definition")?;
-    let decl = told.table.number(name)?;
-    told.table.enter(decl, spelling)?;
-    let ty = type_in(&mut told.table, name)?;
-    let params = TypeIds::new(alloc);
+    let decl = table.number(name)?;
+    enter(table, decl, spelling)?;
+    let ty = type_in(table, 0, name)?;
+    let params = TypeIds::new(table.alloc);
     put_declaration(told, decl, Kind::TypeDecl, ty, params)
 }
 
 /// Takes in a declaration with a value, as `n: size`, or a function, as `f: int of str, u8`.
-fn declare(alloc: Global, told: &mut Told, rest: &str, kind: Kind) -> Result<()> {
+fn declare(table: &mut Table, told: &mut Told, rest: &str, kind: Kind) -> Result<()> {
     let (name, spelling) = rest
         .split_once(": ")
         .context("a declaration without a type")?;
     let (own, list) = spelling.split_once(" of ").unwrap_or((spelling, ""));
-    let decl = told.table.number(name)?;
-    let ty = type_in(&mut told.table, own)?;
-    let params = types_in(alloc, told, list)?;
+    let decl = table.number(name)?;
+    let ty = type_in(table, 0, own)?;
+    let params = types_in(table, list)?;
     put_declaration(told, decl, kind, ty, params)
 }
 
 /// The types of a list with commas between them.
-fn types_in(alloc: Global, told: &mut Told, list: &str) -> Result<TypeIds> {
-    let mut types = TypeIds::new(alloc);
+fn types_in(table: &mut Table, list: &str) -> Result<TypeIds> {
+    let mut types = TypeIds::new(table.alloc);
     for spelling in list.split(',') {
         let spelling = spelling.strip_prefix(' ').unwrap_or(spelling);
         if !spelling.is_empty() {
-            types.push(type_in(&mut told.table, spelling)?)?;
+            types.push(type_in(table, 0, spelling)?)?;
         }
     }
     Ok(types)
@@ -140,10 +151,10 @@ fn put_label(alloc: Global, told: &mut Told, name: &str, target: Target) -> Resu
 }
 
 /// Takes in a value that is yielded to the node, as `8: int`.
-fn put_yielded(told: &mut Told, rest: &str) -> Result<()> {
+fn put_yielded(table: &mut Table, told: &mut Told, rest: &str) -> Result<()> {
     let (column, spelling) = rest.split_once(": ").context("a value without a type")?;
     let column = column.parse::<u32>().context("a value without a column")?;
-    let ty = value(told, spelling)?;
+    let ty = value(table, spelling)?;
     let place = Place {
         file: 0,
         line: 2,
@@ -154,7 +165,7 @@ fn put_yielded(told: &mut Told, rest: &str) -> Result<()> {
 }
 
 /// Takes in what is told of the nodes at a column: their type, as `5: int`; that it goes to another, as `5 to u8`; or both, as `5: u8 to u16`.
-fn put_mark(told: &mut Told, item: &str) -> Result<()> {
+fn put_mark(table: &mut Table, told: &mut Told, item: &str) -> Result<()> {
     let (front, goal) = match item.split_once(" to ") {
         Some((front, goal)) => (front, Some(goal)),
         None => (item, None),
@@ -165,11 +176,11 @@ fn put_mark(told: &mut Told, item: &str) -> Result<()> {
     };
     let column = column.parse::<u32>().context("an item that tells nothing")?;
     let ty = match own {
-        Some(spelling) => Some(value(told, spelling)?),
+        Some(spelling) => Some(value(table, spelling)?),
         None => None,
     };
     let to = match goal {
-        Some(spelling) => Some(type_in(&mut told.table, spelling)?),
+        Some(spelling) => Some(type_in(table, 0, spelling)?),
         None => None,
     };
     told.marks.push(Mark { column, ty, to })?;
@@ -177,7 +188,7 @@ fn put_mark(told: &mut Told, item: &str) -> Result<()> {
 }
 
 /// What a value is: `null`, `[]`, a whole number, or a type, which stands for a value of that type.
-fn value(told: &mut Told, spelling: &str) -> Result<Ty> {
+fn value(table: &mut Table, spelling: &str) -> Result<Ty> {
     match spelling {
         "null" => return Ok(Ty::Null),
         "[]" => return Ok(Ty::Empty),
@@ -185,6 +196,6 @@ fn value(told: &mut Told, spelling: &str) -> Result<Ty> {
     }
     match spelling.parse::<i128>() {
         Ok(v) => Ok(Ty::Iconst(v)),
-        Err(_) => Ok(Ty::Of(type_in(&mut told.table, spelling)?)),
+        Err(_) => Ok(Ty::Of(type_in(table, 0, spelling)?)),
     }
 }

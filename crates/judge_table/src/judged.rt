@@ -8,37 +8,38 @@ ghost use Rattle.judge_table.specs.Shaped.{IsShaped};
 use crate::marks::typed_kids;
 use crate::meanings::{meaning, path_meaning};
 use crate::ready::is_ready;
-use crate::table::Table;
 use crate::told::Told;
 use crate::verdict::{accepted, refused};
 use anyhow::{Result, bail};
 use hare_judge::judge;
 use hare_tree::{Stop, Tree};
+use hare_typed::TypedKids;
 use rule_judge::Turn;
-use std::alloc::Global;
+use spelled_types::Table;
 
 /// What the judge of its kind answers of a node, where this is told of it.
-pub(crate) fn judged(alloc: Global, mut told: Told, node: &Tree) -> Result<String>
+pub(crate) fn judged(table: &mut Table, told: &mut Told, node: &Tree) -> Result<String>
     requires { IsShaped node.now }
 {
-    let kids = typed_kids(alloc, &mut told, node.kind, &node.kids)?;
-    let own = meaning(&mut told, node)?;
-    told.case.meaning = path_meaning(own, node.kind, &kids);
-    let Told {
-        mut table,
-        locals,
-        decls,
-        case,
-        ..
-    } = told;
+    let kids = typed_kids(table, told, node.kind, &node.kids)?;
+    judged_over(table, told, node, &kids)
+}
+
+/// The same of a shaped node with these kids.
+fn judged_over(table: &mut Table, told: &mut Told, node: &Tree, kids: &TypedKids) -> Result<String>
+    requires shaped { IsShaped node.now }
+    requires kids { nodes_of (map erase kids.now) ≡ kids_of node.now }
+{
+    let own = meaning(table, told, node)?;
+    told.case.meaning = path_meaning(own, node.kind, kids);
     let t = Turn {
-        decls: &decls,
-        locals: &locals,
-        case: &case,
+        decls: &told.decls,
+        locals: &told.locals,
+        case: &told.case,
         node,
-        kids: &kids,
+        kids,
     };
-    asked(&mut table, &t)
+    asked(table, &t)
 }
 
 /// The answer of the judge of a node, where what is told of it is what a judge relies on. The node is shaped, and these are its kids.

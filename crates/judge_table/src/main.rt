@@ -10,17 +10,12 @@
 #![tactic(auto)]
 
 mod answer;
-mod definable;
 mod items;
 mod judged;
-mod kinds;
-mod listing;
 mod marks;
 mod meanings;
 mod part;
 mod ready;
-mod spelled;
-mod table;
 mod told;
 mod verdict;
 
@@ -28,13 +23,18 @@ use crate::answer::answer;
 use anyhow::Result;
 
 fn main(rt: HostRuntime) -> Result<()> {
-    let alloc = rt.alloc();
-    for line in rt.lines(alloc) {
+    for line in rt.lines(rt.alloc()) {
         let line = line?;
-        match answer(alloc, line.as_str()) {
-            Ok(answer) => println!(rt; "{answer}")?,
-            Err(error) => println!(rt; "{error}: {line}")?,
-        }
+        print(&rt, line.as_str())?;
+    }
+    Ok(())
+}
+
+/// Prints a line with what is found of its node.
+fn print(rt: &HostRuntime, line: &str) -> Result<()> {
+    match answer(rt.alloc(), line) {
+        Ok(answer) => println!(rt; "{answer}")?,
+        Err(error) => println!(rt; "{error}: {line}")?,
     }
     Ok(())
 }

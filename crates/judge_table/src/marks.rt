@@ -1,31 +1,29 @@
 //! Trees of which is told what judges are told of kids.
 
-ghost use Rattle.std.specs.Prelude.{◌≡◌, map, IfOk};
+ghost use Rattle.std.specs.Prelude.{◌≡◌, map, IfOk, OnOk};
 ghost use Rattle.hare_typed.specs.Erased.{erase};
 
-use crate::kinds::is_type;
 use crate::meanings::meaning;
 use crate::ready::defined_coercion;
-use crate::spelled::{type_in, type_of};
 use crate::told::{Mark, Told};
 use anyhow::{Context, Result};
 use hare_const::constant;
 use hare_tree::{Kids, Kind, Meaning, Suffix, Tree, Word};
 use hare_typed::{Const, Typed, TypedKids};
-use hare_types::{Coercion, Scalar, Ty};
+use hare_types::{Coercion, Scalar, Ty, TypeId};
 use rule_judge::word;
-use std::alloc::Global;
+use spelled_types::{Table, is_type, type_in, type_of};
 
-/// The tree with what is told of its nodes.
+/// The tree with what is told of its nodes. Its kids come last, so that none is given up.
 #[cycle(marks)]
-fn typed(alloc: Global, told: &mut Told, tree: &Tree) -> Result<Typed>
+fn typed(table: &mut Table, told: &Told, tree: &Tree) -> Result<Typed>
     ensures { IfOk result (λ x. erase x ≡ tree.now) }
 {
-    let kids = typed_kids(alloc, told, tree.kind, &tree.kids)?;
-    let meaning = meaning(told, tree)?;
-    let ty = type_told(told, tree, meaning)?;
-    let coerce = coercion_told(alloc, told, tree, &ty)?;
-    let text = Word::copy(alloc, tree.text.bytes())?;
+    let meaning = meaning(table, told, tree)?;
+    let ty = type_told(table, told, tree, meaning)?;
+    let coerce = coercion_told(table, told, tree, &ty)?;
+    let text = Word::copy(table.alloc, tree.text.bytes())?;
+    let kids = typed_kids(table, told, tree.kind, &tree.kids)?;
     Ok(Typed {
         kind: tree.kind,
         place: tree.place,
@@ -45,40 +43,47 @@ fn typed(alloc: Global, told: &mut Told, tree: &Tree) -> Result<Typed>
 #[cycle(marks)]
 #[tactic(auto, using(hare_tree::proofs::Sizes::kid_size))]
 pub(crate) fn typed_kids(
-    alloc: Global,
-    told: &mut Told,
+    table: &mut Table,
+    told: &Told,
     kind: Kind,
     kids: &Kids,
 ) -> Result<TypedKids>
     ensures { IfOk result (λ xs. map erase xs ≡ kids.now) }
 {
+    let alloc = table.alloc;
     let mut done = TypedKids::new(alloc);
     for i in 0..kids.len() {
         let Some(kid) = kids.get(i) else {
             unreachable!();
         };
-        let x = typed(alloc, told, kid)?;
-        let x = folded(alloc, told, kind, x)?;
+        let x = typed(table, told, kid)?;
+        let x = folded(table, told, kind, x)?;
         done.push(alloc, x)?;
     }
     Ok(done)
 }
 
 /// A kid of a node of this kind: a value of a case goes to the type that is told for these, and has its constant.
-fn folded(alloc: Global, told: &Told, kind: Kind, mut x: Typed) -> Result<Typed>
+fn folded(table: &Table, told: &Told, kind: Kind, mut x: Typed) -> Result<Typed>
     ensures { IfOk result (λ y. erase y ≡ erase x) }
 {
-    let Some(t) = told.values else {
-        return Ok(x);
-    };
-    if kind != Kind::Values || matches!(x.kind, Kind::None | Kind::TrailingComma) {
-        return Ok(x);
+    if kind == Kind::Values && !matches!(x.kind, Kind::None | Kind::TrailingComma) {
+        if let Some(t) = told.values {
+            fold(table, t, &mut x)?;
+        }
     }
-    let coerce = defined_coercion(alloc, &told.table.store, &x.ty, t)?;
-    x.coerce = coerce;
-    let value = constant(alloc, &told.table.store, 0, &x)?;
-    x.value = value;
     Ok(x)
+}
+
+/// Lets a value go to a type, and gives it its constant.
+fn fold(table: &Table, t: TypeId, x: &mut Typed) -> Result<()>
+    ensures { OnOk result (erase x.new ≡ erase x.old) }
+{
+    let coerce = defined_coercion(table.alloc, &table.store, &x.ty, t)?;
+    x.coerce = coerce;
+    let value = constant(table.alloc, &table.store, 0, x)?;
+    x.value = value;
+    Ok(())
 }
 
 /// What is told of the nodes at the place of a node.
@@ -96,30 +101,30 @@ fn mark_at<'t>(told: &'t Told, tree: &Tree) -> Option<&'t Mark> {
 }
 
 /// The type of what a node gives that means this: what is told, or else what the node itself tells.
-fn type_told(told: &mut Told, tree: &Tree, meaning: Meaning) -> Result<Ty> {
+fn type_told(table: &mut Table, told: &Told, tree: &Tree, meaning: Meaning) -> Result<Ty> {
     if let Some(mark) = mark_at(told, tree) {
         if let Some(ty) = mark.ty {
             return Ok(ty);
         }
     }
-    own_type(told, tree, meaning)
+    own_type(table, told, tree, meaning)
 }
 
 /// What becomes of a value of this type at the place of a node: it goes to what is told, or else stays as it is.
-fn coercion_told(alloc: Global, told: &Told, tree: &Tree, ty: &Ty) -> Result<Coercion> {
+fn coercion_told(table: &Table, told: &Told, tree: &Tree, ty: &Ty) -> Result<Coercion> {
     if let Some(mark) = mark_at(told, tree) {
         if let Some(t) = mark.to {
-            return defined_coercion(alloc, &told.table.store, ty, t);
+            return defined_coercion(table.alloc, &table.store, ty, t);
         }
     }
     Ok(Coercion { row: 1, to: *ty })
 }
 
 /// The type of what a node gives where it tells this itself, as a literal, a path or a written type does; else void.
-fn own_type(told: &mut Told, tree: &Tree, meaning: Meaning) -> Result<Ty> {
+fn own_type(table: &mut Table, told: &Told, tree: &Tree, meaning: Meaning) -> Result<Ty> {
     let scalar = match tree.kind {
         Kind::Null => return Ok(Ty::Null),
-        Kind::Path => return path_type(told, meaning),
+        Kind::Path => return path_type(table, told, meaning),
         Kind::Number => match suffix_word(tree.suffix) {
             Some(scalar) => scalar,
             None => return number_type(tree.number),
@@ -127,10 +132,10 @@ fn own_type(told: &mut Told, tree: &Tree, meaning: Meaning) -> Result<Ty> {
         Kind::Str => Scalar::Str,
         Kind::RuneLit => Scalar::Rune,
         Kind::Bool => Scalar::Bool,
-        kind if is_type(kind) => return Ok(Ty::Of(type_of(&mut told.table, tree)?)),
+        kind if is_type(kind) => return Ok(Ty::Of(type_of(table, tree)?)),
         _ => Scalar::Void,
     };
-    Ok(Ty::Of(word(&mut told.table.store, scalar)?))
+    Ok(Ty::Of(word(&mut table.store, scalar)?))
 }
 
 /// The type of a whole number without a suffix.
@@ -142,7 +147,7 @@ fn number_type(number: u128) -> Result<Ty> {
 }
 
 /// The type of a path that means this; void where it means no value, as that of a callee.
-fn path_type(told: &mut Told, meaning: Meaning) -> Result<Ty> {
+fn path_type(table: &mut Table, told: &Told, meaning: Meaning) -> Result<Ty> {
     match meaning {
         Meaning::Local(n) => match told.locals.get(n as usize) {
             Some(local) => return Ok(Ty::Of(local.ty)),
@@ -151,11 +156,11 @@ fn path_type(told: &mut Told, meaning: Meaning) -> Result<Ty> {
         Meaning::Decl(n) => match told.decls.find(n) {
             Some(d) if d.kind == Kind::Fn => {}
             Some(d) => return Ok(Ty::Of(d.ty)),
-            None => return Ok(Ty::Of(type_in(&mut told.table, "rt::nomem")?)),
+            None => return Ok(Ty::Of(type_in(table, 0, "rt::nomem")?)),
         },
         Meaning::Rt(_) | Meaning::None => {}
     }
-    Ok(Ty::Of(word(&mut told.table.store, Scalar::Void)?))
+    Ok(Ty::Of(word(&mut table.store, Scalar::Void)?))
 }
 
 /// The type that a suffix names.

@@ -1,14 +1,13 @@
 //! What paths mean.
 
-use crate::kinds::text;
-use crate::table::NOMEM;
 use crate::told::Told;
 use anyhow::Result;
 use hare_tree::{Kind, Meaning, Tree};
 use hare_typed::TypedKids;
+use spelled_types::{NOMEM, Table, text};
 
 /// What a node means where it is a path: the last binding of its name; else a function of the runtime or a declaration.
-pub(crate) fn meaning(told: &mut Told, tree: &Tree) -> Result<Meaning> {
+pub(crate) fn meaning(table: &mut Table, told: &Told, tree: &Tree) -> Result<Meaning> {
     if !matches!(tree.kind, Kind::Path | Kind::TypePath) {
         return Ok(Meaning::None);
     }
@@ -21,7 +20,7 @@ pub(crate) fn meaning(told: &mut Told, tree: &Tree) -> Result<Meaning> {
             return Ok(Meaning::Rt(n));
         }
     }
-    let n = told.table.number(name)?;
+    let n = table.number(name)?;
     if n == NOMEM || told.decls.find(n).is_some() {
         Ok(Meaning::Decl(n))
     } else {

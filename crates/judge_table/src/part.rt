@@ -7,18 +7,31 @@ ghost use Rattle.judge_table.specs.Shaped.{IsShaped};
 use anyhow::{Result, bail, ensure};
 use hare_decl::{law_trees_of_sources, parse_source};
 use hare_tree::{FileTree, Kind, Stop, Tree, kid_sort};
-use std::alloc::Global;
+use std::alloc::{AllocError, Global};
 
 /// A file whose one function has this body, in its second line.
 pub(crate) fn parsed(alloc: Global, expression: &str) -> Result<FileTree>
     ensures { IfOk result (λ f. fits_file f ≡ true) }
 {
+    let source = source(alloc, expression)?;
+    file_in(alloc, source.as_bytes())
+}
+
+/// The text of that file.
+fn source(alloc: Global, expression: &str) -> Result<String, AllocError> {
     let mut source = String::from_str(alloc, "fn f() void =\n")?;
     source.push_str(expression)?;
     source.push(';')?;
+    Ok(source)
+}
+
+/// The file of a text.
+fn file_in(alloc: Global, source: &[u8]) -> Result<FileTree>
+    ensures { IfOk result (λ f. fits_file f ≡ true) }
+{
     ensure!(source.len() < 4_294_967_295, "a line of 4 GiB");
     law_trees_of_sources();
-    match parse_source(alloc, 0, source.as_bytes()) {
+    match parse_source(alloc, 0, source) {
         Ok(file) => Ok(file),
         Err(Stop::Fault(fault)) => {
             let (number, column) = (fault.number, fault.place.column);

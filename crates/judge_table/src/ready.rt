@@ -5,7 +5,7 @@ ghost use Rattle.hare_tree.specs.Node.{kids_of, nodes_of};
 ghost use Rattle.hare_typed.specs.Erased.{erase};
 ghost use Rattle.hare_typed.specs.Order.{tree_from_front};
 ghost use Rattle.hare_defined.specs.Known.{AreDefined};
-ghost use Rattle.rule_judge.specs.Defined.{IsDefinedTy, IsDefinedHint, IsDefinedTree, IsDefinedName};
+ghost use Rattle.rule_judge.specs.Defined.{IsDefined, IsDefinedTy, IsDefinedHint, IsDefinedTree, IsDefinedName};
 ghost use Rattle.rule_judge.specs.Meant.{IsMeant, IsKnownKind};
 ghost use Rattle.rule_judge.specs.Turns.{kind_in};
 ghost use Rattle.rule_mem.specs.Needs.{leads_by};
@@ -14,7 +14,6 @@ ghost use Rattle.hare_judge.specs.Needs.{IsReadyTurn};
 ghost use Rattle.judge_table.specs.Shaped.{IsShaped};
 ghost use Rattle.judge_table.specs.Told.{AreTold, AreYieldsDefined, AreTreesDefined, AreBehindTyped, IsFirstTyped};
 
-use crate::table::NOMEM;
 use anyhow::{Result, bail};
 use hare_defined::Defined;
 use hare_judge::judge_of;
@@ -23,6 +22,7 @@ use hare_tree::{Kind, Meaning};
 use hare_typed::{Typed, TypedKids};
 use hare_types::{Coercion, Ty, TypeId, TypeStore};
 use rule_judge::{DeclTypes, Turn, coerced, kind_at, seen_at, type_at};
+use spelled_types::NOMEM;
 use std::alloc::{AllocError, Global};
 
 /// Whether a node is of a kind that is judged, and what is told of it is what its judge relies on. The node is shaped, and these are its kids.
@@ -277,6 +277,24 @@ fn is_known_kind(
     }
 }
 
+/// Whether a type is in the store, and mentions no name that is not defined.
+pub(crate) fn is_defined_type(alloc: Global, s: &TypeStore, t: TypeId) -> Result<bool, AllocError>
+    ensures { IfOk result (λ b. IsTrue b → IsDefined s.now t) }
+{
+    let mut defined = Defined::new(alloc);
+    defined.is_defined(s, t)
+}
+
+/// Whether the type of a value is defined; what has no type is.
+fn is_defined_value(alloc: Global, s: &TypeStore, a: &Ty) -> Result<bool, AllocError>
+    ensures { IfOk result (λ b. IsTrue b → IsDefinedTy s.now a.now) }
+{
+    match a {
+        Ty::Of(t) => is_defined_type(alloc, s, *t),
+        Ty::Iconst(_) | Ty::Null | Ty::Empty => Ok(true),
+    }
+}
+
 /// What becomes of a value that goes to a type; the types are defined, and it may be assigned to it.
 pub(crate) fn defined_coercion(
     alloc: Global,
@@ -284,8 +302,7 @@ pub(crate) fn defined_coercion(
     a: &Ty,
     t: TypeId,
 ) -> Result<Coercion> {
-    let mut defined = Defined::new(alloc);
-    if !is_defined_ty(&mut defined, s, a)? || !defined.is_defined(s, t)? {
+    if !is_defined_value(alloc, s, a)? || !is_defined_type(alloc, s, t)? {
         bail!("a type that is not defined");
     }
     match coerced(s, a, t) {

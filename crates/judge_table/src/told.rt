@@ -1,9 +1,5 @@
 //! What a line tells of a node.
 
-use crate::definable::is_definable;
-use crate::spelled::type_in;
-use crate::table::{NOMEM, Table};
-use anyhow::{Result, ensure};
 use hare_rules::{Case, Hint, Inside, Labels, Locals, Yields};
 use hare_tree::Meaning;
 use hare_types::{Ty, TypeId};
@@ -23,7 +19,6 @@ pub(crate) struct Mark {
 /// What a line tells of a node, of its kids and of what stands round it.
 #[derive(Drop)]
 pub(crate) struct Told {
-    pub table: Table,
     /// The bindings.
     pub locals: Locals,
     /// Their names.
@@ -40,14 +35,11 @@ pub(crate) struct Told {
 }
 
 impl Told {
-    /// Nothing, but that the refusal of memory is defined, and that the function gives void.
-    pub fn new(alloc: Global) -> Result<Told> {
-        let mut table = Table::new(alloc);
-        let result = type_in(&mut table, "void")?;
-        table.enter(NOMEM, "!void")?;
+    /// Nothing, but that the function gives a type.
+    pub fn new(alloc: Global, given: TypeId) -> Told {
         let inside = Inside {
             own: 0,
-            result,
+            result: given,
             labels: Labels::new(alloc),
             deferred: false,
             body: false,
@@ -58,8 +50,7 @@ impl Told {
             yields: Yields::new(alloc),
             inside,
         };
-        Ok(Told {
-            table,
+        Told {
             locals: Locals::new(alloc),
             names: Vec::new(alloc),
             decls: DeclTypes::new(alloc),
@@ -67,19 +58,6 @@ impl Told {
             marks: Vec::new(alloc),
             values: None,
             part: None,
-        })
-    }
-}
-
-impl Table {
-    /// Declares a type and defines it to be what is spelled.
-    pub fn enter(&mut self, decl: u32, spelling: &str) -> Result<()> {
-        ensure!(self.store.sized(decl).is_none(), "declared before");
-        let is_sized = spelling != "never";
-        self.store.declare(decl, is_sized)?;
-        let t = type_in(self, spelling)?;
-        ensure!(is_definable(&self.store, decl, t), "no such definition");
-        self.store.define(decl, t);
-        Ok(())
+        }
     }
 }

@@ -1,12 +1,11 @@
 //! What a judge answers, as text.
 
-use crate::listing::put_type;
-use crate::table::Table;
+use crate::ready::is_defined_type;
 use anyhow::{Result, bail};
-use hare_defined::Defined;
 use hare_rules::Verdict;
 use hare_tree::Fault;
 use hare_types::{Coercion, Ty};
+use spelled_types::{Table, put_type};
 
 /// A fault with the column at which it stands.
 pub(crate) fn refused(table: &Table, fault: Fault) -> Result<String> {
@@ -45,8 +44,7 @@ fn put_coercion(out: &mut String, table: &Table, coercion: &Coercion) -> Result<
 fn put_value(out: &mut String, table: &Table, ty: Ty) -> Result<()> {
     match ty {
         Ty::Of(t) => {
-            let mut defined = Defined::new(table.alloc);
-            if !defined.is_defined(&table.store, t)? {
+            if !is_defined_type(table.alloc, &table.store, t)? {
                 bail!("a type that is not defined");
             }
             put_type(out, table, t)
