@@ -1,6 +1,6 @@
 //! What a line comes to.
 
-ghost use Rattle.std.specs.Prelude.{IsTrue};
+ghost use Rattle.std.specs.Prelude.{◌≡◌, [], true, IsTrue};
 ghost use Rattle.hare_tree.specs.Shape.{is_shaped};
 ghost use Rattle.hare_rules.specs.Finished.{expression};
 ghost use Rattle.hare_above.specs.Ready.{IsKnown};
@@ -62,13 +62,29 @@ fn checked(alloc: Global, named: &Named, asked: Option<Spot>) -> Result<String>
         bail!("too many declarations");
     };
     let mut s = TypeStore::new(alloc);
-    let decls = known(alloc, &mut s, &named.names, &named.files)?;
+    known_and_judged(alloc, &mut s, named, own, body, asked)
+}
+
+/// The same of the body of the declaration with this number, in a store without types. The types stand in the caller alone, since each function that may drop them
+/// is proved to drop them.
+fn known_and_judged(
+    alloc: Global,
+    s: &mut TypeStore,
+    named: &Named,
+    own: u32,
+    body: &Tree,
+    asked: Option<Spot>,
+) -> Result<String>
+    requires fresh { s.old.declared ≡ [] }
+    requires shaped { is_shaped expression body.now ≡ true }
+{
+    let decls = known(alloc, s, &named.names, &named.files)?;
     let env = Env {
         names: &named.names,
         decls: &decls,
         own,
     };
-    judged(alloc, &mut s, &env, body, asked)
+    judged(alloc, s, &env, body, asked)
 }
 
 /// What is found of a body.

@@ -1,12 +1,15 @@
 //! What is found of a body that is well typed.
 
+ghost use Rattle.std.specs.Prelude.{IsTrue, IfOk};
+ghost use Rattle.rule_judge.specs.Defined.{IsDefined};
+
 use crate::listing::put_type;
 use anyhow::{Context, Result, bail};
 use hare_defined::Defined;
 use hare_tree::Kind;
 use hare_typed::{Typed, TypedKids};
-use hare_types::{Ty, TypeStore};
-use std::alloc::Global;
+use hare_types::{Ty, TypeId, TypeStore};
+use std::alloc::{AllocError, Global};
 
 /// A place in the one file.
 #[derive(Clone, Copy)]
@@ -51,8 +54,7 @@ fn put_node(out: &mut String, alloc: Global, s: &TypeStore, node: &Typed) -> Res
 fn put_value(out: &mut String, alloc: Global, s: &TypeStore, ty: Ty) -> Result<()> {
     match ty {
         Ty::Of(t) => {
-            let mut defined = Defined::new(alloc);
-            if !defined.is_defined(s, t)? {
+            if !is_defined(alloc, s, t)? {
                 bail!("a type that is not defined");
             }
             put_type(out, s, t)
@@ -61,6 +63,14 @@ fn put_value(out: &mut String, alloc: Global, s: &TypeStore, ty: Ty) -> Result<(
         Ty::Null => Ok(out.push_str("null")?),
         Ty::Empty => Ok(out.push_str("[]")?),
     }
+}
+
+/// Whether a type is in the store, and mentions no name that is not defined.
+fn is_defined(alloc: Global, s: &TypeStore, t: TypeId) -> Result<bool, AllocError>
+    ensures { IfOk result (λ b. IsTrue b → IsDefined s.now t) }
+{
+    let mut defined = Defined::new(alloc);
+    defined.is_defined(s, t)
 }
 
 /// The outermost node at a place of a tree.

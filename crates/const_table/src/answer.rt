@@ -22,17 +22,39 @@ pub(crate) fn answer(alloc: Global, line: &str) -> Result<String> {
 
 /// What is found of the program with this file.
 fn found(alloc: Global, source: &str) -> Result<String> {
+    let sources = sources(alloc, source)?;
+    let paths = paths(alloc)?;
+    found_in(alloc, paths, &sources)
+}
+
+/// The one source, and the function without which no program is whole.
+fn sources(alloc: Global, source: &str) -> Result<Sources> {
+    let mut sources = Sources::new(alloc);
+    sources.push(bytes(alloc, source)?)?;
+    Ok(sources)
+}
+
+/// The bytes of that source.
+fn bytes(alloc: Global, source: &str) -> Result<Bytes> {
     let mut bytes = Bytes::new(alloc);
     bytes.extend(source.as_bytes())?;
     bytes.extend(MAIN.as_bytes())?;
-    let mut sources = Sources::new(alloc);
-    sources.push(bytes)?;
+    Ok(bytes)
+}
+
+/// The path of the one file.
+fn paths(alloc: Global) -> Result<Paths> {
     let mut paths = Paths::new(alloc);
     paths.push(Text::copy(alloc, "main.ha")?)?;
+    Ok(paths)
+}
+
+/// What is found of a program of one file. What is checked is given up here alone.
+fn found_in(alloc: Global, paths: Paths, sources: &Sources) -> Result<String> {
     if sources.len() != paths.len() || paths.len() > 1 {
         bail!("more than one file");
     }
-    match program(alloc, paths, &sources) {
+    match program(alloc, paths, sources) {
         Ok(checked) => constant(alloc, &checked.program),
         Err(Stop::Fault(fault)) => refused(alloc, fault),
         Err(Stop::Memory) => bail!("out of memory"),

@@ -16,13 +16,18 @@ use crate::answer::answer;
 use anyhow::Result;
 
 fn main(rt: HostRuntime) -> Result<()> {
-    let alloc = rt.alloc();
-    for line in rt.lines(alloc) {
+    for line in rt.lines(rt.alloc()) {
         let line = line?;
-        match answer(alloc, line.as_str()) {
-            Ok(answer) => println!(rt; "{answer}")?,
-            Err(error) => println!(rt; "{error}: {line}")?,
-        }
+        print(&rt, line.as_str())?;
+    }
+    Ok(())
+}
+
+/// Prints a line with what is found of its program.
+fn print(rt: &HostRuntime, line: &str) -> Result<()> {
+    match answer(rt.alloc(), line) {
+        Ok(answer) => println!(rt; "{answer}")?,
+        Err(error) => println!(rt; "{error}: {line}")?,
     }
     Ok(())
 }

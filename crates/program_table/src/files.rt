@@ -24,26 +24,36 @@ pub(crate) fn files(alloc: Global, line: &str) -> Result<Program> {
         paths: Paths::new(alloc),
         sources: Sources::new(alloc),
     };
+    push_all(alloc, &mut program, line)?;
+    Ok(program)
+}
+
+/// Puts those files behind the others.
+fn push_all(alloc: Global, program: &mut Program, line: &str) -> Result<()> {
     if !line.starts_with('@') {
-        push(alloc, &mut program, "main.ha", line)?;
-        return Ok(program);
+        return push(alloc, program, "main.ha", line);
     }
     for file in line.split('@') {
         if !file.is_empty() {
             let (path, source) = file.split_once(' ').context("a path without a source")?;
-            push(alloc, &mut program, path, source)?;
+            push(alloc, program, path, source)?;
         }
     }
-    Ok(program)
+    Ok(())
 }
 
 /// Puts a file behind the others.
 fn push(alloc: Global, program: &mut Program, path: &str, source: &str) -> Result<()> {
+    program.names.push(String::from_str(alloc, path)?)?;
+    program.paths.push(Text::copy(alloc, path)?)?;
+    program.sources.push(bytes(alloc, source)?)?;
+    Ok(())
+}
+
+/// The bytes of a source.
+fn bytes(alloc: Global, source: &str) -> Result<Bytes> {
     let lines = source.replace(alloc, '$', "\n")?;
     let mut bytes = Bytes::new(alloc);
     bytes.extend(lines.as_bytes())?;
-    program.names.push(String::from_str(alloc, path)?)?;
-    program.paths.push(Text::copy(alloc, path)?)?;
-    program.sources.push(bytes)?;
-    Ok(())
+    Ok(bytes)
 }
