@@ -108,22 +108,62 @@ fn answer_to(
     harec(alloc, words, files, input, out, log, 165, &mut text)
 }
 
-/// The status, the output and the log of a call, apart by bars.
+/// The status, the output and the log of a call, apart by bars. Each of the five functions here makes one thing that the call is given, so that none holds two: a
+/// function is proved to give up what it holds on each way out of it.
 fn outcome(alloc: Global, given: Given) -> Result<String, AllocError> {
     let words = words_of(alloc, given.words)?;
+    outcome_of(alloc, given, words.as_slice())
+}
+
+fn outcome_of(alloc: Global, given: Given, words: &[Text]) -> Result<String, AllocError> {
     let mut files = held(alloc, given.files, given.file_fails)?;
+    outcome_on(alloc, given, words, &mut files)
+}
+
+fn outcome_on(
+    alloc: Global,
+    given: Given,
+    words: &[Text],
+    files: &mut MemFiles,
+) -> Result<String, AllocError>
+    requires { files.old.tally.failed ≡ 0 }
+{
     let mut input = source(alloc, given.input, given.input_fails)?;
+    outcome_with(alloc, given, words, files, &mut input)
+}
+
+fn outcome_with(
+    alloc: Global,
+    given: Given,
+    words: &[Text],
+    files: &mut MemFiles,
+    input: &mut MemSource,
+) -> Result<String, AllocError>
+    requires files { files.old.tally.failed ≡ 0 }
+    requires input { input.old.tally.failed ≡ 0 }
+{
     let mut out = sink(alloc, given.out_fails, given.most.max(1))?;
+    outcome_to(alloc, given, words, files, input, &mut out)
+}
+
+fn outcome_to(
+    alloc: Global,
+    given: Given,
+    words: &[Text],
+    files: &mut MemFiles,
+    input: &mut MemSource,
+    out: &mut MemSink,
+) -> Result<String, AllocError>
+    requires files { files.old.tally.failed ≡ 0 }
+    requires input { input.old.tally.failed ≡ 0 }
+    requires out { out.old.tally.failed ≡ 0 }
+{
     let mut log = sink(alloc, given.log_fails, 5)?;
-    let answer = answer_to(
-        alloc,
-        words.as_slice(),
-        &mut files,
-        &mut input,
-        &mut out,
-        &mut log,
-    );
-    let status = status(&answer);
+    let answer = answer_to(alloc, words, files, input, out, &mut log);
+    told(alloc, status(&answer), out, &log)
+}
+
+fn told(alloc: Global, status: u8, out: &MemSink, log: &MemSink) -> Result<String, AllocError> {
     let out = text_of(out.written());
     let log = text_of(log.written());
     format!(in alloc; "{status}|{out}|{log}")
