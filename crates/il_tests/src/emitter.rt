@@ -10,124 +10,229 @@ use il_emit::emit;
 use std::alloc::{AllocError, Global};
 use std::test::Fail;
 
-/// A program of these functions, with one global.
-fn program_of(alloc: Global, functions: FlatFns) -> Result<FlatProgram, AllocError> {
-    let mut bytes = Bytes::new(alloc);
-    bytes.extend(b"ab\n")?;
-    let mut items = Items::new(alloc);
-    items.push(Item::Bytes(bytes))?;
-    let mut globals = DataList::new(alloc);
-    globals.push(Data {
-        name: Text::copy(alloc, "h.text")?,
-        align: 1,
-        items,
-    })?;
-    Ok(FlatProgram { functions, globals })
+/// A statement that holds no other.
+#[derive(Clone, Copy)]
+enum Plain {
+    /// A temporary, its class, the operation and its operands.
+    Set(u32, Class, Op, Value, Value),
+    Load(u32, LoadKind, Value),
+    /// How many bytes, the value, and where it goes.
+    Store(u32, Value, Value),
+    /// To where, from where, and how many bytes.
+    Move(Value, Value, u64),
+    Leave(u32),
+    Ret(Value),
 }
 
-/// `main`, of three temporaries, such a frame and a word as result.
-fn main_function(alloc: Global, frame: u64, body: Flat) -> Result<FlatFn, AllocError> {
-    Ok(FlatFn {
-        name: Text::copy(alloc, "main")?,
-        params: Classes::new(alloc),
+/// A step of making a body. The statements that are made stand on a pile, until another takes them in.
+#[derive(Clone, Copy)]
+enum Step<'a> {
+    Plain(Plain),
+    /// A temporary, the function and its arguments.
+    Call(Option<u32>, &'a str, &'a [Value]),
+    /// Takes in the last so many.
+    Seq(usize),
+    /// Takes in the last.
+    Loop,
+    /// Takes in the last two.
+    If(Value),
+}
+
+/// A function of so many parameters, which are longs.
+#[derive(Clone, Copy)]
+struct Function<'a> {
+    name: &'a str,
+    params: u32,
+    result: Option<Class>,
+    temps: u32,
+    frame: u64,
+    steps: &'a [Step<'a>],
+}
+
+/// `main`, of three temporaries and a word as result.
+fn main_of<'a>(frame: u64, steps: &'a [Step<'a>]) -> Function<'a> {
+    Function {
+        name: "main",
+        params: 0,
         result: Some(Class::W),
         temps: 3,
         frame,
-        body,
-    })
+        steps,
+    }
 }
 
-/// A program that is `main` alone, without a frame.
-fn program(alloc: Global, body: Flat) -> Result<FlatProgram, AllocError> {
-    let mut functions = FlatFns::new(alloc);
-    functions.push(main_function(alloc, 0, body)?)?;
-    program_of(alloc, functions)
-}
+// ---- programs
 
-fn seq(alloc: Global, a: Flat, b: Flat) -> Result<Flat, AllocError> {
-    let mut list = FlatKids::new(alloc);
-    list.push(a)?;
-    list.push(b)?;
-    Ok(Flat::Seq(list))
-}
-
-fn set(temp: u32, class: Class, op: Op, a: Value, b: Value) -> Flat {
-    Flat::Set {
-        temp,
-        class,
-        op,
-        a,
-        b,
+fn plain_statement(statement: Plain) -> Flat {
+    match statement {
+        Plain::Set(temp, class, op, a, b) => Flat::Set {
+            temp,
+            class,
+            op,
+            a,
+            b,
+        },
+        Plain::Load(temp, how, at) => Flat::Load { temp, how, at },
+        Plain::Store(width, value, at) => Flat::Store { width, value, at },
+        Plain::Move(to, from, bytes) => Flat::Move { to, from, bytes },
+        Plain::Leave(out) => Flat::Leave(out),
+        Plain::Ret(value) => Flat::Ret(Some(value)),
     }
 }
 
 fn call(alloc: Global, temp: Option<u32>, name: &str, list: &[Value]) -> Result<Flat, AllocError> {
+    let name = Text::copy(alloc, name)?;
     let mut args = Values::new(alloc);
     for v in list {
         args.push(*v)?;
     }
-    Ok(Flat::Call {
-        temp,
-        name: Text::copy(alloc, name)?,
-        args,
+    Ok(Flat::Call { temp, name, args })
+}
+
+/// The last so many statements of the pile, one after the other.
+fn seq(alloc: Global, pile: &mut Vec<Flat>, count: usize) -> Result<Flat, Fail> {
+    let first = pile.len().checked_sub(count).ok_or("no statements")?;
+    let mut list = FlatKids::new(alloc);
+    for _ in 0..count {
+        if first < pile.len() {
+            list.push(pile.remove(first))?;
+        }
+    }
+    Ok(Flat::Seq(list))
+}
+
+fn last(alloc: Global, pile: &mut Vec<Flat>) -> Result<FlatBox, Fail> {
+    let last = pile.pop().ok_or("no statement")?;
+    Ok(FlatBox::new(alloc, last)?)
+}
+
+fn branch(alloc: Global, pile: &mut Vec<Flat>, cond: Value) -> Result<Flat, Fail> {
+    let no = last(alloc, pile)?;
+    let yes = last(alloc, pile)?;
+    Ok(Flat::If { cond, yes, no })
+}
+
+/// What a step puts on the pile.
+fn statement(alloc: Global, pile: &mut Vec<Flat>, step: Step) -> Result<Flat, Fail> {
+    match step {
+        Step::Plain(statement) => Ok(plain_statement(statement)),
+        Step::Call(temp, name, args) => Ok(call(alloc, temp, name, args)?),
+        Step::Seq(count) => seq(alloc, pile, count),
+        Step::Loop => Ok(Flat::Loop(last(alloc, pile)?)),
+        Step::If(cond) => branch(alloc, pile, cond),
+    }
+}
+
+fn take(alloc: Global, pile: &mut Vec<Flat>, steps: &[Step]) -> Result<Flat, Fail> {
+    for step in steps {
+        let statement = statement(alloc, pile, *step)?;
+        pile.push(statement)?;
+    }
+    Ok(pile.pop().ok_or("no body")?)
+}
+
+fn body(alloc: Global, steps: &[Step]) -> Result<Flat, Fail> {
+    let mut pile = Vec::new(alloc);
+    take(alloc, &mut pile, steps)
+}
+
+fn longs(alloc: Global, count: u32) -> Result<Classes, AllocError> {
+    let mut classes = Classes::new(alloc);
+    for _ in 0..count {
+        classes.push(Class::L)?;
+    }
+    Ok(classes)
+}
+
+fn function_of(alloc: Global, f: &Function) -> Result<FlatFn, Fail> {
+    let name = Text::copy(alloc, f.name)?;
+    let params = longs(alloc, f.params)?;
+    let body = body(alloc, f.steps)?;
+    Ok(FlatFn {
+        name,
+        params,
+        result: f.result,
+        temps: f.temps,
+        frame: f.frame,
+        body,
     })
 }
 
-fn branch(alloc: Global, cond: Value, yes: Flat, no: Flat) -> Result<Flat, AllocError> {
-    Ok(Flat::If {
-        cond,
-        yes: FlatBox::new(alloc, yes)?,
-        no: FlatBox::new(alloc, no)?,
-    })
+fn put_all(alloc: Global, functions: &mut FlatFns, list: &[Function]) -> Result<(), Fail> {
+    for f in list {
+        functions.push(function_of(alloc, f)?)?;
+    }
+    Ok(())
 }
 
-/// The text of a program, if it is well formed and its module valid.
-fn text_of(alloc: Global, p: &FlatProgram) -> Result<Option<Bytes>, AllocError> {
+fn text(alloc: Global) -> Result<Items<Item>, AllocError> {
+    let mut bytes = Bytes::new(alloc);
+    bytes.extend(b"ab\n")?;
+    let mut items = Items::new(alloc);
+    items.push(Item::Bytes(bytes))?;
+    Ok(items)
+}
+
+/// One global.
+fn globals(alloc: Global) -> Result<DataList, AllocError> {
+    let name = Text::copy(alloc, "h.text")?;
+    let items = text(alloc)?;
+    let mut globals = DataList::new(alloc);
+    globals.push(Data {
+        name,
+        align: 1,
+        items,
+    })?;
+    Ok(globals)
+}
+
+/// A program of these functions, with one global.
+fn program_of(alloc: Global, list: &[Function]) -> Result<FlatProgram, Fail> {
+    let mut p = FlatProgram {
+        functions: FlatFns::new(alloc),
+        globals: globals(alloc)?,
+    };
+    put_all(alloc, &mut p.functions, list)?;
+    Ok(p)
+}
+
+/// Whether a program has this text; or with no text, whether it is not well formed or its module not valid.
+fn prints(alloc: Global, p: &FlatProgram, wanted: Option<&str>) -> Result<bool, AllocError> {
     if !well_formed(p) {
-        return Ok(None);
+        return Ok(wanted.is_none());
     }
     let m = emit(alloc, p)?;
     if !valid(&m) {
-        return Ok(None);
+        return Ok(wanted.is_none());
     }
-    Ok(Some(print(alloc, &m)?))
+    let text = print(alloc, &m)?;
+    Ok(wanted.is_some_and(|wanted| wanted.as_bytes() == text.bytes()))
 }
 
-/// The text of a program with this body.
-fn text(alloc: Global, body: Flat) -> Result<Option<Bytes>, AllocError> {
-    let p = program(alloc, body)?;
-    text_of(alloc, &p)
+fn has_text(alloc: Global, list: &[Function], wanted: Option<&str>) -> Result<bool, Fail> {
+    let p = program_of(alloc, list)?;
+    Ok(prints(alloc, &p, wanted)?)
 }
+
+// ---- bodies
 
 /// Counts from 0 to the number of arguments, writes two bytes each time, and leaves the Loop.
-#[test]
-fn a_counter(rt: HostRuntime) -> Result<(), Fail> {
-    let alloc = rt.alloc();
-    let zero = Value::Number(0);
-    let test = seq(
-        alloc,
-        call(alloc, Some(1), "rt.nargs", &[])?,
-        set(2, Class::W, Op::Cultl, Value::Temp(0), Value::Temp(1)),
-    )?;
-    let puts = call(
-        alloc,
-        None,
-        "rt.puts",
-        &[Value::Symbol(0, 1), Value::Number(2)],
-    )?;
-    let step = set(0, Class::L, Op::Add, Value::Temp(0), Value::Number(1));
-    let turn = branch(
-        alloc,
-        Value::Temp(2),
-        seq(alloc, puts, step)?,
-        Flat::Leave(1),
-    )?;
-    let body = Flat::Loop(FlatBox::new(alloc, seq(alloc, test, turn)?)?);
-    let start = set(0, Class::L, Op::Copy, zero, zero);
-    let text = text(alloc, seq(alloc, start, body)?)?.ok_or("not valid")?;
-    assert_eq!(rt;
-        text.bytes(),
-        b"data $h.text = align 1 { b \"ab\" 10 }
+const COUNTER: [Step; 12] = [
+    Step::Plain(Plain::Set(0, Class::L, Op::Copy, Value::Number(0), Value::Number(0))),
+    Step::Call(Some(1), "rt.nargs", &[]),
+    Step::Plain(Plain::Set(2, Class::W, Op::Cultl, Value::Temp(0), Value::Temp(1))),
+    Step::Seq(2),
+    Step::Call(None, "rt.puts", &[Value::Symbol(0, 1), Value::Number(2)]),
+    Step::Plain(Plain::Set(0, Class::L, Op::Add, Value::Temp(0), Value::Number(1))),
+    Step::Seq(2),
+    Step::Plain(Plain::Leave(1)),
+    Step::If(Value::Temp(2)),
+    Step::Seq(2),
+    Step::Loop,
+    Step::Seq(2),
+];
+
+const COUNTER_TEXT: &str = "data $h.text = align 1 { b \"ab\" 10 }
 export function w $main() {
 @b0
 \t%t0 =l copy 0
@@ -144,32 +249,18 @@ export function w $main() {
 @b1
 \tret 0
 }
-"
-            .as_slice()
-    );
-    Ok(())
-}
+";
 
 /// A branch within a branch, of which one side returns.
-#[test]
-fn nested_branches(rt: HostRuntime) -> Result<(), Fail> {
-    let alloc = rt.alloc();
-    let inner = branch(
-        alloc,
-        Value::Temp(0),
-        Flat::Ret(Some(Value::Temp(0))),
-        set(1, Class::W, Op::Neg, Value::Temp(0), Value::Number(0)),
-    )?;
-    let outer = branch(
-        alloc,
-        Value::Number(1),
-        inner,
-        set(0, Class::W, Op::Copy, Value::Number(7), Value::Number(0)),
-    )?;
-    let text = text(alloc, outer)?.ok_or("not valid")?;
-    assert_eq!(rt;
-        text.bytes(),
-        b"data $h.text = align 1 { b \"ab\" 10 }
+const BRANCHES: [Step; 5] = [
+    Step::Plain(Plain::Ret(Value::Temp(0))),
+    Step::Plain(Plain::Set(1, Class::W, Op::Neg, Value::Temp(0), Value::Number(0))),
+    Step::If(Value::Temp(0)),
+    Step::Plain(Plain::Set(0, Class::W, Op::Copy, Value::Number(7), Value::Number(0))),
+    Step::If(Value::Number(1)),
+];
+
+const BRANCHES_TEXT: &str = "data $h.text = align 1 { b \"ab\" 10 }
 export function w $main() {
 @b0
 \tjnz 1, @b2, @b3
@@ -185,22 +276,12 @@ export function w $main() {
 @b1
 \tret 0
 }
-"
-            .as_slice()
-    );
-    Ok(())
-}
+";
 
 /// A Leave out of two Loops.
-#[test]
-fn a_leave_out_of_two_loops(rt: HostRuntime) -> Result<(), Fail> {
-    let alloc = rt.alloc();
-    let inner = Flat::Loop(FlatBox::new(alloc, Flat::Leave(1))?);
-    let outer = Flat::Loop(FlatBox::new(alloc, inner)?);
-    let text = text(alloc, outer)?.ok_or("not valid")?;
-    assert_eq!(rt;
-        text.bytes(),
-        b"data $h.text = align 1 { b \"ab\" 10 }
+const LEAVE: [Step; 3] = [Step::Plain(Plain::Leave(1)), Step::Loop, Step::Loop];
+
+const LEAVE_TEXT: &str = "data $h.text = align 1 { b \"ab\" 10 }
 export function w $main() {
 @b0
 \tjmp @b2
@@ -211,42 +292,30 @@ export function w $main() {
 @b1
 \tret 0
 }
-"
-            .as_slice()
-    );
-    Ok(())
-}
+";
 
-/// A call of five arguments, each a place of the frame or of a global.
-#[test]
-fn a_call_of_computed_addresses(rt: HostRuntime) -> Result<(), Fail> {
-    let alloc = rt.alloc();
-    let mut params = Classes::new(alloc);
-    for _ in 0..5 {
-        params.push(Class::L)?;
-    }
-    let args = [
+/// A call of five arguments, each a place of the frame or of a global, and the function that is called.
+const CALL: [Step; 1] = [Step::Call(
+    None,
+    "h.f",
+    &[
         Value::Frame(0),
         Value::Symbol(0, 1),
         Value::Frame(8),
         Value::Symbol(0, 2),
         Value::Symbol(0, 3),
-    ];
-    let mut functions = FlatFns::new(alloc);
-    functions.push(main_function(alloc, 16, call(alloc, None, "h.f", &args)?)?)?;
-    functions.push(FlatFn {
-        name: Text::copy(alloc, "h.f")?,
-        params,
-        result: None,
-        temps: 5,
-        frame: 0,
-        body: set(0, Class::L, Op::Copy, Value::Temp(4), Value::Number(0)),
-    })?;
-    let p = program_of(alloc, functions)?;
-    let text = text_of(alloc, &p)?.ok_or("not valid")?;
-    assert_eq!(rt;
-        text.bytes(),
-        b"data $h.text = align 1 { b \"ab\" 10 }
+    ],
+)];
+
+const CALLED: [Step; 1] = [Step::Plain(Plain::Set(
+    0,
+    Class::L,
+    Op::Copy,
+    Value::Temp(4),
+    Value::Number(0),
+))];
+
+const CALL_TEXT: &str = "data $h.text = align 1 { b \"ab\" 10 }
 export function w $main() {
 @b0
 \t%f =l alloc16 16
@@ -263,56 +332,28 @@ function $h.f(l %t0, l %t1, l %t2, l %t3, l %t4) {
 \t%t0 =l copy %t4
 \tret
 }
-"
-            .as_slice()
-    );
-    Ok(())
-}
+";
 
-/// A symbol with an offset as each operand that may be an address.
-fn symbols(alloc: Global) -> Result<Flat, AllocError> {
-    let at = Value::Symbol(0, 1);
-    let mut list = FlatKids::new(alloc);
-    list.push(set(0, Class::L, Op::Sub, at, Value::Symbol(0, 2)))?;
-    list.push(Flat::Load {
-        temp: 1,
-        how: LoadKind::Ub,
-        at,
-    })?;
-    list.push(Flat::Store {
-        width: 8,
-        value: at,
-        at: Value::Symbol(0, 2),
-    })?;
-    list.push(Flat::Move {
-        to: at,
-        from: Value::Symbol(0, 2),
-        bytes: 1,
-    })?;
-    list.push(call(alloc, None, "rt.puts", &[at, Value::Number(2)])?)?;
-    list.push(Flat::Ret(Some(Value::Symbol(0, 3))))?;
-    Ok(Flat::Seq(list))
-}
+/// A symbol with an offset as each operand that may be an address: each is computed in front of its statement.
+const SYMBOLS: [Step; 7] = [
+    Step::Plain(Plain::Set(
+        0,
+        Class::L,
+        Op::Sub,
+        Value::Symbol(0, 1),
+        Value::Symbol(0, 2),
+    )),
+    Step::Plain(Plain::Load(1, LoadKind::Ub, Value::Symbol(0, 1))),
+    Step::Plain(Plain::Store(8, Value::Symbol(0, 1), Value::Symbol(0, 2))),
+    Step::Plain(Plain::Move(Value::Symbol(0, 1), Value::Symbol(0, 2), 1)),
+    Step::Call(None, "rt.puts", &[Value::Symbol(0, 1), Value::Number(2)]),
+    Step::Plain(Plain::Ret(Value::Symbol(0, 3))),
+    Step::Seq(6),
+];
 
-/// Each of these operands is computed in front of its statement.
-#[test]
-fn symbols_with_offsets(rt: HostRuntime) -> Result<(), Fail> {
-    let alloc = rt.alloc();
-    let mut functions = FlatFns::new(alloc);
-    functions.push(FlatFn {
-        name: Text::copy(alloc, "h.f")?,
-        params: Classes::new(alloc),
-        result: Some(Class::L),
-        temps: 2,
-        frame: 0,
-        body: symbols(alloc)?,
-    })?;
-    functions.push(main_function(alloc, 0, call(alloc, None, "h.f", &[])?)?)?;
-    let p = program_of(alloc, functions)?;
-    let text = text_of(alloc, &p)?.ok_or("not valid")?;
-    assert_eq!(rt;
-        text.bytes(),
-        b"data $h.text = align 1 { b \"ab\" 10 }
+const CALL_ALONE: [Step; 1] = [Step::Call(None, "h.f", &[])];
+
+const SYMBOLS_TEXT: &str = "data $h.text = align 1 { b \"ab\" 10 }
 function l $h.f() {
 @b0
 \t%a0 =l add $h.text, 1
@@ -336,19 +377,48 @@ export function w $main() {
 \tcall $h.f()
 \tret 0
 }
-"
-            .as_slice()
-    );
+";
+
+/// A condition is a word, and so it is no symbol.
+const CONDITION: [Step; 3] = [Step::Seq(0), Step::Seq(0), Step::If(Value::Symbol(0, 1))];
+
+// ---- tests
+
+#[test]
+fn programs_of_main_alone(rt: HostRuntime) -> Result<(), Fail> {
+    let rows: [(&[Step], Option<&str>); 4] = [
+        (COUNTER.as_slice(), Some(COUNTER_TEXT)),
+        (BRANCHES.as_slice(), Some(BRANCHES_TEXT)),
+        (LEAVE.as_slice(), Some(LEAVE_TEXT)),
+        (CONDITION.as_slice(), None),
+    ];
+    for (steps, wanted) in rows {
+        assert!(rt; has_text(rt.alloc(), &[main_of(0, steps)], wanted)?);
+    }
     Ok(())
 }
 
-/// A condition is a word, and so it is no symbol.
 #[test]
-fn no_symbol_as_a_condition(rt: HostRuntime) -> Result<(), Fail> {
-    let alloc = rt.alloc();
-    let nothing = Flat::Seq(FlatKids::new(alloc));
-    let other = Flat::Seq(FlatKids::new(alloc));
-    let text = text(alloc, branch(alloc, Value::Symbol(0, 1), nothing, other)?)?;
-    assert!(rt; text.is_none());
+fn programs_of_two_functions(rt: HostRuntime) -> Result<(), Fail> {
+    let called = Function {
+        name: "h.f",
+        params: 5,
+        result: None,
+        temps: 5,
+        frame: 0,
+        steps: CALLED.as_slice(),
+    };
+    let symbols = Function {
+        name: "h.f",
+        params: 0,
+        result: Some(Class::L),
+        temps: 2,
+        frame: 0,
+        steps: SYMBOLS.as_slice(),
+    };
+    let call = [main_of(16, CALL.as_slice()), called];
+    let alone = [symbols, main_of(0, CALL_ALONE.as_slice())];
+    assert!(rt; has_text(rt.alloc(), &call, Some(CALL_TEXT))?);
+    assert!(rt; has_text(rt.alloc(), &alone, Some(SYMBOLS_TEXT))?);
     Ok(())
 }

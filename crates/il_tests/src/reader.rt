@@ -59,25 +59,32 @@ export function $h() {
 }
 ";
 
-fn first(m: &Module) -> Option<&IlItem> {
-    m.items.get(0)
+/// A block of an item that is a function.
+fn block_at(m: &Module, item: usize, i: usize) -> Option<&Block> {
+    match m.items.get(item) {
+        Some(IlItem::Function { blocks, .. }) => blocks.get(i),
+        _ => None,
+    }
 }
 
-fn block(item: &IlItem, i: usize) -> Option<&Block> {
-    match item {
-        IlItem::Function { blocks, .. } => blocks.get(i),
-        IlItem::Data { .. } => None,
-    }
+/// The module of a printed text.
+fn module_of(alloc: Global, text: &[u8]) -> Result<Module, Fail> {
+    let read = read_printed(alloc, text)?;
+    Ok(read.ok_or(Missing)?)
+}
+
+/// Whether a text is that of a module.
+fn is_read(alloc: Global, text: &[u8]) -> Result<bool, AllocError> {
+    let read = read_printed(alloc, text)?;
+    Ok(read.is_some())
 }
 
 #[test]
 fn reads_the_swap(rt: HostRuntime) -> Result<(), Fail> {
-    let alloc = rt.alloc();
-    let module = read_printed(alloc, SWAP.as_bytes())?.ok_or(Missing)?;
+    let module = module_of(rt.alloc(), SWAP.as_bytes())?;
     assert!(rt; valid(&module));
     assert_eq!(rt; module.items.len(), 1);
-    let item = first(&module).ok_or(Missing)?;
-    let turn = block(item, 1).ok_or(Missing)?;
+    let turn = block_at(&module, 0, 1).ok_or(Missing)?;
     assert_eq!(rt; turn.label.bytes(), b"loop".as_slice());
     assert_eq!(rt; turn.phis.len(), 3);
     assert_eq!(rt; turn.insts.len(), 2);
@@ -91,12 +98,17 @@ fn reads_the_swap(rt: HostRuntime) -> Result<(), Fail> {
     Ok(())
 }
 
+/// What a text is when it is read and printed again.
+fn again(alloc: Global, text: &[u8]) -> Result<Bytes, Fail> {
+    let module = module_of(alloc, text)?;
+    Ok(print(alloc, &module)?)
+}
+
 #[test]
 fn reads_every_construct(rt: HostRuntime) -> Result<(), Fail> {
-    let alloc = rt.alloc();
-    let module = read_printed(alloc, ALL.as_bytes())?.ok_or(Missing)?;
+    let module = module_of(rt.alloc(), ALL.as_bytes())?;
     assert_eq!(rt; module.items.len(), 5);
-    let again = print(alloc, &module)?;
+    let again = again(rt.alloc(), ALL.as_bytes())?;
     assert_eq!(rt; again.bytes(), ALL.as_bytes());
     Ok(())
 }
@@ -104,12 +116,11 @@ fn reads_every_construct(rt: HostRuntime) -> Result<(), Fail> {
 /// What is cut off is no text of a module, except where nothing is left.
 #[test]
 fn reads_no_cut_text(rt: HostRuntime) -> Result<(), Fail> {
-    let alloc = rt.alloc();
     let text = SWAP.as_bytes();
-    assert!(rt; read_printed(alloc, b"")?.is_some());
+    assert!(rt; is_read(rt.alloc(), b"")?);
     for len in 1..text.len() {
         let (front, _) = text.split_at(len);
-        assert!(rt; read_printed(alloc, front)?.is_none(), "at {len}");
+        assert!(rt; !is_read(rt.alloc(), front)?, "at {len}");
     }
     Ok(())
 }
@@ -117,7 +128,6 @@ fn reads_no_cut_text(rt: HostRuntime) -> Result<(), Fail> {
 /// The language has these, and `print` writes them otherwise.
 #[test]
 fn reads_nothing_that_is_not_printed(rt: HostRuntime) -> Result<(), Fail> {
-    let alloc = rt.alloc();
     let texts = [
         "# a comment\ndata $a = align 1 { }\n",
         "data $a = { }\n",
@@ -136,69 +146,111 @@ fn reads_nothing_that_is_not_printed(rt: HostRuntime) -> Result<(), Fail> {
         "function $f() {\n@s\n\t%a =w copy 1\n\t%b =w phi @s 1\n\tret\n}\n",
     ];
     for text in texts {
-        assert!(rt; read_printed(alloc, text.as_bytes())?.is_none(), "{text}");
+        assert!(rt; !is_read(rt.alloc(), text.as_bytes())?, "{text}");
     }
     Ok(())
 }
 
-/// An exported item with a string and a number.
-fn data(alloc: Global) -> Result<IlItem, AllocError> {
+/// A string and a number.
+fn values(alloc: Global) -> Result<PartValues, AllocError> {
     let mut string = Bytes::new(alloc);
     string.extend(b"ab")?;
     let mut values = PartValues::new(alloc);
     values.push(PartValue::Str(string))?;
     values.push(PartValue::Number(255))?;
+    Ok(values)
+}
+
+/// An exported item with a string and a number.
+fn data(alloc: Global) -> Result<IlItem, AllocError> {
+    let name = Text::copy(alloc, "d")?;
+    let values = values(alloc)?;
     let mut parts = Parts::new(alloc);
     parts.push(Part::Values { width: 1, values })?;
     Ok(IlItem::Data {
         export: true,
-        name: Text::copy(alloc, "d")?,
+        name,
         align: 8,
         parts,
     })
 }
 
-/// A function that stores the greatest number of 64 bits.
-fn store(alloc: Global) -> Result<IlItem, AllocError> {
-    let mut insts = Insts::new(alloc);
-    insts.push(Inst::Set {
-        temp: Text::copy(alloc, "t")?,
+fn set_greatest(alloc: Global) -> Result<Inst, AllocError> {
+    let temp = Text::copy(alloc, "t")?;
+    Ok(Inst::Set {
+        temp,
         class: Class::L,
         op: IlOp::Copy,
         a: IlValue::Number(u64::MAX),
         b: None,
-    })?;
-    insts.push(Inst::Store {
+    })
+}
+
+fn store_temp(alloc: Global) -> Result<Inst, AllocError> {
+    let value = Text::copy(alloc, "t")?;
+    let at = Text::copy(alloc, "d")?;
+    Ok(Inst::Store {
         width: 8,
-        value: IlValue::Temp(Text::copy(alloc, "t")?),
-        at: IlValue::Symbol(Text::copy(alloc, "d")?),
-    })?;
+        value: IlValue::Temp(value),
+        at: IlValue::Symbol(at),
+    })
+}
+
+fn insts(alloc: Global) -> Result<Insts, AllocError> {
+    let mut insts = Insts::new(alloc);
+    insts.push(set_greatest(alloc)?)?;
+    insts.push(store_temp(alloc)?)?;
+    Ok(insts)
+}
+
+fn blocks(alloc: Global) -> Result<Blocks, AllocError> {
+    let label = Text::copy(alloc, "s")?;
+    let insts = insts(alloc)?;
     let mut blocks = Blocks::new(alloc);
     blocks.push(Block {
-        label: Text::copy(alloc, "s")?,
+        label,
         phis: Phis::new(alloc),
         insts,
         jump: Jump::Ret(None),
     })?;
+    Ok(blocks)
+}
+
+/// A function that stores the greatest number of 64 bits.
+fn store(alloc: Global) -> Result<IlItem, AllocError> {
+    let name = Text::copy(alloc, "f")?;
+    let blocks = blocks(alloc)?;
     Ok(IlItem::Function {
         export: false,
         class: None,
-        name: Text::copy(alloc, "f")?,
+        name,
         params: IlParams::new(alloc),
         blocks,
     })
 }
 
-#[test]
-fn reads_what_was_built(rt: HostRuntime) -> Result<(), Fail> {
-    let alloc = rt.alloc();
+fn built(alloc: Global) -> Result<Module, AllocError> {
     let mut items: IlItems = Items::new(alloc);
     items.push(data(alloc)?)?;
     items.push(store(alloc)?)?;
-    let text = print(alloc, &Module { items })?;
-    let read = read_printed(alloc, text.bytes())?.ok_or(Missing)?;
-    let function = read.items.get(1).ok_or(Missing)?;
-    let block = block(function, 0).ok_or(Missing)?;
+    Ok(Module { items })
+}
+
+fn text_of_built(alloc: Global) -> Result<Bytes, AllocError> {
+    let m = built(alloc)?;
+    print(alloc, &m)
+}
+
+/// What was built, when it is printed and read.
+fn read_again(alloc: Global) -> Result<Module, Fail> {
+    let text = text_of_built(alloc)?;
+    module_of(alloc, text.bytes())
+}
+
+#[test]
+fn reads_what_was_built(rt: HostRuntime) -> Result<(), Fail> {
+    let read = read_again(rt.alloc())?;
+    let block = block_at(&read, 1, 0).ok_or(Missing)?;
     match block.insts.get(0) {
         Some(
             Inst::Set {
