@@ -7,22 +7,42 @@ mod meanings;
 mod program;
 
 use crate::meanings::resolved;
-use crate::program::program_of;
+use crate::program::{Program, program_of};
 use anyhow::{Context, Result};
-use std::env;
+use std::env::{self, Args};
 
 const USAGE: &str = "usage: names_bench FILES FUNCTIONS ROUNDS";
 
 fn main(rt: HostRuntime) -> Result<()> {
-    let mut words = env::args(&rt)?;
+    let asked = asked_of(&rt)?;
+    let program = program_of(rt.alloc(), asked.files, asked.functions)?;
+    measure(&rt, &program, asked.rounds)
+}
+
+/// What the command line asks for.
+#[derive(Clone, Copy)]
+struct Asked {
+    files: u32,
+    functions: u32,
+    rounds: u32,
+}
+
+/// What the command line asks for.
+fn asked_of(rt: &HostRuntime) -> Result<Asked> {
+    let mut words = env::args(rt)?;
+    read(&mut words)
+}
+
+/// The same, by the words of the command line.
+fn read(words: &mut Args) -> Result<Asked> {
     let files = number(words.nth(1))?;
     let functions = number(words.next())?;
     let rounds = number(words.next())?;
-    let program = program_of(rt.alloc(), files, functions)?;
-    let bytes = program.bytes;
-    let found = resolved(rt.alloc(), &program, rounds)?;
-    println!(rt; "files {files}, bytes {bytes}, paths that mean something {found}")?;
-    Ok(())
+    Ok(Asked {
+        files,
+        functions,
+        rounds,
+    })
 }
 
 /// A number of the command line.
@@ -31,4 +51,12 @@ fn number(word: Option<String>) -> Result<u32> {
     word.as_str()
         .parse::<u32>()
         .context("each of the three is a number below 2^32")
+}
+
+/// Resolves the names of a program so many times, and prints how many paths mean something.
+fn measure(rt: &HostRuntime, program: &Program, rounds: u32) -> Result<()> {
+    let found = resolved(rt.alloc(), program, rounds)?;
+    let (files, bytes) = (program.paths.len(), program.bytes);
+    println!(rt; "files {files}, bytes {bytes}, paths that mean something {found}")?;
+    Ok(())
 }

@@ -15,22 +15,30 @@ pub(crate) struct Program {
 
 /// A program of so many files of so many functions.
 pub(crate) fn program_of(alloc: Global, files: u32, functions: u32) -> Result<Program> {
-    let mut paths = Vec::new(alloc);
-    let mut sources = Sources::new(alloc);
-    let mut bytes: usize = 0;
+    let mut program = Program {
+        paths: Vec::new(alloc),
+        sources: Sources::new(alloc),
+        bytes: 0,
+    };
     for file in 0..files {
-        let path = format!(in alloc; "f_{file}.ha")?;
-        let path = Text::copy(alloc, path.as_str())?;
-        paths.push(path)?;
-        let source = source(alloc, file, functions)?;
-        bytes = bytes.saturating_add(source.bytes().len());
-        sources.push(source)?;
+        add(alloc, &mut program, file, functions)?;
     }
-    Ok(Program {
-        paths,
-        sources,
-        bytes,
-    })
+    Ok(program)
+}
+
+/// Adds a file of so many functions.
+fn add(alloc: Global, program: &mut Program, file: u32, functions: u32) -> Result<()> {
+    program.paths.push(path(alloc, file)?)?;
+    let source = source(alloc, file, functions)?;
+    program.bytes = program.bytes.saturating_add(source.bytes().len());
+    program.sources.push(source)?;
+    Ok(())
+}
+
+/// The path of one of the files.
+fn path(alloc: Global, file: u32) -> Result<Text> {
+    let path = format!(in alloc; "f_{file}.ha")?;
+    Ok(Text::copy(alloc, path.as_str())?)
 }
 
 /// The source of one of the files.

@@ -11,21 +11,37 @@ use crate::program::Program;
 use anyhow::Result;
 
 fn main(rt: HostRuntime) -> Result<()> {
-    let alloc = rt.alloc();
-    let mut program = Program::new(alloc);
-    for line in rt.lines(alloc) {
+    let mut program = Program::new(rt.alloc());
+    print_all(&rt, &mut program)
+}
+
+/// Takes in the lines, and prints what each program comes to.
+fn print_all(rt: &HostRuntime, program: &mut Program) -> Result<()> {
+    for line in rt.lines(rt.alloc()) {
         let line = line?;
-        match line.split_once(' ') {
-            Some((path, source)) => {
-                println!(rt; "{line}")?;
-                program.add(alloc, path, source)?;
-            }
-            None => {
-                let answer = answer(alloc, &program)?;
-                println!(rt; "{answer}")?;
-                program = Program::new(alloc);
-            }
+        take(rt, program, line.as_str())?;
+    }
+    Ok(())
+}
+
+/// Adds the file of a line to a program; or prints what the program comes to, and begins another.
+fn take(rt: &HostRuntime, program: &mut Program, line: &str) -> Result<()> {
+    match line.split_once(' ') {
+        Some((path, source)) => {
+            println!(rt; "{line}")?;
+            program.add(rt.alloc(), path, source)?;
+        }
+        None => {
+            print(rt, program)?;
+            *program = Program::new(rt.alloc());
         }
     }
+    Ok(())
+}
+
+/// Prints what a program comes to.
+fn print(rt: &HostRuntime, program: &Program) -> Result<()> {
+    let answer = answer(rt.alloc(), program)?;
+    println!(rt; "{answer}")?;
     Ok(())
 }
