@@ -5,7 +5,7 @@ use crate::listing::put_tree;
 use anyhow::{Result, bail, ensure};
 use hare_lex::tokens;
 use hare_parse::{Parsed, parse_expr, parse_type};
-use hare_tree::{Fault, Stop, Tokens};
+use hare_tree::{Fault, Stop, Tokens, Tree};
 use std::alloc::Global;
 
 /// The expression with which a text begins, and of how many tokens it is, as `1: (Path a)`; or its first fault.
@@ -34,12 +34,15 @@ fn tokens_of(alloc: Global, source: &[u8]) -> Result<Tokens> {
 /// What a text begins with, and of how many tokens that is.
 fn counted(alloc: Global, parsed: Result<Parsed, Stop<Fault>>) -> Result<String> {
     match parsed {
-        Ok(Parsed { tree, next }) => {
-            let mut out = format!(in alloc; "{next}: ")?;
-            put_tree(&mut out, &tree)?;
-            Ok(out)
-        }
+        Ok(Parsed { tree, next }) => listed(alloc, &tree, next),
         Err(Stop::Fault(fault)) => told(alloc, fault),
         Err(Stop::Memory) => bail!("out of memory"),
     }
+}
+
+/// A tree, and of how many tokens it is.
+fn listed(alloc: Global, tree: &Tree, tokens: usize) -> Result<String> {
+    let mut out = format!(in alloc; "{tokens}: ")?;
+    put_tree(&mut out, tree)?;
+    Ok(out)
 }

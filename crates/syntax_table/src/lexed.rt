@@ -4,7 +4,7 @@ use crate::answer::{FILE, told};
 use crate::listing::{put_quoted, put_suffix};
 use anyhow::{Context, Result, bail, ensure};
 use hare_lex::{LexStop, tokens};
-use hare_tree::{Token, TokenKind, Tokens};
+use hare_tree::{Fault, Token, TokenKind, Tokens};
 use std::alloc::Global;
 
 /// The tokens of a text, each with its place, its kind and its text, as `1:1 Keyword "let"`; of a text with a break those before it, and
@@ -13,12 +13,15 @@ pub(crate) fn lexed(alloc: Global, source: &[u8]) -> Result<String> {
     ensure!(source.len() < 4_294_967_295, "a file of 4 GiB");
     match tokens(alloc, FILE, source) {
         Ok(found) => listed(alloc, &found),
-        Err(LexStop::Fault { fault, kept }) => {
-            let (before, fault) = (listed(alloc, &kept)?, told(alloc, fault)?);
-            Ok(format!(in alloc; "{before} {fault}")?)
-        }
+        Err(LexStop::Fault { fault, kept }) => broken(alloc, &kept, fault),
         Err(LexStop::Memory) => bail!("out of memory"),
     }
+}
+
+/// The tokens before a break, and the fault.
+fn broken(alloc: Global, kept: &Tokens, fault: Fault) -> Result<String> {
+    let (before, fault) = (listed(alloc, kept)?, told(alloc, fault)?);
+    Ok(format!(in alloc; "{before} {fault}")?)
 }
 
 /// The tokens, a blank between any two.

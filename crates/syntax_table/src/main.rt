@@ -28,15 +28,27 @@ use std::{env, fs};
 
 fn main(rt: HostRuntime) -> Result<()> {
     for path in env::args(&rt)?.skip(1) {
-        let source = fs::read(&rt, path.as_str()).context(format_args!("reading {path}"))?;
-        let answer = answer(rt.alloc(), source.as_slice())?;
-        println!(rt; "{path}: {answer}")?;
+        print_file(&rt, path.as_str())?;
     }
     for row in rt.lines(rt.alloc()) {
         let row = row?;
-        let source = text_of(rt.alloc(), row.as_str())?;
-        let answer = answer(rt.alloc(), source.as_slice())?;
-        println!(rt; "{row}\n  {answer}")?;
+        print_row(&rt, row.as_str())?;
     }
+    Ok(())
+}
+
+/// Prints what a file comes to.
+fn print_file(rt: &HostRuntime, path: &str) -> Result<()> {
+    let source = fs::read(rt, path).context(format_args!("reading {path}"))?;
+    let answer = answer(rt.alloc(), source.as_slice())?;
+    println!(rt; "{path}: {answer}")?;
+    Ok(())
+}
+
+/// Prints a line, and what it comes to.
+fn print_row(rt: &HostRuntime, row: &str) -> Result<()> {
+    let source = text_of(rt.alloc(), row)?;
+    let answer = answer(rt.alloc(), source.as_slice())?;
+    println!(rt; "{row}\n  {answer}")?;
     Ok(())
 }

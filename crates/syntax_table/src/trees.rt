@@ -8,43 +8,59 @@ use std::alloc::Global;
 /// The file of some trees, side by side: of those of imports in front, and of the declarations behind them. Texts have no blanks and no
 /// parentheses here, and numbers no values.
 pub(crate) fn file_in(alloc: Global, text: &str) -> Result<FileTree> {
-    let text = text.replace(alloc, '(', " ( ")?.replace(alloc, ')', " ) ")?;
     let mut file = FileTree {
         file: FILE,
         uses: Kids::new(alloc),
         decls: Kids::new(alloc),
     };
+    let text = text.replace(alloc, '(', " ( ")?.replace(alloc, ')', " ) ")?;
+    put_all(alloc, &mut file, text.as_str())?;
+    Ok(file)
+}
+
+/// Puts the trees of a text with a blank between any two words into a file.
+fn put_all(alloc: Global, file: &mut FileTree, text: &str) -> Result<()> {
     let mut open = Vec::new(alloc);
     let mut begins = false;
     for word in text.split_whitespace() {
-        match word {
-            "(" => begins = true,
-            ")" => {
-                let tree = open.pop().context("a parenthesis too many")?;
-                put(&mut file, &mut open, tree)?;
-            }
-            "None" => put(&mut file, &mut open, tree_of(alloc, Kind::None))?,
-            _ if begins => {
-                open.push(tree_of(alloc, kind_in(word)?))?;
-                begins = false;
-            }
-            _ => {
-                let mut tree = open.pop().context("a text without a tree")?;
-                tree.text = Word::copy(alloc, word.as_bytes())?;
-                open.push(tree)?;
-            }
+        put_word(alloc, file, &mut open, begins, word)?;
+        begins = match word {
+            "(" => true,
+            ")" | "None" => begins,
+            _ => false,
+        };
+    }
+    Ok(())
+}
+
+/// Takes in a word; the trees that are not at their end are open. A word behind a parenthesis begins a tree.
+fn put_word(
+    alloc: Global,
+    file: &mut FileTree,
+    open: &mut Vec<Tree>,
+    begins: bool,
+    word: &str,
+) -> Result<()> {
+    match word {
+        "(" => {}
+        ")" => {
+            let tree = open.pop().context("a parenthesis too many")?;
+            put(file, open, tree)?;
+        }
+        "None" => put(file, open, tree_of(alloc, Kind::None))?,
+        _ if begins => open.push(tree_of(alloc, kind_in(word)?))?,
+        _ => {
+            let tree = open.last_mut().context("a text without a tree")?;
+            tree.text = Word::copy(alloc, word.as_bytes())?;
         }
     }
-    Ok(file)
+    Ok(())
 }
 
 /// Puts a tree behind the kids of the last open one, or where none is open into the file.
 fn put(file: &mut FileTree, open: &mut Vec<Tree>, tree: Tree) -> Result<()> {
-    match open.pop() {
-        Some(mut parent) => {
-            parent.kids.push(tree)?;
-            open.push(parent)?;
-        }
+    match open.last_mut() {
+        Some(parent) => parent.kids.push(tree)?,
         None if tree.kind == Kind::UseNames && file.decls.len() == 0 => file.uses.push(tree)?,
         None => file.decls.push(tree)?,
     }
