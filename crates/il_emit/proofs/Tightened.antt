@@ -1,6 +1,6 @@
 -- With tight functions a module does what it did, and keeps the shape of its program.
-use Rattle.std.proofs.Common.{◌≡◌, ℕ, zero, suc, ◌+◌, ◌≤◌, Bool, true, false, cond, not, ◌&&◌, ◌||◌, ◌⊎◌, inl, inr, List, [], ◌∷◌, ◌++◌, map, length, Option, None, Some, refl, sym, ap, ◌∙◌, subst, arith}
-use Rattle.std.specs.Prelude.{count_by, sum_by, if◌then◌else◌}
+use Rattle.std.proofs.Common.{◌≡◌, ℕ, ◌+◌, ◌≤◌, Bool, true, false, cond, not, ◌&&◌, inl, inr, List, [], ◌∷◌, ◌++◌, map, length, Option, None, Some, refl, sym, ap, ◌∙◌, subst, arith}
+use Rattle.std.specs.Prelude.{sum_by, if◌then◌else◌}
 use Rattle.std.specs.List.{list_all}
 use Rattle.std.proofs.lemmas.Bool.{and_parts}
 use Rattle.std.proofs.lemmas.List.Sums.{sum_by-append}
@@ -18,7 +18,6 @@ use Rattle.il_code.specs.declared.types.Jump.{Jump}
 use Rattle.il_code.specs.declared.types.Jump.TheVariants.{Fall, Jmp, Jnz, Ret, Hlt}
 use Rattle.il_code.specs.declared.types.Module.{Module}
 use Rattle.il_code.specs.Rules.{has_label, targets_pass}
-use Rattle.il_code.specs.Run.{machine}
 use Rattle.il_code.specs.Shaped.{falls}
 use Rattle.il_code.specs.State as il
 use Rattle.il_code.specs.State.{Done}
@@ -28,10 +27,10 @@ use Rattle.il_tight.proofs.Passing.{into_pass, kept_pass, label_kept}
 use Rattle.il_tight.proofs.Runs.{NoPhis, functions_same, machine_same, runs_alike}
 use Rattle.il_tight.proofs.Twins.{Plain, SameCode, no_code, one_code, IsWhole}
 use Rattle.il_tight.proofs.Valid.{values_same}
-use Rattle.il_emit.specs.Emitted.{data_item, function_item, blocks_of, module_of}
+use Rattle.il_emit.specs.Emitted.{data_item, function_item, module_of}
 use Rattle.il_emit.specs.Lines.{Line, Label, Do, End, function_lines}
-use Rattle.il_emit.specs.Reaches.{SameWorld, Reaches, Arrives, Overflows}
-use Rattle.il_emit.specs.Shape.{backward_jumps, calls_of, is_call_of, is_alloc, has_fixed_size, allocs_are_placed, takes, full_cost, IsShapedAs, AreAlike, outlined, HasShape}
+use Rattle.il_emit.specs.Reaches.{SameWorld, Reaches}
+use Rattle.il_emit.specs.Shape.{backward_jumps, calls_of, is_call_of, is_alloc, has_fixed_size, allocs_are_placed, takes, IsShapedAs, AreAlike, outlined, HasShape}
 use Rattle.il_emit.proofs.Counts.{both_true, all_append, all_more, sum_cons}
 use Rattle.il_emit.proofs.Places.{line_blocks, function_blocks}
 use Rattle.il_emit.proofs.Shapes.{plain_sized}

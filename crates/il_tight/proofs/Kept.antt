@@ -66,8 +66,8 @@ module _ (stays : List ℕ → Bool) where
   whole_joined l ps is (Ret v) b bs e = refl
   whole_joined l ps is Hlt b bs e = refl
 
-  with_kept : (out : List Block) (a : Block) (bs : List Block) → with_blocks (out ++ a ∷ []) (begins stays bs) bs ≡ out ++ whole stays a bs ∷
-      kept stays bs
+  with_kept : (out : List Block) (a : Block) (bs : List Block) →
+      with_blocks (out ++ a ∷ []) (begins stays bs) bs ≡ out ++ whole stays a bs ∷ kept stays bs
   with_kept out a [] = ap (λ (x : Block). out ++ x ∷ []) (sym (whole_last a.label a.phis a.insts a.jump))
   with_kept out a (b ∷ bs) = pick (stays b.label) refl (with_kept (out ++ a ∷ []) b bs)
       (with_kept out (if falls a.jump then joined a b else a) bs)
@@ -93,7 +93,8 @@ all_kept : (bs : List Block) → kept (λ (l : List ℕ). true) bs ≡ bs
 all_kept [] = refl
 all_kept (b ∷ []) = ap (λ (x : Block). x ∷ []) (whole_last (λ (l : List ℕ). true) b.label b.phis b.insts b.jump)
 all_kept (b ∷ c ∷ bs) =
-    ap (λ (x : Block). x ∷ kept (λ (l : List ℕ). true) (c ∷ bs)) (whole_alone (λ (l : List ℕ). true) b.label b.phis b.insts b.jump c bs refl)
+    ap (λ (x : Block). x ∷ kept (λ (l : List ℕ). true) (c ∷ bs))
+    (whole_alone (λ (l : List ℕ). true) b.label b.phis b.insts b.jump c bs refl)
     ∙ ap (λ (xs : List Block). b ∷ xs) (all_kept (c ∷ bs))
 
 passed : (j : Jump) (bs : List Block) → is_closed (λ (l : List ℕ). true) (falls j) bs ≡ true →

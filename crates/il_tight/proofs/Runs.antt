@@ -138,7 +138,8 @@ module _ (m : Module) where
       ∙ ap (λ (xs : List ℕ). xs ++ flat_map (part_bytes (tight_module m)) ps) (part_same p)
       ∙ ap (λ (xs : List ℕ). part_bytes m p ++ xs) (parts_same ps) ∙ sym (flat_map-cons (part_bytes m) p ps)
 
-  item_same : (memory : Memory) (at at' : ℕ) (ps : List Part) → at' ≡ at → with_item (tight_module m) memory at' ps ≡ with_item m memory at ps
+  item_same : (memory : Memory) (at at' : ℕ) (ps : List Part) → at' ≡ at →
+      with_item (tight_module m) memory at' ps ≡ with_item m memory at ps
   item_same memory at at' ps e =
       ap (λ (n : ℕ). with_item (tight_module m) memory n ps) e
       ∙ ap (λ (bytes : List ℕ). map_range (write memory at bytes) at (data_size ps)) (parts_same ps)
@@ -210,7 +211,13 @@ module _ (m : Module) (p : NoPhis m.items) where
       w (Some (Fault fault.Hlt))
     where
       none_whole : Unit {0} → IsWhole (λ (l : List ℕ). true) [] []
-      none_whole u = record { opens = λ l l'. nowhere_lands (λ (x : List ℕ). true) l l'; first = refl; closed = refl; plain = tt; cost = refl }
+      none_whole u = record {
+        opens = λ l l'. nowhere_lands (λ (x : List ℕ). true) l l';
+        first = refl;
+        closed = refl;
+        plain = tt;
+        cost = refl;
+      }
   started_same w _ _ (one_code f stays is) =
       subst (λ (n : ℕ). SameRun (started w (Some f)) (called_first (record f { blocks = kept stays f.blocks }) w
       (if nat_lt stack_size n then Some StackFull else None))) (sym is.cost)

@@ -31,9 +31,6 @@ use Rattle.il_code.specs.Step.{Step, Goes, Ends, Kind, Takes, Loads, Computes, k
 use Rattle.il_tight.specs.Tight.{first_stays, is_closed}
 use Rattle.il_tight.proofs.Kept.{into_insts, into_jump, whole, kept}
 
-abbrev pub no_phis : Block → Type 0
-no_phis b = b.phis ≡ []
-
 -- no block has a phi
 abbrev pub Plain : List Block → Type 0
 Plain [] = Unit {0}
@@ -229,9 +226,6 @@ with_world s w = record s { world = w }
 
 abbrev pub with_bytes : Pair → Memory → Pair
 with_bytes s memory = let w = s.world in record s { world = record w { memory = memory } }
-
-still_good : (s s' : Pair) → GoodPair s → GoodTwin s'.active → AllGood s'.waiting → GoodPair s'
-still_good s s' g a w = record { active = a; waiting = w }
 
 computed_same : (s : Pair) (temp : List ℕ) (class : Class) (o : Outcome) → GoodPair s →
     SameStep (computed (loose_state s) temp class o) (computed (tight_state s) temp class o)
@@ -503,11 +497,21 @@ module _ (m m' : Module) (addresses : (name : List ℕ) → address m' name ≡ 
     where
       loose_at : Place → State
       loose_at place =
-          record { active = record (loose_frame s.active) { place = place }; waiting = map loose_waiting s.waiting; world = s.world; done = s.done }
+          record {
+            active = record (loose_frame s.active) { place = place };
+            waiting = map loose_waiting s.waiting;
+            world = s.world;
+            done = s.done;
+          }
 
       tight_at : Place → State
       tight_at place =
-          record { active = record (tight_frame s.active) { place = place }; waiting = map tight_waiting s.waiting; world = s.world; done = s.done }
+          record {
+            active = record (tight_frame s.active) { place = place };
+            waiting = map tight_waiting s.waiting;
+            world = s.world;
+            done = s.done;
+          }
 
       -- the place in the tight function, by whether the block begins
       place : Bool → List Phi → Place

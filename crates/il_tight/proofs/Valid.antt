@@ -57,11 +57,9 @@ or_assoc true b c = refl
 or_assoc false b c = refl
 
 module _ (stays : List ℕ → Bool) (name : List ℕ) (class : Class) where
-  sets_insts : List Inst → Bool
-  sets_insts is = list_any (inst_sets name class) is
-
   block_plain : (b : Block) → b.phis ≡ [] → block_sets name class b ≡ list_any (inst_sets name class) b.insts
-  block_plain b e = ap (λ (ps : List Phi). list_any (λ (p : Phi). rule.sets name class p.temp p.class) ps || list_any (inst_sets name class) b.insts) e
+  block_plain b e =
+      ap (λ (ps : List Phi). list_any (λ (p : Phi). rule.sets name class p.temp p.class) ps || list_any (inst_sets name class) b.insts) e
 
   block_whole : (b : Block) (bs : List Block) → b.phis ≡ [] → block_sets name class (whole stays b bs) ≡
       (list_any (inst_sets name class) b.insts || list_any (inst_sets name class) (into_insts stays (falls b.jump) bs))
@@ -254,7 +252,8 @@ module _ (items items' : List IlItem) (named : (s : List ℕ) → has_named item
       let s2 = and_parts (list_all is_phi b.phis) _ s1.1 in
       let s3 = and_parts (list_all is_inst b.insts) (is_jump b.jump) s2.1 in
       let k1 = and_parts (targets_pass (has_label bs) b.jump) _ k in
-      let c1 = and_parts (list_all (λ (p : Phi). has_one_class params bs p.temp p.class) b.phis) (list_all (inst_has_one_class params bs) b.insts) c in
+      let c1 = and_parts (list_all (λ (p : Phi). has_one_class params bs p.temp p.class) b.phis)
+      (list_all (inst_has_one_class params bs) b.insts) c in
       let r1 = and_parts (list_all (rule.phi_is_right items params bs) b.phis) _ r in
       let r2 = and_parts (list_all (inst_is_right items params bs) b.insts) (jump_is_right items params bs class b.jump) r1.1 in
       both_true _ _ (both_true _ _ s1.0 o)
@@ -379,7 +378,8 @@ module _ (items items' : List IlItem) (named : (s : List ℕ) → has_named item
 
       params_same : (ps : List IlParam) → list_all (λ (p : IlParam). has_one_class params bs p.name p.class) ps ≡ true →
           list_all (λ (p : IlParam). has_one_class params ks p.name p.class) ps ≡ true
-      params_same ps h = all_more _ _ (λ (p : IlParam) e. class_right items items' named functions params bs ks set_same p.name p.class ∙ e) ps h
+      params_same ps h =
+          all_more _ _ (λ (p : IlParam) e. class_right items items' named functions params bs ks set_same p.name p.class ∙ e) ps h
 
 -- ---- a module
 
@@ -424,7 +424,8 @@ module _ (items items' : List IlItem) (named : (s : List ℕ) → has_named item
       let f2 = and_parts (start_is_no_target bs) (phis_are_placed bs) f1.1 in
       let r1 = and_parts (is_main_right name class params) _ g.right in
       let r2 = and_parts (each_has_one_class params bs) (list_all (block_is_right items params bs class) bs) r1.1 in
-      let r3 = and_parts (list_all (λ (p : IlParam). has_one_class params bs p.name p.class) params) (list_all (block_has_one_class params bs) bs) r2.0 in
+      let r3 = and_parts (list_all (λ (p : IlParam). has_one_class params bs p.name p.class) params)
+      (list_all (block_has_one_class params bs) bs) r2.0 in
       let k = kept_right items items' named functions params class first rest p (record {
         shaped = a3.0;
         ended = a3.1;
