@@ -108,8 +108,8 @@ fn answer_to(
     harec(alloc, words, files, input, out, log, 165, &mut text)
 }
 
-/// The status, the output and the log of a call, apart by bars. Each of the five functions here makes one thing that the call is given, so that none holds two: a
-/// function is proved to give up what it holds on each way out of it.
+/// The status, the output and the log of a call, apart by bars. Each of the five functions here makes one thing that the call is given, so
+/// that none holds two: a function is proved to give up what it holds on each way out of it.
 fn outcome(alloc: Global, given: Given) -> Result<String, AllocError> {
     let words = words_of(alloc, given.words)?;
     outcome_of(alloc, given, words.as_slice())
