@@ -62,11 +62,11 @@ fn written(alloc: Global, t: &Tree, types: &TypedKids, void: TypeId) -> Result<T
 fn four(alloc: Global, a: Typed, b: Typed, c: Typed, d: Typed) -> Result<TypedKids, AllocError>
     ensures { IfOk result (λ xs. xs ≡ a ∷ b ∷ c ∷ d ∷ []) }
 {
-    let mut kids = TypedKids::new(alloc);
-    kids.push(alloc, a)?;
-    kids.push(alloc, b)?;
-    kids.push(alloc, c)?;
-    kids.push(alloc, d)?;
+    let mut kids = TypedKids::with_room(alloc, 4);
+    kids.push(a)?;
+    kids.push(b)?;
+    kids.push(c)?;
+    kids.push(d)?;
     Ok(kids)
 }
 

@@ -35,12 +35,12 @@ pub fn copy_tree(alloc: Global, t: &Typed) -> Result<Typed, AllocError>
 pub fn copy_kids(alloc: Global, ts: &TypedKids) -> Result<TypedKids, AllocError>
     ensures { IfOk result (λ c. c ≡ ts.now) }
 {
-    let mut copy = TypedKids::new(alloc);
+    let mut copy = TypedKids::with_room(alloc, ts.len());
     for i in 0..ts.len() {
         let Some(t) = ts.get(i) else {
             unreachable!();
         };
-        copy.push(alloc, copy_tree(alloc, t)?)?;
+        copy.push(copy_tree(alloc, t)?)?;
     }
     Ok(copy)
 }

@@ -2,13 +2,13 @@
 use Rattle.std.proofs.Common.{◌≡◌, ℕ, List, [], length, map, Option, Some, ap, sym, ◌∙◌, subst}
 use Rattle.std.specs.Prelude.{slice_get, option_map}
 use Rattle.std.proofs.Math.Seq.{take-length}
+use Rattle.std.proofs.lemmas.List.{length-map}
 use Rattle.std.proofs.lemmas.Option.{slice_get-map}
 use Rattle.hare_tree.specs.declared.place.Place.{Place}
 use Rattle.hare_tree.specs.declared.token.Meaning.{Meaning}
 use Rattle.hare_tree.specs.declared.tree.FileTree.{FileTree}
 use Rattle.hare_types.specs.Store.{Store, definition_of}
 use Rattle.hare_typed.specs.Typed.{TypedNode}
-use Rattle.hare_typed.proofs.CoatLemmas.{length-map}
 use Rattle.hare_rules.specs.Words.{nomem}
 use Rattle.hare_whole.specs.Listing.{Listing, IsDeclared, DefinesNomem}
 use Rattle.hare_whole.specs.Turns.{Stage, AreAllSteps, Value, nowhere, start}
@@ -35,7 +35,7 @@ use Rattle.hare_declarations.proofs.SlotLemmas.{slots-empty}
 -- there are as many places as declarations
 pub places-count : (files : List FileTree) (ps : List DeclPlace) → ArePlaces files ps → length ps ≡ length (decls files)
 places-count files ps h =
-    sym (length-map (decl_at files) ps) ∙ ap length h ∙ length-map Some (decls files)
+    sym (length-map ps (decl_at files)) ∙ ap length h ∙ length-map (decls files) Some
 
 pub begins : AreLaws → (p : Listing) (s : Store) (a : State) (count : ℕ) → IsDeclared s p → DefinesNomem s →
     ((d t : ℕ) → definition_of s d ≡ Some t → d ≡ nomem) → count ≡ length p.decls → IsBeginning count a → IsStanding p s a []
@@ -65,7 +65,7 @@ parts-judged : (p : Listing) (s : Store) (g : Stage) (vs : List (ℕ × TypedNod
     AreSlots p g vs os →
     map Some qs ≡ os → AreJudgedTo p s g vs → AreParts p g vs qs
 parts-judged p s g vs qs os h e all = record {
-  count = sym (length-map Some qs) ∙ ap length e ∙ h.count;
+  count = sym (length-map qs Some) ∙ ap length e ∙ h.count;
   types = λ n q i. (own n q i).types;
   at = λ n q i. (own n q i).at;
   value = λ n q v i f. (own n q i).value v f;

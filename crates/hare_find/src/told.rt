@@ -40,8 +40,8 @@ fn told_each(alloc: Global, void: TypeId, gs: &[Handed]) -> Result<Yields, Alloc
     Ok(told)
 }
 
-/// What was yielded to a node, as its judge is told of it. The store gets the type void. The condition is that each type among what was
-/// yielded is in the store, and mentions no name that is not defined. Fails for want of memory alone.
+/// What was yielded to a node, as its judge is told of it. The store gets the type void, where something was. The condition is that each
+/// type among what was yielded is in the store, and mentions no name that is not defined. Fails for want of memory alone.
 pub fn told_yields(alloc: Global, s: &mut TypeStore, gs: &[Handed]) -> Result<Yields, AllocError>
     requires { AreDefinedGivens s.old (map given_of gs.now) }
     ensures told { IfOk result (λ ys. (f : Store) → IsLater s.new f → AreToldYields f (map given_of gs.now) ys) }
@@ -49,6 +49,9 @@ pub fn told_yields(alloc: Global, s: &mut TypeStore, gs: &[Handed]) -> Result<Yi
     ensures grown { IsGrown s.old s.new }
 {
     let _law = s.declarations();
+    if gs.is_empty() {
+        return Ok(Yields::new(alloc));
+    }
     let void = word(s, Scalar::Void)?;
     told_each(alloc, void, gs)
 }

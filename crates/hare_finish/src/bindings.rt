@@ -55,8 +55,8 @@ fn binding(
         return Err(AllocError);
     }
     let mut kids = front(alloc, void, decl)?;
-    kids.push(alloc, type_part(alloc, void, kid(decl, 2), types)?)?;
-    kids.push(alloc, value)?;
+    kids.push(type_part(alloc, void, kid(decl, 2), types)?)?;
+    kids.push(value)?;
     kids.settle(3, coerce);
     node(alloc, void, 0, decl, kids)
 }

@@ -45,8 +45,8 @@ pub(crate) fn finish_function(
     let params = finish_params(alloc, void, first, kid(decl, 2), types)?;
     let result = last_type(alloc, types)?;
     let mut kids = front(alloc, void, decl)?;
-    kids.push(alloc, params)?;
-    kids.push(alloc, result)?;
-    kids.push(alloc, body)?;
+    kids.push(params)?;
+    kids.push(result)?;
+    kids.push(body)?;
     node(alloc, void, 0, decl, kids)
 }

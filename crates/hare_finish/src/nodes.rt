@@ -72,8 +72,8 @@ pub(crate) fn plain(alloc: Global, void: TypeId, t: &Tree) -> Result<Typed, Allo
 pub(crate) fn front(alloc: Global, void: TypeId, decl: &Tree) -> Result<TypedKids, AllocError>
     ensures { IfOk result (IsFront void decl.now) }
 {
-    let mut kids = TypedKids::new(alloc);
-    kids.push(alloc, plain(alloc, void, kid(decl, 0))?)?;
-    kids.push(alloc, plain(alloc, void, kid(decl, 1))?)?;
+    let mut kids = TypedKids::with_room(alloc, decl.kids.len());
+    kids.push(plain(alloc, void, kid(decl, 0))?)?;
+    kids.push(plain(alloc, void, kid(decl, 1))?)?;
     Ok(kids)
 }

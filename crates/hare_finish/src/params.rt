@@ -44,8 +44,8 @@ fn param(
 ) -> Result<Typed, AllocError>
     ensures { IfOk result (λ x. x ≡ marked (head t.now) (void_mark void number) (typed_nodes (unnumbered written.now ∷ []))) }
 {
-    let mut kids = TypedKids::new(alloc);
-    kids.push(alloc, copy_unnumbered(alloc, written)?)?;
+    let mut kids = TypedKids::with_room(alloc, 1);
+    kids.push(copy_unnumbered(alloc, written)?)?;
     node(alloc, void, number, t, kids)
 }
 
@@ -84,7 +84,7 @@ fn parts(
     ensures trees { IfOk result (λ xs. xs ≡ parts_as void first kids.now types.now) }
     ensures shaped { IfOk result (λ xs. ArePartsShaped kids.now) }
 {
-    let mut trees = TypedKids::new(alloc);
+    let mut trees = TypedKids::with_room(alloc, kids.len());
     let mut taken = 0;
     for i in 0..kids.len() {
         let Some(t) = kids.get(i) else {
@@ -92,7 +92,7 @@ fn parts(
         };
         let number = sum(first, taken)?;
         let tree = part(alloc, void, number, t, types, taken)?;
-        trees.push(alloc, tree)?;
+        trees.push(tree)?;
         taken = sum(taken, taken_by(t.kind))?;
     }
     if types.len() != taken as usize + 1 {

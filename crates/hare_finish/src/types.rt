@@ -29,6 +29,6 @@ pub(crate) fn finish_type(
         return Err(AllocError);
     };
     let mut kids = front(alloc, void, decl)?;
-    kids.push(alloc, copy_unnumbered(alloc, written)?)?;
+    kids.push(copy_unnumbered(alloc, written)?)?;
     node(alloc, void, 0, decl, kids)
 }

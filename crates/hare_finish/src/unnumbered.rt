@@ -36,12 +36,12 @@ pub(crate) fn copy_unnumbered(alloc: Global, t: &Typed) -> Result<Typed, AllocEr
 fn copy_each(alloc: Global, ts: &TypedKids) -> Result<TypedKids, AllocError>
     ensures { IfOk result (λ xs. xs ≡ map spec.unnumbered ts.now) }
 {
-    let mut kids = TypedKids::new(alloc);
+    let mut kids = TypedKids::with_room(alloc, ts.len());
     for i in 0..ts.len() {
         let Some(t) = ts.get(i) else {
             unreachable!();
         };
-        kids.push(alloc, copy_unnumbered(alloc, t)?)?;
+        kids.push(copy_unnumbered(alloc, t)?)?;
     }
     Ok(kids)
 }

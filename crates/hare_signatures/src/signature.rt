@@ -78,11 +78,11 @@ pub fn judge_types(
         own,
     };
     let written = written_types(alloc, decl)?;
-    let mut types = TypedKids::new(alloc);
+    let mut types = TypedKids::with_room(alloc, written.len());
     for i in 0..written.len() {
         let Written { bound, tree } = written[i];
         let typed = judge_type(&env, s, bound, tree)?;
-        types.push(alloc, typed)?;
+        types.push(typed)?;
     }
     Ok(types)
 }

@@ -1,5 +1,5 @@
 -- What contracts see of a typed tree: what the untyped tree says of each node, what checking found of it, and its kids, without addresses.
-use Rattle.std.specs.Prelude.{◌≡◌, ℕ, ◌+◌, ◌≤◌, suc, List, [], ◌∷◌, map, refl}
+use Rattle.std.specs.Prelude.{◌≡◌, ℕ, ◌+◌, ◌≤◌, suc, List, [], ◌∷◌, refl}
 use Rattle.std.specs.Coded.{Coded}
 use Rattle.std.proofs.Common.{arith}
 use base.Stored.{Gv, gnil, gcons}
@@ -52,9 +52,9 @@ abbrev mutual
   sizes_of typed_none = 0
   sizes_of (typed_more t ts) = suc (size_of t) + sizes_of ts
 
-pub most_le-sizes_of : {B : Type 0} (f : B → TypedNode) (bs : List B) → most (λ b. size_of (f b) + 1) bs ≤ sizes_of (typed_nodes (map f bs))
-most_le-sizes_of f [] = omega arith
-most_le-sizes_of f (b ∷ bs) = omega (arith, most_le-sizes_of f bs)
+pub most_le-sizes_of : (ts : List TypedNode) → most (λ t. size_of t + 1) ts ≤ sizes_of (typed_nodes ts)
+most_le-sizes_of [] = omega arith
+most_le-sizes_of (t ∷ ts) = omega (arith, most_le-sizes_of ts)
 
 -- ---- codes, by which the checker compares trees
 

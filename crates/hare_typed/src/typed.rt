@@ -15,11 +15,11 @@ use std::marker::Model;
 #[derive(Drop)]
 #[cycle(typed)]
 pub struct TypedKids {
-    trees: Vec<Box<Typed>>,
+    trees: Vec<Typed>,
 }
 
 impl Model for TypedKids {
-    ghost use Rattle.std.specs.Prelude.{List, map};
+    ghost use Rattle.std.specs.Prelude.{List};
     ghost use Rattle.std.specs.Coded.{coded_list, codes};
     ghost use Rattle.hare_tree.specs.contracts.kind.Kind as k;
     ghost use Rattle.hare_tree.specs.contracts.place.Place as p;
@@ -35,13 +35,13 @@ impl Model for TypedKids {
     ghost coded = { coded_list (typed_code (Prim.hlevel (codes, k.the_row.coded, p.the_row.coded, s.the_row.coded))
         (Prim.hlevel (codes, t.the_row.coded, c.the_row.coded, m.the_row.coded, v.the_row.coded))) };
 
-    ghost view = { λ a. map (λ b. b.value) a.trees.items };
+    ghost view = { λ a. a.trees.items };
 
     ghost size = { λ ts. sizes_of (typed_nodes ts) };
 
     ghost use Rattle.std.proofs.Common.{arith};
 
-    ghost size_decreases = { λ a h. Prim.omega (arith, most_le-sizes_of (λ b. b.value) a.trees.items) };
+    ghost size_decreases = { λ a h. Prim.omega (arith, most_le-sizes_of a.trees.items) };
 }
 
 /// A tree with what checking found of each of its nodes.
@@ -115,13 +115,22 @@ impl TypedKids {
         }
     }
 
+    /// No trees, with room for so many where there is memory for it: putting these takes no more then.
+    pub fn with_room(alloc: Global, count: usize) -> TypedKids
+        ensures { result ≡ [] }
+    {
+        match Vec::with_capacity(alloc, count) {
+            Ok(trees) => TypedKids { trees },
+            Err(_) => TypedKids::new(alloc),
+        }
+    }
+
     /// Puts a tree at the end. Nothing changes where memory is short; the tree is dropped then.
-    pub fn push(&mut self, alloc: Global, t: Typed) -> Result<(), AllocError>
+    pub fn push(&mut self, t: Typed) -> Result<(), AllocError>
         ensures ok { OnOk result (self.new ≡ self.old ++ t ∷ []) }
         ensures err { OnErr result (self.new ≡ self.old) }
     {
-        let boxed = Box::new(alloc, t)?;
-        self.trees.push(boxed)?;
+        self.trees.push(t)?;
         Ok(())
     }
 
@@ -137,9 +146,6 @@ impl TypedKids {
         ensures none { IfNone result (length self.now ≤ i) }
         ensures found { IfSome result (λ t. slice_get self.now i ≡ Some t.now) }
     {
-        match self.trees.get(i) {
-            Some(t) => Some(t),
-            None => None,
-        }
+        self.trees.get(i)
     }
 }

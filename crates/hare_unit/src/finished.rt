@@ -42,7 +42,7 @@ pub(crate) fn finish_all(
     let mut defined = Defined::new(alloc);
     let mut parts = reversed(alloc, parts)?;
     let mut bodies = reversed(alloc, bodies)?;
-    let mut finished = TypedKids::new(alloc);
+    let mut finished = TypedKids::with_room(alloc, places.len());
     for i in 0..places.len() {
         let Ok(number) = u32::try_from(i) else {
             return Err(AllocError);
@@ -55,7 +55,7 @@ pub(crate) fn finish_all(
         };
         let body = body_of(decl, &mut bodies)?;
         let tree = finish_declaration(alloc, s, &mut defined, decl, &types, value, body)?;
-        finished.push(alloc, tree)?;
+        finished.push(tree)?;
     }
     if !parts.is_empty() || !bodies.is_empty() {
         return Err(AllocError);

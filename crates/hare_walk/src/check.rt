@@ -115,7 +115,7 @@ fn judge_kids<W: Walk>(
     ensures grown { IsGrown s.old s.new }
 {
     let number = label_number(counts.nodes, node.kind, kids)?;
-    let mut done = TypedKids::new(alloc);
+    let mut done = TypedKids::with_room(alloc, kids.len());
     for i in 0..kids.len() {
         let Some(kid) = kids.get(i) else {
             unreachable!();
@@ -126,9 +126,14 @@ fn judge_kids<W: Walk>(
             number,
         };
         w.enter(s, node, &done, kids, kid, at)?;
-        let x = judge_tree(alloc, s, w, kid, counts)?;
-        w.leave();
-        done.push(alloc, x)?;
+        // A `?` would copy the tree once more.
+        match judge_tree(alloc, s, w, kid, counts) {
+            Ok(x) => {
+                w.leave();
+                done.push(x)?;
+            }
+            Err(stop) => return Err(stop),
+        }
     }
     Ok(done)
 }

@@ -82,7 +82,7 @@ fn judge_kids(
 {
     law_bytes_follow_definitions();
     let _law = s.declarations();
-    let mut done = TypedKids::new(env.alloc);
+    let mut done = TypedKids::with_room(env.alloc, kids.len());
     for i in 0..kids.len() {
         let Some(kid) = kids.get(i) else {
             unreachable!();
@@ -91,7 +91,7 @@ fn judge_kids(
         let judged = judge_tree(env, s, kid, role_of_kid(node.kind, i), count);
         let _still = s.declarations();
         let x = judged?;
-        done.push(env.alloc, x)?;
+        done.push(x)?;
     }
     Ok(done)
 }

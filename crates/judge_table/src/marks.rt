@@ -58,7 +58,7 @@ pub(crate) fn typed_kids(
         };
         let x = typed(table, told, kid)?;
         let x = folded(table, told, kind, x)?;
-        done.push(alloc, x)?;
+        done.push(x)?;
     }
     Ok(done)
 }

@@ -41,7 +41,7 @@ fn node(alloc: Global, kind: Kind, ty: &Ty, kids: TypedKids) -> Typed {
 fn over(alloc: Global, kind: Kind, ty: &Ty) -> Result<Typed, AllocError> {
     let path = node(alloc, Kind::Path, ty, TypedKids::new(alloc));
     let mut kids = TypedKids::new(alloc);
-    kids.push(alloc, path)?;
+    kids.push(path)?;
     Ok(node(alloc, kind, &Ty::Empty, kids))
 }
 

@@ -18,8 +18,8 @@ loop-i-init c =
     record {
       finished =
           none-finished c.args.s.now (decls c.args.files.now) c.args.parts c.args.bodies c.in_ok-parts.parts c.in_ok-bodies.bodies
-          c.new-finished.result (sym (ap reverse parts ∙ reverse-reverse c.args.parts))
-          (sym (ap reverse bodies ∙ reverse-reverse c.args.bodies)) c.new-finished.ensures;
+          c.with_room-finished.result (sym (ap reverse parts ∙ reverse-reverse c.args.parts))
+          (sym (ap reverse bodies ∙ reverse-reverse c.args.bodies)) c.with_room-finished.ensures;
       defined = subst (λ xs. AreDefined c.args.s.now xs) (sym c.new-defined.ensures) (λ t k. absurd (Contains-none t k));
       grown = grown-refl c.args.s.now;
       sound = c.declarations-law.ensures.sound;

@@ -56,8 +56,8 @@ judge_kids-returns-clause-ok g t c l k =
     sym (c.loop-i.invariant.rest l k)
     ∙ each_end (w l) a (head c.args.node.now) (map bare c.loop-i.done) c.args.kids.now c.loop-i.i (g.W.Walk.flow c.loop-i.w) past
 
-pub judge_kids-returns-in_err-x-clause-err : goal.judge_kids-returns-in_err-x-clause-err
-judge_kids-returns-in_err-x-clause-err g t c =
+pub judge_kids-returns-in-Err-clause-err : goal.judge_kids-returns-in-Err-clause-err
+judge_kids-returns-in-Err-clause-err g t c =
     let w = g.W.Walk.setting c.args.w.now in
     let a = g.W.Walk.above c.args.w.now in
     let u = c.loop-i.w in
@@ -67,7 +67,7 @@ judge_kids-returns-in_err-x-clause-err g t c =
     let ts = c.args.kids.now in
     let kid = c.in-Some.kid.now in
     let s = c.judge_tree.new.s in
-    let e = c.in_err-x.field-0.0 in
+    let e = c.in-Err.stop in
     let i = c.loop-i.invariant in
     let rest = nodes_of (drop (length xs + 1) ts) in
     let n = next_at ts (length xs) c.loop-i.i kid i.many c.in-Some.ensures.found in
@@ -79,13 +79,12 @@ judge_kids-returns-in_err-x-clause-err g t c =
     c.judge_tree.ensures.grown
     c.in_ok-enter.ensures.seen in
     let stopped = stopped-moved (g.W.Walk.setting v) w s (g.W.Walk.above v) kid (g.W.Walk.flow v) e (c.enter.ensures.setting
-    ∙ i.setting) c.in_err-x.ensures.err in
+    ∙ i.setting) c.in-Err.ensures.err in
     let grown = grown-trans c.loop-i.s c.enter.new.s s c.enter.ensures.grown c.judge_tree.ensures.grown in
-    err_same c.from_residual-in_err-x.result e _ c.from_residual-in_err-x.ensures.1
-    (λ l k.
+    λ l k.
     let p = kid-stopped w s a (g.W.Walk.above v) h xs ts kid (g.W.Walk.flow u) (g.W.Walk.flow v) e l n over before stopped k in
     let q = stop_at w a h (map bare xs) ts (length xs) c.loop-i.i (g.W.Walk.flow u) l e i.many p in
-    stop-same e _ _ (i.rest l (later-grown c.loop-i.s s l grown k)) q)
+    stop-same e _ _ (i.rest l (later-grown c.loop-i.s s l grown k)) q
 
 pub judge_kids-loop-i-preserved : goal.judge_kids-loop-i-preserved
 judge_kids-loop-i-preserved g t c =
@@ -98,7 +97,7 @@ judge_kids-loop-i-preserved g t c =
     let ts = c.args.kids.now in
     let kid = c.in-Some.kid.now in
     let s = c.judge_tree.new.s in
-    let x = c.in_ok-x.x in
+    let x = c.in-Ok.x in
     let f = g.W.Walk.flow u in
     let b = g.W.Walk.flow v in
     let d = g.W.Walk.flow c.judge_tree.new.w in
@@ -114,13 +113,13 @@ judge_kids-loop-i-preserved g t c =
       before = before-moved (g.W.Walk.setting u) w c.enter.new.s s
           (g.W.Walk.above u) a h xs f b i.setting i.above c.judge_tree.ensures.grown
           c.in_ok-enter.ensures.seen;
-      inferred = inferred-moved (g.W.Walk.setting v) w s o kid b d x (c.enter.ensures.setting ∙ i.setting) c.in_ok-x.ensures.ok;
+      inferred = inferred-moved (g.W.Walk.setting v) w s o kid b d x (c.enter.ensures.setting ∙ i.setting) c.in-Ok.ensures.ok;
     } in
-    let leaves = kid-leaves w s a o h xs ts kid f b d x k c.in_ok-x.ensures.sound in
-    let out = c.in_ok-x.ensures.outer ∙ c.in_ok-enter.ensures.outer in
+    let leaves = kid-leaves w s a o h xs ts kid f b d x k c.in-Ok.ensures.sound in
+    let out = c.in-Ok.ensures.outer ∙ c.in_ok-enter.ensures.outer in
     let grown = grown-trans c.loop-i.s c.enter.new.s s c.enter.ensures.grown c.judge_tree.ensures.grown in
-    let p : c.push.new.self ≡ xs ++ x ∷ [] = c.in_ok-push.ensures.ok in
-    let hand = hand-more f d xs x leaves i.hand i.below c.in_ok-x.ensures.hand in
+    let p : c.push.new.self ≡ xs ++ x ∷ [] = c.in_ok-push-in-Ok.ensures.ok in
+    let hand = hand-more f d xs x leaves i.hand i.below c.in-Ok.ensures.hand in
     let below = each_below-more f d xs x leaves i.below in
     let flow = c.leave.ensures.flow in
     record {
@@ -130,16 +129,16 @@ judge_kids-loop-i-preserved g t c =
       setting = c.leave.ensures.setting ∙ c.judge_tree.ensures.setting ∙ c.enter.ensures.setting ∙ i.setting;
       hand = rw (flow, p) hand;
       below = rw (flow, p) below;
-      counts = among-more a h xs c.push.new.self x c.loop-i.counts c.judge_tree.new.counts i.counts c.in_ok-x.ensures.counts p;
+      counts = among-more a h xs c.push.new.self x c.loop-i.counts c.judge_tree.new.counts i.counts c.in-Ok.ensures.counts p;
       ready = λ ps r.
           let at = spot h.kind (length xs) in
-          let judged = c.in_ok-x.ensures.ready (at ∷ ps) (c.in_ok-enter.ensures.ready ps (i.ready ps r)) in
+          let judged = c.in-Ok.ensures.ready (at ∷ ps) (c.in_ok-enter.ensures.ready ps (i.ready ps r)) in
           let n : length c.push.new.self ≡ length xs + 1 = ap length p ∙ length-append xs (x ∷ []) in
           rw n (c.leave.ensures.ready s (head kid).kind at ps judged);
       kept =
           let each = each-grown g.W.Walk.Keeps c.loop-i.s s xs grown i.kept in
-          rw p (each-append (λ y. (r : Store) → IsGrown s r → g.W.Walk.Keeps r y) xs x each c.in_ok-x.ensures.kept);
-      erased = erased-more xs c.push.new.self ts x kid c.loop-i.i i.erased c.in-Some.ensures.found c.in_ok-x.ensures.erases p;
+          rw p (each-append (λ y. (r : Store) → IsGrown s r → g.W.Walk.Keeps r y) xs x each c.in-Ok.ensures.kept);
+      erased = erased-more xs c.push.new.self ts x kid c.loop-i.i i.erased c.in-Some.ensures.found c.in-Ok.ensures.erases p;
       grown = grown-trans c.args.s.now c.loop-i.s s i.grown grown;
       rest = λ l e.
           let r = kid-rest w s a o h xs ts kid f b d x l k e in
@@ -210,7 +209,7 @@ judge_tree-turn-requires-clause-inferred g t c =
     (nodes_of c.t.inside.kids) c.in_ok-kids.kids (g.W.Walk.flow w) (g.W.Walk.flow v)
     (sym (ap kids_of c.t.view_is)) c.in_ok-kids.ensures.setting c.in_ok-kids.ensures.above c.in_ok-kids.ensures.ok
 
-pub judge_kids-returns-in_err-push-clause-grown : goal.judge_kids-returns-in_err-push-clause-grown
-judge_kids-returns-in_err-push-clause-grown g t c =
+pub judge_kids-returns-in_err-push-in-Ok-clause-grown : goal.judge_kids-returns-in_err-push-in-Ok-clause-grown
+judge_kids-returns-in_err-push-in-Ok-clause-grown g t c =
     let step = grown-trans c.loop-i.s c.enter.new.s c.judge_tree.new.s c.enter.ensures.grown c.judge_tree.ensures.grown in
     grown-trans c.args.s.now c.loop-i.s c.judge_tree.new.s c.loop-i.invariant.grown step

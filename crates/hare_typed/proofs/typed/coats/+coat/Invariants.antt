@@ -5,6 +5,5 @@ use Rattle.hare_typed.proofs.typed.coats.+coat.Given as goal
 abbrev pub invariant-coat_kids-loop-t : goal.invariant-coat_kids-loop-t
 invariant-coat_kids-loop-t l = record {
   unvisited : goal.unvisited-coat_kids-loop-t l;
-  visited : map (λ b. b.value) l.t-items
-      ≡ map (coat l.cs) (take l.t-index (map (λ b. b.value) l.initial.t-items)) ++ drop l.t-index (map (λ b. b.value) l.initial.t-items);
+  visited : l.t-items ≡ map (coat l.cs) (take l.t-index l.initial.t-items) ++ drop l.t-index l.initial.t-items;
 }
