@@ -23,5 +23,6 @@ pub mod WholeLiterals
 pub mod WholeBreaks
 pub mod Whole
 pub mod Unique
+pub mod ShortMarks
 pub mod Shorter
 pub mod Ordered

@@ -1,6 +1,6 @@
 //! The tables of marks and suffixes, and how they are looked up.
 
-ghost use Rattle.std.specs.Prelude.{◌≡◌, ◌≤◌, List, ℕ, ◌∷◌, length, map};
+ghost use Rattle.std.specs.Prelude.{◌≡◌, ◌≤◌, List, ℕ, [], ◌∷◌, length, map, true, false};
 ghost use Rattle.hare_tree.specs.Words.{is_listed, marks};
 ghost use Rattle.hare_lex.specs.Lexing.{longest, suffixes, suffix_named};
 
@@ -8,15 +8,61 @@ use crate::bytes::front;
 use hare_tree::{Suffix, is_listed};
 
 // The length of the longest mark at the front, 0 where none stands there.
-#[tactic(auto, using(crate::proofs::Longest::longest_like), unfolding(crate::specs::Lexing::longest))]
+#[tactic(auto, using(crate::proofs::Longest::longest_like, crate::proofs::ShortMarks::alone), unfolding(crate::specs::Lexing::longest))]
 pub fn mark_len(s: &[u8]) -> usize
     ensures value { result ≡ longest marks s.now }
     ensures within { result ≤ length s.now }
 {
     match s {
+        [first, ..] if begins_alone(*first) => 1,
+        [first, second, ..] if begins_mark(*first) && !goes_on(*second) => 1,
         [first, ..] => longest(marks_like(*first), s),
         [] => 0,
     }
+}
+
+// Whether a byte is a mark with which no longer one begins.
+fn begins_alone(first: u8) -> bool
+    ensures mark { result ≡ true → is_listed marks (first ∷ []) ≡ true }
+    ensures alone { result ≡ true → (second : ℕ) (rest : List ℕ) → is_listed marks (first ∷ second ∷ rest) ≡ false }
+{
+    matches!(
+        first,
+        b'(' | b')' | b',' | b';' | b'?' | b'[' | b']' | b'{' | b'}' | b'~'
+    )
+}
+
+// Whether a byte is a mark with which longer ones begin.
+fn begins_mark(first: u8) -> bool
+    ensures { result ≡ true → is_listed marks (first ∷ []) ≡ true }
+{
+    matches!(
+        first,
+        b'!' | b'%'
+            | b'&'
+            | b'*'
+            | b'+'
+            | b'-'
+            | b'.'
+            | b'/'
+            | b':'
+            | b'<'
+            | b'='
+            | b'>'
+            | b'^'
+            | b'|'
+    )
+}
+
+// Whether a byte is the second of a mark.
+#[tactic(auto, using(crate::proofs::ShortMarks::no_second))]
+fn goes_on(second: u8) -> bool
+    ensures { result ≡ false → (first : ℕ) (rest : List ℕ) → is_listed marks (first ∷ second ∷ rest) ≡ false }
+{
+    matches!(
+        second,
+        b'&' | b'.' | b':' | b'<' | b'=' | b'>' | b'^' | b'|'
+    )
 }
 
 // The marks that begin with this byte.
