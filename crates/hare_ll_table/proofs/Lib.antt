@@ -1,4 +1,5 @@
 pub mod Classified
 pub mod Joining
 pub mod Places
+pub mod Rests
 pub mod Tops

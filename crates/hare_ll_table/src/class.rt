@@ -3,21 +3,16 @@
 ghost use Rattle.std.specs.Prelude.{◌≡◌, ◌^◌, nat_lt, bytes_eq, slice_index};
 ghost use Rattle.std.specs.Char.{is_ascii_digit};
 ghost use Rattle.hare_tree.specs.Shape as shape;
+ghost use Rattle.hare_tree.specs.Words.{is_listed};
 ghost use Rattle.hare_automaton.specs.Classes as classes;
 ghost use Rattle.hare_ll_table.specs.Seen.{has_room, sign_or_else};
 
-use crate::signs::{keywords_like, marks_like};
+use crate::signs::{keywords_like, mark_of_byte, marks_like, scalars_like};
 use hare_automaton::Class;
 use hare_tree::{
     Kind, Own, Sign, Suffix, Token, TokenKind, is_listed, is_name, is_operator_of, operator_level,
     sign_word,
 };
-
-/// The keywords that are types.
-const SCALARS: [&[u8]; 17] = [
-    b"i8", b"i16", b"i32", b"i64", b"u8", b"u16", b"u32", b"u64", b"int", b"uint", b"size",
-    b"bool", b"rune", b"str", b"void", b"never", b"opaque",
-];
 
 const BOOLS: [&[u8]; 2] = [b"true", b"false"];
 
@@ -102,6 +97,7 @@ fn mark_sign(text: &[u8]) -> Option<Sign>
     ensures { (other : Class) → sign_or_else result other ≡ classes.sign_or other classes.mark_signs text.now }
 {
     match text {
+        [only] => mark_of_byte(*only),
         [first, ..] => sign_in(marks_like(*first), text),
         [] => None,
     }
@@ -131,12 +127,22 @@ fn word_class(text: &[u8]) -> Class
     ensures value { result ≡ classes.word_class text.now }
     ensures within { has_room result }
 {
-    if is_listed(&SCALARS, text) {
+    if is_scalar(text) {
         Class::Scalar
     } else if is_listed(&BOOLS, text) {
         Class::Bool
     } else {
         Class::Junk
+    }
+}
+
+/// Whether a keyword is a type.
+fn is_scalar(text: &[u8]) -> bool
+    ensures { result ≡ is_listed shape.scalars text.now }
+{
+    match text {
+        [first, ..] => is_listed(scalars_like(*first), text),
+        [] => false,
     }
 }
 

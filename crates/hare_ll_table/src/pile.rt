@@ -54,6 +54,25 @@ impl<T: Drop> Pile<T> {
         self.items.pop()
     }
 
+    /// Puts an item in the place of the top; nothing changes where there is none.
+    #[tactic(auto, using(crate::proofs::Tops::replaced_top))]
+    pub(crate) fn replace_top(&mut self, item: T)
+        ensures { (top : T) (rest : List T) → self.old ≡ top ∷ rest → self.new ≡ item ∷ rest }
+    {
+        if let Some(last) = self.items.len().checked_sub(1) {
+            self.items[last] = item;
+        }
+    }
+
+    /// Lets the top go; nothing changes where there is none.
+    pub(crate) fn drop_top(&mut self)
+        ensures { (top : T) (rest : List T) → self.old ≡ top ∷ rest → self.new ≡ rest }
+    {
+        match self.pop() {
+            Some(_) | None => {}
+        }
+    }
+
     /// How many items there are.
     pub fn len(&self) -> usize
         ensures { result ≡ length self.now }

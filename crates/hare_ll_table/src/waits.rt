@@ -1,9 +1,10 @@
 //! What is waited for: a pile of symbols, of which those that a form is read by stand as one entry.
 
-ghost use Rattle.std.specs.Prelude.{◌≡◌, [], ◌∷◌, ◌++◌, List, ℕ, drop, OnOk, IfOk, MatchOption};
+ghost use Rattle.std.specs.Prelude.{◌≡◌, [], ◌∷◌, ◌++◌, List, OnOk, IfOk, MatchOption};
 ghost use Rattle.std.specs.Option.{option_to_list};
 ghost use Rattle.hare_tree.specs.declared.form.Piece.{Piece};
 ghost use Rattle.hare_automaton.specs.Rows.{symbols, rest_of};
+ghost use Rattle.hare_ll_table.specs.declared.row.Wait as wait;
 ghost use Rattle.hare_ll_table.specs.Seen.{waited};
 
 use crate::pile::Pile;
@@ -24,33 +25,57 @@ pub fn push_waits(stack: &mut Pile<Wait>, waits: &[Wait]) -> Result<(), AllocErr
     Ok(())
 }
 
-/// Takes the symbol that is waited for next; none where nothing is. What is left of a form goes on the pile again: an error is want of
-/// memory for it.
+/// Takes the symbol that is waited for next; none where nothing is. What is left of a form stays on top of the pile, in place of the
+/// form, so that no memory is asked for.
+#[tactic(auto, using(crate::proofs::Rests::one_goes))]
 pub fn next_symbol(stack: &mut Pile<Wait>) -> Result<Option<Symbol>, AllocError>
     ensures { IfOk result (λ next. MatchOption next ((waited stack.old ≡ []) × (waited stack.new ≡ []))
         (λ s. waited stack.old ≡ s ∷ waited stack.new)) }
 {
-    match stack.pop() {
-        None => Ok(None),
-        Some(Wait::One(symbol)) => Ok(Some(symbol)),
-        Some(Wait::Rest(from, kind)) => Ok(Some(next_of_form(stack, from, kind)?)),
+    let Some(top) = stack.top() else {
+        return Ok(None);
+    };
+    match *top {
+        Wait::One(symbol) => {
+            stack.drop_top();
+            Ok(Some(symbol))
+        }
+        Wait::Rest(from, kind) => Ok(Some(next_of_form(stack, from, kind))),
     }
 }
 
-/// The next symbol of what is left of a form, which goes on the pile again without it.
-fn next_of_form(stack: &mut Pile<Wait>, from: usize, kind: Kind) -> Result<Symbol, AllocError>
-    ensures { IfOk result (λ s. rest_of from kind ++ waited stack.old ≡ s ∷ waited stack.new) }
+/// The next symbol of what is left of a form, which is the top of the pile. What is left behind the symbol takes its place.
+#[tactic(auto, using(crate::proofs::Rests::rest_goes, crate::proofs::Rests::rest_ends))]
+fn next_of_form(stack: &mut Pile<Wait>, from: usize, kind: Kind) -> Symbol
+    requires { (rest : List wait.Wait) × (stack.old ≡ Wait.Rest from kind ∷ rest) }
+    ensures { waited stack.old ≡ result ∷ waited stack.new }
+{
+    match first_of_form(from, kind) {
+        Some((symbol, next)) => {
+            stack.replace_top(Wait::Rest(next, kind));
+            symbol
+        }
+        None => {
+            stack.drop_top();
+            Symbol::Close(kind)
+        }
+    }
+}
+
+/// The first symbol of what is left of a form behind so many of its pieces, and how many pieces are in front of what follows it; none where
+/// the form is over.
+fn first_of_form(from: usize, kind: Kind) -> Option<(Symbol, usize)>
+    ensures { MatchOption result (rest_of from kind ≡ Symbol.Close kind ∷ []) (λ r. rest_of from kind ≡ r.0 ∷ rest_of r.1 kind) }
 {
     let form = form_of(kind);
     let mut at = from;
     while let Some(piece) = form.get(at) {
         at += 1;
         if let Some(symbol) = symbol_of(*piece) {
-            stack.push(Wait::Rest(at, kind))?;
-            return Ok(symbol);
+            return Some((symbol, at));
         }
     }
-    Ok(Symbol::Close(kind))
+    None
 }
 
 /// What is waited for in order to read a piece. A kid with a sign behind it and the value of a `yield` are read by rules of their own.
