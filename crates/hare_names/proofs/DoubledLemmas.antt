@@ -5,7 +5,7 @@ use Rattle.std.proofs.lemmas.List.Sums.{fold-append}
 use Rattle.std.proofs.Math.Bool.{or_assoc}
 use Rattle.std.proofs.lemmas.Slice.Eq.{bytes_eq-Decides}
 use Rattle.hare_tree.specs.declared.place.Fault.{Fault}
-use Rattle.hare_tree.specs.Node.{Head, Node, Nodes, branch, none, more, nodes_of, head}
+use Rattle.hare_tree.specs.Node.{Node, Nodes, branch, none, more, nodes_of, head}
 use Rattle.hare_modules.specs.Order.{earlier}
 use Rattle.hare_modules.specs.Tables.{value_of, has, put}
 use Rattle.hare_modules.specs.Uses.{text_of}
@@ -14,6 +14,7 @@ use Rattle.hare_modules.proofs.Trees.{listed-nodes_of}
 use Rattle.hare_modules.proofs.ListLemmas.{drop-there, drop-past}
 use Rattle.hare_directory.proofs.FoundLemmas.{names-symmetric}
 use Rattle.hare_names.specs.Doubling.{names_with, first_with, is_called, any_called, first_behind}
+use Rattle.hare_names.specs.Spots.{is_idle}
 use Rattle.hare_names.specs.Doubled.{has_names, is_named, same_text, doubled_fault, doubled_kids, doubled_in, doubled_among}
 
 -- ---- all kids
@@ -29,15 +30,26 @@ pub among-done : (found : Option Fault) (ts : Nodes) (all : Option Fault) → ts
     found ≡ all
 among-done found ts all e h = ap (λ vs. fold earlier found (doubled_among vs)) (sym e) ∙ h
 
--- a tree without kids has no such names
-pub doubled-leaf : (h : Head) (ts : List Node) (t : Node) (found : Option Fault) → branch h (nodes_of ts) ≡ t → length ts ≡ 0 →
-    found ≡ fold earlier found (doubled_in t)
-doubled-leaf h [] t found e l = by (has_names h.kind) ∙ ap (λ u. fold earlier found (doubled_in u)) e
+-- a tree that the walk passes by has no such names
+pub doubled-idle : (t : Node) (found : Option Fault) → is_idle t ≡ true → found ≡ fold earlier found (doubled_in t)
+doubled-idle (branch h none) found i = by (has_names h.kind)
   where
     by : (b : Bool) → found ≡ fold earlier found ((if b then doubled_kids none else []) ++ doubled_among none)
     by true = refl
     by false = refl
-doubled-leaf h (u ∷ us) t found e l = absurd (omega arith)
+doubled-idle (branch h (more u us)) found i = absurd cc
+
+-- the kids of a `for` over items
+pub doubled-one : (found found' : Option Fault) (ts : Nodes) (b : Node) → ts ≡ more b none → found' ≡ fold earlier found (doubled_in b) →
+    found' ≡ fold earlier found (doubled_among ts)
+doubled-one found found' ts b e k = among-on found found' ts b none (fold earlier found (doubled_among ts)) e k refl
+
+pub doubled-two : (found found₁ found₂ found₃ : Option Fault) (ts : Nodes) (b over : Node) (us : Nodes) → ts ≡ more b (more over us) →
+    found₁ ≡ fold earlier found (doubled_in b) → found₂ ≡ fold earlier found₁ (doubled_in over) →
+    found₃ ≡ fold earlier found₂ (doubled_among us) → found₃ ≡ fold earlier found (doubled_among ts)
+doubled-two found found₁ found₂ found₃ ts b over us e h₁ h₂ h₃ =
+    h₃ ∙ among-on found₁ found₂ (more over us) over us (fold earlier found₁ (doubled_among (more over us))) refl h₂ refl
+    ∙ among-on found found₁ ts b (more over us) (fold earlier found (doubled_among ts)) e h₁ refl
 
 -- ---- the names of one list
 

@@ -15,10 +15,9 @@ use Rattle.hare_directory.proofs.FoundLemmas.{option_or-none}
 use Rattle.hare_names.specs.declared.notes.Notes.{Notes}
 use Rattle.hare_names.specs.declared.verdict.Verdict.{Verdict}
 use Rattle.hare_names.specs.declared.verdict.Verdict.TheVariants.{Means, Fails}
-use Rattle.hare_names.specs.Doubled.{doubled_in}
 use Rattle.hare_names.specs.Tables.{verdict, meaning_at, put}
 use Rattle.hare_names.specs.Spots.{Spot, noted, noted_as, spots_in}
-use Rattle.hare_names.specs.Noted.{decl_noted, files_noted, with_doubled}
+use Rattle.hare_names.specs.Noted.{decl_noted, files_noted}
 
 abbrev pub Meanings : Type 0
 Meanings = List (Place × Meaning)
@@ -46,7 +45,7 @@ put_one es e = put es e.0 e.1
 
 module _ (d : Directory) (f : ℕ) where
   abbrev pub decl_faults : Node → List Fault
-  decl_faults t = doubled_in t ++ flat_map (spot_faults d f) (spots_in 0 [] t)
+  decl_faults t = flat_map (spot_faults d f) (spots_in 0 [] t)
 
   abbrev pub decl_meanings : Node → Meanings
   decl_meanings t = flat_map (spot_meanings d f) (spots_in 0 [] t)
@@ -74,16 +73,14 @@ module _ (d : Directory) (f : ℕ) where
   decls-first n [] = refl
   decls-first n (t ∷ ts) =
       decls-first (decl_noted d f n t) ts
-      ∙ ap (λ o. fold earlier o (flat_map decl_faults ts))
-      (spots-first (with_doubled n t) (spots_in 0 [] t) ∙ sym
-      (fold-append earlier n.first (doubled_in t) (flat_map (spot_faults d f) (spots_in 0 [] t))))
+      ∙ ap (λ o. fold earlier o (flat_map decl_faults ts)) (spots-first n (spots_in 0 [] t))
       ∙ sym (fold-append earlier n.first (decl_faults t) (flat_map decl_faults ts))
 
   decls-places : (n : Notes) (ts : List Node) → (fold (decl_noted d f) n ts).places ≡ fold put_one n.places (flat_map decl_meanings ts)
   decls-places n [] = refl
   decls-places n (t ∷ ts) =
       decls-places (decl_noted d f n t) ts
-      ∙ ap (λ es. fold put_one es (flat_map decl_meanings ts)) (spots-places (with_doubled n t) (spots_in 0 [] t))
+      ∙ ap (λ es. fold put_one es (flat_map decl_meanings ts)) (spots-places n (spots_in 0 [] t))
       ∙ sym (fold-append put_one n.places (decl_meanings t) (flat_map decl_meanings ts))
 
 -- ---- files

@@ -19,7 +19,6 @@ use Rattle.hare_graph.proofs.Elements.{Contains-none, Contains-cases, Contains-h
 use Rattle.hare_names.specs.declared.verdict.Verdict.{Verdict}
 use Rattle.hare_names.specs.declared.verdict.Verdict.TheVariants.{Means, Fails}
 use Rattle.hare_names.specs.Paths.{Path, paths_of, paths_of_file}
-use Rattle.hare_names.specs.Doubled.{doubled_in, doubled_names}
 use Rattle.hare_names.specs.Meanings.{meant, violation_number, path_violation}
 use Rattle.hare_names.specs.Tables.{meaning_at}
 use Rattle.hare_names.specs.Rises.{Rises}
@@ -73,12 +72,12 @@ abbrev pub path_meanings : List Source → Source → Path → Meanings
 path_meanings all s p = meanings_by p.place (path_verdict all s p)
 
 module _ (all : List Source) (d : Directory) (f : ℕ) (s : Source) (told : IsDirectoryOf all d) (here : slice_get all f ≡ Some s) where
-  decl-faults : (t : Node) → decl_faults d f t ≡ doubled_in t ++ flat_map (path_faults all s) (paths_of t)
+  decl-faults : (t : Node) → decl_faults d f t ≡ flat_map (path_faults all s) (paths_of t)
   decl-faults t =
-      ap (λ ss. doubled_in t ++ flat_map (spot_faults d f) ss) (sym (spots-in 0 [] t))
-      ∙ ap (λ fs. doubled_in t ++ fs) (flat_map-map (spot_faults d f) spot_of (paths_of t)
-      ∙ flat_map-same (λ p. spot_faults d f (spot_of p)) (path_faults all s) (λ p. ap (faults_by p.place) (judged all d f s told here p))
-      (paths_of t))
+      ap (flat_map (spot_faults d f)) (sym (spots-in 0 [] t))
+      ∙ flat_map-map (spot_faults d f) spot_of (paths_of t)
+      ∙ flat_map-same (λ p. spot_faults d f (spot_of p)) (path_faults all s)
+      (λ p. ap (faults_by p.place) (judged all d f s told here p)) (paths_of t)
 
   decl-meanings : (t : Node) → decl_meanings d f t ≡ flat_map (path_meanings all s) (paths_of t)
   decl-meanings t =
@@ -91,10 +90,11 @@ module _ (all : List Source) (d : Directory) (f : ℕ) (s : Source) (told : IsDi
   file-meanings ts = flat_map-same (decl_meanings d f) (λ t. flat_map (path_meanings all s) (paths_of t)) decl-meanings ts
       ∙ sym (flat_map-flat_map (path_meanings all s) paths_of ts)
 
--- a violation of a file: at equal names, or at a path
-pub data IsFileViolation (all : List Source) (s : Source) (x : Fault) : Type 0 where
-  at_double : Contains (doubled_names s.tree) x → IsFileViolation all s x
-  at_path : (p : Path) → Contains (paths_of_file s.tree) p → path_violation all s p ≡ Some x → IsFileViolation all s x
+-- a violation at a path of a file
+pub record IsPathFault (all : List Source) (s : Source) (x : Fault) : Type 0 where
+  pub path : Path
+  pub is_path : Contains (paths_of_file s.tree) path
+  pub breaks : path_violation all s path ≡ Some x
 
 path-fault-to : (all : List Source) (s : Source) (p : Path) (x : Fault) → Contains (path_faults all s p) x → path_violation all s p ≡ Some x
 path-fault-to all s p x c = by (violation_number all s p) c
@@ -117,36 +117,30 @@ path-fault-from all s p x e = by (violation_number all s p) e
         (Contains-here (fault n p.place) [])
 
 module _ (all : List Source) (d : Directory) (f : ℕ) (s : Source) (told : IsDirectoryOf all d) (here : slice_get all f ≡ Some s) where
-  file-to : (x : Fault) → Contains (flat_map (decl_faults d f) s.tree.decls) x → IsFileViolation all s x
+  file-to : (x : Fault) → Contains (flat_map (decl_faults d f) s.tree.decls) x → IsPathFault all s x
   file-to x c =
       let w = Contains-flat_map (decl_faults d f) s.tree.decls x c in
-      by w.from w.among (Contains-append_cases (doubled_in w.from) (flat_map (path_faults all s) (paths_of w.from)) x
-      (subst (λ fs. Contains fs x) (decl-faults all d f s told here w.from) w.gives))
-    where
-      by : (t : Node) → Contains s.tree.decls t → Contains (doubled_in t) x ⊎ Contains (flat_map (path_faults all s) (paths_of t)) x →
-          IsFileViolation all s x
-      by t a (inl e) = at_double (Contains-to_flat_map doubled_in s.tree.decls t x a e)
-      by t a (inr e) =
-          let v = Contains-flat_map (path_faults all s) (paths_of t) x e in
-          at_path v.from (Contains-to_flat_map paths_of s.tree.decls t v.from a v.among) (path-fault-to all s v.from x v.gives)
+      let own = subst (λ fs. Contains fs x) (decl-faults all d f s told here w.from) w.gives in
+      let v = Contains-flat_map (path_faults all s) (paths_of w.from) x own in
+      record {
+        path = v.from;
+        is_path = Contains-to_flat_map paths_of s.tree.decls w.from v.from w.among v.among;
+        breaks = path-fault-to all s v.from x v.gives;
+      }
 
-  file-from : (x : Fault) → IsFileViolation all s x → Contains (flat_map (decl_faults d f) s.tree.decls) x
-  file-from x (at_double c) =
-      let w = Contains-flat_map doubled_in s.tree.decls x c in
-      Contains-to_flat_map (decl_faults d f) s.tree.decls w.from x w.among (Contains-append_left (doubled_in w.from) _ x w.gives)
-  file-from x (at_path p c e) =
-      let w = Contains-flat_map paths_of s.tree.decls p c in
-      let inside = Contains-to_flat_map (path_faults all s) (paths_of w.from) p x w.gives (path-fault-from all s p x e) in
+  file-from : (x : Fault) → IsPathFault all s x → Contains (flat_map (decl_faults d f) s.tree.decls) x
+  file-from x v =
+      let w = Contains-flat_map paths_of s.tree.decls v.path v.is_path in
+      let inside = Contains-to_flat_map (path_faults all s) (paths_of w.from) v.path x w.gives (path-fault-from all s v.path x v.breaks) in
       Contains-to_flat_map (decl_faults d f) s.tree.decls w.from x w.among
-      (subst (λ fs. Contains fs x) (sym (decl-faults all d f s told here w.from))
-      (Contains-append_right (doubled_in w.from) _ x inside))
+      (subst (λ fs. Contains fs x) (sym (decl-faults all d f s told here w.from)) inside)
 
 -- ---- all files
 
 pub record InFile (all ss : List Source) (x : Fault) : Type 0 where
   pub source : Source
   pub is_source : Contains ss source
-  pub violation : IsFileViolation all source x
+  pub violation : IsPathFault all source x
 
 -- the sources from one on stand in the program at their numbers
 abbrev pub Stands : List Source → ℕ → List Source → Type 0
@@ -187,7 +181,7 @@ module _ (all : List Source) (d : Directory) (told : IsDirectoryOf all d) where
       }
 
   pub faults-from : (f : ℕ) (ps : List (List ℕ)) (ts : List FileTree) (s : Source) (x : Fault) → Stands all f (sources ps ts) →
-      Contains (sources ps ts) s → IsFileViolation all s x → Contains (faults_from d f ts) x
+      Contains (sources ps ts) s → IsPathFault all s x → Contains (faults_from d f ts) x
   faults-from f [] ts s x h c v = absurd (Contains-none s c)
   faults-from f (p ∷ ps) [] s x h c v = absurd (Contains-none s c)
   faults-from f (p ∷ ps) (t ∷ ts) s x h c v =
@@ -198,7 +192,7 @@ module _ (all : List Source) (d : Directory) (told : IsDirectoryOf all d) where
           Contains (faults_from d f (t ∷ ts)) x
       by more (inl e) = Contains-append_left (flat_map (decl_faults d f) t.decls) (faults_from d (f + 1) ts) x
           (file-from all d f (source_of p t) told (stands-here all f (source_of p t) (sources ps ts) h) x
-          (subst (λ r. IsFileViolation all r x) (sym e) v))
+          (subst (λ r. IsPathFault all r x) (sym e) v))
       by more (inr e) = Contains-append_right (flat_map (decl_faults d f) t.decls) (faults_from d (f + 1) ts) x (more e)
 
 -- ---- meanings at places

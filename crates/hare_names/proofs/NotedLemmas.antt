@@ -1,9 +1,12 @@
 -- What is noted of declarations and files, one by one, and the room for the numbers of bindings.
-use Rattle.std.proofs.Common.{◌≡◌, ℕ, ◌+◌, ◌≤◌, List, [], ◌∷◌, fold, drop, length, slice_get, Some, sym, ap, ◌∙◌, suc, zero, arith}
+use Rattle.std.proofs.Common.{◌≡◌, ℕ, ◌+◌, ◌≤◌, List, [], ◌∷◌, fold, drop, length, slice_get, Option, Some, sym, ap, ◌∙◌, suc, zero, arith}
 use Rattle.std.specs.Prelude.{sum_by}
-use Rattle.std.proofs.lemmas.List.Sums.{sum_by-cons}
+use Rattle.std.specs.List.{flat_map}
+use Rattle.std.proofs.lemmas.List.Sums.{sum_by-cons, fold-append}
+use Rattle.hare_tree.specs.declared.place.Fault.{Fault}
 use Rattle.hare_tree.specs.declared.tree.FileTree.{FileTree}
 use Rattle.hare_tree.specs.Node.{Node, nodes_of}
+use Rattle.hare_modules.specs.Order.{earlier}
 use Rattle.hare_modules.specs.Directory.{Directory}
 use Rattle.hare_modules.proofs.ListLemmas.{drop-there, drop-past}
 use Rattle.hare_names.specs.declared.notes.Notes.{Notes}
@@ -41,3 +44,16 @@ files-on d ts i t now next all e k h =
 pub files-done : (d : Directory) (ts : List FileTree) (i : ℕ) (now all : Notes) → length ts ≤ i → files_noted d i now (drop i ts) ≡ all →
     now ≡ all
 files-done d ts i now all l h = sym (ap (files_noted d i now) (drop-past ts i l)) ∙ h
+
+-- ---- the faults of each of a list
+
+pub faults-on : {A : Type 0} (g : A → List Fault) (ts : List A) (i : ℕ) (t : A) (now next all : Option Fault) → slice_get ts i ≡ Some t →
+    next ≡ fold earlier now (g t) → fold earlier now (flat_map g (drop i ts)) ≡ all →
+    fold earlier next (flat_map g (drop (i + 1) ts)) ≡ all
+faults-on g ts i t now next all e k h =
+    ap (λ n. fold earlier n (flat_map g (drop (i + 1) ts))) k ∙ sym (fold-append earlier now (g t) (flat_map g (drop (i + 1) ts)))
+    ∙ sym (ap (λ us. fold earlier now (flat_map g us)) (drop-there ts i t e)) ∙ h
+
+pub faults-done : {A : Type 0} (g : A → List Fault) (ts : List A) (i : ℕ) (now all : Option Fault) → length ts ≤ i →
+    fold earlier now (flat_map g (drop i ts)) ≡ all → now ≡ all
+faults-done g ts i now all l h = sym (ap (λ us. fold earlier now (flat_map g us)) (drop-past ts i l)) ∙ h

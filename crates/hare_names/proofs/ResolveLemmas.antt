@@ -6,14 +6,15 @@ use Rattle.std.specs.Option.{option_or}
 use Rattle.hare_tree.specs.declared.place.Place.{Place}
 use Rattle.hare_tree.specs.declared.place.Fault.{Fault}
 use Rattle.hare_tree.specs.declared.tree.FileTree.{FileTree}
-use Rattle.hare_modules.specs.Order.{fault, earlier, TellsFirst}
+use Rattle.hare_modules.specs.Order.{fault, earlier, earlier_of, TellsFirst}
 use Rattle.hare_modules.specs.Modules.{Source, sources}
 use Rattle.hare_modules.specs.Faults.{IsModuleFault}
 use Rattle.hare_modules.specs.Directory.{Directory, IsDirectoryOf, AreNumbered}
 use Rattle.hare_graph.proofs.Elements.{Contains-none, Contains-cases, Contains-here, Contains-behind}
-use Rattle.hare_modules.proofs.OrderLemmas.{first-of-list, first-of-same}
+use Rattle.hare_modules.proofs.OrderLemmas.{first-of-list, first-of-both, first-in}
 use Rattle.hare_names.specs.declared.notes.Notes.{Notes}
 use Rattle.hare_names.specs.Paths.{Path, paths_of_file}
+use Rattle.hare_names.specs.Doubled.{doubled_names}
 use Rattle.hare_names.specs.Meanings.{meant, violation_number}
 use Rattle.hare_names.specs.Violations.{IsPathOf, IsViolation, of_modules, doubled, of_path, AreMeanings, IsMeaningOf}
 use Rattle.hare_names.specs.Tables.{meaning_at}
@@ -21,7 +22,7 @@ use Rattle.hare_names.specs.Noted.{files_noted}
 use Rattle.hare_names.specs.Answers.{AreFiles, meaning_in, or_no_meaning}
 use Rattle.hare_names.specs.Rises.{IsOrdered}
 use Rattle.hare_names.proofs.ListedLemmas.{decl_meanings, faults_from, meanings_from, files-first, files-places, meaning-all, meaning-append}
-use Rattle.hare_names.proofs.MeaningLemmas.{path_meanings, file-meanings, IsFileViolation, at_double, at_path, Stands, stands-here, stands-next, source_of, faults-to, faults-from, elsewhere, at-path}
+use Rattle.hare_names.proofs.MeaningLemmas.{path_meanings, file-meanings, Contains-flat_map, Contains-to_flat_map, Stands, stands-here, stands-next, source_of, faults-to, faults-from, elsewhere, at-path}
 use Rattle.hare_names.proofs.JudgedLemmas.{meaning_or_none}
 use Rattle.hare_names.proofs.OrderLemmas.{ordered}
 use Rattle.hare_names.proofs.SomethingLemmas.{fine-meant, fine-something}
@@ -42,6 +43,34 @@ number-of (p ∷ ps) (t ∷ ts) s c = by (λ d. number-of ps ts s d) (Contains-c
     by : (Contains (sources ps ts) s → Number ts s) → (source_of p t ≡ s) ⊎ Contains (sources ps ts) s → Number (t ∷ ts) s
     by go (inl e) = record { number = 0; is = ap (λ r. Some r.tree) e }
     by go (inr d) = let n = go d in record { number = suc n.number; is = n.is }
+
+source-tree : (ps : List (List ℕ)) (ts : List FileTree) (s : Source) → Contains (sources ps ts) s → Contains ts s.tree
+source-tree [] ts s c = absurd (Contains-none s c)
+source-tree (p ∷ ps) [] s c = absurd (Contains-none s c)
+source-tree (p ∷ ps) (t ∷ ts) s c = by (λ d. source-tree ps ts s d) (Contains-cases (source_of p t) s (sources ps ts) c)
+  where
+    by : (Contains (sources ps ts) s → Contains ts s.tree) → (source_of p t ≡ s) ⊎ Contains (sources ps ts) s → Contains (t ∷ ts) s.tree
+    by go (inl e) = subst (λ r. Contains (t ∷ ts) r.tree) e (Contains-here t ts)
+    by go (inr d) = Contains-behind t s.tree ts (go d)
+
+-- a tree is that of a file of the program
+record OfTree (ps : List (List ℕ)) (ts : List FileTree) (t : FileTree) : Type 0 where
+  source : Source
+  is_source : Contains (sources ps ts) source
+  tree_is : source.tree ≡ t
+
+tree-source : (ps : List (List ℕ)) (ts : List FileTree) (t : FileTree) → length ts ≡ length ps → Contains ts t → OfTree ps ts t
+tree-source ps [] t l c = absurd (Contains-none t c)
+tree-source [] (u ∷ us) t l c = absurd (omega (arith, l))
+tree-source (p ∷ ps) (u ∷ us) t l c = by (λ d. tree-source ps us t (omega (arith, l)) d) (Contains-cases u t us c)
+  where
+    by : (Contains us t → OfTree ps us t) → (u ≡ t) ⊎ Contains us t → OfTree (p ∷ ps) (u ∷ us) t
+    by go (inl e) = record { source = source_of p u; is_source = Contains-here (source_of p u) (sources ps us); tree_is = e }
+    by go (inr d) = let r = go d in record {
+      source = r.source;
+      is_source = Contains-behind (source_of p u) r.source (sources ps us) r.is_source;
+      tree_is = r.tree_is;
+    }
 
 abbrev AreOrdered : ℕ → List FileTree → Type 0
 AreOrdered f ts = (i : ℕ) (t : FileTree) → slice_get ts i ≡ Some t → IsOrdered (f + i) t
@@ -123,29 +152,41 @@ module _ (ps : List (List ℕ)) (ts : List FileTree) (d : Directory) (h : AreFil
   are-ordered : AreOrdered 0 ts
   are-ordered i t e = subst (λ k. IsOrdered k t) (sym (zero-add i)) (ordered i t (h.files i t e))
 
-  to : (f : Fault) → IsModuleFault all f ⊎ Contains (faults_from d 0 ts) f → IsViolation all f
-  to f (inl m) = of_modules m
-  to f (inr c) = let r = faults-to all d told 0 ps ts f h.paired stands c in by r.source r.is_source r.violation
-    where
-      by : (s : Source) → Contains all s → IsFileViolation all s f → IsViolation all f
-      by s c (at_double e) = doubled s c e
-      by s c (at_path p e v) = of_path s p record { is_source = c; is_path = e } v
+  -- a violation elsewhere than at a path
+  abbrev IsOther : Fault → Type 0
+  IsOther f = IsModuleFault all f ⊎ Contains (flat_map doubled_names ts) f
 
-  from : (f : Fault) → IsViolation all f → IsModuleFault all f ⊎ Contains (faults_from d 0 ts) f
-  from f (of_modules m) = inl m
-  from f (doubled s c e) = inr (faults-from all d told 0 ps ts s f stands c (at_double e))
-  from f (of_path s p i e) = inr (faults-from all d told 0 ps ts s f stands i.is_source (at_path p i.is_path e))
+  abbrev IsAtPath : Fault → Type 0
+  IsAtPath f = Contains (faults_from d 0 ts) f
+
+  split : (f : Fault) → IsViolation all f → IsOther f ⊎ IsAtPath f
+  split f (of_modules m) = inl (inl m)
+  split f (doubled s c e) = inl (inr (Contains-to_flat_map doubled_names ts s.tree f (source-tree ps ts s c) e))
+  split f (of_path s p i e) =
+      inr (faults-from all d told 0 ps ts s f stands i.is_source (record { path = p; is_path = i.is_path; breaks = e }))
+
+  other : (f : Fault) → IsOther f → IsViolation all f
+  other f (inl m) = of_modules m
+  other f (inr c) =
+      let w = Contains-flat_map doubled_names ts f c in
+      let r = tree-source ps ts w.from h.paired w.among in
+      doubled r.source r.is_source (subst (λ t. Contains (doubled_names t) f) (sym r.tree_is) w.gives)
+
+  at_path : (f : Fault) → IsAtPath f → IsViolation all f
+  at_path f c =
+      let r = faults-to all d told 0 ps ts f h.paired stands c in
+      of_path r.source r.violation.path record { is_source = r.is_source; is_path = r.violation.is_path } r.violation.breaks
 
   -- the first violation
-  pub resolved-first : (first : Option Fault) (notes notes' : Notes) → TellsFirst (IsModuleFault all) first → notes.first ≡ first →
-      notes' ≡ files_noted d 0 notes ts → TellsFirst (IsViolation all) notes'.first
-  resolved-first first notes notes' t e n =
-      let found : notes'.first ≡ fold earlier first (faults_from d 0 ts) = ap (λ m. m.first) n ∙ files-first d 0 notes ts
-      ∙ ap (λ o. fold earlier o (faults_from d 0 ts)) e in
-      subst (TellsFirst (IsViolation all)) (sym found)
-      (first-of-same (λ f. IsModuleFault all f ⊎ Contains (faults_from d 0 ts) f) (IsViolation all) to from
-      (fold earlier first (faults_from d 0 ts))
-      (first-of-list (IsModuleFault all) first (faults_from d 0 ts) t))
+  pub resolved-first : (first others : Option Fault) (notes notes' : Notes) → TellsFirst (IsModuleFault all) first →
+      others ≡ fold earlier first (flat_map doubled_names ts) → notes.first ≡ None → notes' ≡ files_noted d 0 notes ts →
+      TellsFirst (IsViolation all) (earlier_of others notes'.first)
+  resolved-first first others notes notes' t o e n =
+      let found : notes'.first ≡ fold earlier None (faults_from d 0 ts) = ap (λ m. m.first) n ∙ files-first d 0 notes ts
+      ∙ ap (λ x. fold earlier x (faults_from d 0 ts)) e in
+      first-of-both IsOther IsAtPath (IsViolation all) split other at_path others notes'.first
+      (subst (TellsFirst IsOther) (sym o) (first-of-list (IsModuleFault all) first (flat_map doubled_names ts) t))
+      (subst (TellsFirst IsAtPath) (sym found) (first-in (faults_from d 0 ts)))
 
   -- where there is no violation, each path has its meaning
   pub resolved-meanings : (notes notes' : Notes) → ((f : Fault) → IsViolation all f → ⊥) → notes.places ≡ [] →

@@ -1,20 +1,14 @@
--- What is noted of the declarations of files. No public clause cites it.
+-- What is noted of the paths of the declarations of files. No public clause cites it.
 use Rattle.std.specs.Prelude.{ℕ, ◌+◌, List, [], ◌∷◌, fold}
 use Rattle.hare_tree.specs.declared.tree.FileTree.{FileTree}
 use Rattle.hare_tree.specs.Node.{Node}
-use Rattle.hare_modules.specs.Order.{earlier}
 use Rattle.hare_modules.specs.Directory.{Directory}
 use Rattle.hare_names.specs.declared.notes.Notes.{Notes}
-use Rattle.hare_names.specs.Doubled.{doubled_in}
 use Rattle.hare_names.specs.Spots.{noted, spots_in}
 
--- the first violation, with those at equal names of parameters and fields of a declaration
-abbrev pub with_doubled : Notes → Node → Notes
-with_doubled n t = record n { first = fold earlier n.first (doubled_in t) }
-
--- the notes with a declaration more
+-- the notes with the paths of a declaration more
 abbrev pub decl_noted : Directory → ℕ → Notes → Node → Notes
-decl_noted d f n t = fold (noted d f) (with_doubled n t) (spots_in 0 [] t)
+decl_noted d f n t = fold (noted d f) n (spots_in 0 [] t)
 
 -- with those of files, of which the first has this number
 abbrev pub files_noted : Directory → ℕ → Notes → List FileTree → Notes

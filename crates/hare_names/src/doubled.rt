@@ -14,45 +14,29 @@ use std::alloc::{AllocError, Global};
 /// How many kids of one tree are compared one by one. More take a table, so that no list takes quadratic time.
 const FEW: usize = 8;
 
-/// The fault that counts first of one that was found before, if there was one, and of those at the later of equal names of parameters or
-/// fields in a tree. It fails for want of memory alone.
-#[cycle(doubled)]
+/// The fault that counts first of one that was found before, if there was one, and of those at the later of equal names of the parameters
+/// or fields that are kids of a tree. It fails for want of memory alone.
 pub fn first_doubled(alloc: Global, t: &Tree, found: &mut Option<Fault>) -> Result<(), AllocError>
-    ensures { OnOk result (found.new ≡ fold earlier found.old (spec.doubled_in t.now)) }
+    ensures { OnOk result (found.new ≡ fold earlier found.old (doubling.doubled_own t.now)) }
 {
     if has_names(t.kind) {
-        doubled_kids(alloc, &t.kids, found)?;
-    }
-    doubled_among(alloc, &t.kids, found)
-}
-
-/// The same of the kids of a tree.
-#[cycle(doubled)]
-fn doubled_among(alloc: Global, kids: &Kids, found: &mut Option<Fault>) -> Result<(), AllocError>
-    ensures { OnOk result (found.new ≡ fold earlier found.old (spec.doubled_among (nodes_of kids.now))) }
-{
-    for i in 0..kids.len() {
-        let Some(kid) = kids.get(i) else {
-            return Ok(());
-        };
-        if kid.kids.len() == 0 {
-            continue;
-        }
-        first_doubled(alloc, kid, found)?;
+        *found = doubled_kids(alloc, &t.kids, *found)?;
     }
     Ok(())
 }
 
 /// The same of the parameters or fields that are kids of one tree.
-fn doubled_kids(alloc: Global, kids: &Kids, found: &mut Option<Fault>) -> Result<(), AllocError>
-    ensures { OnOk result (found.new ≡ fold earlier found.old (spec.doubled_kids (nodes_of kids.now))) }
+fn doubled_kids(
+    alloc: Global,
+    kids: &Kids,
+    found: Option<Fault>,
+) -> Result<Option<Fault>, AllocError>
+    ensures { IfOk result (λ f. f ≡ fold earlier found (spec.doubled_kids (nodes_of kids.now))) }
 {
-    *found = if kids.len() <= FEW {
-        doubled_few(kids, *found)
-    } else {
-        doubled_many(alloc, kids, *found)?
-    };
-    Ok(())
+    if kids.len() <= FEW {
+        return Ok(doubled_few(kids, found));
+    }
+    doubled_many(alloc, kids, found)
 }
 
 /// The same of many kids, whose names are put into a table.

@@ -1,22 +1,25 @@
 //! The names of a program.
 
-ghost use Rattle.std.specs.Prelude.{◌≡◌, ◌<◌, ◌-◌, ◌^◌, [], fold, length, sum_by, OnOk, IfOk, IfErr};
+ghost use Rattle.std.specs.Prelude.{◌≡◌, ◌<◌, ◌^◌, [], fold, sum_by, OnOk, IfOk, IfErr};
+ghost use Rattle.std.specs.List.{flat_map};
 ghost use Rattle.hare_tree.specs.declared.place.Fault as fault;
 ghost use Rattle.hare_tree.specs.Node.{nodes_of};
 ghost use Rattle.hare_directory.specs.Seen.{tables_of};
 ghost use Rattle.hare_modules.specs.Modules.{sources};
+ghost use Rattle.hare_modules.specs.Order.{earlier};
 ghost use Rattle.hare_names.specs.Scopes.{bindings_in, bindings_among};
 ghost use Rattle.hare_names.specs.Violations.{IsViolation, AreMeanings};
 ghost use Rattle.hare_names.specs.Noted as noted;
+ghost use Rattle.hare_names.specs.Doubled as names;
 ghost use Rattle.hare_names.specs.Answers.{AreFiles, StopsAtFirst, meaning_in};
 
-use crate::doubled::first_doubled;
 use crate::locals::Locals;
 use crate::names::Names;
 use crate::notes::Notes;
 use crate::rising::Rising;
 use crate::walk::{Setting, walk};
 use hare_directory::{Directory, look};
+use hare_modules::earlier_of;
 use hare_tree::{Fault, FileTree, Kids, Stop, Tree};
 use hx_base::{Items, Text};
 use std::alloc::{AllocError, Global};
@@ -45,24 +48,28 @@ pub fn resolve(alloc: Global, paths: &[Text], files: &Files2) -> Result<Names, S
     let (directory, first) = look(alloc, paths, files)?;
     let mut notes = Notes {
         places: Rising::new(alloc),
-        first,
+        first: None,
     };
-    note_files(alloc, &directory, &mut notes, files)?;
-    match notes.first {
+    let mut others = first;
+    note_files(alloc, &directory, &mut notes, &mut others, files)?;
+    match earlier_of(others, notes.first) {
         Some(fault) => Err(Stop::Fault(fault)),
         None => Ok(Names::new(notes.places)),
     }
 }
 
-/// Notes the declarations of all files.
+/// Notes the declarations of all files. `doubled` becomes the fault that counts first of it, if it is one, and of those at the later of
+/// equal names of parameters or fields.
 fn note_files(
     alloc: Global,
     directory: &Directory<'_>,
     notes: &mut Notes,
+    doubled: &mut Option<Fault>,
     files: &Files2,
 ) -> Result<(), AllocError>
     requires { sum_by (λ t. bindings_among (nodes_of t.decls)) files.now < 2 ^ 32 }
-    ensures { OnOk result (notes.new ≡ noted.files_noted (tables_of directory.now) 0 notes.old files.now) }
+    ensures noted { OnOk result (notes.new ≡ noted.files_noted (tables_of directory.now) 0 notes.old files.now) }
+    ensures doubled { OnOk result (doubled.new ≡ fold earlier doubled.old (flat_map names.doubled_names files.now)) }
 {
     for file in 0..files.len() {
         let Some(tree) = files.get(file) else {
@@ -70,50 +77,52 @@ fn note_files(
         };
         let decls = &tree.decls;
         let setting = Setting {
+            alloc,
             directory: &*directory,
             file,
         };
-        note_decls(alloc, setting, notes, decls)?;
+        note_decls(setting, notes, doubled, decls)?;
     }
     Ok(())
 }
 
-/// Notes the declarations of a file.
+/// The same of the declarations of a file.
 fn note_decls(
-    alloc: Global,
     setting: Setting<'_>,
     notes: &mut Notes,
+    doubled: &mut Option<Fault>,
     decls: &Kids,
 ) -> Result<(), AllocError>
     requires { bindings_among (nodes_of decls.now) < 2 ^ 32 }
-    ensures { OnOk result (notes.new ≡ fold (noted.decl_noted (tables_of setting.entry.directory.now) setting.entry.file) notes.old
+    ensures noted { OnOk result (notes.new ≡ fold (noted.decl_noted (tables_of setting.entry.directory.now) setting.entry.file) notes.old
         decls.now) }
+    ensures doubled { OnOk result (doubled.new ≡ fold earlier doubled.old (flat_map names.doubled_in decls.now)) }
 {
-    let mut locals = Locals::new(alloc);
+    let mut locals = Locals::new(setting.alloc);
     for i in 0..decls.len() {
         let Some(decl) = decls.get(i) else {
             return Ok(());
         };
-        note_decl(alloc, setting, &mut locals, notes, decl)?;
+        note_decl(setting, &mut locals, notes, doubled, decl)?;
     }
     Ok(())
 }
 
-/// Notes a declaration, outside of which no locals are visible.
+/// The same of a declaration, outside of which no locals are visible.
 fn note_decl<'a>(
-    alloc: Global,
     setting: Setting<'_>,
     locals: &mut Locals<'a>,
     notes: &mut Notes,
+    doubled: &mut Option<Fault>,
     decl: &'a Tree,
 ) -> Result<(), AllocError>
     requires room { bindings_in decl.now < 2 ^ 32 }
     requires none { locals.old ≡ [] }
     ensures none { OnOk result (locals.new ≡ []) }
     ensures noted { OnOk result (notes.new ≡ noted.decl_noted (tables_of setting.entry.directory.now) setting.entry.file notes.old decl.now) }
+    ensures doubled { OnOk result (doubled.new ≡ fold earlier doubled.old (names.doubled_in decl.now)) }
 {
-    first_doubled(alloc, decl, &mut notes.first)?;
-    walk(setting, locals, notes, decl, 0)?;
+    walk(setting, locals, notes, doubled, decl, 0)?;
     locals.back_to(0);
     Ok(())
 }

@@ -1,4 +1,5 @@
-//! The walk over the tree of a declaration, which notes what each path means, or which rule it violates.
+//! The walk over the tree of a declaration, which notes what each path means, or which rule it violates, and the violations at equal names
+//! of parameters and fields. Each tree is read once.
 //!
 //! The walk goes as deep as the tree does.
 
@@ -6,9 +7,12 @@ ghost use Rattle.std.specs.Prelude.{◌≡◌, ◌<◌, ◌+◌, ◌^◌, ◌++�
 ghost use Rattle.hare_tree.specs.Node.{nodes_of};
 ghost use Rattle.hare_tree.specs.Judged.{nodes_from};
 ghost use Rattle.hare_directory.specs.Seen.{tables_of};
+ghost use Rattle.hare_modules.specs.Order.{earlier};
 ghost use Rattle.hare_names.specs.Scopes as scopes;
 ghost use Rattle.hare_names.specs.Spots as spec;
+ghost use Rattle.hare_names.specs.Doubled as names;
 
+use crate::doubled::first_doubled;
 use crate::kinds::{is_binding, is_for_each, is_idle_kind, is_params, is_type_path, is_value_path};
 use crate::locals::Locals;
 use crate::notes::Notes;
@@ -16,22 +20,25 @@ use crate::verdict::{Verdict, judge};
 use hare_directory::Directory;
 use hare_modules::earlier;
 use hare_tree::{Fault, Kids, Place, Tree};
-use std::alloc::AllocError;
+use std::alloc::{AllocError, Global};
 
 /// A file of a program, by its number, with what modules declare and files import.
 #[derive(Clone, Copy)]
 pub struct Setting<'a> {
+    pub alloc: Global,
     pub directory: &'a Directory<'a>,
     pub file: usize,
 }
 
 /// Notes the paths of a tree, before which so many bindings of its declaration stand. The answer is how many stand behind it; then what it
-/// binds is visible. Together they are fewer than 2^32. It fails for want of memory alone.
+/// binds is visible. Together they are fewer than 2^32. `doubled` becomes the fault that counts first of it, if it is one, and of those at
+/// the later of equal names of parameters or fields in the tree. It fails for want of memory alone.
 #[cycle(walk)]
 pub fn walk<'a>(
     setting: Setting<'_>,
     locals: &mut Locals<'a>,
     notes: &mut Notes,
+    doubled: &mut Option<Fault>,
     t: &'a Tree,
     before: u32,
 ) -> Result<u32, AllocError>
@@ -40,15 +47,17 @@ pub fn walk<'a>(
     ensures locals { OnOk result (locals.new ≡ scopes.bound_by before t.now ++ locals.old) }
     ensures notes { OnOk result (notes.new ≡ fold (spec.noted (tables_of setting.entry.directory.now) setting.entry.file) notes.old
         (spec.spots_in before locals.old t.now)) }
+    ensures doubled { OnOk result (doubled.new ≡ fold earlier doubled.old (names.doubled_in t.now)) }
 {
     note(setting, locals, notes, t)?;
+    first_doubled(setting.alloc, t, doubled)?;
     let binds = is_binding(t.kind);
     let first = if binds { before + 1 } else { before };
     let mark = locals.mark();
     let behind = if is_for_each(t.kind) {
-        walk_loop(setting, locals, notes, &t.kids, first)?
+        walk_loop(setting, locals, notes, doubled, &t.kids, first)?
     } else {
-        walk_kids(setting, locals, notes, &t.kids, 0, first)?
+        walk_kids(setting, locals, notes, doubled, &t.kids, 0, first)?
     };
     if binds {
         locals.back_to(mark);
@@ -65,6 +74,7 @@ fn walk_kids<'a>(
     setting: Setting<'_>,
     locals: &mut Locals<'a>,
     notes: &mut Notes,
+    doubled: &mut Option<Fault>,
     kids: &'a Kids,
     from: usize,
     before: u32,
@@ -74,6 +84,7 @@ fn walk_kids<'a>(
     ensures locals { OnOk result (locals.new ≡ scopes.bound_among before (nodes_from from (nodes_of kids.now)) ++ locals.old) }
     ensures notes { OnOk result (notes.new ≡ fold (spec.noted (tables_of setting.entry.directory.now) setting.entry.file) notes.old
         (spec.spots_among before locals.old (nodes_from from (nodes_of kids.now)))) }
+    ensures doubled { OnOk result (doubled.new ≡ fold earlier doubled.old (names.doubled_among (nodes_from from (nodes_of kids.now)))) }
 {
     let mut behind = before;
     for i in from..kids.len() {
@@ -83,7 +94,7 @@ fn walk_kids<'a>(
         if is_idle(kid) {
             continue;
         }
-        behind = walk(setting, locals, notes, kid, behind)?;
+        behind = walk(setting, locals, notes, doubled, kid, behind)?;
     }
     Ok(behind)
 }
@@ -104,6 +115,7 @@ fn walk_loop<'a>(
     setting: Setting<'_>,
     locals: &mut Locals<'a>,
     notes: &mut Notes,
+    doubled: &mut Option<Fault>,
     kids: &'a Kids,
     before: u32,
 ) -> Result<u32, AllocError>
@@ -112,20 +124,21 @@ fn walk_loop<'a>(
     ensures locals { OnOk result (locals.new ≡ locals.old) }
     ensures notes { OnOk result (notes.new ≡ fold (spec.noted (tables_of setting.entry.directory.now) setting.entry.file) notes.old
         (spec.spots_of_loop before locals.old (nodes_of kids.now))) }
+    ensures doubled { OnOk result (doubled.new ≡ fold earlier doubled.old (names.doubled_among (nodes_of kids.now))) }
 {
     let mark = locals.mark();
     let Some(binding) = kids.get(0) else {
         return Ok(before);
     };
-    let behind = walk(setting, locals, notes, binding, before)?;
+    let behind = walk(setting, locals, notes, doubled, binding, before)?;
     locals.back_to(mark);
     let Some(over) = kids.get(1) else {
         return Ok(behind);
     };
-    let behind = walk(setting, locals, notes, over, behind)?;
+    let behind = walk(setting, locals, notes, doubled, over, behind)?;
     locals.back_to(mark);
     bind_itself(locals, binding, before)?;
-    let behind = walk_kids(setting, locals, notes, kids, 2, behind)?;
+    let behind = walk_kids(setting, locals, notes, doubled, kids, 2, behind)?;
     locals.back_to(mark);
     Ok(behind)
 }

@@ -1,5 +1,8 @@
 use Rattle.std.proofs.Common.{◌≡◌, [], fold, drop}
+use Rattle.std.specs.List.{flat_map}
 use Rattle.hare_directory.specs.Seen.{tables_of}
+use Rattle.hare_modules.specs.Order.{earlier}
+use Rattle.hare_names.specs.Doubled.{doubled_in}
 use Rattle.hare_names.specs.Noted.{decl_noted}
 use Rattle.hare_names.proofs.program.note_decls.Given as goal
 
@@ -9,4 +12,6 @@ invariant-loop-i l = record {
   none : l.locals ≡ [];
   noted : fold (decl_noted (tables_of l.setting.directory.now) l.setting.file) l.notes (drop l.i l.decls) ≡ fold
       (decl_noted (tables_of l.setting.directory.now) l.setting.file) l.initial.notes l.decls;
+  doubled : fold earlier l.doubled (flat_map doubled_in (drop l.i l.decls)) ≡ fold earlier l.initial.doubled
+      (flat_map doubled_in l.decls);
 }

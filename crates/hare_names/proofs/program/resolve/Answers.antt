@@ -1,4 +1,4 @@
-use Rattle.std.proofs.Common.{subst, sym}
+use Rattle.std.proofs.Common.{None, subst, sym, ◌∙◌}
 use Rattle.hare_directory.specs.Seen.{tables_of}
 use Rattle.hare_modules.specs.Modules.{sources}
 use Rattle.hare_names.specs.declared.notes.Notes.{Notes}
@@ -13,27 +13,30 @@ look-requires c = files-numbered c.args.paths.now c.args.files.now c.requires
 
 pub returns-in-Some-clause-err : goal.returns-in-Some-clause-err
 returns-in-Some-clause-err c =
-    let start : Notes = record { places = c.new.result; first = c.in_ok-directory.first } in
+    let start : Notes = record { places = c.new.result; first = None } in
     let t = resolved-first c.args.paths.now c.args.files.now
-    (tables_of c.in_ok-directory.directory) c.requires c.in_ok-directory.ensures.tables c.in_ok-directory.first start
-    c.note_files.new.notes c.in_ok-directory.ensures.first refl c.in_ok-note_files.ensures in
-    t.first c.in-Some.fault c.in-Some.is
+    (tables_of c.in_ok-directory.directory) c.requires c.in_ok-directory.ensures.tables c.in_ok-directory.first
+    c.note_files.new.doubled start c.note_files.new.notes c.in_ok-directory.ensures.first c.in_ok-note_files.ensures.doubled refl
+    c.in_ok-note_files.ensures.noted in
+    t.first c.in-Some.fault (sym c.earlier_of.ensures ∙ c.in-Some.is)
 
 pub returns-clause-sound : goal.returns-clause-sound
 returns-clause-sound c =
-    let start : Notes = record { places = c.new.result; first = c.in_ok-directory.first } in
+    let start : Notes = record { places = c.new.result; first = None } in
     let t = resolved-first c.args.paths.now c.args.files.now
-    (tables_of c.in_ok-directory.directory) c.requires c.in_ok-directory.ensures.tables c.in_ok-directory.first start
-    c.note_files.new.notes c.in_ok-directory.ensures.first refl c.in_ok-note_files.ensures in
-    t.none c.in-None.is
+    (tables_of c.in_ok-directory.directory) c.requires c.in_ok-directory.ensures.tables c.in_ok-directory.first
+    c.note_files.new.doubled start c.note_files.new.notes c.in_ok-directory.ensures.first c.in_ok-note_files.ensures.doubled refl
+    c.in_ok-note_files.ensures.noted in
+    t.none (sym c.earlier_of.ensures ∙ c.in-None.is)
 
 pub returns-clause-ok : goal.returns-clause-ok
 returns-clause-ok c =
-    let start : Notes = record { places = c.new.result; first = c.in_ok-directory.first } in
+    let start : Notes = record { places = c.new.result; first = None } in
     let t = resolved-first c.args.paths.now c.args.files.now
-    (tables_of c.in_ok-directory.directory) c.requires c.in_ok-directory.ensures.tables c.in_ok-directory.first start
-    c.note_files.new.notes c.in_ok-directory.ensures.first refl c.in_ok-note_files.ensures in
+    (tables_of c.in_ok-directory.directory) c.requires c.in_ok-directory.ensures.tables c.in_ok-directory.first
+    c.note_files.new.doubled start c.note_files.new.notes c.in_ok-directory.ensures.first c.in_ok-note_files.ensures.doubled refl
+    c.in_ok-note_files.ensures.noted in
     let m = resolved-meanings c.args.paths.now c.args.files.now
     (tables_of c.in_ok-directory.directory) c.requires c.in_ok-directory.ensures.tables start c.note_files.new.notes
-    (t.none c.in-None.is) c.new.ensures c.in_ok-note_files.ensures in
+    (t.none (sym c.earlier_of.ensures ∙ c.in-None.is)) c.new.ensures c.in_ok-note_files.ensures.noted in
     subst (λ es. AreMeanings (sources c.args.paths.now c.args.files.now) (meaning_in es)) (sym c.new-in-None.ensures) m

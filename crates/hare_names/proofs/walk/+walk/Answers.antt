@@ -6,6 +6,7 @@ use Rattle.hare_tree.proofs.KidsFrom.{nodes_from-get, nodes_from-past}
 use Rattle.hare_directory.specs.Seen.{tables_of}
 use Rattle.hare_names.specs.Scopes.{bindings_in, bindings_among, bound_by, bound_among, bound_itself}
 use Rattle.hare_names.proofs.WalkLemmas.{walking-on, walking-past, walking-done, walking-room, back, one-kid, two-kids, counted-one, counted-two, loop-one, loop-two}
+use Rattle.hare_names.proofs.DoubledLemmas.{among-on, among-done, doubled-idle, doubled-one, doubled-two}
 use Rattle.hare_names.proofs.walk.+walk.Goals as goal
 
 pub walk_kids-walk-requires : goal.walk_kids-walk-requires
@@ -14,33 +15,45 @@ walk_kids-walk-requires t c =
     kid_size c.args.kids.now c.loop-i.i c.in-Some.kid.now c.in-Some.ensures.found in
     let room : c.loop-i.behind + bindings_in c.in-Some.kid.now < 2 ^ 32 =
     walking-room _ _ _ _ _ _ _ c.in-Some.kid.now _ _ _ _
-    (nodes_from-get c.args.kids.now c.loop-i.i c.in-Some.kid.now c.in-Some.ensures.found) c.requires c.loop-i.invariant in
+    (nodes_from-get c.args.kids.now c.loop-i.i c.in-Some.kid.now c.in-Some.ensures.found) c.requires c.loop-i.invariant.walking in
     (omega arith, room)
 
 pub walk_kids-loop-i-preserved : goal.walk_kids-loop-i-preserved
 walk_kids-loop-i-preserved t c =
-    walking-on _ _ _ _ _ _ _ c.in-Some.kid.now _ _ _ _ _ _ _
-    (nodes_from-get c.args.kids.now c.loop-i.i c.in-Some.kid.now c.in-Some.ensures.found) c.in_ok-behind.ensures.count
-    c.in_ok-behind.ensures.locals c.in_ok-behind.ensures.notes c.loop-i.invariant
+    let here = nodes_from-get c.args.kids.now c.loop-i.i c.in-Some.kid.now c.in-Some.ensures.found in
+    record {
+      walking = walking-on _ _ _ _ _ _ _ c.in-Some.kid.now _ _ _ _ _ _ _ here c.in_ok-behind.ensures.count
+          c.in_ok-behind.ensures.locals c.in_ok-behind.ensures.notes c.loop-i.invariant.walking;
+      doubled = among-on c.loop-i.doubled c.walk.new.doubled _ c.in-Some.kid.now _ _ here c.in_ok-behind.ensures.doubled
+          c.loop-i.invariant.doubled;
+    }
 
 -- a kid that is passed by
 pub walk_kids-loop-i-preserved-then-is_idle : goal.walk_kids-loop-i-preserved-then-is_idle
 walk_kids-loop-i-preserved-then-is_idle t c =
-    walking-past _ _ _ _ _ _ _ c.in-Some.kid.now _ _ _ _
-    (nodes_from-get c.args.kids.now c.loop-i.i c.in-Some.kid.now c.in-Some.ensures.found) (sym c.is_idle.ensures ∙ c.if-is_idle.true)
-    c.loop-i.invariant
+    let here = nodes_from-get c.args.kids.now c.loop-i.i c.in-Some.kid.now c.in-Some.ensures.found in
+    let idle = sym c.is_idle.ensures ∙ c.if-is_idle.true in
+    record {
+      walking = walking-past _ _ _ _ _ _ _ c.in-Some.kid.now _ _ _ _ here idle c.loop-i.invariant.walking;
+      doubled = among-on c.loop-i.doubled c.loop-i.doubled _ c.in-Some.kid.now _ _ here
+          (doubled-idle c.in-Some.kid.now c.loop-i.doubled idle) c.loop-i.invariant.doubled;
+    }
 
 pub walk_kids-returns-clause-count : goal.walk_kids-returns-clause-count
 walk_kids-returns-clause-count t c = (walking-done _ _ _ _ _ _ _ _ _ _
-    (nodes_from-past c.args.kids.now c.loop-i.i (omega arith)) c.loop-i.invariant).count
+    (nodes_from-past c.args.kids.now c.loop-i.i (omega arith)) c.loop-i.invariant.walking).count
 
 pub walk_kids-returns-clause-locals : goal.walk_kids-returns-clause-locals
 walk_kids-returns-clause-locals t c = (walking-done _ _ _ _ _ _ _ _ _ _
-    (nodes_from-past c.args.kids.now c.loop-i.i (omega arith)) c.loop-i.invariant).locals
+    (nodes_from-past c.args.kids.now c.loop-i.i (omega arith)) c.loop-i.invariant.walking).locals
 
 pub walk_kids-returns-clause-notes : goal.walk_kids-returns-clause-notes
 walk_kids-returns-clause-notes t c = (walking-done _ _ _ _ _ _ _ _ _ _
-    (nodes_from-past c.args.kids.now c.loop-i.i (omega arith)) c.loop-i.invariant).noted_is
+    (nodes_from-past c.args.kids.now c.loop-i.i (omega arith)) c.loop-i.invariant.walking).noted_is
+
+pub walk_kids-returns-clause-doubled : goal.walk_kids-returns-clause-doubled
+walk_kids-returns-clause-doubled t c = among-done c.loop-i.doubled _ _
+    (nodes_from-past c.args.kids.now c.loop-i.i (omega arith)) c.loop-i.invariant.doubled
 
 pub walk_loop-walk-requires : goal.walk_loop-walk-requires
 walk_loop-walk-requires t c =
@@ -61,6 +74,11 @@ walk_loop-returns-in_default-get-clause-notes t c =
     loop-one (tables_of c.args.setting.directory.now) c.args.setting.file c.args.before c.args.locals.now c.args.notes.now
     c.walk.new.notes c.args.kids.now c.in-Some.binding.now
     (one-kid c.args.kids.now c.in-Some.binding.now c.in-Some.ensures.found c.in_default-get.ensures.none) c.in_ok-behind.ensures.notes
+
+pub walk_loop-returns-in_default-get-clause-doubled : goal.walk_loop-returns-in_default-get-clause-doubled
+walk_loop-returns-in_default-get-clause-doubled t c =
+    doubled-one c.args.doubled.now c.walk.new.doubled (nodes_of c.args.kids.now) c.in-Some.binding.now
+    (one-kid c.args.kids.now c.in-Some.binding.now c.in-Some.ensures.found c.in_default-get.ensures.none) c.in_ok-behind.ensures.doubled
 
 pub walk_loop-walk-requires-2 : goal.walk_loop-walk-requires-2
 walk_loop-walk-requires-2 t c =
@@ -118,3 +136,10 @@ walk_loop-returns-clause-notes t c =
     (two-kids c.args.kids.now c.in-Some.binding.now c.in-Some-get.over.now c.in-Some.ensures.found c.in-Some-get.ensures.found)
     c.in_ok-behind.ensures.count c.in_ok-behind-2.ensures.count one bound c.in_ok-behind.ensures.notes c.in_ok-behind-2.ensures.notes
     c.in_ok-behind-3.ensures.notes
+
+pub walk_loop-returns-clause-doubled : goal.walk_loop-returns-clause-doubled
+walk_loop-returns-clause-doubled t c =
+    doubled-two c.args.doubled.now c.walk.new.doubled c.walk-2.new.doubled c.walk_kids.new.doubled (nodes_of c.args.kids.now)
+    c.in-Some.binding.now c.in-Some-get.over.now (nodes_from 2 (nodes_of c.args.kids.now))
+    (two-kids c.args.kids.now c.in-Some.binding.now c.in-Some-get.over.now c.in-Some.ensures.found c.in-Some-get.ensures.found)
+    c.in_ok-behind.ensures.doubled c.in_ok-behind-2.ensures.doubled c.in_ok-behind-3.ensures.doubled
