@@ -1,4 +1,4 @@
--- A run of the module comes to where the run of the program comes, or the stack is full because calls cost too much.
+-- A run of the module on the light machine comes to where the run of the program comes, or the stack is full because calls cost too much.
 use Rattle.std.proofs.Common.{◌≡◌, ℕ, ◌+◌, ◌*◌, ◌%◌, ◌<◌, ◌≤◌, Bool, true, false, List, [], ◌∷◌, ◌++◌, length, Option, None, Some, refl, sym, ap, ◌∙◌, subst, arith, append_assoc, ◌⊎◌, inl, inr}
 use Rattle.std.specs.Prelude.{codes, max, nat_lt, if◌then◌else◌}
 use Rattle.std.specs.List.{AllByRecursion}
@@ -22,19 +22,20 @@ use Rattle.flat_code.specs.WellFormed.{IsWellFormed}
 use Rattle.il_code.specs.declared.types.Block.{Block}
 use Rattle.il_code.specs.declared.types.IlParam.{IlParam}
 use Rattle.il_code.specs.declared.types.Jump.TheVariants as jump
-use Rattle.il_code.specs.Machine.{StackFull, Temps, call_cost, stack_size}
+use Rattle.il_code.specs.declared.types.Module.{Module}
+use Rattle.il_code.specs.Machine.{StackFull, Temps, stack_size}
 use Rattle.il_code.specs.Machine as machine
 use Rattle.il_code.specs.MachineLaws.{jumps_and_calls}
-use Rattle.il_code.specs.Run.{Run, after_step, after_steps, run_to, start, start_world, started}
+use Rattle.il_code.specs.Run.{Run, after_step, start_world}
 use Rattle.il_code.specs.State as il
 use Rattle.il_code.specs.Step.{bound}
-use Rattle.il_code.proofs.Budgets.{run_to-after_steps}
+use Rattle.il_tight.proofs.Light.{price, after_steps, start, started}
 use Rattle.il_emit.specs.declared.goal.Goal.TheVariants.{Next}
 use Rattle.il_emit.specs.Names.{label_name}
 use Rattle.il_emit.specs.Lines.{Line, End, code_lines, frame_lines, end_value, function_lines}
 use Rattle.il_emit.specs.Emitted.{params_of, blocks_of, module_of}
 use Rattle.il_emit.specs.Numbered.{HasFewNames}
-use Rattle.il_emit.specs.Reaches.{SameWorld, end_for, Arrives, Overflows, Reaches}
+use Rattle.il_emit.specs.Reaches.{SameWorld, end_for}
 use Rattle.flat_laws.proofs.CountLemmas.{code_counts}
 use Rattle.il_emit.proofs.CallCosts.{frame_cost, full_costs}
 use Rattle.il_emit.proofs.Calling.{risen, risen_is, with_frame, framed_mark, framed_world, frame_steps, frame_runs, frame_used, frame_same, frame_has, frame_top}
@@ -45,6 +46,31 @@ use Rattle.il_emit.proofs.Places.{function_blocks}
 use Rattle.il_emit.proofs.Running.{Activation, Returns, Mark, counted, steps_more, before, Same, Holds, Comes, Stops, Does, Meets}
 use Rattle.il_emit.proofs.Turns.{IsReady, body_exits, body_inside, meets}
 use Rattle.il_emit.proofs.NamedFunctions.{emitted, items_named, found_right, found_few, main_there, Parts, parts}
+
+-- ---- what is shown of the light machine
+
+module _ (m : Module) (args : List (List ℕ)) (input : List ℕ) (fill n : ℕ) where
+  abbrev far : ℕ → Run
+  far count = after_steps m count (start m args input fill)
+
+  pub record LightArrives (r : Result) : Type 0 where
+    pub count : ℕ
+    pub ended : (far count).ended ≡ end_for r.0
+    pub world : SameWorld r.1.world (far count).state.world
+    pub jumps : r.0 ≡ Spent → n ≤ jumps_and_calls (far count)
+    pub units : (far count).used ≤ 4 * r.1.steps + 1
+
+  pub record LightOverflows (r : Result) : Type 0 where
+    pub count : ℕ
+    pub ended : (far count).ended ≡ Some StackFull
+    pub cost : stack_size < r.1.most
+
+abbrev pub LightMeets : FlatProgram → Module → List (List ℕ) → List ℕ → (fill n : ℕ) → Type 0
+LightMeets p m args input fill n =
+    LightArrives m args input fill n (run p args input fill n) ⊎ LightOverflows m args input fill n (run p args input fill n)
+
+abbrev pub LightReaches : FlatProgram → Module → Type 0
+LightReaches p m = (args : List (List ℕ)) (input : List ℕ) (fill n : ℕ) → LightMeets p m args input fill n
 
 module _ (p : FlatProgram) (w : IsWellFormed p) (few : AllByRecursion HasFewNames p.functions) where
   ready : (name : List ℕ) (f : FlatFn) → flat.function_named p.functions name ≡ Some f → IsReady p (module_of p) f
@@ -91,7 +117,7 @@ module _ (p : FlatProgram) (w : IsWellFormed p) (few : AllByRecursion HasFewName
     body_lines = code_lines p (code_of f.body) Next 1 0 []
 
     abbrev cost : ℕ
-    cost = call_cost (params_of 0 f.params) (blocks_of p f)
+    cost = price (params_of 0 f.params) (blocks_of p f)
 
     -- the call of `main` before it takes its frame, and once it has
     abbrev first_call : Activation
@@ -307,29 +333,25 @@ module _ (p : FlatProgram) (w : IsWellFormed p) (few : AllByRecursion HasFewName
 
     arrives : (r : Result) (k : ℕ) → start (module_of p) args input fill ≡ starts_at →
         after_steps (module_of p) k starts_at ≡ begins → Ends r
-        → Arrives (module_of p) args input fill n r
+        → LightArrives (module_of p) args input fill n r
     arrives r k e by h =
-        let there = after_steps (module_of p) (k + h.count) starts_at in
-        let on : there ≡ after_steps (module_of p) h.count begins =
-        steps_more (module_of p) k h.count starts_at ∙ ap (after_steps (module_of p) h.count) by in
-        let is : run_to (module_of p) there.used (start (module_of p) args input fill) ≡ there =
-        ap (run_to (module_of p) there.used) e ∙ run_to-after_steps (module_of p) (k + h.count) starts_at in
+        let is : after_steps (module_of p) (k + h.count) (start (module_of p) args input fill) ≡ after_steps (module_of p) h.count begins =
+        ap (after_steps (module_of p) (k + h.count)) e
+        ∙ steps_more (module_of p) k h.count starts_at ∙ ap (after_steps (module_of p) h.count) by in
         record {
-          budget = there.used;
-          ended = ap (λ (z : Run). z.ended) (is ∙ on) ∙ h.ended;
-          world = equal_worlds _ _ (ap (λ (z : Run). z.state.world) (is ∙ on) ∙ h.world_is);
-          jumps = λ z. omega (arith, ap jumps_and_calls (is ∙ on), h.jumps z);
-          used = ap (λ (z : Run). z.used) is;
-          units = omega (arith, ap (λ (z : Run). z.used) on, h.units);
+          count = k + h.count;
+          ended = ap (λ (z : Run). z.ended) is ∙ h.ended;
+          world = equal_worlds _ _ (ap (λ (z : Run). z.state.world) is ∙ h.world_is);
+          jumps = λ z. omega (arith, ap jumps_and_calls is, h.jumps z);
+          units = omega (arith, ap (λ (z : Run). z.used) is, h.units);
         }
 
     overflows : (from : Run) (k : ℕ) → start (module_of p) args input fill ≡ from →
         (after_steps (module_of p) k from).ended ≡ Some StackFull → stack_size < flat_body.1.most →
-        Overflows (module_of p) args input fill n (flat_run.ended flat_body)
+        LightOverflows (module_of p) args input fill n (flat_run.ended flat_body)
     overflows from k e full most = record {
-      budget = (after_steps (module_of p) k from).used;
-      ended = ap (λ (z : Run). (run_to (module_of p) (after_steps (module_of p) k from).used z).ended) e
-          ∙ ap (λ (z : Run). z.ended) (run_to-after_steps (module_of p) k from) ∙ full;
+      count = k;
+      ended = ap (λ (z : Run). (after_steps (module_of p) k z).ended) e ∙ full;
       cost = omega (arith, most, ended_most flat_body);
     }
 
@@ -342,8 +364,8 @@ module _ (p : FlatProgram) (w : IsWellFormed p) (few : AllByRecursion HasFewName
         omega (arith, most, costs)
 
     abbrev Arrival : Type 0
-    Arrival = Arrives (module_of p) args input fill n (flat_run.ended flat_body) ⊎ Overflows (module_of p) args input fill n
-        (flat_run.ended flat_body)
+    Arrival = LightArrives (module_of p) args input fill n (flat_run.ended flat_body) ⊎
+        LightOverflows (module_of p) args input fill n (flat_run.ended flat_body)
 
     runs : start (module_of p) args input fill ≡ starts_at → Arrival
     runs e = elim (frame_runs (module_of p) first_call f.frame (body_lines ++ rest) world first) [
@@ -367,16 +389,13 @@ module _ (p : FlatProgram) (w : IsWellFormed p) (few : AllByRecursion HasFewName
             (over cost (grind (arith, nat_tests)) (omega arith)))
         pick false e = runs (starts ∙ ap (λ (b : Bool). begun_with (if b then Some StackFull else None)) e)
 
-    main_reaches : Arrives (module_of p) args input fill n (run p args input fill n) ⊎ Overflows (module_of p) args input fill n
-        (run p args input fill n)
-    main_reaches = subst (λ (r : Result). Arrives (module_of p) args input fill n r ⊎ Overflows (module_of p) args input fill n r)
+    main_reaches : LightMeets p (module_of p) args input fill n
+    main_reaches = subst (λ (r : Result). LightArrives (module_of p) args input fill n r ⊎ LightOverflows (module_of p) args input fill n r)
         (sym flat_runs) comes
 
-  pub reaches : Reaches p (module_of p)
+  pub reaches : LightReaches p (module_of p)
   reaches args input fill n = pick (flat.function_named p.functions (codes "main")) refl
     where
-      pick : (o : Option FlatFn) → flat.function_named p.functions (codes "main") ≡ o →
-          Arrives (module_of p) args input fill n (run p args input fill n) ⊎ Overflows (module_of p) args input fill n
-          (run p args input fill n)
+      pick : (o : Option FlatFn) → flat.function_named p.functions (codes "main") ≡ o → LightMeets p (module_of p) args input fill n
       pick None e = absurd (main_there p.functions w.main e)
       pick (Some f) e = main_reaches f e args input fill n

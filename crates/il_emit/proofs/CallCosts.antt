@@ -1,5 +1,5 @@
--- A call of an emitted function costs the stack no more than flat code says.
-use Rattle.std.proofs.Common.{◌≡◌, ℕ, zero, suc, ◌+◌, ◌*◌, ◌<◌, ◌≤◌, Bool, true, false, ◌||◌, List, [], ◌∷◌, ◌++◌, map, length, Option, None, Some, refl, sym, ap, ◌∙◌, arith, length-append}
+-- A call of a function that was emitted and whose blocks are tight costs the stack no more than flat code says.
+use Rattle.std.proofs.Common.{◌≡◌, ℕ, zero, suc, ◌+◌, ◌*◌, ◌<◌, ◌≤◌, Bool, true, false, ◌&&◌, ◌||◌, List, [], ◌∷◌, ◌++◌, map, length, Option, None, Some, refl, sym, ap, ◌∙◌, arith, length-append}
 use Rattle.std.specs.Prelude.{bytes_eq, count_by, sum_by, max, nat_lt, ◌==◌, if◌then◌else◌}
 use Rattle.std.specs.List.{flat_map, list_all}
 use Rattle.std.proofs.lemmas.Bool.{and_parts}
@@ -23,9 +23,16 @@ use Rattle.il_code.specs.declared.types.IlParam.{IlParam}
 use Rattle.il_code.specs.declared.types.IlArg.{IlArg}
 use Rattle.il_code.specs.declared.types.Inst.{Inst}
 use Rattle.il_code.specs.declared.types.Inst.TheVariants as inst
+use Rattle.il_code.specs.declared.types.Jump.{Jump}
 use Rattle.il_code.specs.declared.types.Jump.TheVariants as jump
-use Rattle.il_code.specs.Machine.{assigned, block_assigned, all_assigned, is_among, distinct, call_cost}
+use Rattle.il_code.specs.declared.types.Phi.{Phi}
+use Rattle.il_code.specs.Machine.{assigned, block_assigned, all_assigned, is_among, distinct}
 use Rattle.il_code.specs.Step.{taken}
+use Rattle.il_tight.proofs.Kept.{kept, staying}
+use Rattle.il_tight.proofs.Light.{price}
+use Rattle.il_tight.proofs.Passing.{kept_pass}
+use Rattle.il_tight.proofs.Twins.{Plain, plain_kept}
+use Rattle.il_tight.proofs.Wholes.{price_is}
 use Rattle.il_emit.specs.Names.{temp_name, address_name, frame_name, label_name}
 use Rattle.il_emit.specs.Lines.{Line, End, all_addressed, addresses_in, addresses_in_all, labels_in, frame_lines, inner_lines, end_value, result_param}
 use Rattle.il_emit.specs.Emitted.{params_of, blocks_of}
@@ -34,6 +41,7 @@ use Rattle.il_emit.proofs.Blocks.{line_passes, blocks_pass}
 use Rattle.il_emit.proofs.Calls.{called_takes}
 use Rattle.il_emit.proofs.Counts.{both_true, all_append, sum_cons, weight, or_true}
 use Rattle.il_emit.proofs.NumberedNames.{bytes_same}
+use Rattle.il_emit.proofs.Phis.{blocks_plain}
 
 -- ---- names that differ stand among as many
 
@@ -220,15 +228,40 @@ module _ (p : FlatProgram) (f : FlatFn) (right : is_right p f 0 (code_of f.body)
   frame_lines_known zero = refl
   frame_lines_known (suc n) = both_true _ true (both_true _ true frame_known refl) refl
 
-  blocks_known : list_all (λ (b : Block). list_all is_known (block_assigned b)) (blocks_of p f) ≡ true
-  blocks_known =
-      blocks_pass (λ n. true) good_inst (λ j. true) refl (λ (b : Block). list_all is_known (block_assigned b))
-      (λ s n is j e l h k. all_flat is_known assigned is h)
+  abbrev stays : List ℕ → Bool
+  stays = staying (params_of 0 f.params) (blocks_of p f)
+
+  abbrev tight_ones : List Block
+  tight_ones = kept stays (blocks_of p f)
+
+  abbrev passing : Block → Bool
+  passing b = true && (list_all good_inst b.insts && true)
+
+  passing_known : list_all passing (blocks_of p f) ≡ true
+  passing_known =
+      blocks_pass (λ n. true) good_inst (λ j. true) refl passing
+      (λ s n is j e l h k. both_true (list_all good_inst is) true h refl)
       [] (label_name 0) 0 [] true (inner_lines p f ++ End (jump.Ret (end_value f.result)) ∷ []) refl refl refl refl
       (all_append good (inner_lines p f) _
       (inner_good p f good (suc (labels_in (code_of f.body) true)) (addresses_in (code_of f.body)) lines_known right (omega arith)
       (omega arith)
       (frame_lines_known f.frame)) refl)
+
+  one_known : (b : Block) → b.phis ≡ [] → passing b ≡ true → list_all is_known (block_assigned b) ≡ true
+  one_known b e h =
+      ap (λ (ps : List Phi). list_all is_known (map (λ (q : Phi). q.temp) ps ++ flat_map assigned b.insts)) e
+      ∙ all_flat is_known assigned b.insts (and_parts (list_all good_inst b.insts) true h).0
+
+  all_known : (bs : List Block) → Plain bs → list_all passing bs ≡ true →
+      list_all (λ (b : Block). list_all is_known (block_assigned b)) bs ≡ true
+  all_known [] e h = refl
+  all_known (b ∷ bs) e h =
+      let k = and_parts (passing b) (list_all passing bs) h in both_true _ _ (one_known b e.0 k.0) (all_known bs e.1 k.1)
+
+  blocks_known : list_all (λ (b : Block). list_all is_known (block_assigned b)) tight_ones ≡ true
+  blocks_known =
+      all_known tight_ones (plain_kept stays (blocks_of p f) (blocks_plain p f))
+      (kept_pass stays (λ (l : List ℕ). true) good_inst (λ (j : Jump). true) refl (blocks_of p f) passing_known)
 
   params_known : (at : ℕ) (cs : List Class) → at + length cs ≤ f.temps → list_all is_known (map (λ (p : IlParam). p.name) (params_of at cs))
       ≡ true
@@ -262,13 +295,14 @@ module _ (p : FlatProgram) (f : FlatFn) (right : is_right p f 0 (code_of f.body)
   -- ---- the cost
 
   -- without the frame itself
-  pub costs_no_more : call_cost (params_of 0 f.params) (blocks_of p f) ≤ 64 + 8 * (f.temps + addressed_in (code_of f.body) + 1)
+  pub costs_no_more : price (params_of 0 f.params) (blocks_of p f) ≤ 64 + 8 * (f.temps + addressed_in (code_of f.body) + 1)
   costs_no_more =
-      let names = all_append is_known (map (λ (p : IlParam). p.name) (params_of 0 f.params)) (flat_map block_assigned (blocks_of p f))
-      (params_known 0 f.params (omega arith)) (all_flat is_known block_assigned (blocks_of p f) blocks_known) in
+      let names = all_append is_known (map (λ (p : IlParam). p.name) (params_of 0 f.params)) (flat_map block_assigned tight_ones)
+      (params_known 0 f.params (omega arith)) (all_flat is_known block_assigned tight_ones blocks_known) in
       omega (
         arith,
-        distinct_length (all_assigned (params_of 0 f.params) (blocks_of p f)) known names,
+        price_is (params_of 0 f.params) (blocks_of p f),
+        distinct_length (all_assigned (params_of 0 f.params) tight_ones) known names,
         length-append
             (numbered temp_name 0 f.temps ++ numbered address_name 0 (addresses_in (code_of f.body))) (frame_name ∷ []),
         length-append
@@ -284,7 +318,7 @@ frame_cost zero = 0
 frame_cost (suc n) = taken (suc n)
 
 pub full_costs : (p : FlatProgram) (f : FlatFn) → is_right p f 0 (code_of f.body) ≡ true → length f.params ≤ f.temps →
-    call_cost (params_of 0 f.params) (blocks_of p f) + frame_cost f.frame ≤ flat.call_cost f
+    price (params_of 0 f.params) (blocks_of p f) + frame_cost f.frame ≤ flat.call_cost f
 full_costs p f right few = let c = costs_no_more p f right few in let k = at_most f.frame in omega arith
   where
     at_most : (n : ℕ) → frame_cost n ≤ round_up (max 1 n) 16

@@ -23,14 +23,16 @@ use Rattle.il_code.specs.declared.types.IlParam.{IlParam}
 use Rattle.il_code.specs.declared.types.Inst.TheVariants as inst
 use Rattle.il_code.specs.declared.types.Jump.TheVariants as jump
 use Rattle.il_code.specs.declared.types.Module.{Module}
-use Rattle.il_code.specs.Machine.{Temps, temp_value, cut, call_cost, stack_size}
+use Rattle.il_code.specs.Machine.{Temps, temp_value, cut, stack_size}
 use Rattle.il_code.specs.Machine as machine
 use Rattle.il_code.specs.MachineLaws.{jumps_and_calls}
-use Rattle.il_code.specs.Run.{Run, after_step, further, after_steps}
+use Rattle.il_code.specs.Run.{Run, after_step}
 use Rattle.il_code.specs.State as il
 use Rattle.il_code.specs.State.{Code, Waiting, Called, start_of}
 use Rattle.il_code.specs.Step as step
-use Rattle.il_code.specs.Step.{taken, took, bound, call_step, returned, arg_values}
+use Rattle.il_code.specs.Step.{taken, took, bound, returned, arg_values}
+use Rattle.il_tight.proofs.Light as light
+use Rattle.il_tight.proofs.Light.{price, call_step, further, after_steps}
 use Rattle.il_emit.specs.declared.goal.Goal.TheVariants.{Next}
 use Rattle.il_emit.specs.Names.{temp_name, frame_name, label_name}
 use Rattle.il_emit.specs.Lines.{Line, Do, End, arg_lines, args_of, all_addressed, result_param, call_lines, code_lines, frame_lines, end_value, function_lines}
@@ -161,7 +163,7 @@ module _ (m : Module) (call : Activation) (p : FlatProgram) (g : FlatFn) (rest :
   code_is = record { name = g.name; class = g.result; params = params_of 0 g.params; blocks = blocks_of p g }
 
   abbrev pub inner_cost : ℕ
-  inner_cost = call_cost (params_of 0 g.params) (blocks_of p g)
+  inner_cost = price (params_of 0 g.params) (blocks_of p g)
 
   abbrev pub last : List Line
   last = End (jump.Ret (end_value g.result)) ∷ []
@@ -215,7 +217,7 @@ module _ (m : Module) (call : Activation) (p : FlatProgram) (g : FlatFn) (rest :
 
   enters : (here : List Line) (w : World) (c : Mark) (result : Option IlParam) (vs : List ℕ) →
       nat_lt stack_size (call.cost + inner_cost) ≡ false →
-      after_step (before m call here w c) (step.enter (state_at m call rest w c) result code_is vs) ≡
+      after_step (before m call here w c) (light.enter (state_at m call rest w c) result code_is vs) ≡
       before m (entering result c) (frame_lines g.frame ++ (body ++ last)) w (entered_mark c vs)
   enters here w c result vs e =
       ap (λ (b : Bool). after_step (before m call here w c)
@@ -241,7 +243,7 @@ module _ (m : Module) (call : Activation) (p : FlatProgram) (g : FlatFn) (rest :
 
   full_at_once : (here : List Line) (w : World) (c : Mark) (result : Option IlParam) (vs : List ℕ) →
       nat_lt stack_size (call.cost + inner_cost) ≡ true →
-      (after_step (before m call here w c) (step.enter (state_at m call rest w c) result code_is vs)).ended ≡ Some machine.StackFull
+      (after_step (before m call here w c) (light.enter (state_at m call rest w c) result code_is vs)).ended ≡ Some machine.StackFull
   full_at_once here w c result vs e =
       ap (λ (b : Bool). (after_step (before m call here w c)
       (step.entered (state_at m call rest w c) result code_is vs (call.cost + inner_cost) b)).ended) e
@@ -331,7 +333,7 @@ module _ (m : Module) (call : Activation) (p : FlatProgram) (g : FlatFn) (rest :
       -- behind a return
       back_comes : (s' : State) (v : ℕ) (to : Mark) (ls : List Line) (count : ℕ) → Holds (callee to_temp c) s' to
           → after_steps m count begins ≡ before m (callee to_temp c) ls s'.world to
-          → step.step m (state_at m (callee to_temp c) ls s'.world to) ≡ returned (state_at m (callee to_temp c) ls s'.world to) v
+          → light.step m (state_at m (callee to_temp c) ls s'.world to) ≡ returned (state_at m (callee to_temp c) ls s'.world to) v
           (waits to_temp c ∷ call.waiting)
           → q1 ≤ counted to → to.used + low1 ≤ high1 + 4 * s'.steps
           → Comes m call q low high r (give (left s s') temp g.result v) rest
@@ -351,7 +353,7 @@ module _ (m : Module) (call : Activation) (p : FlatProgram) (g : FlatFn) (rest :
 
       -- a body that ends without a Ret returns 0
       ends_step : (class : Option Class) (result : Option IlParam) (w : World) (to : Mark) →
-          step.step m (state_at m (callee result c) (End (jump.Ret (end_value class)) ∷ []) w to) ≡
+          light.step m (state_at m (callee result c) (End (jump.Ret (end_value class)) ∷ []) w to) ≡
           returned (state_at m (callee result c) (End (jump.Ret (end_value class)) ∷ []) w to) 0 (waits result c ∷ call.waiting)
       ends_step None result w to = refl
       ends_step (Some class) result w to = refl
@@ -416,12 +418,12 @@ module _ (p : FlatProgram) (f : FlatFn) (m : Module) (call : Activation) (set : 
       → arg_values m (state_at m call rest w c) args ≡ vs
       → further m (before m call (Do (inst.Call result name args) ∷ rest) w c) ≡
       after_step (before m call (Do (inst.Call result name args) ∷ rest) w c)
-      (step.enter (state_at m call rest w c) result (code_is m call p g rest) vs)
+      (light.enter (state_at m call rest w c) result (code_is m call p g rest) vs)
   call_goes result name args rest w c vs e v =
       let r = before m call (Do (inst.Call result name args) ∷ rest) w c in
       ap (λ (x : Option Code). after_step r (call_step (state_at m call rest w c) result name x
       (arg_values m (state_at m call rest w c) args))) e
-      ∙ ap (λ (xs : List ℕ). after_step r (step.enter (state_at m call rest w c) result (code_is m call p g rest) xs)) v
+      ∙ ap (λ (xs : List ℕ). after_step r (light.enter (state_at m call rest w c) result (code_is m call p g rest) xs)) v
 
   -- what is claimed of the body, which has a turn less
   abbrev pub BodyMeets : (n : ℕ) (rest : List Line) (result : Option IlParam) → Type 0
@@ -480,13 +482,13 @@ module _ (p : FlatProgram) (f : FlatFn) (m : Module) (call : Activation) (set : 
         ∙ arg_steps p f m call set g.params args k (line ++ rest) s c ra h
 
     goes : further m (before m call (line ++ rest) s.world ca) ≡ after_step (before m call (line ++ rest) s.world ca)
-        (step.enter (state_at m call rest s.world ca) result (code_is m call p g rest) cut_vs)
+        (light.enter (state_at m call rest s.world ca) result (code_is m call p g rest) cut_vs)
     goes = call_goes result name (args_of p.globals g.params args k) rest s.world ca cut_vs (set.functions name ∙ ap (emitted p) named)
         (args_are p f m call set rest s.world ca (args_of p.globals g.params args k)
         ∙ args_ready p f m call set s g.params args k c ra few_k h)
 
     calls : after_steps m (all_addressed args + 1) begins ≡ after_step (before m call (line ++ rest) s.world ca)
-        (step.enter (state_at m call rest s.world ca) result (code_is m call p g rest) cut_vs)
+        (light.enter (state_at m call rest s.world ca) result (code_is m call p g rest) cut_vs)
     calls = steps_more m (all_addressed args) 1 begins ∙ ap (after_steps m 1) comes ∙ goes
 
     -- where the stack is full, the call costs too much in flat code

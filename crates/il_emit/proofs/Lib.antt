@@ -15,6 +15,7 @@ pub mod Functions
 pub mod Globals
 pub mod Lawful
 pub mod Places
+pub mod Phis
 pub mod Running
 pub mod Meeting
 pub mod Operands

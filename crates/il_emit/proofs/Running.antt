@@ -1,4 +1,4 @@
--- Runs of the machine from places before lines: what each line does.
+-- Runs of the light machine from places before lines: what each line does.
 use Rattle.std.proofs.Common.{◌≡◌, ℕ, zero, suc, ◌+◌, ◌*◌, ◌^◌, ◌<◌, ◌≤◌, ◌⊎◌, List, ◌∷◌, length, None, Some, refl, ap, arith}
 use Rattle.hx_base.specs.declared.Class.TheVariants.{L}
 use Rattle.hx_base.specs.Runtime.{World}
@@ -14,8 +14,9 @@ use Rattle.il_code.specs.Machine.{Temps, temp_value, cut, stack_size}
 use Rattle.il_code.specs.Machine as machine
 use Rattle.il_code.specs.MachineLaws.{jumps_and_calls}
 use Rattle.il_code.specs.State.{State, Waiting, Done, Jumped, start_of}
-use Rattle.il_code.specs.Step.{step, value_of, returned}
-use Rattle.il_code.specs.Run.{Run, further, after_steps}
+use Rattle.il_code.specs.Step.{value_of, returned}
+use Rattle.il_code.specs.Run.{Run}
+use Rattle.il_tight.proofs.Light.{step, further, after_steps}
 use Rattle.il_emit.specs.Names.{temp_name, frame_name, label_name}
 use Rattle.il_emit.specs.Lines.{Line, End}
 use Rattle.il_emit.specs.Reaches.{fault_for}

@@ -1,6 +1,6 @@
 -- Each function of the module has the shape of one of the program: what it jumps back and calls, and what it takes of the stack, which is
 -- its frame.
-use Rattle.std.proofs.Common.{◌≡◌, ℕ, zero, suc, ◌≤◌, Bool, true, false, not, ◌||◌, List, [], ◌∷◌, ◌++◌, map, length, Option, None, Some, refl, sym, ap, ◌∙◌, subst, arith, append_assoc}
+use Rattle.std.proofs.Common.{◌≡◌, ℕ, zero, suc, ◌+◌, ◌≤◌, Bool, true, false, not, ◌||◌, List, [], ◌∷◌, ◌++◌, map, length, Option, None, Some, refl, sym, ap, ◌∙◌, subst, arith, append_assoc}
 use Rattle.std.specs.Prelude.{sum_by, if◌then◌else◌}
 use Rattle.std.specs.List.{list_all}
 use Rattle.std.proofs.lemmas.Bool.{and_parts}
@@ -11,6 +11,8 @@ use Rattle.flat_code.specs.declared.op.Op.{Op}
 use Rattle.flat_code.specs.declared.program.Data.{Data}
 use Rattle.flat_code.specs.declared.program.FlatFn.{FlatFn}
 use Rattle.flat_code.specs.declared.program.FlatProgram.{FlatProgram}
+use Rattle.flat_code.specs.Contents.{loops_in, calls_in}
+use Rattle.flat_code.specs.Costs as flat_cost
 use Rattle.flat_code.specs.Evaluation as flat
 use Rattle.flat_code.specs.Shape.{code_of}
 use Rattle.flat_code.specs.WellFormed.{IsWellFormed, is_right}
@@ -20,14 +22,16 @@ use Rattle.il_code.specs.declared.types.IlValue.TheVariants as il_value
 use Rattle.il_code.specs.declared.types.Inst.{Inst}
 use Rattle.il_code.specs.declared.types.Inst.TheVariants as inst
 use Rattle.il_code.specs.declared.types.Jump.TheVariants as jump
+use Rattle.il_code.specs.declared.types.Module.{Module}
 use Rattle.il_code.specs.State as il
 use Rattle.il_code.specs.Step.{Kind, kind_of}
+use Rattle.il_tight.proofs.Light.{price}
 use Rattle.il_emit.specs.declared.goal.Goal.TheVariants.{Next}
 use Rattle.il_emit.specs.Names.{frame_name, label_name}
 use Rattle.il_emit.specs.Ops.{il_op, load_op}
 use Rattle.il_emit.specs.Lines.{Line, Label, End, code_lines, end_value, frame_lines, labels_in, addresses_in}
 use Rattle.il_emit.specs.Emitted.{data_item, params_of, blocks_of, function_item, module_of}
-use Rattle.il_emit.specs.Shape.{is_taking, is_alloc, number_of, fixed, has_fixed_size, allocs_are_placed, taken_of, takes, IsShapedAs, AreAlike, outlined, HasShape}
+use Rattle.il_emit.specs.Shape.{is_taking, is_alloc, number_of, fixed, has_fixed_size, allocs_are_placed, taken_of, takes, backward_jumps, calls_of, outlined}
 use Rattle.il_emit.proofs.Allowed.{LinesPass, code_good}
 use Rattle.il_emit.proofs.BackwardJumps.{jumps_few}
 use Rattle.il_emit.proofs.Blocks.{block}
@@ -149,8 +153,27 @@ blocks_are p f = function_blocks p f ∙ ap (λ (ls : List Line). line_blocks (L
 
 -- ---- all functions
 
+-- what holds of a function of the module before its blocks are tight: what calls of it cost is said of tight blocks
+pub record IsLoose (f : FlatFn) (c : il.Code) : Type 0 where
+  pub jumps : backward_jumps c.blocks ≤ loops_in (code_of f.body)
+  pub calls : (name : List ℕ) → calls_of name c.blocks ≤ calls_in name (code_of f.body)
+  pub allocs : allocs_are_placed c.blocks ≡ true
+  pub unframed : f.frame ≡ 0 → all_pass plain c.blocks ≡ true
+  pub cost : price c.params c.blocks + sum_by block_takes c.blocks ≤ flat_cost.call_cost f
+
+abbrev pub AreLoose : Option FlatFn → Option il.Code → Type 0
+AreLoose None None = Unit {0}
+AreLoose None (Some c) = ⊥
+AreLoose (Some f) None = ⊥
+AreLoose (Some f) (Some c) = IsLoose f c
+
+pub record HasLooseShape (p : FlatProgram) (m : Module) : Type 0 where
+  pub items : map outlined m.items ≡
+      map (λ (d : Data). (d.name, false)) p.globals ++ map (λ (f : FlatFn). (f.name, true)) p.functions
+  pub functions : (name : List ℕ) → AreLoose (flat.function_named p.functions name) (il.function_named m.items name)
+
 shaped : (p : FlatProgram) (f : FlatFn) → is_right p f 0 (code_of f.body) ≡ true → length f.params ≤ f.temps →
-    IsShapedAs f (record { name = f.name; class = f.result; params = params_of 0 f.params; blocks = blocks_of p f })
+    IsLoose f (record { name = f.name; class = f.result; params = params_of 0 f.params; blocks = blocks_of p f })
 shaped p f right few =
     let k = function_framed p f right in
     record {
@@ -162,11 +185,11 @@ shaped p f right few =
     }
 
 functions_alike : (p : FlatProgram) → IsWellFormed p → (name : List ℕ) →
-    AreAlike (flat.function_named p.functions name) (il.function_named (module_of p).items name)
-functions_alike p w name = subst (λ (c : Option il.Code). AreAlike (flat.function_named p.functions name) c) (sym (items_named p w name))
+    AreLoose (flat.function_named p.functions name) (il.function_named (module_of p).items name)
+functions_alike p w name = subst (λ (c : Option il.Code). AreLoose (flat.function_named p.functions name) c) (sym (items_named p w name))
     (pick (flat.function_named p.functions name) refl)
   where
-    pick : (o : Option FlatFn) → flat.function_named p.functions name ≡ o → AreAlike o (emitted p o)
+    pick : (o : Option FlatFn) → flat.function_named p.functions name ≡ o → AreLoose o (emitted p o)
     pick None e = tt
     pick (Some f) e = let is = parts p f (found_right p name f w e) in shaped p f is.code is.few_params
 
@@ -179,5 +202,5 @@ data_outlined p [] = code_outlined p.functions
     code_outlined (f ∷ fs) = ap (λ (xs : List (List ℕ × Bool)). (f.name, true) ∷ xs) (code_outlined fs)
 data_outlined p (d ∷ ds) = ap (λ (xs : List (List ℕ × Bool)). (d.name, false) ∷ xs) (data_outlined p ds)
 
-pub shape : (p : FlatProgram) → IsWellFormed p → HasShape p (module_of p)
+pub shape : (p : FlatProgram) → IsWellFormed p → HasLooseShape p (module_of p)
 shape p w = record { items = data_outlined p p.globals; functions = functions_alike p w }

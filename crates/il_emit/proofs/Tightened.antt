@@ -10,6 +10,7 @@ use Rattle.flat_code.specs.declared.program.FlatFn.{FlatFn}
 use Rattle.flat_code.specs.declared.program.FlatProgram.{FlatProgram}
 use Rattle.flat_code.specs.Evaluation as flat
 use Rattle.flat_code.specs.Run.{run}
+use Rattle.flat_code.specs.State.{Result}
 use Rattle.il_code.specs.declared.types.Block.{Block}
 use Rattle.il_code.specs.declared.types.IlItem.{IlItem}
 use Rattle.il_code.specs.declared.types.IlItem.TheVariants as item
@@ -21,38 +22,21 @@ use Rattle.il_code.specs.Rules.{has_label, targets_pass}
 use Rattle.il_code.specs.Shaped.{falls}
 use Rattle.il_code.specs.State as il
 use Rattle.il_code.specs.State.{Done}
+use Rattle.il_code.specs.Run.{Run, after_steps, start, machine}
+use Rattle.il_code.proofs.Budgets.{run_to-after_steps}
 use Rattle.il_tight.specs.Tight.{first_stays, is_closed, tight_item, tight_module}
 use Rattle.il_tight.proofs.Kept.{into_insts, into_jump, whole, kept}
-use Rattle.il_tight.proofs.Passing.{into_pass, kept_pass, label_kept}
-use Rattle.il_tight.proofs.Runs.{NoPhis, functions_same, machine_same, runs_alike}
+use Rattle.il_tight.proofs.Light as light
+use Rattle.il_tight.proofs.Passing.{all_reached, into_pass, kept_pass, label_kept}
+use Rattle.il_tight.proofs.Runs.{NoPhis, functions_same, start_same, Alike, runs_alike}
 use Rattle.il_tight.proofs.Twins.{Plain, SameCode, no_code, one_code, IsWhole}
 use Rattle.il_tight.proofs.Valid.{values_same}
 use Rattle.il_emit.specs.Emitted.{data_item, function_item, module_of}
-use Rattle.il_emit.specs.Lines.{Line, Label, Do, End, function_lines}
-use Rattle.il_emit.specs.Reaches.{SameWorld, Reaches}
+use Rattle.il_emit.specs.Reaches.{SameWorld, Arrives, Overflows, Reaches}
 use Rattle.il_emit.specs.Shape.{backward_jumps, calls_of, is_call_of, is_alloc, has_fixed_size, allocs_are_placed, takes, IsShapedAs, AreAlike, outlined, HasShape}
+use Rattle.il_emit.proofs.Arrivals.{LightArrives, LightOverflows, LightReaches}
 use Rattle.il_emit.proofs.Counts.{both_true, all_append, all_more, sum_cons}
-use Rattle.il_emit.proofs.Places.{line_blocks, function_blocks}
-use Rattle.il_emit.proofs.Shapes.{plain_sized}
-
--- ---- no phis
-
-lines_plain : (ls : List Line) → Plain (line_blocks ls)
-lines_plain [] = tt
-lines_plain (Label n ∷ ls) = (refl, lines_plain ls)
-lines_plain (Do i ∷ ls) = lines_plain ls
-lines_plain (End j ∷ ls) = lines_plain ls
-
-functions_plain : (p : FlatProgram) (fs : List FlatFn) → NoPhis (map (function_item p) fs)
-functions_plain p [] = tt
-functions_plain p (f ∷ fs) = (subst Plain (sym (function_blocks p f)) (lines_plain (function_lines p f)), functions_plain p fs)
-
-items_plain : (p : FlatProgram) (ds : List Data) (fs : List FlatFn) → NoPhis (map data_item ds ++ map (function_item p) fs)
-items_plain p [] fs = functions_plain p fs
-items_plain p (d ∷ ds) fs = items_plain p ds fs
-
-pub module_plain : (p : FlatProgram) → NoPhis (module_of p).items
-module_plain p = items_plain p p.globals p.functions
+use Rattle.il_emit.proofs.Shapes.{IsLoose, AreLoose, HasLooseShape, plain_sized}
 
 -- the items of a module with tight functions
 functions_tight : (p : FlatProgram) (fs : List FlatFn) →
@@ -76,21 +60,49 @@ module_emits p q a b c ds fs none front behind same globals functions =
 
 -- ---- what it does
 
-pub tight_reaches : (p : FlatProgram) (m : Module) → NoPhis m.items → Reaches p m → Reaches p (tight_module m)
+-- The machine comes with the budget that steps have used to where the light machine comes with as many steps.
+module _ (p : FlatProgram) (m : Module) (plain : NoPhis m.items) (args : List (List ℕ)) (input : List ℕ) (fill n : ℕ) where
+  abbrev far : ℕ → Run
+  far count = after_steps (tight_module m) count (start (tight_module m) args input fill)
+
+  abbrev light_far : ℕ → Run
+  light_far count = light.after_steps m count (light.start m args input fill)
+
+  -- the machine with that budget
+  abbrev there : ℕ → Run
+  there count = machine (tight_module m) args input fill (far count).used
+
+  stands : (count : ℕ) → there count ≡ far count
+  stands count = run_to-after_steps (tight_module m) count (start (tight_module m) args input fill)
+
+  alike : (count : ℕ) → Alike (light_far count) (far count)
+  alike count = runs_alike _ _ (start_same m plain args input fill count)
+
+  tight_arrives : (r : Result) → LightArrives m args input fill n r → Arrives (tight_module m) args input fill n r
+  tight_arrives r h =
+      let z = stands h.count in
+      let a = alike h.count in
+      record {
+        budget = (far h.count).used;
+        ended = ap (λ (x : Run). x.ended) z ∙ a.ended ∙ h.ended;
+        world = subst (λ (w : World). SameWorld r.1.world w) (sym (ap (λ (x : Run). x.state.world) z ∙ a.world)) h.world;
+        jumps = λ e. subst (λ (d : List Done). n ≤ length d) (sym (ap (λ (x : Run). x.state.done) z ∙ a.done)) (h.jumps e);
+        used = ap (λ (x : Run). x.used) z;
+        units = omega (arith, a.used, h.units);
+      }
+
+  tight_overflows : (r : Result) → LightOverflows m args input fill n r → Overflows (tight_module m) args input fill n r
+  tight_overflows r h =
+      record {
+        budget = (far h.count).used;
+        ended = ap (λ (x : Run). x.ended) (stands h.count) ∙ (alike h.count).ended ∙ h.ended;
+        cost = h.cost;
+      }
+
+pub tight_reaches : (p : FlatProgram) (m : Module) → NoPhis m.items → LightReaches p m → Reaches p (tight_module m)
 tight_reaches p m plain h args input fill n = elim (h args input fill n) [
-  | inl a ↦
-      let r = runs_alike _ _ (machine_same m plain args input fill a.budget) in
-      inl (record {
-        budget = a.budget;
-        ended = r.ended ∙ a.ended;
-        world = subst (λ (w : World). SameWorld (run p args input fill n).1.world w) (sym r.world) a.world;
-        jumps = λ e. subst (λ (d : List Done). n ≤ length d) (sym r.done) (a.jumps e);
-        used = r.used ∙ a.used;
-        units = a.units;
-      })
-  | inr o ↦
-      let r = runs_alike _ _ (machine_same m plain args input fill o.budget) in
-      inr (record { budget = o.budget; ended = r.ended ∙ o.ended; cost = o.cost })
+  | inl a ↦ inl (tight_arrives p m plain args input fill n (run p args input fill n) a)
+  | inr o ↦ inr (tight_overflows p m plain args input fill n (run p args input fill n) o)
 ]
 
 -- ---- its shape
@@ -162,8 +174,7 @@ module _ (stays : List ℕ → Bool) where
       by_label false e true c = goes e (here c)
       by_label false e false c =
           let c' = rw e at c in
-          let k = and_parts _ (is_closed stays false bs) c' in
-          let h = on.alone false k.1 in
+          let h = on.alone false c' in
           rw e (omega (arith, h))
 
       alone : (into : Bool) → is_closed stays into (b ∷ bs) ≡ true → backward_jumps (kept stays (b ∷ bs)) ≤ backward_jumps (b ∷ bs)
@@ -244,13 +255,14 @@ module _ (stays : List ℕ → Bool) where
   placed_kept [] s h = refl
   placed_kept (b ∷ bs) s h =
       let k = and_parts (list_all has_fixed_size b.insts) (all_insts plain bs) h in
-      let into = into_pass stays (λ (l : List ℕ). true) plain (λ (j : Jump). true) refl b.jump bs refl (passing plain bs k.1) in
+      let into = into_pass stays (λ (l : List ℕ). true) plain (λ (j : Jump). true) refl b.jump bs refl
+      (all_reached stays (λ (x : Block). true && (list_all plain x.insts && true)) (falls b.jump) bs (passing plain bs k.1)) in
       rw s (both_true _ _
       (all_append has_fixed_size b.insts _ k.0 (all_more plain has_fixed_size plain_sized (into_insts stays (falls b.jump) bs) into.0))
       (insts_kept plain bs k.1))
 
 -- a function with its blocks kept
-shaped_kept : (f : FlatFn) (c : il.Code) (stays : List ℕ → Bool) → IsWhole stays c.params c.blocks → IsShapedAs f c →
+shaped_kept : (f : FlatFn) (c : il.Code) (stays : List ℕ → Bool) → IsWhole stays c.params c.blocks → IsLoose f c →
     IsShapedAs f (record c { blocks = kept stays c.blocks })
 shaped_kept f c stays w s =
     let ks = kept stays c.blocks in
@@ -269,7 +281,7 @@ shaped_kept f c stays w s =
       cost = omega (arith, w.cost, taken, sc);
     }
 
-alike_kept : (o : Option FlatFn) (c c' : Option il.Code) → SameCode c c' → AreAlike o c → AreAlike o c'
+alike_kept : (o : Option FlatFn) (c c' : Option il.Code) → SameCode c c' → AreLoose o c → AreAlike o c'
 alike_kept None _ _ no_code h = h
 alike_kept (Some f) _ _ no_code h = h
 alike_kept None _ _ (one_code c stays w) h = h
@@ -279,7 +291,7 @@ outline_same : (i : IlItem) → outlined (tight_item i) ≡ outlined i
 outline_same (item.Data export name align parts) = refl
 outline_same (item.Function export class name params blocks) = refl
 
-pub tight_shape : (p : FlatProgram) (m : Module) → NoPhis m.items → HasShape p m → HasShape p (tight_module m)
+pub tight_shape : (p : FlatProgram) (m : Module) → NoPhis m.items → HasLooseShape p m → HasShape p (tight_module m)
 tight_shape p m plain h = record {
   items = values_same outlined outline_same m.items ∙ h.items;
   functions = λ name. alike_kept (flat.function_named p.functions name) _ _ (functions_same m.items plain name) (h.functions name);

@@ -89,7 +89,7 @@ fn function_item(alloc: Global, source: &Source, f: &FlatFn) -> Result<IlItem, A
 {
     let name = same_text(alloc, &f.name)?;
     let params = params_of(alloc, f.params.as_slice())?;
-    let blocks = tight_blocks_of(alloc, source, f)?;
+    let blocks = tight_blocks_of(alloc, source, f, params.as_slice())?;
     Ok(IlItem::Function {
         export: is_main(f),
         class: f.result,
@@ -141,13 +141,18 @@ fn has_64_bits(n: u64)
     ensures { n < 2 ^ 64 }
 {}
 
-/// The blocks of a function, each of which begins where it must.
-fn tight_blocks_of(alloc: Global, source: &Source, f: &FlatFn) -> Result<Blocks, AllocError>
-    ensures value { IfOk result (λ bs. bs ≡ tight (blocks_of source.now.program.now f.now)) }
+/// The blocks of a function with these parameters, each of which begins where it must.
+fn tight_blocks_of(
+    alloc: Global,
+    source: &Source,
+    f: &FlatFn,
+    params: &[IlParam],
+) -> Result<Blocks, AllocError>
+    ensures value { IfOk result (λ bs. bs ≡ tight params.now (blocks_of source.now.program.now f.now)) }
     ensures fits { OnOk result (HasFewNames f.now) }
 {
     let blocks = blocks_of(alloc, source, f)?;
-    tighten(alloc, blocks)
+    tighten(alloc, params, blocks)
 }
 
 /// The blocks of a function, one at each label.

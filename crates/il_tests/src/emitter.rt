@@ -294,6 +294,39 @@ export function w $main() {
 }
 ";
 
+/// Code behind a return, which sets a temporary and turns.
+const UNREACHED: [Step; 5] = [
+    Step::Plain(Plain::Ret(Value::Number(3))),
+    Step::Plain(Plain::Set(0, Class::L, Op::Copy, Value::Symbol(0, 1), Value::Number(0))),
+    Step::Plain(Plain::Set(1, Class::L, Op::Neg, Value::Temp(0), Value::Number(0))),
+    Step::Loop,
+    Step::Seq(3),
+];
+
+const UNREACHED_TEXT: &str = "data $h.text = align 1 { b \"ab\" 10 }
+export function w $main() {
+@b0
+\tret 3
+}
+";
+
+/// Code behind a return, which alone sets what is returned.
+const READ: [Step; 3] = [
+    Step::Plain(Plain::Ret(Value::Temp(0))),
+    Step::Plain(Plain::Set(0, Class::W, Op::Copy, Value::Number(7), Value::Number(0))),
+    Step::Seq(2),
+];
+
+const READ_TEXT: &str = "data $h.text = align 1 { b \"ab\" 10 }
+export function w $main() {
+@b0
+\tret %t0
+@b2
+\t%t0 =w copy 7
+\tret 0
+}
+";
+
 /// A call of five arguments, each a place of the frame or of a global, and the function that is called.
 const CALL: [Step; 1] = [Step::Call(
     None,
@@ -386,10 +419,12 @@ const CONDITION: [Step; 3] = [Step::Seq(0), Step::Seq(0), Step::If(Value::Symbol
 
 #[test]
 fn programs_of_main_alone(rt: HostRuntime) -> Result<(), Fail> {
-    let rows: [(&[Step], Option<&str>); 4] = [
+    let rows: [(&[Step], Option<&str>); 6] = [
         (COUNTER.as_slice(), Some(COUNTER_TEXT)),
         (BRANCHES.as_slice(), Some(BRANCHES_TEXT)),
         (LEAVE.as_slice(), Some(LEAVE_TEXT)),
+        (UNREACHED.as_slice(), Some(UNREACHED_TEXT)),
+        (READ.as_slice(), Some(READ_TEXT)),
         (CONDITION.as_slice(), None),
     ];
     for (steps, wanted) in rows {

@@ -1,7 +1,10 @@
 pub mod Lists
 pub mod Kept
+pub mod Light
 pub mod Twins
 pub mod Wholes
 pub mod Runs
 pub mod Passing
+pub mod Settings
 pub mod Valid
+pub mod Tightness

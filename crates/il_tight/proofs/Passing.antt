@@ -12,7 +12,7 @@ use Rattle.il_code.specs.declared.types.Jump.TheVariants.{Fall, Jmp, Jnz, Ret, H
 use Rattle.il_code.specs.Rules.{how_many, has_label, targets_pass}
 use Rattle.il_code.specs.Shaped.{ends, falls}
 use Rattle.hx_table.proofs.TableLemmas.{same_name}
-use Rattle.il_tight.specs.Tight.{is_closed}
+use Rattle.il_tight.specs.Tight.{reached, is_closed}
 use Rattle.il_tight.proofs.Kept.{into_insts, into_jump, whole, kept}
 
 pub both_true : (a b : Bool) → a ≡ true → b ≡ true → (a && b) ≡ true
@@ -33,12 +33,25 @@ all_more f h on xs a = all_two f f h (λ x p q. on x p) xs a a
 abbrev weight : Bool → ℕ
 weight b = cond b 1 0
 
+-- what blocks pass, those pass that stay
+pub all_reached : (stays : List ℕ → Bool) (q : Block → Bool) (into : Bool) (bs : List Block) → list_all q bs ≡ true →
+    list_all q (reached stays into bs) ≡ true
+all_reached stays q into [] h = refl
+all_reached stays q into (b ∷ bs) h =
+    let k = and_parts (q b) (list_all q bs) h in
+    pick (into || stays b.label) k.0 (all_reached stays q (falls b.jump) bs k.1) (all_reached stays q false bs k.1)
+  where
+    pick : (z : Bool) → q b ≡ true → list_all q (reached stays (falls b.jump) bs) ≡ true → list_all q (reached stays false bs) ≡ true →
+        list_all q (if z then b ∷ reached stays (falls b.jump) bs else reached stays false bs) ≡ true
+    pick true a on off = both_true (q b) _ a on
+    pick false a on off = off
+
 module _ (stays : List ℕ → Bool) where
   module _ (label : List ℕ → Bool) (inst : Inst → Bool) (jump : Jump → Bool) (falling : jump Fall ≡ true) where
     abbrev pub passes : Block → Bool
     passes b = label b.label && (list_all inst b.insts && jump b.jump)
 
-    pub into_pass : (j : Jump) (bs : List Block) → jump j ≡ true → list_all passes bs ≡ true →
+    pub into_pass : (j : Jump) (bs : List Block) → jump j ≡ true → list_all passes (reached stays (falls j) bs) ≡ true →
         (list_all inst (into_insts stays (falls j) bs) ≡ true) × (jump (into_jump stays j bs) ≡ true)
     into_pass (Jmp l) bs e h = (refl, e)
     into_pass (Jnz v a b) bs e h = (refl, e)
@@ -46,7 +59,7 @@ module _ (stays : List ℕ → Bool) where
     into_pass Hlt bs e h = (refl, e)
     into_pass Fall [] e h = (refl, e)
     into_pass Fall (b ∷ bs) e h =
-        let p = and_parts (passes b) (list_all passes bs) h in
+        let p = and_parts (passes b) (list_all passes (reached stays (falls b.jump) bs)) h in
         let q = and_parts (label b.label) _ p.0 in
         let r = and_parts (list_all inst b.insts) (jump b.jump) q.1 in
         pick (stays b.label) r.0 (into_pass b.jump bs r.1 p.1)
@@ -59,22 +72,37 @@ module _ (stays : List ℕ → Bool) where
         pick false a on =
             (list_all-append inst b.insts (into_insts stays (falls b.jump) bs) ∙ both_true (list_all inst b.insts) _ a on.0, on.1)
 
-    pub kept_pass : (bs : List Block) → list_all passes bs ≡ true → list_all passes (kept stays bs) ≡ true
-    kept_pass [] h = refl
-    kept_pass (b ∷ bs) h =
-        let p = and_parts (passes b) (list_all passes bs) h in
-        let q = and_parts (label b.label) _ p.0 in
-        let r = and_parts (list_all inst b.insts) (jump b.jump) q.1 in
-        let on = into_pass b.jump bs r.1 p.1 in
-        pick (stays b.label)
-        (both_true (label b.label) _ q.0
-        (both_true _ _ (list_all-append inst b.insts (into_insts stays (falls b.jump) bs) ∙ both_true (list_all inst b.insts) _ r.0 on.0)
-        on.1)) (kept_pass bs p.1)
+    -- what the blocks pass that stay
+    pub reached_pass : (into : Bool) (bs : List Block) → list_all passes (reached stays into bs) ≡ true →
+        list_all passes (kept stays bs) ≡ true
+    reached_pass into [] h = refl
+    reached_pass into (b ∷ bs) h = pick (stays b.label) refl into h (λ i k. reached_pass i bs k)
       where
-        pick : (z : Bool) → passes (whole stays b bs) ≡ true → list_all passes (kept stays bs) ≡ true →
-            list_all passes (if z then whole stays b bs ∷ kept stays bs else kept stays bs) ≡ true
-        pick true a on = both_true _ _ a on
-        pick false a on = on
+        Rest : Type 0
+        Rest = (i : Bool) → list_all passes (reached stays i bs) ≡ true → list_all passes (kept stays bs) ≡ true
+
+        here : list_all passes (b ∷ reached stays (falls b.jump) bs) ≡ true →
+            (passes (whole stays b bs) ≡ true) × (list_all passes (reached stays (falls b.jump) bs) ≡ true)
+        here k =
+            let p = and_parts (passes b) (list_all passes (reached stays (falls b.jump) bs)) k in
+            let q = and_parts (label b.label) _ p.0 in
+            let r = and_parts (list_all inst b.insts) (jump b.jump) q.1 in
+            let on = into_pass b.jump bs r.1 p.1 in (
+              both_true (label b.label) _ q.0
+                  (both_true _ _
+                  (list_all-append inst b.insts (into_insts stays (falls b.jump) bs) ∙ both_true (list_all inst b.insts) _ r.0 on.0) on.1),
+              p.1,
+            )
+
+        pick : (z : Bool) → stays b.label ≡ z → (i : Bool) → list_all passes (reached stays i (b ∷ bs)) ≡ true → Rest →
+            list_all passes (kept stays (b ∷ bs)) ≡ true
+        pick true e true k on = let h' = here k in rw e (both_true _ _ h'.0 (on (falls b.jump) h'.1))
+        pick true e false k on = let k' = rw e at k in let h' = here k' in rw e (both_true _ _ h'.0 (on (falls b.jump) h'.1))
+        pick false e true k on = rw e (on (falls b.jump) (here k).1)
+        pick false e false k on = let k' = rw e at k in rw e (on false k')
+
+    pub kept_pass : (bs : List Block) → list_all passes bs ≡ true → list_all passes (kept stays bs) ≡ true
+    kept_pass bs h = reached_pass false bs (all_reached stays passes false bs h)
 
   -- ---- labels
 
@@ -123,7 +151,7 @@ module _ (stays : List ℕ → Bool) where
       pick true e false c on = let c' = rw e at c in let k = here c' on in rw e (both_true _ _ k.0 k.1)
       pick false e true c on = rw e (here c on).1
       pick false e false c on =
-          let c' = rw e at c in let k = and_parts _ (is_closed stays false bs) c' in rw e (on false k.1)
+          let c' = rw e at c in rw e (on false c')
 
   pub label_kept : (l : List ℕ) → stays l ≡ true → (bs : List Block) → has_label (kept stays bs) l ≡ has_label bs l
   label_kept l s [] = refl

@@ -1,5 +1,5 @@
--- Runs of a module and of the same one with tight functions come to the same.
-use Rattle.std.proofs.Common.{◌≡◌, ℕ, zero, suc, ◌+◌, ◌-◌, Bool, true, false, List, [], ◌∷◌, ◌++◌, map, length, Option, None, Some, refl, sym, ap, ◌∙◌, subst}
+-- A run of a module on the light machine and one of the same module with tight functions come to the same.
+use Rattle.std.proofs.Common.{◌≡◌, ℕ, zero, suc, ◌+◌, Bool, true, false, List, [], ◌∷◌, ◌++◌, map, length, Option, None, Some, refl, sym, ap, ◌∙◌, subst}
 use Rattle.std.specs.Prelude.{nat_lt, bytes_eq, codes, flat_map, if◌then◌else◌}
 use Rattle.std.proofs.lemmas.List.Concat.{flat_map-cons}
 use Rattle.hx_base.specs.declared.Class.{Class}
@@ -20,9 +20,11 @@ use Rattle.il_code.specs.Items.{item_name, code_of}
 use Rattle.il_code.specs.Machine.{End, Fault, StackFull, call_cost, stack_size}
 use Rattle.il_code.specs.State.{Code, function_named, Place}
 use Rattle.il_code.specs.Step.{Step, bound}
-use Rattle.il_code.specs.Run.{Run, after_step, further, while_left, within, run_to, start_world, called_first, started, start, machine}
+use Rattle.il_code.specs.Run.{Run, after_step, further, after_steps, start_world, called_first, started, start}
 use Rattle.il_tight.specs.Tight.{tight, tight_item, tight_module}
 use Rattle.il_tight.proofs.Kept.{kept, staying, tight_is}
+use Rattle.il_tight.proofs.Light as light
+use Rattle.il_tight.proofs.Light.{price}
 use Rattle.il_tight.proofs.Twins.{Plain, Pair, GoodPair, IsWhole, SameCode, no_code, one_code, SameStep, goes, ends, loose_state, tight_state, called_twin, nowhere_lands, step_same}
 use Rattle.il_tight.proofs.Wholes.{is_whole}
 
@@ -40,37 +42,23 @@ module _ (m m' : Module) (addresses : (name : List ℕ) → address m' name ≡ 
   after_same used s g _ _ (goes more s' g') = alike _ None s' g'
   after_same used s g _ _ (ends e) = alike _ (Some e) s g
 
-  further_same : (r r' : Run) → SameRun r r' → SameRun (further m r) (further m' r')
+  further_same : (r r' : Run) → SameRun r r' → SameRun (light.further m r) (further m' r')
   further_same _ _ (alike used (Some e) s g) = alike used (Some e) s g
   further_same _ _ (alike used None s g) = after_same used s g _ _ (step_same m m' addresses functions s g)
 
-  used_same : (r r' : Run) → SameRun r r' → r'.used ≡ r.used
-  used_same _ _ (alike used ended s g) = refl
-
-  within_same : (k n : ℕ) (r r' : Run) → SameRun r r' → SameRun (within m k n r) (within m' k n r')
-  within_same zero n r r' h = h
-  within_same (suc k) n r r' h =
-      subst (λ (u : ℕ). SameRun (within m (suc k) n r) (while_left m' r' (within m' k n) (nat_lt u n))) (sym (used_same r r' h))
-      (pick (nat_lt r.used n) (within_same k n (further m r) (further m' r') (further_same r r' h)))
-    where
-      pick : (z : Bool) → SameRun (within m k n (further m r)) (within m' k n (further m' r')) →
-          SameRun (while_left m r (within m k n) z) (while_left m' r' (within m' k n) z)
-      pick true on = on
-      pick false on = h
-
-  run_same : (n : ℕ) (r r' : Run) → SameRun r r' → SameRun (run_to m n r) (run_to m' n r')
-  run_same n r r' h =
-      subst (λ (u : ℕ). SameRun (run_to m n r) (within m' (n - u) n r')) (sym (used_same r r' h)) (within_same (n - r.used) n r r' h)
+  pub steps_same : (k : ℕ) (r r' : Run) → SameRun r r' → SameRun (light.after_steps m k r) (after_steps m' k r')
+  steps_same zero r r' h = h
+  steps_same (suc k) r r' h = steps_same k (light.further m r) (further m' r') (further_same r r' h)
 
   -- ---- the start
 
   first_same : (f : Code) (stays : List ℕ → Bool) → IsWhole stays f.params f.blocks → (w : World) (e : Option End) →
-      SameRun (called_first f w e) (called_first (record f { blocks = kept stays f.blocks }) w e)
+      SameRun (light.called_first f w e) (called_first (record f { blocks = kept stays f.blocks }) w e)
   first_same f stays is w e =
       let at = is.opens [] [] in
       let f' : Code = record f { blocks = kept stays f.blocks } in
       let s : Pair = record {
-        active = called_twin f stays at [] stack_start (call_cost f.params f.blocks);
+        active = called_twin f stays at [] stack_start (price f.params f.blocks);
         waiting = [];
         world = w;
         done = [];
@@ -177,11 +165,11 @@ name_same (Function export class name params blocks) = refl
 
 found_same : (export : Bool) (class : Option Class) (name : List ℕ) (params : List IlParam) (blocks : List Block) → Plain blocks →
     SameCode (code_of (Some (Function export class name params blocks)))
-    (code_of (Some (Function export class name params (tight blocks))))
+    (code_of (Some (Function export class name params (tight params blocks))))
 found_same export class name params blocks p =
     subst (λ (bs : List Block). SameCode (code_of (Some (Function export class name params blocks)))
-    (code_of (Some (Function export class name params bs)))) (sym (tight_is blocks))
-    (one_code (record { name = name; class = class; params = params; blocks = blocks }) (staying blocks) (is_whole params blocks p))
+    (code_of (Some (Function export class name params bs)))) (sym (tight_is params blocks))
+    (one_code (record { name = name; class = class; params = params; blocks = blocks }) (staying params blocks) (is_whole params blocks p))
 
 pub functions_same : (items : List IlItem) → NoPhis items → (name : List ℕ) →
     SameCode (function_named items name) (function_named (map tight_item items) name)
@@ -203,8 +191,12 @@ functions_same (Function export class s params blocks ∷ items) p name = pick (
 
 -- ---- the whole run
 
+nothing_costs : call_cost [] [] ≡ price [] []
+unfolding price
+nothing_costs = refl
+
 module _ (m : Module) (p : NoPhis m.items) where
-  started_same : (w : World) (o o' : Option Code) → SameCode o o' → SameRun (started w o) (started w o')
+  started_same : (w : World) (o o' : Option Code) → SameCode o o' → SameRun (light.started w o) (started w o')
   started_same w _ _ no_code =
       first_same m (tight_module m) (address_same m) (functions_same m.items p)
       (record { name = codes "main"; class = None; params = []; blocks = [] }) (λ l. true) (none_whole tt)
@@ -216,19 +208,20 @@ module _ (m : Module) (p : NoPhis m.items) where
         first = refl;
         closed = refl;
         plain = tt;
-        cost = refl;
+        cost = nothing_costs;
       }
   started_same w _ _ (one_code f stays is) =
-      subst (λ (n : ℕ). SameRun (started w (Some f)) (called_first (record f { blocks = kept stays f.blocks }) w
+      subst (λ (n : ℕ). SameRun (light.started w (Some f)) (called_first (record f { blocks = kept stays f.blocks }) w
       (if nat_lt stack_size n then Some StackFull else None))) (sym is.cost)
       (first_same m (tight_module m) (address_same m) (functions_same m.items p) f stays is w
-      (if nat_lt stack_size (call_cost f.params f.blocks) then Some StackFull else None))
+      (if nat_lt stack_size (price f.params f.blocks) then Some StackFull else None))
 
-  pub machine_same : (args : List (List ℕ)) (input : List ℕ) (fill n : ℕ) →
-      SameRun (machine m args input fill n) (machine (tight_module m) args input fill n)
-  machine_same args input fill n =
-      run_same m (tight_module m) (address_same m) (functions_same m.items p) n _ _
-      (subst (λ (w : World). SameRun (start m args input fill) (started w (function_named (map tight_item m.items) (codes "main"))))
+  pub start_same : (args : List (List ℕ)) (input : List ℕ) (fill k : ℕ) →
+      SameRun (light.after_steps m k (light.start m args input fill))
+      (after_steps (tight_module m) k (start (tight_module m) args input fill))
+  start_same args input fill k =
+      steps_same m (tight_module m) (address_same m) (functions_same m.items p) k _ _
+      (subst (λ (w : World). SameRun (light.start m args input fill) (started w (function_named (map tight_item m.items) (codes "main"))))
       (sym (world_same m args input fill))
       (started_same (start_world m args input fill) _ _ (functions_same m.items p (codes "main"))))
 

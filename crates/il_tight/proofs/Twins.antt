@@ -1,4 +1,4 @@
--- A module and the same one with tight functions do the same, step by step.
+-- A module on the light machine and the same one with tight functions on the machine do the same, step by step.
 use Rattle.std.proofs.Common.{◌≡◌, ℕ, ◌+◌, ◌-◌, Bool, true, false, ◌&&◌, List, [], ◌∷◌, ◌++◌, map, Option, None, Some, refl, sym, ap, ◌∙◌, subst}
 use Rattle.std.specs.Prelude.{bytes_eq, max, nat_lt, Ok, Err, ◌==◌, if◌then◌else◌}
 use Rattle.std.proofs.lemmas.Bool.{and_parts}
@@ -30,11 +30,21 @@ use Rattle.il_code.specs.State.{Place, place_at, start_of, blocks_from, Code, fu
 use Rattle.il_code.specs.Step.{Step, Goes, Ends, Kind, Takes, Loads, Computes, kind_of, value_of, second_value, arg_values, computed, loaded, took, taken, set_step, stored, blitted, overlap, runtime_step, runtime_call, call_step, enter, entered, bound, inst_step, returned, step}
 use Rattle.il_tight.specs.Tight.{first_stays, is_closed}
 use Rattle.il_tight.proofs.Kept.{into_insts, into_jump, whole, kept}
+use Rattle.il_tight.proofs.Light as light
+use Rattle.il_tight.proofs.Light.{price}
 
 -- no block has a phi
 abbrev pub Plain : List Block → Type 0
 Plain [] = Unit {0}
 Plain (b ∷ bs) = (b.phis ≡ []) × Plain bs
+
+pub plain_kept : (stays : List ℕ → Bool) (bs : List Block) → Plain bs → Plain (kept stays bs)
+plain_kept stays [] p = tt
+plain_kept stays (b ∷ bs) p = pick (stays b.label) (plain_kept stays bs p.1)
+  where
+    pick : (z : Bool) → Plain (kept stays bs) → Plain (if z then whole stays b bs ∷ kept stays bs else kept stays bs)
+    pick true on = (p.0, on)
+    pick false on = on
 
 -- what holds of a place among the blocks of a function: the jumps behind it name labels that stay
 pub record Lies (stays : List ℕ → Bool) (jump : Jump) (behind : List Block) : Type 0 where
@@ -188,8 +198,7 @@ module _ (stays : List ℕ → Bool) (l l' : List ℕ) where
           rw (t, e) (on (falls b.jump) k.1)
       skip false c t e on =
           let c' = rw t at c in
-          let k = and_parts _ (is_closed stays false bs) c' in
-          rw (t, e) (on false k.1)
+          rw (t, e) (on false c')
 
       past : (z : Bool) → stays b.label ≡ z → bytes_eq b.label x ≡ false → Rest →
           Landing stays l l' (blocks_from x (b ∷ bs)) (blocks_from x (kept stays (b ∷ bs)))
@@ -211,7 +220,7 @@ pub record IsWhole (stays : List ℕ → Bool) (params : List IlParam) (blocks :
   pub first : first_stays stays blocks ≡ true
   pub closed : is_closed stays false blocks ≡ true
   pub plain : Plain blocks
-  pub cost : call_cost params (kept stays blocks) ≡ call_cost params blocks
+  pub cost : call_cost params (kept stays blocks) ≡ price params blocks
 
 pub data SameCode : Option Code → Option Code → Type 0 where
   no_code : SameCode None None
@@ -355,15 +364,15 @@ module _ (s : Pair) (result : Option IlParam) (f : Code) (stays : List ℕ → B
       (goes 0 (behind_call cost)
       (record { active = record { closed = w.closed; plain = w.plain; lies = at.lies }; waiting = (g.active, g.waiting) })))
 
-  enter_same : SameStep (enter (loose_state s) result f vs) (enter (tight_state s) result tight_code vs)
+  enter_same : SameStep (light.enter (loose_state s) result f vs) (enter (tight_state s) result tight_code vs)
   enter_same =
-      let cost = s.active.cost + call_cost f.params f.blocks in
-      subst (λ (n : ℕ). SameStep (enter (loose_state s) result f vs)
+      let cost = s.active.cost + price f.params f.blocks in
+      subst (λ (n : ℕ). SameStep (light.enter (loose_state s) result f vs)
       (entered (tight_state s) result tight_code vs (s.active.cost + n) (nat_lt stack_size (s.active.cost + n)))) (sym w.cost)
       (entered_same cost (nat_lt stack_size cost))
 
 call_same : (s : Pair) (result : Option IlParam) (target : List ℕ) (o o' : Option Code) (vs : List ℕ) → SameCode o o' → GoodPair s →
-    SameStep (call_step (loose_state s) result target o vs) (call_step (tight_state s) result target o' vs)
+    SameStep (light.call_step (loose_state s) result target o vs) (call_step (tight_state s) result target o' vs)
 call_same s result target _ _ vs no_code g = runtime_call_same s result (runtime_function target) vs g
 call_same s result target _ _ vs (one_code f stays w) g = enter_same s result f stays w vs g
 
@@ -422,7 +431,7 @@ module _ (m m' : Module) (addresses : (name : List ℕ) → address m' name ≡ 
       let others = args_same s args in
       rw (one, others) refl
 
-  inst_same : (s : Pair) (i : Inst) → GoodPair s → SameStep (inst_step m (loose_state s) i) (inst_step m' (tight_state s) i)
+  inst_same : (s : Pair) (i : Inst) → GoodPair s → SameStep (light.inst_step m (loose_state s) i) (inst_step m' (tight_state s) i)
   inst_same s (Set temp class o a b) g =
       rw (value_same s a, second_same s b)
       (set_same s temp class o (kind_of o) (value_of m (loose_state s) a) (second_value m (loose_state s) b) g)
@@ -439,7 +448,7 @@ module _ (m m' : Module) (addresses : (name : List ℕ) → address m' name ≡ 
 
   -- the calls that a step begins in
   abbrev pub Stepped : Pair → Type 0
-  Stepped s = SameStep (step m (loose_state s)) (step m' (tight_state s))
+  Stepped s = SameStep (light.step m (loose_state s)) (step m' (tight_state s))
 
   jump_to : (s : Pair) (x : List ℕ) → GoodPair s → s.active.stays x ≡ true → (l l' : List ℕ) →
       SameStep (Goes 0 (arrived (loose_state s) x (start_of l (blocks_from x s.active.blocks))))
@@ -523,7 +532,7 @@ module _ (m m' : Module) (addresses : (name : List ℕ) → address m' name ≡ 
           (if z then record { label = b.label; phis = ps; insts = is; jump = j } ∷ ks else ks)
 
       Same : Bool → List Phi → Type 0
-      Same z ps = SameStep (step m (loose_at (place_at l b.label ps b.insts b.jump bs))) (step m' (tight_at (place z ps)))
+      Same z ps = SameStep (light.step m (loose_at (place_at l b.label ps b.insts b.jump bs))) (step m' (tight_at (place z ps)))
 
       pick : (z : Bool) → s.active.stays b.label ≡ z → Stepped (at_spot s b.insts b.jump bs l b.label l' b.label) →
           Stepped (at_spot s b.insts b.jump bs l b.label f' l') → Stepped (at_spot s [] Fall (b ∷ bs) f l f' l')

@@ -1,9 +1,8 @@
 -- A module with tight functions is valid where it was valid before.
-use Rattle.std.proofs.Common.{◌≡◌, ℕ, Bool, true, false, cond, not, ◌&&◌, ◌||◌, List, [], ◌∷◌, ◌++◌, map, length, Option, None, Some, refl, sym, ap, ◌∙◌, subst, arith}
-use Rattle.std.specs.Prelude.{bytes_eq, count_by, sum_by, ◌==◌, if◌then◌else◌}
+use Rattle.std.proofs.Common.{◌≡◌, ℕ, Bool, true, false, cond, not, ◌&&◌, ◌||◌, inl, inr, List, [], ◌∷◌, map, length, Option, None, Some, refl, sym, ap, ◌∙◌, subst, arith}
+use Rattle.std.specs.Prelude.{bytes_eq, count_by, sum_by, ◌==◌}
 use Rattle.std.specs.List.{list_all, list_any}
-use Rattle.std.proofs.lemmas.Bool.{and_parts}
-use Rattle.std.proofs.lemmas.List.Folds.{list_any-append}
+use Rattle.std.proofs.lemmas.Bool.{and_parts, or_cases}
 use Rattle.std.proofs.lemmas.List.Sums.{sum_by-append}
 use Rattle.hx_base.specs.declared.Class.{Class}
 use Rattle.hx_base.specs.declared.Class.TheVariants.{W, L}
@@ -24,81 +23,19 @@ use Rattle.il_code.specs.declared.types.Part.TheVariants.{Values, Zero}
 use Rattle.il_code.specs.declared.types.PartValue.{PartValue}
 use Rattle.il_code.specs.declared.types.PartValue.TheVariants as part
 use Rattle.il_code.specs.declared.types.Phi.{Phi}
-use Rattle.il_code.specs.Classes.{first_class, op_kind, second_class}
+use Rattle.il_code.specs.Classes.{first_class, may_give, op_kind, second_class}
 use Rattle.il_code.specs.Items.{Code, function_named, item_name}
 use Rattle.il_code.specs.Rules as rule
 use Rattle.il_code.specs.Rules.{how_many, are_distinct, has_named, has_own_names, has_label, targets_pass, block_labels_known, labels_known, start_is_no_target, phis_are_placed, is_set, inst_has_one_class, block_has_one_class, has_one_class, each_has_one_class, inst_is_right, second_is_right, call_is_right, is_call_right, is_call_of, return_is_right, jump_is_right, block_is_right, block_sets, inst_sets, part_value_is_right, part_is_right, item_is_right, flow_is_right, is_main, is_main_right, inst_is_small, item_is_small, item_size, is_function, is_small, IsValid}
-use Rattle.il_code.specs.Shaped.{is_block, is_inst, is_item, is_jump, is_lawful, is_param, is_phi, is_shaped, ends, falls}
+use Rattle.il_code.specs.Shaped.{is_block, is_inst, is_item, is_jump, is_lawful, is_param, is_phi, is_shaped, ends}
 use Rattle.il_code.specs.Tokens.{is_identifier}
 use Rattle.il_code.proofs.Validates.{valid_is}
-use Rattle.il_tight.specs.Tight.{assigns, block_assigns, first_stays, is_closed, tight, tight_item, tight_module}
-use Rattle.il_tight.proofs.Kept.{into_insts, whole, kept, staying, staying_may, tight_is}
-use Rattle.il_tight.proofs.Passing.{both_true, all_two, all_more, kept_pass, stays_kept, targets_kept, label_kept, count_kept, whole_ends}
+use Rattle.il_tight.specs.Tight.{is_known, value_passes, option_passes, args_pass, inst_passes, jump_passes, block_passes, reached, first_stays, is_closed, keeps_settings, set_by, reads_settings, may_begin, tight, tight_item, tight_module}
+use Rattle.il_tight.proofs.Kept.{kept, staying, staying_may, tight_is}
+use Rattle.il_tight.proofs.Passing.{both_true, all_two, all_more, all_reached, reached_pass, stays_kept, targets_kept, label_kept, count_kept, whole_ends}
 use Rattle.il_tight.proofs.Runs.{NoPhis, functions_same}
-use Rattle.il_tight.proofs.Twins.{Plain, SameCode, no_code, one_code}
-
--- ---- what is set
-
-either : (a b c d : Bool) → a ≡ c → b ≡ d → (a || b) ≡ (c || d)
-either a b c d h k = rw (h, k) refl
-
--- instructions that set nothing set no temporary
-none_set : (name : List ℕ) (class : Class) (is : List Inst) → not (list_any assigns is) ≡ true →
-    list_any (inst_sets name class) is ≡ false
-none_set name class [] h = refl
-none_set name class (Set temp c op a b ∷ is) h = cc
-none_set name class (Store width value at ∷ is) h = none_set name class is h
-none_set name class (Blit from to bytes ∷ is) h = none_set name class is h
-none_set name class (Call None target args ∷ is) h = none_set name class is h
-none_set name class (Call (Some p) target args ∷ is) h = cc
-
-or_assoc : (a b c : Bool) → ((a || b) || c) ≡ (a || (b || c))
-or_assoc true b c = refl
-or_assoc false b c = refl
-
-module _ (stays : List ℕ → Bool) (name : List ℕ) (class : Class) where
-  block_plain : (b : Block) → b.phis ≡ [] → block_sets name class b ≡ list_any (inst_sets name class) b.insts
-  block_plain b e =
-      ap (λ (ps : List Phi). list_any (λ (p : Phi). rule.sets name class p.temp p.class) ps || list_any (inst_sets name class) b.insts) e
-
-  block_whole : (b : Block) (bs : List Block) → b.phis ≡ [] → block_sets name class (whole stays b bs) ≡
-      (list_any (inst_sets name class) b.insts || list_any (inst_sets name class) (into_insts stays (falls b.jump) bs))
-  block_whole b bs e =
-      ap (λ (ps : List Phi). list_any (λ (p : Phi). rule.sets name class p.temp p.class) ps ||
-      list_any (inst_sets name class) (b.insts ++ into_insts stays (falls b.jump) bs)) e
-      ∙ list_any-append (inst_sets name class) b.insts (into_insts stays (falls b.jump) bs)
-
-  sets_kept : (into : Bool) (bs : List Block) → is_closed stays into bs ≡ true → Plain bs →
-      (list_any (inst_sets name class) (into_insts stays into bs) || list_any (block_sets name class) (kept stays bs)) ≡
-      list_any (block_sets name class) bs
-  sets_kept false [] h p = refl
-  sets_kept true [] h p = refl
-  sets_kept into (b ∷ bs) h p = pick (stays b.label) refl into h (λ i c. sets_kept i bs c p.1)
-    where
-      Rest : Type 0
-      Rest = (i : Bool) → is_closed stays i bs ≡ true →
-          (list_any (inst_sets name class) (into_insts stays i bs) || list_any (block_sets name class) (kept stays bs)) ≡
-          list_any (block_sets name class) bs
-
-      regroup : Rest → (targets_pass stays b.jump && is_closed stays (falls b.jump) bs) ≡ true →
-          ((list_any (inst_sets name class) b.insts || list_any (inst_sets name class) (into_insts stays (falls b.jump) bs)) ||
-          list_any (block_sets name class) (kept stays bs)) ≡ list_any (block_sets name class) (b ∷ bs)
-      regroup on c =
-          or_assoc (list_any (inst_sets name class) b.insts) _ _
-          ∙ either _ _ _ _ (sym (block_plain b p.0)) (on (falls b.jump) (and_parts (targets_pass stays b.jump) _ c).1)
-
-      pick : (z : Bool) → stays b.label ≡ z → (i : Bool) → is_closed stays i (b ∷ bs) ≡ true → Rest →
-          (list_any (inst_sets name class) (into_insts stays i (b ∷ bs)) || list_any (block_sets name class) (kept stays (b ∷ bs))) ≡
-          list_any (block_sets name class) (b ∷ bs)
-      pick true e true c on = rw e (either _ _ _ _ (block_whole b bs p.0) refl ∙ regroup on c)
-      pick true e false c on = let c' = rw e at c in rw e (either _ _ _ _ (block_whole b bs p.0) refl ∙ regroup on c')
-      pick false e true c on =
-          rw e (either _ _ _ _ (list_any-append (inst_sets name class) b.insts (into_insts stays (falls b.jump) bs)) refl ∙ regroup on c)
-      pick false e false c on =
-          let c' = rw e at c in
-          let k = and_parts (not (block_assigns b)) (is_closed stays false bs) c' in
-          let z : block_sets name class b ≡ false = block_plain b p.0 ∙ none_set name class b.insts k.0 in
-          rw e (on false k.1 ∙ sym (ap (λ (x : Bool). x || list_any (block_sets name class) bs) z))
+use Rattle.il_tight.proofs.Settings.{AtClass, or_left, or_right, sets_reached, all_reached_set, any_reached, set_at, every_block}
+use Rattle.il_tight.proofs.Twins.{Plain, plain_kept, SameCode, no_code, one_code}
 
 -- ---- what is right
 
@@ -110,74 +47,108 @@ call_same result target args _ _ (one_code f stays w) = refl
 module _ (items items' : List IlItem) (named : (s : List ℕ) → has_named item_name s items' ≡ has_named item_name s items)
     (functions : (name : List ℕ) → SameCode (function_named items name) (function_named items' name))
     (params : List IlParam) (bs ks : List Block)
-    (set_same : (name : List ℕ) (class : Class) → is_set params ks name class ≡ is_set params bs name class) where
-  value_right : (class : Class) (v : IlValue) → rule.is_right items' params ks class v ≡ rule.is_right items params bs class v
-  value_right class (value.Number n) = refl
-  value_right W (value.Temp t) = either _ _ _ _ (set_same t W) (set_same t L)
-  value_right L (value.Temp t) = let a = set_same t L in let b = set_same t W in rw (a, b) refl
-  value_right W (value.Symbol s) = refl
-  value_right L (value.Symbol s) = named s
+    (few : (name : List ℕ) (class : Class) → is_set params ks name class ≡ true → is_set params bs name class ≡ true)
+    (test : List ℕ → Bool)
+    (sound : (name : List ℕ) → test name ≡ true → (class : Class) → is_set params bs name class ≡ true →
+    AtClass (λ c. is_set params ks name c)) where
+  few_none : (name : List ℕ) (class : Class) → not (is_set params bs name class) ≡ true → not (is_set params ks name class) ≡ true
+  few_none name class h = pick (is_set params ks name class) refl
+    where
+      pick : (z : Bool) → is_set params ks name class ≡ z → not (is_set params ks name class) ≡ true
+      pick true e = absurd (let k = few name class e in cc)
+      pick false e = rw e refl
 
-  second_right : (class : Class) (v : Option IlValue) → second_is_right items' params ks class v ≡ second_is_right items params bs class v
-  second_right class None = refl
-  second_right class (Some v) = value_right class v
+  word_right : (t : List ℕ) → AtClass (λ c. is_set params ks t c) → (is_set params ks t W || is_set params ks t L) ≡ true
+  word_right t h = pick h.class h.is
+    where
+      pick : (c : Class) → is_set params ks t c ≡ true → (is_set params ks t W || is_set params ks t L) ≡ true
+      pick W e = or_left _ _ e
+      pick L e = or_right (is_set params ks t W) _ e
 
-  args_right : (args : List IlArg) → list_all (λ (a : IlArg). rule.is_right items' params ks a.class a.value) args ≡
-      list_all (λ (a : IlArg). rule.is_right items params bs a.class a.value) args
-  args_right [] = refl
-  args_right (a ∷ args) = let one = value_right a.class a.value in let others = args_right args in rw (one, others) refl
+  long_right : (t : List ℕ) → not (is_set params bs t W) ≡ true → AtClass (λ c. is_set params ks t c) →
+      (is_set params ks t L && not (is_set params ks t W)) ≡ true
+  long_right t h k = pick k.class k.is
+    where
+      pick : (c : Class) → is_set params ks t c ≡ true → (is_set params ks t L && not (is_set params ks t W)) ≡ true
+      pick W e = absurd (let x = few t W e in cc)
+      pick L e = both_true _ _ e (few_none t W h)
 
-  call_right : (result : Option IlParam) (target : List ℕ) (args : List IlArg) →
-      call_is_right items' params ks result target args ≡ call_is_right items params bs result target args
+  value_right : (class : Class) (v : IlValue) → value_passes test v ≡ true → rule.is_right items params bs class v ≡ true →
+      rule.is_right items' params ks class v ≡ true
+  value_right class (value.Number n) e h = refl
+  value_right W (value.Temp t) e h = elim (or_cases (is_set params bs t W) (is_set params bs t L) h) [
+    | inl x ↦ word_right t (sound t e W x)
+    | inr x ↦ word_right t (sound t e L x)
+  ]
+  value_right L (value.Temp t) e h =
+      let k = and_parts (is_set params bs t L) (not (is_set params bs t W)) h in long_right t k.1 (sound t e L k.0)
+  value_right W (value.Symbol s) e h = h
+  value_right L (value.Symbol s) e h = named s ∙ h
+
+  second_right : (class : Class) (v : Option IlValue) → option_passes test v ≡ true →
+      second_is_right items params bs class v ≡ true → second_is_right items' params ks class v ≡ true
+  second_right class None e h = refl
+  second_right class (Some v) e h = value_right class v e h
+
+  args_right : (args : List IlArg) → args_pass test args ≡ true →
+      list_all (λ (a : IlArg). rule.is_right items params bs a.class a.value) args ≡ true →
+      list_all (λ (a : IlArg). rule.is_right items' params ks a.class a.value) args ≡ true
+  args_right args e h =
+      all_two (λ (a : IlArg). value_passes test a.value) (λ (a : IlArg). rule.is_right items params bs a.class a.value)
+      (λ (a : IlArg). rule.is_right items' params ks a.class a.value) (λ a x y. value_right a.class a.value x y) args e h
+
+  call_right : (result : Option IlParam) (target : List ℕ) (args : List IlArg) → args_pass test args ≡ true →
+      call_is_right items params bs result target args ≡ true → call_is_right items' params ks result target args ≡ true
   unfolding call_is_right
-  call_right result target args =
-      let one = call_same result target args (function_named items target) (function_named items' target) (functions target) in
-      let others = args_right args in
-      rw (one, others) refl
+  call_right result target args e h =
+      let k = and_parts (is_call_right items result target args) _ h in
+      both_true _ _
+      (call_same result target args (function_named items target) (function_named items' target) (functions target) ∙ k.0)
+      (args_right args e k.1)
 
-  inst_right : (i : Inst) → inst_is_right items' params ks i ≡ inst_is_right items params bs i
-  inst_right (Set temp class o a b) =
-      let x = value_right (first_class (op_kind o) class) a in
-      let y = second_right (second_class (op_kind o) class) b in
-      rw (x, y) refl
-  inst_right (Store width v at) =
-      let x = value_right (rule.stored_class width) v in let y = value_right L at in rw (x, y) refl
-  inst_right (Blit from to bytes) = let x = value_right L from in let y = value_right L to in rw (x, y) refl
-  inst_right (Call result target args) = call_right result target args
+  inst_right : (i : Inst) → inst_passes test i ≡ true → inst_is_right items params bs i ≡ true → inst_is_right items' params ks i ≡ true
+  inst_right (Set temp class o a b) e h =
+      let x = and_parts (value_passes test a) (option_passes test b) e in
+      let k = and_parts (may_give (op_kind o) class) _ h in
+      let y = and_parts (rule.is_right items params bs (first_class (op_kind o) class) a) _ k.1 in
+      both_true _ _ k.0 (both_true _ _ (value_right (first_class (op_kind o) class) a x.0 y.0)
+      (second_right (second_class (op_kind o) class) b x.1 y.1))
+  inst_right (Store width v at) e h =
+      let x = and_parts (value_passes test v) (value_passes test at) e in
+      let y = and_parts (rule.is_right items params bs (rule.stored_class width) v) _ h in
+      both_true _ _ (value_right (rule.stored_class width) v x.0 y.0) (value_right L at x.1 y.1)
+  inst_right (Blit from to bytes) e h =
+      let x = and_parts (value_passes test from) (value_passes test to) e in
+      let y = and_parts (rule.is_right items params bs L from) _ h in
+      both_true _ _ (value_right L from x.0 y.0) (value_right L to x.1 y.1)
+  inst_right (Call result target args) e h = call_right result target args e h
 
-  class_right : (name : List ℕ) (class : Class) → has_one_class params ks name class ≡ has_one_class params bs name class
-  class_right name class = ap not (set_same name (rule.other_class class))
+  class_right : (name : List ℕ) (class : Class) → has_one_class params bs name class ≡ true → has_one_class params ks name class ≡ true
+  class_right name class h = few_none name (rule.other_class class) h
 
-  one_class : (i : Inst) → inst_has_one_class params ks i ≡ inst_has_one_class params bs i
-  one_class (Set temp class o a b) = class_right temp class
-  one_class (Store width v at) = refl
-  one_class (Blit from to bytes) = refl
-  one_class (Call None target args) = refl
-  one_class (Call (Some p) target args) = class_right p.name p.class
+  one_class : (i : Inst) → inst_has_one_class params bs i ≡ true → inst_has_one_class params ks i ≡ true
+  one_class (Set temp class o a b) h = class_right temp class h
+  one_class (Store width v at) h = refl
+  one_class (Blit from to bytes) h = refl
+  one_class (Call None target args) h = refl
+  one_class (Call (Some p) target args) h = class_right p.name p.class h
 
-  return_right : (class : Option Class) (v : Option IlValue) → return_is_right items' params ks class v ≡
-      return_is_right items params bs class v
-  return_right None None = refl
-  return_right None (Some v) = refl
-  return_right (Some c) None = refl
-  return_right (Some c) (Some v) = value_right c v
+  return_right : (class : Option Class) (v : Option IlValue) → option_passes test v ≡ true →
+      return_is_right items params bs class v ≡ true → return_is_right items' params ks class v ≡ true
+  return_right None None e h = refl
+  return_right None (Some v) e h = cc
+  return_right (Some c) None e h = cc
+  return_right (Some c) (Some v) e h = value_right c v e h
 
-  jump_right : (class : Option Class) (j : Jump) → jump_is_right items' params ks class j ≡ jump_is_right items params bs class j
-  jump_right class Fall = refl
-  jump_right class (Jmp l) = refl
-  jump_right class (Jnz v a b) = value_right W v
-  jump_right class (Ret v) = return_right class v
-  jump_right class Hlt = refl
+  jump_right : (class : Option Class) (j : Jump) → jump_passes test j ≡ true → jump_is_right items params bs class j ≡ true →
+      jump_is_right items' params ks class j ≡ true
+  jump_right class Fall e h = refl
+  jump_right class (Jmp l) e h = refl
+  jump_right class (Jnz v a b) e h = value_right W v e h
+  jump_right class (Ret v) e h = return_right class v e h
+  jump_right class Hlt e h = refl
 
 -- ---- a function
-
-plain_kept : (stays : List ℕ → Bool) (bs : List Block) → Plain bs → Plain (kept stays bs)
-plain_kept stays [] p = tt
-plain_kept stays (b ∷ bs) p = pick (stays b.label) (plain_kept stays bs p.1)
-  where
-    pick : (z : Bool) → Plain (kept stays bs) → Plain (if z then whole stays b bs ∷ kept stays bs else kept stays bs)
-    pick true on = (p.0, on)
-    pick false on = on
 
 targets_two : (f g h : List ℕ → Bool) → ((l : List ℕ) → f l ≡ true → g l ≡ true → h l ≡ true) → (j : Jump) →
     targets_pass f j ≡ true → targets_pass g j ≡ true → targets_pass h j ≡ true
@@ -211,20 +182,57 @@ module _ (items items' : List IlItem) (named : (s : List ℕ) → has_named item
   bs = first ∷ rest
 
   abbrev stays : List ℕ → Bool
-  stays = staying bs
+  stays = staying params bs
 
   abbrev ks : List Block
   ks = kept stays bs
 
+  may : may_begin params stays bs ≡ true
+  may = staying_may params bs
+
   starts : stays first.label ≡ true
-  starts = (and_parts (first_stays stays bs) _ (staying_may bs)).0
+  starts = (and_parts (first_stays stays bs) _ may).0
 
   closed : is_closed stays false bs ≡ true
-  closed = (and_parts (first_stays stays bs) _ (staying_may bs)).1
+  closed = (and_parts (is_closed stays false bs) _ (and_parts (first_stays stays bs) _ may).1).0
 
-  set_same : (name : List ℕ) (c : Class) → is_set params ks name c ≡ is_set params bs name c
+  -- what kept blocks set is what blocks set that stay
+  set_same : (name : List ℕ) (c : Class) → is_set params ks name c ≡ is_set params (reached stays false bs) name c
   set_same name c = ap (λ (x : Bool). list_any (λ (p : IlParam). rule.sets name c p.name p.class) params || x)
-      (sets_kept stays name c false bs closed plain)
+      (sets_reached stays name c false bs plain)
+
+  few : (name : List ℕ) (c : Class) → is_set params ks name c ≡ true → is_set params bs name c ≡ true
+  few name c h = elim (or_cases (list_any (λ (p : IlParam). rule.sets name c p.name p.class) params) _ (sym (set_same name c) ∙ h)) [
+    | inl x ↦ or_left _ (list_any (block_sets name c) bs) x
+    | inr x ↦ or_right (list_any (λ (p : IlParam). rule.sets name c p.name p.class) params) _
+        (any_reached stays (block_sets name c) false bs x)
+  ]
+
+  -- a test of temporaries that all pass which are read, and that tells which are set
+  record Tested : Type 0 where
+    test : List ℕ → Bool
+    passes : list_all (block_passes test) (reached stays false bs) ≡ true
+    sound : (name : List ℕ) → test name ≡ true → (c : Class) → is_set params bs name c ≡ true → AtClass (λ c'. is_set params ks name c')
+
+  tested : Tested
+  tested = elim (or_cases (keeps_settings stays false bs) (reads_settings params stays bs)
+      (and_parts (is_closed stays false bs) _ (and_parts (first_stays stays bs) _ may).1).1) [
+        | inl h ↦ record {
+          test = λ t. true;
+          passes = every_block (λ t. true) (λ t. refl) (reached stays false bs);
+          sound = λ name e c s. record {
+            class = c;
+            is = set_same name c
+                ∙ ap (λ (x : Bool). list_any (λ (p : IlParam). rule.sets name c p.name p.class) params || x)
+                (all_reached_set stays name c false bs h plain) ∙ s;
+          };
+        }
+        | inr h ↦ record {
+          test = is_known (set_by params stays bs);
+          passes = h;
+          sound = λ name e c s. let a = set_at name params stays bs e in record { class = a.class; is = set_same name a.class ∙ a.is };
+        }
+      ]
 
   abbrev once : List ℕ → Bool
   once l = how_many (λ (b : Block). b.label) l bs == 1
@@ -235,14 +243,31 @@ module _ (items items' : List IlItem) (named : (s : List ℕ) → has_named item
   abbrev good_inst : Inst → Bool
   good_inst i = (is_inst i && inst_is_small i) && (inst_has_one_class params bs i && inst_is_right items params bs i)
 
+  abbrev read_inst : Inst → Bool
+  read_inst i = good_inst i && inst_passes tested.test i
+
   abbrev no_start : Jump → Bool
   no_start j = targets_pass (λ l. not (bytes_eq l first.label)) j
 
   abbrev good_jump : Jump → Bool
   good_jump j = (is_jump j && targets_pass (has_label bs) j) && (no_start j && jump_is_right items params bs class j)
 
+  abbrev read_jump : Jump → Bool
+  read_jump j = good_jump j && jump_passes tested.test j
+
   abbrev good : Block → Bool
   good b = good_label b.label && (list_all good_inst b.insts && good_jump b.jump)
+
+  abbrev read : Block → Bool
+  read b = good_label b.label && (list_all read_inst b.insts && read_jump b.jump)
+
+  one_read : (b : Block) → good b ≡ true → block_passes tested.test b ≡ true → read b ≡ true
+  one_read b g e =
+      let x = and_parts (good_label b.label) _ g in
+      let y = and_parts (list_all good_inst b.insts) (good_jump b.jump) x.1 in
+      let z = and_parts (list_all (inst_passes tested.test) b.insts) (jump_passes tested.test b.jump) e in
+      both_true _ _ x.0 (both_true _ _
+      (all_two good_inst (inst_passes tested.test) read_inst (λ i u v. both_true _ _ u v) b.insts y.0 z.0) (both_true _ _ y.1 z.1))
 
   one_good : (b : Block) → is_block b ≡ true → once b.label ≡ true → block_labels_known bs b ≡ true → no_start b.jump ≡ true →
       block_has_one_class params bs b ≡ true → block_is_right items params bs class b ≡ true → list_all inst_is_small b.insts ≡ true →
@@ -279,21 +304,22 @@ module _ (items items' : List IlItem) (named : (s : List ℕ) → has_named item
       let m1 = and_parts (list_all inst_is_small x.insts) _ m in
       both_true _ _ (one_good x s1.0 o1.0 k1.0 n1.0 c1.0 r1.0 m1.0) (gather xs s1.1 o1.1 k1.1 n1.1 c1.1 r1.1 m1.1)
 
-  all_good : list_all good ks ≡ true
-  all_good = kept_pass stays good_label good_inst good_jump refl bs
-      (gather bs is.shaped is.distinct is.known is.start is.one is.right is.small)
+  all_read : list_all read ks ≡ true
+  all_read = reached_pass stays good_label read_inst read_jump refl false bs
+      (all_two good (block_passes tested.test) read one_read (reached stays false bs)
+      (all_reached stays good false bs (gather bs is.shaped is.distinct is.known is.start is.one is.right is.small)) tested.passes)
 
   -- a test of the kept blocks
   each : (test : Block → Bool) →
-      ((b : Block) → b.phis ≡ [] → good b ≡ true → stays b.label ≡ true → targets_pass stays b.jump ≡ true → test b ≡ true) →
+      ((b : Block) → b.phis ≡ [] → read b ≡ true → stays b.label ≡ true → targets_pass stays b.jump ≡ true → test b ≡ true) →
       list_all test ks ≡ true
-  each test on = go ks (plain_kept stays bs plain) all_good (stays_kept stays bs) (targets_kept stays false bs closed)
+  each test on = go ks (plain_kept stays bs plain) all_read (stays_kept stays bs) (targets_kept stays false bs closed)
     where
-      go : (xs : List Block) → Plain xs → list_all good xs ≡ true → list_all (λ (b : Block). stays b.label) xs ≡ true →
+      go : (xs : List Block) → Plain xs → list_all read xs ≡ true → list_all (λ (b : Block). stays b.label) xs ≡ true →
           list_all (λ (b : Block). targets_pass stays b.jump) xs ≡ true → list_all test xs ≡ true
       go [] p g s t = refl
       go (x ∷ xs) p g s t =
-          let g1 = and_parts (good x) (list_all good xs) g in
+          let g1 = and_parts (read x) (list_all read xs) g in
           let s1 = and_parts (stays x.label) _ s in
           let t1 = and_parts (targets_pass stays x.jump) _ t in
           both_true (test x) (list_all test xs) (on x p.0 g1.0 s1.0 t1.0) (go xs p.1 g1.1 s1.1 t1.1)
@@ -302,18 +328,20 @@ module _ (items items' : List IlItem) (named : (s : List ℕ) → has_named item
   record Parts (b : Block) : Type 0 where
     spelled : is_identifier b.label ≡ true
     once_all : once b.label ≡ true
-    insts : list_all good_inst b.insts ≡ true
+    insts : list_all read_inst b.insts ≡ true
     jump_spelled : is_jump b.jump ≡ true
     jump_known : targets_pass (has_label bs) b.jump ≡ true
     jump_start : no_start b.jump ≡ true
     jump_fits : jump_is_right items params bs class b.jump ≡ true
+    jump_reads : jump_passes tested.test b.jump ≡ true
 
-  parts : (b : Block) → good b ≡ true → Parts b
+  parts : (b : Block) → read b ≡ true → Parts b
   parts b g =
       let a = and_parts (good_label b.label) _ g in
       let l = and_parts (is_identifier b.label) (once b.label) a.0 in
-      let c = and_parts (list_all good_inst b.insts) (good_jump b.jump) a.1 in
-      let j = and_parts (is_jump b.jump && targets_pass (has_label bs) b.jump) _ c.1 in
+      let c = and_parts (list_all read_inst b.insts) (read_jump b.jump) a.1 in
+      let r = and_parts (good_jump b.jump) (jump_passes tested.test b.jump) c.1 in
+      let j = and_parts (is_jump b.jump && targets_pass (has_label bs) b.jump) _ r.0 in
       let j1 = and_parts (is_jump b.jump) (targets_pass (has_label bs) b.jump) j.0 in
       let j2 = and_parts (no_start b.jump) (jump_is_right items params bs class b.jump) j.1 in
       record {
@@ -324,13 +352,23 @@ module _ (items items' : List IlItem) (named : (s : List ℕ) → has_named item
         jump_known = j1.1;
         jump_start = j2.0;
         jump_fits = j2.1;
+        jump_reads = r.1;
       }
 
-  inst_parts : (i : Inst) → good_inst i ≡ true →
-      ((is_inst i ≡ true) × (inst_is_small i ≡ true)) × ((inst_has_one_class params bs i ≡ true) × (inst_is_right items params bs i ≡ true))
+  record InstParts (i : Inst) : Type 0 where
+    spelled : is_inst i ≡ true
+    small : inst_is_small i ≡ true
+    one : inst_has_one_class params bs i ≡ true
+    fits : inst_is_right items params bs i ≡ true
+    reads : inst_passes tested.test i ≡ true
+
+  inst_parts : (i : Inst) → read_inst i ≡ true → InstParts i
   inst_parts i g =
-      let a = and_parts (is_inst i && inst_is_small i) _ g in
-      (and_parts (is_inst i) (inst_is_small i) a.0, and_parts (inst_has_one_class params bs i) (inst_is_right items params bs i) a.1)
+      let r = and_parts (good_inst i) (inst_passes tested.test i) g in
+      let a = and_parts (is_inst i && inst_is_small i) _ r.0 in
+      let x = and_parts (is_inst i) (inst_is_small i) a.0 in
+      let y = and_parts (inst_has_one_class params bs i) (inst_is_right items params bs i) a.1 in
+      record { spelled = x.0; small = x.1; one = y.0; fits = y.1; reads = r.1 }
 
   none_left : {A : Type 0} (test : A → Bool) (xs : List A) → xs ≡ [] → list_all test xs ≡ true
   none_left test xs e = ap (list_all test) e
@@ -339,7 +377,7 @@ module _ (items items' : List IlItem) (named : (s : List ℕ) → has_named item
   kept_right = record {
     shaped = each is_block (λ b p g s t. let q = parts b g in
         both_true _ _ q.spelled (both_true _ _ (none_left _ b.phis p)
-        (both_true _ _ (all_more good_inst is_inst (λ i e. (inst_parts i e).0.0) b.insts q.insts) q.jump_spelled)));
+        (both_true _ _ (all_more read_inst is_inst (λ i e. (inst_parts i e).spelled) b.insts q.insts) q.jump_spelled)));
     ended = rw starts (whole_ends stays first rest is.ended);
     distinct = each (λ (b : Block). how_many (λ (x : Block). x.label) b.label ks == 1) (λ b p g s t.
         ap (λ (n : ℕ). n == 1) (count_kept stays b.label s bs) ∙ (parts b g).once_all);
@@ -350,14 +388,17 @@ module _ (items items' : List IlItem) (named : (s : List ℕ) → has_named item
     placed = placed ks (plain_kept stays bs plain);
     params_one = params_same params is.params_one;
     one = each (block_has_one_class params ks) (λ b p g s t. both_true _ _ (none_left _ b.phis p)
-        (all_more good_inst (inst_has_one_class params ks)
-        (λ i e. one_class items items' named functions params bs ks set_same i ∙ (inst_parts i e).1.0) b.insts (parts b g).insts));
+        (all_more read_inst (inst_has_one_class params ks)
+        (λ i e. one_class items items' named functions params bs ks few tested.test tested.sound i (inst_parts i e).one) b.insts
+        (parts b g).insts));
     right = each (block_is_right items' params ks class) (λ b p g s t. both_true _ _ (none_left _ b.phis p)
-        (both_true _ _ (all_more good_inst (inst_is_right items' params ks)
-        (λ i e. inst_right items items' named functions params bs ks set_same i ∙ (inst_parts i e).1.1) b.insts (parts b g).insts)
-        (jump_right items items' named functions params bs ks set_same class b.jump ∙ (parts b g).jump_fits)));
+        (both_true _ _ (all_more read_inst (inst_is_right items' params ks)
+        (λ i e. let q = inst_parts i e in
+        inst_right items items' named functions params bs ks few tested.test tested.sound i q.reads q.fits) b.insts (parts b g).insts)
+        (let q = parts b g in
+        jump_right items items' named functions params bs ks few tested.test tested.sound class b.jump q.jump_reads q.jump_fits)));
     small = each (λ (b : Block). list_all inst_is_small b.insts) (λ b p g s t.
-        all_more good_inst inst_is_small (λ i e. (inst_parts i e).0.1) b.insts (parts b g).insts);
+        all_more read_inst inst_is_small (λ i e. (inst_parts i e).small) b.insts (parts b g).insts);
   }
     where
       no_targets : list_all (λ (b : Block). no_start b.jump) ks ≡ true
@@ -379,7 +420,8 @@ module _ (items items' : List IlItem) (named : (s : List ℕ) → has_named item
       params_same : (ps : List IlParam) → list_all (λ (p : IlParam). has_one_class params bs p.name p.class) ps ≡ true →
           list_all (λ (p : IlParam). has_one_class params ks p.name p.class) ps ≡ true
       params_same ps h =
-          all_more _ _ (λ (p : IlParam) e. class_right items items' named functions params bs ks set_same p.name p.class ∙ e) ps h
+          all_more _ _
+          (λ (p : IlParam) e. class_right items items' named functions params bs ks few tested.test tested.sound p.name p.class e) ps h
 
 -- ---- a module
 
@@ -408,7 +450,7 @@ module _ (items items' : List IlItem) (named : (s : List ℕ) → has_named item
   part_good (Zero n) h = refl
 
   function_good : (export : Bool) (class : Option Class) (name : List ℕ) (params : List IlParam) (bs : List Block) → Plain bs →
-      IsGood items (Function export class name params bs) → IsGood items' (Function export class name params (tight bs))
+      IsGood items (Function export class name params bs) → IsGood items' (Function export class name params (tight params bs))
   function_good export class name params [] p g =
       absurd (let a = and_parts (is_identifier name) _ g.shaped in
       let b = and_parts (list_all is_param params) _ a.1 in
@@ -438,7 +480,7 @@ module _ (items items' : List IlItem) (named : (s : List ℕ) → has_named item
         right = r2.1;
         small = g.small;
       }) in
-      subst (λ (ks : List Block). IsGood items' (Function export class name params ks)) (sym (tight_is bs)) (record {
+      subst (λ (ks : List Block). IsGood items' (Function export class name params ks)) (sym (tight_is params bs)) (record {
         shaped = both_true _ _ a1.0 (both_true _ _ a2.0 (both_true _ _ k.shaped k.ended));
         own = both_true _ _ o1.0 (both_true _ _ o2.0 k.distinct);
         flow = both_true _ _ k.known (both_true _ _ k.start k.placed);

@@ -1,1 +1,2 @@
 pub mod Tight
+pub mod Tightness

@@ -1,9 +1,13 @@
 //! Blocks of the intermediate language of which each begins where it must.
 //!
-//! [`tighten`] drops each label that no jump names, where control falls into its block, and code that stands behind a jump with no name
-//! for it and sets no temporary. A module whose functions are tightened does what it did before, step by step.
+//! [`tighten`] drops each label that no jump names, where control falls into its block, and code that nothing reaches, wherever what is
+//! reached reads no temporary that such code alone sets. A module whose functions are tightened does what it did before, step by step, but
+//! that a call of a function may cost the stack less.
 #![tactic(auto)]
 
 mod blocks;
+mod labels;
+mod temps;
+mod wanted;
 
 pub use blocks::tighten;

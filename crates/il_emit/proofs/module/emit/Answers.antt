@@ -6,8 +6,9 @@ use Rattle.il_emit.specs.Reaches.{Reaches}
 use Rattle.il_emit.specs.Shape.{HasShape}
 use Rattle.il_emit.proofs.Arrivals.{reaches}
 use Rattle.il_emit.proofs.Lawful.{valid}
+use Rattle.il_emit.proofs.Phis.{module_plain}
 use Rattle.il_emit.proofs.Shapes.{shape}
-use Rattle.il_emit.proofs.Tightened.{module_plain, tight_reaches, tight_shape}
+use Rattle.il_emit.proofs.Tightened.{tight_reaches, tight_shape}
 use Rattle.il_tight.proofs.Valid.{valid_same}
 use Rattle.il_emit.proofs.module.emit.Goals as goal
 

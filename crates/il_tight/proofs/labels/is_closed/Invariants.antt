@@ -1,7 +1,7 @@
 -- What is left is closed exactly where all is.
 use Rattle.std.proofs.Common.{◌≡◌, length}
 use Rattle.il_tight.specs.Tight.{is_known, is_closed}
-use Rattle.il_tight.proofs.blocks.is_closed.Given as goal
+use Rattle.il_tight.proofs.labels.is_closed.Given as goal
 
 abbrev pub invariant-each : goal.invariant-each
 invariant-each l = is_closed (is_known l.known) l.into l.left ≡ is_closed (is_known l.known) l.initial.into l.initial.left
