@@ -10,3 +10,4 @@ pub mod Texts
 pub mod Coherent
 pub mod Ready
 pub mod Agreement
+mod Covers
