@@ -1,13 +1,12 @@
 -- Numbers of bytes.
-use Rattle.std.proofs.Common.{◌≡◌, ◌∙◌, sym, ap, refl, ℕ, suc, ◌+◌, ◌*◌, ◌/◌, ◌%◌, ◌^◌, ◌<◌, ◌≤◌, arith, lit<, List, [], ◌∷◌, ◌++◌, take, to_z, of_z, Option, Some, None}
+use Rattle.std.proofs.Common.{◌≡◌, ◌∙◌, sym, ap, refl, ℕ, suc, ◌+◌, ◌*◌, ◌/◌, ◌%◌, ◌^◌, ◌<◌, ◌≤◌, arith, lit<, List, [], ◌∷◌, map, take, zero, to_z, of_z, Option, Some, None}
 use Rattle.std.specs.Prelude.{option_map, slice_get, unwrap_or, ℤ, pos}
-use Rattle.std.proofs.lemmas.List.{map_push, take_all}
+use Rattle.std.proofs.lemmas.List.{take-map}
 use lib.IntN.{nat_abs}
 use lib.Signed.{mag}
 use mir.Syntax.{w128}
 use Rattle.hx_base.specs.Memory.{le_bytes, le_number}
 use Rattle.hx_base.specs.Numbers.{residue}
-use Rattle.hx_base.proofs.Memory.Numbers.{slice_get-le_bytes, length-le_bytes}
 use Rattle.hare_types.specs.Store.{Store}
 use Rattle.hare_types.specs.declared.coercion.Ty.{Ty}
 use Rattle.hare_types.specs.declared.coercion.Ty.TheVariants as ty
@@ -17,7 +16,6 @@ use Rattle.hare_typed.specs.Cells.{bytes_of, byte_cells}
 use Rattle.hare_typed.specs.Scalars.{Number, width, cells}
 use Rattle.hare_typed.specs.Shapes.{shape_at}
 use Rattle.hare_typed.specs.Coercions.{number_cells}
-use Rattle.hare_typed.proofs.KidLemmas.{take-get}
 use Rattle.hare_const.specs.declared.shape.Shape.{Shape}
 use Rattle.hare_const.specs.Shapes.{shape_of}
 use Rattle.hare_const.proofs.OperatorLemmas.{kept}
@@ -63,20 +61,27 @@ le_number-cons c b cs all r e h g =
 
 -- ---- the cells of a number
 
--- one more byte is written
-pub one_byte_more : (cs new : List Cell) (n k v b : ℕ) → k < n → n ≤ 8 → cs ≡ byte_cells (take k (le_bytes n v)) →
-    slice_get (le_bytes 8 v) k ≡ Some b →
-    new ≡ cs ++ cell.Byte b ∷ [] → new ≡ byte_cells (take (k + 1) (le_bytes n v))
-one_byte_more cs new n k v b h few e f g =
-    let eight : slice_get (le_bytes 8 v) k ≡ Some (v / 256 ^ k % 256) = slice_get-le_bytes 8 v k (omega arith) in
-    let found : slice_get (le_bytes n v) k ≡ Some b = slice_get-le_bytes n v k h ∙ sym eight ∙ f in
-    g ∙ ap (λ xs. xs ++ cell.Byte b ∷ []) e ∙ sym (map_push cell.Byte (take k (le_bytes n v)) b) ∙ sym
-    (ap byte_cells (take-get (le_bytes n v) k b found))
+-- the bytes of a number of 64 bits, as they are told one by one
+pub eight_bytes : (v a b c d e f g h : ℕ) → slice_get (le_bytes 8 v) 0 ≡ Some a → slice_get (le_bytes 8 v) 1 ≡ Some b →
+    slice_get (le_bytes 8 v) 2 ≡ Some c → slice_get (le_bytes 8 v) 3 ≡ Some d → slice_get (le_bytes 8 v) 4 ≡ Some e →
+    slice_get (le_bytes 8 v) 5 ≡ Some f → slice_get (le_bytes 8 v) 6 ≡ Some g → slice_get (le_bytes 8 v) 7 ≡ Some h →
+    map cell.Byte (a ∷ b ∷ c ∷ d ∷ e ∷ f ∷ g ∷ h ∷ []) ≡ byte_cells (le_bytes 8 v)
+eight_bytes v a b c d e f g h ha hb hc hd he hf hg hh =
+    ap (map cell.Byte) (told _ _ _ _ _ _ _ _ ha hb hc hd he hf hg hh)
+  where
+    told : (s t u w x y z r : ℕ) → Some s ≡ Some a → Some t ≡ Some b → Some u ≡ Some c → Some w ≡ Some d → Some x ≡ Some e →
+        Some y ≡ Some f → Some z ≡ Some g → Some r ≡ Some h →
+        a ∷ b ∷ c ∷ d ∷ e ∷ f ∷ g ∷ h ∷ [] ≡ s ∷ t ∷ u ∷ w ∷ x ∷ y ∷ z ∷ r ∷ []
+    told s t u w x y z r p0 p1 p2 p3 p4 p5 p6 p7 = cc
 
-pub all_bytes : (cs : List Cell) (n k v : ℕ) → n ≤ k → cs ≡ byte_cells (take k (le_bytes n v)) → cs ≡ byte_cells (le_bytes n v)
-all_bytes cs n k v h e =
-    let many = length-le_bytes n v in
-    e ∙ ap byte_cells (take_all k (le_bytes n v) (omega arith))
+take-le_bytes : (k n v : ℕ) → k ≤ n → take k (le_bytes n v) ≡ le_bytes k v
+take-le_bytes zero n v h = refl
+take-le_bytes (suc k) zero v h = absurd (omega arith)
+take-le_bytes (suc k) (suc n) v h = ap (λ bs. v % 256 ∷ bs) (take-le_bytes k n (v / 256) (omega arith))
+
+-- the first of them are those of a shorter number
+pub lowest_bytes : (cs : List Cell) (n v : ℕ) → n ≤ 8 → cs ≡ take n (byte_cells (le_bytes 8 v)) → cs ≡ byte_cells (le_bytes n v)
+lowest_bytes cs n v h e = e ∙ take-map cell.Byte n (le_bytes 8 v) ∙ ap byte_cells (take-le_bytes n 8 v h)
 
 -- the bytes of the host's number are those of the number
 pub host_number : (w v host : ℤ) (m : ℕ) → mag w < 2 ^ 127 → w ≡ pos (residue m host) → host ≡ v →

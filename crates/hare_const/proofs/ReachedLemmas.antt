@@ -1,6 +1,6 @@
 -- The objects that are reached from cells: met one behind another, they are those of the definition.
 use Rattle.std.proofs.Common.{◌≡◌, ◌∙◌, sym, ap, ap₂, subst, refl, ℕ, zero, suc, ◌+◌, ◌<◌, ◌≤◌, ◌⊎◌, inl, inr, arith, true, List, [], ◌∷◌, ◌++◌, length, get_or, take, append_assoc, append-nil, Option, Some, None}
-use Rattle.std.specs.Prelude.{Contains, ◌↔◌, slice_get, flat_map}
+use Rattle.std.specs.Prelude.{Contains, ◌↔◌, slice_get, slice_index_or, flat_map}
 use Rattle.std.specs.declared.cmp.Ordering.TheVariants.{Less, Equal, Greater}
 use Rattle.std.specs.Ordering.{nat_cmp, match_ordering}
 use Rattle.std.specs.Cmp.{nat_cmp_is}
@@ -8,6 +8,7 @@ use Rattle.std.specs.BTreeSet.{BTreeSet, insert_key, contains}
 use Rattle.std.proofs.lemmas.Bool.{cases_order}
 use Rattle.std.proofs.lemmas.Cmp.{nat_cmp_total}
 use Rattle.std.proofs.lemmas.List.{take_all}
+use Rattle.std.proofs.lemmas.Option.{slice_get-get_or, slice_get_within}
 use Rattle.std.proofs.lemmas.List.Elements.{Contains-append_left, Contains-append_right, Contains-append_cases}
 use Rattle.std.proofs.lemmas.Map.Lookups.{exact_unsigned}
 use Rattle.std.proofs.lemmas.Map.Views.{btree_set_contains_iff}
@@ -96,10 +97,23 @@ adds_none ns order h = record {
 pub adds_nothing : (order : List ℕ) → Adds [] order order
 adds_nothing order = adds_none [] order (λ n h. absurd (none_in n h))
 
+-- one that is there already
+pub adds_there : (order : List ℕ) (n : ℕ) → Contains order n → Adds (n ∷ []) order order
+adds_there order n here = adds_none (n ∷ []) order (λ m k. subst (λ x. Contains order x) (same_in n m k) here)
+
+-- one that stands at some place is there
+pub newest_there : (order : List ℕ) (k n m : ℕ) → Some m ≡ slice_get order k → m ≡ n → Contains order n
+newest_there order k n m e f =
+    let at : slice_get order k ≡ Some n = sym e ∙ ap Some f in (
+      k,
+      slice_get_within order k n at,
+      (let same : Some (slice_index_or order k n) ≡ Some n = sym (slice_get-get_or order k n (slice_get_within order k n at)) ∙ at in cc),
+    )
+
 -- one that was met before
 pub adds_again : (s : BTreeSet ℕ) (order : List ℕ) (n : ℕ) → s.keys ≡ ascending order → contains nat_cmp s n ≡ true →
     Adds (n ∷ []) order order
-adds_again s order n e h = adds_none (n ∷ []) order (λ m k. subst (λ x. Contains order x) (same_in n m k) here)
+adds_again s order n e h = adds_there order n here
   where
     here : Contains order n
     here =

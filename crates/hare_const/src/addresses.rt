@@ -6,7 +6,7 @@ ghost use Rattle.hare_typed.specs.Words.{three};
 ghost use Rattle.hare_const.specs.NodeValues as spec;
 
 use crate::kids::meaning_of_first;
-use crate::number::byte_cells_of;
+use crate::number::{byte_cells_of, word_of};
 use hare_tree::Meaning;
 use hare_typed::{Cell, Cells, Typed};
 use std::alloc::{AllocError, Global};
@@ -14,15 +14,30 @@ use std::alloc::{AllocError, Global};
 /// How many cells a pointer or a word has.
 const WORD: u32 = 8;
 
+/// How many cells a slice or a text has: a pointer and two words.
+const SLICE: usize = 24;
+
+/// The fragments of the address of an object's first byte.
+fn address_of(object: u64) -> [Cell; 8]
+    ensures { result ≡ cells_of Nullable (Pointing (Address object 0)) }
+{
+    [
+        Cell::Fragment(object, 0, 0),
+        Cell::Fragment(object, 0, 1),
+        Cell::Fragment(object, 0, 2),
+        Cell::Fragment(object, 0, 3),
+        Cell::Fragment(object, 0, 4),
+        Cell::Fragment(object, 0, 5),
+        Cell::Fragment(object, 0, 6),
+        Cell::Fragment(object, 0, 7),
+    ]
+}
+
 /// The cells of the address of an object's first byte.
 fn address_cells(alloc: Global, object: u64) -> Result<Cells, AllocError>
     ensures { IfOk result (λ cells. cells ≡ cells_of Nullable (Pointing (Address object 0))) }
 {
-    let mut cells = Cells::new(alloc);
-    for k in 0..WORD {
-        cells.push(Cell::Fragment(object, 0, k))?;
-    }
-    Ok(cells)
+    Cells::of(alloc, &address_of(object))
 }
 
 /// The cells of null.
@@ -36,10 +51,11 @@ pub(crate) fn null_cells(alloc: Global) -> Result<Cells, AllocError>
 fn slice_cells(alloc: Global, object: u64, count: u64) -> Result<Cells, AllocError>
     ensures { IfOk result (λ cells. cells ≡ three (record { data_at = Address object 0; length = count; capacity = count })) }
 {
-    let mut cells = address_cells(alloc, object)?;
-    let word = byte_cells_of(alloc, count, WORD)?;
-    cells.append(alloc, &word)?;
-    cells.append(alloc, &word)?;
+    let mut cells = Cells::with_room(alloc, SLICE);
+    let word = word_of(count);
+    cells.extend(&address_of(object))?;
+    cells.extend(&word)?;
+    cells.extend(&word)?;
     Ok(cells)
 }
 

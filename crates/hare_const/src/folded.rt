@@ -84,7 +84,9 @@ pub fn constant_cells(
 /// where the evaluation meets an undefined act, which it does in no tree that was checked.
 ///
 /// It is asked that the constant can be told: `is_settled` and `is_coherent` test it, and it holds of each well-typed value. So there is no
-/// other answer but for want of memory, which is also that where the cells lead to more objects that are not there than there are objects.
+/// other answer but for want of memory. This is also the answer where the cells lead to more objects that are not there than there are
+/// objects, where two parts of a struct have one place, and where cells that a def gave are none of the text or union that is made of them,
+/// as in no tree that was checked.
 /// In a union the tag of a type is one more than its id. The declaration's number `own` is below 2^32 - 1. Each node is evaluated once, and
 /// the call goes as deep in the host as the tree is. The time is that of the tree and of the cells, and n log n in the objects.
 pub fn const_eval(alloc: Global, s: &TypeStore, own: u32, t: &Typed) -> Result<Const, Stop<Fault>>

@@ -15,7 +15,7 @@ use std::alloc::{AllocError, Global};
 pub(crate) fn bool_cells(alloc: Global, holds: bool) -> Result<Cells, AllocError>
     ensures { IfOk result (λ cells. cells ≡ cells_of_bool holds) }
 {
-    let mut cells = Cells::new(alloc);
+    let mut cells = Cells::with_room(alloc, 1);
     cells.push(Cell::Byte(u8::from(holds)))?;
     Ok(cells)
 }
@@ -50,7 +50,7 @@ pub(crate) fn cells_known(alloc: Global, value: &Const) -> Result<Cells, AllocEr
 pub(crate) fn cells_of_bytes(alloc: Global, bytes: &[u8]) -> Result<Cells, AllocError>
     ensures { IfOk result (λ cells. cells ≡ byte_cells bytes.now) }
 {
-    let mut cells = Cells::new(alloc);
+    let mut cells = Cells::with_room(alloc, bytes.len());
     for b in bytes {
         cells.push(Cell::Byte(*b))?;
     }

@@ -141,16 +141,29 @@ pub fn number_of_value(s: &TypeStore, t: Ty, cells: &Cells) -> i128
     }
 }
 
+/// The bytes of a number, the lowest first.
+pub(crate) fn word_of(number: u64) -> [Cell; 8]
+    ensures { result ≡ byte_cells (le_bytes 8 number) }
+{
+    [
+        Cell::Byte(le_byte(number, 0)),
+        Cell::Byte(le_byte(number, 1)),
+        Cell::Byte(le_byte(number, 2)),
+        Cell::Byte(le_byte(number, 3)),
+        Cell::Byte(le_byte(number, 4)),
+        Cell::Byte(le_byte(number, 5)),
+        Cell::Byte(le_byte(number, 6)),
+        Cell::Byte(le_byte(number, 7)),
+    ]
+}
+
 /// The lowest bytes of a number, the lowest first.
 pub(crate) fn byte_cells_of(alloc: Global, number: u64, bytes: u32) -> Result<Cells, AllocError>
     requires { bytes ≤ 8 }
     ensures { IfOk result (λ cells. cells ≡ byte_cells (le_bytes bytes number)) }
 {
-    let mut cells = Cells::new(alloc);
-    for k in 0..bytes {
-        cells.push(Cell::Byte(le_byte(number, k)))?;
-    }
-    Ok(cells)
+    let word = word_of(number);
+    Cells::of(alloc, &word[..bytes as usize])
 }
 
 /// The cells of a number at a type: as many bytes as it has, the lowest first, in two's complement. A whole number without a suffix has

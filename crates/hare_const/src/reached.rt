@@ -1,6 +1,6 @@
 //! The objects to which cells lead, directly or through others.
 
-ghost use Rattle.std.specs.Prelude.{◌≡◌, ◌∷◌, [], slice_get, option_to_list, IfOk, OnOk};
+ghost use Rattle.std.specs.Prelude.{◌≡◌, ◌∷◌, [], true, slice_get, option_to_list, Contains, IfOk, OnOk};
 ghost use Rattle.std.specs.Ordering.{nat_cmp};
 ghost use Rattle.std.specs.BTreeMap.{get};
 ghost use Rattle.hare_typed.specs.Folded as folded;
@@ -51,13 +51,24 @@ fn meet(met: &mut Met, n: u64) -> Result<(), AllocError>
     Ok(())
 }
 
-/// Meets the object to which a cell leads, where it leads to one.
+/// Whether this is the object that was last met for the first time.
+fn is_newest(met: &Met, n: u64) -> bool
+    ensures { result ≡ true → Contains met.now.order.items n }
+{
+    match met.order.last() {
+        Some(newest) => *newest == n,
+        None => false,
+    }
+}
+
+/// Meets the object to which a cell leads, where it leads to one. The fragments of an address lead to one object, one behind another.
 fn meet_from(met: &mut Met, cell: Cell) -> Result<(), AllocError>
     requires { met.old.numbers.keys ≡ ascending met.old.order.items }
     ensures numbers { OnOk result (met.new.numbers.keys ≡ ascending met.new.order.items) }
     ensures order { OnOk result (spec.Adds (folded.led_to cell) met.old.order.items met.new.order.items) }
 {
     match led_to(cell) {
+        Some(n) if is_newest(met, n) => Ok(()),
         Some(n) => meet(met, n),
         None => Ok(()),
     }

@@ -113,7 +113,7 @@ fn kid_values(
     ensures err { IfErr result (spec.Refuses (spec.first_refused_of s.now own (typed_nodes kids.now))) }
 {
     let operands = operands_of(node.kind);
-    let mut values = Vec::new(alloc);
+    let mut values = Vec::with_capacity(alloc, kids.len())?;
     for i in 0..kids.len() {
         let Some(kid) = kids.get(i) else {
             return Ok(values);

@@ -292,12 +292,16 @@ repeated_at rs i r cs h e = ap (λ xs. repeated xs cs) (first_more rs i r h e) �
 
 -- ---- what the calls leave
 
+pub extended : (rs : List Repeat) (cs ds ws : List Cell) (n m : ℕ) → ws ≡ cs ++ ds → m ≡ n + length ds → FitIn rs cs →
+    n ≡ length (repeated rs cs) → FitIn rs ws × (m ≡ length (repeated rs ws))
+extended rs cs ds ws n m e l f k =
+    let a : repeated rs ws ≡ repeated rs cs ++ ds = ap (repeated rs) e ∙ repeated-append rs cs ds f in
+    let b = ap length a ∙ length-append (repeated rs cs) ds in
+    (subst (FitIn rs) (sym e) (fit-append rs cs ds f), omega arith)
+
 pub pushed : (rs : List Repeat) (cs ws : List Cell) (c : Cell) (n m : ℕ) → ws ≡ cs ++ c ∷ [] → m ≡ n + 1 → FitIn rs cs →
     n ≡ length (repeated rs cs) → FitIn rs ws × (m ≡ length (repeated rs ws))
-pushed rs cs ws c n m e l f k =
-    let a : repeated rs ws ≡ repeated rs cs ++ c ∷ [] = ap (repeated rs) e ∙ repeated-append rs cs (c ∷ []) f in
-    let b = ap length a ∙ length-append (repeated rs cs) (c ∷ []) in
-    (subst (FitIn rs) (sym e) (fit-append rs cs (c ∷ []) f), omega arith)
+pushed rs cs ws c n m e l f k = extended rs cs (c ∷ []) ws n m e l f k
 
 pub fit-pushed : (rs ss : List Repeat) (r : Repeat) (cs : List Cell) (n m : ℕ) → ss ≡ rs ++ r ∷ [] → r.from < r.to → r.to ≡ n →
     m ≡ n + (r.to - r.from) * r.more → FitIn rs cs → n ≡ length (repeated rs cs) → FitIn ss cs × (m ≡ length (repeated ss cs))

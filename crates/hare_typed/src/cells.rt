@@ -107,6 +107,31 @@ impl Cells {
         }
     }
 
+    /// No cells, with room for so many where there is memory for it: putting these takes no more then.
+    pub fn with_room(alloc: Global, count: usize) -> Cells
+        ensures { result ≡ [] }
+    {
+        match Vec::with_capacity(alloc, count) {
+            Ok(written) => Cells {
+                written,
+                repeats: Vec::new(alloc),
+                count: 0,
+            },
+            Err(_) => Cells::new(alloc),
+        }
+    }
+
+    /// Just these cells, in the memory that they take.
+    pub fn of(alloc: Global, cells: &[Cell]) -> Result<Cells, AllocError>
+        ensures { IfOk result (λ made. made ≡ cells.now) }
+    {
+        Ok(Cells {
+            written: Vec::from_slice(alloc, cells)?,
+            repeats: Vec::new(alloc),
+            count: cells.len(),
+        })
+    }
+
     /// How many cells there are.
     pub fn len(&self) -> usize
         ensures { result ≡ length self.now }
@@ -159,6 +184,19 @@ impl Cells {
             return Err(AllocError);
         };
         self.written.push(cell)?;
+        self.count = count;
+        Ok(())
+    }
+
+    /// Puts some cells at the end. More cells than a `usize` counts are want of memory too. Nothing changes where memory is short.
+    pub fn extend(&mut self, cells: &[Cell]) -> Result<(), AllocError>
+        ensures ok { OnOk result (self.new ≡ self.old ++ cells.now) }
+        ensures err { OnErr result (self.new ≡ self.old) }
+    {
+        let Some(count) = self.count.checked_add(cells.len()) else {
+            return Err(AllocError);
+        };
+        self.written.extend_from_slice(cells)?;
         self.count = count;
         Ok(())
     }

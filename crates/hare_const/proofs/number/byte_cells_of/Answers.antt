@@ -1,10 +1,12 @@
-use Rattle.hare_const.proofs.NumberLemmas.{one_byte_more, all_bytes}
+use Rattle.std.proofs.Common.{◌≡◌, take, rules}
+use Rattle.std.proofs.lemmas.Result.{IfOk-weaker}
+use Rattle.hx_base.specs.Memory.{le_bytes}
+use Rattle.hare_typed.specs.Cells.{byte_cells}
+use Rattle.hare_const.proofs.NumberLemmas.{lowest_bytes}
 use Rattle.hare_const.proofs.number.byte_cells_of.Goals as goal
 
-pub loop-k-preserved : goal.loop-k-preserved
-loop-k-preserved c =
-    one_byte_more c.loop-k.cells c.push.new.self c.args.bytes c.loop-k.k c.args.number c.le_byte.result c.loop-k-test.true c.requires
-    c.loop-k.invariant c.le_byte.ensures c.in_ok-push.ensures.ok
-
 pub returns : goal.returns
-returns c = all_bytes c.loop-k.cells c.args.bytes c.loop-k.k c.args.number c.loop-k-test.false c.loop-k.invariant
+returns c =
+    IfOk-weaker c.of.result (λ cells. cells ≡ take c.args.bytes (byte_cells (le_bytes 8 c.args.number)))
+    (λ cells. cells ≡ byte_cells (le_bytes c.args.bytes c.args.number))
+    (λ cells e. lowest_bytes cells c.args.bytes c.args.number c.requires e) (search rules)

@@ -54,8 +54,8 @@ kid_values-loop-i-preserved t c =
 pub kid_values-returns-in_err-tree_value-clause-err : goal.kid_values-returns-in_err-tree_value-clause-err
 kid_values-returns-in_err-tree_value-clause-err t c =
     let e = c.in_err-tree_value.field-0.0 in
-    err-same c.from_residual.result e (Refuses (first_refused_of c.args.s.now c.args.own (typed_nodes c.args.kids.now)))
-    c.from_residual.ensures.1
+    err-same c.from_residual-in_err-tree_value.result e (Refuses (first_refused_of c.args.s.now c.args.own (typed_nodes c.args.kids.now)))
+    c.from_residual-in_err-tree_value.ensures.1
     (refuse-kid c.args.s.now c.args.own c.args.kids.now c.loop-i.i c.in-Some.kid.now e c.in-Some.ensures.found
     c.loop-i.invariant.valued.passed
     c.in_err-tree_value.ensures.err)
