@@ -13,11 +13,10 @@ ghost use Rattle.hare_walk.specs.Walks.{IsTurned, IsInHand};
 ghost use Rattle.hare_check.specs.Keeps.{IsKeptTree};
 ghost use Rattle.hare_check.specs.Nodes.{program_of, above_of, Walks, IsAtNode, IsFindingOf, IsUnder};
 
-use crate::constants::named_value;
 use crate::meanings::{own_meaning, path_meaning};
 use crate::numbers::next_number;
 use crate::walker::Walker;
-use hare_find::{Finding, Found, Levels, close};
+use hare_find::{Finding, Found, Levels, close, named_value};
 use hare_tree::{Kind, Meaning, Tree};
 use hare_typed::{Const, Typed, TypedKids};
 use hare_types::TypeStore;

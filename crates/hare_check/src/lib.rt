@@ -4,7 +4,6 @@
 mod beginnings;
 mod check;
 mod closing;
-mod constants;
 mod finding;
 mod folding;
 mod known;

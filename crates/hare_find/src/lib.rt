@@ -3,6 +3,7 @@
 
 mod bindings;
 mod closing;
+mod constants;
 mod finding;
 mod late;
 mod lengths;
@@ -19,6 +20,7 @@ mod yields;
 
 pub use bindings::{bind, bind_before};
 pub use closing::close;
+pub use constants::named_value;
 pub use finding::{Finding, find_judged};
 pub use late::Late;
 pub use lengths::find_length;

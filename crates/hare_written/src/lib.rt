@@ -3,7 +3,6 @@
 #![tactic(auto)]
 
 mod around;
-mod constants;
 mod env;
 mod finding;
 mod kinds;
@@ -11,8 +10,6 @@ mod lengths;
 mod meanings;
 mod named;
 mod roles;
-#[cfg(test)]
-mod tests;
 mod turn;
 mod walk;
 mod written;

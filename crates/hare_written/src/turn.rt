@@ -14,12 +14,11 @@ ghost use Rattle.hare_written.specs.Program.{program_of, AreDefsDefined};
 ghost use Rattle.hare_written.specs.Roles.{role_in};
 ghost use Rattle.hare_written.specs.Turns.{IsTurn, IsTurnedBack};
 
-use crate::constants::named_value;
 use crate::env::Env;
 use crate::finding::find;
 use crate::meanings::own_meaning;
 use crate::roles::Role;
-use hare_find::{Found, typed};
+use hare_find::{Found, named_value, typed};
 use hare_tree::{Fault, Kind, Meaning, Stop, Tree};
 use hare_typed::{Const, Typed, TypedKids};
 use hare_types::{Coercion, Ty, TypeStore};

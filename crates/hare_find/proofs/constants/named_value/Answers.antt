@@ -2,7 +2,7 @@ use Rattle.std.proofs.Common.{ap, sym, ◌∙◌}
 use Rattle.std.specs.Prelude.{nat_eq, find, option_copied}
 use Rattle.hare_rules.specs.declared.declared.DeclType.{DeclType}
 use Rattle.hare_rules.specs.Values.{value_of_meaning, value_of_decl}
-use Rattle.hare_written.proofs.constants.named_value.Goals as goal
+use Rattle.hare_find.proofs.constants.named_value.Goals as goal
 
 pub returns-in-None : goal.returns-in-None
 returns-in-None c w e =

@@ -1,8 +1,0 @@
-use Rattle.std.proofs.Common.{◌≡◌, ◌≤◌, length, take}
-use Rattle.hare_written.proofs.constants.copied_objects.Given as goal
-
-abbrev pub invariant-loop-i : goal.invariant-loop-i
-invariant-loop-i l = record {
-  within : l.i ≤ length l.objects;
-  copied : l.copy ≡ take l.i l.objects;
-}

@@ -1,1 +1,0 @@
-//! A type of a struct with an array and a pointer.
