@@ -3,9 +3,9 @@
 ghost use Rattle.std.specs.Prelude.{◌<◌, length};
 ghost use Rattle.hare_types.specs.Rows.{AllBelow};
 
-use crate::words::word;
 use anyhow::Result;
 use hare_types::{Row, TypeId, TypeStore};
+use spelled_types::word;
 
 /// The refusal of memory, which no source declares.
 pub(crate) const NOMEM: u32 = 4_294_967_295;

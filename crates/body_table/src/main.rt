@@ -16,7 +16,6 @@ mod known;
 mod listing;
 mod program;
 mod types;
-mod words;
 
 use crate::answer::answer;
 use anyhow::Result;

@@ -3,12 +3,12 @@
 ghost use Rattle.std.specs.Prelude.{◌<◌, ◌≤◌, ℕ, length, IfOk};
 ghost use Rattle.hare_types.specs.Rows.{AllBelow, IsWithin};
 
-use crate::words::scalar;
 use anyhow::{Context, Result, bail};
 use hare_layout::{Bools, Places, Spelled, admit};
 use hare_names::Names;
 use hare_tree::{Kids, Kind, Meaning, Stop, Tree};
 use hare_types::{Row, TypeId, TypeIds, TypeStore};
+use spelled_types::scalar;
 use std::alloc::Global;
 
 /// The type that a tree spells, in which no struct stands and arrays have numbers for their lengths.

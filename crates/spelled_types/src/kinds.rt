@@ -5,31 +5,31 @@ use hare_tree::{Kids, Kind, Tree};
 use hare_types::Scalar;
 
 /// The type that is written by this word.
-pub(crate) fn scalar(word: &str) -> Result<Scalar> {
+pub fn scalar(word: &[u8]) -> Result<Scalar> {
     Ok(match word {
-        "void" => Scalar::Void,
-        "never" => Scalar::Never,
-        "opaque" => Scalar::Opaque,
-        "bool" => Scalar::Bool,
-        "rune" => Scalar::Rune,
-        "str" => Scalar::Str,
-        "i8" => Scalar::I8,
-        "i16" => Scalar::I16,
-        "i32" => Scalar::I32,
-        "i64" => Scalar::I64,
-        "u8" => Scalar::U8,
-        "u16" => Scalar::U16,
-        "u32" => Scalar::U32,
-        "u64" => Scalar::U64,
-        "int" => Scalar::Int,
-        "uint" => Scalar::Uint,
-        "size" => Scalar::Size,
-        _ => bail!("no type is written {word}"),
+        b"void" => Scalar::Void,
+        b"never" => Scalar::Never,
+        b"opaque" => Scalar::Opaque,
+        b"bool" => Scalar::Bool,
+        b"rune" => Scalar::Rune,
+        b"str" => Scalar::Str,
+        b"i8" => Scalar::I8,
+        b"i16" => Scalar::I16,
+        b"i32" => Scalar::I32,
+        b"i64" => Scalar::I64,
+        b"u8" => Scalar::U8,
+        b"u16" => Scalar::U16,
+        b"u32" => Scalar::U32,
+        b"u64" => Scalar::U64,
+        b"int" => Scalar::Int,
+        b"uint" => Scalar::Uint,
+        b"size" => Scalar::Size,
+        _ => bail!("no type is one word"),
     })
 }
 
 /// The word by which the type is written.
-pub(crate) fn word(k: Scalar) -> &'static str {
+pub fn word(k: Scalar) -> &'static str {
     match k {
         Scalar::Void => "void",
         Scalar::Never => "never",

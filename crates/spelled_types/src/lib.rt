@@ -11,6 +11,6 @@ mod spelled;
 
 pub use definable::is_definable;
 pub use entered::{NOMEM, Table};
-pub use kinds::{is_type, text};
+pub use kinds::{is_type, scalar, text, word};
 pub use printed::{listing, put_type};
 pub use spelled::{type_in, type_of};

@@ -147,7 +147,7 @@ fn row_over(table: &mut Table, tree: &Tree, types: &TypeIds) -> Result<Row>
     ensures grows { length table.old.store.rows ≤ length table.new.store.rows }
 {
     match tree.kind {
-        Kind::TypeScalar => Ok(Row::Scalar(scalar(text(tree)?)?)),
+        Kind::TypeScalar => Ok(Row::Scalar(scalar(text(tree)?.as_bytes())?)),
         Kind::TypePointer => Ok(Row::Pointer(only(types)?)),
         Kind::TypeNullable => Ok(Row::Nullable(only(types)?)),
         Kind::TypeSlice => Ok(Row::Slice(only(types)?)),
