@@ -1,7 +1,9 @@
 //! What a line comes to.
 
+use crate::asked::Asked;
 use crate::cells::{put_cells, put_objects, put_tag};
 use crate::declared::{declared, type_of};
+use crate::rounds::in_rounds;
 use anyhow::{Context, Result, bail};
 use hare_sources::Sources;
 use hare_tree::{Fault, Stop};
@@ -14,17 +16,20 @@ use std::alloc::Global;
 const MAIN: &str = " export fn main() void = {};";
 
 /// The line with what is found of its program before the `=>`.
-pub(crate) fn answer(alloc: Global, line: &str) -> Result<String> {
+pub(crate) fn answer(alloc: Global, asked: Asked, line: &str) -> Result<String> {
     let (_, source) = line.split_once(" => ").context("a line without =>")?;
-    let found = found(alloc, source)?;
-    Ok(format!(in alloc; "{found} => {source}")?)
+    let found = found(alloc, asked, source)?;
+    match asked {
+        Asked::Value => Ok(format!(in alloc; "{found} => {source}")?),
+        Asked::Rounds(_, _) => Ok(found),
+    }
 }
 
 /// What is found of the program with this file.
-fn found(alloc: Global, source: &str) -> Result<String> {
+fn found(alloc: Global, asked: Asked, source: &str) -> Result<String> {
     let sources = sources(alloc, source)?;
     let paths = paths(alloc)?;
-    found_in(alloc, paths, &sources)
+    found_in(alloc, asked, paths, &sources)
 }
 
 /// The one source, and the function without which no program is whole.
@@ -50,14 +55,25 @@ fn paths(alloc: Global) -> Result<Paths> {
 }
 
 /// What is found of a program of one file. What is checked is given up here alone.
-fn found_in(alloc: Global, paths: Paths, sources: &Sources) -> Result<String> {
+fn found_in(alloc: Global, asked: Asked, paths: Paths, sources: &Sources) -> Result<String> {
     if sources.len() != paths.len() || paths.len() > 1 {
         bail!("more than one file");
     }
     match program(alloc, paths, sources) {
-        Ok(checked) => constant(alloc, &checked.program),
+        Ok(checked) => asked_in(alloc, asked, &checked.program),
         Err(Stop::Fault(fault)) => refused(alloc, fault),
         Err(Stop::Memory) => bail!("out of memory"),
+    }
+}
+
+/// What is asked of a program.
+fn asked_in(alloc: Global, asked: Asked, program: &Program) -> Result<String> {
+    match asked {
+        Asked::Value => constant(alloc, program),
+        Asked::Rounds(measured, rounds) => {
+            let found = in_rounds(alloc, program, measured, rounds)?;
+            Ok(format!(in alloc; "{found}")?)
+        }
     }
 }
 
