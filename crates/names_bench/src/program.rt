@@ -13,17 +13,19 @@ pub(crate) struct Program {
     pub bytes: usize,
 }
 
-/// A program of so many files of so many functions.
-pub(crate) fn program_of(alloc: Global, files: u32, functions: u32) -> Result<Program> {
-    let mut program = Program {
-        paths: Vec::new(alloc),
-        sources: Sources::new(alloc),
-        bytes: 0,
-    };
-    for file in 0..files {
-        add(alloc, &mut program, file, functions)?;
+impl Program {
+    /// A program of so many files of so many functions.
+    pub(crate) fn of(alloc: Global, files: u32, functions: u32) -> Result<Program> {
+        let mut program = Program {
+            paths: Vec::new(alloc),
+            sources: Sources::new(alloc),
+            bytes: 0,
+        };
+        for file in 0..files {
+            add(alloc, &mut program, file, functions)?;
+        }
+        Ok(program)
     }
-    Ok(program)
 }
 
 /// Adds a file of so many functions.
